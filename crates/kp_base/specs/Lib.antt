@@ -1,0 +1,3 @@
+pub mod Lit
+pub mod LitSet
+pub mod formers
