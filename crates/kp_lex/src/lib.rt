@@ -10,7 +10,7 @@ mod token;
 mod words;
 
 pub use cutting::tokens;
-pub use laws::{cut_once, each_token, never_both, one_bad_byte, some_outcome, spans_in_order};
+pub use laws::{one_outcome, token_spans};
 pub use places::place;
 pub use token::{Token, TokenKind};
 pub use words::{is_word, word};

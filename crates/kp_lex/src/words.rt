@@ -32,10 +32,15 @@ pub fn word(alloc: Global, bytes: &[u8], token: &Token) -> Result<Text, Memory>
 fn folds_to(bytes: &[u8], text: &[u8]) -> bool
     ensures { result ≡ bytes_eq (str_to_ascii_lowercase bytes.now) text.now }
 {
-    bytes
-        .iter()
-        .map(|b| b.to_ascii_lowercase())
-        .eq(text.iter().copied())
+    if bytes.len() != text.len() {
+        return false;
+    }
+    for (i, byte) in bytes.iter().enumerate() {
+        if byte.to_ascii_lowercase() != text[i] {
+            return false;
+        }
+    }
+    true
 }
 
 /// Whether the text of a token in lower case is this text.
