@@ -9,9 +9,9 @@ use Rattle.kp_lex.specs.declared.class.Class.{Class}
 use Rattle.kp_lex.specs.declared.class.Class.TheVariants as classes
 use Rattle.kp_lex.specs.declared.piece.Piece.{Piece}
 use Rattle.kp_lex.specs.declared.piece.Piece.TheVariants as pieces
-use Rattle.kp_lex.specs.Bytes.{class_of, follows, in_line}
+use Rattle.kp_lex.specs.Bytes.{class_of, follows, in_line, is_blank, is_semicolon}
 use Rattle.kp_lex.specs.Pieces.{signed, piece_of}
-use Rattle.kp_lex.specs.Cutting.{AllAre, IsToken, left, right, dash, equal, name, variable, keyword, IsLongest, BeginsNone, is_blank, is_semicolon, Ends, EndsLine, spanned, Cut, at_end, past_blank, past_comment, a_token, BadAt, bad_here, bad_past_blank, bad_past_comment, bad_past_token}
+use Rattle.kp_lex.specs.Cutting.{AllAre, IsToken, left, right, dash, equal, name, variable, keyword, IsLongest, BeginsNone, Ends, EndsLine, spanned, Cut, at_end, past_blank, past_comment, a_token, BadAt, bad_here, bad_past_blank, bad_past_comment, bad_past_token}
 use Rattle.kp_lex.specs.Scanning.{with, after, cut_from, cut}
 use Rattle.kp_lex.proofs.Scan.{cut_step}
 
@@ -176,12 +176,12 @@ behind : {k : TokenKind} {v : List ℕ} (b : ℕ) (bs : List ℕ) (r : Front k v
 behind b bs r some = let whole : length (b ∷ bs) ≡ length (r.whole ++ r.others) = ap length r.is in omega (arith, whole, length-append r.whole r.others, r.len, r.within, some)
 
 signed_tells : (c : Class) (k : TokenKind) (at q b : ℕ) (bs : List ℕ) (f : ℕ → List ℕ → Result (List Token) ℕ) → class_of b ≡ c → is_blank (class_of q) ≡ false → is_semicolon (class_of q) ≡ false
-    → ((us : List ℕ) → class_of b ≡ classes.Letter → AllAre follows us → IsToken k (q ∷ b ∷ us)) → ((r : List ℕ) → piece_of (q ∷ r) ≡ signed k r) → Told (length (b ∷ bs)) f → Tells at (q ∷ b ∷ bs) (after (piece_of (q ∷ b ∷ bs)) at (q ∷ b ∷ bs) f)
-signed_tells classes.Letter k at q b bs f e solid plain make is told = let r = front_is bs (make [] e tt) in token_case at (q ∷ b ∷ bs) f r (told _ _ (behind q (b ∷ bs) r (omega arith)))
+    → ((us : List ℕ) → class_of b ≡ classes.Alphanumeric → AllAre follows us → IsToken k (q ∷ b ∷ us)) → ((r : List ℕ) → piece_of (q ∷ r) ≡ signed k r) → Told (length (b ∷ bs)) f → Tells at (q ∷ b ∷ bs) (after (piece_of (q ∷ b ∷ bs)) at (q ∷ b ∷ bs) f)
+signed_tells classes.Alphanumeric k at q b bs f e solid plain make is told = let r = front_is bs (make [] e tt) in token_case at (q ∷ b ∷ bs) f r (told _ _ (behind q (b ∷ bs) r (omega arith)))
 signed_tells _ k at q b bs f e solid plain make is told = bad_case at q (b ∷ bs) f solid plain (is (b ∷ bs) ∙ rw e refl)
 
 class_tells : (c : Class) (at b : ℕ) (bs : List ℕ) (f : ℕ → List ℕ → Result (List Token) ℕ) → class_of b ≡ c → Told (length bs) f → Tells at (b ∷ bs) (after (piece_of (b ∷ bs)) at (b ∷ bs) f)
-class_tells classes.Letter at b bs f e told = let r = front_is bs (name {bs = []} e tt) in token_case at (b ∷ bs) f r (told _ _ (behind b bs r (omega arith)))
+class_tells classes.Alphanumeric at b bs f e told = let r = front_is bs (name {bs = []} e tt) in token_case at (b ∷ bs) f r (told _ _ (behind b bs r (omega arith)))
 class_tells classes.Left at b bs f e told = let r = front_is bs (left e) in token_case at (b ∷ bs) f r (told _ _ (behind b bs r (omega arith)))
 class_tells classes.Right at b bs f e told = let r = front_is bs (right e) in token_case at (b ∷ bs) f r (told _ _ (behind b bs r (omega arith)))
 class_tells classes.Dash at b bs f e told = let r = front_is bs (dash e) in token_case at (b ∷ bs) f r (told _ _ (behind b bs r (omega arith)))
@@ -252,12 +252,12 @@ cut_is (past_blank {at = at} {b = b} {bs = bs} e h) = step_by (pieces.Skip 1) at
 cut_is (past_comment {at = at} {s = s} w rest e a l h) = comment_step at s w rest e a l ∙ cut_is h
 cut_is (a_token {at = at} {w = w} {rest = rest} t long h) = token_step at w rest t long ∙ rw (cut_is h) refl
 
-signed_bad : (c : Class) (k : TokenKind) (q b : ℕ) (bs : List ℕ) → class_of b ≡ c → (class_of b ≡ classes.Letter → IsToken k (q ∷ b ∷ [])) → BeginsNone (q ∷ b ∷ bs) → signed k (b ∷ bs) ≡ pieces.Bad
-signed_bad classes.Letter k q b bs e make none = absurd (none k (q ∷ b ∷ []) bs (make e) refl)
+signed_bad : (c : Class) (k : TokenKind) (q b : ℕ) (bs : List ℕ) → class_of b ≡ c → (class_of b ≡ classes.Alphanumeric → IsToken k (q ∷ b ∷ [])) → BeginsNone (q ∷ b ∷ bs) → signed k (b ∷ bs) ≡ pieces.Bad
+signed_bad classes.Alphanumeric k q b bs e make none = absurd (none k (q ∷ b ∷ []) bs (make e) refl)
 signed_bad _ k q b bs e make none = rw e refl
 
 solid_bad : (c : Class) (b : ℕ) (bs : List ℕ) → class_of b ≡ c → is_blank c ≡ false → is_semicolon c ≡ false → BeginsNone (b ∷ bs) → piece_of (b ∷ bs) ≡ pieces.Bad
-solid_bad classes.Letter b bs e s p none = absurd (none _ (b ∷ []) bs (name {bs = []} e tt) refl)
+solid_bad classes.Alphanumeric b bs e s p none = absurd (none _ (b ∷ []) bs (name {bs = []} e tt) refl)
 solid_bad classes.Left b bs e s p none = absurd (none _ (b ∷ []) bs (left e) refl)
 solid_bad classes.Right b bs e s p none = absurd (none _ (b ∷ []) bs (right e) refl)
 solid_bad classes.Dash b bs e s p none = absurd (none _ (b ∷ []) bs (dash e) refl)

@@ -1,5 +1,6 @@
 pub mod Scan
 pub mod Exact
+pub mod LowerCase
 pub mod Spans
-pub mod Answered
 pub mod Outcomes
+pub mod Answered

@@ -18,7 +18,7 @@ Moves (pieces.Token k n) = 0 < n
 Moves pieces.Bad = Unit {0}
 
 moves_signed_class : (k : TokenKind) (c : Class) (bs : List ℕ) → Moves (signed_class k c bs)
-moves_signed_class k classes.Letter bs = omega arith
+moves_signed_class k classes.Alphanumeric bs = omega arith
 moves_signed_class k _ bs = tt
 
 moves_signed : (k : TokenKind) (bs : List ℕ) → Moves (signed k bs)
@@ -26,7 +26,7 @@ moves_signed k [] = tt
 moves_signed k (b ∷ bs) = moves_signed_class k (class_of b) bs
 
 moves_class : (c : Class) (bs : List ℕ) → Moves (piece_class c bs)
-moves_class classes.Letter bs = omega arith
+moves_class classes.Alphanumeric bs = omega arith
 moves_class classes.Left bs = omega arith
 moves_class classes.Right bs = omega arith
 moves_class classes.Dash bs = omega arith

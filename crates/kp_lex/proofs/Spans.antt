@@ -1,10 +1,12 @@
 -- The spans of a cutting.
 use Rattle.std.proofs.Common.{◌≡◌, ℕ, zero, suc, ◌+◌, ◌-◌, ◌≤◌, ◌<◌, List, [], ◌∷◌, ◌++◌, length, drop, take, slice_get, slice_range, Some, refl, sym, ap, subst, ◌∙◌, length-append, append_assoc, arith}
 use Rattle.std.proofs.lemmas.List.{drop_at, take_at}
+use Rattle.std.specs.Str.{str_to_ascii_lowercase}
 use Rattle.kp_lex.specs.declared.token.Token.{Token}
 use Rattle.kp_lex.specs.declared.token.TokenKind.{TokenKind}
 use Rattle.kp_lex.specs.Cutting.{spanned, Cut, at_end, past_blank, past_comment, a_token, IsToken, left, right, dash, equal, name, variable, keyword}
 use Rattle.kp_lex.specs.Spans.{InOrder, IsTokenOf}
+use Rattle.kp_lex.proofs.LowerCase.{lowered}
 
 -- a token has a byte
 pub some_byte : {k : TokenKind} {w : List ℕ} → IsToken k w → 0 < length w
@@ -39,6 +41,14 @@ in_order at (a_token {w = w} {rest = rest} {ts = ts} t long h) =
 pub in_text : {text : List ℕ} {ts : List Token} → Cut 0 text ts → InOrder 0 ts (length text)
 in_text {text} {ts} h = ending 0 (0 + length text) (length text) ts (omega arith) (in_order 0 h)
 
+-- there are no more of them than bytes
+room : (a b : ℕ) (ts : List Token) → InOrder a ts b → a + length ts ≤ b
+room a b [] o = omega (arith, o)
+room a b (t ∷ ts) o = omega (arith, o.0, o.1, room t.to b ts o.2)
+
+pub at_most : {text : List ℕ} (ts : List Token) → Cut 0 text ts → length ts ≤ length text
+at_most {text} ts h = omega (arith, room 0 (length text) ts (in_text h))
+
 -- ---- each token
 
 range_of : (front w rest : List ℕ) (from n : ℕ) → length front ≡ from → length w ≡ n → slice_range (front ++ (w ++ rest)) from (from + n) ≡ w
@@ -48,11 +58,14 @@ range_of front w rest from n e len =
     rw (skipped, count) (take_at w rest n len)
 
 same_kind : (front : List ℕ) {k : TokenKind} (w rest : List ℕ) (at : ℕ) → length front ≡ at → IsToken k w → IsTokenOf (front ++ (w ++ rest)) (spanned k at (length w))
-same_kind front {k} w rest at e t = record {
-  not_empty = omega (arith, some_byte t);
-  within = omega (arith, length-append front (w ++ rest), length-append w rest, e);
-  spelled = subst (λ (v : List ℕ). IsToken k v) (sym (range_of front w rest at (length w) e refl)) t;
-}
+same_kind front {k} w rest at e t =
+    let bytes : slice_range (front ++ (w ++ rest)) at (at + length w) ≡ w = range_of front w rest at (length w) e refl in
+    record {
+      not_empty = omega (arith, some_byte t);
+      within = omega (arith, length-append front (w ++ rest), length-append w rest, e);
+      spelled = subst (λ (v : List ℕ). IsToken k v) (sym bytes) t;
+      lowered = subst (λ (v : List ℕ). IsToken k (str_to_ascii_lowercase v)) (sym bytes) (lowered t);
+    }
 
 each : (front : List ℕ) {at : ℕ} {text : List ℕ} {ts : List Token} (i : ℕ) (t : Token) → length front ≡ at → Cut at text ts → slice_get ts i ≡ Some t → IsTokenOf (front ++ text) t
 each front i t e at_end got = absurd cc

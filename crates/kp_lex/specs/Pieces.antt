@@ -1,4 +1,4 @@
--- What stands at the front of bytes.
+-- For proofs alone: the piece that stands at the front of bytes.
 use Rattle.std.specs.Prelude.{◌≤◌, ◌<◌, ◌+◌, ℕ, suc, List, [], ◌∷◌, length}
 use Rattle.std.specs.List.{prefix_len}
 use Rattle.kp_lex.specs.declared.token.TokenKind.{TokenKind}
@@ -11,7 +11,7 @@ use Rattle.kp_lex.specs.Bytes.{class_of, follows, in_line}
 
 -- a sign and a name
 abbrev pub signed_class : TokenKind → Class → List ℕ → Piece
-signed_class k classes.Letter bs = Token k (suc (suc (prefix_len follows bs)))
+signed_class k classes.Alphanumeric bs = Token k (suc (suc (prefix_len follows bs)))
 signed_class k _ bs = Bad
 
 abbrev pub signed : TokenKind → List ℕ → Piece
@@ -19,7 +19,7 @@ signed k [] = Bad
 signed k (b ∷ bs) = signed_class k (class_of b) bs
 
 abbrev pub piece_class : Class → List ℕ → Piece
-piece_class classes.Letter bs = Token kinds.Name (suc (prefix_len follows bs))
+piece_class classes.Alphanumeric bs = Token kinds.Name (suc (prefix_len follows bs))
 piece_class classes.Left bs = Token kinds.Left 1
 piece_class classes.Right bs = Token kinds.Right 1
 piece_class classes.Dash bs = Token kinds.Dash 1

@@ -1,4 +1,4 @@
--- Cutting from left to right.
+-- For proofs alone: the text cut piece by piece from left to right.
 use Rattle.std.specs.Prelude.{◌≡◌, ◌+◌, ℕ, zero, suc, List, [], ◌∷◌, ◌++◌, length, drop, Result, Ok, Err}
 use Rattle.kp_lex.specs.declared.token.Token.{Token}
 use Rattle.kp_base.specs.declared.refused.Part.{Part}

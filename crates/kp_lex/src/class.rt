@@ -4,7 +4,7 @@ ghost use Rattle.kp_lex.specs.Bytes.{class_of};
 /// What a byte is to the cutting.
 #[derive(Clone, Copy, Debug, PartialEq, Eq)]
 pub enum Class {
-    Letter,
+    Alphanumeric,
     Left,
     Right,
     Dash,
@@ -23,7 +23,7 @@ pub(crate) fn classify(byte: u8) -> Class
     ensures { result ≡ class_of byte }
 {
     match byte {
-        b'0'..=b'9' | b'A'..=b'Z' | b'a'..=b'z' => Class::Letter,
+        b'0'..=b'9' | b'A'..=b'Z' | b'a'..=b'z' => Class::Alphanumeric,
         b'(' => Class::Left,
         b')' => Class::Right,
         b'-' => Class::Dash,

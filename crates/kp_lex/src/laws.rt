@@ -1,6 +1,6 @@
 //! Laws of the cutting, each proved as the contract of a function that does nothing.
 
-ghost use Rattle.std.specs.Prelude.{◌≡◌, ℕ, List, length, slice_get, ◌⊎◌};
+ghost use Rattle.std.specs.Prelude.{◌≡◌, ◌≤◌, ℕ, List, length, slice_get, ◌⊎◌};
 ghost use Rattle.kp_lex.specs.declared.token.Token.{Token};
 ghost use Rattle.kp_lex.specs.Cutting.{Cut, BadAt};
 ghost use Rattle.kp_lex.specs.Spans.{InOrder, IsTokenOf};
@@ -17,6 +17,7 @@ pub fn one_outcome(bytes: &[u8])
 /// The tokens of a text lie in it one behind the other, and each is a token of its kind.
 pub fn token_spans(bytes: &[u8])
     ensures in_order { (ts : List Token) → Cut 0 bytes.now ts → InOrder 0 ts (length bytes.now) }
+    ensures at_most { (ts : List Token) → Cut 0 bytes.now ts → length ts ≤ length bytes.now }
     ensures each { (ts : List Token) (i : ℕ) (t : Token) → Cut 0 bytes.now ts → slice_get ts i ≡ Some t → IsTokenOf bytes.now t }
 {
 }

@@ -23,7 +23,7 @@ fn run(bytes: &[u8]) -> usize
         .iter()
         .take_while(|b| matches!(
             classify(**b),
-            Class::Letter | Class::Dash | Class::Underscore
+            Class::Alphanumeric | Class::Dash | Class::Underscore
         ))
         .count()
 }
@@ -47,7 +47,7 @@ fn signed(kind: TokenKind, rest: &[u8]) -> Piece
     let Some((first, after)) = rest.split_first() else {
         return Piece::Bad;
     };
-    if matches!(classify(*first), Class::Letter) {
+    if matches!(classify(*first), Class::Alphanumeric) {
         Piece::Token(kind, 2 + run(after))
     } else {
         Piece::Bad
@@ -62,7 +62,7 @@ pub(crate) fn front(bytes: &[u8]) -> Piece
         return Piece::Bad;
     };
     match classify(*first) {
-        Class::Letter => Piece::Token(TokenKind::Name, 1 + run(rest)),
+        Class::Alphanumeric => Piece::Token(TokenKind::Name, 1 + run(rest)),
         Class::Left => Piece::Token(TokenKind::Left, 1),
         Class::Right => Piece::Token(TokenKind::Right, 1),
         Class::Dash => Piece::Token(TokenKind::Dash, 1),
