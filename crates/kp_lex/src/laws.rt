@@ -11,13 +11,11 @@ pub fn one_outcome(bytes: &[u8])
     ensures never_both { (ts : List Token) (i : ℕ) → Cut 0 bytes.now ts → BadAt 0 bytes.now i → ⊥ }
     ensures one_cutting { (ts us : List Token) → Cut 0 bytes.now ts → Cut 0 bytes.now us → ts ≡ us }
     ensures one_bad_byte { (i j : ℕ) → BadAt 0 bytes.now i → BadAt 0 bytes.now j → i ≡ j }
-{
-}
+{}
 
 /// The tokens of a text lie in it one behind the other, and each is a token of its kind.
 pub fn token_spans(bytes: &[u8])
     ensures in_order { (ts : List Token) → Cut 0 bytes.now ts → InOrder 0 ts (length bytes.now) }
     ensures at_most { (ts : List Token) → Cut 0 bytes.now ts → length ts ≤ length bytes.now }
     ensures each { (ts : List Token) (i : ℕ) (t : Token) → Cut 0 bytes.now ts → slice_get ts i ≡ Some t → IsTokenOf bytes.now t }
-{
-}
+{}

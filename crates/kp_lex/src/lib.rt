@@ -6,6 +6,8 @@ mod cutting;
 mod laws;
 mod piece;
 mod places;
+#[cfg(test)]
+mod tests;
 mod token;
 mod words;
 
