@@ -1,9 +1,8 @@
 -- A token in lower case is a token of the same kind.
-use Rattle.std.proofs.Common.{◌≡◌, ℕ, ◌+◌, ◌≤◌, ◌<◌, Bool, true, false, ◌&&◌, ◌||◌, nat_le, List, [], ◌∷◌, map, refl, sym, ap, subst, ◌∙◌, arith}
+use Rattle.std.proofs.Common.{◌≡◌, ℕ, ◌+◌, ◌≤◌, Bool, true, false, ◌||◌, nat_le, List, [], ◌∷◌, map, refl, sym, ap, ◌∙◌, arith}
 use Rattle.std.specs.Char.{to_ascii_lowercase}
 use Rattle.std.proofs.lemmas.Str.Ascii.{lowercase_is}
 use Rattle.kp_lex.specs.declared.token.TokenKind.{TokenKind}
-use Rattle.kp_lex.specs.declared.class.Class.{Class}
 use Rattle.kp_lex.specs.declared.class.Class.TheVariants as classes
 use Rattle.kp_lex.specs.Bytes.{is_alphanumeric, class_of, follows, follows_class}
 use Rattle.kp_lex.specs.Cutting.{AllAre, IsToken, left, right, dash, equal, name, variable, keyword}

@@ -1,5 +1,5 @@
 -- The spans of a cutting.
-use Rattle.std.proofs.Common.{◌≡◌, ℕ, zero, suc, ◌+◌, ◌-◌, ◌≤◌, ◌<◌, List, [], ◌∷◌, ◌++◌, length, drop, take, slice_get, slice_range, Some, refl, sym, ap, subst, ◌∙◌, length-append, append_assoc, arith}
+use Rattle.std.proofs.Common.{◌≡◌, ℕ, zero, suc, ◌+◌, ◌-◌, ◌≤◌, ◌<◌, List, [], ◌∷◌, ◌++◌, length, drop, slice_get, slice_range, Some, refl, sym, subst, length-append, append_assoc, arith}
 use Rattle.std.proofs.lemmas.List.{drop_at, take_at}
 use Rattle.std.specs.Str.{str_to_ascii_lowercase}
 use Rattle.kp_lex.specs.declared.token.Token.{Token}

@@ -3,7 +3,7 @@ ghost use Rattle.kp_lex.specs.Bytes.{class_of};
 
 /// What a byte is to the cutting.
 #[derive(Clone, Copy, Debug, PartialEq, Eq)]
-pub enum Class {
+pub(crate) enum Class {
     Alphanumeric,
     Left,
     Right,

@@ -8,7 +8,7 @@ use crate::class::{Class, classify};
 
 /// What stands at the front of bytes, and how many bytes it takes.
 #[derive(Clone, Copy, Debug, PartialEq, Eq)]
-pub enum Piece {
+pub(crate) enum Piece {
     Skip(usize),
     Token(TokenKind, usize),
     Bad,

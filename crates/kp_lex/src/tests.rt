@@ -20,17 +20,17 @@ fn cuts(rt: HostRuntime) -> Result<(), Fail> {
             ],
         ),
         (
-            b"(Go_1; \xff?\r;\n=)",
+            b"(0O_a; \xff?\r;\n=)",
             &[
                 (Left, 0, 1, "("),
-                (Name, 1, 5, "go_1"),
+                (Name, 1, 5, "0o_a"),
                 (Equal, 12, 13, "="),
                 (Right, 13, 14, ")"),
             ],
         ),
         (
-            b"?A-z:B_9-",
-            &[(Variable, 0, 4, "?a-z"), (Keyword, 4, 9, ":b_9-")],
+            b"?A-z:9_Z-",
+            &[(Variable, 0, 4, "?a-z"), (Keyword, 4, 9, ":9_z-")],
         ),
         (b" \t\r\n; .", &[]),
     ];
