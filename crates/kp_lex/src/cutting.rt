@@ -1,4 +1,4 @@
-ghost use Rattle.std.specs.Prelude.{◌≡◌, ℕ, ◌<◌, ◌≤◌, ◌^◌, length, drop, List, Ok, IfOk, MatchResult};
+ghost use Rattle.std.specs.Prelude.{◌≡◌, ℕ, ◌≤◌, length, drop, List, IfOk, MatchResult};
 ghost use Rattle.kp_lex.specs.declared.token.Token.{Token};
 ghost use Rattle.kp_lex.specs.Cutting.{Cut, BadAt};
 ghost use Rattle.kp_lex.specs.Spans.{InOrder};
@@ -11,7 +11,7 @@ use crate::places::place;
 use kp_base::{Part, Refused, Row, Stop};
 use std::alloc::Global;
 
-// The bytes from a place on.
+// The bytes from this one on.
 fn tail(bytes: &[u8], at: usize) -> &[u8]
     requires { at ≤ length bytes.now }
     ensures { result.now ≡ drop at bytes.now }
@@ -19,6 +19,7 @@ fn tail(bytes: &[u8], at: usize) -> &[u8]
     &bytes[at..]
 }
 
+// The loop of `tokens`.
 fn cut_all(alloc: Global, part: Part, bytes: &[u8]) -> Result<Row<Token>, Stop>
     requires { length bytes.now ≤ 16777216 }
     ensures { MatchResult result (λ ts. cut 0 bytes.now ≡ Ok ts) (λ e. Fails part bytes.now e (cut 0 bytes.now)) }
@@ -44,7 +45,10 @@ fn cut_all(alloc: Global, part: Part, bytes: &[u8]) -> Result<Row<Token>, Stop>
     Ok(tokens)
 }
 
-/// The tokens of a file in order, or a refusal at the first byte that begins none.
+/// The tokens of a file in order.
+///
+/// At the first byte that begins neither token nor blank nor comment the file is refused with `BadToken` and the
+/// byte's place. No other refusal comes.
 pub fn tokens(alloc: Global, part: Part, bytes: &[u8]) -> Result<Row<Token>, Stop>
     requires { length bytes.now ≤ 16777216 }
     // What is answered is so.

@@ -3,7 +3,7 @@ ghost use Rattle.kp_lex.specs.Places.{place_of};
 
 use kp_base::{Part, Place};
 
-/// The place of a byte of a file, which may be the file's end.
+/// The place of a byte of a file, which may be the file's end: the byte is counted from 0, its line from 1.
 pub fn place(part: Part, bytes: &[u8], byte: u32) -> Place
     requires short { length bytes.now ≤ 16777216 }
     requires within { byte ≤ length bytes.now }

@@ -20,6 +20,7 @@ pub enum TokenKind {
 /// A token of a text: its kind, and the span of its bytes.
 #[derive(Clone, Copy, Debug, PartialEq, Eq)]
 pub struct Token {
+    /// What it is.
     pub kind: TokenKind,
     /// The first byte, counted from 0.
     pub from: u32,

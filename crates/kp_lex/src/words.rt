@@ -1,4 +1,4 @@
-ghost use Rattle.std.specs.Prelude.{◌≡◌, ◌≤◌, ◌↔◌, length, slice_range, map, IfOk, IsTrue};
+ghost use Rattle.std.specs.Prelude.{◌≡◌, ◌≤◌, ◌↔◌, length, slice_range, IfOk, IsTrue};
 ghost use Rattle.std.specs.Str.{bytes_eq, str_to_ascii_lowercase};
 ghost use Rattle.kp_lex.specs.Words.{folded};
 
@@ -15,7 +15,7 @@ fn span<'a>(bytes: &'a [u8], token: &Token) -> &'a [u8]
     &bytes[token.from as usize..token.to as usize]
 }
 
-/// The text of a token in lower case.
+/// The text of a token, its ASCII letters in lower case.
 pub fn word(alloc: Global, bytes: &[u8], token: &Token) -> Result<Text, Memory>
     requires from { token.now.from ≤ token.now.to }
     requires to { token.now.to ≤ length bytes.now }
@@ -43,7 +43,7 @@ fn folds_to(bytes: &[u8], text: &[u8]) -> bool
     true
 }
 
-/// Whether the text of a token in lower case is this text.
+/// Whether the text of a token, its ASCII letters in lower case, is this text.
 pub fn is_word(bytes: &[u8], token: &Token, text: &str) -> bool
     requires from { token.now.from ≤ token.now.to }
     requires to { token.now.to ≤ length bytes.now }
