@@ -7,11 +7,13 @@ mod cursor;
 mod lexeme;
 mod literals;
 mod plain;
+mod schema;
 mod sections;
 mod stop;
 mod symbol;
 mod titles;
 mod tree;
+mod whole;
 
 pub use plain::{plain_domain, plain_problem};
 pub use symbol::Symbol;
