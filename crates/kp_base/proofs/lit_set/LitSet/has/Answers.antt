@@ -1,5 +1,3 @@
-use Rattle.std.proofs.Common.{◌≡◌, Ok, Err, arith}
-use Rattle.std.proofs.lemmas.Grind.{common_steps}
 use Rattle.kp_base.proofs.Ascending.{found_iff}
 use Rattle.kp_base.proofs.lit_set.LitSet.has.Goals as goal
 
