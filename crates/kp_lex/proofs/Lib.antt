@@ -1,0 +1,6 @@
+pub mod Scan
+pub mod Exact
+pub mod LowerCase
+pub mod Spans
+pub mod Outcomes
+pub mod Answered

@@ -1,0 +1,18 @@
+//! Tokens from the bytes of a file. `specs/Cutting.antt` says how a text is cut.
+#![tactic(auto)]
+
+mod class;
+mod cutting;
+mod laws;
+mod piece;
+mod places;
+#[cfg(test)]
+mod tests;
+mod token;
+mod words;
+
+pub use cutting::tokens;
+pub use laws::{one_outcome, token_spans};
+pub use places::place;
+pub use token::{Token, TokenKind};
+pub use words::{is_word, word};
