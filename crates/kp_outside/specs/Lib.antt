@@ -1,0 +1,6 @@
+pub mod Files
+pub mod MemoryShelf
+pub mod MemorySink
+pub mod Numbered
+pub mod Outside
+pub mod Reading
