@@ -1,6 +1,6 @@
 use Rattle.std.proofs.Common.{◌+◌, ◌-◌, ◌≤◌, length, vec_len}
 use Rattle.std.specs.Io.KnownBytes.{Consumes}
-use Rattle.kp_outside.proofs.file_shelf.read_past.Given as goal
+use Rattle.kp_outside.proofs.transfer.read_past.Given as goal
 
 abbrev pub decreases-loop-buffer : goal.decreases-loop-buffer
 decreases-loop-buffer g l = l.most + 1 - vec_len l.bytes
