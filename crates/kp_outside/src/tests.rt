@@ -12,19 +12,22 @@ fn shelf_in_memory(rt: HostRuntime) -> Result<(), Fail> {
     shelf.fail_at(2)?;
     shelf.fail_at(6)?;
     let gets = [
-        (1, "a", 9, Some(("hi", false))),
-        (2, "a", 9, None),
-        (3, "b", 9, None),
-        (4, "a", 1, Some(("h", true))),
+        (1, "a", 9, false, "hi", false),
+        (2, "a", 9, true, "", false),
+        (3, "b", 9, true, "", false),
+        (4, "a", 1, false, "h", true),
     ];
-    for (call, name, most, want) in gets {
-        match (shelf.get(alloc, name.as_bytes(), most), want) {
-            (Ok(got), Some((bytes, more))) => {
+    for (call, name, most, fails, bytes, more) in gets {
+        match shelf.get(alloc, name.as_bytes(), most) {
+            Ok(got) => {
+                assert!(rt; !fails, "at {call}");
                 assert_eq!(rt; got.bytes.slice(), bytes.as_bytes(), "at {call}");
                 assert_eq!(rt; got.more, more, "at {call}");
             }
-            (Err(stop), None) => assert_eq!(rt; stop, OutsideStop::Failed, "at {call}"),
-            _ => assert!(rt; false, "at {call}"),
+            Err(stop) => {
+                assert!(rt; fails, "at {call}");
+                assert_eq!(rt; stop, OutsideStop::Failed, "at {call}");
+            }
         }
     }
     let puts = [(5, "b", "xyz", "xyz"), (6, "b", "w", "xyz"), (7, "b", "", "")];
@@ -32,8 +35,10 @@ fn shelf_in_memory(rt: HostRuntime) -> Result<(), Fail> {
         let stop = shelf.put(alloc, name.as_bytes(), bytes.as_bytes()).err();
         let want = (call == 6).then_some(OutsideStop::Failed);
         assert_eq!(rt; stop, want, "at {call}");
-        let now = shelf.held(name.as_bytes()).map(|content| content.slice());
-        assert_eq!(rt; now, Some(held.as_bytes()), "at {call}");
+        let is_held = shelf
+            .held(name.as_bytes())
+            .is_some_and(|content| content.slice() == held.as_bytes());
+        assert!(rt; is_held, "at {call}");
     }
     assert!(rt; shelf.held(b"c".as_slice()).is_none());
     Ok(())
