@@ -70,7 +70,7 @@ insert_apart m k l a b apart = alike _ _ (λ q.
     get-insert nat_list_cmp_total (insert m k a) l b q
     ∙ ap (cond (eq_by_cmp of_bytes q l) (Some b)) (get-insert nat_list_cmp_total m k a q)
     ∙ both (eq_by_cmp of_bytes q l) (eq_by_cmp of_bytes q k) b a (get m q) (λ at_l at_k.
-        true≢false (sym at_l ∙ ap is_eq (nat_list_cmp_total.congr q k l ((Equal-is (of_bytes q k)).0 at_k)) ∙ apart))
+    true≢false (sym at_l ∙ ap is_eq (nat_list_cmp_total.congr q k l ((Equal-is (of_bytes q k)).0 at_k)) ∙ apart))
     ∙ sym (get-insert nat_list_cmp_total (insert m l b) k a q ∙ ap (cond (eq_by_cmp of_bytes q k) (Some a)) (get-insert nat_list_cmp_total m l b q)))
 
 -- a name is found among the entries as in the map

@@ -32,7 +32,7 @@ Counted (Ok x) old new = new ≡ old
 Counted (Err Memory) old new = new ≡ old
 Counted (Err Failed) old new = Rises old new
 
--- the first bytes of a content, at most that many, and whether there are more; of no content there are none
+-- the first bytes of a content, at most that many, and whether there are more; without a content nothing is a front
 abbrev pub IsFront : Option (List ℕ) → ℕ → Got → Type 0
 IsFront None most got = ⊥
 IsFront (Some content) most got = (got.bytes ≡ take most content) × (got.more ≡ nat_lt most (length content))
@@ -42,7 +42,7 @@ abbrev pub Gets : Option FileMap → List ℕ → ℕ → Got → Type 0
 Gets None name most got = Unit {0}
 Gets (Some m) name most got = IsFront (map.get m name) most got
 
--- at most that many bytes, and just that many where there are more: this holds also where no contents are told
+-- at most that many bytes, and just that many where there are more
 abbrev pub IsWithin : ℕ → Got → Type 0
 IsWithin most got = (length got.bytes ≤ most) × (IsTrue got.more → length got.bytes ≡ most)
 

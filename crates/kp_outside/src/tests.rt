@@ -30,7 +30,11 @@ fn shelf_in_memory(rt: HostRuntime) -> Result<(), Fail> {
             }
         }
     }
-    let puts = [(5, "b", "xyz", "xyz"), (6, "b", "w", "xyz"), (7, "b", "", "")];
+    let puts = [
+        (5, "b", "xyz", "xyz"),
+        (6, "b", "w", "xyz"),
+        (7, "b", "", ""),
+    ];
     for (call, name, bytes, held) in puts {
         let stop = shelf.put(alloc, name.as_bytes(), bytes.as_bytes()).err();
         let want = (call == 6).then_some(OutsideStop::Failed);
@@ -50,7 +54,12 @@ fn sink_in_memory(rt: HostRuntime) -> Result<(), Fail> {
     let alloc = rt.alloc();
     let mut sink = MemorySink::new(alloc)?;
     sink.fail_at(2)?;
-    let writes = [(1, "one", "one"), (2, "two", "one"), (3, "", "one"), (4, "4", "one4")];
+    let writes = [
+        (1, "one", "one"),
+        (2, "two", "one"),
+        (3, "", "one"),
+        (4, "4", "one4"),
+    ];
     for (call, bytes, told) in writes {
         let stop = sink.write(alloc, bytes.as_bytes()).err();
         let want = (call == 2).then_some(OutsideStop::Failed);
@@ -71,7 +80,12 @@ fn files(rt: HostRuntime) -> Result<(), Fail> {
     assert_eq!(rt; got.bytes.len(), 20_000);
     assert!(rt; !got.more);
     shelf.put(alloc, name, b"content".as_slice())?;
-    for (most, bytes, more) in [(9, "content", false), (7, "content", false), (6, "conten", true), (0, "", true)] {
+    for (most, bytes, more) in [
+        (9, "content", false),
+        (7, "content", false),
+        (6, "conten", true),
+        (0, "", true),
+    ] {
         let got = shelf.get(alloc, name, most)?;
         assert_eq!(rt; got.bytes.slice(), bytes.as_bytes(), "at {most}");
         assert_eq!(rt; got.more, more, "at {most}");
@@ -81,7 +95,10 @@ fn files(rt: HostRuntime) -> Result<(), Fail> {
     for name in refused {
         assert_eq!(rt; shelf.get(alloc, name, 9).err(), Some(OutsideStop::Failed));
     }
-    assert_eq!(rt; shelf.put(alloc, b"\xff".as_slice(), b"".as_slice()), Err(OutsideStop::Failed));
+    assert_eq!(rt;
+        shelf.put(alloc, b"\xff".as_slice(), b"".as_slice()),
+        Err(OutsideStop::Failed)
+    );
     Ok(())
 }
 
@@ -90,6 +107,18 @@ fn standard_output(rt: HostRuntime) -> Result<(), Fail> {
     let mut sink = OutSink::new(&rt);
     for bytes in ["printed ", "", "once\n"] {
         sink.write(rt.alloc(), bytes.as_bytes())?;
+    }
+    Ok(())
+}
+
+#[test]
+fn messages(rt: HostRuntime) -> Result<(), Fail> {
+    let messages = [
+        (OutsideStop::Failed, "failed"),
+        (OutsideStop::Memory, "out of memory"),
+    ];
+    for (stop, message) in messages {
+        assert_eq!(rt; format!(in rt.alloc(); "{stop}")?.as_str(), message);
     }
     Ok(())
 }
