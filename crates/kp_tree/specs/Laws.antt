@@ -1,0 +1,21 @@
+-- What holds of each form: it reads given tokens in one way, or it stops at one token for one reason.
+use Rattle.std.specs.Prelude.{◌≡◌, ◌⊎◌, Bool, List}
+use Rattle.kp_tree.specs.declared.tree.Word.{Word}
+use Rattle.kp_tree.specs.Symbols.{Tok}
+use Rattle.kp_tree.specs.Sorts.{Sort, El}
+use Rattle.kp_tree.specs.Forms.{Form}
+use Rattle.kp_tree.specs.Reading.{At, Reads, Stops}
+
+-- at most one tree, and the same tokens behind it
+abbrev pub ReadsOnce : Type 0
+ReadsOnce = (b : Bool) (c : Sort) (X : Form b c) (ts rest others : List (Tok Word)) (x y : El Word c) → Reads X ts x rest → Reads X ts y others → (x ≡ y) × (rest ≡ others)
+
+-- at most one offending token
+abbrev pub StopsOnce : Type 0
+StopsOnce = (b : Bool) (c : Sort) (X : Form b c) (ts : List (Tok Word)) (at there : At Word) → Stops X ts at → Stops X ts there → at ≡ there
+
+abbrev pub NeverBoth : Type 0
+NeverBoth = (b : Bool) (c : Sort) (X : Form b c) (ts rest : List (Tok Word)) (x : El Word c) (at : At Word) → Reads X ts x rest → Stops X ts at → ⊥
+
+abbrev pub AlwaysOne : Type 0
+AlwaysOne = (b : Bool) (c : Sort) (X : Form b c) (ts : List (Tok Word)) → ((x : El Word c) × (rest : List (Tok Word)) × Reads X ts x rest) ⊎ ((at : At Word) × Stops X ts at)

@@ -1,0 +1,14 @@
+pub mod Trees
+pub mod Symbols
+pub mod Sorts
+pub mod Forms
+pub mod Grammar
+pub mod Reading
+pub mod Depth
+pub mod Parsing
+pub mod Laws
+pub mod Plain
+pub mod View
+pub mod Lexemes
+pub mod PlainParsing
+pub mod PlainTexts
