@@ -1,3 +1,4 @@
 pub mod Lit
 pub mod LitSet
+pub mod Search
 pub mod formers

@@ -1,0 +1,89 @@
+ghost use Rattle.std.specs.Prelude.{◌≡◌, IfOk};
+ghost use Rattle.kp_outside.specs.Outside.{IsWithin};
+
+use crate::transfer::{read_front, write_whole};
+use crate::{Got, OutsideStop, Shelf};
+use std::alloc::Global;
+use std::fs;
+use std::marker::Model;
+use std::rt::Files;
+
+/// The files of the machine. A name is a path, in UTF-8. It doesn't tell what they hold.
+///
+/// Each error of the machine is a fault, and so is a name that isn't UTF-8. There is one count for
+/// the gets of all names, and one for the puts.
+#[derive(Drop)]
+pub struct FileShelf<'a, R: Files> {
+    rt: &'a R,
+    get_faults: u64,
+    put_faults: u64,
+}
+
+impl<'a, R: Files> Model for FileShelf<'a, R> {
+    ghost use Rattle.kp_outside.specs.Edge.{FileFaults};
+
+    ghost Value = { FileFaults };
+
+    ghost view = { λ s. record { gets = s.get_faults; puts = s.put_faults } };
+}
+
+impl<'a, R: Files> FileShelf<'a, R> {
+    /// The files that this runtime reaches. Nothing has failed so far.
+    pub fn new(rt: &'a R) -> FileShelf<'a, R>
+        ensures { result ≡ record { gets = 0; puts = 0 } }
+    {
+        FileShelf {
+            rt,
+            get_faults: 0,
+            put_faults: 0,
+        }
+    }
+}
+
+fn read_file<R: Files>(rt: &R, alloc: Global, name: &[u8], most: usize) -> Result<Got, OutsideStop>
+    ensures { IfOk result (IsWithin most) }
+{
+    let Ok(path) = str::from_utf8(name) else {
+        return Err(OutsideStop::Failed);
+    };
+    match fs::open(rt, path) {
+        Ok(mut file) => read_front(&mut file, alloc, most),
+        Err(_) => Err(OutsideStop::Failed),
+    }
+}
+
+fn write_file<R: Files>(rt: &R, name: &[u8], bytes: &[u8]) -> bool {
+    let Ok(path) = str::from_utf8(name) else {
+        return false;
+    };
+    match fs::create(rt, path) {
+        Ok(mut file) => write_whole(&mut file, bytes),
+        Err(_) => false,
+    }
+}
+
+impl<'a, R: Files> Shelf for FileShelf<'a, R> {
+    ghost use Rattle.std.specs.Prelude.{None};
+
+    ghost contents = { λ _. None };
+
+    ghost get_faults = { λ s _. s.gets };
+
+    ghost put_faults = { λ s _. s.puts };
+
+    fn get(&mut self, alloc: Global, name: &[u8], most: usize) -> Result<Got, OutsideStop> {
+        let result = read_file(self.rt, alloc, name, most);
+        if matches!(&result, Err(OutsideStop::Failed)) {
+            self.get_faults = self.get_faults.saturating_add(1);
+        }
+        result
+    }
+
+    fn put(&mut self, _alloc: Global, name: &[u8], bytes: &[u8]) -> Result<(), OutsideStop> {
+        if write_file(self.rt, name, bytes) {
+            return Ok(());
+        }
+        self.put_faults = self.put_faults.saturating_add(1);
+        Err(OutsideStop::Failed)
+    }
+}
