@@ -2,8 +2,8 @@
 //! `specs/Grammar.antt` has the grammar, `specs/Reading.antt` what it is to read by it.
 #![tactic(auto)]
 
-mod law;
 mod cursor;
+mod law;
 mod lexeme;
 mod literals;
 mod plain;
@@ -21,3 +21,6 @@ pub use tree::{
     AtomTree, CondTree, Domain, EffTree, ItemTree, LitTree, PredTree, Problem, SchemaTree,
     TermTree, Typed, Word,
 };
+
+#[cfg(test)]
+mod tests;

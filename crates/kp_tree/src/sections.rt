@@ -43,11 +43,7 @@ pub enum Section {
 
 // Head
 #[tactic(auto, unfolding(crate::specs::PlainParsing::pred_inside_at))]
-fn predicate_inside(
-    alloc: Global,
-    tokens: &[Lexeme],
-    at: usize,
-) -> Result<(PredTree, usize), Stop>
+fn predicate_inside(alloc: Global, tokens: &[Lexeme], at: usize) -> Result<(PredTree, usize), Stop>
     ensures reads { Gives tokens.now pred_view result (pred_inside_at (from tokens.now at)) }
     ensures onward { IfOk result (λ x. (at < x.1) × (x.1 ≤ length tokens.now)) }
 {
@@ -56,8 +52,7 @@ fn predicate_inside(
             if matches!(
                 first.symbol,
                 Symbol::Define | Symbol::Domain | Symbol::Problem | Symbol::Either | Symbol::Name
-            ) =>
-        {
+            ) => {
             let head = copy_word(alloc, &first.word)?;
             let predicate = PredTree {
                 head,

@@ -60,11 +60,7 @@ pub fn whole_domain(alloc: Global, tokens: &[Lexeme]) -> Result<Domain, Stop>
 
 // :init lit*
 #[tactic(auto, unfolding(crate::specs::PlainParsing::init_inside_at, crate::specs::PlainParsing::literals_at))]
-fn init_inside(
-    alloc: Global,
-    tokens: &[Lexeme],
-    at: usize,
-) -> Result<(Row<ItemTree>, usize), Stop>
+fn init_inside(alloc: Global, tokens: &[Lexeme], at: usize) -> Result<(Row<ItemTree>, usize), Stop>
     ensures reads { Gives tokens.now (λ row. Given.init (map item_view row)) result (init_inside_at (from tokens.now at)) }
     ensures onward { IfOk result (λ x. (at < x.1) × (x.1 ≤ length tokens.now)) }
 {
