@@ -1,16 +1,12 @@
 -- From what the readers compute to what they promise.
-use Rattle.std.proofs.Common.{◌≡◌, ℕ, Bool, List, [], ◌∷◌, length, ◌≤◌, Ok, Err, refl, sym, ap, subst, ◌∙◌}
-use Rattle.kp_lex.specs.declared.token.Token.{Token}
+use Rattle.std.proofs.Common.{◌≡◌, ℕ, Bool, List, [], ◌∷◌, Ok, Err, refl, sym, ap, subst, ◌∙◌}
 use Rattle.kp_lex.proofs.Outcomes.{one_cutting}
 use Rattle.kp_tree.specs.declared.tree.Word.{Word}
 use Rattle.kp_tree.specs.declared.lexeme.Lexeme.{Lexeme}
 use Rattle.kp_tree.specs.Symbols.{Tok, all_seen_in}
-use Rattle.kp_tree.specs.Trees.{Domain, Problem}
 use Rattle.kp_tree.specs.Sorts.{Sort, El}
 use Rattle.kp_tree.specs.Forms.{Form}
-use Rattle.kp_tree.specs.Grammar.{domain, problem}
-use Rattle.kp_tree.specs.Plain.{plain_domain, plain_problem}
-use Rattle.kp_tree.specs.Reading.{At, ReadBy, Reads}
+use Rattle.kp_tree.specs.Reading.{At, ReadBy}
 use Rattle.kp_tree.specs.Parsing.{Outcome, ◌>>=◌, ended, go, level}
 use Rattle.kp_tree.specs.Shallow.{Shallow}
 use Rattle.kp_tree.specs.Lexemes.{toks}

@@ -2,8 +2,8 @@
 use Rattle.std.proofs.Common.{◌≡◌, ℕ, zero, suc, ◌≤◌, ◌<◌, Bool, true, false, cond as if_then, List, [], ◌∷◌, length, ◌⊎◌, inl, inr, Option, Some, None, Ok, Err, refl, sym, ap, subst, ◌∙◌, arith}
 use Rattle.kp_tree.specs.declared.symbol.Symbol.{Symbol}
 use Rattle.kp_tree.specs.Sorts.{s_seen, Seen, Sort, s_word, El, Maker, s_pair}
-use Rattle.kp_tree.specs.Forms.{hits, Form, many, run}
-use Rattle.kp_tree.specs.Reading.{At, stop, stop_by, ReadBy, r_token, r_none, r_both, r_after, r_end, r_more, r_last, r_next, r_absent, r_present, r_make, r_choice, r_loose, r_bracket, r_within, StopBy, s_token, s_nothing, s_first, s_second, s_before, s_after, s_here, s_later, s_lacks, s_at, s_next, s_present, s_make, s_none_there, s_choice, s_loose, s_unopened, s_inside, s_unclosed, s_within}
+use Rattle.kp_tree.specs.Forms.{hits, Form}
+use Rattle.kp_tree.specs.Reading.{At, stop, ReadBy, r_token, r_none, r_both, r_after, r_end, r_more, r_last, r_next, r_absent, r_present, r_make, r_choice, r_loose, r_bracket, r_within, StopBy, s_token, s_nothing, s_first, s_second, s_before, s_after, s_here, s_later, s_lacks, s_at, s_next, s_present, s_make, s_none_there, s_choice, s_loose, s_unopened, s_inside, s_unclosed, s_within}
 use Rattle.kp_tree.specs.Symbols.{Tok, is_left, is_right, first_is}
 use Rattle.kp_tree.specs.Parsing.{Outcome, ◌>>=◌, token_at, after_at, closed, bracket_at, some_at, go, level, next_at}
 use Rattle.kp_tree.specs.Depth.{deep_case, deep}

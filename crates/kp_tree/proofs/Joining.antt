@@ -6,7 +6,6 @@ use Rattle.kp_tree.specs.declared.tree.PredTree.{PredTree}
 use Rattle.kp_tree.specs.declared.tree.SchemaTree.{SchemaTree}
 use Rattle.kp_tree.specs.declared.tree.Domain as domains
 use Rattle.kp_tree.specs.Sorts.{apply, m_domain}
-use Rattle.kp_tree.specs.declared.lexeme.Lexeme.{Lexeme}
 use Rattle.kp_tree.specs.declared.sections.Stage.{Stage}
 use Rattle.kp_tree.specs.declared.sections.Section as parts
 use Rattle.kp_tree.specs.declared.sections.Section.TheVariants as parts_of

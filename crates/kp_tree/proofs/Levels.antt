@@ -1,5 +1,5 @@
 -- A form that is shallow enough needs no more levels; the plain forms are.
-use Rattle.std.proofs.Common.{◌≡◌, ℕ, zero, suc, Bool, true, false, not, List, [], ◌∷◌, Ok, refl, ◌∙◌}
+use Rattle.std.proofs.Common.{◌≡◌, ℕ, zero, suc, Bool, true, false, not, List, Ok, refl, ◌∙◌}
 use Rattle.kp_tree.specs.declared.symbol.Symbol.{Symbol}
 use Rattle.kp_tree.specs.declared.symbol.Symbol.TheVariants as symbols
 use Rattle.kp_tree.specs.Symbols.{Tok, is_predicates}
@@ -8,7 +8,7 @@ use Rattle.kp_tree.specs.Forms.{Form}
 use Rattle.kp_tree.specs.Grammar.{once, has_stood}
 use Rattle.kp_tree.specs.Plain.{plain_lit_case, plain_lits_case, plain_section_case, some_stood, plain_domain, plain_problem}
 use Rattle.kp_tree.specs.Reading.{ReadBy, r_token, r_none, r_both, r_after, r_end, r_more, r_last, r_next, r_absent, r_present, r_make, r_choice, r_loose, r_bracket, r_within}
-use Rattle.kp_tree.specs.Parsing.{◌>>=◌, go, level}
+use Rattle.kp_tree.specs.Parsing.{go, level}
 use Rattle.kp_tree.specs.Shallow.{Shallow}
 use Rattle.kp_tree.proofs.Exact.{many_step, run_step}
 

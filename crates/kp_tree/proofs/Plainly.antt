@@ -2,12 +2,12 @@
 use Rattle.std.proofs.Common.{◌≡◌, Bool, true, false, not, List, [], ◌∷◌, map, refl}
 use Rattle.kp_tree.specs.declared.symbol.Symbol.{Symbol}
 use Rattle.kp_tree.specs.declared.symbol.Symbol.TheVariants as symbols
-use Rattle.kp_tree.specs.Trees.{Term, Atom, Cond, Eff, Item, Pred, Schema, Section, Given, Domain, Problem, Lit, Lits, cond_of_lit, eff_of_lit, fact_of_lit, cond_of_lits, eff_of_lits}
-use Rattle.kp_tree.specs.Symbols.{Tok, first_is, no_symbol, is_requirements, is_predicates, is_action, is_of_domain, is_init, is_goal, is_left, is_right, is_not, is_and, is_term, is_variable, is_name, is_head, is_parameters, is_precondition, is_effect}
-use Rattle.kp_tree.specs.Sorts.{Sort, s_none, s_cond, s_eff, s_list, s_pair, s_lit, s_lits, s_item, s_pred, s_seen, Seen, s_section, s_schema, s_given, El, m_true, m_idle, m_no_params, m_lit, m_one, m_together, m_saw, m_requires, m_predicates, m_action, m_of_domain, m_init, m_facts_of, m_goal, m_three}
-use Rattle.kp_tree.specs.Forms.{hits, Form, many, run, maybe, make, bracket, choose, ◌▸◌, ◌▹◌, nothing, n_cond, n_goal, n_eff, n_item}
-use Rattle.kp_tree.specs.Grammar.{item, once, has_stood, skip, words_of_requirements, atom_body, fact_body, atom, fact, test_case, cond_case, cond, goal_lit_case, goal_case, goal, eff_case, eff, item_case, item, rule, pred, typed, parts_end_case, schema, section, section_case, domain, given, given_case, problem}
-use Rattle.kp_tree.specs.Plain.{plain_head, plain_atom, plain_lit_case, plain_lit, plain_lits_case, plain_lits, plain_cond, plain_eff, plain_pred, plain_schema, some_stood, plain_section_case, plain_section, plain_domain, plain_of_domain, plain_init, plain_goal, plain_problem}
+use Rattle.kp_tree.specs.Trees.{Atom, Cond, Eff, Pred, Schema, Section, Given, Domain, Problem, Lit, Lits, cond_of_lit, eff_of_lit, fact_of_lit, cond_of_lits, eff_of_lits}
+use Rattle.kp_tree.specs.Symbols.{Tok, first_is, no_symbol, is_requirements, is_predicates, is_action, is_of_domain, is_init, is_goal, is_left, is_right, is_not, is_and, is_term, is_variable, is_name, is_parameters, is_precondition, is_effect}
+use Rattle.kp_tree.specs.Sorts.{Sort, s_none, s_cond, s_eff, s_pair, s_lit, s_lits, s_item, s_seen, Seen, s_section, s_given, El, m_true, m_idle, m_lit, m_one, m_together, m_saw, m_requires, m_predicates, m_action, m_of_domain, m_init, m_facts_of, m_goal, m_three}
+use Rattle.kp_tree.specs.Forms.{Form, many, run, maybe, make, bracket, choose, ◌▸◌, ◌▹◌, nothing}
+use Rattle.kp_tree.specs.Grammar.{item, once, has_stood, skip, words_of_requirements, atom_body, fact_body, atom, fact, test_case, cond_case, cond, goal_lit_case, goal_case, goal, eff_case, eff, item_case, item, pred, parts_end_case, schema, section, section_case, domain, given, given_case, problem}
+use Rattle.kp_tree.specs.Plain.{plain_head, plain_atom, plain_lit_case, plain_lit, plain_lits_case, plain_cond, plain_eff, plain_pred, plain_schema, some_stood, plain_section_case, plain_section, plain_domain, plain_of_domain, plain_init, plain_goal, plain_problem}
 use Rattle.kp_tree.specs.Reading.{Reads, ReadBy, r_token, r_none, r_both, r_after, r_end, r_more, r_last, r_next, r_absent, r_present, r_make, r_choice, r_loose, r_bracket, r_within}
 
 -- ---- a closing bracket begins nothing

@@ -5,7 +5,7 @@ use Rattle.kp_tree.specs.declared.symbol.Symbol.TheVariants as symbols
 use Rattle.kp_tree.specs.Sorts.{s_seen, Seen, Sort, s_none, s_word, s_pair, s_list, El, Maker, apply}
 use Rattle.kp_tree.specs.Forms.{is_plain, hits, Named, Form, token, none, nothing, ◌▹◌, ◌▸◌, many, run, maybe, make, choose, loose, bracket, within}
 use Rattle.kp_tree.specs.Grammar.{rule}
-use Rattle.kp_tree.specs.Reading.{Syntax, At, stop, stop_by, ReadBy, r_token, r_none, r_both, r_after, r_end, r_more, r_last, r_next, r_absent, r_present, r_make, r_choice, r_loose, r_bracket, r_within, StopBy, s_token, s_nothing, s_first, s_second, s_before, s_after, s_here, s_later, s_lacks, s_at, s_next, s_present, s_make, s_none_there, s_choice, s_loose, s_unopened, s_inside, s_unclosed, s_within}
+use Rattle.kp_tree.specs.Reading.{Syntax, At, stop, ReadBy, r_token, r_none, r_both, r_after, r_end, r_more, r_last, r_next, r_absent, r_present, r_make, r_choice, r_loose, r_bracket, r_within, StopBy, s_token, s_nothing, s_first, s_second, s_before, s_after, s_here, s_later, s_lacks, s_at, s_next, s_present, s_make, s_none_there, s_choice, s_loose, s_unopened, s_inside, s_unclosed, s_within}
 use Rattle.kp_tree.specs.Symbols.{Tok, is_left, is_right, first_is}
 use Rattle.kp_tree.specs.Parsing.{Outcome, ◌>>=◌, token_at, after_at, closed, bracket_at, some_at, next_at, pick_at, go, level}
 use Rattle.kp_tree.specs.Depth.{deep_case, deep}

@@ -1,8 +1,7 @@
 -- Forms: what the grammar is written in. A form gives a value of its sort.
-use Rattle.std.specs.Prelude.{Bool, true, false, ◌&&◌, List}
+use Rattle.std.specs.Prelude.{Bool, true, false, ◌&&◌}
 use Rattle.kp_tree.specs.declared.symbol.Symbol.{Symbol}
 use Rattle.kp_tree.specs.declared.symbol.Symbol.TheVariants as symbols
-use Rattle.kp_tree.specs.Symbols.{is_left, is_right}
 use Rattle.kp_tree.specs.Sorts.{Sort, s_none, s_word, s_pair, s_list, s_cond, s_eff, s_item, s_seen, Seen, Maker}
 
 -- a token that is no bracket passes the test

@@ -1,5 +1,5 @@
 -- The grammar of domains and problems, as data: each line is a form of the language.
-use Rattle.std.specs.Prelude.{Bool, true, false, ◌||◌, if◌then◌else◌, List, [], ◌∷◌}
+use Rattle.std.specs.Prelude.{Bool, true, false, if◌then◌else◌, [], ◌∷◌}
 use Rattle.std.specs.List.{list_any}
 use Rattle.kp_tree.specs.declared.symbol.Symbol.{Symbol}
 use Rattle.kp_tree.specs.declared.symbol.Symbol.TheVariants as symbols

@@ -1,9 +1,9 @@
 -- The plain forms: domains and problems without types, objects, terms, conditional effects and uncertainty, with their sections in one order.
-use Rattle.std.specs.Prelude.{Bool, true, false, not, List, [], ◌∷◌}
+use Rattle.std.specs.Prelude.{Bool, true, false, not, [], ◌∷◌}
 use Rattle.kp_tree.specs.declared.symbol.Symbol.{Symbol}
 use Rattle.kp_tree.specs.declared.symbol.Symbol.TheVariants as symbols
 use Rattle.kp_tree.specs.Symbols.{no_symbol, is_left, is_and, is_not, is_define, is_domain, is_problem, is_requirements, is_predicates, is_action, is_precondition, is_effect, is_of_domain, is_init, is_goal, is_head, is_name}
-use Rattle.kp_tree.specs.Sorts.{Sort, s_pair, s_list, s_atom, s_cond, s_eff, s_lit, s_lits, s_pred, s_schema, s_section, s_domain, s_seen, Seen, s_given, s_problem, m_lit, m_true, m_idle, m_requires, m_predicates, m_action, m_domain, m_of_domain, m_init, m_goal, m_saw, m_problem, m_nullary, m_one, m_together, m_cond_of, m_eff_of, m_facts_of, m_plain_pred, m_plain_schema, m_three}
+use Rattle.kp_tree.specs.Sorts.{s_pair, s_atom, s_cond, s_eff, s_lit, s_lits, s_pred, s_schema, s_section, s_domain, s_seen, Seen, s_given, s_problem, m_lit, m_true, m_idle, m_requires, m_predicates, m_action, m_domain, m_of_domain, m_init, m_goal, m_saw, m_problem, m_nullary, m_one, m_together, m_cond_of, m_eff_of, m_facts_of, m_plain_pred, m_plain_schema, m_three}
 use Rattle.kp_tree.specs.Forms.{Form, nothing, ◌▹◌, ◌▸◌, many, run, maybe, make, choose, bracket}
 use Rattle.kp_tree.specs.Grammar.{word, skip, once, has_stood, title, words_of_requirements}
 

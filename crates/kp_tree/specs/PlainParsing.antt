@@ -18,7 +18,7 @@ use Rattle.kp_tree.specs.declared.titles.Naming.TheVariants as namings
 use Rattle.kp_tree.specs.Trees.{Atom, Cond, Eff, Item, Lit, Lits, Pred, Schema, Section, Given, Domain, Problem}
 use Rattle.kp_tree.specs.Symbols.{Tok, is_left, is_right, is_define, is_init, is_goal, is_domain, is_problem, is_predicates, is_of_domain, is_head, is_name, is_precondition, is_effect, is_keyword}
 use Rattle.kp_tree.specs.Sorts.{Sort, El, Seen, apply, m_true, m_idle, m_plain_pred, m_domain, m_init, m_facts_of, m_goal, m_problem, m_three}
-use Rattle.kp_tree.specs.Forms.{Form, many, make, run, maybe, choose, bracket, ◌▸◌, ◌▹◌}
+use Rattle.kp_tree.specs.Forms.{Form, many, make, run, maybe, choose, ◌▸◌, ◌▹◌}
 use Rattle.kp_tree.specs.Grammar.{title, word, skip, has_stood, words_of_requirements}
 use Rattle.kp_tree.specs.Plain.{plain_head, plain_atom, plain_lit_case, plain_lit, plain_lits_case, plain_lits, plain_cond, plain_eff, plain_pred, plain_schema, plain_section_case, plain_section, plain_domain, plain_of_domain, plain_init, plain_goal, plain_problem}
 use Rattle.kp_tree.specs.Reading.{stop}

@@ -2,7 +2,7 @@
 use Rattle.std.specs.Prelude.{◌≡◌, List, [], ◌∷◌, Bool, true, false}
 use Rattle.kp_tree.specs.declared.symbol.Symbol.{Symbol}
 use Rattle.kp_tree.specs.Symbols.{Tok, first_is, is_left, is_right}
-use Rattle.kp_tree.specs.Sorts.{Sort, s_none, s_word, s_pair, s_list, s_seen, Seen, El, Maker, apply}
+use Rattle.kp_tree.specs.Sorts.{Sort, s_none, s_word, s_pair, s_seen, Seen, El, Maker, apply}
 use Rattle.kp_tree.specs.Forms.{hits, Named, Form, token, none, nothing, ◌▹◌, ◌▸◌, many, run, maybe, make, choose, loose, bracket, within}
 use Rattle.kp_tree.specs.Grammar.{rule}
 

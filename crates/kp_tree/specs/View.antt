@@ -1,5 +1,5 @@
 -- The trees of the program as trees of the grammar: the same words, without where they lie in memory.
-use Rattle.std.specs.Prelude.{List, map}
+use Rattle.std.specs.Prelude.{map}
 use Rattle.kp_tree.specs.declared.tree.Word.{Word}
 use Rattle.kp_tree.specs.declared.tree.Typed as typeds
 use Rattle.kp_tree.specs.declared.tree.TermTree.{TermTree}

@@ -1,4 +1,3 @@
-use Rattle.std.proofs.Common.{◌≡◌, sym}
 use Rattle.kp_tree.specs.Lexing.{AreTokens}
 use Rattle.kp_tree.specs.Plain.{plain_domain}
 use Rattle.kp_tree.proofs.Answered.{reads_as, reads_not, domains_read}

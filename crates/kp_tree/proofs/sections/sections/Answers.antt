@@ -1,13 +1,11 @@
-use Rattle.std.proofs.Common.{◌≡◌, refl, sym, ◌∙◌, arith, not}
+use Rattle.std.proofs.Common.{refl, sym, ◌∙◌, arith}
 use Rattle.std.proofs.lemmas.Result.{err_from_is_err_and}
-use Rattle.kp_tree.specs.declared.sections.Stage.TheVariants.{Start}
 use Rattle.kp_tree.specs.Symbols.{is_left, is_predicates}
 use Rattle.kp_tree.specs.Grammar.{has_stood}
 use Rattle.kp_tree.specs.Plain.{plain_section}
-use Rattle.kp_tree.specs.Lexemes.{from}
-use Rattle.kp_tree.specs.PlainParsing.{section_at, sections_at, Fails, seen_of}
+use Rattle.kp_tree.specs.PlainParsing.{section_at, sections_at, seen_of}
 use Rattle.kp_tree.proofs.Loop.{run_goes_on, run_ends, run_done, run_lacks}
-use Rattle.kp_tree.proofs.Joining.{sections_from, SoFar, one_more, joined}
+use Rattle.kp_tree.proofs.Joining.{one_more, joined}
 use Rattle.kp_tree.proofs.sections.sections.Goals as goal
 
 pub returns-in_err-next-clause-reads : goal.returns-in_err-next-clause-reads

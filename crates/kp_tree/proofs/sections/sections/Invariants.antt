@@ -1,4 +1,4 @@
-use Rattle.std.proofs.Common.{◌≡◌, ◌≤◌, ◌-◌, length}
+use Rattle.std.proofs.Common.{◌≤◌, ◌-◌, length}
 use Rattle.kp_tree.specs.declared.sections.Stage.TheVariants.{Start}
 use Rattle.kp_tree.specs.Lexemes.{from}
 use Rattle.kp_tree.proofs.Joining.{sections_from, SoFar}

@@ -1,4 +1,4 @@
-use Rattle.std.proofs.Common.{◌≡◌, sym, ◌∙◌, arith}
+use Rattle.std.proofs.Common.{sym, ◌∙◌, arith}
 use Rattle.kp_tree.specs.Symbols.{is_keyword}
 use Rattle.kp_tree.specs.Grammar.{skip}
 use Rattle.kp_tree.specs.PlainParsing.{keyword_at, requirements_at}
