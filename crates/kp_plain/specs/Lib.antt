@@ -1,0 +1,6 @@
+pub mod Encoding
+pub mod Pieces
+pub mod Task
+pub mod Written
+pub mod Report
+pub mod Grounding

@@ -1,0 +1,95 @@
+-- The task that is written: its facts say what is known of the ground atoms.
+use Rattle.std.specs.Prelude.{ℕ, Bool, true, false, if◌then◌else◌, List, [], ◌∷◌, ◌++◌, Option, Some, None, codes, map, slice_get, decimal}
+use Rattle.std.specs.List.{flat_map}
+use Rattle.kp_base.specs.declared.lit.Lit.{Lit}
+use Rattle.kp_base.specs.declared.ground.GroundName.{GroundName}
+use Rattle.kp_base.specs.declared.ground.Effect.{Effect as GroundEffect}
+use Rattle.kp_base.specs.declared.ground.Action.{Action}
+use Rattle.kp_base.specs.declared.ground.Ground.{Ground}
+use Rattle.kp_base.specs.Lit.{negated}
+use Rattle.kp_base.specs.LitSet.{with_lit}
+use Rattle.kp_plain.specs.Encoding.{encoded}
+
+-- a fact that holds, or doesn't, by name
+pub record Signed : Type 0 where
+  pub holds : Bool
+  pub fact : List ℕ
+
+-- an effect: where the conditions hold, the result holds after the step
+pub record Effect : Type 0 where
+  pub conds : List Signed
+  pub result : Signed
+
+-- an operator: its name, the facts that must hold, and its effects
+pub record Op : Type 0 where
+  pub name : List ℕ
+  pub pre : List (List ℕ)
+  pub effects : List Effect
+
+-- ---- names
+
+-- the first part of a fact's name tells the sign of its literal
+abbrev pub sign_word : Bool → List ℕ
+sign_word positive = if positive then codes "kp_-" else codes "kn_-"
+
+-- an atom's encoded name; nothing where there is no such atom
+abbrev pub encoded_or_none : Option GroundName → List ℕ
+encoded_or_none None = []
+encoded_or_none (Some n) = encoded n
+
+-- the last part of a fact's name tells the tag
+abbrev pub tag_word : ℕ → List ℕ
+tag_word t = codes "_-" ++ decimal t
+
+-- the fact of an atom's literal under a tag
+abbrev pub atom_fact : ℕ → Bool → GroundName → List ℕ
+atom_fact t positive n = sign_word positive ++ (encoded n ++ tag_word t)
+
+-- the fact of a literal under a tag: that the literal is known, where the tag is the case
+abbrev pub fact_of : List GroundName → ℕ → Lit → List ℕ
+fact_of atoms t l = sign_word l.positive ++ (encoded_or_none (slice_get atoms l.atom.0) ++ tag_word t)
+
+-- the two facts of an atom
+abbrev pub facts_of_atom : ℕ → GroundName → List (List ℕ)
+facts_of_atom t n = atom_fact t true n ∷ atom_fact t false n ∷ []
+
+-- ---- operators
+
+-- the negations of some literals, as a set
+abbrev pub opposites : List Lit → List Lit → List Lit
+opposites [] done = done
+opposites (l ∷ ls) done = opposites ls (with_lit (negated l) done)
+
+-- the literal is known, or not known
+abbrev pub known : List GroundName → ℕ → Bool → Lit → Signed
+known atoms t holds l = record { holds = holds; fact = fact_of atoms t l }
+
+-- where the conditions are known, the result becomes known
+abbrev pub support : List GroundName → ℕ → GroundEffect → Effect
+support atoms t e = record { conds = map (known atoms t true) e.cond; result = known atoms t true e.result }
+
+-- where the negation of no condition is known, the negation of the result is known no longer
+abbrev pub cancellation : List GroundName → ℕ → GroundEffect → Effect
+cancellation atoms t e = record { conds = map (known atoms t false) (opposites e.cond []); result = known atoms t false (negated e.result) }
+
+-- both, for the empty tag
+abbrev pub effects_of : List GroundName → GroundEffect → List Effect
+effects_of atoms e = support atoms 0 e ∷ cancellation atoms 0 e ∷ []
+
+-- the operator of an action
+abbrev pub op_of : List GroundName → Action → Op
+op_of atoms a = record { name = codes "do_-" ++ encoded a.name; pre = map (fact_of atoms 0) a.pre; effects = flat_map (effects_of atoms) a.effects }
+
+-- ---- the task of a ground problem, with the empty tag alone
+
+-- the facts in order of number: of each atom in turn, the literal's and its negation's
+abbrev pub facts_of : Ground → List (List ℕ)
+facts_of g = flat_map (facts_of_atom 0) g.atoms
+
+-- the operators, one for each action
+abbrev pub ops_of : Ground → List Op
+ops_of g = map (op_of g.atoms) g.actions
+
+-- the facts of some literals
+abbrev pub facts_for : Ground → List Lit → List (List ℕ)
+facts_for g ls = map (fact_of g.atoms 0) ls
