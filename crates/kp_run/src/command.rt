@@ -1,4 +1,4 @@
-ghost use Rattle.std.specs.Prelude.{◌≡◌, ◌↔◌, IsTrue, MatchOption};
+ghost use Rattle.std.specs.Prelude.{◌≡◌, ◌≢◌, ◌↔◌, IsTrue, MatchOption};
 ghost use Rattle.kp_run.specs.Command.{IsPositional, IsCommand, IsNoCommand};
 
 use std::marker::Model;
@@ -39,6 +39,13 @@ fn is_text(word: &Vec<u8>, text: &str) -> bool
     word.as_slice() == text.as_bytes()
 }
 
+// Whether two words differ.
+fn are_apart(left: &[u8], right: &[u8]) -> bool
+    ensures { IsTrue result ↔ (left.now ≢ right.now) }
+{
+    left != right
+}
+
 impl<'a> Command<'a> {
     /// The command of the words after the program's name.
     pub fn from_words(words: &'a [Vec<u8>]) -> Option<Command<'a>>
@@ -56,7 +63,7 @@ impl<'a> Command<'a> {
         if !is_positional(domain_out) || !is_positional(problem_out) {
             return None;
         }
-        if domain_out.as_slice() == problem_out.as_slice() {
+        if !are_apart(domain_out, problem_out) {
             return None;
         }
         Some(Command {

@@ -53,7 +53,7 @@ pub fn knows_eff(names: &Names, effect: &EffTree) -> bool
 
 // Whether the heads of all these literals are among the names.
 fn knows_lits(names: &Names, lits: &[LitTree]) -> bool
-    ensures { result ≡ all_among names.now (map (λ l. l.atom.head.text) lits.now) }
+    ensures { result ≡ all_among names.now (map (λ l. l.atom.head.text) (map lit_view lits.now)) }
 {
     for lit in lits {
         if !knows_atom(names, &lit.atom) {

@@ -3,7 +3,7 @@ ghost use Rattle.std.specs.List.{flat_map};
 ghost use Rattle.kp_outside.specs.Outside.{IsFront};
 ghost use Rattle.kp_tree.specs.Plain as forms;
 ghost use Rattle.kp_tree.specs.PlainTexts.{Answers};
-ghost use Rattle.kp_tree.specs.View.{domain_view, problem_view, schema_view};
+ghost use Rattle.kp_tree.specs.View.{domain_view, problem_view, pred_view, schema_view};
 ghost use Rattle.kp_run.specs.Among.{all_among, are_new};
 ghost use Rattle.kp_run.specs.Names.{cond_heads, eff_heads, predicate_names, AllDeclared, problem_heads};
 ghost use Rattle.kp_run.specs.PlainFiles.{IsWellNamed};
@@ -38,8 +38,8 @@ pub fn read_problem(alloc: Global, got: &Got) -> Result<Option<Problem>, Memory>
 // The names of the predicates, where no two are the same.
 fn predicates_of<'a>(alloc: Global, predicates: &'a [PredTree]) -> Result<Option<Names<'a>>, Memory>
     ensures { IfOk result (λ found. MatchOption found
-        (are_new [] (map (λ p. p.head.text) predicates.now) ≡ false)
-        (λ names. (names ≡ map (λ p. p.head.text) predicates.now) × (are_new [] (map (λ p. p.head.text) predicates.now) ≡ true))) }
+        (are_new [] (map (λ p. p.head.text) (map pred_view predicates.now)) ≡ false)
+        (λ names. (names ≡ map (λ p. p.head.text) (map pred_view predicates.now)) × (are_new [] (map (λ p. p.head.text) (map pred_view predicates.now)) ≡ true))) }
 {
     let mut names = Names::new(alloc);
     for predicate in predicates {
@@ -52,7 +52,7 @@ fn predicates_of<'a>(alloc: Global, predicates: &'a [PredTree]) -> Result<Option
 
 // Whether no two schemas have one name.
 fn schemas_differ(alloc: Global, schemas: &[SchemaTree]) -> Result<bool, Memory>
-    ensures { IfOk result (λ differ. differ ≡ are_new [] (map (λ s. s.name.text) schemas.now)) }
+    ensures { IfOk result (λ differ. differ ≡ are_new [] (map (λ s. s.name.text) (map schema_view schemas.now))) }
 {
     let mut names = Names::new(alloc);
     for schema in schemas {
@@ -84,7 +84,10 @@ pub fn declared<'a>(alloc: Global, domain: &'a Domain) -> Result<Option<Names<'a
     let Some(names) = predicates_of(alloc, domain.predicates.slice())? else {
         return Ok(None);
     };
-    if !schemas_differ(alloc, domain.schemas.slice())? || !knows_schemas(&names, domain.schemas.slice()) {
+    if !schemas_differ(alloc, domain.schemas.slice())? {
+        return Ok(None);
+    }
+    if !knows_schemas(&names, domain.schemas.slice()) {
         return Ok(None);
     }
     Ok(Some(names))
@@ -92,7 +95,7 @@ pub fn declared<'a>(alloc: Global, domain: &'a Domain) -> Result<Option<Names<'a
 
 /// Whether the problem is of these predicates alone.
 pub fn knows_problem(names: &Names, problem: &Problem) -> bool
-    ensures { IsTrue result ↔ AllDeclared names.now (problem_heads (problem_view problem.now)) }
+    ensures { result ≡ all_among names.now (problem_heads (problem_view problem.now)) }
 {
     for item in problem.init.slice() {
         if !knows_item(names, item) {

@@ -1,0 +1,6 @@
+pub mod Known
+pub mod Repeats
+pub mod Reading
+pub mod Reporting
+pub mod Ending
+pub mod Words
