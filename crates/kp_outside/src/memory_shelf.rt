@@ -82,7 +82,7 @@ impl MemoryShelf {
         })
     }
 
-    /// Sets the content of a name. This is no call that is numbered.
+    /// Sets the content of a name. This is no call that is numbered. At `Memory` all is as before.
     pub fn hold(&mut self, name: &[u8], bytes: &[u8]) -> Result<(), Memory>
         ensures ok { OnOk result (self.new ≡ record self.old { contents = map.insert self.old.contents name.now bytes.now }) }
         ensures err { OnErr result (self.new ≡ self.old) }
@@ -90,7 +90,8 @@ impl MemoryShelf {
         set(self.alloc, &mut self.contents, name, bytes)
     }
 
-    /// Makes the call of that number fail. This is no call that is numbered.
+    /// Makes the call of that number fail. This is no call that is numbered. At `Memory` all is as
+    /// before.
     pub fn fail_at(&mut self, call: u64) -> Result<(), Memory>
         ensures ok { OnOk result (self.new ≡ record self.old { failing = self.old.failing ++ call ∷ [] }) }
         ensures err { OnErr result (self.new ≡ self.old) }

@@ -52,7 +52,8 @@ impl MemorySink {
         })
     }
 
-    /// Makes the call of that number fail. This is no call that is numbered.
+    /// Makes the call of that number fail. This is no call that is numbered. At `Memory` all is as
+    /// before.
     pub fn fail_at(&mut self, call: u64) -> Result<(), Memory>
         ensures ok { OnOk result (self.new ≡ record self.old { failing = self.old.failing ++ call ∷ [] }) }
         ensures err { OnErr result (self.new ≡ self.old) }
@@ -78,6 +79,7 @@ impl Sink for MemorySink {
         ensures err { OnErr result (AddsFront (Some self.old.bytes) (Some self.new.bytes) bytes.now) }
         ensures faults { Counted result self.old.faults self.new.faults }
         ensures failed { IsErrOf result OutsideStop.Failed ↔ IsFailing self.old.failing self.old.calls }
+        ensures nothing { IsErrOf result OutsideStop.Failed → self.new.bytes ≡ self.old.bytes }
         ensures after { self.new ≡ record self.old { bytes = self.new.bytes; calls = next self.old.calls; faults = faults_after result self.old.faults } }
     {
         self.calls = self.calls.saturating_add(1);

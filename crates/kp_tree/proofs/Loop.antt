@@ -6,8 +6,8 @@ use Rattle.kp_tree.specs.declared.lexeme.Lexeme.{Lexeme}
 use Rattle.kp_tree.specs.declared.stop.Stop.{Stop}
 use Rattle.kp_tree.specs.declared.stop.Stop.TheVariants.{Memory, At as StopAt}
 use Rattle.kp_tree.specs.Symbols.{Tok, first_is}
-use Rattle.kp_tree.specs.Sorts.{Sort, s_seen, Seen, s_pair, El}
-use Rattle.kp_tree.specs.Forms.{Form, many, run}
+use Rattle.kp_tree.specs.Sorts.{Sort, s_seen, Seen, s_pair, El, m_drop}
+use Rattle.kp_tree.specs.Forms.{Form, many, run, make}
 use Rattle.kp_tree.specs.Reading.{stop}
 use Rattle.kp_tree.specs.Parsing.{Outcome, ◌>>=◌, read}
 use Rattle.kp_tree.specs.Lexemes.{from}
@@ -72,3 +72,31 @@ module _ {a : Sort} (d : ℕ) (p : Symbol → Bool) (X : Seen → Form true (s_p
   run_lacks front s ts total gone lacks so_far =
       let step : run_of s ts ≡ Err (stop ts) = run_step d p X done s ts ∙ rw (gone, lacks) refl in
       sym so_far ∙ ap (with_front front) step
+
+-- ---- the same, where nothing of it is kept
+
+abbrev without : {A : Type 0} → Outcome Word (List A) → Outcome Word (Unit {0})
+without (Ok xs) = Ok (tt, xs.1)
+without (Err at) = Err at
+
+module _ {a : Sort} (d : ℕ) (p : Symbol → Bool) (X : Form true a) where
+  abbrev pub dropped : List (Tok Word) → Outcome Word (Unit {0})
+  dropped ts = read d (make m_drop (many p X)) ts
+
+  is_without : (ts : List (Tok Word)) (r : Outcome Word (List (El Word a))) → all_of d p X ts ≡ r → dropped ts ≡ without r
+  is_without ts (Ok xs) e = rw e refl
+  is_without ts (Err at) e = rw e refl
+
+  kept : (r : Outcome Word (List (El Word a))) (x : El Word a) → without (r >>= λ xs. Ok (x ∷ xs.0, xs.1)) ≡ without r
+  kept (Ok y) x = refl
+  kept (Err at) x = refl
+
+  pub dropped_goes_on : (ts : List (Tok Word)) (x : El Word a) (rest : List (Tok Word)) (total : Outcome Word (Unit {0})) → first_is p ts ≡ true → read d X ts ≡ Ok (x, rest) → dropped ts ≡ total → dropped rest ≡ total
+  dropped_goes_on ts x rest total here e so_far =
+      let step : all_of d p X ts ≡ (all_of d p X rest >>= λ xs. Ok (x ∷ xs.0, xs.1)) = many_step d p X ts ∙ rw (here, e) refl in
+      is_without rest (all_of d p X rest) refl ∙ sym (kept (all_of d p X rest) x) ∙ sym (is_without ts _ step) ∙ so_far
+
+  pub dropped_done : (ts : List (Tok Word)) (total : Outcome Word (Unit {0})) → first_is p ts ≡ false → dropped ts ≡ total → total ≡ Ok (tt, ts)
+  dropped_done ts total gone so_far =
+      let step : all_of d p X ts ≡ Ok ([], ts) = many_step d p X ts ∙ rw gone refl in
+      sym so_far ∙ is_without ts _ step

@@ -3,7 +3,7 @@ use Rattle.std.specs.Prelude.{Bool, true, false, ◌||◌, if◌then◌else◌, 
 use Rattle.std.specs.List.{list_any}
 use Rattle.kp_tree.specs.declared.symbol.Symbol.{Symbol}
 use Rattle.kp_tree.specs.declared.symbol.Symbol.TheVariants as symbols
-use Rattle.kp_tree.specs.Symbols.{no_symbol, is_left, is_dash, is_equal, is_variable, is_and, is_or, is_not, is_when, is_forall, is_one_of, is_unknown, is_define, is_domain, is_problem, is_either, is_requirements, is_types, is_constants, is_predicates, is_action, is_parameters, is_precondition, is_effect, is_of_domain, is_objects, is_init, is_goal, is_head, is_name, is_term, is_keyword, is_kind, not_section, not_given, not_part, not_cond, not_goal, not_effect, not_item, not_lit}
+use Rattle.kp_tree.specs.Symbols.{no_symbol, is_left, is_dash, is_equal, is_variable, is_and, is_or, is_not, is_when, is_forall, is_one_of, is_unknown, is_define, is_domain, is_problem, is_either, is_requirements, is_types, is_constants, is_predicates, is_action, is_parameters, is_precondition, is_effect, is_of_domain, is_objects, is_init, is_goal, is_head, is_name, is_term, is_keyword, not_section, not_given, not_part, not_cond, not_goal, not_effect, not_item, not_lit}
 use Rattle.kp_tree.specs.Sorts.{Sort, s_none, s_word, s_pair, s_list, s_typed, s_term, s_atom, s_cond, s_eff, s_lit, s_item, s_pred, s_schema, s_section, s_domain, s_seen, Seen, s_given, s_problem, Maker, m_word, m_drop, m_name, m_variable, m_atom, m_untyped, m_kind, m_kinds, m_typed, m_joined, m_all, m_true, m_holds, m_same, m_both, m_idle, m_when, m_each, m_makes, m_lit, m_items, m_fact, m_one_of, m_any_of, m_unknown, m_pred, m_no_params, m_schema, m_requires, m_types, m_constants, m_predicates, m_action, m_domain, m_of_domain, m_needs, m_objects, m_init, m_goal, m_saw, m_problem}
 use Rattle.kp_tree.specs.Forms.{Named, n_cond, n_goal, n_eff, n_item, Form, token, none, nothing, ◌▹◌, ◌▸◌, many, run, maybe, make, choose, loose, bracket, within}
 

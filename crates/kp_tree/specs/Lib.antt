@@ -12,3 +12,5 @@ pub mod View
 pub mod Lexemes
 pub mod PlainParsing
 pub mod PlainTexts
+pub mod Shallow
+pub mod Lexing

@@ -12,18 +12,19 @@ use Rattle.kp_tree.specs.declared.sections.Stage.{Stage}
 use Rattle.kp_tree.specs.declared.sections.Stage.TheVariants as stages
 use Rattle.kp_tree.specs.declared.sections.Section as parts
 use Rattle.kp_tree.specs.declared.sections.Section.TheVariants as parts_of
+use Rattle.kp_tree.specs.declared.tree.Domain as domains
 use Rattle.kp_tree.specs.declared.titles.Naming.{Naming}
 use Rattle.kp_tree.specs.declared.titles.Naming.TheVariants as namings
-use Rattle.kp_tree.specs.Trees.{Atom, Cond, Eff, Lit, Lits, Pred, Schema, Section, Given, Domain, Problem}
-use Rattle.kp_tree.specs.Symbols.{Tok, is_left, is_right, is_domain, is_problem, is_predicates, is_of_domain, is_name, is_precondition, is_effect}
-use Rattle.kp_tree.specs.Sorts.{Sort, El, Seen, m_true, m_idle}
-use Rattle.kp_tree.specs.Forms.{Form, many, run, maybe, choose, bracket, ◌▸◌}
-use Rattle.kp_tree.specs.Grammar.{title, has_stood, words_of_requirements}
+use Rattle.kp_tree.specs.Trees.{Atom, Cond, Eff, Item, Lit, Lits, Pred, Schema, Section, Given, Domain, Problem}
+use Rattle.kp_tree.specs.Symbols.{Tok, is_left, is_right, is_define, is_init, is_goal, is_domain, is_problem, is_predicates, is_of_domain, is_head, is_name, is_precondition, is_effect, is_keyword}
+use Rattle.kp_tree.specs.Sorts.{Sort, El, Seen, apply, m_true, m_idle, m_plain_pred, m_domain, m_init, m_facts_of, m_goal, m_problem, m_three}
+use Rattle.kp_tree.specs.Forms.{Form, many, make, run, maybe, choose, bracket, ◌▸◌, ◌▹◌}
+use Rattle.kp_tree.specs.Grammar.{title, word, skip, has_stood, words_of_requirements}
 use Rattle.kp_tree.specs.Plain.{plain_head, plain_atom, plain_lit_case, plain_lit, plain_lits_case, plain_lits, plain_cond, plain_eff, plain_pred, plain_schema, plain_section_case, plain_section, plain_domain, plain_of_domain, plain_init, plain_goal, plain_problem}
 use Rattle.kp_tree.specs.Reading.{stop}
 use Rattle.kp_tree.specs.Parsing.{Outcome, read, ended, ◌>>=◌}
 use Rattle.kp_tree.specs.Lexemes.{from}
-use Rattle.kp_tree.specs.View.{lit_view, pred_view, schema_view}
+use Rattle.kp_tree.specs.View.{lit_view, pred_view, schema_view, domain_view}
 
 -- ---- what a function answers is what reading gives, unless memory runs out
 
@@ -44,6 +45,16 @@ Passes ls (Err e) reading = Fails ls e reading
 abbrev pub GivesAll : {X Y : Type 0} → List Lexeme → (X → Y) → Result X Stop → Outcome Word Y → Type 0
 GivesAll ls view (Ok x) reading = reading ≡ Ok (view x, [])
 GivesAll ls view (Err e) reading = Fails ls e reading
+
+-- the domain is made of the sections that reading gives
+pub record Joins (ls : List Lexeme) (d : domains.Domain) (n : ℕ) (reading : Outcome Word (List (Section Word))) : Type 0 where
+  pub sections : List (Section Word)
+  pub reads : reading ≡ Ok (sections, from ls n)
+  pub joined : domain_view d ≡ apply Word m_domain (tt, sections)
+
+abbrev pub GivesSections : List Lexeme → Result (domains.Domain × ℕ) Stop → Outcome Word (List (Section Word)) → Type 0
+GivesSections ls (Ok x) reading = Joins ls x.0 x.1 reading
+GivesSections ls (Err e) reading = Fails ls e reading
 
 -- a closing bracket stands there, and the rest is left
 pub record Closed (ts rest : List (Tok Word)) : Type 0 where
@@ -107,11 +118,17 @@ cond_at d = read d plain_cond
 unfoldable pub eff_at : ℕ → Reader (Eff Word)
 eff_at d = read d plain_eff
 
+unfoldable pub pred_inside_at : Reader (Pred Word)
+pred_inside_at = read 0 (make m_plain_pred (word is_head))
+
 unfoldable pub pred_at : Reader (Pred Word)
 pred_at = read 1 plain_pred
 
 unfoldable pub preds_at : Reader (List (Pred Word))
 preds_at = read 1 (many is_left plain_pred)
+
+unfoldable pub name_word_at : Reader Word
+name_word_at = read 0 (word is_name)
 
 unfoldable pub precondition_at : Reader (Cond Word)
 precondition_at = read 3 (maybe is_precondition m_true (is_precondition ▸ plain_cond))
@@ -121,6 +138,9 @@ effect_at = read 3 (maybe is_effect m_idle (is_effect ▸ plain_eff))
 
 unfoldable pub schema_at : Reader (Schema Word)
 schema_at = read 3 plain_schema
+
+unfoldable pub keyword_at : Reader (Unit {0})
+keyword_at = read 0 (skip is_keyword)
 
 unfoldable pub requirements_at : Reader (Unit {0})
 requirements_at = read 0 words_of_requirements
@@ -140,17 +160,48 @@ naming_test namings.Domain = is_domain
 naming_test namings.Problem = is_problem
 naming_test namings.OfDomain = is_of_domain
 
+unfoldable pub name_at : Reader (Unit {0})
+name_at = read 0 (skip is_name)
+
+unfoldable pub naming_inside_at : Naming → Reader (Unit {0})
+naming_inside_at naming = read 0 (naming_test naming ▸ skip is_name)
+
 unfoldable pub naming_at : Naming → Reader (Unit {0})
 naming_at naming = read 1 (title (naming_test naming))
+
+unfoldable pub domain_inside_at : Reader (Domain Word)
+domain_inside_at = read 4 (is_define ▸ make m_domain (title is_domain ▹ run is_left plain_section (has_stood is_predicates) []))
 
 unfoldable pub domain_at : Reader (Domain Word)
 domain_at = read 5 plain_domain
 
+unfoldable pub init_inside_at : Reader (Given Word)
+init_inside_at = read 3 (is_init ▸ make m_init (make m_facts_of (many is_left plain_lit)))
+
 unfoldable pub init_at : Reader (Given Word)
 init_at = read 4 plain_init
 
+unfoldable pub goal_inside_at : Reader (Given Word)
+goal_inside_at = read 3 (is_goal ▸ make m_goal plain_cond)
+
 unfoldable pub goal_at : Reader (Given Word)
 goal_at = read 4 plain_goal
+
+unfoldable pub of_domain_at : Reader (Given Word)
+of_domain_at = read 4 plain_of_domain
+
+unfoldable pub init_and_goal_at : Reader (Given Word × Given Word)
+init_and_goal_at = read 4 (plain_init ▹ plain_goal)
+
+-- the sections of a plain problem
+abbrev pub givens_of : List (Item Word) → Cond Word → List (Given Word)
+givens_of items goal = Given.of_domain ∷ Given.init items ∷ Given.goal goal ∷ []
+
+unfoldable pub givens_at : Reader (List (Given Word))
+givens_at = read 4 (make m_three (plain_of_domain ▹ plain_init ▹ plain_goal))
+
+unfoldable pub problem_inside_at : Reader (Problem Word)
+problem_inside_at = read 4 (is_define ▸ make m_problem (title is_problem ▹ make m_three (plain_of_domain ▹ plain_init ▹ plain_goal)))
 
 unfoldable pub problem_at : Reader (Problem Word)
 problem_at = read 5 plain_problem

@@ -250,10 +250,6 @@ is_keyword symbols.Length = true
 is_keyword symbols.Keyword = true
 is_keyword _ = false
 
--- what a written type begins with
-abbrev pub is_kind : Symbol → Bool
-is_kind s = is_left s || is_name s
-
 -- ---- known and not supported: tokens that are told apart from other errors where they stand first
 
 -- at the head of a section of a domain

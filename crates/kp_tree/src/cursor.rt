@@ -1,8 +1,9 @@
-ghost use Rattle.std.specs.Prelude.{◌≡◌, ◌<◌, ◌≤◌, ◌+◌, ◌∷◌, [], false, length, IfOk, IfErr, IfSome, IfNone};
+ghost use Rattle.std.specs.Prelude.{◌≡◌, ◌<◌, ◌≤◌, ◌+◌, ◌∷◌, [], false, Ok, length, IfOk, IfErr, IfSome, IfNone};
 ghost use Rattle.std.specs.Bool.{OnTrue};
 ghost use Rattle.kp_tree.specs.Lexemes.{tok, from};
-ghost use Rattle.kp_tree.specs.PlainParsing.{Closed, Opened};
-ghost use Rattle.kp_tree.specs.Symbols.{first_is, is_left, is_right};
+ghost use Rattle.kp_tree.specs.PlainParsing.{Closed, Opened, keyword_at};
+ghost use Rattle.kp_tree.specs.Forms.{hits};
+ghost use Rattle.kp_tree.specs.Symbols.{first_is, is_left, is_right, is_name, is_keyword};
 
 use crate::lexeme::Lexeme;
 use crate::stop::Stop;
@@ -51,5 +52,82 @@ pub fn close(tokens: &[Lexeme], at: usize) -> Result<usize, Stop>
     match peek(tokens, at) {
         Some(first) if matches!(first.symbol, Symbol::Right) => Ok(at + 1),
         _ => Err(Stop::At(at)),
+    }
+}
+
+/// Whether the symbol is that of a name.
+pub fn is_name(symbol: Symbol) -> bool
+    ensures { result ≡ hits is_name symbol }
+{
+    matches!(
+        symbol,
+        Symbol::Define
+            | Symbol::Domain
+            | Symbol::Problem
+            | Symbol::Either
+            | Symbol::Name
+            | Symbol::And
+            | Symbol::Or
+            | Symbol::Not
+            | Symbol::Imply
+            | Symbol::Exists
+            | Symbol::Forall
+            | Symbol::When
+            | Symbol::OneOf
+            | Symbol::Unknown
+            | Symbol::Preference
+            | Symbol::Probabilistic
+            | Symbol::Increase
+            | Symbol::Decrease
+            | Symbol::Assign
+            | Symbol::ScaleUp
+            | Symbol::ScaleDown
+    )
+}
+
+// Whether the symbol is that of a keyword.
+fn is_keyword(symbol: Symbol) -> bool
+    ensures test { result ≡ is_keyword symbol }
+    ensures hit { result ≡ hits is_keyword symbol }
+{
+    matches!(
+        symbol,
+        Symbol::Requirements
+            | Symbol::Types
+            | Symbol::Constants
+            | Symbol::Predicates
+            | Symbol::Action
+            | Symbol::Parameters
+            | Symbol::Precondition
+            | Symbol::Effect
+            | Symbol::OfDomain
+            | Symbol::Objects
+            | Symbol::Init
+            | Symbol::Goal
+            | Symbol::Functions
+            | Symbol::Derived
+            | Symbol::Axiom
+            | Symbol::DurativeAction
+            | Symbol::Constraints
+            | Symbol::Process
+            | Symbol::Event
+            | Symbol::Observe
+            | Symbol::Vars
+            | Symbol::Metric
+            | Symbol::Length
+            | Symbol::Keyword
+    )
+}
+
+/// Whether a keyword stands at a place.
+#[tactic(auto, unfolding(crate::specs::PlainParsing::keyword_at))]
+pub fn begins_keyword(tokens: &[Lexeme], at: usize) -> bool
+    ensures test { result ≡ first_is is_keyword (from tokens.now at) }
+    ensures skipped { OnTrue result (keyword_at (from tokens.now at) ≡ Ok (tt, from tokens.now (at + 1))) }
+    ensures within { OnTrue result (at < length tokens.now) }
+{
+    match peek(tokens, at) {
+        Some(first) => is_keyword(first.symbol),
+        None => false,
     }
 }

@@ -1,28 +1,37 @@
+ghost use Rattle.kp_tree.specs.PlainTexts.{PlainDomainsRead, PlainProblemsRead};
 ghost use Rattle.kp_tree.specs.Laws.{ReadsOnce, StopsOnce, NeverBoth, AlwaysOne};
 
 /// A form reads given tokens as at most one tree, and leaves the same tokens behind it.
 #[tactic(auto, using(crate::proofs::Exact::once_read))]
 pub fn a_form_reads_once()
     ensures { ReadsOnce }
-{
-}
+{}
 
 /// A form that stops, stops at one token and for one reason.
 #[tactic(auto, using(crate::proofs::Exact::once_stopped))]
 pub fn a_form_stops_once()
     ensures { StopsOnce }
-{
-}
+{}
 
 /// A form doesn't both read and stop.
 #[tactic(auto, using(crate::proofs::Exact::never_both))]
 pub fn no_form_reads_and_stops()
     ensures { NeverBoth }
-{
-}
+{}
 
 /// A form reads or stops.
 pub fn each_form_reads_or_stops()
     ensures { AlwaysOne }
-{
-}
+{}
+
+/// What has the form of a plain domain reads by the grammar of domains as the same tree.
+#[tactic(auto, using(crate::proofs::Answered::domains_read))]
+pub fn plain_domains_are_domains()
+    ensures { PlainDomainsRead }
+{}
+
+/// What has the form of a plain problem reads by the grammar of problems as the same tree.
+#[tactic(auto, using(crate::proofs::Answered::problems_read))]
+pub fn plain_problems_are_problems()
+    ensures { PlainProblemsRead }
+{}

@@ -2,16 +2,18 @@
 //! `specs/Grammar.antt` has the grammar, `specs/Reading.antt` what it is to read by it.
 #![tactic(auto)]
 
-mod law;
 mod cursor;
+mod law;
 mod lexeme;
 mod literals;
 mod plain;
+mod schema;
 mod sections;
 mod stop;
 mod symbol;
 mod titles;
 mod tree;
+mod whole;
 
 pub use plain::{plain_domain, plain_problem};
 pub use symbol::Symbol;
@@ -19,3 +21,6 @@ pub use tree::{
     AtomTree, CondTree, Domain, EffTree, ItemTree, LitTree, PredTree, Problem, SchemaTree,
     TermTree, Typed, Word,
 };
+
+#[cfg(test)]
+mod tests;

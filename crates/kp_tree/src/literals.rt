@@ -32,8 +32,7 @@ fn head(alloc: Global, tokens: &[Lexeme], at: usize) -> Result<(AtomTree, usize)
             if matches!(
                 first.symbol,
                 Symbol::Define | Symbol::Domain | Symbol::Problem | Symbol::Either | Symbol::Name
-            ) =>
-        {
+            ) => {
             let head = copy_word(alloc, &first.word)?;
             Ok((
                 AtomTree {
@@ -63,7 +62,12 @@ fn atom(alloc: Global, tokens: &[Lexeme], at: usize, levels: u32) -> Result<(Ato
 
 // Head, or not ( Head )
 #[tactic(auto, unfolding(crate::specs::PlainParsing::lit_inside_at, crate::specs::PlainParsing::atom_at, crate::specs::PlainParsing::head_at))]
-fn lit_inside(alloc: Global, tokens: &[Lexeme], at: usize, levels: u32) -> Result<(LitTree, usize), Stop>
+fn lit_inside(
+    alloc: Global,
+    tokens: &[Lexeme],
+    at: usize,
+    levels: u32,
+) -> Result<(LitTree, usize), Stop>
     ensures reads { Gives tokens.now lit_view result (lit_inside_at levels (from tokens.now at)) }
     ensures onward { IfOk result (λ x. (at < x.1) × (x.1 ≤ length tokens.now)) }
 {
@@ -131,7 +135,12 @@ pub fn literals(
 
 // Head, or not ( Head ), or and lit*
 #[tactic(auto, unfolding(crate::specs::PlainParsing::lits_inside_at, crate::specs::PlainParsing::literals_at, crate::specs::PlainParsing::atom_at, crate::specs::PlainParsing::head_at))]
-fn lits_inside(alloc: Global, tokens: &[Lexeme], at: usize, levels: u32) -> Result<(Lits, usize), Stop>
+fn lits_inside(
+    alloc: Global,
+    tokens: &[Lexeme],
+    at: usize,
+    levels: u32,
+) -> Result<(Lits, usize), Stop>
     ensures reads { Gives tokens.now lits_view result (lits_inside_at levels (from tokens.now at)) }
     ensures onward { IfOk result (λ x. (at < x.1) × (x.1 ≤ length tokens.now)) }
 {
@@ -164,7 +173,12 @@ fn lits_inside(alloc: Global, tokens: &[Lexeme], at: usize, levels: u32) -> Resu
 
 // A literal, or ( and lit* )
 #[tactic(auto, unfolding(crate::specs::PlainParsing::lits_at, crate::specs::PlainParsing::lits_inside_at))]
-fn one_or_several(alloc: Global, tokens: &[Lexeme], at: usize, levels: u32) -> Result<(Lits, usize), Stop>
+fn one_or_several(
+    alloc: Global,
+    tokens: &[Lexeme],
+    at: usize,
+    levels: u32,
+) -> Result<(Lits, usize), Stop>
     ensures reads { Gives tokens.now lits_view result (lits_at levels (from tokens.now at)) }
     ensures onward { IfOk result (λ x. (at < x.1) × (x.1 ≤ length tokens.now)) }
 {
@@ -227,7 +241,12 @@ fn as_effect(alloc: Global, lits: Lits) -> Result<EffTree, Memory>
 
 /// A condition of literals.
 #[tactic(auto, unfolding(crate::specs::PlainParsing::cond_at, crate::specs::PlainParsing::lits_at))]
-pub fn condition(alloc: Global, tokens: &[Lexeme], at: usize, levels: u32) -> Result<(CondTree, usize), Stop>
+pub fn condition(
+    alloc: Global,
+    tokens: &[Lexeme],
+    at: usize,
+    levels: u32,
+) -> Result<(CondTree, usize), Stop>
     ensures reads { Gives tokens.now cond_view result (cond_at levels (from tokens.now at)) }
     ensures onward { IfOk result (λ x. (at < x.1) × (x.1 ≤ length tokens.now)) }
 {
@@ -237,7 +256,12 @@ pub fn condition(alloc: Global, tokens: &[Lexeme], at: usize, levels: u32) -> Re
 
 /// An effect of literals.
 #[tactic(auto, unfolding(crate::specs::PlainParsing::eff_at, crate::specs::PlainParsing::lits_at))]
-pub fn effect(alloc: Global, tokens: &[Lexeme], at: usize, levels: u32) -> Result<(EffTree, usize), Stop>
+pub fn effect(
+    alloc: Global,
+    tokens: &[Lexeme],
+    at: usize,
+    levels: u32,
+) -> Result<(EffTree, usize), Stop>
     ensures reads { Gives tokens.now eff_view result (eff_at levels (from tokens.now at)) }
     ensures onward { IfOk result (λ x. (at < x.1) × (x.1 ≤ length tokens.now)) }
 {

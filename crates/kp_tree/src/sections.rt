@@ -1,5 +1,21 @@
-use crate::tree::{PredTree, SchemaTree};
-use kp_base::Row;
+ghost use Rattle.std.specs.Prelude.{◌≡◌, ◌<◌, ◌≤◌, ◌++◌, length, map, IfOk, OnOk};
+ghost use Rattle.kp_tree.specs.Lexemes.{from};
+ghost use Rattle.kp_tree.specs.Symbols.{is_predicates};
+ghost use Rattle.kp_tree.specs.Grammar.{has_stood};
+ghost use Rattle.kp_tree.specs.Trees.{section_predicates, section_schemas};
+ghost use Rattle.kp_tree.specs.View.{pred_view, schema_view};
+ghost use Rattle.kp_tree.specs.PlainParsing.{Gives, GivesSections, seen_of, section_view, pred_inside_at, pred_at, preds_at, section_inside_at, section_at, sections_at};
+ghost use Rattle.kp_tree.specs.declared.sections.Stage.TheVariants.{Start};
+
+use crate::cursor::{close, copy_word, is_left, peek};
+use crate::lexeme::Lexeme;
+use crate::schema::schema;
+use crate::stop::Stop;
+use crate::symbol::Symbol;
+use crate::titles::requirements;
+use crate::tree::{Domain, PredTree, SchemaTree};
+use kp_base::{Memory, Row};
+use std::alloc::Global;
 
 /// Which sections of a plain domain have stood.
 #[derive(Clone, Copy, Debug, PartialEq, Eq)]
@@ -23,4 +39,176 @@ pub enum Section {
     Predicates(Row<PredTree>),
     /// An action.
     Action(SchemaTree),
+}
+
+// Head
+#[tactic(auto, unfolding(crate::specs::PlainParsing::pred_inside_at))]
+fn predicate_inside(alloc: Global, tokens: &[Lexeme], at: usize) -> Result<(PredTree, usize), Stop>
+    ensures reads { Gives tokens.now pred_view result (pred_inside_at (from tokens.now at)) }
+    ensures onward { IfOk result (λ x. (at < x.1) × (x.1 ≤ length tokens.now)) }
+{
+    match peek(tokens, at) {
+        Some(first)
+            if matches!(
+                first.symbol,
+                Symbol::Define | Symbol::Domain | Symbol::Problem | Symbol::Either | Symbol::Name
+            ) => {
+            let head = copy_word(alloc, &first.word)?;
+            let predicate = PredTree {
+                head,
+                params: Row::new(alloc),
+            };
+            Ok((predicate, at + 1))
+        }
+        _ => Err(Stop::At(at)),
+    }
+}
+
+// ( Head )
+#[tactic(auto, unfolding(crate::specs::PlainParsing::pred_at, crate::specs::PlainParsing::pred_inside_at))]
+fn predicate(alloc: Global, tokens: &[Lexeme], at: usize) -> Result<(PredTree, usize), Stop>
+    ensures reads { Gives tokens.now pred_view result (pred_at (from tokens.now at)) }
+    ensures onward { IfOk result (λ x. (at < x.1) × (x.1 ≤ length tokens.now)) }
+{
+    if !is_left(tokens, at) {
+        return Err(Stop::At(at));
+    }
+    let (predicate, at) = predicate_inside(alloc, tokens, at + 1)?;
+    let at = close(tokens, at)?;
+    Ok((predicate, at))
+}
+
+// Predicates, as many as stand there.
+fn predicates(
+    alloc: Global,
+    tokens: &[Lexeme],
+    start: usize,
+) -> Result<(Row<PredTree>, usize), Stop>
+    requires { start ≤ length tokens.now }
+    ensures reads { Gives tokens.now (λ row. map pred_view row) result (preds_at (from tokens.now start)) }
+    ensures onward { IfOk result (λ x. (start ≤ x.1) × (x.1 ≤ length tokens.now)) }
+{
+    let mut predicates = Row::new(alloc);
+    let mut at = start;
+    'more: while is_left(tokens, at) {
+        let (one, after) = predicate(alloc, tokens, at)?;
+        predicates.push(one)?;
+        at = after;
+    }
+    Ok((predicates, at))
+}
+
+// What stands in the brackets of a section, and which sections have stood with it.
+#[tactic(auto, unfolding(crate::specs::PlainParsing::section_inside_at, crate::specs::PlainParsing::requirements_at, crate::specs::PlainParsing::preds_at, crate::specs::PlainParsing::schema_at))]
+fn section_inside(
+    alloc: Global,
+    tokens: &[Lexeme],
+    at: usize,
+    stage: Stage,
+) -> Result<((Stage, Section), usize), Stop>
+    ensures reads { Gives tokens.now (λ x. (seen_of x.0, section_view x.1)) result (section_inside_at stage (from tokens.now at)) }
+    ensures onward { IfOk result (λ x. (at < x.1) × (x.1 ≤ length tokens.now)) }
+{
+    let Some(first) = peek(tokens, at) else {
+        return Err(Stop::At(at));
+    };
+    match (first.symbol, stage) {
+        (Symbol::Requirements, Stage::Start) => {
+            let at = requirements(tokens, at + 1)?;
+            Ok(((Stage::Required, Section::Requirements), at))
+        }
+        (Symbol::Predicates, Stage::Start) => {
+            let (predicates, at) = predicates(alloc, tokens, at + 1)?;
+            Ok(((Stage::Declared, Section::Predicates(predicates)), at))
+        }
+        (Symbol::Predicates, Stage::Required) => {
+            let (predicates, at) = predicates(alloc, tokens, at + 1)?;
+            Ok(((Stage::Both, Section::Predicates(predicates)), at))
+        }
+        (Symbol::Action, Stage::Declared) => {
+            let (schema, at) = schema(alloc, tokens, at + 1)?;
+            Ok(((Stage::Declared, Section::Action(schema)), at))
+        }
+        (Symbol::Action, Stage::Both) => {
+            let (schema, at) = schema(alloc, tokens, at + 1)?;
+            Ok(((Stage::Both, Section::Action(schema)), at))
+        }
+        _ => Err(Stop::At(at)),
+    }
+}
+
+// A section in its brackets.
+#[tactic(auto, unfolding(crate::specs::PlainParsing::section_at, crate::specs::PlainParsing::section_inside_at))]
+fn read_section(
+    alloc: Global,
+    tokens: &[Lexeme],
+    at: usize,
+    stage: Stage,
+) -> Result<((Stage, Section), usize), Stop>
+    ensures reads { Gives tokens.now (λ x. (seen_of x.0, section_view x.1)) result (section_at stage (from tokens.now at)) }
+    ensures onward { IfOk result (λ x. (at < x.1) × (x.1 ≤ length tokens.now)) }
+{
+    if !is_left(tokens, at) {
+        return Err(Stop::At(at));
+    }
+    let (section, at) = section_inside(alloc, tokens, at + 1, stage)?;
+    let at = close(tokens, at)?;
+    Ok((section, at))
+}
+
+// Whether the predicates have stood.
+fn is_declared(stage: Stage) -> bool
+    ensures { result ≡ has_stood is_predicates (seen_of stage) }
+{
+    matches!(stage, Stage::Declared | Stage::Both)
+}
+
+// Adds what a section declares.
+fn keep(
+    section: Section,
+    predicates: &mut Vec<PredTree>,
+    schemas: &mut Vec<SchemaTree>,
+) -> Result<(), Memory>
+    ensures predicates { OnOk result (map pred_view predicates.new.items ≡ map pred_view predicates.old.items ++ section_predicates (section_view section)) }
+    ensures schemas { OnOk result (map schema_view schemas.new.items ≡ map schema_view schemas.old.items ++ section_schemas (section_view section)) }
+{
+    match section {
+        Section::Requirements => Ok(()),
+        Section::Predicates(more) => {
+            predicates.append(&mut more.into_vec())?;
+            Ok(())
+        }
+        Section::Action(schema) => {
+            schemas.push(schema)?;
+            Ok(())
+        }
+    }
+}
+
+/// The sections of a plain domain, joined.
+pub fn sections(alloc: Global, tokens: &[Lexeme], start: usize) -> Result<(Domain, usize), Stop>
+    requires { start ≤ length tokens.now }
+    ensures reads { GivesSections tokens.now result (sections_at Start (from tokens.now start)) }
+    ensures onward { IfOk result (λ x. (start ≤ x.1) × (x.1 ≤ length tokens.now)) }
+{
+    let mut predicates = Vec::new(alloc);
+    let mut schemas = Vec::new(alloc);
+    let mut at = start;
+    let mut stage = Stage::Start;
+    'more: while is_left(tokens, at) {
+        let ((next, one), after) = read_section(alloc, tokens, at, stage)?;
+        keep(one, &mut predicates, &mut schemas)?;
+        at = after;
+        stage = next;
+    }
+    if !is_declared(stage) {
+        return Err(Stop::At(at));
+    }
+    let domain = Domain {
+        kinds: Row::new(alloc),
+        constants: Row::new(alloc),
+        predicates: Row::from_vec(predicates),
+        schemas: Row::from_vec(schemas),
+    };
+    Ok((domain, at))
 }

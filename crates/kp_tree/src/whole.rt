@@ -1,0 +1,204 @@
+ghost use Rattle.std.specs.Prelude.{◌≡◌, ◌<◌, ◌≤◌, length, map, IfOk};
+ghost use Rattle.kp_tree.specs.Lexemes.{toks, from};
+ghost use Rattle.kp_tree.specs.Plain.{plain_domain, plain_problem};
+ghost use Rattle.kp_tree.specs.Trees.{Given};
+ghost use Rattle.kp_tree.specs.View.{cond_view, item_view, domain_view, problem_view};
+ghost use Rattle.kp_tree.specs.PlainParsing.{Gives, GivesAll, domain_inside_at, domain_at, init_inside_at, init_at, goal_inside_at, goal_at, of_domain_at, init_and_goal_at, givens_of, givens_at, problem_inside_at, problem_at, whole_at};
+
+use crate::cursor::{close, is_left, peek};
+use crate::lexeme::Lexeme;
+use crate::literals::{condition, facts, literals};
+use crate::sections::sections;
+use crate::stop::Stop;
+use crate::symbol::Symbol;
+use crate::titles::{Naming, read_naming};
+use crate::tree::{CondTree, Domain, ItemTree, Problem};
+use kp_base::Row;
+use std::alloc::Global;
+
+// define ( domain Name ) and the sections
+#[tactic(auto, unfolding(crate::specs::PlainParsing::domain_inside_at, crate::specs::PlainParsing::naming_at, crate::specs::PlainParsing::sections_at))]
+fn domain_inside(alloc: Global, tokens: &[Lexeme], at: usize) -> Result<(Domain, usize), Stop>
+    ensures reads { Gives tokens.now domain_view result (domain_inside_at (from tokens.now at)) }
+    ensures onward { IfOk result (λ x. (at < x.1) × (x.1 ≤ length tokens.now)) }
+{
+    match peek(tokens, at) {
+        Some(first) if matches!(first.symbol, Symbol::Define) => {
+            let at = read_naming(tokens, at + 1, Naming::Domain)?;
+            let (domain, at) = sections(alloc, tokens, at)?;
+            Ok((domain, at))
+        }
+        _ => Err(Stop::At(at)),
+    }
+}
+
+// The domain in its brackets.
+#[tactic(auto, unfolding(crate::specs::PlainParsing::domain_at, crate::specs::PlainParsing::domain_inside_at))]
+fn read_domain(alloc: Global, tokens: &[Lexeme], at: usize) -> Result<(Domain, usize), Stop>
+    ensures reads { Gives tokens.now domain_view result (domain_at (from tokens.now at)) }
+    ensures onward { IfOk result (λ x. (at < x.1) × (x.1 ≤ length tokens.now)) }
+{
+    if !is_left(tokens, at) {
+        return Err(Stop::At(at));
+    }
+    let (domain, at) = domain_inside(alloc, tokens, at + 1)?;
+    let at = close(tokens, at)?;
+    Ok((domain, at))
+}
+
+/// The plain domain that all the tokens are.
+#[tactic(auto, unfolding(crate::specs::PlainParsing::domain_at, crate::specs::PlainParsing::whole_at))]
+pub fn whole_domain(alloc: Global, tokens: &[Lexeme]) -> Result<Domain, Stop>
+    ensures { GivesAll tokens.now domain_view result (whole_at plain_domain (toks tokens.now)) }
+{
+    let (domain, at) = read_domain(alloc, tokens, 0)?;
+    match peek(tokens, at) {
+        None => Ok(domain),
+        Some(_) => Err(Stop::At(at)),
+    }
+}
+
+// :init lit*
+#[tactic(auto, unfolding(crate::specs::PlainParsing::init_inside_at, crate::specs::PlainParsing::literals_at))]
+fn init_inside(alloc: Global, tokens: &[Lexeme], at: usize) -> Result<(Row<ItemTree>, usize), Stop>
+    ensures reads { Gives tokens.now (λ row. Given.init (map item_view row)) result (init_inside_at (from tokens.now at)) }
+    ensures onward { IfOk result (λ x. (at < x.1) × (x.1 ≤ length tokens.now)) }
+{
+    match peek(tokens, at) {
+        Some(first) if matches!(first.symbol, Symbol::Init) => {
+            let (literals, at) = literals(alloc, tokens, at + 1, 3)?;
+            Ok((facts(alloc, literals)?, at))
+        }
+        _ => Err(Stop::At(at)),
+    }
+}
+
+// ( :init lit* )
+#[tactic(auto, unfolding(crate::specs::PlainParsing::init_at, crate::specs::PlainParsing::init_inside_at))]
+fn init(alloc: Global, tokens: &[Lexeme], at: usize) -> Result<(Row<ItemTree>, usize), Stop>
+    ensures reads { Gives tokens.now (λ row. Given.init (map item_view row)) result (init_at (from tokens.now at)) }
+    ensures onward { IfOk result (λ x. (at < x.1) × (x.1 ≤ length tokens.now)) }
+{
+    if !is_left(tokens, at) {
+        return Err(Stop::At(at));
+    }
+    let (items, at) = init_inside(alloc, tokens, at + 1)?;
+    let at = close(tokens, at)?;
+    Ok((items, at))
+}
+
+// :goal lits
+#[tactic(auto, unfolding(crate::specs::PlainParsing::goal_inside_at, crate::specs::PlainParsing::cond_at))]
+fn goal_inside(alloc: Global, tokens: &[Lexeme], at: usize) -> Result<(CondTree, usize), Stop>
+    ensures reads { Gives tokens.now (λ c. Given.goal (cond_view c)) result (goal_inside_at (from tokens.now at)) }
+    ensures onward { IfOk result (λ x. (at < x.1) × (x.1 ≤ length tokens.now)) }
+{
+    match peek(tokens, at) {
+        Some(first) if matches!(first.symbol, Symbol::Goal) => {
+            let (goal, at) = condition(alloc, tokens, at + 1, 3)?;
+            Ok((goal, at))
+        }
+        _ => Err(Stop::At(at)),
+    }
+}
+
+// ( :goal lits )
+#[tactic(auto, unfolding(crate::specs::PlainParsing::goal_at, crate::specs::PlainParsing::goal_inside_at))]
+fn goal(alloc: Global, tokens: &[Lexeme], at: usize) -> Result<(CondTree, usize), Stop>
+    ensures reads { Gives tokens.now (λ c. Given.goal (cond_view c)) result (goal_at (from tokens.now at)) }
+    ensures onward { IfOk result (λ x. (at < x.1) × (x.1 ≤ length tokens.now)) }
+{
+    if !is_left(tokens, at) {
+        return Err(Stop::At(at));
+    }
+    let (goal, at) = goal_inside(alloc, tokens, at + 1)?;
+    let at = close(tokens, at)?;
+    Ok((goal, at))
+}
+
+// ( :init lit* ) ( :goal lits )
+#[tactic(auto, unfolding(crate::specs::PlainParsing::init_and_goal_at, crate::specs::PlainParsing::init_at, crate::specs::PlainParsing::goal_at))]
+fn init_and_goal(
+    alloc: Global,
+    tokens: &[Lexeme],
+    at: usize,
+) -> Result<((Row<ItemTree>, CondTree), usize), Stop>
+    ensures reads { Gives tokens.now (λ x. (Given.init (map item_view x.0), Given.goal (cond_view x.1))) result (init_and_goal_at (from tokens.now at)) }
+    ensures onward { IfOk result (λ x. (at < x.1) × (x.1 ≤ length tokens.now)) }
+{
+    let (init, at) = init(alloc, tokens, at)?;
+    let (goal, at) = goal(alloc, tokens, at)?;
+    Ok(((init, goal), at))
+}
+
+// ( :domain Name ), as a section
+#[tactic(auto, unfolding(crate::specs::PlainParsing::of_domain_at, crate::specs::PlainParsing::naming_at))]
+fn of_domain(tokens: &[Lexeme], at: usize) -> Result<((), usize), Stop>
+    ensures reads { Gives tokens.now (λ _. Given.of_domain) result (of_domain_at (from tokens.now at)) }
+    ensures onward { IfOk result (λ x. (at < x.1) × (x.1 ≤ length tokens.now)) }
+{
+    let at = read_naming(tokens, at, Naming::OfDomain)?;
+    Ok(((), at))
+}
+
+// ( :domain Name ) ( :init lit* ) ( :goal lits )
+#[tactic(auto, unfolding(crate::specs::PlainParsing::givens_at, crate::specs::PlainParsing::of_domain_at, crate::specs::PlainParsing::init_and_goal_at))]
+fn givens(
+    alloc: Global,
+    tokens: &[Lexeme],
+    at: usize,
+) -> Result<((Row<ItemTree>, CondTree), usize), Stop>
+    ensures reads { Gives tokens.now (λ x. givens_of (map item_view x.0) (cond_view x.1)) result (givens_at (from tokens.now at)) }
+    ensures onward { IfOk result (λ x. (at < x.1) × (x.1 ≤ length tokens.now)) }
+{
+    let ((), at) = of_domain(tokens, at)?;
+    let ((init, goal), at) = init_and_goal(alloc, tokens, at)?;
+    Ok(((init, goal), at))
+}
+
+// define ( problem Name ) and the sections
+#[tactic(auto, unfolding(crate::specs::PlainParsing::problem_inside_at, crate::specs::PlainParsing::naming_at, crate::specs::PlainParsing::givens_at))]
+fn problem_inside(alloc: Global, tokens: &[Lexeme], at: usize) -> Result<(Problem, usize), Stop>
+    ensures reads { Gives tokens.now problem_view result (problem_inside_at (from tokens.now at)) }
+    ensures onward { IfOk result (λ x. (at < x.1) × (x.1 ≤ length tokens.now)) }
+{
+    match peek(tokens, at) {
+        Some(first) if matches!(first.symbol, Symbol::Define) => {
+            let at = read_naming(tokens, at + 1, Naming::Problem)?;
+            let ((init, goal), at) = givens(alloc, tokens, at)?;
+            let problem = Problem {
+                objects: Row::new(alloc),
+                init,
+                goal,
+            };
+            Ok((problem, at))
+        }
+        _ => Err(Stop::At(at)),
+    }
+}
+
+// The problem in its brackets.
+#[tactic(auto, unfolding(crate::specs::PlainParsing::problem_at, crate::specs::PlainParsing::problem_inside_at))]
+fn read_problem(alloc: Global, tokens: &[Lexeme], at: usize) -> Result<(Problem, usize), Stop>
+    ensures reads { Gives tokens.now problem_view result (problem_at (from tokens.now at)) }
+    ensures onward { IfOk result (λ x. (at < x.1) × (x.1 ≤ length tokens.now)) }
+{
+    if !is_left(tokens, at) {
+        return Err(Stop::At(at));
+    }
+    let (problem, at) = problem_inside(alloc, tokens, at + 1)?;
+    let at = close(tokens, at)?;
+    Ok((problem, at))
+}
+
+/// The plain problem that all the tokens are.
+#[tactic(auto, unfolding(crate::specs::PlainParsing::problem_at, crate::specs::PlainParsing::whole_at))]
+pub fn whole_problem(alloc: Global, tokens: &[Lexeme]) -> Result<Problem, Stop>
+    ensures { GivesAll tokens.now problem_view result (whole_at plain_problem (toks tokens.now)) }
+{
+    let (problem, at) = read_problem(alloc, tokens, 0)?;
+    match peek(tokens, at) {
+        None => Ok(problem),
+        Some(_) => Err(Stop::At(at)),
+    }
+}
