@@ -1,5 +1,5 @@
 -- Which answer a report has.
-use Rattle.std.proofs.Common.{◌≡◌, ◌⊎◌, ℕ, List, Result, Ok, Err, IfOk, Option, Some, None, IsNone, Vec, refl, sym, subst, inl, inr}
+use Rattle.std.proofs.Common.{◌≡◌, ◌⊎◌, ℕ, List, Result, Ok, Err, IfOk, Option, Some, None, IsNone, Vec, refl, sym, ap, ◌∙◌, subst, inl, inr}
 use Rattle.std.specs.FinMap as map_of
 use Rattle.kp_outside.specs.declared.outside.Got.{Got}
 use Rattle.std.specs.declared.alloc.Global.{Global}
@@ -34,6 +34,17 @@ answers_files most held c domain problem r first second answers =
     let d = held_front (map_of.get held c.domain) most domain first in
     let p = held_front (map_of.get held c.problem) most problem second in
     record { domain = d.0; problem = p.0; domain_held = d.1; problem_held = p.1; answers = answers d.0 p.0 d.2 p.2 }
+
+-- words are one command at most
+pub one_command : (words : List (Vec ℕ Global)) (c other : Command) → IsCommand words c → IsCommand words other → c ≡ other
+one_command words c other is so = by (cc (is.words_are, so.words_are)) (cc (is.words_are, so.words_are)) (cc (is.words_are, so.words_are)) (cc (is.words_are, so.words_are))
+  where
+    by : c.domain ≡ other.domain → c.problem ≡ other.problem → c.domain_out ≡ other.domain_out → c.problem_out ≡ other.problem_out → c ≡ other
+    by a b d e =
+        ap (λ x. record { domain = x; problem = c.problem; domain_out = c.domain_out; problem_out = c.problem_out }) a
+        ∙ (ap (λ x. record { domain = other.domain; problem = x; domain_out = c.domain_out; problem_out = c.problem_out }) b
+        ∙ (ap (λ x. record { domain = other.domain; problem = other.problem; domain_out = x; problem_out = c.problem_out }) d
+        ∙ ap (λ x. record { domain = other.domain; problem = other.problem; domain_out = other.domain_out; problem_out = x }) e))
 
 -- an answer on the files needs that both are held
 pub both_held : (words : List (Vec ℕ Global)) (held : FileMap) (c other : Command) (s : Status) → IsCommand words c → IsCommand words other → AnswersFiles held c s → IsNone (map_of.get held other.domain) ⊎ IsNone (map_of.get held other.problem) → ⊥

@@ -38,19 +38,18 @@ with_domain held c files = with_file held c.domain_out files.domain
 abbrev pub with_both : Option FileMap → Command → Files → Option FileMap
 with_both held c files = with_file (with_domain held c files) c.problem_out files.problem
 
--- each file is as before or whole, but the one whose put may have failed; all others are as before
+-- the puts began and the command broke off: each file is as before or whole, but the one whose put may have failed; all others are as before
 pub data BreaksOff (c : Command) (files : Files) (old new : Option FileMap) (MayFail : List ℕ → Type 0) : Type 0 where
-  nothing_put : new ≡ old → BreaksOff c files old new MayFail
   first_open : MayFail c.domain_out → without_file new c.domain_out ≡ without_file old c.domain_out → BreaksOff c files old new MayFail
   second_open : MayFail c.problem_out → without_file new c.problem_out ≡ without_file (with_domain old c files) c.problem_out → BreaksOff c files old new MayFail
   both_put : new ≡ with_both old c files → BreaksOff c files old new MayFail
 
--- what is held after the command, by how it ends; a put that finds no memory may come without a rise of its count
-abbrev pub Puts : Command → Files → Option FileMap → Option FileMap → (List ℕ → ℕ) → (List ℕ → ℕ) → Status → Type 0
-Puts c files old new faults_old faults_new status.Done = new ≡ with_both old c files
-Puts c files old new faults_old faults_new status.WriteFault = BreaksOff c files old new (λ name. Rises (faults_old name) (faults_new name))
-Puts c files old new faults_old faults_new status.Memory = BreaksOff c files old new (λ name. Unit {0})
-Puts c files old new faults_old faults_new _ = new ≡ old
+-- what is held after the command, by how it ends: the puts begin only where Done is due, and a put that finds no memory may come without a rise of its count
+abbrev pub Puts : Type 0 → Command → Files → Option FileMap → Option FileMap → (List ℕ → ℕ) → (List ℕ → ℕ) → Status → Type 0
+Puts DoneIsDue c files old new faults_old faults_new status.Done = new ≡ with_both old c files
+Puts DoneIsDue c files old new faults_old faults_new status.WriteFault = (new ≡ old) ⊎ (DoneIsDue × BreaksOff c files old new (λ name. Rises (faults_old name) (faults_new name)))
+Puts DoneIsDue c files old new faults_old faults_new status.Memory = (new ≡ old) ⊎ (DoneIsDue × BreaksOff c files old new (λ name. Unit {0}))
+Puts DoneIsDue c files old new faults_old faults_new _ = new ≡ old
 
 -- some of the first bytes of the text of an answer that is due were told, and no others
 pub record TellsFront (Due : Status → Type 0) (report : List ℕ) (old new : Option (List ℕ)) : Type 0 where

@@ -70,7 +70,7 @@ pub fn run<S: Shelf, O: Sink>(
     ensures not_held { (m : FileMap) (c : Names) → S.contents shelf.old ≡ Some m → IsCommand words.now c → IsNone (map_of.get m c.domain) ⊎ IsNone (map_of.get m c.problem)
         → (result ≡ status.ReadFault) ⊎ (result ≡ status.Memory) }
     // What is held afterwards.
-    ensures puts { (c : Names) → IsCommand words.now c → (files : Files) × Puts c files (S.contents shelf.old) (S.contents shelf.new) (S.put_faults shelf.old) (S.put_faults shelf.new) result }
+    ensures puts { (c : Names) → IsCommand words.now c → (files : Files) × Puts (IsDue words.now (S.contents shelf.old) status.Done) c files (S.contents shelf.old) (S.contents shelf.new) (S.put_faults shelf.old) (S.put_faults shelf.new) result }
     ensures puts_nothing { IsNoCommand words.now → S.contents shelf.new ≡ S.contents shelf.old }
     // What was told.
     ensures told { (report : List ℕ) × Tells (IsDue words.now (S.contents shelf.old)) report (O.told out.old) (O.told out.new) (O.faults out.old) (O.faults out.new) result }

@@ -86,7 +86,7 @@ pub fn finish<S: Shelf, O: Sink>(
         ⊎ Rises (O.faults out.old) (O.faults out.new) }
     ensures no_write_fault { result ≢ status.WriteFault → (O.faults out.new ≡ O.faults out.old) × ((q : List ℕ) → S.put_faults shelf.new q ≡ S.put_faults shelf.old q) }
     ensures get_faults { (q : List ℕ) → S.get_faults shelf.new q ≡ S.get_faults shelf.old q }
-    ensures puts { (files : Files) × Puts command.now files (S.contents shelf.old) (S.contents shelf.new) (S.put_faults shelf.old) (S.put_faults shelf.new) result }
+    ensures puts { (files : Files) × Puts (status_of report ≡ status.Done) command.now files (S.contents shelf.old) (S.contents shelf.new) (S.put_faults shelf.old) (S.put_faults shelf.new) result }
     ensures told { Tells (λ s. s ≡ status_of report) (printed_of report) (O.told out.old) (O.told out.new) (O.faults out.old) (O.faults out.new) result }
 {
     match report {

@@ -4,8 +4,8 @@ use Rattle.kp_run.specs.declared.status.Status.{Status}
 use Rattle.kp_run.specs.declared.status.Status.TheVariants as status
 use Rattle.kp_run.specs.Due.{IsDue, usage}
 use Rattle.kp_run.specs.Reports.{status_of, printed_of, stop_of}
-use Rattle.kp_run.proofs.Reporting.{is_due, both_held}
-use Rattle.kp_run.proofs.Ending.{no_files, gets_stopped, told_of_due}
+use Rattle.kp_run.proofs.Reporting.{is_due, both_held, one_command}
+use Rattle.kp_run.proofs.Ending.{no_files, gets_stopped, told_of_due, puts_where}
 use Rattle.kp_run.proofs.entry.run.Goals as goal
 
 -- ---- the words are no command
@@ -35,6 +35,14 @@ returns-in-Ok-clause-write_fault g c is = elim (c.finish.ensures.write_fault is)
 pub returns-in-Ok-clause-not_held : goal.returns-in-Ok-clause-not_held
 returns-in-Ok-clause-not_held g c m other told is missing = absurd (both_held c.args.words.now m c.in-Some.command other _ c.in-Some.ensures is (c.in-Ok.ensures.answers m told) missing)
 
+pub returns-in-Ok-clause-puts : goal.returns-in-Ok-clause-puts
+returns-in-Ok-clause-puts g c other is =
+    let P = IsDue c.args.words.now (g.S.Shelf.contents c.args.shelf.now) in
+    let due : (status_of c.in-Ok.report ≡ status.Done) → P status.Done = λ done. subst P done (is_due c.args.words.now _ c.in-Some.command c.in-Ok.report c.in-Some.ensures c.in-Ok.ensures.text c.in-Ok.ensures.answers) in
+    let put = puts_where (status_of c.in-Ok.report ≡ status.Done) (P status.Done) c.in-Some.command c.finish.ensures.puts.0 _ (g.S.Shelf.contents c.finish.new.shelf) (g.S.Shelf.put_faults c.read_report.new.shelf) (g.S.Shelf.put_faults c.args.shelf.now) (g.S.Shelf.put_faults c.finish.new.shelf) c.finish.result due c.in-Ok.ensures.put_faults c.finish.ensures.puts.1 in
+    let here = rw c.in-Ok.ensures.contents at put in
+    (c.finish.ensures.puts.0, rw (one_command c.args.words.now other c.in-Some.command is c.in-Some.ensures) here)
+
 pub returns-in-Ok-clause-told : goal.returns-in-Ok-clause-told
 returns-in-Ok-clause-told g c =
     let P = IsDue c.args.words.now (g.S.Shelf.contents c.args.shelf.now) in
@@ -44,4 +52,4 @@ returns-in-Ok-clause-told g c =
 -- ---- a read stopped
 
 pub returns-in-Err-clause-puts : goal.returns-in-Err-clause-puts
-returns-in-Err-clause-puts g c other is = (no_files, rw c.stopped.ensures (gets_stopped other _ _ _ _ c.in-Err.stop c.in-Err.ensures.contents))
+returns-in-Err-clause-puts g c other is = (no_files, rw c.stopped.ensures (gets_stopped _ other _ _ _ _ c.in-Err.stop c.in-Err.ensures.contents))
