@@ -4,3 +4,4 @@ pub mod Reading
 pub mod Reporting
 pub mod Ending
 pub mod Words
+pub mod OneAnswer

@@ -39,9 +39,10 @@ whole most text bytes more front is none = front ∙ take_all most text (grind (
 -- the names of a domain pass where the tests do
 pub passes : (d : Domain Word) (names : List (List ℕ)) → names ≡ predicate_names d → are_new [] (predicate_names d) ≡ true → are_new [] (schema_names d) ≡ true → all_among names (domain_heads d) ≡ true → IsWellNamed d
 passes d names are new apart known = record {
-    predicates = distinct [] (predicate_names d) new;
-    schemas = distinct [] (schema_names d) apart;
-    heads = declared (predicate_names d) (domain_heads d) (ap (λ ns. all_among ns (domain_heads d)) (sym are) ∙ known) }
+  predicates = distinct [] (predicate_names d) new;
+  schemas = distinct [] (schema_names d) apart;
+  heads = declared (predicate_names d) (domain_heads d) (ap (λ ns. all_among ns (domain_heads d)) (sym are) ∙ known);
+}
 
 pub repeats_a_predicate : (d : Domain Word) → are_new [] (predicate_names d) ≡ false → IsWellNamed d → ⊥
 repeats_a_predicate d old h = true≢false (sym (all_new (predicate_names d) h.predicates) ∙ old)
@@ -70,5 +71,6 @@ of_these d names text p are form known = record { form = form; heads = declared 
 -- a name of both lists is found by the names that are gathered from the first
 pub contradiction : (stated denied : List (List ℕ)) → IsTrue (list_any (is_among (fold with_name [] stated)) denied) ↔ ((n : List ℕ) × Contains stated n × Contains denied n)
 contradiction stated denied = (
-    (λ h. let found = shared (fold with_name [] stated) denied h in (found.0, contained stated found.0 (sym (among_gathered [] stated found.0) ∙ found.1), contained denied found.0 found.2)),
-    (λ h. is_shared (fold with_name [] stated) denied h.0 (among_gathered [] stated h.0 ∙ among stated h.0 h.1) (among denied h.0 h.2)))
+  (λ h. let found = shared (fold with_name [] stated) denied h in (found.0, contained stated found.0 (sym (among_gathered [] stated found.0) ∙ found.1), contained denied found.0 found.2)),
+  (λ h. is_shared (fold with_name [] stated) denied h.0 (among_gathered [] stated h.0 ∙ among stated h.0 h.1) (among denied h.0 h.2)),
+)

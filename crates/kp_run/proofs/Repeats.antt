@@ -25,9 +25,10 @@ unseen seen (m ∷ ms) n new before later =
 pub distinct : (seen ns : List (List ℕ)) → are_new seen ns ≡ true → Distinct ns
 distinct seen [] new = tt
 distinct seen (m ∷ ms) new =
-    let parts = both_true (not (is_among seen m)) (are_new (seen ++ m ∷ []) ms) new in
-    (λ again. unseen (seen ++ m ∷ []) ms m parts.1 (seen_with seen m m ∙ (ap (λ b. is_among seen m || b) (is_itself m) ∙ or_right (is_among seen m))) (among ms m again),
-    distinct (seen ++ m ∷ []) ms parts.1)
+    let parts = both_true (not (is_among seen m)) (are_new (seen ++ m ∷ []) ms) new in (
+      λ again. unseen (seen ++ m ∷ []) ms m parts.1 (seen_with seen m m ∙ (ap (λ b. is_among seen m || b) (is_itself m) ∙ or_right (is_among seen m))) (among ms m again),
+      distinct (seen ++ m ∷ []) ms parts.1,
+    )
 
 pub are_new_where : (seen ns : List (List ℕ)) → Distinct ns → ((n : List ℕ) → is_among seen n ≡ true → is_among ns n ≡ true → ⊥) → are_new seen ns ≡ true
 are_new_where seen [] apart new = refl

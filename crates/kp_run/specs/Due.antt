@@ -39,3 +39,7 @@ IsOfTranslate _ = ⊥
 pub data IsDue (words : List (Vec ℕ Global)) (held : Option FileMap) : Status → Type 0 where
   usage : IsNoCommand words → IsDue words held status.Usage
   answer : (c : Command) (s : Status) → IsCommand words c → IsOfTranslate s → ((m : FileMap) → held ≡ Some m → AnswersFiles m c s) → IsDue words held s
+
+-- the answers exclude one another: where it is told what the files hold, one is due at most
+abbrev pub OneIsDue : Type 0
+OneIsDue = (words : List (Vec ℕ Global)) (held : FileMap) (s t : Status) → IsDue words (Some held) s → IsDue words (Some held) t → s ≡ t

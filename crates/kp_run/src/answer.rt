@@ -36,12 +36,7 @@ fn refuse(alloc: Global, refused: Refused) -> Result<Report, Memory>
 }
 
 // The report on a problem of a plain domain.
-fn on_problem(
-    alloc: Global,
-    domain: &Domain,
-    names: &Names,
-    got: &Got,
-) -> Result<Report, Memory>
+fn on_problem(alloc: Global, domain: &Domain, names: &Names, got: &Got) -> Result<Report, Memory>
     requires { names.now ≡ predicate_names (domain_view domain.now) }
     ensures answers { (d p : List ℕ) → IsDomain d (domain_view domain.now) → IsFront (Some p) 16777216 got.now
         → IfOk result (λ r. Answers d p (status_of r)) }

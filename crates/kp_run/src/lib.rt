@@ -7,15 +7,16 @@ mod command;
 mod entry;
 mod facts;
 mod heads;
+mod law;
 mod names;
 mod outputs;
 mod plain;
 mod printed;
-
 mod status;
 mod translation;
 
 pub use entry::run;
+pub use law::one_answer_is_due;
 pub use status::Status;
 
 #[cfg(test)]

@@ -17,8 +17,8 @@ pub returns-then-not-knows_problem-clause-answers : goal.returns-then-not-knows_
 returns-then-not-knows_problem-clause-answers c d p domain front =
     let form = rw c.in-Some.is at (c.in_ok-problem.ensures p front) in
     refused_as c.refuse-then-not-knows_problem.result _ c.refuse-then-not-knows_problem.ensures
-        (no_problem (domain_view c.args.domain.now) domain
-        (of_others (domain_view c.args.domain.now) c.args.names.now p (problem_view c.in-Some.problem) c.requires form (sym c.knows_problem.ensures ∙ c.if-not-knows_problem.true)))
+    (no_problem (domain_view c.args.domain.now) domain
+    (of_others (domain_view c.args.domain.now) c.args.names.now p (problem_view c.in-Some.problem) c.requires form (sym c.knows_problem.ensures ∙ c.if-not-knows_problem.true)))
 
 -- a fact is stated and denied
 pub returns-then-branch-clause-answers : goal.returns-then-branch-clause-answers
@@ -26,14 +26,14 @@ returns-then-branch-clause-answers c d p domain front =
     let form = rw c.in-Some.is at (c.in_ok-problem.ensures p front) in
     let test = rw c.slice.ensures at c.in_ok-is_contradictory.ensures in
     refused_as c.refuse-then-branch.result _ c.refuse-then-branch.ensures
-        (no_initial_state (domain_view c.args.domain.now) (problem_view c.in-Some.problem) domain
-        (of_these (domain_view c.args.domain.now) c.args.names.now p (problem_view c.in-Some.problem) c.requires form (sym c.knows_problem.ensures ∙ c.if-not-knows_problem.false))
-        (test.0 c.if-branch.true))
+    (no_initial_state (domain_view c.args.domain.now) (problem_view c.in-Some.problem) domain
+    (of_these (domain_view c.args.domain.now) c.args.names.now p (problem_view c.in-Some.problem) c.requires form (sym c.knows_problem.ensures ∙ c.if-not-knows_problem.false))
+    (test.0 c.if-branch.true))
 
 pub returns-clause-answers : goal.returns-clause-answers
 returns-clause-answers c d p domain front =
     let form = rw c.in-Some.is at (c.in_ok-problem.ensures p front) in
     let test = rw c.slice.ensures at c.in_ok-is_contradictory.ensures in
     done (domain_view c.args.domain.now) (problem_view c.in-Some.problem) domain
-        (of_these (domain_view c.args.domain.now) c.args.names.now p (problem_view c.in-Some.problem) c.requires form (sym c.knows_problem.ensures ∙ c.if-not-knows_problem.false))
-        (λ both. true≢false (sym (test.1 both) ∙ c.if-branch.false))
+    (of_these (domain_view c.args.domain.now) c.args.names.now p (problem_view c.in-Some.problem) c.requires form (sym c.knows_problem.ensures ∙ c.if-not-knows_problem.false))
+    (λ both. true≢false (sym (test.1 both) ∙ c.if-branch.false))

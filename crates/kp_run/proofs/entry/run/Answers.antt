@@ -29,8 +29,9 @@ returns-in-Ok-clause-answer g c is =
 
 pub returns-in-Ok-clause-write_fault : goal.returns-in-Ok-clause-write_fault
 returns-in-Ok-clause-write_fault g c is = elim (c.finish.ensures.write_fault is) [
-    inl rises ↦ inl (record { command = c.in-Some.command; is_command = c.in-Some.ensures; rises = rw (← c.in-Ok.ensures.put_faults c.in-Some.command.domain_out, ← c.in-Ok.ensures.put_faults c.in-Some.command.problem_out) rises }) |
-    inr rises ↦ inr rises ]
+  | inl rises ↦ inl (record { command = c.in-Some.command; is_command = c.in-Some.ensures; rises = rw (← c.in-Ok.ensures.put_faults c.in-Some.command.domain_out, ← c.in-Ok.ensures.put_faults c.in-Some.command.problem_out) rises })
+  | inr rises ↦ inr rises
+]
 
 pub returns-in-Ok-clause-not_held : goal.returns-in-Ok-clause-not_held
 returns-in-Ok-clause-not_held g c m other told is missing = absurd (both_held c.args.words.now m c.in-Some.command other _ c.in-Some.ensures is (c.in-Ok.ensures.answers m told) missing)
@@ -45,9 +46,11 @@ returns-in-Ok-clause-puts g c other is =
 
 pub returns-in-Ok-clause-told : goal.returns-in-Ok-clause-told
 returns-in-Ok-clause-told g c =
-    let P = IsDue c.args.words.now (g.S.Shelf.contents c.args.shelf.now) in
-    (printed_of c.in-Ok.report, told_of_due (λ s. s ≡ status_of c.in-Ok.report) P _ _ _ _ _ c.finish.result
-        (λ t is. subst P (sym is) (is_due c.args.words.now _ c.in-Some.command c.in-Ok.report c.in-Some.ensures c.in-Ok.ensures.text c.in-Ok.ensures.answers)) c.finish.ensures.told)
+    let P = IsDue c.args.words.now (g.S.Shelf.contents c.args.shelf.now) in (
+      printed_of c.in-Ok.report,
+      told_of_due (λ s. s ≡ status_of c.in-Ok.report) P _ _ _ _ _ c.finish.result
+          (λ t is. subst P (sym is) (is_due c.args.words.now _ c.in-Some.command c.in-Ok.report c.in-Some.ensures c.in-Ok.ensures.text c.in-Ok.ensures.answers)) c.finish.ensures.told,
+    )
 
 -- ---- a read stopped
 

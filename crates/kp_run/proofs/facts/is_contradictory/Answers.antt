@@ -10,4 +10,4 @@ pub returns : goal.returns
 returns c =
     let P = λ (b : Bool). IsTrue b ↔ IsContradictory (map item_view c.args.items.now) in
     subst P (sym (c.denies.ensures ∙ ap (λ names. list_any (is_among names) (facts_of false (map item_view c.args.items.now))) c.in_ok-names.ensures))
-        (contradiction (facts_of true (map item_view c.args.items.now)) (facts_of false (map item_view c.args.items.now)))
+    (contradiction (facts_of true (map item_view c.args.items.now)) (facts_of false (map item_view c.args.items.now)))

@@ -7,5 +7,5 @@ use Rattle.kp_run.proofs.plain.predicates_of.Given as goal
 abbrev pub invariant-loop-predicate : goal.invariant-loop-predicate
 invariant-loop-predicate l = record {
   so_far : l.names ++ map (λ p. p.head.text) (map pred_view (drop l.predicate-index l.predicates)) ≡ map (λ p. p.head.text) (map pred_view l.predicates);
-  rest : are_new l.names (map (λ p. p.head.text) (map pred_view (drop l.predicate-index l.predicates))) ≡ are_new [] (map (λ p. p.head.text) (map pred_view l.predicates))
+  rest : are_new l.names (map (λ p. p.head.text) (map pred_view (drop l.predicate-index l.predicates))) ≡ are_new [] (map (λ p. p.head.text) (map pred_view l.predicates));
 }
