@@ -1,0 +1,9 @@
+use Rattle.kp_run.proofs.Reporting.{answers_files}
+use Rattle.kp_run.proofs.entry.read_report.Goals as goal
+
+-- both files are held, and the answer is the one on their contents
+pub returns-clause-answers : goal.returns-clause-answers
+returns-clause-answers g c m told =
+    let first = rw told at c.in_ok-domain.ensures.got in
+    let second = rw (c.in_ok-domain.ensures.contents, told) at c.in_ok-problem.ensures.got in
+    answers_files 16777216 m c.args.command.now c.in_ok-domain.domain c.in_ok-problem.problem c.in_ok-report_on.field-0 (rw (← c.command.view_is) first) (rw (← c.command.view_is) second) c.in_ok-report_on.ensures.answers

@@ -1,0 +1,58 @@
+use Rattle.std.proofs.Common.{◌≡◌, ◌⊎◌, [], ℕ, List, sym, subst, inl, inr, refl}
+use Rattle.kp_outside.specs.Outside.{Rises}
+use Rattle.kp_run.specs.declared.status.Status.{Status}
+use Rattle.kp_run.specs.declared.status.Status.TheVariants as status
+use Rattle.kp_run.specs.Due.{IsDue, usage}
+use Rattle.kp_run.specs.Reports.{status_of, printed_of, stop_of}
+use Rattle.kp_run.proofs.Reporting.{is_due, both_held, one_command}
+use Rattle.kp_run.proofs.Ending.{no_files, gets_stopped, told_of_due, puts_where}
+use Rattle.kp_run.proofs.entry.run.Goals as goal
+
+-- ---- the words are no command
+
+pub returns-in_default-clause-answer : goal.returns-in_default-clause-answer
+returns-in_default-clause-answer g c is =
+    let P = IsDue c.args.words.now (g.S.Shelf.contents c.args.shelf.now) in
+    subst P (sym (c.end_with_usage.ensures.answer is)) (usage c.in_default.ensures)
+
+pub returns-in_default-clause-told : goal.returns-in_default-clause-told
+returns-in_default-clause-told g c =
+    let P = IsDue c.args.words.now (g.S.Shelf.contents c.args.shelf.now) in
+    (c.end_with_usage.ensures.told.0, told_of_due (λ s. s ≡ status.Usage) P _ _ _ _ _ c.end_with_usage.result (λ t is. subst P (sym is) (usage c.in_default.ensures)) c.end_with_usage.ensures.told.1)
+
+-- ---- a report was made
+
+pub returns-in-Ok-clause-answer : goal.returns-in-Ok-clause-answer
+returns-in-Ok-clause-answer g c is =
+    let P = IsDue c.args.words.now (g.S.Shelf.contents c.args.shelf.now) in
+    subst P (sym (c.finish.ensures.answer is)) (is_due c.args.words.now _ c.in-Some.command c.in-Ok.report c.in-Some.ensures c.in-Ok.ensures.text c.in-Ok.ensures.answers)
+
+pub returns-in-Ok-clause-write_fault : goal.returns-in-Ok-clause-write_fault
+returns-in-Ok-clause-write_fault g c is = elim (c.finish.ensures.write_fault is) [
+  | inl rises ↦ inl (record { command = c.in-Some.command; is_command = c.in-Some.ensures; rises = rw (← c.in-Ok.ensures.put_faults c.in-Some.command.domain_out, ← c.in-Ok.ensures.put_faults c.in-Some.command.problem_out) rises })
+  | inr rises ↦ inr rises
+]
+
+pub returns-in-Ok-clause-not_held : goal.returns-in-Ok-clause-not_held
+returns-in-Ok-clause-not_held g c m other told is missing = absurd (both_held c.args.words.now m c.in-Some.command other _ c.in-Some.ensures is (c.in-Ok.ensures.answers m told) missing)
+
+pub returns-in-Ok-clause-puts : goal.returns-in-Ok-clause-puts
+returns-in-Ok-clause-puts g c other is =
+    let P = IsDue c.args.words.now (g.S.Shelf.contents c.args.shelf.now) in
+    let due : (status_of c.in-Ok.report ≡ status.Done) → P status.Done = λ done. subst P done (is_due c.args.words.now _ c.in-Some.command c.in-Ok.report c.in-Some.ensures c.in-Ok.ensures.text c.in-Ok.ensures.answers) in
+    let put = puts_where (status_of c.in-Ok.report ≡ status.Done) (P status.Done) c.in-Some.command c.finish.ensures.puts.0 _ (g.S.Shelf.contents c.finish.new.shelf) (g.S.Shelf.put_faults c.read_report.new.shelf) (g.S.Shelf.put_faults c.args.shelf.now) (g.S.Shelf.put_faults c.finish.new.shelf) c.finish.result due c.in-Ok.ensures.put_faults c.finish.ensures.puts.1 in
+    let here = rw c.in-Ok.ensures.contents at put in
+    (c.finish.ensures.puts.0, rw (one_command c.args.words.now other c.in-Some.command is c.in-Some.ensures) here)
+
+pub returns-in-Ok-clause-told : goal.returns-in-Ok-clause-told
+returns-in-Ok-clause-told g c =
+    let P = IsDue c.args.words.now (g.S.Shelf.contents c.args.shelf.now) in (
+      printed_of c.in-Ok.report,
+      told_of_due (λ s. s ≡ status_of c.in-Ok.report) P _ _ _ _ _ c.finish.result
+          (λ t is. subst P (sym is) (is_due c.args.words.now _ c.in-Some.command c.in-Ok.report c.in-Some.ensures c.in-Ok.ensures.text c.in-Ok.ensures.answers)) c.finish.ensures.told,
+    )
+
+-- ---- a read stopped
+
+pub returns-in-Err-clause-puts : goal.returns-in-Err-clause-puts
+returns-in-Err-clause-puts g c other is = (no_files, rw c.stopped.ensures (gets_stopped _ other _ _ _ _ c.in-Err.stop c.in-Err.ensures.contents))

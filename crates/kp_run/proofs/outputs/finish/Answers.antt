@@ -1,0 +1,20 @@
+use Rattle.std.proofs.Common.{◌≡◌, sym, subst, ap, ◌∙◌, Err}
+use Rattle.kp_run.specs.declared.answer.Report.{Report}
+use Rattle.kp_run.specs.Ends.{Tells}
+use Rattle.kp_run.specs.Reports.{status_of, printed_of, files_of}
+use Rattle.kp_run.proofs.Ending.{no_files, puts_nothing, puts_both, puts_some}
+use Rattle.kp_run.proofs.outputs.finish.Goals as goal
+
+pub returns-in-Refused-clause-puts : goal.returns-in-Refused-clause-puts
+returns-in-Refused-clause-puts g c = (no_files, puts_nothing _ c.args.command.now _ _ c.in-Refused.refused c.end_with.result c.end_with.ensures.answer)
+
+pub returns-in-Ok-clause-puts : goal.returns-in-Ok-clause-puts
+returns-in-Ok-clause-puts g c = (files_of c.in-Done.files, puts_both _ c.args.command.now (files_of c.in-Done.files) _ _ _ _ c.end_with-in-Ok.result (ap status_of c.in-Done.is) c.in-Ok.ensures.ok c.end_with-in-Ok.ensures.no_read_fault c.end_with-in-Ok.ensures.answer)
+
+pub returns-in-Ok-clause-told : goal.returns-in-Ok-clause-told
+returns-in-Ok-clause-told g c =
+    let P = λ (r : Report). Tells (λ s. s ≡ status_of r) (printed_of r) (g.O.Sink.told c.args.out.now) (g.O.Sink.told c.end_with-in-Ok.new.out) (g.O.Sink.faults c.args.out.now) (g.O.Sink.faults c.end_with-in-Ok.new.out) c.end_with-in-Ok.result in
+    subst P (sym c.in-Done.is) c.end_with-in-Ok.ensures.told
+
+pub returns-clause-puts : goal.returns-clause-puts
+returns-clause-puts g c = (files_of c.in-Done.files, rw c.stopped.ensures (puts_some _ c.args.command.now (files_of c.in-Done.files) _ _ _ _ c.in-Err.stop (ap status_of c.in-Done.is) (λ is. c.put_both.ensures.failed (c.in-Err.is ∙ ap Err is)) (λ is. c.put_both.ensures.memory (c.in-Err.is ∙ ap Err is))))

@@ -1,0 +1,30 @@
+-- Which words are a command.
+use Rattle.std.specs.Prelude.{◌≡◌, ◌≢◌, List, [], ◌∷◌, ℕ, false, nat_eq, map, codes, Vec, IsUtf8}
+use Rattle.std.specs.List.{starts_with}
+use Rattle.std.specs.declared.alloc.Global.{Global}
+
+-- the names of the files of a command: two that are read, two that are written
+pub record Command : Type 0 where
+  pub domain : List ℕ
+  pub problem : List ℕ
+  pub domain_out : List ℕ
+  pub problem_out : List ℕ
+
+-- a word that may name a file: it isn't empty, doesn't begin with a dash, and is UTF-8
+pub record IsPositional (word : List ℕ) : Type 0 where
+  pub not_empty : word ≢ []
+  pub no_dash : starts_with nat_eq word (codes "-") ≡ false
+  pub utf8 : IsUtf8 word
+
+-- the words are this command
+pub record IsCommand (words : List (Vec ℕ Global)) (c : Command) : Type 0 where
+  pub words_are : map (λ w. w.items) words ≡ codes "translate" ∷ c.domain ∷ c.problem ∷ c.domain_out ∷ c.problem_out ∷ codes "--mode" ∷ codes "k0" ∷ []
+  pub domain : IsPositional c.domain
+  pub problem : IsPositional c.problem
+  pub domain_out : IsPositional c.domain_out
+  pub problem_out : IsPositional c.problem_out
+  pub outputs_differ : c.domain_out ≢ c.problem_out
+
+-- the words are no command
+abbrev pub IsNoCommand : List (Vec ℕ Global) → Type 0
+IsNoCommand words = (c : Command) → IsCommand words c → ⊥

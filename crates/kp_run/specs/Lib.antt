@@ -1,0 +1,9 @@
+pub mod Command
+pub mod Names
+pub mod PlainFiles
+pub mod Printed
+pub mod Due
+pub mod Ends
+pub mod Numbers
+pub mod Among
+pub mod Reports

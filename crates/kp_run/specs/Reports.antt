@@ -1,0 +1,43 @@
+-- What is to be put and printed, as the functions between reading and writing hand it on; for proofs alone.
+use Rattle.std.specs.Prelude.{◌≡◌, ◌⊎◌, List, ℕ, Result, Ok, Err}
+use Rattle.kp_outside.specs.declared.outside.OutsideStop.{OutsideStop}
+use Rattle.kp_outside.specs.declared.outside.OutsideStop.TheVariants as stops
+use Rattle.kp_plain.specs.declared.translation.Translation.{Translation}
+use Rattle.kp_run.specs.declared.answer.Report.{Report}
+use Rattle.kp_run.specs.declared.answer.Report.TheVariants as reports
+use Rattle.kp_run.specs.declared.status.Status.{Status}
+use Rattle.kp_run.specs.declared.status.Status.TheVariants as status
+use Rattle.kp_run.specs.Due.{IsOfTranslate}
+use Rattle.kp_run.specs.Printed.{refusal_text}
+use Rattle.kp_run.specs.Ends.{Files}
+use Rattle.kp_run.specs.Command.{Command}
+use Rattle.kp_outside.specs.Outside.{Rises}
+
+-- the answer of a report
+abbrev pub status_of : Report → Status
+status_of (reports.Refused refused text) = status.Refused refused
+status_of (reports.Done translation) = status.Done
+
+-- the text of a refusal is that of the refusal, which may come
+abbrev pub HasItsText : Report → Type 0
+HasItsText (reports.Refused refused text) = (text ≡ refusal_text refused) × IsOfTranslate (status.Refused refused)
+HasItsText (reports.Done translation) = Unit {0}
+
+-- the two files of a report, and what is printed
+abbrev pub printed_of : Report → List ℕ
+printed_of (reports.Refused refused text) = text
+printed_of (reports.Done translation) = translation.report
+
+-- the status of a call that stopped, where a failure is this fault
+abbrev pub stop_of : OutsideStop → Status → Status
+stop_of stops.Failed fault = fault
+stop_of stops.Memory fault = status.Memory
+
+-- the files of a translation
+abbrev pub files_of : Translation → Files
+files_of t = record { domain = t.domain; problem = t.problem }
+
+-- the counts of failed gets over the reads of a command: where one failed, that of one of its files rose; else none changes
+abbrev pub CountsGets : {T : Type 0} → Result T OutsideStop → Command → (List ℕ → ℕ) → (List ℕ → ℕ) → Type 0
+CountsGets (Err stops.Failed) c old new = Rises (old c.domain) (new c.domain) ⊎ Rises (old c.problem) (new c.problem)
+CountsGets _ c old new = (q : List ℕ) → new q ≡ old q

@@ -1,0 +1,85 @@
+ghost use Rattle.std.specs.Prelude.{◌≡◌, ◌≢◌, ◌⊎◌, ℕ, List, Some, IfOk, IsNone};
+ghost use Rattle.std.specs.FinMap as map_of;
+ghost use Rattle.kp_outside.specs.Outside.{FileMap, Rises};
+ghost use Rattle.kp_run.specs.declared.status.Status.TheVariants as status;
+ghost use Rattle.kp_run.specs.Command.{Command as Names, IsCommand, IsNoCommand};
+ghost use Rattle.kp_run.specs.Due.{AnswersFiles, IsDue, IsOfTranslate};
+ghost use Rattle.kp_run.specs.Ends.{IsAnswer, GetFailed, PutFailed, Files, Puts, Tells};
+ghost use Rattle.kp_run.specs.Reports.{status_of, CountsGets, HasItsText};
+
+use crate::answer::{Report, report_on};
+use crate::command::Command;
+use crate::outputs::{end_with, finish, stopped};
+use crate::printed::usage;
+use crate::status::Status;
+use kp_outside::{OutsideStop, Shelf, Sink};
+use std::alloc::Global;
+
+// The most bytes that are read of a file.
+const MOST: usize = 16_777_216;
+
+// The report on what the two files hold. At `Err` a read failed, or memory ran out.
+fn read_report<S: Shelf>(
+    alloc: Global,
+    command: &Command,
+    shelf: &mut S,
+) -> Result<Report, OutsideStop>
+    ensures answers { (m : FileMap) → S.contents shelf.old ≡ Some m → IfOk result (λ r. AnswersFiles m command.now (status_of r)) }
+    ensures text { IfOk result HasItsText }
+    ensures contents { S.contents shelf.new ≡ S.contents shelf.old }
+    ensures faults { CountsGets result command.now (S.get_faults shelf.old) (S.get_faults shelf.new) }
+    ensures put_faults { (q : List ℕ) → S.put_faults shelf.new q ≡ S.put_faults shelf.old q }
+{
+    let domain = shelf.get(alloc, command.domain, MOST)?;
+    let problem = shelf.get(alloc, command.problem, MOST)?;
+    Ok(report_on(alloc, &domain, &problem)?)
+}
+
+// Prints how to call the program.
+fn end_with_usage<O: Sink>(alloc: Global, out: &mut O) -> Status
+    ensures answer { IsAnswer result → result ≡ status.Usage }
+    ensures no_read_fault { result ≢ status.ReadFault }
+    ensures write_fault { result ≡ status.WriteFault → Rises (O.faults out.old) (O.faults out.new) }
+    ensures no_write_fault { result ≢ status.WriteFault → O.faults out.new ≡ O.faults out.old }
+    ensures told { (report : List ℕ) × Tells (λ s. s ≡ status.Usage) report (O.told out.old) (O.told out.new) (O.faults out.old) (O.faults out.new) result }
+{
+    match usage(alloc) {
+        Ok(text) => end_with(alloc, out, &text, Status::Usage),
+        Err(_) => Status::Memory,
+    }
+}
+
+/// Carries out the command of the words after the program's name.
+///
+/// The files that the command names are read from the shelf and put on it; what it prints is
+/// written to the sink, by one write.
+pub fn run<S: Shelf, O: Sink>(
+    alloc: Global,
+    words: &[Vec<u8>],
+    shelf: &mut S,
+    out: &mut O,
+) -> Status
+    // An answer is the one that is due.
+    ensures answer { IsAnswer result → IsDue words.now (S.contents shelf.old) result }
+    // A fault is told only where the outside failed, and where it failed a fault is told.
+    ensures read_fault { result ≡ status.ReadFault → GetFailed words.now (S.get_faults shelf.old) (S.get_faults shelf.new) }
+    ensures write_fault { result ≡ status.WriteFault → PutFailed words.now (S.put_faults shelf.old) (S.put_faults shelf.new) ⊎ Rises (O.faults out.old) (O.faults out.new) }
+    ensures no_read_fault { result ≢ status.ReadFault → (q : List ℕ) → S.get_faults shelf.new q ≡ S.get_faults shelf.old q }
+    ensures no_write_fault { result ≢ status.WriteFault → (O.faults out.new ≡ O.faults out.old) × ((q : List ℕ) → S.put_faults shelf.new q ≡ S.put_faults shelf.old q) }
+    // A file that is to be read and isn't held is a fault.
+    ensures not_held { (m : FileMap) (c : Names) → S.contents shelf.old ≡ Some m → IsCommand words.now c → IsNone (map_of.get m c.domain) ⊎ IsNone (map_of.get m c.problem)
+        → (result ≡ status.ReadFault) ⊎ (result ≡ status.Memory) }
+    // What is held afterwards.
+    ensures puts { (c : Names) → IsCommand words.now c → (files : Files) × Puts (IsDue words.now (S.contents shelf.old) status.Done) c files (S.contents shelf.old) (S.contents shelf.new) (S.put_faults shelf.old) (S.put_faults shelf.new) result }
+    ensures puts_nothing { IsNoCommand words.now → S.contents shelf.new ≡ S.contents shelf.old }
+    // What was told.
+    ensures told { (report : List ℕ) × Tells (IsDue words.now (S.contents shelf.old)) report (O.told out.old) (O.told out.new) (O.faults out.old) (O.faults out.new) result }
+{
+    let Some(command) = Command::from_words(words) else {
+        return end_with_usage(alloc, out);
+    };
+    match read_report(alloc, &command, shelf) {
+        Ok(report) => finish(alloc, &command, report, shelf, out),
+        Err(stop) => stopped(stop, Status::ReadFault),
+    }
+}

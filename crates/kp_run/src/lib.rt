@@ -1,0 +1,22 @@
+//! The commands of the program, each from its words to its status. `specs/Due.antt` says which
+//! answer is due, `specs/Ends.antt` what the outside holds and was told afterwards.
+#![tactic(auto)]
+
+mod answer;
+mod command;
+mod entry;
+mod facts;
+mod heads;
+mod law;
+mod names;
+mod outputs;
+mod plain;
+mod printed;
+mod status;
+
+pub use entry::run;
+pub use law::one_answer_is_due;
+pub use status::Status;
+
+#[cfg(test)]
+mod tests;

@@ -1,0 +1,167 @@
+use crate::run;
+use kp_outside::{MemoryShelf, MemorySink};
+use std::alloc::{AllocError, Global};
+use std::test::Fail;
+
+const DOMAIN: &str =
+    "(define (domain d) (:predicates (p) (q)) (:action a :precondition (p) :effect (and (q) (not (p)))))";
+
+const PROBLEM: &str = "(define (problem e) (:domain d) (:init (p)) (:goal (q)))";
+
+const DOMAIN_OUT: &str = "(define (domain kplan)
+(:requirements :strips :negative-preconditions :conditional-effects)
+(:predicates
+(kp_-p_-0)
+(kn_-p_-0)
+(kp_-q_-0)
+(kn_-q_-0)
+)
+(:action do_-a
+:parameters ()
+:precondition (and (kp_-p_-0))
+:effect (and
+(kp_-q_-0)
+(not (kn_-q_-0))
+(kn_-p_-0)
+(not (kp_-p_-0))
+)
+)
+)
+";
+
+const PROBLEM_OUT: &str = "(define (problem kplan)
+(:domain kplan)
+(:init
+(kp_-p_-0)
+(kn_-q_-0)
+)
+(:goal (and
+(kp_-q_-0)
+))
+)
+";
+
+const REPORT: &str = "atoms 2\nactions 1\ntags 1\nmerges 0\nfacts 4\ncomplete\n";
+
+const USAGE: &str =
+    "usage: kplan translate D P OD OP [--mode M | --merges F] [--implicates N]\n       kplan solve D P [--mode M | --merges F] [--implicates N] [--budget N] [--classical F]\n       kplan classical D P [--budget N]\n       kplan strip T\n       kplan lift D P PLAN [--mode M | --merges F] [--implicates N]\n       kplan check D P PLAN [--implicates N]\n       kplan width D P [--bound N] [--implicates N]\n       kplan merges D P [--mode M] [--implicates N]\n       kplan bench FAMILY N [--mode M] [--budget N]\n";
+
+fn translate_words(
+    alloc: Global,
+    domain_out: &str,
+    problem_out: &str,
+) -> Result<Vec<Vec<u8>>, AllocError> {
+    let mut words = Vec::new(alloc);
+    for word in [
+        "translate",
+        "d",
+        "p",
+        domain_out,
+        problem_out,
+        "--mode",
+        "k0",
+    ] {
+        words.push(word.as_bytes().to_vec(alloc)?)?;
+    }
+    Ok(words)
+}
+
+fn holds(shelf: &MemoryShelf, name: &str, text: Option<&str>) -> bool {
+    match (shelf.held(name.as_bytes()), text) {
+        (Some(content), Some(text)) => content.slice() == text.as_bytes(),
+        (None, None) => true,
+        _ => false,
+    }
+}
+
+// The calls of the shelf are two gets and two puts; a call of number 9 never comes.
+#[test]
+fn each_call_that_fails(rt: HostRuntime) -> Result<(), Fail> {
+    let alloc = rt.alloc();
+    let cases = [
+        ("op", 9, 9, 0, REPORT, Some(DOMAIN_OUT), Some(PROBLEM_OUT)),
+        ("op", 1, 9, 5, "", None, None),
+        ("op", 2, 9, 5, "", None, None),
+        ("op", 3, 9, 6, "", None, None),
+        ("op", 4, 9, 6, "", Some(DOMAIN_OUT), None),
+        ("op", 9, 1, 6, "", Some(DOMAIN_OUT), Some(PROBLEM_OUT)),
+        ("od", 9, 9, 2, USAGE, None, None),
+    ];
+    for (problem_out, shelf_call, sink_call, number, printed, domain_text, problem_text) in cases {
+        let words = translate_words(alloc, "od", problem_out)?;
+        let mut shelf = MemoryShelf::new(alloc)?;
+        let mut sink = MemorySink::new(alloc)?;
+        shelf.hold(b"d".as_slice(), DOMAIN.as_bytes())?;
+        shelf.hold(b"p".as_slice(), PROBLEM.as_bytes())?;
+        shelf.fail_at(shelf_call)?;
+        sink.fail_at(sink_call)?;
+        let status = run(alloc, &words, &mut shelf, &mut sink);
+        assert_eq!(rt; status.number(), number);
+        assert_eq!(rt; sink.bytes().slice(), printed.as_bytes());
+        assert!(rt; holds(&shelf, "od", domain_text));
+        assert!(rt; holds(&shelf, "op", problem_text));
+    }
+    Ok(())
+}
+
+#[test]
+fn each_answer(rt: HostRuntime) -> Result<(), Fail> {
+    let alloc = rt.alloc();
+    let adds_and_deletes =
+        "(define (domain d) (:predicates (p) (q)) (:action a :precondition (p) :effect (and (q) (not (q)))))";
+    let cases = [
+        (
+            DOMAIN,
+            "(define (problem e) (:domain d) (:init (p) (not (p))) (:goal (q)))",
+            3,
+            "refused 12 NoInitialState\n",
+        ),
+        (
+            "(define (domain f) (:types cell) (:predicates (at ?c - cell)) (:action move :parameters (?x ?y - cell) :precondition (at ?x) :effect (and (not (at ?x)) (at ?y))))",
+            "(define (problem f) (:domain f) (:objects a b - cell) (:init (at a)) (:goal (at b)))",
+            3,
+            "refused 99 NotYet\nfile domain\n",
+        ),
+        (
+            "(define (domain cells) (:predicates (x1) (x2) (x3)) (:action left :effect (and (when (x3) (and (x2) (not (x3)))) (when (x2) (and (x1) (not (x2)))))))",
+            "(define (problem c) (:domain cells) (:init (oneof (x1) (x2) (x3))) (:goal (x1)))",
+            3,
+            "refused 99 NotYet\nfile domain\n",
+        ),
+        (
+            DOMAIN,
+            "(define (problem e) (:domain d) (:init (unknown (p))) (:goal (q)))",
+            3,
+            "refused 99 NotYet\nfile problem\n",
+        ),
+        (
+            adds_and_deletes,
+            PROBLEM,
+            0,
+            "atoms 1\nactions 1\ntags 1\nmerges 0\nfacts 2\ncomplete\n",
+        ),
+        (
+            adds_and_deletes,
+            "(define (problem e) (:domain d) (:init) (:goal (q)))",
+            0,
+            "atoms 1\nactions 0\ntags 1\nmerges 0\nfacts 2\ncomplete\n",
+        ),
+        (
+            adds_and_deletes,
+            "(define (problem e) (:domain d) (:init (not (p))) (:goal (q)))",
+            0,
+            "atoms 2\nactions 1\ntags 1\nmerges 0\nfacts 4\ncomplete\n",
+        ),
+    ];
+    let words = translate_words(alloc, "od", "op")?;
+    for (domain, problem, number, printed) in cases {
+        let mut shelf = MemoryShelf::new(alloc)?;
+        let mut sink = MemorySink::new(alloc)?;
+        shelf.hold(b"d".as_slice(), domain.as_bytes())?;
+        shelf.hold(b"p".as_slice(), problem.as_bytes())?;
+        let status = run(alloc, &words, &mut shelf, &mut sink);
+        assert_eq!(rt; status.number(), number);
+        assert_eq!(rt; sink.bytes().slice(), printed.as_bytes());
+    }
+    Ok(())
+}

@@ -1,0 +1,1 @@
+(define (problem e) (:domain d) (:init (p)) (:goal (q)))
