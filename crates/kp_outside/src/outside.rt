@@ -34,7 +34,7 @@ pub struct Got {
     pub more: bool,
 }
 
-/// Contents under names, as files are. A name is a list of bytes.
+/// Contents under names, as files are. Any bytes may be a name.
 pub trait Shelf {
     /// What is held, where the shelf tells it.
     ghost contents: { Self → Option FileMap };
@@ -45,7 +45,7 @@ pub trait Shelf {
     /// How many puts of each name have failed.
     ghost put_faults: { Self → List ℕ → ℕ };
 
-    /// The first bytes of a content, at most `most`. A name that isn't held is a fault.
+    /// The first bytes of a content, at most `most`. It fails for a name under which nothing is held.
     fn get(&mut self, alloc: Global, name: &[u8], most: usize) -> Result<Got, OutsideStop>
         ensures got { IfOk result (Gets (contents self.old) name.now most) }
         ensures within { IfOk result (IsWithin most) }

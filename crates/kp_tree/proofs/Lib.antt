@@ -6,3 +6,5 @@ pub mod Loop
 pub mod Joining
 pub mod Levels
 pub mod Answered
+pub mod Wholes
+pub mod Examples

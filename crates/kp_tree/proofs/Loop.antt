@@ -3,8 +3,8 @@ use Rattle.std.proofs.Common.{◌≡◌, ℕ, Bool, true, false, List, [], ◌�
 use Rattle.kp_tree.specs.declared.symbol.Symbol.{Symbol}
 use Rattle.kp_tree.specs.declared.tree.Word.{Word}
 use Rattle.kp_tree.specs.declared.lexeme.Lexeme.{Lexeme}
-use Rattle.kp_tree.specs.declared.stop.Stop.{Stop}
-use Rattle.kp_tree.specs.declared.stop.Stop.TheVariants.{Memory, At as StopAt}
+use Rattle.kp_tree.specs.declared.stop.ReadStop.{ReadStop}
+use Rattle.kp_tree.specs.declared.stop.ReadStop.TheVariants.{Memory, At as StopAt}
 use Rattle.kp_tree.specs.Symbols.{Tok, first_is}
 use Rattle.kp_tree.specs.Sorts.{Sort, s_seen, Seen, s_pair, El, m_drop}
 use Rattle.kp_tree.specs.Forms.{Form, many, run, make}
@@ -32,7 +32,7 @@ module _ {a : Sort} (d : ℕ) (p : Symbol → Bool) (X : Form true a) where
       let step : all_of ts ≡ (all_of rest >>= λ xs. Ok (x ∷ xs.0, xs.1)) = many_step d p X ts ∙ rw (here, e) refl in
       sym (regroup front x (all_of rest)) ∙ ap (with_front front) (sym step) ∙ so_far
 
-  pub ends : (ls : List Lexeme) (e : Stop) (front : List (El Word a)) (ts : List (Tok Word)) (total : Outcome Word (List (El Word a))) → first_is p ts ≡ true → Fails ls e (read d X ts)
+  pub ends : (ls : List Lexeme) (e : ReadStop) (front : List (El Word a)) (ts : List (Tok Word)) (total : Outcome Word (List (El Word a))) → first_is p ts ≡ true → Fails ls e (read d X ts)
       → with_front front (all_of ts) ≡ total → Fails ls e total
   ends ls Memory front ts total here h so_far = tt
   ends ls (StopAt i) front ts total here h so_far =
@@ -56,7 +56,7 @@ module _ {a : Sort} (d : ℕ) (p : Symbol → Bool) (X : Seen → Form true (s_p
       let step : run_of s ts ≡ (run_of x.0 rest >>= λ xs. Ok (x.1 ∷ xs.0, xs.1)) = run_step d p X done s ts ∙ rw (here, e) refl in
       sym (regroup front x.1 (run_of x.0 rest)) ∙ ap (with_front front) (sym step) ∙ so_far
 
-  pub run_ends : (ls : List Lexeme) (e : Stop) (front : List (El Word a)) (s : Seen) (ts : List (Tok Word)) (total : Outcome Word (List (El Word a))) → first_is p ts ≡ true → Fails ls e (read d (X s) ts)
+  pub run_ends : (ls : List Lexeme) (e : ReadStop) (front : List (El Word a)) (s : Seen) (ts : List (Tok Word)) (total : Outcome Word (List (El Word a))) → first_is p ts ≡ true → Fails ls e (read d (X s) ts)
       → with_front front (run_of s ts) ≡ total → Fails ls e total
   run_ends ls Memory front s ts total here h so_far = tt
   run_ends ls (StopAt i) front s ts total here h so_far =

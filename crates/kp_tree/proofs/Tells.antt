@@ -3,7 +3,7 @@ use Rattle.std.proofs.Common.{◌≡◌, ℕ, zero, suc, ◌≤◌, ◌<◌, Boo
 use Rattle.kp_tree.specs.declared.symbol.Symbol.{Symbol}
 use Rattle.kp_tree.specs.declared.symbol.Symbol.TheVariants as symbols
 use Rattle.kp_tree.specs.Sorts.{s_seen, Seen, Sort, s_none, s_word, s_pair, s_list, El, Maker, apply}
-use Rattle.kp_tree.specs.Forms.{is_plain, hits, Named, Form, token, none, nothing, ◌▹◌, ◌▸◌, many, run, maybe, make, choose, loose, bracket, within}
+use Rattle.kp_tree.specs.Forms.{is_no_bracket, hits, Named, Form, token, none, nothing, ◌▹◌, ◌▸◌, many, run, maybe, make, choose, loose, bracket, within}
 use Rattle.kp_tree.specs.Grammar.{rule}
 use Rattle.kp_tree.specs.Reading.{Syntax, At, stop, ReadBy, r_token, r_none, r_both, r_after, r_end, r_more, r_last, r_next, r_absent, r_present, r_make, r_choice, r_loose, r_bracket, r_within, StopBy, s_token, s_nothing, s_first, s_second, s_before, s_after, s_here, s_later, s_lacks, s_at, s_next, s_present, s_make, s_none_there, s_choice, s_loose, s_unopened, s_inside, s_unclosed, s_within}
 use Rattle.kp_tree.specs.Symbols.{Tok, is_left, is_right, first_is}
@@ -52,7 +52,7 @@ shrinks (r_within h) = shrinks h
 abbrev pub Passed : {W : Type 0} → ℕ → List (Tok W) → List (Tok W) → Type 0
 Passed d ts at = (n : ℕ) × (deep d ts ≡ deep n at)
 
-plain_over : {W : Type 0} (s : Symbol) (d : ℕ) (here : List (Tok W)) (k : ℕ → Option (List (Tok W))) → is_plain s ≡ true → deep_case d (is_left s) (is_right s) here k ≡ k d
+plain_over : {W : Type 0} (s : Symbol) (d : ℕ) (here : List (Tok W)) (k : ℕ → Option (List (Tok W))) → is_no_bracket s ≡ true → deep_case d (is_left s) (is_right s) here k ≡ k d
 plain_over symbols.Left d here k e = absurd cc
 plain_over symbols.Right d here k e = absurd cc
 plain_over _ zero here k e = refl
@@ -63,7 +63,7 @@ hit_plain true b e = refl
 hit_plain false b e = absurd cc
 
 over : {W : Type 0} (p : Symbol → Bool) (d : ℕ) (t : Tok W) (ts : List (Tok W)) → hits p t.symbol ≡ true → deep d (t ∷ ts) ≡ deep d ts
-over p d t ts e = plain_over t.symbol d (t ∷ ts) (λ n. deep n ts) (hit_plain (is_plain t.symbol) (p t.symbol) e)
+over p d t ts e = plain_over t.symbol d (t ∷ ts) (λ n. deep n ts) (hit_plain (is_no_bracket t.symbol) (p t.symbol) e)
 
 over_left : {W : Type 0} (d : ℕ) (t : Tok W) (ts : List (Tok W)) → is_left t.symbol ≡ true → deep (suc d) (t ∷ ts) ≡ deep d ts
 over_left d t ts e = rw e refl
@@ -81,12 +81,12 @@ over_right (suc d) t ts e = let l : is_left t.symbol ≡ false = not_left t.symb
 -- it reads so, at the same level; or it stops there, or a bracket there opens a level too many
 abbrev pub Tells : {W : Type 0} → ℕ → (b : Bool) (c : Sort) → Form b c → List (Tok W) → Outcome W (El W c) → Type 0
 Tells d b c X ts (Ok x) = ReadBy b c X ts x.0 x.1 × (deep d ts ≡ deep d x.1)
-Tells d b c X ts (Err at) = (StopBy b c X ts at × Passed d ts at.tokens) ⊎ ((deep d ts ≡ Some at.tokens) × (at.kind ≡ Syntax))
+Tells d b c X ts (Err at) = (StopBy b c X ts at × Passed d ts at.tokens) ⊎ ((deep d ts ≡ Some at.tokens) × (at.reason ≡ Syntax))
 
 module _ {W : Type 0} (d : ℕ) where
   -- an error behind what was read, or within a form
   abbrev Halts : List (Tok W) → At W → (At W → Type 0) → Type 0
-  Halts ts at S = (S at × Passed d ts at.tokens) ⊎ ((deep d ts ≡ Some at.tokens) × (at.kind ≡ Syntax))
+  Halts ts at S = (S at × Passed d ts at.tokens) ⊎ ((deep d ts ≡ Some at.tokens) × (at.reason ≡ Syntax))
 
   halts : (ts mid : List (Tok W)) (at : At W) (S T : At W → Type 0) → deep d ts ≡ deep d mid → (S at → T at) → Halts mid at S → Halts ts at T
   halts ts mid at S T e f (inl h) = inl (f h.0, (h.1.0, e ∙ h.1.1))

@@ -1,4 +1,4 @@
--- Where a bracket opens one level too many.
+-- Where a bracket opens one level too many. This file serves proofs alone, until a reader refuses deep files.
 use Rattle.std.specs.Prelude.{ℕ, zero, suc, List, [], ◌∷◌, Bool, true, false, Option, Some, None}
 use Rattle.kp_tree.specs.Symbols.{Tok, is_left, is_right}
 

@@ -4,14 +4,15 @@ use Rattle.kp_tree.specs.declared.symbol.Symbol.{Symbol}
 use Rattle.kp_tree.specs.declared.symbol.Symbol.TheVariants as symbols
 use Rattle.kp_tree.specs.Sorts.{Sort, s_none, s_word, s_pair, s_list, s_cond, s_eff, s_item, s_seen, Seen, Maker}
 
--- a token that is no bracket passes the test
-abbrev pub is_plain : Symbol → Bool
-is_plain symbols.Left = false
-is_plain symbols.Right = false
-is_plain _ = true
+-- no bracket
+abbrev pub is_no_bracket : Symbol → Bool
+is_no_bracket symbols.Left = false
+is_no_bracket symbols.Right = false
+is_no_bracket _ = true
 
+-- a token that is no bracket passes the test
 abbrev pub hits : (Symbol → Bool) → Symbol → Bool
-hits p s = is_plain s && p s
+hits p s = is_no_bracket s && p s
 
 -- the rules that go on within themselves
 pub data Named : Sort → Type 0 where
@@ -21,6 +22,7 @@ pub data Named : Sort → Type 0 where
   n_item : Named s_item
 
 -- The truth value says that the form takes at least a token.
+-- A token that is taken by a test is never a bracket (`hits`); where a test only looks ahead it may be one.
 --   token p m      a token that passes p, made into a value by m
 --   none m         no token
 --   nothing q      no text at all; it stops, and says so of a token that passes q (known and not supported)

@@ -3,7 +3,8 @@ use Rattle.std.specs.Prelude.{Bool, true, false, if◌then◌else◌, [], ◌∷
 use Rattle.std.specs.List.{list_any}
 use Rattle.kp_tree.specs.declared.symbol.Symbol.{Symbol}
 use Rattle.kp_tree.specs.declared.symbol.Symbol.TheVariants as symbols
-use Rattle.kp_tree.specs.Symbols.{no_symbol, is_left, is_dash, is_equal, is_variable, is_and, is_or, is_not, is_when, is_forall, is_one_of, is_unknown, is_define, is_domain, is_problem, is_either, is_requirements, is_types, is_constants, is_predicates, is_action, is_parameters, is_precondition, is_effect, is_of_domain, is_objects, is_init, is_goal, is_head, is_name, is_term, is_keyword, not_section, not_given, not_part, not_cond, not_goal, not_effect, not_item, not_lit}
+use Rattle.kp_tree.specs.Symbols.{no_symbol, is_left, is_dash, is_equal, is_variable, is_and, is_or, is_not, is_when, is_forall, is_one_of, is_unknown, is_define, is_domain, is_problem, is_either, is_requirements, is_types, is_constants, is_predicates, is_action, is_parameters, is_precondition, is_effect, is_of_domain, is_objects, is_init, is_goal, is_head, is_name, is_term, is_keyword}
+use Rattle.kp_tree.specs.Unsupported.{not_section, not_given, not_part, not_cond, not_goal, not_effect, not_item, not_lit}
 use Rattle.kp_tree.specs.Sorts.{Sort, s_none, s_word, s_pair, s_list, s_typed, s_term, s_atom, s_cond, s_eff, s_lit, s_item, s_pred, s_schema, s_section, s_domain, s_seen, Seen, s_given, s_problem, Maker, m_word, m_drop, m_name, m_variable, m_atom, m_untyped, m_kind, m_kinds, m_typed, m_joined, m_all, m_true, m_holds, m_same, m_both, m_idle, m_when, m_each, m_makes, m_lit, m_items, m_fact, m_one_of, m_any_of, m_unknown, m_pred, m_no_params, m_schema, m_requires, m_types, m_constants, m_predicates, m_action, m_domain, m_of_domain, m_needs, m_objects, m_init, m_goal, m_saw, m_problem}
 use Rattle.kp_tree.specs.Forms.{Named, n_cond, n_goal, n_eff, n_item, Form, token, none, nothing, ◌▹◌, ◌▸◌, many, run, maybe, make, choose, loose, bracket, within}
 
@@ -28,6 +29,7 @@ abbrev pub kind_case : Symbol → Form true (s_list s_word)
 kind_case symbols.Left = bracket (is_either ▸ make m_kinds (some is_name))
 kind_case _ = make m_kind (word is_name)
 
+-- the kind after a dash
 abbrev pub kind : Form true (s_list s_word)
 kind = choose kind_case
 
@@ -42,6 +44,7 @@ abbrev pub term_maker : Symbol → Maker s_word s_term
 term_maker symbols.Variable = m_variable
 term_maker _ = m_name
 
+-- a term
 abbrev pub term : Form true s_term
 term = token is_term term_maker
 
@@ -67,35 +70,42 @@ equality = is_equal ▸ (term ▹ term)
 
 -- ---- conditions: ( ), ( and cond* ), test, ( not test ), where a test is ( Head term* ) or ( = term term )
 
+-- a test between its brackets, or the same under a negation
 abbrev pub test_case : Bool → Symbol → Form true s_cond
 test_case b symbols.Equal = make (m_same b) equality
 test_case b s = if is_head s then make (m_holds b) atom_body else nothing not_cond
 
+-- a condition between its brackets, by the token there
 abbrev pub cond_case : Symbol → Form false s_cond
 cond_case symbols.Right = none m_true
 cond_case symbols.And = loose (is_and ▸ make m_all (many is_left (within n_cond)))
 cond_case symbols.Not = loose (is_not ▸ bracket (choose (test_case false)))
 cond_case s = loose (test_case true s)
 
+-- a condition
 abbrev pub cond : Form true s_cond
 cond = within n_cond
 
 -- ---- goals: ( ), ( and goal* ), fact, ( not fact )
 
+-- a fact of a goal between its brackets, or the same under a negation
 abbrev pub goal_lit_case : Bool → Symbol → Form true s_cond
 goal_lit_case b s = if is_head s then make (m_holds b) fact_body else nothing not_goal
 
+-- a goal between its brackets, by the token there
 abbrev pub goal_case : Symbol → Form false s_cond
 goal_case symbols.Right = none m_true
 goal_case symbols.And = loose (is_and ▸ make m_all (many is_left (within n_goal)))
 goal_case symbols.Not = loose (is_not ▸ bracket (choose (goal_lit_case false)))
 goal_case s = loose (goal_lit_case true s)
 
+-- a goal
 abbrev pub goal : Form true s_cond
 goal = within n_goal
 
 -- ---- effects: ( ), ( and eff* ), ( when cond eff ), ( forall ( typed variables ) eff ), atom, ( not atom )
 
+-- an effect between its brackets, by the token there
 abbrev pub eff_case : Symbol → Form false s_eff
 eff_case symbols.Right = none m_idle
 eff_case symbols.And = loose (is_and ▸ make m_both (many is_left (within n_eff)))
@@ -104,6 +114,7 @@ eff_case symbols.Forall = loose (is_forall ▸ make m_each (bracket (typed is_va
 eff_case symbols.Not = loose (is_not ▸ make (m_makes false) atom)
 eff_case s = loose (if is_head s then make (m_makes true) atom_body else nothing not_effect)
 
+-- an effect
 abbrev pub eff : Form true s_eff
 eff = within n_eff
 
@@ -114,9 +125,11 @@ abbrev pub lit_case : Symbol → Form true s_lit
 lit_case symbols.Not = is_not ▸ make (m_lit false) fact
 lit_case s = if is_head s then make (m_lit true) fact_body else nothing not_lit
 
+-- such a literal in its brackets
 abbrev pub lit : Form true s_lit
 lit = bracket (choose lit_case)
 
+-- an item between its brackets, by the token there
 abbrev pub item_case : Symbol → Form false s_item
 item_case symbols.And = loose (is_and ▸ make m_items (many is_left (within n_item)))
 item_case symbols.Not = loose (is_not ▸ make (m_fact false) fact)
@@ -125,6 +138,7 @@ item_case symbols.Or = loose (make m_any_of (word is_or ▹ many is_left lit))
 item_case symbols.Unknown = loose (make m_unknown (word is_unknown ▹ fact))
 item_case s = loose (if is_head s then make (m_fact true) fact_body else nothing not_item)
 
+-- an item of `:init`
 abbrev pub item : Form true s_item
 item = within n_item
 
@@ -159,6 +173,7 @@ schema =
 abbrev pub words_of_requirements : Form false s_none
 words_of_requirements = make m_drop (many is_keyword (skip is_keyword))
 
+-- a section of a domain between its brackets, by its keyword
 abbrev pub section_case : Symbol → Form true s_section
 section_case symbols.Requirements = is_requirements ▸ make m_requires words_of_requirements
 section_case symbols.Types = is_types ▸ make m_types (typed is_name)
@@ -167,6 +182,7 @@ section_case symbols.Predicates = is_predicates ▸ make m_predicates (many is_l
 section_case symbols.Action = is_action ▸ make m_action schema
 section_case _ = nothing not_section
 
+-- a section of a domain
 abbrev pub section : Form true s_section
 section = bracket (choose section_case)
 
@@ -180,6 +196,7 @@ domain = bracket (is_define ▸ make m_domain (title is_domain ▹ many is_left 
 
 -- ---- problems: `:domain` and `:init` at most once, `:goal` exactly once, the others any number of times
 
+-- a section that may stand once, if it has not stood
 abbrev pub once : {c : Sort} → Bool → Form true c → Form true c
 once true X = nothing no_symbol
 once false X = X
@@ -188,6 +205,7 @@ once false X = X
 abbrev pub has_stood : (Symbol → Bool) → Seen → Bool
 has_stood p seen = list_any p seen
 
+-- a section of a problem between its brackets, by its keyword; where it restricts later ones, its keyword is kept
 abbrev pub given_case : Seen → Symbol → Form true (s_pair s_seen s_given)
 given_case seen symbols.OfDomain = once (has_stood is_of_domain seen) (is_of_domain ▸ make (m_saw (symbols.OfDomain ∷ seen)) (make m_of_domain (skip is_name)))
 given_case seen symbols.Requirements = is_requirements ▸ make (m_saw seen) (make m_needs words_of_requirements)
@@ -196,6 +214,7 @@ given_case seen symbols.Init = once (has_stood is_init seen) (is_init ▸ make (
 given_case seen symbols.Goal = once (has_stood is_goal seen) (is_goal ▸ make (m_saw (symbols.Goal ∷ seen)) (make m_goal goal))
 given_case seen _ = nothing not_given
 
+-- a section of a problem
 abbrev pub given : Seen → Form true (s_pair s_seen s_given)
 given seen = bracket (choose (given_case seen))
 

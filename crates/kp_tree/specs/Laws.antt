@@ -4,7 +4,7 @@ use Rattle.kp_tree.specs.declared.tree.Word.{Word}
 use Rattle.kp_tree.specs.Symbols.{Tok}
 use Rattle.kp_tree.specs.Sorts.{Sort, El}
 use Rattle.kp_tree.specs.Forms.{Form}
-use Rattle.kp_tree.specs.Reading.{At, Reads, Stops}
+use Rattle.kp_tree.specs.Reading.{At, Reads, Stops, ReadsWhole, StopsWhole}
 
 -- at most one tree, and the same tokens behind it
 abbrev pub ReadsOnce : Type 0
@@ -19,3 +19,17 @@ NeverBoth = (b : Bool) (c : Sort) (X : Form b c) (ts rest : List (Tok Word)) (x 
 
 abbrev pub AlwaysOne : Type 0
 AlwaysOne = (b : Bool) (c : Sort) (X : Form b c) (ts : List (Tok Word)) → ((x : El Word c) × (rest : List (Tok Word)) × Reads X ts x rest) ⊎ ((at : At Word) × Stops X ts at)
+
+-- ---- whole files: one tree or one offending token, and one of them always
+
+abbrev pub WholeReadsOnce : Type 0
+WholeReadsOnce = (b : Bool) (c : Sort) (X : Form b c) (ts : List (Tok Word)) (x y : El Word c) → ReadsWhole X ts x → ReadsWhole X ts y → x ≡ y
+
+abbrev pub WholeStopsOnce : Type 0
+WholeStopsOnce = (b : Bool) (c : Sort) (X : Form b c) (ts : List (Tok Word)) (at there : At Word) → StopsWhole X ts at → StopsWhole X ts there → at ≡ there
+
+abbrev pub WholeNeverBoth : Type 0
+WholeNeverBoth = (b : Bool) (c : Sort) (X : Form b c) (ts : List (Tok Word)) (x : El Word c) (at : At Word) → ReadsWhole X ts x → StopsWhole X ts at → ⊥
+
+abbrev pub WholeAlwaysOne : Type 0
+WholeAlwaysOne = (b : Bool) (c : Sort) (X : Form b c) (ts : List (Tok Word)) → ((x : El Word c) × ReadsWhole X ts x) ⊎ ((at : At Word) × StopsWhole X ts at)

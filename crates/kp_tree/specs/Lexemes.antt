@@ -1,4 +1,4 @@
--- The tokens of the program as tokens of the grammar.
+-- The tokens of the program as tokens of the grammar. This file serves proofs alone.
 use Rattle.std.specs.Prelude.{ℕ, List, map, drop}
 use Rattle.kp_tree.specs.declared.tree.Word.{Word}
 use Rattle.kp_tree.specs.declared.lexeme.Lexeme.{Lexeme}

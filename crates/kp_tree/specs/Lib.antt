@@ -1,5 +1,6 @@
 pub mod Trees
 pub mod Symbols
+pub mod Unsupported
 pub mod Sorts
 pub mod Forms
 pub mod Grammar

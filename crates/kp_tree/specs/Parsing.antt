@@ -1,5 +1,5 @@
--- Reading from left to right, with so many levels of brackets: what the laws of forms and the code's loops compute with.
--- `specs/Reading.antt` says what is meant; this file serves proofs alone.
+-- Reading from left to right, with so many levels of brackets. This file serves proofs alone.
+-- It is what the laws of forms and the code's loops compute with; `specs/Reading.antt` says what is meant.
 use Rattle.std.specs.Prelude.{ℕ, zero, suc, List, [], ◌∷◌, length, Bool, Result, Ok, Err, if◌then◌else◌}
 use Rattle.kp_tree.specs.declared.symbol.Symbol.{Symbol}
 use Rattle.kp_tree.specs.Symbols.{Tok, is_left, is_right, first_is}

@@ -20,6 +20,7 @@ abbrev pub plain_lit_case : Symbol → Form true s_lit
 plain_lit_case symbols.Not = is_not ▸ make (m_lit false) plain_atom
 plain_lit_case _ = make (m_lit true) plain_head
 
+-- a literal in its brackets
 abbrev pub plain_lit : Form true s_lit
 plain_lit = bracket (choose plain_lit_case)
 
@@ -29,12 +30,15 @@ plain_lits_case symbols.And = is_and ▸ make m_together (many is_left plain_lit
 plain_lits_case symbols.Not = is_not ▸ make m_one (make (m_lit false) plain_atom)
 plain_lits_case _ = make m_one (make (m_lit true) plain_head)
 
+-- a literal, or several
 abbrev pub plain_lits : Form true s_lits
 plain_lits = bracket (choose plain_lits_case)
 
+-- the same as a condition
 abbrev pub plain_cond : Form true s_cond
 plain_cond = make m_cond_of plain_lits
 
+-- the same as an effect
 abbrev pub plain_eff : Form true s_eff
 plain_eff = make m_eff_of plain_lits
 
@@ -50,6 +54,7 @@ plain_schema =
     ▹ maybe is_precondition m_true (is_precondition ▸ plain_cond)
     ▹ maybe is_effect m_idle (is_effect ▸ plain_eff))
 
+-- some section has stood
 abbrev pub some_stood : Seen → Bool
 some_stood [] = false
 some_stood (s ∷ ss) = true
@@ -61,6 +66,7 @@ plain_section_case seen symbols.Predicates = once (has_stood is_predicates seen)
 plain_section_case seen symbols.Action = once (not (has_stood is_predicates seen)) (is_action ▸ make (m_saw seen) (make m_action plain_schema))
 plain_section_case seen _ = nothing no_symbol
 
+-- such a section in its brackets
 abbrev pub plain_section : Seen → Form true (s_pair s_seen s_section)
 plain_section seen = bracket (choose (plain_section_case seen))
 
@@ -72,9 +78,11 @@ plain_domain = bracket (is_define ▸ make m_domain (title is_domain ▹ run is_
 abbrev pub plain_of_domain : Form true s_given
 plain_of_domain = bracket (is_of_domain ▸ make m_of_domain (skip is_name))
 
+-- ( :init lit* )
 abbrev pub plain_init : Form true s_given
 plain_init = bracket (is_init ▸ make m_init (make m_facts_of (many is_left plain_lit)))
 
+-- ( :goal lits )
 abbrev pub plain_goal : Form true s_given
 plain_goal = bracket (is_goal ▸ make m_goal plain_cond)
 

@@ -4,8 +4,8 @@ use Rattle.kp_tree.specs.declared.tree.Word.{Word}
 use Rattle.kp_tree.specs.declared.symbol.Symbol.{Symbol}
 use Rattle.kp_tree.specs.declared.symbol.Symbol.TheVariants as symbols
 use Rattle.kp_tree.specs.declared.lexeme.Lexeme.{Lexeme}
-use Rattle.kp_tree.specs.declared.stop.Stop.{Stop}
-use Rattle.kp_tree.specs.declared.stop.Stop.TheVariants.{Memory, At as StopAt}
+use Rattle.kp_tree.specs.declared.stop.ReadStop.{ReadStop}
+use Rattle.kp_tree.specs.declared.stop.ReadStop.TheVariants.{Memory, At as StopAt}
 use Rattle.kp_tree.specs.declared.literals.Lits as code
 use Rattle.kp_tree.specs.declared.literals.Lits.TheVariants as codes_of
 use Rattle.kp_tree.specs.declared.sections.Stage.{Stage}
@@ -28,21 +28,21 @@ use Rattle.kp_tree.specs.View.{lit_view, pred_view, schema_view, domain_view}
 
 -- ---- what a function answers is what reading gives, unless memory runs out
 
-abbrev pub Fails : {Y : Type 0} → List Lexeme → Stop → Outcome Word Y → Type 0
+abbrev pub Fails : {Y : Type 0} → List Lexeme → ReadStop → Outcome Word Y → Type 0
 Fails ls Memory reading = Unit {0}
 Fails ls (StopAt i) reading = reading ≡ Err (stop (from ls i))
 
-abbrev pub Gives : {X Y : Type 0} → List Lexeme → (X → Y) → Result (X × ℕ) Stop → Outcome Word Y → Type 0
+abbrev pub Gives : {X Y : Type 0} → List Lexeme → (X → Y) → Result (X × ℕ) ReadStop → Outcome Word Y → Type 0
 Gives ls view (Ok x) reading = reading ≡ Ok (view x.0, from ls x.1)
 Gives ls view (Err e) reading = Fails ls e reading
 
 -- for a function that keeps nothing of what it reads
-abbrev pub Passes : List Lexeme → Result ℕ Stop → Outcome Word (Unit {0}) → Type 0
+abbrev pub Passes : List Lexeme → Result ℕ ReadStop → Outcome Word (Unit {0}) → Type 0
 Passes ls (Ok n) reading = reading ≡ Ok (tt, from ls n)
 Passes ls (Err e) reading = Fails ls e reading
 
 -- for a function that reads all tokens
-abbrev pub GivesAll : {X Y : Type 0} → List Lexeme → (X → Y) → Result X Stop → Outcome Word Y → Type 0
+abbrev pub GivesAll : {X Y : Type 0} → List Lexeme → (X → Y) → Result X ReadStop → Outcome Word Y → Type 0
 GivesAll ls view (Ok x) reading = reading ≡ Ok (view x, [])
 GivesAll ls view (Err e) reading = Fails ls e reading
 
@@ -52,7 +52,7 @@ pub record Joins (ls : List Lexeme) (d : domains.Domain) (n : ℕ) (reading : Ou
   pub reads : reading ≡ Ok (sections, from ls n)
   pub joined : domain_view d ≡ apply Word m_domain (tt, sections)
 
-abbrev pub GivesSections : List Lexeme → Result (domains.Domain × ℕ) Stop → Outcome Word (List (Section Word)) → Type 0
+abbrev pub GivesSections : List Lexeme → Result (domains.Domain × ℕ) ReadStop → Outcome Word (List (Section Word)) → Type 0
 GivesSections ls (Ok x) reading = Joins ls x.0 x.1 reading
 GivesSections ls (Err e) reading = Fails ls e reading
 

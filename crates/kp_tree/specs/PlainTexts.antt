@@ -1,5 +1,5 @@
 -- What a plain text is, and what the plain readers answer.
-use Rattle.std.specs.Prelude.{ℕ, ◌≤◌, List, [], length, Bool, Option, Some, None}
+use Rattle.std.specs.Prelude.{ℕ, ◌≤◌, List, length, Bool, Option, Some, None}
 use Rattle.kp_lex.specs.declared.token.Token.{Token}
 use Rattle.kp_lex.specs.Cutting.{Cut}
 use Rattle.kp_tree.specs.declared.tree.Word.{Word}
@@ -9,13 +9,13 @@ use Rattle.kp_tree.specs.Sorts.{Sort, El}
 use Rattle.kp_tree.specs.Forms.{Form}
 use Rattle.kp_tree.specs.Grammar.{domain, problem}
 use Rattle.kp_tree.specs.Plain.{plain_domain, plain_problem}
-use Rattle.kp_tree.specs.Reading.{Reads}
+use Rattle.kp_tree.specs.Reading.{ReadsWhole}
 
 -- the text is cut, and all its tokens read by the form as this tree
 pub record ReadsAs {b : Bool} {c : Sort} (X : Form b c) (text : List ℕ) (x : El Word c) : Type 0 where
   pub tokens : List Token
   pub cut : Cut 0 text tokens
-  pub reads : Reads X (all_seen_in text tokens) x []
+  pub reads : ReadsWhole X (all_seen_in text tokens) x
 
 -- a plain text has at most 4,096 bytes
 pub record IsPlain {b : Bool} {c : Sort} (X : Form b c) (text : List ℕ) (x : El Word c) : Type 0 where

@@ -26,7 +26,7 @@ pub data Sort : Type 0 where
   s_problem : Sort
   s_lits : Sort
 
--- the keywords of the sections that have stood
+-- the keywords of those sections that have stood and restrict what may follow
 abbrev pub Seen : Type 0
 Seen = List Symbol
 

@@ -15,6 +15,7 @@ pub record Tok (W : Type 0) : Type 0 where
 
 -- ---- words that the grammar knows
 
+-- each word with its symbol
 abbrev pub Table : Type 0
 Table = List (List ℕ × Symbol)
 
@@ -60,6 +61,7 @@ symbol_of kinds.Keyword w = look_up keywords (look_up refused_keywords symbols.K
 abbrev pub seen_in : List ℕ → Token → Tok Word
 seen_in text t = record { symbol = symbol_of t.kind (folded text t); word = record { text = folded text t; byte = t.from } }
 
+-- the tokens of a text
 abbrev pub all_seen_in : List ℕ → List Token → List (Tok Word)
 all_seen_in text ts = map (seen_in text) ts
 
@@ -70,117 +72,146 @@ abbrev pub first_is : {W : Type 0} → (Symbol → Bool) → List (Tok W) → Bo
 first_is p [] = false
 first_is p (t ∷ ts) = p t.symbol
 
+-- no token
 abbrev pub no_symbol : Symbol → Bool
 no_symbol _ = false
 
+-- `(`
 abbrev pub is_left : Symbol → Bool
 is_left symbols.Left = true
 is_left _ = false
 
+-- `)`
 abbrev pub is_right : Symbol → Bool
 is_right symbols.Right = true
 is_right _ = false
 
+-- `-`
 abbrev pub is_dash : Symbol → Bool
 is_dash symbols.Dash = true
 is_dash _ = false
 
+-- `=`
 abbrev pub is_equal : Symbol → Bool
 is_equal symbols.Equal = true
 is_equal _ = false
 
+-- a variable
 abbrev pub is_variable : Symbol → Bool
 is_variable symbols.Variable = true
 is_variable _ = false
 
+-- `and`
 abbrev pub is_and : Symbol → Bool
 is_and symbols.And = true
 is_and _ = false
 
+-- `or`
 abbrev pub is_or : Symbol → Bool
 is_or symbols.Or = true
 is_or _ = false
 
+-- `not`
 abbrev pub is_not : Symbol → Bool
 is_not symbols.Not = true
 is_not _ = false
 
+-- `when`
 abbrev pub is_when : Symbol → Bool
 is_when symbols.When = true
 is_when _ = false
 
+-- `forall`
 abbrev pub is_forall : Symbol → Bool
 is_forall symbols.Forall = true
 is_forall _ = false
 
+-- `oneof`
 abbrev pub is_one_of : Symbol → Bool
 is_one_of symbols.OneOf = true
 is_one_of _ = false
 
+-- `unknown`
 abbrev pub is_unknown : Symbol → Bool
 is_unknown symbols.Unknown = true
 is_unknown _ = false
 
+-- `define`
 abbrev pub is_define : Symbol → Bool
 is_define symbols.Define = true
 is_define _ = false
 
+-- `domain`
 abbrev pub is_domain : Symbol → Bool
 is_domain symbols.Domain = true
 is_domain _ = false
 
+-- `problem`
 abbrev pub is_problem : Symbol → Bool
 is_problem symbols.Problem = true
 is_problem _ = false
 
+-- `either`
 abbrev pub is_either : Symbol → Bool
 is_either symbols.Either = true
 is_either _ = false
 
+-- `:requirements`
 abbrev pub is_requirements : Symbol → Bool
 is_requirements symbols.Requirements = true
 is_requirements _ = false
 
+-- `:types`
 abbrev pub is_types : Symbol → Bool
 is_types symbols.Types = true
 is_types _ = false
 
+-- `:constants`
 abbrev pub is_constants : Symbol → Bool
 is_constants symbols.Constants = true
 is_constants _ = false
 
+-- `:predicates`
 abbrev pub is_predicates : Symbol → Bool
 is_predicates symbols.Predicates = true
 is_predicates _ = false
 
+-- `:action`
 abbrev pub is_action : Symbol → Bool
 is_action symbols.Action = true
 is_action _ = false
 
+-- `:parameters`
 abbrev pub is_parameters : Symbol → Bool
 is_parameters symbols.Parameters = true
 is_parameters _ = false
 
+-- `:precondition`
 abbrev pub is_precondition : Symbol → Bool
 is_precondition symbols.Precondition = true
 is_precondition _ = false
 
+-- `:effect`
 abbrev pub is_effect : Symbol → Bool
 is_effect symbols.Effect = true
 is_effect _ = false
 
+-- `:domain`
 abbrev pub is_of_domain : Symbol → Bool
 is_of_domain symbols.OfDomain = true
 is_of_domain _ = false
 
+-- `:objects`
 abbrev pub is_objects : Symbol → Bool
 is_objects symbols.Objects = true
 is_objects _ = false
 
+-- `:init`
 abbrev pub is_init : Symbol → Bool
 is_init symbols.Init = true
 is_init _ = false
 
+-- `:goal`
 abbrev pub is_goal : Symbol → Bool
 is_goal symbols.Goal = true
 is_goal _ = false
@@ -249,74 +280,3 @@ is_keyword symbols.Metric = true
 is_keyword symbols.Length = true
 is_keyword symbols.Keyword = true
 is_keyword _ = false
-
--- ---- known and not supported: tokens that are told apart from other errors where they stand first
-
--- at the head of a section of a domain
-abbrev pub not_section : Symbol → Bool
-not_section symbols.Functions = true
-not_section symbols.Derived = true
-not_section symbols.Axiom = true
-not_section symbols.DurativeAction = true
-not_section symbols.Constraints = true
-not_section symbols.Process = true
-not_section symbols.Event = true
-not_section _ = false
-
--- at the head of a section of a problem
-abbrev pub not_given : Symbol → Bool
-not_given symbols.Metric = true
-not_given symbols.Constraints = true
-not_given symbols.Length = true
-not_given _ = false
-
--- behind the parts of an action
-abbrev pub not_part : Symbol → Bool
-not_part symbols.Observe = true
-not_part symbols.Vars = true
-not_part _ = false
-
--- at the head of a condition
-abbrev pub not_cond : Symbol → Bool
-not_cond symbols.Or = true
-not_cond symbols.Imply = true
-not_cond symbols.Exists = true
-not_cond symbols.Forall = true
-not_cond symbols.Preference = true
-not_cond _ = false
-
--- at the head of a goal
-abbrev pub not_goal : Symbol → Bool
-not_goal symbols.Or = true
-not_goal symbols.Imply = true
-not_goal symbols.Exists = true
-not_goal symbols.Forall = true
-not_goal symbols.Preference = true
-not_goal symbols.Equal = true
-not_goal _ = false
-
--- at the head of an effect
-abbrev pub not_effect : Symbol → Bool
-not_effect symbols.OneOf = true
-not_effect symbols.Or = true
-not_effect symbols.Probabilistic = true
-not_effect symbols.Increase = true
-not_effect symbols.Decrease = true
-not_effect symbols.Assign = true
-not_effect symbols.ScaleUp = true
-not_effect symbols.ScaleDown = true
-not_effect _ = false
-
--- at the head of an item of `:init`
-abbrev pub not_item : Symbol → Bool
-not_item symbols.Forall = true
-not_item symbols.Equal = true
-not_item _ = false
-
--- at the head of a literal of `oneof` or `or`
-abbrev pub not_lit : Symbol → Bool
-not_lit symbols.And = true
-not_lit symbols.Or = true
-not_lit symbols.OneOf = true
-not_lit symbols.Forall = true
-not_lit _ = false

@@ -6,10 +6,12 @@ pub record Typed (W : Type 0) : Type 0 where
   pub word : W
   pub kinds : List W
 
+-- an object by its name, or a variable
 pub data Term (W : Type 0) : Type 0 where
   name : W → Term W
   variable : W → Term W
 
+-- a predicate with its terms
 pub record Atom (W : Type 0) : Type 0 where
   pub head : W
   pub terms : List (Term W)
@@ -55,22 +57,26 @@ mutual
     no_item : Items W
     more_items : Item W → Items W → Items W
 
+-- the declaration of a predicate
 pub record Pred (W : Type 0) : Type 0 where
   pub head : W
   pub params : List (Typed W)
 
+-- an action schema
 pub record Schema (W : Type 0) : Type 0 where
   pub name : W
   pub params : List (Typed W)
   pub pre : Cond W
   pub effect : Eff W
 
+-- a domain
 pub record Domain (W : Type 0) : Type 0 where
   pub kinds : List (Typed W)
   pub constants : List (Typed W)
   pub predicates : List (Pred W)
   pub schemas : List (Schema W)
 
+-- a problem
 pub record Problem (W : Type 0) : Type 0 where
   pub objects : List (Typed W)
   pub init : List (Item W)
@@ -78,6 +84,7 @@ pub record Problem (W : Type 0) : Type 0 where
 
 -- ---- the parts of a conjunction, as a list
 
+-- of conditions, of effects, of items
 abbrev pub conds_of : {W : Type 0} → List (Cond W) → Conds W
 conds_of [] = no_cond
 conds_of (c ∷ cs) = more_conds c (conds_of cs)
@@ -109,6 +116,7 @@ pub data Given (W : Type 0) : Type 0 where
   goal : Cond W → Given W
 
 module _ {W : Type 0} where
+  -- what a section declares
   abbrev pub section_types : Section W → List (Typed W)
   section_types (Section.types xs) = xs
   section_types _ = []
@@ -125,6 +133,7 @@ module _ {W : Type 0} where
   section_schemas (Section.action s) = s ∷ []
   section_schemas _ = []
 
+  -- what a section states
   abbrev pub given_objects : Given W → List (Typed W)
   given_objects (Given.objects xs) = xs
   given_objects _ = []
@@ -133,6 +142,7 @@ module _ {W : Type 0} where
   given_items (Given.init is) = is
   given_items _ = []
 
+  -- the goal of this section, or the other one
   abbrev pub goal_or : Given W → Cond W → Cond W
   goal_or (Given.goal g) other = g
   goal_or _ other = other
@@ -144,6 +154,7 @@ module _ {W : Type 0} where
 
 -- ---- the plain forms know one literal, or several together
 
+-- one literal, or several in an `and`
 pub data Lits (W : Type 0) : Type 0 where
   one : Lit W → Lits W
   together : List (Lit W) → Lits W
@@ -159,6 +170,7 @@ module _ {W : Type 0} where
   abbrev pub fact_of_lit : Lit W → Item W
   fact_of_lit l = Item.fact l.positive l.atom
 
+  -- the same of several
   abbrev pub cond_of_lits : Lits W → Cond W
   cond_of_lits (Lits.one l) = cond_of_lit l
   cond_of_lits (Lits.together ls) = Cond.all (conds_of (map cond_of_lit ls))

@@ -3,10 +3,10 @@ ghost use Rattle.std.specs.Bool.{OnTrue};
 ghost use Rattle.kp_tree.specs.Lexemes.{tok, from};
 ghost use Rattle.kp_tree.specs.PlainParsing.{Closed, Opened, keyword_at};
 ghost use Rattle.kp_tree.specs.Forms.{hits};
-ghost use Rattle.kp_tree.specs.Symbols.{first_is, is_left, is_right, is_name, is_keyword};
+ghost use Rattle.kp_tree.specs.Symbols.{first_is, is_left, is_right, is_head, is_name, is_keyword};
 
 use crate::lexeme::Lexeme;
-use crate::stop::Stop;
+use crate::stop::ReadStop;
 use crate::symbol::Symbol;
 use crate::tree::Word;
 use kp_base::Memory;
@@ -44,15 +44,25 @@ pub fn is_left(tokens: &[Lexeme], at: usize) -> bool
 }
 
 /// The place behind a closing bracket.
-pub fn close(tokens: &[Lexeme], at: usize) -> Result<usize, Stop>
+pub fn close(tokens: &[Lexeme], at: usize) -> Result<usize, ReadStop>
     ensures found { IfOk result (λ n. Closed (from tokens.now at) (from tokens.now n)) }
-    ensures stopped { IfErr result (λ e. (e ≡ Stop.At at) × (first_is is_right (from tokens.now at) ≡ false)) }
+    ensures stopped { IfErr result (λ e. (e ≡ ReadStop.At at) × (first_is is_right (from tokens.now at) ≡ false)) }
     ensures onward { IfOk result (λ n. (at < n) × (n ≤ length tokens.now)) }
 {
     match peek(tokens, at) {
         Some(first) if matches!(first.symbol, Symbol::Right) => Ok(at + 1),
-        _ => Err(Stop::At(at)),
+        _ => Err(ReadStop::At(at)),
     }
+}
+
+/// Whether the symbol is that of a name that may be a head.
+pub fn is_head(symbol: Symbol) -> bool
+    ensures { result ≡ hits is_head symbol }
+{
+    matches!(
+        symbol,
+        Symbol::Define | Symbol::Domain | Symbol::Problem | Symbol::Either | Symbol::Name
+    )
 }
 
 /// Whether the symbol is that of a name.

@@ -3,7 +3,7 @@
 #![tactic(auto)]
 
 mod cursor;
-mod law;
+mod laws;
 mod lexeme;
 mod literals;
 mod plain;
@@ -15,6 +15,10 @@ mod titles;
 mod tree;
 mod whole;
 
+pub use laws::{
+    a_file_reads_or_stops, a_form_reads_once, a_form_stops_once, each_form_reads_or_stops,
+    no_form_reads_and_stops, plain_domains_are_domains, plain_problems_are_problems,
+};
 pub use plain::{plain_domain, plain_problem};
 pub use symbol::Symbol;
 pub use tree::{

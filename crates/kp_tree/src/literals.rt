@@ -4,13 +4,15 @@ ghost use Rattle.kp_tree.specs.View.{atom_view, lit_view, cond_view, eff_view, i
 ghost use Rattle.kp_tree.specs.Trees.{cond_of_lit, cond_of_lits, eff_of_lit, eff_of_lits, fact_of_lit};
 ghost use Rattle.kp_tree.specs.PlainParsing.{Gives, lits_view, head_at, atom_at, lit_inside_at, lit_at, literals_at, lits_inside_at, lits_at, cond_at, eff_at};
 
-use crate::cursor::{close, copy_word, is_left, peek};
+use crate::cursor::{close, copy_word, is_head, is_left, peek};
 use crate::lexeme::Lexeme;
-use crate::stop::Stop;
+use crate::stop::ReadStop;
 use crate::symbol::Symbol;
 use crate::tree::{AtomTree, CondTree, EffTree, ItemTree, LitTree};
 use kp_base::{Memory, Row};
 use std::alloc::Global;
+
+// In the functions of this file `levels` says how many brackets may still be opened within one another.
 
 /// One literal, or several in an `and`.
 #[derive(Drop)]
@@ -23,7 +25,7 @@ pub enum Lits {
 
 // Head
 #[tactic(auto, unfolding(crate::specs::PlainParsing::head_at))]
-fn head(alloc: Global, tokens: &[Lexeme], at: usize) -> Result<(AtomTree, usize), Stop>
+fn head(alloc: Global, tokens: &[Lexeme], at: usize) -> Result<(AtomTree, usize), ReadStop>
     ensures reads { Gives tokens.now atom_view result (head_at (from tokens.now at)) }
     ensures onward { IfOk result (λ x. (at < x.1) × (x.1 ≤ length tokens.now)) }
 {
@@ -42,18 +44,23 @@ fn head(alloc: Global, tokens: &[Lexeme], at: usize) -> Result<(AtomTree, usize)
                 at + 1,
             ))
         }
-        _ => Err(Stop::At(at)),
+        _ => Err(ReadStop::At(at)),
     }
 }
 
 // ( Head )
 #[tactic(auto, unfolding(crate::specs::PlainParsing::atom_at, crate::specs::PlainParsing::head_at))]
-fn atom(alloc: Global, tokens: &[Lexeme], at: usize, levels: u32) -> Result<(AtomTree, usize), Stop>
+fn atom(
+    alloc: Global,
+    tokens: &[Lexeme],
+    at: usize,
+    levels: u32,
+) -> Result<(AtomTree, usize), ReadStop>
     ensures reads { Gives tokens.now atom_view result (atom_at levels (from tokens.now at)) }
     ensures onward { IfOk result (λ x. (at < x.1) × (x.1 ≤ length tokens.now)) }
 {
     if levels == 0 || !is_left(tokens, at) {
-        return Err(Stop::At(at));
+        return Err(ReadStop::At(at));
     }
     let (atom, at) = head(alloc, tokens, at + 1)?;
     let at = close(tokens, at)?;
@@ -67,12 +74,12 @@ fn lit_inside(
     tokens: &[Lexeme],
     at: usize,
     levels: u32,
-) -> Result<(LitTree, usize), Stop>
+) -> Result<(LitTree, usize), ReadStop>
     ensures reads { Gives tokens.now lit_view result (lit_inside_at levels (from tokens.now at)) }
     ensures onward { IfOk result (λ x. (at < x.1) × (x.1 ≤ length tokens.now)) }
 {
     let Some(first) = peek(tokens, at) else {
-        return Err(Stop::At(at));
+        return Err(ReadStop::At(at));
     };
     match first.symbol {
         Symbol::Not => {
@@ -100,12 +107,17 @@ fn lit_inside(
 
 // ( Head ), or ( not ( Head ) )
 #[tactic(auto, unfolding(crate::specs::PlainParsing::lit_at, crate::specs::PlainParsing::lit_inside_at))]
-fn lit(alloc: Global, tokens: &[Lexeme], at: usize, levels: u32) -> Result<(LitTree, usize), Stop>
+fn lit(
+    alloc: Global,
+    tokens: &[Lexeme],
+    at: usize,
+    levels: u32,
+) -> Result<(LitTree, usize), ReadStop>
     ensures reads { Gives tokens.now lit_view result (lit_at levels (from tokens.now at)) }
     ensures onward { IfOk result (λ x. (at < x.1) × (x.1 ≤ length tokens.now)) }
 {
     if levels == 0 || !is_left(tokens, at) {
-        return Err(Stop::At(at));
+        return Err(ReadStop::At(at));
     }
     let (lit, at) = lit_inside(alloc, tokens, at + 1, levels - 1)?;
     let at = close(tokens, at)?;
@@ -118,7 +130,7 @@ pub fn literals(
     tokens: &[Lexeme],
     start: usize,
     levels: u32,
-) -> Result<(Row<LitTree>, usize), Stop>
+) -> Result<(Row<LitTree>, usize), ReadStop>
     requires { start ≤ length tokens.now }
     ensures reads { Gives tokens.now (λ row. map lit_view row) result (literals_at levels (from tokens.now start)) }
     ensures onward { IfOk result (λ x. (start ≤ x.1) × (x.1 ≤ length tokens.now)) }
@@ -140,12 +152,12 @@ fn lits_inside(
     tokens: &[Lexeme],
     at: usize,
     levels: u32,
-) -> Result<(Lits, usize), Stop>
+) -> Result<(Lits, usize), ReadStop>
     ensures reads { Gives tokens.now lits_view result (lits_inside_at levels (from tokens.now at)) }
     ensures onward { IfOk result (λ x. (at < x.1) × (x.1 ≤ length tokens.now)) }
 {
     let Some(first) = peek(tokens, at) else {
-        return Err(Stop::At(at));
+        return Err(ReadStop::At(at));
     };
     match first.symbol {
         Symbol::And => {
@@ -178,12 +190,12 @@ fn one_or_several(
     tokens: &[Lexeme],
     at: usize,
     levels: u32,
-) -> Result<(Lits, usize), Stop>
+) -> Result<(Lits, usize), ReadStop>
     ensures reads { Gives tokens.now lits_view result (lits_at levels (from tokens.now at)) }
     ensures onward { IfOk result (λ x. (at < x.1) × (x.1 ≤ length tokens.now)) }
 {
     if levels == 0 || !is_left(tokens, at) {
-        return Err(Stop::At(at));
+        return Err(ReadStop::At(at));
     }
     let (lits, at) = lits_inside(alloc, tokens, at + 1, levels - 1)?;
     let at = close(tokens, at)?;
@@ -246,7 +258,7 @@ pub fn condition(
     tokens: &[Lexeme],
     at: usize,
     levels: u32,
-) -> Result<(CondTree, usize), Stop>
+) -> Result<(CondTree, usize), ReadStop>
     ensures reads { Gives tokens.now cond_view result (cond_at levels (from tokens.now at)) }
     ensures onward { IfOk result (λ x. (at < x.1) × (x.1 ≤ length tokens.now)) }
 {
@@ -261,7 +273,7 @@ pub fn effect(
     tokens: &[Lexeme],
     at: usize,
     levels: u32,
-) -> Result<(EffTree, usize), Stop>
+) -> Result<(EffTree, usize), ReadStop>
     ensures reads { Gives tokens.now eff_view result (eff_at levels (from tokens.now at)) }
     ensures onward { IfOk result (λ x. (at < x.1) × (x.1 ≤ length tokens.now)) }
 {

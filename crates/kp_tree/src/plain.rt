@@ -6,10 +6,10 @@ ghost use Rattle.kp_tree.specs.PlainTexts.{ReadsAs, Answers};
 ghost use Rattle.kp_tree.specs.View.{domain_view, problem_view};
 
 use crate::lexeme::{Lexeme, lexemes};
-use crate::stop::Stop;
+use crate::stop::ReadStop;
 use crate::tree::{Domain, Problem};
 use crate::whole::{whole_domain, whole_problem};
-use kp_base::{Memory, Part, Stop as Refusal};
+use kp_base::{Memory, Part, Stop};
 use kp_lex::tokens;
 use std::alloc::Global;
 
@@ -26,8 +26,8 @@ fn cut(alloc: Global, bytes: &[u8]) -> Result<Option<Vec<Lexeme>>, Memory>
             let lexemes = lexemes(alloc, bytes, tokens.slice())?;
             Ok(Some(lexemes))
         }
-        Err(Refusal::Memory) => Err(Memory),
-        Err(Refusal::Refused(_)) => Ok(None),
+        Err(Stop::Memory) => Err(Memory),
+        Err(Stop::Refused(_)) => Ok(None),
     }
 }
 
@@ -44,8 +44,8 @@ pub fn plain_domain(alloc: Global, bytes: &[u8]) -> Result<Option<Domain>, Memor
     };
     match whole_domain(alloc, &lexemes) {
         Ok(domain) => Ok(Some(domain)),
-        Err(Stop::At(_)) => Ok(None),
-        Err(Stop::Memory) => Err(Memory),
+        Err(ReadStop::At(_)) => Ok(None),
+        Err(ReadStop::Memory) => Err(Memory),
     }
 }
 
@@ -62,7 +62,7 @@ pub fn plain_problem(alloc: Global, bytes: &[u8]) -> Result<Option<Problem>, Mem
     };
     match whole_problem(alloc, &lexemes) {
         Ok(problem) => Ok(Some(problem)),
-        Err(Stop::At(_)) => Ok(None),
-        Err(Stop::Memory) => Err(Memory),
+        Err(ReadStop::At(_)) => Ok(None),
+        Err(ReadStop::Memory) => Err(Memory),
     }
 }

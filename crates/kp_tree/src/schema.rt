@@ -6,7 +6,7 @@ ghost use Rattle.kp_tree.specs.PlainParsing.{Gives, name_word_at, precondition_a
 use crate::cursor::{copy_word, is_name, peek};
 use crate::lexeme::Lexeme;
 use crate::literals::{condition, effect};
-use crate::stop::Stop;
+use crate::stop::ReadStop;
 use crate::symbol::Symbol;
 use crate::tree::{CondTree, EffTree, SchemaTree, Word};
 use kp_base::Row;
@@ -14,7 +14,7 @@ use std::alloc::Global;
 
 // Name
 #[tactic(auto, unfolding(crate::specs::PlainParsing::name_word_at))]
-fn name_word(alloc: Global, tokens: &[Lexeme], at: usize) -> Result<(Word, usize), Stop>
+fn name_word(alloc: Global, tokens: &[Lexeme], at: usize) -> Result<(Word, usize), ReadStop>
     ensures reads { Gives tokens.now (λ w. w) result (name_word_at (from tokens.now at)) }
     ensures onward { IfOk result (λ x. (at < x.1) × (x.1 ≤ length tokens.now)) }
 {
@@ -23,13 +23,13 @@ fn name_word(alloc: Global, tokens: &[Lexeme], at: usize) -> Result<(Word, usize
             let name = copy_word(alloc, &first.word)?;
             Ok((name, at + 1))
         }
-        _ => Err(Stop::At(at)),
+        _ => Err(ReadStop::At(at)),
     }
 }
 
 // [:precondition lits]
 #[tactic(auto, unfolding(crate::specs::PlainParsing::precondition_at, crate::specs::PlainParsing::cond_at))]
-fn precondition(alloc: Global, tokens: &[Lexeme], at: usize) -> Result<(CondTree, usize), Stop>
+fn precondition(alloc: Global, tokens: &[Lexeme], at: usize) -> Result<(CondTree, usize), ReadStop>
     requires { at ≤ length tokens.now }
     ensures reads { Gives tokens.now cond_view result (precondition_at (from tokens.now at)) }
     ensures onward { IfOk result (λ x. (at ≤ x.1) × (x.1 ≤ length tokens.now)) }
@@ -44,7 +44,7 @@ fn precondition(alloc: Global, tokens: &[Lexeme], at: usize) -> Result<(CondTree
 
 // [:effect lits]
 #[tactic(auto, unfolding(crate::specs::PlainParsing::effect_at, crate::specs::PlainParsing::eff_at))]
-fn effect_part(alloc: Global, tokens: &[Lexeme], at: usize) -> Result<(EffTree, usize), Stop>
+fn effect_part(alloc: Global, tokens: &[Lexeme], at: usize) -> Result<(EffTree, usize), ReadStop>
     requires { at ≤ length tokens.now }
     ensures reads { Gives tokens.now eff_view result (effect_at (from tokens.now at)) }
     ensures onward { IfOk result (λ x. (at ≤ x.1) × (x.1 ≤ length tokens.now)) }
@@ -59,7 +59,7 @@ fn effect_part(alloc: Global, tokens: &[Lexeme], at: usize) -> Result<(EffTree, 
 
 /// Name [:precondition lits] [:effect lits]
 #[tactic(auto, unfolding(crate::specs::PlainParsing::schema_at, crate::specs::PlainParsing::name_word_at, crate::specs::PlainParsing::precondition_at, crate::specs::PlainParsing::effect_at))]
-pub fn schema(alloc: Global, tokens: &[Lexeme], at: usize) -> Result<(SchemaTree, usize), Stop>
+pub fn schema(alloc: Global, tokens: &[Lexeme], at: usize) -> Result<(SchemaTree, usize), ReadStop>
     ensures reads { Gives tokens.now schema_view result (schema_at (from tokens.now at)) }
     ensures onward { IfOk result (λ x. (at < x.1) × (x.1 ≤ length tokens.now)) }
 {

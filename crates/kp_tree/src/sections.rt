@@ -7,10 +7,10 @@ ghost use Rattle.kp_tree.specs.View.{pred_view, schema_view};
 ghost use Rattle.kp_tree.specs.PlainParsing.{Gives, GivesSections, seen_of, section_view, pred_inside_at, pred_at, preds_at, section_inside_at, section_at, sections_at};
 ghost use Rattle.kp_tree.specs.declared.sections.Stage.TheVariants.{Start};
 
-use crate::cursor::{close, copy_word, is_left, peek};
+use crate::cursor::{close, copy_word, is_head, is_left, peek};
 use crate::lexeme::Lexeme;
 use crate::schema::schema;
-use crate::stop::Stop;
+use crate::stop::ReadStop;
 use crate::symbol::Symbol;
 use crate::titles::requirements;
 use crate::tree::{Domain, PredTree, SchemaTree};
@@ -43,7 +43,11 @@ pub enum Section {
 
 // Head
 #[tactic(auto, unfolding(crate::specs::PlainParsing::pred_inside_at))]
-fn predicate_inside(alloc: Global, tokens: &[Lexeme], at: usize) -> Result<(PredTree, usize), Stop>
+fn predicate_inside(
+    alloc: Global,
+    tokens: &[Lexeme],
+    at: usize,
+) -> Result<(PredTree, usize), ReadStop>
     ensures reads { Gives tokens.now pred_view result (pred_inside_at (from tokens.now at)) }
     ensures onward { IfOk result (λ x. (at < x.1) × (x.1 ≤ length tokens.now)) }
 {
@@ -60,18 +64,18 @@ fn predicate_inside(alloc: Global, tokens: &[Lexeme], at: usize) -> Result<(Pred
             };
             Ok((predicate, at + 1))
         }
-        _ => Err(Stop::At(at)),
+        _ => Err(ReadStop::At(at)),
     }
 }
 
 // ( Head )
 #[tactic(auto, unfolding(crate::specs::PlainParsing::pred_at, crate::specs::PlainParsing::pred_inside_at))]
-fn predicate(alloc: Global, tokens: &[Lexeme], at: usize) -> Result<(PredTree, usize), Stop>
+fn predicate(alloc: Global, tokens: &[Lexeme], at: usize) -> Result<(PredTree, usize), ReadStop>
     ensures reads { Gives tokens.now pred_view result (pred_at (from tokens.now at)) }
     ensures onward { IfOk result (λ x. (at < x.1) × (x.1 ≤ length tokens.now)) }
 {
     if !is_left(tokens, at) {
-        return Err(Stop::At(at));
+        return Err(ReadStop::At(at));
     }
     let (predicate, at) = predicate_inside(alloc, tokens, at + 1)?;
     let at = close(tokens, at)?;
@@ -83,7 +87,7 @@ fn predicates(
     alloc: Global,
     tokens: &[Lexeme],
     start: usize,
-) -> Result<(Row<PredTree>, usize), Stop>
+) -> Result<(Row<PredTree>, usize), ReadStop>
     requires { start ≤ length tokens.now }
     ensures reads { Gives tokens.now (λ row. map pred_view row) result (preds_at (from tokens.now start)) }
     ensures onward { IfOk result (λ x. (start ≤ x.1) × (x.1 ≤ length tokens.now)) }
@@ -105,12 +109,12 @@ fn section_inside(
     tokens: &[Lexeme],
     at: usize,
     stage: Stage,
-) -> Result<((Stage, Section), usize), Stop>
+) -> Result<((Stage, Section), usize), ReadStop>
     ensures reads { Gives tokens.now (λ x. (seen_of x.0, section_view x.1)) result (section_inside_at stage (from tokens.now at)) }
     ensures onward { IfOk result (λ x. (at < x.1) × (x.1 ≤ length tokens.now)) }
 {
     let Some(first) = peek(tokens, at) else {
-        return Err(Stop::At(at));
+        return Err(ReadStop::At(at));
     };
     match (first.symbol, stage) {
         (Symbol::Requirements, Stage::Start) => {
@@ -133,7 +137,7 @@ fn section_inside(
             let (schema, at) = schema(alloc, tokens, at + 1)?;
             Ok(((Stage::Both, Section::Action(schema)), at))
         }
-        _ => Err(Stop::At(at)),
+        _ => Err(ReadStop::At(at)),
     }
 }
 
@@ -144,12 +148,12 @@ fn read_section(
     tokens: &[Lexeme],
     at: usize,
     stage: Stage,
-) -> Result<((Stage, Section), usize), Stop>
+) -> Result<((Stage, Section), usize), ReadStop>
     ensures reads { Gives tokens.now (λ x. (seen_of x.0, section_view x.1)) result (section_at stage (from tokens.now at)) }
     ensures onward { IfOk result (λ x. (at < x.1) × (x.1 ≤ length tokens.now)) }
 {
     if !is_left(tokens, at) {
-        return Err(Stop::At(at));
+        return Err(ReadStop::At(at));
     }
     let (section, at) = section_inside(alloc, tokens, at + 1, stage)?;
     let at = close(tokens, at)?;
@@ -186,7 +190,7 @@ fn keep(
 }
 
 /// The sections of a plain domain, joined.
-pub fn sections(alloc: Global, tokens: &[Lexeme], start: usize) -> Result<(Domain, usize), Stop>
+pub fn sections(alloc: Global, tokens: &[Lexeme], start: usize) -> Result<(Domain, usize), ReadStop>
     requires { start ≤ length tokens.now }
     ensures reads { GivesSections tokens.now result (sections_at Start (from tokens.now start)) }
     ensures onward { IfOk result (λ x. (start ≤ x.1) × (x.1 ≤ length tokens.now)) }
@@ -202,7 +206,7 @@ pub fn sections(alloc: Global, tokens: &[Lexeme], start: usize) -> Result<(Domai
         stage = next;
     }
     if !is_declared(stage) {
-        return Err(Stop::At(at));
+        return Err(ReadStop::At(at));
     }
     let domain = Domain {
         kinds: Row::new(alloc),

@@ -5,7 +5,7 @@ ghost use Rattle.kp_tree.specs.PlainParsing.{Passes, naming_test, name_at, namin
 
 use crate::cursor::{begins_keyword, close, is_left, is_name, peek};
 use crate::lexeme::Lexeme;
-use crate::stop::Stop;
+use crate::stop::ReadStop;
 use crate::symbol::Symbol;
 
 /// What a name in brackets names.
@@ -32,43 +32,43 @@ fn announces(naming: Naming, symbol: Symbol) -> bool
 
 // The place behind a name.
 #[tactic(auto, unfolding(crate::specs::PlainParsing::name_at))]
-fn skip_name(tokens: &[Lexeme], at: usize) -> Result<usize, Stop>
+fn skip_name(tokens: &[Lexeme], at: usize) -> Result<usize, ReadStop>
     ensures reads { Passes tokens.now result (name_at (from tokens.now at)) }
     ensures onward { IfOk result (λ n. (at < n) × (n ≤ length tokens.now)) }
 {
     match peek(tokens, at) {
         Some(first) if is_name(first.symbol) => Ok(at + 1),
-        _ => Err(Stop::At(at)),
+        _ => Err(ReadStop::At(at)),
     }
 }
 
 // The word before a name, and the name.
 #[tactic(auto, unfolding(crate::specs::PlainParsing::naming_inside_at, crate::specs::PlainParsing::name_at))]
-fn naming_inside(tokens: &[Lexeme], at: usize, naming: Naming) -> Result<usize, Stop>
+fn naming_inside(tokens: &[Lexeme], at: usize, naming: Naming) -> Result<usize, ReadStop>
     ensures reads { Passes tokens.now result (naming_inside_at naming (from tokens.now at)) }
     ensures onward { IfOk result (λ n. (at < n) × (n ≤ length tokens.now)) }
 {
     match peek(tokens, at) {
         Some(first) if announces(naming, first.symbol) => skip_name(tokens, at + 1),
-        _ => Err(Stop::At(at)),
+        _ => Err(ReadStop::At(at)),
     }
 }
 
 /// The place behind a bracket with a name, which isn't kept.
 #[tactic(auto, unfolding(crate::specs::PlainParsing::naming_at, crate::specs::PlainParsing::naming_inside_at))]
-pub fn read_naming(tokens: &[Lexeme], at: usize, naming: Naming) -> Result<usize, Stop>
+pub fn read_naming(tokens: &[Lexeme], at: usize, naming: Naming) -> Result<usize, ReadStop>
     ensures reads { Passes tokens.now result (naming_at naming (from tokens.now at)) }
     ensures onward { IfOk result (λ n. (at < n) × (n ≤ length tokens.now)) }
 {
     if !is_left(tokens, at) {
-        return Err(Stop::At(at));
+        return Err(ReadStop::At(at));
     }
     let at = naming_inside(tokens, at + 1, naming)?;
     close(tokens, at)
 }
 
 /// The place behind keywords, which aren't kept.
-pub fn requirements(tokens: &[Lexeme], start: usize) -> Result<usize, Stop>
+pub fn requirements(tokens: &[Lexeme], start: usize) -> Result<usize, ReadStop>
     requires { start ≤ length tokens.now }
     ensures reads { Passes tokens.now result (requirements_at (from tokens.now start)) }
     ensures onward { IfOk result (λ n. (start ≤ n) × (n ≤ length tokens.now)) }

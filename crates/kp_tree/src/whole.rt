@@ -9,7 +9,7 @@ use crate::cursor::{close, is_left, peek};
 use crate::lexeme::Lexeme;
 use crate::literals::{condition, facts, literals};
 use crate::sections::sections;
-use crate::stop::Stop;
+use crate::stop::ReadStop;
 use crate::symbol::Symbol;
 use crate::titles::{Naming, read_naming};
 use crate::tree::{CondTree, Domain, ItemTree, Problem};
@@ -18,7 +18,7 @@ use std::alloc::Global;
 
 // define ( domain Name ) and the sections
 #[tactic(auto, unfolding(crate::specs::PlainParsing::domain_inside_at, crate::specs::PlainParsing::naming_at, crate::specs::PlainParsing::sections_at))]
-fn domain_inside(alloc: Global, tokens: &[Lexeme], at: usize) -> Result<(Domain, usize), Stop>
+fn domain_inside(alloc: Global, tokens: &[Lexeme], at: usize) -> Result<(Domain, usize), ReadStop>
     ensures reads { Gives tokens.now domain_view result (domain_inside_at (from tokens.now at)) }
     ensures onward { IfOk result (λ x. (at < x.1) × (x.1 ≤ length tokens.now)) }
 {
@@ -28,18 +28,18 @@ fn domain_inside(alloc: Global, tokens: &[Lexeme], at: usize) -> Result<(Domain,
             let (domain, at) = sections(alloc, tokens, at)?;
             Ok((domain, at))
         }
-        _ => Err(Stop::At(at)),
+        _ => Err(ReadStop::At(at)),
     }
 }
 
 // The domain in its brackets.
 #[tactic(auto, unfolding(crate::specs::PlainParsing::domain_at, crate::specs::PlainParsing::domain_inside_at))]
-fn read_domain(alloc: Global, tokens: &[Lexeme], at: usize) -> Result<(Domain, usize), Stop>
+fn read_domain(alloc: Global, tokens: &[Lexeme], at: usize) -> Result<(Domain, usize), ReadStop>
     ensures reads { Gives tokens.now domain_view result (domain_at (from tokens.now at)) }
     ensures onward { IfOk result (λ x. (at < x.1) × (x.1 ≤ length tokens.now)) }
 {
     if !is_left(tokens, at) {
-        return Err(Stop::At(at));
+        return Err(ReadStop::At(at));
     }
     let (domain, at) = domain_inside(alloc, tokens, at + 1)?;
     let at = close(tokens, at)?;
@@ -48,19 +48,23 @@ fn read_domain(alloc: Global, tokens: &[Lexeme], at: usize) -> Result<(Domain, u
 
 /// The plain domain that all the tokens are.
 #[tactic(auto, unfolding(crate::specs::PlainParsing::domain_at, crate::specs::PlainParsing::whole_at))]
-pub fn whole_domain(alloc: Global, tokens: &[Lexeme]) -> Result<Domain, Stop>
+pub fn whole_domain(alloc: Global, tokens: &[Lexeme]) -> Result<Domain, ReadStop>
     ensures { GivesAll tokens.now domain_view result (whole_at plain_domain (toks tokens.now)) }
 {
     let (domain, at) = read_domain(alloc, tokens, 0)?;
     match peek(tokens, at) {
         None => Ok(domain),
-        Some(_) => Err(Stop::At(at)),
+        Some(_) => Err(ReadStop::At(at)),
     }
 }
 
 // :init lit*
 #[tactic(auto, unfolding(crate::specs::PlainParsing::init_inside_at, crate::specs::PlainParsing::literals_at))]
-fn init_inside(alloc: Global, tokens: &[Lexeme], at: usize) -> Result<(Row<ItemTree>, usize), Stop>
+fn init_inside(
+    alloc: Global,
+    tokens: &[Lexeme],
+    at: usize,
+) -> Result<(Row<ItemTree>, usize), ReadStop>
     ensures reads { Gives tokens.now (λ row. Given.init (map item_view row)) result (init_inside_at (from tokens.now at)) }
     ensures onward { IfOk result (λ x. (at < x.1) × (x.1 ≤ length tokens.now)) }
 {
@@ -69,18 +73,18 @@ fn init_inside(alloc: Global, tokens: &[Lexeme], at: usize) -> Result<(Row<ItemT
             let (literals, at) = literals(alloc, tokens, at + 1, 3)?;
             Ok((facts(alloc, literals)?, at))
         }
-        _ => Err(Stop::At(at)),
+        _ => Err(ReadStop::At(at)),
     }
 }
 
 // ( :init lit* )
 #[tactic(auto, unfolding(crate::specs::PlainParsing::init_at, crate::specs::PlainParsing::init_inside_at))]
-fn init(alloc: Global, tokens: &[Lexeme], at: usize) -> Result<(Row<ItemTree>, usize), Stop>
+fn init(alloc: Global, tokens: &[Lexeme], at: usize) -> Result<(Row<ItemTree>, usize), ReadStop>
     ensures reads { Gives tokens.now (λ row. Given.init (map item_view row)) result (init_at (from tokens.now at)) }
     ensures onward { IfOk result (λ x. (at < x.1) × (x.1 ≤ length tokens.now)) }
 {
     if !is_left(tokens, at) {
-        return Err(Stop::At(at));
+        return Err(ReadStop::At(at));
     }
     let (items, at) = init_inside(alloc, tokens, at + 1)?;
     let at = close(tokens, at)?;
@@ -89,7 +93,7 @@ fn init(alloc: Global, tokens: &[Lexeme], at: usize) -> Result<(Row<ItemTree>, u
 
 // :goal lits
 #[tactic(auto, unfolding(crate::specs::PlainParsing::goal_inside_at, crate::specs::PlainParsing::cond_at))]
-fn goal_inside(alloc: Global, tokens: &[Lexeme], at: usize) -> Result<(CondTree, usize), Stop>
+fn goal_inside(alloc: Global, tokens: &[Lexeme], at: usize) -> Result<(CondTree, usize), ReadStop>
     ensures reads { Gives tokens.now (λ c. Given.goal (cond_view c)) result (goal_inside_at (from tokens.now at)) }
     ensures onward { IfOk result (λ x. (at < x.1) × (x.1 ≤ length tokens.now)) }
 {
@@ -98,18 +102,18 @@ fn goal_inside(alloc: Global, tokens: &[Lexeme], at: usize) -> Result<(CondTree,
             let (goal, at) = condition(alloc, tokens, at + 1, 3)?;
             Ok((goal, at))
         }
-        _ => Err(Stop::At(at)),
+        _ => Err(ReadStop::At(at)),
     }
 }
 
 // ( :goal lits )
 #[tactic(auto, unfolding(crate::specs::PlainParsing::goal_at, crate::specs::PlainParsing::goal_inside_at))]
-fn goal(alloc: Global, tokens: &[Lexeme], at: usize) -> Result<(CondTree, usize), Stop>
+fn goal(alloc: Global, tokens: &[Lexeme], at: usize) -> Result<(CondTree, usize), ReadStop>
     ensures reads { Gives tokens.now (λ c. Given.goal (cond_view c)) result (goal_at (from tokens.now at)) }
     ensures onward { IfOk result (λ x. (at < x.1) × (x.1 ≤ length tokens.now)) }
 {
     if !is_left(tokens, at) {
-        return Err(Stop::At(at));
+        return Err(ReadStop::At(at));
     }
     let (goal, at) = goal_inside(alloc, tokens, at + 1)?;
     let at = close(tokens, at)?;
@@ -122,7 +126,7 @@ fn init_and_goal(
     alloc: Global,
     tokens: &[Lexeme],
     at: usize,
-) -> Result<((Row<ItemTree>, CondTree), usize), Stop>
+) -> Result<((Row<ItemTree>, CondTree), usize), ReadStop>
     ensures reads { Gives tokens.now (λ x. (Given.init (map item_view x.0), Given.goal (cond_view x.1))) result (init_and_goal_at (from tokens.now at)) }
     ensures onward { IfOk result (λ x. (at < x.1) × (x.1 ≤ length tokens.now)) }
 {
@@ -133,7 +137,7 @@ fn init_and_goal(
 
 // ( :domain Name ), as a section
 #[tactic(auto, unfolding(crate::specs::PlainParsing::of_domain_at, crate::specs::PlainParsing::naming_at))]
-fn of_domain(tokens: &[Lexeme], at: usize) -> Result<((), usize), Stop>
+fn of_domain(tokens: &[Lexeme], at: usize) -> Result<((), usize), ReadStop>
     ensures reads { Gives tokens.now (λ _. Given.of_domain) result (of_domain_at (from tokens.now at)) }
     ensures onward { IfOk result (λ x. (at < x.1) × (x.1 ≤ length tokens.now)) }
 {
@@ -147,7 +151,7 @@ fn givens(
     alloc: Global,
     tokens: &[Lexeme],
     at: usize,
-) -> Result<((Row<ItemTree>, CondTree), usize), Stop>
+) -> Result<((Row<ItemTree>, CondTree), usize), ReadStop>
     ensures reads { Gives tokens.now (λ x. givens_of (map item_view x.0) (cond_view x.1)) result (givens_at (from tokens.now at)) }
     ensures onward { IfOk result (λ x. (at < x.1) × (x.1 ≤ length tokens.now)) }
 {
@@ -158,7 +162,7 @@ fn givens(
 
 // define ( problem Name ) and the sections
 #[tactic(auto, unfolding(crate::specs::PlainParsing::problem_inside_at, crate::specs::PlainParsing::naming_at, crate::specs::PlainParsing::givens_at))]
-fn problem_inside(alloc: Global, tokens: &[Lexeme], at: usize) -> Result<(Problem, usize), Stop>
+fn problem_inside(alloc: Global, tokens: &[Lexeme], at: usize) -> Result<(Problem, usize), ReadStop>
     ensures reads { Gives tokens.now problem_view result (problem_inside_at (from tokens.now at)) }
     ensures onward { IfOk result (λ x. (at < x.1) × (x.1 ≤ length tokens.now)) }
 {
@@ -173,18 +177,18 @@ fn problem_inside(alloc: Global, tokens: &[Lexeme], at: usize) -> Result<(Proble
             };
             Ok((problem, at))
         }
-        _ => Err(Stop::At(at)),
+        _ => Err(ReadStop::At(at)),
     }
 }
 
 // The problem in its brackets.
 #[tactic(auto, unfolding(crate::specs::PlainParsing::problem_at, crate::specs::PlainParsing::problem_inside_at))]
-fn read_problem(alloc: Global, tokens: &[Lexeme], at: usize) -> Result<(Problem, usize), Stop>
+fn read_problem(alloc: Global, tokens: &[Lexeme], at: usize) -> Result<(Problem, usize), ReadStop>
     ensures reads { Gives tokens.now problem_view result (problem_at (from tokens.now at)) }
     ensures onward { IfOk result (λ x. (at < x.1) × (x.1 ≤ length tokens.now)) }
 {
     if !is_left(tokens, at) {
-        return Err(Stop::At(at));
+        return Err(ReadStop::At(at));
     }
     let (problem, at) = problem_inside(alloc, tokens, at + 1)?;
     let at = close(tokens, at)?;
@@ -193,12 +197,12 @@ fn read_problem(alloc: Global, tokens: &[Lexeme], at: usize) -> Result<(Problem,
 
 /// The plain problem that all the tokens are.
 #[tactic(auto, unfolding(crate::specs::PlainParsing::problem_at, crate::specs::PlainParsing::whole_at))]
-pub fn whole_problem(alloc: Global, tokens: &[Lexeme]) -> Result<Problem, Stop>
+pub fn whole_problem(alloc: Global, tokens: &[Lexeme]) -> Result<Problem, ReadStop>
     ensures { GivesAll tokens.now problem_view result (whole_at plain_problem (toks tokens.now)) }
 {
     let (problem, at) = read_problem(alloc, tokens, 0)?;
     match peek(tokens, at) {
         None => Ok(problem),
-        Some(_) => Err(Stop::At(at)),
+        Some(_) => Err(ReadStop::At(at)),
     }
 }

@@ -1,5 +1,7 @@
+//! Laws of the grammar, each proved as the contract of a function that does nothing.
+
 ghost use Rattle.kp_tree.specs.PlainTexts.{PlainDomainsRead, PlainProblemsRead};
-ghost use Rattle.kp_tree.specs.Laws.{ReadsOnce, StopsOnce, NeverBoth, AlwaysOne};
+ghost use Rattle.kp_tree.specs.Laws.{ReadsOnce, StopsOnce, NeverBoth, AlwaysOne, WholeReadsOnce, WholeStopsOnce, WholeNeverBoth, WholeAlwaysOne};
 
 /// A form reads given tokens as at most one tree, and leaves the same tokens behind it.
 #[tactic(auto, using(crate::proofs::Exact::once_read))]
@@ -34,4 +36,12 @@ pub fn plain_domains_are_domains()
 #[tactic(auto, using(crate::proofs::Answered::problems_read))]
 pub fn plain_problems_are_problems()
     ensures { PlainProblemsRead }
+{}
+
+/// A file is of a form as at most one tree, or it has one offending token; never both, and one of them always.
+pub fn a_file_reads_or_stops()
+    ensures one_tree { WholeReadsOnce }
+    ensures one_offending_token { WholeStopsOnce }
+    ensures never_both { WholeNeverBoth }
+    ensures always_one { WholeAlwaysOne }
 {}
