@@ -1,5 +1,5 @@
 -- How a run ends, from how its parts end.
-use Rattle.std.proofs.Common.{◌≡◌, ◌≢◌, ◌⊎◌, ℕ, List, [], Option, refl, subst, inl, inr}
+use Rattle.std.proofs.Common.{◌≡◌, ◌≢◌, ℕ, List, [], Option, refl, subst, inl, inr}
 use Rattle.kp_base.specs.declared.refused.Refused.{Refused}
 use Rattle.kp_outside.specs.declared.outside.OutsideStop.{OutsideStop}
 use Rattle.kp_outside.specs.declared.outside.OutsideStop.TheVariants as stops
@@ -7,7 +7,7 @@ use Rattle.kp_outside.specs.Outside.{FileMap, Rises}
 use Rattle.kp_run.specs.declared.status.Status.{Status}
 use Rattle.kp_run.specs.declared.status.Status.TheVariants as status
 use Rattle.kp_run.specs.Command.{Command}
-use Rattle.kp_run.specs.Ends.{IsAnswer, Files, BreaksOff, first_open, second_open, both_put, Puts, TellsFront, Tells, with_both}
+use Rattle.kp_run.specs.Ends.{IsAnswer, Files, BreaksOff, first_open, second_open, both_put, Puts, Tells, with_both}
 use Rattle.kp_run.specs.Reports.{stop_of}
 
 -- no files

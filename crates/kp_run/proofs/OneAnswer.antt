@@ -1,6 +1,5 @@
 -- At most one answer is due.
-use Rattle.std.proofs.Common.{◌≡◌, ℕ, List, Option, Some, Vec, refl, sym, subst, ◌∙◌}
-use Rattle.std.specs.FinMap.{get}
+use Rattle.std.proofs.Common.{◌≡◌, ℕ, List, Some, Vec, refl, subst}
 use Rattle.std.specs.declared.alloc.Global.{Global}
 use Rattle.kp_tree.specs.declared.tree.Word.{Word}
 use Rattle.kp_tree.specs.Trees.{Domain, Problem}

@@ -1,5 +1,5 @@
 -- What a text is read as, and what the tests on its names mean.
-use Rattle.std.proofs.Common.{◌≡◌, ◌≢◌, ◌↔◌, ℕ, ◌≤◌, ◌<◌, Bool, true, false, IsTrue, List, [], length, take, fold, nat_lt, Contains, refl, sym, ap, subst, ◌∙◌, arith}
+use Rattle.std.proofs.Common.{◌≡◌, ◌↔◌, ℕ, Bool, true, false, IsTrue, List, [], length, take, fold, nat_lt, Contains, sym, ap, subst, ◌∙◌, arith}
 use mathlib.Core.Bool.{true≢false}
 use Rattle.std.specs.List.{list_any}
 use Rattle.std.proofs.lemmas.List.{take_all}
@@ -13,11 +13,11 @@ use Rattle.kp_tree.specs.Sorts.{Sort, El}
 use Rattle.kp_tree.specs.Forms.{Form}
 use Rattle.kp_tree.specs.Plain as forms
 use Rattle.kp_tree.specs.Reading.{Reads}
-use Rattle.kp_tree.specs.PlainTexts.{ReadsAs, IsPlain}
+use Rattle.kp_tree.specs.PlainTexts.{IsPlain}
 use Rattle.kp_run.specs.Among.{is_among, all_among, are_new, with_name}
-use Rattle.kp_run.specs.Names.{Distinct, AllDeclared, predicate_names, schema_names, domain_heads, problem_heads}
+use Rattle.kp_run.specs.Names.{predicate_names, schema_names, domain_heads, problem_heads}
 use Rattle.kp_run.specs.PlainFiles.{IsWellNamed, IsDomain, IsProblem}
-use Rattle.kp_run.proofs.Known.{or_false, declared, all_are_among, among_gathered, shared, is_shared, contained, among}
+use Rattle.kp_run.proofs.Known.{declared, all_are_among, among_gathered, shared, is_shared, contained, among}
 use Rattle.kp_run.proofs.Repeats.{distinct, all_new}
 
 -- ---- one tree

@@ -1,5 +1,5 @@
 -- Which answer is due: by the words, and by what the files hold when the command begins.
-use Rattle.std.specs.Prelude.{◌≡◌, List, ℕ, Option, Some, None, Vec}
+use Rattle.std.specs.Prelude.{◌≡◌, List, ℕ, Option, Some, Vec}
 use Rattle.std.specs.FinMap.{get}
 use Rattle.std.specs.declared.alloc.Global.{Global}
 use Rattle.kp_base.specs.declared.refused.Part.TheVariants as parts

@@ -1,5 +1,5 @@
 -- Which files are translated: they have the plain form, and their names are declared once.
-use Rattle.std.specs.Prelude.{◌≡◌, List, [], ◌∷◌, ℕ, Bool, true, false, not, if◌then◌else◌, Contains}
+use Rattle.std.specs.Prelude.{List, [], ◌∷◌, ℕ, Bool, true, false, if◌then◌else◌, Contains}
 use Rattle.kp_tree.specs.declared.tree.Word.{Word}
 use Rattle.kp_tree.specs.Trees.{Item, Domain, Problem}
 use Rattle.kp_tree.specs.Plain as forms
@@ -29,6 +29,6 @@ facts_of stated (Item.fact true a ∷ is) = if stated then a.head.text ∷ facts
 facts_of stated (Item.fact false a ∷ is) = if stated then facts_of stated is else a.head.text ∷ facts_of stated is
 facts_of stated (_ ∷ is) = facts_of stated is
 
--- some fact is both stated and denied
+-- some fact is both stated and denied; the facts of a plain problem have no terms, so their predicates tell them apart
 abbrev pub IsContradictory : List (Item Word) → Type 0
 IsContradictory items = (name : List ℕ) × Contains (facts_of true items) name × Contains (facts_of false items) name

@@ -1,5 +1,5 @@
 -- What is to be put and printed, as the functions between reading and writing hand it on; for proofs alone.
-use Rattle.std.specs.Prelude.{◌≡◌, ◌⊎◌, List, ℕ, Result, Ok, Err}
+use Rattle.std.specs.Prelude.{◌≡◌, ◌⊎◌, List, ℕ, Result, Err}
 use Rattle.kp_outside.specs.declared.outside.OutsideStop.{OutsideStop}
 use Rattle.kp_outside.specs.declared.outside.OutsideStop.TheVariants as stops
 use Rattle.kp_plain.specs.declared.translation.Translation.{Translation}

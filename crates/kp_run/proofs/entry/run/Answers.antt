@@ -1,9 +1,7 @@
-use Rattle.std.proofs.Common.{◌≡◌, ◌⊎◌, [], ℕ, List, sym, subst, inl, inr, refl}
-use Rattle.kp_outside.specs.Outside.{Rises}
-use Rattle.kp_run.specs.declared.status.Status.{Status}
+use Rattle.std.proofs.Common.{◌≡◌, sym, subst, inl, inr}
 use Rattle.kp_run.specs.declared.status.Status.TheVariants as status
 use Rattle.kp_run.specs.Due.{IsDue, usage}
-use Rattle.kp_run.specs.Reports.{status_of, printed_of, stop_of}
+use Rattle.kp_run.specs.Reports.{status_of, printed_of}
 use Rattle.kp_run.proofs.Reporting.{is_due, both_held, one_command}
 use Rattle.kp_run.proofs.Ending.{no_files, gets_stopped, told_of_due, puts_where}
 use Rattle.kp_run.proofs.entry.run.Goals as goal
