@@ -1,3 +1,9 @@
 pub mod Lists
 pub mod Types
 pub mod Encoding
+pub mod Texts
+pub mod ExamplePlans
+pub mod ExampleTypes
+pub mod ExampleFaults
+pub mod ExampleStates
+pub mod ExampleStrip

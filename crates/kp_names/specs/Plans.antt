@@ -32,3 +32,9 @@ pub record Solves (d : Domain Word) (p : Problem Word) (steps : List Step) : Typ
 pub record IsPlan (domain_text problem_text : List ℕ) (steps : List Step) : Type 0 where
   pub has : HasProblem domain_text problem_text
   pub solves : Solves has.domain has.problem steps
+
+-- ---- a law
+
+-- two texts have at most one problem
+abbrev pub HasOneProblem : Type 0
+HasOneProblem = (domain_text problem_text : List ℕ) (x y : HasProblem domain_text problem_text) → (x.domain ≡ y.domain) × (x.problem ≡ y.problem)
