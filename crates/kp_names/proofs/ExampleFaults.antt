@@ -1,11 +1,13 @@
 -- Faults of names, computed from texts; a number is the byte at which the token begins.
-use Rattle.std.proofs.Common.{◌≡◌, ℕ, List, [], ◌∷◌, refl, codes}
+use Rattle.std.proofs.Common.{◌≡◌, ◌≤◌, ℕ, List, [], ◌∷◌, refl, subst, inl, inr, codes, arith}
 use Rattle.kp_lex.specs.Bytes.{class_of}
 use Rattle.kp_lex.specs.Scanning.{cut_from}
 use Rattle.kp_tree.specs.Symbols.{symbol_of}
 use Rattle.kp_tree.specs.Parsing.{some_at, next_at}
-use Rattle.kp_names.specs.Faults.{Fault, unknown_name, declared_twice, wrong_use, domain_faults, problem_faults}
-use Rattle.kp_names.proofs.Texts.{domain_of, problem_of}
+use Rattle.kp_names.specs.Faults.{Fault, unknown_name, declared_twice, wrong_use, domain_faults, problem_faults, byte_of, IsFirst}
+use Rattle.kp_names.specs.Plans.{HasProblem}
+use Rattle.kp_tree.specs.Grammar as grammar
+use Rattle.kp_names.proofs.Texts.{tokens, domain_of, problem_of, reads_as, reads_once}
 
 abbrev in_domain : List ℕ → List ℕ → List Fault
 in_domain a b = domain_faults (domain_of a) (problem_of b)
@@ -95,3 +97,24 @@ in_types = refl
 one_space : in_domain types with_o ≡ unknown_name 63 ∷ unknown_name 149 ∷ unknown_name 187 ∷ []
 unfolding cut_from class_of symbol_of some_at next_at
 one_space = refl
+
+-- ---- what has no problem
+
+-- the first of two faults
+first : IsFirst (in_problem exchange goal_p_z) (wrong_use 52)
+unfolding cut_from class_of symbol_of some_at next_at
+first = record {
+  among = inl refl;
+  least = λ f m. elim m [
+    | inl e ↦ subst (λ z. 52 ≤ byte_of z) e (omega arith)
+    | inr r ↦ elim r [ inl e ↦ subst (λ z. 52 ≤ byte_of z) e (omega arith) | inr x ↦ absurd x ]
+  ];
+}
+
+-- a text that reads, with a fault
+faulty : HasProblem exchange goal_y → ⊥
+unfolding cut_from class_of symbol_of some_at next_at
+faulty x =
+    let e = reads_once grammar.domain exchange x.domain (domain_of exchange) x.domain_reads (reads_as grammar.domain exchange (tokens exchange) (domain_of exchange) refl refl) in
+    let f = reads_once grammar.problem goal_y x.problem (problem_of goal_y) x.problem_reads (reads_as grammar.problem goal_y (tokens goal_y) (problem_of goal_y) refl refl) in
+    cc (subst (λ d. problem_faults d (problem_of goal_y) ≡ []) e (subst (λ p. problem_faults x.domain p ≡ []) f x.no_fault.problem))

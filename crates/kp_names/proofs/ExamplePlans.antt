@@ -130,36 +130,3 @@ a_alone plan = false≢true ((solves_theirs either_way unknown_p unknown_problem
 b_alone : IsPlan either_way unknown_p (step (codes "b") [] ∷ []) → ⊥
 unfolding cut_from class_of symbol_of some_at next_at unknown_problem
 b_alone plan = false≢true ((solves_theirs either_way unknown_p unknown_problem (step (codes "b") [] ∷ []) plan).reaches (state_of (problem_of unknown_p) (λ h. true)) (record { items = refl; absent = named_alone (problem_of unknown_p) (λ h. true) }))
-
--- ---- exactly one of three cells
-
-abbrev cells : List ℕ
-cells = codes "(define (domain cells) (:predicates (x1) (x2) (x3)) (:action left :effect (and (when (x3) (and (x2) (not (x3)))) (when (x2) (and (x1) (not (x2)))))))"
-
-abbrev one_of_three : List ℕ
-one_of_three = codes "(define (problem c) (:domain cells) (:init (oneof (x1) (x2) (x3))) (:goal (x1)))"
-
-cell_problem : HasProblem cells one_of_three
-unfolding cut_from class_of symbol_of some_at next_at
-cell_problem = has_problem cells one_of_three (record { domain_cut = refl; problem_cut = refl; domain_read = refl; problem_read = refl; domain_faults = refl; problem_faults = refl })
-
-left_twice : (s : State) (t u v : Bool) → s (codes "x1") [] ≡ t → s (codes "x2") [] ≡ u → s (codes "x3") [] ≡ v → IsInitial (problem_of one_of_three) s → succeeds (domain_of cells) (problem_of one_of_three) (step (codes "left") [] ∷ step (codes "left") [] ∷ []) s ≡ true
-unfolding cut_from class_of symbol_of some_at next_at
-left_twice s true true true e f g i = rw (e, f, g) refl
-left_twice s true true false e f g i = rw (e, f, g) refl
-left_twice s true false true e f g i = rw (e, f, g) refl
-left_twice s true false false e f g i = rw (e, f, g) refl
-left_twice s false true true e f g i = rw (e, f, g) refl
-left_twice s false true false e f g i = rw (e, f, g) refl
-left_twice s false false true e f g i = rw (e, f, g) refl
-left_twice s false false false e f g i = let h = i.items in absurd (false≢true (rw (e, f, g) at h))
-
--- two steps to the left lead from each cell to the first
-left_left : IsPlan cells one_of_three (step (codes "left") [] ∷ step (codes "left") [] ∷ [])
-unfolding cut_from class_of symbol_of some_at next_at cell_problem
-left_left = record { has = cell_problem; solves = record { instances = refl; reaches = λ s i. left_twice s (s (codes "x1") []) (s (codes "x2") []) (s (codes "x3") []) refl refl refl i } }
-
--- one step doesn't, from the third
-left_once : IsPlan cells one_of_three (step (codes "left") [] ∷ []) → ⊥
-unfolding cut_from class_of symbol_of some_at next_at cell_problem
-left_once plan = false≢true ((solves_theirs cells one_of_three cell_problem (step (codes "left") [] ∷ []) plan).reaches (state_of (problem_of one_of_three) (λ h. same h (codes "x3"))) (record { items = refl; absent = named_alone (problem_of one_of_three) (λ h. same h (codes "x3")) }))

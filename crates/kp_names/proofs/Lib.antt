@@ -3,6 +3,7 @@ pub mod Types
 pub mod Encoding
 pub mod Texts
 pub mod ExamplePlans
+pub mod ExampleCells
 pub mod ExampleTypes
 pub mod ExampleFaults
 pub mod ExampleStates

@@ -70,7 +70,7 @@ has_problem a b c = record {
 
 -- ---- the trees of two texts are the only ones
 
-reads_once : {b : Bool} {c : Sort} (X : Form b c) (text : List ℕ) (x y : El Word c) → ReadsAs X text x → ReadsAs X text y → x ≡ y
+pub reads_once : {b : Bool} {c : Sort} (X : Form b c) (text : List ℕ) (x y : El Word c) → ReadsAs X text x → ReadsAs X text y → x ≡ y
 reads_once {b} {c} X text x y r s =
     let same : r.tokens ≡ s.tokens = one_cutting _ _ r.cut s.cut in
     let reads : ReadBy b c X (all_seen_in text s.tokens) x [] = subst (λ ts. ReadBy b c X (all_seen_in text ts) x []) same r.reads in

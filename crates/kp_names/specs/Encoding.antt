@@ -1,6 +1,6 @@
--- How the name of an action or atom is written as one name, and read back.
-use Rattle.std.specs.Prelude.{◌≡◌, ℕ, Bool, true, false, not, ◌==◌, List, [], ◌∷◌, ◌++◌, if◌then◌else◌, Option, Some, None, option_map, option_and_then}
-use Rattle.std.specs.List.{list_any, flat_map}
+-- How the name of an action or atom is written as one word, and read back.
+use Rattle.std.specs.Prelude.{◌≡◌, ℕ, Bool, true, false, not, ◌==◌, List, [], ◌∷◌, ◌++◌, if◌then◌else◌, Option, Some, None, option_map, option_and_then, codes}
+use Rattle.std.specs.List.{list_any}
 use Rattle.kp_base.specs.declared.ground.GroundName.{GroundName}
 use Rattle.kp_names.specs.Names.{Name}
 
@@ -10,23 +10,25 @@ underscore = 95
 abbrev pub dash : ℕ
 dash = 45
 
--- the head and the objects of a name
-abbrev pub components : GroundName → List Name
-components n = n.head ∷ n.objects
+-- ---- writing
 
--- each underscore doubled
-abbrev pub escaped : Name → List ℕ
-escaped x = flat_map (λ b. if b == underscore then underscore ∷ underscore ∷ [] else b ∷ []) x
+-- an underscore stands doubled, any other byte for itself
+abbrev pub doubled_byte : ℕ → List ℕ
+doubled_byte b = if b == underscore then underscore ∷ underscore ∷ [] else b ∷ []
 
--- the components, each with its underscores doubled, and `_-` between each two
-abbrev pub joined : List Name → List ℕ
-joined [] = []
-joined (x ∷ []) = escaped x
-joined (x ∷ y ∷ ys) = escaped x ++ (underscore ∷ dash ∷ joined (y ∷ ys))
+-- each byte of a name
+abbrev pub doubled : Name → List ℕ
+doubled [] = []
+doubled (b ∷ bs) = doubled_byte b ++ doubled bs
 
--- a name written as one
+-- the objects, `_-` before each
+abbrev pub encoded_objects : List Name → List ℕ
+encoded_objects [] = []
+encoded_objects (o ∷ os) = codes "_-" ++ (doubled o ++ encoded_objects os)
+
+-- the head and the objects, `_-` between them
 abbrev pub encoded : GroundName → List ℕ
-encoded n = joined (components n)
+encoded n = doubled n.head ++ encoded_objects n.objects
 
 -- ---- reading back
 
@@ -35,7 +37,7 @@ abbrev pub with_byte : ℕ → List Name → List Name
 with_byte b [] = (b ∷ []) ∷ []
 with_byte b (x ∷ xs) = (b ∷ x) ∷ xs
 
--- The components, from the left: `__` is an underscore, `_-` ends a component, and no other byte follows an underscore.
+-- the components, from the left: `__` is an underscore, `_-` ends a component, and nothing else follows an underscore
 abbrev pub split : List ℕ → Option (List Name)
 split [] = Some ([] ∷ [])
 split (b ∷ []) = if b == underscore then None else Some ((b ∷ []) ∷ [])
@@ -50,25 +52,25 @@ abbrev pub is_empty : Name → Bool
 is_empty [] = true
 is_empty (b ∷ bs) = false
 
--- the name with these components, if none of them is empty
+-- the name with these components: a head and objects, none of them empty
 abbrev pub name_of : List Name → Option GroundName
 name_of [] = None
 name_of (x ∷ xs) = if list_any is_empty (x ∷ xs) then None else Some (record { head = x; objects = xs })
 
--- the name that is written so, if there is one
+-- the name that is written so; none where the word is no encoded name
 abbrev pub decoded : List ℕ → Option GroundName
-decoded text = option_and_then name_of (split text)
+decoded word = option_and_then name_of (split word)
 
 -- ---- laws
 
--- no component is empty
+-- neither the head nor an object is empty
 abbrev pub HasNoEmptyPart : GroundName → Type 0
-HasNoEmptyPart n = list_any is_empty (components n) ≡ false
+HasNoEmptyPart n = list_any is_empty (n.head ∷ n.objects) ≡ false
 
 -- what was encoded is decoded again
 abbrev pub EncodedDecodes : Type 0
 EncodedDecodes = (n : GroundName) → HasNoEmptyPart n → decoded (encoded n) ≡ Some n
 
--- what is decoded has no empty component, and is written so
+-- what is decoded has no empty part, and is written so
 abbrev pub DecodedIsEncoding : Type 0
-DecodedIsEncoding = (text : List ℕ) (n : GroundName) → decoded text ≡ Some n → HasNoEmptyPart n × (encoded n ≡ text)
+DecodedIsEncoding = (word : List ℕ) (n : GroundName) → decoded word ≡ Some n → HasNoEmptyPart n × (encoded n ≡ word)

@@ -61,20 +61,20 @@ fits d p (Some a) os = list_any (all_same os) (object_lists d p a.params)
 abbrev pub is_instance : Domain Word → Problem Word → Step → Bool
 is_instance d p i = fits d p (schema_of d i) i.objects
 
--- the precondition holds under the objects
-abbrev pub meets : Option (Schema Word) → List Name → State → Bool
-meets None os s = false
-meets (Some a) os s = holds s (parameters a os) a.pre
+-- the precondition of the schema holds under the objects
+abbrev pub permits : Option (Schema Word) → List Name → State → Bool
+permits None os s = false
+permits (Some a) os s = holds s (parameters a os) a.pre
 
 -- whether a step may be taken in a state
 abbrev pub applicable : Domain Word → Step → State → Bool
-applicable d i s = meets (schema_of d i) i.objects s
+applicable d i s = permits (schema_of d i) i.objects s
 
--- the state behind the effect under the objects; all conditions are read in the state before
-abbrev pub behind : Domain Word → Problem Word → Option (Schema Word) → List Name → State → State
-behind d p None os s = s
-behind d p (Some a) os s = after (fires d p s (parameters a os) a.effect) s
+-- the state after the effect under the objects; all conditions are read in the state before
+abbrev pub state_by : Domain Word → Problem Word → Option (Schema Word) → List Name → State → State
+state_by d p None os s = s
+state_by d p (Some a) os s = after (fires d p s (parameters a os) a.effect) s
 
 -- the state after a step
 abbrev pub next : Domain Word → Problem Word → Step → State → State
-next d p i s = behind d p (schema_of d i) i.objects s
+next d p i s = state_by d p (schema_of d i) i.objects s
