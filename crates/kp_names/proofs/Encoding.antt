@@ -3,7 +3,7 @@ use Rattle.std.proofs.Common.{◌≡◌, ℕ, Bool, true, false, not, List, [], 
 use Rattle.std.specs.List.{list_any}
 use Rattle.kp_base.specs.declared.ground.GroundName.{GroundName}
 use Rattle.kp_names.specs.Names.{Name}
-use Rattle.kp_names.specs.Encoding.{underscore, dash, doubled_byte, doubled, encoded_objects, encoded, with_byte, split, is_empty, name_of, HasNoEmptyPart, EncodedDecodes, DecodedIsEncoding}
+use Rattle.kp_names.specs.Encoding.{underscore, dash, doubled, encoded_objects, encoded, with_byte, split, is_empty, name_of, HasNoEmptyPart, EncodedDecodes, DecodedIsEncoding}
 
 abbrev name : Name → List Name → GroundName
 name x xs = record { head = x; objects = xs }
@@ -89,9 +89,11 @@ some_component (b ∷ c ∷ cs) h = pick (b == underscore) (c == underscore) (c 
     in_front d None e = cc
     in_front d (Some []) e = cc
     in_front d (Some (x ∷ xs)) e = cc
+
     ended : (o : Option (List Name)) → option_map (λ xs. [] ∷ xs) o ≡ Some [] → ⊥
     ended None e = cc
     ended (Some xs) e = cc
+
     pick : (t u v : Bool) → (if not t then option_map (with_byte b) (split (c ∷ cs)) else if u then option_map (with_byte underscore) (split cs) else if v then option_map (λ xs. [] ∷ xs) (split cs) else None) ≡ Some [] → ⊥
     pick false u v e = in_front b (split (c ∷ cs)) e
     pick true true v e = in_front underscore (split cs) e

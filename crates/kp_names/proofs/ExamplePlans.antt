@@ -1,19 +1,18 @@
 -- Plans and lists that are no plans, computed from texts.
 use Rattle.std.proofs.Common.{◌≡◌, ℕ, Bool, true, false, ◌&&◌, List, [], ◌∷◌, refl, codes}
 use Rattle.std.proofs.lemmas.Bool.{false≢true}
-use Rattle.kp_base.specs.declared.ground.GroundName.{GroundName}
 use Rattle.kp_lex.specs.Bytes.{class_of}
 use Rattle.kp_lex.specs.Scanning.{cut_from}
 use Rattle.kp_tree.specs.Symbols.{symbol_of}
 use Rattle.kp_tree.specs.Parsing.{some_at, next_at}
 use Rattle.kp_tree.specs.declared.tree.Word.{Word}
 use Rattle.kp_tree.specs.Trees.{Problem}
-use Rattle.kp_names.specs.Names.{Name, same}
+use Rattle.kp_names.specs.Names.{Name}
 use Rattle.kp_names.specs.States.{State}
 use Rattle.kp_names.specs.Steps.{Step, is_instance}
-use Rattle.kp_names.specs.Initial.{is_named, IsInitial}
-use Rattle.kp_names.specs.Plans.{HasProblem, succeeds, Solves, IsPlan}
-use Rattle.kp_names.proofs.Texts.{domain_of, problem_of, Computes, has_problem, solves_theirs}
+use Rattle.kp_names.specs.Initial.{is_named}
+use Rattle.kp_names.specs.Plans.{HasProblem, succeeds, IsPlan}
+use Rattle.kp_names.proofs.Texts.{domain_of, problem_of, has_problem, solves_theirs}
 
 abbrev step : List ℕ → List Name → Step
 step head objects = record { head = head; objects = objects }

@@ -2,13 +2,12 @@
 use Rattle.std.proofs.Common.{◌≡◌, ℕ, Bool, true, false, List, [], ◌∷◌, refl, codes}
 use Rattle.std.proofs.lemmas.Bool.{false≢true, true≢false}
 use Rattle.std.specs.List.{list_all}
-use Rattle.kp_base.specs.declared.ground.GroundName.{GroundName}
 use Rattle.kp_lex.specs.Bytes.{class_of}
 use Rattle.kp_lex.specs.Scanning.{cut_from}
 use Rattle.kp_tree.specs.Symbols.{symbol_of}
 use Rattle.kp_tree.specs.Parsing.{some_at, next_at}
-use Rattle.kp_names.specs.Names.{Name, is_among, all_same, same}
-use Rattle.kp_names.specs.States.{State, Literal, unbound, holds}
+use Rattle.kp_names.specs.Names.{Name, is_among}
+use Rattle.kp_names.specs.States.{State}
 use Rattle.kp_names.specs.Steps.{Step, applicable, next}
 use Rattle.kp_names.specs.Initial.{item_holds, IsInitial}
 use Rattle.kp_names.proofs.Texts.{domain_of, problem_of}

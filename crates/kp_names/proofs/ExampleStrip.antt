@@ -1,6 +1,5 @@
 -- Stripped lists of steps and written names, computed.
-use Rattle.std.proofs.Common.{◌≡◌, ℕ, List, [], ◌∷◌, Option, Some, None, refl, codes}
-use Rattle.kp_base.specs.declared.ground.GroundName.{GroundName}
+use Rattle.std.proofs.Common.{◌≡◌, ℕ, List, [], ◌∷◌, Some, None, refl, codes}
 use Rattle.kp_names.specs.Names.{Name}
 use Rattle.kp_names.specs.Steps.{Step}
 use Rattle.kp_names.specs.Encoding.{encoded, decoded}

@@ -1,12 +1,11 @@
 -- Types, ranges and instances, computed from texts.
 use Rattle.std.proofs.Common.{◌≡◌, ℕ, Bool, true, false, List, [], ◌∷◌, refl, codes}
-use Rattle.kp_base.specs.declared.ground.GroundName.{GroundName}
 use Rattle.kp_lex.specs.Bytes.{class_of}
 use Rattle.kp_lex.specs.Scanning.{cut_from}
 use Rattle.kp_tree.specs.Symbols.{symbol_of}
 use Rattle.kp_tree.specs.Parsing.{some_at, next_at}
-use Rattle.kp_names.specs.Names.{Name, is_among}
-use Rattle.kp_names.specs.Types.{types, is_below, objects, is_of_type}
+use Rattle.kp_names.specs.Names.{is_among}
+use Rattle.kp_names.specs.Types.{types, is_below, objects}
 use Rattle.kp_names.specs.Steps.{is_instance}
 use Rattle.kp_names.proofs.Texts.{domain_of, problem_of}
 

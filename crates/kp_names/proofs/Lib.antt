@@ -2,6 +2,8 @@ pub mod Lists
 pub mod Types
 pub mod Encoding
 pub mod Texts
+pub mod Places
+pub mod PlacesOfFaults
 pub mod ExamplePlans
 pub mod ExampleCells
 pub mod ExampleTypes

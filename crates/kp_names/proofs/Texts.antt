@@ -1,17 +1,16 @@
 -- Texts that are cut and read by computing, and that a text has one tree.
-use Rattle.std.proofs.Common.{◌≡◌, ℕ, Bool, List, [], ◌∷◌, Result, Ok, Err, refl, subst}
+use Rattle.std.proofs.Common.{◌≡◌, ℕ, Bool, List, [], Result, Ok, Err, subst}
 use Rattle.kp_lex.specs.declared.token.Token.{Token}
 use Rattle.kp_lex.specs.Scanning.{cut}
-use Rattle.kp_lex.specs.Cutting.{Cut}
 use Rattle.kp_lex.proofs.Outcomes.{one_cutting}
 use Rattle.kp_lex.proofs.Exact.{Tells, cut_tells}
 use Rattle.kp_tree.specs.declared.tree.Word.{Word}
-use Rattle.kp_tree.specs.Symbols.{Tok, all_seen_in}
+use Rattle.kp_tree.specs.Symbols.{all_seen_in}
 use Rattle.kp_tree.specs.Trees.{Domain, Problem, Cond, no_cond}
-use Rattle.kp_tree.specs.Sorts.{Sort, s_domain, s_problem, El}
+use Rattle.kp_tree.specs.Sorts.{Sort, El}
 use Rattle.kp_tree.specs.Forms.{Form}
 use Rattle.kp_tree.specs.Grammar as grammar
-use Rattle.kp_tree.specs.Reading.{At, ReadBy}
+use Rattle.kp_tree.specs.Reading.{ReadBy}
 use Rattle.kp_tree.specs.Parsing.{Outcome, go, level}
 use Rattle.kp_tree.specs.PlainTexts.{ReadsAs}
 use Rattle.kp_tree.proofs.Exact.{go_reads, once_read}

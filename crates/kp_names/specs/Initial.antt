@@ -14,7 +14,7 @@ by_name l = literal l.positive l.atom unbound
 abbrev pub one_holds : State → List Literal → Bool
 one_holds s ls = list_any (λ l. literal_holds s l && list_all (λ m. not (literal_holds s m) || same_literal l m) ls) ls
 
--- whether an item holds in a state; `unknown` states nothing
+-- whether an item holds in a state; `unknown` holds in all
 abbrev mutual
   pub item_holds : State → Item Word → Bool
   item_holds s (Item.items is) = items_hold s is
@@ -48,7 +48,7 @@ is_of h os l = same l.head h && all_same l.objects os
 abbrev pub is_named : Problem Word → Name → List Name → Bool
 is_named p h os = list_any (λ i. list_any (is_of h os) (item_literals i)) p.init
 
--- each item holds, and each atom that no item names is absent
+-- all that `:init` states is true, and nothing holds that it doesn't mention
 pub record IsInitial (p : Problem Word) (s : State) : Type 0 where
   pub items : list_all (item_holds s) p.init ≡ true
   pub absent : (h : Name) (os : List Name) → is_named p h os ≡ false → s h os ≡ false

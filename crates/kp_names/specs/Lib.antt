@@ -7,3 +7,4 @@ pub mod Initial
 pub mod Plans
 pub mod Encoding
 pub mod Strip
+pub mod Places

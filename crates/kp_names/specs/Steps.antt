@@ -14,7 +14,7 @@ use Rattle.kp_names.specs.States.{State, Binding, unbound, bind, Literal, names_
 abbrev pub object_lists : Domain Word → Problem Word → List (Typed Word) → List (List Name)
 object_lists d p xs = choices (map (range d p) xs)
 
--- the literals that an effect names in a state: those of all parts, of a part whose condition holds, of a part for each object list
+-- the literals that an effect names in a state: those of all its parts, of what stands under a condition that holds, of the body for each list of objects
 abbrev mutual
   pub fires : Domain Word → Problem Word → State → Binding → Eff Word → List Literal
   fires d p s b (Eff.both es) = all_fire d p s b es
@@ -34,7 +34,7 @@ is_added fired h os = names_literal fired (record { positive = true; head = h; o
 abbrev pub is_deleted : List Literal → Name → List Name → Bool
 is_deleted fired h os = names_literal fired (record { positive = false; head = h; objects = os })
 
--- the state without the deleted atoms, and then with the added ones: an add wins over a delete
+-- the deleted atoms go, and then the added ones come; one that is both is there at the end
 abbrev pub after : List Literal → State → State
 after fired s h os = is_added fired h os || (s h os && not (is_deleted fired h os))
 

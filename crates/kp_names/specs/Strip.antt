@@ -1,7 +1,6 @@
 -- What a plan of the written files comes to in the given ones.
 use Rattle.std.specs.Prelude.{ℕ, Bool, false, ◌&&◌, not, ◌==◌, nat_eq, nat_le, List, [], ◌∷◌, ◌++◌, if◌then◌else◌, Option, Some, None, option_map, option_and_then, unwrap_or, codes, drop, length}
 use Rattle.std.specs.List.{list_all, starts_with}
-use Rattle.kp_base.specs.declared.ground.GroundName.{GroundName}
 use Rattle.kp_names.specs.Names.{Name}
 use Rattle.kp_names.specs.Steps.{Step}
 use Rattle.kp_names.specs.Encoding.{decoded}
@@ -22,7 +21,7 @@ past front text = if starts_with nat_eq text front then Some (drop (length front
 abbrev pub is_digit : ℕ → Bool
 is_digit b = nat_le 48 b && nat_le b 57
 
--- decimal digits without a leading zero, but for 0 alone
+-- a number as it is written in decimal: digits, the first of several not 0
 abbrev pub is_number : List ℕ → Bool
 is_number [] = false
 is_number (b ∷ []) = is_digit b

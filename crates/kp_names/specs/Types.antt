@@ -32,7 +32,7 @@ types_of x = or_object (names x.kinds)
 abbrev pub types : Domain Word → List Name
 types d = object ∷ flat_map (λ x. x.word.text ∷ names x.kinds) d.kinds
 
--- A type is below its parents and below `object`, reflexively and transitively; in a cycle each is below each.
+-- The least reflexive and transitive order with each type below its parents, and every type below `object`.
 pub data IsBelow (kinds : List (Typed Word)) : Name → Name → Type 0 where
   itself : {t : Name} → IsBelow kinds t t
   root : {t : Name} → IsBelow kinds t object
@@ -58,7 +58,7 @@ IsTypeTestExact = (kinds : List (Typed Word)) (t u : Name) → (is_below kinds t
 
 -- ---- objects
 
--- the lines that declare objects: constants of the domain, then objects of the problem
+-- the lines that declare objects: the domain's constants, and then the problem's objects
 abbrev pub object_lines : Domain Word → Problem Word → List (Typed Word)
 object_lines d p = d.constants ++ p.objects
 
@@ -66,10 +66,10 @@ object_lines d p = d.constants ++ p.objects
 abbrev pub objects : Domain Word → Problem Word → List Name
 objects d p = distinct (declared (object_lines d p))
 
--- an object is of a type where one of its types is below it; it has the types of all its lines
+-- whether some line gives the object a type that is below this one
 abbrev pub is_of_type : Domain Word → Problem Word → Name → Name → Bool
 is_of_type d p o t = list_any (λ x. same x.word.text o && list_any (λ k. is_below d.kinds k t) (types_of x)) (object_lines d p)
 
--- a variable ranges over the objects of any of its types
+-- the objects that a variable may stand for: those of one of its types
 abbrev pub range : Domain Word → Problem Word → Typed Word → List Name
 range d p v = filter (λ o. list_any (is_of_type d p o) (types_of v)) (objects d p)
