@@ -6,6 +6,7 @@ pub mod Places
 pub mod PlacesOfFaults
 pub mod ExamplePlans
 pub mod ExampleCells
+pub mod ExampleWritten
 pub mod ExampleTypes
 pub mod ExampleFaults
 pub mod ExampleStates

@@ -1,5 +1,6 @@
 -- States, and when a condition holds in one.
 use Rattle.std.specs.Prelude.{Bool, true, ◌&&◌, List, [], ◌∷◌, map, if◌then◌else◌}
+use Rattle.std.specs.Bool.{beq}
 use Rattle.std.specs.List.{list_any}
 use Rattle.kp_tree.specs.declared.tree.Word.{Word}
 use Rattle.kp_tree.specs.Trees.{Term, Atom, Cond, Conds}
@@ -35,7 +36,7 @@ pub record Literal : Type 0 where
 
 -- whether two literals are one
 abbrev pub same_literal : Literal → Literal → Bool
-same_literal l m = signed l.positive m.positive && (same l.head m.head && all_same l.objects m.objects)
+same_literal l m = beq l.positive m.positive && (same l.head m.head && all_same l.objects m.objects)
 
 -- whether the literal stands in the list
 abbrev pub names_literal : List Literal → Literal → Bool

@@ -2,3 +2,8 @@
 #![tactic(auto)]
 
 mod laws;
+
+pub use laws::{
+    places_mean_nothing, texts_have_one_problem, type_test_is_exact, what_decodes_was_encoded,
+    what_was_encoded_decodes,
+};
