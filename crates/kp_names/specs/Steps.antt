@@ -10,7 +10,7 @@ use Rattle.kp_names.specs.States.{State, Binding, unbound, bind, Literal, names_
 
 -- ---- effects
 
--- the lists with an object of its types for each variable, the first variable slowest
+-- the lists with an object in the range of each variable, the first variable slowest
 abbrev pub object_lists : Domain Word → Problem Word → List (Typed Word) → List (List Name)
 object_lists d p xs = choices (map (range d p) xs)
 
@@ -52,12 +52,12 @@ schema_of d i = find (λ a. same a.name.text i.head) d.schemas
 abbrev pub parameters : Schema Word → List Name → Binding
 parameters a os = bind (declared a.params) os unbound
 
--- the objects are one of its types for each parameter
+-- the objects are one of the lists for the schema's parameters
 abbrev pub fits : Domain Word → Problem Word → Option (Schema Word) → List Name → Bool
 fits d p None os = false
 fits d p (Some a) os = list_any (all_same os) (object_lists d p a.params)
 
--- whether a step is an instance: the name of a schema with a declared object of the right type for each parameter
+-- whether a step is an instance: it names a schema, and an object in the range of each of its parameters
 abbrev pub is_instance : Domain Word → Problem Word → Step → Bool
 is_instance d p i = fits d p (schema_of d i) i.objects
 
