@@ -1,0 +1,13 @@
+pub mod Lists
+pub mod Types
+pub mod Encoding
+pub mod Texts
+pub mod Places
+pub mod PlacesOfFaults
+pub mod ExamplePlans
+pub mod ExampleCells
+pub mod ExampleWritten
+pub mod ExampleTypes
+pub mod ExampleFaults
+pub mod ExampleStates
+pub mod ExampleStrip
