@@ -1,4 +1,3 @@
-pub mod Encoding
 pub mod Pieces
 pub mod Task
 pub mod Written

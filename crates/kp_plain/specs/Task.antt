@@ -8,7 +8,7 @@ use Rattle.kp_base.specs.declared.ground.Action.{Action}
 use Rattle.kp_base.specs.declared.ground.Ground.{Ground}
 use Rattle.kp_base.specs.Lit.{negated}
 use Rattle.kp_base.specs.LitSet.{with_lit}
-use Rattle.kp_plain.specs.Encoding.{encoded}
+use Rattle.kp_names.specs.Encoding.{encoded}
 
 -- a fact that holds, or doesn't, by name
 pub record Signed : Type 0 where
