@@ -1,5 +1,6 @@
-ghost use Rattle.std.specs.Prelude.{◌≡◌, ◌≢◌, ◌⊎◌, ℕ, List, Some, IfOk, IsNone};
+ghost use Rattle.std.specs.Prelude.{◌≡◌, ◌≢◌, ◌⊎◌, ℕ, List, Some, IfOk, IsNone, IsErrOf};
 ghost use Rattle.std.specs.FinMap as map_of;
+ghost use Rattle.kp_outside.specs.declared.outside.OutsideStop.TheVariants as stops;
 ghost use Rattle.kp_outside.specs.Outside.{FileMap, Rises};
 ghost use Rattle.kp_run.specs.declared.status.Status.TheVariants as status;
 ghost use Rattle.kp_run.specs.Command.{Command as Names, IsCommand, IsNoCommand};
@@ -28,6 +29,8 @@ fn read_report<S: Shelf>(
     ensures text { IfOk result HasItsText }
     ensures contents { S.contents shelf.new ≡ S.contents shelf.old }
     ensures faults { CountsGets result command.now (S.get_faults shelf.old) (S.get_faults shelf.new) }
+    ensures domain_first { (m : FileMap) → S.contents shelf.old ≡ Some m → IsNone (map_of.get m command.now.domain) → IsErrOf result stops.Failed
+        → Rises (S.get_faults shelf.old command.now.domain) (S.get_faults shelf.new command.now.domain) }
     ensures put_faults { (q : List ℕ) → S.put_faults shelf.new q ≡ S.put_faults shelf.old q }
 {
     let domain = shelf.get(alloc, command.domain, MOST)?;
@@ -69,6 +72,9 @@ pub fn run<S: Shelf, O: Sink>(
     // A file that is to be read and isn't held is a fault.
     ensures not_held { (m : FileMap) (c : Names) → S.contents shelf.old ≡ Some m → IsCommand words.now c → IsNone (map_of.get m c.domain) ⊎ IsNone (map_of.get m c.problem)
         → (result ≡ status.ReadFault) ⊎ (result ≡ status.Memory) }
+    // The domain is read first: where it isn't held, a failing read is the one of the domain.
+    ensures domain_first { (m : FileMap) (c : Names) → S.contents shelf.old ≡ Some m → IsCommand words.now c → IsNone (map_of.get m c.domain) → result ≡ status.ReadFault
+        → Rises (S.get_faults shelf.old c.domain) (S.get_faults shelf.new c.domain) }
     // What is held afterwards.
     ensures puts { (c : Names) → IsCommand words.now c → (files : Files) × Puts (IsDue words.now (S.contents shelf.old) status.Done) c files (S.contents shelf.old) (S.contents shelf.new) (S.put_faults shelf.old) (S.put_faults shelf.new) result }
     ensures puts_nothing { IsNoCommand words.now → S.contents shelf.new ≡ S.contents shelf.old }
