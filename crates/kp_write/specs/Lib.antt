@@ -1,0 +1,5 @@
+pub mod Tokens
+pub mod Maps
+pub mod Names
+pub mod Trees
+pub mod Texts

@@ -1,0 +1,25 @@
+//! Laws of the written texts, each proved as the contract of a function that does nothing.
+
+ghost use Rattle.kp_write.specs.Maps.{PlacesDontMatter};
+ghost use Rattle.kp_write.specs.Texts.{DomainReadsAsMeant, ProblemReadsAsMeant};
+ghost use Rattle.kp_write.specs.Tokens.{FinePiecesAreCut};
+
+/// Pieces of which each word is a token that ends where it ends are cut into their words, at their spans.
+pub fn pieces_are_cut()
+    ensures { FinePiecesAreCut }
+{}
+
+/// What tokens read as without their places, they read as with them.
+pub fn places_dont_matter()
+    ensures { PlacesDontMatter }
+{}
+
+/// The written domain of facts and operators whose names can be written is cut and reads as their domain.
+pub fn written_domains_read()
+    ensures { DomainReadsAsMeant }
+{}
+
+/// The written problem of facts whose names can be written is cut and reads as their problem.
+pub fn written_problems_read()
+    ensures { ProblemReadsAsMeant }
+{}
