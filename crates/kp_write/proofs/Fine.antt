@@ -29,7 +29,7 @@ follow_all : (bs : List ℕ) → all_follow bs ≡ true → AllAre follows bs
 follow_all [] e = tt
 follow_all (b ∷ bs) e = let h = and_parts (follows b) (all_follow bs) e in (h.0, follow_all bs h.1)
 
-named : (w : List ℕ) → is_spelled kinds.Name w ≡ true → IsToken kinds.Name w
+pub named : (w : List ℕ) → is_spelled kinds.Name w ≡ true → IsToken kinds.Name w
 unfolding class_of
 named [] e = absurd cc
 named (b ∷ bs) e = let h = and_parts (is_alphanumeric b) (all_follow bs) e in a_name (rw h.0 refl) (follow_all bs h.1)

@@ -4,3 +4,6 @@ pub mod Natural
 pub mod Fine
 pub mod Reading
 pub mod Whole
+pub mod Composed
+pub mod Faultless
+pub mod ExampleFiles

@@ -3,3 +3,4 @@ pub mod Maps
 pub mod Names
 pub mod Trees
 pub mod Texts
+pub mod Problems

@@ -1,6 +1,7 @@
 //! Laws of the written texts, each proved as the contract of a function that does nothing.
 
 ghost use Rattle.kp_write.specs.Maps.{PlacesDontMatter};
+ghost use Rattle.kp_write.specs.Problems.{WrittenTextsHaveProblem};
 ghost use Rattle.kp_write.specs.Texts.{DomainReadsAsMeant, ProblemReadsAsMeant};
 ghost use Rattle.kp_write.specs.Tokens.{FinePiecesAreCut};
 
@@ -22,4 +23,9 @@ pub fn written_domains_read()
 /// The written problem of facts whose names can be written is cut and reads as their problem.
 pub fn written_problems_read()
     ensures { ProblemReadsAsMeant }
+{}
+
+/// The two texts of a task have a problem, and without its places it is the task's.
+pub fn written_texts_have_a_problem()
+    ensures { WrittenTextsHaveProblem }
 {}

@@ -3,4 +3,7 @@
 
 mod laws;
 
-pub use laws::{pieces_are_cut, places_dont_matter, written_domains_read, written_problems_read};
+pub use laws::{
+    pieces_are_cut, places_dont_matter, written_domains_read, written_problems_read,
+    written_texts_have_a_problem,
+};
