@@ -14,19 +14,11 @@ use Rattle.kp_write.specs.Tokens.{text_of}
 use Rattle.kp_write.specs.Names.{IsHead, IsEffect, IsOp, AreHeads, AreOps}
 use Rattle.kp_write.specs.Trees.{atom_of, fact_holds, signed_holds, made, made_where, effect_of, schema_of, predicate_of, item_of, written_domain, written_problem}
 use Rattle.kp_write.specs.Problems.{AreAmong, IsEffectOn, IsOpOn, IsTask, WrittenTextsHaveProblem}
-use Rattle.kp_write.proofs.Composed.{domain_twice, problem_twice}
+use Rattle.kp_write.proofs.Lists.{every, one_of_all}
+use Rattle.kp_write.proofs.Placed.{at_start, placed_domain, placed_problem, moved, domain_moved, problem_moved, same_no}
 use Rattle.kp_write.proofs.Whole.{written_domains_read, written_problems_read}
 
 -- ---- what is used can be written
-
-every : {T : Type 0} (P Q : T → Type 0) → ((x : T) → P x → Q x) → (xs : List T) → AllByRecursion P xs → AllByRecursion Q xs
-every P Q f [] all = tt
-every P Q f (x ∷ xs) all = (f x all.0, every P Q f xs all.1)
-
-one_of_all : {T : Type 0} (P : T → Type 0) (xs : List T) (x : T) → AllByRecursion P xs → Member xs x → P x
-one_of_all P [] x all m = absurd m
-one_of_all P (y ∷ ys) x all (inl e) = subst P e all.0
-one_of_all P (y ∷ ys) x all (inr m) = one_of_all P ys x all.1 m
 
 module _ (facts : List (List ℕ)) (heads : AreHeads facts) where
   head_is : (n : List ℕ) → Member facts n → IsHead n
@@ -41,19 +33,7 @@ module _ (facts : List (List ℕ)) (heads : AreHeads facts) where
   op_is : (o : Op) → IsOpOn facts o → IsOp o
   op_is o h = record { name = h.name; pre = heads_are o.pre h.pre; effects = every (IsEffectOn facts) IsEffect effect_is o.effects h.effects }
 
--- ---- the trees with every word at one place
-
--- the word at the first byte
-abbrev at_start : List ℕ → Word
-at_start n = record { text = n; byte = zero }
-
 -- ---- no declaration twice
-
-same-sym : (x y : Name) → same x y ≡ false → same y x ≡ false
-same-sym x y e = go (same y x) refl where
-  go : (b : Bool) → same y x ≡ b → same y x ≡ false
-  go false h = h
-  go true h = absurd (false≢true (sym e ∙ ap (same x) (same-true y x h) ∙ same-refl x))
 
 neither : (a b : Bool) → a ≡ false → b ≡ false → a || b ≡ false
 neither false false e h = refl
@@ -62,7 +42,7 @@ neither false true e h = absurd cc
 
 none_among : (x : Name) (earlier ys : List Name) → AllByRecursion (λ y. same x y ≡ false) ys → AllByRecursion (λ y. is_among earlier y ≡ false) ys → AllByRecursion (λ y. is_among (x ∷ earlier) y ≡ false) ys
 none_among x earlier [] a b = tt
-none_among x earlier (y ∷ ys) a b = (neither (same y x) (is_among earlier y) (same-sym x y a.0) b.0, none_among x earlier ys a.1 b.1)
+none_among x earlier (y ∷ ys) a b = (neither (same y x) (is_among earlier y) (same_no x y a.0) b.0, none_among x earlier ys a.1 b.1)
 
 none_twice : (earlier ns : List Name) → IsDistinct same ns → AllByRecursion (λ y. is_among earlier y ≡ false) ns → repeated earlier (map at_start ns) ≡ []
 unfolding IsDistinct
@@ -92,10 +72,10 @@ declared_fact (x ∷ xs) n m = go (declared_fact xs n) (same x n) refl m where
 
 module _ (facts : List (List ℕ)) (ops : List Op) (start goal : List (List ℕ)) where
   abbrev d : Domain Word
-  d = domain_map at_start (written_domain facts ops)
+  d = placed_domain facts ops
 
   abbrev p : Problem Word
-  p = problem_map at_start (written_problem start goal)
+  p = placed_problem start goal
 
   atom_ok : (scope : List Name) (n : List ℕ) → Member facts n → atom_faults d p scope (atom_map at_start (atom_of n)) ≡ []
   atom_ok scope n m = rw (declared_fact facts n m) refl
@@ -150,17 +130,11 @@ module _ (facts : List (List ℕ)) (ops : List Op) (start goal : List (List ℕ)
 
 -- ---- the problem of the texts
 
--- every word at the first byte
-abbrev moved : Word → Word
-moved w = at_start (text_of w)
-
 pub written_texts_have_problem : WrittenTextsHaveProblem
 written_texts_have_problem facts ops start goal t =
     let a = written_domains_read facts ops t.heads (every (IsOpOn facts) IsOp (op_is facts t.heads) ops t.operators) in
     let b = written_problems_read start goal (heads_are facts t.heads start t.start_among) (heads_are facts t.heads goal t.goal_among) in
-    let domain_moved : domain_map at_start (written_domain facts ops) ≡ domain_map moved a.tree = ap (domain_map at_start) (sym a.is) ∙ domain_twice text_of at_start a.tree in
-    let problem_moved : problem_map at_start (written_problem start goal) ≡ problem_map moved b.tree = ap (problem_map at_start) (sym b.is) ∙ problem_twice text_of at_start b.tree in
-    let clean : HasNoFault (domain_map moved a.tree) (problem_map moved b.tree) = subst (λ x. HasNoFault x (problem_map moved b.tree)) domain_moved (subst (λ y. HasNoFault (domain_map at_start (written_domain facts ops)) y) problem_moved (no_fault facts ops start goal t)) in
+    let clean : HasNoFault (domain_map moved a.tree) (problem_map moved b.tree) = subst (λ x. HasNoFault x (problem_map moved b.tree)) (domain_moved a.tree (written_domain facts ops) a.is) (subst (λ y. HasNoFault (placed_domain facts ops) y) (problem_moved b.tree (written_problem start goal) b.is) (no_fault facts ops start goal t)) in
     record {
       has = record { domain = a.tree; problem = b.tree; domain_reads = a.reads; problem_reads = b.reads; no_fault = (places_mean_nothing moved (λ w. refl) a.tree b.tree).faults.1 clean };
       domain = a.is;

@@ -11,19 +11,8 @@ use Rattle.kp_tree.specs.Reading.{At, stop, stop_by, reason_of, ReadBy, r_token,
 use Rattle.kp_tree.proofs.Exact.{reads_once, reads_or_stops, always_one}
 use Rattle.kp_names.specs.Places.{typed_map, cond_map, conds_map, eff_map, effs_map, lit_map, item_map, items_map, pred_map, schema_map}
 use Rattle.kp_write.specs.Tokens.{text_of, bare}
+use Rattle.kp_write.proofs.Lists.{map_swap, flat_swap}
 use Rattle.kp_write.specs.Maps.{section_map, given_map, lits_map, el_map, ReadsWithPlaces, PlacesDontMatter}
-
-map_join : {A B : Type 0} (f : A → B) (xs ys : List A) → map f (xs ++ ys) ≡ map f xs ++ map f ys
-map_join f [] ys = refl
-map_join f (x ∷ xs) ys = ap (λ zs. f x ∷ zs) (map_join f xs ys)
-
-map_swap : {A B C D : Type 0} (f : B → D) (g : A → B) (h : C → D) (k : A → C) (xs : List A) → ((x : A) → f (g x) ≡ h (k x)) → map f (map g xs) ≡ map h (map k xs)
-map_swap f g h k [] e = refl
-map_swap f g h k (x ∷ xs) e = rw (e x, map_swap f g h k xs e) refl
-
-flat_swap : {A B C D : Type 0} (f : B → D) (g : A → List B) (h : C → List D) (k : A → C) (xs : List A) → ((x : A) → map f (g x) ≡ h (k x)) → map f (flat_map g xs) ≡ flat_map h (map k xs)
-flat_swap f g h k [] e = refl
-flat_swap f g h k (x ∷ xs) e = map_join f (g x) (flat_map g xs) ∙ rw (e x, flat_swap f g h k xs e) refl
 
 module _ {V W : Type 0} (f : V → W) where
   -- ---- each maker makes the same of other words

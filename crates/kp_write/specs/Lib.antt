@@ -4,3 +4,4 @@ pub mod Names
 pub mod Trees
 pub mod Texts
 pub mod Problems
+pub mod Runs

@@ -2,6 +2,7 @@
 
 ghost use Rattle.kp_write.specs.Maps.{PlacesDontMatter};
 ghost use Rattle.kp_write.specs.Problems.{WrittenTextsHaveProblem};
+ghost use Rattle.kp_write.specs.Runs.{PlansAreRuns};
 ghost use Rattle.kp_write.specs.Texts.{DomainReadsAsMeant, ProblemReadsAsMeant};
 ghost use Rattle.kp_write.specs.Tokens.{FinePiecesAreCut};
 
@@ -28,4 +29,9 @@ pub fn written_problems_read()
 /// The two texts of a task have a problem, and without its places it is the task's.
 pub fn written_texts_have_a_problem()
     ensures { WrittenTextsHaveProblem }
+{}
+
+/// The plans of the two texts of a task are the lists of its operators that run from its start and meet its goal.
+pub fn plans_are_runs()
+    ensures { PlansAreRuns }
 {}
