@@ -1,18 +1,17 @@
 -- The written texts of a task have a problem: no name in them is at fault.
-use Rattle.std.proofs.Common.{◌≡◌, ℕ, zero, Bool, true, false, ◌||◌, cond as if_then, List, [], ◌∷◌, ◌++◌, map, find, inl, inr, refl, sym, ap, subst, ◌∙◌}
+use Rattle.std.proofs.Common.{◌≡◌, ℕ, Bool, true, false, ◌||◌, List, [], ◌∷◌, map, find, inl, inr, refl, sym, ap, subst, ◌∙◌}
 use Rattle.std.proofs.lemmas.Bool.{false≢true}
-use Rattle.std.specs.List.{AllByRecursion, IsDistinct, list_any, flat_map}
+use Rattle.std.specs.List.{AllByRecursion, IsDistinct, flat_map}
 use Rattle.kp_tree.specs.declared.tree.Word.{Word}
-use Rattle.kp_tree.specs.Trees.{Cond, conds_of, Eff, effs_of, Pred, Domain, Problem}
+use Rattle.kp_tree.specs.Trees.{Cond, conds_of, effs_of, Pred, Domain, Problem}
 use Rattle.kp_names.specs.Names.{Name, same, is_among, Member}
-use Rattle.kp_names.specs.Faults.{Fault, repeated, twice_in, words, head_faults, atom_faults, cond_faults, conds_faults, eff_faults, effs_faults, schema_faults, item_faults, HasNoFault}
+use Rattle.kp_names.specs.Faults.{repeated, twice_in, words, head_faults, atom_faults, cond_faults, conds_faults, eff_faults, effs_faults, schema_faults, item_faults, HasNoFault}
 use Rattle.kp_names.specs.Places.{atom_map, cond_map, conds_map, eff_map, effs_map, item_map, pred_map, schema_map, domain_map, problem_map}
-use Rattle.kp_names.proofs.Lists.{same-true, same-refl}
+use Rattle.kp_names.proofs.Lists.{same-refl}
 use Rattle.kp_names.proofs.PlacesOfFaults.{places_mean_nothing}
 use Rattle.kp_plain.specs.Task.{Signed, Effect, Op}
-use Rattle.kp_write.specs.Tokens.{text_of}
-use Rattle.kp_write.specs.Names.{IsHead, IsEffect, IsOp, AreHeads, AreOps}
-use Rattle.kp_write.specs.Trees.{atom_of, fact_holds, signed_holds, made, made_where, effect_of, schema_of, predicate_of, item_of, written_domain, written_problem}
+use Rattle.kp_write.specs.Names.{IsHead, IsEffect, IsOp, AreHeads}
+use Rattle.kp_write.specs.Trees.{atom_of, fact_holds, signed_holds, made_where, effect_of, schema_of, predicate_of, item_of, written_domain, written_problem}
 use Rattle.kp_write.specs.Problems.{AreAmong, IsEffectOn, IsOpOn, IsTask, WrittenTextsHaveProblem}
 use Rattle.kp_write.proofs.Lists.{every, one_of_all}
 use Rattle.kp_write.proofs.Placed.{at_start, placed_domain, placed_problem, moved, domain_moved, problem_moved, same_no}

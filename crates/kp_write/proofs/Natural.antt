@@ -1,16 +1,15 @@
 -- A form reads whatever its words are: another word for each word, and it reads and stops the same.
-use Rattle.std.proofs.Common.{◌≡◌, ℕ, Bool, true, false, List, [], ◌∷◌, ◌++◌, map, ◌⊎◌, inl, inr, refl, sym, ap, subst, ◌∙◌}
-use Rattle.std.specs.List.{flat_map}
+use Rattle.std.proofs.Common.{◌≡◌, ℕ, Bool, List, [], ◌∷◌, map, ◌⊎◌, inl, inr, refl, sym, ap, subst, ◌∙◌}
 use Rattle.kp_tree.specs.declared.symbol.Symbol.{Symbol}
 use Rattle.kp_tree.specs.declared.tree.Word.{Word}
-use Rattle.kp_tree.specs.Trees.{Typed, Cond, Conds, conds_of, Eff, Effs, effs_of, Lit, Lits, Item, Items, items_of, Pred, Schema, Section, section_types, section_constants, section_predicates, section_schemas, Given, given_objects, given_items, goal_of, cond_of_lit, eff_of_lit, fact_of_lit}
+use Rattle.kp_tree.specs.Trees.{Cond, Conds, conds_of, Eff, Effs, effs_of, Lits, Item, Items, items_of, Section, section_types, section_constants, section_predicates, section_schemas, Given, given_objects, given_items, goal_of, cond_of_lit, eff_of_lit, fact_of_lit}
 use Rattle.kp_tree.specs.Symbols.{Tok, is_left, is_right, first_is}
 use Rattle.kp_tree.specs.Sorts.{Sort, El, with_kinds, Maker, apply, m_word, m_drop, m_name, m_variable, m_atom, m_untyped, m_kind, m_kinds, m_typed, m_joined, m_all, m_true, m_holds, m_same, m_both, m_idle, m_when, m_each, m_makes, m_lit, m_items, m_fact, m_one_of, m_any_of, m_unknown, m_pred, m_no_params, m_schema, m_requires, m_types, m_constants, m_predicates, m_action, m_domain, m_of_domain, m_needs, m_objects, m_init, m_goal, m_saw, m_problem, m_nullary, m_one, m_together, m_cond_of, m_eff_of, m_facts_of, m_plain_pred, m_plain_schema, m_three}
 use Rattle.kp_tree.specs.Forms.{hits, Form}
-use Rattle.kp_tree.specs.Reading.{At, stop, stop_by, reason_of, ReadBy, r_token, r_none, r_both, r_after, r_end, r_more, r_last, r_next, r_absent, r_present, r_make, r_choice, r_loose, r_bracket, r_within, StopBy, s_token, s_nothing, s_first, s_second, s_before, s_after, s_here, s_later, s_lacks, s_at, s_next, s_present, s_make, s_none_there, s_choice, s_loose, s_unopened, s_inside, s_unclosed, s_within}
+use Rattle.kp_tree.specs.Reading.{At, stop_by, reason_of, ReadBy, r_token, r_none, r_both, r_after, r_end, r_more, r_last, r_next, r_absent, r_present, r_make, r_choice, r_loose, r_bracket, r_within, StopBy, s_token, s_nothing, s_first, s_second, s_before, s_after, s_here, s_later, s_lacks, s_at, s_next, s_present, s_make, s_none_there, s_choice, s_loose, s_unopened, s_inside, s_unclosed, s_within}
 use Rattle.kp_tree.proofs.Exact.{reads_once, reads_or_stops, always_one}
 use Rattle.kp_names.specs.Places.{typed_map, cond_map, conds_map, eff_map, effs_map, lit_map, item_map, items_map, pred_map, schema_map}
-use Rattle.kp_write.specs.Tokens.{text_of, bare}
+use Rattle.kp_write.specs.Tokens.{text_of}
 use Rattle.kp_write.proofs.Lists.{map_swap, flat_swap}
 use Rattle.kp_write.specs.Maps.{section_map, given_map, lits_map, el_map, ReadsWithPlaces, PlacesDontMatter}
 
@@ -130,7 +129,7 @@ module _ {V W : Type 0} (f : V → W) where
   abbrev over_one : Tok V → Tok W
   over_one t = record { symbol = t.symbol; word = f t.word }
 
-  abbrev pub over : List (Tok V) → List (Tok W)
+  abbrev over : List (Tok V) → List (Tok W)
   over ts = map over_one ts
 
   first_same : (p : Symbol → Bool) (ts : List (Tok V)) → first_is p (over ts) ≡ first_is p ts
@@ -140,7 +139,7 @@ module _ {V W : Type 0} (f : V → W) where
   moved : {b : Bool} {a : Sort} (X : Form b a) (ts rest : List (Tok W)) (x y : El W a) → x ≡ y → ReadBy b a X ts y rest → ReadBy b a X ts x rest
   moved X ts rest x y e h = subst (λ (z : El W _). ReadBy _ _ X ts z rest) (sym e) h
 
-  pub reads_over : {b : Bool} {c : Sort} {X : Form b c} {ts : List (Tok V)} {x : El V c} {rest : List (Tok V)} → ReadBy b c X ts x rest → ReadBy b c X (over ts) (el_map V W f c x) (over rest)
+  reads_over : {b : Bool} {c : Sort} {X : Form b c} {ts : List (Tok V)} {x : El V c} {rest : List (Tok V)} → ReadBy b c X ts x rest → ReadBy b c X (over ts) (el_map V W f c x) (over rest)
   reads_over (r_token {c = c} {p = p} {m = m} {t = t} {ts = ts} e) = moved _ _ _ _ _ (natural (m t.symbol) t.word) (r_token e)
   reads_over (r_none {m = m}) = moved _ _ _ _ _ (natural m tt) r_none
   reads_over (r_both h k) = r_both (reads_over h) (reads_over k)

@@ -1,16 +1,15 @@
 -- The plans of the two texts of a task are the lists of its operators that run and meet the goal.
-use Rattle.std.proofs.Common.{◌≡◌, ℕ, Bool, true, false, not, ◌&&◌, ◌||◌, List, [], ◌∷◌, ◌++◌, map, find, Option, Some, None, option_map, inl, inr, refl, sym, ap, subst, ◌∙◌}
+use Rattle.std.proofs.Common.{◌≡◌, ℕ, Bool, true, false, ◌&&◌, ◌||◌, List, [], ◌∷◌, map, find, Option, Some, None, option_map, inl, inr, refl, sym, ap, subst, ◌∙◌}
 use Rattle.std.proofs.lemmas.Bool.{false≢true, and_parts}
-use Rattle.std.specs.Bool.{beq}
 use Rattle.std.specs.List.{AllByRecursion, IsDistinct, list_any, list_all, flat_map}
 use Rattle.kp_tree.specs.declared.tree.Word.{Word}
 use Rattle.kp_tree.specs.Trees.{Schema, Domain, Problem, conds_of, effs_of}
-use Rattle.kp_names.specs.Names.{Name, same, all_same, is_among, only_if, signed, Member}
+use Rattle.kp_names.specs.Names.{Name, same, all_same, is_among, only_if, Member}
 use Rattle.kp_names.specs.States.{State, Binding, unbound, Literal, names_literal, all_hold}
 use Rattle.kp_names.specs.Steps.{Step, fires, all_fire, fits, is_instance, permits, applicable, state_by, next, after, schema_of as schema_of_step}
 use Rattle.kp_names.specs.Initial.{item_holds, item_literals, is_of, is_named, IsInitial}
-use Rattle.kp_names.specs.Places.{cond_map, conds_map, eff_map, effs_map, item_map, schema_map, domain_map, problem_map}
-use Rattle.kp_names.specs.Plans.{HasProblem, succeeds, Solves, IsPlan}
+use Rattle.kp_names.specs.Places.{conds_map, eff_map, effs_map, item_map, schema_map, domain_map, problem_map}
+use Rattle.kp_names.specs.Plans.{succeeds, Solves}
 use Rattle.kp_names.proofs.Lists.{any_from, any_member, same-true, same-refl}
 use Rattle.kp_names.proofs.Places.{find_map}
 use Rattle.kp_names.proofs.PlacesOfFaults.{places_mean_nothing}
@@ -18,7 +17,6 @@ use Rattle.kp_names.proofs.Texts.{solves_theirs}
 use Rattle.kp_plain.specs.Task.{Signed, Effect, Op}
 use Rattle.kp_plain.specs.Written.{domain_text, problem_text}
 use Rattle.kp_write.specs.Trees.{fact_holds, signed_holds, made_where, effect_of, schema_of, item_of, written_domain, written_problem}
-use Rattle.kp_write.specs.Problems.{IsTask}
 use Rattle.kp_write.specs.Runs.{Facts, is_so, results, is_made, after_op, runs, step_of, IsRun, PlansAreRuns}
 use Rattle.kp_write.proofs.Lists.{map_join, one_of_all, all_from}
 use Rattle.kp_write.proofs.Placed.{at_start, placed_domain, placed_problem, moved, domain_moved, problem_moved, same_swap}
@@ -242,8 +240,7 @@ pub plans_are_runs : PlansAreRuns
 plans_are_runs facts ops start goal t steps =
     let h = written_texts_have_problem facts ops start goal t in
     let k = domain_moved h.has.domain (written_domain facts ops) h.domain in
-    let l = problem_moved h.has.problem (written_problem start goal) h.problem in
-    (
+    let l = problem_moved h.has.problem (written_problem start goal) h.problem in (
       λ plan. solves_run facts ops start goal t.operators_differ steps (to_moved h.has.domain (placed_domain facts ops) h.has.problem (placed_problem start goal) steps k l (solves_theirs (domain_text facts ops) (problem_text start goal) h.has steps plan)),
-      λ run. record { has = h.has; solves = from_moved h.has.domain (placed_domain facts ops) h.has.problem (placed_problem start goal) steps k l (run_solves facts ops start goal t.operators_differ steps run) }
+      λ run. record { has = h.has; solves = from_moved h.has.domain (placed_domain facts ops) h.has.problem (placed_problem start goal) steps k l (run_solves facts ops start goal t.operators_differ steps run) },
     )

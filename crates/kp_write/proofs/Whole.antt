@@ -1,5 +1,5 @@
 -- The written texts read as their trees, with the places of the words.
-use Rattle.std.proofs.Common.{◌≡◌, ℕ, Bool, List, map, sym, subst}
+use Rattle.std.proofs.Common.{ℕ, Bool, List, sym, subst}
 use Rattle.kp_tree.specs.Symbols.{Tok, all_seen_in}
 use Rattle.kp_tree.specs.Sorts.{Sort, El}
 use Rattle.kp_tree.specs.Forms.{Form}
@@ -7,7 +7,7 @@ use Rattle.kp_tree.specs.Grammar as grammar
 use Rattle.kp_tree.specs.Reading.{ReadsWhole}
 use Rattle.kp_plain.specs.Pieces.{Piece, spelling}
 use Rattle.kp_plain.specs.Written.{domain_pieces, problem_pieces}
-use Rattle.kp_write.specs.Tokens.{spans, words, bare, Fine}
+use Rattle.kp_write.specs.Tokens.{spans, words, Fine}
 use Rattle.kp_write.specs.Maps.{ReadsWithPlaces}
 use Rattle.kp_write.specs.Texts.{DomainReadsAsMeant, ProblemReadsAsMeant}
 use Rattle.kp_write.specs.Trees.{written_domain, written_problem}

@@ -1,6 +1,5 @@
 -- What the written texts read as.
-use Rattle.std.specs.Prelude.{◌≡◌, ℕ, List, Bool}
-use Rattle.kp_tree.specs.Sorts.{Sort, El}
+use Rattle.std.specs.Prelude.{◌≡◌, ℕ, List}
 use Rattle.kp_tree.specs.declared.tree.Word.{Word}
 use Rattle.kp_tree.specs.Trees.{Domain, Problem}
 use Rattle.kp_tree.specs.Grammar as grammar
