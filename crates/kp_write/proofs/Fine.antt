@@ -1,0 +1,144 @@
+-- The pieces of the written files are fine.
+use Rattle.std.proofs.Common.{◌≡◌, ℕ, Bool, true, false, ◌&&◌, List, [], ◌∷◌, nat_eq, eqb-true, refl, sym, subst}
+use Rattle.std.proofs.lemmas.Bool.{and_parts}
+use Rattle.std.specs.List.{AllByRecursion}
+use Rattle.kp_lex.specs.declared.token.TokenKind.{TokenKind}
+use Rattle.kp_lex.specs.declared.token.TokenKind.TheVariants as kinds
+use Rattle.kp_lex.specs.Bytes.{is_alphanumeric, class_of, follows}
+use Rattle.kp_lex.specs.Cutting.{AllAre, IsToken, name as a_name, keyword as a_keyword, Ends}
+use Rattle.kp_plain.specs.Pieces.{Piece, right, word, spelling, Put, each}
+use Rattle.kp_plain.specs.Task.{Signed, Effect, Op}
+use Rattle.kp_plain.specs.Written.{fact, fact_line, signed_case, signed, spaced, conjunction, guarded, effect_line, precondition, op, domain_pieces, problem_pieces}
+use Rattle.kp_write.specs.Tokens.{IsLow, Fine, done, lefts, rights, blanks, says}
+use Rattle.kp_write.specs.Names.{IsHead, IsSigned, IsEffect, IsOp, AreHeads, AreOps}
+use Rattle.kp_write.proofs.Applied.{◌$◌}
+
+-- ---- words that are written out
+
+abbrev all_follow : List ℕ → Bool
+all_follow [] = true
+all_follow (b ∷ bs) = follows b && all_follow bs
+
+-- the bytes are spelled as a token of the kind
+abbrev is_spelled : TokenKind → List ℕ → Bool
+is_spelled kinds.Name (b ∷ bs) = is_alphanumeric b && all_follow bs
+is_spelled kinds.Keyword (q ∷ b ∷ bs) = nat_eq q 58 && (is_alphanumeric b && all_follow bs)
+is_spelled _ _ = false
+
+follow_all : (bs : List ℕ) → all_follow bs ≡ true → AllAre follows bs
+follow_all [] e = tt
+follow_all (b ∷ bs) e = let h = and_parts (follows b) (all_follow bs) e in (h.0, follow_all bs h.1)
+
+pub named : (w : List ℕ) → is_spelled kinds.Name w ≡ true → IsToken kinds.Name w
+unfolding class_of
+named [] e = absurd cc
+named (b ∷ bs) e = let h = and_parts (is_alphanumeric b) (all_follow bs) e in a_name (rw h.0 refl) (follow_all bs h.1)
+
+keyed : (w : List ℕ) → is_spelled kinds.Keyword w ≡ true → IsToken kinds.Keyword w
+unfolding class_of
+keyed [] e = absurd cc
+keyed (q ∷ []) e = absurd cc
+keyed (q ∷ b ∷ bs) e =
+    let h = and_parts (nat_eq q 58) (is_alphanumeric b && all_follow bs) e in
+    let k = and_parts (is_alphanumeric b) (all_follow bs) h.1 in
+    subst (λ (c : ℕ). IsToken kinds.Keyword (c ∷ b ∷ bs)) (sym (eqb-true q 58 h.0)) (a_keyword refl (rw k.0 refl) (follow_all bs k.1))
+
+-- ---- pieces in front of fine ones
+
+-- a word that is written out
+said : {w : List ℕ} {ps : List Piece} → is_spelled kinds.Name w ≡ true → IsLow w → Ends follows (spelling ps) → Fine ps → Fine (word kinds.Name w ∷ ps)
+said {w} e low h f = says (named w e) low h f
+
+told : {w : List ℕ} {ps : List Piece} → is_spelled kinds.Keyword w ≡ true → IsLow w → Ends follows (spelling ps) → Fine ps → Fine (word kinds.Keyword w ∷ ps)
+told {w} e low h f = says (keyed w e) low h f
+
+-- what is put in front of fine pieces leaves them fine
+record Keeps (f : Put) : Type 0 where
+  pub keeps : {rest : List Piece} → Fine rest → Fine (f rest)
+
+-- any number
+fine_each : {T : Type 0} (f : T → Put) (P : T → Type 0) → ((x : T) → P x → Keeps (f x)) → (xs : List T) → AllByRecursion P xs → Keeps (each f xs)
+fine_each f P h [] all = record { keeps = λ fine. fine }
+fine_each f P h (x ∷ xs) all = record { keeps = λ fine. (h x all.0).keeps ((fine_each f P h xs all.1).keeps fine) }
+
+-- ---- the parts of the files
+
+fine_fact : (n : List ℕ) → IsHead n → Keeps (fact n)
+unfolding class_of
+fine_fact n h = record { keeps = λ f. lefts $ says h.token h.low refl $ rights f }
+
+fine_fact_line : (n : List ℕ) → IsHead n → Keeps (fact_line n)
+unfolding class_of
+fine_fact_line n h = record { keeps = λ f. (fine_fact n h).keeps $ blanks refl f }
+
+fine_signed_case : (b : Bool) (n : List ℕ) → IsHead n → Keeps (signed_case b n)
+unfolding class_of
+fine_signed_case true n h = fine_fact n h
+fine_signed_case false n h = record { keeps = λ f. lefts $ said refl refl refl $ blanks refl $ (fine_fact n h).keeps $ rights f }
+
+fine_signed : (s : Signed) → IsSigned s → Keeps (signed s)
+fine_signed s h = fine_signed_case s.holds s.fact h
+
+ends_spaced : {T : Type 0} (f : T → Put) (xs : List T) (rest : List Piece) → Ends follows (spelling (each (spaced f) xs (right ∷ rest)))
+unfolding class_of
+ends_spaced f [] rest = refl
+ends_spaced f (x ∷ xs) rest = refl
+
+fine_spaced : {T : Type 0} (f : T → Put) (x : T) → Keeps (f x) → Keeps (spaced f x)
+unfolding class_of
+fine_spaced f x h = record { keeps = λ g. blanks refl (h.keeps g) }
+
+fine_conjunction : {T : Type 0} (f : T → Put) (P : T → Type 0) → ((x : T) → P x → Keeps (f x)) → (xs : List T) → AllByRecursion P xs → Keeps (conjunction f xs)
+unfolding class_of
+fine_conjunction f P h xs all = record { keeps = λ {rest} g. lefts $ said refl refl (ends_spaced f xs rest) $ (fine_each (spaced f) P (λ x p. fine_spaced f x (h x p)) xs all).keeps $ rights g }
+
+fine_guarded : (cs : List Signed) (s : Signed) → AllByRecursion IsSigned cs → IsSigned s → Keeps (guarded cs s)
+unfolding class_of
+fine_guarded [] s all h = fine_signed s h
+fine_guarded (c ∷ cs) s all h = record { keeps = λ f. lefts $ said refl refl refl $ blanks refl $ (fine_conjunction signed IsSigned fine_signed (c ∷ cs) all).keeps $ blanks refl $ (fine_signed s h).keeps $ rights f }
+
+fine_effect : (e : Effect) → IsEffect e → Keeps (effect_line e)
+unfolding class_of
+fine_effect e h = record { keeps = λ f. (fine_guarded e.conds e.result h.conds h.result).keeps $ blanks refl f }
+
+fine_precondition : (ns : List (List ℕ)) → AreHeads ns → Keeps (precondition ns)
+unfolding class_of
+fine_precondition [] all = record { keeps = λ f. f }
+fine_precondition (n ∷ ns) all = record { keeps = λ f. told refl refl refl $ blanks refl $ (fine_conjunction fact IsHead fine_fact (n ∷ ns) all).keeps $ blanks refl f }
+
+fine_op : (o : Op) → IsOp o → Keeps (op o)
+unfolding op class_of
+fine_op o h = record {
+  keeps = λ f.
+      lefts $ told refl refl refl $ blanks refl $ says h.name.token h.name.low refl $ blanks refl
+      $ told refl refl refl $ blanks refl $ lefts $ rights $ blanks refl
+      $ (fine_precondition o.pre h.pre).keeps
+      $ told refl refl refl $ blanks refl $ lefts $ said refl refl refl $ blanks refl
+      $ (fine_each effect_line IsEffect fine_effect o.effects h.effects).keeps
+      $ rights $ blanks refl $ rights $ blanks refl f;
+}
+
+-- ---- the files
+
+pub fine_domain : (facts : List (List ℕ)) (ops : List Op) → AreHeads facts → AreOps ops → Fine (domain_pieces facts ops)
+unfolding domain_pieces class_of
+fine_domain facts ops h k =
+    lefts $ said refl refl refl $ blanks refl $ lefts $ said refl refl refl $ blanks refl $ said refl refl refl $ rights $ blanks refl
+    $ lefts $ told refl refl refl $ blanks refl $ told refl refl refl $ blanks refl $ told refl refl refl $ blanks refl $ told refl refl refl $ rights $ blanks refl
+    $ lefts $ told refl refl refl $ blanks refl
+    $ (fine_each fact_line IsHead fine_fact_line facts h).keeps
+    $ rights $ blanks refl
+    $ (fine_each op IsOp fine_op ops k).keeps
+    $ rights $ blanks refl done
+
+pub fine_problem : (start goal : List (List ℕ)) → AreHeads start → AreHeads goal → Fine (problem_pieces start goal)
+unfolding problem_pieces class_of
+fine_problem start goal h k =
+    lefts $ said refl refl refl $ blanks refl $ lefts $ said refl refl refl $ blanks refl $ said refl refl refl $ rights $ blanks refl
+    $ lefts $ told refl refl refl $ blanks refl $ said refl refl refl $ rights $ blanks refl
+    $ lefts $ told refl refl refl $ blanks refl
+    $ (fine_each fact_line IsHead fine_fact_line start h).keeps
+    $ rights $ blanks refl
+    $ lefts $ told refl refl refl $ blanks refl $ lefts $ said refl refl refl $ blanks refl
+    $ (fine_each fact_line IsHead fine_fact_line goal k).keeps
+    $ rights $ rights $ blanks refl $ rights $ blanks refl done

@@ -1,0 +1,12 @@
+pub mod Applied
+pub mod Lists
+pub mod Cuts
+pub mod Natural
+pub mod Fine
+pub mod Reading
+pub mod Whole
+pub mod Composed
+pub mod Placed
+pub mod Faultless
+pub mod Runs
+pub mod ExampleFiles

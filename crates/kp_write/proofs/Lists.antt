@@ -1,0 +1,33 @@
+-- Lists: maps one after the other, and what holds of all elements.
+use Rattle.std.proofs.Common.{◌≡◌, List, [], ◌∷◌, ◌++◌, map, inl, inr, refl, ap, subst, ◌∙◌}
+use Rattle.std.specs.List.{AllByRecursion, flat_map}
+use Rattle.kp_names.specs.Names.{Member}
+
+pub map_join : {A B : Type 0} (f : A → B) (xs ys : List A) → map f (xs ++ ys) ≡ map f xs ++ map f ys
+map_join f [] ys = refl
+map_join f (x ∷ xs) ys = ap (λ zs. f x ∷ zs) (map_join f xs ys)
+
+pub map_swap : {A B C D : Type 0} (f : B → D) (g : A → B) (h : C → D) (k : A → C) (xs : List A) → ((x : A) → f (g x) ≡ h (k x)) → map f (map g xs) ≡ map h (map k xs)
+map_swap f g h k [] e = refl
+map_swap f g h k (x ∷ xs) e = rw (e x, map_swap f g h k xs e) refl
+
+pub map_twice : {A B C : Type 0} (f : A → B) (g : B → C) (h : A → C) (xs : List A) → ((x : A) → g (f x) ≡ h x) → map g (map f xs) ≡ map h xs
+map_twice f g h [] e = refl
+map_twice f g h (x ∷ xs) e = rw (e x, map_twice f g h xs e) refl
+
+pub flat_swap : {A B C D : Type 0} (f : B → D) (g : A → List B) (h : C → List D) (k : A → C) (xs : List A) → ((x : A) → map f (g x) ≡ h (k x)) → map f (flat_map g xs) ≡ flat_map h (map k xs)
+flat_swap f g h k [] e = refl
+flat_swap f g h k (x ∷ xs) e = map_join f (g x) (flat_map g xs) ∙ rw (e x, flat_swap f g h k xs e) refl
+
+pub every : {T : Type 0} (P Q : T → Type 0) → ((x : T) → P x → Q x) → (xs : List T) → AllByRecursion P xs → AllByRecursion Q xs
+every P Q f [] all = tt
+every P Q f (x ∷ xs) all = (f x all.0, every P Q f xs all.1)
+
+pub one_of_all : {T : Type 0} (P : T → Type 0) (xs : List T) (x : T) → AllByRecursion P xs → Member xs x → P x
+one_of_all P [] x all m = absurd m
+one_of_all P (y ∷ ys) x all (inl e) = subst P e all.0
+one_of_all P (y ∷ ys) x all (inr m) = one_of_all P ys x all.1 m
+
+pub all_from : {T : Type 0} (P : T → Type 0) (xs : List T) → ((x : T) → Member xs x → P x) → AllByRecursion P xs
+all_from P [] f = tt
+all_from P (x ∷ xs) f = (f x (inl refl), all_from P xs (λ y m. f y (inr m)))
