@@ -17,7 +17,7 @@ pub fn what_was_encoded_decodes()
     ensures { EncodedDecodes }
 {}
 
-/// A text that decodes has one name, and is the encoding of it.
+/// A word that can be read back as a name is what encoding that name gives; so it stands for one name alone.
 pub fn what_decodes_was_encoded()
     ensures { DecodedIsEncoding }
 {}

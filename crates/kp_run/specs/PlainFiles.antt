@@ -1,4 +1,4 @@
--- Which files are translated: they have the plain form, and their names are declared once.
+-- Which files are translated: they have the plain form, no name is declared twice, and each atom is of a declared predicate.
 use Rattle.std.specs.Prelude.{List, [], ◌∷◌, ℕ, Bool, true, false, if◌then◌else◌, Contains}
 use Rattle.kp_tree.specs.declared.tree.Word.{Word}
 use Rattle.kp_tree.specs.Trees.{Item, Domain, Problem}
