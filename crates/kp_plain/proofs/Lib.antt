@@ -1,2 +1,7 @@
 pub mod Putting
 pub mod Effects
+pub mod Counting
+pub mod Names
+pub mod Marking
+pub mod Grounds
+pub mod Wholes

@@ -1,16 +1,38 @@
--- What the private functions of the grounding compute, over predicates by number. For proofs alone.
-use Rattle.std.specs.Prelude.{◌≡◌, ℕ, zero, suc, ◌<◌, Bool, true, false, not, ◌&&◌, ◌||◌, if◌then◌else◌, List, [], ◌∷◌, ◌++◌, length, map, filter, nat_eq, slice_index_or}
+-- What the private functions of the grounding compute, over predicates by number. For proofs alone; `specs/Ground.antt` has the ground problem.
+use Rattle.std.specs.Prelude.{◌≡◌, ℕ, zero, suc, ◌<◌, Bool, true, false, not, ◌&&◌, ◌||◌, if◌then◌else◌, List, [], ◌∷◌, ◌++◌, length, map, filter, nat_eq, slice_index_or, Option, Some, None}
 use Rattle.std.specs.List.{list_any, list_all, flat_map}
 use Rattle.kp_base.specs.declared.lit.Lit.{Lit}
-use Rattle.std.specs.Bool.{beq}
 use Rattle.kp_base.specs.declared.ground.GroundName.{GroundName}
 use Rattle.kp_base.specs.declared.ground.Effect.{Effect}
 use Rattle.kp_base.specs.declared.ground.Action.{Action}
-use Rattle.kp_base.specs.Lit.{negated}
 use Rattle.kp_base.specs.LitSet.{with_lit}
-use Rattle.kp_tree.specs.declared.tree.PredTree.{PredTree}
+use Rattle.kp_tree.specs.declared.tree.Word.{Word}
+use Rattle.kp_tree.specs.Trees.{Schema}
+use Rattle.kp_names.specs.Names.{Name, is_among}
+use Rattle.kp_plain.specs.Ground.{Literal, cond_literals, eff_literals, place, nullary, same_lit, is_idle}
 use Rattle.kp_plain.specs.declared.numbering.Mention.{Mention}
 use Rattle.kp_plain.specs.declared.numbering.Step.{Step}
+
+-- ---- numbers for names
+
+-- the names with one more, where it is new
+abbrev pub with_name : List Name → Name → List Name
+with_name names n = if is_among names n then names else names ++ n ∷ []
+
+-- the number of a name, where it has one
+abbrev pub number_of : List Name → Name → Option ℕ
+number_of names n = if is_among names n then Some (place names n) else None
+
+-- the literal with that number
+abbrev pub mention_at : Option ℕ → Bool → List Mention
+mention_at None positive = []
+mention_at (Some p) positive = record { predicate = p; positive = positive } ∷ []
+
+-- the literal by number; nothing where its predicate has none
+abbrev pub mention_of : List Name → Literal → List Mention
+mention_of names l = mention_at (number_of names l.head) l.positive
+
+-- ---- literals by number
 
 -- the literal is of the predicate
 abbrev pub names : ℕ → Mention → Bool
@@ -42,6 +64,10 @@ pub record PlainStep : Type 0 where
 abbrev pub plain : Step → PlainStep
 plain s = record { name = s.name.now; pre = s.pre.items; effects = s.effects.items }
 
+-- a schema by number
+abbrev pub step_of : List Name → Schema Word → PlainStep
+step_of names s = record { name = s.name.text; pre = flat_map (mention_of names) (cond_literals s.pre); effects = flat_map (mention_of names) (eff_literals s.effect) }
+
 -- the literal is of a predicate that changes
 abbrev pub changes : List Bool → Mention → Bool
 changes changed m = marked changed m.predicate
@@ -62,17 +88,13 @@ lighter changed s = record { name = s.name; pre = filter (changes changed) s.pre
 abbrev pub step_mentions : PlainStep → List Mention
 step_mentions s = s.pre ++ s.effects
 
--- the name of an atom or action without objects
-abbrev pub nullary : List ℕ → GroundName
-nullary head = record { head = head; objects = [] }
-
 -- the names of the marked predicates, the first of which has this number
-abbrev pub names_from : List Bool → ℕ → List PredTree → List GroundName
+abbrev pub names_from : List Bool → ℕ → List Name → List GroundName
 names_from marks n [] = []
-names_from marks n (p ∷ ps) = (if marked marks n then nullary p.head.text ∷ [] else []) ++ names_from marks (suc n) ps
+names_from marks n (p ∷ ps) = (if marked marks n then nullary p ∷ [] else []) ++ names_from marks (suc n) ps
 
 -- for each predicate how many marked ones come before it, where so many come before the first
-abbrev pub numbers_from : List Bool → ℕ → ℕ → List PredTree → List ℕ
+abbrev pub numbers_from : List Bool → ℕ → ℕ → List Name → List ℕ
 numbers_from marks next n [] = []
 numbers_from marks next n (p ∷ ps) = next ∷ numbers_from marks (if marked marks n then suc next else next) (suc n) ps
 
@@ -96,18 +118,10 @@ known_before occurs stated denied numbers zero = []
 known_before occurs stated denied numbers (suc p) =
     if marked occurs p then with_known (marked stated p) (marked denied p) (slice_index_or numbers p 0) (known_before occurs stated denied numbers p) else known_before occurs stated denied numbers p
 
--- the same literal
-abbrev pub same_lit : Lit → Lit → Bool
-same_lit a b = nat_eq a.atom.0 b.atom.0 && beq a.positive b.positive
-
 -- each literal where it stands first, behind those that are there already
 abbrev pub distinct : List Lit → List Lit → List Lit
 distinct [] done = done
 distinct (l ∷ ls) done = distinct ls (if list_any (same_lit l) done then done else done ++ l ∷ [])
-
--- a delete of an atom that is added too
-abbrev pub is_idle : List Lit → Lit → Bool
-is_idle results l = not l.positive && list_any (same_lit (negated l)) results
 
 -- the effect of a result; none where it is idle
 abbrev pub effect_of : List Lit → Lit → List Effect

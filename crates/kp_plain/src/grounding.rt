@@ -1,11 +1,14 @@
 ghost use Rattle.std.specs.Prelude.{◌≡◌, ◌++◌, [], ◌&&◌, ◌||◌, not, true, false, length, map, filter, IfOk, OnOk, slice_index_or, slice_set};
 ghost use Rattle.std.specs.List.{list_any, list_all, flat_map};
-ghost use Rattle.kp_plain.specs.Grounding.{AreMarks, marked, has_sign, plain, changes, settles, is_kept, lighter, step_mentions, nullary, names_from, numbers_from, literal_of, put_in, with_known, known_before, distinct, is_idle, effect_of, effects_of, action_of, IsStanding};
+ghost use Rattle.kp_tree.specs.View.{domain_view, problem_view};
+ghost use Rattle.kp_plain.specs.Ground.{nullary, is_idle, ground_of, start_of};
+ghost use Rattle.kp_plain.specs.Grounding.{AreMarks, marked, has_sign, plain, changes, settles, is_kept, lighter, step_mentions, names_from, numbers_from, literal_of, put_in, with_known, known_before, distinct, effect_of, effects_of, action_of, IsStanding};
 
 use crate::numbering::{Mention, Numbered, Step, by_number};
+use crate::predicates::Predicates;
 use indexmap::IndexSet;
 use kp_base::{Action, AtomId, Effect, Ground, GroundName, Lit, LitSet, Memory, Row, Text};
-use kp_tree::{Domain, PredTree, Problem};
+use kp_tree::{Domain, Problem};
 use std::alloc::Global;
 
 /// A ground problem with what holds at its start.
@@ -197,9 +200,9 @@ struct Atoms {
 }
 
 impl Atoms {
-    fn of(alloc: Global, predicates: &[PredTree], occurs: &Marks) -> Result<Atoms, Memory>
-        ensures names { IfOk result (λ atoms. atoms.names ≡ names_from occurs.now.marked.items 0 predicates.now) }
-        ensures numbers { IfOk result (λ atoms. atoms.before.items ≡ numbers_from occurs.now.marked.items 0 0 predicates.now) }
+    fn of(alloc: Global, predicates: &[&[u8]], occurs: &Marks) -> Result<Atoms, Memory>
+        ensures names { IfOk result (λ atoms. atoms.names ≡ names_from occurs.now.marked.items 0 (map (λ k. k.now) predicates.now)) }
+        ensures numbers { IfOk result (λ atoms. atoms.before.items ≡ numbers_from occurs.now.marked.items 0 0 (map (λ k. k.now) predicates.now)) }
     {
         let mut names = Row::new(alloc);
         let mut before = Vec::new(alloc);
@@ -207,7 +210,7 @@ impl Atoms {
         for (number, predicate) in predicates.iter().enumerate() {
             before.push(next)?;
             if occurs.has(number) {
-                names.push(nullary(alloc, &predicate.head.text)?)?;
+                names.push(nullary(alloc, predicate)?)?;
                 next = next.checked_add(1).ok_or(Memory)?;
             }
         }
@@ -240,12 +243,23 @@ impl Atoms {
     }
 }
 
+// The bytes as a text.
+fn text_of(alloc: Global, bytes: &[u8]) -> Result<Text, Memory>
+    ensures { IfOk result (λ text. text ≡ bytes.now) }
+{
+    let mut text = Text::new(alloc);
+    for byte in bytes {
+        text.push(*byte)?;
+    }
+    Ok(text)
+}
+
 // A name without objects.
-fn nullary(alloc: Global, head: &Text) -> Result<GroundName, Memory>
+fn nullary(alloc: Global, head: &[u8]) -> Result<GroundName, Memory>
     ensures { IfOk result (λ name. name ≡ nullary head.now) }
 {
     Ok(GroundName {
-        head: head.copy(alloc)?,
+        head: text_of(alloc, head)?,
         objects: Row::new(alloc),
     })
 }
@@ -308,7 +322,7 @@ fn action(alloc: Global, atoms: &Atoms, step: &Step) -> Result<Action, Memory>
     ensures { IfOk result (λ a. a ≡ action_of atoms.now.before.items (plain step.now)) }
 {
     Ok(Action {
-        name: nullary(alloc, step.name)?,
+        name: nullary(alloc, step.name.slice())?,
         pre: atoms.set(alloc, &step.pre)?,
         effects: effects(alloc, atoms, &step.effects)?,
     })
@@ -367,7 +381,7 @@ fn known_at_start(
 // The ground form, from the steps that are kept and the predicates that occur.
 fn assembled(
     alloc: Global,
-    predicates: &[PredTree],
+    predicates: &Predicates,
     goal: &[Mention],
     standing: &Standing,
     kept: &[Step],
@@ -378,14 +392,14 @@ fn assembled(
     ensures goal { IfOk result (λ g. g.form.goal ≡ put_in (map (literal_of (numbers_from occurs.now.marked.items 0 0 predicates.now)) goal.now) []) }
     ensures start { IfOk result (λ g. g.start ≡ known_before occurs.now.marked.items standing.now.stated.marked.items standing.now.denied.marked.items (numbers_from occurs.now.marked.items 0 0 predicates.now) (length predicates.now)) }
 {
-    let atoms = Atoms::of(alloc, predicates, occurs)?;
+    let atoms = Atoms::of(alloc, predicates.names(), occurs)?;
     let actions = actions(alloc, &atoms, kept)?;
     let goal = atoms.set(alloc, goal)?;
     let start = known_at_start(alloc, standing, &atoms, occurs, predicates.len())?;
-    let Atoms { names, .. } = atoms;
+    let Atoms { names: atoms, .. } = atoms;
     Ok(Grounded {
         form: Ground {
-            atoms: names,
+            atoms,
             actions,
             goal,
         },
@@ -394,16 +408,19 @@ fn assembled(
 }
 
 /// The ground form of a plain domain and problem. A literal whose predicate isn't declared is left out.
-pub fn ground_form(alloc: Global, domain: &Domain, problem: &Problem) -> Result<Grounded, Memory> {
+pub fn ground_form(alloc: Global, domain: &Domain, problem: &Problem) -> Result<Grounded, Memory>
+    ensures form { IfOk result (λ g. g.form ≡ ground_of (domain_view domain.now) (problem_view problem.now)) }
+    ensures start { IfOk result (λ g. g.start ≡ start_of (domain_view domain.now) (problem_view problem.now)) }
+{
     let numbered = by_number(alloc, domain, problem)?;
-    let count = domain.predicates.len();
+    let count = numbered.predicates.len();
     let standing = Standing::of(alloc, count, &numbered)?;
     let kept = kept(alloc, &standing, &numbered.steps)?;
     let occurring = occurring(alloc, &standing, &numbered, &kept)?;
     let occurs = Marks::of(alloc, count, &occurring)?;
     assembled(
         alloc,
-        domain.predicates.slice(),
+        &numbered.predicates,
         &numbered.goal,
         &standing,
         &kept,

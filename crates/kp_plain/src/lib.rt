@@ -5,6 +5,7 @@
 mod encoding;
 mod grounding;
 mod numbering;
+mod predicates;
 mod report;
 mod translation;
 mod writing;

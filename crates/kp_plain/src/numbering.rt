@@ -1,5 +1,11 @@
-use indexmap::IndexSet;
-use kp_base::{Memory, Row, Text};
+ghost use Rattle.std.specs.Prelude.{◌≡◌, ◌++◌, map, IfOk, OnOk};
+ghost use Rattle.std.specs.List.{flat_map};
+ghost use Rattle.kp_tree.specs.View.{atom_view, cond_view, eff_view, item_view, schema_view, domain_view, problem_view};
+ghost use Rattle.kp_plain.specs.Ground.{literal, cond_literals, eff_literals, item_literals, declared};
+ghost use Rattle.kp_plain.specs.Grounding.{mention_of, plain, step_of};
+
+use crate::predicates::Predicates;
+use kp_base::{Memory, Text};
 use kp_tree::{AtomTree, CondTree, Domain, EffTree, ItemTree, Problem, SchemaTree};
 use std::alloc::Global;
 
@@ -26,6 +32,8 @@ pub struct Step<'a> {
 /// A plain domain and problem with numbers in place of names.
 #[derive(Drop)]
 pub struct Numbered<'a> {
+    /// The predicates.
+    pub predicates: Predicates<'a>,
     /// The actions, in text order.
     pub steps: Vec<Step<'a>>,
     /// The literals that `:init` states, in text order.
@@ -34,23 +42,16 @@ pub struct Numbered<'a> {
     pub goal: Vec<Mention>,
 }
 
-// The declared predicates. A predicate's number is its place.
-fn predicate_names(alloc: Global, domain: &Domain) -> Result<IndexSet<&[u8]>, Memory> {
-    let mut names = IndexSet::new(alloc);
-    for predicate in domain.predicates.slice() {
-        names.insert(predicate.head.text.slice())?;
-    }
-    Ok(names)
-}
-
 // Adds a literal, if its predicate is declared.
 fn add_mention(
-    names: &IndexSet<&[u8]>,
+    names: &Predicates,
     positive: bool,
     atom: &AtomTree,
     mentions: &mut Vec<Mention>,
-) -> Result<(), Memory> {
-    if let Some(predicate) = names.get_index_of(atom.head.text.slice()) {
+) -> Result<(), Memory>
+    ensures { OnOk result (mentions.new.items ≡ mentions.old.items ++ mention_of names.now (literal positive (atom_view atom.now))) }
+{
+    if let Some(predicate) = names.number(atom.head.text.slice()) {
         mentions.push(Mention {
             predicate,
             positive,
@@ -61,10 +62,12 @@ fn add_mention(
 
 // Adds the literals of a condition.
 fn add_condition(
-    names: &IndexSet<&[u8]>,
+    names: &Predicates,
     condition: &CondTree,
     mentions: &mut Vec<Mention>,
-) -> Result<(), Memory> {
+) -> Result<(), Memory>
+    ensures { OnOk result (mentions.new.items ≡ mentions.old.items ++ flat_map (mention_of names.now) (cond_literals (cond_view condition.now))) }
+{
     match condition {
         CondTree::All(parts) => {
             for part in parts.slice() {
@@ -79,10 +82,12 @@ fn add_condition(
 
 // Adds the literals of an effect.
 fn add_effect(
-    names: &IndexSet<&[u8]>,
+    names: &Predicates,
     effect: &EffTree,
     mentions: &mut Vec<Mention>,
-) -> Result<(), Memory> {
+) -> Result<(), Memory>
+    ensures { OnOk result (mentions.new.items ≡ mentions.old.items ++ flat_map (mention_of names.now) (eff_literals (eff_view effect.now))) }
+{
     match effect {
         EffTree::All(parts) => {
             for part in parts.slice() {
@@ -97,10 +102,12 @@ fn add_effect(
 
 // Adds the literals of an item.
 fn add_item(
-    names: &IndexSet<&[u8]>,
+    names: &Predicates,
     item: &ItemTree,
     mentions: &mut Vec<Mention>,
-) -> Result<(), Memory> {
+) -> Result<(), Memory>
+    ensures { OnOk result (mentions.new.items ≡ mentions.old.items ++ flat_map (mention_of names.now) (item_literals (item_view item.now))) }
+{
     match item {
         ItemTree::All(parts) => {
             for part in parts.slice() {
@@ -115,9 +122,11 @@ fn add_item(
 
 fn numbered_condition(
     alloc: Global,
-    names: &IndexSet<&[u8]>,
+    names: &Predicates,
     condition: &CondTree,
-) -> Result<Vec<Mention>, Memory> {
+) -> Result<Vec<Mention>, Memory>
+    ensures { IfOk result (λ v. v.items ≡ flat_map (mention_of names.now) (cond_literals (cond_view condition.now))) }
+{
     let mut mentions = Vec::new(alloc);
     add_condition(names, condition, &mut mentions)?;
     Ok(mentions)
@@ -125,9 +134,11 @@ fn numbered_condition(
 
 fn numbered_step<'a>(
     alloc: Global,
-    names: &IndexSet<&[u8]>,
+    names: &Predicates,
     schema: &'a SchemaTree,
-) -> Result<Step<'a>, Memory> {
+) -> Result<Step<'a>, Memory>
+    ensures { IfOk result (λ step. plain step ≡ step_of names.now (schema_view schema.now)) }
+{
     let pre = numbered_condition(alloc, names, &schema.pre)?;
     let mut effects = Vec::new(alloc);
     add_effect(names, &schema.effect, &mut effects)?;
@@ -140,11 +151,13 @@ fn numbered_step<'a>(
 
 fn numbered_steps<'a>(
     alloc: Global,
-    names: &IndexSet<&[u8]>,
-    schemas: &'a Row<SchemaTree>,
-) -> Result<Vec<Step<'a>>, Memory> {
+    names: &Predicates,
+    schemas: &'a [SchemaTree],
+) -> Result<Vec<Step<'a>>, Memory>
+    ensures { IfOk result (λ steps. map plain steps.items ≡ map (step_of names.now) (map schema_view schemas.now)) }
+{
     let mut steps = Vec::new(alloc);
-    for schema in schemas.slice() {
+    for schema in schemas {
         steps.push(numbered_step(alloc, names, schema)?)?;
     }
     Ok(steps)
@@ -152,9 +165,11 @@ fn numbered_steps<'a>(
 
 fn numbered_init(
     alloc: Global,
-    names: &IndexSet<&[u8]>,
+    names: &Predicates,
     items: &[ItemTree],
-) -> Result<Vec<Mention>, Memory> {
+) -> Result<Vec<Mention>, Memory>
+    ensures { IfOk result (λ init. init.items ≡ flat_map (mention_of names.now) (flat_map item_literals (map item_view items.now))) }
+{
     let mut init = Vec::new(alloc);
     for item in items {
         add_item(names, item, &mut init)?;
@@ -167,10 +182,20 @@ pub fn by_number<'a>(
     alloc: Global,
     domain: &'a Domain,
     problem: &Problem,
-) -> Result<Numbered<'a>, Memory> {
-    let names = predicate_names(alloc, domain)?;
-    let steps = numbered_steps(alloc, &names, &domain.schemas)?;
-    let init = numbered_init(alloc, &names, problem.init.slice())?;
-    let goal = numbered_condition(alloc, &names, &problem.goal)?;
-    Ok(Numbered { steps, init, goal })
+) -> Result<Numbered<'a>, Memory>
+    ensures predicates { IfOk result (λ n. n.predicates ≡ declared (domain_view domain.now)) }
+    ensures steps { IfOk result (λ n. map plain n.steps.items ≡ map (step_of (declared (domain_view domain.now))) (domain_view domain.now).schemas) }
+    ensures init { IfOk result (λ n. n.init.items ≡ flat_map (mention_of (declared (domain_view domain.now))) (flat_map item_literals (problem_view problem.now).init)) }
+    ensures goal { IfOk result (λ n. n.goal.items ≡ flat_map (mention_of (declared (domain_view domain.now))) (cond_literals (problem_view problem.now).goal)) }
+{
+    let predicates = Predicates::of(alloc, domain.predicates.slice())?;
+    let steps = numbered_steps(alloc, &predicates, domain.schemas.slice())?;
+    let init = numbered_init(alloc, &predicates, problem.init.slice())?;
+    let goal = numbered_condition(alloc, &predicates, &problem.goal)?;
+    Ok(Numbered {
+        predicates,
+        steps,
+        init,
+        goal,
+    })
 }

@@ -1,3 +1,7 @@
+ghost use Rattle.std.specs.Prelude.{◌≡◌, IfOk};
+ghost use Rattle.kp_tree.specs.View.{domain_view, problem_view};
+ghost use Rattle.kp_plain.specs.Translations.{translation_of};
+
 use crate::grounding::{Grounded, ground_form};
 use crate::report::report_text;
 use crate::writing::{domain_text, problem_text};
@@ -17,7 +21,9 @@ pub struct Translation {
 }
 
 /// The translation of a plain domain and a plain problem, with the empty tag alone.
-pub fn translate(alloc: Global, domain: &Domain, problem: &Problem) -> Result<Translation, Memory> {
+pub fn translate(alloc: Global, domain: &Domain, problem: &Problem) -> Result<Translation, Memory>
+    ensures { IfOk result (λ t. t ≡ translation_of (domain_view domain.now) (problem_view problem.now)) }
+{
     let Grounded { form, start } = ground_form(alloc, domain, problem)?;
     Ok(Translation {
         domain: domain_text(alloc, &form)?,
