@@ -5,3 +5,4 @@ pub mod Reporting
 pub mod Ending
 pub mod Words
 pub mod OneAnswer
+pub mod Translated

@@ -27,6 +27,10 @@ held_front : (o : Option (List ℕ)) (most : ℕ) (got : Got) → IsFront o most
 held_front (Some content) most got front = (content, refl, front)
 held_front None most got front = absurd front
 
+-- what was got of a name is a front of its content
+pub front_of : (held : FileMap) (name content : List ℕ) (most : ℕ) (got : Got) → Gets (Some held) name most got → map_of.get held name ≡ Some content → IsFront (Some content) most got
+front_of held name content most got gets is = subst (λ o. IsFront o most got) is gets
+
 -- the answer on two fronts is that on the files
 pub answers_files : (most : ℕ) (held : FileMap) (c : Command) (domain problem : Got) (r : Report) → Gets (Some held) c.domain most domain → Gets (Some held) c.problem most problem
     → ((d p : List ℕ) → IsFront (Some d) most domain → IsFront (Some p) most problem → Answers d p (status_of r)) → AnswersFiles held c (status_of r)

@@ -2,6 +2,7 @@
 use Rattle.std.specs.Prelude.{◌≡◌, ◌⊎◌, List, ℕ, Option, Vec}
 use Rattle.std.specs.declared.alloc.Global.{Global}
 use Rattle.kp_outside.specs.Outside.{FileMap, Rises, AddsFront, with_file, without_file, with_bytes}
+use Rattle.kp_plain.specs.declared.translation.Translation.{Translation}
 use Rattle.kp_run.specs.declared.status.Status.{Status}
 use Rattle.kp_run.specs.declared.status.Status.TheVariants as status
 use Rattle.kp_run.specs.Command.{Command, IsCommand}
@@ -30,6 +31,10 @@ pub record PutFailed (words : List (Vec ℕ Global)) (old new : List ℕ → ℕ
 pub record Files : Type 0 where
   pub domain : List ℕ
   pub problem : List ℕ
+
+-- the files of a translation
+abbrev pub files_of : Translation → Files
+files_of t = record { domain = t.domain; problem = t.problem }
 
 -- what is held once the first file is put, and once both are
 abbrev pub with_domain : Option FileMap → Command → Files → Option FileMap
@@ -64,3 +69,8 @@ Tells Due report old new faults_old faults_new status.ReadFault = new ≡ old
 Tells Due report old new faults_old faults_new status.WriteFault = (new ≡ old) ⊎ (Rises faults_old faults_new × TellsFront Due report old new)
 Tells Due report old new faults_old faults_new status.Memory = (new ≡ old) ⊎ TellsFront Due report old new
 Tells Due report old new faults_old faults_new s = new ≡ with_bytes old (text_of report s)
+
+-- the files of a translation are put, and its report is told, as far as the run came
+abbrev pub PutsAndTells : (Status → Type 0) → Command → Translation → Option FileMap → Option FileMap → (List ℕ → ℕ) → (List ℕ → ℕ) → Option (List ℕ) → Option (List ℕ) → ℕ → ℕ → Status → Type 0
+PutsAndTells Due c t old new faults_old faults_new told_old told_new sink_old sink_new s =
+    Puts (Due status.Done) c (files_of t) old new faults_old faults_new s × Tells Due t.report told_old told_new sink_old sink_new s

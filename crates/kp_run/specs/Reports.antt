@@ -1,5 +1,5 @@
 -- What is to be put and printed, as the functions between reading and writing hand it on; for proofs alone.
-use Rattle.std.specs.Prelude.{◌≡◌, ◌⊎◌, List, ℕ, Result, Err}
+use Rattle.std.specs.Prelude.{◌≡◌, ◌⊎◌, List, ℕ, Some, Result, Err}
 use Rattle.kp_outside.specs.declared.outside.OutsideStop.{OutsideStop}
 use Rattle.kp_outside.specs.declared.outside.OutsideStop.TheVariants as stops
 use Rattle.kp_plain.specs.declared.translation.Translation.{Translation}
@@ -9,9 +9,13 @@ use Rattle.kp_run.specs.declared.status.Status.{Status}
 use Rattle.kp_run.specs.declared.status.Status.TheVariants as status
 use Rattle.kp_run.specs.Due.{IsOfTranslate}
 use Rattle.kp_run.specs.Printed.{refusal_text}
-use Rattle.kp_run.specs.Ends.{Files}
 use Rattle.kp_run.specs.Command.{Command}
-use Rattle.kp_outside.specs.Outside.{Rises}
+use Rattle.kp_outside.specs.Outside.{FileMap, Rises}
+use Rattle.std.specs.FinMap.{get}
+use Rattle.kp_tree.specs.declared.tree.Word.{Word}
+use Rattle.kp_tree.specs.Trees as trees
+use Rattle.kp_plain.specs.Translations.{translation_of}
+use Rattle.kp_run.specs.PlainFiles.{IsDomain, IsProblem}
 
 -- the answer of a report
 abbrev pub status_of : Report → Status
@@ -33,11 +37,21 @@ abbrev pub stop_of : OutsideStop → Status → Status
 stop_of stops.Failed fault = fault
 stop_of stops.Memory fault = status.Memory
 
--- the files of a translation
-abbrev pub files_of : Translation → Files
-files_of t = record { domain = t.domain; problem = t.problem }
-
 -- the counts of failed gets over the reads of a command: where one failed, that of one of its files rose; else none changes
 abbrev pub CountsGets : {T : Type 0} → Result T OutsideStop → Command → (List ℕ → ℕ) → (List ℕ → ℕ) → Type 0
 CountsGets (Err stops.Failed) c old new = Rises (old c.domain) (new c.domain) ⊎ Rises (old c.problem) (new c.problem)
 CountsGets _ c old new = (q : List ℕ) → new q ≡ old q
+
+-- a report on two texts that has a translation has that of their trees
+abbrev pub IsTranslated : List ℕ → List ℕ → Report → Type 0
+IsTranslated domain problem (reports.Refused refused text) = Unit {0}
+IsTranslated domain problem (reports.Done translation) = (d : trees.Domain Word) (p : trees.Problem Word) → IsDomain domain d → IsProblem d problem p → translation ≡ translation_of d p
+
+-- the same of the files of a command
+abbrev pub IsTranslatedFrom : FileMap → Command → Report → Type 0
+IsTranslatedFrom held c r = (domain problem : List ℕ) → get held c.domain ≡ Some domain → get held c.problem ≡ Some problem → IsTranslated domain problem r
+
+-- these are the files of the report, where it has any, and this is what it prints of them
+abbrev pub HasFiles : Report → Translation → Type 0
+HasFiles (reports.Refused refused text) t = Unit {0}
+HasFiles (reports.Done translation) t = translation ≡ t

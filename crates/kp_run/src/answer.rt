@@ -5,7 +5,7 @@ ghost use Rattle.kp_run.specs.Due.{Answers, IsOfTranslate};
 ghost use Rattle.kp_run.specs.declared.status.Status.TheVariants as Status;
 ghost use Rattle.kp_run.specs.Names.{predicate_names};
 ghost use Rattle.kp_run.specs.PlainFiles.{IsDomain};
-ghost use Rattle.kp_run.specs.Reports.{status_of, HasItsText};
+ghost use Rattle.kp_run.specs.Reports.{status_of, HasItsText, IsTranslated};
 
 use crate::facts::is_contradictory;
 use crate::names::Names;
@@ -41,6 +41,7 @@ fn on_problem(alloc: Global, domain: &Domain, names: &Names, got: &Got) -> Resul
     ensures answers { (d p : List ℕ) → IsDomain d (domain_view domain.now) → IsFront (Some p) 16777216 got.now
         → IfOk result (λ r. Answers d p (status_of r)) }
     ensures text { IfOk result HasItsText }
+    ensures translated { (d p : List ℕ) → IsDomain d (domain_view domain.now) → IsFront (Some p) 16777216 got.now → IfOk result (IsTranslated d p) }
 {
     let Some(problem) = read_problem(alloc, got)? else {
         return refuse(alloc, Refused::NotYet(Part::Problem));
@@ -59,6 +60,7 @@ pub fn report_on(alloc: Global, domain: &Got, problem: &Got) -> Result<Report, M
     ensures answers { (d p : List ℕ) → IsFront (Some d) 16777216 domain.now → IsFront (Some p) 16777216 problem.now
         → IfOk result (λ r. Answers d p (status_of r)) }
     ensures text { IfOk result HasItsText }
+    ensures translated { (d p : List ℕ) → IsFront (Some d) 16777216 domain.now → IsFront (Some p) 16777216 problem.now → IfOk result (IsTranslated d p) }
 {
     let Some(domain) = read_domain(alloc, domain)? else {
         return refuse(alloc, Refused::NotYet(Part::Domain));

@@ -1,12 +1,16 @@
 ghost use Rattle.std.specs.Prelude.{◌≡◌, ◌≢◌, ◌⊎◌, ℕ, List, Some, IfOk, IsNone, IsErrOf};
 ghost use Rattle.std.specs.FinMap as map_of;
+ghost use Rattle.kp_tree.specs.declared.tree.Word.{Word};
+ghost use Rattle.kp_tree.specs.Trees as trees;
+ghost use Rattle.kp_plain.specs.Translations.{translation_of};
+ghost use Rattle.kp_run.specs.PlainFiles.{IsDomain, IsProblem};
 ghost use Rattle.kp_outside.specs.declared.outside.OutsideStop.TheVariants as stops;
 ghost use Rattle.kp_outside.specs.Outside.{FileMap, Rises};
 ghost use Rattle.kp_run.specs.declared.status.Status.TheVariants as status;
 ghost use Rattle.kp_run.specs.Command.{Command as Names, IsCommand, IsNoCommand};
 ghost use Rattle.kp_run.specs.Due.{AnswersFiles, IsDue, IsOfTranslate};
-ghost use Rattle.kp_run.specs.Ends.{IsAnswer, GetFailed, PutFailed, Files, Puts, Tells};
-ghost use Rattle.kp_run.specs.Reports.{status_of, CountsGets, HasItsText};
+ghost use Rattle.kp_run.specs.Ends.{IsAnswer, GetFailed, PutFailed, Files, Puts, Tells, PutsAndTells};
+ghost use Rattle.kp_run.specs.Reports.{status_of, CountsGets, HasItsText, IsTranslatedFrom};
 
 use crate::answer::{Report, report_on};
 use crate::command::Command;
@@ -27,6 +31,7 @@ fn read_report<S: Shelf>(
 ) -> Result<Report, OutsideStop>
     ensures answers { (m : FileMap) → S.contents shelf.old ≡ Some m → IfOk result (λ r. AnswersFiles m command.now (status_of r)) }
     ensures text { IfOk result HasItsText }
+    ensures translated { (m : FileMap) → S.contents shelf.old ≡ Some m → IfOk result (IsTranslatedFrom m command.now) }
     ensures contents { S.contents shelf.new ≡ S.contents shelf.old }
     ensures faults { CountsGets result command.now (S.get_faults shelf.old) (S.get_faults shelf.new) }
     ensures domain_first { (m : FileMap) → S.contents shelf.old ≡ Some m → IsNone (map_of.get m command.now.domain) → IsErrOf result stops.Failed
@@ -77,6 +82,10 @@ pub fn run<S: Shelf, O: Sink>(
         → Rises (S.get_faults shelf.old c.domain) (S.get_faults shelf.new c.domain) }
     // What is held afterwards.
     ensures puts { (c : Names) → IsCommand words.now c → (files : Files) × Puts (IsDue words.now (S.contents shelf.old) status.Done) c files (S.contents shelf.old) (S.contents shelf.new) (S.put_faults shelf.old) (S.put_faults shelf.new) result }
+    // Where it is told what the files hold, and Done is due, what is put and printed is the translation of their trees.
+    ensures translated { (m : FileMap) (c : Names) (domain problem : List ℕ) (d : trees.Domain Word) (p : trees.Problem Word) → S.contents shelf.old ≡ Some m → IsCommand words.now c
+        → map_of.get m c.domain ≡ Some domain → map_of.get m c.problem ≡ Some problem → IsDomain domain d → IsProblem d problem p
+        → PutsAndTells (IsDue words.now (S.contents shelf.old)) c (translation_of d p) (S.contents shelf.old) (S.contents shelf.new) (S.put_faults shelf.old) (S.put_faults shelf.new) (O.told out.old) (O.told out.new) (O.faults out.old) (O.faults out.new) result }
     ensures puts_nothing { IsNoCommand words.now → S.contents shelf.new ≡ S.contents shelf.old }
     // What was told.
     ensures told { (report : List ℕ) × Tells (IsDue words.now (S.contents shelf.old)) report (O.told out.old) (O.told out.new) (O.faults out.old) (O.faults out.new) result }

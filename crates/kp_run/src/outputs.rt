@@ -2,9 +2,10 @@ ghost use Rattle.std.specs.Prelude.{◌≡◌, ◌≢◌, ◌⊎◌, ℕ, List, 
 ghost use Rattle.kp_outside.specs.declared.outside.OutsideStop.TheVariants as stops;
 ghost use Rattle.kp_outside.specs.Outside.{Counted, Rises, AddsFront, with_bytes};
 ghost use Rattle.kp_run.specs.declared.status.Status.TheVariants as status;
-ghost use Rattle.kp_run.specs.Ends.{IsAnswer, BreaksOff, Puts, Tells, Files, with_both};
+ghost use Rattle.kp_run.specs.Ends.{IsAnswer, BreaksOff, Puts, Tells, Files, with_both, files_of};
 ghost use Rattle.kp_run.specs.Printed.{text_of};
-ghost use Rattle.kp_run.specs.Reports.{status_of, printed_of, files_of, stop_of, HasItsText};
+ghost use Rattle.kp_plain.specs.declared.translation.Translation.{Translation as Translated};
+ghost use Rattle.kp_run.specs.Reports.{HasFiles, status_of, printed_of, stop_of, HasItsText};
 
 use crate::answer::Report;
 use crate::command::Command;
@@ -87,6 +88,7 @@ pub fn finish<S: Shelf, O: Sink>(
     ensures no_write_fault { result ≢ status.WriteFault → (O.faults out.new ≡ O.faults out.old) × ((q : List ℕ) → S.put_faults shelf.new q ≡ S.put_faults shelf.old q) }
     ensures get_faults { (q : List ℕ) → S.get_faults shelf.new q ≡ S.get_faults shelf.old q }
     ensures puts { (files : Files) × Puts (status_of report ≡ status.Done) command.now files (S.contents shelf.old) (S.contents shelf.new) (S.put_faults shelf.old) (S.put_faults shelf.new) result }
+    ensures its_files { (t : Translated) → HasFiles report t → Puts (status_of report ≡ status.Done) command.now (files_of t) (S.contents shelf.old) (S.contents shelf.new) (S.put_faults shelf.old) (S.put_faults shelf.new) result }
     ensures told { Tells (λ s. s ≡ status_of report) (printed_of report) (O.told out.old) (O.told out.new) (O.faults out.old) (O.faults out.new) result }
 {
     match report {

@@ -4,6 +4,7 @@ use Rattle.kp_tree.specs.View.{domain_view, problem_view}
 use Rattle.kp_run.specs.Due.{no_problem, no_initial_state, done}
 use Rattle.kp_run.proofs.Reading.{of_others, of_these}
 use Rattle.kp_run.proofs.Reporting.{refused_as}
+use Rattle.kp_run.proofs.Translated.{refused_is, translated}
 use Rattle.kp_run.proofs.answer.on_problem.Goals as goal
 
 -- the text hasn't the form
@@ -37,3 +38,17 @@ returns-clause-answers c d p domain front =
     done (domain_view c.args.domain.now) (problem_view c.in-Some.problem) domain
     (of_these (domain_view c.args.domain.now) c.args.names.now p (problem_view c.in-Some.problem) c.requires form (sym c.knows_problem.ensures ∙ c.if-not-knows_problem.false))
     (λ both. true≢false (sym (test.1 both) ∙ c.if-branch.false))
+
+-- ---- the translation
+
+pub returns-in_default-clause-translated : goal.returns-in_default-clause-translated
+returns-in_default-clause-translated c d p domain front = refused_is d p c.refuse.result _ c.refuse.ensures
+
+pub returns-then-not-knows_problem-clause-translated : goal.returns-then-not-knows_problem-clause-translated
+returns-then-not-knows_problem-clause-translated c d p domain front = refused_is d p c.refuse-then-not-knows_problem.result _ c.refuse-then-not-knows_problem.ensures
+
+pub returns-then-branch-clause-translated : goal.returns-then-branch-clause-translated
+returns-then-branch-clause-translated c d p domain front = refused_is d p c.refuse-then-branch.result _ c.refuse-then-branch.ensures
+
+pub returns-clause-translated : goal.returns-clause-translated
+returns-clause-translated c d p domain front = translated d p (domain_view c.args.domain.now) (problem_view c.in-Some.problem) _ domain (rw c.in-Some.is at (c.in_ok-problem.ensures p front)) c.in_ok-translate.ensures

@@ -4,6 +4,11 @@ use Rattle.kp_run.specs.Due.{IsDue, usage}
 use Rattle.kp_run.specs.Reports.{status_of, printed_of}
 use Rattle.kp_run.proofs.Reporting.{is_due, both_held, one_command}
 use Rattle.kp_run.proofs.Ending.{no_files, gets_stopped, told_of_due, puts_where}
+use Rattle.kp_plain.specs.Translations.{translation_of}
+use Rattle.kp_run.specs.Ends.{files_of}
+use Rattle.kp_run.specs.Reports.{HasFiles}
+use Rattle.kp_run.proofs.Translated.{has_files, same_text}
+use Rattle.kp_run.proofs.Ending.{tells_stopped, told_as}
 use Rattle.kp_run.proofs.entry.run.Goals as goal
 
 -- ---- the words are no command
@@ -53,4 +58,27 @@ returns-in-Ok-clause-told g c =
 -- ---- a read stopped
 
 pub returns-in-Err-clause-puts : goal.returns-in-Err-clause-puts
-returns-in-Err-clause-puts g c other is = (no_files, rw c.stopped.ensures (gets_stopped _ other _ _ _ _ c.in-Err.stop c.in-Err.ensures.contents))
+returns-in-Err-clause-puts g c other is = (no_files, rw c.stopped.ensures (gets_stopped _ other no_files _ _ _ _ c.in-Err.stop c.in-Err.ensures.contents))
+
+-- ---- the translation
+
+pub returns-in_default-clause-translated : goal.returns-in_default-clause-translated
+returns-in_default-clause-translated g c m other domain problem d p told is = absurd (c.in_default.ensures other is)
+
+pub returns-in-Err-clause-translated : goal.returns-in-Err-clause-translated
+returns-in-Err-clause-translated g c m other domain problem d p told is first second dom prob =
+    (rw c.stopped.ensures (gets_stopped _ other (files_of (translation_of d p)) _ _ _ _ c.in-Err.stop c.in-Err.ensures.contents), rw c.stopped.ensures (tells_stopped _ _ _ _ _ c.in-Err.stop))
+
+pub returns-in-Ok-clause-translated : goal.returns-in-Ok-clause-translated
+returns-in-Ok-clause-translated g c m other domain problem d p told is first second dom prob =
+    let P = IsDue c.args.words.now (g.S.Shelf.contents c.args.shelf.now) in
+    let same = one_command c.args.words.now other c.in-Some.command is c.in-Some.ensures in
+    let has : HasFiles c.in-Ok.report (translation_of d p) = has_files domain problem c.in-Ok.report d p dom prob (c.in-Ok.ensures.translated m told domain problem (rw same at first) (rw same at second)) in
+    let due : (status_of c.in-Ok.report ≡ status.Done) → P status.Done = λ done. subst P done (is_due c.args.words.now _ c.in-Some.command c.in-Ok.report c.in-Some.ensures c.in-Ok.ensures.text c.in-Ok.ensures.answers) in
+    let put = puts_where (status_of c.in-Ok.report ≡ status.Done) (P status.Done) c.in-Some.command (files_of (translation_of d p)) _ (g.S.Shelf.contents c.finish.new.shelf) (g.S.Shelf.put_faults c.read_report.new.shelf) (g.S.Shelf.put_faults c.args.shelf.now) (g.S.Shelf.put_faults c.finish.new.shelf) c.finish.result due c.in-Ok.ensures.put_faults (c.finish.ensures.its_files (translation_of d p) has) in
+    let here = rw c.in-Ok.ensures.contents at put in (
+      rw same here,
+      told_as (λ s. s ≡ status_of c.in-Ok.report) P (printed_of c.in-Ok.report) _ _ _ _ _ c.finish.result
+          (λ t so. subst P (sym so) (is_due c.args.words.now _ c.in-Some.command c.in-Ok.report c.in-Some.ensures c.in-Ok.ensures.text c.in-Ok.ensures.answers))
+          (same_text c.in-Ok.report (translation_of d p) has) c.finish.ensures.answer c.finish.ensures.told,
+    )
