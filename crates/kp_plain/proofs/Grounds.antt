@@ -1,26 +1,23 @@
 -- What the code assembles by number is the ground problem by name.
-use Rattle.std.proofs.Common.{◌≡◌, ℕ, zero, suc, ◌<◌, ◌≤◌, ◌+◌, Bool, true, false, not, ◌&&◌, ◌||◌, if◌then◌else◌, cond, List, [], ◌∷◌, ◌++◌, length, map, filter, flat_map, fold, take, get_or, nat_eq, slice_index_or, refl, sym, ap, ap₂, subst, ◌∙◌, arith, true≢false, add-zero, zero-add, add-suc, suc-add, eqb-true, take-suc, take_all, append_assoc, append-nil, le_refl}
-use Rattle.std.specs.List.{list_any, list_all}
+use Rattle.std.proofs.Common.{◌≡◌, ℕ, zero, suc, ◌<◌, ◌≤◌, ◌+◌, Bool, true, false, not, ◌&&◌, ◌||◌, if◌then◌else◌, cond, List, [], ◌∷◌, ◌++◌, length, map, filter, flat_map, fold, take, get_or, nat_eq, slice_index_or, refl, sym, ap, ap₂, ◌∙◌, arith, true≢false, add-zero, zero-add, add-suc, suc-add, eqb-true, take-suc, take_all, append_assoc, append-nil, le_refl}
+use Rattle.std.specs.List.{list_all}
 use Rattle.std.specs.Bool.{beq}
 use Rattle.std.proofs.lemmas.List.{map-append}
 use Rattle.std.proofs.lemmas.List.Elements.{filter-append}
 use Rattle.std.proofs.lemmas.List.Folds.{list_all-append, list_any-append}
 use Rattle.std.proofs.lemmas.Grind.{flat_map-append, fold-append}
 use Rattle.kp_base.specs.declared.lit.Lit.{Lit}
-use Rattle.kp_base.specs.declared.ground.GroundName.{GroundName}
 use Rattle.kp_base.specs.declared.ground.Effect.{Effect}
 use Rattle.kp_base.specs.declared.ground.Action.{Action}
 use Rattle.kp_base.specs.LitSet.{with_lit}
 use Rattle.kp_tree.specs.declared.tree.Word.{Word}
 use Rattle.kp_tree.specs.Trees.{Schema, Domain, Problem}
 use Rattle.kp_names.specs.Names.{Name, same, is_among, only_if}
-use Rattle.kp_plain.specs.declared.numbering.Mention.{Mention}
-use Rattle.kp_plain.specs.declared.numbering.Step.{Step}
 use Rattle.kp_plain.specs.Ground as ground
 use Rattle.kp_plain.specs.Ground.{Literal, is_named, place, declared, results_of, init_of, goal_of, stated, kept, light_pre, occurring, atoms_of, numbered, set_of, same_lit, each_once, is_idle, lasting, nullary, known_of, start_of}
-use Rattle.kp_plain.specs.Grounding.{marked, PlainStep, plain, names_from, numbers_from, literal_of, put_in, with_known, known_before, distinct, effect_of, effects_of, action_of}
-use Rattle.kp_plain.proofs.Names.{both_true, same_name, with_new, once, gathers_all, place_below, IsPlaced, distinct_placed, is_itself, or_true}
-use Rattle.kp_plain.proofs.Marking.{both_pass, mention, has_number, light, named_known}
+use Rattle.kp_plain.specs.Grounding.{marked, names_from, numbers_from, literal_of, put_in, with_known, known_before, distinct, effect_of, effects_of, action_of}
+use Rattle.kp_plain.proofs.Names.{both_true, same_name, with_new, once, gathers_all, distinct_placed, is_itself, or_true}
+use Rattle.kp_plain.proofs.Marking.{mention, has_number, light, named_known}
 
 -- ---- atoms
 
@@ -145,7 +142,7 @@ all_named : (seen ls : List Literal) → list_all (λ l. is_named (seen ++ ls) l
 all_named seen [] = refl
 all_named seen (l ∷ ls) =
     let itself : is_named (seen ++ l ∷ ls) l.head ≡ true =
-        list_any-append (λ m. same m.head l.head) seen (l ∷ ls) ∙ ap (λ b. is_named seen l.head || (b || is_named ls l.head)) (is_itself l.head) ∙ or_true (is_named seen l.head) in
+    list_any-append (λ m. same m.head l.head) seen (l ∷ ls) ∙ ap (λ b. is_named seen l.head || (b || is_named ls l.head)) (is_itself l.head) ∙ or_true (is_named seen l.head) in
     ap₂ (λ a b. a && b) itself (ap (λ xs. list_all (λ m. is_named xs m.head) ls) (sym (append_assoc seen (l ∷ []) ls)) ∙ all_named (seen ++ l ∷ []) ls)
 
 module _ (d : Domain Word) (p : Problem Word) (occurs : List Bool) (found : (n : Name) → marked occurs (place (declared d) n) ≡ is_named (occurring d p) n) (known : list_all (has_number (declared d)) (occurring d p) ≡ true) where
@@ -178,9 +175,9 @@ module _ (d : Domain Word) (p : Problem Word) (occurs : List Bool) (found : (n :
   action_is s h =
       let parts = both_true (list_all occurs_in (light_pre d p s)) (list_all occurs_in (results_of d s)) (sym (list_all-append occurs_in (light_pre d p s) (results_of d s)) ∙ h) in
       let results : distinct (map (literal_of numbers) (map (mention (declared d)) (results_of d s))) [] ≡ each_once (map (numbered (atoms_of d p)) (results_of d s)) =
-          ap (λ ls. distinct ls []) (literals_are (results_of d s) parts.1) ∙ distinct_is (map (numbered (atoms_of d p)) (results_of d s)) in
+      ap (λ ls. distinct ls []) (literals_are (results_of d s) parts.1) ∙ distinct_is (map (numbered (atoms_of d p)) (results_of d s)) in
       ap₂ (λ a b. let made : Action = record { name = nullary s.name.text; pre = a; effects = b } in made) (set_is (light_pre d p s) parts.0)
-          (ap effects_of results ∙ effects_are (each_once (map (numbered (atoms_of d p)) (results_of d s))) (each_once (map (numbered (atoms_of d p)) (results_of d s))))
+      (ap effects_of results ∙ effects_are (each_once (map (numbered (atoms_of d p)) (results_of d s))) (each_once (map (numbered (atoms_of d p)) (results_of d s))))
 
   actions_are : (ss : List (Schema Word)) → list_all occurs_in (flat_map (λ s. light_pre d p s ++ results_of d s) ss) ≡ true → map (action_of numbers) (map (light d p) ss) ≡ map (ground.action_of d p) ss
   actions_are [] h = refl
@@ -210,16 +207,16 @@ module _ (d : Domain Word) (p : Problem Word) (occurs : List Bool) (found : (n :
 
     more_known : (ns : List Name) (n : Name) → fold (λ set l. with_lit l set) (known_set ns) (map (numbered (atoms_of d p)) (known_of d p n ++ [])) ≡ known_set (ns ++ n ∷ [])
     more_known ns n = sym (
-      ap (λ ls. set_of (map (numbered (atoms_of d p)) ls)) (flat_map-append (known_of d p) ns (n ∷ []))
-      ∙ ap set_of (map-append (numbered (atoms_of d p)) (flat_map (known_of d p) ns) (known_of d p n ++ []))
-      ∙ fold-append (λ set l. with_lit l set) [] (map (numbered (atoms_of d p)) (flat_map (known_of d p) ns)) (map (numbered (atoms_of d p)) (known_of d p n ++ []))
-    )
+        ap (λ ls. set_of (map (numbered (atoms_of d p)) ls)) (flat_map-append (known_of d p) ns (n ∷ []))
+        ∙ ap set_of (map-append (numbered (atoms_of d p)) (flat_map (known_of d p) ns) (known_of d p n ++ []))
+        ∙ fold-append (λ set l. with_lit l set) [] (map (numbered (atoms_of d p)) (flat_map (known_of d p) ns)) (map (numbered (atoms_of d p)) (known_of d p n ++ []))
+        )
 
     knowing : (n : Name) (before : List Lit) → with_known (is_named (stated true d p) n) (is_named (stated false d p) n) (place (atoms_of d p) n) before ≡ fold (λ set l. with_lit l set) before (map (numbered (atoms_of d p)) (known_of d p n ++ []))
     knowing n before =
         known_step (atoms_of d p) (is_named (stated true d p) n) (is_named (stated false d p) n) n before
         ∙ ap (λ b. fold (λ set l. with_lit l set) before (map (numbered (atoms_of d p)) ((only_if (is_named (stated true d p) n) (record { positive = true; head = n } ∷ []) ++ only_if (is_named (stated false d p) n || not b) (record { positive = false; head = n } ∷ [])) ++ [])))
-            (sym (said_or_denied (init_of d p) n))
+        (sym (said_or_denied (init_of d p) n))
 
     start_at : (k : ℕ) → k ≤ length (declared d) → known_before occurs said denied numbers k ≡ known_set (filter (is_named (occurring d p)) (take k (declared d)))
     start_at zero h = refl
@@ -237,7 +234,7 @@ module _ (d : Domain Word) (p : Problem Word) (occurs : List Bool) (found : (n :
             → (is_named (occurring d p) (get_or (declared d) k []) ≡ true → slice_index_or numbers k 0 ≡ place (atoms_of d p) (get_or (declared d) k []))
             → known_before occurs said denied numbers k ≡ known_set (filter (is_named (occurring d p)) (take k (declared d)))
             → (if marked occurs k then with_known (marked said k) (marked denied k) (slice_index_or numbers k 0) (known_before occurs said denied numbers k) else known_before occurs said denied numbers k)
-                ≡ known_set (filter (is_named (occurring d p)) (take k (declared d)) ++ filter (is_named (occurring d p)) (get_or (declared d) k [] ∷ []))
+            ≡ known_set (filter (is_named (occurring d p)) (take k (declared d)) ++ filter (is_named (occurring d p)) (get_or (declared d) k [] ∷ []))
         by true e m s t number rest =
             rw (m, e, s, t, number e, rest)
             (knowing (get_or (declared d) k []) (known_set (filter (is_named (occurring d p)) (take k (declared d))))

@@ -5,3 +5,4 @@ pub mod Names
 pub mod Marking
 pub mod Grounds
 pub mod Wholes
+mod Examples

@@ -1,6 +1,6 @@
 -- Literals by name and by number say the same.
-use Rattle.std.proofs.Common.{◌≡◌, ℕ, zero, suc, ◌<◌, ◌≤◌, ◌+◌, Bool, true, false, not, ◌&&◌, ◌||◌, if◌then◌else◌, cond, List, [], ◌∷◌, ◌++◌, length, map, filter, flat_map, get_or, nat_eq, slice_index_or, Option, Some, None, refl, sym, ap, ap₂, subst, ◌∙◌, arith, true≢false, append_assoc}
-use Rattle.std.specs.List.{list_any, list_all}
+use Rattle.std.proofs.Common.{◌≡◌, Bool, true, false, not, ◌&&◌, ◌||◌, if◌then◌else◌, cond, List, [], ◌∷◌, ◌++◌, length, map, filter, flat_map, nat_eq, Some, None, refl, sym, ap, ap₂, ◌∙◌, arith, true≢false, append_assoc}
+use Rattle.std.specs.List.{list_all}
 use Rattle.std.specs.Bool.{beq}
 use Rattle.std.proofs.lemmas.List.{map-append, get_or_past}
 use Rattle.std.proofs.lemmas.List.Folds.{list_all-append, flat_map-map}
@@ -10,8 +10,8 @@ use Rattle.kp_names.specs.Names.{Name, same, is_among, signed}
 use Rattle.kp_plain.specs.declared.numbering.Mention.{Mention}
 use Rattle.kp_plain.specs.declared.numbering.Step.{Step}
 use Rattle.kp_plain.specs.Ground.{Literal, is_named, place, cond_literals, eff_literals, item_literals, declared, known, pre_of, results_of, init_of, goal_of, stated, is_static, is_open_or_true, without_static, kept, light_pre, occurring}
-use Rattle.kp_plain.specs.Grounding.{mention_of, number_of, mention_at, named_by, AreMarks, marked, has_sign, PlainStep, plain, step_of, changes, settles, is_kept, lighter, step_mentions, IsStanding}
-use Rattle.kp_plain.proofs.Names.{one_true, both_true, same_name, any_map, any_same, place_below, place_past, place_tells}
+use Rattle.kp_plain.specs.Grounding.{mention_of, mention_at, named_by, AreMarks, marked, has_sign, PlainStep, plain, step_of, changes, settles, is_kept, lighter, step_mentions, IsStanding}
+use Rattle.kp_plain.proofs.Names.{both_true, same_name, any_map, any_same, place_below, place_past, place_tells}
 
 -- ---- lists
 
@@ -193,8 +193,8 @@ module _ (d : Domain Word) (p : Problem Word) where
     pub changed_is : (n : Name) → marked changed (place (declared d) n) ≡ not (is_static d p n)
     changed_is n =
         marks_are (declared d) (stated false d p ++ flat_map (results_of d) d.schemas) (filter (has_sign false) init ++ flat_map (λ s. s.effects.items) steps) changed changing_are
-            (both_pass (has_number (declared d)) (stated false d p) (flat_map (results_of d) d.schemas) (stated_known false) (flat_passes (has_number (declared d)) (results_of d) (λ s. all_known (eff_literals s.effect)) d.schemas))
-            read.standing.changed_by n
+        (both_pass (has_number (declared d)) (stated false d p) (flat_map (results_of d) d.schemas) (stated_known false) (flat_passes (has_number (declared d)) (results_of d) (λ s. all_known (eff_literals s.effect)) d.schemas))
+        read.standing.changed_by n
         ∙ twice (is_named (stated false d p ++ flat_map (results_of d) d.schemas) n)
 
     -- without static literals
@@ -229,8 +229,8 @@ module _ (d : Domain Word) (p : Problem Word) where
     occurring_are left found e f =
         let here : filter (changes changed) init ≡ map (mention (declared d)) (without_static d p (init_of d p)) = ap (filter (changes changed)) init_is ∙ changes_are (init_of d p) in
         let there : flat_map step_mentions (map plain left) ≡ map (mention (declared d)) (flat_map (λ s. light_pre d p s ++ results_of d s) (kept d p)) =
-            ap (flat_map step_mentions) e ∙ flat_map-map step_mentions light (kept d p)
-            ∙ flat_map_is (λ s. step_mentions (light s)) (mention (declared d)) (λ s. light_pre d p s ++ results_of d s) step_literals_are (kept d p) in
+        ap (flat_map step_mentions) e ∙ flat_map-map step_mentions light (kept d p)
+        ∙ flat_map_is (λ s. step_mentions (light s)) (mention (declared d)) (λ s. light_pre d p s ++ results_of d s) step_literals_are (kept d p) in
         f ∙ append_assoc (filter (changes changed) init) goal (flat_map step_mentions (map plain left)) ∙ ap₂ (λ a b. a ++ b) here (ap₂ (λ a b. a ++ b) goal_is there ∙ sym (map-append (mention (declared d)) (goal_of d p) (flat_map (λ s. light_pre d p s ++ results_of d s) (kept d p))))
         ∙ sym (map-append (mention (declared d)) (without_static d p (init_of d p)) (goal_of d p ++ flat_map (λ s. light_pre d p s ++ results_of d s) (kept d p)))
 
@@ -238,9 +238,9 @@ module _ (d : Domain Word) (p : Problem Word) where
     occurring_known =
         let P = has_number (declared d) in
         both_pass P (without_static d p (init_of d p)) (goal_of d p ++ flat_map (λ s. light_pre d p s ++ results_of d s) (kept d p))
-            (filter_passes P (λ l. not (is_static d p l.head)) (init_of d p) (all_known (flat_map item_literals p.init)))
-            (both_pass P (goal_of d p) (flat_map (λ s. light_pre d p s ++ results_of d s) (kept d p)) (all_known (cond_literals p.goal))
-                (flat_passes P (λ s. light_pre d p s ++ results_of d s) (λ s. both_pass P (light_pre d p s) (results_of d s) (filter_passes P (λ l. not (is_static d p l.head)) (pre_of d s) (all_known (cond_literals s.pre))) (all_known (eff_literals s.effect))) (kept d p)))
+        (filter_passes P (λ l. not (is_static d p l.head)) (init_of d p) (all_known (flat_map item_literals p.init)))
+        (both_pass P (goal_of d p) (flat_map (λ s. light_pre d p s ++ results_of d s) (kept d p)) (all_known (cond_literals p.goal))
+        (flat_passes P (λ s. light_pre d p s ++ results_of d s) (λ s. both_pass P (light_pre d p s) (results_of d s) (filter_passes P (λ l. not (is_static d p l.head)) (pre_of d s) (all_known (cond_literals s.pre))) (all_known (eff_literals s.effect))) (kept d p)))
 
     pub occurs_are : (left : List Step) (found : List Mention) (occurs : List Bool) → map plain left ≡ map light (kept d p)
         → found ≡ filter (changes changed) init ++ goal ++ flat_map step_mentions (map plain left)

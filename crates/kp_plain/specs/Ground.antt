@@ -1,6 +1,6 @@
 -- The ground problem of a plain domain and a plain problem, by name.
--- Plain files have no objects, conditional effects or uncertain facts; where a tree has them, they say nothing here.
-use Rattle.std.specs.Prelude.{ℕ, zero, suc, Bool, true, false, not, ◌&&◌, ◌||◌, if◌then◌else◌, List, [], ◌∷◌, ◌++◌, map, filter, flat_map, fold, nat_eq}
+-- Plain files have no objects, equalities, conditional effects or uncertain facts; where a tree has them, they say nothing here.
+use Rattle.std.specs.Prelude.{ℕ, suc, Bool, true, false, not, ◌&&◌, ◌||◌, if◌then◌else◌, List, [], ◌∷◌, ◌++◌, map, filter, flat_map, fold, nat_eq}
 use Rattle.std.specs.List.{list_any, list_all}
 use Rattle.std.specs.Bool.{beq}
 use Rattle.kp_base.specs.declared.lit.Lit.{Lit}
@@ -75,16 +75,19 @@ declared d = distinct (map (λ q. q.head.text) d.predicates)
 abbrev pub known : Domain Word → List Literal → List Literal
 known d ls = filter (λ l. is_among (declared d) l.head) ls
 
--- the literals of a precondition, those that an effect makes true, those that `:init` states, those of the goal
+-- the literals of a precondition
 abbrev pub pre_of : Domain Word → Schema Word → List Literal
 pre_of d s = known d (cond_literals s.pre)
 
+-- the literals that an effect makes true
 abbrev pub results_of : Domain Word → Schema Word → List Literal
 results_of d s = known d (eff_literals s.effect)
 
+-- the literals that `:init` states
 abbrev pub init_of : Domain Word → Problem Word → List Literal
 init_of d p = known d (flat_map item_literals p.init)
 
+-- the literals of the goal
 abbrev pub goal_of : Domain Word → Problem Word → List Literal
 goal_of d p = known d (cond_literals p.goal)
 
@@ -94,7 +97,7 @@ stated positive d p = filter (λ l. beq positive l.positive) (init_of d p)
 
 -- ---- static predicates
 
--- no effect names it, and no negative item
+-- a predicate is static where no effect names it, and each item that names it is positive
 abbrev pub is_static : Domain Word → Problem Word → Name → Bool
 is_static d p n = not (is_named (stated false d p ++ flat_map (results_of d) d.schemas) n)
 
@@ -135,7 +138,7 @@ place (m ∷ ms) n = if same n m then 0 else suc (place ms n)
 abbrev pub numbered : List Name → Literal → Lit
 numbered atoms l = record { atom = record { 0 = place atoms l.head }; positive = l.positive }
 
--- the set of some literals
+-- the set of some literals, in ascending order of code
 abbrev pub set_of : List Lit → List Lit
 set_of ls = fold (λ set l. with_lit l set) [] ls
 
@@ -164,6 +167,7 @@ lasting results = map (λ l. record { cond = []; result = l }) (filter (λ l. no
 abbrev pub nullary : Name → GroundName
 nullary head = record { head = head; objects = [] }
 
+-- the ground action of a kept action
 abbrev pub action_of : Domain Word → Problem Word → Schema Word → Action
 action_of d p s = record {
   name = nullary s.name.text;
@@ -181,7 +185,7 @@ ground_of d p = record {
 
 -- ---- the start
 
--- a predicate that `:init` doesn't state anything of: it is false at the start
+-- no item names the predicate: it is false at the start
 abbrev pub is_closed : Domain Word → Problem Word → Name → Bool
 is_closed d p n = not (is_named (init_of d p) n)
 
@@ -191,6 +195,6 @@ known_of d p n =
     only_if (is_named (stated true d p) n) (record { positive = true; head = n } ∷ [])
     ++ only_if (is_named (stated false d p) n || is_closed d p n) (record { positive = false; head = n } ∷ [])
 
--- the literals that hold in every initial state
+-- the literals that hold at the start: where there is an initial state, those that hold in all of them
 unfoldable pub start_of : Domain Word → Problem Word → List Lit
 start_of d p = set_of (map (numbered (atoms_of d p)) (flat_map (known_of d p) (atoms_of d p)))

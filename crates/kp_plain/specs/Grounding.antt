@@ -1,5 +1,5 @@
 -- What the private functions of the grounding compute, over predicates by number. For proofs alone; `specs/Ground.antt` has the ground problem.
-use Rattle.std.specs.Prelude.{◌≡◌, ℕ, zero, suc, ◌<◌, Bool, true, false, not, ◌&&◌, ◌||◌, if◌then◌else◌, List, [], ◌∷◌, ◌++◌, length, map, filter, nat_eq, slice_index_or, Option, Some, None}
+use Rattle.std.specs.Prelude.{◌≡◌, ℕ, zero, suc, ◌<◌, Bool, true, false, not, ◌||◌, if◌then◌else◌, List, [], ◌∷◌, ◌++◌, length, map, filter, nat_eq, slice_index_or, Option, Some, None}
 use Rattle.std.specs.List.{list_any, list_all, flat_map}
 use Rattle.kp_base.specs.declared.lit.Lit.{Lit}
 use Rattle.kp_base.specs.declared.ground.GroundName.{GroundName}

@@ -1,13 +1,15 @@
 ghost use Rattle.std.specs.Prelude.{◌≡◌, ◌++◌, [], ◌&&◌, ◌||◌, not, true, false, length, map, filter, IfOk, OnOk, slice_index_or, slice_set};
 ghost use Rattle.std.specs.List.{list_any, list_all, flat_map};
 ghost use Rattle.kp_tree.specs.View.{domain_view, problem_view};
-ghost use Rattle.kp_plain.specs.Ground.{nullary, is_idle, ground_of, start_of};
-ghost use Rattle.kp_plain.specs.Grounding.{AreMarks, marked, has_sign, plain, changes, settles, is_kept, lighter, step_mentions, names_from, numbers_from, literal_of, put_in, with_known, known_before, distinct, effect_of, effects_of, action_of, IsStanding};
+ghost use Rattle.kp_plain.specs.Ground.{ground_of, start_of};
+ghost use Rattle.kp_plain.specs.Grounding.{plain, changes, is_kept, lighter, step_mentions, names_from, numbers_from, literal_of, put_in, with_known, known_before, action_of};
 
+use crate::actions::actions;
+use crate::atoms::Atoms;
 use crate::numbering::{Mention, Numbered, Step, by_number};
 use crate::predicates::Predicates;
-use indexmap::IndexSet;
-use kp_base::{Action, AtomId, Effect, Ground, GroundName, Lit, LitSet, Memory, Row, Text};
+use crate::standing::{Marks, Standing};
+use kp_base::{AtomId, Ground, Lit, LitSet, Memory};
 use kp_tree::{Domain, Problem};
 use std::alloc::Global;
 
@@ -18,113 +20,6 @@ pub struct Grounded {
     pub form: Ground,
     /// The literals that hold at the start: the closure of the empty tag.
     pub start: LitSet,
-}
-
-// Which predicates some literals name, by number.
-#[derive(Drop)]
-struct Marks {
-    marked: Vec<bool>,
-}
-
-impl Marks {
-    // The predicates, of so many, that the literals name.
-    fn of(alloc: Global, count: usize, mentions: &[Mention]) -> Result<Marks, Memory>
-        ensures { IfOk result (λ marks. AreMarks count mentions.now marks.marked.items) }
-    {
-        let mut marked = vec![in alloc; false; count]?;
-        for mention in mentions {
-            mark(&mut marked, mention.predicate);
-        }
-        Ok(Marks { marked })
-    }
-
-    fn has(&self, predicate: usize) -> bool
-        ensures { result ≡ marked self.now.marked.items predicate }
-    {
-        self.marked.get(predicate).copied().unwrap_or(false)
-    }
-}
-
-fn mark(marked: &mut Vec<bool>, place: usize)
-    ensures { marked.new.items ≡ slice_set marked.old.items place true }
-{
-    if place < marked.len() {
-        marked[place] = true;
-    }
-}
-
-// What a plain problem says of its predicates.
-#[derive(Drop)]
-struct Standing {
-    // Those that an effect or a negative item names.
-    changed: Marks,
-    // Those that a positive item names.
-    stated: Marks,
-    // Those that a negative item names.
-    denied: Marks,
-}
-
-impl Standing {
-    fn of(alloc: Global, count: usize, numbered: &Numbered) -> Result<Standing, Memory>
-        ensures { IfOk result (λ s. IsStanding count numbered.now.steps.items numbered.now.init.items s.changed.marked.items s.stated.marked.items s.denied.marked.items) }
-    {
-        let stated = signed(alloc, &numbered.init, true)?;
-        let denied = signed(alloc, &numbered.init, false)?;
-        let changing = changing(alloc, &numbered.steps, &denied)?;
-        Ok(Standing {
-            changed: Marks::of(alloc, count, &changing)?,
-            stated: Marks::of(alloc, count, &stated)?,
-            denied: Marks::of(alloc, count, &denied)?,
-        })
-    }
-
-    // Whether the predicate has the same value in all states.
-    fn is_static(&self, predicate: usize) -> bool
-        ensures { result ≡ not (marked self.now.changed.marked.items predicate) }
-    {
-        !self.changed.has(predicate)
-    }
-
-    // Whether the literal is of a predicate that changes, or true.
-    fn settles(&self, mention: Mention) -> bool
-        ensures { result ≡ settles self.now.changed.marked.items self.now.stated.marked.items mention }
-    {
-        !self.is_static(mention.predicate) || has_sign(mention, self.stated.has(mention.predicate))
-    }
-}
-
-fn has_sign(mention: Mention, positive: bool) -> bool
-    ensures { result ≡ has_sign positive mention }
-{
-    if positive {
-        mention.positive
-    } else {
-        !mention.positive
-    }
-}
-
-// The literals of one sign.
-fn signed(alloc: Global, mentions: &[Mention], positive: bool) -> Result<Vec<Mention>, Memory>
-    ensures { IfOk result (λ v. v.items ≡ filter (has_sign positive) mentions.now) }
-{
-    let mut signed = Vec::new(alloc);
-    for mention in mentions {
-        if has_sign(*mention, positive) {
-            signed.push(*mention)?;
-        }
-    }
-    Ok(signed)
-}
-
-// The literals whose predicates aren't static: those of all effects, and the negative ones of `:init`.
-fn changing(alloc: Global, steps: &[Step], denied: &[Mention]) -> Result<Vec<Mention>, Memory>
-    ensures { IfOk result (λ v. v.items ≡ denied.now ++ flat_map (λ s. s.effects.items) steps.now) }
-{
-    let mut changing = Vec::from_slice(alloc, denied)?;
-    for step in steps {
-        changing.extend_from_slice(&step.effects)?;
-    }
-    Ok(changing)
 }
 
 // The literals whose predicates aren't static.
@@ -190,152 +85,6 @@ fn occurring(
         occurring.extend_from_slice(&step.effects)?;
     }
     Ok(occurring)
-}
-
-// The ground atoms, and how many of them come before each predicate.
-#[derive(Drop)]
-struct Atoms {
-    names: Row<GroundName>,
-    before: Vec<u32>,
-}
-
-impl Atoms {
-    fn of(alloc: Global, predicates: &[&[u8]], occurs: &Marks) -> Result<Atoms, Memory>
-        ensures names { IfOk result (λ atoms. atoms.names ≡ names_from occurs.now.marked.items 0 (map (λ k. k.now) predicates.now)) }
-        ensures numbers { IfOk result (λ atoms. atoms.before.items ≡ numbers_from occurs.now.marked.items 0 0 (map (λ k. k.now) predicates.now)) }
-    {
-        let mut names = Row::new(alloc);
-        let mut before = Vec::new(alloc);
-        let mut next = 0u32;
-        for (number, predicate) in predicates.iter().enumerate() {
-            before.push(next)?;
-            if occurs.has(number) {
-                names.push(nullary(alloc, predicate)?)?;
-                next = next.checked_add(1).ok_or(Memory)?;
-            }
-        }
-        Ok(Atoms { names, before })
-    }
-
-    fn number(&self, predicate: usize) -> AtomId
-        ensures { result.0 ≡ slice_index_or self.now.before.items predicate 0 }
-    {
-        AtomId(self.before.get(predicate).copied().unwrap_or(0))
-    }
-
-    fn literal(&self, mention: Mention) -> Lit
-        ensures { result ≡ literal_of self.now.before.items mention }
-    {
-        Lit {
-            atom: self.number(mention.predicate),
-            positive: mention.positive,
-        }
-    }
-
-    fn set(&self, alloc: Global, mentions: &[Mention]) -> Result<LitSet, Memory>
-        ensures { IfOk result (λ set. set ≡ put_in (map (literal_of self.now.before.items) mentions.now) []) }
-    {
-        let mut set = LitSet::new(alloc);
-        for mention in mentions {
-            set.insert(self.literal(*mention))?;
-        }
-        Ok(set)
-    }
-}
-
-// The bytes as a text.
-fn text_of(alloc: Global, bytes: &[u8]) -> Result<Text, Memory>
-    ensures { IfOk result (λ text. text ≡ bytes.now) }
-{
-    let mut text = Text::new(alloc);
-    for byte in bytes {
-        text.push(*byte)?;
-    }
-    Ok(text)
-}
-
-// A name without objects.
-fn nullary(alloc: Global, head: &[u8]) -> Result<GroundName, Memory>
-    ensures { IfOk result (λ name. name ≡ nullary head.now) }
-{
-    Ok(GroundName {
-        head: text_of(alloc, head)?,
-        objects: Row::new(alloc),
-    })
-}
-
-// The different literals, each where it stands first.
-fn distinct(alloc: Global, atoms: &Atoms, mentions: &[Mention]) -> Result<IndexSet<Lit>, Memory>
-    ensures { IfOk result (λ s. s.keys ≡ distinct (map (literal_of atoms.now.before.items) mentions.now) []) }
-{
-    let mut distinct = IndexSet::new(alloc);
-    for mention in mentions {
-        distinct.insert(atoms.literal(*mention))?;
-    }
-    Ok(distinct)
-}
-
-// Whether the literal is a delete of an atom that is added too.
-fn is_idle(results: &IndexSet<Lit>, lit: Lit) -> bool
-    ensures { result ≡ is_idle results.now.keys lit }
-{
-    !lit.positive && results.contains(&lit.negated())
-}
-
-fn add_effect(
-    alloc: Global,
-    results: &IndexSet<Lit>,
-    lit: Lit,
-    effects: &mut Row<Effect>,
-) -> Result<(), Memory>
-    ensures { OnOk result (effects.new ≡ effects.old ++ effect_of results.now.keys lit) }
-{
-    if is_idle(results, lit) {
-        return Ok(());
-    }
-    effects.push(Effect {
-        cond: LitSet::new(alloc),
-        result: lit,
-    })
-}
-
-// The effects with these results, but for the idle deletes.
-fn lasting(alloc: Global, results: &IndexSet<Lit>) -> Result<Row<Effect>, Memory>
-    ensures { IfOk result (λ row. row ≡ effects_of results.now.keys) }
-{
-    let mut effects = Row::new(alloc);
-    for lit in results.as_slice() {
-        add_effect(alloc, results, *lit, &mut effects)?;
-    }
-    Ok(effects)
-}
-
-fn effects(alloc: Global, atoms: &Atoms, mentions: &[Mention]) -> Result<Row<Effect>, Memory>
-    ensures { IfOk result (λ row. row ≡ effects_of (distinct (map (literal_of atoms.now.before.items) mentions.now) [])) }
-{
-    let results = distinct(alloc, atoms, mentions)?;
-    let effects = lasting(alloc, &results)?;
-    Ok(effects)
-}
-
-fn action(alloc: Global, atoms: &Atoms, step: &Step) -> Result<Action, Memory>
-    ensures { IfOk result (λ a. a ≡ action_of atoms.now.before.items (plain step.now)) }
-{
-    Ok(Action {
-        name: nullary(alloc, step.name.slice())?,
-        pre: atoms.set(alloc, &step.pre)?,
-        effects: effects(alloc, atoms, &step.effects)?,
-    })
-}
-
-fn actions(alloc: Global, atoms: &Atoms, steps: &[Step]) -> Result<Row<Action>, Memory>
-    ensures { IfOk result (λ row. row ≡ map (action_of atoms.now.before.items) (map plain steps.now)) }
-{
-    let mut actions = Row::new(alloc);
-    for step in steps {
-        actions.push(action(alloc, atoms, step)?)?;
-    }
-    Ok(actions)
 }
 
 // Adds what is known of an atom at the start: what is stated of it, and its negation where nothing is.

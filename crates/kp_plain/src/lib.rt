@@ -1,12 +1,15 @@
 //! The translation of plain files with the empty tag alone: the ground problem, and the two written texts.
-//! `specs/Written.antt` has the texts, `specs/Task.antt` the operators and facts that they write.
+//! `specs/Ground.antt` has the ground problem, `specs/Task.antt` its operators and facts, `specs/Written.antt` the texts.
 #![tactic(auto)]
 
+mod actions;
+mod atoms;
 mod encoding;
 mod grounding;
 mod numbering;
 mod predicates;
 mod report;
+mod standing;
 mod translation;
 mod writing;
 

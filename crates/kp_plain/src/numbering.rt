@@ -101,11 +101,7 @@ fn add_effect(
 }
 
 // Adds the literals of an item.
-fn add_item(
-    names: &Predicates,
-    item: &ItemTree,
-    mentions: &mut Vec<Mention>,
-) -> Result<(), Memory>
+fn add_item(names: &Predicates, item: &ItemTree, mentions: &mut Vec<Mention>) -> Result<(), Memory>
     ensures { OnOk result (mentions.new.items ≡ mentions.old.items ++ flat_map (mention_of names.now) (item_literals (item_view item.now))) }
 {
     match item {

@@ -1,4 +1,3 @@
-use Rattle.std.proofs.Common.{sym}
 use Rattle.kp_tree.specs.View.{domain_view, problem_view}
 use Rattle.kp_plain.proofs.Wholes.{IsGrounded, form_is, start_is}
 use Rattle.kp_plain.proofs.grounding.ground_form.Goals as goal

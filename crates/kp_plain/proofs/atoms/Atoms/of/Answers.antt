@@ -1,9 +1,8 @@
-use Rattle.std.proofs.Common.{◌≡◌, ◌∙◌, ◌++◌, ◌∷◌, [], ◌+◌, suc, true, false, map, drop, sym, ap, append-nil, rules, arith, add-one}
-use Rattle.std.proofs.lemmas.Grind.{common_steps}
+use Rattle.std.proofs.Common.{◌≡◌, ◌∙◌, ◌++◌, ◌∷◌, [], ◌+◌, suc, true, false, map, drop, sym, ap, rules, add-one}
 use Rattle.kp_plain.specs.Grounding.{names_from, numbers_from}
 use Rattle.kp_plain.proofs.Counting.{name_more, name_less, number_more}
-use Rattle.kp_plain.proofs.grounding.Atoms.of.Goals.{then-has+in_ok-nullary+in_ok-push-2+in_ok-next, else-has}
-use Rattle.kp_plain.proofs.grounding.Atoms.of.Goals as goal
+use Rattle.kp_plain.proofs.atoms.Atoms.of.Goals.{then-has+in_ok-nullary+in_ok-push-2+in_ok-next, else-has}
+use Rattle.kp_plain.proofs.atoms.Atoms.of.Goals as goal
 
 pub loop-number-preserved : goal.loop-number-preserved
 loop-number-preserved c =

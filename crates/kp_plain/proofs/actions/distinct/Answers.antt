@@ -1,7 +1,7 @@
 use Rattle.std.proofs.Common.{◌∙◌, false}
 use Rattle.kp_plain.specs.Grounding.{literal_of}
 use Rattle.kp_plain.proofs.Effects.{distinct_more}
-use Rattle.kp_plain.proofs.grounding.distinct.Goals as goal
+use Rattle.kp_plain.proofs.actions.distinct.Goals as goal
 
 pub loop-mention-preserved : goal.loop-mention-preserved
 loop-mention-preserved c =

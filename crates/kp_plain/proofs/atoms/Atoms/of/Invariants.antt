@@ -1,6 +1,6 @@
 use Rattle.std.proofs.Common.{◌≡◌, ◌++◌, drop, map}
 use Rattle.kp_plain.specs.Grounding.{names_from, numbers_from}
-use Rattle.kp_plain.proofs.grounding.Atoms.of.Given as goal
+use Rattle.kp_plain.proofs.atoms.Atoms.of.Given as goal
 
 abbrev pub invariant-loop-number : goal.invariant-loop-number
 invariant-loop-number l = record {
