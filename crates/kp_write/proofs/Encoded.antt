@@ -1,9 +1,9 @@
--- Encoded names are made of bytes of names, and different names are encoded differently.
-use Rattle.std.proofs.Common.{◌≡◌, ◌<◌, ◌^◌, ℕ, Bool, true, false, ◌&&◌, ◌==◌, eqb-true, if◌then◌else◌, List, [], ◌∷◌, ◌++◌, codes, decimal, Some, refl, sym, ap, subst, ◌∙◌, arith}
+-- The names of facts and operators can be written, and tell what they are of.
+use Rattle.std.proofs.Common.{◌≡◌, ◌<◌, ◌^◌, ℕ, Bool, true, false, ◌&&◌, ◌==◌, eqb-true, if◌then◌else◌, List, [], ◌∷◌, ◌++◌, codes, decimal, length, drop, append_assoc, append-nil, Some, refl, sym, ap, subst, ◌∙◌, arith}
 use Rattle.std.proofs.lemmas.Bool.{false≢true, and_from, and_parts}
 use Rattle.std.proofs.lemmas.Bool.Decides.{nat_tests}
-use Rattle.std.proofs.lemmas.Fmt.{decimal_is_IsNumeral}
-use Rattle.std.proofs.lemmas.List.{append_cancel_right}
+use Rattle.std.proofs.lemmas.Fmt.{decimal_is_IsNumeral, decimal_injective}
+use Rattle.std.proofs.lemmas.List.{same_from_push}
 use Rattle.std.proofs.lemmas.Str.Ascii.{lowercase_is}
 use Rattle.std.proofs.lemmas.Str.Parse.{digit_from_value}
 use Rattle.std.specs.Char.{to_ascii_lowercase}
@@ -22,7 +22,7 @@ use Rattle.kp_names.proofs.Lists.{same-true, same-refl}
 use Rattle.kp_plain.specs.Task.{sign_word, tag_word, atom_fact}
 use Rattle.kp_write.specs.Tokens.{IsLow}
 use Rattle.kp_write.specs.Names.{IsName, IsHead}
-use Rattle.kp_write.specs.Grounds.{IsGroundName, same_name}
+use Rattle.kp_write.specs.Grounds.{IsGroundName, same_name, FactsTellApart}
 
 -- ---- bytes
 
@@ -89,9 +89,12 @@ plain_encoded n h = joined (doubled n.head) (encoded_objects n.objects) (plain_n
 
 -- ---- words of the task
 
+alphanumeric : (c : ℕ) → IsInRange 48 57 c → is_alphanumeric c ≡ true
+alphanumeric c h = grind (arith, nat_tests)
+
 digit : (c : ℕ) → IsInRange 48 57 c → IsPlain c
 unfolding class_of
-digit c h = let letter : is_alphanumeric c ≡ true = grind (arith, nat_tests) in record { on = rw letter refl; low = (lowercase_is c).1 (omega arith) }
+digit c h = record { on = rw (alphanumeric c h) refl; low = (lowercase_is c).1 (omega arith) }
 
 digits : (ds : List ℕ) → AllDigits 10 ds → ArePlain ds
 digits [] h = tt
@@ -145,20 +148,63 @@ all_same-refl (x ∷ xs) = and_from (same x x) (all_same xs xs) (same-refl x) (a
 same_name-refl : (n : GroundName) → same_name n n ≡ true
 same_name-refl n = and_from (same n.head n.head) (all_same n.objects n.objects) (same-refl n.head) (all_same-refl n.objects)
 
+-- ---- the literal of a fact
+
+-- digits stand for themselves
+undoubled : (ds : List ℕ) → AllDigits 10 ds → doubled ds ≡ ds
+undoubled [] h = refl
+undoubled (c ∷ cs) h = rw (no_underscore (digit_from_value c h.0), undoubled cs h.1) refl where
+  no_underscore : IsInRange 48 57 c → (c == underscore) ≡ false
+  no_underscore r = grind (arith, nat_tests)
+
+numeral : (ds : List ℕ) → 0 < length ds → AllDigits 10 ds → IsName ds
+numeral [] some h = absurd (omega arith)
+numeral (c ∷ cs) some h = name_from (alphanumeric c (digit_from_value c h.0)) (digits (c ∷ cs) h)
+
+-- the tag as one more object
+abbrev tagged : ℕ → GroundName → GroundName
+tagged t n = record { head = n.head; objects = n.objects ++ decimal t ∷ [] }
+
+one_more : (os : List (List ℕ)) (o : List ℕ) → AllByRecursion IsName os → IsName o → AllByRecursion IsName (os ++ o ∷ [])
+one_more [] o h k = (k, tt)
+one_more (x ∷ xs) o h k = (h.0, one_more xs o h.1 k)
+
+tagged_name : (t : ℕ) → t < 2 ^ 64 → (n : GroundName) → IsGroundName n → IsGroundName (tagged t n)
+tagged_name t fits n h = record { head = h.head; objects = one_more n.objects (decimal t) h.objects (numeral (decimal t) (decimal_is_IsNumeral t fits).0.0 (decimal_is_IsNumeral t fits).0.1) }
+
+tagged_objects : (t : ℕ) → t < 2 ^ 64 → (os : List (List ℕ)) → encoded_objects os ++ tag_word t ≡ encoded_objects (os ++ decimal t ∷ [])
+tagged_objects t fits [] = ap (λ ds. codes "_-" ++ ds) (sym (append-nil (doubled (decimal t)) ∙ undoubled (decimal t) (decimal_is_IsNumeral t fits).0.1))
+tagged_objects t fits (o ∷ os) = ap (λ ws. codes "_-" ++ ws) (append_assoc (doubled o) (encoded_objects os) (tag_word t) ∙ ap (λ ws. doubled o ++ ws) (tagged_objects t fits os))
+
+tagged_word : (t : ℕ) → t < 2 ^ 64 → (n : GroundName) → encoded n ++ tag_word t ≡ encoded (tagged t n)
+tagged_word t fits n = append_assoc (doubled n.head) (encoded_objects n.objects) (tag_word t) ∙ ap (λ ws. doubled n.head ++ ws) (tagged_objects t fits n.objects)
+
+tag_and_name : (s t : ℕ) (x y : GroundName) → s < 2 ^ 64 → t < 2 ^ 64 → IsGroundName x → IsGroundName y → encoded x ++ tag_word s ≡ encoded y ++ tag_word t → (s ≡ t) × (x ≡ y)
+tag_and_name s t x y p q h k e =
+    let one : tagged s x ≡ tagged t y = one_name (tagged s x) (tagged t y) (tagged_name s p x h) (tagged_name t q y k) (sym (tagged_word s p x) ∙ e ∙ tagged_word t q y) in
+    let parts = same_from_push x.objects y.objects (decimal s) (decimal t) (ap (λ n. n.objects) one) in
+    let heads : x.head ≡ y.head = ap (λ n. n.head) one in
+    (decimal_injective s t p q parts.1, (λ i. record { head = heads i; objects = parts.0 i }))
+
+pub facts_tell_apart : FactsTellApart
+facts_tell_apart s t true true x y p q h k e = let r = tag_and_name s t x y p q h k (ap (drop 4) e) in (r.0, refl, r.1)
+facts_tell_apart s t true false x y p q h k e = absurd (false≢true (ap (same (atom_fact s true x)) (sym e) ∙ same-refl (atom_fact s true x)))
+facts_tell_apart s t false true x y p q h k e = absurd (false≢true (ap (same (atom_fact s false x)) (sym e) ∙ same-refl (atom_fact s false x)))
+facts_tell_apart s t false false x y p q h k e = let r = tag_and_name s t x y p q h k (ap (drop 4) e) in (r.0, refl, r.1)
+
+-- ---- words that differ
+
 -- words from which the names can be told differ as the names do
-unlike : (x y : GroundName) → IsGroundName x → IsGroundName y → same_name x y ≡ false → (u v : List ℕ) → (u ≡ v → encoded x ≡ encoded y) → same u v ≡ false
-unlike x y h k differ u v f = go (same u v) refl where
+unlike : (x y : GroundName) → same_name x y ≡ false → (u v : List ℕ) → (u ≡ v → x ≡ y) → same u v ≡ false
+unlike x y differ u v f = go (same u v) refl where
   go : (b : Bool) → same u v ≡ b → same u v ≡ false
   go false e = e
-  go true e = absurd (false≢true (sym differ ∙ subst (λ z. same_name x z ≡ true) (one_name x y h k (f (same-true u v e))) (same_name-refl x)))
+  go true e = absurd (false≢true (sym differ ∙ subst (λ z. same_name x z ≡ true) (f (same-true u v e)) (same_name-refl x)))
 
 -- the facts of different atoms differ
-pub facts_apart : (t : ℕ) (b c : Bool) (x y : GroundName) → IsGroundName x → IsGroundName y → same_name x y ≡ false → same (atom_fact t b x) (atom_fact t c y) ≡ false
-facts_apart t true true x y h k differ = unlike x y h k differ (encoded x ++ tag_word t) (encoded y ++ tag_word t) (append_cancel_right (encoded x) (encoded y) (tag_word t))
-facts_apart t true false x y h k differ = refl
-facts_apart t false true x y h k differ = refl
-facts_apart t false false x y h k differ = unlike x y h k differ (encoded x ++ tag_word t) (encoded y ++ tag_word t) (append_cancel_right (encoded x) (encoded y) (tag_word t))
+pub facts_apart : (t : ℕ) → t < 2 ^ 64 → (b c : Bool) (x y : GroundName) → IsGroundName x → IsGroundName y → same_name x y ≡ false → same (atom_fact t b x) (atom_fact t c y) ≡ false
+facts_apart t fits b c x y h k differ = unlike x y differ (atom_fact t b x) (atom_fact t c y) (λ e. (facts_tell_apart t t b c x y fits fits h k e).2)
 
 -- so do the operators of different actions
 pub operators_apart : (x y : GroundName) → IsGroundName x → IsGroundName y → same_name x y ≡ false → same (codes "do_-" ++ encoded x) (codes "do_-" ++ encoded y) ≡ false
-operators_apart x y h k differ = unlike x y h k differ (encoded x) (encoded y) (λ e. e)
+operators_apart x y h k differ = unlike x y differ (codes "do_-" ++ encoded x) (codes "do_-" ++ encoded y) (λ e. one_name x y h k (ap (drop 4) e))

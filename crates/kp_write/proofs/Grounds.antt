@@ -30,7 +30,7 @@ heads (n ∷ ns) h = (fact_is_head 0 (omega arith) true n h.0, (fact_is_head 0 (
 -- a fact of an atom differs from those of other atoms
 apart : (b : Bool) (n : GroundName) → IsGroundName n → (ns : List GroundName) → AllByRecursion IsGroundName ns → AllByRecursion (λ m. same_name n m ≡ false) ns → AllByRecursion (λ f. same (atom_fact 0 b n) f ≡ false) (facts ns)
 apart b n h [] k differ = tt
-apart b n h (m ∷ ms) k differ = (facts_apart 0 b true n m h k.0 differ.0, (facts_apart 0 b false n m h k.0 differ.0, apart b n h ms k.1 differ.1))
+apart b n h (m ∷ ms) k differ = (facts_apart 0 (omega arith) b true n m h k.0 differ.0, (facts_apart 0 (omega arith) b false n m h k.0 differ.0, apart b n h ms k.1 differ.1))
 
 facts_differ : (atoms : List GroundName) → AllByRecursion IsGroundName atoms → IsDistinct same_name atoms → IsDistinct same (facts atoms)
 unfolding IsDistinct

@@ -1,5 +1,5 @@
 -- Which ground problems can be written, and that the plans of their two texts are those that are meant.
-use Rattle.std.specs.Prelude.{◌↔◌, ◌<◌, ◌&&◌, ℕ, Bool, List, map, length}
+use Rattle.std.specs.Prelude.{◌≡◌, ◌↔◌, ◌<◌, ◌^◌, ◌&&◌, ℕ, Bool, List, map, length}
 use Rattle.std.specs.List.{AllByRecursion, IsDistinct}
 use Rattle.kp_base.specs.declared.lit.Lit.{Lit}
 use Rattle.kp_base.specs.declared.ground.GroundName.{GroundName}
@@ -9,7 +9,7 @@ use Rattle.kp_base.specs.declared.ground.Ground.{Ground}
 use Rattle.kp_names.specs.Names.{same, all_same}
 use Rattle.kp_names.specs.Steps.{Step}
 use Rattle.kp_names.specs.Plans.{IsPlan}
-use Rattle.kp_plain.specs.Task.{facts_of, ops_of, facts_for}
+use Rattle.kp_plain.specs.Task.{atom_fact, facts_of, ops_of, facts_for}
 use Rattle.kp_plain.specs.Written.{domain_text, problem_text}
 use Rattle.kp_write.specs.Names.{IsName}
 use Rattle.kp_write.specs.Problems.{IsTask, HasMeantProblem}
@@ -66,6 +66,10 @@ pub record IsWrittenAsMeant (g : Ground) (start : List Lit) : Type 0 where
   pub plans : (steps : List Step) → IsPlan (domain_file g) (problem_file g start) steps ↔ IsRun (ops_of g) (facts_for g start) (facts_for g g.goal) steps
 
 -- ---- laws
+
+-- facts with one name have one tag, one sign and one atom
+abbrev pub FactsTellApart : Type 0
+FactsTellApart = (s t : ℕ) (b c : Bool) (x y : GroundName) → s < 2 ^ 64 → t < 2 ^ 64 → IsGroundName x → IsGroundName y → atom_fact s b x ≡ atom_fact t c y → (s ≡ t) × (b ≡ c) × (x ≡ y)
 
 -- the task of a ground problem that can be written is a task
 abbrev pub GroundTasksAreTasks : Type 0
