@@ -21,19 +21,19 @@ use Rattle.kp_write.proofs.Runs.{plans_are_runs}
 
 -- ---- that p is known, that not p is known, and the same of q
 
-abbrev p : List ℕ
+abbrev pub p : List ℕ
 p = codes "kp_-p_-0"
 
-abbrev not_p : List ℕ
+abbrev pub not_p : List ℕ
 not_p = codes "kn_-p_-0"
 
-abbrev q : List ℕ
+abbrev pub q : List ℕ
 q = codes "kp_-q_-0"
 
-abbrev not_q : List ℕ
+abbrev pub not_q : List ℕ
 not_q = codes "kn_-q_-0"
 
-abbrev facts : List (List ℕ)
+abbrev pub facts : List (List ℕ)
 facts = p ∷ not_p ∷ q ∷ not_q ∷ []
 
 -- an add or a delete without conditions
@@ -41,7 +41,7 @@ abbrev always : Bool → List ℕ → Effect
 always b n = record { conds = []; result = record { holds = b; fact = n } }
 
 -- needs p, makes q, and makes p false
-abbrev a : Op
+abbrev pub a : Op
 a = record { name = codes "do_-a"; pre = p ∷ []; effects = always true q ∷ always false not_q ∷ always true not_p ∷ always false p ∷ [] }
 
 can_be_written : (n : List ℕ) → IsToken kinds.Name n → IsLow n → is_head (symbol_of kinds.Name n) ≡ true → IsHead n
@@ -84,7 +84,7 @@ its_problem = written_texts_have_problem facts (a ∷ []) (p ∷ not_q ∷ []) (
 -- ---- its plans
 
 -- the operator alone is a plan
-one_operator : IsPlan (domain_text facts (a ∷ [])) (problem_text (p ∷ not_q ∷ []) (q ∷ [])) (step_of a ∷ [])
+pub one_operator : IsPlan (domain_text facts (a ∷ [])) (problem_text (p ∷ not_q ∷ []) (q ∷ [])) (step_of a ∷ [])
 one_operator = (plans_are_runs facts (a ∷ []) (p ∷ not_q ∷ []) (q ∷ []) task (step_of a ∷ [])).1 (record { taken = a ∷ []; among = (inl refl, tt); steps_are = refl; succeeds = refl })
 
 fails_at_once : (taken : List Op) → map step_of taken ≡ [] → runs (q ∷ []) taken (is_among (p ∷ not_q ∷ [])) ≡ true → ⊥
@@ -92,7 +92,7 @@ fails_at_once [] e h = false≢true h
 fails_at_once (o ∷ os) e h = absurd cc
 
 -- no step is none
-no_operator : IsPlan (domain_text facts (a ∷ [])) (problem_text (p ∷ not_q ∷ []) (q ∷ [])) ([]) → ⊥
+pub no_operator : IsPlan (domain_text facts (a ∷ [])) (problem_text (p ∷ not_q ∷ []) (q ∷ [])) ([]) → ⊥
 no_operator plan = let r = (plans_are_runs facts (a ∷ []) (p ∷ not_q ∷ []) (q ∷ []) task ([])).0 plan in fails_at_once r.taken r.steps_are r.succeeds
 
 -- ---- conditional effects

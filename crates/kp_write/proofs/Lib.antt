@@ -9,4 +9,7 @@ pub mod Composed
 pub mod Placed
 pub mod Faultless
 pub mod Runs
+pub mod Encoded
+pub mod Grounds
 pub mod ExampleFiles
+pub mod ExampleGrounds

@@ -5,3 +5,4 @@ pub mod Trees
 pub mod Texts
 pub mod Problems
 pub mod Runs
+pub mod Grounds

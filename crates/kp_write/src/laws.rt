@@ -1,5 +1,6 @@
 //! Laws of the written texts, each proved as the contract of a function that does nothing.
 
+ghost use Rattle.kp_write.specs.Grounds.{FactsTellApart, GroundProblemsAreWritten, GroundTasksAreTasks};
 ghost use Rattle.kp_write.specs.Maps.{PlacesDontMatter};
 ghost use Rattle.kp_write.specs.Problems.{WrittenTextsHaveProblem};
 ghost use Rattle.kp_write.specs.Runs.{PlansAreRuns};
@@ -34,4 +35,19 @@ pub fn written_texts_have_a_problem()
 /// The plans of the two texts of a task are the lists of its operators that run from its start and meet its goal.
 pub fn plans_are_runs()
     ensures { PlansAreRuns }
+{}
+
+/// A fact's name tells its tag, its sign and its atom.
+pub fn facts_tell_apart()
+    ensures { FactsTellApart }
+{}
+
+/// The facts and operators of a ground problem that can be written are a task: their names can be written and differ, and only its facts are used.
+pub fn ground_tasks_are_tasks()
+    ensures { GroundTasksAreTasks }
+{}
+
+/// So the two texts of such a ground problem have the problem of these facts and operators, and its plans are the runs of the operators.
+pub fn ground_problems_are_written()
+    ensures { GroundProblemsAreWritten }
 {}

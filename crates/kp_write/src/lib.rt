@@ -4,6 +4,7 @@
 mod laws;
 
 pub use laws::{
-    pieces_are_cut, places_dont_matter, plans_are_runs, written_domains_read,
-    written_problems_read, written_texts_have_a_problem,
+    facts_tell_apart, ground_problems_are_written, ground_tasks_are_tasks, pieces_are_cut,
+    places_dont_matter, plans_are_runs, written_domains_read, written_problems_read,
+    written_texts_have_a_problem,
 };
