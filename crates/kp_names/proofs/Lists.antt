@@ -2,7 +2,8 @@
 use Rattle.std.proofs.Common.{◌≡◌, ℕ, Bool, true, List, [], ◌∷◌, refl, sym, subst, inl, inr, eqb-true, eq-eqb, nat_eq}
 use Rattle.std.proofs.lemmas.Bool.{and_parts, and_from, or_cases, or_left, or_right, false≢true}
 use Rattle.std.specs.List.{list_any}
-use Rattle.kp_names.specs.Names.{Member, same}
+use Rattle.kp_base.specs.Lists.{Member}
+use Rattle.kp_names.specs.Names.{same}
 
 pub any_weaker : {X : Type 0} (p q : X → Bool) (xs : List X) → ((x : X) → Member xs x → p x ≡ true → q x ≡ true) → list_any p xs ≡ true → list_any q xs ≡ true
 any_weaker p q [] f h = h

@@ -3,7 +3,8 @@ use Rattle.std.proofs.Common.{◌≡◌, ℕ, zero, suc, Bool, true, false, cond
 use Rattle.std.specs.List.{list_any, list_all, flat_map}
 use Rattle.kp_tree.specs.declared.tree.Word.{Word}
 use Rattle.kp_tree.specs.Trees.{Typed, Term, Atom, Cond, Conds, Eff, Effs, Lit, Item, Items, Schema, Domain, Problem}
-use Rattle.kp_names.specs.Names.{Name, same, distinct, choices}
+use Rattle.kp_base.specs.Lists.{choices}
+use Rattle.kp_names.specs.Names.{Name, same, distinct}
 use Rattle.kp_names.specs.Types.{object, names, declared, types_of, or_object, leads, below_within, is_below, object_lines, objects, is_of_type, range}
 use Rattle.kp_names.specs.States.{State, Binding, unbound, bind, Literal, object_of, literal, literal_holds, holds, all_hold}
 use Rattle.kp_names.specs.Steps.{Step, object_lists, fires, all_fire, after, schema_of, parameters, fits, is_instance, permits, applicable, state_by, next}
