@@ -1,4 +1,6 @@
 pub mod Lists
+pub mod Indexes
+pub mod Numbered
 pub mod Types
 pub mod Encoding
 pub mod Texts
