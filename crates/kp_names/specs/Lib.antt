@@ -11,3 +11,4 @@ pub mod Places
 pub mod Numbered
 pub mod Lifted
 pub mod Numbering
+pub mod NumberLaws

@@ -6,7 +6,8 @@ use Rattle.kp_names.specs.declared.lifted.Term.{Term}
 use Rattle.kp_names.specs.declared.lifted.Range.{Range}
 use Rattle.kp_names.specs.declared.lifted.GroundLit.{GroundLit}
 use Rattle.kp_names.specs.declared.lifted.Item.{Item}
-use Rattle.kp_names.specs.Names.{same, signed, choices, only_if}
+use Rattle.kp_base.specs.Lists.{signed, choices, only_if}
+use Rattle.kp_names.specs.Names.{same}
 use Rattle.kp_names.specs.Numbered.{Cond, Conds, Eff, Effs, Schema, Lifted}
 
 -- a state says of each predicate and each list of objects whether it holds of them
