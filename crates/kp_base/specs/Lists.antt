@@ -1,5 +1,5 @@
 -- Members, choices and signs, for definitions over lists.
-use Rattle.std.specs.Prelude.{◌≡◌, ◌⊎◌, Bool, true, false, not, cond, List, [], ◌∷◌, flat_map, map}
+use Rattle.std.specs.Prelude.{◌≡◌, ◌⊎◌, Bool, true, false, not, cond, List, [], ◌∷◌, filter, flat_map, map}
 
 -- an element of a list
 abbrev pub Member : {X : Type 0} → List X → X → Type 0
@@ -19,3 +19,8 @@ only_if b xs = cond b xs []
 abbrev pub signed : Bool → Bool → Bool
 signed true b = b
 signed false b = not b
+
+-- each element once, where it stands first, by a test whether two are one
+abbrev pub each_once : {X : Type 0} → (X → X → Bool) → List X → List X
+each_once same [] = []
+each_once same (x ∷ xs) = x ∷ filter (λ y. not (same x y)) (each_once same xs)
