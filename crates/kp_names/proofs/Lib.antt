@@ -15,3 +15,4 @@ pub mod ExampleTypes
 pub mod ExampleFaults
 pub mod ExampleStates
 pub mod ExampleStrip
+pub mod ExampleNumbered

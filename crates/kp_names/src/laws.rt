@@ -34,16 +34,19 @@ pub fn places_mean_nothing()
 {}
 
 /// A condition holds by number where it holds by name.
+#[tactic(auto, using(crate::proofs::Numbered::holds_numbered))]
 pub fn conditions_mean_the_same_by_number()
     ensures { IsHoldsNumbered }
 {}
 
 /// An effect names the same literals by number as by name.
+#[tactic(auto, using(crate::proofs::Numbered::fires_numbered))]
 pub fn effects_mean_the_same_by_number()
     ensures { IsFiresNumbered }
 {}
 
 /// The initial states by number are those by name.
+#[tactic(auto, using(crate::proofs::NumberedPlans::initial_numbered))]
 pub fn initial_states_are_the_same_by_number()
     ensures { IsInitialNumbered }
 {}
@@ -54,6 +57,7 @@ pub fn plans_are_the_same_by_number()
 {}
 
 /// No two instances by number have one name.
+#[tactic(auto, using(crate::proofs::NumberedPlans::named_once))]
 pub fn instances_are_named_once()
     ensures { IsNamedOnce }
 {}
