@@ -10,7 +10,8 @@ use Rattle.kp_tree.specs.declared.tree.Word.{Word}
 use Rattle.kp_tree.specs.Trees as trees
 use Rattle.kp_tree.specs.Trees.{Domain, Problem}
 use Rattle.kp_names.specs.declared.lifted.GroundLit.{GroundLit}
-use Rattle.kp_names.specs.Names.{Name, Member, same, all_same, is_among}
+use Rattle.kp_base.specs.Lists.{Member}
+use Rattle.kp_names.specs.Names.{Name, same, all_same, is_among}
 use Rattle.kp_names.specs.Types.{names, declared, object_lines, objects}
 use Rattle.kp_names.specs.Faults.{inside, words, twice_in, type_faults, variable_faults, predicate_faults, cond_faults, eff_faults, schema_faults, item_faults, HasNoFault}
 use Rattle.kp_names.specs.States as named
