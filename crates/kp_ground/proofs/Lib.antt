@@ -4,3 +4,6 @@ pub mod Static
 pub mod Effects
 pub mod Atoms
 pub mod Step
+pub mod Kept
+pub mod Plans
+pub mod Names

@@ -39,3 +39,18 @@ pub fn ground_steps_are_exact()
 pub fn only_kept_instances_apply()
     ensures { IsKeptExact }
 {}
+
+/// Where there is an initial state, the plans are the lists of kept instances whose actions succeed from each one.
+pub fn ground_plans_are_plans()
+    ensures { IsPlanExact }
+{}
+
+/// The action of a kept instance has the name of its step, and there are no other actions.
+pub fn actions_are_named_by_steps()
+    ensures { AreNamedBySteps }
+{}
+
+/// No two actions have one name.
+pub fn actions_are_named_once()
+    ensures { AreNamedOnce }
+{}
