@@ -3,19 +3,17 @@ use Rattle.std.proofs.Common.{◌≡◌, ℕ, zero, suc, Bool, true, false, cond
 use Rattle.std.specs.List.{list_any, list_all, flat_map}
 use Rattle.kp_tree.specs.declared.tree.Word.{Word}
 use Rattle.kp_tree.specs.Trees.{Typed, Term, Atom, Cond, Conds, Eff, Effs, Lit, Item, Items, Schema, Domain, Problem}
-use Rattle.kp_names.specs.Names.{Name, same, distinct, choices}
+use Rattle.kp_base.specs.Lists.{choices}
+use Rattle.kp_names.specs.Names.{Name, same, distinct}
 use Rattle.kp_names.specs.Types.{object, names, declared, types_of, or_object, leads, below_within, is_below, object_lines, objects, is_of_type, range}
 use Rattle.kp_names.specs.States.{State, Binding, unbound, bind, Literal, object_of, literal, literal_holds, holds, all_hold}
 use Rattle.kp_names.specs.Steps.{Step, object_lists, fires, all_fire, after, schema_of, parameters, fits, is_instance, permits, applicable, state_by, next}
 use Rattle.kp_names.specs.Initial.{by_name, one_holds, item_holds, items_hold, item_literals, items_literals, is_of, is_named, IsInitial}
 use Rattle.kp_names.specs.Plans.{succeeds, Solves}
+use Rattle.kp_names.proofs.Lists.{any_map, map_map}
 use Rattle.kp_names.specs.Places.{typed_map, term_map, atom_map, cond_map, conds_map, eff_map, effs_map, lit_map, item_map, items_map, schema_map, domain_map, problem_map, KeepsTexts}
 
 -- ---- lists of what was mapped
-
-any_map : {X Y : Type 0} (m : X → Y) (g : Y → Bool) (h : X → Bool) (xs : List X) → ((x : X) → g (m x) ≡ h x) → list_any g (map m xs) ≡ list_any h xs
-any_map m g h [] e = refl
-any_map m g h (x ∷ xs) e = rw (e x, any_map m g h xs e) refl
 
 all_map : {X Y : Type 0} (m : X → Y) (g : Y → Bool) (h : X → Bool) (xs : List X) → ((x : X) → g (m x) ≡ h x) → list_all g (map m xs) ≡ list_all h xs
 all_map m g h [] e = refl
@@ -32,10 +30,6 @@ all_agree g h (x ∷ xs) e = rw (e x, all_agree g h xs e) refl
 filter_agree : {X : Type 0} (g h : X → Bool) (xs : List X) → ((x : X) → g x ≡ h x) → filter g xs ≡ filter h xs
 filter_agree g h [] e = refl
 filter_agree g h (x ∷ xs) e = rw (e x, filter_agree g h xs e) refl
-
-map_map : {X Y Z : Type 0} (m : X → Y) (g : Y → Z) (h : X → Z) (xs : List X) → ((x : X) → g (m x) ≡ h x) → map g (map m xs) ≡ map h xs
-map_map m g h [] e = refl
-map_map m g h (x ∷ xs) e = rw (e x, map_map m g h xs e) refl
 
 pub flat_agree : {X Y : Type 0} (g h : X → List Y) (xs : List X) → ((x : X) → g x ≡ h x) → flat_map g xs ≡ flat_map h xs
 flat_agree g h [] e = refl

@@ -4,7 +4,8 @@ use Rattle.std.specs.List.{list_any}
 use Rattle.std.proofs.lemmas.Bool.{and_parts, and_from, or_cases, or_left, or_right}
 use Rattle.kp_tree.specs.declared.tree.Word.{Word}
 use Rattle.kp_tree.specs.Trees.{Typed}
-use Rattle.kp_names.specs.Names.{Name, Member, same}
+use Rattle.kp_base.specs.Lists.{Member}
+use Rattle.kp_names.specs.Names.{Name, same}
 use Rattle.kp_names.specs.Types.{object, types_of, IsBelow, itself, root, parent, over, leads, below_within, IsTypeTestExact}
 use Rattle.kp_names.proofs.Lists.{any_member, any_from, any_weaker, same-true, same-refl}
 

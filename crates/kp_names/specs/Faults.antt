@@ -3,7 +3,8 @@ use Rattle.std.specs.Prelude.{◌≡◌, ◌≤◌, ℕ, not, ◌==◌, List, []
 use Rattle.std.specs.List.{flat_map}
 use Rattle.kp_tree.specs.declared.tree.Word.{Word}
 use Rattle.kp_tree.specs.Trees.{Typed, Term, Atom, Cond, Conds, Eff, Effs, Lit, Item, Items, Pred, Schema, Domain, Problem}
-use Rattle.kp_names.specs.Names.{Name, same, is_among, only_if, Member}
+use Rattle.kp_base.specs.Lists.{only_if, Member}
+use Rattle.kp_names.specs.Names.{Name, same, is_among}
 use Rattle.kp_names.specs.Types.{declared, types, object_lines}
 
 -- what is wrong at the token that begins at this byte

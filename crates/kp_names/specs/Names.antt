@@ -1,5 +1,5 @@
 -- Names, and what is said of lists of them.
-use Rattle.std.specs.Prelude.{◌≡◌, ◌⊎◌, ℕ, Bool, true, false, not, cond, List, [], ◌∷◌, bytes_eq, filter, flat_map, map}
+use Rattle.std.specs.Prelude.{ℕ, Bool, not, List, [], ◌∷◌, bytes_eq, filter}
 use Rattle.std.specs.List.{list_any}
 use Rattle.std.specs.Cmp.Lexicographic.{pointwise}
 
@@ -23,22 +23,3 @@ is_among xs x = list_any (same x) xs
 abbrev pub distinct : List Name → List Name
 distinct [] = []
 distinct (x ∷ xs) = x ∷ filter (λ y. not (same x y)) (distinct xs)
-
--- an element of a list
-abbrev pub Member : {X : Type 0} → List X → X → Type 0
-Member [] x = ⊥
-Member (y ∷ ys) x = (y ≡ x) ⊎ Member ys x
-
--- every list with one element of each list, the first slowest
-abbrev pub choices : {X : Type 0} → List (List X) → List (List X)
-choices [] = [] ∷ []
-choices (xs ∷ xss) = flat_map (λ x. map (λ rest. x ∷ rest) (choices xss)) xs
-
--- the list where the test holds, and else nothing
-abbrev pub only_if : {X : Type 0} → Bool → List X → List X
-only_if b xs = cond b xs []
-
--- a truth value, or its negation where the sign is false
-abbrev pub signed : Bool → Bool → Bool
-signed true b = b
-signed false b = not b

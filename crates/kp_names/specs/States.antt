@@ -4,7 +4,8 @@ use Rattle.std.specs.Bool.{beq}
 use Rattle.std.specs.List.{list_any}
 use Rattle.kp_tree.specs.declared.tree.Word.{Word}
 use Rattle.kp_tree.specs.Trees.{Term, Atom, Cond, Conds}
-use Rattle.kp_names.specs.Names.{Name, same, all_same, signed}
+use Rattle.kp_base.specs.Lists.{signed}
+use Rattle.kp_names.specs.Names.{Name, same, all_same}
 
 -- a state says of each predicate and each list of objects whether it holds of them
 abbrev pub State : Type 0

@@ -4,7 +4,8 @@ use Rattle.std.specs.List.{list_any, flat_map}
 use Rattle.kp_base.specs.declared.ground.GroundName.{GroundName}
 use Rattle.kp_tree.specs.declared.tree.Word.{Word}
 use Rattle.kp_tree.specs.Trees.{Typed, Eff, Effs, Schema, Domain, Problem}
-use Rattle.kp_names.specs.Names.{Name, same, all_same, choices, only_if}
+use Rattle.kp_base.specs.Lists.{choices, only_if}
+use Rattle.kp_names.specs.Names.{Name, same, all_same}
 use Rattle.kp_names.specs.Types.{declared, range}
 use Rattle.kp_names.specs.States.{State, Binding, unbound, bind, Literal, names_literal, literal, holds}
 

@@ -3,7 +3,8 @@ use Rattle.std.specs.Prelude.{◌≡◌, ◌↔◌, ℕ, zero, suc, Bool, true, 
 use Rattle.std.specs.List.{list_any, flat_map}
 use Rattle.kp_tree.specs.declared.tree.Word.{Word}
 use Rattle.kp_tree.specs.Trees.{Typed, Domain, Problem}
-use Rattle.kp_names.specs.Names.{Name, same, distinct, Member}
+use Rattle.kp_base.specs.Lists.{Member}
+use Rattle.kp_names.specs.Names.{Name, same, distinct}
 
 -- ---- types
 

@@ -3,7 +3,7 @@ use Rattle.std.proofs.Common.{◌≡◌, ℕ, ◌<◌, ◌+◌, List, [], ◌∷
 use Rattle.std.specs.List.{list_any}
 use Rattle.kp_base.specs.declared.lit.Lit.{Lit}
 use Rattle.kp_plain.specs.declared.numbering.Mention.{Mention}
-use Rattle.kp_plain.specs.Ground.{same_lit}
+use Rattle.kp_base.specs.Lit.{same_lit}
 use Rattle.kp_plain.specs.Grounding.{distinct}
 use Rattle.kp_plain.proofs.Putting.{next_of}
 

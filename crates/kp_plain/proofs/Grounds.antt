@@ -12,9 +12,11 @@ use Rattle.kp_base.specs.declared.ground.Action.{Action}
 use Rattle.kp_base.specs.LitSet.{with_lit}
 use Rattle.kp_tree.specs.declared.tree.Word.{Word}
 use Rattle.kp_tree.specs.Trees.{Schema, Domain, Problem}
-use Rattle.kp_names.specs.Names.{Name, same, is_among, only_if}
+use Rattle.kp_base.specs.Lists.{only_if}
+use Rattle.kp_names.specs.Names.{Name, same, is_among}
 use Rattle.kp_plain.specs.Ground as ground
-use Rattle.kp_plain.specs.Ground.{Literal, is_named, place, declared, results_of, init_of, goal_of, stated, kept, light_pre, occurring, atoms_of, numbered, set_of, same_lit, each_once, is_idle, lasting, nullary, known_of, start_of}
+use Rattle.kp_base.specs.Lit.{same_lit}
+use Rattle.kp_plain.specs.Ground.{Literal, is_named, place, declared, results_of, init_of, goal_of, stated, kept, light_pre, occurring, atoms_of, numbered, set_of, each_once, is_idle, lasting, nullary, known_of, start_of}
 use Rattle.kp_plain.specs.Grounding.{marked, names_from, numbers_from, literal_of, put_in, with_known, known_before, distinct, effect_of, effects_of, action_of}
 use Rattle.kp_plain.proofs.Names.{both_true, same_name, with_new, once, gathers_all, distinct_placed, is_itself, or_true}
 use Rattle.kp_plain.proofs.Marking.{mention, has_number, light, named_known}

@@ -1,6 +1,6 @@
 -- The ground problem of a plain domain and a plain problem, by name.
 -- Plain files have no objects, equalities, conditional effects or uncertain facts; where a tree has them, they say nothing here.
-use Rattle.std.specs.Prelude.{ℕ, suc, Bool, true, false, not, ◌&&◌, ◌||◌, if◌then◌else◌, List, [], ◌∷◌, ◌++◌, map, filter, flat_map, fold, nat_eq}
+use Rattle.std.specs.Prelude.{ℕ, suc, Bool, true, false, not, ◌&&◌, ◌||◌, if◌then◌else◌, List, [], ◌∷◌, ◌++◌, map, filter, flat_map, fold}
 use Rattle.std.specs.List.{list_any, list_all}
 use Rattle.std.specs.Bool.{beq}
 use Rattle.kp_base.specs.declared.lit.Lit.{Lit}
@@ -8,11 +8,12 @@ use Rattle.kp_base.specs.declared.ground.GroundName.{GroundName}
 use Rattle.kp_base.specs.declared.ground.Effect.{Effect}
 use Rattle.kp_base.specs.declared.ground.Action.{Action}
 use Rattle.kp_base.specs.declared.ground.Ground.{Ground}
-use Rattle.kp_base.specs.Lit.{negated}
+use Rattle.kp_base.specs.Lit.{negated, same_lit}
 use Rattle.kp_base.specs.LitSet.{with_lit}
 use Rattle.kp_tree.specs.declared.tree.Word.{Word}
 use Rattle.kp_tree.specs.Trees.{Atom, Cond, Conds, no_cond, more_conds, Eff, Effs, no_eff, more_effs, Item, Items, no_item, more_items, Schema, Domain, Problem}
-use Rattle.kp_names.specs.Names.{Name, same, is_among, distinct, only_if, signed}
+use Rattle.kp_base.specs.Lists.{only_if, signed}
+use Rattle.kp_names.specs.Names.{Name, same, is_among, distinct}
 
 -- ---- literals of the trees
 
@@ -143,10 +144,6 @@ abbrev pub set_of : List Lit → List Lit
 set_of ls = fold (λ set l. with_lit l set) [] ls
 
 -- ---- effects
-
--- the same literal
-abbrev pub same_lit : Lit → Lit → Bool
-same_lit a b = nat_eq a.atom.0 b.atom.0 && beq a.positive b.positive
 
 -- each literal once, where it stands first
 abbrev pub each_once : List Lit → List Lit

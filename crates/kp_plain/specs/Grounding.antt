@@ -9,7 +9,8 @@ use Rattle.kp_base.specs.LitSet.{with_lit}
 use Rattle.kp_tree.specs.declared.tree.Word.{Word}
 use Rattle.kp_tree.specs.Trees.{Schema}
 use Rattle.kp_names.specs.Names.{Name, is_among}
-use Rattle.kp_plain.specs.Ground.{Literal, cond_literals, eff_literals, place, nullary, same_lit, is_idle}
+use Rattle.kp_base.specs.Lit.{same_lit}
+use Rattle.kp_plain.specs.Ground.{Literal, cond_literals, eff_literals, place, nullary, is_idle}
 use Rattle.kp_plain.specs.declared.numbering.Mention.{Mention}
 use Rattle.kp_plain.specs.declared.numbering.Step.{Step}
 

@@ -4,7 +4,8 @@ use Rattle.std.proofs.lemmas.Bool.{false≢true}
 use Rattle.std.specs.List.{AllByRecursion, IsDistinct, flat_map}
 use Rattle.kp_tree.specs.declared.tree.Word.{Word}
 use Rattle.kp_tree.specs.Trees.{Cond, conds_of, effs_of, Pred, Domain, Problem}
-use Rattle.kp_names.specs.Names.{Name, same, is_among, Member}
+use Rattle.kp_base.specs.Lists.{Member}
+use Rattle.kp_names.specs.Names.{Name, same, is_among}
 use Rattle.kp_names.specs.Faults.{repeated, twice_in, words, head_faults, atom_faults, cond_faults, conds_faults, eff_faults, effs_faults, schema_faults, item_faults, HasNoFault}
 use Rattle.kp_names.specs.Places.{atom_map, cond_map, conds_map, eff_map, effs_map, item_map, pred_map, schema_map, domain_map, problem_map}
 use Rattle.kp_names.proofs.Lists.{same-refl}

@@ -1,7 +1,7 @@
 -- Lists: maps one after the other, and what holds of all elements.
 use Rattle.std.proofs.Common.{◌≡◌, List, [], ◌∷◌, ◌++◌, map, inl, inr, refl, ap, subst, ◌∙◌}
 use Rattle.std.specs.List.{AllByRecursion, flat_map}
-use Rattle.kp_names.specs.Names.{Member}
+use Rattle.kp_base.specs.Lists.{Member}
 
 pub map_join : {A B : Type 0} (f : A → B) (xs ys : List A) → map f (xs ++ ys) ≡ map f xs ++ map f ys
 map_join f [] ys = refl

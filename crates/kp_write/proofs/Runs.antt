@@ -4,7 +4,8 @@ use Rattle.std.proofs.lemmas.Bool.{false≢true, and_parts}
 use Rattle.std.specs.List.{AllByRecursion, IsDistinct, list_any, list_all, flat_map}
 use Rattle.kp_tree.specs.declared.tree.Word.{Word}
 use Rattle.kp_tree.specs.Trees.{Schema, Domain, Problem, conds_of, effs_of}
-use Rattle.kp_names.specs.Names.{Name, same, all_same, is_among, only_if, Member}
+use Rattle.kp_base.specs.Lists.{only_if, Member}
+use Rattle.kp_names.specs.Names.{Name, same, all_same, is_among}
 use Rattle.kp_names.specs.States.{State, Binding, unbound, Literal, names_literal, all_hold}
 use Rattle.kp_names.specs.Steps.{Step, fires, all_fire, fits, is_instance, permits, applicable, state_by, next, after, schema_of as schema_of_step}
 use Rattle.kp_names.specs.Initial.{item_holds, item_literals, is_of, is_named, IsInitial}

@@ -1,7 +1,8 @@
 -- Which tasks can be written, and that their two texts have the problem that is meant.
 use Rattle.std.specs.Prelude.{◌≡◌, ℕ, List, map}
 use Rattle.std.specs.List.{AllByRecursion, IsDistinct}
-use Rattle.kp_names.specs.Names.{same, Member}
+use Rattle.kp_base.specs.Lists.{Member}
+use Rattle.kp_names.specs.Names.{same}
 use Rattle.kp_names.specs.Places.{domain_map, problem_map}
 use Rattle.kp_names.specs.Plans.{HasProblem}
 use Rattle.kp_plain.specs.Task.{Effect, Op}

@@ -2,7 +2,8 @@
 use Rattle.std.specs.Prelude.{◌≡◌, ◌↔◌, ℕ, Bool, true, false, not, ◌&&◌, ◌||◌, List, [], ◌∷◌, map}
 use Rattle.std.specs.Bool.{beq}
 use Rattle.std.specs.List.{list_any, list_all, flat_map, AllByRecursion}
-use Rattle.kp_names.specs.Names.{same, is_among, only_if, signed, Member}
+use Rattle.kp_base.specs.Lists.{only_if, signed, Member}
+use Rattle.kp_names.specs.Names.{same, is_among}
 use Rattle.kp_names.specs.Steps.{Step}
 use Rattle.kp_names.specs.Plans.{IsPlan}
 use Rattle.kp_plain.specs.Task.{Signed, Op}

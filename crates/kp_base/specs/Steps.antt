@@ -1,0 +1,77 @@
+-- Ground problems: states, models, steps and plans. Atoms and actions go by number.
+use Rattle.std.specs.Prelude.{◌≡◌, ◌≤◌, ℕ, Bool, true, false, not, ◌&&◌, ◌||◌, List, [], ◌∷◌, Option, Some, None, slice_get}
+use Rattle.std.specs.List.{list_any, list_all}
+use Rattle.kp_base.specs.declared.lit.Lit.{Lit}
+use Rattle.kp_base.specs.declared.ground.Effect.{Effect}
+use Rattle.kp_base.specs.declared.ground.Action.{Action}
+use Rattle.kp_base.specs.declared.ground.Ground.{Ground}
+use Rattle.kp_base.specs.declared.ground.Initial.{Initial}
+use Rattle.kp_base.specs.Lists.{signed}
+use Rattle.kp_base.specs.Lit.{positive, negative, same_lit}
+
+-- the atoms that are true
+abbrev pub State : Type 0
+State = ℕ → Bool
+
+-- the literals that are facts: both literals of an atom may be, or neither
+abbrev pub Facts : Type 0
+Facts = Lit → Bool
+
+-- no atom from this number on is true
+pub record IsBounded (atoms : ℕ) (s : State) : Type 0 where
+  pub none_past : (p : ℕ) → atoms ≤ p → s p ≡ false
+
+-- a literal is true in a state
+abbrev pub holds : State → Facts
+holds s l = signed l.positive (s l.atom.0)
+
+-- the literal stands in the list
+abbrev pub has : List Lit → Facts
+has ls l = list_any (same_lit l) ls
+
+-- ---- models
+
+-- each clause has a true literal, and no closed atom is true
+abbrev pub is_model : Initial → State → Bool
+is_model i s = list_all (list_any (holds s)) i.clauses && list_all (λ p. not (s p.0)) i.closed
+
+-- ---- steps
+
+-- some effect with this result has its condition among the facts
+abbrev pub fires : List Effect → Facts → Facts
+fires es k l = list_any (λ e. same_lit e.result l && list_all k e.cond) es
+
+-- the state after an action: deleted atoms go, and then added ones come
+abbrev pub after : Action → State → State
+after a s p = fires a.effects (holds s) (positive p) || (s p && not (fires a.effects (holds s) (negative p)))
+
+-- there is such an action, and its precondition holds
+abbrev pub applicable : Option Action → State → Bool
+applicable None s = false
+applicable (Some a) s = list_all (holds s) a.pre
+
+-- the state after a step; nothing changes where there is no such action
+abbrev pub next : Option Action → State → State
+next None s = s
+next (Some a) s = after a s
+
+-- ---- runs and plans
+
+-- each step is applicable in its turn
+abbrev pub runs : Ground → State → List ℕ → Bool
+runs g s [] = true
+runs g s (n ∷ ns) = applicable (slice_get g.actions n) s && runs g (next (slice_get g.actions n) s) ns
+
+-- the state at the end of the steps
+abbrev pub state_after : Ground → State → List ℕ → State
+state_after g s [] = s
+state_after g s (n ∷ ns) = state_after g (next (slice_get g.actions n) s) ns
+
+-- each step is applicable in its turn, and the goal holds at the end
+abbrev pub succeeds : Ground → State → List ℕ → Bool
+succeeds g s [] = list_all (holds s) g.goal
+succeeds g s (n ∷ ns) = applicable (slice_get g.actions n) s && succeeds g (next (slice_get g.actions n) s) ns
+
+-- the steps succeed from each model, run by itself
+abbrev pub IsGroundPlan : Ground → Initial → List ℕ → Type 0
+IsGroundPlan g i ns = (s : State) → is_model i s ≡ true → succeeds g s ns ≡ true

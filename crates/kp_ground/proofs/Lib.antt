@@ -1,0 +1,9 @@
+pub mod Lists
+pub mod Flattening
+pub mod Static
+pub mod Effects
+pub mod Atoms
+pub mod Step
+pub mod Kept
+pub mod Plans
+pub mod Names

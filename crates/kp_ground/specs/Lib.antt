@@ -1,0 +1,5 @@
+pub mod Static
+pub mod Flattening
+pub mod Ground
+pub mod Weights
+pub mod Laws
