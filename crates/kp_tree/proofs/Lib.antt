@@ -8,3 +8,4 @@ pub mod Levels
 pub mod Answered
 pub mod Wholes
 pub mod Examples
+pub mod PlainTrees
