@@ -9,3 +9,5 @@ pub mod Answered
 pub mod Wholes
 pub mod Examples
 pub mod PlainTrees
+pub mod Computed
+pub mod ExamplesPlain
