@@ -1,5 +1,5 @@
 -- Texts that are shown to read or to stop by computing.
-use Rattle.std.proofs.Common.{◌≡◌, ◌≤◌, ℕ, Bool, List, [], ◌∷◌, length, Option, Some, None, Ok, Err, inl, inr, subst}
+use Rattle.std.proofs.Common.{◌≡◌, ◌≤◌, ℕ, Bool, List, [], length, Option, Some, None, Ok, Err, inl, inr, subst}
 use Rattle.kp_lex.specs.declared.token.Token.{Token}
 use Rattle.kp_lex.specs.Scanning.{cut}
 use Rattle.kp_lex.proofs.Exact.{Tells as TellsTokens, cut_tells}

@@ -1,12 +1,12 @@
 -- Two plain texts with their trees, computed; a word is followed by the byte at which it begins.
-use Rattle.std.proofs.Common.{◌≡◌, ◌⊎◌, inl, inr, ℕ, Bool, true, false, List, [], ◌∷◌, drop, Result, Ok, Err, refl, codes, arith}
+use Rattle.std.proofs.Common.{ℕ, true, false, List, [], ◌∷◌, drop, Result, Ok, Err, refl, codes, arith}
 use Rattle.kp_lex.specs.declared.token.Token.{Token}
 use Rattle.kp_lex.specs.Bytes.{class_of}
 use Rattle.kp_lex.specs.Scanning.{cut_from, cut}
 use Rattle.kp_tree.specs.declared.tree.Word.{Word}
 use Rattle.kp_tree.specs.Symbols.{symbol_of, all_seen_in}
 use Rattle.kp_tree.specs.Reading.{stop, StopsWhole, within_form}
-use Rattle.kp_tree.specs.Trees.{Atom, Cond, conds_of, Eff, both, makes, effs_of, Item, Pred, Schema, Domain, Problem}
+use Rattle.kp_tree.specs.Trees.{Atom, Cond, conds_of, Eff, effs_of, Item, Pred, Schema, Domain, Problem}
 use Rattle.kp_tree.specs.Grammar as grammar
 use Rattle.kp_tree.specs.Plain.{plain_domain, plain_problem}
 use Rattle.kp_tree.specs.Parsing.{some_at, next_at}
