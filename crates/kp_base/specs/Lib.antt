@@ -1,6 +1,9 @@
+pub mod Clashes
+pub mod Entailed
 pub mod Lists
 pub mod Lit
 pub mod LitSet
+pub mod Machine
 pub mod Search
 pub mod Steps
 pub mod formers

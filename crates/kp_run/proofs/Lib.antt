@@ -6,3 +6,4 @@ pub mod Ending
 pub mod Words
 pub mod OneAnswer
 pub mod Translated
+pub mod Results

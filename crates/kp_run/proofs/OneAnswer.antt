@@ -41,7 +41,7 @@ answers_once x y _ _ (done d p h i a) (no_problem e k b) = absurd (b p (moved x 
 answers_once x y _ _ (done d p h i a) (no_initial_state e q k l b) = absurd (apart y e d q p l i b a)
 answers_once x y _ _ (done d p h i a) (done e q k l b) = refl
 
-files_once : (held : FileMap) (c : Command) (s t : Status) → AnswersFiles held c s → AnswersFiles held c t → s ≡ t
+pub files_once : (held : FileMap) (c : Command) (s t : Status) → AnswersFiles held c s → AnswersFiles held c t → s ≡ t
 files_once held c s t a b =
     let domains : a.domain ≡ b.domain = cc in
     let problems : a.problem ≡ b.problem = cc in

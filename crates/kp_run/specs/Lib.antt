@@ -7,3 +7,4 @@ pub mod Ends
 pub mod Numbers
 pub mod Among
 pub mod Reports
+pub mod Results

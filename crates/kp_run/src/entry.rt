@@ -9,6 +9,7 @@ ghost use Rattle.kp_outside.specs.Outside.{FileMap, Rises};
 ghost use Rattle.kp_run.specs.declared.status.Status.TheVariants as status;
 ghost use Rattle.kp_run.specs.Command.{Command as Names, IsCommand, IsNoCommand};
 ghost use Rattle.kp_run.specs.Due.{AnswersFiles, IsDue, IsOfTranslate};
+ghost use Rattle.kp_run.specs.Results.{ComesTo};
 ghost use Rattle.kp_run.specs.Ends.{IsAnswer, GetFailed, PutFailed, Files, Puts, Tells, PutsAndTells};
 ghost use Rattle.kp_run.specs.Reports.{status_of, CountsGets, HasItsText, IsTranslatedFrom};
 
@@ -67,6 +68,8 @@ pub fn run<S: Shelf, O: Sink>(
     shelf: &mut S,
     out: &mut O,
 ) -> Status
+    // Where it is told what the files hold, an answer is the result of the words: its status, its puts, its text.
+    ensures result { (m : FileMap) → S.contents shelf.old ≡ Some m → IsAnswer result → ComesTo words.now m (S.contents shelf.old) (S.contents shelf.new) (O.told out.old) (O.told out.new) result }
     // An answer is the one that is due.
     ensures answer { IsAnswer result → IsDue words.now (S.contents shelf.old) result }
     // A fault is told only where the outside failed, and where it failed a fault is told.

@@ -15,8 +15,5 @@ mod printed;
 mod status;
 
 pub use entry::run;
-pub use law::one_answer_is_due;
+pub use law::{one_answer_is_due, words_have_one_result};
 pub use status::Status;
-
-#[cfg(test)]
-mod tests;

@@ -8,3 +8,6 @@ pub mod Levels
 pub mod Answered
 pub mod Wholes
 pub mod Examples
+pub mod PlainTrees
+pub mod Computed
+pub mod ExamplesPlain

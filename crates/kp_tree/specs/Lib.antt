@@ -13,5 +13,6 @@ pub mod View
 pub mod Lexemes
 pub mod PlainParsing
 pub mod PlainTexts
+pub mod PlainTrees
 pub mod Shallow
 pub mod Lexing

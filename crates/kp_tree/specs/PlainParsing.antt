@@ -13,12 +13,12 @@ use Rattle.kp_tree.specs.declared.sections.Stage.TheVariants as stages
 use Rattle.kp_tree.specs.declared.sections.Section as parts
 use Rattle.kp_tree.specs.declared.sections.Section.TheVariants as parts_of
 use Rattle.kp_tree.specs.declared.tree.Domain as domains
-use Rattle.kp_tree.specs.declared.titles.Naming.{Naming}
-use Rattle.kp_tree.specs.declared.titles.Naming.TheVariants as namings
+use Rattle.kp_tree.specs.declared.titles.Lead.{Lead}
+use Rattle.kp_tree.specs.declared.titles.Lead.TheVariants as leads
 use Rattle.kp_tree.specs.Trees.{Atom, Cond, Eff, Item, Lit, Lits, Pred, Schema, Section, Given, Domain, Problem}
 use Rattle.kp_tree.specs.Symbols.{Tok, is_left, is_right, is_define, is_init, is_goal, is_domain, is_problem, is_predicates, is_of_domain, is_head, is_name, is_precondition, is_effect, is_keyword}
-use Rattle.kp_tree.specs.Sorts.{Sort, El, Seen, apply, m_true, m_idle, m_plain_pred, m_domain, m_init, m_facts_of, m_goal, m_problem, m_three}
-use Rattle.kp_tree.specs.Forms.{Form, many, make, run, maybe, choose, ◌▸◌, ◌▹◌}
+use Rattle.kp_tree.specs.Sorts.{Sort, El, Seen, apply, m_true, m_idle, m_domain, m_three}
+use Rattle.kp_tree.specs.Forms.{hits, Form, many, make, run, maybe, choose, ◌▸◌, ◌▹◌}
 use Rattle.kp_tree.specs.Grammar.{title, word, skip, has_stood, words_of_requirements}
 use Rattle.kp_tree.specs.Plain.{plain_head, plain_atom, plain_lit_case, plain_lit, plain_lits_case, plain_lits, plain_cond, plain_eff, plain_pred, plain_schema, plain_section_case, plain_section, plain_domain, plain_of_domain, plain_init, plain_goal, plain_problem}
 use Rattle.kp_tree.specs.Reading.{stop}
@@ -91,35 +91,35 @@ section_view (parts_of.Action s) = Section.action (schema_view s)
 abbrev pub Reader : Type 0 → Type 0
 Reader A = List (Tok Word) → Outcome Word A
 
+unfoldable pub head_word_at : Reader Word
+head_word_at = read 0 (word is_head)
+
 unfoldable pub head_at : Reader (Atom Word)
 head_at = read 0 plain_head
 
-unfoldable pub atom_at : ℕ → Reader (Atom Word)
-atom_at d = read d plain_atom
+unfoldable pub atom_at : Reader (Atom Word)
+atom_at = read 1 plain_atom
 
-unfoldable pub lit_inside_at : ℕ → Reader (Lit Word)
-lit_inside_at d = read d (choose plain_lit_case)
+unfoldable pub lit_inside_at : Reader (Lit Word)
+lit_inside_at = read 1 (choose plain_lit_case)
 
-unfoldable pub lit_at : ℕ → Reader (Lit Word)
-lit_at d = read d plain_lit
+unfoldable pub lit_at : Reader (Lit Word)
+lit_at = read 2 plain_lit
 
-unfoldable pub literals_at : ℕ → Reader (List (Lit Word))
-literals_at d = read d (many is_left plain_lit)
+unfoldable pub literals_at : Reader (List (Lit Word))
+literals_at = read 2 (many is_left plain_lit)
 
-unfoldable pub lits_inside_at : ℕ → Reader (Lits Word)
-lits_inside_at d = read d (choose plain_lits_case)
+unfoldable pub lits_inside_at : Reader (Lits Word)
+lits_inside_at = read 2 (choose plain_lits_case)
 
-unfoldable pub lits_at : ℕ → Reader (Lits Word)
-lits_at d = read d plain_lits
+unfoldable pub lits_at : Reader (Lits Word)
+lits_at = read 3 plain_lits
 
-unfoldable pub cond_at : ℕ → Reader (Cond Word)
-cond_at d = read d plain_cond
+unfoldable pub cond_at : Reader (Cond Word)
+cond_at = read 3 plain_cond
 
-unfoldable pub eff_at : ℕ → Reader (Eff Word)
-eff_at d = read d plain_eff
-
-unfoldable pub pred_inside_at : Reader (Pred Word)
-pred_inside_at = read 0 (make m_plain_pred (word is_head))
+unfoldable pub eff_at : Reader (Eff Word)
+eff_at = read 3 plain_eff
 
 unfoldable pub pred_at : Reader (Pred Word)
 pred_at = read 1 plain_pred
@@ -154,35 +154,32 @@ section_at stage = read 4 (plain_section (seen_of stage))
 unfoldable pub sections_at : Stage → Reader (List (Section Word))
 sections_at stage = read 4 (run is_left plain_section (has_stood is_predicates) (seen_of stage))
 
--- the word before a name
-abbrev pub naming_test : Naming → Symbol → Bool
-naming_test namings.Domain = is_domain
-naming_test namings.Problem = is_problem
-naming_test namings.OfDomain = is_of_domain
+-- the word that must come first in its brackets
+abbrev pub lead_test : Lead → Symbol → Bool
+lead_test leads.Define = is_define
+lead_test leads.Domain = is_domain
+lead_test leads.Problem = is_problem
+lead_test leads.OfDomain = is_of_domain
+lead_test leads.Init = is_init
+lead_test leads.Goal = is_goal
+
+-- it stands there, and the rest is left
+pub record Led (lead : Lead) (ts rest : List (Tok Word)) : Type 0 where
+  pub token : Tok Word
+  pub is : ts ≡ token ∷ rest
+  pub leads : hits (lead_test lead) token.symbol ≡ true
 
 unfoldable pub name_at : Reader (Unit {0})
 name_at = read 0 (skip is_name)
 
-unfoldable pub naming_inside_at : Naming → Reader (Unit {0})
-naming_inside_at naming = read 0 (naming_test naming ▸ skip is_name)
-
-unfoldable pub naming_at : Naming → Reader (Unit {0})
-naming_at naming = read 1 (title (naming_test naming))
-
-unfoldable pub domain_inside_at : Reader (Domain Word)
-domain_inside_at = read 4 (is_define ▸ make m_domain (title is_domain ▹ run is_left plain_section (has_stood is_predicates) []))
+unfoldable pub naming_at : Lead → Reader (Unit {0})
+naming_at lead = read 1 (title (lead_test lead))
 
 unfoldable pub domain_at : Reader (Domain Word)
 domain_at = read 5 plain_domain
 
-unfoldable pub init_inside_at : Reader (Given Word)
-init_inside_at = read 3 (is_init ▸ make m_init (make m_facts_of (many is_left plain_lit)))
-
 unfoldable pub init_at : Reader (Given Word)
 init_at = read 4 plain_init
-
-unfoldable pub goal_inside_at : Reader (Given Word)
-goal_inside_at = read 3 (is_goal ▸ make m_goal plain_cond)
 
 unfoldable pub goal_at : Reader (Given Word)
 goal_at = read 4 plain_goal
@@ -190,18 +187,12 @@ goal_at = read 4 plain_goal
 unfoldable pub of_domain_at : Reader (Given Word)
 of_domain_at = read 4 plain_of_domain
 
-unfoldable pub init_and_goal_at : Reader (Given Word × Given Word)
-init_and_goal_at = read 4 (plain_init ▹ plain_goal)
-
 -- the sections of a plain problem
 abbrev pub givens_of : List (Item Word) → Cond Word → List (Given Word)
 givens_of items goal = Given.of_domain ∷ Given.init items ∷ Given.goal goal ∷ []
 
 unfoldable pub givens_at : Reader (List (Given Word))
 givens_at = read 4 (make m_three (plain_of_domain ▹ plain_init ▹ plain_goal))
-
-unfoldable pub problem_inside_at : Reader (Problem Word)
-problem_inside_at = read 4 (is_define ▸ make m_problem (title is_problem ▹ make m_three (plain_of_domain ▹ plain_init ▹ plain_goal)))
 
 unfoldable pub problem_at : Reader (Problem Word)
 problem_at = read 5 plain_problem

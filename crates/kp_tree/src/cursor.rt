@@ -1,7 +1,7 @@
 ghost use Rattle.std.specs.Prelude.{◌≡◌, ◌<◌, ◌≤◌, ◌+◌, ◌∷◌, [], false, Ok, length, IfOk, IfErr, IfSome, IfNone};
 ghost use Rattle.std.specs.Bool.{OnTrue};
 ghost use Rattle.kp_tree.specs.Lexemes.{tok, from};
-ghost use Rattle.kp_tree.specs.PlainParsing.{Closed, Opened, keyword_at};
+ghost use Rattle.kp_tree.specs.PlainParsing.{Gives, Closed, Opened, head_word_at, keyword_at};
 ghost use Rattle.kp_tree.specs.Forms.{hits};
 ghost use Rattle.kp_tree.specs.Symbols.{first_is, is_left, is_right, is_head, is_name, is_keyword};
 
@@ -43,6 +43,18 @@ pub fn is_left(tokens: &[Lexeme], at: usize) -> bool
     }
 }
 
+/// The place behind an opening bracket.
+pub fn open(tokens: &[Lexeme], at: usize) -> Result<usize, ReadStop>
+    ensures found { IfOk result (λ n. Opened (from tokens.now at) (from tokens.now n)) }
+    ensures stopped { IfErr result (λ e. (e ≡ ReadStop.At at) × (first_is is_left (from tokens.now at) ≡ false)) }
+    ensures onward { IfOk result (λ n. (at < n) × (n ≤ length tokens.now)) }
+{
+    match peek(tokens, at) {
+        Some(first) if matches!(first.symbol, Symbol::Left) => Ok(at + 1),
+        _ => Err(ReadStop::At(at)),
+    }
+}
+
 /// The place behind a closing bracket.
 pub fn close(tokens: &[Lexeme], at: usize) -> Result<usize, ReadStop>
     ensures found { IfOk result (λ n. Closed (from tokens.now at) (from tokens.now n)) }
@@ -55,8 +67,8 @@ pub fn close(tokens: &[Lexeme], at: usize) -> Result<usize, ReadStop>
     }
 }
 
-/// Whether the symbol is that of a name that may be a head.
-pub fn is_head(symbol: Symbol) -> bool
+// Whether the symbol is that of a name that may be a head.
+fn is_head(symbol: Symbol) -> bool
     ensures { result ≡ hits is_head symbol }
 {
     matches!(
@@ -65,68 +77,57 @@ pub fn is_head(symbol: Symbol) -> bool
     )
 }
 
+/// The word of a head, and the place behind it.
+#[tactic(auto, unfolding(crate::specs::PlainParsing::head_word_at))]
+pub fn head_word(alloc: Global, tokens: &[Lexeme], at: usize) -> Result<(Word, usize), ReadStop>
+    ensures reads { Gives tokens.now (λ w. w) result (head_word_at (from tokens.now at)) }
+    ensures onward { IfOk result (λ x. (at < x.1) × (x.1 ≤ length tokens.now)) }
+{
+    match peek(tokens, at) {
+        Some(first) if is_head(first.symbol) => {
+            let head = copy_word(alloc, &first.word)?;
+            Ok((head, at + 1))
+        }
+        _ => Err(ReadStop::At(at)),
+    }
+}
+
 /// Whether the symbol is that of a name.
 pub fn is_name(symbol: Symbol) -> bool
     ensures { result ≡ hits is_name symbol }
 {
-    matches!(
-        symbol,
-        Symbol::Define
-            | Symbol::Domain
-            | Symbol::Problem
-            | Symbol::Either
-            | Symbol::Name
-            | Symbol::And
-            | Symbol::Or
-            | Symbol::Not
-            | Symbol::Imply
-            | Symbol::Exists
-            | Symbol::Forall
-            | Symbol::When
-            | Symbol::OneOf
-            | Symbol::Unknown
-            | Symbol::Preference
-            | Symbol::Probabilistic
-            | Symbol::Increase
-            | Symbol::Decrease
-            | Symbol::Assign
-            | Symbol::ScaleUp
-            | Symbol::ScaleDown
-    )
+    is_head(symbol)
+        || matches!(
+            symbol,
+            Symbol::And
+                | Symbol::Or
+                | Symbol::Not
+                | Symbol::Imply
+                | Symbol::Exists
+                | Symbol::Forall
+                | Symbol::When
+                | Symbol::OneOf
+                | Symbol::Unknown
+                | Symbol::Preference
+                | Symbol::Probabilistic
+                | Symbol::Increase
+                | Symbol::Decrease
+                | Symbol::Assign
+                | Symbol::ScaleUp
+                | Symbol::ScaleDown
+        )
 }
 
-// Whether the symbol is that of a keyword.
+// Whether the symbol is that of a keyword: no name, no variable and no sign.
 fn is_keyword(symbol: Symbol) -> bool
     ensures test { result ≡ is_keyword symbol }
     ensures hit { result ≡ hits is_keyword symbol }
 {
-    matches!(
-        symbol,
-        Symbol::Requirements
-            | Symbol::Types
-            | Symbol::Constants
-            | Symbol::Predicates
-            | Symbol::Action
-            | Symbol::Parameters
-            | Symbol::Precondition
-            | Symbol::Effect
-            | Symbol::OfDomain
-            | Symbol::Objects
-            | Symbol::Init
-            | Symbol::Goal
-            | Symbol::Functions
-            | Symbol::Derived
-            | Symbol::Axiom
-            | Symbol::DurativeAction
-            | Symbol::Constraints
-            | Symbol::Process
-            | Symbol::Event
-            | Symbol::Observe
-            | Symbol::Vars
-            | Symbol::Metric
-            | Symbol::Length
-            | Symbol::Keyword
-    )
+    !is_name(symbol)
+        && !matches!(
+            symbol,
+            Symbol::Left | Symbol::Right | Symbol::Dash | Symbol::Equal | Symbol::Variable
+        )
 }
 
 /// Whether a keyword stands at a place.

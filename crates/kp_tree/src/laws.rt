@@ -1,6 +1,7 @@
 //! Laws of the grammar, each proved as the contract of a function that does nothing.
 
 ghost use Rattle.kp_tree.specs.PlainTexts.{PlainDomainsRead, PlainProblemsRead};
+ghost use Rattle.kp_tree.specs.PlainTrees.{PlainDomainsArePlain, PlainProblemsArePlain};
 ghost use Rattle.kp_tree.specs.Laws.{ReadsOnce, StopsOnce, NeverBoth, AlwaysOne, WholeReadsOnce, WholeStopsOnce, WholeNeverBoth, WholeAlwaysOne};
 
 /// A form reads given tokens as at most one tree, and leaves the same tokens behind it.
@@ -36,6 +37,12 @@ pub fn plain_domains_are_domains()
 #[tactic(auto, using(crate::proofs::Answered::problems_read))]
 pub fn plain_problems_are_problems()
     ensures { PlainProblemsRead }
+{}
+
+/// The tree of a plain text is plain: it has neither types nor objects, no parameters or terms, and literals alone.
+pub fn plain_texts_have_plain_trees()
+    ensures domains { PlainDomainsArePlain }
+    ensures problems { PlainProblemsArePlain }
 {}
 
 /// A file is of a form as at most one tree, or it has one offending token; never both, and one of them always.

@@ -4,15 +4,13 @@ ghost use Rattle.kp_tree.specs.View.{atom_view, lit_view, cond_view, eff_view, i
 ghost use Rattle.kp_tree.specs.Trees.{cond_of_lit, cond_of_lits, eff_of_lit, eff_of_lits, fact_of_lit};
 ghost use Rattle.kp_tree.specs.PlainParsing.{Gives, lits_view, head_at, atom_at, lit_inside_at, lit_at, literals_at, lits_inside_at, lits_at, cond_at, eff_at};
 
-use crate::cursor::{close, copy_word, is_head, is_left, peek};
+use crate::cursor::{close, head_word, is_left, open, peek};
 use crate::lexeme::Lexeme;
 use crate::stop::ReadStop;
 use crate::symbol::Symbol;
 use crate::tree::{AtomTree, CondTree, EffTree, ItemTree, LitTree};
 use kp_base::{Memory, Row};
 use std::alloc::Global;
-
-// In the functions of this file `levels` says how many brackets may still be opened within one another.
 
 /// One literal, or several in an `and`.
 #[derive(Drop)]
@@ -24,58 +22,32 @@ pub enum Lits {
 }
 
 // Head
-#[tactic(auto, unfolding(crate::specs::PlainParsing::head_at))]
+#[tactic(auto, unfolding(crate::specs::PlainParsing::head_at, crate::specs::PlainParsing::head_word_at))]
 fn head(alloc: Global, tokens: &[Lexeme], at: usize) -> Result<(AtomTree, usize), ReadStop>
     ensures reads { Gives tokens.now atom_view result (head_at (from tokens.now at)) }
     ensures onward { IfOk result (λ x. (at < x.1) × (x.1 ≤ length tokens.now)) }
 {
-    match peek(tokens, at) {
-        Some(first)
-            if matches!(
-                first.symbol,
-                Symbol::Define | Symbol::Domain | Symbol::Problem | Symbol::Either | Symbol::Name
-            ) => {
-            let head = copy_word(alloc, &first.word)?;
-            Ok((
-                AtomTree {
-                    head,
-                    terms: Row::new(alloc),
-                },
-                at + 1,
-            ))
-        }
-        _ => Err(ReadStop::At(at)),
-    }
+    let (head, at) = head_word(alloc, tokens, at)?;
+    let terms = Row::new(alloc);
+    Ok((AtomTree { head, terms }, at))
 }
 
 // ( Head )
 #[tactic(auto, unfolding(crate::specs::PlainParsing::atom_at, crate::specs::PlainParsing::head_at))]
-fn atom(
-    alloc: Global,
-    tokens: &[Lexeme],
-    at: usize,
-    levels: u32,
-) -> Result<(AtomTree, usize), ReadStop>
-    ensures reads { Gives tokens.now atom_view result (atom_at levels (from tokens.now at)) }
+fn atom(alloc: Global, tokens: &[Lexeme], at: usize) -> Result<(AtomTree, usize), ReadStop>
+    ensures reads { Gives tokens.now atom_view result (atom_at (from tokens.now at)) }
     ensures onward { IfOk result (λ x. (at < x.1) × (x.1 ≤ length tokens.now)) }
 {
-    if levels == 0 || !is_left(tokens, at) {
-        return Err(ReadStop::At(at));
-    }
-    let (atom, at) = head(alloc, tokens, at + 1)?;
+    let at = open(tokens, at)?;
+    let (atom, at) = head(alloc, tokens, at)?;
     let at = close(tokens, at)?;
     Ok((atom, at))
 }
 
 // Head, or not ( Head )
 #[tactic(auto, unfolding(crate::specs::PlainParsing::lit_inside_at, crate::specs::PlainParsing::atom_at, crate::specs::PlainParsing::head_at))]
-fn lit_inside(
-    alloc: Global,
-    tokens: &[Lexeme],
-    at: usize,
-    levels: u32,
-) -> Result<(LitTree, usize), ReadStop>
-    ensures reads { Gives tokens.now lit_view result (lit_inside_at levels (from tokens.now at)) }
+fn lit_inside(alloc: Global, tokens: &[Lexeme], at: usize) -> Result<(LitTree, usize), ReadStop>
+    ensures reads { Gives tokens.now lit_view result (lit_inside_at (from tokens.now at)) }
     ensures onward { IfOk result (λ x. (at < x.1) × (x.1 ≤ length tokens.now)) }
 {
     let Some(first) = peek(tokens, at) else {
@@ -83,43 +55,26 @@ fn lit_inside(
     };
     match first.symbol {
         Symbol::Not => {
-            let (atom, at) = atom(alloc, tokens, at + 1, levels)?;
-            Ok((
-                LitTree {
-                    positive: false,
-                    atom,
-                },
-                at,
-            ))
+            let (atom, at) = atom(alloc, tokens, at + 1)?;
+            let positive = false;
+            Ok((LitTree { positive, atom }, at))
         }
         _ => {
             let (atom, at) = head(alloc, tokens, at)?;
-            Ok((
-                LitTree {
-                    positive: true,
-                    atom,
-                },
-                at,
-            ))
+            let positive = true;
+            Ok((LitTree { positive, atom }, at))
         }
     }
 }
 
 // ( Head ), or ( not ( Head ) )
 #[tactic(auto, unfolding(crate::specs::PlainParsing::lit_at, crate::specs::PlainParsing::lit_inside_at))]
-fn lit(
-    alloc: Global,
-    tokens: &[Lexeme],
-    at: usize,
-    levels: u32,
-) -> Result<(LitTree, usize), ReadStop>
-    ensures reads { Gives tokens.now lit_view result (lit_at levels (from tokens.now at)) }
+fn lit(alloc: Global, tokens: &[Lexeme], at: usize) -> Result<(LitTree, usize), ReadStop>
+    ensures reads { Gives tokens.now lit_view result (lit_at (from tokens.now at)) }
     ensures onward { IfOk result (λ x. (at < x.1) × (x.1 ≤ length tokens.now)) }
 {
-    if levels == 0 || !is_left(tokens, at) {
-        return Err(ReadStop::At(at));
-    }
-    let (lit, at) = lit_inside(alloc, tokens, at + 1, levels - 1)?;
+    let at = open(tokens, at)?;
+    let (lit, at) = lit_inside(alloc, tokens, at)?;
     let at = close(tokens, at)?;
     Ok((lit, at))
 }
@@ -129,16 +84,15 @@ pub fn literals(
     alloc: Global,
     tokens: &[Lexeme],
     start: usize,
-    levels: u32,
 ) -> Result<(Row<LitTree>, usize), ReadStop>
     requires { start ≤ length tokens.now }
-    ensures reads { Gives tokens.now (λ row. map lit_view row) result (literals_at levels (from tokens.now start)) }
+    ensures reads { Gives tokens.now (λ row. map lit_view row) result (literals_at (from tokens.now start)) }
     ensures onward { IfOk result (λ x. (start ≤ x.1) × (x.1 ≤ length tokens.now)) }
 {
     let mut literals = Row::new(alloc);
     let mut at = start;
     'more: while is_left(tokens, at) {
-        let (one, after) = lit(alloc, tokens, at, levels)?;
+        let (one, after) = lit(alloc, tokens, at)?;
         literals.push(one)?;
         at = after;
     }
@@ -146,38 +100,18 @@ pub fn literals(
 }
 
 // Head, or not ( Head ), or and lit*
-#[tactic(auto, unfolding(crate::specs::PlainParsing::lits_inside_at, crate::specs::PlainParsing::literals_at, crate::specs::PlainParsing::atom_at, crate::specs::PlainParsing::head_at))]
-fn lits_inside(
-    alloc: Global,
-    tokens: &[Lexeme],
-    at: usize,
-    levels: u32,
-) -> Result<(Lits, usize), ReadStop>
-    ensures reads { Gives tokens.now lits_view result (lits_inside_at levels (from tokens.now at)) }
+#[tactic(auto, using(crate::proofs::Levels::by_literal), unfolding(crate::specs::PlainParsing::lits_inside_at, crate::specs::PlainParsing::literals_at, crate::specs::PlainParsing::lit_inside_at))]
+fn lits_inside(alloc: Global, tokens: &[Lexeme], at: usize) -> Result<(Lits, usize), ReadStop>
+    ensures reads { Gives tokens.now lits_view result (lits_inside_at (from tokens.now at)) }
     ensures onward { IfOk result (λ x. (at < x.1) × (x.1 ≤ length tokens.now)) }
 {
-    let Some(first) = peek(tokens, at) else {
-        return Err(ReadStop::At(at));
-    };
-    match first.symbol {
-        Symbol::And => {
-            let (literals, at) = literals(alloc, tokens, at + 1, levels)?;
+    match peek(tokens, at) {
+        Some(first) if matches!(first.symbol, Symbol::And) => {
+            let (literals, at) = literals(alloc, tokens, at + 1)?;
             Ok((Lits::Together(literals), at))
         }
-        Symbol::Not => {
-            let (atom, at) = atom(alloc, tokens, at + 1, levels)?;
-            let one = LitTree {
-                positive: false,
-                atom,
-            };
-            Ok((Lits::One(one), at))
-        }
         _ => {
-            let (atom, at) = head(alloc, tokens, at)?;
-            let one = LitTree {
-                positive: true,
-                atom,
-            };
+            let (one, at) = lit_inside(alloc, tokens, at)?;
             Ok((Lits::One(one), at))
         }
     }
@@ -185,19 +119,12 @@ fn lits_inside(
 
 // A literal, or ( and lit* )
 #[tactic(auto, unfolding(crate::specs::PlainParsing::lits_at, crate::specs::PlainParsing::lits_inside_at))]
-fn one_or_several(
-    alloc: Global,
-    tokens: &[Lexeme],
-    at: usize,
-    levels: u32,
-) -> Result<(Lits, usize), ReadStop>
-    ensures reads { Gives tokens.now lits_view result (lits_at levels (from tokens.now at)) }
+fn one_or_several(alloc: Global, tokens: &[Lexeme], at: usize) -> Result<(Lits, usize), ReadStop>
+    ensures reads { Gives tokens.now lits_view result (lits_at (from tokens.now at)) }
     ensures onward { IfOk result (λ x. (at < x.1) × (x.1 ≤ length tokens.now)) }
 {
-    if levels == 0 || !is_left(tokens, at) {
-        return Err(ReadStop::At(at));
-    }
-    let (lits, at) = lits_inside(alloc, tokens, at + 1, levels - 1)?;
+    let at = open(tokens, at)?;
+    let (lits, at) = lits_inside(alloc, tokens, at)?;
     let at = close(tokens, at)?;
     Ok((lits, at))
 }
@@ -253,30 +180,20 @@ fn as_effect(alloc: Global, lits: Lits) -> Result<EffTree, Memory>
 
 /// A condition of literals.
 #[tactic(auto, unfolding(crate::specs::PlainParsing::cond_at, crate::specs::PlainParsing::lits_at))]
-pub fn condition(
-    alloc: Global,
-    tokens: &[Lexeme],
-    at: usize,
-    levels: u32,
-) -> Result<(CondTree, usize), ReadStop>
-    ensures reads { Gives tokens.now cond_view result (cond_at levels (from tokens.now at)) }
+pub fn condition(alloc: Global, tokens: &[Lexeme], at: usize) -> Result<(CondTree, usize), ReadStop>
+    ensures reads { Gives tokens.now cond_view result (cond_at (from tokens.now at)) }
     ensures onward { IfOk result (λ x. (at < x.1) × (x.1 ≤ length tokens.now)) }
 {
-    let (lits, at) = one_or_several(alloc, tokens, at, levels)?;
+    let (lits, at) = one_or_several(alloc, tokens, at)?;
     Ok((as_condition(alloc, lits)?, at))
 }
 
 /// An effect of literals.
 #[tactic(auto, unfolding(crate::specs::PlainParsing::eff_at, crate::specs::PlainParsing::lits_at))]
-pub fn effect(
-    alloc: Global,
-    tokens: &[Lexeme],
-    at: usize,
-    levels: u32,
-) -> Result<(EffTree, usize), ReadStop>
-    ensures reads { Gives tokens.now eff_view result (eff_at levels (from tokens.now at)) }
+pub fn effect(alloc: Global, tokens: &[Lexeme], at: usize) -> Result<(EffTree, usize), ReadStop>
+    ensures reads { Gives tokens.now eff_view result (eff_at (from tokens.now at)) }
     ensures onward { IfOk result (λ x. (at < x.1) × (x.1 ≤ length tokens.now)) }
 {
-    let (lits, at) = one_or_several(alloc, tokens, at, levels)?;
+    let (lits, at) = one_or_several(alloc, tokens, at)?;
     Ok((as_effect(alloc, lits)?, at))
 }

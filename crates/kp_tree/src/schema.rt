@@ -36,7 +36,7 @@ fn precondition(alloc: Global, tokens: &[Lexeme], at: usize) -> Result<(CondTree
 {
     match peek(tokens, at) {
         Some(first) if matches!(first.symbol, Symbol::Precondition) => {
-            condition(alloc, tokens, at + 1, 3)
+            condition(alloc, tokens, at + 1)
         }
         _ => Ok((CondTree::All(Row::new(alloc)), at)),
     }
@@ -50,9 +50,7 @@ fn effect_part(alloc: Global, tokens: &[Lexeme], at: usize) -> Result<(EffTree, 
     ensures onward { IfOk result (λ x. (at ≤ x.1) × (x.1 ≤ length tokens.now)) }
 {
     match peek(tokens, at) {
-        Some(first) if matches!(first.symbol, Symbol::Effect) => {
-            effect(alloc, tokens, at + 1, 3)
-        }
+        Some(first) if matches!(first.symbol, Symbol::Effect) => { effect(alloc, tokens, at + 1) }
         _ => Ok((EffTree::All(Row::new(alloc)), at)),
     }
 }

@@ -4,10 +4,10 @@ ghost use Rattle.kp_tree.specs.Symbols.{is_predicates};
 ghost use Rattle.kp_tree.specs.Grammar.{has_stood};
 ghost use Rattle.kp_tree.specs.Trees.{section_predicates, section_schemas};
 ghost use Rattle.kp_tree.specs.View.{pred_view, schema_view};
-ghost use Rattle.kp_tree.specs.PlainParsing.{Gives, GivesSections, seen_of, section_view, pred_inside_at, pred_at, preds_at, section_inside_at, section_at, sections_at};
+ghost use Rattle.kp_tree.specs.PlainParsing.{Gives, GivesSections, seen_of, section_view, pred_at, preds_at, section_inside_at, section_at, sections_at};
 ghost use Rattle.kp_tree.specs.declared.sections.Stage.TheVariants.{Start};
 
-use crate::cursor::{close, copy_word, is_head, is_left, peek};
+use crate::cursor::{close, head_word, is_left, open, peek};
 use crate::lexeme::Lexeme;
 use crate::schema::schema;
 use crate::stop::ReadStop;
@@ -41,45 +41,17 @@ pub enum Section {
     Action(SchemaTree),
 }
 
-// Head
-#[tactic(auto, unfolding(crate::specs::PlainParsing::pred_inside_at))]
-fn predicate_inside(
-    alloc: Global,
-    tokens: &[Lexeme],
-    at: usize,
-) -> Result<(PredTree, usize), ReadStop>
-    ensures reads { Gives tokens.now pred_view result (pred_inside_at (from tokens.now at)) }
-    ensures onward { IfOk result (λ x. (at < x.1) × (x.1 ≤ length tokens.now)) }
-{
-    match peek(tokens, at) {
-        Some(first)
-            if matches!(
-                first.symbol,
-                Symbol::Define | Symbol::Domain | Symbol::Problem | Symbol::Either | Symbol::Name
-            ) => {
-            let head = copy_word(alloc, &first.word)?;
-            let predicate = PredTree {
-                head,
-                params: Row::new(alloc),
-            };
-            Ok((predicate, at + 1))
-        }
-        _ => Err(ReadStop::At(at)),
-    }
-}
-
 // ( Head )
-#[tactic(auto, unfolding(crate::specs::PlainParsing::pred_at, crate::specs::PlainParsing::pred_inside_at))]
+#[tactic(auto, unfolding(crate::specs::PlainParsing::pred_at, crate::specs::PlainParsing::head_word_at))]
 fn predicate(alloc: Global, tokens: &[Lexeme], at: usize) -> Result<(PredTree, usize), ReadStop>
     ensures reads { Gives tokens.now pred_view result (pred_at (from tokens.now at)) }
     ensures onward { IfOk result (λ x. (at < x.1) × (x.1 ≤ length tokens.now)) }
 {
-    if !is_left(tokens, at) {
-        return Err(ReadStop::At(at));
-    }
-    let (predicate, at) = predicate_inside(alloc, tokens, at + 1)?;
+    let at = open(tokens, at)?;
+    let (head, at) = head_word(alloc, tokens, at)?;
     let at = close(tokens, at)?;
-    Ok((predicate, at))
+    let params = Row::new(alloc);
+    Ok((PredTree { head, params }, at))
 }
 
 // Predicates, as many as stand there.
@@ -129,13 +101,9 @@ fn section_inside(
             let (predicates, at) = predicates(alloc, tokens, at + 1)?;
             Ok(((Stage::Both, Section::Predicates(predicates)), at))
         }
-        (Symbol::Action, Stage::Declared) => {
+        (Symbol::Action, Stage::Declared | Stage::Both) => {
             let (schema, at) = schema(alloc, tokens, at + 1)?;
-            Ok(((Stage::Declared, Section::Action(schema)), at))
-        }
-        (Symbol::Action, Stage::Both) => {
-            let (schema, at) = schema(alloc, tokens, at + 1)?;
-            Ok(((Stage::Both, Section::Action(schema)), at))
+            Ok(((stage, Section::Action(schema)), at))
         }
         _ => Err(ReadStop::At(at)),
     }

@@ -1,32 +1,49 @@
-ghost use Rattle.std.specs.Prelude.{◌≡◌, ◌<◌, ◌≤◌, length, IfOk};
+ghost use Rattle.std.specs.Prelude.{◌≡◌, ◌<◌, ◌≤◌, false, length, IfOk, IfErr};
 ghost use Rattle.kp_tree.specs.Forms.{hits};
 ghost use Rattle.kp_tree.specs.Lexemes.{from};
-ghost use Rattle.kp_tree.specs.PlainParsing.{Passes, naming_test, name_at, naming_inside_at, naming_at, requirements_at};
+ghost use Rattle.kp_tree.specs.Symbols.{first_is};
+ghost use Rattle.kp_tree.specs.PlainParsing.{Led, Passes, lead_test, name_at, naming_at, requirements_at};
 
-use crate::cursor::{begins_keyword, close, is_left, is_name, peek};
+use crate::cursor::{begins_keyword, close, is_name, open, peek};
 use crate::lexeme::Lexeme;
 use crate::stop::ReadStop;
 use crate::symbol::Symbol;
 
-/// What a name in brackets names.
+/// A word that must come first in its brackets.
 #[derive(Clone, Copy, Debug, PartialEq, Eq)]
-pub enum Naming {
-    /// `domain` before the domain's name.
+pub enum Lead {
+    Define,
     Domain,
-    /// `problem` before the problem's name.
     Problem,
-    /// `:domain` before the name of a problem's domain.
+    /// `:domain`
     OfDomain,
+    Init,
+    Goal,
 }
 
-// Whether the symbol is the word before the name.
-fn announces(naming: Naming, symbol: Symbol) -> bool
-    ensures { result ≡ hits (naming_test naming) symbol }
+// Whether the symbol is the word.
+fn leads(lead: Lead, symbol: Symbol) -> bool
+    ensures { result ≡ hits (lead_test lead) symbol }
 {
-    match naming {
-        Naming::Domain => matches!(symbol, Symbol::Domain),
-        Naming::Problem => matches!(symbol, Symbol::Problem),
-        Naming::OfDomain => matches!(symbol, Symbol::OfDomain),
+    match lead {
+        Lead::Define => matches!(symbol, Symbol::Define),
+        Lead::Domain => matches!(symbol, Symbol::Domain),
+        Lead::Problem => matches!(symbol, Symbol::Problem),
+        Lead::OfDomain => matches!(symbol, Symbol::OfDomain),
+        Lead::Init => matches!(symbol, Symbol::Init),
+        Lead::Goal => matches!(symbol, Symbol::Goal),
+    }
+}
+
+/// The place behind a word that must come first.
+pub fn follow(tokens: &[Lexeme], at: usize, lead: Lead) -> Result<usize, ReadStop>
+    ensures found { IfOk result (λ n. Led lead (from tokens.now at) (from tokens.now n)) }
+    ensures stopped { IfErr result (λ e. (e ≡ ReadStop.At at) × (first_is (hits (lead_test lead)) (from tokens.now at) ≡ false)) }
+    ensures onward { IfOk result (λ n. (at < n) × (n ≤ length tokens.now)) }
+{
+    match peek(tokens, at) {
+        Some(first) if leads(lead, first.symbol) => Ok(at + 1),
+        _ => Err(ReadStop::At(at)),
     }
 }
 
@@ -42,28 +59,15 @@ fn skip_name(tokens: &[Lexeme], at: usize) -> Result<usize, ReadStop>
     }
 }
 
-// The word before a name, and the name.
-#[tactic(auto, unfolding(crate::specs::PlainParsing::naming_inside_at, crate::specs::PlainParsing::name_at))]
-fn naming_inside(tokens: &[Lexeme], at: usize, naming: Naming) -> Result<usize, ReadStop>
-    ensures reads { Passes tokens.now result (naming_inside_at naming (from tokens.now at)) }
-    ensures onward { IfOk result (λ n. (at < n) × (n ≤ length tokens.now)) }
-{
-    match peek(tokens, at) {
-        Some(first) if announces(naming, first.symbol) => skip_name(tokens, at + 1),
-        _ => Err(ReadStop::At(at)),
-    }
-}
-
 /// The place behind a bracket with a name, which isn't kept.
-#[tactic(auto, unfolding(crate::specs::PlainParsing::naming_at, crate::specs::PlainParsing::naming_inside_at))]
-pub fn read_naming(tokens: &[Lexeme], at: usize, naming: Naming) -> Result<usize, ReadStop>
-    ensures reads { Passes tokens.now result (naming_at naming (from tokens.now at)) }
+#[tactic(auto, unfolding(crate::specs::PlainParsing::naming_at, crate::specs::PlainParsing::name_at))]
+pub fn read_naming(tokens: &[Lexeme], at: usize, lead: Lead) -> Result<usize, ReadStop>
+    ensures reads { Passes tokens.now result (naming_at lead (from tokens.now at)) }
     ensures onward { IfOk result (λ n. (at < n) × (n ≤ length tokens.now)) }
 {
-    if !is_left(tokens, at) {
-        return Err(ReadStop::At(at));
-    }
-    let at = naming_inside(tokens, at + 1, naming)?;
+    let at = open(tokens, at)?;
+    let at = follow(tokens, at, lead)?;
+    let at = skip_name(tokens, at)?;
     close(tokens, at)
 }
 

@@ -3,45 +3,28 @@ ghost use Rattle.kp_tree.specs.Lexemes.{toks, from};
 ghost use Rattle.kp_tree.specs.Plain.{plain_domain, plain_problem};
 ghost use Rattle.kp_tree.specs.Trees.{Given};
 ghost use Rattle.kp_tree.specs.View.{cond_view, item_view, domain_view, problem_view};
-ghost use Rattle.kp_tree.specs.PlainParsing.{Gives, GivesAll, domain_inside_at, domain_at, init_inside_at, init_at, goal_inside_at, goal_at, of_domain_at, init_and_goal_at, givens_of, givens_at, problem_inside_at, problem_at, whole_at};
+ghost use Rattle.kp_tree.specs.PlainParsing.{Gives, GivesAll, domain_at, init_at, goal_at, of_domain_at, givens_of, givens_at, problem_at, whole_at};
 
-use crate::cursor::{close, is_left, peek};
+use crate::cursor::{close, open, peek};
 use crate::lexeme::Lexeme;
 use crate::literals::{condition, facts, literals};
 use crate::sections::sections;
 use crate::stop::ReadStop;
-use crate::symbol::Symbol;
-use crate::titles::{Naming, read_naming};
+use crate::titles::{Lead, follow, read_naming};
 use crate::tree::{CondTree, Domain, ItemTree, Problem};
 use kp_base::Row;
 use std::alloc::Global;
 
-// define ( domain Name ) and the sections
-#[tactic(auto, unfolding(crate::specs::PlainParsing::domain_inside_at, crate::specs::PlainParsing::naming_at, crate::specs::PlainParsing::sections_at))]
-fn domain_inside(alloc: Global, tokens: &[Lexeme], at: usize) -> Result<(Domain, usize), ReadStop>
-    ensures reads { Gives tokens.now domain_view result (domain_inside_at (from tokens.now at)) }
-    ensures onward { IfOk result (λ x. (at < x.1) × (x.1 ≤ length tokens.now)) }
-{
-    match peek(tokens, at) {
-        Some(first) if matches!(first.symbol, Symbol::Define) => {
-            let at = read_naming(tokens, at + 1, Naming::Domain)?;
-            let (domain, at) = sections(alloc, tokens, at)?;
-            Ok((domain, at))
-        }
-        _ => Err(ReadStop::At(at)),
-    }
-}
-
-// The domain in its brackets.
-#[tactic(auto, unfolding(crate::specs::PlainParsing::domain_at, crate::specs::PlainParsing::domain_inside_at))]
+// ( define ( domain Name ) and the sections )
+#[tactic(auto, unfolding(crate::specs::PlainParsing::domain_at, crate::specs::PlainParsing::naming_at, crate::specs::PlainParsing::sections_at))]
 fn read_domain(alloc: Global, tokens: &[Lexeme], at: usize) -> Result<(Domain, usize), ReadStop>
     ensures reads { Gives tokens.now domain_view result (domain_at (from tokens.now at)) }
     ensures onward { IfOk result (λ x. (at < x.1) × (x.1 ≤ length tokens.now)) }
 {
-    if !is_left(tokens, at) {
-        return Err(ReadStop::At(at));
-    }
-    let (domain, at) = domain_inside(alloc, tokens, at + 1)?;
+    let at = open(tokens, at)?;
+    let at = follow(tokens, at, Lead::Define)?;
+    let at = read_naming(tokens, at, Lead::Domain)?;
+    let (domain, at) = sections(alloc, tokens, at)?;
     let at = close(tokens, at)?;
     Ok((domain, at))
 }
@@ -58,81 +41,30 @@ pub fn whole_domain(alloc: Global, tokens: &[Lexeme]) -> Result<Domain, ReadStop
     }
 }
 
-// :init lit*
-#[tactic(auto, unfolding(crate::specs::PlainParsing::init_inside_at, crate::specs::PlainParsing::literals_at))]
-fn init_inside(
-    alloc: Global,
-    tokens: &[Lexeme],
-    at: usize,
-) -> Result<(Row<ItemTree>, usize), ReadStop>
-    ensures reads { Gives tokens.now (λ row. Given.init (map item_view row)) result (init_inside_at (from tokens.now at)) }
-    ensures onward { IfOk result (λ x. (at < x.1) × (x.1 ≤ length tokens.now)) }
-{
-    match peek(tokens, at) {
-        Some(first) if matches!(first.symbol, Symbol::Init) => {
-            let (literals, at) = literals(alloc, tokens, at + 1, 3)?;
-            Ok((facts(alloc, literals)?, at))
-        }
-        _ => Err(ReadStop::At(at)),
-    }
-}
-
 // ( :init lit* )
-#[tactic(auto, unfolding(crate::specs::PlainParsing::init_at, crate::specs::PlainParsing::init_inside_at))]
+#[tactic(auto, using(crate::proofs::Levels::same_literals), unfolding(crate::specs::PlainParsing::init_at, crate::specs::PlainParsing::literals_at))]
 fn init(alloc: Global, tokens: &[Lexeme], at: usize) -> Result<(Row<ItemTree>, usize), ReadStop>
     ensures reads { Gives tokens.now (λ row. Given.init (map item_view row)) result (init_at (from tokens.now at)) }
     ensures onward { IfOk result (λ x. (at < x.1) × (x.1 ≤ length tokens.now)) }
 {
-    if !is_left(tokens, at) {
-        return Err(ReadStop::At(at));
-    }
-    let (items, at) = init_inside(alloc, tokens, at + 1)?;
+    let at = open(tokens, at)?;
+    let at = follow(tokens, at, Lead::Init)?;
+    let (literals, at) = literals(alloc, tokens, at)?;
     let at = close(tokens, at)?;
-    Ok((items, at))
-}
-
-// :goal lits
-#[tactic(auto, unfolding(crate::specs::PlainParsing::goal_inside_at, crate::specs::PlainParsing::cond_at))]
-fn goal_inside(alloc: Global, tokens: &[Lexeme], at: usize) -> Result<(CondTree, usize), ReadStop>
-    ensures reads { Gives tokens.now (λ c. Given.goal (cond_view c)) result (goal_inside_at (from tokens.now at)) }
-    ensures onward { IfOk result (λ x. (at < x.1) × (x.1 ≤ length tokens.now)) }
-{
-    match peek(tokens, at) {
-        Some(first) if matches!(first.symbol, Symbol::Goal) => {
-            let (goal, at) = condition(alloc, tokens, at + 1, 3)?;
-            Ok((goal, at))
-        }
-        _ => Err(ReadStop::At(at)),
-    }
+    Ok((facts(alloc, literals)?, at))
 }
 
 // ( :goal lits )
-#[tactic(auto, unfolding(crate::specs::PlainParsing::goal_at, crate::specs::PlainParsing::goal_inside_at))]
+#[tactic(auto, unfolding(crate::specs::PlainParsing::goal_at, crate::specs::PlainParsing::cond_at))]
 fn goal(alloc: Global, tokens: &[Lexeme], at: usize) -> Result<(CondTree, usize), ReadStop>
     ensures reads { Gives tokens.now (λ c. Given.goal (cond_view c)) result (goal_at (from tokens.now at)) }
     ensures onward { IfOk result (λ x. (at < x.1) × (x.1 ≤ length tokens.now)) }
 {
-    if !is_left(tokens, at) {
-        return Err(ReadStop::At(at));
-    }
-    let (goal, at) = goal_inside(alloc, tokens, at + 1)?;
+    let at = open(tokens, at)?;
+    let at = follow(tokens, at, Lead::Goal)?;
+    let (goal, at) = condition(alloc, tokens, at)?;
     let at = close(tokens, at)?;
     Ok((goal, at))
-}
-
-// ( :init lit* ) ( :goal lits )
-#[tactic(auto, unfolding(crate::specs::PlainParsing::init_and_goal_at, crate::specs::PlainParsing::init_at, crate::specs::PlainParsing::goal_at))]
-fn init_and_goal(
-    alloc: Global,
-    tokens: &[Lexeme],
-    at: usize,
-) -> Result<((Row<ItemTree>, CondTree), usize), ReadStop>
-    ensures reads { Gives tokens.now (λ x. (Given.init (map item_view x.0), Given.goal (cond_view x.1))) result (init_and_goal_at (from tokens.now at)) }
-    ensures onward { IfOk result (λ x. (at < x.1) × (x.1 ≤ length tokens.now)) }
-{
-    let (init, at) = init(alloc, tokens, at)?;
-    let (goal, at) = goal(alloc, tokens, at)?;
-    Ok(((init, goal), at))
 }
 
 // ( :domain Name ), as a section
@@ -141,12 +73,12 @@ fn of_domain(tokens: &[Lexeme], at: usize) -> Result<((), usize), ReadStop>
     ensures reads { Gives tokens.now (λ _. Given.of_domain) result (of_domain_at (from tokens.now at)) }
     ensures onward { IfOk result (λ x. (at < x.1) × (x.1 ≤ length tokens.now)) }
 {
-    let at = read_naming(tokens, at, Naming::OfDomain)?;
+    let at = read_naming(tokens, at, Lead::OfDomain)?;
     Ok(((), at))
 }
 
 // ( :domain Name ) ( :init lit* ) ( :goal lits )
-#[tactic(auto, unfolding(crate::specs::PlainParsing::givens_at, crate::specs::PlainParsing::of_domain_at, crate::specs::PlainParsing::init_and_goal_at))]
+#[tactic(auto, unfolding(crate::specs::PlainParsing::givens_at, crate::specs::PlainParsing::of_domain_at, crate::specs::PlainParsing::init_at, crate::specs::PlainParsing::goal_at))]
 fn givens(
     alloc: Global,
     tokens: &[Lexeme],
@@ -156,41 +88,27 @@ fn givens(
     ensures onward { IfOk result (λ x. (at < x.1) × (x.1 ≤ length tokens.now)) }
 {
     let ((), at) = of_domain(tokens, at)?;
-    let ((init, goal), at) = init_and_goal(alloc, tokens, at)?;
+    let (init, at) = init(alloc, tokens, at)?;
+    let (goal, at) = goal(alloc, tokens, at)?;
     Ok(((init, goal), at))
 }
 
-// define ( problem Name ) and the sections
-#[tactic(auto, unfolding(crate::specs::PlainParsing::problem_inside_at, crate::specs::PlainParsing::naming_at, crate::specs::PlainParsing::givens_at))]
-fn problem_inside(alloc: Global, tokens: &[Lexeme], at: usize) -> Result<(Problem, usize), ReadStop>
-    ensures reads { Gives tokens.now problem_view result (problem_inside_at (from tokens.now at)) }
-    ensures onward { IfOk result (λ x. (at < x.1) × (x.1 ≤ length tokens.now)) }
-{
-    match peek(tokens, at) {
-        Some(first) if matches!(first.symbol, Symbol::Define) => {
-            let at = read_naming(tokens, at + 1, Naming::Problem)?;
-            let ((init, goal), at) = givens(alloc, tokens, at)?;
-            let problem = Problem {
-                objects: Row::new(alloc),
-                init,
-                goal,
-            };
-            Ok((problem, at))
-        }
-        _ => Err(ReadStop::At(at)),
-    }
-}
-
-// The problem in its brackets.
-#[tactic(auto, unfolding(crate::specs::PlainParsing::problem_at, crate::specs::PlainParsing::problem_inside_at))]
+// ( define ( problem Name ) and the sections )
+#[tactic(auto, unfolding(crate::specs::PlainParsing::problem_at, crate::specs::PlainParsing::naming_at, crate::specs::PlainParsing::givens_at))]
 fn read_problem(alloc: Global, tokens: &[Lexeme], at: usize) -> Result<(Problem, usize), ReadStop>
     ensures reads { Gives tokens.now problem_view result (problem_at (from tokens.now at)) }
     ensures onward { IfOk result (λ x. (at < x.1) × (x.1 ≤ length tokens.now)) }
 {
-    if !is_left(tokens, at) {
-        return Err(ReadStop::At(at));
-    }
-    let (problem, at) = problem_inside(alloc, tokens, at + 1)?;
+    let at = open(tokens, at)?;
+    let at = follow(tokens, at, Lead::Define)?;
+    let at = read_naming(tokens, at, Lead::Problem)?;
+    let ((init, goal), at) = givens(alloc, tokens, at)?;
+    let objects = Row::new(alloc);
+    let problem = Problem {
+        objects,
+        init,
+        goal,
+    };
     let at = close(tokens, at)?;
     Ok((problem, at))
 }

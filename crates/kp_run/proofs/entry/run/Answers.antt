@@ -9,6 +9,7 @@ use Rattle.kp_run.specs.Ends.{files_of}
 use Rattle.kp_run.specs.Reports.{HasFiles}
 use Rattle.kp_run.proofs.Translated.{has_files, same_text}
 use Rattle.kp_run.proofs.Ending.{tells_stopped, told_as}
+use Rattle.kp_run.proofs.Results.{usage_result, report_result}
 use Rattle.kp_run.proofs.entry.run.Goals as goal
 
 -- ---- the words are no command
@@ -59,6 +60,17 @@ returns-in-Ok-clause-told g c =
 
 pub returns-in-Err-clause-puts : goal.returns-in-Err-clause-puts
 returns-in-Err-clause-puts g c other is = (no_files, rw c.stopped.ensures (gets_stopped _ other no_files _ _ _ _ c.in-Err.stop c.in-Err.ensures.contents))
+
+-- ---- the result
+
+pub returns-in_default-clause-result : goal.returns-in_default-clause-result
+returns-in_default-clause-result g c m held is =
+    usage_result c.args.words.now m _ _ _ c.end_with_usage.ensures.told.0 _ _ _ c.end_with_usage.result c.in_default.ensures (c.end_with_usage.ensures.answer is) c.end_with_usage.ensures.told.1
+
+pub returns-in-Ok-clause-result : goal.returns-in-Ok-clause-result
+returns-in-Ok-clause-result g c m held is =
+    let one = report_result c.args.words.now m c.in-Some.command c.in-Ok.report _ _ _ _ _ _ _ _ _ _ c.finish.result c.in-Some.ensures c.in-Ok.ensures.text (c.in-Ok.ensures.answers m held) (c.in-Ok.ensures.translated m held) (c.finish.ensures.answer is) c.finish.ensures.its_files c.finish.ensures.told in
+    rw c.in-Ok.ensures.contents at one
 
 -- ---- the translation
 

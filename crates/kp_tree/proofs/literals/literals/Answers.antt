@@ -12,7 +12,7 @@ pub returns-in_err-one-clause-reads : goal.returns-in_err-one-clause-reads
 unfolding lit_at literals_at
 returns-in_err-one-clause-reads c =
     let p = err_from_is_err_and c.from_residual.result c.from_residual.ensures.1 in
-    rw (p.1, p.2) (ends c.args.levels is_left plain_lit _ c.in_err-one.field-0.0 _ _ _ (sym c.is_left.ensures.test ∙ c.more-test.true) c.in_err-one.ensures.reads c.more.invariant.so_far)
+    rw (p.1, p.2) (ends 2 is_left plain_lit _ c.in_err-one.field-0.0 _ _ _ (sym c.is_left.ensures.test ∙ c.more-test.true) c.in_err-one.ensures.reads c.more.invariant.so_far)
 
 pub more-preserved : goal.more-preserved
 unfolding lit_at literals_at
@@ -21,9 +21,9 @@ more-preserved c =
     record {
       onward = omega (arith, c.in_ok-one.ensures.onward.0);
       within = omega (arith, c.in_ok-one.ensures.onward.1);
-      so_far = rw e (goes_on c.args.levels is_left plain_lit _ _ _ _ _ (sym c.is_left.ensures.test ∙ c.more-test.true) c.in_ok-one.ensures.reads c.more.invariant.so_far);
+      so_far = rw e (goes_on 2 is_left plain_lit _ _ _ _ _ (sym c.is_left.ensures.test ∙ c.more-test.true) c.in_ok-one.ensures.reads c.more.invariant.so_far);
     }
 
 pub returns-clause-reads : goal.returns-clause-reads
 unfolding lit_at literals_at
-returns-clause-reads c = is_done c.args.levels is_left plain_lit _ _ _ (sym c.is_left.ensures.test ∙ c.more-test.false) c.more.invariant.so_far
+returns-clause-reads c = is_done 2 is_left plain_lit _ _ _ (sym c.is_left.ensures.test ∙ c.more-test.false) c.more.invariant.so_far

@@ -12,7 +12,7 @@ abbrev pub invariant-more : goal.invariant-more
 invariant-more l = record {
   onward : l.start ≤ l.at;
   within : l.at ≤ length l.tokens;
-  so_far : with_front (map lit_view l.literals) (read l.levels (many is_left plain_lit) (from l.tokens l.at)) ≡ read l.levels (many is_left plain_lit) (from l.tokens l.start);
+  so_far : with_front (map lit_view l.literals) (read 2 (many is_left plain_lit) (from l.tokens l.at)) ≡ read 2 (many is_left plain_lit) (from l.tokens l.start);
 }
 
 abbrev pub decreases-more : goal.decreases-more

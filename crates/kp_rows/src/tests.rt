@@ -1,4 +1,4 @@
-use crate::run;
+use kp_run::run;
 use kp_outside::{MemoryShelf, MemorySink};
 use std::alloc::{AllocError, Global};
 use std::test::Fail;

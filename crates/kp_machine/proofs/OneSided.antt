@@ -1,0 +1,33 @@
+-- Where no action has an add and a delete of one atom, no step fires both.
+use Rattle.std.proofs.Common.{◌≡◌, ℕ, true, not, ◌&&◌, sym, ap, ap₂, ◌∙◌}
+use Rattle.std.proofs.lemmas.Bool.{and_parts, false≢true, false_from_ne_true}
+use Rattle.std.specs.List.{list_all}
+use Rattle.kp_base.specs.declared.lit.Lit.{Lit}
+use Rattle.kp_base.specs.declared.ground.Effect.{Effect}
+use Rattle.kp_base.specs.declared.ground.Action.{Action}
+use Rattle.kp_base.specs.Lists.{Member}
+use Rattle.kp_base.specs.Lit.{positive, negative, negated, same_lit}
+use Rattle.kp_base.specs.Steps.{State, holds, fires}
+use Rattle.kp_base.specs.Clashes.{clashes_at, is_one_sided}
+use Rattle.kp_base.proofs.Lists.{all_member, any_member}
+use Rattle.kp_base.proofs.Lits.{same_lit-true, same_lit-refl}
+use Rattle.kp_machine.specs.Laws.{OneSidedNeverClashes}
+
+-- an effect of what fires
+pub fired : (a : Action) (s : State) (l : Lit) → fires a.effects (holds s) l ≡ true → (e : Effect) × Member a.effects e × (e.result ≡ l)
+fired a s l h =
+    let r = any_member (λ e. same_lit e.result l && list_all (holds s) e.cond) a.effects h in
+    let parts = and_parts (same_lit r.0.result l) (list_all (holds s) r.0.cond) r.2 in
+    (r.0, r.1, same_lit-true r.0.result l parts.0)
+
+one_at_most : (a : Action) (s : State) (p : ℕ) → is_one_sided a ≡ true → clashes_at a s p ≡ true → ⊥
+one_at_most a s p sided h =
+    let both = and_parts (fires a.effects (holds s) (positive p)) (fires a.effects (holds s) (negative p)) h in
+    let add = fired a s (positive p) both.0 in
+    let del = fired a s (negative p) both.1 in
+    let apart : not (same_lit del.0.result (negated add.0.result)) ≡ true = all_member (λ f. not (same_lit f.result (negated add.0.result))) a.effects del.0 del.1 (all_member (λ e. list_all (λ f. not (same_lit f.result (negated e.result))) a.effects) a.effects add.0 add.1 sided) in
+    let one : same_lit del.0.result (negated add.0.result) ≡ true = ap₂ (λ x y. same_lit x (negated y)) del.2 add.2 ∙ same_lit-refl (negative p) in
+    false≢true (ap not (sym one) ∙ apart)
+
+pub never_clashes : OneSidedNeverClashes
+never_clashes g i sided = record { no_clash = λ s ns a p model ran in-a ok. false_from_ne_true (clashes_at a _ p) (one_at_most a _ p (all_member is_one_sided g.actions a in-a sided)) }

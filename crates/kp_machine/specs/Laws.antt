@@ -1,0 +1,48 @@
+-- What is proved of the tagged machine.
+use Rattle.std.specs.Prelude.{◌≡◌, true, not, ◌&&◌, ◌||◌, List, [], map, length}
+use Rattle.std.specs.List.{list_any, list_all}
+use Rattle.kp_base.specs.declared.lit.Lit.{Lit}
+use Rattle.kp_base.specs.declared.ground.Effect.{Effect}
+use Rattle.kp_base.specs.declared.ground.Action.{Action}
+use Rattle.kp_base.specs.declared.ground.Ground.{Ground}
+use Rattle.kp_base.specs.declared.ground.Initial.{Initial}
+use Rattle.kp_base.specs.declared.ground.TagTable.{TagTable}
+use Rattle.kp_base.specs.Lit.{negated, same_lit}
+use Rattle.kp_base.specs.Steps.{Facts, fires, IsGroundPlan}
+use Rattle.kp_base.specs.Entailed.{IsClosure, IsTable, AreValid}
+use Rattle.kp_base.specs.Clashes.{NeverClashes, is_one_sided}
+use Rattle.kp_base.specs.Machine.{MachineStep, facts_after, accepts, stripped, one_tag_table}
+
+-- ---- soundness
+
+-- where a table is right, its merges are valid and nothing clashes, each list that the machine accepts is, without its merges, a plan
+abbrev pub IsSound : Type 0
+IsSound = (g : Ground) (i : Initial) (table : TagTable) → IsTable g i table → AreValid i table → NeverClashes g i → (steps : List MachineStep) → accepts g table steps ≡ true → IsGroundPlan g i (stripped steps)
+
+-- where no action has an add and a delete of one atom, nothing clashes
+abbrev pub OneSidedNeverClashes : Type 0
+OneSidedNeverClashes = (g : Ground) (i : Initial) → list_all is_one_sided g.actions ≡ true → NeverClashes g i
+
+-- ---- operators
+
+-- some cancellation fires: it makes this literal no fact, and the negation of none of its conditions is one
+abbrev pub is_cancelled : List Effect → Facts → Facts
+is_cancelled es k l = list_any (λ e. same_lit (negated e.result) l && list_all (λ c. not (k (negated c))) e.cond) es
+
+-- the facts after the supports and cancellations of an action's effects: what is cancelled goes, and then what is supported comes
+abbrev pub facts_after_operator : Action → Facts → Facts
+facts_after_operator a k l = fires a.effects k l || (k l && not (is_cancelled a.effects k l))
+
+-- supports and cancellations do what the machine does
+abbrev pub OperatorsAreExact : Type 0
+OperatorsAreExact = (a : Action) (k : Facts) (l : Lit) → facts_after_operator a k l ≡ facts_after a k l
+
+-- ---- one tag
+
+-- with the closure of the empty tag, the table of that tag alone is right, and its merges are valid
+abbrev pub OneTagIsTable : Type 0
+OneTagIsTable = (g : Ground) (i : Initial) (closure : List Lit) → IsClosure (length g.atoms) i [] closure → IsTable g i (one_tag_table closure) × AreValid i (one_tag_table closure)
+
+-- with that table, the machine accepts lists of actions alone
+abbrev pub OneTagHasNoMerges : Type 0
+OneTagHasNoMerges = (g : Ground) (closure : List Lit) (steps : List MachineStep) → accepts g (one_tag_table closure) steps ≡ true → steps ≡ map MachineStep.act (stripped steps)

@@ -1,0 +1,33 @@
+//! Laws of the tagged machine, each proved as the contract of a function that does nothing.
+
+ghost use Rattle.kp_machine.specs.Laws.{IsSound, OneSidedNeverClashes, OneTagHasNoMerges, OneTagIsTable, OperatorsAreExact};
+
+/// Each list that the machine accepts is, without its merges, a plan from every model.
+#[tactic(auto, using(crate::proofs::Sound::sound))]
+pub fn accepted_lists_are_plans()
+    ensures { IsSound }
+{}
+
+/// Where no action has an add and a delete of one atom, none is ever done together with the other.
+#[tactic(auto, using(crate::proofs::OneSided::never_clashes))]
+pub fn one_sided_actions_never_clash()
+    ensures { OneSidedNeverClashes }
+{}
+
+/// The two effects that an operator has for each effect of its action do what the machine does.
+#[tactic(auto, using(crate::proofs::Operators::operators_are_exact))]
+pub fn operators_are_exact()
+    ensures { OperatorsAreExact }
+{}
+
+/// The empty tag with its closure is a table by itself.
+#[tactic(auto, using(crate::proofs::OneTag::is_table))]
+pub fn one_tag_is_a_table()
+    ensures { OneTagIsTable }
+{}
+
+/// With the empty tag alone, accepted lists have no merges.
+#[tactic(auto, using(crate::proofs::OneTag::has_no_merges))]
+pub fn one_tag_has_no_merges()
+    ensures { OneTagHasNoMerges }
+{}

@@ -1,0 +1,9 @@
+//! The tagged machine is sound, by laws over definitions. `specs/Laws.antt` says what is proved.
+#![tactic(auto)]
+
+mod laws;
+
+pub use laws::{
+    accepted_lists_are_plans, one_sided_actions_never_clash, one_tag_has_no_merges,
+    one_tag_is_a_table, operators_are_exact,
+};

@@ -1,0 +1,5 @@
+//! Tests of whole commands, on files and printed lines that were written by hand. There is nothing else here.
+#![tactic(auto)]
+
+#[cfg(test)]
+mod tests;
