@@ -1,0 +1,53 @@
+-- What is known under a tag: the literals that hold in each model that meets it.
+use Rattle.std.specs.Prelude.{◌≡◌, ◌↔◌, ◌<◌, ℕ, Bool, true, false, ◌&&◌, List, [], ◌∷◌, nat_lt, map, filter, replicate, slice_index_or}
+use Rattle.std.specs.List.{list_all, flat_map, range_with_len}
+use Rattle.kp_base.specs.declared.lit.Lit.{Lit}
+use Rattle.kp_base.specs.declared.ground.Initial.{Initial}
+use Rattle.kp_base.specs.Lists.{choices}
+use Rattle.kp_base.specs.Lit.{positive, negative}
+use Rattle.kp_base.specs.LitSet.{IsAscending}
+use Rattle.kp_base.specs.Steps.{State, holds, has, is_model}
+
+-- the two literals of each of the first n atoms, ascending
+abbrev pub literals : ℕ → List Lit
+literals n = flat_map (λ p. positive p ∷ negative p ∷ []) (range_with_len 0 n)
+
+-- the state in which the atoms are as this list says, and all others false
+abbrev pub state_of : List Bool → State
+state_of bs p = slice_index_or bs p false
+
+-- all the ways to make the first n atoms true or false
+abbrev pub states : ℕ → List State
+states n = map state_of (choices (replicate n (true ∷ false ∷ [])))
+
+-- those that are models and meet the tag
+abbrev pub models_of : Initial → ℕ → List Lit → List State
+models_of i n tag = filter (λ s. is_model i s && list_all (holds s) tag) (states n)
+
+-- the literals of the first n atoms that hold in all of these
+abbrev pub closure : Initial → ℕ → List Lit → List Lit
+closure i n tag = filter (λ l. list_all (λ s. holds s l) (models_of i n tag)) (literals n)
+
+-- ---- the law
+
+-- each literal is of one of the first n atoms
+abbrev pub are_below : ℕ → List Lit → Bool
+are_below n ls = list_all (λ l. nat_lt l.atom.0 n) ls
+
+-- the formula speaks of the first n atoms alone
+pub record IsOver (n : ℕ) (i : Initial) : Type 0 where
+  pub clauses : list_all (are_below n) i.clauses ≡ true
+  pub closed : list_all (λ p. nat_lt p.0 n) i.closed ≡ true
+
+-- the literal holds in every model that meets the tag
+abbrev pub IsKnown : Initial → List Lit → Lit → Type 0
+IsKnown i tag l = (s : State) → is_model i s ≡ true → list_all (holds s) tag ≡ true → holds s l ≡ true
+
+-- just the literals of the first n atoms that are known under the tag, ascending
+pub record AreKnown (i : Initial) (n : ℕ) (tag ls : List Lit) : Type 0 where
+  pub known : (l : Lit) → (has ls l ≡ true) ↔ ((l.atom.0 < n) × IsKnown i tag l)
+  pub ascending : IsAscending ls
+
+-- where the formula and the tag are of the first n atoms, the closure has just what is known
+abbrev pub IsClosureExact : Type 0
+IsClosureExact = (i : Initial) (n : ℕ) → IsOver n i → (tag : List Lit) → are_below n tag ≡ true → AreKnown i n tag (closure i n tag)

@@ -1,0 +1,47 @@
+-- The initial formula: what `:init` says of the ground atoms, as clauses and closed atoms.
+use Rattle.std.specs.Prelude.{Bool, not, List, [], ◌∷◌, ◌++◌, map, filter}
+use Rattle.std.specs.List.{list_any, flat_map}
+use Rattle.kp_base.specs.declared.lit.Lit.{Lit}
+use Rattle.kp_base.specs.declared.lit.AtomId.{AtomId}
+use Rattle.kp_base.specs.declared.ground.Initial.{Initial}
+use Rattle.kp_base.specs.Lists.{only_if, each_once}
+use Rattle.kp_base.specs.Lit.{negated, same_lit}
+use Rattle.kp_base.specs.LitSet.{set_of}
+use Rattle.kp_names.specs.declared.lifted.GroundLit.{GroundLit}
+use Rattle.kp_names.specs.declared.lifted.Item.{Item}
+use Rattle.kp_names.specs.Numbered.{Lifted}
+use Rattle.kp_names.specs.Lifted.{is_named}
+use Rattle.kp_ground.specs.declared.flat.Atom.{Atom}
+use Rattle.kp_ground.specs.Ground.{atom_of, same_atom, ground_atoms, number_of, numbered, numbered_set}
+
+-- for each pair of literals, the first slowest: not both hold
+abbrev pub not_both : List Lit → List (List Lit)
+not_both [] = []
+not_both (x ∷ xs) = map (λ y. set_of (negated x ∷ negated y ∷ [])) xs ++ not_both xs
+
+-- some literal holds, and of different ones no two do
+abbrev pub exactly_one : List Lit → List (List Lit)
+exactly_one ls = set_of ls ∷ not_both (each_once same_lit ls)
+
+-- whether the atom is in the list
+abbrev pub is_ground : List Atom → Atom → Bool
+is_ground atoms a = list_any (same_atom a) atoms
+
+-- the clauses of an item; a literal whose atom isn't in the list is of a static predicate, and says nothing of the others
+abbrev pub item_clauses : List Atom → Item → List (List Lit)
+item_clauses atoms (Item.One m) = only_if (is_ground atoms (atom_of m)) ((numbered atoms m ∷ []) ∷ [])
+item_clauses atoms (Item.OneOf ms) = exactly_one (map (numbered atoms) ms)
+item_clauses atoms (Item.AnyOf ms) = numbered_set atoms ms ∷ []
+item_clauses atoms (Item.Unknown m) = []
+
+-- the numbers of the atoms that no item names: these are false at the start
+abbrev pub closed_of : Lifted → List Atom → List AtomId
+closed_of l atoms = map (λ a. record { 0 = number_of atoms a }) (filter (λ a. not (is_named l a.pred a.objects)) atoms)
+
+-- the initial formula over any list of atoms
+abbrev pub initial_over : Lifted → List Atom → Initial
+initial_over l atoms = record { clauses = flat_map (item_clauses atoms) l.init; closed = closed_of l atoms }
+
+-- the initial formula
+abbrev pub initial_of : Lifted → Initial
+initial_of l = initial_over l (ground_atoms l)
