@@ -1,5 +1,5 @@
 -- Plain conditions, effects and items by number, and what they come to on the ground.
-use Rattle.std.proofs.Common.{◌≡◌, ◌==◌, ℕ, Bool, true, false, not, cond, ◌&&◌, ◌||◌, List, [], ◌∷◌, ◌++◌, map, filter, refl, sym, ap, subst, ◌∙◌}
+use Rattle.std.proofs.Common.{◌≡◌, ◌==◌, ℕ, Bool, true, false, not, cond, ◌&&◌, ◌||◌, List, [], ◌∷◌, ◌++◌, map, filter, refl, sym, ap, ◌∙◌}
 use Rattle.std.specs.List.{list_any, list_all, flat_map}
 use Rattle.std.proofs.lemmas.Bool.{and_parts, false≢true}
 use Rattle.std.proofs.lemmas.List.{map-append}
@@ -11,15 +11,14 @@ use Rattle.kp_tree.specs.Trees.{Atom, Domain, Problem}
 use Rattle.kp_tree.specs.PlainTrees.{are_none, is_bare, is_literal_cond, all_literal_conds, is_plain_cond, is_literal_eff, all_literal_effs, is_plain_eff, is_plain_item}
 use Rattle.kp_base.specs.Lists.{only_if}
 use Rattle.kp_names.specs.declared.lifted.GroundLit.{GroundLit}
-use Rattle.kp_names.specs.declared.lifted.Term.{Term}
 use Rattle.kp_names.specs.declared.lifted.Item.{Item}
 use Rattle.kp_names.specs.Names.{Name}
-use Rattle.kp_names.specs.Numbered.{Cond, Eff, Lifted}
+use Rattle.kp_names.specs.Numbered.{Lifted}
 use Rattle.kp_names.specs.Lifted.{Binding, ground, literal_holds, object_of}
 use Rattle.kp_names.specs.Numbering.{index_of, heads, numbered_terms, numbered_cond, numbered_conds, numbered_eff, numbered_effs, numbered_item, numbered_goal, numbered_goals, object_number}
 use Rattle.kp_ground.specs.declared.flat.FlatEffect.{FlatEffect}
 use Rattle.kp_ground.specs.Static.{changes, some_change, is_static, initially, settled, all_settled, remaining, all_remaining}
-use Rattle.kp_ground.specs.Flat.{flat, all_flat}
+use Rattle.kp_ground.specs.Flattening.{flat, all_flat}
 use Rattle.kp_plain.specs.Ground.{Literal, literal, cond_literals, conds_literals, eff_literals, effs_literals, item_literals}
 
 pub none_is : {X : Type 0} (xs : List X) → are_none xs ≡ true → xs ≡ []
