@@ -1,41 +1,17 @@
--- Lists with each element once, and when two literals are one.
-use Rattle.std.proofs.Common.{◌≡◌, ℕ, Bool, true, false, not, ◌||◌, cond, List, [], ◌∷◌, filter, refl, sym, ap, ◌∙◌, nat_eq, eqb-true, eq-eqb}
-use Rattle.std.specs.Bool.{beq}
+-- Lists with each element once.
+use Rattle.std.proofs.Common.{◌≡◌, Bool, true, false, not, ◌&&◌, ◌||◌, cond, List, [], ◌∷◌, filter, refl, sym, ap, ◌∙◌}
 use Rattle.std.specs.List.{list_any, list_all}
 use Rattle.std.proofs.lemmas.Bool.{and_parts, and_from}
-use Rattle.kp_base.specs.declared.lit.Lit.{Lit}
-use Rattle.kp_base.specs.Lit.{same_lit}
 use Rattle.kp_base.specs.Lists.{each_once}
 
--- ---- truth values
-
-pub beq-true : (a b : Bool) → beq a b ≡ true → a ≡ b
-beq-true true true h = refl
-beq-true true false h = sym h
-beq-true false true h = h
-beq-true false false h = refl
-
-pub beq-refl : (a : Bool) → beq a a ≡ true
-beq-refl true = refl
-beq-refl false = refl
-
--- ---- literals
-
-pub same_lit-true : (a b : Lit) → same_lit a b ≡ true → a ≡ b
-same_lit-true a b h =
-    let parts = and_parts (nat_eq a.atom.0 b.atom.0) (beq a.positive b.positive) h in
-    equal a.atom.0 b.atom.0 a.positive b.positive (eqb-true a.atom.0 b.atom.0 parts.0) (beq-true a.positive b.positive parts.1)
+-- what holds of all elements holds of those that a filter leaves
+pub all_filter : {X : Type 0} (p q : X → Bool) (xs : List X) → list_all p xs ≡ true → list_all p (filter q xs) ≡ true
+all_filter p q [] h = refl
+all_filter p q (x ∷ xs) h = pick (q x) (all_filter p q xs (and_parts (p x) (list_all p xs) h).1)
   where
-    lit : ℕ → Bool → Lit
-    lit p sign = record { atom = record { 0 = p }; positive = sign }
-
-    equal : (p q : ℕ) (c d : Bool) → p ≡ q → c ≡ d → lit p c ≡ lit q d
-    equal p q c d e f = cc
-
-pub same_lit-refl : (a : Lit) → same_lit a a ≡ true
-same_lit-refl a = and_from (nat_eq a.atom.0 a.atom.0) (beq a.positive a.positive) (eq-eqb a.atom.0 a.atom.0 refl) (beq-refl a.positive)
-
--- ---- each element once
+    pick : (t : Bool) → list_all p (filter q xs) ≡ true → list_all p (cond t (x ∷ filter q xs) (filter q xs)) ≡ true
+    pick true rest = and_from (p x) (list_all p (filter q xs)) (and_parts (p x) (list_all p xs) h).0 rest
+    pick false rest = rest
 
 module _ {X : Type 0} (same : X → X → Bool) where
   -- without what is the same as x, some element passes as before, where x doesn't
@@ -55,14 +31,6 @@ module _ {X : Type 0} (same : X → X → Bool) where
       pick : (t : Bool) → p x ≡ t → (p x || list_any p (filter (λ y. not (same x y)) (each_once same xs))) ≡ (p x || list_any p (each_once same xs))
       pick true is = rw is refl
       pick false is = rw is (any-without p alike x is (each_once same xs))
-
-  all_filter : (p q : X → Bool) (xs : List X) → list_all p xs ≡ true → list_all p (filter q xs) ≡ true
-  all_filter p q [] h = refl
-  all_filter p q (x ∷ xs) h = pick (q x) (all_filter p q xs (and_parts (p x) (list_all p xs) h).1)
-    where
-      pick : (t : Bool) → list_all p (filter q xs) ≡ true → list_all p (cond t (x ∷ filter q xs) (filter q xs)) ≡ true
-      pick true rest = and_from (p x) (list_all p (filter q xs)) (and_parts (p x) (list_all p xs) h).0 rest
-      pick false rest = rest
 
   -- what holds of all elements holds of those that stay
   pub all_each_once : (p : X → Bool) (xs : List X) → list_all p xs ≡ true → list_all p (each_once same xs) ≡ true

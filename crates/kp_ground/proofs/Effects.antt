@@ -9,7 +9,8 @@ use Rattle.kp_base.specs.declared.ground.Effect.{Effect}
 use Rattle.kp_base.specs.Lists.{Member, each_once}
 use Rattle.kp_base.specs.Lit.{positive, negative, negated, same_lit}
 use Rattle.kp_base.specs.Steps.{Facts, has, fires}
-use Rattle.kp_base.proofs.Once.{same_lit-true, same_lit-refl, any-each_once}
+use Rattle.kp_base.proofs.Lits.{same_lit-true, same_lit-refl}
+use Rattle.kp_base.proofs.Once.{any-each_once}
 use Rattle.kp_names.proofs.Lists.{any_member, any_from, any_alike, all_member, bool_same}
 use Rattle.kp_ground.specs.Ground.{same_effect, is_within, is_idle, lasting}
 use Rattle.kp_ground.proofs.Lists.{all_from, and-false, false_where_not_true}

@@ -7,3 +7,5 @@ pub mod Step
 pub mod Kept
 pub mod Plans
 pub mod Names
+pub mod ExampleMoves
+pub mod ExampleGrounds

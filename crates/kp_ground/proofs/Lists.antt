@@ -1,8 +1,16 @@
 -- Truth values, and members of lists.
 use Rattle.std.proofs.Common.{◌≡◌, ◌⊎◌, Bool, true, false, not, ◌&&◌, ◌||◌, cond, List, [], ◌∷◌, ◌++◌, filter, refl, sym, ap, subst, inl, inr, ◌∙◌}
+use Rattle.std.specs.Bool.{beq}
+use Rattle.std.specs.Cmp.{booleans_Decides}
 use Rattle.std.specs.List.{list_all, flat_map}
 use Rattle.std.proofs.lemmas.Bool.{and_parts, and_from, false≢true}
 use Rattle.kp_base.specs.Lists.{Member}
+
+pub beq-true : (a b : Bool) → beq a b ≡ true → a ≡ b
+beq-true a b h = (booleans_Decides a b).0 h
+
+pub beq-refl : (a : Bool) → beq a a ≡ true
+beq-refl a = (booleans_Decides a a).1 refl
 
 pub and-true : (a : Bool) → (a && true) ≡ a
 and-true true = refl

@@ -10,7 +10,6 @@ use Rattle.kp_base.specs.Lists.{Member, only_if, signed, each_once}
 use Rattle.kp_base.specs.Lit.{positive, negative, same_lit}
 use Rattle.kp_base.specs.LitSet.{set_of}
 use Rattle.kp_base.specs.Steps as steps
-use Rattle.kp_base.proofs.Once.{beq-true, beq-refl}
 use Rattle.kp_base.proofs.Sets.{all-set_of}
 use Rattle.kp_names.specs.declared.lifted.GroundLit.{GroundLit}
 use Rattle.kp_names.specs.Names.{same}
@@ -24,7 +23,7 @@ use Rattle.kp_ground.specs.Static.{HasStaticTruth, settled, remaining}
 use Rattle.kp_ground.specs.Flattening.{flat, flat_of, flat_fires}
 use Rattle.kp_ground.specs.Ground.{kept_bindings, atom_of, effect_literals, flat_literals, kept_literals, open_literals, occurring, number_of, numbered, numbered_set, IsNumbering, numbered_effect, same_effect, lasting, ground_pre, ground_effects, action_of, at_atom, seen_on}
 use Rattle.kp_ground.specs.Laws.{IsStepExact, IsKeptExact}
-use Rattle.kp_ground.proofs.Lists.{and-true, and-false, or-false, member_left, member_right, member_flat_map, member_filter}
+use Rattle.kp_ground.proofs.Lists.{beq-true, beq-refl, and-true, and-false, or-false, member_left, member_right, member_flat_map, member_filter}
 use Rattle.kp_ground.proofs.Flattening.{split, flat_exact}
 use Rattle.kp_ground.proofs.Effects.{fires-each_once, lasting_adds, lasting_deletes}
 

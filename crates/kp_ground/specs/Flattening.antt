@@ -25,7 +25,7 @@ abbrev mutual
   all_flat l b Effs.no_eff = []
   all_flat l b (Effs.more_effs e es) = flat l b e ++ all_flat l b es
 
--- the flat form of a schema with these objects
+-- the flat form of a schema with these objects; what is repeated stays here, until conditions are sets of numbers
 abbrev pub flat_of : Lifted → Schema → List ℕ → Flat
 flat_of l a os = record { pre = remaining l os a.pre; effects = flat l os a.effect }
 

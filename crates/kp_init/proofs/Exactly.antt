@@ -8,19 +8,13 @@ use Rattle.kp_base.specs.Lists.{Member, signed, each_once}
 use Rattle.kp_base.specs.Lit.{negated, same_lit}
 use Rattle.kp_base.specs.LitSet.{set_of}
 use Rattle.kp_base.specs.Steps.{State, Facts, holds}
-use Rattle.kp_base.proofs.Once.{same_lit-true, same_lit-refl, any-each_once}
+use Rattle.kp_base.proofs.Lits.{same_lit-true, same_lit-refl, holds-negated}
+use Rattle.kp_base.proofs.Once.{any-each_once}
 use Rattle.kp_base.proofs.Sets.{any-set_of}
 use Rattle.kp_names.proofs.Lists.{any_member, any_from, all_member, bool_same}
 use Rattle.kp_ground.proofs.Lists.{or-false, all_from, false_where_not_true}
 use Rattle.kp_init.specs.Initial.{not_both, exactly_one}
-use Rattle.kp_init.proofs.Lists.{not_not, all-each_once, Once, each_once_is_once}
-
-pub holds-negated : (g : State) (l : Lit) → holds g (negated l) ≡ not (holds g l)
-holds-negated g l = sign l.positive (g l.atom.0)
-  where
-    sign : (b c : Bool) → signed (not b) c ≡ not (signed b c)
-    sign true c = refl
-    sign false c = sym (not_not c)
+use Rattle.kp_init.proofs.Lists.{all-each_once, Once, each_once_is_once}
 
 -- at most one place of the list passes
 abbrev at_most_one : (Lit → Bool) → List Lit → Bool

@@ -1,3 +1,6 @@
 pub mod Lists
 pub mod Exactly
 pub mod Models
+pub mod Runs
+pub mod Closure
+pub mod ExampleFormulas

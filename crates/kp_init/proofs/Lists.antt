@@ -5,10 +5,6 @@ use Rattle.std.proofs.lemmas.Bool.{or_parts, or_from}
 use Rattle.kp_base.specs.Lists.{each_once}
 use Rattle.kp_base.proofs.Once.{any-each_once}
 
-pub not_not : (b : Bool) → not (not b) ≡ b
-not_not true = refl
-not_not false = refl
-
 -- all pass where none fails
 pub all-any : {X : Type 0} (p : X → Bool) (xs : List X) → list_all p xs ≡ not (list_any (λ x. not (p x)) xs)
 all-any p [] = refl

@@ -1,12 +1,13 @@
 -- What is known under a tag: the literals that hold in each model that meets it.
-use Rattle.std.specs.Prelude.{◌≡◌, ◌↔◌, ◌<◌, ℕ, Bool, true, false, ◌&&◌, List, [], ◌∷◌, nat_lt, map, filter, replicate, slice_index_or}
+use Rattle.std.specs.Prelude.{◌≡◌, ℕ, Bool, true, false, ◌&&◌, List, [], ◌∷◌, nat_lt, map, filter, replicate, slice_index_or}
 use Rattle.std.specs.List.{list_all, flat_map, range_with_len}
 use Rattle.kp_base.specs.declared.lit.Lit.{Lit}
 use Rattle.kp_base.specs.declared.ground.Initial.{Initial}
 use Rattle.kp_base.specs.Lists.{choices}
 use Rattle.kp_base.specs.Lit.{positive, negative}
 use Rattle.kp_base.specs.LitSet.{IsAscending}
-use Rattle.kp_base.specs.Steps.{State, holds, has, is_model}
+use Rattle.kp_base.specs.Steps.{State, holds, is_model}
+use Rattle.kp_base.specs.Entailed.{IsClosure}
 
 -- the two literals of each of the first n atoms, ascending
 abbrev pub literals : ℕ → List Lit
@@ -39,15 +40,11 @@ pub record IsOver (n : ℕ) (i : Initial) : Type 0 where
   pub clauses : list_all (are_below n) i.clauses ≡ true
   pub closed : list_all (λ p. nat_lt p.0 n) i.closed ≡ true
 
--- the literal holds in every model that meets the tag
-abbrev pub IsKnown : Initial → List Lit → Lit → Type 0
-IsKnown i tag l = (s : State) → is_model i s ≡ true → list_all (holds s) tag ≡ true → holds s l ≡ true
-
--- just the literals of the first n atoms that are known under the tag, ascending
-pub record AreKnown (i : Initial) (n : ℕ) (tag ls : List Lit) : Type 0 where
-  pub known : (l : Lit) → (has ls l ≡ true) ↔ ((l.atom.0 < n) × IsKnown i tag l)
+-- the list is the closure of the tag, in ascending order
+pub record IsAscendingClosure (n : ℕ) (i : Initial) (tag ls : List Lit) : Type 0 where
+  pub closure : IsClosure n i tag ls
   pub ascending : IsAscending ls
 
--- where the formula and the tag are of the first n atoms, the closure has just what is known
+-- where the formula and the tag speak of the first n atoms alone, the closure over their states is the closure over all states
 abbrev pub IsClosureExact : Type 0
-IsClosureExact = (i : Initial) (n : ℕ) → IsOver n i → (tag : List Lit) → are_below n tag ≡ true → AreKnown i n tag (closure i n tag)
+IsClosureExact = (i : Initial) (n : ℕ) → IsOver n i → (tag : List Lit) → are_below n tag ≡ true → IsAscendingClosure n i tag (closure i n tag)

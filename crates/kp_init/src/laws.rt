@@ -7,3 +7,23 @@ ghost use Rattle.kp_init.specs.Closure.{IsClosureExact};
 pub fn models_are_initial_states()
     ensures { IsInitialExact }
 {}
+
+/// The initial formula speaks of the ground atoms alone.
+pub fn initial_formulas_speak_of_ground_atoms()
+    ensures { IsInitialOver }
+{}
+
+/// Where there is a model, the plans are the lists of kept instances whose actions succeed from each model.
+pub fn plans_are_runs_from_models()
+    ensures { IsPlanByModels }
+{}
+
+/// Where there is a model, the plans of two trees are the names of the lists of actions that succeed from each model.
+pub fn plans_by_name_are_runs_from_models()
+    ensures { IsPlanByName }
+{}
+
+/// Where the formula and the tag speak of the first n atoms alone, the closure over their states is the tag's.
+pub fn closures_are_exact()
+    ensures { IsClosureExact }
+{}

@@ -1,0 +1,145 @@
+-- Initial formulas and closures, computed from texts; the laws' premises can be met.
+use Rattle.std.proofs.Common.{◌≡◌, ℕ, Bool, true, false, List, [], ◌∷◌, Some, refl, sym, subst, map, nat_eq, codes}
+use Rattle.std.proofs.lemmas.Bool.{false≢true}
+use Rattle.kp_base.specs.declared.lit.Lit.{Lit}
+use Rattle.kp_base.specs.declared.lit.AtomId.{AtomId}
+use Rattle.kp_base.specs.declared.ground.Initial.{Initial}
+use Rattle.kp_base.specs.Lit.{positive, negative}
+use Rattle.kp_base.specs.Steps.{State, is_model, succeeds, IsGroundPlan}
+use Rattle.kp_lex.specs.Bytes.{class_of}
+use Rattle.kp_lex.specs.Scanning.{cut_from}
+use Rattle.kp_tree.specs.Symbols.{symbol_of}
+use Rattle.kp_tree.specs.Parsing.{some_at, next_at}
+use Rattle.kp_names.specs.Faults.{HasNoFault}
+use Rattle.kp_names.specs.Numbered.{Lifted}
+use Rattle.kp_names.specs.Numbering.{numbered_problem}
+use Rattle.kp_names.specs.NumberLaws.{is_plain_goal}
+use Rattle.kp_names.specs.Plans.{Solves}
+use Rattle.kp_names.proofs.Texts.{domain_of, problem_of}
+use Rattle.kp_names.proofs.ExamplePlans.{moves, from_a_to_b, move}
+use Rattle.kp_names.proofs.ExampleCells.{cells, one_of_three}
+use Rattle.kp_ground.specs.Ground.{ground_atoms, ground_of}
+use Rattle.kp_ground.specs.Laws.{action_name}
+use Rattle.kp_ground.proofs.Atoms.{atoms_are_numbered}
+use Rattle.kp_ground.proofs.ExampleMoves.{moves_by_number, numbered_moves, ground_moves, moves_are_ground}
+use Rattle.kp_ground.proofs.ExampleGrounds.{roads, three_towns}
+use Rattle.kp_init.specs.Initial.{initial_of}
+use Rattle.kp_init.specs.Closure.{closure, IsOver, IsAscendingClosure}
+use Rattle.kp_init.specs.Laws.{IsNamedRun}
+use Rattle.kp_init.proofs.Runs.{initial_is_over, plan_by_name}
+use Rattle.kp_init.proofs.Closure.{closure_exact}
+
+abbrev lifted : List ℕ → List ℕ → Lifted
+lifted d p = numbered_problem (domain_of d) (problem_of p)
+
+abbrev atom : ℕ → AtomId
+atom n = record { 0 = n }
+
+-- ---- exactly one of three cells
+
+abbrev formula_of_cells : Initial
+formula_of_cells = record {
+  clauses = (positive 0 ∷ positive 1 ∷ positive 2 ∷ []) ∷ (negative 0 ∷ negative 1 ∷ []) ∷ (negative 0 ∷ negative 2 ∷ []) ∷ (negative 1 ∷ negative 2 ∷ []) ∷ [];
+  closed = [];
+}
+
+cells_at_first : initial_of (lifted cells one_of_three) ≡ formula_of_cells
+unfolding cut_from class_of symbol_of some_at next_at
+cells_at_first = refl
+
+-- the first cell is the only one
+known_of_first : closure formula_of_cells 3 (positive 0 ∷ []) ≡ positive 0 ∷ negative 1 ∷ negative 2 ∷ []
+known_of_first = refl
+
+nothing_known : closure formula_of_cells 3 [] ≡ []
+nothing_known = refl
+
+known_of_none : closure formula_of_cells 3 (negative 0 ∷ negative 1 ∷ []) ≡ negative 0 ∷ negative 1 ∷ positive 2 ∷ []
+known_of_none = refl
+
+-- under a tag that no model meets, everything is known
+torn : closure formula_of_cells 3 (positive 0 ∷ positive 1 ∷ []) ≡ positive 0 ∷ negative 0 ∷ positive 1 ∷ negative 1 ∷ positive 2 ∷ negative 2 ∷ []
+torn = refl
+
+cells_over : IsOver 3 formula_of_cells
+cells_over = record { clauses = refl; closed = refl }
+
+is_closure : IsAscendingClosure 3 formula_of_cells (positive 0 ∷ []) (positive 0 ∷ negative 1 ∷ negative 2 ∷ [])
+is_closure = closure_exact formula_of_cells 3 cells_over (positive 0 ∷ []) refl
+
+-- ---- pairs in the order of the text, each clause ascending; a literal that is repeated counts once
+
+abbrev backwards : List ℕ
+backwards = codes "(define (problem c) (:domain cells) (:init (oneof (x3) (x1) (x3) (x2)) (or (x2) (not (x1)) (x2)) (not (x3))) (:goal (x1)))"
+
+backwards_at_first : initial_of (lifted cells backwards) ≡ record {
+  clauses =
+      (positive 0 ∷ positive 1 ∷ positive 2 ∷ []) ∷ (negative 0 ∷ negative 2 ∷ []) ∷ (negative 1 ∷ negative 2 ∷ []) ∷ (negative 0 ∷ negative 1 ∷ [])
+      ∷ (negative 0 ∷ positive 1 ∷ [])
+      ∷ (negative 2 ∷ [])
+      ∷ [];
+  closed = [];
+}
+unfolding cut_from class_of symbol_of some_at next_at
+backwards_at_first = refl
+
+-- no literal gives the empty clause, which no state meets
+abbrev no_cell : List ℕ
+no_cell = codes "(define (problem c) (:domain cells) (:init (oneof)) (:goal (x1)))"
+
+no_cell_at_first : initial_of (lifted cells no_cell) ≡ record { clauses = [] ∷ []; closed = atom 0 ∷ atom 1 ∷ atom 2 ∷ [] }
+unfolding cut_from class_of symbol_of some_at next_at
+no_cell_at_first = refl
+
+-- ---- a static atom has a clause only where the goal names it; what is unknown is neither stated nor closed
+
+roads_at_first : initial_of (lifted roads three_towns) ≡ record { clauses = (positive 0 ∷ []) ∷ (positive 1 ∷ []) ∷ []; closed = atom 2 ∷ atom 3 ∷ atom 4 ∷ atom 5 ∷ atom 6 ∷ [] }
+unfolding cut_from class_of symbol_of some_at next_at
+roads_at_first = refl
+
+-- ---- plans by name
+
+abbrev formula_of_moves : Initial
+formula_of_moves = record { clauses = (positive 0 ∷ []) ∷ []; closed = atom 1 ∷ [] }
+
+moves_at_first : initial_of moves_by_number ≡ formula_of_moves
+moves_at_first = refl
+
+known_at_first : closure formula_of_moves 2 [] ≡ positive 0 ∷ negative 1 ∷ []
+known_at_first = refl
+
+moves_over : IsOver 2 (initial_of moves_by_number)
+moves_over = initial_is_over moves_by_number (ground_atoms moves_by_number) (atoms_are_numbered moves_by_number).numbering
+
+-- a model
+abbrev first : State
+first n = nat_eq n 0
+
+is_first : is_model formula_of_moves first ≡ true
+is_first = refl
+
+-- the first two actions, one after the other, are a plan
+two_actions : IsGroundPlan ground_moves formula_of_moves (0 ∷ 1 ∷ [])
+two_actions s = pick (s 0) refl
+  where
+    pick : (t : Bool) → s 0 ≡ t → is_model formula_of_moves s ≡ true → succeeds ground_moves s (0 ∷ 1 ∷ []) ≡ true
+    pick true e model = rw e refl
+    pick false e model = absurd (false≢true (rw e at model))
+
+no_fault : HasNoFault (domain_of moves) (problem_of from_a_to_b)
+unfolding cut_from class_of symbol_of some_at next_at
+no_fault = record { domain = refl; problem = refl }
+
+plain : is_plain_goal (problem_of from_a_to_b).goal ≡ true
+unfolding cut_from class_of symbol_of some_at next_at
+plain = refl
+
+a_run : IsNamedRun (domain_of moves) (problem_of from_a_to_b) (move (codes "a") (codes "a") ∷ move (codes "a") (codes "b") ∷ []) (0 ∷ 1 ∷ [])
+a_run = record {
+  names = subst (λ l. map (action_name (ground_of l)) (0 ∷ 1 ∷ []) ≡ map Some (move (codes "a") (codes "a") ∷ move (codes "a") (codes "b") ∷ [])) (sym numbered_moves) refl;
+  plan = subst (λ l. IsGroundPlan (ground_of l) (initial_of l) (0 ∷ 1 ∷ [])) (sym numbered_moves) two_actions;
+}
+
+-- so their names are a plan of the two trees
+a_plan : Solves (domain_of moves) (problem_of from_a_to_b) (move (codes "a") (codes "a") ∷ move (codes "a") (codes "b") ∷ [])
+a_plan = (plan_by_name (domain_of moves) (problem_of from_a_to_b) no_fault plain first (subst (λ l. is_model (initial_of l) first ≡ true) (sym numbered_moves) is_first) (move (codes "a") (codes "a") ∷ move (codes "a") (codes "b") ∷ [])).1 (0 ∷ 1 ∷ [], a_run)
