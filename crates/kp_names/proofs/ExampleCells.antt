@@ -24,13 +24,13 @@ state_of p test h os = is_named p h os && test h
 named_alone : (p : Problem Word) (test : Name → Bool) (h : Name) (os : List Name) → is_named p h os ≡ false → state_of p test h os ≡ false
 named_alone p test h os e = rw e refl
 
-abbrev cells : List ℕ
+abbrev pub cells : List ℕ
 cells = codes "(define (domain cells) (:predicates (x1) (x2) (x3)) (:action left :effect (and (when (x3) (and (x2) (not (x3)))) (when (x2) (and (x1) (not (x2)))))))"
 
-abbrev one_of_three : List ℕ
+abbrev pub one_of_three : List ℕ
 one_of_three = codes "(define (problem c) (:domain cells) (:init (oneof (x1) (x2) (x3))) (:goal (x1)))"
 
-cell_problem : HasProblem cells one_of_three
+pub cell_problem : HasProblem cells one_of_three
 unfolding cut_from class_of symbol_of some_at next_at
 cell_problem = has_problem cells one_of_three (record { domain_cut = refl; problem_cut = refl; domain_read = refl; problem_read = refl; domain_faults = refl; problem_faults = refl })
 

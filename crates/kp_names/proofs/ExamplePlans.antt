@@ -14,14 +14,14 @@ use Rattle.kp_names.specs.Initial.{is_named}
 use Rattle.kp_names.specs.Plans.{HasProblem, succeeds, IsPlan}
 use Rattle.kp_names.proofs.Texts.{domain_of, problem_of, has_problem, solves_theirs}
 
-abbrev step : List ℕ → List Name → Step
+abbrev pub step : List ℕ → List Name → Step
 step head objects = record { head = head; objects = objects }
 
 -- the state of the named atoms whose predicates pass the test
-abbrev state_of : Problem Word → (Name → Bool) → State
+abbrev pub state_of : Problem Word → (Name → Bool) → State
 state_of p test h os = is_named p h os && test h
 
-named_alone : (p : Problem Word) (test : Name → Bool) (h : Name) (os : List Name) → is_named p h os ≡ false → state_of p test h os ≡ false
+pub named_alone : (p : Problem Word) (test : Name → Bool) (h : Name) (os : List Name) → is_named p h os ≡ false → state_of p test h os ≡ false
 named_alone p test h os e = rw e refl
 
 -- ---- one action that exchanges p for q
@@ -58,17 +58,17 @@ no_action plan = false≢true (solves_theirs exchange from_p_to_q exchange_probl
 
 -- ---- a parameter for each end; the move from a place to itself adds and deletes one atom
 
-abbrev moves : List ℕ
+abbrev pub moves : List ℕ
 moves = codes "(define (domain f) (:types cell) (:predicates (at ?c - cell)) (:action move :parameters (?x ?y - cell) :precondition (at ?x) :effect (and (not (at ?x)) (at ?y))))"
 
-abbrev from_a_to_b : List ℕ
+abbrev pub from_a_to_b : List ℕ
 from_a_to_b = codes "(define (problem f) (:domain f) (:objects a b - cell) (:init (at a)) (:goal (at b)))"
 
-move_problem : HasProblem moves from_a_to_b
+pub move_problem : HasProblem moves from_a_to_b
 unfolding cut_from class_of symbol_of some_at next_at
 move_problem = has_problem moves from_a_to_b (record { domain_cut = refl; problem_cut = refl; domain_read = refl; problem_read = refl; domain_faults = refl; problem_faults = refl })
 
-abbrev move : List ℕ → List ℕ → Step
+abbrev pub move : List ℕ → List ℕ → Step
 move x y = step (codes "move") (x ∷ y ∷ [])
 
 -- the add wins, so a step from a to a and then one from a to b is a plan

@@ -1,4 +1,8 @@
 pub mod Lists
+pub mod Indexes
+pub mod Numbered
+pub mod NumberedItems
+pub mod NumberedPlans
 pub mod Types
 pub mod Encoding
 pub mod Texts
@@ -11,3 +15,4 @@ pub mod ExampleTypes
 pub mod ExampleFaults
 pub mod ExampleStates
 pub mod ExampleStrip
+pub mod ExampleNumbered

@@ -1,44 +1,28 @@
--- Tests over lists, and equality of names.
-use Rattle.std.proofs.Common.{◌≡◌, ℕ, Bool, true, List, [], ◌∷◌, refl, sym, subst, inl, inr, eqb-true, eq-eqb, nat_eq}
-use Rattle.std.proofs.lemmas.Bool.{and_parts, and_from, or_cases, or_left, or_right, false≢true}
-use Rattle.std.specs.List.{list_any}
+-- Equality of names, and lemmas on lists, passed on from below.
+use Rattle.std.proofs.Common.{◌≡◌, ℕ, true, List, [], ◌∷◌, refl, subst}
+use Rattle.std.proofs.lemmas.Bool.{and_parts, and_from, false≢true}
 use Rattle.kp_base.specs.Lists.{Member}
-use Rattle.kp_names.specs.Names.{same}
+use Rattle.kp_names.specs.Names.{Name, same, all_same, is_among}
+pub use Rattle.kp_base.proofs.Lists.{any_weaker, any_from, any_member, bool_same, any_map, map_map, any_alike, all_alike, flat_alike, all_member, member_at, member_map, map_member, append_member, flat_member, filter_member, append_empty, flat_empty, same-true, same-refl}
 
-pub any_weaker : {X : Type 0} (p q : X → Bool) (xs : List X) → ((x : X) → Member xs x → p x ≡ true → q x ≡ true) → list_any p xs ≡ true → list_any q xs ≡ true
-any_weaker p q [] f h = h
-any_weaker p q (x ∷ xs) f h =
-    elim (or_cases (p x) (list_any p xs) h) [
-      | inl e ↦ or_left (q x) (list_any q xs) (f x (inl refl) e)
-      | inr e ↦ or_right (q x) (list_any q xs) (any_weaker p q xs (λ y m. f y (inr m)) e)
-    ]
+pub same-sym : (xs ys : List ℕ) → same xs ys ≡ same ys xs
+same-sym xs ys = bool_same (same xs ys) (same ys xs)
+    (λ h. let e = same-true xs ys h in subst (λ z. same z xs ≡ true) e (same-refl xs))
+    (λ h. let e = same-true ys xs h in subst (λ z. same z ys ≡ true) e (same-refl ys))
 
-pub any_from : {X : Type 0} (p : X → Bool) (xs : List X) (x : X) → Member xs x → p x ≡ true → list_any p xs ≡ true
-any_from p [] x m h = absurd m
-any_from p (y ∷ ys) x m h =
-    elim m [
-      | inl e ↦ or_left (p y) (list_any p ys) (subst (λ z. p z ≡ true) (sym e) h)
-      | inr m' ↦ or_right (p y) (list_any p ys) (any_from p ys x m' h)
-    ]
-
-pub any_member : {X : Type 0} (p : X → Bool) (xs : List X) → list_any p xs ≡ true → (x : X) × Member xs x × (p x ≡ true)
-any_member p [] h = absurd (false≢true h)
-any_member p (x ∷ xs) h =
-    elim (or_cases (p x) (list_any p xs) h) [
-      | inl e ↦ (x, inl refl, e)
-      | inr e ↦ let r = any_member p xs e in (r.0, inr r.1, r.2)
-    ]
-
-pub same-true : (xs ys : List ℕ) → same xs ys ≡ true → xs ≡ ys
-same-true [] [] h = refl
-same-true [] (y ∷ ys) h = absurd (false≢true h)
-same-true (x ∷ xs) [] h = absurd (false≢true h)
-same-true (x ∷ xs) (y ∷ ys) h =
-    let parts = and_parts (nat_eq x y) (same xs ys) h in
-    let first = eqb-true x y parts.0 in
-    let rest = same-true xs ys parts.1 in
+pub all_same-true : (xs ys : List Name) → all_same xs ys ≡ true → xs ≡ ys
+all_same-true [] [] h = refl
+all_same-true [] (y ∷ ys) h = absurd (false≢true h)
+all_same-true (x ∷ xs) [] h = absurd (false≢true h)
+all_same-true (x ∷ xs) (y ∷ ys) h =
+    let parts = and_parts (same x y) (all_same xs ys) h in
+    let first = same-true x y parts.0 in
+    let rest = all_same-true xs ys parts.1 in
     cc
 
-pub same-refl : (xs : List ℕ) → same xs xs ≡ true
-same-refl [] = refl
-same-refl (x ∷ xs) = and_from (nat_eq x x) (same xs xs) (eq-eqb x x refl) (same-refl xs)
+pub all_same-refl : (xs : List Name) → all_same xs xs ≡ true
+all_same-refl [] = refl
+all_same-refl (x ∷ xs) = and_from (same x x) (all_same xs xs) (same-refl x) (all_same-refl xs)
+
+pub among_member : (xs : List Name) (x : Name) → Member xs x → is_among xs x ≡ true
+among_member xs x m = any_from (same x) xs x m (same-refl x)

@@ -8,3 +8,7 @@ pub mod Plans
 pub mod Encoding
 pub mod Strip
 pub mod Places
+pub mod Numbered
+pub mod Lifted
+pub mod Numbering
+pub mod NumberLaws

@@ -1,6 +1,7 @@
 //! Laws of the definitions, each proved as the contract of a function that does nothing.
 
 ghost use Rattle.kp_names.specs.Encoding.{EncodedDecodes, DecodedIsEncoding};
+ghost use Rattle.kp_names.specs.NumberLaws.{IsHoldsNumbered, IsFiresNumbered, IsInitialNumbered, IsPlanNumbered, IsNamedOnce};
 ghost use Rattle.kp_names.specs.Places.{PlacesMeanNothing};
 ghost use Rattle.kp_names.specs.Plans.{HasOneProblem};
 ghost use Rattle.kp_names.specs.Types.{IsTypeTestExact};
@@ -30,4 +31,33 @@ pub fn texts_have_one_problem()
 /// Whether two trees have a fault, and what solves them, doesn't depend on where their words stand.
 pub fn places_mean_nothing()
     ensures { PlacesMeanNothing }
+{}
+
+/// A condition holds by number where it holds by name.
+#[tactic(auto, using(crate::proofs::Numbered::holds_numbered))]
+pub fn conditions_mean_the_same_by_number()
+    ensures { IsHoldsNumbered }
+{}
+
+/// An effect names the same literals by number as by name.
+#[tactic(auto, using(crate::proofs::Numbered::fires_numbered))]
+pub fn effects_mean_the_same_by_number()
+    ensures { IsFiresNumbered }
+{}
+
+/// The initial states by number are those by name.
+#[tactic(auto, using(crate::proofs::NumberedPlans::initial_numbered))]
+pub fn initial_states_are_the_same_by_number()
+    ensures { IsInitialNumbered }
+{}
+
+/// The plans by name are the plans by number, with names put back.
+pub fn plans_are_the_same_by_number()
+    ensures { IsPlanNumbered }
+{}
+
+/// No two instances by number have one name.
+#[tactic(auto, using(crate::proofs::NumberedPlans::named_once))]
+pub fn instances_are_named_once()
+    ensures { IsNamedOnce }
 {}
