@@ -1,6 +1,6 @@
 -- The ground atoms are those that occur, each once and in order.
-use Rattle.std.proofs.Common.{◌≡◌, ℕ, Bool, true, false, not, ◌&&◌, ◌||◌, if◌then◌else◌, cond, List, [], ◌∷◌, Some, refl, sym, ap, subst, map, ◌∙◌, inl, inr, ◌⊎◌, nat_eq, nat_lt, zero, suc, ◌+◌, arith, eqb-true, eq-eqb, slice_get}
-use Rattle.std.specs.List.{list_all, position_or_len}
+use Rattle.std.proofs.Common.{◌≡◌, ℕ, Bool, true, false, not, ◌&&◌, if◌then◌else◌, cond, List, [], ◌∷◌, Some, refl, sym, ap, subst, map, ◌∙◌, inl, inr, ◌⊎◌, nat_eq, nat_lt, zero, suc, ◌+◌, arith, eqb-true, eq-eqb, slice_get}
+use Rattle.std.specs.List.{list_all}
 use Rattle.std.proofs.lemmas.Bool.{and_parts, and_from, or_parts, or_cases, or_left, or_right, false≢true, both_ways, lt-ltb, ltb-true, cases_order}
 use Rattle.kp_base.specs.Lists.{Member}
 use Rattle.kp_names.specs.Names.{same}

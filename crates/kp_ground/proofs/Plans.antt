@@ -7,7 +7,7 @@ use Rattle.kp_base.specs.Lists.{Member}
 use Rattle.kp_base.specs.Steps as steps
 use Rattle.kp_names.specs.Names.{same}
 use Rattle.kp_names.specs.Numbered.{Schema, Lifted}
-use Rattle.kp_names.specs.Lifted.{State, Instance, literal_holds, bindings, schema_of, fits, is_instance, permits, applicable, state_by, next, succeeds, IsInitial}
+use Rattle.kp_names.specs.Lifted.{State, Instance, literal_holds, bindings, schema_of, fits, is_instance, permits, applicable, state_by, next, succeeds}
 use Rattle.kp_names.proofs.Lists.{any_member, any_from, member_at, filter_member, same-true, same-refl}
 use Rattle.kp_ground.specs.declared.flat.Atom.{Atom}
 use Rattle.kp_ground.specs.Static.{HasStaticTruth, settled}

@@ -1,13 +1,13 @@
 -- The clauses that say that exactly one of some literals holds.
-use Rattle.std.proofs.Common.{◌≡◌, Bool, true, false, not, ◌&&◌, ◌||◌, List, [], ◌∷◌, ◌++◌, refl, sym, ap, subst, map, ◌∙◌, inl, inr}
+use Rattle.std.proofs.Common.{◌≡◌, Bool, true, false, not, ◌&&◌, ◌||◌, List, [], ◌∷◌, refl, sym, ap, subst, map, ◌∙◌, inl, inr}
 use Rattle.std.specs.List.{list_any, list_all}
 use Rattle.std.proofs.lemmas.Bool.{and_parts, and_from, or_left, or_right, both_ways, not-true}
 use Rattle.std.proofs.lemmas.List.Folds.{list_all-append}
 use Rattle.kp_base.specs.declared.lit.Lit.{Lit}
-use Rattle.kp_base.specs.Lists.{Member, signed, each_once}
+use Rattle.kp_base.specs.Lists.{Member, each_once}
 use Rattle.kp_base.specs.Lit.{negated, same_lit}
 use Rattle.kp_base.specs.LitSet.{set_of}
-use Rattle.kp_base.specs.Steps.{State, Facts, holds}
+use Rattle.kp_base.specs.Steps.{State, holds}
 use Rattle.kp_base.proofs.Lits.{same_lit-true, same_lit-refl, holds-negated}
 use Rattle.kp_base.proofs.Once.{any-each_once}
 use Rattle.kp_base.proofs.Sets.{any-set_of}
