@@ -1,13 +1,18 @@
 -- Members of lists, and tests over them.
-use Rattle.std.proofs.Common.{◌≡◌, ℕ, zero, suc, Bool, true, false, not, ◌&&◌, ◌||◌, List, [], ◌∷◌, Some, map, slice_get, refl, sym, ap, subst, inl, inr}
+use Rattle.std.proofs.Common.{◌≡◌, ◌⊎◌, ℕ, zero, suc, Bool, true, false, not, ◌&&◌, ◌||◌, cond, if◌then◌else◌, List, [], ◌∷◌, ◌++◌, Some, map, filter, slice_get, bytes_eq, refl, sym, ap, subst, ◌∙◌, inl, inr}
 use Rattle.std.proofs.lemmas.Bool.{and_parts, and_from, or_cases, or_left, or_right, false≢true}
-use Rattle.std.specs.List.{list_any, list_all}
+use Rattle.std.proofs.lemmas.List.{map-append}
+use Rattle.std.proofs.lemmas.Slice.Eq.{bytes_eq-Decides}
+use Rattle.std.specs.List.{list_any, list_all, flat_map}
 use Rattle.kp_base.specs.Lists.{Member}
 
-pub member_at : {X : Type 0} (xs : List X) (n : ℕ) (x : X) → slice_get xs n ≡ Some x → Member xs x
-member_at [] n x h = cc
-member_at (y ∷ ys) zero x h = inl cc
-member_at (y ∷ ys) (suc n) x h = inr (member_at ys n x h)
+-- ---- truth values
+
+-- truth values that hold together
+pub bool_same : (a b : Bool) → (a ≡ true → b ≡ true) → (b ≡ true → a ≡ true) → a ≡ b
+bool_same true b f g = sym (f refl)
+bool_same false true f g = g refl
+bool_same false false f g = refl
 
 -- ---- tests that hold of more
 
@@ -24,6 +29,39 @@ any_weaker p q (x ∷ xs) f h =
       | inl e ↦ or_left (q x) (list_any q xs) (f x (inl refl) e)
       | inr e ↦ or_right (q x) (list_any q xs) (any_weaker p q xs (λ y m. f y (inr m)) e)
     ]
+
+-- ---- tests that agree
+
+pub any_alike : {X : Type 0} (p q : X → Bool) (xs : List X) → ((x : X) → Member xs x → p x ≡ q x) → list_any p xs ≡ list_any q xs
+any_alike p q [] f = refl
+any_alike p q (x ∷ xs) f = rw (f x (inl refl), any_alike p q xs (λ y m. f y (inr m))) refl
+
+pub all_alike : {X : Type 0} (p q : X → Bool) (xs : List X) → ((x : X) → Member xs x → p x ≡ q x) → list_all p xs ≡ list_all q xs
+all_alike p q [] f = refl
+all_alike p q (x ∷ xs) f = rw (f x (inl refl), all_alike p q xs (λ y m. f y (inr m))) refl
+
+-- a test on what a list is mapped to
+pub any_map : {X Y : Type 0} (m : X → Y) (g : Y → Bool) (h : X → Bool) (xs : List X) → ((x : X) → g (m x) ≡ h x) → list_any g (map m xs) ≡ list_any h xs
+any_map m g h [] e = refl
+any_map m g h (x ∷ xs) e = rw (e x, any_map m g h xs e) refl
+
+-- some element fails a test where not all pass it
+pub any-not : {X : Type 0} (p q : X → Bool) (xs : List X) → ((x : X) → q x ≡ not (p x)) → list_any q xs ≡ not (list_all p xs)
+any-not p q [] f = refl
+any-not p q (x ∷ xs) f = rw (f x, any-not p q xs f) (de_morgan (p x) (list_all p xs))
+  where
+    de_morgan : (a b : Bool) → (not a || not b) ≡ not (a && b)
+    de_morgan true b = refl
+    de_morgan false b = refl
+
+-- all elements fail a test where none passes it
+pub all-not : {X : Type 0} (p q : X → Bool) (xs : List X) → ((x : X) → q x ≡ not (p x)) → list_all q xs ≡ not (list_any p xs)
+all-not p q [] f = refl
+all-not p q (x ∷ xs) f = rw (f x, all-not p q xs f) (de_morgan (p x) (list_any p xs))
+  where
+    de_morgan : (a b : Bool) → (not a && not b) ≡ not (a || b)
+    de_morgan true b = refl
+    de_morgan false b = refl
 
 -- ---- tests and members
 
@@ -56,27 +94,105 @@ any_member p (x ∷ xs) h =
       | inr e ↦ let r = any_member p xs e in (r.0, inr r.1, r.2)
     ]
 
--- ---- the same test, seen otherwise
+-- ---- members of lists that are made of others
 
--- a test on what a list is mapped to
-pub any_map : {X Y : Type 0} (p : Y → Bool) (f : X → Y) (xs : List X) → list_any p (map f xs) ≡ list_any (λ x. p (f x)) xs
-any_map p f [] = refl
-any_map p f (x ∷ xs) = ap (λ b. p (f x) || b) (any_map p f xs)
+pub member_at : {X : Type 0} (xs : List X) (n : ℕ) (x : X) → slice_get xs n ≡ Some x → Member xs x
+member_at [] n x h = cc
+member_at (y ∷ ys) zero x h = inl cc
+member_at (y ∷ ys) (suc n) x h = inr (member_at ys n x h)
 
--- some element fails a test where not all pass it
-pub any-not : {X : Type 0} (p q : X → Bool) (xs : List X) → ((x : X) → q x ≡ not (p x)) → list_any q xs ≡ not (list_all p xs)
-any-not p q [] f = refl
-any-not p q (x ∷ xs) f = rw (f x, any-not p q xs f) (de_morgan (p x) (list_all p xs))
+pub member_left : {X : Type 0} (xs ys : List X) (x : X) → Member xs x → Member (xs ++ ys) x
+member_left [] ys x m = absurd m
+member_left (z ∷ xs) ys x m = elim m [ inl e ↦ inl e | inr r ↦ inr (member_left xs ys x r) ]
+
+pub member_right : {X : Type 0} (xs ys : List X) (x : X) → Member ys x → Member (xs ++ ys) x
+member_right [] ys x m = m
+member_right (z ∷ xs) ys x m = inr (member_right xs ys x m)
+
+pub append_member : {X : Type 0} (xs ys : List X) (z : X) → Member (xs ++ ys) z → Member xs z ⊎ Member ys z
+append_member [] ys z m = inr m
+append_member (x ∷ xs) ys z m = elim m [ inl e ↦ inl (inl e) | inr r ↦ elim (append_member xs ys z r) [ inl h ↦ inl (inr h) | inr h ↦ inr h ] ]
+
+pub member_map : {X Y : Type 0} (f : X → Y) (xs : List X) (x : X) → Member xs x → Member (map f xs) (f x)
+member_map f [] x m = absurd m
+member_map f (z ∷ xs) x m = elim m [ inl e ↦ inl (ap f e) | inr r ↦ inr (member_map f xs x r) ]
+
+pub map_member : {X Y : Type 0} (f : X → Y) (xs : List X) (y : Y) → Member (map f xs) y → (x : X) × Member xs x × (f x ≡ y)
+map_member f [] y m = absurd m
+map_member f (x ∷ xs) y m = elim m [ inl e ↦ (x, inl refl, e) | inr r ↦ let h = map_member f xs y r in (h.0, inr h.1, h.2) ]
+
+pub member_flat_map : {X Y : Type 0} (f : X → List Y) (xs : List X) (x : X) (y : Y) → Member xs x → Member (f x) y → Member (flat_map f xs) y
+member_flat_map f [] x y m h = absurd m
+member_flat_map f (z ∷ xs) x y m h =
+    elim m [
+      | inl e ↦ member_left (f z) (flat_map f xs) y (subst (λ w. Member (f w) y) (sym e) h)
+      | inr r ↦ member_right (f z) (flat_map f xs) y (member_flat_map f xs x y r h)
+    ]
+
+pub flat_member : {X Y : Type 0} (f : X → List Y) (xs : List X) (y : Y) → Member (flat_map f xs) y → (x : X) × Member xs x × Member (f x) y
+flat_member f [] y m = absurd m
+flat_member f (x ∷ xs) y m = elim (append_member (f x) (flat_map f xs) y m) [
+  | inl h ↦ (x, inl refl, h)
+  | inr h ↦ let r = flat_member f xs y h in (r.0, inr r.1, r.2)
+]
+
+pub member_filter : {X : Type 0} (p : X → Bool) (xs : List X) (x : X) → Member xs x → p x ≡ true → Member (filter p xs) x
+member_filter p [] x m h = absurd m
+member_filter {X} p (y ∷ ys) x m h = pick (λ r. member_filter p ys x r h) (p y) refl m
   where
-    de_morgan : (a b : Bool) → (not a || not b) ≡ not (a && b)
-    de_morgan true b = refl
-    de_morgan false b = refl
+    pick : (Member ys x → Member (filter p ys) x) → (b : Bool) → p y ≡ b → (y ≡ x) ⊎ Member ys x → Member (cond b (y ∷ filter p ys) (filter p ys)) x
+    pick rest true is m = elim m [ inl e ↦ inl e | inr r ↦ inr (rest r) ]
+    pick rest false is m = elim m [ inl e ↦ absurd (false≢true (sym is ∙ (ap p e ∙ h))) | inr r ↦ rest r ]
 
--- all elements fail a test where none passes it
-pub all-not : {X : Type 0} (p q : X → Bool) (xs : List X) → ((x : X) → q x ≡ not (p x)) → list_all q xs ≡ not (list_any p xs)
-all-not p q [] f = refl
-all-not p q (x ∷ xs) f = rw (f x, all-not p q xs f) (de_morgan (p x) (list_any p xs))
+pub filter_member : {X : Type 0} (p : X → Bool) (xs : List X) (x : X) → Member (filter p xs) x → Member xs x × (p x ≡ true)
+filter_member p [] x m = absurd m
+filter_member {X} p (y ∷ ys) x m = pick (filter_member p ys x) (p y) refl m
   where
-    de_morgan : (a b : Bool) → (not a && not b) ≡ not (a || b)
-    de_morgan true b = refl
-    de_morgan false b = refl
+    pick : (Member (filter p ys) x → Member ys x × (p x ≡ true)) → (b : Bool) → p y ≡ b → Member (cond b (y ∷ filter p ys) (filter p ys)) x → Member (y ∷ ys) x × (p x ≡ true)
+    pick rest true is m = elim m [
+      | inl e ↦ (inl e, subst (λ z. p z ≡ true) e is)
+      | inr r ↦ let h = rest r in (inr h.0, h.1)
+    ]
+    pick rest false is m = let h = rest m in (inr h.0, h.1)
+
+-- ---- lists that are mapped
+
+pub map_map : {X Y Z : Type 0} (m : X → Y) (g : Y → Z) (h : X → Z) (xs : List X) → ((x : X) → g (m x) ≡ h x) → map g (map m xs) ≡ map h xs
+map_map m g h [] e = refl
+map_map m g h (x ∷ xs) e = rw (e x, map_map m g h xs e) refl
+
+pub flat_alike : {X Y : Type 0} (f g : X → List Y) (xs : List X) → ((x : X) → Member xs x → f x ≡ g x) → flat_map f xs ≡ flat_map g xs
+flat_alike f g [] h = refl
+flat_alike f g (x ∷ xs) h = rw (h x (inl refl), flat_alike f g xs (λ y m. h y (inr m))) refl
+
+-- what is gathered behind a function is gathered as its values are
+pub gathered : {K Y : Type 0} (eq : Y → Y → Bool) (now : K → Y) (ks : List K) (k : K)
+    → map now (if list_any (λ x. eq (now k) (now x)) ks then ks else ks ++ k ∷ []) ≡ (if list_any (eq (now k)) (map now ks) then map now ks else map now ks ++ now k ∷ [])
+gathered {K} {Y} eq now ks k = by (list_any (λ x. eq (now k) (now x)) ks) (any_map now (eq (now k)) (λ x. eq (now k) (now x)) ks (λ x. refl))
+  where
+    both : List Y → Bool → List Y
+    both ys b = if b then ys else ys ++ now k ∷ []
+
+    by : (b : Bool) → list_any (eq (now k)) (map now ks) ≡ b → map now (if b then ks else ks ++ k ∷ []) ≡ both (map now ks) (list_any (eq (now k)) (map now ks))
+    by true is = sym (ap (both (map now ks)) is)
+    by false is = map-append now ks (k ∷ []) ∙ sym (ap (both (map now ks)) is)
+
+-- ---- lists without elements
+
+pub append_empty : {X : Type 0} (xs ys : List X) → xs ++ ys ≡ [] → (xs ≡ []) × (ys ≡ [])
+append_empty [] ys h = (refl, h)
+append_empty (x ∷ xs) ys h = cc
+
+pub flat_empty : {X Y : Type 0} (f : X → List Y) (xs : List X) → flat_map f xs ≡ [] → (x : X) → Member xs x → f x ≡ []
+flat_empty f [] h x m = absurd m
+flat_empty f (y ∷ ys) h x m =
+    let parts = append_empty (f y) (flat_map f ys) h in
+    elim m [ inl e ↦ subst (λ z. f z ≡ []) e parts.0 | inr r ↦ flat_empty f ys parts.1 x r ]
+
+-- ---- lists of numbers
+
+pub same-true : (xs ys : List ℕ) → bytes_eq xs ys ≡ true → xs ≡ ys
+same-true xs ys = (bytes_eq-Decides xs ys).0
+
+pub same-refl : (xs : List ℕ) → bytes_eq xs xs ≡ true
+same-refl xs = (bytes_eq-Decides xs xs).1 refl

@@ -39,13 +39,13 @@ tag_holds (Some row) s = list_all (holds s) row.lits
 abbrev pub IsValid : Initial → TagTable → Merge → Type 0
 IsValid i table m = (s : State) → is_model i s ≡ true → list_any (λ t. tag_holds (slice_get table.tags t) s) m.tags ≡ true
 
--- so does each merge of the table
+-- each merge of the table is valid
 pub record AreValid (i : Initial) (table : TagTable) : Type 0 where
   pub each : (m : Merge) → Member table.merges m → IsValid i table m
 
 -- ---- tables
 
--- tag 0 is empty, merges have tags of the table, and what stands as a tag's closure is its closure
+-- tag 0 is empty, merges have tags of the table, and each tag stands with its closure
 pub record IsTable (g : Ground) (i : Initial) (table : TagTable) : Type 0 where
   pub first : (row : TagRow) × (slice_get table.tags 0 ≡ Some row) × (row.lits ≡ [])
   pub tags : (m : Merge) (t : ℕ) → Member table.merges m → Member m.tags t → t < length table.tags

@@ -62,10 +62,10 @@ before_total (x ∷ xs) (y ∷ ys) h g =
       ]
     ]
 
-irreflexive : (a : Atom) → atom_before a a ≡ true → ⊥
+pub irreflexive : (a : Atom) → atom_before a a ≡ true → ⊥
 irreflexive a h = before_irreflexive (a.pred ∷ a.objects) h
 
-transitive : (a b c : Atom) → atom_before a b ≡ true → atom_before b c ≡ true → atom_before a c ≡ true
+pub transitive : (a b c : Atom) → atom_before a b ≡ true → atom_before b c ≡ true → atom_before a c ≡ true
 transitive a b c = before_transitive (a.pred ∷ a.objects) (b.pred ∷ b.objects) (c.pred ∷ c.objects)
 
 total : (a b : Atom) → atom_before a b ≡ false → same_atom a b ≡ false → atom_before b a ≡ true

@@ -16,9 +16,10 @@ use Rattle.kp_base.specs.Lit.{positive, negative}
 use Rattle.kp_base.specs.Steps.{State, IsBounded, holds, has, is_model, fires, after, runs, state_after, IsGroundPlan}
 use Rattle.kp_base.specs.Entailed.{tag_holds, Entails, IsConsistent, IsClosure, IsValid, AreValid, IsTable}
 use Rattle.kp_base.specs.Clashes.{clashes_at, NeverClashes, is_one_sided}
-use Rattle.kp_base.specs.Machine.{MachineStep, accepts, stripped}
+use Rattle.kp_base.specs.Machine.{MachineStep, facts_after, accepts, stripped}
 use Rattle.kp_base.proofs.Lists.{all_member}
 use Rattle.kp_base.proofs.Lits.{member-has}
+use Rattle.kp_machine.specs.Laws.{facts_after_operator}
 use Rattle.kp_machine.proofs.Sound.{sound}
 
 -- ---- the problem and its table
@@ -87,6 +88,26 @@ early_merge_is_refused = refl
 
 no_action_is_refused : accepts cells table (MachineStep.act 1 ∷ []) ≡ false
 no_action_is_refused = refl
+
+-- ---- what persists
+
+-- it isn't known whether the second cell is full, so the first may be filled
+empty_goes : facts_after left (has (negative 0 ∷ [])) (negative 0) ≡ false
+empty_goes = refl
+
+-- nor is it known to be filled
+full_is_unknown : facts_after left (has (negative 0 ∷ [])) (positive 0) ≡ false
+full_is_unknown = refl
+
+-- where the second cell is known to be empty, the first stays so
+empty_stays : facts_after left (has (negative 0 ∷ negative 1 ∷ [])) (negative 0) ≡ true
+empty_stays = refl
+
+operator_cancels : facts_after_operator left (has (negative 0 ∷ [])) (negative 0) ≡ false
+operator_cancels = refl
+
+operator_keeps : facts_after_operator left (has (negative 0 ∷ negative 1 ∷ [])) (negative 0) ≡ true
+operator_keeps = refl
 
 -- ---- the models
 

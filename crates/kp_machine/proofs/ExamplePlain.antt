@@ -10,7 +10,7 @@ use Rattle.kp_base.specs.declared.ground.Initial.{Initial}
 use Rattle.kp_base.specs.Lit.{positive, negative}
 use Rattle.kp_base.specs.Steps.{State, holds, has, is_model, IsGroundPlan}
 use Rattle.kp_base.specs.Entailed.{Entails, IsClosure}
-use Rattle.kp_base.specs.Clashes.{NeverClashes, is_one_sided}
+use Rattle.kp_base.specs.Clashes.{NeverClashes, clashes_at, is_one_sided}
 use Rattle.kp_base.specs.Machine.{MachineStep, accepts, one_tag_table}
 use Rattle.kp_base.proofs.Lists.{all_member}
 use Rattle.kp_base.proofs.Lits.{member-has}
@@ -111,3 +111,30 @@ after_is = refl
 -- q is no longer known to be false
 negation_goes : facts_after_operator swap (has closure) (negative 1) ≡ false
 negation_goes = refl
+
+-- ---- an action that clashes
+
+-- it adds and deletes q together
+abbrev both : Action
+both = record {
+  name = nullary (codes "b");
+  pre = [];
+  effects = record { cond = []; result = positive 1 } ∷ record { cond = []; result = negative 1 } ∷ [];
+}
+
+-- q is to be false
+abbrev clashing : Ground
+clashing = record { atoms = nullary (codes "p") ∷ nullary (codes "q") ∷ []; actions = both ∷ []; goal = negative 1 ∷ [] }
+
+both_is_not_one_sided : is_one_sided both ≡ false
+both_is_not_one_sided = refl
+
+both_clashes : clashes_at both only_p 1 ≡ true
+both_clashes = refl
+
+-- the machine knows both literals and accepts the list, which is no plan
+clash_is_accepted : accepts clashing (one_tag_table closure) (MachineStep.act 0 ∷ []) ≡ true
+clash_is_accepted = refl
+
+clash_is_no_plan : IsGroundPlan clashing start_of_small (0 ∷ []) → ⊥
+clash_is_no_plan found = false≢true (found only_p refl)

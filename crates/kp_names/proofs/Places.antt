@@ -10,6 +10,7 @@ use Rattle.kp_names.specs.States.{State, Binding, unbound, bind, Literal, object
 use Rattle.kp_names.specs.Steps.{Step, object_lists, fires, all_fire, after, schema_of, parameters, fits, is_instance, permits, applicable, state_by, next}
 use Rattle.kp_names.specs.Initial.{by_name, one_holds, item_holds, items_hold, item_literals, items_literals, is_of, is_named, IsInitial}
 use Rattle.kp_names.specs.Plans.{succeeds, Solves}
+use Rattle.std.proofs.lemmas.List.{length-map}
 use Rattle.kp_names.proofs.Lists.{any_map, map_map}
 use Rattle.kp_names.specs.Places.{typed_map, term_map, atom_map, cond_map, conds_map, eff_map, effs_map, lit_map, item_map, items_map, schema_map, domain_map, problem_map, KeepsTexts}
 
@@ -38,10 +39,6 @@ flat_agree g h (x ∷ xs) e = rw (e x, flat_agree g h xs e) refl
 map_append : {X Y : Type 0} (m : X → Y) (xs ys : List X) → map m (xs ++ ys) ≡ map m xs ++ map m ys
 map_append m [] ys = refl
 map_append m (x ∷ xs) ys = ap (λ z. m x ∷ z) (map_append m xs ys)
-
-pub length_map : {X Y : Type 0} (m : X → Y) (xs : List X) → length (map m xs) ≡ length xs
-length_map m [] = refl
-length_map m (x ∷ xs) = ap suc (length_map m xs)
 
 pub find_map : {X Y : Type 0} (m : X → Y) (g : Y → Bool) (h : X → Bool) (xs : List X) → ((x : X) → g (m x) ≡ h x) → find g (map m xs) ≡ option_map m (find h xs)
 find_map m g h [] e = refl
@@ -74,7 +71,7 @@ module _ (f : Word → Word) (keep : KeepsTexts f) where
       (λ x. rw (leads_kept t x, types_of_kept x) (ap (λ z. leads x t && z) (any_agree (λ p. below_within n (map (typed_map f) kinds) p u) (λ p. below_within n kinds p u) (types_of x) (λ p. below_kept n kinds p u)))))
 
   is_below_kept : (kinds : List (Typed Word)) (t u : Name) → is_below (map (typed_map f) kinds) t u ≡ is_below kinds t u
-  is_below_kept kinds t u = rw (length_map (typed_map f) kinds) (below_kept (length kinds) kinds t u)
+  is_below_kept kinds t u = rw (length-map kinds (typed_map f)) (below_kept (length kinds) kinds t u)
 
   module _ (d : Domain Word) (p : Problem Word) where
     pub lines_kept : object_lines (domain_map f d) (problem_map f p) ≡ map (typed_map f) (object_lines d p)

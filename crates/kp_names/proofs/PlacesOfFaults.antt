@@ -9,7 +9,8 @@ use Rattle.kp_names.specs.Names.{Name, same, is_among}
 use Rattle.kp_names.specs.Types.{names, declared, types, object, object_lines}
 use Rattle.kp_names.specs.Faults.{Fault, unknown_name, declared_twice, wrong_use, unless_among, repeated, twice_in, words, type_faults, variable_faults, inside, term_faults, predicate_of, head_faults, atom_faults, cond_faults, conds_faults, eff_faults, effs_faults, schema_faults, lit_faults, item_faults, items_faults, predicate_faults, domain_faults, problem_faults, HasNoFault}
 use Rattle.kp_names.specs.Places.{typed_map, term_map, atom_map, cond_map, conds_map, eff_map, effs_map, lit_map, item_map, items_map, pred_map, schema_map, domain_map, problem_map, KeepsTexts, PlacesMeanNothing}
-use Rattle.kp_names.proofs.Places.{find_map, length_map, declared_kept, names_kept, lines_kept, solves_there, solves_back}
+use Rattle.std.proofs.lemmas.List.{length-map}
+use Rattle.kp_names.proofs.Places.{find_map, declared_kept, names_kept, lines_kept, solves_there, solves_back}
 
 -- no fault is in the list
 abbrev clean : List Fault → Bool
@@ -84,7 +85,7 @@ module _ (f : Word → Word) (keep : KeepsTexts f) where
 
     head_kept : (o : Option (Pred Word)) (a : Atom Word) → clean (head_faults (option_map (pred_map f) o) (atom_map f a)) ≡ clean (head_faults o a)
     head_kept None a = refl
-    head_kept (Some q) a = only (not (length (map (typed_map f) q.params) == length (map (term_map f) a.terms))) (not (length q.params == length a.terms)) (wrong_use (f a.head).byte) (wrong_use a.head.byte) (rw (length_map (typed_map f) q.params, length_map (term_map f) a.terms) refl)
+    head_kept (Some q) a = only (not (length (map (typed_map f) q.params) == length (map (term_map f) a.terms))) (not (length q.params == length a.terms)) (wrong_use (f a.head).byte) (wrong_use a.head.byte) (rw (length-map q.params (typed_map f), length-map a.terms (term_map f)) refl)
 
     atom_kept : (scope : List Name) (a : Atom Word) → clean (atom_faults (domain_map f d) (problem_map f p) scope (atom_map f a)) ≡ clean (atom_faults d p scope a)
     atom_kept scope a =

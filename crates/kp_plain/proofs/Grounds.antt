@@ -1,5 +1,5 @@
 -- What the code assembles by number is the ground problem by name.
-use Rattle.std.proofs.Common.{◌≡◌, ℕ, zero, suc, ◌<◌, ◌≤◌, ◌+◌, Bool, true, false, not, ◌&&◌, ◌||◌, if◌then◌else◌, cond, List, [], ◌∷◌, ◌++◌, length, map, filter, flat_map, fold, take, get_or, nat_eq, slice_index_or, refl, sym, ap, ap₂, ◌∙◌, arith, true≢false, add-zero, zero-add, add-suc, suc-add, eqb-true, take-suc, take_all, append_assoc, append-nil, le_refl}
+use Rattle.std.proofs.Common.{◌≡◌, ℕ, zero, suc, ◌<◌, ◌≤◌, ◌+◌, Bool, true, false, not, ◌&&◌, ◌||◌, if◌then◌else◌, cond, List, [], ◌∷◌, ◌++◌, length, map, filter, flat_map, fold, take, get_or, slice_index_or, refl, sym, ap, ap₂, ◌∙◌, arith, true≢false, add-zero, zero-add, add-suc, suc-add, take-suc, take_all, append_assoc, append-nil, le_refl}
 use Rattle.std.specs.List.{list_all}
 use Rattle.std.specs.Bool.{beq}
 use Rattle.std.proofs.lemmas.List.{map-append}
@@ -16,9 +16,12 @@ use Rattle.kp_base.specs.Lists.{only_if}
 use Rattle.kp_names.specs.Names.{Name, same, is_among}
 use Rattle.kp_plain.specs.Ground as ground
 use Rattle.kp_base.specs.Lit.{same_lit}
+use Rattle.kp_base.proofs.Lists.{same-true, same-refl}
+use Rattle.kp_base.proofs.Lits.{same_lit-true}
+use Rattle.std.proofs.lemmas.Bool.{and_parts}
 use Rattle.kp_plain.specs.Ground.{Literal, is_named, place, declared, results_of, init_of, goal_of, stated, kept, light_pre, occurring, atoms_of, numbered, set_of, each_once, is_idle, lasting, nullary, known_of, start_of}
 use Rattle.kp_plain.specs.Grounding.{marked, names_from, numbers_from, literal_of, put_in, with_known, known_before, distinct, effect_of, effects_of, action_of}
-use Rattle.kp_plain.proofs.Names.{both_true, same_name, with_new, once, gathers_all, distinct_placed, is_itself, or_true}
+use Rattle.kp_plain.proofs.Names.{with_new, once, gathers_all, distinct_placed, or_true}
 use Rattle.kp_plain.proofs.Marking.{mention, has_number, light, named_known}
 
 -- ---- atoms
@@ -59,7 +62,7 @@ number_at marks q next k (m ∷ ms) h n among passes =
     by true e h' rest =
         sym (add-zero next)
         ∙ ap (λ b. next + (if b then 0 else suc (place (filter q ms) n))) (sym e)
-        ∙ ap (λ b. next + place (cond b (m ∷ filter q ms) (filter q ms)) n) (sym (ap q (sym (same_name n m e)) ∙ passes))
+        ∙ ap (λ b. next + place (cond b (m ∷ filter q ms) (filter q ms)) n) (sym (ap q (sym (same-true n m e)) ∙ passes))
     by false e h' rest =
         rest h' ∙ ap (λ b. (if b then suc next else next) + place (filter q ms) n) (marks_first marks q k m ms h) ∙ later (q m) e
 
@@ -68,17 +71,6 @@ number_at marks q next k (m ∷ ms) h n among passes =
 pub put_is : (ls done : List Lit) → put_in ls done ≡ fold (λ set l. with_lit l set) done ls
 put_is [] done = refl
 put_is (l ∷ ls) done = put_is ls (with_lit l done)
-
-same_is : (a b : Bool) → beq a b ≡ true → a ≡ b
-same_is true true h = refl
-same_is false false h = refl
-same_is true false h = absurd (true≢false (sym h))
-same_is false true h = absurd (true≢false (sym h))
-
-lit_is : (a b : Lit) → same_lit a b ≡ true → a ≡ b
-lit_is a b h =
-    let parts = both_true (nat_eq a.atom.0 b.atom.0) (beq a.positive b.positive) h in
-    ap₂ (λ n s. let l : Lit = record { atom = record { 0 = n }; positive = s } in l) (eqb-true a.atom.0 b.atom.0 parts.0) (same_is a.positive b.positive parts.1)
 
 distinct_fold : (ls done : List Lit) → distinct ls done ≡ fold (with_new same_lit) done ls
 distinct_fold [] done = refl
@@ -89,7 +81,7 @@ once_is [] = refl
 once_is (l ∷ ls) = ap (λ ms. l ∷ filter (λ m. not (same_lit l m)) ms) (once_is ls)
 
 pub distinct_is : (ls : List Lit) → distinct ls [] ≡ each_once ls
-distinct_is ls = distinct_fold ls [] ∙ gathers_all same_lit lit_is ls ∙ once_is ls
+distinct_is ls = distinct_fold ls [] ∙ gathers_all same_lit same_lit-true ls ∙ once_is ls
 
 pub effects_are : (results ls : List Lit) → flat_map (effect_of results) ls ≡ map (λ l. let e : Effect = record { cond = []; result = l } in e) (filter (λ l. not (is_idle results l)) ls)
 effects_are results [] = refl
@@ -144,7 +136,7 @@ all_named : (seen ls : List Literal) → list_all (λ l. is_named (seen ++ ls) l
 all_named seen [] = refl
 all_named seen (l ∷ ls) =
     let itself : is_named (seen ++ l ∷ ls) l.head ≡ true =
-    list_any-append (λ m. same m.head l.head) seen (l ∷ ls) ∙ ap (λ b. is_named seen l.head || (b || is_named ls l.head)) (is_itself l.head) ∙ or_true (is_named seen l.head) in
+    list_any-append (λ m. same m.head l.head) seen (l ∷ ls) ∙ ap (λ b. is_named seen l.head || (b || is_named ls l.head)) (same-refl l.head) ∙ or_true (is_named seen l.head) in
     ap₂ (λ a b. a && b) itself (ap (λ xs. list_all (λ m. is_named xs m.head) ls) (sym (append_assoc seen (l ∷ []) ls)) ∙ all_named (seen ++ l ∷ []) ls)
 
 module _ (d : Domain Word) (p : Problem Word) (occurs : List Bool) (found : (n : Name) → marked occurs (place (declared d) n) ≡ is_named (occurring d p) n) (known : list_all (has_number (declared d)) (occurring d p) ≡ true) where
@@ -167,7 +159,7 @@ module _ (d : Domain Word) (p : Problem Word) (occurs : List Bool) (found : (n :
   literals_are : (ls : List Literal) → list_all occurs_in ls ≡ true → map (literal_of numbers) (map (mention (declared d)) ls) ≡ map (numbered (atoms_of d p)) ls
   literals_are [] h = refl
   literals_are (l ∷ ls) h =
-      let parts = both_true (occurs_in l) (list_all occurs_in ls) h in
+      let parts = and_parts (occurs_in l) (list_all occurs_in ls) h in
       ap₂ (λ n ms. let m : Lit = record { atom = record { 0 = n }; positive = l.positive } in m ∷ ms) (number_is l.head parts.0) (literals_are ls parts.1)
 
   set_is : (ls : List Literal) → list_all occurs_in ls ≡ true → put_in (map (literal_of numbers) (map (mention (declared d)) ls)) [] ≡ set_of (map (numbered (atoms_of d p)) ls)
@@ -175,7 +167,7 @@ module _ (d : Domain Word) (p : Problem Word) (occurs : List Bool) (found : (n :
 
   action_is : (s : Schema Word) → list_all occurs_in (light_pre d p s ++ results_of d s) ≡ true → action_of numbers (light d p s) ≡ ground.action_of d p s
   action_is s h =
-      let parts = both_true (list_all occurs_in (light_pre d p s)) (list_all occurs_in (results_of d s)) (sym (list_all-append occurs_in (light_pre d p s) (results_of d s)) ∙ h) in
+      let parts = and_parts (list_all occurs_in (light_pre d p s)) (list_all occurs_in (results_of d s)) (sym (list_all-append occurs_in (light_pre d p s) (results_of d s)) ∙ h) in
       let results : distinct (map (literal_of numbers) (map (mention (declared d)) (results_of d s))) [] ≡ each_once (map (numbered (atoms_of d p)) (results_of d s)) =
       ap (λ ls. distinct ls []) (literals_are (results_of d s) parts.1) ∙ distinct_is (map (numbered (atoms_of d p)) (results_of d s)) in
       ap₂ (λ a b. let made : Action = record { name = nullary s.name.text; pre = a; effects = b } in made) (set_is (light_pre d p s) parts.0)
@@ -185,7 +177,7 @@ module _ (d : Domain Word) (p : Problem Word) (occurs : List Bool) (found : (n :
   actions_are [] h = refl
   actions_are (s ∷ ss) h =
       let rest = flat_map (λ t. light_pre d p t ++ results_of d t) ss in
-      let parts = both_true (list_all occurs_in (light_pre d p s ++ results_of d s)) (list_all occurs_in rest) (sym (list_all-append occurs_in (light_pre d p s ++ results_of d s) rest) ∙ h) in
+      let parts = and_parts (list_all occurs_in (light_pre d p s ++ results_of d s)) (list_all occurs_in rest) (sym (list_all-append occurs_in (light_pre d p s ++ results_of d s) rest) ∙ h) in
       ap₂ (λ a b. a ∷ b) (action_is s parts.0) (actions_are ss parts.1)
 
   -- those of the goal, and those of the kept actions
@@ -193,8 +185,8 @@ module _ (d : Domain Word) (p : Problem Word) (occurs : List Bool) (found : (n :
   behind =
       let F = flat_map (λ s. light_pre d p s ++ results_of d s) (kept d p) in
       let I = ground.without_static d p (init_of d p) in
-      let all = both_true (list_all occurs_in I) (list_all occurs_in (goal_of d p ++ F)) (sym (list_all-append occurs_in I (goal_of d p ++ F)) ∙ all_named [] (occurring d p)) in
-      both_true (list_all occurs_in (goal_of d p)) (list_all occurs_in F) (sym (list_all-append occurs_in (goal_of d p) F) ∙ all.1)
+      let all = and_parts (list_all occurs_in I) (list_all occurs_in (goal_of d p ++ F)) (sym (list_all-append occurs_in I (goal_of d p ++ F)) ∙ all_named [] (occurring d p)) in
+      and_parts (list_all occurs_in (goal_of d p)) (list_all occurs_in F) (sym (list_all-append occurs_in (goal_of d p) F) ∙ all.1)
 
   pub goal_part : put_in (map (literal_of numbers) (map (mention (declared d)) (goal_of d p))) [] ≡ set_of (map (numbered (atoms_of d p)) (goal_of d p))
   goal_part = set_is (goal_of d p) behind.0

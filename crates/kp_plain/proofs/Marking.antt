@@ -12,7 +12,9 @@ use Rattle.kp_plain.specs.declared.numbering.Mention.{Mention}
 use Rattle.kp_plain.specs.declared.numbering.Step.{Step}
 use Rattle.kp_plain.specs.Ground.{Literal, is_named, place, cond_literals, eff_literals, item_literals, declared, known, pre_of, results_of, init_of, goal_of, stated, is_static, is_open_or_true, without_static, kept, light_pre, occurring}
 use Rattle.kp_plain.specs.Grounding.{mention_of, mention_at, named_by, AreMarks, marked, has_sign, PlainStep, plain, step_of, changes, settles, is_kept, lighter, step_mentions, IsStanding}
-use Rattle.kp_plain.proofs.Names.{both_true, same_name, any_map, any_same, place_below, place_past, place_tells}
+use Rattle.kp_base.proofs.Lists.{same-true, any_map}
+use Rattle.std.proofs.lemmas.Bool.{and_parts}
+use Rattle.kp_plain.proofs.Names.{place_below, place_past, place_tells}
 
 -- ---- lists
 
@@ -42,7 +44,7 @@ both_pass p xs ys h k = list_all-append p xs ys ∙ ap₂ (λ a b. a && b) h k
 
 pub filter_passes : {X : Type 0} (p q : X → Bool) (xs : List X) → list_all p xs ≡ true → list_all p (filter q xs) ≡ true
 filter_passes p q [] h = refl
-filter_passes {X} p q (x ∷ xs) h = let parts = both_true (p x) (list_all p xs) h in by (q x) parts.0 (filter_passes p q xs parts.1)
+filter_passes {X} p q (x ∷ xs) h = let parts = and_parts (p x) (list_all p xs) h in by (q x) parts.0 (filter_passes p q xs parts.1)
   where
     by : (b : Bool) → p x ≡ true → list_all p (filter q xs) ≡ true → list_all p (cond b (x ∷ filter q xs) (filter q xs)) ≡ true
     by true e rest = ap₂ (λ a b. a && b) e rest
@@ -102,11 +104,11 @@ truth_is false false = refl
 unnamed : (ns : List Name) (ls : List Literal) (n : Name) → list_all (has_number ns) ls ≡ true → is_among ns n ≡ false → is_named ls n ≡ false
 unnamed ns [] n h k = refl
 unnamed ns (l ∷ ls) n h k =
-    let parts = both_true (has_number ns l) (list_all (has_number ns) ls) h in
+    let parts = and_parts (has_number ns l) (list_all (has_number ns) ls) h in
     by (same l.head n) refl parts.0 (unnamed ns ls n parts.1 k)
   where
     by : (b : Bool) → same l.head n ≡ b → is_among ns l.head ≡ true → is_named ls n ≡ false → (b || is_named ls n) ≡ false
-    by true e here rest = absurd (true≢false (sym here ∙ ap (is_among ns) (same_name l.head n e) ∙ k))
+    by true e here rest = absurd (true≢false (sym here ∙ ap (is_among ns) (same-true l.head n e) ∙ k))
     by false e here rest = rest
 
 pub named_known : (ns : List Name) (ls : List Literal) (n : Name) → list_all (has_number ns) ls ≡ true → is_named ls n ≡ true → is_among ns n ≡ true
@@ -126,8 +128,7 @@ marks_are ns ls ms marks e h are n = by (is_among ns n) refl
     by true k =
         are.marked (place ns n) (place_below ns n k)
         ∙ ap (λ xs. named_by xs (place ns n)) e
-        ∙ any_map (λ m. nat_eq m.predicate (place ns n)) (mention ns) ls
-        ∙ any_same (λ l. nat_eq (place ns l.head) (place ns n)) (λ l. same l.head n) (λ l. place_tells ns l.head n k) ls
+        ∙ any_map (mention ns) (λ m. nat_eq m.predicate (place ns n)) (λ l. same l.head n) ls (λ l. place_tells ns l.head n k)
     by false k = get_or_past marks (place ns n) false (let past = place_past ns n k in let len = are.one_each in omega arith) ∙ sym (unnamed ns ls n h k)
 
 -- ---- what the code finds, by name

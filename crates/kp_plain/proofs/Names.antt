@@ -1,30 +1,17 @@
 -- Names that are gathered one by one, and where they stand.
-use Rattle.std.proofs.Common.{◌≡◌, ◌⊎◌, ℕ, zero, suc, ◌<◌, ◌+◌, Bool, true, false, not, ◌&&◌, ◌||◌, if◌then◌else◌, cond, List, [], ◌∷◌, ◌++◌, length, map, filter, fold, get_or, position, nat_lt, nat_eq, Some, None, refl, sym, ap, ap₂, subst, ◌∙◌, arith, append_assoc, append-nil, true≢false, inl, inr, one-add, lt-ltb, le-ltb, ltb-true, ltb-false, length-append}
+use Rattle.std.proofs.Common.{◌≡◌, ℕ, zero, suc, ◌<◌, ◌+◌, Bool, true, false, not, ◌&&◌, ◌||◌, if◌then◌else◌, cond, List, [], ◌∷◌, ◌++◌, length, map, filter, fold, get_or, position, nat_lt, nat_eq, Some, None, refl, sym, ap, ap₂, subst, ◌∙◌, arith, append_assoc, append-nil, true≢false, one-add, lt-ltb, le-ltb, ltb-true, ltb-false, length-append}
 use Rattle.std.proofs.Math.ListN.{get_or-append}
 use Rattle.std.proofs.Math.Seq.{get_or-append_seam}
 use Rattle.std.proofs.Math.Dec.{eqb-suc-suc, eqb-suc-zero, eqb-zero-suc}
 use Rattle.std.specs.List.{list_any, position_or_len}
-use Rattle.std.proofs.lemmas.List.{map-append}
+use Rattle.std.proofs.lemmas.List.{length-map}
 use Rattle.std.proofs.lemmas.List.Folds.{list_any-append}
-use Rattle.std.proofs.lemmas.Slice.Eq.{bytes_eq-Decides}
+use Rattle.kp_base.proofs.Lists.{same-true, same-refl}
 use Rattle.kp_names.specs.Names.{Name, same, is_among, distinct}
 use Rattle.kp_plain.specs.Ground.{place}
 use Rattle.kp_plain.specs.Grounding.{with_name, number_of}
 
 -- ---- truth values
-
-pub or_false : (a : Bool) → (a || false) ≡ a
-or_false true = refl
-or_false false = refl
-
-pub one_true : (a b : Bool) → (a || b) ≡ true → (a ≡ true) ⊎ (b ≡ true)
-one_true true b h = inl refl
-one_true false b h = inr h
-
-pub both_true : (a b : Bool) → (a && b) ≡ true → (a ≡ true) × (b ≡ true)
-both_true true true h = (refl, refl)
-both_true true false h = absurd (true≢false (sym h))
-both_true false b h = absurd (true≢false (sym h))
 
 deny : (a b : Bool) → (not a && not b) ≡ not (b || (a || false))
 deny true true = refl
@@ -32,13 +19,7 @@ deny true false = refl
 deny false true = refl
 deny false false = refl
 
--- ---- one name and another
-
-pub same_name : (m n : Name) → same m n ≡ true → m ≡ n
-same_name m n = (bytes_eq-Decides m n).0
-
-pub is_itself : (n : Name) → same n n ≡ true
-is_itself n = (bytes_eq-Decides n n).1 refl
+-- ---- a test both ways
 
 -- a test that finds only what is equal finds it both ways
 turned : {X : Type 0} (eq : X → X → Bool) → ((x y : X) → eq x y ≡ true → x ≡ y) → (x y : X) → eq x y ≡ true → eq y x ≡ true
@@ -54,14 +35,6 @@ both_ways eq sound x y = by (eq x y) (eq y x) refl refl
     by false true h k = absurd (true≢false (sym (turned eq sound y x k) ∙ h))
 
 -- ---- tests over lists
-
-pub any_map : {X Y : Type 0} (p : Y → Bool) (f : X → Y) (xs : List X) → list_any p (map f xs) ≡ list_any (λ x. p (f x)) xs
-any_map p f [] = refl
-any_map p f (x ∷ xs) = ap (λ b. p (f x) || b) (any_map p f xs)
-
-pub any_same : {X : Type 0} (p q : X → Bool) → ((x : X) → p x ≡ q x) → (xs : List X) → list_any p xs ≡ list_any q xs
-any_same p q h [] = refl
-any_same p q h (x ∷ xs) = ap₂ (λ a b. a || b) (h x) (any_same p q h xs)
 
 pub filter_twice : {X : Type 0} (p q r : X → Bool) → ((x : X) → (q x && p x) ≡ r x) → (xs : List X) → filter p (filter q xs) ≡ filter r xs
 filter_twice p q r h [] = refl
@@ -124,16 +97,7 @@ names_once [] = refl
 names_once (n ∷ ns) = ap (λ l. n ∷ filter (λ y. not (same n y)) l) (names_once ns)
 
 pub all_gathered : (ns : List Name) → fold with_name [] ns ≡ distinct ns
-all_gathered ns = gathers_all same same_name ns ∙ names_once ns
-
--- names behind references are gathered as the names are
-pub gathered : {K : Type 0} (now : K → Name) (ks : List K) (k : K)
-    → map now (if list_any (λ x. same (now k) (now x)) ks then ks else ks ++ k ∷ []) ≡ with_name (map now ks) (now k)
-gathered now ks k = by (list_any (λ x. same (now k) (now x)) ks) (any_map (same (now k)) now ks)
-  where
-    by : (b : Bool) → is_among (map now ks) (now k) ≡ b → map now (if b then ks else ks ++ k ∷ []) ≡ with_name (map now ks) (now k)
-    by true is = sym (ap (λ b. if b then map now ks else map now ks ++ now k ∷ []) is)
-    by false is = map-append now ks (k ∷ []) ∙ sym (ap (λ b. if b then map now ks else map now ks ++ now k ∷ []) is)
+all_gathered ns = gathers_all same same-true ns ∙ names_once ns
 
 -- ---- places
 
@@ -144,10 +108,6 @@ place_is now (k ∷ ks) n = by (same n (now k)) (place_is now ks n)
     by : (b : Bool) → position_or_len (λ k. same n (now k)) ks ≡ place (map now ks) n → cond (not b) (1 + position_or_len (λ k. same n (now k)) ks) 0 ≡ (if b then 0 else suc (place (map now ks) n))
     by true rest = refl
     by false rest = one-add (position_or_len (λ k. same n (now k)) ks) ∙ ap suc rest
-
-pub length_map : {X Y : Type 0} (f : X → Y) (xs : List X) → length (map f xs) ≡ length xs
-length_map f [] = refl
-length_map f (x ∷ xs) = ap suc (length_map f xs)
 
 pub place_below : (ns : List Name) (n : Name) → is_among ns n ≡ true → place ns n < length ns
 place_below [] n h = absurd (true≢false (sym h))
@@ -175,7 +135,7 @@ place_within ns n = by (is_among ns n) refl
 -- the place among references is the number of the name
 pub position_is : {K : Type 0} (now : K → Name) (ks : List K) (n : Name) → position (λ k. same n (now k)) ks ≡ number_of (map now ks) n
 position_is now ks n =
-    ap₂ (λ i len. cond (nat_lt i len) (Some i) None) (place_is now ks n) (sym (length_map now ks))
+    ap₂ (λ i len. cond (nat_lt i len) (Some i) None) (place_is now ks n) (sym (length-map ks now))
     ∙ ap (λ b. cond b (Some (place (map now ks) n)) None) (place_within (map now ks) n)
 
 -- places are the same where the names are
@@ -185,9 +145,9 @@ place_tells (m ∷ ms) a b h = by (same a m) (same b m) refl refl h (place_tells
   where
     by : (x y : Bool) → same a m ≡ x → same b m ≡ y → (y || is_among ms b) ≡ true → (is_among ms b ≡ true → nat_eq (place ms a) (place ms b) ≡ same a b)
         → nat_eq (if x then 0 else suc (place ms a)) (if y then 0 else suc (place ms b)) ≡ same a b
-    by true true e f h rest = sym (ap (λ z. same z b) (same_name a m e) ∙ ap (same m) (same_name b m f) ∙ is_itself m)
-    by true false e f h rest = eqb-zero-suc (place ms b) ∙ sym (ap (λ z. same z b) (same_name a m e) ∙ both_ways same same_name m b ∙ f)
-    by false true e f h rest = eqb-suc-zero (place ms a) ∙ sym (ap (same a) (same_name b m f) ∙ e)
+    by true true e f h rest = sym (ap (λ z. same z b) (same-true a m e) ∙ ap (same m) (same-true b m f) ∙ same-refl m)
+    by true false e f h rest = eqb-zero-suc (place ms b) ∙ sym (ap (λ z. same z b) (same-true a m e) ∙ both_ways same same-true m b ∙ f)
+    by false true e f h rest = eqb-suc-zero (place ms a) ∙ sym (ap (same a) (same-true b m f) ∙ e)
     by false false e f h rest = eqb-suc-suc (place ms a) (place ms b) ∙ rest h
 
 -- ---- names that stand once each
@@ -202,7 +162,7 @@ or_true false = refl
 
 among_at : (ns : List Name) (i : ℕ) → i < length ns → is_among ns (get_or ns i []) ≡ true
 among_at [] i h = absurd (omega arith)
-among_at (n ∷ ns) zero h = ap (λ b. b || is_among ns n) (is_itself n)
+among_at (n ∷ ns) zero h = ap (λ b. b || is_among ns n) (same-refl n)
 among_at (n ∷ ns) (suc i) h = ap (λ b. same (get_or ns i []) n || b) (among_at ns i (omega arith)) ∙ or_true (same (get_or ns i []) n)
 
 place_front : (xs ys : List Name) (n : Name) → is_among xs n ≡ true → place (xs ++ ys) n ≡ place xs n
@@ -214,7 +174,7 @@ place_front (x ∷ xs) ys n h = by (same n x) h (place_front xs ys n)
     by false h rest = ap suc (rest h)
 
 place_behind : (xs : List Name) (n : Name) → is_among xs n ≡ false → place (xs ++ n ∷ []) n ≡ length xs
-place_behind [] n h = ap (λ b. if b then 0 else 1) (is_itself n)
+place_behind [] n h = ap (λ b. if b then 0 else 1) (same-refl n)
 place_behind (x ∷ xs) n h = by (same n x) h (place_behind xs n)
   where
     by : (b : Bool) → (b || is_among xs n) ≡ false → (is_among xs n ≡ false → place (xs ++ n ∷ []) n ≡ length xs) → (if b then 0 else suc (place (xs ++ n ∷ []) n)) ≡ suc (length xs)

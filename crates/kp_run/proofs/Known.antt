@@ -1,30 +1,18 @@
 -- What the tests on names mean.
-use Rattle.std.proofs.Common.{◌≡◌, ◌⊎◌, ℕ, Bool, true, false, ◌&&◌, ◌||◌, if◌then◌else◌, List, [], ◌∷◌, ◌++◌, map, fold, Contains, nat_eq, refl, sym, ap, ◌∙◌, inl, inr}
+use Rattle.std.proofs.Common.{◌≡◌, ◌⊎◌, ℕ, Bool, true, false, ◌&&◌, ◌||◌, if◌then◌else◌, List, [], ◌∷◌, ◌++◌, fold, Contains, nat_eq, refl, sym, ap, ◌∙◌, inl, inr}
 use mathlib.Core.Bool.{true≢false}
 use Rattle.std.specs.List.{list_any}
 use Rattle.std.specs.Cmp.Lexicographic.{pointwise}
 use Rattle.std.proofs.lemmas.Cmp.{nat_list_eq_equiv}
 use Rattle.std.proofs.lemmas.List.Folds.{list_any-append}
-use Rattle.std.proofs.lemmas.List.{map-append}
-use Rattle.std.proofs.lemmas.Slice.Eq.{bytes_eq-Decides}
+use Rattle.std.proofs.lemmas.Bool.{and_parts, or_cases}
+use Rattle.std.proofs.Math.Bool.{or-false}
 use Rattle.std.proofs.lemmas.Map.Views.{Contains-from_any, list_any-from_Contains}
+use Rattle.kp_base.proofs.Lists.{same-true, same-refl}
 use Rattle.kp_run.specs.Among.{is_among, all_among, with_name}
 use Rattle.kp_run.specs.Names.{AllDeclared}
 
 -- ---- on truth values
-
-pub both_true : (a b : Bool) → (a && b) ≡ true → (a ≡ true) × (b ≡ true)
-both_true true true h = (refl, refl)
-both_true true false h = absurd (true≢false (sym h))
-both_true false b h = absurd (true≢false (sym h))
-
-pub one_true : (a b : Bool) → (a || b) ≡ true → (a ≡ true) ⊎ (b ≡ true)
-one_true true b h = inl refl
-one_true false b h = inr h
-
-pub or_false : (a : Bool) → (a || false) ≡ a
-or_false true = refl
-or_false false = refl
 
 pub or_right : (a : Bool) → (a || true) ≡ true
 or_right true = refl
@@ -36,41 +24,21 @@ or_assoc false b c = refl
 
 -- ---- a test of names
 
--- a test on what a list is mapped to
-pub any_map : {X Y : Type 0} (p : Y → Bool) (f : X → Y) (xs : List X) → list_any p (map f xs) ≡ list_any (λ x. p (f x)) xs
-any_map p f [] = refl
-any_map p f (x ∷ xs) = ap (λ b. p (f x) || b) (any_map p f xs)
-
-pub same_name : (m n : List ℕ) → pointwise nat_eq m n ≡ true → m ≡ n
-same_name m n = (bytes_eq-Decides m n).0
-
-pub is_itself : (n : List ℕ) → pointwise nat_eq n n ≡ true
-is_itself n = (bytes_eq-Decides n n).1 refl
-
 pub contained : (names : List (List ℕ)) (name : List ℕ) → is_among names name ≡ true → Contains names name
-contained names name h = Contains-from_any same_name name names h
+contained names name h = Contains-from_any same-true name names h
 
 pub among : (names : List (List ℕ)) (name : List ℕ) → Contains names name → is_among names name ≡ true
 among names name h = list_any-from_Contains nat_list_eq_equiv name names h
 
 pub declared : (names heads : List (List ℕ)) → all_among names heads ≡ true → AllDeclared names heads
 declared names [] h = tt
-declared names (n ∷ ns) h = let parts = both_true (is_among names n) (all_among names ns) h in (contained names n parts.0, declared names ns parts.1)
+declared names (n ∷ ns) h = let parts = and_parts (is_among names n) (all_among names ns) h in (contained names n parts.0, declared names ns parts.1)
 
 pub all_are_among : (names heads : List (List ℕ)) → AllDeclared names heads → all_among names heads ≡ true
 all_are_among names [] h = refl
 all_are_among names (n ∷ ns) h = ap (λ b. b && all_among names ns) (among names n h.0) ∙ all_are_among names ns h.1
 
 -- ---- names that are gathered, each once
-
--- names behind references are gathered as the names are
-pub gathered : {K : Type 0} (now : K → List ℕ) (ks : List K) (k : K)
-    → map now (if list_any (λ x. pointwise nat_eq (now k) (now x)) ks then ks else ks ++ k ∷ []) ≡ with_name (map now ks) (now k)
-gathered now ks k = by (list_any (λ x. pointwise nat_eq (now k) (now x)) ks) (any_map (λ known. pointwise nat_eq (now k) known) now ks)
-  where
-    by : (b : Bool) → is_among (map now ks) (now k) ≡ b → map now (if b then ks else ks ++ k ∷ []) ≡ with_name (map now ks) (now k)
-    by true is = sym (ap (λ b. if b then map now ks else map now ks ++ now k ∷ []) is)
-    by false is = map-append now ks (k ∷ []) ∙ sym (ap (λ b. if b then map now ks else map now ks ++ now k ∷ []) is)
 
 with_one : (names : List (List ℕ)) (m n : List ℕ) → is_among (with_name names m) n ≡ (is_among names n || pointwise nat_eq n m)
 with_one names m n = by (is_among names m) refl
@@ -79,16 +47,16 @@ with_one names m n = by (is_among names m) refl
     old known = split (pointwise nat_eq n m) refl
       where
         split : (b : Bool) → pointwise nat_eq n m ≡ b → is_among names n ≡ (is_among names n || b)
-        split false is = sym (or_false (is_among names n))
-        split true is = (ap (is_among names) (same_name n m is) ∙ known) ∙ sym (or_right (is_among names n))
+        split false is = sym (or-false (is_among names n))
+        split true is = (ap (is_among names) (same-true n m is) ∙ known) ∙ sym (or_right (is_among names n))
 
     by : (b : Bool) → is_among names m ≡ b → is_among (if b then names else names ++ m ∷ []) n ≡ (is_among names n || pointwise nat_eq n m)
     by true is = old is
-    by false is = list_any-append (λ known. pointwise nat_eq n known) names (m ∷ []) ∙ ap (λ b. is_among names n || b) (or_false (pointwise nat_eq n m))
+    by false is = list_any-append (λ known. pointwise nat_eq n known) names (m ∷ []) ∙ ap (λ b. is_among names n || b) (or-false (pointwise nat_eq n m))
 
 -- a name is among those gathered where it was there or came
 pub among_gathered : (names more : List (List ℕ)) (n : List ℕ) → is_among (fold with_name names more) n ≡ (is_among names n || is_among more n)
-among_gathered names [] n = sym (or_false (is_among names n))
+among_gathered names [] n = sym (or-false (is_among names n))
 among_gathered names (m ∷ ms) n =
     among_gathered (with_name names m) ms n
     ∙ (ap (λ b. b || is_among ms n) (with_one names m n) ∙ or_assoc (is_among names n) (pointwise nat_eq n m) (is_among ms n))
@@ -99,17 +67,17 @@ later_shared names others o found = (found.0, found.1, ap (λ b. pointwise nat_e
 
 pub shared : (names others : List (List ℕ)) → list_any (is_among names) others ≡ true → (n : List ℕ) × (is_among names n ≡ true) × (is_among others n ≡ true)
 shared names [] h = absurd (true≢false (sym h))
-shared names (o ∷ os) h = by (shared names os) (one_true (is_among names o) (list_any (is_among names) os) h)
+shared names (o ∷ os) h = by (shared names os) (or_cases (is_among names o) (list_any (is_among names) os) h)
   where
     by : (list_any (is_among names) os ≡ true → (n : List ℕ) × (is_among names n ≡ true) × (is_among os n ≡ true))
         → (is_among names o ≡ true) ⊎ (list_any (is_among names) os ≡ true) → (n : List ℕ) × (is_among names n ≡ true) × (is_among (o ∷ os) n ≡ true)
-    by rest (inl here) = (o, here, ap (λ b. b || is_among os o) (is_itself o))
+    by rest (inl here) = (o, here, ap (λ b. b || is_among os o) (same-refl o))
     by rest (inr later) = later_shared names os o (rest later)
 
 pub is_shared : (names others : List (List ℕ)) (n : List ℕ) → is_among names n ≡ true → is_among others n ≡ true → list_any (is_among names) others ≡ true
 is_shared names [] n h k = absurd (true≢false (sym k))
-is_shared names (o ∷ os) n h k = by (is_shared names os n h) (one_true (pointwise nat_eq n o) (is_among os n) k)
+is_shared names (o ∷ os) n h k = by (is_shared names os n h) (or_cases (pointwise nat_eq n o) (is_among os n) k)
   where
     by : (is_among os n ≡ true → list_any (is_among names) os ≡ true) → (pointwise nat_eq n o ≡ true) ⊎ (is_among os n ≡ true) → list_any (is_among names) (o ∷ os) ≡ true
-    by rest (inl here) = ap (λ b. b || list_any (is_among names) os) (ap (is_among names) (sym (same_name n o here)) ∙ h)
+    by rest (inl here) = ap (λ b. b || list_any (is_among names) os) (ap (is_among names) (sym (same-true n o here)) ∙ h)
     by rest (inr later) = ap (λ b. is_among names o || b) (rest later) ∙ or_right (is_among names o)

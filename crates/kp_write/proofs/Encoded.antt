@@ -18,7 +18,7 @@ use Rattle.kp_tree.specs.Symbols.{symbol_of}
 use Rattle.kp_names.specs.Names.{same, all_same}
 use Rattle.kp_names.specs.Encoding.{underscore, doubled_byte, doubled, encoded_objects, encoded, decoded, is_empty}
 use Rattle.kp_names.proofs.Encoding.{encoded_decodes}
-use Rattle.kp_names.proofs.Lists.{same-true, same-refl}
+use Rattle.kp_names.proofs.Lists.{same-true, same-refl, all_same-refl}
 use Rattle.kp_plain.specs.Task.{sign_word, tag_word, atom_fact}
 use Rattle.kp_write.specs.Tokens.{IsLow}
 use Rattle.kp_write.specs.Names.{IsName, IsHead}
@@ -140,10 +140,6 @@ one_of_some x y e = cc
 
 one_name : (x y : GroundName) → IsGroundName x → IsGroundName y → encoded x ≡ encoded y → x ≡ y
 one_name x y h k e = one_of_some x y (sym (decodes x h) ∙ ap decoded e ∙ decodes y k)
-
-all_same-refl : (xs : List (List ℕ)) → all_same xs xs ≡ true
-all_same-refl [] = refl
-all_same-refl (x ∷ xs) = and_from (same x x) (all_same xs xs) (same-refl x) (all_same-refl xs)
 
 same_name-refl : (n : GroundName) → same_name n n ≡ true
 same_name-refl n = and_from (same n.head n.head) (all_same n.objects n.objects) (same-refl n.head) (all_same-refl n.objects)

@@ -1,6 +1,7 @@
 -- The plans of the two texts of a task are the lists of its operators that run and meet the goal.
-use Rattle.std.proofs.Common.{◌≡◌, ℕ, Bool, true, false, ◌&&◌, ◌||◌, List, [], ◌∷◌, map, find, Option, Some, None, option_map, inl, inr, refl, sym, ap, subst, ◌∙◌}
+use Rattle.std.proofs.Common.{◌≡◌, ℕ, Bool, true, false, ◌||◌, List, [], ◌∷◌, map, find, Option, Some, None, option_map, inl, inr, refl, sym, ap, subst, ◌∙◌}
 use Rattle.std.proofs.lemmas.Bool.{false≢true, and_parts}
+use Rattle.std.proofs.Math.Bool.{and-true, or-false}
 use Rattle.std.specs.List.{AllByRecursion, IsDistinct, list_any, list_all, flat_map}
 use Rattle.kp_tree.specs.declared.tree.Word.{Word}
 use Rattle.kp_tree.specs.Trees.{Schema, Domain, Problem, conds_of, effs_of}
@@ -22,14 +23,6 @@ use Rattle.kp_write.specs.Runs.{Facts, is_so, results, is_made, after_op, runs, 
 use Rattle.kp_write.proofs.Lists.{map_join, one_of_all, all_from}
 use Rattle.kp_write.proofs.Placed.{at_start, placed_domain, placed_problem, moved, domain_moved, problem_moved, same_swap}
 use Rattle.kp_write.proofs.Faultless.{written_texts_have_problem}
-
-and_true : (b : Bool) → b && true ≡ b
-and_true true = refl
-and_true false = refl
-
-or_false : (b : Bool) → b || false ≡ b
-or_false true = refl
-or_false false = refl
 
 -- the state of atoms has just these facts
 abbrev HasFacts : State → Facts → Type 0
@@ -57,7 +50,7 @@ only_one false r = refl
 
 made_is : (rs : List Signed) (b : Bool) (n : List ℕ) → names_literal (map literal_of rs) (record { positive = b; head = n; objects = [] }) ≡ is_made rs b n
 made_is [] b n = refl
-made_is (r ∷ rs) b n = rw (and_true (same n r.fact), made_is rs b n) refl
+made_is (r ∷ rs) b n = rw (and-true (same n r.fact), made_is rs b n) refl
 
 module _ (d : Domain Word) (p : Problem Word) (s : State) (t : Facts) (b : Binding) (h : HasFacts s t) where
   effect_fires : (cs : List Signed) (r : Signed) → fires d p s b (eff_map at_start (made_where cs r)) ≡ map literal_of (only_if (list_all (is_so t) cs) (r ∷ []))
@@ -188,7 +181,7 @@ module _ (facts : List (List ℕ)) (ops : List Op) (start goal : List (List ℕ)
 
   named_is : (n : List ℕ) (ns : List (List ℕ)) → list_any (λ i. list_any (is_of n []) (item_literals i)) (map (item_map at_start) (map item_of ns)) ≡ is_among ns n
   named_is n [] = refl
-  named_is n (x ∷ xs) = rw (and_true (same x n), or_false (same x n), same_swap x n, named_is n xs) refl
+  named_is n (x ∷ xs) = rw (and-true (same x n), or-false (same x n), same_swap x n, named_is n xs) refl
 
   at_the_start : (s : State) → HasFacts s (is_among start) → (ns : List (List ℕ)) → AllByRecursion (Member start) ns → list_all (item_holds s) (map (item_map at_start) (map item_of ns)) ≡ true
   at_the_start s h [] all = refl
