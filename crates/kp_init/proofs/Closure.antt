@@ -9,9 +9,8 @@ use Rattle.kp_base.specs.Lists.{Member, choices}
 use Rattle.kp_base.specs.Lit.{positive, negative, code_of}
 use Rattle.kp_base.specs.LitSet.{IsAscending}
 use Rattle.kp_base.specs.Steps.{State, holds, is_model}
+use Rattle.kp_base.proofs.Lists.{any_alike, all_alike, all_member, filter_member, member_map, flat_member, all_from, member_flat_map, member_filter}
 use Rattle.kp_base.proofs.Lits.{has-member, member-has}
-use Rattle.kp_names.proofs.Lists.{any_alike, all_alike, all_member, filter_member, member_map, flat_member}
-use Rattle.kp_ground.proofs.Lists.{all_from, member_flat_map, member_filter}
 use Rattle.kp_init.specs.Closure.{literals, state_of, states, models_of, closure, are_below, IsOver, IsClosureExact}
 use Rattle.kp_init.proofs.Runs.{below, SameBelow, holds_same, all_same}
 
