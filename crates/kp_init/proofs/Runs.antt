@@ -25,6 +25,8 @@ use Rattle.kp_names.specs.Lifted.{Instance}
 use Rattle.kp_names.specs.Steps.{Step}
 use Rattle.kp_names.specs.Numbering.{numbered_problem, named_step}
 use Rattle.kp_names.proofs.NumberedPlans.{plan_numbered}
+use Rattle.kp_names.proofs.PlainGoals.{goals_plain}
+use Rattle.kp_names.proofs.Texts.{solves_theirs}
 use Rattle.kp_ground.specs.declared.flat.Atom.{Atom}
 use Rattle.kp_ground.specs.Static.{remaining}
 use Rattle.kp_ground.specs.Flattening.{flat, flat_of}
@@ -36,7 +38,7 @@ use Rattle.kp_ground.proofs.Plans.{plan_exact}
 use Rattle.kp_ground.proofs.Names.{named_by_steps}
 use Rattle.kp_init.specs.Initial.{not_both, is_ground, item_clauses}
 use Rattle.kp_init.specs.Closure.{are_below}
-use Rattle.kp_init.specs.Laws.{IsInitialOver, IsPlanByModels, IsPlanByName}
+use Rattle.kp_init.specs.Laws.{IsInitialOver, IsPlanByModels, IsPlanByName, IsPlanOfTexts}
 use Rattle.kp_init.proofs.Models.{initial_exact, list_covered, ground_covered, closed_all}
 
 -- ---- runs read the atoms below n alone
@@ -204,4 +206,11 @@ plan_by_name d p no_fault plain first model steps' =
       λ g.
           let r = instances_there d p g.0 steps' g.1.names in
           by_number.1 (r.0, r.1, (by_models r.0).1 (g.0, record { numbers = r.2; plan = g.1.plan })),
+    )
+
+pub plan_of_texts : IsPlanOfTexts
+plan_of_texts domain_text problem_text x first model is =
+    let by_name = plan_by_name x.domain x.problem x.no_fault (goals_plain problem_text x.problem x.problem_reads) first model is in (
+      λ plan. by_name.0 (solves_theirs domain_text problem_text x is plan),
+      λ run. record { has = x; solves = by_name.1 run },
     )
