@@ -1,11 +1,10 @@
 -- The ground problem of moves between two places, computed from texts; the laws' premises can be met.
-use Rattle.std.proofs.Common.{◌≡◌, ℕ, Bool, true, false, List, [], ◌∷◌, refl, inl, inr, map, codes}
+use Rattle.std.proofs.Common.{◌≡◌, ℕ, true, false, List, [], ◌∷◌, refl, inl, inr, map, codes}
 use Rattle.kp_base.specs.declared.lit.Lit.{Lit}
 use Rattle.kp_base.specs.declared.ground.GroundName.{GroundName}
 use Rattle.kp_base.specs.declared.ground.Effect.{Effect}
 use Rattle.kp_base.specs.declared.ground.Action.{Action}
 use Rattle.kp_base.specs.declared.ground.Ground.{Ground}
-use Rattle.kp_base.specs.Lists.{Member}
 use Rattle.kp_base.specs.Lit.{positive, negative}
 use Rattle.kp_lex.specs.Bytes.{class_of}
 use Rattle.kp_lex.specs.Scanning.{cut_from}
@@ -13,17 +12,15 @@ use Rattle.kp_tree.specs.Symbols.{symbol_of}
 use Rattle.kp_tree.specs.Parsing.{some_at, next_at}
 use Rattle.kp_names.specs.declared.lifted.Term.{Term}
 use Rattle.kp_names.specs.declared.lifted.Range.{Range}
-use Rattle.kp_names.specs.declared.lifted.Pred.{Pred}
 use Rattle.kp_names.specs.declared.lifted.Item.{Item}
 use Rattle.kp_names.specs.Names.{Name}
 use Rattle.kp_names.specs.Numbered.{Cond, Eff, Effs, Schema, Lifted}
-use Rattle.kp_names.specs.Lifted.{State, Instance, ground, is_named, IsInitial, IsPlan}
+use Rattle.kp_names.specs.Lifted.{State, ground, is_named, IsInitial, IsPlan}
 use Rattle.kp_names.specs.Numbering.{numbered_problem}
 use Rattle.kp_names.proofs.Texts.{domain_of, problem_of}
 use Rattle.kp_names.proofs.ExamplePlans.{moves, from_a_to_b}
-use Rattle.kp_ground.specs.declared.flat.Atom.{Atom}
 use Rattle.kp_ground.specs.Static.{is_static, HasStaticTruth}
-use Rattle.kp_ground.specs.Ground.{instance, kept_bindings, kept_instances, ground_atoms, IsNumbering, ground_of, seen_on}
+use Rattle.kp_ground.specs.Ground.{instance, kept_instances, ground_atoms, IsNumbering, ground_of}
 use Rattle.kp_ground.specs.Weights.{binding_count, weight, total_weight}
 use Rattle.kp_ground.specs.Laws.{IsStepOf, IsGroundRun}
 use Rattle.kp_ground.proofs.Atoms.{atoms_are_numbered}

@@ -5,15 +5,14 @@ use mathlib.Core.Path.{fun_ext}
 use Rattle.std.proofs.lemmas.Bool.{and_parts, and_from, false≢true}
 use Rattle.kp_base.specs.Lists.{Member}
 use Rattle.kp_base.specs.Steps as steps
+use Rattle.kp_base.proofs.Lists.{any_member, any_from, member_at, filter_member, same-true, same-refl, member_left}
 use Rattle.kp_names.specs.Names.{same}
 use Rattle.kp_names.specs.Numbered.{Schema, Lifted}
-use Rattle.kp_names.specs.Lifted.{State, Instance, literal_holds, bindings, schema_of, fits, is_instance, permits, applicable, state_by, next, succeeds, IsInitial}
-use Rattle.kp_names.proofs.Lists.{any_member, any_from, member_at, filter_member, same-true, same-refl}
+use Rattle.kp_names.specs.Lifted.{State, Instance, literal_holds, bindings, schema_of, fits, is_instance, permits, applicable, state_by, next, succeeds}
 use Rattle.kp_ground.specs.declared.flat.Atom.{Atom}
 use Rattle.kp_ground.specs.Static.{HasStaticTruth, settled}
 use Rattle.kp_ground.specs.Ground.{kept_instances, kept_literals, open_literals, IsNumbering, action_of, ground_over, seen_on}
 use Rattle.kp_ground.specs.Laws.{IsStepOf, IsPlanExact}
-use Rattle.kp_ground.proofs.Lists.{member_left}
 use Rattle.kp_ground.proofs.Static.{static_at_first, static_kept}
 use Rattle.kp_ground.proofs.Step.{all_numbered, step_exact, kept_exact}
 use Rattle.kp_ground.proofs.Kept.{Kept, kept_of, member_of, action_there}

@@ -1,7 +1,6 @@
 -- Initial formulas and closures, computed from texts; the laws' premises can be met.
 use Rattle.std.proofs.Common.{◌≡◌, ℕ, Bool, true, false, List, [], ◌∷◌, Some, refl, sym, subst, map, nat_eq, codes}
 use Rattle.std.proofs.lemmas.Bool.{false≢true}
-use Rattle.kp_base.specs.declared.lit.Lit.{Lit}
 use Rattle.kp_base.specs.declared.lit.AtomId.{AtomId}
 use Rattle.kp_base.specs.declared.ground.Initial.{Initial}
 use Rattle.kp_base.specs.Lit.{positive, negative}
@@ -21,7 +20,7 @@ use Rattle.kp_names.proofs.ExampleCells.{cells, one_of_three}
 use Rattle.kp_ground.specs.Ground.{ground_atoms, ground_of}
 use Rattle.kp_ground.specs.Laws.{action_name}
 use Rattle.kp_ground.proofs.Atoms.{atoms_are_numbered}
-use Rattle.kp_ground.proofs.ExampleMoves.{moves_by_number, numbered_moves, ground_moves, moves_are_ground}
+use Rattle.kp_ground.proofs.ExampleMoves.{moves_by_number, numbered_moves, ground_moves}
 use Rattle.kp_ground.proofs.ExampleGrounds.{roads, three_towns}
 use Rattle.kp_init.specs.Initial.{initial_of}
 use Rattle.kp_init.specs.Closure.{closure, IsOver, IsAscendingClosure}

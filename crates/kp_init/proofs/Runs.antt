@@ -1,5 +1,5 @@
 -- Plans, and runs of actions from each model.
-use Rattle.std.proofs.Common.{◌≡◌, ℕ, Bool, true, false, not, ◌&&◌, List, [], ◌∷◌, ◌++◌, Option, Some, None, refl, sym, ap, subst, map, ◌∙◌, nat_lt, ◌<◌, slice_get, length, filter, option_map}
+use Rattle.std.proofs.Common.{◌≡◌, ℕ, Bool, true, false, not, ◌&&◌, List, [], ◌∷◌, ◌++◌, Option, Some, None, refl, sym, ap, subst, map, ◌∙◌, nat_lt, ◌<◌, slice_get, length, option_map}
 use Rattle.std.specs.List.{list_all, flat_map}
 use Rattle.std.proofs.lemmas.Bool.{and_parts, and_from, lt-ltb, ltb-true}
 use Rattle.std.proofs.lemmas.Option.{slice_get_within}
@@ -13,6 +13,7 @@ use Rattle.kp_base.specs.Lists.{Member, signed, each_once, only_if}
 use Rattle.kp_base.specs.Lit.{positive, negative, negated, same_lit}
 use Rattle.kp_base.specs.LitSet.{set_of}
 use Rattle.kp_base.specs.Steps as steps
+use Rattle.kp_base.proofs.Lists.{any_alike, all_alike, all_member, member_at, flat_member, all_from, member_left, member_right, member_flat_map}
 use Rattle.kp_base.proofs.Once.{all_filter, all_each_once}
 use Rattle.kp_base.proofs.Sets.{all-set_of}
 use Rattle.kp_tree.specs.declared.tree.Word.{Word}
@@ -20,23 +21,21 @@ use Rattle.kp_tree.specs.Trees.{Domain, Problem}
 use Rattle.kp_names.specs.declared.lifted.GroundLit.{GroundLit}
 use Rattle.kp_names.specs.declared.lifted.Item.{Item}
 use Rattle.kp_names.specs.Numbered.{Schema, Lifted}
-use Rattle.kp_names.specs.Lifted.{Instance, item_literals}
+use Rattle.kp_names.specs.Lifted.{Instance}
 use Rattle.kp_names.specs.Steps.{Step}
 use Rattle.kp_names.specs.Numbering.{numbered_problem, named_step}
-use Rattle.kp_names.proofs.Lists.{any_alike, all_alike, all_member, member_at, map_map, flat_member}
 use Rattle.kp_names.proofs.NumberedPlans.{plan_numbered}
 use Rattle.kp_ground.specs.declared.flat.Atom.{Atom}
 use Rattle.kp_ground.specs.Static.{remaining}
 use Rattle.kp_ground.specs.Flattening.{flat, flat_of}
 use Rattle.kp_ground.specs.Ground.{kept_bindings, kept_instances, atom_of, effect_literals, flat_literals, kept_literals, open_literals, ground_atoms, number_of, numbered, numbered_set, IsNumbering, numbered_effect, same_effect, is_idle, ground_pre, ground_effects, action_of, actions_of, ground_over, ground_of, seen_on}
 use Rattle.kp_ground.specs.Laws.{action_name}
-use Rattle.kp_ground.proofs.Lists.{all_from, member_left, member_right, member_flat_map}
 use Rattle.kp_ground.proofs.Atoms.{atoms_are_numbered, number_there}
 use Rattle.kp_ground.proofs.Step.{Covered, occurs}
 use Rattle.kp_ground.proofs.Plans.{plan_exact}
 use Rattle.kp_ground.proofs.Names.{named_by_steps}
-use Rattle.kp_init.specs.Initial.{not_both, exactly_one, is_ground, item_clauses, initial_over}
-use Rattle.kp_init.specs.Closure.{are_below, IsOver}
+use Rattle.kp_init.specs.Initial.{not_both, is_ground, item_clauses}
+use Rattle.kp_init.specs.Closure.{are_below}
 use Rattle.kp_init.specs.Laws.{IsInitialOver, IsPlanByModels, IsPlanByName}
 use Rattle.kp_init.proofs.Models.{initial_exact, list_covered, ground_covered, closed_all}
 

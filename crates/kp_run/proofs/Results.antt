@@ -14,7 +14,7 @@ use Rattle.kp_run.specs.declared.answer.Report.TheVariants as reports
 use Rattle.kp_run.specs.declared.status.Status.{Status}
 use Rattle.kp_run.specs.declared.status.Status.TheVariants as status
 use Rattle.kp_run.specs.Command.{Command, IsCommand, IsNoCommand}
-use Rattle.kp_run.specs.PlainFiles.{IsDomain, IsProblem, IsContradictory}
+use Rattle.kp_given.specs.PlainFiles.{IsDomain, IsProblem, IsContradictory}
 use Rattle.kp_run.specs.Printed.{usage_text, text_of, refusal_text}
 use Rattle.kp_run.specs.Due.{Answers, no_domain, no_problem, no_initial_state, done, AnswersFiles}
 use Rattle.kp_run.specs.Ends.{Files, Puts, Tells, files_of, with_both}

@@ -12,7 +12,7 @@ use Rattle.kp_run.specs.declared.answer.Report.{Report}
 use Rattle.kp_run.specs.declared.answer.Report.TheVariants as reports
 use Rattle.kp_run.specs.declared.status.Status.{Status}
 use Rattle.kp_run.specs.declared.status.Status.TheVariants as status
-use Rattle.kp_run.specs.PlainFiles.{IsDomain, IsProblem}
+use Rattle.kp_given.specs.PlainFiles.{IsDomain, IsProblem}
 use Rattle.kp_run.specs.Printed.{text_of}
 use Rattle.kp_run.specs.Reports.{status_of, printed_of, HasItsText, HasFiles, IsTranslated}
 use Rattle.kp_run.proofs.Reading.{same_tree}
