@@ -60,7 +60,7 @@ applied_kept l s truth i inst app = go (schema_of l i) refl inst app
         let m : Member (bindings a.params) i.objects = subst (Member (bindings a.params)) (sym (same-true i.objects r.0 r.2)) r.1 in
         record { schema = a; at = is; among = kept_exact l s truth a i.objects m h }
 
-number_at : {X : Type 0} (xs : List X) (x : X) → Member xs x → (n : ℕ) × (slice_get xs n ≡ Some x)
+pub number_at : {X : Type 0} (xs : List X) (x : X) → Member xs x → (n : ℕ) × (slice_get xs n ≡ Some x)
 number_at [] x m = absurd m
 number_at (y ∷ ys) x m = elim m [ inl e ↦ (0, ap Some e) | inr r ↦ let h = number_at ys x r in (suc h.0, h.1) ]
 

@@ -120,10 +120,10 @@ moves_over : IsOver 2 (initial_of moves_by_number)
 moves_over = initial_is_over moves_by_number (ground_atoms moves_by_number) (atoms_are_numbered moves_by_number).numbering
 
 -- a model
-abbrev first : State
+abbrev pub first : State
 first n = nat_eq n 0
 
-is_first : is_model formula_of_moves first ≡ true
+pub is_first : is_model formula_of_moves first ≡ true
 is_first = refl
 
 -- it is an initial state, seen on the ground atoms
@@ -141,11 +141,11 @@ two_actions s = pick (s 0) refl
     pick true e model = rw e refl
     pick false e model = absurd (false≢true (rw e at model))
 
-no_fault : HasNoFault (domain_of moves) (problem_of from_a_to_b)
+pub no_fault : HasNoFault (domain_of moves) (problem_of from_a_to_b)
 unfolding cut_from class_of symbol_of some_at next_at
 no_fault = record { domain = refl; problem = refl }
 
-plain : is_plain_goal (problem_of from_a_to_b).goal ≡ true
+pub plain : is_plain_goal (problem_of from_a_to_b).goal ≡ true
 unfolding cut_from class_of symbol_of some_at next_at
 plain = refl
 
