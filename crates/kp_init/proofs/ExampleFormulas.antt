@@ -13,8 +13,9 @@ use Rattle.kp_names.specs.Faults.{HasNoFault}
 use Rattle.kp_names.specs.Numbered.{Lifted}
 use Rattle.kp_names.specs.Numbering.{numbered_problem}
 use Rattle.kp_names.specs.NumberLaws.{is_plain_goal}
-use Rattle.kp_names.specs.Plans.{Solves}
-use Rattle.kp_names.proofs.Texts.{domain_of, problem_of}
+use Rattle.kp_names.specs.Plans as texts
+use Rattle.kp_names.specs.Plans.{HasProblem, Solves}
+use Rattle.kp_names.proofs.Texts.{domain_of, problem_of, has_problem}
 use Rattle.kp_names.proofs.ExamplePlans.{moves, from_a_to_b, move}
 use Rattle.kp_names.proofs.ExampleCells.{cells, one_of_three}
 use Rattle.kp_ground.specs.Ground.{ground_atoms, ground_of}
@@ -25,7 +26,7 @@ use Rattle.kp_ground.proofs.ExampleGrounds.{roads, three_towns}
 use Rattle.kp_init.specs.Initial.{initial_of}
 use Rattle.kp_init.specs.Closure.{closure, IsOver, IsAscendingClosure}
 use Rattle.kp_init.specs.Laws.{IsNamedRun}
-use Rattle.kp_init.proofs.Runs.{initial_is_over, plan_by_name}
+use Rattle.kp_init.proofs.Runs.{initial_is_over, plan_by_name, plan_of_texts}
 use Rattle.kp_init.proofs.Closure.{closure_exact}
 
 abbrev lifted : List ℕ → List ℕ → Lifted
@@ -142,3 +143,12 @@ a_run = record {
 -- so their names are a plan of the two trees
 a_plan : Solves (domain_of moves) (problem_of from_a_to_b) (move (codes "a") (codes "a") ∷ move (codes "a") (codes "b") ∷ [])
 a_plan = (plan_by_name (domain_of moves) (problem_of from_a_to_b) no_fault plain first (subst (λ l. is_model (initial_of l) first ≡ true) (sym numbered_moves) is_first) (move (codes "a") (codes "a") ∷ move (codes "a") (codes "b") ∷ [])).1 (0 ∷ 1 ∷ [], a_run)
+
+-- and of the two texts
+moves_problem : HasProblem moves from_a_to_b
+unfolding cut_from class_of symbol_of some_at next_at
+moves_problem = has_problem moves from_a_to_b (record { domain_cut = refl; problem_cut = refl; domain_read = refl; problem_read = refl; domain_faults = refl; problem_faults = refl })
+
+a_plan_of_texts : texts.IsPlan moves from_a_to_b (move (codes "a") (codes "a") ∷ move (codes "a") (codes "b") ∷ [])
+unfolding moves_problem
+a_plan_of_texts = (plan_of_texts moves from_a_to_b moves_problem first (subst (λ l. is_model (initial_of l) first ≡ true) (sym numbered_moves) is_first) (move (codes "a") (codes "a") ∷ move (codes "a") (codes "b") ∷ [])).1 (0 ∷ 1 ∷ [], a_run)

@@ -28,6 +28,8 @@ use Rattle.kp_names.specs.Plans.{Solves}
 use Rattle.kp_names.specs.Numbering.{numbered_problem, named_step}
 use Rattle.kp_names.specs.NumberLaws.{is_plain_goal}
 use Rattle.kp_names.proofs.NumberedPlans.{plan_numbered}
+use Rattle.kp_names.proofs.PlainGoals.{goals_plain}
+use Rattle.kp_names.proofs.Texts.{solves_theirs}
 use Rattle.kp_ground.specs.declared.flat.Atom.{Atom}
 use Rattle.kp_ground.specs.Static.{remaining}
 use Rattle.kp_ground.specs.Flattening.{flat, flat_of}
@@ -39,7 +41,7 @@ use Rattle.kp_ground.proofs.Plans.{runs_are_plans, plan_exact}
 use Rattle.kp_ground.proofs.Names.{named_by_steps}
 use Rattle.kp_init.specs.Initial.{not_both, is_ground, item_clauses}
 use Rattle.kp_init.specs.Closure.{are_below}
-use Rattle.kp_init.specs.Laws.{IsModelRun, IsNamedRun, IsInitialOver, IsPlanByModels, IsPlanByName}
+use Rattle.kp_init.specs.Laws.{IsModelRun, IsNamedRun, IsInitialOver, IsPlanByModels, IsPlanByName, IsPlanOfTexts}
 use Rattle.kp_init.proofs.Models.{initial_exact, list_covered, ground_covered, closed_all}
 
 -- ---- runs read the atoms below n alone
@@ -215,4 +217,11 @@ plan_by_name d p no_fault plain first model steps' =
           let g = (plan_by_models l (ground_atoms l) (atoms_are_numbered l).numbering first model r.0).0 r.2 in
           (g.0, record { names = names_there d p g.0 r.0 g.1.numbers ∙ ap (map Some) r.1; plan = g.1.plan }),
       λ g. named_runs_are_plans d p no_fault plain steps' g.0 g.1,
+    )
+
+pub plan_of_texts : IsPlanOfTexts
+plan_of_texts domain_text problem_text x first model is =
+    let by_name = plan_by_name x.domain x.problem x.no_fault (goals_plain problem_text x.problem x.problem_reads) first model is in (
+      λ plan. by_name.0 (solves_theirs domain_text problem_text x is plan),
+      λ run. record { has = x; solves = by_name.1 run },
     )
