@@ -120,10 +120,10 @@ moves_over : IsOver 2 (initial_of moves_by_number)
 moves_over = initial_is_over moves_by_number (ground_atoms moves_by_number) (atoms_are_numbered moves_by_number).numbering
 
 -- a model
-abbrev pub first : State
+abbrev first : State
 first n = nat_eq n 0
 
-pub is_first : is_model formula_of_moves first ≡ true
+is_first : is_model formula_of_moves first ≡ true
 is_first = refl
 
 -- it is an initial state, seen on the ground atoms

@@ -21,9 +21,12 @@ use Rattle.kp_tree.specs.Trees.{Domain, Problem}
 use Rattle.kp_names.specs.declared.lifted.GroundLit.{GroundLit}
 use Rattle.kp_names.specs.declared.lifted.Item.{Item}
 use Rattle.kp_names.specs.Numbered.{Schema, Lifted}
-use Rattle.kp_names.specs.Lifted.{Instance}
+use Rattle.kp_names.specs.Lifted.{Instance, IsPlan}
+use Rattle.kp_names.specs.Faults.{HasNoFault}
 use Rattle.kp_names.specs.Steps.{Step}
+use Rattle.kp_names.specs.Plans.{Solves}
 use Rattle.kp_names.specs.Numbering.{numbered_problem, named_step}
+use Rattle.kp_names.specs.NumberLaws.{is_plain_goal}
 use Rattle.kp_names.proofs.NumberedPlans.{plan_numbered}
 use Rattle.kp_names.proofs.PlainGoals.{goals_plain}
 use Rattle.kp_names.proofs.Texts.{solves_theirs}
@@ -34,11 +37,11 @@ use Rattle.kp_ground.specs.Ground.{kept_bindings, kept_instances, atom_of, effec
 use Rattle.kp_ground.specs.Laws.{action_name}
 use Rattle.kp_ground.proofs.Atoms.{atoms_are_numbered, number_there}
 use Rattle.kp_ground.proofs.Step.{Covered, occurs}
-use Rattle.kp_ground.proofs.Plans.{plan_exact}
+use Rattle.kp_ground.proofs.Plans.{runs_are_plans, plan_exact}
 use Rattle.kp_ground.proofs.Names.{named_by_steps}
 use Rattle.kp_init.specs.Initial.{not_both, is_ground, item_clauses}
 use Rattle.kp_init.specs.Closure.{are_below}
-use Rattle.kp_init.specs.Laws.{IsInitialOver, IsPlanByModels, IsPlanByName, IsPlanOfTexts}
+use Rattle.kp_init.specs.Laws.{IsModelRun, IsNamedRun, IsInitialOver, IsPlanByModels, IsPlanByName, IsPlanOfTexts}
 use Rattle.kp_init.proofs.Models.{initial_exact, list_covered, ground_covered, closed_all}
 
 -- ---- runs read the atoms below n alone
@@ -145,6 +148,11 @@ initial_is_over l atoms numbering = record {
 
 -- ---- plans
 
+-- kept instances whose actions succeed from each model are a plan, also where there is none
+pub model_runs_are_plans : (l : Lifted) (atoms : List Atom) → IsNumbering l atoms → (is : List Instance) (ns : List ℕ) → IsModelRun l atoms is ns → IsPlan l is
+model_runs_are_plans l atoms numbering is ns run =
+    runs_are_plans l atoms numbering is ns (record { numbers = run.numbers; reaches = λ s i. run.plan (seen_on atoms s) ((initial_exact l atoms numbering).model s i) })
+
 pub plan_by_models : IsPlanByModels
 plan_by_models l atoms numbering first model is =
     let models = initial_exact l atoms numbering in
@@ -160,7 +168,7 @@ plan_by_models l atoms numbering first model is =
                   sym (run_same (length atoms) (ground_over l atoms) (actions_below l atoms numbering) (goal_below l atoms numbering) (seen_on atoms s.0) g s.2 r.0) ∙ r.1.reaches s.0 s.1;
             },
           ),
-      λ r. plans.1 (r.0, record { numbers = r.1.numbers; reaches = λ s i. r.1.plan (seen_on atoms s) (models.model s i) }),
+      λ r. model_runs_are_plans l atoms numbering is r.0 r.1,
     )
 
 -- ---- plans by name
@@ -194,18 +202,21 @@ instances_there d p (n ∷ ns) (i ∷ steps') e =
         unsome : (a b : GroundName) → Some a ≡ Some b → a ≡ b
         unsome a b e = cc
 
+-- the names of actions that succeed from each model are a plan, also where there is none
+pub named_runs_are_plans : (d : Domain Word) (p : Problem Word) → HasNoFault d p → is_plain_goal p.goal ≡ true → (is : List Step) (ns : List ℕ) → IsNamedRun d p is ns → Solves d p is
+named_runs_are_plans d p no_fault plain steps' ns run =
+    let l = numbered_problem d p in
+    let r = instances_there d p ns steps' run.names in
+    (plan_numbered d p no_fault plain steps').1 (r.0, r.1, model_runs_are_plans l (ground_atoms l) (atoms_are_numbered l).numbering r.0 ns (record { numbers = r.2; plan = run.plan }))
+
 pub plan_by_name : IsPlanByName
 plan_by_name d p no_fault plain first model steps' =
-    let l = numbered_problem d p in
-    let by_number = plan_numbered d p no_fault plain steps' in
-    let by_models = plan_by_models l (ground_atoms l) (atoms_are_numbered l).numbering first model in (
+    let l = numbered_problem d p in (
       λ plan.
-          let r = by_number.0 plan in
-          let g = (by_models r.0).0 r.2 in
+          let r = (plan_numbered d p no_fault plain steps').0 plan in
+          let g = (plan_by_models l (ground_atoms l) (atoms_are_numbered l).numbering first model r.0).0 r.2 in
           (g.0, record { names = names_there d p g.0 r.0 g.1.numbers ∙ ap (map Some) r.1; plan = g.1.plan }),
-      λ g.
-          let r = instances_there d p g.0 steps' g.1.names in
-          by_number.1 (r.0, r.1, (by_models r.0).1 (g.0, record { numbers = r.2; plan = g.1.plan })),
+      λ g. named_runs_are_plans d p no_fault plain steps' g.0 g.1,
     )
 
 pub plan_of_texts : IsPlanOfTexts

@@ -1,8 +1,7 @@
 -- Moves between two places: each premise of the law on trees is met, and a plan of the written texts strips to one of the trees.
-use Rattle.std.proofs.Common.{◌≡◌, ℕ, true, List, [], ◌∷◌, Some, codes, length, refl, sym, subst, arith}
+use Rattle.std.proofs.Common.{◌≡◌, ℕ, List, [], ◌∷◌, Some, codes, length, refl, sym, subst, arith}
 use Rattle.std.specs.List.{IsDistinct}
 use Rattle.kp_base.specs.declared.lit.Lit.{Lit}
-use Rattle.kp_base.specs.Steps.{is_model}
 use Rattle.kp_base.specs.Clashes.{NeverClashes}
 use Rattle.kp_lex.specs.Bytes.{class_of}
 use Rattle.kp_names.specs.Steps.{Step}
@@ -15,7 +14,7 @@ use Rattle.kp_ground.specs.Ground.{ground_of}
 use Rattle.kp_ground.proofs.ExampleMoves.{moves_by_number, numbered_moves}
 use Rattle.kp_init.specs.Initial.{initial_of}
 use Rattle.kp_init.specs.Closure.{closure}
-use Rattle.kp_init.proofs.ExampleFormulas.{first, is_first, no_fault, plain}
+use Rattle.kp_init.proofs.ExampleFormulas.{no_fault, plain}
 use Rattle.kp_write.specs.Names.{IsName}
 use Rattle.kp_write.specs.Grounds.{IsGroundName, IsWritable, domain_file, problem_file}
 use Rattle.kp_write.proofs.Fine.{named}
@@ -76,8 +75,6 @@ served : IsServed (domain_of moves) (problem_of from_a_to_b)
 served = record {
   no_fault = no_fault;
   plain_goal = plain;
-  model = first;
-  is_model = subst (λ l. is_model (initial_of l) first ≡ true) (sym numbered_moves) is_first;
   no_clash = subst (λ l. NeverClashes (ground_of l) (initial_of l)) (sym numbered_moves) no_clash;
   writable = subst (λ l. IsWritable (ground_of l) (known_of l)) (sym numbered_moves) can_be_written;
 }

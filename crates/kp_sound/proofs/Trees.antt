@@ -10,7 +10,7 @@ use Rattle.kp_ground.proofs.Atoms.{atoms_are_numbered}
 use Rattle.kp_init.specs.Initial.{initial_of}
 use Rattle.kp_init.specs.Closure.{IsOver}
 use Rattle.kp_init.proofs.Closure.{closure_exact}
-use Rattle.kp_init.proofs.Runs.{initial_is_over, plan_by_name}
+use Rattle.kp_init.proofs.Runs.{initial_is_over, named_runs_are_plans}
 use Rattle.kp_sound.specs.Laws.{known_first, WrittenPlansStripToPlans}
 use Rattle.kp_sound.proofs.Plans.{plans_sound}
 
@@ -28,5 +28,5 @@ plans_strip d p served steps plan =
     record {
       stripped = r.stripped.names;
       strips = r.stripped.strips;
-      solves = (plan_by_name d p served.no_fault served.plain_goal served.model served.is_model r.stripped.names).1 (r.actions, record { names = r.stripped.are_names; plan = r.plan });
+      solves = named_runs_are_plans d p served.no_fault served.plain_goal r.stripped.names r.actions (record { names = r.stripped.are_names; plan = r.plan });
     }

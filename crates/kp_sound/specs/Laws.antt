@@ -4,7 +4,7 @@ use Rattle.kp_base.specs.declared.lit.Lit.{Lit}
 use Rattle.kp_base.specs.declared.ground.GroundName.{GroundName}
 use Rattle.kp_base.specs.declared.ground.Ground.{Ground}
 use Rattle.kp_base.specs.declared.ground.Initial.{Initial}
-use Rattle.kp_base.specs.Steps.{State, is_model, IsGroundPlan}
+use Rattle.kp_base.specs.Steps.{IsGroundPlan}
 use Rattle.kp_base.specs.Entailed.{IsClosure}
 use Rattle.kp_base.specs.Clashes.{NeverClashes}
 use Rattle.kp_base.specs.Machine.{MachineStep, accepts, one_tag_table}
@@ -74,12 +74,10 @@ WrittenPlansAreSound = (g : Ground) (i : Initial) (start : List Lit) → IsWrita
 abbrev pub known_first : Domain Word → Problem Word → List Lit
 known_first d p = closure (initial_of (numbered_problem d p)) (length (ground_of (numbered_problem d p)).atoms) []
 
--- the ground problem of the trees can be written, has a model, and nothing clashes
+-- no name of the trees is at fault, no equality stands in the goal, and their ground problem can be written and never clashes
 pub record IsServed (d : Domain Word) (p : Problem Word) : Type 0 where
   pub no_fault : HasNoFault d p
   pub plain_goal : is_plain_goal p.goal ≡ true
-  pub model : State
-  pub is_model : is_model (initial_of (numbered_problem d p)) model ≡ true
   pub no_clash : NeverClashes (ground_of (numbered_problem d p)) (initial_of (numbered_problem d p))
   pub writable : IsWritable (ground_of (numbered_problem d p)) (known_first d p)
 
