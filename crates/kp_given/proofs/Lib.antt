@@ -6,3 +6,4 @@ pub mod GroundProblems
 pub mod NoFault
 pub mod Start
 pub mod Translated
+pub mod OneSided
