@@ -40,11 +40,11 @@ use Rattle.kp_given.proofs.Atoms.{bare_atom, same_ascending, atoms_ascend, place
 
 -- ---- lists
 
-filter_same : {X : Type 0} (f g : X → Bool) (xs : List X) → ((x : X) → Member xs x → f x ≡ g x) → filter f xs ≡ filter g xs
+pub filter_same : {X : Type 0} (f g : X → Bool) (xs : List X) → ((x : X) → Member xs x → f x ≡ g x) → filter f xs ≡ filter g xs
 filter_same f g [] h = refl
 filter_same f g (x ∷ xs) h = ap (λ t. cond t (x ∷ filter f xs) (filter f xs)) (h x (inl refl)) ∙ ap (λ ys. cond (g x) (x ∷ ys) ys) (filter_same f g xs (λ y m. h y (inr m)))
 
-filter_map : {X Y : Type 0} (f : X → Y) (p : Y → Bool) (xs : List X) → filter p (map f xs) ≡ map f (filter (λ x. p (f x)) xs)
+pub filter_map : {X Y : Type 0} (f : X → Y) (p : Y → Bool) (xs : List X) → filter p (map f xs) ≡ map f (filter (λ x. p (f x)) xs)
 filter_map f p [] = refl
 filter_map f p (x ∷ xs) = pick (p (f x)) (filter_map f p xs)
   where
@@ -52,7 +52,7 @@ filter_map f p (x ∷ xs) = pick (p (f x)) (filter_map f p xs)
     pick true e = ap (λ ys. f x ∷ ys) e
     pick false e = e
 
-map_same : {X Y : Type 0} (f g : X → Y) (xs : List X) → ((x : X) → Member xs x → f x ≡ g x) → map f xs ≡ map g xs
+pub map_same : {X Y : Type 0} (f g : X → Y) (xs : List X) → ((x : X) → Member xs x → f x ≡ g x) → map f xs ≡ map g xs
 map_same f g [] h = refl
 map_same f g (x ∷ xs) h = ap (λ y. y ∷ map f xs) (h x (inl refl)) ∙ ap (λ ys. g x ∷ ys) (map_same f g xs (λ y m. h y (inr m)))
 
@@ -60,15 +60,15 @@ all_same : {X : Type 0} (f g : X → Bool) (xs : List X) → ((x : X) → Member
 all_same f g [] h = refl
 all_same f g (x ∷ xs) h = ap (λ t. t && list_all f xs) (h x (inl refl)) ∙ ap (λ t. g x && t) (all_same f g xs (λ y m. h y (inr m)))
 
-map_map : {X Y Z : Type 0} (f : X → Y) (g : Y → Z) (xs : List X) → map g (map f xs) ≡ map (λ x. g (f x)) xs
+pub map_map : {X Y Z : Type 0} (f : X → Y) (g : Y → Z) (xs : List X) → map g (map f xs) ≡ map (λ x. g (f x)) xs
 map_map f g [] = refl
 map_map f g (x ∷ xs) = ap (λ ys. g (f x) ∷ ys) (map_map f g xs)
 
-flat_of_map : {X Y Z : Type 0} (f : X → Y) (g : Y → List Z) (xs : List X) → flat_map g (map f xs) ≡ flat_map (λ x. g (f x)) xs
+pub flat_of_map : {X Y Z : Type 0} (f : X → Y) (g : Y → List Z) (xs : List X) → flat_map g (map f xs) ≡ flat_map (λ x. g (f x)) xs
 flat_of_map f g [] = refl
 flat_of_map f g (x ∷ xs) = ap (λ ys. g (f x) ++ ys) (flat_of_map f g xs)
 
-flat_same : {X Y : Type 0} (f g : X → List Y) (xs : List X) → ((x : X) → Member xs x → f x ≡ g x) → flat_map f xs ≡ flat_map g xs
+pub flat_same : {X Y : Type 0} (f g : X → List Y) (xs : List X) → ((x : X) → Member xs x → f x ≡ g x) → flat_map f xs ≡ flat_map g xs
 flat_same f g [] h = refl
 flat_same f g (x ∷ xs) h = ap (λ ys. ys ++ flat_map f xs) (h x (inl refl)) ∙ ap (λ ys. g x ++ ys) (flat_same f g xs (λ y m. h y (inr m)))
 
@@ -89,7 +89,7 @@ flat_filter p f (x ∷ xs) = pick (p x) (flat_filter p f xs)
     pick true e = ap (λ ys. f x ∷ ys) e
     pick false e = e
 
-in_heads : (xs : List Name) (x : Name) → is_among xs x ≡ true → Member xs x
+pub in_heads : (xs : List Name) (x : Name) → is_among xs x ≡ true → Member xs x
 in_heads xs x h = let r = any_member (same x) xs h in subst (Member xs) (sym (same-true x r.0 r.2)) r.1
 
 -- ---- effects
@@ -310,10 +310,10 @@ module _ (d : Domain Word) (p : Problem Word) (pd : IsPlainDomain d) (pp : IsPla
       ∙ (ap (λ t. named G || t) (sym (list_any-append (λ l. same l.head n) I S))
       ∙ sym (list_any-append (λ l. same l.head n) G (I ++ S))))))
 
-  A_is : A ≡ filter (is_named (plain.occurring d p)) N
+  pub A_is : A ≡ filter (is_named (plain.occurring d p)) N
   A_is = ap (filter (is_named (plain.occurring d p))) k.declared_are
 
-  A_among : (n : Name) → Member A n → is_among N n ≡ true
+  pub A_among : (n : Name) → Member A n → is_among N n ≡ true
   A_among n m = among_member N n (filter_member (is_named (plain.occurring d p)) N n (subst (λ xs. Member xs n) A_is m)).0
 
   -- each atom that occurs is that of such a predicate
@@ -346,7 +346,7 @@ module _ (d : Domain Word) (p : Problem Word) (pd : IsPlainDomain d) (pp : IsPla
 
   -- ---- numbers and sets
 
-  number_is : (l : Literal) → known_head l ≡ true → numbered (map atom A) (by_number d l) ≡ plain.numbered A l
+  pub number_is : (l : Literal) → known_head l ≡ true → numbered (map atom A) (by_number d l) ≡ plain.numbered A l
   number_is l h = ap (λ n. record { atom = record { 0 = n }; positive = l.positive }) (place_is N A l.head h A_among)
 
   numbers_are : (ls : List Literal) → are_known d p ls ≡ true → map (numbered (map atom A)) (map (by_number d) ls) ≡ map (plain.numbered A) ls

@@ -43,7 +43,7 @@ module _ (d : Domain Word) (p : Problem Word) (pd : IsPlainDomain d) (pp : IsPla
 
   -- ---- what is said of a predicate, in lists of literals that are known
 
-  by_name : (n : Name) → is_among (heads d) n ≡ true → (ls : List Literal) → are_known d p ls ≡ true → list_any (has_number d (index_of (heads d) n)) ls ≡ is_named ls n
+  pub by_name : (n : Name) → is_among (heads d) n ≡ true → (ls : List Literal) → are_known d p ls ≡ true → list_any (has_number d (index_of (heads d) n)) ls ≡ is_named ls n
   by_name n in_heads [] h = refl
   by_name n in_heads (l ∷ ls) h =
       let parts = and_parts (is_among (heads d) l.head) (are_known d p ls) h in
@@ -53,7 +53,7 @@ module _ (d : Domain Word) (p : Problem Word) (pd : IsPlainDomain d) (pp : IsPla
   -- the schemas change the predicates that their results name
   changed : (q : ℕ) → list_any (λ a. changes q a.effect) (numbered_problem d p).schemas ≡ list_any (has_number d q) (flat_map (λ s. eff_literals s.effect) d.schemas)
   changed q =
-      any_map (λ a. changes q a.effect) (numbered_schema d p) d.schemas
+      any_map (numbered_schema d p) (λ a. changes q a.effect) (λ s. changes q (numbered_eff d p (scope_of s) s.effect)) d.schemas (λ s. refl)
       ∙ (any_same (λ s. changes q (numbered_eff d p (scope_of s) s.effect)) (λ s. list_any (has_number d q) (eff_literals s.effect)) d.schemas
           (λ s m. changes_is d p (scope_of s) q s.effect (plain_parts s (all_member is_plain_schema d.schemas s m pd.schemas)).1)
       ∙ any_flat (has_number d q) (λ s. eff_literals s.effect) d.schemas)

@@ -1,1 +1,5 @@
+pub mod Names
+pub mod PlainFiles
 pub mod PlainGround
+pub mod Translations
+pub mod Laws

@@ -1,14 +1,14 @@
 -- The ground atoms are those that occur, each once and in order.
-use Rattle.std.proofs.Common.{◌≡◌, ℕ, Bool, true, false, not, ◌&&◌, ◌||◌, if◌then◌else◌, cond, List, [], ◌∷◌, Some, refl, sym, ap, subst, map, ◌∙◌, inl, inr, ◌⊎◌, nat_eq, nat_lt, zero, suc, ◌+◌, arith, eqb-true, eq-eqb, slice_get}
-use Rattle.std.specs.List.{list_all, position_or_len}
+use Rattle.std.proofs.Common.{◌≡◌, ℕ, Bool, true, false, not, ◌&&◌, if◌then◌else◌, cond, List, [], ◌∷◌, Some, refl, sym, ap, subst, map, ◌∙◌, inl, inr, ◌⊎◌, nat_eq, nat_lt, zero, suc, ◌+◌, arith, eqb-true, eq-eqb, slice_get}
+use Rattle.std.specs.List.{list_all}
 use Rattle.std.proofs.lemmas.Bool.{and_parts, and_from, or_parts, or_cases, or_left, or_right, false≢true, both_ways, lt-ltb, ltb-true, cases_order}
 use Rattle.kp_base.specs.Lists.{Member}
+use Rattle.kp_base.proofs.Lists.{all_member, member_at, member_map, same-true, same-refl, all_weaker}
 use Rattle.kp_names.specs.Names.{same}
-use Rattle.kp_names.proofs.Lists.{all_member, member_at, member_map, same-true, same-refl}
 use Rattle.kp_ground.specs.declared.flat.Atom.{Atom}
 use Rattle.kp_ground.specs.Ground.{atom_of, occurring, list_before, atom_before, same_atom, insert_atom, ascending_atoms, ground_atoms, number_of}
 use Rattle.kp_ground.specs.Laws.{IsAscending, AtomsAreNumbered}
-use Rattle.kp_ground.proofs.Lists.{all_weaker, false_where_not_true}
+use Rattle.kp_ground.proofs.Lists.{false_where_not_true}
 
 -- ---- the order
 

@@ -4,16 +4,17 @@ use Rattle.std.specs.List.{list_any, list_all}
 use Rattle.std.specs.Cmp.Lexicographic.{pointwise}
 use Rattle.std.proofs.lemmas.Bool.{and_parts, and_from, both_ways, false≢true}
 use Rattle.std.proofs.lemmas.List.Folds.{list_all-append}
+use Rattle.std.proofs.Math.Bool.{and-false}
 use Rattle.kp_base.specs.declared.lit.Lit.{Lit}
 use Rattle.kp_base.specs.declared.ground.Effect.{Effect}
 use Rattle.kp_base.specs.Lists.{Member, each_once}
 use Rattle.kp_base.specs.Lit.{positive, negative, negated, same_lit}
 use Rattle.kp_base.specs.Steps.{Facts, has, fires}
+use Rattle.kp_base.proofs.Lists.{any_member, any_from, any_alike, all_member, bool_same, all_from}
 use Rattle.kp_base.proofs.Lits.{same_lit-true, same_lit-refl}
 use Rattle.kp_base.proofs.Once.{any-each_once}
-use Rattle.kp_names.proofs.Lists.{any_member, any_from, any_alike, all_member, bool_same}
 use Rattle.kp_ground.specs.Ground.{same_effect, is_within, is_idle, lasting}
-use Rattle.kp_ground.proofs.Lists.{all_from, and-false, false_where_not_true}
+use Rattle.kp_ground.proofs.Lists.{false_where_not_true}
 
 -- ---- each effect once
 

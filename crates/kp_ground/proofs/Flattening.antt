@@ -3,6 +3,7 @@ use Rattle.std.proofs.Common.{◌≡◌, Bool, true, false, not, ◌&&◌, ◌||
 use Rattle.std.specs.List.{list_all, flat_map}
 use Rattle.std.proofs.lemmas.List.Concat.{flat_map-append}
 use Rattle.std.proofs.lemmas.List.Folds.{list_all-append}
+use Rattle.std.proofs.Math.Bool.{and-true}
 use Rattle.kp_base.specs.Lists.{only_if, signed}
 use Rattle.kp_names.specs.declared.lifted.GroundLit.{GroundLit}
 use Rattle.kp_names.specs.Numbered.{Cond, Conds, Eff, Effs, Lifted}
@@ -11,7 +12,6 @@ use Rattle.kp_ground.specs.declared.flat.FlatEffect.{FlatEffect}
 use Rattle.kp_ground.specs.Static.{is_static, initially, HasStaticTruth, settled, all_settled, remaining, all_remaining}
 use Rattle.kp_ground.specs.Flattening.{under, flat, all_flat, flat_fires}
 use Rattle.kp_ground.specs.Laws.{IsSplit, IsFlatExact}
-use Rattle.kp_ground.proofs.Lists.{and-true}
 
 module _ (l : Lifted) (s : State) (truth : HasStaticTruth l s) (b : Binding) where
   mutual

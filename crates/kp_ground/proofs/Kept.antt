@@ -1,16 +1,15 @@
 -- Kept instances, and their actions.
-use Rattle.std.proofs.Common.{◌≡◌, ℕ, Bool, true, List, [], ◌∷◌, ◌++◌, Option, Some, None, refl, sym, ap, subst, map, ◌∙◌, inl, inr, zero, suc, ◌+◌, arith, slice_get, option_map}
+use Rattle.std.proofs.Common.{◌≡◌, ℕ, List, [], ◌∷◌, ◌++◌, Option, Some, None, refl, sym, ap, subst, map, ◌∙◌, inl, inr, zero, suc, ◌+◌, arith, slice_get, option_map}
 use Rattle.std.specs.List.{flat_map}
 use Rattle.std.proofs.lemmas.List.{map-append}
 use Rattle.std.proofs.lemmas.Option.{slice_get-map}
 use Rattle.kp_base.specs.declared.ground.Action.{Action}
 use Rattle.kp_base.specs.Lists.{Member}
+use Rattle.kp_base.proofs.Lists.{map_map, map_member, append_member, member_map, member_left, member_right}
 use Rattle.kp_names.specs.Numbered.{Schema, Lifted}
 use Rattle.kp_names.specs.Lifted.{Instance, schema_of}
-use Rattle.kp_names.proofs.Lists.{map_map, map_member, append_member, member_map, member_at}
 use Rattle.kp_ground.specs.declared.flat.Atom.{Atom}
 use Rattle.kp_ground.specs.Ground.{kept_bindings, instance, kept_from, kept_instances, action_of, actions_of, ground_over}
-use Rattle.kp_ground.proofs.Lists.{member_left, member_right}
 
 -- these schemas are those of the problem from this number on
 abbrev From : Lifted → ℕ → List Schema → Type 0
@@ -76,8 +75,10 @@ act l atoms (Some a) os = action_of l atoms a os
 acts_from : (l : Lifted) (atoms : List Atom) (k : ℕ) (more : List Schema) → From l k more → flat_map (actions_of l atoms) more ≡ map (λ i. act l atoms (schema_of l i) i.objects) (kept_from l k more)
 acts_from l atoms k [] from = refl
 acts_from l atoms k (a ∷ more) from =
-    rw (map-append (λ (i : Instance). act l atoms (schema_of l i) i.objects) (map (instance k) (kept_bindings l a)) (kept_from l (suc k) more),
-        map_map (instance k) (λ (i : Instance). act l atoms (schema_of l i) i.objects) (action_of l atoms a) (kept_bindings l a) (λ os. ap (λ o. act l atoms o os) (first_at l k a more from)))
+    rw (
+      map-append (λ (i : Instance). act l atoms (schema_of l i) i.objects) (map (instance k) (kept_bindings l a)) (kept_from l (suc k) more),
+      map_map (instance k) (λ (i : Instance). act l atoms (schema_of l i) i.objects) (action_of l atoms a) (kept_bindings l a) (λ os. ap (λ o. act l atoms o os) (first_at l k a more from)),
+    )
     (ap (λ as'. actions_of l atoms a ++ as') (acts_from l atoms (suc k) more (from_next l k a more from)))
 
 pub actions_are : (l : Lifted) (atoms : List Atom) → (ground_over l atoms).actions ≡ map (λ i. act l atoms (schema_of l i) i.objects) (kept_instances l)

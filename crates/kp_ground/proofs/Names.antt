@@ -1,11 +1,12 @@
 -- The names of actions.
-use Rattle.std.proofs.Common.{◌≡◌, ℕ, Bool, true, false, cond, List, [], ◌∷◌, ◌++◌, Option, Some, None, refl, sym, ap, subst, map, ◌∙◌, inl, inr, filter, slice_get, zero, suc, ◌<◌, ◌≤◌, option_map, arith}
+use Rattle.std.proofs.Common.{◌≡◌, ℕ, Bool, true, false, cond, List, [], ◌∷◌, ◌++◌, Option, Some, None, refl, sym, ap, subst, map, ◌∙◌, inl, inr, filter, slice_get, zero, suc, ◌≤◌, option_map, arith}
 use Rattle.std.specs.List.{list_any, flat_map}
 use Rattle.std.proofs.lemmas.Bool.{both_ways}
 use Rattle.std.proofs.lemmas.Option.{slice_get-map}
 use Rattle.kp_base.specs.declared.ground.GroundName.{GroundName}
 use Rattle.kp_base.specs.declared.ground.Action.{Action}
 use Rattle.kp_base.specs.Lists.{Member, choices}
+use Rattle.kp_base.proofs.Lists.{member_at, map_member, append_member, flat_member, filter_member}
 use Rattle.kp_tree.specs.declared.tree.Word.{Word}
 use Rattle.kp_tree.specs.Trees as trees
 use Rattle.kp_tree.specs.Trees.{Typed, Domain, Problem}
@@ -14,13 +15,13 @@ use Rattle.kp_names.specs.Names.{Name, is_among}
 use Rattle.kp_names.specs.Types.{names, declared, types_of, object_lines, objects, is_of_type, range}
 use Rattle.kp_names.specs.Numbered.{Schema, Lifted}
 use Rattle.kp_names.specs.Lifted.{Instance, bindings, schema_of, is_instance}
-use Rattle.kp_names.specs.Numbering.{index_of, name_at, schema_names, numbered_range, numbered_schema, numbered_problem, named_step}
-use Rattle.kp_names.proofs.Lists.{member_at, map_member, append_member, flat_member, filter_member, among_member}
+use Rattle.kp_names.specs.Numbering.{index_of, name_at, numbered_range, numbered_schema, numbered_problem, named_step}
+use Rattle.kp_names.proofs.Lists.{among_member}
 use Rattle.kp_names.proofs.Indexes.{Distinct, at_index, distinct_once}
 use Rattle.kp_names.proofs.NumberedPlans.{named_once}
 use Rattle.kp_ground.specs.Static.{settled}
-use Rattle.kp_ground.specs.Ground.{kept_bindings, instance, kept_from, kept_instances, ground_atoms, ground_of}
-use Rattle.kp_ground.specs.Laws.{action_name, AreNamedBySteps, AreNamedOnce}
+use Rattle.kp_ground.specs.Ground.{kept_bindings, instance, kept_from, kept_instances, ground_atoms}
+use Rattle.kp_ground.specs.Laws.{AreNamedBySteps, AreNamedOnce}
 use Rattle.kp_ground.proofs.Kept.{Kept, kept_of, act, action_at}
 use Rattle.kp_ground.proofs.Plans.{kept_is_instance}
 

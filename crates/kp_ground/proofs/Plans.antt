@@ -5,15 +5,14 @@ use mathlib.Core.Path.{fun_ext}
 use Rattle.std.proofs.lemmas.Bool.{and_parts, and_from, false≢true}
 use Rattle.kp_base.specs.Lists.{Member}
 use Rattle.kp_base.specs.Steps as steps
+use Rattle.kp_base.proofs.Lists.{any_member, any_from, member_at, filter_member, same-true, same-refl, member_left}
 use Rattle.kp_names.specs.Names.{same}
 use Rattle.kp_names.specs.Numbered.{Schema, Lifted}
-use Rattle.kp_names.specs.Lifted.{State, Instance, literal_holds, bindings, schema_of, fits, is_instance, permits, applicable, state_by, next, succeeds, IsInitial}
-use Rattle.kp_names.proofs.Lists.{any_member, any_from, member_at, filter_member, same-true, same-refl}
+use Rattle.kp_names.specs.Lifted.{State, Instance, literal_holds, bindings, schema_of, fits, is_instance, permits, applicable, state_by, next, succeeds, IsPlan}
 use Rattle.kp_ground.specs.declared.flat.Atom.{Atom}
 use Rattle.kp_ground.specs.Static.{HasStaticTruth, settled}
 use Rattle.kp_ground.specs.Ground.{kept_instances, kept_literals, open_literals, IsNumbering, action_of, ground_over, seen_on}
-use Rattle.kp_ground.specs.Laws.{IsStepOf, IsPlanExact}
-use Rattle.kp_ground.proofs.Lists.{member_left}
+use Rattle.kp_ground.specs.Laws.{IsStepOf, IsGroundRun, IsPlanExact}
 use Rattle.kp_ground.proofs.Static.{static_at_first, static_kept}
 use Rattle.kp_ground.proofs.Step.{all_numbered, step_exact, kept_exact}
 use Rattle.kp_ground.proofs.Kept.{Kept, kept_of, member_of, action_there}
@@ -61,7 +60,7 @@ applied_kept l s truth i inst app = go (schema_of l i) refl inst app
         let m : Member (bindings a.params) i.objects = subst (Member (bindings a.params)) (sym (same-true i.objects r.0 r.2)) r.1 in
         record { schema = a; at = is; among = kept_exact l s truth a i.objects m h }
 
-number_at : {X : Type 0} (xs : List X) (x : X) → Member xs x → (n : ℕ) × (slice_get xs n ≡ Some x)
+pub number_at : {X : Type 0} (xs : List X) (x : X) → Member xs x → (n : ℕ) × (slice_get xs n ≡ Some x)
 number_at [] x m = absurd m
 number_at (y ∷ ys) x m = elim m [ inl e ↦ (0, ap Some e) | inr r ↦ let h = number_at ys x r in (suc h.0, h.1) ]
 
@@ -89,13 +88,17 @@ kept_are_instances l (i ∷ is) (n ∷ ns) e =
     let rest : map (slice_get (kept_instances l)) ns ≡ map Some is = cc in
     and_from (is_instance l i) (list_all (is_instance l) is) (kept_is_instance l i (kept_of l i (member_at (kept_instances l) n i at))) (kept_are_instances l is ns rest)
 
+-- kept instances whose actions succeed from each initial state are a plan, also where there is none
+pub runs_are_plans : (l : Lifted) (atoms : List Atom) → IsNumbering l atoms → (is : List Instance) (ns : List ℕ) → IsGroundRun l atoms is ns → IsPlan l is
+runs_are_plans l atoms numbering is ns run = record {
+  instances = kept_are_instances l is ns run.numbers;
+  reaches = λ s i. sym (run_exact l atoms numbering s (static_at_first l s i) is ns run.numbers) ∙ run.reaches s i;
+}
+
 pub plan_exact : IsPlanExact
 plan_exact l atoms numbering first init is = (
   λ plan.
       let n = numbers_of l first (static_at_first l first init) is plan.instances (plan.reaches first init) in
       (n.0, record { numbers = n.1; reaches = λ s i. run_exact l atoms numbering s (static_at_first l s i) is n.0 n.1 ∙ plan.reaches s i }),
-  λ r. record {
-    instances = kept_are_instances l is r.0 r.1.numbers;
-    reaches = λ s i. sym (run_exact l atoms numbering s (static_at_first l s i) is r.0 r.1.numbers) ∙ r.1.reaches s i;
-  },
+  λ r. runs_are_plans l atoms numbering is r.0 r.1,
 )

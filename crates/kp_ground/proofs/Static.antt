@@ -1,19 +1,20 @@
 -- Atoms of static predicates keep the truth that `:init` gives them.
-use Rattle.std.proofs.Common.{◌≡◌, ℕ, Bool, true, false, not, ◌&&◌, ◌||◌, List, [], ◌∷◌, ◌++◌, Option, Some, None, refl, sym, subst, map, ◌∙◌, inl, inr, nat_eq, eqb-true, eq-eqb, slice_get}
+use Rattle.std.proofs.Common.{◌≡◌, ℕ, Bool, true, false, not, ◌&&◌, ◌||◌, List, [], ◌∷◌, ◌++◌, Option, Some, None, refl, sym, subst, map, ◌∙◌, inl, inr, nat_eq, eqb-true, eq-eqb}
 use Rattle.std.specs.List.{list_any, list_all, flat_map}
 use Rattle.std.specs.Bool.{beq}
 use Rattle.std.proofs.lemmas.Bool.{and_parts, and_from, or_parts, and_left, and_right, false≢true, not-true, both_ways, cases_Bool, or_from}
 use Rattle.std.proofs.lemmas.List.Folds.{list_any-append}
-use Rattle.kp_base.specs.Lists.{Member, only_if, signed}
+use Rattle.std.proofs.Math.Bool.{and-true, or-false}
+use Rattle.kp_base.specs.Lists.{only_if, signed}
+use Rattle.kp_base.proofs.Lists.{any_member, any_from, any_weaker, all_member, bool_same, same-true, member_at}
 use Rattle.kp_names.specs.declared.lifted.GroundLit.{GroundLit}
 use Rattle.kp_names.specs.declared.lifted.Item.{Item}
 use Rattle.kp_names.specs.Names.{same}
 use Rattle.kp_names.specs.Numbered.{Eff, Effs, Schema, Lifted}
-use Rattle.kp_names.specs.Lifted.{State, Binding, Instance, object_of, ground, literal, same_literal, names_literal, holds, fires, all_fire, bindings, schema_of, state_by, item_holds, item_literals, is_of, is_named, IsInitial}
-use Rattle.kp_names.proofs.Lists.{any_member, any_from, any_weaker, all_member, bool_same, same-true, same-refl, member_at}
+use Rattle.kp_names.specs.Lifted.{State, Binding, object_of, ground, same_literal, names_literal, holds, fires, all_fire, bindings, schema_of, state_by, item_holds, item_literals, is_of, is_named}
 use Rattle.kp_ground.specs.Static.{changes, some_change, leaves_static, says, is_static, initially, HasStaticTruth}
 use Rattle.kp_ground.specs.Laws.{IsStaticAtFirst, IsStaticKept}
-use Rattle.kp_ground.proofs.Lists.{and-true, or-false, false_where_not_true}
+use Rattle.kp_ground.proofs.Lists.{false_where_not_true}
 
 -- ---- at first
 

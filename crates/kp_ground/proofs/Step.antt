@@ -1,29 +1,29 @@
 -- On the ground atoms, an action does what its instance does.
-use Rattle.std.proofs.Common.{◌≡◌, ℕ, Bool, true, false, not, ◌&&◌, ◌||◌, List, [], ◌∷◌, ◌++◌, Option, Some, None, refl, sym, ap, subst, map, ◌∙◌, inl, inr, nat_eq, eqb-true, eq-eqb, slice_get, filter}
+use Rattle.std.proofs.Common.{◌≡◌, ℕ, Bool, true, false, not, ◌&&◌, ◌||◌, List, [], ◌∷◌, ◌++◌, Option, Some, None, refl, sym, ap, subst, map, ◌∙◌, inl, inr, nat_eq, eqb-true, eq-eqb, slice_get}
 use Rattle.std.specs.List.{list_any, list_all, flat_map}
 use Rattle.std.specs.Bool.{beq}
 use Rattle.std.proofs.lemmas.Bool.{and_parts, and_from}
 use Rattle.std.proofs.lemmas.List.Folds.{list_any-append, list_all-map}
+use Rattle.std.proofs.Math.Bool.{and-true, and-false, or-false}
 use Rattle.kp_base.specs.declared.lit.Lit.{Lit}
 use Rattle.kp_base.specs.declared.ground.Effect.{Effect}
 use Rattle.kp_base.specs.Lists.{Member, only_if, signed, each_once}
 use Rattle.kp_base.specs.Lit.{positive, negative, same_lit}
-use Rattle.kp_base.specs.LitSet.{set_of}
 use Rattle.kp_base.specs.Steps as steps
+use Rattle.kp_base.proofs.Lists.{any_alike, all_alike, bool_same, same-true, same-refl, filter_member, member_left, member_right, member_flat_map, member_filter}
 use Rattle.kp_base.proofs.Sets.{all-set_of}
 use Rattle.kp_names.specs.declared.lifted.GroundLit.{GroundLit}
 use Rattle.kp_names.specs.Names.{same}
 use Rattle.kp_names.specs.Numbered.{Schema, Lifted}
 use Rattle.kp_names.specs.Lifted as lifted
 use Rattle.kp_names.specs.Lifted.{State, ground, same_literal, names_literal, literal_holds, bindings, permits, state_by}
-use Rattle.kp_names.proofs.Lists.{any_alike, all_alike, bool_same, same-true, same-refl, filter_member}
 use Rattle.kp_ground.specs.declared.flat.Atom.{Atom}
 use Rattle.kp_ground.specs.declared.flat.FlatEffect.{FlatEffect}
-use Rattle.kp_ground.specs.Static.{HasStaticTruth, settled, remaining}
+use Rattle.kp_ground.specs.Static.{settled, remaining}
 use Rattle.kp_ground.specs.Flattening.{flat, flat_of, flat_fires}
-use Rattle.kp_ground.specs.Ground.{kept_bindings, atom_of, effect_literals, flat_literals, kept_literals, open_literals, occurring, number_of, numbered, numbered_set, IsNumbering, numbered_effect, same_effect, lasting, ground_pre, ground_effects, action_of, at_atom, seen_on}
+use Rattle.kp_ground.specs.Ground.{kept_bindings, atom_of, effect_literals, flat_literals, kept_literals, open_literals, occurring, number_of, numbered, numbered_set, IsNumbering, numbered_effect, same_effect, lasting, ground_pre, action_of, at_atom, seen_on}
 use Rattle.kp_ground.specs.Laws.{IsStepExact, IsKeptExact}
-use Rattle.kp_ground.proofs.Lists.{beq-true, beq-refl, and-true, and-false, or-false, member_left, member_right, member_flat_map, member_filter}
+use Rattle.kp_ground.proofs.Lists.{beq-true, beq-refl}
 use Rattle.kp_ground.proofs.Flattening.{split, flat_exact}
 use Rattle.kp_ground.proofs.Effects.{fires-each_once, lasting_adds, lasting_deletes}
 

@@ -1,5 +1,5 @@
 -- The laws that join a problem by number with its ground problem.
-use Rattle.std.specs.Prelude.{◌≡◌, ◌↔◌, ◌⊎◌, ℕ, Bool, true, false, ◌&&◌, List, [], ◌∷◌, Option, Some, None, option_map, map, slice_get}
+use Rattle.std.specs.Prelude.{◌≡◌, ◌↔◌, ℕ, true, ◌&&◌, List, [], ◌∷◌, Option, Some, option_map, map, slice_get}
 use Rattle.std.specs.List.{list_all}
 use Rattle.kp_base.specs.declared.ground.GroundName.{GroundName}
 use Rattle.kp_base.specs.declared.ground.Ground.{Ground}
@@ -7,7 +7,6 @@ use Rattle.kp_base.specs.Lists.{Member}
 use Rattle.kp_base.specs.Steps as steps
 use Rattle.kp_tree.specs.declared.tree.Word.{Word}
 use Rattle.kp_tree.specs.Trees.{Domain, Problem}
-use Rattle.kp_names.specs.declared.lifted.GroundLit.{GroundLit}
 use Rattle.kp_names.specs.Faults.{HasNoFault}
 use Rattle.kp_names.specs.Numbered.{Cond, Eff, Schema, Lifted}
 use Rattle.kp_names.specs.Lifted.{State, Binding, Instance, literal_holds, holds, fires, bindings, permits, state_by, next, IsInitial, IsPlan}

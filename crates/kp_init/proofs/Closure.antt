@@ -1,5 +1,5 @@
 -- The closure over the states of the first n atoms is the closure over all states.
-use Rattle.std.proofs.Common.{◌≡◌, ℕ, Bool, true, false, not, ◌&&◌, cond, List, [], ◌∷◌, ◌++◌, refl, sym, ap, subst, map, ◌∙◌, inl, inr, filter, nat_lt, ◌<◌, ◌≤◌, ◌+◌, ◌*◌, zero, suc, arith, replicate, slice_index_or, if◌then◌else◌}
+use Rattle.std.proofs.Common.{◌≡◌, ℕ, Bool, true, false, not, ◌&&◌, cond, List, [], ◌∷◌, refl, sym, ap, subst, map, ◌∙◌, inl, inr, filter, nat_lt, ◌<◌, ◌≤◌, ◌+◌, ◌*◌, zero, suc, arith, replicate, slice_index_or}
 use Rattle.std.specs.List.{list_all, list_any, flat_map, range_with_len}
 use Rattle.std.proofs.lemmas.Bool.{and_parts, and_from, lt-ltb, ltb-true, cases_lt}
 use Rattle.kp_base.specs.declared.lit.Lit.{Lit}
@@ -8,11 +8,9 @@ use Rattle.kp_base.specs.declared.ground.Initial.{Initial}
 use Rattle.kp_base.specs.Lists.{Member, choices}
 use Rattle.kp_base.specs.Lit.{positive, negative, code_of}
 use Rattle.kp_base.specs.LitSet.{IsAscending}
-use Rattle.kp_base.specs.Steps.{State, holds, has, is_model}
-use Rattle.kp_base.specs.Entailed.{Entails}
+use Rattle.kp_base.specs.Steps.{State, holds, is_model}
+use Rattle.kp_base.proofs.Lists.{any_alike, all_alike, all_member, filter_member, member_map, flat_member, all_from, member_flat_map, member_filter}
 use Rattle.kp_base.proofs.Lits.{has-member, member-has}
-use Rattle.kp_names.proofs.Lists.{any_alike, all_alike, all_member, filter_member, map_member, member_map, flat_member}
-use Rattle.kp_ground.proofs.Lists.{all_from, member_left, member_right, member_flat_map, member_filter}
 use Rattle.kp_init.specs.Closure.{literals, state_of, states, models_of, closure, are_below, IsOver, IsClosureExact}
 use Rattle.kp_init.proofs.Runs.{below, SameBelow, holds_same, all_same}
 
@@ -116,8 +114,10 @@ any_same n s t same ls h = any_alike (holds s) (holds t) ls (λ l m. holds_same 
 
 model_same : (i : Initial) (n : ℕ) → IsOver n i → (s t : State) → SameBelow n s t → is_model i s ≡ is_model i t
 model_same i n over s t same =
-    rw (all_alike (list_any (holds s)) (list_any (holds t)) i.clauses (λ c m. any_same n s t same c (all_member (are_below n) i.clauses c m over.clauses)),
-        all_alike (λ (p : AtomId). not (s p.0)) (λ p. not (t p.0)) i.closed (λ p m. ap not (same p.0 (ltb-true p.0 n (all_member (λ (p : AtomId). nat_lt p.0 n) i.closed p m over.closed))))) refl
+    rw (
+      all_alike (list_any (holds s)) (list_any (holds t)) i.clauses (λ c m. any_same n s t same c (all_member (are_below n) i.clauses c m over.clauses)),
+      all_alike (λ (p : AtomId). not (s p.0)) (λ p. not (t p.0)) i.closed (λ p m. ap not (same p.0 (ltb-true p.0 n (all_member (λ (p : AtomId). nat_lt p.0 n) i.closed p m over.closed)))),
+    ) refl
 
 -- ---- the law
 

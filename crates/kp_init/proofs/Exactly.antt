@@ -1,18 +1,19 @@
 -- The clauses that say that exactly one of some literals holds.
-use Rattle.std.proofs.Common.{◌≡◌, Bool, true, false, not, ◌&&◌, ◌||◌, List, [], ◌∷◌, ◌++◌, refl, sym, ap, subst, map, ◌∙◌, inl, inr}
+use Rattle.std.proofs.Common.{◌≡◌, Bool, true, false, not, ◌&&◌, ◌||◌, List, [], ◌∷◌, refl, sym, ap, subst, map, ◌∙◌, inl, inr}
 use Rattle.std.specs.List.{list_any, list_all}
 use Rattle.std.proofs.lemmas.Bool.{and_parts, and_from, or_left, or_right, both_ways, not-true}
 use Rattle.std.proofs.lemmas.List.Folds.{list_all-append}
+use Rattle.std.proofs.Math.Bool.{or-false}
 use Rattle.kp_base.specs.declared.lit.Lit.{Lit}
-use Rattle.kp_base.specs.Lists.{Member, signed, each_once}
+use Rattle.kp_base.specs.Lists.{Member, each_once}
 use Rattle.kp_base.specs.Lit.{negated, same_lit}
 use Rattle.kp_base.specs.LitSet.{set_of}
-use Rattle.kp_base.specs.Steps.{State, Facts, holds}
+use Rattle.kp_base.specs.Steps.{State, holds}
+use Rattle.kp_base.proofs.Lists.{any_member, any_from, all_member, bool_same, all_from}
 use Rattle.kp_base.proofs.Lits.{same_lit-true, same_lit-refl, holds-negated}
 use Rattle.kp_base.proofs.Once.{any-each_once}
 use Rattle.kp_base.proofs.Sets.{any-set_of}
-use Rattle.kp_names.proofs.Lists.{any_member, any_from, all_member, bool_same}
-use Rattle.kp_ground.proofs.Lists.{or-false, all_from, false_where_not_true}
+use Rattle.kp_ground.proofs.Lists.{false_where_not_true}
 use Rattle.kp_init.specs.Initial.{not_both, exactly_one}
 use Rattle.kp_init.proofs.Lists.{all-each_once, Once, each_once_is_once}
 

@@ -1,18 +1,15 @@
 -- Tests of lists with each element once.
-use Rattle.std.proofs.Common.{◌≡◌, Bool, true, false, not, ◌&&◌, ◌||◌, cond, List, [], ◌∷◌, filter, refl, sym, ap, ◌∙◌}
+use Rattle.std.proofs.Common.{◌≡◌, Bool, true, false, not, cond, List, [], ◌∷◌, filter, refl, sym, ap, ◌∙◌}
 use Rattle.std.specs.List.{list_any, list_all}
 use Rattle.std.proofs.lemmas.Bool.{or_parts, or_from}
 use Rattle.kp_base.specs.Lists.{each_once}
+use Rattle.kp_base.proofs.Lists.{any-not}
+use Rattle.kp_base.proofs.Lits.{not_not}
 use Rattle.kp_base.proofs.Once.{any-each_once}
 
 -- all pass where none fails
-pub all-any : {X : Type 0} (p : X → Bool) (xs : List X) → list_all p xs ≡ not (list_any (λ x. not (p x)) xs)
-all-any p [] = refl
-all-any p (x ∷ xs) = rw (all-any p xs) (both (p x) (list_any (λ x. not (p x)) xs))
-  where
-    both : (a b : Bool) → (a && not b) ≡ not (not a || b)
-    both true b = refl
-    both false b = refl
+all-any : {X : Type 0} (p : X → Bool) (xs : List X) → list_all p xs ≡ not (list_any (λ x. not (p x)) xs)
+all-any p xs = sym (not_not (list_all p xs)) ∙ ap not (sym (any-not p (λ x. not (p x)) xs (λ x. refl)))
 
 pub all-each_once : {X : Type 0} (same : X → X → Bool) (p : X → Bool) → ((x y : X) → same x y ≡ true → p x ≡ p y) → (xs : List X) → list_all p (each_once same xs) ≡ list_all p xs
 all-each_once same p alike xs =

@@ -3,23 +3,23 @@ use Rattle.std.proofs.Common.{◌≡◌, ℕ, Bool, true, false, not, ◌&&◌, 
 use Rattle.std.specs.List.{list_any, list_all, flat_map}
 use Rattle.std.proofs.lemmas.Bool.{and_parts, and_from, or_left, false≢true, both_ways, cases_Bool, not-true}
 use Rattle.std.proofs.lemmas.List.Folds.{list_all-append, list_all-map}
-use Rattle.kp_base.specs.declared.lit.Lit.{Lit}
+use Rattle.std.proofs.Math.Bool.{or-false, and-true}
 use Rattle.kp_base.specs.declared.lit.AtomId.{AtomId}
 use Rattle.kp_base.specs.Lists.{Member, signed, only_if}
 use Rattle.kp_base.specs.Lit.{same_lit}
 use Rattle.kp_base.specs.Steps as steps
 use Rattle.kp_base.specs.Steps.{is_model}
+use Rattle.kp_base.proofs.Lists.{any_member, any_from, all_member, any_alike, all_alike, any_map, bool_same, member_at, filter_member, same-true, same-refl, all_from, member_left, member_right, member_flat_map, member_filter}
 use Rattle.kp_base.proofs.Sets.{any-set_of}
 use Rattle.kp_names.specs.declared.lifted.GroundLit.{GroundLit}
 use Rattle.kp_names.specs.declared.lifted.Item.{Item}
 use Rattle.kp_names.specs.Names.{same}
 use Rattle.kp_names.specs.Numbered.{Lifted}
 use Rattle.kp_names.specs.Lifted.{State, literal_holds, same_literal, one_holds, item_holds, item_literals, is_of, is_named, IsInitial}
-use Rattle.kp_names.proofs.Lists.{any_member, any_from, all_member, any_alike, all_alike, any_map, bool_same, member_at, filter_member, same-true, same-refl}
 use Rattle.kp_ground.specs.declared.flat.Atom.{Atom}
 use Rattle.kp_ground.specs.Static.{is_static, leaves_static, says, initially}
 use Rattle.kp_ground.specs.Ground.{atom_of, same_atom, kept_literals, open_literals, number_of, numbered, numbered_set, at_atom, seen_on, IsNumbering}
-use Rattle.kp_ground.proofs.Lists.{or-false, and-true, all_from, false_where_not_true, member_left, member_right, member_flat_map, member_filter}
+use Rattle.kp_ground.proofs.Lists.{false_where_not_true}
 use Rattle.kp_ground.proofs.Static.{static_parts, static_at_first}
 use Rattle.kp_ground.proofs.Atoms.{same_atom-true, same_atom-refl, number_there}
 use Rattle.kp_ground.proofs.Step.{Covered, holds_numbered, same_numbered, same_literal-true, same_literal-refl}

@@ -1,5 +1,5 @@
 -- Plans, and runs of actions from each model.
-use Rattle.std.proofs.Common.{◌≡◌, ℕ, Bool, true, false, not, ◌&&◌, List, [], ◌∷◌, ◌++◌, Option, Some, None, refl, sym, ap, subst, map, ◌∙◌, nat_lt, ◌<◌, slice_get, length, filter, option_map}
+use Rattle.std.proofs.Common.{◌≡◌, ℕ, Bool, true, false, not, ◌&&◌, List, [], ◌∷◌, ◌++◌, Option, Some, None, refl, sym, ap, subst, map, ◌∙◌, nat_lt, ◌<◌, slice_get, length, option_map}
 use Rattle.std.specs.List.{list_all, flat_map}
 use Rattle.std.proofs.lemmas.Bool.{and_parts, and_from, lt-ltb, ltb-true}
 use Rattle.std.proofs.lemmas.Option.{slice_get_within}
@@ -13,6 +13,7 @@ use Rattle.kp_base.specs.Lists.{Member, signed, each_once, only_if}
 use Rattle.kp_base.specs.Lit.{positive, negative, negated, same_lit}
 use Rattle.kp_base.specs.LitSet.{set_of}
 use Rattle.kp_base.specs.Steps as steps
+use Rattle.kp_base.proofs.Lists.{any_alike, all_alike, all_member, member_at, flat_member, all_from, member_left, member_right, member_flat_map}
 use Rattle.kp_base.proofs.Once.{all_filter, all_each_once}
 use Rattle.kp_base.proofs.Sets.{all-set_of}
 use Rattle.kp_tree.specs.declared.tree.Word.{Word}
@@ -20,24 +21,27 @@ use Rattle.kp_tree.specs.Trees.{Domain, Problem}
 use Rattle.kp_names.specs.declared.lifted.GroundLit.{GroundLit}
 use Rattle.kp_names.specs.declared.lifted.Item.{Item}
 use Rattle.kp_names.specs.Numbered.{Schema, Lifted}
-use Rattle.kp_names.specs.Lifted.{Instance, item_literals}
+use Rattle.kp_names.specs.Lifted.{Instance, IsPlan}
+use Rattle.kp_names.specs.Faults.{HasNoFault}
 use Rattle.kp_names.specs.Steps.{Step}
+use Rattle.kp_names.specs.Plans.{Solves}
 use Rattle.kp_names.specs.Numbering.{numbered_problem, named_step}
-use Rattle.kp_names.proofs.Lists.{any_alike, all_alike, all_member, member_at, map_map, flat_member}
+use Rattle.kp_names.specs.NumberLaws.{is_plain_goal}
 use Rattle.kp_names.proofs.NumberedPlans.{plan_numbered}
+use Rattle.kp_names.proofs.PlainGoals.{goals_plain}
+use Rattle.kp_names.proofs.Texts.{solves_theirs}
 use Rattle.kp_ground.specs.declared.flat.Atom.{Atom}
 use Rattle.kp_ground.specs.Static.{remaining}
 use Rattle.kp_ground.specs.Flattening.{flat, flat_of}
 use Rattle.kp_ground.specs.Ground.{kept_bindings, kept_instances, atom_of, effect_literals, flat_literals, kept_literals, open_literals, ground_atoms, number_of, numbered, numbered_set, IsNumbering, numbered_effect, same_effect, is_idle, ground_pre, ground_effects, action_of, actions_of, ground_over, ground_of, seen_on}
 use Rattle.kp_ground.specs.Laws.{action_name}
-use Rattle.kp_ground.proofs.Lists.{all_from, member_left, member_right, member_flat_map}
 use Rattle.kp_ground.proofs.Atoms.{atoms_are_numbered, number_there}
 use Rattle.kp_ground.proofs.Step.{Covered, occurs}
-use Rattle.kp_ground.proofs.Plans.{plan_exact}
+use Rattle.kp_ground.proofs.Plans.{runs_are_plans, plan_exact}
 use Rattle.kp_ground.proofs.Names.{named_by_steps}
-use Rattle.kp_init.specs.Initial.{not_both, exactly_one, is_ground, item_clauses, initial_over}
-use Rattle.kp_init.specs.Closure.{are_below, IsOver}
-use Rattle.kp_init.specs.Laws.{IsInitialOver, IsPlanByModels, IsPlanByName}
+use Rattle.kp_init.specs.Initial.{not_both, is_ground, item_clauses}
+use Rattle.kp_init.specs.Closure.{are_below}
+use Rattle.kp_init.specs.Laws.{IsModelRun, IsNamedRun, IsInitialOver, IsPlanByModels, IsPlanByName, IsPlanOfTexts}
 use Rattle.kp_init.proofs.Models.{initial_exact, list_covered, ground_covered, closed_all}
 
 -- ---- runs read the atoms below n alone
@@ -144,6 +148,11 @@ initial_is_over l atoms numbering = record {
 
 -- ---- plans
 
+-- kept instances whose actions succeed from each model are a plan, also where there is none
+pub model_runs_are_plans : (l : Lifted) (atoms : List Atom) → IsNumbering l atoms → (is : List Instance) (ns : List ℕ) → IsModelRun l atoms is ns → IsPlan l is
+model_runs_are_plans l atoms numbering is ns run =
+    runs_are_plans l atoms numbering is ns (record { numbers = run.numbers; reaches = λ s i. run.plan (seen_on atoms s) ((initial_exact l atoms numbering).model s i) })
+
 pub plan_by_models : IsPlanByModels
 plan_by_models l atoms numbering first model is =
     let models = initial_exact l atoms numbering in
@@ -159,7 +168,7 @@ plan_by_models l atoms numbering first model is =
                   sym (run_same (length atoms) (ground_over l atoms) (actions_below l atoms numbering) (goal_below l atoms numbering) (seen_on atoms s.0) g s.2 r.0) ∙ r.1.reaches s.0 s.1;
             },
           ),
-      λ r. plans.1 (r.0, record { numbers = r.1.numbers; reaches = λ s i. r.1.plan (seen_on atoms s) (models.model s i) }),
+      λ r. model_runs_are_plans l atoms numbering is r.0 r.1,
     )
 
 -- ---- plans by name
@@ -193,16 +202,26 @@ instances_there d p (n ∷ ns) (i ∷ steps') e =
         unsome : (a b : GroundName) → Some a ≡ Some b → a ≡ b
         unsome a b e = cc
 
+-- the names of actions that succeed from each model are a plan, also where there is none
+pub named_runs_are_plans : (d : Domain Word) (p : Problem Word) → HasNoFault d p → is_plain_goal p.goal ≡ true → (is : List Step) (ns : List ℕ) → IsNamedRun d p is ns → Solves d p is
+named_runs_are_plans d p no_fault plain steps' ns run =
+    let l = numbered_problem d p in
+    let r = instances_there d p ns steps' run.names in
+    (plan_numbered d p no_fault plain steps').1 (r.0, r.1, model_runs_are_plans l (ground_atoms l) (atoms_are_numbered l).numbering r.0 ns (record { numbers = r.2; plan = run.plan }))
+
 pub plan_by_name : IsPlanByName
 plan_by_name d p no_fault plain first model steps' =
-    let l = numbered_problem d p in
-    let by_number = plan_numbered d p no_fault plain steps' in
-    let by_models = plan_by_models l (ground_atoms l) (atoms_are_numbered l).numbering first model in (
+    let l = numbered_problem d p in (
       λ plan.
-          let r = by_number.0 plan in
-          let g = (by_models r.0).0 r.2 in
+          let r = (plan_numbered d p no_fault plain steps').0 plan in
+          let g = (plan_by_models l (ground_atoms l) (atoms_are_numbered l).numbering first model r.0).0 r.2 in
           (g.0, record { names = names_there d p g.0 r.0 g.1.numbers ∙ ap (map Some) r.1; plan = g.1.plan }),
-      λ g.
-          let r = instances_there d p g.0 steps' g.1.names in
-          by_number.1 (r.0, r.1, (by_models r.0).1 (g.0, record { numbers = r.2; plan = g.1.plan })),
+      λ g. named_runs_are_plans d p no_fault plain steps' g.0 g.1,
+    )
+
+pub plan_of_texts : IsPlanOfTexts
+plan_of_texts domain_text problem_text x first model is =
+    let by_name = plan_by_name x.domain x.problem x.no_fault (goals_plain problem_text x.problem x.problem_reads) first model is in (
+      λ plan. by_name.0 (solves_theirs domain_text problem_text x is plan),
+      λ run. record { has = x; solves = by_name.1 run },
     )

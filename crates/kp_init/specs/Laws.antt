@@ -6,7 +6,8 @@ use Rattle.kp_tree.specs.declared.tree.Word.{Word}
 use Rattle.kp_tree.specs.Trees.{Domain, Problem}
 use Rattle.kp_names.specs.Faults.{HasNoFault}
 use Rattle.kp_names.specs.Steps.{Step}
-use Rattle.kp_names.specs.Plans.{Solves}
+use Rattle.kp_names.specs.Plans as plans
+use Rattle.kp_names.specs.Plans.{HasProblem, Solves}
 use Rattle.kp_names.specs.Numbered.{Lifted}
 use Rattle.kp_names.specs.Lifted.{State, Instance, IsInitial, IsPlan}
 use Rattle.kp_names.specs.Numbering.{numbered_problem}
@@ -50,3 +51,7 @@ pub record IsNamedRun (d : Domain Word) (p : Problem Word) (is : List Step) (ns 
 -- where there is a model, the plans of two trees are the names of the lists of actions that succeed from each model
 abbrev pub IsPlanByName : Type 0
 IsPlanByName = (d : Domain Word) (p : Problem Word) → HasNoFault d p → is_plain_goal p.goal ≡ true → (first : steps.State) → is_model (initial_of (numbered_problem d p)) first ≡ true → (is : List Step) → Solves d p is ↔ ((ns : List ℕ) × IsNamedRun d p is ns)
+
+-- and for two texts that have a problem: their plans are the names of the lists of actions that succeed from each model
+abbrev pub IsPlanOfTexts : Type 0
+IsPlanOfTexts = (domain_text problem_text : List ℕ) (x : HasProblem domain_text problem_text) → (first : steps.State) → is_model (initial_of (numbered_problem x.domain x.problem)) first ≡ true → (is : List Step) → plans.IsPlan domain_text problem_text is ↔ ((ns : List ℕ) × IsNamedRun x.domain x.problem is ns)

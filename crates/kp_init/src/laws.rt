@@ -1,6 +1,6 @@
 //! Laws of the initial formula, each proved as the contract of a function that does nothing.
 
-ghost use Rattle.kp_init.specs.Laws.{IsInitialExact, IsInitialOver, IsPlanByModels, IsPlanByName};
+ghost use Rattle.kp_init.specs.Laws.{IsInitialExact, IsInitialOver, IsPlanByModels, IsPlanByName, IsPlanOfTexts};
 ghost use Rattle.kp_init.specs.Closure.{IsClosureExact};
 
 /// The models are the initial states, one for one.
@@ -21,6 +21,11 @@ pub fn plans_are_runs_from_models()
 /// Where there is a model, the plans of two trees are the names of the lists of actions that succeed from each model.
 pub fn plans_by_name_are_runs_from_models()
     ensures { IsPlanByName }
+{}
+
+/// Where there is a model, the plans of two texts that have a problem are the names of the lists of actions that succeed from each model.
+pub fn plans_of_texts_are_runs_from_models()
+    ensures { IsPlanOfTexts }
 {}
 
 /// Where the formula and the tag speak of the first n atoms alone, the closure over their states is the tag's.

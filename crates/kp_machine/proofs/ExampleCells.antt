@@ -1,5 +1,5 @@
 -- Three cells in a row, something in just one of them, and the step to the left: each premise of soundness is met.
-use Rattle.std.proofs.Common.{◌≡◌, ◌<◌, ◌≤◌, ℕ, zero, suc, Bool, true, false, ◌&&◌, List, [], ◌∷◌, codes, slice_get, nat_lt, nat_eq, ltb-true, eqb-true, refl, sym, subst, ◌∙◌, inl, inr, arith}
+use Rattle.std.proofs.Common.{◌≡◌, ◌<◌, ◌≤◌, ℕ, zero, suc, Bool, true, false, ◌&&◌, List, [], ◌∷◌, Some, codes, slice_get, nat_lt, nat_eq, ltb-true, eqb-true, refl, sym, subst, ◌∙◌, inl, inr, arith}
 use Rattle.std.proofs.lemmas.Bool.{and_parts, and_from, and_left, false≢true, false_from_ne_true}
 use Rattle.std.specs.List.{list_any, list_all}
 use Rattle.kp_base.specs.declared.lit.Lit.{Lit}
@@ -16,7 +16,7 @@ use Rattle.kp_base.specs.Lit.{positive, negative}
 use Rattle.kp_base.specs.Steps.{State, IsBounded, holds, has, is_model, fires, after, runs, state_after, IsGroundPlan}
 use Rattle.kp_base.specs.Entailed.{tag_holds, Entails, IsConsistent, IsClosure, IsValid, AreValid, IsTable}
 use Rattle.kp_base.specs.Clashes.{clashes_at, NeverClashes, is_one_sided}
-use Rattle.kp_base.specs.Machine.{MachineStep, facts_after, accepts, stripped}
+use Rattle.kp_base.specs.Machine.{MachineStep, start, facts_after, after_merge, accepts, stripped}
 use Rattle.kp_base.proofs.Lists.{all_member}
 use Rattle.kp_base.proofs.Lits.{member-has}
 use Rattle.kp_machine.specs.Laws.{facts_after_operator}
@@ -88,6 +88,13 @@ early_merge_is_refused = refl
 
 no_action_is_refused : accepts cells table (MachineStep.act 1 ∷ []) ≡ false
 no_action_is_refused = refl
+
+-- a merge makes its target known under tag 0, and under no other tag
+merged_at_0 : after_merge (Some (record { target = positive 0; tags = 1 ∷ [] })) (start table) 0 (positive 0) ≡ true
+merged_at_0 = refl
+
+merged_nowhere_else : after_merge (Some (record { target = positive 0; tags = 1 ∷ [] })) (start table) 3 (positive 0) ≡ false
+merged_nowhere_else = refl
 
 -- ---- what persists
 
@@ -175,6 +182,10 @@ valid = record { each = each }
 -- without the third tag a merge isn't valid
 two_tags : IsValid one_of_three table (record { target = positive 0; tags = 1 ∷ 2 ∷ [] }) → ⊥
 two_tags v = false≢true (v (alone 2) refl)
+
+-- nor is one with a tag that isn't there
+no_such_tag : IsValid one_of_three table (record { target = positive 0; tags = 7 ∷ [] }) → ⊥
+no_such_tag v = false≢true (v (alone 2) refl)
 
 -- a literal of the three atoms, by cases
 by_literal : (P : Lit → Type 0) → P (positive 0) → P (negative 0) → P (positive 1) → P (negative 1) → P (positive 2) → P (negative 2) → (l : Lit) → l.atom.0 < 3 → P l

@@ -39,7 +39,7 @@ small = record {
 }
 
 -- p is stated, and q closed
-abbrev start_of_small : Initial
+abbrev pub start_of_small : Initial
 start_of_small = record { clauses = (positive 0 ∷ []) ∷ []; closed = record { 0 = 1 } ∷ [] }
 
 abbrev closure : List Lit
@@ -52,7 +52,7 @@ only_p (suc p) = false
 one_sided : list_all is_one_sided small.actions ≡ true
 one_sided = refl
 
-never : NeverClashes small start_of_small
+pub never : NeverClashes small start_of_small
 never = never_clashes small start_of_small refl
 
 -- ---- the closure of the empty tag
@@ -65,7 +65,7 @@ start_is_so s h = by (s 0) (s 1) refl refl h
     by true true e f h = absurd (false≢true (rw (e, f) at h))
     by false b e f h = absurd (false≢true (rw e at h))
 
-closure_is_right : IsClosure 2 start_of_small [] closure
+pub closure_is_right : IsClosure 2 start_of_small [] closure
 closure_is_right = record {
   of_atoms = λ l h. below_all 2 closure refl l (member-has closure l h);
   entailed = λ l h s model all. all_member (holds s) closure l (member-has closure l h) (both s (start_is_so s model));

@@ -16,3 +16,4 @@ pub mod ExampleFaults
 pub mod ExampleStates
 pub mod ExampleStrip
 pub mod ExampleNumbered
+pub mod PlainGoals

@@ -1,7 +1,9 @@
 -- What a problem means by name it means by number.
-use Rattle.std.specs.Prelude.{◌≡◌, ◌↔◌, ◌<◌, Bool, true, false, ◌&&◌, List, [], map, length, slice_index}
+use Rattle.std.specs.Prelude.{◌≡◌, ◌↔◌, ◌<◌, ℕ, Bool, true, false, ◌&&◌, List, [], map, length, slice_index}
 use Rattle.kp_tree.specs.declared.tree.Word.{Word}
 use Rattle.kp_tree.specs.Trees.{Cond, Conds, Eff, Domain, Problem}
+use Rattle.kp_tree.specs.Grammar as grammar
+use Rattle.kp_tree.specs.PlainTexts.{ReadsAs}
 use Rattle.kp_names.specs.Names.{Name, is_among}
 use Rattle.kp_names.specs.Types.{objects}
 use Rattle.kp_names.specs.Faults.{cond_faults, eff_faults, HasNoFault}
@@ -45,6 +47,10 @@ abbrev mutual
   pub are_plain_goals : Conds Word → Bool
   are_plain_goals Conds.no_cond = true
   are_plain_goals (Conds.more_conds c cs) = is_plain_goal c && are_plain_goals cs
+
+-- what the grammar reads as a problem has such a goal
+abbrev pub GoalsArePlain : Type 0
+GoalsArePlain = (text : List ℕ) (p : Problem Word) → ReadsAs grammar.problem text p → is_plain_goal p.goal ≡ true
 
 -- the plans by name are the plans by number with names put back
 abbrev pub IsPlanNumbered : Type 0

@@ -1,7 +1,7 @@
 //! Laws of the definitions, each proved as the contract of a function that does nothing.
 
 ghost use Rattle.kp_names.specs.Encoding.{EncodedDecodes, DecodedIsEncoding};
-ghost use Rattle.kp_names.specs.NumberLaws.{IsHoldsNumbered, IsFiresNumbered, IsInitialNumbered, IsPlanNumbered, IsNamedOnce};
+ghost use Rattle.kp_names.specs.NumberLaws.{GoalsArePlain, IsHoldsNumbered, IsFiresNumbered, IsInitialNumbered, IsPlanNumbered, IsNamedOnce};
 ghost use Rattle.kp_names.specs.Places.{PlacesMeanNothing};
 ghost use Rattle.kp_names.specs.Plans.{HasOneProblem};
 ghost use Rattle.kp_names.specs.Types.{IsTypeTestExact};
@@ -60,4 +60,9 @@ pub fn plans_are_the_same_by_number()
 #[tactic(auto, using(crate::proofs::NumberedPlans::named_once))]
 pub fn instances_are_named_once()
     ensures { IsNamedOnce }
+{}
+
+/// By the grammar no equality stands in a goal.
+pub fn goals_have_no_equality()
+    ensures { GoalsArePlain }
 {}

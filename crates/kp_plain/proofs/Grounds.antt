@@ -9,19 +9,19 @@ use Rattle.std.proofs.lemmas.Grind.{flat_map-append, fold-append}
 use Rattle.kp_base.specs.declared.lit.Lit.{Lit}
 use Rattle.kp_base.specs.declared.ground.Effect.{Effect}
 use Rattle.kp_base.specs.declared.ground.Action.{Action}
-use Rattle.kp_base.specs.LitSet.{with_lit}
+use Rattle.kp_base.specs.LitSet.{with_lit, set_of}
 use Rattle.kp_tree.specs.declared.tree.Word.{Word}
 use Rattle.kp_tree.specs.Trees.{Schema, Domain, Problem}
-use Rattle.kp_base.specs.Lists.{only_if}
+use Rattle.kp_base.specs.Lists.{only_if, each_once}
 use Rattle.kp_names.specs.Names.{Name, same, is_among}
 use Rattle.kp_plain.specs.Ground as ground
 use Rattle.kp_base.specs.Lit.{same_lit}
 use Rattle.kp_base.proofs.Lists.{same-true, same-refl}
 use Rattle.kp_base.proofs.Lits.{same_lit-true}
 use Rattle.std.proofs.lemmas.Bool.{and_parts}
-use Rattle.kp_plain.specs.Ground.{Literal, is_named, place, declared, results_of, init_of, goal_of, stated, kept, light_pre, occurring, atoms_of, numbered, set_of, each_once, is_idle, lasting, nullary, known_of, start_of}
+use Rattle.kp_plain.specs.Ground.{Literal, is_named, place, declared, results_of, init_of, goal_of, stated, kept, light_pre, occurring, atoms_of, numbered, is_idle, lasting, nullary, known_of, start_of}
 use Rattle.kp_plain.specs.Grounding.{marked, names_from, numbers_from, literal_of, put_in, with_known, known_before, distinct, effect_of, effects_of, action_of}
-use Rattle.kp_plain.proofs.Names.{with_new, once, gathers_all, distinct_placed, or_true}
+use Rattle.kp_plain.proofs.Names.{with_new, gathers_all, distinct_placed, or_true}
 use Rattle.kp_plain.proofs.Marking.{mention, has_number, light, named_known}
 
 -- ---- atoms
@@ -76,12 +76,8 @@ distinct_fold : (ls done : List Lit) → distinct ls done ≡ fold (with_new sam
 distinct_fold [] done = refl
 distinct_fold (l ∷ ls) done = distinct_fold ls (with_new same_lit done l)
 
-once_is : (ls : List Lit) → once same_lit ls ≡ each_once ls
-once_is [] = refl
-once_is (l ∷ ls) = ap (λ ms. l ∷ filter (λ m. not (same_lit l m)) ms) (once_is ls)
-
-pub distinct_is : (ls : List Lit) → distinct ls [] ≡ each_once ls
-distinct_is ls = distinct_fold ls [] ∙ gathers_all same_lit same_lit-true ls ∙ once_is ls
+pub distinct_is : (ls : List Lit) → distinct ls [] ≡ each_once same_lit ls
+distinct_is ls = distinct_fold ls [] ∙ gathers_all same_lit same_lit-true ls
 
 pub effects_are : (results ls : List Lit) → flat_map (effect_of results) ls ≡ map (λ l. let e : Effect = record { cond = []; result = l } in e) (filter (λ l. not (is_idle results l)) ls)
 effects_are results [] = refl
@@ -168,10 +164,10 @@ module _ (d : Domain Word) (p : Problem Word) (occurs : List Bool) (found : (n :
   action_is : (s : Schema Word) → list_all occurs_in (light_pre d p s ++ results_of d s) ≡ true → action_of numbers (light d p s) ≡ ground.action_of d p s
   action_is s h =
       let parts = and_parts (list_all occurs_in (light_pre d p s)) (list_all occurs_in (results_of d s)) (sym (list_all-append occurs_in (light_pre d p s) (results_of d s)) ∙ h) in
-      let results : distinct (map (literal_of numbers) (map (mention (declared d)) (results_of d s))) [] ≡ each_once (map (numbered (atoms_of d p)) (results_of d s)) =
+      let results : distinct (map (literal_of numbers) (map (mention (declared d)) (results_of d s))) [] ≡ each_once same_lit (map (numbered (atoms_of d p)) (results_of d s)) =
       ap (λ ls. distinct ls []) (literals_are (results_of d s) parts.1) ∙ distinct_is (map (numbered (atoms_of d p)) (results_of d s)) in
       ap₂ (λ a b. let made : Action = record { name = nullary s.name.text; pre = a; effects = b } in made) (set_is (light_pre d p s) parts.0)
-      (ap effects_of results ∙ effects_are (each_once (map (numbered (atoms_of d p)) (results_of d s))) (each_once (map (numbered (atoms_of d p)) (results_of d s))))
+      (ap effects_of results ∙ effects_are (each_once same_lit (map (numbered (atoms_of d p)) (results_of d s))) (each_once same_lit (map (numbered (atoms_of d p)) (results_of d s))))
 
   actions_are : (ss : List (Schema Word)) → list_all occurs_in (flat_map (λ s. light_pre d p s ++ results_of d s) ss) ≡ true → map (action_of numbers) (map (light d p) ss) ≡ map (ground.action_of d p) ss
   actions_are [] h = refl

@@ -6,6 +6,7 @@ use Rattle.std.proofs.Math.Dec.{eqb-suc-suc, eqb-suc-zero, eqb-zero-suc}
 use Rattle.std.specs.List.{list_any, position_or_len}
 use Rattle.std.proofs.lemmas.List.{length-map}
 use Rattle.std.proofs.lemmas.List.Folds.{list_any-append}
+use Rattle.kp_base.specs.Lists.{each_once}
 use Rattle.kp_base.proofs.Lists.{same-true, same-refl}
 use Rattle.kp_names.specs.Names.{Name, same, is_among, distinct}
 use Rattle.kp_plain.specs.Ground.{place}
@@ -51,16 +52,11 @@ filter_twice {X} p q r h (x ∷ xs) = by (q x) (p x) refl (filter_twice p q r h 
 abbrev pub with_new : {X : Type 0} → (X → X → Bool) → List X → X → List X
 with_new eq done x = if list_any (eq x) done then done else done ++ x ∷ []
 
--- each where it stands first
-abbrev pub once : {X : Type 0} → (X → X → Bool) → List X → List X
-once eq [] = []
-once eq (x ∷ xs) = x ∷ filter (λ y. not (eq x y)) (once eq xs)
-
 -- it is none of these
 abbrev pub is_new : {X : Type 0} → (X → X → Bool) → List X → X → Bool
 is_new eq done y = not (list_any (eq y) done)
 
-pub gathers : {X : Type 0} (eq : X → X → Bool) → ((x y : X) → eq x y ≡ true → x ≡ y) → (done xs : List X) → fold (with_new eq) done xs ≡ done ++ filter (is_new eq done) (once eq xs)
+pub gathers : {X : Type 0} (eq : X → X → Bool) → ((x y : X) → eq x y ≡ true → x ≡ y) → (done xs : List X) → fold (with_new eq) done xs ≡ done ++ filter (is_new eq done) (each_once eq xs)
 gathers eq sound done [] = sym (append-nil done)
 gathers {X} eq sound done (x ∷ xs) = by (list_any (eq x) done) refl (λ d. gathers eq sound d xs)
   where
@@ -77,22 +73,22 @@ gathers {X} eq sound done (x ∷ xs) = by (list_any (eq x) done) refl (λ d. gat
     new : (y : X) → (not (eq x y) && is_new eq done y) ≡ is_new eq (done ++ x ∷ []) y
     new y = deny (eq x y) (list_any (eq y) done) ∙ ap not (ap (λ b. list_any (eq y) done || (b || false)) (both_ways eq sound x y) ∙ sym (list_any-append (eq y) done (x ∷ [])))
 
-    by : (b : Bool) → list_any (eq x) done ≡ b → ((d : List X) → fold (with_new eq) d xs ≡ d ++ filter (is_new eq d) (once eq xs))
-        → fold (with_new eq) (if b then done else done ++ x ∷ []) xs ≡ done ++ cond (not b) (x ∷ filter (is_new eq done) (filter (λ y. not (eq x y)) (once eq xs))) (filter (is_new eq done) (filter (λ y. not (eq x y)) (once eq xs)))
-    by true h rest = rest done ∙ ap (λ l. done ++ l) (sym (filter_twice (is_new eq done) (λ y. not (eq x y)) (is_new eq done) (old h) (once eq xs)))
+    by : (b : Bool) → list_any (eq x) done ≡ b → ((d : List X) → fold (with_new eq) d xs ≡ d ++ filter (is_new eq d) (each_once eq xs))
+        → fold (with_new eq) (if b then done else done ++ x ∷ []) xs ≡ done ++ cond (not b) (x ∷ filter (is_new eq done) (filter (λ y. not (eq x y)) (each_once eq xs))) (filter (is_new eq done) (filter (λ y. not (eq x y)) (each_once eq xs)))
+    by true h rest = rest done ∙ ap (λ l. done ++ l) (sym (filter_twice (is_new eq done) (λ y. not (eq x y)) (is_new eq done) (old h) (each_once eq xs)))
     by false h rest =
-        rest (done ++ x ∷ []) ∙ append_assoc done (x ∷ []) (filter (is_new eq (done ++ x ∷ [])) (once eq xs))
-        ∙ ap (λ l. done ++ x ∷ l) (sym (filter_twice (is_new eq done) (λ y. not (eq x y)) (is_new eq (done ++ x ∷ [])) new (once eq xs)))
+        rest (done ++ x ∷ []) ∙ append_assoc done (x ∷ []) (filter (is_new eq (done ++ x ∷ [])) (each_once eq xs))
+        ∙ ap (λ l. done ++ x ∷ l) (sym (filter_twice (is_new eq done) (λ y. not (eq x y)) (is_new eq (done ++ x ∷ [])) new (each_once eq xs)))
 
 all_new : {X : Type 0} (xs : List X) → filter (λ x. true) xs ≡ xs
 all_new [] = refl
 all_new (x ∷ xs) = ap (λ l. x ∷ l) (all_new xs)
 
 -- from none on
-pub gathers_all : {X : Type 0} (eq : X → X → Bool) → ((x y : X) → eq x y ≡ true → x ≡ y) → (xs : List X) → fold (with_new eq) [] xs ≡ once eq xs
-gathers_all eq sound xs = gathers eq sound [] xs ∙ all_new (once eq xs)
+pub gathers_all : {X : Type 0} (eq : X → X → Bool) → ((x y : X) → eq x y ≡ true → x ≡ y) → (xs : List X) → fold (with_new eq) [] xs ≡ each_once eq xs
+gathers_all eq sound xs = gathers eq sound [] xs ∙ all_new (each_once eq xs)
 
-names_once : (ns : List Name) → once same ns ≡ distinct ns
+names_once : (ns : List Name) → each_once same ns ≡ distinct ns
 names_once [] = refl
 names_once (n ∷ ns) = ap (λ l. n ∷ filter (λ y. not (same n y)) l) (names_once ns)
 

@@ -1,6 +1,6 @@
 -- The ground problem of a plain domain and a plain problem, by name.
 -- Plain files have no objects, equalities, conditional effects or uncertain facts; where a tree has them, they say nothing here.
-use Rattle.std.specs.Prelude.{ℕ, suc, Bool, true, false, not, ◌&&◌, ◌||◌, if◌then◌else◌, List, [], ◌∷◌, ◌++◌, map, filter, flat_map, fold}
+use Rattle.std.specs.Prelude.{ℕ, suc, Bool, true, false, not, ◌&&◌, ◌||◌, if◌then◌else◌, List, [], ◌∷◌, ◌++◌, map, filter, flat_map}
 use Rattle.std.specs.List.{list_any, list_all}
 use Rattle.std.specs.Bool.{beq}
 use Rattle.kp_base.specs.declared.lit.Lit.{Lit}
@@ -9,10 +9,10 @@ use Rattle.kp_base.specs.declared.ground.Effect.{Effect}
 use Rattle.kp_base.specs.declared.ground.Action.{Action}
 use Rattle.kp_base.specs.declared.ground.Ground.{Ground}
 use Rattle.kp_base.specs.Lit.{negated, same_lit}
-use Rattle.kp_base.specs.LitSet.{with_lit}
+use Rattle.kp_base.specs.LitSet.{set_of}
 use Rattle.kp_tree.specs.declared.tree.Word.{Word}
 use Rattle.kp_tree.specs.Trees.{Atom, Cond, Conds, no_cond, more_conds, Eff, Effs, no_eff, more_effs, Item, Items, no_item, more_items, Schema, Domain, Problem}
-use Rattle.kp_base.specs.Lists.{only_if, signed}
+use Rattle.kp_base.specs.Lists.{only_if, signed, each_once}
 use Rattle.kp_names.specs.Names.{Name, same, is_among, distinct}
 
 -- ---- literals of the trees
@@ -139,16 +139,7 @@ place (m ∷ ms) n = if same n m then 0 else suc (place ms n)
 abbrev pub numbered : List Name → Literal → Lit
 numbered atoms l = record { atom = record { 0 = place atoms l.head }; positive = l.positive }
 
--- the set of some literals, in ascending order of code
-abbrev pub set_of : List Lit → List Lit
-set_of ls = fold (λ set l. with_lit l set) [] ls
-
 -- ---- effects
-
--- each literal once, where it stands first
-abbrev pub each_once : List Lit → List Lit
-each_once [] = []
-each_once (l ∷ ls) = l ∷ filter (λ m. not (same_lit l m)) (each_once ls)
 
 -- a delete of an atom that is added too, which changes nothing
 abbrev pub is_idle : List Lit → Lit → Bool
@@ -169,7 +160,7 @@ abbrev pub action_of : Domain Word → Problem Word → Schema Word → Action
 action_of d p s = record {
   name = nullary s.name.text;
   pre = set_of (map (numbered (atoms_of d p)) (light_pre d p s));
-  effects = lasting (each_once (map (numbered (atoms_of d p)) (results_of d s)));
+  effects = lasting (each_once same_lit (map (numbered (atoms_of d p)) (results_of d s)));
 }
 
 -- the ground problem

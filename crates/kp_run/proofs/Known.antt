@@ -10,7 +10,7 @@ use Rattle.std.proofs.Math.Bool.{or-false}
 use Rattle.std.proofs.lemmas.Map.Views.{Contains-from_any, list_any-from_Contains}
 use Rattle.kp_base.proofs.Lists.{same-true, same-refl}
 use Rattle.kp_run.specs.Among.{is_among, all_among, with_name}
-use Rattle.kp_run.specs.Names.{AllDeclared}
+use Rattle.kp_given.specs.Names.{AllDeclared}
 
 -- ---- on truth values
 

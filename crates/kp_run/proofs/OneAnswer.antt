@@ -7,7 +7,7 @@ use Rattle.kp_tree.specs.Plain as forms
 use Rattle.kp_outside.specs.Outside.{FileMap}
 use Rattle.kp_run.specs.declared.status.Status.{Status}
 use Rattle.kp_run.specs.Command.{Command}
-use Rattle.kp_run.specs.PlainFiles.{IsDomain, IsProblem, IsContradictory}
+use Rattle.kp_given.specs.PlainFiles.{IsDomain, IsProblem, IsContradictory}
 use Rattle.kp_run.specs.Due.{Answers, no_domain, no_problem, no_initial_state, done, AnswersFiles, IsDue, usage, answer}
 use Rattle.kp_run.proofs.Reading.{same_tree}
 use Rattle.kp_run.proofs.Reporting.{one_command}

@@ -15,8 +15,8 @@ use Rattle.kp_tree.specs.Plain as forms
 use Rattle.kp_tree.specs.Reading.{Reads}
 use Rattle.kp_tree.specs.PlainTexts.{IsPlain}
 use Rattle.kp_run.specs.Among.{is_among, all_among, are_new, with_name}
-use Rattle.kp_run.specs.Names.{predicate_names, schema_names, domain_heads, problem_heads}
-use Rattle.kp_run.specs.PlainFiles.{IsWellNamed, IsDomain, IsProblem}
+use Rattle.kp_given.specs.Names.{predicate_names, schema_names, domain_heads, problem_heads}
+use Rattle.kp_given.specs.PlainFiles.{IsWellNamed, IsDomain, IsProblem}
 use Rattle.kp_run.proofs.Known.{declared, all_are_among, among_gathered, shared, is_shared, contained, among}
 use Rattle.kp_run.proofs.Repeats.{distinct, all_new}
 

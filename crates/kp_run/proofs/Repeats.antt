@@ -4,7 +4,7 @@ use mathlib.Core.Bool.{true≢false}
 use Rattle.std.specs.Cmp.Lexicographic.{pointwise}
 use Rattle.std.proofs.lemmas.List.Folds.{list_any-append}
 use Rattle.kp_run.specs.Among.{is_among, are_new}
-use Rattle.kp_run.specs.Names.{Distinct}
+use Rattle.kp_given.specs.Names.{Distinct}
 use Rattle.std.proofs.lemmas.Bool.{and_parts, or_cases}
 use Rattle.std.proofs.Math.Bool.{or-false}
 use Rattle.kp_base.proofs.Lists.{same-true, same-refl}

@@ -8,13 +8,13 @@ use Rattle.kp_tree.specs.Trees.{Domain, Problem}
 use Rattle.kp_tree.specs.Plain as forms
 use Rattle.kp_outside.specs.Outside.{FileMap, with_bytes}
 use Rattle.kp_plain.specs.declared.translation.Translation.{Translation}
-use Rattle.kp_plain.specs.Translations.{translation_of}
+use Rattle.kp_given.specs.Translations.{translation_of}
 use Rattle.kp_run.specs.declared.answer.Report.{Report}
 use Rattle.kp_run.specs.declared.answer.Report.TheVariants as reports
 use Rattle.kp_run.specs.declared.status.Status.{Status}
 use Rattle.kp_run.specs.declared.status.Status.TheVariants as status
 use Rattle.kp_run.specs.Command.{Command, IsCommand, IsNoCommand}
-use Rattle.kp_run.specs.PlainFiles.{IsDomain, IsProblem, IsContradictory}
+use Rattle.kp_given.specs.PlainFiles.{IsDomain, IsProblem, IsContradictory}
 use Rattle.kp_run.specs.Printed.{usage_text, text_of, refusal_text}
 use Rattle.kp_run.specs.Due.{Answers, no_domain, no_problem, no_initial_state, done, AnswersFiles}
 use Rattle.kp_run.specs.Ends.{Files, Puts, Tells, files_of, with_both}

@@ -10,7 +10,7 @@ use Rattle.kp_outside.specs.Outside.{FileMap}
 use Rattle.kp_run.specs.declared.status.Status.{Status}
 use Rattle.kp_run.specs.declared.status.Status.TheVariants as status
 use Rattle.kp_run.specs.Command.{Command, IsCommand, IsNoCommand}
-use Rattle.kp_run.specs.PlainFiles.{IsDomain, IsProblem, IsContradictory}
+use Rattle.kp_given.specs.PlainFiles.{IsDomain, IsProblem, IsContradictory}
 
 -- the answer on two texts: the first of these that holds, and only one of them does
 pub data Answers (domain problem : List ℕ) : Status → Type 0 where

@@ -1,6 +1,4 @@
 pub mod Command
-pub mod Names
-pub mod PlainFiles
 pub mod Printed
 pub mod Due
 pub mod Ends

@@ -3,8 +3,8 @@ ghost use Rattle.kp_outside.specs.Outside.{IsFront};
 ghost use Rattle.kp_tree.specs.View.{domain_view};
 ghost use Rattle.kp_run.specs.Due.{Answers, IsOfTranslate};
 ghost use Rattle.kp_run.specs.declared.status.Status.TheVariants as Status;
-ghost use Rattle.kp_run.specs.Names.{predicate_names};
-ghost use Rattle.kp_run.specs.PlainFiles.{IsDomain};
+ghost use Rattle.kp_given.specs.Names.{predicate_names};
+ghost use Rattle.kp_given.specs.PlainFiles.{IsDomain};
 ghost use Rattle.kp_run.specs.Reports.{status_of, HasItsText, IsTranslated};
 
 use crate::facts::is_contradictory;

@@ -2,8 +2,8 @@ ghost use Rattle.std.specs.Prelude.{◌≡◌, ◌≢◌, ◌⊎◌, ℕ, List, 
 ghost use Rattle.std.specs.FinMap as map_of;
 ghost use Rattle.kp_tree.specs.declared.tree.Word.{Word};
 ghost use Rattle.kp_tree.specs.Trees as trees;
-ghost use Rattle.kp_plain.specs.Translations.{translation_of};
-ghost use Rattle.kp_run.specs.PlainFiles.{IsDomain, IsProblem};
+ghost use Rattle.kp_given.specs.Translations.{translation_of};
+ghost use Rattle.kp_given.specs.PlainFiles.{IsDomain, IsProblem};
 ghost use Rattle.kp_outside.specs.declared.outside.OutsideStop.TheVariants as stops;
 ghost use Rattle.kp_outside.specs.Outside.{FileMap, Rises};
 ghost use Rattle.kp_run.specs.declared.status.Status.TheVariants as status;

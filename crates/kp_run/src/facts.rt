@@ -2,7 +2,7 @@ ghost use Rattle.std.specs.Prelude.{◌≡◌, ◌↔◌, [], ◌∷◌, true, f
 ghost use Rattle.std.specs.List.{list_any};
 ghost use Rattle.kp_tree.specs.View.{item_view};
 ghost use Rattle.kp_run.specs.Among.{is_among, with_name};
-ghost use Rattle.kp_run.specs.PlainFiles.{facts_of, IsContradictory};
+ghost use Rattle.kp_given.specs.PlainFiles.{facts_of, IsContradictory};
 
 use crate::names::Names;
 use kp_base::Memory;

@@ -1,7 +1,7 @@
 ghost use Rattle.std.specs.Prelude.{◌≡◌, map};
 ghost use Rattle.std.specs.List.{flat_map};
 ghost use Rattle.kp_tree.specs.View.{cond_view, eff_view, item_view, lit_view, schema_view};
-ghost use Rattle.kp_run.specs.Names.{cond_heads, eff_heads, item_heads};
+ghost use Rattle.kp_given.specs.Names.{cond_heads, eff_heads, item_heads};
 ghost use Rattle.kp_run.specs.Among.{is_among, all_among};
 
 use crate::names::Names;

@@ -5,8 +5,8 @@ ghost use Rattle.kp_tree.specs.Plain as forms;
 ghost use Rattle.kp_tree.specs.PlainTexts.{Answers};
 ghost use Rattle.kp_tree.specs.View.{domain_view, problem_view, pred_view, schema_view};
 ghost use Rattle.kp_run.specs.Among.{all_among, are_new};
-ghost use Rattle.kp_run.specs.Names.{cond_heads, eff_heads, predicate_names, AllDeclared, problem_heads};
-ghost use Rattle.kp_run.specs.PlainFiles.{IsWellNamed};
+ghost use Rattle.kp_given.specs.Names.{cond_heads, eff_heads, predicate_names, AllDeclared, problem_heads};
+ghost use Rattle.kp_given.specs.PlainFiles.{IsWellNamed};
 
 use crate::heads::{knows_cond, knows_eff, knows_item};
 use crate::names::Names;

@@ -1,5 +1,5 @@
 -- Texts that are shown to read or to stop by computing.
-use Rattle.std.proofs.Common.{◌≡◌, ◌≤◌, ℕ, Bool, List, [], length, Option, Some, None, Ok, Err, inl, inr, subst}
+use Rattle.std.proofs.Common.{◌≡◌, ◌≤◌, ℕ, Bool, List, [], length, None, Ok, Err, inl, inr, subst}
 use Rattle.kp_lex.specs.declared.token.Token.{Token}
 use Rattle.kp_lex.specs.Scanning.{cut}
 use Rattle.kp_lex.proofs.Exact.{Tells as TellsTokens, cut_tells}
@@ -12,10 +12,7 @@ use Rattle.kp_tree.specs.PlainTexts.{ReadsAs, IsPlain}
 use Rattle.kp_tree.specs.Reading.{At, StopBy}
 use Rattle.kp_tree.specs.Depth.{deep}
 use Rattle.kp_tree.proofs.Tells.{Tells, read_tells}
-use Rattle.kp_tree.proofs.Exact.{go_reads}
-
-some_none : {A : Type 0} {o : Option A} {x : A} → o ≡ Some x → o ≡ None → ⊥
-some_none e k = cc
+use Rattle.kp_tree.proofs.Exact.{go_reads, some_none}
 
 module _ {b : Bool} {c : Sort} (X : Form b c) where
   -- what is read of a text's tokens with brackets of at most eight levels

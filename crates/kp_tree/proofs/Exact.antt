@@ -198,7 +198,7 @@ pub not_deep : {W : Type 0} (ts : List (Tok W)) (d : ℕ) → length ts ≤ d �
 not_deep [] d le = refl
 not_deep (t ∷ ts) d le = not_deep_case d (is_left t.symbol) (is_right t.symbol) (t ∷ ts) ts (λ n. deep n ts) (omega (arith, le)) (λ n less. not_deep ts n less)
 
-some_none : {A : Type 0} {o : Option A} {x : A} → o ≡ Some x → o ≡ None → ⊥
+pub some_none : {A : Type 0} {o : Option A} {x : A} → o ≡ Some x → o ≡ None → ⊥
 some_none e k = cc
 
 -- ---- the same, as the laws say it

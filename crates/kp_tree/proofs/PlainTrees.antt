@@ -1,6 +1,7 @@
 -- The values that the plain forms read are plain.
 use Rattle.std.proofs.Common.{◌≡◌, Bool, true, false, not, ◌&&◌, List, [], ◌∷◌, map, refl}
 use Rattle.std.specs.List.{list_all, flat_map}
+use Rattle.std.specs.Cmp.Derive.{both_true}
 use Rattle.std.proofs.lemmas.List.{append-nil}
 use Rattle.std.proofs.lemmas.List.Folds.{list_all-append}
 use Rattle.kp_tree.specs.declared.symbol.Symbol.{Symbol}
@@ -14,13 +15,7 @@ use Rattle.kp_tree.specs.Grammar.{once, has_stood, word, words_of_requirements}
 use Rattle.kp_tree.specs.Plain.{plain_head, plain_atom, plain_lit_case, plain_lit, plain_lits_case, plain_lits, plain_cond, plain_eff, plain_pred, plain_schema, some_stood, plain_section_case, plain_section, plain_domain, plain_problem}
 use Rattle.kp_tree.specs.Reading.{Reads, ReadBy, r_both, r_after, r_end, r_more, r_last, r_next, r_absent, r_present, r_make, r_choice, r_bracket}
 use Rattle.kp_tree.specs.PlainTrees.{is_bare, all_literal_conds, is_plain_cond, all_literal_effs, is_plain_eff, is_plain_item, is_plain_pred, is_plain_schema, IsPlainDomain, IsPlainProblem, PlainDomainsArePlain, PlainProblemsArePlain}
-
-and_true : {a b : Bool} → a ≡ true → b ≡ true → (a && b) ≡ true
-and_true e f = rw (e, f) refl
-
-first_true : (a b : Bool) → (a && b) ≡ true → a ≡ true
-first_true true b e = refl
-first_true false b e = absurd cc
+use Rattle.kp_tree.proofs.Tells.{first_true}
 
 second_true : (a b : Bool) → (a && b) ≡ true → b ≡ true
 second_true true b e = e
@@ -41,11 +36,11 @@ module _ (W : Type 0) where
 
   of_many : {a : Sort} (t : Symbol → Bool) (X : Form true a) (p : El W a → Bool) → Gives X p → Gives (many t X) (list_all p)
   of_many t X p f ts rest _ (r_end e) = refl
-  of_many t X p f ts rest _ (r_more e h k) = and_true (f _ _ _ h) (of_many t X p f _ _ _ k)
+  of_many t X p f ts rest _ (r_more e h k) = both_true (f _ _ _ h) (of_many t X p f _ _ _ k)
 
   of_run : {a : Sort} (t : Symbol → Bool) (X : Seen → Form true (s_pair s_seen a)) (done : Seen → Bool) (p : El W a → Bool) → ((s : Seen) → Gives (X s) (λ x. p x.1)) → (s : Seen) → Gives (run t X done s) (list_all p)
   of_run t X done p f s ts rest _ (r_last e d) = refl
-  of_run t X done p f s ts rest _ (r_next {x = x} e h k) = and_true (f s _ _ _ h) (of_run t X done p f x.0 _ _ _ k)
+  of_run t X done p f s ts rest _ (r_next {x = x} e h k) = both_true (f s _ _ _ h) (of_run t X done p f x.0 _ _ _ k)
 
   of_maybe : {b : Bool} {a : Sort} (t : Symbol → Bool) (m : Maker s_none a) (X : Form b a) (p : El W a → Bool) → p (apply W m tt) ≡ true → Gives X p → Gives (maybe t m X) p
   of_maybe t m X p e f ts rest _ (r_absent k) = e
@@ -110,15 +105,15 @@ module _ (W : Type 0) where
 
   literal_conds : (ls : List (Lit W)) → list_all plain_literal ls ≡ true → all_literal_conds (conds_of (map cond_of_lit ls)) ≡ true
   literal_conds [] e = refl
-  literal_conds (l ∷ ls) e = and_true (first_true (is_bare l.atom) _ e) (literal_conds ls (second_true (is_bare l.atom) _ e))
+  literal_conds (l ∷ ls) e = both_true (first_true (is_bare l.atom) _ e) (literal_conds ls (second_true (is_bare l.atom) _ e))
 
   literal_effs : (ls : List (Lit W)) → list_all plain_literal ls ≡ true → all_literal_effs (effs_of (map eff_of_lit ls)) ≡ true
   literal_effs [] e = refl
-  literal_effs (l ∷ ls) e = and_true (first_true (is_bare l.atom) _ e) (literal_effs ls (second_true (is_bare l.atom) _ e))
+  literal_effs (l ∷ ls) e = both_true (first_true (is_bare l.atom) _ e) (literal_effs ls (second_true (is_bare l.atom) _ e))
 
   plain_items : (ls : List (Lit W)) → list_all plain_literal ls ≡ true → list_all is_plain_item (map fact_of_lit ls) ≡ true
   plain_items [] e = refl
-  plain_items (l ∷ ls) e = and_true (first_true (is_bare l.atom) _ e) (plain_items ls (second_true (is_bare l.atom) _ e))
+  plain_items (l ∷ ls) e = both_true (first_true (is_bare l.atom) _ e) (plain_items ls (second_true (is_bare l.atom) _ e))
 
   as_cond : (x : Lits W) → plain_literals x ≡ true → is_plain_cond (cond_of_lits x) ≡ true
   as_cond (Lits.one l) e = e
@@ -158,7 +153,7 @@ module _ (W : Type 0) where
   effects = of_maybe is_effect m_idle (is_effect ▸ plain_eff) is_plain_eff refl (of_after is_effect plain_eff is_plain_eff effs)
 
   schemas : Gives plain_schema is_plain_schema
-  schemas ts rest _ (r_make (r_both w (r_both p e))) = and_true (pres _ _ _ p) (effects _ _ _ e)
+  schemas ts rest _ (r_make (r_both w (r_both p e))) = both_true (pres _ _ _ p) (effects _ _ _ e)
 
   abbrev second : Seen × Section W → Bool
   second x = plain_section_value x.1
@@ -198,7 +193,7 @@ module _ (W : Type 0) where
   all_preds (Section.requires ∷ xs) e = all_preds xs e
   all_preds (Section.types ts ∷ xs) e = absurd cc
   all_preds (Section.constants ts ∷ xs) e = absurd cc
-  all_preds (Section.predicates ps ∷ xs) e = rw (list_all-append is_plain_pred ps (flat_map section_predicates xs)) (and_true (first_true (list_all is_plain_pred ps) _ e) (all_preds xs (second_true (list_all is_plain_pred ps) _ e)))
+  all_preds (Section.predicates ps ∷ xs) e = rw (list_all-append is_plain_pred ps (flat_map section_predicates xs)) (both_true (first_true (list_all is_plain_pred ps) _ e) (all_preds xs (second_true (list_all is_plain_pred ps) _ e)))
   all_preds (Section.action s ∷ xs) e = all_preds xs (second_true (is_plain_schema s) _ e)
 
   all_schemas : (xs : List (Section W)) → list_all plain_section_value xs ≡ true → list_all is_plain_schema (flat_map section_schemas xs) ≡ true
@@ -207,7 +202,7 @@ module _ (W : Type 0) where
   all_schemas (Section.types ts ∷ xs) e = absurd cc
   all_schemas (Section.constants ts ∷ xs) e = absurd cc
   all_schemas (Section.predicates ps ∷ xs) e = all_schemas xs (second_true (list_all is_plain_pred ps) _ e)
-  all_schemas (Section.action s ∷ xs) e = and_true (first_true (is_plain_schema s) _ e) (all_schemas xs (second_true (is_plain_schema s) _ e))
+  all_schemas (Section.action s ∷ xs) e = both_true (first_true (is_plain_schema s) _ e) (all_schemas xs (second_true (is_plain_schema s) _ e))
 
   pub domain_plain : {ts rest : List (Tok W)} {d : Domain W} → Reads plain_domain ts d rest → IsPlainDomain d
   domain_plain (r_bracket e (r_after d (r_make (r_both {y = xs} t h))) k) =

@@ -58,12 +58,13 @@ plain_over symbols.Right d here k e = absurd cc
 plain_over _ zero here k e = refl
 plain_over _ (suc d) here k e = refl
 
-hit_plain : (a b : Bool) → (a && b) ≡ true → a ≡ true
-hit_plain true b e = refl
-hit_plain false b e = absurd cc
+-- the first of two tests that both hold
+pub first_true : (a b : Bool) → (a && b) ≡ true → a ≡ true
+first_true true b e = refl
+first_true false b e = absurd cc
 
 over : {W : Type 0} (p : Symbol → Bool) (d : ℕ) (t : Tok W) (ts : List (Tok W)) → hits p t.symbol ≡ true → deep d (t ∷ ts) ≡ deep d ts
-over p d t ts e = plain_over t.symbol d (t ∷ ts) (λ n. deep n ts) (hit_plain (is_no_bracket t.symbol) (p t.symbol) e)
+over p d t ts e = plain_over t.symbol d (t ∷ ts) (λ n. deep n ts) (first_true (is_no_bracket t.symbol) (p t.symbol) e)
 
 over_left : {W : Type 0} (d : ℕ) (t : Tok W) (ts : List (Tok W)) → is_left t.symbol ≡ true → deep (suc d) (t ∷ ts) ≡ deep d ts
 over_left d t ts e = rw e refl

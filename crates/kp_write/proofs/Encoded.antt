@@ -131,7 +131,7 @@ no_empty : (ws : List (List ℕ)) → AllByRecursion IsName ws → list_any is_e
 no_empty [] h = refl
 no_empty (w ∷ ws) h = rw (some_byte h.0.token) (no_empty ws h.1)
 
-decodes : (n : GroundName) → IsGroundName n → decoded (encoded n) ≡ Some n
+pub decodes : (n : GroundName) → IsGroundName n → decoded (encoded n) ≡ Some n
 decodes n h = encoded_decodes n (no_empty (n.head ∷ n.objects) (h.head, h.objects))
 
 one_of_some : {X : Type 0} (x y : X) → Some x ≡ Some y → x ≡ y
@@ -140,7 +140,7 @@ one_of_some x y e = cc
 one_name : (x y : GroundName) → IsGroundName x → IsGroundName y → encoded x ≡ encoded y → x ≡ y
 one_name x y h k e = one_of_some x y (sym (decodes x h) ∙ ap decoded e ∙ decodes y k)
 
-same_name-refl : (n : GroundName) → same_name n n ≡ true
+pub same_name-refl : (n : GroundName) → same_name n n ≡ true
 same_name-refl n = and_from (same n.head n.head) (all_same n.objects n.objects) (same-refl n.head) (all_same-refl n.objects)
 
 -- ---- the literal of a fact

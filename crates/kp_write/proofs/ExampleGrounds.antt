@@ -22,11 +22,11 @@ use Rattle.kp_write.proofs.Grounds.{ground_problems_are_written}
 
 -- ---- names
 
-a_name : (w : List ℕ) → IsToken kinds.Name w → IsLow w → IsName w
+pub a_name : (w : List ℕ) → IsToken kinds.Name w → IsLow w → IsName w
 a_name w t low = record { token = t; low = low }
 
 -- without objects
-abbrev nullary : List ℕ → GroundName
+abbrev pub nullary : List ℕ → GroundName
 nullary head = record { head = head; objects = [] }
 
 nullary_name : (w : List ℕ) → IsName w → IsGroundName (nullary w)
@@ -46,14 +46,14 @@ abbrev action : Action
 action = record { name = nullary (codes "a"); pre = literal 0 true ∷ []; effects = always (literal 1 true) ∷ always (literal 0 false) ∷ [] }
 
 -- the atoms p and q, that action, and q as the goal
-abbrev ground : Ground
+abbrev pub ground : Ground
 ground = record { atoms = nullary (codes "p") ∷ nullary (codes "q") ∷ []; actions = action ∷ []; goal = literal 1 true ∷ [] }
 
 -- p, and not q
-abbrev start : List Lit
+abbrev pub start : List Lit
 start = literal 0 true ∷ literal 1 false ∷ []
 
-writable : IsWritable ground start
+pub writable : IsWritable ground start
 unfolding class_of IsDistinct
 writable = record {
   atoms = (nullary_name (codes "p") (a_name (codes "p") (named (codes "p") refl) refl), (nullary_name (codes "q") (a_name (codes "q") (named (codes "q") refl) refl), tt));
@@ -92,7 +92,7 @@ goal_is : facts_for ground ground.goal ≡ q ∷ []
 goal_is = rw no_tag refl
 
 -- so its plans are those of the other example
-its_plan : IsPlan (domain_file ground) (problem_file ground start) (step_of a ∷ [])
+pub its_plan : IsPlan (domain_file ground) (problem_file ground start) (step_of a ∷ [])
 its_plan = rw (facts_are, operators_are, start_is, goal_is) one_operator
 
 no_step_is_none : IsPlan (domain_file ground) (problem_file ground start) [] → ⊥

@@ -66,7 +66,7 @@ with_one P l (x ∷ xs) p h = go (with_one P l xs p h.1) (nat_lt (code_of l) (co
   go later false true = h
   go later false false = (h.0, later)
 
-opposites_of : (atoms : List GroundName) (ls done : List Lit) → AreOfAtoms atoms ls → AreOfAtoms atoms done → AreOfAtoms atoms (opposites ls done)
+pub opposites_of : (atoms : List GroundName) (ls done : List Lit) → AreOfAtoms atoms ls → AreOfAtoms atoms done → AreOfAtoms atoms (opposites ls done)
 opposites_of atoms [] done h k = k
 opposites_of atoms (l ∷ ls) done h k = opposites_of atoms ls (with_lit (negated l) done) h.1 (with_one (IsOfAtom atoms) (negated l) done h.0 k)
 

@@ -4,7 +4,7 @@ use Rattle.kp_run.specs.Due.{IsDue, usage}
 use Rattle.kp_run.specs.Reports.{status_of, printed_of}
 use Rattle.kp_run.proofs.Reporting.{is_due, both_held, one_command}
 use Rattle.kp_run.proofs.Ending.{no_files, gets_stopped, told_of_due, puts_where}
-use Rattle.kp_plain.specs.Translations.{translation_of}
+use Rattle.kp_given.specs.Translations.{translation_of}
 use Rattle.kp_run.specs.Ends.{files_of}
 use Rattle.kp_run.specs.Reports.{HasFiles}
 use Rattle.kp_run.proofs.Translated.{has_files, same_text}

@@ -1,3 +1,4 @@
+use Rattle.std.proofs.Common.{arith}
 use Rattle.kp_tree.specs.Lexing.{AreTokens}
 use Rattle.kp_tree.specs.Plain.{plain_problem}
 use Rattle.kp_tree.proofs.Answered.{reads_as, reads_not, problems_read}
@@ -7,7 +8,7 @@ use Rattle.kp_tree.proofs.plain.plain_problem.Goals as goal
 pub returns-in-Ok-clause-answers : goal.returns-in-Ok-clause-answers
 returns-in-Ok-clause-answers c =
     let are : AreTokens c.args.bytes.now c.deref.result.now = rw c.deref.ensures.value (rw c.in-Some.is at c.in_ok-lexemes.ensures) in
-    record { short = c.if-bytes-gt-PLAIN_BYTES.false; reads = reads_as plain_problem _ _ _ are c.in-Ok.ensures }
+    record { short = omega (arith, c.if-bytes-gt-PLAIN_BYTES.false); reads = reads_as plain_problem _ _ _ are c.in-Ok.ensures }
 
 pub returns-in-Ok-clause-of_the_grammar : goal.returns-in-Ok-clause-of_the_grammar
 returns-in-Ok-clause-of_the_grammar c =

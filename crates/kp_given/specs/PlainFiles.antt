@@ -4,7 +4,7 @@ use Rattle.kp_tree.specs.declared.tree.Word.{Word}
 use Rattle.kp_tree.specs.Trees.{Item, Domain, Problem}
 use Rattle.kp_tree.specs.Plain as forms
 use Rattle.kp_tree.specs.PlainTexts.{IsPlain}
-use Rattle.kp_run.specs.Names.{Distinct, AllDeclared, predicate_names, schema_names, domain_heads, problem_heads}
+use Rattle.kp_given.specs.Names.{Distinct, AllDeclared, predicate_names, schema_names, domain_heads, problem_heads}
 
 -- no two predicates and no two schemas have one name, and each atom is of a declared predicate
 pub record IsWellNamed (d : Domain Word) : Type 0 where

@@ -1,0 +1,27 @@
+-- What is proved of plain files.
+use Rattle.std.specs.Prelude.{◌≡◌, ℕ, List}
+use Rattle.kp_tree.specs.declared.tree.Word.{Word}
+use Rattle.kp_tree.specs.Trees.{Domain, Problem}
+use Rattle.kp_names.specs.Plans.{HasProblem}
+use Rattle.kp_plain.specs.Translations as plain
+use Rattle.kp_given.specs.PlainFiles.{IsDomain, IsProblem, IsContradictory}
+use Rattle.kp_given.specs.PlainGround.{ArePlain}
+use Rattle.kp_given.specs.Translations.{translation_of}
+
+-- the problem that two texts have, and its two trees
+pub record HasThisProblem (domain_text problem_text : List ℕ) (d : Domain Word) (p : Problem Word) : Type 0 where
+  pub has : HasProblem domain_text problem_text
+  pub domain : has.domain ≡ d
+  pub problem : has.problem ≡ p
+
+-- the trees of a plain domain and a plain problem are plain trees without a fault
+abbrev pub PlainFilesArePlain : Type 0
+PlainFilesArePlain = (domain_text problem_text : List ℕ) (d : Domain Word) (p : Problem Word) → IsDomain domain_text d → IsProblem d problem_text p → ArePlain d p
+
+-- plain files have a problem, that of their trees
+abbrev pub PlainFilesHaveAProblem : Type 0
+PlainFilesHaveAProblem = (domain_text problem_text : List ℕ) (d : Domain Word) (p : Problem Word) → IsDomain domain_text d → IsProblem d problem_text p → HasThisProblem domain_text problem_text d p
+
+-- where `:init` doesn't contradict itself, what is made for plain trees is their translation
+abbrev pub PlainTranslationsAreTranslations : Type 0
+PlainTranslationsAreTranslations = (d : Domain Word) (p : Problem Word) → ArePlain d p → (IsContradictory p.init → ⊥) → plain.translation_of d p ≡ translation_of d p

@@ -1,0 +1,47 @@
+-- What is written and printed for two trees, with the empty tag alone.
+use Rattle.std.specs.Prelude.{ℕ, Bool, ◌||◌, List, [], length, codes}
+use Rattle.std.specs.List.{list_all, range_with_len}
+use Rattle.kp_base.specs.declared.lit.Lit.{Lit}
+use Rattle.kp_base.specs.declared.ground.Ground.{Ground}
+use Rattle.kp_base.specs.declared.ground.Initial.{Initial}
+use Rattle.kp_base.specs.Lists.{only_if}
+use Rattle.kp_base.specs.Lit.{positive, negative}
+use Rattle.kp_base.specs.Steps.{has}
+use Rattle.kp_tree.specs.declared.tree.Word.{Word}
+use Rattle.kp_tree.specs.Trees.{Domain, Problem}
+use Rattle.kp_names.specs.Numbering.{numbered_problem}
+use Rattle.kp_ground.specs.Ground as ground
+use Rattle.kp_init.specs.Initial as init
+use Rattle.kp_init.specs.Closure.{closure}
+use Rattle.kp_plain.specs.declared.translation.Translation.{Translation}
+use Rattle.kp_plain.specs.Task.{facts_of, ops_of, facts_for}
+use Rattle.kp_plain.specs.Written.{domain_text, problem_text}
+use Rattle.kp_plain.specs.Report.{counted}
+
+-- the ground problem of two trees
+abbrev pub ground_of : Domain Word → Problem Word → Ground
+ground_of d p = ground.ground_of (numbered_problem d p)
+
+-- their initial formula
+abbrev pub initial_of : Domain Word → Problem Word → Initial
+initial_of d p = init.initial_of (numbered_problem d p)
+
+-- the literals that are known at the start: those of the closure of the empty tag
+abbrev pub start_of : Domain Word → Problem Word → List Lit
+start_of d p = closure (initial_of d p) (length (ground_of d p).atoms) []
+
+-- of each of the first n atoms it is known whether it holds
+abbrev pub is_settled : ℕ → List Lit → Bool
+is_settled n start = list_all (λ q. has start (positive q) || has start (negative q)) (range_with_len 0 n)
+
+-- `complete` is printed where this is so of all ground atoms
+abbrev pub report_of : Ground → List Lit → List ℕ
+report_of g start = counted g (only_if (is_settled (length g.atoms) start) (codes "complete\n"))
+
+-- the two texts, and the report
+abbrev pub translation_of : Domain Word → Problem Word → Translation
+translation_of d p = record {
+  domain = domain_text (facts_of (ground_of d p)) (ops_of (ground_of d p));
+  problem = problem_text (facts_for (ground_of d p) (start_of d p)) (facts_for (ground_of d p) (ground_of d p).goal);
+  report = report_of (ground_of d p) (start_of d p);
+}

@@ -1,0 +1,99 @@
+-- Moves between two places: each premise of the law on trees is met, and a plan of the written texts strips to one of the trees.
+use Rattle.std.proofs.Common.{◌≡◌, ℕ, List, [], ◌∷◌, Some, codes, length, refl, sym, subst, arith}
+use Rattle.std.specs.List.{IsDistinct}
+use Rattle.kp_base.specs.declared.lit.Lit.{Lit}
+use Rattle.kp_base.specs.Clashes.{NeverClashes}
+use Rattle.kp_lex.specs.Bytes.{class_of}
+use Rattle.kp_names.specs.Steps.{Step}
+use Rattle.kp_names.specs.Strip.{strip}
+use Rattle.kp_names.specs.Numbered.{Lifted}
+use Rattle.kp_names.specs.Plans.{IsPlan}
+use Rattle.kp_names.proofs.Texts.{domain_of, problem_of}
+use Rattle.kp_names.proofs.ExamplePlans.{moves, from_a_to_b, move}
+use Rattle.kp_ground.specs.Ground.{ground_of}
+use Rattle.kp_ground.proofs.ExampleMoves.{moves_by_number, numbered_moves}
+use Rattle.kp_init.specs.Initial.{initial_of}
+use Rattle.kp_init.specs.Closure.{closure}
+use Rattle.kp_init.proofs.ExampleFormulas.{no_fault, plain}
+use Rattle.kp_write.specs.Names.{IsName}
+use Rattle.kp_write.specs.Grounds.{IsGroundName, IsWritable, domain_file, problem_file}
+use Rattle.kp_write.proofs.Fine.{named}
+use Rattle.kp_write.proofs.ExampleGrounds.{a_name}
+use Rattle.kp_machine.proofs.OneSided.{never_clashes}
+use Rattle.kp_sound.specs.Laws.{operator_step, IsAccepted, IsServed, StripsToPlan}
+use Rattle.kp_sound.proofs.Plans.{plans_accepted}
+use Rattle.kp_sound.proofs.Trees.{plans_strip}
+
+-- ---- the ground problem can be written
+
+name_a : IsName (codes "a")
+unfolding class_of
+name_a = a_name (codes "a") (named (codes "a") refl) refl
+
+name_b : IsName (codes "b")
+unfolding class_of
+name_b = a_name (codes "b") (named (codes "b") refl) refl
+
+at_one : (o : List ℕ) → IsName o → IsGroundName (record { head = codes "at"; objects = o ∷ [] })
+unfolding class_of
+at_one o h = record { head = a_name (codes "at") (named (codes "at") refl) refl; objects = (h, tt) }
+
+move_two : (x y : List ℕ) → IsName x → IsName y → IsGroundName (move x y)
+unfolding class_of
+move_two x y h k = record { head = a_name (codes "move") (named (codes "move") refl) refl; objects = (h, (k, tt)) }
+
+-- what is known at the start of a problem by number
+abbrev known_of : Lifted → List Lit
+known_of l = closure (initial_of l) (length (ground_of l).atoms) []
+
+can_be_written : IsWritable (ground_of moves_by_number) (known_of moves_by_number)
+unfolding IsDistinct
+can_be_written = record {
+  atoms = (at_one (codes "a") name_a, (at_one (codes "b") name_b, tt));
+  atoms_differ = ((refl, tt), (tt, tt));
+  actions = (
+    record { name = move_two (codes "a") (codes "a") name_a name_a; pre = (omega arith, tt); effects = (record { conds = tt; result = omega arith }, tt) },
+    (
+      record { name = move_two (codes "a") (codes "b") name_a name_b; pre = (omega arith, tt); effects = (record { conds = tt; result = omega arith }, (record { conds = tt; result = omega arith }, tt)) },
+      (
+        record { name = move_two (codes "b") (codes "a") name_b name_a; pre = (omega arith, tt); effects = (record { conds = tt; result = omega arith }, (record { conds = tt; result = omega arith }, tt)) },
+        (record { name = move_two (codes "b") (codes "b") name_b name_b; pre = (omega arith, tt); effects = (record { conds = tt; result = omega arith }, tt) }, tt),
+      ),
+    ),
+  );
+  actions_differ = ((refl, (refl, (refl, tt))), ((refl, (refl, tt)), ((refl, tt), (tt, tt))));
+  start_of_atoms = (omega arith, (omega arith, tt));
+  goal_of_atoms = (omega arith, tt);
+}
+
+-- ---- the premises
+
+no_clash : NeverClashes (ground_of moves_by_number) (initial_of moves_by_number)
+no_clash = never_clashes (ground_of moves_by_number) (initial_of moves_by_number) refl
+
+served : IsServed (domain_of moves) (problem_of from_a_to_b)
+served = record {
+  no_fault = no_fault;
+  plain_goal = plain;
+  no_clash = subst (λ l. NeverClashes (ground_of l) (initial_of l)) (sym numbered_moves) no_clash;
+  writable = subst (λ l. IsWritable (ground_of l) (known_of l)) (sym numbered_moves) can_be_written;
+}
+
+-- ---- a plan
+
+-- from a to a, and then from a to b
+abbrev two_steps : List Step
+two_steps = operator_step (move (codes "a") (codes "a")) ∷ operator_step (move (codes "a") (codes "b")) ∷ []
+
+accepted : IsAccepted (ground_of moves_by_number) (known_of moves_by_number) two_steps (0 ∷ 1 ∷ [])
+accepted = record { steps_are = refl; accepted = refl }
+
+written_plan : IsPlan (domain_file (ground_of moves_by_number)) (problem_file (ground_of moves_by_number) (known_of moves_by_number)) two_steps
+written_plan = (plans_accepted (ground_of moves_by_number) (known_of moves_by_number) can_be_written two_steps).1 (0 ∷ 1 ∷ [], accepted)
+
+strips_to_plan : StripsToPlan (domain_of moves) (problem_of from_a_to_b) two_steps
+strips_to_plan = plans_strip (domain_of moves) (problem_of from_a_to_b) served two_steps
+    (subst (λ l. IsPlan (domain_file (ground_of l)) (problem_file (ground_of l) (known_of l)) two_steps) (sym numbered_moves) written_plan)
+
+two_moves : strip two_steps ≡ Some (move (codes "a") (codes "a") ∷ move (codes "a") (codes "b") ∷ [])
+two_moves = refl

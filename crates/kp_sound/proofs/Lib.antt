@@ -1,0 +1,6 @@
+pub mod Facts
+pub mod Operators
+pub mod Plans
+pub mod Trees
+pub mod ExamplePlans
+pub mod ExampleTrees

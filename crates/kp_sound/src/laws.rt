@@ -1,0 +1,26 @@
+//! Laws of the plans of the written files, each proved as the contract of a function that does nothing.
+
+ghost use Rattle.kp_sound.specs.Laws.{StepsStrip, WrittenPlansAreAccepted, WrittenPlansAreSound, WrittenPlansStripToPlans};
+
+/// The plans of the two texts of a ground problem are the lists of actions that the machine accepts with the empty tag alone.
+pub fn written_plans_are_accepted_lists()
+    ensures { WrittenPlansAreAccepted }
+{}
+
+/// The steps of actions in the written files strip to the names of these actions.
+#[tactic(auto, using(crate::proofs::Plans::steps_strip))]
+pub fn steps_of_actions_strip()
+    ensures { StepsStrip }
+{}
+
+/// Where the literals at the start are the closure of the empty tag and nothing clashes, each plan of the two texts strips to a ground plan.
+#[tactic(auto, using(crate::proofs::Plans::plans_sound))]
+pub fn written_plans_are_sound()
+    ensures { WrittenPlansAreSound }
+{}
+
+/// Each plan of the two texts that are written for two trees strips to a plan of the trees.
+#[tactic(auto, using(crate::proofs::Trees::plans_strip))]
+pub fn written_plans_strip_to_plans()
+    ensures { WrittenPlansStripToPlans }
+{}

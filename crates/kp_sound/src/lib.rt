@@ -1,0 +1,9 @@
+//! The plans of the written files: they are what the machine accepts, and strip to plans. `specs/Laws.antt` says what is proved.
+#![tactic(auto)]
+
+mod laws;
+
+pub use laws::{
+    steps_of_actions_strip, written_plans_are_accepted_lists, written_plans_are_sound,
+    written_plans_strip_to_plans,
+};
