@@ -6,4 +6,3 @@ pub mod GroundProblems
 pub mod NoFault
 pub mod Start
 pub mod Translated
-pub mod OneSided

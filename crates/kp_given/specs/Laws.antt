@@ -1,14 +1,12 @@
 -- What is proved of plain files.
-use Rattle.std.specs.Prelude.{◌≡◌, ℕ, List, true}
-use Rattle.std.specs.List.{list_all}
-use Rattle.kp_base.specs.Clashes.{is_one_sided}
+use Rattle.std.specs.Prelude.{◌≡◌, ℕ, List}
 use Rattle.kp_tree.specs.declared.tree.Word.{Word}
 use Rattle.kp_tree.specs.Trees.{Domain, Problem}
 use Rattle.kp_names.specs.Plans.{HasProblem}
 use Rattle.kp_plain.specs.Translations as plain
 use Rattle.kp_given.specs.PlainFiles.{IsDomain, IsProblem, IsContradictory}
 use Rattle.kp_given.specs.PlainGround.{ArePlain}
-use Rattle.kp_given.specs.Translations.{ground_of, translation_of}
+use Rattle.kp_given.specs.Translations.{translation_of}
 
 -- the problem that two texts have, and its two trees
 pub record HasThisProblem (domain_text problem_text : List ℕ) (d : Domain Word) (p : Problem Word) : Type 0 where
@@ -27,7 +25,3 @@ PlainFilesHaveAProblem = (domain_text problem_text : List ℕ) (d : Domain Word)
 -- where `:init` doesn't contradict itself, what is made for plain trees is their translation
 abbrev pub PlainTranslationsAreTranslations : Type 0
 PlainTranslationsAreTranslations = (d : Domain Word) (p : Problem Word) → ArePlain d p → (IsContradictory p.init → ⊥) → plain.translation_of d p ≡ translation_of d p
-
--- no action of plain trees has an add and a delete of one atom
-abbrev pub PlainActionsAreOneSided : Type 0
-PlainActionsAreOneSided = (d : Domain Word) (p : Problem Word) → ArePlain d p → list_all is_one_sided (ground_of d p).actions ≡ true

@@ -1,6 +1,6 @@
 //! Laws of plain files, each proved as the contract of a function that does nothing.
 
-ghost use Rattle.kp_given.specs.Laws.{PlainActionsAreOneSided, PlainFilesArePlain, PlainFilesHaveAProblem, PlainTranslationsAreTranslations};
+ghost use Rattle.kp_given.specs.Laws.{PlainFilesArePlain, PlainFilesHaveAProblem, PlainTranslationsAreTranslations};
 ghost use Rattle.kp_given.specs.PlainGround.{IsPlainGround};
 
 /// The trees of plain files are plain trees without a fault.
@@ -25,10 +25,4 @@ pub fn plain_ground_problems_are_ground_problems()
 #[tactic(auto, using(crate::proofs::Translated::plain_translations))]
 pub fn plain_translations_are_translations()
     ensures { PlainTranslationsAreTranslations }
-{}
-
-/// No action of plain trees has an add and a delete of one atom.
-#[tactic(auto, using(crate::proofs::OneSided::one_sided))]
-pub fn plain_actions_are_one_sided()
-    ensures { PlainActionsAreOneSided }
 {}

@@ -4,7 +4,6 @@
 mod laws;
 
 pub use laws::{
-    plain_actions_are_one_sided,
     plain_files_are_plain_trees, plain_files_have_a_problem, plain_ground_problems_are_ground_problems,
     plain_translations_are_translations,
 };
