@@ -5,5 +5,5 @@ mod laws;
 
 pub use laws::{
     steps_of_actions_strip, written_plans_are_accepted_lists, written_plans_are_sound,
-    written_plans_strip_to_plans,
+    written_plans_strip_to_plans, written_plans_strip_to_solutions,
 };
