@@ -5,3 +5,4 @@ pub mod Trees
 pub mod PlainFiles
 pub mod ExamplePlans
 pub mod ExampleTrees
+pub mod ExamplePlainFiles
