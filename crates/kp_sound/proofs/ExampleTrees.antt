@@ -1,28 +1,32 @@
--- Moves between two places: each premise of the law on trees is met, and a plan of the written texts strips to one of the trees.
+-- Moves between two places: each premise of the laws on trees and texts is met, and a plan of what is written strips to one of the texts.
 use Rattle.std.proofs.Common.{◌≡◌, ℕ, List, [], ◌∷◌, Some, codes, length, refl, sym, subst, arith}
 use Rattle.std.specs.List.{IsDistinct}
 use Rattle.kp_base.specs.declared.lit.Lit.{Lit}
 use Rattle.kp_base.specs.Clashes.{NeverClashes}
 use Rattle.kp_lex.specs.Bytes.{class_of}
+use Rattle.kp_lex.specs.Scanning.{cut_from}
+use Rattle.kp_tree.specs.Symbols.{symbol_of}
+use Rattle.kp_tree.specs.Parsing.{some_at, next_at}
 use Rattle.kp_names.specs.Steps.{Step}
 use Rattle.kp_names.specs.Strip.{strip}
 use Rattle.kp_names.specs.Numbered.{Lifted}
-use Rattle.kp_names.specs.Plans.{IsPlan}
-use Rattle.kp_names.proofs.Texts.{domain_of, problem_of}
+use Rattle.kp_names.specs.Plans.{HasProblem, IsPlan}
+use Rattle.kp_names.proofs.Texts.{domain_of, problem_of, has_problem}
 use Rattle.kp_names.proofs.ExamplePlans.{moves, from_a_to_b, move}
 use Rattle.kp_ground.specs.Ground.{ground_of}
 use Rattle.kp_ground.proofs.ExampleMoves.{moves_by_number, numbered_moves}
 use Rattle.kp_init.specs.Initial.{initial_of}
 use Rattle.kp_init.specs.Closure.{closure}
 use Rattle.kp_init.proofs.ExampleFormulas.{no_fault, plain}
+use Rattle.kp_given.specs.Translations.{translation_of}
 use Rattle.kp_write.specs.Names.{IsName}
 use Rattle.kp_write.specs.Grounds.{IsGroundName, IsWritable, domain_file, problem_file}
 use Rattle.kp_write.proofs.Fine.{named}
 use Rattle.kp_write.proofs.ExampleGrounds.{a_name}
 use Rattle.kp_machine.proofs.OneSided.{never_clashes}
-use Rattle.kp_sound.specs.Laws.{operator_step, IsAccepted, IsServed, StripsToPlan}
+use Rattle.kp_sound.specs.Laws.{operator_step, IsAccepted, StripsToSolution, StripsToPlan, IsSafelyWritten}
 use Rattle.kp_sound.proofs.Plans.{plans_accepted}
-use Rattle.kp_sound.proofs.Trees.{plans_strip}
+use Rattle.kp_sound.proofs.Trees.{plans_solve, plans_strip}
 
 -- ---- the ground problem can be written
 
@@ -71,12 +75,10 @@ can_be_written = record {
 no_clash : NeverClashes (ground_of moves_by_number) (initial_of moves_by_number)
 no_clash = never_clashes (ground_of moves_by_number) (initial_of moves_by_number) refl
 
-served : IsServed (domain_of moves) (problem_of from_a_to_b)
-served = record {
-  no_fault = no_fault;
-  plain_goal = plain;
-  no_clash = subst (λ l. NeverClashes (ground_of l) (initial_of l)) (sym numbered_moves) no_clash;
+safe : IsSafelyWritten (domain_of moves) (problem_of from_a_to_b)
+safe = record {
   writable = subst (λ l. IsWritable (ground_of l) (known_of l)) (sym numbered_moves) can_be_written;
+  no_clash = subst (λ l. NeverClashes (ground_of l) (initial_of l)) (sym numbered_moves) no_clash;
 }
 
 -- ---- a plan
@@ -91,9 +93,20 @@ accepted = record { steps_are = refl; accepted = refl }
 written_plan : IsPlan (domain_file (ground_of moves_by_number)) (problem_file (ground_of moves_by_number) (known_of moves_by_number)) two_steps
 written_plan = (plans_accepted (ground_of moves_by_number) (known_of moves_by_number) can_be_written two_steps).1 (0 ∷ 1 ∷ [], accepted)
 
-strips_to_plan : StripsToPlan (domain_of moves) (problem_of from_a_to_b) two_steps
-strips_to_plan = plans_strip (domain_of moves) (problem_of from_a_to_b) served two_steps
-    (subst (λ l. IsPlan (domain_file (ground_of l)) (problem_file (ground_of l) (known_of l)) two_steps) (sym numbered_moves) written_plan)
+-- as a plan of what is written for the trees
+plan_of_translation : IsPlan (translation_of (domain_of moves) (problem_of from_a_to_b)).domain (translation_of (domain_of moves) (problem_of from_a_to_b)).problem two_steps
+plan_of_translation = subst (λ l. IsPlan (domain_file (ground_of l)) (problem_file (ground_of l) (known_of l)) two_steps) (sym numbered_moves) written_plan
+
+strips_to_solution : StripsToSolution (domain_of moves) (problem_of from_a_to_b) two_steps
+strips_to_solution = plans_solve (domain_of moves) (problem_of from_a_to_b) no_fault plain safe two_steps plan_of_translation
+
+its_problem : HasProblem moves from_a_to_b
+unfolding cut_from class_of symbol_of some_at next_at
+its_problem = has_problem moves from_a_to_b (record { domain_cut = refl; problem_cut = refl; domain_read = refl; problem_read = refl; domain_faults = refl; problem_faults = refl })
+
+strips_to_plan : StripsToPlan moves from_a_to_b two_steps
+unfolding its_problem
+strips_to_plan = plans_strip moves from_a_to_b its_problem safe two_steps plan_of_translation
 
 two_moves : strip two_steps ≡ Some (move (codes "a") (codes "a") ∷ move (codes "a") (codes "b") ∷ [])
 two_moves = refl

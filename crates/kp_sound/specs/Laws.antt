@@ -12,15 +12,15 @@ use Rattle.kp_tree.specs.declared.tree.Word.{Word}
 use Rattle.kp_tree.specs.Trees.{Domain, Problem}
 use Rattle.kp_names.specs.Faults.{HasNoFault}
 use Rattle.kp_names.specs.Steps.{Step}
-use Rattle.kp_names.specs.Plans.{IsPlan, Solves}
+use Rattle.kp_names.specs.Plans.{HasProblem, Solves, IsPlan}
 use Rattle.kp_names.specs.Encoding.{encoded}
 use Rattle.kp_names.specs.Strip.{do_front, strip}
-use Rattle.kp_names.specs.Numbering.{numbered_problem}
 use Rattle.kp_names.specs.NumberLaws.{is_plain_goal}
-use Rattle.kp_ground.specs.Ground.{ground_of}
 use Rattle.kp_ground.specs.Laws.{action_name}
-use Rattle.kp_init.specs.Initial.{initial_of}
-use Rattle.kp_init.specs.Closure.{closure}
+use Rattle.kp_plain.specs.Translations as plain
+use Rattle.kp_given.specs.PlainFiles.{IsDomain, IsProblem, IsContradictory}
+use Rattle.kp_given.specs.PlainGround.{ArePlain}
+use Rattle.kp_given.specs.Translations.{ground_of, initial_of, start_of, translation_of}
 use Rattle.kp_write.specs.Grounds.{IsWritable, domain_file, problem_file}
 
 -- the step that takes an action in the written files: its operator, without objects
@@ -48,11 +48,17 @@ pub record StripsToGroundPlan (g : Ground) (i : Initial) (steps : List Step) : T
   pub stripped : IsStrippedTo g steps actions
   pub plan : IsGroundPlan g i actions
 
--- the steps strip to a plan of the two trees
-pub record StripsToPlan (d : Domain Word) (p : Problem Word) (steps : List Step) : Type 0 where
+-- the steps strip to a list that solves the problem of the two trees
+pub record StripsToSolution (d : Domain Word) (p : Problem Word) (steps : List Step) : Type 0 where
   pub stripped : List Step
   pub strips : strip steps ≡ Some stripped
   pub solves : Solves d p stripped
+
+-- the steps strip to a plan of the two texts
+pub record StripsToPlan (domain problem : List ℕ) (steps : List Step) : Type 0 where
+  pub stripped : List Step
+  pub strips : strip steps ≡ Some stripped
+  pub is_plan : IsPlan domain problem stripped
 
 -- ---- laws
 
@@ -68,19 +74,27 @@ StepsStrip = (g : Ground) (start : List Lit) → IsWritable g start → (steps :
 abbrev pub WrittenPlansAreSound : Type 0
 WrittenPlansAreSound = (g : Ground) (i : Initial) (start : List Lit) → IsWritable g start → IsClosure (length g.atoms) i [] start → NeverClashes g i → (steps : List Step) → IsPlan (domain_file g) (problem_file g start) steps → StripsToGroundPlan g i steps
 
--- ---- for two trees
+-- ---- for two trees, and for two texts
 
--- what is known at the start of the problem of two trees
-abbrev pub known_first : Domain Word → Problem Word → List Lit
-known_first d p = closure (initial_of (numbered_problem d p)) (length (ground_of (numbered_problem d p)).atoms) []
+-- the ground problem of the trees can be written, and nothing clashes
+pub record IsSafelyWritten (d : Domain Word) (p : Problem Word) : Type 0 where
+  pub writable : IsWritable (ground_of d p) (start_of d p)
+  pub no_clash : NeverClashes (ground_of d p) (initial_of d p)
 
--- no name of the trees is at fault, no equality stands in the goal, and their ground problem can be written and never clashes
-pub record IsServed (d : Domain Word) (p : Problem Word) : Type 0 where
-  pub no_fault : HasNoFault d p
-  pub plain_goal : is_plain_goal p.goal ≡ true
-  pub no_clash : NeverClashes (ground_of (numbered_problem d p)) (initial_of (numbered_problem d p))
-  pub writable : IsWritable (ground_of (numbered_problem d p)) (known_first d p)
+-- each plan of what is written for such trees strips to a list that solves their problem
+abbrev pub WrittenPlansStripToSolutions : Type 0
+WrittenPlansStripToSolutions = (d : Domain Word) (p : Problem Word) → HasNoFault d p → is_plain_goal p.goal ≡ true → IsSafelyWritten d p → (steps : List Step) → IsPlan (translation_of d p).domain (translation_of d p).problem steps → StripsToSolution d p steps
 
--- each plan of the two texts that are written for such trees strips to a plan of the trees
+-- where two texts have a problem, each plan of what is written for it strips to a plan of the texts
 abbrev pub WrittenPlansStripToPlans : Type 0
-WrittenPlansStripToPlans = (d : Domain Word) (p : Problem Word) → IsServed d p → (steps : List Step) → IsPlan (domain_file (ground_of (numbered_problem d p))) (problem_file (ground_of (numbered_problem d p)) (known_first d p)) steps → StripsToPlan d p steps
+WrittenPlansStripToPlans = (domain problem : List ℕ) (x : HasProblem domain problem) → IsSafelyWritten x.domain x.problem → (steps : List Step) → IsPlan (translation_of x.domain x.problem).domain (translation_of x.domain x.problem).problem steps → StripsToPlan domain problem steps
+
+-- ---- for plain files
+
+-- where an action of plain trees adds an atom, it has lost its deletes of it: nothing clashes
+abbrev pub PlainTreesNeverClash : Type 0
+PlainTreesNeverClash = (d : Domain Word) (p : Problem Word) → ArePlain d p → NeverClashes (ground_of d p) (initial_of d p)
+
+-- where plain files don't contradict themselves and their ground problem can be written, each plan of the two texts that are made of their trees strips to a plan of the files
+abbrev pub PlainPlansStripToPlans : Type 0
+PlainPlansStripToPlans = (domain problem : List ℕ) (d : Domain Word) (p : Problem Word) → IsDomain domain d → IsProblem d problem p → (IsContradictory p.init → ⊥) → IsWritable (ground_of d p) (start_of d p) → (steps : List Step) → IsPlan (plain.translation_of d p).domain (plain.translation_of d p).problem steps → StripsToPlan domain problem steps

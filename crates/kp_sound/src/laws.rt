@@ -1,6 +1,6 @@
 //! Laws of the plans of the written files, each proved as the contract of a function that does nothing.
 
-ghost use Rattle.kp_sound.specs.Laws.{StepsStrip, WrittenPlansAreAccepted, WrittenPlansAreSound, WrittenPlansStripToPlans};
+ghost use Rattle.kp_sound.specs.Laws.{PlainPlansStripToPlans, PlainTreesNeverClash, StepsStrip, WrittenPlansAreAccepted, WrittenPlansAreSound, WrittenPlansStripToPlans, WrittenPlansStripToSolutions};
 
 /// The plans of the two texts of a ground problem are the lists of actions that the machine accepts with the empty tag alone.
 pub fn written_plans_are_accepted_lists()
@@ -19,8 +19,25 @@ pub fn written_plans_are_sound()
     ensures { WrittenPlansAreSound }
 {}
 
-/// Each plan of the two texts that are written for two trees strips to a plan of the trees.
+/// Each plan of what is written for two trees strips to a list that solves their problem, where their ground problem can be written and nothing clashes.
+#[tactic(auto, using(crate::proofs::Trees::plans_solve))]
+pub fn written_plans_strip_to_solutions()
+    ensures { WrittenPlansStripToSolutions }
+{}
+
+/// So each plan of what is written for two texts strips to a plan of the texts.
 #[tactic(auto, using(crate::proofs::Trees::plans_strip))]
 pub fn written_plans_strip_to_plans()
     ensures { WrittenPlansStripToPlans }
+{}
+
+/// Plain trees never clash.
+#[tactic(auto, using(crate::proofs::PlainFiles::plain_never_clash))]
+pub fn plain_trees_never_clash()
+    ensures { PlainTreesNeverClash }
+{}
+
+/// Each plan of the two texts that are made for plain files strips to a plan of the files, where they don't contradict themselves and their ground problem can be written.
+pub fn plans_for_plain_files_strip_to_plans()
+    ensures { PlainPlansStripToPlans }
 {}

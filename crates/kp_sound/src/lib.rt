@@ -4,6 +4,7 @@
 mod laws;
 
 pub use laws::{
-    steps_of_actions_strip, written_plans_are_accepted_lists, written_plans_are_sound,
-    written_plans_strip_to_plans,
+    plain_trees_never_clash, plans_for_plain_files_strip_to_plans, steps_of_actions_strip,
+    written_plans_are_accepted_lists, written_plans_are_sound, written_plans_strip_to_plans,
+    written_plans_strip_to_solutions,
 };
