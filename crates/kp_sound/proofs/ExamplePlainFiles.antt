@@ -16,7 +16,7 @@ use Rattle.kp_write.specs.Runs.{step_of}
 use Rattle.kp_write.proofs.ExampleFiles.{a}
 use Rattle.kp_write.proofs.ExampleGrounds.{ground, start, writable, its_plan}
 use Rattle.kp_sound.specs.Laws.{StripsToPlan}
-use Rattle.kp_sound.proofs.PlainFiles.{plain_never_clash, plain_plans_strip}
+use Rattle.kp_sound.proofs.PlainFiles.{plain_never_clash, plain_files_sound}
 
 -- ---- the files are plain
 
@@ -62,9 +62,8 @@ can_be_written = writable
 
 -- ---- a plan of what is made for them
 
-made_plan : IsPlan (made.translation_of exchange_tree from_p_to_q_tree).domain (made.translation_of exchange_tree from_p_to_q_tree).problem (step_of a ∷ [])
-unfolding plain.ground_of plain.start_of
+made_plan : IsPlan (translation_of exchange_tree from_p_to_q_tree).domain (translation_of exchange_tree from_p_to_q_tree).problem (step_of a ∷ [])
 made_plan = its_plan
 
 strips_to_plan : StripsToPlan exchange from_p_to_q (step_of a ∷ [])
-strips_to_plan = plain_plans_strip exchange from_p_to_q exchange_tree from_p_to_q_tree is_domain is_problem consistent can_be_written (step_of a ∷ []) made_plan
+strips_to_plan = plain_files_sound exchange from_p_to_q exchange_tree from_p_to_q_tree is_domain is_problem (step_of a ∷ []) made_plan

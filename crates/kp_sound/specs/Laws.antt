@@ -17,8 +17,7 @@ use Rattle.kp_names.specs.Encoding.{encoded}
 use Rattle.kp_names.specs.Strip.{do_front, strip}
 use Rattle.kp_names.specs.NumberLaws.{is_plain_goal}
 use Rattle.kp_ground.specs.Laws.{action_name}
-use Rattle.kp_plain.specs.Translations as plain
-use Rattle.kp_given.specs.PlainFiles.{IsDomain, IsProblem, IsContradictory}
+use Rattle.kp_given.specs.PlainFiles.{IsDomain, IsProblem}
 use Rattle.kp_given.specs.PlainGround.{ArePlain}
 use Rattle.kp_given.specs.Translations.{ground_of, initial_of, start_of, translation_of}
 use Rattle.kp_write.specs.Grounds.{IsWritable, domain_file, problem_file}
@@ -95,6 +94,10 @@ WrittenPlansStripToPlans = (domain problem : List ℕ) (x : HasProblem domain pr
 abbrev pub PlainTreesNeverClash : Type 0
 PlainTreesNeverClash = (d : Domain Word) (p : Problem Word) → ArePlain d p → NeverClashes (ground_of d p) (initial_of d p)
 
--- where plain files don't contradict themselves and their ground problem can be written, each plan of the two texts that are made of their trees strips to a plan of the files
-abbrev pub PlainPlansStripToPlans : Type 0
-PlainPlansStripToPlans = (domain problem : List ℕ) (d : Domain Word) (p : Problem Word) → IsDomain domain d → IsProblem d problem p → (IsContradictory p.init → ⊥) → IsWritable (ground_of d p) (start_of d p) → (steps : List Step) → IsPlan (plain.translation_of d p).domain (plain.translation_of d p).problem steps → StripsToPlan domain problem steps
+-- each plan of the two texts that were written strips to a plan of the two given ones
+abbrev pub PlansStrip : List ℕ → List ℕ → List ℕ → List ℕ → Type 0
+PlansStrip domain_out problem_out domain problem = (steps : List Step) → IsPlan domain_out problem_out steps → StripsToPlan domain problem steps
+
+-- this holds of the translation of every two plain files
+abbrev pub PlainFilesAreSound : Type 0
+PlainFilesAreSound = (domain problem : List ℕ) (d : Domain Word) (p : Problem Word) → IsDomain domain d → IsProblem d problem p → PlansStrip (translation_of d p).domain (translation_of d p).problem domain problem

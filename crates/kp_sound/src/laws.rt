@@ -1,6 +1,6 @@
 //! Laws of the plans of the written files, each proved as the contract of a function that does nothing.
 
-ghost use Rattle.kp_sound.specs.Laws.{PlainPlansStripToPlans, PlainTreesNeverClash, StepsStrip, WrittenPlansAreAccepted, WrittenPlansAreSound, WrittenPlansStripToPlans, WrittenPlansStripToSolutions};
+ghost use Rattle.kp_sound.specs.Laws.{PlainFilesAreSound, PlainTreesNeverClash, StepsStrip, WrittenPlansAreAccepted, WrittenPlansAreSound, WrittenPlansStripToPlans, WrittenPlansStripToSolutions};
 
 /// The plans of the two texts of a ground problem are the lists of actions that the machine accepts with the empty tag alone.
 pub fn written_plans_are_accepted_lists()
@@ -37,7 +37,7 @@ pub fn plain_trees_never_clash()
     ensures { PlainTreesNeverClash }
 {}
 
-/// Each plan of the two texts that are made for plain files strips to a plan of the files, where they don't contradict themselves and their ground problem can be written.
-pub fn plans_for_plain_files_strip_to_plans()
-    ensures { PlainPlansStripToPlans }
+/// Each plan of the translation of plain files strips to a plan of the files.
+pub fn translations_of_plain_files_are_sound()
+    ensures { PlainFilesAreSound }
 {}
