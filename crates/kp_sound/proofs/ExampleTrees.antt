@@ -4,6 +4,7 @@ use Rattle.std.specs.List.{IsDistinct}
 use Rattle.kp_base.specs.declared.lit.Lit.{Lit}
 use Rattle.kp_base.specs.Clashes.{NeverClashes}
 use Rattle.kp_lex.specs.Bytes.{class_of}
+use Rattle.kp_tree.specs.Words.{IsName}
 use Rattle.kp_names.specs.Steps.{Step}
 use Rattle.kp_names.specs.Strip.{strip}
 use Rattle.kp_names.specs.Numbered.{Lifted}
@@ -15,7 +16,6 @@ use Rattle.kp_ground.proofs.ExampleMoves.{moves_by_number, numbered_moves}
 use Rattle.kp_init.specs.Initial.{initial_of}
 use Rattle.kp_init.specs.Closure.{closure}
 use Rattle.kp_init.proofs.ExampleFormulas.{no_fault, plain}
-use Rattle.kp_write.specs.Names.{IsName}
 use Rattle.kp_write.specs.Grounds.{IsGroundName, IsWritable, domain_file, problem_file}
 use Rattle.kp_write.proofs.Fine.{named}
 use Rattle.kp_write.proofs.ExampleGrounds.{a_name}
