@@ -19,7 +19,7 @@ use Rattle.kp_init.specs.Initial.{initial_of}
 use Rattle.kp_init.specs.Closure.{closure}
 use Rattle.kp_init.proofs.ExampleFormulas.{no_fault, plain}
 use Rattle.kp_given.specs.Translations.{translation_of}
-use Rattle.kp_write.specs.Names.{IsName}
+use Rattle.kp_tree.specs.Words.{IsName}
 use Rattle.kp_write.specs.Grounds.{IsGroundName, IsWritable, domain_file, problem_file}
 use Rattle.kp_write.proofs.Fine.{named}
 use Rattle.kp_write.proofs.ExampleGrounds.{a_name}
