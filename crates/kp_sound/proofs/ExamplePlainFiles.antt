@@ -5,11 +5,9 @@ use Rattle.kp_base.specs.Clashes.{NeverClashes}
 use Rattle.kp_tree.proofs.ExamplesPlain.{exchange, exchange_tree, exchange_plain, from_p_to_q, from_p_to_q_tree, from_p_to_q_plain}
 use Rattle.kp_names.specs.Names.{same}
 use Rattle.kp_names.specs.Plans.{IsPlan}
-use Rattle.kp_plain.specs.Ground as plain
-use Rattle.kp_plain.specs.Translations as made
 use Rattle.kp_given.specs.PlainFiles.{IsDomain, IsProblem, IsContradictory}
 use Rattle.kp_given.specs.PlainGround.{ArePlain}
-use Rattle.kp_given.specs.Translations.{ground_of, initial_of, start_of}
+use Rattle.kp_given.specs.Translations.{ground_of, initial_of, start_of, translation_of}
 use Rattle.kp_given.proofs.NoFault.{files_are_plain}
 use Rattle.kp_write.specs.Grounds.{IsWritable}
 use Rattle.kp_write.specs.Runs.{step_of}

@@ -17,11 +17,9 @@ use Rattle.kp_names.specs.Steps.{Step}
 use Rattle.kp_names.specs.Plans.{IsPlan}
 use Rattle.kp_plain.specs.Ground as plain
 use Rattle.kp_plain.specs.Ground.{is_idle, lasting, atoms_of, numbered, results_of, action_of, kept}
-use Rattle.kp_plain.specs.declared.translation.Translation.{Translation}
 use Rattle.kp_given.specs.Translations.{initial_of, translation_of}
 use Rattle.kp_given.proofs.GroundProblems.{plain_ground}
 use Rattle.kp_given.proofs.NoFault.{files_are_plain, files_have_a_problem}
-use Rattle.kp_given.proofs.Translated.{plain_translations}
 use Rattle.kp_given.proofs.Writable.{starts_writable}
 use Rattle.kp_machine.proofs.OneSided.{never_clashes}
 use Rattle.kp_sound.specs.Laws.{IsSafelyWritten, PlainTreesNeverClash, PlainFilesAreSound}
