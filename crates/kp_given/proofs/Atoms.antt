@@ -12,6 +12,8 @@ use Rattle.kp_ground.specs.Ground.{atom_before, same_atom, number_of}
 use Rattle.kp_ground.specs.Laws.{IsAscending}
 use Rattle.kp_ground.proofs.Atoms.{irreflexive, transitive}
 use Rattle.kp_plain.specs.Ground.{place}
+use Rattle.std.proofs.Math.Bool.{and-true}
+use Rattle.kp_given.proofs.Lists.{map_same}
 use Rattle.kp_given.proofs.Known.{same_index}
 
 -- the atom of a predicate without parameters
@@ -52,10 +54,6 @@ same_ascending (x ∷ xs) (y ∷ ys) h g to from =
     back a m (inr n) same_head = n
 
 -- ---- names that stand once, by number
-
-map_same : {X Y : Type 0} (f g : X → Y) (xs : List X) → ((x : X) → Member xs x → f x ≡ g x) → map f xs ≡ map g xs
-map_same f g [] h = refl
-map_same f g (x ∷ xs) h = ap (λ y. y ∷ map f xs) (h x (inl refl)) ∙ ap (λ ys. g x ∷ ys) (map_same f g xs (λ y m. h y (inr m)))
 
 -- numbered from k on
 abbrev pub from_number : ℕ → List Name → Name → Atom
@@ -125,8 +123,4 @@ place_is names [] n h all = refl
 place_is names (m ∷ ms) n h all = position_step (same_atom (bare_atom (index_of names n))) (bare_atom (index_of names m)) (map (λ x. bare_atom (index_of names x)) ms) ∙ (ap (λ t. if t then 0 else suc (number_of (map (λ x. bare_atom (index_of names x)) ms) (bare_atom (index_of names n)))) (one (same_index names n m h (all m (inl refl)))) ∙ ap (λ k. if same n m then 0 else suc k) (place_is names ms n h (λ x r. all x (inr r))))
   where
     one : (index_of names n == index_of names m) ≡ same n m → same_atom (bare_atom (index_of names n)) (bare_atom (index_of names m)) ≡ same n m
-    one e = and_true (index_of names n == index_of names m) ∙ e
-      where
-        and_true : (t : Bool) → (t && true) ≡ t
-        and_true true = refl
-        and_true false = refl
+    one e = and-true (index_of names n == index_of names m) ∙ e

@@ -2,7 +2,10 @@
 use Rattle.std.proofs.Common.{◌≡◌, Bool, true, false, not, cond, ◌&&◌, ◌||◌, List, [], ◌∷◌, ◌++◌, map, filter, refl, sym, ap, subst, ◌∙◌, inl, inr}
 use Rattle.std.specs.List.{list_any, list_all, flat_map}
 use Rattle.std.proofs.lemmas.Bool.{and_parts, and_from}
-use Rattle.std.proofs.lemmas.List.{map-append}
+use Rattle.std.proofs.Math.Bool.{and-true}
+use Rattle.std.proofs.lemmas.List.{map-append, append-nil}
+use Rattle.kp_names.proofs.Numbered.{map_flat}
+use Rattle.kp_given.proofs.Lists.{filter_same, filter_map, map_same, flat_of_map, flat_filter}
 use Rattle.std.proofs.lemmas.List.Folds.{list_all-append, list_any-append}
 use Rattle.kp_tree.specs.declared.tree.Word.{Word}
 use Rattle.kp_tree.specs.Trees as trees
@@ -13,7 +16,7 @@ use Rattle.kp_base.specs.declared.ground.Effect.{Effect}
 use Rattle.kp_base.specs.Lists.{Member, each_once}
 use Rattle.kp_base.specs.Lit.{negated, same_lit}
 use Rattle.kp_base.specs.LitSet.{set_of}
-use Rattle.kp_base.proofs.Lists.{all_member, any_from, any_member}
+use Rattle.kp_base.proofs.Lists.{all_member, all_alike, flat_alike, map_map, any_from, any_member}
 use Rattle.kp_names.specs.Names.{Name, same, is_among}
 use Rattle.kp_names.specs.Types.{declared, names}
 use Rattle.kp_names.specs.Faults.{inside}
@@ -38,57 +41,6 @@ use Rattle.kp_given.proofs.Known.{are_known, AllKnown, all_known, known_same}
 use Rattle.kp_given.proofs.Static.{init_is, static_is, settled_same, plain_parts}
 use Rattle.kp_given.proofs.Atoms.{bare_atom, same_ascending, atoms_ascend, place_is}
 
--- ---- lists
-
-pub filter_same : {X : Type 0} (f g : X → Bool) (xs : List X) → ((x : X) → Member xs x → f x ≡ g x) → filter f xs ≡ filter g xs
-filter_same f g [] h = refl
-filter_same f g (x ∷ xs) h = ap (λ t. cond t (x ∷ filter f xs) (filter f xs)) (h x (inl refl)) ∙ ap (λ ys. cond (g x) (x ∷ ys) ys) (filter_same f g xs (λ y m. h y (inr m)))
-
-pub filter_map : {X Y : Type 0} (f : X → Y) (p : Y → Bool) (xs : List X) → filter p (map f xs) ≡ map f (filter (λ x. p (f x)) xs)
-filter_map f p [] = refl
-filter_map f p (x ∷ xs) = pick (p (f x)) (filter_map f p xs)
-  where
-    pick : (t : Bool) → filter p (map f xs) ≡ map f (filter (λ y. p (f y)) xs) → cond t (f x ∷ filter p (map f xs)) (filter p (map f xs)) ≡ map f (cond t (x ∷ filter (λ y. p (f y)) xs) (filter (λ y. p (f y)) xs))
-    pick true e = ap (λ ys. f x ∷ ys) e
-    pick false e = e
-
-pub map_same : {X Y : Type 0} (f g : X → Y) (xs : List X) → ((x : X) → Member xs x → f x ≡ g x) → map f xs ≡ map g xs
-map_same f g [] h = refl
-map_same f g (x ∷ xs) h = ap (λ y. y ∷ map f xs) (h x (inl refl)) ∙ ap (λ ys. g x ∷ ys) (map_same f g xs (λ y m. h y (inr m)))
-
-all_same : {X : Type 0} (f g : X → Bool) (xs : List X) → ((x : X) → Member xs x → f x ≡ g x) → list_all f xs ≡ list_all g xs
-all_same f g [] h = refl
-all_same f g (x ∷ xs) h = ap (λ t. t && list_all f xs) (h x (inl refl)) ∙ ap (λ t. g x && t) (all_same f g xs (λ y m. h y (inr m)))
-
-pub map_map : {X Y Z : Type 0} (f : X → Y) (g : Y → Z) (xs : List X) → map g (map f xs) ≡ map (λ x. g (f x)) xs
-map_map f g [] = refl
-map_map f g (x ∷ xs) = ap (λ ys. g (f x) ∷ ys) (map_map f g xs)
-
-pub flat_of_map : {X Y Z : Type 0} (f : X → Y) (g : Y → List Z) (xs : List X) → flat_map g (map f xs) ≡ flat_map (λ x. g (f x)) xs
-flat_of_map f g [] = refl
-flat_of_map f g (x ∷ xs) = ap (λ ys. g (f x) ++ ys) (flat_of_map f g xs)
-
-pub flat_same : {X Y : Type 0} (f g : X → List Y) (xs : List X) → ((x : X) → Member xs x → f x ≡ g x) → flat_map f xs ≡ flat_map g xs
-flat_same f g [] h = refl
-flat_same f g (x ∷ xs) h = ap (λ ys. ys ++ flat_map f xs) (h x (inl refl)) ∙ ap (λ ys. g x ++ ys) (flat_same f g xs (λ y m. h y (inr m)))
-
-map_flat : {X Y Z : Type 0} (f : Y → Z) (g : X → List Y) (xs : List X) → map f (flat_map g xs) ≡ flat_map (λ x. map f (g x)) xs
-map_flat f g [] = refl
-map_flat f g (x ∷ xs) = map-append f (g x) (flat_map g xs) ∙ ap (λ ys. map f (g x) ++ ys) (map_flat f g xs)
-
-append_nothing : {X : Type 0} (xs : List X) → xs ++ [] ≡ xs
-append_nothing [] = refl
-append_nothing (x ∷ xs) = ap (λ ys. x ∷ ys) (append_nothing xs)
-
--- one by one, where each passes or doesn't
-flat_filter : {X Y : Type 0} (p : X → Bool) (f : X → Y) (xs : List X) → flat_map (λ x. cond (p x) (f x ∷ []) []) xs ≡ map f (filter p xs)
-flat_filter p f [] = refl
-flat_filter p f (x ∷ xs) = pick (p x) (flat_filter p f xs)
-  where
-    pick : (t : Bool) → flat_map (λ y. cond (p y) (f y ∷ []) []) xs ≡ map f (filter p xs) → cond t (f x ∷ []) [] ++ flat_map (λ y. cond (p y) (f y ∷ []) []) xs ≡ map f (cond t (x ∷ filter p xs) (filter p xs))
-    pick true e = ap (λ ys. f x ∷ ys) e
-    pick false e = e
-
 pub in_heads : (xs : List Name) (x : Name) → is_among xs x ≡ true → Member xs x
 in_heads xs x h = let r = any_member (same x) xs h in subst (Member xs) (sym (same-true x r.0 r.2)) r.1
 
@@ -98,23 +50,19 @@ in_heads xs x h = let r = any_member (same x) xs h in subst (Member xs) (sym (sa
 abbrev bare : Lit → Effect
 bare l = record { cond = []; result = l }
 
-and_true : (t : Bool) → (t && true) ≡ t
-and_true true = refl
-and_true false = refl
-
 once_bare : (ls : List Lit) → each_once same_effect (map bare ls) ≡ map bare (each_once same_lit ls)
 once_bare [] = refl
 once_bare (l ∷ ls) =
     ap (λ es. bare l ∷ filter (λ e. not (same_effect (bare l) e)) es) (once_bare ls)
     ∙ ap (λ es. bare l ∷ es) (filter_map bare (λ e. not (same_effect (bare l) e)) (each_once same_lit ls)
-    ∙ ap (map bare) (filter_same (λ m. not (same_effect (bare l) (bare m))) (λ m. not (same_lit l m)) (each_once same_lit ls) (λ m n. ap not (and_true (same_lit l m)))))
+    ∙ ap (map bare) (filter_same (λ m. not (same_effect (bare l) (bare m))) (λ m. not (same_lit l m)) (each_once same_lit ls) (λ m n. ap not (and-true (same_lit l m)))))
 
 idle_bare : (pre : List Lit) (all : List Lit) (l : Lit) → is_idle pre (map bare all) (bare l) ≡ plain.is_idle all l
 idle_bare pre all l = ap (λ t. not l.positive && t) (go all)
   where
     go : (ms : List Lit) → list_any (λ e. same_lit (negated l) e.result && general.is_within e.cond ((bare l).cond ++ pre)) (map bare ms) ≡ list_any (same_lit (negated l)) ms
     go [] = refl
-    go (m ∷ ms) = ap (λ t. t || list_any (λ e. same_lit (negated l) e.result && general.is_within e.cond ((bare l).cond ++ pre)) (map bare ms)) (and_true (same_lit (negated l) m)) ∙ ap (λ t. same_lit (negated l) m || t) (go ms)
+    go (m ∷ ms) = ap (λ t. t || list_any (λ e. same_lit (negated l) e.result && general.is_within e.cond ((bare l).cond ++ pre)) (map bare ms)) (and-true (same_lit (negated l) m)) ∙ ap (λ t. same_lit (negated l) m || t) (go ms)
 
 lasting_bare : (pre : List Lit) (ls : List Lit) → lasting pre (map bare ls) ≡ plain.lasting ls
 lasting_bare pre ls = filter_map bare (λ e. not (is_idle pre (map bare ls) e)) ls ∙ ap (map bare) (filter_same (λ l. not (is_idle pre (map bare ls) (bare l))) (λ l. not (plain.is_idle ls l)) ls (λ l m. ap not (idle_bare pre ls l)))
@@ -162,7 +110,7 @@ module _ (d : Domain Word) (p : Problem Word) (pd : IsPlainDomain d) (pp : IsPla
   test_is : (s : Schema Word) → Member d.schemas s → settled L [] (numbered_schema d p s).pre ≡ keeps s
   test_is s m =
       settled_is d p L (scope_of s) [] s.pre (parts s m).0
-      ∙ (all_same (is_settled d p L (scope_of s) []) (plain.is_open_or_true d p) (cond_literals s.pre) (λ l n. settled_same d p pd pp k l (all_member known_head (cond_literals s.pre) l n (k.pres s m)))
+      ∙ (all_alike (is_settled d p L (scope_of s) []) (plain.is_open_or_true d p) (cond_literals s.pre) (λ l n. settled_same d p pd pp k l (all_member known_head (cond_literals s.pre) l n (k.pres s m)))
       ∙ ap (list_all (plain.is_open_or_true d p)) (sym (pre_is s m)))
 
   kept_are : (s : Schema Word) → Member d.schemas s → kept_bindings L (numbered_schema d p s) ≡ cond (keeps s) ([] ∷ []) []
@@ -206,7 +154,7 @@ module _ (d : Domain Word) (p : Problem Word) (pd : IsPlainDomain d) (pp : IsPla
           ∙ sym (map-append (by_number d) (plain.light_pre d p s) (plain.results_of d s))))
 
       pick : (t : Bool) → flat_map (λ os. flat_literals (flat_of L (numbered_schema d p s) os)) (cond t ([] ∷ []) []) ≡ map (by_number d) (cond t (plain.light_pre d p s ++ plain.results_of d s) [])
-      pick true = append_nothing (flat_literals (flat_of L (numbered_schema d p s) [])) ∙ whole
+      pick true = append-nil (flat_literals (flat_of L (numbered_schema d p s) [])) ∙ whole
       pick false = refl
 
   init_literals : (ls : List Literal) → flat_map item_literals (map (said d p) ls) ≡ map (by_number d) ls
@@ -226,7 +174,7 @@ module _ (d : Domain Word) (p : Problem Word) (pd : IsPlainDomain d) (pp : IsPla
       ∙ (ap (λ xs. map (by_number d) (plain.goal_of d p) ++ (xs ++ flat_map (kept_literals L) L.schemas)) open_are
       ∙ (ap (λ xs. map (by_number d) (plain.goal_of d p) ++ (map (by_number d) (plain.without_static d p (plain.init_of d p)) ++ xs))
           (flat_of_map (numbered_schema d p) (kept_literals L) d.schemas
-          ∙ (flat_same (λ s. kept_literals L (numbered_schema d p s)) (λ s. map (by_number d) (those_of s)) d.schemas literals_are
+          ∙ (flat_alike (λ s. kept_literals L (numbered_schema d p s)) (λ s. map (by_number d) (those_of s)) d.schemas literals_are
           ∙ sym (map_flat (by_number d) those_of d.schemas)))
       ∙ (ap (λ xs. map (by_number d) (plain.goal_of d p) ++ xs) (sym (map-append (by_number d) (plain.without_static d p (plain.init_of d p)) (flat_map those_of d.schemas)))
       ∙ sym (map-append (by_number d) (plain.goal_of d p) (plain.without_static d p (plain.init_of d p) ++ flat_map those_of d.schemas)))))
@@ -350,7 +298,7 @@ module _ (d : Domain Word) (p : Problem Word) (pd : IsPlainDomain d) (pp : IsPla
   number_is l h = ap (λ n. record { atom = record { 0 = n }; positive = l.positive }) (place_is N A l.head h A_among)
 
   numbers_are : (ls : List Literal) → are_known d p ls ≡ true → map (numbered (map atom A)) (map (by_number d) ls) ≡ map (plain.numbered A) ls
-  numbers_are ls h = map_map (by_number d) (numbered (map atom A)) ls ∙ map_same (λ l. numbered (map atom A) (by_number d l)) (plain.numbered A) ls (λ l m. number_is l (all_member known_head ls l m h))
+  numbers_are ls h = map_map (by_number d) (numbered (map atom A)) (λ l. numbered (map atom A) (by_number d l)) ls (λ l. refl) ∙ map_same (λ l. numbered (map atom A) (by_number d l)) (plain.numbered A) ls (λ l m. number_is l (all_member known_head ls l m h))
 
   -- ---- actions
 
@@ -360,9 +308,9 @@ module _ (d : Domain Word) (p : Problem Word) (pd : IsPlainDomain d) (pp : IsPla
           = ap (numbered_set (map atom A)) (light_is s m) ∙ ap set_of (numbers_are (plain.light_pre d p s) (light_known s m)) in
       let flats : map (numbered_effect (map atom A)) (flat_of L (numbered_schema d p s) []).effects ≡ map bare (map (plain.numbered A) (plain.results_of d s))
           = ap (map (numbered_effect (map atom A))) (effects_are s m)
-          ∙ (map_map (λ l. record { cond = []; result = by_number d l }) (numbered_effect (map atom A)) (plain.results_of d s)
-          ∙ (sym (map_map (λ l. numbered (map atom A) (by_number d l)) bare (plain.results_of d s))
-          ∙ ap (map bare) (sym (map_map (by_number d) (numbered (map atom A)) (plain.results_of d s)) ∙ numbers_are (plain.results_of d s) (results_known s m)))) in
+          ∙ (map_map (λ l. record { cond = []; result = by_number d l }) (numbered_effect (map atom A)) (λ l. bare (numbered (map atom A) (by_number d l))) (plain.results_of d s) (λ l. refl)
+          ∙ (sym (map_map (λ l. numbered (map atom A) (by_number d l)) bare (λ l. bare (numbered (map atom A) (by_number d l))) (plain.results_of d s) (λ l. refl))
+          ∙ ap (map bare) (sym (map_map (by_number d) (numbered (map atom A)) (λ l. numbered (map atom A) (by_number d l)) (plain.results_of d s) (λ l. refl)) ∙ numbers_are (plain.results_of d s) (results_known s m)))) in
       let effects : general.ground_effects L (map atom A) (numbered_schema d p s) [] ≡ plain.lasting (each_once same_lit (map (plain.numbered A) (plain.results_of d s)))
           = ap (λ es. lasting (general.ground_pre L (map atom A) (numbered_schema d p s) []) (each_once same_effect es)) flats
           ∙ (ap (lasting (general.ground_pre L (map atom A) (numbered_schema d p s) [])) (once_bare (map (plain.numbered A) (plain.results_of d s)))
@@ -380,7 +328,7 @@ module _ (d : Domain Word) (p : Problem Word) (pd : IsPlainDomain d) (pp : IsPla
   actions_are : flat_map (actions_of L (map atom A)) L.schemas ≡ map (plain.action_of d p) (plain.kept d p)
   actions_are =
       flat_of_map (numbered_schema d p) (actions_of L (map atom A)) d.schemas
-      ∙ (flat_same (λ s. actions_of L (map atom A) (numbered_schema d p s)) (λ s. cond (keeps s) (plain.action_of d p s ∷ []) []) d.schemas one_action
+      ∙ (flat_alike (λ s. actions_of L (map atom A) (numbered_schema d p s)) (λ s. cond (keeps s) (plain.action_of d p s ∷ []) []) d.schemas one_action
       ∙ flat_filter keeps (plain.action_of d p) d.schemas)
 
   -- ---- names
@@ -393,7 +341,7 @@ module _ (d : Domain Word) (p : Problem Word) (pd : IsPlainDomain d) (pp : IsPla
   name_is n m = ap plain.nullary (ap (λ ns. name_at ns (index_of N n)) (pred_names d.predicates) ∙ at_index N n (A_among n m))
 
   atom_names : map (atom_name L) (map atom A) ≡ map plain.nullary A
-  atom_names = map_map atom (atom_name L) A ∙ map_same (λ n. atom_name L (atom n)) plain.nullary A name_is
+  atom_names = map_map atom (atom_name L) (λ n. atom_name L (atom n)) A (λ n. refl) ∙ map_same (λ n. atom_name L (atom n)) plain.nullary A name_is
 
   -- ---- the ground problem
 

@@ -1,3 +1,4 @@
+pub mod Lists
 pub mod Literals
 pub mod Known
 pub mod Static
@@ -8,3 +9,4 @@ pub mod Start
 pub mod Translated
 pub mod Writable
 pub mod ExampleWritable
+pub mod Consistent

@@ -20,7 +20,7 @@ use Rattle.kp_base.specs.Steps.{State, holds, has, is_model}
 use Rattle.kp_base.specs.Entailed.{Entails, IsClosure}
 use Rattle.kp_base.proofs.Ascending.{same_members, first_or_later}
 use Rattle.kp_base.proofs.Sets.{any-set_of, set_ascends}
-use Rattle.kp_base.proofs.Lists.{all_member, all_from, any_from, any_member, any_alike, any_map, member_flat_map, flat_member, member_map, map_member, member_filter, filter_member, append_member, member_left, member_right}
+use Rattle.kp_base.proofs.Lists.{all_member, all_from, any_from, any_member, any_alike, flat_alike, map_map, any_map, member_flat_map, flat_member, member_map, map_member, member_filter, filter_member, append_member, member_left, member_right}
 use Rattle.kp_base.proofs.Lits.{same_lit-true, same_lit-refl, has-member, member-has}
 use Rattle.kp_ground.proofs.Lists.{beq-true, beq-refl}
 use Rattle.kp_names.specs.declared.lifted.Item.{Item}
@@ -41,11 +41,13 @@ use Rattle.kp_plain.specs.Ground as plain
 use Rattle.kp_plain.specs.Ground.{Literal, is_named, place}
 use Rattle.kp_given.specs.Translations.{is_settled}
 use Rattle.kp_given.specs.PlainFiles.{facts_of, IsContradictory}
+use Rattle.std.proofs.Math.Bool.{and-true}
+use Rattle.kp_given.proofs.Lists.{filter_map, flat_of_map, map_same, filter_same}
 use Rattle.kp_given.proofs.Literals.{by_number, has_number, said, items_are}
 use Rattle.kp_given.proofs.Known.{are_known, AllKnown, same_index}
 use Rattle.kp_given.proofs.Static.{init_is, by_name}
 use Rattle.kp_given.proofs.Atoms.{bare_atom, place_is}
-use Rattle.kp_given.proofs.GroundProblems.{filter_map, flat_of_map, flat_same, map_same, map_map, filter_same, in_heads, A_is, A_among, number_is, atoms_are}
+use Rattle.kp_given.proofs.GroundProblems.{in_heads, A_is, A_among, number_is, atoms_are}
 
 -- ---- sets of literals
 
@@ -114,10 +116,10 @@ module _ (d : Domain Word) (p : Problem Word) (pd : IsPlainDomain d) (pp : IsPla
   abbrev atom : Name → Atom
   atom n = bare_atom (index_of N n)
 
-  abbrev T : List Atom
+  abbrev pub T : List Atom
   T = map atom A
 
-  abbrev formula : Initial
+  abbrev pub formula : Initial
   formula = initial_over (numbered_problem d p) T
 
   -- ---- the formula, by name
@@ -126,11 +128,7 @@ module _ (d : Domain Word) (p : Problem Word) (pd : IsPlainDomain d) (pp : IsPla
   clauses_of m = only_if (is_among A m.head) ((plain.numbered A m ∷ []) ∷ [])
 
   ground_test : (n : Name) → is_among N n ≡ true → is_ground T (atom n) ≡ is_among A n
-  ground_test n h = any_map atom (same_atom (atom n)) (λ m. same_atom (atom n) (atom m)) A (λ m. refl) ∙ any_alike (λ m. same_atom (atom n) (atom m)) (same n) A (λ m there. and_true (index_of N n == index_of N m) ∙ same_index N n m h (A_among d p pd pp k m there))
-    where
-      and_true : (t : Bool) → (t && true) ≡ t
-      and_true true = refl
-      and_true false = refl
+  ground_test n h = any_map atom (same_atom (atom n)) (λ m. same_atom (atom n) (atom m)) A (λ m. refl) ∙ any_alike (λ m. same_atom (atom n) (atom m)) (same n) A (λ m there. and-true (index_of N n == index_of N m) ∙ same_index N n m h (A_among d p pd pp k m there))
 
   head_known : (m : Literal) → Member F m → is_among N m.head ≡ true
   head_known m there = all_member (λ l. is_among N l.head) F m there k.init
@@ -143,7 +141,7 @@ module _ (d : Domain Word) (p : Problem Word) (pd : IsPlainDomain d) (pp : IsPla
   clauses_are : formula.clauses ≡ flat_map clauses_of F
   clauses_are =
       ap (flat_map (item_clauses T)) (items_are d p p.init pp.init)
-      ∙ (flat_of_map (said d p) (item_clauses T) F ∙ flat_same (λ m. item_clauses T (said d p m)) clauses_of F one_clause)
+      ∙ (flat_of_map (said d p) (item_clauses T) F ∙ flat_alike (λ m. item_clauses T (said d p m)) clauses_of F one_clause)
 
   named_same : (n : Name) → is_among N n ≡ true → lifted.is_named (numbered_problem d p) (index_of N n) [] ≡ is_named F n
   named_same n h =
@@ -162,7 +160,7 @@ module _ (d : Domain Word) (p : Problem Word) (pd : IsPlainDomain d) (pp : IsPla
   closed_are =
       ap (map (λ a. record { 0 = number_of T a })) (filter_map atom (λ a. not (lifted.is_named (numbered_problem d p) a.pred a.objects)) A
       ∙ ap (map atom) (filter_same (λ n. not (lifted.is_named (numbered_problem d p) (index_of N n) [])) (λ n. not (is_named F n)) A (λ n m. ap not (named_same n (A_among d p pd pp k n m)))))
-      ∙ (map_map atom (λ a. record { 0 = number_of T a }) (filter (λ n. not (is_named F n)) A)
+      ∙ (map_map atom (λ a. record { 0 = number_of T a }) (λ n. record { 0 = number_of T (atom n) }) (filter (λ n. not (is_named F n)) A) (λ n. refl)
       ∙ map_same (λ n. record { 0 = number_of T (atom n) }) at (filter (λ n. not (is_named F n)) A)
           (λ n m. ap (λ x. record { 0 = x }) (place_is N A n (A_among d p pd pp k n (filter_member (λ x. not (is_named F x)) A n m).0) (A_among d p pd pp k))))
 
@@ -281,7 +279,7 @@ module _ (d : Domain Word) (p : Problem Word) (pd : IsPlainDomain d) (pp : IsPla
 
   -- ---- where nothing is both stated and denied, there is a model in which just what is known holds
 
-  first_state : State
+  pub first_state : State
   first_state q = stated (name_at A q)
 
   at_place : (n : Name) → Member A n → name_at A (place A n) ≡ n
@@ -356,7 +354,7 @@ module _ (d : Domain Word) (p : Problem Word) (pd : IsPlainDomain d) (pp : IsPla
         pick true is = let f = sign_of true n is in absurd (false≢true (sym h ∙ any_from (λ l. same l.head n) F f.0 f.1 (subst (λ x. same x n ≡ true) (sym f.3) (same-refl n))))
         pick false is = is
 
-    first_model : is_model formula first_state ≡ true
+    pub first_model : is_model formula first_state ≡ true
     first_model =
         and_from (list_all (list_any (holds first_state)) formula.clauses) (list_all (λ q. not (first_state q.0)) formula.closed)
         (ap (list_all (list_any (holds first_state))) clauses_are ∙ flat_all (list_any (holds first_state)) clauses_of F clause_first)
@@ -407,7 +405,7 @@ module _ (d : Domain Word) (p : Problem Word) (pd : IsPlainDomain d) (pp : IsPla
         of_atoms : (l : Lit) → IsKnown l → l.atom.0 < length A
         of_atoms l h = subst (λ q. q < length A) (sym (place_index A h.name) ∙ h.number) (index_below A h.name (among_member A h.name h.there))
 
-    numbering : IsNumbering (numbered_problem d p) T
+    pub numbering : IsNumbering (numbered_problem d p) T
     numbering = subst (IsNumbering (numbered_problem d p)) (atoms_are d p pd pp k) (atoms_are_numbered (numbered_problem d p)).numbering
 
     over : IsOver (length A) formula

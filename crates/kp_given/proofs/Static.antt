@@ -8,7 +8,9 @@ use Rattle.kp_tree.specs.declared.tree.Word.{Word}
 use Rattle.kp_tree.specs.Trees.{Domain, Problem, Schema}
 use Rattle.kp_tree.specs.PlainTrees.{are_none, is_plain_cond, is_plain_eff, is_plain_schema, IsPlainDomain, IsPlainProblem}
 use Rattle.kp_base.specs.Lists.{Member, signed}
-use Rattle.kp_base.proofs.Lists.{any_map, all_member}
+use Rattle.kp_base.proofs.Lists.{any_map, any_alike, all_member}
+use Rattle.std.proofs.Math.Bool.{and-true}
+use Rattle.kp_given.proofs.Lists.{any_flat}
 use Rattle.kp_names.specs.Names.{Name, same, is_among}
 use Rattle.kp_names.specs.Types.{declared}
 use Rattle.kp_names.specs.Faults.{inside}
@@ -20,16 +22,6 @@ use Rattle.kp_plain.specs.Ground as plain
 use Rattle.kp_plain.specs.Ground.{Literal, cond_literals, eff_literals, item_literals, is_named}
 use Rattle.kp_given.proofs.Literals.{by_number, has_number, changes_is, said, items_are, is_settled}
 use Rattle.kp_given.proofs.Known.{are_known, AllKnown, known_same, same_index}
-
--- ---- lists
-
-any_same : {X : Type 0} (p q : X → Bool) (xs : List X) → ((x : X) → Member xs x → p x ≡ q x) → list_any p xs ≡ list_any q xs
-any_same p q [] h = refl
-any_same p q (x ∷ xs) h = ap (λ t. t || list_any p xs) (h x (inl refl)) ∙ ap (λ t. q x || t) (any_same p q xs (λ y m. h y (inr m)))
-
-any_flat : {X Y : Type 0} (p : Y → Bool) (f : X → List Y) (xs : List X) → list_any (λ x. list_any p (f x)) xs ≡ list_any p (flat_map f xs)
-any_flat p f [] = refl
-any_flat p f (x ∷ xs) = ap (λ t. list_any p (f x) || t) (any_flat p f xs) ∙ sym (list_any-append p (f x) (flat_map f xs))
 
 pub plain_parts : (s : Schema Word) → is_plain_schema s ≡ true → (is_plain_cond s.pre ≡ true) × (is_plain_eff s.effect ≡ true)
 plain_parts s h =
@@ -54,7 +46,7 @@ module _ (d : Domain Word) (p : Problem Word) (pd : IsPlainDomain d) (pp : IsPla
   changed : (q : ℕ) → list_any (λ a. changes q a.effect) (numbered_problem d p).schemas ≡ list_any (has_number d q) (flat_map (λ s. eff_literals s.effect) d.schemas)
   changed q =
       any_map (numbered_schema d p) (λ a. changes q a.effect) (λ s. changes q (numbered_eff d p (scope_of s) s.effect)) d.schemas (λ s. refl)
-      ∙ (any_same (λ s. changes q (numbered_eff d p (scope_of s) s.effect)) (λ s. list_any (has_number d q) (eff_literals s.effect)) d.schemas
+      ∙ (any_alike (λ s. changes q (numbered_eff d p (scope_of s) s.effect)) (λ s. list_any (has_number d q) (eff_literals s.effect)) d.schemas
           (λ s m. changes_is d p (scope_of s) q s.effect (plain_parts s (all_member is_plain_schema d.schemas s m pd.schemas)).1)
       ∙ any_flat (has_number d q) (λ s. eff_literals s.effect) d.schemas)
 
@@ -74,13 +66,9 @@ module _ (d : Domain Word) (p : Problem Word) (pd : IsPlainDomain d) (pp : IsPla
   stated n q [] = refl
   stated n q (l ∷ ls) = pick l.positive refl (stated n q ls)
     where
-      and_true : (t : Bool) → (t && true) ≡ t
-      and_true true = refl
-      and_true false = refl
-
       pick : (t : Bool) → l.positive ≡ t → list_any (static.says q []) (map (said d p) ls) ≡ list_any (has_number d q) (filter (λ m. beq true m.positive) ls)
           → ((t && (has_number d q l && true)) || list_any (static.says q []) (map (said d p) ls)) ≡ list_any (has_number d q) (cond (beq true t) (l ∷ filter (λ m. beq true m.positive) ls) (filter (λ m. beq true m.positive) ls))
-      pick true e rest = ap (λ t. t || list_any (static.says q []) (map (said d p) ls)) (and_true (has_number d q l)) ∙ ap (λ t. has_number d q l || t) rest
+      pick true e rest = ap (λ t. t || list_any (static.says q []) (map (said d p) ls)) (and-true (has_number d q l)) ∙ ap (λ t. has_number d q l || t) rest
       pick false e rest = rest
 
   -- ---- results and facts

@@ -1,7 +1,9 @@
 -- What is proved of plain files.
-use Rattle.std.specs.Prelude.{◌≡◌, ℕ, List}
+use Rattle.std.specs.Prelude.{◌≡◌, ◌↔◌, ℕ, List}
 use Rattle.kp_tree.specs.declared.tree.Word.{Word}
 use Rattle.kp_tree.specs.Trees.{Domain, Problem}
+use Rattle.kp_names.specs.States.{State}
+use Rattle.kp_names.specs.Initial.{IsInitial}
 use Rattle.kp_names.specs.Plans.{HasProblem}
 use Rattle.kp_plain.specs.Translations as plain
 use Rattle.kp_given.specs.PlainFiles.{IsDomain, IsProblem, IsContradictory}
@@ -21,6 +23,15 @@ PlainFilesArePlain = (domain_text problem_text : List ℕ) (d : Domain Word) (p 
 -- plain files have a problem, that of their trees
 abbrev pub PlainFilesHaveAProblem : Type 0
 PlainFilesHaveAProblem = (domain_text problem_text : List ℕ) (d : Domain Word) (p : Problem Word) → IsDomain domain_text d → IsProblem d problem_text p → HasThisProblem domain_text problem_text d p
+
+-- some state is initial
+pub record HasInitialState (p : Problem Word) : Type 0 where
+  pub state : State
+  pub is_initial : IsInitial p state
+
+-- `:init` of plain trees doesn't contradict itself exactly where some state is initial
+abbrev pub ContradictionsHaveNoInitialState : Type 0
+ContradictionsHaveNoInitialState = (d : Domain Word) (p : Problem Word) → ArePlain d p → (IsContradictory p.init → ⊥) ↔ HasInitialState p
 
 -- where `:init` doesn't contradict itself, what is made for plain trees is their translation
 abbrev pub PlainTranslationsAreTranslations : Type 0

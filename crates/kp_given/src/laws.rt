@@ -1,6 +1,6 @@
 //! Laws of plain files, each proved as the contract of a function that does nothing.
 
-ghost use Rattle.kp_given.specs.Laws.{PlainFilesArePlain, PlainFilesHaveAProblem, PlainTranslationsAreTranslations};
+ghost use Rattle.kp_given.specs.Laws.{ContradictionsHaveNoInitialState, PlainFilesArePlain, PlainFilesHaveAProblem, PlainTranslationsAreTranslations};
 ghost use Rattle.kp_given.specs.PlainGround.{IsPlainGround};
 ghost use Rattle.kp_given.specs.Writable.{PlainGroundsAreWritable, PlainStartsAreWritable};
 
@@ -32,4 +32,10 @@ pub fn plain_translations_are_translations()
 pub fn plain_ground_problems_can_be_written()
     ensures any_start { PlainGroundsAreWritable }
     ensures its_start { PlainStartsAreWritable }
+{}
+
+/// `:init` of plain trees contradicts itself exactly where no state is initial.
+#[tactic(auto, using(crate::proofs::Consistent::contradictions))]
+pub fn contradictions_have_no_initial_state()
+    ensures { ContradictionsHaveNoInitialState }
 {}

@@ -1,4 +1,4 @@
--- The ground problem of a plain domain and a plain problem, by name.
+-- The ground problem of a plain domain and a plain problem, by name, as the code makes it. That it is the one defined for all files is proved in kp_given, whose `Translations` is what to read.
 -- Plain files have no objects, equalities, conditional effects or uncertain facts; where a tree has them, they say nothing here.
 use Rattle.std.specs.Prelude.{ℕ, suc, Bool, true, false, not, ◌&&◌, ◌||◌, if◌then◌else◌, List, [], ◌∷◌, ◌++◌, map, filter, flat_map}
 use Rattle.std.specs.List.{list_any, list_all}

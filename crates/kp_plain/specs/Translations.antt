@@ -1,4 +1,4 @@
--- The translation of a plain domain and a plain problem.
+-- The translation of a plain domain and a plain problem, as the code makes it from their ground problem by name.
 use Rattle.kp_tree.specs.declared.tree.Word.{Word}
 use Rattle.kp_tree.specs.Trees.{Domain, Problem}
 use Rattle.kp_plain.specs.declared.translation.Translation.{Translation}

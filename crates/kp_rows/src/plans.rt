@@ -7,14 +7,12 @@ use std::test::Fail;
 // Plain files as their definition reads: a state says of each declared predicate whether it holds.
 
 fn number(domain: &Domain, atom: &AtomTree) -> usize {
-    let mut number = 0;
-    for predicate in domain.predicates.slice() {
+    for (number, predicate) in domain.predicates.slice().iter().enumerate() {
         if predicate.head.text.slice() == atom.head.text.slice() {
             return number;
         }
-        number += 1;
     }
-    number
+    domain.predicates.len()
 }
 
 fn holds(domain: &Domain, state: &[bool], cond: &CondTree) -> bool {
@@ -82,32 +80,50 @@ fn first(alloc: Global, domain: &Domain, problem: &Problem) -> Result<Vec<bool>,
     Ok(state)
 }
 
-// A list of at most so many actions that leads from the state to the goal, put behind those of the plan.
+// A state, and the actions that led to it.
+#[derive(Drop)]
+struct Path {
+    state: Vec<bool>,
+    plan: Vec<usize>,
+}
+
+// The paths with one action more.
+fn longer(alloc: Global, domain: &Domain, paths: &[Path]) -> Result<Vec<Path>, AllocError> {
+    let mut longer = Vec::new(alloc);
+    for path in paths {
+        for (action, schema) in domain.schemas.slice().iter().enumerate() {
+            if holds(domain, &path.state, &schema.pre) {
+                let state = after(alloc, domain, schema, &path.state)?;
+                let mut plan = path.plan.to_vec(alloc)?;
+                plan.push(action)?;
+                longer.push(Path { state, plan })?;
+            }
+        }
+    }
+    Ok(longer)
+}
+
+// A list of fewer than so many actions that leads from the start to the goal.
 fn find(
     alloc: Global,
     domain: &Domain,
     problem: &Problem,
-    state: &[bool],
     most: usize,
-    plan: &mut Vec<usize>,
-) -> Result<bool, AllocError> {
-    if holds(domain, state, &problem.goal) {
-        return Ok(true);
-    }
-    if most == 0 {
-        return Ok(false);
-    }
-    for (action, schema) in domain.schemas.slice().iter().enumerate() {
-        if holds(domain, state, &schema.pre) {
-            let next = after(alloc, domain, schema, state)?;
-            plan.push(action)?;
-            if find(alloc, domain, problem, &next, most - 1, plan)? {
-                return Ok(true);
+) -> Result<Option<Vec<usize>>, AllocError> {
+    let mut paths = Vec::new(alloc);
+    paths.push(Path {
+        state: first(alloc, domain, problem)?,
+        plan: Vec::new(alloc),
+    })?;
+    for _ in 0..most {
+        for path in &paths {
+            if holds(domain, &path.state, &problem.goal) {
+                return Ok(Some(path.plan.to_vec(alloc)?));
             }
-            plan.pop();
         }
+        paths = longer(alloc, domain, &paths)?;
     }
-    Ok(false)
+    Ok(None)
 }
 
 // Whether the operator is that of an action without objects and underscores.
@@ -165,11 +181,11 @@ const ADDS_AND_DELETES: &str =
 fn plans_found_in_written_files(rt: HostRuntime) -> Result<(), Fail> {
     let alloc = rt.alloc();
     let cases = [
-        (EXCHANGE, "(define (problem e) (:domain d) (:init (p)) (:goal (q)))", 1),
-        (EXCHANGE, "(define (problem e) (:domain d) (:init (p)) (:goal (and (p) (q))))", 9),
-        (ADDS_AND_DELETES, "(define (problem e) (:domain d) (:init (p)) (:goal (q)))", 1),
-        (ADDS_AND_DELETES, "(define (problem e) (:domain d) (:init (not (p))) (:goal (q)))", 9),
-        (EXCHANGE, "(define (problem e) (:domain d) (:init (q)) (:goal (and)))", 0),
+        (EXCHANGE, "(define (problem e) (:domain d) (:init (p)) (:goal (q)))", Some(1)),
+        (EXCHANGE, "(define (problem e) (:domain d) (:init (p)) (:goal (and (p) (q))))", None),
+        (ADDS_AND_DELETES, "(define (problem e) (:domain d) (:init (p)) (:goal (q)))", Some(1)),
+        (ADDS_AND_DELETES, "(define (problem e) (:domain d) (:init (not (p))) (:goal (q)))", None),
+        (EXCHANGE, "(define (problem e) (:domain d) (:init (q)) (:goal (and)))", Some(0)),
     ];
     for (domain_text, problem_text, steps) in cases {
         let mut words = Vec::new(alloc);
@@ -192,21 +208,18 @@ fn plans_found_in_written_files(rt: HostRuntime) -> Result<(), Fail> {
             Some(text) => plain_problem(alloc, text.slice())?,
             None => None,
         };
-        let mut found = false;
-        let mut plan = Vec::new(alloc);
+        let mut length = None;
         let mut right = false;
         if let (Some(given), Some(problem), Some(written), Some(written_problem)) =
             (&given, &problem, &written, &written_problem)
         {
-            let state = first(alloc, written, written_problem)?;
-            found = find(alloc, written, written_problem, &state, 3, &mut plan)?;
-            right = solves(alloc, given, problem, written, &plan)?;
+            if let Some(plan) = find(alloc, written, written_problem, 4)? {
+                right = solves(alloc, given, problem, written, &plan)?;
+                length = Some(plan.len());
+            }
         }
-        assert_eq!(rt; found, steps < 9);
-        assert!(rt; right || !found);
-        if found {
-            assert_eq!(rt; plan.len(), steps);
-        }
+        assert_eq!(rt; length, steps);
+        assert_eq!(rt; right, steps.is_some());
     }
     Ok(())
 }

@@ -2,10 +2,12 @@
 use Rattle.std.specs.Prelude.{◌≡◌, ℕ, List, Some}
 use Rattle.std.specs.FinMap.{get}
 use Rattle.kp_outside.specs.Outside.{FileMap}
+use Rattle.kp_names.specs.Plans.{HasProblem}
+use Rattle.kp_given.specs.Laws.{HasInitialState}
 use Rattle.kp_sound.specs.Laws.{PlansStrip}
 use Rattle.kp_run.specs.Command.{Command}
 
--- Each plan of the contents of the two output names after the command strips to a plan of the contents of the two input names before it.
+-- The contents of the two input names before the command have a problem with an initial state, and each plan of the contents of the two output names after it strips to a plan of theirs.
 pub record IsSound (before after : FileMap) (c : Command) : Type 0 where
   pub domain : List ℕ
   pub problem : List ℕ
@@ -13,6 +15,8 @@ pub record IsSound (before after : FileMap) (c : Command) : Type 0 where
   pub problem_out : List ℕ
   pub domain_held : get before c.domain ≡ Some domain
   pub problem_held : get before c.problem ≡ Some problem
+  pub has_problem : HasProblem domain problem
+  pub initial_state : HasInitialState has_problem.problem
   pub domain_put : get after c.domain_out ≡ Some domain_out
   pub problem_put : get after c.problem_out ≡ Some problem_out
   pub plans : PlansStrip domain_out problem_out domain problem

@@ -71,7 +71,7 @@ pub fn run<S: Shelf, O: Sink>(
 ) -> Status
     // Where it is told what the files hold, an answer is the result of the words: its status, its puts, its text.
     ensures result { (m : FileMap) → S.contents shelf.old ≡ Some m → IsAnswer result → ComesTo words.now m (S.contents shelf.old) (S.contents shelf.new) (O.told out.old) (O.told out.new) result }
-    // With Done, each plan of what was put strips to a plan of what was read.
+    // With Done, what was read has a problem with an initial state, and each plan of what was put strips to a plan of it.
     ensures sound { (before after : FileMap) (c : Names) → S.contents shelf.old ≡ Some before → S.contents shelf.new ≡ Some after → IsCommand words.now c → result ≡ status.Done → IsSound before after c }
     // An answer is the one that is due.
     ensures answer { IsAnswer result → IsDue words.now (S.contents shelf.old) result }
@@ -88,7 +88,7 @@ pub fn run<S: Shelf, O: Sink>(
         → Rises (S.get_faults shelf.old c.domain) (S.get_faults shelf.new c.domain) }
     // What is held afterwards.
     ensures puts { (c : Names) → IsCommand words.now c → (files : Files) × Puts (IsDue words.now (S.contents shelf.old) status.Done) c files (S.contents shelf.old) (S.contents shelf.new) (S.put_faults shelf.old) (S.put_faults shelf.new) result }
-    // Where it is told what the files hold, and Done is due, what is put and printed is the translation of their trees.
+    // Where it is told what the files hold, what is put and printed, as far as the run came, is the translation of their trees; files are put only where Done is due.
     ensures translated { (m : FileMap) (c : Names) (domain problem : List ℕ) (d : trees.Domain Word) (p : trees.Problem Word) → S.contents shelf.old ≡ Some m → IsCommand words.now c
         → map_of.get m c.domain ≡ Some domain → map_of.get m c.problem ≡ Some problem → IsDomain domain d → IsProblem d problem p
         → PutsAndTells (IsDue words.now (S.contents shelf.old)) c (translation_of d p) (S.contents shelf.old) (S.contents shelf.new) (S.put_faults shelf.old) (S.put_faults shelf.new) (O.told out.old) (O.told out.new) (O.faults out.old) (O.faults out.new) result }
