@@ -5,22 +5,22 @@ use Rattle.std.proofs.lemmas.Bool.{and_parts, and_from, or_parts, both_ways, lt-
 use Rattle.std.proofs.lemmas.List.{length-map}
 use Rattle.kp_tree.specs.declared.tree.Word.{Word}
 use Rattle.kp_tree.specs.Trees.{Domain, Problem, Schema, Pred}
-use Rattle.kp_tree.specs.Words.{IsName, IsHead, IsNamedPred, IsNamedSchema, IsNamedDomain}
+use Rattle.kp_tree.specs.Words.{IsName, IsNamedPred, IsNamedSchema, IsNamedDomain}
 use Rattle.kp_tree.proofs.Answered.{domains_read}
 use Rattle.kp_tree.proofs.PlainTrees.{domains_plain, problems_plain}
 use Rattle.kp_tree.proofs.NamedTrees.{domains_named}
 use Rattle.kp_base.specs.declared.lit.Lit.{Lit}
 use Rattle.kp_base.specs.declared.ground.GroundName.{GroundName}
+use Rattle.kp_base.specs.declared.ground.Action.{Action}
 use Rattle.kp_base.specs.declared.ground.Ground.{Ground}
 use Rattle.kp_base.specs.Lists.{Member, each_once}
 use Rattle.kp_base.specs.Lit.{same_lit}
 use Rattle.kp_base.specs.LitSet.{set_of}
-use Rattle.kp_base.proofs.Lists.{any_from, member_left, member_right, member_flat_map, member_filter, filter_member}
+use Rattle.kp_base.proofs.Lists.{any_from, map_member, member_left, member_right, member_flat_map, member_filter, filter_member}
 use Rattle.kp_base.proofs.Lits.{has-member}
 use Rattle.kp_base.proofs.Once.{all_filter, all_each_once}
 use Rattle.kp_base.proofs.Sets.{all-set_of}
 use Rattle.kp_names.specs.Names.{Name, same, is_among}
-use Rattle.kp_names.specs.Types.{names}
 use Rattle.kp_names.specs.Faults.{HasNoFault}
 use Rattle.kp_names.specs.Numbering.{heads, numbered_problem}
 use Rattle.kp_names.proofs.Lists.{same-refl}
@@ -34,52 +34,44 @@ use Rattle.kp_init.proofs.Runs.{initial_is_over}
 use Rattle.kp_plain.specs.Ground as plain
 use Rattle.kp_plain.specs.Ground.{Literal, is_named, place, nullary}
 use Rattle.kp_write.specs.Grounds.{IsGroundName, same_name, IsOfAtom, AreOfAtoms, IsGroundEffect, IsGroundAction, IsWritable}
-use Rattle.kp_write.proofs.Lists.{all_from}
+use Rattle.kp_write.proofs.Lists.{one_of_all, all_from}
+use Rattle.kp_write.proofs.Grounds.{mapped}
 use Rattle.kp_given.specs.PlainGround.{ArePlain}
 use Rattle.kp_given.specs.Translations.{ground_of, initial_of, start_of}
 use Rattle.kp_given.specs.Writable.{PlainGroundsAreWritable, PlainStartsAreWritable}
 use Rattle.kp_given.proofs.Known.{AllKnown, all_known}
-use Rattle.kp_given.proofs.GroundProblems.{in_heads, plain_ground}
+use Rattle.kp_given.proofs.GroundProblems.{filter_map, map_map, in_heads, plain_ground}
 
 -- ---- names that can be written and differ
-
-head_is_name : (n : Name) → IsHead n → IsName n
-head_is_name n h = record { token = h.token; low = h.low }
 
 nullary_is_name : (n : Name) → IsName n → IsGroundName (nullary n)
 nullary_is_name n h = record { head = h; objects = tt }
 
--- the declared predicates that pass
-heads_kept : (f : Name → Bool) (qs : List (Pred Word)) → AllByRecursion IsNamedPred qs → AllByRecursion IsGroundName (map nullary (filter f (names (map (λ q. q.head) qs))))
-heads_kept f [] h = tt
-heads_kept f (q ∷ qs) h = pick (f q.head.text) (heads_kept f qs h.1)
-  where
-    pick : (t : Bool) → AllByRecursion IsGroundName (map nullary (filter f (names (map (λ q. q.head) qs)))) → AllByRecursion IsGroundName (map nullary (cond t (q.head.text ∷ filter f (names (map (λ q. q.head) qs))) (filter f (names (map (λ q. q.head) qs)))))
-    pick true rest = (nullary_is_name q.head.text (head_is_name q.head.text h.0.head), rest)
-    pick false rest = rest
+module _ {X : Type 0} (key : X → Name) (f : X → Bool) where
+  -- the names of those that pass
+  abbrev called : List X → List GroundName
+  called xs = map (λ x. nullary (key x)) (filter f xs)
 
-one_name : (x y : Name) → same x y ≡ false → same_name (nullary x) (nullary y) ≡ false
-one_name x y e = ap (λ t. t && true) e
+  -- a name that is none of all names differs from these
+  apart : (n : Name) (xs : List X) → is_among (map key xs) n ≡ false → AllByRecursion (λ g. same_name (nullary n) g ≡ false) (called xs)
+  apart n [] h = tt
+  apart n (x ∷ xs) h =
+      let parts = or_parts (same n (key x)) (is_among (map key xs) n) h in
+      pick (f x) (apart n xs parts.1) (ap (λ t. t && true) parts.0)
+    where
+      pick : (t : Bool) → AllByRecursion (λ g. same_name (nullary n) g ≡ false) (called xs) → same_name (nullary n) (nullary (key x)) ≡ false → AllByRecursion (λ g. same_name (nullary n) g ≡ false) (map (λ y. nullary (key y)) (cond t (x ∷ filter f xs) (filter f xs)))
+      pick true rest e = (e, rest)
+      pick false rest e = rest
 
--- a name that is none of the list differs from those that pass
-apart : (f : Name → Bool) (x : Name) (xs : List Name) → is_among xs x ≡ false → AllByRecursion (λ g. same_name (nullary x) g ≡ false) (map nullary (filter f xs))
-apart f x [] h = tt
-apart f x (y ∷ ys) h =
-    let parts = or_parts (same x y) (is_among ys x) h in
-    pick (f y) (apart f x ys parts.1) (one_name x y parts.0)
-  where
-    pick : (t : Bool) → AllByRecursion (λ g. same_name (nullary x) g ≡ false) (map nullary (filter f ys)) → same_name (nullary x) (nullary y) ≡ false → AllByRecursion (λ g. same_name (nullary x) g ≡ false) (map nullary (cond t (y ∷ filter f ys) (filter f ys)))
-    pick true rest e = (e, rest)
-    pick false rest e = rest
-
-differ : (f : Name → Bool) (xs : List Name) → Distinct xs → IsDistinct same_name (map nullary (filter f xs))
-unfolding IsDistinct
-differ f [] h = tt
-differ f (x ∷ xs) h = pick (f x) (apart f x xs h.0) (differ f xs h.1)
-  where
-    pick : (t : Bool) → AllByRecursion (λ g. same_name (nullary x) g ≡ false) (map nullary (filter f xs)) → IsDistinct same_name (map nullary (filter f xs)) → IsDistinct same_name (map nullary (cond t (x ∷ filter f xs) (filter f xs)))
-    pick true others rest = (others, rest)
-    pick false others rest = rest
+  -- where no two of all names are one, no two of these are
+  differ : (xs : List X) → Distinct (map key xs) → IsDistinct same_name (called xs)
+  unfolding IsDistinct
+  differ [] h = tt
+  differ (x ∷ xs) h = pick (f x) (apart (key x) xs h.0) (differ xs h.1)
+    where
+      pick : (t : Bool) → AllByRecursion (λ g. same_name (nullary (key x)) g ≡ false) (called xs) → IsDistinct same_name (called xs) → IsDistinct same_name (map (λ y. nullary (key y)) (cond t (x ∷ filter f xs) (filter f xs)))
+      pick true others rest = (others, rest)
+      pick false others rest = rest
 
 -- ---- literals of atoms
 
@@ -129,8 +121,27 @@ module _ (d : Domain Word) (p : Problem Word) (named : IsNamedDomain d) (no_faul
   abbrev A : List Name
   A = plain.atoms_of d p
 
-  A_is : A ≡ filter (is_named (plain.occurring d p)) (heads d)
-  A_is = ap (filter (is_named (plain.occurring d p))) k.declared_are
+  -- the name of a predicate, and whether it occurs
+  abbrev name_of : Pred Word → Name
+  name_of q = q.head.text
+
+  abbrev occurs : Pred Word → Bool
+  occurs q = is_named (plain.occurring d p) q.head.text
+
+  heads_are : heads d ≡ map name_of d.predicates
+  heads_are = map_map (λ (q : Pred Word). q.head) (λ (w : Word). w.text) d.predicates
+
+  A_is : A ≡ map name_of (filter occurs d.predicates)
+  A_is = ap (filter (is_named (plain.occurring d p))) (k.declared_are ∙ heads_are) ∙ filter_map name_of (is_named (plain.occurring d p)) d.predicates
+
+  atoms_differ : IsDistinct same_name (map nullary A)
+  atoms_differ = subst (IsDistinct same_name) (sym (ap (map nullary) A_is ∙ map_map name_of nullary (filter occurs d.predicates))) (differ name_of occurs d.predicates (subst Distinct heads_are k.once))
+
+  atom_written : (n : Name) → Member A n → IsGroundName (nullary n)
+  atom_written n m =
+      let r = map_member name_of (filter occurs d.predicates) n (subst (λ ns. Member ns n) A_is m) in
+      let h = one_of_all IsNamedPred d.predicates r.0 named.predicates (filter_member occurs d.predicates r.0 r.1).0 in
+      nullary_is_name n (subst IsName r.2 (record { token = h.head.token; low = h.head.low }))
 
   -- a literal that occurs and is of a declared predicate is of an atom
   atom_there : (l : Literal) → Member (plain.occurring d p) l → is_among (plain.declared d) l.head ≡ true → Member A l.head
@@ -161,62 +172,35 @@ module _ (d : Domain Word) (p : Problem Word) (named : IsNamedDomain d) (no_faul
 
   -- ---- actions
 
-  action_written : (s : Schema Word) → Member (plain.kept d p) s → IsNamedSchema s → IsGroundAction (map nullary A) (plain.action_of d p s)
-  action_written s m n =
+  -- such an action is kept
+  abbrev keeps : Schema Word → Bool
+  keeps s = list_all (plain.is_open_or_true d p) (plain.pre_of d s)
+
+  action_written : (s : Schema Word) → Member (plain.kept d p) s → IsGroundAction (map nullary A) (plain.action_of d p s)
+  action_written s m =
       let results = numbers_below A (plain.results_of d s) (result_there s m) in
+      let rs = each_once same_lit (map (plain.numbered A) (plain.results_of d s)) in
       let once = all_each_once same_lit (below (length A)) (map (plain.numbered A) (plain.results_of d s)) results in
       record {
-        name = nullary_is_name s.name.text n.name;
+        name = nullary_is_name s.name.text (one_of_all IsNamedSchema d.schemas s named.schemas (filter_member keeps d.schemas s m).0).name;
         pre = sets_below A (map (plain.numbered A) (plain.light_pre d p s)) (numbers_below A (plain.light_pre d p s) (pre_there s m));
-        effects =
-            let rs = each_once same_lit (map (plain.numbered A) (plain.results_of d s)) in
-            effects_below A (filter (λ l. not (plain.is_idle rs l)) rs) (all_filter (below (length A)) (λ l. not (plain.is_idle rs l)) rs once);
+        effects = effects_below A (filter (λ l. not (plain.is_idle rs l)) rs) (all_filter (below (length A)) (λ l. not (plain.is_idle rs l)) rs once);
       }
 
-  actions_written : (ss : List (Schema Word)) → ((s : Schema Word) → Member ss s → Member (plain.kept d p) s) → AllByRecursion IsNamedSchema ss → AllByRecursion (IsGroundAction (map nullary A)) (map (plain.action_of d p) ss)
-  actions_written [] f h = tt
-  actions_written (s ∷ ss) f h = (action_written s (f s (inl refl)) h.0, actions_written ss (λ x m. f x (inr m)) h.1)
-
-  kept_named : (f : Schema Word → Bool) (ss : List (Schema Word)) → AllByRecursion IsNamedSchema ss → AllByRecursion IsNamedSchema (filter f ss)
-  kept_named f [] h = tt
-  kept_named f (s ∷ ss) h = pick (f s) (kept_named f ss h.1)
-    where
-      pick : (t : Bool) → AllByRecursion IsNamedSchema (filter f ss) → AllByRecursion IsNamedSchema (cond t (s ∷ filter f ss) (filter f ss))
-      pick true rest = (h.0, rest)
-      pick false rest = rest
-
-  -- the name of an action
-  abbrev called : List (Schema Word) → List GroundName
-  called ss = map (λ a. a.name) (map (plain.action_of d p) ss)
-
-  actions_apart : (f : Schema Word → Bool) (x : Name) (ss : List (Schema Word)) → is_among (names (map (λ a. a.name) ss)) x ≡ false → AllByRecursion (λ g. same_name (nullary x) g ≡ false) (called (filter f ss))
-  actions_apart f x [] h = tt
-  actions_apart f x (s ∷ ss) h =
-      let parts = or_parts (same x s.name.text) (is_among (names (map (λ a. a.name) ss)) x) h in
-      pick (f s) (actions_apart f x ss parts.1) (one_name x s.name.text parts.0)
-    where
-      pick : (t : Bool) → AllByRecursion (λ g. same_name (nullary x) g ≡ false) (called (filter f ss)) → same_name (nullary x) (nullary s.name.text) ≡ false → AllByRecursion (λ g. same_name (nullary x) g ≡ false) (called (cond t (s ∷ filter f ss) (filter f ss)))
-      pick true rest e = (e, rest)
-      pick false rest e = rest
-
-  actions_differ : (f : Schema Word → Bool) (ss : List (Schema Word)) → Distinct (names (map (λ a. a.name) ss)) → IsDistinct same_name (called (filter f ss))
-  unfolding IsDistinct
-  actions_differ f [] h = tt
-  actions_differ f (s ∷ ss) h = pick (f s) (actions_apart f s.name.text ss h.0) (actions_differ f ss h.1)
-    where
-      pick : (t : Bool) → AllByRecursion (λ g. same_name (nullary s.name.text) g ≡ false) (called (filter f ss)) → IsDistinct same_name (called (filter f ss)) → IsDistinct same_name (called (cond t (s ∷ filter f ss) (filter f ss)))
-      pick true others rest = (others, rest)
-      pick false others rest = rest
+  actions_differ : IsDistinct same_name (map (λ a. a.name) (map (plain.action_of d p) (plain.kept d p)))
+  actions_differ =
+      subst (IsDistinct same_name) (sym (map_map (plain.action_of d p) (λ (a : Action). a.name) (plain.kept d p)))
+      (differ (λ s. s.name.text) keeps d.schemas (subst Distinct (map_map (λ (s : Schema Word). s.name) (λ (w : Word). w.text) d.schemas) c.schemas_once))
 
   -- ---- the ground problem
 
   written : (start : List Lit) → AreOfAtoms (plain.ground_of d p).atoms start → IsWritable (plain.ground_of d p) start
   unfolding plain.ground_of
   written start h = record {
-    atoms = subst (λ ns. AllByRecursion IsGroundName (map nullary ns)) (sym A_is) (heads_kept (is_named (plain.occurring d p)) d.predicates named.predicates);
-    atoms_differ = subst (λ ns. IsDistinct same_name (map nullary ns)) (sym A_is) (differ (is_named (plain.occurring d p)) (heads d) k.once);
-    actions = actions_written (plain.kept d p) (λ s m. m) (kept_named (λ s. list_all (plain.is_open_or_true d p) (plain.pre_of d s)) d.schemas named.schemas);
-    actions_differ = actions_differ (λ s. list_all (plain.is_open_or_true d p) (plain.pre_of d s)) d.schemas c.schemas_once;
+    atoms = mapped (Member A) IsGroundName nullary atom_written A (all_from (Member A) A (λ n m. m));
+    atoms_differ = atoms_differ;
+    actions = mapped (Member (plain.kept d p)) (IsGroundAction (map nullary A)) (plain.action_of d p) action_written (plain.kept d p) (all_from (Member (plain.kept d p)) (plain.kept d p) (λ s m. m));
+    actions_differ = actions_differ;
     start_of_atoms = h;
     goal_of_atoms = sets_below A (map (plain.numbered A) (plain.goal_of d p)) (numbers_below A (plain.goal_of d p) goal_there);
   }

@@ -49,7 +49,7 @@ fact_among : (atoms : List GroundName) (l : Lit) → IsOfAtom atoms l → Member
 fact_among atoms l h = among atoms l.atom.0 l.positive h
 
 -- what holds of each element holds of what it is mapped to
-mapped : {A B : Type 0} (P : A → Type 0) (Q : B → Type 0) (f : A → B) → ((x : A) → P x → Q (f x)) → (xs : List A) → AllByRecursion P xs → AllByRecursion Q (map f xs)
+pub mapped : {A B : Type 0} (P : A → Type 0) (Q : B → Type 0) (f : A → B) → ((x : A) → P x → Q (f x)) → (xs : List A) → AllByRecursion P xs → AllByRecursion Q (map f xs)
 mapped P Q f step [] h = tt
 mapped P Q f step (x ∷ xs) h = (step x h.0, mapped P Q f step xs h.1)
 
