@@ -123,3 +123,19 @@ ground_cells = record {
 pub cells_are_ground : ground_of (lifted cells one_of_three) ≡ ground_cells
 unfolding cut_from class_of symbol_of some_at next_at
 cells_are_ground = refl
+
+-- ---- one action without conditional effects
+
+abbrev pub exchange : List ℕ
+exchange = codes "(define (domain d) (:predicates (p) (q)) (:action a :precondition (p) :effect (and (q) (not (p)))))"
+
+abbrev pub from_p_to_q : List ℕ
+from_p_to_q = codes "(define (problem e) (:domain d) (:init (p)) (:goal (q)))"
+
+exchange_is_ground : ground_of (lifted exchange from_p_to_q) ≡ record {
+  atoms = named (codes "p") [] ∷ named (codes "q") [] ∷ [];
+  actions = record { name = named (codes "a") []; pre = positive 0 ∷ []; effects = effect [] (positive 1) ∷ effect [] (negative 0) ∷ [] } ∷ [];
+  goal = positive 1 ∷ [];
+}
+unfolding cut_from class_of symbol_of some_at next_at
+exchange_is_ground = refl

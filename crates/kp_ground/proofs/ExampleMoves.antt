@@ -1,10 +1,11 @@
 -- The ground problem of moves between two places, computed from texts; the laws' premises can be met.
-use Rattle.std.proofs.Common.{◌≡◌, ℕ, true, false, List, [], ◌∷◌, refl, inl, inr, map, codes}
+use Rattle.std.proofs.Common.{◌≡◌, ℕ, true, false, List, [], ◌∷◌, Option, Some, None, refl, sym, subst, inl, inr, map, codes}
 use Rattle.kp_base.specs.declared.lit.Lit.{Lit}
 use Rattle.kp_base.specs.declared.ground.GroundName.{GroundName}
 use Rattle.kp_base.specs.declared.ground.Effect.{Effect}
 use Rattle.kp_base.specs.declared.ground.Action.{Action}
 use Rattle.kp_base.specs.declared.ground.Ground.{Ground}
+use Rattle.kp_base.specs.Lists.{Member}
 use Rattle.kp_base.specs.Lit.{positive, negative}
 use Rattle.kp_lex.specs.Bytes.{class_of}
 use Rattle.kp_lex.specs.Scanning.{cut_from}
@@ -14,19 +15,21 @@ use Rattle.kp_names.specs.declared.lifted.Term.{Term}
 use Rattle.kp_names.specs.declared.lifted.Range.{Range}
 use Rattle.kp_names.specs.declared.lifted.Item.{Item}
 use Rattle.kp_names.specs.Names.{Name}
+use Rattle.kp_names.specs.Faults.{HasNoFault}
 use Rattle.kp_names.specs.Numbered.{Cond, Eff, Effs, Schema, Lifted}
 use Rattle.kp_names.specs.Lifted.{State, ground, is_named, IsInitial, IsPlan}
 use Rattle.kp_names.specs.Numbering.{numbered_problem}
 use Rattle.kp_names.proofs.Texts.{domain_of, problem_of}
 use Rattle.kp_names.proofs.ExamplePlans.{moves, from_a_to_b}
 use Rattle.kp_ground.specs.Static.{is_static, HasStaticTruth}
-use Rattle.kp_ground.specs.Ground.{instance, kept_instances, ground_atoms, IsNumbering, ground_of}
+use Rattle.kp_ground.specs.Ground.{instance, kept_bindings, kept_instances, ground_atoms, IsNumbering, ground_of}
 use Rattle.kp_ground.specs.Weights.{binding_count, weight, total_weight}
-use Rattle.kp_ground.specs.Laws.{IsStepOf, IsGroundRun}
+use Rattle.kp_ground.specs.Laws.{IsStepOf, IsGroundRun, action_name}
 use Rattle.kp_ground.proofs.Atoms.{atoms_are_numbered}
 use Rattle.kp_ground.proofs.Static.{static_at_first}
-use Rattle.kp_ground.proofs.Step.{step_exact}
+use Rattle.kp_ground.proofs.Step.{step_exact, kept_exact}
 use Rattle.kp_ground.proofs.Plans.{plan_exact}
+use Rattle.kp_ground.proofs.Names.{actions_named_once}
 
 -- ---- the problem by number
 
@@ -122,3 +125,23 @@ stay_and_go = record { instances = refl; reaches = λ s i. i.items }
 
 a_run : (ns : List ℕ) × IsGroundRun moves_by_number (ground_atoms moves_by_number) (instance 0 (0 ∷ 0 ∷ []) ∷ instance 0 (0 ∷ 1 ∷ []) ∷ []) ns
 a_run = (plan_exact moves_by_number (ground_atoms moves_by_number) numbering first is_first (instance 0 (0 ∷ 0 ∷ []) ∷ instance 0 (0 ∷ 1 ∷ []) ∷ [])).0 stay_and_go
+
+-- it may be taken at first, and so it is kept
+a_kept_step : Member (kept_bindings moves_by_number move_schema) (0 ∷ 1 ∷ [])
+a_kept_step = kept_exact moves_by_number first truth move_schema (0 ∷ 1 ∷ []) (inr (inl refl)) refl
+
+-- ---- the names of actions
+
+abbrev number_and_name : ℕ → Option GroundName
+number_and_name n = action_name (ground_of moves_by_number) n
+
+names : map number_and_name (0 ∷ 1 ∷ 2 ∷ 3 ∷ 4 ∷ []) ≡ Some (named (codes "move") (codes "a" ∷ codes "a" ∷ [])) ∷ Some (named (codes "move") (codes "a" ∷ codes "b" ∷ [])) ∷ Some (named (codes "move") (codes "b" ∷ codes "a" ∷ [])) ∷ Some (named (codes "move") (codes "b" ∷ codes "b" ∷ [])) ∷ None ∷ []
+names = refl
+
+no_fault : HasNoFault (domain_of moves) (problem_of from_a_to_b)
+unfolding cut_from class_of symbol_of some_at next_at
+no_fault = record { domain = refl; problem = refl }
+
+-- what has the name of the second action is the second action
+by_its_name : (n : ℕ) → action_name (ground_of (numbered_problem (domain_of moves) (problem_of from_a_to_b))) n ≡ Some (named (codes "move") (codes "a" ∷ codes "b" ∷ [])) → n ≡ 1
+by_its_name n h = actions_named_once (domain_of moves) (problem_of from_a_to_b) no_fault n 1 (named (codes "move") (codes "a" ∷ codes "b" ∷ [])) h (subst (λ l. action_name (ground_of l) 1 ≡ Some (named (codes "move") (codes "a" ∷ codes "b" ∷ []))) (sym numbered_moves) refl)

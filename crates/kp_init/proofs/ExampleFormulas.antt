@@ -1,5 +1,5 @@
 -- Initial formulas and closures, computed from texts; the laws' premises can be met.
-use Rattle.std.proofs.Common.{◌≡◌, ℕ, Bool, true, false, List, [], ◌∷◌, Some, refl, sym, subst, map, nat_eq, codes}
+use Rattle.std.proofs.Common.{◌≡◌, ◌<◌, ℕ, Bool, true, false, List, [], ◌∷◌, Some, refl, sym, subst, map, nat_eq, codes}
 use Rattle.std.proofs.lemmas.Bool.{false≢true}
 use Rattle.kp_base.specs.declared.lit.AtomId.{AtomId}
 use Rattle.kp_base.specs.declared.ground.Initial.{Initial}
@@ -11,6 +11,7 @@ use Rattle.kp_tree.specs.Symbols.{symbol_of}
 use Rattle.kp_tree.specs.Parsing.{some_at, next_at}
 use Rattle.kp_names.specs.Faults.{HasNoFault}
 use Rattle.kp_names.specs.Numbered.{Lifted}
+use Rattle.kp_names.specs.Lifted as lifted
 use Rattle.kp_names.specs.Numbering.{numbered_problem}
 use Rattle.kp_names.specs.NumberLaws.{is_plain_goal}
 use Rattle.kp_names.specs.Plans as texts
@@ -18,19 +19,20 @@ use Rattle.kp_names.specs.Plans.{HasProblem, Solves}
 use Rattle.kp_names.proofs.Texts.{domain_of, problem_of, has_problem}
 use Rattle.kp_names.proofs.ExamplePlans.{moves, from_a_to_b, move}
 use Rattle.kp_names.proofs.ExampleCells.{cells, one_of_three}
-use Rattle.kp_ground.specs.Ground.{ground_atoms, ground_of}
+use Rattle.kp_ground.specs.Ground.{ground_atoms, ground_of, seen_on}
 use Rattle.kp_ground.specs.Laws.{action_name}
 use Rattle.kp_ground.proofs.Atoms.{atoms_are_numbered}
 use Rattle.kp_ground.proofs.ExampleMoves.{moves_by_number, numbered_moves, ground_moves}
-use Rattle.kp_ground.proofs.ExampleGrounds.{roads, three_towns}
+use Rattle.kp_ground.proofs.ExampleGrounds.{roads, three_towns, exchange, from_p_to_q}
 use Rattle.kp_init.specs.Initial.{initial_of}
 use Rattle.kp_init.specs.Closure.{closure, IsOver, IsAscendingClosure}
-use Rattle.kp_init.specs.Laws.{IsNamedRun}
+use Rattle.kp_init.specs.Laws.{AreModels, IsNamedRun}
+use Rattle.kp_init.proofs.Models.{initial_exact}
 use Rattle.kp_init.proofs.Runs.{initial_is_over, plan_by_name, plan_of_texts}
 use Rattle.kp_init.proofs.Closure.{closure_exact}
 
-abbrev lifted : List ℕ → List ℕ → Lifted
-lifted d p = numbered_problem (domain_of d) (problem_of p)
+abbrev by_number : List ℕ → List ℕ → Lifted
+by_number d p = numbered_problem (domain_of d) (problem_of p)
 
 abbrev atom : ℕ → AtomId
 atom n = record { 0 = n }
@@ -43,7 +45,7 @@ formula_of_cells = record {
   closed = [];
 }
 
-cells_at_first : initial_of (lifted cells one_of_three) ≡ formula_of_cells
+cells_at_first : initial_of (by_number cells one_of_three) ≡ formula_of_cells
 unfolding cut_from class_of symbol_of some_at next_at
 cells_at_first = refl
 
@@ -72,7 +74,7 @@ is_closure = closure_exact formula_of_cells 3 cells_over (positive 0 ∷ []) ref
 abbrev backwards : List ℕ
 backwards = codes "(define (problem c) (:domain cells) (:init (oneof (x3) (x1) (x3) (x2)) (or (x2) (not (x1)) (x2)) (not (x3))) (:goal (x1)))"
 
-backwards_at_first : initial_of (lifted cells backwards) ≡ record {
+backwards_at_first : initial_of (by_number cells backwards) ≡ record {
   clauses =
       (positive 0 ∷ positive 1 ∷ positive 2 ∷ []) ∷ (negative 0 ∷ negative 2 ∷ []) ∷ (negative 1 ∷ negative 2 ∷ []) ∷ (negative 0 ∷ negative 1 ∷ [])
       ∷ (negative 0 ∷ positive 1 ∷ [])
@@ -87,15 +89,21 @@ backwards_at_first = refl
 abbrev no_cell : List ℕ
 no_cell = codes "(define (problem c) (:domain cells) (:init (oneof)) (:goal (x1)))"
 
-no_cell_at_first : initial_of (lifted cells no_cell) ≡ record { clauses = [] ∷ []; closed = atom 0 ∷ atom 1 ∷ atom 2 ∷ [] }
+no_cell_at_first : initial_of (by_number cells no_cell) ≡ record { clauses = [] ∷ []; closed = atom 0 ∷ atom 1 ∷ atom 2 ∷ [] }
 unfolding cut_from class_of symbol_of some_at next_at
 no_cell_at_first = refl
 
 -- ---- a static atom has a clause only where the goal names it; what is unknown is neither stated nor closed
 
-roads_at_first : initial_of (lifted roads three_towns) ≡ record { clauses = (positive 0 ∷ []) ∷ (positive 1 ∷ []) ∷ []; closed = atom 2 ∷ atom 3 ∷ atom 4 ∷ atom 5 ∷ atom 6 ∷ [] }
+roads_at_first : initial_of (by_number roads three_towns) ≡ record { clauses = (positive 0 ∷ []) ∷ (positive 1 ∷ []) ∷ []; closed = atom 2 ∷ atom 3 ∷ atom 4 ∷ atom 5 ∷ atom 6 ∷ [] }
 unfolding cut_from class_of symbol_of some_at next_at
 roads_at_first = refl
+
+-- ---- one fact
+
+exchange_at_first : initial_of (by_number exchange from_p_to_q) ≡ record { clauses = (positive 0 ∷ []) ∷ []; closed = atom 1 ∷ [] }
+unfolding cut_from class_of symbol_of some_at next_at
+exchange_at_first = refl
 
 -- ---- plans by name
 
@@ -117,6 +125,13 @@ first n = nat_eq n 0
 
 is_first : is_model formula_of_moves first ≡ true
 is_first = refl
+
+-- it is an initial state, seen on the ground atoms
+first_state : AreModels moves_by_number (ground_atoms moves_by_number)
+first_state = initial_exact moves_by_number (ground_atoms moves_by_number) (atoms_are_numbered moves_by_number).numbering
+
+an_initial_state : (s : lifted.State) × lifted.IsInitial moves_by_number s × ((n : ℕ) → n < 2 → seen_on (ground_atoms moves_by_number) s n ≡ first n)
+an_initial_state = first_state.state first is_first
 
 -- the first two actions, one after the other, are a plan
 two_actions : IsGroundPlan ground_moves formula_of_moves (0 ∷ 1 ∷ [])

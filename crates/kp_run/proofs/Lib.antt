@@ -7,3 +7,4 @@ pub mod Words
 pub mod OneAnswer
 pub mod Translated
 pub mod Results
+pub mod Soundness

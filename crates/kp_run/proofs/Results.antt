@@ -8,7 +8,7 @@ use Rattle.kp_tree.specs.Trees.{Domain, Problem}
 use Rattle.kp_tree.specs.Plain as forms
 use Rattle.kp_outside.specs.Outside.{FileMap, with_bytes}
 use Rattle.kp_plain.specs.declared.translation.Translation.{Translation}
-use Rattle.kp_plain.specs.Translations.{translation_of}
+use Rattle.kp_given.specs.Translations.{translation_of}
 use Rattle.kp_run.specs.declared.answer.Report.{Report}
 use Rattle.kp_run.specs.declared.answer.Report.TheVariants as reports
 use Rattle.kp_run.specs.declared.status.Status.{Status}

@@ -5,14 +5,16 @@ use Rattle.kp_base.specs.declared.refused.Refused.{Refused}
 use Rattle.kp_tree.specs.declared.tree.Word.{Word}
 use Rattle.kp_tree.specs.Trees.{Domain, Problem}
 use Rattle.kp_tree.specs.Plain as forms
-use Rattle.kp_tree.specs.PlainTexts.{IsPlain}
 use Rattle.kp_plain.specs.declared.translation.Translation.{Translation}
-use Rattle.kp_plain.specs.Translations.{translation_of}
+use Rattle.kp_plain.specs.Translations as made
+use Rattle.kp_given.specs.Translations.{translation_of}
+use Rattle.kp_given.proofs.NoFault.{files_are_plain}
+use Rattle.kp_given.proofs.Translated.{plain_translations}
 use Rattle.kp_run.specs.declared.answer.Report.{Report}
 use Rattle.kp_run.specs.declared.answer.Report.TheVariants as reports
 use Rattle.kp_run.specs.declared.status.Status.{Status}
 use Rattle.kp_run.specs.declared.status.Status.TheVariants as status
-use Rattle.kp_given.specs.PlainFiles.{IsDomain, IsProblem}
+use Rattle.kp_given.specs.PlainFiles.{IsDomain, IsProblem, IsContradictory}
 use Rattle.kp_run.specs.Printed.{text_of}
 use Rattle.kp_run.specs.Reports.{status_of, printed_of, HasItsText, HasFiles, IsTranslated}
 use Rattle.kp_run.proofs.Reading.{same_tree}
@@ -27,9 +29,10 @@ refused_is d p (Ok r) x h = refused_one d p r x h.1
 refused_is d p (Err e) x h = tt
 
 -- the translation of the trees that were read is that of all trees of the texts
-pub translated : (domain problem : List ℕ) (d : Domain Word) (p : Problem Word) (t : Translation) → IsDomain domain d → IsPlain forms.plain_problem problem p → t ≡ translation_of d p → IsTranslated domain problem (reports.Done t)
-translated domain problem d p t is form e = λ f q is_f is_q.
-    e ∙ (ap (λ x. translation_of x p) (same_tree forms.plain_domain domain d f is.form is_f.form) ∙ ap (translation_of f) (same_tree forms.plain_problem problem p q form is_q.form))
+pub translated : (domain problem : List ℕ) (d : Domain Word) (p : Problem Word) (t : Translation) → IsDomain domain d → IsProblem d problem p → (IsContradictory p.init → ⊥) → t ≡ made.translation_of d p → IsTranslated domain problem (reports.Done t)
+translated domain problem d p t is of consistent e = λ f q is_f is_q.
+    (e ∙ plain_translations d p (files_are_plain domain problem d p is of) consistent)
+    ∙ (ap (λ x. translation_of x p) (same_tree forms.plain_domain domain d f is.form is_f.form) ∙ ap (translation_of f) (same_tree forms.plain_problem problem p q of.form is_q.form))
 
 pub has_files : (domain problem : List ℕ) (r : Report) (d : Domain Word) (p : Problem Word) → IsDomain domain d → IsProblem d problem p → IsTranslated domain problem r → HasFiles r (translation_of d p)
 has_files domain problem (reports.Refused x text) d p is so h = tt

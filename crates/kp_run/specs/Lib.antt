@@ -6,3 +6,4 @@ pub mod Numbers
 pub mod Among
 pub mod Reports
 pub mod Results
+pub mod Soundness

@@ -14,7 +14,7 @@ use Rattle.kp_outside.specs.Outside.{FileMap, Rises}
 use Rattle.std.specs.FinMap.{get}
 use Rattle.kp_tree.specs.declared.tree.Word.{Word}
 use Rattle.kp_tree.specs.Trees as trees
-use Rattle.kp_plain.specs.Translations.{translation_of}
+use Rattle.kp_given.specs.Translations.{translation_of}
 use Rattle.kp_given.specs.PlainFiles.{IsDomain, IsProblem}
 
 -- the answer of a report

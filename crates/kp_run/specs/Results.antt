@@ -7,7 +7,7 @@ use Rattle.kp_tree.specs.Trees as trees
 use Rattle.kp_base.specs.declared.refused.Refused.{Refused}
 use Rattle.kp_outside.specs.Outside.{FileMap, with_file, with_bytes}
 use Rattle.kp_plain.specs.declared.translation.Translation.{Translation}
-use Rattle.kp_plain.specs.Translations.{translation_of}
+use Rattle.kp_given.specs.Translations.{translation_of}
 use Rattle.kp_run.specs.declared.status.Status.{Status}
 use Rattle.kp_run.specs.declared.status.Status.TheVariants as status
 use Rattle.kp_run.specs.Command.{Command, IsCommand, IsNoCommand}

@@ -2,7 +2,7 @@ ghost use Rattle.std.specs.Prelude.{◌≡◌, ◌≢◌, ◌⊎◌, ℕ, List, 
 ghost use Rattle.std.specs.FinMap as map_of;
 ghost use Rattle.kp_tree.specs.declared.tree.Word.{Word};
 ghost use Rattle.kp_tree.specs.Trees as trees;
-ghost use Rattle.kp_plain.specs.Translations.{translation_of};
+ghost use Rattle.kp_given.specs.Translations.{translation_of};
 ghost use Rattle.kp_given.specs.PlainFiles.{IsDomain, IsProblem};
 ghost use Rattle.kp_outside.specs.declared.outside.OutsideStop.TheVariants as stops;
 ghost use Rattle.kp_outside.specs.Outside.{FileMap, Rises};
@@ -10,6 +10,7 @@ ghost use Rattle.kp_run.specs.declared.status.Status.TheVariants as status;
 ghost use Rattle.kp_run.specs.Command.{Command as Names, IsCommand, IsNoCommand};
 ghost use Rattle.kp_run.specs.Due.{AnswersFiles, IsDue, IsOfTranslate};
 ghost use Rattle.kp_run.specs.Results.{ComesTo};
+ghost use Rattle.kp_run.specs.Soundness.{IsSound};
 ghost use Rattle.kp_run.specs.Ends.{IsAnswer, GetFailed, PutFailed, Files, Puts, Tells, PutsAndTells};
 ghost use Rattle.kp_run.specs.Reports.{status_of, CountsGets, HasItsText, IsTranslatedFrom};
 
@@ -70,6 +71,8 @@ pub fn run<S: Shelf, O: Sink>(
 ) -> Status
     // Where it is told what the files hold, an answer is the result of the words: its status, its puts, its text.
     ensures result { (m : FileMap) → S.contents shelf.old ≡ Some m → IsAnswer result → ComesTo words.now m (S.contents shelf.old) (S.contents shelf.new) (O.told out.old) (O.told out.new) result }
+    // With Done, each plan of what was put strips to a plan of what was read.
+    ensures sound { (before after : FileMap) (c : Names) → S.contents shelf.old ≡ Some before → S.contents shelf.new ≡ Some after → IsCommand words.now c → result ≡ status.Done → IsSound before after c }
     // An answer is the one that is due.
     ensures answer { IsAnswer result → IsDue words.now (S.contents shelf.old) result }
     // A fault is told only where the outside failed, and where it failed a fault is told.

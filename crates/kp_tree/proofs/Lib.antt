@@ -11,3 +11,6 @@ pub mod Examples
 pub mod PlainTrees
 pub mod Computed
 pub mod ExamplesPlain
+pub mod Words
+pub mod NamedTrees
+pub mod ExampleWords

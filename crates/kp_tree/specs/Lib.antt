@@ -16,3 +16,4 @@ pub mod PlainTexts
 pub mod PlainTrees
 pub mod Shallow
 pub mod Lexing
+pub mod Words

@@ -2,6 +2,7 @@
 
 ghost use Rattle.kp_tree.specs.PlainTexts.{PlainDomainsRead, PlainProblemsRead};
 ghost use Rattle.kp_tree.specs.PlainTrees.{PlainDomainsArePlain, PlainProblemsArePlain};
+ghost use Rattle.kp_tree.specs.Words.{DomainsAreNamed, ProblemsAreNamed};
 ghost use Rattle.kp_tree.specs.Laws.{ReadsOnce, StopsOnce, NeverBoth, AlwaysOne, WholeReadsOnce, WholeStopsOnce, WholeNeverBoth, WholeAlwaysOne};
 
 /// A form reads given tokens as at most one tree, and leaves the same tokens behind it.
@@ -43,6 +44,12 @@ pub fn plain_problems_are_problems()
 pub fn plain_texts_have_plain_trees()
     ensures domains { PlainDomainsArePlain }
     ensures problems { PlainProblemsArePlain }
+{}
+
+/// The words that the tree of a file keeps as names are Names in lower case, and predicates and the heads of atoms are no reserved ones.
+pub fn names_in_trees_are_names()
+    ensures domains { DomainsAreNamed }
+    ensures problems { ProblemsAreNamed }
 {}
 
 /// A file is of a form as at most one tree, or it has one offending token; never both, and one of them always.

@@ -17,8 +17,8 @@ mod whole;
 
 pub use laws::{
     a_file_reads_or_stops, a_form_reads_once, a_form_stops_once, each_form_reads_or_stops,
-    no_form_reads_and_stops, plain_domains_are_domains, plain_problems_are_problems,
-    plain_texts_have_plain_trees,
+    names_in_trees_are_names, no_form_reads_and_stops, plain_domains_are_domains,
+    plain_problems_are_problems, plain_texts_have_plain_trees,
 };
 pub use plain::{plain_domain, plain_problem};
 pub use symbol::Symbol;

@@ -5,6 +5,7 @@ use Rattle.std.specs.List.{AllByRecursion, IsDistinct}
 use Rattle.kp_lex.specs.Bytes.{class_of}
 use Rattle.kp_lex.specs.declared.token.TokenKind.TheVariants as kinds
 use Rattle.kp_tree.specs.Symbols.{symbol_of, is_head}
+use Rattle.kp_tree.specs.Words.{IsLow, IsHead}
 use Rattle.kp_base.specs.Lists.{Member}
 use Rattle.kp_names.specs.Names.{is_among}
 use Rattle.kp_names.specs.Plans.{IsPlan}
@@ -12,8 +13,6 @@ use Rattle.kp_plain.specs.Pieces.{spelling}
 use Rattle.kp_plain.specs.Task.{Effect, Op}
 use Rattle.kp_plain.specs.Written.{op, domain_pieces, problem_pieces, domain_text, problem_text}
 use Rattle.kp_lex.specs.Cutting.{IsToken}
-use Rattle.kp_write.specs.Tokens.{IsLow}
-use Rattle.kp_write.specs.Names.{IsHead}
 use Rattle.kp_write.specs.Problems.{IsEffectOn, IsTask, HasMeantProblem}
 use Rattle.kp_write.specs.Runs.{runs, step_of}
 use Rattle.kp_write.proofs.Fine.{named}

@@ -4,6 +4,7 @@ use Rattle.std.proofs.lemmas.Bool.{false≢true}
 use Rattle.std.specs.List.{AllByRecursion, IsDistinct, flat_map}
 use Rattle.kp_tree.specs.declared.tree.Word.{Word}
 use Rattle.kp_tree.specs.Trees.{Cond, conds_of, effs_of, Pred, Domain, Problem}
+use Rattle.kp_tree.specs.Words.{IsHead}
 use Rattle.kp_base.specs.Lists.{Member}
 use Rattle.kp_names.specs.Names.{Name, same, is_among}
 use Rattle.kp_names.specs.Faults.{repeated, twice_in, words, head_faults, atom_faults, cond_faults, conds_faults, eff_faults, effs_faults, schema_faults, item_faults, HasNoFault}
@@ -11,7 +12,7 @@ use Rattle.kp_names.specs.Places.{atom_map, cond_map, conds_map, eff_map, effs_m
 use Rattle.kp_names.proofs.Lists.{same-refl}
 use Rattle.kp_names.proofs.PlacesOfFaults.{places_mean_nothing}
 use Rattle.kp_plain.specs.Task.{Signed, Effect, Op}
-use Rattle.kp_write.specs.Names.{IsHead, IsEffect, IsOp, AreHeads}
+use Rattle.kp_write.specs.Names.{IsEffect, IsOp, AreHeads}
 use Rattle.kp_write.specs.Trees.{atom_of, fact_holds, signed_holds, made_where, effect_of, schema_of, predicate_of, item_of, written_domain, written_problem}
 use Rattle.kp_write.specs.Problems.{AreAmong, IsEffectOn, IsOpOn, IsTask, WrittenTextsHaveProblem}
 use Rattle.kp_write.proofs.Lists.{every, one_of_all}

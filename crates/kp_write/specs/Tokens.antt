@@ -1,6 +1,5 @@
 -- The tokens of pieces, and which pieces are cut into just these.
 use Rattle.std.specs.Prelude.{◌≡◌, ℕ, ◌+◌, List, [], ◌∷◌, length, map, true}
-use Rattle.std.specs.Str.{str_to_ascii_lowercase}
 use Rattle.kp_lex.specs.declared.token.TokenKind.{TokenKind}
 use Rattle.kp_lex.specs.declared.token.TokenKind.TheVariants as kinds
 use Rattle.kp_lex.specs.declared.token.Token.{Token}
@@ -9,6 +8,7 @@ use Rattle.kp_lex.specs.Cutting.{IsToken, Ends, spanned, Cut}
 use Rattle.kp_tree.specs.declared.symbol.Symbol.TheVariants as symbols
 use Rattle.kp_tree.specs.declared.tree.Word.{Word}
 use Rattle.kp_tree.specs.Symbols.{Tok, symbol_of, all_seen_in}
+use Rattle.kp_tree.specs.Words.{IsLow}
 use Rattle.kp_plain.specs.Pieces.{Piece, left, right, blank, word, spelling}
 
 -- the spans of the brackets and words, from a byte on
@@ -26,10 +26,6 @@ words (left ∷ ps) = record { symbol = symbols.Left; word = 40 ∷ [] } ∷ wor
 words (right ∷ ps) = record { symbol = symbols.Right; word = 41 ∷ [] } ∷ words ps
 words (blank b ∷ ps) = words ps
 words (word k w ∷ ps) = record { symbol = symbol_of k w; word = w } ∷ words ps
-
--- the word is in lower case
-abbrev pub IsLow : List ℕ → Type 0
-IsLow w = str_to_ascii_lowercase w ≡ w
 
 -- Each word is a token of its kind in lower case, what follows it doesn't go on with it, and each blank is one.
 pub data Fine : List Piece → Type 0 where

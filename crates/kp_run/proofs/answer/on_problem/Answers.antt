@@ -51,4 +51,9 @@ pub returns-then-branch-clause-translated : goal.returns-then-branch-clause-tran
 returns-then-branch-clause-translated c d p domain front = refused_is d p c.refuse-then-branch.result _ c.refuse-then-branch.ensures
 
 pub returns-clause-translated : goal.returns-clause-translated
-returns-clause-translated c d p domain front = translated d p (domain_view c.args.domain.now) (problem_view c.in-Some.problem) _ domain (rw c.in-Some.is at (c.in_ok-problem.ensures p front)) c.in_ok-translate.ensures
+returns-clause-translated c d p domain front =
+    let form = rw c.in-Some.is at (c.in_ok-problem.ensures p front) in
+    let test = rw c.slice.ensures at c.in_ok-is_contradictory.ensures in
+    translated d p (domain_view c.args.domain.now) (problem_view c.in-Some.problem) _ domain
+    (of_these (domain_view c.args.domain.now) c.args.names.now p (problem_view c.in-Some.problem) c.requires form (sym c.knows_problem.ensures ∙ c.if-not-knows_problem.false))
+    (λ both. true≢false (sym (test.1 both) ∙ c.if-branch.false)) c.in_ok-translate.ensures

@@ -1,15 +1,17 @@
-use Rattle.std.proofs.Common.{◌≡◌, sym, subst, inl, inr}
+use Rattle.std.proofs.Common.{◌≡◌, ◌∙◌, sym, subst, inl, inr}
 use Rattle.kp_run.specs.declared.status.Status.TheVariants as status
 use Rattle.kp_run.specs.Due.{IsDue, usage}
 use Rattle.kp_run.specs.Reports.{status_of, printed_of}
 use Rattle.kp_run.proofs.Reporting.{is_due, both_held, one_command}
 use Rattle.kp_run.proofs.Ending.{no_files, gets_stopped, told_of_due, puts_where}
-use Rattle.kp_plain.specs.Translations.{translation_of}
+use Rattle.kp_given.specs.Translations.{translation_of}
 use Rattle.kp_run.specs.Ends.{files_of}
 use Rattle.kp_run.specs.Reports.{HasFiles}
 use Rattle.kp_run.proofs.Translated.{has_files, same_text}
 use Rattle.kp_run.proofs.Ending.{tells_stopped, told_as}
 use Rattle.kp_run.proofs.Results.{usage_result, report_result}
+use Rattle.kp_run.proofs.Soundness.{is_sound, never_done}
+use Rattle.kp_run.specs.Ends.{IsAnswer}
 use Rattle.kp_run.proofs.entry.run.Goals as goal
 
 -- ---- the words are no command
@@ -71,6 +73,19 @@ pub returns-in-Ok-clause-result : goal.returns-in-Ok-clause-result
 returns-in-Ok-clause-result g c m held is =
     let one = report_result c.args.words.now m c.in-Some.command c.in-Ok.report _ _ _ _ _ _ _ _ _ _ c.finish.result c.in-Some.ensures c.in-Ok.ensures.text (c.in-Ok.ensures.answers m held) (c.in-Ok.ensures.translated m held) (c.finish.ensures.answer is) c.finish.ensures.its_files c.finish.ensures.told in
     rw c.in-Ok.ensures.contents at one
+
+-- ---- soundness
+
+pub returns-in_default-clause-sound : goal.returns-in_default-clause-sound
+returns-in_default-clause-sound g c before after other told held is done = absurd (c.in_default.ensures other is)
+
+pub returns-in-Ok-clause-sound : goal.returns-in-Ok-clause-sound
+returns-in-Ok-clause-sound g c before after other told held is done =
+    let came = returns-in-Ok-clause-result g c before told (subst IsAnswer (sym done) tt) in
+    is_sound c.args.words.now before after other _ _ _ c.finish.result is done held (rw told at came)
+
+pub returns-in-Err-clause-sound : goal.returns-in-Err-clause-sound
+returns-in-Err-clause-sound g c before after other told held is done = absurd (never_done c.in-Err.stop (sym c.stopped.ensures ∙ done))
 
 -- ---- the translation
 

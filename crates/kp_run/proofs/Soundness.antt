@@ -1,0 +1,63 @@
+-- What a run that ended with Done put is sound.
+use Rattle.std.proofs.Common.{◌≡◌, ◌≢◌, ℕ, Bool, true, false, cond, List, Option, Some, Vec, refl, sym, ap, subst, ◌∙◌}
+use Rattle.std.proofs.lemmas.Bool.{false_from_ne_true}
+use Rattle.std.proofs.lemmas.Map.Text.{is_eq-slice_cmp}
+use Rattle.std.specs.Ordering.{nat_cmp, eq_by_cmp}
+use Rattle.std.specs.Cmp.Lexicographic.{slice_cmp, nat_list_cmp_total}
+use Rattle.std.specs.FinMap.{get, insert, get-insert}
+use Rattle.std.specs.declared.alloc.Global.{Global}
+use Rattle.kp_base.proofs.Lists.{same-true, same-refl}
+use Rattle.kp_outside.specs.Outside.{FileMap}
+use Rattle.kp_given.specs.Translations.{translation_of}
+use Rattle.kp_sound.proofs.Files.{plain_sound}
+use Rattle.kp_run.specs.declared.status.Status.{Status}
+use Rattle.kp_run.specs.declared.status.Status.TheVariants as status
+use Rattle.kp_run.specs.Command.{Command, IsCommand}
+use Rattle.kp_run.specs.Results.{Outcome, IsResult, usage, refused, translated, ComesTo, with_files}
+use Rattle.kp_run.specs.Soundness.{IsSound}
+use Rattle.kp_outside.specs.declared.outside.OutsideStop.{OutsideStop}
+use Rattle.kp_outside.specs.declared.outside.OutsideStop.TheVariants as stops
+use Rattle.kp_run.specs.Reports.{stop_of}
+use Rattle.kp_run.proofs.Reporting.{one_command}
+
+-- ---- what is held under two names
+
+at_last : (m : FileMap) (name content : List ℕ) → get (insert m name content) name ≡ Some content
+at_last m name content =
+    get-insert nat_list_cmp_total m name content name
+    ∙ ap (λ b. cond b (Some content) (get m name)) (is_eq-slice_cmp name name ∙ same-refl name)
+
+under_another : (m : FileMap) (name other content : List ℕ) → name ≢ other → get (insert m other content) name ≡ get m name
+under_another m name other content apart =
+    get-insert nat_list_cmp_total m other content name
+    ∙ ap (λ b. cond b (Some content) (get m name)) (is_eq-slice_cmp name other ∙ false_from_ne_true _ (λ h. apart (same-true name other h)))
+
+-- ---- the result
+
+sound_result : (words : List (Vec ℕ Global)) (before after : FileMap) (c : Command) (o : Outcome) → IsCommand words c → IsResult words before o → o.status ≡ status.Done → Some after ≡ with_files (Some before) o.puts → IsSound before after c
+sound_result words before after c _ is (usage none) done puts = absurd cc
+sound_result words before after c _ is (refused d r so answers) done puts = absurd cc
+sound_result words before after c _ is (translated e domain problem d p so first second h i consistent) done puts =
+    subst (IsSound before after) (one_command words e c so is) (record {
+      domain = domain;
+      problem = problem;
+      domain_out = (translation_of d p).domain;
+      problem_out = (translation_of d p).problem;
+      domain_held = first;
+      problem_held = second;
+      domain_put = ap (λ m. get m e.domain_out) held ∙ (under_another (insert before e.domain_out (translation_of d p).domain) e.domain_out e.problem_out (translation_of d p).problem so.outputs_differ ∙ at_last before e.domain_out (translation_of d p).domain);
+      problem_put = ap (λ m. get m e.problem_out) held ∙ at_last (insert before e.domain_out (translation_of d p).domain) e.problem_out (translation_of d p).problem;
+      plans = plain_sound domain problem d p h i;
+    })
+  where
+    held : after ≡ insert (insert before e.domain_out (translation_of d p).domain) e.problem_out (translation_of d p).problem
+    held = cc
+
+-- a run that ended with Done, where it was told what is held
+pub is_sound : (words : List (Vec ℕ Global)) (before after : FileMap) (c : Command) (new told_old told_new : Option _) (s : Status) → IsCommand words c → s ≡ status.Done → new ≡ Some after → ComesTo words before (Some before) new told_old told_new s → IsSound before after c
+is_sound words before after c new told_old told_new s is done held came = sound_result words before after c came.outcome is came.is_result (sym came.status_is ∙ done) (sym held ∙ came.puts_are)
+
+-- what stopped isn't Done
+pub never_done : (stop : OutsideStop) → stop_of stop status.ReadFault ≡ status.Done → ⊥
+never_done stops.Failed e = cc
+never_done stops.Memory e = cc
