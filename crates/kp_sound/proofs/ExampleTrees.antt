@@ -19,12 +19,13 @@ use Rattle.kp_init.specs.Initial.{initial_of}
 use Rattle.kp_init.specs.Closure.{closure}
 use Rattle.kp_init.proofs.ExampleFormulas.{no_fault, plain}
 use Rattle.kp_given.specs.Translations.{translation_of}
-use Rattle.kp_write.specs.Names.{IsName}
+use Rattle.kp_tree.specs.Words.{IsName}
 use Rattle.kp_write.specs.Grounds.{IsGroundName, IsWritable, domain_file, problem_file}
 use Rattle.kp_write.proofs.Fine.{named}
 use Rattle.kp_write.proofs.ExampleGrounds.{a_name}
 use Rattle.kp_machine.proofs.OneSided.{never_clashes}
-use Rattle.kp_sound.specs.Laws.{operator_step, IsAccepted, StripsToSolution, StripsToPlan, IsSafelyWritten}
+use Rattle.kp_sound.specs.Files.{StripsToPlan}
+use Rattle.kp_sound.specs.Laws.{operator_step, IsAccepted, StripsToSolution, IsSafelyWritten}
 use Rattle.kp_sound.proofs.Plans.{plans_accepted}
 use Rattle.kp_sound.proofs.Trees.{plans_solve, plans_strip}
 

@@ -2,7 +2,7 @@ pub mod Facts
 pub mod Operators
 pub mod Plans
 pub mod Trees
-pub mod PlainFiles
+pub mod Files
 pub mod ExamplePlans
 pub mod ExampleTrees
-pub mod ExamplePlainFiles
+pub mod ExampleFiles

@@ -32,12 +32,12 @@ pub fn written_plans_strip_to_plans()
 {}
 
 /// Plain trees never clash.
-#[tactic(auto, using(crate::proofs::PlainFiles::plain_never_clash))]
+#[tactic(auto, using(crate::proofs::Files::plain_never_clash))]
 pub fn plain_trees_never_clash()
     ensures { PlainTreesNeverClash }
 {}
 
-/// Each plan of the two texts that are made for plain files strips to a plan of the files, where they don't contradict themselves and their ground problem can be written.
+/// Each plan of what is written for plain files strips to a plan of the files, where their ground problem can be written.
 pub fn plans_for_plain_files_strip_to_plans()
     ensures { PlainPlansStripToPlans }
 {}
