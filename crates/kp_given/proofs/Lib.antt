@@ -6,3 +6,5 @@ pub mod GroundProblems
 pub mod NoFault
 pub mod Start
 pub mod Translated
+pub mod Writable
+pub mod ExampleWritable

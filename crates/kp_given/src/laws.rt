@@ -2,6 +2,7 @@
 
 ghost use Rattle.kp_given.specs.Laws.{PlainFilesArePlain, PlainFilesHaveAProblem, PlainTranslationsAreTranslations};
 ghost use Rattle.kp_given.specs.PlainGround.{IsPlainGround};
+ghost use Rattle.kp_given.specs.Writable.{PlainGroundsAreWritable, PlainStartsAreWritable};
 
 /// The trees of plain files are plain trees without a fault.
 #[tactic(auto, using(crate::proofs::NoFault::files_are_plain))]
@@ -25,4 +26,10 @@ pub fn plain_ground_problems_are_ground_problems()
 #[tactic(auto, using(crate::proofs::Translated::plain_translations))]
 pub fn plain_translations_are_translations()
     ensures { PlainTranslationsAreTranslations }
+{}
+
+/// The ground problem of plain files can be written, with any literals of its atoms known at the start, and so with those that are.
+pub fn plain_ground_problems_can_be_written()
+    ensures any_start { PlainGroundsAreWritable }
+    ensures its_start { PlainStartsAreWritable }
 {}

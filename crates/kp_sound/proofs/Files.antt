@@ -18,6 +18,7 @@ use Rattle.kp_plain.specs.Ground.{is_idle, lasting, atoms_of, numbered, results_
 use Rattle.kp_given.specs.Translations.{initial_of, translation_of}
 use Rattle.kp_given.proofs.GroundProblems.{plain_ground}
 use Rattle.kp_given.proofs.NoFault.{files_are_plain, files_have_a_problem}
+use Rattle.kp_given.proofs.Writable.{starts_writable}
 use Rattle.kp_machine.proofs.OneSided.{never_clashes}
 use Rattle.kp_sound.specs.Files.{PlansStrip}
 use Rattle.kp_sound.specs.Laws.{IsSafelyWritten, PlainTreesNeverClash, PlainPlansStripToPlans}
@@ -81,8 +82,12 @@ abbrev Safe : List ℕ → List ℕ → Domain Word → Problem Word → Type 0
 Safe domain problem d p = IsSafelyWritten d p → PlansStrip (translation_of d p).domain (translation_of d p).problem domain problem
 
 pub plain_sound : PlainPlansStripToPlans
-plain_sound domain problem d p is_domain is_problem writable =
+plain_sound domain problem d p is_domain is_problem =
+    let trees = files_are_plain domain problem d p is_domain is_problem in
     let has = files_have_a_problem domain problem d p is_domain is_problem in
     let there : Safe domain problem has.has.domain has.has.problem = plans_strip domain problem has.has in
     let here : Safe domain problem d p = subst (λ (x : Domain Word). Safe domain problem x p) has.domain (subst (λ (y : Problem Word). Safe domain problem has.has.domain y) has.problem there) in
-    here (record { writable = writable; no_clash = plain_never_clash d p (files_are_plain domain problem d p is_domain is_problem) })
+    here (record {
+      writable = starts_writable domain problem d p (record { domain = is_domain.form; problem = is_problem.form; no_fault = trees.no_fault });
+      no_clash = plain_never_clash d p trees;
+    })

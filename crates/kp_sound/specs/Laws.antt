@@ -89,6 +89,6 @@ WrittenPlansStripToPlans = (domain problem : List ℕ) (x : HasProblem domain pr
 abbrev pub PlainTreesNeverClash : Type 0
 PlainTreesNeverClash = (d : Domain Word) (p : Problem Word) → ArePlain d p → NeverClashes (ground_of d p) (initial_of d p)
 
--- where the ground problem of plain files can be written, each plan of what is written for them strips to a plan of the files
+-- each plan of what is written for plain files strips to a plan of the files
 abbrev pub PlainPlansStripToPlans : Type 0
-PlainPlansStripToPlans = (domain problem : List ℕ) (d : Domain Word) (p : Problem Word) → IsDomain domain d → IsProblem d problem p → IsWritable (ground_of d p) (start_of d p) → PlansStrip (translation_of d p).domain (translation_of d p).problem domain problem
+PlainPlansStripToPlans = (domain problem : List ℕ) (d : Domain Word) (p : Problem Word) → IsDomain domain d → IsProblem d problem p → PlansStrip (translation_of d p).domain (translation_of d p).problem domain problem

@@ -37,7 +37,7 @@ pub fn plain_trees_never_clash()
     ensures { PlainTreesNeverClash }
 {}
 
-/// Each plan of what is written for plain files strips to a plan of the files, where their ground problem can be written.
+/// Each plan of what is written for plain files strips to a plan of the files.
 pub fn plans_for_plain_files_strip_to_plans()
     ensures { PlainPlansStripToPlans }
 {}

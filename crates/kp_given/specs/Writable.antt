@@ -1,0 +1,24 @@
+-- That the ground problem of plain files can be written.
+use Rattle.std.specs.Prelude.{ℕ, List}
+use Rattle.kp_base.specs.declared.lit.Lit.{Lit}
+use Rattle.kp_tree.specs.declared.tree.Word.{Word}
+use Rattle.kp_tree.specs.Trees.{Domain, Problem}
+use Rattle.kp_tree.specs.Plain.{plain_domain, plain_problem}
+use Rattle.kp_tree.specs.PlainTexts.{IsPlain}
+use Rattle.kp_names.specs.Faults.{HasNoFault}
+use Rattle.kp_write.specs.Grounds.{AreOfAtoms, IsWritable}
+use Rattle.kp_given.specs.Translations.{ground_of, start_of}
+
+-- two plain texts with these trees, in which no name is at fault
+pub record ArePlainTexts (domain_text problem_text : List ℕ) (d : Domain Word) (p : Problem Word) : Type 0 where
+  pub domain : IsPlain plain_domain domain_text d
+  pub problem : IsPlain plain_problem problem_text p
+  pub no_fault : HasNoFault d p
+
+-- their ground problem can be written, whatever literals of its atoms are known at the start
+abbrev pub PlainGroundsAreWritable : Type 0
+PlainGroundsAreWritable = (domain_text problem_text : List ℕ) (d : Domain Word) (p : Problem Word) → ArePlainTexts domain_text problem_text d p → (start : List Lit) → AreOfAtoms (ground_of d p).atoms start → IsWritable (ground_of d p) start
+
+-- and so with the literals that are known at their start
+abbrev pub PlainStartsAreWritable : Type 0
+PlainStartsAreWritable = (domain_text problem_text : List ℕ) (d : Domain Word) (p : Problem Word) → ArePlainTexts domain_text problem_text d p → IsWritable (ground_of d p) (start_of d p)
