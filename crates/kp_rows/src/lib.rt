@@ -2,4 +2,6 @@
 #![tactic(auto)]
 
 #[cfg(test)]
+mod plans;
+#[cfg(test)]
 mod tests;

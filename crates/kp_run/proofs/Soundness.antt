@@ -9,7 +9,7 @@ use Rattle.std.specs.declared.alloc.Global.{Global}
 use Rattle.kp_base.proofs.Lists.{same-true, same-refl}
 use Rattle.kp_outside.specs.Outside.{FileMap}
 use Rattle.kp_given.specs.Translations.{translation_of}
-use Rattle.kp_sound.proofs.Files.{plain_sound}
+use Rattle.kp_sound.proofs.PlainFiles.{plain_files_sound}
 use Rattle.kp_run.specs.declared.status.Status.{Status}
 use Rattle.kp_run.specs.declared.status.Status.TheVariants as status
 use Rattle.kp_run.specs.Command.{Command, IsCommand}
@@ -47,7 +47,7 @@ sound_result words before after c _ is (translated e domain problem d p so first
       problem_held = second;
       domain_put = ap (λ m. get m e.domain_out) held ∙ (under_another (insert before e.domain_out (translation_of d p).domain) e.domain_out e.problem_out (translation_of d p).problem so.outputs_differ ∙ at_last before e.domain_out (translation_of d p).domain);
       problem_put = ap (λ m. get m e.problem_out) held ∙ at_last (insert before e.domain_out (translation_of d p).domain) e.problem_out (translation_of d p).problem;
-      plans = plain_sound domain problem d p h i;
+      plans = plain_files_sound domain problem d p h i;
     })
   where
     held : after ≡ insert (insert before e.domain_out (translation_of d p).domain) e.problem_out (translation_of d p).problem

@@ -2,7 +2,7 @@
 use Rattle.std.specs.Prelude.{◌≡◌, ℕ, List, Some}
 use Rattle.std.specs.FinMap.{get}
 use Rattle.kp_outside.specs.Outside.{FileMap}
-use Rattle.kp_sound.specs.Files.{PlansStrip}
+use Rattle.kp_sound.specs.Laws.{PlansStrip}
 use Rattle.kp_run.specs.Command.{Command}
 
 -- Each plan of the contents of the two output names after the command strips to a plan of the contents of the two input names before it.

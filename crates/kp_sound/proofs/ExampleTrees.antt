@@ -24,8 +24,7 @@ use Rattle.kp_write.specs.Grounds.{IsGroundName, IsWritable, domain_file, proble
 use Rattle.kp_write.proofs.Fine.{named}
 use Rattle.kp_write.proofs.ExampleGrounds.{a_name}
 use Rattle.kp_machine.proofs.OneSided.{never_clashes}
-use Rattle.kp_sound.specs.Files.{StripsToPlan}
-use Rattle.kp_sound.specs.Laws.{operator_step, IsAccepted, StripsToSolution, IsSafelyWritten}
+use Rattle.kp_sound.specs.Laws.{operator_step, IsAccepted, StripsToSolution, StripsToPlan, IsSafelyWritten}
 use Rattle.kp_sound.proofs.Plans.{plans_accepted}
 use Rattle.kp_sound.proofs.Trees.{plans_solve, plans_strip}
 

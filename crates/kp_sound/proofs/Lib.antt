@@ -2,7 +2,7 @@ pub mod Facts
 pub mod Operators
 pub mod Plans
 pub mod Trees
-pub mod Files
+pub mod PlainFiles
 pub mod ExamplePlans
 pub mod ExampleTrees
-pub mod ExampleFiles
+pub mod ExamplePlainFiles

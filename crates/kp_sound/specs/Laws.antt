@@ -21,7 +21,6 @@ use Rattle.kp_given.specs.PlainFiles.{IsDomain, IsProblem}
 use Rattle.kp_given.specs.PlainGround.{ArePlain}
 use Rattle.kp_given.specs.Translations.{ground_of, initial_of, start_of, translation_of}
 use Rattle.kp_write.specs.Grounds.{IsWritable, domain_file, problem_file}
-use Rattle.kp_sound.specs.Files.{PlansStrip}
 
 -- the step that takes an action in the written files: its operator, without objects
 abbrev pub operator_step : GroundName → Step
@@ -54,6 +53,12 @@ pub record StripsToSolution (d : Domain Word) (p : Problem Word) (steps : List S
   pub strips : strip steps ≡ Some stripped
   pub solves : Solves d p stripped
 
+-- the steps strip to a plan of the two texts
+pub record StripsToPlan (domain problem : List ℕ) (steps : List Step) : Type 0 where
+  pub stripped : List Step
+  pub strips : strip steps ≡ Some stripped
+  pub is_plan : IsPlan domain problem stripped
+
 -- ---- laws
 
 -- the plans of the two texts of a ground problem are the lists of actions that the machine accepts
@@ -81,7 +86,7 @@ WrittenPlansStripToSolutions = (d : Domain Word) (p : Problem Word) → HasNoFau
 
 -- where two texts have a problem, each plan of what is written for it strips to a plan of the texts
 abbrev pub WrittenPlansStripToPlans : Type 0
-WrittenPlansStripToPlans = (domain problem : List ℕ) (x : HasProblem domain problem) → IsSafelyWritten x.domain x.problem → PlansStrip (translation_of x.domain x.problem).domain (translation_of x.domain x.problem).problem domain problem
+WrittenPlansStripToPlans = (domain problem : List ℕ) (x : HasProblem domain problem) → IsSafelyWritten x.domain x.problem → (steps : List Step) → IsPlan (translation_of x.domain x.problem).domain (translation_of x.domain x.problem).problem steps → StripsToPlan domain problem steps
 
 -- ---- for plain files
 
@@ -89,6 +94,10 @@ WrittenPlansStripToPlans = (domain problem : List ℕ) (x : HasProblem domain pr
 abbrev pub PlainTreesNeverClash : Type 0
 PlainTreesNeverClash = (d : Domain Word) (p : Problem Word) → ArePlain d p → NeverClashes (ground_of d p) (initial_of d p)
 
--- each plan of what is written for plain files strips to a plan of the files
-abbrev pub PlainPlansStripToPlans : Type 0
-PlainPlansStripToPlans = (domain problem : List ℕ) (d : Domain Word) (p : Problem Word) → IsDomain domain d → IsProblem d problem p → PlansStrip (translation_of d p).domain (translation_of d p).problem domain problem
+-- each plan of the two texts that were written strips to a plan of the two given ones
+abbrev pub PlansStrip : List ℕ → List ℕ → List ℕ → List ℕ → Type 0
+PlansStrip domain_out problem_out domain problem = (steps : List Step) → IsPlan domain_out problem_out steps → StripsToPlan domain problem steps
+
+-- this holds of the translation of every two plain files
+abbrev pub PlainFilesAreSound : Type 0
+PlainFilesAreSound = (domain problem : List ℕ) (d : Domain Word) (p : Problem Word) → IsDomain domain d → IsProblem d problem p → PlansStrip (translation_of d p).domain (translation_of d p).problem domain problem

@@ -4,7 +4,8 @@
 mod laws;
 
 pub use laws::{
-    plain_trees_never_clash, plans_for_plain_files_strip_to_plans, steps_of_actions_strip,
+    plain_trees_never_clash, steps_of_actions_strip,
+    translations_of_plain_files_are_sound,
     written_plans_are_accepted_lists, written_plans_are_sound, written_plans_strip_to_plans,
     written_plans_strip_to_solutions,
 };

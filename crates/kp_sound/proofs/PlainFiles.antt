@@ -1,5 +1,5 @@
--- Plain files: nothing clashes, and the plans of what is written for them strip to their plans.
-use Rattle.std.proofs.Common.{◌≡◌, ℕ, Bool, true, false, not, List, [], map, filter, refl, sym, ap, subst, ◌∙◌}
+-- Plain files: nothing clashes, and the plans of what is made of their trees strip to their plans.
+use Rattle.std.proofs.Common.{◌≡◌, Bool, true, false, not, List, [], map, filter, refl, sym, ap, subst, ◌∙◌}
 use Rattle.std.proofs.lemmas.Bool.{and_from, false≢true}
 use Rattle.std.proofs.lemmas.List.Folds.{list_all-map}
 use Rattle.std.specs.List.{list_any, list_all}
@@ -13,6 +13,8 @@ use Rattle.kp_base.proofs.Lists.{all_from, any_from, map_member, filter_member}
 use Rattle.kp_base.proofs.Lits.{same_lit-true, same_lit-refl, negated-negated}
 use Rattle.kp_tree.specs.declared.tree.Word.{Word}
 use Rattle.kp_tree.specs.Trees.{Domain, Problem}
+use Rattle.kp_names.specs.Steps.{Step}
+use Rattle.kp_names.specs.Plans.{IsPlan}
 use Rattle.kp_plain.specs.Ground as plain
 use Rattle.kp_plain.specs.Ground.{is_idle, lasting, atoms_of, numbered, results_of, action_of, kept}
 use Rattle.kp_given.specs.Translations.{initial_of, translation_of}
@@ -20,8 +22,7 @@ use Rattle.kp_given.proofs.GroundProblems.{plain_ground}
 use Rattle.kp_given.proofs.NoFault.{files_are_plain, files_have_a_problem}
 use Rattle.kp_given.proofs.Writable.{starts_writable}
 use Rattle.kp_machine.proofs.OneSided.{never_clashes}
-use Rattle.kp_sound.specs.Files.{PlansStrip}
-use Rattle.kp_sound.specs.Laws.{IsSafelyWritten, PlainTreesNeverClash, PlainPlansStripToPlans}
+use Rattle.kp_sound.specs.Laws.{IsSafelyWritten, PlainTreesNeverClash, PlainFilesAreSound}
 use Rattle.kp_sound.proofs.Trees.{plans_strip}
 
 -- ---- no clash
@@ -77,17 +78,15 @@ plain_never_clash d p h = subst (λ (g : Ground). NeverClashes g (initial_of d p
 
 -- ---- plans
 
--- what the law on texts asks of two trees, and what it says
-abbrev Safe : List ℕ → List ℕ → Domain Word → Problem Word → Type 0
-Safe domain problem d p = IsSafelyWritten d p → PlansStrip (translation_of d p).domain (translation_of d p).problem domain problem
+-- what the law on texts asks of two trees
+abbrev Asked : List Step → Domain Word → Problem Word → Type 0
+Asked steps d p = IsSafelyWritten d p × IsPlan (translation_of d p).domain (translation_of d p).problem steps
 
-pub plain_sound : PlainPlansStripToPlans
-plain_sound domain problem d p is_domain is_problem =
+pub plain_files_sound : PlainFilesAreSound
+plain_files_sound domain problem d p is_domain is_problem steps plan =
     let trees = files_are_plain domain problem d p is_domain is_problem in
     let has = files_have_a_problem domain problem d p is_domain is_problem in
-    let there : Safe domain problem has.has.domain has.has.problem = plans_strip domain problem has.has in
-    let here : Safe domain problem d p = subst (λ (x : Domain Word). Safe domain problem x p) has.domain (subst (λ (y : Problem Word). Safe domain problem has.has.domain y) has.problem there) in
-    here (record {
-      writable = starts_writable domain problem d p (record { domain = is_domain.form; problem = is_problem.form; no_fault = trees.no_fault });
-      no_clash = plain_never_clash d p trees;
-    })
+    let writable = starts_writable domain problem d p (record { domain = is_domain.form; problem = is_problem.form; no_fault = trees.no_fault }) in
+    let here : Asked steps d p = (record { writable = writable; no_clash = plain_never_clash d p trees }, plan) in
+    let there : Asked steps has.has.domain has.has.problem = subst (λ (x : Domain Word). Asked steps x has.has.problem) (sym has.domain) (subst (λ (y : Problem Word). Asked steps d y) (sym has.problem) here) in
+    plans_strip domain problem has.has there.0 steps there.1
