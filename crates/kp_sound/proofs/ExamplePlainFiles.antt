@@ -1,18 +1,17 @@
--- Two plain files with one action: each premise of the laws on plain files is met, and a plan of what is made for them strips to their plan.
+-- Two plain files with one action: each premise of the laws on plain files is met, and a plan of what is written for them strips to their plan.
 use Rattle.std.proofs.Common.{◌≡◌, ℕ, zero, suc, List, [], ◌∷◌, codes, Contains, refl, sym, ap, arith}
 use Rattle.std.proofs.lemmas.Bool.{false≢true}
 use Rattle.kp_base.specs.Clashes.{NeverClashes}
 use Rattle.kp_tree.proofs.ExamplesPlain.{exchange, exchange_tree, exchange_plain, from_p_to_q, from_p_to_q_tree, from_p_to_q_plain}
 use Rattle.kp_names.specs.Names.{same}
 use Rattle.kp_names.specs.Plans.{IsPlan}
-use Rattle.kp_given.specs.PlainFiles.{IsDomain, IsProblem, IsContradictory}
+use Rattle.kp_given.specs.PlainFiles.{IsDomain, IsProblem}
 use Rattle.kp_given.specs.PlainGround.{ArePlain}
 use Rattle.kp_given.specs.Translations.{ground_of, initial_of, start_of, translation_of}
 use Rattle.kp_given.proofs.NoFault.{files_are_plain}
-use Rattle.kp_write.specs.Grounds.{IsWritable}
 use Rattle.kp_write.specs.Runs.{step_of}
 use Rattle.kp_write.proofs.ExampleFiles.{a}
-use Rattle.kp_write.proofs.ExampleGrounds.{ground, start, writable, its_plan}
+use Rattle.kp_write.proofs.ExampleGrounds.{ground, start, its_plan}
 use Rattle.kp_sound.specs.Laws.{StripsToPlan}
 use Rattle.kp_sound.proofs.PlainFiles.{plain_never_clash, plain_files_sound}
 
@@ -38,9 +37,6 @@ is_domain = record {
 is_problem : IsProblem exchange_tree from_p_to_q from_p_to_q_tree
 is_problem = record { form = from_p_to_q_plain; heads = ((0, omega arith, refl), ((1, omega arith, refl), tt)) }
 
-consistent : IsContradictory from_p_to_q_tree.init → ⊥
-consistent (w, stated, denied) = none w denied
-
 are_plain : ArePlain exchange_tree from_p_to_q_tree
 are_plain = files_are_plain exchange from_p_to_q exchange_tree from_p_to_q_tree is_domain is_problem
 
@@ -55,13 +51,10 @@ its_ground = refl
 its_start : start_of exchange_tree from_p_to_q_tree ≡ start
 its_start = refl
 
-can_be_written : IsWritable (ground_of exchange_tree from_p_to_q_tree) (start_of exchange_tree from_p_to_q_tree)
-can_be_written = writable
+-- ---- a plan of what is written for them
 
--- ---- a plan of what is made for them
-
-made_plan : IsPlan (translation_of exchange_tree from_p_to_q_tree).domain (translation_of exchange_tree from_p_to_q_tree).problem (step_of a ∷ [])
-made_plan = its_plan
+written_plan : IsPlan (translation_of exchange_tree from_p_to_q_tree).domain (translation_of exchange_tree from_p_to_q_tree).problem (step_of a ∷ [])
+written_plan = its_plan
 
 strips_to_plan : StripsToPlan exchange from_p_to_q (step_of a ∷ [])
-strips_to_plan = plain_files_sound exchange from_p_to_q exchange_tree from_p_to_q_tree is_domain is_problem (step_of a ∷ []) made_plan
+strips_to_plan = plain_files_sound exchange from_p_to_q exchange_tree from_p_to_q_tree is_domain is_problem (step_of a ∷ []) written_plan

@@ -59,6 +59,10 @@ pub record StripsToPlan (domain problem : List ℕ) (steps : List Step) : Type 0
   pub strips : strip steps ≡ Some stripped
   pub is_plan : IsPlan domain problem stripped
 
+-- each plan of the two texts that were written strips to a plan of the two given ones
+abbrev pub PlansStrip : List ℕ → List ℕ → List ℕ → List ℕ → Type 0
+PlansStrip domain_out problem_out domain problem = (steps : List Step) → IsPlan domain_out problem_out steps → StripsToPlan domain problem steps
+
 -- ---- laws
 
 -- the plans of the two texts of a ground problem are the lists of actions that the machine accepts
@@ -86,7 +90,7 @@ WrittenPlansStripToSolutions = (d : Domain Word) (p : Problem Word) → HasNoFau
 
 -- where two texts have a problem, each plan of what is written for it strips to a plan of the texts
 abbrev pub WrittenPlansStripToPlans : Type 0
-WrittenPlansStripToPlans = (domain problem : List ℕ) (x : HasProblem domain problem) → IsSafelyWritten x.domain x.problem → (steps : List Step) → IsPlan (translation_of x.domain x.problem).domain (translation_of x.domain x.problem).problem steps → StripsToPlan domain problem steps
+WrittenPlansStripToPlans = (domain problem : List ℕ) (x : HasProblem domain problem) → IsSafelyWritten x.domain x.problem → PlansStrip (translation_of x.domain x.problem).domain (translation_of x.domain x.problem).problem domain problem
 
 -- ---- for plain files
 
@@ -94,10 +98,6 @@ WrittenPlansStripToPlans = (domain problem : List ℕ) (x : HasProblem domain pr
 abbrev pub PlainTreesNeverClash : Type 0
 PlainTreesNeverClash = (d : Domain Word) (p : Problem Word) → ArePlain d p → NeverClashes (ground_of d p) (initial_of d p)
 
--- each plan of the two texts that were written strips to a plan of the two given ones
-abbrev pub PlansStrip : List ℕ → List ℕ → List ℕ → List ℕ → Type 0
-PlansStrip domain_out problem_out domain problem = (steps : List Step) → IsPlan domain_out problem_out steps → StripsToPlan domain problem steps
-
--- this holds of the translation of every two plain files
+-- each plan of the translation of two plain files strips to a plan of the files
 abbrev pub PlainFilesAreSound : Type 0
 PlainFilesAreSound = (domain problem : List ℕ) (d : Domain Word) (p : Problem Word) → IsDomain domain d → IsProblem d problem p → PlansStrip (translation_of d p).domain (translation_of d p).problem domain problem
