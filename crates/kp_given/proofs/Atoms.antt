@@ -36,8 +36,8 @@ same_ascending (x ∷ xs) [] h g to from = absurd (to x (inl refl))
 same_ascending (x ∷ xs) (y ∷ ys) h g to from =
     let e : x ≡ y = heads (to x (inl refl)) (from y (inl refl)) in
     let rest : xs ≡ ys = same_ascending xs ys h.1 g.1
-        (λ a m. tail a m (to a (inr m)) e)
-        (λ a m. back a m (from a (inr m)) e) in
+    (λ a m. tail a m (to a (inr m)) e)
+    (λ a m. back a m (from a (inr m)) e) in
     ap (λ z. z ∷ xs) e ∙ ap (λ zs. y ∷ zs) rest
   where
     heads : Member (y ∷ ys) x → Member (x ∷ xs) y → x ≡ y

@@ -173,9 +173,9 @@ module _ (d : Domain Word) (p : Problem Word) (pd : IsPlainDomain d) (pp : IsPla
       ap (λ xs. xs ++ (open_literals L ++ flat_map (kept_literals L) L.schemas)) (goal_is d p p.goal pp.goal ∙ ap (map (by_number d)) (sym goal_known))
       ∙ (ap (λ xs. map (by_number d) (plain.goal_of d p) ++ (xs ++ flat_map (kept_literals L) L.schemas)) open_are
       ∙ (ap (λ xs. map (by_number d) (plain.goal_of d p) ++ (map (by_number d) (plain.without_static d p (plain.init_of d p)) ++ xs))
-          (flat_of_map (numbered_schema d p) (kept_literals L) d.schemas
-          ∙ (flat_alike (λ s. kept_literals L (numbered_schema d p s)) (λ s. map (by_number d) (those_of s)) d.schemas literals_are
-          ∙ sym (map_flat (by_number d) those_of d.schemas)))
+      (flat_of_map (numbered_schema d p) (kept_literals L) d.schemas
+      ∙ (flat_alike (λ s. kept_literals L (numbered_schema d p s)) (λ s. map (by_number d) (those_of s)) d.schemas literals_are
+      ∙ sym (map_flat (by_number d) those_of d.schemas)))
       ∙ (ap (λ xs. map (by_number d) (plain.goal_of d p) ++ xs) (sym (map-append (by_number d) (plain.without_static d p (plain.init_of d p)) (flat_map those_of d.schemas)))
       ∙ sym (map-append (by_number d) (plain.goal_of d p) (plain.without_static d p (plain.init_of d p) ++ flat_map those_of d.schemas)))))
 
@@ -227,7 +227,7 @@ module _ (d : Domain Word) (p : Problem Word) (pd : IsPlainDomain d) (pp : IsPla
   all_those_known =
       both (plain.goal_of d p) (plain.without_static d p (plain.init_of d p) ++ flat_map those_of d.schemas) goal_heads
       (both (plain.without_static d p (plain.init_of d p)) (flat_map those_of d.schemas)
-        (known_filter opens (plain.init_of d p) (subst (λ ls. are_known d p ls ≡ true) (sym (init_is d p pd pp k)) k.init)) (those_known d.schemas (λ s m. m)))
+      (known_filter opens (plain.init_of d p) (subst (λ ls. are_known d p ls ≡ true) (sym (init_is d p pd pp k)) k.init)) (those_known d.schemas (λ s m. m)))
 
   -- by name the same literals occur
   kept_those : (ss : List (Schema Word)) → flat_map (λ s. plain.light_pre d p s ++ plain.results_of d s) (filter keeps ss) ≡ flat_map those_of ss
@@ -305,16 +305,16 @@ module _ (d : Domain Word) (p : Problem Word) (pd : IsPlainDomain d) (pp : IsPla
   action_is : (s : Schema Word) → Member d.schemas s → action_of L (map atom A) (numbered_schema d p s) [] ≡ plain.action_of d p s
   action_is s m =
       let pre : general.ground_pre L (map atom A) (numbered_schema d p s) [] ≡ set_of (map (plain.numbered A) (plain.light_pre d p s))
-          = ap (numbered_set (map atom A)) (light_is s m) ∙ ap set_of (numbers_are (plain.light_pre d p s) (light_known s m)) in
+      = ap (numbered_set (map atom A)) (light_is s m) ∙ ap set_of (numbers_are (plain.light_pre d p s) (light_known s m)) in
       let flats : map (numbered_effect (map atom A)) (flat_of L (numbered_schema d p s) []).effects ≡ map bare (map (plain.numbered A) (plain.results_of d s))
-          = ap (map (numbered_effect (map atom A))) (effects_are s m)
-          ∙ (map_map (λ l. record { cond = []; result = by_number d l }) (numbered_effect (map atom A)) (λ l. bare (numbered (map atom A) (by_number d l))) (plain.results_of d s) (λ l. refl)
-          ∙ (sym (map_map (λ l. numbered (map atom A) (by_number d l)) bare (λ l. bare (numbered (map atom A) (by_number d l))) (plain.results_of d s) (λ l. refl))
-          ∙ ap (map bare) (sym (map_map (by_number d) (numbered (map atom A)) (λ l. numbered (map atom A) (by_number d l)) (plain.results_of d s) (λ l. refl)) ∙ numbers_are (plain.results_of d s) (results_known s m)))) in
+      = ap (map (numbered_effect (map atom A))) (effects_are s m)
+      ∙ (map_map (λ l. record { cond = []; result = by_number d l }) (numbered_effect (map atom A)) (λ l. bare (numbered (map atom A) (by_number d l))) (plain.results_of d s) (λ l. refl)
+      ∙ (sym (map_map (λ l. numbered (map atom A) (by_number d l)) bare (λ l. bare (numbered (map atom A) (by_number d l))) (plain.results_of d s) (λ l. refl))
+      ∙ ap (map bare) (sym (map_map (by_number d) (numbered (map atom A)) (λ l. numbered (map atom A) (by_number d l)) (plain.results_of d s) (λ l. refl)) ∙ numbers_are (plain.results_of d s) (results_known s m)))) in
       let effects : general.ground_effects L (map atom A) (numbered_schema d p s) [] ≡ plain.lasting (each_once same_lit (map (plain.numbered A) (plain.results_of d s)))
-          = ap (λ es. lasting (general.ground_pre L (map atom A) (numbered_schema d p s) []) (each_once same_effect es)) flats
-          ∙ (ap (lasting (general.ground_pre L (map atom A) (numbered_schema d p s) [])) (once_bare (map (plain.numbered A) (plain.results_of d s)))
-          ∙ lasting_bare (general.ground_pre L (map atom A) (numbered_schema d p s) []) (each_once same_lit (map (plain.numbered A) (plain.results_of d s)))) in
+      = ap (λ es. lasting (general.ground_pre L (map atom A) (numbered_schema d p s) []) (each_once same_effect es)) flats
+      ∙ (ap (lasting (general.ground_pre L (map atom A) (numbered_schema d p s) [])) (once_bare (map (plain.numbered A) (plain.results_of d s)))
+      ∙ lasting_bare (general.ground_pre L (map atom A) (numbered_schema d p s) []) (each_once same_lit (map (plain.numbered A) (plain.results_of d s)))) in
       ap (λ x. record { name = plain.nullary s.name.text; pre = x; effects = general.ground_effects L (map atom A) (numbered_schema d p s) [] }) pre
       ∙ ap (λ x. record { name = plain.nullary s.name.text; pre = set_of (map (plain.numbered A) (plain.light_pre d p s)); effects = x }) effects
 
@@ -349,7 +349,7 @@ module _ (d : Domain Word) (p : Problem Word) (pd : IsPlainDomain d) (pp : IsPla
   unfolding plain.ground_of
   over =
       let goal : numbered_set (map atom A) L.goal ≡ set_of (map (plain.numbered A) (plain.goal_of d p))
-          = ap (numbered_set (map atom A)) (goal_is d p p.goal pp.goal ∙ ap (map (by_number d)) (sym goal_known)) ∙ ap set_of (numbers_are (plain.goal_of d p) goal_heads) in
+      = ap (numbered_set (map atom A)) (goal_is d p p.goal pp.goal ∙ ap (map (by_number d)) (sym goal_known)) ∙ ap set_of (numbers_are (plain.goal_of d p) goal_heads) in
       ap (λ x. record { atoms = x; actions = flat_map (actions_of L (map atom A)) L.schemas; goal = numbered_set (map atom A) L.goal }) atom_names
       ∙ (ap (λ x. record { atoms = map plain.nullary A; actions = x; goal = numbered_set (map atom A) L.goal }) actions_are
       ∙ ap (λ x. record { atoms = map plain.nullary A; actions = map (plain.action_of d p) (plain.kept d p); goal = x }) goal)

@@ -162,7 +162,7 @@ module _ (d : Domain Word) (p : Problem Word) (pd : IsPlainDomain d) (pp : IsPla
       ∙ ap (map atom) (filter_same (λ n. not (lifted.is_named (numbered_problem d p) (index_of N n) [])) (λ n. not (is_named F n)) A (λ n m. ap not (named_same n (A_among d p pd pp k n m)))))
       ∙ (map_map atom (λ a. record { 0 = number_of T a }) (λ n. record { 0 = number_of T (atom n) }) (filter (λ n. not (is_named F n)) A) (λ n. refl)
       ∙ map_same (λ n. record { 0 = number_of T (atom n) }) at (filter (λ n. not (is_named F n)) A)
-          (λ n m. ap (λ x. record { 0 = x }) (place_is N A n (A_among d p pd pp k n (filter_member (λ x. not (is_named F x)) A n m).0) (A_among d p pd pp k))))
+      (λ n m. ap (λ x. record { 0 = x }) (place_is N A n (A_among d p pd pp k n (filter_member (λ x. not (is_named F x)) A n m).0) (A_among d p pd pp k))))
 
   -- what a model makes true
   said_true : (s : State) → is_model formula s ≡ true → (m : Literal) → Member F m → is_among A m.head ≡ true → holds s (plain.numbered A m) ≡ true

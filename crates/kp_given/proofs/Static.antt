@@ -47,7 +47,7 @@ module _ (d : Domain Word) (p : Problem Word) (pd : IsPlainDomain d) (pp : IsPla
   changed q =
       any_map (numbered_schema d p) (λ a. changes q a.effect) (λ s. changes q (numbered_eff d p (scope_of s) s.effect)) d.schemas (λ s. refl)
       ∙ (any_alike (λ s. changes q (numbered_eff d p (scope_of s) s.effect)) (λ s. list_any (has_number d q) (eff_literals s.effect)) d.schemas
-          (λ s m. changes_is d p (scope_of s) q s.effect (plain_parts s (all_member is_plain_schema d.schemas s m pd.schemas)).1)
+      (λ s m. changes_is d p (scope_of s) q s.effect (plain_parts s (all_member is_plain_schema d.schemas s m pd.schemas)).1)
       ∙ any_flat (has_number d q) (λ s. eff_literals s.effect) d.schemas)
 
   -- no item denies the predicate
@@ -109,15 +109,15 @@ module _ (d : Domain Word) (p : Problem Word) (pd : IsPlainDomain d) (pp : IsPla
       let facts = flat_map item_literals p.init in
       let known_results = all_results d.schemas k.effects in
       let one : static.is_static (numbered_problem d p) q ≡ (not (list_any (has_number d q) results) && not (list_any (has_number d q) (filter (λ l. beq false l.positive) facts)))
-          = ap (λ t. not t && list_all (leaves_static q) (numbered_problem d p).init) (changed q)
-          ∙ ap (λ t. not (list_any (has_number d q) results) && t) (ap (list_all (leaves_static q)) (items_are d p p.init pp.init) ∙ undenied q facts) in
+      = ap (λ t. not t && list_all (leaves_static q) (numbered_problem d p).init) (changed q)
+      ∙ ap (λ t. not (list_any (has_number d q) results) && t) (ap (list_all (leaves_static q)) (items_are d p p.init pp.init) ∙ undenied q facts) in
       let two : (not (list_any (has_number d q) results) && not (list_any (has_number d q) (filter (λ l. beq false l.positive) facts))) ≡ (not (is_named results n) && not (is_named (filter (λ l. beq false l.positive) facts) n))
-          = ap (λ t. not t && not (list_any (has_number d q) (filter (λ l. beq false l.positive) facts))) (by_name n in_heads results known_results.1)
-          ∙ ap (λ t. not (is_named results n) && not t) (by_name n in_heads (filter (λ l. beq false l.positive) facts) (known_filter (λ l. beq false l.positive) facts k.init)) in
+      = ap (λ t. not t && not (list_any (has_number d q) (filter (λ l. beq false l.positive) facts))) (by_name n in_heads results known_results.1)
+      ∙ ap (λ t. not (is_named results n) && not t) (by_name n in_heads (filter (λ l. beq false l.positive) facts) (known_filter (λ l. beq false l.positive) facts k.init)) in
       let three : (not (is_named results n) && not (is_named (filter (λ l. beq false l.positive) facts) n)) ≡ plain.is_static d p n
-          = not_both (is_named (filter (λ l. beq false l.positive) facts) n) (is_named results n)
-          ∙ (ap not (sym (list_any-append (λ l. same l.head n) (filter (λ l. beq false l.positive) facts) results))
-          ∙ ap (λ ls. not (is_named ls n)) (ap (λ xs. xs ++ results) (ap (filter (λ l. beq false l.positive)) (sym init_is)) ∙ ap (λ xs. plain.stated false d p ++ xs) (sym known_results.0))) in
+      = not_both (is_named (filter (λ l. beq false l.positive) facts) n) (is_named results n)
+      ∙ (ap not (sym (list_any-append (λ l. same l.head n) (filter (λ l. beq false l.positive) facts) results))
+      ∙ ap (λ ls. not (is_named ls n)) (ap (λ xs. xs ++ results) (ap (filter (λ l. beq false l.positive)) (sym init_is)) ∙ ap (λ xs. plain.stated false d p ++ xs) (sym known_results.0))) in
       one ∙ (two ∙ three)
 
   pub truth_is : (n : Name) → is_among (heads d) n ≡ true → initially (numbered_problem d p) (index_of (heads d) n) [] ≡ is_named (plain.stated true d p) n

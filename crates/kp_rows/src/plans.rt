@@ -1,6 +1,9 @@
+use kp_base::Memory;
 use kp_outside::{MemoryShelf, MemorySink};
 use kp_run::run;
-use kp_tree::{AtomTree, CondTree, Domain, EffTree, ItemTree, Problem, SchemaTree, plain_domain, plain_problem};
+use kp_tree::{
+    AtomTree, CondTree, Domain, EffTree, ItemTree, Problem, SchemaTree, plain_domain, plain_problem,
+};
 use std::alloc::{AllocError, Global};
 use std::test::Fail;
 
@@ -144,7 +147,10 @@ fn solves(
         let mut taken = false;
         for schema in given.schemas.slice() {
             let named = match written.schemas.slice().get(*operator) {
-                Some(operator) => is_operator_of(operator.name.text.slice(), schema.name.text.slice()),
+                Some(operator) => is_operator_of(
+                    operator.name.text.slice(),
+                    schema.name.text.slice(),
+                ),
                 None => false,
             };
             if named && !taken && holds(given, &state, &schema.pre) {
@@ -177,49 +183,115 @@ const EXCHANGE: &str =
 const ADDS_AND_DELETES: &str =
     "(define (domain d) (:predicates (p) (q)) (:action a :precondition (p) :effect (and (q) (not (q)))))";
 
+// The shelf after `translate` of the two files.
+fn translated(alloc: Global, domain: &str, problem: &str) -> Result<MemoryShelf, Memory> {
+    let mut words = Vec::new(alloc);
+    for word in ["translate", "d", "p", "od", "op", "--mode", "k0"] {
+        words.push(word.as_bytes().to_vec(alloc)?)?;
+    }
+    let mut shelf = MemoryShelf::new(alloc)?;
+    let mut sink = MemorySink::new(alloc)?;
+    shelf.hold(b"d".as_slice(), domain.as_bytes())?;
+    shelf.hold(b"p".as_slice(), problem.as_bytes())?;
+    let _status = run(alloc, &words, &mut shelf, &mut sink);
+    Ok(shelf)
+}
+
+// The written domain and problem.
+fn read_written(alloc: Global, shelf: &MemoryShelf) -> Result<Option<(Domain, Problem)>, Memory> {
+    let Some(domain) = shelf.held(b"od".as_slice()) else {
+        return Ok(None);
+    };
+    let Some(problem) = shelf.held(b"op".as_slice()) else {
+        return Ok(None);
+    };
+    let domain = without_parameters(alloc, domain.slice())?;
+    read(alloc, &domain, problem.slice())
+}
+
+fn read(alloc: Global, domain: &[u8], problem: &[u8]) -> Result<Option<(Domain, Problem)>, Memory> {
+    let Some(domain) = plain_domain(alloc, domain)? else {
+        return Ok(None);
+    };
+    let Some(problem) = plain_problem(alloc, problem)? else {
+        return Ok(None);
+    };
+    Ok(Some((domain, problem)))
+}
+
+// What a search over the written files finds.
+#[derive(Debug, PartialEq, Eq, Drop)]
+enum Verdict {
+    // The files weren't written, or don't read.
+    NoFiles,
+    NoPlan,
+    // A plan of so many operators that is one of the given files, stripped.
+    Plan(usize),
+    // A plan that is none of the given files, stripped.
+    WrongPlan,
+}
+
+fn judge(
+    alloc: Global,
+    domain: &str,
+    problem: &str,
+    written: &Domain,
+    plan: &[usize],
+) -> Result<Verdict, Memory> {
+    let Some((given, given_problem)) = read(alloc, domain.as_bytes(), problem.as_bytes())? else {
+        return Ok(Verdict::NoFiles);
+    };
+    if solves(alloc, &given, &given_problem, written, plan)? {
+        Ok(Verdict::Plan(plan.len()))
+    } else {
+        Ok(Verdict::WrongPlan)
+    }
+}
+
+fn found(alloc: Global, domain: &str, problem: &str) -> Result<Verdict, Memory> {
+    let shelf = translated(alloc, domain, problem)?;
+    let Some((written, written_problem)) = read_written(alloc, &shelf)? else {
+        return Ok(Verdict::NoFiles);
+    };
+    match find(alloc, &written, &written_problem, 4)? {
+        Some(plan) => judge(alloc, domain, problem, &written, &plan),
+        None => Ok(Verdict::NoPlan),
+    }
+}
+
 #[test]
 fn plans_found_in_written_files(rt: HostRuntime) -> Result<(), Fail> {
     let alloc = rt.alloc();
     let cases = [
-        (EXCHANGE, "(define (problem e) (:domain d) (:init (p)) (:goal (q)))", Some(1)),
-        (EXCHANGE, "(define (problem e) (:domain d) (:init (p)) (:goal (and (p) (q))))", None),
-        (ADDS_AND_DELETES, "(define (problem e) (:domain d) (:init (p)) (:goal (q)))", Some(1)),
-        (ADDS_AND_DELETES, "(define (problem e) (:domain d) (:init (not (p))) (:goal (q)))", None),
-        (EXCHANGE, "(define (problem e) (:domain d) (:init (q)) (:goal (and)))", Some(0)),
+        (
+            EXCHANGE,
+            "(define (problem e) (:domain d) (:init (p)) (:goal (q)))",
+            Verdict::Plan(1),
+        ),
+        (
+            EXCHANGE,
+            "(define (problem e) (:domain d) (:init (p)) (:goal (and (p) (q))))",
+            Verdict::NoPlan,
+        ),
+        (
+            ADDS_AND_DELETES,
+            "(define (problem e) (:domain d) (:init (p)) (:goal (q)))",
+            Verdict::Plan(1),
+        ),
+        (
+            ADDS_AND_DELETES,
+            "(define (problem e) (:domain d) (:init (not (p))) (:goal (q)))",
+            Verdict::NoPlan,
+        ),
+        (
+            EXCHANGE,
+            "(define (problem e) (:domain d) (:init (q)) (:goal (and)))",
+            Verdict::Plan(0),
+        ),
     ];
-    for (domain_text, problem_text, steps) in cases {
-        let mut words = Vec::new(alloc);
-        for word in ["translate", "d", "p", "od", "op", "--mode", "k0"] {
-            words.push(word.as_bytes().to_vec(alloc)?)?;
-        }
-        let mut shelf = MemoryShelf::new(alloc)?;
-        let mut sink = MemorySink::new(alloc)?;
-        shelf.hold(b"d".as_slice(), domain_text.as_bytes())?;
-        shelf.hold(b"p".as_slice(), problem_text.as_bytes())?;
-        let status = run(alloc, &words, &mut shelf, &mut sink);
-        assert_eq!(rt; status.number(), 0);
-        let given = plain_domain(alloc, domain_text.as_bytes())?;
-        let problem = plain_problem(alloc, problem_text.as_bytes())?;
-        let written = match shelf.held(b"od".as_slice()) {
-            Some(text) => plain_domain(alloc, &without_parameters(alloc, text.slice())?)?,
-            None => None,
-        };
-        let written_problem = match shelf.held(b"op".as_slice()) {
-            Some(text) => plain_problem(alloc, text.slice())?,
-            None => None,
-        };
-        let mut length = None;
-        let mut right = false;
-        if let (Some(given), Some(problem), Some(written), Some(written_problem)) =
-            (&given, &problem, &written, &written_problem)
-        {
-            if let Some(plan) = find(alloc, written, written_problem, 4)? {
-                right = solves(alloc, given, problem, written, &plan)?;
-                length = Some(plan.len());
-            }
-        }
-        assert_eq!(rt; length, steps);
-        assert_eq!(rt; right, steps.is_some());
+    for (domain, problem, wanted) in &cases {
+        let found = found(alloc, domain, problem)?;
+        assert!(rt; found == *wanted);
     }
     Ok(())
 }

@@ -1,5 +1,5 @@
-use kp_run::run;
 use kp_outside::{MemoryShelf, MemorySink};
+use kp_run::run;
 use std::alloc::{AllocError, Global};
 use std::test::Fail;
 
