@@ -16,7 +16,7 @@ use Rattle.kp_base.specs.declared.ground.Ground.{Ground}
 use Rattle.kp_base.specs.Lists.{Member, each_once}
 use Rattle.kp_base.specs.Lit.{same_lit}
 use Rattle.kp_base.specs.LitSet.{set_of}
-use Rattle.kp_base.proofs.Lists.{any_from, map_member, member_left, member_right, member_flat_map, member_filter, filter_member}
+use Rattle.kp_base.proofs.Lists.{any_from, map_map, map_member, member_left, member_right, member_flat_map, member_filter, filter_member}
 use Rattle.kp_base.proofs.Lits.{has-member}
 use Rattle.kp_base.proofs.Once.{all_filter, all_each_once}
 use Rattle.kp_base.proofs.Sets.{all-set_of}
@@ -40,7 +40,8 @@ use Rattle.kp_given.specs.PlainGround.{ArePlain}
 use Rattle.kp_given.specs.Translations.{ground_of, initial_of, start_of}
 use Rattle.kp_given.specs.Writable.{PlainGroundsAreWritable, PlainStartsAreWritable}
 use Rattle.kp_given.proofs.Known.{AllKnown, all_known}
-use Rattle.kp_given.proofs.GroundProblems.{filter_map, map_map, in_heads, plain_ground}
+use Rattle.kp_given.proofs.GroundProblems.{in_heads, plain_ground}
+use Rattle.kp_given.proofs.Lists.{filter_map}
 
 -- ---- names that can be written and differ
 
@@ -129,13 +130,13 @@ module _ (d : Domain Word) (p : Problem Word) (named : IsNamedDomain d) (no_faul
   occurs q = is_named (plain.occurring d p) q.head.text
 
   heads_are : heads d ≡ map name_of d.predicates
-  heads_are = map_map (λ (q : Pred Word). q.head) (λ (w : Word). w.text) d.predicates
+  heads_are = map_map (λ (q : Pred Word). q.head) (λ (w : Word). w.text) (λ (q : Pred Word). q.head.text) d.predicates (λ q. refl)
 
   A_is : A ≡ map name_of (filter occurs d.predicates)
   A_is = ap (filter (is_named (plain.occurring d p))) (k.declared_are ∙ heads_are) ∙ filter_map name_of (is_named (plain.occurring d p)) d.predicates
 
   atoms_differ : IsDistinct same_name (map nullary A)
-  atoms_differ = subst (IsDistinct same_name) (sym (ap (map nullary) A_is ∙ map_map name_of nullary (filter occurs d.predicates))) (differ name_of occurs d.predicates (subst Distinct heads_are k.once))
+  atoms_differ = subst (IsDistinct same_name) (sym (ap (map nullary) A_is ∙ map_map name_of nullary (λ q. nullary (name_of q)) (filter occurs d.predicates) (λ q. refl))) (differ name_of occurs d.predicates (subst Distinct heads_are k.once))
 
   atom_written : (n : Name) → Member A n → IsGroundName (nullary n)
   atom_written n m =
@@ -189,8 +190,8 @@ module _ (d : Domain Word) (p : Problem Word) (named : IsNamedDomain d) (no_faul
 
   actions_differ : IsDistinct same_name (map (λ a. a.name) (map (plain.action_of d p) (plain.kept d p)))
   actions_differ =
-      subst (IsDistinct same_name) (sym (map_map (plain.action_of d p) (λ (a : Action). a.name) (plain.kept d p)))
-      (differ (λ s. s.name.text) keeps d.schemas (subst Distinct (map_map (λ (s : Schema Word). s.name) (λ (w : Word). w.text) d.schemas) c.schemas_once))
+      subst (IsDistinct same_name) (sym (map_map (plain.action_of d p) (λ (a : Action). a.name) (λ s. (plain.action_of d p s).name) (plain.kept d p) (λ s. refl)))
+      (differ (λ s. s.name.text) keeps d.schemas (subst Distinct (map_map (λ (s : Schema Word). s.name) (λ (w : Word). w.text) (λ (s : Schema Word). s.name.text) d.schemas (λ s. refl)) c.schemas_once))
 
   -- ---- the ground problem
 
