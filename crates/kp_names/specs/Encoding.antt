@@ -4,9 +4,11 @@ use Rattle.std.specs.List.{list_any}
 use Rattle.kp_base.specs.declared.ground.GroundName.{GroundName}
 use Rattle.kp_names.specs.Names.{Name}
 
+-- the byte of `_`
 abbrev pub underscore : ℕ
 underscore = 95
 
+-- the byte of `-`
 abbrev pub dash : ℕ
 dash = 45
 

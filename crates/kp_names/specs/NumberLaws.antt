@@ -34,6 +34,7 @@ pub record AgreeInitially (d : Domain Word) (p : Problem Word) : Type 0 where
   pub by_number : (s : named.State) → named_initial.IsInitial p s → (t : State) × IsInitial (numbered_problem d p) t × Agree d p s t
   pub by_name : (t : State) → IsInitial (numbered_problem d p) t → (s : named.State) × named_initial.IsInitial p s × Agree d p s t
 
+-- where there is no fault, the initial states by name and by number agree
 abbrev pub IsInitialNumbered : Type 0
 IsInitialNumbered = (d : Domain Word) (p : Problem Word) → HasNoFault d p → AgreeInitially d p
 

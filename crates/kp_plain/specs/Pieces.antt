@@ -2,6 +2,7 @@
 use Rattle.std.specs.Prelude.{ℕ, List, [], ◌∷◌, ◌++◌}
 use Rattle.kp_lex.specs.declared.token.TokenKind.{TokenKind}
 
+-- a bracket, a byte between words, or a word with its kind of token
 pub data Piece : Type 0 where
   left : Piece
   right : Piece

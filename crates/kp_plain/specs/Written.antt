@@ -4,21 +4,27 @@ use Rattle.kp_lex.specs.declared.token.TokenKind.TheVariants as kinds
 use Rattle.kp_plain.specs.Pieces.{Piece, left, right, blank, word, spelling, Put, ◌⨾◌, each}
 use Rattle.kp_plain.specs.Task.{Signed, Effect, Op}
 
+-- an opening bracket
 abbrev pub opens : Put
 opens rest = left ∷ rest
 
+-- a closing bracket
 abbrev pub closes : Put
 closes rest = right ∷ rest
 
+-- a space
 abbrev pub space : Put
 space rest = blank 32 ∷ rest
 
+-- a line feed
 abbrev pub line_feed : Put
 line_feed rest = blank 10 ∷ rest
 
+-- a name
 abbrev pub name : List ℕ → Put
 name w rest = word kinds.Name w ∷ rest
 
+-- a keyword
 abbrev pub key : List ℕ → Put
 key w rest = word kinds.Keyword w ∷ rest
 
@@ -35,9 +41,11 @@ abbrev pub signed_case : Bool → List ℕ → Put
 signed_case true n = fact n
 signed_case false n = opens ⨾ name (codes "not") ⨾ space ⨾ fact n ⨾ closes
 
+-- a fact, or its negation
 abbrev pub signed : Signed → Put
 signed s = signed_case s.holds s.fact
 
+-- with a space before it
 abbrev pub spaced : {T : Type 0} → (T → Put) → T → Put
 spaced f x = space ⨾ f x
 
@@ -54,6 +62,7 @@ abbrev pub guarded : List Signed → Signed → Put
 guarded [] result = signed result
 guarded (c ∷ cs) result = when_put (c ∷ cs) result
 
+-- an effect on a line of its own
 abbrev pub effect_line : Effect → Put
 effect_line e = guarded e.conds e.result ⨾ line_feed
 

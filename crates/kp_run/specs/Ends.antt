@@ -36,10 +36,11 @@ pub record Files : Type 0 where
 abbrev pub files_of : Translation → Files
 files_of t = record { domain = t.domain; problem = t.problem }
 
--- what is held once the first file is put, and once both are
+-- what is held once the first file is put
 abbrev pub with_domain : Option FileMap → Command → Files → Option FileMap
 with_domain held c files = with_file held c.domain_out files.domain
 
+-- what is held once both files are put
 abbrev pub with_both : Option FileMap → Command → Files → Option FileMap
 with_both held c files = with_file (with_domain held c files) c.problem_out files.problem
 

@@ -3,6 +3,7 @@ use Rattle.std.specs.Prelude.{ℕ}
 use Rattle.kp_run.specs.declared.status.Status.{Status}
 use Rattle.kp_run.specs.declared.status.Status.TheVariants as status
 
+-- the number of a status
 abbrev pub number_of : Status → ℕ
 number_of status.Done = 0
 number_of status.Negative = 1

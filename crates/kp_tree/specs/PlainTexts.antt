@@ -27,9 +27,10 @@ abbrev pub Answers : {b : Bool} {c : Sort} {T : Type 0} → Form b c → (T → 
 Answers X view text (Some t) = IsPlain X text (view t)
 Answers X view text None = (x : El Word _) → IsPlain X text x → ⊥
 
--- what has a plain form reads by the grammar as the same tree
+-- a domain of plain form reads by the grammar as the same tree
 abbrev pub PlainDomainsRead : Type 0
 PlainDomainsRead = (text : List ℕ) (x : Domain Word) → ReadsAs plain_domain text x → ReadsAs domain text x
 
+-- a problem of plain form reads by the grammar as the same tree
 abbrev pub PlainProblemsRead : Type 0
 PlainProblemsRead = (text : List ℕ) (x : Problem Word) → ReadsAs plain_problem text x → ReadsAs problem text x

@@ -74,8 +74,10 @@ module _ {W : Type 0} where
 
 -- ---- the trees of plain texts are plain
 
+-- the tree of a plain domain text is a plain domain
 abbrev pub PlainDomainsArePlain : Type 0
 PlainDomainsArePlain = (text : List ℕ) (d : Domain Word) → IsPlain plain_domain text d → IsPlainDomain d
 
+-- the tree of a plain problem text is a plain problem
 abbrev pub PlainProblemsArePlain : Type 0
 PlainProblemsArePlain = (text : List ℕ) (p : Problem Word) → IsPlain plain_problem text p → IsPlainProblem p

@@ -62,6 +62,7 @@ pub data ReadBy {W : Type 0} : (b : Bool) (c : Sort) → Form b c → List (Tok 
   -- a rule of the grammar between brackets
   r_within : {a : Sort} {n : Named a} {ts rest : List (Tok W)} {x : El W a} → ReadBy _ _ (bracket (rule n)) ts x rest → ReadBy _ _ (within n) ts x rest
 
+-- the form reads the tokens up to the rest as this value
 abbrev pub Reads : {W : Type 0} {b : Bool} {c : Sort} → Form b c → List (Tok W) → El W c → List (Tok W) → Type 0
 Reads {b = b} {c = c} X ts x rest = ReadBy b c X ts x rest
 
@@ -108,6 +109,7 @@ pub data StopBy {W : Type 0} : (b : Bool) (c : Sort) → Form b c → List (Tok 
   -- a rule of the grammar stops between its brackets
   s_within : {a : Sort} {n : Named a} {ts : List (Tok W)} {at : At W} → StopBy _ _ (bracket (rule n)) ts at → StopBy _ _ (within n) ts at
 
+-- the form stops in the tokens, at that place and for that reason
 abbrev pub Stops : {W : Type 0} {b : Bool} {c : Sort} → Form b c → List (Tok W) → At W → Type 0
 Stops {b = b} {c = c} X ts at = StopBy b c X ts at
 

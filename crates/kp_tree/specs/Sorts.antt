@@ -110,6 +110,7 @@ pub data Maker : Sort → Sort → Type 0 where
   m_plain_schema : Maker (s_pair s_word (s_pair s_cond s_eff)) s_schema
   m_three : Maker (s_pair s_given (s_pair s_given s_given)) (s_list s_given)
 
+-- what is made of a value
 abbrev pub apply : (W : Type 0) {a b : Sort} → Maker a b → El W a → El W b
 apply W m_word x = x
 apply W m_drop x = tt

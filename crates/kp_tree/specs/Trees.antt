@@ -84,20 +84,22 @@ pub record Problem (W : Type 0) : Type 0 where
 
 -- ---- the parts of a conjunction, as a list
 
--- of conditions, of effects, of items
+-- of conditions
 abbrev pub conds_of : {W : Type 0} → List (Cond W) → Conds W
 conds_of [] = no_cond
 conds_of (c ∷ cs) = more_conds c (conds_of cs)
 
+-- of effects
 abbrev pub effs_of : {W : Type 0} → List (Eff W) → Effs W
 effs_of [] = no_eff
 effs_of (e ∷ es) = more_effs e (effs_of es)
 
+-- of items
 abbrev pub items_of : {W : Type 0} → List (Item W) → Items W
 items_of [] = no_item
 items_of (i ∷ is) = more_items i (items_of is)
 
--- ---- sections: those of one kind are joined in text order
+-- ---- sections
 
 -- the sections of a domain; requirements are read and not kept
 pub data Section (W : Type 0) : Type 0 where
@@ -116,28 +118,32 @@ pub data Given (W : Type 0) : Type 0 where
   goal : Cond W → Given W
 
 module _ {W : Type 0} where
-  -- what a section declares
+  -- the types that a section declares
   abbrev pub section_types : Section W → List (Typed W)
   section_types (Section.types xs) = xs
   section_types _ = []
 
+  -- the constants that a section declares
   abbrev pub section_constants : Section W → List (Typed W)
   section_constants (Section.constants xs) = xs
   section_constants _ = []
 
+  -- the predicates that a section declares
   abbrev pub section_predicates : Section W → List (Pred W)
   section_predicates (Section.predicates ps) = ps
   section_predicates _ = []
 
+  -- the schemas that a section declares
   abbrev pub section_schemas : Section W → List (Schema W)
   section_schemas (Section.action s) = s ∷ []
   section_schemas _ = []
 
-  -- what a section states
+  -- the objects that a section states
   abbrev pub given_objects : Given W → List (Typed W)
   given_objects (Given.objects xs) = xs
   given_objects _ = []
 
+  -- the items that a section states
   abbrev pub given_items : Given W → List (Item W)
   given_items (Given.init is) = is
   given_items _ = []
@@ -160,21 +166,24 @@ pub data Lits (W : Type 0) : Type 0 where
   together : List (Lit W) → Lits W
 
 module _ {W : Type 0} where
-  -- a literal as a condition, as an effect, as a fact of `:init`
+  -- a literal as a condition
   abbrev pub cond_of_lit : Lit W → Cond W
   cond_of_lit l = Cond.atom l.positive l.atom
 
+  -- a literal as an effect
   abbrev pub eff_of_lit : Lit W → Eff W
   eff_of_lit l = Eff.makes l.positive l.atom
 
+  -- a literal as a fact of `:init`
   abbrev pub fact_of_lit : Lit W → Item W
   fact_of_lit l = Item.fact l.positive l.atom
 
-  -- the same of several
+  -- several as a condition
   abbrev pub cond_of_lits : Lits W → Cond W
   cond_of_lits (Lits.one l) = cond_of_lit l
   cond_of_lits (Lits.together ls) = Cond.all (conds_of (map cond_of_lit ls))
 
+  -- several as an effect
   abbrev pub eff_of_lits : Lits W → Eff W
   eff_of_lits (Lits.one l) = eff_of_lit l
   eff_of_lits (Lits.together ls) = Eff.both (effs_of (map eff_of_lit ls))

@@ -115,8 +115,10 @@ pub record IsNamedProblem (p : Problem Word) : Type 0 where
 
 -- ---- laws: the trees of files are so
 
+-- the names in the tree of a domain file are names
 abbrev pub DomainsAreNamed : Type 0
 DomainsAreNamed = (text : List ℕ) (d : Domain Word) → ReadsAs domain text d → IsNamedDomain d
 
+-- the names in the tree of a problem file are names
 abbrev pub ProblemsAreNamed : Type 0
 ProblemsAreNamed = (text : List ℕ) (p : Problem Word) → ReadsAs problem text p → IsNamedProblem p

@@ -19,9 +19,10 @@ pub record IsOp (o : Op) : Type 0 where
   pub pre : AllByRecursion IsHead o.pre
   pub effects : AllByRecursion IsEffect o.effects
 
--- every fact of the list can be written, and every operator
+-- every fact of the list can be written
 abbrev pub AreHeads : List (List ℕ) → Type 0
 AreHeads facts = AllByRecursion IsHead facts
 
+-- every operator of the list can be written
 abbrev pub AreOps : List Op → Type 0
 AreOps ops = AllByRecursion IsOp ops
