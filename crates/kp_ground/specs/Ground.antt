@@ -129,7 +129,7 @@ same_effect e f = same_lit e.result f.result && pointwise same_lit e.cond f.cond
 abbrev pub is_within : List Lit → List Lit → Bool
 is_within xs ys = list_all (has ys) xs
 
--- a delete that changes nothing: wherever it fires in a step that may be taken, an effect adds its atom
+-- an idle delete: an add of its atom asks for nothing beyond the delete's condition and the precondition, so that where the delete fires in a step that may be taken, the add fires too
 abbrev pub is_idle : List Lit → List Effect → Effect → Bool
 is_idle pre es d = not d.result.positive && list_any (λ e. same_lit (negated d.result) e.result && is_within e.cond (d.cond ++ pre)) es
 
