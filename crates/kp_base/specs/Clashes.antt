@@ -16,6 +16,6 @@ clashes_at a s p = fires a.effects (holds s) (positive p) && fires a.effects (ho
 pub record NeverClashes (g : Ground) (i : Initial) : Type 0 where
   pub no_clash : (s : State) (ns : List ℕ) (a : Action) (p : ℕ) → is_model i s ≡ true → runs g s ns ≡ true → Member g.actions a → list_all (holds (state_after g s ns)) a.pre ≡ true → clashes_at a (state_after g s ns) p ≡ false
 
--- no two effects of the action are an add and a delete of one atom
+-- no effect of the action deletes what one of its effects adds
 abbrev pub is_one_sided : Action → Bool
 is_one_sided a = list_all (λ e. list_all (λ f. not (same_lit f.result (negated e.result))) a.effects) a.effects

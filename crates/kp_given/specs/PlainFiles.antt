@@ -6,7 +6,7 @@ use Rattle.kp_tree.specs.Plain as forms
 use Rattle.kp_tree.specs.PlainTexts.{IsPlain}
 use Rattle.kp_given.specs.Names.{Distinct, AllDeclared, predicate_names, schema_names, domain_heads, problem_heads}
 
--- no two predicates and no two schemas have one name, and each atom is of a declared predicate
+-- the predicates differ in their names, as do the schemas, and each atom is of a declared predicate
 pub record IsWellNamed (d : Domain Word) : Type 0 where
   pub predicates : Distinct (predicate_names d)
   pub schemas : Distinct (schema_names d)

@@ -26,7 +26,7 @@ abbrev pub leaves_static : ℕ → Item → Bool
 leaves_static q (Item.One l) = l.positive || not (l.pred == q)
 leaves_static q i = not (list_any (λ l. l.pred == q) (item_literals i))
 
--- a predicate is static where no effect names it, and each item that names it is one of its atoms
+-- the predicate is static: no effect names it, and each item that does is one of its atoms
 abbrev pub is_static : Lifted → ℕ → Bool
 is_static l q = not (list_any (λ a. changes q a.effect) l.schemas) && list_all (leaves_static q) l.init
 

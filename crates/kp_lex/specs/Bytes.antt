@@ -43,7 +43,7 @@ in_line_class _ = true
 abbrev pub in_line : ℕ → Bool
 in_line b = in_line_class (class_of b)
 
--- space, tab, carriage return and line feed
+-- a line feed, a carriage return, a space or a tab
 abbrev pub is_blank : Class → Bool
 is_blank Blank = true
 is_blank LineFeed = true

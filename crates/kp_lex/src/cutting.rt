@@ -47,7 +47,7 @@ fn cut_all(alloc: Global, part: Part, bytes: &[u8]) -> Result<Row<Token>, Stop>
 
 /// The tokens of a file in order.
 ///
-/// At the first byte that begins neither token nor blank nor comment the file is refused with `BadToken` and the
+/// At the first byte with which no token, blank or comment can begin, the file is refused with `BadToken` and the
 /// byte's place. No other refusal comes.
 pub fn tokens(alloc: Global, part: Part, bytes: &[u8]) -> Result<Row<Token>, Stop>
     requires { length bytes.now ≤ 16777216 }

@@ -1,4 +1,4 @@
--- Where no action has an add and a delete of one atom, no step fires both.
+-- Where no effect of an action deletes what one of its effects adds, no step fires an add together with its delete.
 use Rattle.std.proofs.Common.{◌≡◌, ℕ, true, not, ◌&&◌, sym, ap, ap₂, ◌∙◌}
 use Rattle.std.proofs.lemmas.Bool.{and_parts, false≢true, false_from_ne_true}
 use Rattle.std.specs.List.{list_all}

@@ -19,7 +19,7 @@ use Rattle.kp_base.specs.Machine.{MachineStep, facts_after, accepts, stripped, o
 abbrev pub IsSound : Type 0
 IsSound = (g : Ground) (i : Initial) (table : TagTable) → IsTable g i table → AreValid i table → NeverClashes g i → (steps : List MachineStep) → accepts g table steps ≡ true → IsGroundPlan g i (stripped steps)
 
--- where no action has an add and a delete of one atom, nothing clashes
+-- where no effect of an action deletes what one of its effects adds, nothing clashes
 abbrev pub OneSidedNeverClashes : Type 0
 OneSidedNeverClashes = (g : Ground) (i : Initial) → list_all is_one_sided g.actions ≡ true → NeverClashes g i
 

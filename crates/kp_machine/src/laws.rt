@@ -8,7 +8,7 @@ pub fn accepted_lists_are_plans()
     ensures { IsSound }
 {}
 
-/// Where no action has an add and a delete of one atom, none is ever done together with the other.
+/// Where no effect of an action deletes what one of its effects adds, no add is ever done together with its delete.
 #[tactic(auto, using(crate::proofs::OneSided::never_clashes))]
 pub fn one_sided_actions_never_clash()
     ensures { OneSidedNeverClashes }

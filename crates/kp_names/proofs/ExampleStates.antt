@@ -119,7 +119,7 @@ no_first s i = pick (s (codes "p") []) refl
     pick true e = let h = i.items in false≢true (rw e at h)
     pick false e = let h = i.items in false≢true (rw e at h)
 
--- an atom that no item names is absent
+-- what no item names isn't there
 abbrev only_p : List ℕ
 only_p = codes "(define (problem e) (:init (p)) (:goal ()))"
 

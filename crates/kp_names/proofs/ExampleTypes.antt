@@ -96,7 +96,7 @@ each_once : objects (domain_of kitchen) (problem_of table) ≡ codes "mug" ∷ c
 unfolding cut_from class_of symbol_of some_at next_at
 each_once = refl
 
--- a variable ranges over the objects of any listed type
+-- with `either`, an object of one type or of the other will do
 one_listed : is_instance (domain_of kitchen) (problem_of table) (record { head = codes "wash"; objects = codes "plate" ∷ [] }) ≡ true
 unfolding cut_from class_of symbol_of some_at next_at
 one_listed = refl

@@ -69,7 +69,7 @@ decoded word = option_and_then name_of (split word)
 abbrev pub HasNoEmptyPart : GroundName → Type 0
 HasNoEmptyPart n = list_any is_empty (n.head ∷ n.objects) ≡ false
 
--- what was encoded is decoded again
+-- decoding gives back the name that was encoded
 abbrev pub EncodedDecodes : Type 0
 EncodedDecodes = (n : GroundName) → HasNoEmptyPart n → decoded (encoded n) ≡ Some n
 

@@ -105,7 +105,7 @@ abbrev mutual
   items_faults d p Items.no_item = []
   items_faults d p (Items.more_items i is) = item_faults d p i ++ items_faults d p is
 
--- faults in declarations of predicates: two of one name, or a variable twice in one of them; their types are not looked up
+-- faults in declarations of predicates: a predicate declared again, or a variable that comes again in its list; their types are not looked up
 abbrev pub predicate_faults : List (Pred Word) → List Fault
 predicate_faults qs = twice_in (map (λ q. q.head) qs) ++ flat_map (λ q. twice_in (words q.params)) qs
 

@@ -158,7 +158,7 @@ pub record IsInitial (l : Lifted) (s : State) : Type 0 where
 
 -- ---- plans
 
--- each step is an instance, and from every initial state, run by itself, the steps succeed
+-- each step is an instance, and whichever state is initial, the steps succeed from it
 pub record IsPlan (l : Lifted) (is : List Instance) : Type 0 where
   pub instances : list_all (is_instance l) is ≡ true
   pub reaches : (s : State) → IsInitial l s → succeeds l is s ≡ true

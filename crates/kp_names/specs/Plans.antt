@@ -23,7 +23,7 @@ abbrev pub succeeds : Domain Word → Problem Word → List Step → State → B
 succeeds d p [] s = holds s unbound p.goal
 succeeds d p (i ∷ is) s = applicable d i s && succeeds d p is (next d p i s)
 
--- each step is an instance, and from every initial state, run by itself, the steps succeed
+-- each step is an instance, and whichever state is initial, the steps succeed from it
 pub record Solves (d : Domain Word) (p : Problem Word) (steps : List Step) : Type 0 where
   pub instances : list_all (is_instance d p) steps ≡ true
   pub reaches : (s : State) → IsInitial p s → succeeds d p steps s ≡ true

@@ -15,7 +15,7 @@ use std::marker::Model;
 /// A shelf in memory, some of whose calls fail.
 ///
 /// Its gets and puts are numbered together from 1. A call fails where its number was given to
-/// [`MemoryShelf::fail_at`]; besides, a get of a name that isn't held fails.
+/// [`MemoryShelf::fail_at`]; besides, a get fails where nothing is held under its name.
 #[derive(Drop)]
 pub struct MemoryShelf {
     alloc: Global,
@@ -99,7 +99,7 @@ impl MemoryShelf {
         self.failing.push(call)
     }
 
-    /// The content of a name, and `None` where the name isn't held.
+    /// What is held under a name, or `None` where nothing is.
     #[tactic(auto, using(crate::proofs::Files::get_files))]
     pub fn held(&self, name: &[u8]) -> Option<&Row<u8>>
         ensures { option_copied result ≡ map.get self.now.contents name.now }

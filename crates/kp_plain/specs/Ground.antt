@@ -98,7 +98,7 @@ stated positive d p = filter (λ l. beq positive l.positive) (init_of d p)
 
 -- ---- static predicates
 
--- a predicate is static where no effect names it, and each item that names it is positive
+-- the predicate is static: no effect names it, and each item that does is positive
 abbrev pub is_static : Domain Word → Problem Word → Name → Bool
 is_static d p n = not (is_named (stated false d p ++ flat_map (results_of d) d.schemas) n)
 

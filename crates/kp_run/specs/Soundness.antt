@@ -7,7 +7,7 @@ use Rattle.kp_given.specs.Laws.{HasInitialState}
 use Rattle.kp_sound.specs.Laws.{PlansStrip}
 use Rattle.kp_run.specs.Command.{Command}
 
--- The contents of the two input names before the command have a problem with an initial state, and each plan of the contents of the two output names after it strips to a plan of theirs.
+-- The contents of the two input names before the command have a problem, in which some state is initial, and each plan of the contents of the two output names after it strips to a plan of theirs.
 pub record IsSound (before after : FileMap) (c : Command) : Type 0 where
   pub domain : List ℕ
   pub problem : List ℕ

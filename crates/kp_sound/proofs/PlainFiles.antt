@@ -33,7 +33,7 @@ idle results l m deletes among e =
     and_from (not l.positive) (list_any (same_lit (negated l)) results) (ap not deletes)
     (any_from (same_lit (negated l)) results m among (subst (λ x. same_lit x m ≡ true) e (same_lit-refl m)))
 
--- so of an add and a delete of one atom one is idle
+-- so where an effect deletes what another adds, one of the two is idle
 one_is_idle : (results : List Lit) (l m : Lit) → Member results l → Member results m → not (is_idle results l) ≡ true → not (is_idle results m) ≡ true → m ≡ negated l → ⊥
 one_is_idle results l m in-l in-m keeps-l keeps-m e = by l.positive refl
   where
@@ -46,7 +46,7 @@ record OfResult (results : List Lit) (e : Effect) : Type 0 where
   pub among : Member results e.result
   pub keeps : not (is_idle results e.result) ≡ true
 
--- lasting effects have no add and delete of one atom
+-- no lasting effect deletes what another one adds
 lasting_one_sided : (results : List Lit) → list_all (λ e. list_all (λ f. not (same_lit f.result (negated e.result))) (lasting results)) (lasting results) ≡ true
 lasting_one_sided results =
     all_from (λ e. list_all (λ f. not (same_lit f.result (negated e.result))) (lasting results)) (lasting results) (λ e in-e.

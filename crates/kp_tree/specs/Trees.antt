@@ -99,7 +99,7 @@ abbrev pub items_of : {W : Type 0} → List (Item W) → Items W
 items_of [] = no_item
 items_of (i ∷ is) = more_items i (items_of is)
 
--- ---- sections
+-- ---- sections: what several of the same kind hold comes together, in the order of the file
 
 -- the sections of a domain; requirements are read and not kept
 pub data Section (W : Type 0) : Type 0 where

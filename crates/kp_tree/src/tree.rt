@@ -106,7 +106,7 @@ pub struct SchemaTree {
     pub effect: EffTree,
 }
 
-/// A domain: the sections of one kind joined in text order.
+/// A domain: what its sections declare, in the order of the file.
 #[derive(Drop)]
 pub struct Domain {
     /// The declared types with their parents.
@@ -119,7 +119,7 @@ pub struct Domain {
     pub schemas: Row<SchemaTree>,
 }
 
-/// A problem: the sections of one kind joined in text order.
+/// A problem: what its sections state, in the order of the file.
 #[derive(Drop)]
 pub struct Problem {
     /// The objects.
