@@ -1,5 +1,5 @@
 -- The ground atoms of plain trees: the predicates that occur, in order.
-use Rattle.std.proofs.Common.{◌≡◌, ◌==◌, ℕ, suc, ◌+◌, Bool, true, false, not, cond, if◌then◌else◌, ◌&&◌, List, [], ◌∷◌, map, filter, refl, sym, ap, subst, ◌∙◌, inl, inr, arith, nat_lt}
+use Rattle.std.proofs.Common.{◌≡◌, ◌==◌, ℕ, suc, ◌+◌, Bool, true, false, not, cond, if◌then◌else◌, List, [], ◌∷◌, map, filter, refl, sym, ap, subst, ◌∙◌, inl, inr, arith, nat_lt}
 use Rattle.std.specs.List.{list_all, position_or_len, prefix_len}
 use Rattle.std.proofs.lemmas.Bool.{and_parts, and_from, or_left, both_ways, lt-ltb}
 use Rattle.kp_base.specs.Lists.{Member}

@@ -1,7 +1,7 @@
 -- `:init` of plain trees contradicts itself exactly where no state is initial.
-use Rattle.std.proofs.Common.{◌≡◌, ◌↔◌, ℕ, Bool, true, false, not, List, [], ◌∷◌, map, refl, sym, ap, subst, ◌∙◌, inl, inr, Contains}
+use Rattle.std.proofs.Common.{◌≡◌, Bool, true, false, List, [], ◌∷◌, map, refl, sym, subst, ◌∙◌, inl, inr, Contains}
 use Rattle.std.specs.List.{list_any, list_all}
-use Rattle.std.proofs.lemmas.Bool.{and_parts, or_cases, false≢true, not-true}
+use Rattle.std.proofs.lemmas.Bool.{or_cases, false≢true, not-true}
 use Rattle.std.proofs.lemmas.Cmp.{nat_list_eq_equiv}
 use Rattle.std.proofs.lemmas.Map.Views.{list_any-from_Contains}
 use Rattle.kp_tree.specs.declared.tree.Word.{Word}
@@ -15,7 +15,6 @@ use Rattle.kp_names.specs.States.{State, unbound, object_of}
 use Rattle.kp_names.specs.Initial.{IsInitial, item_holds}
 use Rattle.kp_names.specs.Numbering.{numbered_problem}
 use Rattle.kp_names.proofs.NumberedPlans.{initial_numbered}
-use Rattle.kp_ground.specs.Ground.{IsNumbering}
 use Rattle.kp_init.proofs.Models.{initial_exact}
 use Rattle.kp_given.specs.PlainFiles.{facts_of, IsContradictory}
 use Rattle.kp_given.specs.PlainGround.{ArePlain}

@@ -1,10 +1,10 @@
 -- The literals that are known at the start of plain trees are those that hold in all models.
-use Rattle.std.proofs.Common.{◌≡◌, ◌==◌, ◌<◌, ◌+◌, ℕ, zero, suc, Bool, true, false, not, cond, ◌&&◌, ◌||◌, List, [], ◌∷◌, ◌++◌, map, filter, refl, sym, ap, subst, ◌∙◌, inl, inr, ◌⊎◌, Contains, length, arith, if◌then◌else◌}
+use Rattle.std.proofs.Common.{◌≡◌, ◌==◌, ◌<◌, ◌+◌, ℕ, zero, suc, Bool, true, false, not, cond, ◌&&◌, ◌||◌, List, [], ◌∷◌, ◌++◌, map, filter, refl, sym, ap, subst, ◌∙◌, inl, inr, Contains, length, arith, if◌then◌else◌}
 use Rattle.std.specs.Bool.{beq}
 use Rattle.std.specs.List.{list_any, list_all, flat_map, range_with_len}
-use Rattle.std.proofs.lemmas.Bool.{and_parts, and_from, or_cases, or_left, or_right, false≢true, not-true, not-false}
+use Rattle.std.proofs.lemmas.Bool.{and_parts, and_from, or_cases, or_left, or_right, false≢true, not-true}
 use Rattle.std.proofs.lemmas.List.{length-map}
-use Rattle.std.proofs.lemmas.List.Folds.{list_all-append, list_any-append}
+use Rattle.std.proofs.lemmas.List.Folds.{list_all-append}
 use Rattle.std.proofs.lemmas.Map.Views.{Contains-from_any}
 use Rattle.kp_tree.specs.declared.tree.Word.{Word}
 use Rattle.kp_tree.specs.Trees as trees
@@ -17,13 +17,12 @@ use Rattle.kp_base.specs.Lists.{Member, only_if, signed}
 use Rattle.kp_base.specs.Lit.{same_lit, positive, negative}
 use Rattle.kp_base.specs.LitSet.{IsAscending, set_of}
 use Rattle.kp_base.specs.Steps.{State, holds, has, is_model}
-use Rattle.kp_base.specs.Entailed.{Entails, IsClosure}
+use Rattle.kp_base.specs.Entailed.{IsClosure}
 use Rattle.kp_base.proofs.Ascending.{same_members, first_or_later}
 use Rattle.kp_base.proofs.Sets.{any-set_of, set_ascends}
 use Rattle.kp_base.proofs.Lists.{all_member, all_from, any_from, any_member, any_alike, flat_alike, map_map, any_map, member_flat_map, flat_member, member_map, map_member, member_filter, filter_member, append_member, member_left, member_right}
 use Rattle.kp_base.proofs.Lits.{same_lit-true, same_lit-refl, has-member, member-has}
 use Rattle.kp_ground.proofs.Lists.{beq-true, beq-refl}
-use Rattle.kp_names.specs.declared.lifted.Item.{Item}
 use Rattle.kp_names.specs.Names.{Name, same, is_among}
 use Rattle.kp_names.specs.Lifted as lifted
 use Rattle.kp_names.specs.Lifted.{is_of, item_literals}
@@ -31,9 +30,9 @@ use Rattle.kp_names.specs.Numbering.{index_of, name_at, heads, numbered_problem}
 use Rattle.kp_names.proofs.Lists.{same-true, same-refl, same-sym, among_member}
 use Rattle.kp_names.proofs.Indexes.{Distinct, at_index, index_below, index_at, among_at}
 use Rattle.kp_ground.specs.declared.flat.Atom.{Atom}
-use Rattle.kp_ground.specs.Ground.{same_atom, number_of, numbered, ground_atoms, IsNumbering}
+use Rattle.kp_ground.specs.Ground.{same_atom, number_of, numbered, IsNumbering}
 use Rattle.kp_ground.proofs.Atoms.{atoms_are_numbered}
-use Rattle.kp_init.specs.Initial.{is_ground, item_clauses, closed_of, initial_over}
+use Rattle.kp_init.specs.Initial.{is_ground, item_clauses, initial_over}
 use Rattle.kp_init.specs.Closure.{closure, IsOver}
 use Rattle.kp_init.proofs.Closure.{closure_exact}
 use Rattle.kp_init.proofs.Runs.{initial_is_over}
@@ -44,7 +43,7 @@ use Rattle.kp_given.specs.PlainFiles.{facts_of, IsContradictory}
 use Rattle.std.proofs.Math.Bool.{and-true}
 use Rattle.kp_given.proofs.Lists.{filter_map, flat_of_map, map_same, filter_same}
 use Rattle.kp_given.proofs.Literals.{by_number, has_number, said, items_are}
-use Rattle.kp_given.proofs.Known.{are_known, AllKnown, same_index}
+use Rattle.kp_given.proofs.Known.{AllKnown, same_index}
 use Rattle.kp_given.proofs.Static.{init_is, by_name}
 use Rattle.kp_given.proofs.Atoms.{bare_atom, place_is}
 use Rattle.kp_given.proofs.GroundProblems.{in_heads, A_is, A_among, number_is, atoms_are}

@@ -1,5 +1,5 @@
 -- What is made for plain trees is their translation.
-use Rattle.std.proofs.Common.{◌≡◌, ℕ, Bool, true, List, [], map, length, refl, sym, ap, subst, ◌∙◌, codes}
+use Rattle.std.proofs.Common.{◌≡◌, ℕ, true, List, [], length, refl, sym, ap, ◌∙◌, codes}
 use Rattle.std.proofs.lemmas.List.{length-map}
 use Rattle.kp_tree.specs.declared.tree.Word.{Word}
 use Rattle.kp_tree.specs.Trees.{Domain, Problem}
@@ -19,7 +19,7 @@ use Rattle.kp_plain.specs.Report.{counted}
 use Rattle.kp_given.specs.PlainFiles.{IsContradictory}
 use Rattle.kp_given.specs.PlainGround.{ArePlain}
 use Rattle.kp_given.specs.Laws.{PlainTranslationsAreTranslations}
-use Rattle.kp_given.specs.Translations.{ground_of, initial_of, start_of, is_settled, report_of, translation_of}
+use Rattle.kp_given.specs.Translations.{initial_of, start_of, is_settled, report_of, translation_of}
 use Rattle.kp_given.proofs.Known.{AllKnown, all_known}
 use Rattle.kp_given.proofs.GroundProblems.{plain_ground, atoms_are}
 use Rattle.kp_given.proofs.Start.{known_ones, start_by_name, all_settled}

@@ -14,9 +14,8 @@ use Rattle.kp_ground.specs.Ground as ground
 use Rattle.kp_init.specs.Initial as init
 use Rattle.kp_init.specs.Closure.{closure}
 use Rattle.kp_plain.specs.declared.translation.Translation.{Translation}
-use Rattle.kp_plain.specs.Task.{facts_of, ops_of, facts_for}
-use Rattle.kp_plain.specs.Written.{domain_text, problem_text}
 use Rattle.kp_plain.specs.Report.{counted}
+use Rattle.kp_write.specs.Grounds.{domain_file, problem_file}
 
 -- the ground problem of two trees
 abbrev pub ground_of : Domain Word → Problem Word → Ground
@@ -41,7 +40,7 @@ report_of g start = counted g (only_if (is_settled (length g.atoms) start) (code
 -- the two texts, and the report
 abbrev pub translation_of : Domain Word → Problem Word → Translation
 translation_of d p = record {
-  domain = domain_text (facts_of (ground_of d p)) (ops_of (ground_of d p));
-  problem = problem_text (facts_for (ground_of d p) (start_of d p)) (facts_for (ground_of d p) (ground_of d p).goal);
+  domain = domain_file (ground_of d p);
+  problem = problem_file (ground_of d p) (start_of d p);
   report = report_of (ground_of d p) (start_of d p);
 }

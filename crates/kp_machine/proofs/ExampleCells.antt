@@ -30,14 +30,14 @@ nullary head = record { head = head; objects = [] }
 abbrev effect : ℕ → Lit → Effect
 effect p l = record { cond = positive p ∷ []; result = l }
 
-abbrev left : Action
+abbrev pub left : Action
 left = record {
   name = nullary (codes "left");
   pre = [];
   effects = effect 2 (positive 1) ∷ effect 2 (negative 2) ∷ effect 1 (positive 0) ∷ effect 1 (negative 1) ∷ [];
 }
 
-abbrev cells : Ground
+abbrev pub cells : Ground
 cells = record {
   atoms = nullary (codes "x1") ∷ nullary (codes "x2") ∷ nullary (codes "x3") ∷ [];
   actions = left ∷ [];
@@ -45,7 +45,7 @@ cells = record {
 }
 
 -- exactly one of the three
-abbrev one_of_three : Initial
+abbrev pub one_of_three : Initial
 one_of_three = record {
   clauses = (positive 0 ∷ positive 1 ∷ positive 2 ∷ []) ∷ (negative 0 ∷ negative 1 ∷ []) ∷ (negative 0 ∷ negative 2 ∷ []) ∷ (negative 1 ∷ negative 2 ∷ []) ∷ [];
   closed = [];
@@ -308,7 +308,7 @@ apart_none s (suc (suc (suc p))) h =
     let q : ℕ = suc (suc (suc p)) in
     and_left (fires left.effects (holds s) (positive q)) (fires left.effects (holds s) (negative q)) (rw (far_off 1 q (omega arith), far_off 2 q (omega arith), far_off 0 q (omega arith)) refl)
 
-never : NeverClashes cells one_of_three
+pub never : NeverClashes cells one_of_three
 never = record { no_clash = none }
   where
     none : (s : State) (ns : List ℕ) (a : Action) (p : ℕ) → is_model one_of_three s ≡ true → runs cells s ns ≡ true → Member cells.actions a → list_all (holds (state_after cells s ns)) a.pre ≡ true → clashes_at a (state_after cells s ns) p ≡ false

@@ -7,7 +7,8 @@ use Rattle.kp_tree.specs.Parsing.{some_at, next_at}
 use Rattle.kp_names.specs.Faults.{Fault, unknown_name, declared_twice, wrong_use, domain_faults, problem_faults, byte_of, IsFirst}
 use Rattle.kp_names.specs.Plans.{HasProblem}
 use Rattle.kp_tree.specs.Grammar as grammar
-use Rattle.kp_names.proofs.Texts.{tokens, domain_of, problem_of, reads_as, reads_once}
+use Rattle.kp_tree.proofs.Computed.{reads_as}
+use Rattle.kp_names.proofs.Texts.{tokens, domain_of, problem_of, reads_once}
 
 abbrev in_domain : List ℕ → List ℕ → List Fault
 in_domain a b = domain_faults (domain_of a) (problem_of b)

@@ -1,8 +1,9 @@
 -- Stripped lists of steps and written names, computed.
-use Rattle.std.proofs.Common.{◌≡◌, ℕ, List, [], ◌∷◌, Some, None, refl, codes}
+use Rattle.std.proofs.Common.{◌≡◌, ℕ, List, [], ◌∷◌, Some, None, refl, sym, codes}
+use Rattle.std.proofs.lemmas.Bool.{false≢true}
 use Rattle.kp_names.specs.Names.{Name}
 use Rattle.kp_names.specs.Steps.{Step}
-use Rattle.kp_names.specs.Encoding.{encoded, decoded}
+use Rattle.kp_names.specs.Encoding.{encoded, decoded, HasNoEmptyPart}
 use Rattle.kp_names.specs.Strip.{strip}
 
 abbrev step : List ℕ → List Name → Step
@@ -79,3 +80,21 @@ ends_in_underscore = refl
 
 and_back : decoded (codes "a___--b") ≡ Some (step (codes "a_") (codes "-b" ∷ []))
 and_back = refl
+
+-- ---- no empty part
+
+no_empty_part : HasNoEmptyPart (step (codes "go_to") (codes "a_1" ∷ codes "b-2" ∷ []))
+no_empty_part = refl
+
+-- an empty head, and an empty object, are refused, and aren't read back
+empty_head : HasNoEmptyPart (step [] (codes "a" ∷ [])) → ⊥
+empty_head h = false≢true (sym h)
+
+empty_head_is_lost : decoded (encoded (step [] (codes "a" ∷ []))) ≡ None
+empty_head_is_lost = refl
+
+empty_object : HasNoEmptyPart (step (codes "a") ([] ∷ [])) → ⊥
+empty_object h = false≢true (sym h)
+
+empty_object_is_lost : decoded (encoded (step (codes "a") ([] ∷ []))) ≡ None
+empty_object_is_lost = refl

@@ -3,7 +3,6 @@ use Rattle.std.proofs.Common.{◌≡◌, ℕ, Bool, List, [], Result, Ok, Err, s
 use Rattle.kp_lex.specs.declared.token.Token.{Token}
 use Rattle.kp_lex.specs.Scanning.{cut}
 use Rattle.kp_lex.proofs.Outcomes.{one_cutting}
-use Rattle.kp_lex.proofs.Exact.{Tells, cut_tells}
 use Rattle.kp_tree.specs.declared.tree.Word.{Word}
 use Rattle.kp_tree.specs.Symbols.{all_seen_in}
 use Rattle.kp_tree.specs.Trees.{Domain, Problem, Cond, no_cond}
@@ -11,20 +10,13 @@ use Rattle.kp_tree.specs.Sorts.{Sort, El}
 use Rattle.kp_tree.specs.Forms.{Form}
 use Rattle.kp_tree.specs.Grammar as grammar
 use Rattle.kp_tree.specs.Reading.{ReadBy}
-use Rattle.kp_tree.specs.Parsing.{Outcome, go, level}
+use Rattle.kp_tree.specs.Parsing.{Outcome}
 use Rattle.kp_tree.specs.PlainTexts.{ReadsAs}
-use Rattle.kp_tree.proofs.Exact.{go_reads, once_read}
+use Rattle.kp_tree.proofs.Exact.{once_read}
+use Rattle.kp_tree.proofs.Computed.{outcome, reads_as}
 use Rattle.kp_names.specs.Faults.{domain_faults, problem_faults}
 use Rattle.kp_names.specs.Steps.{Step}
 use Rattle.kp_names.specs.Plans.{HasProblem, HasOneProblem, Solves, IsPlan}
-
-module _ {b : Bool} {c : Sort} (X : Form b c) where
-  -- what is read of a text with brackets of at most eight levels
-  abbrev pub outcome : List ℕ → List Token → Outcome Word (El Word c)
-  outcome text ts = go (level 8) b c X (all_seen_in text ts)
-
-  pub reads_as : (text : List ℕ) (ts : List Token) (x : El Word c) → cut 0 text ≡ Ok ts → outcome text ts ≡ Ok (x, []) → ReadsAs X text x
-  reads_as text ts x e r = record { tokens = ts; cut = subst (Tells 0 text) e (cut_tells 0 text); reads = go_reads 8 b c X (all_seen_in text ts) x [] r }
 
 -- the tokens of a text that is cut
 abbrev pub tokens_in : Result (List Token) ℕ → List Token

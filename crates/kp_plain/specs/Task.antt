@@ -9,6 +9,7 @@ use Rattle.kp_base.specs.declared.ground.Ground.{Ground}
 use Rattle.kp_base.specs.Lit.{negated}
 use Rattle.kp_base.specs.LitSet.{with_lit}
 use Rattle.kp_names.specs.Encoding.{encoded}
+use Rattle.kp_names.specs.Strip.{do_front}
 
 -- a fact that holds, or doesn't, by name
 pub record Signed : Type 0 where
@@ -78,7 +79,7 @@ effects_of atoms e = support atoms 0 e ∷ cancellation atoms 0 e ∷ []
 
 -- the operator of an action
 abbrev pub op_of : List GroundName → Action → Op
-op_of atoms a = record { name = codes "do_-" ++ encoded a.name; pre = map (fact_of atoms 0) a.pre; effects = flat_map (effects_of atoms) a.effects }
+op_of atoms a = record { name = do_front ++ encoded a.name; pre = map (fact_of atoms 0) a.pre; effects = flat_map (effects_of atoms) a.effects }
 
 -- ---- the task of a ground problem, with the empty tag alone
 

@@ -8,3 +8,4 @@ pub mod OneAnswer
 pub mod Translated
 pub mod Results
 pub mod Soundness
+pub mod ExampleResult

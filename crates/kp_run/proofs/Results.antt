@@ -1,5 +1,5 @@
 -- The result of a run, from how its parts end; and that there is one at most.
-use Rattle.std.proofs.Common.{◌≡◌, ℕ, List, [], Option, Some, Vec, refl, sym, ap, ◌∙◌, subst}
+use Rattle.std.proofs.Common.{◌≡◌, ℕ, List, [], Option, Some, Vec, refl, ap, ◌∙◌, subst}
 use Rattle.std.specs.FinMap.{get}
 use Rattle.std.specs.declared.alloc.Global.{Global}
 use Rattle.kp_base.specs.declared.refused.Refused.{Refused}
@@ -15,11 +15,11 @@ use Rattle.kp_run.specs.declared.status.Status.{Status}
 use Rattle.kp_run.specs.declared.status.Status.TheVariants as status
 use Rattle.kp_run.specs.Command.{Command, IsCommand, IsNoCommand}
 use Rattle.kp_given.specs.PlainFiles.{IsDomain, IsProblem, IsContradictory}
-use Rattle.kp_run.specs.Printed.{usage_text, text_of, refusal_text}
+use Rattle.kp_run.specs.Printed.{usage_text, refusal_text}
 use Rattle.kp_run.specs.Due.{Answers, no_domain, no_problem, no_initial_state, done, AnswersFiles}
-use Rattle.kp_run.specs.Ends.{Files, Puts, Tells, files_of, with_both}
+use Rattle.kp_run.specs.Ends.{Puts, Tells, files_of, with_both}
 use Rattle.kp_run.specs.Reports.{status_of, printed_of, HasItsText, HasFiles, IsTranslatedFrom}
-use Rattle.kp_run.specs.Results.{Outcome, prints, translates, IsResult, usage, refused, translated, ComesTo, HasOneResult}
+use Rattle.kp_run.specs.Results.{prints, translates, usage, refused, translated, ComesTo, HasOneResult}
 use Rattle.kp_run.proofs.Reading.{same_tree}
 use Rattle.kp_run.proofs.Reporting.{one_command}
 use Rattle.kp_run.proofs.OneAnswer.{files_once}

@@ -1,9 +1,8 @@
 -- What a run that ended with Done put is sound.
-use Rattle.std.proofs.Common.{◌≡◌, ◌≢◌, ℕ, Bool, true, false, cond, List, Option, Some, Vec, refl, sym, ap, subst, ◌∙◌}
+use Rattle.std.proofs.Common.{◌≡◌, ◌≢◌, ℕ, cond, List, Option, Some, Vec, sym, ap, subst, ◌∙◌}
 use Rattle.std.proofs.lemmas.Bool.{false_from_ne_true}
 use Rattle.std.proofs.lemmas.Map.Text.{is_eq-slice_cmp}
-use Rattle.std.specs.Ordering.{nat_cmp, eq_by_cmp}
-use Rattle.std.specs.Cmp.Lexicographic.{slice_cmp, nat_list_cmp_total}
+use Rattle.std.specs.Cmp.Lexicographic.{nat_list_cmp_total}
 use Rattle.std.specs.FinMap.{get, insert, get-insert}
 use Rattle.std.specs.declared.alloc.Global.{Global}
 use Rattle.kp_base.proofs.Lists.{same-true, same-refl}
@@ -25,12 +24,12 @@ use Rattle.kp_run.proofs.Reporting.{one_command}
 
 -- ---- what is held under two names
 
-at_last : (m : FileMap) (name content : List ℕ) → get (insert m name content) name ≡ Some content
+pub at_last : (m : FileMap) (name content : List ℕ) → get (insert m name content) name ≡ Some content
 at_last m name content =
     get-insert nat_list_cmp_total m name content name
     ∙ ap (λ b. cond b (Some content) (get m name)) (is_eq-slice_cmp name name ∙ same-refl name)
 
-under_another : (m : FileMap) (name other content : List ℕ) → name ≢ other → get (insert m other content) name ≡ get m name
+pub under_another : (m : FileMap) (name other content : List ℕ) → name ≢ other → get (insert m other content) name ≡ get m name
 under_another m name other content apart =
     get-insert nat_list_cmp_total m other content name
     ∙ ap (λ b. cond b (Some content) (get m name)) (is_eq-slice_cmp name other ∙ false_from_ne_true _ (λ h. apart (same-true name other h)))

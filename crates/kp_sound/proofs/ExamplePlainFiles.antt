@@ -24,7 +24,7 @@ not_p (suc n, below, is) = absurd (omega arith)
 none : (w : List ℕ) → Contains [] w → ⊥
 none w (n, below, is) = absurd (omega arith)
 
-is_domain : IsDomain exchange exchange_tree
+pub is_domain : IsDomain exchange exchange_tree
 is_domain = record {
   form = exchange_plain;
   names = record {
@@ -34,7 +34,7 @@ is_domain = record {
   };
 }
 
-is_problem : IsProblem exchange_tree from_p_to_q from_p_to_q_tree
+pub is_problem : IsProblem exchange_tree from_p_to_q from_p_to_q_tree
 is_problem = record { form = from_p_to_q_plain; heads = ((0, omega arith, refl), ((1, omega arith, refl), tt)) }
 
 are_plain : ArePlain exchange_tree from_p_to_q_tree

@@ -6,3 +6,4 @@ pub mod PlainFiles
 pub mod ExamplePlans
 pub mod ExampleTrees
 pub mod ExamplePlainFiles
+pub mod ExampleCells

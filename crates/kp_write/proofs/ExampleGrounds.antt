@@ -29,7 +29,7 @@ a_name w t low = record { token = t; low = low }
 abbrev pub nullary : List ℕ → GroundName
 nullary head = record { head = head; objects = [] }
 
-nullary_name : (w : List ℕ) → IsName w → IsGroundName (nullary w)
+pub nullary_name : (w : List ℕ) → IsName w → IsGroundName (nullary w)
 nullary_name w h = record { head = h; objects = tt }
 
 -- ---- a ground problem
