@@ -37,12 +37,16 @@ left = record {
   effects = effect 2 (positive 1) ∷ effect 2 (negative 2) ∷ effect 1 (positive 0) ∷ effect 1 (negative 1) ∷ [];
 }
 
-abbrev pub cells : Ground
-cells = record {
+-- the cells with any goal
+abbrev pub cells_to : List Lit → Ground
+cells_to goal = record {
   atoms = nullary (codes "x1") ∷ nullary (codes "x2") ∷ nullary (codes "x3") ∷ [];
   actions = left ∷ [];
-  goal = positive 0 ∷ [];
+  goal = goal;
 }
+
+abbrev pub cells : Ground
+cells = cells_to (positive 0 ∷ [])
 
 -- exactly one of the three
 abbrev pub one_of_three : Initial
@@ -285,10 +289,10 @@ apart_after s = by (s 1) (s 2) refl refl
     by false true f g = rw (f, g) refl
     by false false f g = rw (f, g) refl
 
-apart_so_far : (ns : List ℕ) (s : State) → (s 1 && s 2) ≡ false → runs cells s ns ≡ true → (state_after cells s ns 1 && state_after cells s ns 2) ≡ false
-apart_so_far [] s h r = h
-apart_so_far (zero ∷ ns) s h r = apart_so_far ns (after left s) (apart_after s) r
-apart_so_far (suc n ∷ ns) s h r = absurd (false≢true r)
+apart_so_far : (goal : List Lit) (ns : List ℕ) (s : State) → (s 1 && s 2) ≡ false → runs (cells_to goal) s ns ≡ true → (state_after (cells_to goal) s ns 1 && state_after (cells_to goal) s ns 2) ≡ false
+apart_so_far goal [] s h r = h
+apart_so_far goal (zero ∷ ns) s h r = apart_so_far goal ns (after left s) (apart_after s) r
+apart_so_far goal (suc n ∷ ns) s h r = absurd (false≢true r)
 
 apart_none : (s : State) (p : ℕ) → (s 1 && s 2) ≡ false → clashes_at left s p ≡ false
 apart_none s zero h = by (s 1) refl
@@ -308,17 +312,21 @@ apart_none s (suc (suc (suc p))) h =
     let q : ℕ = suc (suc (suc p)) in
     and_left (fires left.effects (holds s) (positive q)) (fires left.effects (holds s) (negative q)) (rw (far_off 1 q (omega arith), far_off 2 q (omega arith), far_off 0 q (omega arith)) refl)
 
-pub never : NeverClashes cells one_of_three
-never = record { no_clash = none }
+-- so nothing clashes where no model has both
+pub never_where_apart : (goal : List Lit) (i : Initial) → ((s : State) → is_model i s ≡ true → (s 1 && s 2) ≡ false) → NeverClashes (cells_to goal) i
+never_where_apart goal i at_start = record { no_clash = none }
   where
-    none : (s : State) (ns : List ℕ) (a : Action) (p : ℕ) → is_model one_of_three s ≡ true → runs cells s ns ≡ true → Member cells.actions a → list_all (holds (state_after cells s ns)) a.pre ≡ true → clashes_at a (state_after cells s ns) p ≡ false
-    none s ns a p model ran (inl e) ok = subst (λ (b : Action). clashes_at b (state_after cells s ns) p ≡ false) e (apart_none (state_after cells s ns) p (apart_so_far ns s (at_start (cell s model)) ran))
-      where
-        at_start : Cell s → (s 1 && s 2) ≡ false
-        at_start (is_first e f g) = rw f refl
-        at_start (is_second e f g) = rw (f, g) refl
-        at_start (is_third e f g) = rw f refl
+    none : (s : State) (ns : List ℕ) (a : Action) (p : ℕ) → is_model i s ≡ true → runs (cells_to goal) s ns ≡ true → Member (left ∷ []) a → list_all (holds (state_after (cells_to goal) s ns)) a.pre ≡ true → clashes_at a (state_after (cells_to goal) s ns) p ≡ false
+    none s ns a p model ran (inl e) ok = subst (λ (b : Action). clashes_at b (state_after (cells_to goal) s ns) p ≡ false) e (apart_none (state_after (cells_to goal) s ns) p (apart_so_far goal ns s (at_start s model) ran))
     none s ns a p model ran (inr n) ok = absurd n
+
+pub never : NeverClashes cells one_of_three
+never = never_where_apart (positive 0 ∷ []) one_of_three (λ s model. at_start s (cell s model))
+  where
+    at_start : (s : State) → Cell s → (s 1 && s 2) ≡ false
+    at_start s (is_first e f g) = rw f refl
+    at_start s (is_second e f g) = rw (f, g) refl
+    at_start s (is_third e f g) = rw f refl
 
 -- ---- so it is a plan
 
