@@ -1,7 +1,7 @@
 use kp_base::Memory;
 use kp_outside::{MemoryShelf, MemorySink};
 use kp_run::run;
-use kp_tree::{
+use kp_grammar::{
     AtomTree, CondTree, Domain, EffTree, ItemTree, Problem, SchemaTree, plain_domain, plain_problem,
 };
 use std::alloc::{AllocError, Global};

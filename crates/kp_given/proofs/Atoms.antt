@@ -3,10 +3,10 @@ use Rattle.std.proofs.Common.{◌≡◌, ◌==◌, ℕ, suc, ◌+◌, Bool, true
 use Rattle.std.specs.List.{list_all, position_or_len, prefix_len}
 use Rattle.std.proofs.lemmas.Bool.{and_parts, and_from, or_left, both_ways, lt-ltb}
 use Rattle.kp_base.specs.Lists.{Member}
-use Rattle.kp_names.specs.Names.{Name, same, is_among}
-use Rattle.kp_names.specs.Numbering.{index_of}
-use Rattle.kp_names.proofs.Lists.{same-true, same-refl, all_member, among_member}
-use Rattle.kp_names.proofs.Indexes.{Distinct}
+use Rattle.kp_meaning.specs.Names.{Name, same, is_among}
+use Rattle.kp_meaning.specs.Numbering.{index_of}
+use Rattle.kp_meaning.proofs.Lists.{same-true, same-refl, all_member, among_member}
+use Rattle.kp_meaning.proofs.Indexes.{Distinct}
 use Rattle.kp_ground.specs.declared.flat.Atom.{Atom}
 use Rattle.kp_ground.specs.Ground.{atom_before, same_atom, number_of}
 use Rattle.kp_ground.specs.Laws.{IsAscending}

@@ -4,17 +4,17 @@ use Rattle.std.specs.List.{list_any, list_all}
 use Rattle.std.proofs.lemmas.Bool.{or_cases, false≢true, not-true}
 use Rattle.std.proofs.lemmas.Cmp.{nat_list_eq_equiv}
 use Rattle.std.proofs.lemmas.Map.Views.{list_any-from_Contains}
-use Rattle.kp_tree.specs.declared.tree.Word.{Word}
-use Rattle.kp_tree.specs.Trees as trees
-use Rattle.kp_tree.specs.Trees.{Atom, Domain, Problem}
-use Rattle.kp_tree.specs.PlainTrees.{is_bare, is_plain_item}
+use Rattle.kp_grammar.specs.declared.tree.Word.{Word}
+use Rattle.kp_grammar.specs.Trees as trees
+use Rattle.kp_grammar.specs.Trees.{Atom, Domain, Problem}
+use Rattle.kp_grammar.specs.PlainTrees.{is_bare, is_plain_item}
 use Rattle.kp_base.specs.Lists.{Member, signed}
 use Rattle.kp_base.proofs.Lists.{all_member, same-true}
-use Rattle.kp_names.specs.Names.{Name, same}
-use Rattle.kp_names.specs.States.{State, unbound, object_of}
-use Rattle.kp_names.specs.Initial.{IsInitial, item_holds}
-use Rattle.kp_names.specs.Numbering.{numbered_problem}
-use Rattle.kp_names.proofs.NumberedPlans.{initial_numbered}
+use Rattle.kp_meaning.specs.Names.{Name, same}
+use Rattle.kp_meaning.specs.States.{State, unbound, object_of}
+use Rattle.kp_meaning.specs.Initial.{IsInitial, item_holds}
+use Rattle.kp_meaning.specs.Numbering.{numbered_problem}
+use Rattle.kp_meaning.proofs.NumberedPlans.{initial_numbered}
 use Rattle.kp_init.proofs.Models.{initial_exact}
 use Rattle.kp_given.specs.PlainFiles.{facts_of, IsContradictory}
 use Rattle.kp_given.specs.PlainGround.{ArePlain}

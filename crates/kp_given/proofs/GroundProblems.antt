@@ -4,27 +4,27 @@ use Rattle.std.specs.List.{list_any, list_all, flat_map}
 use Rattle.std.proofs.lemmas.Bool.{and_parts, and_from}
 use Rattle.std.proofs.Math.Bool.{and-true}
 use Rattle.std.proofs.lemmas.List.{map-append, append-nil}
-use Rattle.kp_names.proofs.Numbered.{map_flat}
+use Rattle.kp_meaning.proofs.Numbered.{map_flat}
 use Rattle.kp_given.proofs.Lists.{filter_same, filter_map, map_same, flat_of_map, flat_filter}
 use Rattle.std.proofs.lemmas.List.Folds.{list_all-append, list_any-append}
-use Rattle.kp_tree.specs.declared.tree.Word.{Word}
-use Rattle.kp_tree.specs.Trees as trees
-use Rattle.kp_tree.specs.Trees.{Domain, Problem, Schema}
-use Rattle.kp_tree.specs.PlainTrees.{are_none, is_plain_cond, is_plain_eff, is_plain_schema, IsPlainDomain, IsPlainProblem}
+use Rattle.kp_grammar.specs.declared.tree.Word.{Word}
+use Rattle.kp_grammar.specs.Trees as trees
+use Rattle.kp_grammar.specs.Trees.{Domain, Problem, Schema}
+use Rattle.kp_grammar.specs.PlainTrees.{are_none, is_plain_cond, is_plain_eff, is_plain_schema, IsPlainDomain, IsPlainProblem}
 use Rattle.kp_base.specs.declared.lit.Lit.{Lit}
 use Rattle.kp_base.specs.declared.ground.Effect.{Effect}
 use Rattle.kp_base.specs.Lists.{Member, each_once}
 use Rattle.kp_base.specs.Lit.{negated, same_lit}
 use Rattle.kp_base.specs.LitSet.{set_of}
 use Rattle.kp_base.proofs.Lists.{all_member, all_alike, flat_alike, map_map, any_from, any_member}
-use Rattle.kp_names.specs.Names.{Name, same, is_among}
-use Rattle.kp_names.specs.Types.{declared, names}
-use Rattle.kp_names.specs.Faults.{inside}
-use Rattle.kp_names.specs.Numbered.{Lifted}
-use Rattle.kp_names.specs.Lifted.{bindings, item_literals}
-use Rattle.kp_names.specs.Numbering.{index_of, name_at, heads, numbered_problem, numbered_schema, numbered_range, numbered_pred}
-use Rattle.kp_names.proofs.Lists.{same-true, same-refl, among_member, member_at, member_map, map_member, filter_member}
-use Rattle.kp_names.proofs.Indexes.{at_index}
+use Rattle.kp_meaning.specs.Names.{Name, same, is_among}
+use Rattle.kp_meaning.specs.Types.{declared, names}
+use Rattle.kp_meaning.specs.Faults.{inside}
+use Rattle.kp_meaning.specs.Numbered.{Lifted}
+use Rattle.kp_meaning.specs.Lifted.{bindings, item_literals}
+use Rattle.kp_meaning.specs.Numbering.{index_of, name_at, heads, numbered_problem, numbered_schema, numbered_range, numbered_pred}
+use Rattle.kp_meaning.proofs.Lists.{same-true, same-refl, among_member, member_at, member_map, map_member, filter_member}
+use Rattle.kp_meaning.proofs.Indexes.{at_index}
 use Rattle.kp_ground.specs.declared.flat.Atom.{Atom}
 use Rattle.kp_ground.specs.Static.{is_static, settled, remaining}
 use Rattle.kp_ground.specs.Flattening.{flat, flat_of}

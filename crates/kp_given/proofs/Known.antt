@@ -3,19 +3,19 @@ use Rattle.std.proofs.Common.{◌≡◌, ◌==◌, Bool, true, not, List, [], �
 use Rattle.std.specs.List.{list_all, flat_map}
 use Rattle.std.proofs.lemmas.Bool.{and_parts, and_from}
 use Rattle.std.proofs.lemmas.List.Folds.{list_all-append}
-use Rattle.kp_tree.specs.declared.tree.Word.{Word}
-use Rattle.kp_tree.specs.Trees as trees
-use Rattle.kp_tree.specs.Trees.{Atom, Domain, Problem, Schema, Pred}
+use Rattle.kp_grammar.specs.declared.tree.Word.{Word}
+use Rattle.kp_grammar.specs.Trees as trees
+use Rattle.kp_grammar.specs.Trees.{Atom, Domain, Problem, Schema, Pred}
 use Rattle.kp_base.specs.Lists.{Member}
 use Rattle.kp_base.proofs.Lists.{all-not}
-use Rattle.kp_names.specs.Names.{Name, same, is_among, distinct}
-use Rattle.kp_names.specs.Types.{names, declared}
-use Rattle.kp_names.specs.Faults.{inside, cond_faults, conds_faults, eff_faults, effs_faults, schema_faults, variable_faults, item_faults, items_faults, atom_faults, HasNoFault}
-use Rattle.kp_names.specs.Numbering.{index_of, name_at, heads}
-use Rattle.kp_names.proofs.Lists.{append_empty, bool_same, same-true, same-refl}
-use Rattle.kp_names.proofs.Indexes.{at_index, Distinct}
-use Rattle.kp_names.proofs.Numbered.{among_heads}
-use Rattle.kp_names.proofs.NumberedPlans.{clean}
+use Rattle.kp_meaning.specs.Names.{Name, same, is_among, distinct}
+use Rattle.kp_meaning.specs.Types.{names, declared}
+use Rattle.kp_meaning.specs.Faults.{inside, cond_faults, conds_faults, eff_faults, effs_faults, schema_faults, variable_faults, item_faults, items_faults, atom_faults, HasNoFault}
+use Rattle.kp_meaning.specs.Numbering.{index_of, name_at, heads}
+use Rattle.kp_meaning.proofs.Lists.{append_empty, bool_same, same-true, same-refl}
+use Rattle.kp_meaning.proofs.Indexes.{at_index, Distinct}
+use Rattle.kp_meaning.proofs.Numbered.{among_heads}
+use Rattle.kp_meaning.proofs.NumberedPlans.{clean}
 use Rattle.kp_plain.specs.Ground as plain
 use Rattle.kp_plain.specs.Ground.{Literal, literal, cond_literals, conds_literals, eff_literals, effs_literals, item_literals, items_literals}
 

@@ -5,17 +5,17 @@ use Rattle.std.proofs.lemmas.Bool.{and_parts, false≢true}
 use Rattle.std.proofs.lemmas.List.{map-append}
 use Rattle.std.proofs.lemmas.List.Elements.{filter-append}
 use Rattle.std.proofs.lemmas.List.Folds.{list_all-append, list_any-append}
-use Rattle.kp_tree.specs.declared.tree.Word.{Word}
-use Rattle.kp_tree.specs.Trees as trees
-use Rattle.kp_tree.specs.Trees.{Atom, Domain, Problem}
-use Rattle.kp_tree.specs.PlainTrees.{are_none, is_bare, is_literal_cond, all_literal_conds, is_plain_cond, is_literal_eff, all_literal_effs, is_plain_eff, is_plain_item}
+use Rattle.kp_grammar.specs.declared.tree.Word.{Word}
+use Rattle.kp_grammar.specs.Trees as trees
+use Rattle.kp_grammar.specs.Trees.{Atom, Domain, Problem}
+use Rattle.kp_grammar.specs.PlainTrees.{are_none, is_bare, is_literal_cond, all_literal_conds, is_plain_cond, is_literal_eff, all_literal_effs, is_plain_eff, is_plain_item}
 use Rattle.kp_base.specs.Lists.{only_if}
-use Rattle.kp_names.specs.declared.lifted.GroundLit.{GroundLit}
-use Rattle.kp_names.specs.declared.lifted.Item.{Item}
-use Rattle.kp_names.specs.Names.{Name}
-use Rattle.kp_names.specs.Numbered.{Lifted}
-use Rattle.kp_names.specs.Lifted.{Binding, ground, literal_holds, object_of}
-use Rattle.kp_names.specs.Numbering.{index_of, heads, numbered_terms, numbered_cond, numbered_conds, numbered_eff, numbered_effs, numbered_item, numbered_goal, numbered_goals, object_number}
+use Rattle.kp_meaning.specs.declared.lifted.GroundLit.{GroundLit}
+use Rattle.kp_meaning.specs.declared.lifted.Item.{Item}
+use Rattle.kp_meaning.specs.Names.{Name}
+use Rattle.kp_meaning.specs.Numbered.{Lifted}
+use Rattle.kp_meaning.specs.Lifted.{Binding, ground, literal_holds, object_of}
+use Rattle.kp_meaning.specs.Numbering.{index_of, heads, numbered_terms, numbered_cond, numbered_conds, numbered_eff, numbered_effs, numbered_item, numbered_goal, numbered_goals, object_number}
 use Rattle.kp_ground.specs.declared.flat.FlatEffect.{FlatEffect}
 use Rattle.kp_ground.specs.Static.{changes, some_change, is_static, initially, settled, all_settled, remaining, all_remaining}
 use Rattle.kp_ground.specs.Flattening.{flat, all_flat}

@@ -4,20 +4,20 @@ use Rattle.std.specs.List.{list_all, flat_map}
 use Rattle.std.proofs.lemmas.Bool.{and_parts, or_cases, false_from_ne_true, false≢true}
 use Rattle.std.proofs.lemmas.Cmp.{nat_list_eq_equiv}
 use Rattle.std.proofs.lemmas.Map.Views.{Contains-from_any, list_any-from_Contains}
-use Rattle.kp_tree.specs.declared.tree.Word.{Word}
-use Rattle.kp_tree.specs.Trees as trees
-use Rattle.kp_tree.specs.Trees.{Atom, Domain, Problem, Schema, Pred, Typed}
-use Rattle.kp_tree.specs.PlainTrees.{are_none, is_bare, is_literal_cond, all_literal_conds, is_plain_cond, is_literal_eff, all_literal_effs, is_plain_eff, is_plain_item, is_plain_pred, is_plain_schema, IsPlainDomain, IsPlainProblem}
+use Rattle.kp_grammar.specs.declared.tree.Word.{Word}
+use Rattle.kp_grammar.specs.Trees as trees
+use Rattle.kp_grammar.specs.Trees.{Atom, Domain, Problem, Schema, Pred, Typed}
+use Rattle.kp_grammar.specs.PlainTrees.{are_none, is_bare, is_literal_cond, all_literal_conds, is_plain_cond, is_literal_eff, all_literal_effs, is_plain_eff, is_plain_item, is_plain_pred, is_plain_schema, IsPlainDomain, IsPlainProblem}
 use Rattle.kp_base.specs.Lists.{Member, only_if}
 use Rattle.kp_base.proofs.Lists.{same-true, same-refl}
-use Rattle.kp_names.specs.Names.{Name, same, is_among}
-use Rattle.kp_names.specs.Types.{names, declared}
-use Rattle.kp_names.specs.Faults.{Fault, declared_twice, repeated, twice_in, words, inside, head_faults, term_faults, atom_faults, cond_faults, conds_faults, eff_faults, effs_faults, variable_faults, schema_faults, item_faults, type_faults, HasNoFault}
+use Rattle.kp_meaning.specs.Names.{Name, same, is_among}
+use Rattle.kp_meaning.specs.Types.{names, declared}
+use Rattle.kp_meaning.specs.Faults.{Fault, declared_twice, repeated, twice_in, words, inside, head_faults, term_faults, atom_faults, cond_faults, conds_faults, eff_faults, effs_faults, variable_faults, schema_faults, item_faults, type_faults, HasNoFault}
 use Rattle.kp_given.specs.Names.{Distinct, AllDeclared, predicate_names, cond_heads, conds_heads, eff_heads, effs_heads, item_heads, problem_heads}
 use Rattle.kp_given.specs.PlainFiles.{IsWellNamed}
 use Rattle.kp_given.specs.Laws.{PlainFilesArePlain, PlainFilesHaveAProblem}
-use Rattle.kp_tree.proofs.PlainTrees.{domains_plain, problems_plain}
-use Rattle.kp_tree.proofs.Answered.{domains_read, problems_read}
+use Rattle.kp_grammar.proofs.PlainTrees.{domains_plain, problems_plain}
+use Rattle.kp_grammar.proofs.Answered.{domains_read, problems_read}
 use Rattle.kp_given.proofs.Literals.{none_is}
 
 -- ---- names that stand once

@@ -6,10 +6,10 @@ use Rattle.std.proofs.lemmas.Bool.{and_parts, and_from, or_cases, or_left, or_ri
 use Rattle.std.proofs.lemmas.List.{length-map}
 use Rattle.std.proofs.lemmas.List.Folds.{list_all-append}
 use Rattle.std.proofs.lemmas.Map.Views.{Contains-from_any}
-use Rattle.kp_tree.specs.declared.tree.Word.{Word}
-use Rattle.kp_tree.specs.Trees as trees
-use Rattle.kp_tree.specs.Trees.{Domain, Problem}
-use Rattle.kp_tree.specs.PlainTrees.{is_plain_item, IsPlainDomain, IsPlainProblem}
+use Rattle.kp_grammar.specs.declared.tree.Word.{Word}
+use Rattle.kp_grammar.specs.Trees as trees
+use Rattle.kp_grammar.specs.Trees.{Domain, Problem}
+use Rattle.kp_grammar.specs.PlainTrees.{is_plain_item, IsPlainDomain, IsPlainProblem}
 use Rattle.kp_base.specs.declared.lit.Lit.{Lit}
 use Rattle.kp_base.specs.declared.lit.AtomId.{AtomId}
 use Rattle.kp_base.specs.declared.ground.Initial.{Initial}
@@ -23,12 +23,12 @@ use Rattle.kp_base.proofs.Sets.{any-set_of, set_ascends}
 use Rattle.kp_base.proofs.Lists.{all_member, all_from, any_from, any_member, any_alike, flat_alike, map_map, any_map, member_flat_map, flat_member, member_map, map_member, member_filter, filter_member, append_member, member_left, member_right}
 use Rattle.kp_base.proofs.Lits.{same_lit-true, same_lit-refl, has-member, member-has}
 use Rattle.kp_ground.proofs.Lists.{beq-true, beq-refl}
-use Rattle.kp_names.specs.Names.{Name, same, is_among}
-use Rattle.kp_names.specs.Lifted as lifted
-use Rattle.kp_names.specs.Lifted.{is_of, item_literals}
-use Rattle.kp_names.specs.Numbering.{index_of, name_at, heads, numbered_problem}
-use Rattle.kp_names.proofs.Lists.{same-true, same-refl, same-sym, among_member}
-use Rattle.kp_names.proofs.Indexes.{Distinct, at_index, index_below, index_at, among_at}
+use Rattle.kp_meaning.specs.Names.{Name, same, is_among}
+use Rattle.kp_meaning.specs.Lifted as lifted
+use Rattle.kp_meaning.specs.Lifted.{is_of, item_literals}
+use Rattle.kp_meaning.specs.Numbering.{index_of, name_at, heads, numbered_problem}
+use Rattle.kp_meaning.proofs.Lists.{same-true, same-refl, same-sym, among_member}
+use Rattle.kp_meaning.proofs.Indexes.{Distinct, at_index, index_below, index_at, among_at}
 use Rattle.kp_ground.specs.declared.flat.Atom.{Atom}
 use Rattle.kp_ground.specs.Ground.{same_atom, number_of, numbered, IsNumbering}
 use Rattle.kp_ground.proofs.Atoms.{atoms_are_numbered}

@@ -4,18 +4,18 @@ use Rattle.std.specs.Bool.{beq}
 use Rattle.std.specs.List.{list_any, list_all, flat_map}
 use Rattle.std.proofs.lemmas.Bool.{and_parts, and_from}
 use Rattle.std.proofs.lemmas.List.Folds.{list_all-append, list_any-append}
-use Rattle.kp_tree.specs.declared.tree.Word.{Word}
-use Rattle.kp_tree.specs.Trees.{Domain, Problem, Schema}
-use Rattle.kp_tree.specs.PlainTrees.{are_none, is_plain_cond, is_plain_eff, is_plain_schema, IsPlainDomain, IsPlainProblem}
+use Rattle.kp_grammar.specs.declared.tree.Word.{Word}
+use Rattle.kp_grammar.specs.Trees.{Domain, Problem, Schema}
+use Rattle.kp_grammar.specs.PlainTrees.{are_none, is_plain_cond, is_plain_eff, is_plain_schema, IsPlainDomain, IsPlainProblem}
 use Rattle.kp_base.specs.Lists.{Member, signed}
 use Rattle.kp_base.proofs.Lists.{any_map, any_alike, all_member}
 use Rattle.std.proofs.Math.Bool.{and-true}
 use Rattle.kp_given.proofs.Lists.{any_flat}
-use Rattle.kp_names.specs.Names.{Name, same, is_among}
-use Rattle.kp_names.specs.Types.{declared}
-use Rattle.kp_names.specs.Faults.{inside}
-use Rattle.kp_names.specs.Lifted.{literal_holds}
-use Rattle.kp_names.specs.Numbering.{index_of, heads, numbered_problem, numbered_schema, numbered_eff}
+use Rattle.kp_meaning.specs.Names.{Name, same, is_among}
+use Rattle.kp_meaning.specs.Types.{declared}
+use Rattle.kp_meaning.specs.Faults.{inside}
+use Rattle.kp_meaning.specs.Lifted.{literal_holds}
+use Rattle.kp_meaning.specs.Numbering.{index_of, heads, numbered_problem, numbered_schema, numbered_eff}
 use Rattle.kp_ground.specs.Static as static
 use Rattle.kp_ground.specs.Static.{changes, leaves_static, initially}
 use Rattle.kp_plain.specs.Ground as plain

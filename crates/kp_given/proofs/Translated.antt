@@ -1,13 +1,13 @@
 -- What is made for plain trees is their translation.
 use Rattle.std.proofs.Common.{◌≡◌, ℕ, true, List, [], length, refl, sym, ap, ◌∙◌, codes}
 use Rattle.std.proofs.lemmas.List.{length-map}
-use Rattle.kp_tree.specs.declared.tree.Word.{Word}
-use Rattle.kp_tree.specs.Trees.{Domain, Problem}
+use Rattle.kp_grammar.specs.declared.tree.Word.{Word}
+use Rattle.kp_grammar.specs.Trees.{Domain, Problem}
 use Rattle.kp_base.specs.declared.lit.Lit.{Lit}
 use Rattle.kp_base.specs.declared.ground.Ground.{Ground}
 use Rattle.kp_base.specs.Lists.{only_if}
 use Rattle.kp_base.specs.LitSet.{set_of}
-use Rattle.kp_names.specs.Numbering.{numbered_problem}
+use Rattle.kp_meaning.specs.Numbering.{numbered_problem}
 use Rattle.kp_init.specs.Initial.{initial_over}
 use Rattle.kp_init.specs.Closure.{closure}
 use Rattle.kp_plain.specs.declared.translation.Translation.{Translation}

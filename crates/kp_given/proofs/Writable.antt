@@ -3,12 +3,12 @@ use Rattle.std.proofs.Common.{◌≡◌, ◌<◌, ℕ, suc, Bool, true, false, n
 use Rattle.std.specs.List.{AllByRecursion, IsDistinct, list_all, flat_map}
 use Rattle.std.proofs.lemmas.Bool.{and_parts, and_from, or_parts, both_ways, lt-ltb, ltb-true}
 use Rattle.std.proofs.lemmas.List.{length-map}
-use Rattle.kp_tree.specs.declared.tree.Word.{Word}
-use Rattle.kp_tree.specs.Trees.{Domain, Problem, Schema, Pred}
-use Rattle.kp_tree.specs.Words.{IsName, IsNamedPred, IsNamedSchema, IsNamedDomain}
-use Rattle.kp_tree.proofs.Answered.{domains_read}
-use Rattle.kp_tree.proofs.PlainTrees.{domains_plain, problems_plain}
-use Rattle.kp_tree.proofs.NamedTrees.{domains_named}
+use Rattle.kp_grammar.specs.declared.tree.Word.{Word}
+use Rattle.kp_grammar.specs.Trees.{Domain, Problem, Schema, Pred}
+use Rattle.kp_grammar.specs.Words.{IsName, IsNamedPred, IsNamedSchema, IsNamedDomain}
+use Rattle.kp_grammar.proofs.Answered.{domains_read}
+use Rattle.kp_grammar.proofs.PlainTrees.{domains_plain, problems_plain}
+use Rattle.kp_grammar.proofs.NamedTrees.{domains_named}
 use Rattle.kp_base.specs.declared.lit.Lit.{Lit}
 use Rattle.kp_base.specs.declared.ground.GroundName.{GroundName}
 use Rattle.kp_base.specs.declared.ground.Action.{Action}
@@ -20,12 +20,12 @@ use Rattle.kp_base.proofs.Lists.{any_from, map_map, map_member, member_left, mem
 use Rattle.kp_base.proofs.Lits.{has-member}
 use Rattle.kp_base.proofs.Once.{all_filter, all_each_once}
 use Rattle.kp_base.proofs.Sets.{all-set_of}
-use Rattle.kp_names.specs.Names.{Name, same, is_among}
-use Rattle.kp_names.specs.Faults.{HasNoFault}
-use Rattle.kp_names.specs.Numbering.{heads, numbered_problem}
-use Rattle.kp_names.proofs.Lists.{same-refl}
-use Rattle.kp_names.proofs.Indexes.{Distinct}
-use Rattle.kp_names.proofs.NumberedPlans.{Clean, clean}
+use Rattle.kp_meaning.specs.Names.{Name, same, is_among}
+use Rattle.kp_meaning.specs.Faults.{HasNoFault}
+use Rattle.kp_meaning.specs.Numbering.{heads, numbered_problem}
+use Rattle.kp_meaning.proofs.Lists.{same-refl}
+use Rattle.kp_meaning.proofs.Indexes.{Distinct}
+use Rattle.kp_meaning.proofs.NumberedPlans.{Clean, clean}
 use Rattle.kp_ground.specs.Ground.{ground_atoms, atom_name}
 use Rattle.kp_ground.proofs.Atoms.{atoms_are_numbered}
 use Rattle.kp_init.specs.Closure.{IsOver}

@@ -1,10 +1,10 @@
 -- What is proved of plain files.
 use Rattle.std.specs.Prelude.{◌≡◌, ◌↔◌, ℕ, List}
-use Rattle.kp_tree.specs.declared.tree.Word.{Word}
-use Rattle.kp_tree.specs.Trees.{Domain, Problem}
-use Rattle.kp_names.specs.States.{State}
-use Rattle.kp_names.specs.Initial.{IsInitial}
-use Rattle.kp_names.specs.Plans.{HasProblem}
+use Rattle.kp_grammar.specs.declared.tree.Word.{Word}
+use Rattle.kp_grammar.specs.Trees.{Domain, Problem}
+use Rattle.kp_meaning.specs.States.{State}
+use Rattle.kp_meaning.specs.Initial.{IsInitial}
+use Rattle.kp_meaning.specs.Plans.{HasProblem}
 use Rattle.kp_plain.specs.Translations as plain
 use Rattle.kp_given.specs.PlainFiles.{IsDomain, IsProblem, IsContradictory}
 use Rattle.kp_given.specs.PlainGround.{ArePlain}

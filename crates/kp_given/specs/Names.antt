@@ -1,8 +1,8 @@
 -- The names that a domain declares, and those that stand before the terms of an atom.
 use Rattle.std.specs.Prelude.{List, [], ◌∷◌, ◌++◌, ℕ, map, Contains}
 use Rattle.std.specs.List.{flat_map}
-use Rattle.kp_tree.specs.declared.tree.Word.{Word}
-use Rattle.kp_tree.specs.Trees.{Cond, Conds, no_cond, more_conds, Eff, Effs, no_eff, more_effs, Item, Items, no_item, more_items, Domain, Problem}
+use Rattle.kp_grammar.specs.declared.tree.Word.{Word}
+use Rattle.kp_grammar.specs.Trees.{Cond, Conds, no_cond, more_conds, Eff, Effs, no_eff, more_effs, Item, Items, no_item, more_items, Domain, Problem}
 
 -- no name stands twice
 abbrev pub Distinct : List (List ℕ) → Type 0

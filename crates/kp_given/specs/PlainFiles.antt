@@ -1,9 +1,9 @@
 -- Which files are translated: they have the plain form, no name is declared twice, and each atom is of a declared predicate.
 use Rattle.std.specs.Prelude.{List, [], ◌∷◌, ℕ, Bool, true, false, if◌then◌else◌, Contains}
-use Rattle.kp_tree.specs.declared.tree.Word.{Word}
-use Rattle.kp_tree.specs.Trees.{Item, Domain, Problem}
-use Rattle.kp_tree.specs.Plain as forms
-use Rattle.kp_tree.specs.PlainTexts.{IsPlain}
+use Rattle.kp_grammar.specs.declared.tree.Word.{Word}
+use Rattle.kp_grammar.specs.Trees.{Item, Domain, Problem}
+use Rattle.kp_grammar.specs.Plain as forms
+use Rattle.kp_grammar.specs.PlainTexts.{IsPlain}
 use Rattle.kp_given.specs.Names.{Distinct, AllDeclared, predicate_names, schema_names, domain_heads, problem_heads}
 
 -- the predicates differ in their names, as do the schemas, and each atom is of a declared predicate

@@ -1,10 +1,10 @@
 -- That the ground problem of plain trees, which is defined by name, is the ground problem of their problem by number.
 use Rattle.std.specs.Prelude.{◌≡◌}
-use Rattle.kp_tree.specs.declared.tree.Word.{Word}
-use Rattle.kp_tree.specs.Trees.{Domain, Problem}
-use Rattle.kp_tree.specs.PlainTrees.{IsPlainDomain, IsPlainProblem}
-use Rattle.kp_names.specs.Faults.{HasNoFault}
-use Rattle.kp_names.specs.Numbering.{numbered_problem}
+use Rattle.kp_grammar.specs.declared.tree.Word.{Word}
+use Rattle.kp_grammar.specs.Trees.{Domain, Problem}
+use Rattle.kp_grammar.specs.PlainTrees.{IsPlainDomain, IsPlainProblem}
+use Rattle.kp_meaning.specs.Faults.{HasNoFault}
+use Rattle.kp_meaning.specs.Numbering.{numbered_problem}
 use Rattle.kp_ground.specs.Ground as general
 use Rattle.kp_plain.specs.Ground as plain
 

@@ -7,9 +7,9 @@ use Rattle.kp_base.specs.declared.ground.Initial.{Initial}
 use Rattle.kp_base.specs.Lists.{only_if}
 use Rattle.kp_base.specs.Lit.{positive, negative}
 use Rattle.kp_base.specs.Steps.{has}
-use Rattle.kp_tree.specs.declared.tree.Word.{Word}
-use Rattle.kp_tree.specs.Trees.{Domain, Problem}
-use Rattle.kp_names.specs.Numbering.{numbered_problem}
+use Rattle.kp_grammar.specs.declared.tree.Word.{Word}
+use Rattle.kp_grammar.specs.Trees.{Domain, Problem}
+use Rattle.kp_meaning.specs.Numbering.{numbered_problem}
 use Rattle.kp_ground.specs.Ground as ground
 use Rattle.kp_init.specs.Initial as init
 use Rattle.kp_init.specs.Closure.{closure}

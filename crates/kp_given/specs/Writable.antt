@@ -1,11 +1,11 @@
 -- That the ground problem of plain files can be written.
 use Rattle.std.specs.Prelude.{ℕ, List}
 use Rattle.kp_base.specs.declared.lit.Lit.{Lit}
-use Rattle.kp_tree.specs.declared.tree.Word.{Word}
-use Rattle.kp_tree.specs.Trees.{Domain, Problem}
-use Rattle.kp_tree.specs.Plain.{plain_domain, plain_problem}
-use Rattle.kp_tree.specs.PlainTexts.{IsPlain}
-use Rattle.kp_names.specs.Faults.{HasNoFault}
+use Rattle.kp_grammar.specs.declared.tree.Word.{Word}
+use Rattle.kp_grammar.specs.Trees.{Domain, Problem}
+use Rattle.kp_grammar.specs.Plain.{plain_domain, plain_problem}
+use Rattle.kp_grammar.specs.PlainTexts.{IsPlain}
+use Rattle.kp_meaning.specs.Faults.{HasNoFault}
 use Rattle.kp_write.specs.Grounds.{AreOfAtoms, IsWritable}
 use Rattle.kp_given.specs.Translations.{ground_of, start_of}
 

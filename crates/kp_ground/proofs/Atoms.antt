@@ -4,7 +4,7 @@ use Rattle.std.specs.List.{list_all}
 use Rattle.std.proofs.lemmas.Bool.{and_parts, and_from, or_parts, or_cases, or_left, or_right, false≢true, both_ways, lt-ltb, ltb-true, cases_order}
 use Rattle.kp_base.specs.Lists.{Member}
 use Rattle.kp_base.proofs.Lists.{all_member, member_at, member_map, same-true, same-refl, all_weaker}
-use Rattle.kp_names.specs.Names.{same}
+use Rattle.kp_meaning.specs.Names.{same}
 use Rattle.kp_ground.specs.declared.flat.Atom.{Atom}
 use Rattle.kp_ground.specs.Ground.{atom_of, occurring, list_before, atom_before, same_atom, insert_atom, ascending_atoms, ground_atoms, number_of}
 use Rattle.kp_ground.specs.Laws.{IsAscending, AtomsAreNumbered}

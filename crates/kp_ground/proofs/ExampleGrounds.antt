@@ -7,14 +7,14 @@ use Rattle.kp_base.specs.declared.ground.Ground.{Ground}
 use Rattle.kp_base.specs.Lit.{positive, negative}
 use Rattle.kp_lex.specs.Bytes.{class_of}
 use Rattle.kp_lex.specs.Scanning.{cut_from}
-use Rattle.kp_tree.specs.Symbols.{symbol_of}
-use Rattle.kp_tree.specs.Parsing.{some_at, next_at}
-use Rattle.kp_names.specs.Names.{Name}
-use Rattle.kp_names.specs.Numbered.{Lifted}
-use Rattle.kp_names.specs.Faults.{HasNoFault}
-use Rattle.kp_names.specs.Numbering.{numbered_problem}
-use Rattle.kp_names.proofs.Texts.{domain_of, problem_of}
-use Rattle.kp_names.proofs.ExampleCells.{cells, one_of_three}
+use Rattle.kp_grammar.specs.Symbols.{symbol_of}
+use Rattle.kp_grammar.specs.Parsing.{some_at, next_at}
+use Rattle.kp_meaning.specs.Names.{Name}
+use Rattle.kp_meaning.specs.Numbered.{Lifted}
+use Rattle.kp_meaning.specs.Faults.{HasNoFault}
+use Rattle.kp_meaning.specs.Numbering.{numbered_problem}
+use Rattle.kp_meaning.proofs.Texts.{domain_of, problem_of}
+use Rattle.kp_meaning.proofs.ExampleCells.{cells, one_of_three}
 use Rattle.kp_ground.specs.Static.{is_static}
 use Rattle.kp_ground.specs.Ground.{ground_of}
 use Rattle.kp_ground.specs.Weights.{binding_count, weight, total_weight}

@@ -9,18 +9,18 @@ use Rattle.kp_base.specs.Lists.{Member}
 use Rattle.kp_base.specs.Lit.{positive, negative}
 use Rattle.kp_lex.specs.Bytes.{class_of}
 use Rattle.kp_lex.specs.Scanning.{cut_from}
-use Rattle.kp_tree.specs.Symbols.{symbol_of}
-use Rattle.kp_tree.specs.Parsing.{some_at, next_at}
-use Rattle.kp_names.specs.declared.lifted.Term.{Term}
-use Rattle.kp_names.specs.declared.lifted.Range.{Range}
-use Rattle.kp_names.specs.declared.lifted.Item.{Item}
-use Rattle.kp_names.specs.Names.{Name}
-use Rattle.kp_names.specs.Faults.{HasNoFault}
-use Rattle.kp_names.specs.Numbered.{Cond, Eff, Effs, Schema, Lifted}
-use Rattle.kp_names.specs.Lifted.{State, ground, is_named, IsInitial, IsPlan}
-use Rattle.kp_names.specs.Numbering.{numbered_problem}
-use Rattle.kp_names.proofs.Texts.{domain_of, problem_of}
-use Rattle.kp_names.proofs.ExamplePlans.{moves, from_a_to_b}
+use Rattle.kp_grammar.specs.Symbols.{symbol_of}
+use Rattle.kp_grammar.specs.Parsing.{some_at, next_at}
+use Rattle.kp_meaning.specs.declared.lifted.Term.{Term}
+use Rattle.kp_meaning.specs.declared.lifted.Range.{Range}
+use Rattle.kp_meaning.specs.declared.lifted.Item.{Item}
+use Rattle.kp_meaning.specs.Names.{Name}
+use Rattle.kp_meaning.specs.Faults.{HasNoFault}
+use Rattle.kp_meaning.specs.Numbered.{Cond, Eff, Effs, Schema, Lifted}
+use Rattle.kp_meaning.specs.Lifted.{State, ground, is_named, IsInitial, IsPlan}
+use Rattle.kp_meaning.specs.Numbering.{numbered_problem}
+use Rattle.kp_meaning.proofs.Texts.{domain_of, problem_of}
+use Rattle.kp_meaning.proofs.ExamplePlans.{moves, from_a_to_b}
 use Rattle.kp_ground.specs.Static.{is_static, HasStaticTruth}
 use Rattle.kp_ground.specs.Ground.{instance, kept_bindings, kept_instances, ground_atoms, IsNumbering, ground_of}
 use Rattle.kp_ground.specs.Weights.{binding_count, weight, total_weight}

@@ -5,9 +5,9 @@ use Rattle.std.proofs.lemmas.List.Concat.{flat_map-append}
 use Rattle.std.proofs.lemmas.List.Folds.{list_all-append}
 use Rattle.std.proofs.Math.Bool.{and-true}
 use Rattle.kp_base.specs.Lists.{only_if, signed}
-use Rattle.kp_names.specs.declared.lifted.GroundLit.{GroundLit}
-use Rattle.kp_names.specs.Numbered.{Cond, Conds, Eff, Effs, Lifted}
-use Rattle.kp_names.specs.Lifted.{State, Binding, object_of, literal, literal_holds, holds, all_hold, fires, all_fire, bindings}
+use Rattle.kp_meaning.specs.declared.lifted.GroundLit.{GroundLit}
+use Rattle.kp_meaning.specs.Numbered.{Cond, Conds, Eff, Effs, Lifted}
+use Rattle.kp_meaning.specs.Lifted.{State, Binding, object_of, literal, literal_holds, holds, all_hold, fires, all_fire, bindings}
 use Rattle.kp_ground.specs.declared.flat.FlatEffect.{FlatEffect}
 use Rattle.kp_ground.specs.Static.{is_static, initially, HasStaticTruth, settled, all_settled, remaining, all_remaining}
 use Rattle.kp_ground.specs.Flattening.{under, flat, all_flat, flat_fires}

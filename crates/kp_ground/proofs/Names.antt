@@ -7,18 +7,18 @@ use Rattle.kp_base.specs.declared.ground.GroundName.{GroundName}
 use Rattle.kp_base.specs.declared.ground.Action.{Action}
 use Rattle.kp_base.specs.Lists.{Member, choices}
 use Rattle.kp_base.proofs.Lists.{member_at, map_member, append_member, flat_member, filter_member}
-use Rattle.kp_tree.specs.declared.tree.Word.{Word}
-use Rattle.kp_tree.specs.Trees as trees
-use Rattle.kp_tree.specs.Trees.{Typed, Domain, Problem}
-use Rattle.kp_names.specs.declared.lifted.Range.{Range}
-use Rattle.kp_names.specs.Names.{Name, is_among}
-use Rattle.kp_names.specs.Types.{names, declared, types_of, object_lines, objects, is_of_type, range}
-use Rattle.kp_names.specs.Numbered.{Schema, Lifted}
-use Rattle.kp_names.specs.Lifted.{Instance, bindings, schema_of, is_instance}
-use Rattle.kp_names.specs.Numbering.{index_of, name_at, numbered_range, numbered_schema, numbered_problem, named_step}
-use Rattle.kp_names.proofs.Lists.{among_member}
-use Rattle.kp_names.proofs.Indexes.{Distinct, at_index, distinct_once}
-use Rattle.kp_names.proofs.NumberedPlans.{named_once}
+use Rattle.kp_grammar.specs.declared.tree.Word.{Word}
+use Rattle.kp_grammar.specs.Trees as trees
+use Rattle.kp_grammar.specs.Trees.{Typed, Domain, Problem}
+use Rattle.kp_meaning.specs.declared.lifted.Range.{Range}
+use Rattle.kp_meaning.specs.Names.{Name, is_among}
+use Rattle.kp_meaning.specs.Types.{names, declared, types_of, object_lines, objects, is_of_type, range}
+use Rattle.kp_meaning.specs.Numbered.{Schema, Lifted}
+use Rattle.kp_meaning.specs.Lifted.{Instance, bindings, schema_of, is_instance}
+use Rattle.kp_meaning.specs.Numbering.{index_of, name_at, numbered_range, numbered_schema, numbered_problem, named_step}
+use Rattle.kp_meaning.proofs.Lists.{among_member}
+use Rattle.kp_meaning.proofs.Indexes.{Distinct, at_index, distinct_once}
+use Rattle.kp_meaning.proofs.NumberedPlans.{named_once}
 use Rattle.kp_ground.specs.Static.{settled}
 use Rattle.kp_ground.specs.Ground.{kept_bindings, instance, kept_from, kept_instances, ground_atoms}
 use Rattle.kp_ground.specs.Laws.{AreNamedBySteps, AreNamedOnce}

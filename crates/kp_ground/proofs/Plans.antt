@@ -6,9 +6,9 @@ use Rattle.std.proofs.lemmas.Bool.{and_parts, and_from, false≢true}
 use Rattle.kp_base.specs.Lists.{Member}
 use Rattle.kp_base.specs.Steps as steps
 use Rattle.kp_base.proofs.Lists.{any_member, any_from, member_at, filter_member, same-true, same-refl, member_left}
-use Rattle.kp_names.specs.Names.{same}
-use Rattle.kp_names.specs.Numbered.{Schema, Lifted}
-use Rattle.kp_names.specs.Lifted.{State, Instance, literal_holds, bindings, schema_of, fits, is_instance, permits, applicable, state_by, next, succeeds, IsPlan}
+use Rattle.kp_meaning.specs.Names.{same}
+use Rattle.kp_meaning.specs.Numbered.{Schema, Lifted}
+use Rattle.kp_meaning.specs.Lifted.{State, Instance, literal_holds, bindings, schema_of, fits, is_instance, permits, applicable, state_by, next, succeeds, IsPlan}
 use Rattle.kp_ground.specs.declared.flat.Atom.{Atom}
 use Rattle.kp_ground.specs.Static.{HasStaticTruth, settled}
 use Rattle.kp_ground.specs.Ground.{kept_instances, kept_literals, open_literals, IsNumbering, action_of, ground_over, seen_on}

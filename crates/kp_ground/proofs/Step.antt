@@ -12,11 +12,11 @@ use Rattle.kp_base.specs.Lit.{positive, negative, same_lit}
 use Rattle.kp_base.specs.Steps as steps
 use Rattle.kp_base.proofs.Lists.{any_alike, all_alike, bool_same, same-true, same-refl, filter_member, member_left, member_right, member_flat_map, member_filter}
 use Rattle.kp_base.proofs.Sets.{all-set_of}
-use Rattle.kp_names.specs.declared.lifted.GroundLit.{GroundLit}
-use Rattle.kp_names.specs.Names.{same}
-use Rattle.kp_names.specs.Numbered.{Schema, Lifted}
-use Rattle.kp_names.specs.Lifted as lifted
-use Rattle.kp_names.specs.Lifted.{State, ground, same_literal, names_literal, literal_holds, bindings, permits, state_by}
+use Rattle.kp_meaning.specs.declared.lifted.GroundLit.{GroundLit}
+use Rattle.kp_meaning.specs.Names.{same}
+use Rattle.kp_meaning.specs.Numbered.{Schema, Lifted}
+use Rattle.kp_meaning.specs.Lifted as lifted
+use Rattle.kp_meaning.specs.Lifted.{State, ground, same_literal, names_literal, literal_holds, bindings, permits, state_by}
 use Rattle.kp_ground.specs.declared.flat.Atom.{Atom}
 use Rattle.kp_ground.specs.declared.flat.FlatEffect.{FlatEffect}
 use Rattle.kp_ground.specs.Static.{settled, remaining}

@@ -2,9 +2,9 @@
 use Rattle.std.specs.Prelude.{ℕ, List, [], ◌∷◌, ◌++◌, map}
 use Rattle.std.specs.List.{list_all, flat_map}
 use Rattle.kp_base.specs.Lists.{only_if}
-use Rattle.kp_names.specs.declared.lifted.GroundLit.{GroundLit}
-use Rattle.kp_names.specs.Numbered.{Eff, Effs, Schema, Lifted}
-use Rattle.kp_names.specs.Lifted.{State, Binding, literal, literal_holds, bindings}
+use Rattle.kp_meaning.specs.declared.lifted.GroundLit.{GroundLit}
+use Rattle.kp_meaning.specs.Numbered.{Eff, Effs, Schema, Lifted}
+use Rattle.kp_meaning.specs.Lifted.{State, Binding, literal, literal_holds, bindings}
 use Rattle.kp_ground.specs.declared.flat.FlatEffect.{FlatEffect}
 use Rattle.kp_ground.specs.declared.flat.Flat.{Flat}
 use Rattle.kp_ground.specs.Static.{settled, remaining}

@@ -12,11 +12,11 @@ use Rattle.kp_base.specs.Lit.{negated, same_lit}
 use Rattle.kp_base.specs.LitSet.{set_of}
 use Rattle.kp_base.specs.Steps as steps
 use Rattle.kp_base.specs.Steps.{has}
-use Rattle.kp_names.specs.declared.lifted.GroundLit.{GroundLit}
-use Rattle.kp_names.specs.Names.{Name, same}
-use Rattle.kp_names.specs.Numbered.{Schema, Lifted}
-use Rattle.kp_names.specs.Lifted.{State, Binding, Instance, bindings, item_literals}
-use Rattle.kp_names.specs.Numbering.{name_at}
+use Rattle.kp_meaning.specs.declared.lifted.GroundLit.{GroundLit}
+use Rattle.kp_meaning.specs.Names.{Name, same}
+use Rattle.kp_meaning.specs.Numbered.{Schema, Lifted}
+use Rattle.kp_meaning.specs.Lifted.{State, Binding, Instance, bindings, item_literals}
+use Rattle.kp_meaning.specs.Numbering.{name_at}
 use Rattle.kp_ground.specs.declared.flat.Atom.{Atom}
 use Rattle.kp_ground.specs.declared.flat.FlatEffect.{FlatEffect}
 use Rattle.kp_ground.specs.declared.flat.Flat.{Flat}

@@ -5,12 +5,12 @@ use Rattle.kp_base.specs.declared.ground.GroundName.{GroundName}
 use Rattle.kp_base.specs.declared.ground.Ground.{Ground}
 use Rattle.kp_base.specs.Lists.{Member}
 use Rattle.kp_base.specs.Steps as steps
-use Rattle.kp_tree.specs.declared.tree.Word.{Word}
-use Rattle.kp_tree.specs.Trees.{Domain, Problem}
-use Rattle.kp_names.specs.Faults.{HasNoFault}
-use Rattle.kp_names.specs.Numbered.{Cond, Eff, Schema, Lifted}
-use Rattle.kp_names.specs.Lifted.{State, Binding, Instance, literal_holds, holds, fires, bindings, permits, state_by, next, IsInitial, IsPlan}
-use Rattle.kp_names.specs.Numbering.{numbered_problem, named_step}
+use Rattle.kp_grammar.specs.declared.tree.Word.{Word}
+use Rattle.kp_grammar.specs.Trees.{Domain, Problem}
+use Rattle.kp_meaning.specs.Faults.{HasNoFault}
+use Rattle.kp_meaning.specs.Numbered.{Cond, Eff, Schema, Lifted}
+use Rattle.kp_meaning.specs.Lifted.{State, Binding, Instance, literal_holds, holds, fires, bindings, permits, state_by, next, IsInitial, IsPlan}
+use Rattle.kp_meaning.specs.Numbering.{numbered_problem, named_step}
 use Rattle.kp_ground.specs.declared.flat.Atom.{Atom}
 use Rattle.kp_ground.specs.Static.{HasStaticTruth, settled, remaining}
 use Rattle.kp_ground.specs.Flattening.{flat, flat_fires}

@@ -1,7 +1,7 @@
 -- How large a problem is: the number of its bindings, and the weights of its kept instances.
 use Rattle.std.specs.Prelude.{ℕ, zero, suc, ◌+◌, ◌*◌, length, sum_by}
-use Rattle.kp_names.specs.Numbered.{Cond, Conds, Eff, Effs, Schema, Lifted}
-use Rattle.kp_names.specs.Lifted.{bindings}
+use Rattle.kp_meaning.specs.Numbered.{Cond, Conds, Eff, Effs, Schema, Lifted}
+use Rattle.kp_meaning.specs.Lifted.{bindings}
 use Rattle.kp_ground.specs.Ground.{kept_bindings}
 
 -- the number of lists of objects for the parameters of all schemas

@@ -1,5 +1,5 @@
 use kp_base::Row;
-use kp_names::GroundLit;
+use kp_meaning::GroundLit;
 
 /// A ground atom: a predicate and its objects, by number.
 #[derive(Debug, PartialEq, Eq, Drop)]

@@ -7,18 +7,18 @@ use Rattle.kp_base.specs.Lit.{positive, negative}
 use Rattle.kp_base.specs.Steps.{State, is_model, succeeds, IsGroundPlan}
 use Rattle.kp_lex.specs.Bytes.{class_of}
 use Rattle.kp_lex.specs.Scanning.{cut_from}
-use Rattle.kp_tree.specs.Symbols.{symbol_of}
-use Rattle.kp_tree.specs.Parsing.{some_at, next_at}
-use Rattle.kp_names.specs.Faults.{HasNoFault}
-use Rattle.kp_names.specs.Numbered.{Lifted}
-use Rattle.kp_names.specs.Lifted as lifted
-use Rattle.kp_names.specs.Numbering.{numbered_problem}
-use Rattle.kp_names.specs.NumberLaws.{is_plain_goal}
-use Rattle.kp_names.specs.Plans as texts
-use Rattle.kp_names.specs.Plans.{HasProblem, Solves}
-use Rattle.kp_names.proofs.Texts.{domain_of, problem_of, has_problem}
-use Rattle.kp_names.proofs.ExamplePlans.{moves, from_a_to_b, move}
-use Rattle.kp_names.proofs.ExampleCells.{cells, one_of_three}
+use Rattle.kp_grammar.specs.Symbols.{symbol_of}
+use Rattle.kp_grammar.specs.Parsing.{some_at, next_at}
+use Rattle.kp_meaning.specs.Faults.{HasNoFault}
+use Rattle.kp_meaning.specs.Numbered.{Lifted}
+use Rattle.kp_meaning.specs.Lifted as lifted
+use Rattle.kp_meaning.specs.Numbering.{numbered_problem}
+use Rattle.kp_meaning.specs.NumberLaws.{is_plain_goal}
+use Rattle.kp_meaning.specs.Plans as texts
+use Rattle.kp_meaning.specs.Plans.{HasProblem, Solves}
+use Rattle.kp_meaning.proofs.Texts.{domain_of, problem_of, has_problem}
+use Rattle.kp_meaning.proofs.ExamplePlans.{moves, from_a_to_b, move}
+use Rattle.kp_meaning.proofs.ExampleCells.{cells, one_of_three}
 use Rattle.kp_ground.specs.Ground.{ground_atoms, ground_of, seen_on}
 use Rattle.kp_ground.specs.Laws.{action_name}
 use Rattle.kp_ground.proofs.Atoms.{atoms_are_numbered}

@@ -11,11 +11,11 @@ use Rattle.kp_base.specs.Steps as steps
 use Rattle.kp_base.specs.Steps.{is_model}
 use Rattle.kp_base.proofs.Lists.{any_member, any_from, all_member, any_alike, all_alike, any_map, bool_same, member_at, filter_member, same-true, same-refl, all_from, member_left, member_right, member_flat_map, member_filter}
 use Rattle.kp_base.proofs.Sets.{any-set_of}
-use Rattle.kp_names.specs.declared.lifted.GroundLit.{GroundLit}
-use Rattle.kp_names.specs.declared.lifted.Item.{Item}
-use Rattle.kp_names.specs.Names.{same}
-use Rattle.kp_names.specs.Numbered.{Lifted}
-use Rattle.kp_names.specs.Lifted.{State, literal_holds, same_literal, one_holds, item_holds, item_literals, is_of, is_named, IsInitial}
+use Rattle.kp_meaning.specs.declared.lifted.GroundLit.{GroundLit}
+use Rattle.kp_meaning.specs.declared.lifted.Item.{Item}
+use Rattle.kp_meaning.specs.Names.{same}
+use Rattle.kp_meaning.specs.Numbered.{Lifted}
+use Rattle.kp_meaning.specs.Lifted.{State, literal_holds, same_literal, one_holds, item_holds, item_literals, is_of, is_named, IsInitial}
 use Rattle.kp_ground.specs.declared.flat.Atom.{Atom}
 use Rattle.kp_ground.specs.Static.{is_static, leaves_static, says, initially}
 use Rattle.kp_ground.specs.Ground.{atom_of, same_atom, kept_literals, open_literals, number_of, numbered, numbered_set, at_atom, seen_on, IsNumbering}

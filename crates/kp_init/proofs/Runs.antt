@@ -16,20 +16,20 @@ use Rattle.kp_base.specs.Steps as steps
 use Rattle.kp_base.proofs.Lists.{any_alike, all_alike, all_member, member_at, flat_member, all_from, member_left, member_right, member_flat_map}
 use Rattle.kp_base.proofs.Once.{all_filter, all_each_once}
 use Rattle.kp_base.proofs.Sets.{all-set_of}
-use Rattle.kp_tree.specs.declared.tree.Word.{Word}
-use Rattle.kp_tree.specs.Trees.{Domain, Problem}
-use Rattle.kp_names.specs.declared.lifted.GroundLit.{GroundLit}
-use Rattle.kp_names.specs.declared.lifted.Item.{Item}
-use Rattle.kp_names.specs.Numbered.{Schema, Lifted}
-use Rattle.kp_names.specs.Lifted.{Instance, IsPlan}
-use Rattle.kp_names.specs.Faults.{HasNoFault}
-use Rattle.kp_names.specs.Steps.{Step}
-use Rattle.kp_names.specs.Plans.{Solves}
-use Rattle.kp_names.specs.Numbering.{numbered_problem, named_step}
-use Rattle.kp_names.specs.NumberLaws.{is_plain_goal}
-use Rattle.kp_names.proofs.NumberedPlans.{plan_numbered}
-use Rattle.kp_names.proofs.PlainGoals.{goals_plain}
-use Rattle.kp_names.proofs.Texts.{solves_theirs}
+use Rattle.kp_grammar.specs.declared.tree.Word.{Word}
+use Rattle.kp_grammar.specs.Trees.{Domain, Problem}
+use Rattle.kp_meaning.specs.declared.lifted.GroundLit.{GroundLit}
+use Rattle.kp_meaning.specs.declared.lifted.Item.{Item}
+use Rattle.kp_meaning.specs.Numbered.{Schema, Lifted}
+use Rattle.kp_meaning.specs.Lifted.{Instance, IsPlan}
+use Rattle.kp_meaning.specs.Faults.{HasNoFault}
+use Rattle.kp_meaning.specs.Steps.{Step}
+use Rattle.kp_meaning.specs.Plans.{Solves}
+use Rattle.kp_meaning.specs.Numbering.{numbered_problem, named_step}
+use Rattle.kp_meaning.specs.NumberLaws.{is_plain_goal}
+use Rattle.kp_meaning.proofs.NumberedPlans.{plan_numbered}
+use Rattle.kp_meaning.proofs.PlainGoals.{goals_plain}
+use Rattle.kp_meaning.proofs.Texts.{solves_theirs}
 use Rattle.kp_ground.specs.declared.flat.Atom.{Atom}
 use Rattle.kp_ground.specs.Static.{remaining}
 use Rattle.kp_ground.specs.Flattening.{flat, flat_of}

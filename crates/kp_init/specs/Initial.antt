@@ -7,9 +7,9 @@ use Rattle.kp_base.specs.declared.ground.Initial.{Initial}
 use Rattle.kp_base.specs.Lists.{only_if, each_once}
 use Rattle.kp_base.specs.Lit.{negated, same_lit}
 use Rattle.kp_base.specs.LitSet.{set_of}
-use Rattle.kp_names.specs.declared.lifted.Item.{Item}
-use Rattle.kp_names.specs.Numbered.{Lifted}
-use Rattle.kp_names.specs.Lifted.{is_named}
+use Rattle.kp_meaning.specs.declared.lifted.Item.{Item}
+use Rattle.kp_meaning.specs.Numbered.{Lifted}
+use Rattle.kp_meaning.specs.Lifted.{is_named}
 use Rattle.kp_ground.specs.declared.flat.Atom.{Atom}
 use Rattle.kp_ground.specs.Ground.{atom_of, same_atom, ground_atoms, number_of, numbered, numbered_set}
 

@@ -2,16 +2,16 @@
 use Rattle.std.specs.Prelude.{◌≡◌, ◌↔◌, ◌<◌, ℕ, true, List, Some, map, length, slice_get}
 use Rattle.kp_base.specs.Steps as steps
 use Rattle.kp_base.specs.Steps.{is_model, IsGroundPlan}
-use Rattle.kp_tree.specs.declared.tree.Word.{Word}
-use Rattle.kp_tree.specs.Trees.{Domain, Problem}
-use Rattle.kp_names.specs.Faults.{HasNoFault}
-use Rattle.kp_names.specs.Steps.{Step}
-use Rattle.kp_names.specs.Plans as plans
-use Rattle.kp_names.specs.Plans.{HasProblem, Solves}
-use Rattle.kp_names.specs.Numbered.{Lifted}
-use Rattle.kp_names.specs.Lifted.{State, Instance, IsInitial, IsPlan}
-use Rattle.kp_names.specs.Numbering.{numbered_problem}
-use Rattle.kp_names.specs.NumberLaws.{is_plain_goal}
+use Rattle.kp_grammar.specs.declared.tree.Word.{Word}
+use Rattle.kp_grammar.specs.Trees.{Domain, Problem}
+use Rattle.kp_meaning.specs.Faults.{HasNoFault}
+use Rattle.kp_meaning.specs.Steps.{Step}
+use Rattle.kp_meaning.specs.Plans as plans
+use Rattle.kp_meaning.specs.Plans.{HasProblem, Solves}
+use Rattle.kp_meaning.specs.Numbered.{Lifted}
+use Rattle.kp_meaning.specs.Lifted.{State, Instance, IsInitial, IsPlan}
+use Rattle.kp_meaning.specs.Numbering.{numbered_problem}
+use Rattle.kp_meaning.specs.NumberLaws.{is_plain_goal}
 use Rattle.kp_ground.specs.declared.flat.Atom.{Atom}
 use Rattle.kp_ground.specs.Ground.{IsNumbering, kept_instances, ground_over, ground_of, seen_on}
 use Rattle.kp_ground.specs.Laws.{action_name}

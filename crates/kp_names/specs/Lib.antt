@@ -1,14 +1,1 @@
-pub mod Names
-pub mod Types
-pub mod Faults
-pub mod States
-pub mod Steps
-pub mod Initial
-pub mod Plans
-pub mod Encoding
-pub mod Strip
-pub mod Places
-pub mod Numbered
-pub mod Lifted
-pub mod Numbering
-pub mod NumberLaws
+pub mod Resolved

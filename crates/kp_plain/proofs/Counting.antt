@@ -1,7 +1,7 @@
 -- One more predicate that is numbered.
 use Rattle.std.proofs.Common.{◌≡◌, ℕ, suc, ◌<◌, ◌+◌, Bool, false, if◌then◌else◌, List, [], ◌∷◌, ◌++◌, length, get_or, drop, map, sym, ap, ◌∙◌, append_assoc, add-one, drop-cons, refl, arith}
 use Rattle.kp_base.specs.declared.ground.GroundName.{GroundName}
-use Rattle.kp_names.specs.Names.{Name}
+use Rattle.kp_meaning.specs.Names.{Name}
 use Rattle.kp_plain.specs.Ground.{nullary}
 use Rattle.kp_plain.specs.Grounding.{marked, names_from, numbers_from}
 use Rattle.kp_plain.proofs.Putting.{next_of}

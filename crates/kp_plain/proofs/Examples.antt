@@ -2,8 +2,8 @@
 use Rattle.std.proofs.Common.{◌≡◌, ℕ, Bool, true, false, List, [], ◌∷◌, map, refl, codes}
 use Rattle.kp_base.specs.declared.lit.Lit.{Lit}
 use Rattle.kp_base.specs.declared.ground.Effect.{Effect}
-use Rattle.kp_tree.specs.declared.tree.Word.{Word}
-use Rattle.kp_tree.specs.Trees.{Atom, Cond, conds_of, Eff, effs_of, Item, Pred, Schema, Domain, Problem}
+use Rattle.kp_grammar.specs.declared.tree.Word.{Word}
+use Rattle.kp_grammar.specs.Trees.{Atom, Cond, conds_of, Eff, effs_of, Item, Pred, Schema, Domain, Problem}
 use Rattle.kp_plain.specs.Ground.{nullary, is_static, ground_of, start_of}
 
 abbrev word : List ℕ → Word

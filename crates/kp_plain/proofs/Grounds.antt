@@ -10,10 +10,10 @@ use Rattle.kp_base.specs.declared.lit.Lit.{Lit}
 use Rattle.kp_base.specs.declared.ground.Effect.{Effect}
 use Rattle.kp_base.specs.declared.ground.Action.{Action}
 use Rattle.kp_base.specs.LitSet.{with_lit, set_of}
-use Rattle.kp_tree.specs.declared.tree.Word.{Word}
-use Rattle.kp_tree.specs.Trees.{Schema, Domain, Problem}
+use Rattle.kp_grammar.specs.declared.tree.Word.{Word}
+use Rattle.kp_grammar.specs.Trees.{Schema, Domain, Problem}
 use Rattle.kp_base.specs.Lists.{only_if, each_once}
-use Rattle.kp_names.specs.Names.{Name, same, is_among}
+use Rattle.kp_meaning.specs.Names.{Name, same, is_among}
 use Rattle.kp_plain.specs.Ground as ground
 use Rattle.kp_base.specs.Lit.{same_lit}
 use Rattle.kp_base.proofs.Lists.{same-true, same-refl}

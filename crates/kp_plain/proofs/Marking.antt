@@ -4,10 +4,10 @@ use Rattle.std.specs.List.{list_all}
 use Rattle.std.specs.Bool.{beq}
 use Rattle.std.proofs.lemmas.List.{map-append, get_or_past}
 use Rattle.std.proofs.lemmas.List.Folds.{list_all-append, flat_map-map}
-use Rattle.kp_tree.specs.declared.tree.Word.{Word}
-use Rattle.kp_tree.specs.Trees.{Schema, Domain, Problem}
+use Rattle.kp_grammar.specs.declared.tree.Word.{Word}
+use Rattle.kp_grammar.specs.Trees.{Schema, Domain, Problem}
 use Rattle.kp_base.specs.Lists.{signed}
-use Rattle.kp_names.specs.Names.{Name, same, is_among}
+use Rattle.kp_meaning.specs.Names.{Name, same, is_among}
 use Rattle.kp_plain.specs.declared.numbering.Mention.{Mention}
 use Rattle.kp_plain.specs.declared.numbering.Step.{Step}
 use Rattle.kp_plain.specs.Ground.{Literal, is_named, place, cond_literals, eff_literals, item_literals, declared, known, pre_of, results_of, init_of, goal_of, stated, is_static, is_open_or_true, without_static, kept, light_pre, occurring}

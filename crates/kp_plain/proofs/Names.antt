@@ -8,7 +8,7 @@ use Rattle.std.proofs.lemmas.List.{length-map}
 use Rattle.std.proofs.lemmas.List.Folds.{list_any-append}
 use Rattle.kp_base.specs.Lists.{each_once}
 use Rattle.kp_base.proofs.Lists.{same-true, same-refl}
-use Rattle.kp_names.specs.Names.{Name, same, is_among, distinct}
+use Rattle.kp_meaning.specs.Names.{Name, same, is_among, distinct}
 use Rattle.kp_plain.specs.Ground.{place}
 use Rattle.kp_plain.specs.Grounding.{with_name, number_of}
 

@@ -10,10 +10,10 @@ use Rattle.kp_base.specs.declared.ground.Action.{Action}
 use Rattle.kp_base.specs.declared.ground.Ground.{Ground}
 use Rattle.kp_base.specs.Lit.{negated, same_lit}
 use Rattle.kp_base.specs.LitSet.{set_of}
-use Rattle.kp_tree.specs.declared.tree.Word.{Word}
-use Rattle.kp_tree.specs.Trees.{Atom, Cond, Conds, no_cond, more_conds, Eff, Effs, no_eff, more_effs, Item, Items, no_item, more_items, Schema, Domain, Problem}
+use Rattle.kp_grammar.specs.declared.tree.Word.{Word}
+use Rattle.kp_grammar.specs.Trees.{Atom, Cond, Conds, no_cond, more_conds, Eff, Effs, no_eff, more_effs, Item, Items, no_item, more_items, Schema, Domain, Problem}
 use Rattle.kp_base.specs.Lists.{only_if, signed, each_once}
-use Rattle.kp_names.specs.Names.{Name, same, is_among, distinct}
+use Rattle.kp_meaning.specs.Names.{Name, same, is_among, distinct}
 
 -- ---- literals of the trees
 

@@ -6,9 +6,9 @@ use Rattle.kp_base.specs.declared.ground.GroundName.{GroundName}
 use Rattle.kp_base.specs.declared.ground.Effect.{Effect}
 use Rattle.kp_base.specs.declared.ground.Action.{Action}
 use Rattle.kp_base.specs.LitSet.{with_lit}
-use Rattle.kp_tree.specs.declared.tree.Word.{Word}
-use Rattle.kp_tree.specs.Trees.{Schema}
-use Rattle.kp_names.specs.Names.{Name, is_among}
+use Rattle.kp_grammar.specs.declared.tree.Word.{Word}
+use Rattle.kp_grammar.specs.Trees.{Schema}
+use Rattle.kp_meaning.specs.Names.{Name, is_among}
 use Rattle.kp_base.specs.Lit.{same_lit}
 use Rattle.kp_plain.specs.Ground.{Literal, cond_literals, eff_literals, place, nullary, is_idle}
 use Rattle.kp_plain.specs.declared.numbering.Mention.{Mention}

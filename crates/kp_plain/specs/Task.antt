@@ -8,8 +8,8 @@ use Rattle.kp_base.specs.declared.ground.Action.{Action}
 use Rattle.kp_base.specs.declared.ground.Ground.{Ground}
 use Rattle.kp_base.specs.Lit.{negated}
 use Rattle.kp_base.specs.LitSet.{with_lit}
-use Rattle.kp_names.specs.Encoding.{encoded}
-use Rattle.kp_names.specs.Strip.{do_front}
+use Rattle.kp_meaning.specs.Encoding.{encoded}
+use Rattle.kp_meaning.specs.Strip.{do_front}
 
 -- a fact that holds, or doesn't, by name
 pub record Signed : Type 0 where

@@ -1,6 +1,6 @@
 -- The translation of a plain domain and a plain problem, as the code makes it from their ground problem by name.
-use Rattle.kp_tree.specs.declared.tree.Word.{Word}
-use Rattle.kp_tree.specs.Trees.{Domain, Problem}
+use Rattle.kp_grammar.specs.declared.tree.Word.{Word}
+use Rattle.kp_grammar.specs.Trees.{Domain, Problem}
 use Rattle.kp_plain.specs.declared.translation.Translation.{Translation}
 use Rattle.kp_plain.specs.Ground.{ground_of, start_of}
 use Rattle.kp_plain.specs.Task.{facts_of, ops_of, facts_for}

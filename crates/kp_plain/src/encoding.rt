@@ -1,5 +1,5 @@
 ghost use Rattle.std.specs.Prelude.{◌≡◌, ◌++◌, OnOk};
-ghost use Rattle.kp_names.specs.Encoding.{doubled, doubled_byte, encoded, encoded_objects};
+ghost use Rattle.kp_meaning.specs.Encoding.{doubled, doubled_byte, encoded, encoded_objects};
 
 use kp_base::{GroundName, Memory, Text};
 

@@ -1,6 +1,6 @@
 ghost use Rattle.std.specs.Prelude.{◌≡◌, ◌++◌, [], ◌&&◌, ◌||◌, not, true, false, length, map, filter, IfOk, OnOk, slice_index_or, slice_set};
 ghost use Rattle.std.specs.List.{list_any, list_all, flat_map};
-ghost use Rattle.kp_tree.specs.View.{domain_view, problem_view};
+ghost use Rattle.kp_grammar.specs.View.{domain_view, problem_view};
 ghost use Rattle.kp_plain.specs.Ground.{ground_of, start_of};
 ghost use Rattle.kp_plain.specs.Grounding.{plain, changes, is_kept, lighter, step_mentions, names_from, numbers_from, literal_of, put_in, with_known, known_before, action_of};
 
@@ -10,7 +10,7 @@ use crate::numbering::{Mention, Numbered, Step, by_number};
 use crate::predicates::Predicates;
 use crate::standing::{Marks, Standing};
 use kp_base::{AtomId, Ground, Lit, LitSet, Memory};
-use kp_tree::{Domain, Problem};
+use kp_grammar::{Domain, Problem};
 use std::alloc::Global;
 
 /// A ground problem with what holds at its start.

@@ -1,12 +1,12 @@
 ghost use Rattle.std.specs.Prelude.{◌≡◌, ◌++◌, map, IfOk, OnOk};
 ghost use Rattle.std.specs.List.{flat_map};
-ghost use Rattle.kp_tree.specs.View.{atom_view, cond_view, eff_view, item_view, schema_view, domain_view, problem_view};
+ghost use Rattle.kp_grammar.specs.View.{atom_view, cond_view, eff_view, item_view, schema_view, domain_view, problem_view};
 ghost use Rattle.kp_plain.specs.Ground.{literal, cond_literals, eff_literals, item_literals, declared};
 ghost use Rattle.kp_plain.specs.Grounding.{mention_of, plain, step_of};
 
 use crate::predicates::Predicates;
 use kp_base::{Memory, Text};
-use kp_tree::{AtomTree, CondTree, Domain, EffTree, ItemTree, Problem, SchemaTree};
+use kp_grammar::{AtomTree, CondTree, Domain, EffTree, ItemTree, Problem, SchemaTree};
 use std::alloc::Global;
 
 /// A literal of a plain file: a predicate by its number, in order of declaration, or its negation.

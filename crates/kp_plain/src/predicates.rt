@@ -1,11 +1,11 @@
 ghost use Rattle.std.specs.Prelude.{◌≡◌, [], map, length, IfOk, OnOk};
-ghost use Rattle.kp_tree.specs.View.{pred_view};
-ghost use Rattle.kp_names.specs.Names.{distinct};
+ghost use Rattle.kp_grammar.specs.View.{pred_view};
+ghost use Rattle.kp_meaning.specs.Names.{distinct};
 ghost use Rattle.kp_plain.specs.Grounding.{number_of, with_name};
 
 use indexmap::IndexSet;
 use kp_base::Memory;
-use kp_tree::PredTree;
+use kp_grammar::PredTree;
 use std::alloc::Global;
 use std::marker::Model;
 

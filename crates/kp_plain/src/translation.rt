@@ -1,12 +1,12 @@
 ghost use Rattle.std.specs.Prelude.{◌≡◌, IfOk};
-ghost use Rattle.kp_tree.specs.View.{domain_view, problem_view};
+ghost use Rattle.kp_grammar.specs.View.{domain_view, problem_view};
 ghost use Rattle.kp_plain.specs.Translations.{translation_of};
 
 use crate::grounding::{Grounded, ground_form};
 use crate::report::report_text;
 use crate::writing::{domain_text, problem_text};
 use kp_base::{Memory, Row};
-use kp_tree::{Domain, Problem};
+use kp_grammar::{Domain, Problem};
 use std::alloc::Global;
 
 /// The texts of a translation.

@@ -13,16 +13,16 @@ use Rattle.kp_base.specs.declared.refused.Part.TheVariants as parts
 use Rattle.kp_base.specs.declared.refused.Refused.TheVariants as refusals
 use Rattle.kp_lex.specs.Bytes.{class_of}
 use Rattle.kp_lex.specs.Scanning.{cut_from}
-use Rattle.kp_tree.specs.Symbols.{symbol_of}
-use Rattle.kp_tree.specs.Parsing.{some_at, next_at}
-use Rattle.kp_tree.specs.Trees.{Cond, Domain, Item, Problem}
-use Rattle.kp_tree.specs.declared.tree.Word.{Word}
-use Rattle.kp_tree.specs.Plain.{plain_domain, plain_problem}
-use Rattle.kp_tree.specs.PlainTexts.{IsPlain}
-use Rattle.kp_tree.proofs.Computed.{is_plain}
-use Rattle.kp_tree.proofs.ExamplesPlain.{atom_at, pred_at, exchange, exchange_tree, from_p_to_q, from_p_to_q_tree}
-use Rattle.kp_names.specs.Names.{same}
-use Rattle.kp_names.proofs.Texts.{tokens}
+use Rattle.kp_grammar.specs.Symbols.{symbol_of}
+use Rattle.kp_grammar.specs.Parsing.{some_at, next_at}
+use Rattle.kp_grammar.specs.Trees.{Cond, Domain, Item, Problem}
+use Rattle.kp_grammar.specs.declared.tree.Word.{Word}
+use Rattle.kp_grammar.specs.Plain.{plain_domain, plain_problem}
+use Rattle.kp_grammar.specs.PlainTexts.{IsPlain}
+use Rattle.kp_grammar.proofs.Computed.{is_plain}
+use Rattle.kp_grammar.proofs.ExamplesPlain.{atom_at, pred_at, exchange, exchange_tree, from_p_to_q, from_p_to_q_tree}
+use Rattle.kp_meaning.specs.Names.{same}
+use Rattle.kp_meaning.proofs.Texts.{tokens}
 use Rattle.kp_outside.specs.Outside.{FileMap}
 use Rattle.kp_given.specs.Names.{predicate_names}
 use Rattle.kp_given.specs.PlainFiles.{IsProblem, IsContradictory}

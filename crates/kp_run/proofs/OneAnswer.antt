@@ -1,9 +1,9 @@
 -- At most one answer is due.
 use Rattle.std.proofs.Common.{◌≡◌, ℕ, List, Some, Vec, refl, subst}
 use Rattle.std.specs.declared.alloc.Global.{Global}
-use Rattle.kp_tree.specs.declared.tree.Word.{Word}
-use Rattle.kp_tree.specs.Trees.{Domain, Problem}
-use Rattle.kp_tree.specs.Plain as forms
+use Rattle.kp_grammar.specs.declared.tree.Word.{Word}
+use Rattle.kp_grammar.specs.Trees.{Domain, Problem}
+use Rattle.kp_grammar.specs.Plain as forms
 use Rattle.kp_outside.specs.Outside.{FileMap}
 use Rattle.kp_run.specs.declared.status.Status.{Status}
 use Rattle.kp_run.specs.Command.{Command}

@@ -5,15 +5,15 @@ use Rattle.std.specs.List.{list_any}
 use Rattle.std.proofs.lemmas.List.{take_all}
 use Rattle.std.proofs.lemmas.Bool.Decides.{nat_tests}
 use Rattle.kp_lex.proofs.Outcomes.{one_cutting}
-use Rattle.kp_tree.proofs.Exact.{once_read}
-use Rattle.kp_tree.specs.declared.tree.Word.{Word}
-use Rattle.kp_tree.specs.Trees.{Domain, Problem}
-use Rattle.kp_tree.specs.Symbols.{all_seen_in}
-use Rattle.kp_tree.specs.Sorts.{Sort, El}
-use Rattle.kp_tree.specs.Forms.{Form}
-use Rattle.kp_tree.specs.Plain as forms
-use Rattle.kp_tree.specs.Reading.{Reads}
-use Rattle.kp_tree.specs.PlainTexts.{IsPlain}
+use Rattle.kp_grammar.proofs.Exact.{once_read}
+use Rattle.kp_grammar.specs.declared.tree.Word.{Word}
+use Rattle.kp_grammar.specs.Trees.{Domain, Problem}
+use Rattle.kp_grammar.specs.Symbols.{all_seen_in}
+use Rattle.kp_grammar.specs.Sorts.{Sort, El}
+use Rattle.kp_grammar.specs.Forms.{Form}
+use Rattle.kp_grammar.specs.Plain as forms
+use Rattle.kp_grammar.specs.Reading.{Reads}
+use Rattle.kp_grammar.specs.PlainTexts.{IsPlain}
 use Rattle.kp_run.specs.Among.{is_among, all_among, are_new, with_name}
 use Rattle.kp_given.specs.Names.{predicate_names, schema_names, domain_heads, problem_heads}
 use Rattle.kp_given.specs.PlainFiles.{IsWellNamed, IsDomain, IsProblem}

@@ -3,9 +3,9 @@ use Rattle.std.proofs.Common.{◌≡◌, ℕ, List, [], Option, Some, Vec, refl,
 use Rattle.std.specs.FinMap.{get}
 use Rattle.std.specs.declared.alloc.Global.{Global}
 use Rattle.kp_base.specs.declared.refused.Refused.{Refused}
-use Rattle.kp_tree.specs.declared.tree.Word.{Word}
-use Rattle.kp_tree.specs.Trees.{Domain, Problem}
-use Rattle.kp_tree.specs.Plain as forms
+use Rattle.kp_grammar.specs.declared.tree.Word.{Word}
+use Rattle.kp_grammar.specs.Trees.{Domain, Problem}
+use Rattle.kp_grammar.specs.Plain as forms
 use Rattle.kp_outside.specs.Outside.{FileMap, with_bytes}
 use Rattle.kp_plain.specs.declared.translation.Translation.{Translation}
 use Rattle.kp_given.specs.Translations.{translation_of}

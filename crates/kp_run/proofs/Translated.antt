@@ -2,9 +2,9 @@
 use Rattle.std.proofs.Common.{◌≡◌, ℕ, List, Result, Ok, Err, IfOk, refl, ap, ◌∙◌}
 use Rattle.kp_base.specs.declared.memory.Memory.{Memory}
 use Rattle.kp_base.specs.declared.refused.Refused.{Refused}
-use Rattle.kp_tree.specs.declared.tree.Word.{Word}
-use Rattle.kp_tree.specs.Trees.{Domain, Problem}
-use Rattle.kp_tree.specs.Plain as forms
+use Rattle.kp_grammar.specs.declared.tree.Word.{Word}
+use Rattle.kp_grammar.specs.Trees.{Domain, Problem}
+use Rattle.kp_grammar.specs.Plain as forms
 use Rattle.kp_plain.specs.declared.translation.Translation.{Translation}
 use Rattle.kp_plain.specs.Translations as made
 use Rattle.kp_given.specs.Translations.{translation_of}

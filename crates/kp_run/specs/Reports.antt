@@ -12,8 +12,8 @@ use Rattle.kp_run.specs.Printed.{refusal_text}
 use Rattle.kp_run.specs.Command.{Command}
 use Rattle.kp_outside.specs.Outside.{FileMap, Rises}
 use Rattle.std.specs.FinMap.{get}
-use Rattle.kp_tree.specs.declared.tree.Word.{Word}
-use Rattle.kp_tree.specs.Trees as trees
+use Rattle.kp_grammar.specs.declared.tree.Word.{Word}
+use Rattle.kp_grammar.specs.Trees as trees
 use Rattle.kp_given.specs.Translations.{translation_of}
 use Rattle.kp_given.specs.PlainFiles.{IsDomain, IsProblem}
 

@@ -2,8 +2,8 @@
 use Rattle.std.specs.Prelude.{◌≡◌, List, [], ◌∷◌, ℕ, Option, Some, Vec}
 use Rattle.std.specs.FinMap.{get}
 use Rattle.std.specs.declared.alloc.Global.{Global}
-use Rattle.kp_tree.specs.declared.tree.Word.{Word}
-use Rattle.kp_tree.specs.Trees as trees
+use Rattle.kp_grammar.specs.declared.tree.Word.{Word}
+use Rattle.kp_grammar.specs.Trees as trees
 use Rattle.kp_base.specs.declared.refused.Refused.{Refused}
 use Rattle.kp_outside.specs.Outside.{FileMap, with_file, with_bytes}
 use Rattle.kp_plain.specs.declared.translation.Translation.{Translation}

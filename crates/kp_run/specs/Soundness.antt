@@ -2,7 +2,7 @@
 use Rattle.std.specs.Prelude.{◌≡◌, ℕ, List, Some}
 use Rattle.std.specs.FinMap.{get}
 use Rattle.kp_outside.specs.Outside.{FileMap}
-use Rattle.kp_names.specs.Plans.{HasProblem}
+use Rattle.kp_meaning.specs.Plans.{HasProblem}
 use Rattle.kp_given.specs.Laws.{HasInitialState}
 use Rattle.kp_sound.specs.Laws.{PlansStrip}
 use Rattle.kp_run.specs.Command.{Command}

@@ -1,6 +1,6 @@
 ghost use Rattle.std.specs.Prelude.{◌≡◌, Some, List, ℕ, IfOk};
 ghost use Rattle.kp_outside.specs.Outside.{IsFront};
-ghost use Rattle.kp_tree.specs.View.{domain_view};
+ghost use Rattle.kp_grammar.specs.View.{domain_view};
 ghost use Rattle.kp_run.specs.Due.{Answers, IsOfTranslate};
 ghost use Rattle.kp_run.specs.declared.status.Status.TheVariants as Status;
 ghost use Rattle.kp_given.specs.Names.{predicate_names};
@@ -14,7 +14,7 @@ use crate::printed::refusal;
 use kp_base::{Memory, Part, Refused, Row};
 use kp_outside::Got;
 use kp_plain::{Translation, translate};
-use kp_tree::Domain;
+use kp_grammar::Domain;
 use std::alloc::Global;
 
 /// An answer of the command, with all the texts that are to be put and printed.

@@ -1,7 +1,7 @@
 ghost use Rattle.std.specs.Prelude.{◌≡◌, ◌≢◌, ◌⊎◌, ℕ, List, Some, IfOk, IsNone, IsErrOf};
 ghost use Rattle.std.specs.FinMap as map_of;
-ghost use Rattle.kp_tree.specs.declared.tree.Word.{Word};
-ghost use Rattle.kp_tree.specs.Trees as trees;
+ghost use Rattle.kp_grammar.specs.declared.tree.Word.{Word};
+ghost use Rattle.kp_grammar.specs.Trees as trees;
 ghost use Rattle.kp_given.specs.Translations.{translation_of};
 ghost use Rattle.kp_given.specs.PlainFiles.{IsDomain, IsProblem};
 ghost use Rattle.kp_outside.specs.declared.outside.OutsideStop.TheVariants as stops;

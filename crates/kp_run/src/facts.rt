@@ -1,12 +1,12 @@
 ghost use Rattle.std.specs.Prelude.{◌≡◌, ◌↔◌, [], ◌∷◌, true, false, map, fold, IsTrue, IfOk, OnOk};
 ghost use Rattle.std.specs.List.{list_any};
-ghost use Rattle.kp_tree.specs.View.{item_view};
+ghost use Rattle.kp_grammar.specs.View.{item_view};
 ghost use Rattle.kp_run.specs.Among.{is_among, with_name};
 ghost use Rattle.kp_given.specs.PlainFiles.{facts_of, IsContradictory};
 
 use crate::names::Names;
 use kp_base::Memory;
-use kp_tree::ItemTree;
+use kp_grammar::ItemTree;
 use std::alloc::Global;
 
 // Adds the predicate of a fact that is stated.

@@ -1,11 +1,11 @@
 ghost use Rattle.std.specs.Prelude.{◌≡◌, map};
 ghost use Rattle.std.specs.List.{flat_map};
-ghost use Rattle.kp_tree.specs.View.{cond_view, eff_view, item_view, lit_view, schema_view};
+ghost use Rattle.kp_grammar.specs.View.{cond_view, eff_view, item_view, lit_view, schema_view};
 ghost use Rattle.kp_given.specs.Names.{cond_heads, eff_heads, item_heads};
 ghost use Rattle.kp_run.specs.Among.{is_among, all_among};
 
 use crate::names::Names;
-use kp_tree::{AtomTree, CondTree, EffTree, ItemTree, LitTree};
+use kp_grammar::{AtomTree, CondTree, EffTree, ItemTree, LitTree};
 
 // Whether the head of an atom is one of the names.
 fn knows_atom(names: &Names, atom: &AtomTree) -> bool

@@ -1,9 +1,9 @@
 ghost use Rattle.std.specs.Prelude.{◌≡◌, ◌↔◌, ◌&&◌, [], not, true, false, map, IsTrue, IfOk, MatchOption, Some, ℕ, List, ◌++◌};
 ghost use Rattle.std.specs.List.{flat_map};
 ghost use Rattle.kp_outside.specs.Outside.{IsFront};
-ghost use Rattle.kp_tree.specs.Plain as forms;
-ghost use Rattle.kp_tree.specs.PlainTexts.{Answers};
-ghost use Rattle.kp_tree.specs.View.{domain_view, problem_view, pred_view, schema_view};
+ghost use Rattle.kp_grammar.specs.Plain as forms;
+ghost use Rattle.kp_grammar.specs.PlainTexts.{Answers};
+ghost use Rattle.kp_grammar.specs.View.{domain_view, problem_view, pred_view, schema_view};
 ghost use Rattle.kp_run.specs.Among.{all_among, are_new};
 ghost use Rattle.kp_given.specs.Names.{cond_heads, eff_heads, predicate_names, AllDeclared, problem_heads};
 ghost use Rattle.kp_given.specs.PlainFiles.{IsWellNamed};
@@ -12,7 +12,7 @@ use crate::heads::{knows_cond, knows_eff, knows_item};
 use crate::names::Names;
 use kp_base::Memory;
 use kp_outside::Got;
-use kp_tree::{Domain, PredTree, Problem, SchemaTree, plain_domain, plain_problem};
+use kp_grammar::{Domain, PredTree, Problem, SchemaTree, plain_domain, plain_problem};
 use std::alloc::Global;
 
 /// The tree of a content that has the form of a plain domain, at most 16,777,216 bytes of which were read.

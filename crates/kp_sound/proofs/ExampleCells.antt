@@ -10,14 +10,14 @@ use Rattle.kp_base.specs.Steps.{Facts, State, is_model}
 use Rattle.kp_base.specs.Machine.{MachineStep, Known, start, facts_after, after_act, accepts_from, one_tag_table}
 use Rattle.kp_lex.specs.Bytes.{class_of}
 use Rattle.kp_lex.specs.Scanning.{cut_from}
-use Rattle.kp_tree.specs.Symbols.{symbol_of}
-use Rattle.kp_tree.specs.Parsing.{some_at, next_at}
-use Rattle.kp_names.specs.Faults.{HasNoFault}
-use Rattle.kp_names.specs.Steps.{Step}
-use Rattle.kp_names.specs.Plans.{HasProblem, IsPlan}
-use Rattle.kp_names.specs.NumberLaws.{is_plain_goal}
-use Rattle.kp_names.proofs.Texts.{domain_of, problem_of, has_problem}
-use Rattle.kp_names.proofs.ExampleCells.{cells, one_of_three}
+use Rattle.kp_grammar.specs.Symbols.{symbol_of}
+use Rattle.kp_grammar.specs.Parsing.{some_at, next_at}
+use Rattle.kp_meaning.specs.Faults.{HasNoFault}
+use Rattle.kp_meaning.specs.Steps.{Step}
+use Rattle.kp_meaning.specs.Plans.{HasProblem, IsPlan}
+use Rattle.kp_meaning.specs.NumberLaws.{is_plain_goal}
+use Rattle.kp_meaning.proofs.Texts.{domain_of, problem_of, has_problem}
+use Rattle.kp_meaning.proofs.ExampleCells.{cells, one_of_three}
 use Rattle.kp_given.specs.Translations.{ground_of, initial_of, start_of, translation_of}
 use Rattle.kp_write.specs.Grounds.{AreOfAtoms, IsWritable, domain_file, problem_file}
 use Rattle.kp_write.proofs.Fine.{named}

@@ -2,9 +2,9 @@
 use Rattle.std.proofs.Common.{◌≡◌, ℕ, zero, suc, List, [], ◌∷◌, codes, Contains, refl, sym, ap, arith}
 use Rattle.std.proofs.lemmas.Bool.{false≢true}
 use Rattle.kp_base.specs.Clashes.{NeverClashes}
-use Rattle.kp_tree.proofs.ExamplesPlain.{exchange, exchange_tree, exchange_plain, from_p_to_q, from_p_to_q_tree, from_p_to_q_plain}
-use Rattle.kp_names.specs.Names.{same}
-use Rattle.kp_names.specs.Plans.{IsPlan}
+use Rattle.kp_grammar.proofs.ExamplesPlain.{exchange, exchange_tree, exchange_plain, from_p_to_q, from_p_to_q_tree, from_p_to_q_plain}
+use Rattle.kp_meaning.specs.Names.{same}
+use Rattle.kp_meaning.specs.Plans.{IsPlan}
 use Rattle.kp_given.specs.PlainFiles.{IsDomain, IsProblem}
 use Rattle.kp_given.specs.PlainGround.{ArePlain}
 use Rattle.kp_given.specs.Translations.{ground_of, initial_of, start_of, translation_of}

@@ -1,9 +1,9 @@
 -- One action: each premise of the laws on ground problems is met, and its plans are computed.
 use Rattle.std.proofs.Common.{◌≡◌, List, [], ◌∷◌, Some, codes, refl}
 use Rattle.std.proofs.lemmas.Bool.{false≢true}
-use Rattle.kp_names.specs.Steps.{Step}
-use Rattle.kp_names.specs.Strip.{strip}
-use Rattle.kp_names.specs.Plans.{IsPlan}
+use Rattle.kp_meaning.specs.Steps.{Step}
+use Rattle.kp_meaning.specs.Strip.{strip}
+use Rattle.kp_meaning.specs.Plans.{IsPlan}
 use Rattle.kp_write.specs.Grounds.{domain_file, problem_file}
 use Rattle.kp_write.specs.Runs.{step_of}
 use Rattle.kp_write.proofs.ExampleFiles.{a}

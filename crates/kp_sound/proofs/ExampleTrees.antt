@@ -5,21 +5,21 @@ use Rattle.kp_base.specs.declared.lit.Lit.{Lit}
 use Rattle.kp_base.specs.Clashes.{NeverClashes}
 use Rattle.kp_lex.specs.Bytes.{class_of}
 use Rattle.kp_lex.specs.Scanning.{cut_from}
-use Rattle.kp_tree.specs.Symbols.{symbol_of}
-use Rattle.kp_tree.specs.Parsing.{some_at, next_at}
-use Rattle.kp_names.specs.Steps.{Step}
-use Rattle.kp_names.specs.Strip.{strip}
-use Rattle.kp_names.specs.Numbered.{Lifted}
-use Rattle.kp_names.specs.Plans.{HasProblem, IsPlan}
-use Rattle.kp_names.proofs.Texts.{domain_of, problem_of, has_problem}
-use Rattle.kp_names.proofs.ExamplePlans.{moves, from_a_to_b, move}
+use Rattle.kp_grammar.specs.Symbols.{symbol_of}
+use Rattle.kp_grammar.specs.Parsing.{some_at, next_at}
+use Rattle.kp_meaning.specs.Steps.{Step}
+use Rattle.kp_meaning.specs.Strip.{strip}
+use Rattle.kp_meaning.specs.Numbered.{Lifted}
+use Rattle.kp_meaning.specs.Plans.{HasProblem, IsPlan}
+use Rattle.kp_meaning.proofs.Texts.{domain_of, problem_of, has_problem}
+use Rattle.kp_meaning.proofs.ExamplePlans.{moves, from_a_to_b, move}
 use Rattle.kp_ground.specs.Ground.{ground_of}
 use Rattle.kp_ground.proofs.ExampleMoves.{moves_by_number, numbered_moves}
 use Rattle.kp_init.specs.Initial.{initial_of}
 use Rattle.kp_init.specs.Closure.{closure}
 use Rattle.kp_init.proofs.ExampleFormulas.{no_fault, plain}
 use Rattle.kp_given.specs.Translations.{translation_of}
-use Rattle.kp_tree.specs.Words.{IsName}
+use Rattle.kp_grammar.specs.Words.{IsName}
 use Rattle.kp_write.specs.Grounds.{IsGroundName, IsWritable, domain_file, problem_file}
 use Rattle.kp_write.proofs.Fine.{named}
 use Rattle.kp_write.proofs.ExampleGrounds.{a_name}

@@ -11,10 +11,10 @@ use Rattle.kp_base.specs.Lit.{negated, same_lit}
 use Rattle.kp_base.specs.Clashes.{NeverClashes, is_one_sided}
 use Rattle.kp_base.proofs.Lists.{all_from, any_from, map_member, filter_member}
 use Rattle.kp_base.proofs.Lits.{same_lit-true, same_lit-refl, negated-negated}
-use Rattle.kp_tree.specs.declared.tree.Word.{Word}
-use Rattle.kp_tree.specs.Trees.{Domain, Problem}
-use Rattle.kp_names.specs.Steps.{Step}
-use Rattle.kp_names.specs.Plans.{IsPlan}
+use Rattle.kp_grammar.specs.declared.tree.Word.{Word}
+use Rattle.kp_grammar.specs.Trees.{Domain, Problem}
+use Rattle.kp_meaning.specs.Steps.{Step}
+use Rattle.kp_meaning.specs.Plans.{IsPlan}
 use Rattle.kp_plain.specs.Ground as plain
 use Rattle.kp_plain.specs.Ground.{is_idle, lasting, atoms_of, numbered, results_of, action_of, kept}
 use Rattle.kp_given.specs.Translations.{initial_of, translation_of}

@@ -9,10 +9,10 @@ use Rattle.kp_base.specs.Lists.{Member}
 use Rattle.kp_base.specs.Steps.{IsGroundPlan}
 use Rattle.kp_base.specs.Machine.{MachineStep, stripped as without_merges, one_tag_table}
 use Rattle.kp_base.proofs.Lists.{member_at, member_map, map_member}
-use Rattle.kp_names.specs.Names.{is_among}
-use Rattle.kp_names.specs.Steps.{Step}
-use Rattle.kp_names.specs.Encoding.{encoded, decoded}
-use Rattle.kp_names.specs.Strip.{do_front, strip, stripped_operator}
+use Rattle.kp_meaning.specs.Names.{is_among}
+use Rattle.kp_meaning.specs.Steps.{Step}
+use Rattle.kp_meaning.specs.Encoding.{encoded, decoded}
+use Rattle.kp_meaning.specs.Strip.{do_front, strip, stripped_operator}
 use Rattle.kp_plain.specs.Task.{Op, op_of, ops_of, facts_for}
 use Rattle.kp_ground.specs.Laws.{action_name}
 use Rattle.kp_ground.proofs.Plans.{number_at}

@@ -2,10 +2,10 @@
 use Rattle.std.proofs.Common.{[], length, refl, sym, subst}
 use Rattle.std.proofs.lemmas.List.{length-map}
 use Rattle.kp_base.specs.Entailed.{IsClosure}
-use Rattle.kp_tree.specs.declared.tree.Word.{Word}
-use Rattle.kp_tree.specs.Trees.{Domain, Problem}
-use Rattle.kp_names.specs.Numbering.{numbered_problem}
-use Rattle.kp_names.proofs.PlainGoals.{goals_plain}
+use Rattle.kp_grammar.specs.declared.tree.Word.{Word}
+use Rattle.kp_grammar.specs.Trees.{Domain, Problem}
+use Rattle.kp_meaning.specs.Numbering.{numbered_problem}
+use Rattle.kp_meaning.proofs.PlainGoals.{goals_plain}
 use Rattle.kp_ground.specs.Ground.{ground_atoms, atom_name}
 use Rattle.kp_ground.proofs.Atoms.{atoms_are_numbered}
 use Rattle.kp_init.specs.Closure.{IsOver}

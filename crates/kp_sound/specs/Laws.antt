@@ -8,14 +8,14 @@ use Rattle.kp_base.specs.Steps.{IsGroundPlan}
 use Rattle.kp_base.specs.Entailed.{IsClosure}
 use Rattle.kp_base.specs.Clashes.{NeverClashes}
 use Rattle.kp_base.specs.Machine.{MachineStep, accepts, one_tag_table}
-use Rattle.kp_tree.specs.declared.tree.Word.{Word}
-use Rattle.kp_tree.specs.Trees.{Domain, Problem}
-use Rattle.kp_names.specs.Faults.{HasNoFault}
-use Rattle.kp_names.specs.Steps.{Step}
-use Rattle.kp_names.specs.Plans.{HasProblem, Solves, IsPlan}
-use Rattle.kp_names.specs.Encoding.{encoded}
-use Rattle.kp_names.specs.Strip.{do_front, strip}
-use Rattle.kp_names.specs.NumberLaws.{is_plain_goal}
+use Rattle.kp_grammar.specs.declared.tree.Word.{Word}
+use Rattle.kp_grammar.specs.Trees.{Domain, Problem}
+use Rattle.kp_meaning.specs.Faults.{HasNoFault}
+use Rattle.kp_meaning.specs.Steps.{Step}
+use Rattle.kp_meaning.specs.Plans.{HasProblem, Solves, IsPlan}
+use Rattle.kp_meaning.specs.Encoding.{encoded}
+use Rattle.kp_meaning.specs.Strip.{do_front, strip}
+use Rattle.kp_meaning.specs.NumberLaws.{is_plain_goal}
 use Rattle.kp_ground.specs.Laws.{action_name}
 use Rattle.kp_given.specs.PlainFiles.{IsDomain, IsProblem}
 use Rattle.kp_given.specs.PlainGround.{ArePlain}

@@ -1,31 +1,13 @@
-//! Syntax trees of domains and problems, and the grammar that says which texts they have.
-//! `specs/Grammar.antt` has the grammar, `specs/Reading.antt` what it is to read by it.
+//! Trees of whole files, and the exact place of each refusal. `specs/Files.antt` says which files are read and how the others are refused.
 #![tactic(auto)]
 
-mod cursor;
-mod laws;
-mod lexeme;
-mod literals;
-mod plain;
-mod schema;
-mod sections;
-mod stop;
-mod symbol;
-mod titles;
-mod tree;
-mod whole;
+mod node;
 
-pub use laws::{
-    a_file_reads_or_stops, a_form_reads_once, a_form_stops_once, each_form_reads_or_stops,
-    names_in_trees_are_names, no_form_reads_and_stops, plain_domains_are_domains,
-    plain_problems_are_problems, plain_texts_have_plain_trees,
-};
-pub use plain::{plain_domain, plain_problem};
-pub use symbol::Symbol;
-pub use tree::{
+pub use kp_grammar::{
     AtomTree, CondTree, Domain, EffTree, ItemTree, LitTree, PredTree, Problem, SchemaTree,
-    TermTree, Typed, Word,
+    TermTree, Typed, Word, plain_domain, plain_problem,
 };
-
-#[cfg(test)]
-mod tests;
+pub use node::{
+    AtomNode, CondNode, DomainNode, EffNode, ItemNode, LitNode, PredNode, ProblemNode, SchemaNode,
+    TermNode, TypedNode, WordNode,
+};

@@ -8,8 +8,8 @@ use Rattle.kp_lex.specs.declared.token.Token.{Token}
 use Rattle.kp_lex.specs.Bytes.{class_of, follows}
 use Rattle.kp_lex.specs.Cutting.{IsToken, left as a_left, right as a_right, dash, equal, name as a_name, variable as a_variable, keyword as a_keyword, AllAre, IsLongest, Ends, spanned, Cut, at_end, past_blank, a_token}
 use Rattle.kp_lex.proofs.Exact.{longest, front_is}
-use Rattle.kp_tree.specs.Symbols.{symbol_of, seen_in, all_seen_in}
-use Rattle.kp_tree.specs.Words.{IsLow}
+use Rattle.kp_grammar.specs.Symbols.{symbol_of, seen_in, all_seen_in}
+use Rattle.kp_grammar.specs.Words.{IsLow}
 use Rattle.kp_plain.specs.Pieces.{Piece, spelling}
 use Rattle.kp_write.specs.Tokens.{spans, words, bare, Fine, done, lefts, rights, blanks, says, FinePiecesAreCut}
 

@@ -4,11 +4,11 @@ use Rattle.std.proofs.lemmas.Bool.{false≢true}
 use Rattle.std.specs.List.{AllByRecursion, IsDistinct}
 use Rattle.kp_lex.specs.Bytes.{class_of}
 use Rattle.kp_lex.specs.declared.token.TokenKind.TheVariants as kinds
-use Rattle.kp_tree.specs.Symbols.{symbol_of, is_head}
-use Rattle.kp_tree.specs.Words.{IsLow, IsHead}
+use Rattle.kp_grammar.specs.Symbols.{symbol_of, is_head}
+use Rattle.kp_grammar.specs.Words.{IsLow, IsHead}
 use Rattle.kp_base.specs.Lists.{Member}
-use Rattle.kp_names.specs.Names.{is_among}
-use Rattle.kp_names.specs.Plans.{IsPlan}
+use Rattle.kp_meaning.specs.Names.{is_among}
+use Rattle.kp_meaning.specs.Plans.{IsPlan}
 use Rattle.kp_plain.specs.Pieces.{spelling}
 use Rattle.kp_plain.specs.Task.{Effect, Op}
 use Rattle.kp_plain.specs.Written.{op, domain_pieces, problem_pieces, domain_text, problem_text}

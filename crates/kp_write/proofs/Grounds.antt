@@ -8,8 +8,8 @@ use Rattle.kp_base.specs.declared.ground.Action.{Action}
 use Rattle.kp_base.specs.Lit.{code_of, negated}
 use Rattle.kp_base.specs.LitSet.{with_lit}
 use Rattle.kp_base.specs.Lists.{Member}
-use Rattle.kp_names.specs.Names.{same}
-use Rattle.kp_names.specs.Encoding.{encoded}
+use Rattle.kp_meaning.specs.Names.{same}
+use Rattle.kp_meaning.specs.Encoding.{encoded}
 use Rattle.kp_plain.specs.Task.{sign_word, encoded_or_none, tag_word, atom_fact, fact_of, facts_of_atom, opposites, known, effects_of, op_of, facts_of, ops_of, facts_for}
 use Rattle.kp_write.specs.Names.{AreHeads}
 use Rattle.kp_write.specs.Problems.{AreAmong, IsEffectOn, IsOpOn}

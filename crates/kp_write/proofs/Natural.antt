@@ -1,14 +1,14 @@
 -- A form reads whatever its words are: another word for each word, and it reads and stops the same.
 use Rattle.std.proofs.Common.{◌≡◌, ℕ, Bool, List, [], ◌∷◌, map, ◌⊎◌, inl, inr, refl, sym, ap, subst, ◌∙◌}
-use Rattle.kp_tree.specs.declared.symbol.Symbol.{Symbol}
-use Rattle.kp_tree.specs.declared.tree.Word.{Word}
-use Rattle.kp_tree.specs.Trees.{Cond, Conds, conds_of, Eff, Effs, effs_of, Lits, Item, Items, items_of, Section, section_types, section_constants, section_predicates, section_schemas, Given, given_objects, given_items, goal_of, cond_of_lit, eff_of_lit, fact_of_lit}
-use Rattle.kp_tree.specs.Symbols.{Tok, is_left, is_right, first_is}
-use Rattle.kp_tree.specs.Sorts.{Sort, El, with_kinds, Maker, apply, m_word, m_drop, m_name, m_variable, m_atom, m_untyped, m_kind, m_kinds, m_typed, m_joined, m_all, m_true, m_holds, m_same, m_both, m_idle, m_when, m_each, m_makes, m_lit, m_items, m_fact, m_one_of, m_any_of, m_unknown, m_pred, m_no_params, m_schema, m_requires, m_types, m_constants, m_predicates, m_action, m_domain, m_of_domain, m_needs, m_objects, m_init, m_goal, m_saw, m_problem, m_nullary, m_one, m_together, m_cond_of, m_eff_of, m_facts_of, m_plain_pred, m_plain_schema, m_three}
-use Rattle.kp_tree.specs.Forms.{hits, Form}
-use Rattle.kp_tree.specs.Reading.{At, stop_by, reason_of, ReadBy, r_token, r_none, r_both, r_after, r_end, r_more, r_last, r_next, r_absent, r_present, r_make, r_choice, r_loose, r_bracket, r_within, StopBy, s_token, s_nothing, s_first, s_second, s_before, s_after, s_here, s_later, s_lacks, s_at, s_next, s_present, s_make, s_none_there, s_choice, s_loose, s_unopened, s_inside, s_unclosed, s_within}
-use Rattle.kp_tree.proofs.Exact.{reads_once, reads_or_stops, always_one}
-use Rattle.kp_names.specs.Places.{typed_map, cond_map, conds_map, eff_map, effs_map, lit_map, item_map, items_map, pred_map, schema_map}
+use Rattle.kp_grammar.specs.declared.symbol.Symbol.{Symbol}
+use Rattle.kp_grammar.specs.declared.tree.Word.{Word}
+use Rattle.kp_grammar.specs.Trees.{Cond, Conds, conds_of, Eff, Effs, effs_of, Lits, Item, Items, items_of, Section, section_types, section_constants, section_predicates, section_schemas, Given, given_objects, given_items, goal_of, cond_of_lit, eff_of_lit, fact_of_lit}
+use Rattle.kp_grammar.specs.Symbols.{Tok, is_left, is_right, first_is}
+use Rattle.kp_grammar.specs.Sorts.{Sort, El, with_kinds, Maker, apply, m_word, m_drop, m_name, m_variable, m_atom, m_untyped, m_kind, m_kinds, m_typed, m_joined, m_all, m_true, m_holds, m_same, m_both, m_idle, m_when, m_each, m_makes, m_lit, m_items, m_fact, m_one_of, m_any_of, m_unknown, m_pred, m_no_params, m_schema, m_requires, m_types, m_constants, m_predicates, m_action, m_domain, m_of_domain, m_needs, m_objects, m_init, m_goal, m_saw, m_problem, m_nullary, m_one, m_together, m_cond_of, m_eff_of, m_facts_of, m_plain_pred, m_plain_schema, m_three}
+use Rattle.kp_grammar.specs.Forms.{hits, Form}
+use Rattle.kp_grammar.specs.Reading.{At, stop_by, reason_of, ReadBy, r_token, r_none, r_both, r_after, r_end, r_more, r_last, r_next, r_absent, r_present, r_make, r_choice, r_loose, r_bracket, r_within, StopBy, s_token, s_nothing, s_first, s_second, s_before, s_after, s_here, s_later, s_lacks, s_at, s_next, s_present, s_make, s_none_there, s_choice, s_loose, s_unopened, s_inside, s_unclosed, s_within}
+use Rattle.kp_grammar.proofs.Exact.{reads_once, reads_or_stops, always_one}
+use Rattle.kp_meaning.specs.Places.{typed_map, cond_map, conds_map, eff_map, effs_map, lit_map, item_map, items_map, pred_map, schema_map}
 use Rattle.kp_write.specs.Tokens.{text_of}
 use Rattle.kp_write.proofs.Lists.{map_swap, flat_swap}
 use Rattle.kp_write.specs.Maps.{section_map, given_map, lits_map, el_map, ReadsWithPlaces, PlacesDontMatter}

@@ -1,11 +1,11 @@
 -- The trees of a task with each word at the first byte. Whatever the places of the texts' trees, they mean the same as these.
 use Rattle.std.proofs.Common.{◌≡◌, ℕ, zero, Bool, true, false, List, refl, sym, ap, ◌∙◌}
 use Rattle.std.proofs.lemmas.Bool.{false≢true}
-use Rattle.kp_tree.specs.declared.tree.Word.{Word}
-use Rattle.kp_tree.specs.Trees.{Domain, Problem}
-use Rattle.kp_names.specs.Names.{Name, same}
-use Rattle.kp_names.specs.Places.{domain_map, problem_map}
-use Rattle.kp_names.proofs.Lists.{same-true, same-refl}
+use Rattle.kp_grammar.specs.declared.tree.Word.{Word}
+use Rattle.kp_grammar.specs.Trees.{Domain, Problem}
+use Rattle.kp_meaning.specs.Names.{Name, same}
+use Rattle.kp_meaning.specs.Places.{domain_map, problem_map}
+use Rattle.kp_meaning.proofs.Lists.{same-true, same-refl}
 use Rattle.kp_plain.specs.Task.{Op}
 use Rattle.kp_write.specs.Tokens.{text_of}
 use Rattle.kp_write.specs.Trees.{written_domain, written_problem}

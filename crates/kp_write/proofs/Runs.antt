@@ -3,19 +3,19 @@ use Rattle.std.proofs.Common.{◌≡◌, ℕ, Bool, true, false, ◌||◌, List,
 use Rattle.std.proofs.lemmas.Bool.{false≢true, and_parts}
 use Rattle.std.proofs.Math.Bool.{and-true, or-false}
 use Rattle.std.specs.List.{AllByRecursion, IsDistinct, list_any, list_all, flat_map}
-use Rattle.kp_tree.specs.declared.tree.Word.{Word}
-use Rattle.kp_tree.specs.Trees.{Schema, Domain, Problem, conds_of, effs_of}
+use Rattle.kp_grammar.specs.declared.tree.Word.{Word}
+use Rattle.kp_grammar.specs.Trees.{Schema, Domain, Problem, conds_of, effs_of}
 use Rattle.kp_base.specs.Lists.{only_if, Member}
-use Rattle.kp_names.specs.Names.{Name, same, all_same, is_among}
-use Rattle.kp_names.specs.States.{State, Binding, unbound, Literal, names_literal, all_hold}
-use Rattle.kp_names.specs.Steps.{Step, fires, all_fire, fits, is_instance, permits, applicable, state_by, next, after, schema_of as schema_of_step}
-use Rattle.kp_names.specs.Initial.{item_holds, item_literals, is_of, is_named, IsInitial}
-use Rattle.kp_names.specs.Places.{conds_map, eff_map, effs_map, item_map, schema_map, domain_map, problem_map}
-use Rattle.kp_names.specs.Plans.{succeeds, Solves}
-use Rattle.kp_names.proofs.Lists.{any_from, any_member, same-true, same-refl}
-use Rattle.kp_names.proofs.Places.{find_map}
-use Rattle.kp_names.proofs.PlacesOfFaults.{places_mean_nothing}
-use Rattle.kp_names.proofs.Texts.{solves_theirs}
+use Rattle.kp_meaning.specs.Names.{Name, same, all_same, is_among}
+use Rattle.kp_meaning.specs.States.{State, Binding, unbound, Literal, names_literal, all_hold}
+use Rattle.kp_meaning.specs.Steps.{Step, fires, all_fire, fits, is_instance, permits, applicable, state_by, next, after, schema_of as schema_of_step}
+use Rattle.kp_meaning.specs.Initial.{item_holds, item_literals, is_of, is_named, IsInitial}
+use Rattle.kp_meaning.specs.Places.{conds_map, eff_map, effs_map, item_map, schema_map, domain_map, problem_map}
+use Rattle.kp_meaning.specs.Plans.{succeeds, Solves}
+use Rattle.kp_meaning.proofs.Lists.{any_from, any_member, same-true, same-refl}
+use Rattle.kp_meaning.proofs.Places.{find_map}
+use Rattle.kp_meaning.proofs.PlacesOfFaults.{places_mean_nothing}
+use Rattle.kp_meaning.proofs.Texts.{solves_theirs}
 use Rattle.kp_plain.specs.Task.{Signed, Effect, Op}
 use Rattle.kp_plain.specs.Written.{domain_text, problem_text}
 use Rattle.kp_write.specs.Trees.{fact_holds, signed_holds, made_where, effect_of, schema_of, item_of, written_domain, written_problem}

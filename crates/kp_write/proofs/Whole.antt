@@ -1,10 +1,10 @@
 -- The written texts read as their trees, with the places of the words.
 use Rattle.std.proofs.Common.{ℕ, Bool, List, sym, subst}
-use Rattle.kp_tree.specs.Symbols.{Tok, all_seen_in}
-use Rattle.kp_tree.specs.Sorts.{Sort, El}
-use Rattle.kp_tree.specs.Forms.{Form}
-use Rattle.kp_tree.specs.Grammar as grammar
-use Rattle.kp_tree.specs.Reading.{ReadsWhole}
+use Rattle.kp_grammar.specs.Symbols.{Tok, all_seen_in}
+use Rattle.kp_grammar.specs.Sorts.{Sort, El}
+use Rattle.kp_grammar.specs.Forms.{Form}
+use Rattle.kp_grammar.specs.Grammar as grammar
+use Rattle.kp_grammar.specs.Reading.{ReadsWhole}
 use Rattle.kp_plain.specs.Pieces.{Piece, spelling}
 use Rattle.kp_plain.specs.Written.{domain_pieces, problem_pieces}
 use Rattle.kp_write.specs.Tokens.{spans, words, Fine}

@@ -6,10 +6,10 @@ use Rattle.kp_base.specs.declared.ground.GroundName.{GroundName}
 use Rattle.kp_base.specs.declared.ground.Effect.{Effect}
 use Rattle.kp_base.specs.declared.ground.Action.{Action}
 use Rattle.kp_base.specs.declared.ground.Ground.{Ground}
-use Rattle.kp_tree.specs.Words.{IsName}
-use Rattle.kp_names.specs.Names.{same, all_same}
-use Rattle.kp_names.specs.Steps.{Step}
-use Rattle.kp_names.specs.Plans.{IsPlan}
+use Rattle.kp_grammar.specs.Words.{IsName}
+use Rattle.kp_meaning.specs.Names.{same, all_same}
+use Rattle.kp_meaning.specs.Steps.{Step}
+use Rattle.kp_meaning.specs.Plans.{IsPlan}
 use Rattle.kp_plain.specs.Task.{atom_fact, facts_of, ops_of, facts_for}
 use Rattle.kp_plain.specs.Written.{domain_text, problem_text}
 use Rattle.kp_write.specs.Problems.{IsTask, HasMeantProblem}

@@ -2,10 +2,10 @@
 use Rattle.std.specs.Prelude.{◌≡◌, ℕ, List, map}
 use Rattle.std.specs.List.{AllByRecursion, IsDistinct}
 use Rattle.kp_base.specs.Lists.{Member}
-use Rattle.kp_tree.specs.Words.{IsName}
-use Rattle.kp_names.specs.Names.{same}
-use Rattle.kp_names.specs.Places.{domain_map, problem_map}
-use Rattle.kp_names.specs.Plans.{HasProblem}
+use Rattle.kp_grammar.specs.Words.{IsName}
+use Rattle.kp_meaning.specs.Names.{same}
+use Rattle.kp_meaning.specs.Places.{domain_map, problem_map}
+use Rattle.kp_meaning.specs.Plans.{HasProblem}
 use Rattle.kp_plain.specs.Task.{Effect, Op}
 use Rattle.kp_plain.specs.Written.{domain_text, problem_text}
 use Rattle.kp_write.specs.Tokens.{text_of}

@@ -5,10 +5,10 @@ use Rattle.kp_lex.specs.declared.token.TokenKind.TheVariants as kinds
 use Rattle.kp_lex.specs.declared.token.Token.{Token}
 use Rattle.kp_lex.specs.Bytes.{class_of, follows, is_blank}
 use Rattle.kp_lex.specs.Cutting.{IsToken, Ends, spanned, Cut}
-use Rattle.kp_tree.specs.declared.symbol.Symbol.TheVariants as symbols
-use Rattle.kp_tree.specs.declared.tree.Word.{Word}
-use Rattle.kp_tree.specs.Symbols.{Tok, symbol_of, all_seen_in}
-use Rattle.kp_tree.specs.Words.{IsLow}
+use Rattle.kp_grammar.specs.declared.symbol.Symbol.TheVariants as symbols
+use Rattle.kp_grammar.specs.declared.tree.Word.{Word}
+use Rattle.kp_grammar.specs.Symbols.{Tok, symbol_of, all_seen_in}
+use Rattle.kp_grammar.specs.Words.{IsLow}
 use Rattle.kp_plain.specs.Pieces.{Piece, left, right, blank, word, spelling}
 
 -- the spans of the brackets and words, from a byte on

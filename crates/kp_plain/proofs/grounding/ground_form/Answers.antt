@@ -1,4 +1,4 @@
-use Rattle.kp_tree.specs.View.{domain_view, problem_view}
+use Rattle.kp_grammar.specs.View.{domain_view, problem_view}
 use Rattle.kp_plain.proofs.Wholes.{IsGrounded, form_is, start_is}
 use Rattle.kp_plain.proofs.grounding.ground_form.Goals as goal
 

@@ -1,6 +1,6 @@
 use Rattle.std.proofs.Common.{◌≡◌, ◌++◌, map, drop, flat_map}
-use Rattle.kp_tree.specs.Trees.{conds_of}
-use Rattle.kp_tree.specs.View.{cond_view}
+use Rattle.kp_grammar.specs.Trees.{conds_of}
+use Rattle.kp_grammar.specs.View.{cond_view}
 use Rattle.kp_plain.specs.Ground.{cond_literals, conds_literals}
 use Rattle.kp_plain.specs.Grounding.{mention_of}
 use Rattle.kp_plain.proofs.numbering.+add_condition.Given as goal

@@ -1,6 +1,6 @@
 use Rattle.std.proofs.Common.{◌≡◌, ◌++◌, map, drop, flat_map}
-use Rattle.kp_tree.specs.Trees.{effs_of}
-use Rattle.kp_tree.specs.View.{eff_view}
+use Rattle.kp_grammar.specs.Trees.{effs_of}
+use Rattle.kp_grammar.specs.View.{eff_view}
 use Rattle.kp_plain.specs.Ground.{eff_literals, effs_literals}
 use Rattle.kp_plain.specs.Grounding.{mention_of}
 use Rattle.kp_plain.proofs.numbering.+add_effect.Given as goal

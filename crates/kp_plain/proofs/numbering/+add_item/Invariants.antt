@@ -1,6 +1,6 @@
 use Rattle.std.proofs.Common.{◌≡◌, ◌++◌, map, drop, flat_map}
-use Rattle.kp_tree.specs.Trees.{items_of}
-use Rattle.kp_tree.specs.View.{item_view}
+use Rattle.kp_grammar.specs.Trees.{items_of}
+use Rattle.kp_grammar.specs.View.{item_view}
 use Rattle.kp_plain.specs.Ground.{item_literals, items_literals}
 use Rattle.kp_plain.specs.Grounding.{mention_of}
 use Rattle.kp_plain.proofs.numbering.+add_item.Given as goal

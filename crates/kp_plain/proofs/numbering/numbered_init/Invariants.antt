@@ -1,5 +1,5 @@
 use Rattle.std.proofs.Common.{◌≡◌, ◌++◌, map, drop, flat_map}
-use Rattle.kp_tree.specs.View.{item_view}
+use Rattle.kp_grammar.specs.View.{item_view}
 use Rattle.kp_plain.specs.Ground.{item_literals}
 use Rattle.kp_plain.specs.Grounding.{mention_of}
 use Rattle.kp_plain.proofs.numbering.numbered_init.Given as goal

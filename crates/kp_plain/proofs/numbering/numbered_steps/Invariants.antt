@@ -1,5 +1,5 @@
 use Rattle.std.proofs.Common.{◌≡◌, ◌++◌, map, drop}
-use Rattle.kp_tree.specs.View.{schema_view}
+use Rattle.kp_grammar.specs.View.{schema_view}
 use Rattle.kp_plain.specs.Grounding.{plain, step_of}
 use Rattle.kp_plain.proofs.numbering.numbered_steps.Given as goal
 

@@ -1,6 +1,6 @@
 use Rattle.std.proofs.Common.{◌∙◌, sym}
 use mathlib.Core.Bool.{true≢false}
-use Rattle.kp_tree.specs.View.{domain_view, problem_view}
+use Rattle.kp_grammar.specs.View.{domain_view, problem_view}
 use Rattle.kp_run.specs.Due.{no_problem, no_initial_state, done}
 use Rattle.kp_run.proofs.Reading.{of_others, of_these}
 use Rattle.kp_run.proofs.Reporting.{refused_as}

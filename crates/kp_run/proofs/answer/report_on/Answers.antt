@@ -1,4 +1,4 @@
-use Rattle.kp_tree.specs.View.{domain_view}
+use Rattle.kp_grammar.specs.View.{domain_view}
 use Rattle.kp_run.specs.Due.{no_domain}
 use Rattle.kp_run.proofs.Reading.{badly_named}
 use Rattle.kp_run.proofs.Reporting.{refused_as}

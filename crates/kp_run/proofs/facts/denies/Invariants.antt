@@ -1,6 +1,6 @@
 use Rattle.std.proofs.Common.{◌≡◌, false, map, drop}
 use Rattle.std.specs.List.{list_any}
-use Rattle.kp_tree.specs.View.{item_view}
+use Rattle.kp_grammar.specs.View.{item_view}
 use Rattle.kp_run.specs.Among.{is_among}
 use Rattle.kp_given.specs.PlainFiles.{facts_of}
 use Rattle.kp_run.proofs.facts.denies.Given as goal

@@ -1,5 +1,5 @@
 use Rattle.std.proofs.Common.{◌≡◌, [], true, map, fold, drop}
-use Rattle.kp_tree.specs.View.{item_view}
+use Rattle.kp_grammar.specs.View.{item_view}
 use Rattle.kp_run.specs.Among.{with_name}
 use Rattle.kp_given.specs.PlainFiles.{facts_of}
 use Rattle.kp_run.proofs.facts.stated.Given as goal

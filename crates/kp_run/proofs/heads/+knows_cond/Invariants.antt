@@ -1,6 +1,6 @@
 use Rattle.std.proofs.Common.{◌≡◌, map, drop}
-use Rattle.kp_tree.specs.Trees.{conds_of}
-use Rattle.kp_tree.specs.View.{cond_view}
+use Rattle.kp_grammar.specs.Trees.{conds_of}
+use Rattle.kp_grammar.specs.View.{cond_view}
 use Rattle.kp_given.specs.Names.{cond_heads, conds_heads}
 use Rattle.kp_run.specs.Among.{all_among}
 use Rattle.kp_run.proofs.heads.+knows_cond.Given as goal

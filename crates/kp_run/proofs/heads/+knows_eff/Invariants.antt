@@ -1,6 +1,6 @@
 use Rattle.std.proofs.Common.{◌≡◌, map, drop}
-use Rattle.kp_tree.specs.Trees.{effs_of}
-use Rattle.kp_tree.specs.View.{eff_view}
+use Rattle.kp_grammar.specs.Trees.{effs_of}
+use Rattle.kp_grammar.specs.View.{eff_view}
 use Rattle.kp_given.specs.Names.{eff_heads, effs_heads}
 use Rattle.kp_run.specs.Among.{all_among}
 use Rattle.kp_run.proofs.heads.+knows_eff.Given as goal

@@ -1,6 +1,6 @@
 use Rattle.std.proofs.Common.{◌≡◌, map, drop}
-use Rattle.kp_tree.specs.Trees.{items_of}
-use Rattle.kp_tree.specs.View.{item_view}
+use Rattle.kp_grammar.specs.Trees.{items_of}
+use Rattle.kp_grammar.specs.View.{item_view}
 use Rattle.kp_given.specs.Names.{item_heads, items_heads}
 use Rattle.kp_run.specs.Among.{all_among}
 use Rattle.kp_run.proofs.heads.+knows_item.Given as goal

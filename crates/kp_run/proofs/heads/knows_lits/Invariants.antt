@@ -1,5 +1,5 @@
 use Rattle.std.proofs.Common.{◌≡◌, map, drop}
-use Rattle.kp_tree.specs.View.{lit_view}
+use Rattle.kp_grammar.specs.View.{lit_view}
 use Rattle.kp_run.specs.Among.{all_among}
 use Rattle.kp_run.proofs.heads.knows_lits.Given as goal
 

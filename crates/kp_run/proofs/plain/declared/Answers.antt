@@ -1,5 +1,5 @@
 use Rattle.std.proofs.Common.{◌∙◌, sym}
-use Rattle.kp_tree.specs.View.{domain_view}
+use Rattle.kp_grammar.specs.View.{domain_view}
 use Rattle.kp_run.proofs.Reading.{passes, repeats_a_predicate, repeats_a_schema, has_an_unknown_head}
 use Rattle.kp_run.proofs.plain.declared.Goals as goal
 

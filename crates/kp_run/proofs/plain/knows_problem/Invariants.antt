@@ -1,6 +1,6 @@
 use Rattle.std.proofs.Common.{◌≡◌, ◌++◌, map, drop}
 use Rattle.std.specs.List.{flat_map}
-use Rattle.kp_tree.specs.View.{item_view, problem_view}
+use Rattle.kp_grammar.specs.View.{item_view, problem_view}
 use Rattle.kp_given.specs.Names.{cond_heads, item_heads, problem_heads}
 use Rattle.kp_run.specs.Among.{all_among}
 use Rattle.kp_run.proofs.plain.knows_problem.Given as goal

@@ -1,7 +1,7 @@
 use Rattle.std.proofs.Common.{◌∙◌, ℕ, List, IfOk, subst}
-use Rattle.kp_tree.specs.Plain as forms
-use Rattle.kp_tree.specs.PlainTexts.{Answers}
-use Rattle.kp_tree.specs.View.{domain_view}
+use Rattle.kp_grammar.specs.Plain as forms
+use Rattle.kp_grammar.specs.PlainTexts.{Answers}
+use Rattle.kp_grammar.specs.View.{domain_view}
 use Rattle.kp_run.proofs.Reading.{whole}
 use Rattle.kp_run.proofs.plain.read_domain.Goals as goal
 

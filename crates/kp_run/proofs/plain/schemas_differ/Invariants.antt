@@ -1,5 +1,5 @@
 use Rattle.std.proofs.Common.{◌≡◌, [], map, drop}
-use Rattle.kp_tree.specs.View.{schema_view}
+use Rattle.kp_grammar.specs.View.{schema_view}
 use Rattle.kp_run.specs.Among.{are_new}
 use Rattle.kp_run.proofs.plain.schemas_differ.Given as goal
 

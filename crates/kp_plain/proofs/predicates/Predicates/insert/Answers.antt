@@ -1,6 +1,6 @@
 use Rattle.std.proofs.Common.{◌∙◌, ap, map}
 use Rattle.kp_base.proofs.Lists.{gathered}
-use Rattle.kp_names.specs.Names.{same}
+use Rattle.kp_meaning.specs.Names.{same}
 use Rattle.kp_plain.proofs.predicates.Predicates.insert.Goals as goal
 
 -- the set's keys are what the names point from

@@ -1,6 +1,6 @@
 use Rattle.std.proofs.Common.{◌≡◌, [], ◌∙◌, fold, map, arith}
 use Rattle.std.proofs.lemmas.Grind.{common_steps}
-use Rattle.kp_tree.specs.View.{pred_view}
+use Rattle.kp_grammar.specs.View.{pred_view}
 use Rattle.kp_plain.specs.Grounding.{with_name}
 use Rattle.kp_plain.proofs.Names.{all_gathered}
 use Rattle.kp_plain.proofs.predicates.Predicates.of.Goals as goal

@@ -1,5 +1,5 @@
 use Rattle.std.proofs.Common.{◌≡◌, [], map, drop, fold}
-use Rattle.kp_tree.specs.View.{pred_view}
+use Rattle.kp_grammar.specs.View.{pred_view}
 use Rattle.kp_plain.specs.Grounding.{with_name}
 use Rattle.kp_plain.proofs.predicates.Predicates.of.Given as goal
 

@@ -1,0 +1,16 @@
+pub mod Tells
+pub mod Exact
+pub mod Plainly
+pub mod Spans
+pub mod Loop
+pub mod Joining
+pub mod Levels
+pub mod Answered
+pub mod Wholes
+pub mod Examples
+pub mod PlainTrees
+pub mod Computed
+pub mod ExamplesPlain
+pub mod Words
+pub mod NamedTrees
+pub mod ExampleWords

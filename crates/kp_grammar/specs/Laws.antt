@@ -1,0 +1,41 @@
+-- What holds of each form: it reads given tokens in one way, or it stops at one token for one reason.
+use Rattle.std.specs.Prelude.{◌≡◌, ◌⊎◌, Bool, List}
+use Rattle.kp_grammar.specs.declared.tree.Word.{Word}
+use Rattle.kp_grammar.specs.Symbols.{Tok}
+use Rattle.kp_grammar.specs.Sorts.{Sort, El}
+use Rattle.kp_grammar.specs.Forms.{Form}
+use Rattle.kp_grammar.specs.Reading.{At, Reads, Stops, ReadsWhole, StopsWhole}
+
+-- at most one tree, and the same tokens behind it
+abbrev pub ReadsOnce : Type 0
+ReadsOnce = (b : Bool) (c : Sort) (X : Form b c) (ts rest others : List (Tok Word)) (x y : El Word c) → Reads X ts x rest → Reads X ts y others → (x ≡ y) × (rest ≡ others)
+
+-- at most one offending token
+abbrev pub StopsOnce : Type 0
+StopsOnce = (b : Bool) (c : Sort) (X : Form b c) (ts : List (Tok Word)) (at there : At Word) → Stops X ts at → Stops X ts there → at ≡ there
+
+-- no tree where there is an offending token
+abbrev pub NeverBoth : Type 0
+NeverBoth = (b : Bool) (c : Sort) (X : Form b c) (ts rest : List (Tok Word)) (x : El Word c) (at : At Word) → Reads X ts x rest → Stops X ts at → ⊥
+
+-- a tree, or else an offending token
+abbrev pub AlwaysOne : Type 0
+AlwaysOne = (b : Bool) (c : Sort) (X : Form b c) (ts : List (Tok Word)) → ((x : El Word c) × (rest : List (Tok Word)) × Reads X ts x rest) ⊎ ((at : At Word) × Stops X ts at)
+
+-- ---- whole files: one tree or one offending token, and one of them always
+
+-- at most one tree
+abbrev pub WholeReadsOnce : Type 0
+WholeReadsOnce = (b : Bool) (c : Sort) (X : Form b c) (ts : List (Tok Word)) (x y : El Word c) → ReadsWhole X ts x → ReadsWhole X ts y → x ≡ y
+
+-- at most one offending token
+abbrev pub WholeStopsOnce : Type 0
+WholeStopsOnce = (b : Bool) (c : Sort) (X : Form b c) (ts : List (Tok Word)) (at there : At Word) → StopsWhole X ts at → StopsWhole X ts there → at ≡ there
+
+-- no tree where there is an offending token
+abbrev pub WholeNeverBoth : Type 0
+WholeNeverBoth = (b : Bool) (c : Sort) (X : Form b c) (ts : List (Tok Word)) (x : El Word c) (at : At Word) → ReadsWhole X ts x → StopsWhole X ts at → ⊥
+
+-- a tree, or else an offending token
+abbrev pub WholeAlwaysOne : Type 0
+WholeAlwaysOne = (b : Bool) (c : Sort) (X : Form b c) (ts : List (Tok Word)) → ((x : El Word c) × ReadsWhole X ts x) ⊎ ((at : At Word) × StopsWhole X ts at)

@@ -1,0 +1,50 @@
+-- What a plan of the written files comes to in the given ones.
+use Rattle.std.specs.Prelude.{ℕ, Bool, false, ◌&&◌, not, ◌==◌, nat_eq, nat_le, List, [], ◌∷◌, ◌++◌, if◌then◌else◌, Option, Some, None, option_map, option_and_then, unwrap_or, codes, drop, length}
+use Rattle.std.specs.List.{list_all, starts_with}
+use Rattle.kp_meaning.specs.Names.{Name}
+use Rattle.kp_meaning.specs.Steps.{Step}
+use Rattle.kp_meaning.specs.Encoding.{decoded}
+
+-- what the names of the operators of actions begin with
+abbrev pub do_front : List ℕ
+do_front = codes "do_-"
+
+-- what the names of the operators of merges begin with
+abbrev pub merge_front : List ℕ
+merge_front = codes "merge_-"
+
+-- the bytes behind the front, of a text that begins with it
+abbrev pub past : List ℕ → List ℕ → Option (List ℕ)
+past front text = if starts_with nat_eq text front then Some (drop (length front) text) else None
+
+-- 0 to 9
+abbrev pub is_digit : ℕ → Bool
+is_digit b = nat_le 48 b && nat_le b 57
+
+-- a number as it is written in decimal: digits, the first of several not 0
+abbrev pub is_number : List ℕ → Bool
+is_number [] = false
+is_number (b ∷ []) = is_digit b
+is_number (b ∷ c ∷ bs) = not (b == 48) && list_all is_digit (b ∷ c ∷ bs)
+
+-- the operator is a merge's
+abbrev pub is_merge : Name → Bool
+is_merge operator = unwrap_or (option_map is_number (past merge_front operator)) false
+
+-- the step whose operator this is
+abbrev pub action_of : Name → Option Step
+action_of operator = option_and_then decoded (past do_front operator)
+
+-- what an operator comes to: the action's step, or nothing for a merge; no other name is an operator's
+abbrev pub stripped_operator : Name → Option (List Step)
+stripped_operator operator = if is_merge operator then Some [] else option_map (λ i. i ∷ []) (action_of operator)
+
+-- operators have no objects
+abbrev pub stripped : Name → List Name → Option (List Step)
+stripped operator [] = stripped_operator operator
+stripped operator (o ∷ os) = None
+
+-- what a list of steps comes to, if each is an operator's
+abbrev pub strip : List Step → Option (List Step)
+strip [] = Some []
+strip (i ∷ is) = option_and_then (λ front. option_map (λ rest. front ++ rest) (strip is)) (stripped i.head i.objects)

@@ -1,0 +1,68 @@
+-- What resolving the names of two trees gives: the problem by number, or the first fault in the text.
+use Rattle.std.specs.Prelude.{◌≡◌, ℕ, nat_lt, Bool, if◌then◌else◌, List, [], ◌∷◌, Option, Some, None, Result, Ok, Err, map, flat_map}
+use Rattle.kp_base.specs.declared.refused.Part.{Part}
+use Rattle.kp_base.specs.declared.refused.Part.TheVariants as parts
+use Rattle.kp_base.specs.declared.refused.Place.{Place}
+use Rattle.kp_base.specs.declared.refused.Refused.{Refused}
+use Rattle.kp_base.specs.declared.refused.Refused.TheVariants as refusals
+use Rattle.kp_lex.specs.Places.{place_of}
+use Rattle.kp_grammar.specs.declared.tree.Word.{Word}
+use Rattle.kp_grammar.specs.Trees.{Item, Items, no_item, more_items, Domain, Problem}
+use Rattle.kp_meaning.specs.Faults.{Fault, unknown_name, declared_twice, wrong_use, byte_of, domain_faults, problem_faults}
+
+-- ---- faults
+
+-- this fault or that one, whichever stands first in the text
+abbrev pub earlier : Fault → Option Fault → Fault
+earlier f None = f
+earlier f (Some g) = if nat_lt (byte_of g) (byte_of f) then g else f
+
+-- the fault that stands first in the text
+abbrev pub first_fault : List Fault → Option Fault
+first_fault [] = None
+first_fault (f ∷ fs) = Some (earlier f (first_fault fs))
+
+-- the refusal of a fault in this file
+abbrev pub refusal_of : Part → List ℕ → Fault → Refused
+refusal_of part text (unknown_name byte) = refusals.UnknownName (place_of part text byte)
+refusal_of part text (declared_twice byte) = refusals.DeclaredTwice (place_of part text byte)
+refusal_of part text (wrong_use byte) = refusals.WrongUse (place_of part text byte)
+
+-- the trees of these texts are refused: at the first fault of the domain, or, where it has none, of the problem
+pub data RefusesNames (domain problem : List ℕ) (d : Domain Word) (p : Problem Word) : Refused → Type 0 where
+  in_domain : (f : Fault) → first_fault (domain_faults d p) ≡ Some f → RefusesNames domain problem d p (refusal_of parts.Domain domain f)
+  in_problem : (f : Fault) → domain_faults d p ≡ [] → first_fault (problem_faults d p) ≡ Some f → RefusesNames domain problem d p (refusal_of parts.Problem problem f)
+
+-- ---- items that leave the initial state open
+
+-- the first of two, where there is one
+abbrev pub or_else : {A : Type 0} → Option A → Option A → Option A
+or_else None other = other
+or_else (Some x) other = Some x
+
+-- the word of the first `oneof`, `or` or `unknown` in an item
+abbrev mutual
+  pub unsure_item : Item Word → Option Word
+  unsure_item (Item.items is) = unsure_items is
+  unsure_item (Item.fact positive a) = None
+  unsure_item (Item.one_of w ls) = Some w
+  unsure_item (Item.any_of w ls) = Some w
+  unsure_item (Item.unknown w a) = Some w
+
+  pub unsure_items : Items Word → Option Word
+  unsure_items no_item = None
+  unsure_items (more_items i is) = or_else (unsure_item i) (unsure_items is)
+
+-- the same of a list of items
+abbrev pub first_unsure : List (Item Word) → Option Word
+first_unsure [] = None
+first_unsure (i ∷ is) = or_else (unsure_item i) (first_unsure is)
+
+-- the place of a word of the problem
+abbrev pub place_in : List ℕ → Option Word → Option Place
+place_in problem None = None
+place_in problem (Some w) = Some (place_of parts.Problem problem w.byte)
+
+-- the place of the first `oneof`, `or` or `unknown` of `:init`
+abbrev pub unsure_place : List ℕ → Problem Word → Option Place
+unsure_place problem p = place_in problem (first_unsure p.init)
