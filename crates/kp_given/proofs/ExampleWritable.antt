@@ -7,10 +7,10 @@ use Rattle.kp_plain.specs.Ground.{nullary}
 use Rattle.kp_write.specs.Grounds.{AreOfAtoms, IsWritable, IsWrittenAsMeant}
 use Rattle.kp_write.proofs.Grounds.{ground_problems_are_written}
 use Rattle.kp_given.specs.Translations.{ground_of, start_of}
-use Rattle.kp_given.specs.Writable.{ArePlainTexts}
+use Rattle.kp_given.specs.PlainFiles.{ArePlainTexts}
 use Rattle.kp_given.proofs.Writable.{texts_writable, starts_writable}
 
-texts : ArePlainTexts exchange from_p_to_q exchange_tree from_p_to_q_tree
+pub texts : ArePlainTexts exchange from_p_to_q exchange_tree from_p_to_q_tree
 texts = record { domain = exchange_plain; problem = from_p_to_q_plain; no_fault = record { domain = refl; problem = refl } }
 
 -- its atoms

@@ -1,11 +1,12 @@
 -- The ground problem of plain trees is that of their problem by number.
-use Rattle.std.proofs.Common.{◌≡◌, Bool, true, false, not, cond, ◌&&◌, ◌||◌, List, [], ◌∷◌, ◌++◌, map, filter, refl, sym, ap, subst, ◌∙◌, inl, inr}
+use Rattle.std.proofs.Common.{◌≡◌, Bool, true, false, not, cond, ◌&&◌, ◌||◌, List, [], ◌∷◌, ◌++◌, map, filter, slice_get, Some, nat_eq, eqb-true, eq-eqb, refl, sym, ap, subst, ◌∙◌, inl, inr}
+use Rattle.std.specs.Bool.{beq}
 use Rattle.std.specs.List.{list_any, list_all, flat_map}
 use Rattle.std.proofs.lemmas.Bool.{and_parts, and_from}
 use Rattle.std.proofs.Math.Bool.{and-true}
 use Rattle.std.proofs.lemmas.List.{map-append, append-nil}
 use Rattle.kp_meaning.proofs.Numbered.{map_flat}
-use Rattle.kp_given.proofs.Lists.{filter_same, filter_map, map_same, flat_of_map, flat_filter}
+use Rattle.kp_given.proofs.Lists.{once_map, filter_same, filter_map, map_same, flat_of_map, flat_filter}
 use Rattle.std.proofs.lemmas.List.Folds.{list_all-append, list_any-append}
 use Rattle.kp_grammar.specs.declared.tree.Word.{Word}
 use Rattle.kp_grammar.specs.Trees as trees
@@ -16,20 +17,22 @@ use Rattle.kp_base.specs.declared.ground.Effect.{Effect}
 use Rattle.kp_base.specs.Lists.{Member, each_once}
 use Rattle.kp_base.specs.Lit.{negated, same_lit}
 use Rattle.kp_base.specs.LitSet.{set_of}
-use Rattle.kp_base.proofs.Lists.{all_member, all_alike, flat_alike, map_map, any_from, any_member}
+use Rattle.kp_base.proofs.Lists.{all_member, all_alike, flat_alike, map_map, any_from, any_member, bool_same, member_right, member_flat_map}
+use Rattle.kp_base.proofs.Once.{all_each_once}
 use Rattle.kp_meaning.specs.Names.{Name, same, is_among}
 use Rattle.kp_meaning.specs.Types.{declared, names}
 use Rattle.kp_meaning.specs.Faults.{inside}
 use Rattle.kp_meaning.specs.Numbered.{Lifted}
-use Rattle.kp_meaning.specs.Lifted.{bindings, item_literals}
+use Rattle.kp_meaning.specs.Lifted.{bindings, same_literal, item_literals}
 use Rattle.kp_meaning.specs.Numbering.{index_of, name_at, heads, numbered_problem, numbered_schema, numbered_range, numbered_pred}
 use Rattle.kp_meaning.proofs.Lists.{same-true, same-refl, among_member, member_at, member_map, map_member, filter_member}
 use Rattle.kp_meaning.proofs.Indexes.{at_index}
 use Rattle.kp_ground.specs.declared.flat.Atom.{Atom}
+use Rattle.kp_ground.specs.declared.flat.FlatEffect.{FlatEffect}
 use Rattle.kp_ground.specs.Static.{is_static, settled, remaining}
-use Rattle.kp_ground.specs.Flattening.{flat, flat_of}
+use Rattle.kp_ground.specs.Flattening.{same_flat, flat, flat_of}
 use Rattle.kp_ground.specs.Ground as general
-use Rattle.kp_ground.specs.Ground.{atom_of, effect_literals, flat_literals, kept_bindings, kept_literals, open_literals, occurring, numbered, numbered_set, numbered_effect, number_of, same_effect, lasting, is_idle, actions_of, action_of, atom_name, ground_atoms, ground_over}
+use Rattle.kp_ground.specs.Ground.{atom_of, effect_literals, instance_literals, kept_bindings, kept_literals, open_literals, occurring, numbered, numbered_set, numbered_effect, number_of, lasting, is_idle, actions_of, action_of, atom_name, ground_atoms, ground_over}
 use Rattle.kp_ground.specs.Laws.{IsAscending}
 use Rattle.kp_ground.proofs.Lists.{member_filter}
 use Rattle.kp_ground.proofs.Atoms.{atoms_are_numbered}
@@ -49,13 +52,6 @@ in_heads xs x h = let r = any_member (same x) xs h in subst (Member xs) (sym (sa
 -- an effect without conditions
 abbrev bare : Lit → Effect
 bare l = record { cond = []; result = l }
-
-once_bare : (ls : List Lit) → each_once same_effect (map bare ls) ≡ map bare (each_once same_lit ls)
-once_bare [] = refl
-once_bare (l ∷ ls) =
-    ap (λ es. bare l ∷ filter (λ e. not (same_effect (bare l) e)) es) (once_bare ls)
-    ∙ ap (λ es. bare l ∷ es) (filter_map bare (λ e. not (same_effect (bare l) e)) (each_once same_lit ls)
-    ∙ ap (map bare) (filter_same (λ m. not (same_effect (bare l) (bare m))) (λ m. not (same_lit l m)) (each_once same_lit ls) (λ m n. ap not (and-true (same_lit l m)))))
 
 idle_bare : (pre : List Lit) (all : List Lit) (l : Lit) → is_idle pre (map bare all) (bare l) ≡ plain.is_idle all l
 idle_bare pre all l = ap (λ t. not l.positive && t) (go all)
@@ -143,18 +139,18 @@ module _ (d : Domain Word) (p : Problem Word) (pd : IsPlainDomain d) (pp : IsPla
 
   literals_are : (s : Schema Word) → Member d.schemas s → kept_literals L (numbered_schema d p s) ≡ map (by_number d) (those_of s)
   literals_are s m =
-      ap (flat_map (λ os. flat_literals (flat_of L (numbered_schema d p s) os))) (kept_are s m)
+      ap (flat_map (λ os. instance_literals L (numbered_schema d p s) os)) (kept_are s m)
       ∙ pick (keeps s)
     where
-      whole : flat_literals (flat_of L (numbered_schema d p s) []) ≡ map (by_number d) (plain.light_pre d p s ++ plain.results_of d s)
+      whole : instance_literals L (numbered_schema d p s) [] ≡ map (by_number d) (plain.light_pre d p s ++ plain.results_of d s)
       whole =
           ap (λ xs. xs ++ flat_map effect_literals (flat L [] (numbered_schema d p s).effect)) (light_is s m)
           ∙ (ap (λ es. map (by_number d) (plain.light_pre d p s) ++ flat_map effect_literals es) (effects_are s m)
           ∙ (ap (λ xs. map (by_number d) (plain.light_pre d p s) ++ xs) (effect_literals_are (plain.results_of d s))
           ∙ sym (map-append (by_number d) (plain.light_pre d p s) (plain.results_of d s))))
 
-      pick : (t : Bool) → flat_map (λ os. flat_literals (flat_of L (numbered_schema d p s) os)) (cond t ([] ∷ []) []) ≡ map (by_number d) (cond t (plain.light_pre d p s ++ plain.results_of d s) [])
-      pick true = append-nil (flat_literals (flat_of L (numbered_schema d p s) [])) ∙ whole
+      pick : (t : Bool) → flat_map (λ os. instance_literals L (numbered_schema d p s) os) (cond t ([] ∷ []) []) ≡ map (by_number d) (cond t (plain.light_pre d p s ++ plain.results_of d s) [])
+      pick true = append-nil (instance_literals L (numbered_schema d p s) []) ∙ whole
       pick false = refl
 
   init_literals : (ls : List Literal) → flat_map item_literals (map (said d p) ls) ≡ map (by_number d) ls
@@ -302,28 +298,73 @@ module _ (d : Domain Word) (p : Problem Word) (pd : IsPlainDomain d) (pp : IsPla
 
   -- ---- actions
 
-  action_is : (s : Schema Word) → Member d.schemas s → action_of L (map atom A) (numbered_schema d p s) [] ≡ plain.action_of d p s
-  action_is s m =
-      let pre : general.ground_pre L (map atom A) (numbered_schema d p s) [] ≡ set_of (map (plain.numbered A) (plain.light_pre d p s))
-      = ap (numbered_set (map atom A)) (light_is s m) ∙ ap set_of (numbers_are (plain.light_pre d p s) (light_known s m)) in
-      let flats : map (numbered_effect (map atom A)) (flat_of L (numbered_schema d p s) []).effects ≡ map bare (map (plain.numbered A) (plain.results_of d s))
-      = ap (map (numbered_effect (map atom A))) (effects_are s m)
-      ∙ (map_map (λ l. record { cond = []; result = by_number d l }) (numbered_effect (map atom A)) (λ l. bare (numbered (map atom A) (by_number d l))) (plain.results_of d s) (λ l. refl)
-      ∙ (sym (map_map (λ l. numbered (map atom A) (by_number d l)) bare (λ l. bare (numbered (map atom A) (by_number d l))) (plain.results_of d s) (λ l. refl))
-      ∙ ap (map bare) (sym (map_map (by_number d) (numbered (map atom A)) (λ l. numbered (map atom A) (by_number d l)) (plain.results_of d s) (λ l. refl)) ∙ numbers_are (plain.results_of d s) (results_known s m)))) in
-      let effects : general.ground_effects L (map atom A) (numbered_schema d p s) [] ≡ plain.lasting (each_once same_lit (map (plain.numbered A) (plain.results_of d s)))
-      = ap (λ es. lasting (general.ground_pre L (map atom A) (numbered_schema d p s) []) (each_once same_effect es)) flats
-      ∙ (ap (lasting (general.ground_pre L (map atom A) (numbered_schema d p s) [])) (once_bare (map (plain.numbered A) (plain.results_of d s)))
-      ∙ lasting_bare (general.ground_pre L (map atom A) (numbered_schema d p s) []) (each_once same_lit (map (plain.numbered A) (plain.results_of d s)))) in
-      ap (λ x. record { name = plain.nullary s.name.text; pre = x; effects = general.ground_effects L (map atom A) (numbered_schema d p s) [] }) pre
-      ∙ ap (λ x. record { name = plain.nullary s.name.text; pre = set_of (map (plain.numbered A) (plain.light_pre d p s)); effects = x }) effects
+  module _ (s : Schema Word) (m : Member d.schemas s) (kept : keeps s ≡ true) where
+    abbrev results : List Literal
+    results = plain.results_of d s
+
+    abbrev bare_flat : Literal → FlatEffect
+    bare_flat l = record { cond = []; result = by_number d l }
+
+    -- whether two results are one
+    abbrev same_result : Literal → Literal → Bool
+    same_result l n = same_flat (bare_flat l) (bare_flat n)
+
+    result_known : (l : Literal) → Member results l → known_head l ≡ true
+    result_known l i = all_member known_head results l i (results_known s m)
+
+    -- the atom of a result is a ground atom
+    result_there : (l : Literal) → Member results l → slice_get (map atom A) (number_of (map atom A) (atom l.head)) ≡ Some (atom l.head)
+    result_there l i =
+        let those : Member (those_of s) l = subst (λ t. Member (cond t (plain.light_pre d p s ++ results) []) l) (sym kept) (member_right (plain.light_pre d p s) results l i) in
+        let among : Member all_those l = member_right (plain.goal_of d p) _ l (member_right (plain.without_static d p (plain.init_of d p)) _ l (member_flat_map those_of d.schemas s l m those)) in
+        subst (λ atoms. slice_get atoms (number_of atoms (atom l.head)) ≡ Some (atom l.head)) atoms_are
+        ((atoms_are_numbered L).numbering.covers (by_number d l) (subst (λ ls. Member ls (by_number d l)) (sym occurring_are) (member_map (by_number d) all_those l among)))
+
+    results_same : (l n : Literal) → Member results l → Member results n → same_lit (plain.numbered A l) (plain.numbered A n) ≡ same_result l n
+    results_same l n i j = bool_same (same_lit (plain.numbered A l) (plain.numbered A n)) (same_result l n)
+        (λ h.
+        let parts = and_parts (nat_eq (plain.place A l.head) (plain.place A n.head)) (beq l.positive n.positive) h in
+        let places = place_is N A l.head (result_known l i) A_among ∙ (eqb-true (plain.place A l.head) (plain.place A n.head) parts.0 ∙ sym (place_is N A n.head (result_known n j) A_among)) in
+        let there : Some (atom l.head) ≡ Some (atom n.head) = sym (result_there l i) ∙ (ap (slice_get (map atom A)) places ∙ result_there n j) in
+        let index : index_of N l.head ≡ index_of N n.head = cc in
+        and_from (same_literal (by_number d l) (by_number d n)) true
+        (and_from (beq l.positive n.positive) (nat_eq (index_of N l.head) (index_of N n.head) && true) parts.1 (and_from (nat_eq (index_of N l.head) (index_of N n.head)) true (eq-eqb (index_of N l.head) (index_of N n.head) index) refl)) refl)
+        (λ h.
+        let parts = and_parts (same_literal (by_number d l) (by_number d n)) true h in
+        let signs = and_parts (beq l.positive n.positive) (nat_eq (index_of N l.head) (index_of N n.head) && true) parts.0 in
+        let index = and_parts (nat_eq (index_of N l.head) (index_of N n.head)) true signs.1 in
+        let one : l.head ≡ n.head = sym (at_index N l.head (result_known l i)) ∙ (ap (name_at N) (eqb-true (index_of N l.head) (index_of N n.head) index.0) ∙ at_index N n.head (result_known n j)) in
+        and_from (nat_eq (plain.place A l.head) (plain.place A n.head)) (beq l.positive n.positive) (eq-eqb (plain.place A l.head) (plain.place A n.head) (ap (plain.place A) one)) signs.0)
+
+    -- each result once
+    abbrev once : List Literal
+    once = each_once same_result results
+
+    flats_are : map (numbered_effect (map atom A)) (flat_of L (numbered_schema d p s) []).effects ≡ map bare (each_once same_lit (map (plain.numbered A) results))
+    flats_are =
+        ap (λ fs. map (numbered_effect (map atom A)) (each_once same_flat fs)) (effects_are s m)
+        ∙ (ap (map (numbered_effect (map atom A))) (once_map bare_flat same_result same_flat results (λ l n i j. refl))
+        ∙ (map_map bare_flat (numbered_effect (map atom A)) (λ l. bare (numbered (map atom A) (by_number d l))) once (λ l. refl)
+        ∙ (sym (map_map (λ l. numbered (map atom A) (by_number d l)) bare (λ l. bare (numbered (map atom A) (by_number d l))) once (λ l. refl))
+        ∙ ap (map bare)
+        (sym (map_map (by_number d) (numbered (map atom A)) (λ l. numbered (map atom A) (by_number d l)) once (λ l. refl))
+        ∙ (numbers_are once (all_each_once same_result known_head results (results_known s m)) ∙ sym (once_map (plain.numbered A) same_result same_lit results results_same))))))
+
+    action_is : action_of L (map atom A) (numbered_schema d p s) [] ≡ plain.action_of d p s
+    action_is =
+        let pre : general.ground_pre L (map atom A) (numbered_schema d p s) [] ≡ set_of (map (plain.numbered A) (plain.light_pre d p s))
+        = ap (numbered_set (map atom A)) (light_is s m) ∙ ap set_of (numbers_are (plain.light_pre d p s) (light_known s m)) in
+        let effects : general.ground_effects L (map atom A) (numbered_schema d p s) [] ≡ plain.lasting (each_once same_lit (map (plain.numbered A) results))
+        = ap (lasting (general.ground_pre L (map atom A) (numbered_schema d p s) [])) flats_are ∙ lasting_bare (general.ground_pre L (map atom A) (numbered_schema d p s) []) (each_once same_lit (map (plain.numbered A) results)) in
+        ap (λ x. record { name = plain.nullary s.name.text; pre = x; effects = general.ground_effects L (map atom A) (numbered_schema d p s) [] }) pre
+        ∙ ap (λ x. record { name = plain.nullary s.name.text; pre = set_of (map (plain.numbered A) (plain.light_pre d p s)); effects = x }) effects
 
   one_action : (s : Schema Word) → Member d.schemas s → actions_of L (map atom A) (numbered_schema d p s) ≡ cond (keeps s) (plain.action_of d p s ∷ []) []
-  one_action s m = ap (map (action_of L (map atom A) (numbered_schema d p s))) (kept_are s m) ∙ pick (keeps s)
+  one_action s m = ap (map (action_of L (map atom A) (numbered_schema d p s))) (kept_are s m) ∙ pick (keeps s) refl
     where
-      pick : (t : Bool) → map (action_of L (map atom A) (numbered_schema d p s)) (cond t ([] ∷ []) []) ≡ cond t (plain.action_of d p s ∷ []) []
-      pick true = ap (λ a. a ∷ []) (action_is s m)
-      pick false = refl
+      pick : (t : Bool) → keeps s ≡ t → map (action_of L (map atom A) (numbered_schema d p s)) (cond t ([] ∷ []) []) ≡ cond t (plain.action_of d p s ∷ []) []
+      pick true is = ap (λ a. a ∷ []) (action_is s m is)
+      pick false is = refl
 
   actions_are : flat_map (actions_of L (map atom A)) L.schemas ≡ map (plain.action_of d p) (plain.kept d p)
   actions_are =

@@ -4,7 +4,7 @@ pub mod Known
 pub mod Static
 pub mod Atoms
 pub mod GroundProblems
-pub mod NoFault
+pub mod PlainFiles
 pub mod Start
 pub mod Translated
 pub mod Writable

@@ -1,8 +1,9 @@
 -- Lemmas on lists: filters, maps and flat maps.
-use Rattle.std.proofs.Common.{◌≡◌, Bool, true, false, cond, ◌||◌, List, [], ◌∷◌, ◌++◌, map, filter, refl, sym, ap, ◌∙◌, inl, inr}
+use Rattle.std.proofs.Common.{◌≡◌, Bool, true, false, not, cond, ◌||◌, List, [], ◌∷◌, ◌++◌, map, filter, refl, sym, ap, ◌∙◌, inl, inr}
 use Rattle.std.specs.List.{list_any, flat_map}
 use Rattle.std.proofs.lemmas.List.Folds.{list_any-append}
-use Rattle.kp_base.specs.Lists.{Member}
+use Rattle.kp_base.specs.Lists.{Member, each_once}
+use Rattle.kp_base.proofs.Lists.{filter_member}
 
 pub filter_same : {X : Type 0} (f g : X → Bool) (xs : List X) → ((x : X) → Member xs x → f x ≡ g x) → filter f xs ≡ filter g xs
 filter_same f g [] h = refl
@@ -36,3 +37,15 @@ flat_filter p f (x ∷ xs) = pick (p x) (flat_filter p f xs)
 pub any_flat : {X Y : Type 0} (p : Y → Bool) (f : X → List Y) (xs : List X) → list_any (λ x. list_any p (f x)) xs ≡ list_any p (flat_map f xs)
 any_flat p f [] = refl
 any_flat p f (x ∷ xs) = ap (λ t. list_any p (f x) || t) (any_flat p f xs) ∙ sym (list_any-append p (f x) (flat_map f xs))
+
+once_member : {X : Type 0} (same : X → X → Bool) (xs : List X) (x : X) → Member (each_once same xs) x → Member xs x
+once_member same (x ∷ xs) y (inl e) = inl e
+once_member same (x ∷ xs) y (inr m) = inr (once_member same xs y (filter_member (λ z. not (same x z)) (each_once same xs) y m).0)
+
+-- each once before a function or after it, where the tests agree
+pub once_map : {X Y : Type 0} (f : X → Y) (same : X → X → Bool) (eq : Y → Y → Bool) (xs : List X) → ((x y : X) → Member xs x → Member xs y → eq (f x) (f y) ≡ same x y) → each_once eq (map f xs) ≡ map f (each_once same xs)
+once_map f same eq [] h = refl
+once_map f same eq (x ∷ xs) h =
+    ap (λ ys. f x ∷ filter (λ y. not (eq (f x) y)) ys) (once_map f same eq xs (λ y z i j. h y z (inr i) (inr j)))
+    ∙ ap (λ ys. f x ∷ ys) (filter_map f (λ y. not (eq (f x) y)) (each_once same xs)
+    ∙ ap (map f) (filter_same (λ y. not (eq (f x) (f y))) (λ y. not (same x y)) (each_once same xs) (λ y m. ap not (h x y (inl refl) (inr (once_member same xs y m))))))

@@ -6,7 +6,7 @@ use Rattle.kp_meaning.specs.States.{State}
 use Rattle.kp_meaning.specs.Initial.{IsInitial}
 use Rattle.kp_meaning.specs.Plans.{HasProblem}
 use Rattle.kp_plain.specs.Translations as plain
-use Rattle.kp_given.specs.PlainFiles.{IsDomain, IsProblem, IsContradictory}
+use Rattle.kp_given.specs.PlainFiles.{ArePlainTexts, IsContradictory}
 use Rattle.kp_given.specs.PlainGround.{ArePlain}
 use Rattle.kp_given.specs.Translations.{translation_of}
 
@@ -18,11 +18,11 @@ pub record HasThisProblem (domain_text problem_text : List ℕ) (d : Domain Word
 
 -- the trees of a plain domain and a plain problem are plain trees without a fault
 abbrev pub PlainFilesArePlain : Type 0
-PlainFilesArePlain = (domain_text problem_text : List ℕ) (d : Domain Word) (p : Problem Word) → IsDomain domain_text d → IsProblem d problem_text p → ArePlain d p
+PlainFilesArePlain = (domain_text problem_text : List ℕ) (d : Domain Word) (p : Problem Word) → ArePlainTexts domain_text problem_text d p → ArePlain d p
 
 -- plain files have a problem, that of their trees
 abbrev pub PlainFilesHaveAProblem : Type 0
-PlainFilesHaveAProblem = (domain_text problem_text : List ℕ) (d : Domain Word) (p : Problem Word) → IsDomain domain_text d → IsProblem d problem_text p → HasThisProblem domain_text problem_text d p
+PlainFilesHaveAProblem = (domain_text problem_text : List ℕ) (d : Domain Word) (p : Problem Word) → ArePlainTexts domain_text problem_text d p → HasThisProblem domain_text problem_text d p
 
 -- some state is initial
 pub record HasInitialState (p : Problem Word) : Type 0 where

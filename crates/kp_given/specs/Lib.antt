@@ -1,4 +1,3 @@
-pub mod Names
 pub mod PlainFiles
 pub mod PlainGround
 pub mod Translations

@@ -1,26 +1,16 @@
--- Which files are translated: they have the plain form, no name is declared twice, and each atom is of a declared predicate.
+-- Which files are translated: they have the plain form, and no name in them is at fault.
 use Rattle.std.specs.Prelude.{List, [], ◌∷◌, ℕ, Bool, true, false, if◌then◌else◌, Contains}
 use Rattle.kp_grammar.specs.declared.tree.Word.{Word}
 use Rattle.kp_grammar.specs.Trees.{Item, Domain, Problem}
-use Rattle.kp_grammar.specs.Plain as forms
+use Rattle.kp_grammar.specs.Plain.{plain_domain, plain_problem}
 use Rattle.kp_grammar.specs.PlainTexts.{IsPlain}
-use Rattle.kp_given.specs.Names.{Distinct, AllDeclared, predicate_names, schema_names, domain_heads, problem_heads}
+use Rattle.kp_meaning.specs.Faults.{HasNoFault}
 
--- the predicates differ in their names, as do the schemas, and each atom is of a declared predicate
-pub record IsWellNamed (d : Domain Word) : Type 0 where
-  pub predicates : Distinct (predicate_names d)
-  pub schemas : Distinct (schema_names d)
-  pub heads : AllDeclared (predicate_names d) (domain_heads d)
-
--- the text is a plain domain, and this is its tree
-pub record IsDomain (text : List ℕ) (d : Domain Word) : Type 0 where
-  pub form : IsPlain forms.plain_domain text d
-  pub names : IsWellNamed d
-
--- the text is a plain problem of that domain, and this is its tree
-pub record IsProblem (d : Domain Word) (text : List ℕ) (p : Problem Word) : Type 0 where
-  pub form : IsPlain forms.plain_problem text p
-  pub heads : AllDeclared (predicate_names d) (problem_heads p)
+-- two plain texts with these trees, in which no name is at fault
+pub record ArePlainTexts (domain_text problem_text : List ℕ) (d : Domain Word) (p : Problem Word) : Type 0 where
+  pub domain : IsPlain plain_domain domain_text d
+  pub problem : IsPlain plain_problem problem_text p
+  pub no_fault : HasNoFault d p
 
 -- the predicates of the facts that are stated, or of those that are denied
 abbrev pub facts_of : Bool → List (Item Word) → List (List ℕ)

@@ -3,17 +3,9 @@ use Rattle.std.specs.Prelude.{ℕ, List}
 use Rattle.kp_base.specs.declared.lit.Lit.{Lit}
 use Rattle.kp_grammar.specs.declared.tree.Word.{Word}
 use Rattle.kp_grammar.specs.Trees.{Domain, Problem}
-use Rattle.kp_grammar.specs.Plain.{plain_domain, plain_problem}
-use Rattle.kp_grammar.specs.PlainTexts.{IsPlain}
-use Rattle.kp_meaning.specs.Faults.{HasNoFault}
 use Rattle.kp_write.specs.Grounds.{AreOfAtoms, IsWritable}
+use Rattle.kp_given.specs.PlainFiles.{ArePlainTexts}
 use Rattle.kp_given.specs.Translations.{ground_of, start_of}
-
--- two plain texts with these trees, in which no name is at fault
-pub record ArePlainTexts (domain_text problem_text : List ℕ) (d : Domain Word) (p : Problem Word) : Type 0 where
-  pub domain : IsPlain plain_domain domain_text d
-  pub problem : IsPlain plain_problem problem_text p
-  pub no_fault : HasNoFault d p
 
 -- their ground problem can be written, whatever literals of its atoms are known at the start
 abbrev pub PlainGroundsAreWritable : Type 0

@@ -5,13 +5,13 @@ ghost use Rattle.kp_given.specs.PlainGround.{IsPlainGround};
 ghost use Rattle.kp_given.specs.Writable.{PlainGroundsAreWritable, PlainStartsAreWritable};
 
 /// The trees of plain files are plain trees without a fault.
-#[tactic(auto, using(crate::proofs::NoFault::files_are_plain))]
+#[tactic(auto, using(crate::proofs::PlainFiles::files_are_plain))]
 pub fn plain_files_are_plain_trees()
     ensures { PlainFilesArePlain }
 {}
 
 /// Plain files have a problem.
-#[tactic(auto, using(crate::proofs::NoFault::files_have_a_problem))]
+#[tactic(auto, using(crate::proofs::PlainFiles::files_have_a_problem))]
 pub fn plain_files_have_a_problem()
     ensures { PlainFilesHaveAProblem }
 {}

@@ -1,42 +1,18 @@
--- Effects once each, and deletes that change nothing.
+-- Deletes that change nothing.
 use Rattle.std.proofs.Common.{◌≡◌, ℕ, Bool, true, false, not, ◌&&◌, ◌||◌, List, [], ◌∷◌, ◌++◌, refl, sym, ap, subst, ◌∙◌, cond, filter}
 use Rattle.std.specs.List.{list_any, list_all}
-use Rattle.std.specs.Cmp.Lexicographic.{pointwise}
 use Rattle.std.proofs.lemmas.Bool.{and_parts, and_from, both_ways, false≢true}
 use Rattle.std.proofs.lemmas.List.Folds.{list_all-append}
 use Rattle.std.proofs.Math.Bool.{and-false}
 use Rattle.kp_base.specs.declared.lit.Lit.{Lit}
 use Rattle.kp_base.specs.declared.ground.Effect.{Effect}
-use Rattle.kp_base.specs.Lists.{Member, each_once}
+use Rattle.kp_base.specs.Lists.{Member}
 use Rattle.kp_base.specs.Lit.{positive, negative, negated, same_lit}
 use Rattle.kp_base.specs.Steps.{Facts, has, fires}
 use Rattle.kp_base.proofs.Lists.{any_member, any_from, any_alike, all_member, bool_same, all_from}
 use Rattle.kp_base.proofs.Lits.{same_lit-true, same_lit-refl}
-use Rattle.kp_base.proofs.Once.{any-each_once}
-use Rattle.kp_ground.specs.Ground.{same_effect, is_within, is_idle, lasting}
+use Rattle.kp_ground.specs.Ground.{is_within, is_idle, lasting}
 use Rattle.kp_ground.proofs.Lists.{false_where_not_true}
-
--- ---- each effect once
-
-same_lits-true : (xs ys : List Lit) → pointwise same_lit xs ys ≡ true → xs ≡ ys
-same_lits-true [] [] h = refl
-same_lits-true [] (y ∷ ys) h = absurd (false≢true h)
-same_lits-true (x ∷ xs) [] h = absurd (false≢true h)
-same_lits-true (x ∷ xs) (y ∷ ys) h =
-    let parts = and_parts (same_lit x y) (pointwise same_lit xs ys) h in
-    let first = same_lit-true x y parts.0 in
-    let rest = same_lits-true xs ys parts.1 in
-    cc
-
-pub fires-each_once : (es : List Effect) (k : Facts) (l : Lit) → fires (each_once same_effect es) k l ≡ fires es k l
-fires-each_once es k l = any-each_once same_effect (λ e. same_lit e.result l && list_all k e.cond) alike es
-  where
-    alike : (e f : Effect) → same_effect e f ≡ true → (same_lit e.result l && list_all k e.cond) ≡ (same_lit f.result l && list_all k f.cond)
-    alike e f h =
-        let parts = and_parts (same_lit e.result f.result) (pointwise same_lit e.cond f.cond) h in
-        let results = same_lit-true e.result f.result parts.0 in
-        let conds = same_lits-true e.cond f.cond parts.1 in
-        rw (results, conds) refl
 
 -- ---- idle deletes
 

@@ -10,7 +10,8 @@ use Rattle.kp_base.specs.declared.ground.Effect.{Effect}
 use Rattle.kp_base.specs.Lists.{Member, only_if, signed, each_once}
 use Rattle.kp_base.specs.Lit.{positive, negative, same_lit}
 use Rattle.kp_base.specs.Steps as steps
-use Rattle.kp_base.proofs.Lists.{any_alike, all_alike, bool_same, same-true, same-refl, filter_member, member_left, member_right, member_flat_map, member_filter}
+use Rattle.kp_base.proofs.Lists.{any_alike, all_alike, any_member, all_member, all_from, bool_same, same-true, same-refl, filter_member, member_left, member_right, member_flat_map, member_filter}
+use Rattle.kp_base.proofs.Once.{any-each_once}
 use Rattle.kp_base.proofs.Sets.{all-set_of}
 use Rattle.kp_meaning.specs.declared.lifted.GroundLit.{GroundLit}
 use Rattle.kp_meaning.specs.Names.{same}
@@ -20,12 +21,12 @@ use Rattle.kp_meaning.specs.Lifted.{State, ground, same_literal, names_literal, 
 use Rattle.kp_ground.specs.declared.flat.Atom.{Atom}
 use Rattle.kp_ground.specs.declared.flat.FlatEffect.{FlatEffect}
 use Rattle.kp_ground.specs.Static.{settled, remaining}
-use Rattle.kp_ground.specs.Flattening.{flat, flat_of, flat_fires}
-use Rattle.kp_ground.specs.Ground.{kept_bindings, atom_of, effect_literals, flat_literals, kept_literals, open_literals, occurring, number_of, numbered, numbered_set, IsNumbering, numbered_effect, same_effect, lasting, ground_pre, action_of, at_atom, seen_on}
-use Rattle.kp_ground.specs.Laws.{IsStepExact, IsKeptExact}
+use Rattle.kp_ground.specs.Flattening.{same_literals, same_flat, flat, flat_of, flat_fires}
+use Rattle.kp_ground.specs.Ground.{kept_bindings, atom_of, effect_literals, instance_literals, kept_literals, open_literals, occurring, number_of, numbered, numbered_set, IsNumbering, numbered_effect, lasting, ground_pre, action_of, at_atom, seen_on}
+use Rattle.kp_ground.specs.Laws.{IsOnceExact, IsStepExact, IsKeptExact}
 use Rattle.kp_ground.proofs.Lists.{beq-true, beq-refl}
 use Rattle.kp_ground.proofs.Flattening.{split, flat_exact}
-use Rattle.kp_ground.proofs.Effects.{fires-each_once, lasting_adds, lasting_deletes}
+use Rattle.kp_ground.proofs.Effects.{lasting_adds, lasting_deletes}
 
 -- ---- literals by number
 
@@ -96,6 +97,41 @@ fires_map : (atoms : List Atom) (k : steps.Facts) (x : Lit) (fs : List FlatEffec
 fires_map atoms k x [] = refl
 fires_map atoms k x (f ∷ fs) = ap (λ t. (same_lit (numbered atoms f.result) x && list_all k (numbered_set atoms f.cond)) || t) (fires_map atoms k x fs)
 
+-- all of the same literals pass alike
+same_pass : (p : GroundLit → Bool) (ls ms : List GroundLit) → same_literals ls ms ≡ true → list_all p ls ≡ list_all p ms
+same_pass p ls ms h =
+    let parts = and_parts (list_all (names_literal ms) ls) (list_all (names_literal ls) ms) h in bool_same (list_all p ls) (list_all p ms) (passes ls ms parts.1) (passes ms ls parts.0)
+  where
+    passes : (xs ys : List GroundLit) → list_all (names_literal xs) ys ≡ true → list_all p xs ≡ true → list_all p ys ≡ true
+    passes xs ys within all = all_from p ys (λ y i. let found = any_member (same_literal y) xs (all_member (names_literal xs) ys y i within) in
+        subst (λ z. p z ≡ true) (sym (same_literal-true y found.0 found.2)) (all_member p xs found.0 found.1 all))
+
+-- repeated effects fire nothing more
+fires_once : (atoms : List Atom) (k : steps.Facts) (x : Lit) (fs : List FlatEffect) → steps.fires (map (numbered_effect atoms) (each_once same_flat fs)) k x ≡ steps.fires (map (numbered_effect atoms) fs) k x
+fires_once atoms k x fs = fires_map atoms k x (each_once same_flat fs) ∙ (any-each_once same_flat fired alike fs ∙ sym (fires_map atoms k x fs))
+  where
+    fired : FlatEffect → Bool
+    fired f = same_lit (numbered atoms f.result) x && list_all k (numbered_set atoms f.cond)
+
+    conds : (f : FlatEffect) → list_all k (numbered_set atoms f.cond) ≡ list_all (λ m. k (numbered atoms m)) f.cond
+    conds f = all-set_of k (map (numbered atoms) f.cond) ∙ list_all-map k (numbered atoms) f.cond
+
+    alike : (f g : FlatEffect) → same_flat f g ≡ true → fired f ≡ fired g
+    alike f g h =
+        let parts = and_parts (same_literal f.result g.result) (same_literals f.cond g.cond) h in
+        rw (same_literal-true f.result g.result parts.0, conds f ∙ (same_pass (λ m. k (numbered atoms m)) f.cond g.cond parts.1 ∙ sym (conds g))) refl
+
+pub once_exact : IsOnceExact
+once_exact s fs m = names_fired s m (each_once same_flat fs) ∙ (any-each_once same_flat fired alike fs ∙ sym (names_fired s m fs))
+  where
+    fired : FlatEffect → Bool
+    fired f = same_literal m f.result && list_all (literal_holds s) f.cond
+
+    alike : (f g : FlatEffect) → same_flat f g ≡ true → fired f ≡ fired g
+    alike f g h =
+        let parts = and_parts (same_literal f.result g.result) (same_literals f.cond g.cond) h in
+        rw (same_literal-true f.result g.result parts.0, same_pass (literal_holds s) f.cond g.cond parts.1) refl
+
 -- at a ground atom the numbered effects fire what the flat ones do
 fires_numbered : (l : Lifted) (atoms : List Atom) → IsNumbering l atoms → (s : State) (fs : List FlatEffect) → AllCovered atoms fs → (sign : Bool) (n : ℕ) (a : Atom) → slice_get atoms n ≡ Some a → steps.fires (map (numbered_effect atoms) fs) (steps.holds (seen_on atoms s)) (lit sign n) ≡ names_literal (flat_fires s fs) (ground sign a.pred a.objects)
 fires_numbered l atoms numbering s fs covered sign n a at =
@@ -120,12 +156,12 @@ fires_none atoms k (f ∷ fs) covered sign n at =
 
 -- ---- the literals of a kept instance occur
 
-pub occurs : (l : Lifted) (a : Schema) (os : List ℕ) → Member l.schemas a → Member (kept_bindings l a) os → (m : GroundLit) → Member (flat_literals (flat_of l a os)) m → Member (occurring l) m
+pub occurs : (l : Lifted) (a : Schema) (os : List ℕ) → Member l.schemas a → Member (kept_bindings l a) os → (m : GroundLit) → Member (instance_literals l a os) m → Member (occurring l) m
 occurs l a os at kept m i =
     member_right l.goal (open_literals l ++ flat_map (kept_literals l) l.schemas) m
     (member_right (open_literals l) (flat_map (kept_literals l) l.schemas) m
     (member_flat_map (kept_literals l) l.schemas a m at
-    (member_flat_map (λ os. flat_literals (flat_of l a os)) (kept_bindings l a) os m kept i)))
+    (member_flat_map (instance_literals l a) (kept_bindings l a) os m kept i)))
 
 -- ---- the step
 
@@ -145,7 +181,7 @@ step_exact l atoms numbering s truth a os at kept = record { applicable = pre_ex
     is_settled : settled l os a.pre ≡ true
     is_settled = (filter_member (λ os. settled l os a.pre) (bindings a.params) os kept).1
 
-    covered : (m : GroundLit) → Member (flat_literals (flat_of l a os)) m → Covered atoms m
+    covered : (m : GroundLit) → Member (instance_literals l a os) m → Covered atoms m
     covered m i = numbering.covers m (occurs l a os at kept m i)
 
     flat_covered : AllCovered atoms (flat l os a.effect)
@@ -158,8 +194,8 @@ step_exact l atoms numbering s truth a os at kept = record { applicable = pre_ex
 
     go : lifted.holds s os a.pre ≡ true → (n : ℕ) (o : Option Atom) → slice_get atoms n ≡ o → steps.after (action_of l atoms a os) (seen_on atoms s) n ≡ at_atom (state_by (Some a) os s) o
     go h n o is =
-        lasting_after (ground_pre l atoms a os) (each_once same_effect (map (numbered_effect atoms) (flat l os a.effect))) (seen_on atoms s) n (pre_exact ∙ h)
-        ∙ (rw (fires-each_once (map (numbered_effect atoms) (flat l os a.effect)) (steps.holds (seen_on atoms s)) (positive n), fires-each_once (map (numbered_effect atoms) (flat l os a.effect)) (steps.holds (seen_on atoms s)) (negative n)) (at_n o is))
+        lasting_after (ground_pre l atoms a os) (map (numbered_effect atoms) (flat_of l a os).effects) (seen_on atoms s) n (pre_exact ∙ h)
+        ∙ (rw (fires_once atoms (steps.holds (seen_on atoms s)) (positive n) (flat l os a.effect), fires_once atoms (steps.holds (seen_on atoms s)) (negative n) (flat l os a.effect)) (at_n o is))
       where
         at_n : (o : Option Atom) → slice_get atoms n ≡ o → (steps.fires (map (numbered_effect atoms) (flat l os a.effect)) (steps.holds (seen_on atoms s)) (positive n) || (seen_on atoms s n && not (steps.fires (map (numbered_effect atoms) (flat l os a.effect)) (steps.holds (seen_on atoms s)) (negative n)))) ≡ at_atom (state_by (Some a) os s) o
         at_n None is = rw (fires_none atoms (steps.holds (seen_on atoms s)) (flat l os a.effect) flat_covered true n is, fires_none atoms (steps.holds (seen_on atoms s)) (flat l os a.effect) flat_covered false n is, is) refl

@@ -1,13 +1,12 @@
 -- The ground problem of a problem by number: its kept instances, its atoms and their numbers, its actions and its goal.
 use Rattle.std.specs.Prelude.{◌≡◌, ◌==◌, ℕ, suc, Bool, true, false, not, ◌&&◌, ◌||◌, if◌then◌else◌, List, [], ◌∷◌, ◌++◌, Option, Some, None, nat_lt, map, filter, slice_get}
 use Rattle.std.specs.List.{list_any, list_all, flat_map, position_or_len}
-use Rattle.std.specs.Cmp.Lexicographic.{pointwise}
 use Rattle.kp_base.specs.declared.lit.Lit.{Lit}
 use Rattle.kp_base.specs.declared.ground.GroundName.{GroundName}
 use Rattle.kp_base.specs.declared.ground.Effect.{Effect}
 use Rattle.kp_base.specs.declared.ground.Action.{Action}
 use Rattle.kp_base.specs.declared.ground.Ground.{Ground}
-use Rattle.kp_base.specs.Lists.{Member, each_once}
+use Rattle.kp_base.specs.Lists.{Member}
 use Rattle.kp_base.specs.Lit.{negated, same_lit}
 use Rattle.kp_base.specs.LitSet.{set_of}
 use Rattle.kp_base.specs.Steps as steps
@@ -19,9 +18,8 @@ use Rattle.kp_meaning.specs.Lifted.{State, Binding, Instance, bindings, item_lit
 use Rattle.kp_meaning.specs.Numbering.{name_at}
 use Rattle.kp_ground.specs.declared.flat.Atom.{Atom}
 use Rattle.kp_ground.specs.declared.flat.FlatEffect.{FlatEffect}
-use Rattle.kp_ground.specs.declared.flat.Flat.{Flat}
-use Rattle.kp_ground.specs.Static.{is_static, settled}
-use Rattle.kp_ground.specs.Flattening.{flat_of}
+use Rattle.kp_ground.specs.Static.{is_static, settled, remaining}
+use Rattle.kp_ground.specs.Flattening.{flat, flat_of}
 
 -- ---- kept instances
 
@@ -52,13 +50,13 @@ atom_of m = record { pred = m.pred; objects = m.objects }
 abbrev pub effect_literals : FlatEffect → List GroundLit
 effect_literals f = f.cond ++ f.result ∷ []
 
--- the literals of an instance
-abbrev pub flat_literals : Flat → List GroundLit
-flat_literals f = f.pre ++ flat_map effect_literals f.effects
+-- the literals of an instance, as often as they stand there
+abbrev pub instance_literals : Lifted → Schema → List ℕ → List GroundLit
+instance_literals l a os = remaining l os a.pre ++ flat_map effect_literals (flat l os a.effect)
 
 -- the literals of the kept instances of a schema
 abbrev pub kept_literals : Lifted → Schema → List GroundLit
-kept_literals l a = flat_map (λ os. flat_literals (flat_of l a os)) (kept_bindings l a)
+kept_literals l a = flat_map (instance_literals l a) (kept_bindings l a)
 
 -- the literals of `:init` whose predicates aren't static
 abbrev pub open_literals : Lifted → List GroundLit
@@ -121,10 +119,6 @@ pub record IsNumbering (l : Lifted) (atoms : List Atom) : Type 0 where
 abbrev pub numbered_effect : List Atom → FlatEffect → Effect
 numbered_effect atoms f = record { cond = numbered_set atoms f.cond; result = numbered atoms f.result }
 
--- whether two effects are one
-abbrev pub same_effect : Effect → Effect → Bool
-same_effect e f = same_lit e.result f.result && pointwise same_lit e.cond f.cond
-
 -- each of these literals is among those
 abbrev pub is_within : List Lit → List Lit → Bool
 is_within xs ys = list_all (has ys) xs
@@ -151,9 +145,9 @@ atom_name l a = record { head = name_at (map (λ q. q.name) l.predicates) a.pred
 abbrev pub ground_pre : Lifted → List Atom → Schema → List ℕ → List Lit
 ground_pre l atoms a os = numbered_set atoms (flat_of l a os).pre
 
--- its ground effects: each once, without idle deletes
+-- its ground effects, without idle deletes
 abbrev pub ground_effects : Lifted → List Atom → Schema → List ℕ → List Effect
-ground_effects l atoms a os = lasting (ground_pre l atoms a os) (each_once same_effect (map (numbered_effect atoms) (flat_of l a os).effects))
+ground_effects l atoms a os = lasting (ground_pre l atoms a os) (map (numbered_effect atoms) (flat_of l a os).effects)
 
 -- its action
 abbrev pub action_of : Lifted → List Atom → Schema → List ℕ → Action

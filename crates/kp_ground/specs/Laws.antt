@@ -3,17 +3,19 @@ use Rattle.std.specs.Prelude.{◌≡◌, ◌↔◌, ℕ, true, ◌&&◌, List, [
 use Rattle.std.specs.List.{list_all}
 use Rattle.kp_base.specs.declared.ground.GroundName.{GroundName}
 use Rattle.kp_base.specs.declared.ground.Ground.{Ground}
-use Rattle.kp_base.specs.Lists.{Member}
+use Rattle.kp_base.specs.Lists.{Member, each_once}
 use Rattle.kp_base.specs.Steps as steps
 use Rattle.kp_grammar.specs.declared.tree.Word.{Word}
 use Rattle.kp_grammar.specs.Trees.{Domain, Problem}
 use Rattle.kp_meaning.specs.Faults.{HasNoFault}
 use Rattle.kp_meaning.specs.Numbered.{Cond, Eff, Schema, Lifted}
-use Rattle.kp_meaning.specs.Lifted.{State, Binding, Instance, literal_holds, holds, fires, bindings, permits, state_by, next, IsInitial, IsPlan}
+use Rattle.kp_meaning.specs.Lifted.{State, Binding, Instance, names_literal, literal_holds, holds, fires, bindings, permits, state_by, next, IsInitial, IsPlan}
 use Rattle.kp_meaning.specs.Numbering.{numbered_problem, named_step}
+use Rattle.kp_meaning.specs.declared.lifted.GroundLit.{GroundLit}
 use Rattle.kp_ground.specs.declared.flat.Atom.{Atom}
+use Rattle.kp_ground.specs.declared.flat.FlatEffect.{FlatEffect}
 use Rattle.kp_ground.specs.Static.{HasStaticTruth, settled, remaining}
-use Rattle.kp_ground.specs.Flattening.{flat, flat_fires}
+use Rattle.kp_ground.specs.Flattening.{same_flat, flat, flat_fires}
 use Rattle.kp_ground.specs.Ground.{kept_bindings, kept_instances, atom_of, occurring, atom_before, ground_atoms, IsNumbering, action_of, ground_over, ground_of, seen_on}
 
 -- ---- conditions, effects and static truth
@@ -25,6 +27,10 @@ IsSplit = (l : Lifted) (s : State) → HasStaticTruth l s → (b : Binding) (c :
 -- the flat effects fire just what the effect fires, in the same order
 abbrev pub IsFlatExact : Type 0
 IsFlatExact = (l : Lifted) (s : State) → HasStaticTruth l s → (b : Binding) (e : Eff) → flat_fires s (flat l b e) ≡ fires s b e
+
+-- each effect once fires the same literals
+abbrev pub IsOnceExact : Type 0
+IsOnceExact = (s : State) (fs : List FlatEffect) (m : GroundLit) → names_literal (flat_fires s (each_once same_flat fs)) m ≡ names_literal (flat_fires s fs) m
 
 -- in an initial state the atoms of static predicates are as `:init` says
 abbrev pub IsStaticAtFirst : Type 0

@@ -1,6 +1,6 @@
 //! Laws of the ground problem, each proved as the contract of a function that does nothing.
 
-ghost use Rattle.kp_ground.specs.Laws.{IsSplit, IsFlatExact, IsStaticAtFirst, IsStaticKept, AtomsAreNumbered, IsStepExact, IsKeptExact, IsPlanExact, AreNamedBySteps, AreNamedOnce};
+ghost use Rattle.kp_ground.specs.Laws.{IsSplit, IsFlatExact, IsOnceExact, IsStaticAtFirst, IsStaticKept, AtomsAreNumbered, IsStepExact, IsKeptExact, IsPlanExact, AreNamedBySteps, AreNamedOnce};
 
 /// A condition holds where its static literals and equalities are true and what remains of it holds.
 #[tactic(auto, using(crate::proofs::Flattening::split))]
@@ -12,6 +12,12 @@ pub fn conditions_split()
 #[tactic(auto, using(crate::proofs::Flattening::flat_exact))]
 pub fn flat_effects_are_exact()
     ensures { IsFlatExact }
+{}
+
+/// Where effects are repeated, leaving the repeats out changes nothing.
+#[tactic(auto, using(crate::proofs::Step::once_exact))]
+pub fn repeats_fire_nothing_more()
+    ensures { IsOnceExact }
 {}
 
 /// In an initial state the atoms of static predicates are as `:init` says.

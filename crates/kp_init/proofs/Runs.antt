@@ -32,8 +32,8 @@ use Rattle.kp_meaning.proofs.PlainGoals.{goals_plain}
 use Rattle.kp_meaning.proofs.Texts.{solves_theirs}
 use Rattle.kp_ground.specs.declared.flat.Atom.{Atom}
 use Rattle.kp_ground.specs.Static.{remaining}
-use Rattle.kp_ground.specs.Flattening.{flat, flat_of}
-use Rattle.kp_ground.specs.Ground.{kept_bindings, kept_instances, atom_of, effect_literals, flat_literals, kept_literals, open_literals, ground_atoms, number_of, numbered, numbered_set, IsNumbering, numbered_effect, same_effect, is_idle, ground_pre, ground_effects, action_of, actions_of, ground_over, ground_of, seen_on}
+use Rattle.kp_ground.specs.Flattening.{same_flat, flat, flat_of}
+use Rattle.kp_ground.specs.Ground.{kept_bindings, kept_instances, atom_of, effect_literals, instance_literals, kept_literals, open_literals, ground_atoms, number_of, numbered, numbered_set, IsNumbering, numbered_effect, is_idle, ground_pre, ground_effects, action_of, actions_of, ground_over, ground_of, seen_on}
 use Rattle.kp_ground.specs.Laws.{action_name}
 use Rattle.kp_ground.proofs.Atoms.{atoms_are_numbered, number_there}
 use Rattle.kp_ground.proofs.Step.{Covered, occurs}
@@ -96,17 +96,17 @@ module _ (l : Lifted) (atoms : List Atom) (numbering : IsNumbering l atoms) wher
   kept_below a os at kept =
       and_from (are_below (length atoms) (ground_pre l atoms a os)) (list_all (λ e. are_below (length atoms) e.cond) (ground_effects l atoms a os))
       (set_below (remaining l os a.pre) (λ m j. covered m (member_left (remaining l os a.pre) (flat_map effect_literals (flat l os a.effect)) m j)))
-      (all_filter (λ e. are_below (length atoms) e.cond) (λ d. not_idle d) (each_once same_effect (map (numbered_effect atoms) (flat l os a.effect)))
-      (all_each_once same_effect (λ e. are_below (length atoms) e.cond) (map (numbered_effect atoms) (flat l os a.effect))
-      (list_all-map (λ e. are_below (length atoms) e.cond) (numbered_effect atoms) (flat l os a.effect)
-      ∙ all_from (λ f. are_below (length atoms) (numbered_set atoms f.cond)) (flat l os a.effect)
+      (all_filter (λ e. are_below (length atoms) e.cond) (λ d. not_idle d) (map (numbered_effect atoms) (flat_of l a os).effects)
+      (list_all-map (λ e. are_below (length atoms) e.cond) (numbered_effect atoms) (flat_of l a os).effects
+      ∙ all_each_once same_flat (λ f. are_below (length atoms) (numbered_set atoms f.cond)) (flat l os a.effect)
+      (all_from (λ f. are_below (length atoms) (numbered_set atoms f.cond)) (flat l os a.effect)
       (λ f j. set_below f.cond (λ m h. covered m (member_right (remaining l os a.pre) (flat_map effect_literals (flat l os a.effect)) m (member_flat_map effect_literals (flat l os a.effect) f m j (member_left f.cond (f.result ∷ []) m h))))))))
     where
-      covered : (m : GroundLit) → Member (flat_literals (flat_of l a os)) m → Covered atoms m
+      covered : (m : GroundLit) → Member (instance_literals l a os) m → Covered atoms m
       covered m j = numbering.covers m (occurs l a os at kept m j)
 
       not_idle : Effect → Bool
-      not_idle d = not (is_idle (ground_pre l atoms a os) (each_once same_effect (map (numbered_effect atoms) (flat l os a.effect))) d)
+      not_idle d = not (is_idle (ground_pre l atoms a os) (map (numbered_effect atoms) (flat_of l a os).effects) d)
 
   actions_below : list_all (action_below (length atoms)) (ground_over l atoms).actions ≡ true
   actions_below = all_flat_map (action_below (length atoms)) (actions_of l atoms) l.schemas (λ a at.

@@ -7,7 +7,7 @@ use Rattle.kp_base.specs.declared.ground.Effect.{Effect as GroundEffect}
 use Rattle.kp_base.specs.declared.ground.Action.{Action}
 use Rattle.kp_base.specs.declared.ground.Ground.{Ground}
 use Rattle.kp_base.specs.Lit.{negated}
-use Rattle.kp_base.specs.LitSet.{with_lit}
+use Rattle.kp_base.specs.LitSet.{set_of}
 use Rattle.kp_meaning.specs.Encoding.{encoded}
 use Rattle.kp_meaning.specs.Strip.{do_front}
 
@@ -57,9 +57,8 @@ facts_of_atom t n = atom_fact t true n ∷ atom_fact t false n ∷ []
 -- ---- operators
 
 -- the negations of some literals, as a set
-abbrev pub opposites : List Lit → List Lit → List Lit
-opposites [] done = done
-opposites (l ∷ ls) done = opposites ls (with_lit (negated l) done)
+abbrev pub opposites : List Lit → List Lit
+opposites ls = set_of (map negated ls)
 
 -- the literal is known, or not known
 abbrev pub known : List GroundName → ℕ → Bool → Lit → Signed
@@ -71,7 +70,7 @@ support atoms t e = record { conds = map (known atoms t true) e.cond; result = k
 
 -- where the negation of no condition is known, the negation of the result is known no longer
 abbrev pub cancellation : List GroundName → ℕ → GroundEffect → Effect
-cancellation atoms t e = record { conds = map (known atoms t false) (opposites e.cond []); result = known atoms t false (negated e.result) }
+cancellation atoms t e = record { conds = map (known atoms t false) (opposites e.cond); result = known atoms t false (negated e.result) }
 
 -- both, for the empty tag
 abbrev pub effects_of : List GroundName → GroundEffect → List Effect

@@ -145,7 +145,7 @@ fn put_guarded(
 
 // The negations of the literals.
 fn opposite(alloc: Global, lits: &[Lit]) -> Result<LitSet, Memory>
-    ensures { IfOk result (λ s. s ≡ opposites lits.now []) }
+    ensures { IfOk result (λ s. s ≡ opposites lits.now) }
 {
     let mut set = LitSet::new(alloc);
     for lit in lits {
@@ -161,7 +161,7 @@ fn put_both(
     effect: &Effect,
     denied: &LitSet,
 ) -> Result<(), Memory>
-    requires { denied.now ≡ opposites effect.now.cond [] }
+    requires { denied.now ≡ opposites effect.now.cond }
     ensures { OnOk result (Puts out.old.items out.new.items (each effect_line (effects_of atoms.now effect.now))) }
 {
     put_guarded(out, atoms, true, effect.cond.slice(), effect.result)?;

@@ -9,7 +9,7 @@ use Rattle.kp_base.proofs.Lists.{same-true, same-refl}
 use Rattle.kp_outside.specs.Outside.{FileMap}
 use Rattle.kp_given.specs.Translations.{translation_of}
 use Rattle.kp_given.specs.Laws.{HasInitialState, HasThisProblem}
-use Rattle.kp_given.proofs.NoFault.{files_are_plain, files_have_a_problem}
+use Rattle.kp_given.proofs.PlainFiles.{files_are_plain, files_have_a_problem}
 use Rattle.kp_given.proofs.Consistent.{contradictions}
 use Rattle.kp_sound.proofs.PlainFiles.{plain_files_sound}
 use Rattle.kp_run.specs.declared.status.Status.{Status}

@@ -8,7 +8,7 @@ use Rattle.kp_grammar.specs.Plain as forms
 use Rattle.kp_plain.specs.declared.translation.Translation.{Translation}
 use Rattle.kp_plain.specs.Translations as made
 use Rattle.kp_given.specs.Translations.{translation_of}
-use Rattle.kp_given.proofs.NoFault.{files_are_plain}
+use Rattle.kp_given.proofs.PlainFiles.{files_are_plain}
 use Rattle.kp_given.proofs.Translated.{plain_translations}
 use Rattle.kp_run.specs.declared.answer.Report.{Report}
 use Rattle.kp_run.specs.declared.answer.Report.TheVariants as reports

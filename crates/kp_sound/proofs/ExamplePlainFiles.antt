@@ -1,44 +1,20 @@
 -- Two plain files with one action: each premise of the laws on plain files is met, and a plan of what is written for them strips to their plan.
-use Rattle.std.proofs.Common.{◌≡◌, ℕ, zero, suc, List, [], ◌∷◌, codes, Contains, refl, sym, ap, arith}
-use Rattle.std.proofs.lemmas.Bool.{false≢true}
+use Rattle.std.proofs.Common.{◌≡◌, [], ◌∷◌, refl}
 use Rattle.kp_base.specs.Clashes.{NeverClashes}
-use Rattle.kp_grammar.proofs.ExamplesPlain.{exchange, exchange_tree, exchange_plain, from_p_to_q, from_p_to_q_tree, from_p_to_q_plain}
-use Rattle.kp_meaning.specs.Names.{same}
+use Rattle.kp_grammar.proofs.ExamplesPlain.{exchange, exchange_tree, from_p_to_q, from_p_to_q_tree}
 use Rattle.kp_meaning.specs.Plans.{IsPlan}
-use Rattle.kp_given.specs.PlainFiles.{IsDomain, IsProblem}
 use Rattle.kp_given.specs.PlainGround.{ArePlain}
 use Rattle.kp_given.specs.Translations.{ground_of, initial_of, start_of, translation_of}
-use Rattle.kp_given.proofs.NoFault.{files_are_plain}
+use Rattle.kp_given.proofs.PlainFiles.{files_are_plain}
+use Rattle.kp_given.proofs.ExampleWritable.{texts}
 use Rattle.kp_write.specs.Runs.{step_of}
 use Rattle.kp_write.proofs.ExampleFiles.{a}
 use Rattle.kp_write.proofs.ExampleGrounds.{ground, start, its_plan}
 use Rattle.kp_sound.specs.Laws.{StripsToPlan}
 use Rattle.kp_sound.proofs.PlainFiles.{plain_never_clash, plain_files_sound}
 
--- ---- the files are plain
-
-not_p : Contains (codes "q" ∷ []) (codes "p") → ⊥
-not_p (zero, below, is) = false≢true (sym (ap (same (codes "q")) is))
-not_p (suc n, below, is) = absurd (omega arith)
-
-none : (w : List ℕ) → Contains [] w → ⊥
-none w (n, below, is) = absurd (omega arith)
-
-pub is_domain : IsDomain exchange exchange_tree
-is_domain = record {
-  form = exchange_plain;
-  names = record {
-    predicates = (not_p, (none (codes "q"), tt));
-    schemas = (none (codes "a"), tt);
-    heads = ((0, omega arith, refl), ((1, omega arith, refl), ((0, omega arith, refl), tt)));
-  };
-}
-
-pub is_problem : IsProblem exchange_tree from_p_to_q from_p_to_q_tree
-is_problem = record { form = from_p_to_q_plain; heads = ((0, omega arith, refl), ((1, omega arith, refl), tt)) }
-
 are_plain : ArePlain exchange_tree from_p_to_q_tree
-are_plain = files_are_plain exchange from_p_to_q exchange_tree from_p_to_q_tree is_domain is_problem
+are_plain = files_are_plain exchange from_p_to_q exchange_tree from_p_to_q_tree texts
 
 never : NeverClashes (ground_of exchange_tree from_p_to_q_tree) (initial_of exchange_tree from_p_to_q_tree)
 never = plain_never_clash exchange_tree from_p_to_q_tree are_plain
@@ -57,4 +33,4 @@ written_plan : IsPlan (translation_of exchange_tree from_p_to_q_tree).domain (tr
 written_plan = its_plan
 
 strips_to_plan : StripsToPlan exchange from_p_to_q (step_of a ∷ [])
-strips_to_plan = plain_files_sound exchange from_p_to_q exchange_tree from_p_to_q_tree is_domain is_problem (step_of a ∷ []) written_plan
+strips_to_plan = plain_files_sound exchange from_p_to_q exchange_tree from_p_to_q_tree texts (step_of a ∷ []) written_plan

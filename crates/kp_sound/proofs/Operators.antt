@@ -8,13 +8,12 @@ use Rattle.kp_base.specs.declared.ground.Effect.{Effect}
 use Rattle.kp_base.specs.declared.ground.Action.{Action}
 use Rattle.kp_base.specs.declared.ground.Ground.{Ground}
 use Rattle.kp_base.specs.Lit.{negated, same_lit}
-use Rattle.kp_base.specs.LitSet.{with_lit}
 use Rattle.kp_base.specs.Lists.{only_if}
 use Rattle.kp_base.specs.Steps as steps
 use Rattle.kp_base.specs.Steps.{fires}
 use Rattle.kp_base.specs.Machine.{MachineStep, Known, start as known_at_start, facts_after, after_act, accepts_from, accepts, one_tag_table}
 use Rattle.kp_base.proofs.Lists.{member_at}
-use Rattle.kp_base.proofs.Sets.{all-with_lit}
+use Rattle.kp_base.proofs.Sets.{all-set_of}
 use Rattle.kp_meaning.specs.Names.{same, is_among}
 use Rattle.kp_plain.specs.Task.{Signed, fact_of, opposites, known, support, cancellation, effects_of, op_of, facts_for}
 use Rattle.kp_write.specs.Grounds.{IsGroundName, same_name, IsOfAtom, AreOfAtoms, IsGroundEffect, IsGroundAction, IsWritable}
@@ -31,17 +30,12 @@ made_first true r rest holds n = refl
 made_first false r rest holds n = refl
 
 -- negations of literals all pass where the literals' negations do
-all_opposites : (k : Lit → Bool) (ls done : List Lit) → list_all k (opposites ls done) ≡ (list_all k done && list_all (λ l. k (negated l)) ls)
-all_opposites k [] done = turned (list_all k done)
+all_opposites : (k : Lit → Bool) (ls : List Lit) → list_all k (opposites ls) ≡ list_all (λ l. k (negated l)) ls
+all_opposites k ls = all-set_of k (map negated ls) ∙ negations ls
   where
-    turned : (a : Bool) → a ≡ (a && true)
-    turned true = refl
-    turned false = refl
-all_opposites k (l ∷ ls) done = all_opposites k ls (with_lit (negated l) done) ∙ rw (all-with_lit k (negated l) done) (joined (list_all k done) (k (negated l)) (list_all (λ m. k (negated m)) ls))
-  where
-    joined : (a b c : Bool) → ((a && b) && c) ≡ (a && (b && c))
-    joined true b c = refl
-    joined false b c = refl
+    negations : (ls : List Lit) → list_all k (map negated ls) ≡ list_all (λ l. k (negated l)) ls
+    negations [] = refl
+    negations (l ∷ ls) = ap (λ t. k (negated l) && t) (negations ls)
 
 module _ (atoms : List GroundName) (names : AllByRecursion IsGroundName atoms) (differ : IsDistinct same_name atoms) where
   -- the fact of each literal of an atom holds where the machine knows the literal
@@ -61,8 +55,8 @@ module _ (atoms : List GroundName) (names : AllByRecursion IsGroundName atoms) (
     are_unknown [] h = refl
     are_unknown (l ∷ ls) h = rw (agree l h.0, are_unknown ls h.1) refl
 
-    opposites_unknown : (ls : List Lit) → AreOfAtoms atoms ls → list_all (is_so s) (map (known atoms 0 false) (opposites ls [])) ≡ list_all (λ l. not (k (negated l))) ls
-    opposites_unknown ls h = are_unknown (opposites ls []) (opposites_of atoms ls [] h tt) ∙ all_opposites (λ l. not (k l)) ls []
+    opposites_unknown : (ls : List Lit) → AreOfAtoms atoms ls → list_all (is_so s) (map (known atoms 0 false) (opposites ls)) ≡ list_all (λ l. not (k (negated l))) ls
+    opposites_unknown ls h = are_unknown (opposites ls) (opposites_of atoms ls h) ∙ all_opposites (λ l. not (k l)) ls
 
     -- what the effects of actions make of facts
     abbrev made : List Effect → List Signed

@@ -19,7 +19,7 @@ use Rattle.kp_plain.specs.Ground as plain
 use Rattle.kp_plain.specs.Ground.{is_idle, lasting, atoms_of, numbered, results_of, action_of, kept}
 use Rattle.kp_given.specs.Translations.{initial_of, translation_of}
 use Rattle.kp_given.proofs.GroundProblems.{plain_ground}
-use Rattle.kp_given.proofs.NoFault.{files_are_plain, files_have_a_problem}
+use Rattle.kp_given.proofs.PlainFiles.{files_are_plain, files_have_a_problem}
 use Rattle.kp_given.proofs.Writable.{starts_writable}
 use Rattle.kp_machine.proofs.OneSided.{never_clashes}
 use Rattle.kp_sound.specs.Laws.{IsSafelyWritten, PlainTreesNeverClash, PlainFilesAreSound}
@@ -83,10 +83,10 @@ abbrev Asked : List Step → Domain Word → Problem Word → Type 0
 Asked steps d p = IsSafelyWritten d p × IsPlan (translation_of d p).domain (translation_of d p).problem steps
 
 pub plain_files_sound : PlainFilesAreSound
-plain_files_sound domain problem d p is_domain is_problem steps plan =
-    let trees = files_are_plain domain problem d p is_domain is_problem in
-    let has = files_have_a_problem domain problem d p is_domain is_problem in
-    let writable = starts_writable domain problem d p (record { domain = is_domain.form; problem = is_problem.form; no_fault = trees.no_fault }) in
+plain_files_sound domain problem d p plain steps plan =
+    let trees = files_are_plain domain problem d p plain in
+    let has = files_have_a_problem domain problem d p plain in
+    let writable = starts_writable domain problem d p plain in
     let here : Asked steps d p = (record { writable = writable; no_clash = plain_never_clash d p trees }, plan) in
     let there : Asked steps has.has.domain has.has.problem = subst (λ (x : Domain Word). Asked steps x has.has.problem) (sym has.domain) (subst (λ (y : Problem Word). Asked steps d y) (sym has.problem) here) in
     plans_strip domain problem has.has there.0 steps there.1

@@ -17,7 +17,7 @@ use Rattle.kp_meaning.specs.Encoding.{encoded}
 use Rattle.kp_meaning.specs.Strip.{do_front, strip}
 use Rattle.kp_meaning.specs.NumberLaws.{is_plain_goal}
 use Rattle.kp_ground.specs.Laws.{action_name}
-use Rattle.kp_given.specs.PlainFiles.{IsDomain, IsProblem}
+use Rattle.kp_given.specs.PlainFiles.{ArePlainTexts}
 use Rattle.kp_given.specs.PlainGround.{ArePlain}
 use Rattle.kp_given.specs.Translations.{ground_of, initial_of, start_of, translation_of}
 use Rattle.kp_write.specs.Grounds.{IsWritable, domain_file, problem_file}
@@ -100,4 +100,4 @@ PlainTreesNeverClash = (d : Domain Word) (p : Problem Word) → ArePlain d p →
 
 -- each plan of the translation of two plain files strips to a plan of the files
 abbrev pub PlainFilesAreSound : Type 0
-PlainFilesAreSound = (domain problem : List ℕ) (d : Domain Word) (p : Problem Word) → IsDomain domain d → IsProblem d problem p → PlansStrip (translation_of d p).domain (translation_of d p).problem domain problem
+PlainFilesAreSound = (domain problem : List ℕ) (d : Domain Word) (p : Problem Word) → ArePlainTexts domain problem d p → PlansStrip (translation_of d p).domain (translation_of d p).problem domain problem

@@ -1,5 +1,5 @@
 -- The task of a ground problem that can be written is a task.
-use Rattle.std.proofs.Common.{◌≡◌, ◌<◌, ℕ, zero, suc, Bool, true, false, if◌then◌else◌, nat_lt, ◌==◌, List, [], ◌∷◌, ◌++◌, map, length, slice_get, codes, inl, inr, refl, arith}
+use Rattle.std.proofs.Common.{◌≡◌, ◌<◌, ℕ, zero, suc, Bool, true, false, if◌then◌else◌, nat_lt, ◌==◌, List, [], ◌∷◌, ◌++◌, map, length, slice_get, fold, codes, inl, inr, refl, arith}
 use Rattle.std.specs.List.{AllByRecursion, IsDistinct, flat_map}
 use Rattle.kp_base.specs.declared.lit.Lit.{Lit}
 use Rattle.kp_base.specs.declared.ground.GroundName.{GroundName}
@@ -66,9 +66,11 @@ with_one P l (x ∷ xs) p h = go (with_one P l xs p h.1) (nat_lt (code_of l) (co
   go later false true = h
   go later false false = (h.0, later)
 
-pub opposites_of : (atoms : List GroundName) (ls done : List Lit) → AreOfAtoms atoms ls → AreOfAtoms atoms done → AreOfAtoms atoms (opposites ls done)
-opposites_of atoms [] done h k = k
-opposites_of atoms (l ∷ ls) done h k = opposites_of atoms ls (with_lit (negated l) done) h.1 (with_one (IsOfAtom atoms) (negated l) done h.0 k)
+pub opposites_of : (atoms : List GroundName) (ls : List Lit) → AreOfAtoms atoms ls → AreOfAtoms atoms (opposites ls)
+opposites_of atoms ls h = go ls [] h tt where
+  go : (ls set : List Lit) → AreOfAtoms atoms ls → AreOfAtoms atoms set → AreOfAtoms atoms (fold (λ set l. with_lit l set) set (map negated ls))
+  go [] set h k = k
+  go (l ∷ ls) set h k = go ls (with_lit (negated l) set) h.1 (with_one (IsOfAtom atoms) (negated l) set h.0 k)
 
 conds_among : (atoms : List GroundName) (b : Bool) (ls : List Lit) → AreOfAtoms atoms ls → AllByRecursion (λ s. Member (facts atoms) s.fact) (map (known atoms 0 b) ls)
 conds_among atoms b ls h = mapped (IsOfAtom atoms) (λ s. Member (facts atoms) s.fact) (known atoms 0 b) (fact_among atoms) ls h
@@ -78,7 +80,7 @@ effects_on atoms [] h = tt
 effects_on atoms (e ∷ es) h = (
   record { conds = conds_among atoms true e.cond h.0.conds; result = fact_among atoms e.result h.0.result },
   (
-    record { conds = conds_among atoms false (opposites e.cond []) (opposites_of atoms e.cond [] h.0.conds tt); result = fact_among atoms (negated e.result) h.0.result },
+    record { conds = conds_among atoms false (opposites e.cond) (opposites_of atoms e.cond h.0.conds); result = fact_among atoms (negated e.result) h.0.result },
     effects_on atoms es h.1,
   ),
 )
