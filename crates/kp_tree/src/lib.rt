@@ -1,12 +1,16 @@
 //! Trees of whole files, and the exact place of each refusal. `specs/Files.antt` says which files are read and how the others are refused.
 #![tactic(auto)]
 
+mod copy;
+mod laws;
 mod node;
 
+pub use copy::{copy_domain, copy_problem};
 pub use kp_grammar::{
     AtomTree, CondTree, Domain, EffTree, ItemTree, LitTree, PredTree, Problem, SchemaTree,
     TermTree, Typed, Word, plain_domain, plain_problem,
 };
+pub use laws::a_file_has_one_answer;
 pub use node::{
     AtomNode, CondNode, DomainNode, EffNode, ItemNode, LitNode, PredNode, ProblemNode, SchemaNode,
     TermNode, TypedNode, WordNode,

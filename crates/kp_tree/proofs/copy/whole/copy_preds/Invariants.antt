@@ -1,0 +1,8 @@
+use Rattle.std.proofs.Common.{◌≡◌, map, take}
+use Rattle.kp_grammar.specs.View as owned
+use Rattle.kp_tree.specs.Nodes.{pred_view}
+use Rattle.kp_tree.proofs.copy.whole.copy_preds.Given as goal
+
+-- the copies are equal to the parts before this one
+abbrev pub invariant-copies : goal.invariant-copies
+invariant-copies l = map owned.pred_view l.copies ≡ map pred_view (take l.node-index l.nodes)
