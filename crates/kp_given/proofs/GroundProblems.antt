@@ -1,5 +1,5 @@
 -- The ground problem of plain trees is that of their problem by number.
-use Rattle.std.proofs.Common.{◌≡◌, Bool, true, false, not, cond, ◌&&◌, ◌||◌, List, [], ◌∷◌, ◌++◌, map, filter, slice_get, Some, nat_eq, eqb-true, eq-eqb, refl, sym, ap, subst, ◌∙◌, inl, inr}
+use Rattle.std.proofs.Common.{◌≡◌, ℕ, Bool, true, false, not, cond, ◌&&◌, ◌||◌, List, [], ◌∷◌, ◌++◌, map, filter, slice_get, Some, nat_eq, eqb-true, eq-eqb, refl, sym, ap, subst, ◌∙◌, inl, inr}
 use Rattle.std.specs.Bool.{beq}
 use Rattle.std.specs.List.{list_any, list_all, flat_map}
 use Rattle.std.proofs.lemmas.Bool.{and_parts, and_from}
@@ -52,6 +52,10 @@ in_heads xs x h = let r = any_member (same x) xs h in subst (Member xs) (sym (sa
 -- an effect without conditions
 abbrev bare : Lit → Effect
 bare l = record { cond = []; result = l }
+
+-- the atoms of two predicates are one only where these are
+same_number : (i j : ℕ) → Some (bare_atom i) ≡ Some (bare_atom j) → i ≡ j
+same_number i j e = let one : bare_atom i ≡ bare_atom j = cc in ap (λ (a : Atom). a.pred) one
 
 idle_bare : (pre : List Lit) (all : List Lit) (l : Lit) → is_idle pre (map bare all) (bare l) ≡ plain.is_idle all l
 idle_bare pre all l = ap (λ t. not l.positive && t) (go all)
@@ -326,7 +330,7 @@ module _ (d : Domain Word) (p : Problem Word) (pd : IsPlainDomain d) (pp : IsPla
         let parts = and_parts (nat_eq (plain.place A l.head) (plain.place A n.head)) (beq l.positive n.positive) h in
         let places = place_is N A l.head (result_known l i) A_among ∙ (eqb-true (plain.place A l.head) (plain.place A n.head) parts.0 ∙ sym (place_is N A n.head (result_known n j) A_among)) in
         let there : Some (atom l.head) ≡ Some (atom n.head) = sym (result_there l i) ∙ (ap (slice_get (map atom A)) places ∙ result_there n j) in
-        let index : index_of N l.head ≡ index_of N n.head = cc in
+        let index : index_of N l.head ≡ index_of N n.head = same_number (index_of N l.head) (index_of N n.head) there in
         and_from (same_literal (by_number d l) (by_number d n)) true
         (and_from (beq l.positive n.positive) (nat_eq (index_of N l.head) (index_of N n.head) && true) parts.1 (and_from (nat_eq (index_of N l.head) (index_of N n.head)) true (eq-eqb (index_of N l.head) (index_of N n.head) index) refl)) refl)
         (λ h.

@@ -39,6 +39,7 @@ any_flat p f [] = refl
 any_flat p f (x ∷ xs) = ap (λ t. list_any p (f x) || t) (any_flat p f xs) ∙ sym (list_any-append p (f x) (flat_map f xs))
 
 once_member : {X : Type 0} (same : X → X → Bool) (xs : List X) (x : X) → Member (each_once same xs) x → Member xs x
+once_member same [] y m = absurd m
 once_member same (x ∷ xs) y (inl e) = inl e
 once_member same (x ∷ xs) y (inr m) = inr (once_member same xs y (filter_member (λ z. not (same x z)) (each_once same xs) y m).0)
 
