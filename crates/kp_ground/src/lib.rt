@@ -8,5 +8,6 @@ pub use flat::{Atom, Flat, FlatEffect};
 pub use laws::{
     actions_are_named_by_steps, actions_are_named_once, atoms_are_numbered, conditions_split,
     flat_effects_are_exact, ground_plans_are_plans, ground_steps_are_exact,
-    only_kept_instances_apply, repeats_fire_nothing_more, static_truth_at_first, static_truth_is_kept,
+    only_kept_instances_apply, repeats_fire_nothing_more, static_truth_at_first,
+    static_truth_is_kept,
 };
