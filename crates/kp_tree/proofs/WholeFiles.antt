@@ -1,20 +1,17 @@
 -- From the answers for tokens to the answers for files.
-use Rattle.std.proofs.Common.{◌≡◌, ℕ, ◌≤◌, Bool, List, length, Result, Ok, Err, sym, subst, ap}
+use Rattle.std.proofs.Common.{◌≡◌, ℕ, ◌≤◌, Bool, List, length, Err, sym, subst}
 use Rattle.kp_base.specs.declared.refused.Part.{Part}
-use Rattle.kp_base.specs.declared.refused.Refused.{Refused}
 use Rattle.kp_base.specs.declared.refused.Refused.TheVariants as refusals
 use Rattle.kp_base.specs.declared.refused.Stop.{Stop}
 use Rattle.kp_base.specs.declared.refused.Stop.TheVariants as causes
 use Rattle.kp_lex.specs.declared.token.Token.{Token}
 use Rattle.kp_lex.specs.Cutting.{Cut}
-use Rattle.kp_lex.specs.Places.{place_of}
 use Rattle.kp_lex.specs.Answers.{IsRight}
 use Rattle.kp_grammar.specs.declared.tree.Word.{Word}
-use Rattle.kp_grammar.specs.Symbols.{Tok, all_seen_in}
+use Rattle.kp_grammar.specs.Symbols.{all_seen_in}
 use Rattle.kp_grammar.specs.Sorts.{Sort, El}
 use Rattle.kp_grammar.specs.Forms.{Form}
-use Rattle.kp_grammar.specs.Reading.{At}
-use Rattle.kp_tree.specs.Files.{most_bytes, ReadsShallow, RefusedAt, refusal_at, Reads, Refuses, bad_token, stops, AnswersTokens, AnswersFile}
+use Rattle.kp_tree.specs.Files.{most_bytes, ReadsShallow, Reads, Refuses, bad_token, stops, AnswersTokens, AnswersFile}
 
 module _ {b : Bool} {c : Sort} (part : Part) (X : Form b c) (text : List ℕ) (short : length text ≤ most_bytes) where
   -- a text that isn't cut is refused at its bad byte
