@@ -1,6 +1,8 @@
 //! Owned copies of the trees of an arena.
 
 mod forms;
+#[cfg(test)]
+mod tests;
 mod whole;
 mod words;
 

@@ -29,11 +29,11 @@ pub fn copy_cond(alloc: Global, node: &CondNode) -> Result<CondTree, Memory>
 fn copy_conds(alloc: Global, nodes: &[CondNode]) -> Result<Row<CondTree>, Memory>
     ensures { IfOk result (λ cs. map owned.cond_view cs ≡ map cond_view nodes.now) }
 {
-    let mut copies = Row::new(alloc);
+    let mut copies = Vec::with_capacity(alloc, nodes.len())?;
     'copies: for node in nodes {
         copies.push(copy_cond(alloc, node)?)?;
     }
-    Ok(copies)
+    Ok(Row::from_vec(copies))
 }
 
 /// An equal effect.
@@ -62,11 +62,11 @@ pub fn copy_eff(alloc: Global, node: &EffNode) -> Result<EffTree, Memory>
 fn copy_effs(alloc: Global, nodes: &[EffNode]) -> Result<Row<EffTree>, Memory>
     ensures { IfOk result (λ es. map owned.eff_view es ≡ map eff_view nodes.now) }
 {
-    let mut copies = Row::new(alloc);
+    let mut copies = Vec::with_capacity(alloc, nodes.len())?;
     'copies: for node in nodes {
         copies.push(copy_eff(alloc, node)?)?;
     }
-    Ok(copies)
+    Ok(Row::from_vec(copies))
 }
 
 /// An equal item of `:init`.
@@ -97,9 +97,9 @@ pub fn copy_item(alloc: Global, node: &ItemNode) -> Result<ItemTree, Memory>
 pub fn copy_items(alloc: Global, nodes: &[ItemNode]) -> Result<Row<ItemTree>, Memory>
     ensures { IfOk result (λ is. map owned.item_view is ≡ map item_view nodes.now) }
 {
-    let mut copies = Row::new(alloc);
+    let mut copies = Vec::with_capacity(alloc, nodes.len())?;
     'copies: for node in nodes {
         copies.push(copy_item(alloc, node)?)?;
     }
-    Ok(copies)
+    Ok(Row::from_vec(copies))
 }

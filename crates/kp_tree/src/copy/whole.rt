@@ -22,11 +22,11 @@ fn copy_pred(alloc: Global, node: &PredNode) -> Result<PredTree, Memory>
 fn copy_preds(alloc: Global, nodes: &[PredNode]) -> Result<Row<PredTree>, Memory>
     ensures { IfOk result (λ ps. map owned.pred_view ps ≡ map pred_view nodes.now) }
 {
-    let mut copies = Row::new(alloc);
+    let mut copies = Vec::with_capacity(alloc, nodes.len())?;
     'copies: for node in nodes {
         copies.push(copy_pred(alloc, node)?)?;
     }
-    Ok(copies)
+    Ok(Row::from_vec(copies))
 }
 
 // An equal schema.
@@ -49,11 +49,11 @@ fn copy_schema(alloc: Global, node: &SchemaNode) -> Result<SchemaTree, Memory>
 fn copy_schemas(alloc: Global, nodes: &[SchemaNode]) -> Result<Row<SchemaTree>, Memory>
     ensures { IfOk result (λ ss. map owned.schema_view ss ≡ map schema_view nodes.now) }
 {
-    let mut copies = Row::new(alloc);
+    let mut copies = Vec::with_capacity(alloc, nodes.len())?;
     'copies: for node in nodes {
         copies.push(copy_schema(alloc, node)?)?;
     }
-    Ok(copies)
+    Ok(Row::from_vec(copies))
 }
 
 /// A domain that owns its parts, equal to that of the arena part by part.

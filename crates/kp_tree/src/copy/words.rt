@@ -32,11 +32,11 @@ pub fn copy_word(alloc: Global, node: &WordNode) -> Result<Word, Memory>
 fn copy_words(alloc: Global, nodes: &[WordNode]) -> Result<Row<Word>, Memory>
     ensures { IfOk result (λ ws. ws ≡ map word_view nodes.now) }
 {
-    let mut copies = Row::new(alloc);
+    let mut copies = Vec::with_capacity(alloc, nodes.len())?;
     'copies: for node in nodes {
         copies.push(copy_word(alloc, node)?)?;
     }
-    Ok(copies)
+    Ok(Row::from_vec(copies))
 }
 
 // An equal word with its types.
@@ -52,11 +52,11 @@ fn copy_typed(alloc: Global, node: &TypedNode) -> Result<Typed, Memory>
 pub fn copy_typeds(alloc: Global, nodes: &[TypedNode]) -> Result<Row<Typed>, Memory>
     ensures { IfOk result (λ ts. map owned.typed_view ts ≡ map typed_view nodes.now) }
 {
-    let mut copies = Row::new(alloc);
+    let mut copies = Vec::with_capacity(alloc, nodes.len())?;
     'copies: for node in nodes {
         copies.push(copy_typed(alloc, node)?)?;
     }
-    Ok(copies)
+    Ok(Row::from_vec(copies))
 }
 
 /// An equal term.
@@ -73,11 +73,11 @@ pub fn copy_term(alloc: Global, node: &TermNode) -> Result<TermTree, Memory>
 fn copy_terms(alloc: Global, nodes: &[TermNode]) -> Result<Row<TermTree>, Memory>
     ensures { IfOk result (λ ts. map owned.term_view ts ≡ map term_view nodes.now) }
 {
-    let mut copies = Row::new(alloc);
+    let mut copies = Vec::with_capacity(alloc, nodes.len())?;
     'copies: for node in nodes {
         copies.push(copy_term(alloc, node)?)?;
     }
-    Ok(copies)
+    Ok(Row::from_vec(copies))
 }
 
 /// An equal atom.
@@ -103,9 +103,9 @@ fn copy_lit(alloc: Global, node: &LitNode) -> Result<LitTree, Memory>
 pub fn copy_lits(alloc: Global, nodes: &[LitNode]) -> Result<Row<LitTree>, Memory>
     ensures { IfOk result (λ ls. map owned.lit_view ls ≡ map lit_view nodes.now) }
 {
-    let mut copies = Row::new(alloc);
+    let mut copies = Vec::with_capacity(alloc, nodes.len())?;
     'copies: for node in nodes {
         copies.push(copy_lit(alloc, node)?)?;
     }
-    Ok(copies)
+    Ok(Row::from_vec(copies))
 }

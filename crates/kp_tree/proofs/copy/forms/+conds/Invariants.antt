@@ -5,4 +5,4 @@ use Rattle.kp_tree.proofs.copy.forms.+conds.Given as goal
 
 -- the copies are equal to the parts before this one
 abbrev pub invariant-copy_conds-copies : goal.invariant-copy_conds-copies
-invariant-copy_conds-copies l = map owned.cond_view l.copies ≡ map cond_view (take l.node-index l.nodes)
+invariant-copy_conds-copies l = map owned.cond_view l.copies.items ≡ map cond_view (take l.node-index l.nodes)

@@ -5,4 +5,4 @@ use Rattle.kp_tree.proofs.copy.forms.+effs.Given as goal
 
 -- the copies are equal to the parts before this one
 abbrev pub invariant-copy_effs-copies : goal.invariant-copy_effs-copies
-invariant-copy_effs-copies l = map owned.eff_view l.copies ≡ map eff_view (take l.node-index l.nodes)
+invariant-copy_effs-copies l = map owned.eff_view l.copies.items ≡ map eff_view (take l.node-index l.nodes)

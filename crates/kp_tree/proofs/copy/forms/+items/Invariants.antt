@@ -5,4 +5,4 @@ use Rattle.kp_tree.proofs.copy.forms.+items.Given as goal
 
 -- the copies are equal to the parts before this one
 abbrev pub invariant-copy_items-copies : goal.invariant-copy_items-copies
-invariant-copy_items-copies l = map owned.item_view l.copies ≡ map item_view (take l.node-index l.nodes)
+invariant-copy_items-copies l = map owned.item_view l.copies.items ≡ map item_view (take l.node-index l.nodes)

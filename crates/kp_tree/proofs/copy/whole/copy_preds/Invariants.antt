@@ -5,4 +5,4 @@ use Rattle.kp_tree.proofs.copy.whole.copy_preds.Given as goal
 
 -- the copies are equal to the parts before this one
 abbrev pub invariant-copies : goal.invariant-copies
-invariant-copies l = map owned.pred_view l.copies ≡ map pred_view (take l.node-index l.nodes)
+invariant-copies l = map owned.pred_view l.copies.items ≡ map pred_view (take l.node-index l.nodes)

@@ -5,4 +5,4 @@ use Rattle.kp_tree.proofs.copy.whole.copy_schemas.Given as goal
 
 -- the copies are equal to the parts before this one
 abbrev pub invariant-copies : goal.invariant-copies
-invariant-copies l = map owned.schema_view l.copies ≡ map schema_view (take l.node-index l.nodes)
+invariant-copies l = map owned.schema_view l.copies.items ≡ map schema_view (take l.node-index l.nodes)

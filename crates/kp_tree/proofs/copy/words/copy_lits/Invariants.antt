@@ -5,4 +5,4 @@ use Rattle.kp_tree.proofs.copy.words.copy_lits.Given as goal
 
 -- the copies are equal to the parts before this one
 abbrev pub invariant-copies : goal.invariant-copies
-invariant-copies l = map owned.lit_view l.copies ≡ map lit_view (take l.node-index l.nodes)
+invariant-copies l = map owned.lit_view l.copies.items ≡ map lit_view (take l.node-index l.nodes)

@@ -5,4 +5,4 @@ use Rattle.kp_tree.proofs.copy.words.copy_typeds.Given as goal
 
 -- the copies are equal to the parts before this one
 abbrev pub invariant-copies : goal.invariant-copies
-invariant-copies l = map owned.typed_view l.copies ≡ map typed_view (take l.node-index l.nodes)
+invariant-copies l = map owned.typed_view l.copies.items ≡ map typed_view (take l.node-index l.nodes)

@@ -4,4 +4,4 @@ use Rattle.kp_tree.proofs.copy.words.copy_words.Given as goal
 
 -- the copies are equal to the words before this one
 abbrev pub invariant-copies : goal.invariant-copies
-invariant-copies l = l.copies ≡ map word_view (take l.node-index l.nodes)
+invariant-copies l = l.copies.items ≡ map word_view (take l.node-index l.nodes)
