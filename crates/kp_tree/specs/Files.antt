@@ -5,7 +5,7 @@ use Rattle.kp_base.specs.declared.refused.Place.{Place}
 use Rattle.kp_base.specs.declared.refused.Refused.{Refused}
 use Rattle.kp_base.specs.declared.refused.Refused.TheVariants as refusals
 use Rattle.kp_base.specs.declared.refused.Stop.{Stop}
-use Rattle.kp_base.specs.declared.refused.Stop.TheVariants as stops
+use Rattle.kp_base.specs.declared.refused.Stop.TheVariants as causes
 use Rattle.kp_lex.specs.declared.token.Token.{Token}
 use Rattle.kp_lex.specs.Cutting.{Cut, BadAt}
 use Rattle.kp_lex.specs.Places.{place_of}
@@ -70,14 +70,14 @@ pub data Refuses (part : Part) {b : Bool} {c : Sort} (X : Form b c) (text : List
 -- of tokens: their tree, or the refusal at the first token that is refused; want of memory is free
 abbrev pub AnswersTokens : {T : Type 0} (part : Part) {b : Bool} {c : Sort} (X : Form b c) (view : T → El Word c) (text : List ℕ) (tokens : List Token) → Result T Stop → Type 0
 AnswersTokens part X view text tokens (Ok tree) = ReadsShallow X (all_seen_in text tokens) (view tree)
-AnswersTokens part X view text tokens (Err stops.Memory) = Unit {0}
-AnswersTokens part X view text tokens (Err (stops.Refused r)) = (at : At Word) × (RefusedAt X (all_seen_in text tokens) at × (r ≡ refusal_at part text at))
+AnswersTokens part X view text tokens (Err causes.Memory) = Unit {0}
+AnswersTokens part X view text tokens (Err (causes.Refused r)) = (at : At Word) × (RefusedAt X (all_seen_in text tokens) at × (r ≡ refusal_at part text at))
 
 -- of a file: its tree, or its refusal; want of memory is free
 abbrev pub AnswersFile : {T : Type 0} (part : Part) {b : Bool} {c : Sort} (X : Form b c) (view : T → El Word c) (text : List ℕ) → Result T Stop → Type 0
 AnswersFile part X view text (Ok tree) = Reads X text (view tree)
-AnswersFile part X view text (Err stops.Memory) = Unit {0}
-AnswersFile part X view text (Err (stops.Refused r)) = Refuses part X text r
+AnswersFile part X view text (Err causes.Memory) = Unit {0}
+AnswersFile part X view text (Err (causes.Refused r)) = Refuses part X text r
 
 -- ---- laws: one tree, or else one refusal
 

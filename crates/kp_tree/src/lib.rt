@@ -1,7 +1,22 @@
 //! Trees of whole files, and the exact place of each refusal. `specs/Files.antt` says which files are read and how the others are refused.
 #![tactic(auto)]
 
+mod atoms;
+mod conds;
+mod cursor;
+mod domains;
+mod effects;
+mod halt;
+mod items;
+mod lexeme;
 mod node;
+mod parse;
+mod problems;
+mod runs;
+mod sections;
+mod symbols;
+mod titles;
+mod typed;
 
 pub use kp_grammar::{
     AtomTree, CondTree, Domain, EffTree, ItemTree, LitTree, PredTree, Problem, SchemaTree,
@@ -11,3 +26,7 @@ pub use node::{
     AtomNode, CondNode, DomainNode, EffNode, ItemNode, LitNode, PredNode, ProblemNode, SchemaNode,
     TermNode, TypedNode, WordNode,
 };
+pub use parse::{parse_domain, parse_problem};
+
+#[cfg(test)]
+mod tests;
