@@ -1,2 +1,7 @@
 pub mod Nodes
 pub mod Files
+pub mod Lexemes
+pub mod Readers
+pub mod Sections
+pub mod Givens
+pub mod Refusals

@@ -3,7 +3,22 @@
 
 mod copy;
 mod laws;
+mod atoms;
+mod conds;
+mod cursor;
+mod domains;
+mod effects;
+mod halt;
+mod items;
+mod lexeme;
 mod node;
+mod parse;
+mod problems;
+mod runs;
+mod sections;
+mod symbols;
+mod titles;
+mod typed;
 
 pub use copy::{copy_domain, copy_problem};
 pub use kp_grammar::{
@@ -15,3 +30,7 @@ pub use node::{
     AtomNode, CondNode, DomainNode, EffNode, ItemNode, LitNode, PredNode, ProblemNode, SchemaNode,
     TermNode, TypedNode, WordNode,
 };
+pub use parse::{parse_domain, parse_problem};
+
+#[cfg(test)]
+mod tests;

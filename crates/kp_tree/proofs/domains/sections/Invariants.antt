@@ -1,0 +1,18 @@
+use Rattle.std.proofs.Common.{◌≤◌, ◌-◌, length, map}
+use Rattle.kp_grammar.specs.Symbols.{is_left}
+use Rattle.kp_grammar.specs.Grammar.{section}
+use Rattle.kp_tree.specs.Lexemes.{from}
+use Rattle.kp_tree.specs.Nodes.{typed_view, pred_view, schema_view}
+use Rattle.kp_tree.proofs.Loops.{all_of}
+use Rattle.kp_tree.proofs.Joining.{Sections}
+use Rattle.kp_tree.proofs.domains.sections.Given as goal
+
+abbrev pub invariant-more : goal.invariant-more
+invariant-more l = record {
+  onward : l.start ≤ l.at;
+  in_range : l.at ≤ length l.tokens;
+  kept : Sections (map typed_view l.declared.kinds.items) (map typed_view l.declared.constants.items) (map pred_view l.declared.predicates.items) (map schema_view l.declared.schemas.items) (all_of l.levels is_left section (from l.tokens l.at)) (all_of l.levels is_left section (from l.tokens l.start));
+}
+
+abbrev pub decreases-more : goal.decreases-more
+decreases-more l = length l.initial.tokens - l.at

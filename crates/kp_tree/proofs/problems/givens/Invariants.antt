@@ -1,0 +1,19 @@
+use Rattle.std.proofs.Common.{◌≤◌, ◌-◌, length, map, []}
+use Rattle.kp_grammar.specs.Symbols.{is_left, is_goal}
+use Rattle.kp_grammar.specs.Grammar.{given, has_stood}
+use Rattle.kp_tree.specs.Lexemes.{from}
+use Rattle.kp_tree.specs.Nodes.{typed_view, item_view}
+use Rattle.kp_tree.specs.Givens.{goal_view}
+use Rattle.kp_tree.proofs.Loops.{run_of}
+use Rattle.kp_tree.proofs.Stating.{Givens}
+use Rattle.kp_tree.proofs.problems.givens.Given as goal
+
+abbrev pub invariant-more : goal.invariant-more
+invariant-more l = record {
+  onward : l.start ≤ l.at;
+  in_range : l.at ≤ length l.tokens;
+  kept : Givens (map typed_view l.stated.objects.items) (map item_view l.stated.init.items) (goal_view l.stated.goal) (run_of l.levels is_left given (has_stood is_goal) l.seen.items (from l.tokens l.at)) (run_of l.levels is_left given (has_stood is_goal) [] (from l.tokens l.start));
+}
+
+abbrev pub decreases-more : goal.decreases-more
+decreases-more l = length l.initial.tokens - l.at

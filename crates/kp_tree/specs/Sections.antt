@@ -1,0 +1,57 @@
+-- What the functions for sections and whole files give. This file serves proofs alone.
+use Rattle.std.specs.Prelude.{◌≡◌, ℕ, List, [], ◌∷◌, Bool, Result, Ok, Err, map, Some}
+use Rattle.kp_base.specs.declared.refused.Part.{Part}
+use Rattle.kp_base.specs.declared.refused.Refused.{Refused}
+use Rattle.kp_base.specs.declared.refused.Stop.{Stop}
+use Rattle.kp_base.specs.declared.refused.Stop.TheVariants as causes
+use Rattle.kp_grammar.specs.declared.tree.Word.{Word}
+use Rattle.kp_grammar.specs.declared.symbol.Symbol.{Symbol}
+use Rattle.kp_grammar.specs.declared.symbol.Symbol.TheVariants as symbols
+use Rattle.kp_grammar.specs.Trees.{Section, Given, Domain, Problem, Typed, Item, Cond}
+use Rattle.kp_grammar.specs.Symbols.{Tok, is_left, is_define, is_domain, is_problem, is_of_domain, is_init, is_goal}
+use Rattle.kp_grammar.specs.Sorts.{El, Seen, apply, m_domain, m_problem}
+use Rattle.kp_grammar.specs.Forms.{Form, many, run, make, choose, bracket, ◌▸◌, ◌▹◌}
+use Rattle.kp_grammar.specs.Grammar.{section, section_case, title, domain, given, given_case, has_stood, problem}
+use Rattle.kp_grammar.specs.Parsing.{Outcome, read}
+use Rattle.kp_tree.specs.declared.halt.Halt.{Halt}
+use Rattle.kp_tree.specs.declared.lexeme.Lexeme.{Lexeme}
+use Rattle.kp_tree.specs.declared.node.DomainNode.{DomainNode}
+use Rattle.kp_tree.specs.declared.domains.DomainPart.{DomainPart}
+use Rattle.kp_tree.specs.declared.domains.DomainPart.TheVariants as parts
+use Rattle.kp_tree.specs.Lexemes.{from}
+use Rattle.kp_tree.specs.Nodes.{typed_view, pred_view, schema_view, domain_view}
+use Rattle.kp_tree.specs.Readers.{Reader, Fails}
+
+-- ---- domains
+
+abbrev pub section_view : DomainPart → Section Word
+section_view parts.Requirements = Section.requires
+section_view (parts.Types v) = Section.types (map typed_view v.items)
+section_view (parts.Constants v) = Section.constants (map typed_view v.items)
+section_view (parts.Predicates v) = Section.predicates (map pred_view v.items)
+section_view (parts.Action s) = Section.action (schema_view s)
+
+unfoldable pub section_inside_at : ℕ → Reader (Section Word)
+section_inside_at d = read d (choose section_case)
+
+unfoldable pub section_at : ℕ → Reader (Section Word)
+section_at d = read d section
+
+unfoldable pub sections_at : ℕ → Reader (List (Section Word))
+sections_at d = read d (many is_left section)
+
+-- the domain is made of the sections that reading gives
+pub record Joins (ls : List Lexeme) (d : DomainNode) (n : ℕ) (reading : Outcome Word (List (Section Word))) : Type 0 where
+  pub sections : List (Section Word)
+  pub reads : reading ≡ Ok (sections, from ls n)
+  pub joined : domain_view d ≡ apply Word m_domain (tt, sections)
+
+abbrev pub GivesSections : List Lexeme → Result (DomainNode × ℕ) Halt → Outcome Word (List (Section Word)) → Type 0
+GivesSections ls (Ok x) reading = Joins ls x.0 x.1 reading
+GivesSections ls (Err e) reading = Fails ls e reading
+
+unfoldable pub domain_inside_at : ℕ → Reader (Domain Word)
+domain_inside_at d = read d (is_define ▸ make m_domain (title is_domain ▹ many is_left section))
+
+unfoldable pub domain_at : ℕ → Reader (Domain Word)
+domain_at d = read d domain

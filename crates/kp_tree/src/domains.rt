@@ -1,0 +1,205 @@
+ghost use Rattle.std.specs.Prelude.{◌≡◌, ◌<◌, ◌≤◌, ◌++◌, length, map, IfOk, OnOk};
+ghost use Rattle.kp_grammar.specs.Trees.{section_types, section_constants, section_predicates, section_schemas};
+ghost use Rattle.kp_tree.specs.Lexemes.{from};
+ghost use Rattle.kp_tree.specs.Nodes.{typed_view, pred_view, schema_view, domain_view};
+ghost use Rattle.kp_tree.specs.Readers.{Gives};
+ghost use Rattle.kp_tree.specs.Sections.{GivesSections, section_view, section_inside_at, section_at, sections_at, domain_inside_at, domain_at};
+
+use crate::cursor::{Class, Lead, close, follow, is_left, peek};
+use crate::halt::Halt;
+use crate::lexeme::Lexeme;
+use crate::node::{DomainNode, PredNode, SchemaNode, TypedNode};
+use crate::runs::{add, append, skip_keywords};
+use crate::sections::{preds, schema};
+use crate::titles::title;
+use crate::typed::typed;
+use bumpalo::Bump;
+use bumpalo::collections::into_bump_slice;
+use kp_base::Memory;
+use kp_grammar::Symbol;
+
+/// A section of a domain.
+#[derive(Drop)]
+pub enum DomainPart<'a> {
+    /// Requirements, which aren't kept.
+    Requirements,
+    /// Types with their parents.
+    Types(Vec<TypedNode<'a>, &'a Bump>),
+    /// Constants with their types.
+    Constants(Vec<TypedNode<'a>, &'a Bump>),
+    /// The declared predicates.
+    Predicates(Vec<PredNode<'a>, &'a Bump>),
+    /// An action.
+    Action(SchemaNode<'a>),
+}
+
+/// What the sections of a domain that stood so far declare.
+#[derive(Drop)]
+pub struct Declared<'a> {
+    /// The types.
+    pub kinds: Vec<TypedNode<'a>, &'a Bump>,
+    /// The constants.
+    pub constants: Vec<TypedNode<'a>, &'a Bump>,
+    /// The predicates.
+    pub predicates: Vec<PredNode<'a>, &'a Bump>,
+    /// The actions.
+    pub schemas: Vec<SchemaNode<'a>, &'a Bump>,
+}
+
+// What stands between the brackets of a section.
+#[tactic(auto, unfolding(crate::specs::Sections::section_inside_at, crate::specs::Readers::keywords_at, crate::specs::Readers::typed_at, crate::specs::Readers::preds_at, crate::specs::Readers::schema_at))]
+fn section_inside<'a>(
+    bump: &'a Bump,
+    tokens: &[Lexeme<'a>],
+    at: usize,
+    levels: u32,
+) -> Result<(DomainPart<'a>, usize), Halt>
+    ensures reads { Gives tokens.now section_view result (section_inside_at levels (from tokens.now at)) }
+    ensures onward { IfOk result (λ x. (at < x.1) × (x.1 ≤ length tokens.now)) }
+{
+    let Some(first) = peek(tokens, at) else {
+        return Err(Halt::Syntax(at));
+    };
+    match first.symbol {
+        Symbol::Requirements => {
+            let at = skip_keywords(tokens, at + 1)?;
+            Ok((DomainPart::Requirements, at))
+        }
+        Symbol::Types => {
+            let (kinds, at) = typed(bump, tokens, at + 1, levels, Class::Name)?;
+            Ok((DomainPart::Types(kinds), at))
+        }
+        Symbol::Constants => {
+            let (constants, at) = typed(bump, tokens, at + 1, levels, Class::Name)?;
+            Ok((DomainPart::Constants(constants), at))
+        }
+        Symbol::Predicates => {
+            let (predicates, at) = preds(bump, tokens, at + 1, levels)?;
+            Ok((DomainPart::Predicates(predicates), at))
+        }
+        Symbol::Action => {
+            let (schema, at) = schema(bump, tokens, at + 1, levels)?;
+            Ok((DomainPart::Action(schema), at))
+        }
+        Symbol::Functions
+        | Symbol::Derived
+        | Symbol::Axiom
+        | Symbol::DurativeAction
+        | Symbol::Constraints
+        | Symbol::Process
+        | Symbol::Event => Err(Halt::Unsupported(at)),
+        _ => Err(Halt::Syntax(at)),
+    }
+}
+
+// A section.
+#[tactic(auto, unfolding(crate::specs::Sections::section_at, crate::specs::Sections::section_inside_at))]
+fn section<'a>(
+    bump: &'a Bump,
+    tokens: &[Lexeme<'a>],
+    at: usize,
+    levels: u32,
+) -> Result<(DomainPart<'a>, usize), Halt>
+    ensures reads { Gives tokens.now section_view result (section_at levels (from tokens.now at)) }
+    ensures onward { IfOk result (λ x. (at < x.1) × (x.1 ≤ length tokens.now)) }
+{
+    if levels == 0 || !is_left(tokens, at) {
+        return Err(Halt::Syntax(at));
+    }
+    let (part, at) = section_inside(bump, tokens, at + 1, levels - 1)?;
+    let at = close(tokens, at)?;
+    Ok((part, at))
+}
+
+// Adds what a section declares.
+fn keep<'a>(declared: &mut Declared<'a>, part: DomainPart<'a>) -> Result<(), Memory>
+    ensures kinds { OnOk result (map typed_view declared.new.kinds.items ≡ map typed_view declared.old.kinds.items ++ section_types (section_view part.entry)) }
+    ensures constants { OnOk result (map typed_view declared.new.constants.items ≡ map typed_view declared.old.constants.items ++ section_constants (section_view part.entry)) }
+    ensures predicates { OnOk result (map pred_view declared.new.predicates.items ≡ map pred_view declared.old.predicates.items ++ section_predicates (section_view part.entry)) }
+    ensures schemas { OnOk result (map schema_view declared.new.schemas.items ≡ map schema_view declared.old.schemas.items ++ section_schemas (section_view part.entry)) }
+{
+    match part {
+        DomainPart::Requirements => Ok(()),
+        DomainPart::Types(kinds) => append(&mut declared.kinds, kinds),
+        DomainPart::Constants(constants) => append(&mut declared.constants, constants),
+        DomainPart::Predicates(predicates) => append(&mut declared.predicates, predicates),
+        DomainPart::Action(schema) => add(&mut declared.schemas, schema),
+    }
+}
+
+// Sections, as many as stand there.
+fn sections<'a>(
+    bump: &'a Bump,
+    tokens: &[Lexeme<'a>],
+    start: usize,
+    levels: u32,
+) -> Result<(DomainNode<'a>, usize), Halt>
+    requires { start ≤ length tokens.now }
+    ensures reads { GivesSections tokens.now result (sections_at levels (from tokens.now start)) }
+    ensures onward { IfOk result (λ x. (start ≤ x.1) × (x.1 ≤ length tokens.now)) }
+{
+    let mut declared = Declared {
+        kinds: Vec::new(bump),
+        constants: Vec::new(bump),
+        predicates: Vec::new(bump),
+        schemas: Vec::new(bump),
+    };
+    let mut at = start;
+    'more: while is_left(tokens, at) {
+        let (part, after) = section(bump, tokens, at, levels)?;
+        keep(&mut declared, part)?;
+        at = after;
+    }
+    Ok((as_domain(declared), at))
+}
+
+// The domain of all that is declared.
+fn as_domain<'a>(declared: Declared<'a>) -> DomainNode<'a>
+    ensures kinds { result.kinds.now ≡ declared.entry.kinds.items }
+    ensures constants { result.constants.now ≡ declared.entry.constants.items }
+    ensures predicates { result.predicates.now ≡ declared.entry.predicates.items }
+    ensures schemas { result.schemas.now ≡ declared.entry.schemas.items }
+{
+    DomainNode {
+        kinds: into_bump_slice(declared.kinds),
+        constants: into_bump_slice(declared.constants),
+        predicates: into_bump_slice(declared.predicates),
+        schemas: into_bump_slice(declared.schemas),
+    }
+}
+
+// define ( domain Name ) and the sections
+#[tactic(auto, unfolding(crate::specs::Sections::domain_inside_at, crate::specs::Readers::title_at, crate::specs::Sections::sections_at))]
+fn domain_inside<'a>(
+    bump: &'a Bump,
+    tokens: &[Lexeme<'a>],
+    at: usize,
+    levels: u32,
+) -> Result<(DomainNode<'a>, usize), Halt>
+    ensures reads { Gives tokens.now domain_view result (domain_inside_at levels (from tokens.now at)) }
+    ensures onward { IfOk result (λ x. (at < x.1) × (x.1 ≤ length tokens.now)) }
+{
+    let at = follow(tokens, at, Lead::Define)?;
+    let at = title(tokens, at, levels, Lead::Domain)?;
+    let (domain, at) = sections(bump, tokens, at, levels)?;
+    Ok((domain, at))
+}
+
+/// A domain, and the place behind it.
+#[tactic(auto, unfolding(crate::specs::Sections::domain_at, crate::specs::Sections::domain_inside_at))]
+pub fn domain<'a>(
+    bump: &'a Bump,
+    tokens: &[Lexeme<'a>],
+    at: usize,
+    levels: u32,
+) -> Result<(DomainNode<'a>, usize), Halt>
+    ensures reads { Gives tokens.now domain_view result (domain_at levels (from tokens.now at)) }
+    ensures onward { IfOk result (λ x. (at < x.1) × (x.1 ≤ length tokens.now)) }
+{
+    if levels == 0 || !is_left(tokens, at) {
+        return Err(Halt::Syntax(at));
+    }
+    let (domain, at) = domain_inside(bump, tokens, at + 1, levels - 1)?;
+    let at = close(tokens, at)?;
+    Ok((domain, at))
+}

@@ -1,0 +1,128 @@
+ghost use Rattle.std.specs.Prelude.{◌≡◌, ◌≤◌, drop, length};
+ghost use Rattle.kp_lex.specs.Cutting.{Cut};
+ghost use Rattle.kp_base.specs.declared.refused.Part.TheVariants as parts;
+ghost use Rattle.kp_grammar.specs.Grammar.{domain, problem};
+ghost use Rattle.kp_grammar.specs.Symbols.{all_seen_in};
+ghost use Rattle.kp_tree.specs.Files.{AnswersTokens, byte_at};
+ghost use Rattle.kp_tree.specs.Lexemes.{toks};
+ghost use Rattle.kp_tree.specs.Nodes.{domain_view, problem_view};
+ghost use Rattle.kp_tree.specs.Readers.{GivesAll, whole_at};
+ghost use Rattle.kp_tree.specs.Refusals.{IsTold};
+
+use crate::cursor::peek;
+use crate::domains::domain;
+use crate::halt::Halt;
+use crate::lexeme::{Lexeme, lexemes};
+use crate::node::{DomainNode, ProblemNode};
+use crate::problems::problem;
+use bumpalo::Bump;
+use kp_base::{Part, Refused, Row, Stop};
+use kp_lex::{Token, place};
+use std::alloc::Global;
+
+// So many brackets may be open at once.
+const LEVELS: u32 = 64;
+
+// The first byte of a token, or the end of the text where no token has the number.
+fn byte_of(bytes: &[u8], tokens: &[Token], number: usize) -> u32
+    requires short { length bytes.now ≤ 16777216 }
+    requires cut { Cut 0 bytes.now tokens.now }
+    ensures value { result ≡ byte_at bytes.now (all_seen_in bytes.now (drop number tokens.now)) }
+    ensures within { result ≤ length bytes.now }
+{
+    match tokens.get(number) {
+        Some(token) => token.from,
+        None => bytes.len() as u32,
+    }
+}
+
+// What ends the call where no tree was read.
+fn told(part: Part, bytes: &[u8], tokens: &[Token], halt: Halt) -> Stop
+    requires short { length bytes.now ≤ 16777216 }
+    requires cut { Cut 0 bytes.now tokens.now }
+    ensures { IsTold part bytes.now tokens.now halt result }
+{
+    match halt {
+        Halt::Memory => Stop::Memory,
+        Halt::Syntax(number) => {
+            let byte = byte_of(bytes, tokens, number);
+            Stop::Refused(Refused::Syntax(place(part, bytes, byte)))
+        }
+        Halt::Unsupported(number) => {
+            let byte = byte_of(bytes, tokens, number);
+            Stop::Refused(Refused::Unsupported(place(part, bytes, byte)))
+        }
+    }
+}
+
+// The domain that all the tokens are.
+#[tactic(auto, unfolding(crate::specs::Readers::whole_at, crate::specs::Sections::domain_at))]
+fn whole_domain<'a>(bump: &'a Bump, tokens: &[Lexeme<'a>]) -> Result<DomainNode<'a>, Halt>
+    ensures { GivesAll tokens.now domain_view result (whole_at domain (toks tokens.now)) }
+{
+    let (domain, at) = domain(bump, tokens, 0, LEVELS)?;
+    match peek(tokens, at) {
+        None => Ok(domain),
+        Some(_) => Err(Halt::Syntax(at)),
+    }
+}
+
+// The problem that all the tokens are.
+#[tactic(auto, unfolding(crate::specs::Readers::whole_at, crate::specs::Givens::problem_at))]
+fn whole_problem<'a>(
+    bump: &'a Bump,
+    alloc: Global,
+    tokens: &[Lexeme<'a>],
+) -> Result<ProblemNode<'a>, Halt>
+    ensures { GivesAll tokens.now problem_view result (whole_at problem (toks tokens.now)) }
+{
+    let (problem, at) = problem(bump, alloc, tokens, 0, LEVELS)?;
+    match peek(tokens, at) {
+        None => Ok(problem),
+        Some(_) => Err(Halt::Syntax(at)),
+    }
+}
+
+/// The tree of a domain file, from its bytes and its tokens.
+///
+/// The nodes lie in the arena; `alloc` is given back before the end. The file is refused with `Syntax` or
+/// `Unsupported` at the first token that is wrong, or at the first bracket of the 65th level where that comes first.
+pub fn parse_domain<'a>(
+    bump: &'a Bump,
+    alloc: Global,
+    bytes: &[u8],
+    tokens: &Row<Token>,
+) -> Result<DomainNode<'a>, Stop>
+    requires short { length bytes.now ≤ 16777216 }
+    requires cut { Cut 0 bytes.now tokens.now }
+    ensures { AnswersTokens parts.Domain domain domain_view bytes.now tokens.now result }
+{
+    let tokens = tokens.slice();
+    let lexemes = lexemes(bump, alloc, bytes, tokens)?;
+    match whole_domain(bump, &lexemes) {
+        Ok(domain) => Ok(domain),
+        Err(halt) => Err(told(Part::Domain, bytes, tokens, halt)),
+    }
+}
+
+/// The tree of a problem file, from its bytes and its tokens.
+///
+/// The nodes lie in the arena; `alloc` is given back before the end. The file is refused with `Syntax` or
+/// `Unsupported` at the first token that is wrong, or at the first bracket of the 65th level where that comes first.
+pub fn parse_problem<'a>(
+    bump: &'a Bump,
+    alloc: Global,
+    bytes: &[u8],
+    tokens: &Row<Token>,
+) -> Result<ProblemNode<'a>, Stop>
+    requires short { length bytes.now ≤ 16777216 }
+    requires cut { Cut 0 bytes.now tokens.now }
+    ensures { AnswersTokens parts.Problem problem problem_view bytes.now tokens.now result }
+{
+    let tokens = tokens.slice();
+    let lexemes = lexemes(bump, alloc, bytes, tokens)?;
+    match whole_problem(bump, alloc, &lexemes) {
+        Ok(problem) => Ok(problem),
+        Err(halt) => Err(told(Part::Problem, bytes, tokens, halt)),
+    }
+}
