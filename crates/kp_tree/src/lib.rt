@@ -2,6 +2,7 @@
 #![tactic(auto)]
 
 mod copy;
+mod file;
 mod laws;
 mod atoms;
 mod conds;
@@ -21,6 +22,7 @@ mod titles;
 mod typed;
 
 pub use copy::{copy_domain, copy_problem};
+pub use file::{read_domain, read_problem};
 pub use kp_grammar::{
     AtomTree, CondTree, Domain, EffTree, ItemTree, LitTree, PredTree, Problem, SchemaTree,
     TermTree, Typed, Word, plain_domain, plain_problem,

@@ -1,0 +1,41 @@
+ghost use Rattle.std.specs.Prelude.{◌≤◌, length};
+ghost use Rattle.kp_base.specs.declared.refused.Part.TheVariants as parts;
+ghost use Rattle.kp_grammar.specs.Grammar.{domain, problem};
+ghost use Rattle.kp_grammar.specs.View.{domain_view, problem_view};
+ghost use Rattle.kp_tree.specs.Files.{AnswersFile};
+
+use crate::copy::{copy_domain, copy_problem};
+use crate::parse::{parse_domain, parse_problem};
+use bumpalo::Bump;
+use kp_base::{Part, Stop};
+use kp_grammar::{Domain, Problem};
+use kp_lex::tokens;
+use std::alloc::Global;
+
+/// The tree of a domain file, or its refusal at the byte where it is refused.
+///
+/// It is parsed in an arena, which is given up when the tree is copied out of it.
+pub fn read_domain(alloc: Global, bytes: &[u8]) -> Result<Domain, Stop>
+    requires { length bytes.now ≤ 16777216 }
+    ensures { AnswersFile parts.Domain domain domain_view bytes.now result }
+{
+    let tokens = tokens(alloc, Part::Domain, bytes)?;
+    let bump = Bump::new(alloc);
+    let node = parse_domain(&bump, bytes, tokens.slice())?;
+    drop(tokens);
+    Ok(copy_domain(alloc, &node)?)
+}
+
+/// The tree of a problem file, or its refusal at the byte where it is refused.
+///
+/// It is parsed in an arena, which is given up when the tree is copied out of it.
+pub fn read_problem(alloc: Global, bytes: &[u8]) -> Result<Problem, Stop>
+    requires { length bytes.now ≤ 16777216 }
+    ensures { AnswersFile parts.Problem problem problem_view bytes.now result }
+{
+    let tokens = tokens(alloc, Part::Problem, bytes)?;
+    let bump = Bump::new(alloc);
+    let node = parse_problem(&bump, bytes, tokens.slice())?;
+    drop(tokens);
+    Ok(copy_problem(alloc, &node)?)
+}
