@@ -2,20 +2,20 @@
 use Rattle.std.proofs.Common.{◌≡◌, Bool, List, Bor, map, sym, ap, ◌∙◌}
 use Rattle.kp_grammar.specs.declared.tree.Word.{Word}
 use Rattle.kp_grammar.specs.Trees.{Cond, Eff, Item}
-use Rattle.kp_tree.specs.declared.node.AtomNode.{AtomNode}
-use Rattle.kp_tree.specs.declared.node.TypedNode.{TypedNode}
-use Rattle.kp_tree.specs.declared.node.CondNode.{CondNode}
-use Rattle.kp_tree.specs.declared.node.EffNode.{EffNode}
-use Rattle.kp_tree.specs.declared.node.CondNode.TheOpen.{CondNode-F}
-use Rattle.kp_tree.specs.declared.node.CondNode.TheFolds.{fold-roll-CondNode}
-use Rattle.kp_tree.specs.declared.node.CondNode.TheVariants as conds
-use Rattle.kp_tree.specs.declared.node.EffNode.TheOpen.{EffNode-F}
-use Rattle.kp_tree.specs.declared.node.EffNode.TheFolds.{fold-roll-EffNode}
-use Rattle.kp_tree.specs.declared.node.EffNode.TheVariants as effs
-use Rattle.kp_tree.specs.declared.node.ItemNode.TheOpen.{ItemNode-F}
-use Rattle.kp_tree.specs.declared.node.ItemNode.TheFolds.{fold-roll-ItemNode}
-use Rattle.kp_tree.specs.declared.node.ItemNode.TheVariants as items
-use Rattle.kp_tree.specs.Nodes.{typed_view, atom_view, cond_view, cond_step, eff_view, eff_step, item_view, item_step}
+use Rattle.kp_nodes.specs.declared.node.AtomNode.{AtomNode}
+use Rattle.kp_nodes.specs.declared.node.TypedNode.{TypedNode}
+use Rattle.kp_nodes.specs.declared.node.CondNode.{CondNode}
+use Rattle.kp_nodes.specs.declared.node.EffNode.{EffNode}
+use Rattle.kp_nodes.specs.declared.node.CondNode.TheOpen.{CondNode-F}
+use Rattle.kp_nodes.specs.declared.node.CondNode.TheFolds.{fold-roll-CondNode}
+use Rattle.kp_nodes.specs.declared.node.CondNode.TheVariants as conds
+use Rattle.kp_nodes.specs.declared.node.EffNode.TheOpen.{EffNode-F}
+use Rattle.kp_nodes.specs.declared.node.EffNode.TheFolds.{fold-roll-EffNode}
+use Rattle.kp_nodes.specs.declared.node.EffNode.TheVariants as effs
+use Rattle.kp_nodes.specs.declared.node.ItemNode.TheOpen.{ItemNode-F}
+use Rattle.kp_nodes.specs.declared.node.ItemNode.TheFolds.{fold-roll-ItemNode}
+use Rattle.kp_nodes.specs.declared.node.ItemNode.TheVariants as items
+use Rattle.kp_nodes.specs.Nodes.{typed_view, atom_view, cond_view, cond_step, eff_view, eff_step, item_view, item_step}
 
 pub cond_atom : (positive : Bool) (a : AtomNode) → Cond.atom positive (atom_view a) ≡ cond_view (conds.Atom positive a)
 cond_atom positive a = sym (ap cond_view (sym (conds.rolls-Atom positive a)) ∙ fold-roll-CondNode (Cond Word) cond_step (CondNode-F.Atom positive a))

@@ -1,4 +1,3 @@
-pub mod Nodes
 pub mod Files
 pub mod Lexemes
 pub mod Readers

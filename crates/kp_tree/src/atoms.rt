@@ -1,14 +1,14 @@
 ghost use Rattle.std.specs.Prelude.{◌≡◌, ◌<◌, ◌≤◌, length, IfOk};
 ghost use Rattle.kp_tree.specs.Lexemes.{from};
-ghost use Rattle.kp_tree.specs.Nodes.{term_view, atom_view};
+ghost use Rattle.kp_nodes.specs.Nodes.{term_view, atom_view};
 ghost use Rattle.kp_tree.specs.Readers.{Gives, term_at, equality_at, body_at, atom_at};
 
 use crate::cursor::{Class, Lead, close, follow, has, is_left, peek, word};
 use crate::halt::Halt;
 use crate::lexeme::Lexeme;
-use crate::node::{AtomNode, TermNode};
 use crate::runs::terms;
 use bumpalo::Bump;
+use kp_nodes::{AtomNode, TermNode};
 
 // A name or a variable.
 #[tactic(auto, unfolding(crate::specs::Readers::term_at))]

@@ -2,18 +2,18 @@ ghost use Rattle.std.specs.Prelude.{◌≡◌, ◌<◌, ◌≤◌, true, length,
 ghost use Rattle.kp_grammar.specs.Symbols.{first_is, is_equal};
 ghost use Rattle.kp_grammar.specs.Trees.{Cond, no_cond};
 ghost use Rattle.kp_tree.specs.Lexemes.{from};
-ghost use Rattle.kp_tree.specs.Nodes.{cond_view};
+ghost use Rattle.kp_nodes.specs.Nodes.{cond_view};
 ghost use Rattle.kp_tree.specs.Readers.{Gives, terms_class, test_at, denied_at, cond_at, cond_inside_at, conds_at};
 
 use crate::atoms::{body, equality};
 use crate::cursor::{Class, close, is_left, peek};
 use crate::halt::Halt;
 use crate::lexeme::Lexeme;
-use crate::node::CondNode;
 use crate::runs::add;
 use bumpalo::Bump;
 use bumpalo::collections::into_bump_slice;
 use kp_grammar::Symbol;
+use kp_nodes::CondNode;
 
 /// What a condition is read as.
 #[derive(Clone, Copy, Debug, PartialEq, Eq)]

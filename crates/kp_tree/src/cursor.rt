@@ -4,13 +4,13 @@ ghost use Rattle.std.specs.List.{take_while};
 ghost use Rattle.kp_grammar.specs.Forms.{hits};
 ghost use Rattle.kp_grammar.specs.Symbols.{first_is, is_left, is_right};
 ghost use Rattle.kp_tree.specs.Lexemes.{tok, from};
-ghost use Rattle.kp_tree.specs.Nodes.{word_view};
+ghost use Rattle.kp_nodes.specs.Nodes.{word_view};
 ghost use Rattle.kp_tree.specs.Readers.{Gives, Passes, Closed, Opened, Led, class_test, is_of, lead_test, word_at, name_at};
 
 use crate::halt::Halt;
 use crate::lexeme::Lexeme;
-use crate::node::WordNode;
 use kp_grammar::Symbol;
+use kp_nodes::WordNode;
 
 /// What a token may be.
 #[derive(Clone, Copy, Debug, PartialEq, Eq)]

@@ -1,14 +1,13 @@
 ghost use Rattle.std.specs.Prelude.{◌≡◌, ◌<◌, ◌≤◌, ◌++◌, length, map, IfOk, OnOk};
 ghost use Rattle.kp_grammar.specs.Trees.{section_types, section_constants, section_predicates, section_schemas};
 ghost use Rattle.kp_tree.specs.Lexemes.{from};
-ghost use Rattle.kp_tree.specs.Nodes.{typed_view, pred_view, schema_view, domain_view};
+ghost use Rattle.kp_nodes.specs.Nodes.{typed_view, pred_view, schema_view, domain_view};
 ghost use Rattle.kp_tree.specs.Readers.{Gives};
 ghost use Rattle.kp_tree.specs.Sections.{GivesSections, section_view, section_inside_at, section_at, sections_at, domain_inside_at, domain_at};
 
 use crate::cursor::{Class, Lead, close, follow, is_left, peek};
 use crate::halt::Halt;
 use crate::lexeme::Lexeme;
-use crate::node::{DomainNode, PredNode, SchemaNode, TypedNode};
 use crate::runs::{add, append, skip_keywords};
 use crate::sections::{preds, schema};
 use crate::titles::title;
@@ -17,6 +16,7 @@ use bumpalo::Bump;
 use bumpalo::collections::into_bump_slice;
 use kp_base::Memory;
 use kp_grammar::Symbol;
+use kp_nodes::{DomainNode, PredNode, SchemaNode, TypedNode};
 
 /// A section of a domain.
 #[derive(Drop)]

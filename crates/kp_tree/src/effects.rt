@@ -1,7 +1,7 @@
 ghost use Rattle.std.specs.Prelude.{◌≡◌, ◌<◌, ◌≤◌, length, map, IfOk};
 ghost use Rattle.kp_grammar.specs.Trees.{Eff, no_eff};
 ghost use Rattle.kp_tree.specs.Lexemes.{from};
-ghost use Rattle.kp_tree.specs.Nodes.{typed_view, cond_view, eff_view};
+ghost use Rattle.kp_nodes.specs.Nodes.{typed_view, cond_view, eff_view};
 ghost use Rattle.kp_tree.specs.Readers.{Gives, eff_at, eff_inside_at, when_at, each_at, effs_at};
 
 use crate::atoms::{atom, body};
@@ -9,13 +9,13 @@ use crate::conds::{Mode, cond};
 use crate::cursor::{Class, close, is_left, peek};
 use crate::halt::Halt;
 use crate::lexeme::Lexeme;
-use crate::node::{CondNode, EffNode, TypedNode};
 use crate::runs::add;
 use crate::typed::variables;
 use bumpalo::Bump;
 use bumpalo::collections::into_bump_slice;
 use kp_base::Memory;
 use kp_grammar::Symbol;
+use kp_nodes::{CondNode, EffNode, TypedNode};
 
 /// The effect that does nothing.
 pub fn no_effect<'a>() -> EffNode<'a>

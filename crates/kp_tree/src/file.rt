@@ -4,12 +4,12 @@ ghost use Rattle.kp_grammar.specs.Grammar.{domain, problem};
 ghost use Rattle.kp_grammar.specs.View.{domain_view, problem_view};
 ghost use Rattle.kp_tree.specs.Files.{AnswersFile};
 
-use crate::copy::{copy_domain, copy_problem};
 use crate::parse::{parse_domain, parse_problem};
 use bumpalo::Bump;
 use kp_base::{Part, Stop};
 use kp_grammar::{Domain, Problem};
 use kp_lex::tokens;
+use kp_nodes::{copy_domain, copy_problem};
 use std::alloc::Global;
 
 /// The tree of a domain file, or its refusal at the byte where it is refused.
@@ -21,7 +21,7 @@ pub fn read_domain(alloc: Global, bytes: &[u8]) -> Result<Domain, Stop>
 {
     let tokens = tokens(alloc, Part::Domain, bytes)?;
     let bump = Bump::new(alloc);
-    let node = parse_domain(&bump, bytes, tokens.slice())?;
+    let node = parse_domain(&bump, alloc, bytes, &tokens)?;
     drop(tokens);
     Ok(copy_domain(alloc, &node)?)
 }
@@ -35,7 +35,7 @@ pub fn read_problem(alloc: Global, bytes: &[u8]) -> Result<Problem, Stop>
 {
     let tokens = tokens(alloc, Part::Problem, bytes)?;
     let bump = Bump::new(alloc);
-    let node = parse_problem(&bump, bytes, tokens.slice())?;
+    let node = parse_problem(&bump, alloc, bytes, &tokens)?;
     drop(tokens);
     Ok(copy_problem(alloc, &node)?)
 }

@@ -1,17 +1,17 @@
 ghost use Rattle.std.specs.Prelude.{◌≡◌, ◌<◌, ◌≤◌, length, map, IfOk};
 ghost use Rattle.kp_tree.specs.Lexemes.{from};
-ghost use Rattle.kp_tree.specs.Nodes.{item_view, lit_view};
+ghost use Rattle.kp_nodes.specs.Nodes.{item_view, lit_view};
 ghost use Rattle.kp_tree.specs.Readers.{Gives, lit_at, lit_inside_at, lits_at, item_at, item_inside_at, items_at};
 
 use crate::atoms::{atom, body};
 use crate::cursor::{Class, close, is_left, peek};
 use crate::halt::Halt;
 use crate::lexeme::Lexeme;
-use crate::node::{ItemNode, LitNode};
 use crate::runs::add;
 use bumpalo::Bump;
 use bumpalo::collections::into_bump_slice;
 use kp_grammar::Symbol;
+use kp_nodes::{ItemNode, LitNode};
 
 // What stands between the brackets of a literal of `oneof` or `or`.
 #[tactic(auto, unfolding(crate::specs::Readers::lit_inside_at, crate::specs::Readers::atom_at))]

@@ -2,15 +2,15 @@ ghost use Rattle.std.specs.Prelude.{◌≡◌, ◌≤◌, length, slice_range, I
 ghost use Rattle.std.specs.Str.{str_to_ascii_lowercase};
 ghost use Rattle.kp_lex.specs.Cutting.{Cut};
 ghost use Rattle.kp_grammar.specs.Symbols.{all_seen_in};
-ghost use Rattle.kp_tree.specs.Nodes.{word_view, term_view};
+ghost use Rattle.kp_nodes.specs.Nodes.{word_view, term_view};
 ghost use Rattle.kp_tree.specs.Lexemes.{tok, toks, word_of, term_of, lexed};
 
-use crate::node::{TermNode, WordNode};
 use crate::symbols::symbol_of;
 use bumpalo::Bump;
 use bumpalo::collections::into_bump_slice;
 use kp_grammar::Symbol;
 use kp_lex::Token;
+use kp_nodes::{TermNode, WordNode};
 use std::alloc::{AllocError, Global};
 use std::str::from_utf8;
 

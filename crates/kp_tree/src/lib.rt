@@ -1,18 +1,16 @@
 //! Trees of whole files, and the exact place of each refusal. `specs/Files.antt` says which files are read and how the others are refused.
 #![tactic(auto)]
 
-mod copy;
-mod file;
-mod laws;
 mod atoms;
 mod conds;
 mod cursor;
 mod domains;
 mod effects;
+mod file;
 mod halt;
 mod items;
+mod laws;
 mod lexeme;
-mod node;
 mod parse;
 mod problems;
 mod runs;
@@ -21,17 +19,16 @@ mod symbols;
 mod titles;
 mod typed;
 
-pub use copy::{copy_domain, copy_problem};
 pub use file::{read_domain, read_problem};
 pub use kp_grammar::{
     AtomTree, CondTree, Domain, EffTree, ItemTree, LitTree, PredTree, Problem, SchemaTree,
     TermTree, Typed, Word, plain_domain, plain_problem,
 };
-pub use laws::a_file_has_one_answer;
-pub use node::{
+pub use kp_nodes::{
     AtomNode, CondNode, DomainNode, EffNode, ItemNode, LitNode, PredNode, ProblemNode, SchemaNode,
-    TermNode, TypedNode, WordNode,
+    TermNode, TypedNode, WordNode, copy_domain, copy_problem,
 };
+pub use laws::a_file_has_one_answer;
 pub use parse::{parse_domain, parse_problem};
 
 #[cfg(test)]

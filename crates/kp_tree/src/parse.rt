@@ -5,7 +5,7 @@ ghost use Rattle.kp_grammar.specs.Grammar.{domain, problem};
 ghost use Rattle.kp_grammar.specs.Symbols.{all_seen_in};
 ghost use Rattle.kp_tree.specs.Files.{AnswersTokens, byte_at};
 ghost use Rattle.kp_tree.specs.Lexemes.{toks};
-ghost use Rattle.kp_tree.specs.Nodes.{domain_view, problem_view};
+ghost use Rattle.kp_nodes.specs.Nodes.{domain_view, problem_view};
 ghost use Rattle.kp_tree.specs.Readers.{GivesAll, whole_at};
 ghost use Rattle.kp_tree.specs.Refusals.{IsTold};
 
@@ -13,11 +13,11 @@ use crate::cursor::peek;
 use crate::domains::domain;
 use crate::halt::Halt;
 use crate::lexeme::{Lexeme, lexemes};
-use crate::node::{DomainNode, ProblemNode};
 use crate::problems::problem;
 use bumpalo::Bump;
 use kp_base::{Part, Refused, Row, Stop};
 use kp_lex::{Token, place};
+use kp_nodes::{DomainNode, ProblemNode};
 use std::alloc::Global;
 
 // So many brackets may be open at once.

@@ -2,7 +2,7 @@ ghost use Rattle.std.specs.Prelude.{◌≡◌, ◌<◌, ◌≤◌, ◌++◌, len
 ghost use Rattle.kp_grammar.specs.Grammar.{has_stood};
 ghost use Rattle.kp_grammar.specs.Trees.{given_objects, given_items};
 ghost use Rattle.kp_tree.specs.Lexemes.{from};
-ghost use Rattle.kp_tree.specs.Nodes.{typed_view, item_view, cond_view, problem_view};
+ghost use Rattle.kp_nodes.specs.Nodes.{typed_view, item_view, cond_view, problem_view};
 ghost use Rattle.kp_tree.specs.Readers.{Gives};
 ghost use Rattle.kp_tree.specs.Givens.{GivesGivens, once_test, seen_after, given_view, goal_view, goal_after, goal_or_true, given_inside_at, given_at, givens_at, problem_inside_at, problem_at};
 
@@ -11,7 +11,6 @@ use crate::cursor::{Class, Lead, close, follow, is_left, peek, skip_name};
 use crate::halt::Halt;
 use crate::items::items;
 use crate::lexeme::Lexeme;
-use crate::node::{CondNode, ItemNode, ProblemNode, TypedNode};
 use crate::runs::{append, skip_keywords};
 use crate::titles::title;
 use crate::typed::typed;
@@ -19,6 +18,7 @@ use bumpalo::Bump;
 use bumpalo::collections::into_bump_slice;
 use kp_base::Memory;
 use kp_grammar::Symbol;
+use kp_nodes::{CondNode, ItemNode, ProblemNode, TypedNode};
 use std::alloc::Global;
 
 /// A section of a problem that stands at most once.

@@ -2,16 +2,16 @@ ghost use Rattle.std.specs.Prelude.{◌≡◌, ◌<◌, ◌≤◌, ◌+◌, ◌+
 ghost use Rattle.std.specs.List.{prefix_len, take_while};
 ghost use Rattle.kp_grammar.specs.Reading.{stop};
 ghost use Rattle.kp_tree.specs.Lexemes.{word_of, term_of, from};
-ghost use Rattle.kp_tree.specs.Nodes.{word_view, term_view};
+ghost use Rattle.kp_nodes.specs.Nodes.{word_view, term_view};
 ghost use Rattle.kp_tree.specs.Readers.{Gives, Passes, Words, is_of, some_at, terms_at, keywords_at};
 
 use crate::cursor::{Class, has};
 use crate::halt::Halt;
 use crate::lexeme::Lexeme;
-use crate::node::{TermNode, WordNode};
 use bumpalo::Bump;
 use bumpalo::collections::into_bump_slice;
 use kp_base::Memory;
+use kp_nodes::{TermNode, WordNode};
 use std::alloc::AllocError;
 
 // Whether the token is of the class.

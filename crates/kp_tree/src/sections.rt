@@ -1,6 +1,6 @@
 ghost use Rattle.std.specs.Prelude.{◌≡◌, ◌<◌, ◌≤◌, ◌++◌, length, map, IfOk, OnOk};
 ghost use Rattle.kp_tree.specs.Lexemes.{from};
-ghost use Rattle.kp_tree.specs.Nodes.{typed_view, cond_view, eff_view, pred_view, schema_view};
+ghost use Rattle.kp_nodes.specs.Nodes.{typed_view, cond_view, eff_view, pred_view, schema_view};
 ghost use Rattle.kp_tree.specs.Readers.{Gives, Passes, pred_inside_at, pred_at, preds_at, params_at, precondition_at, effect_at, parts_end_at, schema_at};
 
 use crate::conds::{Mode, cond, no_condition};
@@ -8,12 +8,12 @@ use crate::cursor::{Class, close, is_left, peek, word};
 use crate::effects::{eff, no_effect};
 use crate::halt::Halt;
 use crate::lexeme::Lexeme;
-use crate::node::{CondNode, EffNode, PredNode, SchemaNode, TypedNode};
 use crate::runs::add;
 use crate::typed::{typed, variables};
 use bumpalo::Bump;
 use bumpalo::collections::into_bump_slice;
 use kp_grammar::Symbol;
+use kp_nodes::{CondNode, EffNode, PredNode, SchemaNode, TypedNode};
 
 // Head typed variables
 #[tactic(auto, unfolding(crate::specs::Readers::pred_inside_at, crate::specs::Readers::word_at, crate::specs::Readers::typed_at))]

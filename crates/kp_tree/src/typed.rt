@@ -1,18 +1,18 @@
 ghost use Rattle.std.specs.Prelude.{◌≡◌, ◌<◌, ◌≤◌, ◌++◌, length, map, IfOk, OnOk};
 ghost use Rattle.kp_grammar.specs.Sorts.{with_kinds};
 ghost use Rattle.kp_tree.specs.Lexemes.{word_of, from};
-ghost use Rattle.kp_tree.specs.Nodes.{word_view, typed_view};
+ghost use Rattle.kp_nodes.specs.Nodes.{word_view, typed_view};
 ghost use Rattle.kp_tree.specs.Readers.{Gives, names_at, either_names_at, either_at, kind_at, kind_part_at, group_at, typed_at, typed_bracket_at};
 
 use crate::cursor::{Class, Lead, begins, close, follow, is_left, peek, word};
 use crate::halt::Halt;
 use crate::lexeme::Lexeme;
-use crate::node::{TypedNode, WordNode};
 use crate::runs::{keep_words, words};
 use bumpalo::Bump;
 use bumpalo::collections::into_bump_slice;
 use kp_base::Memory;
 use kp_grammar::Symbol;
+use kp_nodes::{TypedNode, WordNode};
 
 // Name+
 fn names<'a>(

@@ -4,7 +4,7 @@ use Rattle.std.proofs.lemmas.List.{map_push}
 use Rattle.kp_grammar.specs.Symbols.{is_left}
 use Rattle.kp_grammar.specs.Forms.{within}
 use Rattle.kp_tree.specs.Readers.{named_of}
-use Rattle.kp_tree.specs.Nodes.{cond_view}
+use Rattle.kp_nodes.specs.Nodes.{cond_view}
 use Rattle.kp_tree.specs.Readers.{cond_at, conds_at}
 use Rattle.kp_tree.proofs.Loops.{goes_on, ends, is_done}
 use Rattle.kp_tree.proofs.conds.+cond.Goals as goal

@@ -3,7 +3,7 @@ use Rattle.kp_grammar.specs.Symbols.{is_left}
 use Rattle.kp_grammar.specs.Forms.{within}
 use Rattle.kp_tree.specs.Readers.{named_of}
 use Rattle.kp_tree.specs.Lexemes.{from}
-use Rattle.kp_tree.specs.Nodes.{cond_view}
+use Rattle.kp_nodes.specs.Nodes.{cond_view}
 use Rattle.kp_tree.proofs.Loops.{all_of, with_front}
 use Rattle.kp_tree.proofs.conds.+cond.Given as goal
 

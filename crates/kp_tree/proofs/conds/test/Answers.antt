@@ -1,7 +1,7 @@
 use Rattle.std.proofs.lemmas.Result.{err_from_is_err_and}
 use Rattle.kp_grammar.specs.Trees.{Cond}
 use Rattle.kp_tree.specs.Lexemes.{from}
-use Rattle.kp_tree.specs.Nodes.{atom_view}
+use Rattle.kp_nodes.specs.Nodes.{atom_view}
 use Rattle.kp_tree.proofs.Cases.{test_head}
 use Rattle.kp_tree.proofs.Views.{cond_atom}
 use Rattle.kp_tree.proofs.Loops.{made, unmade}

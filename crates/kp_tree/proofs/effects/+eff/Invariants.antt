@@ -2,7 +2,7 @@ use Rattle.std.proofs.Common.{◌≡◌, ◌≤◌, ◌-◌, ◌+◌, ◌*◌, l
 use Rattle.kp_grammar.specs.Symbols.{is_left}
 use Rattle.kp_grammar.specs.Forms.{within, n_eff}
 use Rattle.kp_tree.specs.Lexemes.{from}
-use Rattle.kp_tree.specs.Nodes.{eff_view}
+use Rattle.kp_nodes.specs.Nodes.{eff_view}
 use Rattle.kp_tree.proofs.Loops.{all_of, with_front}
 use Rattle.kp_tree.proofs.effects.+eff.Given as goal
 

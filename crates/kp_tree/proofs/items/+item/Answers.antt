@@ -3,7 +3,7 @@ use Rattle.std.proofs.lemmas.Result.{err_from_is_err_and}
 use Rattle.std.proofs.lemmas.List.{map_push}
 use Rattle.kp_grammar.specs.Symbols.{is_left}
 use Rattle.kp_grammar.specs.Forms.{within, n_item}
-use Rattle.kp_tree.specs.Nodes.{item_view, atom_view}
+use Rattle.kp_nodes.specs.Nodes.{item_view, atom_view}
 use Rattle.kp_tree.specs.Lexemes.{from}
 use Rattle.kp_tree.specs.Readers.{item_at, items_at}
 use Rattle.kp_grammar.specs.Trees.{Item}

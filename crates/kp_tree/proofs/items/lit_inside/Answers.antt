@@ -1,7 +1,7 @@
 use Rattle.std.proofs.Common.{refl, true}
 use Rattle.std.proofs.lemmas.Result.{err_from_is_err_and}
 use Rattle.kp_tree.specs.Lexemes.{from}
-use Rattle.kp_tree.specs.Nodes.{atom_view}
+use Rattle.kp_nodes.specs.Nodes.{atom_view}
 use Rattle.kp_tree.proofs.Cases.{lit_fact}
 use Rattle.kp_tree.proofs.Loops.{made, unmade}
 use Rattle.kp_tree.proofs.items.lit_inside.Goals as goal

@@ -3,7 +3,7 @@ use Rattle.std.proofs.lemmas.Result.{err_from_is_err_and}
 use Rattle.std.proofs.lemmas.List.{map_push}
 use Rattle.kp_grammar.specs.Symbols.{is_left}
 use Rattle.kp_grammar.specs.Grammar.{lit}
-use Rattle.kp_tree.specs.Nodes.{lit_view}
+use Rattle.kp_nodes.specs.Nodes.{lit_view}
 use Rattle.kp_tree.specs.Readers.{lit_at, lits_at}
 use Rattle.kp_tree.proofs.Loops.{goes_on, ends, is_done}
 use Rattle.kp_tree.proofs.items.lits.Goals as goal

@@ -2,7 +2,7 @@ use Rattle.std.proofs.Common.{◌≡◌, ◌≤◌, ◌-◌, ◌+◌, ◌*◌, l
 use Rattle.kp_grammar.specs.Symbols.{is_left}
 use Rattle.kp_grammar.specs.Grammar.{lit}
 use Rattle.kp_tree.specs.Lexemes.{from}
-use Rattle.kp_tree.specs.Nodes.{lit_view}
+use Rattle.kp_nodes.specs.Nodes.{lit_view}
 use Rattle.kp_tree.proofs.Loops.{all_of, with_front}
 use Rattle.kp_tree.proofs.items.lits.Given as goal
 

@@ -1,6 +1,6 @@
 use Rattle.std.proofs.Common.{◌≡◌, map, take}
 use Rattle.kp_tree.specs.Lexemes.{term_of}
-use Rattle.kp_tree.specs.Nodes.{term_view}
+use Rattle.kp_nodes.specs.Nodes.{term_view}
 use Rattle.kp_tree.proofs.runs.keep_terms.Given as goal
 
 abbrev pub invariant-loop-token : goal.invariant-loop-token

@@ -1,6 +1,6 @@
 use Rattle.std.proofs.Common.{◌∙◌, sym, ap, ◌++◌, map, take, ◌≡◌}
 use Rattle.std.proofs.lemmas.List.{take_all}
-use Rattle.kp_tree.specs.Nodes.{word_view, typed_view}
+use Rattle.kp_nodes.specs.Nodes.{word_view, typed_view}
 use Rattle.kp_tree.proofs.Loops.{all_declared}
 use Rattle.kp_tree.proofs.typed.declare.Goals as goal
 

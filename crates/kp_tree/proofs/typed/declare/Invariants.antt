@@ -1,5 +1,5 @@
 use Rattle.std.proofs.Common.{◌≡◌, ◌++◌, map, take}
-use Rattle.kp_tree.specs.Nodes.{word_view, typed_view}
+use Rattle.kp_nodes.specs.Nodes.{word_view, typed_view}
 use Rattle.kp_tree.proofs.Loops.{typed_of}
 use Rattle.kp_tree.proofs.typed.declare.Given as goal
 

@@ -1,6 +1,6 @@
 use Rattle.std.proofs.Common.{◌≤◌, ◌-◌, length, map}
 use Rattle.kp_tree.specs.Lexemes.{from}
-use Rattle.kp_tree.specs.Nodes.{typed_view}
+use Rattle.kp_nodes.specs.Nodes.{typed_view}
 use Rattle.kp_tree.specs.Readers.{class_test, group_form}
 use Rattle.kp_tree.proofs.Loops.{Groups, groups_of}
 use Rattle.kp_tree.proofs.typed.typed.Given as goal

@@ -1,0 +1,105 @@
+ghost use Rattle.std.specs.Prelude.{◌≡◌, map, IfOk};
+ghost use Rattle.kp_grammar.specs.View as owned;
+ghost use Rattle.kp_nodes.specs.Nodes.{cond_view, eff_view, item_view};
+
+use crate::node::{CondNode, EffNode, ItemNode};
+use crate::words::{copy_atom, copy_lits, copy_term, copy_typeds, copy_word};
+use kp_base::{Memory, Row};
+use kp_grammar::{CondTree, EffTree, ItemTree};
+use std::alloc::Global;
+
+/// An equal condition.
+#[cycle(conds)]
+pub fn copy_cond(alloc: Global, node: &CondNode) -> Result<CondTree, Memory>
+    ensures { IfOk result (λ c. owned.cond_view c ≡ cond_view node.now) }
+{
+    match node {
+        CondNode::All(parts) => Ok(CondTree::All(copy_conds(alloc, parts)?)),
+        CondNode::Atom(positive, atom) => Ok(CondTree::Atom(*positive, copy_atom(alloc, atom)?)),
+        CondNode::Same(positive, left, right) => {
+            let left = copy_term(alloc, left)?;
+            let right = copy_term(alloc, right)?;
+            Ok(CondTree::Same(*positive, left, right))
+        }
+    }
+}
+
+// Equal conditions.
+#[cycle(conds)]
+fn copy_conds(alloc: Global, nodes: &[CondNode]) -> Result<Row<CondTree>, Memory>
+    ensures { IfOk result (λ cs. map owned.cond_view cs ≡ map cond_view nodes.now) }
+{
+    let mut copies = Vec::with_capacity(alloc, nodes.len())?;
+    'copies: for node in nodes {
+        copies.push(copy_cond(alloc, node)?)?;
+    }
+    Ok(Row::from_vec(copies))
+}
+
+/// An equal effect.
+#[cycle(effs)]
+pub fn copy_eff(alloc: Global, node: &EffNode) -> Result<EffTree, Memory>
+    ensures { IfOk result (λ e. owned.eff_view e ≡ eff_view node.now) }
+{
+    match node {
+        EffNode::All(parts) => Ok(EffTree::All(copy_effs(alloc, parts)?)),
+        EffNode::When(condition, body) => {
+            let condition = copy_cond(alloc, condition)?;
+            let body = copy_eff(alloc, body)?;
+            Ok(EffTree::When(condition, Box::new(alloc, body)?))
+        }
+        EffNode::Each(variables, body) => {
+            let variables = copy_typeds(alloc, variables)?;
+            let body = copy_eff(alloc, body)?;
+            Ok(EffTree::Each(variables, Box::new(alloc, body)?))
+        }
+        EffNode::Atom(positive, atom) => Ok(EffTree::Atom(*positive, copy_atom(alloc, atom)?)),
+    }
+}
+
+// Equal effects.
+#[cycle(effs)]
+fn copy_effs(alloc: Global, nodes: &[EffNode]) -> Result<Row<EffTree>, Memory>
+    ensures { IfOk result (λ es. map owned.eff_view es ≡ map eff_view nodes.now) }
+{
+    let mut copies = Vec::with_capacity(alloc, nodes.len())?;
+    'copies: for node in nodes {
+        copies.push(copy_eff(alloc, node)?)?;
+    }
+    Ok(Row::from_vec(copies))
+}
+
+/// An equal item of `:init`.
+#[cycle(items)]
+pub fn copy_item(alloc: Global, node: &ItemNode) -> Result<ItemTree, Memory>
+    ensures { IfOk result (λ i. owned.item_view i ≡ item_view node.now) }
+{
+    match node {
+        ItemNode::All(parts) => Ok(ItemTree::All(copy_items(alloc, parts)?)),
+        ItemNode::Lit(positive, atom) => Ok(ItemTree::Lit(*positive, copy_atom(alloc, atom)?)),
+        ItemNode::OneOf(word, literals) => {
+            let word = copy_word(alloc, word)?;
+            Ok(ItemTree::OneOf(word, copy_lits(alloc, literals)?))
+        }
+        ItemNode::AnyOf(word, literals) => {
+            let word = copy_word(alloc, word)?;
+            Ok(ItemTree::AnyOf(word, copy_lits(alloc, literals)?))
+        }
+        ItemNode::Unknown(word, atom) => {
+            let word = copy_word(alloc, word)?;
+            Ok(ItemTree::Unknown(word, copy_atom(alloc, atom)?))
+        }
+    }
+}
+
+/// Equal items.
+#[cycle(items)]
+pub fn copy_items(alloc: Global, nodes: &[ItemNode]) -> Result<Row<ItemTree>, Memory>
+    ensures { IfOk result (λ is. map owned.item_view is ≡ map item_view nodes.now) }
+{
+    let mut copies = Vec::with_capacity(alloc, nodes.len())?;
+    'copies: for node in nodes {
+        copies.push(copy_item(alloc, node)?)?;
+    }
+    Ok(Row::from_vec(copies))
+}
