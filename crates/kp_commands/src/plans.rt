@@ -1,9 +1,9 @@
 use kp_base::Memory;
-use kp_outside::{MemoryShelf, MemorySink};
-use kp_run::run;
 use kp_grammar::{
     AtomTree, CondTree, Domain, EffTree, ItemTree, Problem, SchemaTree, plain_domain, plain_problem,
 };
+use kp_outside::{MemoryShelf, MemorySink};
+use kp_run::run;
 use std::alloc::{AllocError, Global};
 use std::test::Fail;
 

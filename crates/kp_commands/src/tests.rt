@@ -3,10 +3,10 @@ use kp_run::run;
 use std::alloc::{AllocError, Global};
 use std::test::Fail;
 
-const DOMAIN: &str =
+pub const DOMAIN: &str =
     "(define (domain d) (:predicates (p) (q)) (:action a :precondition (p) :effect (and (q) (not (p)))))";
 
-const PROBLEM: &str = "(define (problem e) (:domain d) (:init (p)) (:goal (q)))";
+pub const PROBLEM: &str = "(define (problem e) (:domain d) (:init (p)) (:goal (q)))";
 
 const DOMAIN_OUT: &str = "(define (domain kplan)
 (:requirements :strips :negative-preconditions :conditional-effects)
@@ -46,7 +46,7 @@ const REPORT: &str = "atoms 2\nactions 1\ntags 1\nmerges 0\nfacts 4\ncomplete\n"
 const USAGE: &str =
     "usage: kplan translate D P OD OP [--mode M | --merges F] [--implicates N]\n       kplan solve D P [--mode M | --merges F] [--implicates N] [--budget N] [--classical F]\n       kplan classical D P [--budget N]\n       kplan strip T\n       kplan lift D P PLAN [--mode M | --merges F] [--implicates N]\n       kplan check D P PLAN [--implicates N]\n       kplan width D P [--bound N] [--implicates N]\n       kplan merges D P [--mode M] [--implicates N]\n       kplan bench FAMILY N [--mode M] [--budget N]\n";
 
-fn translate_words(
+pub fn translate_words(
     alloc: Global,
     domain_out: &str,
     problem_out: &str,

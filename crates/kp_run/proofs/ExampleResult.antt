@@ -1,6 +1,7 @@
 -- Words and what is held, with the one answer and result: a translation, the usage, each refusal, and none where a file isn't held.
-use Rattle.std.proofs.Common.{◌≡◌, ◌≢◌, ◌<◌, ◌^◌, ℕ, true, false, List, [], ◌∷◌, length, get_or, nat_eq, Some, Vec, Contains, codes, refl, sym, ap, subst, ◌∙◌, arith}
+use Rattle.std.proofs.Common.{◌≡◌, ◌≢◌, ◌<◌, ◌^◌, ℕ, true, false, List, [], ◌∷◌, length, get_or, nat_eq, Some, Vec, Contains, codes, refl, sym, ap, subst, drop, ◌∙◌, arith}
 use Rattle.std.specs.FinMap.{empty, get, insert, get-empty}
+use Rattle.std.specs.Fmt.{digits}
 use Rattle.std.specs.List.{starts_with}
 use Rattle.std.specs.Ordering.{nat_cmp}
 use Rattle.std.specs.Cmp.Lexicographic.{slice_cmp}
@@ -10,8 +11,10 @@ use lib.Utf8.{encode}
 use Rattle.std.proofs.lemmas.Bool.{false≢true}
 use Rattle.kp_base.proofs.Lists.{same-refl}
 use Rattle.kp_base.specs.declared.refused.Part.TheVariants as parts
+use Rattle.kp_base.specs.declared.refused.Refused.{Refused}
 use Rattle.kp_base.specs.declared.refused.Refused.TheVariants as refusals
 use Rattle.kp_lex.specs.Bytes.{class_of}
+use Rattle.kp_lex.specs.Cutting.{Cut, at_end}
 use Rattle.kp_lex.specs.Scanning.{cut_from}
 use Rattle.kp_grammar.specs.Symbols.{symbol_of}
 use Rattle.kp_grammar.specs.Parsing.{some_at, next_at}
@@ -19,24 +22,35 @@ use Rattle.kp_grammar.specs.Trees.{Cond, Domain, Item, Problem}
 use Rattle.kp_grammar.specs.declared.tree.Word.{Word}
 use Rattle.kp_grammar.specs.Plain.{plain_domain, plain_problem}
 use Rattle.kp_grammar.specs.PlainTexts.{IsPlain}
-use Rattle.kp_grammar.proofs.Computed.{is_plain}
-use Rattle.kp_grammar.proofs.ExamplesPlain.{atom_at, pred_at, exchange, exchange_tree, from_p_to_q, from_p_to_q_tree}
+use Rattle.kp_grammar.specs.Grammar as grammar
+use Rattle.kp_grammar.specs.Symbols.{all_seen_in}
+use Rattle.kp_grammar.specs.Trees.{conds_of}
+use Rattle.kp_grammar.specs.Reading.{ReadsWhole, StopsWhole, stop, within_form, s_unopened}
+use Rattle.kp_grammar.proofs.Computed.{is_plain, stops}
+use Rattle.kp_grammar.proofs.ExamplesPlain.{atom_at, exchange, exchange_tree, exchange_plain, from_p_to_q, from_p_to_q_tree}
+use Rattle.kp_grammar.proofs.Wholes.{whole_never_both}
+use Rattle.kp_lex.proofs.Outcomes.{one_cutting}
+use Rattle.kp_meaning.specs.Faults as faults
+use Rattle.kp_tree.specs.Files.{Reads, offending}
+use Rattle.kp_tree.specs.Files as files
+use Rattle.kp_names.specs.Resolved.{in_problem}
 use Rattle.kp_meaning.specs.Names.{same}
 use Rattle.kp_meaning.proofs.Texts.{tokens}
 use Rattle.kp_outside.specs.Outside.{FileMap}
-use Rattle.kp_given.specs.Names.{predicate_names}
-use Rattle.kp_given.specs.PlainFiles.{IsProblem, IsContradictory}
+use Rattle.kp_given.proofs.ExampleWritable.{texts}
+use Rattle.kp_given.specs.PlainFiles.{ArePlainTexts, IsContradictory}
 use Rattle.kp_given.specs.Translations.{translation_of}
-use Rattle.kp_sound.proofs.ExamplePlainFiles.{is_domain, is_problem}
 use Rattle.kp_run.specs.declared.status.Status.{Status}
 use Rattle.kp_run.specs.declared.status.Status.TheVariants as status
 use Rattle.kp_run.specs.Command.{Command, IsCommand, IsNoCommand}
 use Rattle.kp_run.specs.Printed.{usage_text}
-use Rattle.kp_run.specs.Due.{Answers, no_domain, no_problem, no_initial_state, done, AnswersFiles, IsDue, usage, answer}
+use Rattle.kp_run.specs.Texts.{HaveTrees, of_problem, of_names}
+use Rattle.kp_run.specs.Due.{Answers, no_plain_domain, no_initial_state, done, AnswersFiles, IsDue, usage, answer}
+use Rattle.kp_run.specs.Due as dues
 use Rattle.kp_run.specs.Results.{Outcome, prints, translates, IsResult, refused, translated, with_files, ComesTo}
 use Rattle.kp_run.specs.Results as results
 use Rattle.kp_run.specs.Soundness.{IsSound}
-use Rattle.kp_run.proofs.Reading.{repeats_a_predicate, badly_named, of_others}
+use Rattle.kp_run.proofs.Computed.{is_cut, reads_file}
 use Rattle.kp_run.proofs.Soundness.{at_last, under_another, is_sound}
 
 -- ---- words
@@ -95,14 +109,26 @@ none name (n, below, is) = absurd (omega arith)
 consistent : IsContradictory from_p_to_q_tree.init → ⊥
 consistent (name, stated, denied) = none name denied
 
+-- the trees of the two files
+domain_reads : Reads grammar.domain exchange exchange_tree
+unfolding cut_from class_of symbol_of some_at next_at
+domain_reads = reads_file grammar.domain exchange (tokens exchange) exchange_tree (omega arith) refl refl refl
+
+problem_reads : Reads grammar.problem from_p_to_q from_p_to_q_tree
+unfolding cut_from class_of symbol_of some_at next_at
+problem_reads = reads_file grammar.problem from_p_to_q (tokens from_p_to_q) from_p_to_q_tree (omega arith) refl refl refl
+
+trees : HaveTrees exchange from_p_to_q exchange_tree from_p_to_q_tree
+trees = record { domain_reads = domain_reads; problem_reads = problem_reads; no_fault = record { domain = refl; problem = refl } }
+
 abbrev held : FileMap
 held = holding exchange from_p_to_q
 
 due : IsDue words (Some held) status.Done
-due = answer command status.Done is_command tt (λ m e. let same : held ≡ m = cc in subst (λ x. AnswersFiles x command status.Done) same (on_files exchange from_p_to_q status.Done (done exchange_tree from_p_to_q_tree is_domain is_problem consistent)))
+due = answer command status.Done is_command tt (λ m e. let same : held ≡ m = cc in subst (λ x. AnswersFiles x command status.Done) same (on_files exchange from_p_to_q status.Done (done exchange_tree from_p_to_q_tree trees texts consistent)))
 
 result : IsResult words held (translates command (translation_of exchange_tree from_p_to_q_tree))
-result = translated command exchange from_p_to_q exchange_tree from_p_to_q_tree is_command (domain_held exchange from_p_to_q) (problem_held exchange from_p_to_q) is_domain is_problem consistent
+result = translated command exchange from_p_to_q exchange_tree from_p_to_q_tree is_command (domain_held exchange from_p_to_q) (problem_held exchange from_p_to_q) trees texts consistent
 
 -- what is held after it
 abbrev after : FileMap
@@ -176,39 +202,84 @@ both_plain : IsPlain plain_problem both both_tree
 unfolding cut_from class_of symbol_of some_at next_at
 both_plain = is_plain plain_problem both (tokens both) both_tree (omega arith) refl refl
 
-both_is_problem : IsProblem exchange_tree both both_tree
-both_is_problem = record { form = both_plain; heads = ((0, omega arith, refl), ((0, omega arith, refl), ((1, omega arith, refl), tt))) }
+both_reads : Reads grammar.problem both both_tree
+unfolding cut_from class_of symbol_of some_at next_at
+both_reads = reads_file grammar.problem both (tokens both) both_tree (omega arith) refl refl refl
+
+both_trees : HaveTrees exchange both exchange_tree both_tree
+both_trees = record { domain_reads = domain_reads; problem_reads = both_reads; no_fault = record { domain = refl; problem = refl } }
+
+both_texts : ArePlainTexts exchange both exchange_tree both_tree
+both_texts = record { domain = exchange_plain; problem = both_plain; no_fault = record { domain = refl; problem = refl } }
 
 no_state : AnswersFiles (holding exchange both) command (status.Refused refusals.NoInitialState)
-no_state = on_files exchange both _ (no_initial_state exchange_tree both_tree is_domain both_is_problem (codes "p", (0, omega arith, refl), (0, omega arith, refl)))
+no_state = on_files exchange both _ (no_initial_state exchange_tree both_tree both_trees both_texts (codes "p", (0, omega arith, refl), (0, omega arith, refl)))
 
 no_state_results : IsResult words (holding exchange both) (prints (status.Refused refusals.NoInitialState) (codes "refused 12 NoInitialState\n"))
 no_state_results = refused command refusals.NoInitialState is_command no_state
 
 -- the goal is of no declared predicate
 abbrev to_r : List ℕ
-to_r = codes "(define (problem e) (:domain d) (:init) (:goal (r)))\n"
+to_r = codes "(define (problem e) (:domain d)\n(:init) (:goal (r)))\n"
 
 abbrev to_r_tree : Problem Word
 to_r_tree = record { objects = []; init = []; goal = Cond.atom true (atom_at (codes "r") 48) }
 
-to_r_plain : IsPlain plain_problem to_r to_r_tree
+to_r_reads : Reads grammar.problem to_r to_r_tree
 unfolding cut_from class_of symbol_of some_at next_at
-to_r_plain = is_plain plain_problem to_r (tokens to_r) to_r_tree (omega arith) refl refl
+to_r_reads = reads_file grammar.problem to_r (tokens to_r) to_r_tree (omega arith) refl refl refl
 
-no_problem_results : IsResult words (holding exchange to_r) (prints (status.Refused (refusals.NotYet parts.Problem)) (codes "refused 99 NotYet\nfile problem\n"))
-no_problem_results = refused command (refusals.NotYet parts.Problem) is_command (on_files exchange to_r _ (no_problem exchange_tree is_domain (of_others exchange_tree (predicate_names exchange_tree) to_r to_r_tree refl to_r_plain refl)))
+abbrev unknown_name : Refused
+unknown_name = refusals.UnknownName (record { part = parts.Problem; line = 2; byte = 48 })
 
--- p is declared twice, so the domain is judged, whatever the problem holds
-abbrev twice : List ℕ
-twice = codes "(define (domain d) (:predicates (p) (p)))\n"
+unknown_name_results : IsResult words (holding exchange to_r) (prints (status.Refused unknown_name) (codes "refused 5 UnknownName\nat problem line 2 byte 48\n"))
+unfolding digits
+unknown_name_results = refused command unknown_name is_command (on_files exchange to_r (status.Refused unknown_name) (dues.refused unknown_name (of_names exchange_tree to_r_tree unknown_name domain_reads to_r_reads (in_problem (faults.unknown_name 48) refl refl))))
 
-abbrev twice_tree : Domain Word
-twice_tree = record { kinds = []; constants = []; predicates = pred_at (codes "p") 33 ∷ pred_at (codes "p") 37 ∷ []; schemas = [] }
+-- an empty problem
+abbrev at_once : Refused
+at_once = refusals.Syntax (record { part = parts.Problem; line = 1; byte = 0 })
 
-twice_plain : IsPlain plain_domain twice twice_tree
+syntax_results : IsResult words (holding exchange []) (prints (status.Refused at_once) (codes "refused 3 Syntax\nat problem line 1 byte 0\n"))
+unfolding digits
+syntax_results =
+    refused command at_once is_command (on_files exchange [] (status.Refused at_once) (dues.refused at_once (of_problem exchange_tree at_once domain_reads (files.stops [] (stop []) (omega arith) at_end (offending (stop []) (within_form (s_unopened refl)) (λ us e. absurd cc))))))
+
+-- no predicates are declared, and nothing is asked
+abbrev bare : List ℕ
+bare = codes "(define (domain d))\n"
+
+abbrev bare_tree : Domain Word
+bare_tree = record { kinds = []; constants = []; predicates = []; schemas = [] }
+
+abbrev idle : List ℕ
+idle = codes "(define (problem e) (:goal ()))\n"
+
+abbrev idle_tree : Problem Word
+idle_tree = record { objects = []; init = []; goal = Cond.all (conds_of []) }
+
+bare_reads : Reads grammar.domain bare bare_tree
 unfolding cut_from class_of symbol_of some_at next_at
-twice_plain = is_plain plain_domain twice (tokens twice) twice_tree (omega arith) refl refl
+bare_reads = reads_file grammar.domain bare (tokens bare) bare_tree (omega arith) refl refl refl
 
-no_domain_results : IsResult words (holding twice []) (prints (status.Refused (refusals.NotYet parts.Domain)) (codes "refused 99 NotYet\nfile domain\n"))
-no_domain_results = refused command (refusals.NotYet parts.Domain) is_command (on_files twice [] _ (no_domain (badly_named twice twice_tree twice_plain (repeats_a_predicate twice_tree refl))))
+idle_reads : Reads grammar.problem idle idle_tree
+unfolding cut_from class_of symbol_of some_at next_at
+idle_reads = reads_file grammar.problem idle (tokens idle) idle_tree (omega arith) refl refl refl
+
+-- the plain form stops at the last bracket
+bare_stops : StopsWhole plain_domain (all_seen_in bare (tokens bare)) (stop (drop 6 (all_seen_in bare (tokens bare))))
+unfolding cut_from class_of symbol_of some_at next_at
+bare_stops = within_form (stops plain_domain (all_seen_in bare (tokens bare)) (stop (drop 6 (all_seen_in bare (tokens bare)))) refl refl)
+
+bare_cut : Cut 0 bare (tokens bare)
+unfolding cut_from class_of symbol_of some_at next_at
+bare_cut = is_cut bare (tokens bare) refl
+
+bare_is_not_plain : (e : Domain Word) → IsPlain plain_domain bare e → ⊥
+bare_is_not_plain e h =
+    let same = one_cutting _ _ h.reads.cut (bare_cut) in
+    whole_never_both _ _ plain_domain (all_seen_in bare (tokens bare)) e _ (subst (λ (ts : List _). ReadsWhole plain_domain (all_seen_in bare ts) e) same h.reads.reads) bare_stops
+
+not_plain_results : IsResult words (holding bare idle) (prints (status.Refused (refusals.NotYet parts.Domain)) (codes "refused 99 NotYet\nfile domain\n"))
+not_plain_results =
+    refused command (refusals.NotYet parts.Domain) is_command (on_files bare idle _ (no_plain_domain bare_tree idle_tree (record { domain_reads = bare_reads; problem_reads = idle_reads; no_fault = record { domain = refl; problem = refl } }) bare_is_not_plain))

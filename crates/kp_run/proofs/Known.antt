@@ -9,8 +9,7 @@ use Rattle.std.proofs.lemmas.Bool.{and_parts, or_cases}
 use Rattle.std.proofs.Math.Bool.{or-false}
 use Rattle.std.proofs.lemmas.Map.Views.{Contains-from_any, list_any-from_Contains}
 use Rattle.kp_base.proofs.Lists.{same-true, same-refl}
-use Rattle.kp_run.specs.Among.{is_among, all_among, with_name}
-use Rattle.kp_given.specs.Names.{AllDeclared}
+use Rattle.kp_run.specs.Among.{is_among, with_name}
 
 -- ---- on truth values
 
@@ -29,14 +28,6 @@ contained names name h = Contains-from_any same-true name names h
 
 pub among : (names : List (List ℕ)) (name : List ℕ) → Contains names name → is_among names name ≡ true
 among names name h = list_any-from_Contains nat_list_eq_equiv name names h
-
-pub declared : (names heads : List (List ℕ)) → all_among names heads ≡ true → AllDeclared names heads
-declared names [] h = tt
-declared names (n ∷ ns) h = let parts = and_parts (is_among names n) (all_among names ns) h in (contained names n parts.0, declared names ns parts.1)
-
-pub all_are_among : (names heads : List (List ℕ)) → AllDeclared names heads → all_among names heads ≡ true
-all_are_among names [] h = refl
-all_are_among names (n ∷ ns) h = ap (λ b. b && all_among names ns) (among names n h.0) ∙ all_are_among names ns h.1
 
 -- ---- names that are gathered, each once
 

@@ -1,5 +1,5 @@
 pub mod Known
-pub mod Repeats
+pub mod Computed
 pub mod Reading
 pub mod Reporting
 pub mod Ending

@@ -1,70 +1,76 @@
--- What a text is read as, and what the tests on its names mean.
-use Rattle.std.proofs.Common.{◌≡◌, ◌↔◌, ℕ, Bool, true, false, IsTrue, List, [], length, take, fold, nat_lt, Contains, sym, ap, subst, ◌∙◌, arith}
-use mathlib.Core.Bool.{true≢false}
+-- What a text is read as, and when facts contradict one another.
+use Rattle.std.proofs.Common.{◌≡◌, ◌↔◌, ℕ, Bool, true, false, IsTrue, List, [], length, take, fold, nat_lt, Contains, Option, Some, None, IfSome, Result, Ok, Err, IfOk, sym, ap, subst, ◌∙◌, arith}
 use Rattle.std.specs.List.{list_any}
+use Rattle.std.specs.Option.{is_some}
 use Rattle.std.proofs.lemmas.List.{take_all}
 use Rattle.std.proofs.lemmas.Bool.Decides.{nat_tests}
+use Rattle.kp_base.specs.declared.refused.Part.{Part}
+use Rattle.kp_base.specs.declared.refused.Refused.{Refused}
+use Rattle.kp_base.specs.declared.refused.Refused.TheVariants as refusals
+use Rattle.kp_base.specs.declared.refused.Stop.{Stop}
+use Rattle.kp_base.specs.declared.refused.Stop.TheVariants as causes
 use Rattle.kp_lex.proofs.Outcomes.{one_cutting}
-use Rattle.kp_grammar.proofs.Exact.{once_read}
 use Rattle.kp_grammar.specs.declared.tree.Word.{Word}
-use Rattle.kp_grammar.specs.Trees.{Domain, Problem}
 use Rattle.kp_grammar.specs.Symbols.{all_seen_in}
 use Rattle.kp_grammar.specs.Sorts.{Sort, El}
 use Rattle.kp_grammar.specs.Forms.{Form}
-use Rattle.kp_grammar.specs.Plain as forms
-use Rattle.kp_grammar.specs.Reading.{Reads}
-use Rattle.kp_grammar.specs.PlainTexts.{IsPlain}
-use Rattle.kp_run.specs.Among.{is_among, all_among, are_new, with_name}
-use Rattle.kp_given.specs.Names.{predicate_names, schema_names, domain_heads, problem_heads}
-use Rattle.kp_given.specs.PlainFiles.{IsWellNamed, IsDomain, IsProblem}
-use Rattle.kp_run.proofs.Known.{declared, all_are_among, among_gathered, shared, is_shared, contained, among}
-use Rattle.kp_run.proofs.Repeats.{distinct, all_new}
+use Rattle.kp_grammar.specs.Reading.{ReadsWhole}
+use Rattle.kp_grammar.specs.PlainTexts.{ReadsAs, IsPlain, Answers}
+use Rattle.kp_grammar.proofs.Wholes.{whole_read_once}
+use Rattle.kp_grammar.specs.Trees.{Domain, Problem}
+use Rattle.kp_meaning.specs.Faults.{unknown_name, declared_twice, wrong_use}
+use Rattle.kp_tree.specs.Files.{Reads, Refuses, AnswersFile}
+use Rattle.kp_names.specs.Resolved.{RefusesNames, in_domain, in_problem, AnswersNames}
+use Rattle.kp_run.specs.declared.status.Status.TheVariants as status
+use Rattle.kp_run.specs.Due.{IsOfTranslate}
+use Rattle.kp_run.specs.Reports.{IsTest}
+use Rattle.kp_run.specs.Among.{is_among, with_name}
+use Rattle.kp_run.proofs.Known.{among_gathered, shared, is_shared, contained, among}
 
 -- ---- one tree
-
--- a plain text has one tree
-pub same_tree : {b : Bool} {c : Sort} (X : Form b c) (text : List ℕ) (x y : El Word c) → IsPlain X text x → IsPlain X text y → x ≡ y
-same_tree {b} {c} X text x y h k =
-    let tokens : h.reads.tokens ≡ k.reads.tokens = one_cutting _ _ h.reads.cut k.reads.cut in
-    let P = λ (ts : List _). Reads X (all_seen_in text ts) x [] in
-    let again : Reads X (all_seen_in text k.reads.tokens) x [] = subst P tokens h.reads.reads in
-    (once_read b c X (all_seen_in text k.reads.tokens) [] [] x y again k.reads.reads).0
 
 -- bytes of which there are no more are the whole content
 pub whole : (most : ℕ) (text bytes : List ℕ) (more : Bool) → bytes ≡ take most text → more ≡ nat_lt most (length text) → more ≡ false → bytes ≡ text
 whole most text bytes more front is none = front ∙ take_all most text (grind (arith, nat_tests))
 
--- ---- names
+-- a file that has this tree is plain as this tree, or as none
+pub plain_as : {b e : Bool} {c : Sort} (X : Form b c) (Y : Form e c) (text : List ℕ) (x y : El Word c) → Reads X text x → ReadsAs X text y → IsPlain Y text y → IsPlain Y text x
+plain_as {b} {e} {c} X Y text x y h k plain =
+    let tokens : h.tokens ≡ k.tokens = one_cutting _ _ h.cut k.cut in
+    let again : ReadsWhole X (all_seen_in text k.tokens) x = subst (λ (ts : List _). ReadsWhole X (all_seen_in text ts) x) tokens h.reads.reads in
+    subst (IsPlain Y text) (sym (whole_read_once b c X (all_seen_in text k.tokens) x y again k.reads)) plain
 
--- the names of a domain pass where the tests do
-pub passes : (d : Domain Word) (names : List (List ℕ)) → names ≡ predicate_names d → are_new [] (predicate_names d) ≡ true → are_new [] (schema_names d) ≡ true → all_among names (domain_heads d) ≡ true → IsWellNamed d
-passes d names are new apart known = record {
-  predicates = distinct [] (predicate_names d) new;
-  schemas = distinct [] (schema_names d) apart;
-  heads = declared (predicate_names d) (domain_heads d) (ap (λ ns. all_among ns (domain_heads d)) (sym are) ∙ known);
-}
+-- whether a file that has this tree is plain, by what its plain reader found
+pub plain_test : {T : Type 0} {b e : Bool} {c : Sort} (X : Form b c) (Y : Form e c) (view : T → El Word c) (text : List ℕ) (x : El Word c) (found : Option T)
+    → Reads X text x → Answers Y view text found → IfSome found (λ t. ReadsAs X text (view t)) → IsTest (is_some found) (IsPlain Y text x) ((y : El Word c) → IsPlain Y text y → ⊥)
+plain_test X Y view text x (Some t) h plain also = plain_as X Y text x (view t) h also plain
+plain_test X Y view text x None h never also = never
 
-pub repeats_a_predicate : (d : Domain Word) → are_new [] (predicate_names d) ≡ false → IsWellNamed d → ⊥
-repeats_a_predicate d old h = true≢false (sym (all_new (predicate_names d) h.predicates) ∙ old)
+-- a file of more bytes is too long, whatever it is to be
+pub too_long : (part : Part) {b : Bool} {c : Sort} (X : Form b c) (most : ℕ) (text : List ℕ) (more : Bool) → most ≡ 16777216 → more ≡ nat_lt most (length text) → more ≡ true → Refuses part X text (refusals.TooLong part)
+too_long part X most text more m is true_ = Refuses.too_long (grind (arith, nat_tests))
 
-pub repeats_a_schema : (d : Domain Word) → are_new [] (schema_names d) ≡ false → IsWellNamed d → ⊥
-repeats_a_schema d old h = true≢false (sym (all_new (schema_names d) h.schemas) ∙ old)
+-- what is told of a file that is refused
+pub refused_file : {T : Type 0} (part : Part) {b : Bool} {c : Sort} (X : Form b c) (view : T → El Word c) (text : List ℕ) (result : Result T Stop) (r : Refused) → AnswersFile part X view text result → result ≡ Err (causes.Refused r) → Refuses part X text r
+refused_file part X view text result r h e = subst (AnswersFile part X view text) e h
 
-pub has_an_unknown_head : (d : Domain Word) (names : List (List ℕ)) → names ≡ predicate_names d → all_among names (domain_heads d) ≡ false → IsWellNamed d → ⊥
-has_an_unknown_head d names are unknown h = true≢false (sym (all_are_among (predicate_names d) (domain_heads d) h.heads) ∙ (ap (λ ns. all_among ns (domain_heads d)) (sym are) ∙ unknown))
+-- what is told of names that are refused
+pub refused_names : {T : Type 0} (x y : List ℕ) (d : Domain Word) (p : Problem Word) (result : Result T Stop) (r : Refused) → AnswersNames x y d p result → result ≡ Err (causes.Refused r) → RefusesNames x y d p r
+refused_names x y d p result r h e = subst (AnswersNames x y d p) e h
 
--- a domain whose names don't pass has no other tree
-pub badly_named : (text : List ℕ) (d : Domain Word) → IsPlain forms.plain_domain text d → (IsWellNamed d → ⊥) → (e : Domain Word) → IsDomain text e → ⊥
-badly_named text d form bad e h = bad (subst IsWellNamed (sym (same_tree forms.plain_domain text d e form h.form)) h.names)
+-- such a refusal may come
+pub names_of_translate : (x y : List ℕ) (d : Domain Word) (p : Problem Word) (r : Refused) → RefusesNames x y d p r → IsOfTranslate (status.Refused r)
+names_of_translate x y d p _ (in_domain (unknown_name byte) h) = tt
+names_of_translate x y d p _ (in_domain (declared_twice byte) h) = tt
+names_of_translate x y d p _ (in_domain (wrong_use byte) h) = tt
+names_of_translate x y d p _ (in_problem (unknown_name byte) none h) = tt
+names_of_translate x y d p _ (in_problem (declared_twice byte) none h) = tt
+names_of_translate x y d p _ (in_problem (wrong_use byte) none h) = tt
 
--- a problem of other predicates has no other tree
-pub of_others : (d : Domain Word) (names : List (List ℕ)) (text : List ℕ) (p : Problem Word) → names ≡ predicate_names d → IsPlain forms.plain_problem text p → all_among names (problem_heads p) ≡ false → (q : Problem Word) → IsProblem d text q → ⊥
-of_others d names text p are form unknown q h =
-    let same : p ≡ q = same_tree forms.plain_problem text p q form h.form in
-    true≢false (sym (all_are_among (predicate_names d) (problem_heads q) h.heads) ∙ (ap (λ ns. all_among ns (problem_heads q)) (sym are) ∙ (ap (λ t. all_among names (problem_heads t)) (sym same) ∙ unknown)))
-
-pub of_these : (d : Domain Word) (names : List (List ℕ)) (text : List ℕ) (p : Problem Word) → names ≡ predicate_names d → IsPlain forms.plain_problem text p → all_among names (problem_heads p) ≡ true → IsProblem d text p
-of_these d names text p are form known = record { form = form; heads = declared (predicate_names d) (problem_heads p) (ap (λ ns. all_among ns (problem_heads p)) (sym are) ∙ known) }
+-- what holds anyway holds of an answer
+pub where_ok : {A E : Type 0} {P : Type 0} (result : Result A E) → P → IfOk result (λ x. P)
+where_ok (Ok x) p = p
+where_ok (Err e) p = tt
 
 -- ---- contradictions
 

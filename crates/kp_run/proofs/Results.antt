@@ -5,7 +5,6 @@ use Rattle.std.specs.declared.alloc.Global.{Global}
 use Rattle.kp_base.specs.declared.refused.Refused.{Refused}
 use Rattle.kp_grammar.specs.declared.tree.Word.{Word}
 use Rattle.kp_grammar.specs.Trees.{Domain, Problem}
-use Rattle.kp_grammar.specs.Plain as forms
 use Rattle.kp_outside.specs.Outside.{FileMap, with_bytes}
 use Rattle.kp_plain.specs.declared.translation.Translation.{Translation}
 use Rattle.kp_given.specs.Translations.{translation_of}
@@ -14,15 +13,15 @@ use Rattle.kp_run.specs.declared.answer.Report.TheVariants as reports
 use Rattle.kp_run.specs.declared.status.Status.{Status}
 use Rattle.kp_run.specs.declared.status.Status.TheVariants as status
 use Rattle.kp_run.specs.Command.{Command, IsCommand, IsNoCommand}
-use Rattle.kp_given.specs.PlainFiles.{IsDomain, IsProblem, IsContradictory}
+use Rattle.kp_given.specs.PlainFiles.{ArePlainTexts, IsContradictory}
+use Rattle.kp_run.specs.Texts.{HaveTrees}
 use Rattle.kp_run.specs.Printed.{usage_text, refusal_text}
-use Rattle.kp_run.specs.Due.{Answers, no_domain, no_problem, no_initial_state, done, AnswersFiles}
+use Rattle.kp_run.specs.Due.{Answers, no_plain_domain, no_plain_problem, no_initial_state, done, AnswersFiles}
 use Rattle.kp_run.specs.Ends.{Puts, Tells, files_of, with_both}
 use Rattle.kp_run.specs.Reports.{status_of, printed_of, HasItsText, HasFiles, IsTranslatedFrom}
 use Rattle.kp_run.specs.Results.{prints, translates, usage, refused, translated, ComesTo, HasOneResult}
-use Rattle.kp_run.proofs.Reading.{same_tree}
 use Rattle.kp_run.proofs.Reporting.{one_command}
-use Rattle.kp_run.proofs.OneAnswer.{files_once}
+use Rattle.kp_run.proofs.OneAnswer.{same_domain, same_problem, files_once}
 
 -- ---- a run came to its result
 
@@ -41,15 +40,16 @@ usage_result words held files told_old told_new report fo fn D s none is told = 
 record IsOnTrees (domain problem : List ℕ) : Type 0 where
   first : Domain Word
   second : Problem Word
-  is_domain : IsDomain domain first
-  is_problem : IsProblem first problem second
+  trees : HaveTrees domain problem first second
+  plain : ArePlainTexts domain problem first second
   consistent : IsContradictory second.init → ⊥
 
 on_trees : (domain problem : List ℕ) (s : Status) → Answers domain problem s → s ≡ status.Done → IsOnTrees domain problem
-on_trees domain problem _ (no_domain a) e = absurd cc
-on_trees domain problem _ (no_problem d h a) e = absurd cc
+on_trees domain problem _ (Answers.refused r a) e = absurd cc
+on_trees domain problem _ (no_plain_domain d p h a) e = absurd cc
+on_trees domain problem _ (no_plain_problem d p h i a) e = absurd cc
 on_trees domain problem _ (no_initial_state d p h i a) e = absurd cc
-on_trees domain problem _ (done d p h i a) e = record { first = d; second = p; is_domain = h; is_problem = i; consistent = a }
+on_trees domain problem _ (done d p h i a) e = record { first = d; second = p; trees = h; plain = i; consistent = a }
 
 no_translation : Translation
 no_translation = record { domain = []; problem = []; report = [] }
@@ -67,11 +67,11 @@ report_result words held c (reports.Refused x text) files_old files_new told_old
 }
 report_result words held c (reports.Done t) files_old files_new told_old told_new fo fn go gn D T s is own answers made e puts told =
     let on = on_trees answers.domain answers.problem status.Done answers.answers refl in
-    let same : t ≡ translation_of on.first on.second = made answers.domain answers.problem answers.domain_held answers.problem_held on.first on.second on.is_domain on.is_problem in
+    let same : t ≡ translation_of on.first on.second = made answers.domain answers.problem answers.domain_held answers.problem_held on.first on.second on.trees on.plain in
     let put = subst (Puts D c (files_of t) files_old files_new go gn) e (puts t refl) in
     let text = subst (Tells T t.report told_old told_new fo fn) e told in record {
       outcome = translates c (translation_of on.first on.second);
-      is_result = translated c answers.domain answers.problem on.first on.second is answers.domain_held answers.problem_held on.is_domain on.is_problem on.consistent;
+      is_result = translated c answers.domain answers.problem on.first on.second is answers.domain_held answers.problem_held on.trees on.plain on.consistent;
       status_is = e;
       puts_are = put ∙ ap (λ (u : Translation). with_both files_old c (files_of u)) same;
       text_is = text ∙ ap (λ (u : Translation). with_bytes told_old u.report) same;
@@ -81,13 +81,12 @@ report_result words held c (reports.Done t) files_old files_new told_old told_ne
 
 -- a command with a refusal and with a translation would have two answers
 no_refusal : (held : FileMap) (c : Command) (r : Refused) (domain problem : List ℕ) (d : Domain Word) (p : Problem Word) → AnswersFiles held c (status.Refused r) → get held c.domain ≡ Some domain → get held c.problem ≡ Some problem
-    → IsDomain domain d → IsProblem d problem p → (IsContradictory p.init → ⊥) → ⊥
+    → HaveTrees domain problem d p → ArePlainTexts domain problem d p → (IsContradictory p.init → ⊥) → ⊥
 no_refusal held c r domain problem d p a first second h i none =
     let one : status.Refused r ≡ status.Done = files_once held c (status.Refused r) status.Done a (record { domain = domain; problem = problem; domain_held = first; problem_held = second; answers = done d p h i none }) in absurd cc
 
-same_translation : (domain problem : List ℕ) (d e : Domain Word) (p q : Problem Word) → IsDomain domain d → IsDomain domain e → IsProblem d problem p → IsProblem e problem q → translation_of d p ≡ translation_of e q
-same_translation domain problem d e p q h k i j =
-    ap (λ x. translation_of x p) (same_tree forms.plain_domain domain d e h.form k.form) ∙ ap (translation_of e) (same_tree forms.plain_problem problem p q i.form j.form)
+same_translation : (domain problem : List ℕ) (d e : Domain Word) (p q : Problem Word) → HaveTrees domain problem d p → HaveTrees domain problem e q → translation_of d p ≡ translation_of e q
+same_translation domain problem d e p q h k = ap (λ x. translation_of x p) (same_domain domain problem d e p q h k) ∙ ap (translation_of e) (same_problem domain problem d e p q h k)
 
 pub one_result : HasOneResult
 one_result words held _ _ (usage a) (usage b) = refl
@@ -104,4 +103,4 @@ one_result words held _ _ (translated c x y d p is first second h i none) (trans
     let same = one_command words c e is k in
     let domains : x ≡ v = cc in
     let problems : y ≡ w = cc in
-    ap (λ z. translates z (translation_of d p)) same ∙ ap (translates e) (same_translation v w d f p q (subst (λ z. IsDomain z d) domains h) j (subst (λ z. IsProblem d z p) problems i) l)
+    ap (λ z. translates z (translation_of d p)) same ∙ ap (translates e) (same_translation v w d f p q (subst (λ z. HaveTrees v z d p) problems (subst (λ z. HaveTrees z y d p) domains h)) j)

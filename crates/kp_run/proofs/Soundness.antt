@@ -39,7 +39,7 @@ under_another m name other content apart =
 sound_result : (words : List (Vec ℕ Global)) (before after : FileMap) (c : Command) (o : Outcome) → IsCommand words c → IsResult words before o → o.status ≡ status.Done → Some after ≡ with_files (Some before) o.puts → IsSound before after c
 sound_result words before after c _ is (usage none) done puts = absurd cc
 sound_result words before after c _ is (refused d r so answers) done puts = absurd cc
-sound_result words before after c _ is (translated e domain problem d p so first second h i consistent) done puts =
+sound_result words before after c _ is (translated e domain problem d p so first second trees plain consistent) done puts =
     subst (IsSound before after) (one_command words e c so is) (record {
       domain = domain;
       problem = problem;
@@ -48,14 +48,14 @@ sound_result words before after c _ is (translated e domain problem d p so first
       domain_held = first;
       problem_held = second;
       has_problem = has.has;
-      initial_state = subst HasInitialState (sym has.problem) ((contradictions d p (files_are_plain domain problem d p h i)).0 consistent);
+      initial_state = subst HasInitialState (sym has.problem) ((contradictions d p (files_are_plain domain problem d p plain)).0 consistent);
       domain_put = ap (λ m. get m e.domain_out) held ∙ (under_another (insert before e.domain_out (translation_of d p).domain) e.domain_out e.problem_out (translation_of d p).problem so.outputs_differ ∙ at_last before e.domain_out (translation_of d p).domain);
       problem_put = ap (λ m. get m e.problem_out) held ∙ at_last (insert before e.domain_out (translation_of d p).domain) e.problem_out (translation_of d p).problem;
-      plans = plain_files_sound domain problem d p h i;
+      plans = plain_files_sound domain problem d p plain;
     })
   where
     has : HasThisProblem domain problem d p
-    has = files_have_a_problem domain problem d p h i
+    has = files_have_a_problem domain problem d p plain
 
     held : after ≡ insert (insert before e.domain_out (translation_of d p).domain) e.problem_out (translation_of d p).problem
     held = cc

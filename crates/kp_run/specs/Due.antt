@@ -2,22 +2,28 @@
 use Rattle.std.specs.Prelude.{◌≡◌, List, ℕ, Option, Some, Vec}
 use Rattle.std.specs.FinMap.{get}
 use Rattle.std.specs.declared.alloc.Global.{Global}
+use Rattle.kp_base.specs.declared.refused.Part.{Part}
 use Rattle.kp_base.specs.declared.refused.Part.TheVariants as parts
+use Rattle.kp_base.specs.declared.refused.Refused.{Refused}
 use Rattle.kp_base.specs.declared.refused.Refused.TheVariants as refusals
 use Rattle.kp_grammar.specs.declared.tree.Word.{Word}
 use Rattle.kp_grammar.specs.Trees as trees
+use Rattle.kp_grammar.specs.Plain.{plain_domain, plain_problem}
+use Rattle.kp_grammar.specs.PlainTexts.{IsPlain}
 use Rattle.kp_outside.specs.Outside.{FileMap}
 use Rattle.kp_run.specs.declared.status.Status.{Status}
 use Rattle.kp_run.specs.declared.status.Status.TheVariants as status
 use Rattle.kp_run.specs.Command.{Command, IsCommand, IsNoCommand}
-use Rattle.kp_given.specs.PlainFiles.{IsDomain, IsProblem, IsContradictory}
+use Rattle.kp_given.specs.PlainFiles.{ArePlainTexts, IsContradictory}
+use Rattle.kp_run.specs.Texts.{HaveTrees, RefusesTexts}
 
 -- the answer on two texts: the first of these that holds, and only one of them does
 pub data Answers (domain problem : List ℕ) : Status → Type 0 where
-  no_domain : ((d : trees.Domain Word) → IsDomain domain d → ⊥) → Answers domain problem (status.Refused (refusals.NotYet parts.Domain))
-  no_problem : (d : trees.Domain Word) → IsDomain domain d → ((p : trees.Problem Word) → IsProblem d problem p → ⊥) → Answers domain problem (status.Refused (refusals.NotYet parts.Problem))
-  no_initial_state : (d : trees.Domain Word) (p : trees.Problem Word) → IsDomain domain d → IsProblem d problem p → IsContradictory p.init → Answers domain problem (status.Refused refusals.NoInitialState)
-  done : (d : trees.Domain Word) (p : trees.Problem Word) → IsDomain domain d → IsProblem d problem p → (IsContradictory p.init → ⊥) → Answers domain problem status.Done
+  refused : (r : Refused) → RefusesTexts domain problem r → Answers domain problem (status.Refused r)
+  no_plain_domain : (d : trees.Domain Word) (p : trees.Problem Word) → HaveTrees domain problem d p → ((e : trees.Domain Word) → IsPlain plain_domain domain e → ⊥) → Answers domain problem (status.Refused (refusals.NotYet parts.Domain))
+  no_plain_problem : (d : trees.Domain Word) (p : trees.Problem Word) → HaveTrees domain problem d p → IsPlain plain_domain domain d → ((q : trees.Problem Word) → IsPlain plain_problem problem q → ⊥) → Answers domain problem (status.Refused (refusals.NotYet parts.Problem))
+  no_initial_state : (d : trees.Domain Word) (p : trees.Problem Word) → HaveTrees domain problem d p → ArePlainTexts domain problem d p → IsContradictory p.init → Answers domain problem (status.Refused refusals.NoInitialState)
+  done : (d : trees.Domain Word) (p : trees.Problem Word) → HaveTrees domain problem d p → ArePlainTexts domain problem d p → (IsContradictory p.init → ⊥) → Answers domain problem status.Done
 
 -- the answer on the files of a command, which are held
 pub record AnswersFiles (held : FileMap) (c : Command) (s : Status) : Type 0 where
@@ -27,11 +33,23 @@ pub record AnswersFiles (held : FileMap) (c : Command) (s : Status) : Type 0 whe
   pub problem_held : get held c.problem ≡ Some problem
   pub answers : Answers domain problem s
 
+-- a file that `translate` reads
+abbrev pub IsGivenFile : Part → Type 0
+IsGivenFile parts.Domain = Unit {0}
+IsGivenFile parts.Problem = Unit {0}
+IsGivenFile _ = ⊥
+
 -- an answer that `translate` may give
 abbrev pub IsOfTranslate : Status → Type 0
 IsOfTranslate status.Done = Unit {0}
-IsOfTranslate (status.Refused (refusals.NotYet parts.Domain)) = Unit {0}
-IsOfTranslate (status.Refused (refusals.NotYet parts.Problem)) = Unit {0}
+IsOfTranslate (status.Refused (refusals.TooLong part)) = IsGivenFile part
+IsOfTranslate (status.Refused (refusals.BadToken place)) = IsGivenFile place.part
+IsOfTranslate (status.Refused (refusals.Syntax place)) = IsGivenFile place.part
+IsOfTranslate (status.Refused (refusals.Unsupported place)) = IsGivenFile place.part
+IsOfTranslate (status.Refused (refusals.UnknownName place)) = IsGivenFile place.part
+IsOfTranslate (status.Refused (refusals.DeclaredTwice place)) = IsGivenFile place.part
+IsOfTranslate (status.Refused (refusals.WrongUse place)) = IsGivenFile place.part
+IsOfTranslate (status.Refused (refusals.NotYet part)) = IsGivenFile part
 IsOfTranslate (status.Refused refusals.NoInitialState) = Unit {0}
 IsOfTranslate _ = ⊥
 

@@ -1,5 +1,6 @@
 pub mod Command
 pub mod Printed
+pub mod Texts
 pub mod Due
 pub mod Ends
 pub mod Numbers

@@ -1,7 +1,8 @@
 -- The texts that are printed.
-use Rattle.std.specs.Prelude.{List, [], ◌++◌, ℕ, codes}
+use Rattle.std.specs.Prelude.{List, [], ◌++◌, ℕ, codes, decimal}
 use Rattle.kp_base.specs.declared.refused.Part.{Part}
 use Rattle.kp_base.specs.declared.refused.Part.TheVariants as parts
+use Rattle.kp_base.specs.declared.refused.Place.{Place}
 use Rattle.kp_base.specs.declared.refused.Refused.{Refused}
 use Rattle.kp_base.specs.declared.refused.Refused.TheVariants as refusals
 use Rattle.kp_run.specs.declared.status.Status.{Status}
@@ -27,10 +28,25 @@ part_text parts.Problem = codes "problem"
 part_text parts.Merges = codes "merges"
 part_text parts.Plan = codes "plan"
 
--- a refusal: its number, its name, and the file
+-- the line that names a file
+abbrev pub file_line : Part → List ℕ
+file_line part = codes "file " ++ (part_text part ++ codes "\n")
+
+-- the line that names a place: lines are counted from 1, bytes from 0
+abbrev pub place_line : Place → List ℕ
+place_line place = codes "at " ++ (part_text place.part ++ (codes " line " ++ (decimal place.line ++ (codes " byte " ++ (decimal place.byte ++ codes "\n")))))
+
+-- a refusal: its number and its name, and then the file or the place
 abbrev pub refusal_text : Refused → List ℕ
-refusal_text (refusals.NotYet part) = codes "refused 99 NotYet\n" ++ codes "file " ++ part_text part ++ codes "\n"
+refusal_text (refusals.TooLong part) = codes "refused 1 TooLong\n" ++ file_line part
+refusal_text (refusals.BadToken place) = codes "refused 2 BadToken\n" ++ place_line place
+refusal_text (refusals.Syntax place) = codes "refused 3 Syntax\n" ++ place_line place
+refusal_text (refusals.Unsupported place) = codes "refused 4 Unsupported\n" ++ place_line place
+refusal_text (refusals.UnknownName place) = codes "refused 5 UnknownName\n" ++ place_line place
+refusal_text (refusals.DeclaredTwice place) = codes "refused 6 DeclaredTwice\n" ++ place_line place
+refusal_text (refusals.WrongUse place) = codes "refused 7 WrongUse\n" ++ place_line place
 refusal_text refusals.NoInitialState = codes "refused 12 NoInitialState\n"
+refusal_text (refusals.NotYet part) = codes "refused 99 NotYet\n" ++ file_line part
 refusal_text _ = []
 
 -- the text of an answer; with Done it is the report of the translation

@@ -1,5 +1,5 @@
 -- What is to be put and printed, as the functions between reading and writing hand it on; for proofs alone.
-use Rattle.std.specs.Prelude.{◌≡◌, ◌⊎◌, List, ℕ, Some, Result, Err}
+use Rattle.std.specs.Prelude.{◌≡◌, ◌⊎◌, List, ℕ, Bool, true, false, Some, Result, Err}
 use Rattle.kp_outside.specs.declared.outside.OutsideStop.{OutsideStop}
 use Rattle.kp_outside.specs.declared.outside.OutsideStop.TheVariants as stops
 use Rattle.kp_plain.specs.declared.translation.Translation.{Translation}
@@ -15,7 +15,8 @@ use Rattle.std.specs.FinMap.{get}
 use Rattle.kp_grammar.specs.declared.tree.Word.{Word}
 use Rattle.kp_grammar.specs.Trees as trees
 use Rattle.kp_given.specs.Translations.{translation_of}
-use Rattle.kp_given.specs.PlainFiles.{IsDomain, IsProblem}
+use Rattle.kp_given.specs.PlainFiles.{ArePlainTexts}
+use Rattle.kp_run.specs.Texts.{HaveTrees}
 
 -- the answer of a report
 abbrev pub status_of : Report → Status
@@ -45,7 +46,7 @@ CountsGets _ c old new = (q : List ℕ) → new q ≡ old q
 -- a report on two texts that has a translation has that of their trees
 abbrev pub IsTranslated : List ℕ → List ℕ → Report → Type 0
 IsTranslated domain problem (reports.Refused refused text) = Unit {0}
-IsTranslated domain problem (reports.Done translation) = (d : trees.Domain Word) (p : trees.Problem Word) → IsDomain domain d → IsProblem d problem p → translation ≡ translation_of d p
+IsTranslated domain problem (reports.Done translation) = (d : trees.Domain Word) (p : trees.Problem Word) → HaveTrees domain problem d p → ArePlainTexts domain problem d p → translation ≡ translation_of d p
 
 -- the same of the files of a command
 abbrev pub IsTranslatedFrom : FileMap → Command → Report → Type 0
@@ -55,3 +56,8 @@ IsTranslatedFrom held c r = (domain problem : List ℕ) → get held c.domain �
 abbrev pub HasFiles : Report → Translation → Type 0
 HasFiles (reports.Refused refused text) t = Unit {0}
 HasFiles (reports.Done translation) t = translation ≡ t
+
+-- a test tells which of two facts holds
+abbrev pub IsTest : Bool → Type 0 → Type 0 → Type 0
+IsTest true Yes No = Yes
+IsTest false Yes No = No

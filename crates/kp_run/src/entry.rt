@@ -3,12 +3,13 @@ ghost use Rattle.std.specs.FinMap as map_of;
 ghost use Rattle.kp_grammar.specs.declared.tree.Word.{Word};
 ghost use Rattle.kp_grammar.specs.Trees as trees;
 ghost use Rattle.kp_given.specs.Translations.{translation_of};
-ghost use Rattle.kp_given.specs.PlainFiles.{IsDomain, IsProblem};
+ghost use Rattle.kp_given.specs.PlainFiles.{ArePlainTexts};
 ghost use Rattle.kp_outside.specs.declared.outside.OutsideStop.TheVariants as stops;
 ghost use Rattle.kp_outside.specs.Outside.{FileMap, Rises};
 ghost use Rattle.kp_run.specs.declared.status.Status.TheVariants as status;
 ghost use Rattle.kp_run.specs.Command.{Command as Names, IsCommand, IsNoCommand};
 ghost use Rattle.kp_run.specs.Due.{AnswersFiles, IsDue, IsOfTranslate};
+ghost use Rattle.kp_run.specs.Texts.{HaveTrees};
 ghost use Rattle.kp_run.specs.Results.{ComesTo};
 ghost use Rattle.kp_run.specs.Soundness.{IsSound};
 ghost use Rattle.kp_run.specs.Ends.{IsAnswer, GetFailed, PutFailed, Files, Puts, Tells, PutsAndTells};
@@ -42,7 +43,7 @@ fn read_report<S: Shelf>(
 {
     let domain = shelf.get(alloc, command.domain, MOST)?;
     let problem = shelf.get(alloc, command.problem, MOST)?;
-    Ok(report_on(alloc, &domain, &problem)?)
+    Ok(report_on(alloc, domain, problem)?)
 }
 
 // Prints how to call the program.
@@ -62,7 +63,7 @@ fn end_with_usage<O: Sink>(alloc: Global, out: &mut O) -> Status
 /// Carries out the command of the words after the program's name.
 ///
 /// The files that the command names are read from the shelf and put on it; what it prints is
-/// written to the sink, by one write.
+/// written to the sink.
 pub fn run<S: Shelf, O: Sink>(
     alloc: Global,
     words: &[Vec<u8>],
@@ -90,7 +91,7 @@ pub fn run<S: Shelf, O: Sink>(
     ensures puts { (c : Names) → IsCommand words.now c → (files : Files) × Puts (IsDue words.now (S.contents shelf.old) status.Done) c files (S.contents shelf.old) (S.contents shelf.new) (S.put_faults shelf.old) (S.put_faults shelf.new) result }
     // Where it is told what the files hold, what is put and printed, as far as the run came, is the translation of their trees; files are put only where Done is due.
     ensures translated { (m : FileMap) (c : Names) (domain problem : List ℕ) (d : trees.Domain Word) (p : trees.Problem Word) → S.contents shelf.old ≡ Some m → IsCommand words.now c
-        → map_of.get m c.domain ≡ Some domain → map_of.get m c.problem ≡ Some problem → IsDomain domain d → IsProblem d problem p
+        → map_of.get m c.domain ≡ Some domain → map_of.get m c.problem ≡ Some problem → HaveTrees domain problem d p → ArePlainTexts domain problem d p
         → PutsAndTells (IsDue words.now (S.contents shelf.old)) c (translation_of d p) (S.contents shelf.old) (S.contents shelf.new) (S.put_faults shelf.old) (S.put_faults shelf.new) (O.told out.old) (O.told out.new) (O.faults out.old) (O.faults out.new) result }
     ensures puts_nothing { IsNoCommand words.now → S.contents shelf.new ≡ S.contents shelf.old }
     // What was told.

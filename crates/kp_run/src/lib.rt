@@ -6,7 +6,7 @@ mod answer;
 mod command;
 mod entry;
 mod facts;
-mod heads;
+mod files;
 mod law;
 mod names;
 mod outputs;

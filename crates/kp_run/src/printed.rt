@@ -1,7 +1,8 @@
-ghost use Rattle.std.specs.Prelude.{◌≡◌, IfOk};
-ghost use Rattle.kp_run.specs.Printed.{usage_text, refusal_text};
+ghost use Rattle.std.specs.Prelude.{◌≡◌, ◌++◌, IfOk, OnOk, decimal};
+ghost use Rattle.kp_run.specs.Printed.{usage_text, part_text, file_line, place_line, refusal_text};
 
-use kp_base::{Memory, Part, Refused, Row};
+use itoa::Buffer;
+use kp_base::{Memory, Part, Place, Refused, Row};
 use std::alloc::Global;
 
 const USAGE: &str = "usage: kplan translate D P OD OP [--mode M | --merges F] [--implicates N]
@@ -28,16 +29,76 @@ pub fn usage(alloc: Global) -> Result<Row<u8>, Memory>
     row_of(alloc, USAGE)
 }
 
+// Adds bytes at the end.
+fn put(out: &mut Vec<u8>, bytes: &[u8]) -> Result<(), Memory>
+    ensures { OnOk result (out.new.items ≡ out.old.items ++ bytes.now) }
+{
+    out.extend_from_slice(bytes)?;
+    Ok(())
+}
+
+// Adds a number in decimal.
+fn put_number(out: &mut Vec<u8>, number: u32) -> Result<(), Memory>
+    ensures { OnOk result (out.new.items ≡ out.old.items ++ decimal number) }
+{
+    let mut buffer = Buffer::new();
+    put(out, buffer.format(number).as_bytes())
+}
+
+// A file as it is called in what is printed.
+fn part_name(part: Part) -> &'static str
+    ensures { result.now ≡ part_text part }
+{
+    match part {
+        Part::Domain => "domain",
+        Part::Problem => "problem",
+        Part::Merges => "merges",
+        Part::Plan => "plan",
+    }
+}
+
+// The lines of a refusal of a whole file.
+fn of_file(alloc: Global, title: &str, part: Part) -> Result<Row<u8>, Memory>
+    ensures { IfOk result (λ text. text ≡ title.now ++ file_line part) }
+{
+    let mut out = Vec::new(alloc);
+    put(&mut out, title.as_bytes())?;
+    put(&mut out, b"file ")?;
+    put(&mut out, part_name(part).as_bytes())?;
+    put(&mut out, b"\n")?;
+    Ok(Row::from_vec(out))
+}
+
+// The lines of a refusal at a place.
+fn at_place(alloc: Global, title: &str, place: &Place) -> Result<Row<u8>, Memory>
+    ensures { IfOk result (λ text. text ≡ title.now ++ place_line place.now) }
+{
+    let mut out = Vec::new(alloc);
+    put(&mut out, title.as_bytes())?;
+    put(&mut out, b"at ")?;
+    put(&mut out, part_name(place.part).as_bytes())?;
+    put(&mut out, b" line ")?;
+    put_number(&mut out, place.line)?;
+    put(&mut out, b" byte ")?;
+    put_number(&mut out, place.byte)?;
+    put(&mut out, b"\n")?;
+    Ok(Row::from_vec(out))
+}
+
 /// The lines of a refusal. There are none yet for a refusal that no command gives.
 pub fn refusal(alloc: Global, refused: &Refused) -> Result<Row<u8>, Memory>
     ensures { IfOk result (λ text. text ≡ refusal_text refused.now) }
 {
     match refused {
-        Refused::NotYet(Part::Domain) => row_of(alloc, "refused 99 NotYet\nfile domain\n"),
-        Refused::NotYet(Part::Problem) => row_of(alloc, "refused 99 NotYet\nfile problem\n"),
-        Refused::NotYet(Part::Merges) => row_of(alloc, "refused 99 NotYet\nfile merges\n"),
-        Refused::NotYet(Part::Plan) => row_of(alloc, "refused 99 NotYet\nfile plan\n"),
+        Refused::TooLong(part) => of_file(alloc, "refused 1 TooLong\n", *part),
+        Refused::BadToken(place) => at_place(alloc, "refused 2 BadToken\n", place),
+        Refused::Syntax(place) => at_place(alloc, "refused 3 Syntax\n", place),
+        Refused::Unsupported(place) => at_place(alloc, "refused 4 Unsupported\n", place),
+        Refused::UnknownName(place) => at_place(alloc, "refused 5 UnknownName\n", place),
+        Refused::DeclaredTwice(place) => at_place(alloc, "refused 6 DeclaredTwice\n", place),
+        Refused::WrongUse(place) => at_place(alloc, "refused 7 WrongUse\n", place),
         Refused::NoInitialState => row_of(alloc, "refused 12 NoInitialState\n"),
+        Refused::NotYet(part) => of_file(alloc, "refused 99 NotYet\n", *part),
         _ => Ok(Row::new(alloc)),
     }
 }

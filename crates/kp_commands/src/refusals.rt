@@ -1,0 +1,127 @@
+use crate::tests::{DOMAIN, PROBLEM, translate_words};
+use kp_outside::{MemoryShelf, MemorySink};
+use kp_run::run;
+use std::alloc::Global;
+use std::test::Fail;
+
+// Whether the two files are refused so, with nothing put.
+fn refuses(
+    alloc: Global,
+    domain: &[u8],
+    problem: &[u8],
+    number: u8,
+    printed: &str,
+) -> Result<bool, Fail> {
+    let words = translate_words(alloc, "od", "op")?;
+    let mut shelf = MemoryShelf::new(alloc)?;
+    let mut sink = MemorySink::new(alloc)?;
+    shelf.hold(b"d".as_slice(), domain)?;
+    shelf.hold(b"p".as_slice(), problem)?;
+    let status = run(alloc, &words, &mut shelf, &mut sink);
+    Ok(
+        status.number() == number
+            && sink.bytes().slice() == printed.as_bytes()
+            && shelf.held(b"od".as_slice()).is_none()
+            && shelf.held(b"op".as_slice()).is_none(),
+    )
+}
+
+// Of files with several faults the first in the order of answers is told.
+#[test]
+fn the_first_refusal(rt: HostRuntime) -> Result<(), Fail> {
+    let alloc = rt.alloc();
+    let cases = [
+        (
+            "(define (domain d) (:action a :effect",
+            PROBLEM,
+            "refused 3 Syntax\nat domain line 1 byte 37\n",
+        ),
+        (
+            "(define (domain d) (:predicates (p.)))",
+            PROBLEM,
+            "refused 2 BadToken\nat domain line 1 byte 34\n",
+        ),
+        (
+            "(define (domain d) (:predicates (p) (q)) (:action a :precondition (p) :effect (and (q) (not (p)))) (:functions (f)))",
+            PROBLEM,
+            "refused 4 Unsupported\nat domain line 1 byte 100\n",
+        ),
+        (
+            "(define (domain d) (:predicates (p) (q) (P)) (:action a :precondition (p) :effect (and (q) (not (p)))))",
+            PROBLEM,
+            "refused 6 DeclaredTwice\nat domain line 1 byte 41\n",
+        ),
+        (
+            DOMAIN,
+            "(define (problem e) (:domain d) (:init (p)) (:goal (y)))",
+            "refused 5 UnknownName\nat problem line 1 byte 52\n",
+        ),
+        (
+            DOMAIN,
+            "(define (problem e) (:domain d) (:init (p)) (:goal (p z)))",
+            "refused 7 WrongUse\nat problem line 1 byte 52\n",
+        ),
+        (
+            DOMAIN,
+            "(define (problem e) (:domain d) (:init (p)) (:goal (q)) (:goal (q)))",
+            "refused 3 Syntax\nat problem line 1 byte 57\n",
+        ),
+        (
+            DOMAIN,
+            "(define (problem e) (:domain d) (:init (p)))",
+            "refused 3 Syntax\nat problem line 1 byte 43\n",
+        ),
+        (
+            "(define (domain d) (:predicates (p)) (:action a :effect",
+            "(define (problem e) ?)",
+            "refused 3 Syntax\nat domain line 1 byte 55\n",
+        ),
+        (
+            "(define (domain d) (:predicates (p) (q)) (:action a :effect (r)))",
+            "(define (problem e) ?)",
+            "refused 2 BadToken\nat problem line 1 byte 20\n",
+        ),
+        (
+            "(define (domain d) (:predicates (p) (q)) (:action a :effect (r)))",
+            "(define (problem e) (:domain d) (:init (p)) (:goal (y)))",
+            "refused 5 UnknownName\nat domain line 1 byte 61\n",
+        ),
+        (
+            "(define (domain d) (:types c) (:predicates (at ?x - c)) (:action a :parameters (?x - c)\n:effect (at ?y)))",
+            PROBLEM,
+            "refused 5 UnknownName\nat domain line 2 byte 100\n",
+        ),
+    ];
+    for (domain, problem, printed) in cases {
+        assert!(rt; refuses(alloc, domain.as_bytes(), problem.as_bytes(), 3, printed)?);
+    }
+    Ok(())
+}
+
+// A domain whose 65th bracket opens at byte 354.
+#[test]
+fn one_bracket_too_deep(rt: HostRuntime) -> Result<(), Fail> {
+    let alloc = rt.alloc();
+    let mut domain = Vec::new(alloc);
+    domain.extend_from_slice(b"(define (domain d) (:action a :precondition ")?;
+    for _ in 0..63 {
+        domain.extend_from_slice(b"(and ")?;
+    }
+    let printed = "refused 3 Syntax\nat domain line 1 byte 354\n";
+    assert!(rt; refuses(alloc, &domain, PROBLEM.as_bytes(), 3, printed)?);
+    Ok(())
+}
+
+// The longest file that is read, and one of a byte more.
+#[test]
+fn one_byte_too_long(rt: HostRuntime) -> Result<(), Fail> {
+    let alloc = rt.alloc();
+    let mut domain = Vec::with_capacity(alloc, 16_777_217)?;
+    domain.resize(16_777_216, b' ')?;
+    let whole = "refused 3 Syntax\nat domain line 1 byte 16777216\n";
+    assert!(rt; refuses(alloc, &domain, PROBLEM.as_bytes(), 3, whole)?);
+    domain.push(b' ')?;
+    let longer = "refused 1 TooLong\nfile domain\n";
+    assert!(rt; refuses(alloc, &domain, PROBLEM.as_bytes(), 3, longer)?);
+    Ok(())
+}
