@@ -20,6 +20,7 @@ use Rattle.kp_grammar.proofs.Wholes.{whole_read_once}
 use Rattle.kp_grammar.specs.Trees.{Domain, Problem}
 use Rattle.kp_meaning.specs.Faults.{unknown_name, declared_twice, wrong_use}
 use Rattle.kp_tree.specs.Files.{Reads, Refuses, AnswersFile}
+use Rattle.kp_names.specs.declared.lifted.Lifted.{Lifted}
 use Rattle.kp_names.specs.Resolved.{RefusesNames, in_domain, in_problem, AnswersNames}
 use Rattle.kp_run.specs.declared.status.Status.TheVariants as status
 use Rattle.kp_run.specs.Due.{IsOfTranslate}
@@ -55,7 +56,7 @@ pub refused_file : {T : Type 0} (part : Part) {b : Bool} {c : Sort} (X : Form b 
 refused_file part X view text result r h e = subst (AnswersFile part X view text) e h
 
 -- what is told of names that are refused
-pub refused_names : {T : Type 0} (x y : List ℕ) (d : Domain Word) (p : Problem Word) (result : Result T Stop) (r : Refused) → AnswersNames x y d p result → result ≡ Err (causes.Refused r) → RefusesNames x y d p r
+pub refused_names : (x y : List ℕ) (d : Domain Word) (p : Problem Word) (result : Result Lifted Stop) (r : Refused) → AnswersNames x y d p result → result ≡ Err (causes.Refused r) → RefusesNames x y d p r
 refused_names x y d p result r h e = subst (AnswersNames x y d p) e h
 
 -- such a refusal may come
