@@ -1,0 +1,3 @@
+pub mod NamesOnce
+pub mod Views
+pub mod Variables

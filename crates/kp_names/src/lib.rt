@@ -1,4 +1,15 @@
 //! Names by number, or the first token with a fault. `specs/Resolved.antt` says what `resolve` gives.
 #![tactic(auto)]
 
+mod below;
+mod items;
+mod lifted;
+mod marks;
+mod name_set;
+mod numbers;
+mod scope;
+mod terms;
+mod unsure;
+
 pub use kp_meaning::{GroundLit, Item, Pred, Range, Term};
+pub use lifted::{Cond, Eff, Lifted, Schema};
