@@ -1,3 +1,5 @@
 pub mod NamesOnce
 pub mod Views
 pub mod Variables
+pub mod TypesBelow
+pub mod ObjectsOfTypes

@@ -2,11 +2,14 @@
 #![tactic(auto)]
 
 mod below;
+mod effects;
 mod items;
 mod lifted;
 mod marks;
 mod name_set;
+mod numbering;
 mod numbers;
+mod ranges;
 mod scope;
 mod terms;
 mod unsure;
