@@ -3,3 +3,4 @@ pub mod Views
 pub mod Variables
 pub mod TypesBelow
 pub mod ObjectsOfTypes
+pub mod KnownTypes

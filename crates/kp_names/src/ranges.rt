@@ -1,6 +1,6 @@
 ghost use Rattle.std.specs.Prelude.{◌≡◌, ◌++◌, [], ◌∷◌, map, IfOk, OnOk};
 ghost use Rattle.kp_grammar.specs.View.{typed_view, domain_view, problem_view};
-ghost use Rattle.kp_meaning.specs.Types.{names};
+ghost use Rattle.kp_meaning.specs.Types.{names, or_object};
 ghost use Rattle.kp_meaning.specs.Numbering.{numbered_range};
 ghost use Rattle.kp_names.specs.Steps.{range_of};
 
@@ -35,7 +35,7 @@ fn copied(alloc: Global, objects: &[u32]) -> Result<Row<u32>, Memory>
 impl<'a> Ranges<'a> {
     /// No type was asked for yet.
     pub fn new(alloc: Global, numbers: Numbers<'a>) -> Ranges<'a>
-        ensures { result.numbers ≡ numbers }
+        ensures { result.numbers ≡ numbers.entry }
     {
         Ranges {
             numbers,
@@ -75,16 +75,23 @@ impl<'a> Ranges<'a> {
         Ok(objects)
     }
 
-    // The objects that a variable stands for.
+    // The objects of one of the types that are written behind a variable. Where none is, all objects are.
+    fn of_kinds(&mut self, alloc: Global, kinds: &'a [Word]) -> Result<Row<u32>, Memory>
+        ensures kept { self.new.numbers ≡ self.old.numbers }
+        ensures row { IfOk result (λ row. row ≡ range_of (domain_view self.old.numbers.domain.now) (problem_view self.old.numbers.problem.now) (or_object (names kinds.now))) }
+    {
+        match kinds {
+            [] => Ok(self.of_type(alloc, OBJECT)?),
+            [word] => Ok(self.of_type(alloc, word.text.slice())?),
+            words => Ok(self.of_types(alloc, words)?),
+        }
+    }
+
     fn of_variable(&mut self, alloc: Global, variable: &'a Typed) -> Result<Range, Memory>
         ensures kept { self.new.numbers ≡ self.old.numbers }
         ensures range { IfOk result (λ r. r ≡ numbered_range (domain_view self.old.numbers.domain.now) (problem_view self.old.numbers.problem.now) (typed_view variable.now)) }
     {
-        let objects = match variable.kinds.slice() {
-            [] => self.of_type(alloc, OBJECT)?,
-            [word] => self.of_type(alloc, word.text.slice())?,
-            words => self.of_types(alloc, words)?,
-        };
+        let objects = self.of_kinds(alloc, variable.kinds.slice())?;
         Ok(Range { objects })
     }
 
