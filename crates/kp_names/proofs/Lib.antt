@@ -4,3 +4,4 @@ pub mod Variables
 pub mod TypesBelow
 pub mod ObjectsOfTypes
 pub mod KnownTypes
+pub mod WholeProblem

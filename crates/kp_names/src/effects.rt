@@ -75,7 +75,8 @@ pub fn schemas<'a>(
     ranges: &mut Ranges<'a>,
     trees: &'a [SchemaTree],
 ) -> Result<Row<Schema>, Memory>
-    ensures { IfOk result (λ row. map schema_view row ≡ map (numbered_schema (domain_view ranges.old.numbers.domain.now) (problem_view ranges.old.numbers.problem.now)) (map schema_tree_view trees.now)) }
+    ensures kept { ranges.new.numbers ≡ ranges.old.numbers }
+    ensures schemas { IfOk result (λ row. map schema_view row ≡ map (numbered_schema (domain_view ranges.old.numbers.domain.now) (problem_view ranges.old.numbers.problem.now)) (map schema_tree_view trees.now)) }
 {
     let mut row = Row::new(alloc);
     for tree in trees {
