@@ -1,4 +1,11 @@
 //! Names by number, or the first token with a fault. `specs/Resolved.antt` says what `resolve` gives.
 #![tactic(auto)]
 
+mod declarations;
+mod faults;
+mod first;
+mod name_set;
+mod predicates;
+mod tables;
+
 pub use kp_meaning::{GroundLit, Item, Pred, Range, Term};
