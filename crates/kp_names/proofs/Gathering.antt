@@ -28,7 +28,7 @@ or_true : (a : Bool) → (a || true) ≡ true
 or_true true = refl
 or_true false = refl
 
-pub or_assoc : (a b c : Bool) → ((a || b) || c) ≡ (a || (b || c))
+or_assoc : (a b c : Bool) → ((a || b) || c) ≡ (a || (b || c))
 or_assoc true b c = refl
 or_assoc false b c = refl
 
@@ -44,10 +44,10 @@ filter_twice p q r h (x ∷ xs) = by (q x) (p x) refl (filter_twice p q r h xs) 
     by true false e rest = ap (λ c. cond c (x ∷ filter p (filter q xs)) (filter p (filter q xs))) e ∙ rest
 
 -- it is none of these
-abbrev is_new : List Name → Name → Bool
+abbrev pub is_new : List Name → Name → Bool
 is_new done y = not (is_among done y)
 
-gathers : (done xs : List Name) → fold with_name done xs ≡ done ++ filter (is_new done) (distinct xs)
+pub gathers : (done xs : List Name) → fold with_name done xs ≡ done ++ filter (is_new done) (distinct xs)
 gathers done [] = sym (append-nil done)
 gathers done (x ∷ xs) = by (is_among done x) refl (λ d. gathers d xs)
   where

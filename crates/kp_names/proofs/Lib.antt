@@ -1,3 +1,5 @@
 pub mod Gathering
 pub mod Entries
 pub mod Scopes
+pub mod Held
+pub mod Within

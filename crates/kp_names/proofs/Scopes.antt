@@ -1,16 +1,17 @@
 -- Faults don't depend on how the names round a place are kept, but on which there are.
-use Rattle.std.proofs.Common.{◌≡◌, Bool, true, false, not, ◌||◌, List, [], ◌∷◌, ◌++◌, fold, Option, refl, sym, ap, ap₂, ◌∙◌}
+use Rattle.std.proofs.Common.{◌≡◌, Bool, true, false, not, ◌||◌, List, [], ◌∷◌, ◌++◌, fold, filter, take, length, Option, refl, sym, ap, ap₂, ◌∙◌}
+use Rattle.std.proofs.Math.Seq.{take-append_seam}
 use Rattle.std.proofs.lemmas.List.Sums.{fold-append}
 use Rattle.kp_base.specs.Lists.{only_if}
 use Rattle.kp_base.proofs.Lists.{flat_alike}
 use Rattle.kp_grammar.specs.declared.tree.Word.{Word}
-use Rattle.kp_grammar.specs.Trees.{Typed, Term, Atom, Cond, Conds, Eff, Effs, Domain, Problem}
-use Rattle.kp_meaning.specs.Names.{Name, same, is_among}
+use Rattle.kp_grammar.specs.Trees.{Typed, Term, Atom, Cond, Conds, Eff, Effs, Schema, Domain, Problem}
+use Rattle.kp_meaning.specs.Names.{Name, same, is_among, distinct}
 use Rattle.kp_meaning.specs.Types.{declared}
-use Rattle.kp_meaning.specs.Faults.{Fault, unknown_name, declared_twice, repeated, inside, variable_faults, head_faults, predicate_of, term_faults, atom_faults, cond_faults, conds_faults, eff_faults, effs_faults}
+use Rattle.kp_meaning.specs.Faults.{Fault, unknown_name, declared_twice, repeated, inside, variable_faults, head_faults, predicate_of, term_faults, atom_faults, cond_faults, conds_faults, eff_faults, effs_faults, schema_faults}
 use Rattle.kp_names.specs.Noted.{noted, sooner}
 use Rattle.kp_names.specs.Steps.{with_name}
-use Rattle.kp_names.proofs.Gathering.{or_assoc, among_with, among_gathered}
+use Rattle.kp_names.proofs.Gathering.{among_with, among_gathered, gathers}
 
 -- the same names, in whichever order
 pub record Alike (xs ys : List Name) : Type 0 where
@@ -96,3 +97,22 @@ module _ (d : Domain Word) (p : Problem Word) where
 
   pub cond_gathered : (s : List Name) (xs : List (Typed Word)) (c : Cond Word) → cond_faults d p (fold with_name s (declared xs)) c ≡ cond_faults d p (inside (declared xs) s) c
   cond_gathered s xs c = cond_alike (fold with_name s (declared xs)) (inside (declared xs) s) (gathered_alike (declared xs) s) c
+
+  -- ---- what is noted of forms with variables
+
+  pub noted_each : (o : Option Fault) (s : List Name) (xs : List (Typed Word)) (e : Eff Word)
+      → noted (noted o (variable_faults d xs)) (eff_faults d p (fold with_name s (declared xs)) e) ≡ noted o (eff_faults d p s (Eff.each xs e))
+  noted_each o s xs e = ap (noted (noted o (variable_faults d xs))) (eff_gathered s xs e) ∙ sym (fold-append sooner o (variable_faults d xs) (eff_faults d p (inside (declared xs) s) e))
+
+  pub noted_schema : (o : Option Fault) (a : Schema Word)
+      → noted (noted (noted o (variable_faults d a.params)) (cond_faults d p (fold with_name [] (declared a.params)) a.pre)) (eff_faults d p (fold with_name [] (declared a.params)) a.effect) ≡ noted o (schema_faults d p a)
+  noted_schema o a =
+      let variables : List Fault = variable_faults d a.params in
+      let pre : List Fault = cond_faults d p (inside (declared a.params) []) a.pre in
+      let effect : List Fault = eff_faults d p (inside (declared a.params) []) a.effect in
+      ap₂ (λ fs gs. noted (noted (noted o variables) fs) gs) (cond_gathered [] a.params a.pre) (eff_gathered [] a.params a.effect)
+      ∙ (sym (fold-append sooner (noted o variables) pre effect) ∙ sym (fold-append sooner o variables (pre ++ effect)))
+
+-- the names that were there stand first
+pub take_first : (s vs : List Name) → take (length s) (fold with_name s vs) ≡ s
+take_first s vs = ap (take (length s)) (gathers s vs) ∙ take-append_seam s (filter (λ y. not (is_among s y)) (distinct vs))

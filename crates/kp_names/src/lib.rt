@@ -2,6 +2,7 @@
 #![tactic(auto)]
 
 mod declarations;
+mod effects;
 mod faults;
 mod first;
 mod name_set;

@@ -1,4 +1,4 @@
-ghost use Rattle.std.specs.Prelude.{◌≡◌, [], not, length, IfOk, OnOk};
+ghost use Rattle.std.specs.Prelude.{◌≡◌, [], not, length, take, IfOk, OnOk};
 ghost use Rattle.kp_meaning.specs.Names.{is_among};
 ghost use Rattle.kp_names.specs.Steps.{with_name};
 ghost use Rattle.kp_names.specs.Tables.{number_of};
@@ -67,5 +67,12 @@ impl<'a> NameSet<'a> {
         ensures { result ≡ length self.now }
     {
         self.set.len() as u32
+    }
+
+    /// Takes the later names out, so that this many stay.
+    pub fn truncate(&mut self, len: u32)
+        ensures { self.new ≡ take len self.old }
+    {
+        self.set.truncate(len as usize);
     }
 }

@@ -35,8 +35,8 @@ fn add_words<'a>(known: &mut NameSet<'a>, words: &'a [Word]) -> Result<(), Memor
     Ok(())
 }
 
-// Adds the names that a typed list declares.
-fn add_declared<'a>(known: &mut NameSet<'a>, lines: &'a [Typed]) -> Result<(), Memory>
+/// Adds the names that a typed list declares.
+pub fn add_declared<'a>(known: &mut NameSet<'a>, lines: &'a [Typed]) -> Result<(), Memory>
     ensures { OnOk result (known.new ≡ fold with_name known.old (declared (map typed_view lines.now))) }
 {
     for line in lines {
