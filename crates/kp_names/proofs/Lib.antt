@@ -3,3 +3,4 @@ pub mod Entries
 pub mod Scopes
 pub mod Held
 pub mod Within
+pub mod FirstFault

@@ -8,5 +8,6 @@ mod first;
 mod name_set;
 mod predicates;
 mod tables;
+mod whole;
 
 pub use kp_meaning::{GroundLit, Item, Pred, Range, Term};

@@ -15,8 +15,10 @@ use std::alloc::Global;
 /// The declared names of two trees, each with its number.
 #[derive(Drop)]
 pub struct Names<'a> {
-    domain: &'a Domain,
-    problem: &'a Problem,
+    /// The domain.
+    pub domain: &'a Domain,
+    /// The problem.
+    pub problem: &'a Problem,
     type_names: NameSet<'a>,
     object_names: NameSet<'a>,
     predicate_names: Predicates<'a>,
