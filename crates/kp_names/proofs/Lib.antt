@@ -1,4 +1,10 @@
-pub mod NamesOnce
+pub mod Gathering
+pub mod Entries
+pub mod Scopes
+pub mod Held
+pub mod Within
+pub mod FirstFault
+pub mod NumbersOfNames
 pub mod Views
 pub mod Variables
 pub mod TypesBelow

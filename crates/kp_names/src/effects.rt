@@ -19,8 +19,8 @@ fn effect<'a>(
     scope: &Scope<'a>,
     tree: &'a EffTree,
 ) -> Result<Eff, Memory>
-    ensures kept { ranges.new.numbers ≡ ranges.old.numbers }
-    ensures effect { IfOk result (λ e. eff_view e ≡ numbered_eff (domain_view ranges.old.numbers.domain.now) (problem_view ranges.old.numbers.problem.now) scope.now (tree_view tree.now)) }
+    ensures kept { ranges.new.names ≡ ranges.old.names }
+    ensures effect { IfOk result (λ e. eff_view e ≡ numbered_eff (domain_view ranges.old.names.domain.now) (problem_view ranges.old.names.problem.now) scope.now (tree_view tree.now)) }
 {
     match tree {
         EffTree::All(parts) => {
@@ -31,7 +31,7 @@ fn effect<'a>(
             Ok(Eff::All(row))
         }
         EffTree::When(cond, body) => {
-            let cond = condition(alloc, &ranges.numbers, scope, cond)?;
+            let cond = condition(alloc, &ranges.names, scope, cond)?;
             let body = effect(alloc, ranges, scope, body)?;
             Ok(Eff::When(cond, Box::new(alloc, body)?))
         }
@@ -43,8 +43,8 @@ fn effect<'a>(
         }
         EffTree::Atom(positive, atom) => Ok(Eff::Atom {
             positive: *positive,
-            pred: ranges.numbers.predicate(&atom.head.text),
-            terms: terms(alloc, &ranges.numbers, scope, atom.terms.slice())?,
+            pred: ranges.names.predicate_number(&atom.head.text),
+            terms: terms(alloc, &ranges.names, scope, atom.terms.slice())?,
         }),
     }
 }
@@ -54,12 +54,12 @@ fn schema<'a>(
     ranges: &mut Ranges<'a>,
     tree: &'a SchemaTree,
 ) -> Result<Schema, Memory>
-    ensures kept { ranges.new.numbers ≡ ranges.old.numbers }
-    ensures schema { IfOk result (λ s. schema_view s ≡ numbered_schema (domain_view ranges.old.numbers.domain.now) (problem_view ranges.old.numbers.problem.now) (schema_tree_view tree.now)) }
+    ensures kept { ranges.new.names ≡ ranges.old.names }
+    ensures schema { IfOk result (λ s. schema_view s ≡ numbered_schema (domain_view ranges.old.names.domain.now) (problem_view ranges.old.names.problem.now) (schema_tree_view tree.now)) }
 {
     let params = ranges.of_variables(alloc, tree.params.slice())?;
     let scope = Scope::new(alloc).with(alloc, tree.params.slice())?;
-    let pre = condition(alloc, &ranges.numbers, &scope, &tree.pre)?;
+    let pre = condition(alloc, &ranges.names, &scope, &tree.pre)?;
     let effect = effect(alloc, ranges, &scope, &tree.effect)?;
     Ok(Schema {
         name: tree.name.text.copy(alloc)?,
@@ -75,8 +75,8 @@ pub fn schemas<'a>(
     ranges: &mut Ranges<'a>,
     trees: &'a [SchemaTree],
 ) -> Result<Row<Schema>, Memory>
-    ensures kept { ranges.new.numbers ≡ ranges.old.numbers }
-    ensures schemas { IfOk result (λ row. map schema_view row ≡ map (numbered_schema (domain_view ranges.old.numbers.domain.now) (problem_view ranges.old.numbers.problem.now)) (map schema_tree_view trees.now)) }
+    ensures kept { ranges.new.names ≡ ranges.old.names }
+    ensures schemas { IfOk result (λ row. map schema_view row ≡ map (numbered_schema (domain_view ranges.old.names.domain.now) (problem_view ranges.old.names.problem.now)) (map schema_tree_view trees.now)) }
 {
     let mut row = Row::new(alloc);
     for tree in trees {

@@ -2,17 +2,23 @@
 #![tactic(auto)]
 
 mod below;
+mod declarations;
 mod effects;
+mod faults;
+mod first;
 mod items;
 mod lifted;
 mod marks;
 mod name_set;
 mod numbering;
-mod numbers;
+mod predicates;
 mod ranges;
+mod schema_faults;
 mod scope;
+mod tables;
 mod terms;
 mod unsure;
+mod whole;
 
 pub use kp_meaning::{GroundLit, Item, Pred, Range, Term};
 pub use lifted::{Cond, Eff, Lifted, Schema};

@@ -6,7 +6,7 @@ ghost use Rattle.kp_names.specs.Steps.{AreBelow, range_of, mark_line, marked_fro
 
 use crate::below::has_type;
 use crate::name_set::NameSet;
-use crate::numbers::Numbers;
+use crate::tables::Names;
 use kp_base::{Memory, Row};
 use kp_grammar::Typed;
 use std::alloc::Global;
@@ -20,20 +20,20 @@ fn mark(marks: &mut Vec<bool>, place: usize)
 }
 
 // Marks the object of a line that has one of these types.
-fn mark_line(numbers: &Numbers, below: &NameSet, line: &Typed, marks: &mut Vec<bool>)
-    ensures { marks.new.items ≡ mark_line (objects (domain_view numbers.now.domain.now) (problem_view numbers.now.problem.now)) below.now marks.old.items (typed_view line.now) }
+fn mark_line(names: &Names, below: &NameSet, line: &Typed, marks: &mut Vec<bool>)
+    ensures { marks.new.items ≡ mark_line (objects (domain_view names.now.domain.now) (problem_view names.now.problem.now)) below.now marks.old.items (typed_view line.now) }
 {
     if has_type(below, line) {
-        mark(marks, numbers.object(&line.word.text) as usize);
+        mark(marks, names.object_number(&line.word.text) as usize);
     }
 }
 
 // The same for all lines.
-fn mark_lines(numbers: &Numbers, below: &NameSet, lines: &[Typed], marks: &mut Vec<bool>)
-    ensures { marks.new.items ≡ fold (mark_line (objects (domain_view numbers.now.domain.now) (problem_view numbers.now.problem.now)) below.now) marks.old.items (map typed_view lines.now) }
+fn mark_lines(names: &Names, below: &NameSet, lines: &[Typed], marks: &mut Vec<bool>)
+    ensures { marks.new.items ≡ fold (mark_line (objects (domain_view names.now.domain.now) (problem_view names.now.problem.now)) below.now) marks.old.items (map typed_view lines.now) }
 {
     for line in lines {
-        mark_line(numbers, below, line, marks);
+        mark_line(names, below, line, marks);
     }
 }
 
@@ -54,14 +54,14 @@ fn marked(alloc: Global, marks: &[bool]) -> Result<Row<u32>, Memory>
 /// The objects of some types, given what is below these types.
 pub fn objects_of(
     alloc: Global,
-    numbers: &Numbers,
+    names: &Names,
     below: &NameSet,
 ) -> Result<Row<u32>, Memory>
-    ensures { (ts : List Name) → AreBelow (domain_view numbers.now.domain.now).kinds ts below.now → IfOk result (λ row. row ≡ range_of (domain_view numbers.now.domain.now) (problem_view numbers.now.problem.now) ts) }
+    ensures { (ts : List Name) → AreBelow (domain_view names.now.domain.now).kinds ts below.now → IfOk result (λ row. row ≡ range_of (domain_view names.now.domain.now) (problem_view names.now.problem.now) ts) }
 {
-    let mut marks = vec![in alloc; false; numbers.object_count() as usize]?;
-    mark_lines(numbers, below, numbers.domain.constants.slice(), &mut marks);
-    mark_lines(numbers, below, numbers.problem.objects.slice(), &mut marks);
+    let mut marks = vec![in alloc; false; names.object_count() as usize]?;
+    mark_lines(names, below, names.domain.constants.slice(), &mut marks);
+    mark_lines(names, below, names.problem.objects.slice(), &mut marks);
     let row = marked(alloc, &marks)?;
     Ok(row)
 }

@@ -1,7 +1,7 @@
-ghost use Rattle.std.specs.Prelude.{◌≡◌, [], not, length, IfOk, OnOk};
+ghost use Rattle.std.specs.Prelude.{◌≡◌, [], not, length, take, IfOk, OnOk};
 ghost use Rattle.kp_meaning.specs.Names.{is_among};
-ghost use Rattle.kp_meaning.specs.Numbering.{index_of};
 ghost use Rattle.kp_names.specs.Steps.{with_name};
+ghost use Rattle.kp_names.specs.Tables.{number_of};
 
 use indexmap::IndexSet;
 use kp_base::{Memory, Row, Text};
@@ -52,13 +52,13 @@ impl<'a> NameSet<'a> {
         self.set.contains(name)
     }
 
-    /// The number of a name; how many names there are, where it is none of them.
-    pub fn number(&self, name: &[u8]) -> u32
-        ensures { result ≡ index_of self.now name.now }
+    /// The number of a name, if it is one of them.
+    pub fn find(&self, name: &[u8]) -> Option<u32>
+        ensures { result ≡ number_of self.now name.now }
     {
         match self.set.get_index_of(name) {
-            Some(number) => number as u32,
-            None => self.set.len() as u32,
+            Some(number) => Some(number as u32),
+            None => None,
         }
     }
 
@@ -78,6 +78,13 @@ impl<'a> NameSet<'a> {
             texts.push(text_of(alloc, name)?)?;
         }
         Ok(texts)
+    }
+
+    /// Takes the later names out, so that this many stay.
+    pub fn truncate(&mut self, len: u32)
+        ensures { self.new ≡ take len self.old }
+    {
+        self.set.truncate(len as usize);
     }
 }
 

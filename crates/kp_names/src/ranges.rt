@@ -6,7 +6,7 @@ ghost use Rattle.kp_names.specs.Steps.{range_of};
 
 use crate::below::{OBJECT, below_type, below_types};
 use crate::marks::objects_of;
-use crate::numbers::Numbers;
+use crate::tables::Names;
 use indexmap::IndexMap;
 use kp_base::{Memory, Row};
 use kp_grammar::{Typed, Word};
@@ -16,10 +16,10 @@ use std::alloc::Global;
 /// The numbers of names, and the objects of each type that was asked for.
 #[derive(Drop)]
 pub struct Ranges<'a> {
-    /// The numbers.
-    pub numbers: Numbers<'a>,
+    /// The names.
+    pub names: Names<'a>,
     known: IndexMap<&'a [u8], Row<u32>>,
-    ghost known_right: { map (λ e. e.1) known.entries ≡ map (λ e. range_of (domain_view numbers.domain.now) (problem_view numbers.problem.now) (e.0.now ∷ [])) known.entries },
+    ghost known_right: { map (λ e. e.1) known.entries ≡ map (λ e. range_of (domain_view names.domain.now) (problem_view names.problem.now) (e.0.now ∷ [])) known.entries },
 }
 
 fn copied(alloc: Global, objects: &[u32]) -> Result<Row<u32>, Memory>
@@ -34,28 +34,28 @@ fn copied(alloc: Global, objects: &[u32]) -> Result<Row<u32>, Memory>
 
 impl<'a> Ranges<'a> {
     /// No type was asked for yet.
-    pub fn new(alloc: Global, numbers: Numbers<'a>) -> Ranges<'a>
-        ensures { result.numbers ≡ numbers.entry }
+    pub fn new(alloc: Global, names: Names<'a>) -> Ranges<'a>
+        ensures { result.names ≡ names.entry }
     {
         Ranges {
-            numbers,
+            names,
             known: IndexMap::new(alloc),
         }
     }
 
     // The objects of a type, from its declaration and those of the objects.
     fn found(&self, alloc: Global, name: &'a [u8]) -> Result<Row<u32>, Memory>
-        ensures { IfOk result (λ row. row ≡ range_of (domain_view self.now.numbers.domain.now) (problem_view self.now.numbers.problem.now) (name.now ∷ [])) }
+        ensures { IfOk result (λ row. row ≡ range_of (domain_view self.now.names.domain.now) (problem_view self.now.names.problem.now) (name.now ∷ [])) }
     {
-        let below = below_type(alloc, self.numbers.domain.kinds.slice(), name)?;
-        let objects = objects_of(alloc, &self.numbers, &below)?;
+        let below = below_type(alloc, self.names.domain.kinds.slice(), name)?;
+        let objects = objects_of(alloc, &self.names, &below)?;
         Ok(objects)
     }
 
     // The objects of a type. The first time they are looked for, and later copied.
     fn of_type(&mut self, alloc: Global, name: &'a [u8]) -> Result<Row<u32>, Memory>
-        ensures kept { self.new.numbers ≡ self.old.numbers }
-        ensures row { IfOk result (λ row. row ≡ range_of (domain_view self.old.numbers.domain.now) (problem_view self.old.numbers.problem.now) (name.now ∷ [])) }
+        ensures kept { self.new.names ≡ self.old.names }
+        ensures row { IfOk result (λ row. row ≡ range_of (domain_view self.old.names.domain.now) (problem_view self.old.names.problem.now) (name.now ∷ [])) }
     {
         if let Some(objects) = self.known.get(name) {
             return copied(alloc, objects.slice());
@@ -68,17 +68,17 @@ impl<'a> Ranges<'a> {
 
     // The objects of one of several types.
     fn of_types(&self, alloc: Global, words: &'a [Word]) -> Result<Row<u32>, Memory>
-        ensures { IfOk result (λ row. row ≡ range_of (domain_view self.now.numbers.domain.now) (problem_view self.now.numbers.problem.now) (names words.now)) }
+        ensures { IfOk result (λ row. row ≡ range_of (domain_view self.now.names.domain.now) (problem_view self.now.names.problem.now) (names words.now)) }
     {
-        let below = below_types(alloc, self.numbers.domain.kinds.slice(), words)?;
-        let objects = objects_of(alloc, &self.numbers, &below)?;
+        let below = below_types(alloc, self.names.domain.kinds.slice(), words)?;
+        let objects = objects_of(alloc, &self.names, &below)?;
         Ok(objects)
     }
 
     // The objects of one of the types that are written behind a variable. Where none is, all objects are.
     fn of_kinds(&mut self, alloc: Global, kinds: &'a [Word]) -> Result<Row<u32>, Memory>
-        ensures kept { self.new.numbers ≡ self.old.numbers }
-        ensures row { IfOk result (λ row. row ≡ range_of (domain_view self.old.numbers.domain.now) (problem_view self.old.numbers.problem.now) (or_object (names kinds.now))) }
+        ensures kept { self.new.names ≡ self.old.names }
+        ensures row { IfOk result (λ row. row ≡ range_of (domain_view self.old.names.domain.now) (problem_view self.old.names.problem.now) (or_object (names kinds.now))) }
     {
         match kinds {
             [] => Ok(self.of_type(alloc, OBJECT)?),
@@ -88,8 +88,8 @@ impl<'a> Ranges<'a> {
     }
 
     fn of_variable(&mut self, alloc: Global, variable: &'a Typed) -> Result<Range, Memory>
-        ensures kept { self.new.numbers ≡ self.old.numbers }
-        ensures range { IfOk result (λ r. r ≡ numbered_range (domain_view self.old.numbers.domain.now) (problem_view self.old.numbers.problem.now) (typed_view variable.now)) }
+        ensures kept { self.new.names ≡ self.old.names }
+        ensures range { IfOk result (λ r. r ≡ numbered_range (domain_view self.old.names.domain.now) (problem_view self.old.names.problem.now) (typed_view variable.now)) }
     {
         let objects = self.of_kinds(alloc, variable.kinds.slice())?;
         Ok(Range { objects })
@@ -101,8 +101,8 @@ impl<'a> Ranges<'a> {
         alloc: Global,
         variables: &'a [Typed],
     ) -> Result<Row<Range>, Memory>
-        ensures kept { self.new.numbers ≡ self.old.numbers }
-        ensures ranges { IfOk result (λ row. row ≡ map (numbered_range (domain_view self.old.numbers.domain.now) (problem_view self.old.numbers.problem.now)) (map typed_view variables.now)) }
+        ensures kept { self.new.names ≡ self.old.names }
+        ensures ranges { IfOk result (λ row. row ≡ map (numbered_range (domain_view self.old.names.domain.now) (problem_view self.old.names.problem.now)) (map typed_view variables.now)) }
     {
         let mut ranges = Row::new(alloc);
         for variable in variables {

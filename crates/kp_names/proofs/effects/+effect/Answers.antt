@@ -8,7 +8,7 @@ use Rattle.kp_names.proofs.effects.+effect.Goals as goal
 
 pub returns-after-loop-part-clause-effect : goal.returns-after-loop-part-clause-effect
 returns-after-loop-part-clause-effect t c =
-    let d = domain_view c.args.ranges.now.numbers.domain.now in
-    let p = problem_view c.args.ranges.now.numbers.problem.now in
+    let d = domain_view c.args.ranges.now.names.domain.now in
+    let p = problem_view c.args.ranges.now.names.problem.now in
     let all : map eff_view c.loop-part.row ≡ map (numbered_eff d p c.args.scope.now) (map tree_view c.in-All.parts) = grind (arith, common_steps, c.loop-part.invariant.so_far, c.slice-part-items.ensures) in
     all_effs d p c.args.scope.now c.loop-part.row c.in-All.parts all ∙ ap (λ z. numbered_eff d p c.args.scope.now (tree_view z)) (sym c.in-All.is)

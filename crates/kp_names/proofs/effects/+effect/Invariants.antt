@@ -6,6 +6,6 @@ use Rattle.kp_names.proofs.effects.+effect.Given as goal
 
 abbrev pub invariant-loop-part : goal.invariant-loop-part
 invariant-loop-part l = record {
-  kept : l.ranges.numbers ≡ l.fn.ranges.numbers;
-  so_far : map eff_view l.row ++ map (numbered_eff (domain_view l.fn.ranges.numbers.domain.now) (problem_view l.fn.ranges.numbers.problem.now) l.scope) (map tree_view (drop l.part-index l.part-items)) ≡ map (numbered_eff (domain_view l.fn.ranges.numbers.domain.now) (problem_view l.fn.ranges.numbers.problem.now) l.scope) (map tree_view l.part-items);
+  kept : l.ranges.names ≡ l.fn.ranges.names;
+  so_far : map eff_view l.row ++ map (numbered_eff (domain_view l.fn.ranges.names.domain.now) (problem_view l.fn.ranges.names.problem.now) l.scope) (map tree_view (drop l.part-index l.part-items)) ≡ map (numbered_eff (domain_view l.fn.ranges.names.domain.now) (problem_view l.fn.ranges.names.problem.now) l.scope) (map tree_view l.part-items);
 }

@@ -5,4 +5,4 @@ use Rattle.kp_names.specs.Steps.{mark_line}
 use Rattle.kp_names.proofs.marks.mark_lines.Given as goal
 
 abbrev pub invariant-loop-line : goal.invariant-loop-line
-invariant-loop-line l = fold (mark_line (objects (domain_view l.numbers.domain.now) (problem_view l.numbers.problem.now)) l.below) l.marks.items (map typed_view (drop l.line-index l.lines)) ≡ fold (mark_line (objects (domain_view l.numbers.domain.now) (problem_view l.numbers.problem.now)) l.below) l.fn.marks.items (map typed_view l.lines)
+invariant-loop-line l = fold (mark_line (objects (domain_view l.names.domain.now) (problem_view l.names.problem.now)) l.below) l.marks.items (map typed_view (drop l.line-index l.lines)) ≡ fold (mark_line (objects (domain_view l.names.domain.now) (problem_view l.names.problem.now)) l.below) l.fn.marks.items (map typed_view l.lines)

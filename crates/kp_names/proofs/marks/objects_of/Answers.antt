@@ -8,7 +8,7 @@ use Rattle.kp_names.proofs.marks.objects_of.Goals as goal
 -- there are as many marks as objects
 pub marked-requires : goal.marked-requires
 marked-requires c =
-    let os = objects (domain_view c.args.numbers.now.domain.now) (problem_view c.args.numbers.now.problem.now) in
+    let os = objects (domain_view c.args.names.now.domain.now) (problem_view c.args.names.now.problem.now) in
     let first = marks_length os c.args.below.now c.in_ok-marks.marks.items (map typed_view c.slice.result.now) in
     let second = marks_length os c.args.below.now c.mark_lines.new.marks.items (map typed_view c.slice-2.result.now) in
     let kept : length c.deref.result.now ≡ length c.in_ok-marks.marks.items = ap length (c.deref.ensures.value ∙ c.mark_lines-2.ensures) ∙ (second ∙ (ap length c.mark_lines.ensures ∙ first)) in
@@ -16,8 +16,8 @@ marked-requires c =
 
 pub returns : goal.returns
 returns c ts below =
-    let d = domain_view c.args.numbers.now.domain.now in
-    let p = problem_view c.args.numbers.now.problem.now in
+    let d = domain_view c.args.names.now.domain.now in
+    let p = problem_view c.args.names.now.problem.now in
     let os = objects d p in
     let clean : c.in_ok-marks.marks.items ≡ replicate c.object_count.result false = c.in_ok-marks.ensures.items_if_clones_equal (λ y h. cc) in
     let first : c.in_ok-marks.marks.items ≡ map (λ o. false) os = clean ∙ (ap (λ n. replicate n false) c.object_count.ensures ∙ no_marks os) in

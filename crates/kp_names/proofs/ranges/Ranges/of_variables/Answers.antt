@@ -7,7 +7,7 @@ use Rattle.kp_names.proofs.ranges.Ranges.of_variables.Goals as goal
 pub loop-variable-preserved : goal.loop-variable-preserved
 loop-variable-preserved c =
     let self = c.args.self.now in
-    let range = numbered_range (domain_view self.numbers.domain.now) (problem_view self.numbers.problem.now) in
+    let range = numbered_range (domain_view self.names.domain.now) (problem_view self.names.problem.now) in
     let this : c.in_ok-of_variable.field-0 ≡ range (typed_view c.variable-item.result) =
         c.in_ok-of_variable.ensures.range ∙ ap (λ n. numbered_range (domain_view n.domain.now) (problem_view n.problem.now) (typed_view c.variable-item.result)) c.loop-variable.invariant.kept in
     record {
