@@ -2,12 +2,15 @@
 #![tactic(auto)]
 
 mod declarations;
-mod effects;
 mod faults;
 mod first;
+mod judge;
+mod laws;
 mod name_set;
 mod predicates;
+mod schema_faults;
 mod tables;
 mod whole;
 
 pub use kp_meaning::{GroundLit, Item, Pred, Range, Term};
+pub use laws::the_first_fault_is_first;

@@ -6,7 +6,7 @@ use Rattle.kp_names.specs.Collected.{domain_of, problem_of}
 use Rattle.kp_names.specs.Noted.{noted}
 use Rattle.kp_names.specs.Steps.{with_name}
 use Rattle.kp_names.proofs.Scopes.{noted_schema}
-use Rattle.kp_names.proofs.effects.note_schema.Goals as goal
+use Rattle.kp_names.proofs.schema_faults.note_schema.Goals as goal
 
 pub returns : goal.returns
 returns c =

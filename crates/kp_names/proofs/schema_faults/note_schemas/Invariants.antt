@@ -4,7 +4,7 @@ use Rattle.kp_grammar.specs.View.{schema_view}
 use Rattle.kp_meaning.specs.Faults.{schema_faults}
 use Rattle.kp_names.specs.Collected.{domain_of, problem_of}
 use Rattle.kp_names.specs.Noted.{noted}
-use Rattle.kp_names.proofs.effects.note_schemas.Given as goal
+use Rattle.kp_names.proofs.schema_faults.note_schemas.Given as goal
 
 -- with the schemas that are left come all
 abbrev pub invariant-loop-schema : goal.invariant-loop-schema

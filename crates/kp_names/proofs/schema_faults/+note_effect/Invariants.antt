@@ -4,7 +4,7 @@ use Rattle.kp_grammar.specs.View.{eff_view}
 use Rattle.kp_meaning.specs.Faults.{eff_faults, effs_faults}
 use Rattle.kp_names.specs.Collected.{domain_of, problem_of}
 use Rattle.kp_names.specs.Noted.{noted}
-use Rattle.kp_names.proofs.effects.+note_effect.Given as goal
+use Rattle.kp_names.proofs.schema_faults.+note_effect.Given as goal
 
 abbrev pub decreases-note_effect : goal.decreases-note_effect
 decreases-note_effect l = goal.size-note_effect l

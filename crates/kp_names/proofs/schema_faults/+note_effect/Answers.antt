@@ -9,7 +9,7 @@ use Rattle.kp_meaning.specs.Faults.{eff_faults}
 use Rattle.kp_names.specs.Collected.{domain_of, problem_of}
 use Rattle.kp_names.specs.Noted.{noted}
 use Rattle.kp_names.proofs.Scopes.{noted_each}
-use Rattle.kp_names.proofs.effects.+note_effect.Goals as goal
+use Rattle.kp_names.proofs.schema_faults.+note_effect.Goals as goal
 
 pub returns-in_ok-note_effect-in-Each-clause-noted : goal.returns-in_ok-note_effect-in-Each-clause-noted
 returns-in_ok-note_effect-in-Each-clause-noted t c =
