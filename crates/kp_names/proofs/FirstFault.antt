@@ -1,10 +1,16 @@
 -- The first fault is what its name says, and what is noted one by one.
-use Rattle.std.proofs.Common.{◌≡◌, ◌≤◌, ◌<◌, ◌⊎◌, ℕ, Bool, true, false, if◌then◌else◌, List, [], ◌∷◌, fold, nat_lt, Option, Some, None, refl, sym, ap, ◌∙◌, inl, inr, subst, arith, ltb-true, ltb-false, lt-ltb, le-ltb}
+use Rattle.std.proofs.Common.{◌≡◌, ◌≤◌, ◌<◌, ◌⊎◌, ℕ, Bool, true, false, if◌then◌else◌, List, [], ◌∷◌, fold, nat_lt, Option, Some, None, Result, Ok, Err, refl, sym, ap, ◌∙◌, inl, inr, subst, arith, ltb-true, ltb-false, lt-ltb, le-ltb}
 use Rattle.std.specs.List.{AllByRecursion}
 use Rattle.kp_base.specs.Lists.{Member}
-use Rattle.kp_meaning.specs.Faults.{Fault, byte_of, IsFirst}
-use Rattle.kp_names.specs.Resolved.{earlier, first_fault}
-use Rattle.kp_names.specs.Noted.{noted, sooner}
+use Rattle.kp_base.specs.declared.refused.Part.{Part}
+use Rattle.kp_base.specs.declared.refused.Part.TheVariants as parts
+use Rattle.kp_base.specs.declared.refused.Stop.{Stop}
+use Rattle.kp_base.specs.declared.refused.Stop.TheVariants as stops
+use Rattle.kp_grammar.specs.declared.tree.Word.{Word}
+use Rattle.kp_grammar.specs.Trees.{Domain, Problem}
+use Rattle.kp_meaning.specs.Faults.{Fault, byte_of, IsFirst, HasNoFault, domain_faults, problem_faults}
+use Rattle.kp_names.specs.Resolved.{earlier, first_fault, refusal_of, RefusesNames, in_domain, in_problem}
+use Rattle.kp_names.specs.Noted.{noted, sooner, Refuses, Judges, JudgesBoth}
 
 -- ---- what is called the first fault is the first
 
@@ -77,3 +83,24 @@ noted_both o (f ∷ fs) = noted_both (sooner o f) fs ∙ (ap (λ x. both x (firs
 -- with none at the start, the first is found
 pub noted_first : (fs : List Fault) → noted None fs ≡ first_fault fs
 noted_first fs = noted_both None fs
+
+-- ---- refusals
+
+pub judged : {T : Type 0} (part : Part) (text : List ℕ) (o : Option Fault) (fs : List Fault) (r : Result T Stop) → o ≡ noted None fs → Refuses part text o r → Judges part text fs r
+judged part text o fs (Ok x) e h = none_there fs (sym (noted_first fs) ∙ (sym e ∙ h))
+judged part text o fs (Err stops.Memory) e h = tt
+judged part text o fs (Err (stops.Refused r)) e h = (h.0, (sym (noted_first fs) ∙ (sym e ∙ h.1.0), h.1.1))
+
+-- the domain is refused
+pub domain_refused : (T U : Type 0) (s t u : List ℕ) (fs : List Fault) (d : Domain Word) (p : Problem Word) (e : Stop) → s ≡ t → fs ≡ domain_faults d p → Judges {T = T} parts.Domain s fs (Err e) → JudgesBoth {T = U} t u d p (Err e)
+domain_refused T U s t u fs d p stops.Memory text faults h = tt
+domain_refused T U s t u fs d p (stops.Refused r) text faults h =
+    let found = sym (ap first_fault faults) ∙ h.1.0 in
+    let is : r ≡ refusal_of parts.Domain t h.0 = h.1.1 ∙ ap (λ x. refusal_of parts.Domain x h.0) text in
+    subst (RefusesNames t u d p) (sym is) (in_domain h.0 found)
+
+-- the domain has no fault, and so the problem decides
+pub problem_judged : {T : Type 0} (t u : List ℕ) (d : Domain Word) (p : Problem Word) (r : Result T Stop) → domain_faults d p ≡ [] → Judges parts.Problem u (problem_faults d p) r → JudgesBoth t u d p r
+problem_judged t u d p (Ok x) e h = record { domain = e; problem = h }
+problem_judged t u d p (Err stops.Memory) e h = tt
+problem_judged t u d p (Err (stops.Refused r)) e h = subst (RefusesNames t u d p) (sym h.1.1) (in_problem h.0 e h.1.0)

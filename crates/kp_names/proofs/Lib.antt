@@ -4,6 +4,7 @@ pub mod Scopes
 pub mod Held
 pub mod Within
 pub mod FirstFault
+pub mod InText
 pub mod NumbersOfNames
 pub mod Views
 pub mod Variables

@@ -7,6 +7,8 @@ mod effects;
 mod faults;
 mod first;
 mod items;
+mod judge;
+mod laws;
 mod lifted;
 mod marks;
 mod name_set;
@@ -21,4 +23,5 @@ mod unsure;
 mod whole;
 
 pub use kp_meaning::{GroundLit, Item, Pred, Range, Term};
+pub use laws::the_first_fault_is_first;
 pub use lifted::{Cond, Eff, Lifted, Schema};

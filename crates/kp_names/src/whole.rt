@@ -6,10 +6,10 @@ ghost use Rattle.kp_names.specs.Collected.{domain_of, problem_of};
 ghost use Rattle.kp_names.specs.Noted.{noted};
 
 use crate::declarations::{note_twice, note_twice_heads, note_twice_schemas, note_types};
-use crate::schema_faults::note_schemas;
 use crate::faults::{note_cond, note_item};
 use crate::first::First;
 use crate::name_set::NameSet;
+use crate::schema_faults::note_schemas;
 use crate::tables::Names;
 use kp_base::Memory;
 use kp_grammar::{ItemTree, PredTree};
