@@ -1,5 +1,5 @@
 -- The first fault is what its name says, and what is noted one by one.
-use Rattle.std.proofs.Common.{◌≡◌, ◌≤◌, ◌<◌, ◌⊎◌, ℕ, Bool, true, false, if◌then◌else◌, List, [], ◌∷◌, fold, nat_lt, Option, Some, None, Result, Ok, Err, refl, sym, ap, ◌∙◌, inl, inr, subst, arith, ltb-true, ltb-false, lt-ltb, le-ltb}
+use Rattle.std.proofs.Common.{◌≡◌, ◌≤◌, ◌<◌, ◌⊎◌, ℕ, Bool, true, false, if◌then◌else◌, List, [], ◌∷◌, fold, nat_lt, Option, Some, None, Result, Ok, Err, refl, sym, ap, ap₂, ◌∙◌, inl, inr, subst, arith, ltb-true, ltb-false, lt-ltb, le-ltb}
 use Rattle.std.specs.List.{AllByRecursion}
 use Rattle.kp_base.specs.Lists.{Member}
 use Rattle.kp_base.specs.declared.refused.Part.{Part}
@@ -9,7 +9,10 @@ use Rattle.kp_base.specs.declared.refused.Stop.TheVariants as stops
 use Rattle.kp_grammar.specs.declared.tree.Word.{Word}
 use Rattle.kp_grammar.specs.Trees.{Domain, Problem}
 use Rattle.kp_meaning.specs.Faults.{Fault, byte_of, IsFirst, HasNoFault, domain_faults, problem_faults}
-use Rattle.kp_names.specs.Resolved.{earlier, first_fault, refusal_of, RefusesNames, in_domain, in_problem}
+use Rattle.kp_names.specs.Resolved.{earlier, first_fault, refusal_of, RefusesNames, in_domain, in_problem, unsure_place, IsResolved, AnswersNames}
+use Rattle.kp_meaning.specs.Numbering.{numbered_problem}
+use Rattle.kp_names.specs.declared.lifted.Lifted.{Lifted}
+use Rattle.kp_names.specs.View.{lifted_view}
 use Rattle.kp_names.specs.Noted.{noted, sooner, Refuses, Judges, JudgesBoth}
 
 -- ---- what is called the first fault is the first
@@ -104,3 +107,16 @@ pub problem_judged : {T : Type 0} (t u : List ℕ) (d : Domain Word) (p : Proble
 problem_judged t u d p (Ok x) e h = record { domain = e; problem = h }
 problem_judged t u d p (Err stops.Memory) e h = tt
 problem_judged t u d p (Err (stops.Refused r)) e h = subst (RefusesNames t u d p) (sym h.1.1) (in_problem h.0 e h.1.0)
+
+-- what is refused is answered so
+pub refused : (T : Type 0) (t u : List ℕ) (D d : Domain Word) (P p : Problem Word) (e : Stop) → D ≡ d → P ≡ p → JudgesBoth {T = T} t u D P (Err e) → AnswersNames t u d p (Err e)
+refused T t u D d P p stops.Memory f g h = tt
+refused T t u D d P p (stops.Refused r) f g h = subst (λ x. RefusesNames t u x p r) f (subst (λ y. RefusesNames t u D y r) g h)
+
+-- and what has no fault and is numbered
+pub answered : (u : List ℕ) (D d : Domain Word) (P p : Problem Word) (l : Lifted) → D ≡ d → P ≡ p → HasNoFault D P → lifted_view l ≡ numbered_problem D P → l.unsure ≡ unsure_place u P → IsResolved u d p l
+answered u D d P p l f g h n s = record {
+  no_fault = subst (λ x. HasNoFault x p) f (subst (λ y. HasNoFault D y) g h);
+  numbered = n ∙ ap₂ numbered_problem f g;
+  unsure = s ∙ ap (unsure_place u) g;
+}

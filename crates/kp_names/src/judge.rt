@@ -2,7 +2,6 @@ ghost use Rattle.std.specs.Prelude.{◌≡◌, ◌≤◌, length, Some};
 ghost use Rattle.kp_base.specs.declared.refused.Part.TheVariants as parts;
 ghost use Rattle.kp_grammar.specs.Grammar as grammar;
 ghost use Rattle.kp_grammar.specs.PlainTexts.{ReadsAs};
-ghost use Rattle.kp_grammar.specs.View.{domain_view, problem_view};
 ghost use Rattle.kp_meaning.specs.Faults.{Fault as Wrong, byte_of, domain_faults, problem_faults};
 ghost use Rattle.kp_names.specs.Collected.{domain_of, problem_of};
 ghost use Rattle.kp_names.specs.Noted.{Refuses, Judges, JudgesBoth};
@@ -11,7 +10,6 @@ use crate::first::First;
 use crate::tables::Names;
 use crate::whole::{note_domain, note_problem};
 use kp_base::{Part, Stop, Texts};
-use kp_grammar::{Domain, Problem};
 use std::alloc::Global;
 
 // Refuses a file that has a fault.
@@ -49,14 +47,13 @@ fn judge_problem(alloc: Global, bytes: &[u8], names: &Names) -> Result<(), Stop>
 }
 
 /// Refuses two trees that have a fault, at the first of the domain, or else of the problem.
-pub fn judge(alloc: Global, bytes: &Texts, domain: &Domain, problem: &Problem) -> Result<(), Stop>
+pub fn judge(alloc: Global, bytes: &Texts, names: &Names) -> Result<(), Stop>
     requires domain_short { length bytes.now.domain ≤ 16777216 }
     requires problem_short { length bytes.now.problem ≤ 16777216 }
-    requires domain_reads { ReadsAs grammar.domain bytes.now.domain (domain_view domain.now) }
-    requires problem_reads { ReadsAs grammar.problem bytes.now.problem (problem_view problem.now) }
-    ensures { JudgesBoth bytes.now.domain bytes.now.problem (domain_view domain.now) (problem_view problem.now) result }
+    requires domain_reads { ReadsAs grammar.domain bytes.now.domain (domain_of names.now) }
+    requires problem_reads { ReadsAs grammar.problem bytes.now.problem (problem_of names.now) }
+    ensures { JudgesBoth bytes.now.domain bytes.now.problem (domain_of names.now) (problem_of names.now) result }
 {
-    let names = Names::collect(alloc, domain, problem)?;
-    judge_domain(alloc, bytes.domain.slice(), &names)?;
-    judge_problem(alloc, bytes.problem.slice(), &names)
+    judge_domain(alloc, bytes.domain.slice(), names)?;
+    judge_problem(alloc, bytes.problem.slice(), names)
 }
