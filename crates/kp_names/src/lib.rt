@@ -25,3 +25,6 @@ mod whole;
 pub use kp_meaning::{GroundLit, Item, Pred, Range, Term};
 pub use laws::the_first_fault_is_first;
 pub use lifted::{Cond, Eff, Lifted, Schema};
+
+#[cfg(test)]
+mod tests;

@@ -52,11 +52,7 @@ fn marked(alloc: Global, marks: &[bool]) -> Result<Row<u32>, Memory>
 }
 
 /// The objects of some types, given what is below these types.
-pub fn objects_of(
-    alloc: Global,
-    names: &Names,
-    below: &NameSet,
-) -> Result<Row<u32>, Memory>
+pub fn objects_of(alloc: Global, names: &Names, below: &NameSet) -> Result<Row<u32>, Memory>
     ensures { (ts : List Name) → AreBelow (domain_view names.now.domain.now).kinds ts below.now → IfOk result (λ row. row ≡ range_of (domain_view names.now.domain.now) (problem_view names.now.problem.now) ts) }
 {
     let mut marks = vec![in alloc; false; names.object_count() as usize]?;

@@ -5,8 +5,8 @@ ghost use Rattle.kp_meaning.specs.Numbering.{numbered_term, numbered_terms, numb
 ghost use Rattle.kp_names.specs.View.{cond_view};
 
 use crate::lifted::Cond;
-use crate::tables::Names;
 use crate::scope::Scope;
+use crate::tables::Names;
 use kp_base::{Memory, Row};
 use kp_grammar::{CondTree, TermTree};
 use kp_meaning::Term;

@@ -22,7 +22,7 @@ returns c ts below =
     let clean : c.in_ok-marks.marks.items ≡ replicate c.object_count.result false = c.in_ok-marks.ensures.items_if_clones_equal (λ y h. cc) in
     let first : c.in_ok-marks.marks.items ≡ map (λ o. false) os = clean ∙ (ap (λ n. replicate n false) c.object_count.ensures ∙ no_marks os) in
     let then : c.mark_lines.new.marks.items ≡ fold (mark_line os c.args.below.now) (map (λ o. false) os) d.constants =
-        c.mark_lines.ensures ∙ (ap (λ ms. fold (mark_line os c.args.below.now) ms (map typed_view c.slice.result.now)) first ∙ ap (λ ls. fold (mark_line os c.args.below.now) (map (λ o. false) os) (map typed_view ls)) c.slice.ensures) in
+    c.mark_lines.ensures ∙ (ap (λ ms. fold (mark_line os c.args.below.now) ms (map typed_view c.slice.result.now)) first ∙ ap (λ ls. fold (mark_line os c.args.below.now) (map (λ o. false) os) (map typed_view ls)) c.slice.ensures) in
     let last : c.deref.result.now ≡ fold (mark_line os c.args.below.now) (fold (mark_line os c.args.below.now) (map (λ o. false) os) d.constants) p.objects =
-        c.deref.ensures.value ∙ (c.mark_lines-2.ensures ∙ (ap (λ ms. fold (mark_line os c.args.below.now) ms (map typed_view c.slice-2.result.now)) then ∙ ap (λ ls. fold (mark_line os c.args.below.now) (fold (mark_line os c.args.below.now) (map (λ o. false) os) d.constants) (map typed_view ls)) c.slice-2.ensures)) in
+    c.deref.ensures.value ∙ (c.mark_lines-2.ensures ∙ (ap (λ ms. fold (mark_line os c.args.below.now) ms (map typed_view c.slice-2.result.now)) then ∙ ap (λ ls. fold (mark_line os c.args.below.now) (fold (mark_line os c.args.below.now) (map (λ o. false) os) d.constants) (map typed_view ls)) c.slice-2.ensures)) in
     c.in_ok-row.ensures ∙ (ap (marked_from 0) last ∙ marked_are d p ts c.args.below.now below)

@@ -14,7 +14,7 @@ returns-clause-numbered c =
     let d-then : domain_view then.domain.now ≡ d = ap (λ n. domain_view n.domain.now) c.schemas.ensures.kept in
     let p-then : problem_view then.problem.now ≡ p = ap (λ n. problem_view n.problem.now) c.schemas.ensures.kept in
     let schemas : map schema_view c.schemas-2.inside.items.items ≡ map (numbered_schema d p) d.schemas =
-        ap (map schema_view) c.schemas-2.view_is ∙ (c.in_ok-schemas.ensures.schemas ∙ ap (λ ts. map (numbered_schema d p) (map schema_tree_view ts)) c.slice.ensures) in
+    ap (map schema_view) c.schemas-2.view_is ∙ (c.in_ok-schemas.ensures.schemas ∙ ap (λ ts. map (numbered_schema d p) (map schema_tree_view ts)) c.slice.ensures) in
     same_parts _ _ _ _ _ _ _ _ _ _
     (c.in_ok-object_texts.ensures ∙ ap₂ objects d-then p-then)
     (c.in_ok-predicates.ensures ∙ ap (λ ts. map numbered_pred (map pred_view ts)) c.slice-2.ensures)
