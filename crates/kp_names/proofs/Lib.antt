@@ -1,0 +1,14 @@
+pub mod Gathering
+pub mod Entries
+pub mod Scopes
+pub mod Held
+pub mod Within
+pub mod FirstFault
+pub mod InText
+pub mod NumbersOfNames
+pub mod Views
+pub mod Variables
+pub mod TypesBelow
+pub mod ObjectsOfTypes
+pub mod KnownTypes
+pub mod WholeProblem

@@ -5,10 +5,15 @@ use Rattle.kp_base.specs.declared.refused.Part.TheVariants as parts
 use Rattle.kp_base.specs.declared.refused.Place.{Place}
 use Rattle.kp_base.specs.declared.refused.Refused.{Refused}
 use Rattle.kp_base.specs.declared.refused.Refused.TheVariants as refusals
+use Rattle.kp_base.specs.declared.refused.Stop.{Stop}
+use Rattle.kp_base.specs.declared.refused.Stop.TheVariants as stops
 use Rattle.kp_lex.specs.Places.{place_of}
 use Rattle.kp_grammar.specs.declared.tree.Word.{Word}
 use Rattle.kp_grammar.specs.Trees.{Item, Items, no_item, more_items, Domain, Problem}
-use Rattle.kp_meaning.specs.Faults.{Fault, unknown_name, declared_twice, wrong_use, byte_of, domain_faults, problem_faults}
+use Rattle.kp_meaning.specs.Faults.{Fault, unknown_name, declared_twice, wrong_use, byte_of, domain_faults, problem_faults, HasNoFault}
+use Rattle.kp_meaning.specs.Numbering.{numbered_problem}
+use Rattle.kp_names.specs.declared.lifted.Lifted.{Lifted}
+use Rattle.kp_names.specs.View.{lifted_view}
 
 -- ---- faults
 
@@ -66,3 +71,17 @@ place_in problem (Some w) = Some (place_of parts.Problem problem w.byte)
 -- the place of the first `oneof`, `or` or `unknown` of `:init`
 abbrev pub unsure_place : List ℕ → Problem Word → Option Place
 unsure_place problem p = place_in problem (first_unsure p.init)
+
+-- ---- answers
+
+-- the problem by number of two trees that have no fault, with the place of what leaves its initial state open
+pub record IsResolved (problem : List ℕ) (d : Domain Word) (p : Problem Word) (l : Lifted) : Type 0 where
+  pub no_fault : HasNoFault d p
+  pub numbered : lifted_view l ≡ numbered_problem d p
+  pub unsure : l.unsure ≡ unsure_place problem p
+
+-- of two trees: the problem by number, or their refusal; want of memory is free
+abbrev pub AnswersNames : (domain problem : List ℕ) (d : Domain Word) (p : Problem Word) → Result Lifted Stop → Type 0
+AnswersNames domain problem d p (Ok l) = IsResolved problem d p l
+AnswersNames domain problem d p (Err stops.Memory) = Unit {0}
+AnswersNames domain problem d p (Err (stops.Refused r)) = RefusesNames domain problem d p r
