@@ -8,7 +8,7 @@ use kp_lex::place;
 use std::marker::Model;
 
 /// What is wrong with a token, and the byte at which it begins.
-#[derive(Clone, Copy)]
+#[derive(Clone, Copy, Debug, PartialEq, Eq)]
 pub enum Fault {
     /// It names nothing.
     UnknownName(u32),
