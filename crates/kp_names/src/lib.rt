@@ -29,4 +29,6 @@ pub use lifted::{Cond, Eff, Lifted, Schema};
 pub use resolving::resolve;
 
 #[cfg(test)]
+mod fault_tests;
+#[cfg(test)]
 mod tests;
