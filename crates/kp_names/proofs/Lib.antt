@@ -7,7 +7,6 @@ pub mod FirstFault
 pub mod InText
 pub mod NumbersOfNames
 pub mod Views
-pub mod Variables
 pub mod TypesBelow
 pub mod ObjectsOfTypes
 pub mod KnownTypes

@@ -27,8 +27,3 @@ pub use kp_meaning::{GroundLit, Item, Pred, Range, Term};
 pub use laws::the_first_fault_is_first;
 pub use lifted::{Cond, Eff, Lifted, Schema};
 pub use resolving::resolve;
-
-#[cfg(test)]
-mod fault_tests;
-#[cfg(test)]
-mod tests;
