@@ -124,14 +124,6 @@ impl<'a> Names<'a> {
         self.object_names.has(name.slice())
     }
 
-    /// The number of an object.
-    #[tactic(auto, unfolding(crate::specs::Collected::domain_of, crate::specs::Collected::problem_of))]
-    pub fn object(&self, name: &Text) -> Option<u32>
-        ensures { result ≡ number_of (objects (domain_of self.now) (problem_of self.now)) name.now }
-    {
-        self.object_names.find(name.slice())
-    }
-
     /// The first declaration of a predicate.
     #[tactic(auto, unfolding(crate::specs::Collected::domain_of))]
     pub fn predicate(&self, name: &Text) -> Option<Declared>
