@@ -83,7 +83,6 @@ fn objects_of<'a>(
 }
 
 impl<'a> Names<'a> {
-    ghost use Rattle.kp_names.specs.Tables.{number_of};
     ghost use Rattle.kp_names.specs.Collected.{domain_of, problem_of};
 
     /// The names that two trees declare.
