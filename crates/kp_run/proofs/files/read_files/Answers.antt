@@ -39,5 +39,8 @@ returns-in_err-resolve-clause-refusal c r is =
     let pv = problem_view c.in_ok-problem_tree.problem_tree in
     names_of_translate c.args.domain.bytes c.args.problem.bytes dv pv r (refused_names c.args.domain.bytes c.args.problem.bytes dv pv c.resolve.result r c.resolve.ensures (let e = rw is at c.from_residual-in_err-resolve.ensures.1 in cc (c.in_err-resolve.was, e)))
 
+pub returns-clause-trees : goal.returns-clause-trees
+returns-clause-trees c = record { domain_reads = c.in_ok-domain_tree.ensures.tree; problem_reads = c.in_ok-problem_tree.ensures.tree; no_fault = c.in_ok-resolve.ensures.no_fault }
+
 pub returns-clause-whole : goal.returns-clause-whole
 returns-clause-whole c d p first second = (c.in_ok-domain_tree.ensures.whole d first, c.in_ok-problem_tree.ensures.whole p second)
