@@ -30,6 +30,3 @@ pub use kp_nodes::{
 };
 pub use laws::a_file_has_one_answer;
 pub use parse::{parse_domain, parse_problem};
-
-#[cfg(test)]
-mod tests;

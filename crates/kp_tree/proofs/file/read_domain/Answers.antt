@@ -16,4 +16,4 @@ returns-in_err-tokens c =
 pub returns-in_err-node : goal.returns-in_err-node
 returns-in_err-node c =
     let p = err_from_is_err_and c.from_residual-in_err-node.result c.from_residual-in_err-node.ensures.1 in
-    rw (p.1, p.2) (stopped parts.Domain domain c.args.bytes.now c.requires c.slice.result.now (rw c.slice.ensures c.in_ok-tokens.ensures.right) nodes.domain_view domain_view c.in_err-node.field-0.0 c.in_err-node.ensures)
+    rw (p.1, p.2) (stopped parts.Domain domain c.args.bytes.now c.requires _ c.in_ok-tokens.ensures.right nodes.domain_view domain_view c.in_err-node.field-0.0 c.in_err-node.ensures)
