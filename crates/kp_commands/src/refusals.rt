@@ -111,17 +111,3 @@ fn one_bracket_too_deep(rt: HostRuntime) -> Result<(), Fail> {
     assert!(rt; refuses(alloc, &domain, PROBLEM.as_bytes(), 3, printed)?);
     Ok(())
 }
-
-// The longest file that is read, and one of a byte more.
-#[test]
-fn one_byte_too_long(rt: HostRuntime) -> Result<(), Fail> {
-    let alloc = rt.alloc();
-    let mut domain = Vec::with_capacity(alloc, 16_777_217)?;
-    domain.resize(16_777_216, b' ')?;
-    let whole = "refused 3 Syntax\nat domain line 1 byte 16777216\n";
-    assert!(rt; refuses(alloc, &domain, PROBLEM.as_bytes(), 3, whole)?);
-    domain.push(b' ')?;
-    let longer = "refused 1 TooLong\nfile domain\n";
-    assert!(rt; refuses(alloc, &domain, PROBLEM.as_bytes(), 3, longer)?);
-    Ok(())
-}
