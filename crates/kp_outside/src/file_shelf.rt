@@ -1,5 +1,8 @@
-ghost use Rattle.std.specs.Prelude.{◌≡◌, IfOk};
-ghost use Rattle.kp_outside.specs.Outside.{IsWithin};
+ghost use Rattle.std.specs.Prelude.{◌≡◌, ℕ, List, None, OnOk, IfOk, IsErrOf};
+ghost use Rattle.std.specs.Bool.{OnTrue};
+ghost use Rattle.std.specs.Str.{IsUtf8};
+ghost use Rattle.kp_outside.specs.Outside.{Counts, Gets, IsWithin, with_file};
+ghost use Rattle.kp_outside.specs.Numbered.{faults_after};
 
 use crate::transfer::{read_front, write_whole};
 use crate::{Got, OutsideStop, Shelf};
@@ -41,7 +44,8 @@ impl<'a, R: Files> FileShelf<'a, R> {
 }
 
 fn read_file<R: Files>(rt: &R, alloc: Global, name: &[u8], most: usize) -> Result<Got, OutsideStop>
-    ensures { IfOk result (IsWithin most) }
+    ensures within { IfOk result (IsWithin most) }
+    ensures named { ¬ (IsUtf8 name.now) → IsErrOf result OutsideStop.Failed }
 {
     let Ok(path) = str::from_utf8(name) else {
         return Err(OutsideStop::Failed);
@@ -52,7 +56,9 @@ fn read_file<R: Files>(rt: &R, alloc: Global, name: &[u8], most: usize) -> Resul
     }
 }
 
-fn write_file<R: Files>(rt: &R, name: &[u8], bytes: &[u8]) -> bool {
+fn write_file<R: Files>(rt: &R, name: &[u8], bytes: &[u8]) -> bool
+    ensures { OnTrue result (IsUtf8 name.now) }
+{
     let Ok(path) = str::from_utf8(name) else {
         return false;
     };
@@ -63,15 +69,20 @@ fn write_file<R: Files>(rt: &R, name: &[u8], bytes: &[u8]) -> bool {
 }
 
 impl<'a, R: Files> Shelf for FileShelf<'a, R> {
-    ghost use Rattle.std.specs.Prelude.{None};
-
     ghost contents = { λ _. None };
 
     ghost get_faults = { λ s _. s.gets };
 
     ghost put_faults = { λ s _. s.puts };
 
-    fn get(&mut self, alloc: Global, name: &[u8], most: usize) -> Result<Got, OutsideStop> {
+    fn get(&mut self, alloc: Global, name: &[u8], most: usize) -> Result<Got, OutsideStop>
+        ensures got { IfOk result (Gets None name.now most) }
+        ensures within { IfOk result (IsWithin most) }
+        ensures faults { Counts result name.now (λ _. self.old.gets) (λ _. self.new.gets) }
+        ensures put_faults { (q : List ℕ) → self.new.puts ≡ self.old.puts }
+        ensures after { self.new ≡ record self.old { gets = faults_after result self.old.gets } }
+        ensures named { ¬ (IsUtf8 name.now) → IsErrOf result OutsideStop.Failed }
+    {
         let result = read_file(self.rt, alloc, name, most);
         if matches!(&result, Err(OutsideStop::Failed)) {
             self.get_faults = self.get_faults.saturating_add(1);
@@ -79,7 +90,13 @@ impl<'a, R: Files> Shelf for FileShelf<'a, R> {
         result
     }
 
-    fn put(&mut self, _alloc: Global, name: &[u8], bytes: &[u8]) -> Result<(), OutsideStop> {
+    fn put(&mut self, _alloc: Global, name: &[u8], bytes: &[u8]) -> Result<(), OutsideStop>
+        ensures put { OnOk result (None ≡ with_file None name.now bytes.now) }
+        ensures faults { Counts result name.now (λ _. self.old.puts) (λ _. self.new.puts) }
+        ensures get_faults { (q : List ℕ) → self.new.gets ≡ self.old.gets }
+        ensures after { self.new ≡ record self.old { puts = faults_after result self.old.puts } }
+        ensures named { ¬ (IsUtf8 name.now) → IsErrOf result OutsideStop.Failed }
+    {
         if write_file(self.rt, name, bytes) {
             return Ok(());
         }
