@@ -38,7 +38,8 @@ use Rattle.kp_meaning.specs.Names.{same}
 use Rattle.kp_meaning.proofs.Texts.{tokens}
 use Rattle.kp_outside.specs.Outside.{FileMap}
 use Rattle.kp_given.proofs.ExampleWritable.{texts}
-use Rattle.kp_given.specs.PlainFiles.{ArePlainTexts, IsContradictory}
+use Rattle.kp_given.specs.PlainFiles.{ArePlainTexts}
+use Rattle.kp_given.specs.Laws.{HasInitialState}
 use Rattle.kp_given.specs.Translations.{translation_of}
 use Rattle.kp_run.specs.declared.status.Status.{Status}
 use Rattle.kp_run.specs.declared.status.Status.TheVariants as status
@@ -50,6 +51,7 @@ use Rattle.kp_run.specs.Due as dues
 use Rattle.kp_run.specs.Results.{Outcome, prints, translates, IsResult, refused, translated, with_files, ComesTo}
 use Rattle.kp_run.specs.Results as results
 use Rattle.kp_run.specs.Soundness.{IsSound}
+use Rattle.kp_run.proofs.Reading.{some_initial, never_initial}
 use Rattle.kp_run.proofs.Computed.{is_cut, reads_file}
 use Rattle.kp_run.proofs.Soundness.{at_last, under_another, is_sound}
 
@@ -106,8 +108,8 @@ none : (name : List ℕ) → Contains [] name → ⊥
 none name (n, below, is) = absurd (omega arith)
 
 -- p is stated, and nothing denied
-consistent : IsContradictory from_p_to_q_tree.init → ⊥
-consistent (name, stated, denied) = none name denied
+consistent : HasInitialState from_p_to_q_tree
+consistent = some_initial exchange from_p_to_q exchange_tree from_p_to_q_tree texts (λ both. none both.0 both.2)
 
 -- the trees of the two files
 domain_reads : Reads grammar.domain exchange exchange_tree
@@ -213,7 +215,7 @@ both_texts : ArePlainTexts exchange both exchange_tree both_tree
 both_texts = record { domain = exchange_plain; problem = both_plain; no_fault = record { domain = refl; problem = refl } }
 
 no_state : AnswersFiles (holding exchange both) command (status.Refused refusals.NoInitialState)
-no_state = on_files exchange both _ (no_initial_state exchange_tree both_tree both_trees both_texts (codes "p", (0, omega arith, refl), (0, omega arith, refl)))
+no_state = on_files exchange both _ (no_initial_state exchange_tree both_tree both_trees both_texts (never_initial exchange both exchange_tree both_tree both_texts (codes "p", (0, omega arith, refl), (0, omega arith, refl))))
 
 no_state_results : IsResult words (holding exchange both) (prints (status.Refused refusals.NoInitialState) (codes "refused 12 NoInitialState\n"))
 no_state_results = refused command refusals.NoInitialState is_command no_state

@@ -12,7 +12,7 @@ use Rattle.kp_names.specs.Resolved.{first_fault, refusal_of, RefusesNames, in_do
 use Rattle.kp_outside.specs.Outside.{FileMap}
 use Rattle.kp_run.specs.declared.status.Status.{Status}
 use Rattle.kp_run.specs.Command.{Command}
-use Rattle.kp_given.specs.PlainFiles.{IsContradictory}
+use Rattle.kp_given.specs.Laws.{HasInitialState}
 use Rattle.kp_run.specs.Texts.{HaveTrees, RefusesTexts, of_domain, of_problem, of_names}
 use Rattle.kp_run.specs.declared.status.Status.TheVariants as status
 use Rattle.kp_run.specs.Due.{Answers, refused, no_plain_domain, no_plain_problem, no_initial_state, done, AnswersFiles, IsDue, usage, answer}
@@ -84,11 +84,11 @@ answers_once x y _ _ (no_initial_state d p h i a) (refused s b) = absurd (refuse
 answers_once x y _ _ (no_initial_state d p h i a) (no_plain_domain e q k b) = absurd (b d i.domain)
 answers_once x y _ _ (no_initial_state d p h i a) (no_plain_problem e q k l b) = absurd (b p i.problem)
 answers_once x y _ _ (no_initial_state d p h i a) (no_initial_state e q k l b) = refl
-answers_once x y _ _ (no_initial_state d p h i a) (done e q k l b) = absurd (b (subst (λ z. IsContradictory z.init) (same_problem x y d e p q h k) a))
+answers_once x y _ _ (no_initial_state d p h i a) (done e q k l b) = absurd (a (subst HasInitialState (sym (same_problem x y d e p q h k)) b))
 answers_once x y _ _ (done d p h i a) (refused s b) = absurd (refused_or_read x y s d p b h)
 answers_once x y _ _ (done d p h i a) (no_plain_domain e q k b) = absurd (b d i.domain)
 answers_once x y _ _ (done d p h i a) (no_plain_problem e q k l b) = absurd (b p i.problem)
-answers_once x y _ _ (done d p h i a) (no_initial_state e q k l b) = absurd (a (subst (λ z. IsContradictory z.init) (sym (same_problem x y d e p q h k)) b))
+answers_once x y _ _ (done d p h i a) (no_initial_state e q k l b) = absurd (b (subst HasInitialState (same_problem x y d e p q h k) a))
 answers_once x y _ _ (done d p h i a) (done e q k l b) = refl
 
 pub files_once : (held : FileMap) (c : Command) (s t : Status) → AnswersFiles held c s → AnswersFiles held c t → s ≡ t

@@ -25,6 +25,10 @@ use Rattle.kp_names.specs.Resolved.{RefusesNames, in_domain, in_problem, Answers
 use Rattle.kp_run.specs.declared.status.Status.TheVariants as status
 use Rattle.kp_run.specs.Due.{IsOfTranslate}
 use Rattle.kp_run.specs.Reports.{IsTest}
+use Rattle.kp_given.specs.PlainFiles.{ArePlainTexts, IsContradictory}
+use Rattle.kp_given.specs.Laws.{HasInitialState}
+use Rattle.kp_given.proofs.PlainFiles.{files_are_plain}
+use Rattle.kp_given.proofs.Consistent.{contradictions}
 use Rattle.kp_run.specs.Among.{is_among, with_name}
 use Rattle.kp_run.proofs.Known.{among_gathered, shared, is_shared, contained, among}
 
@@ -81,3 +85,11 @@ contradiction stated denied = (
   (λ h. let found = shared (fold with_name [] stated) denied h in (found.0, contained stated found.0 (sym (among_gathered [] stated found.0) ∙ found.1), contained denied found.0 found.2)),
   (λ h. is_shared (fold with_name [] stated) denied h.0 (among_gathered [] stated h.0 ∙ among stated h.0 h.1) (among denied h.0 h.2)),
 )
+
+-- plain files that don't contradict themselves have an initial state
+pub some_initial : (x y : List ℕ) (d : Domain Word) (p : Problem Word) → ArePlainTexts x y d p → (IsContradictory p.init → ⊥) → HasInitialState p
+some_initial x y d p plain none = (contradictions d p (files_are_plain x y d p plain)).0 none
+
+-- and those that do have none
+pub never_initial : (x y : List ℕ) (d : Domain Word) (p : Problem Word) → ArePlainTexts x y d p → IsContradictory p.init → HasInitialState p → ⊥
+never_initial x y d p plain both initial = (contradictions d p (files_are_plain x y d p plain)).1 initial both

@@ -13,7 +13,8 @@ use Rattle.kp_run.specs.declared.answer.Report.TheVariants as reports
 use Rattle.kp_run.specs.declared.status.Status.{Status}
 use Rattle.kp_run.specs.declared.status.Status.TheVariants as status
 use Rattle.kp_run.specs.Command.{Command, IsCommand, IsNoCommand}
-use Rattle.kp_given.specs.PlainFiles.{ArePlainTexts, IsContradictory}
+use Rattle.kp_given.specs.PlainFiles.{ArePlainTexts}
+use Rattle.kp_given.specs.Laws.{HasInitialState}
 use Rattle.kp_run.specs.Texts.{HaveTrees}
 use Rattle.kp_run.specs.Printed.{usage_text, refusal_text}
 use Rattle.kp_run.specs.Due.{Answers, no_plain_domain, no_plain_problem, no_initial_state, done, AnswersFiles}
@@ -42,7 +43,7 @@ record IsOnTrees (domain problem : List ℕ) : Type 0 where
   second : Problem Word
   trees : HaveTrees domain problem first second
   plain : ArePlainTexts domain problem first second
-  consistent : IsContradictory second.init → ⊥
+  consistent : HasInitialState second
 
 on_trees : (domain problem : List ℕ) (s : Status) → Answers domain problem s → s ≡ status.Done → IsOnTrees domain problem
 on_trees domain problem _ (Answers.refused r a) e = absurd cc
@@ -81,7 +82,7 @@ report_result words held c (reports.Done t) files_old files_new told_old told_ne
 
 -- a command with a refusal and with a translation would have two answers
 no_refusal : (held : FileMap) (c : Command) (r : Refused) (domain problem : List ℕ) (d : Domain Word) (p : Problem Word) → AnswersFiles held c (status.Refused r) → get held c.domain ≡ Some domain → get held c.problem ≡ Some problem
-    → HaveTrees domain problem d p → ArePlainTexts domain problem d p → (IsContradictory p.init → ⊥) → ⊥
+    → HaveTrees domain problem d p → ArePlainTexts domain problem d p → HasInitialState p → ⊥
 no_refusal held c r domain problem d p a first second h i none =
     let one : status.Refused r ≡ status.Done = files_once held c (status.Refused r) status.Done a (record { domain = domain; problem = problem; domain_held = first; problem_held = second; answers = done d p h i none }) in absurd cc
 

@@ -9,8 +9,7 @@ use Rattle.kp_base.proofs.Lists.{same-true, same-refl}
 use Rattle.kp_outside.specs.Outside.{FileMap}
 use Rattle.kp_given.specs.Translations.{translation_of}
 use Rattle.kp_given.specs.Laws.{HasInitialState, HasThisProblem}
-use Rattle.kp_given.proofs.PlainFiles.{files_are_plain, files_have_a_problem}
-use Rattle.kp_given.proofs.Consistent.{contradictions}
+use Rattle.kp_given.proofs.PlainFiles.{files_have_a_problem}
 use Rattle.kp_sound.proofs.PlainFiles.{plain_files_sound}
 use Rattle.kp_run.specs.declared.status.Status.{Status}
 use Rattle.kp_run.specs.declared.status.Status.TheVariants as status
@@ -48,7 +47,7 @@ sound_result words before after c _ is (translated e domain problem d p so first
       domain_held = first;
       problem_held = second;
       has_problem = has.has;
-      initial_state = subst HasInitialState (sym has.problem) ((contradictions d p (files_are_plain domain problem d p plain)).0 consistent);
+      initial_state = subst HasInitialState (sym has.problem) consistent;
       domain_put = ap (λ m. get m e.domain_out) held ∙ (under_another (insert before e.domain_out (translation_of d p).domain) e.domain_out e.problem_out (translation_of d p).problem so.outputs_differ ∙ at_last before e.domain_out (translation_of d p).domain);
       problem_put = ap (λ m. get m e.problem_out) held ∙ at_last (insert before e.domain_out (translation_of d p).domain) e.problem_out (translation_of d p).problem;
       plans = plain_files_sound domain problem d p plain;

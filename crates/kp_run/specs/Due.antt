@@ -14,7 +14,8 @@ use Rattle.kp_outside.specs.Outside.{FileMap}
 use Rattle.kp_run.specs.declared.status.Status.{Status}
 use Rattle.kp_run.specs.declared.status.Status.TheVariants as status
 use Rattle.kp_run.specs.Command.{Command, IsCommand, IsNoCommand}
-use Rattle.kp_given.specs.PlainFiles.{ArePlainTexts, IsContradictory}
+use Rattle.kp_given.specs.PlainFiles.{ArePlainTexts}
+use Rattle.kp_given.specs.Laws.{HasInitialState}
 use Rattle.kp_run.specs.Texts.{HaveTrees, RefusesTexts}
 
 -- the answer on two texts: the first of these that holds, and only one of them does
@@ -22,8 +23,8 @@ pub data Answers (domain problem : List ℕ) : Status → Type 0 where
   refused : (r : Refused) → RefusesTexts domain problem r → Answers domain problem (status.Refused r)
   no_plain_domain : (d : trees.Domain Word) (p : trees.Problem Word) → HaveTrees domain problem d p → ((e : trees.Domain Word) → IsPlain plain_domain domain e → ⊥) → Answers domain problem (status.Refused (refusals.NotYet parts.Domain))
   no_plain_problem : (d : trees.Domain Word) (p : trees.Problem Word) → HaveTrees domain problem d p → IsPlain plain_domain domain d → ((q : trees.Problem Word) → IsPlain plain_problem problem q → ⊥) → Answers domain problem (status.Refused (refusals.NotYet parts.Problem))
-  no_initial_state : (d : trees.Domain Word) (p : trees.Problem Word) → HaveTrees domain problem d p → ArePlainTexts domain problem d p → IsContradictory p.init → Answers domain problem (status.Refused refusals.NoInitialState)
-  done : (d : trees.Domain Word) (p : trees.Problem Word) → HaveTrees domain problem d p → ArePlainTexts domain problem d p → (IsContradictory p.init → ⊥) → Answers domain problem status.Done
+  no_initial_state : (d : trees.Domain Word) (p : trees.Problem Word) → HaveTrees domain problem d p → ArePlainTexts domain problem d p → (HasInitialState p → ⊥) → Answers domain problem (status.Refused refusals.NoInitialState)
+  done : (d : trees.Domain Word) (p : trees.Problem Word) → HaveTrees domain problem d p → ArePlainTexts domain problem d p → HasInitialState p → Answers domain problem status.Done
 
 -- the answer on the files of a command, which are held
 pub record AnswersFiles (held : FileMap) (c : Command) (s : Status) : Type 0 where

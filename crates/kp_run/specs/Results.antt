@@ -11,7 +11,8 @@ use Rattle.kp_given.specs.Translations.{translation_of}
 use Rattle.kp_run.specs.declared.status.Status.{Status}
 use Rattle.kp_run.specs.declared.status.Status.TheVariants as status
 use Rattle.kp_run.specs.Command.{Command, IsCommand, IsNoCommand}
-use Rattle.kp_given.specs.PlainFiles.{ArePlainTexts, IsContradictory}
+use Rattle.kp_given.specs.PlainFiles.{ArePlainTexts}
+use Rattle.kp_given.specs.Laws.{HasInitialState}
 use Rattle.kp_run.specs.Texts.{HaveTrees}
 use Rattle.kp_run.specs.Due.{AnswersFiles}
 use Rattle.kp_run.specs.Printed.{usage_text, refusal_text}
@@ -44,7 +45,7 @@ pub data IsResult (words : List (Vec ℕ Global)) (held : FileMap) : Outcome →
   usage : IsNoCommand words → IsResult words held (prints status.Usage usage_text)
   refused : (c : Command) (r : Refused) → IsCommand words c → AnswersFiles held c (status.Refused r) → IsResult words held (prints (status.Refused r) (refusal_text r))
   translated : (c : Command) (domain problem : List ℕ) (d : trees.Domain Word) (p : trees.Problem Word) → IsCommand words c → get held c.domain ≡ Some domain → get held c.problem ≡ Some problem
-      → HaveTrees domain problem d p → ArePlainTexts domain problem d p → (IsContradictory p.init → ⊥) → IsResult words held (translates c (translation_of d p))
+      → HaveTrees domain problem d p → ArePlainTexts domain problem d p → HasInitialState p → IsResult words held (translates c (translation_of d p))
 
 -- what is held once the files are put
 abbrev pub with_files : Option FileMap → List FilePut → Option FileMap

@@ -3,6 +3,7 @@ use mathlib.Core.Bool.{true≢false}
 use Rattle.kp_grammar.specs.View.{domain_view, problem_view}
 use Rattle.kp_given.specs.PlainFiles.{ArePlainTexts}
 use Rattle.kp_run.specs.Due.{no_plain_domain, no_plain_problem, no_initial_state, done}
+use Rattle.kp_run.proofs.Reading.{some_initial, never_initial}
 use Rattle.kp_run.proofs.Reporting.{refused_as}
 use Rattle.kp_run.proofs.Translated.{translated}
 use Rattle.kp_run.proofs.answer.on_files.Goals as goal
@@ -26,15 +27,19 @@ returns-then-branch-clause-answers c =
     let domain = rw (c.slice.ensures, c.if-not-branch.false) at c.in_ok-is_plain_domain.ensures in
     let problem = rw (c.slice-2.ensures, c.if-not-branch-2.false) at c.in_ok-is_plain_problem.ensures in
     let test = rw c.slice-3.ensures at c.in_ok-is_contradictory.ensures in
+    let texts : ArePlainTexts c.args.files.now.texts.domain c.args.files.now.texts.problem (domain_view c.args.files.now.domain) (problem_view c.args.files.now.problem)
+    = record { domain = domain; problem = problem; no_fault = c.requires.no_fault } in
     refused_as c.refuse-then-branch.result _ c.refuse-then-branch.ensures
-    (no_initial_state (domain_view c.args.files.now.domain) (problem_view c.args.files.now.problem) c.requires (record { domain = domain; problem = problem; no_fault = c.requires.no_fault }) (test.0 c.if-branch.true))
+    (no_initial_state (domain_view c.args.files.now.domain) (problem_view c.args.files.now.problem) c.requires texts (never_initial _ _ _ _ texts (test.0 c.if-branch.true)))
 
 pub returns-clause-answers : goal.returns-clause-answers
 returns-clause-answers c =
     let domain = rw (c.slice.ensures, c.if-not-branch.false) at c.in_ok-is_plain_domain.ensures in
     let problem = rw (c.slice-2.ensures, c.if-not-branch-2.false) at c.in_ok-is_plain_problem.ensures in
     let test = rw c.slice-3.ensures at c.in_ok-is_contradictory.ensures in
-    done (domain_view c.args.files.now.domain) (problem_view c.args.files.now.problem) c.requires (record { domain = domain; problem = problem; no_fault = c.requires.no_fault }) (λ both. true≢false (sym (test.1 both) ∙ c.if-branch.false))
+    let texts : ArePlainTexts c.args.files.now.texts.domain c.args.files.now.texts.problem (domain_view c.args.files.now.domain) (problem_view c.args.files.now.problem)
+    = record { domain = domain; problem = problem; no_fault = c.requires.no_fault } in
+    done (domain_view c.args.files.now.domain) (problem_view c.args.files.now.problem) c.requires texts (some_initial _ _ _ _ texts (λ both. true≢false (sym (test.1 both) ∙ c.if-branch.false)))
 
 -- the translation
 pub returns-clause-translated : goal.returns-clause-translated
