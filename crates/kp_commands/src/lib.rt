@@ -2,8 +2,6 @@
 #![tactic(auto)]
 
 #[cfg(test)]
-mod names;
-#[cfg(test)]
 mod plans;
 #[cfg(test)]
 mod refusals;
