@@ -7,10 +7,10 @@ use Rattle.kp_meaning.specs.Names.{Name, same, is_among}
 use Rattle.kp_meaning.specs.Numbering.{index_of}
 use Rattle.kp_meaning.proofs.Lists.{same-true, same-refl, all_member, among_member}
 use Rattle.kp_meaning.proofs.Indexes.{Distinct}
-use Rattle.kp_ground.specs.declared.flat.Atom.{Atom}
-use Rattle.kp_ground.specs.Ground.{atom_before, same_atom, number_of}
-use Rattle.kp_ground.specs.Laws.{IsAscending}
-use Rattle.kp_ground.proofs.Atoms.{irreflexive, transitive}
+use Rattle.kp_grounding.specs.declared.flat.Atom.{Atom}
+use Rattle.kp_grounding.specs.Ground.{atom_before, same_atom, number_of}
+use Rattle.kp_grounding.specs.Laws.{IsAscending}
+use Rattle.kp_grounding.proofs.Atoms.{irreflexive, transitive}
 use Rattle.kp_plain.specs.Ground.{place}
 use Rattle.std.proofs.Math.Bool.{and-true}
 use Rattle.kp_given.proofs.Lists.{map_same}

@@ -27,15 +27,15 @@ use Rattle.kp_meaning.specs.Lifted.{bindings, same_literal, item_literals}
 use Rattle.kp_meaning.specs.Numbering.{index_of, name_at, heads, numbered_problem, numbered_schema, numbered_range, numbered_pred}
 use Rattle.kp_meaning.proofs.Lists.{same-true, same-refl, among_member, member_at, member_map, map_member, filter_member}
 use Rattle.kp_meaning.proofs.Indexes.{at_index}
-use Rattle.kp_ground.specs.declared.flat.Atom.{Atom}
-use Rattle.kp_ground.specs.declared.flat.FlatEffect.{FlatEffect}
-use Rattle.kp_ground.specs.Static.{is_static, settled, remaining}
-use Rattle.kp_ground.specs.Flattening.{same_flat, flat, flat_of}
-use Rattle.kp_ground.specs.Ground as general
-use Rattle.kp_ground.specs.Ground.{atom_of, effect_literals, instance_literals, kept_bindings, kept_literals, open_literals, occurring, numbered, numbered_set, numbered_effect, number_of, lasting, is_idle, actions_of, action_of, atom_name, ground_atoms, ground_over}
-use Rattle.kp_ground.specs.Laws.{IsAscending}
-use Rattle.kp_ground.proofs.Lists.{member_filter}
-use Rattle.kp_ground.proofs.Atoms.{atoms_are_numbered}
+use Rattle.kp_grounding.specs.declared.flat.Atom.{Atom}
+use Rattle.kp_grounding.specs.declared.flat.FlatEffect.{FlatEffect}
+use Rattle.kp_grounding.specs.Static.{is_static, settled, remaining}
+use Rattle.kp_grounding.specs.Flattening.{same_flat, flat, flat_of}
+use Rattle.kp_grounding.specs.Ground as general
+use Rattle.kp_grounding.specs.Ground.{atom_of, effect_literals, instance_literals, kept_bindings, kept_literals, open_literals, occurring, numbered, numbered_set, numbered_effect, number_of, lasting, is_idle, actions_of, action_of, atom_name, ground_atoms, ground_over}
+use Rattle.kp_grounding.specs.Laws.{IsAscending}
+use Rattle.kp_grounding.proofs.Lists.{member_filter}
+use Rattle.kp_grounding.proofs.Atoms.{atoms_are_numbered}
 use Rattle.kp_plain.specs.Ground as plain
 use Rattle.kp_plain.specs.Ground.{Literal, cond_literals, eff_literals, is_named}
 use Rattle.kp_given.specs.PlainGround.{IsPlainGround}

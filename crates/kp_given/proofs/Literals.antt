@@ -16,9 +16,9 @@ use Rattle.kp_meaning.specs.Names.{Name}
 use Rattle.kp_meaning.specs.Numbered.{Lifted}
 use Rattle.kp_meaning.specs.Lifted.{Binding, ground, literal_holds, object_of}
 use Rattle.kp_meaning.specs.Numbering.{index_of, heads, numbered_terms, numbered_cond, numbered_conds, numbered_eff, numbered_effs, numbered_item, numbered_goal, numbered_goals, object_number}
-use Rattle.kp_ground.specs.declared.flat.FlatEffect.{FlatEffect}
-use Rattle.kp_ground.specs.Static.{changes, some_change, is_static, initially, settled, all_settled, remaining, all_remaining}
-use Rattle.kp_ground.specs.Flattening.{flat, all_flat}
+use Rattle.kp_grounding.specs.declared.flat.FlatEffect.{FlatEffect}
+use Rattle.kp_grounding.specs.Static.{changes, some_change, is_static, initially, settled, all_settled, remaining, all_remaining}
+use Rattle.kp_grounding.specs.Flattening.{flat, all_flat}
 use Rattle.kp_plain.specs.Ground.{Literal, literal, cond_literals, conds_literals, eff_literals, effs_literals, item_literals}
 
 pub none_is : {X : Type 0} (xs : List X) → are_none xs ≡ true → xs ≡ []

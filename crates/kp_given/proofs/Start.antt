@@ -22,16 +22,16 @@ use Rattle.kp_base.proofs.Ascending.{same_members, first_or_later}
 use Rattle.kp_base.proofs.Sets.{any-set_of, set_ascends}
 use Rattle.kp_base.proofs.Lists.{all_member, all_from, any_from, any_member, any_alike, flat_alike, map_map, any_map, member_flat_map, flat_member, member_map, map_member, member_filter, filter_member, append_member, member_left, member_right}
 use Rattle.kp_base.proofs.Lits.{same_lit-true, same_lit-refl, has-member, member-has}
-use Rattle.kp_ground.proofs.Lists.{beq-true, beq-refl}
+use Rattle.kp_grounding.proofs.Lists.{beq-true, beq-refl}
 use Rattle.kp_meaning.specs.Names.{Name, same, is_among}
 use Rattle.kp_meaning.specs.Lifted as lifted
 use Rattle.kp_meaning.specs.Lifted.{is_of, item_literals}
 use Rattle.kp_meaning.specs.Numbering.{index_of, name_at, heads, numbered_problem}
 use Rattle.kp_meaning.proofs.Lists.{same-true, same-refl, same-sym, among_member}
 use Rattle.kp_meaning.proofs.Indexes.{Distinct, at_index, index_below, index_at, among_at}
-use Rattle.kp_ground.specs.declared.flat.Atom.{Atom}
-use Rattle.kp_ground.specs.Ground.{same_atom, number_of, numbered, IsNumbering}
-use Rattle.kp_ground.proofs.Atoms.{atoms_are_numbered}
+use Rattle.kp_grounding.specs.declared.flat.Atom.{Atom}
+use Rattle.kp_grounding.specs.Ground.{same_atom, number_of, numbered, IsNumbering}
+use Rattle.kp_grounding.proofs.Atoms.{atoms_are_numbered}
 use Rattle.kp_init.specs.Initial.{is_ground, item_clauses, initial_over}
 use Rattle.kp_init.specs.Closure.{closure, IsOver}
 use Rattle.kp_init.proofs.Closure.{closure_exact}

@@ -16,8 +16,8 @@ use Rattle.kp_meaning.specs.Types.{declared}
 use Rattle.kp_meaning.specs.Faults.{inside}
 use Rattle.kp_meaning.specs.Lifted.{literal_holds}
 use Rattle.kp_meaning.specs.Numbering.{index_of, heads, numbered_problem, numbered_schema, numbered_eff}
-use Rattle.kp_ground.specs.Static as static
-use Rattle.kp_ground.specs.Static.{changes, leaves_static, initially}
+use Rattle.kp_grounding.specs.Static as static
+use Rattle.kp_grounding.specs.Static.{changes, leaves_static, initially}
 use Rattle.kp_plain.specs.Ground as plain
 use Rattle.kp_plain.specs.Ground.{Literal, cond_literals, eff_literals, item_literals, is_named}
 use Rattle.kp_given.proofs.Literals.{by_number, has_number, changes_is, said, items_are, is_settled}

@@ -26,8 +26,8 @@ use Rattle.kp_meaning.specs.Numbering.{heads, numbered_problem}
 use Rattle.kp_meaning.proofs.Lists.{same-refl}
 use Rattle.kp_meaning.proofs.Indexes.{Distinct}
 use Rattle.kp_meaning.proofs.NumberedPlans.{Clean, clean}
-use Rattle.kp_ground.specs.Ground.{ground_atoms, atom_name}
-use Rattle.kp_ground.proofs.Atoms.{atoms_are_numbered}
+use Rattle.kp_grounding.specs.Ground.{ground_atoms, atom_name}
+use Rattle.kp_grounding.proofs.Atoms.{atoms_are_numbered}
 use Rattle.kp_init.specs.Closure.{IsOver}
 use Rattle.kp_init.proofs.Closure.{closure_exact}
 use Rattle.kp_init.proofs.Runs.{initial_is_over}

@@ -5,7 +5,7 @@ use Rattle.kp_grammar.specs.Trees.{Domain, Problem}
 use Rattle.kp_grammar.specs.PlainTrees.{IsPlainDomain, IsPlainProblem}
 use Rattle.kp_meaning.specs.Faults.{HasNoFault}
 use Rattle.kp_meaning.specs.Numbering.{numbered_problem}
-use Rattle.kp_ground.specs.Ground as general
+use Rattle.kp_grounding.specs.Ground as general
 use Rattle.kp_plain.specs.Ground as plain
 
 -- plain trees without a fault

@@ -10,7 +10,7 @@ use Rattle.kp_base.specs.Steps.{has}
 use Rattle.kp_grammar.specs.declared.tree.Word.{Word}
 use Rattle.kp_grammar.specs.Trees.{Domain, Problem}
 use Rattle.kp_meaning.specs.Numbering.{numbered_problem}
-use Rattle.kp_ground.specs.Ground as ground
+use Rattle.kp_grounding.specs.Ground as ground
 use Rattle.kp_init.specs.Initial as init
 use Rattle.kp_init.specs.Closure.{closure}
 use Rattle.kp_plain.specs.declared.translation.Translation.{Translation}

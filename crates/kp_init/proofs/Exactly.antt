@@ -13,7 +13,7 @@ use Rattle.kp_base.proofs.Lists.{any_member, any_from, all_member, bool_same, al
 use Rattle.kp_base.proofs.Lits.{same_lit-true, same_lit-refl, holds-negated}
 use Rattle.kp_base.proofs.Once.{any-each_once}
 use Rattle.kp_base.proofs.Sets.{any-set_of}
-use Rattle.kp_ground.proofs.Lists.{false_where_not_true}
+use Rattle.kp_grounding.proofs.Lists.{false_where_not_true}
 use Rattle.kp_init.specs.Initial.{not_both, exactly_one}
 use Rattle.kp_init.proofs.Lists.{all-each_once, Once, each_once_is_once}
 

@@ -19,11 +19,11 @@ use Rattle.kp_meaning.specs.Plans.{HasProblem, Solves}
 use Rattle.kp_meaning.proofs.Texts.{domain_of, problem_of, has_problem}
 use Rattle.kp_meaning.proofs.ExamplePlans.{moves, from_a_to_b, move}
 use Rattle.kp_meaning.proofs.ExampleCells.{cells, one_of_three}
-use Rattle.kp_ground.specs.Ground.{ground_atoms, ground_of, seen_on}
-use Rattle.kp_ground.specs.Laws.{action_name}
-use Rattle.kp_ground.proofs.Atoms.{atoms_are_numbered}
-use Rattle.kp_ground.proofs.ExampleMoves.{moves_by_number, numbered_moves, ground_moves}
-use Rattle.kp_ground.proofs.ExampleGrounds.{roads, three_towns, exchange, from_p_to_q}
+use Rattle.kp_grounding.specs.Ground.{ground_atoms, ground_of, seen_on}
+use Rattle.kp_grounding.specs.Laws.{action_name}
+use Rattle.kp_grounding.proofs.Atoms.{atoms_are_numbered}
+use Rattle.kp_grounding.proofs.ExampleMoves.{moves_by_number, numbered_moves, ground_moves}
+use Rattle.kp_grounding.proofs.ExampleGrounds.{roads, three_towns, exchange, from_p_to_q}
 use Rattle.kp_init.specs.Initial.{initial_of}
 use Rattle.kp_init.specs.Closure.{closure, IsOver, IsAscendingClosure}
 use Rattle.kp_init.specs.Laws.{AreModels, IsNamedRun}

@@ -16,13 +16,13 @@ use Rattle.kp_meaning.specs.declared.lifted.Item.{Item}
 use Rattle.kp_meaning.specs.Names.{same}
 use Rattle.kp_meaning.specs.Numbered.{Lifted}
 use Rattle.kp_meaning.specs.Lifted.{State, literal_holds, same_literal, one_holds, item_holds, item_literals, is_of, is_named, IsInitial}
-use Rattle.kp_ground.specs.declared.flat.Atom.{Atom}
-use Rattle.kp_ground.specs.Static.{is_static, leaves_static, says, initially}
-use Rattle.kp_ground.specs.Ground.{atom_of, same_atom, kept_literals, open_literals, number_of, numbered, numbered_set, at_atom, seen_on, IsNumbering}
-use Rattle.kp_ground.proofs.Lists.{false_where_not_true}
-use Rattle.kp_ground.proofs.Static.{static_parts, static_at_first}
-use Rattle.kp_ground.proofs.Atoms.{same_atom-true, same_atom-refl, number_there}
-use Rattle.kp_ground.proofs.Step.{Covered, holds_numbered, same_numbered, same_literal-true, same_literal-refl}
+use Rattle.kp_grounding.specs.declared.flat.Atom.{Atom}
+use Rattle.kp_grounding.specs.Static.{is_static, leaves_static, says, initially}
+use Rattle.kp_grounding.specs.Ground.{atom_of, same_atom, kept_literals, open_literals, number_of, numbered, numbered_set, at_atom, seen_on, IsNumbering}
+use Rattle.kp_grounding.proofs.Lists.{false_where_not_true}
+use Rattle.kp_grounding.proofs.Static.{static_parts, static_at_first}
+use Rattle.kp_grounding.proofs.Atoms.{same_atom-true, same_atom-refl, number_there}
+use Rattle.kp_grounding.proofs.Step.{Covered, holds_numbered, same_numbered, same_literal-true, same_literal-refl}
 use Rattle.kp_init.specs.Initial.{exactly_one, is_ground, item_clauses, closed_of, initial_over}
 use Rattle.kp_init.specs.Laws.{IsInitialExact}
 use Rattle.kp_init.proofs.Exactly.{is_only, exactly_one_holds}

@@ -30,15 +30,15 @@ use Rattle.kp_meaning.specs.NumberLaws.{is_plain_goal}
 use Rattle.kp_meaning.proofs.NumberedPlans.{plan_numbered}
 use Rattle.kp_meaning.proofs.PlainGoals.{goals_plain}
 use Rattle.kp_meaning.proofs.Texts.{solves_theirs}
-use Rattle.kp_ground.specs.declared.flat.Atom.{Atom}
-use Rattle.kp_ground.specs.Static.{remaining}
-use Rattle.kp_ground.specs.Flattening.{same_flat, flat, flat_of}
-use Rattle.kp_ground.specs.Ground.{kept_bindings, kept_instances, atom_of, effect_literals, instance_literals, kept_literals, open_literals, ground_atoms, number_of, numbered, numbered_set, IsNumbering, numbered_effect, is_idle, ground_pre, ground_effects, action_of, actions_of, ground_over, ground_of, seen_on}
-use Rattle.kp_ground.specs.Laws.{action_name}
-use Rattle.kp_ground.proofs.Atoms.{atoms_are_numbered, number_there}
-use Rattle.kp_ground.proofs.Step.{Covered, occurs}
-use Rattle.kp_ground.proofs.Plans.{runs_are_plans, plan_exact}
-use Rattle.kp_ground.proofs.Names.{named_by_steps}
+use Rattle.kp_grounding.specs.declared.flat.Atom.{Atom}
+use Rattle.kp_grounding.specs.Static.{remaining}
+use Rattle.kp_grounding.specs.Flattening.{same_flat, flat, flat_of}
+use Rattle.kp_grounding.specs.Ground.{kept_bindings, kept_instances, atom_of, effect_literals, instance_literals, kept_literals, open_literals, ground_atoms, number_of, numbered, numbered_set, IsNumbering, numbered_effect, is_idle, ground_pre, ground_effects, action_of, actions_of, ground_over, ground_of, seen_on}
+use Rattle.kp_grounding.specs.Laws.{action_name}
+use Rattle.kp_grounding.proofs.Atoms.{atoms_are_numbered, number_there}
+use Rattle.kp_grounding.proofs.Step.{Covered, occurs}
+use Rattle.kp_grounding.proofs.Plans.{runs_are_plans, plan_exact}
+use Rattle.kp_grounding.proofs.Names.{named_by_steps}
 use Rattle.kp_init.specs.Initial.{not_both, is_ground, item_clauses}
 use Rattle.kp_init.specs.Closure.{are_below}
 use Rattle.kp_init.specs.Laws.{IsModelRun, IsNamedRun, IsInitialOver, IsPlanByModels, IsPlanByName, IsPlanOfTexts}

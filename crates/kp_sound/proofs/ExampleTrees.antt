@@ -13,8 +13,8 @@ use Rattle.kp_meaning.specs.Numbered.{Lifted}
 use Rattle.kp_meaning.specs.Plans.{HasProblem, IsPlan}
 use Rattle.kp_meaning.proofs.Texts.{domain_of, problem_of, has_problem}
 use Rattle.kp_meaning.proofs.ExamplePlans.{moves, from_a_to_b, move}
-use Rattle.kp_ground.specs.Ground.{ground_of}
-use Rattle.kp_ground.proofs.ExampleMoves.{moves_by_number, numbered_moves}
+use Rattle.kp_grounding.specs.Ground.{ground_of}
+use Rattle.kp_grounding.proofs.ExampleMoves.{moves_by_number, numbered_moves}
 use Rattle.kp_init.specs.Initial.{initial_of}
 use Rattle.kp_init.specs.Closure.{closure}
 use Rattle.kp_init.proofs.ExampleFormulas.{no_fault, plain}

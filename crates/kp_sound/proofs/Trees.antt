@@ -6,8 +6,8 @@ use Rattle.kp_grammar.specs.declared.tree.Word.{Word}
 use Rattle.kp_grammar.specs.Trees.{Domain, Problem}
 use Rattle.kp_meaning.specs.Numbering.{numbered_problem}
 use Rattle.kp_meaning.proofs.PlainGoals.{goals_plain}
-use Rattle.kp_ground.specs.Ground.{ground_atoms, atom_name}
-use Rattle.kp_ground.proofs.Atoms.{atoms_are_numbered}
+use Rattle.kp_grounding.specs.Ground.{ground_atoms, atom_name}
+use Rattle.kp_grounding.proofs.Atoms.{atoms_are_numbered}
 use Rattle.kp_init.specs.Closure.{IsOver}
 use Rattle.kp_init.proofs.Closure.{closure_exact}
 use Rattle.kp_init.proofs.Runs.{initial_is_over, named_runs_are_plans}

@@ -16,7 +16,7 @@ use Rattle.kp_meaning.specs.Plans.{HasProblem, Solves, IsPlan}
 use Rattle.kp_meaning.specs.Encoding.{encoded}
 use Rattle.kp_meaning.specs.Strip.{do_front, strip}
 use Rattle.kp_meaning.specs.NumberLaws.{is_plain_goal}
-use Rattle.kp_ground.specs.Laws.{action_name}
+use Rattle.kp_grounding.specs.Laws.{action_name}
 use Rattle.kp_given.specs.PlainFiles.{ArePlainTexts}
 use Rattle.kp_given.specs.PlainGround.{ArePlain}
 use Rattle.kp_given.specs.Translations.{ground_of, initial_of, start_of, translation_of}

@@ -1,5 +1,0 @@
-use Rattle.kp_ground.proofs.Atoms.{atoms_are_numbered}
-use Rattle.kp_ground.proofs.laws.atoms_are_numbered.Goals as goal
-
-pub returns : goal.returns
-returns c = atoms_are_numbered
