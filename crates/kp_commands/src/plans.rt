@@ -1,7 +1,6 @@
 use kp_base::Memory;
-use kp_grammar::{
-    AtomTree, CondTree, Domain, EffTree, ItemTree, Problem, SchemaTree, plain_domain, plain_problem,
-};
+use kp_forms::{plain_domain, plain_problem};
+use kp_grammar::{AtomTree, CondTree, Domain, EffTree, ItemTree, Problem, SchemaTree};
 use kp_outside::{MemoryShelf, MemorySink};
 use kp_run::run;
 use std::alloc::{AllocError, Global};

@@ -7,7 +7,7 @@ use Rattle.std.proofs.lemmas.Map.Views.{list_any-from_Contains}
 use Rattle.kp_grammar.specs.declared.tree.Word.{Word}
 use Rattle.kp_grammar.specs.Trees as trees
 use Rattle.kp_grammar.specs.Trees.{Atom, Domain, Problem}
-use Rattle.kp_grammar.specs.PlainTrees.{is_bare, is_plain_item}
+use Rattle.kp_forms.specs.PlainTrees.{is_bare, is_plain_item}
 use Rattle.kp_base.specs.Lists.{Member, signed}
 use Rattle.kp_base.proofs.Lists.{all_member, same-true}
 use Rattle.kp_meaning.specs.Names.{Name, same}

@@ -2,7 +2,8 @@
 use Rattle.std.proofs.Common.{◌≡◌, List, [], ◌∷◌, codes, refl, sym, subst, arith}
 use Rattle.kp_base.specs.declared.lit.Lit.{Lit}
 use Rattle.kp_base.specs.Lit.{positive, negative}
-use Rattle.kp_grammar.proofs.ExamplesPlain.{exchange, exchange_tree, exchange_plain, from_p_to_q, from_p_to_q_tree, from_p_to_q_plain}
+use Rattle.kp_grammar.proofs.ExampleTexts.{exchange, exchange_tree, from_p_to_q, from_p_to_q_tree}
+use Rattle.kp_forms.proofs.ExamplesPlain.{exchange_plain, from_p_to_q_plain}
 use Rattle.kp_plain.specs.Ground.{nullary}
 use Rattle.kp_write.specs.Grounds.{AreOfAtoms, IsWritable, IsWrittenAsMeant}
 use Rattle.kp_write.proofs.Grounds.{ground_problems_are_written}

@@ -11,7 +11,7 @@ use Rattle.std.proofs.lemmas.List.Folds.{list_all-append, list_any-append}
 use Rattle.kp_grammar.specs.declared.tree.Word.{Word}
 use Rattle.kp_grammar.specs.Trees as trees
 use Rattle.kp_grammar.specs.Trees.{Domain, Problem, Schema}
-use Rattle.kp_grammar.specs.PlainTrees.{are_none, is_plain_cond, is_plain_eff, is_plain_schema, IsPlainDomain, IsPlainProblem}
+use Rattle.kp_forms.specs.PlainTrees.{are_none, is_plain_cond, is_plain_eff, is_plain_schema, IsPlainDomain, IsPlainProblem}
 use Rattle.kp_base.specs.declared.lit.Lit.{Lit}
 use Rattle.kp_base.specs.declared.ground.Effect.{Effect}
 use Rattle.kp_base.specs.Lists.{Member, each_once}

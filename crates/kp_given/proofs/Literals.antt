@@ -8,7 +8,7 @@ use Rattle.std.proofs.lemmas.List.Folds.{list_all-append, list_any-append}
 use Rattle.kp_grammar.specs.declared.tree.Word.{Word}
 use Rattle.kp_grammar.specs.Trees as trees
 use Rattle.kp_grammar.specs.Trees.{Atom, Domain, Problem}
-use Rattle.kp_grammar.specs.PlainTrees.{are_none, is_bare, is_literal_cond, all_literal_conds, is_plain_cond, is_literal_eff, all_literal_effs, is_plain_eff, is_plain_item}
+use Rattle.kp_forms.specs.PlainTrees.{are_none, is_bare, is_literal_cond, all_literal_conds, is_plain_cond, is_literal_eff, all_literal_effs, is_plain_eff, is_plain_item}
 use Rattle.kp_base.specs.Lists.{only_if}
 use Rattle.kp_meaning.specs.declared.lifted.GroundLit.{GroundLit}
 use Rattle.kp_meaning.specs.declared.lifted.Item.{Item}

@@ -1,7 +1,7 @@
 -- Plain files have plain trees, and so a problem.
 use Rattle.std.proofs.Common.{refl}
-use Rattle.kp_grammar.proofs.PlainTrees.{domains_plain, problems_plain}
-use Rattle.kp_grammar.proofs.Answered.{domains_read, problems_read}
+use Rattle.kp_forms.proofs.PlainTrees.{domains_plain, problems_plain}
+use Rattle.kp_forms.proofs.Answered.{domains_read, problems_read}
 use Rattle.kp_given.specs.Laws.{PlainFilesArePlain, PlainFilesHaveAProblem}
 
 pub files_are_plain : PlainFilesArePlain

@@ -6,7 +6,7 @@ use Rattle.std.proofs.lemmas.Bool.{and_parts, and_from}
 use Rattle.std.proofs.lemmas.List.Folds.{list_all-append, list_any-append}
 use Rattle.kp_grammar.specs.declared.tree.Word.{Word}
 use Rattle.kp_grammar.specs.Trees.{Domain, Problem, Schema}
-use Rattle.kp_grammar.specs.PlainTrees.{are_none, is_plain_cond, is_plain_eff, is_plain_schema, IsPlainDomain, IsPlainProblem}
+use Rattle.kp_forms.specs.PlainTrees.{are_none, is_plain_cond, is_plain_eff, is_plain_schema, IsPlainDomain, IsPlainProblem}
 use Rattle.kp_base.specs.Lists.{Member, signed}
 use Rattle.kp_base.proofs.Lists.{any_map, any_alike, all_member}
 use Rattle.std.proofs.Math.Bool.{and-true}

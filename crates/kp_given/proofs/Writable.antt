@@ -6,8 +6,8 @@ use Rattle.std.proofs.lemmas.List.{length-map}
 use Rattle.kp_grammar.specs.declared.tree.Word.{Word}
 use Rattle.kp_grammar.specs.Trees.{Domain, Problem, Schema, Pred}
 use Rattle.kp_grammar.specs.Words.{IsName, IsNamedPred, IsNamedSchema, IsNamedDomain}
-use Rattle.kp_grammar.proofs.Answered.{domains_read}
-use Rattle.kp_grammar.proofs.PlainTrees.{domains_plain, problems_plain}
+use Rattle.kp_forms.proofs.Answered.{domains_read}
+use Rattle.kp_forms.proofs.PlainTrees.{domains_plain, problems_plain}
 use Rattle.kp_grammar.proofs.NamedTrees.{domains_named}
 use Rattle.kp_base.specs.declared.lit.Lit.{Lit}
 use Rattle.kp_base.specs.declared.ground.GroundName.{GroundName}

@@ -2,8 +2,8 @@
 use Rattle.std.specs.Prelude.{List, [], ◌∷◌, ℕ, Bool, true, false, if◌then◌else◌, Contains}
 use Rattle.kp_grammar.specs.declared.tree.Word.{Word}
 use Rattle.kp_grammar.specs.Trees.{Item, Domain, Problem}
-use Rattle.kp_grammar.specs.Plain.{plain_domain, plain_problem}
-use Rattle.kp_grammar.specs.PlainTexts.{IsPlain}
+use Rattle.kp_forms.specs.Plain.{plain_domain, plain_problem}
+use Rattle.kp_forms.specs.PlainTexts.{IsPlain}
 use Rattle.kp_meaning.specs.Faults.{HasNoFault}
 
 -- two plain texts with these trees, in which no name is at fault

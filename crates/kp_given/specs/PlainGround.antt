@@ -2,7 +2,7 @@
 use Rattle.std.specs.Prelude.{◌≡◌}
 use Rattle.kp_grammar.specs.declared.tree.Word.{Word}
 use Rattle.kp_grammar.specs.Trees.{Domain, Problem}
-use Rattle.kp_grammar.specs.PlainTrees.{IsPlainDomain, IsPlainProblem}
+use Rattle.kp_forms.specs.PlainTrees.{IsPlainDomain, IsPlainProblem}
 use Rattle.kp_meaning.specs.Faults.{HasNoFault}
 use Rattle.kp_meaning.specs.Numbering.{numbered_problem}
 use Rattle.kp_grounding.specs.Ground as general

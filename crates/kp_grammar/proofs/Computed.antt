@@ -1,5 +1,5 @@
 -- Texts that are shown to read or to stop by computing.
-use Rattle.std.proofs.Common.{◌≡◌, ◌≤◌, ℕ, Bool, List, [], length, None, Ok, Err, inl, inr, subst}
+use Rattle.std.proofs.Common.{◌≡◌, ℕ, Bool, List, [], None, Ok, Err, inl, inr, subst}
 use Rattle.kp_lex.specs.declared.token.Token.{Token}
 use Rattle.kp_lex.specs.Scanning.{cut}
 use Rattle.kp_lex.proofs.Exact.{Tells as TellsTokens, cut_tells}
@@ -8,7 +8,7 @@ use Rattle.kp_grammar.specs.Symbols.{Tok, all_seen_in}
 use Rattle.kp_grammar.specs.Sorts.{Sort, El}
 use Rattle.kp_grammar.specs.Forms.{Form}
 use Rattle.kp_grammar.specs.Parsing.{Outcome, go, level}
-use Rattle.kp_grammar.specs.PlainTexts.{ReadsAs, IsPlain}
+use Rattle.kp_grammar.specs.Texts.{ReadsAs}
 use Rattle.kp_grammar.specs.Reading.{At, StopBy}
 use Rattle.kp_grammar.specs.Depth.{deep}
 use Rattle.kp_grammar.proofs.Tells.{Tells, read_tells}
@@ -21,9 +21,6 @@ module _ {b : Bool} {c : Sort} (X : Form b c) where
 
   pub reads_as : (text : List ℕ) (ts : List Token) (x : El Word c) → cut 0 text ≡ Ok ts → outcome text ts ≡ Ok (x, []) → ReadsAs X text x
   reads_as text ts x e r = record { tokens = ts; cut = subst (TellsTokens 0 text) e (cut_tells 0 text); reads = go_reads 8 b c X (all_seen_in text ts) x [] r }
-
-  pub is_plain : (text : List ℕ) (ts : List Token) (x : El Word c) → length text ≤ 4096 → cut 0 text ≡ Ok ts → outcome text ts ≡ Ok (x, []) → IsPlain X text x
-  is_plain text ts x short e r = record { short = short; reads = reads_as text ts x e r }
 
   stops_by : (ts : List (Tok Word)) (at : At Word) → deep 8 ts ≡ None → Tells 8 b c X ts (Err at) → StopBy b c X ts at
   stops_by ts at shallow (inl h) = h.0

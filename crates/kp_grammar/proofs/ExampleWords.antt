@@ -9,10 +9,10 @@ use Rattle.kp_grammar.specs.Symbols.{symbol_of}
 use Rattle.kp_grammar.specs.Trees.{Term, Cond, Eff, effs_of, Domain}
 use Rattle.kp_grammar.specs.Grammar as grammar
 use Rattle.kp_grammar.specs.Parsing.{some_at, next_at}
-use Rattle.kp_grammar.specs.PlainTexts.{ReadsAs}
+use Rattle.kp_grammar.specs.Texts.{ReadsAs}
 use Rattle.kp_grammar.specs.Words.{IsName, IsHead, IsNamedDomain, IsNamedProblem}
 use Rattle.kp_grammar.proofs.Computed.{reads_as}
-use Rattle.kp_grammar.proofs.ExamplesPlain.{word_at, exchange, exchange_tree, exchange_reads, from_p_to_q, from_p_to_q_tree, from_p_to_q_reads}
+use Rattle.kp_grammar.proofs.ExampleTexts.{word_at, exchange, exchange_tree, exchange_reads, from_p_to_q, from_p_to_q_tree, from_p_to_q_reads}
 use Rattle.kp_grammar.proofs.NamedTrees.{domains_named, problems_named}
 
 -- ---- two plain texts

@@ -1,7 +1,8 @@
--- Where a bracket opens one level too many. This file serves proofs alone, until a reader refuses deep files.
+-- Where a bracket opens one level too many.
 use Rattle.std.specs.Prelude.{ℕ, zero, suc, List, [], ◌∷◌, Bool, true, false, Option, Some, None}
 use Rattle.kp_grammar.specs.Symbols.{Tok, is_left, is_right}
 
+-- What follows from a bracket that opens or closes, or from another token, where d levels may still be opened: it is the one too many, or the rest goes on with so many levels.
 abbrev pub deep_case : {W : Type 0} → ℕ → Bool → Bool → List (Tok W) → (ℕ → Option (List (Tok W))) → Option (List (Tok W))
 deep_case zero true r here k = Some here
 deep_case (suc d) true r here k = k d

@@ -5,15 +5,9 @@ pub mod Sorts
 pub mod Forms
 pub mod Grammar
 pub mod Reading
+pub mod Texts
 pub mod Depth
 pub mod Parsing
 pub mod Laws
-pub mod Plain
 pub mod View
-pub mod Lexemes
-pub mod PlainParsing
-pub mod PlainTexts
-pub mod PlainTrees
-pub mod Shallow
-pub mod Lexing
 pub mod Words

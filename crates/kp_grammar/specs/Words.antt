@@ -8,7 +8,7 @@ use Rattle.kp_grammar.specs.declared.tree.Word.{Word}
 use Rattle.kp_grammar.specs.Trees.{Typed, Term, Atom, Cond, Conds, no_cond, more_conds, Eff, Effs, no_eff, more_effs, Lit, Item, Items, no_item, more_items, Pred, Schema, Domain, Problem}
 use Rattle.kp_grammar.specs.Symbols.{symbol_of, is_head}
 use Rattle.kp_grammar.specs.Grammar.{domain, problem}
-use Rattle.kp_grammar.specs.PlainTexts.{ReadsAs}
+use Rattle.kp_grammar.specs.Texts.{ReadsAs}
 
 -- ---- words
 

@@ -1,7 +1,5 @@
 //! Laws of the grammar, each proved as the contract of a function that does nothing.
 
-ghost use Rattle.kp_grammar.specs.PlainTexts.{PlainDomainsRead, PlainProblemsRead};
-ghost use Rattle.kp_grammar.specs.PlainTrees.{PlainDomainsArePlain, PlainProblemsArePlain};
 ghost use Rattle.kp_grammar.specs.Words.{DomainsAreNamed, ProblemsAreNamed};
 ghost use Rattle.kp_grammar.specs.Laws.{ReadsOnce, StopsOnce, NeverBoth, AlwaysOne, WholeReadsOnce, WholeStopsOnce, WholeNeverBoth, WholeAlwaysOne};
 
@@ -26,24 +24,6 @@ pub fn no_form_reads_and_stops()
 /// A form reads or stops.
 pub fn each_form_reads_or_stops()
     ensures { AlwaysOne }
-{}
-
-/// What has the form of a plain domain reads by the grammar of domains as the same tree.
-#[tactic(auto, using(crate::proofs::Answered::domains_read))]
-pub fn plain_domains_are_domains()
-    ensures { PlainDomainsRead }
-{}
-
-/// What has the form of a plain problem reads by the grammar of problems as the same tree.
-#[tactic(auto, using(crate::proofs::Answered::problems_read))]
-pub fn plain_problems_are_problems()
-    ensures { PlainProblemsRead }
-{}
-
-/// The tree of a plain text is plain: it has neither types nor objects, no parameters or terms, and literals alone.
-pub fn plain_texts_have_plain_trees()
-    ensures domains { PlainDomainsArePlain }
-    ensures problems { PlainProblemsArePlain }
 {}
 
 /// The words that the tree of a file keeps as names are Names in lower case, and predicates and the heads of atoms are no reserved ones.

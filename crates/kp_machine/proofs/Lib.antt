@@ -2,6 +2,7 @@ pub mod Exact
 pub mod Monotone
 pub mod Sound
 pub mod OneSided
+pub mod Apart
 pub mod Operators
 pub mod OneTag
 pub mod ExampleCells

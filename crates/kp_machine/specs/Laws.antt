@@ -10,7 +10,7 @@ use Rattle.kp_base.specs.declared.ground.TagTable.{TagTable}
 use Rattle.kp_base.specs.Lit.{negated, same_lit}
 use Rattle.kp_base.specs.Steps.{Facts, fires, IsGroundPlan}
 use Rattle.kp_base.specs.Entailed.{IsClosure, IsTable, AreValid}
-use Rattle.kp_base.specs.Clashes.{NeverClashes, is_one_sided}
+use Rattle.kp_base.specs.Clashes.{NeverClashes, is_one_sided, no_pairs, HasNoClash}
 use Rattle.kp_base.specs.Machine.{MachineStep, facts_after, accepts, stripped, one_tag_table}
 
 -- ---- soundness
@@ -22,6 +22,10 @@ IsSound = (g : Ground) (i : Initial) (table : TagTable) → IsTable g i table �
 -- where no effect of an action deletes what one of its effects adds, nothing clashes
 abbrev pub OneSidedNeverClashes : Type 0
 OneSidedNeverClashes = (g : Ground) (i : Initial) → list_all is_one_sided g.actions ≡ true → NeverClashes g i
+
+-- where no add and delete of one atom have conditions without a literal and its negation, nothing clashes
+abbrev pub ApartNeverClashes : Type 0
+ApartNeverClashes = (g : Ground) (i : Initial) → HasNoClash no_pairs g → NeverClashes g i
 
 -- ---- operators
 

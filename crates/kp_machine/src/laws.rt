@@ -1,6 +1,6 @@
 //! Laws of the tagged machine, each proved as the contract of a function that does nothing.
 
-ghost use Rattle.kp_machine.specs.Laws.{IsSound, OneSidedNeverClashes, OneTagHasNoMerges, OneTagIsTable, OperatorsAreExact};
+ghost use Rattle.kp_machine.specs.Laws.{ApartNeverClashes, IsSound, OneSidedNeverClashes, OneTagHasNoMerges, OneTagIsTable, OperatorsAreExact};
 
 /// Each list that the machine accepts is, without its merges, a plan from every model.
 #[tactic(auto, using(crate::proofs::Sound::sound))]
@@ -12,6 +12,12 @@ pub fn accepted_lists_are_plans()
 #[tactic(auto, using(crate::proofs::OneSided::never_clashes))]
 pub fn one_sided_actions_never_clash()
     ensures { OneSidedNeverClashes }
+{}
+
+/// Where an add and a delete of one atom never have compatible conditions, no add is ever done together with its delete.
+#[tactic(auto, using(crate::proofs::Apart::never_clashes))]
+pub fn apart_effects_never_clash()
+    ensures { ApartNeverClashes }
 {}
 
 /// The two effects that an operator has for each effect of its action do what the machine does.

@@ -4,6 +4,6 @@
 mod laws;
 
 pub use laws::{
-    accepted_lists_are_plans, one_sided_actions_never_clash, one_tag_has_no_merges,
-    one_tag_is_a_table, operators_are_exact,
+    accepted_lists_are_plans, apart_effects_never_clash, one_sided_actions_never_clash,
+    one_tag_has_no_merges, one_tag_is_a_table, operators_are_exact,
 };

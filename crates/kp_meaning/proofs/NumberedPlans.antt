@@ -23,7 +23,7 @@ use Rattle.kp_meaning.specs.Plans as named_plans
 use Rattle.kp_meaning.specs.Plans.{Solves}
 use Rattle.kp_meaning.specs.Lifted.{State, Instance, ground, bindings, fires, holds, fits, is_instance, applicable, state_by, next, succeeds, item_holds, item_literals, is_of, is_named, IsInitial}
 use Rattle.kp_meaning.specs.Numbering.{index_of, name_at, heads, schema_names, numbered_range, numbered_cond, numbered_eff, numbered_schema, numbered_item, numbered_problem, named_objects, named_literal, named_step, AreObjects, Agree}
-use Rattle.kp_meaning.specs.NumberLaws.{Matches, is_plain_goal, IsInitialNumbered, IsPlanNumbered, IsNamedOnce}
+use Rattle.kp_meaning.specs.NumberLaws.{Matches, is_plain_goal, IsSameStep, IsStepNumbered, IsInitialNumbered, IsPlanNumbered, IsNamedOnce}
 use Rattle.kp_meaning.proofs.Lists.{any_from, any_member, all_member, any_alike, any_map, member_at, member_map, map_member, append_empty, flat_empty, same-true, same-refl, all_same-true, all_same-refl}
 use Rattle.kp_meaning.proofs.Indexes.{at_index, index_below, among_at, Distinct, index_at, distinct_once, repeated_distinct}
 use Rattle.kp_meaning.proofs.Numbered.{cond_numbered, eff_numbered, matches_more, bindings_numbered, object_list_good}
@@ -178,11 +178,7 @@ module _ (d : Domain Word) (p : Problem Word) where
 
   -- ---- one step
 
-  record StepAgrees (s : named.State) (t : State) (i : Instance) : Type 0 where
-    applies : applicable (numbered_problem d p) i t ≡ named_steps.applicable d (named_step d p i) s
-    leads : Agree d p (named_steps.next d p (named_step d p i) s) (next (numbered_problem d p) i t)
-
-  step_agrees : Clean → (s : named.State) (t : State) → Agree d p s t → (i : Instance) → Paired i → StepAgrees s t i
+  step_agrees : Clean → (s : named.State) (t : State) → Agree d p s t → (i : Instance) → Paired i → IsSameStep d p s t i
   step_agrees c s t agree i k =
       record {
         applies = rw (lifted_schema, schema_there c i k, named_objects_of i k) pre;
@@ -333,6 +329,9 @@ module _ (d : Domain Word) (p : Problem Word) where
       instance_same x y os us e f = cc
 
 -- ---- the laws
+
+pub step_numbered : IsStepNumbered
+step_numbered d p no_fault s t agree i is = step_agrees d p (clean d p no_fault) s t agree i (paired d p i is)
 
 pub initial_numbered : IsInitialNumbered
 initial_numbered d p no_fault = record {

@@ -11,7 +11,7 @@ use Rattle.kp_grammar.specs.Forms.{Form}
 use Rattle.kp_grammar.specs.Grammar as grammar
 use Rattle.kp_grammar.specs.Reading.{ReadBy}
 use Rattle.kp_grammar.specs.Parsing.{Outcome}
-use Rattle.kp_grammar.specs.PlainTexts.{ReadsAs}
+use Rattle.kp_grammar.specs.Texts.{ReadsAs}
 use Rattle.kp_grammar.proofs.Exact.{once_read}
 use Rattle.kp_grammar.proofs.Computed.{outcome, reads_as}
 use Rattle.kp_meaning.specs.Faults.{domain_faults, problem_faults}

@@ -3,7 +3,7 @@ use Rattle.std.specs.Prelude.{◌≡◌, ◌↔◌, ◌<◌, ℕ, Bool, true, fa
 use Rattle.kp_grammar.specs.declared.tree.Word.{Word}
 use Rattle.kp_grammar.specs.Trees.{Cond, Conds, Eff, Domain, Problem}
 use Rattle.kp_grammar.specs.Grammar as grammar
-use Rattle.kp_grammar.specs.PlainTexts.{ReadsAs}
+use Rattle.kp_grammar.specs.Texts.{ReadsAs}
 use Rattle.kp_meaning.specs.Names.{Name, is_among}
 use Rattle.kp_meaning.specs.Types.{objects}
 use Rattle.kp_meaning.specs.Faults.{cond_faults, eff_faults, HasNoFault}
@@ -12,7 +12,7 @@ use Rattle.kp_meaning.specs.Steps as named_steps
 use Rattle.kp_meaning.specs.Steps.{Step}
 use Rattle.kp_meaning.specs.Initial as named_initial
 use Rattle.kp_meaning.specs.Plans.{Solves}
-use Rattle.kp_meaning.specs.Lifted.{State, Binding, Instance, holds, fires, is_instance, IsInitial, IsPlan}
+use Rattle.kp_meaning.specs.Lifted.{State, Binding, Instance, holds, fires, is_instance, applicable, next, IsInitial, IsPlan}
 use Rattle.kp_meaning.specs.Numbering.{name_at, variable_number, numbered_cond, numbered_eff, numbered_problem, named_literal, named_step, Agree}
 
 -- each variable of the scope stands by number for the object for which it stands by name
@@ -28,6 +28,15 @@ IsHoldsNumbered = (d : Domain Word) (p : Problem Word) (s : named.State) (t : St
 -- an effect names the same literals
 abbrev pub IsFiresNumbered : Type 0
 IsFiresNumbered = (d : Domain Word) (p : Problem Word) (s : named.State) (t : State) → Agree d p s t → (scope : List Name) (b : named.Binding) (c : Binding) → Matches d p scope b c → (e : Eff Word) → eff_faults d p scope e ≡ [] → map (named_literal d p) (fires t c (numbered_eff d p scope e)) ≡ named_steps.fires d p s b e
+
+-- from agreeing states, an instance by number may be taken where the step of its name may, and the states afterwards agree
+pub record IsSameStep (d : Domain Word) (p : Problem Word) (s : named.State) (t : State) (i : Instance) : Type 0 where
+  pub applies : applicable (numbered_problem d p) i t ≡ named_steps.applicable d (named_step d p i) s
+  pub leads : Agree d p (named_steps.next d p (named_step d p i) s) (next (numbered_problem d p) i t)
+
+-- where there is no fault, each instance does what the step of its name does
+abbrev pub IsStepNumbered : Type 0
+IsStepNumbered = (d : Domain Word) (p : Problem Word) → HasNoFault d p → (s : named.State) (t : State) → Agree d p s t → (i : Instance) → is_instance (numbered_problem d p) i ≡ true → IsSameStep d p s t i
 
 -- the initial states by name and by number agree, each with one of the others
 pub record AgreeInitially (d : Domain Word) (p : Problem Word) : Type 0 where

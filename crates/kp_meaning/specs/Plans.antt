@@ -4,7 +4,7 @@ use Rattle.std.specs.List.{list_all}
 use Rattle.kp_grammar.specs.declared.tree.Word.{Word}
 use Rattle.kp_grammar.specs.Trees.{Domain, Problem}
 use Rattle.kp_grammar.specs.Grammar as grammar
-use Rattle.kp_grammar.specs.PlainTexts.{ReadsAs}
+use Rattle.kp_grammar.specs.Texts.{ReadsAs}
 use Rattle.kp_meaning.specs.Faults.{HasNoFault}
 use Rattle.kp_meaning.specs.States.{State, unbound, holds}
 use Rattle.kp_meaning.specs.Steps.{Step, is_instance, applicable, next}

@@ -1,7 +1,7 @@
 //! Laws of the definitions, each proved as the contract of a function that does nothing.
 
 ghost use Rattle.kp_meaning.specs.Encoding.{EncodedDecodes, DecodedIsEncoding};
-ghost use Rattle.kp_meaning.specs.NumberLaws.{GoalsArePlain, IsHoldsNumbered, IsFiresNumbered, IsInitialNumbered, IsPlanNumbered, IsNamedOnce};
+ghost use Rattle.kp_meaning.specs.NumberLaws.{GoalsArePlain, IsHoldsNumbered, IsFiresNumbered, IsStepNumbered, IsInitialNumbered, IsPlanNumbered, IsNamedOnce};
 ghost use Rattle.kp_meaning.specs.Places.{PlacesMeanNothing};
 ghost use Rattle.kp_meaning.specs.Plans.{HasOneProblem};
 ghost use Rattle.kp_meaning.specs.Types.{IsTypeTestExact};
@@ -43,6 +43,12 @@ pub fn conditions_mean_the_same_by_number()
 #[tactic(auto, using(crate::proofs::Numbered::fires_numbered))]
 pub fn effects_mean_the_same_by_number()
     ensures { IsFiresNumbered }
+{}
+
+/// An instance by number does what the step of its name does.
+#[tactic(auto, using(crate::proofs::NumberedPlans::step_numbered))]
+pub fn steps_are_the_same_by_number()
+    ensures { IsStepNumbered }
 {}
 
 /// The initial states by number are those by name.

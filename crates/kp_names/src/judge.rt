@@ -1,7 +1,7 @@
 ghost use Rattle.std.specs.Prelude.{◌≡◌, ◌≤◌, length, Some};
 ghost use Rattle.kp_base.specs.declared.refused.Part.TheVariants as parts;
 ghost use Rattle.kp_grammar.specs.Grammar as grammar;
-ghost use Rattle.kp_grammar.specs.PlainTexts.{ReadsAs};
+ghost use Rattle.kp_grammar.specs.Texts.{ReadsAs};
 ghost use Rattle.kp_meaning.specs.Faults.{Fault as Wrong, byte_of, domain_faults, problem_faults};
 ghost use Rattle.kp_names.specs.Collected.{domain_of, problem_of};
 ghost use Rattle.kp_names.specs.Noted.{Refuses, Judges, JudgesBoth};

@@ -75,7 +75,7 @@ impl<'a> NameSet<'a> {
     {
         let mut texts = Row::new(alloc);
         for name in self.set.as_slice() {
-            texts.push(text_of(alloc, name)?)?;
+            texts.push(Text::from_slice(alloc, name)?)?;
         }
         Ok(texts)
     }
@@ -86,14 +86,4 @@ impl<'a> NameSet<'a> {
     {
         self.set.truncate(len as usize);
     }
-}
-
-fn text_of(alloc: Global, bytes: &[u8]) -> Result<Text, Memory>
-    ensures { IfOk result (λ text. text ≡ bytes.now) }
-{
-    let mut text = Text::new(alloc);
-    for byte in bytes {
-        text.push(*byte)?;
-    }
-    Ok(text)
 }

@@ -1,6 +1,6 @@
 ghost use Rattle.std.specs.Prelude.{◌≤◌, length};
 ghost use Rattle.kp_grammar.specs.Grammar as grammar;
-ghost use Rattle.kp_grammar.specs.PlainTexts.{ReadsAs};
+ghost use Rattle.kp_grammar.specs.Texts.{ReadsAs};
 ghost use Rattle.kp_grammar.specs.View.{domain_view, problem_view};
 ghost use Rattle.kp_names.specs.Resolved.{AnswersNames};
 

@@ -7,23 +7,12 @@ use kp_base::{Memory, Row, Text};
 use kp_grammar::{AtomTree, LitTree, TermTree, Typed, Word};
 use std::alloc::Global;
 
-// An equal text.
-fn copy_text(alloc: Global, text: &str) -> Result<Text, Memory>
-    ensures { IfOk result (λ t. t ≡ text.now) }
-{
-    let mut copied = Text::new(alloc);
-    'copies: for byte in text.as_bytes() {
-        copied.push(*byte)?;
-    }
-    Ok(copied)
-}
-
 /// An equal word.
 pub fn copy_word(alloc: Global, node: &WordNode) -> Result<Word, Memory>
     ensures { IfOk result (λ w. w ≡ word_view node.now) }
 {
     Ok(Word {
-        text: copy_text(alloc, node.text)?,
+        text: Text::from_slice(alloc, node.text.as_bytes())?,
         byte: node.byte,
     })
 }

@@ -65,23 +65,12 @@ impl Atoms {
     }
 }
 
-// The bytes as a text.
-fn text_of(alloc: Global, bytes: &[u8]) -> Result<Text, Memory>
-    ensures { IfOk result (λ text. text ≡ bytes.now) }
-{
-    let mut text = Text::new(alloc);
-    for byte in bytes {
-        text.push(*byte)?;
-    }
-    Ok(text)
-}
-
 /// A name without objects.
 pub fn nullary(alloc: Global, head: &[u8]) -> Result<GroundName, Memory>
     ensures { IfOk result (λ name. name ≡ nullary head.now) }
 {
     Ok(GroundName {
-        head: text_of(alloc, head)?,
+        head: Text::from_slice(alloc, head)?,
         objects: Row::new(alloc),
     })
 }

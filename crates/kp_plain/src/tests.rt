@@ -1,6 +1,6 @@
 use crate::{Translation, translate};
 use kp_base::Memory;
-use kp_grammar::{plain_domain, plain_problem};
+use kp_forms::{plain_domain, plain_problem};
 use std::alloc::Global;
 use std::test::Fail;
 

@@ -20,14 +20,16 @@ use Rattle.kp_grammar.specs.Symbols.{symbol_of}
 use Rattle.kp_grammar.specs.Parsing.{some_at, next_at}
 use Rattle.kp_grammar.specs.Trees.{Cond, Domain, Item, Problem}
 use Rattle.kp_grammar.specs.declared.tree.Word.{Word}
-use Rattle.kp_grammar.specs.Plain.{plain_domain, plain_problem}
-use Rattle.kp_grammar.specs.PlainTexts.{IsPlain}
+use Rattle.kp_forms.specs.Plain.{plain_domain, plain_problem}
+use Rattle.kp_forms.specs.PlainTexts.{IsPlain}
 use Rattle.kp_grammar.specs.Grammar as grammar
 use Rattle.kp_grammar.specs.Symbols.{all_seen_in}
 use Rattle.kp_grammar.specs.Trees.{conds_of}
 use Rattle.kp_grammar.specs.Reading.{ReadsWhole, StopsWhole, stop, within_form, s_unopened}
-use Rattle.kp_grammar.proofs.Computed.{is_plain, stops}
-use Rattle.kp_grammar.proofs.ExamplesPlain.{atom_at, exchange, exchange_tree, exchange_plain, from_p_to_q, from_p_to_q_tree}
+use Rattle.kp_grammar.proofs.Computed.{stops}
+use Rattle.kp_forms.proofs.ComputedPlain.{is_plain}
+use Rattle.kp_grammar.proofs.ExampleTexts.{atom_at, exchange, exchange_tree, from_p_to_q, from_p_to_q_tree}
+use Rattle.kp_forms.proofs.ExamplesPlain.{exchange_plain}
 use Rattle.kp_grammar.proofs.Wholes.{whole_never_both}
 use Rattle.kp_lex.proofs.Outcomes.{one_cutting}
 use Rattle.kp_meaning.specs.Faults as faults

@@ -15,7 +15,8 @@ use Rattle.kp_grammar.specs.Symbols.{all_seen_in}
 use Rattle.kp_grammar.specs.Sorts.{Sort, El}
 use Rattle.kp_grammar.specs.Forms.{Form}
 use Rattle.kp_grammar.specs.Reading.{ReadsWhole}
-use Rattle.kp_grammar.specs.PlainTexts.{ReadsAs, IsPlain, Answers}
+use Rattle.kp_grammar.specs.Texts.{ReadsAs}
+use Rattle.kp_forms.specs.PlainTexts.{IsPlain, Answers}
 use Rattle.kp_grammar.proofs.Wholes.{whole_read_once}
 use Rattle.kp_grammar.specs.Trees.{Domain, Problem}
 use Rattle.kp_meaning.specs.Faults.{unknown_name, declared_twice, wrong_use}

@@ -8,8 +8,8 @@ use Rattle.kp_base.specs.declared.refused.Refused.{Refused}
 use Rattle.kp_base.specs.declared.refused.Refused.TheVariants as refusals
 use Rattle.kp_grammar.specs.declared.tree.Word.{Word}
 use Rattle.kp_grammar.specs.Trees as trees
-use Rattle.kp_grammar.specs.Plain.{plain_domain, plain_problem}
-use Rattle.kp_grammar.specs.PlainTexts.{IsPlain}
+use Rattle.kp_forms.specs.Plain.{plain_domain, plain_problem}
+use Rattle.kp_forms.specs.PlainTexts.{IsPlain}
 use Rattle.kp_outside.specs.Outside.{FileMap}
 use Rattle.kp_run.specs.declared.status.Status.{Status}
 use Rattle.kp_run.specs.declared.status.Status.TheVariants as status

@@ -1,15 +1,16 @@
 ghost use Rattle.std.specs.Prelude.{◌≡◌, IfOk, if◌then◌else◌};
 ghost use Rattle.kp_grammar.specs.declared.tree.Word.{Word};
 ghost use Rattle.kp_grammar.specs.Grammar as grammar;
-ghost use Rattle.kp_grammar.specs.Plain as forms;
-ghost use Rattle.kp_grammar.specs.PlainTexts.{IsPlain};
+ghost use Rattle.kp_forms.specs.Plain as forms;
+ghost use Rattle.kp_forms.specs.PlainTexts.{IsPlain};
 ghost use Rattle.kp_grammar.specs.Trees as trees;
 ghost use Rattle.kp_grammar.specs.View.{domain_view, problem_view};
 ghost use Rattle.kp_tree.specs.Files.{Reads};
 ghost use Rattle.kp_run.specs.Reports.{IsTest};
 
 use kp_base::Memory;
-use kp_tree::{Domain, Problem, plain_domain, plain_problem};
+use kp_forms::{plain_domain, plain_problem};
+use kp_tree::{Domain, Problem};
 use std::alloc::Global;
 
 /// Whether a domain that has this tree is of the plain form.

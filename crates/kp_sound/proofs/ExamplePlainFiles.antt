@@ -1,7 +1,7 @@
 -- Two plain files with one action: each premise of the laws on plain files is met, and a plan of what is written for them strips to their plan.
 use Rattle.std.proofs.Common.{◌≡◌, [], ◌∷◌, refl}
 use Rattle.kp_base.specs.Clashes.{NeverClashes}
-use Rattle.kp_grammar.proofs.ExamplesPlain.{exchange, exchange_tree, from_p_to_q, from_p_to_q_tree}
+use Rattle.kp_grammar.proofs.ExampleTexts.{exchange, exchange_tree, from_p_to_q, from_p_to_q_tree}
 use Rattle.kp_meaning.specs.Plans.{IsPlan}
 use Rattle.kp_given.specs.PlainGround.{ArePlain}
 use Rattle.kp_given.specs.Translations.{ground_of, initial_of, start_of, translation_of}

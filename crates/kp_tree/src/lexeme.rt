@@ -5,10 +5,9 @@ ghost use Rattle.kp_grammar.specs.Symbols.{all_seen_in};
 ghost use Rattle.kp_nodes.specs.Nodes.{word_view, term_view};
 ghost use Rattle.kp_tree.specs.Lexemes.{tok, toks, word_of, term_of, lexed};
 
-use crate::symbols::symbol_of;
 use bumpalo::Bump;
 use bumpalo::collections::into_bump_slice;
-use kp_grammar::Symbol;
+use kp_grammar::{Symbol, symbol_of};
 use kp_lex::Token;
 use kp_nodes::{TermNode, WordNode};
 use std::alloc::{AllocError, Global};

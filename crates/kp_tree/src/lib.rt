@@ -15,14 +15,13 @@ mod parse;
 mod problems;
 mod runs;
 mod sections;
-mod symbols;
 mod titles;
 mod typed;
 
 pub use file::{read_domain, read_problem};
 pub use kp_grammar::{
     AtomTree, CondTree, Domain, EffTree, ItemTree, LitTree, PredTree, Problem, SchemaTree,
-    TermTree, Typed, Word, plain_domain, plain_problem,
+    TermTree, Typed, Word,
 };
 pub use kp_nodes::{
     AtomNode, CondNode, DomainNode, EffNode, ItemNode, LitNode, PredNode, ProblemNode, SchemaNode,

@@ -3,7 +3,7 @@ use Rattle.std.specs.Prelude.{◌≡◌, ℕ, List}
 use Rattle.kp_grammar.specs.declared.tree.Word.{Word}
 use Rattle.kp_grammar.specs.Trees.{Domain, Problem}
 use Rattle.kp_grammar.specs.Grammar as grammar
-use Rattle.kp_grammar.specs.PlainTexts.{ReadsAs}
+use Rattle.kp_grammar.specs.Texts.{ReadsAs}
 use Rattle.kp_meaning.specs.Places.{domain_map, problem_map}
 use Rattle.kp_plain.specs.Task.{Op}
 use Rattle.kp_plain.specs.Written.{domain_text, problem_text}

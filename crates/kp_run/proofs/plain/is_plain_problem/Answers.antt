@@ -1,7 +1,7 @@
 use Rattle.std.proofs.Common.{◌≡◌, Bool, sym, subst}
 use Rattle.kp_grammar.specs.Grammar as grammar
-use Rattle.kp_grammar.specs.Plain as forms
-use Rattle.kp_grammar.specs.PlainTexts.{IsPlain}
+use Rattle.kp_forms.specs.Plain as forms
+use Rattle.kp_forms.specs.PlainTexts.{IsPlain}
 use Rattle.kp_grammar.specs.View.{problem_view}
 use Rattle.kp_run.specs.Reports.{IsTest}
 use Rattle.kp_run.proofs.Reading.{plain_test}
