@@ -2,6 +2,10 @@
 use Rattle.std.specs.Prelude.{ℕ, zero, suc, List, [], ◌∷◌, Bool, true, false, Option, Some, None}
 use Rattle.kp_grammar.specs.Symbols.{Tok, is_left, is_right}
 
+-- so many brackets may be open at once
+abbrev pub levels : ℕ
+levels = 64
+
 -- What follows from a bracket that opens or closes, or from another token, where d levels may still be opened: it is the one too many, or the rest goes on with so many levels.
 abbrev pub deep_case : {W : Type 0} → ℕ → Bool → Bool → List (Tok W) → (ℕ → Option (List (Tok W))) → Option (List (Tok W))
 deep_case zero true r here k = Some here

@@ -4,7 +4,7 @@ use Rattle.std.specs.List.{flat_map}
 use Rattle.kp_grammar.specs.declared.tree.Word.{Word}
 use Rattle.kp_grammar.specs.Trees.{Typed, Pred, Schema, Section, section_types, section_constants, section_predicates, section_schemas, Given}
 use Rattle.kp_grammar.specs.Parsing.{Outcome}
-use Rattle.kp_tree.proofs.Loops.{with_front, no_front, flat_map-push}
+use Rattle.kp_parts.proofs.Loops.{with_front, no_front, flat_map-push}
 
 -- the sections read so far, and what they declare
 pub record Sections (kinds constants : List (Typed Word)) (preds : List (Pred Word)) (schemas : List (Schema Word)) (here total : Outcome Word (List (Section Word))) : Type 0 where

@@ -1,12 +1,7 @@
 pub mod OneAnswer
 pub mod WholeFiles
-pub mod Ascii
 pub mod First
 pub mod Whole
-pub mod Several
-pub mod Cases
-pub mod Loops
-pub mod Views
 pub mod Joining
 pub mod Stating
 pub mod Told

@@ -16,7 +16,8 @@ use Rattle.kp_grammar.specs.Reading.{At, stop, ReadsWhole, StopsWhole}
 use Rattle.kp_grammar.specs.Depth.{deep}
 use Rattle.kp_grammar.proofs.Exact.{some_none}
 use Rattle.kp_grammar.proofs.Wholes.{whole_read_once, whole_stopped_once, whole_never_both, whole_always_one}
-use Rattle.kp_tree.specs.Files.{most_bytes, levels, ReadsShallow, RefusedAt, offending, too_deep, refusal_at, Reads, Refuses, too_long, bad_token, stops, FilesReadOnce, FilesRefuseOnce, FilesNeverBoth, FilesAlwaysOne}
+use Rattle.kp_grammar.specs.Depth.{levels}
+use Rattle.kp_tree.specs.Files.{most_bytes, ReadsShallow, RefusedAt, offending, too_deep, refusal_at, Reads, Refuses, too_long, bad_token, stops, FilesReadOnce, FilesRefuseOnce, FilesNeverBoth, FilesAlwaysOne}
 
 -- ---- tokens
 

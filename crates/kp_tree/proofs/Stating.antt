@@ -5,7 +5,7 @@ use Rattle.kp_grammar.specs.declared.tree.Word.{Word}
 use Rattle.kp_grammar.specs.Trees.{Typed, Item, Cond, Given, given_objects, given_items, goal_of}
 use Rattle.kp_grammar.specs.Parsing.{Outcome}
 use Rattle.kp_tree.specs.Givens.{goal_after, goal_or_true}
-use Rattle.kp_tree.proofs.Loops.{with_front, no_front}
+use Rattle.kp_parts.proofs.Loops.{with_front, no_front}
 use Rattle.kp_tree.proofs.Joining.{kept}
 
 -- the first goal

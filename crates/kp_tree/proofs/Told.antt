@@ -13,12 +13,12 @@ use Rattle.kp_grammar.specs.Symbols.{Tok, seen_in, all_seen_in}
 use Rattle.kp_grammar.specs.Sorts.{Sort, El}
 use Rattle.kp_grammar.specs.Forms.{Form}
 use Rattle.kp_grammar.specs.Reading.{At, stop}
-use Rattle.kp_tree.specs.declared.halt.Halt.{Halt}
-use Rattle.kp_tree.specs.declared.halt.Halt.TheVariants as halts
-use Rattle.kp_tree.specs.declared.lexeme.Lexeme.{Lexeme}
+use Rattle.kp_parts.specs.declared.halt.Halt.{Halt}
+use Rattle.kp_parts.specs.declared.halt.Halt.TheVariants as halts
+use Rattle.kp_parts.specs.declared.lexeme.Lexeme.{Lexeme}
 use Rattle.kp_tree.specs.Files.{ReadsShallow, RefusedAt, AnswersTokens, refusal_at, byte_at}
-use Rattle.kp_tree.specs.Lexemes.{tok, toks, from}
-use Rattle.kp_tree.specs.Readers.{GivesAll, Fails, unsupported, whole_at}
+use Rattle.kp_parts.specs.Lexemes.{tok, toks, from}
+use Rattle.kp_parts.specs.Readers.{GivesAll, Fails, unsupported, whole_at}
 use Rattle.kp_tree.specs.Refusals.{IsTold}
 use Rattle.kp_tree.proofs.Whole.{is_read, is_refused}
 

@@ -9,8 +9,9 @@ use Rattle.kp_grammar.specs.Depth.{deep_case, deep}
 use Rattle.kp_grammar.specs.declared.tree.Word.{Word}
 use Rattle.kp_grammar.proofs.Tells.{Tells, read_tells}
 use Rattle.kp_grammar.proofs.Wholes.{whole_never_both, whole_stopped_once, whole_always_one}
-use Rattle.kp_tree.specs.Files.{levels, ReadsShallow, RefusedAt, offending, too_deep}
-use Rattle.kp_tree.specs.Readers.{whole_at}
+use Rattle.kp_grammar.specs.Depth.{levels}
+use Rattle.kp_tree.specs.Files.{ReadsShallow, RefusedAt, offending, too_deep}
+use Rattle.kp_parts.specs.Readers.{whole_at}
 use Rattle.kp_tree.proofs.First.{halts_before, stops_before, Comes}
 
 -- the first bracket that is too deep stands within the tokens

@@ -14,15 +14,11 @@ use Rattle.kp_grammar.specs.Symbols.{Tok, all_seen_in}
 use Rattle.kp_grammar.specs.Sorts.{Sort, El}
 use Rattle.kp_grammar.specs.Forms.{Form}
 use Rattle.kp_grammar.specs.Reading.{Reason, Syntax, Unsupported, At, stop, ReadsWhole, StopsWhole}
-use Rattle.kp_grammar.specs.Depth.{deep}
+use Rattle.kp_grammar.specs.Depth.{levels, deep}
 
 -- the most bytes that a file may have
 abbrev pub most_bytes : ℕ
 most_bytes = 16777216
-
--- so many brackets may be open at once
-abbrev pub levels : ℕ
-levels = 64
 
 -- ---- tokens
 

@@ -9,17 +9,17 @@ use Rattle.kp_grammar.specs.Sorts.{Seen, apply, m_problem}
 use Rattle.kp_grammar.specs.Forms.{run, make, choose, ◌▸◌, ◌▹◌}
 use Rattle.kp_grammar.specs.Grammar.{title, given, given_case, has_stood, problem}
 use Rattle.kp_grammar.specs.Parsing.{Outcome, read}
-use Rattle.kp_tree.specs.declared.halt.Halt.{Halt}
-use Rattle.kp_tree.specs.declared.lexeme.Lexeme.{Lexeme}
+use Rattle.kp_parts.specs.declared.halt.Halt.{Halt}
+use Rattle.kp_parts.specs.declared.lexeme.Lexeme.{Lexeme}
 use Rattle.kp_nodes.specs.declared.node.CondNode.{CondNode}
 use Rattle.kp_nodes.specs.declared.node.ProblemNode.{ProblemNode}
 use Rattle.kp_tree.specs.declared.problems.Once.{Once}
 use Rattle.kp_tree.specs.declared.problems.Once.TheVariants as onces
 use Rattle.kp_tree.specs.declared.problems.ProblemPart.{ProblemPart}
 use Rattle.kp_tree.specs.declared.problems.ProblemPart.TheVariants as parts
-use Rattle.kp_tree.specs.Lexemes.{from}
+use Rattle.kp_parts.specs.Lexemes.{from}
 use Rattle.kp_nodes.specs.Nodes.{typed_view, item_view, cond_view, problem_view}
-use Rattle.kp_tree.specs.Readers.{Reader, Fails}
+use Rattle.kp_parts.specs.Readers.{Reader, Fails}
 
 -- the keyword of a section that stands at most once
 abbrev pub once_test : Once → Symbol → Bool

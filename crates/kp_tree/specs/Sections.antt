@@ -13,14 +13,14 @@ use Rattle.kp_grammar.specs.Sorts.{El, Seen, apply, m_domain, m_problem}
 use Rattle.kp_grammar.specs.Forms.{Form, many, run, make, choose, bracket, ◌▸◌, ◌▹◌}
 use Rattle.kp_grammar.specs.Grammar.{section, section_case, title, domain, given, given_case, has_stood, problem}
 use Rattle.kp_grammar.specs.Parsing.{Outcome, read}
-use Rattle.kp_tree.specs.declared.halt.Halt.{Halt}
-use Rattle.kp_tree.specs.declared.lexeme.Lexeme.{Lexeme}
+use Rattle.kp_parts.specs.declared.halt.Halt.{Halt}
+use Rattle.kp_parts.specs.declared.lexeme.Lexeme.{Lexeme}
 use Rattle.kp_nodes.specs.declared.node.DomainNode.{DomainNode}
 use Rattle.kp_tree.specs.declared.domains.DomainPart.{DomainPart}
 use Rattle.kp_tree.specs.declared.domains.DomainPart.TheVariants as parts
-use Rattle.kp_tree.specs.Lexemes.{from}
+use Rattle.kp_parts.specs.Lexemes.{from}
 use Rattle.kp_nodes.specs.Nodes.{typed_view, pred_view, schema_view, domain_view}
-use Rattle.kp_tree.specs.Readers.{Reader, Fails}
+use Rattle.kp_parts.specs.Readers.{Reader, Fails}
 
 -- ---- domains
 

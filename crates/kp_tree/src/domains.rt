@@ -1,17 +1,12 @@
 ghost use Rattle.std.specs.Prelude.{◌≡◌, ◌<◌, ◌≤◌, ◌++◌, length, map, IfOk, OnOk};
 ghost use Rattle.kp_grammar.specs.Trees.{section_types, section_constants, section_predicates, section_schemas};
-ghost use Rattle.kp_tree.specs.Lexemes.{from};
+ghost use Rattle.kp_parts.specs.Lexemes.{from};
 ghost use Rattle.kp_nodes.specs.Nodes.{typed_view, pred_view, schema_view, domain_view};
-ghost use Rattle.kp_tree.specs.Readers.{Gives};
+ghost use Rattle.kp_parts.specs.Readers.{Gives};
 ghost use Rattle.kp_tree.specs.Sections.{GivesSections, section_view, section_inside_at, section_at, sections_at, domain_inside_at, domain_at};
 
-use crate::cursor::{Class, Lead, close, follow, is_left, peek};
-use crate::halt::Halt;
-use crate::lexeme::Lexeme;
-use crate::runs::{add, append, skip_keywords};
+use kp_parts::{Class, Halt, Lead, Lexeme, add, append, close, follow, is_left, peek, skip_keywords, title, typed};
 use crate::sections::{preds, schema};
-use crate::titles::title;
-use crate::typed::typed;
 use bumpalo::Bump;
 use bumpalo::collections::into_bump_slice;
 use kp_base::Memory;
@@ -47,7 +42,7 @@ pub struct Declared<'a> {
 }
 
 // What stands between the brackets of a section.
-#[tactic(auto, unfolding(crate::specs::Sections::section_inside_at, crate::specs::Readers::keywords_at, crate::specs::Readers::typed_at, crate::specs::Readers::preds_at, crate::specs::Readers::schema_at))]
+#[tactic(auto, unfolding(crate::specs::Sections::section_inside_at, kp_parts::specs::Readers::keywords_at, kp_parts::specs::Readers::typed_at, kp_parts::specs::Readers::preds_at, kp_parts::specs::Readers::schema_at))]
 fn section_inside<'a>(
     bump: &'a Bump,
     tokens: &[Lexeme<'a>],
@@ -169,7 +164,7 @@ fn as_domain<'a>(declared: Declared<'a>) -> DomainNode<'a>
 }
 
 // define ( domain Name ) and the sections
-#[tactic(auto, unfolding(crate::specs::Sections::domain_inside_at, crate::specs::Readers::title_at, crate::specs::Sections::sections_at))]
+#[tactic(auto, unfolding(crate::specs::Sections::domain_inside_at, kp_parts::specs::Readers::title_at, crate::specs::Sections::sections_at))]
 fn domain_inside<'a>(
     bump: &'a Bump,
     tokens: &[Lexeme<'a>],

@@ -1,22 +1,12 @@
 //! Trees of whole files, and the exact place of each refusal. `specs/Files.antt` says which files are read and how the others are refused.
 #![tactic(auto)]
 
-mod atoms;
-mod conds;
-mod cursor;
 mod domains;
-mod effects;
 mod file;
-mod halt;
-mod items;
 mod laws;
-mod lexeme;
 mod parse;
 mod problems;
-mod runs;
 mod sections;
-mod titles;
-mod typed;
 
 pub use file::{read_domain, read_problem};
 pub use kp_grammar::{

@@ -4,15 +4,13 @@ ghost use Rattle.kp_base.specs.declared.refused.Part.TheVariants as parts;
 ghost use Rattle.kp_grammar.specs.Grammar.{domain, problem};
 ghost use Rattle.kp_grammar.specs.Symbols.{all_seen_in};
 ghost use Rattle.kp_tree.specs.Files.{AnswersTokens, byte_at};
-ghost use Rattle.kp_tree.specs.Lexemes.{toks};
+ghost use Rattle.kp_parts.specs.Lexemes.{toks};
 ghost use Rattle.kp_nodes.specs.Nodes.{domain_view, problem_view};
-ghost use Rattle.kp_tree.specs.Readers.{GivesAll, whole_at};
+ghost use Rattle.kp_parts.specs.Readers.{GivesAll, whole_at};
 ghost use Rattle.kp_tree.specs.Refusals.{IsTold};
 
-use crate::cursor::peek;
+use kp_parts::{Halt, Lexeme, lexemes, peek};
 use crate::domains::domain;
-use crate::halt::Halt;
-use crate::lexeme::{Lexeme, lexemes};
 use crate::problems::problem;
 use bumpalo::Bump;
 use kp_base::{Part, Refused, Row, Stop};
@@ -56,7 +54,7 @@ fn told(part: Part, bytes: &[u8], tokens: &[Token], halt: Halt) -> Stop
 }
 
 // The domain that all the tokens are.
-#[tactic(auto, unfolding(crate::specs::Readers::whole_at, crate::specs::Sections::domain_at))]
+#[tactic(auto, unfolding(kp_parts::specs::Readers::whole_at, crate::specs::Sections::domain_at))]
 fn whole_domain<'a>(bump: &'a Bump, tokens: &[Lexeme<'a>]) -> Result<DomainNode<'a>, Halt>
     ensures { GivesAll tokens.now domain_view result (whole_at domain (toks tokens.now)) }
 {
@@ -68,7 +66,7 @@ fn whole_domain<'a>(bump: &'a Bump, tokens: &[Lexeme<'a>]) -> Result<DomainNode<
 }
 
 // The problem that all the tokens are.
-#[tactic(auto, unfolding(crate::specs::Readers::whole_at, crate::specs::Givens::problem_at))]
+#[tactic(auto, unfolding(kp_parts::specs::Readers::whole_at, crate::specs::Givens::problem_at))]
 fn whole_problem<'a>(
     bump: &'a Bump,
     alloc: Global,

@@ -1,19 +1,12 @@
 ghost use Rattle.std.specs.Prelude.{◌≡◌, ◌<◌, ◌≤◌, ◌++◌, length, map, IfOk, OnOk};
 ghost use Rattle.kp_grammar.specs.Grammar.{has_stood};
 ghost use Rattle.kp_grammar.specs.Trees.{given_objects, given_items};
-ghost use Rattle.kp_tree.specs.Lexemes.{from};
+ghost use Rattle.kp_parts.specs.Lexemes.{from};
 ghost use Rattle.kp_nodes.specs.Nodes.{typed_view, item_view, cond_view, problem_view};
-ghost use Rattle.kp_tree.specs.Readers.{Gives};
+ghost use Rattle.kp_parts.specs.Readers.{Gives};
 ghost use Rattle.kp_tree.specs.Givens.{GivesGivens, once_test, seen_after, given_view, goal_view, goal_after, goal_or_true, given_inside_at, given_at, givens_at, problem_inside_at, problem_at};
 
-use crate::conds::{Mode, cond, no_condition};
-use crate::cursor::{Class, Lead, close, follow, is_left, peek, skip_name};
-use crate::halt::Halt;
-use crate::items::items;
-use crate::lexeme::Lexeme;
-use crate::runs::{append, skip_keywords};
-use crate::titles::title;
-use crate::typed::typed;
+use kp_parts::{Class, Halt, Lead, Lexeme, Mode, append, close, cond, follow, is_left, items, no_condition, peek, skip_keywords, skip_name, title, typed};
 use bumpalo::Bump;
 use bumpalo::collections::into_bump_slice;
 use kp_base::Memory;
@@ -77,7 +70,7 @@ fn has_stood(seen: &[Symbol], once: Once) -> bool
 }
 
 // What stands between the brackets of a section, where some have stood.
-#[tactic(auto, unfolding(crate::specs::Givens::given_inside_at, crate::specs::Readers::name_at, crate::specs::Readers::keywords_at, crate::specs::Readers::typed_at, crate::specs::Readers::items_at, crate::specs::Readers::cond_at))]
+#[tactic(auto, unfolding(crate::specs::Givens::given_inside_at, kp_parts::specs::Readers::name_at, kp_parts::specs::Readers::keywords_at, kp_parts::specs::Readers::typed_at, kp_parts::specs::Readers::items_at, kp_parts::specs::Readers::cond_at))]
 fn given_inside<'a>(
     bump: &'a Bump,
     tokens: &[Lexeme<'a>],
@@ -228,7 +221,7 @@ fn givens<'a>(
 }
 
 // define ( problem Name ) and the sections
-#[tactic(auto, unfolding(crate::specs::Givens::problem_inside_at, crate::specs::Readers::title_at, crate::specs::Givens::givens_at))]
+#[tactic(auto, unfolding(crate::specs::Givens::problem_inside_at, kp_parts::specs::Readers::title_at, crate::specs::Givens::givens_at))]
 fn problem_inside<'a>(
     bump: &'a Bump,
     alloc: Global,

@@ -1,22 +1,16 @@
 ghost use Rattle.std.specs.Prelude.{◌≡◌, ◌<◌, ◌≤◌, ◌++◌, length, map, IfOk, OnOk};
-ghost use Rattle.kp_tree.specs.Lexemes.{from};
+ghost use Rattle.kp_parts.specs.Lexemes.{from};
 ghost use Rattle.kp_nodes.specs.Nodes.{typed_view, cond_view, eff_view, pred_view, schema_view};
-ghost use Rattle.kp_tree.specs.Readers.{Gives, Passes, pred_inside_at, pred_at, preds_at, params_at, precondition_at, effect_at, parts_end_at, schema_at};
+ghost use Rattle.kp_parts.specs.Readers.{Gives, Passes, pred_inside_at, pred_at, preds_at, params_at, precondition_at, effect_at, parts_end_at, schema_at};
 
-use crate::conds::{Mode, cond, no_condition};
-use crate::cursor::{Class, close, is_left, peek, word};
-use crate::effects::{eff, no_effect};
-use crate::halt::Halt;
-use crate::lexeme::Lexeme;
-use crate::runs::add;
-use crate::typed::{typed, variables};
+use kp_parts::{Class, Halt, Lexeme, Mode, add, close, cond, eff, is_left, no_condition, no_effect, peek, typed, variables, word};
 use bumpalo::Bump;
 use bumpalo::collections::into_bump_slice;
 use kp_grammar::Symbol;
 use kp_nodes::{CondNode, EffNode, PredNode, SchemaNode, TypedNode};
 
 // Head typed variables
-#[tactic(auto, unfolding(crate::specs::Readers::pred_inside_at, crate::specs::Readers::word_at, crate::specs::Readers::typed_at))]
+#[tactic(auto, unfolding(kp_parts::specs::Readers::pred_inside_at, kp_parts::specs::Readers::word_at, kp_parts::specs::Readers::typed_at))]
 fn pred_inside<'a>(
     bump: &'a Bump,
     tokens: &[Lexeme<'a>],
@@ -33,7 +27,7 @@ fn pred_inside<'a>(
 }
 
 // ( Head typed variables )
-#[tactic(auto, unfolding(crate::specs::Readers::pred_at, crate::specs::Readers::pred_inside_at))]
+#[tactic(auto, unfolding(kp_parts::specs::Readers::pred_at, kp_parts::specs::Readers::pred_inside_at))]
 fn pred<'a>(
     bump: &'a Bump,
     tokens: &[Lexeme<'a>],
@@ -73,7 +67,7 @@ pub fn preds<'a>(
 }
 
 // [:parameters ( typed variables )]
-#[tactic(auto, unfolding(crate::specs::Readers::params_at, crate::specs::Readers::typed_bracket_at))]
+#[tactic(auto, unfolding(kp_parts::specs::Readers::params_at, kp_parts::specs::Readers::typed_bracket_at))]
 fn params<'a>(
     bump: &'a Bump,
     tokens: &[Lexeme<'a>],
@@ -93,7 +87,7 @@ fn params<'a>(
 }
 
 // [:precondition cond]
-#[tactic(auto, unfolding(crate::specs::Readers::precondition_at, crate::specs::Readers::cond_at))]
+#[tactic(auto, unfolding(kp_parts::specs::Readers::precondition_at, kp_parts::specs::Readers::cond_at))]
 fn precondition<'a>(
     bump: &'a Bump,
     tokens: &[Lexeme<'a>],
@@ -113,7 +107,7 @@ fn precondition<'a>(
 }
 
 // [:effect eff]
-#[tactic(auto, unfolding(crate::specs::Readers::effect_at, crate::specs::Readers::eff_at))]
+#[tactic(auto, unfolding(kp_parts::specs::Readers::effect_at, kp_parts::specs::Readers::eff_at))]
 fn effect<'a>(
     bump: &'a Bump,
     tokens: &[Lexeme<'a>],
@@ -133,7 +127,7 @@ fn effect<'a>(
 }
 
 // Behind the parts of an action no further one stands that is known and not supported.
-#[tactic(auto, unfolding(crate::specs::Readers::parts_end_at))]
+#[tactic(auto, unfolding(kp_parts::specs::Readers::parts_end_at))]
 fn parts_end(tokens: &[Lexeme], at: usize) -> Result<usize, Halt>
     requires { at ≤ length tokens.now }
     ensures reads { Passes tokens.now result (parts_end_at (from tokens.now at)) }
@@ -149,7 +143,7 @@ fn parts_end(tokens: &[Lexeme], at: usize) -> Result<usize, Halt>
 }
 
 /// Name [:parameters ( typed variables )] [:precondition cond] [:effect eff]
-#[tactic(auto, unfolding(crate::specs::Readers::schema_at, crate::specs::Readers::word_at, crate::specs::Readers::params_at, crate::specs::Readers::precondition_at, crate::specs::Readers::effect_at, crate::specs::Readers::parts_end_at))]
+#[tactic(auto, unfolding(kp_parts::specs::Readers::schema_at, kp_parts::specs::Readers::word_at, kp_parts::specs::Readers::params_at, kp_parts::specs::Readers::precondition_at, kp_parts::specs::Readers::effect_at, kp_parts::specs::Readers::parts_end_at))]
 pub fn schema<'a>(
     bump: &'a Bump,
     tokens: &[Lexeme<'a>],

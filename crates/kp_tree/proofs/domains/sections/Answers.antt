@@ -3,7 +3,7 @@ use Rattle.std.proofs.lemmas.Result.{err_from_is_err_and}
 use Rattle.kp_grammar.specs.Symbols.{is_left}
 use Rattle.kp_grammar.specs.Grammar.{section}
 use Rattle.kp_tree.specs.Sections.{section_at, sections_at}
-use Rattle.kp_tree.proofs.Loops.{goes_on, ends, is_done}
+use Rattle.kp_parts.proofs.Loops.{goes_on, ends, is_done}
 use Rattle.kp_tree.proofs.Joining.{section_more}
 use Rattle.kp_tree.proofs.domains.sections.Goals as goal
 

@@ -1,9 +1,9 @@
 use Rattle.std.proofs.Common.{◌≤◌, ◌-◌, length, map}
 use Rattle.kp_grammar.specs.Symbols.{is_left}
 use Rattle.kp_grammar.specs.Grammar.{section}
-use Rattle.kp_tree.specs.Lexemes.{from}
+use Rattle.kp_parts.specs.Lexemes.{from}
 use Rattle.kp_nodes.specs.Nodes.{typed_view, pred_view, schema_view}
-use Rattle.kp_tree.proofs.Loops.{all_of}
+use Rattle.kp_parts.proofs.Loops.{all_of}
 use Rattle.kp_tree.proofs.Joining.{Sections}
 use Rattle.kp_tree.proofs.domains.sections.Given as goal
 

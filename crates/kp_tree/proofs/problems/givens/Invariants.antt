@@ -1,10 +1,10 @@
 use Rattle.std.proofs.Common.{◌≤◌, ◌-◌, length, map, []}
 use Rattle.kp_grammar.specs.Symbols.{is_left, is_goal}
 use Rattle.kp_grammar.specs.Grammar.{given, has_stood}
-use Rattle.kp_tree.specs.Lexemes.{from}
+use Rattle.kp_parts.specs.Lexemes.{from}
 use Rattle.kp_nodes.specs.Nodes.{typed_view, item_view}
 use Rattle.kp_tree.specs.Givens.{goal_view}
-use Rattle.kp_tree.proofs.Loops.{run_of}
+use Rattle.kp_parts.proofs.Loops.{run_of}
 use Rattle.kp_tree.proofs.Stating.{Givens}
 use Rattle.kp_tree.proofs.problems.givens.Given as goal
 

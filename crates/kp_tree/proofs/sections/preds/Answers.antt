@@ -4,8 +4,8 @@ use Rattle.std.proofs.lemmas.List.{map_push}
 use Rattle.kp_grammar.specs.Symbols.{is_left}
 use Rattle.kp_grammar.specs.Grammar.{pred}
 use Rattle.kp_nodes.specs.Nodes.{pred_view}
-use Rattle.kp_tree.specs.Readers.{pred_at, preds_at}
-use Rattle.kp_tree.proofs.Loops.{goes_on, ends, is_done}
+use Rattle.kp_parts.specs.Readers.{pred_at, preds_at}
+use Rattle.kp_parts.proofs.Loops.{goes_on, ends, is_done}
 use Rattle.kp_tree.proofs.sections.preds.Goals as goal
 
 pub returns-in_err-part-clause-reads : goal.returns-in_err-part-clause-reads

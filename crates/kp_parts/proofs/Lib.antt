@@ -1,0 +1,5 @@
+pub mod Ascii
+pub mod Several
+pub mod Cases
+pub mod Loops
+pub mod Views

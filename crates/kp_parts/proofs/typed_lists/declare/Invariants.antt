@@ -1,0 +1,7 @@
+use Rattle.std.proofs.Common.{◌≡◌, ◌++◌, map, take}
+use Rattle.kp_nodes.specs.Nodes.{word_view, typed_view}
+use Rattle.kp_parts.proofs.Loops.{typed_of}
+use Rattle.kp_parts.proofs.typed_lists.declare.Given as goal
+
+abbrev pub invariant-loop-token : goal.invariant-loop-token
+invariant-loop-token l = map typed_view l.typed.items ≡ map typed_view l.fn.typed.items ++ map (typed_of (map word_view l.kinds)) (take l.token-index l.run)

@@ -1,0 +1,285 @@
+-- What the functions of the reader give. This file serves proofs alone; the grammar of `kp_grammar` has the forms.
+use Rattle.std.specs.Prelude.{◌≡◌, ◌+◌, ℕ, length, List, [], ◌∷◌, ◌++◌, Bool, true, false, Result, Ok, Err, map}
+use Rattle.kp_grammar.specs.declared.tree.Word.{Word}
+use Rattle.kp_grammar.specs.declared.symbol.Symbol.{Symbol}
+use Rattle.kp_grammar.specs.declared.symbol.Symbol.TheVariants as symbols
+use Rattle.kp_grammar.specs.Trees.{Typed, Term, Atom, Cond, Eff, Lit, Item, Pred, Schema, Section, Given, Domain, Problem}
+use Rattle.kp_grammar.specs.Symbols.{Tok, is_left, is_right, is_head, is_name, is_variable, is_term, is_keyword, is_define, is_domain, is_problem, is_either, is_dash, is_equal, is_parameters, is_precondition, is_effect}
+use Rattle.kp_grammar.specs.Sorts.{Sort, El, Seen, Maker, s_word, s_term, s_list, s_typed, s_atom, s_cond, m_name, m_kinds, m_untyped, m_typed, m_atom, m_when, m_each, m_no_params, m_true, m_idle, m_pred}
+use Rattle.kp_grammar.specs.Forms.{hits, Form, token, many, make, maybe, bracket, ◌▸◌, ◌▹◌, choose, within, Named, n_cond, n_goal, n_eff, n_item}
+use Rattle.kp_grammar.specs.Grammar.{word, some, skip, term, term_maker, words_of_requirements, kind, typed, equality, test_case, goal_lit_case, rule, lit, lit_case, pred, cond, eff, parts_end_case, schema, title}
+use Rattle.kp_grammar.specs.Reading.{Unsupported, At, stop}
+use Rattle.kp_grammar.specs.Parsing.{Outcome, read, ended, ◌>>=◌}
+use Rattle.kp_parts.specs.declared.halt.Halt.{Halt}
+use Rattle.kp_parts.specs.declared.halt.Halt.TheVariants as halts
+use Rattle.kp_parts.specs.declared.lexeme.Lexeme.{Lexeme}
+use Rattle.kp_parts.specs.declared.cursor.Class.{Class}
+use Rattle.kp_parts.specs.declared.cursor.Class.TheVariants as classes
+use Rattle.kp_parts.specs.declared.conds.Mode.{Mode}
+use Rattle.kp_parts.specs.declared.conds.Mode.TheVariants as modes
+use Rattle.kp_parts.specs.declared.cursor.Lead.{Lead}
+use Rattle.kp_parts.specs.declared.cursor.Lead.TheVariants as leads
+use Rattle.kp_grammar.specs.Depth.{levels}
+use Rattle.kp_parts.specs.Lexemes.{word_of, from}
+
+-- ---- what a function answers is what reading gives, unless memory runs out
+
+-- where a form stops at a token that is known and not supported
+abbrev pub unsupported : List (Tok Word) → At Word
+unsupported ts = record { tokens = ts; reason = Unsupported }
+
+abbrev pub Fails : {Y : Type 0} → List Lexeme → Halt → Outcome Word Y → Type 0
+Fails ls halts.Memory reading = Unit {0}
+Fails ls (halts.Syntax i) reading = reading ≡ Err (stop (from ls i))
+Fails ls (halts.Unsupported i) reading = reading ≡ Err (unsupported (from ls i))
+
+abbrev pub Gives : {X Y : Type 0} → List Lexeme → (X → Y) → Result (X × ℕ) Halt → Outcome Word Y → Type 0
+Gives ls view (Ok x) reading = reading ≡ Ok (view x.0, from ls x.1)
+Gives ls view (Err e) reading = Fails ls e reading
+
+-- for a function that keeps nothing of what it reads
+abbrev pub Passes : List Lexeme → Result ℕ Halt → Outcome Word (Unit {0}) → Type 0
+Passes ls (Ok n) reading = reading ≡ Ok (tt, from ls n)
+Passes ls (Err e) reading = Fails ls e reading
+
+-- for a function that reads all tokens
+abbrev pub GivesAll : {X Y : Type 0} → List Lexeme → (X → Y) → Result X Halt → Outcome Word Y → Type 0
+GivesAll ls view (Ok x) reading = reading ≡ Ok (view x, [])
+GivesAll ls view (Err e) reading = Fails ls e reading
+
+-- a closing bracket stands there, and the rest is left
+pub record Closed (ts rest : List (Tok Word)) : Type 0 where
+  pub token : Tok Word
+  pub is : ts ≡ token ∷ rest
+  pub right : is_right token.symbol ≡ true
+
+-- an opening bracket stands there, and the rest is left
+pub record Opened (ts rest : List (Tok Word)) : Type 0 where
+  pub token : Tok Word
+  pub is : ts ≡ token ∷ rest
+  pub left : is_left token.symbol ≡ true
+
+abbrev pub Reader : Type 0 → Type 0
+Reader A = List (Tok Word) → Outcome Word A
+
+-- all tokens, with none left
+unfoldable pub whole_at : {b : Bool} {c : Sort} → Form b c → Reader (El Word c)
+whole_at X ts = read levels X ts >>= λ x. ended x.0 x.1
+
+-- ---- tokens
+
+-- a token of the class
+abbrev pub class_test : Class → Symbol → Bool
+class_test classes.Name = is_name
+class_test classes.Head = is_head
+class_test classes.Variable = is_variable
+class_test classes.Term = is_term
+class_test classes.Keyword = is_keyword
+
+-- the same, of a token of the program
+abbrev pub is_of : Class → Lexeme → Bool
+is_of c l = class_test c l.symbol
+
+-- the word that must come first
+abbrev pub lead_test : Lead → Symbol → Bool
+lead_test leads.Define = is_define
+lead_test leads.Domain = is_domain
+lead_test leads.Problem = is_problem
+lead_test leads.Either = is_either
+lead_test leads.Equal = is_equal
+
+-- it stands there, and the rest is left
+pub record Led (lead : Lead) (ts rest : List (Tok Word)) : Type 0 where
+  pub token : Tok Word
+  pub is : ts ≡ token ∷ rest
+  pub leads : hits (lead_test lead) token.symbol ≡ true
+
+unfoldable pub word_at : Class → Reader Word
+word_at c = read 0 (word (class_test c))
+
+unfoldable pub name_at : Reader (Unit {0})
+name_at = read 0 (skip is_name)
+
+-- ---- several tokens of a class
+
+-- one or more words
+unfoldable pub some_at : Class → Reader (Word × List Word)
+some_at c = read 0 (some (class_test c))
+
+-- they stand there
+pub record Words (c : Class) (ls : List Lexeme) (at : ℕ) (run : List Lexeme) : Type 0 where
+  pub first : Word
+  pub others : List Word
+  pub are : map word_of run ≡ first ∷ others
+  pub reads : some_at c (from ls at) ≡ Ok ((first, others), from ls (at + length run))
+
+-- keywords, which aren't kept
+unfoldable pub keywords_at : Reader (Unit {0})
+keywords_at = read 0 words_of_requirements
+
+-- what is made of a term that is a token of the class
+abbrev pub maker_of : Class → Symbol → Maker s_word s_term
+maker_of classes.Name = λ _. m_name
+maker_of _ = term_maker
+
+-- a term that is a token of the class
+abbrev pub term_form : Class → Form true s_term
+term_form c = token (class_test c) (maker_of c)
+
+-- terms
+unfoldable pub terms_at : Class → Reader (List (Term Word))
+terms_at c = read 0 (many (class_test c) (term_form c))
+
+-- ---- typed lists; the number says how many levels of brackets are left
+
+-- the types in an `either`
+unfoldable pub names_at : Reader (List Word)
+names_at = read 0 (make m_kinds (some is_name))
+
+unfoldable pub either_names_at : Reader (List Word)
+either_names_at = read 0 (is_either ▸ make m_kinds (some is_name))
+
+unfoldable pub either_at : ℕ → Reader (List Word)
+either_at d = read d (bracket (is_either ▸ make m_kinds (some is_name)))
+
+unfoldable pub kind_at : ℕ → Reader (List Word)
+kind_at d = read d kind
+
+unfoldable pub kind_part_at : ℕ → Reader (List Word)
+kind_part_at d = read d (maybe is_dash m_untyped (is_dash ▸ kind))
+
+-- words of the class, and their kind
+abbrev pub group_form : Class → Form true (s_list s_typed)
+group_form c = make m_typed (some (class_test c) ▹ maybe is_dash m_untyped (is_dash ▸ kind))
+
+unfoldable pub group_at : Class → ℕ → Reader (List (Typed Word))
+group_at c d = read d (group_form c)
+
+unfoldable pub typed_at : Class → ℕ → Reader (List (Typed Word))
+typed_at c d = read d (typed (class_test c))
+
+unfoldable pub typed_bracket_at : ℕ → Reader (List (Typed Word))
+typed_bracket_at d = read d (bracket (typed is_variable))
+
+-- ---- atoms
+
+-- a head and its terms
+abbrev pub body_form : Class → Form true s_atom
+body_form c = make m_atom (word is_head ▹ many (class_test c) (term_form c))
+
+unfoldable pub body_at : Class → Reader (Atom Word)
+body_at c = read 0 (body_form c)
+
+unfoldable pub atom_at : Class → ℕ → Reader (Atom Word)
+atom_at c d = read d (bracket (body_form c))
+
+unfoldable pub equality_at : Reader (Term Word × Term Word)
+equality_at = read 0 equality
+
+unfoldable pub term_at : Reader (Term Word)
+term_at = read 0 term
+
+-- ---- conditions and goals
+
+-- what the terms of an atom may be
+abbrev pub terms_class : Mode → Class
+terms_class modes.Condition = classes.Term
+terms_class modes.Goal = classes.Name
+
+-- the rule
+abbrev pub named_of : Mode → Named s_cond
+named_of modes.Condition = n_cond
+named_of modes.Goal = n_goal
+
+-- a test between its brackets
+abbrev pub test_form : Mode → Bool → Symbol → Form true s_cond
+test_form modes.Condition = test_case
+test_form modes.Goal = goal_lit_case
+
+unfoldable pub test_at : Mode → Bool → ℕ → Reader (Cond Word)
+test_at mode positive d = read d (choose (test_form mode positive))
+
+-- a test under a negation
+unfoldable pub denied_at : Mode → ℕ → Reader (Cond Word)
+denied_at mode d = read d (bracket (choose (test_form mode false)))
+
+unfoldable pub cond_at : Mode → ℕ → Reader (Cond Word)
+cond_at mode d = read d (within (named_of mode))
+
+unfoldable pub cond_inside_at : Mode → ℕ → Reader (Cond Word)
+cond_inside_at mode d = read d (rule (named_of mode))
+
+unfoldable pub conds_at : Mode → ℕ → Reader (List (Cond Word))
+conds_at mode d = read d (many is_left (within (named_of mode)))
+
+-- ---- effects
+
+unfoldable pub eff_at : ℕ → Reader (Eff Word)
+eff_at d = read d (within n_eff)
+
+unfoldable pub eff_inside_at : ℕ → Reader (Eff Word)
+eff_inside_at d = read d (rule n_eff)
+
+-- behind `when`
+unfoldable pub when_at : ℕ → Reader (Eff Word)
+when_at d = read d (make m_when (within n_cond ▹ within n_eff))
+
+-- behind `forall`
+unfoldable pub each_at : ℕ → Reader (Eff Word)
+each_at d = read d (make m_each (bracket (typed is_variable) ▹ within n_eff))
+
+unfoldable pub effs_at : ℕ → Reader (List (Eff Word))
+effs_at d = read d (many is_left (within n_eff))
+
+-- ---- items of `:init`
+
+unfoldable pub lit_at : ℕ → Reader (Lit Word)
+lit_at d = read d lit
+
+unfoldable pub lit_inside_at : ℕ → Reader (Lit Word)
+lit_inside_at d = read d (choose lit_case)
+
+unfoldable pub lits_at : ℕ → Reader (List (Lit Word))
+lits_at d = read d (many is_left lit)
+
+unfoldable pub item_at : ℕ → Reader (Item Word)
+item_at d = read d (within n_item)
+
+unfoldable pub item_inside_at : ℕ → Reader (Item Word)
+item_inside_at d = read d (rule n_item)
+
+unfoldable pub items_at : ℕ → Reader (List (Item Word))
+items_at d = read d (many is_left (within n_item))
+
+-- ---- sections of a domain
+
+unfoldable pub pred_at : ℕ → Reader (Pred Word)
+pred_at d = read d pred
+
+unfoldable pub pred_inside_at : ℕ → Reader (Pred Word)
+pred_inside_at d = read d (make m_pred (word is_head ▹ typed is_variable))
+
+unfoldable pub preds_at : ℕ → Reader (List (Pred Word))
+preds_at d = read d (many is_left pred)
+
+unfoldable pub params_at : ℕ → Reader (List (Typed Word))
+params_at d = read d (maybe is_parameters m_no_params (is_parameters ▸ bracket (typed is_variable)))
+
+unfoldable pub precondition_at : ℕ → Reader (Cond Word)
+precondition_at d = read d (maybe is_precondition m_true (is_precondition ▸ cond))
+
+unfoldable pub effect_at : ℕ → Reader (Eff Word)
+effect_at d = read d (maybe is_effect m_idle (is_effect ▸ eff))
+
+unfoldable pub parts_end_at : Reader (Unit {0})
+parts_end_at = read 0 (choose parts_end_case)
+
+unfoldable pub schema_at : ℕ → Reader (Schema Word)
+schema_at d = read d schema
+
+-- the word and a name
+unfoldable pub title_inside_at : Lead → Reader (Unit {0})
+title_inside_at lead = read 0 (lead_test lead ▸ skip is_name)
+
+unfoldable pub title_at : Lead → ℕ → Reader (Unit {0})
+title_at lead d = read d (title (lead_test lead))

@@ -1,0 +1,202 @@
+ghost use Rattle.std.specs.Prelude.{◌≡◌, ◌<◌, ◌≤◌, ◌+◌, ◌∷◌, [], false, Ok, drop, length, IfOk, IfErr, IfSome, IfNone};
+ghost use Rattle.std.specs.Bool.{OnTrue};
+ghost use Rattle.std.specs.List.{take_while};
+ghost use Rattle.kp_grammar.specs.Forms.{hits};
+ghost use Rattle.kp_grammar.specs.Symbols.{first_is, is_left, is_right};
+ghost use Rattle.kp_parts.specs.Lexemes.{tok, from};
+ghost use Rattle.kp_nodes.specs.Nodes.{word_view};
+ghost use Rattle.kp_parts.specs.Readers.{Gives, Passes, Closed, Opened, Led, class_test, is_of, lead_test, word_at, name_at};
+
+use crate::halt::Halt;
+use crate::lexeme::Lexeme;
+use kp_grammar::Symbol;
+use kp_nodes::WordNode;
+
+/// What a token may be.
+#[derive(Clone, Copy, Debug, PartialEq, Eq)]
+pub enum Class {
+    /// Any name.
+    Name,
+    /// A name that may be the head of an atom.
+    Head,
+    /// A variable.
+    Variable,
+    /// A name or a variable.
+    Term,
+    /// Any keyword.
+    Keyword,
+}
+
+/// A word that must come first in its brackets.
+#[derive(Clone, Copy, Debug, PartialEq, Eq)]
+pub enum Lead {
+    /// `define`
+    Define,
+    /// `domain`
+    Domain,
+    /// `problem`
+    Problem,
+    /// `either`
+    Either,
+    /// `=`
+    Equal,
+}
+
+// Whether the symbol is that of a name that may be a head.
+fn is_head(symbol: Symbol) -> bool
+    ensures { result ≡ class_test Class.Head symbol }
+{
+    matches!(
+        symbol,
+        Symbol::Define | Symbol::Domain | Symbol::Problem | Symbol::Either | Symbol::Name
+    )
+}
+
+// Whether the symbol is that of a name.
+fn is_name(symbol: Symbol) -> bool
+    ensures { result ≡ class_test Class.Name symbol }
+{
+    is_head(symbol)
+        || matches!(
+            symbol,
+            Symbol::And
+                | Symbol::Or
+                | Symbol::Not
+                | Symbol::Imply
+                | Symbol::Exists
+                | Symbol::Forall
+                | Symbol::When
+                | Symbol::OneOf
+                | Symbol::Unknown
+                | Symbol::Preference
+                | Symbol::Probabilistic
+                | Symbol::Increase
+                | Symbol::Decrease
+                | Symbol::Assign
+                | Symbol::ScaleUp
+                | Symbol::ScaleDown
+        )
+}
+
+// Whether the symbol is that of a keyword: no name, no variable and no sign.
+fn is_keyword(symbol: Symbol) -> bool
+    ensures { result ≡ class_test Class.Keyword symbol }
+{
+    !is_name(symbol)
+        && !matches!(
+            symbol,
+            Symbol::Left | Symbol::Right | Symbol::Dash | Symbol::Equal | Symbol::Variable
+        )
+}
+
+/// Whether the symbol is that of a token of the class.
+#[tactic(auto, using(crate::proofs::Several::never_bracket))]
+pub fn has(class: Class, symbol: Symbol) -> bool
+    ensures test { result ≡ class_test class symbol }
+    ensures hit { result ≡ hits (class_test class) symbol }
+{
+    match class {
+        Class::Name => is_name(symbol),
+        Class::Head => is_head(symbol),
+        Class::Variable => matches!(symbol, Symbol::Variable),
+        Class::Term => matches!(symbol, Symbol::Variable) || is_name(symbol),
+        Class::Keyword => is_keyword(symbol),
+    }
+}
+
+/// The token at a place.
+pub fn peek<'t, 'a>(tokens: &'t [Lexeme<'a>], at: usize) -> Option<&'t Lexeme<'a>>
+    ensures found { IfSome result (λ x. from tokens.now at ≡ tok x.now ∷ from tokens.now (at + 1)) }
+    ensures within { IfSome result (λ x. at < length tokens.now) }
+    ensures none { IfNone result (from tokens.now at ≡ []) }
+{
+    tokens.get(at)
+}
+
+/// Whether an opening bracket stands at a place.
+pub fn is_left(tokens: &[Lexeme], at: usize) -> bool
+    ensures test { result ≡ first_is is_left (from tokens.now at) }
+    ensures within { OnTrue result (at < length tokens.now) }
+    ensures opens { OnTrue result (Opened (from tokens.now at) (from tokens.now (at + 1))) }
+{
+    match peek(tokens, at) {
+        Some(first) => matches!(first.symbol, Symbol::Left),
+        None => false,
+    }
+}
+
+/// The place behind a closing bracket.
+pub fn close(tokens: &[Lexeme], at: usize) -> Result<usize, Halt>
+    ensures found { IfOk result (λ n. Closed (from tokens.now at) (from tokens.now n)) }
+    ensures stopped { IfErr result (λ e. (e ≡ Halt.Syntax at) × (first_is is_right (from tokens.now at) ≡ false)) }
+    ensures onward { IfOk result (λ n. (at < n) × (n ≤ length tokens.now)) }
+{
+    match peek(tokens, at) {
+        Some(first) if matches!(first.symbol, Symbol::Right) => Ok(at + 1),
+        _ => Err(Halt::Syntax(at)),
+    }
+}
+
+/// Whether a token of the class stands at a place.
+pub fn begins(tokens: &[Lexeme], at: usize, class: Class) -> bool
+    ensures test { result ≡ first_is (class_test class) (from tokens.now at) }
+    ensures within { OnTrue result (at < length tokens.now) }
+{
+    match peek(tokens, at) {
+        Some(first) => has(class, first.symbol),
+        None => false,
+    }
+}
+
+/// A token of the class, and the place behind it.
+#[tactic(auto, unfolding(crate::specs::Readers::word_at))]
+pub fn word<'a>(
+    tokens: &[Lexeme<'a>],
+    at: usize,
+    class: Class,
+) -> Result<(WordNode<'a>, usize), Halt>
+    ensures reads { Gives tokens.now word_view result (word_at class (from tokens.now at)) }
+    ensures onward { IfOk result (λ x. (at < x.1) × (x.1 ≤ length tokens.now)) }
+{
+    match peek(tokens, at) {
+        Some(first) if has(class, first.symbol) => Ok((first.word(), at + 1)),
+        _ => Err(Halt::Syntax(at)),
+    }
+}
+
+/// The place behind a name.
+#[tactic(auto, unfolding(crate::specs::Readers::name_at))]
+pub fn skip_name(tokens: &[Lexeme], at: usize) -> Result<usize, Halt>
+    ensures reads { Passes tokens.now result (name_at (from tokens.now at)) }
+    ensures onward { IfOk result (λ n. (at < n) × (n ≤ length tokens.now)) }
+{
+    match peek(tokens, at) {
+        Some(first) if has(Class::Name, first.symbol) => Ok(at + 1),
+        _ => Err(Halt::Syntax(at)),
+    }
+}
+
+// Whether the symbol is the word.
+fn leads(lead: Lead, symbol: Symbol) -> bool
+    ensures { result ≡ hits (lead_test lead) symbol }
+{
+    match lead {
+        Lead::Define => matches!(symbol, Symbol::Define),
+        Lead::Domain => matches!(symbol, Symbol::Domain),
+        Lead::Problem => matches!(symbol, Symbol::Problem),
+        Lead::Either => matches!(symbol, Symbol::Either),
+        Lead::Equal => matches!(symbol, Symbol::Equal),
+    }
+}
+
+/// The place behind a word that must come first.
+pub fn follow(tokens: &[Lexeme], at: usize, lead: Lead) -> Result<usize, Halt>
+    ensures found { IfOk result (λ n. Led lead (from tokens.now at) (from tokens.now n)) }
+    ensures stopped { IfErr result (λ e. (e ≡ Halt.Syntax at) × (first_is (hits (lead_test lead)) (from tokens.now at) ≡ false)) }
+    ensures onward { IfOk result (λ n. (at < n) × (n ≤ length tokens.now)) }
+{
+    match peek(tokens, at) {
+        Some(first) if leads(lead, first.symbol) => Ok(at + 1),
+        _ => Err(Halt::Syntax(at)),
+    }
+}

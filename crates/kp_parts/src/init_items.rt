@@ -1,0 +1,169 @@
+ghost use Rattle.std.specs.Prelude.{◌≡◌, ◌<◌, ◌≤◌, length, map, IfOk};
+ghost use Rattle.kp_parts.specs.Lexemes.{from};
+ghost use Rattle.kp_nodes.specs.Nodes.{item_view, lit_view};
+ghost use Rattle.kp_parts.specs.Readers.{Gives, lit_at, lit_inside_at, lits_at, item_at, item_inside_at, items_at};
+
+use crate::atoms::{atom, body};
+use crate::cursor::{Class, close, is_left, peek};
+use crate::halt::Halt;
+use crate::lexeme::Lexeme;
+use crate::runs::add;
+use bumpalo::Bump;
+use bumpalo::collections::into_bump_slice;
+use kp_grammar::Symbol;
+use kp_nodes::{ItemNode, LitNode};
+
+// What stands between the brackets of a literal of `oneof` or `or`.
+#[tactic(auto, unfolding(crate::specs::Readers::lit_inside_at, crate::specs::Readers::atom_at))]
+fn lit_inside<'a>(
+    bump: &'a Bump,
+    tokens: &[Lexeme<'a>],
+    at: usize,
+    levels: u32,
+) -> Result<(LitNode<'a>, usize), Halt>
+    ensures reads { Gives tokens.now lit_view result (lit_inside_at levels (from tokens.now at)) }
+    ensures onward { IfOk result (λ x. (at < x.1) × (x.1 ≤ length tokens.now)) }
+{
+    let Some(first) = peek(tokens, at) else {
+        return Err(Halt::Syntax(at));
+    };
+    match first.symbol {
+        Symbol::Not => {
+            let (atom, at) = atom(bump, tokens, at + 1, levels, Class::Name)?;
+            let positive = false;
+            Ok((LitNode { positive, atom }, at))
+        }
+        Symbol::And | Symbol::Or | Symbol::OneOf | Symbol::Forall => Err(Halt::Unsupported(at)),
+        _ => {
+            let (atom, at) = body(bump, tokens, at, Class::Name)?;
+            let positive = true;
+            Ok((LitNode { positive, atom }, at))
+        }
+    }
+}
+
+// A literal of `oneof` or `or`.
+#[tactic(auto, unfolding(crate::specs::Readers::lit_at, crate::specs::Readers::lit_inside_at))]
+fn lit<'a>(
+    bump: &'a Bump,
+    tokens: &[Lexeme<'a>],
+    at: usize,
+    levels: u32,
+) -> Result<(LitNode<'a>, usize), Halt>
+    ensures reads { Gives tokens.now lit_view result (lit_at levels (from tokens.now at)) }
+    ensures onward { IfOk result (λ x. (at < x.1) × (x.1 ≤ length tokens.now)) }
+{
+    if levels == 0 || !is_left(tokens, at) {
+        return Err(Halt::Syntax(at));
+    }
+    let (lit, at) = lit_inside(bump, tokens, at + 1, levels - 1)?;
+    let at = close(tokens, at)?;
+    Ok((lit, at))
+}
+
+// Such literals, as many as stand there.
+fn lits<'a>(
+    bump: &'a Bump,
+    tokens: &[Lexeme<'a>],
+    start: usize,
+    levels: u32,
+) -> Result<(&'a [LitNode<'a>], usize), Halt>
+    requires { start ≤ length tokens.now }
+    ensures reads { Gives tokens.now (λ s. map lit_view s.now) result (lits_at levels (from tokens.now start)) }
+    ensures onward { IfOk result (λ x. (start ≤ x.1) × (x.1 ≤ length tokens.now)) }
+{
+    let mut parts = Vec::new(bump);
+    let mut at = start;
+    'more: while is_left(tokens, at) {
+        let (part, after) = lit(bump, tokens, at, levels)?;
+        add(&mut parts, part)?;
+        at = after;
+    }
+    Ok((into_bump_slice(parts), at))
+}
+
+// An item of `:init`.
+#[cycle(item)]
+#[tactic(auto, unfolding(crate::specs::Readers::item_at, crate::specs::Readers::item_inside_at))]
+fn item<'a>(
+    bump: &'a Bump,
+    tokens: &[Lexeme<'a>],
+    at: usize,
+    levels: u32,
+) -> Result<(ItemNode<'a>, usize), Halt>
+    ensures reads { Gives tokens.now item_view result (item_at levels (from tokens.now at)) }
+    ensures onward { IfOk result (λ x. (at < x.1) × (x.1 ≤ length tokens.now)) }
+{
+    if levels == 0 || !is_left(tokens, at) {
+        return Err(Halt::Syntax(at));
+    }
+    let (tree, at) = inside(bump, tokens, at + 1, levels - 1)?;
+    let at = close(tokens, at)?;
+    Ok((tree, at))
+}
+
+// What stands between its brackets.
+#[cycle(item)]
+#[tactic(auto, unfolding(crate::specs::Readers::item_inside_at, crate::specs::Readers::items_at, crate::specs::Readers::lits_at, crate::specs::Readers::atom_at))]
+fn inside<'a>(
+    bump: &'a Bump,
+    tokens: &[Lexeme<'a>],
+    at: usize,
+    levels: u32,
+) -> Result<(ItemNode<'a>, usize), Halt>
+    ensures reads { Gives tokens.now item_view result (item_inside_at levels (from tokens.now at)) }
+    ensures onward { IfOk result (λ x. (at < x.1) × (x.1 ≤ length tokens.now)) }
+{
+    let Some(first) = peek(tokens, at) else {
+        return Err(Halt::Syntax(at));
+    };
+    match first.symbol {
+        Symbol::And => {
+            let (parts, at) = items(bump, tokens, at + 1, levels)?;
+            Ok((ItemNode::All(into_bump_slice(parts)), at))
+        }
+        Symbol::Not => {
+            let (atom, at) = atom(bump, tokens, at + 1, levels, Class::Name)?;
+            Ok((ItemNode::Lit(false, atom), at))
+        }
+        Symbol::OneOf => {
+            let (lits, at) = lits(bump, tokens, at + 1, levels)?;
+            Ok((ItemNode::OneOf(first.word(), lits), at))
+        }
+        Symbol::Or => {
+            let (lits, at) = lits(bump, tokens, at + 1, levels)?;
+            Ok((ItemNode::AnyOf(first.word(), lits), at))
+        }
+        Symbol::Unknown => {
+            let (atom, at) = atom(bump, tokens, at + 1, levels, Class::Name)?;
+            Ok((ItemNode::Unknown(first.word(), atom), at))
+        }
+        Symbol::Forall | Symbol::Equal => Err(Halt::Unsupported(at)),
+        _ => {
+            let (atom, at) = body(bump, tokens, at, Class::Name)?;
+            Ok((ItemNode::Lit(true, atom), at))
+        }
+    }
+}
+
+/// Items of `:init`, as many as stand there.
+#[cycle(item)]
+pub fn items<'a>(
+    bump: &'a Bump,
+    tokens: &[Lexeme<'a>],
+    start: usize,
+    levels: u32,
+) -> Result<(Vec<ItemNode<'a>, &'a Bump>, usize), Halt>
+    requires { start ≤ length tokens.now }
+    ensures reads { Gives tokens.now (λ v. map item_view v.items) result (items_at levels (from tokens.now start)) }
+    ensures onward { IfOk result (λ x. (start ≤ x.1) × (x.1 ≤ length tokens.now)) }
+{
+    let mut parts = Vec::new(bump);
+    let mut at = start;
+    'more: while is_left(tokens, at) {
+        let (part, after) = item(bump, tokens, at, levels)?;
+        add(&mut parts, part)?;
+        at = after;
+    }
+    Ok((parts, at))
+}

@@ -1,0 +1,30 @@
+ghost use Rattle.std.specs.Prelude.{◌≡◌, ◌<◌, ◌≤◌, length, IfOk};
+ghost use Rattle.kp_parts.specs.Lexemes.{from};
+ghost use Rattle.kp_parts.specs.Readers.{Passes, title_inside_at, title_at};
+
+use crate::cursor::{Lead, close, follow, is_left, skip_name};
+use crate::halt::Halt;
+use crate::lexeme::Lexeme;
+
+// The word and a name.
+#[tactic(auto, unfolding(crate::specs::Readers::title_inside_at, crate::specs::Readers::name_at))]
+fn title_inside(tokens: &[Lexeme], at: usize, lead: Lead) -> Result<usize, Halt>
+    ensures reads { Passes tokens.now result (title_inside_at lead (from tokens.now at)) }
+    ensures onward { IfOk result (λ n. (at < n) × (n ≤ length tokens.now)) }
+{
+    let at = follow(tokens, at, lead)?;
+    skip_name(tokens, at)
+}
+
+/// The place behind a bracket with the word and a name, which isn't kept.
+#[tactic(auto, unfolding(crate::specs::Readers::title_at, crate::specs::Readers::title_inside_at))]
+pub fn title(tokens: &[Lexeme], at: usize, levels: u32, lead: Lead) -> Result<usize, Halt>
+    ensures reads { Passes tokens.now result (title_at lead levels (from tokens.now at)) }
+    ensures onward { IfOk result (λ n. (at < n) × (n ≤ length tokens.now)) }
+{
+    if levels == 0 || !is_left(tokens, at) {
+        return Err(Halt::Syntax(at));
+    }
+    let at = title_inside(tokens, at + 1, lead)?;
+    close(tokens, at)
+}

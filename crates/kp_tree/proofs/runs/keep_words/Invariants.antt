@@ -1,7 +1,0 @@
-use Rattle.std.proofs.Common.{◌≡◌, map, take}
-use Rattle.kp_tree.specs.Lexemes.{word_of}
-use Rattle.kp_nodes.specs.Nodes.{word_view}
-use Rattle.kp_tree.proofs.runs.keep_words.Given as goal
-
-abbrev pub invariant-loop-token : goal.invariant-loop-token
-invariant-loop-token l = map word_view l.words.items ≡ map word_of (take l.token-index l.run)

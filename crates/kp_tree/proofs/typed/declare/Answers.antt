@@ -1,8 +1,0 @@
-use Rattle.std.proofs.Common.{◌∙◌, sym, ap, ◌++◌, map, take, ◌≡◌}
-use Rattle.std.proofs.lemmas.List.{take_all}
-use Rattle.kp_nodes.specs.Nodes.{word_view, typed_view}
-use Rattle.kp_tree.proofs.Loops.{all_declared}
-use Rattle.kp_tree.proofs.typed.declare.Goals as goal
-
-pub returns : goal.returns
-returns c = all_declared (map word_view c.args.kinds.now) c.args.run.now c.loop-token.token-index _ _ c.loop-token-test.false c.loop-token.invariant
