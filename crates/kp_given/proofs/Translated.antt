@@ -10,12 +10,12 @@ use Rattle.kp_base.specs.LitSet.{set_of}
 use Rattle.kp_meaning.specs.Numbering.{numbered_problem}
 use Rattle.kp_init.specs.Initial.{initial_over}
 use Rattle.kp_init.specs.Closure.{closure}
-use Rattle.kp_plain.specs.declared.translation.Translation.{Translation}
+use Rattle.kp_texts.specs.declared.translation.Translation.{Translation}
 use Rattle.kp_plain.specs.Ground as plain
 use Rattle.kp_plain.specs.Translations as made
-use Rattle.kp_plain.specs.Task.{facts_of, ops_of, facts_for}
-use Rattle.kp_plain.specs.Written.{domain_text, problem_text}
-use Rattle.kp_plain.specs.Report.{counted}
+use Rattle.kp_texts.specs.Task.{facts_of, ops_of, facts_for}
+use Rattle.kp_texts.specs.Written.{domain_text, problem_text}
+use Rattle.kp_texts.specs.Report.{counted}
 use Rattle.kp_given.specs.PlainFiles.{IsContradictory}
 use Rattle.kp_given.specs.PlainGround.{ArePlain}
 use Rattle.kp_given.specs.Laws.{PlainTranslationsAreTranslations}

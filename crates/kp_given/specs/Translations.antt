@@ -13,8 +13,8 @@ use Rattle.kp_meaning.specs.Numbering.{numbered_problem}
 use Rattle.kp_grounding.specs.Ground as ground
 use Rattle.kp_init.specs.Initial as init
 use Rattle.kp_init.specs.Closure.{closure}
-use Rattle.kp_plain.specs.declared.translation.Translation.{Translation}
-use Rattle.kp_plain.specs.Report.{counted}
+use Rattle.kp_texts.specs.declared.translation.Translation.{Translation}
+use Rattle.kp_texts.specs.Report.{counted}
 use Rattle.kp_write.specs.Grounds.{domain_file, problem_file}
 
 -- the ground problem of two trees

@@ -4,7 +4,7 @@ use Rattle.kp_base.specs.declared.ground.GroundName.{GroundName}
 use Rattle.kp_meaning.specs.Names.{Name}
 use Rattle.kp_plain.specs.Ground.{nullary}
 use Rattle.kp_plain.specs.Grounding.{marked, names_from, numbers_from}
-use Rattle.kp_plain.proofs.Putting.{next_of}
+use Rattle.kp_texts.proofs.Putting.{next_of}
 
 pub name_more : {K : Type 0} (now : K → Name) (marks : List Bool) (ps : List K) (i : ℕ) (d : K) (done all : List GroundName) (b : Bool) → i < length ps → marked marks i ≡ b
     → done ++ names_from marks i (map now (drop i ps)) ≡ all

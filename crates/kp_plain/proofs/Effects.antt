@@ -5,7 +5,7 @@ use Rattle.kp_base.specs.declared.lit.Lit.{Lit}
 use Rattle.kp_plain.specs.declared.numbering.Mention.{Mention}
 use Rattle.kp_base.specs.Lit.{same_lit}
 use Rattle.kp_plain.specs.Grounding.{distinct}
-use Rattle.kp_plain.proofs.Putting.{next_of}
+use Rattle.kp_texts.proofs.Putting.{next_of}
 
 -- one more literal, where next are the different ones with it
 pub distinct_more : (f : Mention → Lit) (ms : List Mention) (i : ℕ) (d : Mention) (done next : List Lit) → i < length ms → next ≡ (if list_any (same_lit (f (get_or ms i d))) done then done else done ++ f (get_or ms i d) ∷ []) → distinct (map f (drop (i + 1) ms)) next ≡ distinct (map f (drop i ms)) done

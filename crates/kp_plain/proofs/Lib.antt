@@ -1,4 +1,3 @@
-pub mod Putting
 pub mod Effects
 pub mod Counting
 pub mod Names

@@ -1,7 +1,3 @@
-pub mod Pieces
-pub mod Task
-pub mod Written
-pub mod Report
 pub mod Ground
 pub mod Translations
 pub mod Grounding

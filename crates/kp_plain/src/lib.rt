@@ -1,22 +1,17 @@
-//! The translation of plain files with the empty tag alone: the ground problem, and the two written texts.
-//! `specs/Ground.antt` has the ground problem, `specs/Task.antt` its operators and facts, `specs/Written.antt` the texts.
+//! The translation of plain files with the empty tag alone. `specs/Ground.antt` has their ground problem.
 #![tactic(auto)]
 
 mod actions;
 mod atoms;
-mod encoding;
 mod grounding;
 mod numbering;
 mod predicates;
-mod report;
 mod standing;
 mod translation;
-mod writing;
 
 pub use grounding::{Grounded, ground_form};
-pub use report::report_text;
-pub use translation::{Translation, translate};
-pub use writing::{domain_text, problem_text};
+pub use kp_texts::Translation;
+pub use translation::translate;
 
 #[cfg(test)]
 mod tests;

@@ -4,7 +4,7 @@ use Rattle.kp_base.specs.declared.memory.Memory.{Memory}
 use Rattle.kp_base.specs.declared.refused.Refused.{Refused}
 use Rattle.kp_grammar.specs.declared.tree.Word.{Word}
 use Rattle.kp_grammar.specs.Trees.{Domain, Problem}
-use Rattle.kp_plain.specs.declared.translation.Translation.{Translation}
+use Rattle.kp_texts.specs.declared.translation.Translation.{Translation}
 use Rattle.kp_plain.specs.Translations as made
 use Rattle.kp_given.specs.Translations.{translation_of}
 use Rattle.kp_given.proofs.PlainFiles.{files_are_plain}

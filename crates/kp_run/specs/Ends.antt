@@ -2,7 +2,7 @@
 use Rattle.std.specs.Prelude.{◌≡◌, ◌⊎◌, List, ℕ, Option, Vec}
 use Rattle.std.specs.declared.alloc.Global.{Global}
 use Rattle.kp_outside.specs.Outside.{FileMap, Rises, AddsFront, with_file, without_file, with_bytes}
-use Rattle.kp_plain.specs.declared.translation.Translation.{Translation}
+use Rattle.kp_texts.specs.declared.translation.Translation.{Translation}
 use Rattle.kp_run.specs.declared.status.Status.{Status}
 use Rattle.kp_run.specs.declared.status.Status.TheVariants as status
 use Rattle.kp_run.specs.Command.{Command, IsCommand}

@@ -6,7 +6,7 @@ use Rattle.kp_grammar.specs.declared.tree.Word.{Word}
 use Rattle.kp_grammar.specs.Trees as trees
 use Rattle.kp_base.specs.declared.refused.Refused.{Refused}
 use Rattle.kp_outside.specs.Outside.{FileMap, with_file, with_bytes}
-use Rattle.kp_plain.specs.declared.translation.Translation.{Translation}
+use Rattle.kp_texts.specs.declared.translation.Translation.{Translation}
 use Rattle.kp_given.specs.Translations.{translation_of}
 use Rattle.kp_run.specs.declared.status.Status.{Status}
 use Rattle.kp_run.specs.declared.status.Status.TheVariants as status

@@ -12,7 +12,8 @@ use crate::plain::{is_plain_domain, is_plain_problem};
 use crate::printed::refusal;
 use kp_base::{Memory, Part, Refused, Row, Stop};
 use kp_outside::Got;
-use kp_plain::{Translation, translate};
+use kp_plain::translate;
+use kp_texts::Translation;
 use std::alloc::Global;
 
 /// An answer of the command, with all the texts that are to be put and printed.

@@ -4,7 +4,7 @@ ghost use Rattle.kp_outside.specs.Outside.{Counted, Rises, AddsFront, with_bytes
 ghost use Rattle.kp_run.specs.declared.status.Status.TheVariants as status;
 ghost use Rattle.kp_run.specs.Ends.{IsAnswer, BreaksOff, Puts, Tells, Files, with_both, files_of};
 ghost use Rattle.kp_run.specs.Printed.{text_of};
-ghost use Rattle.kp_plain.specs.declared.translation.Translation.{Translation as Translated};
+ghost use Rattle.kp_texts.specs.declared.translation.Translation.{Translation as Translated};
 ghost use Rattle.kp_run.specs.Reports.{HasFiles, status_of, printed_of, stop_of, HasItsText};
 
 use crate::answer::Report;
@@ -12,7 +12,7 @@ use crate::command::Command;
 use crate::status::Status;
 use kp_base::Row;
 use kp_outside::{OutsideStop, Shelf, Sink};
-use kp_plain::Translation;
+use kp_texts::Translation;
 use std::alloc::Global;
 
 /// How the command ends where a call on the outside stopped.

@@ -10,7 +10,7 @@ use Rattle.kp_base.proofs.Lists.{bool_same, member_at}
 use Rattle.kp_base.proofs.Lits.{same_lit-true, same_lit-refl}
 use Rattle.kp_meaning.specs.Names.{same, is_among}
 use Rattle.kp_meaning.proofs.Lists.{same-true, same-refl}
-use Rattle.kp_plain.specs.Task.{sign_word, encoded_or_none, tag_word, atom_fact, fact_of}
+use Rattle.kp_texts.specs.Task.{sign_word, encoded_or_none, tag_word, atom_fact, fact_of}
 use Rattle.kp_write.specs.Grounds.{IsGroundName, same_name, IsOfAtom, AreOfAtoms}
 use Rattle.kp_write.proofs.Lists.{one_of_all}
 use Rattle.kp_write.proofs.Encoded.{facts_tell_apart, same_name-refl}

@@ -15,7 +15,7 @@ use Rattle.kp_base.specs.Machine.{MachineStep, Known, start as known_at_start, f
 use Rattle.kp_base.proofs.Lists.{member_at}
 use Rattle.kp_base.proofs.Sets.{all-set_of}
 use Rattle.kp_meaning.specs.Names.{same, is_among}
-use Rattle.kp_plain.specs.Task.{Signed, fact_of, opposites, known, support, cancellation, effects_of, op_of, facts_for}
+use Rattle.kp_texts.specs.Task.{Signed, fact_of, opposites, known, support, cancellation, effects_of, op_of, facts_for}
 use Rattle.kp_write.specs.Grounds.{IsGroundName, same_name, IsOfAtom, AreOfAtoms, IsGroundEffect, IsGroundAction, IsWritable}
 use Rattle.kp_write.specs.Runs.{Facts, is_so, is_made, after_op, runs}
 use Rattle.kp_write.proofs.Grounds.{opposites_of}

@@ -13,7 +13,7 @@ use Rattle.kp_meaning.specs.Names.{is_among}
 use Rattle.kp_meaning.specs.Steps.{Step}
 use Rattle.kp_meaning.specs.Encoding.{encoded, decoded}
 use Rattle.kp_meaning.specs.Strip.{do_front, strip, stripped_operator}
-use Rattle.kp_plain.specs.Task.{Op, op_of, ops_of, facts_for}
+use Rattle.kp_texts.specs.Task.{Op, op_of, ops_of, facts_for}
 use Rattle.kp_grounding.specs.Laws.{action_name}
 use Rattle.kp_grounding.proofs.Plans.{number_at}
 use Rattle.kp_write.specs.Grounds.{IsGroundAction, IsWritable}

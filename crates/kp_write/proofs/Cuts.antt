@@ -10,7 +10,7 @@ use Rattle.kp_lex.specs.Cutting.{IsToken, left as a_left, right as a_right, dash
 use Rattle.kp_lex.proofs.Exact.{longest, front_is}
 use Rattle.kp_grammar.specs.Symbols.{symbol_of, seen_in, all_seen_in}
 use Rattle.kp_grammar.specs.Words.{IsLow}
-use Rattle.kp_plain.specs.Pieces.{Piece, spelling}
+use Rattle.kp_texts.specs.Pieces.{Piece, spelling}
 use Rattle.kp_write.specs.Tokens.{spans, words, bare, Fine, done, lefts, rights, blanks, says, FinePiecesAreCut}
 
 -- ---- the cutting

@@ -13,7 +13,7 @@ use Rattle.kp_lex.specs.Bytes.{class_of}
 use Rattle.kp_lex.specs.Cutting.{IsToken}
 use Rattle.kp_grammar.specs.Words.{IsLow, IsName}
 use Rattle.kp_meaning.specs.Plans.{IsPlan}
-use Rattle.kp_plain.specs.Task.{Op, facts_of, ops_of, facts_for}
+use Rattle.kp_texts.specs.Task.{Op, facts_of, ops_of, facts_for}
 use Rattle.kp_write.specs.Grounds.{IsGroundName, IsWritable, domain_file, problem_file, IsWrittenAsMeant}
 use Rattle.kp_write.specs.Runs.{step_of}
 use Rattle.kp_write.proofs.Fine.{named}

@@ -7,9 +7,9 @@ use Rattle.kp_lex.specs.declared.token.TokenKind.TheVariants as kinds
 use Rattle.kp_lex.specs.Bytes.{is_alphanumeric, class_of, follows}
 use Rattle.kp_lex.specs.Cutting.{AllAre, IsToken, name as a_name, keyword as a_keyword, Ends}
 use Rattle.kp_grammar.specs.Words.{IsLow, IsHead}
-use Rattle.kp_plain.specs.Pieces.{Piece, right, word, spelling, Put, each}
-use Rattle.kp_plain.specs.Task.{Signed, Effect, Op}
-use Rattle.kp_plain.specs.Written.{fact, fact_line, signed_case, signed, spaced, conjunction, guarded, effect_line, precondition, op, domain_pieces, problem_pieces}
+use Rattle.kp_texts.specs.Pieces.{Piece, right, word, spelling, Put, each}
+use Rattle.kp_texts.specs.Task.{Signed, Effect, Op}
+use Rattle.kp_texts.specs.Written.{fact, fact_line, signed_case, signed, spaced, conjunction, guarded, effect_line, precondition, op, domain_pieces, problem_pieces}
 use Rattle.kp_write.specs.Tokens.{Fine, done, lefts, rights, blanks, says}
 use Rattle.kp_write.specs.Names.{IsSigned, IsEffect, IsOp, AreHeads, AreOps}
 use Rattle.kp_write.proofs.Applied.{◌$◌}

@@ -10,7 +10,7 @@ use Rattle.kp_base.specs.LitSet.{with_lit}
 use Rattle.kp_base.specs.Lists.{Member}
 use Rattle.kp_meaning.specs.Names.{same}
 use Rattle.kp_meaning.specs.Encoding.{encoded}
-use Rattle.kp_plain.specs.Task.{sign_word, encoded_or_none, tag_word, atom_fact, fact_of, facts_of_atom, opposites, known, effects_of, op_of, facts_of, ops_of, facts_for}
+use Rattle.kp_texts.specs.Task.{sign_word, encoded_or_none, tag_word, atom_fact, fact_of, facts_of_atom, opposites, known, effects_of, op_of, facts_of, ops_of, facts_for}
 use Rattle.kp_write.specs.Names.{AreHeads}
 use Rattle.kp_write.specs.Problems.{AreAmong, IsEffectOn, IsOpOn}
 use Rattle.kp_write.specs.Grounds.{IsGroundName, same_name, IsOfAtom, AreOfAtoms, IsGroundEffect, IsGroundAction, GroundTasksAreTasks, GroundProblemsAreWritten}

@@ -13,9 +13,9 @@ use Rattle.kp_grammar.specs.Forms.{hits, Form, nothing, many, make, maybe, â—Œâ–
 use Rattle.kp_grammar.specs.Grammar.{atom_body, fact_body, test_case, cond_case, cond, goal_case, goal as goal_form, eff_case, eff, item_case, item, pred, section, domain, problem}
 use Rattle.kp_grammar.specs.Reading.{Reads, ReadsWhole, r_token, r_none, r_both, r_after, r_end, r_more, r_last, r_next, r_absent, r_present, r_make, r_choice, r_loose, r_bracket, r_within}
 use Rattle.kp_grammar.specs.Words.{IsHead}
-use Rattle.kp_plain.specs.Pieces.{Piece, right, Put, each}
-use Rattle.kp_plain.specs.Task.{Signed, Op}
-use Rattle.kp_plain.specs.Written.{line_feed, name, fact, fact_line, signed_case, signed, spaced, conjunction, guarded, effect_line, precondition, op, domain_pieces, problem_pieces}
+use Rattle.kp_texts.specs.Pieces.{Piece, right, Put, each}
+use Rattle.kp_texts.specs.Task.{Signed, Op}
+use Rattle.kp_texts.specs.Written.{line_feed, name, fact, fact_line, signed_case, signed, spaced, conjunction, guarded, effect_line, precondition, op, domain_pieces, problem_pieces}
 use Rattle.kp_write.specs.Tokens.{words}
 use Rattle.kp_write.specs.Names.{IsSigned, IsEffect, IsOp, AreHeads, AreOps}
 use Rattle.kp_write.specs.Trees.{atom_of, fact_holds, signed_holds, all_facts, made_where, effect_of, schema_of, predicate_of, item_of, written_domain, written_problem}

@@ -5,8 +5,8 @@ use Rattle.kp_grammar.specs.Sorts.{Sort, El}
 use Rattle.kp_grammar.specs.Forms.{Form}
 use Rattle.kp_grammar.specs.Grammar as grammar
 use Rattle.kp_grammar.specs.Reading.{ReadsWhole}
-use Rattle.kp_plain.specs.Pieces.{Piece, spelling}
-use Rattle.kp_plain.specs.Written.{domain_pieces, problem_pieces}
+use Rattle.kp_texts.specs.Pieces.{Piece, spelling}
+use Rattle.kp_texts.specs.Written.{domain_pieces, problem_pieces}
 use Rattle.kp_write.specs.Tokens.{spans, words, Fine}
 use Rattle.kp_write.specs.Maps.{ReadsWithPlaces}
 use Rattle.kp_write.specs.Texts.{DomainReadsAsMeant, ProblemReadsAsMeant}

@@ -10,8 +10,8 @@ use Rattle.kp_grammar.specs.Words.{IsName}
 use Rattle.kp_meaning.specs.Names.{same, all_same}
 use Rattle.kp_meaning.specs.Steps.{Step}
 use Rattle.kp_meaning.specs.Plans.{IsPlan}
-use Rattle.kp_plain.specs.Task.{atom_fact, facts_of, ops_of, facts_for}
-use Rattle.kp_plain.specs.Written.{domain_text, problem_text}
+use Rattle.kp_texts.specs.Task.{atom_fact, facts_of, ops_of, facts_for}
+use Rattle.kp_texts.specs.Written.{domain_text, problem_text}
 use Rattle.kp_write.specs.Problems.{IsTask, HasMeantProblem}
 use Rattle.kp_write.specs.Runs.{IsRun}
 

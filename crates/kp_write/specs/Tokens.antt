@@ -9,7 +9,7 @@ use Rattle.kp_grammar.specs.declared.symbol.Symbol.TheVariants as symbols
 use Rattle.kp_grammar.specs.declared.tree.Word.{Word}
 use Rattle.kp_grammar.specs.Symbols.{Tok, symbol_of, all_seen_in}
 use Rattle.kp_grammar.specs.Words.{IsLow}
-use Rattle.kp_plain.specs.Pieces.{Piece, left, right, blank, word, spelling}
+use Rattle.kp_texts.specs.Pieces.{Piece, left, right, blank, word, spelling}
 
 -- the spans of the brackets and words, from a byte on
 abbrev pub spans : ℕ → List Piece → List Token

@@ -1,0 +1,5 @@
+pub mod Pieces
+pub mod Task
+pub mod Written
+pub mod Report
+pub mod Translations
