@@ -1,0 +1,5 @@
+pub mod Apart
+pub mod Deleted
+pub mod Places
+pub mod Best
+pub mod First

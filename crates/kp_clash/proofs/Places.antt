@@ -1,0 +1,37 @@
+-- What the first place at which a test passes says.
+use Rattle.std.proofs.Common.{◌≡◌, ◌<◌, ◌+◌, ℕ, zero, suc, Bool, true, false, if◌then◌else◌, List, [], ◌∷◌, Option, Some, None, slice_get, refl, sym, ap, subst, ◌∙◌, arith}
+use Rattle.kp_clash.specs.Searching.{place_from}
+
+-- the element there passes, and those before it don't
+pub record IsPlace {X : Type 0} (t : X → Bool) (n : ℕ) (xs : List X) (k : ℕ) : Type 0 where
+  pub place : ℕ
+  pub is : k ≡ n + place
+  pub item : X
+  pub item_at : slice_get xs place ≡ Some item
+  pub passes : t item ≡ true
+  pub before : (m : ℕ) (y : X) → m < place → slice_get xs m ≡ Some y → t y ≡ false
+
+pub place_found : {X : Type 0} (t : X → Bool) (n : ℕ) (xs : List X) (k : ℕ) → place_from t n xs ≡ Some k → IsPlace t n xs k
+place_found t n [] k h = absurd cc
+place_found {X} t n (x ∷ xs) k h = by (t x) refl h
+  where
+    later : t x ≡ false → IsPlace t (suc n) xs k → IsPlace t n (x ∷ xs) k
+    later is r = record { place = suc r.place; is = omega (arith, r.is); item = r.item; item_at = r.item_at; passes = r.passes; before = earlier }
+      where
+        earlier : (m : ℕ) (y : X) → m < suc r.place → slice_get (x ∷ xs) m ≡ Some y → t y ≡ false
+        earlier zero y lt g = let e : x ≡ y = cc in subst (λ z. t z ≡ false) e is
+        earlier (suc m) y lt g = r.before m y (omega (arith, lt)) g
+
+    by : (b : Bool) → t x ≡ b → (if b then Some n else place_from t (suc n) xs) ≡ Some k → IsPlace t n (x ∷ xs) k
+    by true is e = let f : n ≡ k = cc in record { place = zero; is = omega (arith, f); item = x; item_at = refl; passes = is; before = λ m y lt g. absurd (omega (arith, lt)) }
+    by false is e = later is (place_found t (suc n) xs k e)
+
+-- where there is none, no element passes
+pub place_none : {X : Type 0} (t : X → Bool) (n : ℕ) (xs : List X) → place_from t n xs ≡ None → (m : ℕ) (y : X) → slice_get xs m ≡ Some y → t y ≡ false
+place_none t n [] h m y g = absurd cc
+place_none {X} t n (x ∷ xs) h m y g = by (t x) refl h m g
+  where
+    by : (b : Bool) → t x ≡ b → (if b then Some n else place_from t (suc n) xs) ≡ None → (m : ℕ) → slice_get (x ∷ xs) m ≡ Some y → t y ≡ false
+    by true is e m g = absurd cc
+    by false is e zero g = let f : x ≡ y = cc in subst (λ z. t z ≡ false) f is
+    by false is e (suc m) g = place_none t (suc n) xs e m y g
