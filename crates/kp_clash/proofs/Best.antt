@@ -68,11 +68,15 @@ of_add n a i e at = by e.result.positive refl
         both_ways (clash_together a e c.deleting) (place_none (clash_together a e) 0 a.effects is j c.deleting c.delete_at) (subst (λ (x : Effect). clash_together a x c.deleting ≡ true) (same_adding p j c) t.2)
     place_of (Some k) is sign =
         let r = place_found (clash_together a e) 0 a.effects k is in
-        let k_is : r.place ≡ k = omega (arith, r.is) in
-        (refl, refl, are_clash a e r.item i k sign at (subst (λ m. slice_get a.effects m ≡ Some r.item) k_is r.item_at) r.passes,
+        let k_is : r.place ≡ k = omega (arith, r.is) in (
+          refl,
+          refl,
+          are_clash a e r.item i k sign at (subst (λ m. slice_get a.effects m ≡ Some r.item) k_is r.item_at) r.passes,
           λ p j c. let t = together a p i j c in (
             sym t.1 ∙ ap (λ (x : Effect). x.result.atom.0) (same_adding p j c),
-            not_before r k_is j c.deleting c.delete_at (subst (λ (x : Effect). clash_together a x c.deleting ≡ true) (same_adding p j c) t.2)))
+            not_before r k_is j c.deleting c.delete_at (subst (λ (x : Effect). clash_together a x c.deleting ≡ true) (same_adding p j c) t.2),
+          ),
+        )
       where
         not_before : (r : IsPlace (clash_together a e) 0 a.effects k) → r.place ≡ k → (j : ℕ) (f : Effect) → slice_get a.effects j ≡ Some f → clash_together a e f ≡ true → k ≤ j
         not_before r k_is j f g h = go (nat_lt j k) refl

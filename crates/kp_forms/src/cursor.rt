@@ -7,9 +7,8 @@ ghost use Rattle.kp_grammar.specs.Symbols.{first_is, is_left, is_right, is_head,
 
 use crate::lexeme::Lexeme;
 use crate::stop::ReadStop;
-use kp_grammar::Symbol;
-use kp_grammar::Word;
 use kp_base::Memory;
+use kp_grammar::{Symbol, Word};
 use std::alloc::Global;
 
 /// An equal word.

@@ -7,9 +7,8 @@ ghost use Rattle.kp_forms.specs.PlainParsing.{Gives, lits_view, head_at, atom_at
 use crate::cursor::{close, head_word, is_left, open, peek};
 use crate::lexeme::Lexeme;
 use crate::stop::ReadStop;
-use kp_grammar::Symbol;
-use kp_grammar::{AtomTree, CondTree, EffTree, ItemTree, LitTree};
 use kp_base::{Memory, Row};
+use kp_grammar::{AtomTree, CondTree, EffTree, ItemTree, LitTree, Symbol};
 use std::alloc::Global;
 
 /// One literal, or several in an `and`.

@@ -8,9 +8,9 @@ ghost use Rattle.kp_grammar.specs.View.{domain_view, problem_view};
 
 use crate::lexeme::{Lexeme, lexemes};
 use crate::stop::ReadStop;
-use kp_grammar::{Domain, Problem};
 use crate::whole::{whole_domain, whole_problem};
 use kp_base::{Memory, Part, Stop};
+use kp_grammar::{Domain, Problem};
 use kp_lex::tokens;
 use std::alloc::Global;
 

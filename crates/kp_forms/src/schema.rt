@@ -7,9 +7,8 @@ use crate::cursor::{copy_word, is_name, peek};
 use crate::lexeme::Lexeme;
 use crate::literals::{condition, effect};
 use crate::stop::ReadStop;
-use kp_grammar::Symbol;
-use kp_grammar::{CondTree, EffTree, SchemaTree, Word};
 use kp_base::Row;
+use kp_grammar::{CondTree, EffTree, SchemaTree, Symbol, Word};
 use std::alloc::Global;
 
 // Name

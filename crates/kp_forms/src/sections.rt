@@ -11,10 +11,9 @@ use crate::cursor::{close, head_word, is_left, open, peek};
 use crate::lexeme::Lexeme;
 use crate::schema::schema;
 use crate::stop::ReadStop;
-use kp_grammar::Symbol;
 use crate::titles::requirements;
-use kp_grammar::{Domain, PredTree, SchemaTree};
 use kp_base::{Memory, Row};
+use kp_grammar::{Domain, PredTree, SchemaTree, Symbol};
 use std::alloc::Global;
 
 /// Which sections of a plain domain have stood.

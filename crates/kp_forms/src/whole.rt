@@ -11,8 +11,8 @@ use crate::literals::{condition, facts, literals};
 use crate::sections::sections;
 use crate::stop::ReadStop;
 use crate::titles::{Lead, follow, read_naming};
-use kp_grammar::{CondTree, Domain, ItemTree, Problem};
 use kp_base::Row;
+use kp_grammar::{CondTree, Domain, ItemTree, Problem};
 use std::alloc::Global;
 
 // ( define ( domain Name ) and the sections )

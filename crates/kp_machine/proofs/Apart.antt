@@ -24,7 +24,7 @@ place (y ∷ ys) x (inr m) = let r = place ys x m in (suc r.0, r.1)
 compatible : (s : State) (ls : List Lit) → ((l : Lit) → Member ls l → holds s l ≡ true) → are_compatible no_pairs ls ≡ true
 compatible s ls true_all =
     all_from (λ k. list_all (λ l. not (are_exclusive no_pairs k l)) ls) ls (λ k in-k.
-        all_from (λ l. not (are_exclusive no_pairs k l)) ls (λ l in-l. pick k l (true_all k in-k) (true_all l in-l) (same_lit (negated k) l) refl))
+    all_from (λ l. not (are_exclusive no_pairs k l)) ls (λ l in-l. pick k l (true_all k in-k) (true_all l in-l) (same_lit (negated k) l) refl))
   where
     never : (a b : Bool) → (a && (b && false)) ≡ false
     never true true = refl

@@ -5,13 +5,16 @@ ghost use Rattle.kp_nodes.specs.Nodes.{typed_view, pred_view, schema_view, domai
 ghost use Rattle.kp_parts.specs.Readers.{Gives};
 ghost use Rattle.kp_tree.specs.Sections.{GivesSections, section_view, section_inside_at, section_at, sections_at, domain_inside_at, domain_at};
 
-use kp_parts::{Class, Halt, Lead, Lexeme, add, append, close, follow, is_left, peek, skip_keywords, title, typed};
 use crate::sections::{preds, schema};
 use bumpalo::Bump;
 use bumpalo::collections::into_bump_slice;
 use kp_base::Memory;
 use kp_grammar::Symbol;
 use kp_nodes::{DomainNode, PredNode, SchemaNode, TypedNode};
+use kp_parts::{
+    Class, Halt, Lead, Lexeme, add, append, close, follow, is_left, peek, skip_keywords, title,
+    typed,
+};
 
 /// A section of a domain.
 #[derive(Drop)]

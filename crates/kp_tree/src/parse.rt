@@ -9,13 +9,13 @@ ghost use Rattle.kp_nodes.specs.Nodes.{domain_view, problem_view};
 ghost use Rattle.kp_parts.specs.Readers.{GivesAll, whole_at};
 ghost use Rattle.kp_tree.specs.Refusals.{IsTold};
 
-use kp_parts::{Halt, Lexeme, lexemes, peek};
 use crate::domains::domain;
 use crate::problems::problem;
 use bumpalo::Bump;
 use kp_base::{Part, Refused, Row, Stop};
 use kp_lex::{Token, place};
 use kp_nodes::{DomainNode, ProblemNode};
+use kp_parts::{Halt, Lexeme, lexemes, peek};
 use std::alloc::Global;
 
 // So many brackets may be open at once.

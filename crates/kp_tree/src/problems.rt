@@ -6,12 +6,15 @@ ghost use Rattle.kp_nodes.specs.Nodes.{typed_view, item_view, cond_view, problem
 ghost use Rattle.kp_parts.specs.Readers.{Gives};
 ghost use Rattle.kp_tree.specs.Givens.{GivesGivens, once_test, seen_after, given_view, goal_view, goal_after, goal_or_true, given_inside_at, given_at, givens_at, problem_inside_at, problem_at};
 
-use kp_parts::{Class, Halt, Lead, Lexeme, Mode, append, close, cond, follow, is_left, items, no_condition, peek, skip_keywords, skip_name, title, typed};
 use bumpalo::Bump;
 use bumpalo::collections::into_bump_slice;
 use kp_base::Memory;
 use kp_grammar::Symbol;
 use kp_nodes::{CondNode, ItemNode, ProblemNode, TypedNode};
+use kp_parts::{
+    Class, Halt, Lead, Lexeme, Mode, append, close, cond, follow, is_left, items, no_condition,
+    peek, skip_keywords, skip_name, title, typed,
+};
 use std::alloc::Global;
 
 /// A section of a problem that stands at most once.

@@ -3,11 +3,14 @@ ghost use Rattle.kp_parts.specs.Lexemes.{from};
 ghost use Rattle.kp_nodes.specs.Nodes.{typed_view, cond_view, eff_view, pred_view, schema_view};
 ghost use Rattle.kp_parts.specs.Readers.{Gives, Passes, pred_inside_at, pred_at, preds_at, params_at, precondition_at, effect_at, parts_end_at, schema_at};
 
-use kp_parts::{Class, Halt, Lexeme, Mode, add, close, cond, eff, is_left, no_condition, no_effect, peek, typed, variables, word};
 use bumpalo::Bump;
 use bumpalo::collections::into_bump_slice;
 use kp_grammar::Symbol;
 use kp_nodes::{CondNode, EffNode, PredNode, SchemaNode, TypedNode};
+use kp_parts::{
+    Class, Halt, Lexeme, Mode, add, close, cond, eff, is_left, no_condition, no_effect, peek,
+    typed, variables, word,
+};
 
 // Head typed variables
 #[tactic(auto, unfolding(kp_parts::specs::Readers::pred_inside_at, kp_parts::specs::Readers::word_at, kp_parts::specs::Readers::typed_at))]
