@@ -1,5 +1,5 @@
-pub mod Apart
-pub mod Deleted
+pub mod Opposing
+pub mod Noted
 pub mod Places
 pub mod Best
-pub mod First
+pub mod InOrder

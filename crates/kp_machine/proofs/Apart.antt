@@ -26,12 +26,12 @@ compatible s ls true_all =
     all_from (λ k. list_all (λ l. not (are_exclusive no_pairs k l)) ls) ls (λ k in-k.
     all_from (λ l. not (are_exclusive no_pairs k l)) ls (λ l in-l. pick k l (true_all k in-k) (true_all l in-l) (same_lit (negated k) l) refl))
   where
-    never : (a b : Bool) → (a && (b && false)) ≡ false
+    never : (a b : Bool) → ((a && b) && false) ≡ false
     never true true = refl
     never true false = refl
     never false b = refl
 
-    pick : (k l : Lit) → holds s k ≡ true → holds s l ≡ true → (t : Bool) → same_lit (negated k) l ≡ t → not (same_lit (negated k) l || (k.positive && (l.positive && false))) ≡ true
+    pick : (k l : Lit) → holds s k ≡ true → holds s l ≡ true → (t : Bool) → same_lit (negated k) l ≡ t → not (same_lit (negated k) l || ((k.positive && l.positive) && false)) ≡ true
     pick k l hk hl true is = absurd (both_ways (holds s l) (sym (ap (holds s) (same_lit-true (negated k) l is)) ∙ (holds-negated s k ∙ ap not hk)) hl)
     pick k l hk hl false is = rw (is, never k.positive l.positive) refl
 
