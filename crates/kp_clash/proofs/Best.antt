@@ -38,10 +38,10 @@ are_clash a e f i j sign at there h =
     record { adding = e; deleting = f; add_at = at; delete_at = there; adds = added e.result sign; deletes = sym same ∙ denied e.result sign; compatible = parts.1 }
   where
     added : (l : Lit) → l.positive ≡ true → l ≡ positive l.atom.0
-    added l is = cc
+    added l is = ap (λ b. let m : Lit = record { atom = l.atom; positive = b } in m) is
 
     denied : (l : Lit) → l.positive ≡ true → negated l ≡ negative l.atom.0
-    denied l is = cc
+    denied l is = ap (λ b. let m : Lit = record { atom = l.atom; positive = not b } in m) is
 
 -- a clash has such an add and delete
 pub together : (a : Action) (p i j : ℕ) (c : Clashes no_pairs a p i j) → (c.adding.result.positive ≡ true) × (c.adding.result.atom.0 ≡ p) × (clash_together a c.adding c.deleting ≡ true)
@@ -164,7 +164,10 @@ best_is n a i (e ∷ es) first same h =
 
 -- the first clash of an action, where all of its effects are looked at
 pub best_of : (n : ℕ) (a : Action) → IsBest n a (length a.effects) (best_from n a 0 a.effects None)
-best_of n a = best_is n a 0 a.effects None (λ m. refl) (λ p k j lt c. absurd (omega (arith, lt)))
+best_of n a = subst (λ x. IsBest n a x (best_from n a 0 a.effects None)) (let e : 0 + length a.effects ≡ length a.effects = omega arith in e) (best_is n a 0 a.effects None same (λ p k j lt c. absurd (omega (arith, lt))))
+  where
+    same : (m : ℕ) → slice_get a.effects m ≡ slice_get a.effects (0 + m)
+    same m = let e : m ≡ 0 + m = omega arith in ap (slice_get a.effects) e
 
 -- each clash is of an add within
 pub add_within : (a : Action) (p k j : ℕ) → Clashes no_pairs a p k j → k < length a.effects

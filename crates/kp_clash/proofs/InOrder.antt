@@ -1,10 +1,11 @@
 -- The clash of the first action that has one is the first clash.
-use Rattle.std.proofs.Common.{◌≡◌, ◌≢◌, ◌⊎◌, ◌<◌, ◌≤◌, ◌+◌, ◌==◌, ℕ, zero, suc, Bool, true, false, cond, List, [], ◌∷◌, Option, Some, None, IfSome, IfNone, length, nat_lt, slice_get, inl, inr, refl, sym, ap, subst, ◌∙◌, arith}
+use Rattle.std.proofs.Common.{◌≡◌, ◌≢◌, ◌⊎◌, ◌<◌, ◌≤◌, ◌+◌, ◌==◌, ℕ, zero, suc, Bool, true, false, cond, List, [], ◌∷◌, Option, Some, None, IfSome, IfNone, Result, Ok, Err, IfOk, length, nat_lt, slice_get, inl, inr, refl, sym, ap, subst, ◌∙◌, arith}
 use Rattle.std.proofs.lemmas.Bool.{both_ways, ltb-true, ltb-false, eq-eqb}
 use Rattle.std.specs.declared.cmp.Ordering.{Ordering}
 use Rattle.std.specs.declared.cmp.Ordering.TheVariants.{Less, Equal, Greater}
 use Rattle.std.specs.Ordering.{nat_cmp, ordering_then}
 use Rattle.std.specs.Cmp.Lexicographic.{slice_cmp}
+use Rattle.kp_base.specs.declared.memory.Memory.{Memory}
 use Rattle.kp_base.specs.declared.ground.Action.{Action}
 use Rattle.kp_base.specs.declared.ground.Ground.{Ground}
 use Rattle.kp_base.specs.declared.refused.ClashAt.{ClashAt}
@@ -26,7 +27,7 @@ IsFound n as' None = (m : ℕ) (a : Action) (p k j : ℕ) → slice_get as' m �
 IsFound n as' (Some c) = FoundIn n as' c
 
 pub found_in : (n : ℕ) (as' : List Action) → IsFound n as' (first_from n as')
-found_in n [] m a p k j at c = absurd cc
+found_in n [] = λ m a p k j at c. absurd cc
 found_in n (a ∷ as') = by (best_from n a 0 a.effects None) (first_from (suc n) as') (best_of n a) (found_in (suc n) as')
   where
     by : (o later : Option ClashAt) → IsBest n a (length a.effects) o → IsFound (suc n) as' later → IsFound n (a ∷ as') (or_later o later)
@@ -95,3 +96,13 @@ some_first g None f = tt
 pub none_clashes : (g : Ground) (o : Option ClashAt) → IsFound 0 g.actions o → IfNone o (HasNoClash no_pairs g)
 none_clashes g (Some c) f = tt
 none_clashes g None f = λ n p k j a at c. f n a p k j at c
+
+-- ---- of an answer
+
+pub ok_first : (g : Ground) (r : Result (Option ClashAt) Memory) → IfOk r (λ o. o ≡ first_from 0 g.actions) → IfOk r (λ o. IfSome o (IsFirstClash no_pairs g))
+ok_first g (Ok o) is = some_first g o (subst (IsFound 0 g.actions) (sym is) (found_in 0 g.actions))
+ok_first g (Err e) is = tt
+
+pub ok_none : (g : Ground) (r : Result (Option ClashAt) Memory) → IfOk r (λ o. o ≡ first_from 0 g.actions) → IfOk r (λ o. IfNone o (HasNoClash no_pairs g))
+ok_none g (Ok o) is = none_clashes g o (subst (IsFound 0 g.actions) (sym is) (found_in 0 g.actions))
+ok_none g (Err e) is = tt

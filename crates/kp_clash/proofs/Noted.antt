@@ -1,5 +1,5 @@
 -- An atom is among those that were noted just where some effect deletes it.
-use Rattle.std.proofs.Common.{◌≡◌, ℕ, suc, Bool, true, false, not, ◌&&◌, ◌||◌, if◌then◌else◌, List, [], ◌∷◌, ◌++◌, None, nat_eq, fold, inl, inr, refl, sym, ap, subst, ◌∙◌}
+use Rattle.std.proofs.Common.{◌≡◌, ℕ, suc, Bool, true, false, not, ◌&&◌, ◌||◌, if◌then◌else◌, List, [], ◌∷◌, ◌++◌, Option, None, option_map, nat_eq, fold, inl, inr, refl, sym, ap, subst, ◌∙◌}
 use Rattle.std.proofs.lemmas.Bool.{eqb-true, eq-eqb, both_ways}
 use Rattle.std.proofs.lemmas.List.Folds.{list_any-append}
 use Rattle.std.specs.List.{list_any}
@@ -10,7 +10,8 @@ use Rattle.kp_base.specs.Lists.{Member}
 use Rattle.kp_base.specs.Lit.{negated, same_lit}
 use Rattle.kp_base.specs.Clashes.{no_pairs, compatible_effects}
 use Rattle.kp_base.proofs.Lits.{same_lit-true}
-use Rattle.kp_clash.specs.Searching.{has_atom, with_atom, with_deleted, clash_together, place_from}
+use Rattle.kp_base.specs.declared.refused.ClashAt.{ClashAt}
+use Rattle.kp_clash.specs.Searching.{has_atom, with_atom, with_deleted, clash_together, clash_at, found_at, place_from}
 
 -- what was there stays
 with_atom_keeps : (ps : List ℕ) (q p : ℕ) → has_atom ps p ≡ true → has_atom (with_atom ps q) p ≡ true
@@ -66,3 +67,10 @@ never_deleted a e sign none n = go n a.effects (λ f m. m)
     go : (n : ℕ) (fs : List Effect) → ((f : Effect) → Member fs f → Member a.effects f) → place_from (clash_together a e) n fs ≡ None
     go n [] h = refl
     go n (f ∷ fs) h = rw (not_together f (h f (inl refl))) (go (suc n) fs (λ g m. h g (inr m)))
+
+pub nothing_found : (n : ℕ) (a : Action) (i : ℕ) (e : Effect) → has_atom (fold with_deleted [] a.effects) e.result.atom.0 ≡ false → None ≡ found_at n a i e
+nothing_found n a i e none = by e.result.positive refl
+  where
+    by : (t : Bool) → e.result.positive ≡ t → None ≡ (if t then option_map (clash_at n i e) (place_from (clash_together a e) 0 a.effects) else None)
+    by true sign = ap (option_map (clash_at n i e)) (sym (never_deleted a e sign none 0))
+    by false sign = refl

@@ -41,7 +41,10 @@ fn found_at(
     requires deleted { deleted.now ≡ fold with_deleted [] action.now.effects }
     ensures { result ≡ found_at number action.now place effect.now }
 {
-    if !effect.result.positive || !deleted.has(effect.result.atom.0) {
+    if !effect.result.positive {
+        return None;
+    }
+    if !deleted.has(effect.result.atom.0) {
         return None;
     }
     match first_delete(action, effect) {

@@ -46,7 +46,6 @@ pub fn effects_mean_the_same_by_number()
 {}
 
 /// An instance by number does what the step of its name does.
-#[tactic(auto, using(crate::proofs::NumberedPlans::step_numbered))]
 pub fn steps_are_the_same_by_number()
     ensures { IsStepNumbered }
 {}
