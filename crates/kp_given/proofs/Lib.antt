@@ -1,12 +1,5 @@
-pub mod Lists
-pub mod Literals
-pub mod Known
-pub mod Static
-pub mod Atoms
-pub mod GroundProblems
-pub mod PlainFiles
-pub mod Start
-pub mod Translated
-pub mod Writable
-pub mod ExampleWritable
-pub mod Consistent
+pub mod Certain
+pub mod FirstKnown
+pub mod Valid
+pub mod Written
+pub mod ExampleCertain

@@ -1,38 +1,54 @@
--- What is proved of plain files.
-use Rattle.std.specs.Prelude.{◌≡◌, ◌↔◌, ℕ, List}
+-- What is proved of the translation of two trees, and of their initial states.
+use Rattle.std.specs.Prelude.{◌≡◌, ◌↔◌, ℕ, true, false, List, None, length, codes}
+use Rattle.kp_base.specs.declared.lit.Lit.{Lit}
 use Rattle.kp_grammar.specs.declared.tree.Word.{Word}
 use Rattle.kp_grammar.specs.Trees.{Domain, Problem}
 use Rattle.kp_meaning.specs.States.{State}
 use Rattle.kp_meaning.specs.Initial.{IsInitial}
+use Rattle.kp_meaning.specs.Faults.{HasNoFault}
 use Rattle.kp_meaning.specs.Plans.{HasProblem}
-use Rattle.kp_plain.specs.Translations as plain
-use Rattle.kp_given.specs.PlainFiles.{ArePlainTexts, IsContradictory}
-use Rattle.kp_given.specs.PlainGround.{ArePlain}
-use Rattle.kp_given.specs.Translations.{translation_of}
-
--- the problem that two texts have, and its two trees
-pub record HasThisProblem (domain_text problem_text : List ℕ) (d : Domain Word) (p : Problem Word) : Type 0 where
-  pub has : HasProblem domain_text problem_text
-  pub domain : has.domain ≡ d
-  pub problem : has.problem ≡ p
-
--- the trees of a plain domain and a plain problem are plain trees without a fault
-abbrev pub PlainFilesArePlain : Type 0
-PlainFilesArePlain = (domain_text problem_text : List ℕ) (d : Domain Word) (p : Problem Word) → ArePlainTexts domain_text problem_text d p → ArePlain d p
-
--- plain files have a problem, that of their trees
-abbrev pub PlainFilesHaveAProblem : Type 0
-PlainFilesHaveAProblem = (domain_text problem_text : List ℕ) (d : Domain Word) (p : Problem Word) → ArePlainTexts domain_text problem_text d p → HasThisProblem domain_text problem_text d p
+use Rattle.kp_meaning.specs.Numbering.{numbered_problem}
+use Rattle.kp_names.specs.Resolved.{first_unsure, unsure_place}
+use Rattle.kp_texts.specs.Report.{counted}
+use Rattle.kp_write.specs.Grounds.{AreOfAtoms, IsWritable}
+use Rattle.kp_given.specs.Translations.{ground_of, start_of, is_settled, report_of}
+use Rattle.kp_given.specs.Certain.{IsCertain, contradicts, known_at_first}
 
 -- some state is initial
 pub record HasInitialState (p : Problem Word) : Type 0 where
   pub state : State
   pub is_initial : IsInitial p state
 
--- `:init` of plain trees doesn't contradict itself exactly where some state is initial
-abbrev pub ContradictionsHaveNoInitialState : Type 0
-ContradictionsHaveNoInitialState = (d : Domain Word) (p : Problem Word) → ArePlain d p → (IsContradictory p.init → ⊥) ↔ HasInitialState p
+-- where no `oneof`, `or` or `unknown` stands in `:init`, each item by number is a literal
+abbrev pub CertainWithoutUnsure : Type 0
+CertainWithoutUnsure = (d : Domain Word) (p : Problem Word) → first_unsure p.init ≡ None → IsCertain (numbered_problem d p)
 
--- where `:init` doesn't contradict itself, what is made for plain trees is their translation
-abbrev pub PlainTranslationsAreTranslations : Type 0
-PlainTranslationsAreTranslations = (d : Domain Word) (p : Problem Word) → ArePlain d p → (IsContradictory p.init → ⊥) → plain.translation_of d p ≡ translation_of d p
+-- and so where no such word has a place
+abbrev pub CertainWithoutPlace : Type 0
+CertainWithoutPlace = (text : List ℕ) (d : Domain Word) (p : Problem Word) → unsure_place text p ≡ None → IsCertain (numbered_problem d p)
+
+-- where `:init` has literals alone, it doesn't contradict itself exactly where some state is initial
+abbrev pub CertainContradictionsHaveNoState : Type 0
+CertainContradictionsHaveNoState = (d : Domain Word) (p : Problem Word) → HasNoFault d p → IsCertain (numbered_problem d p) → (contradicts (numbered_problem d p) ≡ false) ↔ HasInitialState p
+
+-- at the start it is known of each ground atom whether `:init` states it, and the report says that the translation is complete
+pub record IsKnownAtFirst (d : Domain Word) (p : Problem Word) : Type 0 where
+  pub start : start_of d p ≡ known_at_first (numbered_problem d p)
+  pub settled : is_settled (length (ground_of d p).atoms) (start_of d p) ≡ true
+  pub complete : report_of (ground_of d p) (start_of d p) ≡ counted (ground_of d p) (codes "complete\n")
+
+-- this is so where `:init` has literals alone and doesn't contradict itself
+abbrev pub CertainStartsAreKnown : Type 0
+CertainStartsAreKnown = (d : Domain Word) (p : Problem Word) → IsCertain (numbered_problem d p) → contradicts (numbered_problem d p) ≡ false → IsKnownAtFirst d p
+
+-- the literals that are known at the start are of ground atoms
+abbrev pub StartsAreOfAtoms : Type 0
+StartsAreOfAtoms = (d : Domain Word) (p : Problem Word) → AreOfAtoms (ground_of d p).atoms (start_of d p)
+
+-- where two texts have a problem, its ground problem can be written, whatever literals of its atoms are known at the start
+abbrev pub GroundProblemsAreWritable : Type 0
+GroundProblemsAreWritable = (domain_text problem_text : List ℕ) (x : HasProblem domain_text problem_text) (start : List Lit) → AreOfAtoms (ground_of x.domain x.problem).atoms start → IsWritable (ground_of x.domain x.problem) start
+
+-- and so with those that are
+abbrev pub StartsAreWritable : Type 0
+StartsAreWritable = (domain_text problem_text : List ℕ) (x : HasProblem domain_text problem_text) → IsWritable (ground_of x.domain x.problem) (start_of x.domain x.problem)

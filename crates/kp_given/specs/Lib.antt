@@ -1,5 +1,3 @@
-pub mod PlainFiles
-pub mod PlainGround
 pub mod Translations
+pub mod Certain
 pub mod Laws
-pub mod Writable

@@ -1,41 +1,33 @@
-//! Laws of plain files, each proved as the contract of a function that does nothing.
+//! Laws of what is written for two trees, each proved as the contract of a function that does nothing.
 
-ghost use Rattle.kp_given.specs.Laws.{ContradictionsHaveNoInitialState, PlainFilesArePlain, PlainFilesHaveAProblem, PlainTranslationsAreTranslations};
-ghost use Rattle.kp_given.specs.PlainGround.{IsPlainGround};
-ghost use Rattle.kp_given.specs.Writable.{PlainGroundsAreWritable, PlainStartsAreWritable};
+ghost use Rattle.kp_given.specs.Laws.{CertainContradictionsHaveNoState, CertainStartsAreKnown, CertainWithoutPlace, CertainWithoutUnsure, GroundProblemsAreWritable, StartsAreOfAtoms, StartsAreWritable};
 
-/// The trees of plain files are plain trees without a fault.
-#[tactic(auto, using(crate::proofs::PlainFiles::files_are_plain))]
-pub fn plain_files_are_plain_trees()
-    ensures { PlainFilesArePlain }
+/// Where no `oneof`, `or` or `unknown` stands in `:init`, each item of the problem by number is a literal.
+pub fn problems_without_doubt_are_certain()
+    ensures by_tree { CertainWithoutUnsure }
+    ensures by_place { CertainWithoutPlace }
 {}
 
-/// Plain files have a problem.
-#[tactic(auto, using(crate::proofs::PlainFiles::files_have_a_problem))]
-pub fn plain_files_have_a_problem()
-    ensures { PlainFilesHaveAProblem }
+/// Where `:init` has literals alone, some state is initial exactly where none of them denies another.
+#[tactic(auto, using(crate::proofs::Certain::contradictions))]
+pub fn certain_problems_have_a_state()
+    ensures { CertainContradictionsHaveNoState }
 {}
 
-/// The ground problem that is made for plain trees is the one of their problem by number.
-#[tactic(auto, using(crate::proofs::GroundProblems::plain_ground))]
-pub fn plain_ground_problems_are_ground_problems()
-    ensures { IsPlainGround }
+/// Where it has, and none denies another, it is known of each ground atom at the start whether it holds.
+#[tactic(auto, using(crate::proofs::FirstKnown::starts_known))]
+pub fn certain_starts_are_known()
+    ensures { CertainStartsAreKnown }
 {}
 
-/// Where `:init` doesn't contradict itself, what is made for plain trees is their translation.
-#[tactic(auto, using(crate::proofs::Translated::plain_translations))]
-pub fn plain_translations_are_translations()
-    ensures { PlainTranslationsAreTranslations }
+/// The literals that are known at the start are of ground atoms.
+#[tactic(auto, using(crate::proofs::Written::starts_of_atoms))]
+pub fn starts_speak_of_ground_atoms()
+    ensures { StartsAreOfAtoms }
 {}
 
-/// The ground problem of plain files can be written, with any literals of its atoms known at the start, and so with those that are.
-pub fn plain_ground_problems_can_be_written()
-    ensures any_start { PlainGroundsAreWritable }
-    ensures its_start { PlainStartsAreWritable }
-{}
-
-/// `:init` of plain trees contradicts itself exactly where no state is initial.
-#[tactic(auto, using(crate::proofs::Consistent::contradictions))]
-pub fn contradictions_have_no_initial_state()
-    ensures { ContradictionsHaveNoInitialState }
+/// The ground problem of two texts can be written, with any literals of its atoms known at the start, and so with those that are.
+pub fn ground_problems_can_be_written()
+    ensures any_start { GroundProblemsAreWritable }
+    ensures its_start { StartsAreWritable }
 {}

@@ -1,8 +1,7 @@
 -- Three cells of which exactly one is full: they can be written, and nothing clashes, though one step adds and deletes one atom. With the empty tag alone what is written has no plan; for another goal, with two cells in question, it has one.
-use Rattle.std.proofs.Common.{Bool, ◌&&◌, ◌≡◌, ℕ, zero, suc, true, false, List, [], ◌∷◌, Some, map, codes, refl, sym, subst, arith}
+use Rattle.std.proofs.Common.{Bool, ◌&&◌, ◌≡◌, ℕ, zero, suc, true, false, List, [], ◌∷◌, Some, map, codes, refl, sym, subst}
 use Rattle.std.proofs.Math.Bool.{and-false}
 use Rattle.std.proofs.lemmas.Bool.{false≢true}
-use Rattle.std.specs.List.{IsDistinct}
 use Rattle.kp_base.specs.declared.lit.Lit.{Lit}
 use Rattle.kp_base.specs.Lit.{positive, negative, same_lit}
 use Rattle.kp_base.specs.declared.ground.Initial.{Initial}
@@ -19,13 +18,13 @@ use Rattle.kp_meaning.specs.NumberLaws.{is_plain_goal}
 use Rattle.kp_meaning.proofs.Texts.{domain_of, problem_of, has_problem}
 use Rattle.kp_meaning.proofs.ExampleCells.{cells, one_of_three}
 use Rattle.kp_given.specs.Translations.{ground_of, initial_of, start_of, translation_of}
-use Rattle.kp_write.specs.Grounds.{AreOfAtoms, IsWritable, domain_file, problem_file}
-use Rattle.kp_write.proofs.Fine.{named}
-use Rattle.kp_write.proofs.ExampleGrounds.{a_name, nullary, nullary_name}
+use Rattle.kp_given.proofs.Written.{starts_written}
+use Rattle.kp_write.specs.Grounds.{IsWritable, domain_file, problem_file}
+use Rattle.kp_write.proofs.ExampleGrounds.{nullary}
 use Rattle.kp_machine.proofs.ExampleCells as machine
 use Rattle.kp_sound.specs.Laws.{operator_step, IsAccepted, StripsToPlan, IsSafelyWritten}
 use Rattle.kp_sound.proofs.Plans.{plans_accepted}
-use Rattle.kp_sound.proofs.Trees.{plans_strip}
+use Rattle.kp_sound.proofs.Trees.{plans_strip, translations_sound}
 
 -- ---- what is computed from the texts
 
@@ -44,36 +43,20 @@ its_start = refl
 
 -- ---- the premises
 
-writable : (goal start : List Lit) → AreOfAtoms machine.cells.atoms goal → AreOfAtoms machine.cells.atoms start → IsWritable (machine.cells_to goal) start
-unfolding class_of IsDistinct
-writable goal start in_goal in_start = record {
-  atoms = (nullary_name (codes "x1") (a_name (codes "x1") (named (codes "x1") refl) refl), (nullary_name (codes "x2") (a_name (codes "x2") (named (codes "x2") refl) refl), (nullary_name (codes "x3") (a_name (codes "x3") (named (codes "x3") refl) refl), tt)));
-  atoms_differ = ((refl, (refl, tt)), ((refl, tt), (tt, tt)));
-  actions = (
-    record {
-      name = nullary_name (codes "left") (a_name (codes "left") (named (codes "left") refl) refl);
-      pre = tt;
-      effects = (
-        record { conds = (omega arith, tt); result = omega arith },
-        (
-          record { conds = (omega arith, tt); result = omega arith },
-          (record { conds = (omega arith, tt); result = omega arith }, (record { conds = (omega arith, tt); result = omega arith }, tt)),
-        ),
-      );
-    },
-    tt,
-  );
-  actions_differ = (tt, tt);
-  start_of_atoms = in_start;
-  goal_of_atoms = in_goal;
-}
+its_problem : HasProblem cells one_of_three
+unfolding cut_from class_of symbol_of some_at next_at
+its_problem = has_problem cells one_of_three (record { domain_cut = refl; problem_cut = refl; domain_read = refl; problem_read = refl; domain_faults = refl; problem_faults = refl })
+
+trees_writable : IsWritable (ground_of (domain_of cells) (problem_of one_of_three)) (start_of (domain_of cells) (problem_of one_of_three))
+unfolding its_problem
+trees_writable = starts_written cells one_of_three its_problem
 
 cells_writable : IsWritable machine.cells []
-cells_writable = writable (positive 0 ∷ []) [] (omega arith, tt) tt
+cells_writable = rw (its_ground, its_start) at trees_writable
 
 safe : IsSafelyWritten (domain_of cells) (problem_of one_of_three)
 safe = record {
-  writable = rw (its_ground, its_start) cells_writable;
+  writable = trees_writable;
   no_clash = rw (its_ground, its_formula) machine.never;
 }
 
@@ -131,12 +114,20 @@ apart_by s false true true e f g h = absurd (false≢true (rw (e, f, g) at h))
 apart_by s a true false e f g h = rw (f, g) refl
 apart_by s a false c e f g h = rw f refl
 
+two_problem : HasProblem cells one_of_two
+unfolding cut_from class_of symbol_of some_at next_at
+two_problem = has_problem cells one_of_two (record { domain_cut = refl; problem_cut = refl; domain_read = refl; problem_read = refl; domain_faults = refl; problem_faults = refl })
+
+two_trees_writable : IsWritable (ground_of (domain_of cells) (problem_of one_of_two)) (start_of (domain_of cells) (problem_of one_of_two))
+unfolding two_problem
+two_trees_writable = starts_written cells one_of_two two_problem
+
 two_writable : IsWritable (machine.cells_to third_empty) third_empty
-two_writable = writable third_empty third_empty (omega arith, tt) (omega arith, tt)
+two_writable = rw (its_ground_two, its_start_two) at two_trees_writable
 
 two_safe : IsSafelyWritten (domain_of cells) (problem_of one_of_two)
 two_safe = record {
-  writable = rw (its_ground_two, its_start_two) two_writable;
+  writable = two_trees_writable;
   no_clash = rw (its_ground_two, its_formula_two) (machine.never_where_apart third_empty two (λ s model. apart_by s (s 0) (s 1) (s 2) refl refl refl model));
 }
 
@@ -153,11 +144,11 @@ left_is_plan =
     let with_start = subst (λ l. IsPlan (domain_file (machine.cells_to third_empty)) (problem_file (machine.cells_to third_empty) l) (left ∷ [])) (sym its_start_two) plan in
     subst (λ g. IsPlan (domain_file g) (problem_file g (start_of (domain_of cells) (problem_of one_of_two))) (left ∷ [])) (sym its_ground_two) with_start
 
-two_problem : HasProblem cells one_of_two
-unfolding cut_from class_of symbol_of some_at next_at
-two_problem = has_problem cells one_of_two (record { domain_cut = refl; problem_cut = refl; domain_read = refl; problem_read = refl; domain_faults = refl; problem_faults = refl })
-
 -- and strips to one of the texts, from both initial states
 left_strips_to_plan : StripsToPlan cells one_of_two (left ∷ [])
 unfolding two_problem
 left_strips_to_plan = plans_strip cells one_of_two two_problem two_safe (left ∷ []) left_is_plan
+
+by_translation : StripsToPlan cells one_of_two (left ∷ [])
+unfolding two_problem
+by_translation = translations_sound cells one_of_two two_problem two_safe.no_clash (left ∷ []) left_is_plan

@@ -1,6 +1,5 @@
 -- Moves between two places: each premise of the laws on trees and texts is met, and a plan of what is written strips to one of the texts.
-use Rattle.std.proofs.Common.{◌≡◌, ℕ, List, [], ◌∷◌, Some, codes, length, refl, sym, subst, arith}
-use Rattle.std.specs.List.{IsDistinct}
+use Rattle.std.proofs.Common.{◌≡◌, List, [], ◌∷◌, Some, codes, length, refl, sym, subst}
 use Rattle.kp_base.specs.declared.lit.Lit.{Lit}
 use Rattle.kp_base.specs.Clashes.{NeverClashes}
 use Rattle.kp_lex.specs.Bytes.{class_of}
@@ -18,57 +17,31 @@ use Rattle.kp_grounding.proofs.ExampleMoves.{moves_by_number, numbered_moves}
 use Rattle.kp_init.specs.Initial.{initial_of}
 use Rattle.kp_init.specs.Closure.{closure}
 use Rattle.kp_init.proofs.ExampleFormulas.{no_fault, plain}
+use Rattle.kp_given.specs.Translations as given
 use Rattle.kp_given.specs.Translations.{translation_of}
-use Rattle.kp_grammar.specs.Words.{IsName}
-use Rattle.kp_write.specs.Grounds.{IsGroundName, IsWritable, domain_file, problem_file}
-use Rattle.kp_write.proofs.Fine.{named}
-use Rattle.kp_write.proofs.ExampleGrounds.{a_name}
+use Rattle.kp_given.proofs.Written.{starts_written}
+use Rattle.kp_write.specs.Grounds.{IsWritable, domain_file, problem_file}
 use Rattle.kp_machine.proofs.OneSided.{never_clashes}
 use Rattle.kp_sound.specs.Laws.{operator_step, IsAccepted, StripsToSolution, StripsToPlan, IsSafelyWritten}
 use Rattle.kp_sound.proofs.Plans.{plans_accepted}
-use Rattle.kp_sound.proofs.Trees.{plans_solve, plans_strip}
+use Rattle.kp_sound.proofs.Trees.{plans_solve, plans_strip, translations_sound}
 
 -- ---- the ground problem can be written
-
-name_a : IsName (codes "a")
-unfolding class_of
-name_a = a_name (codes "a") (named (codes "a") refl) refl
-
-name_b : IsName (codes "b")
-unfolding class_of
-name_b = a_name (codes "b") (named (codes "b") refl) refl
-
-at_one : (o : List ℕ) → IsName o → IsGroundName (record { head = codes "at"; objects = o ∷ [] })
-unfolding class_of
-at_one o h = record { head = a_name (codes "at") (named (codes "at") refl) refl; objects = (h, tt) }
-
-move_two : (x y : List ℕ) → IsName x → IsName y → IsGroundName (move x y)
-unfolding class_of
-move_two x y h k = record { head = a_name (codes "move") (named (codes "move") refl) refl; objects = (h, (k, tt)) }
 
 -- what is known at the start of a problem by number
 abbrev known_of : Lifted → List Lit
 known_of l = closure (initial_of l) (length (ground_of l).atoms) []
 
+its_problem : HasProblem moves from_a_to_b
+unfolding cut_from class_of symbol_of some_at next_at
+its_problem = has_problem moves from_a_to_b (record { domain_cut = refl; problem_cut = refl; domain_read = refl; problem_read = refl; domain_faults = refl; problem_faults = refl })
+
+trees_can_be_written : IsWritable (given.ground_of (domain_of moves) (problem_of from_a_to_b)) (given.start_of (domain_of moves) (problem_of from_a_to_b))
+unfolding its_problem
+trees_can_be_written = starts_written moves from_a_to_b its_problem
+
 can_be_written : IsWritable (ground_of moves_by_number) (known_of moves_by_number)
-unfolding IsDistinct
-can_be_written = record {
-  atoms = (at_one (codes "a") name_a, (at_one (codes "b") name_b, tt));
-  atoms_differ = ((refl, tt), (tt, tt));
-  actions = (
-    record { name = move_two (codes "a") (codes "a") name_a name_a; pre = (omega arith, tt); effects = (record { conds = tt; result = omega arith }, tt) },
-    (
-      record { name = move_two (codes "a") (codes "b") name_a name_b; pre = (omega arith, tt); effects = (record { conds = tt; result = omega arith }, (record { conds = tt; result = omega arith }, tt)) },
-      (
-        record { name = move_two (codes "b") (codes "a") name_b name_a; pre = (omega arith, tt); effects = (record { conds = tt; result = omega arith }, (record { conds = tt; result = omega arith }, tt)) },
-        (record { name = move_two (codes "b") (codes "b") name_b name_b; pre = (omega arith, tt); effects = (record { conds = tt; result = omega arith }, tt) }, tt),
-      ),
-    ),
-  );
-  actions_differ = ((refl, (refl, (refl, tt))), ((refl, (refl, tt)), ((refl, tt), (tt, tt))));
-  start_of_atoms = (omega arith, (omega arith, tt));
-  goal_of_atoms = (omega arith, tt);
-}
+can_be_written = subst (λ l. IsWritable (ground_of l) (known_of l)) numbered_moves trees_can_be_written
 
 -- ---- the premises
 
@@ -77,7 +50,7 @@ no_clash = never_clashes (ground_of moves_by_number) (initial_of moves_by_number
 
 safe : IsSafelyWritten (domain_of moves) (problem_of from_a_to_b)
 safe = record {
-  writable = subst (λ l. IsWritable (ground_of l) (known_of l)) (sym numbered_moves) can_be_written;
+  writable = trees_can_be_written;
   no_clash = subst (λ l. NeverClashes (ground_of l) (initial_of l)) (sym numbered_moves) no_clash;
 }
 
@@ -100,13 +73,13 @@ plan_of_translation = subst (λ l. IsPlan (domain_file (ground_of l)) (problem_f
 strips_to_solution : StripsToSolution (domain_of moves) (problem_of from_a_to_b) two_steps
 strips_to_solution = plans_solve (domain_of moves) (problem_of from_a_to_b) no_fault plain safe two_steps plan_of_translation
 
-its_problem : HasProblem moves from_a_to_b
-unfolding cut_from class_of symbol_of some_at next_at
-its_problem = has_problem moves from_a_to_b (record { domain_cut = refl; problem_cut = refl; domain_read = refl; problem_read = refl; domain_faults = refl; problem_faults = refl })
-
 strips_to_plan : StripsToPlan moves from_a_to_b two_steps
 unfolding its_problem
 strips_to_plan = plans_strip moves from_a_to_b its_problem safe two_steps plan_of_translation
+
+by_translation : StripsToPlan moves from_a_to_b two_steps
+unfolding its_problem
+by_translation = translations_sound moves from_a_to_b its_problem safe.no_clash two_steps plan_of_translation
 
 two_moves : strip two_steps ≡ Some (move (codes "a") (codes "a") ∷ move (codes "a") (codes "b") ∷ [])
 two_moves = refl

@@ -12,7 +12,8 @@ use Rattle.kp_init.specs.Closure.{IsOver}
 use Rattle.kp_init.proofs.Closure.{closure_exact}
 use Rattle.kp_init.proofs.Runs.{initial_is_over, named_runs_are_plans}
 use Rattle.kp_given.specs.Translations.{ground_of, initial_of, start_of}
-use Rattle.kp_sound.specs.Laws.{WrittenPlansStripToSolutions, WrittenPlansStripToPlans}
+use Rattle.kp_given.proofs.Written.{starts_written}
+use Rattle.kp_sound.specs.Laws.{WrittenPlansStripToSolutions, WrittenPlansStripToPlans, TranslationsAreSound}
 use Rattle.kp_sound.proofs.Plans.{plans_sound}
 
 -- what is known at the start is the closure of the empty tag
@@ -35,3 +36,7 @@ pub plans_strip : WrittenPlansStripToPlans
 plans_strip domain problem x safe steps plan =
     let r = plans_solve x.domain x.problem x.no_fault (goals_plain problem x.problem x.problem_reads) safe steps plan in
     record { stripped = r.stripped; strips = r.strips; is_plan = record { has = x; solves = r.solves } }
+
+-- the ground problem of texts can always be written
+pub translations_sound : TranslationsAreSound
+translations_sound domain problem x never = plans_strip domain problem x (record { writable = starts_written domain problem x; no_clash = never })

@@ -17,8 +17,6 @@ use Rattle.kp_meaning.specs.Encoding.{encoded}
 use Rattle.kp_meaning.specs.Strip.{do_front, strip}
 use Rattle.kp_meaning.specs.NumberLaws.{is_plain_goal}
 use Rattle.kp_grounding.specs.Laws.{action_name}
-use Rattle.kp_given.specs.PlainFiles.{ArePlainTexts}
-use Rattle.kp_given.specs.PlainGround.{ArePlain}
 use Rattle.kp_given.specs.Translations.{ground_of, initial_of, start_of, translation_of}
 use Rattle.kp_write.specs.Grounds.{IsWritable, domain_file, problem_file}
 
@@ -92,12 +90,6 @@ WrittenPlansStripToSolutions = (d : Domain Word) (p : Problem Word) → HasNoFau
 abbrev pub WrittenPlansStripToPlans : Type 0
 WrittenPlansStripToPlans = (domain problem : List ℕ) (x : HasProblem domain problem) → IsSafelyWritten x.domain x.problem → PlansStrip (translation_of x.domain x.problem).domain (translation_of x.domain x.problem).problem domain problem
 
--- ---- for plain files
-
--- where an action of plain trees adds an atom, it has lost its deletes of it: nothing clashes
-abbrev pub PlainTreesNeverClash : Type 0
-PlainTreesNeverClash = (d : Domain Word) (p : Problem Word) → ArePlain d p → NeverClashes (ground_of d p) (initial_of d p)
-
--- each plan of the translation of two plain files strips to a plan of the files
-abbrev pub PlainFilesAreSound : Type 0
-PlainFilesAreSound = (domain problem : List ℕ) (d : Domain Word) (p : Problem Word) → ArePlainTexts domain problem d p → PlansStrip (translation_of d p).domain (translation_of d p).problem domain problem
+-- where two texts have a problem and nothing clashes, each plan of what is written for it strips to a plan of the texts
+abbrev pub TranslationsAreSound : Type 0
+TranslationsAreSound = (domain problem : List ℕ) (x : HasProblem domain problem) → NeverClashes (ground_of x.domain x.problem) (initial_of x.domain x.problem) → PlansStrip (translation_of x.domain x.problem).domain (translation_of x.domain x.problem).problem domain problem

@@ -1,6 +1,6 @@
 //! Laws of the plans of the written files, each proved as the contract of a function that does nothing.
 
-ghost use Rattle.kp_sound.specs.Laws.{PlainFilesAreSound, PlainTreesNeverClash, StepsStrip, WrittenPlansAreAccepted, WrittenPlansAreSound, WrittenPlansStripToPlans, WrittenPlansStripToSolutions};
+ghost use Rattle.kp_sound.specs.Laws.{StepsStrip, TranslationsAreSound, WrittenPlansAreAccepted, WrittenPlansAreSound, WrittenPlansStripToPlans, WrittenPlansStripToSolutions};
 
 /// The plans of the two texts of a ground problem are the lists of actions that the machine accepts with the empty tag alone.
 pub fn written_plans_are_accepted_lists()
@@ -31,13 +31,8 @@ pub fn written_plans_strip_to_plans()
     ensures { WrittenPlansStripToPlans }
 {}
 
-/// Plain trees never clash.
-#[tactic(auto, using(crate::proofs::PlainFiles::plain_never_clash))]
-pub fn plain_trees_never_clash()
-    ensures { PlainTreesNeverClash }
-{}
-
-/// Each plan of the translation of plain files strips to a plan of the files.
-pub fn translations_of_plain_files_are_sound()
-    ensures { PlainFilesAreSound }
+/// Each plan of the translation of two texts strips to a plan of the texts, where nothing clashes.
+#[tactic(auto, using(crate::proofs::Trees::translations_sound))]
+pub fn translations_are_sound()
+    ensures { TranslationsAreSound }
 {}

@@ -4,7 +4,6 @@
 mod laws;
 
 pub use laws::{
-    plain_trees_never_clash, steps_of_actions_strip, translations_of_plain_files_are_sound,
-    written_plans_are_accepted_lists, written_plans_are_sound, written_plans_strip_to_plans,
-    written_plans_strip_to_solutions,
+    steps_of_actions_strip, translations_are_sound, written_plans_are_accepted_lists,
+    written_plans_are_sound, written_plans_strip_to_plans, written_plans_strip_to_solutions,
 };

@@ -1,0 +1,6 @@
+pub mod Meaning
+pub mod Views
+pub mod Sets
+pub mod Shapes
+pub mod Sorting
+pub mod Once

@@ -1,0 +1,6 @@
+pub mod Problem
+pub mod Bound
+pub mod Nodes
+pub mod Laws
+pub mod Literals
+pub mod Shapes

@@ -1,0 +1,84 @@
+ghost use Rattle.std.specs.Prelude.{◌≡◌, [], IfOk, OnOk};
+ghost use Rattle.kp_grounding.specs.declared.flat.FlatEffect.{FlatEffect as Told};
+ghost use Rattle.kp_bound.specs.Literals.{lit_view};
+ghost use Rattle.kp_bound.specs.Shapes.{IsShapeOf, with_effect};
+
+use crate::conditions::Conditions;
+use crate::literal::{BoundLit, owned};
+use crate::shape::{Shape, shape_of};
+use indexmap::IndexSet;
+use kp_base::{Memory, Row};
+use kp_grounding::FlatEffect;
+use std::alloc::Global;
+use std::marker::Model;
+
+/// Effects, each once, in the order in which they came first.
+#[derive(Drop)]
+pub struct Effects<'a> {
+    rows: Vec<FlatEffect>,
+    seen: IndexSet<Shape<'a>>,
+}
+
+impl<'a> Model for Effects<'a> {
+    ghost use Rattle.std.specs.Prelude.{List};
+    ghost use Rattle.kp_grounding.specs.declared.flat.FlatEffect.{FlatEffect as Effect};
+    ghost use Rattle.kp_bound.specs.Shapes.{AreShapes};
+
+    ghost Value = { List Effect };
+
+    ghost view = { λ e. e.rows.items };
+
+    ghost invariant = { λ e. AreShapes e.seen.keys e.rows.items };
+}
+
+impl<'a> Effects<'a> {
+    /// No effects.
+    pub fn new(alloc: Global) -> Effects<'a>
+        ensures { result ≡ [] }
+    {
+        Effects {
+            rows: Vec::new(alloc),
+            seen: IndexSet::new(alloc),
+        }
+    }
+
+    /// Adds the effect that makes a literal under these conditions, if it isn't there yet.
+    pub fn add(
+        &mut self,
+        alloc: Global,
+        conds: &Conditions<'a>,
+        made: BoundLit<'a>,
+    ) -> Result<(), Memory>
+        ensures { OnOk result (self.new ≡ with_effect self.old (record { cond = conds.now; result = lit_view made.entry })) }
+    {
+        let shape = shape_of(alloc, conds.slice(), made)?;
+        let effect = FlatEffect {
+            cond: conds.owned(alloc)?,
+            result: owned(alloc, &made)?,
+        };
+        self.note(shape, effect)
+    }
+
+    // Adds an effect, if one of its shape isn't there yet.
+    fn note(&mut self, shape: Shape<'a>, effect: FlatEffect) -> Result<(), Memory>
+        requires { IsShapeOf shape effect }
+        ensures { OnOk result (self.new ≡ with_effect self.old effect) }
+    {
+        let count = self.seen.len();
+        if !self.seen.insert(shape)? {
+            return Ok(());
+        }
+        if let Err(_) = self.rows.push(effect) {
+            self.seen.truncate(count);
+            return Err(Memory);
+        }
+        Ok(())
+    }
+
+    /// The effects.
+    pub fn into_row(self) -> Row<FlatEffect>
+        ensures { result ≡ self.entry }
+    {
+        Row::from_vec(self.rows)
+    }
+}

@@ -1,0 +1,67 @@
+ghost use Rattle.std.specs.Prelude.{◌≡◌, ◌<◌, Some, length, IfOk};
+ghost use Rattle.kp_bound.specs.Bound.{flat_at};
+ghost use Rattle.kp_bound.specs.Problem.{problem_of};
+
+use crate::binding::bind;
+use crate::flattening::flatten_over;
+use bumpalo::Bump;
+use kp_base::{Memory, Row};
+use kp_grounding::Flat;
+use kp_kept::Statics;
+use std::alloc::Global;
+
+/// Flattens instances one after another.
+#[derive(Drop)]
+pub struct Flattener<'s> {
+    bump: Bump,
+    /// The table of static predicates.
+    pub statics: &'s Statics<'s>,
+}
+
+// The flat form of an instance, whose tree lies in the arena.
+fn flat_in(
+    bump: &Bump,
+    alloc: Global,
+    statics: &Statics,
+    schema: u32,
+    objects: &Row<u32>,
+) -> Result<Flat, Memory>
+    requires { schema < length (problem_of statics.now).schemas }
+    ensures { IfOk result (λ f. flat_at (problem_of statics.now) schema objects.now ≡ Some f) }
+{
+    let node = bind(bump, alloc, statics.lifted, schema, objects)?;
+    let flat = flatten_over(alloc, statics, &node)?;
+    Ok(flat)
+}
+
+impl<'s> Flattener<'s> {
+    /// A flattener over this table.
+    pub fn new(alloc: Global, statics: &'s Statics<'s>) -> Flattener<'s>
+        ensures { result.statics ≡ statics.entry }
+    {
+        Flattener {
+            bump: Bump::new(alloc),
+            statics,
+        }
+    }
+
+    /// The flat form of the schema of this number with these objects. Its tree lies in an arena that is reset afterwards.
+    pub fn flat(&mut self, alloc: Global, schema: u32, objects: &Row<u32>) -> Result<Flat, Memory>
+        requires { schema < length (problem_of self.old.statics.now).schemas }
+        ensures kept { self.new.statics ≡ self.old.statics }
+        ensures flat { IfOk result (λ f. flat_at (problem_of self.old.statics.now) schema objects.now ≡ Some f) }
+    {
+        let flat = flat_in(&self.bump, alloc, self.statics, schema, objects);
+        self.clear(alloc);
+        flat
+    }
+
+    // Gives up the tree. Where the arena refuses, a new one takes its place.
+    fn clear(&mut self, alloc: Global)
+        ensures { self.new.statics ≡ self.old.statics }
+    {
+        if self.bump.reset().is_err() {
+            self.bump = Bump::new(alloc);
+        }
+    }
+}

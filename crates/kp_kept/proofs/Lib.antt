@@ -1,0 +1,8 @@
+pub mod Capped
+pub mod Choices
+pub mod Digits
+pub mod Views
+pub mod Tables
+pub mod Weights
+pub mod KeptRest
+pub mod ExampleLimits

@@ -1,0 +1,48 @@
+ghost use Rattle.std.specs.Prelude.{◌≡◌, ◌<◌, Some, length, slice_get, IfOk};
+ghost use Rattle.kp_meaning.specs.Lifted.{bindings};
+
+use crate::counting::binding_number;
+use kp_base::{Memory, Row};
+use kp_meaning::Range;
+use std::alloc::Global;
+
+/// How many lists of objects there are for these ranges. More than a `usize` counts are want of memory.
+pub fn binding_total(ranges: &[Range]) -> Result<usize, Memory>
+    ensures { IfOk result (λ n. n ≡ length (bindings ranges.now)) }
+{
+    match usize::try_from(binding_number(ranges)) {
+        Ok(total) => Ok(total),
+        Err(_) => Err(Memory),
+    }
+}
+
+/// The list of this number: an object from each range, the first range slowest.
+pub fn binding_at(alloc: Global, ranges: &[Range], number: usize) -> Result<Row<u32>, Memory>
+    requires { number < length (bindings ranges.now) }
+    ensures { IfOk result (λ row. slice_get (bindings ranges.now) number ≡ Some row) }
+{
+    // The number's digits, the last first; the base of each is how many objects its range has.
+    let mut objects = Vec::with_capacity(alloc, ranges.len())?;
+    let mut rest = number;
+    let mut left = ranges.len();
+    while left > 1 {
+        left -= 1;
+        let range = &ranges[left].objects;
+        objects.push(*range.at(rest % range.len()))?;
+        rest /= range.len();
+    }
+    objects.reverse();
+    Ok(Row::from_vec(objects))
+}
+
+/// All the lists, in order.
+pub fn all_bindings(alloc: Global, ranges: &[Range]) -> Result<Row<Row<u32>>, Memory>
+    ensures { IfOk result (λ rows. rows ≡ bindings ranges.now) }
+{
+    let total = binding_total(ranges)?;
+    let mut rows = Row::new(alloc);
+    for number in 0..total {
+        rows.push(binding_at(alloc, ranges, number)?)?;
+    }
+    Ok(rows)
+}

@@ -1,0 +1,22 @@
+//! Which instances of a problem by number are kept, in order, within the limits. `specs/Counts.antt` says which refusals there are.
+#![tactic(auto)]
+
+mod atom_set;
+mod bindings;
+mod changed;
+mod counting;
+mod keeping;
+mod kept;
+mod settling;
+mod stated;
+mod statics;
+
+pub use bindings::{all_bindings, binding_at, binding_total};
+pub use counting::{problem_bindings, schema_weight};
+pub use keeping::kept_instances;
+pub use kept::Kept;
+pub use settling::{object_of, settled};
+pub use statics::Statics;
+
+#[cfg(test)]
+mod tests;

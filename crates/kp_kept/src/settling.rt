@@ -1,0 +1,91 @@
+ghost use Rattle.std.specs.Prelude.{◌≡◌, map, IfOk};
+ghost use Rattle.kp_base.specs.Lists.{signed};
+ghost use Rattle.kp_meaning.specs.Lifted.{object_of};
+ghost use Rattle.kp_meaning.specs.Numbered as numbered;
+ghost use Rattle.kp_names.specs.View.{cond_view, lifted_view};
+ghost use Rattle.kp_grounding.specs.Static.{settled};
+
+use crate::statics::Statics;
+use kp_base::{Memory, Row};
+use kp_meaning::Term;
+use kp_names::Cond;
+use std::alloc::Global;
+
+/// The object that a term stands for under a list of objects for the variables.
+pub fn object_of(objects: &[u32], term: &Term) -> u32
+    ensures { result ≡ object_of objects.now term.now }
+{
+    match term {
+        Term::Param(number) => objects.get(*number as usize).copied().unwrap_or(1),
+        Term::Object(object) => *object,
+    }
+}
+
+fn objects_of(alloc: Global, objects: &[u32], terms: &[Term]) -> Result<Row<u32>, Memory>
+    ensures { IfOk result (λ row. row ≡ map (object_of objects.now) terms.now) }
+{
+    let mut row = Row::new(alloc);
+    for term in terms {
+        row.push(object_of(objects, term))?;
+    }
+    Ok(row)
+}
+
+// The truth value, or its negation.
+fn signed(positive: bool, value: bool) -> bool
+    ensures { result ≡ signed positive value }
+{
+    if positive { value } else { value }
+}
+
+// Whether an atom or its negation is true, where its predicate is static.
+fn literal_settled(
+    alloc: Global,
+    statics: &Statics,
+    positive: bool,
+    pred: u32,
+    terms: &[Term],
+    objects: &[u32],
+) -> Result<bool, Memory>
+    ensures { IfOk result (λ b. b ≡ settled (lifted_view statics.now.lifted.now) objects.now (numbered.Cond.atom positive pred terms.now)) }
+{
+    if !statics.is_static(pred) {
+        return Ok(true);
+    }
+    let row = objects_of(alloc, objects, terms)?;
+    Ok(signed(positive, statics.is_true_at_first(pred, row.slice())))
+}
+
+/// Whether all static literals and all equalities of a condition are true under a list of objects for the variables.
+pub fn settled(
+    alloc: Global,
+    statics: &Statics,
+    cond: &Cond,
+    objects: &[u32],
+) -> Result<bool, Memory>
+    ensures { IfOk result (λ b. b ≡ settled (lifted_view statics.now.lifted.now) objects.now (cond_view cond.now)) }
+{
+    match cond {
+        Cond::All(parts) => {
+            for part in parts.slice() {
+                if !settled(alloc, statics, part, objects)? {
+                    return Ok(false);
+                }
+            }
+            Ok(true)
+        }
+        Cond::Atom {
+            positive,
+            pred,
+            terms,
+        } => Ok(literal_settled(alloc, statics, *positive, *pred, terms.slice(), objects)?),
+        Cond::Same {
+            positive,
+            left,
+            right,
+        } => Ok(signed(
+            *positive,
+            object_of(objects, left) == object_of(objects, right),
+        )),
+    }
+}

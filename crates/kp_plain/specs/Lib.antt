@@ -1,3 +1,0 @@
-pub mod Ground
-pub mod Translations
-pub mod Grounding
