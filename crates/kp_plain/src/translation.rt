@@ -13,5 +13,5 @@ pub fn translate(alloc: Global, domain: &Domain, problem: &Problem) -> Result<Tr
     ensures { IfOk result (λ t. t ≡ translation_of (domain_view domain.now) (problem_view problem.now)) }
 {
     let Grounded { form, start } = ground_form(alloc, domain, problem)?;
-    kp_texts::translate(alloc, &form, &start)
+    kp_texts::translate(alloc, &form, start.slice())
 }
