@@ -295,7 +295,7 @@ pub fn domain_text(alloc: Global, form: &Ground) -> Result<Row<u8>, Memory>
 }
 
 /// The problem file of a ground problem's translation with the empty tag alone, from what holds at the start.
-pub fn problem_text(alloc: Global, form: &Ground, start: &LitSet) -> Result<Row<u8>, Memory>
+pub fn problem_text(alloc: Global, form: &Ground, start: &[Lit]) -> Result<Row<u8>, Memory>
     ensures { IfOk result (λ bytes. bytes ≡ problem_text (facts_for form.now start.now) (facts_for form.now form.now.goal)) }
 {
     let mut out = Vec::new(alloc);
@@ -303,7 +303,7 @@ pub fn problem_text(alloc: Global, form: &Ground, start: &LitSet) -> Result<Row<
         &mut out,
         b"(define (problem kplan)\n(:domain kplan)\n(:init\n",
     )?;
-    put_lines(&mut out, form.atoms.slice(), start.slice())?;
+    put_lines(&mut out, form.atoms.slice(), start)?;
     put(&mut out, b")\n(:goal (and\n")?;
     put_lines(&mut out, form.atoms.slice(), form.goal.slice())?;
     put(&mut out, b"))\n)\n")?;
