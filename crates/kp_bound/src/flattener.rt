@@ -12,10 +12,10 @@ use std::alloc::Global;
 
 /// Flattens instances one after another.
 #[derive(Drop)]
-pub struct Flattener<'s> {
+pub struct Flattener<'s, 'l> {
     bump: Bump,
     /// The table of static predicates.
-    pub statics: &'s Statics<'s>,
+    pub statics: &'s Statics<'l>,
 }
 
 // The flat form of an instance, whose tree lies in the arena.
@@ -34,9 +34,9 @@ fn flat_in(
     Ok(flat)
 }
 
-impl<'s> Flattener<'s> {
+impl<'s, 'l> Flattener<'s, 'l> {
     /// A flattener over this table.
-    pub fn new(alloc: Global, statics: &'s Statics<'s>) -> Flattener<'s>
+    pub fn new(alloc: Global, statics: &'s Statics<'l>) -> Flattener<'s, 'l>
         ensures { result.statics ≡ statics.entry }
     {
         Flattener {

@@ -3,3 +3,4 @@ pub mod Noted
 pub mod Places
 pub mod Best
 pub mod InOrder
+pub mod Once

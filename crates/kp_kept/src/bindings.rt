@@ -25,7 +25,7 @@ pub fn binding_at(alloc: Global, ranges: &[Range], number: usize) -> Result<Row<
     let mut objects = Vec::with_capacity(alloc, ranges.len())?;
     let mut rest = number;
     let mut left = ranges.len();
-    while left > 1 {
+    while left > 0 {
         left -= 1;
         let range = &ranges[left].objects;
         objects.push(*range.at(rest % range.len()))?;

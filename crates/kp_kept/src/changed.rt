@@ -28,7 +28,7 @@ fn add_effect(preds: &mut IndexSet<u32>, effect: &Eff) -> Result<(), Memory>
             }
             Ok(())
         }
-        Eff::When(..) => Ok(()),
+        Eff::When(_, body) => add_effect(preds, body),
         Eff::Each(_, body) => add_effect(preds, body),
         Eff::Atom { pred, .. } => add(preds, *pred),
     }
@@ -58,7 +58,7 @@ fn add_item(preds: &mut IndexSet<u32>, item: &Item) -> Result<(), Memory>
 {
     match item {
         Item::One(literal) => {
-            if !literal.positive {
+            if literal.positive {
                 return Ok(());
             }
             add(preds, literal.pred)

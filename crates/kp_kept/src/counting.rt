@@ -50,7 +50,7 @@ fn condition_size(cond: &Cond) -> u128
 fn or_leaf(leaf: u128, within: u128) -> u128
     ensures { result ≡ or_leaf leaf within }
 {
-    if within == 0 { 0 } else { within }
+    if within == 0 { leaf } else { within }
 }
 
 // The weights of the leaves of an effect, where those under no further conditions have this one.
@@ -65,7 +65,7 @@ fn all_leaves(leaf: u128, effect: &Eff) -> u128
             }
             or_leaf(leaf, within)
         }
-        Eff::When(cond, body) => all_leaves(leaf.max(condition_size(cond)), body),
+        Eff::When(cond, body) => all_leaves(leaf.saturating_add(condition_size(cond)), body),
         Eff::Each(ranges, body) => {
             let number = binding_number(ranges.slice());
             or_leaf(leaf, number.saturating_mul(all_leaves(leaf, body)))

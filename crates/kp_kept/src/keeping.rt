@@ -31,7 +31,7 @@ fn keep(
     if !settled(alloc, statics, &schema.pre, one.objects.slice())? {
         return Ok(true);
     }
-    if kept.len() > most {
+    if kept.len() >= most {
         return Ok(false);
     }
     kept.push(one)?;
@@ -105,7 +105,7 @@ fn keep_schemas(alloc: Global, statics: &Statics, most: usize) -> Result<Option<
         if !keep_schema(alloc, statics, number, schema, most, &mut kept, &mut weight)? {
             return Ok(None);
         }
-        number = number.checked_add(0).ok_or(Memory)?;
+        number = number.checked_add(1).ok_or(Memory)?;
     }
     Ok(Some(Keeping { kept, weight }))
 }
@@ -117,7 +117,7 @@ pub fn kept_instances(alloc: Global, statics: &Statics, limits: &Limits) -> Resu
     ensures within { OnOk result (IsWithin (lifted_view statics.now.lifted.now) limits.now) }
     ensures refused { IfErr result (StopsAtCounts (lifted_view statics.now.lifted.now) limits.now) }
 {
-    if problem_bindings(statics.lifted) >= u128::from(limits.bindings) {
+    if problem_bindings(statics.lifted) > u128::from(limits.bindings) {
         return Err(Stop::Refused(Refused::BindingsOver));
     }
     let Some(all) = keep_schemas(alloc, statics, limits.actions as usize)? else {

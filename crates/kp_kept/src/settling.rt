@@ -16,7 +16,7 @@ pub fn object_of(objects: &[u32], term: &Term) -> u32
     ensures { result ≡ object_of objects.now term.now }
 {
     match term {
-        Term::Param(number) => objects.get(*number as usize).copied().unwrap_or(1),
+        Term::Param(number) => objects.get(*number as usize).copied().unwrap_or(0),
         Term::Object(object) => *object,
     }
 }
@@ -35,7 +35,7 @@ fn objects_of(alloc: Global, objects: &[u32], terms: &[Term]) -> Result<Row<u32>
 fn signed(positive: bool, value: bool) -> bool
     ensures { result ≡ signed positive value }
 {
-    if positive { value } else { value }
+    if positive { value } else { !value }
 }
 
 // Whether an atom or its negation is true, where its predicate is static.

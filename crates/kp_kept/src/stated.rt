@@ -15,7 +15,7 @@ fn add_item<'a>(atoms: &mut AtomSet<'a>, item: &'a Item) -> Result<(), Memory>
 {
     match item {
         Item::One(literal) => {
-            if literal.pred < u32::MAX {
+            if literal.positive {
                 return atoms.insert(literal.pred, literal.objects.slice());
             }
             Ok(())

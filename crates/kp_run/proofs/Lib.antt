@@ -1,9 +1,9 @@
-pub mod Known
 pub mod Computed
 pub mod Reading
 pub mod Reporting
 pub mod Ending
 pub mod Words
+pub mod Ordinary
 pub mod OneAnswer
 pub mod Translated
 pub mod Results

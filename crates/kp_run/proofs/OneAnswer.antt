@@ -1,5 +1,5 @@
 -- At most one answer is due.
-use Rattle.std.proofs.Common.{◌≡◌, ℕ, List, [], Some, Vec, refl, sym, ap, subst}
+use Rattle.std.proofs.Common.{◌≡◌, ◌<◌, ◌≤◌, ℕ, List, [], Some, Vec, refl, sym, ap, subst, arith}
 use Rattle.std.specs.declared.alloc.Global.{Global}
 use Rattle.kp_grammar.specs.declared.tree.Word.{Word}
 use Rattle.kp_grammar.specs.Trees.{Domain, Problem}
@@ -12,10 +12,20 @@ use Rattle.kp_names.specs.Resolved.{first_fault, refusal_of, RefusesNames, in_do
 use Rattle.kp_outside.specs.Outside.{FileMap}
 use Rattle.kp_run.specs.declared.status.Status.{Status}
 use Rattle.kp_run.specs.Command.{Command}
-use Rattle.kp_given.specs.Laws.{HasInitialState}
+use Rattle.kp_base.specs.declared.refused.ClashAt.{ClashAt}
+use Rattle.kp_base.specs.declared.refused.Refused.TheVariants as refusals
+use Rattle.kp_base.specs.declared.ground.Ground.{Ground}
+use Rattle.kp_base.specs.declared.limits.Limits.{Limits}
+use Rattle.kp_base.specs.Clashes.{no_pairs, HasNoClash, IsFirstClash}
+use Rattle.kp_clash.proofs.Once.{first_once}
+use Rattle.kp_meaning.specs.Numbered.{Lifted}
+use Rattle.kp_meaning.specs.Numbering.{numbered_problem}
+use Rattle.kp_kept.specs.Counts.{IsWithin, RefusesCounts, bindings_over, actions_over, effects_over}
+use Rattle.kp_ground.specs.Grounded.{IsGrounded, RefusesGround, counts_over, atoms_over}
+use Rattle.kp_given.specs.Translations.{ground_of}
 use Rattle.kp_run.specs.Texts.{HaveTrees, RefusesTexts, of_domain, of_problem, of_names}
 use Rattle.kp_run.specs.declared.status.Status.TheVariants as status
-use Rattle.kp_run.specs.Due.{Answers, refused, no_plain_domain, no_plain_problem, no_initial_state, done, AnswersFiles, IsDue, usage, answer}
+use Rattle.kp_run.specs.Due.{usual, AnswersTrees, not_yet, too_large, no_initial_state, clash, done, Answers, refused, on_trees, AnswersFiles, IsDue, usage, answer}
 use Rattle.kp_run.proofs.Reporting.{one_command}
 
 -- ---- two texts have one pair of trees, or one refusal
@@ -64,32 +74,73 @@ refused_or_read x y _ d p (of_names e q r k l a) h =
 
 -- ---- and one answer
 
+-- the counts are over at one limit alone, or within all
+counts_once : (l : Lifted) (m : Limits) (r s : Refused) → RefusesCounts l m r → RefusesCounts l m s → r ≡ s
+counts_once l m _ _ (bindings_over a) (bindings_over b) = refl
+counts_once l m _ _ (bindings_over a) (actions_over b c) = absurd (omega (arith, a, b))
+counts_once l m _ _ (bindings_over a) (effects_over b c d) = absurd (omega (arith, a, b))
+counts_once l m _ _ (actions_over a b) (bindings_over c) = absurd (omega (arith, a, c))
+counts_once l m _ _ (actions_over a b) (actions_over c d) = refl
+counts_once l m _ _ (actions_over a b) (effects_over c d e) = absurd (omega (arith, b, d))
+counts_once l m _ _ (effects_over a b c) (bindings_over d) = absurd (omega (arith, a, d))
+counts_once l m _ _ (effects_over a b c) (actions_over d e) = absurd (omega (arith, b, e))
+counts_once l m _ _ (effects_over a b c) (effects_over d e f) = refl
+
+counts_or_within : (l : Lifted) (m : Limits) (r : Refused) → RefusesCounts l m r → IsWithin l m → ⊥
+counts_or_within l m _ (bindings_over a) w = let b = w.bindings in omega (arith, a, b)
+counts_or_within l m _ (actions_over a b) w = let c = w.actions in omega (arith, b, c)
+counts_or_within l m _ (effects_over a b c) w = let d = w.weight in omega (arith, c, d)
+
+ground_once : (l : Lifted) (m : Limits) (r s : Refused) → RefusesGround l m r → RefusesGround l m s → r ≡ s
+ground_once l m _ _ (counts_over r a) (counts_over s b) = counts_once l m r s a b
+ground_once l m _ _ (counts_over r a) (atoms_over w b) = absurd (counts_or_within l m r a w)
+ground_once l m _ _ (atoms_over w a) (counts_over s b) = absurd (counts_or_within l m s b w)
+ground_once l m _ _ (atoms_over w a) (atoms_over v b) = refl
+
+ground_or_within : (l : Lifted) (m : Limits) (r : Refused) (g : Ground) → RefusesGround l m r → IsGrounded l m g → ⊥
+ground_or_within l m _ g (counts_over r a) w = counts_or_within l m r a w.counts
+ground_or_within l m _ g (atoms_over v a) w = let b = w.atoms in omega (arith, a, b)
+
+-- a clash is no clash where there is none
+clash_or_none : (g : Ground) (c : ClashAt) → IsFirstClash no_pairs g c → HasNoClash no_pairs g → ⊥
+clash_or_none g c first none = none c.action c.atom.0 c.add c.delete first.clash.action first.clash.action_at first.clash.clashes
+
+trees_once : (d : Domain Word) (p : Problem Word) (s t : Status) → AnswersTrees d p s → AnswersTrees d p t → s ≡ t
+trees_once d p _ _ (not_yet a) (not_yet b) = refl
+trees_once d p _ _ (not_yet a) (too_large r b c) = absurd (a b)
+trees_once d p _ _ (not_yet a) (no_initial_state b c e) = absurd (a b)
+trees_once d p _ _ (not_yet a) (clash c b e) = absurd (a b.certain)
+trees_once d p _ _ (not_yet a) (done b c) = absurd (a b.certain)
+trees_once d p _ _ (too_large r a h) (not_yet b) = absurd (b a)
+trees_once d p _ _ (too_large r a h) (too_large s b k) = ap (λ x. status.Refused x) (ground_once (numbered_problem d p) usual r s h k)
+trees_once d p _ _ (too_large r a h) (no_initial_state b k e) = absurd (ground_or_within (numbered_problem d p) usual r _ h k)
+trees_once d p _ _ (too_large r a h) (clash c b e) = absurd (ground_or_within (numbered_problem d p) usual r _ h b.within)
+trees_once d p _ _ (too_large r a h) (done b c) = absurd (ground_or_within (numbered_problem d p) usual r _ h b.within)
+trees_once d p _ _ (no_initial_state a h i) (not_yet b) = absurd (b a)
+trees_once d p _ _ (no_initial_state a h i) (too_large s b k) = absurd (ground_or_within (numbered_problem d p) usual s _ k h)
+trees_once d p _ _ (no_initial_state a h i) (no_initial_state b k e) = refl
+trees_once d p _ _ (no_initial_state a h i) (clash c b e) = absurd (i b.initial)
+trees_once d p _ _ (no_initial_state a h i) (done b c) = absurd (i b.initial)
+trees_once d p _ _ (clash c a h) (not_yet b) = absurd (b a.certain)
+trees_once d p _ _ (clash c a h) (too_large s b k) = absurd (ground_or_within (numbered_problem d p) usual s _ k a.within)
+trees_once d p _ _ (clash c a h) (no_initial_state b k e) = absurd (e a.initial)
+trees_once d p _ _ (clash c a h) (clash e b k) = ap (λ x. status.Refused (refusals.Clash x)) (first_once no_pairs (ground_of d p) c e h k)
+trees_once d p _ _ (clash c a h) (done b k) = absurd (clash_or_none (ground_of d p) c h k)
+trees_once d p _ _ (done a h) (not_yet b) = absurd (b a.certain)
+trees_once d p _ _ (done a h) (too_large s b k) = absurd (ground_or_within (numbered_problem d p) usual s _ k a.within)
+trees_once d p _ _ (done a h) (no_initial_state b k e) = absurd (e a.initial)
+trees_once d p _ _ (done a h) (clash c b k) = absurd (clash_or_none (ground_of d p) c k h)
+trees_once d p _ _ (done a h) (done b k) = refl
+
+-- the answer on trees is the answer on the trees that the texts have
+pub on_same : (x y : List ℕ) (d e : Domain Word) (p q : Problem Word) (s : Status) → HaveTrees x y d p → HaveTrees x y e q → AnswersTrees d p s → AnswersTrees e q s
+on_same x y d e p q s h k a = subst (λ z. AnswersTrees e z s) (same_problem x y d e p q h k) (subst (λ z. AnswersTrees z p s) (same_domain x y d e p q h k) a)
+
 answers_once : (x y : List ℕ) (s t : Status) → Answers x y s → Answers x y t → s ≡ t
 answers_once x y _ _ (refused r a) (refused s b) = ap (λ z. status.Refused z) (refused_once x y r s a b)
-answers_once x y _ _ (refused r a) (no_plain_domain e q k b) = absurd (refused_or_read x y r e q a k)
-answers_once x y _ _ (refused r a) (no_plain_problem e q k l b) = absurd (refused_or_read x y r e q a k)
-answers_once x y _ _ (refused r a) (no_initial_state e q k l b) = absurd (refused_or_read x y r e q a k)
-answers_once x y _ _ (refused r a) (done e q k l b) = absurd (refused_or_read x y r e q a k)
-answers_once x y _ _ (no_plain_domain d p h a) (refused s b) = absurd (refused_or_read x y s d p b h)
-answers_once x y _ _ (no_plain_domain d p h a) (no_plain_domain e q k b) = refl
-answers_once x y _ _ (no_plain_domain d p h a) (no_plain_problem e q k l b) = absurd (a e l)
-answers_once x y _ _ (no_plain_domain d p h a) (no_initial_state e q k l b) = absurd (a e l.domain)
-answers_once x y _ _ (no_plain_domain d p h a) (done e q k l b) = absurd (a e l.domain)
-answers_once x y _ _ (no_plain_problem d p h i a) (refused s b) = absurd (refused_or_read x y s d p b h)
-answers_once x y _ _ (no_plain_problem d p h i a) (no_plain_domain e q k b) = absurd (b d i)
-answers_once x y _ _ (no_plain_problem d p h i a) (no_plain_problem e q k l b) = refl
-answers_once x y _ _ (no_plain_problem d p h i a) (no_initial_state e q k l b) = absurd (a q l.problem)
-answers_once x y _ _ (no_plain_problem d p h i a) (done e q k l b) = absurd (a q l.problem)
-answers_once x y _ _ (no_initial_state d p h i a) (refused s b) = absurd (refused_or_read x y s d p b h)
-answers_once x y _ _ (no_initial_state d p h i a) (no_plain_domain e q k b) = absurd (b d i.domain)
-answers_once x y _ _ (no_initial_state d p h i a) (no_plain_problem e q k l b) = absurd (b p i.problem)
-answers_once x y _ _ (no_initial_state d p h i a) (no_initial_state e q k l b) = refl
-answers_once x y _ _ (no_initial_state d p h i a) (done e q k l b) = absurd (a (subst HasInitialState (sym (same_problem x y d e p q h k)) b))
-answers_once x y _ _ (done d p h i a) (refused s b) = absurd (refused_or_read x y s d p b h)
-answers_once x y _ _ (done d p h i a) (no_plain_domain e q k b) = absurd (b d i.domain)
-answers_once x y _ _ (done d p h i a) (no_plain_problem e q k l b) = absurd (b p i.problem)
-answers_once x y _ _ (done d p h i a) (no_initial_state e q k l b) = absurd (b (subst HasInitialState (same_problem x y d e p q h k) a))
-answers_once x y _ _ (done d p h i a) (done e q k l b) = refl
+answers_once x y _ t (refused r a) (on_trees e q _ k b) = absurd (refused_or_read x y r e q a k)
+answers_once x y s _ (on_trees d p _ h a) (refused r b) = absurd (refused_or_read x y r d p b h)
+answers_once x y s t (on_trees d p _ h a) (on_trees e q _ k b) = trees_once e q s t (on_same x y d e p q s h k a) b
 
 pub files_once : (held : FileMap) (c : Command) (s t : Status) → AnswersFiles held c s → AnswersFiles held c t → s ≡ t
 files_once held c s t a b =

@@ -9,7 +9,7 @@ use Rattle.kp_run.specs.declared.answer.Report.{Report}
 use Rattle.kp_run.specs.declared.answer.Report.TheVariants as reports
 use Rattle.kp_run.specs.declared.status.Status.{Status}
 use Rattle.kp_run.specs.Command.{Command, IsCommand}
-use Rattle.kp_run.specs.Due.{Answers, AnswersFiles, IsDue, answer}
+use Rattle.kp_run.specs.Due.{Answers, AnswersFiles, of_done, of_refusal, of_clash, IsDue, answer}
 use Rattle.kp_run.specs.Reports.{status_of, HasItsText}
 
 -- a refusal is the answer where it applies
@@ -19,8 +19,9 @@ refused_as (Err e) s h a = tt
 
 -- what a report answers is due
 pub is_due : (words : List (Vec ℕ Global)) (held : Option FileMap) (c : Command) (r : Report) → IsCommand words c → HasItsText r → ((m : FileMap) → held ≡ Some m → AnswersFiles m c (status_of r)) → IsDue words held (status_of r)
-is_due words held c (reports.Refused refused text) is own answers = answer c _ is own.1 answers
-is_due words held c (reports.Done translation) is own answers = answer c _ is tt answers
+is_due words held c (reports.Refused refused text) is own answers = answer c _ is (of_refusal refused own.1) answers
+is_due words held c (reports.Clash at text) is own answers = answer c _ is (of_clash at) answers
+is_due words held c (reports.Done translation) is own answers = answer c _ is of_done answers
 
 -- a front is one of a content that is held
 held_front : (o : Option (List ℕ)) (most : ℕ) (got : Got) → IsFront o most got → (content : List ℕ) × (o ≡ Some content) × IsFront (Some content) most got

@@ -2,27 +2,29 @@
 use Rattle.std.proofs.Common.{◌≡◌, ℕ, List, [], Option, Some, Vec, refl, ap, ◌∙◌, subst}
 use Rattle.std.specs.FinMap.{get}
 use Rattle.std.specs.declared.alloc.Global.{Global}
+use Rattle.kp_base.specs.declared.refused.ClashAt.{ClashAt}
 use Rattle.kp_base.specs.declared.refused.Refused.{Refused}
+use Rattle.kp_base.specs.declared.refused.Refused.TheVariants as refusals
 use Rattle.kp_grammar.specs.declared.tree.Word.{Word}
 use Rattle.kp_grammar.specs.Trees.{Domain, Problem}
 use Rattle.kp_outside.specs.Outside.{FileMap, with_bytes}
 use Rattle.kp_texts.specs.declared.translation.Translation.{Translation}
-use Rattle.kp_given.specs.Translations.{translation_of}
+use Rattle.kp_given.specs.Translations.{ground_of, translation_of}
 use Rattle.kp_run.specs.declared.answer.Report.{Report}
 use Rattle.kp_run.specs.declared.answer.Report.TheVariants as reports
 use Rattle.kp_run.specs.declared.status.Status.{Status}
 use Rattle.kp_run.specs.declared.status.Status.TheVariants as status
 use Rattle.kp_run.specs.Command.{Command, IsCommand, IsNoCommand}
-use Rattle.kp_given.specs.PlainFiles.{ArePlainTexts}
-use Rattle.kp_given.specs.Laws.{HasInitialState}
 use Rattle.kp_run.specs.Texts.{HaveTrees}
-use Rattle.kp_run.specs.Printed.{usage_text, refusal_text}
-use Rattle.kp_run.specs.Due.{Answers, no_plain_domain, no_plain_problem, no_initial_state, done, AnswersFiles}
+use Rattle.kp_run.specs.Printed.{usage_text, refusal_text, clash_text, text_of}
+use Rattle.kp_run.specs.Due.{AnswersTrees, IsOrdinary, Answers, on_trees, AnswersFiles}
 use Rattle.kp_run.specs.Ends.{Puts, Tells, files_of, with_both}
 use Rattle.kp_run.specs.Reports.{status_of, printed_of, HasItsText, HasFiles, IsTranslatedFrom}
-use Rattle.kp_run.specs.Results.{prints, translates, usage, refused, translated, ComesTo, HasOneResult}
+use Rattle.kp_run.specs.Results.{prints, translates, HoldsTrees, usage, refused, clashed, translated, ComesTo, HasOneResult}
 use Rattle.kp_run.proofs.Reporting.{one_command}
-use Rattle.kp_run.proofs.OneAnswer.{same_domain, same_problem, files_once}
+use Rattle.kp_run.proofs.OneAnswer.{refused_or_read, files_once}
+use Rattle.kp_run.proofs.Translated.{same_translation, same_clash}
+use Rattle.kp_run.proofs.Ordinary.{ordinary_text, no_clash_in_texts}
 
 -- ---- a run came to its result
 
@@ -37,20 +39,20 @@ usage_result words held files told_old told_new report fo fn D s none is told = 
   text_is = subst (Tells D report told_old told_new fo fn) is told;
 }
 
--- the two trees of files on which Done is the answer
-record IsOnTrees (domain problem : List ℕ) : Type 0 where
+-- the two trees of files on which an answer is no refusal of texts
+record IsOnTrees (domain problem : List ℕ) (s : Status) : Type 0 where
   first : Domain Word
   second : Problem Word
   trees : HaveTrees domain problem first second
-  plain : ArePlainTexts domain problem first second
-  consistent : HasInitialState second
+  answer : AnswersTrees first second s
 
-on_trees : (domain problem : List ℕ) (s : Status) → Answers domain problem s → s ≡ status.Done → IsOnTrees domain problem
-on_trees domain problem _ (Answers.refused r a) e = absurd cc
-on_trees domain problem _ (no_plain_domain d p h a) e = absurd cc
-on_trees domain problem _ (no_plain_problem d p h i a) e = absurd cc
-on_trees domain problem _ (no_initial_state d p h i a) e = absurd cc
-on_trees domain problem _ (done d p h i a) e = record { first = d; second = p; trees = h; plain = i; consistent = a }
+done_on_trees : (domain problem : List ℕ) (s : Status) → Answers domain problem s → s ≡ status.Done → IsOnTrees domain problem s
+done_on_trees domain problem _ (Answers.refused r a) e = absurd cc
+done_on_trees domain problem s (on_trees d p _ h a) e = record { first = d; second = p; trees = h; answer = a }
+
+clash_on_trees : (domain problem : List ℕ) (s : Status) (c : ClashAt) → Answers domain problem s → s ≡ status.Refused (refusals.Clash c) → IsOnTrees domain problem s
+clash_on_trees domain problem _ c (Answers.refused r a) e = absurd (no_clash_in_texts domain problem r c a (let f : r ≡ refusals.Clash c = cc in f))
+clash_on_trees domain problem s c (on_trees d p _ h a) e = record { first = d; second = p; trees = h; answer = a }
 
 no_translation : Translation
 no_translation = record { domain = []; problem = []; report = [] }
@@ -61,18 +63,28 @@ pub report_result : (words : List (Vec ℕ Global)) (held : FileMap) (c : Comman
     → ((t : Translation) → HasFiles r t → Puts D c (files_of t) files_old files_new go gn s) → Tells T (printed_of r) told_old told_new fo fn s → ComesTo words held files_old files_new told_old told_new s
 report_result words held c (reports.Refused x text) files_old files_new told_old told_new fo fn go gn D T s is own answers made e puts told = record {
   outcome = prints (status.Refused x) (refusal_text x);
-  is_result = refused c x is answers;
+  is_result = refused c x is own.1 answers;
   status_is = e;
   puts_are = subst (Puts D c (files_of no_translation) files_old files_new go gn) e (puts no_translation tt);
-  text_is = subst (Tells T text told_old told_new fo fn) e told;
+  text_is = subst (Tells T text told_old told_new fo fn) e told ∙ ap (with_bytes told_old) (ordinary_text text x own.1);
 }
+report_result words held c (reports.Clash at text) files_old files_new told_old told_new fo fn go gn D T s is own answers made e puts told =
+    let on = clash_on_trees answers.domain answers.problem (status.Refused (refusals.Clash at)) at answers.answers refl in
+    let same : text ≡ clash_text (ground_of on.first on.second) at = made answers.domain answers.problem answers.domain_held answers.problem_held on.first on.second on.trees in
+    let printed = subst (Tells T text told_old told_new fo fn) e told in record {
+      outcome = prints (status.Refused (refusals.Clash at)) (clash_text (ground_of on.first on.second) at);
+      is_result = clashed c on.first on.second at is (record { domain = answers.domain; problem = answers.problem; domain_held = answers.domain_held; problem_held = answers.problem_held; trees = on.trees }) on.answer;
+      status_is = e;
+      puts_are = subst (Puts D c (files_of no_translation) files_old files_new go gn) e (puts no_translation tt);
+      text_is = printed ∙ ap (with_bytes told_old) same;
+    }
 report_result words held c (reports.Done t) files_old files_new told_old told_new fo fn go gn D T s is own answers made e puts told =
-    let on = on_trees answers.domain answers.problem status.Done answers.answers refl in
-    let same : t ≡ translation_of on.first on.second = made answers.domain answers.problem answers.domain_held answers.problem_held on.first on.second on.trees on.plain in
+    let on = done_on_trees answers.domain answers.problem status.Done answers.answers refl in
+    let same : t ≡ translation_of on.first on.second = made answers.domain answers.problem answers.domain_held answers.problem_held on.first on.second on.trees in
     let put = subst (Puts D c (files_of t) files_old files_new go gn) e (puts t refl) in
     let text = subst (Tells T t.report told_old told_new fo fn) e told in record {
       outcome = translates c (translation_of on.first on.second);
-      is_result = translated c answers.domain answers.problem on.first on.second is answers.domain_held answers.problem_held on.trees on.plain on.consistent;
+      is_result = translated c on.first on.second is (record { domain = answers.domain; problem = answers.problem; domain_held = answers.domain_held; problem_held = answers.problem_held; trees = on.trees }) on.answer;
       status_is = e;
       puts_are = put ∙ ap (λ (u : Translation). with_both files_old c (files_of u)) same;
       text_is = text ∙ ap (λ (u : Translation). with_bytes told_old u.report) same;
@@ -80,28 +92,51 @@ report_result words held c (reports.Done t) files_old files_new told_old told_ne
 
 -- ---- one result
 
--- a command with a refusal and with a translation would have two answers
-no_refusal : (held : FileMap) (c : Command) (r : Refused) (domain problem : List ℕ) (d : Domain Word) (p : Problem Word) → AnswersFiles held c (status.Refused r) → get held c.domain ≡ Some domain → get held c.problem ≡ Some problem
-    → HaveTrees domain problem d p → ArePlainTexts domain problem d p → HasInitialState p → ⊥
-no_refusal held c r domain problem d p a first second h i none =
-    let one : status.Refused r ≡ status.Done = files_once held c (status.Refused r) status.Done a (record { domain = domain; problem = problem; domain_held = first; problem_held = second; answers = done d p h i none }) in absurd cc
+-- what is answered on the trees is answered on the files
+pub answers_held : (held : FileMap) (c : Command) (d : Domain Word) (p : Problem Word) (s : Status) → HoldsTrees held c d p → AnswersTrees d p s → AnswersFiles held c s
+answers_held held c d p s h a = record { domain = h.domain; problem = h.problem; domain_held = h.domain_held; problem_held = h.problem_held; answers = on_trees d p s h.trees a }
 
-same_translation : (domain problem : List ℕ) (d e : Domain Word) (p q : Problem Word) → HaveTrees domain problem d p → HaveTrees domain problem e q → translation_of d p ≡ translation_of e q
-same_translation domain problem d e p q h k = ap (λ x. translation_of x p) (same_domain domain problem d e p q h k) ∙ ap (translation_of e) (same_problem domain problem d e p q h k)
+-- two answers on the files of the words are the same
+same_answer : (words : List (Vec ℕ Global)) (held : FileMap) (c e : Command) (s t : Status) → IsCommand words c → IsCommand words e → AnswersFiles held c s → AnswersFiles held e t → s ≡ t
+same_answer words held c e s t is so a b = files_once held e s t (subst (λ x. AnswersFiles held x s) (one_command words c e is so) a) b
+
+-- both have the same texts, and so what is written and printed
+same_held : (words : List (Vec ℕ Global)) (held : FileMap) (c e : Command) (d f : Domain Word) (p q : Problem Word) → IsCommand words c → IsCommand words e → HoldsTrees held c d p → (k : HoldsTrees held e f q) → HaveTrees k.domain k.problem d p
+same_held words held c e d f p q is so h k =
+    let moved = subst (λ x. HoldsTrees held x d p) (one_command words c e is so) h in
+    let domains : moved.domain ≡ k.domain = cc (moved.domain_held, k.domain_held) in
+    let problems : moved.problem ≡ k.problem = cc (moved.problem_held, k.problem_held) in
+    subst (λ z. HaveTrees k.domain z d p) problems (subst (λ z. HaveTrees z moved.problem d p) domains moved.trees)
+
+-- no ordinary refusal is a clash
+apart : (r : Refused) (c : ClashAt) → IsOrdinary r → status.Refused r ≡ status.Refused (refusals.Clash c) → ⊥
+apart r c may e = go r (let f : r ≡ refusals.Clash c = cc in f) may
+  where
+    go : (x : Refused) → x ≡ refusals.Clash c → IsOrdinary x → ⊥
+    go _ refl m = m
 
 pub one_result : HasOneResult
 one_result words held _ _ (usage a) (usage b) = refl
-one_result words held _ _ (usage a) (refused d t k b) = absurd (a d k)
-one_result words held _ _ (usage a) (translated d x y e q k first second h i none) = absurd (a d k)
-one_result words held _ _ (refused c r is a) (usage b) = absurd (b c is)
-one_result words held _ _ (refused c r is a) (refused d t k b) =
-    let same : status.Refused r ≡ status.Refused t = files_once held d _ _ (subst (λ x. AnswersFiles held x (status.Refused r)) (one_command words c d is k) a) b in
+one_result words held _ _ (usage a) (refused d t k m b) = absurd (a d k)
+one_result words held _ _ (usage a) (clashed c d p at k h b) = absurd (a c k)
+one_result words held _ _ (usage a) (translated c d p k h b) = absurd (a c k)
+one_result words held _ _ (refused c r is m a) (usage b) = absurd (b c is)
+one_result words held _ _ (refused c r is m a) (refused d t k n b) =
+    let same = same_answer words held c d _ _ is k a b in
     let it : r ≡ t = cc in ap (λ x. prints (status.Refused x) (refusal_text x)) it
-one_result words held _ _ (refused c r is a) (translated d x y e q k first second h i none) = absurd (no_refusal held d r x y e q (subst (λ z. AnswersFiles held z (status.Refused r)) (one_command words c d is k) a) first second h i none)
-one_result words held _ _ (translated c x y d p is first second h i none) (usage b) = absurd (b c is)
-one_result words held _ _ (translated c x y d p is first second h i none) (refused e t k b) = absurd (no_refusal held c t x y d p (subst (λ z. AnswersFiles held z (status.Refused t)) (one_command words e c k is) b) first second h i none)
-one_result words held _ _ (translated c x y d p is first second h i none) (translated e v w f q k third fourth j l some) =
-    let same = one_command words c e is k in
-    let domains : x ≡ v = cc in
-    let problems : y ≡ w = cc in
-    ap (λ z. translates z (translation_of d p)) same ∙ ap (translates e) (same_translation v w d f p q (subst (λ z. HaveTrees v z d p) problems (subst (λ z. HaveTrees z y d p) domains h)) j)
+one_result words held _ _ (refused c r is m a) (clashed e d p at k h b) = absurd (apart r at m (same_answer words held c e _ _ is k a (answers_held held e d p _ h b)))
+one_result words held _ _ (refused c r is m a) (translated e d p k h b) = absurd (let same = same_answer words held c e _ _ is k a (answers_held held e d p _ h b) in cc)
+one_result words held _ _ (clashed c d p at is h a) (usage b) = absurd (b c is)
+one_result words held _ _ (clashed c d p at is h a) (refused e t k n b) = absurd (apart t at n (same_answer words held e c _ _ k is b (answers_held held c d p _ h a)))
+one_result words held _ _ (clashed c d p at is h a) (clashed e f q there k i b) =
+    let same = same_answer words held c e _ _ is k (answers_held held c d p _ h a) (answers_held held e f q _ i b) in
+    let it : at ≡ there = cc in
+    ap (λ x. prints (status.Refused (refusals.Clash x)) (clash_text (ground_of d p) x)) it
+    ∙ ap (prints (status.Refused (refusals.Clash there))) (same_clash i.domain i.problem d f p q there (same_held words held c e d f p q is k h i) i.trees)
+one_result words held _ _ (clashed c d p at is h a) (translated e f q k i b) = absurd (let same = same_answer words held c e _ _ is k (answers_held held c d p _ h a) (answers_held held e f q _ i b) in cc)
+one_result words held _ _ (translated c d p is h a) (usage b) = absurd (b c is)
+one_result words held _ _ (translated c d p is h a) (refused e t k n b) = absurd (let same = same_answer words held c e _ _ is k (answers_held held c d p _ h a) b in cc)
+one_result words held _ _ (translated c d p is h a) (clashed e f q at k i b) = absurd (let same = same_answer words held c e _ _ is k (answers_held held c d p _ h a) (answers_held held e f q _ i b) in cc)
+one_result words held _ _ (translated c d p is h a) (translated e f q k i b) =
+    ap (λ z. translates z (translation_of d p)) (one_command words c e is k)
+    ∙ ap (translates e) (same_translation i.domain i.problem d f p q (same_held words held c e d f p q is k h i) i.trees)

@@ -1,5 +1,5 @@
 -- What a run that ended with Done put is sound.
-use Rattle.std.proofs.Common.{◌≡◌, ◌≢◌, ℕ, cond, List, Option, Some, Vec, sym, ap, subst, ◌∙◌}
+use Rattle.std.proofs.Common.{◌≡◌, ◌≢◌, ℕ, cond, List, Option, Some, Vec, refl, sym, ap, subst, ◌∙◌}
 use Rattle.std.proofs.lemmas.Bool.{false_from_ne_true}
 use Rattle.std.proofs.lemmas.Map.Text.{is_eq-slice_cmp}
 use Rattle.std.specs.Cmp.Lexicographic.{nat_list_cmp_total}
@@ -8,13 +8,20 @@ use Rattle.std.specs.declared.alloc.Global.{Global}
 use Rattle.kp_base.proofs.Lists.{same-true, same-refl}
 use Rattle.kp_outside.specs.Outside.{FileMap}
 use Rattle.kp_given.specs.Translations.{translation_of}
-use Rattle.kp_given.specs.Laws.{HasInitialState, HasThisProblem}
-use Rattle.kp_given.proofs.PlainFiles.{files_have_a_problem}
-use Rattle.kp_sound.proofs.PlainFiles.{plain_files_sound}
+use Rattle.kp_base.specs.Clashes.{NeverClashes, HasNoClash, no_pairs}
+use Rattle.kp_machine.proofs.Apart.{never_clashes}
+use Rattle.kp_grammar.specs.declared.tree.Word.{Word}
+use Rattle.kp_grammar.specs.Trees.{Domain, Problem}
+use Rattle.kp_meaning.specs.Plans.{HasProblem}
+use Rattle.kp_given.specs.Laws.{HasInitialState}
+use Rattle.kp_given.specs.Translations.{ground_of, initial_of}
+use Rattle.kp_sound.proofs.Trees.{translations_sound}
+use Rattle.kp_run.specs.Texts.{HaveTrees}
+use Rattle.kp_run.specs.Due.{IsStarted, AnswersTrees, not_yet, too_large, no_initial_state, clash, done}
 use Rattle.kp_run.specs.declared.status.Status.{Status}
 use Rattle.kp_run.specs.declared.status.Status.TheVariants as status
 use Rattle.kp_run.specs.Command.{Command, IsCommand}
-use Rattle.kp_run.specs.Results.{Outcome, IsResult, usage, refused, translated, ComesTo, with_files}
+use Rattle.kp_run.specs.Results.{Outcome, HoldsTrees, IsResult, usage, refused, clashed, translated, ComesTo, with_files}
 use Rattle.kp_run.specs.Soundness.{IsSound}
 use Rattle.kp_outside.specs.declared.outside.OutsideStop.{OutsideStop}
 use Rattle.kp_outside.specs.declared.outside.OutsideStop.TheVariants as stops
@@ -35,26 +42,52 @@ under_another m name other content apart =
 
 -- ---- the result
 
+-- the problem of two texts that have these trees
+problem_of : (domain problem : List ℕ) (d : Domain Word) (p : Problem Word) → HaveTrees domain problem d p → HasProblem domain problem
+problem_of domain problem d p h = record {
+  domain = d;
+  problem = p;
+  domain_reads = record { tokens = h.domain_reads.tokens; cut = h.domain_reads.cut; reads = h.domain_reads.reads.reads };
+  problem_reads = record { tokens = h.problem_reads.tokens; cut = h.problem_reads.cut; reads = h.problem_reads.reads.reads };
+  no_fault = h.no_fault;
+}
+
+-- what Done says of the trees
+record IsDone (d : Domain Word) (p : Problem Word) : Type 0 where
+  initial : HasInitialState p
+  no_clash : HasNoClash no_pairs (ground_of d p)
+
+is_done : (d : Domain Word) (p : Problem Word) (s : Status) → AnswersTrees d p s → s ≡ status.Done → IsDone d p
+is_done d p _ (not_yet a) e = absurd cc
+is_done d p _ (too_large r a b) e = absurd cc
+is_done d p _ (no_initial_state a b c) e = absurd cc
+is_done d p _ (clash c a b) e = absurd cc
+is_done d p _ (done a b) e = record { initial = a.initial; no_clash = b }
+
 sound_result : (words : List (Vec ℕ Global)) (before after : FileMap) (c : Command) (o : Outcome) → IsCommand words c → IsResult words before o → o.status ≡ status.Done → Some after ≡ with_files (Some before) o.puts → IsSound before after c
 sound_result words before after c _ is (usage none) done puts = absurd cc
-sound_result words before after c _ is (refused d r so answers) done puts = absurd cc
-sound_result words before after c _ is (translated e domain problem d p so first second trees plain consistent) done puts =
+sound_result words before after c _ is (refused d r so may answers) done puts = absurd cc
+sound_result words before after c _ is (clashed d f p at so holds answers) done puts = absurd cc
+sound_result words before after c _ is (translated e d p so holds answers) done puts =
     subst (IsSound before after) (one_command words e c so is) (record {
-      domain = domain;
-      problem = problem;
+      domain = holds.domain;
+      problem = holds.problem;
       domain_out = (translation_of d p).domain;
       problem_out = (translation_of d p).problem;
-      domain_held = first;
-      problem_held = second;
-      has_problem = has.has;
-      initial_state = subst HasInitialState (sym has.problem) consistent;
+      domain_held = holds.domain_held;
+      problem_held = holds.problem_held;
+      has_problem = has;
+      initial_state = all_done.initial;
       domain_put = ap (λ m. get m e.domain_out) held ∙ (under_another (insert before e.domain_out (translation_of d p).domain) e.domain_out e.problem_out (translation_of d p).problem so.outputs_differ ∙ at_last before e.domain_out (translation_of d p).domain);
       problem_put = ap (λ m. get m e.problem_out) held ∙ at_last (insert before e.domain_out (translation_of d p).domain) e.problem_out (translation_of d p).problem;
-      plans = plain_files_sound domain problem d p plain;
+      plans = translations_sound holds.domain holds.problem has (never_clashes (ground_of d p) (initial_of d p) all_done.no_clash);
     })
   where
-    has : HasThisProblem domain problem d p
-    has = files_have_a_problem domain problem d p plain
+    has : HasProblem holds.domain holds.problem
+    has = problem_of holds.domain holds.problem d p holds.trees
+
+    all_done : IsDone d p
+    all_done = is_done d p status.Done answers refl
 
     held : after ≡ insert (insert before e.domain_out (translation_of d p).domain) e.problem_out (translation_of d p).problem
     held = cc

@@ -1,44 +1,63 @@
--- What a report has of a translation.
-use Rattle.std.proofs.Common.{◌≡◌, ℕ, List, Result, Ok, Err, IfOk, refl, ap, ◌∙◌}
+-- What a report has of a translation or a clash.
+use Rattle.std.proofs.Common.{◌≡◌, ℕ, List, Result, Ok, Err, IfOk, refl, sym, ap, ◌∙◌}
 use Rattle.kp_base.specs.declared.memory.Memory.{Memory}
+use Rattle.kp_base.specs.declared.ground.Ground.{Ground}
+use Rattle.kp_base.specs.declared.refused.ClashAt.{ClashAt}
 use Rattle.kp_base.specs.declared.refused.Refused.{Refused}
+use Rattle.kp_base.specs.declared.refused.Refused.TheVariants as refusals
 use Rattle.kp_grammar.specs.declared.tree.Word.{Word}
 use Rattle.kp_grammar.specs.Trees.{Domain, Problem}
 use Rattle.kp_texts.specs.declared.translation.Translation.{Translation}
-use Rattle.kp_plain.specs.Translations as made
-use Rattle.kp_given.specs.Translations.{translation_of}
-use Rattle.kp_given.proofs.PlainFiles.{files_are_plain}
-use Rattle.kp_given.proofs.Translated.{plain_translations}
+use Rattle.kp_given.specs.Translations.{ground_of, translation_of}
 use Rattle.kp_run.specs.declared.answer.Report.{Report}
 use Rattle.kp_run.specs.declared.answer.Report.TheVariants as reports
 use Rattle.kp_run.specs.declared.status.Status.{Status}
 use Rattle.kp_run.specs.declared.status.Status.TheVariants as status
-use Rattle.kp_given.specs.PlainFiles.{ArePlainTexts, IsContradictory}
+use Rattle.kp_run.specs.Due.{IsOrdinary}
 use Rattle.kp_run.specs.Texts.{HaveTrees}
-use Rattle.kp_run.specs.Printed.{text_of}
+use Rattle.kp_run.specs.Printed.{clash_text, text_of}
 use Rattle.kp_run.specs.Reports.{status_of, printed_of, HasItsText, HasFiles, IsTranslated}
 use Rattle.kp_run.proofs.OneAnswer.{same_domain, same_problem}
 
-refused_one : (d p : List ℕ) (r : Report) (x : Refused) → status_of r ≡ status.Refused x → IsTranslated d p r
-refused_one d p (reports.Refused y text) x e = tt
-refused_one d p (reports.Done t) x e = absurd cc
-
 -- a refusal has no translation
-pub refused_is : (d p : List ℕ) (result : Result Report Memory) (x : Refused) → IfOk result (λ r. HasItsText r × (status_of r ≡ status.Refused x)) → IfOk result (IsTranslated d p)
-refused_is d p (Ok r) x h = refused_one d p r x h.1
-refused_is d p (Err e) x h = tt
+pub refused_is : (d p : List ℕ) (result : Result Report Memory) (x : Refused) → IfOk result (λ r. HasItsText r × (status_of r ≡ status.Refused x)) → IsOrdinary x → IfOk result (IsTranslated d p)
+refused_is d p (Ok (reports.Refused y text)) x h may = tt
+refused_is d p (Ok (reports.Clash at text)) x h may = absurd (clash_is_none at x (refused_same h.1) may)
+  where
+    refused_same : status.Refused (refusals.Clash at) ≡ status.Refused x → refusals.Clash at ≡ x
+    refused_same e = cc
 
--- the translation of the trees that were read is that of all trees of the texts
-pub translated : (domain problem : List ℕ) (d : Domain Word) (p : Problem Word) (t : Translation) → HaveTrees domain problem d p → ArePlainTexts domain problem d p → (IsContradictory p.init → ⊥) → t ≡ made.translation_of d p → IsTranslated domain problem (reports.Done t)
-translated domain problem d p t trees plain consistent e = λ f q others also.
-    (e ∙ plain_translations d p (files_are_plain domain problem d p plain) consistent)
-    ∙ (ap (λ x. translation_of x p) (same_domain domain problem d f p q trees others) ∙ ap (translation_of f) (same_problem domain problem d f p q trees others))
+    clash_is_none : (c : ClashAt) (y : Refused) → refusals.Clash c ≡ y → IsOrdinary y → ⊥
+    clash_is_none c _ refl m = m
+refused_is d p (Ok (reports.Done t)) x h may = absurd (cc h.1)
+refused_is d p (Err e) x h may = tt
 
-pub has_files : (domain problem : List ℕ) (r : Report) (d : Domain Word) (p : Problem Word) → HaveTrees domain problem d p → ArePlainTexts domain problem d p → IsTranslated domain problem r → HasFiles r (translation_of d p)
-has_files domain problem (reports.Refused x text) d p trees plain h = tt
-has_files domain problem (reports.Done t) d p trees plain h = h d p trees plain
+same_ground : (domain problem : List ℕ) (d e : Domain Word) (p q : Problem Word) → HaveTrees domain problem d p → HaveTrees domain problem e q → ground_of d p ≡ ground_of e q
+same_ground domain problem d e p q h k = ap (λ x. ground_of x p) (same_domain domain problem d e p q h k) ∙ ap (ground_of e) (same_problem domain problem d e p q h k)
 
--- the text of the report's answer
-pub same_text : (r : Report) (t : Translation) → HasFiles r t → (s : Status) → s ≡ status_of r → text_of (printed_of r) s ≡ text_of t.report s
-same_text (reports.Refused x text) t h s e = rw e refl
-same_text (reports.Done u) t h s e = ap (λ (v : Translation). text_of v.report s) h
+pub same_translation : (domain problem : List ℕ) (d e : Domain Word) (p q : Problem Word) → HaveTrees domain problem d p → HaveTrees domain problem e q → translation_of d p ≡ translation_of e q
+same_translation domain problem d e p q h k = ap (λ x. translation_of x p) (same_domain domain problem d e p q h k) ∙ ap (translation_of e) (same_problem domain problem d e p q h k)
+
+pub same_clash : (domain problem : List ℕ) (d e : Domain Word) (p q : Problem Word) (c : ClashAt) → HaveTrees domain problem d p → HaveTrees domain problem e q → clash_text (ground_of d p) c ≡ clash_text (ground_of e q) c
+same_clash domain problem d e p q c h k = ap (λ (g : Ground). clash_text g c) (same_ground domain problem d e p q h k)
+
+-- the files of a report whose answer is Done
+pub has_files : (domain problem : List ℕ) (r : Report) (d : Domain Word) (p : Problem Word) → HaveTrees domain problem d p → IsTranslated domain problem r → HasFiles r (translation_of d p)
+has_files domain problem (reports.Refused x text) d p trees h = tt
+has_files domain problem (reports.Clash at text) d p trees h = tt
+has_files domain problem (reports.Done t) d p trees h = h d p trees
+
+-- the text of the report's answer, where it is no clash
+pub same_text : (r : Report) (t : Translation) → HasItsText r → HasFiles r t → status_of r ≡ status.Done → (s : Status) → s ≡ status_of r → text_of (printed_of r) s ≡ text_of t.report s
+same_text (reports.Refused x text) t own h done s e = absurd cc
+same_text (reports.Clash at text) t own h done s e = absurd cc
+same_text (reports.Done u) t own h done s e = ap (λ (v : Translation). text_of v.report s) h
+
+-- the text of a report whose answer is a clash
+pub clash_printed : (domain problem : List ℕ) (r : Report) (d : Domain Word) (p : Problem Word) (c : ClashAt) → HaveTrees domain problem d p → HasItsText r → IsTranslated domain problem r → status_of r ≡ status.Refused (refusals.Clash c) → printed_of r ≡ clash_text (ground_of d p) c
+clash_printed domain problem (reports.Refused x text) d p c trees own h e = absurd (no_clash x (let f : x ≡ refusals.Clash c = cc in f) own.1)
+  where
+    no_clash : (x : Refused) → x ≡ refusals.Clash c → IsOrdinary x → ⊥
+    no_clash _ refl m = m
+clash_printed domain problem (reports.Clash at text) d p c trees own h e = h d p trees ∙ ap (clash_text (ground_of d p)) (let f : at ≡ c = cc in f)
+clash_printed domain problem (reports.Done t) d p c trees own h e = absurd cc

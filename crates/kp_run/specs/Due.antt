@@ -1,30 +1,53 @@
 -- Which answer is due: by the words, and by what the files hold when the command begins.
-use Rattle.std.specs.Prelude.{◌≡◌, List, ℕ, Option, Some, Vec}
+use Rattle.std.specs.Prelude.{◌≡◌, List, ℕ, Option, Some, None, Vec}
 use Rattle.std.specs.FinMap.{get}
 use Rattle.std.specs.declared.alloc.Global.{Global}
+use Rattle.kp_base.specs.declared.limits.Limits.{Limits}
+use Rattle.kp_base.specs.declared.refused.ClashAt.{ClashAt}
 use Rattle.kp_base.specs.declared.refused.Part.{Part}
 use Rattle.kp_base.specs.declared.refused.Part.TheVariants as parts
 use Rattle.kp_base.specs.declared.refused.Refused.{Refused}
 use Rattle.kp_base.specs.declared.refused.Refused.TheVariants as refusals
+use Rattle.kp_base.specs.Clashes.{no_pairs, HasNoClash, IsFirstClash}
 use Rattle.kp_grammar.specs.declared.tree.Word.{Word}
 use Rattle.kp_grammar.specs.Trees as trees
-use Rattle.kp_forms.specs.Plain.{plain_domain, plain_problem}
-use Rattle.kp_forms.specs.PlainTexts.{IsPlain}
+use Rattle.kp_meaning.specs.Numbering.{numbered_problem}
+use Rattle.kp_names.specs.Resolved.{first_unsure}
+use Rattle.kp_ground.specs.Grounded.{IsGrounded, RefusesGround}
+use Rattle.kp_given.specs.Laws.{HasInitialState}
+use Rattle.kp_given.specs.Translations.{ground_of}
 use Rattle.kp_outside.specs.Outside.{FileMap}
 use Rattle.kp_run.specs.declared.status.Status.{Status}
 use Rattle.kp_run.specs.declared.status.Status.TheVariants as status
 use Rattle.kp_run.specs.Command.{Command, IsCommand, IsNoCommand}
-use Rattle.kp_given.specs.PlainFiles.{ArePlainTexts}
-use Rattle.kp_given.specs.Laws.{HasInitialState}
 use Rattle.kp_run.specs.Texts.{HaveTrees, RefusesTexts}
 
--- the answer on two texts: the first of these that holds, and only one of them does
+-- how large a problem may be
+abbrev pub usual : Limits
+usual = record { bindings = 1000000; atoms = 4096; actions = 20000; weight = 4000000; tags = 4096; sets = 1000000; facts = 262144; task_weight = 16000000 }
+
+-- no `oneof`, `or` or `unknown` stands in `:init`
+abbrev pub LeavesNothingOpen : trees.Problem Word → Type 0
+LeavesNothingOpen p = first_unsure p.init ≡ None
+
+-- the ground problem of the trees is within the limits, and some state is initial
+pub record IsStarted (d : trees.Domain Word) (p : trees.Problem Word) : Type 0 where
+  pub certain : LeavesNothingOpen p
+  pub within : IsGrounded (numbered_problem d p) usual (ground_of d p)
+  pub initial : HasInitialState p
+
+-- the answer on two trees in which no name is at fault: the first of these that holds, and only one of them does
+pub data AnswersTrees (d : trees.Domain Word) (p : trees.Problem Word) : Status → Type 0 where
+  not_yet : (LeavesNothingOpen p → ⊥) → AnswersTrees d p (status.Refused (refusals.NotYet parts.Problem))
+  too_large : (r : Refused) → LeavesNothingOpen p → RefusesGround (numbered_problem d p) usual r → AnswersTrees d p (status.Refused r)
+  no_initial_state : LeavesNothingOpen p → IsGrounded (numbered_problem d p) usual (ground_of d p) → (HasInitialState p → ⊥) → AnswersTrees d p (status.Refused refusals.NoInitialState)
+  clash : (c : ClashAt) → IsStarted d p → IsFirstClash no_pairs (ground_of d p) c → AnswersTrees d p (status.Refused (refusals.Clash c))
+  done : IsStarted d p → HasNoClash no_pairs (ground_of d p) → AnswersTrees d p status.Done
+
+-- the answer on two texts
 pub data Answers (domain problem : List ℕ) : Status → Type 0 where
   refused : (r : Refused) → RefusesTexts domain problem r → Answers domain problem (status.Refused r)
-  no_plain_domain : (d : trees.Domain Word) (p : trees.Problem Word) → HaveTrees domain problem d p → ((e : trees.Domain Word) → IsPlain plain_domain domain e → ⊥) → Answers domain problem (status.Refused (refusals.NotYet parts.Domain))
-  no_plain_problem : (d : trees.Domain Word) (p : trees.Problem Word) → HaveTrees domain problem d p → IsPlain plain_domain domain d → ((q : trees.Problem Word) → IsPlain plain_problem problem q → ⊥) → Answers domain problem (status.Refused (refusals.NotYet parts.Problem))
-  no_initial_state : (d : trees.Domain Word) (p : trees.Problem Word) → HaveTrees domain problem d p → ArePlainTexts domain problem d p → (HasInitialState p → ⊥) → Answers domain problem (status.Refused refusals.NoInitialState)
-  done : (d : trees.Domain Word) (p : trees.Problem Word) → HaveTrees domain problem d p → ArePlainTexts domain problem d p → HasInitialState p → Answers domain problem status.Done
+  on_trees : (d : trees.Domain Word) (p : trees.Problem Word) (s : Status) → HaveTrees domain problem d p → AnswersTrees d p s → Answers domain problem s
 
 -- the answer on the files of a command, which are held
 pub record AnswersFiles (held : FileMap) (c : Command) (s : Status) : Type 0 where
@@ -40,19 +63,28 @@ IsGivenFile parts.Domain = Unit {0}
 IsGivenFile parts.Problem = Unit {0}
 IsGivenFile _ = ⊥
 
+-- a refusal that `translate` may give, but for a clash
+abbrev pub IsOrdinary : Refused → Type 0
+IsOrdinary (refusals.TooLong part) = IsGivenFile part
+IsOrdinary (refusals.BadToken place) = IsGivenFile place.part
+IsOrdinary (refusals.Syntax place) = IsGivenFile place.part
+IsOrdinary (refusals.Unsupported place) = IsGivenFile place.part
+IsOrdinary (refusals.UnknownName place) = IsGivenFile place.part
+IsOrdinary (refusals.DeclaredTwice place) = IsGivenFile place.part
+IsOrdinary (refusals.WrongUse place) = IsGivenFile place.part
+IsOrdinary (refusals.NotYet part) = IsGivenFile part
+IsOrdinary refusals.BindingsOver = Unit {0}
+IsOrdinary refusals.ActionsOver = Unit {0}
+IsOrdinary refusals.EffectsOver = Unit {0}
+IsOrdinary refusals.AtomsOver = Unit {0}
+IsOrdinary refusals.NoInitialState = Unit {0}
+IsOrdinary _ = ⊥
+
 -- an answer that `translate` may give
-abbrev pub IsOfTranslate : Status → Type 0
-IsOfTranslate status.Done = Unit {0}
-IsOfTranslate (status.Refused (refusals.TooLong part)) = IsGivenFile part
-IsOfTranslate (status.Refused (refusals.BadToken place)) = IsGivenFile place.part
-IsOfTranslate (status.Refused (refusals.Syntax place)) = IsGivenFile place.part
-IsOfTranslate (status.Refused (refusals.Unsupported place)) = IsGivenFile place.part
-IsOfTranslate (status.Refused (refusals.UnknownName place)) = IsGivenFile place.part
-IsOfTranslate (status.Refused (refusals.DeclaredTwice place)) = IsGivenFile place.part
-IsOfTranslate (status.Refused (refusals.WrongUse place)) = IsGivenFile place.part
-IsOfTranslate (status.Refused (refusals.NotYet part)) = IsGivenFile part
-IsOfTranslate (status.Refused refusals.NoInitialState) = Unit {0}
-IsOfTranslate _ = ⊥
+pub data IsOfTranslate : Status → Type 0 where
+  of_done : IsOfTranslate status.Done
+  of_refusal : (r : Refused) → IsOrdinary r → IsOfTranslate (status.Refused r)
+  of_clash : (c : ClashAt) → IsOfTranslate (status.Refused (refusals.Clash c))
 
 -- the answer that is due: Usage where the words are no command; else an answer of the command, which is the one on its files where it is told what they hold
 pub data IsDue (words : List (Vec ℕ Global)) (held : Option FileMap) : Status → Type 0 where

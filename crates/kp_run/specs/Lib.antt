@@ -4,7 +4,6 @@ pub mod Texts
 pub mod Due
 pub mod Ends
 pub mod Numbers
-pub mod Among
 pub mod Reports
 pub mod Results
 pub mod Soundness

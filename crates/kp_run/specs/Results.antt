@@ -4,18 +4,18 @@ use Rattle.std.specs.FinMap.{get}
 use Rattle.std.specs.declared.alloc.Global.{Global}
 use Rattle.kp_grammar.specs.declared.tree.Word.{Word}
 use Rattle.kp_grammar.specs.Trees as trees
+use Rattle.kp_base.specs.declared.refused.ClashAt.{ClashAt}
 use Rattle.kp_base.specs.declared.refused.Refused.{Refused}
+use Rattle.kp_base.specs.declared.refused.Refused.TheVariants as refusals
 use Rattle.kp_outside.specs.Outside.{FileMap, with_file, with_bytes}
 use Rattle.kp_texts.specs.declared.translation.Translation.{Translation}
-use Rattle.kp_given.specs.Translations.{translation_of}
+use Rattle.kp_given.specs.Translations.{ground_of, translation_of}
 use Rattle.kp_run.specs.declared.status.Status.{Status}
 use Rattle.kp_run.specs.declared.status.Status.TheVariants as status
 use Rattle.kp_run.specs.Command.{Command, IsCommand, IsNoCommand}
-use Rattle.kp_given.specs.PlainFiles.{ArePlainTexts}
-use Rattle.kp_given.specs.Laws.{HasInitialState}
 use Rattle.kp_run.specs.Texts.{HaveTrees}
-use Rattle.kp_run.specs.Due.{AnswersFiles}
-use Rattle.kp_run.specs.Printed.{usage_text, refusal_text}
+use Rattle.kp_run.specs.Due.{AnswersTrees, IsOrdinary, AnswersFiles}
+use Rattle.kp_run.specs.Printed.{usage_text, refusal_text, clash_text}
 
 -- a content that is put under a name
 pub record FilePut : Type 0 where
@@ -40,12 +40,20 @@ translates c t = record {
   puts = record { name = c.domain_out; content = t.domain } ∷ record { name = c.problem_out; content = t.problem } ∷ [];
 }
 
--- The result of words on what is held: the usage, a refusal, or the translation of the two files' trees. Where a file isn't held there is none.
+-- the two held files of a command have these trees
+pub record HoldsTrees (held : FileMap) (c : Command) (d : trees.Domain Word) (p : trees.Problem Word) : Type 0 where
+  pub domain : List ℕ
+  pub problem : List ℕ
+  pub domain_held : get held c.domain ≡ Some domain
+  pub problem_held : get held c.problem ≡ Some problem
+  pub trees : HaveTrees domain problem d p
+
+-- The result of words on what is held: the usage, a refusal, a clash, or the translation of the two files' trees. Where a file isn't held there is none.
 pub data IsResult (words : List (Vec ℕ Global)) (held : FileMap) : Outcome → Type 0 where
   usage : IsNoCommand words → IsResult words held (prints status.Usage usage_text)
-  refused : (c : Command) (r : Refused) → IsCommand words c → AnswersFiles held c (status.Refused r) → IsResult words held (prints (status.Refused r) (refusal_text r))
-  translated : (c : Command) (domain problem : List ℕ) (d : trees.Domain Word) (p : trees.Problem Word) → IsCommand words c → get held c.domain ≡ Some domain → get held c.problem ≡ Some problem
-      → HaveTrees domain problem d p → ArePlainTexts domain problem d p → HasInitialState p → IsResult words held (translates c (translation_of d p))
+  refused : (c : Command) (r : Refused) → IsCommand words c → IsOrdinary r → AnswersFiles held c (status.Refused r) → IsResult words held (prints (status.Refused r) (refusal_text r))
+  clashed : (c : Command) (d : trees.Domain Word) (p : trees.Problem Word) (at : ClashAt) → IsCommand words c → HoldsTrees held c d p → AnswersTrees d p (status.Refused (refusals.Clash at)) → IsResult words held (prints (status.Refused (refusals.Clash at)) (clash_text (ground_of d p) at))
+  translated : (c : Command) (d : trees.Domain Word) (p : trees.Problem Word) → IsCommand words c → HoldsTrees held c d p → AnswersTrees d p status.Done → IsResult words held (translates c (translation_of d p))
 
 -- what is held once the files are put
 abbrev pub with_files : Option FileMap → List FilePut → Option FileMap

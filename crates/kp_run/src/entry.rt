@@ -2,15 +2,16 @@ ghost use Rattle.std.specs.Prelude.{◌≡◌, ◌≢◌, ◌⊎◌, ℕ, List, 
 ghost use Rattle.std.specs.FinMap as map_of;
 ghost use Rattle.kp_grammar.specs.declared.tree.Word.{Word};
 ghost use Rattle.kp_grammar.specs.Trees as trees;
-ghost use Rattle.kp_given.specs.Translations.{translation_of};
-ghost use Rattle.kp_given.specs.PlainFiles.{ArePlainTexts};
+ghost use Rattle.kp_base.specs.declared.refused.ClashAt.{ClashAt};
+ghost use Rattle.kp_base.specs.declared.refused.Refused.TheVariants as refusals;
+ghost use Rattle.kp_given.specs.Translations.{ground_of, translation_of};
 ghost use Rattle.kp_outside.specs.declared.outside.OutsideStop.TheVariants as stops;
 ghost use Rattle.kp_outside.specs.Outside.{FileMap, Rises};
 ghost use Rattle.kp_run.specs.declared.status.Status.TheVariants as status;
 ghost use Rattle.kp_run.specs.Command.{Command as Names, IsCommand, IsNoCommand};
-ghost use Rattle.kp_run.specs.Due.{AnswersFiles, IsDue, IsOfTranslate};
-ghost use Rattle.kp_run.specs.Texts.{HaveTrees};
-ghost use Rattle.kp_run.specs.Results.{ComesTo};
+ghost use Rattle.kp_run.specs.Due.{AnswersTrees, AnswersFiles, IsDue};
+ghost use Rattle.kp_run.specs.Printed.{clash_text};
+ghost use Rattle.kp_run.specs.Results.{HoldsTrees, ComesTo};
 ghost use Rattle.kp_run.specs.Soundness.{IsSound};
 ghost use Rattle.kp_run.specs.Ends.{IsAnswer, GetFailed, PutFailed, Files, Puts, Tells, PutsAndTells};
 ghost use Rattle.kp_run.specs.Reports.{status_of, CountsGets, HasItsText, IsTranslatedFrom};
@@ -89,10 +90,12 @@ pub fn run<S: Shelf, O: Sink>(
         → Rises (S.get_faults shelf.old c.domain) (S.get_faults shelf.new c.domain) }
     // What is held afterwards.
     ensures puts { (c : Names) → IsCommand words.now c → (files : Files) × Puts (IsDue words.now (S.contents shelf.old) status.Done) c files (S.contents shelf.old) (S.contents shelf.new) (S.put_faults shelf.old) (S.put_faults shelf.new) result }
-    // Where it is told what the files hold, what is put and printed, as far as the run came, is the translation of their trees; files are put only where Done is due.
-    ensures translated { (m : FileMap) (c : Names) (domain problem : List ℕ) (d : trees.Domain Word) (p : trees.Problem Word) → S.contents shelf.old ≡ Some m → IsCommand words.now c
-        → map_of.get m c.domain ≡ Some domain → map_of.get m c.problem ≡ Some problem → HaveTrees domain problem d p → ArePlainTexts domain problem d p
+    // Where the files have a translation, what is put and printed, as far as the run came, is that; files are put only where Done is due.
+    ensures translated { (m : FileMap) (c : Names) (d : trees.Domain Word) (p : trees.Problem Word) → S.contents shelf.old ≡ Some m → IsCommand words.now c → HoldsTrees m c d p → AnswersTrees d p status.Done
         → PutsAndTells (IsDue words.now (S.contents shelf.old)) c (translation_of d p) (S.contents shelf.old) (S.contents shelf.new) (S.put_faults shelf.old) (S.put_faults shelf.new) (O.told out.old) (O.told out.new) (O.faults out.old) (O.faults out.new) result }
+    // Where an action of theirs clashes, what is printed, as far as the run came, are the lines of the first clash.
+    ensures clash { (m : FileMap) (c : Names) (d : trees.Domain Word) (p : trees.Problem Word) (at : ClashAt) → S.contents shelf.old ≡ Some m → IsCommand words.now c → HoldsTrees m c d p → AnswersTrees d p (status.Refused (refusals.Clash at))
+        → Tells (IsDue words.now (S.contents shelf.old)) (clash_text (ground_of d p) at) (O.told out.old) (O.told out.new) (O.faults out.old) (O.faults out.new) result }
     ensures puts_nothing { IsNoCommand words.now → S.contents shelf.new ≡ S.contents shelf.old }
     // What was told.
     ensures told { (report : List ℕ) × Tells (IsDue words.now (S.contents shelf.old)) report (O.told out.old) (O.told out.new) (O.faults out.old) (O.faults out.new) result }

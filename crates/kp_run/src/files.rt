@@ -6,26 +6,15 @@ ghost use Rattle.kp_grammar.specs.Grammar as grammar;
 ghost use Rattle.kp_grammar.specs.View.{domain_view, problem_view};
 ghost use Rattle.kp_outside.specs.Outside.{IsFront, IsWithin};
 ghost use Rattle.kp_tree.specs.Files.{Reads, AnswersFile};
-ghost use Rattle.kp_run.specs.Due.{IsOfTranslate};
-ghost use Rattle.kp_run.specs.Texts.{HaveTrees, RefusesTexts};
-ghost use Rattle.kp_run.specs.declared.status.Status.TheVariants as status;
+ghost use Rattle.kp_run.specs.Due.{IsOrdinary};
+ghost use Rattle.kp_run.specs.Reports.{IsProblemOf};
+ghost use Rattle.kp_run.specs.Texts.{RefusesTexts};
 
 use kp_base::{Part, Refused, Stop, Texts};
-use kp_names::resolve;
+use kp_names::{Lifted, resolve};
 use kp_outside::Got;
 use kp_tree::{Domain, Problem, read_domain, read_problem};
 use std::alloc::Global;
-
-/// What two files hold, and their trees, in which no name is at fault.
-#[derive(Drop)]
-pub struct Files {
-    /// The contents.
-    pub texts: Texts,
-    /// The tree of the domain.
-    pub domain: Domain,
-    /// The tree of the problem.
-    pub problem: Problem,
-}
 
 // The tree of a domain, at most 16,777,216 bytes of which were read.
 fn domain_of(alloc: Global, got: &Got) -> Result<Domain, Stop>
@@ -33,7 +22,7 @@ fn domain_of(alloc: Global, got: &Got) -> Result<Domain, Stop>
     ensures tree { IfOk result (λ d. Reads grammar.domain got.now.bytes (domain_view d)) }
     ensures whole { (text : List ℕ) → IsFront (Some text) 16777216 got.now → IfOk result (λ d. got.now.bytes ≡ text) }
     ensures front { (text : List ℕ) → IsFront (Some text) 16777216 got.now → AnswersFile parts.Domain grammar.domain domain_view text result }
-    ensures refusal { (r : Refusal) → result ≡ Err (stops.Refused r) → IsOfTranslate (status.Refused r) }
+    ensures refusal { (r : Refusal) → result ≡ Err (stops.Refused r) → IsOrdinary r }
 {
     if got.more {
         return Err(Stop::Refused(Refused::TooLong(Part::Domain)));
@@ -47,7 +36,7 @@ fn problem_of(alloc: Global, got: &Got) -> Result<Problem, Stop>
     ensures tree { IfOk result (λ p. Reads grammar.problem got.now.bytes (problem_view p)) }
     ensures whole { (text : List ℕ) → IsFront (Some text) 16777216 got.now → IfOk result (λ p. got.now.bytes ≡ text) }
     ensures front { (text : List ℕ) → IsFront (Some text) 16777216 got.now → AnswersFile parts.Problem grammar.problem problem_view text result }
-    ensures refusal { (r : Refusal) → result ≡ Err (stops.Refused r) → IsOfTranslate (status.Refused r) }
+    ensures refusal { (r : Refusal) → result ≡ Err (stops.Refused r) → IsOrdinary r }
 {
     if got.more {
         return Err(Stop::Refused(Refused::TooLong(Part::Problem)));
@@ -55,14 +44,13 @@ fn problem_of(alloc: Global, got: &Got) -> Result<Problem, Stop>
     read_problem(alloc, got.bytes.slice())
 }
 
-/// The trees of two files, at most 16,777,216 bytes of each of which were read.
-pub fn read_files(alloc: Global, domain: Got, problem: Got) -> Result<Files, Stop>
+/// The problem by number of two files, at most 16,777,216 bytes of each of which were read.
+pub fn read_files(alloc: Global, domain: Got, problem: Got) -> Result<Lifted, Stop>
     requires domain { IsWithin 16777216 domain }
     requires problem { IsWithin 16777216 problem }
-    ensures trees { IfOk result (λ f. HaveTrees f.texts.domain f.texts.problem (domain_view f.domain) (problem_view f.problem)) }
-    ensures whole { (d p : List ℕ) → IsFront (Some d) 16777216 domain → IsFront (Some p) 16777216 problem → IfOk result (λ f. (f.texts.domain ≡ d) × (f.texts.problem ≡ p)) }
+    ensures resolved { (d p : List ℕ) → IsFront (Some d) 16777216 domain → IsFront (Some p) 16777216 problem → IfOk result (IsProblemOf d p) }
     ensures refused { (d p : List ℕ) (r : Refusal) → IsFront (Some d) 16777216 domain → IsFront (Some p) 16777216 problem → result ≡ Err (stops.Refused r) → RefusesTexts d p r }
-    ensures refusal { (r : Refusal) → result ≡ Err (stops.Refused r) → IsOfTranslate (status.Refused r) }
+    ensures refusal { (r : Refusal) → result ≡ Err (stops.Refused r) → IsOrdinary r }
 {
     let domain_tree = domain_of(alloc, &domain)?;
     let problem_tree = problem_of(alloc, &problem)?;
@@ -70,10 +58,5 @@ pub fn read_files(alloc: Global, domain: Got, problem: Got) -> Result<Files, Sto
         domain: domain.bytes,
         problem: problem.bytes,
     };
-    resolve(alloc, &texts, &domain_tree, &problem_tree)?;
-    Ok(Files {
-        texts,
-        domain: domain_tree,
-        problem: problem_tree,
-    })
+    resolve(alloc, &texts, &domain_tree, &problem_tree)
 }

@@ -3,15 +3,14 @@
 #![tactic(auto)]
 
 mod answer;
+mod clash;
 mod command;
 mod entry;
-mod facts;
 mod files;
 mod law;
-mod names;
 mod outputs;
-mod plain;
 mod printed;
+mod start;
 mod status;
 
 pub use entry::run;

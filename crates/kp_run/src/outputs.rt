@@ -10,7 +10,7 @@ ghost use Rattle.kp_run.specs.Reports.{HasFiles, status_of, printed_of, stop_of,
 use crate::answer::Report;
 use crate::command::Command;
 use crate::status::Status;
-use kp_base::Row;
+use kp_base::{Refused, Row};
 use kp_outside::{OutsideStop, Shelf, Sink};
 use kp_texts::Translation;
 use std::alloc::Global;
@@ -93,6 +93,7 @@ pub fn finish<S: Shelf, O: Sink>(
 {
     match report {
         Report::Refused(refused, text) => end_with(alloc, out, &text, Status::Refused(refused)),
+        Report::Clash(at, text) => end_with(alloc, out, &text, Status::Refused(Refused::Clash(at))),
         Report::Done(files) => match put_both(alloc, command, &files, shelf) {
             Ok(()) => end_with(alloc, out, &files.report, Status::Done),
             Err(stop) => stopped(stop, Status::WriteFault),

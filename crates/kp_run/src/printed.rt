@@ -29,8 +29,8 @@ pub fn usage(alloc: Global) -> Result<Row<u8>, Memory>
     row_of(alloc, USAGE)
 }
 
-// Adds bytes at the end.
-fn put(out: &mut Vec<u8>, bytes: &[u8]) -> Result<(), Memory>
+/// Adds bytes at the end.
+pub fn put(out: &mut Vec<u8>, bytes: &[u8]) -> Result<(), Memory>
     ensures { OnOk result (out.new.items ≡ out.old.items ++ bytes.now) }
 {
     out.extend_from_slice(bytes)?;
@@ -85,7 +85,7 @@ fn at_place(alloc: Global, title: &str, place: &Place) -> Result<Row<u8>, Memory
     Ok(Row::from_vec(out))
 }
 
-/// The lines of a refusal. There are none yet for a refusal that no command gives.
+/// The lines of a refusal, but for a clash. There are none yet for a refusal that no command gives.
 pub fn refusal(alloc: Global, refused: &Refused) -> Result<Row<u8>, Memory>
     ensures { IfOk result (λ text. text ≡ refusal_text refused.now) }
 {
@@ -97,6 +97,10 @@ pub fn refusal(alloc: Global, refused: &Refused) -> Result<Row<u8>, Memory>
         Refused::UnknownName(place) => at_place(alloc, "refused 5 UnknownName\n", place),
         Refused::DeclaredTwice(place) => at_place(alloc, "refused 6 DeclaredTwice\n", place),
         Refused::WrongUse(place) => at_place(alloc, "refused 7 WrongUse\n", place),
+        Refused::BindingsOver => row_of(alloc, "refused 8 BindingsOver\n"),
+        Refused::AtomsOver => row_of(alloc, "refused 9 AtomsOver\n"),
+        Refused::ActionsOver => row_of(alloc, "refused 10 ActionsOver\n"),
+        Refused::EffectsOver => row_of(alloc, "refused 10 EffectsOver\n"),
         Refused::NoInitialState => row_of(alloc, "refused 12 NoInitialState\n"),
         Refused::NotYet(part) => of_file(alloc, "refused 99 NotYet\n", *part),
         _ => Ok(Row::new(alloc)),

@@ -1,0 +1,80 @@
+-- What is gathered: each atom once, those of the literals and no others, and all of them where the limit isn't passed.
+use Rattle.std.proofs.Common.{◌≡◌, ℕ, ◌≤◌, Bool, true, false, ◌||◌, if◌then◌else◌, List, [], ◌∷◌, ◌++◌, length, map, nat_lt, refl, sym, ap, subst, ◌∙◌, inl, inr, arith}
+use Rattle.std.specs.List.{list_any, IsDistinct}
+use Rattle.std.specs.Cmp.{IsEquivalence, on_equiv, and_equiv, nat_eq_equiv}
+use Rattle.std.specs.Cmp.Lexicographic.{lists_equiv}
+use Rattle.std.proofs.lemmas.Bool.{or_cases, or_left, or_right, false≢true, ltb-true}
+use Rattle.std.proofs.lemmas.List.Folds.{list_any-append}
+use Rattle.std.proofs.lemmas.Map.Keys.{IsDistinct-push}
+use Rattle.std.proofs.Math.Bool.{or-true, or-false, or_assoc}
+use Rattle.kp_meaning.specs.declared.lifted.GroundLit.{GroundLit}
+use Rattle.kp_grounding.specs.declared.flat.Atom.{Atom}
+use Rattle.kp_grounding.specs.Ground.{same_atom, atom_of}
+use Rattle.kp_grounding.proofs.Atoms.{same_atom-true}
+use Rattle.kp_atoms.specs.Gathered.{has_atom, with_atom, with_atom_within, gather}
+
+pub same_atoms : IsEquivalence same_atom
+same_atoms = and_equiv (on_equiv (λ (a : Atom). a.pred) nat_eq_equiv) (on_equiv (λ (a : Atom). a.objects) (lists_equiv nat_eq_equiv))
+
+-- ---- one more atom
+
+has-with : (atoms : List Atom) (a x : Atom) → has_atom (with_atom atoms a) x ≡ (has_atom atoms x || same_atom x a)
+has-with atoms a x = pick (has_atom atoms a) refl
+  where
+    there : (u : Bool) → has_atom atoms a ≡ true → same_atom x a ≡ u → has_atom atoms x ≡ (has_atom atoms x || u)
+    there true is e = subst (λ z. has_atom atoms z ≡ true) (sym (same_atom-true x a e)) is ∙ sym (or-true (has_atom atoms x))
+    there false is e = sym (or-false (has_atom atoms x))
+
+    pick : (t : Bool) → has_atom atoms a ≡ t → has_atom (if t then atoms else atoms ++ a ∷ []) x ≡ (has_atom atoms x || same_atom x a)
+    pick true is = there (same_atom x a) is refl
+    pick false is = list_any-append (same_atom x) atoms (a ∷ []) ∙ ap (λ t. has_atom atoms x || t) (or-false (same_atom x a))
+
+-- ---- all atoms
+
+-- beyond the limit nothing more comes
+pub gather_over : (limit : ℕ) (atoms : List Atom) (ms : List GroundLit) → nat_lt limit (length atoms) ≡ true → gather limit atoms ms ≡ atoms
+gather_over limit atoms [] over = refl
+gather_over limit atoms (m ∷ ms) over = ap (λ t. gather limit (if t then atoms else with_atom atoms (atom_of m)) ms) over ∙ gather_over limit atoms ms over
+
+pub gather_distinct : (limit : ℕ) (ms : List GroundLit) (atoms : List Atom) → IsDistinct same_atom atoms → IsDistinct same_atom (gather limit atoms ms)
+gather_distinct limit [] atoms d = d
+gather_distinct limit (m ∷ ms) atoms d = gather_distinct limit ms (with_atom_within limit atoms m) (step (nat_lt limit (length atoms)) (has_atom atoms (atom_of m)) refl)
+  where
+    step : (t u : Bool) → has_atom atoms (atom_of m) ≡ u → IsDistinct same_atom (if t then atoms else (if u then atoms else atoms ++ atom_of m ∷ []))
+    step true u is = d
+    step false true is = d
+    step false false is = IsDistinct-push same_atoms atoms (atom_of m) d is
+
+-- no other atom comes
+pub gather_only : (limit : ℕ) (ms : List GroundLit) (atoms : List Atom) (x : Atom) → has_atom (gather limit atoms ms) x ≡ true → (has_atom atoms x || has_atom (map atom_of ms) x) ≡ true
+gather_only limit [] atoms x h = or_left (has_atom atoms x) false h
+gather_only limit (m ∷ ms) atoms x h =
+    elim (or_cases (has_atom (with_atom_within limit atoms m) x) (has_atom (map atom_of ms) x) (gather_only limit ms (with_atom_within limit atoms m) x h)) [
+      | inl e ↦ step (nat_lt limit (length atoms)) e
+      | inr e ↦ or_right (has_atom atoms x) (same_atom x (atom_of m) || has_atom (map atom_of ms) x) (or_right (same_atom x (atom_of m)) (has_atom (map atom_of ms) x) e)
+    ]
+  where
+    step : (t : Bool) → has_atom (if t then atoms else with_atom atoms (atom_of m)) x ≡ true → (has_atom atoms x || (same_atom x (atom_of m) || has_atom (map atom_of ms) x)) ≡ true
+    step true e = or_left (has_atom atoms x) (same_atom x (atom_of m) || has_atom (map atom_of ms) x) e
+    step false e = elim (or_cases (has_atom atoms x) (same_atom x (atom_of m)) (sym (has-with atoms (atom_of m) x) ∙ e)) [
+      | inl f ↦ or_left (has_atom atoms x) (same_atom x (atom_of m) || has_atom (map atom_of ms) x) f
+      | inr f ↦ or_right (has_atom atoms x) (same_atom x (atom_of m) || has_atom (map atom_of ms) x) (or_left (same_atom x (atom_of m)) (has_atom (map atom_of ms) x) f)
+    ]
+
+-- where there are no more than the limit in the end, all came
+pub gather_all : (limit : ℕ) (ms : List GroundLit) (atoms : List Atom) (x : Atom) → length (gather limit atoms ms) ≤ limit → (has_atom atoms x || has_atom (map atom_of ms) x) ≡ true → has_atom (gather limit atoms ms) x ≡ true
+gather_all limit [] atoms x few h = sym (or-false (has_atom atoms x)) ∙ h
+gather_all limit (m ∷ ms) atoms x few h = step (nat_lt limit (length atoms)) refl (gather_all limit ms (with_atom atoms (atom_of m)) x) few
+  where
+    step : (t : Bool) → nat_lt limit (length atoms) ≡ t
+        → (length (gather limit (with_atom atoms (atom_of m)) ms) ≤ limit → (has_atom (with_atom atoms (atom_of m)) x || has_atom (map atom_of ms) x) ≡ true → has_atom (gather limit (with_atom atoms (atom_of m)) ms) x ≡ true)
+        → length (gather limit (if t then atoms else with_atom atoms (atom_of m)) ms) ≤ limit → has_atom (gather limit (if t then atoms else with_atom atoms (atom_of m)) ms) x ≡ true
+    step true over rest few =
+        let within : length atoms ≤ limit = subst (λ z. length z ≤ limit) (gather_over limit atoms ms over) few in
+        let beyond = ltb-true limit (length atoms) over in
+        absurd (omega arith)
+    step false within rest few = rest few (ap (λ t. t || has_atom (map atom_of ms) x) (has-with atoms (atom_of m) x) ∙ (or_assoc (has_atom atoms x) (same_atom x (atom_of m)) (has_atom (map atom_of ms) x) ∙ h))
+
+pub none_distinct : IsDistinct same_atom []
+unfolding IsDistinct
+none_distinct = tt

@@ -1,0 +1,114 @@
+ghost use Rattle.std.specs.Prelude.{◌≡◌, [], length, IfOk, OnOk};
+ghost use Rattle.kp_grounding.specs.Ground.{atom_of, number_of};
+ghost use Rattle.kp_atoms.specs.Gathered.{kept_atom, with_atom, with_atom_within, IsSortOf};
+
+use indexmap::IndexSet;
+use kp_base::{Memory, Row};
+use kp_grounding::Atom;
+use kp_meaning::GroundLit;
+use std::alloc::Global;
+use std::marker::Model;
+
+/// Atoms, each once. The number of an atom is its position.
+#[derive(Drop)]
+pub struct Atoms {
+    set: IndexSet<(u32, Vec<u32>)>,
+}
+
+impl Model for Atoms {
+    ghost use Rattle.std.specs.Prelude.{List, ◌≤◌, map, length};
+    ghost use Rattle.kp_grounding.specs.declared.flat.Atom.{Atom};
+    ghost use Rattle.kp_atoms.specs.Gathered.{kept_atom};
+
+    ghost Value = { List Atom };
+
+    ghost view = { λ a. map kept_atom a.set.keys };
+
+    ghost invariant = { λ a. length a.set.keys ≤ 4294967295 };
+}
+
+// A literal's atom, as the set keeps it.
+fn key_of(alloc: Global, lit: &GroundLit) -> Result<(u32, Vec<u32>), Memory>
+    ensures { IfOk result (λ key. kept_atom key ≡ atom_of lit.now) }
+{
+    Ok((lit.pred, lit.objects.slice().to_vec(alloc)?))
+}
+
+// The atom that the set keeps so.
+fn atom_at(alloc: Global, key: &(u32, Vec<u32>)) -> Result<Atom, Memory>
+    ensures { IfOk result (λ atom. atom ≡ kept_atom key.now) }
+{
+    Ok(Atom {
+        pred: key.0,
+        objects: Row::from_vec(key.1.as_slice().to_vec(alloc)?),
+    })
+}
+
+impl Atoms {
+    /// No atoms.
+    pub fn new(alloc: Global) -> Atoms
+        ensures { result ≡ [] }
+    {
+        Atoms {
+            set: IndexSet::new(alloc),
+        }
+    }
+
+    /// How many there are.
+    pub fn len(&self) -> u32
+        ensures { result ≡ length self.now }
+    {
+        self.set.len() as u32
+    }
+
+    // Adds the atom of a literal, where it is new. More atoms than a `u32` counts are want of memory.
+    fn insert(&mut self, alloc: Global, lit: &GroundLit) -> Result<(), Memory>
+        ensures { OnOk result (self.new ≡ with_atom self.old (atom_of lit.now)) }
+    {
+        if self.set.len() >= u32::MAX as usize {
+            return Err(Memory);
+        }
+        self.set.insert(key_of(alloc, lit)?)?;
+        Ok(())
+    }
+
+    /// Adds the atom of a literal, where it is new and there are no more atoms than the limit.
+    pub fn add(&mut self, alloc: Global, limit: u32, lit: &GroundLit) -> Result<(), Memory>
+        ensures { OnOk result (self.new ≡ with_atom_within limit self.old lit.now) }
+    {
+        if limit < self.len() {
+            return Ok(());
+        }
+        self.insert(alloc, lit)
+    }
+
+    /// Puts the atoms in order.
+    pub fn sort(&mut self) -> Result<(), Memory>
+        ensures { OnOk result (IsSortOf self.old self.new) }
+    {
+        self.set.sort_unstable()?;
+        Ok(())
+    }
+
+    /// The number of a literal's atom; how many atoms there are, where it is none of them.
+    pub fn number(&self, alloc: Global, lit: &GroundLit) -> Result<u32, Memory>
+        ensures { IfOk result (λ n. n ≡ number_of self.now (atom_of lit.now)) }
+    {
+        let key = key_of(alloc, lit)?;
+        match self.set.get_index_of(&key) {
+            Some(number) => Ok(number as u32),
+            None => Ok(self.set.len() as u32),
+        }
+    }
+
+    /// Copies of the atoms, in order.
+    pub fn row(&self, alloc: Global) -> Result<Row<Atom>, Memory>
+        ensures { IfOk result (λ row. row ≡ self.now) }
+    {
+        let mut row = Row::new(alloc);
+        for key in self.set.as_slice() {
+            row.push(atom_at(alloc, key)?)?;
+        }
+        Ok(row)
+    }
+}

@@ -1,0 +1,10 @@
+//! The ground atoms of a problem by number: which there are, in order, and literals by their numbers.
+#![tactic(auto)]
+
+mod atoms;
+mod gathering;
+mod numbers;
+
+pub use atoms::Atoms;
+pub use gathering::add_literals;
+pub use numbers::{literal, literal_set};

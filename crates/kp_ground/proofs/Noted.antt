@@ -1,0 +1,126 @@
+-- What is gathered from the flat forms names the atoms that occur: leaving out repeats loses none.
+use Rattle.std.proofs.Common.{◌≡◌, ℕ, zero, suc, Bool, true, ◌||◌, List, [], ◌∷◌, ◌++◌, Some, map, slice_get, option_map, refl, sym, ap, ap₂, subst, ◌∙◌, inl, inr}
+use Rattle.std.specs.List.{list_any, list_all, flat_map}
+use Rattle.std.proofs.lemmas.Bool.{and_parts}
+use Rattle.std.proofs.lemmas.List.Folds.{list_any-append}
+use Rattle.kp_base.specs.Lists.{Member, each_once}
+use Rattle.kp_base.proofs.Lists.{any_map, any_member, any_from, all_member, bool_same, member_at}
+use Rattle.kp_base.proofs.Once.{any-each_once}
+use Rattle.kp_meaning.specs.declared.lifted.GroundLit.{GroundLit}
+use Rattle.kp_meaning.specs.Numbered.{Schema, Lifted}
+use Rattle.kp_meaning.specs.Lifted.{Instance, same_literal, names_literal, schema_of}
+use Rattle.kp_grounding.specs.declared.flat.Atom.{Atom}
+use Rattle.kp_grounding.specs.declared.flat.FlatEffect.{FlatEffect}
+use Rattle.kp_grounding.specs.Static.{remaining}
+use Rattle.kp_grounding.specs.Flattening.{same_literals, same_flat, flat, flat_of}
+use Rattle.kp_grounding.specs.Ground.{kept_bindings, instance, kept_instances, atom_of, effect_literals, instance_literals, kept_literals, open_literals, occurring, same_atom}
+use Rattle.kp_grounding.proofs.Step.{same_literal-true}
+use Rattle.kp_grounding.proofs.Kept.{kept_of, member_of}
+use Rattle.kp_atoms.specs.Gathered.{has_atom}
+use Rattle.kp_ground.specs.Passes.{flat_literals, literals_of, literals_at, noted}
+
+-- ---- lists
+
+any-flat_map : {X Y : Type 0} (p : Y → Bool) (f : X → List Y) (xs : List X) → list_any p (flat_map f xs) ≡ list_any (λ x. list_any p (f x)) xs
+any-flat_map p f [] = refl
+any-flat_map p f (x ∷ xs) = list_any-append p (f x) (flat_map f xs) ∙ ap (λ t. list_any p (f x) || t) (any-flat_map p f xs)
+
+-- a member has a place
+record Placed {X : Type 0} (xs : List X) (x : X) : Type 0 where
+  place : ℕ
+  there : slice_get xs place ≡ Some x
+
+placed : {X : Type 0} (xs : List X) (x : X) → Member xs x → Placed xs x
+placed [] x m = absurd m
+placed (y ∷ ys) x m = elim m [
+  | inl e ↦ record { place = 0; there = ap Some e }
+  | inr r ↦ let h = placed ys x r in record { place = suc h.place; there = h.there }
+]
+
+module _ (p : GroundLit → Bool) where
+  -- ---- repeats
+
+  same_pass : (ls ms : List GroundLit) → same_literals ls ms ≡ true → list_any p ls ≡ list_any p ms
+  same_pass ls ms h =
+      let parts = and_parts (list_all (names_literal ms) ls) (list_all (names_literal ls) ms) h in
+      bool_same (list_any p ls) (list_any p ms) (passes ls ms parts.0) (passes ms ls parts.1)
+    where
+      passes : (xs ys : List GroundLit) → list_all (names_literal ys) xs ≡ true → list_any p xs ≡ true → list_any p ys ≡ true
+      passes xs ys within some =
+          let found = any_member p xs some in
+          let twin = any_member (same_literal found.0) ys (all_member (names_literal ys) xs found.0 found.1 within) in
+          any_from p ys twin.0 twin.1 (subst (λ z. p z ≡ true) (same_literal-true found.0 twin.0 twin.2) found.2)
+
+  once_pass : (fs : List FlatEffect) → list_any p (flat_map effect_literals (each_once same_flat fs)) ≡ list_any p (flat_map effect_literals fs)
+  once_pass fs = any-flat_map p effect_literals (each_once same_flat fs) ∙ (any-each_once same_flat passes alike fs ∙ sym (any-flat_map p effect_literals fs))
+    where
+      passes : FlatEffect → Bool
+      passes f = list_any p (effect_literals f)
+
+      alike : (f g : FlatEffect) → same_flat f g ≡ true → passes f ≡ passes g
+      alike f g h =
+          let parts = and_parts (same_literal f.result g.result) (same_literals f.cond g.cond) h in
+          list_any-append p f.cond (f.result ∷ [])
+          ∙ (ap₂ (λ s m. s || list_any p (m ∷ [])) (same_pass f.cond g.cond parts.1) (same_literal-true f.result g.result parts.0)
+          ∙ sym (list_any-append p g.cond (g.result ∷ [])))
+
+  flat_pass : (l : Lifted) (a : Schema) (os : List ℕ) → list_any p (flat_literals (flat_of l a os)) ≡ list_any p (instance_literals l a os)
+  flat_pass l a os =
+      list_any-append p (remaining l os a.pre) (flat_map effect_literals (each_once same_flat (flat l os a.effect)))
+      ∙ (ap (λ t. list_any p (remaining l os a.pre) || t) (once_pass (flat l os a.effect))
+      ∙ sym (list_any-append p (remaining l os a.pre) (flat_map effect_literals (flat l os a.effect))))
+
+  -- ---- kept instances
+
+  of_schema : (l : Lifted) (i : Instance) (a : Schema) → schema_of l i ≡ Some a → list_any p (literals_at l i) ≡ list_any p (instance_literals l a i.objects)
+  of_schema l i a is = ap (λ o. list_any p (literals_of (option_map (λ b. flat_of l b i.objects) o))) is ∙ flat_pass l a i.objects
+
+  kept_pass : (l : Lifted) → list_any p (flat_map (literals_at l) (kept_instances l)) ≡ list_any p (flat_map (kept_literals l) l.schemas)
+  kept_pass l =
+      any-flat_map p (literals_at l) (kept_instances l)
+      ∙ (bool_same (list_any at_instance (kept_instances l)) (list_any at_schema l.schemas) there back
+      ∙ sym (any-flat_map p (kept_literals l) l.schemas))
+    where
+      at_instance : Instance → Bool
+      at_instance i = list_any p (literals_at l i)
+
+      at_schema : Schema → Bool
+      at_schema a = list_any p (kept_literals l a)
+
+      there : list_any at_instance (kept_instances l) ≡ true → list_any at_schema l.schemas ≡ true
+      there h =
+          let found = any_member at_instance (kept_instances l) h in
+          let kept = kept_of l found.0 found.1 in
+          let passes : list_any p (instance_literals l kept.schema (found.0).objects) ≡ true = sym (of_schema l found.0 kept.schema kept.at) ∙ found.2 in
+          any_from at_schema l.schemas kept.schema (member_at l.schemas (found.0).schema kept.schema kept.at)
+          (any-flat_map p (instance_literals l kept.schema) (kept_bindings l kept.schema)
+          ∙ any_from (λ os. list_any p (instance_literals l kept.schema os)) (kept_bindings l kept.schema) (found.0).objects kept.among passes)
+
+      back : list_any at_schema l.schemas ≡ true → list_any at_instance (kept_instances l) ≡ true
+      back h =
+          let found = any_member at_schema l.schemas h in
+          let inner = any_member (λ os. list_any p (instance_literals l found.0 os)) (kept_bindings l found.0) (sym (any-flat_map p (instance_literals l found.0) (kept_bindings l found.0)) ∙ found.2) in
+          let place = placed l.schemas found.0 found.1 in
+          any_from at_instance (kept_instances l) (instance place.place inner.0)
+          (member_of l (instance place.place inner.0) (record { schema = found.0; at = place.there; among = inner.1 }))
+          (of_schema l (instance place.place inner.0) found.0 place.there ∙ inner.2)
+
+  -- ---- all literals
+
+  noted_pass : (l : Lifted) → list_any p (noted l) ≡ list_any p (occurring l)
+  noted_pass l =
+      let kept : list_any p (open_literals l ++ flat_map (literals_at l) (kept_instances l)) ≡ list_any p (open_literals l ++ flat_map (kept_literals l) l.schemas) =
+      list_any-append p (open_literals l) (flat_map (literals_at l) (kept_instances l))
+      ∙ (ap (λ t. list_any p (open_literals l) || t) (kept_pass l)
+      ∙ sym (list_any-append p (open_literals l) (flat_map (kept_literals l) l.schemas)))
+      in
+      list_any-append p l.goal (open_literals l ++ flat_map (literals_at l) (kept_instances l))
+      ∙ (ap (λ t. list_any p l.goal || t) kept
+      ∙ sym (list_any-append p l.goal (open_literals l ++ flat_map (kept_literals l) l.schemas)))
+
+-- the atoms that are gathered are those that occur
+pub noted_atoms : (l : Lifted) (x : Atom) → has_atom (map atom_of (noted l)) x ≡ has_atom (map atom_of (occurring l)) x
+noted_atoms l x = named (noted l) ∙ (noted_pass (λ m. same_atom x (atom_of m)) l ∙ sym (named (occurring l)))
+  where
+    named : (ms : List GroundLit) → has_atom (map atom_of ms) x ≡ list_any (λ m. same_atom x (atom_of m)) ms
+    named ms = any_map atom_of (same_atom x) (λ m. same_atom x (atom_of m)) ms (λ m. refl)

@@ -1,0 +1,30 @@
+use Rattle.std.proofs.Common.{Err, ap, ◌∙◌}
+use Rattle.std.proofs.lemmas.Result.{err_from_is_err_and}
+use Rattle.kp_grounding.specs.Ground.{ground_over}
+use Rattle.kp_bound.specs.Problem.{problem_of}
+use Rattle.kp_ground.proofs.Kept.{counts_stop, atoms_stop}
+use Rattle.kp_ground.proofs.grounding.ground_with_atoms.Goals as goal
+
+-- a count is over
+pub returns-in_err-kept : goal.returns-in_err-kept
+returns-in_err-kept c =
+    let p = err_from_is_err_and c.from_residual.result c.from_residual.ensures.1 in
+    rw (p.1, p.2) (counts_stop (problem_of c.args.statics.now) c.args.limits.now c.in_err-kept.field-0.0 c.in_err-kept.ensures.refused)
+
+-- the ground problem over the ground atoms
+pub returns : goal.returns
+returns c =
+    let l = problem_of c.args.statics.now in (
+      record {
+        counts = c.in_ok-kept.ensures.within;
+        atoms = c.in_ok-atoms.ensures.1;
+        ground = c.in_ok-made.ensures.ground ∙ ap (ground_over l) c.in_ok-atoms.ensures.0;
+      },
+      c.in_ok-made.ensures.atoms ∙ c.in_ok-atoms.ensures.0,
+    )
+
+-- there are too many atoms
+pub returns-in_err-atoms : goal.returns-in_err-atoms
+returns-in_err-atoms c =
+    let p = err_from_is_err_and c.from_residual-in_err-atoms.result c.from_residual-in_err-atoms.ensures.1 in
+    rw (p.1, p.2) (atoms_stop (problem_of c.args.statics.now) c.args.limits.now c.in_err-atoms.field-0.0 c.in_ok-kept.ensures.within c.in_err-atoms.ensures)

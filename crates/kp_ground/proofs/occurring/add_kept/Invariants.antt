@@ -1,0 +1,14 @@
+use Rattle.std.proofs.Common.{◌≡◌, drop, map}
+use Rattle.std.specs.List.{flat_map}
+use Rattle.kp_atoms.specs.Gathered.{gather}
+use Rattle.kp_kept.specs.Counts.{kept_view}
+use Rattle.kp_bound.specs.Problem.{problem_of}
+use Rattle.kp_ground.specs.Passes.{literals_at}
+use Rattle.kp_ground.proofs.occurring.add_kept.Given as goal
+
+-- with the instances that are left come all
+abbrev pub invariant-loop-one : goal.invariant-loop-one
+invariant-loop-one l = record {
+  problem : l.flattener.statics ≡ l.fn.flattener.statics;
+  atoms : gather l.limit l.atoms (flat_map (literals_at (problem_of l.fn.flattener.statics.now)) (map kept_view (drop l.one-index l.kept))) ≡ gather l.limit l.fn.atoms (flat_map (literals_at (problem_of l.fn.flattener.statics.now)) (map kept_view l.kept));
+}

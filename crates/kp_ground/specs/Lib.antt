@@ -1,0 +1,3 @@
+pub mod Grounded
+pub mod Passes
+pub mod Adds

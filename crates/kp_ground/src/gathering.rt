@@ -1,0 +1,104 @@
+ghost use Rattle.std.specs.Prelude.{◌≡◌, [], ◌∷◌, filter, OnOk};
+ghost use Rattle.std.specs.List.{flat_map};
+ghost use Rattle.kp_meaning.specs.Lifted.{item_literals};
+ghost use Rattle.kp_grounding.specs.Ground.{effect_literals};
+ghost use Rattle.kp_atoms.specs.Gathered.{gather};
+ghost use Rattle.kp_bound.specs.Problem.{problem_of};
+ghost use Rattle.kp_ground.specs.Passes.{is_open, flat_literals};
+
+use kp_atoms::{Atoms, add_literals};
+use kp_base::Memory;
+use kp_grounding::{Flat, FlatEffect};
+use kp_kept::Statics;
+use kp_meaning::{GroundLit, Item};
+use std::alloc::Global;
+
+// Adds the atom of a literal whose predicate isn't static.
+fn add_open(
+    alloc: Global,
+    statics: &Statics,
+    limit: u32,
+    atoms: &mut Atoms,
+    lit: &GroundLit,
+) -> Result<(), Memory>
+    ensures { OnOk result (atoms.new ≡ gather limit atoms.old (filter (is_open (problem_of statics.now)) (lit.now ∷ []))) }
+{
+    if statics.is_static(lit.pred) {
+        return Ok(());
+    }
+    atoms.add(alloc, limit, lit)
+}
+
+// Adds the atoms of those literals whose predicates aren't static.
+fn add_all_open(
+    alloc: Global,
+    statics: &Statics,
+    limit: u32,
+    atoms: &mut Atoms,
+    lits: &[GroundLit],
+) -> Result<(), Memory>
+    ensures { OnOk result (atoms.new ≡ gather limit atoms.old (filter (is_open (problem_of statics.now)) lits.now)) }
+{
+    for lit in lits {
+        add_open(alloc, statics, limit, atoms, lit)?;
+    }
+    Ok(())
+}
+
+// Adds the atoms of an item of `:init`, but those of static predicates.
+fn add_item(
+    alloc: Global,
+    statics: &Statics,
+    limit: u32,
+    atoms: &mut Atoms,
+    item: &Item,
+) -> Result<(), Memory>
+    ensures { OnOk result (atoms.new ≡ gather limit atoms.old (filter (is_open (problem_of statics.now)) (item_literals item.now))) }
+{
+    match item {
+        Item::One(lit) | Item::Unknown(lit) => add_open(alloc, statics, limit, atoms, lit),
+        Item::OneOf(lits) | Item::AnyOf(lits) => {
+            add_all_open(alloc, statics, limit, atoms, lits.slice())
+        }
+    }
+}
+
+/// Adds the atoms of `:init`, but those of static predicates.
+pub fn add_items(
+    alloc: Global,
+    statics: &Statics,
+    limit: u32,
+    atoms: &mut Atoms,
+    items: &[Item],
+) -> Result<(), Memory>
+    ensures { OnOk result (atoms.new ≡ gather limit atoms.old (filter (is_open (problem_of statics.now)) (flat_map item_literals items.now))) }
+{
+    for item in items {
+        add_item(alloc, statics, limit, atoms, item)?;
+    }
+    Ok(())
+}
+
+// Adds the atoms of some effects.
+fn add_effects(
+    alloc: Global,
+    limit: u32,
+    atoms: &mut Atoms,
+    effects: &[FlatEffect],
+) -> Result<(), Memory>
+    ensures { OnOk result (atoms.new ≡ gather limit atoms.old (flat_map effect_literals effects.now)) }
+{
+    for effect in effects {
+        add_literals(alloc, limit, atoms, effect.cond.slice())?;
+        atoms.add(alloc, limit, &effect.result)?;
+    }
+    Ok(())
+}
+
+/// Adds the atoms of an instance.
+pub fn add_flat(alloc: Global, limit: u32, atoms: &mut Atoms, flat: &Flat) -> Result<(), Memory>
+    ensures { OnOk result (atoms.new ≡ gather limit atoms.old (flat_literals flat.now)) }
+{
+    add_literals(alloc, limit, atoms, flat.pre.slice())?;
+    add_effects(alloc, limit, atoms, flat.effects.slice())
+}

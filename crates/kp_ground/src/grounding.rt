@@ -1,0 +1,74 @@
+ghost use Rattle.std.specs.Prelude.{◌≡◌, map, IfOk};
+ghost use Rattle.kp_names.specs.View.{lifted_view};
+ghost use Rattle.kp_grounding.specs.Ground.{kept_instances, ground_over};
+ghost use Rattle.kp_kept.specs.Counts.{kept_view};
+ghost use Rattle.kp_bound.specs.Problem.{problem_of};
+ghost use Rattle.kp_ground.specs.Grounded.{AnswersGround, AnswersWithAtoms};
+
+use crate::actions::all_actions;
+use crate::names::names_of_atoms;
+use crate::occurring::occurring_atoms;
+use kp_atoms::{Atoms, literal_set};
+use kp_base::{Ground, Limits, Memory, Row, Stop};
+use kp_bound::Flattener;
+use kp_grounding::Atom;
+use kp_kept::{Kept, Statics, kept_instances};
+use kp_names::Lifted;
+use std::alloc::Global;
+
+/// A ground problem, with its atoms by number.
+#[derive(Drop)]
+pub struct GroundWithAtoms {
+    /// The ground problem.
+    pub ground: Ground,
+    /// Its atoms, in the same order.
+    pub atoms: Row<Atom>,
+}
+
+// The ground problem over these atoms.
+fn over_atoms(
+    alloc: Global,
+    statics: &Statics,
+    atoms: &Atoms,
+    kept: &[Kept],
+) -> Result<GroundWithAtoms, Memory>
+    requires { map kept_view kept.now ≡ kept_instances (problem_of statics.now) }
+    ensures ground { IfOk result (λ g. g.ground ≡ ground_over (problem_of statics.now) atoms.now) }
+    ensures atoms { IfOk result (λ g. g.atoms ≡ atoms.now) }
+{
+    let lifted = statics.lifted;
+    let mut flattener = Flattener::new(alloc, statics);
+    let actions = all_actions(alloc, &mut flattener, atoms, kept)?;
+    let goal = literal_set(alloc, atoms, lifted.goal.slice())?;
+    let row = atoms.row(alloc)?;
+    let names = names_of_atoms(alloc, lifted, row.slice())?;
+    let ground = Ground {
+        atoms: names,
+        actions,
+        goal,
+    };
+    Ok(GroundWithAtoms { ground, atoms: row })
+}
+
+/// The ground problem of a problem by number, with its atoms, or the refusal where it is larger than a limit allows.
+pub fn ground_with_atoms(
+    alloc: Global,
+    statics: &Statics,
+    limits: &Limits,
+) -> Result<GroundWithAtoms, Stop>
+    ensures { AnswersWithAtoms (problem_of statics.now) limits.now result }
+{
+    let kept = kept_instances(alloc, statics, limits)?;
+    let atoms = occurring_atoms(alloc, statics, kept.slice(), limits.atoms)?;
+    let made = over_atoms(alloc, statics, &atoms, kept.slice())?;
+    Ok(made)
+}
+
+/// The ground problem of a problem by number, or the refusal where it is larger than a limit allows.
+pub fn ground(alloc: Global, lifted: &Lifted, limits: &Limits) -> Result<Ground, Stop>
+    ensures { AnswersGround (lifted_view lifted.now) limits.now result }
+{
+    let statics = Statics::of(alloc, lifted)?;
+    let made = ground_with_atoms(alloc, &statics, limits)?;
+    Ok(made.ground)
+}

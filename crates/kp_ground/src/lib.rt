@@ -1,0 +1,17 @@
+//! The ground problem of a problem by number. `specs/Grounded.antt` says what `ground` answers.
+#![tactic(auto)]
+
+mod actions;
+mod adds;
+mod effects;
+mod gathering;
+mod grounding;
+mod lasting;
+mod names;
+mod occurring;
+#[cfg(test)]
+mod tests;
+
+pub use grounding::{GroundWithAtoms, ground, ground_with_atoms};
+pub use kp_bound::{BoundCond, BoundEff, BoundNode, bind, flatten};
+pub use kp_grounding::{Atom, Flat, FlatEffect};

@@ -1,0 +1,69 @@
+ghost use Rattle.std.specs.Prelude.{◌≡◌, map, IfOk};
+ghost use Rattle.kp_meaning.specs.Numbering.{name_at};
+ghost use Rattle.kp_names.specs.View.{lifted_view};
+ghost use Rattle.kp_grounding.specs.Ground.{object_names, atom_name};
+
+use kp_base::{GroundName, Memory, Row, Text};
+use kp_grounding::Atom;
+use kp_meaning::Pred;
+use kp_names::Lifted;
+use std::alloc::Global;
+
+// The name of this number; none where there is none.
+fn name(alloc: Global, names: &[Text], number: u32) -> Result<Text, Memory>
+    ensures { IfOk result (λ text. text ≡ name_at names.now number) }
+{
+    match names.get(number as usize) {
+        Some(text) => Ok(text.copy(alloc)?),
+        None => Ok(Text::new(alloc)),
+    }
+}
+
+// The name of the predicate of this number; none where there is none.
+fn predicate_name(alloc: Global, predicates: &[Pred], number: u32) -> Result<Text, Memory>
+    ensures { IfOk result (λ text. text ≡ name_at (map (λ q. q.name) predicates.now) number) }
+{
+    match predicates.get(number as usize) {
+        Some(predicate) => Ok(predicate.name.copy(alloc)?),
+        None => Ok(Text::new(alloc)),
+    }
+}
+
+/// The names of objects.
+pub fn names_of_objects(
+    alloc: Global,
+    lifted: &Lifted,
+    objects: &[u32],
+) -> Result<Row<Text>, Memory>
+    ensures { IfOk result (λ row. row ≡ object_names (lifted_view lifted.now) objects.now) }
+{
+    let mut row = Row::new(alloc);
+    for object in objects {
+        row.push(name(alloc, lifted.objects.slice(), *object)?)?;
+    }
+    Ok(row)
+}
+
+fn name_of_atom(alloc: Global, lifted: &Lifted, atom: &Atom) -> Result<GroundName, Memory>
+    ensures { IfOk result (λ name. name ≡ atom_name (lifted_view lifted.now) atom.now) }
+{
+    Ok(GroundName {
+        head: predicate_name(alloc, lifted.predicates.slice(), atom.pred)?,
+        objects: names_of_objects(alloc, lifted, atom.objects.slice())?,
+    })
+}
+
+/// The names of atoms.
+pub fn names_of_atoms(
+    alloc: Global,
+    lifted: &Lifted,
+    atoms: &[Atom],
+) -> Result<Row<GroundName>, Memory>
+    ensures { IfOk result (λ row. row ≡ map (atom_name (lifted_view lifted.now)) atoms.now) }
+{
+    let mut row = Row::new(alloc);
+    for atom in atoms {
+        row.push(name_of_atom(alloc, lifted, atom)?)?;
+    }
+    Ok(row)
+}

@@ -1,0 +1,50 @@
+ghost use Rattle.std.specs.Prelude.{◌≡◌, IfOk};
+ghost use Rattle.kp_names.specs.View.{lifted_view};
+ghost use Rattle.kp_given.specs.Certain.{IsCertain, contradicts, known_from};
+ghost use Rattle.kp_run.specs.Reports.{is_denied};
+
+use kp_base::{AtomId, Lit, Memory, Row};
+use kp_ground::Atom;
+use kp_kept::Statics;
+use kp_names::Item;
+use std::alloc::Global;
+
+// Whether an item denies an atom that `:init` states.
+fn is_denied(statics: &Statics, item: &Item) -> bool
+    ensures { result ≡ is_denied (lifted_view statics.now.lifted.now) item.now }
+{
+    match item {
+        Item::One(literal) => {
+            !literal.positive && statics.is_true_at_first(literal.pred, literal.objects.slice())
+        }
+        _ => false,
+    }
+}
+
+/// Whether `:init` states and denies one atom, where it has literals alone.
+pub fn contradicts(statics: &Statics) -> bool
+    ensures { IsCertain (lifted_view statics.now.lifted.now) → result ≡ contradicts (lifted_view statics.now.lifted.now) }
+{
+    for item in statics.lifted.init.slice() {
+        if is_denied(statics, item) {
+            return true;
+        }
+    }
+    false
+}
+
+/// What is known of these atoms at the start, where `:init` has literals alone: whether each holds.
+pub fn known_at_first(alloc: Global, statics: &Statics, atoms: &[Atom]) -> Result<Row<Lit>, Memory>
+    ensures { IfOk result (λ start. start ≡ known_from (lifted_view statics.now.lifted.now) 0 atoms.now) }
+{
+    let mut start = Row::new(alloc);
+    let mut number = 0u32;
+    for atom in atoms {
+        start.push(Lit {
+            atom: AtomId(number),
+            positive: statics.is_true_at_first(atom.pred, atom.objects.slice()),
+        })?;
+        number = number.checked_add(1).ok_or(Memory)?;
+    }
+    Ok(start)
+}
