@@ -1,12 +1,12 @@
 use kp_base::Memory;
-use kp_forms::{plain_domain, plain_problem};
 use kp_grammar::{AtomTree, CondTree, Domain, EffTree, ItemTree, Problem, SchemaTree};
 use kp_outside::{MemoryShelf, MemorySink};
 use kp_run::run;
+use kp_tree::{read_domain, read_problem};
 use std::alloc::{AllocError, Global};
 use std::test::Fail;
 
-// Plain files as their definition reads: a state says of each declared predicate whether it holds.
+// Files without objects, as they are meant: a state says of each declared predicate whether it holds.
 
 fn number(domain: &Domain, atom: &AtomTree) -> usize {
     for (number, predicate) in domain.predicates.slice().iter().enumerate() {
@@ -40,20 +40,25 @@ fn set(domain: &Domain, atom: &AtomTree, value: bool, state: &mut [bool]) {
     }
 }
 
-// The adds of an effect, or its deletes.
-fn apply(domain: &Domain, effect: &EffTree, adds: bool, state: &mut [bool]) {
+// The adds of an effect, or its deletes; conditions are read in the state before.
+fn apply(domain: &Domain, effect: &EffTree, adds: bool, before: &[bool], state: &mut [bool]) {
     match effect {
         EffTree::All(parts) => {
             for part in parts.slice() {
-                apply(domain, part, adds, state);
+                apply(domain, part, adds, before, state);
             }
         }
+        EffTree::When(condition, body) => {
+            if holds(domain, before, condition) {
+                apply(domain, body, adds, before, state);
+            }
+        }
+        EffTree::Each(..) => {}
         EffTree::Atom(positive, atom) => {
             if *positive == adds {
                 set(domain, atom, adds, state);
             }
         }
-        _ => {}
     }
 }
 
@@ -64,8 +69,8 @@ fn after(
     state: &[bool],
 ) -> Result<Vec<bool>, AllocError> {
     let mut next = state.to_vec(alloc)?;
-    apply(domain, &schema.effect, false, &mut next);
-    apply(domain, &schema.effect, true, &mut next);
+    apply(domain, &schema.effect, false, state, &mut next);
+    apply(domain, &schema.effect, true, state, &mut next);
     Ok(next)
 }
 
@@ -164,20 +169,11 @@ fn solves(
     Ok(holds(given, &state, &problem.goal))
 }
 
-// A written domain without the line on parameters, which plain files don't have.
-fn without_parameters(alloc: Global, text: &[u8]) -> Result<Vec<u8>, AllocError> {
-    let mut plain = Vec::new(alloc);
-    for line in text.split(|byte| *byte == b'\n') {
-        if line != b":parameters ()".as_slice() {
-            plain.extend_from_slice(line)?;
-            plain.push(b'\n')?;
-        }
-    }
-    Ok(plain)
-}
-
 const EXCHANGE: &str =
     "(define (domain d) (:predicates (p) (q)) (:action a :precondition (p) :effect (and (q) (not (p)))))";
+
+const EXCHANGES_WHERE_P: &str =
+    "(define (domain d) (:predicates (p) (q)) (:action a :effect (when (p) (and (q) (not (p))))))";
 
 const ADDS_AND_DELETES: &str =
     "(define (domain d) (:predicates (p) (q)) (:action a :precondition (p) :effect (and (q) (not (q)))))";
@@ -197,25 +193,20 @@ fn translated(alloc: Global, domain: &str, problem: &str) -> Result<MemoryShelf,
 }
 
 // The written domain and problem.
-fn read_written(alloc: Global, shelf: &MemoryShelf) -> Result<Option<(Domain, Problem)>, Memory> {
-    let Some(domain) = shelf.held(b"od".as_slice()) else {
-        return Ok(None);
-    };
-    let Some(problem) = shelf.held(b"op".as_slice()) else {
-        return Ok(None);
-    };
-    let domain = without_parameters(alloc, domain.slice())?;
-    read(alloc, &domain, problem.slice())
+fn read_written(alloc: Global, shelf: &MemoryShelf) -> Option<(Domain, Problem)> {
+    let domain = shelf.held(b"od".as_slice())?;
+    let problem = shelf.held(b"op".as_slice())?;
+    read(alloc, domain.slice(), problem.slice())
 }
 
-fn read(alloc: Global, domain: &[u8], problem: &[u8]) -> Result<Option<(Domain, Problem)>, Memory> {
-    let Some(domain) = plain_domain(alloc, domain)? else {
-        return Ok(None);
-    };
-    let Some(problem) = plain_problem(alloc, problem)? else {
-        return Ok(None);
-    };
-    Ok(Some((domain, problem)))
+// The trees of two short files, where they have any.
+fn read(alloc: Global, domain: &[u8], problem: &[u8]) -> Option<(Domain, Problem)> {
+    if domain.len() > 4_096 || problem.len() > 4_096 {
+        return None;
+    }
+    let domain = read_domain(alloc, domain).ok()?;
+    let problem = read_problem(alloc, problem).ok()?;
+    Some((domain, problem))
 }
 
 // What a search over the written files finds.
@@ -237,7 +228,7 @@ fn judge(
     written: &Domain,
     plan: &[usize],
 ) -> Result<Verdict, Memory> {
-    let Some((given, given_problem)) = read(alloc, domain.as_bytes(), problem.as_bytes())? else {
+    let Some((given, given_problem)) = read(alloc, domain.as_bytes(), problem.as_bytes()) else {
         return Ok(Verdict::NoFiles);
     };
     if solves(alloc, &given, &given_problem, written, plan)? {
@@ -249,7 +240,7 @@ fn judge(
 
 fn found(alloc: Global, domain: &str, problem: &str) -> Result<Verdict, Memory> {
     let shelf = translated(alloc, domain, problem)?;
-    let Some((written, written_problem)) = read_written(alloc, &shelf)? else {
+    let Some((written, written_problem)) = read_written(alloc, &shelf) else {
         return Ok(Verdict::NoFiles);
     };
     match find(alloc, &written, &written_problem, 4)? {
@@ -270,6 +261,16 @@ fn plans_found_in_written_files(rt: HostRuntime) -> Result<(), Fail> {
         (
             EXCHANGE,
             "(define (problem e) (:domain d) (:init (p)) (:goal (and (p) (q))))",
+            Verdict::NoPlan,
+        ),
+        (
+            EXCHANGES_WHERE_P,
+            "(define (problem e) (:domain d) (:init (p)) (:goal (and (q) (not (p)))))",
+            Verdict::Plan(1),
+        ),
+        (
+            EXCHANGES_WHERE_P,
+            "(define (problem e) (:domain d) (:init) (:goal (q)))",
             Verdict::NoPlan,
         ),
         (

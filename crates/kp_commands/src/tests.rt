@@ -110,6 +110,8 @@ fn each_answer(rt: HostRuntime) -> Result<(), Fail> {
     let alloc = rt.alloc();
     let adds_and_deletes =
         "(define (domain d) (:predicates (p) (q)) (:action a :precondition (p) :effect (and (q) (not (q)))))";
+    let adds_or_deletes =
+        "(define (domain d) (:predicates (p) (q)) (:action a :effect (and (when (p) (q)) (not (q)))))";
     let cases = [
         (
             DOMAIN,
@@ -120,20 +122,32 @@ fn each_answer(rt: HostRuntime) -> Result<(), Fail> {
         (
             "(define (domain f) (:types cell) (:predicates (at ?c - cell)) (:action move :parameters (?x ?y - cell) :precondition (at ?x) :effect (and (not (at ?x)) (at ?y))))",
             "(define (problem f) (:domain f) (:objects a b - cell) (:init (at a)) (:goal (at b)))",
-            3,
-            "refused 99 NotYet\nfile domain\n",
+            0,
+            "atoms 2\nactions 4\ntags 1\nmerges 0\nfacts 4\ncomplete\n",
         ),
         (
             "(define (domain cells) (:predicates (x1) (x2) (x3)) (:action left :effect (and (when (x3) (and (x2) (not (x3)))) (when (x2) (and (x1) (not (x2)))))))",
             "(define (problem c) (:domain cells) (:init (oneof (x1) (x2) (x3))) (:goal (x1)))",
             3,
-            "refused 99 NotYet\nfile domain\n",
+            "refused 99 NotYet\nfile problem\n",
         ),
         (
             DOMAIN,
             "(define (problem e) (:domain d) (:init (unknown (p))) (:goal (q)))",
             3,
             "refused 99 NotYet\nfile problem\n",
+        ),
+        (
+            adds_or_deletes,
+            PROBLEM,
+            0,
+            "atoms 1\nactions 1\ntags 1\nmerges 0\nfacts 2\ncomplete\n",
+        ),
+        (
+            adds_or_deletes,
+            "(define (problem e) (:domain d) (:init (not (p))) (:goal (q)))",
+            3,
+            "refused 13 Clash\naction (a)\natom (q)\nadd (p)\ndelete\n",
         ),
         (
             adds_and_deletes,

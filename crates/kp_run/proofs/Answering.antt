@@ -4,6 +4,7 @@ use Rattle.std.proofs.lemmas.Bool.{both_ways}
 use Rattle.kp_base.specs.declared.lit.Lit.{Lit}
 use Rattle.kp_base.specs.declared.memory.Memory.{Memory}
 use Rattle.kp_base.specs.declared.ground.Ground.{Ground}
+use Rattle.kp_base.specs.declared.refused.Part.TheVariants as parts
 use Rattle.kp_base.specs.declared.refused.Place.{Place}
 use Rattle.kp_base.specs.declared.refused.Refused.{Refused}
 use Rattle.kp_base.specs.declared.refused.Refused.TheVariants as refusals
@@ -54,6 +55,77 @@ certain d p l x e = subst IsCertain (sym x.resolved.numbered) (unplaced_certain 
 refusal_answers : (d p : List ℕ) (r : Report) (x : Refused) → IsRefusal x r → Answers d p (status.Refused x) → Answers d p (status_of r)
 refusal_answers d p r x is a = subst (λ (z : Report). Answers d p (status_of z)) (sym is.is) a
 
-pub open_answers : (d p : List ℕ) (l : Lifted) (x : IsProblemOf d p l) (place : Place) (r : Result Report Memory) → l.unsure ≡ Some place → IfOk r (IsRefusal (refusals.NotYet _)) → IfOk r (λ z. Answers d p (status_of z))
+pub open_answers : (d p : List ℕ) (l : Lifted) (x : IsProblemOf d p l) (place : Place) (r : Result Report Memory) → l.unsure ≡ Some place → IfOk r (IsRefusal (refusals.NotYet parts.Problem)) → IfOk r (λ z. Answers d p (status_of z))
 open_answers d p l x place (Ok r) e is = refusal_answers d p r _ is (on_trees x.first x.second _ x.trees (not_yet (some_word p (first_unsure x.second.init) place (sym x.resolved.unsure ∙ e))))
 open_answers d p l x place (Err m) e is = tt
+
+open_text : (x : Refused) (r : Report) → IsRefusal x r → HasItsText r
+open_text x r is = subst HasItsText (sym is.is) (is.own, is.may)
+
+-- a refusal has its text
+pub refusal_text_own : (x : Refused) (r : Result Report Memory) → IfOk r (IsRefusal x) → IfOk r HasItsText
+refusal_text_own x (Ok r) is = open_text x r is
+refusal_text_own x (Err m) is = tt
+
+-- and no translation
+refusal_translated : (d p : List ℕ) (x : Refused) (r : Report) → IsRefusal x r → IsTranslated d p r
+refusal_translated d p x r is = subst (IsTranslated d p) (sym is.is) tt
+
+pub refused_translated : (d p : List ℕ) (x : Refused) (r : Result Report Memory) → IfOk r (IsRefusal x) → IfOk r (IsTranslated d p)
+refused_translated d p x (Ok r) is = refusal_translated d p x r is
+refused_translated d p x (Err m) is = tt
+
+-- a refusal of the texts is the answer
+pub refused_answers : (d p : List ℕ) (x : Refused) (r : Result Report Memory) → IfOk r (IsRefusal x) → Answers d p (status.Refused x) → IfOk r (λ z. Answers d p (status_of z))
+refused_answers d p x (Ok r) is a = refusal_answers d p r x is a
+refused_answers d p x (Err m) is a = tt
+
+-- ---- trees that leave nothing open
+
+module _ (x y : List ℕ) (d : Domain Word) (p : Problem Word) (h : HaveTrees x y d p) (sure : LeavesNothingOpen p) (known : IsCertain (numbered_problem d p)) where
+  abbrev l : Numbers
+  l = numbered_problem d p
+
+  ends_answers : (r : Report) → EndsWithin l r → Answers x y (status_of r)
+  ends_answers r (over z a is) = refusal_answers x y r z is (on_trees d p _ h (too_large z sure a))
+  ends_answers r (within w e) = by r e
+    where
+      started : contradicts l ≡ false → IsStarted d p
+      started good = record { certain = sure; within = w; initial = (contradictions d p h.no_fault known).0 good }
+
+      by : (z : Report) → EndsBy l z → Answers x y (status_of z)
+      by z (by_contradiction _ bad is) = refusal_answers x y z _ is (on_trees d p _ h (no_initial_state sure w (λ has. both_ways (contradicts l) ((contradictions d p h.no_fault known).1 has) bad)))
+      by _ (by_clash at text good first own) = on_trees d p _ h (clash at (started good) first)
+      by _ (by_translation t good none own) = on_trees d p _ h (done (started good) none)
+
+  -- what is written for them
+  made : contradicts l ≡ false → texts.translation_of (ground_of d p) (known_at_first l) ≡ translation_of d p
+  made good =
+      let k = starts_known d p known good in
+      let g = ground_of d p in
+      ap (λ (s : List Lit). let t : Translation = record { domain = (translation_of d p).domain; problem = problem_file g s; report = counted g (codes "complete\n") } in t) (sym k.start)
+      ∙ ap (λ (r : List ℕ). let t : Translation = record { domain = (translation_of d p).domain; problem = (translation_of d p).problem; report = r } in t) (sym k.complete)
+
+  ends_translated : (r : Report) → EndsWithin l r → IsTranslated x y r
+  ends_translated r (over z a is) = refusal_translated x y z r is
+  ends_translated r (within w e) = by r e
+    where
+      by : (z : Report) → EndsBy l z → IsTranslated x y z
+      by z (by_contradiction _ bad is) = refusal_translated x y _ z is
+      by _ (by_clash at text good first own) = λ e q k. own ∙ same_clash x y d e p q at h k
+      by _ (by_translation t good none own) = λ e q k. own ∙ (made good ∙ same_translation x y d e p q h k)
+
+-- the same of a problem by number of two texts
+pub certain_answers : (d p : List ℕ) (l : Lifted) (x : IsProblemOf d p l) (r : Result Report Memory) → l.unsure ≡ None → (IsCertain (lifted_view l) → IfOk r (EndsWithin (lifted_view l))) → IfOk r (λ z. Answers d p (status_of z))
+certain_answers d p l x (Ok r) e ends =
+    let known = certain d p l x e in
+    let n = x.resolved.numbered in
+    ends_answers d p x.first x.second x.trees (nothing_open d p l x e) (subst IsCertain n known) r (subst (λ m. EndsWithin m r) n (ends known))
+certain_answers d p l x (Err m) e ends = tt
+
+pub certain_translated : (d p : List ℕ) (l : Lifted) (x : IsProblemOf d p l) (r : Result Report Memory) → l.unsure ≡ None → (IsCertain (lifted_view l) → IfOk r (EndsWithin (lifted_view l))) → IfOk r (IsTranslated d p)
+certain_translated d p l x (Ok r) e ends =
+    let known = certain d p l x e in
+    let n = x.resolved.numbered in
+    ends_translated d p x.first x.second x.trees (nothing_open d p l x e) (subst IsCertain n known) r (subst (λ m. EndsWithin m r) n (ends known))
+certain_translated d p l x (Err m) e ends = tt

@@ -93,7 +93,7 @@ pub told_as : (D E : Status → Type 0) (report other : List ℕ) (old new : Opt
 told_as D E report other old new fo fn status.Done due same is h = h ∙ ap (with_bytes old) (same status.Done (is tt))
 told_as D E report other old new fo fn status.Negative due same is h = h
 told_as D E report other old new fo fn status.Usage due same is h = h
-told_as D E report other old new fo fn (status.Refused r) due same is h = h
+told_as D E report other old new fo fn (status.Refused r) due same is h = h ∙ ap (with_bytes old) (same (status.Refused r) (is tt))
 told_as D E report other old new fo fn status.Spent due same is h = h
 told_as D E report other old new fo fn status.ReadFault due same is h = h
 told_as D E report other old new fo fn status.WriteFault due same is (inl none) = inl none

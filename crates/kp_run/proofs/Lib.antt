@@ -1,5 +1,6 @@
 pub mod Computed
 pub mod Reading
+pub mod Denied
 pub mod Reporting
 pub mod Ending
 pub mod Words
@@ -8,4 +9,4 @@ pub mod OneAnswer
 pub mod Translated
 pub mod Results
 pub mod Soundness
-pub mod ExampleResult
+pub mod Answering

@@ -9,6 +9,7 @@ use Rattle.kp_base.specs.declared.refused.Refused.TheVariants as refusals
 use Rattle.kp_base.specs.declared.refused.Stop.{Stop}
 use Rattle.kp_base.specs.declared.refused.Stop.TheVariants as causes
 use Rattle.kp_grammar.specs.declared.tree.Word.{Word}
+use Rattle.kp_grammar.specs.Grammar as grammar
 use Rattle.kp_grammar.specs.Sorts.{Sort, El}
 use Rattle.kp_grammar.specs.Forms.{Form}
 use Rattle.kp_grammar.specs.Trees.{Domain, Problem}
@@ -20,6 +21,7 @@ use Rattle.kp_names.specs.Resolved.{RefusesNames, in_domain, in_problem, Answers
 use Rattle.kp_kept.specs.Counts.{RefusesCounts, bindings_over, actions_over, effects_over}
 use Rattle.kp_ground.specs.Grounded.{RefusesGround, counts_over, atoms_over}
 use Rattle.kp_run.specs.Due.{IsOrdinary}
+use Rattle.kp_run.specs.Reports.{IsProblemOf}
 
 -- ---- one tree
 
@@ -38,6 +40,11 @@ refused_file part X view text result r h e = subst (AnswersFile part X view text
 -- what is told of names that are refused
 pub refused_names : (x y : List ℕ) (d : Domain Word) (p : Problem Word) (result : Result Lifted Stop) (r : Refused) → AnswersNames x y d p result → result ≡ Err (causes.Refused r) → RefusesNames x y d p r
 refused_names x y d p result r h e = subst (AnswersNames x y d p) e h
+
+-- the problem by number of the trees that were read
+pub resolved_is : (x y : List ℕ) (d : Domain Word) (p : Problem Word) (result : Result Lifted Stop) → Reads grammar.domain x d → Reads grammar.problem y p → AnswersNames x y d p result → IfOk result (IsProblemOf x y)
+resolved_is x y d p (Ok l) h k a = record { first = d; second = p; trees = record { domain_reads = h; problem_reads = k; no_fault = a.no_fault }; resolved = a }
+resolved_is x y d p (Err e) h k a = tt
 
 -- such a refusal may come
 pub names_ordinary : (x y : List ℕ) (d : Domain Word) (p : Problem Word) (r : Refused) → RefusesNames x y d p r → IsOrdinary r

@@ -113,7 +113,7 @@ apart : (r : Refused) (c : ClashAt) → IsOrdinary r → status.Refused r ≡ st
 apart r c may e = go r (let f : r ≡ refusals.Clash c = cc in f) may
   where
     go : (x : Refused) → x ≡ refusals.Clash c → IsOrdinary x → ⊥
-    go _ refl m = m
+    go x e m = subst IsOrdinary e m
 
 pub one_result : HasOneResult
 one_result words held _ _ (usage a) (usage b) = refl

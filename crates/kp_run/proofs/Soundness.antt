@@ -17,7 +17,7 @@ use Rattle.kp_given.specs.Laws.{HasInitialState}
 use Rattle.kp_given.specs.Translations.{ground_of, initial_of}
 use Rattle.kp_sound.proofs.Trees.{translations_sound}
 use Rattle.kp_run.specs.Texts.{HaveTrees}
-use Rattle.kp_run.specs.Due.{IsStarted, AnswersTrees, not_yet, too_large, no_initial_state, clash, done}
+use Rattle.kp_run.specs.Due.{IsStarted, AnswersTrees, not_yet, too_large, no_initial_state, clash as when_clash, done as when_done}
 use Rattle.kp_run.specs.declared.status.Status.{Status}
 use Rattle.kp_run.specs.declared.status.Status.TheVariants as status
 use Rattle.kp_run.specs.Command.{Command, IsCommand}
@@ -61,8 +61,8 @@ is_done : (d : Domain Word) (p : Problem Word) (s : Status) → AnswersTrees d p
 is_done d p _ (not_yet a) e = absurd cc
 is_done d p _ (too_large r a b) e = absurd cc
 is_done d p _ (no_initial_state a b c) e = absurd cc
-is_done d p _ (clash c a b) e = absurd cc
-is_done d p _ (done a b) e = record { initial = a.initial; no_clash = b }
+is_done d p _ (when_clash c a b) e = absurd cc
+is_done d p _ (when_done a b) e = record { initial = a.initial; no_clash = b }
 
 sound_result : (words : List (Vec ℕ Global)) (before after : FileMap) (c : Command) (o : Outcome) → IsCommand words c → IsResult words before o → o.status ≡ status.Done → Some after ≡ with_files (Some before) o.puts → IsSound before after c
 sound_result words before after c _ is (usage none) done puts = absurd cc

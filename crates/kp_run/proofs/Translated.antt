@@ -1,5 +1,5 @@
 -- What a report has of a translation or a clash.
-use Rattle.std.proofs.Common.{◌≡◌, ℕ, List, Result, Ok, Err, IfOk, refl, sym, ap, ◌∙◌}
+use Rattle.std.proofs.Common.{◌≡◌, ℕ, List, Result, Ok, Err, IfOk, refl, sym, ap, subst, ◌∙◌}
 use Rattle.kp_base.specs.declared.memory.Memory.{Memory}
 use Rattle.kp_base.specs.declared.ground.Ground.{Ground}
 use Rattle.kp_base.specs.declared.refused.ClashAt.{ClashAt}
@@ -28,7 +28,7 @@ refused_is d p (Ok (reports.Clash at text)) x h may = absurd (clash_is_none at x
     refused_same e = cc
 
     clash_is_none : (c : ClashAt) (y : Refused) → refusals.Clash c ≡ y → IsOrdinary y → ⊥
-    clash_is_none c _ refl m = m
+    clash_is_none c y e m = subst IsOrdinary (sym e) m
 refused_is d p (Ok (reports.Done t)) x h may = absurd (cc h.1)
 refused_is d p (Err e) x h may = tt
 
@@ -58,6 +58,6 @@ pub clash_printed : (domain problem : List ℕ) (r : Report) (d : Domain Word) (
 clash_printed domain problem (reports.Refused x text) d p c trees own h e = absurd (no_clash x (let f : x ≡ refusals.Clash c = cc in f) own.1)
   where
     no_clash : (x : Refused) → x ≡ refusals.Clash c → IsOrdinary x → ⊥
-    no_clash _ refl m = m
+    no_clash x e m = subst IsOrdinary e m
 clash_printed domain problem (reports.Clash at text) d p c trees own h e = h d p trees ∙ ap (clash_text (ground_of d p)) (let f : at ≡ c = cc in f)
 clash_printed domain problem (reports.Done t) d p c trees own h e = absurd cc

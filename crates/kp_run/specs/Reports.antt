@@ -24,6 +24,8 @@ use Rattle.kp_meaning.specs.declared.lifted.Item.{Item}
 use Rattle.kp_meaning.specs.Numbered.{Lifted as Numbers}
 use Rattle.kp_names.specs.declared.lifted.Lifted.{Lifted}
 use Rattle.kp_names.specs.Resolved.{IsResolved}
+use Rattle.kp_base.specs.declared.lit.Lit.{Lit}
+use Rattle.kp_grounding.specs.declared.flat.Atom.{Atom}
 use Rattle.kp_grounding.specs.Static.{initially}
 use Rattle.kp_grounding.specs.Ground as by_number
 use Rattle.kp_ground.specs.Grounded.{IsGrounded, RefusesGround}
@@ -92,6 +94,10 @@ pub record IsProblemOf (domain problem : List ℕ) (l : Lifted) : Type 0 where
 abbrev pub is_denied : Numbers → Item → Bool
 is_denied l (Item.One m) = not m.positive && initially l m.pred m.objects
 is_denied l i = false
+
+-- what is known of the atom of this number at the start
+abbrev pub known_literal : Numbers → ℕ → Atom → Lit
+known_literal l n a = record { atom = record { 0 = n }; positive = initially l a.pred a.objects }
 
 -- the report on a ground problem that is within the limits
 pub data EndsBy (l : Numbers) : Report → Type 0 where

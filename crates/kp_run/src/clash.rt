@@ -1,4 +1,4 @@
-ghost use Rattle.std.specs.Prelude.{◌≡◌, ◌++◌, IfOk, OnOk, slice_get};
+ghost use Rattle.std.specs.Prelude.{◌≡◌, ◌++◌, Some, IfOk, OnOk, codes, slice_get};
 ghost use Rattle.std.specs.List.{flat_map};
 ghost use Rattle.kp_run.specs.Printed.{name_text, atom_text, literal_text, literals_text, condition_text, clash_lines, clash_text};
 

@@ -7,9 +7,11 @@ use Rattle.kp_run.proofs.Ending.{no_files, gets_stopped, told_of_due, puts_where
 use Rattle.kp_given.specs.Translations.{translation_of}
 use Rattle.kp_run.specs.Ends.{files_of}
 use Rattle.kp_run.specs.Reports.{HasFiles}
-use Rattle.kp_run.proofs.Translated.{has_files, same_text}
+use Rattle.kp_base.specs.declared.refused.Refused.TheVariants as refusals
+use Rattle.kp_run.proofs.OneAnswer.{files_once}
+use Rattle.kp_run.proofs.Translated.{has_files, same_text, clash_printed}
 use Rattle.kp_run.proofs.Ending.{tells_stopped, told_as}
-use Rattle.kp_run.proofs.Results.{usage_result, report_result}
+use Rattle.kp_run.proofs.Results.{usage_result, report_result, answers_held}
 use Rattle.kp_run.proofs.Soundness.{is_sound, never_done}
 use Rattle.kp_run.specs.Ends.{IsAnswer}
 use Rattle.kp_run.proofs.entry.run.Goals as goal
@@ -90,22 +92,41 @@ returns-in-Err-clause-sound g c before after other told held is done = absurd (n
 -- ---- the translation
 
 pub returns-in_default-clause-translated : goal.returns-in_default-clause-translated
-returns-in_default-clause-translated g c m other domain problem d p told is = absurd (c.in_default.ensures other is)
+returns-in_default-clause-translated g c m other d p told is holds all_done = absurd (c.in_default.ensures other is)
+
+pub returns-in_default-clause-clash : goal.returns-in_default-clause-clash
+returns-in_default-clause-clash g c m other d p at told is holds clashes = absurd (c.in_default.ensures other is)
 
 pub returns-in-Err-clause-translated : goal.returns-in-Err-clause-translated
-returns-in-Err-clause-translated g c m other domain problem d p told is first second dom prob =
+returns-in-Err-clause-translated g c m other d p told is holds all_done =
     (rw c.stopped.ensures (gets_stopped _ other (files_of (translation_of d p)) _ _ _ _ c.in-Err.stop c.in-Err.ensures.contents), rw c.stopped.ensures (tells_stopped _ _ _ _ _ c.in-Err.stop))
 
+pub returns-in-Err-clause-clash : goal.returns-in-Err-clause-clash
+returns-in-Err-clause-clash g c m other d p at told is holds clashes = rw c.stopped.ensures (tells_stopped _ _ _ _ _ c.in-Err.stop)
+
+-- the report's answer is the one on the trees
 pub returns-in-Ok-clause-translated : goal.returns-in-Ok-clause-translated
-returns-in-Ok-clause-translated g c m other domain problem d p told is first second dom prob =
+returns-in-Ok-clause-translated g c m other d p told is holds all_done =
     let P = IsDue c.args.words.now (g.S.Shelf.contents c.args.shelf.now) in
     let same = one_command c.args.words.now other c.in-Some.command is c.in-Some.ensures in
-    let has : HasFiles c.in-Ok.report (translation_of d p) = has_files domain problem c.in-Ok.report d p dom prob (c.in-Ok.ensures.translated m told domain problem (rw same at first) (rw same at second)) in
+    let here = rw same at holds in
+    let answer = files_once m c.in-Some.command (status_of c.in-Ok.report) status.Done (c.in-Ok.ensures.answers m told) (answers_held m c.in-Some.command d p status.Done here all_done) in
+    let has : HasFiles c.in-Ok.report (translation_of d p) = has_files here.domain here.problem c.in-Ok.report d p here.trees (c.in-Ok.ensures.translated m told here.domain here.problem here.domain_held here.problem_held) in
     let due : (status_of c.in-Ok.report ≡ status.Done) → P status.Done = λ done. subst P done (is_due c.args.words.now _ c.in-Some.command c.in-Ok.report c.in-Some.ensures c.in-Ok.ensures.text c.in-Ok.ensures.answers) in
     let put = puts_where (status_of c.in-Ok.report ≡ status.Done) (P status.Done) c.in-Some.command (files_of (translation_of d p)) _ (g.S.Shelf.contents c.finish.new.shelf) (g.S.Shelf.put_faults c.read_report.new.shelf) (g.S.Shelf.put_faults c.args.shelf.now) (g.S.Shelf.put_faults c.finish.new.shelf) c.finish.result due c.in-Ok.ensures.put_faults (c.finish.ensures.its_files (translation_of d p) has) in
-    let here = rw c.in-Ok.ensures.contents at put in (
-      rw same here,
+    let there = rw c.in-Ok.ensures.contents at put in (
+      rw same there,
       told_as (λ s. s ≡ status_of c.in-Ok.report) P (printed_of c.in-Ok.report) _ _ _ _ _ c.finish.result
           (λ t so. subst P (sym so) (is_due c.args.words.now _ c.in-Some.command c.in-Ok.report c.in-Some.ensures c.in-Ok.ensures.text c.in-Ok.ensures.answers))
-          (same_text c.in-Ok.report (translation_of d p) has) c.finish.ensures.answer c.finish.ensures.told,
+          (same_text c.in-Ok.report (translation_of d p) c.in-Ok.ensures.text has answer) c.finish.ensures.answer c.finish.ensures.told,
     )
+
+pub returns-in-Ok-clause-clash : goal.returns-in-Ok-clause-clash
+returns-in-Ok-clause-clash g c m other d p at told is holds clashes =
+    let P = IsDue c.args.words.now (g.S.Shelf.contents c.args.shelf.now) in
+    let same = one_command c.args.words.now other c.in-Some.command is c.in-Some.ensures in
+    let here = rw same at holds in
+    let answer = files_once m c.in-Some.command (status_of c.in-Ok.report) (status.Refused (refusals.Clash at)) (c.in-Ok.ensures.answers m told) (answers_held m c.in-Some.command d p (status.Refused (refusals.Clash at)) here clashes) in
+    let printed = clash_printed here.domain here.problem c.in-Ok.report d p at here.trees c.in-Ok.ensures.text (c.in-Ok.ensures.translated m told here.domain here.problem here.domain_held here.problem_held) answer in
+    rw (← printed) (told_of_due (λ s. s ≡ status_of c.in-Ok.report) P _ _ _ _ _ c.finish.result
+    (λ t so. subst P (sym so) (is_due c.args.words.now _ c.in-Some.command c.in-Ok.report c.in-Some.ensures c.in-Ok.ensures.text c.in-Ok.ensures.answers)) c.finish.ensures.told)

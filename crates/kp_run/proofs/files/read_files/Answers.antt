@@ -1,11 +1,12 @@
-use Rattle.std.proofs.Common.{◌≡◌, ℕ, List, subst}
+use Rattle.std.proofs.Common.{◌≡◌, ℕ, List, IfOk, subst}
 use Rattle.kp_base.specs.declared.refused.Part.TheVariants as parts
 use Rattle.kp_grammar.specs.Grammar as grammar
 use Rattle.kp_grammar.specs.View.{domain_view, problem_view}
 use Rattle.kp_tree.specs.Files.{Reads}
 use Rattle.kp_names.specs.Resolved.{RefusesNames}
 use Rattle.kp_run.specs.Texts.{of_domain, of_problem, of_names}
-use Rattle.kp_run.proofs.Reading.{refused_file, refused_names, names_of_translate}
+use Rattle.kp_run.specs.Reports.{IsProblemOf}
+use Rattle.kp_run.proofs.Reading.{refused_file, refused_names, resolved_is, names_ordinary}
 use Rattle.kp_run.proofs.files.read_files.Goals as goal
 
 -- the domain is refused
@@ -20,9 +21,11 @@ returns-in_err-problem_tree-clause-refused c d p r first second is =
     (subst (λ (text : List ℕ). Reads grammar.domain text (domain_view c.in_ok-domain_tree.domain_tree)) (c.in_ok-domain_tree.ensures.whole d first) c.in_ok-domain_tree.ensures.tree)
     (refused_file parts.Problem grammar.problem problem_view p c.problem_of.result r (c.problem_of.ensures.front p second) (let e = rw is at c.from_residual-in_err-problem_tree.ensures.1 in cc (c.in_err-problem_tree.was, e)))
 
+-- ---- both are trees
+
 -- a name is refused
-pub returns-in_err-resolve-clause-refused : goal.returns-in_err-resolve-clause-refused
-returns-in_err-resolve-clause-refused c d p r first second is =
+pub returns-clause-refused : goal.returns-clause-refused
+returns-clause-refused c d p r first second is =
     let dv = domain_view c.in_ok-domain_tree.domain_tree in
     let pv = problem_view c.in_ok-problem_tree.problem_tree in
     let same = c.in_ok-domain_tree.ensures.whole d first in
@@ -31,16 +34,20 @@ returns-in_err-resolve-clause-refused c d p r first second is =
     (subst (λ (text : List ℕ). Reads grammar.domain text dv) same c.in_ok-domain_tree.ensures.tree)
     (subst (λ (text : List ℕ). Reads grammar.problem text pv) also c.in_ok-problem_tree.ensures.tree)
     (subst (λ (text : List ℕ). RefusesNames d text dv pv r) also (subst (λ (text : List ℕ). RefusesNames text c.args.problem.bytes dv pv r) same
-    (refused_names c.args.domain.bytes c.args.problem.bytes dv pv c.resolve.result r c.resolve.ensures (let e = rw is at c.from_residual-in_err-resolve.ensures.1 in cc (c.in_err-resolve.was, e)))))
+    (refused_names c.args.domain.bytes c.args.problem.bytes dv pv c.resolve.result r c.resolve.ensures is)))
 
-pub returns-in_err-resolve-clause-refusal : goal.returns-in_err-resolve-clause-refusal
-returns-in_err-resolve-clause-refusal c r is =
+pub returns-clause-refusal : goal.returns-clause-refusal
+returns-clause-refusal c r is =
     let dv = domain_view c.in_ok-domain_tree.domain_tree in
     let pv = problem_view c.in_ok-problem_tree.problem_tree in
-    names_of_translate c.args.domain.bytes c.args.problem.bytes dv pv r (refused_names c.args.domain.bytes c.args.problem.bytes dv pv c.resolve.result r c.resolve.ensures (let e = rw is at c.from_residual-in_err-resolve.ensures.1 in cc (c.in_err-resolve.was, e)))
+    names_ordinary c.args.domain.bytes c.args.problem.bytes dv pv r (refused_names c.args.domain.bytes c.args.problem.bytes dv pv c.resolve.result r c.resolve.ensures is)
 
-pub returns-clause-trees : goal.returns-clause-trees
-returns-clause-trees c = record { domain_reads = c.in_ok-domain_tree.ensures.tree; problem_reads = c.in_ok-problem_tree.ensures.tree; no_fault = c.in_ok-resolve.ensures.no_fault }
-
-pub returns-clause-whole : goal.returns-clause-whole
-returns-clause-whole c d p first second = (c.in_ok-domain_tree.ensures.whole d first, c.in_ok-problem_tree.ensures.whole p second)
+-- the problem by number
+pub returns-clause-resolved : goal.returns-clause-resolved
+returns-clause-resolved c d p first second =
+    let dv = domain_view c.in_ok-domain_tree.domain_tree in
+    let pv = problem_view c.in_ok-problem_tree.problem_tree in
+    let same = c.in_ok-domain_tree.ensures.whole d first in
+    let also = c.in_ok-problem_tree.ensures.whole p second in
+    let here = resolved_is c.args.domain.bytes c.args.problem.bytes dv pv c.resolve.result c.in_ok-domain_tree.ensures.tree c.in_ok-problem_tree.ensures.tree c.resolve.ensures in
+    subst (λ (y : List ℕ). IfOk c.resolve.result (IsProblemOf d y)) also (subst (λ (x : List ℕ). IfOk c.resolve.result (IsProblemOf x c.args.problem.bytes)) same here)
