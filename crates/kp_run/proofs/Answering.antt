@@ -28,7 +28,8 @@ use Rattle.kp_run.specs.declared.answer.Report.{Report}
 use Rattle.kp_run.specs.declared.answer.Report.TheVariants as reports
 use Rattle.kp_run.specs.declared.status.Status.{Status}
 use Rattle.kp_run.specs.declared.status.Status.TheVariants as status
-use Rattle.kp_run.specs.Due.{LeavesNothingOpen, IsStarted, AnswersTrees, not_yet, too_large, no_initial_state, clash, done, Answers, on_trees}
+use Rattle.kp_ground.specs.Grounded.{IsGrounded, RefusesGround}
+use Rattle.kp_run.specs.Due.{usual, LeavesNothingOpen, IsStarted, AnswersTrees, not_yet, too_large, no_initial_state, clash, done, Answers, on_trees}
 use Rattle.kp_run.specs.Texts.{HaveTrees}
 use Rattle.kp_run.specs.Reports.{status_of, HasItsText, IsTranslated, IsRefusal, IsProblemOf, EndsBy, by_contradiction, by_clash, by_translation, EndsWithin, over, within}
 use Rattle.kp_run.proofs.Translated.{same_translation, same_clash}
@@ -79,6 +80,20 @@ refused_translated d p x (Err m) is = tt
 pub refused_answers : (d p : List ℕ) (x : Refused) (r : Result Report Memory) → IfOk r (IsRefusal x) → Answers d p (status.Refused x) → IfOk r (λ z. Answers d p (status_of z))
 refused_answers d p x (Ok r) is a = refusal_answers d p r x is a
 refused_answers d p x (Err m) is a = tt
+
+-- ---- what a problem by number ends with
+
+pub refused_ends : (l : Numbers) (r : Result Report Memory) → contradicts l ≡ true → IfOk r (IsRefusal refusals.NoInitialState) → IfOk r (EndsBy l)
+refused_ends l (Ok r) bad is = by_contradiction r bad is
+refused_ends l (Err m) bad is = tt
+
+pub over_ends : (l : Numbers) (x : Refused) (r : Result Report Memory) → RefusesGround l usual x → IfOk r (IsRefusal x) → IfOk r (EndsWithin l)
+over_ends l x (Ok r) too is = over x too is
+over_ends l x (Err m) too is = tt
+
+pub within_ends : (l : Numbers) (g : Ground) (r : Result Report Memory) → IsGrounded l usual g → IfOk r (EndsBy l) → IfOk r (EndsWithin l)
+within_ends l g (Ok r) w ends = within (record { counts = w.counts; atoms = w.atoms; ground = refl }) ends
+within_ends l g (Err m) w ends = tt
 
 -- ---- trees that leave nothing open
 

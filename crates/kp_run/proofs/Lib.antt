@@ -1,6 +1,7 @@
 pub mod Computed
 pub mod Reading
 pub mod Denied
+pub mod FirstTruths
 pub mod Reporting
 pub mod Ending
 pub mod Words

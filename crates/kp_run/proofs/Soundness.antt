@@ -43,7 +43,7 @@ under_another m name other content apart =
 -- ---- the result
 
 -- the problem of two texts that have these trees
-problem_of : (domain problem : List ℕ) (d : Domain Word) (p : Problem Word) → HaveTrees domain problem d p → HasProblem domain problem
+abbrev problem_of : (domain problem : List ℕ) (d : Domain Word) (p : Problem Word) → HaveTrees domain problem d p → HasProblem domain problem
 problem_of domain problem d p h = record {
   domain = d;
   problem = p;

@@ -1,6 +1,5 @@
 -- The texts that are printed.
-use Rattle.std.specs.Prelude.{List, [], ◌++◌, ℕ, Option, Some, None, if◌then◌else◌, codes, decimal, slice_get}
-use Rattle.std.specs.List.{flat_map}
+use Rattle.std.specs.Prelude.{List, [], ◌∷◌, ◌++◌, ℕ, Option, Some, None, if◌then◌else◌, codes, decimal, slice_get}
 use Rattle.kp_base.specs.declared.lit.Lit.{Lit}
 use Rattle.kp_base.specs.declared.ground.GroundName.{GroundName}
 use Rattle.kp_base.specs.declared.ground.Effect.{Effect}
@@ -45,9 +44,14 @@ place_line place = codes "at " ++ (part_text place.part ++ (codes " line " ++ (d
 
 -- ---- clashes
 
+-- objects, each behind a space
+abbrev pub objects_text : List (List ℕ) → List ℕ
+objects_text [] = []
+objects_text (o ∷ os) = codes " " ++ (o ++ objects_text os)
+
 -- a name: its head, and its objects behind it
 abbrev pub name_text : GroundName → List ℕ
-name_text n = codes "(" ++ (n.head ++ (flat_map (λ o. codes " " ++ o) n.objects ++ codes ")"))
+name_text n = codes "(" ++ (n.head ++ (objects_text n.objects ++ codes ")"))
 
 -- the name of the atom of this number, if there is one
 abbrev pub atom_text : Option GroundName → List ℕ
@@ -60,22 +64,22 @@ literal_text atoms l = if l.positive then atom_text (slice_get atoms l.atom.0) e
 
 -- literals, each behind a space
 abbrev pub literals_text : List GroundName → List Lit → List ℕ
-literals_text atoms ls = flat_map (λ l. codes " " ++ literal_text atoms l) ls
+literals_text atoms [] = []
+literals_text atoms (l ∷ ls) = codes " " ++ (literal_text atoms l ++ literals_text atoms ls)
 
 -- the condition of an effect, if there is one
 abbrev pub condition_text : List GroundName → Option Effect → List ℕ
 condition_text atoms None = []
 condition_text atoms (Some e) = literals_text atoms e.cond
 
--- a clash of this action: the action, the atom, and the conditions of the add and of the delete
+-- the conditions of the add and of the delete of a clash
+abbrev pub conditions_text : List GroundName → List Effect → ClashAt → List ℕ
+conditions_text atoms es c = codes "\nadd" ++ (condition_text atoms (slice_get es c.add) ++ (codes "\ndelete" ++ (condition_text atoms (slice_get es c.delete) ++ codes "\n")))
+
+-- the lines of a clash of this action: the action, the atom, and the conditions
 abbrev pub clash_lines : List GroundName → Option Action → ClashAt → List ℕ
 clash_lines atoms None c = []
-clash_lines atoms (Some a) c =
-    codes "action " ++ (name_text a.name
-    ++ (codes "\natom " ++ (atom_text (slice_get atoms c.atom.0)
-    ++ (codes "\nadd" ++ (condition_text atoms (slice_get a.effects c.add)
-    ++ (codes "\ndelete" ++ (condition_text atoms (slice_get a.effects c.delete)
-    ++ codes "\n")))))))
+clash_lines atoms (Some a) c = codes "action " ++ (name_text a.name ++ (codes "\natom " ++ (atom_text (slice_get atoms c.atom.0) ++ conditions_text atoms a.effects c)))
 
 -- the refusal of a clash in a ground problem
 abbrev pub clash_text : Ground → ClashAt → List ℕ

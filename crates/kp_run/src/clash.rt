@@ -1,6 +1,5 @@
-ghost use Rattle.std.specs.Prelude.{◌≡◌, ◌++◌, Some, IfOk, OnOk, codes, slice_get};
-ghost use Rattle.std.specs.List.{flat_map};
-ghost use Rattle.kp_run.specs.Printed.{name_text, atom_text, literal_text, literals_text, condition_text, clash_lines, clash_text};
+ghost use Rattle.std.specs.Prelude.{◌≡◌, ◌++◌, Some, IfOk, OnOk, slice_get};
+ghost use Rattle.kp_run.specs.Printed.{objects_text, name_text, atom_text, literal_text, literals_text, condition_text, conditions_text, clash_lines, clash_text};
 
 use crate::printed::put;
 use kp_base::{Action, ClashAt, Effect, Ground, GroundName, Lit, Memory, Row, Text};
@@ -8,7 +7,7 @@ use std::alloc::Global;
 
 // Adds objects, each behind a space.
 fn put_objects(out: &mut Vec<u8>, objects: &[Text]) -> Result<(), Memory>
-    ensures { OnOk result (out.new.items ≡ out.old.items ++ flat_map (λ o. codes " " ++ o) objects.now) }
+    ensures { OnOk result (out.new.items ≡ out.old.items ++ objects_text objects.now) }
 {
     for object in objects {
         put(out, b" ")?;
@@ -75,7 +74,23 @@ fn put_condition(
     }
 }
 
-// Adds the lines of an action's clash.
+// Adds the conditions of the add and of the delete of a clash.
+fn put_conditions(
+    out: &mut Vec<u8>,
+    atoms: &[GroundName],
+    effects: &[Effect],
+    clash: &ClashAt,
+) -> Result<(), Memory>
+    ensures { OnOk result (out.new.items ≡ out.old.items ++ conditions_text atoms.now effects.now clash.now) }
+{
+    put(out, b"\nadd")?;
+    put_condition(out, atoms, effects, clash.add)?;
+    put(out, b"\ndelete")?;
+    put_condition(out, atoms, effects, clash.delete)?;
+    put(out, b"\n")
+}
+
+// Adds the lines of a clash of an action.
 fn put_clash(
     out: &mut Vec<u8>,
     atoms: &[GroundName],
@@ -88,11 +103,7 @@ fn put_clash(
     put_name(out, &action.name)?;
     put(out, b"\natom ")?;
     put_atom(out, atoms, clash.atom.0)?;
-    put(out, b"\nadd")?;
-    put_condition(out, atoms, action.effects.slice(), clash.add)?;
-    put(out, b"\ndelete")?;
-    put_condition(out, atoms, action.effects.slice(), clash.delete)?;
-    put(out, b"\n")
+    put_conditions(out, atoms, action.effects.slice(), clash)
 }
 
 /// The lines of a clash in a ground problem: its action, its atom, and the conditions of its add and its delete.

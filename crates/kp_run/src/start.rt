@@ -1,4 +1,4 @@
-ghost use Rattle.std.specs.Prelude.{◌≡◌, IfOk};
+ghost use Rattle.std.specs.Prelude.{◌≡◌, ◌≤◌, length, IfOk};
 ghost use Rattle.std.specs.List.{list_any};
 ghost use Rattle.kp_names.specs.View.{lifted_view};
 ghost use Rattle.kp_given.specs.Certain.{IsCertain, contradicts, known_from};
@@ -51,15 +51,27 @@ fn known(statics: &Statics, number: u32, atom: &Atom) -> Lit
     }
 }
 
-/// What is known of these atoms at the start, where `:init` has literals alone: whether each holds.
-pub fn known_at_first(alloc: Global, statics: &Statics, atoms: &[Atom]) -> Result<Row<Lit>, Memory>
+// What is known of each of these atoms, the first of which has the number 0.
+fn known_of(alloc: Global, statics: &Statics, atoms: &[Atom]) -> Result<Row<Lit>, Memory>
+    requires { length atoms.now ≤ 4294967295 }
     ensures { IfOk result (λ start. start ≡ known_from (lifted_view statics.now.lifted.now) 0 atoms.now) }
 {
     let mut start = Row::new(alloc);
     let mut number = 0u32;
     for atom in atoms {
         start.push(known(statics, number, atom))?;
-        number = number.checked_add(1).ok_or(Memory)?;
+        number += 1;
     }
     Ok(start)
+}
+
+/// What is known of these atoms at the start, where `:init` has literals alone: whether each holds. More of them than
+/// a `u32` counts are want of memory.
+pub fn known_at_first(alloc: Global, statics: &Statics, atoms: &[Atom]) -> Result<Row<Lit>, Memory>
+    ensures { IfOk result (λ start. start ≡ known_from (lifted_view statics.now.lifted.now) 0 atoms.now) }
+{
+    if atoms.len() > u32::MAX as usize {
+        return Err(Memory);
+    }
+    known_of(alloc, statics, atoms)
 }

@@ -21,12 +21,12 @@ pub returns-clause-puts : goal.returns-clause-puts
 returns-clause-puts g c = (files_of c.in-Done.files, rw c.stopped.ensures (puts_some _ c.args.command.now (files_of c.in-Done.files) _ _ _ _ c.in-Err.stop (ap status_of c.in-Done.is) (λ is. c.put_both.ensures.failed (c.in-Err.is ∙ ap Err is)) (λ is. c.put_both.ensures.memory (c.in-Err.is ∙ ap Err is))))
 
 pub returns-in-Clash-clause-puts : goal.returns-in-Clash-clause-puts
-returns-in-Clash-clause-puts g c = (no_files, puts_nothing _ c.args.command.now no_files _ _ _ c.end_with.result c.end_with.ensures.answer)
+returns-in-Clash-clause-puts g c = (no_files, puts_nothing _ c.args.command.now no_files _ _ _ c.end_with-in-Clash.result c.end_with-in-Clash.ensures.answer)
 
 -- ---- the files of the report
 
 pub returns-in-Clash-clause-its_files : goal.returns-in-Clash-clause-its_files
-returns-in-Clash-clause-its_files g c t h = puts_nothing _ c.args.command.now (files_of t) _ _ _ c.end_with.result c.end_with.ensures.answer
+returns-in-Clash-clause-its_files g c t h = puts_nothing _ c.args.command.now (files_of t) _ _ _ c.end_with-in-Clash.result c.end_with-in-Clash.ensures.answer
 
 pub returns-in-Refused-clause-its_files : goal.returns-in-Refused-clause-its_files
 returns-in-Refused-clause-its_files g c t h = puts_nothing _ c.args.command.now (files_of t) _ _ c.in-Refused.refused c.end_with.result c.end_with.ensures.answer
