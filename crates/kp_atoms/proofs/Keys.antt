@@ -1,8 +1,8 @@
 -- Atoms as a set keeps them: what is found, added and sorted there.
-use Rattle.std.proofs.Common.{◌≡◌, ℕ, suc, ◌+◌, ◌<◌, ◌≤◌, Bool, true, false, ◌&&◌, ◌||◌, if◌then◌else◌, List, [], ◌∷◌, ◌++◌, length, map, get_or, nat_eq, refl, sym, ap, subst, ◌∙◌, inl, inr, arith, is_lt, Ordering, Less, Equal, Greater, nat_cmp, IsSorted, bytes_eq, Vec, Global, Option, Some, None, position, cond, not, nat_lt}
+use Rattle.std.proofs.Common.{◌≡◌, ℕ, suc, ◌+◌, Bool, true, false, List, [], ◌∷◌, length, map, get_or, refl, sym, ap, subst, ◌∙◌, arith, is_lt, Ordering, Less, Equal, Greater, nat_cmp, IsSorted, bytes_eq, Vec, Global, Some, None, position, cond, not, nat_lt}
 use Rattle.std.specs.List.{list_any, list_all, IsDistinct, position_or_len}
 use Rattle.std.specs.Ordering.{ordering_reverse, ordering_then, is_eq}
-use Rattle.std.specs.Cmp.Lexicographic.{slice_cmp, pointwise, texts_ties, nat_list_cmp_total}
+use Rattle.std.specs.Cmp.Lexicographic.{slice_cmp, texts_ties, nat_list_cmp_total}
 use Rattle.std.proofs.lemmas.Bool.{and_from, false≢true, ltb-false}
 use Rattle.std.proofs.lemmas.Bool.Decides.{nat_tests}
 use Rattle.std.proofs.lemmas.Cmp.{same_from_slice_cmp}

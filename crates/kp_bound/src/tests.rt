@@ -161,8 +161,12 @@ fn instances_are_flattened(rt: HostRuntime) -> Result<(), Fail> {
         )
     );
 
-    let bump = Bump::new(alloc);
-    let node = bind(&bump, alloc, &lifted, 0, &objects)?;
-    assert!(rt; flatten(alloc, &lifted, &node)? == flat);
+    let mut bump = Bump::new(alloc);
+    let again = {
+        let node = bind(&bump, alloc, &lifted, 0, &objects)?;
+        flatten(alloc, &lifted, &node)?
+    };
+    assert!(rt; bump.reset().is_ok());
+    assert!(rt; again == flat);
     Ok(())
 }

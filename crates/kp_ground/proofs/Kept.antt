@@ -1,5 +1,5 @@
 -- Kept instances have schemas, and their actions are the actions of the ground problem.
-use Rattle.std.proofs.Common.{◌≡◌, ℕ, zero, suc, ◌<◌, Bool, true, List, [], ◌∷◌, Option, Some, None, map, length, nat_lt, slice_get, option_map, Err, refl, sym, ap₂, subst, ◌∙◌, arith}
+use Rattle.std.proofs.Common.{◌≡◌, ℕ, zero, suc, ◌<◌, true, List, [], ◌∷◌, Option, Some, None, map, length, slice_get, option_map, Err, refl, sym, ap₂, subst, ◌∙◌, arith}
 use Rattle.std.specs.List.{list_all, flat_map}
 use Rattle.std.proofs.lemmas.Bool.{lt-ltb}
 use Rattle.kp_base.specs.declared.lit.Lit.{Lit}
@@ -9,7 +9,7 @@ use Rattle.kp_base.specs.declared.limits.Limits.{Limits}
 use Rattle.kp_base.specs.declared.refused.Stop.{Stop}
 use Rattle.kp_base.specs.declared.refused.Stop.TheVariants as stops
 use Rattle.kp_base.specs.declared.ground.GroundName.{GroundName}
-use Rattle.kp_base.proofs.Lists.{all_from, map_map}
+use Rattle.kp_base.proofs.Lists.{all_from}
 use Rattle.kp_meaning.specs.Numbered.{Schema, Lifted}
 use Rattle.kp_meaning.specs.Lifted.{Instance, schema_of}
 use Rattle.kp_grounding.specs.declared.flat.Atom.{Atom}

@@ -1,5 +1,5 @@
 -- The gathered atoms, sorted, are the ground atoms, where the limit isn't passed; and where it is, there are too many.
-use Rattle.std.proofs.Common.{◌≡◌, ℕ, ◌<◌, ◌≤◌, Bool, true, List, [], map, length, sym, ap, subst, ◌∙◌, arith}
+use Rattle.std.proofs.Common.{◌≡◌, ℕ, ◌≤◌, true, List, [], map, length, sym, subst, ◌∙◌}
 use Rattle.std.proofs.lemmas.Map.Made.{length-le_from_is_member}
 use Rattle.kp_base.proofs.Lists.{bool_same, map_member, member_at}
 use Rattle.kp_meaning.specs.Numbered.{Lifted}

@@ -1,7 +1,7 @@
 ghost use Rattle.std.specs.Prelude.{◌≡◌, ◌∷◌, [], ◌++◌, not, ◌&&◌, map, IfOk, OnOk};
 ghost use Rattle.kp_base.specs.Lists.{only_if};
 ghost use Rattle.kp_base.specs.Steps.{has};
-ghost use Rattle.kp_grounding.specs.Ground.{is_within, is_idle, lasting};
+ghost use Rattle.kp_grounding.specs.Ground.{is_within, lasting};
 ghost use Rattle.kp_ground.specs.Adds.{adds_at, covered};
 
 use crate::adds::Adds;
@@ -16,7 +16,7 @@ fn in_either(one: &LitSet, other: &LitSet, lit: Lit) -> bool
 }
 
 // Whether each literal is in one of two sets.
-fn within_both(lits: &LitSet, one: &LitSet, other: &LitSet) -> bool
+fn within_either(lits: &LitSet, one: &LitSet, other: &LitSet) -> bool
     ensures { result ≡ is_within lits.now (one.now ++ other.now) }
 {
     lits.slice().iter().all(|lit| in_either(one, other, *lit))
@@ -27,7 +27,7 @@ fn covers(adds: &[&Effect], pre: &LitSet, effect: &Effect) -> bool
     ensures { result ≡ covered pre.now effect.now (map (λ add. add.now) adds.now) }
 {
     for add in adds {
-        if within_both(&add.cond, &effect.cond, pre) {
+        if within_either(&add.cond, &effect.cond, pre) {
             return true;
         }
     }

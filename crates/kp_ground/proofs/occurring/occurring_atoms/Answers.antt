@@ -1,4 +1,4 @@
-use Rattle.std.proofs.Common.{◌≡◌, ◌<◌, ◌≤◌, [], length, refl, sym, ap, subst, ◌∙◌, arith}
+use Rattle.std.proofs.Common.{◌≤◌, [], length, refl, ap, subst, arith}
 use Rattle.kp_atoms.specs.Gathered.{gather, IsSortOf}
 use Rattle.kp_bound.specs.Problem.{problem_of}
 use Rattle.kp_ground.specs.Passes.{noted}

@@ -1,6 +1,4 @@
-use Rattle.std.proofs.Common.{◌&&◌, nat_eq, nat_cmp, refl, ◌∙◌, sym}
-use Rattle.std.specs.Ordering.{ordering_then}
-use Rattle.std.specs.Cmp.Lexicographic.{slice_cmp, pointwise}
+use Rattle.std.proofs.Common.{refl, ◌∙◌, sym}
 use Rattle.std.proofs.lemmas.List.{length-map}
 use Rattle.kp_atoms.specs.Gathered.{kept_atom}
 use Rattle.kp_atoms.proofs.Keys.{sorted_ascends, reordered, key_orders}
