@@ -78,10 +78,7 @@ fn limit_of_atoms(rt: HostRuntime) -> Result<(), Fail> {
         assert!(rt; false, "the files have a problem");
         return Ok(());
     };
-    let cases = [
-        (3, (3, 1, None)),
-        (2, (0, 0, Some(Refused::AtomsOver))),
-    ];
+    let cases = [(3, (3, 1, None)), (2, (0, 0, Some(Refused::AtomsOver)))];
     for (atoms, expected) in cases {
         let mut limits = Limits::usual();
         limits.atoms = atoms;

@@ -11,3 +11,4 @@ pub mod Translated
 pub mod Results
 pub mod Soundness
 pub mod Answering
+pub mod ExampleResult

@@ -1,0 +1,355 @@
+-- Words and what is held, with the one answer and result: a translation, the usage, each kind of refusal and a clash, and none where a file isn't held.
+use Rattle.std.proofs.Common.{◌≡◌, ◌≢◌, ◌<◌, ◌^◌, ℕ, true, false, List, [], ◌∷◌, length, get_or, nat_eq, Option, Some, None, Vec, codes, refl, sym, ap, subst, ◌∙◌, arith}
+use Rattle.std.specs.FinMap.{empty, get, insert, get-empty}
+use Rattle.std.specs.Fmt.{digits}
+use Rattle.std.specs.List.{starts_with}
+use Rattle.std.specs.Ordering.{nat_cmp}
+use Rattle.std.specs.Cmp.Lexicographic.{slice_cmp}
+use Rattle.std.specs.declared.alloc.Global.{Global}
+use denote.RawPtr.{null_ptr}
+use lib.Utf8.{encode}
+use Rattle.std.proofs.lemmas.Bool.{false≢true}
+use Rattle.kp_base.proofs.Lists.{same-refl}
+use Rattle.kp_base.specs.declared.ground.Ground.{Ground}
+use Rattle.kp_base.specs.declared.refused.ClashAt.{ClashAt}
+use Rattle.kp_base.specs.declared.refused.Part.TheVariants as parts
+use Rattle.kp_base.specs.declared.refused.Refused.{Refused}
+use Rattle.kp_base.specs.declared.refused.Refused.TheVariants as refusals
+use Rattle.kp_base.specs.Clashes.{no_pairs, HasNoClash, IsFirstClash}
+use Rattle.kp_clash.specs.Searching.{first_from}
+use Rattle.kp_clash.proofs.InOrder.{IsFound, found_in, is_first, none_clashes}
+use Rattle.kp_lex.specs.Bytes.{class_of}
+use Rattle.kp_lex.specs.Cutting.{at_end}
+use Rattle.kp_lex.specs.Scanning.{cut_from}
+use Rattle.kp_grammar.specs.Symbols.{symbol_of}
+use Rattle.kp_grammar.specs.Parsing.{some_at, next_at}
+use Rattle.kp_grammar.specs.Trees.{Cond, Eff, Item, Schema, Domain, Problem, conds_of, effs_of}
+use Rattle.kp_grammar.specs.declared.tree.Word.{Word}
+use Rattle.kp_grammar.specs.Grammar as grammar
+use Rattle.kp_grammar.specs.Reading.{stop, within_form, s_unopened}
+use Rattle.kp_grammar.proofs.ExampleTexts.{word_at, atom_at, pred_at, exchange, exchange_tree, from_p_to_q, from_p_to_q_tree}
+use Rattle.kp_meaning.specs.Faults as faults
+use Rattle.kp_meaning.specs.Names.{same}
+use Rattle.kp_meaning.specs.Numbered.{Lifted}
+use Rattle.kp_meaning.specs.Numbering.{numbered_problem}
+use Rattle.kp_meaning.proofs.Texts.{tokens}
+use Rattle.kp_tree.specs.Files.{Reads, offending}
+use Rattle.kp_tree.specs.Files as files
+use Rattle.kp_names.specs.Resolved.{in_problem}
+use Rattle.kp_grounding.specs.Ground.{kept_instances, ground_atoms}
+use Rattle.kp_grounding.specs.Ground as by_number
+use Rattle.kp_grounding.specs.Weights.{binding_count, total_weight}
+use Rattle.kp_ground.specs.Grounded.{IsGrounded}
+use Rattle.kp_given.specs.Certain.{contradicts}
+use Rattle.kp_given.specs.Laws.{HasInitialState}
+use Rattle.kp_given.specs.Translations.{ground_of, translation_of}
+use Rattle.kp_given.proofs.Certain.{sure_certain, contradictions}
+use Rattle.kp_outside.specs.Outside.{FileMap}
+use Rattle.kp_run.specs.declared.status.Status.{Status}
+use Rattle.kp_run.specs.declared.status.Status.TheVariants as status
+use Rattle.kp_run.specs.Command.{Command, IsCommand, IsNoCommand}
+use Rattle.kp_run.specs.Printed.{usage_text, clash_text}
+use Rattle.kp_run.specs.Texts.{HaveTrees, of_problem, of_names}
+use Rattle.kp_run.specs.Due.{usual, LeavesNothingOpen, IsStarted, AnswersTrees, not_yet, no_initial_state, clash, done, Answers, on_trees, AnswersFiles, of_done, of_clash, IsDue, usage, answer}
+use Rattle.kp_run.specs.Due as dues
+use Rattle.kp_run.specs.Results.{Outcome, prints, translates, HoldsTrees, IsResult, refused, clashed, translated, ComesTo}
+use Rattle.kp_run.specs.Results as results
+use Rattle.kp_run.specs.Soundness.{IsSound}
+use Rattle.kp_run.proofs.Computed.{reads_file}
+use Rattle.kp_run.proofs.Soundness.{at_last, under_another, is_sound}
+
+-- ---- words
+
+-- a word as the program gets it, of which the bytes alone matter
+abbrev word : (bytes : List ℕ) → length bytes < 2 ^ 63 → Vec ℕ Global
+word bytes small = record { ptr = null_ptr; len = length bytes; cap = length bytes; alloc = record { memory = record { seal = tt } }; items = bytes; ok = (refl, omega arith); small = small }
+
+-- these names behind `translate`
+abbrev translate : Vec ℕ Global → Vec ℕ Global → Vec ℕ Global → Vec ℕ Global → List (Vec ℕ Global)
+translate d p od op = word (codes "translate") (omega arith) ∷ d ∷ p ∷ od ∷ op ∷ word (codes "--mode") (omega arith) ∷ word (codes "k0") (omega arith) ∷ []
+
+abbrev words : List (Vec ℕ Global)
+words = translate (word (codes "d") (omega arith)) (word (codes "p") (omega arith)) (word (codes "od") (omega arith)) (word (codes "op") (omega arith))
+
+abbrev command : Command
+command = record { domain = codes "d"; problem = codes "p"; domain_out = codes "od"; problem_out = codes "op" }
+
+-- two names that are seen to differ
+apart : (x y : List ℕ) → same x y ≡ false → x ≢ y
+apart x y h e = false≢true (sym h ∙ (sym (ap (same x) e) ∙ same-refl x))
+
+is_command : IsCommand words command
+unfolding encode
+is_command = record {
+  words_are = refl;
+  domain = record { not_empty = λ e. cc; no_dash = refl; utf8 = (codes "d", (refl, refl)) };
+  problem = record { not_empty = λ e. cc; no_dash = refl; utf8 = (codes "p", (refl, refl)) };
+  domain_out = record { not_empty = λ e. cc; no_dash = refl; utf8 = (codes "od", (refl, refl)) };
+  problem_out = record { not_empty = λ e. cc; no_dash = refl; utf8 = (codes "op", (refl, refl)) };
+  outputs_differ = apart (codes "od") (codes "op") refl;
+}
+
+-- ---- what is held
+
+-- these two files
+abbrev holding : List ℕ → List ℕ → FileMap
+holding domain problem = insert (insert empty (codes "d") domain) (codes "p") problem
+
+domain_held : (domain problem : List ℕ) → get (holding domain problem) (codes "d") ≡ Some domain
+domain_held domain problem = under_another (insert empty (codes "d") domain) (codes "d") (codes "p") problem (apart (codes "d") (codes "p") refl) ∙ at_last empty (codes "d") domain
+
+problem_held : (domain problem : List ℕ) → get (holding domain problem) (codes "p") ≡ Some problem
+problem_held domain problem = at_last (insert empty (codes "d") domain) (codes "p") problem
+
+-- an answer on the two files is the command's
+on_files : (domain problem : List ℕ) (s : Status) → Answers domain problem s → AnswersFiles (holding domain problem) command s
+on_files domain problem s h = record { domain = domain; problem = problem; domain_held = domain_held domain problem; problem_held = problem_held domain problem; answers = h }
+
+-- and their trees are those of its files
+holds_trees : (domain problem : List ℕ) (d : Domain Word) (p : Problem Word) → HaveTrees domain problem d p → HoldsTrees (holding domain problem) command d p
+holds_trees domain problem d p h = record { domain = domain; problem = problem; domain_held = domain_held domain problem; problem_held = problem_held domain problem; trees = h }
+
+-- ---- what computing has to show of a ground problem
+
+-- one instance of weight 3, and two atoms
+is_small : (l : Lifted) → binding_count l ≡ 1 → length (kept_instances l) ≡ 1 → total_weight l ≡ 3 → length (ground_atoms l) ≡ 2 → IsGrounded l usual (by_number.ground_of l)
+is_small l b k w a = record { counts = record { bindings = omega (arith, b); actions = omega (arith, k); weight = omega (arith, w) }; atoms = omega (arith, a); ground = refl }
+
+-- the first clash of its actions, if they have one
+found : (g : Ground) (o : Option ClashAt) → first_from 0 g.actions ≡ o → IsFound 0 g.actions o
+found g o is = subst (IsFound 0 g.actions) is (found_in 0 g.actions)
+
+-- ---- a translation
+
+-- the trees of the two files
+domain_reads : Reads grammar.domain exchange exchange_tree
+unfolding cut_from class_of symbol_of some_at next_at
+domain_reads = reads_file grammar.domain exchange (tokens exchange) exchange_tree (omega arith) refl refl refl
+
+problem_reads : Reads grammar.problem from_p_to_q from_p_to_q_tree
+unfolding cut_from class_of symbol_of some_at next_at
+problem_reads = reads_file grammar.problem from_p_to_q (tokens from_p_to_q) from_p_to_q_tree (omega arith) refl refl refl
+
+trees : HaveTrees exchange from_p_to_q exchange_tree from_p_to_q_tree
+trees = record { domain_reads = domain_reads; problem_reads = problem_reads; no_fault = record { domain = refl; problem = refl } }
+
+-- p is stated, and nothing denied
+consistent : HasInitialState from_p_to_q_tree
+consistent = (contradictions exchange_tree from_p_to_q_tree trees.no_fault (sure_certain exchange_tree from_p_to_q_tree refl)).0 refl
+
+started : IsStarted exchange_tree from_p_to_q_tree
+started = record { certain = refl; within = is_small (numbered_problem exchange_tree from_p_to_q_tree) refl refl refl refl; initial = consistent }
+
+-- what is added is q, and what is deleted p
+no_clash : HasNoClash no_pairs (ground_of exchange_tree from_p_to_q_tree)
+no_clash = none_clashes (ground_of exchange_tree from_p_to_q_tree) None (found (ground_of exchange_tree from_p_to_q_tree) None refl)
+
+is_done : AnswersTrees exchange_tree from_p_to_q_tree status.Done
+is_done = done started no_clash
+
+abbrev held : FileMap
+held = holding exchange from_p_to_q
+
+due : IsDue words (Some held) status.Done
+due = answer command status.Done is_command of_done (λ m e. let same : held ≡ m = cc in subst (λ x. AnswersFiles x command status.Done) same (on_files exchange from_p_to_q status.Done (on_trees exchange_tree from_p_to_q_tree status.Done trees is_done)))
+
+result : IsResult words held (translates command (translation_of exchange_tree from_p_to_q_tree))
+result = translated command exchange_tree from_p_to_q_tree is_command (holds_trees exchange from_p_to_q exchange_tree from_p_to_q_tree trees) is_done
+
+-- what is held after it
+abbrev after : FileMap
+after = insert (insert held (codes "od") (translation_of exchange_tree from_p_to_q_tree).domain) (codes "op") (translation_of exchange_tree from_p_to_q_tree).problem
+
+-- a run that put the two files and told the report came to it
+came : ComesTo words held (Some held) (Some after) (Some []) (Some (translation_of exchange_tree from_p_to_q_tree).report) status.Done
+came = record { outcome = translates command (translation_of exchange_tree from_p_to_q_tree); is_result = result; status_is = refl; puts_are = refl; text_is = refl }
+
+-- and is sound
+sound : IsSound held after command
+sound = is_sound words held after command (Some after) (Some []) (Some (translation_of exchange_tree from_p_to_q_tree).report) status.Done is_command refl refl came
+
+-- ---- the usage
+
+no_words : IsNoCommand []
+no_words c h = let e = h.words_are in cc
+
+usage_is_due : IsDue [] (Some held) status.Usage
+usage_is_due = usage no_words
+
+usage_results : IsResult [] held (prints status.Usage usage_text)
+usage_results = results.usage no_words
+
+-- the first file's name begins with a dash
+abbrev dashed : List (Vec ℕ Global)
+dashed = translate (word (codes "-d") (omega arith)) (word (codes "p") (omega arith)) (word (codes "od") (omega arith)) (word (codes "op") (omega arith))
+
+dashed_is_none : IsNoCommand dashed
+dashed_is_none c h =
+    let it : codes "-d" ≡ c.domain = ap (λ ws. get_or ws 1 []) h.words_are in
+    false≢true (sym h.domain.no_dash ∙ sym (ap (λ w. starts_with nat_eq w (codes "-")) it))
+
+-- both files would be written under one name
+abbrev one_output : List (Vec ℕ Global)
+one_output = translate (word (codes "d") (omega arith)) (word (codes "p") (omega arith)) (word (codes "od") (omega arith)) (word (codes "od") (omega arith))
+
+one_output_is_none : IsNoCommand one_output
+one_output_is_none c h =
+    let first : codes "od" ≡ c.domain_out = ap (λ ws. get_or ws 3 []) h.words_are in
+    let second : codes "od" ≡ c.problem_out = ap (λ ws. get_or ws 4 []) h.words_are in
+    h.outputs_differ (sym first ∙ second)
+
+-- ---- a file that isn't held: nothing is due, and there is no result
+
+abbrev nothing : FileMap
+nothing = empty
+
+not_held : (name content : List ℕ) → get nothing name ≡ Some content → ⊥
+not_held name content h = absurd (let e = sym (get-empty (slice_cmp nat_cmp) name) ∙ h in cc)
+
+nothing_is_due : (s : Status) → IsDue words (Some nothing) s → ⊥
+nothing_is_due _ (usage never) = never command is_command
+nothing_is_due s (answer c _ h l a) = not_held c.domain (a nothing refl).domain (a nothing refl).domain_held
+
+no_result : (o : Outcome) → IsResult words nothing o → ⊥
+no_result _ (results.usage never) = never command is_command
+no_result _ (refused c r h may a) = not_held c.domain a.domain a.domain_held
+no_result _ (clashed c d p at h holds a) = not_held c.domain holds.domain holds.domain_held
+no_result _ (translated c d p h holds a) = not_held c.domain holds.domain holds.domain_held
+
+-- ---- refusals: no initial state
+
+-- p is both stated and denied
+abbrev both : List ℕ
+both = codes "(define (problem e) (:domain d) (:init (p) (not (p))) (:goal (q)))\n"
+
+abbrev both_tree : Problem Word
+both_tree = record { objects = []; init = Item.fact true (atom_at (codes "p") 40) ∷ Item.fact false (atom_at (codes "p") 49) ∷ []; goal = Cond.atom true (atom_at (codes "q") 62) }
+
+both_reads : Reads grammar.problem both both_tree
+unfolding cut_from class_of symbol_of some_at next_at
+both_reads = reads_file grammar.problem both (tokens both) both_tree (omega arith) refl refl refl
+
+both_trees : HaveTrees exchange both exchange_tree both_tree
+both_trees = record { domain_reads = domain_reads; problem_reads = both_reads; no_fault = record { domain = refl; problem = refl } }
+
+torn_apart : contradicts (numbered_problem exchange_tree both_tree) ≡ true
+torn_apart = refl
+
+no_state : HasInitialState both_tree → ⊥
+no_state has = false≢true (sym ((contradictions exchange_tree both_tree both_trees.no_fault (sure_certain exchange_tree both_tree refl)).1 has) ∙ torn_apart)
+
+without_state : AnswersTrees exchange_tree both_tree (status.Refused refusals.NoInitialState)
+without_state = no_initial_state refl (is_small (numbered_problem exchange_tree both_tree) refl refl refl refl) no_state
+
+no_state_results : IsResult words (holding exchange both) (prints (status.Refused refusals.NoInitialState) (codes "refused 12 NoInitialState\n"))
+no_state_results = refused command refusals.NoInitialState is_command tt (on_files exchange both _ (on_trees exchange_tree both_tree _ both_trees without_state))
+
+-- ---- refusals: a name
+
+-- the goal is of no declared predicate
+abbrev to_r : List ℕ
+to_r = codes "(define (problem e) (:domain d)\n(:init) (:goal (r)))\n"
+
+abbrev to_r_tree : Problem Word
+to_r_tree = record { objects = []; init = []; goal = Cond.atom true (atom_at (codes "r") 48) }
+
+to_r_reads : Reads grammar.problem to_r to_r_tree
+unfolding cut_from class_of symbol_of some_at next_at
+to_r_reads = reads_file grammar.problem to_r (tokens to_r) to_r_tree (omega arith) refl refl refl
+
+abbrev unknown_name : Refused
+unknown_name = refusals.UnknownName (record { part = parts.Problem; line = 2; byte = 48 })
+
+unknown_name_results : IsResult words (holding exchange to_r) (prints (status.Refused unknown_name) (codes "refused 5 UnknownName\nat problem line 2 byte 48\n"))
+unfolding digits
+unknown_name_results = refused command unknown_name is_command tt (on_files exchange to_r (status.Refused unknown_name) (dues.refused unknown_name (of_names exchange_tree to_r_tree unknown_name domain_reads to_r_reads (in_problem (faults.unknown_name 48) refl refl))))
+
+-- ---- refusals: an empty problem
+
+abbrev at_once : Refused
+at_once = refusals.Syntax (record { part = parts.Problem; line = 1; byte = 0 })
+
+syntax_results : IsResult words (holding exchange []) (prints (status.Refused at_once) (codes "refused 3 Syntax\nat problem line 1 byte 0\n"))
+unfolding digits
+syntax_results =
+    refused command at_once is_command tt (on_files exchange [] (status.Refused at_once) (dues.refused at_once (of_problem exchange_tree at_once domain_reads (files.stops [] (stop []) (omega arith) at_end (offending (stop []) (within_form (s_unopened refl)) (λ us e. absurd cc))))))
+
+-- ---- refusals: an `unknown`
+
+abbrev half_known : List ℕ
+half_known = codes "(define (problem e) (:domain d) (:init (unknown (p))) (:goal (q)))\n"
+
+abbrev half_known_tree : Problem Word
+half_known_tree = record { objects = []; init = Item.unknown (word_at (codes "unknown") 40) (atom_at (codes "p") 49) ∷ []; goal = Cond.atom true (atom_at (codes "q") 62) }
+
+half_known_reads : Reads grammar.problem half_known half_known_tree
+unfolding cut_from class_of symbol_of some_at next_at
+half_known_reads = reads_file grammar.problem half_known (tokens half_known) half_known_tree (omega arith) refl refl refl
+
+half_known_trees : HaveTrees exchange half_known exchange_tree half_known_tree
+half_known_trees = record { domain_reads = domain_reads; problem_reads = half_known_reads; no_fault = record { domain = refl; problem = refl } }
+
+leaves_open : LeavesNothingOpen half_known_tree → ⊥
+leaves_open h = cc
+
+not_yet_results : IsResult words (holding exchange half_known) (prints (status.Refused (refusals.NotYet parts.Problem)) (codes "refused 99 NotYet\nfile problem\n"))
+not_yet_results = refused command (refusals.NotYet parts.Problem) is_command tt (on_files exchange half_known _ (on_trees exchange_tree half_known_tree _ half_known_trees (not_yet leaves_open)))
+
+-- ---- a clash
+
+-- q is added where p holds, and deleted anyway
+abbrev clashing : List ℕ
+clashing = codes "(define (domain d) (:predicates (p) (q)) (:action a :effect (and (when (p) (q)) (not (q)))))\n"
+
+abbrev clashing_schema : Schema Word
+clashing_schema = record {
+  name = word_at (codes "a") 50;
+  params = [];
+  pre = Cond.all (conds_of []);
+  effect = Eff.both (effs_of (Eff.when (Cond.atom true (atom_at (codes "p") 72)) (Eff.makes true (atom_at (codes "q") 76)) ∷ Eff.makes false (atom_at (codes "q") 86) ∷ []));
+}
+
+abbrev clashing_tree : Domain Word
+clashing_tree = record { kinds = []; constants = []; predicates = pred_at (codes "p") 33 ∷ pred_at (codes "q") 37 ∷ []; schemas = clashing_schema ∷ [] }
+
+clashing_reads : Reads grammar.domain clashing clashing_tree
+unfolding cut_from class_of symbol_of some_at next_at
+clashing_reads = reads_file grammar.domain clashing (tokens clashing) clashing_tree (omega arith) refl refl refl
+
+abbrev from_not_p : List ℕ
+from_not_p = codes "(define (problem e) (:domain d) (:init (not (p))) (:goal (q)))\n"
+
+abbrev from_not_p_tree : Problem Word
+from_not_p_tree = record { objects = []; init = Item.fact false (atom_at (codes "p") 45) ∷ []; goal = Cond.atom true (atom_at (codes "q") 58) }
+
+from_not_p_reads : Reads grammar.problem from_not_p from_not_p_tree
+unfolding cut_from class_of symbol_of some_at next_at
+from_not_p_reads = reads_file grammar.problem from_not_p (tokens from_not_p) from_not_p_tree (omega arith) refl refl refl
+
+clashing_trees : HaveTrees clashing from_not_p clashing_tree from_not_p_tree
+clashing_trees = record { domain_reads = clashing_reads; problem_reads = from_not_p_reads; no_fault = record { domain = refl; problem = refl } }
+
+clashing_state : HasInitialState from_not_p_tree
+clashing_state = (contradictions clashing_tree from_not_p_tree clashing_trees.no_fault (sure_certain clashing_tree from_not_p_tree refl)).0 refl
+
+clashing_started : IsStarted clashing_tree from_not_p_tree
+clashing_started = record { certain = refl; within = is_small (numbered_problem clashing_tree from_not_p_tree) refl refl refl refl; initial = clashing_state }
+
+-- the first effect of the only action adds q, and the second deletes it
+abbrev of_q : ClashAt
+of_q = record { action = 0; atom = record { 0 = 1 }; add = 0; delete = 1 }
+
+first_clash : IsFirstClash no_pairs (ground_of clashing_tree from_not_p_tree) of_q
+first_clash = is_first (ground_of clashing_tree from_not_p_tree) of_q (found (ground_of clashing_tree from_not_p_tree) (Some of_q) refl)
+
+clashes : AnswersTrees clashing_tree from_not_p_tree (status.Refused (refusals.Clash of_q))
+clashes = clash of_q clashing_started first_clash
+
+clash_printed : clash_text (ground_of clashing_tree from_not_p_tree) of_q ≡ codes "refused 13 Clash\naction (a)\natom (q)\nadd (p)\ndelete\n"
+clash_printed = refl
+
+clash_due : IsDue words (Some (holding clashing from_not_p)) (status.Refused (refusals.Clash of_q))
+clash_due = answer command _ is_command (of_clash of_q) (λ m e. let same : holding clashing from_not_p ≡ m = cc in subst (λ x. AnswersFiles x command (status.Refused (refusals.Clash of_q))) same (on_files clashing from_not_p _ (on_trees clashing_tree from_not_p_tree _ clashing_trees clashes)))
+
+clash_results : IsResult words (holding clashing from_not_p) (prints (status.Refused (refusals.Clash of_q)) (codes "refused 13 Clash\naction (a)\natom (q)\nadd (p)\ndelete\n"))
+clash_results = subst (λ text. IsResult words (holding clashing from_not_p) (prints (status.Refused (refusals.Clash of_q)) text)) clash_printed (clashed command clashing_tree from_not_p_tree of_q is_command (holds_trees clashing from_not_p clashing_tree from_not_p_tree clashing_trees) clashes)
