@@ -63,6 +63,11 @@ IsGivenFile parts.Domain = Unit {0}
 IsGivenFile parts.Problem = Unit {0}
 IsGivenFile _ = ⊥
 
+-- the file of which it is told that its initial state isn't served yet
+abbrev pub IsProblemFile : Part → Type 0
+IsProblemFile parts.Problem = Unit {0}
+IsProblemFile _ = ⊥
+
 -- a refusal that `translate` may give, but for a clash
 abbrev pub IsOrdinary : Refused → Type 0
 IsOrdinary (refusals.TooLong part) = IsGivenFile part
@@ -72,7 +77,7 @@ IsOrdinary (refusals.Unsupported place) = IsGivenFile place.part
 IsOrdinary (refusals.UnknownName place) = IsGivenFile place.part
 IsOrdinary (refusals.DeclaredTwice place) = IsGivenFile place.part
 IsOrdinary (refusals.WrongUse place) = IsGivenFile place.part
-IsOrdinary (refusals.NotYet part) = IsGivenFile part
+IsOrdinary (refusals.NotYet part) = IsProblemFile part
 IsOrdinary refusals.BindingsOver = Unit {0}
 IsOrdinary refusals.ActionsOver = Unit {0}
 IsOrdinary refusals.EffectsOver = Unit {0}
