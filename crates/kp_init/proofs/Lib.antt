@@ -4,3 +4,6 @@ pub mod Models
 pub mod Runs
 pub mod Closure
 pub mod ExampleFormulas
+pub mod FirstPlaces
+pub mod NamedAtoms
+pub mod Different

@@ -1,3 +1,4 @@
 pub mod Initial
 pub mod Closure
+pub mod Tables
 pub mod Laws

@@ -1,8 +1,16 @@
-//! The initial formula of a ground problem, and closures under it. `specs/Laws.antt` says that its models are the initial states.
+//! The initial formula of a ground problem, and closures under it. `specs/Initial.antt` says what `initial_over` gives, and
+//! `specs/Laws.antt` that its models are the initial states.
 #![tactic(auto)]
 
+mod clauses;
+mod closed;
+mod initial;
 mod laws;
+mod named;
+mod one_of;
+mod places;
 
+pub use initial::initial_over;
 pub use laws::{
     closures_are_exact, initial_formulas_speak_of_ground_atoms, models_are_initial_states,
     plans_are_runs_from_models, plans_by_name_are_runs_from_models,

@@ -1,0 +1,82 @@
+ghost use Rattle.std.specs.Prelude.{◌≡◌, ◌||◌, IfOk, OnOk};
+ghost use Rattle.std.specs.List.{list_any};
+ghost use Rattle.kp_meaning.specs.Lifted.{is_named};
+ghost use Rattle.kp_names.specs.View.{lifted_view};
+ghost use Rattle.kp_grounding.specs.declared.flat.Atom.{Atom as Told};
+ghost use Rattle.kp_grounding.specs.Ground.{atom_of, same_atom};
+ghost use Rattle.kp_init.specs.Tables.{is_kept, names};
+
+use indexmap::IndexSet;
+use kp_base::Memory;
+use kp_grounding::Atom;
+use kp_meaning::{GroundLit, Item};
+use kp_names::Lifted;
+use std::alloc::Global;
+
+/// A problem by number, with a table of the atoms that its `:init` names.
+#[derive(Drop)]
+pub struct Named<'a> {
+    /// The problem.
+    pub lifted: &'a Lifted,
+    atoms: IndexSet<(u32, &'a [u32])>,
+    ghost atoms_right: { (a : Told) → is_kept atoms.keys a ≡ is_named (lifted_view lifted.now) a.pred a.objects },
+}
+
+fn add<'a>(atoms: &mut IndexSet<(u32, &'a [u32])>, lit: &'a GroundLit) -> Result<(), Memory>
+    ensures { OnOk result ((a : Told) → is_kept atoms.new.keys a ≡ (is_kept atoms.old.keys a || same_atom a (atom_of lit.now))) }
+{
+    atoms.insert((lit.pred, lit.objects.slice()))?;
+    Ok(())
+}
+
+fn add_all<'a>(
+    atoms: &mut IndexSet<(u32, &'a [u32])>,
+    lits: &'a [GroundLit],
+) -> Result<(), Memory>
+    ensures { OnOk result ((a : Told) → is_kept atoms.new.keys a ≡ (is_kept atoms.old.keys a || list_any (λ m. same_atom a (atom_of m)) lits.now)) }
+{
+    for lit in lits {
+        add(atoms, lit)?;
+    }
+    Ok(())
+}
+
+fn add_item<'a>(atoms: &mut IndexSet<(u32, &'a [u32])>, item: &'a Item) -> Result<(), Memory>
+    ensures { OnOk result ((a : Told) → is_kept atoms.new.keys a ≡ (is_kept atoms.old.keys a || names a item.now)) }
+{
+    match item {
+        Item::One(lit) => add(atoms, lit),
+        Item::OneOf(lits) => add_all(atoms, lits.slice()),
+        Item::AnyOf(lits) => add_all(atoms, lits.slice()),
+        Item::Unknown(lit) => add(atoms, lit),
+    }
+}
+
+fn named_by<'a>(alloc: Global, items: &'a [Item]) -> Result<IndexSet<(u32, &'a [u32])>, Memory>
+    ensures { IfOk result (λ atoms. (a : Told) → is_kept atoms.keys a ≡ list_any (names a) items.now) }
+{
+    let mut atoms = IndexSet::new(alloc);
+    for item in items {
+        add_item(&mut atoms, item)?;
+    }
+    Ok(atoms)
+}
+
+impl<'a> Named<'a> {
+    /// The table of a problem.
+    pub fn of(alloc: Global, lifted: &'a Lifted) -> Result<Named<'a>, Memory>
+        ensures { IfOk result (λ named. named.lifted.now ≡ lifted.now) }
+    {
+        Ok(Named {
+            lifted,
+            atoms: named_by(alloc, lifted.init.slice())?,
+        })
+    }
+
+    /// Whether some item names an atom.
+    pub fn has(&self, atom: &Atom) -> bool
+        ensures { result ≡ is_named (lifted_view self.now.lifted.now) atom.now.pred atom.now.objects }
+    {
+        self.atoms.contains(&(atom.pred, atom.objects.slice()))
+    }
+}
