@@ -33,24 +33,7 @@ use Rattle.kp_given.specs.Certain.{IsCertain, contradicts, known_from, known_at_
 use Rattle.kp_given.specs.Translations.{ground_of, start_of, is_settled}
 use Rattle.kp_given.specs.Laws.{CertainStartsAreKnown}
 use Rattle.kp_given.proofs.Certain.{first_initial, decided}
-
--- ---- closures in order
-
-contains_has : (ls : List Lit) (l : Lit) → Contains ls l → has ls l ≡ true
-contains_has [] l c = absurd (let below = c.1 in omega (arith, below))
-contains_has (m ∷ ms) l c = elim (first_or_later m ms l c) [
-  | inl e ↦ or_left (same_lit l m) (has ms l) (subst (λ z. same_lit l z ≡ true) (sym e) (same_lit-refl l))
-  | inr r ↦ or_right (same_lit l m) (has ms l) (contains_has ms l r)
-]
-
--- a tag has one closure in order
-one_closure : (n : ℕ) (i : Initial) (tag xs ys : List Lit) → IsClosure n i tag xs → IsClosure n i tag ys → IsAscending xs → IsAscending ys → xs ≡ ys
-one_closure n i tag xs ys h g up vp = same_members xs ys up vp (way xs ys h g) (way ys xs g h)
-  where
-    way : (as' bs : List Lit) → IsClosure n i tag as' → IsClosure n i tag bs → (m : Lit) → Contains as' m → Contains bs m
-    way as' bs h g m c =
-        let there = contains_has as' m c in
-        Contains-from_any same_lit-true m bs (g.whole m (h.of_atoms m there) (h.entailed m there))
+use Rattle.kp_given.proofs.Starts.{one_closure}
 
 -- ---- signs
 

@@ -38,14 +38,13 @@ use Rattle.kp_grounding.proofs.Atoms.{irreflexive, same_atom-true, atoms_are_num
 use Rattle.kp_grounding.proofs.Lists.{false_where_not_true}
 use Rattle.kp_grounding.proofs.Names.{actions_named_once}
 use Rattle.kp_grounding.proofs.Step.{occurs}
-use Rattle.kp_init.specs.Closure.{IsOver}
 use Rattle.kp_init.proofs.Closure.{closure_exact}
-use Rattle.kp_init.proofs.Runs.{initial_is_over}
 use Rattle.kp_write.specs.Grounds.{IsGroundName, same_name, IsOfAtom, AreOfAtoms, IsGroundEffect, IsGroundAction, IsWritable}
 use Rattle.kp_write.proofs.Lists.{one_of_all, all_from}
 use Rattle.kp_write.proofs.Grounds.{mapped}
 use Rattle.kp_given.specs.Translations.{ground_of, initial_of, start_of}
 use Rattle.kp_given.specs.Laws.{StartsAreOfAtoms, GroundProblemsAreWritable, StartsAreWritable}
+use Rattle.kp_given.proofs.Starts.{formulas_over_atoms}
 use Rattle.kp_given.proofs.Valid.{kept_objects, occurring_valid}
 
 -- ---- lists
@@ -263,10 +262,7 @@ module _ (d : Domain Word) (p : Problem Word) (domain : IsNamedDomain d) (proble
 
 pub starts_of_atoms : StartsAreOfAtoms
 starts_of_atoms d p =
-    let l = numbered_problem d p in
-    let atoms = ground_atoms l in
-    let over : IsOver (length (map (atom_name l) atoms)) (initial_of d p) = subst (λ n. IsOver n (initial_of d p)) (sym (length-map atoms (atom_name l))) (initial_is_over l atoms (atoms_are_numbered l).numbering) in
-    let exact = closure_exact (initial_of d p) (length (ground_of d p).atoms) over [] refl in
+    let exact = closure_exact (initial_of d p) (length (ground_of d p).atoms) (formulas_over_atoms d p) [] refl in
     all_from (IsOfAtom (ground_of d p).atoms) (start_of d p) (λ x m. exact.closure.of_atoms x (has-member (start_of d p) x m))
 
 pub grounds_written : GroundProblemsAreWritable

@@ -1,6 +1,10 @@
 -- What is proved of the translation of two trees, and of their initial states.
-use Rattle.std.specs.Prelude.{◌≡◌, ◌↔◌, ℕ, true, false, List, None, length, codes}
+use Rattle.std.specs.Prelude.{◌≡◌, ◌↔◌, ℕ, true, false, List, [], None, length, codes}
 use Rattle.kp_base.specs.declared.lit.Lit.{Lit}
+use Rattle.kp_base.specs.LitSet.{IsAscending}
+use Rattle.kp_base.specs.Steps as steps
+use Rattle.kp_base.specs.Steps.{is_model}
+use Rattle.kp_base.specs.Entailed.{IsClosure}
 use Rattle.kp_grammar.specs.declared.tree.Word.{Word}
 use Rattle.kp_grammar.specs.Trees.{Domain, Problem}
 use Rattle.kp_meaning.specs.States.{State}
@@ -8,16 +12,31 @@ use Rattle.kp_meaning.specs.Initial.{IsInitial}
 use Rattle.kp_meaning.specs.Faults.{HasNoFault}
 use Rattle.kp_meaning.specs.Plans.{HasProblem}
 use Rattle.kp_meaning.specs.Numbering.{numbered_problem}
+use Rattle.kp_init.specs.Closure.{IsOver}
 use Rattle.kp_names.specs.Resolved.{first_unsure, unsure_place}
 use Rattle.kp_texts.specs.Report.{counted}
 use Rattle.kp_write.specs.Grounds.{AreOfAtoms, IsWritable}
-use Rattle.kp_given.specs.Translations.{ground_of, start_of, is_settled, report_of}
+use Rattle.kp_given.specs.Translations.{ground_of, initial_of, start_of, is_settled, report_of}
 use Rattle.kp_given.specs.Certain.{IsCertain, contradicts, known_at_first}
 
 -- some state is initial
 pub record HasInitialState (p : Problem Word) : Type 0 where
   pub state : State
   pub is_initial : IsInitial p state
+
+-- where no name is at fault, some state is initial exactly where some state by number is a model of the initial formula
+abbrev pub InitialStatesAreModels : Type 0
+InitialStatesAreModels = (d : Domain Word) (p : Problem Word) → HasNoFault d p → HasInitialState p ↔ ((s : steps.State) × (is_model (initial_of d p) s ≡ true))
+
+-- the initial formula speaks of ground atoms alone
+abbrev pub FormulasSpeakOfGroundAtoms : Type 0
+FormulasSpeakOfGroundAtoms = (d : Domain Word) (p : Problem Word) → IsOver (length (ground_of d p).atoms) (initial_of d p)
+
+-- whichever ascending list is a closure of the empty tag, it is what is known at the start
+abbrev pub ClosuresAreStarts : Type 0
+ClosuresAreStarts = (d : Domain Word) (p : Problem Word) (ls : List Lit) → IsClosure (length (ground_of d p).atoms) (initial_of d p) [] ls → IsAscending ls → ls ≡ start_of d p
+
+-- ---- where `:init` has literals alone
 
 -- where no `oneof`, `or` or `unknown` stands in `:init`, each item by number is a literal
 abbrev pub CertainWithoutUnsure : Type 0
@@ -40,6 +59,8 @@ pub record IsKnownAtFirst (d : Domain Word) (p : Problem Word) : Type 0 where
 -- this is so where `:init` has literals alone and doesn't contradict itself
 abbrev pub CertainStartsAreKnown : Type 0
 CertainStartsAreKnown = (d : Domain Word) (p : Problem Word) → IsCertain (numbered_problem d p) → contradicts (numbered_problem d p) ≡ false → IsKnownAtFirst d p
+
+-- ---- what is written
 
 -- the literals that are known at the start are of ground atoms
 abbrev pub StartsAreOfAtoms : Type 0

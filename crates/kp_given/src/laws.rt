@@ -1,6 +1,24 @@
 //! Laws of what is written for two trees, each proved as the contract of a function that does nothing.
 
-ghost use Rattle.kp_given.specs.Laws.{CertainContradictionsHaveNoState, CertainStartsAreKnown, CertainWithoutPlace, CertainWithoutUnsure, GroundProblemsAreWritable, StartsAreOfAtoms, StartsAreWritable};
+ghost use Rattle.kp_given.specs.Laws.{CertainContradictionsHaveNoState, CertainStartsAreKnown, CertainWithoutPlace, CertainWithoutUnsure, ClosuresAreStarts, FormulasSpeakOfGroundAtoms, GroundProblemsAreWritable, InitialStatesAreModels, StartsAreOfAtoms, StartsAreWritable};
+
+/// Where no name is at fault, some state is initial exactly where the initial formula has a model.
+#[tactic(auto, using(crate::proofs::Starts::states_are_models))]
+pub fn initial_states_are_models()
+    ensures { InitialStatesAreModels }
+{}
+
+/// The initial formula speaks of ground atoms alone.
+#[tactic(auto, using(crate::proofs::Starts::formulas_over_atoms))]
+pub fn formulas_speak_of_ground_atoms()
+    ensures { FormulasSpeakOfGroundAtoms }
+{}
+
+/// An ascending closure of the empty tag is what is known at the start.
+#[tactic(auto, using(crate::proofs::Starts::closures_are_starts))]
+pub fn closures_are_starts()
+    ensures { ClosuresAreStarts }
+{}
 
 /// Where no `oneof`, `or` or `unknown` stands in `:init`, each item of the problem by number is a literal.
 pub fn problems_without_doubt_are_certain()

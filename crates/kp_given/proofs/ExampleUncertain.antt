@@ -1,0 +1,64 @@
+-- Three cells of which exactly one atom is true, and cells with a `oneof` of nothing: each premise of the laws on uncertain problems is met.
+use Rattle.std.proofs.Common.{◌≡◌, ℕ, true, List, [], codes, refl, subst, nat_eq, length}
+use Rattle.std.proofs.lemmas.Bool.{false≢true}
+use Rattle.kp_base.specs.Steps.{State, is_model}
+use Rattle.kp_base.specs.Entailed.{IsClosure}
+use Rattle.kp_lex.specs.Bytes.{class_of}
+use Rattle.kp_lex.specs.Scanning.{cut_from}
+use Rattle.kp_grammar.specs.Symbols.{symbol_of}
+use Rattle.kp_grammar.specs.Parsing.{some_at, next_at}
+use Rattle.kp_meaning.specs.Faults.{HasNoFault}
+use Rattle.kp_meaning.proofs.Texts.{domain_of, problem_of}
+use Rattle.kp_meaning.proofs.ExampleCells.{cells, one_of_three}
+use Rattle.kp_init.proofs.Closure.{closure_exact}
+use Rattle.kp_given.specs.Translations.{ground_of, initial_of, start_of}
+use Rattle.kp_given.specs.Laws.{HasInitialState}
+use Rattle.kp_given.proofs.Starts.{states_are_models, formulas_over_atoms, closures_are_starts}
+
+-- ---- a `oneof` of three
+
+three_fault : HasNoFault (domain_of cells) (problem_of one_of_three)
+unfolding cut_from class_of symbol_of some_at next_at
+three_fault = record { domain = refl; problem = refl }
+
+-- the first cell
+first : State
+first n = nat_eq n 0
+
+first_is_model : is_model (initial_of (domain_of cells) (problem_of one_of_three)) first ≡ true
+unfolding cut_from class_of symbol_of some_at next_at first
+first_is_model = refl
+
+has_state : HasInitialState (problem_of one_of_three)
+has_state = (states_are_models (domain_of cells) (problem_of one_of_three) three_fault).1 (first, first_is_model)
+
+-- nothing is known
+nothing_known : start_of (domain_of cells) (problem_of one_of_three) ≡ []
+unfolding cut_from class_of symbol_of some_at next_at
+nothing_known = refl
+
+-- so nothing is a closure of the empty tag, and thus what is known
+is_closure : IsClosure (length (ground_of (domain_of cells) (problem_of one_of_three)).atoms) (initial_of (domain_of cells) (problem_of one_of_three)) [] []
+is_closure =
+    let d = domain_of cells in
+    let p = problem_of one_of_three in
+    subst (IsClosure (length (ground_of d p).atoms) (initial_of d p) []) nothing_known (closure_exact (initial_of d p) (length (ground_of d p).atoms) (formulas_over_atoms d p) [] refl).closure
+
+known_so : [] ≡ start_of (domain_of cells) (problem_of one_of_three)
+known_so = closures_are_starts (domain_of cells) (problem_of one_of_three) [] is_closure tt
+
+-- ---- a `oneof` of nothing
+
+abbrev none : List ℕ
+none = codes "(define (problem c) (:domain cells) (:init (oneof)) (:goal (x1)))"
+
+none_fault : HasNoFault (domain_of cells) (problem_of none)
+unfolding cut_from class_of symbol_of some_at next_at
+none_fault = record { domain = refl; problem = refl }
+
+no_model : (s : State) → is_model (initial_of (domain_of cells) (problem_of none)) s ≡ true → ⊥
+unfolding cut_from class_of symbol_of some_at next_at
+no_model s h = false≢true h
+
+no_state : HasInitialState (problem_of none) → ⊥
+no_state has = let m = (states_are_models (domain_of cells) (problem_of none) none_fault).0 has in no_model m.0 m.1
