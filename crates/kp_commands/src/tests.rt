@@ -46,23 +46,21 @@ const REPORT: &str = "atoms 2\nactions 1\ntags 1\nmerges 0\nfacts 4\ncomplete\n"
 const USAGE: &str =
     "usage: kplan translate D P OD OP [--mode M | --merges F] [--implicates N]\n       kplan solve D P [--mode M | --merges F] [--implicates N] [--budget N] [--classical F]\n       kplan classical D P [--budget N]\n       kplan strip T\n       kplan lift D P PLAN [--mode M | --merges F] [--implicates N]\n       kplan check D P PLAN [--implicates N]\n       kplan width D P [--bound N] [--implicates N]\n       kplan merges D P [--mode M] [--implicates N]\n       kplan bench FAMILY N [--mode M] [--budget N]\n";
 
+fn push_all(alloc: Global, words: &mut Vec<Vec<u8>>, more: &[&str]) -> Result<(), AllocError> {
+    for word in more {
+        words.push(word.as_bytes().to_vec(alloc)?)?;
+    }
+    Ok(())
+}
+
 pub fn translate_words(
     alloc: Global,
     domain_out: &str,
     problem_out: &str,
 ) -> Result<Vec<Vec<u8>>, AllocError> {
     let mut words = Vec::new(alloc);
-    for word in [
-        "translate",
-        "d",
-        "p",
-        domain_out,
-        problem_out,
-        "--mode",
-        "k0",
-    ] {
-        words.push(word.as_bytes().to_vec(alloc)?)?;
-    }
+    let front = ["translate", "d", "p", domain_out, problem_out, "--mode", "k0"];
+    push_all(alloc, &mut words, front.as_slice())?;
     Ok(words)
 }
 
@@ -129,13 +127,19 @@ fn each_answer(rt: HostRuntime) -> Result<(), Fail> {
             "(define (domain cells) (:predicates (x1) (x2) (x3)) (:action left :effect (and (when (x3) (and (x2) (not (x3)))) (when (x2) (and (x1) (not (x2)))))))",
             "(define (problem c) (:domain cells) (:init (oneof (x1) (x2) (x3))) (:goal (x1)))",
             3,
-            "refused 99 NotYet\nfile problem\n",
+            "refused 13 Clash\naction (left)\natom (x2)\nadd (x3)\ndelete (x2)\n",
         ),
         (
             DOMAIN,
             "(define (problem e) (:domain d) (:init (unknown (p))) (:goal (q)))",
+            0,
+            "atoms 2\nactions 1\ntags 1\nmerges 0\nfacts 4\n",
+        ),
+        (
+            DOMAIN,
+            "(define (problem e) (:domain d) (:init (oneof)) (:goal (q)))",
             3,
-            "refused 99 NotYet\nfile problem\n",
+            "refused 12 NoInitialState\n",
         ),
         (
             adds_or_deletes,
@@ -170,6 +174,38 @@ fn each_answer(rt: HostRuntime) -> Result<(), Fail> {
     ];
     let words = translate_words(alloc, "od", "op")?;
     for (domain, problem, number, printed) in cases {
+        let mut shelf = MemoryShelf::new(alloc)?;
+        let mut sink = MemorySink::new(alloc)?;
+        shelf.hold(b"d".as_slice(), domain.as_bytes())?;
+        shelf.hold(b"p".as_slice(), problem.as_bytes())?;
+        let status = run(alloc, &words, &mut shelf, &mut sink);
+        assert_eq!(rt; status.number(), number);
+        assert_eq!(rt; sink.bytes().slice(), printed.as_bytes());
+    }
+    Ok(())
+}
+
+// `a or b` and `c unless a` have a third prime implicate, `b or c`.
+#[test]
+fn limits_of_implicates(rt: HostRuntime) -> Result<(), Fail> {
+    let alloc = rt.alloc();
+    let domain = "(define (domain g) (:predicates (a) (b) (c)))";
+    let problem =
+        "(define (problem g) (:domain g) (:init (or (a) (b)) (or (not (a)) (c))) (:goal (a)))";
+    let accepted = "atoms 3\nactions 0\ntags 1\nmerges 0\nfacts 6\n";
+    let cases = [
+        ("2", 3, "refused 11 ImplicatesOver\nprefix 2\n"),
+        ("3", 0, accepted),
+        ("100000", 0, accepted),
+        ("100001", 2, USAGE),
+        ("0", 2, USAGE),
+        ("03", 2, USAGE),
+        ("+3", 2, USAGE),
+        ("", 2, USAGE),
+    ];
+    for (limit, number, printed) in cases {
+        let mut words = translate_words(alloc, "od", "op")?;
+        push_all(alloc, &mut words, ["--implicates", limit].as_slice())?;
         let mut shelf = MemoryShelf::new(alloc)?;
         let mut sink = MemorySink::new(alloc)?;
         shelf.hold(b"d".as_slice(), domain.as_bytes())?;

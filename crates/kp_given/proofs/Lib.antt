@@ -1,7 +1,4 @@
 pub mod Starts
-pub mod Certain
-pub mod FirstKnown
 pub mod Valid
 pub mod Written
-pub mod ExampleCertain
 pub mod ExampleUncertain

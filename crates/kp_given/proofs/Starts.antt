@@ -1,26 +1,26 @@
 -- Initial states and models of the initial formula, for all trees; and what is known at the start is the one closure of the empty tag in order.
-use Rattle.std.proofs.Common.{◌≡◌, ℕ, true, List, [], ◌∷◌, refl, sym, subst, inl, inr, Contains, length, arith}
-use Rattle.std.proofs.lemmas.Bool.{or_left, or_right}
+use Rattle.std.proofs.Common.{◌≡◌, ℕ, List, [], refl, sym, subst, Contains, length}
 use Rattle.std.proofs.lemmas.List.{length-map}
 use Rattle.std.proofs.lemmas.Map.Views.{Contains-from_any}
 use Rattle.kp_base.specs.declared.lit.Lit.{Lit}
 use Rattle.kp_base.specs.declared.ground.Initial.{Initial}
-use Rattle.kp_base.specs.Lit.{same_lit}
 use Rattle.kp_base.specs.LitSet.{IsAscending}
-use Rattle.kp_base.specs.Steps.{has}
 use Rattle.kp_base.specs.Entailed.{IsClosure}
-use Rattle.kp_base.proofs.Ascending.{same_members, first_or_later}
-use Rattle.kp_base.proofs.Lits.{same_lit-true, same_lit-refl}
+use Rattle.kp_base.specs.Implicates.{IsOfAtoms}
+use Rattle.kp_base.proofs.Ascending.{same_members}
+use Rattle.kp_base.proofs.Lits.{same_lit-true}
 use Rattle.kp_meaning.specs.Numbered.{Lifted}
 use Rattle.kp_meaning.specs.Numbering.{numbered_problem}
 use Rattle.kp_meaning.proofs.NumberedPlans.{initial_numbered}
 use Rattle.kp_grounding.specs.Ground.{ground_atoms, atom_name, seen_on}
+use Rattle.kp_grounding.specs.Ground as by_number
 use Rattle.kp_grounding.proofs.Atoms.{atoms_are_numbered}
-use Rattle.kp_init.specs.Closure.{IsOver}
+use Rattle.kp_init.specs.Initial as init
 use Rattle.kp_init.specs.Laws.{AreModels}
 use Rattle.kp_init.proofs.Closure.{closure_exact}
 use Rattle.kp_init.proofs.Models.{initial_exact}
 use Rattle.kp_init.proofs.Runs.{initial_is_over}
+use Rattle.kp_texts.proofs.Known.{contains_has}
 use Rattle.kp_given.specs.Translations.{ground_of, initial_of, start_of}
 use Rattle.kp_given.specs.Laws.{InitialStatesAreModels, FormulasSpeakOfGroundAtoms, ClosuresAreStarts}
 
@@ -42,19 +42,14 @@ states_are_models d p no_fault = (
 
 -- ---- the formula's atoms
 
+-- of a problem by number
+pub formula_over_atoms : (l : Lifted) → IsOfAtoms (length (by_number.ground_of l).atoms) (init.initial_of l)
+formula_over_atoms l = subst (λ n. IsOfAtoms n (init.initial_of l)) (sym (length-map (ground_atoms l) (atom_name l))) (initial_is_over l (ground_atoms l) (atoms_are_numbered l).numbering)
+
 pub formulas_over_atoms : FormulasSpeakOfGroundAtoms
-formulas_over_atoms d p =
-    let l = numbered_problem d p in
-    subst (λ n. IsOver n (initial_of d p)) (sym (length-map (ground_atoms l) (atom_name l))) (initial_is_over l (ground_atoms l) (atoms_are_numbered l).numbering)
+formulas_over_atoms d p = formula_over_atoms (numbered_problem d p)
 
 -- ---- closures in order
-
-contains_has : (ls : List Lit) (l : Lit) → Contains ls l → has ls l ≡ true
-contains_has [] l c = absurd (let below = c.1 in omega (arith, below))
-contains_has (m ∷ ms) l c = elim (first_or_later m ms l c) [
-  | inl e ↦ or_left (same_lit l m) (has ms l) (subst (λ z. same_lit l z ≡ true) (sym e) (same_lit-refl l))
-  | inr r ↦ or_right (same_lit l m) (has ms l) (contains_has ms l r)
-]
 
 -- a tag has one closure in order
 pub one_closure : (n : ℕ) (i : Initial) (tag xs ys : List Lit) → IsClosure n i tag xs → IsClosure n i tag ys → IsAscending xs → IsAscending ys → xs ≡ ys

@@ -1,5 +1,5 @@
 -- What is proved of the translation of two trees, and of their initial states.
-use Rattle.std.specs.Prelude.{◌≡◌, ◌↔◌, ℕ, true, false, List, [], None, length, codes}
+use Rattle.std.specs.Prelude.{◌≡◌, ◌↔◌, ℕ, true, List, [], length}
 use Rattle.kp_base.specs.declared.lit.Lit.{Lit}
 use Rattle.kp_base.specs.LitSet.{IsAscending}
 use Rattle.kp_base.specs.Steps as steps
@@ -11,13 +11,9 @@ use Rattle.kp_meaning.specs.States.{State}
 use Rattle.kp_meaning.specs.Initial.{IsInitial}
 use Rattle.kp_meaning.specs.Faults.{HasNoFault}
 use Rattle.kp_meaning.specs.Plans.{HasProblem}
-use Rattle.kp_meaning.specs.Numbering.{numbered_problem}
-use Rattle.kp_init.specs.Closure.{IsOver}
-use Rattle.kp_names.specs.Resolved.{first_unsure, unsure_place}
-use Rattle.kp_texts.specs.Report.{counted}
+use Rattle.kp_base.specs.Implicates.{IsOfAtoms}
 use Rattle.kp_write.specs.Grounds.{AreOfAtoms, IsWritable}
-use Rattle.kp_given.specs.Translations.{ground_of, initial_of, start_of, is_settled, report_of}
-use Rattle.kp_given.specs.Certain.{IsCertain, contradicts, known_at_first}
+use Rattle.kp_given.specs.Translations.{ground_of, initial_of, start_of}
 
 -- some state is initial
 pub record HasInitialState (p : Problem Word) : Type 0 where
@@ -30,35 +26,11 @@ InitialStatesAreModels = (d : Domain Word) (p : Problem Word) → HasNoFault d p
 
 -- the initial formula speaks of ground atoms alone
 abbrev pub FormulasSpeakOfGroundAtoms : Type 0
-FormulasSpeakOfGroundAtoms = (d : Domain Word) (p : Problem Word) → IsOver (length (ground_of d p).atoms) (initial_of d p)
+FormulasSpeakOfGroundAtoms = (d : Domain Word) (p : Problem Word) → IsOfAtoms (length (ground_of d p).atoms) (initial_of d p)
 
 -- whichever ascending list is a closure of the empty tag, it is what is known at the start
 abbrev pub ClosuresAreStarts : Type 0
 ClosuresAreStarts = (d : Domain Word) (p : Problem Word) (ls : List Lit) → IsClosure (length (ground_of d p).atoms) (initial_of d p) [] ls → IsAscending ls → ls ≡ start_of d p
-
--- ---- where `:init` has literals alone
-
--- where no `oneof`, `or` or `unknown` stands in `:init`, each item by number is a literal
-abbrev pub CertainWithoutUnsure : Type 0
-CertainWithoutUnsure = (d : Domain Word) (p : Problem Word) → first_unsure p.init ≡ None → IsCertain (numbered_problem d p)
-
--- and so where no such word has a place
-abbrev pub CertainWithoutPlace : Type 0
-CertainWithoutPlace = (text : List ℕ) (d : Domain Word) (p : Problem Word) → unsure_place text p ≡ None → IsCertain (numbered_problem d p)
-
--- where `:init` has literals alone, it doesn't contradict itself exactly where some state is initial
-abbrev pub CertainContradictionsHaveNoState : Type 0
-CertainContradictionsHaveNoState = (d : Domain Word) (p : Problem Word) → HasNoFault d p → IsCertain (numbered_problem d p) → (contradicts (numbered_problem d p) ≡ false) ↔ HasInitialState p
-
--- at the start it is known of each ground atom whether `:init` states it, and the report says that the translation is complete
-pub record IsKnownAtFirst (d : Domain Word) (p : Problem Word) : Type 0 where
-  pub start : start_of d p ≡ known_at_first (numbered_problem d p)
-  pub settled : is_settled (length (ground_of d p).atoms) (start_of d p) ≡ true
-  pub complete : report_of (ground_of d p) (start_of d p) ≡ counted (ground_of d p) (codes "complete\n")
-
--- this is so where `:init` has literals alone and doesn't contradict itself
-abbrev pub CertainStartsAreKnown : Type 0
-CertainStartsAreKnown = (d : Domain Word) (p : Problem Word) → IsCertain (numbered_problem d p) → contradicts (numbered_problem d p) ≡ false → IsKnownAtFirst d p
 
 -- ---- what is written
 

@@ -1,3 +1,2 @@
 pub mod Translations
-pub mod Certain
 pub mod Laws

@@ -1,12 +1,8 @@
 -- What is written and printed for two trees, with the empty tag alone.
-use Rattle.std.specs.Prelude.{ℕ, Bool, ◌||◌, List, [], length, codes}
-use Rattle.std.specs.List.{list_all, range_with_len}
+use Rattle.std.specs.Prelude.{List, [], length}
 use Rattle.kp_base.specs.declared.lit.Lit.{Lit}
 use Rattle.kp_base.specs.declared.ground.Ground.{Ground}
 use Rattle.kp_base.specs.declared.ground.Initial.{Initial}
-use Rattle.kp_base.specs.Lists.{only_if}
-use Rattle.kp_base.specs.Lit.{positive, negative}
-use Rattle.kp_base.specs.Steps.{has}
 use Rattle.kp_grammar.specs.declared.tree.Word.{Word}
 use Rattle.kp_grammar.specs.Trees.{Domain, Problem}
 use Rattle.kp_meaning.specs.Numbering.{numbered_problem}
@@ -14,8 +10,7 @@ use Rattle.kp_grounding.specs.Ground as ground
 use Rattle.kp_init.specs.Initial as init
 use Rattle.kp_init.specs.Closure.{closure}
 use Rattle.kp_texts.specs.declared.translation.Translation.{Translation}
-use Rattle.kp_texts.specs.Report.{counted}
-use Rattle.kp_write.specs.Grounds.{domain_file, problem_file}
+use Rattle.kp_texts.specs.Translations as texts
 
 -- the ground problem of two trees
 abbrev pub ground_of : Domain Word → Problem Word → Ground
@@ -29,18 +24,6 @@ initial_of d p = init.initial_of (numbered_problem d p)
 abbrev pub start_of : Domain Word → Problem Word → List Lit
 start_of d p = closure (initial_of d p) (length (ground_of d p).atoms) []
 
--- of each of the first n atoms it is known whether it holds
-abbrev pub is_settled : ℕ → List Lit → Bool
-is_settled n start = list_all (λ q. has start (positive q) || has start (negative q)) (range_with_len 0 n)
-
--- `complete` is printed where this is so of all ground atoms
-abbrev pub report_of : Ground → List Lit → List ℕ
-report_of g start = counted g (only_if (is_settled (length g.atoms) start) (codes "complete\n"))
-
 -- the two texts, and the report
 abbrev pub translation_of : Domain Word → Problem Word → Translation
-translation_of d p = record {
-  domain = domain_file (ground_of d p);
-  problem = problem_file (ground_of d p) (start_of d p);
-  report = report_of (ground_of d p) (start_of d p);
-}
+translation_of d p = texts.translation_of (ground_of d p) (start_of d p)

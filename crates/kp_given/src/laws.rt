@@ -1,6 +1,6 @@
 //! Laws of what is written for two trees, each proved as the contract of a function that does nothing.
 
-ghost use Rattle.kp_given.specs.Laws.{CertainContradictionsHaveNoState, CertainStartsAreKnown, CertainWithoutPlace, CertainWithoutUnsure, ClosuresAreStarts, FormulasSpeakOfGroundAtoms, GroundProblemsAreWritable, InitialStatesAreModels, StartsAreOfAtoms, StartsAreWritable};
+ghost use Rattle.kp_given.specs.Laws.{ClosuresAreStarts, FormulasSpeakOfGroundAtoms, GroundProblemsAreWritable, InitialStatesAreModels, StartsAreOfAtoms, StartsAreWritable};
 
 /// Where no name is at fault, some state is initial exactly where the initial formula has a model.
 #[tactic(auto, using(crate::proofs::Starts::states_are_models))]
@@ -18,24 +18,6 @@ pub fn formulas_speak_of_ground_atoms()
 #[tactic(auto, using(crate::proofs::Starts::closures_are_starts))]
 pub fn closures_are_starts()
     ensures { ClosuresAreStarts }
-{}
-
-/// Where no `oneof`, `or` or `unknown` stands in `:init`, each item of the problem by number is a literal.
-pub fn problems_without_doubt_are_certain()
-    ensures by_tree { CertainWithoutUnsure }
-    ensures by_place { CertainWithoutPlace }
-{}
-
-/// Where `:init` has literals alone, some state is initial exactly where none of them denies another.
-#[tactic(auto, using(crate::proofs::Certain::contradictions))]
-pub fn certain_problems_have_a_state()
-    ensures { CertainContradictionsHaveNoState }
-{}
-
-/// Where it has, and none denies another, it is known of each ground atom at the start whether it holds.
-#[tactic(auto, using(crate::proofs::FirstKnown::starts_known))]
-pub fn certain_starts_are_known()
-    ensures { CertainStartsAreKnown }
 {}
 
 /// The literals that are known at the start are of ground atoms.

@@ -11,7 +11,8 @@ use Rattle.kp_base.specs.LitSet.{IsAscending}
 use Rattle.kp_base.specs.Steps.{State, holds, is_model}
 use Rattle.kp_base.proofs.Lists.{any_alike, all_alike, all_member, filter_member, member_map, flat_member, all_from, member_flat_map, member_filter}
 use Rattle.kp_base.proofs.Lits.{has-member, member-has}
-use Rattle.kp_init.specs.Closure.{literals, state_of, states, models_of, closure, are_below, IsOver, IsClosureExact}
+use Rattle.kp_init.specs.Closure.{literals, state_of, states, models_of, closure, are_below, IsClosureExact}
+use Rattle.kp_base.specs.Implicates.{IsOfAtoms}
 use Rattle.kp_init.proofs.Runs.{below, SameBelow, holds_same, all_same}
 
 -- ---- the literals of the first n atoms
@@ -112,7 +113,7 @@ state_same s n k lt = bits_say s 0 n k lt ∙ ap s (omega arith)
 any_same : (n : ℕ) (s t : State) → SameBelow n s t → (ls : List Lit) → are_below n ls ≡ true → list_any (holds s) ls ≡ list_any (holds t) ls
 any_same n s t same ls h = any_alike (holds s) (holds t) ls (λ l m. holds_same n s t same l (all_member (below n) ls l m h))
 
-model_same : (i : Initial) (n : ℕ) → IsOver n i → (s t : State) → SameBelow n s t → is_model i s ≡ is_model i t
+model_same : (i : Initial) (n : ℕ) → IsOfAtoms n i → (s t : State) → SameBelow n s t → is_model i s ≡ is_model i t
 model_same i n over s t same =
     rw (
       all_alike (list_any (holds s)) (list_any (holds t)) i.clauses (λ c m. any_same n s t same c (all_member (are_below n) i.clauses c m over.clauses)),

@@ -25,7 +25,8 @@ use Rattle.kp_grounding.proofs.Atoms.{atoms_are_numbered}
 use Rattle.kp_grounding.proofs.ExampleMoves.{moves_by_number, numbered_moves, ground_moves}
 use Rattle.kp_grounding.proofs.ExampleGrounds.{roads, three_towns, exchange, from_p_to_q}
 use Rattle.kp_init.specs.Initial.{initial_of}
-use Rattle.kp_init.specs.Closure.{closure, IsOver, IsAscendingClosure}
+use Rattle.kp_init.specs.Closure.{closure, IsAscendingClosure}
+use Rattle.kp_base.specs.Implicates.{IsOfAtoms}
 use Rattle.kp_init.specs.Laws.{AreModels, IsNamedRun}
 use Rattle.kp_init.proofs.Models.{initial_exact}
 use Rattle.kp_init.proofs.Runs.{initial_is_over, plan_by_name, plan_of_texts}
@@ -63,7 +64,7 @@ known_of_none = refl
 torn : closure formula_of_cells 3 (positive 0 ∷ positive 1 ∷ []) ≡ positive 0 ∷ negative 0 ∷ positive 1 ∷ negative 1 ∷ positive 2 ∷ negative 2 ∷ []
 torn = refl
 
-cells_over : IsOver 3 formula_of_cells
+cells_over : IsOfAtoms 3 formula_of_cells
 cells_over = record { clauses = refl; closed = refl }
 
 is_closure : IsAscendingClosure 3 formula_of_cells (positive 0 ∷ []) (positive 0 ∷ negative 1 ∷ negative 2 ∷ [])
@@ -116,7 +117,7 @@ moves_at_first = refl
 known_at_first : closure formula_of_moves 2 [] ≡ positive 0 ∷ negative 1 ∷ []
 known_at_first = refl
 
-moves_over : IsOver 2 (initial_of moves_by_number)
+moves_over : IsOfAtoms 2 (initial_of moves_by_number)
 moves_over = initial_is_over moves_by_number (ground_atoms moves_by_number) (atoms_are_numbered moves_by_number).numbering
 
 -- a model

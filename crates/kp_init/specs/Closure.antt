@@ -8,6 +8,7 @@ use Rattle.kp_base.specs.Lit.{positive, negative}
 use Rattle.kp_base.specs.LitSet.{IsAscending}
 use Rattle.kp_base.specs.Steps.{State, holds, is_model}
 use Rattle.kp_base.specs.Entailed.{IsClosure}
+use Rattle.kp_base.specs.Implicates.{IsOfAtoms}
 
 -- the two literals of each of the first n atoms, ascending
 abbrev pub literals : ℕ → List Lit
@@ -35,11 +36,6 @@ closure i n tag = filter (λ l. list_all (λ s. holds s l) (models_of i n tag)) 
 abbrev pub are_below : ℕ → List Lit → Bool
 are_below n ls = list_all (λ l. nat_lt l.atom.0 n) ls
 
--- the formula speaks of the first n atoms alone
-pub record IsOver (n : ℕ) (i : Initial) : Type 0 where
-  pub clauses : list_all (are_below n) i.clauses ≡ true
-  pub closed : list_all (λ p. nat_lt p.0 n) i.closed ≡ true
-
 -- the list is the closure of the tag, in ascending order
 pub record IsAscendingClosure (n : ℕ) (i : Initial) (tag ls : List Lit) : Type 0 where
   pub closure : IsClosure n i tag ls
@@ -47,4 +43,4 @@ pub record IsAscendingClosure (n : ℕ) (i : Initial) (tag ls : List Lit) : Type
 
 -- where the formula and the tag speak of the first n atoms alone, the closure over their states is the closure over all states
 abbrev pub IsClosureExact : Type 0
-IsClosureExact = (i : Initial) (n : ℕ) → IsOver n i → (tag : List Lit) → are_below n tag ≡ true → IsAscendingClosure n i tag (closure i n tag)
+IsClosureExact = (i : Initial) (n : ℕ) → IsOfAtoms n i → (tag : List Lit) → are_below n tag ≡ true → IsAscendingClosure n i tag (closure i n tag)

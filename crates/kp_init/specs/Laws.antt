@@ -16,7 +16,7 @@ use Rattle.kp_grounding.specs.declared.flat.Atom.{Atom}
 use Rattle.kp_grounding.specs.Ground.{IsNumbering, kept_instances, ground_over, ground_of, seen_on}
 use Rattle.kp_grounding.specs.Laws.{action_name}
 use Rattle.kp_init.specs.Initial.{initial_over, initial_of}
-use Rattle.kp_init.specs.Closure.{IsOver}
+use Rattle.kp_base.specs.Implicates.{IsOfAtoms}
 
 -- the initial states and the models: each initial state, seen on the ground atoms, is a model; each model is one so; no two initial states are the same model
 pub record AreModels (l : Lifted) (atoms : List Atom) : Type 0 where
@@ -30,7 +30,7 @@ IsInitialExact = (l : Lifted) (atoms : List Atom) → IsNumbering l atoms → Ar
 
 -- and the formula speaks of these atoms alone
 abbrev pub IsInitialOver : Type 0
-IsInitialOver = (l : Lifted) (atoms : List Atom) → IsNumbering l atoms → IsOver (length atoms) (initial_over l atoms)
+IsInitialOver = (l : Lifted) (atoms : List Atom) → IsNumbering l atoms → IsOfAtoms (length atoms) (initial_over l atoms)
 
 -- the actions of these numbers are those of these instances, and succeed from each model
 pub record IsModelRun (l : Lifted) (atoms : List Atom) (is : List Instance) (ns : List ℕ) : Type 0 where

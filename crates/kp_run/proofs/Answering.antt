@@ -1,64 +1,48 @@
 -- The answer on two texts, from what their problem by number ends with.
-use Rattle.std.proofs.Common.{◌≡◌, ◌∙◌, Bool, true, false, ℕ, List, Option, Some, None, Result, Ok, Err, IfOk, codes, refl, sym, ap, subst}
-use Rattle.std.proofs.lemmas.Bool.{both_ways}
+use Rattle.std.proofs.Common.{◌≡◌, ◌∙◌, ℕ, List, [], length, Option, Some, None, Result, Ok, Err, IfOk, IfErr, refl, sym, ap, subst}
+use Rattle.std.proofs.lemmas.List.{length-map}
 use Rattle.kp_base.specs.declared.lit.Lit.{Lit}
 use Rattle.kp_base.specs.declared.memory.Memory.{Memory}
 use Rattle.kp_base.specs.declared.ground.Ground.{Ground}
-use Rattle.kp_base.specs.declared.refused.Part.TheVariants as parts
-use Rattle.kp_base.specs.declared.refused.Place.{Place}
+use Rattle.kp_base.specs.declared.ground.Initial.{Initial}
 use Rattle.kp_base.specs.declared.refused.Refused.{Refused}
 use Rattle.kp_base.specs.declared.refused.Refused.TheVariants as refusals
+use Rattle.kp_base.specs.Steps.{State, is_model}
+use Rattle.kp_base.specs.LitSet.{IsAscending}
+use Rattle.kp_base.specs.Entailed.{IsConsistent, IsClosure}
+use Rattle.kp_base.specs.Clashes.{no_pairs, HasNoClash, IsFirstClash}
+use Rattle.kp_base.specs.declared.refused.ClashAt.{ClashAt}
 use Rattle.kp_grammar.specs.declared.tree.Word.{Word}
 use Rattle.kp_grammar.specs.Trees.{Domain, Problem}
 use Rattle.kp_meaning.specs.Numbered.{Lifted as Numbers}
 use Rattle.kp_meaning.specs.Numbering.{numbered_problem}
 use Rattle.kp_names.specs.declared.lifted.Lifted.{Lifted}
 use Rattle.kp_names.specs.View.{lifted_view}
-use Rattle.kp_names.specs.Resolved.{first_unsure, place_in, unsure_place}
+use Rattle.kp_grounding.specs.Ground as by_number
+use Rattle.kp_ground.specs.Grounded.{IsGrounded, RefusesGround}
+use Rattle.kp_init.specs.Initial.{initial_of}
+use Rattle.kp_primes.specs.Held.{Held, formula}
+use Rattle.kp_primes.specs.Answers.{HoldsPrimes, HasNoState, RefusesPrimes, too_many, no_state, AnswersClosure}
 use Rattle.kp_texts.specs.declared.translation.Translation.{Translation}
-use Rattle.kp_texts.specs.Report.{counted}
 use Rattle.kp_texts.specs.Translations as texts
-use Rattle.kp_write.specs.Grounds.{problem_file}
-use Rattle.kp_given.specs.Certain.{IsCertain, contradicts, known_at_first}
-use Rattle.kp_given.specs.Translations.{ground_of, start_of, report_of, translation_of}
-use Rattle.kp_given.specs.Laws.{HasInitialState, IsKnownAtFirst}
-use Rattle.kp_given.proofs.Certain.{contradictions, unplaced_certain}
-use Rattle.kp_given.proofs.FirstKnown.{starts_known}
+use Rattle.kp_given.specs.Translations.{ground_of, translation_of}
+use Rattle.kp_given.specs.Laws.{HasInitialState}
+use Rattle.kp_given.proofs.Starts.{states_are_models, closures_are_starts}
 use Rattle.kp_run.specs.declared.answer.Report.{Report}
 use Rattle.kp_run.specs.declared.answer.Report.TheVariants as reports
 use Rattle.kp_run.specs.declared.status.Status.{Status}
 use Rattle.kp_run.specs.declared.status.Status.TheVariants as status
-use Rattle.kp_ground.specs.Grounded.{IsGrounded, RefusesGround}
-use Rattle.kp_run.specs.Due.{usual, LeavesNothingOpen, IsStarted, AnswersTrees, not_yet, too_large, no_initial_state, clash, done, Answers, on_trees}
+use Rattle.kp_run.specs.Due.{usual, IsOrdinary, IsStarted, AnswersTrees, too_large, implicates_over, no_initial_state, clash, done, Answers, on_trees}
 use Rattle.kp_run.specs.Texts.{HaveTrees}
-use Rattle.kp_run.specs.Reports.{status_of, HasItsText, IsTranslated, IsRefusal, IsProblemOf, EndsBy, by_contradiction, by_clash, by_translation, EndsWithin, over, within}
+use Rattle.kp_run.specs.Printed.{clash_text}
+use Rattle.kp_run.specs.Reports.{status_of, HasItsText, IsTranslated, IsRefusal, IsProblemOf, IsCounted, IsWritten, EndsBy, by_implicates, by_no_model, by_clash, by_translation, EndsWithin, over, within}
 use Rattle.kp_run.proofs.Translated.{same_translation, same_clash}
-
--- ---- whether the initial state is left open
-
-no_word : (text : List ℕ) (o : Option Word) → place_in text o ≡ None → o ≡ None
-no_word text None e = refl
-no_word text (Some w) e = absurd cc
-
-some_word : (text : List ℕ) (o : Option Word) (x : Place) → place_in text o ≡ Some x → o ≡ None → ⊥
-some_word text None x e n = absurd cc
-some_word text (Some w) x e n = absurd cc
-
-pub nothing_open : (d p : List ℕ) (l : Lifted) (x : IsProblemOf d p l) → l.unsure ≡ None → LeavesNothingOpen x.second
-nothing_open d p l x e = no_word p (first_unsure x.second.init) (sym x.resolved.unsure ∙ e)
-
-pub certain : (d p : List ℕ) (l : Lifted) (x : IsProblemOf d p l) → l.unsure ≡ None → IsCertain (lifted_view l)
-certain d p l x e = subst IsCertain (sym x.resolved.numbered) (unplaced_certain p x.first x.second (sym x.resolved.unsure ∙ e))
 
 -- ---- the answer
 
 -- a refusal is the answer
-refusal_answers : (d p : List ℕ) (r : Report) (x : Refused) → IsRefusal x r → Answers d p (status.Refused x) → Answers d p (status_of r)
-refusal_answers d p r x is a = subst (λ (z : Report). Answers d p (status_of z)) (sym is.is) a
-
-pub open_answers : (d p : List ℕ) (l : Lifted) (x : IsProblemOf d p l) (place : Place) (r : Result Report Memory) → l.unsure ≡ Some place → IfOk r (IsRefusal (refusals.NotYet parts.Problem)) → IfOk r (λ z. Answers d p (status_of z))
-open_answers d p l x place (Ok r) e is = refusal_answers d p r _ is (on_trees x.first x.second _ x.trees (not_yet (some_word p (first_unsure x.second.init) place (sym x.resolved.unsure ∙ e))))
-open_answers d p l x place (Err m) e is = tt
+refusal_answers : (limit : ℕ) (d p : List ℕ) (r : Report) (x : Refused) → IsRefusal x r → Answers limit d p (status.Refused x) → Answers limit d p (status_of r)
+refusal_answers limit d p r x is a = subst (λ (z : Report). Answers limit d p (status_of z)) (sym is.is) a
 
 open_text : (x : Refused) (r : Report) → IsRefusal x r → HasItsText r
 open_text x r is = subst HasItsText (sym is.is) (is.own, is.may)
@@ -77,70 +61,102 @@ refused_translated d p x (Ok r) is = refusal_translated d p x r is
 refused_translated d p x (Err m) is = tt
 
 -- a refusal of the texts is the answer
-pub refused_answers : (d p : List ℕ) (x : Refused) (r : Result Report Memory) → IfOk r (IsRefusal x) → Answers d p (status.Refused x) → IfOk r (λ z. Answers d p (status_of z))
-refused_answers d p x (Ok r) is a = refusal_answers d p r x is a
-refused_answers d p x (Err m) is a = tt
+pub refused_answers : (limit : ℕ) (d p : List ℕ) (x : Refused) (r : Result Report Memory) → IfOk r (IsRefusal x) → Answers limit d p (status.Refused x) → IfOk r (λ z. Answers limit d p (status_of z))
+refused_answers limit d p x (Ok r) is a = refusal_answers limit d p r x is a
+refused_answers limit d p x (Err m) is a = tt
 
 -- ---- what a problem by number ends with
 
-pub refused_ends : (l : Numbers) (r : Result Report Memory) → contradicts l ≡ true → IfOk r (IsRefusal refusals.NoInitialState) → IfOk r (EndsBy l)
-refused_ends l (Ok r) bad is = by_contradiction r bad is
-refused_ends l (Err m) bad is = tt
+pub over_ends : (limit : ℕ) (l : Numbers) (x : Refused) (r : Result Report Memory) → RefusesGround l usual x → IfOk r (IsRefusal x) → IfOk r (EndsWithin limit l)
+over_ends limit l x (Ok r) too is = over x too is
+over_ends limit l x (Err m) too is = tt
 
-pub over_ends : (l : Numbers) (x : Refused) (r : Result Report Memory) → RefusesGround l usual x → IfOk r (IsRefusal x) → IfOk r (EndsWithin l)
-over_ends l x (Ok r) too is = over x too is
-over_ends l x (Err m) too is = tt
+pub within_ends : (limit : ℕ) (l : Numbers) (g : Ground) (r : Result Report Memory) → IsGrounded l usual g → IfOk r (EndsBy limit l) → IfOk r (EndsWithin limit l)
+within_ends limit l g (Ok r) w ends = within (record { counts = w.counts; atoms = w.atoms; ground = refl }) ends
+within_ends limit l g (Err m) w ends = tt
 
-pub within_ends : (l : Numbers) (g : Ground) (r : Result Report Memory) → IsGrounded l usual g → IfOk r (EndsBy l) → IfOk r (EndsWithin l)
-within_ends l g (Ok r) w ends = within (record { counts = w.counts; atoms = w.atoms; ground = refl }) ends
-within_ends l g (Err m) w ends = tt
+-- a refusal at its initial formula
+pub formula_ends : (limit : ℕ) (l : Numbers) (x : Refused) (r : Result Report Memory) → RefusesPrimes (initial_of l) limit x → IfOk r (IsRefusal x) → IfOk r (EndsBy limit l)
+formula_ends limit l _ (Ok r) (too_many k least) is = by_implicates r k least is
+formula_ends limit l _ (Ok r) (no_state none) is = by_no_model r none is
+formula_ends limit l x (Err m) h is = tt
 
--- ---- trees that leave nothing open
+-- and it is an ordinary one
+pub formula_ordinary : (i : Initial) (limit : ℕ) (x : Refused) → RefusesPrimes i limit x → IsOrdinary x
+formula_ordinary i limit _ (too_many k least) = tt
+formula_ordinary i limit _ (no_state none) = tt
 
-module _ (x y : List ℕ) (d : Domain Word) (p : Problem Word) (h : HaveTrees x y d p) (sure : LeavesNothingOpen p) (known : IsCertain (numbered_problem d p)) where
+-- ---- what ends with its prime implicates
+
+-- a closure over formulas of the same models
+same_closure : (n : ℕ) (i j : Initial) (tag ls : List Lit) → ((s : State) → is_model i s ≡ is_model j s) → IsClosure n i tag ls → IsClosure n j tag ls
+same_closure n i j tag ls same h = record {
+  of_atoms = h.of_atoms;
+  entailed = λ l m s is all. h.entailed l m s (same s ∙ is) all;
+  whole = λ l below e. h.whole l below (λ s is all. e s (sym (same s) ∙ is) all);
+}
+
+module _ (limit : ℕ) (l : Numbers) (g : Ground) (is : g ≡ by_number.ground_of l) (h : Held) (holds : HoldsPrimes (initial_of l) (length g.atoms) limit h) where
+  counted : IsCounted limit l
+  counted = record { never_over = holds.never_over; has_model = holds.has_model }
+
+  -- an action clashes
+  pub clash_ends : (at : ClashAt) (text : List ℕ) → IsFirstClash no_pairs g at → text ≡ clash_text g at → EndsBy limit l (reports.Clash at text)
+  clash_ends at text first own = by_clash at text counted (subst (λ (x : Ground). IsFirstClash no_pairs x at) is first) (own ∙ ap (λ (x : Ground). clash_text x at) is)
+
+  -- none does
+  pub done_ends : (t : Translation) (start : List Lit) → HasNoClash no_pairs g → AnswersClosure h [] (Some start) → IsAscending start → t ≡ texts.translation_of g start → EndsBy limit l (reports.Done t)
+  done_ends t start none answers up own = by_translation t counted (subst (HasNoClash no_pairs) is none) (record {
+      start = start;
+      closure = record {
+        closure = same_closure (length (by_number.ground_of l).atoms) (formula h) (initial_of l) [] start holds.same_models (subst (λ n. IsClosure n (formula h) [] start) (holds.atoms_are ∙ ap (λ (x : Ground). length x.atoms) is) answers.1);
+        ascending = up;
+      };
+      translation = own ∙ ap (λ (x : Ground). texts.translation_of x start) is;
+    })
+
+-- ---- two trees
+
+module _ (limit : ℕ) (x y : List ℕ) (d : Domain Word) (p : Problem Word) (h : HaveTrees x y d p) where
   abbrev l : Numbers
   l = numbered_problem d p
 
-  ends_answers : (r : Report) → EndsWithin l r → Answers x y (status_of r)
-  ends_answers r (over z a is) = refusal_answers x y r z is (on_trees d p _ h (too_large z sure a))
+  ends_answers : (r : Report) → EndsWithin limit l r → Answers limit x y (status_of r)
+  ends_answers r (over z a is) = refusal_answers limit x y r z is (on_trees d p _ h (too_large z a))
   ends_answers r (within w e) = by r e
     where
-      started : contradicts l ≡ false → IsStarted d p
-      started good = record { certain = sure; within = w; initial = (contradictions d p h.no_fault known).0 good }
+      started : IsCounted limit l → IsStarted limit d p
+      started k = record { small = w; counted = k.never_over; initial = (states_are_models d p h.no_fault).1 (k.has_model.state, k.has_model.model) }
 
-      by : (z : Report) → EndsBy l z → Answers x y (status_of z)
-      by z (by_contradiction _ bad is) = refusal_answers x y z _ is (on_trees d p _ h (no_initial_state sure w (λ has. both_ways (contradicts l) ((contradictions d p h.no_fault known).1 has) bad)))
-      by _ (by_clash at text good first own) = on_trees d p _ h (clash at (started good) first)
-      by _ (by_translation t good none own) = on_trees d p _ h (done (started good) none)
+      -- no model is an initial state
+      without : HasNoState (initial_of l) limit → HasInitialState p → ⊥
+      without none has = let m = (states_are_models d p h.no_fault).0 has in none.no_model m.0 m.1
+
+      by : (z : Report) → EndsBy limit l z → Answers limit x y (status_of z)
+      by z (by_implicates _ k least is) = refusal_answers limit x y z _ is (on_trees d p _ h (implicates_over k w least))
+      by z (by_no_model _ none is) = refusal_answers limit x y z _ is (on_trees d p _ h (no_initial_state w none.never_over (without none)))
+      by _ (by_clash at text k first own) = on_trees d p _ h (clash at (started k) first)
+      by _ (by_translation t k none own) = on_trees d p _ h (done (started k) none)
 
   -- what is written for them
-  made : contradicts l ≡ false → texts.translation_of (ground_of d p) (known_at_first l) ≡ translation_of d p
-  made good =
-      let k = starts_known d p known good in
-      let g = ground_of d p in
-      ap (λ (s : List Lit). let t : Translation = record { domain = (translation_of d p).domain; problem = problem_file g s; report = counted g (codes "complete\n") } in t) (sym k.start)
-      ∙ ap (λ (r : List ℕ). let t : Translation = record { domain = (translation_of d p).domain; problem = (translation_of d p).problem; report = r } in t) (sym k.complete)
+  made : (t : Translation) → IsWritten l t → t ≡ translation_of d p
+  made t w = w.translation ∙ ap (texts.translation_of (ground_of d p)) (closures_are_starts d p w.start w.closure.closure w.closure.ascending)
 
-  ends_translated : (r : Report) → EndsWithin l r → IsTranslated x y r
+  ends_translated : (r : Report) → EndsWithin limit l r → IsTranslated x y r
   ends_translated r (over z a is) = refusal_translated x y z r is
   ends_translated r (within w e) = by r e
     where
-      by : (z : Report) → EndsBy l z → IsTranslated x y z
-      by z (by_contradiction _ bad is) = refusal_translated x y _ z is
-      by _ (by_clash at text good first own) = λ e q k. own ∙ same_clash x y d e p q at h k
-      by _ (by_translation t good none own) = λ e q k. own ∙ (made good ∙ same_translation x y d e p q h k)
+      by : (z : Report) → EndsBy limit l z → IsTranslated x y z
+      by z (by_implicates _ k least is) = refusal_translated x y _ z is
+      by z (by_no_model _ none is) = refusal_translated x y _ z is
+      by _ (by_clash at text k first own) = λ e q k. own ∙ same_clash x y d e p q at h k
+      by _ (by_translation t k none own) = λ e q k. made t own ∙ same_translation x y d e p q h k
 
 -- the same of a problem by number of two texts
-pub certain_answers : (d p : List ℕ) (l : Lifted) (x : IsProblemOf d p l) (r : Result Report Memory) → l.unsure ≡ None → (IsCertain (lifted_view l) → IfOk r (EndsWithin (lifted_view l))) → IfOk r (λ z. Answers d p (status_of z))
-certain_answers d p l x (Ok r) e ends =
-    let known = certain d p l x e in
-    let n = x.resolved.numbered in
-    ends_answers d p x.first x.second x.trees (nothing_open d p l x e) (subst IsCertain n known) r (subst (λ m. EndsWithin m r) n (ends known))
-certain_answers d p l x (Err m) e ends = tt
+pub problem_answers : (limit : ℕ) (d p : List ℕ) (l : Lifted) (x : IsProblemOf d p l) (r : Result Report Memory) → IfOk r (EndsWithin limit (lifted_view l)) → IfOk r (λ z. Answers limit d p (status_of z))
+problem_answers limit d p l x (Ok r) ends = ends_answers limit d p x.first x.second x.trees r (subst (λ m. EndsWithin limit m r) x.resolved.numbered ends)
+problem_answers limit d p l x (Err m) ends = tt
 
-pub certain_translated : (d p : List ℕ) (l : Lifted) (x : IsProblemOf d p l) (r : Result Report Memory) → l.unsure ≡ None → (IsCertain (lifted_view l) → IfOk r (EndsWithin (lifted_view l))) → IfOk r (IsTranslated d p)
-certain_translated d p l x (Ok r) e ends =
-    let known = certain d p l x e in
-    let n = x.resolved.numbered in
-    ends_translated d p x.first x.second x.trees (nothing_open d p l x e) (subst IsCertain n known) r (subst (λ m. EndsWithin m r) n (ends known))
-certain_translated d p l x (Err m) e ends = tt
+pub problem_translated : (limit : ℕ) (d p : List ℕ) (l : Lifted) (x : IsProblemOf d p l) (r : Result Report Memory) → IfOk r (EndsWithin limit (lifted_view l)) → IfOk r (IsTranslated d p)
+problem_translated limit d p l x (Ok r) ends = ends_translated limit d p x.first x.second x.trees r (subst (λ m. EndsWithin limit m r) x.resolved.numbered ends)
+problem_translated limit d p l x (Err m) ends = tt

@@ -1,5 +1,5 @@
--- Words and what is held, with the one answer and result: a translation, the usage, each kind of refusal and a clash, and none where a file isn't held.
-use Rattle.std.proofs.Common.{◌≡◌, ◌≢◌, ◌<◌, ◌^◌, ℕ, true, false, List, [], ◌∷◌, length, get_or, nat_eq, Option, Some, None, Vec, codes, refl, sym, ap, subst, ◌∙◌, arith}
+-- Words and what is held, with the one answer and result: translations, the usage, each kind of refusal and a clash, and none where a file isn't held.
+use Rattle.std.proofs.Common.{◌≡◌, ◌≢◌, ◌<◌, ◌≤◌, ◌^◌, ℕ, zero, suc, Bool, true, false, not, ◌&&◌, ◌||◌, List, [], ◌∷◌, length, take, nat_eq, Option, Some, None, Vec, codes, inl, inr, refl, sym, ap, subst, ◌∙◌, arith}
 use Rattle.std.specs.FinMap.{empty, get, insert, get-empty}
 use Rattle.std.specs.Fmt.{digits}
 use Rattle.std.specs.List.{starts_with}
@@ -15,7 +15,18 @@ use Rattle.kp_base.specs.declared.refused.ClashAt.{ClashAt}
 use Rattle.kp_base.specs.declared.refused.Part.TheVariants as parts
 use Rattle.kp_base.specs.declared.refused.Refused.{Refused}
 use Rattle.kp_base.specs.declared.refused.Refused.TheVariants as refusals
+use Rattle.kp_base.specs.declared.refused.Stop.TheVariants as stops
+use Rattle.kp_base.specs.declared.ground.Initial.{Initial}
+use Rattle.kp_base.specs.declared.lit.Lit.{Lit}
+use Rattle.kp_base.specs.Lists.{Member}
+use Rattle.kp_base.specs.Lit.{positive, negative}
+use Rattle.kp_base.specs.LitSet.{IsAscending}
+use Rattle.kp_base.specs.Steps.{State as NumberedState, is_model}
 use Rattle.kp_base.specs.Clashes.{no_pairs, HasNoClash, IsFirstClash}
+use Rattle.kp_base.specs.Implicates.{IsLeastOver, IsNeverOver, HasNoModel}
+use Rattle.kp_primes.specs.Included.{AreCounted, all_included, passed_at}
+use Rattle.kp_primes.specs.Answers.{RefusesPrimes, too_many}
+use Rattle.kp_primes.proofs.Answered.{never_over, prefix_stops}
 use Rattle.kp_clash.specs.Searching.{first_from}
 use Rattle.kp_clash.proofs.InOrder.{IsFound, found_in, is_first, none_clashes}
 use Rattle.kp_lex.specs.Bytes.{class_of}
@@ -40,17 +51,16 @@ use Rattle.kp_grounding.specs.Ground.{kept_instances, ground_atoms}
 use Rattle.kp_grounding.specs.Ground as by_number
 use Rattle.kp_grounding.specs.Weights.{binding_count, total_weight}
 use Rattle.kp_ground.specs.Grounded.{IsGrounded}
-use Rattle.kp_given.specs.Certain.{contradicts}
 use Rattle.kp_given.specs.Laws.{HasInitialState}
-use Rattle.kp_given.specs.Translations.{ground_of, translation_of}
-use Rattle.kp_given.proofs.Certain.{sure_certain, contradictions}
+use Rattle.kp_given.specs.Translations.{ground_of, initial_of, translation_of}
+use Rattle.kp_given.proofs.Starts.{states_are_models}
 use Rattle.kp_outside.specs.Outside.{FileMap}
 use Rattle.kp_run.specs.declared.status.Status.{Status}
 use Rattle.kp_run.specs.declared.status.Status.TheVariants as status
-use Rattle.kp_run.specs.Command.{Command, IsCommand, IsNoCommand}
+use Rattle.kp_run.specs.Command.{Command, NamesFiles, SaysLimit, usual_limit, stated, IsCommand, IsNoCommand}
 use Rattle.kp_run.specs.Printed.{usage_text, clash_text}
 use Rattle.kp_run.specs.Texts.{HaveTrees, of_problem, of_names}
-use Rattle.kp_run.specs.Due.{usual, LeavesNothingOpen, IsStarted, AnswersTrees, not_yet, no_initial_state, clash, done, Answers, on_trees, AnswersFiles, of_done, of_clash, IsDue, usage, answer}
+use Rattle.kp_run.specs.Due.{usual, IsStarted, AnswersTrees, implicates_over, no_initial_state, clash, done, Answers, on_trees, AnswersFiles, of_done, of_clash, IsDue, usage, answer}
 use Rattle.kp_run.specs.Due as dues
 use Rattle.kp_run.specs.Results.{Outcome, prints, translates, HoldsTrees, IsResult, refused, clashed, translated, ComesTo}
 use Rattle.kp_run.specs.Results as results
@@ -72,21 +82,49 @@ abbrev words : List (Vec ℕ Global)
 words = translate (word (codes "d") (omega arith)) (word (codes "p") (omega arith)) (word (codes "od") (omega arith)) (word (codes "op") (omega arith))
 
 abbrev command : Command
-command = record { domain = codes "d"; problem = codes "p"; domain_out = codes "od"; problem_out = codes "op" }
+command = record { domain = codes "d"; problem = codes "p"; domain_out = codes "od"; problem_out = codes "op"; implicates = 20000 }
 
 -- two names that are seen to differ
 apart : (x y : List ℕ) → same x y ≡ false → x ≢ y
 apart x y h e = false≢true (sym h ∙ (sym (ap (same x) e) ∙ same-refl x))
 
-is_command : IsCommand words command
+names_files : (n : ℕ) → NamesFiles (codes "translate" ∷ codes "d" ∷ codes "p" ∷ codes "od" ∷ codes "op" ∷ codes "--mode" ∷ codes "k0" ∷ []) (record { domain = codes "d"; problem = codes "p"; domain_out = codes "od"; problem_out = codes "op"; implicates = n })
 unfolding encode
-is_command = record {
+names_files n = record {
   words_are = refl;
   domain = record { not_empty = λ e. cc; no_dash = refl; utf8 = (codes "d", (refl, refl)) };
   problem = record { not_empty = λ e. cc; no_dash = refl; utf8 = (codes "p", (refl, refl)) };
   domain_out = record { not_empty = λ e. cc; no_dash = refl; utf8 = (codes "od", (refl, refl)) };
   problem_out = record { not_empty = λ e. cc; no_dash = refl; utf8 = (codes "op", (refl, refl)) };
   outputs_differ = apart (codes "od") (codes "op") refl;
+}
+
+is_command : IsCommand words command
+is_command = record {
+  front = codes "translate" ∷ codes "d" ∷ codes "p" ∷ codes "od" ∷ codes "op" ∷ codes "--mode" ∷ codes "k0" ∷ [];
+  options = [];
+  words_are = refl;
+  files = names_files 20000;
+  limit = usual_limit;
+}
+
+-- with a limit of one prime implicate
+abbrev with_limit : List (Vec ℕ Global)
+with_limit =
+    word (codes "translate") (omega arith) ∷ word (codes "d") (omega arith) ∷ word (codes "p") (omega arith) ∷ word (codes "od") (omega arith) ∷ word (codes "op") (omega arith)
+    ∷ word (codes "--mode") (omega arith) ∷ word (codes "k0") (omega arith) ∷ word (codes "--implicates") (omega arith) ∷ word (codes "1") (omega arith) ∷ []
+
+abbrev limited : Command
+limited = record { domain = codes "d"; problem = codes "p"; domain_out = codes "od"; problem_out = codes "op"; implicates = 1 }
+
+is_limited : IsCommand with_limit limited
+unfolding digits
+is_limited = record {
+  front = codes "translate" ∷ codes "d" ∷ codes "p" ∷ codes "od" ∷ codes "op" ∷ codes "--mode" ∷ codes "k0" ∷ [];
+  options = codes "--implicates" ∷ codes "1" ∷ [];
+  words_are = refl;
+  files = names_files 1;
+  limit = stated 1 (record { least = omega arith; most = omega arith });
 }
 
 -- ---- what is held
@@ -102,7 +140,7 @@ problem_held : (domain problem : List ℕ) → get (holding domain problem) (cod
 problem_held domain problem = at_last (insert empty (codes "d") domain) (codes "p") problem
 
 -- an answer on the two files is the command's
-on_files : (domain problem : List ℕ) (s : Status) → Answers domain problem s → AnswersFiles (holding domain problem) command s
+on_files : (domain problem : List ℕ) (s : Status) → Answers 20000 domain problem s → AnswersFiles (holding domain problem) command s
 on_files domain problem s h = record { domain = domain; problem = problem; domain_held = domain_held domain problem; problem_held = problem_held domain problem; answers = h }
 
 -- and their trees are those of its files
@@ -133,18 +171,52 @@ problem_reads = reads_file grammar.problem from_p_to_q (tokens from_p_to_q) from
 trees : HaveTrees exchange from_p_to_q exchange_tree from_p_to_q_tree
 trees = record { domain_reads = domain_reads; problem_reads = problem_reads; no_fault = record { domain = refl; problem = refl } }
 
--- p is stated, and nothing denied
-consistent : HasInitialState from_p_to_q_tree
-consistent = (contradictions exchange_tree from_p_to_q_tree trees.no_fault (sure_certain exchange_tree from_p_to_q_tree refl)).0 refl
+-- p is stated, and q false
+abbrev from_p : Initial
+from_p = initial_of exchange_tree from_p_to_q_tree
 
-started : IsStarted exchange_tree from_p_to_q_tree
-started = record { certain = refl; within = is_small (numbered_problem exchange_tree from_p_to_q_tree) refl refl refl refl; initial = consistent }
+only_p : NumberedState
+only_p n = nat_eq n 0
+
+only_p_is : is_model from_p only_p ≡ true
+unfolding only_p
+only_p_is = refl
+
+-- some state is initial where the formula has a model
+has_state : (d : Domain Word) (p : Problem Word) → faults.HasNoFault d p → (s : NumberedState) → is_model (initial_of d p) s ≡ true → HasInitialState p
+has_state d p no_fault s is = (states_are_models d p no_fault).1 (s, is)
+
+-- a clause of one literal is in order, and has few prime implicates
+one_set : (cs : List (List Lit)) (x : Lit) → cs ≡ (x ∷ []) ∷ [] → (c : List Lit) → Member cs c → IsAscending c
+one_set _ x e c m = go c (subst (λ cs. Member cs c) e m)
+  where
+    go : (c : List Lit) → Member ((x ∷ []) ∷ []) c → IsAscending c
+    go c m = elim m [ inl same ↦ subst IsAscending same tt | inr none ↦ absurd none ]
+
+few_primes : (i : Initial) (x : Lit) → i.clauses ≡ (x ∷ []) ∷ [] → length (all_included [] ((x ∷ []) ∷ [])) ≤ 1 → IsNeverOver i 20000
+few_primes i x e short = never_over i 20000 (all_included [] (take (length i.clauses) i.clauses)) (record {
+    so_far = refl;
+    sets = λ c m. one_set (take (length i.clauses) i.clauses) x (ap (λ (cs : List (List Lit)). take (length cs) cs) e) c m;
+    within_limit = λ j le. subst (λ (cs : List (List Lit)). length (all_included [] (take j cs)) ≤ 20000) (sym e) (at j);
+  })
+  where
+    at : (j : ℕ) → length (all_included [] (take j ((x ∷ []) ∷ []))) ≤ 20000
+    at zero = omega arith
+    at (suc zero) = omega (arith, short)
+    at (suc (suc j)) = omega (arith, short)
+
+started : IsStarted 20000 exchange_tree from_p_to_q_tree
+started = record {
+  small = is_small (numbered_problem exchange_tree from_p_to_q_tree) refl refl refl refl;
+  counted = few_primes from_p (positive 0) refl (omega arith);
+  initial = has_state exchange_tree from_p_to_q_tree trees.no_fault only_p only_p_is;
+}
 
 -- what is added is q, and what is deleted p
 no_clash : HasNoClash no_pairs (ground_of exchange_tree from_p_to_q_tree)
 no_clash = none_clashes (ground_of exchange_tree from_p_to_q_tree) None (found (ground_of exchange_tree from_p_to_q_tree) None refl)
 
-is_done : AnswersTrees exchange_tree from_p_to_q_tree status.Done
+is_done : AnswersTrees 20000 exchange_tree from_p_to_q_tree status.Done
 is_done = done started no_clash
 
 abbrev held : FileMap
@@ -171,7 +243,7 @@ sound = is_sound words held after command (Some after) (Some []) (Some (translat
 -- ---- the usage
 
 no_words : IsNoCommand []
-no_words c h = let e = h.words_are in cc
+no_words c h = let e = h.files.words_are in let all = h.words_are in cc
 
 usage_is_due : IsDue [] (Some held) status.Usage
 usage_is_due = usage no_words
@@ -185,8 +257,10 @@ dashed = translate (word (codes "-d") (omega arith)) (word (codes "p") (omega ar
 
 dashed_is_none : IsNoCommand dashed
 dashed_is_none c h =
-    let it : codes "-d" ≡ c.domain = ap (λ ws. get_or ws 1 []) h.words_are in
-    false≢true (sym h.domain.no_dash ∙ sym (ap (λ w. starts_with nat_eq w (codes "-")) it))
+    let all = h.words_are in
+    let first = h.files.words_are in
+    let it : codes "-d" ≡ c.domain = cc in
+    false≢true (sym h.files.domain.no_dash ∙ sym (ap (λ w. starts_with nat_eq w (codes "-")) it))
 
 -- both files would be written under one name
 abbrev one_output : List (Vec ℕ Global)
@@ -194,9 +268,24 @@ one_output = translate (word (codes "d") (omega arith)) (word (codes "p") (omega
 
 one_output_is_none : IsNoCommand one_output
 one_output_is_none c h =
-    let first : codes "od" ≡ c.domain_out = ap (λ ws. get_or ws 3 []) h.words_are in
-    let second : codes "od" ≡ c.problem_out = ap (λ ws. get_or ws 4 []) h.words_are in
-    h.outputs_differ (sym first ∙ second)
+    let all = h.words_are in
+    let front = h.files.words_are in
+    let first : codes "od" ≡ c.domain_out = cc in
+    let second : codes "od" ≡ c.problem_out = cc in
+    h.files.outputs_differ (sym first ∙ second)
+
+-- an option without its number
+abbrev without_number : List (Vec ℕ Global)
+without_number =
+    word (codes "translate") (omega arith) ∷ word (codes "d") (omega arith) ∷ word (codes "p") (omega arith) ∷ word (codes "od") (omega arith) ∷ word (codes "op") (omega arith)
+    ∷ word (codes "--mode") (omega arith) ∷ word (codes "k0") (omega arith) ∷ word (codes "--implicates") (omega arith) ∷ []
+
+without_number_is_none : IsNoCommand without_number
+without_number_is_none c h = no_limit h.options c.implicates h.limit (let all = h.words_are in let front = h.files.words_are in cc)
+  where
+    no_limit : (ws : List (List ℕ)) (n : ℕ) → SaysLimit ws n → ws ≡ codes "--implicates" ∷ [] → ⊥
+    no_limit _ _ usual_limit e = cc
+    no_limit _ _ (stated n is) e = cc
 
 -- ---- a file that isn't held: nothing is due, and there is no result
 
@@ -232,14 +321,35 @@ both_reads = reads_file grammar.problem both (tokens both) both_tree (omega arit
 both_trees : HaveTrees exchange both exchange_tree both_tree
 both_trees = record { domain_reads = domain_reads; problem_reads = both_reads; no_fault = record { domain = refl; problem = refl } }
 
-torn_apart : contradicts (numbered_problem exchange_tree both_tree) ≡ true
-torn_apart = refl
+no_model : HasNoModel (initial_of exchange_tree both_tree)
+no_model s is = never (s 0) is
+  where
+    never : (b : Bool) → ((((b || false) && (((not b) || false) && true)) && (not (s 1) && true)) ≡ true) → ⊥
+    never true h = false≢true h
+    never false h = false≢true h
 
 no_state : HasInitialState both_tree → ⊥
-no_state has = false≢true (sym ((contradictions exchange_tree both_tree both_trees.no_fault (sure_certain exchange_tree both_tree refl)).1 has) ∙ torn_apart)
+no_state has = let m = (states_are_models exchange_tree both_tree both_trees.no_fault).0 has in no_model m.0 m.1
 
-without_state : AnswersTrees exchange_tree both_tree (status.Refused refusals.NoInitialState)
-without_state = no_initial_state refl (is_small (numbered_problem exchange_tree both_tree) refl refl refl refl) no_state
+-- p and its negation, in order
+two_sets : (c : List Lit) → Member ((positive 0 ∷ []) ∷ (negative 0 ∷ []) ∷ []) c → IsAscending c
+two_sets c m = elim m [
+  | inl same ↦ subst IsAscending same tt
+  | inr more ↦ elim more [ inl same ↦ subst IsAscending same tt | inr none ↦ absurd none ]
+]
+
+-- of none of them, of the first, and of both
+both_few : IsNeverOver (initial_of exchange_tree both_tree) 20000
+both_few = never_over (initial_of exchange_tree both_tree) 20000 (all_included [] ((positive 0 ∷ []) ∷ (negative 0 ∷ []) ∷ [])) (record { so_far = refl; sets = two_sets; within_limit = λ j le. at j })
+  where
+    at : (j : ℕ) → length (all_included [] (take j ((positive 0 ∷ []) ∷ (negative 0 ∷ []) ∷ []))) ≤ 20000
+    at zero = omega arith
+    at (suc zero) = omega arith
+    at (suc (suc zero)) = omega arith
+    at (suc (suc (suc j))) = omega arith
+
+without_state : AnswersTrees 20000 exchange_tree both_tree (status.Refused refusals.NoInitialState)
+without_state = no_initial_state (is_small (numbered_problem exchange_tree both_tree) refl refl refl refl) both_few no_state
 
 no_state_results : IsResult words (holding exchange both) (prints (status.Refused refusals.NoInitialState) (codes "refused 12 NoInitialState\n"))
 no_state_results = refused command refusals.NoInitialState is_command tt (on_files exchange both _ (on_trees exchange_tree both_tree _ both_trees without_state))
@@ -274,7 +384,50 @@ unfolding digits
 syntax_results =
     refused command at_once is_command tt (on_files exchange [] (status.Refused at_once) (dues.refused at_once (of_problem exchange_tree at_once domain_reads (files.stops [] (stop []) (omega arith) at_end (offending (stop []) (within_form (s_unopened refl)) (λ us e. absurd cc))))))
 
--- ---- refusals: an `unknown`
+-- ---- refusals: too many prime implicates
+
+-- p and q are two
+abbrev p_and_q : List ℕ
+p_and_q = codes "(define (problem e) (:domain d) (:init (p) (q)) (:goal (q)))\n"
+
+abbrev p_and_q_tree : Problem Word
+p_and_q_tree = record { objects = []; init = Item.fact true (atom_at (codes "p") 40) ∷ Item.fact true (atom_at (codes "q") 44) ∷ []; goal = Cond.atom true (atom_at (codes "q") 56) }
+
+p_and_q_reads : Reads grammar.problem p_and_q p_and_q_tree
+unfolding cut_from class_of symbol_of some_at next_at
+p_and_q_reads = reads_file grammar.problem p_and_q (tokens p_and_q) p_and_q_tree (omega arith) refl refl refl
+
+p_and_q_trees : HaveTrees exchange p_and_q exchange_tree p_and_q_tree
+p_and_q_trees = record { domain_reads = domain_reads; problem_reads = p_and_q_reads; no_fault = record { domain = refl; problem = refl } }
+
+units : (c : List Lit) → Member ((positive 0 ∷ []) ∷ (positive 1 ∷ []) ∷ []) c → IsAscending c
+units c m = elim m [
+  | inl same ↦ subst IsAscending same tt
+  | inr more ↦ elim more [ inl same ↦ subst IsAscending same tt | inr none ↦ absurd none ]
+]
+
+second_is_over : IsLeastOver (initial_of exchange_tree p_and_q_tree) 1 2
+second_is_over = go (prefix_stops (initial_of exchange_tree p_and_q_tree) 2 1 (stops.Refused (refusals.ImplicatesOver 2)) (passed_at 2 (record { there = omega arith; sets = units; over = omega arith; before = at })))
+  where
+    at : (j : ℕ) → j < 2 → length (all_included [] (take j ((positive 0 ∷ []) ∷ (positive 1 ∷ []) ∷ []))) ≤ 1
+    at zero le = omega arith
+    at (suc zero) le = omega arith
+    at (suc (suc j)) le = absurd (omega arith)
+
+    go : RefusesPrimes (initial_of exchange_tree p_and_q_tree) 1 (refusals.ImplicatesOver 2) → IsLeastOver (initial_of exchange_tree p_and_q_tree) 1 2
+    go (too_many _ least) = least
+
+over_results : IsResult with_limit (holding exchange p_and_q) (prints (status.Refused (refusals.ImplicatesOver 2)) (codes "refused 11 ImplicatesOver\nprefix 2\n"))
+unfolding digits
+over_results = refused limited (refusals.ImplicatesOver 2) is_limited tt (record {
+    domain = exchange;
+    problem = p_and_q;
+    domain_held = domain_held exchange p_and_q;
+    problem_held = problem_held exchange p_and_q;
+    answers = on_trees exchange_tree p_and_q_tree _ p_and_q_trees (implicates_over 2 (is_small (numbered_problem exchange_tree p_and_q_tree) refl refl refl refl) second_is_over);
+  })
+
+-- ---- an `unknown`
 
 abbrev half_known : List ℕ
 half_known = codes "(define (problem e) (:domain d) (:init (unknown (p))) (:goal (q)))\n"
@@ -289,11 +442,31 @@ half_known_reads = reads_file grammar.problem half_known (tokens half_known) hal
 half_known_trees : HaveTrees exchange half_known exchange_tree half_known_tree
 half_known_trees = record { domain_reads = domain_reads; problem_reads = half_known_reads; no_fault = record { domain = refl; problem = refl } }
 
-leaves_open : LeavesNothingOpen half_known_tree → ⊥
-leaves_open h = cc
+half_known_few : IsNeverOver (initial_of exchange_tree half_known_tree) 20000
+half_known_few = never_over (initial_of exchange_tree half_known_tree) 20000 [] (record { so_far = refl; sets = λ c m. absurd m; within_limit = λ j le. at j })
+  where
+    at : (j : ℕ) → length (all_included [] (take j [])) ≤ 20000
+    at zero = omega arith
+    at (suc j) = omega arith
 
-not_yet_results : IsResult words (holding exchange half_known) (prints (status.Refused (refusals.NotYet parts.Problem)) (codes "refused 99 NotYet\nfile problem\n"))
-not_yet_results = refused command (refusals.NotYet parts.Problem) is_command tt (on_files exchange half_known _ (on_trees exchange_tree half_known_tree _ half_known_trees (not_yet leaves_open)))
+half_known_model : is_model (initial_of exchange_tree half_known_tree) only_p ≡ true
+unfolding only_p
+half_known_model = refl
+
+half_known_done : AnswersTrees 20000 exchange_tree half_known_tree status.Done
+half_known_done = done (record {
+    small = is_small (numbered_problem exchange_tree half_known_tree) refl refl refl refl;
+    counted = half_known_few;
+    initial = has_state exchange_tree half_known_tree half_known_trees.no_fault only_p half_known_model;
+  }) (none_clashes (ground_of exchange_tree half_known_tree) None (found (ground_of exchange_tree half_known_tree) None refl))
+
+half_known_results : IsResult words (holding exchange half_known) (translates command (translation_of exchange_tree half_known_tree))
+half_known_results = translated command exchange_tree half_known_tree is_command (holds_trees exchange half_known exchange_tree half_known_tree half_known_trees) half_known_done
+
+-- it isn't known whether p holds, so the report has no last line
+half_known_report : (translation_of exchange_tree half_known_tree).report ≡ codes "atoms 2\nactions 1\ntags 1\nmerges 0\nfacts 4\n"
+unfolding digits
+half_known_report = refl
 
 -- ---- a clash
 
@@ -329,11 +502,19 @@ from_not_p_reads = reads_file grammar.problem from_not_p (tokens from_not_p) fro
 clashing_trees : HaveTrees clashing from_not_p clashing_tree from_not_p_tree
 clashing_trees = record { domain_reads = clashing_reads; problem_reads = from_not_p_reads; no_fault = record { domain = refl; problem = refl } }
 
-clashing_state : HasInitialState from_not_p_tree
-clashing_state = (contradictions clashing_tree from_not_p_tree clashing_trees.no_fault (sure_certain clashing_tree from_not_p_tree refl)).0 refl
+no_atom : NumberedState
+no_atom n = false
 
-clashing_started : IsStarted clashing_tree from_not_p_tree
-clashing_started = record { certain = refl; within = is_small (numbered_problem clashing_tree from_not_p_tree) refl refl refl refl; initial = clashing_state }
+no_atom_is : is_model (initial_of clashing_tree from_not_p_tree) no_atom ≡ true
+unfolding no_atom
+no_atom_is = refl
+
+clashing_started : IsStarted 20000 clashing_tree from_not_p_tree
+clashing_started = record {
+  small = is_small (numbered_problem clashing_tree from_not_p_tree) refl refl refl refl;
+  counted = few_primes (initial_of clashing_tree from_not_p_tree) (negative 0) refl (omega arith);
+  initial = has_state clashing_tree from_not_p_tree clashing_trees.no_fault no_atom no_atom_is;
+}
 
 -- the first effect of the only action adds q, and the second deletes it
 abbrev of_q : ClashAt
@@ -342,7 +523,7 @@ of_q = record { action = 0; atom = record { 0 = 1 }; add = 0; delete = 1 }
 first_clash : IsFirstClash no_pairs (ground_of clashing_tree from_not_p_tree) of_q
 first_clash = is_first (ground_of clashing_tree from_not_p_tree) of_q (found (ground_of clashing_tree from_not_p_tree) (Some of_q) refl)
 
-clashes : AnswersTrees clashing_tree from_not_p_tree (status.Refused (refusals.Clash of_q))
+clashes : AnswersTrees 20000 clashing_tree from_not_p_tree (status.Refused (refusals.Clash of_q))
 clashes = clash of_q clashing_started first_clash
 
 clash_printed : clash_text (ground_of clashing_tree from_not_p_tree) of_q ≡ codes "refused 13 Clash\naction (a)\natom (q)\nadd (p)\ndelete\n"

@@ -1,10 +1,9 @@
 pub mod Computed
 pub mod Reading
-pub mod Denied
-pub mod FirstTruths
 pub mod Reporting
 pub mod Ending
 pub mod Words
+pub mod Numbers
 pub mod Ordinary
 pub mod OneAnswer
 pub mod Translated

@@ -1,5 +1,6 @@
 -- At most one answer is due.
-use Rattle.std.proofs.Common.{◌≡◌, ◌<◌, ◌≤◌, ℕ, List, [], Some, Vec, refl, sym, ap, subst, arith}
+use Rattle.std.proofs.Common.{◌≡◌, ◌<◌, ◌≤◌, ℕ, List, [], Some, Vec, inl, inr, refl, sym, ap, subst, arith}
+use Rattle.std.proofs.lemmas.Bool.{cases_lt}
 use Rattle.std.specs.declared.alloc.Global.{Global}
 use Rattle.kp_grammar.specs.declared.tree.Word.{Word}
 use Rattle.kp_grammar.specs.Trees.{Domain, Problem}
@@ -16,16 +17,19 @@ use Rattle.kp_base.specs.declared.refused.ClashAt.{ClashAt}
 use Rattle.kp_base.specs.declared.refused.Refused.TheVariants as refusals
 use Rattle.kp_base.specs.declared.ground.Ground.{Ground}
 use Rattle.kp_base.specs.declared.limits.Limits.{Limits}
+use Rattle.kp_base.specs.declared.ground.Initial.{Initial}
 use Rattle.kp_base.specs.Clashes.{no_pairs, HasNoClash, IsFirstClash}
+use Rattle.kp_base.specs.Implicates.{prefix_of, IsLeastOver, IsNeverOver}
+use Rattle.kp_primes.proofs.Lengths.{not_more_and_at_most}
 use Rattle.kp_clash.proofs.Once.{first_once}
 use Rattle.kp_meaning.specs.Numbered.{Lifted}
 use Rattle.kp_meaning.specs.Numbering.{numbered_problem}
 use Rattle.kp_kept.specs.Counts.{IsWithin, RefusesCounts, bindings_over, actions_over, effects_over}
 use Rattle.kp_ground.specs.Grounded.{IsGrounded, RefusesGround, counts_over, atoms_over}
-use Rattle.kp_given.specs.Translations.{ground_of}
+use Rattle.kp_given.specs.Translations.{ground_of, initial_of}
 use Rattle.kp_run.specs.Texts.{HaveTrees, RefusesTexts, of_domain, of_problem, of_names}
 use Rattle.kp_run.specs.declared.status.Status.TheVariants as status
-use Rattle.kp_run.specs.Due.{usual, AnswersTrees, not_yet, too_large, no_initial_state, clash, done, Answers, refused, on_trees, AnswersFiles, IsDue, usage, answer}
+use Rattle.kp_run.specs.Due.{usual, AnswersTrees, too_large, implicates_over, no_initial_state, clash, done, Answers, refused, on_trees, AnswersFiles, IsDue, usage, answer}
 use Rattle.kp_run.proofs.Reporting.{one_command}
 
 -- ---- two texts have one pair of trees, or one refusal
@@ -105,48 +109,61 @@ ground_or_within l m _ g (atoms_over v a) w = let b = w.atoms in omega (arith, a
 clash_or_none : (g : Ground) (c : ClashAt) → IsFirstClash no_pairs g c → HasNoClash no_pairs g → ⊥
 clash_or_none g c first none = none c.action c.atom.0 c.add c.delete first.clash.action first.clash.action_at first.clash.clashes
 
-trees_once : (d : Domain Word) (p : Problem Word) (s t : Status) → AnswersTrees d p s → AnswersTrees d p t → s ≡ t
-trees_once d p _ _ (not_yet a) (not_yet b) = refl
-trees_once d p _ _ (not_yet a) (too_large r b c) = absurd (a b)
-trees_once d p _ _ (not_yet a) (no_initial_state b c e) = absurd (a b)
-trees_once d p _ _ (not_yet a) (clash c b e) = absurd (a b.certain)
-trees_once d p _ _ (not_yet a) (done b c) = absurd (a b.certain)
-trees_once d p _ _ (too_large r a h) (not_yet b) = absurd (b a)
-trees_once d p _ _ (too_large r a h) (too_large s b k) = ap (λ x. status.Refused x) (ground_once (numbered_problem d p) usual r s h k)
-trees_once d p _ _ (too_large r a h) (no_initial_state b k e) = absurd (ground_or_within (numbered_problem d p) usual r _ h k)
-trees_once d p _ _ (too_large r a h) (clash c b e) = absurd (ground_or_within (numbered_problem d p) usual r _ h b.within)
-trees_once d p _ _ (too_large r a h) (done b c) = absurd (ground_or_within (numbered_problem d p) usual r _ h b.within)
-trees_once d p _ _ (no_initial_state a h i) (not_yet b) = absurd (b a)
-trees_once d p _ _ (no_initial_state a h i) (too_large s b k) = absurd (ground_or_within (numbered_problem d p) usual s _ k h)
-trees_once d p _ _ (no_initial_state a h i) (no_initial_state b k e) = refl
-trees_once d p _ _ (no_initial_state a h i) (clash c b e) = absurd (i b.initial)
-trees_once d p _ _ (no_initial_state a h i) (done b c) = absurd (i b.initial)
-trees_once d p _ _ (clash c a h) (not_yet b) = absurd (b a.certain)
-trees_once d p _ _ (clash c a h) (too_large s b k) = absurd (ground_or_within (numbered_problem d p) usual s _ k a.within)
-trees_once d p _ _ (clash c a h) (no_initial_state b k e) = absurd (e a.initial)
-trees_once d p _ _ (clash c a h) (clash e b k) = ap (λ x. status.Refused (refusals.Clash x)) (first_once no_pairs (ground_of d p) c e h k)
-trees_once d p _ _ (clash c a h) (done b k) = absurd (clash_or_none (ground_of d p) c h k)
-trees_once d p _ _ (done a h) (not_yet b) = absurd (b a.certain)
-trees_once d p _ _ (done a h) (too_large s b k) = absurd (ground_or_within (numbered_problem d p) usual s _ k a.within)
-trees_once d p _ _ (done a h) (no_initial_state b k e) = absurd (e a.initial)
-trees_once d p _ _ (done a h) (clash c b k) = absurd (clash_or_none (ground_of d p) c k h)
-trees_once d p _ _ (done a h) (done b k) = refl
+-- the least number of clauses that have more prime implicates than the limit
+least_once : (i : Initial) (limit j k : ℕ) → IsLeastOver i limit j → IsLeastOver i limit k → j ≡ k
+least_once i limit j k a b = elim (cases_lt j k) [
+  | inl below ↦ absurd (not_more_and_at_most (prefix_of i j) limit a.more (b.least j below))
+  | inr above ↦ elim (cases_lt k j) [
+    | inl less ↦ absurd (not_more_and_at_most (prefix_of i k) limit b.more (a.least k less))
+    | inr same ↦ omega (arith, above, same)
+  ]
+]
+
+least_or_never : (i : Initial) (limit k : ℕ) → IsLeastOver i limit k → IsNeverOver i limit → ⊥
+least_or_never i limit k a n = not_more_and_at_most (prefix_of i k) limit a.more (n.each k a.in_range)
+
+trees_once : (limit : ℕ) (d : Domain Word) (p : Problem Word) (s t : Status) → AnswersTrees limit d p s → AnswersTrees limit d p t → s ≡ t
+trees_once limit d p _ _ (too_large r h) (too_large s k) = ap (λ x. status.Refused x) (ground_once (numbered_problem d p) usual r s h k)
+trees_once limit d p _ _ (too_large r h) (implicates_over n w b) = absurd (ground_or_within (numbered_problem d p) usual r _ h w)
+trees_once limit d p _ _ (too_large r h) (no_initial_state w b e) = absurd (ground_or_within (numbered_problem d p) usual r _ h w)
+trees_once limit d p _ _ (too_large r h) (clash c b e) = absurd (ground_or_within (numbered_problem d p) usual r _ h b.small)
+trees_once limit d p _ _ (too_large r h) (done b c) = absurd (ground_or_within (numbered_problem d p) usual r _ h b.small)
+trees_once limit d p _ _ (implicates_over n w a) (too_large s k) = absurd (ground_or_within (numbered_problem d p) usual s _ k w)
+trees_once limit d p _ _ (implicates_over n w a) (implicates_over m v b) = ap (λ x. status.Refused (refusals.ImplicatesOver x)) (least_once (initial_of d p) limit n m a b)
+trees_once limit d p _ _ (implicates_over n w a) (no_initial_state v b e) = absurd (least_or_never (initial_of d p) limit n a b)
+trees_once limit d p _ _ (implicates_over n w a) (clash c b e) = absurd (least_or_never (initial_of d p) limit n a b.counted)
+trees_once limit d p _ _ (implicates_over n w a) (done b c) = absurd (least_or_never (initial_of d p) limit n a b.counted)
+trees_once limit d p _ _ (no_initial_state w a i) (too_large s k) = absurd (ground_or_within (numbered_problem d p) usual s _ k w)
+trees_once limit d p _ _ (no_initial_state w a i) (implicates_over n v b) = absurd (least_or_never (initial_of d p) limit n b a)
+trees_once limit d p _ _ (no_initial_state w a i) (no_initial_state v b k) = refl
+trees_once limit d p _ _ (no_initial_state w a i) (clash c b e) = absurd (i b.initial)
+trees_once limit d p _ _ (no_initial_state w a i) (done b c) = absurd (i b.initial)
+trees_once limit d p _ _ (clash c a h) (too_large s k) = absurd (ground_or_within (numbered_problem d p) usual s _ k a.small)
+trees_once limit d p _ _ (clash c a h) (implicates_over n w b) = absurd (least_or_never (initial_of d p) limit n b a.counted)
+trees_once limit d p _ _ (clash c a h) (no_initial_state w b e) = absurd (e a.initial)
+trees_once limit d p _ _ (clash c a h) (clash e b k) = ap (λ x. status.Refused (refusals.Clash x)) (first_once no_pairs (ground_of d p) c e h k)
+trees_once limit d p _ _ (clash c a h) (done b k) = absurd (clash_or_none (ground_of d p) c h k)
+trees_once limit d p _ _ (done a h) (too_large s k) = absurd (ground_or_within (numbered_problem d p) usual s _ k a.small)
+trees_once limit d p _ _ (done a h) (implicates_over n w b) = absurd (least_or_never (initial_of d p) limit n b a.counted)
+trees_once limit d p _ _ (done a h) (no_initial_state w b e) = absurd (e a.initial)
+trees_once limit d p _ _ (done a h) (clash c b k) = absurd (clash_or_none (ground_of d p) c k h)
+trees_once limit d p _ _ (done a h) (done b k) = refl
 
 -- the answer on trees is the answer on the trees that the texts have
-pub on_same : (x y : List ℕ) (d e : Domain Word) (p q : Problem Word) (s : Status) → HaveTrees x y d p → HaveTrees x y e q → AnswersTrees d p s → AnswersTrees e q s
-on_same x y d e p q s h k a = subst (λ z. AnswersTrees e z s) (same_problem x y d e p q h k) (subst (λ z. AnswersTrees z p s) (same_domain x y d e p q h k) a)
+pub on_same : (limit : ℕ) (x y : List ℕ) (d e : Domain Word) (p q : Problem Word) (s : Status) → HaveTrees x y d p → HaveTrees x y e q → AnswersTrees limit d p s → AnswersTrees limit e q s
+on_same limit x y d e p q s h k a = subst (λ z. AnswersTrees limit e z s) (same_problem x y d e p q h k) (subst (λ z. AnswersTrees limit z p s) (same_domain x y d e p q h k) a)
 
-answers_once : (x y : List ℕ) (s t : Status) → Answers x y s → Answers x y t → s ≡ t
-answers_once x y _ _ (refused r a) (refused s b) = ap (λ z. status.Refused z) (refused_once x y r s a b)
-answers_once x y _ t (refused r a) (on_trees e q _ k b) = absurd (refused_or_read x y r e q a k)
-answers_once x y s _ (on_trees d p _ h a) (refused r b) = absurd (refused_or_read x y r d p b h)
-answers_once x y s t (on_trees d p _ h a) (on_trees e q _ k b) = trees_once e q s t (on_same x y d e p q s h k a) b
+answers_once : (limit : ℕ) (x y : List ℕ) (s t : Status) → Answers limit x y s → Answers limit x y t → s ≡ t
+answers_once limit x y _ _ (refused r a) (refused s b) = ap (λ z. status.Refused z) (refused_once x y r s a b)
+answers_once limit x y _ t (refused r a) (on_trees e q _ k b) = absurd (refused_or_read x y r e q a k)
+answers_once limit x y s _ (on_trees d p _ h a) (refused r b) = absurd (refused_or_read x y r d p b h)
+answers_once limit x y s t (on_trees d p _ h a) (on_trees e q _ k b) = trees_once limit e q s t (on_same limit x y d e p q s h k a) b
 
 pub files_once : (held : FileMap) (c : Command) (s t : Status) → AnswersFiles held c s → AnswersFiles held c t → s ≡ t
 files_once held c s t a b =
     let domains : a.domain ≡ b.domain = cc in
     let problems : a.problem ≡ b.problem = cc in
-    answers_once b.domain b.problem s t (subst (λ y. Answers b.domain y s) problems (subst (λ x. Answers x a.problem s) domains a.answers)) b.answers
+    answers_once c.implicates b.domain b.problem s t (subst (λ y. Answers c.implicates b.domain y s) problems (subst (λ x. Answers c.implicates x a.problem s) domains a.answers)) b.answers
 
 pub one_is_due : (words : List (Vec ℕ Global)) (held : FileMap) (s t : Status) → IsDue words (Some held) s → IsDue words (Some held) t → s ≡ t
 one_is_due words held _ _ (usage a) (usage b) = refl

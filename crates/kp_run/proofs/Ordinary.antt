@@ -29,7 +29,7 @@ ordinary_text report refusals.BindingsOver may = refl
 ordinary_text report refusals.AtomsOver may = refl
 ordinary_text report refusals.ActionsOver may = refl
 ordinary_text report refusals.EffectsOver may = refl
-ordinary_text report (refusals.ImplicatesOver a) may = absurd may
+ordinary_text report (refusals.ImplicatesOver a) may = refl
 ordinary_text report refusals.NoInitialState may = refl
 ordinary_text report (refusals.Clash x) may = absurd may
 ordinary_text report (refusals.MergeSyntax x) may = absurd may
@@ -42,7 +42,6 @@ ordinary_text report (refusals.PlanSyntax x) may = absurd may
 ordinary_text report (refusals.StepUnknown a) may = absurd may
 ordinary_text report (refusals.SetsOver a b) may = absurd may
 ordinary_text report (refusals.NotClassical x) may = absurd may
-ordinary_text report (refusals.NotYet x) may = refl
 
 -- ---- what refuses texts is no clash
 

@@ -40,19 +40,19 @@ usage_result words held files told_old told_new report fo fn D s none is told = 
 }
 
 -- the two trees of files on which an answer is no refusal of texts
-record IsOnTrees (domain problem : List ℕ) (s : Status) : Type 0 where
+record IsOnTrees (limit : ℕ) (domain problem : List ℕ) (s : Status) : Type 0 where
   first : Domain Word
   second : Problem Word
   trees : HaveTrees domain problem first second
-  answer : AnswersTrees first second s
+  answer : AnswersTrees limit first second s
 
-done_on_trees : (domain problem : List ℕ) (s : Status) → Answers domain problem s → s ≡ status.Done → IsOnTrees domain problem s
-done_on_trees domain problem _ (Answers.refused r a) e = absurd cc
-done_on_trees domain problem s (on_trees d p _ h a) e = record { first = d; second = p; trees = h; answer = a }
+done_on_trees : (limit : ℕ) (domain problem : List ℕ) (s : Status) → Answers limit domain problem s → s ≡ status.Done → IsOnTrees limit domain problem s
+done_on_trees limit domain problem _ (Answers.refused r a) e = absurd cc
+done_on_trees limit domain problem s (on_trees d p _ h a) e = record { first = d; second = p; trees = h; answer = a }
 
-clash_on_trees : (domain problem : List ℕ) (s : Status) (c : ClashAt) → Answers domain problem s → s ≡ status.Refused (refusals.Clash c) → IsOnTrees domain problem s
-clash_on_trees domain problem _ c (Answers.refused r a) e = absurd (no_clash_in_texts domain problem r c a (let f : r ≡ refusals.Clash c = cc in f))
-clash_on_trees domain problem s c (on_trees d p _ h a) e = record { first = d; second = p; trees = h; answer = a }
+clash_on_trees : (limit : ℕ) (domain problem : List ℕ) (s : Status) (c : ClashAt) → Answers limit domain problem s → s ≡ status.Refused (refusals.Clash c) → IsOnTrees limit domain problem s
+clash_on_trees limit domain problem _ c (Answers.refused r a) e = absurd (no_clash_in_texts domain problem r c a (let f : r ≡ refusals.Clash c = cc in f))
+clash_on_trees limit domain problem s c (on_trees d p _ h a) e = record { first = d; second = p; trees = h; answer = a }
 
 no_translation : Translation
 no_translation = record { domain = []; problem = []; report = [] }
@@ -69,7 +69,7 @@ report_result words held c (reports.Refused x text) files_old files_new told_old
   text_is = subst (Tells T text told_old told_new fo fn) e told ∙ ap (with_bytes told_old) (ordinary_text text x own.1);
 }
 report_result words held c (reports.Clash at text) files_old files_new told_old told_new fo fn go gn D T s is own answers made e puts told =
-    let on = clash_on_trees answers.domain answers.problem (status.Refused (refusals.Clash at)) at answers.answers refl in
+    let on = clash_on_trees c.implicates answers.domain answers.problem (status.Refused (refusals.Clash at)) at answers.answers refl in
     let same : text ≡ clash_text (ground_of on.first on.second) at = made answers.domain answers.problem answers.domain_held answers.problem_held on.first on.second on.trees in
     let printed = subst (Tells T text told_old told_new fo fn) e told in record {
       outcome = prints (status.Refused (refusals.Clash at)) (clash_text (ground_of on.first on.second) at);
@@ -79,7 +79,7 @@ report_result words held c (reports.Clash at text) files_old files_new told_old 
       text_is = printed ∙ ap (with_bytes told_old) same;
     }
 report_result words held c (reports.Done t) files_old files_new told_old told_new fo fn go gn D T s is own answers made e puts told =
-    let on = done_on_trees answers.domain answers.problem status.Done answers.answers refl in
+    let on = done_on_trees c.implicates answers.domain answers.problem status.Done answers.answers refl in
     let same : t ≡ translation_of on.first on.second = made answers.domain answers.problem answers.domain_held answers.problem_held on.first on.second on.trees in
     let put = subst (Puts D c (files_of t) files_old files_new go gn) e (puts t refl) in
     let text = subst (Tells T t.report told_old told_new fo fn) e told in record {
@@ -93,7 +93,7 @@ report_result words held c (reports.Done t) files_old files_new told_old told_ne
 -- ---- one result
 
 -- what is answered on the trees is answered on the files
-pub answers_held : (held : FileMap) (c : Command) (d : Domain Word) (p : Problem Word) (s : Status) → HoldsTrees held c d p → AnswersTrees d p s → AnswersFiles held c s
+pub answers_held : (held : FileMap) (c : Command) (d : Domain Word) (p : Problem Word) (s : Status) → HoldsTrees held c d p → AnswersTrees c.implicates d p s → AnswersFiles held c s
 answers_held held c d p s h a = record { domain = h.domain; problem = h.problem; domain_held = h.domain_held; problem_held = h.problem_held; answers = on_trees d p s h.trees a }
 
 -- two answers on the files of the words are the same

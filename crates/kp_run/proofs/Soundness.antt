@@ -17,7 +17,7 @@ use Rattle.kp_given.specs.Laws.{HasInitialState}
 use Rattle.kp_given.specs.Translations.{ground_of, initial_of}
 use Rattle.kp_sound.proofs.Trees.{translations_sound}
 use Rattle.kp_run.specs.Texts.{HaveTrees}
-use Rattle.kp_run.specs.Due.{IsStarted, AnswersTrees, not_yet, too_large, no_initial_state, clash as when_clash, done as when_done}
+use Rattle.kp_run.specs.Due.{IsStarted, AnswersTrees, too_large, implicates_over, no_initial_state, clash as when_clash, done as when_done}
 use Rattle.kp_run.specs.declared.status.Status.{Status}
 use Rattle.kp_run.specs.declared.status.Status.TheVariants as status
 use Rattle.kp_run.specs.Command.{Command, IsCommand}
@@ -57,12 +57,12 @@ record IsDone (d : Domain Word) (p : Problem Word) : Type 0 where
   initial : HasInitialState p
   no_clash : HasNoClash no_pairs (ground_of d p)
 
-is_done : (d : Domain Word) (p : Problem Word) (s : Status) → AnswersTrees d p s → s ≡ status.Done → IsDone d p
-is_done d p _ (not_yet a) e = absurd cc
-is_done d p _ (too_large r a b) e = absurd cc
-is_done d p _ (no_initial_state a b c) e = absurd cc
-is_done d p _ (when_clash c a b) e = absurd cc
-is_done d p _ (when_done a b) e = record { initial = a.initial; no_clash = b }
+is_done : (limit : ℕ) (d : Domain Word) (p : Problem Word) (s : Status) → AnswersTrees limit d p s → s ≡ status.Done → IsDone d p
+is_done limit d p _ (too_large r a) e = absurd cc
+is_done limit d p _ (implicates_over k a b) e = absurd cc
+is_done limit d p _ (no_initial_state a b c) e = absurd cc
+is_done limit d p _ (when_clash c a b) e = absurd cc
+is_done limit d p _ (when_done a b) e = record { initial = a.initial; no_clash = b }
 
 sound_result : (words : List (Vec ℕ Global)) (before after : FileMap) (c : Command) (o : Outcome) → IsCommand words c → IsResult words before o → o.status ≡ status.Done → Some after ≡ with_files (Some before) o.puts → IsSound before after c
 sound_result words before after c _ is (usage none) done puts = absurd cc
@@ -78,7 +78,7 @@ sound_result words before after c _ is (translated e d p so holds answers) done 
       problem_held = holds.problem_held;
       has_problem = has;
       initial_state = all_done.initial;
-      domain_put = ap (λ m. get m e.domain_out) held ∙ (under_another (insert before e.domain_out (translation_of d p).domain) e.domain_out e.problem_out (translation_of d p).problem so.outputs_differ ∙ at_last before e.domain_out (translation_of d p).domain);
+      domain_put = ap (λ m. get m e.domain_out) held ∙ (under_another (insert before e.domain_out (translation_of d p).domain) e.domain_out e.problem_out (translation_of d p).problem so.files.outputs_differ ∙ at_last before e.domain_out (translation_of d p).domain);
       problem_put = ap (λ m. get m e.problem_out) held ∙ at_last (insert before e.domain_out (translation_of d p).domain) e.problem_out (translation_of d p).problem;
       plans = translations_sound holds.domain holds.problem has (never_clashes (ground_of d p) (initial_of d p) all_done.no_clash);
     })
@@ -87,7 +87,7 @@ sound_result words before after c _ is (translated e d p so holds answers) done 
     has = problem_of holds.domain holds.problem d p holds.trees
 
     all_done : IsDone d p
-    all_done = is_done d p status.Done answers refl
+    all_done = is_done e.implicates d p status.Done answers refl
 
     held : after ≡ insert (insert before e.domain_out (translation_of d p).domain) e.problem_out (translation_of d p).problem
     held = cc

@@ -1,14 +1,15 @@
 -- Which words are a command.
-use Rattle.std.specs.Prelude.{◌≡◌, ◌≢◌, List, [], ◌∷◌, ℕ, false, nat_eq, map, codes, Vec, IsUtf8}
+use Rattle.std.specs.Prelude.{◌≡◌, ◌≢◌, ◌≤◌, List, [], ◌∷◌, ◌++◌, ℕ, false, nat_eq, map, codes, decimal, Vec, IsUtf8}
 use Rattle.std.specs.List.{starts_with}
 use Rattle.std.specs.declared.alloc.Global.{Global}
 
--- the names of the files of a command: two that are read, two that are written
+-- the names of the files of a command, two that are read and two that are written; and how many prime implicates it allows
 pub record Command : Type 0 where
   pub domain : List ℕ
   pub problem : List ℕ
   pub domain_out : List ℕ
   pub problem_out : List ℕ
+  pub implicates : ℕ
 
 -- a word that may name a file: it isn't empty, doesn't begin with a dash, and is UTF-8
 pub record IsPositional (word : List ℕ) : Type 0 where
@@ -16,14 +17,32 @@ pub record IsPositional (word : List ℕ) : Type 0 where
   pub no_dash : starts_with nat_eq word (codes "-") ≡ false
   pub utf8 : IsUtf8 word
 
--- the words are this command
-pub record IsCommand (words : List (Vec ℕ Global)) (c : Command) : Type 0 where
-  pub words_are : map (λ w. w.items) words ≡ codes "translate" ∷ c.domain ∷ c.problem ∷ c.domain_out ∷ c.problem_out ∷ codes "--mode" ∷ codes "k0" ∷ []
+-- the first words say what is to be done, name the files, and say the mode
+pub record NamesFiles (words : List (List ℕ)) (c : Command) : Type 0 where
+  pub words_are : words ≡ codes "translate" ∷ c.domain ∷ c.problem ∷ c.domain_out ∷ c.problem_out ∷ codes "--mode" ∷ codes "k0" ∷ []
   pub domain : IsPositional c.domain
   pub problem : IsPositional c.problem
   pub domain_out : IsPositional c.domain_out
   pub problem_out : IsPositional c.problem_out
   pub outputs_differ : c.domain_out ≢ c.problem_out
+
+-- a limit of prime implicates may be anything from 1 to 100,000
+pub record IsLimit (n : ℕ) : Type 0 where
+  pub least : 1 ≤ n
+  pub most : n ≤ 100000
+
+-- the words that follow say the limit: there are none, and it is the usual one; or they are the option and a number in decimal
+pub data SaysLimit : List (List ℕ) → ℕ → Type 0 where
+  usual_limit : SaysLimit [] 20000
+  stated : (n : ℕ) → IsLimit n → SaysLimit (codes "--implicates" ∷ decimal n ∷ []) n
+
+-- the words are this command
+pub record IsCommand (words : List (Vec ℕ Global)) (c : Command) : Type 0 where
+  pub front : List (List ℕ)
+  pub options : List (List ℕ)
+  pub words_are : map (λ w. w.items) words ≡ front ++ options
+  pub files : NamesFiles front c
+  pub limit : SaysLimit options c.implicates
 
 -- the words are no command
 abbrev pub IsNoCommand : List (Vec ℕ Global) → Type 0

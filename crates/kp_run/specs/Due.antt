@@ -1,5 +1,5 @@
 -- Which answer is due: by the words, and by what the files hold when the command begins.
-use Rattle.std.specs.Prelude.{◌≡◌, List, ℕ, Option, Some, None, Vec}
+use Rattle.std.specs.Prelude.{◌≡◌, List, ℕ, Option, Some, Vec}
 use Rattle.std.specs.FinMap.{get}
 use Rattle.std.specs.declared.alloc.Global.{Global}
 use Rattle.kp_base.specs.declared.limits.Limits.{Limits}
@@ -9,13 +9,13 @@ use Rattle.kp_base.specs.declared.refused.Part.TheVariants as parts
 use Rattle.kp_base.specs.declared.refused.Refused.{Refused}
 use Rattle.kp_base.specs.declared.refused.Refused.TheVariants as refusals
 use Rattle.kp_base.specs.Clashes.{no_pairs, HasNoClash, IsFirstClash}
+use Rattle.kp_base.specs.Implicates.{IsLeastOver, IsNeverOver}
 use Rattle.kp_grammar.specs.declared.tree.Word.{Word}
 use Rattle.kp_grammar.specs.Trees as trees
 use Rattle.kp_meaning.specs.Numbering.{numbered_problem}
-use Rattle.kp_names.specs.Resolved.{first_unsure}
 use Rattle.kp_ground.specs.Grounded.{IsGrounded, RefusesGround}
 use Rattle.kp_given.specs.Laws.{HasInitialState}
-use Rattle.kp_given.specs.Translations.{ground_of}
+use Rattle.kp_given.specs.Translations.{ground_of, initial_of}
 use Rattle.kp_outside.specs.Outside.{FileMap}
 use Rattle.kp_run.specs.declared.status.Status.{Status}
 use Rattle.kp_run.specs.declared.status.Status.TheVariants as status
@@ -26,28 +26,28 @@ use Rattle.kp_run.specs.Texts.{HaveTrees, RefusesTexts}
 abbrev pub usual : Limits
 usual = record { bindings = 1000000; atoms = 4096; actions = 20000; weight = 4000000; tags = 4096; sets = 1000000; facts = 262144; task_weight = 16000000 }
 
--- no `oneof`, `or` or `unknown` stands in `:init`
-abbrev pub LeavesNothingOpen : trees.Problem Word → Type 0
-LeavesNothingOpen p = first_unsure p.init ≡ None
+-- the ground problem of the trees is within the limits
+abbrev pub IsSmall : trees.Domain Word → trees.Problem Word → Type 0
+IsSmall d p = IsGrounded (numbered_problem d p) usual (ground_of d p)
 
--- the ground problem of the trees is within the limits, and some state is initial
-pub record IsStarted (d : trees.Domain Word) (p : trees.Problem Word) : Type 0 where
-  pub certain : LeavesNothingOpen p
-  pub within : IsGrounded (numbered_problem d p) usual (ground_of d p)
+-- so it is, the clauses of `:init` have no more prime implicates than the limit, and some state is initial
+pub record IsStarted (limit : ℕ) (d : trees.Domain Word) (p : trees.Problem Word) : Type 0 where
+  pub small : IsSmall d p
+  pub counted : IsNeverOver (initial_of d p) limit
   pub initial : HasInitialState p
 
--- the answer on two trees in which no name is at fault: the first of these that holds, and only one of them does
-pub data AnswersTrees (d : trees.Domain Word) (p : trees.Problem Word) : Status → Type 0 where
-  not_yet : (LeavesNothingOpen p → ⊥) → AnswersTrees d p (status.Refused (refusals.NotYet parts.Problem))
-  too_large : (r : Refused) → LeavesNothingOpen p → RefusesGround (numbered_problem d p) usual r → AnswersTrees d p (status.Refused r)
-  no_initial_state : LeavesNothingOpen p → IsGrounded (numbered_problem d p) usual (ground_of d p) → (HasInitialState p → ⊥) → AnswersTrees d p (status.Refused refusals.NoInitialState)
-  clash : (c : ClashAt) → IsStarted d p → IsFirstClash no_pairs (ground_of d p) c → AnswersTrees d p (status.Refused (refusals.Clash c))
-  done : IsStarted d p → HasNoClash no_pairs (ground_of d p) → AnswersTrees d p status.Done
+-- the answer on two trees in which no name is at fault, with a limit of prime implicates: the first of these that holds, and only one of them does
+pub data AnswersTrees (limit : ℕ) (d : trees.Domain Word) (p : trees.Problem Word) : Status → Type 0 where
+  too_large : (r : Refused) → RefusesGround (numbered_problem d p) usual r → AnswersTrees limit d p (status.Refused r)
+  implicates_over : (k : ℕ) → IsSmall d p → IsLeastOver (initial_of d p) limit k → AnswersTrees limit d p (status.Refused (refusals.ImplicatesOver k))
+  no_initial_state : IsSmall d p → IsNeverOver (initial_of d p) limit → (HasInitialState p → ⊥) → AnswersTrees limit d p (status.Refused refusals.NoInitialState)
+  clash : (c : ClashAt) → IsStarted limit d p → IsFirstClash no_pairs (ground_of d p) c → AnswersTrees limit d p (status.Refused (refusals.Clash c))
+  done : IsStarted limit d p → HasNoClash no_pairs (ground_of d p) → AnswersTrees limit d p status.Done
 
 -- the answer on two texts
-pub data Answers (domain problem : List ℕ) : Status → Type 0 where
-  refused : (r : Refused) → RefusesTexts domain problem r → Answers domain problem (status.Refused r)
-  on_trees : (d : trees.Domain Word) (p : trees.Problem Word) (s : Status) → HaveTrees domain problem d p → AnswersTrees d p s → Answers domain problem s
+pub data Answers (limit : ℕ) (domain problem : List ℕ) : Status → Type 0 where
+  refused : (r : Refused) → RefusesTexts domain problem r → Answers limit domain problem (status.Refused r)
+  on_trees : (d : trees.Domain Word) (p : trees.Problem Word) (s : Status) → HaveTrees domain problem d p → AnswersTrees limit d p s → Answers limit domain problem s
 
 -- the answer on the files of a command, which are held
 pub record AnswersFiles (held : FileMap) (c : Command) (s : Status) : Type 0 where
@@ -55,18 +55,13 @@ pub record AnswersFiles (held : FileMap) (c : Command) (s : Status) : Type 0 whe
   pub problem : List ℕ
   pub domain_held : get held c.domain ≡ Some domain
   pub problem_held : get held c.problem ≡ Some problem
-  pub answers : Answers domain problem s
+  pub answers : Answers c.implicates domain problem s
 
 -- a file that `translate` reads
 abbrev pub IsGivenFile : Part → Type 0
 IsGivenFile parts.Domain = Unit {0}
 IsGivenFile parts.Problem = Unit {0}
 IsGivenFile _ = ⊥
-
--- the file of which it is told that its initial state isn't served yet
-abbrev pub IsProblemFile : Part → Type 0
-IsProblemFile parts.Problem = Unit {0}
-IsProblemFile _ = ⊥
 
 -- a refusal that `translate` may give, but for a clash
 abbrev pub IsOrdinary : Refused → Type 0
@@ -77,11 +72,11 @@ IsOrdinary (refusals.Unsupported place) = IsGivenFile place.part
 IsOrdinary (refusals.UnknownName place) = IsGivenFile place.part
 IsOrdinary (refusals.DeclaredTwice place) = IsGivenFile place.part
 IsOrdinary (refusals.WrongUse place) = IsGivenFile place.part
-IsOrdinary (refusals.NotYet part) = IsProblemFile part
 IsOrdinary refusals.BindingsOver = Unit {0}
 IsOrdinary refusals.ActionsOver = Unit {0}
 IsOrdinary refusals.EffectsOver = Unit {0}
 IsOrdinary refusals.AtomsOver = Unit {0}
+IsOrdinary (refusals.ImplicatesOver prefix) = Unit {0}
 IsOrdinary refusals.NoInitialState = Unit {0}
 IsOrdinary _ = ⊥
 

@@ -42,6 +42,10 @@ file_line part = codes "file " ++ (part_text part ++ codes "\n")
 abbrev pub place_line : Place → List ℕ
 place_line place = codes "at " ++ (part_text place.part ++ (codes " line " ++ (decimal place.line ++ (codes " byte " ++ (decimal place.byte ++ codes "\n")))))
 
+-- the line that says how many of the first clauses have too many prime implicates
+abbrev pub prefix_line : ℕ → List ℕ
+prefix_line prefix = codes "prefix " ++ (decimal prefix ++ codes "\n")
+
 -- ---- clashes
 
 -- objects, each behind a space
@@ -87,7 +91,7 @@ clash_text g c = codes "refused 13 Clash\n" ++ clash_lines g.atoms (slice_get g.
 
 -- ---- all refusals and answers
 
--- a refusal, but for a clash: its number and its name, and then the file or the place
+-- a refusal, but for a clash: its number and its name, and then the file, the place or the prefix
 abbrev pub refusal_text : Refused → List ℕ
 refusal_text (refusals.TooLong part) = codes "refused 1 TooLong\n" ++ file_line part
 refusal_text (refusals.BadToken place) = codes "refused 2 BadToken\n" ++ place_line place
@@ -100,8 +104,8 @@ refusal_text refusals.BindingsOver = codes "refused 8 BindingsOver\n"
 refusal_text refusals.AtomsOver = codes "refused 9 AtomsOver\n"
 refusal_text refusals.ActionsOver = codes "refused 10 ActionsOver\n"
 refusal_text refusals.EffectsOver = codes "refused 10 EffectsOver\n"
+refusal_text (refusals.ImplicatesOver prefix) = codes "refused 11 ImplicatesOver\n" ++ prefix_line prefix
 refusal_text refusals.NoInitialState = codes "refused 12 NoInitialState\n"
-refusal_text (refusals.NotYet part) = codes "refused 99 NotYet\n" ++ file_line part
 refusal_text _ = []
 
 -- the text of an answer; with Done it is the report of the translation, and with a clash its lines

@@ -1,5 +1,5 @@
 -- What is to be put and printed, as the functions between reading and writing hand it on; for proofs alone.
-use Rattle.std.specs.Prelude.{◌≡◌, ◌⊎◌, List, ℕ, Bool, true, false, not, ◌&&◌, Some, Result, Err}
+use Rattle.std.specs.Prelude.{◌≡◌, ◌⊎◌, List, [], ℕ, Some, Result, Err, length}
 use Rattle.kp_outside.specs.declared.outside.OutsideStop.{OutsideStop}
 use Rattle.kp_outside.specs.declared.outside.OutsideStop.TheVariants as stops
 use Rattle.kp_texts.specs.declared.translation.Translation.{Translation}
@@ -20,16 +20,17 @@ use Rattle.kp_run.specs.Texts.{HaveTrees}
 use Rattle.kp_base.specs.declared.refused.ClashAt.{ClashAt}
 use Rattle.kp_base.specs.declared.refused.Refused.{Refused}
 use Rattle.kp_base.specs.Clashes.{no_pairs, HasNoClash, IsFirstClash}
-use Rattle.kp_meaning.specs.declared.lifted.Item.{Item}
+use Rattle.kp_base.specs.Entailed.{IsConsistent}
+use Rattle.kp_base.specs.Implicates.{IsLeastOver, IsNeverOver}
+use Rattle.kp_primes.specs.Answers.{HasNoState}
 use Rattle.kp_meaning.specs.Numbered.{Lifted as Numbers}
 use Rattle.kp_names.specs.declared.lifted.Lifted.{Lifted}
 use Rattle.kp_names.specs.Resolved.{IsResolved}
 use Rattle.kp_base.specs.declared.lit.Lit.{Lit}
-use Rattle.kp_grounding.specs.declared.flat.Atom.{Atom}
-use Rattle.kp_grounding.specs.Static.{initially}
 use Rattle.kp_grounding.specs.Ground as by_number
 use Rattle.kp_ground.specs.Grounded.{IsGrounded, RefusesGround}
-use Rattle.kp_given.specs.Certain.{contradicts, known_at_first}
+use Rattle.kp_init.specs.Initial.{initial_of}
+use Rattle.kp_init.specs.Closure.{IsAscendingClosure}
 use Rattle.kp_texts.specs.Translations as texts
 
 -- the answer of a report
@@ -90,22 +91,25 @@ pub record IsProblemOf (domain problem : List ℕ) (l : Lifted) : Type 0 where
   pub trees : HaveTrees domain problem first second
   pub resolved : IsResolved problem first second l
 
--- the item denies an atom that `:init` states
-abbrev pub is_denied : Numbers → Item → Bool
-is_denied l (Item.One m) = not m.positive && initially l m.pred m.objects
-is_denied l i = false
+-- the clauses of the initial formula have no more prime implicates than the limit, and it has a model
+pub record IsCounted (limit : ℕ) (l : Numbers) : Type 0 where
+  pub never_over : IsNeverOver (initial_of l) limit
+  pub has_model : IsConsistent (initial_of l) []
 
--- what is known of the atom of this number at the start
-abbrev pub known_literal : Numbers → ℕ → Atom → Lit
-known_literal l n a = record { atom = record { 0 = n }; positive = initially l a.pred a.objects }
+-- what is written of a ground problem
+pub record IsWritten (l : Numbers) (t : Translation) : Type 0 where
+  pub start : List Lit
+  pub closure : IsAscendingClosure (length (by_number.ground_of l).atoms) (initial_of l) [] start
+  pub translation : t ≡ texts.translation_of (by_number.ground_of l) start
 
--- the report on a ground problem that is within the limits
-pub data EndsBy (l : Numbers) : Report → Type 0 where
-  by_contradiction : (r : Report) → contradicts l ≡ true → IsRefusal refusals.NoInitialState r → EndsBy l r
-  by_clash : (at : ClashAt) (text : List ℕ) → contradicts l ≡ false → IsFirstClash no_pairs (by_number.ground_of l) at → text ≡ clash_text (by_number.ground_of l) at → EndsBy l (reports.Clash at text)
-  by_translation : (t : Translation) → contradicts l ≡ false → HasNoClash no_pairs (by_number.ground_of l) → t ≡ texts.translation_of (by_number.ground_of l) (known_at_first l) → EndsBy l (reports.Done t)
+-- the report on a ground problem and its initial formula
+pub data EndsBy (limit : ℕ) (l : Numbers) : Report → Type 0 where
+  by_implicates : (r : Report) (k : ℕ) → IsLeastOver (initial_of l) limit k → IsRefusal (refusals.ImplicatesOver k) r → EndsBy limit l r
+  by_no_model : (r : Report) → HasNoState (initial_of l) limit → IsRefusal refusals.NoInitialState r → EndsBy limit l r
+  by_clash : (at : ClashAt) (text : List ℕ) → IsCounted limit l → IsFirstClash no_pairs (by_number.ground_of l) at → text ≡ clash_text (by_number.ground_of l) at → EndsBy limit l (reports.Clash at text)
+  by_translation : (t : Translation) → IsCounted limit l → HasNoClash no_pairs (by_number.ground_of l) → IsWritten l t → EndsBy limit l (reports.Done t)
 
--- the report on a problem by number that leaves nothing open
-pub data EndsWithin (l : Numbers) (r : Report) : Type 0 where
-  over : (x : Refused) → RefusesGround l usual x → IsRefusal x r → EndsWithin l r
-  within : IsGrounded l usual (by_number.ground_of l) → EndsBy l r → EndsWithin l r
+-- the report on a problem by number
+pub data EndsWithin (limit : ℕ) (l : Numbers) (r : Report) : Type 0 where
+  over : (x : Refused) → RefusesGround l usual x → IsRefusal x r → EndsWithin limit l r
+  within : IsGrounded l usual (by_number.ground_of l) → EndsBy limit l r → EndsWithin limit l r

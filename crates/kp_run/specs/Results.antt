@@ -52,8 +52,8 @@ pub record HoldsTrees (held : FileMap) (c : Command) (d : trees.Domain Word) (p 
 pub data IsResult (words : List (Vec ℕ Global)) (held : FileMap) : Outcome → Type 0 where
   usage : IsNoCommand words → IsResult words held (prints status.Usage usage_text)
   refused : (c : Command) (r : Refused) → IsCommand words c → IsOrdinary r → AnswersFiles held c (status.Refused r) → IsResult words held (prints (status.Refused r) (refusal_text r))
-  clashed : (c : Command) (d : trees.Domain Word) (p : trees.Problem Word) (at : ClashAt) → IsCommand words c → HoldsTrees held c d p → AnswersTrees d p (status.Refused (refusals.Clash at)) → IsResult words held (prints (status.Refused (refusals.Clash at)) (clash_text (ground_of d p) at))
-  translated : (c : Command) (d : trees.Domain Word) (p : trees.Problem Word) → IsCommand words c → HoldsTrees held c d p → AnswersTrees d p status.Done → IsResult words held (translates c (translation_of d p))
+  clashed : (c : Command) (d : trees.Domain Word) (p : trees.Problem Word) (at : ClashAt) → IsCommand words c → HoldsTrees held c d p → AnswersTrees c.implicates d p (status.Refused (refusals.Clash at)) → IsResult words held (prints (status.Refused (refusals.Clash at)) (clash_text (ground_of d p) at))
+  translated : (c : Command) (d : trees.Domain Word) (p : trees.Problem Word) → IsCommand words c → HoldsTrees held c d p → AnswersTrees c.implicates d p status.Done → IsResult words held (translates c (translation_of d p))
 
 -- what is held once the files are put
 abbrev pub with_files : Option FileMap → List FilePut → Option FileMap

@@ -1,21 +1,25 @@
-ghost use Rattle.std.specs.Prelude.{◌≡◌, Some, List, ℕ, IfOk};
+ghost use Rattle.std.specs.Prelude.{◌≡◌, ◌≤◌, Some, List, ℕ, IfOk, length};
+ghost use Rattle.kp_base.specs.Clashes.{no_pairs, HasNoClash};
+ghost use Rattle.kp_meaning.specs.Numbered.{Lifted as Numbers};
 ghost use Rattle.kp_grounding.specs.Ground.{ground_atoms, ground_of};
+ghost use Rattle.kp_init.specs.Initial.{initial_of};
 ghost use Rattle.kp_names.specs.View.{lifted_view};
 ghost use Rattle.kp_outside.specs.Outside.{IsFront, IsWithin};
-ghost use Rattle.kp_given.specs.Certain.{IsCertain};
+ghost use Rattle.kp_primes.specs.Answers.{HoldsPrimes};
 ghost use Rattle.kp_run.specs.Due.{Answers, IsOrdinary};
-ghost use Rattle.kp_run.specs.Reports.{status_of, HasItsText, IsTranslated, IsProblemOf, IsRefusal, EndsBy, EndsWithin};
+ghost use Rattle.kp_run.specs.Reports.{status_of, HasItsText, IsTranslated, IsRefusal, EndsBy, EndsWithin};
 
 use crate::clash::clash_text;
 use crate::files::read_files;
 use crate::printed::refusal;
-use crate::start::{contradicts, known_at_first};
-use kp_base::{ClashAt, Limits, Memory, Part, Refused, Row, Stop};
+use kp_base::{ClashAt, Ground, Limits, LitSet, Memory, Refused, Row, Stop};
 use kp_clash::first_clash;
 use kp_ground::{GroundWithAtoms, ground_with_atoms};
+use kp_init::initial_over;
 use kp_kept::Statics;
 use kp_names::Lifted;
 use kp_outside::Got;
+use kp_primes::Primes;
 use kp_texts::{Translation, translate};
 use std::alloc::Global;
 
@@ -39,64 +43,81 @@ fn refuse(alloc: Global, refused: Refused) -> Result<Report, Memory>
     Ok(Report::Refused(refused, text))
 }
 
-// The report on a ground problem.
-fn on_ground(alloc: Global, statics: &Statics, made: &GroundWithAtoms) -> Result<Report, Memory>
-    requires ground { made.now.ground ≡ ground_of (lifted_view statics.now.lifted.now) }
-    requires atoms { made.now.atoms ≡ ground_atoms (lifted_view statics.now.lifted.now) }
-    ensures ends { IsCertain (lifted_view statics.now.lifted.now) → IfOk result (EndsBy (lifted_view statics.now.lifted.now)) }
+// The report on a ground problem without a clash, whose initial formula has these prime implicates.
+fn without_clash(alloc: Global, ground: &Ground, primes: &Primes) -> Result<Report, Memory>
+    ensures ends { (l : Numbers) (limit : ℕ) → ground.now ≡ ground_of l → HoldsPrimes (initial_of l) (length ground.now.atoms) limit primes.now → HasNoClash no_pairs ground.now → IfOk result (EndsBy limit l) }
     ensures text { IfOk result HasItsText }
 {
-    if contradicts(statics) {
-        return refuse(alloc, Refused::NoInitialState);
-    }
-    match first_clash(alloc, &made.ground)? {
-        Some(at) => {
-            let text = clash_text(alloc, &made.ground, &at)?;
-            Ok(Report::Clash(at, text))
-        }
-        None => {
-            let start = known_at_first(alloc, statics, made.atoms.slice())?;
-            let translation = translate(alloc, &made.ground, start.slice())?;
-            Ok(Report::Done(translation))
-        }
+    match primes.closure(alloc, &LitSet::new(alloc))? {
+        Some(start) => Ok(Report::Done(translate(alloc, ground, &start)?)),
+        None => refuse(alloc, Refused::NoInitialState),
     }
 }
 
-// The report on a problem by number that leaves nothing open: by its ground problem, or at a limit.
-fn on_certain(alloc: Global, lifted: &Lifted) -> Result<Report, Memory>
-    ensures ends { IsCertain (lifted_view lifted.now) → IfOk result (EndsWithin (lifted_view lifted.now)) }
+// The report on a ground problem whose initial formula has these prime implicates.
+fn on_primes(alloc: Global, ground: &Ground, primes: &Primes) -> Result<Report, Memory>
+    ensures ends { (l : Numbers) (limit : ℕ) → ground.now ≡ ground_of l → HoldsPrimes (initial_of l) (length ground.now.atoms) limit primes.now → IfOk result (EndsBy limit l) }
     ensures text { IfOk result HasItsText }
 {
-    let statics = Statics::of(alloc, lifted)?;
-    match ground_with_atoms(alloc, &statics, &Limits::usual()) {
-        Ok(made) => on_ground(alloc, &statics, &made),
+    match first_clash(alloc, ground)? {
+        Some(at) => {
+            let text = clash_text(alloc, ground, &at)?;
+            Ok(Report::Clash(at, text))
+        }
+        None => without_clash(alloc, ground, primes),
+    }
+}
+
+// The report on a ground problem.
+fn on_ground(
+    alloc: Global,
+    lifted: &Lifted,
+    made: &GroundWithAtoms,
+    limit: u32,
+) -> Result<Report, Memory>
+    requires ground { made.now.ground ≡ ground_of (lifted_view lifted.now) }
+    requires atoms { made.now.atoms ≡ ground_atoms (lifted_view lifted.now) }
+    requires few { length made.now.ground.atoms ≤ 4096 }
+    ensures ends { IfOk result (EndsBy limit (lifted_view lifted.now)) }
+    ensures text { IfOk result HasItsText }
+{
+    let formula = initial_over(alloc, lifted, made.atoms.slice())?;
+    match Primes::build(alloc, &formula, made.ground.atoms.len() as u32, limit) {
+        Ok(primes) => on_primes(alloc, &made.ground, &primes),
         Err(Stop::Refused(refused)) => refuse(alloc, refused),
         Err(Stop::Memory) => Err(Memory),
     }
 }
 
-// The report on a problem by number.
-fn on_problem(alloc: Global, lifted: &Lifted) -> Result<Report, Memory>
-    ensures answers { (d p : List ℕ) → IsProblemOf d p lifted.now → IfOk result (λ r. Answers d p (status_of r)) }
+// The report on a problem by number: by its ground problem, or at a limit.
+fn on_problem(alloc: Global, lifted: &Lifted, limit: u32) -> Result<Report, Memory>
+    ensures ends { IfOk result (EndsWithin limit (lifted_view lifted.now)) }
     ensures text { IfOk result HasItsText }
-    ensures translated { (d p : List ℕ) → IsProblemOf d p lifted.now → IfOk result (IsTranslated d p) }
 {
-    match lifted.unsure {
-        Some(_) => refuse(alloc, Refused::NotYet(Part::Problem)),
-        None => on_certain(alloc, lifted),
+    let statics = Statics::of(alloc, lifted)?;
+    match ground_with_atoms(alloc, &statics, &Limits::usual()) {
+        Ok(made) => on_ground(alloc, lifted, &made, limit),
+        Err(Stop::Refused(refused)) => refuse(alloc, refused),
+        Err(Stop::Memory) => Err(Memory),
     }
 }
 
-/// The report on the contents of the two files, at most 16,777,216 bytes of each of which were read.
-pub fn report_on(alloc: Global, domain: Got, problem: Got) -> Result<Report, Memory>
+/// The report on the contents of the two files, at most 16,777,216 bytes of each of which were read, with a limit of
+/// prime implicates.
+pub fn report_on(
+    alloc: Global,
+    domain: Got,
+    problem: Got,
+    limit: u32,
+) -> Result<Report, Memory>
     requires domain { IsWithin 16777216 domain }
     requires problem { IsWithin 16777216 problem }
-    ensures answers { (d p : List ℕ) → IsFront (Some d) 16777216 domain → IsFront (Some p) 16777216 problem → IfOk result (λ r. Answers d p (status_of r)) }
+    ensures answers { (d p : List ℕ) → IsFront (Some d) 16777216 domain → IsFront (Some p) 16777216 problem → IfOk result (λ r. Answers limit d p (status_of r)) }
     ensures text { IfOk result HasItsText }
     ensures translated { (d p : List ℕ) → IsFront (Some d) 16777216 domain → IsFront (Some p) 16777216 problem → IfOk result (IsTranslated d p) }
 {
     match read_files(alloc, domain, problem) {
-        Ok(lifted) => on_problem(alloc, &lifted),
+        Ok(lifted) => on_problem(alloc, &lifted, limit),
         Err(Stop::Refused(refused)) => refuse(alloc, refused),
         Err(Stop::Memory) => Err(Memory),
     }

@@ -1,10 +1,17 @@
-ghost use Rattle.std.specs.Prelude.{◌≡◌, ◌≢◌, ◌↔◌, IsTrue, MatchOption};
-ghost use Rattle.kp_run.specs.Command.{IsPositional, IsCommand, IsNoCommand};
+ghost use Rattle.std.specs.Prelude.{◌≡◌, ◌≢◌, ◌≤◌, ◌<◌, ◌^◌, ◌↔◌, ℕ, List, map, decimal, IsTrue, MatchOption, IfSome};
+ghost use Rattle.kp_run.specs.Command.{Command as Names, IsPositional, NamesFiles, IsLimit, SaysLimit, IsCommand, IsNoCommand};
 
+use itoa::Buffer;
 use std::marker::Model;
 use std::str;
 
-/// The names of the files of a command.
+// How many prime implicates are allowed where nothing is said.
+const USUAL_IMPLICATES: u32 = 20_000;
+
+// How many may be allowed at most.
+const MOST_IMPLICATES: u32 = 100_000;
+
+/// The names of the files of a command, and its limit.
 #[derive(Drop)]
 pub struct Command<'a> {
     /// The domain that is read.
@@ -15,6 +22,8 @@ pub struct Command<'a> {
     pub domain_out: &'a [u8],
     /// The problem that is written.
     pub problem_out: &'a [u8],
+    /// How many prime implicates a prefix of the initial clauses may have.
+    pub implicates: u32,
 }
 
 impl<'a> Model for Command<'a> {
@@ -22,7 +31,7 @@ impl<'a> Model for Command<'a> {
 
     ghost Value = { Names };
 
-    ghost view = { λ c. record { domain = c.domain.now; problem = c.problem.now; domain_out = c.domain_out.now; problem_out = c.problem_out.now } };
+    ghost view = { λ c. record { domain = c.domain.now; problem = c.problem.now; domain_out = c.domain_out.now; problem_out = c.problem_out.now; implicates = c.implicates } };
 }
 
 // Whether a word may name a file.
@@ -46,10 +55,70 @@ fn are_apart(left: &[u8], right: &[u8]) -> bool
     left != right
 }
 
+// Whether a word is a number in decimal.
+fn is_decimal(word: &[u8], number: u32) -> bool
+    ensures { IsTrue result ↔ (word.now ≡ decimal number) }
+{
+    let mut buffer = Buffer::new();
+    buffer.format(number).as_bytes() == word
+}
+
+// The number that a word says in decimal.
+#[tactic(auto, using(crate::proofs::Numbers::decimal_is_utf8, crate::proofs::Numbers::decimal_parses))]
+fn number_of(word: &[u8]) -> Option<u32>
+    ensures { MatchOption result ((n : ℕ) → n < 2 ^ 32 → word.now ≢ decimal n) (λ n. word.now ≡ decimal n) }
+{
+    let Ok(text) = str::from_utf8(word) else {
+        return None;
+    };
+    let Ok(number) = text.parse::<u32>() else {
+        return None;
+    };
+    if !is_decimal(word, number) {
+        return None;
+    }
+    Some(number)
+}
+
+// Whether a number may be a limit of prime implicates.
+fn is_limit(number: u32) -> bool
+    ensures { IsTrue result ↔ IsLimit number }
+{
+    1 <= number && number <= MOST_IMPLICATES
+}
+
+// The limit that a word says.
+fn limit_of(word: &[u8]) -> Option<u32>
+    ensures { MatchOption result ((n : ℕ) → IsLimit n → word.now ≢ decimal n) (λ n. IsLimit n × (word.now ≡ decimal n)) }
+{
+    let number = number_of(word)?;
+    if !is_limit(number) {
+        return None;
+    }
+    Some(number)
+}
+
+// The limit that the words behind the mode say.
+fn said_limit(options: &[Vec<u8>]) -> Option<u32>
+    ensures { MatchOption result ((n : ℕ) → SaysLimit (map (λ w. w.items) options.now) n → ⊥) (λ n. SaysLimit (map (λ w. w.items) options.now) n) }
+{
+    if options.is_empty() {
+        return Some(USUAL_IMPLICATES);
+    }
+    let [option, number] = options else {
+        return None;
+    };
+    if !is_text(option, "--implicates") {
+        return None;
+    }
+    limit_of(number.as_slice())
+}
+
 impl<'a> Command<'a> {
-    /// The command of the words after the program's name.
-    pub fn from_words(words: &'a [Vec<u8>]) -> Option<Command<'a>>
-        ensures { MatchOption result (IsNoCommand words.now) (λ c. IsCommand words.now c) }
+    // The command whose first words are these.
+    fn from_front(words: &'a [Vec<u8>], implicates: u32) -> Option<Command<'a>>
+        ensures files { MatchOption result ((c : Names) → NamesFiles (map (λ w. w.items) words.now) c → ⊥) (λ c. NamesFiles (map (λ w. w.items) words.now) c) }
+        ensures limit { IfSome result (λ c. c.implicates ≡ implicates) }
     {
         let [verb, domain, problem, domain_out, problem_out, option, mode] = words else {
             return None;
@@ -71,6 +140,19 @@ impl<'a> Command<'a> {
             problem: problem.as_slice(),
             domain_out: domain_out.as_slice(),
             problem_out: problem_out.as_slice(),
+            implicates,
         })
+    }
+
+    /// The command of the words after the program's name.
+    pub fn from_words(words: &'a [Vec<u8>]) -> Option<Command<'a>>
+        ensures { MatchOption result (IsNoCommand words.now) (λ c. IsCommand words.now c) }
+    {
+        if words.len() < 7 {
+            return None;
+        }
+        let (front, options) = words.split_at(7);
+        let implicates = said_limit(options)?;
+        Command::from_front(front, implicates)
     }
 }

@@ -44,7 +44,7 @@ fn read_report<S: Shelf>(
 {
     let domain = shelf.get(alloc, command.domain, MOST)?;
     let problem = shelf.get(alloc, command.problem, MOST)?;
-    Ok(report_on(alloc, domain, problem)?)
+    Ok(report_on(alloc, domain, problem, command.implicates)?)
 }
 
 // Prints how to call the program.
@@ -91,10 +91,10 @@ pub fn run<S: Shelf, O: Sink>(
     // What is held afterwards.
     ensures puts { (c : Names) → IsCommand words.now c → (files : Files) × Puts (IsDue words.now (S.contents shelf.old) status.Done) c files (S.contents shelf.old) (S.contents shelf.new) (S.put_faults shelf.old) (S.put_faults shelf.new) result }
     // Where the files have a translation, what is put and printed, as far as the run came, is that; files are put only where Done is due.
-    ensures translated { (m : FileMap) (c : Names) (d : trees.Domain Word) (p : trees.Problem Word) → S.contents shelf.old ≡ Some m → IsCommand words.now c → HoldsTrees m c d p → AnswersTrees d p status.Done
+    ensures translated { (m : FileMap) (c : Names) (d : trees.Domain Word) (p : trees.Problem Word) → S.contents shelf.old ≡ Some m → IsCommand words.now c → HoldsTrees m c d p → AnswersTrees c.implicates d p status.Done
         → PutsAndTells (IsDue words.now (S.contents shelf.old)) c (translation_of d p) (S.contents shelf.old) (S.contents shelf.new) (S.put_faults shelf.old) (S.put_faults shelf.new) (O.told out.old) (O.told out.new) (O.faults out.old) (O.faults out.new) result }
     // Where an action of theirs clashes, what is printed, as far as the run came, are the lines of the first clash.
-    ensures clash { (m : FileMap) (c : Names) (d : trees.Domain Word) (p : trees.Problem Word) (at : ClashAt) → S.contents shelf.old ≡ Some m → IsCommand words.now c → HoldsTrees m c d p → AnswersTrees d p (status.Refused (refusals.Clash at))
+    ensures clash { (m : FileMap) (c : Names) (d : trees.Domain Word) (p : trees.Problem Word) (at : ClashAt) → S.contents shelf.old ≡ Some m → IsCommand words.now c → HoldsTrees m c d p → AnswersTrees c.implicates d p (status.Refused (refusals.Clash at))
         → Tells (IsDue words.now (S.contents shelf.old)) (clash_text (ground_of d p) at) (O.told out.old) (O.told out.new) (O.faults out.old) (O.faults out.new) result }
     ensures puts_nothing { IsNoCommand words.now → S.contents shelf.new ≡ S.contents shelf.old }
     // What was told.

@@ -10,7 +10,6 @@ mod files;
 mod law;
 mod outputs;
 mod printed;
-mod start;
 mod status;
 
 pub use entry::run;

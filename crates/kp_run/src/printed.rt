@@ -1,5 +1,5 @@
 ghost use Rattle.std.specs.Prelude.{◌≡◌, ◌++◌, IfOk, OnOk, decimal};
-ghost use Rattle.kp_run.specs.Printed.{usage_text, part_text, file_line, place_line, refusal_text};
+ghost use Rattle.kp_run.specs.Printed.{usage_text, part_text, file_line, place_line, prefix_line, refusal_text};
 
 use itoa::Buffer;
 use kp_base::{Memory, Part, Place, Refused, Row};
@@ -38,7 +38,7 @@ pub fn put(out: &mut Vec<u8>, bytes: &[u8]) -> Result<(), Memory>
 }
 
 // Adds a number in decimal.
-fn put_number(out: &mut Vec<u8>, number: u32) -> Result<(), Memory>
+fn put_number(out: &mut Vec<u8>, number: u64) -> Result<(), Memory>
     ensures { OnOk result (out.new.items ≡ out.old.items ++ decimal number) }
 {
     let mut buffer = Buffer::new();
@@ -78,9 +78,21 @@ fn at_place(alloc: Global, title: &str, place: &Place) -> Result<Row<u8>, Memory
     put(&mut out, b"at ")?;
     put(&mut out, part_name(place.part).as_bytes())?;
     put(&mut out, b" line ")?;
-    put_number(&mut out, place.line)?;
+    put_number(&mut out, u64::from(place.line))?;
     put(&mut out, b" byte ")?;
-    put_number(&mut out, place.byte)?;
+    put_number(&mut out, u64::from(place.byte))?;
+    put(&mut out, b"\n")?;
+    Ok(Row::from_vec(out))
+}
+
+// The lines of a refusal of the first clauses, so many of them.
+fn of_prefix(alloc: Global, title: &str, prefix: u64) -> Result<Row<u8>, Memory>
+    ensures { IfOk result (λ text. text ≡ title.now ++ prefix_line prefix) }
+{
+    let mut out = Vec::new(alloc);
+    put(&mut out, title.as_bytes())?;
+    put(&mut out, b"prefix ")?;
+    put_number(&mut out, prefix)?;
     put(&mut out, b"\n")?;
     Ok(Row::from_vec(out))
 }
@@ -101,8 +113,8 @@ pub fn refusal(alloc: Global, refused: &Refused) -> Result<Row<u8>, Memory>
         Refused::AtomsOver => row_of(alloc, "refused 9 AtomsOver\n"),
         Refused::ActionsOver => row_of(alloc, "refused 10 ActionsOver\n"),
         Refused::EffectsOver => row_of(alloc, "refused 10 EffectsOver\n"),
+        Refused::ImplicatesOver { prefix } => of_prefix(alloc, "refused 11 ImplicatesOver\n", *prefix),
         Refused::NoInitialState => row_of(alloc, "refused 12 NoInitialState\n"),
-        Refused::NotYet(part) => of_file(alloc, "refused 99 NotYet\n", *part),
         _ => Ok(Row::new(alloc)),
     }
 }

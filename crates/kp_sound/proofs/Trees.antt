@@ -8,7 +8,7 @@ use Rattle.kp_meaning.specs.Numbering.{numbered_problem}
 use Rattle.kp_meaning.proofs.PlainGoals.{goals_plain}
 use Rattle.kp_grounding.specs.Ground.{ground_atoms, atom_name}
 use Rattle.kp_grounding.proofs.Atoms.{atoms_are_numbered}
-use Rattle.kp_init.specs.Closure.{IsOver}
+use Rattle.kp_base.specs.Implicates.{IsOfAtoms}
 use Rattle.kp_init.proofs.Closure.{closure_exact}
 use Rattle.kp_init.proofs.Runs.{initial_is_over, named_runs_are_plans}
 use Rattle.kp_given.specs.Translations.{ground_of, initial_of, start_of}
@@ -20,7 +20,7 @@ use Rattle.kp_sound.proofs.Plans.{plans_sound}
 start_is_closure : (d : Domain Word) (p : Problem Word) → IsClosure (length (ground_of d p).atoms) (initial_of d p) [] (start_of d p)
 start_is_closure d p =
     let l = numbered_problem d p in
-    let over : IsOver (length (ground_of d p).atoms) (initial_of d p) = subst (λ n. IsOver n (initial_of d p)) (sym (length-map (ground_atoms l) (atom_name l))) (initial_is_over l (ground_atoms l) (atoms_are_numbered l).numbering) in
+    let over : IsOfAtoms (length (ground_of d p).atoms) (initial_of d p) = subst (λ n. IsOfAtoms n (initial_of d p)) (sym (length-map (ground_atoms l) (atom_name l))) (initial_is_over l (ground_atoms l) (atoms_are_numbered l).numbering) in
     (closure_exact (initial_of d p) (length (ground_of d p).atoms) over [] refl).closure
 
 pub plans_solve : WrittenPlansStripToSolutions

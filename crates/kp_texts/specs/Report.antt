@@ -1,6 +1,11 @@
 -- What is printed of a translation.
-use Rattle.std.specs.Prelude.{ℕ, ◌*◌, List, ◌++◌, length, codes, decimal}
+use Rattle.std.specs.Prelude.{ℕ, ◌*◌, Bool, ◌||◌, List, ◌++◌, length, codes, decimal}
+use Rattle.std.specs.List.{list_all, range_with_len}
+use Rattle.kp_base.specs.declared.lit.Lit.{Lit}
 use Rattle.kp_base.specs.declared.ground.Ground.{Ground}
+use Rattle.kp_base.specs.Lists.{only_if}
+use Rattle.kp_base.specs.Lit.{positive, negative}
+use Rattle.kp_base.specs.Steps.{has}
 
 -- a word and a number on a line of their own
 abbrev pub count_line : List ℕ → ℕ → List ℕ
@@ -16,6 +21,14 @@ counted g rest =
     ++ (count_line (codes "facts") (2 * length g.atoms)
     ++ rest))))
 
--- the counts and `complete`
-abbrev pub report_of : Ground → List ℕ
-report_of g = counted g (codes "complete\n")
+-- it is known of the atom whether it holds
+abbrev pub is_known : List Lit → ℕ → Bool
+is_known start q = has start (positive q) || has start (negative q)
+
+-- of each of the first n atoms it is known whether it holds
+abbrev pub is_settled : ℕ → List Lit → Bool
+is_settled n start = list_all (is_known start) (range_with_len 0 n)
+
+-- the counts; and `complete`, where these literals are known at the start and this is so of all ground atoms
+abbrev pub report_of : Ground → List Lit → List ℕ
+report_of g start = counted g (only_if (is_settled (length g.atoms) start) (codes "complete\n"))

@@ -7,10 +7,10 @@ use Rattle.kp_texts.specs.Task.{facts_of, ops_of, facts_for}
 use Rattle.kp_texts.specs.Written.{domain_text, problem_text}
 use Rattle.kp_texts.specs.Report.{report_of}
 
--- the two texts of its task, where these literals are known at the start, and the counts
+-- the two texts of its task, where these literals are known at the start, and what is printed
 abbrev pub translation_of : Ground → List Lit → Translation
 translation_of g start = record {
   domain = domain_text (facts_of g) (ops_of g);
   problem = problem_text (facts_for g start) (facts_for g g.goal);
-  report = report_of g;
+  report = report_of g start;
 }

@@ -3,7 +3,7 @@ ghost use Rattle.kp_texts.specs.Translations.{translation_of};
 
 use crate::report::report_text;
 use crate::writing::{domain_text, problem_text};
-use kp_base::{Ground, Lit, Memory, Row};
+use kp_base::{Ground, LitSet, Memory, Row};
 use std::alloc::Global;
 
 /// The texts of a translation.
@@ -18,12 +18,12 @@ pub struct Translation {
 }
 
 /// The translation of a ground problem with the empty tag alone, where these literals are known at the start.
-pub fn translate(alloc: Global, ground: &Ground, start: &[Lit]) -> Result<Translation, Memory>
+pub fn translate(alloc: Global, ground: &Ground, start: &LitSet) -> Result<Translation, Memory>
     ensures { IfOk result (λ t. t ≡ translation_of ground.now start.now) }
 {
     Ok(Translation {
         domain: domain_text(alloc, ground)?,
-        problem: problem_text(alloc, ground, start)?,
-        report: report_text(alloc, ground)?,
+        problem: problem_text(alloc, ground, start.slice())?,
+        report: report_text(alloc, ground, start)?,
     })
 }

@@ -1,37 +1,35 @@
-use Rattle.std.proofs.Common.{◌≡◌, ◌∙◌, true, false, List, Option, IfSome, IfNone, sym, ap, subst}
-use Rattle.kp_base.specs.declared.refused.ClashAt.{ClashAt}
-use Rattle.kp_base.specs.declared.lit.Lit.{Lit}
+use Rattle.std.proofs.Common.{◌≡◌, ◌∙◌, ℕ, length, Err, sym, ap, subst}
 use Rattle.kp_base.specs.declared.ground.Ground.{Ground}
-use Rattle.kp_base.specs.Clashes.{no_pairs, HasNoClash, IsFirstClash}
+use Rattle.kp_base.specs.declared.ground.Initial.{Initial}
+use Rattle.kp_base.specs.Implicates.{IsOfAtoms}
 use Rattle.kp_names.specs.View.{lifted_view}
-use Rattle.kp_grounding.specs.Ground.{ground_atoms}
-use Rattle.kp_texts.specs.Translations.{translation_of}
-use Rattle.kp_given.specs.Certain.{known_from}
-use Rattle.kp_run.specs.Printed.{clash_text}
-use Rattle.kp_run.specs.Reports.{by_clash, by_translation}
-use Rattle.kp_run.proofs.Answering.{refused_ends, refusal_text_own}
-use Rattle.kp_base.specs.declared.refused.Refused.TheVariants as refusals
+use Rattle.kp_grounding.specs.Ground.{ground_of}
+use Rattle.kp_init.specs.Initial.{initial_over, initial_of}
+use Rattle.kp_primes.specs.Answers.{HoldsPrimes, AnswersPrimes, RefusesPrimes}
+use Rattle.kp_given.proofs.Starts.{formula_over_atoms}
+use Rattle.kp_run.proofs.Answering.{formula_ends}
 use Rattle.kp_run.proofs.answer.on_ground.Goals as goal
 
--- `:init` contradicts itself
-pub returns-then-contradicts-clause-ends : goal.returns-then-contradicts-clause-ends
-returns-then-contradicts-clause-ends c certain = refused_ends (lifted_view c.args.statics.now.lifted.now) c.refuse.result (sym (c.contradicts.ensures certain) ∙ c.if-contradicts.true) c.refuse.ensures
+-- the formula speaks of the ground atoms
+pub build-requires : goal.build-requires
+build-requires c =
+    let l = lifted_view c.args.lifted.now in
+    let formula = c.in_ok-formula.ensures ∙ ap (initial_over l) (c.slice.ensures ∙ c.requires.atoms) in
+    let many = c.len.ensures ∙ ap (λ (g : Ground). length g.atoms) c.requires.ground in
+    subst (λ (i : Initial). IsOfAtoms c.len.result i) (sym formula) (subst (λ (n : ℕ). IsOfAtoms n (initial_of l)) (sym many) (formula_over_atoms l))
 
-pub returns-then-contradicts-clause-text : goal.returns-then-contradicts-clause-text
-returns-then-contradicts-clause-text c = refusal_text_own refusals.NoInitialState c.refuse.result c.refuse.ensures
+-- it has its prime implicates
+pub returns-in-Ok-clause-ends : goal.returns-in-Ok-clause-ends
+returns-in-Ok-clause-ends c =
+    let l = lifted_view c.args.lifted.now in
+    let formula = c.in_ok-formula.ensures ∙ ap (initial_over l) (c.slice.ensures ∙ c.requires.atoms) in
+    let here = subst (λ (i : Initial). HoldsPrimes i c.len.result c.args.limit c.in-Ok.primes) formula c.in-Ok.ensures in
+    c.on_primes.ensures.ends l c.args.limit c.requires.ground (subst (λ (n : ℕ). HoldsPrimes (initial_of l) n c.args.limit c.in-Ok.primes) c.len.ensures here)
 
--- an action clashes
-pub returns-in_ok-text-in-Some-clause-ends : goal.returns-in_ok-text-in-Some-clause-ends
-returns-in_ok-text-in-Some-clause-ends c certain =
-    by_clash c.in-Some.at c.in_ok-text-in-Some.text (sym (c.contradicts.ensures certain) ∙ c.if-contradicts.false)
-    (subst (λ (g : Ground). IsFirstClash no_pairs g c.in-Some.at) c.requires.ground (subst (λ (o : Option ClashAt). IfSome o (IsFirstClash no_pairs c.args.made.now.ground)) c.in-Some.is c.in_ok-at.ensures.found))
-    (c.in_ok-text-in-Some.ensures ∙ ap (λ (g : Ground). clash_text g c.in-Some.at) c.requires.ground)
-
--- no action does
-pub returns-in_ok-translation-in-None-clause-ends : goal.returns-in_ok-translation-in-None-clause-ends
-returns-in_ok-translation-in-None-clause-ends c certain =
-    let l = lifted_view c.args.statics.now.lifted.now in
-    let start = c.in_ok-start-in-None.ensures ∙ ap (known_from l 0) (c.slice.ensures ∙ c.requires.atoms) in
-    by_translation c.in_ok-translation-in-None.translation (sym (c.contradicts.ensures certain) ∙ c.if-contradicts.false)
-    (subst (λ (g : Ground). HasNoClash no_pairs g) c.requires.ground (subst (λ (o : Option ClashAt). IfNone o (HasNoClash no_pairs c.args.made.now.ground)) c.in-None.is c.in_ok-at.ensures.none))
-    (c.in_ok-translation-in-None.ensures ∙ (ap (λ (s : List Lit). translation_of c.args.made.now.ground s) (c.slice-in-None.ensures ∙ start) ∙ ap (λ (g : Ground). translation_of g (known_from l 0 (ground_atoms l))) c.requires.ground))
+-- it has too many, or no model
+pub returns-in-Err-Refused-clause-ends : goal.returns-in-Err-Refused-clause-ends
+returns-in-Err-Refused-clause-ends c =
+    let l = lifted_view c.args.lifted.now in
+    let formula = c.in_ok-formula.ensures ∙ ap (initial_over l) (c.slice.ensures ∙ c.requires.atoms) in
+    let stopped = subst (λ s. AnswersPrimes c.in_ok-formula.formula c.len.result c.args.limit (Err s)) c.in-Err-Refused.field-0-is c.in-Err-Refused.ensures in
+    formula_ends c.args.limit l c.in-Err-Refused.refused c.refuse.result (subst (λ (i : Initial). RefusesPrimes i c.args.limit c.in-Err-Refused.refused) formula stopped) c.refuse.ensures

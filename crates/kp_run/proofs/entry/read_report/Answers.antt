@@ -1,3 +1,5 @@
+use Rattle.std.proofs.Common.{ap}
+use Rattle.kp_run.specs.Command.{Command}
 use Rattle.kp_run.proofs.Reporting.{answers_files, front_of}
 use Rattle.kp_run.proofs.entry.read_report.Goals as goal
 
@@ -6,7 +8,7 @@ pub returns-clause-answers : goal.returns-clause-answers
 returns-clause-answers g c m told =
     let first = rw told at c.in_ok-domain.ensures.got in
     let second = rw (c.in_ok-domain.ensures.contents, told) at c.in_ok-problem.ensures.got in
-    answers_files 16777216 m c.args.command.now c.in_ok-domain.domain c.in_ok-problem.problem c.in_ok-report_on.field-0 (rw (← c.command.view_is) first) (rw (← c.command.view_is) second) c.in_ok-report_on.ensures.answers
+    answers_files 16777216 m c.args.command.now c.command.inside.implicates (ap (λ (k : Command). k.implicates) c.command.view_is) c.in_ok-domain.domain c.in_ok-problem.problem c.in_ok-report_on.field-0 (rw (← c.command.view_is) first) (rw (← c.command.view_is) second) c.in_ok-report_on.ensures.answers
 
 -- the translation is that of the contents
 pub returns-clause-translated : goal.returns-clause-translated

@@ -28,6 +28,12 @@ returns-in_default-clause-told g c =
     let P = IsDue c.args.words.now (g.S.Shelf.contents c.args.shelf.now) in
     (c.end_with_usage.ensures.told.0, told_of_due (λ s. s ≡ status.Usage) P _ _ _ _ _ c.end_with_usage.result (λ t is. subst P (sym is) (usage c.in_default.ensures)) c.end_with_usage.ensures.told.1)
 
+pub returns-in_default-clause-not_held : goal.returns-in_default-clause-not_held
+returns-in_default-clause-not_held g c m other told is missing = absurd (c.in_default.ensures other is)
+
+pub returns-in_default-clause-puts : goal.returns-in_default-clause-puts
+returns-in_default-clause-puts g c other is = absurd (c.in_default.ensures other is)
+
 -- ---- a report was made
 
 pub returns-in-Ok-clause-answer : goal.returns-in-Ok-clause-answer
@@ -110,7 +116,7 @@ returns-in-Ok-clause-translated g c m other d p told is holds all_done =
     let P = IsDue c.args.words.now (g.S.Shelf.contents c.args.shelf.now) in
     let same = one_command c.args.words.now other c.in-Some.command is c.in-Some.ensures in
     let here = rw same at holds in
-    let answer = files_once m c.in-Some.command (status_of c.in-Ok.report) status.Done (c.in-Ok.ensures.answers m told) (answers_held m c.in-Some.command d p status.Done here all_done) in
+    let answer = files_once m c.in-Some.command (status_of c.in-Ok.report) status.Done (c.in-Ok.ensures.answers m told) (rw same at (answers_held m other d p status.Done holds all_done)) in
     let has : HasFiles c.in-Ok.report (translation_of d p) = has_files here.domain here.problem c.in-Ok.report d p here.trees (c.in-Ok.ensures.translated m told here.domain here.problem here.domain_held here.problem_held) in
     let due : (status_of c.in-Ok.report ≡ status.Done) → P status.Done = λ done. subst P done (is_due c.args.words.now _ c.in-Some.command c.in-Ok.report c.in-Some.ensures c.in-Ok.ensures.text c.in-Ok.ensures.answers) in
     let put = puts_where (status_of c.in-Ok.report ≡ status.Done) (P status.Done) c.in-Some.command (files_of (translation_of d p)) _ (g.S.Shelf.contents c.finish.new.shelf) (g.S.Shelf.put_faults c.read_report.new.shelf) (g.S.Shelf.put_faults c.args.shelf.now) (g.S.Shelf.put_faults c.finish.new.shelf) c.finish.result due c.in-Ok.ensures.put_faults (c.finish.ensures.its_files (translation_of d p) has) in
@@ -126,7 +132,7 @@ returns-in-Ok-clause-clash g c m other d p at told is holds clashes =
     let P = IsDue c.args.words.now (g.S.Shelf.contents c.args.shelf.now) in
     let same = one_command c.args.words.now other c.in-Some.command is c.in-Some.ensures in
     let here = rw same at holds in
-    let answer = files_once m c.in-Some.command (status_of c.in-Ok.report) (status.Refused (refusals.Clash at)) (c.in-Ok.ensures.answers m told) (answers_held m c.in-Some.command d p (status.Refused (refusals.Clash at)) here clashes) in
+    let answer = files_once m c.in-Some.command (status_of c.in-Ok.report) (status.Refused (refusals.Clash at)) (c.in-Ok.ensures.answers m told) (rw same at (answers_held m other d p (status.Refused (refusals.Clash at)) holds clashes)) in
     let printed = clash_printed here.domain here.problem c.in-Ok.report d p at here.trees c.in-Ok.ensures.text (c.in-Ok.ensures.translated m told here.domain here.problem here.domain_held here.problem_held) answer in
     rw (← printed) (told_of_due (λ s. s ≡ status_of c.in-Ok.report) P _ _ _ _ _ c.finish.result
     (λ t so. subst P (sym so) (is_due c.args.words.now _ c.in-Some.command c.in-Ok.report c.in-Some.ensures c.in-Ok.ensures.text c.in-Ok.ensures.answers)) c.finish.ensures.told)

@@ -1,10 +1,10 @@
 use Rattle.std.proofs.Common.{◌∙◌, map, ap, sym, subst}
 use Rattle.kp_run.specs.Command.{IsPositional}
 use Rattle.kp_run.proofs.Words.{seven}
-use Rattle.kp_run.proofs.command.Command.from_words.Goals as goal
+use Rattle.kp_run.proofs.command.Command.from_front.Goals as goal
 
-pub returns : goal.returns
-returns c =
+pub returns-clause-files : goal.returns-clause-files
+returns-clause-files c =
     let verb = c.is_text.ensures.0 c.if-not-is_text.false in
     let option = c.is_text-else-not-is_text.ensures.0 c.if-not-is_text-2.false in
     let mode = c.is_text-else-not-is_text-2.ensures.0 c.if-not-is_text-3.false in
