@@ -17,3 +17,6 @@ pub use laws::{
     plans_are_runs_from_models, plans_by_name_are_runs_from_models,
     plans_of_texts_are_runs_from_models,
 };
+
+#[cfg(test)]
+mod tests;
