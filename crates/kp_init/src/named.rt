@@ -45,10 +45,8 @@ fn add_item<'a>(atoms: &mut IndexSet<(u32, &'a [u32])>, item: &'a Item) -> Resul
     ensures { OnOk result ((a : Told) → is_kept atoms.new.keys a ≡ (is_kept atoms.old.keys a || names a item.now)) }
 {
     match item {
-        Item::One(lit) => add(atoms, lit),
-        Item::OneOf(lits) => add_all(atoms, lits.slice()),
-        Item::AnyOf(lits) => add_all(atoms, lits.slice()),
-        Item::Unknown(lit) => add(atoms, lit),
+        Item::One(lit) | Item::Unknown(lit) => add(atoms, lit),
+        Item::OneOf(lits) | Item::AnyOf(lits) => add_all(atoms, lits.slice()),
     }
 }
 
