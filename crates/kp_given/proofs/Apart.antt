@@ -1,5 +1,5 @@
 -- In trees without a fault each ground atom is of a declared predicate and of objects, and these have different names.
-use Rattle.std.proofs.Common.{◌≡◌, ℕ, true, false, not, cond, ◌&&◌, nat_lt, List, [], ◌∷◌, map, filter, length, refl, sym, ap, subst, ◌∙◌}
+use Rattle.std.proofs.Common.{◌≡◌, true, false, not, cond, ◌&&◌, nat_lt, List, [], ◌∷◌, filter, length, refl, sym, ap, subst, ◌∙◌}
 use Rattle.std.specs.List.{list_all}
 use Rattle.std.proofs.lemmas.Bool.{or_parts}
 use Rattle.std.proofs.lemmas.List.{length-map}

@@ -1,21 +1,18 @@
 -- What is known at the start where `:init` has literals alone and doesn't contradict itself: there is one model, so of each ground atom it is known whether it holds.
-use Rattle.std.proofs.Common.{◌≡◌, ◌<◌, ◌+◌, ℕ, zero, suc, Bool, true, false, ◌||◌, List, [], ◌∷◌, Some, refl, sym, ap, subst, ◌∙◌, inl, inr, Contains, length, slice_get, arith, codes}
+use Rattle.std.proofs.Common.{◌≡◌, ◌<◌, ◌+◌, ℕ, zero, suc, Bool, true, false, ◌||◌, List, [], ◌∷◌, Some, refl, sym, ap, subst, ◌∙◌, inl, inr, length, slice_get, arith, codes}
 use Rattle.std.specs.List.{range_with_len}
 use Rattle.std.proofs.lemmas.Bool.{or_left, or_right, false≢true}
 use Rattle.std.proofs.lemmas.Option.{slice_get_within}
 use Rattle.std.proofs.lemmas.List.{length-map}
-use Rattle.std.proofs.lemmas.Map.Views.{Contains-from_any}
 use Rattle.kp_base.specs.declared.lit.Lit.{Lit}
-use Rattle.kp_base.specs.declared.ground.Initial.{Initial}
 use Rattle.kp_base.specs.Lists.{Member, only_if, signed}
-use Rattle.kp_base.specs.Lit.{same_lit, code_of, positive, negative}
+use Rattle.kp_base.specs.Lit.{code_of, positive, negative}
 use Rattle.kp_base.specs.LitSet.{IsAscending}
 use Rattle.kp_base.specs.Steps as steps
 use Rattle.kp_base.specs.Steps.{holds, has, is_model}
 use Rattle.kp_base.specs.Entailed.{IsClosure}
-use Rattle.kp_base.proofs.Ascending.{same_members, first_or_later}
 use Rattle.kp_base.proofs.Lists.{all_from}
-use Rattle.kp_base.proofs.Lits.{same_lit-true, same_lit-refl, has-member, member-has}
+use Rattle.kp_base.proofs.Lits.{has-member, member-has}
 use Rattle.kp_meaning.specs.Numbered.{Lifted}
 use Rattle.kp_meaning.specs.Numbering.{numbered_problem}
 use Rattle.kp_grounding.specs.declared.flat.Atom.{Atom}

@@ -18,15 +18,13 @@ use Rattle.kp_base.proofs.Lists as lists
 use Rattle.kp_base.proofs.Lits.{has-member}
 use Rattle.kp_base.proofs.Sets.{all-set_of}
 use Rattle.kp_meaning.specs.declared.lifted.GroundLit.{GroundLit}
-use Rattle.kp_meaning.specs.declared.lifted.Pred.{Pred}
 use Rattle.kp_meaning.specs.Names.{Name, same, all_same, distinct}
 use Rattle.kp_meaning.specs.Types.{declared, object_lines, objects}
 use Rattle.kp_meaning.specs.Faults.{HasNoFault}
 use Rattle.kp_meaning.specs.Numbered.{Schema, Lifted}
-use Rattle.kp_meaning.specs.Lifted.{ground}
-use Rattle.kp_meaning.specs.Numbering.{name_at, heads, numbered_pred, numbered_schema, numbered_problem, AreObjects}
+use Rattle.kp_meaning.specs.Numbering.{name_at, heads, numbered_schema, numbered_problem, AreObjects}
 use Rattle.kp_meaning.proofs.Lists.{all_same-true}
-use Rattle.kp_meaning.proofs.NumberedItems.{is_valid, valid_parts, atom_eq_named}
+use Rattle.kp_meaning.proofs.NumberedItems.{valid_parts, atom_eq_named}
 use Rattle.kp_meaning.proofs.NumberedPlans.{Clean, clean}
 use Rattle.kp_grounding.specs.declared.flat.Atom.{Atom}
 use Rattle.kp_grounding.specs.declared.flat.FlatEffect.{FlatEffect}
@@ -46,7 +44,7 @@ use Rattle.kp_given.specs.Translations.{ground_of, initial_of, start_of}
 use Rattle.kp_given.specs.Laws.{StartsAreOfAtoms, GroundProblemsAreWritable, StartsAreWritable}
 use Rattle.kp_given.proofs.Apart.{as_literal, heads_are, atom_valid}
 use Rattle.kp_given.proofs.Starts.{formulas_over_atoms}
-use Rattle.kp_given.proofs.Valid.{kept_objects, occurring_valid}
+use Rattle.kp_given.proofs.Valid.{kept_objects}
 
 -- ---- lists
 

@@ -29,10 +29,7 @@ fn add<'a>(atoms: &mut IndexSet<(u32, &'a [u32])>, lit: &'a GroundLit) -> Result
     Ok(())
 }
 
-fn add_all<'a>(
-    atoms: &mut IndexSet<(u32, &'a [u32])>,
-    lits: &'a [GroundLit],
-) -> Result<(), Memory>
+fn add_all<'a>(atoms: &mut IndexSet<(u32, &'a [u32])>, lits: &'a [GroundLit]) -> Result<(), Memory>
     ensures { OnOk result ((a : Told) → is_kept atoms.new.keys a ≡ (is_kept atoms.old.keys a || list_any (λ m. same_atom a (atom_of m)) lits.now)) }
 {
     for lit in lits {

@@ -24,11 +24,7 @@ pub struct Numbers<'a> {
 }
 
 // Notes where a name stands, unless it stood before.
-fn note<'a>(
-    first: &mut IndexMap<&'a [u8], u32>,
-    name: &'a [u8],
-    number: u32,
-) -> Result<(), Memory>
+fn note<'a>(first: &mut IndexMap<&'a [u8], u32>, name: &'a [u8], number: u32) -> Result<(), Memory>
     ensures { OnOk result ((x : List ℕ) → name_place first.new.entries x ≡ option_or (name_place first.old.entries x) (if same x name.now then Some number else None)) }
 {
     if !first.contains_key(name) {
@@ -38,10 +34,7 @@ fn note<'a>(
 }
 
 // Where each object's name stands first.
-fn object_places<'a>(
-    alloc: Global,
-    objects: &'a [Text],
-) -> Result<IndexMap<&'a [u8], u32>, Memory>
+fn object_places<'a>(alloc: Global, objects: &'a [Text]) -> Result<IndexMap<&'a [u8], u32>, Memory>
     ensures { IfOk result (λ first. (x : List ℕ) → name_place first.entries x ≡ place_from same 0 objects.now x) }
 {
     let mut first = IndexMap::new(alloc);
