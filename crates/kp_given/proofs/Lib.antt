@@ -1,4 +1,5 @@
 pub mod Starts
 pub mod Valid
+pub mod Apart
 pub mod Written
 pub mod ExampleUncertain

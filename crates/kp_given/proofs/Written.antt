@@ -18,15 +18,13 @@ use Rattle.kp_base.proofs.Lists as lists
 use Rattle.kp_base.proofs.Lits.{has-member}
 use Rattle.kp_base.proofs.Sets.{all-set_of}
 use Rattle.kp_meaning.specs.declared.lifted.GroundLit.{GroundLit}
-use Rattle.kp_meaning.specs.declared.lifted.Pred.{Pred}
 use Rattle.kp_meaning.specs.Names.{Name, same, all_same, distinct}
 use Rattle.kp_meaning.specs.Types.{declared, object_lines, objects}
 use Rattle.kp_meaning.specs.Faults.{HasNoFault}
 use Rattle.kp_meaning.specs.Numbered.{Schema, Lifted}
-use Rattle.kp_meaning.specs.Lifted.{ground}
-use Rattle.kp_meaning.specs.Numbering.{name_at, heads, numbered_pred, numbered_schema, numbered_problem, AreObjects}
+use Rattle.kp_meaning.specs.Numbering.{name_at, heads, numbered_schema, numbered_problem, AreObjects}
 use Rattle.kp_meaning.proofs.Lists.{all_same-true}
-use Rattle.kp_meaning.proofs.NumberedItems.{is_valid, valid_parts, atom_eq_named}
+use Rattle.kp_meaning.proofs.NumberedItems.{valid_parts, atom_eq_named}
 use Rattle.kp_meaning.proofs.NumberedPlans.{Clean, clean}
 use Rattle.kp_grounding.specs.declared.flat.Atom.{Atom}
 use Rattle.kp_grounding.specs.declared.flat.FlatEffect.{FlatEffect}
@@ -44,8 +42,9 @@ use Rattle.kp_write.proofs.Lists.{one_of_all, all_from}
 use Rattle.kp_write.proofs.Grounds.{mapped}
 use Rattle.kp_given.specs.Translations.{ground_of, initial_of, start_of}
 use Rattle.kp_given.specs.Laws.{StartsAreOfAtoms, GroundProblemsAreWritable, StartsAreWritable}
+use Rattle.kp_given.proofs.Apart.{as_literal, heads_are, atom_valid}
 use Rattle.kp_given.proofs.Starts.{formulas_over_atoms}
-use Rattle.kp_given.proofs.Valid.{kept_objects, occurring_valid}
+use Rattle.kp_given.proofs.Valid.{kept_objects}
 
 -- ---- lists
 
@@ -124,11 +123,6 @@ module _ (d : Domain Word) (p : Problem Word) (domain : IsNamedDomain d) (proble
 
   -- ---- names
 
-  heads_are : map (λ q. q.name) l.predicates ≡ heads d
-  heads_are =
-      map_map numbered_pred (λ (q : Pred). q.name) (λ (q : trees.Pred Word). q.head.text) d.predicates (λ q. refl)
-      ∙ sym (map_map (λ (q : trees.Pred Word). q.head) (λ (w : Word). w.text) (λ (q : trees.Pred Word). q.head.text) d.predicates (λ q. refl))
-
   heads_named : AllByRecursion IsName (heads d)
   heads_named =
       mapped (λ (w : Word). IsName w.text) IsName (λ (w : Word). w.text) (λ w h. h) (map (λ (q : trees.Pred Word). q.head) d.predicates)
@@ -147,23 +141,14 @@ module _ (d : Domain Word) (p : Problem Word) (domain : IsNamedDomain d) (proble
 
   -- ---- atoms
 
-  -- the atom as a literal
-  abbrev as_literal : Atom → GroundLit
-  as_literal a = ground true a.pred a.objects
-
-  atom_valid : (a : Atom) → Member atoms a → is_valid d p (as_literal a) ≡ true
-  atom_valid a m =
-      let r = map_member atom_of (occurring l) a ((atoms_are_numbered l).occur a m) in
-      subst (λ x. is_valid d p (as_literal x) ≡ true) r.2 (occurring_valid d p c r.0 r.1)
-
   atom_written : (a : Atom) → Member atoms a → IsGroundName (atom_name l a)
   atom_written a m =
-      let parts = valid_parts d p (as_literal a) (atom_valid a m) in
-      record { head = subst (λ ns. IsName (name_at ns a.pred)) (sym heads_are) (name_there IsName (heads d) a.pred heads_named parts.0); objects = named_objects a.objects parts.1 }
+      let parts = valid_parts d p (as_literal a) (atom_valid d p c a m) in
+      record { head = subst (λ ns. IsName (name_at ns a.pred)) (sym (heads_are d p)) (name_there IsName (heads d) a.pred heads_named parts.0); objects = named_objects a.objects parts.1 }
 
   -- atoms with one name are one
   name_tells : (a b : Atom) → Member atoms a → Member atoms b → same_name (atom_name l a) (atom_name l b) ≡ same_atom a b
-  name_tells a b m n = ap (λ ns. same (name_at ns a.pred) (name_at ns b.pred) && all_same (object_names l a.objects) (object_names l b.objects)) heads_are ∙ sym (atom_eq_named d p c.heads_once (as_literal a) (as_literal b) (atom_valid a m) (atom_valid b n))
+  name_tells a b m n = ap (λ ns. same (name_at ns a.pred) (name_at ns b.pred) && all_same (object_names l a.objects) (object_names l b.objects)) (heads_are d p) ∙ sym (atom_eq_named d p c.heads_once (as_literal a) (as_literal b) (atom_valid d p c a m) (atom_valid d p c b n))
 
   -- those in order have different names
   others_apart : (a : Atom) (more : List Atom) → list_all (atom_before a) more ≡ true → ((b : Atom) → Member (a ∷ more) b → Member atoms b) → AllByRecursion (λ n. same_name (atom_name l a) n ≡ false) (map (atom_name l) more)

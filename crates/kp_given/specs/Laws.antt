@@ -12,6 +12,8 @@ use Rattle.kp_meaning.specs.Initial.{IsInitial}
 use Rattle.kp_meaning.specs.Faults.{HasNoFault}
 use Rattle.kp_meaning.specs.Plans.{HasProblem}
 use Rattle.kp_base.specs.Implicates.{IsOfAtoms}
+use Rattle.kp_meaning.specs.Numbering.{numbered_problem}
+use Rattle.kp_init.specs.ByName.{HasNamedAtoms}
 use Rattle.kp_write.specs.Grounds.{AreOfAtoms, IsWritable}
 use Rattle.kp_given.specs.Translations.{ground_of, initial_of, start_of}
 
@@ -27,6 +29,10 @@ InitialStatesAreModels = (d : Domain Word) (p : Problem Word) → HasNoFault d p
 -- the initial formula speaks of ground atoms alone
 abbrev pub FormulasSpeakOfGroundAtoms : Type 0
 FormulasSpeakOfGroundAtoms = (d : Domain Word) (p : Problem Word) → IsOfAtoms (length (ground_of d p).atoms) (initial_of d p)
+
+-- where no name is at fault, the names of the ground atoms tell them apart
+abbrev pub NamesTellGroundAtoms : Type 0
+NamesTellGroundAtoms = (d : Domain Word) (p : Problem Word) → HasNoFault d p → HasNamedAtoms (numbered_problem d p)
 
 -- whichever ascending list is a closure of the empty tag, it is what is known at the start
 abbrev pub ClosuresAreStarts : Type 0

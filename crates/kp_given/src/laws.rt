@@ -1,6 +1,6 @@
 //! Laws of what is written for two trees, each proved as the contract of a function that does nothing.
 
-ghost use Rattle.kp_given.specs.Laws.{ClosuresAreStarts, FormulasSpeakOfGroundAtoms, GroundProblemsAreWritable, InitialStatesAreModels, StartsAreOfAtoms, StartsAreWritable};
+ghost use Rattle.kp_given.specs.Laws.{ClosuresAreStarts, FormulasSpeakOfGroundAtoms, GroundProblemsAreWritable, InitialStatesAreModels, NamesTellGroundAtoms, StartsAreOfAtoms, StartsAreWritable};
 
 /// Where no name is at fault, some state is initial exactly where the initial formula has a model.
 #[tactic(auto, using(crate::proofs::Starts::states_are_models))]
@@ -12,6 +12,11 @@ pub fn initial_states_are_models()
 #[tactic(auto, using(crate::proofs::Starts::formulas_over_atoms))]
 pub fn formulas_speak_of_ground_atoms()
     ensures { FormulasSpeakOfGroundAtoms }
+{}
+
+/// Where no name is at fault, the names of the ground atoms tell them apart.
+pub fn names_tell_ground_atoms()
+    ensures { NamesTellGroundAtoms }
 {}
 
 /// An ascending closure of the empty tag is what is known at the start.

@@ -5,5 +5,5 @@ mod laws;
 
 pub use laws::{
     closures_are_starts, formulas_speak_of_ground_atoms, ground_problems_can_be_written,
-    initial_states_are_models, starts_speak_of_ground_atoms,
+    initial_states_are_models, names_tell_ground_atoms, starts_speak_of_ground_atoms,
 };

@@ -27,6 +27,7 @@ use Rattle.kp_grounding.proofs.ExampleGrounds.{roads, three_towns, exchange, fro
 use Rattle.kp_init.specs.Initial.{initial_of}
 use Rattle.kp_init.specs.Closure.{closure, IsAscendingClosure}
 use Rattle.kp_base.specs.Implicates.{IsOfAtoms}
+use Rattle.kp_init.specs.ByName.{HasNamedAtoms}
 use Rattle.kp_init.specs.Laws.{AreModels, IsNamedRun}
 use Rattle.kp_init.proofs.Models.{initial_exact}
 use Rattle.kp_init.proofs.Runs.{initial_is_over, plan_by_name, plan_of_texts}
@@ -70,6 +71,11 @@ cells_over = record { clauses = refl; closed = refl }
 is_closure : IsAscendingClosure 3 formula_of_cells (positive 0 ∷ []) (positive 0 ∷ negative 1 ∷ negative 2 ∷ [])
 is_closure = closure_exact formula_of_cells 3 cells_over (positive 0 ∷ []) refl
 
+-- the names of the cells tell them apart
+cells_named : HasNamedAtoms (by_number cells one_of_three)
+unfolding cut_from class_of symbol_of some_at next_at
+cells_named = record { predicates = refl; objects = refl; declared = refl }
+
 -- ---- pairs in the order of the text, each clause ascending; a literal that is repeated counts once
 
 abbrev backwards : List ℕ
@@ -110,6 +116,9 @@ exchange_at_first = refl
 
 abbrev formula_of_moves : Initial
 formula_of_moves = record { clauses = (positive 0 ∷ []) ∷ []; closed = atom 1 ∷ [] }
+
+moves_named : HasNamedAtoms moves_by_number
+moves_named = record { predicates = refl; objects = refl; declared = refl }
 
 moves_at_first : initial_of moves_by_number ≡ formula_of_moves
 moves_at_first = refl

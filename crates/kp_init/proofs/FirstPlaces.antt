@@ -1,37 +1,45 @@
--- A table that notes where each atom stands first tells its number.
-use Rattle.std.proofs.Common.{◌≡◌, ℕ, ◌+◌, Bool, true, false, not, ◌||◌, if◌then◌else◌, cond, List, [], ◌∷◌, Option, Some, None, is_some, length, refl, sym, ap, ◌∙◌, arith, true≢false}
+-- A table that notes where each element of a list stands first tells the numbers of atoms and of names.
+use Rattle.std.proofs.Common.{◌≡◌, ◌<◌, ℕ, zero, suc, ◌+◌, Bool, true, false, not, ◌||◌, if◌then◌else◌, cond, List, [], ◌∷◌, Option, Some, None, is_some, length, refl, sym, ap, subst, ◌∙◌, arith, true≢false}
 use Rattle.std.specs.Option.{option_or}
 use Rattle.indexmap.specs.IndexMap.{insert_entry}
+use Rattle.kp_meaning.specs.Names.{Name, same, is_among}
+use Rattle.kp_meaning.specs.Numbering.{name_at}
+use Rattle.kp_meaning.proofs.Indexes.{Distinct, among_at}
+use Rattle.kp_meaning.proofs.Lists.{same-true, same-refl}
 use Rattle.kp_grounding.specs.declared.flat.Atom.{Atom}
 use Rattle.kp_grounding.specs.Ground.{same_atom, number_of}
-use Rattle.kp_grounding.proofs.Atoms.{same_atom-true}
 use Rattle.kp_init.specs.Initial.{is_ground}
-use Rattle.kp_init.specs.Tables.{Key, kept_atom, place_from, place_of}
+use Rattle.kp_init.specs.Tables.{place_from, place_of}
 
--- ---- one more atom
+-- ---- one more element
 
--- the place of an atom, where it is this one
-abbrev only_place : Atom → Key → ℕ → Option ℕ
-only_place a k n = if same_atom a (kept_atom k) then Some n else None
+-- a new element is told, and the others as before
+module _ {K X : Type 0} (same : X → X → Bool) (now : K → X) where
+  -- the place of x, where it is this one
+  abbrev only_place : X → K → ℕ → Option ℕ
+  only_place x k n = if same x (now k) then Some n else None
 
--- a new atom is told, and the others as before
-pub noted : (es : List (Key × ℕ)) (k : Key) (n : ℕ) → is_some (place_of es (kept_atom k)) ≡ false → (a : Atom) → place_of (insert_entry (λ i j. same_atom (kept_atom i) (kept_atom j)) es k n) a ≡ option_or (place_of es a) (only_place a k n)
-noted [] k n new a = refl
-noted (e ∷ es) k n new a = by (same_atom (kept_atom k) (kept_atom e.0)) new (λ h. noted es k n h a)
-  where
-    under : (t : Bool) (o p : Option ℕ) → o ≡ option_or p (only_place a k n) → cond t (Some e.1) o ≡ option_or (cond t (Some e.1) p) (only_place a k n)
-    under true o p h = refl
-    under false o p h = h
+  -- with a new entry
+  abbrev entered : List (K × ℕ) → K → ℕ → List (K × ℕ)
+  entered es k n = insert_entry (λ i j. same (now i) (now j)) es k n
 
-    by : (b : Bool) → is_some (cond b (Some e.1) (place_of es (kept_atom k))) ≡ false
-        → (is_some (place_of es (kept_atom k)) ≡ false → place_of (insert_entry (λ i j. same_atom (kept_atom i) (kept_atom j)) es k n) a ≡ option_or (place_of es a) (only_place a k n))
-        → place_of (if b then (e.0, n) ∷ es else e ∷ insert_entry (λ i j. same_atom (kept_atom i) (kept_atom j)) es k n) a ≡ option_or (place_of (e ∷ es) a) (only_place a k n)
-    by true h rest = absurd (true≢false h)
-    by false h rest = under (same_atom a (kept_atom e.0)) (place_of (insert_entry (λ i j. same_atom (kept_atom i) (kept_atom j)) es k n) a) (place_of es a) (rest h)
+  pub noted : (es : List (K × ℕ)) (k : K) (n : ℕ) → is_some (place_of same now es (now k)) ≡ false → (x : X) → place_of same now (entered es k n) x ≡ option_or (place_of same now es x) (only_place x k n)
+  noted [] k n new x = refl
+  noted (e ∷ es) k n new x = by (same (now k) (now e.0)) new (λ h. noted es k n h x)
+    where
+      under : (t : Bool) (o p : Option ℕ) → o ≡ option_or p (only_place x k n) → cond t (Some e.1) o ≡ option_or (cond t (Some e.1) p) (only_place x k n)
+      under true o p h = refl
+      under false o p h = h
 
--- ---- numbers
+      by : (b : Bool) → is_some (cond b (Some e.1) (place_of same now es (now k))) ≡ false
+          → (is_some (place_of same now es (now k)) ≡ false → place_of same now (entered es k n) x ≡ option_or (place_of same now es x) (only_place x k n))
+          → place_of same now (if b then (e.0, n) ∷ es else e ∷ entered es k n) x ≡ option_or (place_of same now (e ∷ es) x) (only_place x k n)
+      by true h rest = absurd (true≢false h)
+      by false h rest = under (same x (now e.0)) (place_of same now (entered es k n) x) (place_of same now es x) (rest h)
 
-first_is_number : (n : ℕ) (atoms : List Atom) (a : Atom) → place_from n atoms a ≡ (if is_ground atoms a then Some (n + number_of atoms a) else None)
+-- ---- numbers of atoms
+
+first_is_number : (n : ℕ) (atoms : List Atom) (a : Atom) → place_from same_atom n atoms a ≡ (if is_ground atoms a then Some (n + number_of atoms a) else None)
 first_is_number n [] a = refl
 first_is_number n (b ∷ more) a = by (same_atom a b) (first_is_number (n + 1) more a)
   where
@@ -39,8 +47,8 @@ first_is_number n (b ∷ more) a = by (same_atom a b) (first_is_number (n + 1) m
     behind true = let e : n + 1 + number_of more a ≡ n + (1 + number_of more a) = omega arith in ap Some e
     behind false = refl
 
-    by : (t : Bool) → place_from (n + 1) more a ≡ (if is_ground more a then Some (n + 1 + number_of more a) else None)
-        → (if t then Some n else place_from (n + 1) more a) ≡ (if t || is_ground more a then Some (n + cond (not t) (1 + number_of more a) 0) else None)
+    by : (t : Bool) → place_from same_atom (n + 1) more a ≡ (if is_ground more a then Some (n + 1 + number_of more a) else None)
+        → (if t then Some n else place_from same_atom (n + 1) more a) ≡ (if t || is_ground more a then Some (n + cond (not t) (1 + number_of more a) 0) else None)
     by true rest = let e : n ≡ n + 0 = omega arith in ap Some e
     by false rest = rest ∙ behind (is_ground more a)
 
@@ -55,7 +63,7 @@ past (b ∷ more) a h = by (same_atom a b) h (past more a)
 
 module _ (atoms : List Atom) (a : Atom) where
   -- the number that was found is the atom's
-  pub found : (n : ℕ) → place_from 0 atoms a ≡ Some n → n ≡ number_of atoms a
+  pub found : (n : ℕ) → place_from same_atom 0 atoms a ≡ Some n → n ≡ number_of atoms a
   found n h = by (is_ground atoms a) (sym (first_is_number 0 atoms a) ∙ h)
     where
       by : (t : Bool) → (if t then Some (0 + number_of atoms a) else None) ≡ Some n → n ≡ number_of atoms a
@@ -63,7 +71,7 @@ module _ (atoms : List Atom) (a : Atom) where
       by false e = cc
 
   -- and where none was, it is how many there are
-  pub not_found : place_from 0 atoms a ≡ None → length atoms ≡ number_of atoms a
+  pub not_found : place_from same_atom 0 atoms a ≡ None → length atoms ≡ number_of atoms a
   not_found h = by (is_ground atoms a) refl (sym (first_is_number 0 atoms a) ∙ h)
     where
       by : (t : Bool) → is_ground atoms a ≡ t → (if t then Some (0 + number_of atoms a) else None) ≡ None → length atoms ≡ number_of atoms a
@@ -71,9 +79,23 @@ module _ (atoms : List Atom) (a : Atom) where
       by false is e = past atoms a is
 
   -- one is found where the atom is there
-  pub found_there : is_some (place_from 0 atoms a) ≡ is_ground atoms a
+  pub found_there : is_some (place_from same_atom 0 atoms a) ≡ is_ground atoms a
   found_there = ap is_some (first_is_number 0 atoms a) ∙ by (is_ground atoms a)
     where
       by : (t : Bool) → is_some (if t then Some (0 + number_of atoms a) else None) ≡ t
       by true = refl
       by false = refl
+
+-- ---- numbers of names
+
+-- a name that stands once stands first where it stands
+pub name_found : (m : ℕ) (xs : List Name) → Distinct xs → (n : ℕ) → n < length xs → place_from same m xs (name_at xs n) ≡ Some (m + n)
+name_found m [] once n h = absurd (omega (arith, h))
+name_found m (x ∷ xs) once zero h =
+    let e : m ≡ m + 0 = omega arith in
+    ap (λ t. if t then Some m else place_from same (m + 1) xs x) (same-refl x) ∙ ap Some e
+name_found m (x ∷ xs) once (suc n) h = by (same (name_at xs n) x) refl (name_found (m + 1) xs once.1 n (omega (arith, h)))
+  where
+    by : (t : Bool) → same (name_at xs n) x ≡ t → place_from same (m + 1) xs (name_at xs n) ≡ Some (m + 1 + n) → (if t then Some m else place_from same (m + 1) xs (name_at xs n)) ≡ Some (m + suc n)
+    by true is rest = absurd (true≢false (sym (subst (λ z. is_among xs z ≡ true) (same-true (name_at xs n) x is) (among_at xs n (omega (arith, h)))) ∙ once.0))
+    by false is rest = let e : m + 1 + n ≡ m + suc n = omega arith in rest ∙ ap Some e

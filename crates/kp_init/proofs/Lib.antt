@@ -5,5 +5,6 @@ pub mod Runs
 pub mod Closure
 pub mod ExampleFormulas
 pub mod FirstPlaces
+pub mod NamesBack
 pub mod NamedAtoms
 pub mod Different

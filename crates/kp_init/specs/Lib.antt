@@ -1,4 +1,5 @@
 pub mod Initial
 pub mod Closure
 pub mod Tables
+pub mod ByName
 pub mod Laws

@@ -1,14 +1,30 @@
 -- What the tables of places and of named atoms tell. This file serves proofs alone.
-use Rattle.std.specs.Prelude.{ℕ, ◌+◌, Bool, not, ◌||◌, if◌then◌else◌, List, [], ◌∷◌, Option, Some, None, map, filter}
+use Rattle.std.specs.Prelude.{ℕ, ◌+◌, Bool, not, if◌then◌else◌, List, [], ◌∷◌, Option, Some, None, map, filter}
 use Rattle.std.specs.List.{list_any}
 use Rattle.std.specs.Map.{lookup}
 use denote.Ref.{Bor}
 use Rattle.kp_base.specs.declared.lit.AtomId.{AtomId}
 use Rattle.kp_meaning.specs.declared.lifted.Item.{Item}
+use Rattle.kp_meaning.specs.Names.{Name, same}
 use Rattle.kp_meaning.specs.Numbered.{Lifted}
 use Rattle.kp_meaning.specs.Lifted.{item_literals, is_named}
 use Rattle.kp_grounding.specs.declared.flat.Atom.{Atom}
 use Rattle.kp_grounding.specs.Ground.{atom_of, same_atom, number_of}
+
+-- ---- places
+
+-- where x stands first in a list, the first place of which has this number, by a test whether two are one
+abbrev pub place_from : {X : Type 0} → (X → X → Bool) → ℕ → List X → X → Option ℕ
+place_from same n [] x = None
+place_from same n (y ∷ more) x = if same x y then Some n else place_from same (n + 1) more x
+
+-- what a table tells of x
+abbrev pub place_of : {K X : Type 0} → (X → X → Bool) → (K → X) → List (K × ℕ) → X → Option ℕ
+place_of same now es x = lookup (λ k. same x (now k)) es
+
+-- what a table tells of a name
+abbrev pub name_place : List (Bor (List ℕ) × ℕ) → Name → Option ℕ
+name_place = place_of same (λ k. k.now)
 
 -- an atom as a table keeps it
 abbrev pub Key : Type 0
@@ -18,16 +34,9 @@ Key = ℕ × Bor (List ℕ)
 abbrev pub kept_atom : Key → Atom
 kept_atom k = record { pred = k.0; objects = k.1.now }
 
--- ---- places
-
--- where an atom stands first in a list, the first place of which has this number
-abbrev pub place_from : ℕ → List Atom → Atom → Option ℕ
-place_from n [] a = None
-place_from n (b ∷ more) a = if same_atom a b then Some n else place_from (n + 1) more a
-
 -- what a table tells of an atom
-abbrev pub place_of : List (Key × ℕ) → Atom → Option ℕ
-place_of es a = lookup (λ k. same_atom a (kept_atom k)) es
+abbrev pub atom_place : List (Key × ℕ) → Atom → Option ℕ
+atom_place = place_of same_atom kept_atom
 
 -- ---- named atoms
 

@@ -4,15 +4,19 @@
 
 mod clauses;
 mod closed;
-mod initial;
+mod formula;
 mod laws;
 mod named;
+mod numbers;
 mod one_of;
 mod places;
 
-pub use initial::initial_over;
+pub use formula::{initial, initial_over};
 pub use laws::{
     closures_are_exact, initial_formulas_speak_of_ground_atoms, models_are_initial_states,
     plans_are_runs_from_models, plans_by_name_are_runs_from_models,
     plans_of_texts_are_runs_from_models,
 };
+
+#[cfg(test)]
+mod tests;

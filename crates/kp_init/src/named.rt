@@ -29,10 +29,7 @@ fn add<'a>(atoms: &mut IndexSet<(u32, &'a [u32])>, lit: &'a GroundLit) -> Result
     Ok(())
 }
 
-fn add_all<'a>(
-    atoms: &mut IndexSet<(u32, &'a [u32])>,
-    lits: &'a [GroundLit],
-) -> Result<(), Memory>
+fn add_all<'a>(atoms: &mut IndexSet<(u32, &'a [u32])>, lits: &'a [GroundLit]) -> Result<(), Memory>
     ensures { OnOk result ((a : Told) → is_kept atoms.new.keys a ≡ (is_kept atoms.old.keys a || list_any (λ m. same_atom a (atom_of m)) lits.now)) }
 {
     for lit in lits {
@@ -45,10 +42,8 @@ fn add_item<'a>(atoms: &mut IndexSet<(u32, &'a [u32])>, item: &'a Item) -> Resul
     ensures { OnOk result ((a : Told) → is_kept atoms.new.keys a ≡ (is_kept atoms.old.keys a || names a item.now)) }
 {
     match item {
-        Item::One(lit) => add(atoms, lit),
-        Item::OneOf(lits) => add_all(atoms, lits.slice()),
-        Item::AnyOf(lits) => add_all(atoms, lits.slice()),
-        Item::Unknown(lit) => add(atoms, lit),
+        Item::One(lit) | Item::Unknown(lit) => add(atoms, lit),
+        Item::OneOf(lits) | Item::AnyOf(lits) => add_all(atoms, lits.slice()),
     }
 }
 

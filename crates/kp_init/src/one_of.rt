@@ -73,11 +73,7 @@ fn add_all_pairs(alloc: Global, lits: &[Lit], clauses: &mut Row<LitSet>) -> Resu
 }
 
 /// Adds the clauses by which exactly one of the different literals holds.
-pub fn add_exactly_one(
-    alloc: Global,
-    lits: &[Lit],
-    clauses: &mut Row<LitSet>,
-) -> Result<(), Memory>
+pub fn add_exactly_one(alloc: Global, lits: &[Lit], clauses: &mut Row<LitSet>) -> Result<(), Memory>
     ensures { OnOk result (clauses.new ≡ clauses.old ++ exactly_one lits.now) }
 {
     clauses.push(set_of(alloc, lits)?)?;

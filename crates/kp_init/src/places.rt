@@ -3,7 +3,7 @@ ghost use Rattle.std.specs.Option.{option_or};
 ghost use Rattle.kp_grounding.specs.declared.flat.Atom.{Atom as Told};
 ghost use Rattle.kp_grounding.specs.Ground.{atom_of, same_atom, number_of, numbered};
 ghost use Rattle.kp_init.specs.Initial.{is_ground};
-ghost use Rattle.kp_init.specs.Tables.{place_from, place_of};
+ghost use Rattle.kp_init.specs.Tables.{place_from, atom_place};
 
 use indexmap::IndexMap;
 use kp_base::{AtomId, Lit, Memory, Row};
@@ -18,7 +18,7 @@ pub struct Places<'a> {
     pub atoms: &'a [Atom],
     first: IndexMap<(u32, &'a [u32]), u32>,
     ghost few: { length atoms.now ≤ 4294967295 },
-    ghost first_right: { (a : Told) → place_of first.entries a ≡ place_from 0 atoms.now a },
+    ghost first_right: { (a : Told) → atom_place first.entries a ≡ place_from same_atom 0 atoms.now a },
 }
 
 // Notes where an atom stands, unless it stood before.
@@ -27,7 +27,7 @@ fn note<'a>(
     atom: &'a Atom,
     number: u32,
 ) -> Result<(), Memory>
-    ensures { OnOk result ((a : Told) → place_of first.new.entries a ≡ option_or (place_of first.old.entries a) (if same_atom a atom.now then Some number else None)) }
+    ensures { OnOk result ((a : Told) → atom_place first.new.entries a ≡ option_or (atom_place first.old.entries a) (if same_atom a atom.now then Some number else None)) }
 {
     let key = (atom.pred, atom.objects.slice());
     if !first.contains_key(&key) {
@@ -42,7 +42,7 @@ fn first_places<'a>(
     atoms: &'a [Atom],
 ) -> Result<IndexMap<(u32, &'a [u32]), u32>, Memory>
     ensures few { OnOk result (length atoms.now ≤ 4294967295) }
-    ensures first { IfOk result (λ first. (a : Told) → place_of first.entries a ≡ place_from 0 atoms.now a) }
+    ensures first { IfOk result (λ first. (a : Told) → atom_place first.entries a ≡ place_from same_atom 0 atoms.now a) }
 {
     let mut first = IndexMap::new(alloc);
     let mut number = 0u32;
@@ -64,7 +64,7 @@ impl<'a> Places<'a> {
 
     // Where an atom stands first.
     fn find(&self, pred: u32, objects: &[u32]) -> Option<u32>
-        ensures { result ≡ place_from 0 self.now.atoms.now (record { pred = pred; objects = objects.now }) }
+        ensures { result ≡ place_from same_atom 0 self.now.atoms.now (record { pred = pred; objects = objects.now }) }
     {
         self.first.get(&(pred, objects)).copied()
     }
