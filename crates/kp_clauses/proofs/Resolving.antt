@@ -1,0 +1,76 @@
+-- What is in a resolvent.
+use Rattle.std.proofs.Common.{◌≡◌, Bool, true, false, not, if◌then◌else◌, cond, List, [], ◌∷◌, ◌++◌, fold, refl, sym, ◌∙◌, ap, subst, inl, inr}
+use Rattle.std.proofs.lemmas.Bool.{false≢true, cases_Bool, not-true}
+use Rattle.std.proofs.lemmas.List.Sums.{fold-append}
+use Rattle.std.specs.List.{list_any}
+use Rattle.kp_base.specs.declared.lit.Lit.{Lit}
+use Rattle.kp_base.specs.Lists.{Member}
+use Rattle.kp_base.specs.Lit.{negated, same_lit}
+use Rattle.kp_base.specs.LitSet.{IsAscending, with_lit}
+use Rattle.kp_base.specs.Steps.{State, holds, has}
+use Rattle.kp_base.specs.Implicates.{is_within}
+use Rattle.kp_base.proofs.Lists.{any_member, any_from, all_from, member_left, member_right, append_member, filter_member, member_filter}
+use Rattle.kp_base.proofs.Lits.{has-member, same_lit-true, same_lit-refl, holds-negated}
+use Rattle.kp_base.proofs.Sets.{any-set_of, all-set_of, set_ascends}
+use Rattle.kp_clauses.specs.Resolved.{without, resolved, with_unless}
+use Rattle.kp_clauses.proofs.Logic.{not-true-case}
+use Rattle.kp_clauses.proofs.Within.{within_member}
+
+-- ---- as it is made
+
+-- the others are added as they come
+others_added : (out : Lit) (set c : List Lit) → fold (with_unless out) set c ≡ fold (λ set l. with_lit l set) set (without out c)
+others_added out set [] = refl
+others_added out set (x ∷ c) = pick (same_lit x out) (λ set. others_added out set c)
+  where
+    pick : (b : Bool) → ((set : List Lit) → fold (with_unless out) set c ≡ fold (λ set l. with_lit l set) set (without out c)) → fold (with_unless out) (if b then set else with_lit x set) c ≡ fold (λ set l. with_lit l set) set (cond (not b) (x ∷ without out c) (without out c))
+    pick true rest = rest set
+    pick false rest = rest (with_lit x set)
+
+pub resolved_steps : (c d : List Lit) (l : Lit) → fold (with_unless (negated l)) (fold (with_unless l) [] c) d ≡ resolved c d l
+resolved_steps c d l =
+    others_added (negated l) (fold (with_unless l) [] c) d
+    ∙ ap (λ set. fold (λ set l. with_lit l set) set (without (negated l) d)) (others_added l [] c)
+    ∙ sym (fold-append (λ set l. with_lit l set) [] (without l c) (without (negated l) d))
+
+-- ---- what it says
+
+-- a true literal but this one is among the rest
+without_true : (s : State) (l : Lit) (c : List Lit) → holds s l ≡ false → list_any (holds s) c ≡ true → list_any (holds s) (without l c) ≡ true
+without_true s l c off h =
+    let x = any_member (holds s) c h in
+    any_from (holds s) (without l c) x.0 (member_filter (λ x. not (same_lit x l)) c x.0 x.1 (ap not (not-true-case (same_lit x.0 l) (λ e. false≢true (sym off ∙ subst (λ (y : Lit). holds s y ≡ true) (same_lit-true x.0 l e) x.2))))) x.2
+
+both_parts : (p : Lit → Bool) (c d : List Lit) (l : Lit) (x : Lit) → Member (without l c ++ without (negated l) d) x → p x ≡ true → list_any p (resolved c d l) ≡ true
+both_parts p c d l x m h = any-set_of p (without l c ++ without (negated l) d) ∙ any_from p (without l c ++ without (negated l) d) x m h
+
+-- a resolvent holds where both clauses hold
+pub resolved_true : (s : State) (c d : List Lit) (l : Lit) → list_any (holds s) c ≡ true → list_any (holds s) d ≡ true → list_any (holds s) (resolved c d l) ≡ true
+resolved_true s c d l hc hd = elim (cases_Bool (holds s l)) [
+  | inl on ↦
+      let x = any_member (holds s) (without (negated l) d) (without_true s (negated l) d (holds-negated s l ∙ ap not on) hd) in
+      both_parts (holds s) c d l x.0 (member_right (without l c) (without (negated l) d) x.0 x.1) x.2
+  | inr off ↦
+      let x = any_member (holds s) (without l c) (without_true s l c off hc) in
+      both_parts (holds s) c d l x.0 (member_left (without l c) (without (negated l) d) x.0 x.1) x.2
+]
+
+without_within : (l : Lit) (c F : List Lit) → is_within c (l ∷ F) ≡ true → (x : Lit) → Member (without l c) x → Member F x
+without_within l c F h x m =
+    let f = filter_member (λ x. not (same_lit x l)) c x m in
+    elim (within_member c (l ∷ F) h x f.0) [
+      | inl same ↦ absurd (false≢true (sym (not-true (same_lit x l) f.1) ∙ subst (λ (y : Lit). same_lit y l ≡ true) same (same_lit-refl l)))
+      | inr in' ↦ in'
+    ]
+
+-- it is within what has the other literals
+pub resolved_within : (c d F : List Lit) (l : Lit) → is_within c (l ∷ F) ≡ true → is_within d (negated l ∷ F) ≡ true → is_within (resolved c d l) F ≡ true
+resolved_within c d F l hc hd =
+    all-set_of (has F) (without l c ++ without (negated l) d)
+    ∙ all_from (has F) (without l c ++ without (negated l) d) (λ x m. elim (append_member (without l c) (without (negated l) d) x m) [
+      | inl r ↦ has-member F x (without_within l c F hc x r)
+      | inr r ↦ has-member F x (without_within (negated l) d F hd x r)
+    ])
+
+pub resolved_ascending : (c d : List Lit) (l : Lit) → IsAscending (resolved c d l)
+resolved_ascending c d l = set_ascends (without l c ++ without (negated l) d)

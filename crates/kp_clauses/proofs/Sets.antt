@@ -1,0 +1,57 @@
+-- What literal sets say of themselves, as tests over their lists.
+use Rattle.std.proofs.Common.{◌≡◌, zero, suc, true, List, [], ◌∷◌, inl, inr, Contains, subst, refl, arith}
+use Rattle.std.proofs.lemmas.List.Elements.{recursion_from_All, All-from_recursion}
+use Rattle.std.specs.List.{AllByRecursion}
+use Rattle.kp_base.specs.declared.lit.Lit.{Lit}
+use Rattle.kp_base.specs.Lists.{Member}
+use Rattle.kp_base.specs.Lit.{negated}
+use Rattle.kp_base.specs.LitSet.{IsAscending, Within, Opposed}
+use Rattle.kp_base.specs.Steps.{has}
+use Rattle.kp_base.specs.Implicates.{is_within, is_tautology}
+use Rattle.kp_base.proofs.Lists.{any_member}
+use Rattle.kp_base.proofs.Lits.{has-member, member-has}
+use Rattle.kp_base.proofs.Ascending.{same_members}
+use Rattle.kp_clauses.proofs.Within.{within_from, within_member, tautology_from}
+
+pub contains_member : (ls : List Lit) (l : Lit) → Contains ls l → Member ls l
+contains_member [] l (k, lt, e) = absurd (omega (arith, lt))
+contains_member (x ∷ ls) l (zero, lt, e) = inl e
+contains_member (x ∷ ls) l (suc k, lt, e) = inr (contains_member ls l (k, omega (arith, lt), e))
+
+pub member_contains : (ls : List Lit) (l : Lit) → Member ls l → Contains ls l
+member_contains [] l m = absurd m
+member_contains (x ∷ ls) l (inl e) = (zero, omega arith, e)
+member_contains (x ∷ ls) l (inr m) = let r = member_contains ls l m in let lt = r.1 in (suc r.0, omega (arith, lt), r.2)
+
+pub contains_has : (ls : List Lit) (l : Lit) → Contains ls l → has ls l ≡ true
+contains_has ls l h = has-member ls l (contains_member ls l h)
+
+pub has_contains : (ls : List Lit) (l : Lit) → has ls l ≡ true → Contains ls l
+has_contains ls l h = member_contains ls l (member-has ls l h)
+
+pub members_by_recursion : {X : Type 0} (P : X → Type 0) (xs : List X) → ((x : X) → Member xs x → P x) → AllByRecursion P xs
+members_by_recursion P [] f = tt
+members_by_recursion P (x ∷ xs) f = (f x (inl refl), members_by_recursion P xs (λ y m. f y (inr m)))
+
+pub recursion_members : {X : Type 0} (P : X → Type 0) (xs : List X) → AllByRecursion P xs → (x : X) → Member xs x → P x
+recursion_members P [] a x m = absurd m
+recursion_members P (y ∷ ys) a x m = elim m [ inl e ↦ subst P e a.0 | inr r ↦ recursion_members P ys a.1 x r ]
+
+pub within_tests : (c d : List Lit) → Within c d → is_within c d ≡ true
+within_tests c d h = within_from c d (λ x m. contains_member d x (recursion_members (Contains d) c (recursion_from_All (Contains d) c h) x m))
+
+pub tests_within : (c d : List Lit) → is_within c d ≡ true → Within c d
+tests_within c d h = All-from_recursion (Contains d) c (members_by_recursion (Contains d) c (λ x m. member_contains d x (within_member c d h x m)))
+
+pub opposed_tautology : (c : List Lit) → Opposed c c → is_tautology c ≡ true
+opposed_tautology c h = tautology_from c h.1 (contains_member c h.1 (h.0, h.2, h.3)) (contains_member c (negated h.1) h.4)
+
+pub tautology_opposed : (c : List Lit) → is_tautology c ≡ true → Opposed c c
+tautology_opposed c h =
+    let x = any_member (λ l. has c (negated l)) c h in
+    let at = member_contains c x.0 x.1 in
+    (at.0, x.0, at.1, at.2, has_contains c (negated x.0) x.2)
+
+-- ascending lists with the same members are the same
+pub ascending_same : (c d : List Lit) → IsAscending c → IsAscending d → ((x : Lit) → Member c x → Member d x) → ((x : Lit) → Member d x → Member c x) → c ≡ d
+ascending_same c d p q f g = same_members c d p q (λ x h. member_contains d x (f x (contains_member c x h))) (λ x h. member_contains c x (g x (contains_member d x h)))

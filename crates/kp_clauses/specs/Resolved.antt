@@ -1,0 +1,22 @@
+-- Resolving two clauses.
+use Rattle.std.specs.Prelude.{not, List, ◌++◌, Option, Some, None, filter, if◌then◌else◌}
+use Rattle.kp_base.specs.declared.lit.Lit.{Lit}
+use Rattle.kp_base.specs.Lit.{negated, same_lit}
+use Rattle.kp_base.specs.LitSet.{with_lit, set_of}
+use Rattle.kp_base.specs.Implicates.{is_tautology}
+
+-- the clause without one literal
+abbrev pub without : Lit → List Lit → List Lit
+without l c = filter (λ x. not (same_lit x l)) c
+
+-- the literals of both clauses but l in the first and its negation in the second, as a set
+abbrev pub resolved : List Lit → List Lit → Lit → List Lit
+resolved c d l = set_of (without l c ++ without (negated l) d)
+
+-- the resolvent on a literal, unless it is a tautology
+abbrev pub resolvent_on : Lit → List Lit → List Lit → Option (List Lit)
+resolvent_on l c d = if is_tautology (resolved c d l) then None else Some (resolved c d l)
+
+-- the set with a literal, unless it is the one to be left out; for proofs alone
+abbrev pub with_unless : Lit → List Lit → Lit → List Lit
+with_unless out set l = if same_lit l out then set else with_lit l set

@@ -1,0 +1,92 @@
+ghost use Rattle.std.specs.Prelude.{◌≡◌, true, fold, IfOk, OnOk};
+ghost use Rattle.kp_base.specs.Lit.{positive, negative};
+ghost use Rattle.kp_base.specs.Steps.{has};
+ghost use Rattle.kp_base.specs.Implicates.{is_within, is_tautology};
+ghost use Rattle.kp_clauses.specs.Resolved.{with_unless, resolved, resolvent_on};
+
+use kp_base::{AtomId, Lit, LitSet, Memory};
+use std::alloc::Global;
+
+/// Whether the clause has the literal.
+pub fn has_lit(c: &LitSet, lit: Lit) -> bool
+    ensures { result ≡ has c.now lit }
+{
+    c.has(lit)
+}
+
+/// Whether each literal of the first clause is in the second.
+pub fn subsumes(c: &LitSet, d: &LitSet) -> bool
+    ensures { result ≡ is_within c.now d.now }
+{
+    c.within(d)
+}
+
+/// Whether the clause has a literal and its negation.
+pub fn is_tautology(c: &LitSet) -> bool
+    ensures { result ≡ is_tautology c.now }
+{
+    c.opposed(c)
+}
+
+// Adds a literal, unless it is the one to be left out.
+fn add_unless(set: &mut LitSet, out: Lit, lit: Lit) -> Result<(), Memory>
+    ensures { OnOk result (set.new ≡ with_unless out set.old lit) }
+{
+    if lit != out {
+        set.insert(lit)?;
+    }
+    Ok(())
+}
+
+// Adds the literals of a clause but one.
+fn add_others(set: &mut LitSet, c: &LitSet, out: Lit) -> Result<(), Memory>
+    ensures { OnOk result (set.new ≡ fold (with_unless out) set.old c.now) }
+{
+    let lits = c.slice();
+    for l in lits {
+        add_unless(set, out, *l)?;
+    }
+    Ok(())
+}
+
+// The literals of both but the literal in the first and its negation in the second.
+fn join(alloc: Global, c: &LitSet, d: &LitSet, lit: Lit) -> Result<LitSet, Memory>
+    ensures { IfOk result (λ set. set ≡ resolved c.now d.now lit) }
+{
+    let mut set = LitSet::new(alloc);
+    add_others(&mut set, c, lit)?;
+    add_others(&mut set, d, lit.negated())?;
+    Ok(set)
+}
+
+/// The resolvent of two clauses on a literal of the first whose negation is in the second. None where it is a
+/// tautology.
+pub fn resolve(alloc: Global, c: &LitSet, d: &LitSet, lit: Lit) -> Result<Option<LitSet>, Memory>
+    ensures { IfOk result (λ found. found ≡ resolvent_on lit c.now d.now) }
+{
+    let both = join(alloc, c, d, lit)?;
+    if is_tautology(&both) {
+        return Ok(None);
+    }
+    Ok(Some(both))
+}
+
+/// The resolvent of two clauses on an atom that is positive in the first and negative in the second. None where it is
+/// a tautology.
+pub fn resolvent(
+    alloc: Global,
+    c: &LitSet,
+    d: &LitSet,
+    atom: AtomId,
+) -> Result<Option<LitSet>, Memory>
+    requires positive { has c.now (positive atom.0) ≡ true }
+    requires negative { has d.now (negative atom.0) ≡ true }
+    ensures { IfOk result (λ found. found ≡ resolvent_on (positive atom.0) c.now d.now) }
+{
+    let lit = Lit {
+        atom,
+        positive: true,
+    };
+    let found = resolve(alloc, c, d, lit)?;
+    Ok(found)
+}

@@ -1,0 +1,13 @@
+pub mod Spreading
+pub mod Cover
+pub mod Ranging
+pub mod Exact
+pub mod Counting
+pub mod Lengths
+pub mod Sorting
+pub mod Asking
+pub mod Closing
+pub mod Answered
+pub mod Found
+pub mod Questions
+pub mod ExamplePrimes

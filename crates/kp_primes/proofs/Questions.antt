@@ -1,0 +1,35 @@
+-- Whole lists of prime implicates answer the questions of tags exactly.
+use Rattle.std.proofs.Common.{◌↔◌, true, not, IsTrue, List, refl, ap}
+use Rattle.std.proofs.lemmas.Bool.{and_from, not-true}
+use Rattle.std.specs.List.{list_any, list_all}
+use Rattle.kp_base.specs.declared.lit.Lit.{Lit}
+use Rattle.kp_base.specs.Lists.{Member}
+use Rattle.kp_base.specs.Steps.{holds, is_model}
+use Rattle.kp_base.specs.Entailed.{Entails, IsConsistent}
+use Rattle.kp_base.specs.Implicates.{IsPrime}
+use Rattle.kp_clauses.proofs.Logic.{not-true-case}
+use Rattle.kp_primes.specs.Asked.{inconsistent, entailed_by}
+use Rattle.kp_primes.specs.Held.{Held, formula, AreWhole}
+use Rattle.kp_primes.proofs.Cover.{IsCover}
+use Rattle.kp_primes.proofs.Asking.{met_somewhere, met_nowhere, entailed_exact}
+
+-- they are a cover of their own models
+own_cover : (h : Held) → AreWhole h → IsCover (is_model (formula h)) h.clauses
+own_cover h whole = record {
+  each = λ c m. let p = prime c m in record { proper = p.implicate.proper; set = p.ascending; sound = p.implicate.holds_always };
+  covers = λ d proper follows. whole.covers d (record { proper = proper; holds_always = follows });
+}
+  where
+    prime : (c : List Lit) → Member h.clauses c → IsPrime (formula h) c
+    prime c m = (whole.primes.primes.exact c).0 m
+
+pub consistent_exact : (h : Held) → AreWhole h → (tag : List Lit) → IsTrue (not (inconsistent h.clauses tag)) ↔ IsConsistent (formula h) tag
+consistent_exact h whole tag = (
+  λ yes.
+      let found = met_somewhere (is_model (formula h)) h.clauses (own_cover h whole) h.atoms whole.of_atoms.clauses tag (not-true (inconsistent h.clauses tag) yes) in
+      record { state = found.0; model = and_from (list_all (list_any (holds found.0)) h.clauses) true found.1 refl; all_true = found.2 },
+  λ met. ap not (not-true-case (inconsistent h.clauses tag) (λ none. met_nowhere (is_model (formula h)) h.clauses (own_cover h whole) tag none met.state met.model met.all_true)),
+)
+
+pub entails_exact : (h : Held) → AreWhole h → (tag : List Lit) (l : Lit) → IsTrue (entailed_by h.clauses tag l) ↔ Entails (formula h) tag l
+entails_exact h whole tag l = entailed_exact (is_model (formula h)) h.clauses (own_cover h whole) tag l

@@ -1,0 +1,85 @@
+-- Clauses that are put one after another into a store of prime implicates. This file serves proofs alone.
+use Rattle.std.specs.Prelude.{◌≡◌, ℕ, Bool, not, ◌||◌, ◌&&◌, cond, List, [], ◌∷◌, ◌≤◌, ◌<◌, take, length}
+use Rattle.kp_base.specs.declared.lit.Lit.{Lit}
+use Rattle.kp_base.specs.declared.lit.AtomId.{AtomId}
+use Rattle.kp_base.specs.declared.refused.Stop.{Stop}
+use Rattle.kp_base.specs.declared.refused.Stop.TheVariants as stops
+use Rattle.kp_base.specs.declared.refused.Refused.{Refused}
+use Rattle.kp_base.specs.declared.refused.Refused.TheVariants as refusals
+use Rattle.kp_base.specs.Lists.{Member}
+use Rattle.kp_base.specs.Lit.{negated, negative}
+use Rattle.kp_base.specs.LitSet.{IsAscending}
+use Rattle.kp_base.specs.Steps.{has}
+use Rattle.kp_base.specs.Implicates.{is_tautology}
+use Rattle.kp_clauses.specs.Resolved.{resolved}
+use Rattle.kp_clauses.specs.Stored.{subsumed, with_clause, with_all}
+
+-- ---- one clause
+
+-- a new clause is resolved with a prime implicate that has the literal's negation
+abbrev pub met : List (List Lit) → List Lit → Lit → List Lit → List (List Lit) → List (List Lit)
+met ps e l p fs = cond (has p (negated l) && not (is_tautology (resolved e p l) || subsumed ps (resolved e p l))) (with_clause fs (resolved e p l)) fs
+
+-- and with each of these
+abbrev pub met_all : List (List Lit) → List Lit → Lit → List (List Lit) → List (List Lit) → List (List Lit)
+met_all ps e l [] fs = fs
+met_all ps e l (p ∷ rest) fs = met_all ps e l rest (met ps e l p fs)
+
+-- each new clause that has the literal with each prime implicate
+abbrev pub spread : List (List Lit) → Lit → List (List Lit) → List (List Lit) → List (List Lit)
+spread ps l [] fs = fs
+spread ps l (e ∷ es) fs = spread ps l es (cond (has e l) (met_all ps e l ps fs) fs)
+
+-- the new clauses, resolved on a literal
+abbrev pub stepped : List (List Lit) → Lit → List (List Lit) → List (List Lit)
+stepped ps l es = with_all es (spread ps l es [])
+
+-- literal by literal
+abbrev pub walked : List (List Lit) → List Lit → List (List Lit) → List (List Lit)
+walked ps [] es = es
+walked ps (l ∷ ls) es = walked ps ls (stepped ps l es)
+
+-- the clause brings nothing new
+abbrev pub idle : List (List Lit) → List Lit → Bool
+idle ps c = is_tautology c || subsumed ps c
+
+-- the prime implicates with one clause more
+abbrev pub included : List (List Lit) → List Lit → List (List Lit)
+included ps c = cond (idle ps c) ps (with_all ps (walked ps c (c ∷ [])))
+
+-- with each of these clauses in turn
+abbrev pub all_included : List (List Lit) → List (List Lit) → List (List Lit)
+all_included ps [] = ps
+all_included ps (c ∷ cs) = all_included (included ps c) cs
+
+-- the clause that an atom is false
+abbrev pub unit_of : AtomId → List Lit
+unit_of p = negative p.0 ∷ []
+
+-- ---- all clauses
+
+-- each clause is in order
+abbrev pub AreSets : List (List Lit) → Type 0
+AreSets cs = (c : List Lit) → Member cs c → IsAscending c
+
+-- after k clauses, of which none of the first j gave more than the limit
+pub record AreCounted (cs : List (List Lit)) (limit k : ℕ) (ps : List (List Lit)) : Type 0 where
+  pub so_far : ps ≡ all_included [] (take k cs)
+  pub sets : AreSets (take k cs)
+  pub within_limit : (j : ℕ) → j ≤ k → length (all_included [] (take j cs)) ≤ limit
+
+-- the first k give more, and no fewer do
+pub record IsPassedAt (cs : List (List Lit)) (limit k : ℕ) : Type 0 where
+  pub there : k ≤ length cs
+  pub sets : AreSets (take k cs)
+  pub over : limit < length (all_included [] (take k cs))
+  pub before : (j : ℕ) → j < k → length (all_included [] (take j cs)) ≤ limit
+
+-- such a refusal, before the closed atoms
+pub data RefusesPrefix (cs : List (List Lit)) (limit : ℕ) : Refused → Type 0 where
+  passed_at : (k : ℕ) → IsPassedAt cs limit k → RefusesPrefix cs limit (refusals.ImplicatesOver k)
+
+-- what stops a build before the closed atoms: that the limit is passed, or want of memory
+abbrev pub StopsPrefix : List (List Lit) → ℕ → Stop → Type 0
+StopsPrefix cs limit (stops.Refused r) = RefusesPrefix cs limit r
+StopsPrefix cs limit stops.Memory = Unit {0}

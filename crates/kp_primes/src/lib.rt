@@ -1,0 +1,17 @@
+//! The prime implicates of an initial formula, and what they say of tags.
+//! `AnswersPrimes` and `AnswersClosure` in `specs/Answers.antt` say what is built and answered.
+#![tactic(auto)]
+
+mod ask;
+mod build;
+mod include;
+mod laws;
+mod primes;
+mod range;
+
+pub use laws::limits_are_exact;
+pub use primes::Primes;
+pub use range::is_of_atoms;
+
+#[cfg(test)]
+mod tests;

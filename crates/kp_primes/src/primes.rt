@@ -1,0 +1,101 @@
+ghost use Rattle.std.specs.Prelude.{◌≡◌, ◌↔◌, true, IsTrue, IfOk};
+ghost use Rattle.kp_base.specs.Entailed.{Entails, IsConsistent, IsClosure};
+ghost use Rattle.kp_base.specs.Implicates.{IsOfAtoms, ArePrimes};
+ghost use Rattle.kp_primes.specs.Held.{formula, AreWhole};
+ghost use Rattle.kp_primes.specs.Answers.{AnswersPrimes, AnswersClosure};
+
+use crate::ask::{add_atom, is_entailed, is_inconsistent};
+use crate::build::{has_empty, in_order, include_all, include_closed};
+use kp_base::{AtomId, Initial, Lit, LitSet, Memory, Refused, Row, Stop};
+use kp_clauses::Store;
+use std::alloc::Global;
+use std::marker::Model;
+
+/// All prime implicates of an initial formula that has a model. Contracts see the number of atoms and the list of
+/// clauses; where they take no formula, the initial states are the states that satisfy the clauses.
+#[derive(Debug, Drop)]
+pub struct Primes {
+    atoms: u32,
+    clauses: Row<LitSet>,
+}
+
+impl Model for Primes {
+    ghost use Rattle.kp_primes.specs.Held.{Held, AreWhole};
+
+    ghost Value = { Held };
+
+    ghost view = { λ p. record { atoms = p.atoms; clauses = p.clauses } };
+
+    ghost invariant = { λ p. AreWhole (record { atoms = p.atoms; clauses = p.clauses }) };
+}
+
+impl Primes {
+    /// The prime implicates of an initial formula over so many atoms: of its clauses, and of its closed atoms, which
+    /// are false.
+    ///
+    /// Refused `ImplicatesOver` at the least number of first clauses that, without the closed atoms, have more prime
+    /// implicates than the limit; a list of clauses without a model has one, the empty clause. Else refused
+    /// `NoInitialState` where the formula has no model.
+    pub fn build(alloc: Global, initial: &Initial, atoms: u32, limit: u32) -> Result<Primes, Stop>
+        requires { IsOfAtoms atoms initial.now }
+        ensures { AnswersPrimes initial.now atoms limit result }
+    {
+        let mut store = Store::new(alloc);
+        include_all(alloc, &mut store, initial.clauses.slice(), limit)?;
+        include_closed(alloc, &mut store, initial.closed.slice())?;
+        if has_empty(alloc, &store) {
+            return Err(Stop::Refused(Refused::NoInitialState));
+        }
+        let clauses = in_order(store.into_clauses())?;
+        Ok(Primes {
+            atoms,
+            clauses: Row::from_vec(clauses),
+        })
+    }
+
+    /// The prime implicates, in order: by the codes of their literals, the first difference deciding.
+    pub fn clauses(&self) -> &Row<LitSet>
+        ensures value { result.now ≡ self.now.clauses }
+        ensures whole { AreWhole self.now }
+    {
+        &self.clauses
+    }
+
+    /// Whether some initial state satisfies the tag.
+    pub fn consistent(&self, tag: &LitSet) -> bool
+        ensures { IsTrue result ↔ IsConsistent (formula self.now) tag.now }
+    {
+        !is_inconsistent(self.clauses.slice(), tag)
+    }
+
+    /// Whether each initial state that satisfies the tag satisfies the literal.
+    pub fn entails(&self, tag: &LitSet, lit: Lit) -> bool
+        ensures { IsTrue result ↔ Entails (formula self.now) tag.now lit }
+    {
+        is_entailed(self.clauses.slice(), tag, lit)
+    }
+
+    /// The literals of the atoms that hold in each initial state that satisfies the tag. None where there is no such
+    /// state.
+    pub fn closure(&self, alloc: Global, tag: &LitSet) -> Result<Option<LitSet>, Memory>
+        ensures { IfOk result (AnswersClosure self.now tag.now) }
+    {
+        if !self.consistent(tag) {
+            return Ok(None);
+        }
+        let set = self.all_entailed(alloc, tag)?;
+        Ok(Some(set))
+    }
+
+    // The literals of the atoms that are entailed.
+    fn all_entailed(&self, alloc: Global, tag: &LitSet) -> Result<LitSet, Memory>
+        ensures { IfOk result (IsClosure self.now.atoms (formula self.now) tag.now) }
+    {
+        let clauses = self.clauses.slice();
+        let mut set = LitSet::new(alloc);
+        for p in 0..self.atoms {
+            add_atom(&mut set, clauses, tag, AtomId(p))?;
+        }
+        Ok(set)
+    }
+}

@@ -1,0 +1,33 @@
+ghost use Rattle.std.specs.Prelude.{◌≡◌, ◌↔◌, IsTrue, nat_lt};
+ghost use Rattle.std.specs.List.{list_all};
+ghost use Rattle.kp_base.specs.Implicates.{IsOfAtoms};
+
+use kp_base::{AtomId, Initial, LitSet};
+
+// Whether each literal is of one of the first atoms.
+fn is_below(c: &LitSet, atoms: u32) -> bool
+    ensures { result ≡ list_all (λ l. nat_lt l.atom.0 atoms) c.now }
+{
+    c.slice().iter().all(|l| l.atom.0 < atoms)
+}
+
+// Whether each literal of the clauses is.
+fn are_below(clauses: &[LitSet], atoms: u32) -> bool
+    ensures { result ≡ list_all (λ c. list_all (λ l. nat_lt l.atom.0 atoms) c) clauses.now }
+{
+    clauses.iter().all(|c| is_below(c, atoms))
+}
+
+// Whether each atom is one of the first.
+fn are_first(closed: &[AtomId], atoms: u32) -> bool
+    ensures { result ≡ list_all (λ p. nat_lt p.0 atoms) closed.now }
+{
+    closed.iter().all(|p| p.0 < atoms)
+}
+
+/// Whether the formula speaks of atoms below this number alone, as `Primes::build` asks.
+pub fn is_of_atoms(initial: &Initial, atoms: u32) -> bool
+    ensures { IsTrue result ↔ IsOfAtoms atoms initial.now }
+{
+    are_below(initial.clauses.slice(), atoms) && are_first(initial.closed.slice(), atoms)
+}

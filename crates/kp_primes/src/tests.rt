@@ -1,0 +1,102 @@
+use crate::{Primes, is_of_atoms};
+use kp_base::{AtomId, Initial, Lit, LitSet, Memory, Refused, Row, Stop};
+use std::alloc::Global;
+use std::test::Fail;
+
+fn clause(alloc: Global, lits: &[(u32, bool)]) -> Result<LitSet, Memory> {
+    let mut set = LitSet::new(alloc);
+    for (number, positive) in lits {
+        set.insert(Lit {
+            atom: AtomId(*number),
+            positive: *positive,
+        })?;
+    }
+    Ok(set)
+}
+
+fn formula(alloc: Global, clauses: &[&[(u32, bool)]], closed: &[u32]) -> Result<Initial, Memory> {
+    let mut initial = Initial {
+        clauses: Row::new(alloc),
+        closed: Row::new(alloc),
+    };
+    for lits in clauses {
+        initial.clauses.push(clause(alloc, lits)?)?;
+    }
+    for atom in closed {
+        initial.closed.push(AtomId(*atom))?;
+    }
+    Ok(initial)
+}
+
+fn build(
+    alloc: Global,
+    clauses: &[&[(u32, bool)]],
+    closed: &[u32],
+    limit: u32,
+) -> Result<Primes, Stop> {
+    let initial = formula(alloc, clauses, closed)?;
+    if !is_of_atoms(&initial, 3) {
+        return Err(Stop::Memory);
+    }
+    let primes = Primes::build(alloc, &initial, 3, limit)?;
+    Ok(primes)
+}
+
+// Exactly one of the atoms 0, 1 and 2.
+const ONE_OF_THREE: [&[(u32, bool)]; 4] = [
+    &[(0, true), (1, true), (2, true)],
+    &[(0, false), (1, false)],
+    &[(0, false), (2, false)],
+    &[(1, false), (2, false)],
+];
+
+#[test]
+fn closes_tags(rt: HostRuntime) -> Result<(), Fail> {
+    let alloc = rt.alloc();
+    let Ok(primes) = build(alloc, &ONE_OF_THREE, &[], 100) else {
+        assert!(rt; false, "exactly one of three is refused");
+        return Ok(());
+    };
+    let first = clause(alloc, &[(0, true)])?;
+    let wanted = clause(alloc, &[(0, true), (1, false), (2, false)])?;
+    assert!(rt; primes.closure(alloc, &first)? == Some(wanted));
+    let both = clause(alloc, &[(0, true), (1, true)])?;
+    assert!(rt; primes.closure(alloc, &both)? == None);
+    assert!(rt; primes.consistent(&first) && !primes.consistent(&both));
+    assert_eq!(rt; primes.clauses().len(), 4);
+    Ok(())
+}
+
+#[test]
+fn counts_the_prime_implicates(rt: HostRuntime) -> Result<(), Fail> {
+    let alloc = rt.alloc();
+    let clauses: [&[(u32, bool)]; 2] = [&[(0, true), (1, true)], &[(0, false), (2, true)]];
+    // The resolvent is a third.
+    let refused = build(alloc, &clauses, &[], 2);
+    assert!(rt;
+        matches!(
+            refused,
+            Err(Stop::Refused(Refused::ImplicatesOver { prefix: 2 }))
+        )
+    );
+    assert!(rt; build(alloc, &clauses, &[], 3).is_ok());
+    Ok(())
+}
+
+#[test]
+fn finds_no_initial_state(rt: HostRuntime) -> Result<(), Fail> {
+    let alloc = rt.alloc();
+    let clauses: [&[(u32, bool)]; 1] = [&[(0, true), (1, true)]];
+    let refused = build(alloc, &clauses, &[0, 1], 1);
+    assert!(rt; matches!(refused, Err(Stop::Refused(Refused::NoInitialState))));
+    let Ok(primes) = build(alloc, &clauses, &[0], 1) else {
+        assert!(rt; false, "one atom of two is refused");
+        return Ok(());
+    };
+    let second = Lit {
+        atom: AtomId(1),
+        positive: true,
+    };
+    assert!(rt; primes.entails(&LitSet::new(alloc), second));
+    Ok(())
+}
