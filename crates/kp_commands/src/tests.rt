@@ -59,7 +59,15 @@ pub fn translate_words(
     problem_out: &str,
 ) -> Result<Vec<Vec<u8>>, AllocError> {
     let mut words = Vec::new(alloc);
-    let front = ["translate", "d", "p", domain_out, problem_out, "--mode", "k0"];
+    let front = [
+        "translate",
+        "d",
+        "p",
+        domain_out,
+        problem_out,
+        "--mode",
+        "k0",
+    ];
     push_all(alloc, &mut words, front.as_slice())?;
     Ok(words)
 }

@@ -107,13 +107,13 @@ module _ (limit : ℕ) (l : Numbers) (g : Ground) (is : g ≡ by_number.ground_o
   -- none does
   pub done_ends : (t : Translation) (start : List Lit) → HasNoClash no_pairs g → AnswersClosure h [] (Some start) → IsAscending start → t ≡ texts.translation_of g start → EndsBy limit l (reports.Done t)
   done_ends t start none answers up own = by_translation t counted (subst (HasNoClash no_pairs) is none) (record {
-      start = start;
-      closure = record {
-        closure = same_closure (length (by_number.ground_of l).atoms) (formula h) (initial_of l) [] start holds.same_models (subst (λ n. IsClosure n (formula h) [] start) (holds.atoms_are ∙ ap (λ (x : Ground). length x.atoms) is) answers.1);
-        ascending = up;
-      };
-      translation = own ∙ ap (λ (x : Ground). texts.translation_of x start) is;
-    })
+    start = start;
+    closure = record {
+      closure = same_closure (length (by_number.ground_of l).atoms) (formula h) (initial_of l) [] start holds.same_models (subst (λ n. IsClosure n (formula h) [] start) (holds.atoms_are ∙ ap (λ (x : Ground). length x.atoms) is) answers.1);
+      ascending = up;
+    };
+    translation = own ∙ ap (λ (x : Ground). texts.translation_of x start) is;
+  })
 
 -- ---- two trees
 

@@ -195,10 +195,10 @@ one_set _ x e c m = go c (subst (λ cs. Member cs c) e m)
 
 few_primes : (i : Initial) (x : Lit) → i.clauses ≡ (x ∷ []) ∷ [] → length (all_included [] ((x ∷ []) ∷ [])) ≤ 1 → IsNeverOver i 20000
 few_primes i x e short = never_over i 20000 (all_included [] (take (length i.clauses) i.clauses)) (record {
-    so_far = refl;
-    sets = λ c m. one_set (take (length i.clauses) i.clauses) x (ap (λ (cs : List (List Lit)). take (length cs) cs) e) c m;
-    within_limit = λ j le. subst (λ (cs : List (List Lit)). length (all_included [] (take j cs)) ≤ 20000) (sym e) (at j);
-  })
+  so_far = refl;
+  sets = λ c m. one_set (take (length i.clauses) i.clauses) x (ap (λ (cs : List (List Lit)). take (length cs) cs) e) c m;
+  within_limit = λ j le. subst (λ (cs : List (List Lit)). length (all_included [] (take j cs)) ≤ 20000) (sym e) (at j);
+})
   where
     at : (j : ℕ) → length (all_included [] (take j ((x ∷ []) ∷ []))) ≤ 20000
     at zero = omega arith
@@ -420,12 +420,12 @@ second_is_over = go (prefix_stops (initial_of exchange_tree p_and_q_tree) 2 1 (s
 over_results : IsResult with_limit (holding exchange p_and_q) (prints (status.Refused (refusals.ImplicatesOver 2)) (codes "refused 11 ImplicatesOver\nprefix 2\n"))
 unfolding digits
 over_results = refused limited (refusals.ImplicatesOver 2) is_limited tt (record {
-    domain = exchange;
-    problem = p_and_q;
-    domain_held = domain_held exchange p_and_q;
-    problem_held = problem_held exchange p_and_q;
-    answers = on_trees exchange_tree p_and_q_tree _ p_and_q_trees (implicates_over 2 (is_small (numbered_problem exchange_tree p_and_q_tree) refl refl refl refl) second_is_over);
-  })
+  domain = exchange;
+  problem = p_and_q;
+  domain_held = domain_held exchange p_and_q;
+  problem_held = problem_held exchange p_and_q;
+  answers = on_trees exchange_tree p_and_q_tree _ p_and_q_trees (implicates_over 2 (is_small (numbered_problem exchange_tree p_and_q_tree) refl refl refl refl) second_is_over);
+})
 
 -- ---- an `unknown`
 
@@ -455,10 +455,10 @@ half_known_model = refl
 
 half_known_done : AnswersTrees 20000 exchange_tree half_known_tree status.Done
 half_known_done = done (record {
-    small = is_small (numbered_problem exchange_tree half_known_tree) refl refl refl refl;
-    counted = half_known_few;
-    initial = has_state exchange_tree half_known_tree half_known_trees.no_fault only_p half_known_model;
-  }) (none_clashes (ground_of exchange_tree half_known_tree) None (found (ground_of exchange_tree half_known_tree) None refl))
+  small = is_small (numbered_problem exchange_tree half_known_tree) refl refl refl refl;
+  counted = half_known_few;
+  initial = has_state exchange_tree half_known_tree half_known_trees.no_fault only_p half_known_model;
+}) (none_clashes (ground_of exchange_tree half_known_tree) None (found (ground_of exchange_tree half_known_tree) None refl))
 
 half_known_results : IsResult words (holding exchange half_known) (translates command (translation_of exchange_tree half_known_tree))
 half_known_results = translated command exchange_tree half_known_tree is_command (holds_trees exchange half_known exchange_tree half_known_tree half_known_trees) half_known_done

@@ -104,12 +104,7 @@ fn on_problem(alloc: Global, lifted: &Lifted, limit: u32) -> Result<Report, Memo
 
 /// The report on the contents of the two files, at most 16,777,216 bytes of each of which were read, with a limit of
 /// prime implicates.
-pub fn report_on(
-    alloc: Global,
-    domain: Got,
-    problem: Got,
-    limit: u32,
-) -> Result<Report, Memory>
+pub fn report_on(alloc: Global, domain: Got, problem: Got, limit: u32) -> Result<Report, Memory>
     requires domain { IsWithin 16777216 domain }
     requires problem { IsWithin 16777216 problem }
     ensures answers { (d p : List ℕ) → IsFront (Some d) 16777216 domain → IsFront (Some p) 16777216 problem → IfOk result (λ r. Answers limit d p (status_of r)) }

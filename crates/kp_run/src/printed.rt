@@ -113,7 +113,11 @@ pub fn refusal(alloc: Global, refused: &Refused) -> Result<Row<u8>, Memory>
         Refused::AtomsOver => row_of(alloc, "refused 9 AtomsOver\n"),
         Refused::ActionsOver => row_of(alloc, "refused 10 ActionsOver\n"),
         Refused::EffectsOver => row_of(alloc, "refused 10 EffectsOver\n"),
-        Refused::ImplicatesOver { prefix } => of_prefix(alloc, "refused 11 ImplicatesOver\n", *prefix),
+        Refused::ImplicatesOver { prefix } => of_prefix(
+            alloc,
+            "refused 11 ImplicatesOver\n",
+            *prefix,
+        ),
         Refused::NoInitialState => row_of(alloc, "refused 12 NoInitialState\n"),
         _ => Ok(Row::new(alloc)),
     }
