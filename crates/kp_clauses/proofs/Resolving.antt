@@ -1,6 +1,6 @@
 -- What is in a resolvent.
-use Rattle.std.proofs.Common.{◌≡◌, Bool, true, false, not, if◌then◌else◌, cond, List, [], ◌∷◌, ◌++◌, fold, refl, sym, ◌∙◌, ap, subst, inl, inr}
-use Rattle.std.proofs.lemmas.Bool.{false≢true, cases_Bool, not-true}
+use Rattle.std.proofs.Common.{◌≡◌, Bool, true, false, not, ◌&&◌, if◌then◌else◌, cond, List, [], ◌∷◌, ◌++◌, fold, refl, sym, ◌∙◌, ap, subst, inl, inr}
+use Rattle.std.proofs.lemmas.Bool.{and_parts, false≢true, cases_Bool, not-true}
 use Rattle.std.proofs.lemmas.List.Sums.{fold-append}
 use Rattle.std.specs.List.{list_any}
 use Rattle.kp_base.specs.declared.lit.Lit.{Lit}
@@ -8,13 +8,13 @@ use Rattle.kp_base.specs.Lists.{Member}
 use Rattle.kp_base.specs.Lit.{negated, same_lit}
 use Rattle.kp_base.specs.LitSet.{IsAscending, with_lit}
 use Rattle.kp_base.specs.Steps.{State, holds, has}
-use Rattle.kp_base.specs.Implicates.{is_within}
+use Rattle.kp_base.specs.Implicates.{is_within, is_tautology}
 use Rattle.kp_base.proofs.Lists.{any_member, any_from, all_from, member_left, member_right, append_member, filter_member, member_filter}
-use Rattle.kp_base.proofs.Lits.{has-member, same_lit-true, same_lit-refl, holds-negated}
+use Rattle.kp_base.proofs.Lits.{has-member, member-has, same_lit-true, same_lit-refl, negated-negated, holds-negated}
 use Rattle.kp_base.proofs.Sets.{any-set_of, all-set_of, set_ascends}
-use Rattle.kp_clauses.specs.Resolved.{without, resolved, with_unless}
+use Rattle.kp_clauses.specs.Resolved.{without, resolved, with_unless, opposed_elsewhere}
 use Rattle.kp_clauses.proofs.Logic.{not-true-case}
-use Rattle.kp_clauses.proofs.Within.{within_member}
+use Rattle.kp_clauses.proofs.Within.{within_member, tautology_from}
 
 -- ---- as it is made
 
@@ -74,3 +74,18 @@ resolved_within c d F l hc hd =
 
 pub resolved_ascending : (c d : List Lit) (l : Lit) → IsAscending (resolved c d l)
 resolved_ascending c d l = set_ascends (without l c ++ without (negated l) d)
+
+-- ---- tautologies that need not be made
+
+not_negated : (x l : Lit) → not (same_lit x l) ≡ true → not (same_lit (negated x) (negated l)) ≡ true
+not_negated x l h = ap not (not-true-case (same_lit (negated x) (negated l)) (λ e.
+    let back : x ≡ l = sym (negated-negated x) ∙ (ap negated (same_lit-true (negated x) (negated l) e) ∙ negated-negated l) in
+    false≢true (sym (not-true (same_lit x l) h) ∙ subst (λ (y : Lit). same_lit x y ≡ true) back (same_lit-refl x))))
+
+pub opposed_tautology : (c d : List Lit) (l : Lit) → opposed_elsewhere c d l ≡ true → is_tautology (resolved c d l) ≡ true
+opposed_tautology c d l h =
+    let x = any_member (λ x. not (same_lit x l) && has d (negated x)) c h in
+    let parts = and_parts (not (same_lit x.0 l)) (has d (negated x.0)) x.2 in
+    let here : Member (without l c ++ without (negated l) d) x.0 = member_left (without l c) (without (negated l) d) x.0 (member_filter (λ x. not (same_lit x l)) c x.0 x.1 parts.0) in
+    let there : Member (without l c ++ without (negated l) d) (negated x.0) = member_right (without l c) (without (negated l) d) (negated x.0) (member_filter (λ x. not (same_lit x (negated l))) d (negated x.0) (member-has d (negated x.0) parts.1) (not_negated x.0 l parts.0)) in
+    tautology_from (resolved c d l) x.0 (member-has (resolved c d l) x.0 (both_parts (same_lit x.0) c d l x.0 here (same_lit-refl x.0))) (member-has (resolved c d l) (negated x.0) (both_parts (same_lit (negated x.0)) c d l (negated x.0) there (same_lit-refl (negated x.0))))

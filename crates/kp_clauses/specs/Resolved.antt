@@ -1,8 +1,10 @@
 -- Resolving two clauses.
-use Rattle.std.specs.Prelude.{not, List, ◌++◌, Option, Some, None, filter, if◌then◌else◌}
+use Rattle.std.specs.Prelude.{Bool, not, ◌&&◌, List, ◌++◌, Option, Some, None, filter, if◌then◌else◌}
+use Rattle.std.specs.List.{list_any}
 use Rattle.kp_base.specs.declared.lit.Lit.{Lit}
 use Rattle.kp_base.specs.Lit.{negated, same_lit}
 use Rattle.kp_base.specs.LitSet.{with_lit, set_of}
+use Rattle.kp_base.specs.Steps.{has}
 use Rattle.kp_base.specs.Implicates.{is_tautology}
 
 -- the clause without one literal
@@ -20,3 +22,7 @@ resolvent_on l c d = if is_tautology (resolved c d l) then None else Some (resol
 -- the set with a literal, unless it is the one to be left out; for proofs alone
 abbrev pub with_unless : Lit → List Lit → Lit → List Lit
 with_unless out set l = if same_lit l out then set else with_lit l set
+
+-- another literal of the first clause has its negation in the second; for proofs alone
+abbrev pub opposed_elsewhere : List Lit → List Lit → Lit → Bool
+opposed_elsewhere c d l = list_any (λ x. not (same_lit x l) && has d (negated x)) c

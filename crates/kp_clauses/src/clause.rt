@@ -1,8 +1,8 @@
-ghost use Rattle.std.specs.Prelude.{◌≡◌, true, fold, IfOk, OnOk};
+ghost use Rattle.std.specs.Prelude.{◌≡◌, IsTrue, true, false, fold, IfOk, OnOk};
 ghost use Rattle.kp_base.specs.Lit.{positive, negative};
 ghost use Rattle.kp_base.specs.Steps.{has};
 ghost use Rattle.kp_base.specs.Implicates.{is_within, is_tautology};
-ghost use Rattle.kp_clauses.specs.Resolved.{with_unless, resolved, resolvent_on};
+ghost use Rattle.kp_clauses.specs.Resolved.{with_unless, opposed_elsewhere, resolved, resolvent_on};
 
 use kp_base::{AtomId, Lit, LitSet, Memory};
 use std::alloc::Global;
@@ -14,10 +14,24 @@ pub fn has_lit(c: &LitSet, lit: Lit) -> bool
     c.has(lit)
 }
 
+// Whether the first clause begins before the second, and so isn't within it.
+fn begins_before(c: &LitSet, d: &LitSet) -> bool
+    ensures { IsTrue result → is_within c.now d.now ≡ false }
+{
+    match (c.slice().first(), d.slice().first()) {
+        (Some(x), Some(y)) => x.code() < y.code(),
+        _ => false,
+    }
+}
+
 /// Whether each literal of the first clause is in the second.
 pub fn subsumes(c: &LitSet, d: &LitSet) -> bool
     ensures { result ≡ is_within c.now d.now }
 {
+    // Most pairs of clauses are told apart by their first literals.
+    if begins_before(c, d) {
+        return false;
+    }
     c.within(d)
 }
 
@@ -59,11 +73,25 @@ fn join(alloc: Global, c: &LitSet, d: &LitSet, lit: Lit) -> Result<LitSet, Memor
     Ok(set)
 }
 
+// Whether another literal of the first clause has its negation in the second.
+fn opposed_elsewhere(c: &LitSet, d: &LitSet, lit: Lit) -> bool
+    ensures { result ≡ opposed_elsewhere c.now d.now lit }
+{
+    c.slice()
+        .iter()
+        .any(|x| *x != lit && has_lit(d, x.negated()))
+}
+
 /// The resolvent of two clauses on a literal of the first whose negation is in the second. None where it is a
 /// tautology.
+#[tactic(auto, using(crate::proofs::Resolving::opposed_tautology))]
 pub fn resolve(alloc: Global, c: &LitSet, d: &LitSet, lit: Lit) -> Result<Option<LitSet>, Memory>
     ensures { IfOk result (λ found. found ≡ resolvent_on lit c.now d.now) }
 {
+    // Most resolvents are tautologies, and these need not be made.
+    if opposed_elsewhere(c, d, lit) {
+        return Ok(None);
+    }
     let both = join(alloc, c, d, lit)?;
     if is_tautology(&both) {
         return Ok(None);
