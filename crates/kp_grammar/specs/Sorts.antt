@@ -2,7 +2,7 @@
 use Rattle.std.specs.Prelude.{List, [], ◌∷◌, Bool, map}
 use Rattle.std.specs.List.{flat_map}
 use Rattle.kp_grammar.specs.declared.symbol.Symbol.{Symbol}
-use Rattle.kp_grammar.specs.Trees.{Typed, Term, name, variable, Atom, Cond, conds_of, Eff, effs_of, Lit, Item, items_of, Pred, Schema, Domain, Problem, Section, section_types, section_constants, section_predicates, section_schemas, Given, given_objects, given_items, goal_of, Lits, cond_of_lits, eff_of_lits, fact_of_lit}
+use Rattle.kp_grammar.specs.Trees.{Typed, Term, name, variable, Atom, Cond, conds_of, Eff, effs_of, Lit, Item, items_of, Pred, Schema, Domain, Problem, Section, section_types, section_constants, section_predicates, section_schemas, Given, given_objects, given_items, goal_of}
 
 -- the sorts of what is read
 pub data Sort : Type 0 where
@@ -24,7 +24,6 @@ pub data Sort : Type 0 where
   s_seen : Sort
   s_given : Sort
   s_problem : Sort
-  s_lits : Sort
 
 -- the keywords of those sections that have stood and restrict what may follow
 abbrev pub Seen : Type 0
@@ -50,7 +49,6 @@ El W s_domain = Domain W
 El W s_seen = Seen
 El W s_given = Given W
 El W s_problem = Problem W
-El W s_lits = Lits W
 
 -- the types of the words X+ that stand before one `- kind`
 abbrev pub with_kinds : {W : Type 0} → List W → List W → List (Typed W)
@@ -100,15 +98,6 @@ pub data Maker : Sort → Sort → Type 0 where
   m_goal : Maker s_cond s_given
   m_saw : {a : Sort} → Seen → Maker a (s_pair s_seen a)
   m_problem : Maker (s_pair s_none (s_list s_given)) s_problem
-  m_nullary : Maker s_word s_atom
-  m_one : Maker s_lit s_lits
-  m_together : Maker (s_list s_lit) s_lits
-  m_cond_of : Maker s_lits s_cond
-  m_eff_of : Maker s_lits s_eff
-  m_facts_of : Maker (s_list s_lit) (s_list s_item)
-  m_plain_pred : Maker s_word s_pred
-  m_plain_schema : Maker (s_pair s_word (s_pair s_cond s_eff)) s_schema
-  m_three : Maker (s_pair s_given (s_pair s_given s_given)) (s_list s_given)
 
 -- what is made of a value
 abbrev pub apply : (W : Type 0) {a b : Sort} → Maker a b → El W a → El W b
@@ -153,12 +142,3 @@ apply W m_init x = Given.init x
 apply W m_goal x = Given.goal x
 apply W (m_saw s) x = (s, x)
 apply W m_problem x = record { objects = flat_map given_objects x.1; init = flat_map given_items x.1; goal = goal_of x.1 }
-apply W m_nullary x = record { head = x; terms = [] }
-apply W m_one x = Lits.one x
-apply W m_together x = Lits.together x
-apply W m_cond_of x = cond_of_lits x
-apply W m_eff_of x = eff_of_lits x
-apply W m_facts_of x = map fact_of_lit x
-apply W m_plain_pred x = record { head = x; params = [] }
-apply W m_plain_schema x = record { name = x.0; params = []; pre = x.1.0; effect = x.1.1 }
-apply W m_three x = x.0 ∷ x.1.0 ∷ x.1.1 ∷ []

@@ -157,33 +157,3 @@ module _ {W : Type 0} where
   abbrev pub goal_of : List (Given W) → Cond W
   goal_of [] = Cond.all no_cond
   goal_of (g ∷ gs) = goal_or g (goal_of gs)
-
--- ---- the plain forms know one literal, or several together
-
--- one literal, or several in an `and`
-pub data Lits (W : Type 0) : Type 0 where
-  one : Lit W → Lits W
-  together : List (Lit W) → Lits W
-
-module _ {W : Type 0} where
-  -- a literal as a condition
-  abbrev pub cond_of_lit : Lit W → Cond W
-  cond_of_lit l = Cond.atom l.positive l.atom
-
-  -- a literal as an effect
-  abbrev pub eff_of_lit : Lit W → Eff W
-  eff_of_lit l = Eff.makes l.positive l.atom
-
-  -- a literal as a fact of `:init`
-  abbrev pub fact_of_lit : Lit W → Item W
-  fact_of_lit l = Item.fact l.positive l.atom
-
-  -- several as a condition
-  abbrev pub cond_of_lits : Lits W → Cond W
-  cond_of_lits (Lits.one l) = cond_of_lit l
-  cond_of_lits (Lits.together ls) = Cond.all (conds_of (map cond_of_lit ls))
-
-  -- several as an effect
-  abbrev pub eff_of_lits : Lits W → Eff W
-  eff_of_lits (Lits.one l) = eff_of_lit l
-  eff_of_lits (Lits.together ls) = Eff.both (effs_of (map eff_of_lit ls))

@@ -2,9 +2,9 @@
 use Rattle.std.proofs.Common.{Bool, List, [], ◌∷◌, ◌++◌, map}
 use Rattle.std.specs.List.{AllByRecursion, flat_map}
 use Rattle.kp_grammar.specs.declared.tree.Word.{Word}
-use Rattle.kp_grammar.specs.Trees.{Typed, Term, Atom, Cond, Conds, conds_of, Eff, Effs, effs_of, Lit, Item, Items, items_of, Pred, Schema, Domain, Problem, Section, section_types, section_constants, section_predicates, section_schemas, Given, given_objects, given_items, goal_of, Lits, cond_of_lit, eff_of_lit, fact_of_lit, cond_of_lits, eff_of_lits}
+use Rattle.kp_grammar.specs.Trees.{Typed, Term, Atom, Cond, Conds, conds_of, Eff, Effs, effs_of, Lit, Item, Items, items_of, Pred, Schema, Domain, Problem, Section, section_types, section_constants, section_predicates, section_schemas, Given, given_objects, given_items, goal_of}
 use Rattle.kp_grammar.specs.Symbols.{Tok}
-use Rattle.kp_grammar.specs.Sorts.{Sort, s_none, s_word, s_pair, s_list, s_typed, s_term, s_atom, s_cond, s_eff, s_lit, s_item, s_pred, s_schema, s_section, s_domain, s_seen, s_given, s_problem, s_lits, El, with_kinds, Maker, m_word, m_drop, m_name, m_variable, m_atom, m_untyped, m_kind, m_kinds, m_typed, m_joined, m_all, m_true, m_holds, m_same, m_both, m_idle, m_when, m_each, m_makes, m_lit, m_items, m_fact, m_one_of, m_any_of, m_unknown, m_pred, m_no_params, m_schema, m_requires, m_types, m_constants, m_predicates, m_action, m_domain, m_of_domain, m_needs, m_objects, m_init, m_goal, m_saw, m_problem, m_nullary, m_one, m_together, m_cond_of, m_eff_of, m_facts_of, m_plain_pred, m_plain_schema, m_three, apply}
+use Rattle.kp_grammar.specs.Sorts.{Sort, s_none, s_word, s_pair, s_list, s_typed, s_term, s_atom, s_cond, s_eff, s_lit, s_item, s_pred, s_schema, s_section, s_domain, s_seen, s_given, s_problem, El, with_kinds, Maker, m_word, m_drop, m_name, m_variable, m_atom, m_untyped, m_kind, m_kinds, m_typed, m_joined, m_all, m_true, m_holds, m_same, m_both, m_idle, m_when, m_each, m_makes, m_lit, m_items, m_fact, m_one_of, m_any_of, m_unknown, m_pred, m_no_params, m_schema, m_requires, m_types, m_constants, m_predicates, m_action, m_domain, m_of_domain, m_needs, m_objects, m_init, m_goal, m_saw, m_problem, apply}
 use Rattle.kp_grammar.specs.Forms.{Form}
 use Rattle.kp_grammar.specs.Reading.{ReadBy, r_token, r_none, r_both, r_after, r_end, r_more, r_last, r_next, r_absent, r_present, r_make, r_choice, r_loose, r_bracket, r_within}
 
@@ -97,10 +97,6 @@ module _ (P : Word → Type 0) where
   OfGiven (Given.init is) = AllByRecursion OfItem is
   OfGiven (Given.goal g) = OfCond g
 
-  abbrev OfLits : Lits Word → Type 0
-  OfLits (Lits.one l) = OfLit l
-  OfLits (Lits.together ls) = AllByRecursion OfLit ls
-
   -- each word of a value of this sort has it
   abbrev pub Of : (c : Sort) → El Word c → Type 0
   Of s_none x = Unit {0}
@@ -121,7 +117,6 @@ module _ (P : Word → Type 0) where
   Of s_seen x = Unit {0}
   Of s_given x = OfGiven x
   Of s_problem x = OfProblem x
-  Of s_lits x = OfLits x
 
   -- ---- what is made keeps the words
 
@@ -172,14 +167,6 @@ module _ (P : Word → Type 0) where
   goal_held (Given.requires ∷ xs) h = goal_held xs h.1
   goal_held (Given.objects os ∷ xs) h = goal_held xs h.1
   goal_held (Given.init is ∷ xs) h = goal_held xs h.1
-
-  lits_cond : (x : Lits Word) → OfLits x → OfCond (cond_of_lits x)
-  lits_cond (Lits.one l) h = h
-  lits_cond (Lits.together ls) h = conds_held (map cond_of_lit ls) (all_mapped cond_of_lit OfLit OfCond (λ l g. g) ls h)
-
-  lits_eff : (x : Lits Word) → OfLits x → OfEff (eff_of_lits x)
-  lits_eff (Lits.one l) h = h
-  lits_eff (Lits.together ls) h = effs_held (map eff_of_lit ls) (all_mapped eff_of_lit OfLit OfEff (λ l g. g) ls h)
 
   made : {a b : Sort} (m : Maker a b) (x : El Word a) → Of a x → Of b (apply Word m x)
   made m_word x h = h
@@ -232,15 +219,6 @@ module _ (P : Word → Type 0) where
     all_flat given_items OfGiven OfItem init_held x.1 h.1,
     goal_held x.1 h.1,
   )
-  made m_nullary x h = (h, tt)
-  made m_one x h = h
-  made m_together x h = h
-  made m_cond_of x h = lits_cond x h
-  made m_eff_of x h = lits_eff x h
-  made m_facts_of x h = all_mapped fact_of_lit OfLit OfItem (λ l g. g) x h
-  made m_plain_pred x h = (h, tt)
-  made m_plain_schema x h = (h.0, tt, h.1.0, h.1.1)
-  made m_three x h = (h.0, (h.1.0, (h.1.1, tt)))
 
   -- ---- what is read
 

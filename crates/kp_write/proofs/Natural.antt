@@ -2,16 +2,16 @@
 use Rattle.std.proofs.Common.{◌≡◌, ℕ, Bool, List, [], ◌∷◌, map, ◌⊎◌, inl, inr, refl, sym, ap, subst, ◌∙◌}
 use Rattle.kp_grammar.specs.declared.symbol.Symbol.{Symbol}
 use Rattle.kp_grammar.specs.declared.tree.Word.{Word}
-use Rattle.kp_grammar.specs.Trees.{Cond, Conds, conds_of, Eff, Effs, effs_of, Lits, Item, Items, items_of, Section, section_types, section_constants, section_predicates, section_schemas, Given, given_objects, given_items, goal_of, cond_of_lit, eff_of_lit, fact_of_lit}
+use Rattle.kp_grammar.specs.Trees.{Cond, Conds, conds_of, Eff, Effs, effs_of, Item, Items, items_of, Section, section_types, section_constants, section_predicates, section_schemas, Given, given_objects, given_items, goal_of}
 use Rattle.kp_grammar.specs.Symbols.{Tok, is_left, is_right, first_is}
-use Rattle.kp_grammar.specs.Sorts.{Sort, El, with_kinds, Maker, apply, m_word, m_drop, m_name, m_variable, m_atom, m_untyped, m_kind, m_kinds, m_typed, m_joined, m_all, m_true, m_holds, m_same, m_both, m_idle, m_when, m_each, m_makes, m_lit, m_items, m_fact, m_one_of, m_any_of, m_unknown, m_pred, m_no_params, m_schema, m_requires, m_types, m_constants, m_predicates, m_action, m_domain, m_of_domain, m_needs, m_objects, m_init, m_goal, m_saw, m_problem, m_nullary, m_one, m_together, m_cond_of, m_eff_of, m_facts_of, m_plain_pred, m_plain_schema, m_three}
+use Rattle.kp_grammar.specs.Sorts.{Sort, El, with_kinds, Maker, apply, m_word, m_drop, m_name, m_variable, m_atom, m_untyped, m_kind, m_kinds, m_typed, m_joined, m_all, m_true, m_holds, m_same, m_both, m_idle, m_when, m_each, m_makes, m_lit, m_items, m_fact, m_one_of, m_any_of, m_unknown, m_pred, m_no_params, m_schema, m_requires, m_types, m_constants, m_predicates, m_action, m_domain, m_of_domain, m_needs, m_objects, m_init, m_goal, m_saw, m_problem}
 use Rattle.kp_grammar.specs.Forms.{hits, Form}
 use Rattle.kp_grammar.specs.Reading.{At, stop_by, reason_of, ReadBy, r_token, r_none, r_both, r_after, r_end, r_more, r_last, r_next, r_absent, r_present, r_make, r_choice, r_loose, r_bracket, r_within, StopBy, s_token, s_nothing, s_first, s_second, s_before, s_after, s_here, s_later, s_lacks, s_at, s_next, s_present, s_make, s_none_there, s_choice, s_loose, s_unopened, s_inside, s_unclosed, s_within}
 use Rattle.kp_grammar.proofs.Exact.{reads_once, reads_or_stops, always_one}
 use Rattle.kp_meaning.specs.Places.{typed_map, cond_map, conds_map, eff_map, effs_map, lit_map, item_map, items_map, pred_map, schema_map}
 use Rattle.kp_write.specs.Tokens.{text_of}
 use Rattle.kp_write.proofs.Lists.{map_swap, flat_swap}
-use Rattle.kp_write.specs.Maps.{section_map, given_map, lits_map, el_map, ReadsWithPlaces, PlacesDontMatter}
+use Rattle.kp_write.specs.Maps.{section_map, given_map, el_map, ReadsWithPlaces, PlacesDontMatter}
 
 module _ {V W : Type 0} (f : V → W) where
   -- ---- each maker makes the same of other words
@@ -64,14 +64,6 @@ module _ {V W : Type 0} (f : V → W) where
   goal_same (Given.objects xs ∷ gs) = goal_same gs
   goal_same (Given.init is ∷ gs) = goal_same gs
 
-  cond_of_same : (x : Lits V) → cond_map f (apply V m_cond_of x) ≡ apply W m_cond_of (lits_map f x)
-  cond_of_same (Lits.one l) = refl
-  cond_of_same (Lits.together ls) = ap (λ (cs : Conds W). Cond.all cs) (conds_same (map cond_of_lit ls) ∙ ap conds_of (map_swap (cond_map f) cond_of_lit cond_of_lit (lit_map f) ls (λ l. refl)))
-
-  eff_of_same : (x : Lits V) → eff_map f (apply V m_eff_of x) ≡ apply W m_eff_of (lits_map f x)
-  eff_of_same (Lits.one l) = refl
-  eff_of_same (Lits.together ls) = ap (λ (es : Effs W). Eff.both es) (effs_same (map eff_of_lit ls) ∙ ap effs_of (map_swap (eff_map f) eff_of_lit eff_of_lit (lit_map f) ls (λ l. refl)))
-
   natural : {a b : Sort} (m : Maker a b) (x : El V a) → el_map V W f b (apply V m x) ≡ apply W m (el_map V W f a x)
   natural m_all x = ap (λ (cs : Conds W). Cond.all cs) (conds_same x)
   natural m_both x = ap (λ (es : Effs W). Eff.both es) (effs_same x)
@@ -80,9 +72,6 @@ module _ {V W : Type 0} (f : V → W) where
   natural m_joined x = flat_swap (typed_map f) (λ ts. ts) (λ ts. ts) (map (typed_map f)) x (λ ts. refl)
   natural m_domain x = rw (flat_swap (typed_map f) section_types section_types (section_map f) x.1 types_same, flat_swap (typed_map f) section_constants section_constants (section_map f) x.1 constants_same, flat_swap (pred_map f) section_predicates section_predicates (section_map f) x.1 predicates_same, flat_swap (schema_map f) section_schemas section_schemas (section_map f) x.1 schemas_same) refl
   natural m_problem x = rw (flat_swap (typed_map f) given_objects given_objects (given_map f) x.1 objects_same, flat_swap (item_map f) given_items given_items (given_map f) x.1 init_same, goal_same x.1) refl
-  natural m_cond_of x = cond_of_same x
-  natural m_eff_of x = eff_of_same x
-  natural m_facts_of x = map_swap (item_map f) fact_of_lit fact_of_lit (lit_map f) x (λ l. refl)
   natural m_word x = refl
   natural m_drop x = refl
   natural m_name x = refl
@@ -117,12 +106,6 @@ module _ {V W : Type 0} (f : V → W) where
   natural m_init x = refl
   natural m_goal x = refl
   natural (m_saw s) x = refl
-  natural m_nullary x = refl
-  natural m_one x = refl
-  natural m_together x = refl
-  natural m_plain_pred x = refl
-  natural m_plain_schema x = refl
-  natural m_three x = refl
 
   -- ---- reading and stopping
 

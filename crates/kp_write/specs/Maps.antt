@@ -1,9 +1,9 @@
 -- What a form reads with another word in the place of each, and that reading doesn't depend on places.
 use Rattle.std.specs.Prelude.{◌≡◌, ℕ, List, map, Bool}
 use Rattle.kp_grammar.specs.declared.tree.Word.{Word}
-use Rattle.kp_grammar.specs.Trees.{Section, Given, Lits}
+use Rattle.kp_grammar.specs.Trees.{Section, Given}
 use Rattle.kp_grammar.specs.Symbols.{Tok}
-use Rattle.kp_grammar.specs.Sorts.{Sort, s_none, s_word, s_pair, s_list, s_typed, s_term, s_atom, s_cond, s_eff, s_lit, s_item, s_pred, s_schema, s_section, s_domain, s_seen, s_given, s_problem, s_lits, El}
+use Rattle.kp_grammar.specs.Sorts.{Sort, s_none, s_word, s_pair, s_list, s_typed, s_term, s_atom, s_cond, s_eff, s_lit, s_item, s_pred, s_schema, s_section, s_domain, s_seen, s_given, s_problem, El}
 use Rattle.kp_grammar.specs.Forms.{Form}
 use Rattle.kp_grammar.specs.Reading.{ReadsWhole}
 use Rattle.kp_meaning.specs.Places.{typed_map, term_map, atom_map, cond_map, eff_map, lit_map, item_map, pred_map, schema_map, domain_map, problem_map}
@@ -26,11 +26,6 @@ module _ {V W : Type 0} where
   given_map f (Given.init is) = Given.init (map (item_map f) is)
   given_map f (Given.goal c) = Given.goal (cond_map f c)
 
-  -- one literal, or several
-  abbrev pub lits_map : (V → W) → Lits V → Lits W
-  lits_map f (Lits.one l) = Lits.one (lit_map f l)
-  lits_map f (Lits.together ls) = Lits.together (map (lit_map f) ls)
-
 -- a value of any sort
 abbrev pub el_map : (V W : Type 0) → (V → W) → (c : Sort) → El V c → El W c
 el_map V W f s_none x = tt
@@ -51,7 +46,6 @@ el_map V W f s_domain x = domain_map f x
 el_map V W f s_seen x = x
 el_map V W f s_given x = given_map f x
 el_map V W f s_problem x = problem_map f x
-el_map V W f s_lits x = lits_map f x
 
 -- a value without places
 abbrev pub without_places : (c : Sort) → El Word c → El (List ℕ) c
