@@ -1,5 +1,5 @@
 -- Literals: equality, negation, and truth in a state.
-use Rattle.std.proofs.Common.{◌≡◌, Bool, true, false, not, ◌&&◌, List, refl, sym, ap, ap₂, subst, eqb-true, eq-eqb, nat_eq}
+use Rattle.std.proofs.Common.{◌≡◌, ◌<◌, zero, suc, Bool, true, false, not, ◌&&◌, List, [], ◌∷◌, inl, inr, Contains, arith, refl, sym, ap, ap₂, subst, eqb-true, eq-eqb, nat_eq}
 use Rattle.std.proofs.lemmas.Bool.{and_parts, and_from}
 use Rattle.std.specs.Bool.{beq}
 use Rattle.std.specs.Cmp.{booleans_Decides}
@@ -32,6 +32,22 @@ pub member-has : (ls : List Lit) (l : Lit) → has ls l ≡ true → Member ls l
 member-has ls l h =
     let r = any_member (same_lit l) ls h in
     subst (Member ls) (sym (same_lit-true l r.0 r.2)) r.1
+
+pub contains_member : (ls : List Lit) (l : Lit) → Contains ls l → Member ls l
+contains_member [] l (k, lt, e) = absurd (omega (arith, lt))
+contains_member (x ∷ ls) l (zero, lt, e) = inl e
+contains_member (x ∷ ls) l (suc k, lt, e) = inr (contains_member ls l (k, omega (arith, lt), e))
+
+pub member_contains : (ls : List Lit) (l : Lit) → Member ls l → Contains ls l
+member_contains [] l m = absurd m
+member_contains (x ∷ ls) l (inl e) = (zero, omega arith, e)
+member_contains (x ∷ ls) l (inr m) = let r = member_contains ls l m in let lt = r.1 in (suc r.0, omega (arith, lt), r.2)
+
+pub contains_has : (ls : List Lit) (l : Lit) → Contains ls l → has ls l ≡ true
+contains_has ls l h = has-member ls l (contains_member ls l h)
+
+pub has_contains : (ls : List Lit) (l : Lit) → has ls l ≡ true → Contains ls l
+has_contains ls l h = member_contains ls l (member-has ls l h)
 
 pub negated-negated : (l : Lit) → negated (negated l) ≡ l
 negated-negated l = ap (λ b. record { atom = l.atom; positive = b }) (not_not l.positive)

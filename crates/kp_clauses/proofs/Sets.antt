@@ -9,26 +9,10 @@ use Rattle.kp_base.specs.LitSet.{IsAscending, Within, Opposed}
 use Rattle.kp_base.specs.Steps.{has}
 use Rattle.kp_base.specs.Implicates.{is_within, is_tautology}
 use Rattle.kp_base.proofs.Lists.{any_member}
-use Rattle.kp_base.proofs.Lits.{has-member, member-has}
+use Rattle.kp_base.proofs.Lits.{has-member, member-has, contains_member, member_contains, contains_has, has_contains}
 use Rattle.kp_base.proofs.Ascending.{same_members}
 use Rattle.kp_clauses.proofs.Logic.{not-true-case}
 use Rattle.kp_clauses.proofs.Within.{within_from, within_member, tautology_from}
-
-pub contains_member : (ls : List Lit) (l : Lit) → Contains ls l → Member ls l
-contains_member [] l (k, lt, e) = absurd (omega (arith, lt))
-contains_member (x ∷ ls) l (zero, lt, e) = inl e
-contains_member (x ∷ ls) l (suc k, lt, e) = inr (contains_member ls l (k, omega (arith, lt), e))
-
-pub member_contains : (ls : List Lit) (l : Lit) → Member ls l → Contains ls l
-member_contains [] l m = absurd m
-member_contains (x ∷ ls) l (inl e) = (zero, omega arith, e)
-member_contains (x ∷ ls) l (inr m) = let r = member_contains ls l m in let lt = r.1 in (suc r.0, omega (arith, lt), r.2)
-
-pub contains_has : (ls : List Lit) (l : Lit) → Contains ls l → has ls l ≡ true
-contains_has ls l h = has-member ls l (contains_member ls l h)
-
-pub has_contains : (ls : List Lit) (l : Lit) → has ls l ≡ true → Contains ls l
-has_contains ls l h = member_contains ls l (member-has ls l h)
 
 pub members_by_recursion : {X : Type 0} (P : X → Type 0) (xs : List X) → ((x : X) → Member xs x → P x) → AllByRecursion P xs
 members_by_recursion P [] f = tt

@@ -83,7 +83,7 @@ fn opposed_elsewhere(c: &LitSet, d: &LitSet, lit: Lit) -> bool
 }
 
 /// The resolvent of two clauses on a literal of the first whose negation is in the second. None where it is a
-/// tautology.
+/// tautology. Of clauses without these it is the set that the clause says, which is no resolvent.
 #[tactic(auto, using(crate::proofs::Resolving::opposed_tautology))]
 pub fn resolve(alloc: Global, c: &LitSet, d: &LitSet, lit: Lit) -> Result<Option<LitSet>, Memory>
     ensures { IfOk result (λ found. found ≡ resolvent_on lit c.now d.now) }

@@ -1,4 +1,5 @@
 pub mod Starts
+pub mod Complete
 pub mod Valid
 pub mod Apart
 pub mod Written

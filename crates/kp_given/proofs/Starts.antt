@@ -8,7 +8,7 @@ use Rattle.kp_base.specs.LitSet.{IsAscending}
 use Rattle.kp_base.specs.Entailed.{IsClosure}
 use Rattle.kp_base.specs.Implicates.{IsOfAtoms}
 use Rattle.kp_base.proofs.Ascending.{same_members}
-use Rattle.kp_base.proofs.Lits.{same_lit-true}
+use Rattle.kp_base.proofs.Lits.{same_lit-true, contains_has}
 use Rattle.kp_meaning.specs.Numbered.{Lifted}
 use Rattle.kp_meaning.specs.Numbering.{numbered_problem}
 use Rattle.kp_meaning.proofs.NumberedPlans.{initial_numbered}
@@ -20,7 +20,6 @@ use Rattle.kp_init.specs.Laws.{AreModels}
 use Rattle.kp_init.proofs.Closure.{closure_exact}
 use Rattle.kp_init.proofs.Models.{initial_exact}
 use Rattle.kp_init.proofs.Runs.{initial_is_over}
-use Rattle.kp_texts.proofs.Known.{contains_has}
 use Rattle.kp_given.specs.Translations.{ground_of, initial_of, start_of}
 use Rattle.kp_given.specs.Laws.{InitialStatesAreModels, FormulasSpeakOfGroundAtoms, ClosuresAreStarts}
 

@@ -6,7 +6,7 @@ use Rattle.indexmap.specs.IndexMap.{get}
 use Rattle.kp_base.specs.declared.lit.Lit.{Lit}
 use Rattle.kp_base.specs.declared.ground.Effect.{Effect}
 use Rattle.kp_base.specs.Lit.{positive, same_lit}
-use Rattle.kp_grounding.specs.Ground.{is_within}
+use Rattle.kp_base.specs.Implicates.{is_within}
 use Rattle.kp_ground.specs.declared.adds.Adds.{Adds}
 
 -- the effects that add the atom of this number

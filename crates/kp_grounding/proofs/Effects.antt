@@ -11,7 +11,8 @@ use Rattle.kp_base.specs.Lit.{positive, negative, negated, same_lit}
 use Rattle.kp_base.specs.Steps.{Facts, has, fires}
 use Rattle.kp_base.proofs.Lists.{any_member, any_from, any_alike, all_member, bool_same, all_from}
 use Rattle.kp_base.proofs.Lits.{same_lit-true, same_lit-refl}
-use Rattle.kp_grounding.specs.Ground.{is_within, is_idle, lasting}
+use Rattle.kp_base.specs.Implicates.{is_within}
+use Rattle.kp_grounding.specs.Ground.{is_idle, lasting}
 use Rattle.kp_grounding.proofs.Lists.{false_where_not_true}
 
 -- ---- idle deletes

@@ -11,6 +11,7 @@ use Rattle.kp_base.specs.Lit.{negated, same_lit}
 use Rattle.kp_base.specs.LitSet.{set_of}
 use Rattle.kp_base.specs.Steps as steps
 use Rattle.kp_base.specs.Steps.{has}
+use Rattle.kp_base.specs.Implicates.{is_within}
 use Rattle.kp_meaning.specs.declared.lifted.GroundLit.{GroundLit}
 use Rattle.kp_meaning.specs.Names.{Name, same}
 use Rattle.kp_meaning.specs.Numbered.{Schema, Lifted}
@@ -118,10 +119,6 @@ pub record IsNumbering (l : Lifted) (atoms : List Atom) : Type 0 where
 -- an effect by number
 abbrev pub numbered_effect : List Atom → FlatEffect → Effect
 numbered_effect atoms f = record { cond = numbered_set atoms f.cond; result = numbered atoms f.result }
-
--- each of these literals is among those
-abbrev pub is_within : List Lit → List Lit → Bool
-is_within xs ys = list_all (has ys) xs
 
 -- an idle delete: an add of its atom asks for nothing beyond the delete's condition and the precondition, so that where the delete fires in a step that may be taken, the add fires too
 abbrev pub is_idle : List Lit → List Effect → Effect → Bool

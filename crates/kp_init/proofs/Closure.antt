@@ -17,7 +17,7 @@ use Rattle.kp_init.proofs.Runs.{below, SameBelow, holds_same, all_same}
 
 -- ---- the literals of the first n atoms
 
-range_there : (a n k : ℕ) → a ≤ k → k < a + n → Member (range_with_len a n) k
+pub range_there : (a n k : ℕ) → a ≤ k → k < a + n → Member (range_with_len a n) k
 range_there a zero k le lt = absurd (omega arith)
 range_there a (suc n) k le lt =
     elim (cases_lt a k) [
@@ -25,7 +25,7 @@ range_there a (suc n) k le lt =
       | inr here ↦ inl (omega arith)
     ]
 
-range_only : (a n k : ℕ) → Member (range_with_len a n) k → k < a + n
+pub range_only : (a n k : ℕ) → Member (range_with_len a n) k → k < a + n
 range_only a zero k m = absurd m
 range_only a (suc n) k m = elim m [
   | inl e ↦ omega arith

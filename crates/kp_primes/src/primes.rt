@@ -34,8 +34,7 @@ impl Primes {
     /// are false.
     ///
     /// Refused `ImplicatesOver` at the least number of first clauses that, without the closed atoms, have more prime
-    /// implicates than the limit; a list of clauses without a model has one, the empty clause. Else refused
-    /// `NoInitialState` where the formula has no model.
+    /// implicates than the limit. Else refused `NoInitialState` where the formula has no model.
     pub fn build(alloc: Global, initial: &Initial, atoms: u32, limit: u32) -> Result<Primes, Stop>
         requires { IsOfAtoms atoms initial.now }
         ensures { AnswersPrimes initial.now atoms limit result }

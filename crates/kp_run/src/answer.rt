@@ -50,6 +50,7 @@ fn without_clash(alloc: Global, ground: &Ground, primes: &Primes) -> Result<Repo
 {
     match primes.closure(alloc, &LitSet::new(alloc))? {
         Some(start) => Ok(Report::Done(translate(alloc, ground, &start)?)),
+        // (prime implicates are of a formula with a model, so the empty tag has a closure)
         None => refuse(alloc, Refused::NoInitialState),
     }
 }

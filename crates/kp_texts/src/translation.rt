@@ -13,7 +13,7 @@ pub struct Translation {
     pub domain: Row<u8>,
     /// The bytes of the problem file.
     pub problem: Row<u8>,
-    /// What is printed: the counts, and whether each target is covered.
+    /// What is printed: the counts, and `complete` where it is known of each atom whether it holds.
     pub report: Row<u8>,
 }
 

@@ -1,6 +1,6 @@
 use Rattle.kp_base.specs.Steps.{has}
 use Rattle.kp_base.proofs.Lists.{bool_same}
-use Rattle.kp_clauses.proofs.Sets.{contains_has, has_contains}
+use Rattle.kp_base.proofs.Lits.{contains_has, has_contains}
 use Rattle.kp_clauses.proofs.clause.has_lit.Goals as goal
 
 pub returns : goal.returns
