@@ -1,15 +1,13 @@
 -- The answer on two texts, from what their problem by number ends with.
-use Rattle.std.proofs.Common.{◌≡◌, ◌∙◌, ℕ, List, [], length, Option, Some, None, Result, Ok, Err, IfOk, IfErr, refl, sym, ap, subst}
-use Rattle.std.proofs.lemmas.List.{length-map}
+use Rattle.std.proofs.Common.{◌≡◌, ◌∙◌, ℕ, List, [], length, Some, Result, Ok, Err, IfOk, refl, sym, ap, subst}
 use Rattle.kp_base.specs.declared.lit.Lit.{Lit}
 use Rattle.kp_base.specs.declared.memory.Memory.{Memory}
 use Rattle.kp_base.specs.declared.ground.Ground.{Ground}
 use Rattle.kp_base.specs.declared.ground.Initial.{Initial}
 use Rattle.kp_base.specs.declared.refused.Refused.{Refused}
-use Rattle.kp_base.specs.declared.refused.Refused.TheVariants as refusals
 use Rattle.kp_base.specs.Steps.{State, is_model}
 use Rattle.kp_base.specs.LitSet.{IsAscending}
-use Rattle.kp_base.specs.Entailed.{IsConsistent, IsClosure}
+use Rattle.kp_base.specs.Entailed.{IsClosure}
 use Rattle.kp_base.specs.Clashes.{no_pairs, HasNoClash, IsFirstClash}
 use Rattle.kp_base.specs.declared.refused.ClashAt.{ClashAt}
 use Rattle.kp_grammar.specs.declared.tree.Word.{Word}
@@ -30,9 +28,8 @@ use Rattle.kp_given.specs.Laws.{HasInitialState}
 use Rattle.kp_given.proofs.Starts.{states_are_models, closures_are_starts}
 use Rattle.kp_run.specs.declared.answer.Report.{Report}
 use Rattle.kp_run.specs.declared.answer.Report.TheVariants as reports
-use Rattle.kp_run.specs.declared.status.Status.{Status}
 use Rattle.kp_run.specs.declared.status.Status.TheVariants as status
-use Rattle.kp_run.specs.Due.{usual, IsOrdinary, IsStarted, AnswersTrees, too_large, implicates_over, no_initial_state, clash, done, Answers, on_trees}
+use Rattle.kp_run.specs.Due.{usual, IsOrdinary, IsStarted, too_large, implicates_over, no_initial_state, clash, done, Answers, on_trees}
 use Rattle.kp_run.specs.Texts.{HaveTrees}
 use Rattle.kp_run.specs.Printed.{clash_text}
 use Rattle.kp_run.specs.Reports.{status_of, HasItsText, IsTranslated, IsRefusal, IsProblemOf, IsCounted, IsWritten, EndsBy, by_implicates, by_no_model, by_clash, by_translation, EndsWithin, over, within}

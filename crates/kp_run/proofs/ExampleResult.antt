@@ -24,7 +24,7 @@ use Rattle.kp_base.specs.LitSet.{IsAscending}
 use Rattle.kp_base.specs.Steps.{State as NumberedState, is_model}
 use Rattle.kp_base.specs.Clashes.{no_pairs, HasNoClash, IsFirstClash}
 use Rattle.kp_base.specs.Implicates.{IsLeastOver, IsNeverOver, HasNoModel}
-use Rattle.kp_primes.specs.Included.{AreCounted, all_included, passed_at}
+use Rattle.kp_primes.specs.Included.{all_included, passed_at}
 use Rattle.kp_primes.specs.Answers.{RefusesPrimes, too_many}
 use Rattle.kp_primes.proofs.Answered.{never_over, prefix_stops}
 use Rattle.kp_clash.specs.Searching.{first_from}

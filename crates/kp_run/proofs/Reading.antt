@@ -18,7 +18,7 @@ use Rattle.kp_meaning.specs.Numbered.{Lifted as Numbers}
 use Rattle.kp_tree.specs.Files.{Reads, Refuses, AnswersFile}
 use Rattle.kp_names.specs.declared.lifted.Lifted.{Lifted}
 use Rattle.kp_names.specs.Resolved.{RefusesNames, in_domain, in_problem, AnswersNames}
-use Rattle.kp_kept.specs.Counts.{RefusesCounts, bindings_over, actions_over, effects_over}
+use Rattle.kp_kept.specs.Counts.{bindings_over, actions_over, effects_over}
 use Rattle.kp_ground.specs.Grounded.{RefusesGround, counts_over, atoms_over}
 use Rattle.kp_run.specs.Due.{IsOrdinary}
 use Rattle.kp_run.specs.Reports.{IsProblemOf}

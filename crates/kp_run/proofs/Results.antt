@@ -1,6 +1,5 @@
 -- The result of a run, from how its parts end; and that there is one at most.
-use Rattle.std.proofs.Common.{◌≡◌, ℕ, List, [], Option, Some, Vec, refl, ap, ◌∙◌, subst}
-use Rattle.std.specs.FinMap.{get}
+use Rattle.std.proofs.Common.{◌≡◌, ℕ, List, [], Option, Vec, refl, ap, ◌∙◌, subst}
 use Rattle.std.specs.declared.alloc.Global.{Global}
 use Rattle.kp_base.specs.declared.refused.ClashAt.{ClashAt}
 use Rattle.kp_base.specs.declared.refused.Refused.{Refused}
@@ -16,13 +15,13 @@ use Rattle.kp_run.specs.declared.status.Status.{Status}
 use Rattle.kp_run.specs.declared.status.Status.TheVariants as status
 use Rattle.kp_run.specs.Command.{Command, IsCommand, IsNoCommand}
 use Rattle.kp_run.specs.Texts.{HaveTrees}
-use Rattle.kp_run.specs.Printed.{usage_text, refusal_text, clash_text, text_of}
+use Rattle.kp_run.specs.Printed.{usage_text, refusal_text, clash_text}
 use Rattle.kp_run.specs.Due.{AnswersTrees, IsOrdinary, Answers, on_trees, AnswersFiles}
 use Rattle.kp_run.specs.Ends.{Puts, Tells, files_of, with_both}
 use Rattle.kp_run.specs.Reports.{status_of, printed_of, HasItsText, HasFiles, IsTranslatedFrom}
 use Rattle.kp_run.specs.Results.{prints, translates, HoldsTrees, usage, refused, clashed, translated, ComesTo, HasOneResult}
 use Rattle.kp_run.proofs.Reporting.{one_command}
-use Rattle.kp_run.proofs.OneAnswer.{refused_or_read, files_once}
+use Rattle.kp_run.proofs.OneAnswer.{files_once}
 use Rattle.kp_run.proofs.Translated.{same_translation, same_clash}
 use Rattle.kp_run.proofs.Ordinary.{ordinary_text, no_clash_in_texts}
 

@@ -8,7 +8,7 @@ use Rattle.std.specs.declared.alloc.Global.{Global}
 use Rattle.kp_base.proofs.Lists.{same-true, same-refl}
 use Rattle.kp_outside.specs.Outside.{FileMap}
 use Rattle.kp_given.specs.Translations.{translation_of}
-use Rattle.kp_base.specs.Clashes.{NeverClashes, HasNoClash, no_pairs}
+use Rattle.kp_base.specs.Clashes.{HasNoClash, no_pairs}
 use Rattle.kp_machine.proofs.Apart.{never_clashes}
 use Rattle.kp_grammar.specs.declared.tree.Word.{Word}
 use Rattle.kp_grammar.specs.Trees.{Domain, Problem}
@@ -17,11 +17,11 @@ use Rattle.kp_given.specs.Laws.{HasInitialState}
 use Rattle.kp_given.specs.Translations.{ground_of, initial_of}
 use Rattle.kp_sound.proofs.Trees.{translations_sound}
 use Rattle.kp_run.specs.Texts.{HaveTrees}
-use Rattle.kp_run.specs.Due.{IsStarted, AnswersTrees, too_large, implicates_over, no_initial_state, clash as when_clash, done as when_done}
+use Rattle.kp_run.specs.Due.{AnswersTrees, too_large, implicates_over, no_initial_state, clash as when_clash, done as when_done}
 use Rattle.kp_run.specs.declared.status.Status.{Status}
 use Rattle.kp_run.specs.declared.status.Status.TheVariants as status
 use Rattle.kp_run.specs.Command.{Command, IsCommand}
-use Rattle.kp_run.specs.Results.{Outcome, HoldsTrees, IsResult, usage, refused, clashed, translated, ComesTo, with_files}
+use Rattle.kp_run.specs.Results.{Outcome, IsResult, usage, refused, clashed, translated, ComesTo, with_files}
 use Rattle.kp_run.specs.Soundness.{IsSound}
 use Rattle.kp_outside.specs.declared.outside.OutsideStop.{OutsideStop}
 use Rattle.kp_outside.specs.declared.outside.OutsideStop.TheVariants as stops

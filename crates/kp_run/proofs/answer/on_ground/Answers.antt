@@ -1,9 +1,8 @@
-use Rattle.std.proofs.Common.{◌≡◌, ◌∙◌, ℕ, length, Err, sym, ap, subst}
+use Rattle.std.proofs.Common.{◌∙◌, ℕ, length, Err, sym, ap, subst}
 use Rattle.kp_base.specs.declared.ground.Ground.{Ground}
 use Rattle.kp_base.specs.declared.ground.Initial.{Initial}
 use Rattle.kp_base.specs.Implicates.{IsOfAtoms}
 use Rattle.kp_names.specs.View.{lifted_view}
-use Rattle.kp_grounding.specs.Ground.{ground_of}
 use Rattle.kp_init.specs.Initial.{initial_over, initial_of}
 use Rattle.kp_primes.specs.Answers.{HoldsPrimes, AnswersPrimes, RefusesPrimes}
 use Rattle.kp_given.proofs.Starts.{formula_over_atoms}

@@ -1,4 +1,4 @@
-use Rattle.std.proofs.Common.{◌≡◌, ◌∙◌, ap, Err}
+use Rattle.std.proofs.Common.{◌∙◌, ap, Err}
 use Rattle.kp_run.specs.Due.{refused}
 use Rattle.kp_run.proofs.Answering.{refused_answers, problem_answers, problem_translated}
 use Rattle.kp_run.proofs.answer.report_on.Goals as goal

@@ -1,4 +1,4 @@
-use Rattle.std.proofs.Common.{◌≡◌, ◌∙◌, List, [], ◌∷◌, ℕ, map, ap, refl, sym, subst, arith}
+use Rattle.std.proofs.Common.{◌∙◌, List, [], ◌∷◌, ℕ, map, ap, sym, subst}
 use Rattle.kp_run.specs.Command.{SaysLimit, usual_limit}
 use Rattle.kp_run.proofs.Numbers.{option_says}
 use Rattle.kp_run.proofs.Words.{none, two}

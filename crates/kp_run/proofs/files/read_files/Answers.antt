@@ -1,4 +1,4 @@
-use Rattle.std.proofs.Common.{◌≡◌, ℕ, List, IfOk, subst}
+use Rattle.std.proofs.Common.{ℕ, List, IfOk, subst}
 use Rattle.kp_base.specs.declared.refused.Part.TheVariants as parts
 use Rattle.kp_grammar.specs.Grammar as grammar
 use Rattle.kp_grammar.specs.View.{domain_view, problem_view}
