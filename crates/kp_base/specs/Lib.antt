@@ -1,5 +1,6 @@
 pub mod Clashes
 pub mod Entailed
+pub mod Exclusive
 pub mod Implicates
 pub mod Lists
 pub mod Lit

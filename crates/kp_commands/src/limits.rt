@@ -1,4 +1,9 @@
+ghost use Rattle.std.specs.Prelude.{IfOk};
+ghost use Rattle.kp_init.specs.ByName.{HasNamedAtoms};
+ghost use Rattle.kp_names.specs.View.{lifted_view};
+
 use kp_base::{Limits, Memory, Refused, Row, Stop, Texts};
+use kp_given::names_tell_ground_atoms;
 use kp_ground::ground;
 use kp_names::{Lifted, resolve};
 use kp_tree::{read_domain, read_problem};
@@ -11,18 +16,20 @@ const MOVES: &str =
 const TWO_CELLS: &str =
     "(define (problem f) (:domain f) (:objects a b - cell) (:init (at a)) (:goal (at b)))";
 
-const CELLS: &str =
+pub const CELLS: &str =
     "(define (domain cells) (:predicates (x1) (x2) (x3)) (:action left :effect (and (when (x3) (and (x2) (not (x3)))) (when (x2) (and (x1) (not (x2)))))))";
 
-const ONE_IS_FULL: &str =
+pub const ONE_IS_FULL: &str =
     "(define (problem c) (:domain cells) (:init (oneof (x1) (x2) (x3))) (:goal (x1)))";
 
 fn row_of(alloc: Global, text: &str) -> Result<Row<u8>, Memory> {
     Ok(Row::from_vec(text.as_bytes().to_vec(alloc)?))
 }
 
-// The problem by number of two short texts, where they have one.
-fn resolved(alloc: Global, domain: &str, problem: &str) -> Result<Lifted, Stop> {
+/// The problem by number of two short texts, where they have one. Names tell its ground atoms apart.
+pub fn resolved(alloc: Global, domain: &str, problem: &str) -> Result<Lifted, Stop>
+    ensures { IfOk result (λ l. HasNamedAtoms (lifted_view l)) }
+{
     let texts = Texts {
         domain: row_of(alloc, domain)?,
         problem: row_of(alloc, problem)?,
@@ -32,7 +39,9 @@ fn resolved(alloc: Global, domain: &str, problem: &str) -> Result<Lifted, Stop> 
     }
     let domain = read_domain(alloc, texts.domain.slice())?;
     let problem = read_problem(alloc, texts.problem.slice())?;
-    resolve(alloc, &texts, &domain, &problem)
+    let lifted = resolve(alloc, &texts, &domain, &problem)?;
+    names_tell_ground_atoms();
+    Ok(lifted)
 }
 
 // How many atoms and actions there are, or the refusal, or neither.

@@ -1,5 +1,5 @@
 use kp_base::Memory;
-use kp_grammar::{AtomTree, CondTree, Domain, EffTree, ItemTree, Problem, SchemaTree};
+use kp_grammar::{AtomTree, CondTree, Domain, EffTree, ItemTree, LitTree, Problem, SchemaTree};
 use kp_outside::{MemoryShelf, MemorySink};
 use kp_run::run;
 use kp_tree::{read_domain, read_problem};
@@ -17,6 +17,10 @@ fn number(domain: &Domain, atom: &AtomTree) -> usize {
     domain.predicates.len()
 }
 
+fn has(domain: &Domain, state: &[bool], atom: &AtomTree) -> bool {
+    state.get(number(domain, atom)).copied().unwrap_or(false)
+}
+
 fn holds(domain: &Domain, state: &[bool], cond: &CondTree) -> bool {
     match cond {
         CondTree::All(parts) => {
@@ -27,9 +31,7 @@ fn holds(domain: &Domain, state: &[bool], cond: &CondTree) -> bool {
             }
             true
         }
-        CondTree::Atom(positive, atom) => {
-            state.get(number(domain, atom)).copied().unwrap_or(false) == *positive
-        }
+        CondTree::Atom(positive, atom) => has(domain, state, atom) == *positive,
         CondTree::Same(..) => false,
     }
 }
@@ -74,6 +76,7 @@ fn after(
     Ok(next)
 }
 
+// The state of files whose `:init` has nothing but facts that hold.
 fn first(alloc: Global, domain: &Domain, problem: &Problem) -> Result<Vec<bool>, AllocError> {
     let mut state = Vec::new(alloc);
     for _ in domain.predicates.slice() {
@@ -85,6 +88,101 @@ fn first(alloc: Global, domain: &Domain, problem: &Problem) -> Result<Vec<bool>,
         }
     }
     Ok(state)
+}
+
+// How many of these literals are true.
+fn true_of(domain: &Domain, state: &[bool], literals: &[LitTree]) -> usize {
+    literals
+        .iter()
+        .filter(|literal| has(domain, state, &literal.atom) == literal.positive)
+        .count()
+}
+
+// Whether an item of `:init` is true, where the literals of a `oneof` are different ones.
+fn is_true(domain: &Domain, state: &[bool], item: &ItemTree) -> bool {
+    match item {
+        ItemTree::All(parts) => {
+            for part in parts.slice() {
+                if !is_true(domain, state, part) {
+                    return false;
+                }
+            }
+            true
+        }
+        ItemTree::Lit(positive, atom) => has(domain, state, atom) == *positive,
+        ItemTree::OneOf(_, literals) => true_of(domain, state, literals.slice()) == 1,
+        ItemTree::AnyOf(_, literals) => true_of(domain, state, literals.slice()) > 0,
+        ItemTree::Unknown(..) => true,
+    }
+}
+
+// Notes the atoms that an item names.
+fn note(domain: &Domain, item: &ItemTree, named: &mut [bool]) {
+    match item {
+        ItemTree::All(parts) => {
+            for part in parts.slice() {
+                note(domain, part, named);
+            }
+        }
+        ItemTree::Lit(_, atom) => set(domain, atom, true, named),
+        ItemTree::OneOf(_, literals) | ItemTree::AnyOf(_, literals) => {
+            for literal in literals.slice() {
+                set(domain, &literal.atom, true, named);
+            }
+        }
+        ItemTree::Unknown(_, atom) => set(domain, atom, true, named),
+    }
+}
+
+// Each state with one value more: false, where no item names the next atom.
+fn with_value(
+    alloc: Global,
+    states: &[Vec<bool>],
+    named: bool,
+) -> Result<Vec<Vec<bool>>, AllocError> {
+    let mut longer = Vec::new(alloc);
+    for state in states {
+        for value in [false, true] {
+            if named || !value {
+                let mut next = state.to_vec(alloc)?;
+                next.push(value)?;
+                longer.push(next)?;
+            }
+        }
+    }
+    Ok(longer)
+}
+
+// The states in which each item is true and that have no atom that none names.
+fn initial_states(
+    alloc: Global,
+    domain: &Domain,
+    problem: &Problem,
+) -> Result<Vec<Vec<bool>>, AllocError> {
+    let mut named = Vec::new(alloc);
+    for _ in domain.predicates.slice() {
+        named.push(false)?;
+    }
+    for item in problem.init.slice() {
+        note(domain, item, &mut named);
+    }
+    let mut states = Vec::new(alloc);
+    states.push(Vec::new(alloc))?;
+    for named in &named {
+        states = with_value(alloc, &states, *named)?;
+    }
+    let mut initial = Vec::new(alloc);
+    for state in states {
+        if problem
+            .init
+            .slice()
+            .iter()
+            .all(|item| is_true(domain, &state, item))
+        {
+            initial.push(state)?;
+        }
+    }
+    Ok(initial)
 }
 
 // A state, and the actions that led to it.
@@ -138,15 +236,16 @@ fn is_operator_of(operator: &[u8], action: &[u8]) -> bool {
     operator.strip_prefix(b"do_-".as_slice()) == Some(action)
 }
 
-// Whether the operators of the written files, stripped, are a plan of the given ones.
-fn solves(
+// Whether the operators of the written files, stripped, lead to the goal of the given ones from this state.
+fn leads(
     alloc: Global,
     given: &Domain,
     problem: &Problem,
     written: &Domain,
     plan: &[usize],
+    start: &[bool],
 ) -> Result<bool, AllocError> {
-    let mut state = first(alloc, given, problem)?;
+    let mut state = start.to_vec(alloc)?;
     for operator in plan {
         let mut taken = false;
         for schema in given.schemas.slice() {
@@ -169,6 +268,23 @@ fn solves(
     Ok(holds(given, &state, &problem.goal))
 }
 
+// Whether there is an initial state, and from each they lead to the goal.
+fn solves(
+    alloc: Global,
+    given: &Domain,
+    problem: &Problem,
+    written: &Domain,
+    plan: &[usize],
+) -> Result<bool, AllocError> {
+    let starts = initial_states(alloc, given, problem)?;
+    for start in &starts {
+        if !leads(alloc, given, problem, written, plan, start)? {
+            return Ok(false);
+        }
+    }
+    Ok(!starts.is_empty())
+}
+
 const EXCHANGE: &str =
     "(define (domain d) (:predicates (p) (q)) (:action a :precondition (p) :effect (and (q) (not (p)))))";
 
@@ -177,6 +293,11 @@ const EXCHANGES_WHERE_P: &str =
 
 const ADDS_AND_DELETES: &str =
     "(define (domain d) (:predicates (p) (q)) (:action a :precondition (p) :effect (and (q) (not (q)))))";
+
+const ADDS: &str = "(define (domain d) (:predicates (p) (q)) (:action a :effect (q)))";
+
+const FILLS_AND_EXCHANGES: &str =
+    "(define (domain d) (:predicates (p) (q)) (:action b :effect (p)) (:action a :precondition (p) :effect (and (q) (not (p)))))";
 
 // The shelf after `translate` of the two files.
 fn translated(alloc: Global, domain: &str, problem: &str) -> Result<MemoryShelf, Memory> {
@@ -287,6 +408,38 @@ fn plans_found_in_written_files(rt: HostRuntime) -> Result<(), Fail> {
             EXCHANGE,
             "(define (problem e) (:domain d) (:init (q)) (:goal (and)))",
             Verdict::Plan(0),
+        ),
+        (
+            ADDS,
+            "(define (problem e) (:domain d) (:init (unknown (p))) (:goal (q)))",
+            Verdict::Plan(1),
+        ),
+        (
+            EXCHANGE,
+            "(define (problem e) (:domain d) (:init (unknown (p))) (:goal (q)))",
+            Verdict::NoPlan,
+        ),
+        (
+            EXCHANGE,
+            "(define (problem e) (:domain d) (:init (or (p) (q)) (p)) (:goal (q)))",
+            Verdict::Plan(1),
+        ),
+        // `p` holds in both initial states, though no item is `p` alone.
+        (
+            EXCHANGE,
+            "(define (problem e) (:domain d) (:init (or (p) (q)) (or (p) (not (q)))) (:goal (q)))",
+            Verdict::Plan(1),
+        ),
+        (
+            FILLS_AND_EXCHANGES,
+            "(define (problem e) (:domain d) (:init (oneof (p) (q))) (:goal (and (q) (not (p)))))",
+            Verdict::Plan(2),
+        ),
+        // The action is a plan, but the empty tag alone doesn't tell so.
+        (
+            EXCHANGES_WHERE_P,
+            "(define (problem e) (:domain d) (:init (oneof (p) (q))) (:goal (q)))",
+            Verdict::NoPlan,
         ),
     ];
     for (domain, problem, wanted) in &cases {

@@ -2,6 +2,8 @@ pub mod Exact
 pub mod Monotone
 pub mod Sound
 pub mod OneSided
+pub mod Inductive
+pub mod Union
 pub mod Apart
 pub mod Operators
 pub mod OneTag

@@ -1,5 +1,5 @@
 -- What is proved of the tagged machine.
-use Rattle.std.specs.Prelude.{◌≡◌, true, not, ◌&&◌, ◌||◌, List, [], map, length}
+use Rattle.std.specs.Prelude.{◌≡◌, ℕ, true, false, not, ◌&&◌, ◌||◌, List, [], map, length}
 use Rattle.std.specs.List.{list_any, list_all}
 use Rattle.kp_base.specs.declared.lit.Lit.{Lit}
 use Rattle.kp_base.specs.declared.ground.Effect.{Effect}
@@ -8,9 +8,10 @@ use Rattle.kp_base.specs.declared.ground.Ground.{Ground}
 use Rattle.kp_base.specs.declared.ground.Initial.{Initial}
 use Rattle.kp_base.specs.declared.ground.TagTable.{TagTable}
 use Rattle.kp_base.specs.Lit.{negated, same_lit}
-use Rattle.kp_base.specs.Steps.{Facts, fires, IsGroundPlan}
+use Rattle.kp_base.specs.Steps.{State, Facts, fires, is_model, runs, state_after, IsGroundPlan}
 use Rattle.kp_base.specs.Entailed.{IsClosure, IsTable, AreValid}
-use Rattle.kp_base.specs.Clashes.{NeverClashes, is_one_sided, no_pairs, HasNoClash}
+use Rattle.kp_base.specs.Clashes.{NeverClashes, is_one_sided, Pairs, no_pairs, HasNoClash}
+use Rattle.kp_base.specs.Exclusive.{IsInductive, AreExclusive}
 use Rattle.kp_base.specs.Machine.{MachineStep, facts_after, accepts, stripped, one_tag_table}
 
 -- ---- soundness
@@ -26,6 +27,18 @@ OneSidedNeverClashes = (g : Ground) (i : Initial) → list_all is_one_sided g.ac
 -- where no add and delete of one atom have conditions without a literal and its negation, nothing clashes
 abbrev pub ApartNeverClashes : Type 0
 ApartNeverClashes = (g : Ground) (i : Initial) → HasNoClash no_pairs g → NeverClashes g i
+
+-- no state on a run from a model has both atoms of a pair of an inductive set
+abbrev pub InductivePairsStayApart : Type 0
+InductivePairsStayApart = (g : Ground) (i : Initial) (atoms : ℕ) (pairs : Pairs) → IsInductive g i atoms pairs → (s : State) (ns : List ℕ) → is_model i s ≡ true → runs g s ns ≡ true → (p q : ℕ) → pairs p q ≡ true → (state_after g s ns p && state_after g s ns q) ≡ false
+
+-- where no action clashes under an inductive set, nothing clashes
+abbrev pub InductiveNeverClashes : Type 0
+InductiveNeverClashes = (g : Ground) (i : Initial) (atoms : ℕ) (pairs : Pairs) → IsInductive g i atoms pairs → HasNoClash pairs g → NeverClashes g i
+
+-- the exclusive pairs are an inductive set, and so the greatest one
+abbrev pub ExclusivePairsAreInductive : Type 0
+ExclusivePairsAreInductive = (g : Ground) (i : Initial) (atoms : ℕ) (pairs : Pairs) → AreExclusive g i atoms pairs → IsInductive g i atoms pairs
 
 -- ---- operators
 

@@ -1,6 +1,6 @@
 //! Laws of the tagged machine, each proved as the contract of a function that does nothing.
 
-ghost use Rattle.kp_machine.specs.Laws.{ApartNeverClashes, IsSound, OneSidedNeverClashes, OneTagHasNoMerges, OneTagIsTable, OperatorsAreExact};
+ghost use Rattle.kp_machine.specs.Laws.{ApartNeverClashes, ExclusivePairsAreInductive, InductiveNeverClashes, InductivePairsStayApart, IsSound, OneSidedNeverClashes, OneTagHasNoMerges, OneTagIsTable, OperatorsAreExact};
 
 /// Each list that the machine accepts is, without its merges, a plan from every model.
 #[tactic(auto, using(crate::proofs::Sound::sound))]
@@ -18,6 +18,24 @@ pub fn one_sided_actions_never_clash()
 #[tactic(auto, using(crate::proofs::Apart::never_clashes))]
 pub fn apart_effects_never_clash()
     ensures { ApartNeverClashes }
+{}
+
+/// In no state on a run from a model are both atoms of a pair of an inductive set true.
+#[tactic(auto, using(crate::proofs::Inductive::stay_apart))]
+pub fn inductive_pairs_stay_apart()
+    ensures { InductivePairsStayApart }
+{}
+
+/// Where no add and delete of one atom are compatible under an inductive set of pairs, no add is ever done together with its delete.
+#[tactic(auto, using(crate::proofs::Inductive::never_clashes))]
+pub fn no_clash_under_inductive_pairs()
+    ensures { InductiveNeverClashes }
+{}
+
+/// The exclusive pairs are an inductive set.
+#[tactic(auto, using(crate::proofs::Union::union_inductive))]
+pub fn exclusive_pairs_are_inductive()
+    ensures { ExclusivePairsAreInductive }
 {}
 
 /// The two effects that an operator has for each effect of its action do what the machine does.

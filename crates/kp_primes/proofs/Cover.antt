@@ -75,7 +75,7 @@ pick ps d l h =
 
 module _ (m : State → Bool) (ps : List (List Lit)) (cover : IsCover m ps) (c : List Lit) where
   part_step_each : (seen rest : List Lit) (l : Lit) (es : List (List Lit)) → IsPart m ps c seen (l ∷ rest) es → (x : List Lit) → Member (stepped ps l es) x → Fits (both m c) x
-  part_step_each seen rest l es part = stepped_keeps ps l (Fits (both m c)) es (λ e p in-e _ in-p _ proper. record {
+  part_step_each seen rest l es part = stepped_keeps ps l (Fits (both m c)) es (λ e p in-e _ in-p _ proper _. record {
     proper = proper;
     set = resolved_ascending e p l;
     sound = λ s h. resolved_true s e p l ((part.each e in-e).sound s h) ((cover.each p in-p).sound s (and_parts (m s) (list_any (holds s) c) h).0);

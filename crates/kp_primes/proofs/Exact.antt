@@ -52,7 +52,7 @@ pub all_included_apart : (ps cs : List (List Lit)) → are_apart ps ≡ true →
 all_included_apart ps [] h = h
 all_included_apart ps (c ∷ cs) h = all_included_apart (included ps c) cs (included_apart ps c h)
 
-once : (cs : List (List Lit)) → are_apart cs ≡ true → IsOnce cs
+pub once : (cs : List (List Lit)) → are_apart cs ≡ true → IsOnce cs
 once [] h = tt
 once (c ∷ cs) h =
     let parts = and_parts (list_all (λ d. not (is_within c d || is_within d c)) cs) (are_apart cs) h in (

@@ -4,6 +4,7 @@ pub mod Ranging
 pub mod Exact
 pub mod Counting
 pub mod Lengths
+pub mod Growing
 pub mod Sorting
 pub mod Asking
 pub mod Closing

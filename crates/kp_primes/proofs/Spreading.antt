@@ -31,14 +31,14 @@ module _ (ps : List (List Lit)) (l : Lit) where
       go false true _ is = or_right (subsumed (met ps e l p fs) d) (subsumed ps d) (subsumed_within ps (resolved e p l) d (within_member (resolved e p l) d inside) is)
       go false false t s = or_left (subsumed (met ps e l p fs) d) (subsumed ps d) (rw (here, t, s) (with_clause_new fs (resolved e p l) d inside))
 
-  pub met_keeps : (Q : List Lit → Type 0) (e p : List Lit) (fs : List (List Lit)) → (has p (negated l) ≡ true → is_tautology (resolved e p l) ≡ false → Q (resolved e p l)) → ((x : List Lit) → Member fs x → Q x) → (x : List Lit) → Member (met ps e l p fs) x → Q x
-  met_keeps Q e p fs new old x m = go (has p (negated l)) (is_tautology (resolved e p l)) (subsumed ps (resolved e p l)) refl refl m
+  pub met_keeps : (Q : List Lit → Type 0) (e p : List Lit) (fs : List (List Lit)) → (has p (negated l) ≡ true → is_tautology (resolved e p l) ≡ false → subsumed ps (resolved e p l) ≡ false → Q (resolved e p l)) → ((x : List Lit) → Member fs x → Q x) → (x : List Lit) → Member (met ps e l p fs) x → Q x
+  met_keeps Q e p fs new old x m = go (has p (negated l)) (is_tautology (resolved e p l)) (subsumed ps (resolved e p l)) refl refl refl m
     where
-      go : (a b c : Bool) → has p (negated l) ≡ a → is_tautology (resolved e p l) ≡ b → Member (cond (a && not (b || c)) (with_clause fs (resolved e p l)) fs) x → Q x
-      go false b c _ _ m = old x m
-      go true true c _ _ m = old x m
-      go true false true _ _ m = old x m
-      go true false false here proper m = elim (with_clause_member fs (resolved e p l) x m) [ inl r ↦ old x r | inr is ↦ subst Q is (new here proper) ]
+      go : (a b c : Bool) → has p (negated l) ≡ a → is_tautology (resolved e p l) ≡ b → subsumed ps (resolved e p l) ≡ c → Member (cond (a && not (b || c)) (with_clause fs (resolved e p l)) fs) x → Q x
+      go false b c _ _ _ m = old x m
+      go true true c _ _ _ m = old x m
+      go true false true _ _ _ m = old x m
+      go true false false here proper free m = elim (with_clause_member fs (resolved e p l) x m) [ inl r ↦ old x r | inr is ↦ subst Q is (new here proper free) ]
 
   pub met_all_old : (e : List Lit) (qs fs : List (List Lit)) (d : List Lit) → subsumed fs d ≡ true → subsumed (met_all ps e l qs fs) d ≡ true
   met_all_old e [] fs d h = h
@@ -54,7 +54,7 @@ module _ (ps : List (List Lit)) (l : Lit) where
     | inr r ↦ met_all_reaches e qs (met ps e l q fs) p r here d proper inside
   ]
 
-  pub met_all_keeps : (Q : List Lit → Type 0) (e : List Lit) (qs fs : List (List Lit)) → ((p : List Lit) → Member qs p → has p (negated l) ≡ true → is_tautology (resolved e p l) ≡ false → Q (resolved e p l)) → ((x : List Lit) → Member fs x → Q x) → (x : List Lit) → Member (met_all ps e l qs fs) x → Q x
+  pub met_all_keeps : (Q : List Lit → Type 0) (e : List Lit) (qs fs : List (List Lit)) → ((p : List Lit) → Member qs p → has p (negated l) ≡ true → is_tautology (resolved e p l) ≡ false → subsumed ps (resolved e p l) ≡ false → Q (resolved e p l)) → ((x : List Lit) → Member fs x → Q x) → (x : List Lit) → Member (met_all ps e l qs fs) x → Q x
   met_all_keeps Q e [] fs new old x m = old x m
   met_all_keeps Q e (q ∷ qs) fs new old x m = met_all_keeps Q e qs (met ps e l q fs) (λ p n. new p (inr n)) (met_keeps Q e q fs (new q (inl refl)) old) x m
 
@@ -76,7 +76,7 @@ module _ (ps : List (List Lit)) (l : Lit) where
     | inr r ↦ spread_reaches es (cond (has x l) (met_all ps x l ps fs) fs) e p r has-l n here d proper inside
   ]
 
-  pub spread_keeps : (Q : List Lit → Type 0) (es fs : List (List Lit)) → ((e p : List Lit) → Member es e → has e l ≡ true → Member ps p → has p (negated l) ≡ true → is_tautology (resolved e p l) ≡ false → Q (resolved e p l)) → ((x : List Lit) → Member fs x → Q x) → (x : List Lit) → Member (spread ps l es fs) x → Q x
+  pub spread_keeps : (Q : List Lit → Type 0) (es fs : List (List Lit)) → ((e p : List Lit) → Member es e → has e l ≡ true → Member ps p → has p (negated l) ≡ true → is_tautology (resolved e p l) ≡ false → subsumed ps (resolved e p l) ≡ false → Q (resolved e p l)) → ((x : List Lit) → Member fs x → Q x) → (x : List Lit) → Member (spread ps l es fs) x → Q x
   spread_keeps Q [] fs new old x m = old x m
   spread_keeps Q (e ∷ es) fs new old x m = spread_keeps Q es (cond (has e l) (met_all ps e l ps fs) fs) (λ e' p n. new e' p (inr n)) (go (has e l) refl) x m
     where
@@ -93,7 +93,7 @@ module _ (ps : List (List Lit)) (l : Lit) where
     | inr a ↦ or_right (subsumed (stepped ps l es) d) (subsumed ps d) a
   ]
 
-  pub stepped_keeps : (Q : List Lit → Type 0) (es : List (List Lit)) → ((e p : List Lit) → Member es e → has e l ≡ true → Member ps p → has p (negated l) ≡ true → is_tautology (resolved e p l) ≡ false → Q (resolved e p l)) → ((x : List Lit) → Member es x → Q x) → (x : List Lit) → Member (stepped ps l es) x → Q x
+  pub stepped_keeps : (Q : List Lit → Type 0) (es : List (List Lit)) → ((e p : List Lit) → Member es e → has e l ≡ true → Member ps p → has p (negated l) ≡ true → is_tautology (resolved e p l) ≡ false → subsumed ps (resolved e p l) ≡ false → Q (resolved e p l)) → ((x : List Lit) → Member es x → Q x) → (x : List Lit) → Member (stepped ps l es) x → Q x
   stepped_keeps Q es new old x m = elim (with_all_member es (spread ps l es []) x m) [
     | inl r ↦ old x r
     | inr r ↦ spread_keeps Q es [] new (λ x n. absurd n) x r

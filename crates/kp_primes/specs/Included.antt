@@ -1,18 +1,20 @@
 -- Clauses that are put one after another into a store of prime implicates. This file serves proofs alone.
-use Rattle.std.specs.Prelude.{◌≡◌, ℕ, Bool, not, ◌||◌, ◌&&◌, cond, List, [], ◌∷◌, ◌≤◌, ◌<◌, take, length}
+use Rattle.std.specs.Prelude.{◌≡◌, ℕ, Bool, true, false, not, ◌||◌, ◌&&◌, cond, List, [], ◌∷◌, ◌≤◌, ◌<◌, take, length}
 use Rattle.kp_base.specs.declared.lit.Lit.{Lit}
 use Rattle.kp_base.specs.declared.lit.AtomId.{AtomId}
 use Rattle.kp_base.specs.declared.refused.Stop.{Stop}
 use Rattle.kp_base.specs.declared.refused.Stop.TheVariants as stops
 use Rattle.kp_base.specs.declared.refused.Refused.{Refused}
 use Rattle.kp_base.specs.declared.refused.Refused.TheVariants as refusals
+use Rattle.kp_primes.specs.declared.include.Entry.{Entry}
+use Rattle.kp_primes.specs.declared.include.Entry.TheVariants as entries
 use Rattle.kp_base.specs.Lists.{Member}
 use Rattle.kp_base.specs.Lit.{negated, negative}
 use Rattle.kp_base.specs.LitSet.{IsAscending}
 use Rattle.kp_base.specs.Steps.{has}
-use Rattle.kp_base.specs.Implicates.{is_tautology}
+use Rattle.kp_base.specs.Implicates.{is_within, is_tautology}
 use Rattle.kp_clauses.specs.Resolved.{resolved}
-use Rattle.kp_clauses.specs.Stored.{subsumed, with_clause, with_all}
+use Rattle.kp_clauses.specs.Stored.{subsumed, with_clause, with_all, are_apart}
 
 -- ---- one clause
 
@@ -52,9 +54,31 @@ abbrev pub all_included : List (List Lit) → List (List Lit) → List (List Lit
 all_included ps [] = ps
 all_included ps (c ∷ cs) = all_included (included ps c) cs
 
+-- what became of a clause that was put in: the store has it, and no more than the limit; or there are more with it
+abbrev pub Enters : List (List Lit) → List Lit → ℕ → List (List Lit) → Entry → Type 0
+Enters ps c limit qs entries.In = (qs ≡ included ps c) × (length qs ≤ limit)
+Enters ps c limit qs entries.Over = limit < length (included ps c)
+
+-- what became of new clauses: they are resolved on these literals, or there are more than the limit
+abbrev pub Walks : List (List Lit) → List Lit → List (List Lit) → ℕ → List (List Lit) → Entry → Type 0
+Walks ps ls es limit fs entries.In = fs ≡ walked ps ls es
+Walks ps ls es limit fs entries.Over = limit < length (with_all ps (walked ps ls es))
+
+-- whether a store is within the limit
+abbrev pub Counts : List (List Lit) → ℕ → Entry → Type 0
+Counts ps limit entries.In = length ps ≤ limit
+Counts ps limit entries.Over = limit < length ps
+
 -- the clause that an atom is false
 abbrev pub unit_of : AtomId → List Lit
 unit_of p = negative p.0 ∷ []
+
+-- new clauses where these literals are still to be resolved on: each has them, none is within another, and no prime implicate is within one
+pub record AreNew (ps : List (List Lit)) (rest : List Lit) (es : List (List Lit)) : Type 0 where
+  pub rising : IsAscending rest
+  pub apart : are_apart es ≡ true
+  pub rest_in : (e : List Lit) → Member es e → is_within rest e ≡ true
+  pub free : (e : List Lit) → Member es e → subsumed ps e ≡ false
 
 -- ---- all clauses
 

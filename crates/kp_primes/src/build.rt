@@ -4,12 +4,13 @@ ghost use Rattle.kp_base.specs.LitSet.{lits_cmp};
 ghost use Rattle.kp_clauses.specs.Stored.{subsumed};
 ghost use Rattle.kp_primes.specs.Included.{unit_of, all_included, AreCounted, StopsPrefix};
 
-use crate::include::include;
+use crate::include::{Entry, include, include_unit};
 use kp_base::{AtomId, Lit, LitSet, Memory, Refused, Stop};
 use kp_clauses::Store;
 use std::alloc::Global;
 
-/// Puts clauses into an empty store, one after another. Refuses the first after which it has more than the limit.
+/// Puts clauses into an empty store, one after another. Refuses the first with which there are more prime implicates
+/// than the limit.
 pub fn include_all(
     alloc: Global,
     store: &mut Store,
@@ -23,25 +24,14 @@ pub fn include_all(
     let _many = clauses.len();
     let mut prefix: u64 = 0;
     for c in clauses {
-        include(alloc, store, c)?;
+        let entry = include(alloc, store, c, limit)?;
         prefix += 1;
-        if store.clauses().len() > limit as usize {
-            return Err(Stop::Refused(Refused::ImplicatesOver { prefix }));
+        match entry {
+            Entry::Over => return Err(Stop::Refused(Refused::ImplicatesOver { prefix })),
+            Entry::In => {}
         }
     }
     Ok(())
-}
-
-// The clause that an atom is false.
-fn false_atom(alloc: Global, atom: AtomId) -> Result<LitSet, Memory>
-    ensures { IfOk result (λ c. c ≡ unit_of atom) }
-{
-    let mut unit = LitSet::new(alloc);
-    unit.insert(Lit {
-        atom,
-        positive: false,
-    })?;
-    Ok(unit)
 }
 
 /// Puts into a store that atoms are false.
@@ -49,8 +39,11 @@ pub fn include_closed(alloc: Global, store: &mut Store, closed: &[AtomId]) -> Re
     ensures { OnOk result (store.new ≡ all_included store.old (map unit_of closed.now)) }
 {
     for p in closed {
-        let unit = false_atom(alloc, *p)?;
-        include(alloc, store, &unit)?;
+        let lit = Lit {
+            atom: *p,
+            positive: false,
+        };
+        include_unit(alloc, store, lit)?;
     }
     Ok(())
 }

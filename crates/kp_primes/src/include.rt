@@ -1,6 +1,6 @@
-ghost use Rattle.std.specs.Prelude.{◌≡◌, false, OnOk};
+ghost use Rattle.std.specs.Prelude.{◌≡◌, false, [], ◌∷◌, OnOk, IfOk};
 ghost use Rattle.kp_base.specs.LitSet.{IsAscending};
-ghost use Rattle.kp_primes.specs.Included.{met, met_all, spread, walked, idle, included};
+ghost use Rattle.kp_primes.specs.Included.{met, met_all, spread, stepped, AreNew, Counts, Walks, Enters, idle, included};
 
 use kp_base::{Lit, LitSet, Memory};
 use kp_clauses::{Store, has_lit, is_tautology, resolve};
@@ -62,16 +62,54 @@ fn spread(
     Ok(())
 }
 
-// The new clauses after resolving on each of these literals in turn.
-fn walk(alloc: Global, primes: &Store, news: &mut Store, lits: &[Lit]) -> Result<(), Memory>
-    ensures { OnOk result (news.new ≡ walked primes.now lits.now news.old) }
+// Resolves the new clauses on a literal, and puts in what is new.
+fn step(alloc: Global, primes: &Store, news: &mut Store, lit: Lit) -> Result<(), Memory>
+    ensures { OnOk result (news.new ≡ stepped primes.now lit news.old) }
+{
+    let mut fresh = Store::new(alloc);
+    spread(alloc, primes, &mut fresh, news.clauses().slice(), lit)?;
+    news.add_all(fresh)?;
+    Ok(())
+}
+
+/// What became of a clause that was put in.
+#[derive(Clone, Copy)]
+pub enum Entry {
+    /// The store has it, and no more clauses than the limit.
+    In,
+    /// With it there are more prime implicates than the limit. The store may have none of the new ones, or all.
+    Over,
+}
+
+// Whether a store has more clauses than the limit.
+fn counted(store: &Store, limit: u32) -> Entry
+    ensures { Counts store.now limit result }
+{
+    if store.clauses().len() > limit as usize {
+        return Entry::Over;
+    }
+    Entry::In
+}
+
+// Resolves the new clauses on each of these literals in turn. Their number never falls, and in the end all of them are
+// put in; so it may stop where they are more than the limit.
+fn walk(
+    alloc: Global,
+    primes: &Store,
+    news: &mut Store,
+    lits: &[Lit],
+    limit: u32,
+) -> Result<Entry, Memory>
+    requires { AreNew primes.now lits.now news.old }
+    ensures { IfOk result (Walks primes.now lits.now news.old limit news.new) }
 {
     for l in lits {
-        let mut fresh = Store::new(alloc);
-        spread(alloc, primes, &mut fresh, news.clauses().slice(), *l)?;
-        news.add_all(fresh)?;
+        step(alloc, primes, news, *l)?;
+        if let Entry::Over = counted(news, limit) {
+            return Ok(Entry::Over);
+        }
     }
-    Ok(())
+    Ok(Entry::In)
 }
 
 // Whether a clause brings nothing new.
@@ -82,27 +120,55 @@ fn is_idle(primes: &Store, c: &LitSet) -> bool
 }
 
 // Puts in a clause that brings something new.
-fn include_new(alloc: Global, primes: &mut Store, c: &LitSet) -> Result<(), Memory>
+fn include_new(alloc: Global, primes: &mut Store, c: &LitSet, limit: u32) -> Result<Entry, Memory>
     requires { idle primes.now c.now ≡ false }
-    ensures { OnOk result (primes.new ≡ included primes.old c.now) }
+    ensures { IfOk result (Enters primes.old c.now limit primes.new) }
 {
     let mut news = Store::new(alloc);
     news.add(c.copy(alloc)?)?;
-    walk(alloc, primes, &mut news, c.slice())?;
+    if let Entry::Over = walk(alloc, primes, &mut news, c.slice(), limit)? {
+        return Ok(Entry::Over);
+    }
     primes.add_all(news)?;
-    Ok(())
+    Ok(counted(primes, limit))
 }
 
 /// Puts one clause more into a store of prime implicates: it is resolved, literal by literal, with those that have the
-/// literal's negation (Kean and Tsiknis's incremental method). At `Memory` the store may have some of what is new.
-pub fn include(alloc: Global, primes: &mut Store, c: &LitSet) -> Result<(), Memory>
-    ensures included { OnOk result (primes.new ≡ included primes.old c.now) }
+/// literal's negation (Kean and Tsiknis's incremental method). Stops after the literal with which there are more new
+/// clauses than the limit. At `Memory` the store may have some of what is new.
+pub fn include(alloc: Global, primes: &mut Store, c: &LitSet, limit: u32) -> Result<Entry, Memory>
+    ensures entry { IfOk result (Enters primes.old c.now limit primes.new) }
     ensures ascending { OnOk result (IsAscending c.now) }
 {
     let _ascending = c.slice();
     if is_idle(primes, c) {
+        return Ok(counted(primes, limit));
+    }
+    let entry = include_new(alloc, primes, c, limit)?;
+    Ok(entry)
+}
+
+// The clause of one literal.
+fn unit_clause(alloc: Global, lit: Lit) -> Result<LitSet, Memory>
+    ensures { IfOk result (λ c. c ≡ lit ∷ []) }
+{
+    let mut unit = LitSet::new(alloc);
+    unit.insert(lit)?;
+    Ok(unit)
+}
+
+/// Puts in the clause of one literal, with no limit: it brings at most one new clause for each prime implicate. At
+/// `Memory` the store may have some of what is new.
+pub fn include_unit(alloc: Global, primes: &mut Store, lit: Lit) -> Result<(), Memory>
+    ensures { OnOk result (primes.new ≡ included primes.old (lit ∷ [])) }
+{
+    let unit = unit_clause(alloc, lit)?;
+    if is_idle(primes, &unit) {
         return Ok(());
     }
-    include_new(alloc, primes, c)?;
+    let mut news = Store::new(alloc);
+    news.add(unit)?;
+    step(alloc, primes, &mut news, lit)?;
+    primes.add_all(news)?;
     Ok(())
 }

@@ -100,3 +100,36 @@ fn finds_no_initial_state(rt: HostRuntime) -> Result<(), Fail> {
     assert!(rt; primes.entails(&LitSet::new(alloc), second));
     Ok(())
 }
+
+// Four atoms of which each implies fourteen others of its own, and then that one of the four holds: 15 to the fourth
+// power new prime implicates come with the last clause alone.
+fn fan(alloc: Global) -> Result<Initial, Memory> {
+    let mut initial = formula(alloc, &[], &[])?;
+    for i in 0..4 {
+        for j in 0..14 {
+            let implied = clause(alloc, &[(i, false), (4 + 14 * i + j, true)])?;
+            initial.clauses.push(implied)?;
+        }
+    }
+    let some = clause(alloc, &[(0, true), (1, true), (2, true), (3, true)])?;
+    initial.clauses.push(some)?;
+    Ok(initial)
+}
+
+#[test]
+fn stops_within_a_clause(rt: HostRuntime) -> Result<(), Fail> {
+    let alloc = rt.alloc();
+    let initial = fan(alloc)?;
+    if !is_of_atoms(&initial, 60) {
+        assert!(rt; false, "there are more atoms than 60");
+        return Ok(());
+    }
+    let refused = Primes::build(alloc, &initial, 60, 300);
+    assert!(rt;
+        matches!(
+            refused,
+            Err(Stop::Refused(Refused::ImplicatesOver { prefix: 57 }))
+        )
+    );
+    Ok(())
+}

@@ -1,0 +1,228 @@
+-- Rows of bits by their words.
+use Rattle.std.proofs.Common.{◌≡◌, ◌≢◌, ◌<◌, ◌≤◌, ◌+◌, ◌*◌, ◌/◌, ◌%◌, ⊎_elim, ℕ, zero, suc, Bool, true, false, ◌||◌, List, Some, length, set, replicate, get_or, slice_get, nat_eq, max, bit_or, refl, sym, ap, subst, ◌∙◌, arith, length-set, get_or-set_same, get_or-set_other}
+use Rattle.std.proofs.lemmas.Bool.{eqb-true, eq-eqb, cases_eq, cases_lt, both_ways}
+use Rattle.std.proofs.lemmas.List.{length-map, ext_get_or, get_or-replicate, get_or-map, length-replicate, get_or_past}
+use Rattle.std.proofs.lemmas.Grind.{get_or_default_zero}
+use Rattle.std.proofs.lemmas.List.FromFn.{length-map-range_with_len, get_or-map-range_with_len}
+use Rattle.std.proofs.lemmas.Option.{slice_get_within, slice_get-get_or}
+use Rattle.std.proofs.lemmas.Nat.{div-mul-add, mod-mul-add}
+use Rattle.std.proofs.lemmas.Nat.Bits.{bit_at_or, bit_at-zero, bit_at-lt}
+use Rattle.std.proofs.lemmas.Slice.Zip.{length-zip, get_or-zip}
+use Rattle.std.specs.Int.{bit_at}
+use Rattle.std.specs.List.{zip}
+use Rattle.kp_bits.specs.Packed.{bit_of, bits_of, IsPacked}
+use Rattle.kp_bits.specs.Rows.{either, IsWithin}
+
+pub length-bits_of : (n : ℕ) (ws : List ℕ) → length (bits_of n ws) ≡ n
+length-bits_of n ws = length-map-range_with_len (bit_of ws) 0 n
+
+pub get_or-bits_of : (n : ℕ) (ws : List ℕ) (i : ℕ) (d : Bool) → i < n → get_or (bits_of n ws) i d ≡ bit_of ws i
+get_or-bits_of n ws i d h = get_or-map-range_with_len (bit_of ws) 0 n i i d h (omega arith)
+
+pub slice_get-bits_of : (n : ℕ) (ws : List ℕ) (i : ℕ) → i < n → slice_get (bits_of n ws) i ≡ Some (bit_of ws i)
+slice_get-bits_of n ws i h = slice_get-get_or (bits_of n ws) i false (rw (length-bits_of n ws) h) ∙ ap Some (get_or-bits_of n ws i false h)
+
+-- the word of a bit is there
+pub word_there : (n : ℕ) (ws : List ℕ) (i : ℕ) → IsPacked n ws → i < n → i / 64 < length ws
+word_there n ws i p h = let e = p.enough in omega arith
+
+-- rows of one length have as many words
+pub same_count : (n m : ℕ) (ws vs : List ℕ) → IsPacked n ws → IsPacked m vs → n ≡ m → length ws ≡ length vs
+same_count n m ws vs p q e = let a = p.enough in let b = p.no_more in let c = q.enough in let d = q.no_more in omega arith
+
+-- a row is what each of its bits is
+pub row_is : (n : ℕ) (ws : List ℕ) (xs : List Bool) → length xs ≡ n → ((i : ℕ) → i < n → bit_of ws i ≡ get_or xs i false) → bits_of n ws ≡ xs
+row_is n ws xs e f =
+    ext_get_or false (bits_of n ws) xs (length-bits_of n ws ∙ sym e) (λ i h.
+    let in_range : i < n = subst (λ k. i < k) (length-bits_of n ws) h in
+    get_or-bits_of n ws i false in_range ∙ f i in_range)
+
+-- a place in the row is below its length
+pub in_row : (n : ℕ) (ws : List ℕ) (i : ℕ) (xs : List Bool) → bits_of n ws ≡ xs → i < length xs → i < n
+in_row n ws i xs e h = subst (λ k. i < k) (ap length (sym e) ∙ length-bits_of n ws) h
+
+-- the word that a read at a place gives
+pub word_read : (n : ℕ) (ws : List ℕ) (i w : ℕ) → IsPacked n ws → i < n → w ≡ get_or ws (i / 64) w → w ≡ get_or ws (i / 64) 0
+word_read n ws i w p h e = e ∙ get_or_default_zero ws (i / 64) w (word_there n ws i p h)
+
+-- rows of one length have one number of bits
+pub same_size : (n m : ℕ) (ws vs : List ℕ) (xs ys : List Bool) → bits_of n ws ≡ xs → bits_of m vs ≡ ys → length xs ≡ length ys → n ≡ m
+same_size n m ws vs xs ys e f h = sym (length-bits_of n ws) ∙ (ap length e ∙ (h ∙ (ap length (sym f) ∙ length-bits_of m vs)))
+
+-- ---- no bits set
+
+pub all_clear : (n m i : ℕ) → bit_of (replicate m 0) i ≡ false
+all_clear n m i = ap (λ w. nat_eq (bit_at w (i % 64)) 1) zero_word ∙ ap (λ b. nat_eq b 1) (bit_at-zero (i % 64))
+  where
+    zero_word : get_or (replicate m zero) (i / 64) zero ≡ zero
+    zero_word = ⊎_elim (λ l. get_or-replicate m (i / 64) zero zero l) (λ ge. get_or_past (replicate m zero) (i / 64) zero (rw (length-replicate m zero) ge)) (cases_lt (i / 64) m)
+
+pub zeros : (n m : ℕ) → bits_of n (replicate m 0) ≡ replicate n false
+zeros n m = row_is n (replicate m 0) (replicate n false) (length-replicate n false) (λ i h. all_clear n m i ∙ sym (get_or-replicate n i false false h))
+
+-- ---- one bit changed
+
+-- what becomes of a word that holds the bit
+abbrev pub IsChanged : ℕ → ℕ → ℕ → ℕ → Type 0
+IsChanged old new k b = (bit_at new k ≡ b) × ((j : ℕ) → j < 64 → j ≢ k → bit_at new j ≡ bit_at old j)
+
+bit_same : (n : ℕ) (ws : List ℕ) (i w b : ℕ) → IsPacked n ws → i < n → IsChanged (get_or ws (i / 64) 0) w (i % 64) b → bit_of (set ws (i / 64) w) i ≡ nat_eq b 1
+bit_same n ws i w b p h c = ap (λ v. nat_eq (bit_at v (i % 64)) 1) (get_or-set_same ws (i / 64) w 0 (word_there n ws i p h)) ∙ ap (λ x. nat_eq x 1) c.0
+
+bit_other : (n : ℕ) (ws : List ℕ) (i j w b : ℕ) → IsPacked n ws → i < n → IsChanged (get_or ws (i / 64) 0) w (i % 64) b → j ≢ i → bit_of (set ws (i / 64) w) j ≡ bit_of ws j
+bit_other n ws i j w b p h c ne = ⊎_elim here there (cases_eq (j / 64) (i / 64))
+  where
+    there : j / 64 ≢ i / 64 → bit_of (set ws (i / 64) w) j ≡ bit_of ws j
+    there e = ap (λ v. nat_eq (bit_at v (j % 64)) 1) (get_or-set_other ws (i / 64) (j / 64) w 0 e)
+
+    here : j / 64 ≡ i / 64 → bit_of (set ws (i / 64) w) j ≡ bit_of ws j
+    here e =
+        let apart : j % 64 ≢ i % 64 = λ f. ne (omega arith) in
+        ap (λ v. nat_eq (bit_at v (j % 64)) 1) (ap (λ k. get_or (set ws (i / 64) w) k 0) e ∙ get_or-set_same ws (i / 64) w 0 (word_there n ws i p h))
+        ∙ (ap (λ x. nat_eq x 1) (c.1 (j % 64) (omega arith) apart)
+        ∙ ap (λ k. nat_eq (bit_at (get_or ws k 0) (j % 64)) 1) (sym e))
+
+pub changed_row : (n : ℕ) (ws : List ℕ) (i w b : ℕ) → IsPacked n ws → i < n → IsChanged (get_or ws (i / 64) 0) w (i % 64) b → bits_of n (set ws (i / 64) w) ≡ set (bits_of n ws) i (nat_eq b 1)
+changed_row n ws i w b p h c = row_is n (set ws (i / 64) w) (set (bits_of n ws) i (nat_eq b 1)) (length-set (bits_of n ws) i (nat_eq b 1) ∙ length-bits_of n ws) each
+  where
+    each : (j : ℕ) → j < n → bit_of (set ws (i / 64) w) j ≡ get_or (set (bits_of n ws) i (nat_eq b 1)) j false
+    each j l = ⊎_elim same other (cases_eq j i)
+      where
+        same : j ≡ i → bit_of (set ws (i / 64) w) j ≡ get_or (set (bits_of n ws) i (nat_eq b 1)) j false
+        same e =
+            ap (bit_of (set ws (i / 64) w)) e
+            ∙ (bit_same n ws i w b p h c
+            ∙ (sym (get_or-set_same (bits_of n ws) i (nat_eq b 1) false (rw (length-bits_of n ws) h))
+            ∙ ap (λ k. get_or (set (bits_of n ws) i (nat_eq b 1)) k false) (sym e)))
+
+        other : j ≢ i → bit_of (set ws (i / 64) w) j ≡ get_or (set (bits_of n ws) i (nat_eq b 1)) j false
+        other ne =
+            bit_other n ws i j w b p h c ne
+            ∙ sym (get_or-set_other (bits_of n ws) i j (nat_eq b 1) false ne ∙ get_or-bits_of n ws j false l)
+
+pub changed_packed : (n : ℕ) (ws : List ℕ) (i w b : ℕ) → IsPacked n ws → i < n → IsChanged (get_or ws (i / 64) 0) w (i % 64) b → IsPacked n (set ws (i / 64) w)
+changed_packed n ws i w b p h c = record {
+  enough = rw (length-set ws (i / 64) w) p.enough;
+  no_more = rw (length-set ws (i / 64) w) p.no_more;
+  clear_past = λ j l. bit_other n ws i j w b p h c (λ e. omega arith) ∙ p.clear_past j l;
+}
+
+-- ---- two rows
+
+-- the words us are those of ws with the bits of vs set
+abbrev pub AreOred : List ℕ → List ℕ → List ℕ → Type 0
+AreOred ws vs us = (length us ≡ length ws) × ((k : ℕ) → k < length ws → get_or us k 0 ≡ bit_or (get_or ws k 0) (get_or vs k 0))
+
+pub ored_from : (ws vs us old others : List ℕ) → old ≡ ws → others ≡ vs → AreOred old others us → AreOred ws vs us
+ored_from ws vs us old others e f o = subst (λ xs. AreOred xs vs us) e (subst (λ xs. AreOred old xs us) f o)
+
+bit_or_one : (a b k : ℕ) → nat_eq (bit_at (bit_or a b) k) 1 ≡ (nat_eq (bit_at a k) 1 || nat_eq (bit_at b k) 1)
+bit_or_one a b k = ap (λ x. nat_eq x 1) (bit_at_or a b k) ∙ go (bit_at a k) (bit_at b k) (bit_at-lt a k) (bit_at-lt b k)
+  where
+    go : (x y : ℕ) → x < 2 → y < 2 → nat_eq (max x y) 1 ≡ (nat_eq x 1 || nat_eq y 1)
+    go zero zero _ _ = refl
+    go zero (suc zero) _ _ = refl
+    go (suc zero) zero _ _ = refl
+    go (suc zero) (suc zero) _ _ = refl
+    go (suc (suc x)) y h _ = absurd (omega (arith, h))
+    go zero (suc (suc y)) _ h = absurd (omega (arith, h))
+    go (suc zero) (suc (suc y)) _ h = absurd (omega (arith, h))
+
+ored_bit : (ws vs us : List ℕ) → length ws ≡ length vs → AreOred ws vs us → (i : ℕ) → bit_of us i ≡ (bit_of ws i || bit_of vs i)
+ored_bit ws vs us e o i = ⊎_elim inside past (cases_lt (i / 64) (length ws))
+  where
+    inside : i / 64 < length ws → bit_of us i ≡ (bit_of ws i || bit_of vs i)
+    inside l = ap (λ w. nat_eq (bit_at w (i % 64)) 1) (o.1 (i / 64) l) ∙ bit_or_one (get_or ws (i / 64) 0) (get_or vs (i / 64) 0) (i % 64)
+
+    none : (xs : List ℕ) → length xs ≤ i / 64 → bit_of xs i ≡ false
+    none xs ge = ap (λ w. nat_eq (bit_at w (i % 64)) 1) (get_or_past xs (i / 64) 0 ge) ∙ ap (λ b. nat_eq b 1) (bit_at-zero (i % 64))
+
+    past : length ws ≤ i / 64 → bit_of us i ≡ (bit_of ws i || bit_of vs i)
+    past ge = let f = o.0 in rw (none us (omega arith), none ws ge, none vs (omega arith)) refl
+
+pub ored_row : (n m : ℕ) (ws vs us : List ℕ) → n ≡ m → length ws ≡ length vs → AreOred ws vs us → bits_of n us ≡ either (bits_of n ws) (bits_of m vs)
+ored_row n m ws vs us same e o = subst (λ k. bits_of n us ≡ either (bits_of n ws) (bits_of k vs)) same (row_is n us (either (bits_of n ws) (bits_of n vs)) long each)
+  where
+    both : List (Bool × Bool)
+    both = zip (bits_of n ws) (bits_of n vs)
+
+    or_of : Bool × Bool → Bool
+    or_of p = p.0 || p.1
+
+    zipped : length both ≡ n
+    zipped = let a = length-bits_of n ws in let b = length-bits_of n vs in omega (arith, length-zip (bits_of n ws) (bits_of n vs))
+
+    long : length (either (bits_of n ws) (bits_of n vs)) ≡ n
+    long = length-map both or_of ∙ zipped
+
+    each : (i : ℕ) → i < n → bit_of us i ≡ get_or (either (bits_of n ws) (bits_of n vs)) i false
+    each i h =
+        ored_bit ws vs us e o i
+        ∙ sym (get_or-map or_of both i (false, false) false (rw zipped h)
+        ∙ (ap or_of (get_or-zip (bits_of n ws) (bits_of n vs) i (false, false) (rw (length-bits_of n ws) h) (rw (length-bits_of n vs) h))
+        ∙ (ap (λ x. x || get_or (bits_of n vs) i false) (get_or-bits_of n ws i false h)
+        ∙ ap (λ x. bit_of ws i || x) (get_or-bits_of n vs i false h))))
+
+pub ored_packed : (n m : ℕ) (ws vs us : List ℕ) → n ≡ m → IsPacked n ws → IsPacked m vs → AreOred ws vs us → IsPacked n us
+ored_packed n m ws vs us same p q o = record {
+  enough = rw o.0 p.enough;
+  no_more = rw o.0 p.no_more;
+  clear_past = λ i l. ored_bit ws vs us (same_count n m ws vs p q same) o i ∙ (rw (p.clear_past i l) (q.clear_past i (subst (λ k. k ≤ i) same l)));
+}
+
+-- the bit j of the word k stands at its place
+word_bit : (ws : List ℕ) (k j : ℕ) → j < 64 → bit_of ws (k * 64 + j) ≡ nat_eq (bit_at (get_or ws k 0) j) 1
+word_bit ws k j l = rw (div-mul-add k 64 j l, mod-mul-add k 64 j l) refl
+
+-- ---- within
+
+pub within_of_words : (n m : ℕ) (ws vs : List ℕ) → n ≡ m → IsPacked n ws → ((k j : ℕ) → k < length ws → j < 64 → bit_at (get_or ws k 0) j ≡ 1 → bit_at (get_or vs k 0) j ≡ 1) → IsWithin (bits_of n ws) (bits_of m vs)
+within_of_words n m ws vs same p f = record { each = λ i h. go i h (subst (λ k. i < k) (length-bits_of n ws) (slice_get_within (bits_of n ws) i true h)) }
+  where
+    go : (i : ℕ) → slice_get (bits_of n ws) i ≡ Some true → i < n → slice_get (bits_of m vs) i ≡ Some true
+    go i h l =
+        let is_set : bit_of ws i ≡ true = (let e = sym (slice_get-bits_of n ws i l) ∙ h in cc) in
+        let one = f (i / 64) (i % 64) (word_there n ws i p l) (omega arith) (eqb-true _ 1 is_set) in
+        slice_get-bits_of m vs i (subst (λ k. i < k) same l) ∙ ap Some (eq-eqb _ 1 one)
+
+pub words_of_within : (n m : ℕ) (ws vs : List ℕ) → n ≡ m → IsPacked n ws → IsWithin (bits_of n ws) (bits_of m vs) → (k j : ℕ) → k < length ws → j < 64 → bit_at (get_or ws k 0) j ≡ 1 → bit_at (get_or vs k 0) j ≡ 1
+words_of_within n m ws vs same p w k j in_range l one = ⊎_elim inside past (cases_lt (k * 64 + j) n)
+  where
+    is_set : bit_of ws (k * 64 + j) ≡ true
+    is_set = word_bit ws k j l ∙ eq-eqb _ 1 one
+
+    past : n ≤ k * 64 + j → bit_at (get_or vs k 0) j ≡ 1
+    past ge = let e = p.clear_past (k * 64 + j) ge in absurd (both_ways _ e is_set)
+
+    inside : k * 64 + j < n → bit_at (get_or vs k 0) j ≡ 1
+    inside h =
+        let there = w.each (k * 64 + j) (slice_get-bits_of n ws (k * 64 + j) h ∙ ap Some is_set) in
+        let e : bit_of vs (k * 64 + j) ≡ true = (let f = sym (slice_get-bits_of m vs (k * 64 + j) (subst (λ x. k * 64 + j < x) same h)) ∙ there in cc) in
+        eqb-true _ 1 (sym (word_bit vs k j l) ∙ e)
+
+-- ---- equal
+
+pub row_of_words : (n m : ℕ) (ws vs : List ℕ) → n ≡ m → IsPacked n ws → ((k j : ℕ) → k < length ws → j < 64 → bit_at (get_or ws k 0) j ≡ bit_at (get_or vs k 0) j) → bits_of n ws ≡ bits_of m vs
+row_of_words n m ws vs same p f =
+    row_is n ws (bits_of m vs) (length-bits_of m vs ∙ sym same) (λ i h.
+    ap (λ x. nat_eq x 1) (f (i / 64) (i % 64) (word_there n ws i p h) (omega arith)) ∙ sym (get_or-bits_of m vs i false (subst (λ k. i < k) same h)))
+
+same_bit : (a b : ℕ) → a < 2 → b < 2 → nat_eq a 1 ≡ nat_eq b 1 → a ≡ b
+same_bit zero zero _ _ _ = refl
+same_bit (suc zero) (suc zero) _ _ _ = refl
+same_bit zero (suc zero) _ _ e = absurd (cc)
+same_bit (suc zero) zero _ _ e = absurd (cc)
+same_bit (suc (suc a)) b h _ _ = absurd (omega (arith, h))
+same_bit zero (suc (suc b)) _ h _ = absurd (omega (arith, h))
+same_bit (suc zero) (suc (suc b)) _ h _ = absurd (omega (arith, h))
+
+pub words_of_row : (n m : ℕ) (ws vs : List ℕ) → n ≡ m → IsPacked n ws → IsPacked m vs → bits_of n ws ≡ bits_of m vs → (k j : ℕ) → k < length ws → j < 64 → bit_at (get_or ws k 0) j ≡ bit_at (get_or vs k 0) j
+words_of_row n m ws vs same p q e k j in_range l =
+    same_bit _ _ (bit_at-lt (get_or ws k 0) j) (bit_at-lt (get_or vs k 0) j)
+    (sym (word_bit ws k j l) ∙ (⊎_elim inside past (cases_lt (k * 64 + j) n) ∙ word_bit vs k j l))
+  where
+    inside : k * 64 + j < n → bit_of ws (k * 64 + j) ≡ bit_of vs (k * 64 + j)
+    inside h = sym (get_or-bits_of n ws (k * 64 + j) false h) ∙ (ap (λ xs. get_or xs (k * 64 + j) false) e ∙ get_or-bits_of m vs (k * 64 + j) false (subst (λ x. k * 64 + j < x) same h))
+
+    past : n ≤ k * 64 + j → bit_of ws (k * 64 + j) ≡ bit_of vs (k * 64 + j)
+    past ge = p.clear_past (k * 64 + j) ge ∙ sym (q.clear_past (k * 64 + j) (subst (λ x. x ≤ k * 64 + j) same ge))

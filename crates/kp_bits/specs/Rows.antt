@@ -1,0 +1,11 @@
+-- Rows of truth values of one length, position by position.
+use Rattle.std.specs.Prelude.{◌≡◌, ℕ, Bool, true, ◌||◌, List, Some, slice_get, map}
+use Rattle.std.specs.List.{zip}
+
+-- at each position, whether one of the two has it true
+abbrev pub either : List Bool → List Bool → List Bool
+either xs ys = map (λ (p : Bool × Bool). p.0 || p.1) (zip xs ys)
+
+-- each position that is true in the first is true in the second
+pub record IsWithin (xs ys : List Bool) : Type 0 where
+  pub each : (i : ℕ) → slice_get xs i ≡ Some true → slice_get ys i ≡ Some true

@@ -1,0 +1,93 @@
+ghost use Rattle.std.specs.Prelude.{◌≡◌, ◌<◌, ◌↔◌, true, false, Some, length, replicate, set, slice_get, IfOk, IsTrue};
+ghost use Rattle.kp_bits.specs.Rows.{either, IsWithin};
+
+use crate::words::{has_bit, or_words, same_words, with_bit, without_bit, words_within};
+use kp_base::Memory;
+use std::alloc::Global;
+use std::marker::Model;
+
+/// A row of bits, 64 to a word. Contracts see the list of its truth values.
+#[derive(Drop)]
+pub struct Bits {
+    count: u32,
+    words: Vec<u64>,
+}
+
+impl Model for Bits {
+    ghost use Rattle.std.specs.Prelude.{List, Bool};
+    ghost use Rattle.kp_bits.specs.Packed.{bits_of, IsPacked};
+
+    ghost Value = { List Bool };
+
+    ghost view = { λ b. bits_of b.count b.words.items };
+
+    ghost invariant = { λ b. IsPacked b.count b.words.items };
+}
+
+impl Bits {
+    /// A row of n zeros.
+    pub fn new(alloc: Global, n: u32) -> Result<Bits, Memory>
+        ensures { IfOk result (λ bits. bits ≡ replicate n false) }
+    {
+        let words = vec![in alloc; 0u64; n.div_ceil(64) as usize]?;
+        Ok(Bits { count: n, words })
+    }
+
+    /// Sets a bit.
+    pub fn set(&mut self, i: u32)
+        requires { i < length self.old }
+        ensures { self.new ≡ set self.old i true }
+    {
+        let k = (i / 64) as usize;
+        self.words[k] = with_bit(self.words[k], i % 64);
+    }
+
+    /// Clears a bit.
+    pub fn clear(&mut self, i: u32)
+        requires { i < length self.old }
+        ensures { self.new ≡ set self.old i false }
+    {
+        let k = (i / 64) as usize;
+        self.words[k] = without_bit(self.words[k], i % 64);
+    }
+
+    /// Whether a bit is set.
+    pub fn get(&self, i: u32) -> bool
+        requires { i < length self.now }
+        ensures { slice_get self.now i ≡ Some result }
+    {
+        has_bit(self.words[(i / 64) as usize], i % 64)
+    }
+
+    /// Sets the bits that are set in the other row.
+    pub fn or_with(&mut self, other: &Bits)
+        requires { length self.old ≡ length other.now }
+        ensures { self.new ≡ either self.old other.now }
+    {
+        or_words(&mut self.words, &other.words);
+    }
+
+    /// Whether each bit that is set here is set in the other row.
+    pub fn within(&self, other: &Bits) -> bool
+        requires { length self.now ≡ length other.now }
+        ensures { IsTrue result ↔ IsWithin self.now other.now }
+    {
+        words_within(&self.words, &other.words)
+    }
+
+    /// Whether the two rows have the same bits.
+    pub fn equal(&self, other: &Bits) -> bool
+        requires { length self.now ≡ length other.now }
+        ensures { IsTrue result ↔ (self.now ≡ other.now) }
+    {
+        same_words(&self.words, &other.words)
+    }
+
+    /// Makes this row the same as the other.
+    pub fn copy_from(&mut self, other: &Bits)
+        requires { length self.old ≡ length other.now }
+        ensures { self.new ≡ other.now }
+    {
+        self.words.copy_from_slice(&other.words);
+    }
+}

@@ -1,0 +1,10 @@
+//! Rows of bits, 64 to a word. `specs/Rows.antt` has the words of their contracts.
+#![tactic(auto)]
+
+mod bits;
+mod words;
+
+pub use bits::Bits;
+
+#[cfg(test)]
+mod tests;

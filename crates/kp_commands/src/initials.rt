@@ -1,0 +1,62 @@
+use crate::limits::{CELLS, ONE_IS_FULL, resolved};
+use kp_base::{AtomId, Initial, Limits, Lit, LitSet, Memory, Row, Stop};
+use kp_ground::ground;
+use kp_init::initial;
+use kp_primes::{Primes, is_of_atoms};
+use std::alloc::Global;
+use std::test::Fail;
+
+// The initial formula of two short texts, where they have one.
+fn formula_of(alloc: Global, domain: &str, problem: &str) -> Result<Initial, Stop> {
+    let lifted = resolved(alloc, domain, problem)?;
+    let ground = ground(alloc, &lifted, &Limits::usual())?;
+    let formula = initial(alloc, &lifted, &ground)?;
+    Ok(formula)
+}
+
+// The set of these atoms, each with its sign.
+fn set_of(alloc: Global, lits: &[(u32, bool)]) -> Result<LitSet, Memory> {
+    let mut set = LitSet::new(alloc);
+    for (number, positive) in lits {
+        set.insert(Lit {
+            atom: AtomId(*number),
+            positive: *positive,
+        })?;
+    }
+    Ok(set)
+}
+
+// Some of three atoms holds, and then for each two of them, that they don't both hold; none is closed.
+fn one_of_three(alloc: Global) -> Result<Initial, Memory> {
+    let mut clauses = Row::new(alloc);
+    clauses.push(set_of(alloc, &[(0, true), (1, true), (2, true)])?)?;
+    clauses.push(set_of(alloc, &[(0, false), (1, false)])?)?;
+    clauses.push(set_of(alloc, &[(0, false), (2, false)])?)?;
+    clauses.push(set_of(alloc, &[(1, false), (2, false)])?)?;
+    Ok(Initial {
+        clauses,
+        closed: Row::new(alloc),
+    })
+}
+
+// Three cells of which one is full. With the first, the two others aren't full; two can't be full together.
+#[test]
+fn one_full_cell(rt: HostRuntime) -> Result<(), Fail> {
+    let alloc = rt.alloc();
+    let Ok(formula) = formula_of(alloc, CELLS, ONE_IS_FULL) else {
+        assert!(rt; false, "the files have no initial formula");
+        return Ok(());
+    };
+    assert_eq!(rt; formula, one_of_three(alloc)?);
+    assert!(rt; is_of_atoms(&formula, 3));
+    let Ok(primes) = Primes::build(alloc, &formula, 3, 20_000) else {
+        assert!(rt; false, "the formula is refused");
+        return Ok(());
+    };
+    let first = set_of(alloc, &[(0, true)])?;
+    let wanted = set_of(alloc, &[(0, true), (1, false), (2, false)])?;
+    assert!(rt; primes.closure(alloc, &first)? == Some(wanted));
+    let two = set_of(alloc, &[(0, true), (1, true)])?;
+    assert!(rt; primes.closure(alloc, &two)? == None);
+    Ok(())
+}

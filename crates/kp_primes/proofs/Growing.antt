@@ -1,0 +1,136 @@
+-- The new clauses don't get fewer while a clause is worked in, literal by literal.
+use Rattle.std.proofs.Common.{◌≡◌, ℕ, ◌<◌, ◌≤◌, ◌+◌, true, false, not, List, [], ◌∷◌, ◌++◌, refl, sym, ◌∙◌, ap, subst, inl, inr, length, drop, get_or, arith}
+use Rattle.std.proofs.lemmas.Bool.{or_right, false≢true, cases_Bool}
+use Rattle.std.proofs.lemmas.List.{drop_more}
+use Rattle.kp_base.specs.declared.lit.Lit.{Lit}
+use Rattle.kp_base.specs.Lists.{Member}
+use Rattle.kp_base.specs.Lit.{negated, same_lit, code_of}
+use Rattle.kp_base.specs.LitSet.{IsAscending}
+use Rattle.kp_base.specs.Implicates.{is_within, is_tautology}
+use Rattle.kp_base.proofs.Lists.{any_member, any_from, member_left, member_filter}
+use Rattle.kp_base.proofs.Lits.{member-has, same_lit-true, same_lit-refl}
+use Rattle.kp_base.proofs.Sets.{any-set_of}
+use Rattle.kp_clauses.specs.Resolved.{without, resolved}
+use Rattle.kp_clauses.specs.Stored.{subsumed, with_all}
+use Rattle.kp_clauses.proofs.Logic.{not-true-case}
+use Rattle.kp_clauses.proofs.Within.{within_member, within_from, within_self}
+use Rattle.kp_clauses.proofs.Storing.{with_all_member, with_all_new, with_all_apart, apart_same}
+use Rattle.kp_primes.specs.Included.{spread, stepped, walked, AreNew, idle}
+use Rattle.kp_primes.proofs.Spreading.{stepped_old, stepped_keeps}
+use Rattle.kp_primes.proofs.Exact.{once}
+use Rattle.kp_primes.proofs.Lengths.{each_length}
+
+-- ---- literals
+
+rises_rest : (l : Lit) (ls : List Lit) → IsAscending (l ∷ ls) → IsAscending ls
+rises_rest l [] h = tt
+rises_rest l (x ∷ ls) h = h.1
+
+above : (l : Lit) (ls : List Lit) → IsAscending (l ∷ ls) → (x : Lit) → Member ls x → code_of l < code_of x
+above l [] h x m = absurd m
+above l (y ∷ ls) h x m = elim m [
+  | inl e ↦ subst (λ (z : Lit). code_of l < code_of z) e h.0
+  | inr r ↦ let a = above y ls h.1 x r in let b = h.0 in omega arith
+]
+
+-- a literal that comes first doesn't come again
+first_once : (l : Lit) (ls : List Lit) → IsAscending (l ∷ ls) → Member ls l → ⊥
+first_once l ls h m = let a = above l ls h l m in absurd (omega arith)
+
+-- a resolvent has all literals of the first clause but this one
+within_resolved : (e p : List Lit) (l : Lit) → is_within e (l ∷ resolved e p l) ≡ true
+within_resolved e p l = within_from e (l ∷ resolved e p l) (λ x m. elim (cases_Bool (same_lit x l)) [
+  | inl on ↦ inl (sym (same_lit-true x l on))
+  | inr off ↦ inr (member-has (resolved e p l) x (any-set_of (same_lit x) (without l e ++ without (negated l) p) ∙ any_from (same_lit x) (without l e ++ without (negated l) p) x (member_left (without l e) (without (negated l) p) x (member_filter (λ x. not (same_lit x l)) e x m (ap not off))) (same_lit-refl x)))
+])
+
+-- ---- one literal
+
+module _ (ps : List (List Lit)) where
+  module _ (l : Lit) (rest : List Lit) (es : List (List Lit)) (new : AreNew ps (l ∷ rest) es) where
+    -- each clause after it comes of a clause before
+    comes_of : (x : List Lit) → Member (stepped ps l es) x → (e : List Lit) × Member es e × (is_within e (l ∷ x) ≡ true)
+    comes_of =
+        stepped_keeps ps l (λ x. (e : List Lit) × Member es e × (is_within e (l ∷ x) ≡ true)) es
+        (λ e p in-e _ _ _ _ _. (e, in-e, within_resolved e p l))
+        (λ x m. (x, m, within_from x (l ∷ x) (λ y n. inr n)))
+
+    -- which alone it can be within
+    comes_of_it : (x e : List Lit) (m : Member (stepped ps l es) x) → Member es e → is_within x e ≡ true → (comes_of x m).0 ≡ e
+    comes_of_it x e m in-e inside =
+        let from = comes_of x m in
+        apart_same es from.0 e new.apart from.1 in-e (within_from from.0 e (λ y n. elim (within_member from.0 (l ∷ x) from.2 y n) [
+          | inl same ↦ within_member (l ∷ rest) e (new.rest_in e in-e) y (inl same)
+          | inr r ↦ within_member x e inside y r
+        ]))
+
+    -- so each clause before has one after of its own
+    step_grows : length es ≤ length (stepped ps l es)
+    step_grows =
+        each_length (λ x e. is_within x e ≡ true) es (stepped ps l es) (once es new.apart)
+        (λ e m. any_member (λ x. is_within x e) (stepped ps l es) (stepped_old ps l es e (any_from (λ x. is_within x e) es e m (within_self e))))
+        (λ x a b m in-a in-b h k. sym (comes_of_it x a m in-a h) ∙ comes_of_it x b m in-b k)
+
+    step_new : AreNew ps rest (stepped ps l es)
+    step_new = record {
+      rising = rises_rest l rest new.rising;
+      apart = with_all_apart es (spread ps l es []) new.apart;
+      rest_in = λ x m. let from = comes_of x m in within_from rest x (λ y n. elim (within_member from.0 (l ∷ x) from.2 y (within_member (l ∷ rest) from.0 (new.rest_in from.0 from.1) y (inr n))) [
+        | inl same ↦ absurd (first_once l rest new.rising (subst (Member rest) (sym same) n))
+        | inr r ↦ r
+      ]);
+      free = stepped_keeps ps l (λ x. subsumed ps x ≡ false) es (λ e p _ _ _ _ _ free. free) new.free;
+    }
+
+  -- ---- all of them
+
+  -- all new clauses come in at the end
+  put_grows : (es : List (List Lit)) → AreNew ps [] es → length es ≤ length (with_all ps es)
+  put_grows es new =
+      each_length (λ x e. is_within x e ≡ true) es (with_all ps es) (once es new.apart)
+      (λ e m. any_member (λ x. is_within x e) (with_all ps es) (with_all_new ps es e (any_from (λ x. is_within x e) es e m (within_self e))))
+      (λ x a b m in-a in-b h k. sym (same x a m in-a h) ∙ same x b m in-b k)
+    where
+      same : (x e : List Lit) → Member (with_all ps es) x → Member es e → is_within x e ≡ true → x ≡ e
+      same x e m in-e h = elim (with_all_member ps es x m) [
+        | inl r ↦ absurd (false≢true (sym (new.free e in-e) ∙ any_from (λ d. is_within d e) ps x r h))
+        | inr r ↦ apart_same es x e new.apart r in-e h
+      ]
+
+  walk_grows : (rest : List Lit) (es : List (List Lit)) → AreNew ps rest es → length es ≤ length (with_all ps (walked ps rest es))
+  walk_grows [] es new = put_grows es new
+  walk_grows (l ∷ rest) es new =
+      let a = step_grows l rest es new in
+      let b = walk_grows rest (stepped ps l es) (step_new l rest es new) in
+      omega arith
+
+  -- a clause that isn't idle
+  pub start_new : (c : List Lit) → IsAscending c → idle ps c ≡ false → AreNew ps c (c ∷ [])
+  start_new c asc not_idle = record {
+    rising = asc;
+    apart = refl;
+    rest_in = λ e m. elim m [ inl same ↦ subst (λ (y : List Lit). is_within c y ≡ true) same (within_self c) | inr bad ↦ absurd bad ];
+    free = λ e m. elim m [ inl same ↦ subst (λ (y : List Lit). subsumed ps y ≡ false) same (not-true-case (subsumed ps c) (λ h. false≢true (sym not_idle ∙ or_right (is_tautology c) (subsumed ps c) h))) | inr bad ↦ absurd bad ];
+  }
+
+-- ---- the walk
+
+-- new clauses with some literals still to come, which lead to these
+pub record LeadsTo (ps : List (List Lit)) (rest : List Lit) (fs ends : List (List Lit)) : Type 0 where
+  pub goes_on : walked ps rest fs ≡ ends
+  pub new : AreNew ps rest fs
+
+-- one literal more
+pub walk_next : (ps : List (List Lit)) (ls : List Lit) (i : ℕ) (d : Lit) (es fs ends : List (List Lit)) → i < length ls → fs ≡ stepped ps (get_or ls i d) es → LeadsTo ps (drop i ls) es ends → LeadsTo ps (drop (i + 1) ls) fs ends
+walk_next ps ls i d es fs ends lt is h =
+    let more = drop_more ls i d lt in
+    record {
+      goes_on = ap (walked ps (drop (i + 1) ls)) is ∙ (sym (ap (λ z. walked ps z es) more) ∙ h.goes_on);
+      new = subst (AreNew ps (drop (i + 1) ls)) (sym is) (step_new ps (get_or ls i d) (drop (i + 1) ls) es (subst (λ z. AreNew ps z es) more h.new));
+    }
+
+-- where there are too many new clauses, there are too many in the end
+pub walk_over : (ps : List (List Lit)) (rest : List Lit) (fs ends : List (List Lit)) (limit : ℕ) → LeadsTo ps rest fs ends → limit < length fs → limit < length (with_all ps ends)
+walk_over ps rest fs ends limit h over =
+    let a = walk_grows ps rest fs h.new in
+    subst (λ z. limit < length (with_all ps z)) h.goes_on (omega arith)
