@@ -1,5 +1,5 @@
 -- The clash of the first action that has one is the first clash.
-use Rattle.std.proofs.Common.{◌≡◌, ◌≢◌, ◌⊎◌, ◌<◌, ◌≤◌, ◌+◌, ◌==◌, ℕ, zero, suc, Bool, true, false, cond, List, [], ◌∷◌, Option, Some, None, IfSome, IfNone, Result, Ok, Err, IfOk, length, nat_lt, slice_get, inl, inr, refl, sym, ap, subst, ◌∙◌, arith}
+use Rattle.std.proofs.Common.{◌≡◌, ◌≢◌, ◌<◌, ◌≤◌, ◌+◌, ◌==◌, ℕ, zero, suc, Bool, true, false, cond, List, [], ◌∷◌, Option, Some, None, IfSome, IfNone, Result, Ok, Err, IfOk, length, nat_lt, slice_get, inl, inr, refl, sym, subst, ◌∙◌, arith}
 use Rattle.std.proofs.lemmas.Bool.{both_ways, ltb-true, ltb-false, eq-eqb}
 use Rattle.std.specs.declared.cmp.Ordering.{Ordering}
 use Rattle.std.specs.declared.cmp.Ordering.TheVariants.{Less, Equal, Greater}
@@ -9,40 +9,40 @@ use Rattle.kp_base.specs.declared.memory.Memory.{Memory}
 use Rattle.kp_base.specs.declared.ground.Action.{Action}
 use Rattle.kp_base.specs.declared.ground.Ground.{Ground}
 use Rattle.kp_base.specs.declared.refused.ClashAt.{ClashAt}
-use Rattle.kp_base.specs.Clashes.{no_pairs, Clashes, IsClash, HasNoClash, clash_place, IsFirstClash}
+use Rattle.kp_base.specs.Clashes.{Pairs, Clashes, IsClash, HasNoClash, clash_place, IsFirstClash}
 use Rattle.kp_clash.specs.Searching.{best_from, or_later, first_from}
 use Rattle.kp_clash.proofs.Best.{Before, Least, IsBest, best_of, add_within}
 
 -- what was found in actions, the first of which has the number n
-pub record FoundIn (n : ℕ) (as' : List Action) (c : ClashAt) : Type 0 where
+pub record FoundIn (pairs : Pairs) (n : ℕ) (as' : List Action) (c : ClashAt) : Type 0 where
   pub place : ℕ
   pub number : c.action ≡ n + place
   pub action : Action
   pub action_at : slice_get as' place ≡ Some action
-  pub least : Least c.action action (length action.effects) c
-  pub before : (m : ℕ) (a : Action) (p k j : ℕ) → m < place → slice_get as' m ≡ Some a → Clashes no_pairs a p k j → ⊥
+  pub least : Least pairs c.action action (length action.effects) c
+  pub before : (m : ℕ) (a : Action) (p k j : ℕ) → m < place → slice_get as' m ≡ Some a → Clashes pairs a p k j → ⊥
 
-abbrev pub IsFound : ℕ → List Action → Option ClashAt → Type 0
-IsFound n as' None = (m : ℕ) (a : Action) (p k j : ℕ) → slice_get as' m ≡ Some a → Clashes no_pairs a p k j → ⊥
-IsFound n as' (Some c) = FoundIn n as' c
+abbrev pub IsFound : Pairs → ℕ → List Action → Option ClashAt → Type 0
+IsFound pairs n as' None = (m : ℕ) (a : Action) (p k j : ℕ) → slice_get as' m ≡ Some a → Clashes pairs a p k j → ⊥
+IsFound pairs n as' (Some c) = FoundIn pairs n as' c
 
-pub found_in : (n : ℕ) (as' : List Action) → IsFound n as' (first_from n as')
-found_in n [] = λ m a p k j at c. absurd cc
-found_in n (a ∷ as') = by (best_from n a 0 a.effects None) (first_from (suc n) as') (best_of n a) (found_in (suc n) as')
+pub found_in : (pairs : Pairs) (n : ℕ) (as' : List Action) → IsFound pairs n as' (first_from pairs n as')
+found_in pairs n [] = λ m a p k j at c. absurd cc
+found_in pairs n (a ∷ as') = by (best_from pairs n a 0 a.effects None) (first_from pairs (suc n) as') (best_of pairs n a) (found_in pairs (suc n) as')
   where
-    by : (o later : Option ClashAt) → IsBest n a (length a.effects) o → IsFound (suc n) as' later → IsFound n (a ∷ as') (or_later o later)
+    by : (o later : Option ClashAt) → IsBest pairs n a (length a.effects) o → IsFound pairs (suc n) as' later → IsFound pairs n (a ∷ as') (or_later o later)
     by (Some c) later best rest =
-        record { place = zero; number = (let e = best.action in omega (arith, e)); action = a; action_at = refl; least = subst (λ x. Least x a (length a.effects) c) (sym best.action) best; before = λ m b p k j lt. absurd (omega (arith, lt)) }
+        record { place = zero; number = (let e = best.action in omega (arith, e)); action = a; action_at = refl; least = subst (λ x. Least pairs x a (length a.effects) c) (sym best.action) best; before = λ m b p k j lt. absurd (omega (arith, lt)) }
     by None (Some c) best rest =
         record { place = suc rest.place; number = (let e = rest.number in omega (arith, e)); action = rest.action; action_at = rest.action_at; least = rest.least; before = before }
       where
-        before : (m : ℕ) (b : Action) (p k j : ℕ) → m < suc rest.place → slice_get (a ∷ as') m ≡ Some b → Clashes no_pairs b p k j → ⊥
-        before zero b p k j lt at c = let e : a ≡ b = cc in let d = subst (λ (x : Action). Clashes no_pairs x p k j) (sym e) c in best p k j (add_within a p k j d) d
+        before : (m : ℕ) (b : Action) (p k j : ℕ) → m < suc rest.place → slice_get (a ∷ as') m ≡ Some b → Clashes pairs b p k j → ⊥
+        before zero b p k j lt at c = let e : a ≡ b = cc in let d = subst (λ (x : Action). Clashes pairs x p k j) (sym e) c in best p k j (add_within pairs a p k j d) d
         before (suc m) b p k j lt at c = rest.before m b p k j (omega (arith, lt)) at c
     by None None best rest = none
       where
-        none : (m : ℕ) (b : Action) (p k j : ℕ) → slice_get (a ∷ as') m ≡ Some b → Clashes no_pairs b p k j → ⊥
-        none zero b p k j at c = let e : a ≡ b = cc in let d = subst (λ (x : Action). Clashes no_pairs x p k j) (sym e) c in best p k j (add_within a p k j d) d
+        none : (m : ℕ) (b : Action) (p k j : ℕ) → slice_get (a ∷ as') m ≡ Some b → Clashes pairs b p k j → ⊥
+        none zero b p k j at c = let e : a ≡ b = cc in let d = subst (λ (x : Action). Clashes pairs x p k j) (sym e) c in best p k j (add_within pairs a p k j d) d
         none (suc m) b p k j at c = rest m b p k j at c
 
 -- ---- the order
@@ -66,8 +66,8 @@ after_action c d (inr (same, inr (also, le))) = not_greater c.atom.0 d.atom.0 _ 
 
 -- ---- what is promised
 
-pub is_first : (g : Ground) (c : ClashAt) → FoundIn 0 g.actions c → IsFirstClash no_pairs g c
-is_first g c f = record {
+pub is_first : (pairs : Pairs) (g : Ground) (c : ClashAt) → FoundIn pairs 0 g.actions c → IsFirstClash pairs g c
+is_first pairs g c f = record {
   clash = record { action = f.action; action_at = subst (λ n. slice_get g.actions n ≡ Some f.action) place_is f.action_at; clashes = f.least.clashes };
   first = first;
 }
@@ -75,7 +75,7 @@ is_first g c f = record {
     place_is : f.place ≡ c.action
     place_is = let e = f.number in omega (arith, e)
 
-    first : (d : ClashAt) → IsClash no_pairs g d → slice_cmp nat_cmp (clash_place c) (clash_place d) ≢ Greater
+    first : (d : ClashAt) → IsClash pairs g d → slice_cmp nat_cmp (clash_place c) (clash_place d) ≢ Greater
     first d k = go (nat_lt d.action c.action) refl
       where
         go : (t : Bool) → nat_lt d.action c.action ≡ t → slice_cmp nat_cmp (clash_place c) (clash_place d) ≢ Greater
@@ -86,23 +86,29 @@ is_first g c f = record {
             least_of same =
                 let here : slice_get g.actions d.action ≡ Some f.action = subst (λ n. slice_get g.actions n ≡ Some f.action) (place_is ∙ same) f.action_at in
                 let one : k.action ≡ f.action = (let there = k.action_at in cc) in
-                let clashes = subst (λ (a : Action). Clashes no_pairs a d.atom.0 d.add d.delete) one k.clashes in
-                f.least.least d.atom.0 d.add d.delete (add_within f.action d.atom.0 d.add d.delete clashes) clashes
+                let clashes = subst (λ (a : Action). Clashes pairs a d.atom.0 d.add d.delete) one k.clashes in
+                f.least.least d.atom.0 d.add d.delete (add_within pairs f.action d.atom.0 d.add d.delete clashes) clashes
 
-pub some_first : (g : Ground) (o : Option ClashAt) → IsFound 0 g.actions o → IfSome o (IsFirstClash no_pairs g)
-some_first g (Some c) f = is_first g c f
-some_first g None f = tt
+pub some_first : (pairs : Pairs) (g : Ground) (o : Option ClashAt) → IsFound pairs 0 g.actions o → IfSome o (IsFirstClash pairs g)
+some_first pairs g (Some c) f = is_first pairs g c f
+some_first pairs g None f = tt
 
-pub none_clashes : (g : Ground) (o : Option ClashAt) → IsFound 0 g.actions o → IfNone o (HasNoClash no_pairs g)
-none_clashes g (Some c) f = tt
-none_clashes g None f = λ n p k j a at c. f n a p k j at c
+pub none_clashes : (pairs : Pairs) (g : Ground) (o : Option ClashAt) → IsFound pairs 0 g.actions o → IfNone o (HasNoClash pairs g)
+none_clashes pairs g (Some c) f = tt
+none_clashes pairs g None f = λ n p k j a at c. f n a p k j at c
 
 -- ---- of an answer
 
-pub ok_first : (g : Ground) (r : Result (Option ClashAt) Memory) → IfOk r (λ o. o ≡ first_from 0 g.actions) → IfOk r (λ o. IfSome o (IsFirstClash no_pairs g))
-ok_first g (Ok o) is = some_first g o (subst (IsFound 0 g.actions) (sym is) (found_in 0 g.actions))
-ok_first g (Err e) is = tt
+pub first_is : (pairs : Pairs) (g : Ground) (o : Option ClashAt) → o ≡ first_from pairs 0 g.actions → IfSome o (IsFirstClash pairs g)
+first_is pairs g o is = some_first pairs g o (subst (IsFound pairs 0 g.actions) (sym is) (found_in pairs 0 g.actions))
 
-pub ok_none : (g : Ground) (r : Result (Option ClashAt) Memory) → IfOk r (λ o. o ≡ first_from 0 g.actions) → IfOk r (λ o. IfNone o (HasNoClash no_pairs g))
-ok_none g (Ok o) is = none_clashes g o (subst (IsFound 0 g.actions) (sym is) (found_in 0 g.actions))
-ok_none g (Err e) is = tt
+pub none_is : (pairs : Pairs) (g : Ground) (o : Option ClashAt) → o ≡ first_from pairs 0 g.actions → IfNone o (HasNoClash pairs g)
+none_is pairs g o is = none_clashes pairs g o (subst (IsFound pairs 0 g.actions) (sym is) (found_in pairs 0 g.actions))
+
+pub ok_first : (pairs : Pairs) (g : Ground) (r : Result (Option ClashAt) Memory) → IfOk r (λ o. o ≡ first_from pairs 0 g.actions) → IfOk r (λ o. IfSome o (IsFirstClash pairs g))
+ok_first pairs g (Ok o) is = first_is pairs g o is
+ok_first pairs g (Err e) is = tt
+
+pub ok_none : (pairs : Pairs) (g : Ground) (r : Result (Option ClashAt) Memory) → IfOk r (λ o. o ≡ first_from pairs 0 g.actions) → IfOk r (λ o. IfNone o (HasNoClash pairs g))
+ok_none pairs g (Ok o) is = none_is pairs g o is
+ok_none pairs g (Err e) is = tt

@@ -1,6 +1,9 @@
+pub mod Greatest
+pub mod Marked
 pub mod Opposing
 pub mod Noted
 pub mod Places
 pub mod Best
 pub mod InOrder
 pub mod Once
+pub mod ExamplePairs

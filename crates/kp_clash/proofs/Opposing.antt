@@ -1,7 +1,7 @@
 -- Literals of three sets are compatible where no set has the negation of a literal of another.
-use Rattle.std.proofs.Common.{◌≡◌, ◌⊎◌, ◌<◌, ℕ, zero, suc, Bool, true, false, not, ◌&&◌, ◌||◌, List, [], ◌∷◌, ◌++◌, inl, inr, length, Contains, refl, sym, ap, subst, ◌∙◌, arith}
-use Rattle.std.proofs.lemmas.Bool.{and_parts, and_from, both_ways, false_from_ne_true}
-use Rattle.std.specs.List.{list_any, list_all}
+use Rattle.std.proofs.Common.{◌≡◌, ◌⊎◌, zero, suc, Bool, true, false, not, ◌&&◌, ◌||◌, List, [], ◌∷◌, ◌++◌, inl, inr, Contains, refl, sym, ap, subst, ◌∙◌, arith}
+use Rattle.std.proofs.lemmas.Bool.{both_ways}
+use Rattle.std.specs.List.{list_all}
 use Rattle.kp_base.specs.declared.lit.Lit.{Lit}
 use Rattle.kp_base.specs.Lists.{Member}
 use Rattle.kp_base.specs.Lit.{negated, same_lit}

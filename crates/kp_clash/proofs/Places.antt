@@ -1,5 +1,5 @@
 -- What the first place at which a test passes says.
-use Rattle.std.proofs.Common.{◌≡◌, ◌<◌, ◌+◌, ℕ, zero, suc, Bool, true, false, if◌then◌else◌, List, [], ◌∷◌, Option, Some, None, slice_get, refl, sym, ap, subst, ◌∙◌, arith}
+use Rattle.std.proofs.Common.{◌≡◌, ◌<◌, ◌+◌, ℕ, zero, suc, Bool, true, false, if◌then◌else◌, List, [], ◌∷◌, Some, None, slice_get, refl, subst, arith}
 use Rattle.kp_clash.specs.Searching.{place_from}
 
 -- the element there passes, and those before it don't

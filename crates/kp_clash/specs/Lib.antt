@@ -1,1 +1,4 @@
+pub mod Counted
+pub mod Paired
 pub mod Searching
+pub mod Settled

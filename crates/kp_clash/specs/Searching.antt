@@ -1,5 +1,5 @@
 -- How the first clash is searched for, step by step. This file serves proofs alone.
-use Rattle.std.specs.Prelude.{◌≡◌, ℕ, suc, Bool, ◌&&◌, List, [], ◌∷◌, ◌++◌, Option, Some, None, option_map, if◌then◌else◌, nat_eq, nat_lt}
+use Rattle.std.specs.Prelude.{ℕ, suc, Bool, ◌&&◌, List, [], ◌∷◌, ◌++◌, Option, Some, None, option_map, if◌then◌else◌, nat_eq, nat_lt}
 use Rattle.std.specs.List.{list_any}
 use Rattle.kp_base.specs.declared.lit.Lit.{Lit}
 use Rattle.kp_base.specs.declared.ground.Effect.{Effect}
@@ -7,7 +7,7 @@ use Rattle.kp_base.specs.declared.ground.Action.{Action}
 use Rattle.kp_base.specs.declared.refused.ClashAt.{ClashAt}
 use Rattle.kp_base.specs.Lit.{negated, same_lit}
 use Rattle.kp_base.specs.Steps.{has}
-use Rattle.kp_base.specs.Clashes.{no_pairs, compatible_effects}
+use Rattle.kp_base.specs.Clashes.{Pairs, compatible_effects}
 
 -- ---- atoms that are deleted
 
@@ -30,8 +30,8 @@ abbrev pub opposes : List Lit → List Lit → Bool
 opposes ks ls = list_any (λ k. has ls (negated k)) ks
 
 -- they are an add and a delete of one atom, whose conditions are compatible
-abbrev pub clash_together : Action → Effect → Effect → Bool
-clash_together a e f = same_lit (negated e.result) f.result && compatible_effects no_pairs a e f
+abbrev pub clash_together : Pairs → Action → Effect → Effect → Bool
+clash_together pairs a e f = same_lit (negated e.result) f.result && compatible_effects pairs a e f
 
 -- the first place at which a test passes, where the list starts at place n
 abbrev pub place_from : {X : Type 0} → (X → Bool) → ℕ → List X → Option ℕ
@@ -45,8 +45,8 @@ abbrev pub clash_at : ℕ → ℕ → Effect → ℕ → ClashAt
 clash_at n i e j = record { action = n; atom = e.result.atom; add = i; delete = j }
 
 -- the first clash of an effect, if it adds
-abbrev pub found_at : ℕ → Action → ℕ → Effect → Option ClashAt
-found_at n a i e = if e.result.positive then option_map (clash_at n i e) (place_from (clash_together a e) 0 a.effects) else None
+abbrev pub found_at : Pairs → ℕ → Action → ℕ → Effect → Option ClashAt
+found_at pairs n a i e = if e.result.positive then option_map (clash_at n i e) (place_from (clash_together pairs a e) 0 a.effects) else None
 
 -- what is first of what was found before and what is found now
 abbrev pub earlier : Option ClashAt → ClashAt → ClashAt
@@ -58,9 +58,9 @@ keep first None = first
 keep first (Some d) = Some (earlier first d)
 
 -- over the effects, the first of which has the place i
-abbrev pub best_from : ℕ → Action → ℕ → List Effect → Option ClashAt → Option ClashAt
-best_from n a i [] first = first
-best_from n a i (e ∷ es) first = best_from n a (suc i) es (keep first (found_at n a i e))
+abbrev pub best_from : Pairs → ℕ → Action → ℕ → List Effect → Option ClashAt → Option ClashAt
+best_from pairs n a i [] first = first
+best_from pairs n a i (e ∷ es) first = best_from pairs n a (suc i) es (keep first (found_at pairs n a i e))
 
 -- ---- all actions
 
@@ -70,6 +70,6 @@ or_later None later = later
 or_later (Some c) later = Some c
 
 -- over the actions, the first of which has the number n
-abbrev pub first_from : ℕ → List Action → Option ClashAt
-first_from n [] = None
-first_from n (a ∷ as') = or_later (best_from n a 0 a.effects None) (first_from (suc n) as')
+abbrev pub first_from : Pairs → ℕ → List Action → Option ClashAt
+first_from pairs n [] = None
+first_from pairs n (a ∷ as') = or_later (best_from pairs n a 0 a.effects None) (first_from pairs (suc n) as')

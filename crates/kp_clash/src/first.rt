@@ -9,7 +9,7 @@ use std::alloc::Global;
 
 // Whether the effects are an add and a delete of one atom, under conditions that may hold together.
 fn clash_together(action: &Action, add: &Effect, delete: &Effect) -> bool
-    ensures { result ≡ clash_together action.now add.now delete.now }
+    ensures { result ≡ clash_together no_pairs action.now add.now delete.now }
 {
     add.result.negated() == delete.result && are_apart(&action.pre, &add.cond, &delete.cond)
 }
@@ -17,7 +17,7 @@ fn clash_together(action: &Action, add: &Effect, delete: &Effect) -> bool
 // The place of the first effect that clashes with an add.
 fn first_delete(action: &Action, add: &Effect) -> Option<u32>
     requires { length action.now.effects ≤ 4294967295 }
-    ensures { result ≡ place_from (clash_together action.now add.now) 0 action.now.effects }
+    ensures { result ≡ place_from (clash_together no_pairs action.now add.now) 0 action.now.effects }
 {
     let mut place = 0u32;
     'effects: for effect in action.effects.slice() {
@@ -39,7 +39,7 @@ fn found_at(
 ) -> Option<ClashAt>
     requires few { length action.now.effects ≤ 4294967295 }
     requires deleted { deleted.now ≡ fold with_deleted [] action.now.effects }
-    ensures { result ≡ found_at number action.now place effect.now }
+    ensures { result ≡ found_at no_pairs number action.now place effect.now }
 {
     if !effect.result.positive {
         return None;
@@ -59,7 +59,7 @@ fn found_at(
 }
 
 // What is first of what was found before and what is found now.
-fn keep(first: Option<ClashAt>, found: Option<ClashAt>) -> Option<ClashAt>
+pub(crate) fn keep(first: Option<ClashAt>, found: Option<ClashAt>) -> Option<ClashAt>
     ensures { result ≡ keep first found }
 {
     match (first, found) {
@@ -79,7 +79,7 @@ fn keep(first: Option<ClashAt>, found: Option<ClashAt>) -> Option<ClashAt>
 fn best(number: u32, action: &Action, deleted: &Deleted) -> Option<ClashAt>
     requires few { length action.now.effects ≤ 4294967295 }
     requires deleted { deleted.now ≡ fold with_deleted [] action.now.effects }
-    ensures { result ≡ best_from number action.now 0 action.now.effects None }
+    ensures { result ≡ best_from no_pairs number action.now 0 action.now.effects None }
 {
     let mut first = None;
     let mut place = 0u32;
@@ -92,7 +92,7 @@ fn best(number: u32, action: &Action, deleted: &Deleted) -> Option<ClashAt>
 
 // The first clash of an action; more effects than a `u32` counts are want of memory.
 fn clash_of(alloc: Global, number: u32, action: &Action) -> Result<Option<ClashAt>, Memory>
-    ensures { IfOk result (λ found. found ≡ best_from number action.now 0 action.now.effects None) }
+    ensures { IfOk result (λ found. found ≡ best_from no_pairs number action.now 0 action.now.effects None) }
 {
     let effects = action.effects.slice();
     if effects.len() > u32::MAX as usize {
@@ -104,7 +104,7 @@ fn clash_of(alloc: Global, number: u32, action: &Action) -> Result<Option<ClashA
 
 // The first clash of some actions; more of them than a `u32` counts are want of memory.
 fn search(alloc: Global, actions: &[Action]) -> Result<Option<ClashAt>, Memory>
-    ensures { IfOk result (λ found. found ≡ first_from 0 actions.now) }
+    ensures { IfOk result (λ found. found ≡ first_from no_pairs 0 actions.now) }
 {
     let mut number = 0u32;
     'actions: for action in actions {

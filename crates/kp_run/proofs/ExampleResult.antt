@@ -154,8 +154,8 @@ is_small : (l : Lifted) → binding_count l ≡ 1 → length (kept_instances l) 
 is_small l b k w a = record { counts = record { bindings = omega (arith, b); actions = omega (arith, k); weight = omega (arith, w) }; atoms = omega (arith, a); ground = refl }
 
 -- the first clash of its actions, if they have one
-found : (g : Ground) (o : Option ClashAt) → first_from 0 g.actions ≡ o → IsFound 0 g.actions o
-found g o is = subst (IsFound 0 g.actions) is (found_in 0 g.actions)
+found : (g : Ground) (o : Option ClashAt) → first_from no_pairs 0 g.actions ≡ o → IsFound no_pairs 0 g.actions o
+found g o is = subst (IsFound no_pairs 0 g.actions) is (found_in no_pairs 0 g.actions)
 
 -- ---- a translation
 
@@ -214,7 +214,7 @@ started = record {
 
 -- what is added is q, and what is deleted p
 no_clash : HasNoClash no_pairs (ground_of exchange_tree from_p_to_q_tree)
-no_clash = none_clashes (ground_of exchange_tree from_p_to_q_tree) None (found (ground_of exchange_tree from_p_to_q_tree) None refl)
+no_clash = none_clashes no_pairs (ground_of exchange_tree from_p_to_q_tree) None (found (ground_of exchange_tree from_p_to_q_tree) None refl)
 
 is_done : AnswersTrees 20000 exchange_tree from_p_to_q_tree status.Done
 is_done = done started no_clash
@@ -458,7 +458,7 @@ half_known_done = done (record {
   small = is_small (numbered_problem exchange_tree half_known_tree) refl refl refl refl;
   counted = half_known_few;
   initial = has_state exchange_tree half_known_tree half_known_trees.no_fault only_p half_known_model;
-}) (none_clashes (ground_of exchange_tree half_known_tree) None (found (ground_of exchange_tree half_known_tree) None refl))
+}) (none_clashes no_pairs (ground_of exchange_tree half_known_tree) None (found (ground_of exchange_tree half_known_tree) None refl))
 
 half_known_results : IsResult words (holding exchange half_known) (translates command (translation_of exchange_tree half_known_tree))
 half_known_results = translated command exchange_tree half_known_tree is_command (holds_trees exchange half_known exchange_tree half_known_tree half_known_trees) half_known_done
@@ -521,7 +521,7 @@ abbrev of_q : ClashAt
 of_q = record { action = 0; atom = record { 0 = 1 }; add = 0; delete = 1 }
 
 first_clash : IsFirstClash no_pairs (ground_of clashing_tree from_not_p_tree) of_q
-first_clash = is_first (ground_of clashing_tree from_not_p_tree) of_q (found (ground_of clashing_tree from_not_p_tree) (Some of_q) refl)
+first_clash = is_first no_pairs (ground_of clashing_tree from_not_p_tree) of_q (found (ground_of clashing_tree from_not_p_tree) (Some of_q) refl)
 
 clashes : AnswersTrees 20000 clashing_tree from_not_p_tree (status.Refused (refusals.Clash of_q))
 clashes = clash of_q clashing_started first_clash

@@ -1,0 +1,48 @@
+-- When a pair may stay in a set of pairs, as a test. This file serves proofs alone.
+use Rattle.std.specs.Prelude.{◌≡◌, ℕ, Bool, true, false, not, ◌&&◌, ◌||◌, List}
+use Rattle.std.specs.List.{list_any, list_all}
+use Rattle.kp_base.specs.declared.lit.Lit.{Lit}
+use Rattle.kp_base.specs.declared.ground.Effect.{Effect}
+use Rattle.kp_base.specs.declared.ground.Action.{Action}
+use Rattle.kp_base.specs.declared.ground.Ground.{Ground}
+use Rattle.kp_base.specs.declared.ground.Initial.{Initial}
+use Rattle.kp_base.specs.Lit.{positive, negative, same_lit}
+use Rattle.kp_base.specs.Implicates.{is_within}
+use Rattle.kp_base.specs.Steps.{State, is_model}
+use Rattle.kp_base.specs.Clashes.{Pairs, are_compatible, compatible_effects}
+use Rattle.kp_base.specs.Exclusive.{firing_with}
+
+-- each pair of the first set is in the second
+abbrev pub IsPart : Pairs → Pairs → Type 0
+IsPart some more = (p q : ℕ) → some p q ≡ true → more p q ≡ true
+
+-- in no model are both atoms of a pair true
+abbrev pub NeverAtTheStart : Initial → Pairs → Type 0
+NeverAtTheStart i pairs = (p q : ℕ) → pairs p q ≡ true → (s : State) → is_model i s ≡ true → (s p && s q) ≡ false
+
+-- the effects add the two atoms, and are compatible
+abbrev pub adds_both : Pairs → ℕ → ℕ → Action → Effect → Effect → Bool
+adds_both pairs p q a e f = (same_lit e.result (positive p) && same_lit f.result (positive q)) && compatible_effects pairs a e f
+
+-- no two effects of the action do
+abbrev pub never_adds_both : Pairs → ℕ → ℕ → Action → Bool
+never_adds_both pairs p q a = list_all (λ e. list_all (λ f. not (adds_both pairs p q a e f)) a.effects) a.effects
+
+-- the action has a delete of the atom whose condition is within these literals
+abbrev pub deletes_within : Action → ℕ → List Lit → Bool
+deletes_within a q ls = list_any (λ d. same_lit d.result (negative q) && is_within d.cond ls) a.effects
+
+-- if the effect adds p and is compatible with q being true, the action deletes q with it
+abbrev pub keeps_apart : Pairs → ℕ → ℕ → Action → Effect → Bool
+keeps_apart pairs p q a e = not (same_lit e.result (positive p)) || (not (are_compatible pairs (firing_with a e q)) || deletes_within a q (firing_with a e q))
+
+abbrev pub all_keep_apart : Pairs → ℕ → ℕ → Action → Bool
+all_keep_apart pairs p q a = list_all (keeps_apart pairs p q a) a.effects
+
+-- the action keeps the two atoms apart, whichever comes first
+abbrev pub stays_in : Pairs → ℕ → ℕ → Action → Bool
+stays_in pairs p q a = never_adds_both pairs p q a && (never_adds_both pairs q p a && (all_keep_apart pairs p q a && all_keep_apart pairs q p a))
+
+-- each action does
+abbrev pub stays : Ground → Pairs → ℕ → ℕ → Bool
+stays g pairs p q = list_all (stays_in pairs p q) g.actions
