@@ -1,5 +1,5 @@
 -- Literals: equality, negation, and truth in a state.
-use Rattle.std.proofs.Common.{◌≡◌, ◌<◌, zero, suc, Bool, true, false, not, ◌&&◌, List, [], ◌∷◌, inl, inr, Contains, arith, refl, sym, ap, ap₂, subst, eqb-true, eq-eqb, nat_eq}
+use Rattle.std.proofs.Common.{◌≡◌, zero, suc, Bool, true, false, not, ◌&&◌, List, [], ◌∷◌, inl, inr, Contains, arith, refl, sym, ap, ap₂, subst, eqb-true, eq-eqb, nat_eq}
 use Rattle.std.proofs.lemmas.Bool.{and_parts, and_from}
 use Rattle.std.specs.Bool.{beq}
 use Rattle.std.specs.Cmp.{booleans_Decides}

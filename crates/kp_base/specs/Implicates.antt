@@ -5,19 +5,15 @@ use Rattle.std.specs.List.Sorted.{IsSorted}
 use Rattle.kp_base.specs.declared.lit.Lit.{Lit}
 use Rattle.kp_base.specs.declared.ground.Initial.{Initial}
 use Rattle.kp_base.specs.Lists.{Member}
-use Rattle.kp_base.specs.Lit.{negated}
-use Rattle.kp_base.specs.LitSet.{IsAscending, lits_cmp}
-use Rattle.kp_base.specs.Steps.{State, holds, has, is_model}
+use Rattle.kp_base.specs.LitSet.{IsAscending, lits_cmp, is_opposed}
+pub use Rattle.kp_base.specs.LitSet.{is_within}
+use Rattle.kp_base.specs.Steps.{State, holds, is_model}
 
 -- ---- clauses
 
 -- the clause has a literal and its negation
 abbrev pub is_tautology : List Lit → Bool
-is_tautology c = list_any (λ l. has c (negated l)) c
-
--- each literal of the first clause is in the second
-abbrev pub is_within : List Lit → List Lit → Bool
-is_within c d = list_all (has d) c
+is_tautology c = is_opposed c c
 
 -- the formula of these clauses alone
 abbrev pub formula_of : List (List Lit) → Initial

@@ -8,6 +8,7 @@ use Rattle.kp_base.specs.declared.ground.Ground.{Ground}
 use Rattle.kp_base.specs.declared.ground.Initial.{Initial}
 use Rattle.kp_base.specs.Lists.{signed}
 use Rattle.kp_base.specs.Lit.{positive, negative, same_lit}
+pub use Rattle.kp_base.specs.Lit.{has}
 
 -- the atoms that are true
 abbrev pub State : Type 0
@@ -24,10 +25,6 @@ pub record IsBounded (atoms : ℕ) (s : State) : Type 0 where
 -- a literal is true in a state
 abbrev pub holds : State → Facts
 holds s l = signed l.positive (s l.atom.0)
-
--- the literal stands in the list
-abbrev pub has : List Lit → Facts
-has ls l = list_any (same_lit l) ls
 
 -- ---- models
 

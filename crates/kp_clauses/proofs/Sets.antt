@@ -1,18 +1,15 @@
--- What literal sets say of themselves, as tests over their lists.
-use Rattle.std.proofs.Common.{◌≡◌, ◌<◌, ◌≤◌, zero, suc, true, false, Some, slice_get, ap, List, [], ◌∷◌, inl, inr, Contains, subst, refl, arith}
-use Rattle.std.proofs.lemmas.List.Elements.{recursion_from_All, All-from_recursion}
+-- Lists of literals: members, ascending lists, and first literals.
+use Rattle.std.proofs.Common.{◌≡◌, ◌<◌, ◌≤◌, false, Some, slice_get, ap, List, [], ◌∷◌, inl, inr, subst, refl, arith}
 use Rattle.std.specs.List.{AllByRecursion}
 use Rattle.kp_base.specs.declared.lit.Lit.{Lit}
 use Rattle.kp_base.specs.Lists.{Member}
-use Rattle.kp_base.specs.Lit.{negated, code_of}
-use Rattle.kp_base.specs.LitSet.{IsAscending, Within, Opposed}
-use Rattle.kp_base.specs.Steps.{has}
-use Rattle.kp_base.specs.Implicates.{is_within, is_tautology}
-use Rattle.kp_base.proofs.Lists.{any_member}
-use Rattle.kp_base.proofs.Lits.{has-member, member-has, contains_member, member_contains, contains_has, has_contains}
+use Rattle.kp_base.specs.Lit.{code_of}
+use Rattle.kp_base.specs.LitSet.{IsAscending}
+use Rattle.kp_base.specs.Implicates.{is_within}
+use Rattle.kp_base.proofs.Lits.{contains_member, member_contains}
 use Rattle.kp_base.proofs.Ascending.{same_members}
 use Rattle.kp_clauses.proofs.Logic.{not-true-case}
-use Rattle.kp_clauses.proofs.Within.{within_from, within_member, tautology_from}
+use Rattle.kp_clauses.proofs.Within.{within_member}
 
 pub members_by_recursion : {X : Type 0} (P : X → Type 0) (xs : List X) → ((x : X) → Member xs x → P x) → AllByRecursion P xs
 members_by_recursion P [] f = tt
@@ -21,21 +18,6 @@ members_by_recursion P (x ∷ xs) f = (f x (inl refl), members_by_recursion P xs
 pub recursion_members : {X : Type 0} (P : X → Type 0) (xs : List X) → AllByRecursion P xs → (x : X) → Member xs x → P x
 recursion_members P [] a x m = absurd m
 recursion_members P (y ∷ ys) a x m = elim m [ inl e ↦ subst P e a.0 | inr r ↦ recursion_members P ys a.1 x r ]
-
-pub within_tests : (c d : List Lit) → Within c d → is_within c d ≡ true
-within_tests c d h = within_from c d (λ x m. contains_member d x (recursion_members (Contains d) c (recursion_from_All (Contains d) c h) x m))
-
-pub tests_within : (c d : List Lit) → is_within c d ≡ true → Within c d
-tests_within c d h = All-from_recursion (Contains d) c (members_by_recursion (Contains d) c (λ x m. member_contains d x (within_member c d h x m)))
-
-pub opposed_tautology : (c : List Lit) → Opposed c c → is_tautology c ≡ true
-opposed_tautology c h = tautology_from c h.1 (contains_member c h.1 (h.0, h.2, h.3)) (contains_member c (negated h.1) h.4)
-
-pub tautology_opposed : (c : List Lit) → is_tautology c ≡ true → Opposed c c
-tautology_opposed c h =
-    let x = any_member (λ l. has c (negated l)) c h in
-    let at = member_contains c x.0 x.1 in
-    (at.0, x.0, at.1, at.2, has_contains c (negated x.0) x.2)
 
 -- ascending lists with the same members are the same
 pub ascending_same : (c d : List Lit) → IsAscending c → IsAscending d → ((x : Lit) → Member c x → Member d x) → ((x : Lit) → Member d x → Member c x) → c ≡ d

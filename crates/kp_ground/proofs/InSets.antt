@@ -1,4 +1,4 @@
--- Whether a literal stands in a set, as a test.
+-- Whether a literal stands in one of two lists.
 use Rattle.std.proofs.Common.{◌≡◌, ◌↔◌, Bool, true, false, ◌||◌, List, ◌++◌, Contains, IsTrue, refl, sym, ap, subst, ◌∙◌}
 use Rattle.std.proofs.lemmas.Bool.{false≢true}
 use Rattle.std.proofs.lemmas.List.Folds.{list_any-append, list_any_at}
@@ -8,10 +8,6 @@ use Rattle.kp_base.specs.Lit.{same_lit}
 use Rattle.kp_base.specs.Steps.{has}
 use Rattle.kp_base.proofs.Lits.{same_lit-true, same_lit-refl}
 use Rattle.kp_grounding.proofs.Lists.{false_where_not_true}
-
-pub has_is : (b : Bool) (ls : List Lit) (l : Lit) → (IsTrue b ↔ Contains ls l) → b ≡ has ls l
-has_is true ls l iff = let there = iff.0 refl in sym (list_any_at (same_lit l) ls there.0 l there.1 (subst (λ m. same_lit l m ≡ true) (sym there.2) (same_lit-refl l)))
-has_is false ls l iff = sym (false_where_not_true (has ls l) (λ h. false≢true (iff.1 (Contains-list_any same_lit same_lit-true ls l h))))
 
 -- what isn't in the one set is in either where it is in the other
 pub has_other : (b : Bool) (xs ys : List Lit) (l : Lit) → has xs l ≡ false → b ≡ has ys l → b ≡ has (xs ++ ys) l

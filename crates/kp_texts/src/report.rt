@@ -17,7 +17,6 @@ fn put_count(out: &mut Vec<u8>, word: &[u8], count: u128) -> Result<(), Memory>
 }
 
 // Whether it is known of an atom whether it holds.
-#[tactic(auto, using(kp_base::proofs::Lits::contains_has, kp_base::proofs::Lits::has_contains))]
 fn is_known(start: &LitSet, atom: u32) -> bool
     ensures { result ≡ is_known start.now atom }
 {
