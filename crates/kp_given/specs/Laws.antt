@@ -15,7 +15,7 @@ use Rattle.kp_meaning.specs.Plans.{HasProblem}
 use Rattle.kp_base.specs.Implicates.{IsOfAtoms}
 use Rattle.kp_meaning.specs.Numbering.{numbered_problem}
 use Rattle.kp_init.specs.ByName.{HasNamedAtoms}
-use Rattle.kp_texts.specs.Report.{is_settled}
+use Rattle.kp_texts.specs.Report.{is_complete}
 use Rattle.kp_write.specs.Grounds.{AreOfAtoms, IsWritable}
 use Rattle.kp_given.specs.Translations.{ground_of, initial_of, start_of}
 
@@ -46,7 +46,7 @@ HasOneValue i q = (s t : steps.State) → is_model i s ≡ true → is_model i t
 
 -- where no name is at fault and some state is initial, `complete` is printed exactly where each ground atom has the same value in all models
 abbrev pub CompleteStartsHaveOneValue : Type 0
-CompleteStartsHaveOneValue = (d : Domain Word) (p : Problem Word) → HasNoFault d p → HasInitialState p → (is_settled (length (ground_of d p).atoms) (start_of d p) ≡ true) ↔ ((q : ℕ) → q < length (ground_of d p).atoms → HasOneValue (initial_of d p) q)
+CompleteStartsHaveOneValue = (d : Domain Word) (p : Problem Word) → HasNoFault d p → HasInitialState p → (is_complete (length (ground_of d p).atoms) (start_of d p) ≡ true) ↔ ((q : ℕ) → q < length (ground_of d p).atoms → HasOneValue (initial_of d p) q)
 
 -- ---- what is written
 

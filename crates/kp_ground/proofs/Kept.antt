@@ -20,15 +20,15 @@ use Rattle.kp_grounding.proofs.Kept.{kept_of, act, actions_are}
 use Rattle.kp_kept.specs.Counts.{IsWithin, StopsAtCounts}
 use Rattle.kp_bound.specs.Bound.{flat_at}
 use Rattle.kp_ground.specs.Grounded.{RefusesGround, AnswersGround}
-use Rattle.kp_ground.specs.Passes.{is_known, name_with, action_from, action_with, action_at, AnswersAtoms}
+use Rattle.kp_ground.specs.Passes.{has_schema, name_with, action_from, action_with, action_at, AnswersAtoms}
 
 there_below : {X : Type 0} (xs : List X) (n : ℕ) (x : X) → slice_get xs n ≡ Some x → n < length xs
 there_below [] n x h = cc
 there_below (y ∷ ys) zero x h = omega arith
 there_below (y ∷ ys) (suc n) x h = let rest = there_below ys n x h in omega arith
 
-pub all_known : (l : Lifted) → list_all (is_known l) (kept_instances l) ≡ true
-all_known l = all_from (is_known l) (kept_instances l) (λ i m. let kept = kept_of l i m in lt-ltb i.schema (length l.schemas) (there_below l.schemas i.schema kept.schema kept.at))
+pub all_known : (l : Lifted) → list_all (has_schema l) (kept_instances l) ≡ true
+all_known l = all_from (has_schema l) (kept_instances l) (λ i m. let kept = kept_of l i m in lt-ltb i.schema (length l.schemas) (there_below l.schemas i.schema kept.schema kept.at))
 
 pub actions_at : (l : Lifted) (atoms : List Atom) → flat_map (actions_of l atoms) l.schemas ≡ map (action_at l atoms) (kept_instances l)
 actions_at l atoms = actions_are l atoms ∙ same (kept_instances l)

@@ -9,7 +9,7 @@ use Rattle.kp_grounding.specs.declared.flat.Atom.{Atom}
 use Rattle.kp_atoms.specs.Gathered.{gather}
 use Rattle.kp_kept.specs.declared.kept.Kept.{Kept}
 use Rattle.kp_kept.specs.Counts.{kept_view}
-use Rattle.kp_ground.specs.Passes.{is_known}
+use Rattle.kp_ground.specs.Passes.{has_schema}
 
 pub filter_more : (limit : ℕ) (p : GroundLit → Bool) (atoms : List Atom) (m : GroundLit) (rest : List GroundLit) → gather limit (gather limit atoms (filter p (m ∷ []))) (filter p rest) ≡ gather limit atoms (filter p (m ∷ rest))
 filter_more limit p atoms m rest = by (p m)
@@ -19,10 +19,10 @@ filter_more limit p atoms m rest = by (p m)
     by false = refl
 
 -- each of the instances has a schema
-pub known_there : (l : Lifted) (ks : List Kept) (i : ℕ) (k : Kept) → i < length ks → k ≡ get_or ks i k → list_all (is_known l) (map kept_view ks) ≡ true → k.schema < length l.schemas
+pub known_there : (l : Lifted) (ks : List Kept) (i : ℕ) (k : Kept) → i < length ks → k ≡ get_or ks i k → list_all (has_schema l) (map kept_view ks) ≡ true → k.schema < length l.schemas
 known_there l [] i k lt is all = absurd (omega arith)
-known_there l (j ∷ ks) zero k lt is all = ltb-true k.schema (length l.schemas) (subst (λ n. is_known l (kept_view n) ≡ true) (sym is) (and_parts (is_known l (kept_view j)) (list_all (is_known l) (map kept_view ks)) all).0)
-known_there l (j ∷ ks) (suc i) k lt is all = known_there l ks i k (omega arith) is (and_parts (is_known l (kept_view j)) (list_all (is_known l) (map kept_view ks)) all).1
+known_there l (j ∷ ks) zero k lt is all = ltb-true k.schema (length l.schemas) (subst (λ n. has_schema l (kept_view n) ≡ true) (sym is) (and_parts (has_schema l (kept_view j)) (list_all (has_schema l) (map kept_view ks)) all).0)
+known_there l (j ∷ ks) (suc i) k lt is all = known_there l ks i k (omega arith) is (and_parts (has_schema l (kept_view j)) (list_all (has_schema l) (map kept_view ks)) all).1
 
 -- what is left begins with the element there
 pub drop_item : {X : Type 0} (xs : List X) (i : ℕ) (x : X) → i < length xs → x ≡ get_or xs i x → drop i xs ≡ x ∷ drop (i + 1) xs

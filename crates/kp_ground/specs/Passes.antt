@@ -18,8 +18,8 @@ use Rattle.kp_bound.specs.Bound.{flat_at}
 -- ---- instances
 
 -- there is a schema of this number
-abbrev pub is_known : Lifted → Instance → Bool
-is_known l i = nat_lt i.schema (length l.schemas)
+abbrev pub has_schema : Lifted → Instance → Bool
+has_schema l i = nat_lt i.schema (length l.schemas)
 
 -- the name of the action of an instance, if there is such a schema
 abbrev pub name_with : Lifted → ℕ → List ℕ → Option GroundName

@@ -3,7 +3,7 @@ ghost use Rattle.std.specs.List.{list_all};
 ghost use Rattle.kp_names.specs.View.{lifted_view};
 ghost use Rattle.kp_kept.specs.Counts.{kept_view};
 ghost use Rattle.kp_bound.specs.Problem.{problem_of};
-ghost use Rattle.kp_ground.specs.Passes.{is_known, action_from, name_with, action_at};
+ghost use Rattle.kp_ground.specs.Passes.{has_schema, action_from, name_with, action_at};
 
 use crate::effects::all_numbered;
 use crate::lasting::lasting_effects;
@@ -45,7 +45,7 @@ fn action(
     atoms: &Atoms,
     one: &Kept,
 ) -> Result<Action, Memory>
-    requires { is_known (problem_of flattener.old.statics.now) (kept_view one.now) ≡ true }
+    requires { has_schema (problem_of flattener.old.statics.now) (kept_view one.now) ≡ true }
     ensures kept { flattener.new.statics ≡ flattener.old.statics }
     ensures action { IfOk result (λ a. a ≡ action_at (problem_of flattener.old.statics.now) atoms.now (kept_view one.now)) }
 {
@@ -63,7 +63,7 @@ pub fn all_actions(
     atoms: &Atoms,
     kept: &[Kept],
 ) -> Result<Row<Action>, Memory>
-    requires { list_all (is_known (problem_of flattener.old.statics.now)) (map kept_view kept.now) ≡ true }
+    requires { list_all (has_schema (problem_of flattener.old.statics.now)) (map kept_view kept.now) ≡ true }
     ensures { IfOk result (λ row. row ≡ map (action_at (problem_of flattener.old.statics.now) atoms.now) (map kept_view kept.now)) }
 {
     let mut row = Row::new(alloc);

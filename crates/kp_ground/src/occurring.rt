@@ -4,7 +4,7 @@ ghost use Rattle.kp_grounding.specs.Ground.{kept_instances};
 ghost use Rattle.kp_atoms.specs.Gathered.{gather};
 ghost use Rattle.kp_kept.specs.Counts.{kept_view};
 ghost use Rattle.kp_bound.specs.Problem.{problem_of};
-ghost use Rattle.kp_ground.specs.Passes.{is_known, literals_at, noted, AnswersAtoms};
+ghost use Rattle.kp_ground.specs.Passes.{has_schema, literals_at, noted, AnswersAtoms};
 
 use crate::gathering::{add_flat, add_items};
 use kp_atoms::{Atoms, add_literals};
@@ -21,7 +21,7 @@ fn add_kept(
     atoms: &mut Atoms,
     kept: &[Kept],
 ) -> Result<(), Memory>
-    requires { list_all (is_known (problem_of flattener.old.statics.now)) (map kept_view kept.now) ≡ true }
+    requires { list_all (has_schema (problem_of flattener.old.statics.now)) (map kept_view kept.now) ≡ true }
     ensures { OnOk result (atoms.new ≡ gather limit atoms.old (flat_map (literals_at (problem_of flattener.old.statics.now)) (map kept_view kept.now))) }
 {
     for one in kept {

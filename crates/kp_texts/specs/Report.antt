@@ -26,9 +26,9 @@ abbrev pub is_known : List Lit → ℕ → Bool
 is_known start q = has start (positive q) || has start (negative q)
 
 -- of each of the first n atoms it is known whether it holds
-abbrev pub is_settled : ℕ → List Lit → Bool
-is_settled n start = list_all (is_known start) (range_with_len 0 n)
+abbrev pub is_complete : ℕ → List Lit → Bool
+is_complete n start = list_all (is_known start) (range_with_len 0 n)
 
 -- the counts; and `complete`, where these literals are known at the start and this is so of all ground atoms
 abbrev pub report_of : Ground → List Lit → List ℕ
-report_of g start = counted g (only_if (is_settled (length g.atoms) start) (codes "complete\n"))
+report_of g start = counted g (only_if (is_complete (length g.atoms) start) (codes "complete\n"))

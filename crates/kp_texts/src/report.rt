@@ -1,5 +1,5 @@
 ghost use Rattle.std.specs.Prelude.{◌≡◌, ◌++◌, IfOk, OnOk};
-ghost use Rattle.kp_texts.specs.Report.{count_line, is_known, is_settled, report_of};
+ghost use Rattle.kp_texts.specs.Report.{count_line, is_known, is_complete, report_of};
 
 use crate::encoding::put;
 use itoa::Buffer;
@@ -28,8 +28,8 @@ fn is_known(start: &LitSet, atom: u32) -> bool
 }
 
 // Whether it is known of each of the first atoms whether it holds.
-fn is_settled(atoms: u32, start: &LitSet) -> bool
-    ensures { result ≡ is_settled atoms start.now }
+fn is_complete(atoms: u32, start: &LitSet) -> bool
+    ensures { result ≡ is_complete atoms start.now }
 {
     (0..atoms).all(|atom| is_known(start, atom))
 }
@@ -50,7 +50,7 @@ pub fn report_text(alloc: Global, ground: &Ground, start: &LitSet) -> Result<Row
     put_count(&mut out, b"tags", 1)?;
     put_count(&mut out, b"merges", 0)?;
     put_count(&mut out, b"facts", 2 * atoms)?;
-    if is_settled(count, start) {
+    if is_complete(count, start) {
         put(&mut out, b"complete\n")?;
     }
     Ok(Row::from_vec(out))

@@ -3,13 +3,13 @@ use Rattle.std.specs.List.{list_all}
 use Rattle.kp_grounding.specs.Ground.{kept_instances, atom_name, numbered_set}
 use Rattle.kp_kept.specs.Counts.{kept_view}
 use Rattle.kp_bound.specs.Problem.{problem_of}
-use Rattle.kp_ground.specs.Passes.{is_known, action_at}
+use Rattle.kp_ground.specs.Passes.{has_schema, action_at}
 use Rattle.kp_ground.proofs.Kept.{all_known, ground_is}
 use Rattle.kp_ground.proofs.grounding.over_atoms.Goals as goal
 
 pub all_actions-requires : goal.all_actions-requires
 all_actions-requires c =
-    rw c.requires (subst (λ s. list_all (is_known (problem_of s.now)) (kept_instances (problem_of c.args.statics.now)) ≡ true) (sym c.new-flattener.ensures) (all_known (problem_of c.args.statics.now)))
+    rw c.requires (subst (λ s. list_all (has_schema (problem_of s.now)) (kept_instances (problem_of c.args.statics.now)) ≡ true) (sym c.new-flattener.ensures) (all_known (problem_of c.args.statics.now)))
 
 pub returns-clause-ground : goal.returns-clause-ground
 returns-clause-ground c =
