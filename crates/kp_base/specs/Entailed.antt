@@ -22,6 +22,14 @@ pub record IsConsistent (i : Initial) (lits : List Lit) : Type 0 where
   pub model : is_model i state ≡ true
   pub all_true : list_all (holds state) lits ≡ true
 
+-- some state is a model
+abbrev pub HasModel : Initial → Type 0
+HasModel i = IsConsistent i []
+
+-- none is
+abbrev pub HasNoModel : Initial → Type 0
+HasNoModel i = HasModel i → ⊥
+
 -- the closure of a tag: the literals of ground atoms that it entails
 pub record IsClosure (atoms : ℕ) (i : Initial) (lits closure : List Lit) : Type 0 where
   pub of_atoms : (l : Lit) → has closure l ≡ true → l.atom.0 < atoms

@@ -19,14 +19,14 @@ is_tautology c = is_opposed c c
 abbrev pub formula_of : List (List Lit) → Initial
 formula_of cs = record { clauses = cs; closed = [] }
 
+-- each literal is of one of the first n atoms
+abbrev pub are_below : ℕ → List Lit → Bool
+are_below n ls = list_all (λ l. nat_lt l.atom.0 n) ls
+
 -- each literal of the clauses, and each closed atom, is of one of the first n atoms
 pub record IsOfAtoms (n : ℕ) (i : Initial) : Type 0 where
-  pub clauses : list_all (λ c. list_all (λ l. nat_lt l.atom.0 n) c) i.clauses ≡ true
+  pub clauses : list_all (are_below n) i.clauses ≡ true
   pub closed : list_all (λ p. nat_lt p.0 n) i.closed ≡ true
-
--- no state is a model
-abbrev pub HasNoModel : Initial → Type 0
-HasNoModel i = (s : State) → is_model i s ≡ true → ⊥
 
 -- ---- implicates
 

@@ -38,5 +38,5 @@ complete_starts d p no_fault has_state =
     let closed = (closure_exact i n (formulas_over_atoms d p) [] refl).closure in
     let m = (states_are_models d p no_fault).0 has_state in (
       λ settled q below. one_value n i (start_of d p) closed q (all_member (is_known (start_of d p)) (range_with_len 0 n) q (range_there 0 n q (omega arith) (omega arith)) settled),
-      λ each. all_from (is_known (start_of d p)) (range_with_len 0 n) (λ q there. let below = range_only 0 n q there in let close : q < n = omega (arith, below) in known_of n i (start_of d p) closed m.0 m.1 q close (each q close)),
+      λ each. all_from (is_known (start_of d p)) (range_with_len 0 n) (λ q there. let below = range_only 0 n q there in let close : q < n = omega (arith, below) in known_of n i (start_of d p) closed m.state m.model q close (each q close)),
     )

@@ -2,7 +2,7 @@
 use Rattle.std.proofs.Common.{◌≡◌, ℕ, true, List, [], codes, refl, subst, nat_eq, length}
 use Rattle.std.proofs.lemmas.Bool.{false≢true}
 use Rattle.kp_base.specs.Steps.{State, is_model}
-use Rattle.kp_base.specs.Entailed.{IsClosure}
+use Rattle.kp_base.specs.Entailed.{HasNoModel, IsClosure}
 use Rattle.kp_lex.specs.Bytes.{class_of}
 use Rattle.kp_lex.specs.Scanning.{cut_from}
 use Rattle.kp_grammar.specs.Symbols.{symbol_of}
@@ -30,7 +30,7 @@ unfolding cut_from class_of symbol_of some_at next_at first
 first_is_model = refl
 
 has_state : HasInitialState (problem_of one_of_three)
-has_state = (states_are_models (domain_of cells) (problem_of one_of_three) three_fault).1 (first, first_is_model)
+has_state = (states_are_models (domain_of cells) (problem_of one_of_three) three_fault).1 (record { state = first; model = first_is_model; all_true = refl })
 
 -- nothing is known
 nothing_known : start_of (domain_of cells) (problem_of one_of_three) ≡ []
@@ -56,9 +56,9 @@ none_fault : HasNoFault (domain_of cells) (problem_of none)
 unfolding cut_from class_of symbol_of some_at next_at
 none_fault = record { domain = refl; problem = refl }
 
-no_model : (s : State) → is_model (initial_of (domain_of cells) (problem_of none)) s ≡ true → ⊥
+no_model : HasNoModel (initial_of (domain_of cells) (problem_of none))
 unfolding cut_from class_of symbol_of some_at next_at
-no_model s h = false≢true h
+no_model some = false≢true some.model
 
 no_state : HasInitialState (problem_of none) → ⊥
-no_state has = let m = (states_are_models (domain_of cells) (problem_of none) none_fault).0 has in no_model m.0 m.1
+no_state has = no_model ((states_are_models (domain_of cells) (problem_of none) none_fault).0 has)

@@ -32,9 +32,9 @@ pub states_are_models : InitialStatesAreModels
 states_are_models d p no_fault = (
   λ has.
       let t = (initial_numbered d p no_fault).by_number has.state has.is_initial in
-      (seen_on (ground_atoms (numbered_problem d p)) t.0, (models (numbered_problem d p)).model t.0 t.1),
+      record { state = seen_on (ground_atoms (numbered_problem d p)) t.0; model = (models (numbered_problem d p)).model t.0 t.1; all_true = refl },
   λ m.
-      let t = (models (numbered_problem d p)).state m.0 m.1 in
+      let t = (models (numbered_problem d p)).state m.state m.model in
       let s = (initial_numbered d p no_fault).by_name t.0 t.1 in
       record { state = s.0; is_initial = s.1 },
 )

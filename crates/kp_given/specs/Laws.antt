@@ -5,7 +5,7 @@ use Rattle.kp_base.specs.declared.ground.Initial.{Initial}
 use Rattle.kp_base.specs.LitSet.{IsAscending}
 use Rattle.kp_base.specs.Steps as steps
 use Rattle.kp_base.specs.Steps.{is_model}
-use Rattle.kp_base.specs.Entailed.{IsClosure}
+use Rattle.kp_base.specs.Entailed.{HasModel, IsClosure}
 use Rattle.kp_grammar.specs.declared.tree.Word.{Word}
 use Rattle.kp_grammar.specs.Trees.{Domain, Problem}
 use Rattle.kp_meaning.specs.States.{State}
@@ -24,9 +24,9 @@ pub record HasInitialState (p : Problem Word) : Type 0 where
   pub state : State
   pub is_initial : IsInitial p state
 
--- where no name is at fault, some state is initial exactly where some state by number is a model of the initial formula
+-- where no name is at fault, some state is initial exactly where the initial formula has a model
 abbrev pub InitialStatesAreModels : Type 0
-InitialStatesAreModels = (d : Domain Word) (p : Problem Word) → HasNoFault d p → HasInitialState p ↔ ((s : steps.State) × (is_model (initial_of d p) s ≡ true))
+InitialStatesAreModels = (d : Domain Word) (p : Problem Word) → HasNoFault d p → HasInitialState p ↔ HasModel (initial_of d p)
 
 -- the initial formula speaks of ground atoms alone
 abbrev pub FormulasSpeakOfGroundAtoms : Type 0

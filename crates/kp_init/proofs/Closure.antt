@@ -11,8 +11,8 @@ use Rattle.kp_base.specs.LitSet.{IsAscending}
 use Rattle.kp_base.specs.Steps.{State, holds, is_model}
 use Rattle.kp_base.proofs.Lists.{any_alike, all_alike, all_member, filter_member, member_map, flat_member, all_from, member_flat_map, member_filter}
 use Rattle.kp_base.proofs.Lits.{has-member, member-has}
-use Rattle.kp_init.specs.Closure.{literals, state_of, states, models_of, closure, are_below, IsClosureExact}
-use Rattle.kp_base.specs.Implicates.{IsOfAtoms}
+use Rattle.kp_init.specs.Closure.{literals, state_of, states, models_of, closure, IsClosureExact}
+use Rattle.kp_base.specs.Implicates.{are_below, IsOfAtoms}
 use Rattle.kp_init.proofs.Runs.{below, SameBelow, holds_same, all_same}
 
 -- ---- the literals of the first n atoms

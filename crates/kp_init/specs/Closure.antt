@@ -1,5 +1,5 @@
 -- What is known under a tag: the literals that hold in each model that meets it.
-use Rattle.std.specs.Prelude.{◌≡◌, ℕ, Bool, true, false, ◌&&◌, List, [], ◌∷◌, nat_lt, map, filter, replicate, slice_index_or}
+use Rattle.std.specs.Prelude.{◌≡◌, ℕ, Bool, true, false, ◌&&◌, List, [], ◌∷◌, map, filter, replicate, slice_index_or}
 use Rattle.std.specs.List.{list_all, flat_map, range_with_len}
 use Rattle.kp_base.specs.declared.lit.Lit.{Lit}
 use Rattle.kp_base.specs.declared.ground.Initial.{Initial}
@@ -8,7 +8,7 @@ use Rattle.kp_base.specs.Lit.{positive, negative}
 use Rattle.kp_base.specs.LitSet.{IsAscending}
 use Rattle.kp_base.specs.Steps.{State, holds, is_model}
 use Rattle.kp_base.specs.Entailed.{IsClosure}
-use Rattle.kp_base.specs.Implicates.{IsOfAtoms}
+use Rattle.kp_base.specs.Implicates.{are_below, IsOfAtoms}
 
 -- the two literals of each of the first n atoms, ascending
 abbrev pub literals : ℕ → List Lit
@@ -31,10 +31,6 @@ abbrev pub closure : Initial → ℕ → List Lit → List Lit
 closure i n tag = filter (λ l. list_all (λ s. holds s l) (models_of i n tag)) (literals n)
 
 -- ---- the law
-
--- each literal is of one of the first n atoms
-abbrev pub are_below : ℕ → List Lit → Bool
-are_below n ls = list_all (λ l. nat_lt l.atom.0 n) ls
 
 -- the list is the closure of the tag, in ascending order
 pub record IsAscendingClosure (n : ℕ) (i : Initial) (tag ls : List Lit) : Type 0 where

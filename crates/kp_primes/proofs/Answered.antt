@@ -100,7 +100,7 @@ store_is i limit ps qs counted is = is ∙ ap (λ z. all_included z (map unit_of
 
 pub is_empty : (i : Initial) (limit : ℕ) (ps qs : List (List Lit)) → AreCounted i.clauses limit (length i.clauses) ps → qs ≡ all_included ps (map unit_of i.closed) → subsumed qs [] ≡ true → HasNoState i limit
 is_empty i limit ps qs counted is h = record {
-  no_model = no_model (is_model i) (whole i) (whole_cover i (all_sets i limit ps counted)) (subst (λ z. subsumed z [] ≡ true) (store_is i limit ps qs counted is) h);
+  no_model = λ some. no_model (is_model i) (whole i) (whole_cover i (all_sets i limit ps counted)) (subst (λ z. subsumed z [] ≡ true) (store_is i limit ps qs counted is) h) some.state some.model;
   never_over = never_over i limit ps counted;
 }
 

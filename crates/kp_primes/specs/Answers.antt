@@ -7,8 +7,8 @@ use Rattle.kp_base.specs.declared.refused.Stop.TheVariants as stops
 use Rattle.kp_base.specs.declared.refused.Refused.{Refused}
 use Rattle.kp_base.specs.declared.refused.Refused.TheVariants as refusals
 use Rattle.kp_base.specs.Steps.{State, is_model}
-use Rattle.kp_base.specs.Entailed.{IsConsistent, IsClosure}
-use Rattle.kp_base.specs.Implicates.{HasNoModel, ArePrimes, IsLeastOver, IsNeverOver}
+use Rattle.kp_base.specs.Entailed.{IsConsistent, HasModel, HasNoModel, IsClosure}
+use Rattle.kp_base.specs.Implicates.{ArePrimes, IsLeastOver, IsNeverOver}
 use Rattle.kp_primes.specs.Held.{Held, formula}
 
 -- ---- a build
@@ -18,7 +18,7 @@ pub record HoldsPrimes (i : Initial) (atoms limit : ℕ) (h : Held) : Type 0 whe
   pub atoms_are : h.atoms ≡ atoms
   pub primes : ArePrimes i h.clauses
   pub same_models : (s : State) → is_model (formula h) s ≡ is_model i s
-  pub has_model : IsConsistent i []
+  pub has_model : HasModel i
   pub never_over : IsNeverOver i limit
 
 -- the initial formula has no model, and no number of its first clauses has more prime implicates than the limit

@@ -2,7 +2,7 @@
 use Rattle.std.specs.Prelude.{◌≡◌, ℕ, true, List, []}
 use Rattle.kp_base.specs.declared.lit.Lit.{Lit}
 use Rattle.kp_base.specs.declared.ground.Initial.{Initial}
-use Rattle.kp_base.specs.Entailed.{IsConsistent}
+use Rattle.kp_base.specs.Entailed.{HasModel}
 use Rattle.kp_base.specs.Implicates.{formula_of, IsOfAtoms, IsImplicate, ArePrimes}
 use Rattle.kp_clauses.specs.Stored.{subsumed}
 
@@ -20,4 +20,4 @@ pub record AreWhole (h : Held) : Type 0 where
   pub of_atoms : IsOfAtoms h.atoms (formula h)
   pub primes : ArePrimes (formula h) h.clauses
   pub covers : (c : List Lit) → IsImplicate (formula h) c → subsumed h.clauses c ≡ true
-  pub has_model : IsConsistent (formula h) []
+  pub has_model : HasModel (formula h)

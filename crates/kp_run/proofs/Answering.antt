@@ -123,11 +123,11 @@ module _ (limit : ℕ) (x y : List ℕ) (d : Domain Word) (p : Problem Word) (h 
   ends_answers r (within w e) = by r e
     where
       started : IsCounted limit l → IsStarted limit d p
-      started k = record { small = w; counted = k.never_over; initial = (states_are_models d p h.no_fault).1 (k.has_model.state, k.has_model.model) }
+      started k = record { small = w; counted = k.never_over; initial = (states_are_models d p h.no_fault).1 k.has_model }
 
       -- no model is an initial state
       without : HasNoState (initial_of l) limit → HasInitialState p → ⊥
-      without none has = let m = (states_are_models d p h.no_fault).0 has in none.no_model m.0 m.1
+      without none has = none.no_model ((states_are_models d p h.no_fault).0 has)
 
       by : (z : Report) → EndsBy limit l z → Answers limit x y (status_of z)
       by z (by_implicates _ k least is) = refusal_answers limit x y z _ is (on_trees d p _ h (implicates_over k w least))

@@ -23,7 +23,8 @@ use Rattle.kp_base.specs.Lit.{positive, negative}
 use Rattle.kp_base.specs.LitSet.{IsAscending}
 use Rattle.kp_base.specs.Steps.{State as NumberedState, is_model}
 use Rattle.kp_base.specs.Clashes.{no_pairs, HasNoClash, IsFirstClash}
-use Rattle.kp_base.specs.Implicates.{IsLeastOver, IsNeverOver, HasNoModel}
+use Rattle.kp_base.specs.Implicates.{IsLeastOver, IsNeverOver}
+use Rattle.kp_base.specs.Entailed.{HasNoModel}
 use Rattle.kp_primes.specs.Included.{all_included, passed_at}
 use Rattle.kp_primes.specs.Answers.{RefusesPrimes, too_many}
 use Rattle.kp_primes.proofs.Answered.{never_over, prefix_stops}
@@ -184,7 +185,7 @@ only_p_is = refl
 
 -- some state is initial where the formula has a model
 has_state : (d : Domain Word) (p : Problem Word) → faults.HasNoFault d p → (s : NumberedState) → is_model (initial_of d p) s ≡ true → HasInitialState p
-has_state d p no_fault s is = (states_are_models d p no_fault).1 (s, is)
+has_state d p no_fault s is = (states_are_models d p no_fault).1 (record { state = s; model = is; all_true = refl })
 
 -- a clause of one literal is in order, and has few prime implicates
 one_set : (cs : List (List Lit)) (x : Lit) → cs ≡ (x ∷ []) ∷ [] → (c : List Lit) → Member cs c → IsAscending c
@@ -322,14 +323,14 @@ both_trees : HaveTrees exchange both exchange_tree both_tree
 both_trees = record { domain_reads = domain_reads; problem_reads = both_reads; no_fault = record { domain = refl; problem = refl } }
 
 no_model : HasNoModel (initial_of exchange_tree both_tree)
-no_model s is = never (s 0) is
+no_model some = never (some.state 0) some.model
   where
-    never : (b : Bool) → ((((b || false) && (((not b) || false) && true)) && (not (s 1) && true)) ≡ true) → ⊥
+    never : (b : Bool) → ((((b || false) && (((not b) || false) && true)) && (not (some.state 1) && true)) ≡ true) → ⊥
     never true h = false≢true h
     never false h = false≢true h
 
 no_state : HasInitialState both_tree → ⊥
-no_state has = let m = (states_are_models exchange_tree both_tree both_trees.no_fault).0 has in no_model m.0 m.1
+no_state has = no_model ((states_are_models exchange_tree both_tree both_trees.no_fault).0 has)
 
 -- p and its negation, in order
 two_sets : (c : List Lit) → Member ((positive 0 ∷ []) ∷ (negative 0 ∷ []) ∷ []) c → IsAscending c

@@ -20,7 +20,7 @@ use Rattle.kp_run.specs.Texts.{HaveTrees}
 use Rattle.kp_base.specs.declared.refused.ClashAt.{ClashAt}
 use Rattle.kp_base.specs.declared.refused.Refused.{Refused}
 use Rattle.kp_base.specs.Clashes.{no_pairs, HasNoClash, IsFirstClash}
-use Rattle.kp_base.specs.Entailed.{IsConsistent}
+use Rattle.kp_base.specs.Entailed.{HasModel}
 use Rattle.kp_base.specs.Implicates.{IsLeastOver, IsNeverOver}
 use Rattle.kp_primes.specs.Answers.{HasNoState}
 use Rattle.kp_meaning.specs.Numbered.{Lifted as Numbers}
@@ -94,7 +94,7 @@ pub record IsProblemOf (domain problem : List ℕ) (l : Lifted) : Type 0 where
 -- the clauses of the initial formula have no more prime implicates than the limit, and it has a model
 pub record IsCounted (limit : ℕ) (l : Numbers) : Type 0 where
   pub never_over : IsNeverOver (initial_of l) limit
-  pub has_model : IsConsistent (initial_of l) []
+  pub has_model : HasModel (initial_of l)
 
 -- what is written of a ground problem
 pub record IsWritten (l : Numbers) (t : Translation) : Type 0 where
