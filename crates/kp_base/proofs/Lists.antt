@@ -1,5 +1,5 @@
 -- Members of lists, and tests over them.
-use Rattle.std.proofs.Common.{◌≡◌, ◌⊎◌, ℕ, zero, suc, Bool, true, false, not, ◌&&◌, ◌||◌, cond, if◌then◌else◌, List, [], ◌∷◌, ◌++◌, Some, map, filter, slice_get, bytes_eq, refl, sym, ap, subst, ◌∙◌, inl, inr}
+use Rattle.std.proofs.Common.{◌≡◌, ◌⊎◌, ℕ, zero, suc, Bool, true, false, not, ◌&&◌, ◌||◌, cond, if◌then◌else◌, List, [], ◌∷◌, ◌++◌, Some, map, filter, slice_get, bytes_eq, Contains, arith, refl, sym, ap, subst, ◌∙◌, inl, inr}
 use Rattle.std.proofs.lemmas.Bool.{and_parts, and_from, or_cases, or_left, or_right, false≢true}
 use Rattle.std.proofs.lemmas.List.{map-append}
 use Rattle.std.proofs.lemmas.Slice.Eq.{bytes_eq-Decides}
@@ -13,6 +13,10 @@ pub bool_same : (a b : Bool) → (a ≡ true → b ≡ true) → (b ≡ true →
 bool_same true b f g = sym (f refl)
 bool_same false true f g = g refl
 bool_same false false f g = refl
+
+pub not_not : (b : Bool) → not (not b) ≡ b
+not_not true = refl
+not_not false = refl
 
 -- ---- tests that hold of more
 
@@ -93,6 +97,22 @@ any_member p (x ∷ xs) h =
       | inl e ↦ (x, inl refl, e)
       | inr e ↦ let r = any_member p xs e in (r.0, inr r.1, r.2)
     ]
+
+-- an element that a test finds equal is a member, where the test tells equality
+pub same_member : {X : Type 0} (same : X → X → Bool) → ((x y : X) → same x y ≡ true → x ≡ y) → (xs : List X) (x : X) → list_any (same x) xs ≡ true → Member xs x
+same_member same equal xs x h = let r = any_member (same x) xs h in subst (Member xs) (sym (equal x r.0 r.2)) r.1
+
+-- ---- members by their places
+
+pub contains_member : {X : Type 0} (xs : List X) (x : X) → Contains xs x → Member xs x
+contains_member [] x (k, lt, e) = absurd (omega (arith, lt))
+contains_member (y ∷ ys) x (zero, lt, e) = inl e
+contains_member (y ∷ ys) x (suc k, lt, e) = inr (contains_member ys x (k, omega (arith, lt), e))
+
+pub member_contains : {X : Type 0} (xs : List X) (x : X) → Member xs x → Contains xs x
+member_contains [] x m = absurd m
+member_contains (y ∷ ys) x (inl e) = (zero, omega arith, e)
+member_contains (y ∷ ys) x (inr m) = let r = member_contains ys x m in let lt = r.1 in (suc r.0, omega (arith, lt), r.2)
 
 -- ---- members of lists that are made of others
 

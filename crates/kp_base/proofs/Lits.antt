@@ -1,17 +1,13 @@
 -- Literals: equality, negation, and truth in a state.
-use Rattle.std.proofs.Common.{◌≡◌, zero, suc, Bool, true, false, not, ◌&&◌, List, [], ◌∷◌, inl, inr, Contains, arith, refl, sym, ap, ap₂, subst, eqb-true, eq-eqb, nat_eq}
+use Rattle.std.proofs.Common.{◌≡◌, Bool, true, false, not, ◌&&◌, List, Contains, refl, sym, ap, ap₂, eqb-true, eq-eqb, nat_eq}
 use Rattle.std.proofs.lemmas.Bool.{and_parts, and_from}
 use Rattle.std.specs.Bool.{beq}
-use Rattle.std.specs.Cmp.{booleans_Decides}
+use Rattle.std.specs.Cmp.{IsEquivalence, booleans_Decides, on_equiv, and_equiv, nat_eq_equiv, bool_eq_equiv}
 use Rattle.kp_base.specs.declared.lit.Lit.{Lit}
 use Rattle.kp_base.specs.Lists.{Member, signed}
 use Rattle.kp_base.specs.Lit.{negated, same_lit}
 use Rattle.kp_base.specs.Steps.{State, holds, has}
-use Rattle.kp_base.proofs.Lists.{any_from, any_member}
-
-pub not_not : (b : Bool) → not (not b) ≡ b
-not_not true = refl
-not_not false = refl
+use Rattle.kp_base.proofs.Lists.{not_not, any_from, same_member, contains_member, member_contains}
 
 pub same_lit-true : (a b : Lit) → same_lit a b ≡ true → a ≡ b
 same_lit-true a b h =
@@ -25,23 +21,14 @@ same_lit-refl a = and_from (nat_eq a.atom.0 a.atom.0) (beq a.positive a.positive
     same true = refl
     same false = refl
 
+pub same_lits : IsEquivalence same_lit
+same_lits = and_equiv (on_equiv (λ (l : Lit). l.atom.0) nat_eq_equiv) (on_equiv (λ (l : Lit). l.positive) bool_eq_equiv)
+
 pub has-member : (ls : List Lit) (l : Lit) → Member ls l → has ls l ≡ true
 has-member ls l m = any_from (same_lit l) ls l m (same_lit-refl l)
 
 pub member-has : (ls : List Lit) (l : Lit) → has ls l ≡ true → Member ls l
-member-has ls l h =
-    let r = any_member (same_lit l) ls h in
-    subst (Member ls) (sym (same_lit-true l r.0 r.2)) r.1
-
-pub contains_member : (ls : List Lit) (l : Lit) → Contains ls l → Member ls l
-contains_member [] l (k, lt, e) = absurd (omega (arith, lt))
-contains_member (x ∷ ls) l (zero, lt, e) = inl e
-contains_member (x ∷ ls) l (suc k, lt, e) = inr (contains_member ls l (k, omega (arith, lt), e))
-
-pub member_contains : (ls : List Lit) (l : Lit) → Member ls l → Contains ls l
-member_contains [] l m = absurd m
-member_contains (x ∷ ls) l (inl e) = (zero, omega arith, e)
-member_contains (x ∷ ls) l (inr m) = let r = member_contains ls l m in let lt = r.1 in (suc r.0, omega (arith, lt), r.2)
+member-has = same_member same_lit same_lit-true
 
 pub contains_has : (ls : List Lit) (l : Lit) → Contains ls l → has ls l ≡ true
 contains_has ls l h = has-member ls l (contains_member ls l h)

@@ -3,4 +3,3 @@ pub mod Views
 pub mod Sets
 pub mod Shapes
 pub mod Sorting
-pub mod Once

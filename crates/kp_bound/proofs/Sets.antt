@@ -10,7 +10,7 @@ use Rattle.std.proofs.lemmas.Bool.{and_parts, and_from, false≢true}
 use Rattle.std.proofs.lemmas.Cmp.{tied_itself}
 use Rattle.std.proofs.lemmas.Map.Keys.{sorted_head, sorted_tail}
 use Rattle.kp_base.specs.Lists.{Member}
-use Rattle.kp_base.proofs.Lists.{bool_same, any_from, any_member, all_from, all_member}
+use Rattle.kp_base.proofs.Lists.{bool_same, any_from, same_member, all_from, all_member}
 use Rattle.kp_meaning.specs.declared.lifted.GroundLit.{GroundLit}
 use Rattle.kp_meaning.specs.Lifted.{same_literal, names_literal}
 use Rattle.kp_grounding.specs.declared.flat.FlatEffect.{FlatEffect}
@@ -32,9 +32,7 @@ names_member ms m i = any_from (same_literal m) ms m i (same_literal-refl m)
 
 -- what is named is a member
 pub member_named : (ms : List GroundLit) (m : GroundLit) → names_literal ms m ≡ true → Member ms m
-member_named ms m h =
-    let r = any_member (same_literal m) ms h in
-    subst (Member ms) (sym (same_literal-true m r.0 r.2)) r.1
+member_named = same_member same_literal same_literal-true
 
 -- ---- effects
 

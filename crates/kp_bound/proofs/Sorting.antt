@@ -1,5 +1,5 @@
 -- A list that is sorted and without repeats is the set of its literals.
-use Rattle.std.proofs.Common.{◌≡◌, ℕ, zero, suc, ◌<◌, Bool, true, false, List, [], ◌∷◌, map, length, get_or, refl, sym, ap, subst, ◌∙◌, inl, inr, IsPermutation, IsSorted, Contains, arith}
+use Rattle.std.proofs.Common.{◌≡◌, ℕ, Bool, true, false, List, [], ◌∷◌, map, refl, sym, ap, subst, ◌∙◌, IsPermutation, IsSorted}
 use Rattle.std.specs.declared.cmp.Ordering.{Ordering}
 use Rattle.std.specs.declared.cmp.Ordering.TheVariants.{Less, Equal, Greater}
 use Rattle.std.specs.Ordering.{nat_cmp, bool_cmp, on, ordering_then, is_eq, eq_by_cmp}
@@ -10,8 +10,7 @@ use Rattle.std.specs.List.Sorted.{IsStrictlySortedBy}
 use Rattle.std.proofs.lemmas.Cmp.{ranked, tied_itself}
 use Rattle.std.proofs.lemmas.List.Kept.{Any-dedup, Contains-from_dedup, IsStrictlySortedBy-dedup}
 use Rattle.std.proofs.lemmas.List.Sorted.{Contains-permutation, IsPermutation-sym}
-use Rattle.kp_base.specs.Lists.{Member}
-use Rattle.kp_base.proofs.Lists.{bool_same, any_from, any_member, any_map}
+use Rattle.kp_base.proofs.Lists.{bool_same, any_from, any_member, any_map, contains_member, member_contains}
 use Rattle.kp_meaning.specs.declared.lifted.GroundLit.{GroundLit}
 use Rattle.kp_meaning.specs.Lifted.{ground, same_literal, names_literal}
 use Rattle.kp_grounding.proofs.Step.{same_literal-true, same_literal-refl}
@@ -86,18 +85,6 @@ ascending_view (a ∷ ls) h = (after_view a ls h.0, ascending_view ls h.1)
 
 -- ---- members
 
-member_contained : {X : Type 0} (xs : List X) (x : X) → Member xs x → Contains xs x
-member_contained [] x m = absurd m
-member_contained (y ∷ ys) x m = elim m [
-  | inl e ↦ (0, omega arith, e)
-  | inr r ↦ let h = member_contained ys x r in (suc h.0, omega (arith, h.1), h.2)
-]
-
-contained_member : {X : Type 0} (xs : List X) (k : ℕ) (x : X) → k < length xs → get_or xs k x ≡ x → Member xs x
-contained_member [] k x lt e = absurd (omega arith)
-contained_member (y ∷ ys) zero x lt e = inl e
-contained_member (y ∷ ys) (suc k) x lt e = inr (contained_member ys k x (omega arith) e)
-
 module _ (ls sorted : List BoundLit) (moved : IsPermutation ls sorted) (m : GroundLit) where
   abbrev test : BoundLit → Bool
   test a = same_literal m (lit_view a)
@@ -105,15 +92,15 @@ module _ (ls sorted : List BoundLit) (moved : IsPermutation ls sorted) (m : Grou
   kept : list_any test ls ≡ true → list_any test (dedup same_lit sorted) ≡ true
   kept h =
       let r = any_member test ls h in
-      let there = Any-dedup equivalence sorted r.0 (Contains-permutation ls sorted r.0 moved (member_contained ls r.0 r.1)) in
-      any_from test (dedup same_lit sorted) there.1 (contained_member (dedup same_lit sorted) there.0 there.1 there.2 there.3)
+      let there = Any-dedup equivalence sorted r.0 (Contains-permutation ls sorted r.0 moved (member_contains ls r.0 r.1)) in
+      any_from test (dedup same_lit sorted) there.1 (contains_member (dedup same_lit sorted) there.1 (there.0, there.2, there.3))
       (subst (λ z. same_literal m z ≡ true) (same_literal-true (lit_view r.0) (lit_view there.1) there.4) r.2)
 
   only : list_any test (dedup same_lit sorted) ≡ true → list_any test ls ≡ true
   only h =
       let r = any_member test (dedup same_lit sorted) h in
-      let there = Contains-permutation sorted ls r.0 (IsPermutation-sym ls sorted moved) (Contains-from_dedup same_lit sorted r.0 (member_contained (dedup same_lit sorted) r.0 r.1)) in
-      any_from test ls r.0 (contained_member ls there.0 r.0 there.1 there.2) r.2
+      let there = Contains-permutation sorted ls r.0 (IsPermutation-sym ls sorted moved) (Contains-from_dedup same_lit sorted r.0 (member_contains (dedup same_lit sorted) r.0 r.1)) in
+      any_from test ls r.0 (contains_member ls r.0 there) r.2
 
   same_names : names_literal (map lit_view (dedup same_lit sorted)) m ≡ names_literal (map lit_view ls) m
   same_names =

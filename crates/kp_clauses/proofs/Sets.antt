@@ -6,7 +6,7 @@ use Rattle.kp_base.specs.Lists.{Member}
 use Rattle.kp_base.specs.Lit.{code_of}
 use Rattle.kp_base.specs.LitSet.{IsAscending}
 use Rattle.kp_base.specs.Implicates.{is_within}
-use Rattle.kp_base.proofs.Lits.{contains_member, member_contains}
+use Rattle.kp_base.proofs.Lists.{contains_member, member_contains}
 use Rattle.kp_base.proofs.Ascending.{same_members}
 use Rattle.kp_clauses.proofs.Logic.{not-true-case}
 use Rattle.kp_clauses.proofs.Within.{within_member}

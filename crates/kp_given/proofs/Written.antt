@@ -1,7 +1,7 @@
 -- Where two texts have a problem, its ground problem can be written: its names are Names in lower case and differ, and its literals are of its atoms.
 use Rattle.std.proofs.Common.{◌≡◌, ◌<◌, ℕ, zero, suc, Bool, true, false, not, cond, ◌&&◌, nat_lt, List, [], ◌∷◌, ◌++◌, Some, map, filter, length, slice_get, refl, sym, ap, subst, ◌∙◌, inl, inr, arith}
 use Rattle.std.specs.List.{AllByRecursion, IsDistinct, list_all, flat_map}
-use Rattle.std.proofs.lemmas.Bool.{and_parts, lt-ltb, ltb-true}
+use Rattle.std.proofs.lemmas.Bool.{and_parts, lt-ltb, ltb-true, false_from_ne_true}
 use Rattle.std.proofs.lemmas.List.{length-map}
 use Rattle.std.proofs.lemmas.Option.{slice_get-map, slice_get_within}
 use Rattle.kp_grammar.specs.declared.tree.Word.{Word}
@@ -33,7 +33,6 @@ use Rattle.kp_grounding.specs.Flattening.{same_flat, flat, flat_of}
 use Rattle.kp_grounding.specs.Ground.{kept_bindings, atom_of, effect_literals, instance_literals, kept_literals, open_literals, occurring, atom_before, same_atom, ground_atoms, number_of, numbered, numbered_set, IsNumbering, numbered_effect, is_idle, ground_pre, ground_effects, object_names, atom_name, action_of, actions_of}
 use Rattle.kp_grounding.specs.Laws.{IsAscending}
 use Rattle.kp_grounding.proofs.Atoms.{irreflexive, same_atom-true, atoms_are_numbered}
-use Rattle.kp_grounding.proofs.Lists.{false_where_not_true}
 use Rattle.kp_grounding.proofs.Names.{actions_named_once}
 use Rattle.kp_grounding.proofs.Step.{occurs}
 use Rattle.kp_init.proofs.Closure.{closure_exact}
@@ -95,7 +94,7 @@ once_differ : (ns : List GroundName) → StandOnce ns → IsDistinct same_name n
 unfolding IsDistinct
 once_differ [] once = tt
 once_differ (n ∷ ns) once = (
-  all_from (λ x. same_name n x ≡ false) ns (λ x m. false_where_not_true (same_name n x) (λ h.
+  all_from (λ x. same_name n x ≡ false) ns (λ x m. false_from_ne_true (same_name n x) (λ h.
       let e = same_name-true n x h in
       let r = place_there ns x m in
       let here : 0 ≡ suc r.0 = once 0 (suc r.0) x (ap Some e) r.1 in
@@ -157,7 +156,7 @@ module _ (d : Domain Word) (p : Problem Word) (domain : IsNamedDomain d) (proble
       apart : (b : Atom) → Member more b → same_name (atom_name l a) (atom_name l b) ≡ false
       apart b m =
           name_tells a b (among a (inl refl)) (among b (inr m))
-          ∙ false_where_not_true (same_atom a b) (λ e. irreflexive a (subst (λ x. atom_before a x ≡ true) (sym (same_atom-true a b e)) (all_member (atom_before a) more b m before)))
+          ∙ false_from_ne_true (same_atom a b) (λ e. irreflexive a (subst (λ x. atom_before a x ≡ true) (sym (same_atom-true a b e)) (all_member (atom_before a) more b m before)))
 
   ascending_differ : (more : List Atom) → IsAscending more → ((a : Atom) → Member more a → Member atoms a) → IsDistinct same_name (map (atom_name l) more)
   unfolding IsDistinct

@@ -1,14 +1,18 @@
 -- The ground atoms are those that occur, each once and in order.
 use Rattle.std.proofs.Common.{◌≡◌, ℕ, Bool, true, false, not, ◌&&◌, if◌then◌else◌, cond, List, [], ◌∷◌, Some, refl, sym, ap, subst, map, ◌∙◌, inl, inr, ◌⊎◌, nat_eq, nat_lt, zero, suc, ◌+◌, arith, eqb-true, eq-eqb, slice_get}
 use Rattle.std.specs.List.{list_all}
-use Rattle.std.proofs.lemmas.Bool.{and_parts, and_from, or_parts, or_cases, or_left, or_right, false≢true, both_ways, lt-ltb, ltb-true, cases_order}
+use Rattle.std.specs.Cmp.{IsEquivalence, on_equiv, and_equiv, nat_eq_equiv}
+use Rattle.std.specs.Cmp.Lexicographic.{lists_equiv}
+use Rattle.std.proofs.lemmas.Bool.{and_parts, and_from, or_parts, or_cases, or_left, or_right, false≢true, both_ways, lt-ltb, ltb-true, cases_order, false_from_ne_true}
 use Rattle.kp_base.specs.Lists.{Member}
 use Rattle.kp_base.proofs.Lists.{all_member, member_at, member_map, same-true, same-refl, all_weaker}
 use Rattle.kp_meaning.specs.Names.{same}
 use Rattle.kp_grounding.specs.declared.flat.Atom.{Atom}
 use Rattle.kp_grounding.specs.Ground.{atom_of, occurring, list_before, atom_before, same_atom, insert_atom, ascending_atoms, ground_atoms, number_of}
 use Rattle.kp_grounding.specs.Laws.{IsAscending, AtomsAreNumbered}
-use Rattle.kp_grounding.proofs.Lists.{false_where_not_true}
+
+pub same_atoms : IsEquivalence same_atom
+same_atoms = and_equiv (on_equiv (λ (a : Atom). a.pred) nat_eq_equiv) (on_equiv (λ (a : Atom). a.objects) (lists_equiv nat_eq_equiv))
 
 -- ---- the order
 
@@ -170,7 +174,7 @@ number_once (b ∷ more) h zero a g =
     ap (λ t. cond (not t) (1 + number_of more a) 0) (subst (λ z. same_atom a z ≡ true) (sym e) (same_atom-refl a))
 number_once (b ∷ more) h (suc n) a g =
     let before = all_member (atom_before b) more a (member_at more n a g) h.0 in
-    let differs = false_where_not_true (same_atom a b) (λ e. irreflexive b (subst (λ z. atom_before b z ≡ true) (same_atom-true a b e) before)) in
+    let differs = false_from_ne_true (same_atom a b) (λ e. irreflexive b (subst (λ z. atom_before b z ≡ true) (same_atom-true a b e) before)) in
     ap (λ t. cond (not t) (1 + number_of more a) 0) differs ∙ (next_place (number_of more a) ∙ ap suc (number_once more h.1 n a g))
 
 pub atoms_are_numbered : AtomsAreNumbered

@@ -1,7 +1,7 @@
 -- Deletes that change nothing.
 use Rattle.std.proofs.Common.{◌≡◌, ℕ, Bool, true, false, not, ◌&&◌, ◌||◌, List, [], ◌∷◌, ◌++◌, refl, sym, ap, subst, ◌∙◌, cond, filter}
 use Rattle.std.specs.List.{list_any, list_all}
-use Rattle.std.proofs.lemmas.Bool.{and_parts, and_from, both_ways, false≢true}
+use Rattle.std.proofs.lemmas.Bool.{and_parts, and_from, both_ways, false_from_ne_true}
 use Rattle.std.proofs.lemmas.List.Folds.{list_all-append}
 use Rattle.std.proofs.Math.Bool.{and-false}
 use Rattle.kp_base.specs.declared.lit.Lit.{Lit}
@@ -13,7 +13,6 @@ use Rattle.kp_base.proofs.Lists.{any_member, any_from, any_alike, all_member, bo
 use Rattle.kp_base.proofs.Lits.{same_lit-true, same_lit-refl}
 use Rattle.kp_base.specs.Implicates.{is_within}
 use Rattle.kp_grounding.specs.Ground.{is_idle, lasting}
-use Rattle.kp_grounding.proofs.Lists.{false_where_not_true}
 
 -- ---- idle deletes
 
@@ -70,4 +69,4 @@ module _ (pre : List Lit) (es : List Effect) (k : Facts) (n : ℕ) where
           (λ h. (and_parts (not (is_idle pre es e)) (same_lit e.result (negative n) && list_all k e.cond) h).1)
           (λ h.
           let parts = and_parts (same_lit e.result (negative n)) (list_all k e.cond) h in
-          and_from (not (is_idle pre es e)) (same_lit e.result (negative n) && list_all k e.cond) (ap not (false_where_not_true (is_idle pre es e) (adds e parts.0 parts.1))) h)
+          and_from (not (is_idle pre es e)) (same_lit e.result (negative n) && list_all k e.cond) (ap not (false_from_ne_true (is_idle pre es e) (adds e parts.0 parts.1))) h)

@@ -1,5 +1,5 @@
 -- Truth values.
-use Rattle.std.proofs.Common.{◌≡◌, Bool, true, false, refl}
+use Rattle.std.proofs.Common.{◌≡◌, Bool, true, refl}
 use Rattle.std.specs.Bool.{beq}
 use Rattle.std.specs.Cmp.{booleans_Decides}
 pub use Rattle.kp_base.proofs.Lists.{member_filter}
@@ -10,6 +10,3 @@ beq-true a b h = (booleans_Decides a b).0 h
 pub beq-refl : (a : Bool) → beq a a ≡ true
 beq-refl a = (booleans_Decides a a).1 refl
 
-pub false_where_not_true : (b : Bool) → (b ≡ true → ⊥) → b ≡ false
-false_where_not_true true f = absurd (f refl)
-false_where_not_true false f = refl

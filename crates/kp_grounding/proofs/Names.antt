@@ -6,6 +6,7 @@ use Rattle.std.proofs.lemmas.Option.{slice_get-map}
 use Rattle.kp_base.specs.declared.ground.GroundName.{GroundName}
 use Rattle.kp_base.specs.declared.ground.Action.{Action}
 use Rattle.kp_base.specs.Lists.{Member, choices}
+use Rattle.kp_base.specs.Implicates.{IsOnce}
 use Rattle.kp_base.proofs.Lists.{member_at, map_member, append_member, flat_member, filter_member}
 use Rattle.kp_grammar.specs.declared.tree.Word.{Word}
 use Rattle.kp_grammar.specs.Trees as trees
@@ -54,33 +55,29 @@ named_by_steps d p n =
 
 -- ---- no element stands twice
 
-abbrev Once : {X : Type 0} → List X → Type 0
-Once [] = Unit {0}
-Once (x ∷ xs) = (Member xs x → ⊥) × Once xs
-
-once_place : {X : Type 0} (xs : List X) → Once xs → (m n : ℕ) (x : X) → slice_get xs m ≡ Some x → slice_get xs n ≡ Some x → m ≡ n
+once_place : {X : Type 0} (xs : List X) → IsOnce xs → (m n : ℕ) (x : X) → slice_get xs m ≡ Some x → slice_get xs n ≡ Some x → m ≡ n
 once_place [] o m n x f g = cc
 once_place (y ∷ ys) o zero zero x f g = refl
 once_place (y ∷ ys) o zero (suc n) x f g = let e : y ≡ x = cc in absurd (o.0 (subst (Member ys) (sym e) (member_at ys n x g)))
 once_place (y ∷ ys) o (suc m) zero x f g = let e : y ≡ x = cc in absurd (o.0 (subst (Member ys) (sym e) (member_at ys m x f)))
 once_place (y ∷ ys) o (suc m) (suc n) x f g = ap suc (once_place ys o.1 m n x f g)
 
-once_append : {X : Type 0} (xs ys : List X) → Once xs → Once ys → ((x : X) → Member xs x → Member ys x → ⊥) → Once (xs ++ ys)
+once_append : {X : Type 0} (xs ys : List X) → IsOnce xs → IsOnce ys → ((x : X) → Member xs x → Member ys x → ⊥) → IsOnce (xs ++ ys)
 once_append [] ys o q f = q
 once_append (x ∷ xs) ys o q f = (
   (λ m. elim (append_member xs ys x m) [ inl h ↦ o.0 h | inr h ↦ f x (inl refl) h ]),
   once_append xs ys o.1 q (λ z m h. f z (inr m) h),
 )
 
-once_filter : {X : Type 0} (p : X → Bool) (xs : List X) → Once xs → Once (filter p xs)
+once_filter : {X : Type 0} (p : X → Bool) (xs : List X) → IsOnce xs → IsOnce (filter p xs)
 once_filter p [] o = tt
 once_filter p (x ∷ xs) o = pick (p x) (once_filter p xs o.1)
   where
-    pick : (t : Bool) → Once (filter p xs) → Once (cond t (x ∷ filter p xs) (filter p xs))
+    pick : (t : Bool) → IsOnce (filter p xs) → IsOnce (cond t (x ∷ filter p xs) (filter p xs))
     pick true rest = ((λ m. o.0 (filter_member p xs x m).0), rest)
     pick false rest = rest
 
-once_map : {X Y : Type 0} (f : X → Y) (xs : List X) → Once xs → ((x y : X) → Member xs x → Member xs y → f x ≡ f y → x ≡ y) → Once (map f xs)
+once_map : {X Y : Type 0} (f : X → Y) (xs : List X) → IsOnce xs → ((x y : X) → Member xs x → Member xs y → f x ≡ f y → x ≡ y) → IsOnce (map f xs)
 once_map f [] o g = tt
 once_map f (x ∷ xs) o g = (
   (λ m. let r = map_member f xs (f x) m in o.0 (subst (Member xs) (g r.0 x (inr r.1) (inl refl) r.2) r.1)),
@@ -89,9 +86,9 @@ once_map f (x ∷ xs) o g = (
 
 abbrev AllOnce : {X : Type 0} → List (List X) → Type 0
 AllOnce [] = Unit {0}
-AllOnce (xs ∷ xss) = Once xs × AllOnce xss
+AllOnce (xs ∷ xss) = IsOnce xs × AllOnce xss
 
-once_choices : {X : Type 0} (xss : List (List X)) → AllOnce xss → Once (choices xss)
+once_choices : {X : Type 0} (xss : List (List X)) → AllOnce xss → IsOnce (choices xss)
 once_choices [] o = ((λ m. m), tt)
 once_choices {X} (xs ∷ xss) o = go xs o.0 (once_choices xss o.1)
   where
@@ -101,7 +98,7 @@ once_choices {X} (xs ∷ xss) o = go xs o.0 (once_choices xss o.1)
     tail_same : (x y : X) (us vs : List X) → x ∷ us ≡ y ∷ vs → us ≡ vs
     tail_same x y us vs e = cc
 
-    go : (ys : List X) → Once ys → Once (choices xss) → Once (flat_map (λ x. map (λ rest. x ∷ rest) (choices xss)) ys)
+    go : (ys : List X) → IsOnce ys → IsOnce (choices xss) → IsOnce (flat_map (λ x. map (λ rest. x ∷ rest) (choices xss)) ys)
     go [] q c = tt
     go (y ∷ ys) q c =
         once_append (map (λ rest. y ∷ rest) (choices xss)) (flat_map (λ x. map (λ rest. x ∷ rest) (choices xss)) ys)
@@ -114,7 +111,7 @@ once_choices {X} (xs ∷ xss) o = go xs o.0 (once_choices xss o.1)
         let e = head_same s.0 y u.0 r.0 (u.2 ∙ sym r.2) in
         q.0 (subst (Member ys) e s.1))
 
-distinct_is_once : (xs : List Name) → Distinct xs → Once xs
+distinct_is_once : (xs : List Name) → Distinct xs → IsOnce xs
 distinct_is_once [] o = tt
 distinct_is_once (x ∷ xs) o = ((λ m. both_ways (is_among xs x) o.0 (among_member xs x m)), distinct_is_once xs o.1)
 
@@ -142,7 +139,7 @@ module _ (d : Domain Word) (p : Problem Word) where
         | inr there ↦ let le = kept_above l (suc k) more i there in omega (arith, le)
       ]
 
-  kept_once : (l : Lifted) (k : ℕ) (as' : List (trees.Schema Word)) → Once (kept_from l k (map (numbered_schema d p) as'))
+  kept_once : (l : Lifted) (k : ℕ) (as' : List (trees.Schema Word)) → IsOnce (kept_from l k (map (numbered_schema d p) as'))
   kept_once l k [] = tt
   kept_once l k (a ∷ as') =
       once_append (map (instance k) (kept_bindings l (numbered_schema d p a))) (kept_from l (suc k) (map (numbered_schema d p) as'))

@@ -2,7 +2,7 @@
 use Rattle.std.proofs.Common.{◌≡◌, ℕ, Bool, true, false, not, ◌&&◌, ◌||◌, List, [], ◌∷◌, ◌++◌, Option, Some, None, refl, sym, subst, map, ◌∙◌, inl, inr, nat_eq, eqb-true, eq-eqb}
 use Rattle.std.specs.List.{list_any, list_all, flat_map}
 use Rattle.std.specs.Bool.{beq}
-use Rattle.std.proofs.lemmas.Bool.{and_parts, and_from, or_parts, and_left, and_right, false≢true, not-true, both_ways, cases_Bool, or_from}
+use Rattle.std.proofs.lemmas.Bool.{and_parts, and_from, or_parts, and_left, and_right, false≢true, not-true, both_ways, cases_Bool, or_from, false_from_ne_true}
 use Rattle.std.proofs.lemmas.List.Folds.{list_any-append}
 use Rattle.std.proofs.Math.Bool.{and-true, or-false}
 use Rattle.kp_base.specs.Lists.{only_if, signed}
@@ -14,7 +14,6 @@ use Rattle.kp_meaning.specs.Numbered.{Eff, Effs, Schema, Lifted}
 use Rattle.kp_meaning.specs.Lifted.{State, Binding, object_of, ground, same_literal, names_literal, holds, fires, all_fire, bindings, schema_of, state_by, item_holds, item_literals, is_of, is_named}
 use Rattle.kp_grounding.specs.Static.{changes, some_change, leaves_static, says, is_static, initially, HasStaticTruth}
 use Rattle.kp_grounding.specs.Laws.{IsStaticAtFirst, IsStaticKept}
-use Rattle.kp_grounding.proofs.Lists.{false_where_not_true}
 
 -- ---- at first
 
@@ -105,5 +104,5 @@ static_kept l s truth i = go (schema_of l i) refl
     go : (o : Option Schema) → schema_of l i ≡ o → HasStaticTruth l (state_by o i.objects s)
     go None is q os static = truth q os static
     go (Some a) is q os static =
-        let none = λ (sign : Bool). unchanged s sign q os i.objects a.effect (false_where_not_true (changes q a.effect) (λ h. both_ways (list_any (λ a. changes q a.effect) l.schemas) (static_parts l q static).0 (any_from (λ a. changes q a.effect) l.schemas a (member_at l.schemas i.schema a is) h))) in
+        let none = λ (sign : Bool). unchanged s sign q os i.objects a.effect (false_from_ne_true (changes q a.effect) (λ h. both_ways (list_any (λ a. changes q a.effect) l.schemas) (static_parts l q static).0 (any_from (λ a. changes q a.effect) l.schemas a (member_at l.schemas i.schema a is) h))) in
         rw (none true, none false) (and-true (s q os) ∙ truth q os static)

@@ -1,7 +1,7 @@
 -- The clauses that say that exactly one of some literals holds.
 use Rattle.std.proofs.Common.{◌≡◌, Bool, true, false, not, ◌&&◌, ◌||◌, List, [], ◌∷◌, refl, sym, ap, subst, map, ◌∙◌, inl, inr}
 use Rattle.std.specs.List.{list_any, list_all}
-use Rattle.std.proofs.lemmas.Bool.{and_parts, and_from, or_left, or_right, both_ways, not-true}
+use Rattle.std.proofs.lemmas.Bool.{and_parts, and_from, or_left, or_right, both_ways, not-true, false_from_ne_true}
 use Rattle.std.proofs.lemmas.List.Folds.{list_all-append}
 use Rattle.std.proofs.Math.Bool.{or-false}
 use Rattle.kp_base.specs.declared.lit.Lit.{Lit}
@@ -13,9 +13,8 @@ use Rattle.kp_base.proofs.Lists.{any_member, any_from, all_member, bool_same, al
 use Rattle.kp_base.proofs.Lits.{same_lit-true, same_lit-refl, holds-negated}
 use Rattle.kp_base.proofs.Once.{any-each_once}
 use Rattle.kp_base.proofs.Sets.{any-set_of}
-use Rattle.kp_grounding.proofs.Lists.{false_where_not_true}
 use Rattle.kp_init.specs.Initial.{not_both, exactly_one}
-use Rattle.kp_init.proofs.Lists.{all-each_once, Once, each_once_is_once}
+use Rattle.kp_base.proofs.Once.{all-each_once, Once, each_once_is_once}
 
 -- at most one place of the list passes
 abbrev at_most_one : (Lit → Bool) → List Lit → Bool
@@ -59,10 +58,10 @@ one_from k (x ∷ xs) h l m g =
           let none : list_any k xs ≡ false = not-true (list_any k xs) (ap (λ t. not t || not (list_any k xs)) (sym kx) ∙ parts.0) in
           and_from (not (k x) || same_lit l x) (is_only k xs l)
           (or_right (not (k x)) (same_lit l x) (subst (λ z. same_lit l z ≡ true) (sym e) (same_lit-refl l)))
-          (all_from (λ m. not (k m) || same_lit l m) xs (λ y i. or_left (not (k y)) (same_lit l y) (ap not (false_where_not_true (k y) (λ ky. both_ways (list_any k xs) none (any_from k xs y i ky))))))
+          (all_from (λ m. not (k m) || same_lit l m) xs (λ y i. or_left (not (k y)) (same_lit l y) (ap not (false_from_ne_true (k y) (λ ky. both_ways (list_any k xs) none (any_from k xs y i ky))))))
       | inr r ↦
           let some = any_from k xs l r g in
-          let kx : k x ≡ false = false_where_not_true (k x) (λ kx. both_ways (not (list_any k xs)) (ap not some) (ap (λ t. not t || not (list_any k xs)) (sym kx) ∙ parts.0)) in
+          let kx : k x ≡ false = false_from_ne_true (k x) (λ kx. both_ways (not (list_any k xs)) (ap not some) (ap (λ t. not t || not (list_any k xs)) (sym kx) ∙ parts.0)) in
           and_from (not (k x) || same_lit l x) (is_only k xs l)
           (or_left (not (k x)) (same_lit l x) (ap not kx))
           (one_from k xs parts.1 l r g)
@@ -79,7 +78,7 @@ one_to k (x ∷ xs) o l h =
     pick false is first rest = refl
     pick true is first rest =
         let lx : same_lit l x ≡ true = ap (λ t. not t || same_lit l x) (sym is) ∙ first in
-        ap not (false_where_not_true (list_any k xs) (λ some.
+        ap not (false_from_ne_true (list_any k xs) (λ some.
         let y = any_member k xs some in
         let other = all_member (λ m. not (k m) || same_lit l m) xs y.0 y.1 rest in
         let ly : same_lit l y.0 ≡ true = ap (λ t. not t || same_lit l y.0) (sym y.2) ∙ other in

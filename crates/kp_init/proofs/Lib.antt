@@ -1,4 +1,3 @@
-pub mod Lists
 pub mod Exactly
 pub mod Models
 pub mod Runs
@@ -7,4 +6,3 @@ pub mod ExampleFormulas
 pub mod FirstPlaces
 pub mod NamesBack
 pub mod NamedAtoms
-pub mod Different

@@ -1,17 +1,17 @@
 -- What the tables tell: which predicates aren't static, and which atoms are stated.
-use Rattle.std.proofs.Common.{◌≡◌, ℕ, ◌==◌, Bool, true, false, not, ◌&&◌, ◌||◌, if◌then◌else◌, List, [], ◌∷◌, ◌++◌, map, nat_eq, eqb-true, eq-eqb, refl, sym, ap, ap₂, subst, ◌∙◌}
+use Rattle.std.proofs.Common.{◌≡◌, ℕ, ◌==◌, Bool, true, false, not, ◌&&◌, ◌||◌, List, map, nat_eq, eqb-true, eq-eqb, refl, sym, ap, ap₂, ◌∙◌}
 use Rattle.std.specs.List.{list_any, list_all}
-use Rattle.std.proofs.Math.Bool.{or-false}
-use Rattle.std.proofs.lemmas.Bool.{and_parts}
-use Rattle.std.proofs.lemmas.List.Folds.{list_any-append}
 use Rattle.kp_base.proofs.Lists.{bool_same, any-not, any_map}
 use Rattle.kp_meaning.specs.declared.lifted.GroundLit.{GroundLit}
 use Rattle.kp_meaning.specs.declared.lifted.Item.{Item}
 use Rattle.kp_meaning.specs.Names.{same}
-use Rattle.kp_meaning.proofs.Lists.{same-true, same-sym}
+use Rattle.kp_meaning.proofs.Lists.{same-sym}
 use Rattle.kp_names.specs.declared.lifted.Schema as schemas
 use Rattle.kp_names.specs.declared.lifted.Lifted as lifteds
 use Rattle.kp_names.specs.View.{eff_view, schema_view, lifted_view}
+use Rattle.kp_base.proofs.Once.{any-added}
+use Rattle.kp_grounding.specs.Ground.{same_atom}
+use Rattle.kp_grounding.proofs.Atoms.{same_atoms}
 use Rattle.kp_grounding.specs.Static.{changes, leaves_static, is_static, says}
 use Rattle.kp_kept.specs.Tables.{has_atom, with_atom}
 
@@ -19,12 +19,6 @@ use Rattle.kp_kept.specs.Tables.{has_atom, with_atom}
 
 eq-sym : (a b : ℕ) → nat_eq a b ≡ nat_eq b a
 eq-sym a b = bool_same (nat_eq a b) (nat_eq b a) (λ e. eq-eqb b a (sym (eqb-true a b e))) (λ e. eq-eqb a b (sym (eqb-true b a e)))
-
--- one that passes two tests, or is told already
-old_or_new : (told new : Bool) → (new ≡ true → told ≡ true) → told ≡ (told || new)
-old_or_new true new f = refl
-old_or_new false true f = f refl
-old_or_new false false f = refl
 
 -- ---- static predicates
 
@@ -45,16 +39,9 @@ atom_is p q us os = ap₂ (λ a b. a && b) (eq-sym p q) (same-sym us os)
 
 -- an atom that comes is told, and the others as before
 pub atom_added : (atoms : List (ℕ × List ℕ)) (p : ℕ) (us : List ℕ) (q : ℕ) (os : List ℕ) → has_atom (with_atom atoms (p, us)) q os ≡ (has_atom atoms q os || (p == q && same us os))
-atom_added atoms p us q os = by (has_atom atoms p us) refl
-  where
-    known : has_atom atoms p us ≡ true → (p == q && same us os) ≡ true → has_atom atoms q os ≡ true
-    known h e =
-        let parts = and_parts (p == q) (same us os) e in
-        subst (λ n. has_atom atoms n os ≡ true) (eqb-true p q parts.0) (subst (λ ns. has_atom atoms p ns ≡ true) (same-true us os parts.1) h)
-
-    by : (b : Bool) → has_atom atoms p us ≡ b → has_atom (if b then atoms else atoms ++ (p, us) ∷ []) q os ≡ (has_atom atoms q os || (p == q && same us os))
-    by true h = old_or_new (has_atom atoms q os) (p == q && same us os) (known h)
-    by false h = list_any-append (λ (a : ℕ × List ℕ). q == a.0 && same os a.1) atoms ((p, us) ∷ []) ∙ ap (λ b. has_atom atoms q os || b) (or-false (q == p && same os us) ∙ sym (atom_is p q us os))
+atom_added atoms p us q os =
+    any-added same_atom same_atoms (λ a. record { pred = a.0; objects = a.1 }) atoms (p, us) (record { pred = q; objects = os })
+    ∙ ap (λ b. has_atom atoms q os || b) (sym (atom_is p q us os))
 
 -- a positive item says its atom
 pub says_positive : (l : GroundLit) (q : ℕ) (os : List ℕ) → l.positive ≡ true → (l.pred == q && same l.objects os) ≡ says q os (Item.One l)

@@ -1,12 +1,13 @@
 -- Numbers of names: where a name stands, and names that stand once.
-use Rattle.std.proofs.Common.{◌≡◌, ◌<◌, ℕ, zero, suc, Bool, true, false, not, if◌then◌else◌, List, [], ◌∷◌, refl, sym, ap, subst, ◌∙◌, cond, inl, inr, filter, length, arith}
-use Rattle.std.proofs.lemmas.Bool.{or_parts, or_cases, or_left, or_right, false≢true, both_ways, not-true, false_from_ne_true}
+use Rattle.std.proofs.Common.{◌≡◌, ◌<◌, ℕ, zero, suc, Bool, true, false, if◌then◌else◌, List, [], ◌∷◌, refl, sym, ap, subst, ◌∙◌, inl, inr, length, arith}
+use Rattle.std.proofs.lemmas.Bool.{or_parts, or_cases, or_left, or_right, false≢true, both_ways, false_from_ne_true}
 use Rattle.kp_grammar.specs.declared.tree.Word.{Word}
 use Rattle.kp_base.specs.Lists.{only_if}
 use Rattle.kp_meaning.specs.Names.{Name, same, is_among, distinct}
 use Rattle.kp_meaning.specs.Types.{names}
 use Rattle.kp_meaning.specs.Faults.{declared_twice, repeated}
 use Rattle.kp_meaning.specs.Numbering.{index_of, name_at, variable_number}
+use Rattle.kp_base.proofs.Once.{Once, any-each_once, each_once_is_once}
 use Rattle.kp_meaning.proofs.Lists.{append_empty, same-true, same-refl, same-sym}
 
 pub only_if_empty : {X : Type 0} (b : Bool) (x : X) → only_if b (x ∷ []) ≡ [] → b ≡ false
@@ -55,8 +56,7 @@ variable_below (w ∷ ws) v h = pick (same w v) refl (λ g. variable_below ws v 
 
 -- no name stands twice
 abbrev pub Distinct : List Name → Type 0
-Distinct [] = Unit {0}
-Distinct (x ∷ xs) = (is_among xs x ≡ false) × Distinct xs
+Distinct = Once same
 
 pub index_at : (xs : List Name) → Distinct xs → (n : ℕ) → n < length xs → index_of xs (name_at xs n) ≡ n
 index_at [] d n h = absurd (omega arith)
@@ -69,56 +69,11 @@ index_at (x ∷ xs) d (suc n) h = pick (same x (name_at xs n)) refl (index_at xs
         absurd (both_ways (is_among xs x) d.0 (subst (λ z. is_among xs z ≡ true) (sym e) (among_at xs n (omega arith))))
     pick false is rest = ap suc rest
 
-among_filter : (p : Name → Bool) (xs : List Name) (x : Name) → is_among (filter p xs) x ≡ true → (is_among xs x ≡ true) × (p x ≡ true)
-among_filter p [] x h = absurd (false≢true h)
-among_filter p (y ∷ ys) x h = pick (p y) refl (λ g. among_filter p ys x g) h
-  where
-    pick : (t : Bool) → p y ≡ t → (is_among (filter p ys) x ≡ true → (is_among ys x ≡ true) × (p x ≡ true)) → is_among (cond t (y ∷ filter p ys) (filter p ys)) x ≡ true → (is_among (y ∷ ys) x ≡ true) × (p x ≡ true)
-    pick true is rest g = elim (or_cases (same x y) (is_among (filter p ys) x) g) [
-      | inl e ↦ (or_left (same x y) (is_among ys x) e, subst (λ z. p z ≡ true) (sym (same-true x y e)) is)
-      | inr e ↦ let r = rest e in (or_right (same x y) (is_among ys x) r.0, r.1)
-    ]
-    pick false is rest g = let r = rest g in (or_right (same x y) (is_among ys x) r.0, r.1)
-
-filter_among : (p : Name → Bool) (xs : List Name) (x : Name) → is_among xs x ≡ true → p x ≡ true → is_among (filter p xs) x ≡ true
-filter_among p [] x h g = h
-filter_among p (y ∷ ys) x h g = pick (p y) refl (λ k. filter_among p ys x k g)
-  where
-    pick : (t : Bool) → p y ≡ t → (is_among ys x ≡ true → is_among (filter p ys) x ≡ true) → is_among (cond t (y ∷ filter p ys) (filter p ys)) x ≡ true
-    pick true is rest = elim (or_cases (same x y) (is_among ys x) h) [
-      | inl e ↦ or_left (same x y) (is_among (filter p ys) x) e
-      | inr e ↦ or_right (same x y) (is_among (filter p ys) x) (rest e)
-    ]
-    pick false is rest = elim (or_cases (same x y) (is_among ys x) h) [
-      | inl e ↦ absurd (both_ways (p y) is (subst (λ z. p z ≡ true) (same-true x y e) g))
-      | inr e ↦ rest e
-    ]
-
-distinct_filter : (p : Name → Bool) (xs : List Name) → Distinct xs → Distinct (filter p xs)
-distinct_filter p [] d = tt
-distinct_filter p (y ∷ ys) d = pick (p y) (distinct_filter p ys d.1)
-  where
-    pick : (t : Bool) → Distinct (filter p ys) → Distinct (cond t (y ∷ filter p ys) (filter p ys))
-    pick true rest = (false_from_ne_true (is_among (filter p ys) y) (λ h. both_ways (is_among ys y) d.0 (among_filter p ys y h).0), rest)
-    pick false rest = rest
-
 pub distinct_once : (xs : List Name) → Distinct (distinct xs)
-distinct_once [] = tt
-distinct_once (x ∷ xs) = (
-  false_from_ne_true (is_among (filter (λ y. not (same x y)) (distinct xs)) x) (λ h. both_ways (same x x) (not-true (same x x) (among_filter (λ y. not (same x y)) (distinct xs) x h).1) (same-refl x)),
-  distinct_filter (λ y. not (same x y)) (distinct xs) (distinct_once xs),
-)
+distinct_once = each_once_is_once same
 
 pub among_distinct : (xs : List Name) (x : Name) → is_among xs x ≡ true → is_among (distinct xs) x ≡ true
-among_distinct [] x h = h
-among_distinct (y ∷ ys) x h = pick (λ g. among_distinct ys x g) (same x y) refl
-  where
-    pick : (is_among ys x ≡ true → is_among (distinct ys) x ≡ true) → (t : Bool) → same x y ≡ t → is_among (distinct (y ∷ ys)) x ≡ true
-    pick rest true is = or_left (same x y) (is_among (filter (λ z. not (same y z)) (distinct ys)) x) is
-    pick rest false is =
-        let apart = same-sym y x ∙ is in
-        or_right (same x y) (is_among (filter (λ z. not (same y z)) (distinct ys)) x)
-        (filter_among (λ z. not (same y z)) (distinct ys) x (rest (among_rest x y ys h apart)) (ap not apart))
+among_distinct xs x h = any-each_once same (same x) (λ y z e. ap (same x) (same-true y z e)) xs ∙ h
 
 -- words that don't repeat
 repeated_none : (earlier : List Name) (ws : List Word) → repeated earlier ws ≡ [] → Distinct (names ws) × ((x : Name) → is_among (names ws) x ≡ true → is_among earlier x ≡ false)

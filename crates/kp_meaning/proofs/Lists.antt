@@ -1,14 +1,17 @@
 -- Equality of names, and lemmas on lists, passed on from below.
-use Rattle.std.proofs.Common.{◌≡◌, ℕ, true, List, [], ◌∷◌, refl, subst}
+use Rattle.std.proofs.Common.{◌≡◌, ℕ, true, List, [], ◌∷◌, refl}
+use Rattle.std.specs.Cmp.{IsEquivalence, nat_eq_equiv}
+use Rattle.std.specs.Cmp.Lexicographic.{lists_equiv}
 use Rattle.std.proofs.lemmas.Bool.{and_parts, and_from, false≢true}
 use Rattle.kp_base.specs.Lists.{Member}
 use Rattle.kp_meaning.specs.Names.{Name, same, all_same, is_among}
 pub use Rattle.kp_base.proofs.Lists.{any_weaker, any_from, any_member, bool_same, any_map, map_map, any_alike, all_alike, flat_alike, all_member, member_at, member_map, map_member, append_member, flat_member, filter_member, append_empty, flat_empty, same-true, same-refl}
 
+pub same_names : IsEquivalence same
+same_names = lists_equiv nat_eq_equiv
+
 pub same-sym : (xs ys : List ℕ) → same xs ys ≡ same ys xs
-same-sym xs ys = bool_same (same xs ys) (same ys xs)
-    (λ h. let e = same-true xs ys h in subst (λ z. same z xs ≡ true) e (same-refl xs))
-    (λ h. let e = same-true ys xs h in subst (λ z. same z ys ≡ true) e (same-refl ys))
+same-sym = same_names.symm
 
 pub all_same-true : (xs ys : List Name) → all_same xs ys ≡ true → xs ≡ ys
 all_same-true [] [] h = refl

@@ -21,7 +21,7 @@ use Rattle.kp_meaning.specs.Steps.{Step, object_lists, parameters}
 use Rattle.kp_meaning.specs.Initial as named_initial
 use Rattle.kp_meaning.specs.Plans as named_plans
 use Rattle.kp_meaning.specs.Plans.{Solves}
-use Rattle.kp_meaning.specs.Lifted.{State, Instance, ground, bindings, fires, holds, fits, is_instance, applicable, state_by, next, succeeds, item_holds, item_literals, is_of, is_named, IsInitial}
+use Rattle.kp_meaning.specs.Lifted.{State, Instance, ground, bindings, fires, holds, fits, is_instance, state_by, next, succeeds, item_holds, item_literals, is_of, is_named, IsInitial}
 use Rattle.kp_meaning.specs.Numbering.{index_of, name_at, heads, schema_names, numbered_range, numbered_cond, numbered_eff, numbered_schema, numbered_item, numbered_problem, named_objects, named_literal, named_step, AreObjects, Agree}
 use Rattle.kp_meaning.specs.NumberLaws.{Matches, is_plain_goal, IsSameStep, IsStepNumbered, IsInitialNumbered, IsPlanNumbered, IsNamedOnce}
 use Rattle.kp_meaning.proofs.Lists.{any_from, any_member, all_member, any_alike, any_map, member_at, member_map, map_member, append_empty, flat_empty, same-true, same-refl, all_same-true, all_same-refl}

@@ -1,7 +1,8 @@
 -- Names, and what is said of lists of them.
-use Rattle.std.specs.Prelude.{ℕ, Bool, not, List, [], ◌∷◌, bytes_eq, filter}
+use Rattle.std.specs.Prelude.{ℕ, Bool, List, bytes_eq}
 use Rattle.std.specs.List.{list_any}
 use Rattle.std.specs.Cmp.Lexicographic.{pointwise}
+use Rattle.kp_base.specs.Lists.{each_once}
 
 -- a word of a text in lower case
 abbrev pub Name : Type 0
@@ -21,5 +22,4 @@ is_among xs x = list_any (same x) xs
 
 -- each name once, where it stands first
 abbrev pub distinct : List Name → List Name
-distinct [] = []
-distinct (x ∷ xs) = x ∷ filter (λ y. not (same x y)) (distinct xs)
+distinct = each_once same

@@ -1,17 +1,17 @@
 -- What the marks find: exactly the objects of some types, in ascending order.
-use Rattle.std.proofs.Common.{◌≡◌, ◌≤◌, ◌+◌, ℕ, zero, suc, Bool, true, false, ◌&&◌, ◌||◌, if◌then◌else◌, cond, List, [], ◌∷◌, ◌++◌, length, map, filter, fold, slice_set, replicate, length-set, refl, sym, ap, ap₂, ◌∙◌, subst, inl, inr, arith}
+use Rattle.std.proofs.Common.{◌≡◌, ◌+◌, ℕ, suc, Bool, true, false, ◌&&◌, ◌||◌, if◌then◌else◌, cond, List, [], ◌∷◌, length, map, filter, fold, slice_set, replicate, length-set, refl, sym, ap, ap₂, ◌∙◌, subst, inl, inr, arith}
 use Rattle.std.specs.List.{list_any}
-use Rattle.std.proofs.lemmas.Bool.{and_parts, and_from, or_parts, or_cases, both_ways}
+use Rattle.std.proofs.lemmas.Bool.{and_parts, and_from, both_ways}
 use Rattle.std.proofs.lemmas.List.Sums.{fold-append}
 use Rattle.kp_grammar.specs.declared.tree.Word.{Word}
 use Rattle.kp_grammar.specs.Trees.{Typed, Domain, Problem}
 use Rattle.kp_base.specs.Lists.{Member}
 use Rattle.kp_meaning.specs.Names.{Name, same, is_among}
-use Rattle.kp_meaning.specs.Types.{object, declared, types_of, is_below, object_lines, objects, is_of_type}
+use Rattle.kp_meaning.specs.Types.{declared, types_of, is_below, object_lines, objects, is_of_type}
 use Rattle.kp_meaning.specs.Numbering.{index_of}
-use Rattle.kp_meaning.proofs.Lists.{any_member, any_from, any_alike, bool_same, same-true, same-refl, same-sym, among_member, filter_member}
+use Rattle.kp_meaning.proofs.Lists.{any_member, any_from, bool_same, same-true, same-refl, same-sym, among_member, filter_member}
 use Rattle.kp_meaning.proofs.Indexes.{Distinct, distinct_once}
-use Rattle.kp_names.specs.Steps.{any_among, has_type, AreBelow, range_of, mark_line, marked_from}
+use Rattle.kp_names.specs.Steps.{has_type, AreBelow, range_of, mark_line, marked_from}
 use Rattle.kp_names.proofs.TypesBelow.{reached_type, there_type}
 
 -- ---- lists

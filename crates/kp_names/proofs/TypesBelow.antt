@@ -1,14 +1,14 @@
 -- What gathering types round by round finds: exactly the types below some.
-use Rattle.std.proofs.Common.{◌≡◌, ◌⊎◌, ℕ, zero, suc, Bool, true, false, ◌&&◌, ◌||◌, if◌then◌else◌, List, [], ◌∷◌, ◌++◌, length, fold, refl, sym, ap, subst, ◌∙◌, inl, inr}
+use Rattle.std.proofs.Common.{◌≡◌, ◌⊎◌, ℕ, Bool, true, false, ◌&&◌, ◌||◌, if◌then◌else◌, List, [], ◌∷◌, ◌++◌, length, fold, refl, sym, ap, subst, ◌∙◌, inl, inr}
 use Rattle.std.specs.List.{list_any}
-use Rattle.std.proofs.lemmas.Bool.{and_parts, and_from, or_cases, or_left, or_right, false≢true}
+use Rattle.std.proofs.lemmas.Bool.{and_parts, or_cases, or_left, or_right, false≢true}
 use Rattle.std.proofs.lemmas.List.Folds.{list_any-append}
 use Rattle.kp_grammar.specs.declared.tree.Word.{Word}
 use Rattle.kp_grammar.specs.Trees.{Typed}
 use Rattle.kp_base.specs.Lists.{Member}
 use Rattle.kp_meaning.specs.Names.{Name, same, is_among}
 use Rattle.kp_meaning.specs.Types.{object, names, or_object, types_of, IsBelow, itself, root, parent, over, leads, below_within, is_below}
-use Rattle.kp_meaning.proofs.Lists.{any_member, any_from, any_map, bool_same, same-true, same-refl, same-sym, among_member, map_member}
+use Rattle.kp_meaning.proofs.Lists.{any_member, any_from, any_map, bool_same, same-true, same-refl}
 use Rattle.kp_meaning.proofs.Types.{type_test_exact}
 use Rattle.kp_names.specs.Steps.{with_name, any_among, has_type, with_line, closed, AreBelow}
 

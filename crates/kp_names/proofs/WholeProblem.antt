@@ -1,7 +1,5 @@
 -- A problem by number from its parts.
-use Rattle.std.proofs.Common.{◌≡◌, List, ◌∙◌, ap, map}
-use Rattle.kp_grammar.specs.declared.tree.Word.{Word}
-use Rattle.kp_grammar.specs.Trees.{Domain, Problem}
+use Rattle.std.proofs.Common.{◌≡◌, List, ◌∙◌, ap}
 use Rattle.kp_meaning.specs.declared.lifted.Pred.{Pred}
 use Rattle.kp_meaning.specs.declared.lifted.GroundLit.{GroundLit}
 use Rattle.kp_meaning.specs.declared.lifted.Item.{Item}

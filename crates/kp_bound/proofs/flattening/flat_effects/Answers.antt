@@ -1,10 +1,11 @@
 use Rattle.std.proofs.Common.{◌∙◌, ap, [], map}
-use Rattle.kp_grounding.specs.Flattening.{under, flat}
+use Rattle.kp_grounding.specs.Flattening.{under, flat, same_flat}
 use Rattle.kp_bound.specs.Nodes.{eff_view}
 use Rattle.kp_bound.specs.Problem.{problem_of}
 use Rattle.kp_bound.specs.Shapes.{with_effects}
 use Rattle.kp_bound.proofs.Views.{under_none}
-use Rattle.kp_bound.proofs.Once.{each_effect_once}
+use Rattle.kp_base.proofs.Once.{once_by_one}
+use Rattle.kp_bound.proofs.Sets.{same_flat-equivalence}
 use Rattle.kp_bound.proofs.flattening.flat_effects.Goals as goal
 
 pub returns : goal.returns
@@ -14,4 +15,4 @@ returns c =
     ∙ (c.in_ok-add_flat.ensures.added
     ∙ (ap (λ z. with_effects z (map (under c.new-conds.result) fs)) c.new-effects.ensures
     ∙ (ap (λ z. with_effects [] (map (under z) fs)) c.new-conds.ensures
-    ∙ (ap (with_effects []) (under_none fs) ∙ each_effect_once fs))))
+    ∙ (ap (with_effects []) (under_none fs) ∙ once_by_one same_flat same_flat-equivalence fs))))

@@ -1,4 +1,4 @@
-use Rattle.std.proofs.Common.{◌≡◌, [], map, drop, fold}
+use Rattle.std.proofs.Common.{◌≡◌, [], drop, fold}
 use Rattle.kp_meaning.specs.Types.{names}
 use Rattle.kp_names.specs.Steps.{with_name}
 use Rattle.kp_names.proofs.below.below_types.Given as goal

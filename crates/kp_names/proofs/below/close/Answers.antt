@@ -1,6 +1,5 @@
-use Rattle.std.proofs.Common.{◌≡◌, ◌∙◌, sym, drop, fold, map}
+use Rattle.std.proofs.Common.{◌∙◌, sym, drop, map}
 use Rattle.kp_grammar.specs.View.{typed_view}
-use Rattle.kp_names.specs.Steps.{with_line}
 use Rattle.kp_names.proofs.TypesBelow.{closed_stays}
 use Rattle.kp_names.proofs.below.close.Goals as goal
 

@@ -1,4 +1,4 @@
-use Rattle.std.proofs.Common.{◌≡◌, ◌≤◌, false, length, map, fold, replicate, sym, ap, ◌∙◌, arith}
+use Rattle.std.proofs.Common.{◌≡◌, false, length, map, fold, replicate, ap, ◌∙◌, arith}
 use Rattle.kp_grammar.specs.View.{typed_view, domain_view, problem_view}
 use Rattle.kp_meaning.specs.Types.{objects}
 use Rattle.kp_names.specs.Steps.{mark_line, marked_from}

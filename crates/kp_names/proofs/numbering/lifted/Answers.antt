@@ -1,4 +1,4 @@
-use Rattle.std.proofs.Common.{◌≡◌, ◌∙◌, sym, ap, ap₂, map, flat_map}
+use Rattle.std.proofs.Common.{◌≡◌, ◌∙◌, ap, ap₂, map, flat_map}
 use Rattle.kp_grammar.specs.View.{pred_view, schema_view as schema_tree_view, domain_view, problem_view}
 use Rattle.kp_meaning.specs.Types.{objects}
 use Rattle.kp_meaning.specs.Numbering.{numbered_pred, numbered_schema, numbered_item, numbered_goal}

@@ -1,8 +1,8 @@
-use Rattle.std.proofs.Common.{◌∙◌, ap, map, arith}
-use Rattle.kp_grammar.specs.View.{domain_view, pred_view}
+use Rattle.std.proofs.Common.{◌∙◌, ap}
+use Rattle.kp_grammar.specs.View.{domain_view}
 use Rattle.kp_meaning.specs.Names.{is_among}
 use Rattle.kp_meaning.specs.Types.{types}
-use Rattle.kp_names.specs.Tables.{entry_of, with_entry, entries_from}
+use Rattle.kp_names.specs.Tables.{entry_of}
 use Rattle.kp_names.proofs.Gathering.{among_all}
 use Rattle.kp_names.proofs.Entries.{first_counts}
 use Rattle.kp_names.proofs.tables.Names.collect.Goals as goal
