@@ -1,23 +1,19 @@
 -- Ascending lists of atoms: two of the same atoms are one list, and no atom stands there twice.
 use Rattle.std.proofs.Common.{◌≡◌, true, false, List, [], ◌∷◌, refl, sym, subst, ◌∙◌, inl, inr}
 use Rattle.std.specs.List.{IsDistinct, AllByRecursion}
-use Rattle.std.proofs.lemmas.Bool.{or_cases, or_left, or_right, false≢true}
+use Rattle.std.proofs.lemmas.Bool.{or_cases, or_left, or_right, false≢true, false_from_ne_true}
 use Rattle.kp_base.specs.Lists.{Member}
-use Rattle.kp_base.proofs.Lists.{any_member, any_from, all_member, bool_same}
+use Rattle.kp_base.proofs.Lists.{same_member, any_from, all_member, bool_same}
 use Rattle.kp_grounding.specs.declared.flat.Atom.{Atom}
-use Rattle.kp_grounding.specs.Ground.{atom_before, same_atom}
+use Rattle.kp_grounding.specs.Ground.{atom_before, same_atom, has_atom}
 use Rattle.kp_grounding.specs.Laws.{IsAscending}
 use Rattle.kp_grounding.proofs.Atoms.{irreflexive, transitive, same_atom-true, same_atom-refl}
-use Rattle.kp_grounding.proofs.Lists.{false_where_not_true}
-use Rattle.kp_atoms.specs.Gathered.{has_atom}
 
 pub has-member : (atoms : List Atom) (a : Atom) → Member atoms a → has_atom atoms a ≡ true
 has-member atoms a m = any_from (same_atom a) atoms a m (same_atom-refl a)
 
 pub member-has : (atoms : List Atom) (a : Atom) → has_atom atoms a ≡ true → Member atoms a
-member-has atoms a h =
-    let found = any_member (same_atom a) atoms h in
-    subst (Member atoms) (sym (same_atom-true a found.0 found.2)) found.1
+member-has = same_member same_atom same_atom-true
 
 first-has : (x : Atom) (xs : List Atom) → has_atom (x ∷ xs) x ≡ true
 first-has x xs = or_left (same_atom x x) (has_atom xs x) (same_atom-refl x)
@@ -65,4 +61,4 @@ ascending_distinct (x ∷ xs) s = (apart xs (not_again x xs s), ascending_distin
   where
     apart : (ys : List Atom) → (has_atom ys x ≡ true → ⊥) → AllByRecursion (λ y. same_atom x y ≡ false) ys
     apart [] none = tt
-    apart (y ∷ ys) none = (false_where_not_true (same_atom x y) (λ e. none (or_left (same_atom x y) (has_atom ys x) e)), apart ys (λ h. none (or_right (same_atom x y) (has_atom ys x) h)))
+    apart (y ∷ ys) none = (false_from_ne_true (same_atom x y) (λ e. none (or_left (same_atom x y) (has_atom ys x) e)), apart ys (λ h. none (or_right (same_atom x y) (has_atom ys x) h)))

@@ -1,33 +1,20 @@
 -- What is gathered: each atom once, those of the literals and no others, and all of them where the limit isn't passed.
 use Rattle.std.proofs.Common.{◌≡◌, ℕ, ◌≤◌, Bool, true, false, ◌||◌, if◌then◌else◌, List, [], ◌∷◌, ◌++◌, length, map, nat_lt, refl, sym, ap, subst, ◌∙◌, inl, inr, arith}
 use Rattle.std.specs.List.{IsDistinct}
-use Rattle.std.specs.Cmp.{IsEquivalence, on_equiv, and_equiv, nat_eq_equiv}
-use Rattle.std.specs.Cmp.Lexicographic.{lists_equiv}
 use Rattle.std.proofs.lemmas.Bool.{or_cases, or_left, or_right, ltb-true}
-use Rattle.std.proofs.lemmas.List.Folds.{list_any-append}
 use Rattle.std.proofs.lemmas.Map.Keys.{IsDistinct-push}
-use Rattle.std.proofs.Math.Bool.{or-true, or-false, or_assoc}
+use Rattle.std.proofs.Math.Bool.{or-false, or_assoc}
 use Rattle.kp_meaning.specs.declared.lifted.GroundLit.{GroundLit}
 use Rattle.kp_grounding.specs.declared.flat.Atom.{Atom}
-use Rattle.kp_grounding.specs.Ground.{same_atom, atom_of}
-use Rattle.kp_grounding.proofs.Atoms.{same_atom-true}
-use Rattle.kp_atoms.specs.Gathered.{has_atom, with_atom, with_atom_within, gather}
-
-pub same_atoms : IsEquivalence same_atom
-same_atoms = and_equiv (on_equiv (λ (a : Atom). a.pred) nat_eq_equiv) (on_equiv (λ (a : Atom). a.objects) (lists_equiv nat_eq_equiv))
+use Rattle.kp_grounding.specs.Ground.{same_atom, has_atom, atom_of}
+use Rattle.kp_base.proofs.Once.{any-added}
+use Rattle.kp_grounding.proofs.Atoms.{same_atoms}
+use Rattle.kp_atoms.specs.Gathered.{with_atom, with_atom_within, gather}
 
 -- ---- one more atom
 
 has-with : (atoms : List Atom) (a x : Atom) → has_atom (with_atom atoms a) x ≡ (has_atom atoms x || same_atom x a)
-has-with atoms a x = pick (has_atom atoms a) refl
-  where
-    there : (u : Bool) → has_atom atoms a ≡ true → same_atom x a ≡ u → has_atom atoms x ≡ (has_atom atoms x || u)
-    there true is e = subst (λ z. has_atom atoms z ≡ true) (sym (same_atom-true x a e)) is ∙ sym (or-true (has_atom atoms x))
-    there false is e = sym (or-false (has_atom atoms x))
-
-    pick : (t : Bool) → has_atom atoms a ≡ t → has_atom (if t then atoms else atoms ++ a ∷ []) x ≡ (has_atom atoms x || same_atom x a)
-    pick true is = there (same_atom x a) is refl
-    pick false is = list_any-append (same_atom x) atoms (a ∷ []) ∙ ap (λ t. has_atom atoms x || t) (or-false (same_atom x a))
+has-with = any-added same_atom same_atoms (λ a. a)
 
 -- ---- all atoms
 

@@ -10,10 +10,10 @@ use Rattle.std.proofs.lemmas.List.Sums.{prefix_len-le-length}
 use Rattle.std.proofs.lemmas.Map.Keys.{IsDistinct-head, IsDistinct-tail}
 use Rattle.kp_base.proofs.Lists.{all_weaker, any_map, any_member, any_from, bool_same}
 use Rattle.kp_grounding.specs.declared.flat.Atom.{Atom}
-use Rattle.kp_grounding.specs.Ground.{list_before, atom_before, same_atom, number_of}
+use Rattle.kp_grounding.specs.Ground.{list_before, atom_before, same_atom, has_atom, number_of}
 use Rattle.kp_grounding.specs.Laws.{IsAscending}
 use Rattle.kp_grounding.proofs.Atoms.{transitive, same_atom-true, same_atom-refl}
-use Rattle.kp_atoms.specs.Gathered.{kept_atom, has_atom}
+use Rattle.kp_atoms.specs.Gathered.{kept_atom}
 
 -- ---- the order
 

@@ -1,19 +1,14 @@
 -- Atoms that are gathered one by one, each once, up to one beyond a limit, and sorted. This file serves proofs alone.
-use Rattle.std.specs.Prelude.{◌≡◌, ℕ, Bool, List, [], ◌∷◌, ◌++◌, if◌then◌else◌, fold, length, nat_lt, Vec}
+use Rattle.std.specs.Prelude.{◌≡◌, ℕ, List, [], ◌∷◌, ◌++◌, if◌then◌else◌, fold, length, nat_lt, Vec}
 use Rattle.std.specs.declared.alloc.Global.{Global}
-use Rattle.std.specs.List.{list_any}
 use Rattle.kp_meaning.specs.declared.lifted.GroundLit.{GroundLit}
 use Rattle.kp_grounding.specs.declared.flat.Atom.{Atom}
-use Rattle.kp_grounding.specs.Ground.{same_atom, atom_of}
+use Rattle.kp_grounding.specs.Ground.{has_atom, atom_of}
 use Rattle.kp_grounding.specs.Laws.{IsAscending}
 
 -- an atom as a set keeps it
 abbrev pub kept_atom : ℕ × Vec ℕ Global → Atom
 kept_atom k = record { pred = k.0; objects = k.1.items }
-
--- whether the atom stands in the list
-abbrev pub has_atom : List Atom → Atom → Bool
-has_atom atoms a = list_any (same_atom a) atoms
 
 -- the atoms with one more, where it is new
 abbrev pub with_atom : List Atom → Atom → List Atom

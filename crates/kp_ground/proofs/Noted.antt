@@ -13,10 +13,9 @@ use Rattle.kp_grounding.specs.declared.flat.Atom.{Atom}
 use Rattle.kp_grounding.specs.declared.flat.FlatEffect.{FlatEffect}
 use Rattle.kp_grounding.specs.Static.{remaining}
 use Rattle.kp_grounding.specs.Flattening.{same_literals, same_flat, flat, flat_of}
-use Rattle.kp_grounding.specs.Ground.{kept_bindings, instance, kept_instances, atom_of, effect_literals, instance_literals, kept_literals, open_literals, occurring, same_atom}
+use Rattle.kp_grounding.specs.Ground.{kept_bindings, instance, kept_instances, atom_of, effect_literals, instance_literals, kept_literals, open_literals, occurring, same_atom, has_atom}
 use Rattle.kp_grounding.proofs.Step.{same_literal-true}
 use Rattle.kp_grounding.proofs.Kept.{kept_of, member_of}
-use Rattle.kp_atoms.specs.Gathered.{has_atom}
 use Rattle.kp_ground.specs.Passes.{flat_literals, literals_of, literals_at, noted}
 
 -- ---- lists

@@ -4,10 +4,10 @@ use Rattle.std.proofs.lemmas.Map.Made.{length-le_from_is_member}
 use Rattle.kp_base.proofs.Lists.{bool_same, map_member, member_at}
 use Rattle.kp_meaning.specs.Numbered.{Lifted}
 use Rattle.kp_grounding.specs.declared.flat.Atom.{Atom}
-use Rattle.kp_grounding.specs.Ground.{atom_of, occurring, ground_atoms, number_of}
-use Rattle.kp_grounding.proofs.Atoms.{atoms_are_numbered}
-use Rattle.kp_atoms.specs.Gathered.{has_atom, gather, IsSortOf}
-use Rattle.kp_atoms.proofs.Gathers.{same_atoms, none_distinct, gather_distinct, gather_only, gather_all}
+use Rattle.kp_grounding.specs.Ground.{atom_of, occurring, has_atom, ground_atoms, number_of}
+use Rattle.kp_grounding.proofs.Atoms.{same_atoms, atoms_are_numbered}
+use Rattle.kp_atoms.specs.Gathered.{gather, IsSortOf}
+use Rattle.kp_atoms.proofs.Gathers.{none_distinct, gather_distinct, gather_only, gather_all}
 use Rattle.kp_atoms.proofs.Ascending.{has-member, member-has, same_ascending}
 use Rattle.kp_ground.specs.Passes.{noted}
 use Rattle.kp_ground.proofs.Noted.{noted_atoms}

@@ -1,6 +1,6 @@
 -- The ground problem of a problem by number: its kept instances, its atoms and their numbers, its actions and its goal.
 use Rattle.std.specs.Prelude.{◌≡◌, ◌==◌, ℕ, suc, Bool, true, false, not, ◌&&◌, ◌||◌, if◌then◌else◌, List, [], ◌∷◌, ◌++◌, Option, Some, None, nat_lt, map, filter, slice_get}
-use Rattle.std.specs.List.{list_any, list_all, flat_map, position_or_len}
+use Rattle.std.specs.List.{list_any, flat_map, position_or_len}
 use Rattle.kp_base.specs.declared.lit.Lit.{Lit}
 use Rattle.kp_base.specs.declared.ground.GroundName.{GroundName}
 use Rattle.kp_base.specs.declared.ground.Effect.{Effect}
@@ -80,6 +80,10 @@ atom_before a b = nat_lt a.pred b.pred || (a.pred == b.pred && list_before a.obj
 -- whether two atoms are one
 abbrev pub same_atom : Atom → Atom → Bool
 same_atom a b = a.pred == b.pred && same a.objects b.objects
+
+-- whether the atom stands in the list
+abbrev pub has_atom : List Atom → Atom → Bool
+has_atom atoms a = list_any (same_atom a) atoms
 
 -- an atom put into an ascending list, if it isn't there
 abbrev pub insert_atom : Atom → List Atom → List Atom

@@ -7,8 +7,7 @@ use Rattle.kp_meaning.specs.Numbering.{name_at}
 use Rattle.kp_meaning.proofs.Indexes.{Distinct, among_at}
 use Rattle.kp_meaning.proofs.Lists.{same-true, same-refl}
 use Rattle.kp_grounding.specs.declared.flat.Atom.{Atom}
-use Rattle.kp_grounding.specs.Ground.{same_atom, number_of}
-use Rattle.kp_init.specs.Initial.{is_ground}
+use Rattle.kp_grounding.specs.Ground.{same_atom, number_of, has_atom}
 use Rattle.kp_init.specs.Tables.{place_from, place_of}
 
 -- ---- one more element
@@ -39,7 +38,7 @@ module _ {K X : Type 0} (same : X → X → Bool) (now : K → X) where
 
 -- ---- numbers of atoms
 
-first_is_number : (n : ℕ) (atoms : List Atom) (a : Atom) → place_from same_atom n atoms a ≡ (if is_ground atoms a then Some (n + number_of atoms a) else None)
+first_is_number : (n : ℕ) (atoms : List Atom) (a : Atom) → place_from same_atom n atoms a ≡ (if has_atom atoms a then Some (n + number_of atoms a) else None)
 first_is_number n [] a = refl
 first_is_number n (b ∷ more) a = by (same_atom a b) (first_is_number (n + 1) more a)
   where
@@ -47,24 +46,24 @@ first_is_number n (b ∷ more) a = by (same_atom a b) (first_is_number (n + 1) m
     behind true = let e : n + 1 + number_of more a ≡ n + (1 + number_of more a) = omega arith in ap Some e
     behind false = refl
 
-    by : (t : Bool) → place_from same_atom (n + 1) more a ≡ (if is_ground more a then Some (n + 1 + number_of more a) else None)
-        → (if t then Some n else place_from same_atom (n + 1) more a) ≡ (if t || is_ground more a then Some (n + cond (not t) (1 + number_of more a) 0) else None)
+    by : (t : Bool) → place_from same_atom (n + 1) more a ≡ (if has_atom more a then Some (n + 1 + number_of more a) else None)
+        → (if t then Some n else place_from same_atom (n + 1) more a) ≡ (if t || has_atom more a then Some (n + cond (not t) (1 + number_of more a) 0) else None)
     by true rest = let e : n ≡ n + 0 = omega arith in ap Some e
-    by false rest = rest ∙ behind (is_ground more a)
+    by false rest = rest ∙ behind (has_atom more a)
 
 -- an atom that isn't there has the number of atoms for its number
-past : (atoms : List Atom) (a : Atom) → is_ground atoms a ≡ false → length atoms ≡ number_of atoms a
+past : (atoms : List Atom) (a : Atom) → has_atom atoms a ≡ false → length atoms ≡ number_of atoms a
 past [] a h = refl
 past (b ∷ more) a h = by (same_atom a b) h (past more a)
   where
-    by : (t : Bool) → (t || is_ground more a) ≡ false → (is_ground more a ≡ false → length more ≡ number_of more a) → length (b ∷ more) ≡ cond (not t) (1 + number_of more a) 0
+    by : (t : Bool) → (t || has_atom more a) ≡ false → (has_atom more a ≡ false → length more ≡ number_of more a) → length (b ∷ more) ≡ cond (not t) (1 + number_of more a) 0
     by true h rest = absurd (true≢false h)
     by false h rest = let e = rest h in omega (arith, e)
 
 module _ (atoms : List Atom) (a : Atom) where
   -- the number that was found is the atom's
   pub found : (n : ℕ) → place_from same_atom 0 atoms a ≡ Some n → n ≡ number_of atoms a
-  found n h = by (is_ground atoms a) (sym (first_is_number 0 atoms a) ∙ h)
+  found n h = by (has_atom atoms a) (sym (first_is_number 0 atoms a) ∙ h)
     where
       by : (t : Bool) → (if t then Some (0 + number_of atoms a) else None) ≡ Some n → n ≡ number_of atoms a
       by true e = let same : 0 + number_of atoms a ≡ n = cc in omega (arith, same)
@@ -72,15 +71,15 @@ module _ (atoms : List Atom) (a : Atom) where
 
   -- and where none was, it is how many there are
   pub not_found : place_from same_atom 0 atoms a ≡ None → length atoms ≡ number_of atoms a
-  not_found h = by (is_ground atoms a) refl (sym (first_is_number 0 atoms a) ∙ h)
+  not_found h = by (has_atom atoms a) refl (sym (first_is_number 0 atoms a) ∙ h)
     where
-      by : (t : Bool) → is_ground atoms a ≡ t → (if t then Some (0 + number_of atoms a) else None) ≡ None → length atoms ≡ number_of atoms a
+      by : (t : Bool) → has_atom atoms a ≡ t → (if t then Some (0 + number_of atoms a) else None) ≡ None → length atoms ≡ number_of atoms a
       by true is e = cc
       by false is e = past atoms a is
 
   -- one is found where the atom is there
-  pub found_there : is_some (place_from same_atom 0 atoms a) ≡ is_ground atoms a
-  found_there = ap is_some (first_is_number 0 atoms a) ∙ by (is_ground atoms a)
+  pub found_there : is_some (place_from same_atom 0 atoms a) ≡ has_atom atoms a
+  found_there = ap is_some (first_is_number 0 atoms a) ∙ by (has_atom atoms a)
     where
       by : (t : Bool) → is_some (if t then Some (0 + number_of atoms a) else None) ≡ t
       by true = refl

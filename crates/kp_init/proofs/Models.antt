@@ -1,7 +1,7 @@
 -- The models of the initial formula are the initial states.
 use Rattle.std.proofs.Common.{◌≡◌, ℕ, Bool, true, false, not, ◌&&◌, ◌||◌, cond, List, [], ◌∷◌, ◌++◌, Option, Some, None, refl, sym, ap, subst, map, ◌∙◌, inl, inr, nat_eq, zero, suc, ◌<◌, arith, eqb-true, eq-eqb, slice_get, length, filter}
 use Rattle.std.specs.List.{list_any, list_all, flat_map}
-use Rattle.std.proofs.lemmas.Bool.{and_parts, and_from, or_left, false≢true, both_ways, cases_Bool, not-true}
+use Rattle.std.proofs.lemmas.Bool.{and_parts, and_from, or_left, false≢true, both_ways, cases_Bool, not-true, false_from_ne_true}
 use Rattle.std.proofs.lemmas.List.Folds.{list_all-append, list_all-map}
 use Rattle.std.proofs.Math.Bool.{or-false, and-true}
 use Rattle.kp_base.specs.declared.lit.AtomId.{AtomId}
@@ -18,12 +18,11 @@ use Rattle.kp_meaning.specs.Numbered.{Lifted}
 use Rattle.kp_meaning.specs.Lifted.{State, literal_holds, same_literal, one_holds, item_holds, item_literals, is_of, is_named, IsInitial}
 use Rattle.kp_grounding.specs.declared.flat.Atom.{Atom}
 use Rattle.kp_grounding.specs.Static.{is_static, leaves_static, says, initially}
-use Rattle.kp_grounding.specs.Ground.{atom_of, same_atom, kept_literals, open_literals, number_of, numbered, numbered_set, at_atom, seen_on, IsNumbering}
-use Rattle.kp_grounding.proofs.Lists.{false_where_not_true}
+use Rattle.kp_grounding.specs.Ground.{atom_of, same_atom, kept_literals, open_literals, number_of, numbered, numbered_set, at_atom, seen_on, IsNumbering, has_atom}
 use Rattle.kp_grounding.proofs.Static.{static_parts, static_at_first}
 use Rattle.kp_grounding.proofs.Atoms.{same_atom-true, same_atom-refl, number_there}
 use Rattle.kp_grounding.proofs.Step.{Covered, holds_numbered, same_numbered, same_literal-true, same_literal-refl}
-use Rattle.kp_init.specs.Initial.{exactly_one, is_ground, item_clauses, closed_of, initial_over}
+use Rattle.kp_init.specs.Initial.{exactly_one, item_clauses, closed_of, initial_over}
 use Rattle.kp_init.specs.Laws.{IsInitialExact}
 use Rattle.kp_init.proofs.Exactly.{is_only, exactly_one_holds}
 
@@ -40,7 +39,7 @@ module _ (l : Lifted) (atoms : List Atom) (numbering : IsNumbering l atoms) wher
 
   -- a predicate that stands in such an item isn't static
   not_static : (i : Item) → Member l.init i → (q : ℕ) → leaves_static q i ≡ false → is_static l q ≡ false
-  not_static i at q h = false_where_not_true (is_static l q) (λ static. both_ways (leaves_static q i) h (all_member (leaves_static q) l.init i at (static_parts l q static).1))
+  not_static i at q h = false_from_ne_true (is_static l q) (λ static. both_ways (leaves_static q i) h (all_member (leaves_static q) l.init i at (static_parts l q static).1))
 
   pub list_covered : (i : Item) → Member l.init i → ((q : ℕ) → list_any (λ m. nat_eq m.pred q) (item_literals i) ≡ true → leaves_static q i ≡ false) → (m : GroundLit) → Member (item_literals i) m → Covered atoms m
   list_covered i at f m in' =
@@ -55,12 +54,12 @@ module _ (l : Lifted) (atoms : List Atom) (numbering : IsNumbering l atoms) wher
           (λ h. let e = same_literal-true a b h in subst (λ z. same_literal z a ≡ true) e (same_literal-refl a))
           (λ h. let e = same_literal-true b a h in subst (λ z. same_literal z b ≡ true) e (same_literal-refl b))
 
-  pub ground_covered : (a : Atom) → is_ground atoms a ≡ true → slice_get atoms (number_of atoms a) ≡ Some a
+  pub ground_covered : (a : Atom) → has_atom atoms a ≡ true → slice_get atoms (number_of atoms a) ≡ Some a
   ground_covered a h =
       let r = any_member (same_atom a) atoms h in
       number_there atoms a (subst (Member atoms) (sym (same_atom-true a r.0 r.2)) r.1)
 
-  covered_ground : (n : ℕ) (a : Atom) → slice_get atoms n ≡ Some a → is_ground atoms a ≡ true
+  covered_ground : (n : ℕ) (a : Atom) → slice_get atoms n ≡ Some a → has_atom atoms a ≡ true
   covered_ground n a at = any_from (same_atom a) atoms a (member_at atoms n a at) (same_atom-refl a)
 
   -- the state and the ground state say the same of the literals in the list
@@ -85,17 +84,17 @@ module _ (l : Lifted) (atoms : List Atom) (numbering : IsNumbering l atoms) wher
         (λ m j. rw (same_on m (covered m j), numbered_apart x m (covered x i) (covered m j)) refl)))))
 
     -- an item holds where its clauses do, but for a literal whose atom isn't in the list
-    item_exact : (i : Item) → Member l.init i → ((m : GroundLit) → i ≡ Item.One m → is_ground atoms (atom_of m) ≡ false → literal_holds s m ≡ true) → list_all (list_any (steps.holds g)) (item_clauses atoms i) ≡ item_holds s i
-    item_exact (Item.One m) at other = pick (is_ground atoms (atom_of m)) refl
+    item_exact : (i : Item) → Member l.init i → ((m : GroundLit) → i ≡ Item.One m → has_atom atoms (atom_of m) ≡ false → literal_holds s m ≡ true) → list_all (list_any (steps.holds g)) (item_clauses atoms i) ≡ item_holds s i
+    item_exact (Item.One m) at other = pick (has_atom atoms (atom_of m)) refl
       where
-        pick : (t : Bool) → is_ground atoms (atom_of m) ≡ t → list_all (list_any (steps.holds g)) (only_if t ((numbered atoms m ∷ []) ∷ [])) ≡ literal_holds s m
+        pick : (t : Bool) → has_atom atoms (atom_of m) ≡ t → list_all (list_any (steps.holds g)) (only_if t ((numbered atoms m ∷ []) ∷ [])) ≡ literal_holds s m
         pick false is = sym (other m refl is)
         pick true is = and-true _ ∙ (or-false _ ∙ same_on m (ground_covered (atom_of m) is))
     item_exact (Item.OneOf ms) at other = one_clause ms (list_covered (Item.OneOf ms) at (λ q h. ap not h))
     item_exact (Item.AnyOf ms) at other = and-true _ ∙ any_clause ms (list_covered (Item.AnyOf ms) at (λ q h. ap not h))
     item_exact (Item.Unknown m) at other = refl
 
-    items_exact : ((m : GroundLit) → Member l.init (Item.One m) → is_ground atoms (atom_of m) ≡ false → literal_holds s m ≡ true) → list_all (list_any (steps.holds g)) (flat_map (item_clauses atoms) l.init) ≡ list_all (item_holds s) l.init
+    items_exact : ((m : GroundLit) → Member l.init (Item.One m) → has_atom atoms (atom_of m) ≡ false → literal_holds s m ≡ true) → list_all (list_any (steps.holds g)) (flat_map (item_clauses atoms) l.init) ≡ list_all (item_holds s) l.init
     items_exact other = go l.init (λ i m. m)
       where
         go : (is : List Item) → ((i : Item) → Member is i → Member l.init i) → list_all (list_any (steps.holds g)) (flat_map (item_clauses atoms) is) ≡ list_all (item_holds s) is
@@ -105,11 +104,11 @@ module _ (l : Lifted) (atoms : List Atom) (numbering : IsNumbering l atoms) wher
             ∙ rw (item_exact i (f i (inl refl)) (λ m e not_ground. other m (subst (Member l.init) e (f i (inl refl))) not_ground), go is (λ j m. f j (inr m))) refl
 
   -- a literal whose atom isn't in the list is positive and of a static predicate
-  other_static : (m : GroundLit) → Member l.init (Item.One m) → is_ground atoms (atom_of m) ≡ false → is_static l m.pred ≡ true
+  other_static : (m : GroundLit) → Member l.init (Item.One m) → has_atom atoms (atom_of m) ≡ false → is_static l m.pred ≡ true
   other_static m at not_ground =
       elim (cases_Bool (is_static l m.pred)) [
         | inl static ↦ static
-        | inr open' ↦ absurd (both_ways (is_ground atoms (atom_of m)) not_ground (covered_ground (number_of atoms (atom_of m)) (atom_of m) (init_covered (Item.One m) at m (inl refl) open')))
+        | inr open' ↦ absurd (both_ways (has_atom atoms (atom_of m)) not_ground (covered_ground (number_of atoms (atom_of m)) (atom_of m) (init_covered (Item.One m) at m (inl refl) open')))
       ]
 
   other_positive : (m : GroundLit) → Member l.init (Item.One m) → is_static l m.pred ≡ true → m.positive ≡ true
@@ -123,7 +122,7 @@ module _ (l : Lifted) (atoms : List Atom) (numbering : IsNumbering l atoms) wher
 
   -- nothing is said of an atom that no item names
   unsaid : (q : ℕ) (os : List ℕ) → is_named l q os ≡ false → initially l q os ≡ false
-  unsaid q os h = false_where_not_true (initially l q os) (λ said.
+  unsaid q os h = false_from_ne_true (initially l q os) (λ said.
       let r = any_member (says q os) l.init said in
       both_ways (is_named l q os) h (any_from (λ i. list_any (is_of q os) (item_literals i)) l.init r.0 r.1 (named_by r.0 r.2)))
     where
@@ -151,7 +150,7 @@ module _ (l : Lifted) (atoms : List Atom) (numbering : IsNumbering l atoms) wher
 
   -- a ground state as a state: of the atoms in the list it says what the ground state does, of others what `:init` does
   abbrev lift : steps.State → State
-  lift g q os = cond (is_ground atoms (record { pred = q; objects = os })) (g (number_of atoms (record { pred = q; objects = os }))) (initially l q os)
+  lift g q os = cond (has_atom atoms (record { pred = q; objects = os })) (g (number_of atoms (record { pred = q; objects = os }))) (initially l q os)
 
   lift_same : (g : steps.State) → SameOn (lift g) g
   lift_same g m covered = ap (signed m.positive) (ap (λ t. cond t (g (number_of atoms (atom_of m))) (initially l m.pred m.objects)) (sym (covered_ground (number_of atoms (atom_of m)) (atom_of m) covered)))
@@ -169,7 +168,7 @@ module _ (l : Lifted) (atoms : List Atom) (numbering : IsNumbering l atoms) wher
       (closed_all (λ n. not (seen_on atoms s n)) (λ a m not_named. ap not (ap (at_atom s) (number_there atoms a m) ∙ init.absent a.pred a.objects not_named)))
 
   state_of : (g : steps.State) → is_model (initial_over l atoms) g ≡ true → (s : State) × IsInitial l s × ((n : ℕ) → n < length atoms → seen_on atoms s n ≡ g n)
-  state_of g h = (lift g, record { items = items; absent = λ q os n. pick (is_ground atoms (record { pred = q; objects = os })) q os refl n }, same_seen)
+  state_of g h = (lift g, record { items = items; absent = λ q os n. pick (has_atom atoms (record { pred = q; objects = os })) q os refl n }, same_seen)
     where
       parts : (list_all (list_any (steps.holds g)) (initial_over l atoms).clauses ≡ true) × (list_all (λ p. not (g p.0)) (initial_over l atoms).closed ≡ true)
       parts = and_parts (list_all (list_any (steps.holds g)) (initial_over l atoms).clauses) (list_all (λ p. not (g p.0)) (initial_over l atoms).closed) h
@@ -180,7 +179,7 @@ module _ (l : Lifted) (atoms : List Atom) (numbering : IsNumbering l atoms) wher
           let positive = other_positive m at (other_static m at not_ground) in
           subst (λ b. signed b (lift g m.pred m.objects) ≡ true) (sym positive) (ap (λ t. cond t (g (number_of atoms (atom_of m))) (initially l m.pred m.objects)) not_ground ∙ item_says m at positive))) ∙ parts.0
 
-      pick : (t : Bool) (q : ℕ) (os : List ℕ) → is_ground atoms (record { pred = q; objects = os }) ≡ t → is_named l q os ≡ false → cond t (g (number_of atoms (record { pred = q; objects = os }))) (initially l q os) ≡ false
+      pick : (t : Bool) (q : ℕ) (os : List ℕ) → has_atom atoms (record { pred = q; objects = os }) ≡ t → is_named l q os ≡ false → cond t (g (number_of atoms (record { pred = q; objects = os }))) (initially l q os) ≡ false
       pick false q os is n = unsaid q os n
       pick true q os is n =
           let a : Atom = record { pred = q; objects = os } in
@@ -200,7 +199,7 @@ module _ (l : Lifted) (atoms : List Atom) (numbering : IsNumbering l atoms) wher
 
   only_one : (s t : State) → IsInitial l s → IsInitial l t → ((n : ℕ) → seen_on atoms s n ≡ seen_on atoms t n) → (q : ℕ) (os : List ℕ) → s q os ≡ t q os
   only_one s t init_s init_t same_seen q os =
-      elim (cases_Bool (is_ground atoms (record { pred = q; objects = os }))) [
+      elim (cases_Bool (has_atom atoms (record { pred = q; objects = os }))) [
         | inl ground' ↦
             let at = ground_covered (record { pred = q; objects = os }) ground' in
             sym (ap (at_atom s) at) ∙ (same_seen (number_of atoms (record { pred = q; objects = os })) ∙ ap (at_atom t) at)
@@ -216,7 +215,7 @@ module _ (l : Lifted) (atoms : List Atom) (numbering : IsNumbering l atoms) wher
                     let f = same-true m.0.objects os parts.1 in
                     let covered = init_covered i.0 i.1 m.0 m.1 (subst (λ r. is_static l r ≡ false) (sym e) open') in
                     let there = covered_ground (number_of atoms (atom_of m.0)) (atom_of m.0) covered in
-                    absurd (both_ways (is_ground atoms (record { pred = q; objects = os })) not_ground (subst (λ r. is_ground atoms (record { pred = r; objects = os }) ≡ true) e (subst (λ us. is_ground atoms (record { pred = m.0.pred; objects = us }) ≡ true) f there)))
+                    absurd (both_ways (has_atom atoms (record { pred = q; objects = os })) not_ground (subst (λ r. has_atom atoms (record { pred = r; objects = os }) ≡ true) e (subst (λ us. has_atom atoms (record { pred = m.0.pred; objects = us }) ≡ true) f there)))
               ]
           | inr not_named ↦ init_s.absent q os not_named ∙ sym (init_t.absent q os not_named)
         ]

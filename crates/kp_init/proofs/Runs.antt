@@ -33,14 +33,14 @@ use Rattle.kp_meaning.proofs.Texts.{solves_theirs}
 use Rattle.kp_grounding.specs.declared.flat.Atom.{Atom}
 use Rattle.kp_grounding.specs.Static.{remaining}
 use Rattle.kp_grounding.specs.Flattening.{same_flat, flat, flat_of}
-use Rattle.kp_grounding.specs.Ground.{kept_bindings, kept_instances, atom_of, effect_literals, instance_literals, kept_literals, open_literals, ground_atoms, number_of, numbered, numbered_set, IsNumbering, numbered_effect, is_idle, ground_pre, ground_effects, action_of, actions_of, ground_over, ground_of, seen_on}
+use Rattle.kp_grounding.specs.Ground.{kept_bindings, kept_instances, atom_of, effect_literals, instance_literals, kept_literals, open_literals, ground_atoms, number_of, numbered, numbered_set, IsNumbering, numbered_effect, is_idle, ground_pre, ground_effects, action_of, actions_of, ground_over, ground_of, seen_on, has_atom}
 use Rattle.kp_grounding.specs.Laws.{action_name}
 use Rattle.kp_grounding.proofs.Atoms.{atoms_are_numbered, number_there}
 use Rattle.kp_grounding.proofs.Step.{Covered, occurs}
 use Rattle.kp_grounding.proofs.Plans.{runs_are_plans, plan_exact}
 use Rattle.kp_grounding.proofs.Names.{named_by_steps}
-use Rattle.kp_init.specs.Initial.{not_both, is_ground, item_clauses}
-use Rattle.kp_init.specs.Closure.{are_below}
+use Rattle.kp_init.specs.Initial.{not_both, item_clauses}
+use Rattle.kp_base.specs.Implicates.{are_below}
 use Rattle.kp_init.specs.Laws.{IsModelRun, IsNamedRun, IsInitialOver, IsPlanByModels, IsPlanByName, IsPlanOfTexts}
 use Rattle.kp_init.proofs.Models.{initial_exact, list_covered, ground_covered, closed_all}
 
@@ -128,9 +128,9 @@ module _ (l : Lifted) (atoms : List Atom) (numbering : IsNumbering l atoms) wher
       (pairs_below n xs parts.1)
 
   item_below : (i : Item) → Member l.init i → list_all (are_below (length atoms)) (item_clauses atoms i) ≡ true
-  item_below (Item.One m) at = pick (is_ground atoms (atom_of m)) refl
+  item_below (Item.One m) at = pick (has_atom atoms (atom_of m)) refl
     where
-      pick : (t : Bool) → is_ground atoms (atom_of m) ≡ t → list_all (are_below (length atoms)) (only_if t ((numbered atoms m ∷ []) ∷ [])) ≡ true
+      pick : (t : Bool) → has_atom atoms (atom_of m) ≡ t → list_all (are_below (length atoms)) (only_if t ((numbered atoms m ∷ []) ∷ [])) ≡ true
       pick false is = refl
       pick true is = and_from (are_below (length atoms) (numbered atoms m ∷ [])) true (and_from (below (length atoms) (numbered atoms m)) true (covered_below m (ground_covered l atoms numbering (atom_of m) is)) refl) refl
   item_below (Item.OneOf ms) at =

@@ -1,6 +1,6 @@
 -- The initial formula: what `:init` says of the ground atoms, as clauses and closed atoms.
-use Rattle.std.specs.Prelude.{Bool, not, List, [], ◌∷◌, ◌++◌, map, filter}
-use Rattle.std.specs.List.{list_any, flat_map}
+use Rattle.std.specs.Prelude.{not, List, [], ◌∷◌, ◌++◌, map, filter}
+use Rattle.std.specs.List.{flat_map}
 use Rattle.kp_base.specs.declared.lit.Lit.{Lit}
 use Rattle.kp_base.specs.declared.lit.AtomId.{AtomId}
 use Rattle.kp_base.specs.declared.ground.Initial.{Initial}
@@ -11,7 +11,7 @@ use Rattle.kp_meaning.specs.declared.lifted.Item.{Item}
 use Rattle.kp_meaning.specs.Numbered.{Lifted}
 use Rattle.kp_meaning.specs.Lifted.{is_named}
 use Rattle.kp_grounding.specs.declared.flat.Atom.{Atom}
-use Rattle.kp_grounding.specs.Ground.{atom_of, same_atom, ground_atoms, number_of, numbered, numbered_set}
+use Rattle.kp_grounding.specs.Ground.{atom_of, has_atom, ground_atoms, number_of, numbered, numbered_set}
 
 -- for each pair of literals, the first slowest: not both hold
 abbrev pub not_both : List Lit → List (List Lit)
@@ -22,13 +22,9 @@ not_both (x ∷ xs) = map (λ y. set_of (negated x ∷ negated y ∷ [])) xs ++ 
 abbrev pub exactly_one : List Lit → List (List Lit)
 exactly_one ls = set_of ls ∷ not_both (each_once same_lit ls)
 
--- whether the atom is in the list
-abbrev pub is_ground : List Atom → Atom → Bool
-is_ground atoms a = list_any (same_atom a) atoms
-
 -- the clauses of an item; a literal whose atom isn't in the list is of a static predicate, and says nothing of the others
 abbrev pub item_clauses : List Atom → Item → List (List Lit)
-item_clauses atoms (Item.One m) = only_if (is_ground atoms (atom_of m)) ((numbered atoms m ∷ []) ∷ [])
+item_clauses atoms (Item.One m) = only_if (has_atom atoms (atom_of m)) ((numbered atoms m ∷ []) ∷ [])
 item_clauses atoms (Item.OneOf ms) = exactly_one (map (numbered atoms) ms)
 item_clauses atoms (Item.AnyOf ms) = numbered_set atoms ms ∷ []
 item_clauses atoms (Item.Unknown m) = []

@@ -1,8 +1,8 @@
 ghost use Rattle.std.specs.Prelude.{◌≡◌, [], ◌∷◌, ◌++◌, map, IfOk, OnOk};
 ghost use Rattle.std.specs.List.{flat_map};
 ghost use Rattle.kp_base.specs.Lists.{only_if};
-ghost use Rattle.kp_grounding.specs.Ground.{atom_of, numbered, numbered_set};
-ghost use Rattle.kp_init.specs.Initial.{exactly_one, is_ground, item_clauses};
+ghost use Rattle.kp_grounding.specs.Ground.{atom_of, numbered, numbered_set, has_atom};
+ghost use Rattle.kp_init.specs.Initial.{exactly_one, item_clauses};
 
 use crate::one_of::{add_exactly_one, set_of};
 use crate::places::Places;
@@ -17,7 +17,7 @@ fn add_literal(
     lit: &GroundLit,
     clauses: &mut Row<LitSet>,
 ) -> Result<(), Memory>
-    ensures { OnOk result (clauses.new ≡ clauses.old ++ only_if (is_ground places.now.atoms.now (atom_of lit.now)) ((numbered places.now.atoms.now lit.now ∷ []) ∷ [])) }
+    ensures { OnOk result (clauses.new ≡ clauses.old ++ only_if (has_atom places.now.atoms.now (atom_of lit.now)) ((numbered places.now.atoms.now lit.now ∷ []) ∷ [])) }
 {
     if places.has(lit) {
         let mut clause = LitSet::new(alloc);

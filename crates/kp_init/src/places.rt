@@ -1,8 +1,7 @@
 ghost use Rattle.std.specs.Prelude.{◌≡◌, ◌≤◌, None, Some, if◌then◌else◌, length, map, IfOk, OnOk};
 ghost use Rattle.std.specs.Option.{option_or};
 ghost use Rattle.kp_grounding.specs.declared.flat.Atom.{Atom as Told};
-ghost use Rattle.kp_grounding.specs.Ground.{atom_of, same_atom, number_of, numbered};
-ghost use Rattle.kp_init.specs.Initial.{is_ground};
+ghost use Rattle.kp_grounding.specs.Ground.{atom_of, same_atom, number_of, numbered, has_atom};
 ghost use Rattle.kp_init.specs.Tables.{place_from, atom_place};
 
 use indexmap::IndexMap;
@@ -71,7 +70,7 @@ impl<'a> Places<'a> {
 
     /// Whether a literal's atom is one of these.
     pub fn has(&self, lit: &GroundLit) -> bool
-        ensures { result ≡ is_ground self.now.atoms.now (atom_of lit.now) }
+        ensures { result ≡ has_atom self.now.atoms.now (atom_of lit.now) }
     {
         self.find(lit.pred, lit.objects.slice()).is_some()
     }

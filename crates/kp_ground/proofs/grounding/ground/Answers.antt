@@ -1,4 +1,4 @@
-use Rattle.std.proofs.Common.{Err, ap, subst}
+use Rattle.std.proofs.Common.{ap, subst}
 use Rattle.std.proofs.lemmas.Result.{err_from_is_err_and}
 use Rattle.kp_names.specs.View.{lifted_view}
 use Rattle.kp_ground.specs.Grounded.{IsGrounded, StopsGround}

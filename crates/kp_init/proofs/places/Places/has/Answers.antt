@@ -1,5 +1,5 @@
 use Rattle.std.proofs.Common.{ap, is_some, ◌∙◌}
-use Rattle.kp_init.specs.Initial.{is_ground}
+use Rattle.kp_grounding.specs.Ground.{has_atom}
 use Rattle.kp_init.proofs.FirstPlaces.{found_there}
 use Rattle.kp_init.proofs.places.Places.has.Goals as goal
 
@@ -10,4 +10,4 @@ returns c =
     c.is_some.ensures
     ∙ (ap is_some c.find.ensures
     ∙ (found_there atoms (record { pred = lit.pred; objects = c.slice.result.now })
-    ∙ ap (λ os. is_ground atoms (record { pred = lit.pred; objects = os })) c.slice.ensures))
+    ∙ ap (λ os. has_atom atoms (record { pred = lit.pred; objects = os })) c.slice.ensures))
