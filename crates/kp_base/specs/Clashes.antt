@@ -22,19 +22,11 @@ clashes_at a s p = fires a.effects (holds s) (positive p) && fires a.effects (ho
 pub record NeverClashes (g : Ground) (i : Initial) : Type 0 where
   pub no_clash : (s : State) (ns : List ℕ) (a : Action) (p : ℕ) → is_model i s ≡ true → runs g s ns ≡ true → Member g.actions a → list_all (holds (state_after g s ns)) a.pre ≡ true → clashes_at a (state_after g s ns) p ≡ false
 
--- no effect of the action deletes what one of its effects adds
-abbrev pub is_one_sided : Action → Bool
-is_one_sided a = list_all (λ e. list_all (λ f. not (same_lit f.result (negated e.result))) a.effects) a.effects
-
 -- ---- by conditions
 
 -- which atoms are never true together
 abbrev pub Pairs : Type 0
 Pairs = ℕ → ℕ → Bool
-
--- no atoms are known to be so
-abbrev pub no_pairs : Pairs
-no_pairs p q = false
 
 -- the two literals are never true together: one is the negation of the other, or they are two atoms of a pair
 abbrev pub are_exclusive : Pairs → Lit → Lit → Bool

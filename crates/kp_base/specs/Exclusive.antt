@@ -1,15 +1,16 @@
 -- Pairs of atoms that are never true together, by a condition that each step keeps.
-use Rattle.std.specs.Prelude.{◌≡◌, ◌≢◌, ◌<◌, ℕ, true, false, ◌&&◌, List, [], ◌∷◌, ◌++◌}
+use Rattle.std.specs.Prelude.{◌≡◌, ◌≢◌, ◌<◌, ℕ, true, false, ◌&&◌, List, [], ◌∷◌, ◌++◌, length}
 use Rattle.kp_base.specs.declared.lit.Lit.{Lit}
 use Rattle.kp_base.specs.declared.ground.Effect.{Effect}
 use Rattle.kp_base.specs.declared.ground.Action.{Action}
 use Rattle.kp_base.specs.declared.ground.Ground.{Ground}
 use Rattle.kp_base.specs.declared.ground.Initial.{Initial}
+use Rattle.kp_base.specs.declared.refused.ClashAt.{ClashAt}
 use Rattle.kp_base.specs.Lists.{Member}
 use Rattle.kp_base.specs.Lit.{positive, negative}
 use Rattle.kp_base.specs.Implicates.{is_within}
 use Rattle.kp_base.specs.Steps.{State, is_model}
-use Rattle.kp_base.specs.Clashes.{Pairs, are_compatible, compatible_effects}
+use Rattle.kp_base.specs.Clashes.{Pairs, are_compatible, compatible_effects, HasNoClash, IsFirstClash}
 
 -- pairs of different atoms, in either order; atoms are below this number
 pub record ArePairs (atoms : ℕ) (pairs : Pairs) : Type 0 where
@@ -48,3 +49,15 @@ pub record IsExclusive (g : Ground) (i : Initial) (atoms p q : ℕ) : Type 0 whe
 pub record AreExclusive (g : Ground) (i : Initial) (atoms : ℕ) (pairs : Pairs) : Type 0 where
   pub each : (p q : ℕ) → pairs p q ≡ true → IsExclusive g i atoms p q
   pub all : (p q : ℕ) → IsExclusive g i atoms p q → pairs p q ≡ true
+
+-- this is the first clash, where the exclusive pairs are never true together
+pub record ClashesFirst (g : Ground) (i : Initial) (c : ClashAt) : Type 0 where
+  pub pairs : Pairs
+  pub exclusive : AreExclusive g i (length g.atoms) pairs
+  pub first : IsFirstClash pairs g c
+
+-- no action clashes, where the exclusive pairs are never true together
+pub record IsClashFree (g : Ground) (i : Initial) : Type 0 where
+  pub pairs : Pairs
+  pub exclusive : AreExclusive g i (length g.atoms) pairs
+  pub none : HasNoClash pairs g

@@ -15,7 +15,7 @@ use Rattle.kp_base.specs.Lists.{Member}
 use Rattle.kp_base.specs.Lit.{positive, negative}
 use Rattle.kp_base.specs.Steps.{State, IsBounded, holds, has, is_model, fires, after, runs, state_after, IsGroundPlan}
 use Rattle.kp_base.specs.Entailed.{tag_holds, Entails, IsConsistent, IsClosure, IsValid, AreValid, IsTable}
-use Rattle.kp_base.specs.Clashes.{clashes_at, NeverClashes, is_one_sided}
+use Rattle.kp_base.specs.Clashes.{clashes_at, NeverClashes}
 use Rattle.kp_base.specs.Machine.{MachineStep, start, facts_after, after_merge, accepts, stripped}
 use Rattle.kp_base.proofs.Lists.{all_member}
 use Rattle.kp_base.proofs.Lits.{member-has}
@@ -267,10 +267,6 @@ right = record {
     closures row (inr (inr (inr (inr n)))) = absurd n
 
 -- ---- no clash
-
--- the action has an add and a delete of the second atom
-left_has_both : is_one_sided left ≡ false
-left_has_both = refl
 
 far_off : (a b : ℕ) → (a < b) → nat_eq a b ≡ false
 far_off a b h = false_from_ne_true (nat_eq a b) (λ e. let same = eqb-true a b e in omega arith)

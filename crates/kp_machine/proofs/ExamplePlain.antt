@@ -1,23 +1,26 @@
 -- One model, and the table of the empty tag alone: each premise of the other laws is met.
-use Rattle.std.proofs.Common.{◌≡◌, ◌<◌, ℕ, zero, suc, Bool, true, false, List, [], ◌∷◌, codes, map, refl, arith}
+use Rattle.std.proofs.Common.{◌≡◌, ◌≢◌, ◌<◌, ℕ, zero, suc, Bool, true, false, ◌&&◌, List, [], ◌∷◌, codes, map, inl, inr, refl, sym, ap, subst, ◌∙◌, arith}
 use Rattle.std.proofs.lemmas.Bool.{false≢true}
 use Rattle.std.specs.List.{list_all}
 use Rattle.kp_base.specs.declared.lit.Lit.{Lit}
 use Rattle.kp_base.specs.declared.ground.GroundName.{GroundName}
+use Rattle.kp_base.specs.declared.ground.Effect.{Effect}
 use Rattle.kp_base.specs.declared.ground.Action.{Action}
 use Rattle.kp_base.specs.declared.ground.Ground.{Ground}
 use Rattle.kp_base.specs.declared.ground.Initial.{Initial}
+use Rattle.kp_base.specs.Lists.{Member}
 use Rattle.kp_base.specs.Lit.{positive, negative}
 use Rattle.kp_base.specs.Steps.{State, holds, has, is_model, IsGroundPlan}
 use Rattle.kp_base.specs.Entailed.{Entails, IsClosure}
-use Rattle.kp_base.specs.Clashes.{NeverClashes, clashes_at, is_one_sided}
+use Rattle.kp_base.specs.Clashes.{Pairs, NeverClashes, clashes_at, HasNoClash, Clashes}
+use Rattle.kp_base.specs.Exclusive.{ArePairs, IsInductive, Deletes, AreExclusive, firing_with, IsClashFree}
 use Rattle.kp_base.specs.Machine.{MachineStep, accepts, one_tag_table}
-use Rattle.kp_base.proofs.Lists.{all_member}
+use Rattle.kp_base.proofs.Lists.{all_member, member_at}
 use Rattle.kp_base.proofs.Lits.{member-has}
 use Rattle.kp_machine.specs.Laws.{facts_after_operator}
 use Rattle.kp_machine.proofs.Sound.{sound}
 use Rattle.kp_machine.proofs.ExampleCells.{below_all}
-use Rattle.kp_machine.proofs.OneSided.{never_clashes}
+use Rattle.kp_machine.proofs.Exclusive.{never_clashes}
 use Rattle.kp_machine.proofs.OneTag.{is_table, has_no_merges}
 
 abbrev nullary : List ℕ → GroundName
@@ -49,11 +52,62 @@ abbrev only_p : State
 only_p zero = true
 only_p (suc p) = false
 
-one_sided : list_all is_one_sided small.actions ≡ true
-one_sided = refl
+-- ---- no clash
 
-pub never : NeverClashes small start_of_small
-never = never_clashes small start_of_small refl
+-- the two atoms
+abbrev pub both_atoms : Pairs
+both_atoms zero (suc zero) = true
+both_atoms (suc zero) zero = true
+both_atoms _ _ = false
+
+-- a set of pairs is exclusive that is inductive and has each two of two atoms
+pub exclusive_of_two : (g : Ground) (i : Initial) → IsInductive g i 2 both_atoms → AreExclusive g i 2 both_atoms
+exclusive_of_two g i ind = record {
+  each = λ p q pair. record { pairs = both_atoms; inductive = ind; has_pair = pair };
+  all = λ p q x. let are = x.inductive.are_pairs in two p q (are.of_atoms p q x.has_pair) (are.of_atoms q p (are.either_order p q x.has_pair)) (are.different p q x.has_pair);
+}
+  where
+    two : (p q : ℕ) → p < 2 → q < 2 → p ≢ q → both_atoms p q ≡ true
+    two zero zero below also differ = absurd (differ refl)
+    two zero (suc zero) below also differ = refl
+    two (suc zero) zero below also differ = refl
+    two (suc zero) (suc zero) below also differ = absurd (differ refl)
+    two (suc (suc p)) q below also differ = absurd (omega (arith, below))
+    two p (suc (suc q)) below also differ = absurd (omega (arith, also))
+
+pub are_both : ArePairs 2 both_atoms
+are_both = record { of_atoms = below; different = differ; either_order = turned }
+  where
+    below : (p q : ℕ) → both_atoms p q ≡ true → p < 2
+    below zero q h = omega arith
+    below (suc zero) q h = omega arith
+    below (suc (suc p)) q h = absurd (false≢true h)
+
+    differ : (p q : ℕ) → both_atoms p q ≡ true → p ≢ q
+    differ zero zero h = absurd (false≢true h)
+    differ zero (suc q) h = λ e. cc
+    differ (suc zero) zero h = λ e. cc
+    differ (suc zero) (suc q) h = absurd (false≢true h)
+    differ (suc (suc p)) q h = absurd (false≢true h)
+
+    turned : (p q : ℕ) → both_atoms p q ≡ true → both_atoms q p ≡ true
+    turned zero zero h = h
+    turned zero (suc zero) h = refl
+    turned zero (suc (suc q)) h = absurd (false≢true h)
+    turned (suc zero) zero h = refl
+    turned (suc zero) (suc q) h = absurd (false≢true h)
+    turned (suc (suc p)) q h = absurd (false≢true h)
+
+-- what the action adds is q, and what it deletes p
+only_q : (e : Effect) (p : ℕ) → Member swap.effects e → e.result ≡ positive p → p ≡ 1
+only_q e p (inl m) h = sym (ap (λ (x : Effect). x.result.atom.0) m ∙ ap (λ (l : Lit). l.atom.0) h)
+only_q e p (inr (inl m)) h = absurd (false≢true (ap (λ (x : Effect). x.result.positive) m ∙ ap (λ (l : Lit). l.positive) h))
+only_q e p (inr (inr m)) h = absurd m
+
+only_p_goes : (e : Effect) (p : ℕ) → Member swap.effects e → e.result ≡ negative p → p ≡ 0
+only_p_goes e p (inl m) h = absurd (false≢true (sym (ap (λ (x : Effect). x.result.positive) m ∙ ap (λ (l : Lit). l.positive) h)))
+only_p_goes e p (inr (inl m)) h = sym (ap (λ (x : Effect). x.result.atom.0) m ∙ ap (λ (l : Lit). l.atom.0) h)
+only_p_goes e p (inr (inr m)) h = absurd m
 
 -- ---- the closure of the empty tag
 
@@ -84,6 +138,63 @@ closure_is_right = record {
         by (suc zero) true below h = h
         by (suc zero) false below h = refl
         by (suc (suc p)) b below h = absurd (omega arith)
+
+-- ---- pairs and clashes
+
+-- p and q are never true together: where q comes, p goes
+pub both_inductive : IsInductive small start_of_small 2 both_atoms
+both_inductive = record {
+  are_pairs = are_both;
+  never_at_the_start = λ p q pair s model. at_start p q pair s (start_is_so s model);
+  never_both_added = λ p q pair a e f in-a in-e in-f adds-e adds-f. absurd (never_twice p q pair a e f in-a in-e in-f adds-e adds-f);
+  other_deleted = λ p q pair a e in-a in-e adds _. goes p q pair a e in-a in-e adds;
+}
+  where
+    at_start : (p q : ℕ) → both_atoms p q ≡ true → (s : State) → (s 0 ≡ true) × (s 1 ≡ false) → (s p && s q) ≡ false
+    at_start zero zero pair s so = absurd (false≢true pair)
+    at_start zero (suc zero) pair s so = rw (so.0, so.1) refl
+    at_start zero (suc (suc q)) pair s so = absurd (false≢true pair)
+    at_start (suc zero) zero pair s so = rw (so.0, so.1) refl
+    at_start (suc zero) (suc q) pair s so = absurd (false≢true pair)
+    at_start (suc (suc p)) q pair s so = absurd (false≢true pair)
+
+    of_swap : (a : Action) (e : Effect) → Member small.actions a → Member a.effects e → Member swap.effects e
+    of_swap a e (inl m) in-e = subst (λ (x : Action). Member x.effects e) (sym m) in-e
+    of_swap a e (inr m) in-e = absurd m
+
+    never_twice : (p q : ℕ) → both_atoms p q ≡ true → (a : Action) (e f : Effect) → Member small.actions a → Member a.effects e → Member a.effects f → e.result ≡ positive p → f.result ≡ positive q → ⊥
+    never_twice p q pair a e f in-a in-e in-f adds-e adds-f =
+        are_both.different p q pair (only_q e p (of_swap a e in-a in-e) adds-e ∙ sym (only_q f q (of_swap a f in-a in-f) adds-f))
+
+    goes_swap : (p q : ℕ) (ls : List Lit) → p ≡ 1 → both_atoms p q ≡ true → Deletes swap q ls
+    goes_swap p q ls e pair = by q (subst (λ x. both_atoms x q ≡ true) e pair)
+      where
+        by : (q : ℕ) → both_atoms 1 q ≡ true → Deletes swap q ls
+        by zero pair = record { delete = record { cond = []; result = negative 0 }; of_action = inr (inl refl); deletes = refl; within = refl }
+        by (suc q) pair = absurd (false≢true pair)
+
+    goes : (p q : ℕ) → both_atoms p q ≡ true → (a : Action) (e : Effect) → Member small.actions a → Member a.effects e → e.result ≡ positive p → Deletes a q (firing_with a e q)
+    goes p q pair a e in-a in-e adds = by a in-a (goes_swap p q (firing_with a e q) (only_q e p (of_swap a e in-a in-e) adds) pair)
+      where
+        by : (a : Action) → Member small.actions a → {ls : List Lit} → Deletes swap q ls → Deletes a q ls
+        by a (inl m) {ls} d = subst (λ (x : Action). Deletes x q ls) m d
+        by a (inr m) d = absurd m
+
+free : IsClashFree small start_of_small
+free = record { pairs = both_atoms; exclusive = exclusive_of_two small start_of_small both_inductive; none = none }
+  where
+    none_of_swap : (p k j : ℕ) → Clashes both_atoms swap p k j → ⊥
+    none_of_swap p k j c =
+        let e = only_q c.adding p (member_at swap.effects k c.adding c.add_at) c.adds in
+        let f = only_p_goes c.deleting p (member_at swap.effects j c.deleting c.delete_at) c.deletes in
+        omega (arith, e, f)
+
+    none : HasNoClash both_atoms small
+    none zero p k j a at c = none_of_swap p k j (subst (λ (x : Action). Clashes both_atoms x p k j) (sym (let e : swap ≡ a = cc in e)) c)
+    none (suc n) p k j a at c = absurd cc
+
+pub never : NeverClashes small start_of_small
+never = never_clashes small start_of_small free
 
 -- ---- accepted lists
 
@@ -125,9 +236,6 @@ both = record {
 -- q is to be false
 abbrev clashing : Ground
 clashing = record { atoms = nullary (codes "p") ∷ nullary (codes "q") ∷ []; actions = both ∷ []; goal = negative 1 ∷ [] }
-
-both_is_not_one_sided : is_one_sided both ≡ false
-both_is_not_one_sided = refl
 
 both_clashes : clashes_at both only_p 1 ≡ true
 both_clashes = refl

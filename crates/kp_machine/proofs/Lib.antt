@@ -4,7 +4,7 @@ pub mod Sound
 pub mod OneSided
 pub mod Inductive
 pub mod Union
-pub mod Apart
+pub mod Exclusive
 pub mod Operators
 pub mod OneTag
 pub mod ExampleCells

@@ -10,11 +10,11 @@ use Rattle.kp_base.proofs.Lists.{all_weaker}
 use Rattle.kp_machine.specs.Laws.{ExclusivePairsAreInductive}
 
 -- each pair of the first set is in the second
-abbrev IsPart : Pairs → Pairs → Type 0
+abbrev pub IsPart : Pairs → Pairs → Type 0
 IsPart some more = (p q : ℕ) → some p q ≡ true → more p q ≡ true
 
 -- what is compatible under more pairs is so under fewer
-compatible_under_fewer : (some more : Pairs) → IsPart some more → (ls : List Lit) → are_compatible more ls ≡ true → are_compatible some ls ≡ true
+pub compatible_under_fewer : (some more : Pairs) → IsPart some more → (ls : List Lit) → are_compatible more ls ≡ true → are_compatible some ls ≡ true
 compatible_under_fewer some more part ls h =
     all_weaker (λ k. list_all (λ l. not (are_exclusive more k l)) ls) (λ k. list_all (λ l. not (are_exclusive some k l)) ls) ls (λ k _.
     all_weaker (λ l. not (are_exclusive more k l)) (λ l. not (are_exclusive some k l)) ls (λ l _ apart.

@@ -10,8 +10,8 @@ use Rattle.kp_base.specs.declared.ground.TagTable.{TagTable}
 use Rattle.kp_base.specs.Lit.{negated, same_lit}
 use Rattle.kp_base.specs.Steps.{State, Facts, fires, is_model, runs, state_after, IsGroundPlan}
 use Rattle.kp_base.specs.Entailed.{IsClosure, IsTable, AreValid}
-use Rattle.kp_base.specs.Clashes.{NeverClashes, is_one_sided, Pairs, no_pairs, HasNoClash}
-use Rattle.kp_base.specs.Exclusive.{IsInductive, AreExclusive}
+use Rattle.kp_base.specs.Clashes.{NeverClashes, Pairs, HasNoClash}
+use Rattle.kp_base.specs.Exclusive.{IsInductive, AreExclusive, IsClashFree}
 use Rattle.kp_base.specs.Machine.{MachineStep, facts_after, accepts, stripped, one_tag_table}
 
 -- ---- soundness
@@ -20,13 +20,7 @@ use Rattle.kp_base.specs.Machine.{MachineStep, facts_after, accepts, stripped, o
 abbrev pub IsSound : Type 0
 IsSound = (g : Ground) (i : Initial) (table : TagTable) → IsTable g i table → AreValid i table → NeverClashes g i → (steps : List MachineStep) → accepts g table steps ≡ true → IsGroundPlan g i (stripped steps)
 
--- where no effect of an action deletes what one of its effects adds, nothing clashes
-abbrev pub OneSidedNeverClashes : Type 0
-OneSidedNeverClashes = (g : Ground) (i : Initial) → list_all is_one_sided g.actions ≡ true → NeverClashes g i
-
--- where no add and delete of one atom have conditions without a literal and its negation, nothing clashes
-abbrev pub ApartNeverClashes : Type 0
-ApartNeverClashes = (g : Ground) (i : Initial) → HasNoClash no_pairs g → NeverClashes g i
+-- ---- pairs
 
 -- no state on a run from a model has both atoms of a pair of an inductive set
 abbrev pub InductivePairsStayApart : Type 0
@@ -39,6 +33,10 @@ InductiveNeverClashes = (g : Ground) (i : Initial) (atoms : ℕ) (pairs : Pairs)
 -- the exclusive pairs are an inductive set, and so the greatest one
 abbrev pub ExclusivePairsAreInductive : Type 0
 ExclusivePairsAreInductive = (g : Ground) (i : Initial) (atoms : ℕ) (pairs : Pairs) → AreExclusive g i atoms pairs → IsInductive g i atoms pairs
+
+-- where no action clashes under the exclusive pairs, nothing clashes
+abbrev pub ClashFreeNeverClashes : Type 0
+ClashFreeNeverClashes = (g : Ground) (i : Initial) → IsClashFree g i → NeverClashes g i
 
 -- ---- operators
 

@@ -1,23 +1,11 @@
 //! Laws of the tagged machine, each proved as the contract of a function that does nothing.
 
-ghost use Rattle.kp_machine.specs.Laws.{ApartNeverClashes, ExclusivePairsAreInductive, InductiveNeverClashes, InductivePairsStayApart, IsSound, OneSidedNeverClashes, OneTagHasNoMerges, OneTagIsTable, OperatorsAreExact};
+ghost use Rattle.kp_machine.specs.Laws.{ClashFreeNeverClashes, ExclusivePairsAreInductive, InductiveNeverClashes, InductivePairsStayApart, IsSound, OneTagHasNoMerges, OneTagIsTable, OperatorsAreExact};
 
 /// Each list that the machine accepts is, without its merges, a plan from every model.
 #[tactic(auto, using(crate::proofs::Sound::sound))]
 pub fn accepted_lists_are_plans()
     ensures { IsSound }
-{}
-
-/// Where no effect of an action deletes what one of its effects adds, no add is ever done together with its delete.
-#[tactic(auto, using(crate::proofs::OneSided::never_clashes))]
-pub fn one_sided_actions_never_clash()
-    ensures { OneSidedNeverClashes }
-{}
-
-/// Where an add and a delete of one atom never have compatible conditions, no add is ever done together with its delete.
-#[tactic(auto, using(crate::proofs::Apart::never_clashes))]
-pub fn apart_effects_never_clash()
-    ensures { ApartNeverClashes }
 {}
 
 /// In no state on a run from a model are both atoms of a pair of an inductive set true.
@@ -36,6 +24,12 @@ pub fn no_clash_under_inductive_pairs()
 #[tactic(auto, using(crate::proofs::Union::union_inductive))]
 pub fn exclusive_pairs_are_inductive()
     ensures { ExclusivePairsAreInductive }
+{}
+
+/// Where no add and delete of one atom are compatible under the exclusive pairs, no add is ever done together with its delete.
+#[tactic(auto, using(crate::proofs::Exclusive::never_clashes))]
+pub fn no_clash_under_exclusive_pairs()
+    ensures { ClashFreeNeverClashes }
 {}
 
 /// The two effects that an operator has for each effect of its action do what the machine does.

@@ -4,7 +4,7 @@
 mod laws;
 
 pub use laws::{
-    accepted_lists_are_plans, apart_effects_never_clash, exclusive_pairs_are_inductive,
-    inductive_pairs_stay_apart, no_clash_under_inductive_pairs, one_sided_actions_never_clash,
-    one_tag_has_no_merges, one_tag_is_a_table, operators_are_exact,
+    accepted_lists_are_plans, exclusive_pairs_are_inductive, inductive_pairs_stay_apart,
+    no_clash_under_exclusive_pairs, no_clash_under_inductive_pairs, one_tag_has_no_merges,
+    one_tag_is_a_table, operators_are_exact,
 };
