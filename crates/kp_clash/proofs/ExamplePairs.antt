@@ -11,7 +11,7 @@ use Rattle.kp_base.specs.declared.ground.Initial.{Initial}
 use Rattle.kp_base.specs.Lists.{Member}
 use Rattle.kp_base.specs.Lit.{positive, negative}
 use Rattle.kp_base.specs.Steps.{holds}
-use Rattle.kp_base.specs.Clashes.{Pairs, no_pairs, HasNoClash, IsFirstClash}
+use Rattle.kp_base.specs.Clashes.{Pairs, HasNoClash, IsFirstClash}
 use Rattle.kp_base.specs.Exclusive.{IsInductive, IsExclusive}
 use Rattle.kp_base.proofs.Lists.{all_member}
 use Rattle.kp_clash.specs.Settled.{NeverAtTheStart, stays}
@@ -119,8 +119,8 @@ nothing_clashes : HasNoClash two_cells cells
 nothing_clashes = none_is two_cells cells None refl
 
 -- which the test without pairs doesn't see
-clashes_without : IsFirstClash no_pairs cells (record { action = 0; atom = record { 0 = 1 }; add = 0; delete = 3 })
-clashes_without = first_is no_pairs cells (Some (record { action = 0; atom = record { 0 = 1 }; add = 0; delete = 3 })) refl
+clashes_without : IsFirstClash (λ p q. false) cells (record { action = 0; atom = record { 0 = 1 }; add = 0; delete = 3 })
+clashes_without = first_is (λ p q. false) cells (Some (record { action = 0; atom = record { 0 = 1 }; add = 0; delete = 3 })) refl
 
 -- where several cells may be full at the start no pair is exclusive
 no_pair_with_or : (p q : ℕ) → IsExclusive cells (record { clauses = some_cell ∷ []; closed = [] }) 3 p q → ⊥

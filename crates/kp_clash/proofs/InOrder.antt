@@ -1,11 +1,10 @@
 -- The clash of the first action that has one is the first clash.
-use Rattle.std.proofs.Common.{◌≡◌, ◌≢◌, ◌<◌, ◌≤◌, ◌+◌, ◌==◌, ℕ, zero, suc, Bool, true, false, cond, List, [], ◌∷◌, Option, Some, None, IfSome, IfNone, Result, Ok, Err, IfOk, length, nat_lt, slice_get, inl, inr, refl, sym, subst, ◌∙◌, arith}
+use Rattle.std.proofs.Common.{◌≡◌, ◌≢◌, ◌<◌, ◌≤◌, ◌+◌, ◌==◌, ℕ, zero, suc, Bool, true, false, cond, List, [], ◌∷◌, Option, Some, None, IfSome, IfNone, length, nat_lt, slice_get, inl, inr, refl, sym, subst, ◌∙◌, arith}
 use Rattle.std.proofs.lemmas.Bool.{both_ways, ltb-true, ltb-false, eq-eqb}
 use Rattle.std.specs.declared.cmp.Ordering.{Ordering}
 use Rattle.std.specs.declared.cmp.Ordering.TheVariants.{Less, Equal, Greater}
 use Rattle.std.specs.Ordering.{nat_cmp, ordering_then}
 use Rattle.std.specs.Cmp.Lexicographic.{slice_cmp}
-use Rattle.kp_base.specs.declared.memory.Memory.{Memory}
 use Rattle.kp_base.specs.declared.ground.Action.{Action}
 use Rattle.kp_base.specs.declared.ground.Ground.{Ground}
 use Rattle.kp_base.specs.declared.refused.ClashAt.{ClashAt}
@@ -104,11 +103,3 @@ first_is pairs g o is = some_first pairs g o (subst (IsFound pairs 0 g.actions) 
 
 pub none_is : (pairs : Pairs) (g : Ground) (o : Option ClashAt) → o ≡ first_from pairs 0 g.actions → IfNone o (HasNoClash pairs g)
 none_is pairs g o is = none_clashes pairs g o (subst (IsFound pairs 0 g.actions) (sym is) (found_in pairs 0 g.actions))
-
-pub ok_first : (pairs : Pairs) (g : Ground) (r : Result (Option ClashAt) Memory) → IfOk r (λ o. o ≡ first_from pairs 0 g.actions) → IfOk r (λ o. IfSome o (IsFirstClash pairs g))
-ok_first pairs g (Ok o) is = first_is pairs g o is
-ok_first pairs g (Err e) is = tt
-
-pub ok_none : (pairs : Pairs) (g : Ground) (r : Result (Option ClashAt) Memory) → IfOk r (λ o. o ≡ first_from pairs 0 g.actions) → IfOk r (λ o. IfNone o (HasNoClash pairs g))
-ok_none pairs g (Ok o) is = none_is pairs g o is
-ok_none pairs g (Err e) is = tt

@@ -1,7 +1,6 @@
 pub mod Greatest
 pub mod Marked
-pub mod Opposing
-pub mod Noted
+pub mod Deletes
 pub mod Places
 pub mod Best
 pub mod InOrder

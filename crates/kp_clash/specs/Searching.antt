@@ -1,33 +1,30 @@
 -- How the first clash is searched for, step by step. This file serves proofs alone.
-use Rattle.std.specs.Prelude.{ℕ, suc, Bool, ◌&&◌, List, [], ◌∷◌, ◌++◌, Option, Some, None, option_map, if◌then◌else◌, nat_eq, nat_lt}
-use Rattle.std.specs.List.{list_any}
-use Rattle.kp_base.specs.declared.lit.Lit.{Lit}
+use Rattle.std.specs.Prelude.{◌≡◌, ◌%◌, ℕ, suc, Bool, true, false, ◌&&◌, ◌||◌, List, [], ◌∷◌, Option, Some, None, option_map, if◌then◌else◌, nat_lt, slice_index_or}
+use Rattle.std.specs.List.{list_all}
 use Rattle.kp_base.specs.declared.ground.Effect.{Effect}
 use Rattle.kp_base.specs.declared.ground.Action.{Action}
 use Rattle.kp_base.specs.declared.refused.ClashAt.{ClashAt}
 use Rattle.kp_base.specs.Lit.{negated, same_lit}
-use Rattle.kp_base.specs.Steps.{has}
 use Rattle.kp_base.specs.Clashes.{Pairs, compatible_effects}
 
 -- ---- atoms that are deleted
 
--- the atom is among these
-abbrev pub has_atom : List ℕ → ℕ → Bool
-has_atom ps p = list_any (nat_eq p) ps
+-- the slot of the atom is marked
+abbrev pub may_be_deleted : List Bool → ℕ → Bool
+may_be_deleted slots p = slice_index_or slots (p % 4096) false
 
--- with one more, where it is new
-abbrev pub with_atom : List ℕ → ℕ → List ℕ
-with_atom ps p = if has_atom ps p then ps else ps ++ p ∷ []
+-- the effect is no delete, or the slot of its atom is marked
+abbrev pub is_noted : List Bool → Effect → Bool
+is_noted slots e = e.result.positive || may_be_deleted slots e.result.atom.0
 
--- with the atom of an effect that deletes it
-abbrev pub with_deleted : List ℕ → Effect → List ℕ
-with_deleted ps e = if e.result.positive then ps else with_atom ps e.result.atom.0
+abbrev pub all_noted : List Bool → List Effect → Bool
+all_noted slots es = list_all (is_noted slots) es
+
+-- what was marked is marked still
+abbrev pub KeepsMarks : List Bool → List Bool → Type 0
+KeepsMarks old new = (k : ℕ) → slice_index_or old k false ≡ true → slice_index_or new k false ≡ true
 
 -- ---- two effects
-
--- the negation of some literal of the first list stands in the second
-abbrev pub opposes : List Lit → List Lit → Bool
-opposes ks ls = list_any (λ k. has ls (negated k)) ks
 
 -- they are an add and a delete of one atom, whose conditions are compatible
 abbrev pub clash_together : Pairs → Action → Effect → Effect → Bool

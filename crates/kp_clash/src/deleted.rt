@@ -1,62 +1,34 @@
-ghost use Rattle.std.specs.Prelude.{◌≡◌, [], fold, IfOk, OnOk};
-ghost use Rattle.kp_clash.specs.Searching.{has_atom, with_atom, with_deleted};
+ghost use Rattle.std.specs.Prelude.{◌≡◌, ◌<◌, ◌%◌, ℕ, true, slice_index_or};
+ghost use Rattle.kp_clash.specs.Searching.{KeepsMarks, is_noted, all_noted, may_be_deleted};
 
-use indexmap::IndexSet;
-use kp_base::{Effect, Memory};
-use std::alloc::Global;
-use std::marker::Model;
+use kp_base::{AtomId, Effect};
 
-/// The atoms that some effect deletes, each once.
-#[derive(Drop)]
-pub struct Deleted {
-    atoms: IndexSet<u32>,
+const SLOTS: usize = 4096;
+
+// Marks the slot of the atom of an effect that deletes it.
+fn note(slots: &mut [bool; SLOTS], effect: &Effect)
+    ensures noted { is_noted slots.new effect.now ≡ true }
+    ensures keeps { KeepsMarks slots.old slots.new }
+{
+    if !effect.result.positive {
+        slots[effect.result.atom.0 as usize % SLOTS] = true;
+    }
 }
 
-impl Model for Deleted {
-    ghost use Rattle.std.specs.Prelude.{List, ℕ};
-
-    ghost Value = { List ℕ };
-
-    ghost view = { λ d. d.atoms.keys };
+/// A slot for each number modulo 4,096, marked where some effect deletes an atom of that slot.
+pub fn slots_of_deletes(effects: &[Effect]) -> [bool; SLOTS]
+    ensures { all_noted result effects.now ≡ true }
+{
+    let mut slots = [false; SLOTS];
+    for effect in effects {
+        note(&mut slots, effect);
+    }
+    slots
 }
 
-impl Deleted {
-    // Adds an atom, where it is new.
-    fn insert(&mut self, atom: u32) -> Result<(), Memory>
-        ensures { OnOk result (self.new ≡ with_atom self.old atom) }
-    {
-        self.atoms.insert(atom)?;
-        Ok(())
-    }
-
-    // Adds the atom of an effect that deletes it.
-    fn note(&mut self, effect: &Effect) -> Result<(), Memory>
-        ensures { OnOk result (self.new ≡ with_deleted self.old effect.now) }
-    {
-        if effect.result.positive {
-            Ok(())
-        } else {
-            self.insert(effect.result.atom.0)
-        }
-    }
-
-    /// The atoms that these effects delete.
-    pub fn by(alloc: Global, effects: &[Effect]) -> Result<Deleted, Memory>
-        ensures { IfOk result (λ d. d ≡ fold with_deleted [] effects.now) }
-    {
-        let mut deleted = Deleted {
-            atoms: IndexSet::new(alloc),
-        };
-        for effect in effects {
-            deleted.note(effect)?;
-        }
-        Ok(deleted)
-    }
-
-    /// Whether some effect deletes the atom.
-    pub fn has(&self, atom: u32) -> bool
-        ensures { result ≡ has_atom self.now atom }
-    {
-        self.atoms.contains(&atom)
-    }
+/// Whether the slot of the atom is marked; if not, no effect deletes the atom.
+pub fn may_be_deleted(slots: &[bool; SLOTS], atom: AtomId) -> bool
+    ensures { result ≡ may_be_deleted slots.now atom.0 }
+{
+    slots[atom.0 as usize % SLOTS]
 }

@@ -1,15 +1,12 @@
 //! Whether an action adds and deletes one atom under conditions that may hold together.
-//! `IsFirstClash` and `HasNoClash` in `kp_base/specs/Clashes.antt` say what `clash_test` and `first_clash` give.
+//! `IsFirstClash` and `HasNoClash` in `kp_base/specs/Clashes.antt` say what `clash_test` gives.
 #![tactic(auto)]
 
-mod apart;
+mod clash;
 mod compatible;
 mod deleted;
-mod exact;
-mod first;
 mod pairs;
 mod stays;
 
-pub use exact::clash_test;
-pub use first::first_clash;
+pub use clash::clash_test;
 pub use pairs::Pairs;

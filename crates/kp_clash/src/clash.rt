@@ -1,13 +1,13 @@
-ghost use Rattle.std.specs.Prelude.{◌≡◌, ◌≤◌, ◌<◌, ℕ, Some, None, length, slice_get, IfOk, IfErr};
+ghost use Rattle.std.specs.Prelude.{◌≡◌, ◌≤◌, ◌<◌, ℕ, true, Some, None, length, slice_get, IfOk, IfErr};
 ghost use Rattle.kp_base.specs.declared.ground.Action.{Action as ActionOf};
 ghost use Rattle.kp_base.specs.Clashes.{HasNoClash, IsFirstClash};
 ghost use Rattle.kp_clash.specs.Counted.{IsCounted};
 ghost use Rattle.kp_clash.specs.Paired.{is_pair};
-ghost use Rattle.kp_clash.specs.Searching.{clash_together, place_from, found_at, best_from, first_from};
+ghost use Rattle.kp_clash.specs.Searching.{all_noted, clash_together, place_from, found_at, keep, best_from, first_from};
 
 use crate::Pairs;
 use crate::compatible::are_compatible;
-use crate::first::keep;
+use crate::deleted::{may_be_deleted, slots_of_deletes};
 use kp_base::{Action, ClashAt, Effect, Ground};
 
 // Whether the effects are an add and a delete of one atom, under conditions that may hold together.
@@ -38,13 +38,18 @@ fn found_at(
     number: u32,
     pairs: &Pairs,
     action: &Action,
+    slots: &[bool; 4096],
     place: u32,
     effect: &Effect,
 ) -> Option<ClashAt>
-    requires { length action.now.effects ≤ 4294967295 }
+    requires few { length action.now.effects ≤ 4294967295 }
+    requires noted { all_noted slots.now action.now.effects ≡ true }
     ensures { result ≡ found_at (is_pair pairs.now) number action.now place effect.now }
 {
     if !effect.result.positive {
+        return None;
+    }
+    if !may_be_deleted(slots, effect.result.atom) {
         return None;
     }
     match first_delete(pairs, action, effect) {
@@ -58,15 +63,36 @@ fn found_at(
     }
 }
 
+// What is first of what was found before and what is found now.
+fn keep(first: Option<ClashAt>, found: Option<ClashAt>) -> Option<ClashAt>
+    ensures { result ≡ keep first found }
+{
+    match (first, found) {
+        (first, None) => first,
+        (None, Some(found)) => Some(found),
+        (Some(first), Some(found)) => {
+            if found.atom.0 < first.atom.0 {
+                Some(found)
+            } else {
+                Some(first)
+            }
+        }
+    }
+}
+
 // The first clash of an action.
 fn best(number: u32, pairs: &Pairs, action: &Action) -> Option<ClashAt>
     requires { length action.now.effects ≤ 4294967295 }
     ensures { result ≡ best_from (is_pair pairs.now) number action.now 0 action.now.effects None }
 {
+    let slots = slots_of_deletes(action.effects.slice());
     let mut first = None;
     let mut place = 0u32;
     'effects: for effect in action.effects.slice() {
-        first = keep(first, found_at(number, pairs, action, place, effect));
+        first = keep(
+            first,
+            found_at(number, pairs, action, &slots, place, effect),
+        );
         place += 1;
     }
     first

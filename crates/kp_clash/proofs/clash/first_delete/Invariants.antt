@@ -1,7 +1,7 @@
 use Rattle.std.proofs.Common.{◌≡◌, drop}
 use Rattle.kp_clash.specs.Paired.{is_pair}
 use Rattle.kp_clash.specs.Searching.{clash_together, place_from}
-use Rattle.kp_clash.proofs.exact.first_delete.Given as goal
+use Rattle.kp_clash.proofs.clash.first_delete.Given as goal
 
 -- the place counts the effects that were looked at, and the first one is among the rest
 abbrev pub invariant-effects : goal.invariant-effects

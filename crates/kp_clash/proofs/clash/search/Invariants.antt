@@ -1,7 +1,7 @@
 use Rattle.std.proofs.Common.{◌≡◌, drop}
 use Rattle.kp_clash.specs.Paired.{is_pair}
 use Rattle.kp_clash.specs.Searching.{first_from}
-use Rattle.kp_clash.proofs.exact.search.Given as goal
+use Rattle.kp_clash.proofs.clash.search.Given as goal
 
 -- the number counts the actions that were looked at, and the first clash is one of the rest
 abbrev pub invariant-actions : goal.invariant-actions

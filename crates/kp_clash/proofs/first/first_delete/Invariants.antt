@@ -1,8 +1,0 @@
-use Rattle.std.proofs.Common.{◌≡◌, drop}
-use Rattle.kp_base.specs.Clashes.{no_pairs}
-use Rattle.kp_clash.specs.Searching.{clash_together, place_from}
-use Rattle.kp_clash.proofs.first.first_delete.Given as goal
-
--- the place counts the effects that were looked at, and the first one is among the rest
-abbrev pub invariant-effects : goal.invariant-effects
-invariant-effects l = (l.place ≡ l.effect-index) × (place_from (clash_together no_pairs l.action l.add) l.effect-index (drop l.effect-index l.action.effects) ≡ place_from (clash_together no_pairs l.action l.add) 0 l.action.effects)

@@ -1,8 +1,0 @@
-use Rattle.std.proofs.Common.{◌≡◌, drop}
-use Rattle.kp_base.specs.Clashes.{no_pairs}
-use Rattle.kp_clash.specs.Searching.{first_from}
-use Rattle.kp_clash.proofs.first.search.Given as goal
-
--- the number counts the actions that were looked at, and the first clash is one of the rest
-abbrev pub invariant-actions : goal.invariant-actions
-invariant-actions l = (l.number ≡ l.action-index) × (first_from no_pairs l.action-index (drop l.action-index l.actions) ≡ first_from no_pairs 0 l.actions)
