@@ -1,5 +1,11 @@
 pub mod Greatest
 pub mod Marked
+pub mod Removing
+pub mod Walks
+pub mod Starting
+pub mod Initially
+pub mod Firing
+pub mod Written
 pub mod Opposing
 pub mod Noted
 pub mod Places

@@ -3,13 +3,18 @@
 #![tactic(auto)]
 
 mod apart;
+mod broken;
 mod compatible;
 mod deleted;
 mod exact;
+mod find;
 mod first;
 mod pairs;
-mod stays;
+mod settle;
+mod start;
+mod within;
 
 pub use exact::clash_test;
+pub use find::exclusive;
 pub use first::first_clash;
 pub use pairs::Pairs;
