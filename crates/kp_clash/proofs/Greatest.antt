@@ -16,7 +16,7 @@ use Rattle.kp_base.proofs.Lists.{all_weaker, all_from, all_member, any_from, any
 use Rattle.kp_base.proofs.Lits.{same_lit-true, same_lit-refl}
 use Rattle.kp_clash.specs.Settled.{IsPart, NeverAtTheStart, adds_both, never_adds_both, deletes_within, keeps_apart, all_keep_apart, stays_in, stays}
 
-is_lit : (k l : Lit) → k ≡ l → same_lit k l ≡ true
+pub is_lit : (k l : Lit) → k ≡ l → same_lit k l ≡ true
 is_lit k l e = subst (λ (x : Lit). same_lit k x ≡ true) e (same_lit-refl k)
 
 -- ---- more pairs
@@ -57,27 +57,27 @@ apart_more some more part p q a h = all_weaker (keeps_apart some p q a) (keeps_a
     ]
 
 -- what an action does to the two atoms, part by part
-record Parts (pairs : Pairs) (p q : ℕ) (a : Action) : Type 0 where
-  both : never_adds_both pairs p q a ≡ true
-  both_turned : never_adds_both pairs q p a ≡ true
-  apart : all_keep_apart pairs p q a ≡ true
-  apart_turned : all_keep_apart pairs q p a ≡ true
+pub record Parts (pairs : Pairs) (p q : ℕ) (a : Action) : Type 0 where
+  pub both : never_adds_both pairs p q a ≡ true
+  pub both_turned : never_adds_both pairs q p a ≡ true
+  pub apart : all_keep_apart pairs p q a ≡ true
+  pub apart_turned : all_keep_apart pairs q p a ≡ true
 
-parts_of : (pairs : Pairs) (p q : ℕ) (a : Action) → stays_in pairs p q a ≡ true → Parts pairs p q a
+pub parts_of : (pairs : Pairs) (p q : ℕ) (a : Action) → stays_in pairs p q a ≡ true → Parts pairs p q a
 parts_of pairs p q a h =
     let x = and_parts (never_adds_both pairs p q a) (never_adds_both pairs q p a && (all_keep_apart pairs p q a && all_keep_apart pairs q p a)) h in
     let y = and_parts (never_adds_both pairs q p a) (all_keep_apart pairs p q a && all_keep_apart pairs q p a) x.1 in
     let z = and_parts (all_keep_apart pairs p q a) (all_keep_apart pairs q p a) y.1 in
     record { both = x.0; both_turned = y.0; apart = z.0; apart_turned = z.1 }
 
-stays_by : (pairs : Pairs) (p q : ℕ) (a : Action) → Parts pairs p q a → stays_in pairs p q a ≡ true
+pub stays_by : (pairs : Pairs) (p q : ℕ) (a : Action) → Parts pairs p q a → stays_in pairs p q a ≡ true
 stays_by pairs p q a f =
     and_from (never_adds_both pairs p q a) (never_adds_both pairs q p a && (all_keep_apart pairs p q a && all_keep_apart pairs q p a)) f.both
     (and_from (never_adds_both pairs q p a) (all_keep_apart pairs p q a && all_keep_apart pairs q p a) f.both_turned (and_from (all_keep_apart pairs p q a) (all_keep_apart pairs q p a) f.apart f.apart_turned))
 
 -- what stays in a set stays in a greater one
-pub stays_more : (g : Ground) (some more : Pairs) → IsPart some more → (p q : ℕ) → stays g some p q ≡ true → stays g more p q ≡ true
-stays_more g some more part p q h = all_weaker (stays_in some p q) (stays_in more p q) g.actions (λ a _ k.
+pub all_stay_more : (some more : Pairs) → IsPart some more → (p q : ℕ) (actions : List Action) → list_all (stays_in some p q) actions ≡ true → list_all (stays_in more p q) actions ≡ true
+all_stay_more some more part p q actions h = all_weaker (stays_in some p q) (stays_in more p q) actions (λ a _ k.
     let f = parts_of some p q a k in
     stays_by more p q a (record {
       both = both_more some more part p q a f.both;

@@ -1,6 +1,12 @@
 pub mod Greatest
 pub mod Marked
 pub mod Deletes
+pub mod Removing
+pub mod Walks
+pub mod Starting
+pub mod Initially
+pub mod Firing
+pub mod Written
 pub mod Places
 pub mod Best
 pub mod InOrder

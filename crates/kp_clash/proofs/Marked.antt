@@ -15,7 +15,7 @@ in_range : (a n q : ℕ) → a ≤ q → q < a + n → Member (range_with_len a 
 in_range a zero q h k = absurd (omega (arith, h, k))
 in_range a (suc n) q h k = ⊎_elim (λ (e : q ≡ a). inl (sym e)) (λ (ne : q ≢ a). inr (in_range (a + 1) n q (omega arith) (omega arith))) (cases_eq q a)
 
-in_all : (n p q : ℕ) → p < n → q < n → Member (all_below n) (p, q)
+pub in_all : (n p q : ℕ) → p < n → q < n → Member (all_below n) (p, q)
 in_all n p q h k =
     member_flat_map (λ p. map (λ q. (p, q)) (range_with_len 0 n)) (range_with_len 0 n) p (p, q) (in_range 0 n p (omega arith) (omega arith))
     (member_map (λ q. (p, q)) (range_with_len 0 n) q (in_range 0 n q (omega arith) (omega arith)))

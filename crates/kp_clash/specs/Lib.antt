@@ -1,4 +1,7 @@
 pub mod Counted
 pub mod Paired
+pub mod Removed
 pub mod Searching
 pub mod Settled
+pub mod Settling
+pub mod Starting

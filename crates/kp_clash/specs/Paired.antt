@@ -1,5 +1,5 @@
 -- Pairs of atoms as a list, and how they lie in a table of bits.
-use Rattle.std.specs.Prelude.{◌≡◌, ◌<◌, ◌+◌, ◌*◌, ℕ, Bool, false, ◌&&◌, ◌||◌, List, filter, flat_map, length, map, nat_eq, nat_lt, slice_index_or}
+use Rattle.std.specs.Prelude.{◌≡◌, ◌<◌, ◌+◌, ◌*◌, ℕ, Bool, false, ◌&&◌, ◌||◌, if◌then◌else◌, List, filter, flat_map, length, map, nat_eq, nat_lt, slice_index_or}
 use Rattle.std.specs.List.{list_any, range_with_len}
 use Rattle.kp_base.specs.Clashes.{Pairs}
 
@@ -35,3 +35,13 @@ marked n bits = filter (λ (x : ℕ × ℕ). bit_at_pair n bits x.0 x.1) (all_be
 pub record IsSquare (n : ℕ) (bits : List Bool) : Type 0 where
   pub square : length bits ≡ n * n
   pub counted : n * n < 4294967296
+
+-- the place of a pair
+abbrev pub place_of : ℕ → ℕ → ℕ → ℕ
+place_of n p q = if nat_lt p q then p * n + q else q * n + p
+
+-- the bit of one pair was written
+pub record IsWritten (n : ℕ) (old new : List Bool) (p q : ℕ) (b : Bool) : Type 0 where
+  pub square : IsSquare n new
+  pub here : is_marked n new p q ≡ b
+  pub others : (r s : ℕ) → are_both p q (r, s) ≡ false → is_marked n new r s ≡ is_marked n old r s

@@ -6,8 +6,8 @@ ghost use Rattle.kp_clash.specs.Paired.{is_pair};
 use crate::Pairs;
 use kp_base::{Lit, LitSet};
 
-// Whether the literals are never true together.
-fn are_exclusive(pairs: &Pairs, one: Lit, other: Lit) -> bool
+/// Whether the literals are never true together.
+pub(crate) fn are_exclusive(pairs: &Pairs, one: Lit, other: Lit) -> bool
     ensures { result ≡ are_exclusive (is_pair pairs.now) one other }
 {
     one.negated() == other || (one.positive && other.positive && pairs.has(one.atom, other.atom))

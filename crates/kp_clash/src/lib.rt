@@ -2,11 +2,16 @@
 //! `IsFirstClash` and `HasNoClash` in `kp_base/specs/Clashes.antt` say what `clash_test` gives.
 #![tactic(auto)]
 
+mod broken;
 mod clash;
 mod compatible;
 mod deleted;
+mod find;
 mod pairs;
-mod stays;
+mod settle;
+mod start;
+mod within;
 
 pub use clash::clash_test;
+pub use find::exclusive;
 pub use pairs::Pairs;

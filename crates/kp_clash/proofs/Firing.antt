@@ -1,0 +1,111 @@
+-- When literals are compatible with one more atom, and so when an effect breaks a pair.
+use Rattle.std.proofs.Common.{◌≡◌, ◌<◌, ◌⊎◌, ℕ, Bool, true, false, not, ◌&&◌, ◌||◌, List, [], ◌∷◌, ◌++◌, nat_eq, inl, inr, refl, sym, ap, ap₂, subst, ◌∙◌}
+use Rattle.std.proofs.lemmas.Bool.{and_parts, and_from, or_cases, or_left, or_right, false≢true, false_from_ne_true, true_from_ne_false, not-true}
+use Rattle.std.proofs.lemmas.List.{append-nil, append_assoc}
+use Rattle.std.proofs.lemmas.List.Folds.{list_any-append}
+use Rattle.std.specs.List.{list_any, list_all}
+use Rattle.kp_base.specs.declared.lit.Lit.{Lit}
+use Rattle.kp_base.specs.declared.ground.Effect.{Effect}
+use Rattle.kp_base.specs.declared.ground.Action.{Action}
+use Rattle.kp_base.specs.Lists.{Member}
+use Rattle.kp_base.specs.Lit.{positive, negative, negated, same_lit}
+use Rattle.kp_base.specs.Clashes.{Pairs, are_exclusive, are_compatible}
+use Rattle.kp_base.specs.Exclusive.{firing_with}
+use Rattle.kp_base.proofs.Lists.{bool_same, all_member, all_from, any_from, any_member, member_left, member_right, append_member}
+use Rattle.kp_base.proofs.Lits.{same_lit-true, same_lit-negated}
+use Rattle.kp_clash.specs.Settled.{deletes_within, keeps_apart}
+use Rattle.kp_clash.specs.Removed.{breaks}
+use Rattle.kp_clash.proofs.Greatest.{is_lit}
+use Rattle.kp_clash.proofs.Removing.{is_positive}
+
+-- ---- literals
+
+compatible_part : (pairs : Pairs) (xs ys : List Lit) → are_compatible pairs (xs ++ ys) ≡ true → are_compatible pairs xs ≡ true
+compatible_part pairs xs ys h =
+    all_from (λ k. list_all (λ l. not (are_exclusive pairs k l)) xs) xs (λ k in-k.
+    all_from (λ l. not (are_exclusive pairs k l)) xs (λ l in-l.
+    all_member (λ l. not (are_exclusive pairs k l)) (xs ++ ys) l (member_left xs ys l in-l) (all_member (λ k. list_all (λ l. not (are_exclusive pairs k l)) (xs ++ ys)) (xs ++ ys) k (member_left xs ys k in-k) h)))
+
+-- an effect that never fires breaks none
+pub breaks_not : (pairs : Pairs) (a : Action) (e : Effect) (q : ℕ) → are_compatible pairs (a.pre ++ (e.cond ++ [])) ≡ false → breaks pairs a e q ≡ false
+breaks_not pairs a e q n = false_from_ne_true (breaks pairs a e q) (λ h.
+    let x = and_parts e.result.positive (pairs e.result.atom.0 q && not (keeps_apart pairs e.result.atom.0 q a e)) h in
+    let y = and_parts (pairs e.result.atom.0 q) (not (keeps_apart pairs e.result.atom.0 q a e)) x.1 in
+    let never : are_compatible pairs (firing_with a e q) ≡ false = false_from_ne_true (are_compatible pairs (firing_with a e q)) (λ k.
+    let grouped : are_compatible pairs ((a.pre ++ e.cond) ++ positive q ∷ []) ≡ true = ap (are_compatible pairs) (append_assoc a.pre e.cond (positive q ∷ [])) ∙ k in
+    false≢true (sym n ∙ (ap (λ z. are_compatible pairs (a.pre ++ z)) (append-nil e.cond) ∙ compatible_part pairs (a.pre ++ e.cond) (positive q ∷ []) grouped))) in
+    let apart : keeps_apart pairs e.result.atom.0 q a e ≡ true = or_right (not (same_lit e.result (positive e.result.atom.0))) (not (are_compatible pairs (firing_with a e q)) || deletes_within a q (firing_with a e q)) (or_left (not (are_compatible pairs (firing_with a e q))) (deletes_within a q (firing_with a e q)) (ap not never)) in
+    false≢true (sym (not-true (keeps_apart pairs e.result.atom.0 q a e) y.1) ∙ apart))
+
+-- ---- literals with one more
+
+module _ (pairs : Pairs) (turn : (p q : ℕ) → pairs p q ≡ pairs q p) (different : (p : ℕ) → pairs p p ≡ false) where
+  exclusive_turned : (k l : Lit) → are_exclusive pairs k l ≡ true → are_exclusive pairs l k ≡ true
+  exclusive_turned k l h = elim (or_cases (same_lit (negated k) l) (k.positive && l.positive && pairs k.atom.0 l.atom.0) h) [
+    | inl e ↦ or_left (same_lit (negated l) k) (l.positive && k.positive && pairs l.atom.0 k.atom.0) (same_lit-negated l k ∙ is_lit l (negated k) (sym (same_lit-true (negated k) l e)))
+    | inr e ↦
+        let x = and_parts (k.positive && l.positive) (pairs k.atom.0 l.atom.0) e in
+        let y = and_parts k.positive l.positive x.0 in
+        or_right (same_lit (negated l) k) (l.positive && k.positive && pairs l.atom.0 k.atom.0) (and_from (l.positive && k.positive) (pairs l.atom.0 k.atom.0) (and_from l.positive k.positive y.1 y.0) (turn l.atom.0 k.atom.0 ∙ x.1))
+  ]
+
+  never_itself : (q : ℕ) → are_exclusive pairs (positive q) (positive q) ≡ false
+  never_itself q = false_from_ne_true (are_exclusive pairs (positive q) (positive q)) (λ h. elim (or_cases (same_lit (negative q) (positive q)) (pairs q q) h) [
+    | inl e ↦ let same : negative q ≡ positive q = same_lit-true (negative q) (positive q) e in absurd (false≢true (ap (λ l. l.positive) same))
+    | inr e ↦ false≢true (sym (different q) ∙ e)
+  ])
+
+  -- compatible literals are so with one more atom where none excludes it
+  compatible_with : (xs : List Lit) (q : ℕ) → are_compatible pairs xs ≡ true → are_compatible pairs (xs ++ positive q ∷ []) ≡ not (list_any (λ l. are_exclusive pairs l (positive q)) xs)
+  compatible_with xs q fine = bool_same (are_compatible pairs (xs ++ positive q ∷ [])) (not (list_any (λ l. are_exclusive pairs l (positive q)) xs)) none both
+    where
+      none : are_compatible pairs (xs ++ positive q ∷ []) ≡ true → not (list_any (λ l. are_exclusive pairs l (positive q)) xs) ≡ true
+      none h = ap not (false_from_ne_true (list_any (λ l. are_exclusive pairs l (positive q)) xs) (λ e.
+          let x = any_member (λ l. are_exclusive pairs l (positive q)) xs e in
+          let row = all_member (λ k. list_all (λ l. not (are_exclusive pairs k l)) (xs ++ positive q ∷ [])) (xs ++ positive q ∷ []) x.0 (member_left xs (positive q ∷ []) x.0 x.1) h in
+          let apart = all_member (λ l. not (are_exclusive pairs x.0 l)) (xs ++ positive q ∷ []) (positive q) (member_right xs (positive q ∷ []) (positive q) (inl refl)) row in
+          false≢true (sym (not-true (are_exclusive pairs x.0 (positive q)) apart) ∙ x.2)))
+
+      both : not (list_any (λ l. are_exclusive pairs l (positive q)) xs) ≡ true → are_compatible pairs (xs ++ positive q ∷ []) ≡ true
+      both n =
+          all_from (λ k. list_all (λ l. not (are_exclusive pairs k l)) (xs ++ positive q ∷ [])) (xs ++ positive q ∷ []) (λ k in-k.
+          all_from (λ l. not (are_exclusive pairs k l)) (xs ++ positive q ∷ []) (λ l in-l.
+          ap not (false_from_ne_true (are_exclusive pairs k l) (apart k l (append_member xs (positive q ∷ []) k in-k) (append_member xs (positive q ∷ []) l in-l)))))
+        where
+          free : (l : Lit) → Member xs l → are_exclusive pairs l (positive q) ≡ true → ⊥
+          free l m e = false≢true (sym (not-true (list_any (λ l. are_exclusive pairs l (positive q)) xs) n) ∙ any_from (λ l. are_exclusive pairs l (positive q)) xs l m e)
+
+          one : (l : Lit) → Member (positive q ∷ []) l → positive q ≡ l
+          one l m = elim m [ inl e ↦ e | inr r ↦ absurd r ]
+
+          apart : (k l : Lit) → Member xs k ⊎ Member (positive q ∷ []) k → Member xs l ⊎ Member (positive q ∷ []) l → are_exclusive pairs k l ≡ true → ⊥
+          apart k l (inl a) (inl b) e = false≢true (sym (not-true (are_exclusive pairs k l) (all_member (λ l. not (are_exclusive pairs k l)) xs l b (all_member (λ k. list_all (λ l. not (are_exclusive pairs k l)) xs) xs k a fine))) ∙ e)
+          apart k l (inl a) (inr b) e = free k a (subst (λ (m : Lit). are_exclusive pairs k m ≡ true) (sym (one l b)) e)
+          apart k l (inr a) (inl b) e = free l b (exclusive_turned (positive q) l (subst (λ (m : Lit). are_exclusive pairs m l ≡ true) (sym (one k a)) e))
+          apart k l (inr a) (inr b) e = false≢true (sym (never_itself q) ∙ ap₂ (are_exclusive pairs) (one k a) (one l b) ∙ e)
+
+  -- ---- effects
+
+  -- what else than the other atom's being true stands against it
+  pub breaks_where : (a : Action) (e : Effect) (q : ℕ) → e.result.positive ≡ true → are_compatible pairs (a.pre ++ e.cond) ≡ true
+      → (pairs e.result.atom.0 q && not (list_any (λ l. are_exclusive pairs l (positive q)) a.pre || (list_any (λ l. are_exclusive pairs l (positive q)) e.cond || deletes_within a q (firing_with a e q)))) ≡ breaks pairs a e q
+  breaks_where a e q adds fine = sym (ap₂ (λ x y. x && (pairs e.result.atom.0 q && not y)) adds kept)
+    where
+      not_both : (x y z : Bool) → (not (not (x || y)) || z) ≡ (x || (y || z))
+      not_both true y z = refl
+      not_both false true z = refl
+      not_both false false z = refl
+
+      fires : are_compatible pairs (firing_with a e q) ≡ not (list_any (λ l. are_exclusive pairs l (positive q)) a.pre || list_any (λ l. are_exclusive pairs l (positive q)) e.cond)
+      fires = ap (are_compatible pairs) (sym (append_assoc a.pre e.cond (positive q ∷ []))) ∙ (compatible_with (a.pre ++ e.cond) q fine ∙ ap not (list_any-append (λ l. are_exclusive pairs l (positive q)) a.pre e.cond))
+
+      kept : keeps_apart pairs e.result.atom.0 q a e ≡ (list_any (λ l. are_exclusive pairs l (positive q)) a.pre || (list_any (λ l. are_exclusive pairs l (positive q)) e.cond || deletes_within a q (firing_with a e q)))
+      kept = ap₂ (λ x y. not x || (not y || deletes_within a q (firing_with a e q))) (is_positive e adds) fires ∙ not_both (list_any (λ l. are_exclusive pairs l (positive q)) a.pre) (list_any (λ l. are_exclusive pairs l (positive q)) e.cond) (deletes_within a q (firing_with a e q))
+
+  -- the same at a pair, and where there is none
+  pub breaks_paired : (a : Action) (e : Effect) (q : ℕ) → e.result.positive ≡ true → are_compatible pairs (a.pre ++ e.cond) ≡ true → pairs e.result.atom.0 q ≡ true
+      → not (list_any (λ l. are_exclusive pairs l (positive q)) a.pre || (list_any (λ l. are_exclusive pairs l (positive q)) e.cond || deletes_within a q (firing_with a e q))) ≡ breaks pairs a e q
+  breaks_paired a e q adds fine pair = ap (λ x. x && not (list_any (λ l. are_exclusive pairs l (positive q)) a.pre || (list_any (λ l. are_exclusive pairs l (positive q)) e.cond || deletes_within a q (firing_with a e q)))) (sym pair) ∙ breaks_where a e q adds fine
+
+  pub breaks_unpaired : (a : Action) (e : Effect) (q : ℕ) → e.result.positive ≡ true → are_compatible pairs (a.pre ++ e.cond) ≡ true → pairs e.result.atom.0 q ≡ false → false ≡ breaks pairs a e q
+  breaks_unpaired a e q adds fine none = ap (λ x. x && not (list_any (λ l. are_exclusive pairs l (positive q)) a.pre || (list_any (λ l. are_exclusive pairs l (positive q)) e.cond || deletes_within a q (firing_with a e q)))) (sym none) ∙ breaks_where a e q adds fine

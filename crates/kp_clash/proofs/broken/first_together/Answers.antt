@@ -1,0 +1,12 @@
+use Rattle.std.proofs.Common.{◌≡◌, sym, ◌∙◌}
+use Rattle.kp_base.specs.Lists.{Member}
+use Rattle.kp_clash.specs.Paired.{is_pair}
+use Rattle.kp_clash.proofs.Removing.{adds_broken}
+use Rattle.kp_clash.proofs.Walks.{item_member}
+use Rattle.kp_clash.proofs.broken.first_together.Goals as goal
+
+pub returns-then-adds_pair : goal.returns-then-adds_pair
+returns-then-adds_pair c =
+    let in-items = item_member c.slice-other-items.result.now c.loop-other.other-index c.other-item.result c.loop-other-test.true c.other-item.is in
+    let in-effects : Member c.args.action.now.effects c.other-item.result = rw c.slice-other-items.ensures at in-items in
+    adds_broken (is_pair c.args.pairs.now) c.args.action.now c.args.effect.now c.other-item.result c.requires in-effects (sym c.adds_pair.ensures ∙ c.if-adds_pair.true)

@@ -1,0 +1,12 @@
+use Rattle.std.proofs.Common.{[], ◌∷◌}
+use Rattle.kp_clash.proofs.Removing.{shrinks_on}
+use Rattle.kp_clash.proofs.Walks.{item_member}
+use Rattle.kp_clash.proofs.settle.clear_effect.Goals as goal
+
+pub clear_both-requires-clause-other : goal.clear_both-requires-clause-other
+clear_both-requires-clause-other c =
+    let in-items = item_member c.slice-other-items.result.now c.loop-other.other-index c.other-item.result c.loop-other-test.true c.other-item.is in
+    rw c.slice-other-items.ensures at in-items
+
+pub loop-other-preserved : goal.loop-other-preserved
+loop-other-preserved c = shrinks_on (c.args.action.now ∷ []) c.args.pairs.now c.loop-other.pairs c.clear_both.new.pairs c.loop-other.invariant c.clear_both.ensures

@@ -1,0 +1,127 @@
+//! Looks for a pair that doesn't stay.
+ghost use Rattle.std.specs.Prelude.{◌≡◌, ◌++◌, ◌||◌, [], ◌∷◌, ℕ, true, false};
+ghost use Rattle.std.specs.List.{list_any};
+ghost use Rattle.kp_base.specs.Clashes.{are_exclusive, are_compatible};
+ghost use Rattle.kp_base.specs.Exclusive.{firing_with};
+ghost use Rattle.kp_base.specs.Lists.{Member};
+ghost use Rattle.kp_base.specs.Lit.{positive};
+ghost use Rattle.kp_clash.specs.Paired.{is_pair};
+ghost use Rattle.kp_clash.specs.Settled.{deletes_within};
+ghost use Rattle.kp_clash.specs.Removed.{breaks, adds_pair, FindsAlone, FindsTogether, FindsOfEffect, FindsBroken};
+
+use crate::Pairs;
+use crate::compatible::{all_compatible, are_compatible, are_exclusive};
+use crate::within::{deletes_within, holding};
+use kp_base::{Action, AtomId, Effect, Ground, Lit};
+
+// Whether some literal is never true together with the atom.
+fn excludes(pairs: &Pairs, lits: &[Lit], atom: AtomId) -> bool
+    ensures { result ≡ list_any (λ l. are_exclusive (is_pair pairs.now) l (positive atom.0)) lits.now }
+{
+    lits.iter().any(|l| are_exclusive(pairs, *l, holding(atom)))
+}
+
+// Whether a literal excludes the atom, or a delete of it comes with the effect.
+fn is_against(pairs: &Pairs, action: &Action, effect: &Effect, q: AtomId) -> bool
+    ensures { result ≡ (list_any (λ l. are_exclusive (is_pair pairs.now) l (positive q.0)) action.now.pre || (list_any (λ l. are_exclusive (is_pair pairs.now) l (positive q.0)) effect.now.cond || deletes_within action.now q.0 (firing_with action.now effect.now q.0))) }
+{
+    let pre = action.pre.slice();
+    let cond = effect.cond.slice();
+    let other = [holding(q)];
+    excludes(pairs, pre, q)
+        || (excludes(pairs, cond, q) || deletes_within(action, q, pre, cond, &other))
+}
+
+// Whether the effect, which may fire, adds one atom of a pair where the other may be true and stay.
+fn breaks(pairs: &Pairs, action: &Action, effect: &Effect, q: AtomId) -> bool
+    requires different { (p : ℕ) → is_pair pairs.now p p ≡ false }
+    requires adds { effect.now.result.positive ≡ true }
+    requires compatible { are_compatible (is_pair pairs.now) (action.now.pre ++ effect.now.cond) ≡ true }
+    ensures { result ≡ breaks (is_pair pairs.now) action.now effect.now q.0 }
+{
+    pairs.has(effect.result.atom, q) && !is_against(pairs, action, effect, q)
+}
+
+/// The other atom of the first pair, from an atom on, that the effect breaks alone.
+pub(crate) fn next_alone(
+    pairs: &Pairs,
+    action: &Action,
+    effect: &Effect,
+    from: u32,
+) -> Option<AtomId>
+    ensures { FindsAlone (is_pair pairs.now) action.now effect.now from result }
+{
+    if !effect.result.positive {
+        return None;
+    }
+    if !all_compatible(pairs, action.pre.slice(), effect.cond.slice(), &[]) {
+        return None;
+    }
+    let atoms = pairs.atoms();
+    for q in from..atoms {
+        if breaks(pairs, action, effect, AtomId(q)) {
+            return Some(AtomId(q));
+        }
+    }
+    None
+}
+
+/// Whether the effects may add both atoms of a pair.
+pub(crate) fn adds_pair(pairs: &Pairs, action: &Action, one: &Effect, other: &Effect) -> bool
+    ensures { result ≡ adds_pair (is_pair pairs.now) action.now one.now other.now }
+{
+    (one.result.positive
+        && (other.result.positive && pairs.has(one.result.atom, other.result.atom)))
+        && are_compatible(pairs, &action.pre, &one.cond, &other.cond)
+}
+
+// The other atom of the first pair that the effect breaks together with another effect.
+fn first_together(pairs: &Pairs, action: &Action, effect: &Effect) -> Option<AtomId>
+    requires { Member action.now.effects effect.now }
+    ensures { FindsTogether (is_pair pairs.now) action.now effect.now result }
+{
+    for other in action.effects.slice() {
+        if adds_pair(pairs, action, effect, other) {
+            return Some(other.result.atom);
+        }
+    }
+    None
+}
+
+// A pair that the effect breaks.
+fn of_effect(pairs: &Pairs, action: &Action, effect: &Effect) -> Option<(AtomId, AtomId)>
+    requires { Member action.now.effects effect.now }
+    ensures { FindsOfEffect (is_pair pairs.now) action.now effect.now result }
+{
+    if let Some(q) = next_alone(pairs, action, effect, 0) {
+        return Some((effect.result.atom, q));
+    }
+    match first_together(pairs, action, effect) {
+        Some(q) => Some((effect.result.atom, q)),
+        None => None,
+    }
+}
+
+// A pair that an effect of the action breaks.
+fn of_action(pairs: &Pairs, action: &Action) -> Option<(AtomId, AtomId)>
+    ensures { FindsBroken (is_pair pairs.now) (action.now ∷ []) result }
+{
+    for effect in action.effects.slice() {
+        if let Some(found) = of_effect(pairs, action, effect) {
+            return Some(found);
+        }
+    }
+    None
+}
+
+/// A pair that doesn't stay, if there is one.
+pub(crate) fn broken(ground: &Ground, pairs: &Pairs) -> Option<(AtomId, AtomId)>
+    ensures { FindsBroken (is_pair pairs.now) ground.now.actions result }
+{
+    for action in ground.actions.slice() {
+        if let Some(found) = of_action(pairs, action) {
+            return Some(found);
+        }
+    }
+    None
+}

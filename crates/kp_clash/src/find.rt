@@ -1,0 +1,41 @@
+ghost use Rattle.std.specs.Prelude.{◌≡◌, length, IfOk};
+ghost use Rattle.kp_base.specs.Exclusive.{AreExclusive};
+ghost use Rattle.kp_primes.specs.Held.{formula};
+ghost use Rattle.kp_clash.specs.Paired.{is_pair};
+ghost use Rattle.kp_clash.specs.Settling.{AreNeverTogether};
+
+use crate::Pairs;
+use crate::settle::settle;
+use crate::start::mark_clauses;
+use kp_base::{Ground, Memory};
+use kp_bits::Bits;
+use kp_primes::Primes;
+use std::alloc::Global;
+
+// The pairs of so many atoms that no initial state has together.
+fn never_together(alloc: Global, atoms: u32, primes: &Primes) -> Result<Pairs, Memory>
+    requires { primes.now.atoms ≡ atoms }
+    ensures { IfOk result (λ pairs. AreNeverTogether (formula primes.now) atoms (is_pair pairs)) }
+{
+    let Some(size) = atoms.checked_mul(atoms) else {
+        return Err(Memory);
+    };
+    let mut table = Bits::new(alloc, size)?;
+    let clauses = primes.clauses();
+    mark_clauses(atoms, &mut table, clauses.slice());
+    Ok(Pairs::of_table(atoms, table))
+}
+
+/// The pairs of atoms that are never true together, by the greatest condition of pairs that holds in the initial states
+/// and that each action keeps. The initial states are those of the prime implicates.
+pub fn exclusive(alloc: Global, ground: &Ground, primes: &Primes) -> Result<Pairs, Memory>
+    requires { primes.now.atoms ≡ length ground.now.atoms }
+    ensures { IfOk result (λ pairs. AreExclusive ground.now (formula primes.now) (length ground.now.atoms) (is_pair pairs)) }
+{
+    let Ok(atoms) = u32::try_from(ground.atoms.len()) else {
+        return Err(Memory);
+    };
+    let mut pairs = never_together(alloc, atoms, primes)?;
+    settle(ground, &mut pairs);
+    Ok(pairs)
+}
