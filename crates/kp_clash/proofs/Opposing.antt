@@ -6,7 +6,6 @@ use Rattle.kp_base.specs.declared.lit.Lit.{Lit}
 use Rattle.kp_base.specs.Lists.{Member}
 use Rattle.kp_base.specs.Lit.{negated, same_lit}
 use Rattle.kp_base.specs.Steps.{has}
-use Rattle.kp_base.specs.LitSet.{Opposed}
 use Rattle.kp_base.specs.Clashes.{no_pairs, are_exclusive, are_compatible}
 use Rattle.kp_base.proofs.Lists.{bool_same, all_from, all_member, any_from, any_member, member_left, member_right, append_member}
 use Rattle.kp_base.proofs.Lits.{same_lit-true, same_lit-refl, negated-negated, has-member, member-has}
@@ -25,27 +24,6 @@ opposing ks ls h =
 
 pub opposes_by : (ks ls : List Lit) → Opposing ks ls → opposes ks ls ≡ true
 opposes_by ks ls o = any_from (λ k. has ls (negated k)) ks o.lit o.here (has-member ls (negated o.lit) o.there)
-
--- ---- lists of literals as the sets see them
-
-contains_member : (ls : List Lit) (l : Lit) → Contains ls l → Member ls l
-contains_member [] l (k, lt, e) = absurd (omega (arith, lt))
-contains_member (x ∷ ls) l (zero, lt, e) = inl e
-contains_member (x ∷ ls) l (suc k, lt, e) = inr (contains_member ls l (k, omega (arith, lt), e))
-
-member_contains : (ls : List Lit) (l : Lit) → Member ls l → Contains ls l
-member_contains [] l m = absurd m
-member_contains (x ∷ ls) l (inl e) = (zero, omega arith, e)
-member_contains (x ∷ ls) l (inr m) = let r = member_contains ls l m in let lt = r.1 in (suc r.0, omega (arith, lt), r.2)
-
-pub opposed_opposes : (ks ls : List Lit) → Opposed ks ls → opposes ks ls ≡ true
-opposed_opposes ks ls h = opposes_by ks ls (record { lit = h.1; here = contains_member ks h.1 (h.0, h.2, h.3); there = contains_member ls (negated h.1) h.4 })
-
-pub opposes_opposed : (ks ls : List Lit) → opposes ks ls ≡ true → Opposed ks ls
-opposes_opposed ks ls h =
-    let o = opposing ks ls h in
-    let at = member_contains ks o.lit o.here in
-    (at.0, o.lit, at.1, at.2, member_contains ls (negated o.lit) o.there)
 
 -- the same the other way round
 swapped : (ks ls : List Lit) → Opposing ks ls → Opposing ls ks
