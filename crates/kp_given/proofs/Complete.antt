@@ -4,12 +4,11 @@ use Rattle.std.specs.List.{range_with_len}
 use Rattle.std.proofs.lemmas.Bool.{or_left, or_right, or_cases, not-true}
 use Rattle.kp_base.specs.declared.lit.Lit.{Lit}
 use Rattle.kp_base.specs.declared.ground.Initial.{Initial}
-use Rattle.kp_base.specs.Lists.{Member}
 use Rattle.kp_base.specs.Lit.{positive, negative}
 use Rattle.kp_base.specs.Steps.{State, has, is_model}
-use Rattle.kp_base.specs.Entailed.{Entails, IsClosure}
+use Rattle.kp_base.specs.Entailed.{IsClosure}
 use Rattle.kp_base.proofs.Lists.{all_from, all_member}
-use Rattle.kp_texts.specs.Report.{is_known, is_complete}
+use Rattle.kp_texts.specs.Report.{is_known}
 use Rattle.kp_init.proofs.Closure.{closure_exact, range_there, range_only}
 use Rattle.kp_given.specs.Translations.{ground_of, initial_of, start_of}
 use Rattle.kp_given.specs.Laws.{HasOneValue, CompleteStartsHaveOneValue}

@@ -9,4 +9,3 @@ beq-true a b h = (booleans_Decides a b).0 h
 
 pub beq-refl : (a : Bool) → beq a a ≡ true
 beq-refl a = (booleans_Decides a a).1 refl
-
