@@ -1,3 +1,4 @@
+use crate::limits::{CELLS, ONE_IS_FULL};
 use kp_outside::{MemoryShelf, MemorySink};
 use kp_run::run;
 use std::alloc::{AllocError, Global};
@@ -132,8 +133,14 @@ fn each_answer(rt: HostRuntime) -> Result<(), Fail> {
             "atoms 2\nactions 4\ntags 1\nmerges 0\nfacts 4\ncomplete\n",
         ),
         (
-            "(define (domain cells) (:predicates (x1) (x2) (x3)) (:action left :effect (and (when (x3) (and (x2) (not (x3)))) (when (x2) (and (x1) (not (x2)))))))",
-            "(define (problem c) (:domain cells) (:init (oneof (x1) (x2) (x3))) (:goal (x1)))",
+            CELLS,
+            ONE_IS_FULL,
+            0,
+            "atoms 3\nactions 1\ntags 1\nmerges 0\nfacts 6\n",
+        ),
+        (
+            CELLS,
+            "(define (problem c) (:domain cells) (:init (or (x1) (x2) (x3))) (:goal (x1)))",
             3,
             "refused 13 Clash\naction (left)\natom (x2)\nadd (x3)\ndelete (x2)\n",
         ),

@@ -1,6 +1,6 @@
 -- One model, and the table of the empty tag alone: each premise of the other laws is met.
 use Rattle.std.proofs.Common.{◌≡◌, ◌≢◌, ◌<◌, ℕ, zero, suc, Bool, true, false, ◌&&◌, List, [], ◌∷◌, codes, map, inl, inr, refl, sym, ap, subst, ◌∙◌, arith}
-use Rattle.std.proofs.lemmas.Bool.{false≢true}
+use Rattle.std.proofs.lemmas.Bool.{and_left, and_right, false≢true}
 use Rattle.std.specs.List.{list_all}
 use Rattle.kp_base.specs.declared.lit.Lit.{Lit}
 use Rattle.kp_base.specs.declared.ground.GroundName.{GroundName}
@@ -61,7 +61,7 @@ both_atoms (suc zero) zero = true
 both_atoms _ _ = false
 
 -- a set of pairs is exclusive that is inductive and has each two of two atoms
-pub exclusive_of_two : (g : Ground) (i : Initial) → IsInductive g i 2 both_atoms → AreExclusive g i 2 both_atoms
+exclusive_of_two : (g : Ground) (i : Initial) → IsInductive g i 2 both_atoms → AreExclusive g i 2 both_atoms
 exclusive_of_two g i ind = record {
   each = λ p q pair. record { pairs = both_atoms; inductive = ind; has_pair = pair };
   all = λ p q x. let are = x.inductive.are_pairs in two p q (are.of_atoms p q x.has_pair) (are.of_atoms q p (are.either_order p q x.has_pair)) (are.different p q x.has_pair);
@@ -75,7 +75,7 @@ exclusive_of_two g i ind = record {
     two (suc (suc p)) q below also differ = absurd (omega (arith, below))
     two p (suc (suc q)) below also differ = absurd (omega (arith, also))
 
-pub are_both : ArePairs 2 both_atoms
+are_both : ArePairs 2 both_atoms
 are_both = record { of_atoms = below; different = differ; either_order = turned }
   where
     below : (p q : ℕ) → both_atoms p q ≡ true → p < 2
@@ -141,22 +141,22 @@ closure_is_right = record {
 
 -- ---- pairs and clashes
 
--- p and q are never true together: where q comes, p goes
-pub both_inductive : IsInductive small start_of_small 2 both_atoms
-both_inductive = record {
+-- where q is false at the start, p and q are never true together: where q comes, p goes
+both_inductive : (i : Initial) → ((s : State) → is_model i s ≡ true → s 1 ≡ false) → IsInductive small i 2 both_atoms
+both_inductive i no_q = record {
   are_pairs = are_both;
-  never_at_the_start = λ p q pair s model. at_start p q pair s (start_is_so s model);
+  never_at_the_start = λ p q pair s model. at_start p q pair s (no_q s model);
   never_both_added = λ p q pair a e f in-a in-e in-f adds-e adds-f. absurd (never_twice p q pair a e f in-a in-e in-f adds-e adds-f);
   other_deleted = λ p q pair a e in-a in-e adds _. goes p q pair a e in-a in-e adds;
 }
   where
-    at_start : (p q : ℕ) → both_atoms p q ≡ true → (s : State) → (s 0 ≡ true) × (s 1 ≡ false) → (s p && s q) ≡ false
-    at_start zero zero pair s so = absurd (false≢true pair)
-    at_start zero (suc zero) pair s so = rw (so.0, so.1) refl
-    at_start zero (suc (suc q)) pair s so = absurd (false≢true pair)
-    at_start (suc zero) zero pair s so = rw (so.0, so.1) refl
-    at_start (suc zero) (suc q) pair s so = absurd (false≢true pair)
-    at_start (suc (suc p)) q pair s so = absurd (false≢true pair)
+    at_start : (p q : ℕ) → both_atoms p q ≡ true → (s : State) → s 1 ≡ false → (s p && s q) ≡ false
+    at_start zero zero pair s none = absurd (false≢true pair)
+    at_start zero (suc zero) pair s none = and_right (s 0) (s 1) none
+    at_start zero (suc (suc q)) pair s none = absurd (false≢true pair)
+    at_start (suc zero) zero pair s none = and_left (s 1) (s 0) none
+    at_start (suc zero) (suc q) pair s none = absurd (false≢true pair)
+    at_start (suc (suc p)) q pair s none = absurd (false≢true pair)
 
     of_swap : (a : Action) (e : Effect) → Member small.actions a → Member a.effects e → Member swap.effects e
     of_swap a e (inl m) in-e = subst (λ (x : Action). Member x.effects e) (sym m) in-e
@@ -180,8 +180,8 @@ both_inductive = record {
         by a (inl m) {ls} d = subst (λ (x : Action). Deletes x q ls) m d
         by a (inr m) d = absurd m
 
-free : IsClashFree small start_of_small
-free = record { pairs = both_atoms; exclusive = exclusive_of_two small start_of_small both_inductive; none = none }
+pub free : (i : Initial) → ((s : State) → is_model i s ≡ true → s 1 ≡ false) → IsClashFree small i
+free i no_q = record { pairs = both_atoms; exclusive = exclusive_of_two small i (both_inductive i no_q); none = none }
   where
     none_of_swap : (p k j : ℕ) → Clashes both_atoms swap p k j → ⊥
     none_of_swap p k j c =
@@ -194,7 +194,7 @@ free = record { pairs = both_atoms; exclusive = exclusive_of_two small start_of_
     none (suc n) p k j a at c = absurd cc
 
 pub never : NeverClashes small start_of_small
-never = never_clashes small start_of_small free
+never = never_clashes small start_of_small (free start_of_small (λ s model. (start_is_so s model).1))
 
 -- ---- accepted lists
 

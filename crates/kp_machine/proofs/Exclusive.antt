@@ -32,11 +32,17 @@ inductive_by_models g i j atoms pairs same ind = record {
 exclusive_by_models : (g : Ground) (i j : Initial) (atoms p q : ℕ) → HaveSameModels i j → IsExclusive g i atoms p q → IsExclusive g j atoms p q
 exclusive_by_models g i j atoms p q same x = record { pairs = x.pairs; inductive = inductive_by_models g i j atoms x.pairs same x.inductive; has_pair = x.has_pair }
 
-pub by_models : (g : Ground) (i j : Initial) (atoms : ℕ) (pairs : Pairs) → HaveSameModels i j → AreExclusive g i atoms pairs → AreExclusive g j atoms pairs
+by_models : (g : Ground) (i j : Initial) (atoms : ℕ) (pairs : Pairs) → HaveSameModels i j → AreExclusive g i atoms pairs → AreExclusive g j atoms pairs
 by_models g i j atoms pairs same are = record {
   each = λ p q pair. exclusive_by_models g i j atoms p q same (are.each p q pair);
   all = λ p q x. are.all p q (exclusive_by_models g j i atoms p q (λ s. sym (same s)) x);
 }
+
+pub first_by_models : (g : Ground) (i j : Initial) (c : ClashAt) → HaveSameModels i j → ClashesFirst g i c → ClashesFirst g j c
+first_by_models g i j c same h = record { pairs = h.pairs; exclusive = by_models g i j (length g.atoms) h.pairs same h.exclusive; first = h.first }
+
+pub free_by_models : (g : Ground) (i j : Initial) → HaveSameModels i j → IsClashFree g i → IsClashFree g j
+free_by_models g i j same h = record { pairs = h.pairs; exclusive = by_models g i j (length g.atoms) h.pairs same h.exclusive; none = h.none }
 
 -- ---- one set
 
@@ -44,7 +50,7 @@ by_models g i j atoms pairs same are = record {
 abbrev pub AreSame : Pairs → Pairs → Type 0
 AreSame some other = (p q : ℕ) → some p q ≡ other p q
 
-pub same_pairs : (g : Ground) (i : Initial) (atoms : ℕ) (some other : Pairs) → AreExclusive g i atoms some → AreExclusive g i atoms other → AreSame some other
+same_pairs : (g : Ground) (i : Initial) (atoms : ℕ) (some other : Pairs) → AreExclusive g i atoms some → AreExclusive g i atoms other → AreSame some other
 same_pairs g i atoms some other one two p q = bool_same (some p q) (other p q) (λ h. two.all p q (one.each p q h)) (λ h. one.all p q (two.each p q h))
 
 -- ---- clashes under the same pairs

@@ -8,7 +8,8 @@ use Rattle.kp_base.specs.declared.refused.Refused.{Refused}
 use Rattle.kp_base.specs.Steps.{State, is_model}
 use Rattle.kp_base.specs.LitSet.{IsAscending}
 use Rattle.kp_base.specs.Entailed.{IsClosure}
-use Rattle.kp_base.specs.Clashes.{no_pairs, HasNoClash, IsFirstClash}
+use Rattle.kp_base.specs.Exclusive.{ClashesFirst, IsClashFree}
+use Rattle.kp_machine.proofs.Exclusive.{first_by_models, free_by_models}
 use Rattle.kp_base.specs.declared.refused.ClashAt.{ClashAt}
 use Rattle.kp_grammar.specs.declared.tree.Word.{Word}
 use Rattle.kp_grammar.specs.Trees.{Domain, Problem}
@@ -98,12 +99,12 @@ module _ (limit : ℕ) (l : Numbers) (g : Ground) (is : g ≡ by_number.ground_o
   counted = record { never_over = holds.never_over; has_model = holds.has_model }
 
   -- an action clashes
-  pub clash_ends : (at : ClashAt) (text : List ℕ) → IsFirstClash no_pairs g at → text ≡ clash_text g at → EndsBy limit l (reports.Clash at text)
-  clash_ends at text first own = by_clash at text counted (subst (λ (x : Ground). IsFirstClash no_pairs x at) is first) (own ∙ ap (λ (x : Ground). clash_text x at) is)
+  pub clash_ends : (at : ClashAt) (text : List ℕ) → ClashesFirst g (formula h) at → text ≡ clash_text g at → EndsBy limit l (reports.Clash at text)
+  clash_ends at text first own = by_clash at text counted (subst (λ (x : Ground). ClashesFirst x (initial_of l) at) is (first_by_models g (formula h) (initial_of l) at holds.same_models first)) (own ∙ ap (λ (x : Ground). clash_text x at) is)
 
   -- none does
-  pub done_ends : (t : Translation) (start : List Lit) → HasNoClash no_pairs g → AnswersClosure h [] (Some start) → IsAscending start → t ≡ texts.translation_of g start → EndsBy limit l (reports.Done t)
-  done_ends t start none answers up own = by_translation t counted (subst (HasNoClash no_pairs) is none) (record {
+  pub done_ends : (t : Translation) (start : List Lit) → IsClashFree g (formula h) → AnswersClosure h [] (Some start) → IsAscending start → t ≡ texts.translation_of g start → EndsBy limit l (reports.Done t)
+  done_ends t start none answers up own = by_translation t counted (subst (λ (x : Ground). IsClashFree x (initial_of l)) is (free_by_models g (formula h) (initial_of l) holds.same_models none)) (record {
     start = start;
     closure = record {
       closure = same_closure (length (by_number.ground_of l).atoms) (formula h) (initial_of l) [] start holds.same_models (subst (λ n. IsClosure n (formula h) [] start) (holds.atoms_are ∙ ap (λ (x : Ground). length x.atoms) is) answers.1);

@@ -1,16 +1,18 @@
 -- Words and what is held, with the one answer and result: translations, the usage, each kind of refusal and a clash, and none where a file isn't held.
-use Rattle.std.proofs.Common.{◌≡◌, ◌≢◌, ◌<◌, ◌≤◌, ◌^◌, ℕ, zero, suc, Bool, true, false, not, ◌&&◌, ◌||◌, List, [], ◌∷◌, length, take, nat_eq, Option, Some, None, Vec, codes, inl, inr, refl, sym, ap, subst, ◌∙◌, arith}
+use Rattle.std.proofs.Common.{◌≡◌, ◌≢◌, ◌<◌, ◌≤◌, ◌^◌, ℕ, zero, suc, Bool, true, false, not, ◌&&◌, ◌||◌, List, [], ◌∷◌, length, take, nat_eq, Some, Vec, codes, inl, inr, refl, sym, ap, subst, ◌∙◌, arith}
 use Rattle.std.specs.FinMap.{empty, get, insert, get-empty}
 use Rattle.std.specs.Fmt.{digits}
-use Rattle.std.specs.List.{starts_with}
+use Rattle.std.specs.List.{list_all, starts_with}
 use Rattle.std.specs.Ordering.{nat_cmp}
 use Rattle.std.specs.Cmp.Lexicographic.{slice_cmp}
 use Rattle.std.specs.declared.alloc.Global.{Global}
 use denote.RawPtr.{null_ptr}
 use lib.Utf8.{encode}
-use Rattle.std.proofs.lemmas.Bool.{false≢true}
+use Rattle.std.proofs.lemmas.Bool.{and_parts, false≢true, false_from_ne_true, not-true}
 use Rattle.kp_base.proofs.Lists.{same-refl}
-use Rattle.kp_base.specs.declared.ground.Ground.{Ground}
+use Rattle.kp_base.specs.declared.lit.AtomId.{AtomId}
+use Rattle.kp_base.specs.declared.ground.Effect.{Effect}
+use Rattle.kp_base.specs.declared.ground.Action.{Action}
 use Rattle.kp_base.specs.declared.refused.ClashAt.{ClashAt}
 use Rattle.kp_base.specs.declared.refused.Part.TheVariants as parts
 use Rattle.kp_base.specs.declared.refused.Refused.{Refused}
@@ -22,14 +24,14 @@ use Rattle.kp_base.specs.Lists.{Member}
 use Rattle.kp_base.specs.Lit.{positive, negative}
 use Rattle.kp_base.specs.LitSet.{IsAscending}
 use Rattle.kp_base.specs.Steps.{State as NumberedState, is_model}
-use Rattle.kp_base.specs.Clashes.{no_pairs, HasNoClash, IsFirstClash}
+use Rattle.kp_base.specs.Exclusive.{ArePairs, Deletes, IsExclusive, ClashesFirst, IsClashFree}
 use Rattle.kp_base.specs.Implicates.{IsLeastOver, IsNeverOver}
 use Rattle.kp_base.specs.Entailed.{HasNoModel}
 use Rattle.kp_primes.specs.Included.{all_included, passed_at}
 use Rattle.kp_primes.specs.Answers.{RefusesPrimes, too_many}
 use Rattle.kp_primes.proofs.Answered.{never_over, prefix_stops}
-use Rattle.kp_clash.specs.Searching.{first_from}
-use Rattle.kp_clash.proofs.InOrder.{IsFound, found_in, is_first, none_clashes}
+use Rattle.kp_clash.proofs.InOrder.{first_is}
+use Rattle.kp_machine.proofs.ExamplePlain.{free}
 use Rattle.kp_lex.specs.Bytes.{class_of}
 use Rattle.kp_lex.specs.Cutting.{at_end}
 use Rattle.kp_lex.specs.Scanning.{cut_from}
@@ -154,10 +156,6 @@ holds_trees domain problem d p h = record { domain = domain; problem = problem; 
 is_small : (l : Lifted) → binding_count l ≡ 1 → length (kept_instances l) ≡ 1 → total_weight l ≡ 3 → length (ground_atoms l) ≡ 2 → IsGrounded l usual (by_number.ground_of l)
 is_small l b k w a = record { counts = record { bindings = omega (arith, b); actions = omega (arith, k); weight = omega (arith, w) }; atoms = omega (arith, a); ground = refl }
 
--- the first clash of its actions, if they have one
-found : (g : Ground) (o : Option ClashAt) → first_from no_pairs 0 g.actions ≡ o → IsFound no_pairs 0 g.actions o
-found g o is = subst (IsFound no_pairs 0 g.actions) is (found_in no_pairs 0 g.actions)
-
 -- ---- a translation
 
 -- the trees of the two files
@@ -213,9 +211,12 @@ started = record {
   initial = has_state exchange_tree from_p_to_q_tree trees.no_fault only_p only_p_is;
 }
 
--- what is added is q, and what is deleted p
-no_clash : HasNoClash no_pairs (ground_of exchange_tree from_p_to_q_tree)
-no_clash = none_clashes no_pairs (ground_of exchange_tree from_p_to_q_tree) None (found (ground_of exchange_tree from_p_to_q_tree) None refl)
+-- where q is false at the start, what is added is q, and what is deleted p
+closed_q : (i : Initial) → i.closed ≡ record { 0 = 1 } ∷ [] → (s : NumberedState) → is_model i s ≡ true → s 1 ≡ false
+closed_q i closed s model = not-true (s 1) (and_parts (not (s 1)) true (subst (λ (ps : List AtomId). list_all (λ p. not (s p.0)) ps ≡ true) closed (and_parts _ _ model).1)).0
+
+no_clash : IsClashFree (ground_of exchange_tree from_p_to_q_tree) from_p
+no_clash = free from_p (closed_q from_p refl)
 
 is_done : AnswersTrees 20000 exchange_tree from_p_to_q_tree status.Done
 is_done = done started no_clash
@@ -459,7 +460,7 @@ half_known_done = done (record {
   small = is_small (numbered_problem exchange_tree half_known_tree) refl refl refl refl;
   counted = half_known_few;
   initial = has_state exchange_tree half_known_tree half_known_trees.no_fault only_p half_known_model;
-}) (none_clashes no_pairs (ground_of exchange_tree half_known_tree) None (found (ground_of exchange_tree half_known_tree) None refl))
+}) (free (initial_of exchange_tree half_known_tree) (closed_q (initial_of exchange_tree half_known_tree) refl))
 
 half_known_results : IsResult words (holding exchange half_known) (translates command (translation_of exchange_tree half_known_tree))
 half_known_results = translated command exchange_tree half_known_tree is_command (holds_trees exchange half_known exchange_tree half_known_tree half_known_trees) half_known_done
@@ -521,8 +522,41 @@ clashing_started = record {
 abbrev of_q : ClashAt
 of_q = record { action = 0; atom = record { 0 = 1 }; add = 0; delete = 1 }
 
-first_clash : IsFirstClash no_pairs (ground_of clashing_tree from_not_p_tree) of_q
-first_clash = is_first no_pairs (ground_of clashing_tree from_not_p_tree) of_q (found (ground_of clashing_tree from_not_p_tree) (Some of_q) refl)
+-- an action adds q where p holds, and leaves p: no two atoms are exclusive
+no_pair : (i : Initial) (p q : ℕ) → IsExclusive (ground_of clashing_tree from_not_p_tree) i 2 p q → ⊥
+no_pair i p q x = no_delete deleted.delete deleted.of_action deleted.deletes
+  where
+    are : ArePairs 2 x.pairs
+    are = x.inductive.are_pairs
+
+    q_and_p : (p q : ℕ) → x.pairs p q ≡ true → x.pairs 1 0 ≡ true
+    q_and_p zero zero h = absurd (are.different 0 0 h refl)
+    q_and_p zero (suc zero) h = are.either_order 0 1 h
+    q_and_p (suc zero) zero h = h
+    q_and_p (suc zero) (suc zero) h = absurd (are.different 1 1 h refl)
+    q_and_p (suc (suc p)) q h = absurd (let lt = are.of_atoms (suc (suc p)) q h in omega (arith, lt))
+    q_and_p p (suc (suc q)) h = absurd (let lt = are.of_atoms (suc (suc q)) p (are.either_order p (suc (suc q)) h) in omega (arith, lt))
+
+    action : Action
+    action = record { name = record { head = codes "a"; objects = [] }; pre = []; effects = record { cond = positive 0 ∷ []; result = positive 1 } ∷ record { cond = []; result = negative 1 } ∷ [] }
+
+    not_itself : x.pairs 0 0 ≡ false
+    not_itself = false_from_ne_true (x.pairs 0 0) (λ h. are.different 0 0 h refl)
+
+    deleted : Deletes action 0 (positive 0 ∷ positive 0 ∷ [])
+    deleted = x.inductive.other_deleted 1 0 (q_and_p p q x.has_pair) action (record { cond = positive 0 ∷ []; result = positive 1 }) (inl refl) (inl refl) refl (rw not_itself refl)
+
+    no_delete : (e : Effect) → Member action.effects e → e.result ≡ negative 0 → ⊥
+    no_delete e (inl m) is = false≢true (sym (ap (λ (y : Effect). y.result.positive) m ∙ ap (λ (l : Lit). l.positive) is))
+    no_delete e (inr (inl m)) is = let same : 1 ≡ 0 = ap (λ (y : Effect). y.result.atom.0) m ∙ ap (λ (l : Lit). l.atom.0) is in omega (arith, same)
+    no_delete e (inr (inr m)) is = absurd m
+
+first_clash : ClashesFirst (ground_of clashing_tree from_not_p_tree) (initial_of clashing_tree from_not_p_tree) of_q
+first_clash = record {
+  pairs = λ p q. false;
+  exclusive = record { each = λ p q h. absurd (false≢true h); all = λ p q x. absurd (no_pair (initial_of clashing_tree from_not_p_tree) p q x) };
+  first = first_is (λ p q. false) (ground_of clashing_tree from_not_p_tree) (Some of_q) refl;
+}
 
 clashes : AnswersTrees 20000 clashing_tree from_not_p_tree (status.Refused (refusals.Clash of_q))
 clashes = clash of_q clashing_started first_clash

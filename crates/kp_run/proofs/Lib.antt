@@ -9,5 +9,6 @@ pub mod OneAnswer
 pub mod Translated
 pub mod Results
 pub mod Soundness
+pub mod Counted
 pub mod Answering
 pub mod ExampleResult

@@ -13,12 +13,11 @@ use Rattle.kp_names.specs.Resolved.{first_fault, refusal_of, RefusesNames, in_do
 use Rattle.kp_outside.specs.Outside.{FileMap}
 use Rattle.kp_run.specs.declared.status.Status.{Status}
 use Rattle.kp_run.specs.Command.{Command}
-use Rattle.kp_base.specs.declared.refused.ClashAt.{ClashAt}
 use Rattle.kp_base.specs.declared.refused.Refused.TheVariants as refusals
 use Rattle.kp_base.specs.declared.ground.Ground.{Ground}
 use Rattle.kp_base.specs.declared.limits.Limits.{Limits}
 use Rattle.kp_base.specs.declared.ground.Initial.{Initial}
-use Rattle.kp_base.specs.Clashes.{no_pairs, HasNoClash, IsFirstClash}
+use Rattle.kp_machine.proofs.Exclusive.{clash_or_free, under_one}
 use Rattle.kp_base.specs.Implicates.{prefix_of, IsLeastOver, IsNeverOver}
 use Rattle.kp_primes.proofs.Lengths.{not_more_and_at_most}
 use Rattle.kp_clash.proofs.Once.{first_once}
@@ -105,10 +104,6 @@ ground_or_within : (l : Lifted) (m : Limits) (r : Refused) (g : Ground) → Refu
 ground_or_within l m _ g (counts_over r a) w = counts_or_within l m r a w.counts
 ground_or_within l m _ g (atoms_over v a) w = let b = w.atoms in omega (arith, a, b)
 
--- a clash is no clash where there is none
-clash_or_none : (g : Ground) (c : ClashAt) → IsFirstClash no_pairs g c → HasNoClash no_pairs g → ⊥
-clash_or_none g c first none = none c.action c.atom.0 c.add c.delete first.clash.action first.clash.action_at first.clash.clashes
-
 -- the least number of clauses that have more prime implicates than the limit
 least_once : (i : Initial) (limit j k : ℕ) → IsLeastOver i limit j → IsLeastOver i limit k → j ≡ k
 least_once i limit j k a b = elim (cases_lt j k) [
@@ -141,12 +136,12 @@ trees_once limit d p _ _ (no_initial_state w a i) (done b c) = absurd (i b.initi
 trees_once limit d p _ _ (clash c a h) (too_large s k) = absurd (ground_or_within (numbered_problem d p) usual s _ k a.small)
 trees_once limit d p _ _ (clash c a h) (implicates_over n w b) = absurd (least_or_never (initial_of d p) limit n b a.counted)
 trees_once limit d p _ _ (clash c a h) (no_initial_state w b e) = absurd (e a.initial)
-trees_once limit d p _ _ (clash c a h) (clash e b k) = ap (λ x. status.Refused (refusals.Clash x)) (first_once no_pairs (ground_of d p) c e h k)
-trees_once limit d p _ _ (clash c a h) (done b k) = absurd (clash_or_none (ground_of d p) c h k)
+trees_once limit d p _ _ (clash c a h) (clash e b k) = ap (λ x. status.Refused (refusals.Clash x)) (first_once h.pairs (ground_of d p) c e h.first (under_one (ground_of d p) (initial_of d p) c e h k))
+trees_once limit d p _ _ (clash c a h) (done b k) = absurd (clash_or_free (ground_of d p) (initial_of d p) c h k)
 trees_once limit d p _ _ (done a h) (too_large s k) = absurd (ground_or_within (numbered_problem d p) usual s _ k a.small)
 trees_once limit d p _ _ (done a h) (implicates_over n w b) = absurd (least_or_never (initial_of d p) limit n b a.counted)
 trees_once limit d p _ _ (done a h) (no_initial_state w b e) = absurd (e a.initial)
-trees_once limit d p _ _ (done a h) (clash c b k) = absurd (clash_or_none (ground_of d p) c k h)
+trees_once limit d p _ _ (done a h) (clash c b k) = absurd (clash_or_free (ground_of d p) (initial_of d p) c k h)
 trees_once limit d p _ _ (done a h) (done b k) = refl
 
 -- the answer on trees is the answer on the trees that the texts have

@@ -8,8 +8,8 @@ use Rattle.std.specs.declared.alloc.Global.{Global}
 use Rattle.kp_base.proofs.Lists.{same-true, same-refl}
 use Rattle.kp_outside.specs.Outside.{FileMap}
 use Rattle.kp_given.specs.Translations.{translation_of}
-use Rattle.kp_base.specs.Clashes.{HasNoClash, no_pairs}
-use Rattle.kp_machine.proofs.Apart.{never_clashes}
+use Rattle.kp_base.specs.Exclusive.{IsClashFree}
+use Rattle.kp_machine.proofs.Exclusive.{never_clashes}
 use Rattle.kp_grammar.specs.declared.tree.Word.{Word}
 use Rattle.kp_grammar.specs.Trees.{Domain, Problem}
 use Rattle.kp_meaning.specs.Plans.{HasProblem}
@@ -55,7 +55,7 @@ problem_of domain problem d p h = record {
 -- what Done says of the trees
 record IsDone (d : Domain Word) (p : Problem Word) : Type 0 where
   initial : HasInitialState p
-  no_clash : HasNoClash no_pairs (ground_of d p)
+  no_clash : IsClashFree (ground_of d p) (initial_of d p)
 
 is_done : (limit : ℕ) (d : Domain Word) (p : Problem Word) (s : Status) → AnswersTrees limit d p s → s ≡ status.Done → IsDone d p
 is_done limit d p _ (too_large r a) e = absurd cc

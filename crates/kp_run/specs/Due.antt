@@ -8,7 +8,7 @@ use Rattle.kp_base.specs.declared.refused.Part.{Part}
 use Rattle.kp_base.specs.declared.refused.Part.TheVariants as parts
 use Rattle.kp_base.specs.declared.refused.Refused.{Refused}
 use Rattle.kp_base.specs.declared.refused.Refused.TheVariants as refusals
-use Rattle.kp_base.specs.Clashes.{no_pairs, HasNoClash, IsFirstClash}
+use Rattle.kp_base.specs.Exclusive.{ClashesFirst, IsClashFree}
 use Rattle.kp_base.specs.Implicates.{IsLeastOver, IsNeverOver}
 use Rattle.kp_grammar.specs.declared.tree.Word.{Word}
 use Rattle.kp_grammar.specs.Trees as trees
@@ -41,8 +41,8 @@ pub data AnswersTrees (limit : ℕ) (d : trees.Domain Word) (p : trees.Problem W
   too_large : (r : Refused) → RefusesGround (numbered_problem d p) usual r → AnswersTrees limit d p (status.Refused r)
   implicates_over : (k : ℕ) → IsSmall d p → IsLeastOver (initial_of d p) limit k → AnswersTrees limit d p (status.Refused (refusals.ImplicatesOver k))
   no_initial_state : IsSmall d p → IsNeverOver (initial_of d p) limit → (HasInitialState p → ⊥) → AnswersTrees limit d p (status.Refused refusals.NoInitialState)
-  clash : (c : ClashAt) → IsStarted limit d p → IsFirstClash no_pairs (ground_of d p) c → AnswersTrees limit d p (status.Refused (refusals.Clash c))
-  done : IsStarted limit d p → HasNoClash no_pairs (ground_of d p) → AnswersTrees limit d p status.Done
+  clash : (c : ClashAt) → IsStarted limit d p → ClashesFirst (ground_of d p) (initial_of d p) c → AnswersTrees limit d p (status.Refused (refusals.Clash c))
+  done : IsStarted limit d p → IsClashFree (ground_of d p) (initial_of d p) → AnswersTrees limit d p status.Done
 
 -- the answer on two texts
 pub data Answers (limit : ℕ) (domain problem : List ℕ) : Status → Type 0 where

@@ -19,7 +19,7 @@ use Rattle.kp_given.specs.Translations.{ground_of, translation_of}
 use Rattle.kp_run.specs.Texts.{HaveTrees}
 use Rattle.kp_base.specs.declared.refused.ClashAt.{ClashAt}
 use Rattle.kp_base.specs.declared.refused.Refused.{Refused}
-use Rattle.kp_base.specs.Clashes.{no_pairs, HasNoClash, IsFirstClash}
+use Rattle.kp_base.specs.Exclusive.{ClashesFirst, IsClashFree}
 use Rattle.kp_base.specs.Entailed.{HasModel}
 use Rattle.kp_base.specs.Implicates.{IsLeastOver, IsNeverOver}
 use Rattle.kp_primes.specs.Answers.{HasNoState}
@@ -106,8 +106,8 @@ pub record IsWritten (l : Numbers) (t : Translation) : Type 0 where
 pub data EndsBy (limit : ℕ) (l : Numbers) : Report → Type 0 where
   by_implicates : (r : Report) (k : ℕ) → IsLeastOver (initial_of l) limit k → IsRefusal (refusals.ImplicatesOver k) r → EndsBy limit l r
   by_no_model : (r : Report) → HasNoState (initial_of l) limit → IsRefusal refusals.NoInitialState r → EndsBy limit l r
-  by_clash : (at : ClashAt) (text : List ℕ) → IsCounted limit l → IsFirstClash no_pairs (by_number.ground_of l) at → text ≡ clash_text (by_number.ground_of l) at → EndsBy limit l (reports.Clash at text)
-  by_translation : (t : Translation) → IsCounted limit l → HasNoClash no_pairs (by_number.ground_of l) → IsWritten l t → EndsBy limit l (reports.Done t)
+  by_clash : (at : ClashAt) (text : List ℕ) → IsCounted limit l → ClashesFirst (by_number.ground_of l) (initial_of l) at → text ≡ clash_text (by_number.ground_of l) at → EndsBy limit l (reports.Clash at text)
+  by_translation : (t : Translation) → IsCounted limit l → IsClashFree (by_number.ground_of l) (initial_of l) → IsWritten l t → EndsBy limit l (reports.Done t)
 
 -- the report on a problem by number
 pub data EndsWithin (limit : ℕ) (l : Numbers) (r : Report) : Type 0 where

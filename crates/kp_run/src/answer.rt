@@ -1,11 +1,13 @@
 ghost use Rattle.std.specs.Prelude.{◌≡◌, ◌≤◌, Some, List, ℕ, IfOk, length};
-ghost use Rattle.kp_base.specs.Clashes.{no_pairs, HasNoClash};
+ghost use Rattle.kp_base.specs.Exclusive.{IsClashFree};
+ghost use Rattle.kp_clash.specs.Counted.{IsCounted};
 ghost use Rattle.kp_meaning.specs.Numbered.{Lifted as Numbers};
 ghost use Rattle.kp_grounding.specs.Ground.{ground_atoms, ground_of};
 ghost use Rattle.kp_init.specs.Initial.{initial_of};
 ghost use Rattle.kp_names.specs.View.{lifted_view};
 ghost use Rattle.kp_outside.specs.Outside.{IsFront, IsWithin};
 ghost use Rattle.kp_primes.specs.Answers.{HoldsPrimes};
+ghost use Rattle.kp_primes.specs.Held.{formula};
 ghost use Rattle.kp_run.specs.Due.{Answers, IsOrdinary};
 ghost use Rattle.kp_run.specs.Reports.{status_of, HasItsText, IsTranslated, IsRefusal, EndsBy, EndsWithin};
 
@@ -13,7 +15,7 @@ use crate::clash::clash_text;
 use crate::files::read_files;
 use crate::printed::refusal;
 use kp_base::{ClashAt, Ground, Limits, LitSet, Memory, Refused, Row, Stop};
-use kp_clash::first_clash;
+use kp_clash::{clash_test, exclusive};
 use kp_ground::{GroundWithAtoms, ground_with_atoms};
 use kp_init::initial_over;
 use kp_kept::Statics;
@@ -45,7 +47,7 @@ fn refuse(alloc: Global, refused: Refused) -> Result<Report, Memory>
 
 // The report on a ground problem without a clash, whose initial formula has these prime implicates.
 fn without_clash(alloc: Global, ground: &Ground, primes: &Primes) -> Result<Report, Memory>
-    ensures ends { (l : Numbers) (limit : ℕ) → ground.now ≡ ground_of l → HoldsPrimes (initial_of l) (length ground.now.atoms) limit primes.now → HasNoClash no_pairs ground.now → IfOk result (EndsBy limit l) }
+    ensures ends { (l : Numbers) (limit : ℕ) → ground.now ≡ ground_of l → HoldsPrimes (initial_of l) (length ground.now.atoms) limit primes.now → IsClashFree ground.now (formula primes.now) → IfOk result (EndsBy limit l) }
     ensures text { IfOk result HasItsText }
 {
     match primes.closure(alloc, &LitSet::new(alloc))? {
@@ -57,15 +59,18 @@ fn without_clash(alloc: Global, ground: &Ground, primes: &Primes) -> Result<Repo
 
 // The report on a ground problem whose initial formula has these prime implicates.
 fn on_primes(alloc: Global, ground: &Ground, primes: &Primes) -> Result<Report, Memory>
+    requires counted { IsCounted ground.now }
+    requires atoms { primes.now.atoms ≡ length ground.now.atoms }
     ensures ends { (l : Numbers) (limit : ℕ) → ground.now ≡ ground_of l → HoldsPrimes (initial_of l) (length ground.now.atoms) limit primes.now → IfOk result (EndsBy limit l) }
     ensures text { IfOk result HasItsText }
 {
-    match first_clash(alloc, ground)? {
-        Some(at) => {
+    let pairs = exclusive(alloc, ground, primes)?;
+    match clash_test(ground, &pairs) {
+        Ok(()) => without_clash(alloc, ground, primes),
+        Err(at) => {
             let text = clash_text(alloc, ground, &at)?;
             Ok(Report::Clash(at, text))
         }
-        None => without_clash(alloc, ground, primes),
     }
 }
 
@@ -79,6 +84,7 @@ fn on_ground(
     requires ground { made.now.ground ≡ ground_of (lifted_view lifted.now) }
     requires atoms { made.now.atoms ≡ ground_atoms (lifted_view lifted.now) }
     requires few { length made.now.ground.atoms ≤ 4096 }
+    requires counted { IsCounted made.now.ground }
     ensures ends { IfOk result (EndsBy limit (lifted_view lifted.now)) }
     ensures text { IfOk result HasItsText }
 {

@@ -1,8 +1,15 @@
 use Rattle.std.proofs.Common.{ap, subst}
 use Rattle.kp_names.specs.View.{lifted_view}
-use Rattle.kp_ground.specs.Grounded.{RefusesGround, StopsGround}
+use Rattle.kp_ground.specs.Grounded.{IsGrounded, RefusesGround, StopsGround}
 use Rattle.kp_run.proofs.Answering.{over_ends}
+use Rattle.kp_run.proofs.Counted.{is_counted}
 use Rattle.kp_run.proofs.answer.on_problem.Goals as goal
+
+-- it is within the limits, so its actions are few, and their effects
+pub on_ground-requires-clause-counted : goal.on_ground-requires-clause-counted
+on_ground-requires-clause-counted c =
+    let l = lifted_view c.in_ok-statics.statics.lifted.now in
+    is_counted l c.in-Ok.made.ground (subst (λ m. IsGrounded l m c.in-Ok.made.ground) c.usual.ensures c.in-Ok.ensures.0)
 
 -- it is larger than a limit allows
 pub returns-in-Err-Refused-clause-ends : goal.returns-in-Err-Refused-clause-ends

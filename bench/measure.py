@@ -1,0 +1,52 @@
+"""What the scripts of this folder share: one translation by kplan, timed, and a table of several."""
+
+import argparse
+import os
+import subprocess
+import sys
+import tempfile
+import time
+from pathlib import Path
+
+PROGRAM = Path(__file__).resolve().parent.parent / "crates" / "kplan" / "out" / "kplan"
+
+
+def built_program(about):
+    """The program that the command line names, or the one that this repository builds."""
+    parser = argparse.ArgumentParser(description=about, formatter_class=argparse.RawDescriptionHelpFormatter)
+    parser.add_argument("--program", type=Path, default=PROGRAM, help="the built program (default: %(default)s)")
+    program = parser.parse_args().program.resolve()
+    if not program.is_file():
+        sys.exit(f"there is no program {program}: build it by rt run in crates/kplan")
+    return program
+
+
+def measure(program, domain, problem, options=()):
+    """Seconds, peak in bytes, exit status and printed lines of one translation of two files, given by their parts.
+
+    The time is that of the whole translation, from both files to both files. The peak is the most memory that the
+    program held at once, as the system tells it.
+    """
+    with tempfile.TemporaryDirectory() as name:
+        folder = Path(name)
+        for file, parts in (("d.pddl", domain), ("p.pddl", problem)):
+            with open(folder / file, "w", encoding="ascii") as out:
+                out.writelines(parts)
+        words = [str(program), "translate", "d.pddl", "p.pddl", "od.pddl", "op.pddl", "--mode", "k0", *options]
+        with open(folder / "out.txt", "w", encoding="ascii") as out:
+            begun = time.perf_counter()
+            child = subprocess.Popen(words, cwd=folder, stdout=out, stderr=subprocess.STDOUT)
+            _, status, usage = os.wait4(child.pid, 0)
+            seconds = time.perf_counter() - begun
+        child.returncode = os.waitstatus_to_exitcode(status)
+        printed = (folder / "out.txt").read_text(encoding="ascii", errors="replace").splitlines()
+    return seconds, usage.ru_maxrss * 1_024, child.returncode, printed
+
+
+def print_table(about, problems):
+    """Measures problems, each with a title, the parts of its files and options, and prints a line for each."""
+    program = built_program(about)
+    print(f"{'problem':40} {'seconds':>8} {'MB':>7} {'status':>6}  printed")
+    for title, (domain, problem), options in problems:
+        seconds, peak, status, printed = measure(program, domain, problem, options)
+        print(f"{title:40} {seconds:8.2f} {peak / 1e6:7.0f} {status:6}  {', '.join(printed[:2])}", flush=True)
