@@ -1,5 +1,5 @@
 -- Rows of bits by their words.
-use Rattle.std.proofs.Common.{◌≡◌, ◌≢◌, ◌<◌, ◌≤◌, ◌+◌, ◌*◌, ◌/◌, ◌%◌, ⊎_elim, ℕ, zero, suc, Bool, true, false, ◌||◌, List, Some, length, set, replicate, get_or, slice_get, nat_eq, max, bit_or, refl, sym, ap, subst, ◌∙◌, arith, length-set, get_or-set_same, get_or-set_other}
+use Rattle.std.proofs.Common.{◌≡◌, ◌≢◌, ◌<◌, ◌≤◌, ◌+◌, ◌*◌, ◌/◌, ◌%◌, ◌↔◌, ⊎_elim, ℕ, zero, suc, Bool, true, false, ◌||◌, List, Some, length, set, replicate, get_or, slice_get, nat_eq, max, bit_or, refl, sym, ap, subst, ◌∙◌, arith, length-set, get_or-set_same, get_or-set_other}
 use Rattle.std.proofs.lemmas.Bool.{eqb-true, eq-eqb, cases_eq, cases_lt, both_ways}
 use Rattle.std.proofs.lemmas.List.{length-map, ext_get_or, get_or-replicate, get_or-map, length-replicate, get_or_past}
 use Rattle.std.proofs.lemmas.Grind.{get_or_default_zero}
@@ -173,6 +173,21 @@ ored_packed n m ws vs us same p q o = record {
 -- the bit j of the word k stands at its place
 word_bit : (ws : List ℕ) (k j : ℕ) → j < 64 → bit_of ws (k * 64 + j) ≡ nat_eq (bit_at (get_or ws k 0) j) 1
 word_bit ws k j l = rw (div-mul-add k 64 j l, mod-mul-add k 64 j l) refl
+
+-- the word k of a row has its bits from 64 k on
+pub word_of_row : (n : ℕ) (ws : List ℕ) (k w : ℕ) → IsPacked n ws → w ≡ get_or ws k 0 → (j : ℕ) → j < 64 → (bit_at w j ≡ 1) ↔ (slice_get (bits_of n ws) (k * 64 + j) ≡ Some true)
+word_of_row n ws k w p is j l = (set_there, there_set)
+  where
+    set_there : bit_at w j ≡ 1 → slice_get (bits_of n ws) (k * 64 + j) ≡ Some true
+    set_there one =
+        let is_set : bit_of ws (k * 64 + j) ≡ true = word_bit ws k j l ∙ eq-eqb _ 1 (ap (λ x. bit_at x j) (sym is) ∙ one) in
+        ⊎_elim (λ h. slice_get-bits_of n ws (k * 64 + j) h ∙ ap Some is_set) (λ ge. absurd (both_ways _ (p.clear_past (k * 64 + j) ge) is_set)) (cases_lt (k * 64 + j) n)
+
+    there_set : slice_get (bits_of n ws) (k * 64 + j) ≡ Some true → bit_at w j ≡ 1
+    there_set h =
+        let in_range : k * 64 + j < n = subst (λ m. k * 64 + j < m) (length-bits_of n ws) (slice_get_within (bits_of n ws) (k * 64 + j) true h) in
+        let is_set : bit_of ws (k * 64 + j) ≡ true = (let e = sym (slice_get-bits_of n ws (k * 64 + j) in_range) ∙ h in cc) in
+        ap (λ x. bit_at x j) is ∙ eqb-true _ 1 (sym (word_bit ws k j l) ∙ is_set)
 
 -- ---- within
 

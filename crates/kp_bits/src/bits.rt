@@ -1,7 +1,8 @@
-ghost use Rattle.std.specs.Prelude.{◌≡◌, ◌<◌, ◌↔◌, true, false, Some, length, replicate, set, slice_get, IfOk, IsTrue};
+ghost use Rattle.std.specs.Prelude.{◌≡◌, ◌<◌, ◌+◌, ◌*◌, ◌↔◌, ℕ, true, false, Some, length, replicate, set, slice_get, IfOk, IsTrue};
+ghost use Rattle.std.specs.Int.{bit_at};
 ghost use Rattle.kp_bits.specs.Rows.{either, IsWithin};
 
-use crate::words::{has_bit, or_words, same_words, with_bit, without_bit, words_within};
+use crate::words::{has_bit, or_words, same_words, with_bit, without_bit, word_at, words_within};
 use kp_base::Memory;
 use std::alloc::Global;
 use std::marker::Model;
@@ -57,6 +58,13 @@ impl Bits {
         ensures { slice_get self.now i ≡ Some result }
     {
         has_bit(self.words[(i / 64) as usize], i % 64)
+    }
+
+    /// The bits from 64 k on as a word, the first one lowest; past the end of the row none is set.
+    pub fn word(&self, k: u32) -> u64
+        ensures { (j : ℕ) → j < 64 → (bit_at result j ≡ 1) ↔ (slice_get self.now (k * 64 + j) ≡ Some true) }
+    {
+        word_at(&self.words, k as usize)
     }
 
     /// Sets the bits that are set in the other row.

@@ -3,7 +3,8 @@ ghost use Rattle.std.specs.Prelude.{◌≡◌, ◌≢◌, ◌<◌, ◌↔◌, �
 ghost use Rattle.std.specs.Int.{bit_at};
 ghost use Rattle.std.specs.Int.RustNames.{bit_or};
 
-pub(crate) fn with_bit(word: u64, k: u32) -> u64
+/// The word with this bit set.
+pub fn with_bit(word: u64, k: u32) -> u64
     requires { k < 64 }
     ensures set { bit_at result k ≡ 1 }
     ensures others { (i : ℕ) → i ≢ k → bit_at result i ≡ bit_at word i }
@@ -19,11 +20,33 @@ pub(crate) fn without_bit(word: u64, k: u32) -> u64
     word & !(1 << k)
 }
 
-pub(crate) fn has_bit(word: u64, k: u32) -> bool
+/// Whether this bit of the word is set.
+pub fn has_bit(word: u64, k: u32) -> bool
     requires { k < 64 }
     ensures { IsTrue result ↔ (bit_at word k ≡ 1) }
 {
     word & (1 << k) != 0
+}
+
+/// The word at a place; past the end one with no bit set.
+pub(crate) fn word_at(words: &[u64], k: usize) -> u64
+    ensures { result ≡ slice_index_or words.now k 0 }
+{
+    if k < words.len() { words[k] } else { 0 }
+}
+
+/// The bits of the word that are not set in the other.
+pub fn only_here(word: u64, other: u64) -> u64
+    ensures { (j : ℕ) → j < 64 → (bit_at result j ≡ 1) ↔ ((bit_at word j ≡ 1) × (bit_at other j ≡ 0)) }
+{
+    word & !other
+}
+
+/// Whether no bit is set in both words.
+pub fn are_apart(word: u64, other: u64) -> bool
+    ensures { IsTrue result ↔ ((j : ℕ) → j < 64 → bit_at word j ≡ 1 → bit_at other j ≡ 0) }
+{
+    word & other == 0
 }
 
 /// Sets in each word the bits of the other word at its place.

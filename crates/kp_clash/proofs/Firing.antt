@@ -37,6 +37,25 @@ breaks_not pairs a e q n = false_from_ne_true (breaks pairs a e q) (λ h.
     let apart : keeps_apart pairs e.result.atom.0 q a e ≡ true = or_right (not (same_lit e.result (positive e.result.atom.0))) (not (are_compatible pairs (firing_with a e q)) || deletes_within a q (firing_with a e q)) (or_left (not (are_compatible pairs (firing_with a e q))) (deletes_within a q (firing_with a e q)) (ap not never)) in
     false≢true (sym (not-true (keeps_apart pairs e.result.atom.0 q a e) y.1) ∙ apart))
 
+-- where an effect breaks a pair no literal excludes the other atom
+pub breaks_free : (pairs : Pairs) (a : Action) (e : Effect) (q : ℕ) → breaks pairs a e q ≡ true → (pairs e.result.atom.0 q ≡ true) × (list_any (λ l. are_exclusive pairs l (positive q)) a.pre ≡ false) × (list_any (λ l. are_exclusive pairs l (positive q)) e.cond ≡ false)
+breaks_free pairs a e q h = (y.0, none a.pre (λ l m. member_left a.pre (e.cond ++ positive q ∷ []) l m), none e.cond (λ l m. member_right a.pre (e.cond ++ positive q ∷ []) l (member_left e.cond (positive q ∷ []) l m)))
+  where
+    y : (pairs e.result.atom.0 q ≡ true) × (not (keeps_apart pairs e.result.atom.0 q a e) ≡ true)
+    y = and_parts (pairs e.result.atom.0 q) (not (keeps_apart pairs e.result.atom.0 q a e)) (and_parts e.result.positive (pairs e.result.atom.0 q && not (keeps_apart pairs e.result.atom.0 q a e)) h).1
+
+    fires : are_compatible pairs (firing_with a e q) ≡ true
+    fires = true_from_ne_false (are_compatible pairs (firing_with a e q)) (λ never.
+        let apart : keeps_apart pairs e.result.atom.0 q a e ≡ true = or_right (not (same_lit e.result (positive e.result.atom.0))) (not (are_compatible pairs (firing_with a e q)) || deletes_within a q (firing_with a e q)) (or_left (not (are_compatible pairs (firing_with a e q))) (deletes_within a q (firing_with a e q)) (ap not never)) in
+        false≢true (sym (not-true (keeps_apart pairs e.result.atom.0 q a e) y.1) ∙ apart))
+
+    none : (xs : List Lit) → ((l : Lit) → Member xs l → Member (firing_with a e q) l) → list_any (λ l. are_exclusive pairs l (positive q)) xs ≡ false
+    none xs there = false_from_ne_true (list_any (λ l. are_exclusive pairs l (positive q)) xs) (λ t.
+        let x = any_member (λ l. are_exclusive pairs l (positive q)) xs t in
+        let row = all_member (λ k. list_all (λ l. not (are_exclusive pairs k l)) (firing_with a e q)) (firing_with a e q) x.0 (there x.0 x.1) fires in
+        let apart = all_member (λ l. not (are_exclusive pairs x.0 l)) (firing_with a e q) (positive q) (member_right a.pre (e.cond ++ positive q ∷ []) (positive q) (member_right e.cond (positive q ∷ []) (positive q) (inl refl))) row in
+        false≢true (sym (not-true (are_exclusive pairs x.0 (positive q)) apart) ∙ x.2))
+
 -- ---- literals with one more
 
 module _ (pairs : Pairs) (turn : (p q : ℕ) → pairs p q ≡ pairs q p) (different : (p : ℕ) → pairs p p ≡ false) where

@@ -1,6 +1,7 @@
 -- The pairs that prime implicates deny are those that no initial state has together, and what is left of them in the end is the exclusive pairs.
 use Rattle.std.proofs.Common.{◌≡◌, ◌≢◌, ◌⊎◌, ◌<◌, ◌+◌, ◌*◌, ℕ, zero, suc, Bool, true, false, not, ◌&&◌, ◌||◌, List, [], ◌∷◌, length, replicate, get_or, nat_lt, inl, inr, refl, sym, ap, ap₂, ◌∙◌, arith}
 use Rattle.std.proofs.lemmas.Bool.{and_parts, or_cases, or_left, or_right, false≢true, false_from_ne_true, not-true, lt-ltb}
+use Rattle.std.proofs.lemmas.List.{length-replicate}
 use Rattle.std.specs.List.{list_any, list_all}
 use Rattle.kp_base.specs.declared.lit.Lit.{Lit}
 use Rattle.kp_base.specs.declared.ground.Ground.{Ground}
@@ -13,13 +14,13 @@ use Rattle.kp_base.specs.Clashes.{Pairs}
 use Rattle.kp_base.specs.Exclusive.{ArePairs, AreExclusive, IsInductive}
 use Rattle.kp_base.proofs.Lists.{all_member, all_from, any_member}
 use Rattle.kp_primes.specs.Held.{Held, formula, AreWhole}
-use Rattle.kp_clash.specs.Paired.{is_pair, bit_at_pair, is_marked}
+use Rattle.kp_clash.specs.Paired.{is_pair, words_of, place_of, is_marked, IsSquare}
 use Rattle.kp_clash.specs.Settled.{IsPart}
 use Rattle.kp_clash.specs.Starting.{not_both, denies, denied, IsMarkedWith}
 use Rattle.kp_clash.specs.Settling.{AreNeverTogether, IsSettled}
 use Rattle.kp_clash.proofs.Greatest.{settled_exclusive}
 use Rattle.kp_clash.proofs.Removing.{pair_turned, inductive_kept}
-use Rattle.kp_clash.proofs.Written.{marked_in}
+use Rattle.kp_clash.proofs.Marked.{marked_in}
 use Rattle.kp_clash.proofs.Starting.{in_both}
 
 -- ---- the start
@@ -30,14 +31,18 @@ none_set zero i = refl
 none_set (suc k) zero = refl
 none_set (suc k) (suc i) = none_set k i
 
-none_marked : (n : ℕ) (r s : ℕ) → is_marked n (replicate (n * n) false) r s ≡ true → ⊥
-none_marked n r s h = elim (or_cases (bit_at_pair n (replicate (n * n) false) r s) (bit_at_pair n (replicate (n * n) false) s r) h) [
-  | inl e ↦ never r s e
-  | inr e ↦ never s r e
-]
-  where
-    never : (p q : ℕ) → bit_at_pair n (replicate (n * n) false) p q ≡ true → ⊥
-    never p q e = false≢true (sym (none_set (n * n) (p * n + q)) ∙ (and_parts (nat_lt q n) _ (and_parts (nat_lt p q) _ e).1).1)
+none_marked : (n r s : ℕ) → is_marked n (replicate (n * (words_of n * 64)) false) r s ≡ false
+none_marked n r s = false_from_ne_true (is_marked n (replicate (n * (words_of n * 64)) false) r s) (λ h.
+    false≢true (sym (none_set (n * (words_of n * 64)) (place_of n r s)) ∙ (and_parts (nat_lt s n) _ (and_parts (nat_lt r n) _ h).1).1))
+
+-- a table of zeros marks nothing
+pub square_at_first : (n : ℕ) → n * (words_of n * 64) < 4294967296 → IsSquare n (replicate (n * (words_of n * 64)) false)
+square_at_first n h = record {
+  square = length-replicate (n * (words_of n * 64)) false;
+  counted = h;
+  either_order = λ p q. none_marked n p q ∙ sym (none_marked n q p);
+  only = λ p q _ _ m. absurd (false≢true (sym (none_set (n * (words_of n * 64)) (place_of n p q)) ∙ m));
+}
 
 -- each clause has a literal, since some state satisfies it
 pub none_empty : (h : Held) → AreWhole h → list_all (λ c. nat_lt 0 (length c)) h.clauses ≡ true
@@ -86,11 +91,11 @@ is_implicate i p q never = record {
     deny false b e = refl
 
 -- so what is marked is just the pairs that are never together
-pub never_together : (h : Held) → AreWhole h → (n : ℕ) (bits : List Bool) → IsMarkedWith n (denied h.clauses) (replicate (n * n) false) bits → (pairs : Pairs) → ((p q : ℕ) → pairs p q ≡ is_marked n bits p q) → ((p q : ℕ) → pairs p q ≡ pairs q p) → AreNeverTogether (formula h) n pairs
+pub never_together : (h : Held) → AreWhole h → (n : ℕ) (bits : List Bool) → IsMarkedWith n (denied h.clauses) (replicate (n * (words_of n * 64)) false) bits → (pairs : Pairs) → ((p q : ℕ) → pairs p q ≡ is_marked n bits p q) → ((p q : ℕ) → pairs p q ≡ pairs q p) → AreNeverTogether (formula h) n pairs
 never_together h w n bits m pairs same turned = record {
   are_pairs = record {
-    of_atoms = λ p q k. (marked_in n bits p q (sym (same p q) ∙ k)).1;
-    different = λ p q k. (marked_in n bits p q (sym (same p q) ∙ k)).0;
+    of_atoms = λ p q k. (marked_in n bits m.square p q (sym (same p q) ∙ k)).1;
+    different = λ p q k. (marked_in n bits m.square p q (sym (same p q) ∙ k)).0;
     either_order = λ p q k. turned q p ∙ k;
   };
   never = λ p q k s model.
@@ -100,8 +105,8 @@ never_together h w n bits m pairs same turned = record {
 }
   where
     by_clauses : (p q : ℕ) → pairs p q ≡ true → denied h.clauses p q ≡ true
-    by_clauses p q k = elim (or_cases (is_marked n (replicate (n * n) false) p q) (denied h.clauses p q) (m.sound p q (sym (same p q) ∙ k))) [
-      | inl e ↦ absurd (none_marked n p q e)
+    by_clauses p q k = elim (or_cases (is_marked n (replicate (n * (words_of n * 64)) false) p q) (denied h.clauses p q) (m.sound p q (sym (same p q) ∙ k))) [
+      | inl e ↦ absurd (false≢true (sym (none_marked n p q) ∙ e))
       | inr e ↦ e
     ]
 

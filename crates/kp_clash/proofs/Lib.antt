@@ -6,6 +6,7 @@ pub mod Walks
 pub mod Starting
 pub mod Initially
 pub mod Firing
+pub mod Candidates
 pub mod Written
 pub mod Places
 pub mod Best

@@ -10,7 +10,7 @@ use Rattle.kp_base.specs.Implicates.{is_within}
 use Rattle.kp_base.specs.Steps.{has}
 use Rattle.kp_base.specs.Clashes.{Pairs}
 use Rattle.kp_base.proofs.Lits.{same_lit-true}
-use Rattle.kp_clash.specs.Paired.{are_both, bit_at_pair, is_marked, IsSquare, IsWritten}
+use Rattle.kp_clash.specs.Paired.{are_both, is_marked, IsSquare, IsWritten}
 use Rattle.kp_clash.specs.Starting.{not_both, denies, denied, pair_of, all_with, IsMarkedWith}
 use Rattle.kp_clash.proofs.Greatest.{is_lit}
 
@@ -62,10 +62,7 @@ marked_pair n a b p q w = record {
 }
   where
     turned : is_marked n b q p ≡ true
-    turned = elim (or_cases (bit_at_pair n b p q) (bit_at_pair n b q p) w.here) [
-      | inl e ↦ or_right (bit_at_pair n b q p) (bit_at_pair n b p q) e
-      | inr e ↦ or_left (bit_at_pair n b q p) (bit_at_pair n b p q) e
-    ]
+    turned = w.square.either_order q p ∙ w.here
 
     here : (r s : ℕ) → are_both p q (r, s) ≡ true → is_marked n b r s ≡ true
     here r s h = elim (or_cases (nat_eq r p && nat_eq s q) (nat_eq r q && nat_eq s p) h) [

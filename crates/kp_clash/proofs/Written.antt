@@ -1,12 +1,12 @@
--- A table of pairs after the bit of one pair was written.
-use Rattle.std.proofs.Common.{◌≡◌, ◌≢◌, ◌⊎◌, ⊎_elim, ◌<◌, ◌≤◌, ◌+◌, ◌*◌, ◌/◌, ◌%◌, ℕ, zero, suc, Bool, true, false, ◌&&◌, ◌||◌, cond, if◌then◌else◌, List, [], ◌∷◌, length, filter, set, get_or, nat_eq, nat_lt, inl, inr, refl, sym, ap, ap₂, subst, ◌∙◌, arith}
-use Rattle.std.proofs.lemmas.Bool.{and_parts, and_from, or_cases, or_left, or_right, ltb-true, lt-ltb, eqb-true, eq-eqb, cases_eq, false≢true, false_from_ne_true}
+-- A table of pairs after one pair was written.
+use Rattle.std.proofs.Common.{◌≡◌, ◌≢◌, ⊎_elim, ◌<◌, ◌≤◌, ◌+◌, ◌*◌, ◌/◌, ◌%◌, ℕ, zero, suc, Bool, true, false, ◌&&◌, ◌||◌, cond, List, [], ◌∷◌, length, filter, set, get_or, nat_eq, nat_lt, inl, inr, refl, sym, ap, ap₂, subst, ◌∙◌, arith}
+use Rattle.std.proofs.lemmas.Bool.{and_parts, and_from, or_cases, or_left, or_right, ltb-true, lt-ltb, eqb-true, eq-eqb, false≢true, false_from_ne_true}
 use Rattle.std.proofs.lemmas.List.{length-set, get_or-set_same, get_or-set_other}
 use Rattle.std.proofs.lemmas.Nat.{div-mul-add, mod-mul-add}
 use Rattle.kp_base.specs.Lists.{Member}
-use Rattle.kp_clash.specs.Paired.{are_both, is_pair, bit_at_pair, is_marked, all_below, marked, IsSquare, place_of, IsWritten}
+use Rattle.kp_clash.specs.Paired.{are_both, is_pair, words_of, place_of, is_marked, all_below, marked, IsSquare, IsWritten}
 use Rattle.kp_clash.specs.Removed.{IsWithout}
-use Rattle.kp_clash.proofs.Marked.{place_below, in_all, is_pair_marked}
+use Rattle.kp_clash.proofs.Marked.{place_below, inside, orders, in_all, marked_in, is_pair_marked}
 
 -- ---- lists of which less passes a test
 
@@ -43,32 +43,11 @@ filter_fewer {X} f g (x ∷ xs) y h m k n = elim m [
 
 -- ---- places
 
-place_is : (n p q r s : ℕ) → q < n → s < n → p * n + q ≡ r * n + s → (p ≡ r) × (q ≡ s)
-place_is n p q r s h k e = (sym (div-mul-add p n q h) ∙ (ap (λ m. m / n) e ∙ div-mul-add r n s k), sym (mod-mul-add p n q h) ∙ (ap (λ m. m % n) e ∙ mod-mul-add r n s k))
-
--- two different numbers in their order
-orders : (p q : ℕ) → p ≢ q → (p < q) ⊎ (q < p)
-orders p q ne = by (nat_lt p q) refl
+place_is : (n p q r s : ℕ) → q < words_of n * 64 → s < words_of n * 64 → place_of n p q ≡ place_of n r s → (p ≡ r) × (q ≡ s)
+place_is n p q r s h k e = by (words_of n * 64) h k e
   where
-    by : (b : Bool) → nat_lt p q ≡ b → (p < q) ⊎ (q < p)
-    by true e = inl (ltb-true p q e)
-    by false e = inr (grind (arith, e, ne))
-
-not_below : (p q : ℕ) → p < q → nat_lt q p ≡ false
-not_below p q lt = false_from_ne_true (nat_lt q p) (λ e. let back = ltb-true q p e in omega (arith, lt, back))
-
-place_up : (n p q : ℕ) → p < q → place_of n p q ≡ p * n + q
-place_up n p q lt = ap (λ b. if b then p * n + q else q * n + p) (lt-ltb p q lt)
-
-place_down : (n p q : ℕ) → q < p → place_of n p q ≡ q * n + p
-place_down n p q lt = ap (λ b. if b then p * n + q else q * n + p) (not_below q p lt)
-
-pub place_of_below : (n p q : ℕ) → p < n → q < n → place_of n p q < n * n
-place_of_below n p q h k = by (nat_lt p q)
-  where
-    by : (b : Bool) → (if b then p * n + q else q * n + p) < n * n
-    by true = place_below n p q h k
-    by false = place_below n q p k h
+    by : (w : ℕ) → q < w → s < w → p * w + q ≡ r * w + s → (p ≡ r) × (q ≡ s)
+    by w h k e = (sym (div-mul-add p w q h) ∙ (ap (λ m. m / w) e ∙ div-mul-add r w s k), sym (mod-mul-add p w q h) ∙ (ap (λ m. m % w) e ∙ mod-mul-add r w s k))
 
 -- ---- either order
 
@@ -84,121 +63,117 @@ swap_and true false = refl
 swap_and false true = refl
 swap_and false false = refl
 
-both_of_turned : (p q r s : ℕ) → are_both p q (r, s) ≡ are_both q p (r, s)
-both_of_turned p q r s = swap_or (nat_eq r p && nat_eq s q) (nat_eq r q && nat_eq s p)
-
 both_turned : (p q r s : ℕ) → are_both p q (s, r) ≡ are_both p q (r, s)
 both_turned p q r s = ap₂ (λ a b. a || b) (swap_and (nat_eq s p) (nat_eq r q)) (swap_and (nat_eq s q) (nat_eq r p)) ∙ swap_or (nat_eq r q && nat_eq s p) (nat_eq r p && nat_eq s q)
 
-written_turned : (n : ℕ) (old new : List Bool) (p q : ℕ) (b : Bool) → IsWritten n old new q p b → IsWritten n old new p q b
-written_turned n old new p q b w = record {
-  square = w.square;
-  here = swap_or (bit_at_pair n new p q) (bit_at_pair n new q p) ∙ w.here;
-  others = λ r s e. w.others r s (sym (both_of_turned p q r s) ∙ e);
-}
+-- ---- the two bits of a pair
 
--- ---- one bit
+-- the table with both of them so
+abbrev pub both_set : ℕ → List Bool → ℕ → ℕ → Bool → List Bool
+both_set n old p q b = set (set old (place_of n p q) b) (place_of n q p) b
 
-module _ (n : ℕ) (old : List Bool) (square : IsSquare n old) (p q : ℕ) (lt : p < q) (below : q < n) (b : Bool) where
-  in_table : p * n + q < length old
-  in_table = subst (λ (m : ℕ). p * n + q < m) (sym square.square) (place_below n p q (omega (arith, lt, below)) below)
+module _ (n : ℕ) (old : List Bool) (square : IsSquare n old) (p q : ℕ) (ne : p ≢ q) (h : p < n) (k : q < n) (b : Bool) where
+  there : (r s : ℕ) → r < n → s < n → place_of n r s < length old
+  there r s x y = subst (λ (m : ℕ). place_of n r s < m) (sym square.square) (place_below n r s x (inside n s y))
 
-  bit_here : bit_at_pair n (set old (p * n + q) b) p q ≡ b
-  bit_here = ap₂ (λ x y. x && (y && get_or (set old (p * n + q) b) (p * n + q) false)) (lt-ltb p q lt) (lt-ltb q n below) ∙ get_or-set_same old (p * n + q) b false in_table
+  bit_second : get_or (both_set n old p q b) (place_of n q p) false ≡ b
+  bit_second = get_or-set_same (set old (place_of n p q) b) (place_of n q p) b false (subst (λ (m : ℕ). place_of n q p < m) (sym (length-set old (place_of n p q) b)) (there q p k h))
 
-  bit_other : (r s : ℕ) → are_both p q (r, s) ≡ false → bit_at_pair n (set old (p * n + q) b) r s ≡ bit_at_pair n old r s
-  bit_other r s e = by (nat_lt r s) (nat_lt s n) refl
+  bit_first : get_or (both_set n old p q b) (place_of n p q) false ≡ b
+  bit_first =
+      get_or-set_other (set old (place_of n p q) b) (place_of n q p) (place_of n p q) b false (λ same. ne (place_is n p q q p (inside n q k) (inside n p h) same).0)
+      ∙ get_or-set_same old (place_of n p q) b false (there p q h k)
+
+  bit_other : (r s : ℕ) → s < words_of n * 64 → are_both p q (r, s) ≡ false → get_or (both_set n old p q b) (place_of n r s) false ≡ get_or old (place_of n r s) false
+  bit_other r s l e =
+      get_or-set_other (set old (place_of n p q) b) (place_of n q p) (place_of n r s) b false (λ same.
+      let parts = place_is n r s q p l (inside n p h) same in
+      false≢true (sym e ∙ or_right (nat_eq r p && nat_eq s q) (nat_eq r q && nat_eq s p) (and_from (nat_eq r q) (nat_eq s p) (eq-eqb r q parts.0) (eq-eqb s p parts.1))))
+      ∙ get_or-set_other old (place_of n p q) (place_of n r s) b false (λ same.
+      let parts = place_is n r s p q l (inside n q k) same in
+      false≢true (sym e ∙ or_left (nat_eq r p && nat_eq s q) (nat_eq r q && nat_eq s p) (and_from (nat_eq r p) (nat_eq s q) (eq-eqb r p parts.0) (eq-eqb s q parts.1))))
+
+  here : is_marked n (both_set n old p q b) p q ≡ b
+  here = ap₂ (λ x y. x && (y && get_or (both_set n old p q b) (place_of n p q) false)) (lt-ltb p n h) (lt-ltb q n k) ∙ bit_first
+
+  here_turned : is_marked n (both_set n old p q b) q p ≡ b
+  here_turned = ap₂ (λ x y. x && (y && get_or (both_set n old p q b) (place_of n q p) false)) (lt-ltb q n k) (lt-ltb p n h) ∙ bit_second
+
+  others : (r s : ℕ) → are_both p q (r, s) ≡ false → is_marked n (both_set n old p q b) r s ≡ is_marked n old r s
+  others r s e = by (nat_lt r n) (nat_lt s n) refl
     where
-      by : (x y : Bool) → nat_lt s n ≡ y → (x && (y && get_or (set old (p * n + q) b) (r * n + s) false)) ≡ (x && (y && get_or old (r * n + s) false))
+      by : (x y : Bool) → nat_lt s n ≡ y → (x && (y && get_or (both_set n old p q b) (place_of n r s) false)) ≡ (x && (y && get_or old (place_of n r s) false))
       by false y f = refl
       by true false f = refl
-      by true true f = get_or-set_other old (p * n + q) (r * n + s) b false (λ same.
-          let parts = place_is n r s p q (ltb-true s n f) below same in
-          false≢true (sym e ∙ or_left (nat_eq r p && nat_eq s q) (nat_eq r q && nat_eq s p) (and_from (nat_eq r p) (nat_eq s q) (eq-eqb r p parts.0) (eq-eqb s q parts.1))))
+      by true true f = bit_other r s (inside n s (ltb-true s n f)) e
 
-  square_still : IsSquare n (set old (p * n + q) b)
-  square_still = record { square = length-set old (p * n + q) b ∙ square.square; counted = square.counted }
+  -- the two atoms in one of their orders
+  one_of : (r s : ℕ) → are_both p q (r, s) ≡ true → (P : ℕ → ℕ → Type 0) → P p q → P q p → P r s
+  one_of r s e P x y = elim (or_cases (nat_eq r p && nat_eq s q) (nat_eq r q && nat_eq s p) e) [
+    | inl f ↦
+        let parts = and_parts (nat_eq r p) (nat_eq s q) f in
+        subst (λ (u : ℕ). P u s) (sym (eqb-true r p parts.0)) (subst (λ (v : ℕ). P p v) (sym (eqb-true s q parts.1)) x)
+    | inr f ↦
+        let parts = and_parts (nat_eq r q) (nat_eq s p) f in
+        subst (λ (u : ℕ). P u s) (sym (eqb-true r q parts.0)) (subst (λ (v : ℕ). P q v) (sym (eqb-true s p parts.1)) y)
+  ]
 
-  written_up : IsWritten n old (set old (p * n + q) b) p q b
-  written_up = record {
-    square = square_still;
-    here = ap₂ (λ x y. x || y) bit_here (ap (λ x. x && (nat_lt p n && get_or (set old (p * n + q) b) (q * n + p) false)) (not_below p q lt)) ∙ or_false b;
-    others = λ r s e. ap₂ (λ x y. x || y) (bit_other r s e) (bit_other s r (both_turned p q r s ∙ e));
+  still_square : IsSquare n (both_set n old p q b)
+  still_square = record {
+    square = length-set (set old (place_of n p q) b) (place_of n q p) b ∙ (length-set old (place_of n p q) b ∙ square.square);
+    counted = square.counted;
+    either_order = λ r s. turned r s (are_both p q (r, s)) refl;
+    only = λ r s x y m. only r s x y m (are_both p q (r, s)) refl;
   }
     where
-      or_false : (x : Bool) → (x || false) ≡ x
-      or_false true = refl
-      or_false false = refl
+      turned : (r s : ℕ) (x : Bool) → are_both p q (r, s) ≡ x → is_marked n (both_set n old p q b) r s ≡ is_marked n (both_set n old p q b) s r
+      turned r s true e = one_of r s e (λ u v. is_marked n (both_set n old p q b) u v ≡ is_marked n (both_set n old p q b) v u) (here ∙ sym here_turned) (here_turned ∙ sym here)
+      turned r s false e = others r s e ∙ (square.either_order r s ∙ sym (others s r (both_turned p q r s ∙ e)))
 
--- clearing the bit of a pair leaves fewer
-fewer_up : (n : ℕ) (old : List Bool) → IsSquare n old → (p q : ℕ) → p < q → q < n → is_marked n old p q ≡ true → length (marked n (set old (p * n + q) false)) < length (marked n old)
-fewer_up n old square p q lt below h =
-    filter_fewer (λ (x : ℕ × ℕ). bit_at_pair n new x.0 x.1) (λ (x : ℕ × ℕ). bit_at_pair n old x.0 x.1) (all_below n) (p, q) less (in_all n p q (omega (arith, lt, below)) below) set_before (bit_here n old square p q lt below false)
+      only : (r s : ℕ) → r < n → s < words_of n * 64 → get_or (both_set n old p q b) (place_of n r s) false ≡ true → (x : Bool) → are_both p q (r, s) ≡ x → (s < n) × (r ≢ s)
+      only r s x y m true e = one_of r s e (λ u v. (v < n) × (u ≢ v)) (k, ne) (h, λ f. ne (sym f))
+      only r s x y m false e = square.only r s x y (sym (bit_other r s y e) ∙ m)
+
+  pub written : IsWritten n old (both_set n old p q b) p q b
+  written = record { square = still_square; here = here; others = others }
+
+-- clearing the bits of a pair leaves fewer
+pub fewer : (n : ℕ) (old : List Bool) → IsSquare n old → (p q : ℕ) → p ≢ q → p < n → q < n → is_marked n old p q ≡ true → length (marked n (both_set n old p q false)) < length (marked n old)
+fewer n old square p q ne h k m = elim (orders p q ne) [
+  | inl lt ↦ without p q lt h k m (here n old square p q ne h k false)
+  | inr lt ↦ without q p lt k h (square.either_order q p ∙ m) (here_turned n old square p q ne h k false)
+]
   where
     new : List Bool
-    new = set old (p * n + q) false
+    new = both_set n old p q false
 
-    set_before : bit_at_pair n old p q ≡ true
-    set_before = elim (or_cases (bit_at_pair n old p q) (bit_at_pair n old q p) h) [
-      | inl e ↦ e
-      | inr e ↦ absurd (false≢true (sym (not_below p q lt) ∙ (and_parts (nat_lt q p) _ e).0))
-    ]
+    in_order : List Bool → ℕ × ℕ → Bool
+    in_order bits x = nat_lt x.0 x.1 && is_marked n bits x.0 x.1
 
-    less : (x : ℕ × ℕ) → bit_at_pair n new x.0 x.1 ≡ true → bit_at_pair n old x.0 x.1 ≡ true
-    less x k = by (are_both p q (x.0, x.1)) refl
-      where
-        by : (c : Bool) → are_both p q (x.0, x.1) ≡ c → bit_at_pair n old x.0 x.1 ≡ true
-        by false e = sym (bit_other n old square p q lt below false x.0 x.1 e) ∙ k
-        by true e = elim (or_cases (nat_eq x.0 p && nat_eq x.1 q) (nat_eq x.0 q && nat_eq x.1 p) e) [
-          | inl f ↦
-              let parts = and_parts (nat_eq x.0 p) (nat_eq x.1 q) f in
-              ap₂ (bit_at_pair n old) (eqb-true x.0 p parts.0) (eqb-true x.1 q parts.1) ∙ set_before
-          | inr f ↦
-              let parts = and_parts (nat_eq x.0 q) (nat_eq x.1 p) f in
-              let order : x.0 < x.1 = ltb-true x.0 x.1 (and_parts (nat_lt x.0 x.1) _ k).0 in
-              let first = eqb-true x.0 q parts.0 in
-              let second = eqb-true x.1 p parts.1 in
-              absurd (omega (arith, order, first, second, lt))
-        ]
+    before : (r s : ℕ) → is_marked n new r s ≡ true → (x : Bool) → are_both p q (r, s) ≡ x → is_marked n old r s ≡ true
+    before r s t true e = absurd (false≢true (sym (one_of n old square p q ne h k false r s e (λ u v. is_marked n new u v ≡ false) (here n old square p q ne h k false) (here_turned n old square p q ne h k false)) ∙ t))
+    before r s t false e = sym (others n old square p q ne h k false r s e) ∙ t
 
--- ---- in either order
+    less : (x : ℕ × ℕ) → in_order new x ≡ true → in_order old x ≡ true
+    less x t = let parts = and_parts (nat_lt x.0 x.1) (is_marked n new x.0 x.1) t in and_from (nat_lt x.0 x.1) (is_marked n old x.0 x.1) parts.0 (before x.0 x.1 parts.1 (are_both p q (x.0, x.1)) refl)
 
-pub written : (n : ℕ) (old : List Bool) → IsSquare n old → (p q : ℕ) → p ≢ q → p < n → q < n → (b : Bool) → IsWritten n old (set old (place_of n p q) b) p q b
-written n old square p q ne h k b = elim (orders p q ne) [
-  | inl lt ↦ subst (λ (m : ℕ). IsWritten n old (set old m b) p q b) (sym (place_up n p q lt)) (written_up n old square p q lt k b)
-  | inr lt ↦ subst (λ (m : ℕ). IsWritten n old (set old m b) p q b) (sym (place_down n p q lt)) (written_turned n old (set old (q * n + p) b) p q b (written_up n old square q p lt h b))
-]
-
-pub fewer : (n : ℕ) (old : List Bool) → IsSquare n old → (p q : ℕ) → p ≢ q → p < n → q < n → is_marked n old p q ≡ true → length (marked n (set old (place_of n p q) false)) < length (marked n old)
-fewer n old square p q ne h k m = elim (orders p q ne) [
-  | inl lt ↦ subst (λ (i : ℕ). length (marked n (set old i false)) < length (marked n old)) (sym (place_up n p q lt)) (fewer_up n old square p q lt k m)
-  | inr lt ↦ subst (λ (i : ℕ). length (marked n (set old i false)) < length (marked n old)) (sym (place_down n p q lt)) (fewer_up n old square q p lt h (swap_or (bit_at_pair n old q p) (bit_at_pair n old p q) ∙ m))
-]
-
--- what is marked is two different numbers below n
-pub marked_in : (n : ℕ) (bits : List Bool) (p q : ℕ) → is_marked n bits p q ≡ true → (p ≢ q) × (p < n) × (q < n)
-marked_in n bits p q h = elim (or_cases (bit_at_pair n bits p q) (bit_at_pair n bits q p) h) [
-  | inl e ↦
-      let x = and_parts (nat_lt p q) _ e in
-      let lt = ltb-true p q x.0 in
-      let below = ltb-true q n (and_parts (nat_lt q n) _ x.1).0 in
-      (omega (arith, lt), omega (arith, lt, below), below)
-  | inr e ↦
-      let x = and_parts (nat_lt q p) _ e in
-      let lt = ltb-true q p x.0 in
-      let below = ltb-true p n (and_parts (nat_lt p n) _ x.1).0 in
-      (omega (arith, lt), below, omega (arith, lt, below))
-]
+    without : (u v : ℕ) → u < v → u < n → v < n → is_marked n old u v ≡ true → is_marked n new u v ≡ false → length (marked n new) < length (marked n old)
+    without u v lt x y was gone =
+        filter_fewer (in_order new) (in_order old) (all_below n) (u, v) less (in_all n u v x y)
+        (and_from (nat_lt u v) (is_marked n old u v) (lt-ltb u v lt) was)
+        (false_from_ne_true (in_order new (u, v)) (λ t. false≢true (sym gone ∙ (and_parts (nat_lt u v) (is_marked n new u v) t).1)))
 
 -- ---- pairs
 
--- a pair whose bit is cleared is gone, and no other
-pub cleared : (n : ℕ) (old : List Bool) → IsSquare n old → (p q : ℕ) → is_pair (marked n old) p q ≡ true → IsWithout p q (marked n old) (marked n (set old (place_of n p q) false))
+-- a pair whose bits are cleared is gone, and no other
+pub cleared : (n : ℕ) (old : List Bool) → IsSquare n old → (p q : ℕ) → is_pair (marked n old) p q ≡ true → IsSquare n (both_set n old p q false) × IsWithout p q (marked n old) (marked n (both_set n old p q false))
 cleared n old square p q h =
-    let set_before : is_marked n old p q ≡ true = sym (is_pair_marked n old p q) ∙ h in
-    let inside = marked_in n old p q set_before in
-    let w = written n old square p q inside.0 inside.1 inside.2 false in
-    record {
-      others = λ r s e. is_pair_marked n (set old (place_of n p q) false) r s ∙ (w.others r s e ∙ sym (is_pair_marked n old r s));
-      fewer = fewer n old square p q inside.0 inside.1 inside.2 set_before;
-    }
+    let set_before : is_marked n old p q ≡ true = sym (is_pair_marked n old square p q) ∙ h in
+    let x = marked_in n old square p q set_before in
+    let w = written n old square p q x.0 x.1 x.2 false in (
+      w.square,
+      record {
+        others = λ r s e. is_pair_marked n (both_set n old p q false) w.square r s ∙ (w.others r s e ∙ sym (is_pair_marked n old square r s));
+        fewer = fewer n old square p q x.0 x.1 x.2 set_before;
+      },
+    )

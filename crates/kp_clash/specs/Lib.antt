@@ -1,4 +1,5 @@
 pub mod Counted
+pub mod Left
 pub mod Paired
 pub mod Removed
 pub mod Searching

@@ -1,5 +1,6 @@
 //! Looks for a pair that doesn't stay.
-ghost use Rattle.std.specs.Prelude.{◌≡◌, ◌++◌, ◌||◌, [], ◌∷◌, ℕ, true, false};
+ghost use Rattle.std.specs.Prelude.{◌≡◌, ◌<◌, ◌%◌, ◌++◌, ◌||◌, [], ◌∷◌, ℕ, true, false};
+ghost use Rattle.std.specs.Int.{bit_at};
 ghost use Rattle.std.specs.List.{list_any};
 ghost use Rattle.kp_base.specs.Clashes.{are_exclusive, are_compatible};
 ghost use Rattle.kp_base.specs.Exclusive.{firing_with};
@@ -8,11 +9,16 @@ ghost use Rattle.kp_base.specs.Lit.{positive};
 ghost use Rattle.kp_clash.specs.Paired.{is_pair};
 ghost use Rattle.kp_clash.specs.Settled.{deletes_within};
 ghost use Rattle.kp_clash.specs.Removed.{breaks, adds_pair, FindsAlone, FindsTogether, FindsOfEffect, FindsBroken};
+ghost use Rattle.kp_clash.specs.Left.{all_added, FindsInWord};
 
 use crate::Pairs;
+use crate::added::{WORDS, atoms_added, may_add_pair};
 use crate::compatible::{all_compatible, are_compatible, are_exclusive};
+use crate::left::candidates;
+use crate::pairs::words_of;
 use crate::within::{deletes_within, holding};
 use kp_base::{Action, AtomId, Effect, Ground, Lit};
+use kp_bits::has_bit;
 
 // Whether some literal is never true together with the atom.
 fn excludes(pairs: &Pairs, lits: &[Lit], atom: AtomId) -> bool
@@ -42,6 +48,44 @@ fn breaks(pairs: &Pairs, action: &Action, effect: &Effect, q: AtomId) -> bool
     pairs.has(effect.result.atom, q) && !is_against(pairs, action, effect, q)
 }
 
+// The same, where the bit of the atom is set in the word unless the effect surely doesn't.
+fn breaks_at(pairs: &Pairs, action: &Action, effect: &Effect, word: u64, q: u32) -> bool
+    requires different { (p : ℕ) → is_pair pairs.now p p ≡ false }
+    requires adds { effect.now.result.positive ≡ true }
+    requires compatible { are_compatible (is_pair pairs.now) (action.now.pre ++ effect.now.cond) ≡ true }
+    requires candidate { breaks (is_pair pairs.now) action.now effect.now q ≡ true → bit_at word (q % 64) ≡ 1 }
+    ensures { result ≡ breaks (is_pair pairs.now) action.now effect.now q }
+{
+    has_bit(word, q % 64) && breaks(pairs, action, effect, AtomId(q))
+}
+
+// The other atom of the first pair that the effect breaks alone, among the 64 from 64 k on and from an atom on.
+fn first_in_word(
+    pairs: &Pairs,
+    action: &Action,
+    effect: &Effect,
+    from: u32,
+    k: u32,
+) -> Option<AtomId>
+    requires different { (p : ℕ) → is_pair pairs.now p p ≡ false }
+    requires adds { effect.now.result.positive ≡ true }
+    requires compatible { are_compatible (is_pair pairs.now) (action.now.pre ++ effect.now.cond) ≡ true }
+    requires few { k < 1024 }
+    ensures { FindsInWord (is_pair pairs.now) action.now effect.now from k result }
+{
+    let word = candidates(pairs, action, effect, k);
+    if word == 0 {
+        return None;
+    }
+    let start = if from < k * 64 { k * 64 } else { from };
+    for q in start..k * 64 + 64 {
+        if breaks_at(pairs, action, effect, word, q) {
+            return Some(AtomId(q));
+        }
+    }
+    None
+}
+
 /// The other atom of the first pair, from an atom on, that the effect breaks alone.
 pub(crate) fn next_alone(
     pairs: &Pairs,
@@ -57,10 +101,10 @@ pub(crate) fn next_alone(
     if !all_compatible(pairs, action.pre.slice(), effect.cond.slice(), &[]) {
         return None;
     }
-    let atoms = pairs.atoms();
-    for q in from..atoms {
-        if breaks(pairs, action, effect, AtomId(q)) {
-            return Some(AtomId(q));
+    let words = words_of(pairs.atoms());
+    for k in from / 64..words {
+        if let Some(q) = first_in_word(pairs, action, effect, from, k) {
+            return Some(q);
         }
     }
     None
@@ -76,10 +120,19 @@ pub(crate) fn adds_pair(pairs: &Pairs, action: &Action, one: &Effect, other: &Ef
 }
 
 // The other atom of the first pair that the effect breaks together with another effect.
-fn first_together(pairs: &Pairs, action: &Action, effect: &Effect) -> Option<AtomId>
-    requires { Member action.now.effects effect.now }
+fn first_together(
+    pairs: &Pairs,
+    action: &Action,
+    effect: &Effect,
+    added: &[u64; WORDS],
+) -> Option<AtomId>
+    requires of_action { Member action.now.effects effect.now }
+    requires added { all_added added.now action.now.effects ≡ true }
     ensures { FindsTogether (is_pair pairs.now) action.now effect.now result }
 {
+    if !may_add_pair(pairs, action, effect, added) {
+        return None;
+    }
     for other in action.effects.slice() {
         if adds_pair(pairs, action, effect, other) {
             return Some(other.result.atom);
@@ -89,14 +142,20 @@ fn first_together(pairs: &Pairs, action: &Action, effect: &Effect) -> Option<Ato
 }
 
 // A pair that the effect breaks.
-fn of_effect(pairs: &Pairs, action: &Action, effect: &Effect) -> Option<(AtomId, AtomId)>
-    requires { Member action.now.effects effect.now }
+fn of_effect(
+    pairs: &Pairs,
+    action: &Action,
+    effect: &Effect,
+    added: &[u64; WORDS],
+) -> Option<(AtomId, AtomId)>
+    requires of_action { Member action.now.effects effect.now }
+    requires added { all_added added.now action.now.effects ≡ true }
     ensures { FindsOfEffect (is_pair pairs.now) action.now effect.now result }
 {
     if let Some(q) = next_alone(pairs, action, effect, 0) {
         return Some((effect.result.atom, q));
     }
-    match first_together(pairs, action, effect) {
+    match first_together(pairs, action, effect, added) {
         Some(q) => Some((effect.result.atom, q)),
         None => None,
     }
@@ -106,8 +165,9 @@ fn of_effect(pairs: &Pairs, action: &Action, effect: &Effect) -> Option<(AtomId,
 fn of_action(pairs: &Pairs, action: &Action) -> Option<(AtomId, AtomId)>
     ensures { FindsBroken (is_pair pairs.now) (action.now ∷ []) result }
 {
+    let added = atoms_added(action.effects.slice());
     for effect in action.effects.slice() {
-        if let Some(found) = of_effect(pairs, action, effect) {
+        if let Some(found) = of_effect(pairs, action, effect, &added) {
             return Some(found);
         }
     }

@@ -5,6 +5,7 @@ ghost use Rattle.kp_clash.specs.Paired.{is_pair};
 ghost use Rattle.kp_clash.specs.Settling.{AreNeverTogether};
 
 use crate::Pairs;
+use crate::pairs::table_size;
 use crate::settle::settle;
 use crate::start::mark_clauses;
 use kp_base::{Ground, Memory};
@@ -17,7 +18,7 @@ fn never_together(alloc: Global, atoms: u32, primes: &Primes) -> Result<Pairs, M
     requires { primes.now.atoms ≡ atoms }
     ensures { IfOk result (λ pairs. AreNeverTogether (formula primes.now) atoms (is_pair pairs)) }
 {
-    let Some(size) = atoms.checked_mul(atoms) else {
+    let Some(size) = table_size(atoms) else {
         return Err(Memory);
     };
     let mut table = Bits::new(alloc, size)?;

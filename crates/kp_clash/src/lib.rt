@@ -2,11 +2,13 @@
 //! `IsFirstClash` and `HasNoClash` in `kp_base/specs/Clashes.antt` say what `clash_test` gives.
 #![tactic(auto)]
 
+mod added;
 mod broken;
 mod clash;
 mod compatible;
 mod deleted;
 mod find;
+mod left;
 mod pairs;
 mod settle;
 mod start;

@@ -1,10 +1,12 @@
 //! Removes pairs that don't stay.
-ghost use Rattle.std.specs.Prelude.{[], ◌∷◌};
+ghost use Rattle.std.specs.Prelude.{◌≡◌, true, [], ◌∷◌};
 ghost use Rattle.kp_base.specs.Lists.{Member};
 ghost use Rattle.kp_clash.specs.Removed.{Shrinks};
+ghost use Rattle.kp_clash.specs.Left.{all_added};
 ghost use Rattle.kp_clash.specs.Settling.{IsSettled};
 
 use crate::Pairs;
+use crate::added::{WORDS, atoms_added, may_add_pair};
 use crate::broken::{adds_pair, broken, next_alone};
 use kp_base::{Action, Effect, Ground};
 
@@ -20,34 +22,54 @@ fn clear_alone(pairs: &mut Pairs, action: &Action, effect: &Effect)
     }
 }
 
-// Removes the pair whose atoms the two effects may add.
-fn clear_both(pairs: &mut Pairs, action: &Action, effect: &Effect, other: &Effect)
+// Removes the pair whose atoms the two effects may add, and tells whether there was one.
+fn clear_both(pairs: &mut Pairs, action: &Action, effect: &Effect, other: &Effect) -> bool
     requires one { Member action.now.effects effect.now }
     requires other { Member action.now.effects other.now }
     ensures { Shrinks (action.now ∷ []) pairs.old pairs.new }
 {
     if adds_pair(pairs, action, effect, other) {
         pairs.remove(effect.result.atom, other.result.atom);
+        true
+    } else {
+        false
+    }
+}
+
+// Removes the pairs that the effect breaks together with another effect.
+fn clear_together(pairs: &mut Pairs, action: &Action, effect: &Effect, added: &[u64; WORDS])
+    requires of_action { Member action.now.effects effect.now }
+    requires added { all_added added.now action.now.effects ≡ true }
+    ensures { Shrinks (action.now ∷ []) pairs.old pairs.new }
+{
+    let mut left = may_add_pair(pairs, action, effect, added);
+    for other in action.effects.slice() {
+        if !left {
+            return;
+        }
+        if clear_both(pairs, action, effect, other) {
+            left = may_add_pair(pairs, action, effect, added);
+        }
     }
 }
 
 // Removes the pairs that the effect breaks.
-fn clear_effect(pairs: &mut Pairs, action: &Action, effect: &Effect)
-    requires { Member action.now.effects effect.now }
+fn clear_effect(pairs: &mut Pairs, action: &Action, effect: &Effect, added: &[u64; WORDS])
+    requires of_action { Member action.now.effects effect.now }
+    requires added { all_added added.now action.now.effects ≡ true }
     ensures { Shrinks (action.now ∷ []) pairs.old pairs.new }
 {
     clear_alone(pairs, action, effect);
-    for other in action.effects.slice() {
-        clear_both(pairs, action, effect, other);
-    }
+    clear_together(pairs, action, effect, added);
 }
 
 // Removes the pairs that an effect of the action breaks.
 fn clear_action(pairs: &mut Pairs, action: &Action)
     ensures { Shrinks (action.now ∷ []) pairs.old pairs.new }
 {
+    let added = atoms_added(action.effects.slice());
     for effect in action.effects.slice() {
-        clear_effect(pairs, action, effect);
+        clear_effect(pairs, action, effect, &added);
     }
 }
 

@@ -9,4 +9,4 @@ pub returns-then-adds_pair : goal.returns-then-adds_pair
 returns-then-adds_pair c =
     let in-items = item_member c.slice-other-items.result.now c.loop-other.other-index c.other-item.result c.loop-other-test.true c.other-item.is in
     let in-effects : Member c.args.action.now.effects c.other-item.result = rw c.slice-other-items.ensures at in-items in
-    adds_broken (is_pair c.args.pairs.now) c.args.action.now c.args.effect.now c.other-item.result c.requires in-effects (sym c.adds_pair.ensures ∙ c.if-adds_pair.true)
+    adds_broken (is_pair c.args.pairs.now) c.args.action.now c.args.effect.now c.other-item.result c.requires.of_action in-effects (sym c.adds_pair.ensures ∙ c.if-adds_pair.true)

@@ -5,6 +5,7 @@ use Rattle.kp_clash.specs.Paired.{is_pair}
 use Rattle.kp_clash.specs.Removed.{breaks}
 use Rattle.kp_clash.proofs.Removing.{breaks_broken_pair}
 use Rattle.kp_clash.proofs.Firing.{breaks_not}
+use Rattle.kp_clash.proofs.Marked.{width}
 use Rattle.kp_clash.proofs.broken.next_alone.Goals as goal
 
 pub returns-then-not-all_compatible : goal.returns-then-not-all_compatible
@@ -15,6 +16,8 @@ returns-then-not-all_compatible c = λ q _.
 pub returns : goal.returns
 returns c = λ q le. false_from_ne_true (breaks (is_pair c.args.pairs.now) c.args.action.now c.args.effect.now q) (λ h.
     let pair = (breaks_broken_pair (is_pair c.args.pairs.now) c.args.action.now c.args.effect.now q h) in
-    let below = c.atoms-atoms.ensures.below c.args.effect.now.result.atom.0 q pair in
-    let seen = c.loop-q-test.false in
-    false≢true (sym (c.loop-q.invariant q le (omega (arith, below, seen))) ∙ h))
+    let below = c.atoms.ensures.below c.args.effect.now.result.atom.0 q pair in
+    let words = c.words_of-words.ensures in
+    let row = (width c.atoms.result).0 in
+    let seen = c.loop-k-test.false in
+    false≢true (sym (c.loop-k.invariant q le (omega (arith, below, seen, words, row))) ∙ h))

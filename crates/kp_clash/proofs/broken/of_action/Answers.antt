@@ -9,8 +9,8 @@ use Rattle.kp_clash.proofs.Removing.{pair_turned, none_stays}
 use Rattle.kp_clash.proofs.Walks.{item_member, taken_more, taken_all}
 use Rattle.kp_clash.proofs.broken.of_action.Goals as goal
 
-pub of_effect-requires : goal.of_effect-requires
-of_effect-requires c =
+pub of_effect-requires-clause-of_action : goal.of_effect-requires-clause-of_action
+of_effect-requires-clause-of_action c =
     let in-items = item_member c.slice-effect-items.result.now c.loop-effect.effect-index c.effect-item.result c.loop-effect-test.true c.effect-item.is in
     rw c.slice-effect-items.ensures at in-items
 

@@ -7,4 +7,4 @@ use Rattle.kp_clash.proofs.broken.of_effect.Goals as goal
 pub returns-in-Some : goal.returns-in-Some
 returns-in-Some c =
     let found : FindsAlone (is_pair c.args.pairs.now) c.args.action.now c.args.effect.now 0 (Some c.in-Some.q) = rw c.in-Some.is at c.next_alone.ensures in
-    breaks_broken (is_pair c.args.pairs.now) c.args.action.now c.args.effect.now c.in-Some.q.0 c.requires found.0
+    breaks_broken (is_pair c.args.pairs.now) c.args.action.now c.args.effect.now c.in-Some.q.0 c.requires.of_action found.0

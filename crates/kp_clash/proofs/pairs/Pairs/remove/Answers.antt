@@ -1,23 +1,42 @@
-use Rattle.std.proofs.Common.{◌≡◌, ◌<◌, ℕ, true, List, length, sym, subst, ◌∙◌}
-use Rattle.kp_clash.specs.Paired.{is_pair, is_marked, marked}
+use Rattle.std.proofs.Common.{◌≡◌, ◌<◌, ◌*◌, ℕ, Bool, true, false, List, length, set, sym, ap, ap₂, subst, ◌∙◌}
+use Rattle.std.proofs.lemmas.List.{length-set}
+use Rattle.kp_clash.specs.Paired.{is_pair, place_of, words_of, marked, IsSquare}
 use Rattle.kp_clash.specs.Removed.{IsWithout}
-use Rattle.kp_clash.proofs.Marked.{is_pair_marked}
-use Rattle.kp_clash.proofs.Written.{marked_in, place_of_below, cleared}
+use Rattle.kp_clash.proofs.Marked.{pair_in, place_below, inside}
+use Rattle.kp_clash.proofs.Written.{both_set, cleared}
 use Rattle.kp_clash.proofs.pairs.Pairs.remove.Goals as goal
 
 pub place-requires-clause-first : goal.place-requires-clause-first
-place-requires-clause-first c = (marked_in c.self.inside.atoms c.self.inside.table c.args.p.0 c.args.q.0 (sym (is_pair_marked c.self.inside.atoms c.self.inside.table c.args.p.0 c.args.q.0) ∙ rw c.self.view_is c.requires)).1
+place-requires-clause-first c = (pair_in c.self.inside.atoms c.self.inside.table c.self.invariant c.args.p.0 c.args.q.0 (rw c.self.view_is c.requires)).1
 
 pub place-requires-clause-second : goal.place-requires-clause-second
-place-requires-clause-second c = (marked_in c.self.inside.atoms c.self.inside.table c.args.p.0 c.args.q.0 (sym (is_pair_marked c.self.inside.atoms c.self.inside.table c.args.p.0 c.args.q.0) ∙ rw c.self.view_is c.requires)).2
+place-requires-clause-second c = (pair_in c.self.inside.atoms c.self.inside.table c.self.invariant c.args.p.0 c.args.q.0 (rw c.self.view_is c.requires)).2
 
 pub clear-requires : goal.clear-requires
 clear-requires c =
-    let inside = marked_in c.self.inside.atoms c.self.inside.table c.args.p.0 c.args.q.0 (sym (is_pair_marked c.self.inside.atoms c.self.inside.table c.args.p.0 c.args.q.0) ∙ rw c.self.view_is c.requires) in
-    rw (c.place.ensures, c.self.invariant.square) (place_of_below c.self.inside.atoms c.args.p.0 c.args.q.0 inside.1 inside.2)
+    let x = pair_in c.self.inside.atoms c.self.inside.table c.self.invariant c.args.p.0 c.args.q.0 (rw c.self.view_is c.requires) in
+    rw (c.place.ensures, c.self.invariant.square) (place_below c.self.inside.atoms c.args.p.0 c.args.q.0 x.1 (inside c.self.inside.atoms c.args.q.0 x.2))
+
+pub place-requires-2-clause-first : goal.place-requires-2-clause-first
+place-requires-2-clause-first c = (pair_in c.self.inside.atoms c.self.inside.table c.self.invariant c.args.p.0 c.args.q.0 (rw c.self.view_is c.requires)).2
+
+pub place-requires-2-clause-second : goal.place-requires-2-clause-second
+place-requires-2-clause-second c = (pair_in c.self.inside.atoms c.self.inside.table c.self.invariant c.args.p.0 c.args.q.0 (rw c.self.view_is c.requires)).1
+
+pub clear-requires-2 : goal.clear-requires-2
+clear-requires-2 c =
+    let x = pair_in c.self.inside.atoms c.self.inside.table c.self.invariant c.args.p.0 c.args.q.0 (rw c.self.view_is c.requires) in
+    let size : length c.clear.new.self ≡ c.self.inside.atoms * (words_of c.self.inside.atoms * 64) = ap length c.clear.ensures ∙ (length-set c.self.inside.table c.place.result false ∙ c.self.invariant.square) in
+    rw (c.place-2.ensures, size) (place_below c.self.inside.atoms c.args.q.0 c.args.p.0 x.2 (inside c.self.inside.atoms c.args.p.0 x.1))
+
+pub invariant_of-self : goal.invariant_of-self
+invariant_of-self c =
+    let table : c.clear-2.new.self ≡ both_set c.self.inside.atoms c.self.inside.table c.args.p.0 c.args.q.0 false = c.clear-2.ensures ∙ ap₂ (λ t i. set t i false) (c.clear.ensures ∙ ap (λ i. set c.self.inside.table i false) c.place.ensures) c.place-2.ensures in
+    subst (λ (t : List Bool). IsSquare c.self.inside.atoms t) (sym table) (cleared c.self.inside.atoms c.self.inside.table c.self.invariant c.args.p.0 c.args.q.0 (rw c.self.view_is c.requires)).0
 
 pub returns : goal.returns
 returns c =
-    let pair : is_pair (marked c.self.inside.atoms c.self.inside.table) c.args.p.0 c.args.q.0 ≡ true = rw c.self.view_is c.requires in
-    subst (λ (ps : List (ℕ × ℕ)). IsWithout c.args.p.0 c.args.q.0 ps (marked c.self.inside.atoms c.clear.new.self)) c.self.view_is
-    (rw (c.clear.ensures, c.place.ensures) (cleared c.self.inside.atoms c.self.inside.table c.self.invariant c.args.p.0 c.args.q.0 pair))
+    let table : c.clear-2.new.self ≡ both_set c.self.inside.atoms c.self.inside.table c.args.p.0 c.args.q.0 false = c.clear-2.ensures ∙ ap₂ (λ t i. set t i false) (c.clear.ensures ∙ ap (λ i. set c.self.inside.table i false) c.place.ensures) c.place-2.ensures in
+    subst (λ (ps : List (ℕ × ℕ)). IsWithout c.args.p.0 c.args.q.0 ps (marked c.self.inside.atoms c.clear-2.new.self)) c.self.view_is
+    (subst (λ (t : List Bool). IsWithout c.args.p.0 c.args.q.0 (marked c.self.inside.atoms c.self.inside.table) (marked c.self.inside.atoms t)) (sym table)
+    (cleared c.self.inside.atoms c.self.inside.table c.self.invariant c.args.p.0 c.args.q.0 (rw c.self.view_is c.requires)).1)

@@ -1,7 +1,7 @@
 use Rattle.std.proofs.Common.{[], ◌∷◌}
 use Rattle.kp_clash.proofs.Removing.{shrinks_on}
 use Rattle.kp_clash.proofs.Walks.{item_member}
-use Rattle.kp_clash.proofs.settle.clear_effect.Goals as goal
+use Rattle.kp_clash.proofs.settle.clear_together.Goals as goal
 
 pub clear_both-requires-clause-other : goal.clear_both-requires-clause-other
 clear_both-requires-clause-other c =

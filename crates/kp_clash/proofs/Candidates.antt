@@ -1,0 +1,75 @@
+-- Words of atoms that are left, and of atoms that are added.
+use Rattle.std.proofs.Common.{◌≡◌, ◌<◌, ◌≤◌, ◌+◌, ◌/◌, ◌%◌, ⊎_elim, ℕ, zero, suc, Bool, true, false, not, ◌&&◌, ◌||◌, List, length, take, get_or, nat_eq, nat_lt, inl, inr, refl, sym, ap, ap₂, ◌∙◌, arith}
+use Rattle.std.proofs.lemmas.Bool.{and_parts, and_from, or_cases, or_right, false≢true, false_from_ne_true, lt-ltb, eqb-true, eq-eqb}
+use Rattle.std.proofs.lemmas.List.Folds.{list_any_more, list_all_more}
+use Rattle.std.proofs.lemmas.Nat.Bits.{bit_at-lt}
+use Rattle.std.specs.Int.{bit_at}
+use Rattle.std.specs.List.{list_any, list_all}
+use Rattle.kp_base.specs.declared.lit.Lit.{Lit}
+use Rattle.kp_base.specs.declared.ground.Effect.{Effect}
+use Rattle.kp_base.specs.declared.ground.Action.{Action}
+use Rattle.kp_base.specs.Lit.{positive, negated, same_lit}
+use Rattle.kp_base.specs.Clashes.{Pairs, are_exclusive, compatible_effects}
+use Rattle.kp_base.proofs.Lists.{all_member, all_weaker, any_member}
+use Rattle.kp_clash.specs.Left.{bit_in, KeepsBits, is_added, all_added, KeepsFree}
+use Rattle.kp_clash.specs.Removed.{adds_pair}
+
+none_of : (a b : Bool) → (a || b) ≡ false → (a ≡ false) × (b ≡ false)
+none_of true b e = absurd (false≢true (sym e))
+none_of false b e = (refl, e)
+
+-- a bit that isn't set
+clear_bit : (b : ℕ) → b < 2 → (b ≡ 1 → ⊥) → b ≡ 0
+clear_bit zero h n = refl
+clear_bit (suc zero) h n = absurd (n refl)
+clear_bit (suc (suc b)) h n = absurd (omega (arith, h))
+
+-- ---- atoms that are left
+
+-- an atom that the literal doesn't exclude is no pair with its atom
+pub not_in_row : (pairs : Pairs) (l : Lit) (q w : ℕ) → l.positive ≡ true → are_exclusive pairs l (positive q) ≡ false → (bit_at w (q % 64) ≡ 1 → pairs l.atom.0 q ≡ true) → bit_at w (q % 64) ≡ 0
+not_in_row pairs l q w sign free pair = clear_bit (bit_at w (q % 64)) (bit_at-lt w (q % 64)) (λ one.
+    false≢true (sym free ∙ or_right (same_lit (negated l) (positive q)) (l.positive && true && pairs l.atom.0 q) (and_from (l.positive && true) (pairs l.atom.0 q) (and_from l.positive true sign refl) (pair one))))
+
+-- one literal more
+pub free_more : (pairs : Pairs) (ls : List Lit) (k old mid new i : ℕ) (l : Lit) → i < length ls → l ≡ get_or ls i l → KeepsFree pairs (take i ls) k old mid
+    → ((q : ℕ) → q / 64 ≡ k → are_exclusive pairs l (positive q) ≡ false → bit_at mid (q % 64) ≡ 1 → bit_at new (q % 64) ≡ 1) → KeepsFree pairs (take (i + 1) ls) k old new
+free_more pairs ls k old mid new i l below is before step = λ q e none h.
+    let parts = none_of _ _ (sym (list_any_more (λ l. are_exclusive pairs l (positive q)) ls i l below) ∙ none) in
+    step q e (ap (λ l. are_exclusive pairs l (positive q)) is ∙ parts.1) (before q e parts.0 h)
+
+-- ---- atoms that are added
+
+stay_added : (old new : List ℕ) (es : List Effect) → KeepsBits old new → all_added old es ≡ true → all_added new es ≡ true
+stay_added old new es keeps = all_weaker (is_added old) (is_added new) es (λ e _. by e.result.atom.0 (not e.result.positive) (not (nat_lt e.result.atom.0 65536)))
+  where
+    by : (q : ℕ) (s t : Bool) → (s || (t || nat_eq (bit_in old q) 1)) ≡ true → (s || (t || nat_eq (bit_in new q) 1)) ≡ true
+    by q true t h = refl
+    by q false true h = refl
+    by q false false h = eq-eqb (bit_in new q) 1 (keeps q (eqb-true (bit_in old q) 1 h))
+
+pub added_more : (old new : List ℕ) (es : List Effect) (i : ℕ) (d : Effect) → i < length es → KeepsBits old new → d ≡ get_or es i d → is_added new d ≡ true → all_added old (take i es) ≡ true → all_added new (take (i + 1) es) ≡ true
+added_more old new es i d below keeps is here h = rw (list_all_more (is_added new) es i d below) (and_from (all_added new (take i es)) (is_added new (get_or es i d)) (stay_added old new (take i es) keeps h) (ap (is_added new) (sym is) ∙ here))
+
+-- where no pair of its atom is with an atom that is added, the effect adds no pair with another
+pub adds_none : (pairs : Pairs) (words : List ℕ) (a : Action) (e : Effect) → all_added words a.effects ≡ true → ((q : ℕ) → pairs e.result.atom.0 q ≡ true → (q < 65536) × (bit_in words q ≡ 0)) → list_any (adds_pair pairs a e) a.effects ≡ false
+adds_none pairs words a e added apart = false_from_ne_true (list_any (adds_pair pairs a e) a.effects) (λ h.
+    let x = any_member (adds_pair pairs a e) a.effects h in
+    let sign = and_parts e.result.positive (x.0.result.positive && pairs e.result.atom.0 x.0.result.atom.0) (and_parts (e.result.positive && (x.0.result.positive && pairs e.result.atom.0 x.0.result.atom.0)) (compatible_effects pairs a e x.0) x.2).0 in
+    let both = and_parts x.0.result.positive (pairs e.result.atom.0 x.0.result.atom.0) sign.1 in
+    let few = (apart x.0.result.atom.0 both.1).0 in
+    let none = (apart x.0.result.atom.0 both.1).1 in
+    elim (or_cases (not x.0.result.positive) (not (nat_lt x.0.result.atom.0 65536) || nat_eq (bit_in words x.0.result.atom.0) 1) (all_member (is_added words) a.effects x.0 x.1 added)) [
+      | inl n ↦ false≢true (ap not (sym both.0) ∙ n)
+      | inr r ↦ elim (or_cases (not (nat_lt x.0.result.atom.0 65536)) (nat_eq (bit_in words x.0.result.atom.0) 1) r) [
+        | inl n ↦ false≢true (ap not (sym (lt-ltb x.0.result.atom.0 65536 few)) ∙ n)
+        | inr t ↦ let one = eqb-true (bit_in words x.0.result.atom.0) 1 t in omega (arith, one, none)
+      ]
+    ])
+
+-- a delete adds no pair with another effect
+pub delete_adds_none : (pairs : Pairs) (a : Action) (e : Effect) → e.result.positive ≡ false → list_any (adds_pair pairs a e) a.effects ≡ false
+delete_adds_none pairs a e sign = false_from_ne_true (list_any (adds_pair pairs a e) a.effects) (λ h.
+    let x = any_member (adds_pair pairs a e) a.effects h in
+    let both = and_parts (e.result.positive && (x.0.result.positive && pairs e.result.atom.0 x.0.result.atom.0)) (compatible_effects pairs a e x.0) x.2 in
+    false≢true (sym sign ∙ (and_parts e.result.positive (x.0.result.positive && pairs e.result.atom.0 x.0.result.atom.0) both.0).0))

@@ -1,0 +1,39 @@
+-- Atoms as bits of words: those that an action adds, and those that literals leave. This file serves proofs alone.
+use Rattle.std.specs.Prelude.{◌≡◌, ◌≤◌, ◌<◌, ◌/◌, ◌%◌, ℕ, Bool, true, false, not, ◌||◌, List, Option, Some, None, nat_eq, nat_lt, slice_index_or}
+use Rattle.std.specs.Int.{bit_at}
+use Rattle.std.specs.List.{list_all, list_any}
+use Rattle.kp_base.specs.declared.lit.AtomId.{AtomId}
+use Rattle.kp_base.specs.declared.lit.Lit.{Lit}
+use Rattle.kp_base.specs.declared.ground.Effect.{Effect}
+use Rattle.kp_base.specs.declared.ground.Action.{Action}
+use Rattle.kp_base.specs.Lit.{positive}
+use Rattle.kp_base.specs.Clashes.{Pairs, are_exclusive}
+use Rattle.kp_clash.specs.Removed.{breaks}
+
+-- ---- atoms that are added
+
+-- the bit q, 64 to a word
+abbrev pub bit_in : List ℕ → ℕ → ℕ
+bit_in words q = bit_at (slice_index_or words (q / 64) 0) (q % 64)
+
+-- what was set is set still
+abbrev pub KeepsBits : List ℕ → List ℕ → Type 0
+KeepsBits old new = (q : ℕ) → bit_in old q ≡ 1 → bit_in new q ≡ 1
+
+-- the effect adds no atom below 65,536, or its bit is set
+abbrev pub is_added : List ℕ → Effect → Bool
+is_added words e = not e.result.positive || (not (nat_lt e.result.atom.0 65536) || nat_eq (bit_in words e.result.atom.0) 1)
+
+abbrev pub all_added : List ℕ → List Effect → Bool
+all_added words es = list_all (is_added words) es
+
+-- ---- atoms that are left
+
+-- of the word of the atoms from 64 k on, the bits stay whose atoms no literal excludes
+abbrev pub KeepsFree : Pairs → List Lit → ℕ → ℕ → ℕ → Type 0
+KeepsFree pairs lits k old new = (q : ℕ) → q / 64 ≡ k → list_any (λ l. are_exclusive pairs l (positive q)) lits ≡ false → bit_at old (q % 64) ≡ 1 → bit_at new (q % 64) ≡ 1
+
+-- the other atom of a pair that the effect breaks alone, among the 64 from 64 k on and from this atom on; or there is none
+abbrev pub FindsInWord : Pairs → Action → Effect → ℕ → ℕ → Option AtomId → Type 0
+FindsInWord pairs a e from k (Some q) = (breaks pairs a e q.0 ≡ true) × (q.0 < 4294967295)
+FindsInWord pairs a e from k None = (q : ℕ) → q / 64 ≡ k → from ≤ q → breaks pairs a e q ≡ false

@@ -1,0 +1,46 @@
+//! The atoms of a row of pairs that the conditions of an effect leave.
+ghost use Rattle.std.specs.Prelude.{◌≡◌, ◌++◌, ◌/◌, ◌%◌, ℕ, true, false};
+ghost use Rattle.std.specs.Int.{bit_at};
+ghost use Rattle.kp_base.specs.Clashes.{are_exclusive};
+ghost use Rattle.kp_base.specs.Lit.{positive};
+ghost use Rattle.kp_clash.specs.Paired.{is_pair};
+ghost use Rattle.kp_clash.specs.Removed.{breaks};
+ghost use Rattle.kp_clash.specs.Left.{KeepsFree};
+
+use crate::Pairs;
+use kp_base::{Action, Effect, Lit};
+use kp_bits::only_here;
+
+// Clears bits of the word at place k whose atoms the literal excludes.
+fn leave_one(pairs: &Pairs, lit: Lit, k: u32, word: u64) -> u64
+    ensures { (q : ℕ) → q / 64 ≡ k → are_exclusive (is_pair pairs.now) lit (positive q) ≡ false → bit_at word (q % 64) ≡ 1 → bit_at result (q % 64) ≡ 1 }
+{
+    if lit.positive {
+        only_here(word, pairs.row_word(lit.atom, k))
+    } else {
+        word
+    }
+}
+
+// Clears bits of the word at place k whose atoms some literal excludes.
+fn leave(pairs: &Pairs, lits: &[Lit], k: u32, word: u64) -> u64
+    ensures { KeepsFree (is_pair pairs.now) lits.now k word result }
+{
+    let mut left = word;
+    for lit in lits {
+        left = leave_one(pairs, *lit, k, left);
+    }
+    left
+}
+
+/// Those of the 64 atoms from 64 k on with which the effect may break a pair alone.
+pub(crate) fn candidates(pairs: &Pairs, action: &Action, effect: &Effect, k: u32) -> u64
+    ensures { (q : ℕ) → q / 64 ≡ k → breaks (is_pair pairs.now) action.now effect.now q ≡ true → bit_at result (q % 64) ≡ 1 }
+{
+    let word = pairs.row_word(effect.result.atom, k);
+    if word == 0 {
+        return 0;
+    }
+    let left = leave(pairs, action.pre.slice(), k, word);
+    leave(pairs, effect.cond.slice(), k, left)
+}
