@@ -4,5 +4,6 @@ pub mod Sets
 pub mod Resolving
 pub mod Storing
 pub mod Extending
+pub mod Sieving
 pub mod Saturated
 pub mod ExampleClauses

@@ -1,12 +1,14 @@
 -- What a store holds after clauses were added.
 use Rattle.std.proofs.Common.{◌≡◌, Bool, true, false, not, ◌||◌, ◌⊎◌, cond, List, [], ◌∷◌, ◌++◌, refl, sym, ◌∙◌, ap, subst, inl, inr, filter, Result, Ok, Err, OnOk, OnErr}
 use Rattle.std.proofs.lemmas.Bool.{and_parts, and_from, or_cases, or_left, or_right, false≢true, not-true, cases_Bool}
+use Rattle.std.proofs.lemmas.List.{append_assoc, append-nil}
 use Rattle.std.specs.List.{list_all}
 use Rattle.kp_base.specs.declared.lit.Lit.{Lit}
 use Rattle.kp_base.specs.Lists.{Member}
 use Rattle.kp_base.specs.Implicates.{is_within}
-use Rattle.kp_base.proofs.Lists.{any_member, any_from, all_from, all_member, append_member, filter_member, member_filter}
+use Rattle.kp_base.proofs.Lists.{any_member, any_from, all_from, all_member, append_member, filter_member, member_filter, member_left, member_right, bool_same}
 use Rattle.kp_clauses.specs.Stored.{subsumed, replaced, with_clause, with_all, are_apart}
+use Rattle.kp_clauses.specs.Sieved.{AreStored}
 use Rattle.kp_clauses.proofs.Logic.{not-true-case}
 use Rattle.kp_clauses.proofs.Within.{within_trans}
 
@@ -105,10 +107,94 @@ replaced_apart cs c h is = apart_last (filter (λ d. not (is_within c d)) cs) c 
     let f = filter_member (λ d. not (is_within c d)) cs d m in
     (not-true (is_within c d) f.1, not-true-case (is_within d c) (λ e. false≢true (sym is ∙ any_from (λ e. is_within e c) cs d f.0 e))))
 
+-- the sieve goes on to subsume the same
+put_same : (cs sieve : List (List Lit)) (c x : List Lit) → AreStored cs sieve → subsumed cs c ≡ false → subsumed (sieve ++ c ∷ []) x ≡ subsumed (replaced cs c) x
+put_same cs sieve c x h is = bool_same (subsumed (sieve ++ c ∷ []) x) (subsumed (replaced cs c) x) to from
+  where
+    grown : with_clause cs c ≡ replaced cs c
+    grown = rw is refl
+
+    to : subsumed (sieve ++ c ∷ []) x ≡ true → subsumed (replaced cs c) x ≡ true
+    to e =
+        let r = any_member (λ d. is_within d x) (sieve ++ c ∷ []) e in
+        elim (append_member sieve (c ∷ []) r.0 r.1) [
+          | inl m ↦ subst (λ z. subsumed z x ≡ true) grown (with_clause_old cs c x (sym (h.same x) ∙ any_from (λ d. is_within d x) sieve r.0 m r.2))
+          | inr m ↦ elim m [
+            | inl same ↦ subst (λ z. subsumed z x ≡ true) grown (with_clause_new cs c x (subst (λ (z : List Lit). is_within z x ≡ true) (sym same) r.2))
+            | inr bad ↦ absurd bad
+          ]
+        ]
+
+    from : subsumed (replaced cs c) x ≡ true → subsumed (sieve ++ c ∷ []) x ≡ true
+    from e =
+        let r = any_member (λ d. is_within d x) (replaced cs c) e in
+        elim (append_member (filter (λ d. not (is_within c d)) cs) (c ∷ []) r.0 r.1) [
+          | inl m ↦
+              let old = h.same x ∙ any_from (λ d. is_within d x) cs r.0 (filter_member (λ d. not (is_within c d)) cs r.0 m).0 r.2 in
+              let s = any_member (λ d. is_within d x) sieve old in
+              any_from (λ d. is_within d x) (sieve ++ c ∷ []) s.0 (member_before sieve c s.0 s.1) s.2
+          | inr m ↦ any_from (λ d. is_within d x) (sieve ++ c ∷ []) r.0 (member_right sieve (c ∷ []) r.0 m) r.2
+        ]
+
 -- whether the new one is put in, or memory is wanting
-pub put_apart : {T E : Type 0} (r : Result T E) (old new : List (List Lit)) (c : List Lit) → are_apart old ≡ true → subsumed old c ≡ false → OnOk r (new ≡ replaced old c) → OnErr r (new ≡ old) → are_apart new ≡ true
-put_apart (Ok x) old new c h is e f = ap are_apart e ∙ replaced_apart old c h is
-put_apart (Err x) old new c h is e f = ap are_apart f ∙ h
+pub put_stored : {T E : Type 0} (r : Result T E) (old new sieve sieve' : List (List Lit)) (c : List Lit) → AreStored old sieve → subsumed old c ≡ false → OnOk r (new ≡ replaced old c) → OnErr r (new ≡ old) → OnOk r (sieve' ≡ sieve ++ c ∷ []) → OnErr r (sieve' ≡ sieve) → AreStored new sieve'
+put_stored (Ok x) old new sieve sieve' c h is e f g k = subst (λ z. AreStored z sieve') (sym e) (subst (AreStored (replaced old c)) (sym g) (record { apart = replaced_apart old c h.apart is; same = λ x. put_same old sieve c x h is }))
+put_stored (Err x) old new sieve sieve' c h is e f g k = subst (λ z. AreStored z sieve') (sym f) (subst (AreStored old) (sym k) h)
+
+-- the first of clauses that are apart are so
+pub apart_first : (cs ds : List (List Lit)) → are_apart (cs ++ ds) ≡ true → are_apart cs ≡ true
+apart_first [] ds h = refl
+apart_first (c ∷ cs) ds h =
+    let parts = and_parts (list_all (λ d. not (near c d)) (cs ++ ds)) (are_apart (cs ++ ds)) h in
+    and_from (list_all (λ d. not (near c d)) cs) (are_apart cs) (all_from (λ d. not (near c d)) cs (λ d m. all_member (λ d. not (near c d)) (cs ++ ds) d (member_left cs ds d m) parts.0)) (apart_first cs ds parts.1)
+
+-- two lists that are apart are so together, where no clause of either is within one of the other
+pub joined_apart : (cs ds : List (List Lit)) → are_apart cs ≡ true → are_apart ds ≡ true → ((c d : List Lit) → Member cs c → Member ds d → (is_within c d ≡ false) × (is_within d c ≡ false)) → are_apart (cs ++ ds) ≡ true
+joined_apart [] ds h k far = k
+joined_apart (c ∷ cs) ds h k far =
+    let parts = and_parts (list_all (λ d. not (near c d)) cs) (are_apart cs) h in
+    and_from (list_all (λ d. not (near c d)) (cs ++ ds)) (are_apart (cs ++ ds))
+    (all_from (λ d. not (near c d)) (cs ++ ds) (λ d m. elim (append_member cs ds d m) [
+      | inl r ↦ all_member (λ d. not (near c d)) cs d r parts.0
+      | inr r ↦ let f = far c d (inl refl) r in rw (f.0, f.1) refl
+    ]))
+    (joined_apart cs ds parts.1 k (λ x d m n. far x d (inr m) n))
+
+or_none : (a b : Bool) → (a || b) ≡ false → (a ≡ false) × (b ≡ false)
+or_none false false h = (refl, refl)
+or_none false true h = absurd (false≢true (sym h))
+or_none true b h = absurd (false≢true (sym h))
+
+last_far : (cs : List (List Lit)) (c d : List Lit) → are_apart (cs ++ c ∷ []) ≡ true → Member cs d → (is_within d c ≡ false) × (is_within c d ≡ false)
+last_far [] c d h m = absurd m
+last_far (x ∷ cs) c d h m =
+    let parts = and_parts (list_all (λ e. not (near x e)) (cs ++ c ∷ [])) (are_apart (cs ++ c ∷ [])) h in
+    elim m [
+      | inl e ↦ subst (λ (z : List Lit). (is_within z c ≡ false) × (is_within c z ≡ false)) e (or_none (is_within x c) (is_within c x) (not-true (near x c) (all_member (λ e. not (near x e)) (cs ++ c ∷ []) c (member_last cs c) parts.0)))
+      | inr r ↦ last_far cs c d parts.1 r
+    ]
+
+filter_all : (p : List Lit → Bool) (xs : List (List Lit)) → ((x : List Lit) → Member xs x → p x ≡ true) → filter p xs ≡ xs
+filter_all p [] f = refl
+filter_all p (x ∷ xs) f = rw (f x (inl refl)) (ap (λ z. x ∷ z) (filter_all p xs (λ y m. f y (inr m))))
+
+-- a clause that is apart from all is put last
+one_last : (cs : List (List Lit)) (c : List Lit) → are_apart (cs ++ c ∷ []) ≡ true → with_clause cs c ≡ cs ++ c ∷ []
+one_last cs c h =
+    rw (not-true-case (subsumed cs c) (λ e. let r = any_member (λ d. is_within d c) cs e in false≢true (sym (last_far cs c r.0 h r.1).0 ∙ r.2)))
+    (ap (λ z. z ++ c ∷ []) (filter_all (λ d. not (is_within c d)) cs (λ d m. ap not (last_far cs c d h m).1)))
+
+-- and so are clauses that are
+pub with_all_joined : (cs ds : List (List Lit)) → are_apart (cs ++ ds) ≡ true → with_all cs ds ≡ cs ++ ds
+with_all_joined cs [] h = sym (append-nil cs)
+with_all_joined cs (d ∷ ds) h =
+    let split : (cs ++ d ∷ []) ++ ds ≡ cs ++ d ∷ ds = append_assoc cs (d ∷ []) ds in
+    let h' : are_apart ((cs ++ d ∷ []) ++ ds) ≡ true = ap are_apart split ∙ h in
+    ap (λ z. with_all z ds) (one_last cs d (apart_first (cs ++ d ∷ []) ds h')) ∙ (with_all_joined (cs ++ d ∷ []) ds h' ∙ split)
+
+-- one clause less is to come
+pub one_less : {X : Type 0} (xs : List X) (x : X) (rest now all : List X) → now ≡ x ∷ rest → xs ++ now ≡ all → (xs ++ x ∷ []) ++ rest ≡ all
+one_less xs x rest now all e h = append_assoc xs (x ∷ []) rest ∙ (ap (λ z. xs ++ z) (sym e) ∙ h)
 
 pub with_clause_apart : (cs : List (List Lit)) (c : List Lit) → are_apart cs ≡ true → are_apart (with_clause cs c) ≡ true
 with_clause_apart cs c h = go (subsumed cs c) refl

@@ -4,10 +4,13 @@
 
 mod clause;
 mod laws;
+mod mark;
+mod sieve;
 mod store;
 
 pub use clause::{has_lit, is_tautology, resolve, resolvent, subsumes};
 pub use laws::saturated_clauses_are_the_prime_implicates;
+pub use sieve::Sieve;
 pub use store::{Added, Store};
 
 #[cfg(test)]

@@ -104,6 +104,10 @@ module _ (ps : List (List Lit)) where
       let b = walk_grows rest (stepped ps l es) (step_new l rest es new) in
       omega arith
 
+  pub walked_new : (rest : List Lit) (es : List (List Lit)) → AreNew ps rest es → AreNew ps [] (walked ps rest es)
+  walked_new [] es new = new
+  walked_new (l ∷ rest) es new = walked_new rest (stepped ps l es) (step_new l rest es new)
+
   -- a clause that isn't idle
   pub start_new : (c : List Lit) → IsAscending c → idle ps c ≡ false → AreNew ps c (c ∷ [])
   start_new c asc not_idle = record {
@@ -112,6 +116,14 @@ module _ (ps : List (List Lit)) where
     rest_in = λ e m. elim m [ inl same ↦ subst (λ (y : List Lit). is_within c y ≡ true) same (within_self c) | inr bad ↦ absurd bad ];
     free = λ e m. elim m [ inl same ↦ subst (λ (y : List Lit). subsumed ps y ≡ false) same (not-true-case (subsumed ps c) (λ h. false≢true (sym not_idle ∙ or_right (is_tautology c) (subsumed ps c) h))) | inr bad ↦ absurd bad ];
   }
+
+-- no prime implicate is within a clause that comes of one literal
+pub unit_free : (ps : List (List Lit)) (l : Lit) → idle ps (l ∷ []) ≡ false → (c : List Lit) → Member (stepped ps l ((l ∷ []) ∷ [])) c → subsumed ps c ≡ false
+unit_free ps l not_idle = (walked_new ps (l ∷ []) ((l ∷ []) ∷ []) (start_new ps (l ∷ []) tt not_idle)).free
+
+-- nor within one that comes of any new clause
+pub walked_free : (ps : List (List Lit)) (c : List Lit) → IsAscending c → idle ps c ≡ false → (d : List Lit) → Member (walked ps c (c ∷ [])) d → subsumed ps d ≡ false
+walked_free ps c asc not_idle = (walked_new ps c (c ∷ []) (start_new ps c asc not_idle)).free
 
 -- ---- the walk
 

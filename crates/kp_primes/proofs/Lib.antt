@@ -1,3 +1,4 @@
+pub mod Placing
 pub mod Spreading
 pub mod Cover
 pub mod Ranging

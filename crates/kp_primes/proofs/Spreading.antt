@@ -1,16 +1,42 @@
 -- What resolving on one literal brings in, and what it reaches.
-use Rattle.std.proofs.Common.{◌≡◌, Bool, true, false, not, ◌||◌, ◌&&◌, cond, List, [], ◌∷◌, refl, sym, ◌∙◌, subst, inl, inr}
+use Rattle.std.proofs.Common.{◌≡◌, Bool, true, false, not, ◌||◌, ◌&&◌, ◌⊎◌, cond, List, [], ◌∷◌, ◌++◌, refl, sym, ◌∙◌, subst, inl, inr}
 use Rattle.std.proofs.lemmas.Bool.{or_cases, or_left, or_right, false≢true}
 use Rattle.kp_base.specs.declared.lit.Lit.{Lit}
 use Rattle.kp_base.specs.Lists.{Member}
 use Rattle.kp_base.specs.Lit.{negated}
 use Rattle.kp_base.specs.Steps.{has}
 use Rattle.kp_base.specs.Implicates.{is_within, is_tautology}
+use Rattle.kp_base.proofs.Lists.{any_member, any_from, append_member, member_left, member_right}
 use Rattle.kp_clauses.specs.Resolved.{resolved}
-use Rattle.kp_clauses.specs.Stored.{subsumed, with_clause}
+use Rattle.kp_clauses.specs.Stored.{subsumed}
 use Rattle.kp_clauses.proofs.Within.{within_member, tautology_within, subsumed_within}
-use Rattle.kp_clauses.proofs.Storing.{with_clause_member, with_clause_old, with_clause_new, with_all_member, with_all_old, with_all_new}
-use Rattle.kp_primes.specs.Included.{met, met_all, spread, stepped}
+use Rattle.kp_clauses.proofs.Storing.{with_all_member, with_all_old, with_all_new}
+use Rattle.kp_primes.specs.Included.{grown, met, met_all, spread, stepped}
+
+-- ---- one clause more
+
+grown_member : (fs : List (List Lit)) (c x : List Lit) → Member (grown fs c) x → Member fs x ⊎ (c ≡ x)
+grown_member fs c x m = go (subsumed fs c) m
+  where
+    go : (b : Bool) → Member (cond b fs (fs ++ c ∷ [])) x → Member fs x ⊎ (c ≡ x)
+    go true m = inl m
+    go false m = elim (append_member fs (c ∷ []) x m) [ inl r ↦ inl r | inr r ↦ elim r [ inl e ↦ inr e | inr bad ↦ absurd bad ] ]
+
+grown_old : (fs : List (List Lit)) (c d : List Lit) → subsumed fs d ≡ true → subsumed (grown fs c) d ≡ true
+grown_old fs c d h = go (subsumed fs c)
+  where
+    go : (b : Bool) → subsumed (cond b fs (fs ++ c ∷ [])) d ≡ true
+    go true = h
+    go false = let r = any_member (λ e. is_within e d) fs h in any_from (λ e. is_within e d) (fs ++ c ∷ []) r.0 (member_left fs (c ∷ []) r.0 r.1) r.2
+
+grown_new : (fs : List (List Lit)) (c d : List Lit) → is_within c d ≡ true → subsumed (grown fs c) d ≡ true
+grown_new fs c d h = go (subsumed fs c) refl
+  where
+    go : (b : Bool) → subsumed fs c ≡ b → subsumed (cond b fs (fs ++ c ∷ [])) d ≡ true
+    go true is = subsumed_within fs c d (within_member c d h) is
+    go false _ = any_from (λ e. is_within e d) (fs ++ c ∷ []) c (member_right fs (c ∷ []) c (inl refl)) h
+
+-- ---- one literal
 
 module _ (ps : List (List Lit)) (l : Lit) where
   skips : List Lit → List Lit → Bool
@@ -19,8 +45,8 @@ module _ (ps : List (List Lit)) (l : Lit) where
   pub met_old : (e p : List Lit) (fs : List (List Lit)) (d : List Lit) → subsumed fs d ≡ true → subsumed (met ps e l p fs) d ≡ true
   met_old e p fs d h = go (has p (negated l) && not (is_tautology (resolved e p l) || subsumed ps (resolved e p l)))
     where
-      go : (b : Bool) → subsumed (cond b (with_clause fs (resolved e p l)) fs) d ≡ true
-      go true = with_clause_old fs (resolved e p l) d h
+      go : (b : Bool) → subsumed (cond b (grown fs (resolved e p l)) fs) d ≡ true
+      go true = grown_old fs (resolved e p l) d h
       go false = h
 
   pub met_reaches : (e p : List Lit) (fs : List (List Lit)) → has p (negated l) ≡ true → (d : List Lit) → is_tautology d ≡ false → is_within (resolved e p l) d ≡ true → (subsumed (met ps e l p fs) d || subsumed ps d) ≡ true
@@ -29,16 +55,16 @@ module _ (ps : List (List Lit)) (l : Lit) where
       go : (b c : Bool) → is_tautology (resolved e p l) ≡ b → subsumed ps (resolved e p l) ≡ c → (subsumed (met ps e l p fs) d || subsumed ps d) ≡ true
       go true c is _ = absurd (false≢true (sym (tautology_within (resolved e p l) d (within_member (resolved e p l) d inside) proper) ∙ is))
       go false true _ is = or_right (subsumed (met ps e l p fs) d) (subsumed ps d) (subsumed_within ps (resolved e p l) d (within_member (resolved e p l) d inside) is)
-      go false false t s = or_left (subsumed (met ps e l p fs) d) (subsumed ps d) (rw (here, t, s) (with_clause_new fs (resolved e p l) d inside))
+      go false false t s = or_left (subsumed (met ps e l p fs) d) (subsumed ps d) (rw (here, t, s) (grown_new fs (resolved e p l) d inside))
 
   pub met_keeps : (Q : List Lit → Type 0) (e p : List Lit) (fs : List (List Lit)) → (has p (negated l) ≡ true → is_tautology (resolved e p l) ≡ false → subsumed ps (resolved e p l) ≡ false → Q (resolved e p l)) → ((x : List Lit) → Member fs x → Q x) → (x : List Lit) → Member (met ps e l p fs) x → Q x
   met_keeps Q e p fs new old x m = go (has p (negated l)) (is_tautology (resolved e p l)) (subsumed ps (resolved e p l)) refl refl refl m
     where
-      go : (a b c : Bool) → has p (negated l) ≡ a → is_tautology (resolved e p l) ≡ b → subsumed ps (resolved e p l) ≡ c → Member (cond (a && not (b || c)) (with_clause fs (resolved e p l)) fs) x → Q x
+      go : (a b c : Bool) → has p (negated l) ≡ a → is_tautology (resolved e p l) ≡ b → subsumed ps (resolved e p l) ≡ c → Member (cond (a && not (b || c)) (grown fs (resolved e p l)) fs) x → Q x
       go false b c _ _ _ m = old x m
       go true true c _ _ _ m = old x m
       go true false true _ _ _ m = old x m
-      go true false false here proper free m = elim (with_clause_member fs (resolved e p l) x m) [ inl r ↦ old x r | inr is ↦ subst Q is (new here proper free) ]
+      go true false false here proper free m = elim (grown_member fs (resolved e p l) x m) [ inl r ↦ old x r | inr is ↦ subst Q is (new here proper free) ]
 
   pub met_all_old : (e : List Lit) (qs fs : List (List Lit)) (d : List Lit) → subsumed fs d ≡ true → subsumed (met_all ps e l qs fs) d ≡ true
   met_all_old e [] fs d h = h

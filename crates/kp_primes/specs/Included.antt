@@ -1,5 +1,5 @@
 -- Clauses that are put one after another into a store of prime implicates. This file serves proofs alone.
-use Rattle.std.specs.Prelude.{◌≡◌, ℕ, Bool, true, false, not, ◌||◌, ◌&&◌, cond, List, [], ◌∷◌, ◌≤◌, ◌<◌, take, length}
+use Rattle.std.specs.Prelude.{◌≡◌, ℕ, Bool, true, false, not, ◌||◌, ◌&&◌, cond, List, [], ◌∷◌, ◌++◌, ◌≤◌, ◌<◌, take, length}
 use Rattle.kp_base.specs.declared.lit.Lit.{Lit}
 use Rattle.kp_base.specs.declared.lit.AtomId.{AtomId}
 use Rattle.kp_base.specs.declared.refused.Stop.{Stop}
@@ -14,13 +14,17 @@ use Rattle.kp_base.specs.LitSet.{IsAscending}
 use Rattle.kp_base.specs.Steps.{has}
 use Rattle.kp_base.specs.Implicates.{is_within, is_tautology}
 use Rattle.kp_clauses.specs.Resolved.{resolved}
-use Rattle.kp_clauses.specs.Stored.{subsumed, with_clause, with_all, are_apart}
+use Rattle.kp_clauses.specs.Stored.{subsumed, with_all, are_apart}
 
 -- ---- one clause
 
+-- the clauses with one more, unless one of them is within it
+abbrev pub grown : List (List Lit) → List Lit → List (List Lit)
+grown fs c = cond (subsumed fs c) fs (fs ++ c ∷ [])
+
 -- a new clause is resolved with a prime implicate that has the literal's negation
 abbrev pub met : List (List Lit) → List Lit → Lit → List Lit → List (List Lit) → List (List Lit)
-met ps e l p fs = cond (has p (negated l) && not (is_tautology (resolved e p l) || subsumed ps (resolved e p l))) (with_clause fs (resolved e p l)) fs
+met ps e l p fs = cond (has p (negated l) && not (is_tautology (resolved e p l) || subsumed ps (resolved e p l))) (grown fs (resolved e p l)) fs
 
 -- and with each of these
 abbrev pub met_all : List (List Lit) → List Lit → Lit → List (List Lit) → List (List Lit) → List (List Lit)

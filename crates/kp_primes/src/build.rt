@@ -2,8 +2,10 @@ ghost use Rattle.std.specs.Prelude.{◌≡◌, [], length, map, OnOk, IfOk, IfEr
 ghost use Rattle.std.specs.List.Sorted.{IsPermutation, IsSorted};
 ghost use Rattle.kp_base.specs.LitSet.{lits_cmp};
 ghost use Rattle.kp_clauses.specs.Stored.{subsumed};
+ghost use Rattle.kp_primes.specs.Placed.{AreHolders};
 ghost use Rattle.kp_primes.specs.Included.{unit_of, all_included, AreCounted, StopsPrefix};
 
+use crate::holders::Holders;
 use crate::include::{Entry, include, include_unit};
 use kp_base::{AtomId, Lit, LitSet, Memory, Refused, Stop};
 use kp_clauses::Store;
@@ -14,17 +16,20 @@ use std::alloc::Global;
 pub fn include_all(
     alloc: Global,
     store: &mut Store,
+    holders: &mut Holders,
     clauses: &[LitSet],
     limit: u32,
 ) -> Result<(), Stop>
-    requires { store.old ≡ [] }
+    requires empty { store.old ≡ [] }
+    requires held { AreHolders holders.old store.old }
     ensures all { OnOk result (AreCounted clauses.now limit (length clauses.now) store.new) }
+    ensures held { OnOk result (AreHolders holders.new store.new) }
     ensures stopped { IfErr result (StopsPrefix clauses.now limit) }
 {
     let _many = clauses.len();
     let mut prefix: u64 = 0;
     for c in clauses {
-        let entry = include(alloc, store, c, limit)?;
+        let entry = include(alloc, store, holders, c, limit)?;
         prefix += 1;
         match entry {
             Entry::Over => return Err(Stop::Refused(Refused::ImplicatesOver { prefix })),
@@ -35,7 +40,13 @@ pub fn include_all(
 }
 
 /// Puts into a store that atoms are false.
-pub fn include_closed(alloc: Global, store: &mut Store, closed: &[AtomId]) -> Result<(), Memory>
+pub fn include_closed(
+    alloc: Global,
+    store: &mut Store,
+    holders: &mut Holders,
+    closed: &[AtomId],
+) -> Result<(), Memory>
+    requires { AreHolders holders.old store.old }
     ensures { OnOk result (store.new ≡ all_included store.old (map unit_of closed.now)) }
 {
     for p in closed {
@@ -43,7 +54,7 @@ pub fn include_closed(alloc: Global, store: &mut Store, closed: &[AtomId]) -> Re
             atom: *p,
             positive: false,
         };
-        include_unit(alloc, store, lit)?;
+        include_unit(alloc, store, holders, lit)?;
     }
     Ok(())
 }

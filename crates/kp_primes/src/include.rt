@@ -1,16 +1,33 @@
-ghost use Rattle.std.specs.Prelude.{◌≡◌, false, [], ◌∷◌, OnOk, IfOk};
+ghost use Rattle.std.specs.Prelude.{◌≡◌, true, false, cond, List, [], ◌∷◌, ◌++◌, slice_get, OnOk, IfOk};
 ghost use Rattle.kp_base.specs.LitSet.{IsAscending};
-ghost use Rattle.kp_primes.specs.Included.{met, met_all, spread, stepped, AreNew, Counts, Walks, Enters, idle, included};
+ghost use Rattle.kp_base.specs.declared.lit.Lit.{Lit as Literal};
+ghost use Rattle.kp_base.specs.Lists.{Member};
+ghost use Rattle.kp_base.specs.Lit.{negated};
+ghost use Rattle.kp_clauses.specs.Stored.{subsumed, with_all, are_apart};
+ghost use Rattle.kp_primes.specs.Placed.{places, met_one, met_at, AreHolders};
+ghost use Rattle.kp_primes.specs.Included.{grown, met, met_all, spread, stepped, AreNew, Counts, Walks, Enters, idle, included};
 
+use crate::holders::{Holders, are_held};
 use kp_base::{Lit, LitSet, Memory};
-use kp_clauses::{Store, has_lit, is_tautology, resolve};
+use kp_clauses::{Sieve, Store, has_lit, is_tautology, resolve};
 use std::alloc::Global;
+
+// Keeps a clause that no prime implicate and none that was kept is within.
+fn keep(primes: &Store, fresh: &mut Sieve, c: LitSet) -> Result<(), Memory>
+    ensures { OnOk result (fresh.new ≡ cond (subsumed primes.now c) fresh.old (grown fresh.old c)) }
+{
+    if primes.subsumes(&c) || fresh.subsumes(&c) {
+        return Ok(());
+    }
+    fresh.push(c)?;
+    Ok(())
+}
 
 // Resolves a new clause with a prime implicate, and keeps what is new.
 fn meet(
     alloc: Global,
     primes: &Store,
-    fresh: &mut Store,
+    fresh: &mut Sieve,
     e: &LitSet,
     p: &LitSet,
     lit: Lit,
@@ -19,28 +36,60 @@ fn meet(
 {
     if has_lit(p, lit.negated()) {
         if let Some(r) = resolve(alloc, e, p, lit)? {
-            if !primes.subsumes(&r) {
-                fresh.add(r)?;
-            }
+            keep(primes, fresh, r)?;
         }
     }
     Ok(())
 }
 
-// Resolves a new clause with all prime implicates.
+// Resolves a new clause with the prime implicate at a place.
+fn meet_one(
+    alloc: Global,
+    primes: &Store,
+    fresh: &mut Sieve,
+    e: &LitSet,
+    place: usize,
+    lit: Lit,
+) -> Result<(), Memory>
+    ensures { OnOk result (fresh.new ≡ met_one primes.now e.now lit (slice_get primes.now place) fresh.old) }
+{
+    match primes.clauses().slice().get(place) {
+        Some(p) => meet(alloc, primes, fresh, e, p, lit),
+        None => Ok(()),
+    }
+}
+
+// Resolves a new clause with the prime implicates at these places.
+fn meet_at(
+    alloc: Global,
+    primes: &Store,
+    fresh: &mut Sieve,
+    e: &LitSet,
+    at: &[usize],
+    lit: Lit,
+) -> Result<(), Memory>
+    ensures { OnOk result (fresh.new ≡ met_at primes.now e.now lit at.now fresh.old) }
+{
+    for place in at {
+        meet_one(alloc, primes, fresh, e, *place, lit)?;
+    }
+    Ok(())
+}
+
+// Resolves a new clause with all prime implicates, where only these have the literal's negation.
+#[tactic(auto, using(crate::proofs::Placing::met_places))]
 fn meet_all(
     alloc: Global,
     primes: &Store,
-    fresh: &mut Store,
+    fresh: &mut Sieve,
     e: &LitSet,
+    at: &[usize],
     lit: Lit,
 ) -> Result<(), Memory>
+    requires { at.now ≡ places (negated lit) 0 primes.now }
     ensures { OnOk result (fresh.new ≡ met_all primes.now e.now lit primes.now fresh.old) }
 {
-    let clauses = primes.clauses().slice();
-    for p in clauses {
-        meet(alloc, primes, fresh, e, p, lit)?;
-    }
+    meet_at(alloc, primes, fresh, e, at, lit)?;
     Ok(())
 }
 
@@ -48,27 +97,37 @@ fn meet_all(
 fn spread(
     alloc: Global,
     primes: &Store,
-    fresh: &mut Store,
+    fresh: &mut Sieve,
     news: &[LitSet],
+    at: &[usize],
     lit: Lit,
 ) -> Result<(), Memory>
+    requires { at.now ≡ places (negated lit) 0 primes.now }
     ensures { OnOk result (fresh.new ≡ spread primes.now lit news.now fresh.old) }
 {
     for e in news {
         if has_lit(e, lit) {
-            meet_all(alloc, primes, fresh, e, lit)?;
+            meet_all(alloc, primes, fresh, e, at, lit)?;
         }
     }
     Ok(())
 }
 
 // Resolves the new clauses on a literal, and puts in what is new.
-fn step(alloc: Global, primes: &Store, news: &mut Store, lit: Lit) -> Result<(), Memory>
+fn step(
+    alloc: Global,
+    primes: &Store,
+    holders: &Holders,
+    news: &mut Store,
+    lit: Lit,
+) -> Result<(), Memory>
+    requires { AreHolders holders.now primes.now }
     ensures { OnOk result (news.new ≡ stepped primes.now lit news.old) }
 {
-    let mut fresh = Store::new(alloc);
-    spread(alloc, primes, &mut fresh, news.clauses().slice(), lit)?;
-    news.add_all(fresh)?;
+    let at = holders.of(lit.negated());
+    let mut fresh = Sieve::new(alloc);
+    spread(alloc, primes, &mut fresh, news.clauses().slice(), at, lit)?;
+    news.add_each(fresh.into_clauses())?;
     Ok(())
 }
 
@@ -96,15 +155,17 @@ fn counted(store: &Store, limit: u32) -> Entry
 fn walk(
     alloc: Global,
     primes: &Store,
+    holders: &Holders,
     news: &mut Store,
     lits: &[Lit],
     limit: u32,
 ) -> Result<Entry, Memory>
-    requires { AreNew primes.now lits.now news.old }
+    requires held { AreHolders holders.now primes.now }
+    requires new { AreNew primes.now lits.now news.old }
     ensures { IfOk result (Walks primes.now lits.now news.old limit news.new) }
 {
     for l in lits {
-        step(alloc, primes, news, *l)?;
+        step(alloc, primes, holders, news, *l)?;
         if let Entry::Over = counted(news, limit) {
             return Ok(Entry::Over);
         }
@@ -119,32 +180,102 @@ fn is_idle(primes: &Store, c: &LitSet) -> bool
     is_tautology(c) || primes.subsumes(c)
 }
 
+// Puts in new clauses that may be within prime implicates, which then go.
+fn put_over(
+    alloc: Global,
+    primes: &mut Store,
+    holders: &mut Holders,
+    news: Store,
+) -> Result<(), Memory>
+    ensures all { OnOk result (primes.new ≡ with_all primes.old news) }
+    ensures held { OnOk result (AreHolders holders.new primes.new) }
+{
+    primes.add_all(news)?;
+    let mut again = Holders::new(alloc);
+    again.extend(primes.clauses().slice(), 0)?;
+    *holders = again;
+    Ok(())
+}
+
+// Puts in new clauses behind the prime implicates.
+fn put_behind(primes: &mut Store, holders: &mut Holders, news: Store) -> Result<(), Memory>
+    requires held { AreHolders holders.old primes.old }
+    requires apart { are_apart (primes.old ++ news) ≡ true }
+    ensures all { OnOk result (primes.new ≡ primes.old ++ news) }
+    ensures held { OnOk result (AreHolders holders.new primes.new) }
+{
+    let first = primes.clauses().len();
+    primes.join(news)?;
+    holders.extend(primes.clauses().slice(), first)?;
+    Ok(())
+}
+
+// Puts in new clauses.
+fn put_in(
+    alloc: Global,
+    primes: &mut Store,
+    holders: &mut Holders,
+    news: Store,
+) -> Result<(), Memory>
+    requires held { AreHolders holders.old primes.old }
+    requires free { (c : List Literal) → Member news c → subsumed primes.old c ≡ false }
+    ensures all { OnOk result (primes.new ≡ with_all primes.old news) }
+    ensures held { OnOk result (AreHolders holders.new primes.new) }
+{
+    let clauses = primes.clauses();
+    let others = news.clauses();
+    if are_held(clauses.slice(), holders, others.slice()) {
+        put_over(alloc, primes, holders, news)?;
+    } else {
+        put_behind(primes, holders, news)?;
+    }
+    Ok(())
+}
+
 // Puts in a clause that brings something new.
-fn include_new(alloc: Global, primes: &mut Store, c: &LitSet, limit: u32) -> Result<Entry, Memory>
-    requires { idle primes.now c.now ≡ false }
-    ensures { IfOk result (Enters primes.old c.now limit primes.new) }
+fn include_new(
+    alloc: Global,
+    primes: &mut Store,
+    holders: &mut Holders,
+    c: &LitSet,
+    limit: u32,
+) -> Result<Entry, Memory>
+    requires held { AreHolders holders.old primes.old }
+    requires new { idle primes.now c.now ≡ false }
+    ensures entry { IfOk result (Enters primes.old c.now limit primes.new) }
+    ensures held { OnOk result (AreHolders holders.new primes.new) }
 {
     let mut news = Store::new(alloc);
     news.add(c.copy(alloc)?)?;
-    if let Entry::Over = walk(alloc, primes, &mut news, c.slice(), limit)? {
-        return Ok(Entry::Over);
+    let entry = walk(alloc, primes, holders, &mut news, c.slice(), limit)?;
+    match entry {
+        Entry::Over => return Ok(Entry::Over),
+        Entry::In => {}
     }
-    primes.add_all(news)?;
+    put_in(alloc, primes, holders, news)?;
     Ok(counted(primes, limit))
 }
 
 /// Puts one clause more into a store of prime implicates: it is resolved, literal by literal, with those that have the
 /// literal's negation (Kean and Tsiknis's incremental method). Stops after the literal with which there are more new
 /// clauses than the limit. At `Memory` the store may have some of what is new.
-pub fn include(alloc: Global, primes: &mut Store, c: &LitSet, limit: u32) -> Result<Entry, Memory>
+pub fn include(
+    alloc: Global,
+    primes: &mut Store,
+    holders: &mut Holders,
+    c: &LitSet,
+    limit: u32,
+) -> Result<Entry, Memory>
+    requires { AreHolders holders.old primes.old }
     ensures entry { IfOk result (Enters primes.old c.now limit primes.new) }
+    ensures held { OnOk result (AreHolders holders.new primes.new) }
     ensures ascending { OnOk result (IsAscending c.now) }
 {
     let _ascending = c.slice();
     if is_idle(primes, c) {
         return Ok(counted(primes, limit));
     }
-    let entry = include_new(alloc, primes, c, limit)?;
+    let entry = include_new(alloc, primes, holders, c, limit)?;
     Ok(entry)
 }
 
@@ -159,8 +290,15 @@ fn unit_clause(alloc: Global, lit: Lit) -> Result<LitSet, Memory>
 
 /// Puts in the clause of one literal, with no limit: it brings at most one new clause for each prime implicate. At
 /// `Memory` the store may have some of what is new.
-pub fn include_unit(alloc: Global, primes: &mut Store, lit: Lit) -> Result<(), Memory>
-    ensures { OnOk result (primes.new ≡ included primes.old (lit ∷ [])) }
+pub fn include_unit(
+    alloc: Global,
+    primes: &mut Store,
+    holders: &mut Holders,
+    lit: Lit,
+) -> Result<(), Memory>
+    requires { AreHolders holders.old primes.old }
+    ensures all { OnOk result (primes.new ≡ included primes.old (lit ∷ [])) }
+    ensures held { OnOk result (AreHolders holders.new primes.new) }
 {
     let unit = unit_clause(alloc, lit)?;
     if is_idle(primes, &unit) {
@@ -168,7 +306,7 @@ pub fn include_unit(alloc: Global, primes: &mut Store, lit: Lit) -> Result<(), M
     }
     let mut news = Store::new(alloc);
     news.add(unit)?;
-    step(alloc, primes, &mut news, lit)?;
-    primes.add_all(news)?;
+    step(alloc, primes, holders, &mut news, lit)?;
+    put_in(alloc, primes, holders, news)?;
     Ok(())
 }

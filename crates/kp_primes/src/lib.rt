@@ -4,6 +4,7 @@
 
 mod ask;
 mod build;
+mod holders;
 mod include;
 mod laws;
 mod primes;

@@ -6,6 +6,7 @@ ghost use Rattle.kp_primes.specs.Answers.{AnswersPrimes, AnswersClosure};
 
 use crate::ask::{add_atom, is_entailed, is_inconsistent};
 use crate::build::{has_empty, in_order, include_all, include_closed};
+use crate::holders::Holders;
 use kp_base::{AtomId, Initial, Lit, LitSet, Memory, Refused, Row, Stop};
 use kp_clauses::Store;
 use std::alloc::Global;
@@ -40,8 +41,15 @@ impl Primes {
         ensures { AnswersPrimes initial.now atoms limit result }
     {
         let mut store = Store::new(alloc);
-        include_all(alloc, &mut store, initial.clauses.slice(), limit)?;
-        include_closed(alloc, &mut store, initial.closed.slice())?;
+        let mut holders = Holders::new(alloc);
+        include_all(
+            alloc,
+            &mut store,
+            &mut holders,
+            initial.clauses.slice(),
+            limit,
+        )?;
+        include_closed(alloc, &mut store, &mut holders, initial.closed.slice())?;
         if has_empty(alloc, &store) {
             return Err(Stop::Refused(Refused::NoInitialState));
         }

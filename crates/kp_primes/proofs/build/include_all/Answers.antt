@@ -14,6 +14,7 @@ pub loop-c-preserved : goal.loop-c-preserved
 loop-c-preserved c =
     let in' = rw c.in-In.is at c.in_ok-entry.ensures.entry in
     record {
+      held = c.in_ok-entry.ensures.held;
       number = omega arith;
       counted =
           rw in'.0

@@ -2,7 +2,7 @@ use Rattle.std.proofs.Common.{sym}
 use Rattle.std.proofs.lemmas.Result.{err_from_is_err_and}
 use Rattle.kp_primes.specs.Answers.{RefusesPrimes}
 use Rattle.kp_primes.proofs.Answered.{prefix_stops, is_empty}
-use Rattle.kp_primes.proofs.Found.{IsFound, is_found}
+use Rattle.kp_primes.proofs.Found.{is_found}
 use Rattle.kp_primes.proofs.primes.Primes.build.Goals as goal
 
 -- the limit is passed, or memory is wanting
@@ -16,13 +16,12 @@ pub returns-then-has_empty : goal.returns-then-has_empty
 returns-then-has_empty c = RefusesPrimes.no_state (is_empty c.args.initial.now c.args.limit _ _ (rw c.slice.ensures at c.in_ok-include_all.ensures.all) (rw c.slice-2.ensures at c.in_ok-include_closed.ensures) (sym c.if-has_empty.ensures))
 
 -- what stands in the store, in order
-found : (c : goal.After-from_vec) → IsFound c.args.initial.now c.args.limit (record { atoms = c.args.atoms; clauses = c.from_vec.result })
-found c =
-    rw c.from_vec.ensures
-    (is_found c.args.initial.now c.args.atoms c.args.limit _ _ _ c.requires (rw c.slice.ensures at c.in_ok-include_all.ensures.all) (rw c.slice-2.ensures at c.in_ok-include_closed.ensures) (sym c.if-has_empty.ensures) (rw c.into_clauses.ensures at c.in_ok-clauses.ensures.same) c.in_ok-clauses.ensures.order)
-
 pub invariant_of-result : goal.invariant_of-result
-invariant_of-result c = (found c).whole_invariant
+invariant_of-result c =
+    rw c.from_vec.ensures
+    (is_found c.args.initial.now c.args.atoms c.args.limit _ _ _ c.requires (rw c.slice.ensures at c.in_ok-include_all.ensures.all) (rw c.slice-2.ensures at c.in_ok-include_closed.ensures) (sym c.if-has_empty.ensures) (rw c.into_clauses.ensures at c.in_ok-clauses.ensures.same) c.in_ok-clauses.ensures.order).whole_invariant
 
 pub returns : goal.returns
-returns c = (found c).holds_primes
+returns c =
+    rw c.from_vec.ensures
+    (is_found c.args.initial.now c.args.atoms c.args.limit _ _ _ c.requires (rw c.slice.ensures at c.in_ok-include_all.ensures.all) (rw c.slice-2.ensures at c.in_ok-include_closed.ensures) (sym c.if-has_empty.ensures) (rw c.into_clauses.ensures at c.in_ok-clauses.ensures.same) c.in_ok-clauses.ensures.order).holds_primes

@@ -1,6 +1,6 @@
 use Rattle.std.proofs.Common.{◌≡◌}
 use Rattle.kp_clauses.specs.Stored.{with_all}
-use Rattle.kp_clauses.proofs.store.Store.add_all.Given as goal
+use Rattle.kp_clauses.proofs.store.Store.add_each.Given as goal
 
 -- the clauses so far are added
 abbrev pub invariant-loop-c : goal.invariant-loop-c

@@ -1,0 +1,182 @@
+-- What the lists of a sieve tell.
+use Rattle.std.proofs.Common.{◌≡◌, ◌≢◌, ◌<◌, ◌+◌, ◌%◌, ℕ, zero, suc, Bool, true, false, ◌||◌, List, [], ◌∷◌, ◌++◌, Option, Some, None, refl, sym, ◌∙◌, ap, subst, inl, inr, take, length, get_or, set, slice_get, map, nat_eq, max, bit_or, arith, ◌⊎◌, get_or-set_same, get_or-set_other}
+use Rattle.std.proofs.lemmas.Bool.{and_parts, and_from, or_cases, or_left, or_right, false≢true, cases_eq, eq-eqb}
+use Rattle.std.proofs.lemmas.List.{take_more, get_or_default}
+use Rattle.std.proofs.lemmas.Nat.Bits.{bit_at_or, bit_at-lt, same_from_bits}
+use Rattle.std.specs.Int.{bit_at}
+use Rattle.std.specs.List.{list_any}
+use Rattle.kp_base.specs.declared.lit.Lit.{Lit}
+use Rattle.kp_base.specs.Lists.{Member}
+use Rattle.kp_base.specs.Lit.{code_of}
+use Rattle.kp_base.specs.Implicates.{is_within}
+use Rattle.kp_base.proofs.Lists.{bool_same, any_member, any_from, member_at, member_left, member_right, append_member, member_map, map_member}
+use Rattle.kp_clauses.specs.declared.sieve.Spot.{Spot}
+use Rattle.kp_clauses.specs.Stored.{subsumed}
+use Rattle.kp_clauses.specs.Sieved.{IsMark, key_of, keys, row, stands_within, tried, IsListed, AreListed, AreKept}
+use Rattle.kp_clauses.proofs.Within.{within_member}
+
+-- ---- marks
+
+pub mark_none : IsMark [] 0
+mark_none = record { has = λ l m. absurd m; from = λ j e. absurd (no_bit j e) }
+  where
+    no_bit : (j : ℕ) → bit_at 0 j ≡ 1 → ⊥
+    no_bit j e = omega arith
+
+-- with one literal more
+pub mark_more : (c : List Lit) (i : ℕ) (d : Lit) (old new k : ℕ) → i < length c → k ≡ code_of (get_or c i d) % 64 → bit_at new k ≡ 1 → ((j : ℕ) → j ≢ k → bit_at new j ≡ bit_at old j) → IsMark (take i c) old → IsMark (take (i + 1) c) new
+mark_more c i d old new k lt is on others h = subst (λ z. IsMark z new) (sym (take_more c i d lt)) (record { has = has; from = from })
+  where
+    still : (j : ℕ) → bit_at old j ≡ 1 → bit_at new j ≡ 1
+    still j e = elim (cases_eq j k) [ inl same ↦ subst (λ z. bit_at new z ≡ 1) (sym same) on | inr ne ↦ others j ne ∙ e ]
+
+    has : (l : Lit) → Member (take i c ++ get_or c i d ∷ []) l → bit_at new (code_of l % 64) ≡ 1
+    has l m = elim (append_member (take i c) (get_or c i d ∷ []) l m) [
+      | inl r ↦ still (code_of l % 64) (h.has l r)
+      | inr r ↦ elim r [ inl e ↦ subst (λ (z : Lit). bit_at new (code_of z % 64) ≡ 1) e (subst (λ z. bit_at new z ≡ 1) is on) | inr bad ↦ absurd bad ]
+    ]
+
+    from : (j : ℕ) → bit_at new j ≡ 1 → (l : Lit) × Member (take i c ++ get_or c i d ∷ []) l × (code_of l % 64 ≡ j)
+    from j e = elim (cases_eq j k) [
+      | inl same ↦ (get_or c i d, member_right (take i c) (get_or c i d ∷ []) (get_or c i d) (inl refl), sym is ∙ sym same)
+      | inr ne ↦ let r = h.from j (sym (others j ne) ∙ e) in (r.0, member_left (take i c) (get_or c i d ∷ []) r.0 r.1, r.2)
+    ]
+
+max_keeps : (x y : ℕ) → x < 2 → y < 2 → (x ≡ 1 → y ≡ 1) → max x y ≡ y
+max_keeps zero y _ _ _ = omega arith
+max_keeps (suc zero) zero _ _ f = absurd (omega (arith, f refl))
+max_keeps (suc zero) (suc zero) _ _ _ = omega arith
+max_keeps (suc (suc x)) y h _ _ = absurd (omega (arith, h))
+max_keeps (suc zero) (suc (suc y)) _ h _ = absurd (omega (arith, h))
+
+-- a clause within another has no bit that the other hasn't
+marks_fit : (d c : List Lit) (w v : ℕ) → IsMark d w → IsMark c v → is_within d c ≡ true → nat_eq (bit_or w v) v ≡ true
+marks_fit d c w v m n inside =
+    eq-eqb (bit_or w v) v (same_from_bits (bit_or w v) v (λ j.
+    bit_at_or w v j
+    ∙ max_keeps (bit_at w j) (bit_at v j) (bit_at-lt w j) (bit_at-lt v j) (λ one. let r = m.from j one in subst (λ z. bit_at v z ≡ 1) r.2 (n.has r.0 (within_member d c inside r.0 r.1)))))
+
+-- ---- a clause is found
+
+place_of : {X : Type 0} (xs : List X) (x : X) → Member xs x → (i : ℕ) × (slice_get xs i ≡ Some x)
+place_of [] x m = absurd m
+place_of (y ∷ xs) x m = elim m [ inl e ↦ (0, ap Some e) | inr r ↦ let at = place_of xs x r in (suc at.0, at.1) ]
+
+module _ (lists : List (List Spot)) (cs : List (List Lit)) (c : List Lit) (word : ℕ) where
+  -- what is tried stands there
+  tried_subsumed : (s : Spot) → tried cs c word s ≡ true → subsumed cs c ≡ true
+  tried_subsumed s h = go (slice_get cs s.place) refl (and_parts (nat_eq (bit_or s.mark word) word) (stands_within (slice_get cs s.place) c) h).1
+    where
+      go : (o : Option (List Lit)) → slice_get cs s.place ≡ o → stands_within o c ≡ true → subsumed cs c ≡ true
+      go None e h = absurd (false≢true h)
+      go (Some d) e h = any_from (λ d. is_within d c) cs d (member_at cs s.place d e) h
+
+  listed_subsumed : (k : ℕ) → list_any (tried cs c word) (row lists k) ≡ true → subsumed cs c ≡ true
+  listed_subsumed k h = let r = any_member (tried cs c word) (row lists k) h in tried_subsumed r.0 r.2
+
+  abbrev in_list : ℕ → Bool
+  in_list k = list_any (tried cs c word) (row lists k)
+
+  in_keys : (k : ℕ) → Member (keys c) k → in_list k ≡ true → (in_list 0 || list_any (λ l. in_list (key_of l)) c) ≡ true
+  in_keys k m h = elim m [
+    | inl e ↦ or_left (in_list 0) (list_any (λ l. in_list (key_of l)) c) (subst (λ z. in_list z ≡ true) (sym e) h)
+    | inr r ↦ let l = map_member key_of c k r in or_right (in_list 0) (list_any (λ l. in_list (key_of l)) c) (any_from (λ l. in_list (key_of l)) c l.0 l.1 (subst (λ z. in_list z ≡ true) (sym l.2) h))
+  ]
+
+  own_keys : (d : List Lit) → is_within d c ≡ true → (k : ℕ) → Member (keys d) k → Member (keys c) k
+  own_keys d inside k m = elim m [
+    | inl e ↦ inl e
+    | inr r ↦ let l = map_member key_of d k r in inr (subst (Member (map key_of c)) l.2 (member_map key_of c l.0 (within_member d c inside l.0 l.1)))
+  ]
+
+  pub sieved : AreListed lists cs → IsMark c word → (in_list 0 || list_any (λ l. in_list (key_of l)) c) ≡ subsumed cs c
+  sieved listed mark = bool_same (in_list 0 || list_any (λ l. in_list (key_of l)) c) (subsumed cs c) to from
+    where
+      to : (in_list 0 || list_any (λ l. in_list (key_of l)) c) ≡ true → subsumed cs c ≡ true
+      to h = elim (or_cases (in_list 0) (list_any (λ l. in_list (key_of l)) c) h) [
+        | inl a ↦ listed_subsumed 0 a
+        | inr a ↦ let r = any_member (λ l. in_list (key_of l)) c a in listed_subsumed (key_of r.0) r.2
+      ]
+
+      from : subsumed cs c ≡ true → (in_list 0 || list_any (λ l. in_list (key_of l)) c) ≡ true
+      from h =
+          let d = any_member (λ d. is_within d c) cs h in
+          let at = place_of cs d.0 d.1 in
+          let r = listed.each at.0 d.0 at.1 in
+          in_keys r.key (own_keys d.0 d.2 r.key r.own) (any_from (tried cs c word) (row lists r.key) r.spot r.there
+          (and_from (nat_eq (bit_or r.spot.mark word) word) (stands_within (slice_get cs r.spot.place) c) (marks_fit d.0 c r.spot.mark word r.mark mark d.2)
+          (subst (λ z. stands_within (slice_get cs z) c ≡ true) (sym r.place) (subst (λ o. stands_within o c ≡ true) (sym at.1) d.2))))
+
+-- ---- a clause is put in
+
+last_or_before : {X : Type 0} (xs : List X) (y x : X) (i : ℕ) → slice_get (xs ++ y ∷ []) i ≡ Some x → (slice_get xs i ≡ Some x) ⊎ ((i ≡ length xs) × (y ≡ x))
+last_or_before [] y x zero h = inr (refl, cc)
+last_or_before [] y x (suc i) h = absurd cc
+last_or_before (z ∷ xs) y x zero h = inl h
+last_or_before (z ∷ xs) y x (suc i) h = elim (last_or_before xs y x i h) [ inl r ↦ inl r | inr r ↦ inr (ap suc r.0, r.1) ]
+
+pub none_listed : AreListed [] []
+none_listed = record { each = λ i c h. absurd cc }
+
+kept_listed : (old new : List (List Spot)) (i : ℕ) (c : List Lit) → AreKept old new → IsListed old i c → IsListed new i c
+kept_listed old new i c kept h = record { key = h.key; own = h.own; spot = h.spot; there = kept.each h.key h.spot h.there; place = h.place; mark = h.mark }
+
+pub all_kept : (old new : List (List Spot)) (cs : List (List Lit)) → AreKept old new → AreListed old cs → AreListed new cs
+all_kept old new cs kept h = record { each = λ i c e. kept_listed old new i c kept (h.each i c e) }
+
+pub listed_more : (lists : List (List Spot)) (cs : List (List Lit)) (c : List Lit) (k : ℕ) (s : Spot) → AreListed lists cs → Member (keys c) k → Member (row lists k) s → s.place ≡ length cs → IsMark c s.mark → AreListed lists (cs ++ c ∷ [])
+listed_more lists cs c k s h own there place mark = record {
+  each = λ i x e. elim (last_or_before cs c x i e) [
+    | inl r ↦ h.each i x r
+    | inr r ↦ record { key = k; own = subst (λ z. Member (keys z) k) r.1 own; spot = s; there = there; place = place ∙ sym r.0; mark = subst (λ z. IsMark z s.mark) r.1 mark }
+  ];
+}
+
+-- one of the lists of the literals so far
+pub keys_more : (c : List Lit) (i : ℕ) (d : Lit) (best k new : ℕ) → i < length c → k ≡ key_of (get_or c i d) → (new ≡ best) ⊎ (new ≡ k) → Member (keys (take i c)) best → Member (keys (take (i + 1) c)) new
+keys_more c i d best k new lt is pick m =
+    subst (λ z. Member (keys z) new) (sym (take_more c i d lt)) (elim pick [
+      | inl e ↦ subst (Member (keys (take i c ++ get_or c i d ∷ []))) (sym e) (elim m [
+        | inl z ↦ inl z
+        | inr r ↦ let l = map_member key_of (take i c) best r in inr (subst (Member (map key_of (take i c ++ get_or c i d ∷ []))) l.2 (member_map key_of (take i c ++ get_or c i d ∷ []) l.0 (member_left (take i c) (get_or c i d ∷ []) l.0 l.1)))
+      ])
+      | inr e ↦ subst (Member (keys (take i c ++ get_or c i d ∷ []))) (sym (e ∙ is)) (inr (member_map key_of (take i c ++ get_or c i d ∷ []) (get_or c i d) (member_right (take i c) (get_or c i d ∷ []) (get_or c i d) (inl refl))))
+    ])
+
+-- ---- a spot is put in
+
+-- lists that are the same keep all
+pub same_kept : (old new : List (List Spot)) → ((k : ℕ) → row new k ≡ row old k) → AreKept old new
+same_kept old new same = record { each = λ k s m. subst (λ xs. Member xs s) (sym (same k)) m }
+
+pub set_kept : (old lists : List (List Spot)) (k : ℕ) (s : Spot) → AreKept old lists → k < length lists → AreKept old (set lists k (row lists k ++ s ∷ [])) × Member (row (set lists k (row lists k ++ s ∷ [])) k) s
+set_kept old lists k s kept lt = (record { each = λ j t m. put j t (kept.each j t m) }, subst (λ xs. Member xs s) (sym here) (member_right (row lists k) (s ∷ []) s (inl refl)))
+  where
+    here : row (set lists k (row lists k ++ s ∷ [])) k ≡ row lists k ++ s ∷ []
+    here = get_or-set_same lists k (row lists k ++ s ∷ []) [] lt
+
+    put : (j : ℕ) (t : Spot) → Member (row lists j) t → Member (row (set lists k (row lists k ++ s ∷ [])) j) t
+    put j t m = elim (cases_eq j k) [
+      | inl e ↦ subst (λ z. Member (row (set lists k (row lists k ++ s ∷ [])) z) t) (sym e) (subst (λ xs. Member xs t) (sym here) (member_left (row lists k) (s ∷ []) t (subst (λ z. Member (row lists z) t) e m)))
+      | inr ne ↦ subst (λ xs. Member xs t) (sym (get_or-set_other lists k j (row lists k ++ s ∷ []) [] ne)) m
+    ]
+
+-- as a list is written back
+pub noted : (old lists : List (List Spot)) (k : ℕ) (d : List Spot) (s : Spot) (was is : List Spot) → AreKept old lists → k < length lists → was ≡ get_or lists k d → is ≡ was ++ s ∷ [] → AreKept old (set lists k is) × Member (row (set lists k is) k) s
+noted old lists k d s was is kept lt read put = subst (λ xs. AreKept old (set lists k xs) × Member (row (set lists k xs) k) s) (sym (put ∙ ap (λ xs. xs ++ s ∷ []) (read ∙ get_or_default lists k d [] lt))) (set_kept old lists k s kept lt)
+
+pub keys_below : (c : List Lit) (k : ℕ) → Member (keys c) k → k < 4097
+keys_below c k m = elim m [
+  | inl e ↦ omega arith
+  | inr r ↦ let l = map_member key_of c k r in let e = l.2 in omega arith
+]
+
+-- ---- one of two tests tells
+
+pub by_first : (a b s r : Bool) → (a || b) ≡ s → r ≡ a → true ≡ a → r ≡ s
+by_first true b s r e f g = f ∙ e
+by_first false b s r e f g = absurd (false≢true (sym g))
+
+pub by_others : (a b s t : Bool) → (a || b) ≡ s → false ≡ a → t ≡ b → t ≡ s
+by_others false b s t e g h = h ∙ e
+by_others true b s t e g h = absurd (false≢true g)

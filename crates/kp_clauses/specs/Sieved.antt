@@ -1,0 +1,58 @@
+-- Lists of the places of clauses, by one literal of each. This file serves proofs alone.
+use Rattle.std.specs.Prelude.{◌≡◌, ◌+◌, ◌%◌, ℕ, Bool, true, false, ◌&&◌, List, [], ◌∷◌, Option, None, Some, map, get_or, slice_get, nat_eq}
+use Rattle.std.specs.Int.{bit_at}
+use Rattle.std.specs.Int.RustNames.{bit_or}
+use Rattle.kp_base.specs.declared.lit.Lit.{Lit}
+use Rattle.kp_base.specs.Lists.{Member}
+use Rattle.kp_base.specs.Lit.{code_of}
+use Rattle.kp_base.specs.Implicates.{is_within}
+use Rattle.kp_clauses.specs.Stored.{subsumed, are_apart}
+use Rattle.kp_clauses.specs.declared.sieve.Spot.{Spot}
+
+-- a word has the bits of the literals' codes and no others
+pub record IsMark (c : List Lit) (word : ℕ) : Type 0 where
+  pub has : (l : Lit) → Member c l → bit_at word (code_of l % 64) ≡ 1
+  pub from : (j : ℕ) → bit_at word j ≡ 1 → (l : Lit) × Member c l × (code_of l % 64 ≡ j)
+
+-- the number of a literal's list
+abbrev pub key_of : Lit → ℕ
+key_of l = code_of l % 4096 + 1
+
+-- the lists where a clause may be: that of each literal, and the first, which is for the empty clause
+abbrev pub keys : List Lit → List ℕ
+keys c = 0 ∷ map key_of c
+
+-- a list by its number
+abbrev pub row : List (List Spot) → ℕ → List Spot
+row lists k = get_or lists k []
+
+-- the clause at a place is within this one
+abbrev pub stands_within : Option (List Lit) → List Lit → Bool
+stands_within None c = false
+stands_within (Some d) c = is_within d c
+
+-- the same, where the marks don't tell that it isn't
+abbrev pub tried : List (List Lit) → List Lit → ℕ → Spot → Bool
+tried cs c word s = nat_eq (bit_or s.mark word) word && stands_within (slice_get cs s.place) c
+
+-- a clause's place and mark stand in one of its lists
+pub record IsListed (lists : List (List Spot)) (i : ℕ) (c : List Lit) : Type 0 where
+  pub key : ℕ
+  pub own : Member (keys c) key
+  pub spot : Spot
+  pub there : Member (row lists key) spot
+  pub place : spot.place ≡ i
+  pub mark : IsMark c spot.mark
+
+-- each clause's do
+pub record AreListed (lists : List (List Spot)) (cs : List (List Lit)) : Type 0 where
+  pub each : (i : ℕ) (c : List Lit) → slice_get cs i ≡ Some c → IsListed lists i c
+
+-- nothing is lost from the lists
+pub record AreKept (old new : List (List Spot)) : Type 0 where
+  pub each : (k : ℕ) (s : Spot) → Member (row old k) s → Member (row new k) s
+
+-- clauses of a store, and those of its sieve: none of the first is within another, and both subsume the same
+pub record AreStored (cs sieve : List (List Lit)) : Type 0 where
+  pub apart : are_apart cs ≡ true
+  pub same : (c : List Lit) → subsumed sieve c ≡ subsumed cs c

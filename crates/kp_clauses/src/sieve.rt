@@ -1,0 +1,188 @@
+ghost use Rattle.std.specs.Prelude.{◌≡◌, ◌⊎◌, ◌<◌, ◌+◌, ◌∷◌, ◌++◌, [], ℕ, length, slice_get, OnOk, OnErr};
+ghost use Rattle.std.specs.List.{list_any};
+ghost use Rattle.kp_base.specs.Lists.{Member};
+ghost use Rattle.kp_clauses.specs.Stored.{subsumed};
+ghost use Rattle.kp_clauses.specs.Sieved.{key_of, keys, row, stands_within, tried, AreKept};
+
+use crate::clause::subsumes;
+use crate::mark::{mark, marks_within};
+use kp_base::{Lit, LitSet, Memory, Row};
+use std::alloc::Global;
+use std::marker::Model;
+
+/// Where a clause stands, and its mark.
+#[derive(Clone, Copy)]
+pub struct Spot {
+    mark: u64,
+    place: usize,
+}
+
+/// Clauses in the order in which they came, among which one within another clause is found soon. Contracts see the
+/// list of them.
+#[derive(Drop)]
+pub struct Sieve {
+    alloc: Global,
+    clauses: Row<LitSet>,
+    lists: Vec<Row<Spot>>,
+}
+
+impl Model for Sieve {
+    ghost use Rattle.std.specs.Prelude.{List};
+    ghost use Rattle.kp_base.specs.declared.lit.Lit.{Lit};
+    ghost use Rattle.kp_clauses.specs.Sieved.{AreListed};
+
+    ghost Value = { List (List Lit) };
+
+    ghost view = { λ s. s.clauses };
+
+    ghost invariant = { λ s. AreListed s.lists.items s.clauses };
+}
+
+impl Sieve {
+    /// No clauses.
+    pub fn new(alloc: Global) -> Sieve
+        ensures { result ≡ [] }
+    {
+        Sieve {
+            alloc,
+            clauses: Row::new(alloc),
+            lists: Vec::new(alloc),
+        }
+    }
+
+    /// The clauses.
+    pub fn clauses(&self) -> &Row<LitSet>
+        ensures { result.now ≡ self.now }
+    {
+        &self.clauses
+    }
+
+    /// The clauses, in a vector.
+    pub fn into_clauses(self) -> Vec<LitSet>
+        ensures { result.items ≡ self }
+    {
+        self.clauses.into_vec()
+    }
+
+    /// Whether some clause is within this one.
+    pub fn subsumes(&self, c: &LitSet) -> bool
+        ensures { result ≡ subsumed self.now c.now }
+    {
+        let clauses = self.clauses.slice();
+        let word = mark(c);
+        any_listed(clauses, &self.lists, 0, word, c)
+            || any_of_literals(clauses, &self.lists, word, c)
+    }
+
+    /// Adds a clause at the end. At `Memory` the clauses are as they were, and this one is gone.
+    pub fn push(&mut self, clause: LitSet) -> Result<(), Memory>
+        ensures ok { OnOk result (self.new ≡ self.old ++ clause ∷ []) }
+        ensures err { OnErr result (self.new ≡ self.old) }
+    {
+        let spot = Spot {
+            mark: mark(&clause),
+            place: self.clauses.len(),
+        };
+        let key = choose(&self.lists, &clause);
+        note(self.alloc, &mut self.lists, key, spot)?;
+        self.clauses.push(clause)?;
+        Ok(())
+    }
+}
+
+// The number of a literal's list. A fixed number of lists serves any number of literals.
+fn key(lit: Lit) -> usize
+    ensures { result ≡ key_of lit }
+{
+    (lit.code() % 4096) as usize + 1
+}
+
+// A list by its number.
+fn list(lists: &[Row<Spot>], key: usize) -> &[Spot]
+    ensures { result.now ≡ row lists.now key }
+{
+    match lists.get(key) {
+        Some(spots) => spots.slice(),
+        None => &[],
+    }
+}
+
+// Whether a clause stands at the place, and is within this one.
+fn stands(clauses: &[LitSet], place: usize, c: &LitSet) -> bool
+    ensures { result ≡ stands_within (slice_get clauses.now place) c.now }
+{
+    match clauses.get(place) {
+        Some(d) => subsumes(d, c),
+        None => false,
+    }
+}
+
+// Whether the clause of a spot is within this one.
+fn is_tried(clauses: &[LitSet], spot: &Spot, word: u64, c: &LitSet) -> bool
+    ensures { result ≡ tried clauses.now c.now word spot.now }
+{
+    marks_within(spot.mark, word) && stands(clauses, spot.place, c)
+}
+
+// Whether that of some spot in a list is.
+fn any_listed(clauses: &[LitSet], lists: &[Row<Spot>], key: usize, word: u64, c: &LitSet) -> bool
+    ensures { result ≡ list_any (tried clauses.now c.now word) (row lists.now key) }
+{
+    list(lists, key)
+        .iter()
+        .any(|s| is_tried(clauses, s, word, c))
+}
+
+// Whether that of some spot in the lists of this clause's literals is.
+fn any_of_literals(clauses: &[LitSet], lists: &[Row<Spot>], word: u64, c: &LitSet) -> bool
+    ensures { result ≡ list_any (λ l. list_any (tried clauses.now c.now word) (row lists.now (key_of l))) c.now }
+{
+    c.slice()
+        .iter()
+        .any(|l| any_listed(clauses, lists, key(*l), word, c))
+}
+
+// The shorter of two lists, where the first is that of the empty clause the second.
+fn shorter(lists: &[Row<Spot>], best: usize, key: usize) -> usize
+    ensures { (result ≡ best) ⊎ (result ≡ key) }
+{
+    if best == 0 || list(lists, key).len() < list(lists, best).len() {
+        return key;
+    }
+    best
+}
+
+// The shortest of a clause's lists.
+fn choose(lists: &[Row<Spot>], c: &LitSet) -> usize
+    ensures { Member (keys c.now) result }
+{
+    let lits = c.slice();
+    let mut best = 0;
+    for l in lits {
+        best = shorter(lists, best, key(*l));
+    }
+    best
+}
+
+// Makes as many lists as there must be for this number.
+fn make_lists(alloc: Global, lists: &mut Vec<Row<Spot>>, key: usize) -> Result<(), Memory>
+    requires { key < 4097 }
+    ensures same { (k : ℕ) → row lists.new.items k ≡ row lists.old.items k }
+    ensures there { OnOk result (key < length lists.new.items) }
+{
+    for _ in lists.len()..key + 1 {
+        lists.push(Row::new(alloc))?;
+    }
+    Ok(())
+}
+
+// Puts a spot into a list.
+fn note(alloc: Global, lists: &mut Vec<Row<Spot>>, key: usize, spot: Spot) -> Result<(), Memory>
+    requires { key < 4097 }
+    ensures kept { AreKept lists.old.items lists.new.items }
+    ensures there { OnOk result (Member (row lists.new.items key) spot) }
+{
+    make_lists(alloc, lists, key)?;
+    lists[key].push(spot)?;
+    Ok(())
+}

@@ -1,0 +1,128 @@
+ghost use Rattle.std.specs.Prelude.{◌≡◌, ◌≢◌, ◌<◌, ◌≤◌, ◌++◌, ◌∷◌, [], ℕ, cond, length, take, slice_get, OnOk};
+ghost use Rattle.std.specs.List.{list_any};
+ghost use Rattle.kp_base.specs.declared.lit.Lit.{Lit as Literal};
+ghost use Rattle.kp_base.specs.Lit.{code_of};
+ghost use Rattle.kp_base.specs.Steps.{has};
+ghost use Rattle.kp_primes.specs.Placed.{held, within_at, held_at, AreHolders};
+
+use kp_base::{Lit, LitSet, Memory, Row};
+use kp_clauses::subsumes;
+use std::alloc::Global;
+use std::marker::Model;
+
+/// For each literal the places of the clauses that have it. Contracts see the lists, by the literals' codes.
+#[derive(Drop)]
+pub struct Holders {
+    alloc: Global,
+    lists: Vec<Row<usize>>,
+}
+
+impl Model for Holders {
+    ghost use Rattle.std.specs.Prelude.{ℕ, List};
+
+    ghost Value = { List (List ℕ) };
+
+    ghost view = { λ h. h.lists.items };
+}
+
+impl Holders {
+    /// The lists where there are no clauses.
+    pub fn new(alloc: Global) -> Holders
+        ensures { AreHolders result [] }
+    {
+        Holders {
+            alloc,
+            lists: Vec::new(alloc),
+        }
+    }
+
+    /// The places of the clauses that have the literal.
+    pub fn of(&self, lit: Lit) -> &[usize]
+        ensures { result.now ≡ held self.now (code_of lit) }
+    {
+        match self.lists.get(lit.code() as usize) {
+            Some(places) => places.slice(),
+            None => &[],
+        }
+    }
+
+    /// Lists the clauses from a place on.
+    pub fn extend(&mut self, clauses: &[LitSet], first: usize) -> Result<(), Memory>
+        requires within { first ≤ length clauses.now }
+        requires before { AreHolders self.old (take first clauses.now) }
+        ensures { OnOk result (AreHolders self.new clauses.now) }
+    {
+        for i in first..clauses.len() {
+            self.push(&clauses[i], i)?;
+        }
+        Ok(())
+    }
+
+    // Puts a clause's place into the lists of its literals.
+    fn push(&mut self, c: &LitSet, place: usize) -> Result<(), Memory>
+        ensures { OnOk result ((l : Literal) → held self.new (code_of l) ≡ held self.old (code_of l) ++ cond (has c.now l) (place ∷ []) []) }
+    {
+        let lits = c.slice();
+        for l in lits {
+            note(self.alloc, &mut self.lists, *l, place)?;
+        }
+        Ok(())
+    }
+}
+
+// Makes as many lists as there must be for this number.
+fn make_lists(alloc: Global, lists: &mut Vec<Row<usize>>, code: usize) -> Result<(), Memory>
+    requires { code < 8589934592 }
+    ensures same { (k : ℕ) → held lists.new.items k ≡ held lists.old.items k }
+    ensures there { OnOk result (code < length lists.new.items) }
+{
+    for _ in lists.len()..code + 1 {
+        lists.push(Row::new(alloc))?;
+    }
+    Ok(())
+}
+
+// Puts a place into the list of a literal.
+fn note(alloc: Global, lists: &mut Vec<Row<usize>>, lit: Lit, place: usize) -> Result<(), Memory>
+    ensures own { OnOk result (held lists.new.items (code_of lit) ≡ held lists.old.items (code_of lit) ++ place ∷ []) }
+    ensures others { OnOk result ((k : ℕ) → k ≢ code_of lit → held lists.new.items k ≡ held lists.old.items k) }
+{
+    let code = lit.code() as usize;
+    make_lists(alloc, lists, code)?;
+    lists[code].push(place)?;
+    Ok(())
+}
+
+// Whether the clause is within the one at a place.
+fn is_at(clauses: &[LitSet], place: usize, c: &LitSet) -> bool
+    ensures { result ≡ within_at c.now (slice_get clauses.now place) }
+{
+    match clauses.get(place) {
+        Some(p) => subsumes(c, p),
+        None => false,
+    }
+}
+
+// Whether it is within one of those at these places.
+fn any_at(clauses: &[LitSet], places: &[usize], c: &LitSet) -> bool
+    ensures { result ≡ list_any (λ i. within_at c.now (slice_get clauses.now i)) places.now }
+{
+    places.iter().any(|i| is_at(clauses, *i, c))
+}
+
+// Whether some clause may hold this one: those that have its first literal are looked at.
+fn is_held(clauses: &[LitSet], holders: &Holders, c: &LitSet) -> bool
+    ensures { result ≡ held_at clauses.now holders.now c.now (slice_get c.now 0) }
+{
+    match c.slice().first() {
+        Some(l) => any_at(clauses, holders.of(*l), c),
+        None => true,
+    }
+}
+
+/// Whether some clause may hold one of the others.
+pub fn are_held(clauses: &[LitSet], holders: &Holders, others: &[LitSet]) -> bool
+    ensures { result ≡ list_any (λ c. held_at clauses.now holders.now c (slice_get c 0)) others.now }
+{
+    others.iter().any(|c| is_held(clauses, holders, c))
+}
