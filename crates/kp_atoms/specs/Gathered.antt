@@ -1,4 +1,4 @@
--- Atoms that are gathered one by one, each once, up to one beyond a limit, and sorted. This file serves proofs alone.
+-- Atoms that are gathered one by one, each once, up to one beyond a limit, and sorted.
 use Rattle.std.specs.Prelude.{◌≡◌, ℕ, List, [], ◌∷◌, ◌++◌, if◌then◌else◌, fold, length, nat_lt, Vec}
 use Rattle.std.specs.declared.alloc.Global.{Global}
 use Rattle.kp_meaning.specs.declared.lifted.GroundLit.{GroundLit}

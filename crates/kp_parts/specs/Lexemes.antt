@@ -1,4 +1,4 @@
--- The tokens of the program as tokens of the grammar. This file serves proofs alone.
+-- The tokens of the program as tokens of the grammar. The calls of this crate speak of it; what is promised of whole files doesn't.
 use Rattle.std.specs.Prelude.{ℕ, List, map, drop, slice_range}
 use Rattle.kp_lex.specs.declared.token.Token.{Token}
 use Rattle.kp_grammar.specs.declared.tree.Word.{Word}

@@ -1,4 +1,4 @@
--- What the functions of the reader give. This file serves proofs alone; the grammar of `kp_grammar` has the forms.
+-- What the calls of this crate give, by the forms of `kp_grammar`. What is promised of whole files doesn't speak of it.
 use Rattle.std.specs.Prelude.{◌≡◌, ◌+◌, ℕ, length, List, [], ◌∷◌, ◌++◌, Bool, true, false, Result, Ok, Err, map}
 use Rattle.kp_grammar.specs.declared.tree.Word.{Word}
 use Rattle.kp_grammar.specs.declared.symbol.Symbol.{Symbol}
