@@ -1,5 +1,6 @@
-//! Whether an action adds and deletes one atom under conditions that may hold together.
-//! `IsFirstClash` and `HasNoClash` in `kp_base/specs/Clashes.antt` say what `clash_test` gives.
+//! The exclusive pairs of a ground problem, and whether an action adds and deletes one atom under conditions that may
+//! hold together. `AreExclusive` in `kp_base/specs/Exclusive.antt` says what `exclusive` gives, and
+//! `IsFirstClash` and `HasNoClash` in `Clashes.antt` there what `clash_test` gives.
 #![tactic(auto)]
 
 mod added;
@@ -12,8 +13,12 @@ mod left;
 mod pairs;
 mod settle;
 mod start;
+mod touched;
 mod within;
 
 pub use clash::clash_test;
 pub use find::exclusive;
 pub use pairs::Pairs;
+
+#[cfg(test)]
+mod tests;

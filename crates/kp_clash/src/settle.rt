@@ -1,23 +1,26 @@
 //! Removes pairs that don't stay.
-ghost use Rattle.std.specs.Prelude.{◌≡◌, true, [], ◌∷◌};
+ghost use Rattle.std.specs.Prelude.{◌≡◌, ◌<◌, true, [], ◌∷◌, length};
 ghost use Rattle.kp_base.specs.Lists.{Member};
-ghost use Rattle.kp_clash.specs.Removed.{Shrinks};
+ghost use Rattle.kp_clash.specs.Paired.{is_pair};
+ghost use Rattle.kp_clash.specs.Removed.{IsBroken, Shrinks};
 ghost use Rattle.kp_clash.specs.Left.{all_added};
 ghost use Rattle.kp_clash.specs.Settling.{IsSettled};
 
 use crate::Pairs;
 use crate::added::{WORDS, atoms_added, may_add_pair};
 use crate::broken::{adds_pair, broken, next_alone};
-use kp_base::{Action, Effect, Ground};
+use crate::touched::Touched;
+use kp_base::{Action, AtomId, Effect, Ground};
 
 // Removes the pairs that the effect breaks alone.
-fn clear_alone(pairs: &mut Pairs, action: &Action, effect: &Effect)
+fn clear_alone(pairs: &mut Pairs, touched: &mut Touched, action: &Action, effect: &Effect)
     requires { Member action.now.effects effect.now }
     ensures { Shrinks (action.now ∷ []) pairs.old pairs.new }
 {
     let mut from = 0u32;
     'rest: while let Some(q) = next_alone(pairs, action, effect, from) {
         pairs.remove(effect.result.atom, q);
+        touched.note(effect.result.atom, q);
         from = q.0 + 1;
     }
 }
@@ -37,7 +40,13 @@ fn clear_both(pairs: &mut Pairs, action: &Action, effect: &Effect, other: &Effec
 }
 
 // Removes the pairs that the effect breaks together with another effect.
-fn clear_together(pairs: &mut Pairs, action: &Action, effect: &Effect, added: &[u64; WORDS])
+fn clear_together(
+    pairs: &mut Pairs,
+    touched: &mut Touched,
+    action: &Action,
+    effect: &Effect,
+    added: &[u64; WORDS],
+)
     requires of_action { Member action.now.effects effect.now }
     requires added { all_added added.now action.now.effects ≡ true }
     ensures { Shrinks (action.now ∷ []) pairs.old pairs.new }
@@ -48,46 +57,103 @@ fn clear_together(pairs: &mut Pairs, action: &Action, effect: &Effect, added: &[
             return;
         }
         if clear_both(pairs, action, effect, other) {
+            touched.note(effect.result.atom, other.result.atom);
             left = may_add_pair(pairs, action, effect, added);
         }
     }
 }
 
-// Removes the pairs that the effect breaks.
-fn clear_effect(pairs: &mut Pairs, action: &Action, effect: &Effect, added: &[u64; WORDS])
+// Removes the pairs that the effect breaks, where it has a condition on an atom of the last pairs that were removed.
+fn clear_effect(
+    pairs: &mut Pairs,
+    last: &Touched,
+    next: &mut Touched,
+    action: &Action,
+    effect: &Effect,
+    added: &[u64; WORDS],
+)
     requires of_action { Member action.now.effects effect.now }
     requires added { all_added added.now action.now.effects ≡ true }
     ensures { Shrinks (action.now ∷ []) pairs.old pairs.new }
 {
-    clear_alone(pairs, action, effect);
-    clear_together(pairs, action, effect, added);
+    if !last.meets(action.pre.slice()) && !last.meets(effect.cond.slice()) {
+        return;
+    }
+    clear_alone(pairs, next, action, effect);
+    clear_together(pairs, next, action, effect, added);
+}
+
+// Whether the action has a condition on one of these atoms.
+fn is_met(last: &Touched, action: &Action) -> bool {
+    last.meets(action.pre.slice())
+        || action
+            .effects
+            .slice()
+            .iter()
+            .any(|e| last.meets(e.cond.slice()))
 }
 
 // Removes the pairs that an effect of the action breaks.
-fn clear_action(pairs: &mut Pairs, action: &Action)
+fn clear_action(pairs: &mut Pairs, last: &Touched, next: &mut Touched, action: &Action)
     ensures { Shrinks (action.now ∷ []) pairs.old pairs.new }
 {
+    if !is_met(last, action) {
+        return;
+    }
     let added = atoms_added(action.effects.slice());
     for effect in action.effects.slice() {
-        clear_effect(pairs, action, effect, &added);
+        clear_effect(pairs, last, next, action, effect, &added);
     }
 }
 
-// Removes pairs that don't stay, in one walk over the actions.
-fn sweep(ground: &Ground, pairs: &mut Pairs)
+// Removes pairs that don't stay now that the last ones are gone, in one walk over the actions.
+fn sweep(ground: &Ground, pairs: &mut Pairs, last: &Touched, next: &mut Touched)
     ensures { Shrinks ground.now.actions pairs.old pairs.new }
 {
     for action in ground.actions.slice() {
-        clear_action(pairs, action);
+        clear_action(pairs, last, next, action);
     }
+}
+
+// Removes pairs that don't stay, as long as the last ones that were removed may have held up others. It need not remove
+// all: what is left over is found by `broken`.
+fn sweep_on(ground: &Ground, pairs: &mut Pairs, first: Touched)
+    ensures { Shrinks ground.now.actions pairs.old pairs.new }
+{
+    let mut last = first;
+    for _ in 0..pairs.atoms() {
+        if !last.is_some() {
+            return;
+        }
+        let mut next = Touched::none();
+        sweep(ground, pairs, &last, &mut next);
+        last = next;
+    }
+}
+
+// The atoms of one pair.
+fn atoms_of(p: AtomId, q: AtomId) -> Touched {
+    let mut touched = Touched::none();
+    touched.note(p, q);
+    touched
+}
+
+// Removes a pair that doesn't stay, and what it held up.
+fn remove(ground: &Ground, pairs: &mut Pairs, p: AtomId, q: AtomId)
+    requires { IsBroken (is_pair pairs.old) ground.now.actions p.0 q.0 }
+    ensures shrinks { Shrinks ground.now.actions pairs.old pairs.new }
+    ensures fewer { length pairs.new < length pairs.old }
+{
+    pairs.remove(p, q);
+    sweep_on(ground, pairs, atoms_of(p, q));
 }
 
 /// Removes pairs until each one stays.
 pub(crate) fn settle(ground: &Ground, pairs: &mut Pairs)
     ensures { IsSettled ground.now pairs.old pairs.new }
 {
+    sweep_on(ground, pairs, Touched::all());
     'rounds: while let Some((p, q)) = broken(ground, pairs) {
-        pairs.remove(p, q);
-        sweep(ground, pairs);
+        remove(ground, pairs, p, q);
     }
 }
