@@ -3,20 +3,23 @@ ghost use Rattle.std.specs.Prelude.{◌≡◌, true, [], ◌∷◌};
 ghost use Rattle.kp_base.specs.Lists.{Member};
 ghost use Rattle.kp_clash.specs.Removed.{Shrinks};
 ghost use Rattle.kp_clash.specs.Left.{all_added};
+ghost use Rattle.kp_clash.specs.Searching.{all_noted};
 ghost use Rattle.kp_clash.specs.Settling.{IsSettled};
 
 use crate::Pairs;
 use crate::added::{WORDS, atoms_added, may_add_pair};
 use crate::broken::{adds_pair, broken, next_alone};
+use crate::deleted::{SLOTS, slots_of_deletes};
 use kp_base::{Action, Effect, Ground};
 
 // Removes the pairs that the effect breaks alone.
-fn clear_alone(pairs: &mut Pairs, action: &Action, effect: &Effect)
-    requires { Member action.now.effects effect.now }
+fn clear_alone(pairs: &mut Pairs, action: &Action, slots: &[bool; SLOTS], effect: &Effect)
+    requires of_action { Member action.now.effects effect.now }
+    requires noted { all_noted slots.now action.now.effects ≡ true }
     ensures { Shrinks (action.now ∷ []) pairs.old pairs.new }
 {
     let mut from = 0u32;
-    'rest: while let Some(q) = next_alone(pairs, action, effect, from) {
+    'rest: while let Some(q) = next_alone(pairs, action, slots, effect, from) {
         pairs.remove(effect.result.atom, q);
         from = q.0 + 1;
     }
@@ -54,12 +57,19 @@ fn clear_together(pairs: &mut Pairs, action: &Action, effect: &Effect, added: &[
 }
 
 // Removes the pairs that the effect breaks.
-fn clear_effect(pairs: &mut Pairs, action: &Action, effect: &Effect, added: &[u64; WORDS])
+fn clear_effect(
+    pairs: &mut Pairs,
+    action: &Action,
+    slots: &[bool; SLOTS],
+    effect: &Effect,
+    added: &[u64; WORDS],
+)
+    requires noted { all_noted slots.now action.now.effects ≡ true }
     requires of_action { Member action.now.effects effect.now }
     requires added { all_added added.now action.now.effects ≡ true }
     ensures { Shrinks (action.now ∷ []) pairs.old pairs.new }
 {
-    clear_alone(pairs, action, effect);
+    clear_alone(pairs, action, slots, effect);
     clear_together(pairs, action, effect, added);
 }
 
@@ -68,8 +78,9 @@ fn clear_action(pairs: &mut Pairs, action: &Action)
     ensures { Shrinks (action.now ∷ []) pairs.old pairs.new }
 {
     let added = atoms_added(action.effects.slice());
+    let slots = slots_of_deletes(action.effects.slice());
     for effect in action.effects.slice() {
-        clear_effect(pairs, action, effect, &added);
+        clear_effect(pairs, action, &slots, effect, &added);
     }
 }
 
