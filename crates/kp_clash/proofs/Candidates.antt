@@ -8,9 +8,13 @@ use Rattle.std.specs.List.{list_any, list_all}
 use Rattle.kp_base.specs.declared.lit.Lit.{Lit}
 use Rattle.kp_base.specs.declared.ground.Effect.{Effect}
 use Rattle.kp_base.specs.declared.ground.Action.{Action}
-use Rattle.kp_base.specs.Lit.{positive, negated, same_lit}
+use Rattle.kp_base.specs.Implicates.{is_within}
+use Rattle.kp_base.specs.Lit.{positive, negative, negated, same_lit}
 use Rattle.kp_base.specs.Clashes.{Pairs, are_exclusive, compatible_effects}
 use Rattle.kp_base.proofs.Lists.{all_member, all_weaker, any_member}
+use Rattle.kp_base.proofs.Lits.{same_lit-true}
+use Rattle.kp_clash.specs.Searching.{may_be_deleted, is_noted, all_noted}
+use Rattle.kp_clash.specs.Settled.{deletes_within}
 use Rattle.kp_clash.specs.Left.{bit_in, KeepsBits, is_added, all_added, KeepsFree}
 use Rattle.kp_clash.specs.Removed.{adds_pair}
 
@@ -73,3 +77,11 @@ delete_adds_none pairs a e sign = false_from_ne_true (list_any (adds_pair pairs 
     let x = any_member (adds_pair pairs a e) a.effects h in
     let both = and_parts (e.result.positive && (x.0.result.positive && pairs e.result.atom.0 x.0.result.atom.0)) (compatible_effects pairs a e x.0) x.2 in
     false≢true (sym sign ∙ (and_parts e.result.positive (x.0.result.positive && pairs e.result.atom.0 x.0.result.atom.0) both.0).0))
+
+-- ---- atoms that are deleted
+
+pub never_deletes : (slots : List Bool) (a : Action) (q : ℕ) (ls : List Lit) → all_noted slots a.effects ≡ true → may_be_deleted slots q ≡ false → deletes_within a q ls ≡ false
+never_deletes slots a q ls noted free = false_from_ne_true (deletes_within a q ls) (λ h.
+    let x = any_member (λ d. same_lit d.result (negative q) && is_within d.cond ls) a.effects h in
+    let same = same_lit-true x.0.result (negative q) (and_parts (same_lit x.0.result (negative q)) (is_within x.0.cond ls) x.2).0 in
+    false≢true (sym free ∙ (ap (λ (l : Lit). l.positive || may_be_deleted slots l.atom.0) (sym same) ∙ all_member (is_noted slots) a.effects x.0 x.1 noted)))

@@ -3,7 +3,8 @@ ghost use Rattle.kp_clash.specs.Searching.{KeepsMarks, is_noted, all_noted, may_
 
 use kp_base::{AtomId, Effect};
 
-const SLOTS: usize = 4096;
+/// How many slots there are for the atoms that are deleted.
+pub const SLOTS: usize = 4096;
 
 // Marks the slot of the atom of an effect that deletes it.
 fn note(slots: &mut [bool; SLOTS], effect: &Effect)

@@ -4,21 +4,30 @@ ghost use Rattle.kp_base.specs.Lists.{Member};
 ghost use Rattle.kp_clash.specs.Paired.{is_pair};
 ghost use Rattle.kp_clash.specs.Removed.{IsBroken, Shrinks};
 ghost use Rattle.kp_clash.specs.Left.{all_added};
+ghost use Rattle.kp_clash.specs.Searching.{all_noted};
 ghost use Rattle.kp_clash.specs.Settling.{IsSettled};
 
 use crate::Pairs;
 use crate::added::{WORDS, atoms_added, may_add_pair};
 use crate::broken::{adds_pair, broken, next_alone};
+use crate::deleted::{SLOTS, slots_of_deletes};
 use crate::touched::Touched;
 use kp_base::{Action, AtomId, Effect, Ground};
 
 // Removes the pairs that the effect breaks alone.
-fn clear_alone(pairs: &mut Pairs, touched: &mut Touched, action: &Action, effect: &Effect)
-    requires { Member action.now.effects effect.now }
+fn clear_alone(
+    pairs: &mut Pairs,
+    touched: &mut Touched,
+    action: &Action,
+    slots: &[bool; SLOTS],
+    effect: &Effect,
+)
+    requires of_action { Member action.now.effects effect.now }
+    requires noted { all_noted slots.now action.now.effects ≡ true }
     ensures { Shrinks (action.now ∷ []) pairs.old pairs.new }
 {
     let mut from = 0u32;
-    'rest: while let Some(q) = next_alone(pairs, action, effect, from) {
+    'rest: while let Some(q) = next_alone(pairs, action, slots, effect, from) {
         pairs.remove(effect.result.atom, q);
         touched.note(effect.result.atom, q);
         from = q.0 + 1;
@@ -69,9 +78,11 @@ fn clear_effect(
     last: &Touched,
     next: &mut Touched,
     action: &Action,
+    slots: &[bool; SLOTS],
     effect: &Effect,
     added: &[u64; WORDS],
 )
+    requires noted { all_noted slots.now action.now.effects ≡ true }
     requires of_action { Member action.now.effects effect.now }
     requires added { all_added added.now action.now.effects ≡ true }
     ensures { Shrinks (action.now ∷ []) pairs.old pairs.new }
@@ -79,7 +90,7 @@ fn clear_effect(
     if !last.meets(action.pre.slice()) && !last.meets(effect.cond.slice()) {
         return;
     }
-    clear_alone(pairs, next, action, effect);
+    clear_alone(pairs, next, action, slots, effect);
     clear_together(pairs, next, action, effect, added);
 }
 
@@ -101,8 +112,9 @@ fn clear_action(pairs: &mut Pairs, last: &Touched, next: &mut Touched, action: &
         return;
     }
     let added = atoms_added(action.effects.slice());
+    let slots = slots_of_deletes(action.effects.slice());
     for effect in action.effects.slice() {
-        clear_effect(pairs, last, next, action, effect, &added);
+        clear_effect(pairs, last, next, action, &slots, effect, &added);
     }
 }
 

@@ -5,11 +5,12 @@ use kp_base::{AtomId, Lit};
 
 const SLOTS: usize = 4096;
 
-/// Atoms of which a pair was removed, by their numbers modulo 4,096.
+/// Atoms of which a pair was removed, by their numbers modulo 4,096; or all effects.
 #[derive(Drop)]
 pub(crate) struct Touched {
     slots: [bool; SLOTS],
     is_some: bool,
+    is_all: bool,
 }
 
 impl Touched {
@@ -18,18 +19,20 @@ impl Touched {
         Touched {
             slots: [false; SLOTS],
             is_some: false,
+            is_all: false,
         }
     }
 
-    /// All atoms.
+    /// All effects, as before anything was looked at.
     pub(crate) fn all() -> Touched {
         Touched {
-            slots: [true; SLOTS],
+            slots: [false; SLOTS],
             is_some: true,
+            is_all: true,
         }
     }
 
-    /// Whether there are any atoms.
+    /// Whether anything is to be looked at.
     pub(crate) fn is_some(&self) -> bool {
         self.is_some
     }
@@ -41,9 +44,12 @@ impl Touched {
         self.is_some = true;
     }
 
-    /// Whether one of the literals may have excluded an atom by a pair that was removed.
+    /// Whether an effect with these literals among its conditions is to be looked at: one of them may have excluded an
+    /// atom by a pair that was removed.
     pub(crate) fn meets(&self, lits: &[Lit]) -> bool {
-        lits.iter()
-            .any(|l| l.positive && self.slots[l.atom.0 as usize % SLOTS])
+        self.is_all
+            || lits
+                .iter()
+                .any(|l| l.positive && self.slots[l.atom.0 as usize % SLOTS])
     }
 }

@@ -7,5 +7,5 @@ use Rattle.kp_clash.proofs.settle.clear_alone.Goals as goal
 pub rest-preserved : goal.rest-preserved
 rest-preserved c =
     let found : FindsAlone (is_pair c.rest.pairs) c.args.action.now c.args.effect.now c.rest.from (Some c.in-Some.q) = rw c.in-Some.is at c.next_alone.ensures in
-    let broken = breaks_broken (is_pair c.rest.pairs) c.args.action.now c.args.effect.now c.in-Some.q.0 c.requires found.0 in
+    let broken = breaks_broken (is_pair c.rest.pairs) c.args.action.now c.args.effect.now c.in-Some.q.0 c.requires.of_action found.0 in
     shrinks_on (c.args.action.now ∷ []) c.args.pairs.now c.rest.pairs c.remove.new.self c.rest.invariant (removes (c.args.action.now ∷ []) c.args.effect.now.result.atom.0 c.in-Some.q.0 c.rest.pairs c.remove.new.self broken c.remove.ensures)
