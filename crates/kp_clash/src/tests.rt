@@ -66,7 +66,7 @@ fn found(alloc: Global, clauses: &[&[(u32, bool)]]) -> Result<Pairs, Stop> {
     for lits in clauses {
         initial.clauses.push(set(alloc, lits)?)?;
     }
-    if !is_of_atoms(&initial, 3) {
+    if !is_of_atoms(&initial, 3) || ground.atoms.len() != 3 {
         return Err(Stop::Memory);
     }
     let primes = Primes::build(alloc, &initial, 3, 100)?;
