@@ -1,14 +1,14 @@
 -- The pairs that prime implicates deny are those that no initial state has together, and what is left of them in the end is the exclusive pairs.
-use Rattle.std.proofs.Common.{◌≡◌, ◌≢◌, ◌⊎◌, ◌<◌, ◌+◌, ◌*◌, ℕ, zero, suc, Bool, true, false, not, ◌&&◌, ◌||◌, List, [], ◌∷◌, length, replicate, get_or, nat_lt, inl, inr, refl, sym, ap, ap₂, ◌∙◌, arith}
-use Rattle.std.proofs.lemmas.Bool.{and_parts, or_cases, or_left, or_right, false≢true, false_from_ne_true, not-true, lt-ltb}
+use Rattle.std.proofs.Common.{◌≡◌, ◌⊎◌, ◌<◌, ◌*◌, ℕ, zero, suc, Bool, true, false, not, ◌&&◌, ◌||◌, List, [], ◌∷◌, length, replicate, get_or, nat_lt, inl, inr, refl, sym, ap, ◌∙◌, arith}
+use Rattle.std.proofs.lemmas.Bool.{and_parts, or_cases, false≢true, false_from_ne_true, not-true, lt-ltb}
 use Rattle.std.proofs.lemmas.List.{length-replicate}
 use Rattle.std.specs.List.{list_any, list_all}
 use Rattle.kp_base.specs.declared.lit.Lit.{Lit}
 use Rattle.kp_base.specs.declared.ground.Ground.{Ground}
 use Rattle.kp_base.specs.declared.ground.Initial.{Initial}
 use Rattle.kp_base.specs.Lists.{Member}
-use Rattle.kp_base.specs.Lit.{positive, negative, negated}
-use Rattle.kp_base.specs.Implicates.{is_within, IsImplicate, is_tautology}
+use Rattle.kp_base.specs.Lit.{negated}
+use Rattle.kp_base.specs.Implicates.{IsImplicate, is_tautology}
 use Rattle.kp_base.specs.Steps.{State, holds, has, is_model}
 use Rattle.kp_base.specs.Clashes.{Pairs}
 use Rattle.kp_base.specs.Exclusive.{ArePairs, AreExclusive, IsInductive}

@@ -1,7 +1,7 @@
 -- Removing pairs that don't stay takes none that an inductive set has.
-use Rattle.std.proofs.Common.{◌≡◌, ◌<◌, ◌≤◌, ℕ, Bool, true, false, not, ◌&&◌, ◌||◌, List, [], ◌∷◌, length, nat_eq, inl, inr, refl, sym, ap, ap₂, subst, ◌∙◌, arith}
+use Rattle.std.proofs.Common.{◌≡◌, ℕ, Bool, true, false, not, ◌&&◌, ◌||◌, List, [], ◌∷◌, nat_eq, inl, inr, refl, sym, ap, ap₂, ◌∙◌, arith}
 use Rattle.std.proofs.lemmas.Bool.{and_parts, and_from, or_cases, false≢true, false_from_ne_true, not-true, eqb-true}
-use Rattle.std.specs.List.{list_any, list_all}
+use Rattle.std.specs.List.{list_all}
 use Rattle.kp_base.specs.declared.ground.Effect.{Effect}
 use Rattle.kp_base.specs.declared.ground.Action.{Action}
 use Rattle.kp_base.specs.declared.ground.Ground.{Ground}
@@ -13,7 +13,7 @@ use Rattle.kp_base.specs.Exclusive.{firing_with, IsInductive}
 use Rattle.kp_base.proofs.Lists.{all_member, all_from, any_from}
 use Rattle.kp_base.proofs.Lits.{same_lit-true}
 use Rattle.kp_clash.specs.Paired.{are_both, is_pair}
-use Rattle.kp_clash.specs.Settled.{IsPart, adds_both, never_adds_both, deletes_within, keeps_apart, all_keep_apart, stays_in, stays}
+use Rattle.kp_clash.specs.Settled.{IsPart, adds_both, never_adds_both, deletes_within, keeps_apart, all_keep_apart, stays_in}
 use Rattle.kp_clash.specs.Removed.{IsWithout, AreKeptBy, Shrinks, breaks, adds_pair, BreaksNone, IsBroken}
 use Rattle.kp_clash.proofs.Greatest.{is_lit, Parts, parts_of, stays_by, all_stay_more, inductive_stays}
 

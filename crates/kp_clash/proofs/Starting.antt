@@ -1,17 +1,16 @@
 -- What a clause marks.
-use Rattle.std.proofs.Common.{◌≡◌, ◌≢◌, ◌⊎◌, ◌<◌, ◌≤◌, ◌+◌, ℕ, zero, suc, Bool, true, false, not, ◌&&◌, ◌||◌, List, [], ◌∷◌, length, nat_eq, nat_lt, inl, inr, refl, sym, ap, ap₂, subst, ◌∙◌, arith}
+use Rattle.std.proofs.Common.{◌≡◌, ◌≢◌, ◌⊎◌, ◌<◌, ◌+◌, ℕ, Bool, true, false, ◌&&◌, ◌||◌, List, [], ◌∷◌, length, nat_eq, nat_lt, inl, inr, refl, sym, ap, ap₂, ◌∙◌, arith}
 use Rattle.std.proofs.lemmas.Bool.{and_parts, and_from, or_cases, or_left, or_right, false≢true, eqb-true, eq-eqb}
 use Rattle.std.proofs.lemmas.Bool.Decides.{nat_tests}
-use Rattle.std.specs.List.{list_any, list_all}
+use Rattle.std.specs.List.{list_all}
 use Rattle.kp_base.specs.declared.lit.Lit.{Lit}
-use Rattle.kp_base.specs.Lit.{positive, negative, same_lit, code_of}
+use Rattle.kp_base.specs.Lit.{negative, same_lit, code_of}
 use Rattle.kp_base.specs.LitSet.{IsAscending}
-use Rattle.kp_base.specs.Implicates.{is_within}
 use Rattle.kp_base.specs.Steps.{has}
 use Rattle.kp_base.specs.Clashes.{Pairs}
 use Rattle.kp_base.proofs.Lits.{same_lit-true}
 use Rattle.kp_clash.specs.Paired.{are_both, is_marked, IsSquare, IsWritten}
-use Rattle.kp_clash.specs.Starting.{not_both, denies, denied, pair_of, all_with, IsMarkedWith}
+use Rattle.kp_clash.specs.Starting.{not_both, denies, pair_of, all_with, IsMarkedWith}
 use Rattle.kp_clash.proofs.Greatest.{is_lit}
 
 -- ---- what is marked, step by step

@@ -4,7 +4,6 @@ use Rattle.std.specs.List.{list_any, list_all}
 use Rattle.kp_base.specs.declared.lit.AtomId.{AtomId}
 use Rattle.kp_base.specs.declared.ground.Effect.{Effect}
 use Rattle.kp_base.specs.declared.ground.Action.{Action}
-use Rattle.kp_base.specs.Lists.{Member}
 use Rattle.kp_base.specs.Clashes.{Pairs, compatible_effects}
 use Rattle.kp_clash.specs.Paired.{are_both, is_pair}
 use Rattle.kp_clash.specs.Settled.{IsPart, keeps_apart, stays_in}

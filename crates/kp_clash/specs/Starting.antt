@@ -1,6 +1,6 @@
 -- The pairs that clauses deny, and how they come into a table. This file serves proofs alone.
 use Rattle.std.specs.Prelude.{◌≡◌, ◌≢◌, ◌<◌, ℕ, Bool, true, ◌||◌, List, [], ◌∷◌, nat_eq}
-use Rattle.std.specs.List.{list_any, list_all}
+use Rattle.std.specs.List.{list_any}
 use Rattle.kp_base.specs.declared.lit.Lit.{Lit}
 use Rattle.kp_base.specs.Lit.{negative}
 use Rattle.kp_base.specs.Implicates.{is_within}

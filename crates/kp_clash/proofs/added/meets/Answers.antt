@@ -1,4 +1,4 @@
-use Rattle.std.proofs.Common.{◌<◌, ◌/◌, arith}
+use Rattle.std.proofs.Common.{arith}
 use Rattle.kp_clash.proofs.Marked.{width}
 use Rattle.kp_clash.proofs.added.meets.Goals as goal
 

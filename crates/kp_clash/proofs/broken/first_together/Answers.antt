@@ -1,4 +1,4 @@
-use Rattle.std.proofs.Common.{◌≡◌, sym, ◌∙◌}
+use Rattle.std.proofs.Common.{sym, ◌∙◌}
 use Rattle.kp_base.specs.Lists.{Member}
 use Rattle.kp_clash.specs.Paired.{is_pair}
 use Rattle.kp_clash.proofs.Removing.{adds_broken}

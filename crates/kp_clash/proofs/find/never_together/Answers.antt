@@ -1,4 +1,4 @@
-use Rattle.std.proofs.Common.{◌≡◌, ◌*◌, ◌<◌, false, replicate, sym, subst, List, Bool, ap, ◌∙◌}
+use Rattle.std.proofs.Common.{◌≡◌, ◌*◌, false, replicate, sym, subst, List, Bool, ap, ◌∙◌}
 use Rattle.kp_clash.specs.Paired.{is_pair, words_of, IsSquare}
 use Rattle.kp_clash.specs.Starting.{denied, IsMarkedWith}
 use Rattle.kp_clash.proofs.Removing.{pair_turned}

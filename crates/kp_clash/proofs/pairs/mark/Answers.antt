@@ -1,5 +1,5 @@
-use Rattle.std.proofs.Common.{◌≡◌, ℕ, Bool, true, List, set, sym, ap, ap₂, subst, ◌∙◌}
-use Rattle.kp_clash.specs.Paired.{place_of, IsWritten}
+use Rattle.std.proofs.Common.{◌≡◌, Bool, true, List, set, sym, ap, ap₂, subst, ◌∙◌}
+use Rattle.kp_clash.specs.Paired.{IsWritten}
 use Rattle.kp_clash.proofs.Written.{both_set, written}
 use Rattle.kp_clash.proofs.pairs.mark.Goals as goal
 

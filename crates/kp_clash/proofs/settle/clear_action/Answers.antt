@@ -1,5 +1,3 @@
-use Rattle.std.proofs.Common.{[], ◌∷◌}
-use Rattle.kp_clash.proofs.Removing.{shrinks_not, shrinks_on}
 use Rattle.kp_clash.proofs.Walks.{item_member}
 use Rattle.kp_clash.proofs.settle.clear_action.Goals as goal
 

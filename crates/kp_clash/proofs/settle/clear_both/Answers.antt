@@ -1,4 +1,4 @@
-use Rattle.std.proofs.Common.{[], ◌∷◌, ◌≡◌, true, sym, ◌∙◌}
+use Rattle.std.proofs.Common.{[], ◌∷◌, sym, ◌∙◌}
 use Rattle.kp_clash.specs.Paired.{is_pair}
 use Rattle.kp_clash.proofs.Removing.{adds_broken, removes}
 use Rattle.kp_clash.proofs.settle.clear_both.Goals as goal

@@ -1,4 +1,3 @@
-use Rattle.std.proofs.Common.{[], ◌∷◌}
 use Rattle.kp_clash.specs.Starting.{denies}
 use Rattle.kp_clash.proofs.Starting.{marked_none, deny_none}
 use Rattle.kp_clash.proofs.start.mark_clause.Goals as goal

@@ -1,4 +1,4 @@
-use Rattle.std.proofs.Common.{◌≡◌, ◌&&◌, true, not, [], ◌∷◌, sym, ap, ap₂, ◌∙◌}
+use Rattle.std.proofs.Common.{◌≡◌, ◌&&◌, true, not, [], ◌∷◌, sym, ap₂, ◌∙◌}
 use Rattle.std.proofs.lemmas.Bool.{and_parts, false≢true, not-true}
 use Rattle.kp_clash.specs.Starting.{denies, pair_of}
 use Rattle.kp_clash.proofs.Starting.{marked_none, marked_alike, two_deny, deny_two}

@@ -1,6 +1,5 @@
-use Rattle.std.proofs.Common.{true, refl, sym, ◌∙◌}
+use Rattle.std.proofs.Common.{refl}
 use Rattle.std.proofs.lemmas.Bool.{false_from_ne_true}
-use Rattle.kp_clash.specs.Paired.{is_pair}
 use Rattle.kp_clash.proofs.Marked.{pair_in, few}
 use Rattle.kp_clash.proofs.pairs.Pairs.atoms.Goals as goal
 

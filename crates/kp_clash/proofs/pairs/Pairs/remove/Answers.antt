@@ -1,6 +1,6 @@
-use Rattle.std.proofs.Common.{◌≡◌, ◌<◌, ◌*◌, ℕ, Bool, true, false, List, length, set, sym, ap, ap₂, subst, ◌∙◌}
+use Rattle.std.proofs.Common.{◌≡◌, ◌*◌, ℕ, Bool, false, List, length, set, sym, ap, ap₂, subst, ◌∙◌}
 use Rattle.std.proofs.lemmas.List.{length-set}
-use Rattle.kp_clash.specs.Paired.{is_pair, place_of, words_of, marked, IsSquare}
+use Rattle.kp_clash.specs.Paired.{words_of, marked, IsSquare}
 use Rattle.kp_clash.specs.Removed.{IsWithout}
 use Rattle.kp_clash.proofs.Marked.{pair_in, place_below, inside}
 use Rattle.kp_clash.proofs.Written.{both_set, cleared}

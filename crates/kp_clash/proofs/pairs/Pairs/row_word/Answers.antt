@@ -1,7 +1,5 @@
-use Rattle.std.proofs.Common.{◌≡◌, ◌<◌, ◌≤◌, ◌+◌, ◌*◌, ◌%◌, ◌/◌, ◌↔◌, ℕ, true, Some, slice_get, refl, sym, ap, subst, ◌∙◌, arith}
-use Rattle.std.specs.Int.{bit_at}
+use Rattle.std.proofs.Common.{◌<◌, ◌≤◌, ◌%◌, ℕ, subst, arith}
 use Rattle.std.proofs.lemmas.Nat.Bits.{bit_at-zero}
-use Rattle.kp_clash.specs.Paired.{is_pair, words_of}
 use Rattle.kp_clash.proofs.Marked.{word_below, in_word, past_rows, past_words}
 use Rattle.kp_clash.proofs.pairs.Pairs.row_word.Goals as goal
 use Rattle.kp_clash.proofs.pairs.Pairs.row_word.Goals.{else-p-self-via-then-p-self+else-k-words, else-p-self-via-else-p-self}
