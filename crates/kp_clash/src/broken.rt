@@ -13,7 +13,7 @@ ghost use Rattle.kp_clash.specs.Left.{AreNoted, FindsInWord};
 
 use crate::Pairs;
 use crate::added::may_add_pair;
-use crate::compatible::{all_compatible, are_compatible, are_exclusive};
+use crate::compatible::{are_exclusive, may_fire, pre_compatible, stay_compatible};
 use crate::left::candidates;
 use crate::pairs::words_of;
 use crate::tables::Tables;
@@ -107,13 +107,11 @@ pub(crate) fn next_alone(
     effect: &Effect,
     from: u32,
 ) -> Option<AtomId>
-    requires { AreNoted tables.now.slots tables.now.added tables.now.sure action.now }
+    requires noted { AreNoted tables.now.slots tables.now.added tables.now.sure action.now }
+    requires compatible { are_compatible (is_pair pairs.now) (action.now.pre ++ effect.now.cond) ≡ true }
     ensures { FindsAlone (is_pair pairs.now) action.now effect.now from result }
 {
     if !effect.result.positive {
-        return None;
-    }
-    if !all_compatible(pairs, action.pre.slice(), effect.cond.slice(), &[]) {
         return None;
     }
     let words = words_of(pairs.atoms());
@@ -125,13 +123,14 @@ pub(crate) fn next_alone(
     None
 }
 
-/// Whether the effects may add both atoms of a pair.
+/// Whether the effects may add both atoms of a pair, where the first may fire.
 pub(crate) fn adds_pair(pairs: &Pairs, action: &Action, one: &Effect, other: &Effect) -> bool
+    requires { are_compatible (is_pair pairs.now) (action.now.pre ++ one.now.cond) ≡ true }
     ensures { result ≡ adds_pair (is_pair pairs.now) action.now one.now other.now }
 {
     (one.result.positive
         && (other.result.positive && pairs.has(one.result.atom, other.result.atom)))
-        && are_compatible(pairs, &action.pre, &one.cond, &other.cond)
+        && stay_compatible(pairs, action.pre.slice(), one.cond.slice(), other.cond.slice())
 }
 
 // The other atom of the first pair that the effect breaks together with another effect.
@@ -143,6 +142,7 @@ fn first_together(
 ) -> Option<AtomId>
     requires noted { AreNoted tables.now.slots tables.now.added tables.now.sure action.now }
     requires of_action { Member action.now.effects effect.now }
+    requires compatible { are_compatible (is_pair pairs.now) (action.now.pre ++ effect.now.cond) ≡ true }
     ensures { FindsTogether (is_pair pairs.now) action.now effect.now result }
 {
     if !may_add_pair(pairs, action, effect, &tables.added) {
@@ -165,8 +165,12 @@ fn of_effect(
 ) -> Option<(AtomId, AtomId)>
     requires noted { AreNoted tables.now.slots tables.now.added tables.now.sure action.now }
     requires of_action { Member action.now.effects effect.now }
+    requires compatible { are_compatible (is_pair pairs.now) action.now.pre ≡ true }
     ensures { FindsOfEffect (is_pair pairs.now) action.now effect.now result }
 {
+    if !may_fire(pairs, action, effect) {
+        return None;
+    }
     if let Some(q) = next_alone(pairs, action, tables, effect, 0) {
         return Some((effect.result.atom, q));
     }
@@ -180,6 +184,9 @@ fn of_effect(
 fn of_action(pairs: &Pairs, action: &Action) -> Option<(AtomId, AtomId)>
     ensures { FindsBroken (is_pair pairs.now) (action.now ∷ []) result }
 {
+    if !pre_compatible(pairs, action) {
+        return None;
+    }
     let tables = Tables::of(action);
     for effect in action.effects.slice() {
         if let Some(found) = of_effect(pairs, action, &tables, effect) {

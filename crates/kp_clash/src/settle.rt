@@ -1,5 +1,6 @@
 //! Removes pairs that don't stay.
-ghost use Rattle.std.specs.Prelude.{◌≡◌, ◌<◌, true, [], ◌∷◌, length};
+ghost use Rattle.std.specs.Prelude.{◌≡◌, ◌<◌, ◌++◌, true, [], ◌∷◌, length};
+ghost use Rattle.kp_base.specs.Clashes.{are_compatible};
 ghost use Rattle.kp_base.specs.Lists.{Member};
 ghost use Rattle.kp_clash.specs.Paired.{is_pair};
 ghost use Rattle.kp_clash.specs.Removed.{IsBroken, Shrinks};
@@ -9,6 +10,7 @@ ghost use Rattle.kp_clash.specs.Settling.{IsSettled};
 use crate::Pairs;
 use crate::added::may_add_pair;
 use crate::broken::{adds_pair, broken, next_alone};
+use crate::compatible::{may_fire, pre_compatible};
 use crate::tables::Tables;
 use crate::touched::Touched;
 use kp_base::{Action, AtomId, Effect, Ground};
@@ -23,6 +25,7 @@ fn clear_alone(
 )
     requires of_action { Member action.now.effects effect.now }
     requires noted { AreNoted tables.now.slots tables.now.added tables.now.sure action.now }
+    requires compatible { are_compatible (is_pair pairs.old) (action.now.pre ++ effect.now.cond) ≡ true }
     ensures { Shrinks (action.now ∷ []) pairs.old pairs.new }
 {
     let mut from = 0u32;
@@ -37,6 +40,7 @@ fn clear_alone(
 fn clear_both(pairs: &mut Pairs, action: &Action, effect: &Effect, other: &Effect) -> bool
     requires one { Member action.now.effects effect.now }
     requires other { Member action.now.effects other.now }
+    requires compatible { are_compatible (is_pair pairs.old) (action.now.pre ++ effect.now.cond) ≡ true }
     ensures { Shrinks (action.now ∷ []) pairs.old pairs.new }
 {
     if adds_pair(pairs, action, effect, other) {
@@ -57,6 +61,7 @@ fn clear_together(
 )
     requires of_action { Member action.now.effects effect.now }
     requires noted { AreNoted tables.now.slots tables.now.added tables.now.sure action.now }
+    requires compatible { are_compatible (is_pair pairs.old) (action.now.pre ++ effect.now.cond) ≡ true }
     ensures { Shrinks (action.now ∷ []) pairs.old pairs.new }
 {
     let mut left = may_add_pair(pairs, action, effect, &tables.added);
@@ -82,9 +87,13 @@ fn clear_effect(
 )
     requires noted { AreNoted tables.now.slots tables.now.added tables.now.sure action.now }
     requires of_action { Member action.now.effects effect.now }
+    requires compatible { are_compatible (is_pair pairs.old) action.now.pre ≡ true }
     ensures { Shrinks (action.now ∷ []) pairs.old pairs.new }
 {
     if !last.meets(action.pre.slice()) && !last.meets(effect.cond.slice()) {
+        return;
+    }
+    if !may_fire(pairs, action, effect) {
         return;
     }
     clear_alone(pairs, next, action, tables, effect);
@@ -106,6 +115,9 @@ fn clear_action(pairs: &mut Pairs, last: &Touched, next: &mut Touched, action: &
     ensures { Shrinks (action.now ∷ []) pairs.old pairs.new }
 {
     if !is_met(last, action) {
+        return;
+    }
+    if !pre_compatible(pairs, action) {
         return;
     }
     let tables = Tables::of(action);
