@@ -130,7 +130,12 @@ pub(crate) fn adds_pair(pairs: &Pairs, action: &Action, one: &Effect, other: &Ef
 {
     (one.result.positive
         && (other.result.positive && pairs.has(one.result.atom, other.result.atom)))
-        && stay_compatible(pairs, action.pre.slice(), one.cond.slice(), other.cond.slice())
+        && stay_compatible(
+            pairs,
+            action.pre.slice(),
+            one.cond.slice(),
+            other.cond.slice(),
+        )
 }
 
 // The other atom of the first pair that the effect breaks together with another effect.

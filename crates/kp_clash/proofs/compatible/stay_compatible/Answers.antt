@@ -1,6 +1,5 @@
-use Rattle.std.proofs.Common.{◌++◌, ap, ◌∙◌}
+use Rattle.std.proofs.Common.{◌++◌, ◌∙◌}
 use Rattle.std.proofs.lemmas.List.{append_assoc}
-use Rattle.kp_base.specs.Clashes.{are_compatible}
 use Rattle.kp_clash.specs.Paired.{is_pair}
 use Rattle.kp_clash.proofs.Removing.{pair_turned}
 use Rattle.kp_clash.proofs.Firing.{compatible_more}
