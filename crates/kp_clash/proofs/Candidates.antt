@@ -1,22 +1,26 @@
 -- Words of atoms that are left, and of atoms that are added.
-use Rattle.std.proofs.Common.{◌≡◌, ◌<◌, ◌+◌, ◌/◌, ◌%◌, ℕ, zero, suc, Bool, true, false, not, ◌&&◌, ◌||◌, List, length, take, get_or, nat_eq, nat_lt, inl, inr, refl, sym, ap, ◌∙◌, arith}
-use Rattle.std.proofs.lemmas.Bool.{and_parts, and_from, or_cases, or_right, false≢true, false_from_ne_true, lt-ltb, eqb-true, eq-eqb}
-use Rattle.std.proofs.lemmas.List.Folds.{list_any_more, list_all_more}
-use Rattle.std.proofs.lemmas.Nat.Bits.{bit_at-lt}
+use Rattle.std.proofs.Common.{◌≡◌, ⊎_elim, ◌<◌, ◌+◌, ◌/◌, ◌%◌, ℕ, zero, suc, Bool, true, false, not, ◌&&◌, ◌||◌, List, [], ◌∷◌, ◌++◌, length, take, replicate, get_or, nat_eq, nat_lt, inl, inr, refl, sym, ap, ◌∙◌, arith}
+use Rattle.std.proofs.lemmas.Bool.{and_parts, and_from, or_cases, or_left, or_right, not-true, false≢true, false_from_ne_true, lt-ltb, eqb-true, eq-eqb, cases_lt}
+use Rattle.std.proofs.lemmas.List.{get_or-replicate, length-replicate, get_or_past}
+use Rattle.std.proofs.lemmas.List.Folds.{list_any_more, list_all_more, list_any-append}
+use Rattle.std.proofs.lemmas.Nat.Bits.{bit_at-lt, bit_at-zero}
 use Rattle.std.specs.Int.{bit_at}
 use Rattle.std.specs.List.{list_any}
 use Rattle.kp_base.specs.declared.lit.Lit.{Lit}
 use Rattle.kp_base.specs.declared.ground.Effect.{Effect}
 use Rattle.kp_base.specs.declared.ground.Action.{Action}
 use Rattle.kp_base.specs.Implicates.{is_within}
-use Rattle.kp_base.specs.Lit.{positive, negative, negated, same_lit}
-use Rattle.kp_base.specs.Clashes.{Pairs, are_exclusive, compatible_effects}
-use Rattle.kp_base.proofs.Lists.{all_member, all_weaker, any_member}
+use Rattle.kp_base.specs.Lists.{Member}
+use Rattle.kp_base.specs.Lit.{positive, negative, negated, same_lit, has}
+use Rattle.kp_base.specs.Clashes.{Pairs, are_exclusive, are_compatible, compatible_effects}
+use Rattle.kp_base.specs.Exclusive.{firing_with}
+use Rattle.kp_base.proofs.Lists.{all_member, all_weaker, any_weaker, any_from, any_member}
 use Rattle.kp_base.proofs.Lits.{same_lit-true}
 use Rattle.kp_clash.specs.Searching.{may_be_deleted, is_noted, all_noted}
-use Rattle.kp_clash.specs.Settled.{deletes_within}
-use Rattle.kp_clash.specs.Left.{bit_in, KeepsBits, is_added, all_added, KeepsFree}
-use Rattle.kp_clash.specs.Removed.{adds_pair}
+use Rattle.kp_clash.specs.Settled.{deletes_within, keeps_apart}
+use Rattle.kp_clash.specs.Left.{bit_in, KeepsBits, is_added, all_added, AreDeleted, KeepsFree}
+use Rattle.kp_clash.specs.Removed.{breaks, adds_pair}
+use Rattle.kp_clash.proofs.Greatest.{is_lit}
 
 none_of : (a b : Bool) → (a || b) ≡ false → (a ≡ false) × (b ≡ false)
 none_of true b e = absurd (false≢true (sym e))
@@ -85,3 +89,30 @@ never_deletes slots a q ls noted free = false_from_ne_true (deletes_within a q l
     let x = any_member (λ d. same_lit d.result (negative q) && is_within d.cond ls) a.effects h in
     let same = same_lit-true x.0.result (negative q) (and_parts (same_lit x.0.result (negative q)) (is_within x.0.cond ls) x.2).0 in
     false≢true (sym free ∙ (ap (λ (l : Lit). l.positive || may_be_deleted slots l.atom.0) (sym same) ∙ all_member (is_noted slots) a.effects x.0 x.1 noted)))
+
+-- ---- atoms that are surely deleted
+
+-- at first no bit is set
+pub none_set : (n q : ℕ) → bit_in (replicate n 0) q ≡ 1 → ⊥
+none_set n q one = let none : bit_in (replicate n 0) q ≡ 0 = ap (λ w. bit_at w (q % 64)) word ∙ bit_at-zero (q % 64) in omega (arith, one, none)
+  where
+    word : get_or (replicate n zero) (q / 64) zero ≡ zero
+    word = ⊎_elim (λ l. get_or-replicate n (q / 64) zero zero l) (λ ge. get_or_past (replicate n zero) (q / 64) zero (rw (length-replicate n zero) ge)) (cases_lt (q / 64) n)
+
+pub surely_deletes : (a : Action) (e : Effect) → Member a.effects e → (not e.result.positive && is_within e.cond a.pre) ≡ true → deletes_within a e.result.atom.0 a.pre ≡ true
+surely_deletes a e m h =
+    let x = and_parts (not e.result.positive) (is_within e.cond a.pre) h in
+    any_from (λ d. same_lit d.result (negative e.result.atom.0) && is_within d.cond a.pre) a.effects e m (and_from (same_lit e.result (negative e.result.atom.0)) (is_within e.cond a.pre) (is_lit e.result (negative e.result.atom.0) (ap (λ b. record { atom = e.result.atom; positive = b }) (not-true e.result.positive x.0))) x.1)
+
+-- with the precondition, so with more
+deletes_more : (a : Action) (q : ℕ) (more : List Lit) → deletes_within a q a.pre ≡ true → deletes_within a q (a.pre ++ more) ≡ true
+deletes_more a q more = any_weaker (λ d. same_lit d.result (negative q) && is_within d.cond a.pre) (λ d. same_lit d.result (negative q) && is_within d.cond (a.pre ++ more)) a.effects (λ d _ h.
+    let x = and_parts (same_lit d.result (negative q)) (is_within d.cond a.pre) h in
+    and_from (same_lit d.result (negative q)) (is_within d.cond (a.pre ++ more)) x.0 (all_weaker (has a.pre) (has (a.pre ++ more)) d.cond (λ l _ k. list_any-append (same_lit l) a.pre more ∙ or_left (has a.pre l) (has more l) k) x.1))
+
+-- an effect breaks no pair with an atom that is surely deleted
+pub breaks_kept : (pairs : Pairs) (words : List ℕ) (a : Action) (e : Effect) (q : ℕ) → AreDeleted words a → breaks pairs a e q ≡ true → bit_in words q ≡ 0
+breaks_kept pairs words a e q sure h = clear_bit (bit_in words q) (bit_at-lt (get_or words (q / 64) 0) (q % 64)) (λ one.
+    let apart : keeps_apart pairs e.result.atom.0 q a e ≡ true = or_right (not (same_lit e.result (positive e.result.atom.0))) (not (are_compatible pairs (firing_with a e q)) || deletes_within a q (firing_with a e q)) (or_right (not (are_compatible pairs (firing_with a e q))) (deletes_within a q (firing_with a e q)) (deletes_more a q (e.cond ++ positive q ∷ []) (sure q one))) in
+    let y = and_parts (pairs e.result.atom.0 q) (not (keeps_apart pairs e.result.atom.0 q a e)) (and_parts e.result.positive (pairs e.result.atom.0 q && not (keeps_apart pairs e.result.atom.0 q a e)) h).1 in
+    false≢true (sym (not-true (keeps_apart pairs e.result.atom.0 q a e) y.1) ∙ apart))

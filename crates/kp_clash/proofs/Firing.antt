@@ -1,7 +1,7 @@
 -- When literals are compatible with one more atom, and so when an effect breaks a pair.
 use Rattle.std.proofs.Common.{◌≡◌, ◌⊎◌, ℕ, Bool, true, false, not, ◌&&◌, ◌||◌, List, [], ◌∷◌, ◌++◌, inl, inr, refl, sym, ap, ap₂, subst, ◌∙◌}
 use Rattle.std.proofs.lemmas.Bool.{and_parts, and_from, or_cases, or_left, or_right, false≢true, false_from_ne_true, true_from_ne_false, not-true}
-use Rattle.std.proofs.lemmas.List.{append-nil, append_assoc}
+use Rattle.std.proofs.lemmas.List.{append_assoc}
 use Rattle.std.proofs.lemmas.List.Folds.{list_any-append}
 use Rattle.std.specs.List.{list_any, list_all}
 use Rattle.kp_base.specs.declared.lit.Lit.{Lit}
@@ -9,12 +9,12 @@ use Rattle.kp_base.specs.declared.ground.Effect.{Effect}
 use Rattle.kp_base.specs.declared.ground.Action.{Action}
 use Rattle.kp_base.specs.Lists.{Member}
 use Rattle.kp_base.specs.Lit.{positive, negative, negated, same_lit}
-use Rattle.kp_base.specs.Clashes.{Pairs, are_exclusive, are_compatible}
+use Rattle.kp_base.specs.Clashes.{Pairs, are_exclusive, are_compatible, compatible_effects}
 use Rattle.kp_base.specs.Exclusive.{firing_with}
 use Rattle.kp_base.proofs.Lists.{bool_same, all_member, all_from, any_from, any_member, member_left, member_right, append_member}
 use Rattle.kp_base.proofs.Lits.{same_lit-true, same_lit-negated}
 use Rattle.kp_clash.specs.Settled.{deletes_within, keeps_apart}
-use Rattle.kp_clash.specs.Removed.{breaks}
+use Rattle.kp_clash.specs.Removed.{breaks, adds_pair, BreaksNone}
 use Rattle.kp_clash.proofs.Greatest.{is_lit}
 use Rattle.kp_clash.proofs.Removing.{is_positive}
 
@@ -26,16 +26,28 @@ compatible_part pairs xs ys h =
     all_from (λ l. not (are_exclusive pairs k l)) xs (λ l in-l.
     all_member (λ l. not (are_exclusive pairs k l)) (xs ++ ys) l (member_left xs ys l in-l) (all_member (λ k. list_all (λ l. not (are_exclusive pairs k l)) (xs ++ ys)) (xs ++ ys) k (member_left xs ys k in-k) h)))
 
+pub incompatible_with_more : (pairs : Pairs) (xs ys : List Lit) → are_compatible pairs xs ≡ false → are_compatible pairs (xs ++ ys) ≡ false
+incompatible_with_more pairs xs ys n = false_from_ne_true (are_compatible pairs (xs ++ ys)) (λ h. false≢true (sym n ∙ compatible_part pairs xs ys h))
+
 -- an effect that never fires breaks none
-pub breaks_not : (pairs : Pairs) (a : Action) (e : Effect) (q : ℕ) → are_compatible pairs (a.pre ++ (e.cond ++ [])) ≡ false → breaks pairs a e q ≡ false
+breaks_not : (pairs : Pairs) (a : Action) (e : Effect) (q : ℕ) → are_compatible pairs (a.pre ++ e.cond) ≡ false → breaks pairs a e q ≡ false
 breaks_not pairs a e q n = false_from_ne_true (breaks pairs a e q) (λ h.
     let x = and_parts e.result.positive (pairs e.result.atom.0 q && not (keeps_apart pairs e.result.atom.0 q a e)) h in
     let y = and_parts (pairs e.result.atom.0 q) (not (keeps_apart pairs e.result.atom.0 q a e)) x.1 in
-    let never : are_compatible pairs (firing_with a e q) ≡ false = false_from_ne_true (are_compatible pairs (firing_with a e q)) (λ k.
-    let grouped : are_compatible pairs ((a.pre ++ e.cond) ++ positive q ∷ []) ≡ true = ap (are_compatible pairs) (append_assoc a.pre e.cond (positive q ∷ [])) ∙ k in
-    false≢true (sym n ∙ (ap (λ z. are_compatible pairs (a.pre ++ z)) (append-nil e.cond) ∙ compatible_part pairs (a.pre ++ e.cond) (positive q ∷ []) grouped))) in
+    let never : are_compatible pairs (firing_with a e q) ≡ false = ap (are_compatible pairs) (sym (append_assoc a.pre e.cond (positive q ∷ []))) ∙ incompatible_with_more pairs (a.pre ++ e.cond) (positive q ∷ []) n in
     let apart : keeps_apart pairs e.result.atom.0 q a e ≡ true = or_right (not (same_lit e.result (positive e.result.atom.0))) (not (are_compatible pairs (firing_with a e q)) || deletes_within a q (firing_with a e q)) (or_left (not (are_compatible pairs (firing_with a e q))) (deletes_within a q (firing_with a e q)) (ap not never)) in
     false≢true (sym (not-true (keeps_apart pairs e.result.atom.0 q a e) y.1) ∙ apart))
+
+-- alone, or together with another effect
+pub breaks_none : (pairs : Pairs) (a : Action) (e : Effect) → are_compatible pairs (a.pre ++ e.cond) ≡ false → BreaksNone pairs a e
+breaks_none pairs a e n = record {
+  alone = λ q. breaks_not pairs a e q n;
+  together = false_from_ne_true (list_any (adds_pair pairs a e) a.effects) (λ h.
+      let x = any_member (adds_pair pairs a e) a.effects h in
+      let fires = (and_parts (e.result.positive && (x.0.result.positive && pairs e.result.atom.0 x.0.result.atom.0)) (compatible_effects pairs a e x.0) x.2).1 in
+      let never : compatible_effects pairs a e x.0 ≡ false = ap (are_compatible pairs) (sym (append_assoc a.pre e.cond x.0.cond)) ∙ incompatible_with_more pairs (a.pre ++ e.cond) x.0.cond n in
+      false≢true (sym never ∙ fires));
+}
 
 -- where an effect breaks a pair no literal excludes the other atom
 pub breaks_free : (pairs : Pairs) (a : Action) (e : Effect) (q : ℕ) → breaks pairs a e q ≡ true → (pairs e.result.atom.0 q ≡ true) × (list_any (λ l. are_exclusive pairs l (positive q)) a.pre ≡ false) × (list_any (λ l. are_exclusive pairs l (positive q)) e.cond ≡ false)
@@ -58,7 +70,7 @@ breaks_free pairs a e q h = (y.0, none a.pre (λ l m. member_left a.pre (e.cond 
 
 -- ---- literals with one more
 
-module _ (pairs : Pairs) (turn : (p q : ℕ) → pairs p q ≡ pairs q p) (different : (p : ℕ) → pairs p p ≡ false) where
+module _ (pairs : Pairs) (turn : (p q : ℕ) → pairs p q ≡ pairs q p) where
   exclusive_turned : (k l : Lit) → are_exclusive pairs k l ≡ true → are_exclusive pairs l k ≡ true
   exclusive_turned k l h = elim (or_cases (same_lit (negated k) l) (k.positive && l.positive && pairs k.atom.0 l.atom.0) h) [
     | inl e ↦ or_left (same_lit (negated l) k) (l.positive && k.positive && pairs l.atom.0 k.atom.0) (same_lit-negated l k ∙ is_lit l (negated k) (sym (same_lit-true (negated k) l e)))
@@ -68,6 +80,25 @@ module _ (pairs : Pairs) (turn : (p q : ℕ) → pairs p q ≡ pairs q p) (diffe
         or_right (same_lit (negated l) k) (l.positive && k.positive && pairs l.atom.0 k.atom.0) (and_from (l.positive && k.positive) (pairs l.atom.0 k.atom.0) (and_from l.positive k.positive y.1 y.0) (turn l.atom.0 k.atom.0 ∙ x.1))
   ]
 
+  -- compatible literals are so with more where each of these excludes none
+  pub compatible_more : (xs ys : List Lit) → are_compatible pairs xs ≡ true → list_all (λ k. list_all (λ l. not (are_exclusive pairs k l)) (xs ++ ys)) ys ≡ are_compatible pairs (xs ++ ys)
+  compatible_more xs ys fine = bool_same (list_all row ys) (list_all row (xs ++ ys)) from_new (λ h. all_from row ys (λ k m. all_member row (xs ++ ys) k (member_right xs ys k m) h))
+    where
+      row : Lit → Bool
+      row k = list_all (λ l. not (are_exclusive pairs k l)) (xs ++ ys)
+
+      from_new : list_all row ys ≡ true → list_all row (xs ++ ys) ≡ true
+      from_new h = all_from row (xs ++ ys) (λ k in-k. all_from (λ l. not (are_exclusive pairs k l)) (xs ++ ys) (λ l in-l. apart k l in-k in-l (append_member xs ys k in-k) (append_member xs ys l in-l)))
+        where
+          new : (k l : Lit) → Member ys k → Member (xs ++ ys) l → not (are_exclusive pairs k l) ≡ true
+          new k l m n = all_member (λ l. not (are_exclusive pairs k l)) (xs ++ ys) l n (all_member row ys k m h)
+
+          apart : (k l : Lit) → Member (xs ++ ys) k → Member (xs ++ ys) l → Member xs k ⊎ Member ys k → Member xs l ⊎ Member ys l → not (are_exclusive pairs k l) ≡ true
+          apart k l in-k in-l (inl a) (inl b) = all_member (λ l. not (are_exclusive pairs k l)) xs l b (all_member (λ k. list_all (λ l. not (are_exclusive pairs k l)) xs) xs k a fine)
+          apart k l in-k in-l (inr a) b = new k l a in-l
+          apart k l in-k in-l (inl a) (inr b) = ap not (false_from_ne_true (are_exclusive pairs k l) (λ e. false≢true (sym (not-true (are_exclusive pairs l k) (new l k b in-k)) ∙ exclusive_turned k l e)))
+
+module _ (pairs : Pairs) (turn : (p q : ℕ) → pairs p q ≡ pairs q p) (different : (p : ℕ) → pairs p p ≡ false) where
   never_itself : (q : ℕ) → are_exclusive pairs (positive q) (positive q) ≡ false
   never_itself q = false_from_ne_true (are_exclusive pairs (positive q) (positive q)) (λ h. elim (or_cases (same_lit (negative q) (positive q)) (pairs q q) h) [
     | inl e ↦ let same : negative q ≡ positive q = same_lit-true (negative q) (positive q) e in absurd (false≢true (ap (λ l. l.positive) same))
@@ -100,7 +131,7 @@ module _ (pairs : Pairs) (turn : (p q : ℕ) → pairs p q ≡ pairs q p) (diffe
           apart : (k l : Lit) → Member xs k ⊎ Member (positive q ∷ []) k → Member xs l ⊎ Member (positive q ∷ []) l → are_exclusive pairs k l ≡ true → ⊥
           apart k l (inl a) (inl b) e = false≢true (sym (not-true (are_exclusive pairs k l) (all_member (λ l. not (are_exclusive pairs k l)) xs l b (all_member (λ k. list_all (λ l. not (are_exclusive pairs k l)) xs) xs k a fine))) ∙ e)
           apart k l (inl a) (inr b) e = free k a (subst (λ (m : Lit). are_exclusive pairs k m ≡ true) (sym (one l b)) e)
-          apart k l (inr a) (inl b) e = free l b (exclusive_turned (positive q) l (subst (λ (m : Lit). are_exclusive pairs m l ≡ true) (sym (one k a)) e))
+          apart k l (inr a) (inl b) e = free l b (exclusive_turned pairs turn (positive q) l (subst (λ (m : Lit). are_exclusive pairs m l ≡ true) (sym (one k a)) e))
           apart k l (inr a) (inr b) e = false≢true (sym (never_itself q) ∙ ap₂ (are_exclusive pairs) (one k a) (one l b) ∙ e)
 
   -- ---- effects

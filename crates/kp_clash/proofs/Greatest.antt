@@ -22,7 +22,7 @@ is_lit k l e = subst (λ (x : Lit). same_lit k x ≡ true) e (same_lit-refl k)
 -- ---- more pairs
 
 -- what is compatible under more pairs is so under fewer
-compatible_under_fewer : (some more : Pairs) → IsPart some more → (ls : List Lit) → are_compatible more ls ≡ true → are_compatible some ls ≡ true
+pub compatible_under_fewer : (some more : Pairs) → IsPart some more → (ls : List Lit) → are_compatible more ls ≡ true → are_compatible some ls ≡ true
 compatible_under_fewer some more part ls h =
     all_weaker (λ k. list_all (λ l. not (are_exclusive more k l)) ls) (λ k. list_all (λ l. not (are_exclusive some k l)) ls) ls (λ k _.
     all_weaker (λ l. not (are_exclusive more k l)) (λ l. not (are_exclusive some k l)) ls (λ l _ apart.

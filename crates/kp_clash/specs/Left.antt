@@ -1,5 +1,5 @@
 -- Atoms as bits of words: those that an action adds, and those that literals leave. This file serves proofs alone.
-use Rattle.std.specs.Prelude.{◌≡◌, ◌≤◌, ◌<◌, ◌/◌, ◌%◌, ℕ, Bool, true, false, not, ◌||◌, List, Option, Some, None, nat_eq, nat_lt, slice_index_or}
+use Rattle.std.specs.Prelude.{◌≡◌, ◌≤◌, ◌<◌, ◌/◌, ◌%◌, ◌⊎◌, ℕ, Bool, true, false, not, ◌||◌, List, Option, Some, None, nat_eq, nat_lt, slice_index_or}
 use Rattle.std.specs.Int.{bit_at}
 use Rattle.std.specs.List.{list_all, list_any}
 use Rattle.kp_base.specs.declared.lit.AtomId.{AtomId}
@@ -8,6 +8,8 @@ use Rattle.kp_base.specs.declared.ground.Effect.{Effect}
 use Rattle.kp_base.specs.declared.ground.Action.{Action}
 use Rattle.kp_base.specs.Lit.{positive}
 use Rattle.kp_base.specs.Clashes.{Pairs, are_exclusive}
+use Rattle.kp_clash.specs.Searching.{all_noted}
+use Rattle.kp_clash.specs.Settled.{deletes_within}
 use Rattle.kp_clash.specs.Removed.{breaks}
 
 -- ---- atoms that are added
@@ -27,7 +29,27 @@ is_added words e = not e.result.positive || (not (nat_lt e.result.atom.0 65536) 
 abbrev pub all_added : List ℕ → List Effect → Bool
 all_added words es = list_all (is_added words) es
 
+-- ---- atoms that are surely deleted
+
+-- no other bit was set
+abbrev pub AddsBit : List ℕ → List ℕ → ℕ → Type 0
+AddsBit old new p = (q : ℕ) → bit_in new q ≡ 1 → (bit_in old q ≡ 1) ⊎ (p ≡ q)
+
+-- where the bit is set, the action has a delete of the atom whose condition is within the precondition
+abbrev pub AreDeleted : List ℕ → Action → Type 0
+AreDeleted words a = (q : ℕ) → bit_in words q ≡ 1 → deletes_within a q a.pre ≡ true
+
+-- what is noted of an action: the slots of its deletes, the atoms that it adds, and those that it surely deletes
+pub record AreNoted (slots : List Bool) (added sure : List ℕ) (a : Action) : Type 0 where
+  pub deletes : all_noted slots a.effects ≡ true
+  pub adds : all_added added a.effects ≡ true
+  pub deletes_surely : AreDeleted sure a
+
 -- ---- atoms that are left
+
+-- where the effect breaks a pair with one of the 64 atoms from 64 k on, its bit is set
+abbrev pub HasBreaking : Pairs → Action → Effect → ℕ → ℕ → Type 0
+HasBreaking pairs a e k word = (q : ℕ) → q / 64 ≡ k → breaks pairs a e q ≡ true → bit_at word (q % 64) ≡ 1
 
 -- of the word of the atoms from 64 k on, the bits stay whose atoms no literal excludes
 abbrev pub KeepsFree : Pairs → List Lit → ℕ → ℕ → ℕ → Type 0

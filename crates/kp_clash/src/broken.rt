@@ -9,15 +9,14 @@ ghost use Rattle.kp_base.specs.Lit.{positive};
 ghost use Rattle.kp_clash.specs.Paired.{is_pair};
 ghost use Rattle.kp_clash.specs.Settled.{deletes_within};
 ghost use Rattle.kp_clash.specs.Removed.{breaks, adds_pair, FindsAlone, FindsTogether, FindsOfEffect, FindsBroken};
-ghost use Rattle.kp_clash.specs.Searching.{all_noted};
-ghost use Rattle.kp_clash.specs.Left.{all_added, FindsInWord};
+ghost use Rattle.kp_clash.specs.Left.{AreNoted, FindsInWord};
 
 use crate::Pairs;
-use crate::added::{WORDS, atoms_added, may_add_pair};
-use crate::compatible::{all_compatible, are_compatible, are_exclusive};
-use crate::deleted::{SLOTS, slots_of_deletes};
+use crate::added::may_add_pair;
+use crate::compatible::{are_exclusive, may_fire, pre_compatible, stay_compatible};
 use crate::left::candidates;
 use crate::pairs::words_of;
+use crate::tables::Tables;
 use crate::within::{deletes_noted, holding};
 use kp_base::{Action, AtomId, Effect, Ground, Lit};
 use kp_bits::has_bit;
@@ -30,76 +29,70 @@ fn excludes(pairs: &Pairs, lits: &[Lit], atom: AtomId) -> bool
 }
 
 // Whether a literal excludes the atom, or a delete of it comes with the effect.
-fn is_against(
-    pairs: &Pairs,
-    action: &Action,
-    slots: &[bool; SLOTS],
-    effect: &Effect,
-    q: AtomId,
-) -> bool
-    requires { all_noted slots.now action.now.effects ≡ true }
+fn is_against(pairs: &Pairs, action: &Action, tables: &Tables, effect: &Effect, q: AtomId) -> bool
+    requires { AreNoted tables.now.slots tables.now.added tables.now.sure action.now }
     ensures { result ≡ (list_any (λ l. are_exclusive (is_pair pairs.now) l (positive q.0)) action.now.pre || (list_any (λ l. are_exclusive (is_pair pairs.now) l (positive q.0)) effect.now.cond || deletes_within action.now q.0 (firing_with action.now effect.now q.0))) }
 {
     let pre = action.pre.slice();
     let cond = effect.cond.slice();
     let other = [holding(q)];
     excludes(pairs, pre, q)
-        || (excludes(pairs, cond, q) || deletes_noted(action, slots, q, pre, cond, &other))
+        || (excludes(pairs, cond, q) || deletes_noted(action, &tables.slots, q, pre, cond, &other))
 }
 
 // Whether the effect, which may fire, adds one atom of a pair where the other may be true and stay.
-fn breaks(pairs: &Pairs, action: &Action, slots: &[bool; SLOTS], effect: &Effect, q: AtomId) -> bool
-    requires noted { all_noted slots.now action.now.effects ≡ true }
+fn breaks(pairs: &Pairs, action: &Action, tables: &Tables, effect: &Effect, q: AtomId) -> bool
+    requires noted { AreNoted tables.now.slots tables.now.added tables.now.sure action.now }
     requires different { (p : ℕ) → is_pair pairs.now p p ≡ false }
     requires adds { effect.now.result.positive ≡ true }
     requires compatible { are_compatible (is_pair pairs.now) (action.now.pre ++ effect.now.cond) ≡ true }
     ensures { result ≡ breaks (is_pair pairs.now) action.now effect.now q.0 }
 {
-    pairs.has(effect.result.atom, q) && !is_against(pairs, action, slots, effect, q)
+    pairs.has(effect.result.atom, q) && !is_against(pairs, action, tables, effect, q)
 }
 
 // The same, where the bit of the atom is set in the word unless the effect surely doesn't.
 fn breaks_at(
     pairs: &Pairs,
     action: &Action,
-    slots: &[bool; SLOTS],
+    tables: &Tables,
     effect: &Effect,
     word: u64,
     q: u32,
 ) -> bool
-    requires noted { all_noted slots.now action.now.effects ≡ true }
+    requires noted { AreNoted tables.now.slots tables.now.added tables.now.sure action.now }
     requires different { (p : ℕ) → is_pair pairs.now p p ≡ false }
     requires adds { effect.now.result.positive ≡ true }
     requires compatible { are_compatible (is_pair pairs.now) (action.now.pre ++ effect.now.cond) ≡ true }
     requires candidate { breaks (is_pair pairs.now) action.now effect.now q ≡ true → bit_at word (q % 64) ≡ 1 }
     ensures { result ≡ breaks (is_pair pairs.now) action.now effect.now q }
 {
-    has_bit(word, q % 64) && breaks(pairs, action, slots, effect, AtomId(q))
+    has_bit(word, q % 64) && breaks(pairs, action, tables, effect, AtomId(q))
 }
 
 // The other atom of the first pair that the effect breaks alone, among the 64 from 64 k on and from an atom on.
 fn first_in_word(
     pairs: &Pairs,
     action: &Action,
-    slots: &[bool; SLOTS],
+    tables: &Tables,
     effect: &Effect,
     from: u32,
     k: u32,
 ) -> Option<AtomId>
-    requires noted { all_noted slots.now action.now.effects ≡ true }
+    requires noted { AreNoted tables.now.slots tables.now.added tables.now.sure action.now }
     requires different { (p : ℕ) → is_pair pairs.now p p ≡ false }
     requires adds { effect.now.result.positive ≡ true }
     requires compatible { are_compatible (is_pair pairs.now) (action.now.pre ++ effect.now.cond) ≡ true }
     requires few { k < 1024 }
     ensures { FindsInWord (is_pair pairs.now) action.now effect.now from k result }
 {
-    let word = candidates(pairs, action, effect, k);
+    let word = candidates(pairs, action, &tables.sure, effect, k);
     if word == 0 {
         return None;
     }
     let start = if from < k * 64 { k * 64 } else { from };
     for q in start..k * 64 + 64 {
-        if breaks_at(pairs, action, slots, effect, word, q) {
+        if breaks_at(pairs, action, tables, effect, word, q) {
             return Some(AtomId(q));
         }
     }
@@ -110,49 +103,54 @@ fn first_in_word(
 pub(crate) fn next_alone(
     pairs: &Pairs,
     action: &Action,
-    slots: &[bool; SLOTS],
+    tables: &Tables,
     effect: &Effect,
     from: u32,
 ) -> Option<AtomId>
-    requires { all_noted slots.now action.now.effects ≡ true }
+    requires noted { AreNoted tables.now.slots tables.now.added tables.now.sure action.now }
+    requires compatible { are_compatible (is_pair pairs.now) (action.now.pre ++ effect.now.cond) ≡ true }
     ensures { FindsAlone (is_pair pairs.now) action.now effect.now from result }
 {
     if !effect.result.positive {
         return None;
     }
-    if !all_compatible(pairs, action.pre.slice(), effect.cond.slice(), &[]) {
-        return None;
-    }
     let words = words_of(pairs.atoms());
     for k in from / 64..words {
-        if let Some(q) = first_in_word(pairs, action, slots, effect, from, k) {
+        if let Some(q) = first_in_word(pairs, action, tables, effect, from, k) {
             return Some(q);
         }
     }
     None
 }
 
-/// Whether the effects may add both atoms of a pair.
+/// Whether the effects may add both atoms of a pair, where the first may fire.
 pub(crate) fn adds_pair(pairs: &Pairs, action: &Action, one: &Effect, other: &Effect) -> bool
+    requires { are_compatible (is_pair pairs.now) (action.now.pre ++ one.now.cond) ≡ true }
     ensures { result ≡ adds_pair (is_pair pairs.now) action.now one.now other.now }
 {
     (one.result.positive
         && (other.result.positive && pairs.has(one.result.atom, other.result.atom)))
-        && are_compatible(pairs, &action.pre, &one.cond, &other.cond)
+        && stay_compatible(
+            pairs,
+            action.pre.slice(),
+            one.cond.slice(),
+            other.cond.slice(),
+        )
 }
 
 // The other atom of the first pair that the effect breaks together with another effect.
 fn first_together(
     pairs: &Pairs,
     action: &Action,
+    tables: &Tables,
     effect: &Effect,
-    added: &[u64; WORDS],
 ) -> Option<AtomId>
+    requires noted { AreNoted tables.now.slots tables.now.added tables.now.sure action.now }
     requires of_action { Member action.now.effects effect.now }
-    requires added { all_added added.now action.now.effects ≡ true }
+    requires compatible { are_compatible (is_pair pairs.now) (action.now.pre ++ effect.now.cond) ≡ true }
     ensures { FindsTogether (is_pair pairs.now) action.now effect.now result }
 {
-    if !may_add_pair(pairs, action, effect, added) {
+    if !may_add_pair(pairs, action, effect, &tables.added) {
         return None;
     }
     for other in action.effects.slice() {
@@ -167,19 +165,21 @@ fn first_together(
 fn of_effect(
     pairs: &Pairs,
     action: &Action,
-    slots: &[bool; SLOTS],
+    tables: &Tables,
     effect: &Effect,
-    added: &[u64; WORDS],
 ) -> Option<(AtomId, AtomId)>
-    requires noted { all_noted slots.now action.now.effects ≡ true }
+    requires noted { AreNoted tables.now.slots tables.now.added tables.now.sure action.now }
     requires of_action { Member action.now.effects effect.now }
-    requires added { all_added added.now action.now.effects ≡ true }
+    requires compatible { are_compatible (is_pair pairs.now) action.now.pre ≡ true }
     ensures { FindsOfEffect (is_pair pairs.now) action.now effect.now result }
 {
-    if let Some(q) = next_alone(pairs, action, slots, effect, 0) {
+    if !may_fire(pairs, action, effect) {
+        return None;
+    }
+    if let Some(q) = next_alone(pairs, action, tables, effect, 0) {
         return Some((effect.result.atom, q));
     }
-    match first_together(pairs, action, effect, added) {
+    match first_together(pairs, action, tables, effect) {
         Some(q) => Some((effect.result.atom, q)),
         None => None,
     }
@@ -189,10 +189,12 @@ fn of_effect(
 fn of_action(pairs: &Pairs, action: &Action) -> Option<(AtomId, AtomId)>
     ensures { FindsBroken (is_pair pairs.now) (action.now ∷ []) result }
 {
-    let added = atoms_added(action.effects.slice());
-    let slots = slots_of_deletes(action.effects.slice());
+    if !pre_compatible(pairs, action) {
+        return None;
+    }
+    let tables = Tables::of(action);
     for effect in action.effects.slice() {
-        if let Some(found) = of_effect(pairs, action, &slots, effect, &added) {
+        if let Some(found) = of_effect(pairs, action, &tables, effect) {
             return Some(found);
         }
     }

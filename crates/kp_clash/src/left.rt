@@ -1,13 +1,13 @@
-//! The atoms of a row of pairs that the conditions of an effect leave.
-ghost use Rattle.std.specs.Prelude.{◌≡◌, ◌++◌, ◌/◌, ◌%◌, ℕ, true, false};
+//! The atoms of a row of pairs that an effect may break.
+ghost use Rattle.std.specs.Prelude.{◌≡◌, ◌++◌, ◌<◌, ◌/◌, ◌%◌, ℕ, true, false};
 ghost use Rattle.std.specs.Int.{bit_at};
 ghost use Rattle.kp_base.specs.Clashes.{are_exclusive};
 ghost use Rattle.kp_base.specs.Lit.{positive};
 ghost use Rattle.kp_clash.specs.Paired.{is_pair};
-ghost use Rattle.kp_clash.specs.Removed.{breaks};
-ghost use Rattle.kp_clash.specs.Left.{KeepsFree};
+ghost use Rattle.kp_clash.specs.Left.{AreDeleted, HasBreaking, KeepsFree};
 
 use crate::Pairs;
+use crate::added::WORDS;
 use kp_base::{Action, Effect, Lit};
 use kp_bits::only_here;
 
@@ -33,11 +33,28 @@ fn leave(pairs: &Pairs, lits: &[Lit], k: u32, word: u64) -> u64
     left
 }
 
-/// Those of the 64 atoms from 64 k on with which the effect may break a pair alone.
-pub(crate) fn candidates(pairs: &Pairs, action: &Action, effect: &Effect, k: u32) -> u64
-    ensures { (q : ℕ) → q / 64 ≡ k → breaks (is_pair pairs.now) action.now effect.now q ≡ true → bit_at result (q % 64) ≡ 1 }
+// Those of the 64 atoms from 64 k on that are pairs with the effect's atom and aren't surely deleted.
+fn unsure(pairs: &Pairs, sure: &[u64; WORDS], action: &Action, effect: &Effect, k: u32) -> u64
+    requires sure { AreDeleted sure.now action.now }
+    requires few { k < 1024 }
+    ensures { HasBreaking (is_pair pairs.now) action.now effect.now k result }
 {
-    let word = pairs.row_word(effect.result.atom, k);
+    only_here(pairs.row_word(effect.result.atom, k), sure[k as usize])
+}
+
+/// Those of the 64 atoms from 64 k on with which the effect may break a pair alone.
+pub(crate) fn candidates(
+    pairs: &Pairs,
+    action: &Action,
+    sure: &[u64; WORDS],
+    effect: &Effect,
+    k: u32,
+) -> u64
+    requires sure { AreDeleted sure.now action.now }
+    requires few { k < 1024 }
+    ensures { HasBreaking (is_pair pairs.now) action.now effect.now k result }
+{
+    let word = unsure(pairs, sure, action, effect, k);
     if word == 0 {
         return 0;
     }

@@ -13,6 +13,8 @@ mod left;
 mod pairs;
 mod settle;
 mod start;
+mod sure;
+mod tables;
 mod touched;
 mod within;
 

@@ -1,16 +1,17 @@
 //! Removes pairs that don't stay.
-ghost use Rattle.std.specs.Prelude.{◌≡◌, ◌<◌, true, [], ◌∷◌, length};
+ghost use Rattle.std.specs.Prelude.{◌≡◌, ◌<◌, ◌++◌, true, [], ◌∷◌, length};
+ghost use Rattle.kp_base.specs.Clashes.{are_compatible};
 ghost use Rattle.kp_base.specs.Lists.{Member};
 ghost use Rattle.kp_clash.specs.Paired.{is_pair};
 ghost use Rattle.kp_clash.specs.Removed.{IsBroken, Shrinks};
-ghost use Rattle.kp_clash.specs.Left.{all_added};
-ghost use Rattle.kp_clash.specs.Searching.{all_noted};
+ghost use Rattle.kp_clash.specs.Left.{AreNoted};
 ghost use Rattle.kp_clash.specs.Settling.{IsSettled};
 
 use crate::Pairs;
-use crate::added::{WORDS, atoms_added, may_add_pair};
+use crate::added::may_add_pair;
 use crate::broken::{adds_pair, broken, next_alone};
-use crate::deleted::{SLOTS, slots_of_deletes};
+use crate::compatible::{may_fire, pre_compatible};
+use crate::tables::Tables;
 use crate::touched::Touched;
 use kp_base::{Action, AtomId, Effect, Ground};
 
@@ -19,15 +20,16 @@ fn clear_alone(
     pairs: &mut Pairs,
     touched: &mut Touched,
     action: &Action,
-    slots: &[bool; SLOTS],
+    tables: &Tables,
     effect: &Effect,
 )
     requires of_action { Member action.now.effects effect.now }
-    requires noted { all_noted slots.now action.now.effects ≡ true }
+    requires noted { AreNoted tables.now.slots tables.now.added tables.now.sure action.now }
+    requires compatible { are_compatible (is_pair pairs.old) (action.now.pre ++ effect.now.cond) ≡ true }
     ensures { Shrinks (action.now ∷ []) pairs.old pairs.new }
 {
     let mut from = 0u32;
-    'rest: while let Some(q) = next_alone(pairs, action, slots, effect, from) {
+    'rest: while let Some(q) = next_alone(pairs, action, tables, effect, from) {
         pairs.remove(effect.result.atom, q);
         touched.note(effect.result.atom, q);
         from = q.0 + 1;
@@ -38,6 +40,7 @@ fn clear_alone(
 fn clear_both(pairs: &mut Pairs, action: &Action, effect: &Effect, other: &Effect) -> bool
     requires one { Member action.now.effects effect.now }
     requires other { Member action.now.effects other.now }
+    requires compatible { are_compatible (is_pair pairs.old) (action.now.pre ++ effect.now.cond) ≡ true }
     ensures { Shrinks (action.now ∷ []) pairs.old pairs.new }
 {
     if adds_pair(pairs, action, effect, other) {
@@ -53,21 +56,22 @@ fn clear_together(
     pairs: &mut Pairs,
     touched: &mut Touched,
     action: &Action,
+    tables: &Tables,
     effect: &Effect,
-    added: &[u64; WORDS],
 )
     requires of_action { Member action.now.effects effect.now }
-    requires added { all_added added.now action.now.effects ≡ true }
+    requires noted { AreNoted tables.now.slots tables.now.added tables.now.sure action.now }
+    requires compatible { are_compatible (is_pair pairs.old) (action.now.pre ++ effect.now.cond) ≡ true }
     ensures { Shrinks (action.now ∷ []) pairs.old pairs.new }
 {
-    let mut left = may_add_pair(pairs, action, effect, added);
+    let mut left = may_add_pair(pairs, action, effect, &tables.added);
     for other in action.effects.slice() {
         if !left {
             return;
         }
         if clear_both(pairs, action, effect, other) {
             touched.note(effect.result.atom, other.result.atom);
-            left = may_add_pair(pairs, action, effect, added);
+            left = may_add_pair(pairs, action, effect, &tables.added);
         }
     }
 }
@@ -78,20 +82,22 @@ fn clear_effect(
     last: &Touched,
     next: &mut Touched,
     action: &Action,
-    slots: &[bool; SLOTS],
+    tables: &Tables,
     effect: &Effect,
-    added: &[u64; WORDS],
 )
-    requires noted { all_noted slots.now action.now.effects ≡ true }
+    requires noted { AreNoted tables.now.slots tables.now.added tables.now.sure action.now }
     requires of_action { Member action.now.effects effect.now }
-    requires added { all_added added.now action.now.effects ≡ true }
+    requires compatible { are_compatible (is_pair pairs.old) action.now.pre ≡ true }
     ensures { Shrinks (action.now ∷ []) pairs.old pairs.new }
 {
     if !last.meets(action.pre.slice()) && !last.meets(effect.cond.slice()) {
         return;
     }
-    clear_alone(pairs, next, action, slots, effect);
-    clear_together(pairs, next, action, effect, added);
+    if !may_fire(pairs, action, effect) {
+        return;
+    }
+    clear_alone(pairs, next, action, tables, effect);
+    clear_together(pairs, next, action, tables, effect);
 }
 
 // Whether the action has a condition on one of these atoms.
@@ -111,10 +117,12 @@ fn clear_action(pairs: &mut Pairs, last: &Touched, next: &mut Touched, action: &
     if !is_met(last, action) {
         return;
     }
-    let added = atoms_added(action.effects.slice());
-    let slots = slots_of_deletes(action.effects.slice());
+    if !pre_compatible(pairs, action) {
+        return;
+    }
+    let tables = Tables::of(action);
     for effect in action.effects.slice() {
-        clear_effect(pairs, last, next, action, &slots, effect, &added);
+        clear_effect(pairs, last, next, action, &tables, effect);
     }
 }
 

@@ -1,17 +1,10 @@
-use Rattle.std.proofs.Common.{◌≡◌, ◌++◌, [], false, sym, ◌∙◌, arith}
+use Rattle.std.proofs.Common.{sym, ◌∙◌, arith}
 use Rattle.std.proofs.lemmas.Bool.{false≢true, false_from_ne_true}
-use Rattle.kp_base.specs.Clashes.{are_compatible}
 use Rattle.kp_clash.specs.Paired.{is_pair}
 use Rattle.kp_clash.specs.Removed.{breaks}
 use Rattle.kp_clash.proofs.Removing.{breaks_broken_pair}
-use Rattle.kp_clash.proofs.Firing.{breaks_not}
 use Rattle.kp_clash.proofs.Marked.{width}
 use Rattle.kp_clash.proofs.broken.next_alone.Goals as goal
-
-pub returns-then-not-all_compatible : goal.returns-then-not-all_compatible
-returns-then-not-all_compatible c = λ q _.
-    let never : are_compatible (is_pair c.args.pairs.now) (c.args.action.now.pre ++ (c.args.effect.now.cond ++ [])) ≡ false = sym (rw (c.slice.ensures.value, c.slice-2.ensures.value) at c.all_compatible.ensures) ∙ c.if-not-all_compatible.true in
-    breaks_not (is_pair c.args.pairs.now) c.args.action.now c.args.effect.now q never
 
 pub returns : goal.returns
 returns c = λ q le. false_from_ne_true (breaks (is_pair c.args.pairs.now) c.args.action.now c.args.effect.now q) (λ h.

@@ -1,10 +1,14 @@
-use Rattle.std.proofs.Common.{Some}
+use Rattle.std.proofs.Common.{Some, sym, ◌∙◌}
 use Rattle.kp_clash.specs.Paired.{is_pair}
 use Rattle.kp_clash.specs.Removed.{FindsAlone}
 use Rattle.kp_clash.proofs.Removing.{breaks_broken}
+use Rattle.kp_clash.proofs.Firing.{breaks_none}
 use Rattle.kp_clash.proofs.broken.of_effect.Goals as goal
 
 pub returns-in-Some : goal.returns-in-Some
 returns-in-Some c =
     let found : FindsAlone (is_pair c.args.pairs.now) c.args.action.now c.args.effect.now 0 (Some c.in-Some.q) = rw c.in-Some.is at c.next_alone.ensures in
     breaks_broken (is_pair c.args.pairs.now) c.args.action.now c.args.effect.now c.in-Some.q.0 c.requires.of_action found.0
+
+pub returns-then-not-may_fire : goal.returns-then-not-may_fire
+returns-then-not-may_fire c = breaks_none (is_pair c.args.pairs.now) c.args.action.now c.args.effect.now (sym c.may_fire.ensures ∙ c.if-not-may_fire.true)

@@ -1,0 +1,7 @@
+use Rattle.std.proofs.Common.{◌++◌, sym, ◌∙◌}
+use Rattle.kp_clash.specs.Paired.{is_pair}
+use Rattle.kp_clash.proofs.Greatest.{compatible_under_fewer}
+use Rattle.kp_clash.proofs.settle.clear_effect.Goals as goal
+
+pub clear_together-requires-clause-compatible : goal.clear_together-requires-clause-compatible
+clear_together-requires-clause-compatible c = compatible_under_fewer (is_pair c.clear_alone.new.pairs) (is_pair c.args.pairs.now) c.clear_alone.ensures.part (c.args.action.now.pre ++ c.args.effect.now.cond) (sym c.may_fire.ensures ∙ c.if-not-may_fire.false)

@@ -1,0 +1,27 @@
+//! What is noted of an action before its effects are looked at one by one.
+ghost use Rattle.kp_clash.specs.Left.{AreNoted};
+
+use crate::added::{WORDS, atoms_added};
+use crate::deleted::{SLOTS, slots_of_deletes};
+use crate::sure::atoms_deleted;
+use kp_base::Action;
+
+/// The slots of the atoms that the action deletes, the atoms that it adds, and those that it surely deletes.
+#[derive(Drop)]
+pub(crate) struct Tables {
+    pub(crate) slots: [bool; SLOTS],
+    pub(crate) added: [u64; WORDS],
+    pub(crate) sure: [u64; WORDS],
+}
+
+impl Tables {
+    pub(crate) fn of(action: &Action) -> Tables
+        ensures { AreNoted result.slots result.added result.sure action.now }
+    {
+        Tables {
+            slots: slots_of_deletes(action.effects.slice()),
+            added: atoms_added(action.effects.slice()),
+            sure: atoms_deleted(action),
+        }
+    }
+}
