@@ -19,7 +19,7 @@ use Rattle.kp_base.proofs.Lits.{same_lit-true}
 use Rattle.kp_clash.specs.Searching.{may_be_deleted, is_noted, all_noted}
 use Rattle.kp_clash.specs.Settled.{deletes_within, keeps_apart}
 use Rattle.kp_clash.specs.Left.{bit_in, KeepsBits, is_added, all_added, AreDeleted, KeepsFree}
-use Rattle.kp_clash.specs.Removed.{breaks, adds_pair}
+use Rattle.kp_clash.specs.Removed.{breaks, adds_pair, BreaksNone}
 use Rattle.kp_clash.proofs.Greatest.{is_lit}
 
 none_of : (a b : Bool) → (a || b) ≡ false → (a ≡ false) × (b ≡ false)
@@ -81,6 +81,13 @@ delete_adds_none pairs a e sign = false_from_ne_true (list_any (adds_pair pairs 
     let x = any_member (adds_pair pairs a e) a.effects h in
     let both = and_parts (e.result.positive && (x.0.result.positive && pairs e.result.atom.0 x.0.result.atom.0)) (compatible_effects pairs a e x.0) x.2 in
     false≢true (sym sign ∙ (and_parts e.result.positive (x.0.result.positive && pairs e.result.atom.0 x.0.result.atom.0) both.0).0))
+
+-- nor does it break one alone
+pub delete_breaks_none : (pairs : Pairs) (a : Action) (e : Effect) → e.result.positive ≡ false → BreaksNone pairs a e
+delete_breaks_none pairs a e sign = record {
+  alone = λ q. ap (λ b. b && (pairs e.result.atom.0 q && not (keeps_apart pairs e.result.atom.0 q a e))) sign;
+  together = delete_adds_none pairs a e sign;
+}
 
 -- ---- atoms that are deleted
 

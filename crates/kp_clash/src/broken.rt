@@ -173,6 +173,9 @@ fn of_effect(
     requires compatible { are_compatible (is_pair pairs.now) action.now.pre ≡ true }
     ensures { FindsOfEffect (is_pair pairs.now) action.now effect.now result }
 {
+    if !effect.result.positive {
+        return None;
+    }
     if !may_fire(pairs, action, effect) {
         return None;
     }

@@ -93,6 +93,9 @@ fn clear_effect(
     if !last.meets(action.pre.slice()) && !last.meets(effect.cond.slice()) {
         return;
     }
+    if !effect.result.positive {
+        return;
+    }
     if !may_fire(pairs, action, effect) {
         return;
     }

@@ -3,6 +3,7 @@ use Rattle.kp_clash.specs.Paired.{is_pair}
 use Rattle.kp_clash.specs.Removed.{FindsAlone}
 use Rattle.kp_clash.proofs.Removing.{breaks_broken}
 use Rattle.kp_clash.proofs.Firing.{breaks_none}
+use Rattle.kp_clash.proofs.Candidates.{delete_breaks_none}
 use Rattle.kp_clash.proofs.broken.of_effect.Goals as goal
 
 pub returns-in-Some : goal.returns-in-Some
@@ -12,3 +13,6 @@ returns-in-Some c =
 
 pub returns-then-not-may_fire : goal.returns-then-not-may_fire
 returns-then-not-may_fire c = breaks_none (is_pair c.args.pairs.now) c.args.action.now c.args.effect.now (sym c.may_fire.ensures ∙ c.if-not-may_fire.true)
+
+pub returns-then-not-effect : goal.returns-then-not-effect
+returns-then-not-effect c = delete_breaks_none (is_pair c.args.pairs.now) c.args.action.now c.args.effect.now c.if-not-effect.true
