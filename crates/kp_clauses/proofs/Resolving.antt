@@ -12,9 +12,9 @@ use Rattle.kp_base.specs.Implicates.{is_within, is_tautology}
 use Rattle.kp_base.proofs.Lists.{any_member, any_from, all_from, member_left, member_right, append_member, filter_member, member_filter}
 use Rattle.kp_base.proofs.Lits.{has-member, member-has, same_lit-true, same_lit-refl, negated-negated, holds-negated}
 use Rattle.kp_base.proofs.Sets.{any-set_of, all-set_of, set_ascends}
-use Rattle.kp_clauses.specs.Resolved.{without, resolved, with_unless, opposed_elsewhere}
+use Rattle.kp_clauses.specs.Resolved.{without, exchanged, resolved, with_unless, opposed_elsewhere}
 use Rattle.kp_clauses.proofs.Logic.{not-true-case}
-use Rattle.kp_clauses.proofs.Within.{within_member, tautology_from}
+use Rattle.kp_clauses.proofs.Within.{within_member, within_from, tautology_from}
 
 -- ---- as it is made
 
@@ -32,6 +32,9 @@ resolved_steps c d l =
     others_added (negated l) (fold (with_unless l) [] c) d
     ∙ ap (λ set. fold (λ set l. with_lit l set) set (without (negated l) d)) (others_added l [] c)
     ∙ sym (fold-append (λ set l. with_lit l set) [] (without l c) (without (negated l) d))
+
+pub exchanged_steps : (c : List Lit) (out l : Lit) → with_lit l (fold (with_unless out) [] c) ≡ exchanged c out l
+exchanged_steps c out l = ap (with_lit l) (others_added out [] c) ∙ sym (fold-append (λ set l. with_lit l set) [] (without out c) (l ∷ []))
 
 -- ---- what it says
 
@@ -71,6 +74,36 @@ resolved_within c d F l hc hd =
       | inl r ↦ has-member F x (without_within l c F hc x r)
       | inr r ↦ has-member F x (without_within (negated l) d F hd x r)
     ])
+
+-- both clauses are within it and the literal that it hasn't
+pub within_resolved : (c d : List Lit) (l : Lit) → (is_within c (l ∷ resolved c d l) ≡ true) × (is_within d (negated l ∷ resolved c d l) ≡ true)
+within_resolved c d l = (
+  within_from c (l ∷ resolved c d l) (λ x m. but l c (λ y n. member_left (without l c) (without (negated l) d) y n) x m),
+  within_from d (negated l ∷ resolved c d l) (λ x m. but (negated l) d (λ y n. member_right (without l c) (without (negated l) d) y n) x m),
+)
+  where
+    but : (k : Lit) (b : List Lit) → ((y : Lit) → Member (without k b) y → Member (without l c ++ without (negated l) d) y) → (x : Lit) → Member b x → Member (k ∷ resolved c d l) x
+    but k b f x m = elim (cases_Bool (same_lit x k)) [
+      | inl on ↦ inl (sym (same_lit-true x k on))
+      | inr off ↦ inr (member-has (resolved c d l) x (both_parts (same_lit x) c d l x (f x (member_filter (λ x. not (same_lit x k)) b x m (ap not off))) (same_lit-refl x)))
+    ]
+
+-- what is within a clause where a literal stands in place of another
+pub within_exchanged : (c d : List Lit) (out l : Lit) → is_within c (exchanged d out l) ≡ true → is_within c (l ∷ without out d) ≡ true
+within_exchanged c d out l h = within_from c (l ∷ without out d) (λ x m. elim (append_member (without out d) (l ∷ []) x (member-has (without out d ++ l ∷ []) x (sym (any-set_of (same_lit x) (without out d ++ l ∷ [])) ∙ has-member (exchanged d out l) x (within_member c (exchanged d out l) h x m)))) [
+  | inl r ↦ inr r
+  | inr n ↦ elim n [ inl same ↦ inl same | inr bad ↦ absurd bad ]
+])
+
+-- a clause that has no other literals
+pub exchanged_within : (c d F : List Lit) (out l : Lit) → is_within c (l ∷ F) ≡ true → is_within F d ≡ true → has F out ≡ false → is_within c (exchanged d out l) ≡ true
+exchanged_within c d F out l h inside none = within_from c (exchanged d out l) (λ x m. member-has (exchanged d out l) x (any-set_of (same_lit x) (without out d ++ l ∷ []) ∙ any_from (same_lit x) (without out d ++ l ∷ []) x (there x (within_member c (l ∷ F) h x m)) (same_lit-refl x)))
+  where
+    there : (x : Lit) → Member (l ∷ F) x → Member (without out d ++ l ∷ []) x
+    there x m = elim m [
+      | inl same ↦ member_right (without out d) (l ∷ []) x (inl same)
+      | inr r ↦ member_left (without out d) (l ∷ []) x (member_filter (λ y. not (same_lit y out)) d x (within_member F d inside x r) (ap not (not-true-case (same_lit x out) (λ e. false≢true (sym none ∙ has-member F out (subst (Member F) (same_lit-true x out e) r))))))
+    ]
 
 pub resolved_ascending : (c d : List Lit) (l : Lit) → IsAscending (resolved c d l)
 resolved_ascending c d l = set_ascends (without l c ++ without (negated l) d)

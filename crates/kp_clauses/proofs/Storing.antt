@@ -2,13 +2,13 @@
 use Rattle.std.proofs.Common.{◌≡◌, Bool, true, false, not, ◌||◌, ◌⊎◌, cond, List, [], ◌∷◌, ◌++◌, refl, sym, ◌∙◌, ap, subst, inl, inr, filter, Result, Ok, Err, OnOk, OnErr}
 use Rattle.std.proofs.lemmas.Bool.{and_parts, and_from, or_cases, or_left, or_right, false≢true, not-true, cases_Bool}
 use Rattle.std.proofs.lemmas.List.{append_assoc, append-nil}
-use Rattle.std.specs.List.{list_all}
+use Rattle.std.proofs.lemmas.List.Elements.{filter-append}
+use Rattle.std.specs.List.{list_any, list_all}
 use Rattle.kp_base.specs.declared.lit.Lit.{Lit}
 use Rattle.kp_base.specs.Lists.{Member}
 use Rattle.kp_base.specs.Implicates.{is_within}
 use Rattle.kp_base.proofs.Lists.{any_member, any_from, all_from, all_member, append_member, filter_member, member_filter, member_left, member_right, bool_same}
 use Rattle.kp_clauses.specs.Stored.{subsumed, replaced, with_clause, with_all, are_apart}
-use Rattle.kp_clauses.specs.Sieved.{AreStored}
 use Rattle.kp_clauses.proofs.Logic.{not-true-case}
 use Rattle.kp_clauses.proofs.Within.{within_trans}
 
@@ -77,7 +77,7 @@ with_all_new cs (e ∷ ds) d h = elim (or_cases (is_within e d) (subsumed ds d) 
 abbrev near : List Lit → List Lit → Bool
 near c d = is_within c d || is_within d c
 
-apart_filter : (p : List Lit → Bool) (cs : List (List Lit)) → are_apart cs ≡ true → are_apart (filter p cs) ≡ true
+pub apart_filter : (p : List Lit → Bool) (cs : List (List Lit)) → are_apart cs ≡ true → are_apart (filter p cs) ≡ true
 apart_filter p [] h = refl
 apart_filter p (c ∷ cs) h =
     let parts = and_parts (list_all (λ d. not (near c d)) cs) (are_apart cs) h in
@@ -87,7 +87,7 @@ apart_filter p (c ∷ cs) h =
     go true far rest = and_from (list_all (λ d. not (near c d)) (filter p cs)) (are_apart (filter p cs)) (all_from (λ d. not (near c d)) (filter p cs) (λ d m. all_member (λ d. not (near c d)) cs d (filter_member p cs d m).0 far)) rest
     go false far rest = rest
 
-apart_last : (cs : List (List Lit)) (c : List Lit) → are_apart cs ≡ true → ((d : List Lit) → Member cs d → (is_within c d ≡ false) × (is_within d c ≡ false)) → are_apart (cs ++ c ∷ []) ≡ true
+pub apart_last : (cs : List (List Lit)) (c : List Lit) → are_apart cs ≡ true → ((d : List Lit) → Member cs d → (is_within c d ≡ false) × (is_within d c ≡ false)) → are_apart (cs ++ c ∷ []) ≡ true
 apart_last [] c h far = refl
 apart_last (d ∷ cs) c h far =
     let parts = and_parts (list_all (λ e. not (near d e)) cs) (are_apart cs) h in
@@ -107,39 +107,10 @@ replaced_apart cs c h is = apart_last (filter (λ d. not (is_within c d)) cs) c 
     let f = filter_member (λ d. not (is_within c d)) cs d m in
     (not-true (is_within c d) f.1, not-true-case (is_within d c) (λ e. false≢true (sym is ∙ any_from (λ e. is_within e c) cs d f.0 e))))
 
--- the sieve goes on to subsume the same
-put_same : (cs sieve : List (List Lit)) (c x : List Lit) → AreStored cs sieve → subsumed cs c ≡ false → subsumed (sieve ++ c ∷ []) x ≡ subsumed (replaced cs c) x
-put_same cs sieve c x h is = bool_same (subsumed (sieve ++ c ∷ []) x) (subsumed (replaced cs c) x) to from
-  where
-    grown : with_clause cs c ≡ replaced cs c
-    grown = rw is refl
-
-    to : subsumed (sieve ++ c ∷ []) x ≡ true → subsumed (replaced cs c) x ≡ true
-    to e =
-        let r = any_member (λ d. is_within d x) (sieve ++ c ∷ []) e in
-        elim (append_member sieve (c ∷ []) r.0 r.1) [
-          | inl m ↦ subst (λ z. subsumed z x ≡ true) grown (with_clause_old cs c x (sym (h.same x) ∙ any_from (λ d. is_within d x) sieve r.0 m r.2))
-          | inr m ↦ elim m [
-            | inl same ↦ subst (λ z. subsumed z x ≡ true) grown (with_clause_new cs c x (subst (λ (z : List Lit). is_within z x ≡ true) (sym same) r.2))
-            | inr bad ↦ absurd bad
-          ]
-        ]
-
-    from : subsumed (replaced cs c) x ≡ true → subsumed (sieve ++ c ∷ []) x ≡ true
-    from e =
-        let r = any_member (λ d. is_within d x) (replaced cs c) e in
-        elim (append_member (filter (λ d. not (is_within c d)) cs) (c ∷ []) r.0 r.1) [
-          | inl m ↦
-              let old = h.same x ∙ any_from (λ d. is_within d x) cs r.0 (filter_member (λ d. not (is_within c d)) cs r.0 m).0 r.2 in
-              let s = any_member (λ d. is_within d x) sieve old in
-              any_from (λ d. is_within d x) (sieve ++ c ∷ []) s.0 (member_before sieve c s.0 s.1) s.2
-          | inr m ↦ any_from (λ d. is_within d x) (sieve ++ c ∷ []) r.0 (member_right sieve (c ∷ []) r.0 m) r.2
-        ]
-
 -- whether the new one is put in, or memory is wanting
-pub put_stored : {T E : Type 0} (r : Result T E) (old new sieve sieve' : List (List Lit)) (c : List Lit) → AreStored old sieve → subsumed old c ≡ false → OnOk r (new ≡ replaced old c) → OnErr r (new ≡ old) → OnOk r (sieve' ≡ sieve ++ c ∷ []) → OnErr r (sieve' ≡ sieve) → AreStored new sieve'
-put_stored (Ok x) old new sieve sieve' c h is e f g k = subst (λ z. AreStored z sieve') (sym e) (subst (AreStored (replaced old c)) (sym g) (record { apart = replaced_apart old c h.apart is; same = λ x. put_same old sieve c x h is }))
-put_stored (Err x) old new sieve sieve' c h is e f g k = subst (λ z. AreStored z sieve') (sym f) (subst (AreStored old) (sym k) h)
+pub put_apart : {T E : Type 0} (r : Result T E) (old new : List (List Lit)) (c : List Lit) → are_apart old ≡ true → subsumed old c ≡ false → OnOk r (new ≡ replaced old c) → OnErr r (new ≡ old) → are_apart new ≡ true
+put_apart (Ok x) old new c h is e f = subst (λ z. are_apart z ≡ true) (sym e) (replaced_apart old c h is)
+put_apart (Err x) old new c h is e f = subst (λ z. are_apart z ≡ true) (sym f) h
 
 -- the first of clauses that are apart are so
 pub apart_first : (cs ds : List (List Lit)) → are_apart (cs ++ ds) ≡ true → are_apart cs ≡ true
@@ -191,6 +162,70 @@ with_all_joined cs (d ∷ ds) h =
     let split : (cs ++ d ∷ []) ++ ds ≡ cs ++ d ∷ ds = append_assoc cs (d ∷ []) ds in
     let h' : are_apart ((cs ++ d ∷ []) ++ ds) ≡ true = ap are_apart split ∙ h in
     ap (λ z. with_all z ds) (one_last cs d (apart_first (cs ++ d ∷ []) ds h')) ∙ (with_all_joined (cs ++ d ∷ []) ds h' ∙ split)
+
+-- clauses that no stored one is within come behind those that hold none of them
+pub merged_apart : (cs ds : List (List Lit)) → are_apart cs ≡ true → are_apart ds ≡ true → ((d : List Lit) → Member ds d → subsumed cs d ≡ false) → are_apart (filter (λ c. not (subsumed ds c)) cs ++ ds) ≡ true
+merged_apart cs ds h k free = joined_apart (filter (λ c. not (subsumed ds c)) cs) ds (apart_filter (λ c. not (subsumed ds c)) cs h) k (λ c d m n.
+    let f = filter_member (λ c. not (subsumed ds c)) cs c m in (
+      not-true-case (is_within c d) (λ e. false≢true (sym (free d n) ∙ any_from (λ x. is_within x d) cs c f.0 e)),
+      not-true-case (is_within d c) (λ e. false≢true (sym (not-true (subsumed ds c) f.1) ∙ any_from (λ x. is_within x c) ds d n e)),
+    ))
+
+-- filtering by two tests is filtering by both
+filter_twice : (p q r : List Lit → Bool) (xs : List (List Lit)) → ((x : List Lit) → r x ≡ not (not (p x) || not (q x))) → filter q (filter p xs) ≡ filter r xs
+filter_twice p q r [] f = refl
+filter_twice p q r (x ∷ xs) f = rw (f x) (go (p x) (q x) refl (filter_twice p q r xs f))
+  where
+    go : (a b : Bool) → q x ≡ b → filter q (filter p xs) ≡ filter r xs → filter q (cond a (x ∷ filter p xs) (filter p xs)) ≡ cond (not (not a || not b)) (x ∷ filter r xs) (filter r xs)
+    go true true is rest = rw is (ap (λ z. x ∷ z) rest)
+    go true false is rest = rw is rest
+    go false b is rest = rest
+
+pub merged_is : (cs ds : List (List Lit)) → are_apart ds ≡ true → ((d : List Lit) → Member ds d → subsumed cs d ≡ false) → filter (λ c. not (subsumed ds c)) cs ++ ds ≡ with_all cs ds
+merged_is cs [] h free = append-nil (filter (λ c. not (subsumed [] c)) cs) ∙ filter_all (λ c. not (subsumed [] c)) cs (λ x m. refl)
+merged_is cs (d ∷ ds) h free =
+    sym (ap (λ z. z ++ ds) first ∙ append_assoc (filter (λ c. not (subsumed (d ∷ ds) c)) cs) (d ∷ []) ds)
+    ∙ (merged_is (replaced cs d) ds parts.1 free' ∙ ap (λ b. with_all (cond b cs (replaced cs d)) ds) (sym (free d (inl refl))))
+  where
+    parts : (list_all (λ e. not (near d e)) ds ≡ true) × (are_apart ds ≡ true)
+    parts = and_parts (list_all (λ e. not (near d e)) ds) (are_apart ds) h
+
+    far : (e : List Lit) → Member ds e → (is_within d e ≡ false) × (is_within e d ≡ false)
+    far e m = or_none (is_within d e) (is_within e d) (not-true (near d e) (all_member (λ e. not (near d e)) ds e m parts.0))
+
+    free' : (e : List Lit) → Member ds e → subsumed (replaced cs d) e ≡ false
+    free' e m = not-true-case (subsumed (replaced cs d) e) (λ t.
+        let r = any_member (λ x. is_within x e) (replaced cs d) t in
+        elim (append_member (filter (λ x. not (is_within d x)) cs) (d ∷ []) r.0 r.1) [
+          | inl n ↦ false≢true (sym (free e (inr m)) ∙ any_from (λ x. is_within x e) cs r.0 (filter_member (λ x. not (is_within d x)) cs r.0 n).0 r.2)
+          | inr n ↦ elim n [
+            | inl same ↦ false≢true (sym (far e m).0 ∙ subst (λ (x : List Lit). is_within x e ≡ true) (sym same) r.2)
+            | inr bad ↦ absurd bad
+          ]
+        ])
+
+    stays : subsumed ds d ≡ false
+    stays = not-true-case (subsumed ds d) (λ t. let r = any_member (λ x. is_within x d) ds t in false≢true (sym (far r.0 r.1).1 ∙ r.2))
+
+    both : (a b : Bool) → not (a || b) ≡ not (not (not a) || not (not b))
+    both true b = refl
+    both false true = refl
+    both false false = refl
+
+    first : filter (λ c. not (subsumed ds c)) (replaced cs d) ≡ filter (λ c. not (subsumed (d ∷ ds) c)) cs ++ d ∷ []
+    first =
+        filter-append (λ c. not (subsumed ds c)) (filter (λ x. not (is_within d x)) cs) (d ∷ [])
+        ∙ (ap (λ z. z ++ filter (λ c. not (subsumed ds c)) (d ∷ [])) (filter_twice (λ x. not (is_within d x)) (λ c. not (subsumed ds c)) (λ c. not (subsumed (d ∷ ds) c)) cs (λ x. both (is_within d x) (subsumed ds x)))
+        ∙ ap (λ b. filter (λ c. not (subsumed (d ∷ ds) c)) cs ++ cond (not b) (d ∷ []) []) stays)
+
+-- one clause more is kept, or left out
+pub filter_next : {X : Type 0} (p : X → Bool) (out : Bool) (kept rest all : List X) (x : X) → p x ≡ not out → kept ++ filter p (x ∷ rest) ≡ all → (kept ++ cond out [] (x ∷ [])) ++ filter p rest ≡ all
+filter_next p true kept rest all x is h = ap (λ z. z ++ filter p rest) (append-nil kept) ∙ (sym (ap (λ b. kept ++ cond b (x ∷ filter p rest) (filter p rest)) is) ∙ h)
+filter_next p false kept rest all x is h = append_assoc kept (x ∷ []) (filter p rest) ∙ (sym (ap (λ b. kept ++ cond b (x ∷ filter p rest) (filter p rest)) is) ∙ h)
+
+-- where the new clause is within none, all stay
+pub none_held : (cs : List (List Lit)) (c : List Lit) → list_any (is_within c) cs ≡ false → replaced cs c ≡ cs ++ c ∷ []
+none_held cs c h = ap (λ z. z ++ c ∷ []) (filter_all (λ d. not (is_within c d)) cs (λ d m. ap not (not-true-case (is_within c d) (λ t. false≢true (sym h ∙ any_from (is_within c) cs d m t)))))
 
 -- one clause less is to come
 pub one_less : {X : Type 0} (xs : List X) (x : X) (rest now all : List X) → now ≡ x ∷ rest → xs ++ now ≡ all → (xs ++ x ∷ []) ++ rest ≡ all

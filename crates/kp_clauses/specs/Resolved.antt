@@ -1,5 +1,5 @@
 -- Resolving two clauses.
-use Rattle.std.specs.Prelude.{Bool, not, ◌&&◌, List, ◌++◌, Option, Some, None, filter, if◌then◌else◌}
+use Rattle.std.specs.Prelude.{Bool, not, ◌&&◌, List, [], ◌∷◌, ◌++◌, Option, Some, None, filter, if◌then◌else◌}
 use Rattle.std.specs.List.{list_any}
 use Rattle.kp_base.specs.declared.lit.Lit.{Lit}
 use Rattle.kp_base.specs.Lit.{negated, same_lit}
@@ -10,6 +10,10 @@ use Rattle.kp_base.specs.Implicates.{is_tautology}
 -- the clause without one literal
 abbrev pub without : Lit → List Lit → List Lit
 without l c = filter (λ x. not (same_lit x l)) c
+
+-- with another literal in its place, as a set
+abbrev pub exchanged : List Lit → Lit → Lit → List Lit
+exchanged c out l = set_of (without out c ++ l ∷ [])
 
 -- the literals of both clauses but l in the first and its negation in the second, as a set
 abbrev pub resolved : List Lit → List Lit → Lit → List Lit

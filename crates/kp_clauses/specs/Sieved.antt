@@ -6,7 +6,6 @@ use Rattle.kp_base.specs.declared.lit.Lit.{Lit}
 use Rattle.kp_base.specs.Lists.{Member}
 use Rattle.kp_base.specs.Lit.{code_of}
 use Rattle.kp_base.specs.Implicates.{is_within}
-use Rattle.kp_clauses.specs.Stored.{subsumed, are_apart}
 use Rattle.kp_clauses.specs.declared.sieve.Spot.{Spot}
 
 -- a word has the bits of the literals' codes and no others
@@ -51,8 +50,3 @@ pub record AreListed (lists : List (List Spot)) (cs : List (List Lit)) : Type 0 
 -- nothing is lost from the lists
 pub record AreKept (old new : List (List Spot)) : Type 0 where
   pub each : (k : ℕ) (s : Spot) → Member (row old k) s → Member (row new k) s
-
--- clauses of a store, and those of its sieve: none of the first is within another, and both subsume the same
-pub record AreStored (cs sieve : List (List Lit)) : Type 0 where
-  pub apart : are_apart cs ≡ true
-  pub same : (c : List Lit) → subsumed sieve c ≡ subsumed cs c

@@ -2,7 +2,7 @@ ghost use Rattle.std.specs.Prelude.{◌≡◌, IsTrue, true, false, fold, IfOk, 
 ghost use Rattle.kp_base.specs.Lit.{positive, negative};
 ghost use Rattle.kp_base.specs.Steps.{has};
 ghost use Rattle.kp_base.specs.Implicates.{is_within, is_tautology};
-ghost use Rattle.kp_clauses.specs.Resolved.{with_unless, opposed_elsewhere, resolved, resolvent_on};
+ghost use Rattle.kp_clauses.specs.Resolved.{exchanged, with_unless, opposed_elsewhere, resolved, resolvent_on};
 
 use kp_base::{AtomId, Lit, LitSet, Memory};
 use std::alloc::Global;
@@ -70,6 +70,17 @@ fn join(alloc: Global, c: &LitSet, d: &LitSet, lit: Lit) -> Result<LitSet, Memor
     let mut set = LitSet::new(alloc);
     add_others(&mut set, c, lit)?;
     add_others(&mut set, d, lit.negated())?;
+    Ok(set)
+}
+
+/// The clause with another literal in place of this one.
+#[tactic(auto, using(crate::proofs::Resolving::exchanged_steps))]
+pub fn exchange(alloc: Global, c: &LitSet, out: Lit, lit: Lit) -> Result<LitSet, Memory>
+    ensures { IfOk result (λ set. set ≡ exchanged c.now out lit) }
+{
+    let mut set = LitSet::new(alloc);
+    add_others(&mut set, c, out)?;
+    set.insert(lit)?;
     Ok(set)
 }
 

@@ -8,7 +8,7 @@ mod mark;
 mod sieve;
 mod store;
 
-pub use clause::{has_lit, is_tautology, resolve, resolvent, subsumes};
+pub use clause::{exchange, has_lit, is_tautology, resolve, resolvent, subsumes};
 pub use laws::saturated_clauses_are_the_prime_implicates;
 pub use sieve::Sieve;
 pub use store::{Added, Store};

@@ -1,4 +1,8 @@
-ghost use Rattle.std.specs.Prelude.{◌≡◌, ◌↔◌, true, false, [], ◌∷◌, ◌++◌, IfOk, OnOk, OnErr};
+ghost use Rattle.std.specs.Prelude.{◌≡◌, ◌↔◌, true, false, not, List, [], ◌∷◌, ◌++◌, cond, filter, IfOk, OnOk, OnErr};
+ghost use Rattle.std.specs.List.{list_any};
+ghost use Rattle.kp_base.specs.declared.lit.Lit.{Lit as Literal};
+ghost use Rattle.kp_base.specs.Lists.{Member};
+ghost use Rattle.kp_base.specs.Implicates.{is_within};
 ghost use Rattle.kp_clauses.specs.Stored.{subsumed, replaced, with_clause, with_all, are_apart};
 ghost use Rattle.kp_clauses.specs.declared.store.Added.TheVariants.{Subsumed};
 
@@ -13,21 +17,19 @@ use std::mem;
 #[derive(Drop)]
 pub struct Store {
     alloc: Global,
-    clauses: Row<LitSet>,
-    // A copy of each clause that was ever put in: what holds one that is gone holds one that is there.
     sieve: Sieve,
 }
 
 impl Model for Store {
-    ghost use Rattle.std.specs.Prelude.{List};
+    ghost use Rattle.std.specs.Prelude.{◌≡◌, true, List};
     ghost use Rattle.kp_base.specs.declared.lit.Lit.{Lit};
-    ghost use Rattle.kp_clauses.specs.Sieved.{AreStored};
+    ghost use Rattle.kp_clauses.specs.Stored.{are_apart};
 
     ghost Value = { List (List Lit) };
 
-    ghost view = { λ s. s.clauses };
+    ghost view = { λ s. s.sieve };
 
-    ghost invariant = { λ s. AreStored s.clauses s.sieve };
+    ghost invariant = { λ s. are_apart s.sieve ≡ true };
 }
 
 /// What became of a clause.
@@ -46,9 +48,16 @@ impl Store {
     {
         Store {
             alloc,
-            clauses: Row::new(alloc),
             sieve: Sieve::new(alloc),
         }
+    }
+
+    /// The clauses of a sieve, where none is within another.
+    pub fn from_sieve(alloc: Global, sieve: Sieve) -> Store
+        requires { are_apart sieve ≡ true }
+        ensures { result ≡ sieve }
+    {
+        Store { alloc, sieve }
     }
 
     /// The clauses.
@@ -56,14 +65,14 @@ impl Store {
         ensures value { result.now ≡ self.now }
         ensures apart { are_apart self.now ≡ true }
     {
-        &self.clauses
+        self.sieve.clauses()
     }
 
     /// The clauses, in a vector.
     pub fn into_clauses(self) -> Vec<LitSet>
         ensures { result.items ≡ self }
     {
-        self.clauses.into_vec()
+        self.sieve.into_clauses()
     }
 
     /// Whether some clause is within this one.
@@ -83,26 +92,19 @@ impl Store {
         if self.subsumes(&clause) {
             return Ok(Added::Subsumed);
         }
-        self.put(clause)?;
+        put(self.alloc, &mut self.sieve, clause)?;
         Ok(Added::Kept)
     }
 
-    /// Adds the clauses of another store in turn. At `Memory` some of the first of them are added.
-    pub fn add_all(&mut self, other: Store) -> Result<(), Memory>
+    /// Adds the clauses of another store, where no clause of this one is within one of them; the clauses that hold one
+    /// of them go. At `Memory` it may have any of the clauses, or none.
+    pub fn merge(&mut self, other: Store) -> Result<(), Memory>
+        requires { (d : List Literal) → Member other d → subsumed self.old d ≡ false }
         ensures { OnOk result (self.new ≡ with_all self.old other) }
     {
-        self.add_each(other.into_clauses())
-    }
-
-    /// Adds clauses in turn. At `Memory` some of the first of them are added.
-    #[tactic(auto, using(crate::proofs::Storing::with_all_more))]
-    pub fn add_each(&mut self, clauses: Vec<LitSet>) -> Result<(), Memory>
-        ensures { OnOk result (self.new ≡ with_all self.old clauses.items) }
-    {
-        for c in clauses {
-            self.add(c)?;
-        }
-        Ok(())
+        let held = mem::replace(&mut self.sieve, Sieve::new(self.alloc));
+        self.sieve = without_holders(self.alloc, held.into_clauses(), &other.sieve)?;
+        self.join(other)
     }
 
     /// Adds the clauses of another store, where no clause of either is within one of the other. At `Memory` some of the
@@ -123,60 +125,77 @@ impl Store {
         ensures ok { OnOk result (self.new ≡ self.old ++ clause ∷ []) }
         ensures err { OnErr result (self.new ≡ self.old) }
     {
-        let copy = clause.copy(self.alloc)?;
-        let mut clauses = mem::replace(&mut self.clauses, Row::new(self.alloc)).into_vec();
-        let done = push_last(&mut clauses, &mut self.sieve, clause, copy);
-        self.clauses = Row::from_vec(clauses);
-        done
-    }
-
-    // Takes out the clauses that hold this one, and puts it last.
-    fn put(&mut self, clause: LitSet) -> Result<(), Memory>
-        requires { subsumed self.old clause ≡ false }
-        ensures ok { OnOk result (self.new ≡ replaced self.old clause) }
-        ensures err { OnErr result (self.new ≡ self.old) }
-    {
-        let copy = clause.copy(self.alloc)?;
-        let mut clauses = mem::replace(&mut self.clauses, Row::new(self.alloc)).into_vec();
-        let done = put_last(&mut clauses, &mut self.sieve, clause, copy);
-        self.clauses = Row::from_vec(clauses);
-        done
+        self.sieve.push(clause)
     }
 }
 
-// Takes out of a vector the clauses that hold this one, and puts it last, and a copy of it into the sieve.
-fn put_last(
-    clauses: &mut Vec<LitSet>,
-    sieve: &mut Sieve,
-    clause: LitSet,
-    copy: LitSet,
-) -> Result<(), Memory>
-    ensures ok { OnOk result (clauses.new.items ≡ replaced clauses.old.items clause) }
-    ensures copied { OnOk result (sieve.new ≡ sieve.old ++ copy ∷ []) }
-    ensures err { OnErr result (clauses.new.items ≡ clauses.old.items) }
-    ensures not_copied { OnErr result (sieve.new ≡ sieve.old) }
+// Whether the clause is within one of the others.
+fn is_held(clauses: &[LitSet], c: &LitSet) -> bool
+    ensures { result ≡ list_any (is_within c.now) clauses.now }
 {
-    clauses.reserve(1)?;
-    sieve.push(copy)?;
-    clauses.retain(|d| !subsumes(&clause, d));
-    clauses.push(clause)?;
+    clauses.iter().any(|d| subsumes(c, d))
+}
+
+// Takes out the clauses that hold this one, and puts it last.
+fn put(alloc: Global, sieve: &mut Sieve, clause: LitSet) -> Result<(), Memory>
+    ensures ok { OnOk result (sieve.new ≡ replaced sieve.old clause) }
+    ensures err { OnErr result (sieve.new ≡ sieve.old) }
+{
+    if !is_held(sieve.clauses().slice(), &clause) {
+        sieve.push(clause)?;
+        return Ok(());
+    }
+    let mut others = copy_others(alloc, sieve.clauses().slice(), &clause)?;
+    others.push(clause)?;
+    *sieve = others;
     Ok(())
 }
 
-// Puts a clause last in a vector, and a copy of it into the sieve.
-fn push_last(
-    clauses: &mut Vec<LitSet>,
-    sieve: &mut Sieve,
-    clause: LitSet,
-    copy: LitSet,
-) -> Result<(), Memory>
-    ensures ok { OnOk result (clauses.new.items ≡ clauses.old.items ++ clause ∷ []) }
-    ensures copied { OnOk result (sieve.new ≡ sieve.old ++ copy ∷ []) }
-    ensures err { OnErr result (clauses.new.items ≡ clauses.old.items) }
-    ensures not_copied { OnErr result (sieve.new ≡ sieve.old) }
+// Copies the clauses that don't hold this one.
+fn copy_others(alloc: Global, clauses: &[LitSet], c: &LitSet) -> Result<Sieve, Memory>
+    ensures { IfOk result (λ others. others ≡ filter (λ d. not (is_within c.now d)) clauses.now) }
 {
-    clauses.reserve(1)?;
-    sieve.push(copy)?;
-    clauses.push(clause)?;
+    let mut others = Sieve::new(alloc);
+    for d in clauses {
+        copy_unless_holder(alloc, &mut others, c, d)?;
+    }
+    Ok(others)
+}
+
+// Puts a copy of a clause last, unless it holds another one.
+fn copy_unless_holder(
+    alloc: Global,
+    others: &mut Sieve,
+    c: &LitSet,
+    d: &LitSet,
+) -> Result<(), Memory>
+    ensures { OnOk result (others.new ≡ others.old ++ cond (is_within c.now d.now) [] (d.now ∷ [])) }
+{
+    if subsumes(c, d) {
+        return Ok(());
+    }
+    others.push(d.copy(alloc)?)?;
+    Ok(())
+}
+
+// The clauses that hold none of a sieve.
+fn without_holders(alloc: Global, clauses: Vec<LitSet>, held: &Sieve) -> Result<Sieve, Memory>
+    ensures { IfOk result (λ others. others ≡ filter (λ d. not (subsumed held.now d)) clauses.items) }
+{
+    let mut others = Sieve::new(alloc);
+    for d in clauses {
+        put_unless_holder(&mut others, held, d)?;
+    }
+    Ok(others)
+}
+
+// Puts a clause last, unless it holds one of a sieve.
+fn put_unless_holder(others: &mut Sieve, held: &Sieve, d: LitSet) -> Result<(), Memory>
+    ensures { OnOk result (others.new ≡ others.old ++ cond (subsumed held.now d) [] (d ∷ [])) }
+{
+    if held.subsumes(&d) {
+        return Ok(());
+    }
+    others.push(d)?;
     Ok(())
 }

@@ -10,12 +10,13 @@ use Rattle.kp_base.specs.Steps.{State, holds, has}
 use Rattle.kp_base.specs.Implicates.{is_within, is_tautology}
 use Rattle.kp_base.proofs.Lists.{any_member, any_from, append_member}
 use Rattle.kp_base.proofs.Lits.{member-has, negated-negated, holds-negated}
+use Rattle.kp_clauses.specs.Resolved.{resolved}
 use Rattle.kp_clauses.specs.Stored.{subsumed, with_all, are_apart}
 use Rattle.kp_clauses.proofs.Within.{within_member, within_from, proper_more, has_new, tautology_true, true_within}
 use Rattle.kp_clauses.proofs.Resolving.{resolved_true, resolved_within, resolved_ascending}
 use Rattle.kp_clauses.proofs.Storing.{with_all_member, with_all_old, with_all_new, with_all_apart}
 use Rattle.kp_primes.specs.Included.{stepped, walked, idle, included}
-use Rattle.kp_primes.proofs.Spreading.{stepped_old, stepped_reaches, stepped_keeps}
+use Rattle.kp_primes.proofs.Spreading.{least_parts, stepped_old, stepped_reaches, stepped_keeps}
 
 -- a clause that is no tautology, is in order, and holds where the test does
 pub record Fits (m : State → Bool) (c : List Lit) : Type 0 where
@@ -75,8 +76,8 @@ pick ps d l h =
 
 module _ (m : State → Bool) (ps : List (List Lit)) (cover : IsCover m ps) (c : List Lit) where
   part_step_each : (seen rest : List Lit) (l : Lit) (es : List (List Lit)) → IsPart m ps c seen (l ∷ rest) es → (x : List Lit) → Member (stepped ps l es) x → Fits (both m c) x
-  part_step_each seen rest l es part = stepped_keeps ps l (Fits (both m c)) es (λ e p in-e _ in-p _ proper _. record {
-    proper = proper;
+  part_step_each seen rest l es part = stepped_keeps ps l (Fits (both m c)) es (λ e p in-e in-p least. record {
+    proper = (least_parts ps es l (resolved e p l) least).proper;
     set = resolved_ascending e p l;
     sound = λ s h. resolved_true s e p l ((part.each e in-e).sound s h) ((cover.each p in-p).sound s (and_parts (m s) (list_any (holds s) c) h).0);
   }) part.each
@@ -113,7 +114,7 @@ module _ (m : State → Bool) (ps : List (List Lit)) (cover : IsCover m ps) (c :
           ]) in
           elim (pick ps d (negated l) got) [
             | inl a ↦ prime a
-            | inr p ↦ stepped_reaches ps l es e p.0 in-e has-l p.1 p.2 d proper (resolved_within e p.0 d l in-ld p.3)
+            | inr p ↦ stepped_reaches ps l es e p.0 in-e p.1 d proper (resolved_within e p.0 d l in-ld p.3)
           ]
 
       go : (a b : Bool) → has d l ≡ a → has d (negated l) ≡ b → (subsumed (stepped ps l es) d || subsumed ps d) ≡ true

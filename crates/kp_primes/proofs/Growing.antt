@@ -1,48 +1,26 @@
 -- The new clauses don't get fewer while a clause is worked in, literal by literal.
-use Rattle.std.proofs.Common.{◌≡◌, ℕ, ◌<◌, ◌≤◌, ◌+◌, true, false, not, List, [], ◌∷◌, ◌++◌, refl, sym, ◌∙◌, ap, subst, inl, inr, length, drop, get_or, arith}
-use Rattle.std.proofs.lemmas.Bool.{or_right, false≢true, cases_Bool}
-use Rattle.std.proofs.lemmas.List.{drop_more}
+use Rattle.std.proofs.Common.{◌≡◌, ℕ, ◌<◌, ◌≤◌, ◌+◌, true, false, not, ◌||◌, cond, List, [], ◌∷◌, ◌++◌, refl, sym, ◌∙◌, ap, subst, inl, inr, length, filter, drop, get_or, arith}
+use Rattle.std.proofs.lemmas.Bool.{or_left, or_right, false≢true}
+use Rattle.std.proofs.lemmas.List.{drop_more, length-append}
 use Rattle.kp_base.specs.declared.lit.Lit.{Lit}
 use Rattle.kp_base.specs.Lists.{Member}
-use Rattle.kp_base.specs.Lit.{negated, same_lit, code_of}
+use Rattle.kp_base.specs.Lit.{same_lit}
 use Rattle.kp_base.specs.LitSet.{IsAscending}
+use Rattle.kp_base.specs.Steps.{has}
 use Rattle.kp_base.specs.Implicates.{is_within, is_tautology}
-use Rattle.kp_base.proofs.Lists.{any_member, any_from, member_left, member_filter}
-use Rattle.kp_base.proofs.Lits.{member-has, same_lit-true, same_lit-refl}
-use Rattle.kp_base.proofs.Sets.{any-set_of}
-use Rattle.kp_clauses.specs.Resolved.{without, resolved}
+use Rattle.kp_base.proofs.Lists.{any_member, any_from}
+use Rattle.kp_base.proofs.Lits.{has-member, same_lit-refl}
+use Rattle.kp_clauses.specs.Resolved.{resolved}
 use Rattle.kp_clauses.specs.Stored.{subsumed, with_all}
 use Rattle.kp_clauses.proofs.Logic.{not-true-case}
 use Rattle.kp_clauses.proofs.Within.{within_member, within_from, within_self}
-use Rattle.kp_clauses.proofs.Storing.{with_all_member, with_all_new, with_all_apart, apart_same}
-use Rattle.kp_primes.specs.Included.{spread, stepped, walked, AreNew, idle}
-use Rattle.kp_primes.proofs.Spreading.{stepped_old, stepped_keeps}
+use Rattle.kp_clauses.proofs.Resolving.{within_resolved}
+use Rattle.kp_clauses.proofs.Storing.{with_all_member, with_all_new, with_all_apart, apart_same, merged_is}
+use Rattle.kp_primes.specs.Included.{met_all, spread, stepped, walked, AreNew, idle}
+use Rattle.kp_primes.proofs.Rising.{rises_rest, first_once}
+use Rattle.kp_primes.proofs.Spreading.{least_parts, stepped_old, stepped_keeps, spread_length, spread_apart, spread_free}
 use Rattle.kp_primes.proofs.Exact.{once}
 use Rattle.kp_primes.proofs.Lengths.{each_length}
-
--- ---- literals
-
-rises_rest : (l : Lit) (ls : List Lit) → IsAscending (l ∷ ls) → IsAscending ls
-rises_rest l [] h = tt
-rises_rest l (x ∷ ls) h = h.1
-
-above : (l : Lit) (ls : List Lit) → IsAscending (l ∷ ls) → (x : Lit) → Member ls x → code_of l < code_of x
-above l [] h x m = absurd m
-above l (y ∷ ls) h x m = elim m [
-  | inl e ↦ subst (λ (z : Lit). code_of l < code_of z) e h.0
-  | inr r ↦ let a = above y ls h.1 x r in let b = h.0 in omega arith
-]
-
--- a literal that comes first doesn't come again
-first_once : (l : Lit) (ls : List Lit) → IsAscending (l ∷ ls) → Member ls l → ⊥
-first_once l ls h m = let a = above l ls h l m in absurd (omega arith)
-
--- a resolvent has all literals of the first clause but this one
-within_resolved : (e p : List Lit) (l : Lit) → is_within e (l ∷ resolved e p l) ≡ true
-within_resolved e p l = within_from e (l ∷ resolved e p l) (λ x m. elim (cases_Bool (same_lit x l)) [
-  | inl on ↦ inl (sym (same_lit-true x l on))
-  | inr off ↦ inr (member-has (resolved e p l) x (any-set_of (same_lit x) (without l e ++ without (negated l) p) ∙ any_from (same_lit x) (without l e ++ without (negated l) p) x (member_left (without l e) (without (negated l) p) x (member_filter (λ x. not (same_lit x l)) e x m (ap not off))) (same_lit-refl x)))
-])
 
 -- ---- one literal
 
@@ -52,7 +30,7 @@ module _ (ps : List (List Lit)) where
     comes_of : (x : List Lit) → Member (stepped ps l es) x → (e : List Lit) × Member es e × (is_within e (l ∷ x) ≡ true)
     comes_of =
         stepped_keeps ps l (λ x. (e : List Lit) × Member es e × (is_within e (l ∷ x) ≡ true)) es
-        (λ e p in-e _ _ _ _ _. (e, in-e, within_resolved e p l))
+        (λ e p in-e _ _. (e, in-e, (within_resolved e p l).0))
         (λ x m. (x, m, within_from x (l ∷ x) (λ y n. inr n)))
 
     -- which alone it can be within
@@ -71,15 +49,19 @@ module _ (ps : List (List Lit)) where
         (λ e m. any_member (λ x. is_within x e) (stepped ps l es) (stepped_old ps l es e (any_from (λ x. is_within x e) es e m (within_self e))))
         (λ x a b m in-a in-b h k. sym (comes_of_it x a m in-a h) ∙ comes_of_it x b m in-b k)
 
+    -- each has the literal
+    pub each_has : (e : List Lit) → Member es e → has e l ≡ true
+    each_has e m = has-member e l (within_member (l ∷ rest) e (new.rest_in e m) l (inl refl))
+
     step_new : AreNew ps rest (stepped ps l es)
     step_new = record {
       rising = rises_rest l rest new.rising;
-      apart = with_all_apart es (spread ps l es []) new.apart;
+      apart = with_all_apart es (spread ps es l es []) new.apart;
       rest_in = λ x m. let from = comes_of x m in within_from rest x (λ y n. elim (within_member from.0 (l ∷ x) from.2 y (within_member (l ∷ rest) from.0 (new.rest_in from.0 from.1) y (inr n))) [
         | inl same ↦ absurd (first_once l rest new.rising (subst (Member rest) (sym same) n))
         | inr r ↦ r
       ]);
-      free = stepped_keeps ps l (λ x. subsumed ps x ≡ false) es (λ e p _ _ _ _ _ free. free) new.free;
+      free = stepped_keeps ps l (λ x. subsumed ps x ≡ false) es (λ e p _ _ least. (least_parts ps es l (resolved e p l) least).free) new.free;
     }
 
   -- ---- all of them
@@ -125,12 +107,39 @@ unit_free ps l not_idle = (walked_new ps (l ∷ []) ((l ∷ []) ∷ []) (start_n
 pub walked_free : (ps : List (List Lit)) (c : List Lit) → IsAscending c → idle ps c ≡ false → (d : List Lit) → Member (walked ps c (c ∷ [])) d → subsumed ps d ≡ false
 walked_free ps c asc not_idle = (walked_new ps c (c ∷ []) (start_new ps c asc not_idle)).free
 
+-- ---- a step
+
+-- a clause of one literal has it
+pub unit_spread : (ps : List (List Lit)) (l : Lit) → met_all ps ((l ∷ []) ∷ []) (l ∷ []) l ps [] ≡ spread ps ((l ∷ []) ∷ []) l ((l ∷ []) ∷ []) []
+unit_spread ps l = sym (ap (λ b. cond (b || false) (met_all ps ((l ∷ []) ∷ []) (l ∷ []) l ps []) []) (same_lit-refl l))
+
+pub unit_has : (l : Lit) (e : List Lit) → Member ((l ∷ []) ∷ []) e → has e l ≡ true
+unit_has l e m = elim m [ inl same ↦ subst (λ (x : List Lit). has x l ≡ true) same (or_left (same_lit l l) false (same_lit-refl l)) | inr bad ↦ absurd bad ]
+
+-- what comes of a literal is put behind those that hold none of it
+pub fresh_over : (ps es : List (List Lit)) (l : Lit) (limit : ℕ) → ((e : List Lit) → Member es e → has e l ≡ true) → limit < length (spread ps es l es []) → limit < length (stepped ps l es)
+fresh_over ps es l limit each over =
+    let fresh = spread ps es l es [] in
+    let is = ap length (merged_is es fresh (spread_apart ps es l) (spread_free ps es l each)) in
+    let more = length-append (filter (λ e. not (subsumed fresh e)) es) fresh in
+    omega arith
+
+-- where there are too many so far, there are too many in the end
+pub spread_over : (ps es : List (List Lit)) (l : Lit) (i : ℕ) (fs gs : List (List Lit)) (limit : ℕ) → spread ps es l (drop i es) fs ≡ spread ps es l es gs → limit < length fs → limit < length (spread ps es l es gs)
+spread_over ps es l i fs gs limit is over =
+    let more = spread_length ps es l (drop i es) fs in
+    subst (λ (z : List (List Lit)). limit < length z) is (omega arith)
+
 -- ---- the walk
 
 -- new clauses with some literals still to come, which lead to these
 pub record LeadsTo (ps : List (List Lit)) (rest : List Lit) (fs ends : List (List Lit)) : Type 0 where
   pub goes_on : walked ps rest fs ≡ ends
   pub new : AreNew ps rest fs
+
+-- each of the new clauses has the next literal
+pub walk_has : (ps : List (List Lit)) (ls : List Lit) (i : ℕ) (d : Lit) (es ends : List (List Lit)) → i < length ls → LeadsTo ps (drop i ls) es ends → (e : List Lit) → Member es e → has e (get_or ls i d) ≡ true
+walk_has ps ls i d es ends lt h = each_has ps (get_or ls i d) (drop (i + 1) ls) es (subst (λ z. AreNew ps z es) (drop_more ls i d lt) h.new)
 
 -- one literal more
 pub walk_next : (ps : List (List Lit)) (ls : List Lit) (i : ℕ) (d : Lit) (es fs ends : List (List Lit)) → i < length ls → fs ≡ stepped ps (get_or ls i d) es → LeadsTo ps (drop i ls) es ends → LeadsTo ps (drop (i + 1) ls) fs ends

@@ -25,7 +25,7 @@ each_length R (x ∷ xs) ys once f own =
     omega arith
 
 -- a list without repeats is no longer than one that has its elements
-once_length : {X : Type 0} (xs ys : List X) → IsOnce xs → ((x : X) → Member xs x → Member ys x) → length xs ≤ length ys
+pub once_length : {X : Type 0} (xs ys : List X) → IsOnce xs → ((x : X) → Member xs x → Member ys x) → length xs ≤ length ys
 once_length xs ys once f = each_length (λ y x. y ≡ x) xs ys once (λ x m. (x, f x m, refl)) (λ y a b _ _ _ e g. sym e ∙ g)
 
 pub not_more_and_at_most : IsLimitExact

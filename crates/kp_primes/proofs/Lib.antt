@@ -2,6 +2,7 @@ pub mod Placing
 pub mod Spreading
 pub mod Cover
 pub mod Ranging
+pub mod Rising
 pub mod Exact
 pub mod Counting
 pub mod Lengths

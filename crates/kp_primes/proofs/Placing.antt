@@ -18,7 +18,8 @@ use Rattle.kp_clauses.specs.Stored.{subsumed, are_apart}
 use Rattle.kp_clauses.proofs.Logic.{not-true-case}
 use Rattle.kp_clauses.proofs.Within.{within_member}
 use Rattle.kp_clauses.proofs.Storing.{joined_apart}
-use Rattle.kp_primes.specs.Included.{grown, met, met_all}
+use Rattle.kp_primes.proofs.Rising.{above, rises_rest}
+use Rattle.kp_primes.specs.Included.{grown, is_least, met, met_all}
 use Rattle.kp_primes.specs.Placed.{places, held, AreHolders, met_one, met_at, within_at, held_at}
 
 -- ---- one clause more
@@ -41,21 +42,10 @@ pub record IsPutFor (c : List Lit) (place : ℕ) (old new : List (List ℕ)) : T
 pub put_none : (place : ℕ) (lists : List (List ℕ)) → IsPutFor [] place lists lists
 put_none place lists = record { each = λ l. sym (append-nil (held lists (code_of l))) }
 
-above : (x : Lit) (ls : List Lit) → IsAscending (x ∷ ls) → (y : Lit) → Member ls y → code_of x < code_of y
-above x [] h y m = absurd m
-above x (z ∷ ls) h y m = elim m [
-  | inl e ↦ subst (λ (w : Lit). code_of x < code_of w) e h.0
-  | inr r ↦ let a = above z ls h.1 y r in let b = h.0 in omega arith
-]
-
 get_member : {X : Type 0} (xs : List X) (i : ℕ) (d : X) → i < length xs → Member xs (get_or xs i d)
 get_member [] i d lt = absurd (omega arith)
 get_member (x ∷ xs) zero d lt = inl refl
 get_member (x ∷ xs) (suc i) d lt = inr (get_member xs i d (omega arith))
-
-rises_rest : (x : Lit) (ls : List Lit) → IsAscending (x ∷ ls) → IsAscending ls
-rises_rest x [] h = tt
-rises_rest x (y ∷ ls) h = h.1
 
 -- no literal stands twice
 not_before : (c : List Lit) → IsAscending c → (i : ℕ) (d : Lit) → i < length c → has (take i c) (get_or c i d) ≡ false
@@ -133,24 +123,24 @@ length_last : {X : Type 0} (xs : List X) (x : X) → length (xs ++ x ∷ []) ≡
 length_last [] x = refl
 length_last (y ∷ xs) x = let i = length_last xs x in omega arith
 
-module _ (ps : List (List Lit)) (e : List Lit) (l : Lit) where
-  from_here : (before rest fs : List (List Lit)) → before ++ rest ≡ ps → met_at ps e l (places (negated l) (length before) rest) fs ≡ met_all ps e l rest fs
+module _ (ps es : List (List Lit)) (e : List Lit) (l : Lit) where
+  from_here : (before rest fs : List (List Lit)) → before ++ rest ≡ ps → met_at ps es e l (places (negated l) (length before) rest) fs ≡ met_all ps es e l rest fs
   from_here before [] fs h = refl
   from_here before (p ∷ rest) fs h =
       go (has p (negated l)) refl (λ gs.
-      subst (λ z. met_at ps e l (places (negated l) z rest) gs ≡ met_all ps e l rest gs) (length_last before p)
+      subst (λ z. met_at ps es e l (places (negated l) z rest) gs ≡ met_all ps es e l rest gs) (length_last before p)
       (from_here (before ++ p ∷ []) rest gs (append_assoc before (p ∷ []) rest ∙ h)))
     where
       there : slice_get ps (length before) ≡ Some p
       there = subst (λ z. slice_get z (length before) ≡ Some p) h (behind before rest p)
 
-      go : (b : Bool) → has p (negated l) ≡ b → ((gs : List (List Lit)) → met_at ps e l (places (negated l) (length before + 1) rest) gs ≡ met_all ps e l rest gs) → met_at ps e l (cond b (length before ∷ places (negated l) (length before + 1) rest) (places (negated l) (length before + 1) rest)) fs ≡ met_all ps e l rest (met ps e l p fs)
-      go true is next = ap (λ o. met_at ps e l (places (negated l) (length before + 1) rest) (met_one ps e l o fs)) there ∙ next (met ps e l p fs)
-      go false is next = next fs ∙ ap (met_all ps e l rest) (sym (ap (λ b. cond (b && not (is_tautology (resolved e p l) || subsumed ps (resolved e p l))) (grown fs (resolved e p l)) fs) is))
+      go : (b : Bool) → has p (negated l) ≡ b → ((gs : List (List Lit)) → met_at ps es e l (places (negated l) (length before + 1) rest) gs ≡ met_all ps es e l rest gs) → met_at ps es e l (cond b (length before ∷ places (negated l) (length before + 1) rest) (places (negated l) (length before + 1) rest)) fs ≡ met_all ps es e l rest (met ps es e l p fs)
+      go true is next = ap (λ o. met_at ps es e l (places (negated l) (length before + 1) rest) (met_one ps es e l o fs)) there ∙ next (met ps es e l p fs)
+      go false is next = next fs ∙ ap (met_all ps es e l rest) (sym (ap (λ b. cond (b && is_least ps es l (resolved e p l)) (grown fs (resolved e p l)) fs) is))
 
   -- resolving with the clauses that have the negation is resolving with all
-  pub met_places : (fs : List (List Lit)) (at : List ℕ) → at ≡ places (negated l) 0 ps → met_at ps e l at fs ≡ met_all ps e l ps fs
-  met_places fs at is = ap (λ z. met_at ps e l z fs) is ∙ from_here [] ps fs refl
+  pub met_places : (fs : List (List Lit)) (at : List ℕ) → at ≡ places (negated l) 0 ps → met_at ps es e l at fs ≡ met_all ps es e l ps fs
+  met_places fs at is = ap (λ z. met_at ps es e l z fs) is ∙ from_here [] ps fs refl
 
 -- ---- what holds a clause
 

@@ -26,7 +26,7 @@ module _ (t : Lit → Bool) where
       ])
 
   stepped_passes : (ps : List (List Lit)) (l : Lit) (es : List (List Lit)) → AllPass ps → AllPass es → AllPass (stepped ps l es)
-  stepped_passes ps l es hp he = stepped_keeps ps l (λ c. list_all t c ≡ true) es (λ e p in-e _ in-p _ _ _. resolved_passes e p l (he e in-e) (hp p in-p)) he
+  stepped_passes ps l es hp he = stepped_keeps ps l (λ c. list_all t c ≡ true) es (λ e p in-e in-p _. resolved_passes e p l (he e in-e) (hp p in-p)) he
 
   walked_passes : (ps : List (List Lit)) (ls : List Lit) (es : List (List Lit)) → AllPass ps → AllPass es → AllPass (walked ps ls es)
   walked_passes ps [] es hp he = he

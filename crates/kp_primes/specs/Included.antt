@@ -1,5 +1,6 @@
 -- Clauses that are put one after another into a store of prime implicates. This file serves proofs alone.
 use Rattle.std.specs.Prelude.{◌≡◌, ℕ, Bool, true, false, not, ◌||◌, ◌&&◌, cond, List, [], ◌∷◌, ◌++◌, ◌≤◌, ◌<◌, take, length}
+use Rattle.std.specs.List.{list_any}
 use Rattle.kp_base.specs.declared.lit.Lit.{Lit}
 use Rattle.kp_base.specs.declared.lit.AtomId.{AtomId}
 use Rattle.kp_base.specs.declared.refused.Stop.{Stop}
@@ -13,7 +14,7 @@ use Rattle.kp_base.specs.Lit.{negated, negative}
 use Rattle.kp_base.specs.LitSet.{IsAscending}
 use Rattle.kp_base.specs.Steps.{has}
 use Rattle.kp_base.specs.Implicates.{is_within, is_tautology}
-use Rattle.kp_clauses.specs.Resolved.{resolved}
+use Rattle.kp_clauses.specs.Resolved.{exchanged, resolved}
 use Rattle.kp_clauses.specs.Stored.{subsumed, with_all, are_apart}
 
 -- ---- one clause
@@ -22,23 +23,31 @@ use Rattle.kp_clauses.specs.Stored.{subsumed, with_all, are_apart}
 abbrev pub grown : List (List Lit) → List Lit → List (List Lit)
 grown fs c = cond (subsumed fs c) fs (fs ++ c ∷ [])
 
+-- a literal of a clause may be left out: with l in its place a new clause is within it, and with l's negation a prime implicate
+abbrev pub is_spare : List (List Lit) → List (List Lit) → Lit → List Lit → Lit → Bool
+is_spare ps es l c x = subsumed es (exchanged c x l) && subsumed ps (exchanged c x (negated l))
+
+-- a resolvent on l is kept: it is no tautology, lacks l, no prime implicate is within it, and no literal of it may be left out
+abbrev pub is_least : List (List Lit) → List (List Lit) → Lit → List Lit → Bool
+is_least ps es l c = not (is_tautology c || (has c l || (subsumed ps c || list_any (is_spare ps es l c) c)))
+
 -- a new clause is resolved with a prime implicate that has the literal's negation
-abbrev pub met : List (List Lit) → List Lit → Lit → List Lit → List (List Lit) → List (List Lit)
-met ps e l p fs = cond (has p (negated l) && not (is_tautology (resolved e p l) || subsumed ps (resolved e p l))) (grown fs (resolved e p l)) fs
+abbrev pub met : List (List Lit) → List (List Lit) → List Lit → Lit → List Lit → List (List Lit) → List (List Lit)
+met ps es e l p fs = cond (has p (negated l) && is_least ps es l (resolved e p l)) (grown fs (resolved e p l)) fs
 
 -- and with each of these
-abbrev pub met_all : List (List Lit) → List Lit → Lit → List (List Lit) → List (List Lit) → List (List Lit)
-met_all ps e l [] fs = fs
-met_all ps e l (p ∷ rest) fs = met_all ps e l rest (met ps e l p fs)
+abbrev pub met_all : List (List Lit) → List (List Lit) → List Lit → Lit → List (List Lit) → List (List Lit) → List (List Lit)
+met_all ps es e l [] fs = fs
+met_all ps es e l (p ∷ rest) fs = met_all ps es e l rest (met ps es e l p fs)
 
--- each new clause that has the literal with each prime implicate
-abbrev pub spread : List (List Lit) → Lit → List (List Lit) → List (List Lit) → List (List Lit)
-spread ps l [] fs = fs
-spread ps l (e ∷ es) fs = spread ps l es (cond (has e l) (met_all ps e l ps fs) fs)
+-- each of these clauses that has the literal with each prime implicate
+abbrev pub spread : List (List Lit) → List (List Lit) → Lit → List (List Lit) → List (List Lit) → List (List Lit)
+spread ps es l [] fs = fs
+spread ps es l (e ∷ rest) fs = spread ps es l rest (cond (has e l) (met_all ps es e l ps fs) fs)
 
 -- the new clauses, resolved on a literal
 abbrev pub stepped : List (List Lit) → Lit → List (List Lit) → List (List Lit)
-stepped ps l es = with_all es (spread ps l es [])
+stepped ps l es = with_all es (spread ps es l es [])
 
 -- literal by literal
 abbrev pub walked : List (List Lit) → List Lit → List (List Lit) → List (List Lit)
@@ -67,6 +76,16 @@ Enters ps c limit qs entries.Over = limit < length (included ps c)
 abbrev pub Walks : List (List Lit) → List Lit → List (List Lit) → ℕ → List (List Lit) → Entry → Type 0
 Walks ps ls es limit fs entries.In = fs ≡ walked ps ls es
 Walks ps ls es limit fs entries.Over = limit < length (with_all ps (walked ps ls es))
+
+-- what became of new clauses that were resolved on a literal: what came of it was put behind, or there are more than the limit
+abbrev pub Spreads : List (List Lit) → List (List Lit) → Lit → ℕ → List (List Lit) → List (List Lit) → Entry → Type 0
+Spreads ps es l limit fs gs entries.In = gs ≡ spread ps es l es fs
+Spreads ps es l limit fs gs entries.Over = limit < length (spread ps es l es fs)
+
+-- or was put in
+abbrev pub Steps : List (List Lit) → Lit → List (List Lit) → ℕ → List (List Lit) → Entry → Type 0
+Steps ps l es limit fs entries.In = fs ≡ stepped ps l es
+Steps ps l es limit fs entries.Over = limit < length (stepped ps l es)
 
 -- whether a store is within the limit
 abbrev pub Counts : List (List Lit) → ℕ → Entry → Type 0

@@ -21,14 +21,14 @@ pub record AreHolders (lists : List (List ℕ)) (cs : List (List Lit)) : Type 0 
   pub each : (l : Lit) → held lists (code_of l) ≡ places l 0 cs
 
 -- a new clause is resolved with the prime implicate at a place
-abbrev pub met_one : List (List Lit) → List Lit → Lit → Option (List Lit) → List (List Lit) → List (List Lit)
-met_one ps e l None fs = fs
-met_one ps e l (Some p) fs = met ps e l p fs
+abbrev pub met_one : List (List Lit) → List (List Lit) → List Lit → Lit → Option (List Lit) → List (List Lit) → List (List Lit)
+met_one ps es e l None fs = fs
+met_one ps es e l (Some p) fs = met ps es e l p fs
 
 -- and with those at these places
-abbrev pub met_at : List (List Lit) → List Lit → Lit → List ℕ → List (List Lit) → List (List Lit)
-met_at ps e l [] fs = fs
-met_at ps e l (i ∷ rest) fs = met_at ps e l rest (met_one ps e l (slice_get ps i) fs)
+abbrev pub met_at : List (List Lit) → List (List Lit) → List Lit → Lit → List ℕ → List (List Lit) → List (List Lit)
+met_at ps es e l [] fs = fs
+met_at ps es e l (i ∷ rest) fs = met_at ps es e l rest (met_one ps es e l (slice_get ps i) fs)
 
 -- a clause is within the one at a place
 abbrev pub within_at : List Lit → Option (List Lit) → Bool

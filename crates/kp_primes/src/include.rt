@@ -1,25 +1,77 @@
 ghost use Rattle.std.specs.Prelude.{◌≡◌, true, false, cond, List, [], ◌∷◌, ◌++◌, slice_get, OnOk, IfOk};
+ghost use Rattle.std.specs.List.{list_any};
 ghost use Rattle.kp_base.specs.LitSet.{IsAscending};
+ghost use Rattle.kp_base.specs.Steps.{has};
+ghost use Rattle.kp_base.specs.Implicates.{is_tautology};
 ghost use Rattle.kp_base.specs.declared.lit.Lit.{Lit as Literal};
 ghost use Rattle.kp_base.specs.Lists.{Member};
 ghost use Rattle.kp_base.specs.Lit.{negated};
 ghost use Rattle.kp_clauses.specs.Stored.{subsumed, with_all, are_apart};
 ghost use Rattle.kp_primes.specs.Placed.{places, met_one, met_at, AreHolders};
-ghost use Rattle.kp_primes.specs.Included.{grown, met, met_all, spread, stepped, AreNew, Counts, Walks, Enters, idle, included};
+ghost use Rattle.kp_primes.specs.Included.{grown, is_spare, is_least, met, met_all, Spreads, Steps, stepped, AreNew, Counts, Walks, Enters, idle, included};
 
 use crate::holders::{Holders, are_held};
 use kp_base::{Lit, LitSet, Memory};
-use kp_clauses::{Sieve, Store, has_lit, is_tautology, resolve};
+use kp_clauses::{Sieve, Store, exchange, has_lit, is_tautology, resolve};
 use std::alloc::Global;
 
-// Keeps a clause that no prime implicate and none that was kept is within.
-fn keep(primes: &Store, fresh: &mut Sieve, c: LitSet) -> Result<(), Memory>
-    ensures { OnOk result (fresh.new ≡ cond (subsumed primes.now c) fresh.old (grown fresh.old c)) }
+// Whether a literal of a clause may be left out: with the literal that is resolved on in its place a new clause is
+// within it, and with the negation of that a prime implicate.
+fn is_spare(
+    alloc: Global,
+    primes: &Store,
+    news: &Store,
+    lit: Lit,
+    c: &LitSet,
+    out: Lit,
+) -> Result<bool, Memory>
+    ensures { IfOk result (λ spare. spare ≡ is_spare primes.now news.now lit c.now out) }
 {
-    if primes.subsumes(&c) || fresh.subsumes(&c) {
+    let new = exchange(alloc, c, out, lit)?;
+    if !news.subsumes(&new) {
+        return Ok(false);
+    }
+    let old = exchange(alloc, c, out, lit.negated())?;
+    Ok(primes.subsumes(&old))
+}
+
+// Whether some literal of a clause may be left out.
+fn has_spare(
+    alloc: Global,
+    primes: &Store,
+    news: &Store,
+    lit: Lit,
+    c: &LitSet,
+) -> Result<bool, Memory>
+    ensures { IfOk result (λ spare. spare ≡ list_any (is_spare primes.now news.now lit c.now) c.now) }
+{
+    let lits = c.slice();
+    for x in lits {
+        if is_spare(alloc, primes, news, lit, c, *x)? {
+            return Ok(true);
+        }
+    }
+    Ok(false)
+}
+
+// Keeps a resolvent that is no tautology, unless one that was kept is within it, or a literal of it may be left out.
+fn keep(
+    alloc: Global,
+    primes: &Store,
+    news: &Store,
+    fresh: &mut Sieve,
+    c: LitSet,
+    lit: Lit,
+) -> Result<(), Memory>
+    requires { is_tautology c ≡ false }
+    ensures { OnOk result (fresh.new ≡ cond (is_least primes.now news.now lit c) (grown fresh.old c) fresh.old) }
+{
+    if fresh.subsumes(&c) || has_lit(&c, lit) || primes.subsumes(&c) {
         return Ok(());
     }
-    fresh.push(c)?;
+    if !has_spare(alloc, primes, news, lit, &c)? {
+        fresh.push(c)?;
+    }
     Ok(())
 }
 
@@ -27,16 +79,17 @@ fn keep(primes: &Store, fresh: &mut Sieve, c: LitSet) -> Result<(), Memory>
 fn meet(
     alloc: Global,
     primes: &Store,
+    news: &Store,
     fresh: &mut Sieve,
     e: &LitSet,
     p: &LitSet,
     lit: Lit,
 ) -> Result<(), Memory>
-    ensures { OnOk result (fresh.new ≡ met primes.now e.now lit p.now fresh.old) }
+    ensures { OnOk result (fresh.new ≡ met primes.now news.now e.now lit p.now fresh.old) }
 {
     if has_lit(p, lit.negated()) {
         if let Some(r) = resolve(alloc, e, p, lit)? {
-            keep(primes, fresh, r)?;
+            keep(alloc, primes, news, fresh, r, lit)?;
         }
     }
     Ok(())
@@ -46,15 +99,16 @@ fn meet(
 fn meet_one(
     alloc: Global,
     primes: &Store,
+    news: &Store,
     fresh: &mut Sieve,
     e: &LitSet,
     place: usize,
     lit: Lit,
 ) -> Result<(), Memory>
-    ensures { OnOk result (fresh.new ≡ met_one primes.now e.now lit (slice_get primes.now place) fresh.old) }
+    ensures { OnOk result (fresh.new ≡ met_one primes.now news.now e.now lit (slice_get primes.now place) fresh.old) }
 {
     match primes.clauses().slice().get(place) {
-        Some(p) => meet(alloc, primes, fresh, e, p, lit),
+        Some(p) => meet(alloc, primes, news, fresh, e, p, lit),
         None => Ok(()),
     }
 }
@@ -63,15 +117,16 @@ fn meet_one(
 fn meet_at(
     alloc: Global,
     primes: &Store,
+    news: &Store,
     fresh: &mut Sieve,
     e: &LitSet,
     at: &[usize],
     lit: Lit,
 ) -> Result<(), Memory>
-    ensures { OnOk result (fresh.new ≡ met_at primes.now e.now lit at.now fresh.old) }
+    ensures { OnOk result (fresh.new ≡ met_at primes.now news.now e.now lit at.now fresh.old) }
 {
     for place in at {
-        meet_one(alloc, primes, fresh, e, *place, lit)?;
+        meet_one(alloc, primes, news, fresh, e, *place, lit)?;
     }
     Ok(())
 }
@@ -81,53 +136,16 @@ fn meet_at(
 fn meet_all(
     alloc: Global,
     primes: &Store,
+    news: &Store,
     fresh: &mut Sieve,
     e: &LitSet,
     at: &[usize],
     lit: Lit,
 ) -> Result<(), Memory>
     requires { at.now ≡ places (negated lit) 0 primes.now }
-    ensures { OnOk result (fresh.new ≡ met_all primes.now e.now lit primes.now fresh.old) }
+    ensures { OnOk result (fresh.new ≡ met_all primes.now news.now e.now lit primes.now fresh.old) }
 {
-    meet_at(alloc, primes, fresh, e, at, lit)?;
-    Ok(())
-}
-
-// Resolves the new clauses that have a literal with all prime implicates.
-fn spread(
-    alloc: Global,
-    primes: &Store,
-    fresh: &mut Sieve,
-    news: &[LitSet],
-    at: &[usize],
-    lit: Lit,
-) -> Result<(), Memory>
-    requires { at.now ≡ places (negated lit) 0 primes.now }
-    ensures { OnOk result (fresh.new ≡ spread primes.now lit news.now fresh.old) }
-{
-    for e in news {
-        if has_lit(e, lit) {
-            meet_all(alloc, primes, fresh, e, at, lit)?;
-        }
-    }
-    Ok(())
-}
-
-// Resolves the new clauses on a literal, and puts in what is new.
-fn step(
-    alloc: Global,
-    primes: &Store,
-    holders: &Holders,
-    news: &mut Store,
-    lit: Lit,
-) -> Result<(), Memory>
-    requires { AreHolders holders.now primes.now }
-    ensures { OnOk result (news.new ≡ stepped primes.now lit news.old) }
-{
-    let at = holders.of(lit.negated());
-    let mut fresh = Sieve::new(alloc);
-    spread(alloc, primes, &mut fresh, news.clauses().slice(), at, lit)?;
-    news.add_each(fresh.into_clauses())?;
+    meet_at(alloc, primes, news, fresh, e, at, lit)?;
     Ok(())
 }
 
@@ -150,6 +168,56 @@ fn counted(store: &Store, limit: u32) -> Entry
     Entry::In
 }
 
+// Resolves the new clauses that have a literal with all prime implicates. What is kept is put in later, so it may stop
+// where that is more than the limit.
+fn spread(
+    alloc: Global,
+    primes: &Store,
+    news: &Store,
+    fresh: &mut Sieve,
+    at: &[usize],
+    lit: Lit,
+    limit: u32,
+) -> Result<Entry, Memory>
+    requires { at.now ≡ places (negated lit) 0 primes.now }
+    ensures { IfOk result (Spreads primes.now news.now lit limit fresh.old fresh.new) }
+{
+    let clauses = news.clauses().slice();
+    for e in clauses {
+        if fresh.clauses().len() > limit as usize {
+            return Ok(Entry::Over);
+        }
+        if has_lit(e, lit) {
+            meet_all(alloc, primes, news, fresh, e, at, lit)?;
+        }
+    }
+    Ok(Entry::In)
+}
+
+// Resolves the new clauses on a literal that each of them has, and puts in what is new.
+fn step(
+    alloc: Global,
+    primes: &Store,
+    holders: &Holders,
+    news: &mut Store,
+    lit: Lit,
+    limit: u32,
+) -> Result<Entry, Memory>
+    requires held { AreHolders holders.now primes.now }
+    requires there { (e : List Literal) → Member news.old e → has e lit ≡ true }
+    ensures { IfOk result (Steps primes.now lit news.old limit news.new) }
+{
+    let at = holders.of(lit.negated());
+    let mut fresh = Sieve::new(alloc);
+    let entry = spread(alloc, primes, news, &mut fresh, at, lit, limit)?;
+    match entry {
+        Entry::Over => return Ok(Entry::Over),
+        Entry::In => {}
+    }
+    news.merge(Store::from_sieve(alloc, fresh))?;
+    Ok(Entry::In)
+}
+
 // Resolves the new clauses on each of these literals in turn. Their number never falls, and in the end all of them are
 // put in; so it may stop where they are more than the limit.
 fn walk(
@@ -165,7 +233,9 @@ fn walk(
     ensures { IfOk result (Walks primes.now lits.now news.old limit news.new) }
 {
     for l in lits {
-        step(alloc, primes, holders, news, *l)?;
+        if let Entry::Over = step(alloc, primes, holders, news, *l, limit)? {
+            return Ok(Entry::Over);
+        }
         if let Entry::Over = counted(news, limit) {
             return Ok(Entry::Over);
         }
@@ -187,10 +257,11 @@ fn put_over(
     holders: &mut Holders,
     news: Store,
 ) -> Result<(), Memory>
+    requires { (c : List Literal) → Member news c → subsumed primes.old c ≡ false }
     ensures all { OnOk result (primes.new ≡ with_all primes.old news) }
     ensures held { OnOk result (AreHolders holders.new primes.new) }
 {
-    primes.add_all(news)?;
+    primes.merge(news)?;
     let mut again = Holders::new(alloc);
     again.extend(primes.clauses().slice(), 0)?;
     *holders = again;
@@ -305,8 +376,11 @@ pub fn include_unit(
         return Ok(());
     }
     let mut news = Store::new(alloc);
-    news.add(unit)?;
-    step(alloc, primes, holders, &mut news, lit)?;
+    news.add(unit.copy(alloc)?)?;
+    let mut fresh = Sieve::new(alloc);
+    let at = holders.of(lit.negated());
+    meet_all(alloc, primes, &news, &mut fresh, &unit, at, lit)?;
+    news.merge(Store::from_sieve(alloc, fresh))?;
     put_in(alloc, primes, holders, news)?;
     Ok(())
 }
