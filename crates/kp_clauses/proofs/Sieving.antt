@@ -12,7 +12,8 @@ use Rattle.kp_base.specs.Implicates.{is_within}
 use Rattle.kp_base.proofs.Lists.{bool_same, any_member, any_from, member_at, member_left, member_right, append_member, member_map, map_member}
 use Rattle.kp_clauses.specs.declared.sieve.Spot.{Spot}
 use Rattle.kp_clauses.specs.Stored.{subsumed}
-use Rattle.kp_clauses.specs.Sieved.{IsMark, key_of, keys, row, stands_within, tried, IsListed, AreListed, AreKept}
+use Rattle.kp_clauses.specs.Sieved.{IsMark, key_of, keys, stands_within, tried, IsListed, AreListed, AreKept}
+use Rattle.kp_clauses.specs.Listed.{row}
 use Rattle.kp_clauses.proofs.Within.{within_member}
 
 -- ---- marks

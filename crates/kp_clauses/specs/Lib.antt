@@ -1,3 +1,4 @@
+pub mod Listed
 pub mod Resolved
 pub mod Saturated
 pub mod Sieved

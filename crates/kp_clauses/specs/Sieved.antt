@@ -1,11 +1,12 @@
 -- Lists of the places of clauses, by one literal of each. This file serves proofs alone.
-use Rattle.std.specs.Prelude.{◌≡◌, ◌+◌, ◌%◌, ℕ, Bool, true, false, ◌&&◌, List, [], ◌∷◌, Option, None, Some, map, get_or, slice_get, nat_eq}
+use Rattle.std.specs.Prelude.{◌≡◌, ◌+◌, ◌%◌, ℕ, Bool, true, false, ◌&&◌, List, [], ◌∷◌, Option, None, Some, map, slice_get, nat_eq}
 use Rattle.std.specs.Int.{bit_at}
 use Rattle.std.specs.Int.RustNames.{bit_or}
 use Rattle.kp_base.specs.declared.lit.Lit.{Lit}
 use Rattle.kp_base.specs.Lists.{Member}
 use Rattle.kp_base.specs.Lit.{code_of}
 use Rattle.kp_base.specs.Implicates.{is_within}
+use Rattle.kp_clauses.specs.Listed.{row}
 use Rattle.kp_clauses.specs.declared.sieve.Spot.{Spot}
 
 -- a word has the bits of the literals' codes and no others
@@ -20,10 +21,6 @@ key_of l = code_of l % 4096 + 1
 -- the lists where a clause may be: that of each literal, and the first, which is for the empty clause
 abbrev pub keys : List Lit → List ℕ
 keys c = 0 ∷ map key_of c
-
--- a list by its number
-abbrev pub row : List (List Spot) → ℕ → List Spot
-row lists k = get_or lists k []
 
 -- the clause at a place is within this one
 abbrev pub stands_within : Option (List Lit) → List Lit → Bool

@@ -4,12 +4,14 @@
 
 mod clause;
 mod laws;
+mod lists;
 mod mark;
 mod sieve;
 mod store;
 
 pub use clause::{exchange, has_lit, is_tautology, resolve, resolvent, subsumes};
 pub use laws::saturated_clauses_are_the_prime_implicates;
+pub use lists::{list, make_lists};
 pub use sieve::Sieve;
 pub use store::{Added, Store};
 

@@ -2,9 +2,11 @@ ghost use Rattle.std.specs.Prelude.{◌≡◌, ◌⊎◌, ◌<◌, ◌+◌, ◌�
 ghost use Rattle.std.specs.List.{list_any};
 ghost use Rattle.kp_base.specs.Lists.{Member};
 ghost use Rattle.kp_clauses.specs.Stored.{subsumed};
-ghost use Rattle.kp_clauses.specs.Sieved.{key_of, keys, row, stands_within, tried, AreKept};
+ghost use Rattle.kp_clauses.specs.Sieved.{key_of, keys, stands_within, tried, AreKept};
+ghost use Rattle.kp_clauses.specs.Listed.{row};
 
 use crate::clause::subsumes;
+use crate::lists::{list, make_lists};
 use crate::mark::{mark, marks_within};
 use kp_base::{Lit, LitSet, Memory, Row};
 use std::alloc::Global;
@@ -97,16 +99,6 @@ fn key(lit: Lit) -> usize
     (lit.code() % 4096) as usize + 1
 }
 
-// A list by its number.
-fn list(lists: &[Row<Spot>], key: usize) -> &[Spot]
-    ensures { result.now ≡ row lists.now key }
-{
-    match lists.get(key) {
-        Some(spots) => spots.slice(),
-        None => &[],
-    }
-}
-
 // Whether a clause stands at the place, and is within this one.
 fn stands(clauses: &[LitSet], place: usize, c: &LitSet) -> bool
     ensures { result ≡ stands_within (slice_get clauses.now place) c.now }
@@ -162,18 +154,6 @@ fn choose(lists: &[Row<Spot>], c: &LitSet) -> usize
         best = shorter(lists, best, key(*l));
     }
     best
-}
-
-// Makes as many lists as there must be for this number.
-fn make_lists(alloc: Global, lists: &mut Vec<Row<Spot>>, key: usize) -> Result<(), Memory>
-    requires { key < 4097 }
-    ensures same { (k : ℕ) → row lists.new.items k ≡ row lists.old.items k }
-    ensures there { OnOk result (key < length lists.new.items) }
-{
-    for _ in lists.len()..key + 1 {
-        lists.push(Row::new(alloc))?;
-    }
-    Ok(())
 }
 
 // Puts a spot into a list.

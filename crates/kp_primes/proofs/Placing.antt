@@ -20,7 +20,8 @@ use Rattle.kp_clauses.proofs.Within.{within_member}
 use Rattle.kp_clauses.proofs.Storing.{joined_apart}
 use Rattle.kp_primes.proofs.Rising.{above, rises_rest}
 use Rattle.kp_primes.specs.Included.{grown, is_least, met, met_all}
-use Rattle.kp_primes.specs.Placed.{places, held, AreHolders, met_one, met_at, within_at, held_at}
+use Rattle.kp_clauses.specs.Listed.{row}
+use Rattle.kp_primes.specs.Placed.{places, AreHolders, met_one, met_at, within_at, held_at}
 
 -- ---- one clause more
 
@@ -37,10 +38,10 @@ places_more l i (d ∷ cs) c = go (has d l) (places_more l (i + 1) cs c ∙ ap (
 
 -- a place is put at the end of the lists of these literals
 pub record IsPutFor (c : List Lit) (place : ℕ) (old new : List (List ℕ)) : Type 0 where
-  pub each : (l : Lit) → held new (code_of l) ≡ held old (code_of l) ++ cond (has c l) (place ∷ []) []
+  pub each : (l : Lit) → row new (code_of l) ≡ row old (code_of l) ++ cond (has c l) (place ∷ []) []
 
 pub put_none : (place : ℕ) (lists : List (List ℕ)) → IsPutFor [] place lists lists
-put_none place lists = record { each = λ l. sym (append-nil (held lists (code_of l))) }
+put_none place lists = record { each = λ l. sym (append-nil (row lists (code_of l))) }
 
 get_member : {X : Type 0} (xs : List X) (i : ℕ) (d : X) → i < length xs → Member xs (get_or xs i d)
 get_member [] i d lt = absurd (omega arith)
@@ -60,7 +61,7 @@ not_before (x ∷ c) asc (suc i) d lt = rw (not-true-case (same_lit (get_or c i 
         omega arith
 
 module _ (c : List Lit) (i : ℕ) (d : Lit) (place : ℕ) (old lists new : List (List ℕ)) where
-  pub put_more : IsAscending c → i < length c → held new (code_of (get_or c i d)) ≡ held lists (code_of (get_or c i d)) ++ place ∷ [] → ((k : ℕ) → k ≢ code_of (get_or c i d) → held new k ≡ held lists k) → IsPutFor (take i c) place old lists → IsPutFor (take (i + 1) c) place old new
+  pub put_more : IsAscending c → i < length c → row new (code_of (get_or c i d)) ≡ row lists (code_of (get_or c i d)) ++ place ∷ [] → ((k : ℕ) → k ≢ code_of (get_or c i d) → row new k ≡ row lists k) → IsPutFor (take i c) place old lists → IsPutFor (take (i + 1) c) place old new
   put_more asc lt own others h = record { each = λ l. elim (cases_eq (code_of l) (code_of (get_or c i d))) [ inl e ↦ here l (code_of-injective l (get_or c i d) e) | inr ne ↦ there l ne ] }
     where
       x : Lit
@@ -69,27 +70,27 @@ module _ (c : List Lit) (i : ℕ) (d : Lit) (place : ℕ) (old lists new : List 
       grown : (l : Lit) → has (take (i + 1) c) l ≡ (has (take i c) l || (same_lit l x || false))
       grown l = ap (λ z. has z l) (take_more c i d lt) ∙ list_any-append (same_lit l) (take i c) (x ∷ [])
 
-      own_place : held new (code_of x) ≡ held old (code_of x) ++ place ∷ []
+      own_place : row new (code_of x) ≡ row old (code_of x) ++ place ∷ []
       own_place =
           own
-          ∙ (ap (λ z. z ++ place ∷ []) (h.each x ∙ ap (λ b. held old (code_of x) ++ cond b (place ∷ []) []) (not_before c asc i d lt))
-          ∙ append_assoc (held old (code_of x)) [] (place ∷ []))
+          ∙ (ap (λ z. z ++ place ∷ []) (h.each x ∙ ap (λ b. row old (code_of x) ++ cond b (place ∷ []) []) (not_before c asc i d lt))
+          ∙ append_assoc (row old (code_of x)) [] (place ∷ []))
 
       has_x : has (take (i + 1) c) x ≡ true
       has_x = grown x ∙ rw (not_before c asc i d lt, same_lit-refl x) refl
 
-      here : (l : Lit) → l ≡ x → held new (code_of l) ≡ held old (code_of l) ++ cond (has (take (i + 1) c) l) (place ∷ []) []
-      here l e = subst (λ (l : Lit). held new (code_of l) ≡ held old (code_of l) ++ cond (has (take (i + 1) c) l) (place ∷ []) []) (sym e) (own_place ∙ ap (λ b. held old (code_of x) ++ cond b (place ∷ []) []) (sym has_x))
+      here : (l : Lit) → l ≡ x → row new (code_of l) ≡ row old (code_of l) ++ cond (has (take (i + 1) c) l) (place ∷ []) []
+      here l e = subst (λ (l : Lit). row new (code_of l) ≡ row old (code_of l) ++ cond (has (take (i + 1) c) l) (place ∷ []) []) (sym e) (own_place ∙ ap (λ b. row old (code_of x) ++ cond b (place ∷ []) []) (sym has_x))
 
       or_none : (b : Bool) → (b || (false || false)) ≡ b
       or_none true = refl
       or_none false = refl
 
-      there : (l : Lit) → code_of l ≢ code_of x → held new (code_of l) ≡ held old (code_of l) ++ cond (has (take (i + 1) c) l) (place ∷ []) []
+      there : (l : Lit) → code_of l ≢ code_of x → row new (code_of l) ≡ row old (code_of l) ++ cond (has (take (i + 1) c) l) (place ∷ []) []
       there l ne =
           let apart = not-true-case (same_lit l x) (λ e. ne (ap code_of (same_lit-true l x e))) in
           others (code_of l) ne
-          ∙ (h.each l ∙ ap (λ b. held old (code_of l) ++ cond b (place ∷ []) []) (sym (grown l ∙ rw apart (or_none (has (take i c) l)))))
+          ∙ (h.each l ∙ ap (λ b. row old (code_of l) ++ cond b (place ∷ []) []) (sym (grown l ∙ rw apart (or_none (has (take i c) l)))))
 
 pub holders_none : AreHolders [] []
 holders_none = record { each = λ l. refl }
@@ -106,11 +107,11 @@ holders_more cs i x old new lt is put h = record {
 
 -- ---- one list is written
 
-module _ (old lists : List (List ℕ)) (k : ℕ) (d : List ℕ) (p : ℕ) (was is : List ℕ) (same : (j : ℕ) → held lists j ≡ held old j) where
-  pub put_own : k < length lists → was ≡ get_or lists k d → is ≡ was ++ p ∷ [] → held (set lists k is) k ≡ held old k ++ p ∷ []
+module _ (old lists : List (List ℕ)) (k : ℕ) (d : List ℕ) (p : ℕ) (was is : List ℕ) (same : (j : ℕ) → row lists j ≡ row old j) where
+  pub put_own : k < length lists → was ≡ get_or lists k d → is ≡ was ++ p ∷ [] → row (set lists k is) k ≡ row old k ++ p ∷ []
   put_own lt read put = get_or-set_same lists k is [] lt ∙ (put ∙ ap (λ xs. xs ++ p ∷ []) (read ∙ get_or_default lists k d [] lt ∙ same k))
 
-  pub put_other : (j : ℕ) → j ≢ k → held (set lists k is) j ≡ held old j
+  pub put_other : (j : ℕ) → j ≢ k → row (set lists k is) j ≡ row old j
   put_other j ne = get_or-set_other lists k j is [] ne ∙ same j
 
 -- ---- the clauses there
@@ -169,7 +170,7 @@ pub not_held : (cs : List (List Lit)) (lists : List (List ℕ)) (c : List Lit) �
 not_held cs lists [] h none p m = absurd (false≢true (sym none))
 not_held cs lists (l ∷ c) h none p m = not-true-case (is_within (l ∷ c) p) (λ inside.
     let at = placed l 0 cs p m (has-member p l (within_member (l ∷ c) p inside l (inl refl))) in
-    false≢true (sym none ∙ any_from (λ i. within_at (l ∷ c) (slice_get cs i)) (held lists (code_of l)) at.0 (subst (λ z. Member z at.0) (sym (h.each l)) (subst (Member (places l 0 cs)) (from_zero at.0) at.1)) (ap (within_at (l ∷ c)) at.2 ∙ inside)))
+    false≢true (sym none ∙ any_from (λ i. within_at (l ∷ c) (slice_get cs i)) (row lists (code_of l)) at.0 (subst (λ z. Member z at.0) (sym (h.each l)) (subst (Member (places l 0 cs)) (from_zero at.0) at.1)) (ap (within_at (l ∷ c)) at.2 ∙ inside)))
 
 -- new clauses that none holds come behind
 pub behind_apart : (ps es : List (List Lit)) (lists : List (List ℕ)) → are_apart ps ≡ true → are_apart es ≡ true → AreHolders lists ps → ((c : List Lit) → Member es c → subsumed ps c ≡ false) → list_any (λ c. held_at ps lists c (slice_get c 0)) es ≡ false → are_apart (ps ++ es) ≡ true

@@ -1,10 +1,11 @@
 -- The places of the clauses that have a literal. This file serves proofs alone.
-use Rattle.std.specs.Prelude.{◌≡◌, ◌+◌, ℕ, Bool, true, false, cond, List, [], ◌∷◌, Option, None, Some, get_or, slice_get}
+use Rattle.std.specs.Prelude.{◌≡◌, ◌+◌, ℕ, Bool, true, false, cond, List, [], ◌∷◌, Option, None, Some, slice_get}
 use Rattle.std.specs.List.{list_any}
 use Rattle.kp_base.specs.declared.lit.Lit.{Lit}
 use Rattle.kp_base.specs.Lit.{code_of}
 use Rattle.kp_base.specs.Steps.{has}
 use Rattle.kp_base.specs.Implicates.{is_within}
+use Rattle.kp_clauses.specs.Listed.{row}
 use Rattle.kp_primes.specs.Included.{met}
 
 -- counted from i
@@ -12,13 +13,9 @@ abbrev pub places : Lit → ℕ → List (List Lit) → List ℕ
 places l i [] = []
 places l i (c ∷ cs) = cond (has c l) (i ∷ places l (i + 1) cs) (places l (i + 1) cs)
 
--- a list by its number
-abbrev pub held : List (List ℕ) → ℕ → List ℕ
-held lists k = get_or lists k []
-
 -- for each literal, in the list of its code, the places of the clauses that have it
 pub record AreHolders (lists : List (List ℕ)) (cs : List (List Lit)) : Type 0 where
-  pub each : (l : Lit) → held lists (code_of l) ≡ places l 0 cs
+  pub each : (l : Lit) → row lists (code_of l) ≡ places l 0 cs
 
 -- a new clause is resolved with the prime implicate at a place
 abbrev pub met_one : List (List Lit) → List (List Lit) → List Lit → Lit → Option (List Lit) → List (List Lit) → List (List Lit)
@@ -38,4 +35,4 @@ within_at c (Some p) = is_within c p
 -- it is within one of those that have this first literal; the empty clause is within each
 abbrev pub held_at : List (List Lit) → List (List ℕ) → List Lit → Option Lit → Bool
 held_at cs lists c None = true
-held_at cs lists c (Some l) = list_any (λ i. within_at c (slice_get cs i)) (held lists (code_of l))
+held_at cs lists c (Some l) = list_any (λ i. within_at c (slice_get cs i)) (row lists (code_of l))

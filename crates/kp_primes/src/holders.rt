@@ -3,10 +3,11 @@ ghost use Rattle.std.specs.List.{list_any};
 ghost use Rattle.kp_base.specs.declared.lit.Lit.{Lit as Literal};
 ghost use Rattle.kp_base.specs.Lit.{code_of};
 ghost use Rattle.kp_base.specs.Steps.{has};
-ghost use Rattle.kp_primes.specs.Placed.{held, within_at, held_at, AreHolders};
+ghost use Rattle.kp_clauses.specs.Listed.{row};
+ghost use Rattle.kp_primes.specs.Placed.{within_at, held_at, AreHolders};
 
 use kp_base::{Lit, LitSet, Memory, Row};
-use kp_clauses::subsumes;
+use kp_clauses::{list, make_lists, subsumes};
 use std::alloc::Global;
 use std::marker::Model;
 
@@ -38,12 +39,9 @@ impl Holders {
 
     /// The places of the clauses that have the literal.
     pub fn of(&self, lit: Lit) -> &[usize]
-        ensures { result.now ≡ held self.now (code_of lit) }
+        ensures { result.now ≡ row self.now (code_of lit) }
     {
-        match self.lists.get(lit.code() as usize) {
-            Some(places) => places.slice(),
-            None => &[],
-        }
+        list(&self.lists, lit.code() as usize)
     }
 
     /// Lists the clauses from a place on.
@@ -60,7 +58,7 @@ impl Holders {
 
     // Puts a clause's place into the lists of its literals.
     fn push(&mut self, c: &LitSet, place: usize) -> Result<(), Memory>
-        ensures { OnOk result ((l : Literal) → held self.new (code_of l) ≡ held self.old (code_of l) ++ cond (has c.now l) (place ∷ []) []) }
+        ensures { OnOk result ((l : Literal) → row self.new (code_of l) ≡ row self.old (code_of l) ++ cond (has c.now l) (place ∷ []) []) }
     {
         let lits = c.slice();
         for l in lits {
@@ -70,22 +68,10 @@ impl Holders {
     }
 }
 
-// Makes as many lists as there must be for this number.
-fn make_lists(alloc: Global, lists: &mut Vec<Row<usize>>, code: usize) -> Result<(), Memory>
-    requires { code < 8589934592 }
-    ensures same { (k : ℕ) → held lists.new.items k ≡ held lists.old.items k }
-    ensures there { OnOk result (code < length lists.new.items) }
-{
-    for _ in lists.len()..code + 1 {
-        lists.push(Row::new(alloc))?;
-    }
-    Ok(())
-}
-
 // Puts a place into the list of a literal.
 fn note(alloc: Global, lists: &mut Vec<Row<usize>>, lit: Lit, place: usize) -> Result<(), Memory>
-    ensures own { OnOk result (held lists.new.items (code_of lit) ≡ held lists.old.items (code_of lit) ++ place ∷ []) }
-    ensures others { OnOk result ((k : ℕ) → k ≢ code_of lit → held lists.new.items k ≡ held lists.old.items k) }
+    ensures own { OnOk result (row lists.new.items (code_of lit) ≡ row lists.old.items (code_of lit) ++ place ∷ []) }
+    ensures others { OnOk result ((k : ℕ) → k ≢ code_of lit → row lists.new.items k ≡ row lists.old.items k) }
 {
     let code = lit.code() as usize;
     make_lists(alloc, lists, code)?;
