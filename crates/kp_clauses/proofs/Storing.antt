@@ -7,7 +7,7 @@ use Rattle.std.specs.List.{list_any, list_all}
 use Rattle.kp_base.specs.declared.lit.Lit.{Lit}
 use Rattle.kp_base.specs.Lists.{Member}
 use Rattle.kp_base.specs.Implicates.{is_within}
-use Rattle.kp_base.proofs.Lists.{any_member, any_from, all_from, all_member, append_member, filter_member, member_filter, member_left, member_right, bool_same}
+use Rattle.kp_base.proofs.Lists.{any_member, any_from, all_from, all_member, append_member, filter_member, member_filter, member_left}
 use Rattle.kp_clauses.specs.Stored.{subsumed, replaced, with_clause, with_all, are_apart}
 use Rattle.kp_clauses.proofs.Logic.{not-true-case}
 use Rattle.kp_clauses.proofs.Within.{within_trans}

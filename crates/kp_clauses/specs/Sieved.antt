@@ -1,5 +1,5 @@
 -- Lists of the places of clauses, by one literal of each. This file serves proofs alone.
-use Rattle.std.specs.Prelude.{◌≡◌, ◌+◌, ◌%◌, ℕ, Bool, true, false, ◌&&◌, List, [], ◌∷◌, Option, None, Some, map, slice_get, nat_eq}
+use Rattle.std.specs.Prelude.{◌≡◌, ◌+◌, ◌%◌, ℕ, Bool, false, ◌&&◌, List, ◌∷◌, Option, None, Some, map, slice_get, nat_eq}
 use Rattle.std.specs.Int.{bit_at}
 use Rattle.std.specs.Int.RustNames.{bit_or}
 use Rattle.kp_base.specs.declared.lit.Lit.{Lit}

@@ -1,5 +1,5 @@
 -- The places of the clauses that have a literal, and what is resolved with the clauses there.
-use Rattle.std.proofs.Common.{◌≡◌, ◌≢◌, ◌<◌, ◌+◌, ℕ, zero, suc, Bool, true, false, not, ◌||◌, ◌&&◌, cond, List, [], ◌∷◌, ◌++◌, Some, refl, sym, ◌∙◌, ap, subst, inl, inr, take, length, get_or, set, slice_get, arith, get_or-set_same, get_or-set_other}
+use Rattle.std.proofs.Common.{◌≡◌, ◌≢◌, ◌<◌, ◌+◌, ℕ, zero, suc, Bool, true, false, ◌||◌, ◌&&◌, cond, List, [], ◌∷◌, ◌++◌, Some, refl, sym, ◌∙◌, ap, subst, inl, inr, take, length, get_or, set, slice_get, arith, get_or-set_same, get_or-set_other}
 use Rattle.std.proofs.lemmas.Bool.{false≢true, cases_eq}
 use Rattle.std.proofs.lemmas.List.{take_more, get_or_default, append_assoc, append-nil, length-take}
 use Rattle.std.proofs.lemmas.List.Folds.{list_any-append}
@@ -9,7 +9,7 @@ use Rattle.kp_base.specs.Lists.{Member}
 use Rattle.kp_base.specs.Lit.{negated, same_lit, code_of}
 use Rattle.kp_base.specs.LitSet.{IsAscending}
 use Rattle.kp_base.specs.Steps.{has}
-use Rattle.kp_base.specs.Implicates.{is_within, is_tautology}
+use Rattle.kp_base.specs.Implicates.{is_within}
 use Rattle.kp_base.proofs.Lists.{any_from}
 use Rattle.kp_base.proofs.Lits.{has-member, same_lit-true, same_lit-refl}
 use Rattle.kp_base.proofs.Ascending.{code_of-injective}

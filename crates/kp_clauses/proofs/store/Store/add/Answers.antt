@@ -1,4 +1,4 @@
-use Rattle.std.proofs.Common.{sym, ◌∙◌}
+use Rattle.std.proofs.Common.{sym}
 use Rattle.kp_clauses.proofs.Storing.{put_apart}
 use Rattle.kp_clauses.proofs.store.Store.add.Goals as goal
 
