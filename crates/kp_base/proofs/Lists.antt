@@ -1,9 +1,9 @@
 -- Members of lists, and tests over them.
-use Rattle.std.proofs.Common.{◌≡◌, ◌⊎◌, ℕ, zero, suc, Bool, true, false, not, ◌&&◌, ◌||◌, cond, if◌then◌else◌, List, [], ◌∷◌, ◌++◌, Some, map, filter, slice_get, bytes_eq, Contains, arith, refl, sym, ap, subst, ◌∙◌, inl, inr}
-use Rattle.std.proofs.lemmas.Bool.{and_parts, and_from, or_cases, or_left, or_right, false≢true}
+use Rattle.std.proofs.Common.{◌≡◌, ◌<◌, ◌≤◌, ◌+◌, ◌⊎◌, ℕ, zero, suc, Bool, true, false, not, ◌&&◌, ◌||◌, cond, if◌then◌else◌, List, [], ◌∷◌, ◌++◌, Some, map, filter, slice_get, bytes_eq, Contains, arith, refl, sym, ap, subst, ◌∙◌, inl, inr}
+use Rattle.std.proofs.lemmas.Bool.{and_parts, and_from, or_cases, or_left, or_right, false≢true, cases_lt}
 use Rattle.std.proofs.lemmas.List.{map-append}
 use Rattle.std.proofs.lemmas.Slice.Eq.{bytes_eq-Decides}
-use Rattle.std.specs.List.{list_any, list_all, flat_map}
+use Rattle.std.specs.List.{AllByRecursion, list_any, list_all, flat_map, range_with_len}
 use Rattle.kp_base.specs.Lists.{Member}
 
 -- ---- truth values
@@ -121,6 +121,20 @@ member_at [] n x h = cc
 member_at (y ∷ ys) zero x h = inl cc
 member_at (y ∷ ys) (suc n) x h = inr (member_at ys n x h)
 
+-- where a member stands
+pub number_at : {X : Type 0} (xs : List X) (x : X) → Member xs x → (n : ℕ) × (slice_get xs n ≡ Some x)
+number_at [] x m = absurd m
+number_at (y ∷ ys) x (inl e) = (zero, ap Some e)
+number_at (y ∷ ys) x (inr m) = let r = number_at ys x m in (suc r.0, r.1)
+
+pub range_there : (a n k : ℕ) → a ≤ k → k < a + n → Member (range_with_len a n) k
+range_there a zero k le lt = absurd (omega arith)
+range_there a (suc n) k le lt =
+    elim (cases_lt a k) [
+      | inl below ↦ inr (range_there (a + 1) n k (omega arith) (omega arith))
+      | inr here ↦ inl (omega arith)
+    ]
+
 pub member_left : {X : Type 0} (xs ys : List X) (x : X) → Member xs x → Member (xs ++ ys) x
 member_left [] ys x m = absurd m
 member_left (z ∷ xs) ys x m = elim m [ inl e ↦ inl e | inr r ↦ inr (member_left xs ys x r) ]
@@ -174,6 +188,16 @@ filter_member {X} p (y ∷ ys) x m = pick (filter_member p ys x) (p y) refl m
       | inr r ↦ let h = rest r in (inr h.0, h.1)
     ]
     pick rest false is m = let h = rest m in (inr h.0, h.1)
+
+-- ---- what holds of each element
+
+pub each_append : {X : Type 0} (P : X → Type 0) (xs ys : List X) → AllByRecursion P xs → AllByRecursion P ys → AllByRecursion P (xs ++ ys)
+each_append P [] ys h g = g
+each_append P (x ∷ xs) ys h g = (h.0, each_append P xs ys h.1 g)
+
+pub each_flat_map : {X Y : Type 0} (f : X → List Y) (P : X → Type 0) (Q : Y → Type 0) → ((x : X) → P x → AllByRecursion Q (f x)) → (xs : List X) → AllByRecursion P xs → AllByRecursion Q (flat_map f xs)
+each_flat_map f P Q g [] h = tt
+each_flat_map f P Q g (x ∷ xs) h = each_append Q (f x) (flat_map f xs) (g x h.0) (each_flat_map f P Q g xs h.1)
 
 -- ---- lists that are mapped
 

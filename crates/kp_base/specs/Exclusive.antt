@@ -18,6 +18,14 @@ pub record ArePairs (atoms : ℕ) (pairs : Pairs) : Type 0 where
   pub different : (p q : ℕ) → pairs p q ≡ true → p ≢ q
   pub either_order : (p q : ℕ) → pairs p q ≡ true → pairs q p ≡ true
 
+-- each pair of the first set is in the second
+abbrev pub IsPart : Pairs → Pairs → Type 0
+IsPart some more = (p q : ℕ) → some p q ≡ true → more p q ≡ true
+
+-- in no initial state are both atoms of a pair true
+abbrev pub NeverAtTheStart : Initial → Pairs → Type 0
+NeverAtTheStart i pairs = (p q : ℕ) → pairs p q ≡ true → (s : State) → is_model i s ≡ true → (s p && s q) ≡ false
+
 -- what holds where the effect fires while the atom is true: precondition, condition and atom
 abbrev pub firing_with : Action → Effect → ℕ → List Lit
 firing_with a e q = a.pre ++ (e.cond ++ positive q ∷ [])
@@ -35,7 +43,7 @@ pub record Deletes (a : Action) (q : ℕ) (lits : List Lit) : Type 0 where
 -- and an effect that adds one, if it is compatible with the other being true, comes with a delete of the other that then fires
 pub record IsInductive (g : Ground) (i : Initial) (atoms : ℕ) (pairs : Pairs) : Type 0 where
   pub are_pairs : ArePairs atoms pairs
-  pub never_at_the_start : (p q : ℕ) → pairs p q ≡ true → (s : State) → is_model i s ≡ true → (s p && s q) ≡ false
+  pub never_at_the_start : NeverAtTheStart i pairs
   pub never_both_added : (p q : ℕ) → pairs p q ≡ true → (a : Action) (e f : Effect) → Member g.actions a → Member a.effects e → Member a.effects f → e.result ≡ positive p → f.result ≡ positive q → compatible_effects pairs a e f ≡ false
   pub other_deleted : (p q : ℕ) → pairs p q ≡ true → (a : Action) (e : Effect) → Member g.actions a → Member a.effects e → e.result ≡ positive p → are_compatible pairs (firing_with a e q) ≡ true → Deletes a q (firing_with a e q)
 

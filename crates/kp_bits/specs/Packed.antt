@@ -3,9 +3,13 @@ use Rattle.std.specs.Prelude.{◌≡◌, ◌≤◌, ◌<◌, ◌+◌, ◌*◌, �
 use Rattle.std.specs.Int.{bit_at}
 use Rattle.std.specs.List.{range_with_len}
 
--- whether bit i is set, 64 to a word
+-- bit i, 64 to a word
+abbrev pub bit_in : List ℕ → ℕ → ℕ
+bit_in ws i = bit_at (slice_index_or ws (i / 64) 0) (i % 64)
+
+-- whether it is set
 abbrev pub bit_of : List ℕ → ℕ → Bool
-bit_of ws i = nat_eq (bit_at (slice_index_or ws (i / 64) 0) (i % 64)) 1
+bit_of ws i = nat_eq (bit_in ws i) 1
 
 -- the first n bits
 abbrev pub bits_of : ℕ → List ℕ → List Bool

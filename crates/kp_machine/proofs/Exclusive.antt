@@ -6,11 +6,12 @@ use Rattle.kp_base.specs.declared.ground.Initial.{Initial}
 use Rattle.kp_base.specs.declared.refused.ClashAt.{ClashAt}
 use Rattle.kp_base.specs.Steps.{State, is_model}
 use Rattle.kp_base.specs.Clashes.{Pairs, Clashes, IsClash, IsFirstClash}
-use Rattle.kp_base.specs.Exclusive.{IsInductive, IsExclusive, AreExclusive, ClashesFirst, IsClashFree}
+use Rattle.kp_base.specs.Exclusive.{IsPart, IsInductive, IsExclusive, AreExclusive, ClashesFirst, IsClashFree}
 use Rattle.kp_base.proofs.Lists.{bool_same}
+use Rattle.kp_base.proofs.Exclusive.{compatible_under_fewer}
 use Rattle.kp_machine.specs.Laws.{ClashFreeNeverClashes}
 use Rattle.kp_machine.proofs.Inductive as inductive
-use Rattle.kp_machine.proofs.Union.{IsPart, compatible_under_fewer, union_inductive}
+use Rattle.kp_machine.proofs.Union.{union_inductive}
 
 pub never_clashes : ClashFreeNeverClashes
 never_clashes g i free = inductive.never_clashes g i (length g.atoms) free.pairs (union_inductive g i (length g.atoms) free.pairs free.exclusive) free.none

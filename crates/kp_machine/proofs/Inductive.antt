@@ -1,5 +1,5 @@
 -- No state on a run from a model has both atoms of a pair of an inductive set; where no action clashes under it, nothing clashes.
-use Rattle.std.proofs.Common.{◌≡◌, ℕ, zero, suc, Bool, true, false, not, ◌&&◌, List, [], ◌∷◌, ◌++◌, Option, Some, None, inl, inr, slice_get, refl, sym, ap, subst, ◌∙◌}
+use Rattle.std.proofs.Common.{◌≡◌, ℕ, Bool, true, false, not, ◌&&◌, List, [], ◌∷◌, ◌++◌, Option, Some, None, inl, inr, slice_get, refl, sym, ap, subst, ◌∙◌}
 use Rattle.std.proofs.lemmas.Bool.{and_parts, and_from, or_cases, false≢true, false_from_ne_true, not-true}
 use Rattle.std.specs.List.{list_all}
 use Rattle.kp_base.specs.declared.lit.Lit.{Lit}
@@ -12,19 +12,13 @@ use Rattle.kp_base.specs.Lit.{positive, negative, negated, same_lit}
 use Rattle.kp_base.specs.Steps.{State, holds, has, fires, after, next, applicable, runs, state_after}
 use Rattle.kp_base.specs.Clashes.{Pairs, clashes_at, are_exclusive, are_compatible, HasNoClash}
 use Rattle.kp_base.specs.Exclusive.{IsInductive, Deletes, firing_with}
-use Rattle.kp_base.proofs.Lists.{all_from, all_member, any_from, any_member, member_at}
+use Rattle.kp_base.proofs.Lists.{all_from, all_member, any_from, any_member, member_at, number_at}
 use Rattle.kp_base.proofs.Lits.{same_lit-true, same_lit-refl, holds-negated, member-has}
 use Rattle.kp_machine.specs.Laws.{InductivePairsStayApart, InductiveNeverClashes}
 
 -- of no pair are both atoms true in the state
 abbrev pub AreApart : Pairs → State → Type 0
 AreApart pairs s = (p q : ℕ) → pairs p q ≡ true → (s p && s q) ≡ false
-
--- where a member stands
-place : {X : Type 0} (xs : List X) (x : X) → Member xs x → (n : ℕ) × (slice_get xs n ≡ Some x)
-place [] x m = absurd m
-place (y ∷ ys) x (inl e) = (zero, ap Some e)
-place (y ∷ ys) x (inr m) = let r = place ys x m in (suc r.0, r.1)
 
 all_append : {X : Type 0} (t : X → Bool) (xs ys : List X) → list_all t xs ≡ true → list_all t ys ≡ true → list_all t (xs ++ ys) ≡ true
 all_append t [] ys h k = k
@@ -33,7 +27,7 @@ all_append t (x ∷ xs) ys h k =
     and_from (t x) (list_all t (xs ++ ys)) parts.0 (all_append t xs ys parts.1 k)
 
 -- an effect of what fires, and what it asks for
-fired : (a : Action) (s : State) (l : Lit) → fires a.effects (holds s) l ≡ true → (e : Effect) × Member a.effects e × (e.result ≡ l) × (list_all (holds s) e.cond ≡ true)
+pub fired : (a : Action) (s : State) (l : Lit) → fires a.effects (holds s) l ≡ true → (e : Effect) × Member a.effects e × (e.result ≡ l) × (list_all (holds s) e.cond ≡ true)
 fired a s l h =
     let r = any_member (λ e. same_lit e.result l && list_all (holds s) e.cond) a.effects h in
     let parts = and_parts (same_lit r.0.result l) (list_all (holds s) r.0.cond) r.2 in
@@ -125,9 +119,9 @@ one_at_most g pairs a s p apart none in-a ok h =
     let both = and_parts (fires a.effects (holds s) (positive p)) (fires a.effects (holds s) (negative p)) h in
     let add = fired a s (positive p) both.0 in
     let del = fired a s (negative p) both.1 in
-    let n = place g.actions a in-a in
-    let i = place a.effects add.0 add.1 in
-    let j = place a.effects del.0 del.1 in
+    let n = number_at g.actions a in-a in
+    let i = number_at a.effects add.0 add.1 in
+    let j = number_at a.effects del.0 del.1 in
     none n.0 p i.0 j.0 a n.1 (record {
       adding = add.0;
       deleting = del.0;

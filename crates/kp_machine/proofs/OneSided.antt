@@ -1,29 +1,20 @@
 -- For examples: where no effect of an action deletes what one of its effects adds, no step fires an add together with its delete.
-use Rattle.std.proofs.Common.{◌≡◌, ℕ, Bool, true, not, ◌&&◌, sym, ap, ap₂, ◌∙◌}
+use Rattle.std.proofs.Common.{◌≡◌, ℕ, Bool, true, not, sym, ap, ap₂, ◌∙◌}
 use Rattle.std.proofs.lemmas.Bool.{and_parts, false≢true, false_from_ne_true}
 use Rattle.std.specs.List.{list_all}
-use Rattle.kp_base.specs.declared.lit.Lit.{Lit}
-use Rattle.kp_base.specs.declared.ground.Effect.{Effect}
 use Rattle.kp_base.specs.declared.ground.Action.{Action}
 use Rattle.kp_base.specs.declared.ground.Ground.{Ground}
 use Rattle.kp_base.specs.declared.ground.Initial.{Initial}
-use Rattle.kp_base.specs.Lists.{Member}
 use Rattle.kp_base.specs.Lit.{positive, negative, negated, same_lit}
 use Rattle.kp_base.specs.Steps.{State, holds, fires}
 use Rattle.kp_base.specs.Clashes.{NeverClashes, clashes_at}
-use Rattle.kp_base.proofs.Lists.{all_member, any_member}
-use Rattle.kp_base.proofs.Lits.{same_lit-true, same_lit-refl}
+use Rattle.kp_base.proofs.Lists.{all_member}
+use Rattle.kp_base.proofs.Lits.{same_lit-refl}
+use Rattle.kp_machine.proofs.Inductive.{fired}
 
 -- no effect of the action deletes what one of its effects adds
 abbrev pub is_one_sided : Action → Bool
 is_one_sided a = list_all (λ e. list_all (λ f. not (same_lit f.result (negated e.result))) a.effects) a.effects
-
--- an effect of what fires
-pub fired : (a : Action) (s : State) (l : Lit) → fires a.effects (holds s) l ≡ true → (e : Effect) × Member a.effects e × (e.result ≡ l)
-fired a s l h =
-    let r = any_member (λ e. same_lit e.result l && list_all (holds s) e.cond) a.effects h in
-    let parts = and_parts (same_lit r.0.result l) (list_all (holds s) r.0.cond) r.2 in
-    (r.0, r.1, same_lit-true r.0.result l parts.0)
 
 one_at_most : (a : Action) (s : State) (p : ℕ) → is_one_sided a ≡ true → clashes_at a s p ≡ true → ⊥
 one_at_most a s p sided h =
