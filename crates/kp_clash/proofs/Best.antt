@@ -1,6 +1,7 @@
 -- The first clash of an action is a clash, and no clash comes before it.
 use Rattle.std.proofs.Common.{◌≡◌, ◌⊎◌, ◌<◌, ◌≤◌, ◌+◌, ℕ, suc, Bool, true, false, not, if◌then◌else◌, List, [], ◌∷◌, Option, Some, None, option_map, length, nat_lt, slice_get, inl, inr, refl, sym, ap, subst, ◌∙◌, arith}
 use Rattle.std.proofs.lemmas.Bool.{and_parts, and_from, both_ways, ltb-true, ltb-false}
+use Rattle.std.specs.List.{position_from}
 use Rattle.std.proofs.lemmas.Option.{slice_get_within}
 use Rattle.kp_base.specs.declared.lit.Lit.{Lit}
 use Rattle.kp_base.specs.declared.ground.Effect.{Effect}
@@ -9,7 +10,7 @@ use Rattle.kp_base.specs.declared.refused.ClashAt.{ClashAt}
 use Rattle.kp_base.specs.Lit.{positive, negative, negated, same_lit}
 use Rattle.kp_base.specs.Clashes.{Pairs, compatible_effects, Clashes}
 use Rattle.kp_base.proofs.Lits.{same_lit-true, same_lit-refl}
-use Rattle.kp_clash.specs.Searching.{clash_together, place_from, clash_at, found_at, keep, best_from}
+use Rattle.kp_clash.specs.Searching.{clash_together, clash_at, found_at, keep, best_from}
 use Rattle.kp_clash.proofs.Places.{IsPlace, place_found, place_none}
 
 -- the clash stands before this one, or is it
@@ -62,7 +63,7 @@ of_add pairs n a i e at = by e.result.positive refl
     same_adding : (p j : ℕ) (c : Clashes pairs a p i j) → c.adding ≡ e
     same_adding p j c = let h = c.add_at in cc
 
-    place_of : (o : Option ℕ) → place_from (clash_together pairs a e) 0 a.effects ≡ o → e.result.positive ≡ true → IsOfAdd pairs n a i (option_map (clash_at n i e) o)
+    place_of : (o : Option ℕ) → position_from (clash_together pairs a e) 0 a.effects ≡ o → e.result.positive ≡ true → IsOfAdd pairs n a i (option_map (clash_at n i e) o)
     place_of None is sign = λ p j c.
         let t = together pairs a p i j c in
         both_ways (clash_together pairs a e c.deleting) (place_none (clash_together pairs a e) 0 a.effects is j c.deleting c.delete_at) (subst (λ (x : Effect). clash_together pairs a x c.deleting ≡ true) (same_adding p j c) t.2)
@@ -88,8 +89,8 @@ of_add pairs n a i e at = by e.result.positive refl
     denied : e.result.positive ≡ false → IsOfAdd pairs n a i None
     denied is p j c = let t = together pairs a p i j c in absurd (both_ways e.result.positive is (subst (λ (x : Effect). x.result.positive ≡ true) (same_adding p j c) t.0))
 
-    by : (t : Bool) → e.result.positive ≡ t → IsOfAdd pairs n a i (if t then option_map (clash_at n i e) (place_from (clash_together pairs a e) 0 a.effects) else None)
-    by true is = place_of (place_from (clash_together pairs a e) 0 a.effects) refl is
+    by : (t : Bool) → e.result.positive ≡ t → IsOfAdd pairs n a i (if t then option_map (clash_at n i e) (position_from (clash_together pairs a e) 0 a.effects) else None)
+    by true is = place_of (position_from (clash_together pairs a e) 0 a.effects) refl is
     by false is = denied is
 
 -- ---- one add more

@@ -1,8 +1,8 @@
--- Words of atoms that are left, and of atoms that are added.
+-- Words of atoms that are added, and of atoms that are surely deleted.
 use Rattle.std.proofs.Common.{◌≡◌, ⊎_elim, ◌<◌, ◌+◌, ◌/◌, ◌%◌, ℕ, zero, suc, Bool, true, false, not, ◌&&◌, ◌||◌, List, [], ◌∷◌, ◌++◌, length, take, replicate, get_or, nat_eq, nat_lt, inl, inr, refl, sym, ap, ◌∙◌, arith}
 use Rattle.std.proofs.lemmas.Bool.{and_parts, and_from, or_cases, or_left, or_right, not-true, false≢true, false_from_ne_true, lt-ltb, eqb-true, eq-eqb, cases_lt}
 use Rattle.std.proofs.lemmas.List.{get_or-replicate, length-replicate, get_or_past}
-use Rattle.std.proofs.lemmas.List.Folds.{list_any_more, list_all_more, list_any-append}
+use Rattle.std.proofs.lemmas.List.Folds.{list_all_more, list_any-append}
 use Rattle.std.proofs.lemmas.Nat.Bits.{bit_at-lt, bit_at-zero}
 use Rattle.std.specs.Int.{bit_at}
 use Rattle.std.specs.List.{list_any}
@@ -11,40 +11,23 @@ use Rattle.kp_base.specs.declared.ground.Effect.{Effect}
 use Rattle.kp_base.specs.declared.ground.Action.{Action}
 use Rattle.kp_base.specs.Implicates.{is_within}
 use Rattle.kp_base.specs.Lists.{Member}
-use Rattle.kp_base.specs.Lit.{positive, negative, negated, same_lit, has}
-use Rattle.kp_base.specs.Clashes.{Pairs, are_exclusive, are_compatible, compatible_effects}
+use Rattle.kp_base.specs.Lit.{positive, negative, same_lit, has}
+use Rattle.kp_base.specs.Clashes.{Pairs, are_compatible, compatible_effects}
 use Rattle.kp_base.specs.Exclusive.{firing_with}
 use Rattle.kp_base.proofs.Lists.{all_member, all_weaker, any_weaker, any_from, any_member}
 use Rattle.kp_base.proofs.Lits.{same_lit-true}
+use Rattle.kp_bits.specs.Packed.{bit_in}
 use Rattle.kp_clash.specs.Searching.{may_be_deleted, is_noted, all_noted}
 use Rattle.kp_clash.specs.Settled.{deletes_within, keeps_apart}
-use Rattle.kp_clash.specs.Left.{bit_in, KeepsBits, is_added, all_added, AreDeleted, KeepsFree}
+use Rattle.kp_clash.specs.Left.{KeepsBits, is_added, all_added, AreDeleted}
 use Rattle.kp_clash.specs.Removed.{breaks, adds_pair, BreaksNone}
 use Rattle.kp_clash.proofs.Greatest.{is_lit}
-
-none_of : (a b : Bool) → (a || b) ≡ false → (a ≡ false) × (b ≡ false)
-none_of true b e = absurd (false≢true (sym e))
-none_of false b e = (refl, e)
 
 -- a bit that isn't set
 clear_bit : (b : ℕ) → b < 2 → (b ≡ 1 → ⊥) → b ≡ 0
 clear_bit zero h n = refl
 clear_bit (suc zero) h n = absurd (n refl)
 clear_bit (suc (suc b)) h n = absurd (omega (arith, h))
-
--- ---- atoms that are left
-
--- an atom that the literal doesn't exclude is no pair with its atom
-pub not_in_row : (pairs : Pairs) (l : Lit) (q w : ℕ) → l.positive ≡ true → are_exclusive pairs l (positive q) ≡ false → (bit_at w (q % 64) ≡ 1 → pairs l.atom.0 q ≡ true) → bit_at w (q % 64) ≡ 0
-not_in_row pairs l q w sign free pair = clear_bit (bit_at w (q % 64)) (bit_at-lt w (q % 64)) (λ one.
-    false≢true (sym free ∙ or_right (same_lit (negated l) (positive q)) (l.positive && true && pairs l.atom.0 q) (and_from (l.positive && true) (pairs l.atom.0 q) (and_from l.positive true sign refl) (pair one))))
-
--- one literal more
-pub free_more : (pairs : Pairs) (ls : List Lit) (k old mid new i : ℕ) (l : Lit) → i < length ls → l ≡ get_or ls i l → KeepsFree pairs (take i ls) k old mid
-    → ((q : ℕ) → q / 64 ≡ k → are_exclusive pairs l (positive q) ≡ false → bit_at mid (q % 64) ≡ 1 → bit_at new (q % 64) ≡ 1) → KeepsFree pairs (take (i + 1) ls) k old new
-free_more pairs ls k old mid new i l below is before step = λ q e none h.
-    let parts = none_of _ _ (sym (list_any_more (λ l. are_exclusive pairs l (positive q)) ls i l below) ∙ none) in
-    step q e (ap (λ l. are_exclusive pairs l (positive q)) is ∙ parts.1) (before q e parts.0 h)
 
 -- ---- atoms that are added
 

@@ -1,7 +1,8 @@
 -- Where the slot of its atom isn't marked, an add has no delete that clashes with it.
-use Rattle.std.proofs.Common.{◌≡◌, ◌<◌, ◌+◌, ◌%◌, ℕ, suc, Bool, true, false, not, ◌&&◌, ◌||◌, if◌then◌else◌, List, [], ◌∷◌, None, option_map, length, take, get_or, slice_index_or, inl, inr, refl, sym, ap, ◌∙◌}
+use Rattle.std.proofs.Common.{◌≡◌, ◌<◌, ◌+◌, ◌%◌, ℕ, Bool, true, false, not, ◌&&◌, ◌||◌, if◌then◌else◌, List, [], ◌∷◌, None, option_map, length, take, get_or, slice_index_or, inl, inr, refl, sym, ap, ◌∙◌}
 use Rattle.std.proofs.lemmas.Bool.{and_from, both_ways}
 use Rattle.std.proofs.lemmas.List.Folds.{list_all_more}
+use Rattle.std.specs.List.{position_from}
 use Rattle.kp_base.specs.declared.lit.Lit.{Lit}
 use Rattle.kp_base.specs.declared.ground.Effect.{Effect}
 use Rattle.kp_base.specs.declared.ground.Action.{Action}
@@ -10,7 +11,7 @@ use Rattle.kp_base.specs.Lit.{negated, same_lit}
 use Rattle.kp_base.specs.Clashes.{Pairs, compatible_effects}
 use Rattle.kp_base.proofs.Lists.{all_member, all_weaker}
 use Rattle.kp_base.proofs.Lits.{same_lit-true}
-use Rattle.kp_clash.specs.Searching.{may_be_deleted, is_noted, all_noted, KeepsMarks, clash_together, clash_at, found_at, place_from}
+use Rattle.kp_clash.specs.Searching.{may_be_deleted, is_noted, all_noted, KeepsMarks, clash_together, clash_at, found_at}
 
 -- what was noted is noted still
 pub stay_noted : (old new : List Bool) (es : List Effect) → KeepsMarks old new → all_noted old es ≡ true → all_noted new es ≡ true
@@ -36,13 +37,13 @@ module _ (pairs : Pairs) (slots : List Bool) (a : Action) (e : Effect) (noted : 
           let marked : may_be_deleted slots f.result.atom.0 ≡ true = sym (ap (λ (t : Bool). t || may_be_deleted slots f.result.atom.0) denied) ∙ all_member (is_noted slots) a.effects f m noted in
           absurd (both_ways (may_be_deleted slots e.result.atom.0) free (ap (may_be_deleted slots) one ∙ marked))
 
-  no_place : e.result.positive ≡ true → (n : ℕ) (fs : List Effect) → ((f : Effect) → Member fs f → Member a.effects f) → place_from (clash_together pairs a e) n fs ≡ None
+  no_place : e.result.positive ≡ true → (n : ℕ) (fs : List Effect) → ((f : Effect) → Member fs f → Member a.effects f) → position_from (clash_together pairs a e) n fs ≡ None
   no_place sign n [] h = refl
-  no_place sign n (f ∷ fs) h = rw (no_delete sign f (h f (inl refl))) (no_place sign (suc n) fs (λ g m. h g (inr m)))
+  no_place sign n (f ∷ fs) h = rw (no_delete sign f (h f (inl refl))) (no_place sign (n + 1) fs (λ g m. h g (inr m)))
 
   pub nothing_found : (n i : ℕ) → None ≡ found_at pairs n a i e
   nothing_found n i = by e.result.positive refl
     where
-      by : (t : Bool) → e.result.positive ≡ t → None ≡ (if t then option_map (clash_at n i e) (place_from (clash_together pairs a e) 0 a.effects) else None)
+      by : (t : Bool) → e.result.positive ≡ t → None ≡ (if t then option_map (clash_at n i e) (position_from (clash_together pairs a e) 0 a.effects) else None)
       by true sign = ap (option_map (clash_at n i e)) (sym (no_place sign 0 a.effects (λ f m. m)))
       by false sign = refl

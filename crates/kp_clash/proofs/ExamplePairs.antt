@@ -12,9 +12,9 @@ use Rattle.kp_base.specs.Lists.{Member}
 use Rattle.kp_base.specs.Lit.{positive, negative}
 use Rattle.kp_base.specs.Steps.{holds}
 use Rattle.kp_base.specs.Clashes.{Pairs, HasNoClash, IsFirstClash}
-use Rattle.kp_base.specs.Exclusive.{IsInductive, IsExclusive}
+use Rattle.kp_base.specs.Exclusive.{NeverAtTheStart, IsInductive, IsExclusive}
 use Rattle.kp_base.proofs.Lists.{all_member}
-use Rattle.kp_clash.specs.Settled.{NeverAtTheStart, stays}
+use Rattle.kp_clash.specs.Settled.{stays}
 use Rattle.kp_clash.proofs.Greatest.{settled_inductive}
 use Rattle.kp_clash.proofs.InOrder.{first_is, none_is}
 

@@ -8,33 +8,19 @@ use Rattle.kp_base.specs.declared.ground.Action.{Action}
 use Rattle.kp_base.specs.declared.ground.Ground.{Ground}
 use Rattle.kp_base.specs.declared.ground.Initial.{Initial}
 use Rattle.kp_base.specs.Lists.{Member}
-use Rattle.kp_base.specs.Lit.{positive, negative, negated, same_lit}
+use Rattle.kp_base.specs.Lit.{positive, negative, same_lit}
 use Rattle.kp_base.specs.Implicates.{is_within}
-use Rattle.kp_base.specs.Clashes.{Pairs, are_exclusive, are_compatible, compatible_effects}
-use Rattle.kp_base.specs.Exclusive.{ArePairs, Deletes, firing_with, IsInductive, AreExclusive}
+use Rattle.kp_base.specs.Clashes.{Pairs, are_compatible, compatible_effects}
+use Rattle.kp_base.specs.Exclusive.{ArePairs, IsPart, NeverAtTheStart, Deletes, firing_with, IsInductive, AreExclusive}
 use Rattle.kp_base.proofs.Lists.{all_weaker, all_from, all_member, any_from, any_member}
 use Rattle.kp_base.proofs.Lits.{same_lit-true, same_lit-refl}
-use Rattle.kp_clash.specs.Settled.{IsPart, NeverAtTheStart, adds_both, never_adds_both, deletes_within, keeps_apart, all_keep_apart, stays_in, stays}
+use Rattle.kp_base.proofs.Exclusive.{compatible_under_fewer}
+use Rattle.kp_clash.specs.Settled.{adds_both, never_adds_both, deletes_within, keeps_apart, all_keep_apart, stays_in, stays}
 
 pub is_lit : (k l : Lit) → k ≡ l → same_lit k l ≡ true
 is_lit k l e = subst (λ (x : Lit). same_lit k x ≡ true) e (same_lit-refl k)
 
 -- ---- more pairs
-
--- what is compatible under more pairs is so under fewer
-pub compatible_under_fewer : (some more : Pairs) → IsPart some more → (ls : List Lit) → are_compatible more ls ≡ true → are_compatible some ls ≡ true
-compatible_under_fewer some more part ls h =
-    all_weaker (λ k. list_all (λ l. not (are_exclusive more k l)) ls) (λ k. list_all (λ l. not (are_exclusive some k l)) ls) ls (λ k _.
-    all_weaker (λ l. not (are_exclusive more k l)) (λ l. not (are_exclusive some k l)) ls (λ l _ apart.
-    ap not (false_from_ne_true (are_exclusive some k l) (λ e. false≢true (sym (not-true (are_exclusive more k l) apart) ∙ wider k l e))))) h
-  where
-    wider : (k l : Lit) → are_exclusive some k l ≡ true → are_exclusive more k l ≡ true
-    wider k l e = elim (or_cases (same_lit (negated k) l) (k.positive && l.positive && some k.atom.0 l.atom.0) e) [
-      | inl opposed ↦ or_left (same_lit (negated k) l) (k.positive && l.positive && more k.atom.0 l.atom.0) opposed
-      | inr paired ↦
-          let parts = and_parts (k.positive && l.positive) (some k.atom.0 l.atom.0) paired in
-          or_right (same_lit (negated k) l) (k.positive && l.positive && more k.atom.0 l.atom.0) (and_from (k.positive && l.positive) (more k.atom.0 l.atom.0) parts.0 (part k.atom.0 l.atom.0 parts.1))
-    ]
 
 both_more : (some more : Pairs) → IsPart some more → (p q : ℕ) (a : Action) → never_adds_both some p q a ≡ true → never_adds_both more p q a ≡ true
 both_more some more part p q a h =

@@ -11,11 +11,10 @@ use Rattle.kp_base.specs.Lit.{negated}
 use Rattle.kp_base.specs.Implicates.{IsImplicate, is_tautology}
 use Rattle.kp_base.specs.Steps.{State, holds, has, is_model}
 use Rattle.kp_base.specs.Clashes.{Pairs}
-use Rattle.kp_base.specs.Exclusive.{ArePairs, AreExclusive, IsInductive}
+use Rattle.kp_base.specs.Exclusive.{ArePairs, IsPart, AreExclusive, IsInductive}
 use Rattle.kp_base.proofs.Lists.{all_member, all_from, any_member}
 use Rattle.kp_primes.specs.Held.{Held, formula, AreWhole}
 use Rattle.kp_clash.specs.Paired.{is_pair, words_of, place_of, is_marked, IsSquare}
-use Rattle.kp_clash.specs.Settled.{IsPart}
 use Rattle.kp_clash.specs.Starting.{not_both, denies, denied, IsMarkedWith}
 use Rattle.kp_clash.specs.Settling.{AreNeverTogether, IsSettled}
 use Rattle.kp_clash.proofs.Greatest.{settled_exclusive}

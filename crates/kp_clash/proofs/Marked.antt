@@ -1,12 +1,12 @@
 -- The list of the pairs that are marked in a table has just these pairs.
-use Rattle.std.proofs.Common.{◌≡◌, ◌≢◌, ◌⊎◌, ⊎_elim, ◌<◌, ◌≤◌, ◌+◌, ◌*◌, ◌/◌, ◌%◌, ◌↔◌, ℕ, zero, suc, Bool, true, false, ◌&&◌, List, Some, get_or, slice_get, map, nat_eq, nat_lt, inl, inr, refl, sym, ap, ap₂, subst, ◌∙◌, arith}
-use Rattle.std.proofs.lemmas.Bool.{and_parts, and_from, or_cases, or_left, or_right, ltb-true, lt-ltb, eqb-true, eq-eqb, cases_eq, cases_lt}
+use Rattle.std.proofs.Common.{◌≡◌, ◌≢◌, ◌⊎◌, ⊎_elim, ◌<◌, ◌≤◌, ◌+◌, ◌*◌, ◌/◌, ◌%◌, ◌↔◌, ℕ, suc, Bool, true, false, ◌&&◌, List, Some, get_or, slice_get, map, nat_eq, nat_lt, inl, inr, refl, sym, ap, ap₂, subst, ◌∙◌, arith}
+use Rattle.std.proofs.lemmas.Bool.{and_parts, and_from, or_cases, or_left, or_right, ltb-true, lt-ltb, eqb-true, eq-eqb, cases_lt}
 use Rattle.std.proofs.lemmas.Grind.{div_ceil_times}
 use Rattle.std.proofs.lemmas.Option.{slice_get-get_or, get_or_from_slice_get}
 use Rattle.std.proofs.Math.Nat.{mul-le-mul, mul_assoc, suc-mul}
 use Rattle.std.specs.List.{range_with_len}
 use Rattle.kp_base.specs.Lists.{Member}
-use Rattle.kp_base.proofs.Lists.{bool_same, any_from, any_member, member_map, member_flat_map, member_filter, filter_member}
+use Rattle.kp_base.proofs.Lists.{bool_same, any_from, any_member, member_map, member_flat_map, member_filter, filter_member, range_there}
 use Rattle.kp_clash.specs.Paired.{are_both, is_pair, words_of, place_of, is_marked, all_below, marked, IsSquare}
 
 -- ---- places
@@ -36,14 +36,10 @@ orders p q ne = ⊎_elim (λ (l : p < q). inl l) (λ (ge : q ≤ p). inr (omega 
 
 -- ---- lists
 
-in_range : (a n q : ℕ) → a ≤ q → q < a + n → Member (range_with_len a n) q
-in_range a zero q h k = absurd (omega (arith, h, k))
-in_range a (suc n) q h k = ⊎_elim (λ (e : q ≡ a). inl (sym e)) (λ (ne : q ≢ a). inr (in_range (a + 1) n q (omega arith) (omega arith))) (cases_eq q a)
-
 pub in_all : (n p q : ℕ) → p < n → q < n → Member (all_below n) (p, q)
 in_all n p q h k =
-    member_flat_map (λ p. map (λ q. (p, q)) (range_with_len 0 n)) (range_with_len 0 n) p (p, q) (in_range 0 n p (omega arith) (omega arith))
-    (member_map (λ q. (p, q)) (range_with_len 0 n) q (in_range 0 n q (omega arith) (omega arith)))
+    member_flat_map (λ p. map (λ q. (p, q)) (range_with_len 0 n)) (range_with_len 0 n) p (p, q) (range_there 0 n p (omega arith) (omega arith))
+    (member_map (λ q. (p, q)) (range_with_len 0 n) q (range_there 0 n q (omega arith) (omega arith)))
 
 module _ (n : ℕ) (bits : List Bool) (square : IsSquare n bits) where
   -- what is marked is two different numbers below n

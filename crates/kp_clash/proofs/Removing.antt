@@ -1,6 +1,7 @@
 -- Removing pairs that don't stay takes none that an inductive set has.
 use Rattle.std.proofs.Common.{◌≡◌, ℕ, Bool, true, false, not, ◌&&◌, ◌||◌, List, [], ◌∷◌, nat_eq, inl, inr, refl, sym, ap, ap₂, ◌∙◌, arith}
 use Rattle.std.proofs.lemmas.Bool.{and_parts, and_from, or_cases, false≢true, false_from_ne_true, not-true, eqb-true}
+use Rattle.std.proofs.Math.Bool.{or_comm}
 use Rattle.std.specs.List.{list_all}
 use Rattle.kp_base.specs.declared.ground.Effect.{Effect}
 use Rattle.kp_base.specs.declared.ground.Action.{Action}
@@ -9,30 +10,21 @@ use Rattle.kp_base.specs.declared.ground.Initial.{Initial}
 use Rattle.kp_base.specs.Lists.{Member}
 use Rattle.kp_base.specs.Lit.{positive, same_lit}
 use Rattle.kp_base.specs.Clashes.{Pairs, are_compatible, compatible_effects}
-use Rattle.kp_base.specs.Exclusive.{firing_with, IsInductive}
+use Rattle.kp_base.specs.Exclusive.{IsPart, firing_with, IsInductive}
 use Rattle.kp_base.proofs.Lists.{all_member, all_from, any_from}
 use Rattle.kp_base.proofs.Lits.{same_lit-true}
 use Rattle.kp_clash.specs.Paired.{are_both, is_pair}
-use Rattle.kp_clash.specs.Settled.{IsPart, adds_both, never_adds_both, deletes_within, keeps_apart, all_keep_apart, stays_in}
+use Rattle.kp_clash.specs.Settled.{adds_both, never_adds_both, deletes_within, keeps_apart, all_keep_apart, stays_in}
 use Rattle.kp_clash.specs.Removed.{IsWithout, AreKeptBy, Shrinks, breaks, adds_pair, BreaksNone, IsBroken}
 use Rattle.kp_clash.proofs.Greatest.{is_lit, Parts, parts_of, stays_by, all_stay_more, inductive_stays}
 
 -- ---- pairs in either order
 
-swap_or : (a b : Bool) → (a || b) ≡ (b || a)
-swap_or true true = refl
-swap_or true false = refl
-swap_or false true = refl
-swap_or false false = refl
-
 pub pair_turned : (ps : List (ℕ × ℕ)) (p q : ℕ) → is_pair ps p q ≡ is_pair ps q p
 pair_turned [] p q = refl
-pair_turned (x ∷ ps) p q = ap₂ (λ a b. a || b) (swap_or (nat_eq x.0 p && nat_eq x.1 q) (nat_eq x.0 q && nat_eq x.1 p)) (pair_turned ps p q)
+pair_turned (x ∷ ps) p q = ap₂ (λ a b. a || b) (or_comm (nat_eq x.0 p && nat_eq x.1 q) (nat_eq x.0 q && nat_eq x.1 p)) (pair_turned ps p q)
 
 -- ---- what is removed
-
-pub shrinks_not : (actions : List Action) (ps : List (ℕ × ℕ)) → Shrinks actions ps ps
-shrinks_not actions ps = record { part = λ p q h. h; keeps = λ some kept part. part; no_more = omega arith }
 
 pub shrinks_on : (actions : List Action) (a b c : List (ℕ × ℕ)) → Shrinks actions a b → Shrinks actions b c → Shrinks actions a c
 shrinks_on actions a b c f g = record {
@@ -50,12 +42,6 @@ shrinks_wider actions a old new m f = record {
     stay = λ p q h. and_from (stays_in some p q a) true (all_member (stays_in some p q) actions a m (kept.stay p q h)) refl;
   }) part;
   no_more = f.no_more;
-}
-
-pub broken_wider : (pairs : Pairs) (actions : List Action) (a : Action) (p q : ℕ) → Member actions a → IsBroken pairs (a ∷ []) p q → IsBroken pairs actions p q
-broken_wider pairs actions a p q m f = record {
-  pair = f.pair;
-  broken = false_from_ne_true (list_all (stays_in pairs p q) actions) (λ h. false≢true (sym f.broken ∙ and_from (stays_in pairs p q a) true (all_member (stays_in pairs p q) actions a m h) refl));
 }
 
 -- a pair that is broken may go

@@ -1,6 +1,7 @@
 -- A table of pairs after one pair was written.
 use Rattle.std.proofs.Common.{◌≡◌, ◌≢◌, ◌<◌, ◌≤◌, ◌+◌, ◌*◌, ◌/◌, ◌%◌, ℕ, Bool, true, false, ◌&&◌, ◌||◌, cond, List, [], ◌∷◌, length, filter, set, get_or, nat_eq, nat_lt, inl, inr, refl, sym, ap, ap₂, subst, ◌∙◌, arith}
 use Rattle.std.proofs.lemmas.Bool.{and_parts, and_from, or_cases, or_left, or_right, ltb-true, lt-ltb, eqb-true, eq-eqb, false≢true, false_from_ne_true}
+use Rattle.std.proofs.Math.Bool.{or_comm, and_comm}
 use Rattle.std.proofs.lemmas.List.{length-set, get_or-set_same, get_or-set_other}
 use Rattle.std.proofs.lemmas.Nat.{div-mul-add, mod-mul-add}
 use Rattle.kp_base.specs.Lists.{Member}
@@ -51,20 +52,8 @@ place_is n p q r s h k e = by (words_of n * 64) h k e
 
 -- ---- either order
 
-swap_or : (a b : Bool) → (a || b) ≡ (b || a)
-swap_or true true = refl
-swap_or true false = refl
-swap_or false true = refl
-swap_or false false = refl
-
-swap_and : (a b : Bool) → (a && b) ≡ (b && a)
-swap_and true true = refl
-swap_and true false = refl
-swap_and false true = refl
-swap_and false false = refl
-
 both_turned : (p q r s : ℕ) → are_both p q (s, r) ≡ are_both p q (r, s)
-both_turned p q r s = ap₂ (λ a b. a || b) (swap_and (nat_eq s p) (nat_eq r q)) (swap_and (nat_eq s q) (nat_eq r p)) ∙ swap_or (nat_eq r q && nat_eq s p) (nat_eq r p && nat_eq s q)
+both_turned p q r s = ap₂ (λ a b. a || b) (and_comm (nat_eq s p) (nat_eq r q)) (and_comm (nat_eq s q) (nat_eq r p)) ∙ or_comm (nat_eq r q && nat_eq s p) (nat_eq r p && nat_eq s q)
 
 -- ---- the two bits of a pair
 

@@ -1,5 +1,5 @@
 -- Atoms as bits of words: those that an action adds, and those that literals leave. This file serves proofs alone.
-use Rattle.std.specs.Prelude.{◌≡◌, ◌≤◌, ◌<◌, ◌/◌, ◌%◌, ◌⊎◌, ℕ, Bool, true, false, not, ◌||◌, List, Option, Some, None, nat_eq, nat_lt, slice_index_or}
+use Rattle.std.specs.Prelude.{◌≡◌, ◌≤◌, ◌<◌, ◌/◌, ◌%◌, ◌⊎◌, ℕ, Bool, true, false, not, ◌||◌, List, Option, Some, None, nat_lt}
 use Rattle.std.specs.Int.{bit_at}
 use Rattle.std.specs.List.{list_all, list_any}
 use Rattle.kp_base.specs.declared.lit.AtomId.{AtomId}
@@ -8,23 +8,24 @@ use Rattle.kp_base.specs.declared.ground.Effect.{Effect}
 use Rattle.kp_base.specs.declared.ground.Action.{Action}
 use Rattle.kp_base.specs.Lit.{positive}
 use Rattle.kp_base.specs.Clashes.{Pairs, are_exclusive}
+use Rattle.kp_bits.specs.Packed.{bit_in, bit_of}
 use Rattle.kp_clash.specs.Searching.{all_noted}
 use Rattle.kp_clash.specs.Settled.{deletes_within}
 use Rattle.kp_clash.specs.Removed.{breaks}
 
 -- ---- atoms that are added
 
--- the bit q, 64 to a word
-abbrev pub bit_in : List ℕ → ℕ → ℕ
-bit_in words q = bit_at (slice_index_or words (q / 64) 0) (q % 64)
-
 -- what was set is set still
 abbrev pub KeepsBits : List ℕ → List ℕ → Type 0
 KeepsBits old new = (q : ℕ) → bit_in old q ≡ 1 → bit_in new q ≡ 1
 
--- the effect adds no atom below 65,536, or its bit is set
+-- the atom isn't below 65,536, or its bit is set
+abbrev pub is_set : List ℕ → ℕ → Bool
+is_set words p = not (nat_lt p 65536) || bit_of words p
+
+-- the effect adds no atom, or one that is set
 abbrev pub is_added : List ℕ → Effect → Bool
-is_added words e = not e.result.positive || (not (nat_lt e.result.atom.0 65536) || nat_eq (bit_in words e.result.atom.0) 1)
+is_added words e = not e.result.positive || is_set words e.result.atom.0
 
 abbrev pub all_added : List ℕ → List Effect → Bool
 all_added words es = list_all (is_added words) es

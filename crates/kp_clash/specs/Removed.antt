@@ -5,8 +5,9 @@ use Rattle.kp_base.specs.declared.lit.AtomId.{AtomId}
 use Rattle.kp_base.specs.declared.ground.Effect.{Effect}
 use Rattle.kp_base.specs.declared.ground.Action.{Action}
 use Rattle.kp_base.specs.Clashes.{Pairs, compatible_effects}
+use Rattle.kp_base.specs.Exclusive.{IsPart}
 use Rattle.kp_clash.specs.Paired.{are_both, is_pair}
-use Rattle.kp_clash.specs.Settled.{IsPart, keeps_apart, stays_in}
+use Rattle.kp_clash.specs.Settled.{keeps_apart, stays_in}
 
 -- ---- what goes
 

@@ -1,6 +1,6 @@
 -- How the first clash is searched for, step by step. This file serves proofs alone.
 use Rattle.std.specs.Prelude.{◌≡◌, ◌%◌, ℕ, suc, Bool, true, false, ◌&&◌, ◌||◌, List, [], ◌∷◌, Option, Some, None, option_map, if◌then◌else◌, nat_lt, slice_index_or}
-use Rattle.std.specs.List.{list_all}
+use Rattle.std.specs.List.{list_all, position_from}
 use Rattle.kp_base.specs.declared.ground.Effect.{Effect}
 use Rattle.kp_base.specs.declared.ground.Action.{Action}
 use Rattle.kp_base.specs.declared.refused.ClashAt.{ClashAt}
@@ -30,11 +30,6 @@ KeepsMarks old new = (k : ℕ) → slice_index_or old k false ≡ true → slice
 abbrev pub clash_together : Pairs → Action → Effect → Effect → Bool
 clash_together pairs a e f = same_lit (negated e.result) f.result && compatible_effects pairs a e f
 
--- the first place at which a test passes, where the list starts at place n
-abbrev pub place_from : {X : Type 0} → (X → Bool) → ℕ → List X → Option ℕ
-place_from t n [] = None
-place_from t n (x ∷ xs) = if t x then Some n else place_from t (suc n) xs
-
 -- ---- one action
 
 -- the clash of the action n, of its add i with its effect j
@@ -43,7 +38,7 @@ clash_at n i e j = record { action = n; atom = e.result.atom; add = i; delete = 
 
 -- the first clash of an effect, if it adds
 abbrev pub found_at : Pairs → ℕ → Action → ℕ → Effect → Option ClashAt
-found_at pairs n a i e = if e.result.positive then option_map (clash_at n i e) (place_from (clash_together pairs a e) 0 a.effects) else None
+found_at pairs n a i e = if e.result.positive then option_map (clash_at n i e) (position_from (clash_together pairs a e) 0 a.effects) else None
 
 -- what is first of what was found before and what is found now
 abbrev pub earlier : Option ClashAt → ClashAt → ClashAt

@@ -1,24 +1,14 @@
 -- When a pair may stay in a set of pairs, as a test. This file serves proofs alone.
-use Rattle.std.specs.Prelude.{◌≡◌, ℕ, Bool, true, false, not, ◌&&◌, ◌||◌, List}
+use Rattle.std.specs.Prelude.{ℕ, Bool, not, ◌&&◌, ◌||◌, List}
 use Rattle.std.specs.List.{list_any, list_all}
 use Rattle.kp_base.specs.declared.lit.Lit.{Lit}
 use Rattle.kp_base.specs.declared.ground.Effect.{Effect}
 use Rattle.kp_base.specs.declared.ground.Action.{Action}
 use Rattle.kp_base.specs.declared.ground.Ground.{Ground}
-use Rattle.kp_base.specs.declared.ground.Initial.{Initial}
 use Rattle.kp_base.specs.Lit.{positive, negative, same_lit}
 use Rattle.kp_base.specs.Implicates.{is_within}
-use Rattle.kp_base.specs.Steps.{State, is_model}
 use Rattle.kp_base.specs.Clashes.{Pairs, are_compatible, compatible_effects}
 use Rattle.kp_base.specs.Exclusive.{firing_with}
-
--- each pair of the first set is in the second
-abbrev pub IsPart : Pairs → Pairs → Type 0
-IsPart some more = (p q : ℕ) → some p q ≡ true → more p q ≡ true
-
--- in no model are both atoms of a pair true
-abbrev pub NeverAtTheStart : Initial → Pairs → Type 0
-NeverAtTheStart i pairs = (p q : ℕ) → pairs p q ≡ true → (s : State) → is_model i s ≡ true → (s p && s q) ≡ false
 
 -- the effects add the two atoms, and are compatible
 abbrev pub adds_both : Pairs → ℕ → ℕ → Action → Effect → Effect → Bool

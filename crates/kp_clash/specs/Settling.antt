@@ -4,9 +4,9 @@ use Rattle.kp_base.specs.declared.ground.Ground.{Ground}
 use Rattle.kp_base.specs.declared.ground.Initial.{Initial}
 use Rattle.kp_base.specs.Steps.{State, is_model}
 use Rattle.kp_base.specs.Clashes.{Pairs}
-use Rattle.kp_base.specs.Exclusive.{ArePairs}
+use Rattle.kp_base.specs.Exclusive.{ArePairs, NeverAtTheStart}
 use Rattle.kp_clash.specs.Paired.{is_pair}
-use Rattle.kp_clash.specs.Settled.{NeverAtTheStart, stays}
+use Rattle.kp_clash.specs.Settled.{stays}
 use Rattle.kp_clash.specs.Removed.{Shrinks}
 
 -- just the pairs of atoms below this number that no initial state has together

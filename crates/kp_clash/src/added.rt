@@ -1,26 +1,23 @@
 //! Which atoms an action adds.
 ghost use Rattle.std.specs.Prelude.{◌≡◌, ◌<◌, ℕ, true, false};
 ghost use Rattle.std.specs.List.{list_any};
+ghost use Rattle.kp_bits.specs.Packed.{bit_in};
 ghost use Rattle.kp_clash.specs.Paired.{is_pair};
 ghost use Rattle.kp_clash.specs.Removed.{adds_pair};
-ghost use Rattle.kp_clash.specs.Left.{bit_in, KeepsBits, is_added, all_added};
+ghost use Rattle.kp_clash.specs.Left.{KeepsBits, is_added, all_added};
 
 use crate::Pairs;
 use crate::pairs::words_of;
+use crate::words::{WORDS, set_bit};
 use kp_base::{Action, AtomId, Effect};
-use kp_bits::{are_apart, with_bit};
-
-/// A bit for each atom below 65,536; pairs have none from there on.
-pub(crate) const WORDS: usize = 1024;
+use kp_bits::are_apart;
 
 fn note(words: &mut [u64; WORDS], effect: &Effect)
     ensures noted { is_added words.new effect.now ≡ true }
     ensures keeps { KeepsBits words.old words.new }
 {
-    let atom = effect.result.atom.0;
-    if effect.result.positive && atom < 65536 {
-        let k = (atom / 64) as usize;
-        words[k] = with_bit(words[k], atom % 64);
+    if effect.result.positive {
+        set_bit(words, effect.result.atom);
     }
 }
 

@@ -1,13 +1,14 @@
 ghost use Rattle.std.specs.Prelude.{◌≡◌, ◌≤◌, ◌<◌, ℕ, true, Some, None, length, slice_get, IfOk, IfErr};
+ghost use Rattle.std.specs.List.{position_from};
 ghost use Rattle.kp_base.specs.declared.ground.Action.{Action as ActionOf};
 ghost use Rattle.kp_base.specs.Clashes.{HasNoClash, IsFirstClash};
 ghost use Rattle.kp_clash.specs.Counted.{IsCounted};
 ghost use Rattle.kp_clash.specs.Paired.{is_pair};
-ghost use Rattle.kp_clash.specs.Searching.{all_noted, clash_together, place_from, found_at, keep, best_from, first_from};
+ghost use Rattle.kp_clash.specs.Searching.{all_noted, clash_together, found_at, keep, best_from, first_from};
 
 use crate::Pairs;
 use crate::compatible::are_compatible;
-use crate::deleted::{may_be_deleted, slots_of_deletes};
+use crate::deleted::{SLOTS, may_be_deleted, slots_of_deletes};
 use kp_base::{Action, ClashAt, Effect, Ground};
 
 // Whether the effects are an add and a delete of one atom, under conditions that may hold together.
@@ -21,7 +22,7 @@ fn clash_together(pairs: &Pairs, action: &Action, add: &Effect, delete: &Effect)
 // The place of the first effect that clashes with an add.
 fn first_delete(pairs: &Pairs, action: &Action, add: &Effect) -> Option<u32>
     requires { length action.now.effects ≤ 4294967295 }
-    ensures { result ≡ place_from (clash_together (is_pair pairs.now) action.now add.now) 0 action.now.effects }
+    ensures { result ≡ position_from (clash_together (is_pair pairs.now) action.now add.now) 0 action.now.effects }
 {
     let mut place = 0u32;
     'effects: for effect in action.effects.slice() {
@@ -38,7 +39,7 @@ fn found_at(
     number: u32,
     pairs: &Pairs,
     action: &Action,
-    slots: &[bool; 4096],
+    slots: &[bool; SLOTS],
     place: u32,
     effect: &Effect,
 ) -> Option<ClashAt>

@@ -3,7 +3,7 @@ ghost use Rattle.kp_clash.specs.Searching.{KeepsMarks, is_noted, all_noted, may_
 
 use kp_base::{AtomId, Effect};
 
-/// How many slots there are for the atoms that are deleted.
+/// How many slots there are for atoms: each has that of its number modulo 4,096.
 pub const SLOTS: usize = 4096;
 
 // Marks the slot of the atom of an effect that deletes it.

@@ -7,7 +7,7 @@ ghost use Rattle.kp_clash.specs.Paired.{is_pair};
 ghost use Rattle.kp_clash.specs.Left.{AreDeleted, HasBreaking, KeepsFree};
 
 use crate::Pairs;
-use crate::added::WORDS;
+use crate::words::WORDS;
 use kp_base::{Action, Effect, Lit};
 use kp_bits::only_here;
 

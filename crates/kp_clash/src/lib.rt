@@ -17,6 +17,7 @@ mod sure;
 mod tables;
 mod touched;
 mod within;
+mod words;
 
 pub use clash::clash_test;
 pub use find::exclusive;

@@ -1,9 +1,10 @@
 //! What is noted of an action before its effects are looked at one by one.
 ghost use Rattle.kp_clash.specs.Left.{AreNoted};
 
-use crate::added::{WORDS, atoms_added};
+use crate::added::atoms_added;
 use crate::deleted::{SLOTS, slots_of_deletes};
 use crate::sure::atoms_deleted;
+use crate::words::WORDS;
 use kp_base::Action;
 
 /// The slots of the atoms that the action deletes, the atoms that it adds, and those that it surely deletes.

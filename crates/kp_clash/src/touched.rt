@@ -1,9 +1,8 @@
 //! Which effects are to be looked at again after pairs were removed. It decides what is looked at and when, and no
 //! clause speaks of it.
 
+use crate::deleted::SLOTS;
 use kp_base::{AtomId, Lit};
-
-const SLOTS: usize = 4096;
 
 /// Atoms of which a pair was removed, by their numbers modulo 4,096; or all effects.
 #[derive(Drop)]

@@ -1,6 +1,6 @@
 use Rattle.std.proofs.Common.{◌≡◌, ◌<◌, ◌/◌, ℕ, true}
 use Rattle.kp_clash.specs.Paired.{is_pair}
-use Rattle.kp_clash.specs.Left.{bit_in}
+use Rattle.kp_bits.specs.Packed.{bit_in}
 use Rattle.kp_clash.proofs.added.meets.Given as goal
 
 -- none in the words so far
