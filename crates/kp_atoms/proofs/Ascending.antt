@@ -1,7 +1,6 @@
 -- Ascending lists of atoms: two of the same atoms are one list, and no atom stands there twice.
-use Rattle.std.proofs.Common.{◌≡◌, true, false, List, [], ◌∷◌, refl, sym, subst, ◌∙◌, inl, inr}
-use Rattle.std.specs.List.{IsDistinct, AllByRecursion}
-use Rattle.std.proofs.lemmas.Bool.{or_cases, or_left, or_right, false≢true, false_from_ne_true}
+use Rattle.std.proofs.Common.{◌≡◌, true, List, [], ◌∷◌, refl, sym, subst, ◌∙◌, inl, inr}
+use Rattle.std.proofs.lemmas.Bool.{or_cases, or_left, or_right, false≢true}
 use Rattle.kp_base.specs.Lists.{Member}
 use Rattle.kp_base.proofs.Lists.{same_member, any_from, all_member, bool_same}
 use Rattle.kp_grounding.specs.declared.flat.Atom.{Atom}
@@ -52,13 +51,3 @@ same_ascending (x ∷ xs) (y ∷ ys) s t h =
     let h' : (a : Atom) → has_atom (x ∷ xs) a ≡ has_atom (x ∷ ys) a = subst (λ z. (a : Atom) → has_atom (x ∷ xs) a ≡ has_atom (z ∷ ys) a) (sym first) h in
     let rest : xs ≡ ys = same_ascending xs ys s.1 t.1 (λ a. bool_same (has_atom xs a) (has_atom ys a) (rests x xs ys s h' a) (rests x ys xs t' (λ b. sym (h' b)) a)) in
     cc (first, rest)
-
--- each atom stands there once
-pub ascending_distinct : (xs : List Atom) → IsAscending xs → IsDistinct same_atom xs
-unfolding IsDistinct
-ascending_distinct [] s = tt
-ascending_distinct (x ∷ xs) s = (apart xs (not_again x xs s), ascending_distinct xs s.1)
-  where
-    apart : (ys : List Atom) → (has_atom ys x ≡ true → ⊥) → AllByRecursion (λ y. same_atom x y ≡ false) ys
-    apart [] none = tt
-    apart (y ∷ ys) none = (false_from_ne_true (same_atom x y) (λ e. none (or_left (same_atom x y) (has_atom ys x) e)), apart ys (λ h. none (or_right (same_atom x y) (has_atom ys x) h)))

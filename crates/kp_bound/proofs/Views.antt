@@ -42,9 +42,6 @@ cond_all parts = ap cond_view (sym (conds.rolls-All parts)) ∙ fold-roll-BoundC
 pub cond_atom : (positive : Bool) (q : ℕ) (os : Bor (List ℕ)) → cond_view (conds.Atom positive q os) ≡ Cond.atom positive q (as_terms os.now)
 cond_atom positive q os = ap cond_view (sym (conds.rolls-Atom positive q os)) ∙ fold-roll-BoundCond Cond cond_step (BoundCond-F.Atom positive q os)
 
-pub cond_same : (positive : Bool) (left right : ℕ) → cond_view (conds.Same positive left right) ≡ Cond.same positive (Term.Object left) (Term.Object right)
-cond_same positive left right = ap cond_view (sym (conds.rolls-Same positive left right)) ∙ fold-roll-BoundCond Cond cond_step (BoundCond-F.Same positive left right)
-
 pub eff_all : (parts : Bor (List BoundEff)) → eff_view (effs.All parts) ≡ Eff.both (effs_of (map eff_view parts.now))
 eff_all parts = ap eff_view (sym (effs.rolls-All parts)) ∙ fold-roll-BoundEff Eff eff_step (BoundEff-F.All parts)
 

@@ -7,9 +7,9 @@ use Rattle.kp_base.specs.declared.ground.Initial.{Initial}
 use Rattle.kp_base.specs.Lit.{positive, negative}
 use Rattle.kp_base.specs.Steps.{State, has, is_model}
 use Rattle.kp_base.specs.Entailed.{IsClosure}
-use Rattle.kp_base.proofs.Lists.{all_from, all_member}
+use Rattle.kp_base.proofs.Lists.{all_from, all_member, range_there}
 use Rattle.kp_texts.specs.Report.{is_known}
-use Rattle.kp_init.proofs.Closure.{closure_exact, range_there, range_only}
+use Rattle.kp_init.proofs.Closure.{closure_exact, range_only}
 use Rattle.kp_given.specs.Translations.{ground_of, initial_of, start_of}
 use Rattle.kp_given.specs.Laws.{HasOneValue, CompleteStartsHaveOneValue}
 use Rattle.kp_given.proofs.Starts.{formulas_over_atoms, states_are_models}

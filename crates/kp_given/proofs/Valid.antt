@@ -5,7 +5,7 @@ use Rattle.std.proofs.lemmas.Bool.{and_parts, and_from}
 use Rattle.std.proofs.lemmas.List.Folds.{list_all-append, list_all-map}
 use Rattle.kp_grammar.specs.declared.tree.Word.{Word}
 use Rattle.kp_grammar.specs.Trees as trees
-use Rattle.kp_grammar.specs.Trees.{Atom, Term, Cond, Conds, Eff, Effs, Domain, Problem}
+use Rattle.kp_grammar.specs.Trees.{Atom, Cond, Conds, Eff, Effs, Domain, Problem}
 use Rattle.kp_base.specs.Lists.{Member, only_if}
 use Rattle.kp_base.proofs.Lists.{all_member, all_from, append_member, map_member, flat_member, filter_member, append_empty}
 use Rattle.kp_meaning.specs.declared.lifted.GroundLit.{GroundLit}
@@ -19,11 +19,11 @@ use Rattle.kp_meaning.specs.Steps.{object_lists, parameters}
 use Rattle.kp_meaning.specs.Numbered as numbers
 use Rattle.kp_meaning.specs.Numbered.{Lifted}
 use Rattle.kp_meaning.specs.Lifted.{Binding, object_of, ground, bindings, item_literals}
-use Rattle.kp_meaning.specs.Numbering.{index_of, heads, numbered_term, numbered_terms, numbered_head, numbered_cond, numbered_conds, numbered_eff, numbered_effs, numbered_schema, numbered_literal, numbered_item, numbered_goal, numbered_goals, numbered_problem, object_number, AreObjects}
+use Rattle.kp_meaning.specs.Numbering.{index_of, heads, numbered_terms, numbered_head, numbered_cond, numbered_conds, numbered_eff, numbered_effs, numbered_schema, numbered_literal, numbered_item, numbered_goal, numbered_goals, numbered_problem, AreObjects}
 use Rattle.kp_meaning.specs.NumberLaws.{Matches}
 use Rattle.kp_meaning.proofs.Indexes.{index_below}
 use Rattle.kp_meaning.proofs.Numbered.{terms_below, among_heads, atom_terms, matches_more, bindings_numbered, object_list_good}
-use Rattle.kp_meaning.proofs.NumberedItems.{is_valid, valid, no_variables, literals_valid}
+use Rattle.kp_meaning.proofs.NumberedItems.{is_valid, valid, literal_valid, literals_valid}
 use Rattle.kp_meaning.proofs.NumberedPlans.{Clean, indexes_below}
 use Rattle.kp_grounding.specs.declared.flat.FlatEffect.{FlatEffect}
 use Rattle.kp_grounding.specs.Static.{is_static, settled, remaining, all_remaining}
@@ -114,21 +114,10 @@ module _ (d : Domain Word) (p : Problem Word) where
 
   -- ---- the goal
 
-  object_numbers : (ts : List (Term Word)) → map (object_number d p) ts ≡ map (object_of []) (map (numbered_term d p []) ts)
-  object_numbers [] = refl
-  object_numbers (t ∷ ts) = rw (one t, object_numbers ts) refl
-    where
-      one : (t : Term Word) → object_number d p t ≡ object_of [] (numbered_term d p [] t)
-      one (Term.name w) = refl
-      one (Term.variable w) = refl
-
-  literal_valid : (positive : Bool) (a : Atom Word) → atom_faults d p [] a ≡ [] → is_valid d p (numbered_literal d p positive a) ≡ true
-  literal_valid positive a h = rw (object_numbers a.terms) (atom_valid [] unbound [] (no_variables d p) positive a h)
-
   mutual
     goal_valid : (x : Cond Word) → cond_faults d p [] x ≡ [] → are_valid (numbered_goal d p x) ≡ true
     goal_valid (Cond.all xs) h = goals_valid xs h
-    goal_valid (Cond.atom positive a) h = one_valid (numbered_literal d p positive a) (literal_valid positive a h)
+    goal_valid (Cond.atom positive a) h = one_valid (numbered_literal d p positive a) (literal_valid d p positive a h)
     goal_valid (Cond.same positive x y) h = refl
 
     goals_valid : (xs : Conds Word) → conds_faults d p [] xs ≡ [] → are_valid (numbered_goals d p xs) ≡ true

@@ -13,7 +13,7 @@ use Rattle.kp_base.specs.declared.lit.Lit.{Lit}
 use Rattle.kp_base.specs.declared.ground.GroundName.{GroundName}
 use Rattle.kp_base.specs.declared.ground.Action.{Action}
 use Rattle.kp_base.specs.Lists.{Member, each_once}
-use Rattle.kp_base.proofs.Lists.{all_member, map_map, map_member, member_map, member_left, member_right, member_flat_map, flat_member, filter_member, same-true}
+use Rattle.kp_base.proofs.Lists.{all_member, each_append, map_member, member_map, member_left, member_right, member_flat_map, flat_member, same-true}
 use Rattle.kp_base.proofs.Lists as lists
 use Rattle.kp_base.proofs.Lits.{has-member}
 use Rattle.kp_base.proofs.Sets.{all-set_of}
@@ -46,10 +46,6 @@ use Rattle.kp_given.proofs.Starts.{formulas_over_atoms}
 use Rattle.kp_given.proofs.Valid.{kept_objects}
 
 -- ---- lists
-
-all_append : {X : Type 0} (P : X → Type 0) (xs ys : List X) → AllByRecursion P xs → AllByRecursion P ys → AllByRecursion P (xs ++ ys)
-all_append P [] ys h g = g
-all_append P (x ∷ xs) ys h g = (h.0, all_append P xs ys h.1 g)
 
 all_left : {X : Type 0} (P : X → Type 0) (p : X → Bool) (xs : List X) → AllByRecursion P xs → AllByRecursion P (filter p xs)
 all_left P p [] h = tt
@@ -130,7 +126,7 @@ module _ (d : Domain Word) (p : Problem Word) (domain : IsNamedDomain d) (proble
   objects_named : AllByRecursion IsName (objects d p)
   objects_named =
       distinct_all IsName (declared (object_lines d p))
-      (mapped IsNamed IsName (λ (x : Typed Word). x.word.text) (λ x h. h.name) (object_lines d p) (all_append IsNamed d.constants p.objects domain.constants problem.objects))
+      (mapped IsNamed IsName (λ (x : Typed Word). x.word.text) (λ x h. h.name) (object_lines d p) (each_append IsNamed d.constants p.objects domain.constants problem.objects))
 
   named_objects : (os : List ℕ) → AreObjects d p os → AllByRecursion IsName (object_names l os)
   named_objects [] h = tt

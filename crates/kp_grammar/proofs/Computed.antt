@@ -1,5 +1,5 @@
 -- Texts that are shown to read or to stop by computing.
-use Rattle.std.proofs.Common.{◌≡◌, ℕ, Bool, List, [], None, Ok, Err, inl, inr, subst}
+use Rattle.std.proofs.Common.{◌≡◌, ℕ, Bool, List, [], None, Result, Ok, Err, inl, inr, subst}
 use Rattle.kp_lex.specs.declared.token.Token.{Token}
 use Rattle.kp_lex.specs.Scanning.{cut}
 use Rattle.kp_lex.proofs.Exact.{Tells as TellsTokens, cut_tells}
@@ -13,6 +13,14 @@ use Rattle.kp_grammar.specs.Reading.{At, StopBy}
 use Rattle.kp_grammar.specs.Depth.{deep}
 use Rattle.kp_grammar.proofs.Tells.{Tells, read_tells}
 use Rattle.kp_grammar.proofs.Exact.{go_reads, some_none}
+
+-- the tokens of a text that is cut
+abbrev pub tokens_in : Result (List Token) ℕ → List Token
+tokens_in (Ok ts) = ts
+tokens_in (Err i) = []
+
+abbrev pub tokens : List ℕ → List Token
+tokens text = tokens_in (cut 0 text)
 
 module _ {b : Bool} {c : Sort} (X : Form b c) where
   -- what is read of a text's tokens with brackets of at most eight levels

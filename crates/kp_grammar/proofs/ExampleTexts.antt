@@ -1,23 +1,14 @@
 -- Two small texts with their trees, computed; a word is followed by the byte at which it begins.
-use Rattle.std.proofs.Common.{ℕ, true, false, List, [], ◌∷◌, Result, Ok, Err, refl, codes}
-use Rattle.kp_lex.specs.declared.token.Token.{Token}
+use Rattle.std.proofs.Common.{ℕ, true, false, List, [], ◌∷◌, refl, codes}
 use Rattle.kp_lex.specs.Bytes.{class_of}
-use Rattle.kp_lex.specs.Scanning.{cut_from, cut}
+use Rattle.kp_lex.specs.Scanning.{cut_from}
 use Rattle.kp_grammar.specs.declared.tree.Word.{Word}
 use Rattle.kp_grammar.specs.Symbols.{symbol_of}
 use Rattle.kp_grammar.specs.Trees.{Atom, Cond, Eff, effs_of, Item, Pred, Schema, Domain, Problem}
 use Rattle.kp_grammar.specs.Grammar as grammar
 use Rattle.kp_grammar.specs.Parsing.{some_at, next_at}
 use Rattle.kp_grammar.specs.Texts.{ReadsAs}
-use Rattle.kp_grammar.proofs.Computed.{reads_as}
-
--- the tokens of a text that is cut
-abbrev tokens_in : Result (List Token) ℕ → List Token
-tokens_in (Ok ts) = ts
-tokens_in (Err i) = []
-
-abbrev pub tokens : List ℕ → List Token
-tokens text = tokens_in (cut 0 text)
+use Rattle.kp_grammar.proofs.Computed.{tokens, reads_as}
 
 -- ---- words and atoms at a byte
 

@@ -1,6 +1,5 @@
 pub mod Tells
 pub mod Exact
-pub mod Spans
 pub mod Wholes
 pub mod Computed
 pub mod Words

@@ -1,6 +1,7 @@
 -- What each form of the grammar gives: trees whose names are names.
-use Rattle.std.proofs.Common.{◌≡◌, Bool, true, false, if◌then◌else◌, List, [], ◌∷◌, ◌++◌}
-use Rattle.std.specs.List.{AllByRecursion, flat_map}
+use Rattle.std.proofs.Common.{◌≡◌, Bool, true, false, if◌then◌else◌, List, [], ◌∷◌}
+use Rattle.std.specs.List.{AllByRecursion}
+use Rattle.kp_base.proofs.Lists.{each_flat_map}
 use Rattle.kp_grammar.specs.declared.symbol.Symbol.{Symbol}
 use Rattle.kp_grammar.specs.declared.symbol.Symbol.TheVariants as symbols
 use Rattle.kp_grammar.specs.declared.tree.Word.{Word}
@@ -12,16 +13,6 @@ use Rattle.kp_grammar.specs.Forms.{Form, Named, n_cond, n_goal, n_eff, n_item, m
 use Rattle.kp_grammar.specs.Grammar.{word, kind_case, kind, typed, term_maker, term, atom_body, fact_body, test_case, cond_case, goal_lit_case, goal_case, eff_case, lit_case, lit, item_case, rule, pred, parts_end_case, schema, words_of_requirements, section_case, title, domain, once, has_stood, given_case, problem}
 use Rattle.kp_grammar.specs.Words.{IsName, IsHead, HasNamedTypes, IsNamed, IsNamedTerm, IsNamedAtom, IsNamedCond, AreNamedConds, IsNamedEff, AreNamedEffs, IsNamedLit, IsNamedItem, AreNamedItems, IsNamedPred, IsNamedSchema, IsNamedDomain, IsNamedProblem, DomainsAreNamed, ProblemsAreNamed}
 use Rattle.kp_grammar.proofs.Words.{tokens_seen, named, headed, OfRule, Gives, g_token, g_none, g_nothing, g_both, g_after, g_many, g_run, g_maybe, g_make, g_choose, g_loose, g_bracket, g_within, given}
-
--- ---- lists
-
-all_append : {A : Type 0} (P : A → Type 0) (xs ys : List A) → AllByRecursion P xs → AllByRecursion P ys → AllByRecursion P (xs ++ ys)
-all_append P [] ys h g = g
-all_append P (x ∷ xs) ys h g = (h.0, all_append P xs ys h.1 g)
-
-all_flat : {A B : Type 0} (f : A → List B) (P : A → Type 0) (Q : B → Type 0) → ((x : A) → P x → AllByRecursion Q (f x)) → (xs : List A) → AllByRecursion P xs → AllByRecursion Q (flat_map f xs)
-all_flat f P Q g [] h = tt
-all_flat f P Q g (x ∷ xs) h = all_append Q (f x) (flat_map f xs) (g x h.0) (all_flat f P Q g xs h.1)
 
 -- ---- alternatives
 
@@ -72,7 +63,7 @@ typed_lists : (p : Symbol → Bool) (V : Word → Type 0) (P : Typed Word → Ty
 typed_lists p V P f g =
     g_make {P = AllByRecursion (AllByRecursion P)}
     (g_many (g_make (g_both (g_both g (g_many g)) (g_maybe {P = Named_words} tt (g_after kinds))) (λ x h. all_with V P f x.1 (x.0.0 ∷ x.0.1) h.0 h.1)))
-    (λ x h. all_flat (λ ts. ts) (AllByRecursion P) P (λ ts k. k) x h)
+    (λ x h. each_flat_map (λ ts. ts) (AllByRecursion P) P (λ ts k. k) x h)
 
 variables : Gives _ _ (typed is_variable) (AllByRecursion HasNamedTypes)
 variables = typed_lists is_variable Any HasNamedTypes (λ w ks h g. g) (any_word is_variable)
@@ -219,10 +210,10 @@ domains : Gives _ _ domain IsNamedDomain
 domains =
     g_bracket (g_after (g_make (g_both (titles is_domain) (g_many {P = OfSection} (g_bracket (g_choose section_cases))))
     (λ x h. record {
-      kinds = all_flat section_types OfSection IsNamed its_types x.1 h.1;
-      constants = all_flat section_constants OfSection IsNamed its_constants x.1 h.1;
-      predicates = all_flat section_predicates OfSection IsNamedPred its_predicates x.1 h.1;
-      schemas = all_flat section_schemas OfSection IsNamedSchema its_schemas x.1 h.1;
+      kinds = each_flat_map section_types OfSection IsNamed its_types x.1 h.1;
+      constants = each_flat_map section_constants OfSection IsNamed its_constants x.1 h.1;
+      predicates = each_flat_map section_predicates OfSection IsNamedPred its_predicates x.1 h.1;
+      schemas = each_flat_map section_schemas OfSection IsNamedSchema its_schemas x.1 h.1;
     })))
 
 -- ---- problems
@@ -265,8 +256,8 @@ problems : Gives _ _ problem IsNamedProblem
 problems =
     g_bracket (g_after (g_make (g_both (titles is_problem) (g_run {P = OfGiven} (λ seen. g_bracket (g_choose (given_cases seen)))))
     (λ x h. record {
-      objects = all_flat given_objects OfGiven IsNamed its_objects x.1 h.1;
-      init = all_flat given_items OfGiven IsNamedItem its_items x.1 h.1;
+      objects = each_flat_map given_objects OfGiven IsNamed its_objects x.1 h.1;
+      init = each_flat_map given_items OfGiven IsNamedItem its_items x.1 h.1;
       goal = its_goal x.1 h.1;
     })))
 

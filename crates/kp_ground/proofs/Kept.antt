@@ -1,5 +1,5 @@
 -- Kept instances have schemas, and their actions are the actions of the ground problem.
-use Rattle.std.proofs.Common.{◌≡◌, ℕ, zero, suc, ◌<◌, true, List, [], ◌∷◌, Option, Some, None, map, length, slice_get, option_map, Err, refl, sym, ap₂, subst, ◌∙◌, arith}
+use Rattle.std.proofs.Common.{◌≡◌, ℕ, zero, suc, ◌<◌, true, List, [], ◌∷◌, Option, Some, None, map, length, slice_get, Err, refl, sym, subst, ◌∙◌, arith}
 use Rattle.std.specs.List.{list_all, flat_map}
 use Rattle.std.proofs.lemmas.Bool.{lt-ltb}
 use Rattle.kp_base.specs.declared.lit.Lit.{Lit}
@@ -13,14 +13,11 @@ use Rattle.kp_base.proofs.Lists.{all_from}
 use Rattle.kp_meaning.specs.Numbered.{Schema, Lifted}
 use Rattle.kp_meaning.specs.Lifted.{Instance, schema_of}
 use Rattle.kp_grounding.specs.declared.flat.Atom.{Atom}
-use Rattle.kp_grounding.specs.declared.flat.Flat.{Flat}
-use Rattle.kp_grounding.specs.Flattening.{flat_of}
-use Rattle.kp_grounding.specs.Ground.{kept_instances, actions_of, object_names, atom_name, numbered_set, ground_over}
+use Rattle.kp_grounding.specs.Ground.{kept_instances, actions_of, atom_name, numbered_set, ground_over}
 use Rattle.kp_grounding.proofs.Kept.{kept_of, act, actions_are}
 use Rattle.kp_kept.specs.Counts.{IsWithin, StopsAtCounts}
-use Rattle.kp_bound.specs.Bound.{flat_at}
 use Rattle.kp_ground.specs.Grounded.{RefusesGround, AnswersGround}
-use Rattle.kp_ground.specs.Passes.{has_schema, name_with, action_from, action_with, action_at, AnswersAtoms}
+use Rattle.kp_ground.specs.Passes.{has_schema, action_with, action_at, AnswersAtoms}
 
 there_below : {X : Type 0} (xs : List X) (n : ℕ) (x : X) → slice_get xs n ≡ Some x → n < length xs
 there_below [] n x h = cc
@@ -40,20 +37,6 @@ actions_at l atoms = actions_are l atoms ∙ same (kept_instances l)
     same : (is : List Instance) → map (λ i. act l atoms (schema_of l i) i.objects) is ≡ map (action_at l atoms) is
     same [] = refl
     same (i ∷ is) = rw (one (schema_of l i) i.objects, same is) refl
-
--- the action with the name and the flat form of an instance is its action
-pub action_is : (l : Lifted) (atoms : List Atom) (n : ℕ) (os : List ℕ) (f : Flat) (name : GroundName) → flat_at l n os ≡ Some f → name_with l n os ≡ Some name → action_from atoms name f ≡ action_with l atoms (slice_get l.schemas n) os
-action_is l atoms n os f name flat named = by (slice_get l.schemas n) flat named
-  where
-    name_of : Schema → GroundName
-    name_of a = record { head = a.name; objects = object_names l os }
-
-    by : (o : Option Schema) → option_map (λ a. flat_of l a os) o ≡ Some f → option_map name_of o ≡ Some name → action_from atoms name f ≡ action_with l atoms o os
-    by None flat named = cc
-    by (Some a) flat named =
-        let same_flat : f ≡ flat_of l a os = cc in
-        let same_name : name ≡ name_of a = cc in
-        ap₂ (action_from atoms) same_name same_flat
 
 -- names, actions and goal make the ground problem
 pub ground_is : (l : Lifted) (atoms : List Atom) (names : List GroundName) (actions : List Action) (goal : List Lit) → names ≡ map (atom_name l) atoms → actions ≡ map (action_at l atoms) (kept_instances l) → goal ≡ numbered_set atoms l.goal

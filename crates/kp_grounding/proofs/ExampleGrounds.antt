@@ -12,6 +12,7 @@ use Rattle.kp_grammar.specs.Parsing.{some_at, next_at}
 use Rattle.kp_meaning.specs.Names.{Name}
 use Rattle.kp_meaning.specs.Numbered.{Lifted}
 use Rattle.kp_meaning.specs.Faults.{HasNoFault}
+pub use Rattle.kp_grammar.proofs.ExampleTexts.{exchange, from_p_to_q}
 use Rattle.kp_meaning.specs.Numbering.{numbered_problem}
 use Rattle.kp_meaning.proofs.Texts.{domain_of, problem_of}
 use Rattle.kp_meaning.proofs.ExampleCells.{cells, one_of_three}
@@ -19,13 +20,13 @@ use Rattle.kp_grounding.specs.Static.{is_static}
 use Rattle.kp_grounding.specs.Ground.{ground_of}
 use Rattle.kp_grounding.specs.Weights.{binding_count, weight, total_weight}
 
-abbrev lifted : List ℕ → List ℕ → Lifted
+abbrev pub lifted : List ℕ → List ℕ → Lifted
 lifted d p = numbered_problem (domain_of d) (problem_of p)
 
-abbrev named : Name → List Name → GroundName
+abbrev pub named : Name → List Name → GroundName
 named head objects = record { head = head; objects = objects }
 
-abbrev effect : List Lit → Lit → Effect
+abbrev pub effect : List Lit → Lit → Effect
 effect cond result = record { cond = cond; result = result }
 
 -- ---- roads are static: they decide which instances are kept, and stay out of conditions
@@ -125,12 +126,6 @@ unfolding cut_from class_of symbol_of some_at next_at
 cells_are_ground = refl
 
 -- ---- one action without conditional effects
-
-abbrev pub exchange : List ℕ
-exchange = codes "(define (domain d) (:predicates (p) (q)) (:action a :precondition (p) :effect (and (q) (not (p)))))"
-
-abbrev pub from_p_to_q : List ℕ
-from_p_to_q = codes "(define (problem e) (:domain d) (:init (p)) (:goal (q)))"
 
 exchange_is_ground : ground_of (lifted exchange from_p_to_q) ≡ record {
   atoms = named (codes "p") [] ∷ named (codes "q") [] ∷ [];

@@ -1,5 +1,5 @@
 -- The ground problem of moves between two places, computed from texts; the laws' premises can be met.
-use Rattle.std.proofs.Common.{◌≡◌, ℕ, true, false, List, [], ◌∷◌, Option, Some, None, refl, sym, subst, inl, inr, map, codes}
+use Rattle.std.proofs.Common.{◌≡◌, ℕ, false, List, [], ◌∷◌, Option, Some, None, refl, sym, subst, inl, inr, map, codes}
 use Rattle.kp_base.specs.declared.lit.Lit.{Lit}
 use Rattle.kp_base.specs.declared.ground.GroundName.{GroundName}
 use Rattle.kp_base.specs.declared.ground.Effect.{Effect}
@@ -7,20 +7,13 @@ use Rattle.kp_base.specs.declared.ground.Action.{Action}
 use Rattle.kp_base.specs.declared.ground.Ground.{Ground}
 use Rattle.kp_base.specs.Lists.{Member}
 use Rattle.kp_base.specs.Lit.{positive, negative}
-use Rattle.kp_lex.specs.Bytes.{class_of}
-use Rattle.kp_lex.specs.Scanning.{cut_from}
-use Rattle.kp_grammar.specs.Symbols.{symbol_of}
-use Rattle.kp_grammar.specs.Parsing.{some_at, next_at}
-use Rattle.kp_meaning.specs.declared.lifted.Term.{Term}
-use Rattle.kp_meaning.specs.declared.lifted.Range.{Range}
-use Rattle.kp_meaning.specs.declared.lifted.Item.{Item}
 use Rattle.kp_meaning.specs.Names.{Name}
-use Rattle.kp_meaning.specs.Faults.{HasNoFault}
-use Rattle.kp_meaning.specs.Numbered.{Cond, Eff, Effs, Schema, Lifted}
-use Rattle.kp_meaning.specs.Lifted.{State, ground, is_named, IsInitial, IsPlan}
+use Rattle.kp_meaning.specs.Lifted.{State, is_named, IsInitial, IsPlan}
 use Rattle.kp_meaning.specs.Numbering.{numbered_problem}
 use Rattle.kp_meaning.proofs.Texts.{domain_of, problem_of}
 use Rattle.kp_meaning.proofs.ExamplePlans.{moves, from_a_to_b}
+use Rattle.kp_meaning.proofs.ExampleNumbered.{move_schema, no_fault}
+pub use Rattle.kp_meaning.proofs.ExampleNumbered.{moves_by_number, numbered_moves}
 use Rattle.kp_grounding.specs.Static.{is_static, HasStaticTruth}
 use Rattle.kp_grounding.specs.Ground.{instance, kept_bindings, kept_instances, ground_atoms, IsNumbering, ground_of}
 use Rattle.kp_grounding.specs.Weights.{binding_count, weight, total_weight}
@@ -30,40 +23,9 @@ use Rattle.kp_grounding.proofs.Static.{static_at_first}
 use Rattle.kp_grounding.proofs.Step.{step_exact, kept_exact}
 use Rattle.kp_grounding.proofs.Plans.{plan_exact}
 use Rattle.kp_grounding.proofs.Names.{actions_named_once}
+use Rattle.kp_grounding.proofs.ExampleGrounds.{named, effect}
 
--- ---- the problem by number
-
-abbrev over : List ℕ → Range
-over os = record { objects = os }
-
-abbrev move_schema : Schema
-move_schema = record {
-  name = codes "move";
-  params = over (0 ∷ 1 ∷ []) ∷ over (0 ∷ 1 ∷ []) ∷ [];
-  pre = Cond.atom true 0 (Term.Param 0 ∷ []);
-  effect = Eff.both (Effs.more_effs (Eff.makes false 0 (Term.Param 0 ∷ [])) (Effs.more_effs (Eff.makes true 0 (Term.Param 1 ∷ [])) Effs.no_eff));
-}
-
-abbrev pub moves_by_number : Lifted
-moves_by_number = record {
-  objects = codes "a" ∷ codes "b" ∷ [];
-  predicates = record { name = codes "at"; arity = 1 } ∷ [];
-  schemas = move_schema ∷ [];
-  init = Item.One (ground true 0 (0 ∷ [])) ∷ [];
-  goal = ground true 0 (1 ∷ []) ∷ [];
-}
-
-pub numbered_moves : numbered_problem (domain_of moves) (problem_of from_a_to_b) ≡ moves_by_number
-unfolding cut_from class_of symbol_of some_at next_at
-numbered_moves = refl
-
--- ---- its ground problem
-
-abbrev named : Name → List Name → GroundName
-named head objects = record { head = head; objects = objects }
-
-abbrev effect : List Lit → Lit → Effect
-effect cond result = record { cond = cond; result = result }
+-- ---- the ground problem
 
 abbrev action : Name → Name → List Lit → List Effect → Action
 action x y pre effects = record { name = named (codes "move") (x ∷ y ∷ []); pre = pre; effects = effects }
@@ -137,10 +99,6 @@ number_and_name n = action_name (ground_of moves_by_number) n
 
 names : map number_and_name (0 ∷ 1 ∷ 2 ∷ 3 ∷ 4 ∷ []) ≡ Some (named (codes "move") (codes "a" ∷ codes "a" ∷ [])) ∷ Some (named (codes "move") (codes "a" ∷ codes "b" ∷ [])) ∷ Some (named (codes "move") (codes "b" ∷ codes "a" ∷ [])) ∷ Some (named (codes "move") (codes "b" ∷ codes "b" ∷ [])) ∷ None ∷ []
 names = refl
-
-no_fault : HasNoFault (domain_of moves) (problem_of from_a_to_b)
-unfolding cut_from class_of symbol_of some_at next_at
-no_fault = record { domain = refl; problem = refl }
 
 -- what has the name of the second action is the second action
 by_its_name : (n : ℕ) → action_name (ground_of (numbered_problem (domain_of moves) (problem_of from_a_to_b))) n ≡ Some (named (codes "move") (codes "a" ∷ codes "b" ∷ [])) → n ≡ 1

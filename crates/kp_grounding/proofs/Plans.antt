@@ -1,11 +1,12 @@
 -- Plans by number, and runs of actions.
-use Rattle.std.proofs.Common.{◌≡◌, ℕ, Bool, true, false, ◌&&◌, List, [], ◌∷◌, ◌++◌, Option, Some, None, refl, sym, ap, subst, map, ◌∙◌, inl, inr, slice_get, suc}
+use Rattle.std.proofs.Common.{◌≡◌, ℕ, Bool, true, false, ◌&&◌, List, [], ◌∷◌, ◌++◌, Option, Some, None, refl, sym, ap, subst, map, ◌∙◌, slice_get}
 use Rattle.std.specs.List.{list_all, flat_map}
 use mathlib.Core.Path.{fun_ext}
 use Rattle.std.proofs.lemmas.Bool.{and_parts, and_from, false≢true}
 use Rattle.kp_base.specs.Lists.{Member}
 use Rattle.kp_base.specs.Steps as steps
 use Rattle.kp_base.proofs.Lists.{any_member, any_from, member_at, filter_member, same-true, same-refl, member_left}
+pub use Rattle.kp_base.proofs.Lists.{number_at}
 use Rattle.kp_meaning.specs.Names.{same}
 use Rattle.kp_meaning.specs.Numbered.{Schema, Lifted}
 use Rattle.kp_meaning.specs.Lifted.{State, Instance, literal_holds, bindings, schema_of, fits, is_instance, permits, applicable, state_by, next, succeeds, IsPlan}
@@ -59,10 +60,6 @@ applied_kept l s truth i inst app = go (schema_of l i) refl inst app
         let r = any_member (same i.objects) (bindings a.params) f in
         let m : Member (bindings a.params) i.objects = subst (Member (bindings a.params)) (sym (same-true i.objects r.0 r.2)) r.1 in
         record { schema = a; at = is; among = kept_exact l s truth a i.objects m h }
-
-pub number_at : {X : Type 0} (xs : List X) (x : X) → Member xs x → (n : ℕ) × (slice_get xs n ≡ Some x)
-number_at [] x m = absurd m
-number_at (y ∷ ys) x m = elim m [ inl e ↦ (0, ap Some e) | inr r ↦ let h = number_at ys x r in (suc h.0, h.1) ]
 
 numbers_of : (l : Lifted) (s : State) → HasStaticTruth l s → (is : List Instance) → list_all (is_instance l) is ≡ true → succeeds l is s ≡ true → (ns : List ℕ) × (map (slice_get (kept_instances l)) ns ≡ map Some is)
 numbers_of l s truth [] inst h = ([], refl)

@@ -1,7 +1,7 @@
 -- The closure over the states of the first n atoms is the closure over all states.
 use Rattle.std.proofs.Common.{◌≡◌, ℕ, Bool, true, false, not, ◌&&◌, cond, List, [], ◌∷◌, refl, sym, ap, subst, map, ◌∙◌, inl, inr, filter, nat_lt, ◌<◌, ◌≤◌, ◌+◌, ◌*◌, zero, suc, arith, replicate, slice_index_or}
 use Rattle.std.specs.List.{list_all, list_any, flat_map, range_with_len}
-use Rattle.std.proofs.lemmas.Bool.{and_parts, and_from, lt-ltb, ltb-true, cases_lt}
+use Rattle.std.proofs.lemmas.Bool.{and_parts, and_from, lt-ltb, ltb-true}
 use Rattle.kp_base.specs.declared.lit.Lit.{Lit}
 use Rattle.kp_base.specs.declared.lit.AtomId.{AtomId}
 use Rattle.kp_base.specs.declared.ground.Initial.{Initial}
@@ -10,20 +10,13 @@ use Rattle.kp_base.specs.Lit.{positive, negative, code_of}
 use Rattle.kp_base.specs.LitSet.{IsAscending}
 use Rattle.kp_base.specs.Steps.{State, holds, is_model}
 use Rattle.kp_base.proofs.Lists.{any_alike, all_alike, all_member, filter_member, member_map, flat_member, all_from, member_flat_map, member_filter}
+pub use Rattle.kp_base.proofs.Lists.{range_there}
 use Rattle.kp_base.proofs.Lits.{has-member, member-has}
 use Rattle.kp_init.specs.Closure.{literals, state_of, states, models_of, closure, IsClosureExact}
 use Rattle.kp_base.specs.Implicates.{are_below, IsOfAtoms}
 use Rattle.kp_init.proofs.Runs.{below, SameBelow, holds_same, all_same}
 
 -- ---- the literals of the first n atoms
-
-pub range_there : (a n k : ℕ) → a ≤ k → k < a + n → Member (range_with_len a n) k
-range_there a zero k le lt = absurd (omega arith)
-range_there a (suc n) k le lt =
-    elim (cases_lt a k) [
-      | inl below' ↦ inr (range_there (a + 1) n k (omega arith) (omega arith))
-      | inr here ↦ inl (omega arith)
-    ]
 
 pub range_only : (a n k : ℕ) → Member (range_with_len a n) k → k < a + n
 range_only a zero k m = absurd m

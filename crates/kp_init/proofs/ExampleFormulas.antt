@@ -9,21 +9,18 @@ use Rattle.kp_lex.specs.Bytes.{class_of}
 use Rattle.kp_lex.specs.Scanning.{cut_from}
 use Rattle.kp_grammar.specs.Symbols.{symbol_of}
 use Rattle.kp_grammar.specs.Parsing.{some_at, next_at}
-use Rattle.kp_meaning.specs.Faults.{HasNoFault}
-use Rattle.kp_meaning.specs.Numbered.{Lifted}
 use Rattle.kp_meaning.specs.Lifted as lifted
-use Rattle.kp_meaning.specs.Numbering.{numbered_problem}
-use Rattle.kp_meaning.specs.NumberLaws.{is_plain_goal}
 use Rattle.kp_meaning.specs.Plans as texts
-use Rattle.kp_meaning.specs.Plans.{HasProblem, Solves}
-use Rattle.kp_meaning.proofs.Texts.{domain_of, problem_of, has_problem}
-use Rattle.kp_meaning.proofs.ExamplePlans.{moves, from_a_to_b, move}
+use Rattle.kp_meaning.specs.Plans.{Solves}
+use Rattle.kp_meaning.proofs.Texts.{domain_of, problem_of}
+use Rattle.kp_meaning.proofs.ExamplePlans.{moves, from_a_to_b, move, move_problem}
+pub use Rattle.kp_meaning.proofs.ExampleNumbered.{no_fault, plain}
 use Rattle.kp_meaning.proofs.ExampleCells.{cells, one_of_three}
 use Rattle.kp_grounding.specs.Ground.{ground_atoms, ground_of, seen_on}
 use Rattle.kp_grounding.specs.Laws.{action_name}
 use Rattle.kp_grounding.proofs.Atoms.{atoms_are_numbered}
 use Rattle.kp_grounding.proofs.ExampleMoves.{moves_by_number, numbered_moves, ground_moves}
-use Rattle.kp_grounding.proofs.ExampleGrounds.{roads, three_towns, exchange, from_p_to_q}
+use Rattle.kp_grounding.proofs.ExampleGrounds.{lifted as by_number, roads, three_towns, exchange, from_p_to_q}
 use Rattle.kp_init.specs.Initial.{initial_of}
 use Rattle.kp_init.specs.Closure.{closure, IsAscendingClosure}
 use Rattle.kp_base.specs.Implicates.{IsOfAtoms}
@@ -32,9 +29,6 @@ use Rattle.kp_init.specs.Laws.{AreModels, IsNamedRun}
 use Rattle.kp_init.proofs.Models.{initial_exact}
 use Rattle.kp_init.proofs.Runs.{initial_is_over, plan_by_name, plan_of_texts}
 use Rattle.kp_init.proofs.Closure.{closure_exact}
-
-abbrev by_number : List ℕ → List ℕ → Lifted
-by_number d p = numbered_problem (domain_of d) (problem_of p)
 
 abbrev atom : ℕ → AtomId
 atom n = record { 0 = n }
@@ -151,14 +145,6 @@ two_actions s = pick (s 0) refl
     pick true e model = rw e refl
     pick false e model = absurd (false≢true (rw e at model))
 
-pub no_fault : HasNoFault (domain_of moves) (problem_of from_a_to_b)
-unfolding cut_from class_of symbol_of some_at next_at
-no_fault = record { domain = refl; problem = refl }
-
-pub plain : is_plain_goal (problem_of from_a_to_b).goal ≡ true
-unfolding cut_from class_of symbol_of some_at next_at
-plain = refl
-
 a_run : IsNamedRun (domain_of moves) (problem_of from_a_to_b) (move (codes "a") (codes "a") ∷ move (codes "a") (codes "b") ∷ []) (0 ∷ 1 ∷ [])
 a_run = record {
   names = subst (λ l. map (action_name (ground_of l)) (0 ∷ 1 ∷ []) ≡ map Some (move (codes "a") (codes "a") ∷ move (codes "a") (codes "b") ∷ [])) (sym numbered_moves) refl;
@@ -170,10 +156,6 @@ a_plan : Solves (domain_of moves) (problem_of from_a_to_b) (move (codes "a") (co
 a_plan = (plan_by_name (domain_of moves) (problem_of from_a_to_b) no_fault plain first (subst (λ l. is_model (initial_of l) first ≡ true) (sym numbered_moves) is_first) (move (codes "a") (codes "a") ∷ move (codes "a") (codes "b") ∷ [])).1 (0 ∷ 1 ∷ [], a_run)
 
 -- and of the two texts
-moves_problem : HasProblem moves from_a_to_b
-unfolding cut_from class_of symbol_of some_at next_at
-moves_problem = has_problem moves from_a_to_b (record { domain_cut = refl; problem_cut = refl; domain_read = refl; problem_read = refl; domain_faults = refl; problem_faults = refl })
-
 a_plan_of_texts : texts.IsPlan moves from_a_to_b (move (codes "a") (codes "a") ∷ move (codes "a") (codes "b") ∷ [])
-unfolding moves_problem
-a_plan_of_texts = (plan_of_texts moves from_a_to_b moves_problem first (subst (λ l. is_model (initial_of l) first ≡ true) (sym numbered_moves) is_first) (move (codes "a") (codes "a") ∷ move (codes "a") (codes "b") ∷ [])).1 (0 ∷ 1 ∷ [], a_run)
+unfolding move_problem
+a_plan_of_texts = (plan_of_texts moves from_a_to_b move_problem first (subst (λ l. is_model (initial_of l) first ≡ true) (sym numbered_moves) is_first) (move (codes "a") (codes "a") ∷ move (codes "a") (codes "b") ∷ [])).1 (0 ∷ 1 ∷ [], a_run)

@@ -1,5 +1,6 @@
 -- A table that notes where each element of a list stands first tells the numbers of atoms and of names.
 use Rattle.std.proofs.Common.{◌≡◌, ◌<◌, ℕ, zero, suc, ◌+◌, Bool, true, false, not, ◌||◌, if◌then◌else◌, cond, List, [], ◌∷◌, Option, Some, None, is_some, length, refl, sym, ap, subst, ◌∙◌, arith, true≢false}
+use Rattle.std.specs.List.{position_from}
 use Rattle.std.specs.Option.{option_or}
 use Rattle.indexmap.specs.IndexMap.{insert_entry}
 use Rattle.kp_meaning.specs.Names.{Name, same, is_among}
@@ -8,7 +9,7 @@ use Rattle.kp_meaning.proofs.Indexes.{Distinct, among_at}
 use Rattle.kp_meaning.proofs.Lists.{same-true, same-refl}
 use Rattle.kp_grounding.specs.declared.flat.Atom.{Atom}
 use Rattle.kp_grounding.specs.Ground.{same_atom, number_of, has_atom}
-use Rattle.kp_init.specs.Tables.{place_from, place_of}
+use Rattle.kp_init.specs.Tables.{place_of}
 
 -- ---- one more element
 
@@ -38,7 +39,7 @@ module _ {K X : Type 0} (same : X → X → Bool) (now : K → X) where
 
 -- ---- numbers of atoms
 
-first_is_number : (n : ℕ) (atoms : List Atom) (a : Atom) → place_from same_atom n atoms a ≡ (if has_atom atoms a then Some (n + number_of atoms a) else None)
+first_is_number : (n : ℕ) (atoms : List Atom) (a : Atom) → position_from (same_atom a) n atoms ≡ (if has_atom atoms a then Some (n + number_of atoms a) else None)
 first_is_number n [] a = refl
 first_is_number n (b ∷ more) a = by (same_atom a b) (first_is_number (n + 1) more a)
   where
@@ -46,8 +47,8 @@ first_is_number n (b ∷ more) a = by (same_atom a b) (first_is_number (n + 1) m
     behind true = let e : n + 1 + number_of more a ≡ n + (1 + number_of more a) = omega arith in ap Some e
     behind false = refl
 
-    by : (t : Bool) → place_from same_atom (n + 1) more a ≡ (if has_atom more a then Some (n + 1 + number_of more a) else None)
-        → (if t then Some n else place_from same_atom (n + 1) more a) ≡ (if t || has_atom more a then Some (n + cond (not t) (1 + number_of more a) 0) else None)
+    by : (t : Bool) → position_from (same_atom a) (n + 1) more ≡ (if has_atom more a then Some (n + 1 + number_of more a) else None)
+        → (if t then Some n else position_from (same_atom a) (n + 1) more) ≡ (if t || has_atom more a then Some (n + cond (not t) (1 + number_of more a) 0) else None)
     by true rest = let e : n ≡ n + 0 = omega arith in ap Some e
     by false rest = rest ∙ behind (has_atom more a)
 
@@ -62,7 +63,7 @@ past (b ∷ more) a h = by (same_atom a b) h (past more a)
 
 module _ (atoms : List Atom) (a : Atom) where
   -- the number that was found is the atom's
-  pub found : (n : ℕ) → place_from same_atom 0 atoms a ≡ Some n → n ≡ number_of atoms a
+  pub found : (n : ℕ) → position_from (same_atom a) 0 atoms ≡ Some n → n ≡ number_of atoms a
   found n h = by (has_atom atoms a) (sym (first_is_number 0 atoms a) ∙ h)
     where
       by : (t : Bool) → (if t then Some (0 + number_of atoms a) else None) ≡ Some n → n ≡ number_of atoms a
@@ -70,7 +71,7 @@ module _ (atoms : List Atom) (a : Atom) where
       by false e = cc
 
   -- and where none was, it is how many there are
-  pub not_found : place_from same_atom 0 atoms a ≡ None → length atoms ≡ number_of atoms a
+  pub not_found : position_from (same_atom a) 0 atoms ≡ None → length atoms ≡ number_of atoms a
   not_found h = by (has_atom atoms a) refl (sym (first_is_number 0 atoms a) ∙ h)
     where
       by : (t : Bool) → has_atom atoms a ≡ t → (if t then Some (0 + number_of atoms a) else None) ≡ None → length atoms ≡ number_of atoms a
@@ -78,7 +79,7 @@ module _ (atoms : List Atom) (a : Atom) where
       by false is e = past atoms a is
 
   -- one is found where the atom is there
-  pub found_there : is_some (place_from same_atom 0 atoms a) ≡ has_atom atoms a
+  pub found_there : is_some (position_from (same_atom a) 0 atoms) ≡ has_atom atoms a
   found_there = ap is_some (first_is_number 0 atoms a) ∙ by (has_atom atoms a)
     where
       by : (t : Bool) → is_some (if t then Some (0 + number_of atoms a) else None) ≡ t
@@ -88,13 +89,13 @@ module _ (atoms : List Atom) (a : Atom) where
 -- ---- numbers of names
 
 -- a name that stands once stands first where it stands
-pub name_found : (m : ℕ) (xs : List Name) → Distinct xs → (n : ℕ) → n < length xs → place_from same m xs (name_at xs n) ≡ Some (m + n)
+pub name_found : (m : ℕ) (xs : List Name) → Distinct xs → (n : ℕ) → n < length xs → position_from (same (name_at xs n)) m xs ≡ Some (m + n)
 name_found m [] once n h = absurd (omega (arith, h))
 name_found m (x ∷ xs) once zero h =
     let e : m ≡ m + 0 = omega arith in
-    ap (λ t. if t then Some m else place_from same (m + 1) xs x) (same-refl x) ∙ ap Some e
+    ap (λ t. if t then Some m else position_from (same x) (m + 1) xs) (same-refl x) ∙ ap Some e
 name_found m (x ∷ xs) once (suc n) h = by (same (name_at xs n) x) refl (name_found (m + 1) xs once.1 n (omega (arith, h)))
   where
-    by : (t : Bool) → same (name_at xs n) x ≡ t → place_from same (m + 1) xs (name_at xs n) ≡ Some (m + 1 + n) → (if t then Some m else place_from same (m + 1) xs (name_at xs n)) ≡ Some (m + suc n)
+    by : (t : Bool) → same (name_at xs n) x ≡ t → position_from (same (name_at xs n)) (m + 1) xs ≡ Some (m + 1 + n) → (if t then Some m else position_from (same (name_at xs n)) (m + 1) xs) ≡ Some (m + suc n)
     by true is rest = absurd (true≢false (sym (subst (λ z. is_among xs z ≡ true) (same-true (name_at xs n) x is) (among_at xs n (omega (arith, h)))) ∙ once.0))
     by false is rest = let e : m + 1 + n ≡ m + suc n = omega arith in rest ∙ ap Some e

@@ -1,13 +1,12 @@
 -- Ground problems whose atoms are told apart by their names, and the atoms that names give back.
 use Rattle.std.specs.Prelude.{◌≡◌, ℕ, Bool, true, ◌&&◌, List, map, length, nat_lt}
-use Rattle.std.specs.List.{list_all}
+use Rattle.std.specs.List.{list_all, position_from}
 use Rattle.std.specs.Option.{unwrap_or}
 use Rattle.kp_base.specs.declared.ground.GroundName.{GroundName}
 use Rattle.kp_meaning.specs.Names.{Name, same, distinct}
 use Rattle.kp_meaning.specs.Numbered.{Lifted}
 use Rattle.kp_grounding.specs.declared.flat.Atom.{Atom}
 use Rattle.kp_grounding.specs.Ground.{ground_atoms}
-use Rattle.kp_init.specs.Tables.{place_from}
 
 -- the names of the predicates
 abbrev pub predicate_names : Lifted → List Name
@@ -27,7 +26,7 @@ pub record HasNamedAtoms (l : Lifted) : Type 0 where
 
 -- where a name stands first; 0 where it stands nowhere
 abbrev pub place_in : List Name → Name → ℕ
-place_in names x = unwrap_or (place_from same 0 names x) 0
+place_in names x = unwrap_or (position_from (same x) 0 names) 0
 
 -- the atom that has the name
 abbrev pub named_atom : Lifted → GroundName → Atom

@@ -1,5 +1,5 @@
 -- What the tables of places and of named atoms tell. This file serves proofs alone.
-use Rattle.std.specs.Prelude.{ℕ, ◌+◌, Bool, not, if◌then◌else◌, List, [], ◌∷◌, Option, Some, None, map, filter}
+use Rattle.std.specs.Prelude.{ℕ, Bool, not, List, Option, map, filter}
 use Rattle.std.specs.List.{list_any}
 use Rattle.std.specs.Map.{lookup}
 use denote.Ref.{Bor}
@@ -12,11 +12,6 @@ use Rattle.kp_grounding.specs.declared.flat.Atom.{Atom}
 use Rattle.kp_grounding.specs.Ground.{atom_of, same_atom, number_of}
 
 -- ---- places
-
--- where x stands first in a list, the first place of which has this number, by a test whether two are one
-abbrev pub place_from : {X : Type 0} → (X → X → Bool) → ℕ → List X → X → Option ℕ
-place_from same n [] x = None
-place_from same n (y ∷ more) x = if same x y then Some n else place_from same (n + 1) more x
 
 -- what a table tells of x
 abbrev pub place_of : {K X : Type 0} → (X → X → Bool) → (K → X) → List (K × ℕ) → X → Option ℕ

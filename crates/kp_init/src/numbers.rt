@@ -1,8 +1,9 @@
 ghost use Rattle.std.specs.Prelude.{◌≡◌, None, Some, List, ℕ, if◌then◌else◌, map, IfOk, OnOk};
+ghost use Rattle.std.specs.List.{position_from};
 ghost use Rattle.std.specs.Option.{option_or};
 ghost use Rattle.kp_meaning.specs.Names.{same};
 ghost use Rattle.kp_names.specs.View.{lifted_view};
-ghost use Rattle.kp_init.specs.Tables.{place_from, name_place};
+ghost use Rattle.kp_init.specs.Tables.{name_place};
 ghost use Rattle.kp_init.specs.ByName.{predicate_names, place_in, named_atom};
 
 use indexmap::IndexMap;
@@ -19,8 +20,8 @@ pub struct Numbers<'a> {
     pub lifted: &'a Lifted,
     predicates: IndexMap<&'a [u8], u32>,
     objects: IndexMap<&'a [u8], u32>,
-    ghost predicates_right: { (x : List ℕ) → name_place predicates.entries x ≡ place_from same 0 (predicate_names (lifted_view lifted.now)) x },
-    ghost objects_right: { (x : List ℕ) → name_place objects.entries x ≡ place_from same 0 lifted.now.objects x },
+    ghost predicates_right: { (x : List ℕ) → name_place predicates.entries x ≡ position_from (same x) 0 (predicate_names (lifted_view lifted.now)) },
+    ghost objects_right: { (x : List ℕ) → name_place objects.entries x ≡ position_from (same x) 0 lifted.now.objects },
 }
 
 // Notes where a name stands, unless it stood before.
@@ -35,7 +36,7 @@ fn note<'a>(first: &mut IndexMap<&'a [u8], u32>, name: &'a [u8], number: u32) ->
 
 // Where each object's name stands first.
 fn object_places<'a>(alloc: Global, objects: &'a [Text]) -> Result<IndexMap<&'a [u8], u32>, Memory>
-    ensures { IfOk result (λ first. (x : List ℕ) → name_place first.entries x ≡ place_from same 0 objects.now x) }
+    ensures { IfOk result (λ first. (x : List ℕ) → name_place first.entries x ≡ position_from (same x) 0 objects.now) }
 {
     let mut first = IndexMap::new(alloc);
     let mut number = 0u32;
@@ -51,7 +52,7 @@ fn predicate_places<'a>(
     alloc: Global,
     predicates: &'a [Pred],
 ) -> Result<IndexMap<&'a [u8], u32>, Memory>
-    ensures { IfOk result (λ first. (x : List ℕ) → name_place first.entries x ≡ place_from same 0 (map (λ q. q.name) predicates.now) x) }
+    ensures { IfOk result (λ first. (x : List ℕ) → name_place first.entries x ≡ position_from (same x) 0 (map (λ q. q.name) predicates.now)) }
 {
     let mut first = IndexMap::new(alloc);
     let mut number = 0u32;

@@ -1,8 +1,9 @@
 ghost use Rattle.std.specs.Prelude.{◌≡◌, ◌≤◌, None, Some, if◌then◌else◌, length, map, IfOk, OnOk};
+ghost use Rattle.std.specs.List.{position_from};
 ghost use Rattle.std.specs.Option.{option_or};
 ghost use Rattle.kp_grounding.specs.declared.flat.Atom.{Atom as Told};
 ghost use Rattle.kp_grounding.specs.Ground.{atom_of, same_atom, number_of, numbered, has_atom};
-ghost use Rattle.kp_init.specs.Tables.{place_from, atom_place};
+ghost use Rattle.kp_init.specs.Tables.{atom_place};
 
 use indexmap::IndexMap;
 use kp_base::{AtomId, Lit, Memory, Row};
@@ -17,7 +18,7 @@ pub struct Places<'a> {
     pub atoms: &'a [Atom],
     first: IndexMap<(u32, &'a [u32]), u32>,
     ghost few: { length atoms.now ≤ 4294967295 },
-    ghost first_right: { (a : Told) → atom_place first.entries a ≡ place_from same_atom 0 atoms.now a },
+    ghost first_right: { (a : Told) → atom_place first.entries a ≡ position_from (same_atom a) 0 atoms.now },
 }
 
 // Notes where an atom stands, unless it stood before.
@@ -41,7 +42,7 @@ fn first_places<'a>(
     atoms: &'a [Atom],
 ) -> Result<IndexMap<(u32, &'a [u32]), u32>, Memory>
     ensures few { OnOk result (length atoms.now ≤ 4294967295) }
-    ensures first { IfOk result (λ first. (a : Told) → atom_place first.entries a ≡ place_from same_atom 0 atoms.now a) }
+    ensures first { IfOk result (λ first. (a : Told) → atom_place first.entries a ≡ position_from (same_atom a) 0 atoms.now) }
 {
     let mut first = IndexMap::new(alloc);
     let mut number = 0u32;
@@ -63,7 +64,7 @@ impl<'a> Places<'a> {
 
     // Where an atom stands first.
     fn find(&self, pred: u32, objects: &[u32]) -> Option<u32>
-        ensures { result ≡ place_from same_atom 0 self.now.atoms.now (record { pred = pred; objects = objects.now }) }
+        ensures { result ≡ position_from (same_atom (record { pred = pred; objects = objects.now })) 0 self.now.atoms.now }
     {
         self.first.get(&(pred, objects)).copied()
     }

@@ -119,12 +119,6 @@ none_there text e j v rest t is =
     let clash : pieces.Token j f.most ≡ pieces.Bad = sym f.piece ∙ sym (ap piece_of is) ∙ e in
     absurd (cc (clash))
 
-no_skip : (n : ℕ) (text : List ℕ) → piece_of text ≡ pieces.Skip n → BeginsNone text
-no_skip n text e j v rest t is =
-    let f = front_is rest t in
-    let clash : pieces.Token j f.most ≡ pieces.Skip n = sym f.piece ∙ sym (ap piece_of is) ∙ e in
-    absurd (cc (clash))
-
 blank_tells : (at b : ℕ) (bs : List ℕ) (r : Result (List Token) ℕ) → is_blank (class_of b) ≡ true → Tells (at + 1) bs r → Tells at (b ∷ bs) r
 blank_tells at b bs (Ok ts) e h = past_blank e h
 blank_tells at b bs (Err i) e h = bad_past_blank e h

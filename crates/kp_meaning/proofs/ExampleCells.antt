@@ -1,28 +1,16 @@
 -- A plan for three initial states, of which exactly one atom is true.
-use Rattle.std.proofs.Common.{◌≡◌, ℕ, Bool, true, false, ◌&&◌, List, [], ◌∷◌, refl, codes}
+use Rattle.std.proofs.Common.{◌≡◌, ℕ, Bool, true, false, List, [], ◌∷◌, refl, codes}
 use Rattle.std.proofs.lemmas.Bool.{false≢true}
 use Rattle.kp_lex.specs.Bytes.{class_of}
 use Rattle.kp_lex.specs.Scanning.{cut_from}
 use Rattle.kp_grammar.specs.Symbols.{symbol_of}
 use Rattle.kp_grammar.specs.Parsing.{some_at, next_at}
-use Rattle.kp_grammar.specs.declared.tree.Word.{Word}
-use Rattle.kp_grammar.specs.Trees.{Problem}
-use Rattle.kp_meaning.specs.Names.{Name, same}
+use Rattle.kp_meaning.specs.Names.{same}
 use Rattle.kp_meaning.specs.States.{State}
-use Rattle.kp_meaning.specs.Steps.{Step}
-use Rattle.kp_meaning.specs.Initial.{is_named, IsInitial}
+use Rattle.kp_meaning.specs.Initial.{IsInitial}
 use Rattle.kp_meaning.specs.Plans.{HasProblem, succeeds, IsPlan}
 use Rattle.kp_meaning.proofs.Texts.{domain_of, problem_of, has_problem, solves_theirs}
-
-abbrev step : List ℕ → List Name → Step
-step head objects = record { head = head; objects = objects }
-
--- the state of the named atoms whose predicates pass the test
-abbrev state_of : Problem Word → (Name → Bool) → State
-state_of p test h os = is_named p h os && test h
-
-named_alone : (p : Problem Word) (test : Name → Bool) (h : Name) (os : List Name) → is_named p h os ≡ false → state_of p test h os ≡ false
-named_alone p test h os e = rw e refl
+use Rattle.kp_meaning.proofs.ExamplePlans.{step, state_of, named_alone}
 
 abbrev pub cells : List ℕ
 cells = codes "(define (domain cells) (:predicates (x1) (x2) (x3)) (:action left :effect (and (when (x3) (and (x2) (not (x3)))) (when (x2) (and (x1) (not (x2)))))))"

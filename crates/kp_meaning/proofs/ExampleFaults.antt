@@ -8,6 +8,7 @@ use Rattle.kp_meaning.specs.Faults.{Fault, unknown_name, declared_twice, wrong_u
 use Rattle.kp_meaning.specs.Plans.{HasProblem}
 use Rattle.kp_grammar.specs.Grammar as grammar
 use Rattle.kp_grammar.proofs.Computed.{reads_as}
+use Rattle.kp_grammar.proofs.ExampleTexts.{exchange}
 use Rattle.kp_meaning.proofs.Texts.{tokens, domain_of, problem_of, reads_once}
 
 abbrev in_domain : List ℕ → List ℕ → List Fault
@@ -17,9 +18,6 @@ abbrev in_problem : List ℕ → List ℕ → List Fault
 in_problem a b = problem_faults (domain_of a) (problem_of b)
 
 -- ---- in the problem
-
-abbrev exchange : List ℕ
-exchange = codes "(define (domain d) (:predicates (p) (q)) (:action a :precondition (p) :effect (and (q) (not (p)))))"
 
 -- no such predicate
 abbrev goal_y : List ℕ

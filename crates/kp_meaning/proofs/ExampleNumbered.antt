@@ -14,7 +14,7 @@ use Rattle.kp_meaning.specs.Faults.{HasNoFault}
 use Rattle.kp_meaning.specs.States.{unbound, bind}
 use Rattle.kp_meaning.specs.Initial as named_initial
 use Rattle.kp_meaning.specs.Plans.{HasProblem, Solves}
-use Rattle.kp_meaning.specs.Numbered.{Cond, Conds, Eff, Effs, Lifted}
+use Rattle.kp_meaning.specs.Numbered.{Cond, Conds, Eff, Effs, Schema, Lifted}
 use Rattle.kp_meaning.specs.Lifted.{Instance, ground, is_instance, is_named, IsPlan}
 use Rattle.kp_meaning.specs.Numbering.{numbered_problem, named_step, Agree}
 use Rattle.kp_meaning.specs.NumberLaws.{Matches, is_plain_goal}
@@ -39,21 +39,24 @@ over os = record { objects = os }
 
 -- ---- parameters of a type
 
-abbrev moves_by_number : Lifted
+abbrev pub move_schema : Schema
+move_schema = record {
+  name = codes "move";
+  params = over (0 ∷ 1 ∷ []) ∷ over (0 ∷ 1 ∷ []) ∷ [];
+  pre = Cond.atom true 0 (parameter 0 ∷ []);
+  effect = both_effs (Eff.makes false 0 (parameter 0 ∷ [])) (Eff.makes true 0 (parameter 1 ∷ []));
+}
+
+abbrev pub moves_by_number : Lifted
 moves_by_number = record {
   objects = codes "a" ∷ codes "b" ∷ [];
   predicates = predicate (codes "at") 1 ∷ [];
-  schemas = record {
-    name = codes "move";
-    params = over (0 ∷ 1 ∷ []) ∷ over (0 ∷ 1 ∷ []) ∷ [];
-    pre = Cond.atom true 0 (parameter 0 ∷ []);
-    effect = both_effs (Eff.makes false 0 (parameter 0 ∷ [])) (Eff.makes true 0 (parameter 1 ∷ []));
-  } ∷ [];
+  schemas = move_schema ∷ [];
   init = Item.One (ground true 0 (0 ∷ [])) ∷ [];
   goal = ground true 0 (1 ∷ []) ∷ [];
 }
 
-numbered_moves : numbered_problem (domain_of moves) (problem_of from_a_to_b) ≡ moves_by_number
+pub numbered_moves : numbered_problem (domain_of moves) (problem_of from_a_to_b) ≡ moves_by_number
 unfolding cut_from class_of symbol_of some_at next_at
 numbered_moves = refl
 
@@ -108,11 +111,11 @@ hides_problem = has_problem hides nested (record { domain_cut = refl; problem_cu
 -- ---- the laws' premises
 
 -- no fault, and no equality in the goal
-no_fault : HasNoFault (domain_of moves) (problem_of from_a_to_b)
+pub no_fault : HasNoFault (domain_of moves) (problem_of from_a_to_b)
 unfolding cut_from class_of symbol_of some_at next_at
 no_fault = record { domain = refl; problem = refl }
 
-plain : is_plain_goal (problem_of from_a_to_b).goal ≡ true
+pub plain : is_plain_goal (problem_of from_a_to_b).goal ≡ true
 unfolding cut_from class_of symbol_of some_at next_at
 plain = refl
 

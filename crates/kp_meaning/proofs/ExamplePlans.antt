@@ -5,6 +5,7 @@ use Rattle.kp_lex.specs.Bytes.{class_of}
 use Rattle.kp_lex.specs.Scanning.{cut_from}
 use Rattle.kp_grammar.specs.Symbols.{symbol_of}
 use Rattle.kp_grammar.specs.Parsing.{some_at, next_at}
+use Rattle.kp_grammar.proofs.ExampleTexts.{exchange, from_p_to_q}
 use Rattle.kp_grammar.specs.declared.tree.Word.{Word}
 use Rattle.kp_grammar.specs.Trees.{Problem}
 use Rattle.kp_meaning.specs.Names.{Name}
@@ -25,12 +26,6 @@ pub named_alone : (p : Problem Word) (test : Name → Bool) (h : Name) (os : Lis
 named_alone p test h os e = rw e refl
 
 -- ---- one action that exchanges p for q
-
-abbrev exchange : List ℕ
-exchange = codes "(define (domain d) (:predicates (p) (q)) (:action a :precondition (p) :effect (and (q) (not (p)))))"
-
-abbrev from_p_to_q : List ℕ
-from_p_to_q = codes "(define (problem e) (:domain d) (:init (p)) (:goal (q)))"
 
 exchange_problem : HasProblem exchange from_p_to_q
 unfolding cut_from class_of symbol_of some_at next_at

@@ -8,16 +8,14 @@ use Rattle.kp_grammar.specs.Symbols.{symbol_of}
 use Rattle.kp_grammar.specs.Parsing.{some_at, next_at}
 use Rattle.kp_meaning.specs.Names.{Name, is_among}
 use Rattle.kp_meaning.specs.States.{State}
-use Rattle.kp_meaning.specs.Steps.{Step, applicable, next}
+use Rattle.kp_meaning.specs.Steps.{applicable, next}
 use Rattle.kp_meaning.specs.Initial.{item_holds, IsInitial}
 use Rattle.kp_meaning.proofs.Texts.{domain_of, problem_of}
+use Rattle.kp_meaning.proofs.ExamplePlans.{step}
 
 -- the state in which these predicates hold of each list of objects
 abbrev of : List Name → State
 of hs h os = is_among hs h
-
-abbrev step : List ℕ → List Name → Step
-step head objects = record { head = head; objects = objects }
 
 -- ---- items of `:init`
 

@@ -1,13 +1,10 @@
 -- Stripped lists of steps and written names, computed.
 use Rattle.std.proofs.Common.{◌≡◌, ℕ, List, [], ◌∷◌, Some, None, refl, sym, codes}
 use Rattle.std.proofs.lemmas.Bool.{false≢true}
-use Rattle.kp_meaning.specs.Names.{Name}
 use Rattle.kp_meaning.specs.Steps.{Step}
 use Rattle.kp_meaning.specs.Encoding.{encoded, decoded, HasNoEmptyPart}
 use Rattle.kp_meaning.specs.Strip.{strip}
-
-abbrev step : List ℕ → List Name → Step
-step head objects = record { head = head; objects = objects }
+use Rattle.kp_meaning.proofs.ExamplePlans.{step}
 
 abbrev operator : List ℕ → Step
 operator name = step name []

@@ -6,6 +6,7 @@ use Rattle.std.proofs.lemmas.List.{append-nil, map-append}
 use Rattle.std.proofs.lemmas.Grind.{flat_map-append}
 use Rattle.std.proofs.lemmas.List.Folds.{list_all-append, list_all-map}
 use Rattle.std.proofs.lemmas.Bool.{and_parts, and_from, false≢true, lt-ltb, ltb-true}
+use Rattle.std.proofs.Math.Bool.{and-true}
 use Rattle.kp_grammar.specs.declared.tree.Word.{Word}
 use Rattle.kp_grammar.specs.Trees.{Term, Atom, Cond, Conds, Eff, Effs, Lit, Item, Items, Domain, Problem}
 use Rattle.kp_meaning.specs.declared.lifted.GroundLit.{GroundLit}
@@ -25,10 +26,6 @@ use Rattle.kp_meaning.specs.NumberLaws.{Matches, is_plain_goal, are_plain_goals}
 use Rattle.kp_meaning.proofs.Lists.{bool_same, any_map, any_alike, all_alike, all_member, append_empty, same-true, same-refl}
 use Rattle.kp_meaning.proofs.Indexes.{at_index, index_below, Distinct, index_at}
 use Rattle.kp_meaning.proofs.Numbered.{terms_below, terms_named, object_eq, among_heads, atom_terms, matches_more, bindings_numbered, object_list_good}
-
-and_true : (b : Bool) → (b && true) ≡ b
-and_true true = refl
-and_true false = refl
 
 module _ (d : Domain Word) (p : Problem Word) where
   -- ---- literals of declared predicates and objects
@@ -126,7 +123,7 @@ module _ (d : Domain Word) (p : Problem Word) where
       one (Term.name w) = refl
       one (Term.variable w) = refl
 
-  literal_valid : (positive : Bool) (a : Atom Word) → atom_faults d p [] a ≡ [] → is_valid (numbered_literal d p positive a) ≡ true
+  pub literal_valid : (positive : Bool) (a : Atom Word) → atom_faults d p [] a ≡ [] → is_valid (numbered_literal d p positive a) ≡ true
   literal_valid positive a h = rw (object_numbers a.terms) (atom_valid [] unbound [] no_variables positive a h)
 
   literal_named : (positive : Bool) (a : Atom Word) → atom_faults d p [] a ≡ [] → named_literal d p (numbered_literal d p positive a) ≡ named.literal positive a unbound
@@ -202,9 +199,9 @@ module _ (d : Domain Word) (p : Problem Word) where
     mutual
       pub item_numbered : Distinct (heads d) → (i : Item Word) → item_faults d p i ≡ [] → list_all (item_holds t) (numbered_item d p i) ≡ named_initial.item_holds s i
       item_numbered once (Item.items is) h = items_numbered once is h
-      item_numbered once (Item.fact positive a) h = and_true _ ∙ (literal_holds_named (numbered_literal d p positive a) (literal_valid positive a h) ∙ ap (named.literal_holds s) (literal_named positive a h))
-      item_numbered once (Item.one_of w ls) h = and_true _ ∙ (one_holds_named once (map (numbered_lit d p) ls) (lits_valid ls h) ∙ ap (named_initial.one_holds s) (lits_named ls h))
-      item_numbered once (Item.any_of w ls) h = and_true _ ∙ (any_holds_named (map (numbered_lit d p) ls) (lits_valid ls h) ∙ ap (list_any (named.literal_holds s)) (lits_named ls h))
+      item_numbered once (Item.fact positive a) h = and-true _ ∙ (literal_holds_named (numbered_literal d p positive a) (literal_valid positive a h) ∙ ap (named.literal_holds s) (literal_named positive a h))
+      item_numbered once (Item.one_of w ls) h = and-true _ ∙ (one_holds_named once (map (numbered_lit d p) ls) (lits_valid ls h) ∙ ap (named_initial.one_holds s) (lits_named ls h))
+      item_numbered once (Item.any_of w ls) h = and-true _ ∙ (any_holds_named (map (numbered_lit d p) ls) (lits_valid ls h) ∙ ap (list_any (named.literal_holds s)) (lits_named ls h))
       item_numbered once (Item.unknown w a) h = refl
 
       items_numbered : Distinct (heads d) → (is : Items Word) → items_faults d p is ≡ [] → list_all (item_holds t) (numbered_items d p is) ≡ named_initial.items_hold s is
@@ -217,7 +214,7 @@ module _ (d : Domain Word) (p : Problem Word) where
     mutual
       pub goal_numbered : (c : Cond Word) → cond_faults d p [] c ≡ [] → is_plain_goal c ≡ true → list_all (literal_holds t) (numbered_goal d p c) ≡ named.holds s unbound c
       goal_numbered (Cond.all cs) h plain = goals_numbered cs h plain
-      goal_numbered (Cond.atom positive a) h plain = and_true _ ∙ (literal_holds_named (numbered_literal d p positive a) (literal_valid positive a h) ∙ ap (named.literal_holds s) (literal_named positive a h))
+      goal_numbered (Cond.atom positive a) h plain = and-true _ ∙ (literal_holds_named (numbered_literal d p positive a) (literal_valid positive a h) ∙ ap (named.literal_holds s) (literal_named positive a h))
       goal_numbered (Cond.same positive x y) h plain = absurd (false≢true plain)
 
       goals_numbered : (cs : Conds Word) → conds_faults d p [] cs ≡ [] → are_plain_goals cs ≡ true → list_all (literal_holds t) (numbered_goals d p cs) ≡ named.all_hold s unbound cs

@@ -1,6 +1,6 @@
 -- A tree means the same wherever its words stand.
-use Rattle.std.proofs.Common.{◌≡◌, ℕ, zero, suc, Bool, true, false, cond, ◌&&◌, ◌||◌, List, [], ◌∷◌, ◌++◌, refl, sym, ap, ◌∙◌, Option, Some, None, option_map, map, filter, find, length}
-use Rattle.std.specs.List.{list_any, list_all, flat_map}
+use Rattle.std.proofs.Common.{◌≡◌, ℕ, zero, suc, Bool, true, false, cond, ◌&&◌, ◌||◌, List, [], ◌∷◌, refl, sym, ap, ◌∙◌, Option, Some, None, option_map, map, find, length}
+use Rattle.std.specs.List.{list_any, list_all}
 use Rattle.kp_grammar.specs.declared.tree.Word.{Word}
 use Rattle.kp_grammar.specs.Trees.{Typed, Term, Atom, Cond, Conds, Eff, Effs, Lit, Item, Items, Schema, Domain, Problem}
 use Rattle.kp_base.specs.Lists.{choices}
@@ -10,8 +10,9 @@ use Rattle.kp_meaning.specs.States.{State, Binding, unbound, bind, Literal, obje
 use Rattle.kp_meaning.specs.Steps.{Step, object_lists, fires, all_fire, after, schema_of, parameters, fits, is_instance, permits, applicable, state_by, next}
 use Rattle.kp_meaning.specs.Initial.{by_name, one_holds, item_holds, items_hold, item_literals, items_literals, is_of, is_named, IsInitial}
 use Rattle.kp_meaning.specs.Plans.{succeeds, Solves}
-use Rattle.std.proofs.lemmas.List.{length-map}
-use Rattle.kp_meaning.proofs.Lists.{any_map, map_map}
+use Rattle.std.proofs.lemmas.List.{length-map, map-append}
+use Rattle.std.proofs.lemmas.List.Elements.{filter_agree}
+use Rattle.kp_meaning.proofs.Lists.{any_map, map_map, any_alike, all_alike, flat_alike}
 use Rattle.kp_meaning.specs.Places.{typed_map, term_map, atom_map, cond_map, conds_map, eff_map, effs_map, lit_map, item_map, items_map, schema_map, domain_map, problem_map, KeepsTexts}
 
 -- ---- lists of what was mapped
@@ -19,26 +20,6 @@ use Rattle.kp_meaning.specs.Places.{typed_map, term_map, atom_map, cond_map, con
 all_map : {X Y : Type 0} (m : X → Y) (g : Y → Bool) (h : X → Bool) (xs : List X) → ((x : X) → g (m x) ≡ h x) → list_all g (map m xs) ≡ list_all h xs
 all_map m g h [] e = refl
 all_map m g h (x ∷ xs) e = rw (e x, all_map m g h xs e) refl
-
-any_agree : {X : Type 0} (g h : X → Bool) (xs : List X) → ((x : X) → g x ≡ h x) → list_any g xs ≡ list_any h xs
-any_agree g h [] e = refl
-any_agree g h (x ∷ xs) e = rw (e x, any_agree g h xs e) refl
-
-all_agree : {X : Type 0} (g h : X → Bool) (xs : List X) → ((x : X) → g x ≡ h x) → list_all g xs ≡ list_all h xs
-all_agree g h [] e = refl
-all_agree g h (x ∷ xs) e = rw (e x, all_agree g h xs e) refl
-
-filter_agree : {X : Type 0} (g h : X → Bool) (xs : List X) → ((x : X) → g x ≡ h x) → filter g xs ≡ filter h xs
-filter_agree g h [] e = refl
-filter_agree g h (x ∷ xs) e = rw (e x, filter_agree g h xs e) refl
-
-pub flat_agree : {X Y : Type 0} (g h : X → List Y) (xs : List X) → ((x : X) → g x ≡ h x) → flat_map g xs ≡ flat_map h xs
-flat_agree g h [] e = refl
-flat_agree g h (x ∷ xs) e = rw (e x, flat_agree g h xs e) refl
-
-map_append : {X Y : Type 0} (m : X → Y) (xs ys : List X) → map m (xs ++ ys) ≡ map m xs ++ map m ys
-map_append m [] ys = refl
-map_append m (x ∷ xs) ys = ap (λ z. m x ∷ z) (map_append m xs ys)
 
 pub find_map : {X Y : Type 0} (m : X → Y) (g : Y → Bool) (h : X → Bool) (xs : List X) → ((x : X) → g (m x) ≡ h x) → find g (map m xs) ≡ option_map m (find h xs)
 find_map m g h [] e = refl
@@ -68,14 +49,14 @@ module _ (f : Word → Word) (keep : KeepsTexts f) where
   below_kept (suc n) kinds t u =
       ap (λ z. (same t u || same u object) || z)
       (any_map (typed_map f) (λ x. leads x t && list_any (λ p. below_within n (map (typed_map f) kinds) p u) (types_of x)) (λ x. leads x t && list_any (λ p. below_within n kinds p u) (types_of x)) kinds
-      (λ x. rw (leads_kept t x, types_of_kept x) (ap (λ z. leads x t && z) (any_agree (λ p. below_within n (map (typed_map f) kinds) p u) (λ p. below_within n kinds p u) (types_of x) (λ p. below_kept n kinds p u)))))
+      (λ x. rw (leads_kept t x, types_of_kept x) (ap (λ z. leads x t && z) (any_alike (λ p. below_within n (map (typed_map f) kinds) p u) (λ p. below_within n kinds p u) (types_of x) (λ p _. below_kept n kinds p u)))))
 
   is_below_kept : (kinds : List (Typed Word)) (t u : Name) → is_below (map (typed_map f) kinds) t u ≡ is_below kinds t u
   is_below_kept kinds t u = rw (length-map kinds (typed_map f)) (below_kept (length kinds) kinds t u)
 
   module _ (d : Domain Word) (p : Problem Word) where
     pub lines_kept : object_lines (domain_map f d) (problem_map f p) ≡ map (typed_map f) (object_lines d p)
-    lines_kept = sym (map_append (typed_map f) d.constants p.objects)
+    lines_kept = sym (map-append (typed_map f) d.constants p.objects)
 
     objects_kept : objects (domain_map f d) (problem_map f p) ≡ objects d p
     objects_kept = ap (λ z. distinct (declared z)) lines_kept ∙ ap distinct (declared_kept (object_lines d p))
@@ -84,13 +65,13 @@ module _ (f : Word → Word) (keep : KeepsTexts f) where
     of_type_kept o t =
         ap (list_any (λ x. same x.word.text o && list_any (λ k. is_below (map (typed_map f) d.kinds) k t) (types_of x))) lines_kept
         ∙ any_map (typed_map f) (λ x. same x.word.text o && list_any (λ k. is_below (map (typed_map f) d.kinds) k t) (types_of x)) (λ x. same x.word.text o && list_any (λ k. is_below d.kinds k t) (types_of x)) (object_lines d p)
-        (λ x. rw (keep x.word, types_of_kept x) (ap (λ z. same x.word.text o && z) (any_agree (λ k. is_below (map (typed_map f) d.kinds) k t) (λ k. is_below d.kinds k t) (types_of x) (λ k. is_below_kept d.kinds k t))))
+        (λ x. rw (keep x.word, types_of_kept x) (ap (λ z. same x.word.text o && z) (any_alike (λ k. is_below (map (typed_map f) d.kinds) k t) (λ k. is_below d.kinds k t) (types_of x) (λ k _. is_below_kept d.kinds k t))))
 
     range_kept : (v : Typed Word) → range (domain_map f d) (problem_map f p) (typed_map f v) ≡ range d p v
     range_kept v =
         rw (objects_kept, types_of_kept v)
-        (filter_agree (λ o. list_any (is_of_type (domain_map f d) (problem_map f p) o) (types_of v)) (λ o. list_any (is_of_type d p o) (types_of v)) (objects d p)
-        (λ o. any_agree (is_of_type (domain_map f d) (problem_map f p) o) (is_of_type d p o) (types_of v) (of_type_kept o)))
+        (filter_agree (λ o. list_any (is_of_type (domain_map f d) (problem_map f p) o) (types_of v)) (λ o. list_any (is_of_type d p o) (types_of v))
+        (λ o. any_alike (is_of_type (domain_map f d) (problem_map f p) o) (is_of_type d p o) (types_of v) (λ t _. of_type_kept o t)) (objects d p))
 
     lists_kept : (xs : List (Typed Word)) → object_lists (domain_map f d) (problem_map f p) (map (typed_map f) xs) ≡ object_lists d p xs
     lists_kept xs = ap choices (map_map (typed_map f) (range (domain_map f d) (problem_map f p)) (range d p) xs range_kept)
@@ -171,8 +152,8 @@ module _ (f : Word → Word) (keep : KeepsTexts f) where
       fires_kept s b (Eff.when c e) = rw (holds_kept s b c, fires_kept s b e) refl
       fires_kept s b (Eff.each xs e) =
           rw (lists_kept d p xs, declared_kept xs)
-          (flat_agree (λ os. fires (domain_map f d) (problem_map f p) s (bind (declared xs) os b) (eff_map f e)) (λ os. fires d p s (bind (declared xs) os b) e) (object_lists d p xs)
-          (λ os. fires_kept s (bind (declared xs) os b) e))
+          (flat_alike (λ os. fires (domain_map f d) (problem_map f p) s (bind (declared xs) os b) (eff_map f e)) (λ os. fires d p s (bind (declared xs) os b) e) (object_lists d p xs)
+          (λ os _. fires_kept s (bind (declared xs) os b) e))
       fires_kept s b (Eff.makes positive a) = ap (λ l. l ∷ []) (literal_kept positive a b)
 
       all_fire_kept : (s : State) (b : Binding) (es : Effs Word) → all_fire (domain_map f d) (problem_map f p) s b (effs_map f es) ≡ all_fire d p s b es
@@ -214,7 +195,7 @@ module _ (f : Word → Word) (keep : KeepsTexts f) where
         ∙ ap (λ z. applicable d i s && z) (ap (succeeds (domain_map f d) (problem_map f p) is) (next_kept i s) ∙ succeeds_kept is (next d p i s))
 
     instances_kept : (steps : List Step) → list_all (is_instance (domain_map f d) (problem_map f p)) steps ≡ list_all (is_instance d p) steps
-    instances_kept steps = all_agree (is_instance (domain_map f d) (problem_map f p)) (is_instance d p) steps instance_kept
+    instances_kept steps = all_alike (is_instance (domain_map f d) (problem_map f p)) (is_instance d p) steps (λ i _. instance_kept i)
 
     pub solves_there : (steps : List Step) → Solves d p steps → Solves (domain_map f d) (problem_map f p) steps
     solves_there steps h = record { instances = instances_kept steps ∙ h.instances; reaches = λ s i. succeeds_kept steps s ∙ h.reaches s (initial_back p s i) }

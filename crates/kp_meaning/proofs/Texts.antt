@@ -1,6 +1,5 @@
 -- Texts that are cut and read by computing, and that a text has one tree.
-use Rattle.std.proofs.Common.{◌≡◌, ℕ, Bool, List, [], Result, Ok, Err, subst}
-use Rattle.kp_lex.specs.declared.token.Token.{Token}
+use Rattle.std.proofs.Common.{◌≡◌, ℕ, Bool, List, [], Ok, Err, subst}
 use Rattle.kp_lex.specs.Scanning.{cut}
 use Rattle.kp_lex.proofs.Outcomes.{one_cutting}
 use Rattle.kp_grammar.specs.declared.tree.Word.{Word}
@@ -14,17 +13,10 @@ use Rattle.kp_grammar.specs.Parsing.{Outcome}
 use Rattle.kp_grammar.specs.Texts.{ReadsAs}
 use Rattle.kp_grammar.proofs.Exact.{once_read}
 use Rattle.kp_grammar.proofs.Computed.{outcome, reads_as}
+pub use Rattle.kp_grammar.proofs.Computed.{tokens}
 use Rattle.kp_meaning.specs.Faults.{domain_faults, problem_faults}
 use Rattle.kp_meaning.specs.Steps.{Step}
 use Rattle.kp_meaning.specs.Plans.{HasProblem, HasOneProblem, Solves, IsPlan}
-
--- the tokens of a text that is cut
-abbrev pub tokens_in : Result (List Token) ℕ → List Token
-tokens_in (Ok ts) = ts
-tokens_in (Err i) = []
-
-abbrev pub tokens : List ℕ → List Token
-tokens text = tokens_in (cut 0 text)
 
 -- the trees of texts that read
 abbrev pub domain_in : Outcome Word (Domain Word) → Domain Word

@@ -1,6 +1,7 @@
 -- What a form reads of tokens whose words have a property has only words with it.
-use Rattle.std.proofs.Common.{Bool, List, [], ◌∷◌, ◌++◌, map}
-use Rattle.std.specs.List.{AllByRecursion, flat_map}
+use Rattle.std.proofs.Common.{Bool, List, [], ◌∷◌, map}
+use Rattle.std.specs.List.{AllByRecursion}
+use Rattle.kp_base.proofs.Lists.{each_flat_map}
 use Rattle.kp_grammar.specs.declared.tree.Word.{Word}
 use Rattle.kp_grammar.specs.Trees.{Typed, Term, Atom, Cond, Conds, conds_of, Eff, Effs, effs_of, Lit, Item, Items, items_of, Pred, Schema, Domain, Problem, Section, section_types, section_constants, section_predicates, section_schemas, Given, given_objects, given_items, goal_of}
 use Rattle.kp_grammar.specs.Symbols.{Tok}
@@ -9,14 +10,6 @@ use Rattle.kp_grammar.specs.Forms.{Form}
 use Rattle.kp_grammar.specs.Reading.{ReadBy, r_token, r_none, r_both, r_after, r_end, r_more, r_last, r_next, r_absent, r_present, r_make, r_choice, r_loose, r_bracket, r_within}
 
 -- ---- lists
-
-pub all_append : {A : Type 0} (P : A → Type 0) (xs ys : List A) → AllByRecursion P xs → AllByRecursion P ys → AllByRecursion P (xs ++ ys)
-all_append P [] ys h g = g
-all_append P (x ∷ xs) ys h g = (h.0, all_append P xs ys h.1 g)
-
-pub all_flat : {A B : Type 0} (f : A → List B) (P : A → Type 0) (Q : B → Type 0) → ((x : A) → P x → AllByRecursion Q (f x)) → (xs : List A) → AllByRecursion P xs → AllByRecursion Q (flat_map f xs)
-all_flat f P Q g [] h = tt
-all_flat f P Q g (x ∷ xs) h = all_append Q (f x) (flat_map f xs) (g x h.0) (all_flat f P Q g xs h.1)
 
 pub all_mapped : {A B : Type 0} (f : A → B) (P : A → Type 0) (Q : B → Type 0) → ((x : A) → P x → Q (f x)) → (xs : List A) → AllByRecursion P xs → AllByRecursion Q (map f xs)
 all_mapped f P Q g [] h = tt
@@ -178,7 +171,7 @@ module _ (P : Word → Type 0) where
   made m_kind x h = (h, tt)
   made m_kinds x h = h
   made m_typed x h = with_held x.1 (x.0.0 ∷ x.0.1) h.0 h.1
-  made m_joined x h = all_flat (λ ts. ts) (AllByRecursion OfTyped) OfTyped (λ ts k. k) x h
+  made m_joined x h = each_flat_map (λ ts. ts) (AllByRecursion OfTyped) OfTyped (λ ts k. k) x h
   made m_all x h = conds_held x h
   made m_true x h = tt
   made (m_holds b) x h = h
@@ -203,10 +196,10 @@ module _ (P : Word → Type 0) where
   made m_predicates x h = h
   made m_action x h = h
   made m_domain x h = (
-    all_flat section_types OfSection OfTyped types_held x.1 h.1,
-    all_flat section_constants OfSection OfTyped constants_held x.1 h.1,
-    all_flat section_predicates OfSection OfPred predicates_held x.1 h.1,
-    all_flat section_schemas OfSection OfSchema schemas_held x.1 h.1,
+    each_flat_map section_types OfSection OfTyped types_held x.1 h.1,
+    each_flat_map section_constants OfSection OfTyped constants_held x.1 h.1,
+    each_flat_map section_predicates OfSection OfPred predicates_held x.1 h.1,
+    each_flat_map section_schemas OfSection OfSchema schemas_held x.1 h.1,
   )
   made m_of_domain x h = tt
   made m_needs x h = tt
@@ -215,8 +208,8 @@ module _ (P : Word → Type 0) where
   made m_goal x h = h
   made (m_saw s) x h = (tt, h)
   made m_problem x h = (
-    all_flat given_objects OfGiven OfTyped objects_held x.1 h.1,
-    all_flat given_items OfGiven OfItem init_held x.1 h.1,
+    each_flat_map given_objects OfGiven OfTyped objects_held x.1 h.1,
+    each_flat_map given_items OfGiven OfItem init_held x.1 h.1,
     goal_held x.1 h.1,
   )
 

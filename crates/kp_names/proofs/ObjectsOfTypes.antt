@@ -2,6 +2,8 @@
 use Rattle.std.proofs.Common.{◌≡◌, ◌+◌, ℕ, suc, Bool, true, false, ◌&&◌, ◌||◌, if◌then◌else◌, cond, List, [], ◌∷◌, length, map, filter, fold, slice_set, replicate, length-set, refl, sym, ap, ap₂, ◌∙◌, subst, inl, inr, arith}
 use Rattle.std.specs.List.{list_any}
 use Rattle.std.proofs.lemmas.Bool.{and_parts, and_from, both_ways}
+use Rattle.std.proofs.Math.Bool.{and-true, and-false, or-true, or-false, or_assoc}
+use Rattle.std.proofs.lemmas.List.Elements.{filter_agree}
 use Rattle.std.proofs.lemmas.List.Sums.{fold-append}
 use Rattle.kp_grammar.specs.declared.tree.Word.{Word}
 use Rattle.kp_grammar.specs.Trees.{Typed, Domain, Problem}
@@ -20,22 +22,6 @@ map_alike : {X Y : Type 0} (f g : X → Y) (xs : List X) → ((x : X) → Member
 map_alike f g [] h = refl
 map_alike f g (x ∷ xs) h = ap₂ (λ a b. a ∷ b) (h x (inl refl)) (map_alike f g xs (λ y m. h y (inr m)))
 
-filter_alike : {X : Type 0} (p q : X → Bool) (xs : List X) → ((x : X) → p x ≡ q x) → filter p xs ≡ filter q xs
-filter_alike p q [] h = refl
-filter_alike p q (x ∷ xs) h = ap₂ (λ b l. cond b (x ∷ l) l) (h x) (filter_alike p q xs h)
-
-or_assoc : (a b c : Bool) → ((a || b) || c) ≡ (a || (b || c))
-or_assoc true b c = refl
-or_assoc false b c = refl
-
-or_nothing : (a : Bool) → (a || false) ≡ a
-or_nothing true = refl
-or_nothing false = refl
-
-or_all : (a : Bool) → (a || true) ≡ true
-or_all true = refl
-or_all false = refl
-
 -- ---- marks
 
 -- a mark is set at one name's place
@@ -44,15 +30,15 @@ set_at p [] w d = refl
 set_at p (o ∷ os) w d = by (same o w) refl (set_at p os w d.1)
   where
     other : (x : Name) → same o w ≡ true → Member os x → p x ≡ (p x || same w x)
-    other x is m = sym (ap (λ b. p x || b) (apart (same w x) refl) ∙ or_nothing (p x))
+    other x is m = sym (ap (λ b. p x || b) (apart (same w x) refl) ∙ or-false (p x))
       where
         apart : (b : Bool) → same w x ≡ b → same w x ≡ false
         apart false e = e
         apart true e = absurd (both_ways (is_among os o) d.0 (subst (λ z. is_among os z ≡ true) (sym (same-true o w is ∙ same-true w x e)) (among_member os x m)))
 
     by : (b : Bool) → same o w ≡ b → slice_set (map p os) (index_of os w) true ≡ map (λ x. p x || same w x) os → slice_set (p o ∷ map p os) (if b then 0 else suc (index_of os w)) true ≡ (p o || same w o) ∷ map (λ x. p x || same w x) os
-    by true is rest = ap₂ (λ a b. a ∷ b) (sym (ap (λ b. p o || b) (same-sym w o ∙ is) ∙ or_all (p o))) (map_alike p (λ x. p x || same w x) os (λ x m. other x is m))
-    by false is rest = ap₂ (λ a b. a ∷ b) (sym (ap (λ b. p o || b) (same-sym w o ∙ is) ∙ or_nothing (p o))) rest
+    by true is rest = ap₂ (λ a b. a ∷ b) (sym (ap (λ b. p o || b) (same-sym w o ∙ is) ∙ or-true (p o))) (map_alike p (λ x. p x || same w x) os (λ x m. other x is m))
+    by false is rest = ap₂ (λ a b. a ∷ b) (sym (ap (λ b. p o || b) (same-sym w o ∙ is) ∙ or-false (p o))) rest
 
 module _ (os names : List Name) (once : Distinct os) where
   -- the object of a line that has a type
@@ -63,25 +49,17 @@ module _ (os names : List Name) (once : Distinct os) where
   line_marks p x = by (has_type names x) refl
     where
       both : (o : Name) → has_type names x ≡ true → (p o || same x.word.text o) ≡ (p o || has_line o x)
-      both o e = ap (λ b. p o || b) (sym (ap (λ b. same x.word.text o && b) e ∙ and_all (same x.word.text o)))
-        where
-          and_all : (a : Bool) → (a && true) ≡ a
-          and_all true = refl
-          and_all false = refl
+      both o e = ap (λ b. p o || b) (sym (ap (λ b. same x.word.text o && b) e ∙ and-true (same x.word.text o)))
 
       none : (o : Name) → has_type names x ≡ false → p o ≡ (p o || has_line o x)
-      none o e = sym (ap (λ b. p o || b) (ap (λ b. same x.word.text o && b) e ∙ and_none (same x.word.text o)) ∙ or_nothing (p o))
-        where
-          and_none : (a : Bool) → (a && false) ≡ false
-          and_none true = refl
-          and_none false = refl
+      none o e = sym (ap (λ b. p o || b) (ap (λ b. same x.word.text o && b) e ∙ and-false (same x.word.text o)) ∙ or-false (p o))
 
       by : (b : Bool) → has_type names x ≡ b → (if b then slice_set (map p os) (index_of os x.word.text) true else map p os) ≡ map (λ o. p o || has_line o x) os
       by true e = set_at p os x.word.text once ∙ map_alike (λ o. p o || same x.word.text o) (λ o. p o || has_line o x) os (λ o m. both o e)
       by false e = map_alike p (λ o. p o || has_line o x) os (λ o m. none o e)
 
   lines_mark : (p : Name → Bool) (xs : List (Typed Word)) → fold (mark_line os names) (map p os) xs ≡ map (λ o. p o || list_any (has_line o) xs) os
-  lines_mark p [] = map_alike p (λ o. p o || false) os (λ o m. sym (or_nothing (p o)))
+  lines_mark p [] = map_alike p (λ o. p o || false) os (λ o m. sym (or-false (p o)))
   lines_mark p (x ∷ xs) =
       ap (λ ms. fold (mark_line os names) ms xs) (line_marks p x)
       ∙ lines_mark (λ o. p o || has_line o x) xs
@@ -144,7 +122,7 @@ module _ (d : Domain Word) (p : Problem Word) (ts names : List Name) (below : Ar
       ap (marked_from 0) (sym (fold-append (mark_line os names) (map (λ o. false) os) d.constants p.objects) ∙ lines_mark os names once (λ o. false) (object_lines d p))
       ∙ marks_number (λ o. list_any (has_line os names once o) (object_lines d p)) os once 0
       ∙ map_alike (λ o. 0 + index_of os o) (index_of os) (filter (λ o. list_any (has_line os names once o) (object_lines d p)) os) (λ o m. omega arith)
-      ∙ ap (map (index_of os)) (filter_alike (λ o. list_any (has_line os names once o) (object_lines d p)) (λ o. list_any (is_of_type d p o) ts) os has_either)
+      ∙ ap (map (index_of os)) (filter_agree (λ o. list_any (has_line os names once o) (object_lines d p)) (λ o. list_any (is_of_type d p o) ts) has_either os)
 
 -- ---- as many marks as objects
 

@@ -1,5 +1,6 @@
 -- Faults don't depend on how the names round a place are kept, but on which there are.
 use Rattle.std.proofs.Common.{◌≡◌, Bool, true, false, not, ◌||◌, List, [], ◌∷◌, ◌++◌, fold, filter, take, length, Option, refl, sym, ap, ap₂, ◌∙◌}
+use Rattle.std.proofs.Math.Bool.{or_comm}
 use Rattle.std.proofs.Math.Seq.{take-append_seam}
 use Rattle.std.proofs.lemmas.List.Sums.{fold-append}
 use Rattle.kp_base.specs.Lists.{only_if}
@@ -16,12 +17,6 @@ use Rattle.kp_names.proofs.Gathering.{among_with, among_gathered, gathers}
 -- the same names, in whichever order
 pub record Alike (xs ys : List Name) : Type 0 where
   pub each : (x : Name) → is_among xs x ≡ is_among ys x
-
-or_comm : (a b : Bool) → (a || b) ≡ (b || a)
-or_comm true true = refl
-or_comm true false = refl
-or_comm false true = refl
-or_comm false false = refl
 
 -- ---- names that came before
 

@@ -54,10 +54,6 @@ with_file held name bytes = option_map (λ m. map.insert m name bytes) held
 abbrev pub without_file : Option FileMap → List ℕ → Option FileMap
 without_file held name = option_map (λ m. map.remove m name) held
 
--- the content of a name, if it is held, where the contents are told: for callers
-abbrev pub content_of : Option FileMap → List ℕ → Option (Option (List ℕ))
-content_of held name = option_map (λ m. map.get m name) held
-
 -- what is told, with these bytes at the end
 abbrev pub with_bytes : Option (List ℕ) → List ℕ → Option (List ℕ)
 with_bytes told bytes = option_map (λ t. t ++ bytes) told

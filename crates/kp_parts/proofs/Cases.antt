@@ -1,16 +1,16 @@
 -- What a form that chooses by its first token reads, where only some tests of that token are known.
-use Rattle.std.proofs.Common.{◌≡◌, ℕ, Bool, true, false, List, [], ◌∷◌, Ok, Err, refl}
+use Rattle.std.proofs.Common.{◌≡◌, ℕ, Bool, true, false, List, [], ◌∷◌, Ok, refl}
 use Rattle.kp_grammar.specs.declared.symbol.Symbol.{Symbol}
 use Rattle.kp_grammar.specs.declared.symbol.Symbol.TheVariants as symbols
 use Rattle.kp_grammar.specs.declared.tree.Word.{Word}
-use Rattle.kp_grammar.specs.Symbols.{Tok, first_is, is_left, is_right, is_and, is_or, is_not, is_name}
-use Rattle.kp_grammar.specs.Sorts.{Sort, s_list, s_word}
+use Rattle.kp_grammar.specs.Symbols.{Tok, first_is, is_left, is_name}
+use Rattle.kp_grammar.specs.Sorts.{s_list, s_word}
 use Rattle.kp_grammar.specs.Grammar.{word, kind, kind_case}
 use Rattle.kp_grammar.specs.Trees.{Cond, Eff, Item}
-use Rattle.kp_grammar.specs.Parsing.{Outcome, ◌>>=◌, go, level, read}
+use Rattle.kp_grammar.specs.Parsing.{◌>>=◌, go, level, read}
 use Rattle.kp_parts.specs.declared.conds.Mode.{Mode}
 use Rattle.kp_parts.specs.declared.conds.Mode.TheVariants as modes
-use Rattle.kp_parts.specs.Readers.{terms_class, test_at, cond_inside_at, body_at, eff_inside_at, each_at, lit_inside_at, item_inside_at}
+use Rattle.kp_parts.specs.Readers.{terms_class, test_at, body_at, eff_inside_at, each_at, lit_inside_at, item_inside_at}
 use Rattle.kp_parts.specs.declared.cursor.Class.TheVariants as classes
 
 -- a kind that isn't in brackets is a name
@@ -25,17 +25,6 @@ kind_is d (t ∷ ts) n = kind_by d t.symbol t ts refl n
 -- ---- the last alternative, of a token that is none of the others
 
 module _ (d : ℕ) (t : Tok Word) (ts us : List (Tok Word)) (is : ts ≡ t ∷ us) where
-  -- of a condition or goal: a test
-  pub cond_test : (mode : Mode) → (t.symbol ≡ symbols.Right → ⊥) → (t.symbol ≡ symbols.And → ⊥) → (t.symbol ≡ symbols.Not → ⊥) → cond_inside_at mode d ts ≡ test_at mode true d ts
-  unfolding cond_inside_at test_at
-  cond_test mode not_Right not_And not_Not = rw is (go_by mode t.symbol refl) where
-    go_by : (mode : Mode) (s : Symbol) → t.symbol ≡ s → cond_inside_at mode d (t ∷ us) ≡ test_at mode true d (t ∷ us)
-    go_by _ symbols.Right e = absurd (not_Right e)
-    go_by _ symbols.And e = absurd (not_And e)
-    go_by _ symbols.Not e = absurd (not_Not e)
-    go_by modes.Condition _ e = rw e refl
-    go_by modes.Goal _ e = rw e refl
-
   -- of a test: a head and its terms
   pub test_head : (mode : Mode) (b : Bool) → (t.symbol ≡ symbols.Equal → ⊥) → (t.symbol ≡ symbols.Or → ⊥) → (t.symbol ≡ symbols.Imply → ⊥) → (t.symbol ≡ symbols.Exists → ⊥) → (t.symbol ≡ symbols.Forall → ⊥) → (t.symbol ≡ symbols.Preference → ⊥) → test_at mode b d ts ≡ (body_at (terms_class mode) ts >>= λ x. Ok (Cond.atom b x.0, x.1))
   unfolding test_at body_at

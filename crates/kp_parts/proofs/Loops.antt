@@ -14,8 +14,8 @@ use Rattle.kp_grammar.proofs.Exact.{many_step, run_step}
 use Rattle.kp_parts.specs.declared.lexeme.Lexeme.{Lexeme}
 use Rattle.kp_parts.specs.declared.halt.Halt.{Halt}
 use Rattle.kp_parts.specs.declared.halt.Halt.TheVariants as halts
-use Rattle.kp_parts.specs.Lexemes.{word_of, from}
-use Rattle.kp_parts.specs.Readers.{Fails, unsupported}
+use Rattle.kp_parts.specs.Lexemes.{word_of}
+use Rattle.kp_parts.specs.Readers.{Fails}
 
 -- what was read before, and what is still read
 abbrev pub with_front : {A : Type 0} → List A → Outcome Word (List A) → Outcome Word (List A)
@@ -24,10 +24,6 @@ with_front front r = r >>= λ x. Ok (front ++ x.0, x.1)
 regroup : {A : Type 0} (front : List A) (x : A) (r : Outcome Word (List A)) → with_front front (r >>= λ xs. Ok (x ∷ xs.0, xs.1)) ≡ with_front (front ++ x ∷ []) r
 regroup {A} front x (Ok xs) = ap (λ (ys : List A). Ok (ys, xs.1)) (simp append_assoc)
 regroup front x (Err at) = refl
-
-pub no_front : {A : Type 0} (r : Outcome Word (List A)) → with_front [] r ≡ r
-no_front (Ok x) = refl
-no_front (Err at) = refl
 
 -- a failure of a part is one of the whole
 pub failed : {A B : Type 0} (ls : List Lexeme) (e : Halt) (part : Outcome Word A) (whole : Outcome Word B) → ((at : _) → part ≡ Err at → whole ≡ Err at) → Fails ls e part → Fails ls e whole
@@ -112,9 +108,6 @@ pub record Groups (typed : List (Typed Word)) (here total : Outcome Word (List (
   pub front : List (List (Typed Word))
   pub so_far : with_front front here ≡ total
   pub are : flat_map (λ ts. ts) front ≡ typed
-
-pub no_group : (here : Outcome Word (List (List (Typed Word)))) → Groups [] here here
-no_group here = record { front = []; so_far = no_front here; are = refl }
 
 module _ (d : ℕ) (p : Symbol → Bool) (X : Form true (s_list s_typed)) where
   abbrev pub groups_of : List (Tok Word) → Outcome Word (List (List (Typed Word)))

@@ -1,15 +1,15 @@
 -- Any number of tokens of one kind, as the longest run of them.
-use Rattle.std.proofs.Common.{◌≡◌, ℕ, zero, suc, ◌+◌, ◌≤◌, ◌<◌, Bool, true, false, ◌&&◌, List, [], ◌∷◌, length, map, take, drop, Ok, Err, refl, sym, ap, ◌∙◌, length-drop, arith}
+use Rattle.std.proofs.Common.{◌≡◌, ℕ, suc, ◌+◌, ◌<◌, Bool, true, false, List, [], ◌∷◌, length, map, drop, Ok, Err, refl, sym, ap, ◌∙◌, arith}
 use Rattle.std.specs.List.{prefix_len, take_while}
 use Rattle.std.proofs.lemmas.List.Folds.{length-prefix_len}
-use Rattle.std.proofs.lemmas.List.Sums.{prefix_len-le-length, take_while-cons}
+use Rattle.std.proofs.lemmas.List.Sums.{take_while-cons}
 use Rattle.std.proofs.lemmas.List.{drop-drop}
 use Rattle.kp_grammar.specs.declared.symbol.Symbol.{Symbol}
 use Rattle.kp_grammar.specs.declared.symbol.Symbol.TheVariants as symbols
 use Rattle.kp_grammar.specs.declared.tree.Word.{Word}
-use Rattle.kp_grammar.specs.Symbols.{Tok, first_is, is_name, is_head, is_variable, is_term, is_keyword}
+use Rattle.kp_grammar.specs.Symbols.{is_name, is_head, is_variable, is_term, is_keyword}
 use Rattle.kp_grammar.specs.Sorts.{Sort, s_word, El, Maker, apply, m_word, m_drop, m_name}
-use Rattle.kp_grammar.specs.Forms.{hits, is_no_bracket, Form, token, many}
+use Rattle.kp_grammar.specs.Forms.{hits, token, many}
 use Rattle.kp_grammar.specs.Grammar.{some, term_maker}
 use Rattle.kp_grammar.specs.Reading.{stop}
 use Rattle.kp_grammar.specs.Parsing.{Outcome, ◌>>=◌, read}
@@ -17,7 +17,7 @@ use Rattle.kp_grammar.proofs.Exact.{many_step}
 use Rattle.kp_parts.specs.declared.cursor.Class.{Class}
 use Rattle.kp_parts.specs.declared.cursor.Class.TheVariants as classes
 use Rattle.kp_parts.specs.declared.lexeme.Lexeme.{Lexeme}
-use Rattle.kp_parts.specs.Lexemes.{word_of, term_of, tok, toks, from}
+use Rattle.kp_parts.specs.Lexemes.{word_of, term_of, toks, from}
 use Rattle.kp_parts.specs.Readers.{class_test, is_of, some_at, Words, term_form, terms_at, keywords_at, names_at}
 
 -- a token of a class is never a bracket
@@ -140,9 +140,6 @@ module _ (c : Class) (ls : List Lexeme) (at : ℕ) (run : List Lexeme) (is : run
 
   rest_is : toks (drop (prefix_len (is_of c) (drop at ls)) (drop at ls)) ≡ from ls (at + length run)
   rest_is = rw (sym count) (ap toks (drop-drop (length run) at ls))
-
-  pub run_within : at ≤ length ls → at + length run ≤ length ls
-  run_within h = omega (arith, count, prefix_len-le-length (is_of c) (drop at ls), length-drop at ls)
 
   words_are : {A : Type 0} (f : Lexeme → A) (reading : Outcome Word (List A)) → reading ≡ Ok (map f (take_while (is_of c) (drop at ls)), toks (drop (prefix_len (is_of c) (drop at ls)) (drop at ls))) → reading ≡ Ok (map f run, from ls (at + length run))
   words_are f reading e = e ∙ rw (rest_is, sym is) refl

@@ -1,5 +1,5 @@
 -- The answer on two texts, from what their problem by number ends with.
-use Rattle.std.proofs.Common.{◌≡◌, ◌∙◌, ℕ, List, [], length, Some, Result, Ok, Err, IfOk, refl, sym, ap, subst}
+use Rattle.std.proofs.Common.{◌≡◌, ◌∙◌, ℕ, List, [], length, Some, Result, Ok, Err, IfOk, sym, ap, subst}
 use Rattle.kp_base.specs.declared.lit.Lit.{Lit}
 use Rattle.kp_base.specs.declared.memory.Memory.{Memory}
 use Rattle.kp_base.specs.declared.ground.Ground.{Ground}
@@ -18,7 +18,7 @@ use Rattle.kp_meaning.specs.Numbering.{numbered_problem}
 use Rattle.kp_names.specs.declared.lifted.Lifted.{Lifted}
 use Rattle.kp_names.specs.View.{lifted_view}
 use Rattle.kp_grounding.specs.Ground as by_number
-use Rattle.kp_ground.specs.Grounded.{IsGrounded, RefusesGround}
+use Rattle.kp_ground.specs.Grounded.{RefusesGround}
 use Rattle.kp_init.specs.Initial.{initial_of}
 use Rattle.kp_primes.specs.Held.{Held, formula}
 use Rattle.kp_primes.specs.Answers.{HoldsPrimes, HasNoState, RefusesPrimes, too_many, no_state, AnswersClosure}
@@ -30,10 +30,10 @@ use Rattle.kp_given.proofs.Starts.{states_are_models, closures_are_starts}
 use Rattle.kp_run.specs.declared.answer.Report.{Report}
 use Rattle.kp_run.specs.declared.answer.Report.TheVariants as reports
 use Rattle.kp_run.specs.declared.status.Status.TheVariants as status
-use Rattle.kp_run.specs.Due.{usual, IsOrdinary, IsStarted, too_large, implicates_over, no_initial_state, clash, done, Answers, on_trees}
+use Rattle.kp_run.specs.Due.{usual, IsStarted, too_large, implicates_over, no_initial_state, clash, done, Answers, on_trees}
 use Rattle.kp_run.specs.Texts.{HaveTrees}
 use Rattle.kp_run.specs.Printed.{clash_text}
-use Rattle.kp_run.specs.Reports.{status_of, HasItsText, IsTranslated, IsRefusal, IsProblemOf, IsCounted, IsWritten, EndsBy, by_implicates, by_no_model, by_clash, by_translation, EndsWithin, over, within}
+use Rattle.kp_run.specs.Reports.{status_of, IsTranslated, IsRefusal, IsProblemOf, IsCounted, IsWritten, EndsBy, by_implicates, by_no_model, by_clash, by_translation, EndsWithin, over, within}
 use Rattle.kp_run.proofs.Translated.{same_translation, same_clash}
 
 -- ---- the answer
@@ -42,21 +42,9 @@ use Rattle.kp_run.proofs.Translated.{same_translation, same_clash}
 refusal_answers : (limit : ℕ) (d p : List ℕ) (r : Report) (x : Refused) → IsRefusal x r → Answers limit d p (status.Refused x) → Answers limit d p (status_of r)
 refusal_answers limit d p r x is a = subst (λ (z : Report). Answers limit d p (status_of z)) (sym is.is) a
 
-open_text : (x : Refused) (r : Report) → IsRefusal x r → HasItsText r
-open_text x r is = subst HasItsText (sym is.is) (is.own, is.may)
-
--- a refusal has its text
-pub refusal_text_own : (x : Refused) (r : Result Report Memory) → IfOk r (IsRefusal x) → IfOk r HasItsText
-refusal_text_own x (Ok r) is = open_text x r is
-refusal_text_own x (Err m) is = tt
-
 -- and no translation
 refusal_translated : (d p : List ℕ) (x : Refused) (r : Report) → IsRefusal x r → IsTranslated d p r
 refusal_translated d p x r is = subst (IsTranslated d p) (sym is.is) tt
-
-pub refused_translated : (d p : List ℕ) (x : Refused) (r : Result Report Memory) → IfOk r (IsRefusal x) → IfOk r (IsTranslated d p)
-refused_translated d p x (Ok r) is = refusal_translated d p x r is
-refused_translated d p x (Err m) is = tt
 
 -- a refusal of the texts is the answer
 pub refused_answers : (limit : ℕ) (d p : List ℕ) (x : Refused) (r : Result Report Memory) → IfOk r (IsRefusal x) → Answers limit d p (status.Refused x) → IfOk r (λ z. Answers limit d p (status_of z))
@@ -69,20 +57,11 @@ pub over_ends : (limit : ℕ) (l : Numbers) (x : Refused) (r : Result Report Mem
 over_ends limit l x (Ok r) too is = over x too is
 over_ends limit l x (Err m) too is = tt
 
-pub within_ends : (limit : ℕ) (l : Numbers) (g : Ground) (r : Result Report Memory) → IsGrounded l usual g → IfOk r (EndsBy limit l) → IfOk r (EndsWithin limit l)
-within_ends limit l g (Ok r) w ends = within (record { counts = w.counts; atoms = w.atoms; ground = refl }) ends
-within_ends limit l g (Err m) w ends = tt
-
 -- a refusal at its initial formula
 pub formula_ends : (limit : ℕ) (l : Numbers) (x : Refused) (r : Result Report Memory) → RefusesPrimes (initial_of l) limit x → IfOk r (IsRefusal x) → IfOk r (EndsBy limit l)
 formula_ends limit l _ (Ok r) (too_many k least) is = by_implicates r k least is
 formula_ends limit l _ (Ok r) (no_state none) is = by_no_model r none is
 formula_ends limit l x (Err m) h is = tt
-
--- and it is an ordinary one
-pub formula_ordinary : (i : Initial) (limit : ℕ) (x : Refused) → RefusesPrimes i limit x → IsOrdinary x
-formula_ordinary i limit _ (too_many k least) = tt
-formula_ordinary i limit _ (no_state none) = tt
 
 -- ---- what ends with its prime implicates
 

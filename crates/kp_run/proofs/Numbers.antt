@@ -1,5 +1,5 @@
 -- Numbers as words, and the limit that words say.
-use Rattle.std.proofs.Common.{◌≡◌, ◌≢◌, ◌<◌, ◌^◌, ℕ, List, [], ◌∷◌, Option, Some, None, MatchOption, Result, Ok, codes, decimal, arith, refl, sym, ap, subst, ◌∙◌}
+use Rattle.std.proofs.Common.{◌≡◌, ◌≢◌, ◌<◌, ◌^◌, ℕ, List, [], ◌∷◌, Option, Some, None, MatchOption, Result, Ok, codes, decimal, arith, sym, ap, subst, ◌∙◌}
 use Rattle.std.specs.Str.{IsUtf8}
 use Rattle.std.specs.Str.Parse.{ParsesUnsigned}
 use Rattle.std.proofs.lemmas.Fmt.{decimal_injective, IsAscii-decimal, parse-decimal}
@@ -32,8 +32,3 @@ option_says words number None e h = λ n s. by n words s e
     by _ _ usual_limit e = absurd cc
     by _ _ (stated n a) e = h n a (let f : number ≡ decimal n = cc in f)
 option_says words number (Some n) e h = subst (λ ws. SaysLimit ws n) (sym (e ∙ ap (λ (w : List ℕ). codes "--implicates" ∷ w ∷ []) h.1)) (stated n h.0)
-
--- no limit is said by other words
-pub other_words : (words : List (List ℕ)) (n : ℕ) → words ≢ [] → ((number : List ℕ) → words ≢ codes "--implicates" ∷ number ∷ []) → SaysLimit words n → ⊥
-other_words _ _ some other usual_limit = some refl
-other_words _ _ some other (stated n a) = other (decimal n) refl

@@ -2,7 +2,6 @@
 use Rattle.std.proofs.Common.{◌≡◌, ℕ, Bool, true, false, List, length, take, nat_lt, Result, Ok, Err, IfOk, subst, ◌∙◌, arith}
 use Rattle.std.proofs.lemmas.List.{take_all}
 use Rattle.std.proofs.lemmas.Bool.Decides.{nat_tests}
-use Rattle.kp_base.specs.declared.limits.Limits.{Limits}
 use Rattle.kp_base.specs.declared.refused.Part.{Part}
 use Rattle.kp_base.specs.declared.refused.Refused.{Refused}
 use Rattle.kp_base.specs.declared.refused.Refused.TheVariants as refusals
@@ -14,12 +13,9 @@ use Rattle.kp_grammar.specs.Sorts.{Sort, El}
 use Rattle.kp_grammar.specs.Forms.{Form}
 use Rattle.kp_grammar.specs.Trees.{Domain, Problem}
 use Rattle.kp_meaning.specs.Faults.{unknown_name, declared_twice, wrong_use}
-use Rattle.kp_meaning.specs.Numbered.{Lifted as Numbers}
 use Rattle.kp_tree.specs.Files.{Reads, Refuses, AnswersFile}
 use Rattle.kp_names.specs.declared.lifted.Lifted.{Lifted}
 use Rattle.kp_names.specs.Resolved.{RefusesNames, in_domain, in_problem, AnswersNames}
-use Rattle.kp_kept.specs.Counts.{bindings_over, actions_over, effects_over}
-use Rattle.kp_ground.specs.Grounded.{RefusesGround, counts_over, atoms_over}
 use Rattle.kp_run.specs.Due.{IsOrdinary}
 use Rattle.kp_run.specs.Reports.{IsProblemOf}
 
@@ -59,9 +55,3 @@ names_ordinary x y d p _ (in_problem (wrong_use byte) none h) = tt
 pub where_ok : {A E : Type 0} {P : Type 0} (result : Result A E) → P → IfOk result (λ x. P)
 where_ok (Ok x) p = p
 where_ok (Err e) p = tt
-
-pub ground_ordinary : (l : Numbers) (m : Limits) (r : Refused) → RefusesGround l m r → IsOrdinary r
-ground_ordinary l m _ (counts_over _ (bindings_over a)) = tt
-ground_ordinary l m _ (counts_over _ (actions_over a b)) = tt
-ground_ordinary l m _ (counts_over _ (effects_over a b c)) = tt
-ground_ordinary l m _ (atoms_over w a) = tt

@@ -1,6 +1,5 @@
 -- What a report has of a translation or a clash.
-use Rattle.std.proofs.Common.{◌≡◌, ℕ, List, Result, Ok, Err, IfOk, sym, ap, subst, ◌∙◌}
-use Rattle.kp_base.specs.declared.memory.Memory.{Memory}
+use Rattle.std.proofs.Common.{◌≡◌, ℕ, List, ap, subst, ◌∙◌}
 use Rattle.kp_base.specs.declared.ground.Ground.{Ground}
 use Rattle.kp_base.specs.declared.refused.ClashAt.{ClashAt}
 use Rattle.kp_base.specs.declared.refused.Refused.{Refused}
@@ -18,19 +17,6 @@ use Rattle.kp_run.specs.Texts.{HaveTrees}
 use Rattle.kp_run.specs.Printed.{clash_text, text_of}
 use Rattle.kp_run.specs.Reports.{status_of, printed_of, HasItsText, HasFiles, IsTranslated}
 use Rattle.kp_run.proofs.OneAnswer.{same_domain, same_problem}
-
--- a refusal has no translation
-pub refused_is : (d p : List ℕ) (result : Result Report Memory) (x : Refused) → IfOk result (λ r. HasItsText r × (status_of r ≡ status.Refused x)) → IsOrdinary x → IfOk result (IsTranslated d p)
-refused_is d p (Ok (reports.Refused y text)) x h may = tt
-refused_is d p (Ok (reports.Clash at text)) x h may = absurd (clash_is_none at x (refused_same h.1) may)
-  where
-    refused_same : status.Refused (refusals.Clash at) ≡ status.Refused x → refusals.Clash at ≡ x
-    refused_same e = cc
-
-    clash_is_none : (c : ClashAt) (y : Refused) → refusals.Clash c ≡ y → IsOrdinary y → ⊥
-    clash_is_none c y e m = subst IsOrdinary (sym e) m
-refused_is d p (Ok (reports.Done t)) x h may = absurd (cc h.1)
-refused_is d p (Err e) x h may = tt
 
 same_ground : (domain problem : List ℕ) (d e : Domain Word) (p q : Problem Word) → HaveTrees domain problem d p → HaveTrees domain problem e q → ground_of d p ≡ ground_of e q
 same_ground domain problem d e p q h k = ap (λ x. ground_of x p) (same_domain domain problem d e p q h k) ∙ ap (ground_of e) (same_problem domain problem d e p q h k)

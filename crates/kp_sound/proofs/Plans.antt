@@ -8,14 +8,13 @@ use Rattle.kp_base.specs.declared.ground.Ground.{Ground}
 use Rattle.kp_base.specs.Lists.{Member}
 use Rattle.kp_base.specs.Steps.{IsGroundPlan}
 use Rattle.kp_base.specs.Machine.{MachineStep, stripped as without_merges, one_tag_table}
-use Rattle.kp_base.proofs.Lists.{member_at, member_map, map_member}
+use Rattle.kp_base.proofs.Lists.{member_at, member_map, map_member, number_at}
 use Rattle.kp_meaning.specs.Names.{is_among}
 use Rattle.kp_meaning.specs.Steps.{Step}
 use Rattle.kp_meaning.specs.Encoding.{encoded, decoded}
 use Rattle.kp_meaning.specs.Strip.{do_front, strip, stripped_operator}
 use Rattle.kp_texts.specs.Task.{Op, op_of, ops_of, facts_for}
 use Rattle.kp_grounding.specs.Laws.{action_name}
-use Rattle.kp_grounding.proofs.Plans.{number_at}
 use Rattle.kp_write.specs.Grounds.{IsGroundAction, IsWritable}
 use Rattle.kp_write.specs.Runs.{runs, step_of}
 use Rattle.kp_write.proofs.Encoded.{decodes}

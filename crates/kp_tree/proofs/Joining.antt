@@ -1,10 +1,10 @@
 -- What sections declare, one section behind the other.
-use Rattle.std.proofs.Common.{◌≡◌, List, [], ◌∷◌, ◌++◌, map, refl, sym, ap, ◌∙◌}
+use Rattle.std.proofs.Common.{◌≡◌, List, [], ◌∷◌, ◌++◌, sym, ap, ◌∙◌}
 use Rattle.std.specs.List.{flat_map}
 use Rattle.kp_grammar.specs.declared.tree.Word.{Word}
-use Rattle.kp_grammar.specs.Trees.{Typed, Pred, Schema, Section, section_types, section_constants, section_predicates, section_schemas, Given}
+use Rattle.kp_grammar.specs.Trees.{Typed, Pred, Schema, Section, section_types, section_constants, section_predicates, section_schemas}
 use Rattle.kp_grammar.specs.Parsing.{Outcome}
-use Rattle.kp_parts.proofs.Loops.{with_front, no_front, flat_map-push}
+use Rattle.kp_parts.proofs.Loops.{with_front, flat_map-push}
 
 -- the sections read so far, and what they declare
 pub record Sections (kinds constants : List (Typed Word)) (preds : List (Pred Word)) (schemas : List (Schema Word)) (here total : Outcome Word (List (Section Word))) : Type 0 where
@@ -14,9 +14,6 @@ pub record Sections (kinds constants : List (Typed Word)) (preds : List (Pred Wo
   pub constants_are : flat_map section_constants front ≡ constants
   pub predicates_are : flat_map section_predicates front ≡ preds
   pub schemas_are : flat_map section_schemas front ≡ schemas
-
-pub no_section : (here : Outcome Word (List (Section Word))) → Sections [] [] [] [] here here
-no_section here = record { front = []; so_far = no_front here; kinds_are = refl; constants_are = refl; predicates_are = refl; schemas_are = refl }
 
 pub kept : {S T : Type 0} (f : S → List T) (front : List S) (x : S) (before after : List T) → flat_map f front ≡ before → after ≡ before ++ f x → flat_map f (front ++ x ∷ []) ≡ after
 kept f front x before after e k = flat_map-push f front x ∙ ap (λ ys. ys ++ f x) e ∙ sym k

@@ -5,7 +5,7 @@ use Rattle.kp_grammar.specs.declared.tree.Word.{Word}
 use Rattle.kp_grammar.specs.Trees.{Typed, Item, Cond, Given, given_objects, given_items, goal_of}
 use Rattle.kp_grammar.specs.Parsing.{Outcome}
 use Rattle.kp_tree.specs.Givens.{goal_after, goal_or_true}
-use Rattle.kp_parts.proofs.Loops.{with_front, no_front}
+use Rattle.kp_parts.proofs.Loops.{with_front}
 use Rattle.kp_tree.proofs.Joining.{kept}
 
 -- the first goal
@@ -53,9 +53,6 @@ pub record Givens (objects : List (Typed Word)) (init : List (Item Word)) (goal 
   pub objects_are : flat_map given_objects front ≡ objects
   pub init_is : flat_map given_items front ≡ init
   pub goal_is_first : goal_first front ≡ goal
-
-pub no_given : (here : Outcome Word (List (Given Word))) → Givens [] [] None here here
-no_given here = record { front = []; so_far = no_front here; objects_are = refl; init_is = refl; goal_is_first = refl }
 
 module _ {objects : List (Typed Word)} {init : List (Item Word)} {goal : Option (Cond Word)} {here total : Outcome Word (List (Given Word))} (there : Outcome Word (List (Given Word))) (x : Given Word) where
   pub given_more : (objects' : List (Typed Word)) (init' : List (Item Word)) (goal' : Option (Cond Word)) (s : Givens objects init goal here total) → with_front (s.front ++ x ∷ []) there ≡ total

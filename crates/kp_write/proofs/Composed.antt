@@ -1,7 +1,7 @@
 -- A tree mapped twice is mapped by both maps at once.
 use Rattle.std.proofs.Common.{◌≡◌, List, map, refl, ap}
 use Rattle.kp_grammar.specs.Trees.{Typed, Term, Atom, Cond, Conds, Eff, Effs, Lit, Item, Items, Pred, Schema, Domain, Problem}
-use Rattle.kp_write.proofs.Lists.{map_twice}
+use Rattle.kp_base.proofs.Lists.{map_map}
 use Rattle.kp_meaning.specs.Places.{typed_map, term_map, atom_map, cond_map, conds_map, eff_map, effs_map, lit_map, item_map, items_map, pred_map, schema_map, domain_map, problem_map}
 
 module _ {U V W : Type 0} (f : U → V) (g : V → W) where
@@ -9,20 +9,20 @@ module _ {U V W : Type 0} (f : U → V) (g : V → W) where
   both w = g (f w)
 
   words_twice : (ws : List U) → map g (map f ws) ≡ map both ws
-  words_twice ws = map_twice f g both ws (λ w. refl)
+  words_twice ws = map_map f g both ws (λ w. refl)
 
   typed_twice : (x : Typed U) → typed_map g (typed_map f x) ≡ typed_map both x
   typed_twice x = rw (words_twice x.kinds) refl
 
   all_typed_twice : (xs : List (Typed U)) → map (typed_map g) (map (typed_map f) xs) ≡ map (typed_map both) xs
-  all_typed_twice xs = map_twice (typed_map f) (typed_map g) (typed_map both) xs typed_twice
+  all_typed_twice xs = map_map (typed_map f) (typed_map g) (typed_map both) xs typed_twice
 
   term_twice : (t : Term U) → term_map g (term_map f t) ≡ term_map both t
   term_twice (Term.name w) = refl
   term_twice (Term.variable w) = refl
 
   atom_twice : (a : Atom U) → atom_map g (atom_map f a) ≡ atom_map both a
-  atom_twice a = rw (map_twice (term_map f) (term_map g) (term_map both) a.terms term_twice) refl
+  atom_twice a = rw (map_map (term_map f) (term_map g) (term_map both) a.terms term_twice) refl
 
   mutual
     cond_twice : (c : Cond U) → cond_map g (cond_map f c) ≡ cond_map both c
@@ -49,7 +49,7 @@ module _ {U V W : Type 0} (f : U → V) (g : V → W) where
   lit_twice l = rw (atom_twice l.atom) refl
 
   lits_twice : (ls : List (Lit U)) → map (lit_map g) (map (lit_map f) ls) ≡ map (lit_map both) ls
-  lits_twice ls = map_twice (lit_map f) (lit_map g) (lit_map both) ls lit_twice
+  lits_twice ls = map_map (lit_map f) (lit_map g) (lit_map both) ls lit_twice
 
   mutual
     item_twice : (i : Item U) → item_map g (item_map f i) ≡ item_map both i
@@ -70,7 +70,7 @@ module _ {U V W : Type 0} (f : U → V) (g : V → W) where
   schema_twice a = rw (all_typed_twice a.params, cond_twice a.pre, eff_twice a.effect) refl
 
   pub domain_twice : (d : Domain U) → domain_map g (domain_map f d) ≡ domain_map both d
-  domain_twice d = rw (all_typed_twice d.kinds, all_typed_twice d.constants, map_twice (pred_map f) (pred_map g) (pred_map both) d.predicates pred_twice, map_twice (schema_map f) (schema_map g) (schema_map both) d.schemas schema_twice) refl
+  domain_twice d = rw (all_typed_twice d.kinds, all_typed_twice d.constants, map_map (pred_map f) (pred_map g) (pred_map both) d.predicates pred_twice, map_map (schema_map f) (schema_map g) (schema_map both) d.schemas schema_twice) refl
 
   pub problem_twice : (p : Problem U) → problem_map g (problem_map f p) ≡ problem_map both p
-  problem_twice p = rw (all_typed_twice p.objects, map_twice (item_map f) (item_map g) (item_map both) p.init item_twice, cond_twice p.goal) refl
+  problem_twice p = rw (all_typed_twice p.objects, map_map (item_map f) (item_map g) (item_map both) p.init item_twice, cond_twice p.goal) refl

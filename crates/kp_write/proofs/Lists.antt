@@ -1,23 +1,16 @@
 -- Lists: maps one after the other, and what holds of all elements.
-use Rattle.std.proofs.Common.{◌≡◌, List, [], ◌∷◌, ◌++◌, map, inl, inr, refl, ap, subst, ◌∙◌}
+use Rattle.std.proofs.Common.{◌≡◌, List, [], ◌∷◌, map, inl, inr, refl, subst, ◌∙◌}
+use Rattle.std.proofs.lemmas.List.{map-append}
 use Rattle.std.specs.List.{AllByRecursion, flat_map}
 use Rattle.kp_base.specs.Lists.{Member}
-
-pub map_join : {A B : Type 0} (f : A → B) (xs ys : List A) → map f (xs ++ ys) ≡ map f xs ++ map f ys
-map_join f [] ys = refl
-map_join f (x ∷ xs) ys = ap (λ zs. f x ∷ zs) (map_join f xs ys)
 
 pub map_swap : {A B C D : Type 0} (f : B → D) (g : A → B) (h : C → D) (k : A → C) (xs : List A) → ((x : A) → f (g x) ≡ h (k x)) → map f (map g xs) ≡ map h (map k xs)
 map_swap f g h k [] e = refl
 map_swap f g h k (x ∷ xs) e = rw (e x, map_swap f g h k xs e) refl
 
-pub map_twice : {A B C : Type 0} (f : A → B) (g : B → C) (h : A → C) (xs : List A) → ((x : A) → g (f x) ≡ h x) → map g (map f xs) ≡ map h xs
-map_twice f g h [] e = refl
-map_twice f g h (x ∷ xs) e = rw (e x, map_twice f g h xs e) refl
-
 pub flat_swap : {A B C D : Type 0} (f : B → D) (g : A → List B) (h : C → List D) (k : A → C) (xs : List A) → ((x : A) → map f (g x) ≡ h (k x)) → map f (flat_map g xs) ≡ flat_map h (map k xs)
 flat_swap f g h k [] e = refl
-flat_swap f g h k (x ∷ xs) e = map_join f (g x) (flat_map g xs) ∙ rw (e x, flat_swap f g h k xs e) refl
+flat_swap f g h k (x ∷ xs) e = map-append f (g x) (flat_map g xs) ∙ rw (e x, flat_swap f g h k xs e) refl
 
 pub every : {T : Type 0} (P Q : T → Type 0) → ((x : T) → P x → Q x) → (xs : List T) → AllByRecursion P xs → AllByRecursion Q xs
 every P Q f [] all = tt

@@ -2,6 +2,7 @@
 use Rattle.std.proofs.Common.{◌≡◌, ℕ, Bool, true, false, ◌||◌, List, [], ◌∷◌, map, find, Option, Some, None, option_map, inl, inr, refl, sym, ap, subst, ◌∙◌}
 use Rattle.std.proofs.lemmas.Bool.{false≢true, and_parts}
 use Rattle.std.proofs.Math.Bool.{and-true, or-false}
+use Rattle.std.proofs.lemmas.List.{map-append}
 use Rattle.std.specs.List.{AllByRecursion, IsDistinct, list_any, list_all, flat_map}
 use Rattle.kp_grammar.specs.declared.tree.Word.{Word}
 use Rattle.kp_grammar.specs.Trees.{Schema, Domain, Problem, conds_of, effs_of}
@@ -20,7 +21,7 @@ use Rattle.kp_texts.specs.Task.{Signed, Effect, Op}
 use Rattle.kp_texts.specs.Written.{domain_text, problem_text}
 use Rattle.kp_write.specs.Trees.{fact_holds, signed_holds, made_where, effect_of, schema_of, item_of, written_domain, written_problem}
 use Rattle.kp_write.specs.Runs.{Facts, is_so, results, is_made, after_op, runs, step_of, IsRun, PlansAreRuns}
-use Rattle.kp_write.proofs.Lists.{map_join, one_of_all, all_from}
+use Rattle.kp_write.proofs.Lists.{one_of_all, all_from}
 use Rattle.kp_write.proofs.Placed.{at_start, placed_domain, placed_problem, moved, domain_moved, problem_moved, same_swap}
 use Rattle.kp_write.proofs.Faultless.{written_texts_have_problem}
 
@@ -61,7 +62,7 @@ module _ (d : Domain Word) (p : Problem Word) (s : State) (t : Facts) (b : Bindi
   effects_fire [] = refl
   effects_fire (e ∷ es) =
       rw (effect_fires e.conds e.result, effects_fire es)
-      (sym (map_join literal_of (only_if (list_all (is_so t) e.conds) (e.result ∷ [])) (flat_map (λ x. only_if (list_all (is_so t) x.conds) (x.result ∷ [])) es)))
+      (sym (map-append literal_of (only_if (list_all (is_so t) e.conds) (e.result ∷ [])) (flat_map (λ x. only_if (list_all (is_so t) x.conds) (x.result ∷ [])) es)))
 
 after_has : (s : State) (t : Facts) → HasFacts s t → (o : Op) (fired : List Literal) → fired ≡ map literal_of (results t o) → HasFacts (after fired s) (after_op o t)
 after_has s t h o fired e n = rw (e, made_is (results t o) true n, made_is (results t o) false n, h n) refl
