@@ -1,7 +1,7 @@
 use Rattle.std.proofs.Common.{sym, ◌∙◌}
 use Rattle.kp_clash.proofs.Walks.{item_member}
 use Rattle.kp_clash.specs.Paired.{is_pair}
-use Rattle.kp_clash.proofs.Greatest.{compatible_under_fewer}
+use Rattle.kp_base.proofs.Exclusive.{compatible_under_fewer}
 use Rattle.kp_clash.proofs.settle.clear_action.Goals as goal
 
 pub clear_effect-requires-clause-of_action : goal.clear_effect-requires-clause-of_action

@@ -2,7 +2,7 @@ use Rattle.std.proofs.Common.{[], ◌∷◌, ◌++◌, Some}
 use Rattle.kp_clash.specs.Paired.{is_pair}
 use Rattle.kp_clash.specs.Removed.{FindsAlone}
 use Rattle.kp_clash.proofs.Removing.{shrinks_on, breaks_broken, removes}
-use Rattle.kp_clash.proofs.Greatest.{compatible_under_fewer}
+use Rattle.kp_base.proofs.Exclusive.{compatible_under_fewer}
 use Rattle.kp_clash.proofs.settle.clear_alone.Goals as goal
 
 pub rest-preserved : goal.rest-preserved

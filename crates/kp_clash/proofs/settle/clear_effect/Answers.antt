@@ -1,6 +1,6 @@
 use Rattle.std.proofs.Common.{◌++◌, sym, ◌∙◌}
 use Rattle.kp_clash.specs.Paired.{is_pair}
-use Rattle.kp_clash.proofs.Greatest.{compatible_under_fewer}
+use Rattle.kp_base.proofs.Exclusive.{compatible_under_fewer}
 use Rattle.kp_clash.proofs.settle.clear_effect.Goals as goal
 
 pub clear_together-requires-clause-compatible : goal.clear_together-requires-clause-compatible

@@ -2,7 +2,7 @@ use Rattle.std.proofs.Common.{[], ◌∷◌, ◌++◌}
 use Rattle.kp_clash.proofs.Removing.{shrinks_on}
 use Rattle.kp_clash.proofs.Walks.{item_member}
 use Rattle.kp_clash.specs.Paired.{is_pair}
-use Rattle.kp_clash.proofs.Greatest.{compatible_under_fewer}
+use Rattle.kp_base.proofs.Exclusive.{compatible_under_fewer}
 use Rattle.kp_clash.proofs.settle.clear_together.Goals as goal
 
 pub clear_both-requires-clause-other : goal.clear_both-requires-clause-other
