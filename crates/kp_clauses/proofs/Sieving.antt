@@ -9,7 +9,7 @@ use Rattle.kp_base.specs.declared.lit.Lit.{Lit}
 use Rattle.kp_base.specs.Lists.{Member}
 use Rattle.kp_base.specs.Lit.{code_of}
 use Rattle.kp_base.specs.Implicates.{is_within}
-use Rattle.kp_base.proofs.Lists.{bool_same, any_member, any_from, member_at, member_left, member_right, append_member, member_map, map_member}
+use Rattle.kp_base.proofs.Lists.{bool_same, any_member, any_from, member_at, number_at, member_left, member_right, append_member, member_map, map_member}
 use Rattle.kp_clauses.specs.declared.sieve.Spot.{Spot}
 use Rattle.kp_clauses.specs.Stored.{subsumed}
 use Rattle.kp_clauses.specs.Sieved.{IsMark, key_of, keys, stands_within, tried, IsListed, AreListed, AreKept}
@@ -59,10 +59,6 @@ marks_fit d c w v m n inside =
 
 -- ---- a clause is found
 
-place_of : {X : Type 0} (xs : List X) (x : X) → Member xs x → (i : ℕ) × (slice_get xs i ≡ Some x)
-place_of [] x m = absurd m
-place_of (y ∷ xs) x m = elim m [ inl e ↦ (0, ap Some e) | inr r ↦ let at = place_of xs x r in (suc at.0, at.1) ]
-
 module _ (lists : List (List Spot)) (cs : List (List Lit)) (c : List Lit) (word : ℕ) where
   -- what is tried stands there
   tried_subsumed : (s : Spot) → tried cs c word s ≡ true → subsumed cs c ≡ true
@@ -102,7 +98,7 @@ module _ (lists : List (List Spot)) (cs : List (List Lit)) (c : List Lit) (word 
       from : subsumed cs c ≡ true → (in_list 0 || list_any (λ l. in_list (key_of l)) c) ≡ true
       from h =
           let d = any_member (λ d. is_within d c) cs h in
-          let at = place_of cs d.0 d.1 in
+          let at = number_at cs d.0 d.1 in
           let r = listed.each at.0 d.0 at.1 in
           in_keys r.key (own_keys d.0 d.2 r.key r.own) (any_from (tried cs c word) (row lists r.key) r.spot r.there
           (and_from (nat_eq (bit_or r.spot.mark word) word) (stands_within (slice_get cs r.spot.place) c) (marks_fit d.0 c r.spot.mark word r.mark mark d.2)

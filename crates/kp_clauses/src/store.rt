@@ -102,6 +102,9 @@ impl Store {
         requires { (d : List Literal) → Member other d → subsumed self.old d ≡ false }
         ensures { OnOk result (self.new ≡ with_all self.old other) }
     {
+        if other.clauses().slice().is_empty() {
+            return Ok(());
+        }
         let held = mem::replace(&mut self.sieve, Sieve::new(self.alloc));
         self.sieve = without_holders(self.alloc, held.into_clauses(), &other.sieve)?;
         self.join(other)

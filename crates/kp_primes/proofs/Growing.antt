@@ -17,7 +17,8 @@ use Rattle.kp_clauses.proofs.Within.{within_member, within_from, within_self}
 use Rattle.kp_clauses.proofs.Resolving.{within_resolved}
 use Rattle.kp_clauses.proofs.Storing.{with_all_member, with_all_new, with_all_apart, apart_same, merged_is}
 use Rattle.kp_primes.specs.Included.{met_all, spread, stepped, walked, AreNew, idle}
-use Rattle.kp_primes.proofs.Rising.{rises_rest, first_once}
+use Rattle.kp_base.proofs.Ascending.{tail_ascends}
+use Rattle.kp_primes.proofs.Rising.{first_once}
 use Rattle.kp_primes.proofs.Spreading.{least_parts, stepped_old, stepped_keeps, spread_length, spread_apart, spread_free}
 use Rattle.kp_primes.proofs.Exact.{once}
 use Rattle.kp_primes.proofs.Lengths.{each_length}
@@ -55,7 +56,7 @@ module _ (ps : List (List Lit)) where
 
     step_new : AreNew ps rest (stepped ps l es)
     step_new = record {
-      rising = rises_rest l rest new.rising;
+      rising = tail_ascends l rest new.rising;
       apart = with_all_apart es (spread ps es l es []) new.apart;
       rest_in = λ x m. let from = comes_of x m in within_from rest x (λ y n. elim (within_member from.0 (l ∷ x) from.2 y (within_member (l ∷ rest) from.0 (new.rest_in from.0 from.1) y (inr n))) [
         | inl same ↦ absurd (first_once l rest new.rising (subst (Member rest) (sym same) n))

@@ -12,13 +12,13 @@ use Rattle.kp_base.specs.Steps.{has}
 use Rattle.kp_base.specs.Implicates.{is_within}
 use Rattle.kp_base.proofs.Lists.{any_from}
 use Rattle.kp_base.proofs.Lits.{has-member, same_lit-true, same_lit-refl}
-use Rattle.kp_base.proofs.Ascending.{code_of-injective}
+use Rattle.kp_base.proofs.Ascending.{code_of-injective, tail_ascends}
 use Rattle.kp_clauses.specs.Resolved.{resolved}
 use Rattle.kp_clauses.specs.Stored.{subsumed, are_apart}
 use Rattle.kp_clauses.proofs.Logic.{not-true-case}
 use Rattle.kp_clauses.proofs.Within.{within_member}
 use Rattle.kp_clauses.proofs.Storing.{joined_apart}
-use Rattle.kp_primes.proofs.Rising.{above, rises_rest}
+use Rattle.kp_primes.proofs.Rising.{above}
 use Rattle.kp_primes.specs.Included.{grown, is_least, met, met_all}
 use Rattle.kp_clauses.specs.Listed.{row}
 use Rattle.kp_primes.specs.Placed.{places, AreHolders, met_one, met_at, within_at, held_at}
@@ -52,7 +52,7 @@ get_member (x ∷ xs) (suc i) d lt = inr (get_member xs i d (omega arith))
 not_before : (c : List Lit) → IsAscending c → (i : ℕ) (d : Lit) → i < length c → has (take i c) (get_or c i d) ≡ false
 not_before [] asc i d lt = absurd (omega arith)
 not_before (x ∷ c) asc zero d lt = refl
-not_before (x ∷ c) asc (suc i) d lt = rw (not-true-case (same_lit (get_or c i d) x) apart, not_before c (rises_rest x c asc) i d (omega arith)) refl
+not_before (x ∷ c) asc (suc i) d lt = rw (not-true-case (same_lit (get_or c i d) x) apart, not_before c (tail_ascends x c asc) i d (omega arith)) refl
   where
     apart : same_lit (get_or c i d) x ≡ true → ⊥
     apart e =

@@ -5,10 +5,7 @@ use Rattle.kp_base.specs.Lists.{Member}
 use Rattle.kp_base.specs.Lit.{code_of}
 use Rattle.kp_base.specs.LitSet.{IsAscending}
 use Rattle.kp_base.specs.Implicates.{IsOnce}
-
-pub rises_rest : (l : Lit) (ls : List Lit) → IsAscending (l ∷ ls) → IsAscending ls
-rises_rest l [] h = tt
-rises_rest l (x ∷ ls) h = h.1
+use Rattle.kp_base.proofs.Ascending.{tail_ascends}
 
 pub above : (l : Lit) (ls : List Lit) → IsAscending (l ∷ ls) → (x : Lit) → Member ls x → code_of l < code_of x
 above l [] h x m = absurd m
@@ -23,4 +20,4 @@ first_once l ls h m = let a = above l ls h l m in absurd (omega arith)
 
 pub ascending_once : (ls : List Lit) → IsAscending ls → IsOnce ls
 ascending_once [] h = tt
-ascending_once (l ∷ ls) h = (first_once l ls h, ascending_once ls (rises_rest l ls h))
+ascending_once (l ∷ ls) h = (first_once l ls h, ascending_once ls (tail_ascends l ls h))
