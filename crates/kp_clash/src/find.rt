@@ -27,7 +27,7 @@ fn never_together(alloc: Global, atoms: u32, primes: &Primes) -> Result<Pairs, M
     Ok(Pairs::of_table(atoms, table))
 }
 
-/// The pairs of atoms that are never true together, by the greatest condition of pairs that holds in the initial states
+/// The pairs of atoms that are never true together, by the greatest set of pairs that holds in the initial states
 /// and that each action keeps. The initial states are those of the prime implicates.
 pub fn exclusive(alloc: Global, ground: &Ground, primes: &Primes) -> Result<Pairs, Memory>
     requires { primes.now.atoms ≡ length ground.now.atoms }

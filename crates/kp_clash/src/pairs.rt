@@ -115,7 +115,8 @@ impl Pairs {
 
     /// Whether the two atoms are one of the pairs, in either order.
     pub fn has(&self, p: AtomId, q: AtomId) -> bool
-        ensures { result ≡ is_pair self.now p.0 q.0 }
+        ensures pair { result ≡ is_pair self.now p.0 q.0 }
+        ensures different { p.0 ≡ q.0 → result ≡ false }
     {
         is_marked(self.atoms, &self.table, p.0, q.0)
     }

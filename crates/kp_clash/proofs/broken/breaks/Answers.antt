@@ -5,7 +5,7 @@ use Rattle.kp_clash.proofs.Firing.{breaks_paired, breaks_unpaired}
 use Rattle.kp_clash.proofs.broken.breaks.Goals as goal
 
 pub returns-then-has : goal.returns-then-has
-returns-then-has c = rw c.is_against.ensures (breaks_paired (is_pair c.args.pairs.now) (pair_turned c.args.pairs.now) c.requires.different c.args.action.now c.args.effect.now c.args.q.0 c.requires.adds c.requires.compatible (sym c.has.ensures ∙ c.if-has.true))
+returns-then-has c = rw c.is_against.ensures (breaks_paired (is_pair c.args.pairs.now) (pair_turned c.args.pairs.now) c.requires.different c.args.action.now c.args.effect.now c.args.q.0 c.requires.adds c.requires.compatible (sym c.has.ensures.pair ∙ c.if-has.true))
 
 pub returns-else-has : goal.returns-else-has
-returns-else-has c = rw c.if-has.false (breaks_unpaired (is_pair c.args.pairs.now) (pair_turned c.args.pairs.now) c.requires.different c.args.action.now c.args.effect.now c.args.q.0 c.requires.adds c.requires.compatible (sym c.has.ensures ∙ c.if-has.false))
+returns-else-has c = rw c.if-has.false (breaks_unpaired (is_pair c.args.pairs.now) (pair_turned c.args.pairs.now) c.requires.different c.args.action.now c.args.effect.now c.args.q.0 c.requires.adds c.requires.compatible (sym c.has.ensures.pair ∙ c.if-has.false))
