@@ -27,8 +27,8 @@ fn never_together(alloc: Global, atoms: u32, primes: &Primes) -> Result<Pairs, M
     Ok(Pairs::of_table(atoms, table))
 }
 
-/// The pairs of atoms that are never true together, by the greatest set of pairs that holds in the initial states
-/// and that each action keeps. The initial states are those of the prime implicates.
+/// The exclusive pairs of atoms: the greatest set of pairs that no initial state has together and that each action keeps
+/// apart. The initial states are those of the prime implicates.
 pub fn exclusive(alloc: Global, ground: &Ground, primes: &Primes) -> Result<Pairs, Memory>
     requires { primes.now.atoms ≡ length ground.now.atoms }
     ensures { IfOk result (λ pairs. AreExclusive ground.now (formula primes.now) (length ground.now.atoms) (is_pair pairs)) }
