@@ -11,9 +11,9 @@ use Rattle.kp_grammar.specs.Symbols.{symbol_of}
 use Rattle.kp_grammar.specs.Parsing.{some_at, next_at}
 use Rattle.kp_meaning.specs.Lifted as lifted
 use Rattle.kp_meaning.specs.Plans as texts
-use Rattle.kp_meaning.specs.Plans.{Solves}
-use Rattle.kp_meaning.proofs.Texts.{domain_of, problem_of}
-use Rattle.kp_meaning.proofs.ExamplePlans.{moves, from_a_to_b, move, move_problem}
+use Rattle.kp_meaning.specs.Plans.{HasProblem, Solves}
+use Rattle.kp_meaning.proofs.Texts.{domain_of, problem_of, has_problem}
+use Rattle.kp_meaning.proofs.ExamplePlans.{moves, from_a_to_b, move}
 pub use Rattle.kp_meaning.proofs.ExampleNumbered.{no_fault, plain}
 use Rattle.kp_meaning.proofs.ExampleCells.{cells, one_of_three}
 use Rattle.kp_grounding.specs.Ground.{ground_atoms, ground_of, seen_on}
@@ -156,6 +156,10 @@ a_plan : Solves (domain_of moves) (problem_of from_a_to_b) (move (codes "a") (co
 a_plan = (plan_by_name (domain_of moves) (problem_of from_a_to_b) no_fault plain first (subst (λ l. is_model (initial_of l) first ≡ true) (sym numbered_moves) is_first) (move (codes "a") (codes "a") ∷ move (codes "a") (codes "b") ∷ [])).1 (0 ∷ 1 ∷ [], a_run)
 
 -- and of the two texts
+moves_problem : HasProblem moves from_a_to_b
+unfolding cut_from class_of symbol_of some_at next_at
+moves_problem = has_problem moves from_a_to_b (record { domain_cut = refl; problem_cut = refl; domain_read = refl; problem_read = refl; domain_faults = refl; problem_faults = refl })
+
 a_plan_of_texts : texts.IsPlan moves from_a_to_b (move (codes "a") (codes "a") ∷ move (codes "a") (codes "b") ∷ [])
-unfolding move_problem
-a_plan_of_texts = (plan_of_texts moves from_a_to_b move_problem first (subst (λ l. is_model (initial_of l) first ≡ true) (sym numbered_moves) is_first) (move (codes "a") (codes "a") ∷ move (codes "a") (codes "b") ∷ [])).1 (0 ∷ 1 ∷ [], a_run)
+unfolding moves_problem
+a_plan_of_texts = (plan_of_texts moves from_a_to_b moves_problem first (subst (λ l. is_model (initial_of l) first ≡ true) (sym numbered_moves) is_first) (move (codes "a") (codes "a") ∷ move (codes "a") (codes "b") ∷ [])).1 (0 ∷ 1 ∷ [], a_run)
