@@ -23,7 +23,7 @@ use Rattle.kp_meaning.specs.Numbering.{index_of, heads, numbered_terms, numbered
 use Rattle.kp_meaning.specs.NumberLaws.{Matches}
 use Rattle.kp_meaning.proofs.Indexes.{index_below}
 use Rattle.kp_meaning.proofs.Numbered.{terms_below, among_heads, atom_terms, matches_more, bindings_numbered, object_list_good}
-use Rattle.kp_meaning.proofs.NumberedItems.{is_valid, valid, literal_valid, literals_valid}
+use Rattle.kp_meaning.proofs.NumberedItems.{is_valid, valid, no_variables, literal_valid, literals_valid}
 use Rattle.kp_meaning.proofs.NumberedPlans.{Clean, indexes_below}
 use Rattle.kp_grounding.specs.declared.flat.FlatEffect.{FlatEffect}
 use Rattle.kp_grounding.specs.Static.{is_static, settled, remaining, all_remaining}
