@@ -1,6 +1,6 @@
 -- What is in a resolvent.
 use Rattle.std.proofs.Common.{◌≡◌, Bool, true, false, not, ◌&&◌, if◌then◌else◌, cond, List, [], ◌∷◌, ◌++◌, fold, refl, sym, ◌∙◌, ap, subst, inl, inr}
-use Rattle.std.proofs.lemmas.Bool.{and_parts, false≢true, cases_Bool, not-true}
+use Rattle.std.proofs.lemmas.Bool.{and_parts, or_cases, or_left, or_right, false≢true, cases_Bool, not-true}
 use Rattle.std.proofs.lemmas.List.Sums.{fold-append}
 use Rattle.std.specs.List.{list_any}
 use Rattle.kp_base.specs.declared.lit.Lit.{Lit}
@@ -11,8 +11,8 @@ use Rattle.kp_base.specs.Steps.{State, holds, has}
 use Rattle.kp_base.specs.Implicates.{is_within, is_tautology}
 use Rattle.kp_base.proofs.Lists.{any_member, any_from, all_from, member_left, member_right, append_member, filter_member, member_filter}
 use Rattle.kp_base.proofs.Lits.{has-member, member-has, same_lit-true, same_lit-refl, negated-negated, holds-negated}
-use Rattle.kp_base.proofs.Sets.{any-set_of, all-set_of, set_ascends}
-use Rattle.kp_clauses.specs.Resolved.{without, exchanged, resolved, with_unless, opposed_elsewhere}
+use Rattle.kp_base.proofs.Sets.{any-with_lit, any-set_of, all-set_of, set_ascends}
+use Rattle.kp_clauses.specs.Resolved.{without, resolved, with_unless, opposed_elsewhere}
 use Rattle.kp_clauses.proofs.Logic.{not-true-case}
 use Rattle.kp_clauses.proofs.Within.{within_member, within_from, tautology_from}
 
@@ -32,9 +32,6 @@ resolved_steps c d l =
     others_added (negated l) (fold (with_unless l) [] c) d
     ∙ ap (λ set. fold (λ set l. with_lit l set) set (without (negated l) d)) (others_added l [] c)
     ∙ sym (fold-append (λ set l. with_lit l set) [] (without l c) (without (negated l) d))
-
-pub exchanged_steps : (c : List Lit) (out l : Lit) → with_lit l (fold (with_unless out) [] c) ≡ exchanged c out l
-exchanged_steps c out l = ap (with_lit l) (others_added out [] c) ∙ sym (fold-append (λ set l. with_lit l set) [] (without out c) (l ∷ []))
 
 -- ---- what it says
 
@@ -88,22 +85,33 @@ within_resolved c d l = (
       | inr off ↦ inr (member-has (resolved c d l) x (both_parts (same_lit x) c d l x (f x (member_filter (λ x. not (same_lit x k)) b x m (ap not off))) (same_lit-refl x)))
     ]
 
--- what is within a clause where a literal stands in place of another
-pub within_exchanged : (c d : List Lit) (out l : Lit) → is_within c (exchanged d out l) ≡ true → is_within c (l ∷ without out d) ≡ true
-within_exchanged c d out l h = within_from c (l ∷ without out d) (λ x m. elim (append_member (without out d) (l ∷ []) x (member-has (without out d ++ l ∷ []) x (sym (any-set_of (same_lit x) (without out d ++ l ∷ [])) ∙ has-member (exchanged d out l) x (within_member c (exchanged d out l) h x m)))) [
-  | inl r ↦ inr r
-  | inr n ↦ elim n [ inl same ↦ inl same | inr bad ↦ absurd bad ]
+member_with : (l : Lit) (c : List Lit) (x : Lit) → Member (l ∷ c) x → Member (with_lit l c) x
+member_with l c x m = member-has (with_lit l c) x (any-with_lit (same_lit x) l c ∙ elim m [
+  | inl same ↦ or_right (has c x) (same_lit x l) (subst (λ (y : Lit). same_lit x y ≡ true) (sym same) (same_lit-refl x))
+  | inr r ↦ or_left (has c x) (same_lit x l) (has-member c x r)
 ])
 
+with_member : (l : Lit) (c : List Lit) (x : Lit) → Member (with_lit l c) x → Member (l ∷ c) x
+with_member l c x m = elim (or_cases (has c x) (same_lit x l) (sym (any-with_lit (same_lit x) l c) ∙ has-member (with_lit l c) x m)) [
+  | inl r ↦ inr (member-has c x r)
+  | inr same ↦ inl (sym (same_lit-true x l same))
+]
+
+-- what is within a clause with one literal more and one less
+pub within_left : (c d : List Lit) (out l : Lit) → is_within c (without out (with_lit l d)) ≡ true → is_within c (l ∷ without out d) ≡ true
+within_left c d out l h = within_from c (l ∷ without out d) (λ x m.
+    let f = filter_member (λ y. not (same_lit y out)) (with_lit l d) x (within_member c (without out (with_lit l d)) h x m) in
+    elim (with_member l d x f.0) [
+      | inl same ↦ inl same
+      | inr r ↦ inr (member_filter (λ y. not (same_lit y out)) d x r f.1)
+    ])
+
 -- a clause that has no other literals
-pub exchanged_within : (c d F : List Lit) (out l : Lit) → is_within c (l ∷ F) ≡ true → is_within F d ≡ true → has F out ≡ false → is_within c (exchanged d out l) ≡ true
-exchanged_within c d F out l h inside none = within_from c (exchanged d out l) (λ x m. member-has (exchanged d out l) x (any-set_of (same_lit x) (without out d ++ l ∷ []) ∙ any_from (same_lit x) (without out d ++ l ∷ []) x (there x (within_member c (l ∷ F) h x m)) (same_lit-refl x)))
-  where
-    there : (x : Lit) → Member (l ∷ F) x → Member (without out d ++ l ∷ []) x
-    there x m = elim m [
-      | inl same ↦ member_right (without out d) (l ∷ []) x (inl same)
-      | inr r ↦ member_left (without out d) (l ∷ []) x (member_filter (λ y. not (same_lit y out)) d x (within_member F d inside x r) (ap not (not-true-case (same_lit x out) (λ e. false≢true (sym none ∙ has-member F out (subst (Member F) (same_lit-true x out e) r))))))
-    ]
+pub left_within : (c d F : List Lit) (out l : Lit) → is_within c (l ∷ F) ≡ true → is_within F d ≡ true → has F out ≡ false → same_lit l out ≡ false → is_within c (without out (with_lit l d)) ≡ true
+left_within c d F out l h inside none other = within_from c (without out (with_lit l d)) (λ x m. elim (within_member c (l ∷ F) h x m) [
+  | inl same ↦ member_filter (λ y. not (same_lit y out)) (with_lit l d) x (member_with l d x (inl same)) (subst (λ (y : Lit). not (same_lit y out) ≡ true) same (ap not other))
+  | inr r ↦ member_filter (λ y. not (same_lit y out)) (with_lit l d) x (member_with l d x (inr (within_member F d inside x r))) (ap not (not-true-case (same_lit x out) (λ e. false≢true (sym none ∙ has-member F out (subst (Member F) (same_lit-true x out e) r)))))
+])
 
 pub resolved_ascending : (c d : List Lit) (l : Lit) → IsAscending (resolved c d l)
 resolved_ascending c d l = set_ascends (without l c ++ without (negated l) d)

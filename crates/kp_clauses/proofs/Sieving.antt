@@ -1,20 +1,27 @@
 -- What the lists of a sieve tell.
-use Rattle.std.proofs.Common.{◌≡◌, ◌≢◌, ◌<◌, ◌+◌, ◌%◌, ℕ, zero, suc, Bool, true, false, ◌||◌, List, [], ◌∷◌, ◌++◌, Option, Some, None, refl, sym, ◌∙◌, ap, subst, inl, inr, take, length, get_or, set, slice_get, map, nat_eq, max, bit_or, arith, ◌⊎◌, get_or-set_same, get_or-set_other}
-use Rattle.std.proofs.lemmas.Bool.{and_parts, and_from, or_cases, or_left, or_right, false≢true, cases_eq, eq-eqb}
+use Rattle.std.proofs.Common.{◌≡◌, ◌≢◌, ◌<◌, ◌+◌, ◌%◌, ℕ, zero, suc, Bool, true, false, not, ◌||◌, ◌&&◌, cond, List, [], ◌∷◌, ◌++◌, Option, Some, None, refl, sym, ◌∙◌, ap, subst, inl, inr, take, length, get_or, set, slice_get, map, fold, nat_eq, max, bit_or, arith, ◌⊎◌, get_or-set_same, get_or-set_other}
+use Rattle.std.proofs.lemmas.Bool.{and_parts, and_from, or_cases, or_left, or_right, false≢true, not-true, cases_eq, eq-eqb}
 use Rattle.std.proofs.lemmas.List.{take_more, get_or_default}
 use Rattle.std.proofs.lemmas.Nat.Bits.{bit_at_or, bit_at-lt, same_from_bits}
+use Rattle.std.proofs.Math.Bool.{and-true, or-false, not-not}
 use Rattle.std.specs.Int.{bit_at}
 use Rattle.std.specs.List.{list_any}
 use Rattle.kp_base.specs.declared.lit.Lit.{Lit}
 use Rattle.kp_base.specs.Lists.{Member}
-use Rattle.kp_base.specs.Lit.{code_of}
+use Rattle.kp_base.specs.Lit.{code_of, same_lit}
+use Rattle.kp_base.specs.LitSet.{with_lit}
+use Rattle.kp_base.specs.Steps.{has}
 use Rattle.kp_base.specs.Implicates.{is_within}
-use Rattle.kp_base.proofs.Lists.{bool_same, any_member, any_from, member_at, number_at, member_left, member_right, append_member, member_map, map_member}
+use Rattle.kp_base.proofs.Lists.{bool_same, any_member, any_from, member_at, number_at, member_left, member_right, append_member, member_map, map_member, filter_member, member_filter}
+use Rattle.kp_base.proofs.Lits.{has-member, member-has, same_lit-true, same_lit-refl}
+use Rattle.kp_base.proofs.Sets.{any-with_lit}
 use Rattle.kp_clauses.specs.declared.sieve.Spot.{Spot}
+use Rattle.kp_clauses.specs.Resolved.{without, with_if, common}
 use Rattle.kp_clauses.specs.Stored.{subsumed}
-use Rattle.kp_clauses.specs.Sieved.{IsMark, key_of, keys, stands_within, tried, IsListed, AreListed, AreKept}
+use Rattle.kp_clauses.specs.Sieved.{IsMark, key_of, keys, stands, passes, tried, lacks, common_at, narrowed, IsListed, AreListed, AreKept}
 use Rattle.kp_clauses.specs.Listed.{row}
-use Rattle.kp_clauses.proofs.Within.{within_member}
+use Rattle.kp_clauses.proofs.Logic.{not-true-case}
+use Rattle.kp_clauses.proofs.Within.{within_member, within_from}
 
 -- ---- marks
 
@@ -59,20 +66,20 @@ marks_fit d c w v m n inside =
 
 -- ---- a clause is found
 
-module _ (lists : List (List Spot)) (cs : List (List Lit)) (c : List Lit) (word : ℕ) where
-  -- what is tried stands there
-  tried_subsumed : (s : Spot) → tried cs c word s ≡ true → subsumed cs c ≡ true
-  tried_subsumed s h = go (slice_get cs s.place) refl (and_parts (nat_eq (bit_or s.mark word) word) (stands_within (slice_get cs s.place) c) h).1
+module _ (lists : List (List Spot)) (cs : List (List Lit)) (c : List Lit) (word : ℕ) (test : List Lit → Bool) where
+  -- what passes stands there
+  tried_any : (s : Spot) → passes cs test word s ≡ true → list_any test cs ≡ true
+  tried_any s h = go (slice_get cs s.place) refl (and_parts (nat_eq (bit_or s.mark word) word) (stands test (slice_get cs s.place)) h).1
     where
-      go : (o : Option (List Lit)) → slice_get cs s.place ≡ o → stands_within o c ≡ true → subsumed cs c ≡ true
+      go : (o : Option (List Lit)) → slice_get cs s.place ≡ o → stands test o ≡ true → list_any test cs ≡ true
       go None e h = absurd (false≢true h)
-      go (Some d) e h = any_from (λ d. is_within d c) cs d (member_at cs s.place d e) h
-
-  listed_subsumed : (k : ℕ) → list_any (tried cs c word) (row lists k) ≡ true → subsumed cs c ≡ true
-  listed_subsumed k h = let r = any_member (tried cs c word) (row lists k) h in tried_subsumed r.0 r.2
+      go (Some d) e h = any_from test cs d (member_at cs s.place d e) h
 
   abbrev in_list : ℕ → Bool
-  in_list k = list_any (tried cs c word) (row lists k)
+  in_list k = list_any (passes cs test word) (row lists k)
+
+  listed_any : (k : ℕ) → in_list k ≡ true → list_any test cs ≡ true
+  listed_any k h = let r = any_member (passes cs test word) (row lists k) h in tried_any r.0 r.2
 
   in_keys : (k : ℕ) → Member (keys c) k → in_list k ≡ true → (in_list 0 || list_any (λ l. in_list (key_of l)) c) ≡ true
   in_keys k m h = elim m [
@@ -86,23 +93,126 @@ module _ (lists : List (List Spot)) (cs : List (List Lit)) (c : List Lit) (word 
     | inr r ↦ let l = map_member key_of d k r in inr (subst (Member (map key_of c)) l.2 (member_map key_of c l.0 (within_member d c inside l.0 l.1)))
   ]
 
-  pub sieved : AreListed lists cs → IsMark c word → (in_list 0 || list_any (λ l. in_list (key_of l)) c) ≡ subsumed cs c
-  sieved listed mark = bool_same (in_list 0 || list_any (λ l. in_list (key_of l)) c) (subsumed cs c) to from
+  -- a test of clauses within this one is passed by one in the lists of its literals, where any passes it
+  pub sieved : AreListed lists cs → IsMark c word → ((d : List Lit) → test d ≡ true → is_within d c ≡ true) → (in_list 0 || list_any (λ l. in_list (key_of l)) c) ≡ list_any test cs
+  sieved listed mark inside = bool_same (in_list 0 || list_any (λ l. in_list (key_of l)) c) (list_any test cs) to from
     where
-      to : (in_list 0 || list_any (λ l. in_list (key_of l)) c) ≡ true → subsumed cs c ≡ true
+      to : (in_list 0 || list_any (λ l. in_list (key_of l)) c) ≡ true → list_any test cs ≡ true
       to h = elim (or_cases (in_list 0) (list_any (λ l. in_list (key_of l)) c) h) [
-        | inl a ↦ listed_subsumed 0 a
-        | inr a ↦ let r = any_member (λ l. in_list (key_of l)) c a in listed_subsumed (key_of r.0) r.2
+        | inl a ↦ listed_any 0 a
+        | inr a ↦ let r = any_member (λ l. in_list (key_of l)) c a in listed_any (key_of r.0) r.2
       ]
 
-      from : subsumed cs c ≡ true → (in_list 0 || list_any (λ l. in_list (key_of l)) c) ≡ true
+      from : list_any test cs ≡ true → (in_list 0 || list_any (λ l. in_list (key_of l)) c) ≡ true
       from h =
-          let d = any_member (λ d. is_within d c) cs h in
+          let d = any_member test cs h in
           let at = number_at cs d.0 d.1 in
           let r = listed.each at.0 d.0 at.1 in
-          in_keys r.key (own_keys d.0 d.2 r.key r.own) (any_from (tried cs c word) (row lists r.key) r.spot r.there
-          (and_from (nat_eq (bit_or r.spot.mark word) word) (stands_within (slice_get cs r.spot.place) c) (marks_fit d.0 c r.spot.mark word r.mark mark d.2)
-          (subst (λ z. stands_within (slice_get cs z) c ≡ true) (sym r.place) (subst (λ o. stands_within o c ≡ true) (sym at.1) d.2))))
+          in_keys r.key (own_keys d.0 (inside d.0 d.2) r.key r.own) (any_from (passes cs test word) (row lists r.key) r.spot r.there
+          (and_from (nat_eq (bit_or r.spot.mark word) word) (stands test (slice_get cs r.spot.place)) (marks_fit d.0 c r.spot.mark word r.mark mark (inside d.0 d.2))
+          (subst (λ z. stands test (slice_get cs z) ≡ true) (sym r.place) (subst (λ o. stands test o ≡ true) (sym at.1) d.2))))
+
+-- some clause is within another one
+pub subsumed_sieved : (lists : List (List Spot)) (cs : List (List Lit)) (c : List Lit) (word : ℕ) → AreListed lists cs → IsMark c word → (list_any (tried cs c word) (row lists 0) || list_any (λ l. list_any (tried cs c word) (row lists (key_of l))) c) ≡ subsumed cs c
+subsumed_sieved lists cs c word listed mark = sieved lists cs c word (λ d. is_within d c) listed mark (λ d inside. inside)
+
+-- ---- literals that are needed
+
+has_common : (d set : List Lit) (x : Lit) → has (common set d) x ≡ (has set x && has d x)
+has_common d set x = go set []
+  where
+    same_has : (y : Lit) (b : Bool) → same_lit x y ≡ b → (a r : Bool) → (cond (has d y) (a || b) a || (r && has d x)) ≡ (a || ((b || r) && has d x))
+    same_has y true e a r = subst (λ (z : Lit). (cond (has d z) (a || true) a || (r && has d x)) ≡ (a || ((true || r) && has d x))) (same_lit-true x y e) (told a r (has d x))
+      where
+        told : (a r h : Bool) → (cond h (a || true) a || (r && h)) ≡ (a || h)
+        told true true true = refl
+        told true true false = refl
+        told true false true = refl
+        told true false false = refl
+        told false true true = refl
+        told false true false = refl
+        told false false true = refl
+        told false false false = refl
+    same_has y false e a r = told a r (has d y) (has d x)
+      where
+        told : (a r g h : Bool) → (cond g (a || false) a || (r && h)) ≡ (a || (r && h))
+        told true r true h = refl
+        told true r false h = refl
+        told false r true h = refl
+        told false r false h = refl
+
+    has_if : (acc : List Lit) (y : Lit) → has (with_if d acc y) x ≡ cond (has d y) (has acc x || same_lit x y) (has acc x)
+    has_if acc y = pick (has d y)
+      where
+        pick : (b : Bool) → has (cond b (with_lit y acc) acc) x ≡ cond b (has acc x || same_lit x y) (has acc x)
+        pick true = any-with_lit (same_lit x) y acc
+        pick false = refl
+
+    go : (ls acc : List Lit) → has (fold (with_if d) acc ls) x ≡ (has acc x || (has ls x && has d x))
+    go [] acc = sym (or-false (has acc x))
+    go (y ∷ ls) acc = go ls (with_if d acc y) ∙ ap (λ b. b || (has ls x && has d x)) (has_if acc y) ∙ same_has y (same_lit x y) refl (has acc x) (has ls x)
+
+-- literals are taken out one after another
+taken_out : {X : Type 0} (f : List Lit → X → List Lit) (out : X → Bool) (x : Lit) → ((set : List Lit) (y : X) → has (f set y) x ≡ (has set x && not (out y))) → (ys : List X) (set : List Lit) → has (fold f set ys) x ≡ (has set x && not (list_any out ys))
+taken_out f out x step [] set = sym (and-true (has set x))
+taken_out f out x step (y ∷ ys) set = taken_out f out x step ys (f set y) ∙ (ap (λ b. b && not (list_any out ys)) (step set y) ∙ told (has set x) (out y) (list_any out ys))
+  where
+    told : (a b c : Bool) → ((a && not b) && not c) ≡ (a && not (b || c))
+    told true true c = refl
+    told true false c = refl
+    told false b c = refl
+
+module _ (lists : List (List Spot)) (cs : List (List Lit)) (c : List Lit) (word : ℕ) (x : Lit) where
+  has_narrowed : (set : List Lit) (s : Spot) → has (narrowed cs c word set s) x ≡ (has set x && not (passes cs (lacks c x) word s))
+  has_narrowed set s = go (nat_eq (bit_or s.mark word) word) (slice_get cs s.place)
+    where
+      go : (m : Bool) (o : Option (List Lit)) → has (cond (m && stands (λ d. is_within d c) o) (common_at set o) set) x ≡ (has set x && not (m && stands (lacks c x) o))
+      go false o = sym (and-true (has set x))
+      go true None = sym (and-true (has set x))
+      go true (Some d) = within (is_within d c)
+        where
+          within : (b : Bool) → has (cond b (common set d) set) x ≡ (has set x && not (b && not (has d x)))
+          within false = sym (and-true (has set x))
+          within true = has_common d set x ∙ ap (λ b. has set x && b) (sym (not-not (has d x)))
+
+  -- within a clause, but without the literal
+  lacks_is : (d : List Lit) → lacks c x d ≡ is_within d (without x c)
+  lacks_is d = bool_same (lacks c x d) (is_within d (without x c)) to from
+    where
+      to : lacks c x d ≡ true → is_within d (without x c) ≡ true
+      to h =
+          let parts = and_parts (is_within d c) (not (has d x)) h in
+          within_from d (without x c) (λ y m. member_filter (λ z. not (same_lit z x)) c y (within_member d c parts.0 y m) (ap not (not-true-case (same_lit y x) (λ e.
+          false≢true (sym (not-true (has d x) parts.1) ∙ has-member d x (subst (Member d) (same_lit-true y x e) m))))))
+
+      from : is_within d (without x c) ≡ true → lacks c x d ≡ true
+      from h = and_from (is_within d c) (not (has d x)) (within_from d c (λ y m. (left y m).0)) (ap not (not-true-case (has d x) (λ on. false≢true (sym (not-true (same_lit x x) (left x (member-has d x on)).1) ∙ same_lit-refl x))))
+        where
+          left : (y : Lit) → Member d y → Member c y × (not (same_lit y x) ≡ true)
+          left y m = filter_member (λ z. not (same_lit z x)) c y (within_member d (without x c) h y m)
+
+  lacking : (ds : List (List Lit)) → list_any (lacks c x) ds ≡ subsumed ds (without x c)
+  lacking [] = refl
+  lacking (d ∷ ds) = rw (lacks_is d, lacking ds) refl
+
+  -- what is left in the end
+  pub needed_left : AreListed lists cs → IsMark c word → has (fold (λ rest l. fold (narrowed cs c word) rest (row lists (key_of l))) (fold (narrowed cs c word) c (row lists 0)) c) x ≡ (has c x && not (subsumed cs (without x c)))
+  needed_left listed mark =
+      taken_out (λ rest l. fold (narrowed cs c word) rest (row lists (key_of l))) (λ l. out (row lists (key_of l))) x (λ set l. by_spots (row lists (key_of l)) set) c (fold (narrowed cs c word) c (row lists 0))
+      ∙ (ap (λ b. b && not (list_any (λ l. out (row lists (key_of l))) c)) (by_spots (row lists 0) c)
+      ∙ (told (has c x) (out (row lists 0)) (list_any (λ l. out (row lists (key_of l))) c)
+      ∙ ap (λ b. has c x && not b) (sieved lists cs c word (lacks c x) listed mark (λ d h. (and_parts (is_within d c) (not (has d x)) h).0) ∙ lacking cs)))
+    where
+      out : List Spot → Bool
+      out spots = list_any (passes cs (lacks c x) word) spots
+
+      by_spots : (spots : List Spot) (set : List Lit) → has (fold (narrowed cs c word) set spots) x ≡ (has set x && not (out spots))
+      by_spots = taken_out (narrowed cs c word) (passes cs (lacks c x) word) x has_narrowed
+
+      told : (a b c : Bool) → ((a && not b) && not c) ≡ (a && not (b || c))
+      told true true c = refl
+      told true false c = refl
+      told false b c = refl
 
 -- ---- a clause is put in
 

@@ -1,12 +1,14 @@
 -- Lists of the places of clauses, by one literal of each. This file serves proofs alone.
-use Rattle.std.specs.Prelude.{◌≡◌, ◌+◌, ◌%◌, ℕ, Bool, false, ◌&&◌, List, ◌∷◌, Option, None, Some, map, slice_get, nat_eq}
+use Rattle.std.specs.Prelude.{◌≡◌, ◌+◌, ◌%◌, ℕ, Bool, false, not, ◌&&◌, cond, List, ◌∷◌, Option, None, Some, map, slice_get, nat_eq}
 use Rattle.std.specs.Int.{bit_at}
 use Rattle.std.specs.Int.RustNames.{bit_or}
 use Rattle.kp_base.specs.declared.lit.Lit.{Lit}
 use Rattle.kp_base.specs.Lists.{Member}
 use Rattle.kp_base.specs.Lit.{code_of}
+use Rattle.kp_base.specs.Steps.{has}
 use Rattle.kp_base.specs.Implicates.{is_within}
 use Rattle.kp_clauses.specs.Listed.{row}
+use Rattle.kp_clauses.specs.Resolved.{common}
 use Rattle.kp_clauses.specs.declared.sieve.Spot.{Spot}
 
 -- a word has the bits of the literals' codes and no others
@@ -22,14 +24,31 @@ key_of l = code_of l % 4096 + 1
 abbrev pub keys : List Lit → List ℕ
 keys c = 0 ∷ map key_of c
 
--- the clause at a place is within this one
-abbrev pub stands_within : Option (List Lit) → List Lit → Bool
-stands_within None c = false
-stands_within (Some d) c = is_within d c
+-- the clause at a place passes a test
+abbrev pub stands : (List Lit → Bool) → Option (List Lit) → Bool
+stands test None = false
+stands test (Some d) = test d
 
--- the same, where the marks don't tell that it isn't
+-- the clause of a spot passes a test that only those within a clause with this mark pass; where the marks tell that it isn't within, it isn't looked at
+abbrev pub passes : List (List Lit) → (List Lit → Bool) → ℕ → Spot → Bool
+passes cs test word s = nat_eq (bit_or s.mark word) word && stands test (slice_get cs s.place)
+
+-- it is within this one
 abbrev pub tried : List (List Lit) → List Lit → ℕ → Spot → Bool
-tried cs c word s = nat_eq (bit_or s.mark word) word && stands_within (slice_get cs s.place) c
+tried cs c word s = passes cs (λ d. is_within d c) word s
+
+-- a clause is within another, and lacks a literal
+abbrev pub lacks : List Lit → Lit → List Lit → Bool
+lacks c x d = is_within d c && not (has d x)
+
+-- what a set and the clause at a place have in common
+abbrev pub common_at : List Lit → Option (List Lit) → List Lit
+common_at set None = set
+common_at set (Some d) = common set d
+
+-- what is left of a set: where the clause of a spot is within this one, what it has
+abbrev pub narrowed : List (List Lit) → List Lit → ℕ → List Lit → Spot → List Lit
+narrowed cs c word set s = cond (tried cs c word s) (common_at set (slice_get cs s.place)) set
 
 -- a clause's place and mark stand in one of its lists
 pub record IsListed (lists : List (List Spot)) (i : ℕ) (c : List Lit) : Type 0 where

@@ -2,7 +2,7 @@ ghost use Rattle.std.specs.Prelude.{◌≡◌, IsTrue, true, false, fold, IfOk, 
 ghost use Rattle.kp_base.specs.Lit.{positive, negative};
 ghost use Rattle.kp_base.specs.Steps.{has};
 ghost use Rattle.kp_base.specs.Implicates.{is_within, is_tautology};
-ghost use Rattle.kp_clauses.specs.Resolved.{exchanged, with_unless, opposed_elsewhere, resolved, resolvent_on};
+ghost use Rattle.kp_clauses.specs.Resolved.{with_unless, with_if, common, opposed_elsewhere, resolved, resolvent_on};
 
 use kp_base::{AtomId, Lit, LitSet, Memory};
 use std::alloc::Global;
@@ -63,6 +63,28 @@ fn add_others(set: &mut LitSet, c: &LitSet, out: Lit) -> Result<(), Memory>
     Ok(())
 }
 
+// Adds a literal, if the clause has it.
+fn add_if(set: &mut LitSet, d: &LitSet, lit: Lit) -> Result<(), Memory>
+    ensures { OnOk result (set.new ≡ with_if d.now set.old lit) }
+{
+    if has_lit(d, lit) {
+        set.insert(lit)?;
+    }
+    Ok(())
+}
+
+/// What a set and a clause have in common.
+pub(crate) fn common(alloc: Global, set: &LitSet, d: &LitSet) -> Result<LitSet, Memory>
+    ensures { IfOk result (λ both. both ≡ common set.now d.now) }
+{
+    let mut both = LitSet::new(alloc);
+    let lits = set.slice();
+    for l in lits {
+        add_if(&mut both, d, *l)?;
+    }
+    Ok(both)
+}
+
 // The literals of both but the literal in the first and its negation in the second.
 fn join(alloc: Global, c: &LitSet, d: &LitSet, lit: Lit) -> Result<LitSet, Memory>
     ensures { IfOk result (λ set. set ≡ resolved c.now d.now lit) }
@@ -70,17 +92,6 @@ fn join(alloc: Global, c: &LitSet, d: &LitSet, lit: Lit) -> Result<LitSet, Memor
     let mut set = LitSet::new(alloc);
     add_others(&mut set, c, lit)?;
     add_others(&mut set, d, lit.negated())?;
-    Ok(set)
-}
-
-/// The clause with another literal in place of this one.
-#[tactic(auto, using(crate::proofs::Resolving::exchanged_steps))]
-pub fn exchange(alloc: Global, c: &LitSet, out: Lit, lit: Lit) -> Result<LitSet, Memory>
-    ensures { IfOk result (λ set. set ≡ exchanged c.now out lit) }
-{
-    let mut set = LitSet::new(alloc);
-    add_others(&mut set, c, out)?;
-    set.insert(lit)?;
     Ok(set)
 }
 

@@ -9,7 +9,7 @@ mod mark;
 mod sieve;
 mod store;
 
-pub use clause::{exchange, has_lit, is_tautology, resolve, resolvent, subsumes};
+pub use clause::{has_lit, is_tautology, resolve, resolvent, subsumes};
 pub use laws::saturated_clauses_are_the_prime_implicates;
 pub use lists::{list, make_lists};
 pub use sieve::Sieve;

@@ -1,11 +1,15 @@
-ghost use Rattle.std.specs.Prelude.{◌≡◌, ◌⊎◌, ◌<◌, ◌+◌, ◌∷◌, ◌++◌, [], ℕ, length, slice_get, OnOk, OnErr};
+ghost use Rattle.std.specs.Prelude.{◌≡◌, ◌⊎◌, ◌<◌, ◌+◌, ◌∷◌, ◌++◌, ◌&&◌, not, [], ℕ, fold, length, slice_get, OnOk, OnErr, IfOk};
 ghost use Rattle.std.specs.List.{list_any};
+ghost use Rattle.kp_base.specs.declared.lit.Lit.{Lit as Literal};
 ghost use Rattle.kp_base.specs.Lists.{Member};
+ghost use Rattle.kp_base.specs.Steps.{has};
+ghost use Rattle.kp_base.specs.Implicates.{is_within};
+ghost use Rattle.kp_clauses.specs.Resolved.{without};
 ghost use Rattle.kp_clauses.specs.Stored.{subsumed};
-ghost use Rattle.kp_clauses.specs.Sieved.{key_of, keys, stands_within, tried, AreKept};
+ghost use Rattle.kp_clauses.specs.Sieved.{key_of, keys, stands, tried, common_at, narrowed, AreKept};
 ghost use Rattle.kp_clauses.specs.Listed.{row};
 
-use crate::clause::subsumes;
+use crate::clause::{common, subsumes};
 use crate::lists::{list, make_lists};
 use crate::mark::{mark, marks_within};
 use kp_base::{Lit, LitSet, Memory, Row};
@@ -76,6 +80,19 @@ impl Sieve {
             || any_of_literals(clauses, &self.lists, word, c)
     }
 
+    /// The literals of a clause that none within it lacks: without one of them no clause is within it.
+    pub fn needed(&self, c: &LitSet) -> Result<LitSet, Memory>
+        ensures { IfOk result (λ set. (x : Literal) → has set x ≡ (has c.now x && not (subsumed self.now (without x c.now)))) }
+    {
+        let clauses = self.clauses.slice();
+        let word = mark(c);
+        let mut set = c.copy(self.alloc)?;
+        let spots = list(&self.lists, 0);
+        narrow_by(self.alloc, &mut set, clauses, spots, word, c)?;
+        narrow_by_literals(self.alloc, &mut set, clauses, &self.lists, word, c)?;
+        Ok(set)
+    }
+
     /// Adds a clause at the end. At `Memory` the clauses are as they were, and this one is gone.
     pub fn push(&mut self, clause: LitSet) -> Result<(), Memory>
         ensures ok { OnOk result (self.new ≡ self.old ++ clause ∷ []) }
@@ -101,7 +118,7 @@ fn key(lit: Lit) -> usize
 
 // Whether a clause stands at the place, and is within this one.
 fn stands(clauses: &[LitSet], place: usize, c: &LitSet) -> bool
-    ensures { result ≡ stands_within (slice_get clauses.now place) c.now }
+    ensures { result ≡ stands (λ d. is_within d c.now) (slice_get clauses.now place) }
 {
     match clauses.get(place) {
         Some(d) => subsumes(d, c),
@@ -132,6 +149,73 @@ fn any_of_literals(clauses: &[LitSet], lists: &[Row<Spot>], word: u64, c: &LitSe
     c.slice()
         .iter()
         .any(|l| any_listed(clauses, lists, key(*l), word, c))
+}
+
+// Leaves in a set what the clause at the place has, too.
+fn narrow_at(
+    alloc: Global,
+    set: &mut LitSet,
+    clauses: &[LitSet],
+    place: usize,
+) -> Result<(), Memory>
+    ensures { OnOk result (set.new ≡ common_at set.old (slice_get clauses.now place)) }
+{
+    if let Some(d) = clauses.get(place) {
+        *set = common(alloc, set, d)?;
+    }
+    Ok(())
+}
+
+// The same with the clause of a spot, where it is within this one.
+fn narrow(
+    alloc: Global,
+    set: &mut LitSet,
+    clauses: &[LitSet],
+    spot: &Spot,
+    word: u64,
+    c: &LitSet,
+) -> Result<(), Memory>
+    ensures { OnOk result (set.new ≡ narrowed clauses.now c.now word set.old spot.now) }
+{
+    if is_tried(clauses, spot, word, c) {
+        narrow_at(alloc, set, clauses, spot.place)?;
+    }
+    Ok(())
+}
+
+// The same with each of these spots.
+fn narrow_by(
+    alloc: Global,
+    set: &mut LitSet,
+    clauses: &[LitSet],
+    spots: &[Spot],
+    word: u64,
+    c: &LitSet,
+) -> Result<(), Memory>
+    ensures { OnOk result (set.new ≡ fold (narrowed clauses.now c.now word) set.old spots.now) }
+{
+    for s in spots {
+        narrow(alloc, set, clauses, s, word, c)?;
+    }
+    Ok(())
+}
+
+// The same with the spots in the lists of this clause's literals.
+fn narrow_by_literals(
+    alloc: Global,
+    set: &mut LitSet,
+    clauses: &[LitSet],
+    lists: &[Row<Spot>],
+    word: u64,
+    c: &LitSet,
+) -> Result<(), Memory>
+    ensures { OnOk result (set.new ≡ fold (λ rest l. fold (narrowed clauses.now c.now word) rest (row lists.now (key_of l))) set.old c.now) }
+{
+    let lits = c.slice();
+    for l in lits {
+        narrow_by(alloc, set, clauses, list(lists, key(*l)), word, c)?;
+    }
+    Ok(())
 }
 
 // The shorter of two lists, where the first is that of the empty clause the second.

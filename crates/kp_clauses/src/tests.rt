@@ -72,3 +72,20 @@ fn keeps_what_says_most(rt: HostRuntime) -> Result<(), Fail> {
     }
     Ok(())
 }
+
+#[test]
+fn tells_what_is_needed(rt: HostRuntime) -> Result<(), Fail> {
+    let mut store = Store::new(rt.alloc());
+    let with_b = clause(rt.alloc(), &[(0, true), (1, true)])?;
+    assert_eq!(rt; store.add(with_b)?, Added::Kept);
+    let with_c = clause(rt.alloc(), &[(0, true), (2, true)])?;
+    assert_eq!(rt; store.add(with_c)?, Added::Kept);
+    // Both are within it, and have a alone in common.
+    let any = clause(rt.alloc(), &[(0, true), (1, true), (2, true)])?;
+    let a = clause(rt.alloc(), &[(0, true)])?;
+    assert!(rt; store.needed(&any)? == a);
+    // Neither is within it.
+    let others = clause(rt.alloc(), &[(1, true), (2, true)])?;
+    assert!(rt; store.needed(&others)? == others);
+    Ok(())
+}

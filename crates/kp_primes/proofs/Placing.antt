@@ -1,5 +1,5 @@
 -- The places of the clauses that have a literal, and what is resolved with the clauses there.
-use Rattle.std.proofs.Common.{◌≡◌, ◌≢◌, ◌<◌, ◌+◌, ℕ, zero, suc, Bool, true, false, ◌||◌, ◌&&◌, cond, List, [], ◌∷◌, ◌++◌, Some, refl, sym, ◌∙◌, ap, subst, inl, inr, take, length, get_or, set, slice_get, arith, get_or-set_same, get_or-set_other}
+use Rattle.std.proofs.Common.{◌≡◌, ◌≢◌, ◌<◌, ◌+◌, ℕ, zero, suc, Bool, true, false, ◌||◌, ◌&&◌, cond, List, [], ◌∷◌, ◌++◌, Some, refl, sym, ◌∙◌, ap, subst, inl, inr, take, length, get_or, set, slice_get, fold, nat_lt, arith, get_or-set_same, get_or-set_other}
 use Rattle.std.proofs.lemmas.Bool.{false≢true, cases_eq}
 use Rattle.std.proofs.lemmas.List.{take_more, get_or_default, append_assoc, append-nil, length-take}
 use Rattle.std.proofs.lemmas.List.Folds.{list_any-append}
@@ -21,7 +21,7 @@ use Rattle.kp_clauses.proofs.Storing.{joined_apart}
 use Rattle.kp_primes.proofs.Rising.{above}
 use Rattle.kp_primes.specs.Included.{grown, is_least, met, met_all}
 use Rattle.kp_clauses.specs.Listed.{row}
-use Rattle.kp_primes.specs.Placed.{places, AreHolders, met_one, met_at, within_at, held_at}
+use Rattle.kp_primes.specs.Placed.{places, AreHolders, met_one, met_at, within_at, rarer, held_at}
 
 -- ---- one clause more
 
@@ -165,12 +165,23 @@ placed l i (c ∷ cs) p m h = elim m [
 from_zero : (n : ℕ) → 0 + n ≡ n
 from_zero n = omega arith
 
+-- it is one of them
+rarest_member : (lists : List (List ℕ)) (ls : List Lit) (l : Lit) → Member (l ∷ ls) (fold (rarer lists) l ls)
+rarest_member lists [] l = inl refl
+rarest_member lists (x ∷ ls) l = go (nat_lt (length (row lists (code_of x))) (length (row lists (code_of l)))) (rarest_member lists ls (rarer lists l x))
+  where
+    go : (b : Bool) → Member (cond b x l ∷ ls) (fold (rarer lists) (rarer lists l x) ls) → Member (l ∷ x ∷ ls) (fold (rarer lists) (rarer lists l x) ls)
+    go true m = elim m [ inl e ↦ inr (inl e) | inr r ↦ inr (inr r) ]
+    go false m = elim m [ inl e ↦ inl e | inr r ↦ inr (inr r) ]
+
 -- a clause whose holders were looked at in vain is within none
 pub not_held : (cs : List (List Lit)) (lists : List (List ℕ)) (c : List Lit) → AreHolders lists cs → held_at cs lists c (slice_get c 0) ≡ false → (p : List Lit) → Member cs p → is_within c p ≡ false
 not_held cs lists [] h none p m = absurd (false≢true (sym none))
 not_held cs lists (l ∷ c) h none p m = not-true-case (is_within (l ∷ c) p) (λ inside.
-    let at = placed l 0 cs p m (has-member p l (within_member (l ∷ c) p inside l (inl refl))) in
-    false≢true (sym none ∙ any_from (λ i. within_at (l ∷ c) (slice_get cs i)) (row lists (code_of l)) at.0 (subst (λ z. Member z at.0) (sym (h.each l)) (subst (Member (places l 0 cs)) (from_zero at.0) at.1)) (ap (within_at (l ∷ c)) at.2 ∙ inside)))
+    let best : Lit = fold (rarer lists) l (l ∷ c) in
+    let own : Member (l ∷ c) best = elim (rarest_member lists (l ∷ c) l) [ inl e ↦ inl e | inr r ↦ r ] in
+    let at = placed best 0 cs p m (has-member p best (within_member (l ∷ c) p inside best own)) in
+    false≢true (sym none ∙ any_from (λ i. within_at (l ∷ c) (slice_get cs i)) (row lists (code_of best)) at.0 (subst (λ z. Member z at.0) (sym (h.each best)) (subst (Member (places best 0 cs)) (from_zero at.0) at.1)) (ap (within_at (l ∷ c)) at.2 ∙ inside)))
 
 -- new clauses that none holds come behind
 pub behind_apart : (ps es : List (List Lit)) (lists : List (List ℕ)) → are_apart ps ≡ true → are_apart es ≡ true → AreHolders lists ps → ((c : List Lit) → Member es c → subsumed ps c ≡ false) → list_any (λ c. held_at ps lists c (slice_get c 0)) es ≡ false → are_apart (ps ++ es) ≡ true

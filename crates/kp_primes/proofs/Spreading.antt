@@ -1,19 +1,22 @@
 -- What resolving on one literal brings in, and what it reaches.
 use Rattle.std.proofs.Common.{◌≡◌, ◌≤◌, ◌<◌, ℕ, zero, suc, Bool, true, false, not, ◌||◌, ◌&&◌, ◌⊎◌, cond, List, [], ◌∷◌, ◌++◌, refl, sym, ◌∙◌, subst, inl, inr, length, arith}
 use Rattle.std.proofs.lemmas.Bool.{and_parts, and_from, or_left, or_right, false≢true, cases_Bool}
+use Rattle.std.proofs.Math.Bool.{not-not}
 use Rattle.std.specs.List.{list_any}
 use Rattle.kp_base.specs.declared.lit.Lit.{Lit}
 use Rattle.kp_base.specs.Lists.{Member}
 use Rattle.kp_base.specs.Lit.{negated, same_lit}
+use Rattle.kp_base.specs.LitSet.{with_lit}
 use Rattle.kp_base.specs.Steps.{has}
 use Rattle.kp_base.specs.Implicates.{is_within, is_tautology}
 use Rattle.kp_base.proofs.Lists.{any_member, any_from, append_member, member_left, member_right, filter_member}
-use Rattle.kp_base.proofs.Lits.{member-has, has-member, same_lit-refl}
-use Rattle.kp_clauses.specs.Resolved.{without, exchanged, resolved}
+use Rattle.kp_base.proofs.Lits.{member-has, has-member, same_lit-refl, same_lit-true}
+use Rattle.kp_base.proofs.Sets.{any-with_lit}
+use Rattle.kp_clauses.specs.Resolved.{without, resolved}
 use Rattle.kp_clauses.specs.Stored.{subsumed, are_apart}
 use Rattle.kp_clauses.proofs.Logic.{not-true-case}
 use Rattle.kp_clauses.proofs.Within.{within_member, within_from, within_trans, tautology_within, subsumed_within}
-use Rattle.kp_clauses.proofs.Resolving.{resolved_within, resolved_ascending, within_resolved, within_exchanged, exchanged_within}
+use Rattle.kp_clauses.proofs.Resolving.{resolved_within, resolved_ascending, within_resolved, within_left, left_within}
 use Rattle.kp_clauses.proofs.Storing.{with_all_member, with_all_old, with_all_new, apart_last}
 use Rattle.kp_primes.specs.Included.{grown, is_spare, is_least, met, met_all, spread, stepped}
 use Rattle.kp_primes.proofs.Rising.{ascending_once}
@@ -72,6 +75,21 @@ least_parts ps es l c h = go (is_tautology c) (has c l) (subsumed ps c) (list_an
     go false false false true _ _ _ _ h = absurd (false≢true h)
     go false false false false a b c d _ = record { proper = a; lacks = b; free = c; none_spare = d }
 
+-- no clause within the one with another literal more lacks a literal
+abbrev AreNeeded : List (List Lit) → List Lit → Lit → List Lit → Type 0
+AreNeeded cs c k set = (x : Lit) → has set x ≡ (has (with_lit k c) x && not (subsumed cs (without x (with_lit k c))))
+
+-- a literal may be left out where neither needs it
+pub spare_is : (ps es : List (List Lit)) (l : Lit) (c new old : List Lit) → AreNeeded es c l new → AreNeeded ps c (negated l) old → list_any (λ x. not (has new x) && not (has old x)) c ≡ list_any (is_spare ps es l c) c
+spare_is ps es l c new old is_new is_old = go c (λ x m. has-member c x m)
+  where
+    left_out : (cs : List (List Lit)) (k : Lit) (set : List Lit) → AreNeeded cs c k set → (x : Lit) → has c x ≡ true → not (has set x) ≡ subsumed cs (without x (with_lit k c))
+    left_out cs k set needed x on = rw (needed x, any-with_lit (same_lit x) k c, on) (not-not (subsumed cs (without x (with_lit k c))))
+
+    go : (ds : List Lit) → ((x : Lit) → Member ds x → has c x ≡ true) → list_any (λ x. not (has new x) && not (has old x)) ds ≡ list_any (is_spare ps es l c) ds
+    go [] _ = refl
+    go (d ∷ ds) each = rw (left_out es l new is_new d (each d (inl refl)), left_out ps (negated l) old is_old d (each d (inl refl)), go ds (λ x m. each x (inr m))) refl
+
 -- ---- one literal
 
 module _ (ps es : List (List Lit)) (l : Lit) where
@@ -112,40 +130,54 @@ module _ (ps es : List (List Lit)) (l : Lit) where
   spread_length rest fs = spread_holds (λ gs. length fs ≤ length gs) rest fs (λ e p _ _ gs _ h. let a = grown_length gs (resolved e p l) in omega arith) (omega arith)
 
   -- a resolvent within one that is kept has all its literals
-  least_alone : (c e p : List Lit) → is_least ps es l c ≡ true → Member es e → Member ps p → is_within (resolved e p l) c ≡ true → is_within c (resolved e p l) ≡ true
-  least_alone c e p least in-e in-p inside = within_from c (resolved e p l) (λ x m. elim (cases_Bool (has (resolved e p l) x)) [
+  least_alone : (c e p : List Lit) → is_least ps es l c ≡ true → has c (negated l) ≡ false → Member es e → Member ps p → is_within (resolved e p l) c ≡ true → is_within c (resolved e p l) ≡ true
+  least_alone c e p least lacks in-e in-p inside = within_from c (resolved e p l) (λ x m. elim (cases_Bool (has (resolved e p l) x)) [
     | inl on ↦ member-has (resolved e p l) x on
-    | inr off ↦ absurd (false≢true (sym (least_parts ps es l c least).none_spare ∙ any_from (is_spare ps es l c) c x m (spare x off)))
+    | inr off ↦ absurd (false≢true (sym (least_parts ps es l c least).none_spare ∙ any_from (is_spare ps es l c) c x m (spare x m off)))
   ])
     where
-      spare : (x : Lit) → has (resolved e p l) x ≡ false → is_spare ps es l c x ≡ true
-      spare x off =
+      -- a literal that the clause hasn't is none of its own
+      other : (k x : Lit) → has c k ≡ false → Member c x → same_lit k x ≡ false
+      other k x none m = not-true-case (same_lit k x) (λ e. false≢true (sym none ∙ has-member c k (subst (Member c) (sym (same_lit-true k x e)) m)))
+
+      spare : (x : Lit) → Member c x → has (resolved e p l) x ≡ false → is_spare ps es l c x ≡ true
+      spare x m off =
           let both = within_resolved e p l in
-          and_from (subsumed es (exchanged c x l)) (subsumed ps (exchanged c x (negated l)))
-          (any_from (λ d. is_within d (exchanged c x l)) es e in-e (exchanged_within e c (resolved e p l) x l both.0 inside off))
-          (any_from (λ d. is_within d (exchanged c x (negated l))) ps p in-p (exchanged_within p c (resolved e p l) x (negated l) both.1 inside off))
+          and_from (subsumed es (without x (with_lit l c))) (subsumed ps (without x (with_lit (negated l) c)))
+          (any_from (λ d. is_within d (without x (with_lit l c))) es e in-e (left_within e c (resolved e p l) x l both.0 inside off (other l x (least_parts ps es l c least).lacks m)))
+          (any_from (λ d. is_within d (without x (with_lit (negated l) c))) ps p in-p (left_within p c (resolved e p l) x (negated l) both.1 inside off (other (negated l) x lacks m)))
 
   -- what is kept so far: resolvents, none within another
   record AreKept (fs : List (List Lit)) : Type 0 where
     pub apart : are_apart fs ≡ true
     pub least : (x : List Lit) → Member fs x → is_least ps es l x ≡ true
+    pub lacks : (x : List Lit) → Member fs x → has x (negated l) ≡ false
+
+  -- one with the literal's negation has a prime implicate within it
+  without_negated : (e p : List Lit) → Member ps p → is_least ps es l (resolved e p l) ≡ true → has (resolved e p l) (negated l) ≡ false
+  without_negated e p in-p least = not-true-case (has (resolved e p l) (negated l)) (λ on.
+      false≢true (sym (least_parts ps es l (resolved e p l) least).free ∙ any_from (λ d. is_within d (resolved e p l)) ps p in-p (within_from p (resolved e p l) (λ x m. elim (within_member p (negated l ∷ resolved e p l) (within_resolved e p l).1 x m) [
+        | inl same ↦ subst (Member (resolved e p l)) same (member-has (resolved e p l) (negated l) on)
+        | inr r ↦ r
+      ]))))
 
   kept_more : (e p : List Lit) → Member es e → Member ps p → (fs : List (List Lit)) → is_least ps es l (resolved e p l) ≡ true → AreKept fs → AreKept (grown fs (resolved e p l))
   kept_more e p in-e in-p fs least kept = record {
     apart = go (subsumed fs (resolved e p l)) refl;
     least = λ x m. elim (grown_member fs (resolved e p l) x m) [ inl r ↦ kept.least x r | inr is ↦ subst (λ z. is_least ps es l z ≡ true) is least ];
+    lacks = λ x m. elim (grown_member fs (resolved e p l) x m) [ inl r ↦ kept.lacks x r | inr is ↦ subst (λ z. has z (negated l) ≡ false) is (without_negated e p in-p least) ];
   }
     where
       go : (b : Bool) → subsumed fs (resolved e p l) ≡ b → are_apart (cond b fs (fs ++ resolved e p l ∷ [])) ≡ true
       go true _ = kept.apart
       go false none = apart_last fs (resolved e p l) kept.apart (λ d m.
           let out : is_within d (resolved e p l) ≡ false = not-true-case (is_within d (resolved e p l)) (λ t. false≢true (sym none ∙ any_from (λ x. is_within x (resolved e p l)) fs d m t)) in (
-            not-true-case (is_within (resolved e p l) d) (λ t. false≢true (sym out ∙ least_alone d e p (kept.least d m) in-e in-p t)),
+            not-true-case (is_within (resolved e p l) d) (λ t. false≢true (sym out ∙ least_alone d e p (kept.least d m) (kept.lacks d m) in-e in-p t)),
             out,
           ))
 
   pub spread_apart : are_apart (spread ps es l es []) ≡ true
-  spread_apart = (spread_holds AreKept es [] kept_more (record { apart = refl; least = λ x m. absurd m })).apart
+  spread_apart = (spread_holds AreKept es [] kept_more (record { apart = refl; least = λ x m. absurd m; lacks = λ x m. absurd m })).apart
 
   -- no new clause is within what is kept, for each has the literal
   pub spread_free : ((e : List Lit) → Member es e → has e l ≡ true) → (c : List Lit) → Member (spread ps es l es []) c → subsumed es c ≡ false
@@ -217,10 +249,10 @@ module _ (ps : List (List Lit)) (l : Lit) where
     -- where a literal may be left out there is a shorter one within it
     shorter : (c : List Lit) (n : ℕ) → length c < suc n → is_within c d ≡ true → ReachesBelow n → (x : Lit) → Member c x → is_spare ps es l c x ≡ true → Reached
     shorter c n small inside next x in-c spare =
-        let parts = and_parts (subsumed es (exchanged c x l)) (subsumed ps (exchanged c x (negated l))) spare in
-        let e = any_member (λ b. is_within b (exchanged c x l)) es parts.0 in
-        let p = any_member (λ b. is_within b (exchanged c x (negated l))) ps parts.1 in
-        let smaller = resolved_within e.0 p.0 (without x c) l (within_exchanged e.0 c x l e.2) (within_exchanged p.0 c x (negated l) p.2) in
+        let parts = and_parts (subsumed es (without x (with_lit l c))) (subsumed ps (without x (with_lit (negated l) c))) spare in
+        let e = any_member (λ b. is_within b (without x (with_lit l c))) es parts.0 in
+        let p = any_member (λ b. is_within b (without x (with_lit (negated l) c))) ps parts.1 in
+        let smaller = resolved_within e.0 p.0 (without x c) l (within_left e.0 c x l e.2) (within_left p.0 c x (negated l) p.2) in
         let at_most = once_length (resolved e.0 p.0 l) (without x c) (ascending_once (resolved e.0 p.0 l) (resolved_ascending e.0 p.0 l)) (within_member (resolved e.0 p.0 l) (without x c) smaller) in
         let less = without_less x c in-c in
         next e.0 p.0 e.1 p.1 (omega arith) (within_trans (resolved e.0 p.0 l) (without x c) d smaller (within_from (without x c) d (λ y m. within_member c d inside y (filter_member (λ z. not (same_lit z x)) c y m).0)))

@@ -11,10 +11,10 @@ use Rattle.kp_primes.specs.declared.include.Entry.{Entry}
 use Rattle.kp_primes.specs.declared.include.Entry.TheVariants as entries
 use Rattle.kp_base.specs.Lists.{Member}
 use Rattle.kp_base.specs.Lit.{negated, negative}
-use Rattle.kp_base.specs.LitSet.{IsAscending}
+use Rattle.kp_base.specs.LitSet.{IsAscending, with_lit}
 use Rattle.kp_base.specs.Steps.{has}
 use Rattle.kp_base.specs.Implicates.{is_within, is_tautology}
-use Rattle.kp_clauses.specs.Resolved.{exchanged, resolved}
+use Rattle.kp_clauses.specs.Resolved.{without, resolved}
 use Rattle.kp_clauses.specs.Stored.{subsumed, with_all, are_apart}
 
 -- ---- one clause
@@ -23,9 +23,9 @@ use Rattle.kp_clauses.specs.Stored.{subsumed, with_all, are_apart}
 abbrev pub grown : List (List Lit) → List Lit → List (List Lit)
 grown fs c = cond (subsumed fs c) fs (fs ++ c ∷ [])
 
--- a literal of a clause may be left out: with l in its place a new clause is within it, and with l's negation a prime implicate
+-- a literal of a clause may be left out: with l a new clause is within the others, and with l's negation a prime implicate
 abbrev pub is_spare : List (List Lit) → List (List Lit) → Lit → List Lit → Lit → Bool
-is_spare ps es l c x = subsumed es (exchanged c x l) && subsumed ps (exchanged c x (negated l))
+is_spare ps es l c x = subsumed es (without x (with_lit l c)) && subsumed ps (without x (with_lit (negated l) c))
 
 -- a resolvent on l is kept: it is no tautology, lacks l, no prime implicate is within it, and no literal of it may be left out
 abbrev pub is_least : List (List Lit) → List (List Lit) → Lit → List Lit → Bool

@@ -1,5 +1,5 @@
 -- The places of the clauses that have a literal. This file serves proofs alone.
-use Rattle.std.specs.Prelude.{◌≡◌, ◌+◌, ℕ, Bool, true, false, cond, List, [], ◌∷◌, Option, None, Some, slice_get}
+use Rattle.std.specs.Prelude.{◌≡◌, ◌+◌, ℕ, Bool, true, false, cond, List, [], ◌∷◌, Option, None, Some, slice_get, fold, length, nat_lt}
 use Rattle.std.specs.List.{list_any}
 use Rattle.kp_base.specs.declared.lit.Lit.{Lit}
 use Rattle.kp_base.specs.Lit.{code_of}
@@ -32,7 +32,11 @@ abbrev pub within_at : List Lit → Option (List Lit) → Bool
 within_at c None = false
 within_at c (Some p) = is_within c p
 
--- it is within one of those that have this first literal; the empty clause is within each
+-- the one of two literals that fewer clauses have
+abbrev pub rarer : List (List ℕ) → Lit → Lit → Lit
+rarer lists a b = cond (nat_lt (length (row lists (code_of b))) (length (row lists (code_of a)))) b a
+
+-- it is within one of those that have the literal of it that fewest have; the empty clause, which has no first literal, is within each
 abbrev pub held_at : List (List Lit) → List (List ℕ) → List Lit → Option Lit → Bool
 held_at cs lists c None = true
-held_at cs lists c (Some l) = list_any (λ i. within_at c (slice_get cs i)) (row lists (code_of l))
+held_at cs lists c (Some l) = list_any (λ i. within_at c (slice_get cs i)) (row lists (code_of (fold (rarer lists) l c)))

@@ -1,10 +1,10 @@
-ghost use Rattle.std.specs.Prelude.{◌≡◌, ◌≢◌, ◌<◌, ◌≤◌, ◌++◌, ◌∷◌, [], ℕ, cond, length, take, slice_get, OnOk};
+ghost use Rattle.std.specs.Prelude.{◌≡◌, ◌≢◌, ◌<◌, ◌≤◌, ◌++◌, ◌∷◌, [], ℕ, cond, fold, length, take, slice_get, OnOk};
 ghost use Rattle.std.specs.List.{list_any};
 ghost use Rattle.kp_base.specs.declared.lit.Lit.{Lit as Literal};
 ghost use Rattle.kp_base.specs.Lit.{code_of};
 ghost use Rattle.kp_base.specs.Steps.{has};
 ghost use Rattle.kp_clauses.specs.Listed.{row};
-ghost use Rattle.kp_primes.specs.Placed.{within_at, held_at, AreHolders};
+ghost use Rattle.kp_primes.specs.Placed.{within_at, rarer, held_at, AreHolders};
 
 use kp_base::{Lit, LitSet, Memory, Row};
 use kp_clauses::{list, make_lists, subsumes};
@@ -96,12 +96,36 @@ fn any_at(clauses: &[LitSet], places: &[usize], c: &LitSet) -> bool
     places.iter().any(|i| is_at(clauses, *i, c))
 }
 
-// Whether some clause may hold this one: those that have its first literal are looked at.
+// The one of two literals that fewer clauses have.
+fn rarer(holders: &Holders, a: Lit, b: Lit) -> Lit
+    ensures { result ≡ rarer holders.now a b }
+{
+    if holders.of(b).len() < holders.of(a).len() {
+        return b;
+    }
+    a
+}
+
+// The one of some literals that fewest clauses have.
+fn rarest(holders: &Holders, first: Lit, lits: &[Lit]) -> Lit
+    ensures { result ≡ fold (rarer holders.now) first lits.now }
+{
+    let mut best = first;
+    for l in lits {
+        best = rarer(holders, best, *l);
+    }
+    best
+}
+
+// Whether some clause may hold this one: those are looked at that have the literal of it that fewest have.
 fn is_held(clauses: &[LitSet], holders: &Holders, c: &LitSet) -> bool
     ensures { result ≡ held_at clauses.now holders.now c.now (slice_get c.now 0) }
 {
     match c.slice().first() {
-        Some(l) => any_at(clauses, holders.of(*l), c),
+        Some(l) => {
+            let best = rarest(holders, *l, c.slice());
+            any_at(clauses, holders.of(best), c)
+        }
         None => true,
     }
 }

@@ -1,6 +1,6 @@
-ghost use Rattle.std.specs.Prelude.{◌≡◌, true, false, cond, List, [], ◌∷◌, ◌++◌, slice_get, OnOk, IfOk};
+ghost use Rattle.std.specs.Prelude.{◌≡◌, ◌&&◌, true, false, not, cond, List, [], ◌∷◌, ◌++◌, slice_get, OnOk, IfOk};
 ghost use Rattle.std.specs.List.{list_any};
-ghost use Rattle.kp_base.specs.LitSet.{IsAscending};
+ghost use Rattle.kp_base.specs.LitSet.{IsAscending, with_lit};
 ghost use Rattle.kp_base.specs.Steps.{has};
 ghost use Rattle.kp_base.specs.Implicates.{is_tautology};
 ghost use Rattle.kp_base.specs.declared.lit.Lit.{Lit as Literal};
@@ -12,30 +12,27 @@ ghost use Rattle.kp_primes.specs.Included.{grown, is_spare, is_least, met, met_a
 
 use crate::holders::{Holders, are_held};
 use kp_base::{Lit, LitSet, Memory};
-use kp_clauses::{Sieve, Store, exchange, has_lit, is_tautology, resolve};
+use kp_clauses::{Sieve, Store, has_lit, is_tautology, resolve};
 use std::alloc::Global;
 
-// Whether a literal of a clause may be left out: with the literal that is resolved on in its place a new clause is
-// within it, and with the negation of that a prime implicate.
-fn is_spare(
-    alloc: Global,
-    primes: &Store,
-    news: &Store,
-    lit: Lit,
-    c: &LitSet,
-    out: Lit,
-) -> Result<bool, Memory>
-    ensures { IfOk result (λ spare. spare ≡ is_spare primes.now news.now lit c.now out) }
+// A clause with one literal more.
+fn add_lit(alloc: Global, c: &LitSet, lit: Lit) -> Result<LitSet, Memory>
+    ensures { IfOk result (λ set. set ≡ with_lit lit c.now) }
 {
-    let new = exchange(alloc, c, out, lit)?;
-    if !news.subsumes(&new) {
-        return Ok(false);
-    }
-    let old = exchange(alloc, c, out, lit.negated())?;
-    Ok(primes.subsumes(&old))
+    let mut set = c.copy(alloc)?;
+    set.insert(lit)?;
+    Ok(set)
 }
 
-// Whether some literal of a clause may be left out.
+// Whether some literal of a clause is in neither of two sets.
+fn is_any_outside(c: &LitSet, a: &LitSet, b: &LitSet) -> bool
+    ensures { result ≡ list_any (λ x. not (has a.now x) && not (has b.now x)) c.now }
+{
+    c.slice().iter().any(|x| !has_lit(a, *x) && !has_lit(b, *x))
+}
+
+// Whether some literal of a clause may be left out: with the literal that is resolved on a new clause is within the
+// others, and with the negation of that a prime implicate.
 fn has_spare(
     alloc: Global,
     primes: &Store,
@@ -45,16 +42,15 @@ fn has_spare(
 ) -> Result<bool, Memory>
     ensures { IfOk result (λ spare. spare ≡ list_any (is_spare primes.now news.now lit c.now) c.now) }
 {
-    let lits = c.slice();
-    for x in lits {
-        if is_spare(alloc, primes, news, lit, c, *x)? {
-            return Ok(true);
-        }
-    }
-    Ok(false)
+    let with_lit = add_lit(alloc, c, lit)?;
+    let new = news.needed(&with_lit)?;
+    let with_negation = add_lit(alloc, c, lit.negated())?;
+    let old = primes.needed(&with_negation)?;
+    Ok(is_any_outside(c, &new, &old))
 }
 
-// Keeps a resolvent that is no tautology, unless one that was kept is within it, or a literal of it may be left out.
+// Keeps a resolvent that is no tautology, unless it has the literal, one that was kept or a prime implicate is within
+// it, or a literal of it may be left out.
 fn keep(
     alloc: Global,
     primes: &Store,
@@ -149,12 +145,12 @@ fn meet_all(
     Ok(())
 }
 
-/// What became of a clause that was put in.
+/// What became of clauses that were put in.
 #[derive(Clone, Copy)]
 pub enum Entry {
-    /// The store has it, and no more clauses than the limit.
+    /// They are in.
     In,
-    /// With it there are more prime implicates than the limit. The store may have none of the new ones, or all.
+    /// With them there are more prime implicates than the limit. The store may have none of the new ones, or all.
     Over,
 }
 
@@ -328,8 +324,8 @@ fn include_new(
 }
 
 /// Puts one clause more into a store of prime implicates: it is resolved, literal by literal, with those that have the
-/// literal's negation (Kean and Tsiknis's incremental method). Stops after the literal with which there are more new
-/// clauses than the limit. At `Memory` the store may have some of what is new.
+/// literal's negation (Kean and Tsiknis's incremental method). Stops as soon as there are more new clauses than the
+/// limit, or more that come of one literal. At `Memory` the store may have some of what is new.
 pub fn include(
     alloc: Global,
     primes: &mut Store,
