@@ -25,7 +25,7 @@ def measure(program, domain, problem, options=()):
     """Seconds, peak in bytes, exit status and printed lines of one translation of two files, given by their parts.
 
     The time is that of the whole translation, from both files to both files. The peak is the most memory that the
-    program held at once, as the system tells it.
+    program held at once, as the system tells it, and at least what this script holds when it starts the program.
     """
     with tempfile.TemporaryDirectory() as name:
         folder = Path(name)
