@@ -1,12 +1,15 @@
 -- Lists of literals: members, ascending lists, and first literals.
-use Rattle.std.proofs.Common.{◌≡◌, ◌<◌, ◌≤◌, false, Some, slice_get, ap, List, [], ◌∷◌, inl, inr, subst, refl, arith}
+use Rattle.std.proofs.Common.{◌≡◌, ◌<◌, ◌≤◌, ℕ, false, sym, ◌∙◌, Some, slice_get, ap, List, [], ◌∷◌, inl, inr, subst, refl, arith}
+use Rattle.std.proofs.lemmas.Bool.{false≢true}
 use Rattle.std.specs.List.{AllByRecursion}
 use Rattle.kp_base.specs.declared.lit.Lit.{Lit}
 use Rattle.kp_base.specs.Lists.{Member}
 use Rattle.kp_base.specs.Lit.{code_of}
 use Rattle.kp_base.specs.LitSet.{IsAscending}
 use Rattle.kp_base.specs.Implicates.{is_within}
-use Rattle.kp_base.proofs.Lists.{contains_member, member_contains}
+use Rattle.kp_base.specs.Steps.{has}
+use Rattle.kp_base.proofs.Lists.{contains_member, member_contains, member_at}
+use Rattle.kp_base.proofs.Lits.{has-member}
 use Rattle.kp_base.proofs.Ascending.{same_members}
 use Rattle.kp_clauses.proofs.Logic.{not-true-case}
 use Rattle.kp_clauses.proofs.Within.{within_member}
@@ -22,6 +25,10 @@ recursion_members P (y ∷ ys) a x m = elim m [ inl e ↦ subst P e a.0 | inr r 
 -- ascending lists with the same members are the same
 pub ascending_same : (c d : List Lit) → IsAscending c → IsAscending d → ((x : Lit) → Member c x → Member d x) → ((x : Lit) → Member d x → Member c x) → c ≡ d
 ascending_same c d p q f g = same_members c d p q (λ x h. member_contains d x (f x (contains_member c x h))) (λ x h. member_contains c x (g x (contains_member d x h)))
+
+-- a clause with a literal that another hasn't isn't within it
+pub ends_outside : (c d : List Lit) (i : ℕ) (x : Lit) → slice_get c i ≡ Some x → has d x ≡ false → is_within c d ≡ false
+ends_outside c d i x at none = not-true-case (is_within c d) (λ h. false≢true (sym none ∙ has-member d x (within_member c d h x (member_at c i x at))))
 
 -- ---- first literals
 

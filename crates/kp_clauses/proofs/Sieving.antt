@@ -25,12 +25,6 @@ use Rattle.kp_clauses.proofs.Within.{within_member, within_from}
 
 -- ---- marks
 
-pub mark_none : IsMark [] 0
-mark_none = record { has = λ l m. absurd m; from = λ j e. absurd (no_bit j e) }
-  where
-    no_bit : (j : ℕ) → bit_at 0 j ≡ 1 → ⊥
-    no_bit j e = omega arith
-
 -- with one literal more
 pub mark_more : (c : List Lit) (i : ℕ) (d : Lit) (old new k : ℕ) → i < length c → k ≡ code_of (get_or c i d) % 64 → bit_at new k ≡ 1 → ((j : ℕ) → j ≢ k → bit_at new j ≡ bit_at old j) → IsMark (take i c) old → IsMark (take (i + 1) c) new
 mark_more c i d old new k lt is on others h = subst (λ z. IsMark z new) (sym (take_more c i d lt)) (record { has = has; from = from })
@@ -152,15 +146,15 @@ has_common d set x = go set []
     go [] acc = sym (or-false (has acc x))
     go (y ∷ ls) acc = go ls (with_if d acc y) ∙ ap (λ b. b || (has ls x && has d x)) (has_if acc y) ∙ same_has y (same_lit x y) refl (has acc x) (has ls x)
 
+taken_twice : (a b c : Bool) → ((a && not b) && not c) ≡ (a && not (b || c))
+taken_twice true true c = refl
+taken_twice true false c = refl
+taken_twice false b c = refl
+
 -- literals are taken out one after another
 taken_out : {X : Type 0} (f : List Lit → X → List Lit) (out : X → Bool) (x : Lit) → ((set : List Lit) (y : X) → has (f set y) x ≡ (has set x && not (out y))) → (ys : List X) (set : List Lit) → has (fold f set ys) x ≡ (has set x && not (list_any out ys))
 taken_out f out x step [] set = sym (and-true (has set x))
-taken_out f out x step (y ∷ ys) set = taken_out f out x step ys (f set y) ∙ (ap (λ b. b && not (list_any out ys)) (step set y) ∙ told (has set x) (out y) (list_any out ys))
-  where
-    told : (a b c : Bool) → ((a && not b) && not c) ≡ (a && not (b || c))
-    told true true c = refl
-    told true false c = refl
-    told false b c = refl
+taken_out f out x step (y ∷ ys) set = taken_out f out x step ys (f set y) ∙ (ap (λ b. b && not (list_any out ys)) (step set y) ∙ taken_twice (has set x) (out y) (list_any out ys))
 
 module _ (lists : List (List Spot)) (cs : List (List Lit)) (c : List Lit) (word : ℕ) (x : Lit) where
   has_narrowed : (set : List Lit) (s : Spot) → has (narrowed cs c word set s) x ≡ (has set x && not (passes cs (lacks c x) word s))
@@ -200,7 +194,7 @@ module _ (lists : List (List Spot)) (cs : List (List Lit)) (c : List Lit) (word 
   needed_left listed mark =
       taken_out (λ rest l. fold (narrowed cs c word) rest (row lists (key_of l))) (λ l. out (row lists (key_of l))) x (λ set l. by_spots (row lists (key_of l)) set) c (fold (narrowed cs c word) c (row lists 0))
       ∙ (ap (λ b. b && not (list_any (λ l. out (row lists (key_of l))) c)) (by_spots (row lists 0) c)
-      ∙ (told (has c x) (out (row lists 0)) (list_any (λ l. out (row lists (key_of l))) c)
+      ∙ (taken_twice (has c x) (out (row lists 0)) (list_any (λ l. out (row lists (key_of l))) c)
       ∙ ap (λ b. has c x && not b) (sieved lists cs c word (lacks c x) listed mark (λ d h. (and_parts (is_within d c) (not (has d x)) h).0) ∙ lacking cs)))
     where
       out : List Spot → Bool
@@ -209,11 +203,6 @@ module _ (lists : List (List Spot)) (cs : List (List Lit)) (c : List Lit) (word 
       by_spots : (spots : List Spot) (set : List Lit) → has (fold (narrowed cs c word) set spots) x ≡ (has set x && not (out spots))
       by_spots = taken_out (narrowed cs c word) (passes cs (lacks c x) word) x has_narrowed
 
-      told : (a b c : Bool) → ((a && not b) && not c) ≡ (a && not (b || c))
-      told true true c = refl
-      told true false c = refl
-      told false b c = refl
-
 -- ---- a clause is put in
 
 last_or_before : {X : Type 0} (xs : List X) (y x : X) (i : ℕ) → slice_get (xs ++ y ∷ []) i ≡ Some x → (slice_get xs i ≡ Some x) ⊎ ((i ≡ length xs) × (y ≡ x))
@@ -221,9 +210,6 @@ last_or_before [] y x zero h = inr (refl, cc)
 last_or_before [] y x (suc i) h = absurd cc
 last_or_before (z ∷ xs) y x zero h = inl h
 last_or_before (z ∷ xs) y x (suc i) h = elim (last_or_before xs y x i h) [ inl r ↦ inl r | inr r ↦ inr (ap suc r.0, r.1) ]
-
-pub none_listed : AreListed [] []
-none_listed = record { each = λ i c h. absurd cc }
 
 kept_listed : (old new : List (List Spot)) (i : ℕ) (c : List Lit) → AreKept old new → IsListed old i c → IsListed new i c
 kept_listed old new i c kept h = record { key = h.key; own = h.own; spot = h.spot; there = kept.each h.key h.spot h.there; place = h.place; mark = h.mark }

@@ -12,10 +12,6 @@ use Rattle.kp_clauses.specs.Stored.{subsumed, replaced, with_clause, with_all, a
 use Rattle.kp_clauses.proofs.Logic.{not-true-case}
 use Rattle.kp_clauses.proofs.Within.{within_trans}
 
-pub with_all_more : (cs ds : List (List Lit)) (d : List Lit) → with_all cs (ds ++ d ∷ []) ≡ with_clause (with_all cs ds) d
-with_all_more cs [] d = refl
-with_all_more cs (e ∷ ds) d = with_all_more (with_clause cs e) ds d
-
 member_last : {X : Type 0} (xs : List X) (x : X) → Member (xs ++ x ∷ []) x
 member_last [] x = inl refl
 member_last (y ∷ xs) x = inr (member_last xs x)
@@ -217,11 +213,6 @@ merged_is cs (d ∷ ds) h free =
         filter-append (λ c. not (subsumed ds c)) (filter (λ x. not (is_within d x)) cs) (d ∷ [])
         ∙ (ap (λ z. z ++ filter (λ c. not (subsumed ds c)) (d ∷ [])) (filter_twice (λ x. not (is_within d x)) (λ c. not (subsumed ds c)) (λ c. not (subsumed (d ∷ ds) c)) cs (λ x. both (is_within d x) (subsumed ds x)))
         ∙ ap (λ b. filter (λ c. not (subsumed (d ∷ ds) c)) cs ++ cond (not b) (d ∷ []) []) stays)
-
--- one clause more is kept, or left out
-pub filter_next : {X : Type 0} (p : X → Bool) (out : Bool) (kept rest all : List X) (x : X) → p x ≡ not out → kept ++ filter p (x ∷ rest) ≡ all → (kept ++ cond out [] (x ∷ [])) ++ filter p rest ≡ all
-filter_next p true kept rest all x is h = ap (λ z. z ++ filter p rest) (append-nil kept) ∙ (sym (ap (λ b. kept ++ cond b (x ∷ filter p rest) (filter p rest)) is) ∙ h)
-filter_next p false kept rest all x is h = append_assoc kept (x ∷ []) (filter p rest) ∙ (sym (ap (λ b. kept ++ cond b (x ∷ filter p rest) (filter p rest)) is) ∙ h)
 
 -- where the new clause is within none, all stay
 pub none_held : (cs : List (List Lit)) (c : List Lit) → list_any (is_within c) cs ≡ false → replaced cs c ≡ cs ++ c ∷ []

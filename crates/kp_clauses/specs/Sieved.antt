@@ -29,7 +29,7 @@ abbrev pub stands : (List Lit → Bool) → Option (List Lit) → Bool
 stands test None = false
 stands test (Some d) = test d
 
--- the clause of a spot passes a test that only those within a clause with this mark pass; where the marks tell that it isn't within, it isn't looked at
+-- the mark of a spot is within this one, and the clause there passes a test
 abbrev pub passes : List (List Lit) → (List Lit → Bool) → ℕ → Spot → Bool
 passes cs test word s = nat_eq (bit_or s.mark word) word && stands test (slice_get cs s.place)
 
@@ -46,7 +46,7 @@ abbrev pub common_at : List Lit → Option (List Lit) → List Lit
 common_at set None = set
 common_at set (Some d) = common set d
 
--- what is left of a set: where the clause of a spot is within this one, what it has
+-- what is left of a set: where the clause of a spot is within this one, what it has; else all
 abbrev pub narrowed : List (List Lit) → List Lit → ℕ → List Lit → Spot → List Lit
 narrowed cs c word set s = cond (tried cs c word s) (common_at set (slice_get cs s.place)) set
 

@@ -1,8 +1,10 @@
 -- Lists of clauses, none of which is within another.
-use Rattle.std.specs.Prelude.{Bool, true, not, ◌||◌, ◌&&◌, if◌then◌else◌, List, [], ◌∷◌, ◌++◌, filter}
+use Rattle.std.specs.Prelude.{◌≡◌, Bool, true, not, ◌||◌, ◌&&◌, if◌then◌else◌, List, [], ◌∷◌, ◌++◌, filter}
 use Rattle.std.specs.List.{list_any, list_all}
 use Rattle.kp_base.specs.declared.lit.Lit.{Lit}
+use Rattle.kp_base.specs.Steps.{has}
 use Rattle.kp_base.specs.Implicates.{is_within}
+use Rattle.kp_clauses.specs.Resolved.{without}
 
 -- some clause is within this one
 abbrev pub subsumed : List (List Lit) → List Lit → Bool
@@ -20,6 +22,10 @@ with_clause cs c = if subsumed cs c then cs else replaced cs c
 abbrev pub with_all : List (List Lit) → List (List Lit) → List (List Lit)
 with_all cs [] = cs
 with_all cs (d ∷ ds) = with_all (with_clause cs d) ds
+
+-- a set has just the literals of a clause without any one of which none of these clauses is within it
+abbrev pub AreNeeded : List (List Lit) → List Lit → List Lit → Type 0
+AreNeeded cs c set = (x : Lit) → has set x ≡ (has c x && not (subsumed cs (without x c)))
 
 -- no clause is within another one
 abbrev pub are_apart : List (List Lit) → Bool

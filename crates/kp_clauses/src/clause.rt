@@ -24,12 +24,22 @@ fn begins_before(c: &LitSet, d: &LitSet) -> bool
     }
 }
 
+// Whether the last literal of the first clause isn't in the second, so that the first isn't within it.
+fn ends_outside(c: &LitSet, d: &LitSet) -> bool
+    ensures { IsTrue result → is_within c.now d.now ≡ false }
+{
+    match c.slice().last() {
+        Some(x) => !has_lit(d, *x),
+        None => false,
+    }
+}
+
 /// Whether each literal of the first clause is in the second.
 pub fn subsumes(c: &LitSet, d: &LitSet) -> bool
     ensures { result ≡ is_within c.now d.now }
 {
-    // Most pairs of clauses are told apart by their first literals.
-    if begins_before(c, d) {
+    // Most pairs of clauses are told apart by their first literals or the last.
+    if begins_before(c, d) || ends_outside(c, d) {
         return false;
     }
     c.within(d)

@@ -1,11 +1,8 @@
-ghost use Rattle.std.specs.Prelude.{◌≡◌, ◌⊎◌, ◌<◌, ◌+◌, ◌∷◌, ◌++◌, ◌&&◌, not, [], ℕ, fold, length, slice_get, OnOk, OnErr, IfOk};
+ghost use Rattle.std.specs.Prelude.{◌≡◌, ◌⊎◌, ◌<◌, ◌∷◌, ◌++◌, [], fold, slice_get, OnOk, OnErr, IfOk};
 ghost use Rattle.std.specs.List.{list_any};
-ghost use Rattle.kp_base.specs.declared.lit.Lit.{Lit as Literal};
 ghost use Rattle.kp_base.specs.Lists.{Member};
-ghost use Rattle.kp_base.specs.Steps.{has};
 ghost use Rattle.kp_base.specs.Implicates.{is_within};
-ghost use Rattle.kp_clauses.specs.Resolved.{without};
-ghost use Rattle.kp_clauses.specs.Stored.{subsumed};
+ghost use Rattle.kp_clauses.specs.Stored.{subsumed, AreNeeded};
 ghost use Rattle.kp_clauses.specs.Sieved.{key_of, keys, stands, tried, common_at, narrowed, AreKept};
 ghost use Rattle.kp_clauses.specs.Listed.{row};
 
@@ -82,7 +79,7 @@ impl Sieve {
 
     /// The literals of a clause that none within it lacks: without one of them no clause is within it.
     pub fn needed(&self, c: &LitSet) -> Result<LitSet, Memory>
-        ensures { IfOk result (λ set. (x : Literal) → has set x ≡ (has c.now x && not (subsumed self.now (without x c.now)))) }
+        ensures { IfOk result (AreNeeded self.now c.now) }
     {
         let clauses = self.clauses.slice();
         let word = mark(c);

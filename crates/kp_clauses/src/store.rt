@@ -1,11 +1,9 @@
-ghost use Rattle.std.specs.Prelude.{◌≡◌, ◌↔◌, true, false, not, ◌&&◌, List, [], ◌∷◌, ◌++◌, cond, filter, IfOk, OnOk, OnErr};
+ghost use Rattle.std.specs.Prelude.{◌≡◌, ◌↔◌, true, false, not, List, [], ◌∷◌, ◌++◌, cond, filter, IfOk, OnOk, OnErr};
 ghost use Rattle.std.specs.List.{list_any};
 ghost use Rattle.kp_base.specs.declared.lit.Lit.{Lit as Literal};
 ghost use Rattle.kp_base.specs.Lists.{Member};
-ghost use Rattle.kp_base.specs.Steps.{has};
 ghost use Rattle.kp_base.specs.Implicates.{is_within};
-ghost use Rattle.kp_clauses.specs.Resolved.{without};
-ghost use Rattle.kp_clauses.specs.Stored.{subsumed, replaced, with_clause, with_all, are_apart};
+ghost use Rattle.kp_clauses.specs.Stored.{subsumed, replaced, with_clause, with_all, are_apart, AreNeeded};
 ghost use Rattle.kp_clauses.specs.declared.store.Added.TheVariants.{Subsumed};
 
 use crate::clause::subsumes;
@@ -86,7 +84,7 @@ impl Store {
 
     /// The literals of a clause that no stored one within it lacks: without one of them no stored clause is within it.
     pub fn needed(&self, c: &LitSet) -> Result<LitSet, Memory>
-        ensures { IfOk result (λ set. (x : Literal) → has set x ≡ (has c.now x && not (subsumed self.now (without x c.now)))) }
+        ensures { IfOk result (AreNeeded self.now c.now) }
     {
         self.sieve.needed(c)
     }

@@ -84,7 +84,12 @@ fn tells_what_is_needed(rt: HostRuntime) -> Result<(), Fail> {
     let any = clause(rt.alloc(), &[(0, true), (1, true), (2, true)])?;
     let a = clause(rt.alloc(), &[(0, true)])?;
     assert!(rt; store.needed(&any)? == a);
-    // Neither is within it.
+    // Two that have nothing in common are within it.
+    let with_d = clause(rt.alloc(), &[(3, true), (4, true)])?;
+    assert_eq!(rt; store.add(with_d)?, Added::Kept);
+    let all = clause(rt.alloc(), &[(0, true), (1, true), (3, true), (4, true)])?;
+    assert!(rt; store.needed(&all)? == LitSet::new(rt.alloc()));
+    // None is within it.
     let others = clause(rt.alloc(), &[(1, true), (2, true)])?;
     assert!(rt; store.needed(&others)? == others);
     Ok(())

@@ -1,6 +1,6 @@
 -- The closure of a tag, literal by literal.
-use Rattle.std.proofs.Common.{◌≡◌, ◌↔◌, ℕ, ◌+◌, ◌⊎◌, Bool, true, false, if◌then◌else◌, List, [], refl, sym, ◌∙◌, ap, subst, inl, inr, arith}
-use Rattle.std.proofs.lemmas.Bool.{or_cases, or_left, or_right, false≢true, cases_eq}
+use Rattle.std.proofs.Common.{◌≡◌, ◌↔◌, ℕ, ◌+◌, ◌⊎◌, Bool, true, false, if◌then◌else◌, List, refl, sym, ◌∙◌, ap, subst, inl, inr, arith}
+use Rattle.std.proofs.lemmas.Bool.{or_cases, or_left, or_right, cases_eq}
 use Rattle.kp_base.specs.declared.lit.Lit.{Lit}
 use Rattle.kp_base.specs.declared.ground.Initial.{Initial}
 use Rattle.kp_base.specs.Lit.{positive, negative, same_lit}
@@ -10,14 +10,6 @@ use Rattle.kp_base.specs.Entailed.{Entails, IsClosure}
 use Rattle.kp_base.proofs.Lits.{same_lit-true, same_lit-refl}
 use Rattle.kp_base.proofs.Sets.{any-with_lit}
 use Rattle.kp_primes.specs.Asked.{entailed_by, with_entailed}
-
--- before the first atom nothing is entailed
-pub closure_start : (i : Initial) (tag : List Lit) → IsClosure 0 i tag []
-closure_start i tag = record {
-  of_atoms = λ l h. absurd (false≢true h);
-  entailed = λ l h. absurd (false≢true h);
-  whole = λ l h. absurd (omega arith);
-}
 
 module _ (ps : List (List Lit)) (tag : List Lit) where
   old_stays : (set : List Lit) (l m : Lit) → has set m ≡ true → has (with_entailed ps tag set l) m ≡ true

@@ -8,7 +8,7 @@ use Rattle.kp_base.specs.Lit.{negated}
 use Rattle.kp_base.specs.LitSet.{IsAscending}
 use Rattle.kp_base.specs.Steps.{State, holds, has}
 use Rattle.kp_base.specs.Implicates.{is_within, is_tautology}
-use Rattle.kp_base.proofs.Lists.{any_member, any_from, append_member}
+use Rattle.kp_base.proofs.Lists.{any_member, any_from}
 use Rattle.kp_base.proofs.Lits.{member-has, negated-negated, holds-negated}
 use Rattle.kp_clauses.specs.Resolved.{resolved}
 use Rattle.kp_clauses.specs.Stored.{subsumed, with_all, are_apart}
@@ -45,14 +45,6 @@ part_start m ps c proper asc = record {
   ];
   covers = λ d _ in-d _. or_left (subsumed (c ∷ []) d) (subsumed ps d) (or_left (is_within c d) false in-d);
 }
-
-append_any : (p : Lit → Bool) (xs : List Lit) (l : Lit) → list_any p (xs ++ l ∷ []) ≡ true → list_any p xs ≡ true ⊎ (p l ≡ true)
-append_any p xs l h =
-    let r = any_member p (xs ++ l ∷ []) h in
-    elim (append_member xs (l ∷ []) r.0 r.1) [
-      | inl n ↦ inl (any_from p xs r.0 n r.2)
-      | inr n ↦ elim n [ inl same ↦ inr (subst (λ (y : Lit). p y ≡ true) (sym same) r.2) | inr bad ↦ absurd bad ]
-    ]
 
 any_append_left : (p : Lit → Bool) (xs : List Lit) (l : Lit) → list_any p xs ≡ true → list_any p (xs ++ l ∷ []) ≡ true
 any_append_left p [] l h = absurd (false≢true h)

@@ -1,7 +1,7 @@
 -- The places of the clauses that have a literal, and what is resolved with the clauses there.
-use Rattle.std.proofs.Common.{◌≡◌, ◌≢◌, ◌<◌, ◌+◌, ℕ, zero, suc, Bool, true, false, ◌||◌, ◌&&◌, cond, List, [], ◌∷◌, ◌++◌, Some, refl, sym, ◌∙◌, ap, subst, inl, inr, take, length, get_or, set, slice_get, fold, nat_lt, arith, get_or-set_same, get_or-set_other}
+use Rattle.std.proofs.Common.{◌≡◌, ◌≢◌, ◌<◌, ◌+◌, ℕ, zero, suc, Bool, true, false, ◌||◌, ◌&&◌, cond, List, [], ◌∷◌, ◌++◌, Some, refl, sym, ◌∙◌, ap, subst, inl, inr, take, length, get_or, slice_get, fold, nat_lt, arith}
 use Rattle.std.proofs.lemmas.Bool.{false≢true, cases_eq}
-use Rattle.std.proofs.lemmas.List.{take_more, get_or_default, append_assoc, append-nil, length-take}
+use Rattle.std.proofs.lemmas.List.{take_more, append_assoc, length-take}
 use Rattle.std.proofs.lemmas.List.Folds.{list_any-append}
 use Rattle.std.specs.List.{list_any}
 use Rattle.kp_base.specs.declared.lit.Lit.{Lit}
@@ -39,9 +39,6 @@ places_more l i (d ∷ cs) c = go (has d l) (places_more l (i + 1) cs c ∙ ap (
 -- a place is put at the end of the lists of these literals
 pub record IsPutFor (c : List Lit) (place : ℕ) (old new : List (List ℕ)) : Type 0 where
   pub each : (l : Lit) → row new (code_of l) ≡ row old (code_of l) ++ cond (has c l) (place ∷ []) []
-
-pub put_none : (place : ℕ) (lists : List (List ℕ)) → IsPutFor [] place lists lists
-put_none place lists = record { each = λ l. sym (append-nil (row lists (code_of l))) }
 
 get_member : {X : Type 0} (xs : List X) (i : ℕ) (d : X) → i < length xs → Member xs (get_or xs i d)
 get_member [] i d lt = absurd (omega arith)
@@ -92,9 +89,6 @@ module _ (c : List Lit) (i : ℕ) (d : Lit) (place : ℕ) (old lists new : List 
           others (code_of l) ne
           ∙ (h.each l ∙ ap (λ b. row old (code_of l) ++ cond b (place ∷ []) []) (sym (grown l ∙ rw apart (or_none (has (take i c) l)))))
 
-pub holders_none : AreHolders [] []
-holders_none = record { each = λ l. refl }
-
 pub holders_more : (cs : List (List Lit)) (i : ℕ) (x : List Lit) (old new : List (List ℕ)) → i < length cs → x ≡ get_or cs i x → IsPutFor x i old new → AreHolders old (take i cs) → AreHolders new (take (i + 1) cs)
 holders_more cs i x old new lt is put h = record {
   each = λ l.
@@ -104,15 +98,6 @@ holders_more cs i x old new lt is put h = record {
       ∙ (ap (λ z. z ++ cond (has x l) (i ∷ []) []) (h.each l)
       ∙ sym (ap (places l 0) more ∙ (places_more l 0 (take i cs) x ∙ ap (λ z. places l 0 (take i cs) ++ cond (has x l) (z ∷ []) []) len)));
 }
-
--- ---- one list is written
-
-module _ (old lists : List (List ℕ)) (k : ℕ) (d : List ℕ) (p : ℕ) (was is : List ℕ) (same : (j : ℕ) → row lists j ≡ row old j) where
-  pub put_own : k < length lists → was ≡ get_or lists k d → is ≡ was ++ p ∷ [] → row (set lists k is) k ≡ row old k ++ p ∷ []
-  put_own lt read put = get_or-set_same lists k is [] lt ∙ (put ∙ ap (λ xs. xs ++ p ∷ []) (read ∙ get_or_default lists k d [] lt ∙ same k))
-
-  pub put_other : (j : ℕ) → j ≢ k → row (set lists k is) j ≡ row old j
-  put_other j ne = get_or-set_other lists k j is [] ne ∙ same j
 
 -- ---- the clauses there
 

@@ -13,7 +13,7 @@ use Rattle.kp_base.proofs.Lists.{any_member, any_from, append_member, member_lef
 use Rattle.kp_base.proofs.Lits.{member-has, has-member, same_lit-refl, same_lit-true}
 use Rattle.kp_base.proofs.Sets.{any-with_lit}
 use Rattle.kp_clauses.specs.Resolved.{without, resolved}
-use Rattle.kp_clauses.specs.Stored.{subsumed, are_apart}
+use Rattle.kp_clauses.specs.Stored.{subsumed, are_apart, AreNeeded}
 use Rattle.kp_clauses.proofs.Logic.{not-true-case}
 use Rattle.kp_clauses.proofs.Within.{within_member, within_from, within_trans, tautology_within, subsumed_within}
 use Rattle.kp_clauses.proofs.Resolving.{resolved_within, resolved_ascending, within_resolved, within_left, left_within}
@@ -75,15 +75,11 @@ least_parts ps es l c h = go (is_tautology c) (has c l) (subsumed ps c) (list_an
     go false false false true _ _ _ _ h = absurd (false≢true h)
     go false false false false a b c d _ = record { proper = a; lacks = b; free = c; none_spare = d }
 
--- no clause within the one with another literal more lacks a literal
-abbrev AreNeeded : List (List Lit) → List Lit → Lit → List Lit → Type 0
-AreNeeded cs c k set = (x : Lit) → has set x ≡ (has (with_lit k c) x && not (subsumed cs (without x (with_lit k c))))
-
 -- a literal may be left out where neither needs it
-pub spare_is : (ps es : List (List Lit)) (l : Lit) (c new old : List Lit) → AreNeeded es c l new → AreNeeded ps c (negated l) old → list_any (λ x. not (has new x) && not (has old x)) c ≡ list_any (is_spare ps es l c) c
+pub spare_is : (ps es : List (List Lit)) (l : Lit) (c new old : List Lit) → AreNeeded es (with_lit l c) new → AreNeeded ps (with_lit (negated l) c) old → list_any (λ x. not (has new x) && not (has old x)) c ≡ list_any (is_spare ps es l c) c
 spare_is ps es l c new old is_new is_old = go c (λ x m. has-member c x m)
   where
-    left_out : (cs : List (List Lit)) (k : Lit) (set : List Lit) → AreNeeded cs c k set → (x : Lit) → has c x ≡ true → not (has set x) ≡ subsumed cs (without x (with_lit k c))
+    left_out : (cs : List (List Lit)) (k : Lit) (set : List Lit) → AreNeeded cs (with_lit k c) set → (x : Lit) → has c x ≡ true → not (has set x) ≡ subsumed cs (without x (with_lit k c))
     left_out cs k set needed x on = rw (needed x, any-with_lit (same_lit x) k c, on) (not-not (subsumed cs (without x (with_lit k c))))
 
     go : (ds : List Lit) → ((x : Lit) → Member ds x → has c x ≡ true) → list_any (λ x. not (has new x) && not (has old x)) ds ≡ list_any (is_spare ps es l c) ds

@@ -67,7 +67,7 @@ abbrev pub all_included : List (List Lit) → List (List Lit) → List (List Lit
 all_included ps [] = ps
 all_included ps (c ∷ cs) = all_included (included ps c) cs
 
--- what became of a clause that was put in: the store has it, and no more than the limit; or there are more with it
+-- what became of a clause that was put in: it is in, and there are no more than the limit; or there are more with it
 abbrev pub Enters : List (List Lit) → List Lit → ℕ → List (List Lit) → Entry → Type 0
 Enters ps c limit qs entries.In = (qs ≡ included ps c) × (length qs ≤ limit)
 Enters ps c limit qs entries.Over = limit < length (included ps c)

@@ -8,7 +8,7 @@ ghost use Rattle.kp_base.specs.Lists.{Member};
 ghost use Rattle.kp_base.specs.Lit.{negated};
 ghost use Rattle.kp_clauses.specs.Stored.{subsumed, with_all, are_apart};
 ghost use Rattle.kp_primes.specs.Placed.{places, met_one, met_at, AreHolders};
-ghost use Rattle.kp_primes.specs.Included.{grown, is_spare, is_least, met, met_all, Spreads, Steps, stepped, AreNew, Counts, Walks, Enters, idle, included};
+ghost use Rattle.kp_primes.specs.Included.{grown, is_spare, is_least, met, met_all, Spreads, Steps, AreNew, Counts, Walks, Enters, idle, included};
 
 use crate::holders::{Holders, are_held};
 use kp_base::{Lit, LitSet, Memory};
@@ -324,8 +324,8 @@ fn include_new(
 }
 
 /// Puts one clause more into a store of prime implicates: it is resolved, literal by literal, with those that have the
-/// literal's negation (Kean and Tsiknis's incremental method). Stops as soon as there are more new clauses than the
-/// limit, or more that come of one literal. At `Memory` the store may have some of what is new.
+/// literal's negation (Kean and Tsiknis's incremental method). Stops where there are seen to be more new clauses than
+/// the limit, or more that come of one literal. At `Memory` it may have any of its clauses and of the new ones, or none.
 pub fn include(
     alloc: Global,
     primes: &mut Store,
@@ -356,7 +356,7 @@ fn unit_clause(alloc: Global, lit: Lit) -> Result<LitSet, Memory>
 }
 
 /// Puts in the clause of one literal, with no limit: it brings at most one new clause for each prime implicate. At
-/// `Memory` the store may have some of what is new.
+/// `Memory` it may have any of its clauses and of the new ones, or none.
 pub fn include_unit(
     alloc: Global,
     primes: &mut Store,

@@ -1,6 +1,6 @@
-ghost use Rattle.std.specs.Prelude.{◌≡◌, ◌↔◌, true, IsTrue, IfOk};
+ghost use Rattle.std.specs.Prelude.{◌≡◌, ◌↔◌, IsTrue, IfOk};
 ghost use Rattle.kp_base.specs.Entailed.{Entails, IsConsistent, IsClosure};
-ghost use Rattle.kp_base.specs.Implicates.{IsOfAtoms, ArePrimes};
+ghost use Rattle.kp_base.specs.Implicates.{IsOfAtoms};
 ghost use Rattle.kp_primes.specs.Held.{formula, AreWhole};
 ghost use Rattle.kp_primes.specs.Answers.{AnswersPrimes, AnswersClosure};
 
