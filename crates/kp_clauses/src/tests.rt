@@ -73,24 +73,29 @@ fn keeps_what_says_most(rt: HostRuntime) -> Result<(), Fail> {
     Ok(())
 }
 
+// Whether just these literals of a clause are needed, where these clauses are stored.
+fn needs(
+    alloc: Global,
+    stored: &[&[(u32, bool)]],
+    c: &[(u32, bool)],
+    wanted: &[(u32, bool)],
+) -> Result<bool, Memory> {
+    let mut store = Store::new(alloc);
+    for lits in stored {
+        store.add(clause(alloc, lits)?)?;
+    }
+    let needed = store.needed(&clause(alloc, c)?)?;
+    Ok(needed == clause(alloc, wanted)?)
+}
+
 #[test]
 fn tells_what_is_needed(rt: HostRuntime) -> Result<(), Fail> {
-    let mut store = Store::new(rt.alloc());
-    let with_b = clause(rt.alloc(), &[(0, true), (1, true)])?;
-    assert_eq!(rt; store.add(with_b)?, Added::Kept);
-    let with_c = clause(rt.alloc(), &[(0, true), (2, true)])?;
-    assert_eq!(rt; store.add(with_c)?, Added::Kept);
-    // Both are within it, and have a alone in common.
-    let any = clause(rt.alloc(), &[(0, true), (1, true), (2, true)])?;
-    let a = clause(rt.alloc(), &[(0, true)])?;
-    assert!(rt; store.needed(&any)? == a);
-    // Two that have nothing in common are within it.
-    let with_d = clause(rt.alloc(), &[(3, true), (4, true)])?;
-    assert_eq!(rt; store.add(with_d)?, Added::Kept);
-    let all = clause(rt.alloc(), &[(0, true), (1, true), (3, true), (4, true)])?;
-    assert!(rt; store.needed(&all)? == LitSet::new(rt.alloc()));
-    // None is within it.
-    let others = clause(rt.alloc(), &[(1, true), (2, true)])?;
-    assert!(rt; store.needed(&others)? == others);
+    let a_or_b = &[(0, true), (1, true)];
+    let a_or_c = &[(0, true), (2, true)];
+    let b_or_c = &[(1, true), (2, true)];
+    let any = &[(0, true), (1, true), (2, true)];
+    assert!(rt; needs(rt.alloc(), &[a_or_b, a_or_c], any, &[(0, true)])?);
+    assert!(rt; needs(rt.alloc(), &[a_or_b, a_or_c, b_or_c], any, &[])?);
+    assert!(rt; needs(rt.alloc(), &[a_or_b, a_or_c], b_or_c, b_or_c)?);
     Ok(())
 }
