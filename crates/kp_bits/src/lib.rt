@@ -6,6 +6,3 @@ mod words;
 
 pub use bits::Bits;
 pub use words::{are_apart, has_bit, only_here, with_bit};
-
-#[cfg(test)]
-mod tests;

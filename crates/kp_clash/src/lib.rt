@@ -22,6 +22,3 @@ mod words;
 pub use clash::clash_test;
 pub use find::exclusive;
 pub use pairs::Pairs;
-
-#[cfg(test)]
-mod tests;

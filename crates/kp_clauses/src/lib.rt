@@ -14,6 +14,3 @@ pub use laws::saturated_clauses_are_the_prime_implicates;
 pub use lists::{list, make_lists};
 pub use sieve::Sieve;
 pub use store::{Added, Store};
-
-#[cfg(test)]
-mod tests;

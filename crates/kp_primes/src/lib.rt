@@ -13,6 +13,3 @@ mod range;
 pub use laws::limits_are_exact;
 pub use primes::Primes;
 pub use range::is_of_atoms;
-
-#[cfg(test)]
-mod tests;

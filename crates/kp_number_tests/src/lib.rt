@@ -1,0 +1,15 @@
+//! Tests of what stands on numbers: literals, rows, bits, clauses, prime implicates and exclusive pairs.
+#![tactic(auto)]
+
+#[cfg(test)]
+mod base;
+#[cfg(test)]
+mod bits;
+#[cfg(test)]
+mod clash;
+#[cfg(test)]
+mod clauses;
+#[cfg(test)]
+mod given;
+#[cfg(test)]
+mod primes;
