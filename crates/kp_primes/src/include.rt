@@ -6,9 +6,9 @@ ghost use Rattle.kp_base.specs.Implicates.{is_tautology};
 ghost use Rattle.kp_base.specs.declared.lit.Lit.{Lit as Literal};
 ghost use Rattle.kp_base.specs.Lists.{Member};
 ghost use Rattle.kp_base.specs.Lit.{negated};
-ghost use Rattle.kp_clauses.specs.Stored.{subsumed, with_all, are_apart};
+ghost use Rattle.kp_clauses.specs.Stored.{subsumed, with_all, are_apart, AreNeeded};
 ghost use Rattle.kp_primes.specs.Placed.{places, met_one, met_at, AreHolders};
-ghost use Rattle.kp_primes.specs.Included.{grown, is_spare, is_least, met, met_all, Spreads, Steps, AreNew, Counts, Walks, Enters, idle, included};
+ghost use Rattle.kp_primes.specs.Included.{grown, spread, walked, is_spare, is_least, met, met_all, Spreads, Steps, AreNew, Counts, Walks, Enters, idle, included};
 
 use crate::holders::{Holders, are_held};
 use kp_base::{Lit, LitSet, Memory};
@@ -31,6 +31,14 @@ fn is_any_outside(c: &LitSet, a: &LitSet, b: &LitSet) -> bool
     c.slice().iter().any(|x| !has_lit(a, *x) && !has_lit(b, *x))
 }
 
+// What is needed of a clause with one literal more.
+fn needed_with(alloc: Global, store: &Store, c: &LitSet, lit: Lit) -> Result<LitSet, Memory>
+    ensures { IfOk result (AreNeeded store.now (with_lit lit c.now)) }
+{
+    let with = add_lit(alloc, c, lit)?;
+    store.needed(&with)
+}
+
 // Whether some literal of a clause may be left out: with the literal that is resolved on a new clause is within the
 // others, and with the negation of that a prime implicate.
 fn has_spare(
@@ -42,10 +50,8 @@ fn has_spare(
 ) -> Result<bool, Memory>
     ensures { IfOk result (λ spare. spare ≡ list_any (is_spare primes.now news.now lit c.now) c.now) }
 {
-    let with_lit = add_lit(alloc, c, lit)?;
-    let new = news.needed(&with_lit)?;
-    let with_negation = add_lit(alloc, c, lit.negated())?;
-    let old = primes.needed(&with_negation)?;
+    let new = needed_with(alloc, news, c, lit)?;
+    let old = needed_with(alloc, primes, c, lit.negated())?;
     Ok(is_any_outside(c, &new, &old))
 }
 
@@ -355,6 +361,54 @@ fn unit_clause(alloc: Global, lit: Lit) -> Result<LitSet, Memory>
     Ok(unit)
 }
 
+// A store of one clause.
+fn only(alloc: Global, c: &LitSet) -> Result<Store, Memory>
+    ensures { IfOk result (λ s. s ≡ c.now ∷ []) }
+{
+    let mut news = Store::new(alloc);
+    news.add(c.copy(alloc)?)?;
+    Ok(news)
+}
+
+// What comes of the clause of one literal.
+fn met_by_unit(
+    alloc: Global,
+    primes: &Store,
+    news: &Store,
+    unit: &LitSet,
+    at: &[usize],
+    lit: Lit,
+) -> Result<Store, Memory>
+    requires unit { unit.now ≡ lit ∷ [] }
+    requires news { news.now ≡ (lit ∷ []) ∷ [] }
+    requires at { at.now ≡ places (negated lit) 0 primes.now }
+    ensures { IfOk result (λ s. s ≡ spread primes.now ((lit ∷ []) ∷ []) lit ((lit ∷ []) ∷ []) []) }
+{
+    let mut fresh = Sieve::new(alloc);
+    meet_all(alloc, primes, news, &mut fresh, unit, at, lit)?;
+    Ok(Store::from_sieve(alloc, fresh))
+}
+
+// Puts in a clause of one literal that brings something new.
+fn include_unit_new(
+    alloc: Global,
+    primes: &mut Store,
+    holders: &mut Holders,
+    unit: &LitSet,
+    lit: Lit,
+) -> Result<(), Memory>
+    requires held { AreHolders holders.old primes.old }
+    requires unit { unit.now ≡ lit ∷ [] }
+    requires new { idle primes.old (lit ∷ []) ≡ false }
+    ensures all { OnOk result (primes.new ≡ with_all primes.old (walked primes.old (lit ∷ []) ((lit ∷ []) ∷ []))) }
+    ensures held { OnOk result (AreHolders holders.new primes.new) }
+{
+    let mut news = only(alloc, unit)?;
+    let fresh = met_by_unit(alloc, primes, &news, unit, holders.of(lit.negated()), lit)?;
+    news.merge(fresh)?;
+    put_in(alloc, primes, holders, news)
+}
+
 /// Puts in the clause of one literal, with no limit: it brings at most one new clause for each prime implicate. At
 /// `Memory` it may have any of its clauses and of the new ones, or none.
 pub fn include_unit(
@@ -371,12 +425,5 @@ pub fn include_unit(
     if is_idle(primes, &unit) {
         return Ok(());
     }
-    let mut news = Store::new(alloc);
-    news.add(unit.copy(alloc)?)?;
-    let mut fresh = Sieve::new(alloc);
-    let at = holders.of(lit.negated());
-    meet_all(alloc, primes, &news, &mut fresh, &unit, at, lit)?;
-    news.merge(Store::from_sieve(alloc, fresh))?;
-    put_in(alloc, primes, holders, news)?;
-    Ok(())
+    include_unit_new(alloc, primes, holders, &unit, lit)
 }

@@ -7,5 +7,5 @@ pub returns : goal.returns
 returns c =
     c.is_any_outside.ensures
     ∙ spare_is c.args.primes.now c.args.news.now c.args.lit c.args.c.now c.in_ok-new.new c.in_ok-old.old
-    (λ x. rw (c.in_ok-with_lit.ensures) at c.in_ok-new.ensures x)
-    (λ x. rw (c.in_ok-with_negation.ensures, c.negated.ensures) at c.in_ok-old.ensures x)
+    (λ x. c.in_ok-new.ensures x)
+    (λ x. rw c.negated.ensures at c.in_ok-old.ensures x)
