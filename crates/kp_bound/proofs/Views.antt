@@ -9,14 +9,14 @@ use Rattle.kp_meaning.specs.declared.lifted.Range.{Range}
 use Rattle.kp_meaning.specs.declared.lifted.GroundLit.{GroundLit}
 use Rattle.kp_meaning.specs.Numbered.{Cond, Conds, Eff, Effs, Lifted}
 use Rattle.kp_meaning.specs.Lifted.{Binding, object_of, ground, bindings}
-use Rattle.kp_names.specs.declared.lifted.Cond as owned_cond
-use Rattle.kp_names.specs.declared.lifted.Cond.TheOpen.{Cond-F}
-use Rattle.kp_names.specs.declared.lifted.Cond.TheFolds.{fold-roll-Cond}
-use Rattle.kp_names.specs.declared.lifted.Cond.TheVariants as owned_conds
-use Rattle.kp_names.specs.declared.lifted.Eff as owned_eff
-use Rattle.kp_names.specs.declared.lifted.Eff.TheOpen.{Eff-F}
-use Rattle.kp_names.specs.declared.lifted.Eff.TheFolds.{fold-roll-Eff}
-use Rattle.kp_names.specs.declared.lifted.Eff.TheVariants as owned_effs
+use Rattle.kp_lifted.specs.declared.lifted.Cond as owned_cond
+use Rattle.kp_lifted.specs.declared.lifted.Cond.TheOpen.{Cond-F}
+use Rattle.kp_lifted.specs.declared.lifted.Cond.TheFolds.{fold-roll-Cond}
+use Rattle.kp_lifted.specs.declared.lifted.Cond.TheVariants as owned_conds
+use Rattle.kp_lifted.specs.declared.lifted.Eff as owned_eff
+use Rattle.kp_lifted.specs.declared.lifted.Eff.TheOpen.{Eff-F}
+use Rattle.kp_lifted.specs.declared.lifted.Eff.TheFolds.{fold-roll-Eff}
+use Rattle.kp_lifted.specs.declared.lifted.Eff.TheVariants as owned_effs
 use Rattle.kp_names.specs.View as owned
 use Rattle.kp_names.specs.View.{conds_of, effs_of}
 use Rattle.kp_grounding.specs.declared.flat.FlatEffect.{FlatEffect}

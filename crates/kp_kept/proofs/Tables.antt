@@ -6,8 +6,8 @@ use Rattle.kp_meaning.specs.declared.lifted.GroundLit.{GroundLit}
 use Rattle.kp_meaning.specs.declared.lifted.Item.{Item}
 use Rattle.kp_meaning.specs.Names.{same}
 use Rattle.kp_meaning.proofs.Lists.{same-sym}
-use Rattle.kp_names.specs.declared.lifted.Schema as schemas
-use Rattle.kp_names.specs.declared.lifted.Lifted as lifteds
+use Rattle.kp_lifted.specs.declared.lifted.Schema as schemas
+use Rattle.kp_lifted.specs.declared.lifted.Lifted as lifteds
 use Rattle.kp_names.specs.View.{eff_view, schema_view, lifted_view}
 use Rattle.kp_base.proofs.Once.{any-added}
 use Rattle.kp_grounding.specs.Ground.{same_atom}

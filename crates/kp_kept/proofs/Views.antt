@@ -5,14 +5,14 @@ use Rattle.std.specs.List.{list_any}
 use Rattle.std.proofs.lemmas.List.Sums.{sum_by-cons}
 use Rattle.kp_meaning.specs.declared.lifted.Range.{Range}
 use Rattle.kp_meaning.specs.Numbered.{Cond, Eff}
-use Rattle.kp_names.specs.declared.lifted.Cond as conds
-use Rattle.kp_names.specs.declared.lifted.Cond.TheOpen.{Cond-F}
-use Rattle.kp_names.specs.declared.lifted.Cond.TheFolds.{fold-roll-Cond}
-use Rattle.kp_names.specs.declared.lifted.Cond.TheVariants as cond_variants
-use Rattle.kp_names.specs.declared.lifted.Eff as effs
-use Rattle.kp_names.specs.declared.lifted.Eff.TheOpen.{Eff-F}
-use Rattle.kp_names.specs.declared.lifted.Eff.TheFolds.{fold-roll-Eff}
-use Rattle.kp_names.specs.declared.lifted.Eff.TheVariants as eff_variants
+use Rattle.kp_lifted.specs.declared.lifted.Cond as conds
+use Rattle.kp_lifted.specs.declared.lifted.Cond.TheOpen.{Cond-F}
+use Rattle.kp_lifted.specs.declared.lifted.Cond.TheFolds.{fold-roll-Cond}
+use Rattle.kp_lifted.specs.declared.lifted.Cond.TheVariants as cond_variants
+use Rattle.kp_lifted.specs.declared.lifted.Eff as effs
+use Rattle.kp_lifted.specs.declared.lifted.Eff.TheOpen.{Eff-F}
+use Rattle.kp_lifted.specs.declared.lifted.Eff.TheFolds.{fold-roll-Eff}
+use Rattle.kp_lifted.specs.declared.lifted.Eff.TheVariants as eff_variants
 use Rattle.kp_names.specs.View.{conds_of, effs_of, cond_view, cond_step, eff_view, eff_step}
 use Rattle.kp_grounding.specs.Static.{changes, some_change}
 use Rattle.kp_grounding.specs.Weights.{cond_size, conds_size, leaves_weight, all_leaves_weight}

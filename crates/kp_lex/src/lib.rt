@@ -6,8 +6,6 @@ mod cutting;
 mod laws;
 mod piece;
 mod places;
-#[cfg(test)]
-mod tests;
 mod token;
 mod words;
 

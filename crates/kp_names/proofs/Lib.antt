@@ -1,13 +1,5 @@
-pub mod Gathering
-pub mod Entries
 pub mod Scopes
 pub mod Held
 pub mod Within
 pub mod FirstFault
 pub mod InText
-pub mod NumbersOfNames
-pub mod Views
-pub mod TypesBelow
-pub mod ObjectsOfTypes
-pub mod KnownTypes
-pub mod WholeProblem

@@ -9,11 +9,12 @@ use Rattle.kp_base.specs.declared.refused.Stop.{Stop}
 use Rattle.kp_base.specs.declared.refused.Stop.TheVariants as stops
 use Rattle.kp_lex.specs.Places.{place_of}
 use Rattle.kp_grammar.specs.declared.tree.Word.{Word}
-use Rattle.kp_grammar.specs.Trees.{Item, Items, no_item, more_items, Domain, Problem}
+use Rattle.kp_grammar.specs.Trees.{Domain, Problem}
 use Rattle.kp_meaning.specs.Faults.{Fault, unknown_name, declared_twice, wrong_use, byte_of, domain_faults, problem_faults, HasNoFault}
 use Rattle.kp_meaning.specs.Numbering.{numbered_problem}
-use Rattle.kp_names.specs.declared.lifted.Lifted.{Lifted}
-use Rattle.kp_names.specs.View.{lifted_view}
+use Rattle.kp_lifted.specs.declared.lifted.Lifted.{Lifted}
+use Rattle.kp_lifted.specs.View.{lifted_view}
+pub use Rattle.kp_lifted.specs.Unsure.{or_else, unsure_item, unsure_items, first_unsure, place_in, unsure_place}
 
 -- ---- faults
 
@@ -37,40 +38,6 @@ refusal_of part text (wrong_use byte) = refusals.WrongUse (place_of part text by
 pub data RefusesNames (domain problem : List ℕ) (d : Domain Word) (p : Problem Word) : Refused → Type 0 where
   in_domain : (f : Fault) → first_fault (domain_faults d p) ≡ Some f → RefusesNames domain problem d p (refusal_of parts.Domain domain f)
   in_problem : (f : Fault) → domain_faults d p ≡ [] → first_fault (problem_faults d p) ≡ Some f → RefusesNames domain problem d p (refusal_of parts.Problem problem f)
-
--- ---- items that leave the initial state open
-
--- the first of two, where there is one
-abbrev pub or_else : {A : Type 0} → Option A → Option A → Option A
-or_else None other = other
-or_else (Some x) other = Some x
-
--- the word of the first `oneof`, `or` or `unknown` in an item
-abbrev mutual
-  pub unsure_item : Item Word → Option Word
-  unsure_item (Item.items is) = unsure_items is
-  unsure_item (Item.fact positive a) = None
-  unsure_item (Item.one_of w ls) = Some w
-  unsure_item (Item.any_of w ls) = Some w
-  unsure_item (Item.unknown w a) = Some w
-
-  pub unsure_items : Items Word → Option Word
-  unsure_items no_item = None
-  unsure_items (more_items i is) = or_else (unsure_item i) (unsure_items is)
-
--- the same of a list of items
-abbrev pub first_unsure : List (Item Word) → Option Word
-first_unsure [] = None
-first_unsure (i ∷ is) = or_else (unsure_item i) (first_unsure is)
-
--- the place of a word of the problem
-abbrev pub place_in : List ℕ → Option Word → Option Place
-place_in problem None = None
-place_in problem (Some w) = Some (place_of parts.Problem problem w.byte)
-
--- the place of the first `oneof`, `or` or `unknown` of `:init`
-abbrev pub unsure_place : List ℕ → Problem Word → Option Place
-unsure_place problem p = place_in problem (first_unsure p.init)
 
 -- ---- answers
 

@@ -5,11 +5,9 @@ ghost use Rattle.kp_grammar.specs.View.{domain_view, problem_view};
 ghost use Rattle.kp_names.specs.Resolved.{AnswersNames};
 
 use crate::judge::judge;
-use crate::lifted::Lifted;
-use crate::numbering::by_number;
-use crate::tables::Names;
 use kp_base::{Stop, Texts};
 use kp_grammar::{Domain, Problem};
+use kp_lifted::{Lifted, Names, by_number};
 use std::alloc::Global;
 
 /// The problem by number of two trees, or the refusal at the first token with a fault: of the domain, or,

@@ -1,8 +1,9 @@
 ghost use Rattle.std.specs.Prelude.{◌≡◌, map, IfOk};
 ghost use Rattle.kp_grammar.specs.View as owned;
-ghost use Rattle.kp_nodes.specs.Nodes.{cond_view, eff_view, item_view};
+ghost use Rattle.kp_grammar.specs.Trees.{Eff};
+ghost use Rattle.kp_nodes.specs.Nodes.{cond_view, eff_view, item_view, typed_view};
 
-use crate::node::{CondNode, EffNode, ItemNode};
+use crate::node::{CondNode, EffNode, ItemNode, TypedNode};
 use crate::words::{copy_atom, copy_lits, copy_term, copy_typeds, copy_word};
 use kp_base::{Memory, Row};
 use kp_grammar::{CondTree, EffTree, ItemTree};
@@ -36,6 +37,22 @@ fn copy_conds(alloc: Global, nodes: &[CondNode]) -> Result<Row<CondTree>, Memory
     Ok(Row::from_vec(copies))
 }
 
+// A copy of a condition over an effect.
+fn copy_when(alloc: Global, condition: &CondNode, body: EffTree) -> Result<EffTree, Memory>
+    ensures { IfOk result (λ e. owned.eff_view e ≡ Eff.when (cond_view condition.now) (owned.eff_view body)) }
+{
+    let body = Box::new(alloc, body)?;
+    Ok(EffTree::When(copy_cond(alloc, condition)?, body))
+}
+
+// Copies of variables over an effect.
+fn copy_each(alloc: Global, variables: &[TypedNode], body: EffTree) -> Result<EffTree, Memory>
+    ensures { IfOk result (λ e. owned.eff_view e ≡ Eff.each (map typed_view variables.now) (owned.eff_view body)) }
+{
+    let body = Box::new(alloc, body)?;
+    Ok(EffTree::Each(copy_typeds(alloc, variables)?, body))
+}
+
 /// An equal effect.
 #[cycle(effs)]
 pub fn copy_eff(alloc: Global, node: &EffNode) -> Result<EffTree, Memory>
@@ -44,14 +61,12 @@ pub fn copy_eff(alloc: Global, node: &EffNode) -> Result<EffTree, Memory>
     match node {
         EffNode::All(parts) => Ok(EffTree::All(copy_effs(alloc, parts)?)),
         EffNode::When(condition, body) => {
-            let condition = copy_cond(alloc, condition)?;
             let body = copy_eff(alloc, body)?;
-            Ok(EffTree::When(condition, Box::new(alloc, body)?))
+            copy_when(alloc, condition, body)
         }
         EffNode::Each(variables, body) => {
-            let variables = copy_typeds(alloc, variables)?;
             let body = copy_eff(alloc, body)?;
-            Ok(EffTree::Each(variables, Box::new(alloc, body)?))
+            copy_each(alloc, variables, body)
         }
         EffNode::Atom(positive, atom) => Ok(EffTree::Atom(*positive, copy_atom(alloc, atom)?)),
     }

@@ -3,8 +3,6 @@
 
 mod forms;
 mod node;
-#[cfg(test)]
-mod tests;
 mod whole;
 mod words;
 

@@ -15,7 +15,7 @@ use Rattle.kp_grammar.specs.declared.tree.Word.{Word}
 use Rattle.kp_grammar.specs.Trees.{Domain, Problem}
 use Rattle.kp_meaning.specs.Numbered.{Lifted as Numbers}
 use Rattle.kp_meaning.specs.Numbering.{numbered_problem}
-use Rattle.kp_names.specs.declared.lifted.Lifted.{Lifted}
+use Rattle.kp_lifted.specs.declared.lifted.Lifted.{Lifted}
 use Rattle.kp_names.specs.View.{lifted_view}
 use Rattle.kp_grounding.specs.Ground as by_number
 use Rattle.kp_ground.specs.Grounded.{RefusesGround}

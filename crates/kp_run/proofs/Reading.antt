@@ -14,7 +14,7 @@ use Rattle.kp_grammar.specs.Forms.{Form}
 use Rattle.kp_grammar.specs.Trees.{Domain, Problem}
 use Rattle.kp_meaning.specs.Faults.{unknown_name, declared_twice, wrong_use}
 use Rattle.kp_tree.specs.Files.{Reads, Refuses, AnswersFile}
-use Rattle.kp_names.specs.declared.lifted.Lifted.{Lifted}
+use Rattle.kp_lifted.specs.declared.lifted.Lifted.{Lifted}
 use Rattle.kp_names.specs.Resolved.{RefusesNames, in_domain, in_problem, AnswersNames}
 use Rattle.kp_run.specs.Due.{IsOrdinary}
 use Rattle.kp_run.specs.Reports.{IsProblemOf}

@@ -24,7 +24,7 @@ use Rattle.kp_base.specs.Entailed.{HasModel}
 use Rattle.kp_base.specs.Implicates.{IsLeastOver, IsNeverOver}
 use Rattle.kp_primes.specs.Answers.{HasNoState}
 use Rattle.kp_meaning.specs.Numbered.{Lifted as Numbers}
-use Rattle.kp_names.specs.declared.lifted.Lifted.{Lifted}
+use Rattle.kp_lifted.specs.declared.lifted.Lifted.{Lifted}
 use Rattle.kp_names.specs.Resolved.{IsResolved}
 use Rattle.kp_base.specs.declared.lit.Lit.{Lit}
 use Rattle.kp_grounding.specs.Ground as by_number

@@ -1,0 +1,5 @@
+pub mod Unsure
+pub mod View
+pub mod Steps
+pub mod Tables
+pub mod Collected

@@ -1,0 +1,131 @@
+ghost use Rattle.std.specs.Prelude.{◌≡◌, ◌++◌, [], map, IfOk, OnOk};
+ghost use Rattle.kp_grammar.specs.View.{typed_view, domain_view, problem_view};
+ghost use Rattle.kp_grammar.specs.View.{eff_view as tree_view, schema_view as schema_tree_view};
+ghost use Rattle.kp_meaning.specs.Numbering.{numbered_eff, numbered_schema, numbered_cond, numbered_range};
+ghost use Rattle.kp_grammar.specs.View.{cond_view as cond_tree_view};
+ghost use Rattle.kp_meaning.specs.Numbered.{Eff as by_number};
+ghost use Rattle.kp_lifted.specs.View.{cond_view, eff_view, schema_view};
+
+use crate::lifted::{Cond, Eff, Schema};
+use crate::ranges::Ranges;
+use crate::scope::Scope;
+use crate::tables::Names;
+use crate::terms::{condition, terms};
+use kp_base::{Memory, Row};
+use kp_grammar::{CondTree, EffTree, SchemaTree, Typed};
+use std::alloc::Global;
+
+// An effect under a condition.
+fn under(
+    alloc: Global,
+    names: &Names,
+    scope: &Scope,
+    cond: &CondTree,
+    body: Eff,
+) -> Result<Eff, Memory>
+    ensures { IfOk result (λ e. eff_view e ≡ by_number.when (numbered_cond (domain_view names.now.domain.now) (problem_view names.now.problem.now) scope.now (cond_tree_view cond.now)) (eff_view body)) }
+{
+    let body = Box::new(alloc, body)?;
+    Ok(Eff::When(condition(alloc, names, scope, cond)?, body))
+}
+
+// An effect for all objects that these variables stand for.
+fn over<'a>(
+    alloc: Global,
+    ranges: &mut Ranges<'a>,
+    variables: &'a [Typed],
+    body: Eff,
+) -> Result<Eff, Memory>
+    ensures kept { ranges.new.names ≡ ranges.old.names }
+    ensures effect { IfOk result (λ e. eff_view e ≡ by_number.each (map (numbered_range (domain_view ranges.old.names.domain.now) (problem_view ranges.old.names.problem.now)) (map typed_view variables.now)) (eff_view body)) }
+{
+    let body = Box::new(alloc, body)?;
+    Ok(Eff::Each(ranges.of_variables(alloc, variables)?, body))
+}
+
+// An effect under these variables.
+fn effect<'a>(
+    alloc: Global,
+    ranges: &mut Ranges<'a>,
+    scope: &Scope<'a>,
+    tree: &'a EffTree,
+) -> Result<Eff, Memory>
+    ensures kept { ranges.new.names ≡ ranges.old.names }
+    ensures effect { IfOk result (λ e. eff_view e ≡ numbered_eff (domain_view ranges.old.names.domain.now) (problem_view ranges.old.names.problem.now) scope.now (tree_view tree.now)) }
+{
+    match tree {
+        EffTree::All(parts) => {
+            let mut row = Row::new(alloc);
+            for part in parts.slice() {
+                row.push(effect(alloc, ranges, scope, part)?)?;
+            }
+            Ok(Eff::All(row))
+        }
+        EffTree::When(cond, body) => {
+            let body = effect(alloc, ranges, scope, body)?;
+            under(alloc, &ranges.names, scope, cond, body)
+        }
+        EffTree::Each(variables, body) => {
+            let inner = scope.with(alloc, variables.slice())?;
+            let body = effect(alloc, ranges, &inner, body);
+            drop(inner);
+            over(alloc, ranges, variables.slice(), body?)
+        }
+        EffTree::Atom(positive, atom) => Ok(Eff::Atom {
+            positive: *positive,
+            pred: ranges.names.predicate_number(&atom.head.text),
+            terms: terms(alloc, &ranges.names, scope, atom.terms.slice())?,
+        }),
+    }
+}
+
+// The precondition and the effect of a schema, under its parameters.
+fn forms<'a>(
+    alloc: Global,
+    ranges: &mut Ranges<'a>,
+    tree: &'a SchemaTree,
+) -> Result<(Cond, Eff), Memory>
+    ensures kept { ranges.new.names ≡ ranges.old.names }
+    ensures pre { IfOk result (λ x. cond_view x.0 ≡ (numbered_schema (domain_view ranges.old.names.domain.now) (problem_view ranges.old.names.problem.now) (schema_tree_view tree.now)).pre) }
+    ensures effect { IfOk result (λ x. eff_view x.1 ≡ (numbered_schema (domain_view ranges.old.names.domain.now) (problem_view ranges.old.names.problem.now) (schema_tree_view tree.now)).effect) }
+{
+    let scope = Scope::new(alloc).with(alloc, tree.params.slice())?;
+    let pre = condition(alloc, &ranges.names, &scope, &tree.pre)?;
+    let effect = effect(alloc, ranges, &scope, &tree.effect)?;
+    Ok((pre, effect))
+}
+
+fn schema<'a>(
+    alloc: Global,
+    ranges: &mut Ranges<'a>,
+    tree: &'a SchemaTree,
+) -> Result<Schema, Memory>
+    ensures kept { ranges.new.names ≡ ranges.old.names }
+    ensures schema { IfOk result (λ s. schema_view s ≡ numbered_schema (domain_view ranges.old.names.domain.now) (problem_view ranges.old.names.problem.now) (schema_tree_view tree.now)) }
+{
+    let name = tree.name.text.copy(alloc)?;
+    let params = ranges.of_variables(alloc, tree.params.slice())?;
+    let (pre, effect) = forms(alloc, ranges, tree)?;
+    Ok(Schema {
+        name,
+        params,
+        pre,
+        effect,
+    })
+}
+
+/// Action schemas by number.
+pub fn schemas<'a>(
+    alloc: Global,
+    ranges: &mut Ranges<'a>,
+    trees: &'a [SchemaTree],
+) -> Result<Row<Schema>, Memory>
+    ensures kept { ranges.new.names ≡ ranges.old.names }
+    ensures schemas { IfOk result (λ row. map schema_view row ≡ map (numbered_schema (domain_view ranges.old.names.domain.now) (problem_view ranges.old.names.problem.now)) (map schema_tree_view trees.now)) }
+{
+    let mut row = Row::new(alloc);
+    for tree in trees {
+        row.push(schema(alloc, ranges, tree)?)?;
+    }
+    Ok(row)
+}

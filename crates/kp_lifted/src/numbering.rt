@@ -1,0 +1,69 @@
+ghost use Rattle.std.specs.Prelude.{◌≡◌, ◌≤◌, ◌++◌, [], length, map, IfOk};
+ghost use Rattle.kp_grammar.specs.View.{pred_view, domain_view, problem_view};
+ghost use Rattle.kp_meaning.specs.Numbering.{numbered_pred, numbered_problem};
+ghost use Rattle.kp_lifted.specs.Unsure.{unsure_place};
+ghost use Rattle.kp_lifted.specs.View.{lifted_view};
+
+use crate::effects::schemas;
+use crate::items::{goal_literals, initial_items};
+use crate::lifted::Lifted;
+use crate::ranges::Ranges;
+use crate::tables::Names;
+use crate::unsure::unsure_place;
+use kp_base::{Memory, Row, Texts};
+use kp_grammar::PredTree;
+use kp_meaning::Pred;
+use std::alloc::Global;
+
+fn predicate(alloc: Global, tree: &PredTree) -> Result<Pred, Memory>
+    ensures { IfOk result (λ p. p ≡ numbered_pred (pred_view tree.now)) }
+{
+    let Ok(arity) = u32::try_from(tree.params.len()) else {
+        return Err(Memory);
+    };
+    Ok(Pred {
+        name: tree.head.text.copy(alloc)?,
+        arity,
+    })
+}
+
+fn predicates(alloc: Global, trees: &[PredTree]) -> Result<Row<Pred>, Memory>
+    ensures { IfOk result (λ row. row ≡ map numbered_pred (map pred_view trees.now)) }
+{
+    let mut row = Row::new(alloc);
+    for tree in trees {
+        row.push(predicate(alloc, tree)?)?;
+    }
+    Ok(row)
+}
+
+fn lifted(alloc: Global, bytes: &Texts, ranges: &mut Ranges) -> Result<Lifted, Memory>
+    requires { length bytes.now.problem ≤ 16777216 }
+    ensures numbered { IfOk result (λ l. lifted_view l ≡ numbered_problem (domain_view ranges.old.names.domain.now) (problem_view ranges.old.names.problem.now)) }
+    ensures unsure { IfOk result (λ l. l.unsure ≡ unsure_place bytes.now.problem (problem_view ranges.old.names.problem.now)) }
+{
+    let domain = ranges.names.domain;
+    let schemas = schemas(alloc, ranges, domain.schemas.slice())?;
+    let names = &ranges.names;
+    Ok(Lifted {
+        objects: names.object_texts(alloc)?,
+        predicates: predicates(alloc, domain.predicates.slice())?,
+        schemas,
+        init: initial_items(alloc, names)?,
+        goal: goal_literals(alloc, names)?,
+        unsure: unsure_place(bytes.problem.slice(), names.problem),
+    })
+}
+
+/// The problem by number of the trees whose names these are. It asks nothing of them, but is of use
+/// where they have no fault: each name that is declared nowhere gets the number after the last.
+pub fn by_number(alloc: Global, bytes: &Texts, names: Names) -> Result<Lifted, Memory>
+    requires { length bytes.now.problem ≤ 16777216 }
+    ensures numbered { IfOk result (λ l. lifted_view l ≡ numbered_problem (domain_view names.entry.domain.now) (problem_view names.entry.problem.now)) }
+    ensures unsure { IfOk result (λ l. l.unsure ≡ unsure_place bytes.now.problem (problem_view names.entry.problem.now)) }
+{
+    let mut ranges = Ranges::new(alloc, names);
+    let lifted = lifted(alloc, bytes, &mut ranges);
+    drop(ranges);
+    lifted
+}
