@@ -11,8 +11,6 @@ mod laws;
 mod literal;
 mod node;
 mod shape;
-#[cfg(test)]
-mod tests;
 
 pub use binding::bind;
 pub use flattener::Flattener;

@@ -1,14 +1,13 @@
-//! Tests of whole commands, and of grounding and the initial formula, on files, printed lines and values that were written
-//! by hand. There is nothing else here.
+//! Tests of whole commands on files and printed lines that were written by hand. There is nothing else here.
 #![tactic(auto)]
 
 #[cfg(test)]
-mod initials;
+mod answers;
 #[cfg(test)]
-mod limits;
+mod faults;
 #[cfg(test)]
-mod plans;
+mod implicates;
 #[cfg(test)]
 mod refusals;
 #[cfg(test)]
-mod tests;
+mod running;

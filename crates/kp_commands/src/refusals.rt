@@ -1,30 +1,5 @@
-use crate::tests::{DOMAIN, PROBLEM, translate_words};
-use kp_outside::{MemoryShelf, MemorySink};
-use kp_run::run;
-use std::alloc::Global;
+use crate::running::{DOMAIN, PROBLEM, refuses};
 use std::test::Fail;
-
-// Whether the two files are refused so, with nothing put.
-fn refuses(
-    alloc: Global,
-    domain: &[u8],
-    problem: &[u8],
-    number: u8,
-    printed: &str,
-) -> Result<bool, Fail> {
-    let words = translate_words(alloc, "od", "op")?;
-    let mut shelf = MemoryShelf::new(alloc)?;
-    let mut sink = MemorySink::new(alloc)?;
-    shelf.hold(b"d".as_slice(), domain)?;
-    shelf.hold(b"p".as_slice(), problem)?;
-    let status = run(alloc, &words, &mut shelf, &mut sink);
-    Ok(
-        status.number() == number
-            && sink.bytes().slice() == printed.as_bytes()
-            && shelf.held(b"od".as_slice()).is_none()
-            && shelf.held(b"op".as_slice()).is_none(),
-    )
-}
 
 // Of files with several faults the first in the order of answers is told.
 #[test]
@@ -93,7 +68,7 @@ fn the_first_refusal(rt: HostRuntime) -> Result<(), Fail> {
         ),
     ];
     for (domain, problem, printed) in cases {
-        assert!(rt; refuses(alloc, domain.as_bytes(), problem.as_bytes(), 3, printed)?);
+        assert!(rt; refuses(alloc, domain.as_bytes(), problem.as_bytes(), printed)?);
     }
     Ok(())
 }
@@ -108,6 +83,6 @@ fn one_bracket_too_deep(rt: HostRuntime) -> Result<(), Fail> {
         domain.extend_from_slice(b"(and ")?;
     }
     let printed = "refused 3 Syntax\nat domain line 1 byte 354\n";
-    assert!(rt; refuses(alloc, &domain, PROBLEM.as_bytes(), 3, printed)?);
+    assert!(rt; refuses(alloc, &domain, PROBLEM.as_bytes(), printed)?);
     Ok(())
 }

@@ -9,8 +9,6 @@ mod grounding;
 mod lasting;
 mod names;
 mod occurring;
-#[cfg(test)]
-mod tests;
 
 pub use grounding::{GroundWithAtoms, ground, ground_with_atoms};
 pub use kp_bound::{BoundCond, BoundEff, BoundNode, bind, flatten};

@@ -18,5 +18,3 @@ pub use laws::{
     plans_of_texts_are_runs_from_models,
 };
 
-#[cfg(test)]
-mod tests;

@@ -18,5 +18,3 @@ pub use kept::Kept;
 pub use settling::{object_of, settled};
 pub use statics::Statics;
 
-#[cfg(test)]
-mod tests;

@@ -1,4 +1,5 @@
-use crate::limits::{CELLS, ONE_IS_FULL, resolved};
+use crate::limits::{CELLS, ONE_IS_FULL};
+use crate::reading::resolved;
 use kp_base::{AtomId, Initial, Limits, Lit, LitSet, Memory, Row, Stop};
 use kp_ground::ground;
 use kp_init::initial;
@@ -39,7 +40,45 @@ fn one_of_three(alloc: Global) -> Result<Initial, Memory> {
     })
 }
 
-// Three cells of which one is full. With the first, the two others aren't full; two can't be full together.
+fn is_one_of_three(alloc: Global, formula: &Initial) -> Result<bool, Memory> {
+    Ok(*formula == one_of_three(alloc)?)
+}
+
+// Whether the closure of one set is another.
+fn closes(
+    alloc: Global,
+    primes: &Primes,
+    lits: &[(u32, bool)],
+    wanted: &[(u32, bool)],
+) -> Result<bool, Memory> {
+    let lits = set_of(alloc, lits)?;
+    let wanted = set_of(alloc, wanted)?;
+    Ok(primes.closure(alloc, &lits)? == Some(wanted))
+}
+
+fn has_no_closure(alloc: Global, primes: &Primes, lits: &[(u32, bool)]) -> Result<bool, Memory> {
+    let lits = set_of(alloc, lits)?;
+    Ok(primes.closure(alloc, &lits)?.is_none())
+}
+
+// With the first, the two others aren't full; two can't be full together.
+fn closes_cells(alloc: Global, formula: &Initial) -> Result<bool, Stop> {
+    if !is_of_atoms(formula, 3) {
+        return Ok(false);
+    }
+    let primes = Primes::build(alloc, formula, 3, 20_000)?;
+    let first = closes(
+        alloc,
+        &primes,
+        &[(0, true)],
+        &[(0, true), (1, false), (2, false)],
+    );
+    let two = has_no_closure(alloc, &primes, &[(0, true), (1, true)]);
+    drop(primes);
+    Ok(first? && two?)
+}
+
+// Three cells of which one is full.
 #[test]
 fn one_full_cell(rt: HostRuntime) -> Result<(), Fail> {
     let alloc = rt.alloc();
@@ -47,16 +86,10 @@ fn one_full_cell(rt: HostRuntime) -> Result<(), Fail> {
         assert!(rt; false, "the files have no initial formula");
         return Ok(());
     };
-    assert_eq!(rt; formula, one_of_three(alloc)?);
-    assert!(rt; is_of_atoms(&formula, 3));
-    let Ok(primes) = Primes::build(alloc, &formula, 3, 20_000) else {
-        assert!(rt; false, "the formula is refused");
-        return Ok(());
-    };
-    let first = set_of(alloc, &[(0, true)])?;
-    let wanted = set_of(alloc, &[(0, true), (1, false), (2, false)])?;
-    assert!(rt; primes.closure(alloc, &first)? == Some(wanted));
-    let two = set_of(alloc, &[(0, true), (1, true)])?;
-    assert!(rt; primes.closure(alloc, &two)? == None);
+    let is_wanted = is_one_of_three(alloc, &formula);
+    let closes = closes_cells(alloc, &formula);
+    drop(formula);
+    assert!(rt; is_wanted?);
+    assert!(rt; matches!(closes, Ok(true)));
     Ok(())
 }

@@ -1,4 +1,4 @@
-use crate::{FileShelf, MemoryShelf, MemorySink, OutSink, OutsideStop, Shelf, Sink};
+use kp_outside::{FileShelf, MemoryShelf, MemorySink, OutSink, OutsideStop, Shelf, Sink};
 use std::fs;
 use std::test::Fail;
 

@@ -1,0 +1,82 @@
+use kp_base::Memory;
+use kp_outside::{MemoryShelf, MemorySink};
+use kp_run::run;
+use std::alloc::Global;
+
+pub const DOMAIN: &str =
+    "(define (domain d) (:predicates (p) (q)) (:action a :precondition (p) :effect (and (q) (not (p)))))";
+
+pub const PROBLEM: &str = "(define (problem e) (:domain d) (:init (p)) (:goal (q)))";
+
+pub const USAGE: &str =
+    "usage: kplan translate D P OD OP [--mode M | --merges F] [--implicates N]\n       kplan solve D P [--mode M | --merges F] [--implicates N] [--budget N] [--classical F]\n       kplan classical D P [--budget N]\n       kplan strip T\n       kplan lift D P PLAN [--mode M | --merges F] [--implicates N]\n       kplan check D P PLAN [--implicates N]\n       kplan width D P [--bound N] [--implicates N]\n       kplan merges D P [--mode M] [--implicates N]\n       kplan bench FAMILY N [--mode M] [--budget N]\n";
+
+fn push_all(alloc: Global, words: &mut Vec<Vec<u8>>, more: &[&str]) -> Result<(), Memory> {
+    for word in more {
+        words.push(word.as_bytes().to_vec(alloc)?)?;
+    }
+    Ok(())
+}
+
+/// The words of a translation to `od` and this name, with these behind them.
+pub fn translate_words(
+    alloc: Global,
+    problem_out: &str,
+    more: &[&str],
+) -> Result<Vec<Vec<u8>>, Memory> {
+    let mut words = Vec::new(alloc);
+    let front = ["translate", "d", "p", "od", problem_out, "--mode", "k0"];
+    push_all(alloc, &mut words, front.as_slice())?;
+    push_all(alloc, &mut words, more)?;
+    Ok(words)
+}
+
+/// A shelf that holds this domain and problem.
+pub fn shelf_of(alloc: Global, domain: &[u8], problem: &[u8]) -> Result<MemoryShelf, Memory> {
+    let mut shelf = MemoryShelf::new(alloc)?;
+    shelf.hold(b"d".as_slice(), domain)?;
+    shelf.hold(b"p".as_slice(), problem)?;
+    Ok(shelf)
+}
+
+// Whether these words end with this number and print this text.
+fn runs_so(
+    alloc: Global,
+    words: &[Vec<u8>],
+    shelf: &mut MemoryShelf,
+    number: u8,
+    printed: &str,
+) -> Result<bool, Memory> {
+    let mut sink = MemorySink::new(alloc)?;
+    let status = run(alloc, words, shelf, &mut sink);
+    Ok(status.number() == number && sink.bytes().slice() == printed.as_bytes())
+}
+
+/// Whether a translation with these last words ends with this number and prints this text.
+pub fn ends_so(
+    alloc: Global,
+    texts: (&str, &str),
+    more: &[&str],
+    number: u8,
+    printed: &str,
+) -> Result<bool, Memory> {
+    let words = translate_words(alloc, "op", more)?;
+    let mut shelf = shelf_of(alloc, texts.0.as_bytes(), texts.1.as_bytes())?;
+    runs_so(alloc, &words, &mut shelf, number, printed)
+}
+
+/// Whether the two files are refused so, with nothing put.
+pub fn refuses(
+    alloc: Global,
+    domain: &[u8],
+    problem: &[u8],
+    printed: &str,
+) -> Result<bool, Memory> {
+    let words = translate_words(alloc, "op", &[])?;
+    let mut shelf = shelf_of(alloc, domain, problem)?;
+    let is_so = runs_so(alloc, &words, &mut shelf, 3, printed);
+    drop(words);
+    let is_bare = shelf.held(b"od".as_slice()).is_none() && shelf.held(b"op".as_slice()).is_none();
+    drop(shelf);
+    Ok(is_so? && is_bare)
+}
