@@ -17,4 +17,3 @@ pub use laws::{
     plans_are_runs_from_models, plans_by_name_are_runs_from_models,
     plans_of_texts_are_runs_from_models,
 };
-

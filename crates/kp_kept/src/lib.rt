@@ -17,4 +17,3 @@ pub use keeping::kept_instances;
 pub use kept::Kept;
 pub use settling::{object_of, settled};
 pub use statics::Statics;
-
