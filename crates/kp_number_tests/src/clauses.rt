@@ -1,4 +1,4 @@
-use crate::given::set;
+use crate::given::{literal, set};
 use kp_base::{AtomId, Lit, LitSet, Memory};
 use kp_clauses::{Added, Store, has_lit, resolvent, subsumes};
 use std::alloc::Global;
@@ -6,29 +6,47 @@ use std::test::Fail;
 
 // The atoms a, b and c are 0, 1 and 2.
 
+// Whether a set has just these literals, which are in order.
+fn is_set(set: &LitSet, lits: &[(u32, bool)]) -> bool {
+    set.slice().len() == lits.len()
+        && set.slice().iter().zip(lits).all(|(lit, (number, positive))| *lit
+            == literal(*number, *positive))
+}
+
+// Whether a resolvent is this one, or none where none is wanted.
+fn is_wanted(found: Option<LitSet>, wanted: Option<&[(u32, bool)]>) -> bool {
+    match found {
+        Some(found) => match wanted {
+            Some(lits) => is_set(&found, lits),
+            None => false,
+        },
+        None => wanted.is_none(),
+    }
+}
+
 // Whether the resolvent on a is this one.
 fn is_resolvent(
     alloc: Global,
     c: &LitSet,
     d: &LitSet,
-    wanted: Option<LitSet>,
+    wanted: Option<&[(u32, bool)]>,
 ) -> Result<bool, Memory> {
-    let lit = Lit {
+    let a = Lit {
         atom: AtomId(0),
         positive: true,
     };
-    if !has_lit(c, lit) || !has_lit(d, lit.negated()) {
+    if !has_lit(c, a) || !has_lit(d, a.negated()) {
         return Ok(false);
     }
-    let found = resolvent(alloc, c, d, lit.atom)?;
-    Ok(found == wanted)
+    let found = resolvent(alloc, c, d, a.atom)?;
+    Ok(is_wanted(found, wanted))
 }
 
 // Whether a or b and another clause have this resolvent on a.
 fn resolves_to(
     alloc: Global,
     other: &[(u32, bool)],
-    wanted: Option<LitSet>,
+    wanted: Option<&[(u32, bool)]>,
 ) -> Result<bool, Memory> {
     let either = set(alloc, &[(0, true), (1, true)])?;
     let other = set(alloc, other)?;
@@ -37,8 +55,14 @@ fn resolves_to(
 
 #[test]
 fn resolves_on_an_atom(rt: HostRuntime) -> Result<(), Fail> {
-    let wanted = set(rt.alloc(), &[(1, true), (2, true)])?;
-    assert!(rt; resolves_to(rt.alloc(), &[(0, false), (2, true)], Some(wanted))?);
+    let wanted = [(1, true), (2, true)];
+    assert!(rt;
+        resolves_to(
+            rt.alloc(),
+            &[(0, false), (2, true)],
+            Some(wanted.as_slice())
+        )?
+    );
     Ok(())
 }
 
