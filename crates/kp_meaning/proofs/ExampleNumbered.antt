@@ -23,7 +23,7 @@ use Rattle.kp_meaning.proofs.NumberedItems.{no_variables}
 use Rattle.kp_meaning.proofs.Numbered.{matches_more}
 use Rattle.kp_meaning.proofs.NumberedPlans.{plan_numbered}
 use Rattle.kp_meaning.proofs.ExamplePlans.{state_of, named_alone, moves, from_a_to_b, move}
-use Rattle.kp_meaning.proofs.ExampleCells.{cells, one_of_three}
+use Rattle.kp_meaning.proofs.ExampleCells.{cells, one_of_three, cells_read, one_of_three_read}
 
 abbrev parameter : ℕ → Term
 parameter n = Term.Param n
@@ -75,8 +75,7 @@ cells_by_number = record {
 }
 
 numbered_cells : numbered_problem (domain_of cells) (problem_of one_of_three) ≡ cells_by_number
-unfolding cut_from class_of symbol_of some_at next_at
-numbered_cells = refl
+numbered_cells = rw (cells_read, one_of_three_read) refl
 
 -- ---- a constant, inner variables after the outer one, a hidden variable, nested items and goals
 

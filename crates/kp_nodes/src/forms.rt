@@ -1,9 +1,9 @@
 ghost use Rattle.std.specs.Prelude.{◌≡◌, map, IfOk};
 ghost use Rattle.kp_grammar.specs.View as owned;
-ghost use Rattle.kp_grammar.specs.Trees.{Eff};
-ghost use Rattle.kp_nodes.specs.Nodes.{cond_view, eff_view, item_view, typed_view};
+ghost use Rattle.kp_grammar.specs.Trees.{Eff, Item};
+ghost use Rattle.kp_nodes.specs.Nodes.{word_view, typed_view, atom_view, lit_view, cond_view, eff_view, item_view};
 
-use crate::node::{CondNode, EffNode, ItemNode, TypedNode};
+use crate::node::{AtomNode, CondNode, EffNode, ItemNode, LitNode, TypedNode, WordNode};
 use crate::words::{copy_atom, copy_lits, copy_term, copy_typeds, copy_word};
 use kp_base::{Memory, Row};
 use kp_grammar::{CondTree, EffTree, ItemTree};
@@ -84,6 +84,30 @@ fn copy_effs(alloc: Global, nodes: &[EffNode]) -> Result<Row<EffTree>, Memory>
     Ok(Row::from_vec(copies))
 }
 
+// A copy of `oneof` with its literals.
+fn copy_one_of(alloc: Global, word: &WordNode, literals: &[LitNode]) -> Result<ItemTree, Memory>
+    ensures { IfOk result (λ i. owned.item_view i ≡ Item.one_of (word_view word.now) (map lit_view literals.now)) }
+{
+    let word = copy_word(alloc, word)?;
+    Ok(ItemTree::OneOf(word, copy_lits(alloc, literals)?))
+}
+
+// A copy of `or` with its literals.
+fn copy_any_of(alloc: Global, word: &WordNode, literals: &[LitNode]) -> Result<ItemTree, Memory>
+    ensures { IfOk result (λ i. owned.item_view i ≡ Item.any_of (word_view word.now) (map lit_view literals.now)) }
+{
+    let word = copy_word(alloc, word)?;
+    Ok(ItemTree::AnyOf(word, copy_lits(alloc, literals)?))
+}
+
+// A copy of `unknown` with its fact.
+fn copy_unknown(alloc: Global, word: &WordNode, atom: &AtomNode) -> Result<ItemTree, Memory>
+    ensures { IfOk result (λ i. owned.item_view i ≡ Item.unknown (word_view word.now) (atom_view atom.now)) }
+{
+    let word = copy_word(alloc, word)?;
+    Ok(ItemTree::Unknown(word, copy_atom(alloc, atom)?))
+}
+
 /// An equal item of `:init`.
 #[cycle(items)]
 pub fn copy_item(alloc: Global, node: &ItemNode) -> Result<ItemTree, Memory>
@@ -92,18 +116,9 @@ pub fn copy_item(alloc: Global, node: &ItemNode) -> Result<ItemTree, Memory>
     match node {
         ItemNode::All(parts) => Ok(ItemTree::All(copy_items(alloc, parts)?)),
         ItemNode::Lit(positive, atom) => Ok(ItemTree::Lit(*positive, copy_atom(alloc, atom)?)),
-        ItemNode::OneOf(word, literals) => {
-            let word = copy_word(alloc, word)?;
-            Ok(ItemTree::OneOf(word, copy_lits(alloc, literals)?))
-        }
-        ItemNode::AnyOf(word, literals) => {
-            let word = copy_word(alloc, word)?;
-            Ok(ItemTree::AnyOf(word, copy_lits(alloc, literals)?))
-        }
-        ItemNode::Unknown(word, atom) => {
-            let word = copy_word(alloc, word)?;
-            Ok(ItemTree::Unknown(word, copy_atom(alloc, atom)?))
-        }
+        ItemNode::OneOf(word, literals) => copy_one_of(alloc, word, literals),
+        ItemNode::AnyOf(word, literals) => copy_any_of(alloc, word, literals),
+        ItemNode::Unknown(word, atom) => copy_unknown(alloc, word, atom),
     }
 }
 
