@@ -1,5 +1,1 @@
-pub mod Unsure
 pub mod View
-pub mod Steps
-pub mod Tables
-pub mod Collected

@@ -8,11 +8,10 @@ ghost use Rattle.kp_lifted.specs.View.{cond_view, eff_view, schema_view};
 
 use crate::lifted::{Cond, Eff, Schema};
 use crate::ranges::Ranges;
-use crate::scope::Scope;
-use crate::tables::Names;
 use crate::terms::{condition, terms};
 use kp_base::{Memory, Row};
 use kp_grammar::{CondTree, EffTree, SchemaTree, Typed};
+use kp_tables::{Names, Scope};
 use std::alloc::Global;
 
 // An effect under a condition.
@@ -44,6 +43,7 @@ fn over<'a>(
 }
 
 // An effect under these variables.
+#[cycle(effs)]
 fn effect<'a>(
     alloc: Global,
     ranges: &mut Ranges<'a>,
@@ -54,13 +54,7 @@ fn effect<'a>(
     ensures effect { IfOk result (λ e. eff_view e ≡ numbered_eff (domain_view ranges.old.names.domain.now) (problem_view ranges.old.names.problem.now) scope.now (tree_view tree.now)) }
 {
     match tree {
-        EffTree::All(parts) => {
-            let mut row = Row::new(alloc);
-            for part in parts.slice() {
-                row.push(effect(alloc, ranges, scope, part)?)?;
-            }
-            Ok(Eff::All(row))
-        }
+        EffTree::All(parts) => Ok(Eff::All(effects(alloc, ranges, scope, parts.slice())?)),
         EffTree::When(cond, body) => {
             let body = effect(alloc, ranges, scope, body)?;
             under(alloc, &ranges.names, scope, cond, body)
@@ -77,6 +71,24 @@ fn effect<'a>(
             terms: terms(alloc, &ranges.names, scope, atom.terms.slice())?,
         }),
     }
+}
+
+// Effects under these variables.
+#[cycle(effs)]
+fn effects<'a>(
+    alloc: Global,
+    ranges: &mut Ranges<'a>,
+    scope: &Scope<'a>,
+    trees: &'a [EffTree],
+) -> Result<Row<Eff>, Memory>
+    ensures kept { ranges.new.names ≡ ranges.old.names }
+    ensures effects { IfOk result (λ row. map eff_view row ≡ map (numbered_eff (domain_view ranges.old.names.domain.now) (problem_view ranges.old.names.problem.now) scope.now) (map tree_view trees.now)) }
+{
+    let mut row = Row::new(alloc);
+    'trees: for tree in trees {
+        row.push(effect(alloc, ranges, scope, tree)?)?;
+    }
+    Ok(row)
 }
 
 // The precondition and the effect of a schema, under its parameters.

@@ -1,18 +1,16 @@
 ghost use Rattle.std.specs.Prelude.{◌≡◌, ◌≤◌, ◌++◌, [], length, map, IfOk};
 ghost use Rattle.kp_grammar.specs.View.{pred_view, domain_view, problem_view};
 ghost use Rattle.kp_meaning.specs.Numbering.{numbered_pred, numbered_problem};
-ghost use Rattle.kp_lifted.specs.Unsure.{unsure_place};
+ghost use Rattle.kp_tables.specs.Unsure.{unsure_place};
 ghost use Rattle.kp_lifted.specs.View.{lifted_view};
 
 use crate::effects::schemas;
-use crate::items::{goal_literals, initial_items};
 use crate::lifted::Lifted;
 use crate::ranges::Ranges;
-use crate::tables::Names;
-use crate::unsure::unsure_place;
 use kp_base::{Memory, Row, Texts};
 use kp_grammar::PredTree;
 use kp_meaning::Pred;
+use kp_tables::{Names, goal_literals, initial_items, unsure_place};
 use std::alloc::Global;
 
 fn predicate(alloc: Global, tree: &PredTree) -> Result<Pred, Memory>

@@ -2,15 +2,13 @@ ghost use Rattle.std.specs.Prelude.{◌≡◌, ◌++◌, [], ◌∷◌, map, IfO
 ghost use Rattle.kp_grammar.specs.View.{typed_view, domain_view, problem_view};
 ghost use Rattle.kp_meaning.specs.Types.{names, or_object};
 ghost use Rattle.kp_meaning.specs.Numbering.{numbered_range};
-ghost use Rattle.kp_lifted.specs.Steps.{range_of};
+ghost use Rattle.kp_tables.specs.Steps.{range_of};
 
-use crate::below::{OBJECT, below_type, below_types};
-use crate::marks::objects_of;
-use crate::tables::Names;
 use indexmap::IndexMap;
 use kp_base::{Memory, Row};
 use kp_grammar::{Typed, Word};
 use kp_meaning::Range;
+use kp_tables::{Names, OBJECT, below_type, below_types, objects_of};
 use std::alloc::Global;
 
 /// The numbers of names, and the objects of each type that was asked for.

@@ -5,11 +5,10 @@ ghost use Rattle.kp_meaning.specs.Numbering.{numbered_term, numbered_terms, numb
 ghost use Rattle.kp_lifted.specs.View.{cond_view};
 
 use crate::lifted::Cond;
-use crate::scope::Scope;
-use crate::tables::Names;
 use kp_base::{Memory, Row};
 use kp_grammar::{CondTree, TermTree};
 use kp_meaning::Term;
+use kp_tables::{Names, Scope};
 use std::alloc::Global;
 
 /// A term under these variables.

@@ -11,8 +11,8 @@ use Rattle.kp_meaning.specs.Names.{Name, same, is_among, distinct}
 use Rattle.kp_meaning.specs.Types.{declared}
 use Rattle.kp_meaning.specs.Faults.{Fault, unknown_name, declared_twice, repeated, inside, variable_faults, head_faults, predicate_of, term_faults, atom_faults, cond_faults, conds_faults, eff_faults, effs_faults, schema_faults}
 use Rattle.kp_names.specs.Noted.{noted, sooner}
-use Rattle.kp_lifted.specs.Steps.{with_name}
-use Rattle.kp_lifted.proofs.Gathering.{among_with, among_gathered, gathers}
+use Rattle.kp_tables.specs.Steps.{with_name}
+use Rattle.kp_tables.proofs.Gathering.{among_with, among_gathered, gathers}
 
 -- the same names, in whichever order
 pub record Alike (xs ys : List Name) : Type 0 where

@@ -14,7 +14,7 @@ use Rattle.kp_meaning.specs.Faults.{Fault, unknown_name, declared_twice, wrong_u
 use Rattle.kp_meaning.specs.Numbering.{numbered_problem}
 use Rattle.kp_lifted.specs.declared.lifted.Lifted.{Lifted}
 use Rattle.kp_lifted.specs.View.{lifted_view}
-pub use Rattle.kp_lifted.specs.Unsure.{or_else, unsure_item, unsure_items, first_unsure, place_in, unsure_place}
+pub use Rattle.kp_tables.specs.Unsure.{or_else, unsure_item, unsure_items, first_unsure, place_in, unsure_place}
 
 -- ---- faults
 

@@ -7,7 +7,8 @@ ghost use Rattle.kp_names.specs.Resolved.{AnswersNames};
 use crate::judge::judge;
 use kp_base::{Stop, Texts};
 use kp_grammar::{Domain, Problem};
-use kp_lifted::{Lifted, Names, by_number};
+use kp_lifted::{Lifted, by_number};
+use kp_tables::Names;
 use std::alloc::Global;
 
 /// The problem by number of two trees, or the refusal at the first token with a fault: of the domain, or,

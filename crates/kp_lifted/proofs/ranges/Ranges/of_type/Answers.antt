@@ -2,7 +2,7 @@ use Rattle.std.proofs.Common.{◌≡◌, ◌∷◌, [], ◌∙◌, sym, subst, I
 use Rattle.kp_grammar.specs.View.{domain_view, problem_view}
 use Rattle.kp_meaning.specs.Names.{Name, same}
 use Rattle.indexmap.specs.IndexMap.{insert_entry}
-use Rattle.kp_lifted.specs.Steps.{range_of}
+use Rattle.kp_tables.specs.Steps.{range_of}
 use Rattle.kp_lifted.proofs.KnownTypes.{found_right, insert_right, both_right}
 use Rattle.kp_lifted.proofs.ranges.Ranges.of_type.Goals as goal
 

@@ -2,7 +2,7 @@ use Rattle.std.proofs.Common.{◌∙◌, ℕ, List, ap}
 use Rattle.kp_grammar.specs.View.{domain_view, problem_view}
 use Rattle.kp_meaning.specs.declared.lifted.Range.{Range}
 use Rattle.kp_meaning.specs.Types.{names, or_object}
-use Rattle.kp_lifted.specs.Steps.{range_of}
+use Rattle.kp_tables.specs.Steps.{range_of}
 use Rattle.kp_lifted.proofs.ranges.Ranges.of_variable.Goals as goal
 
 pub returns-clause-range : goal.returns-clause-range

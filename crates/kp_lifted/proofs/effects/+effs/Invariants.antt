@@ -1,0 +1,11 @@
+use Rattle.std.proofs.Common.{◌≡◌, ◌++◌, map, drop}
+use Rattle.kp_grammar.specs.View.{eff_view as tree_view, domain_view, problem_view}
+use Rattle.kp_meaning.specs.Numbering.{numbered_eff}
+use Rattle.kp_lifted.specs.View.{eff_view}
+use Rattle.kp_lifted.proofs.effects.+effs.Given as goal
+
+abbrev pub invariant-effects-trees : goal.invariant-effects-trees
+invariant-effects-trees l = record {
+  kept : l.ranges.names ≡ l.fn.ranges.names;
+  so_far : map eff_view l.row ++ map (numbered_eff (domain_view l.fn.ranges.names.domain.now) (problem_view l.fn.ranges.names.problem.now) l.scope) (map tree_view (drop l.tree-index l.trees)) ≡ map (numbered_eff (domain_view l.fn.ranges.names.domain.now) (problem_view l.fn.ranges.names.problem.now) l.scope) (map tree_view l.trees);
+}

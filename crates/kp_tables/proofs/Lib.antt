@@ -1,0 +1,5 @@
+pub mod Gathering
+pub mod Entries
+pub mod NumbersOfNames
+pub mod TypesBelow
+pub mod ObjectsOfTypes

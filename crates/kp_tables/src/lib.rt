@@ -1,0 +1,20 @@
+//! The declared names of two trees, each with its number, and what needs these alone: the objects of a type, `:init` and the goal by number. Each call says what it gives.
+#![tactic(auto)]
+
+mod below;
+mod items;
+mod marks;
+mod name_set;
+mod predicates;
+mod scope;
+mod tables;
+mod unsure;
+
+pub use below::{OBJECT, below_type, below_types};
+pub use items::{goal_literals, initial_items};
+pub use marks::objects_of;
+pub use name_set::NameSet;
+pub use predicates::Declared;
+pub use scope::Scope;
+pub use tables::{Names, add_declared};
+pub use unsure::unsure_place;

@@ -1,0 +1,173 @@
+ghost use Rattle.std.specs.Prelude.{◌≡◌, ◌≤◌, ℕ, List, [], length, map, fold, IfOk, OnOk};
+ghost use Rattle.std.specs.List.{flat_map};
+ghost use Rattle.kp_grammar.specs.View.{domain_view, problem_view, typed_view};
+ghost use Rattle.kp_meaning.specs.Names.{is_among};
+ghost use Rattle.kp_meaning.specs.Types.{declared, names, object_lines, objects, types};
+ghost use Rattle.kp_tables.specs.Steps.{with_name};
+ghost use Rattle.kp_tables.specs.Tables.{names_of_line, entry_of, declaration_of};
+
+use crate::name_set::NameSet;
+use crate::predicates::{Declared, Predicates};
+use kp_base::{Memory, Row, Text};
+use kp_grammar::{Domain, Problem, Typed, Word};
+use std::alloc::Global;
+
+/// The declared names of two trees, each with its number.
+#[derive(Drop)]
+pub struct Names<'a> {
+    /// The domain.
+    pub domain: &'a Domain,
+    /// The problem.
+    pub problem: &'a Problem,
+    type_names: NameSet<'a>,
+    object_names: NameSet<'a>,
+    predicate_names: Predicates<'a>,
+    ghost types_known: { (name : List ℕ) → is_among type_names name ≡ is_among (types (domain_view domain.now)) name },
+    ghost objects_known: { object_names ≡ objects (domain_view domain.now) (problem_view problem.now) },
+    ghost predicates_few: { length domain.now.predicates ≤ 4294967295 },
+    ghost predicates_known: { (name : List ℕ) → entry_of predicate_names name ≡ declaration_of (domain_view domain.now) name },
+}
+
+// Adds the names of words.
+fn add_words<'a>(known: &mut NameSet<'a>, words: &'a [Word]) -> Result<(), Memory>
+    ensures { OnOk result (known.new ≡ fold with_name known.old (names words.now)) }
+{
+    for word in words {
+        known.insert(word.text.slice())?;
+    }
+    Ok(())
+}
+
+/// Adds the names that a typed list declares.
+pub fn add_declared<'a>(known: &mut NameSet<'a>, lines: &'a [Typed]) -> Result<(), Memory>
+    ensures { OnOk result (known.new ≡ fold with_name known.old (declared (map typed_view lines.now))) }
+{
+    for line in lines {
+        known.insert(line.word.text.slice())?;
+    }
+    Ok(())
+}
+
+// Adds the types of the lines of `:types`, and those that stand there as parents.
+fn add_types<'a>(known: &mut NameSet<'a>, lines: &'a [Typed]) -> Result<(), Memory>
+    ensures { OnOk result (known.new ≡ fold with_name known.old (flat_map names_of_line (map typed_view lines.now))) }
+{
+    for line in lines {
+        known.insert(line.word.text.slice())?;
+        add_words(known, line.kinds.slice())?;
+    }
+    Ok(())
+}
+
+fn types_of<'a>(alloc: Global, domain: &'a Domain) -> Result<NameSet<'a>, Memory>
+    ensures { IfOk result (λ names. names ≡ fold with_name [] (types (domain_view domain.now))) }
+{
+    let mut names = NameSet::new(alloc);
+    names.insert(b"object")?;
+    add_types(&mut names, domain.kinds.slice())?;
+    Ok(names)
+}
+
+#[tactic(auto, using(crate::proofs::Gathering::objects_gathered))]
+fn objects_of<'a>(
+    alloc: Global,
+    domain: &'a Domain,
+    problem: &'a Problem,
+) -> Result<NameSet<'a>, Memory>
+    ensures { IfOk result (λ names. names ≡ objects (domain_view domain.now) (problem_view problem.now)) }
+{
+    let mut names = NameSet::new(alloc);
+    add_declared(&mut names, domain.constants.slice())?;
+    add_declared(&mut names, problem.objects.slice())?;
+    Ok(names)
+}
+
+impl<'a> Names<'a> {
+    ghost use Rattle.kp_tables.specs.Collected.{domain_of, problem_of};
+
+    /// The names that two trees declare.
+    #[tactic(auto, unfolding(crate::specs::Collected::domain_of, crate::specs::Collected::problem_of))]
+    pub fn collect(
+        alloc: Global,
+        domain: &'a Domain,
+        problem: &'a Problem,
+    ) -> Result<Names<'a>, Memory>
+        ensures domain { IfOk result (λ names. domain_of names ≡ domain_view domain.now) }
+        ensures problem { IfOk result (λ names. problem_of names ≡ problem_view problem.now) }
+    {
+        let type_names = types_of(alloc, domain)?;
+        let object_names = objects_of(alloc, domain, problem)?;
+        let predicate_names = Predicates::of(alloc, domain.predicates.slice())?;
+        Ok(Names {
+            domain,
+            problem,
+            type_names,
+            object_names,
+            predicate_names,
+        })
+    }
+
+    /// Whether it is the name of a type.
+    #[tactic(auto, unfolding(crate::specs::Collected::domain_of))]
+    pub fn is_type(&self, name: &Text) -> bool
+        ensures { result ≡ is_among (types (domain_of self.now)) name.now }
+    {
+        self.type_names.has(name.slice())
+    }
+
+    /// Whether it is the name of an object.
+    #[tactic(auto, using(crate::proofs::Gathering::among_objects), unfolding(crate::specs::Collected::domain_of, crate::specs::Collected::problem_of))]
+    pub fn has_object(&self, name: &Text) -> bool
+        ensures { result ≡ is_among (declared (object_lines (domain_of self.now) (problem_of self.now))) name.now }
+    {
+        self.object_names.has(name.slice())
+    }
+
+    /// The first declaration of a predicate.
+    #[tactic(auto, unfolding(crate::specs::Collected::domain_of))]
+    pub fn predicate(&self, name: &Text) -> Option<Declared>
+        ensures { result ≡ declaration_of (domain_of self.now) name.now }
+    {
+        self.predicate_names.get(name.slice())
+    }
+}
+
+// Names that are none have the number after the last, so that each name has one.
+impl<'a> Names<'a> {
+    ghost use Rattle.kp_meaning.specs.Numbering.{index_of, heads};
+
+    /// The number of an object; how many there are, where the name is none.
+    pub fn object_number(&self, name: &Text) -> u32
+        ensures { result ≡ index_of (objects (domain_view self.now.domain.now) (problem_view self.now.problem.now)) name.now }
+    {
+        match self.object_names.find(name.slice()) {
+            Some(number) => number,
+            None => self.object_names.len(),
+        }
+    }
+
+    /// How many objects there are.
+    pub fn object_count(&self) -> u32
+        ensures { result ≡ length (objects (domain_view self.now.domain.now) (problem_view self.now.problem.now)) }
+    {
+        self.object_names.len()
+    }
+
+    /// The names of the objects, in order of number.
+    pub fn object_texts(&self, alloc: Global) -> Result<Row<Text>, Memory>
+        ensures { IfOk result (λ row. row ≡ objects (domain_view self.now.domain.now) (problem_view self.now.problem.now)) }
+    {
+        let texts = self.object_names.texts(alloc)?;
+        Ok(texts)
+    }
+
+    /// The number of a predicate; how many declarations there are, where the name is none.
+    pub fn predicate_number(&self, name: &Text) -> u32
+        ensures { result ≡ index_of (heads (domain_view self.now.domain.now)) name.now }
+    {
+        match self.predicate_names.get(name.slice()) {
+            Some(declared) => declared.number,
+            None => self.domain.predicates.len() as u32,
+        }
+    }
+}
