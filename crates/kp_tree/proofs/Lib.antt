@@ -2,6 +2,4 @@ pub mod OneAnswer
 pub mod WholeFiles
 pub mod First
 pub mod Whole
-pub mod Joining
-pub mod Stating
 pub mod Told

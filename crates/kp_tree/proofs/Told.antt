@@ -1,10 +1,9 @@
 -- From what the reader computes to what it promises.
-use Rattle.std.proofs.Common.{◌≡◌, ℕ, zero, suc, ◌≤◌, ◌<◌, Bool, List, [], ◌∷◌, length, map, drop, slice_index_or, Result, Ok, Err, refl, sym, ap, subst, ◌∙◌, arith}
+use Rattle.std.proofs.Common.{◌≡◌, ℕ, ◌≤◌, ◌<◌, Bool, List, [], length, drop, slice_index_or, Ok, Err, refl, sym, ap, ◌∙◌, arith}
 use Rattle.std.specs.List.{drop-map}
 use Rattle.std.proofs.lemmas.Option.{slice_get-get_or}
 use Rattle.kp_base.specs.declared.refused.Part.{Part}
 use Rattle.kp_base.specs.declared.refused.Stop.{Stop}
-use Rattle.kp_base.specs.declared.refused.Stop.TheVariants as causes
 use Rattle.kp_lex.specs.declared.token.Token.{Token}
 use Rattle.kp_lex.specs.Cutting.{Cut}
 use Rattle.kp_lex.proofs.Spans.{each_token}
@@ -16,9 +15,9 @@ use Rattle.kp_grammar.specs.Reading.{At, stop}
 use Rattle.kp_parts.specs.declared.halt.Halt.{Halt}
 use Rattle.kp_parts.specs.declared.halt.Halt.TheVariants as halts
 use Rattle.kp_parts.specs.declared.lexeme.Lexeme.{Lexeme}
-use Rattle.kp_tree.specs.Files.{ReadsShallow, RefusedAt, AnswersTokens, refusal_at, byte_at}
+use Rattle.kp_tree.specs.Files.{RefusedAt, AnswersTokens}
 use Rattle.kp_parts.specs.Lexemes.{tok, toks, from}
-use Rattle.kp_parts.specs.Readers.{GivesAll, Fails, unsupported, whole_at}
+use Rattle.kp_parts.specs.Readers.{Fails, unsupported, whole_at}
 use Rattle.kp_tree.specs.Refusals.{IsTold}
 use Rattle.kp_tree.proofs.Whole.{is_read, is_refused}
 

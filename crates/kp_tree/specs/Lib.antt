@@ -1,4 +1,2 @@
 pub mod Files
-pub mod Sections
-pub mod Givens
 pub mod Refusals

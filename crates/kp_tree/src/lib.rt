@@ -1,12 +1,9 @@
 //! Trees of whole files, and the exact place of each refusal. `specs/Files.antt` says which files are read and how the others are refused.
 #![tactic(auto)]
 
-mod domains;
 mod file;
 mod laws;
 mod parse;
-mod problems;
-mod sections;
 
 pub use file::{read_domain, read_problem};
 pub use kp_grammar::{

@@ -1,6 +1,7 @@
 ghost use Rattle.std.specs.Prelude.{◌≡◌, ◌≤◌, drop, length};
 ghost use Rattle.kp_lex.specs.Cutting.{Cut};
 ghost use Rattle.kp_base.specs.declared.refused.Part.TheVariants as parts;
+ghost use Rattle.kp_grammar.specs.Depth.{levels};
 ghost use Rattle.kp_grammar.specs.Grammar.{domain, problem};
 ghost use Rattle.kp_grammar.specs.Symbols.{all_seen_in};
 ghost use Rattle.kp_tree.specs.Files.{AnswersTokens, byte_at};
@@ -9,17 +10,20 @@ ghost use Rattle.kp_nodes.specs.Nodes.{domain_view, problem_view};
 ghost use Rattle.kp_parts.specs.Readers.{GivesAll, whole_at};
 ghost use Rattle.kp_tree.specs.Refusals.{IsTold};
 
-use crate::domains::domain;
-use crate::problems::problem;
 use bumpalo::Bump;
 use kp_base::{Part, Refused, Row, Stop};
 use kp_lex::{Token, place};
 use kp_nodes::{DomainNode, ProblemNode};
 use kp_parts::{Halt, Lexeme, lexemes, peek};
+use kp_sections::{domain, problem};
 use std::alloc::Global;
 
 // So many brackets may be open at once.
-const LEVELS: u32 = 64;
+fn levels() -> u32
+    ensures { result ≡ levels }
+{
+    64
+}
 
 // The first byte of a token, or the end of the text where no token has the number.
 fn byte_of(bytes: &[u8], tokens: &[Token], number: usize) -> u32
@@ -54,11 +58,11 @@ fn told(part: Part, bytes: &[u8], tokens: &[Token], halt: Halt) -> Stop
 }
 
 // The domain that all the tokens are.
-#[tactic(auto, unfolding(kp_parts::specs::Readers::whole_at, crate::specs::Sections::domain_at))]
+#[tactic(auto, unfolding(kp_parts::specs::Readers::whole_at, kp_sections::specs::Sections::domain_at))]
 fn whole_domain<'a>(bump: &'a Bump, tokens: &[Lexeme<'a>]) -> Result<DomainNode<'a>, Halt>
     ensures { GivesAll tokens.now domain_view result (whole_at domain (toks tokens.now)) }
 {
-    let (domain, at) = domain(bump, tokens, 0, LEVELS)?;
+    let (domain, at) = domain(bump, tokens, 0, levels())?;
     match peek(tokens, at) {
         None => Ok(domain),
         Some(_) => Err(Halt::Syntax(at)),
@@ -66,7 +70,7 @@ fn whole_domain<'a>(bump: &'a Bump, tokens: &[Lexeme<'a>]) -> Result<DomainNode<
 }
 
 // The problem that all the tokens are.
-#[tactic(auto, unfolding(kp_parts::specs::Readers::whole_at, crate::specs::Givens::problem_at))]
+#[tactic(auto, unfolding(kp_parts::specs::Readers::whole_at, kp_sections::specs::Givens::problem_at))]
 fn whole_problem<'a>(
     bump: &'a Bump,
     alloc: Global,
@@ -74,7 +78,7 @@ fn whole_problem<'a>(
 ) -> Result<ProblemNode<'a>, Halt>
     ensures { GivesAll tokens.now problem_view result (whole_at problem (toks tokens.now)) }
 {
-    let (problem, at) = problem(bump, alloc, tokens, 0, LEVELS)?;
+    let (problem, at) = problem(bump, alloc, tokens, 0, levels())?;
     match peek(tokens, at) {
         None => Ok(problem),
         Some(_) => Err(Halt::Syntax(at)),

@@ -1,10 +1,10 @@
-use Rattle.std.proofs.Common.{◌≡◌, ◌≤◌, ◌-◌, ◌+◌, ◌*◌, length, map}
+use Rattle.std.proofs.Common.{◌≡◌, ◌≤◌, ◌-◌, length, map}
 use Rattle.kp_grammar.specs.Symbols.{is_left}
 use Rattle.kp_grammar.specs.Grammar.{pred}
 use Rattle.kp_parts.specs.Lexemes.{from}
 use Rattle.kp_nodes.specs.Nodes.{pred_view}
 use Rattle.kp_parts.proofs.Loops.{all_of, with_front}
-use Rattle.kp_tree.proofs.sections.preds.Given as goal
+use Rattle.kp_sections.proofs.sections.preds.Given as goal
 
 abbrev pub invariant-more : goal.invariant-more
 invariant-more l = record {

@@ -2,10 +2,10 @@ use Rattle.std.proofs.Common.{refl, sym, ◌∙◌, arith}
 use Rattle.std.proofs.lemmas.Result.{err_from_is_err_and}
 use Rattle.kp_grammar.specs.Symbols.{is_left, is_goal}
 use Rattle.kp_grammar.specs.Grammar.{given, has_stood}
-use Rattle.kp_tree.specs.Givens.{given_view, given_at, givens_at}
+use Rattle.kp_sections.specs.Givens.{given_at, givens_at}
 use Rattle.kp_parts.proofs.Loops.{run_goes_on, run_ends, run_done, run_lacks}
-use Rattle.kp_tree.proofs.Stating.{given_more, goal_is}
-use Rattle.kp_tree.proofs.problems.givens.Goals as goal
+use Rattle.kp_sections.proofs.Stating.{given_more, goal_is}
+use Rattle.kp_sections.proofs.problems.givens.Goals as goal
 
 pub returns-in_err-part-clause-reads : goal.returns-in_err-part-clause-reads
 unfolding given_at givens_at
@@ -18,7 +18,7 @@ pub more-preserved : goal.more-preserved
 unfolding given_at givens_at
 more-preserved c =
     let k = c.more.invariant.kept in
-    let e = c.in_ok-keep.ensures in
+    let e = c.in_ok-keep_given.ensures in
     record {
       onward = omega (arith, c.in_ok-part.ensures.onward.0);
       in_range = omega (arith, c.in_ok-part.ensures.onward.1);

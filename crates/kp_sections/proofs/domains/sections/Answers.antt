@@ -2,10 +2,10 @@ use Rattle.std.proofs.Common.{refl, sym, ◌∙◌, arith}
 use Rattle.std.proofs.lemmas.Result.{err_from_is_err_and}
 use Rattle.kp_grammar.specs.Symbols.{is_left}
 use Rattle.kp_grammar.specs.Grammar.{section}
-use Rattle.kp_tree.specs.Sections.{section_at, sections_at}
+use Rattle.kp_sections.specs.Sections.{section_at, sections_at}
 use Rattle.kp_parts.proofs.Loops.{goes_on, ends, is_done}
-use Rattle.kp_tree.proofs.Joining.{section_more}
-use Rattle.kp_tree.proofs.domains.sections.Goals as goal
+use Rattle.kp_sections.proofs.Joining.{section_more}
+use Rattle.kp_sections.proofs.domains.sections.Goals as goal
 
 pub returns-in_err-part-clause-reads : goal.returns-in_err-part-clause-reads
 unfolding section_at sections_at
@@ -18,7 +18,7 @@ pub more-preserved : goal.more-preserved
 unfolding section_at sections_at
 more-preserved c =
     let k = c.more.invariant.kept in
-    let e = c.in_ok-keep.ensures in
+    let e = c.in_ok-keep_section.ensures in
     record {
       onward = omega (arith, c.in_ok-part.ensures.onward.0);
       in_range = omega (arith, c.in_ok-part.ensures.onward.1);

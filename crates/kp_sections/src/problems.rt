@@ -1,76 +1,19 @@
-ghost use Rattle.std.specs.Prelude.{◌≡◌, ◌<◌, ◌≤◌, ◌++◌, length, map, IfOk, OnOk};
-ghost use Rattle.kp_grammar.specs.Grammar.{has_stood};
-ghost use Rattle.kp_grammar.specs.Trees.{given_objects, given_items};
+ghost use Rattle.std.specs.Prelude.{◌<◌, ◌≤◌, length, IfOk};
 ghost use Rattle.kp_parts.specs.Lexemes.{from};
-ghost use Rattle.kp_nodes.specs.Nodes.{typed_view, item_view, cond_view, problem_view};
+ghost use Rattle.kp_nodes.specs.Nodes.{problem_view};
 ghost use Rattle.kp_parts.specs.Readers.{Gives};
-ghost use Rattle.kp_tree.specs.Givens.{GivesGivens, once_test, seen_after, given_view, goal_view, goal_after, goal_or_true, given_inside_at, given_at, givens_at, problem_inside_at, problem_at};
+ghost use Rattle.kp_stated.specs.Parts.{seen_after, given_view};
+ghost use Rattle.kp_sections.specs.Givens.{GivesGivens, given_inside_at, given_at, givens_at, problem_inside_at, problem_at};
 
 use bumpalo::Bump;
-use bumpalo::collections::into_bump_slice;
-use kp_base::Memory;
 use kp_grammar::Symbol;
-use kp_nodes::{CondNode, ItemNode, ProblemNode, TypedNode};
+use kp_nodes::ProblemNode;
 use kp_parts::{
-    Class, Halt, Lead, Lexeme, Mode, append, close, cond, follow, is_left, items, no_condition,
-    peek, skip_keywords, skip_name, title, typed,
+    Class, Halt, Lead, Lexeme, Mode, close, cond, follow, is_left, items, peek, skip_keywords,
+    skip_name, title, typed,
 };
+use kp_stated::{Once, ProblemPart, Stated, as_problem, has_stood, keep_given, note};
 use std::alloc::Global;
-
-/// A section of a problem that stands at most once.
-#[derive(Clone, Copy, Debug, PartialEq, Eq)]
-pub enum Once {
-    /// `:domain`
-    OfDomain,
-    /// `:init`
-    Init,
-    /// `:goal`
-    Goal,
-}
-
-/// A section of a problem.
-#[derive(Drop)]
-pub enum ProblemPart<'a> {
-    /// The domain's name, which isn't kept.
-    OfDomain,
-    /// Requirements, which aren't kept.
-    Requirements,
-    /// Objects with their types.
-    Objects(Vec<TypedNode<'a>, &'a Bump>),
-    /// What is stated of the initial state.
-    Init(Vec<ItemNode<'a>, &'a Bump>),
-    /// The goal.
-    Goal(CondNode<'a>),
-}
-
-/// What the sections of a problem that stood so far state.
-#[derive(Drop)]
-pub struct Stated<'a> {
-    /// The objects.
-    pub objects: Vec<TypedNode<'a>, &'a Bump>,
-    /// What is stated of the initial state.
-    pub init: Vec<ItemNode<'a>, &'a Bump>,
-    /// The goal, if it stood.
-    pub goal: Option<CondNode<'a>>,
-}
-
-// Whether the symbol is the section's keyword.
-fn is_once(symbol: Symbol, once: Once) -> bool
-    ensures { result ≡ once_test once symbol }
-{
-    match once {
-        Once::OfDomain => matches!(symbol, Symbol::OfDomain),
-        Once::Init => matches!(symbol, Symbol::Init),
-        Once::Goal => matches!(symbol, Symbol::Goal),
-    }
-}
-
-// Whether the section has stood.
-fn has_stood(seen: &[Symbol], once: Once) -> bool
-    ensures { result ≡ has_stood (once_test once) seen.now }
-{
-    seen.iter().any(|s| is_once(*s, once))
-}
 
 // What stands between the brackets of a section, where some have stood.
 #[tactic(auto, unfolding(crate::specs::Givens::given_inside_at, kp_parts::specs::Readers::name_at, kp_parts::specs::Readers::keywords_at, kp_parts::specs::Readers::typed_at, kp_parts::specs::Readers::items_at, kp_parts::specs::Readers::cond_at))]
@@ -142,53 +85,6 @@ fn given<'a>(
     Ok((part, at))
 }
 
-// Notes that a section has stood, the latest first.
-fn note(seen: &mut Vec<Symbol>, part: &ProblemPart) -> Result<(), Memory>
-    ensures { OnOk result (seen.new.items ≡ seen_after part.now seen.old.items) }
-{
-    match part {
-        ProblemPart::OfDomain => seen.insert(0, Symbol::OfDomain)?,
-        ProblemPart::Init(_) => seen.insert(0, Symbol::Init)?,
-        ProblemPart::Goal(_) => seen.insert(0, Symbol::Goal)?,
-        ProblemPart::Requirements | ProblemPart::Objects(_) => {}
-    }
-    Ok(())
-}
-
-// Adds what a section states. The first goal is the one.
-fn keep<'a>(stated: &mut Stated<'a>, part: ProblemPart<'a>) -> Result<(), Memory>
-    ensures objects { OnOk result (map typed_view stated.new.objects.items ≡ map typed_view stated.old.objects.items ++ given_objects (given_view part.entry)) }
-    ensures init { OnOk result (map item_view stated.new.init.items ≡ map item_view stated.old.init.items ++ given_items (given_view part.entry)) }
-    ensures goal { OnOk result (goal_view stated.new.goal ≡ goal_after (given_view part.entry) (goal_view stated.old.goal)) }
-{
-    match part {
-        ProblemPart::OfDomain | ProblemPart::Requirements => Ok(()),
-        ProblemPart::Objects(objects) => append(&mut stated.objects, objects),
-        ProblemPart::Init(init) => append(&mut stated.init, init),
-        ProblemPart::Goal(goal) => {
-            stated.goal = stated.goal.or(Some(goal));
-            Ok(())
-        }
-    }
-}
-
-// The problem of all that is stated.
-fn as_problem<'a>(stated: Stated<'a>) -> ProblemNode<'a>
-    ensures objects { result.objects.now ≡ stated.entry.objects.items }
-    ensures init { result.init.now ≡ stated.entry.init.items }
-    ensures goal { cond_view result.goal ≡ goal_or_true (goal_view stated.entry.goal) }
-{
-    let goal = match stated.goal {
-        Some(goal) => goal,
-        None => no_condition(),
-    };
-    ProblemNode {
-        objects: into_bump_slice(stated.objects),
-        init: into_bump_slice(stated.init),
-        goal,
-    }
-}
-
 // Sections, as many as stand there, with exactly one goal.
 fn givens<'a>(
     bump: &'a Bump,
@@ -212,7 +108,7 @@ fn givens<'a>(
         let before = seen.as_slice();
         let (part, after) = given(bump, tokens, at, levels, before)?;
         note(&mut seen, &part)?;
-        keep(&mut stated, part)?;
+        keep_given(&mut stated, part)?;
         at = after;
     }
     let all = seen.as_slice();

@@ -4,8 +4,8 @@ use Rattle.kp_grammar.specs.Grammar.{section}
 use Rattle.kp_parts.specs.Lexemes.{from}
 use Rattle.kp_nodes.specs.Nodes.{typed_view, pred_view, schema_view}
 use Rattle.kp_parts.proofs.Loops.{all_of}
-use Rattle.kp_tree.proofs.Joining.{Sections}
-use Rattle.kp_tree.proofs.domains.sections.Given as goal
+use Rattle.kp_sections.proofs.Joining.{Sections}
+use Rattle.kp_sections.proofs.domains.sections.Given as goal
 
 abbrev pub invariant-more : goal.invariant-more
 invariant-more l = record {

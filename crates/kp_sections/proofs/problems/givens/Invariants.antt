@@ -3,10 +3,10 @@ use Rattle.kp_grammar.specs.Symbols.{is_left, is_goal}
 use Rattle.kp_grammar.specs.Grammar.{given, has_stood}
 use Rattle.kp_parts.specs.Lexemes.{from}
 use Rattle.kp_nodes.specs.Nodes.{typed_view, item_view}
-use Rattle.kp_tree.specs.Givens.{goal_view}
+use Rattle.kp_stated.specs.Parts.{goal_view}
 use Rattle.kp_parts.proofs.Loops.{run_of}
-use Rattle.kp_tree.proofs.Stating.{Givens}
-use Rattle.kp_tree.proofs.problems.givens.Given as goal
+use Rattle.kp_sections.proofs.Stating.{Givens}
+use Rattle.kp_sections.proofs.problems.givens.Given as goal
 
 abbrev pub invariant-more : goal.invariant-more
 invariant-more l = record {

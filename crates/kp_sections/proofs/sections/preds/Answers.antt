@@ -1,4 +1,4 @@
-use Rattle.std.proofs.Common.{◌≡◌, ◌++◌, ◌∷◌, [], sym, ◌∙◌, map, refl, arith}
+use Rattle.std.proofs.Common.{◌≡◌, ◌++◌, ◌∷◌, [], sym, ◌∙◌, map, arith}
 use Rattle.std.proofs.lemmas.Result.{err_from_is_err_and}
 use Rattle.std.proofs.lemmas.List.{map_push}
 use Rattle.kp_grammar.specs.Symbols.{is_left}
@@ -6,7 +6,7 @@ use Rattle.kp_grammar.specs.Grammar.{pred}
 use Rattle.kp_nodes.specs.Nodes.{pred_view}
 use Rattle.kp_parts.specs.Readers.{pred_at, preds_at}
 use Rattle.kp_parts.proofs.Loops.{goes_on, ends, is_done}
-use Rattle.kp_tree.proofs.sections.preds.Goals as goal
+use Rattle.kp_sections.proofs.sections.preds.Goals as goal
 
 pub returns-in_err-part-clause-reads : goal.returns-in_err-part-clause-reads
 unfolding pred_at preds_at

@@ -1,48 +1,18 @@
-ghost use Rattle.std.specs.Prelude.{◌≡◌, ◌<◌, ◌≤◌, ◌++◌, length, map, IfOk, OnOk};
-ghost use Rattle.kp_grammar.specs.Trees.{section_types, section_constants, section_predicates, section_schemas};
+ghost use Rattle.std.specs.Prelude.{◌<◌, ◌≤◌, length, IfOk};
 ghost use Rattle.kp_parts.specs.Lexemes.{from};
-ghost use Rattle.kp_nodes.specs.Nodes.{typed_view, pred_view, schema_view, domain_view};
+ghost use Rattle.kp_nodes.specs.Nodes.{domain_view};
 ghost use Rattle.kp_parts.specs.Readers.{Gives};
-ghost use Rattle.kp_tree.specs.Sections.{GivesSections, section_view, section_inside_at, section_at, sections_at, domain_inside_at, domain_at};
+ghost use Rattle.kp_stated.specs.Parts.{section_view};
+ghost use Rattle.kp_sections.specs.Sections.{GivesSections, section_inside_at, section_at, sections_at, domain_inside_at, domain_at};
 
 use crate::sections::{preds, schema};
 use bumpalo::Bump;
-use bumpalo::collections::into_bump_slice;
-use kp_base::Memory;
 use kp_grammar::Symbol;
-use kp_nodes::{DomainNode, PredNode, SchemaNode, TypedNode};
+use kp_nodes::DomainNode;
 use kp_parts::{
-    Class, Halt, Lead, Lexeme, add, append, close, follow, is_left, peek, skip_keywords, title,
-    typed,
+    Class, Halt, Lead, Lexeme, close, follow, is_left, peek, skip_keywords, title, typed,
 };
-
-/// A section of a domain.
-#[derive(Drop)]
-pub enum DomainPart<'a> {
-    /// Requirements, which aren't kept.
-    Requirements,
-    /// Types with their parents.
-    Types(Vec<TypedNode<'a>, &'a Bump>),
-    /// Constants with their types.
-    Constants(Vec<TypedNode<'a>, &'a Bump>),
-    /// The declared predicates.
-    Predicates(Vec<PredNode<'a>, &'a Bump>),
-    /// An action.
-    Action(SchemaNode<'a>),
-}
-
-/// What the sections of a domain that stood so far declare.
-#[derive(Drop)]
-pub struct Declared<'a> {
-    /// The types.
-    pub kinds: Vec<TypedNode<'a>, &'a Bump>,
-    /// The constants.
-    pub constants: Vec<TypedNode<'a>, &'a Bump>,
-    /// The predicates.
-    pub predicates: Vec<PredNode<'a>, &'a Bump>,
-    /// The actions.
-    pub schemas: Vec<SchemaNode<'a>, &'a Bump>,
-}
+use kp_stated::{Declared, DomainPart, as_domain, keep_section};
 
 // What stands between the brackets of a section.
 #[tactic(auto, unfolding(crate::specs::Sections::section_inside_at, kp_parts::specs::Readers::keywords_at, kp_parts::specs::Readers::typed_at, kp_parts::specs::Readers::preds_at, kp_parts::specs::Readers::schema_at))]
@@ -109,22 +79,6 @@ fn section<'a>(
     Ok((part, at))
 }
 
-// Adds what a section declares.
-fn keep<'a>(declared: &mut Declared<'a>, part: DomainPart<'a>) -> Result<(), Memory>
-    ensures kinds { OnOk result (map typed_view declared.new.kinds.items ≡ map typed_view declared.old.kinds.items ++ section_types (section_view part.entry)) }
-    ensures constants { OnOk result (map typed_view declared.new.constants.items ≡ map typed_view declared.old.constants.items ++ section_constants (section_view part.entry)) }
-    ensures predicates { OnOk result (map pred_view declared.new.predicates.items ≡ map pred_view declared.old.predicates.items ++ section_predicates (section_view part.entry)) }
-    ensures schemas { OnOk result (map schema_view declared.new.schemas.items ≡ map schema_view declared.old.schemas.items ++ section_schemas (section_view part.entry)) }
-{
-    match part {
-        DomainPart::Requirements => Ok(()),
-        DomainPart::Types(kinds) => append(&mut declared.kinds, kinds),
-        DomainPart::Constants(constants) => append(&mut declared.constants, constants),
-        DomainPart::Predicates(predicates) => append(&mut declared.predicates, predicates),
-        DomainPart::Action(schema) => add(&mut declared.schemas, schema),
-    }
-}
-
 // Sections, as many as stand there.
 fn sections<'a>(
     bump: &'a Bump,
@@ -145,25 +99,10 @@ fn sections<'a>(
     let mut at = start;
     'more: while is_left(tokens, at) {
         let (part, after) = section(bump, tokens, at, levels)?;
-        keep(&mut declared, part)?;
+        keep_section(&mut declared, part)?;
         at = after;
     }
     Ok((as_domain(declared), at))
-}
-
-// The domain of all that is declared.
-fn as_domain<'a>(declared: Declared<'a>) -> DomainNode<'a>
-    ensures kinds { result.kinds.now ≡ declared.entry.kinds.items }
-    ensures constants { result.constants.now ≡ declared.entry.constants.items }
-    ensures predicates { result.predicates.now ≡ declared.entry.predicates.items }
-    ensures schemas { result.schemas.now ≡ declared.entry.schemas.items }
-{
-    DomainNode {
-        kinds: into_bump_slice(declared.kinds),
-        constants: into_bump_slice(declared.constants),
-        predicates: into_bump_slice(declared.predicates),
-        schemas: into_bump_slice(declared.schemas),
-    }
 }
 
 // define ( domain Name ) and the sections

@@ -4,9 +4,9 @@ use Rattle.std.specs.List.{flat_map}
 use Rattle.kp_grammar.specs.declared.tree.Word.{Word}
 use Rattle.kp_grammar.specs.Trees.{Typed, Item, Cond, Given, given_objects, given_items, goal_of}
 use Rattle.kp_grammar.specs.Parsing.{Outcome}
-use Rattle.kp_tree.specs.Givens.{goal_after, goal_or_true}
+use Rattle.kp_stated.specs.Parts.{goal_after, goal_or_true}
 use Rattle.kp_parts.proofs.Loops.{with_front}
-use Rattle.kp_tree.proofs.Joining.{kept}
+use Rattle.kp_sections.proofs.Joining.{kept}
 
 -- the first goal
 abbrev goal_before : Given Word → Option (Cond Word) → Option (Cond Word)
