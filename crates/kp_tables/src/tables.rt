@@ -68,7 +68,6 @@ fn types_of<'a>(alloc: Global, domain: &'a Domain) -> Result<NameSet<'a>, Memory
     Ok(names)
 }
 
-#[tactic(auto, using(crate::proofs::Gathering::objects_gathered))]
 fn objects_of<'a>(
     alloc: Global,
     domain: &'a Domain,

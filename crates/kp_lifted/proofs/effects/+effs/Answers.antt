@@ -1,4 +1,4 @@
-use Rattle.std.proofs.Common.{◌≡◌, ◌∙◌, sym, ap, map}
+use Rattle.std.proofs.Common.{◌∙◌, sym, ap, map}
 use Rattle.kp_grammar.specs.View.{eff_view as tree_view, domain_view, problem_view}
 use Rattle.kp_meaning.specs.Numbering.{numbered_eff}
 use Rattle.kp_lifted.proofs.Views.{all_effs}
