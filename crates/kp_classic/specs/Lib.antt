@@ -1,3 +1,4 @@
 pub mod Fits
+pub mod Packed
 pub mod States
 pub mod Steps

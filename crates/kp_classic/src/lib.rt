@@ -2,6 +2,14 @@
 //! step is.
 #![tactic(auto)]
 
+mod conds;
+mod runs;
+mod state;
+mod steps;
 mod task;
 
+pub use conds::{applicable, meets};
+pub use runs::start;
+pub use state::State;
+pub use steps::step_into;
 pub use task::{Conds, Op, OpEffect, Task};

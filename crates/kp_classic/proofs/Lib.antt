@@ -1,0 +1,4 @@
+pub mod Fitting
+pub mod Ordered
+pub mod States
+pub mod Stepping

@@ -1,0 +1,74 @@
+-- Steps and runs from tests that agree on the facts of a task.
+use Rattle.std.proofs.Common.{◌≡◌, ◌<◌, ◌&&◌, ◌||◌, ℕ, Bool, true, false, not, List, [], ◌∷◌, Option, Some, None, length, nat_eq, nat_lt, slice_get, refl, sym, ap, ap₂, ◌∙◌}
+use Rattle.std.specs.Bool.{beq}
+use Rattle.std.specs.List.{list_any, list_all}
+use Rattle.std.proofs.lemmas.Bool.{and_parts, ltb-true}
+use Rattle.kp_base.specs.Lists.{Member}
+use Rattle.kp_base.proofs.Lists.{all_member, all_alike, any_alike}
+use Rattle.kp_classic.specs.declared.task.Conds.{Conds}
+use Rattle.kp_classic.specs.declared.task.OpEffect.{OpEffect}
+use Rattle.kp_classic.specs.declared.task.Op.{Op}
+use Rattle.kp_classic.specs.declared.task.Task.{Task}
+use Rattle.kp_classic.specs.Fits.{are_below, fits, fits_effect, fits_op, IsFit}
+use Rattle.kp_classic.specs.States.{FactSet, has, state_of}
+use Rattle.kp_classic.specs.Steps.{Holding, meets, fires, after, applicable, next, runs, holding_after, succeeds}
+use Rattle.kp_classic.proofs.Fitting.{OpFits, op_fits}
+use Rattle.kp_classic.proofs.States.{is_state, has_those}
+
+-- a state in which the facts hold that hold after a step
+pub stepped : (t : Task) (k : ℕ) (o : Op) (s : Holding) (new : FactSet) → slice_get t.ops k ≡ Some o → new ≡ state_of new.facts (has new.hold) → new.facts ≡ length t.facts → ((f : ℕ) → f < length t.facts → has new.hold f ≡ (fires o.effects s true f || (s f && not (fires o.effects s false f)))) → new ≡ state_of (length t.facts) (next (slice_get t.ops k) s)
+stepped t k o s new at ascends len each = is_state new (length t.facts) (after o s) ascends len each ∙ ap (λ x. state_of (length t.facts) (next x s)) (sym at)
+
+-- two tests agree on the first n facts
+pub record Agree (n : ℕ) (p q : Holding) : Type 0 where
+  pub each : (f : ℕ) → f < n → p f ≡ q f
+
+pub agree_those : (n : ℕ) (p : Holding) → Agree n (has (state_of n p).hold) p
+agree_those n p = record { each = has_those n p }
+
+pub agree_trans : (n : ℕ) (p q r : Holding) → Agree n p q → Agree n q r → Agree n p r
+agree_trans n p q r a b = record { each = λ f lt. a.each f lt ∙ b.each f lt }
+
+module _ (n : ℕ) (p q : Holding) (same : Agree n p q) where
+  below : (fs : List ℕ) → are_below n fs ≡ true → (f : ℕ) → Member fs f → p f ≡ q f
+  below fs h f m = same.each f (ltb-true f n (all_member (λ x. nat_lt x n) fs f m h))
+
+  pub meets_alike : (c : Conds) → fits n c ≡ true → meets c p ≡ meets c q
+  meets_alike c h =
+      let both = and_parts (are_below n c.yes) (are_below n c.no) h in
+      ap₂ (λ a b. a && b) (all_alike p q c.yes (below c.yes both.0)) (all_alike (λ f. not (p f)) (λ f. not (q f)) c.no (λ f m. ap not (below c.no both.1 f m)))
+
+  pub fires_alike : (es : List OpEffect) → list_all (fits_effect n) es ≡ true → (adds : Bool) (f : ℕ) → fires es p adds f ≡ fires es q adds f
+  fires_alike es h adds f =
+      any_alike (λ (e : OpEffect). beq adds e.adds && (nat_eq f e.fact && meets e.cond p)) (λ (e : OpEffect). beq adds e.adds && (nat_eq f e.fact && meets e.cond q)) es (λ e m.
+      let fit = and_parts (nat_lt e.fact n) (fits n e.cond) (all_member (fits_effect n) es e m h) in
+      ap (λ b. beq adds e.adds && (nat_eq f e.fact && b)) (meets_alike e.cond fit.1))
+
+  pub after_alike : (o : Op) → OpFits n o → Agree n (after o p) (after o q)
+  after_alike o h = record {
+    each = λ f lt. ap₂ (λ a b. a || b) (fires_alike o.effects h.effects true f) (ap₂ (λ a b. a && not b) (same.each f lt) (fires_alike o.effects h.effects false f));
+  }
+
+-- the operators of a task that fits do the same from both
+module _ (t : Task) (fit : IsFit t) where
+  pub applicable_alike : (k : ℕ) (p q : Holding) → Agree (length t.facts) p q → applicable (slice_get t.ops k) p ≡ applicable (slice_get t.ops k) q
+  applicable_alike k p q same = go (slice_get t.ops k) refl
+    where
+      go : (o : Option Op) → slice_get t.ops k ≡ o → applicable o p ≡ applicable o q
+      go None e = refl
+      go (Some o) e = meets_alike (length t.facts) p q same o.pre (op_fits t k (length t.facts) o fit refl e).pre
+
+  pub next_alike : (k : ℕ) (p q : Holding) → Agree (length t.facts) p q → Agree (length t.facts) (next (slice_get t.ops k) p) (next (slice_get t.ops k) q)
+  next_alike k p q same = go (slice_get t.ops k) refl
+    where
+      go : (o : Option Op) → slice_get t.ops k ≡ o → Agree (length t.facts) (next o p) (next o q)
+      go None e = same
+      go (Some o) e = after_alike (length t.facts) p q same o (op_fits t k (length t.facts) o fit refl e)
+
+  pub runs_alike : (ks : List ℕ) (p q : Holding) → Agree (length t.facts) p q → runs t p ks ≡ runs t q ks
+  runs_alike [] p q same = refl
+  runs_alike (k ∷ ks) p q same = ap₂ (λ a b. a && b) (applicable_alike k p q same) (runs_alike ks (next (slice_get t.ops k) p) (next (slice_get t.ops k) q) (next_alike k p q same))
+
+  pub holding_alike : (ks : List ℕ) (p q : Holding) → Agree (length t.facts) p q → Agree (length t.facts) (holding_after t p ks) (holding_after t q ks)
+  holding_alike [] p q same = same
+  holding_alike (k ∷ ks) p q same = holding_alike ks (next (slice_get t.ops k) p) (next (slice_get t.ops k) q) (next_alike k p q same)
