@@ -1,6 +1,6 @@
 -- Steps and runs from tests that agree on the facts of a task.
-use Rattle.std.proofs.Common.{◌≡◌, ◌<◌, ◌&&◌, ◌||◌, ℕ, Bool, true, false, not, List, [], ◌∷◌, Option, Some, None, length, nat_eq, nat_lt, slice_get, refl, sym, ap, ap₂, ◌∙◌}
-use Rattle.std.specs.Bool.{beq}
+use Rattle.std.proofs.Common.{◌≡◌, ◌<◌, ◌&&◌, ◌||◌, ℕ, Bool, true, false, not, List, [], ◌∷◌, Option, Some, None, length, nat_eq, nat_lt, slice_get, IsTrue, refl, sym, ap, ap₂, subst, ◌∙◌}
+use Rattle.std.specs.Bool.{beq, then_some}
 use Rattle.std.specs.List.{list_any, list_all}
 use Rattle.std.proofs.lemmas.Bool.{and_parts, ltb-true}
 use Rattle.kp_base.specs.Lists.{Member}
@@ -11,9 +11,10 @@ use Rattle.kp_classic.specs.declared.task.Op.{Op}
 use Rattle.kp_classic.specs.declared.task.Task.{Task}
 use Rattle.kp_classic.specs.Fits.{are_below, fits, fits_effect, fits_op, IsFit}
 use Rattle.kp_classic.specs.States.{FactSet, has, state_of}
-use Rattle.kp_classic.specs.Steps.{Holding, meets, fires, after, applicable, next, runs, holding_after, succeeds}
+use Rattle.kp_classic.specs.Runs.{outcome}
+use Rattle.kp_classic.specs.Steps.{Holding, meets, fires, after, applicable, next, start, runs, holding_after, succeeds}
 use Rattle.kp_classic.proofs.Fitting.{OpFits, op_fits}
-use Rattle.kp_classic.proofs.States.{is_state, has_those}
+use Rattle.kp_classic.proofs.States.{is_state, has_those, those_alike}
 
 -- a state in which the facts hold that hold after a step
 pub stepped : (t : Task) (k : ℕ) (o : Op) (s : Holding) (new : FactSet) → slice_get t.ops k ≡ Some o → new ≡ state_of new.facts (has new.hold) → new.facts ≡ length t.facts → ((f : ℕ) → f < length t.facts → has new.hold f ≡ (fires o.effects s true f || (s f && not (fires o.effects s false f)))) → new ≡ state_of (length t.facts) (next (slice_get t.ops k) s)
@@ -72,3 +73,35 @@ module _ (t : Task) (fit : IsFit t) where
   pub holding_alike : (ks : List ℕ) (p q : Holding) → Agree (length t.facts) p q → Agree (length t.facts) (holding_after t p ks) (holding_after t q ks)
   holding_alike [] p q same = same
   holding_alike (k ∷ ks) p q same = holding_alike ks (next (slice_get t.ops k) p) (next (slice_get t.ops k) q) (next_alike k p q same)
+
+-- the rest of some operators from what holds in between, and all of them from what held at first, lead to the same
+pub record Rests (t : Task) (rest : List ℕ) (s : Holding) (all : List ℕ) (first : Holding) : Type 0 where
+  pub runs : runs t s rest ≡ runs t first all
+  pub ends : Agree (length t.facts) (holding_after t s rest) (holding_after t first all)
+
+pub rests_at_first : (t : Task) (ks : List ℕ) (s : Holding) → Rests t ks s ks s
+rests_at_first t ks s = record { runs = refl; ends = record { each = λ f lt. refl } }
+
+-- one operator more was taken
+pub rests_more : (t : Task) → IsFit t → (k : ℕ) (ks all : List ℕ) (s first : Holding) (new : FactSet) → new ≡ state_of (length t.facts) (next (slice_get t.ops k) s) → applicable (slice_get t.ops k) s ≡ true → Rests t (k ∷ ks) s all first → Rests t ks (has new.hold) all first
+rests_more t fit k ks all s first new is may r =
+    let step = next (slice_get t.ops k) s in
+    let agree = subst (λ (x : FactSet). Agree (length t.facts) (has x.hold) step) (sym is) (agree_those (length t.facts) step) in
+    record {
+      runs = runs_alike t fit ks (has new.hold) step agree ∙ (sym (ap (λ b. b && runs t step ks) may) ∙ r.runs);
+      ends = agree_trans (length t.facts) _ _ _ (holding_alike t fit ks (has new.hold) step agree) r.ends;
+    }
+
+-- where operators lead from the state at the start
+pub outcome_is : (t : Task) → IsFit t → (ks : List ℕ) (s end : FactSet) (b : Bool) → s ≡ state_of (length t.facts) (start t) → b ≡ runs t (has s.hold) ks → (IsTrue b → end ≡ state_of (length t.facts) (holding_after t (has s.hold) ks)) → then_some b end ≡ outcome t ks
+outcome_is t fit ks s end b is ran ends = go b (ran ∙ runs_alike t fit ks (has s.hold) (start t) agree) ends
+  where
+    agree : Agree (length t.facts) (has s.hold) (start t)
+    agree = subst (λ (x : FactSet). Agree (length t.facts) (has x.hold) (start t)) (sym is) (agree_those (length t.facts) (start t))
+
+    at_end : state_of (length t.facts) (holding_after t (has s.hold) ks) ≡ state_of (length t.facts) (holding_after t (start t) ks)
+    at_end = ap (λ (fs : List ℕ). record { facts = length t.facts; hold = fs }) (those_alike (length t.facts) _ _ (holding_alike t fit ks (has s.hold) (start t) agree).each)
+
+    go : (b : Bool) → b ≡ runs t (start t) ks → (IsTrue b → end ≡ state_of (length t.facts) (holding_after t (has s.hold) ks)) → then_some b end ≡ outcome t ks
+    go true e f = rw (← e) (ap Some (f refl ∙ at_end))
+    go false e f = rw (← e) refl

@@ -9,7 +9,7 @@ mod steps;
 mod task;
 
 pub use conds::{applicable, meets};
-pub use runs::start;
+pub use runs::{run_ops, start};
 pub use state::State;
 pub use steps::step_into;
 pub use task::{Conds, Op, OpEffect, Task};
