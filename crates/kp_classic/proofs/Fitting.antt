@@ -1,14 +1,11 @@
 -- Tasks that fit, and what agrees on their facts.
-use Rattle.std.proofs.Common.{◌≡◌, ◌<◌, ◌&&◌, ◌||◌, ℕ, Bool, true, false, not, List, [], ◌∷◌, Option, Some, None, length, drop, nat_eq, nat_lt, slice_get, arith, refl, sym, ap, subst, ◌∙◌}
-use Rattle.std.specs.List.{list_any, list_all}
+use Rattle.std.proofs.Common.{◌≡◌, ℕ, true, Some, length, slice_get, sym, subst}
+use Rattle.std.specs.List.{list_all}
 use Rattle.std.proofs.lemmas.Bool.{and_parts}
-use Rattle.kp_base.specs.Lists.{Member}
-use Rattle.kp_base.proofs.Lists.{all_member, all_alike, any_alike, member_at}
-use Rattle.kp_classic.specs.declared.task.Conds.{Conds}
-use Rattle.kp_classic.specs.declared.task.OpEffect.{OpEffect}
+use Rattle.kp_base.proofs.Lists.{all_member, member_at}
 use Rattle.kp_classic.specs.declared.task.Op.{Op}
 use Rattle.kp_classic.specs.declared.task.Task.{Task}
-use Rattle.kp_classic.specs.Fits.{are_below, fits, fits_effect, fits_op, IsFit}
+use Rattle.kp_classic.specs.Fits.{fits, fits_effect, fits_op, IsFit}
 
 -- an operator of a task that fits
 pub record OpFits (n : ℕ) (o : Op) : Type 0 where

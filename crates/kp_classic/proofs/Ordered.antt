@@ -1,7 +1,7 @@
 -- The order of states, by the first fact in which they differ.
-use Rattle.std.proofs.Common.{◌≡◌, ◌≢◌, ◌<◌, ◌≤◌, ◌↔◌, ℕ, Bool, true, false, List, Some, length, slice_get, arith, refl, sym, ap, subst, ◌∙◌, inl, inr, Less, Equal, Greater, Ordering}
+use Rattle.std.proofs.Common.{◌≡◌, ◌≢◌, ◌<◌, ◌↔◌, ℕ, Bool, true, false, List, Some, length, slice_get, arith, sym, ap, subst, ◌∙◌, inl, inr, Less, Equal, Greater, Ordering}
 use Rattle.std.specs.Ordering.{bool_cmp}
-use Rattle.std.proofs.lemmas.Bool.{cases_eq, cases_lt}
+use Rattle.std.proofs.lemmas.Bool.{cases_lt}
 use Rattle.std.proofs.lemmas.Option.{slice_get-get_or}
 use Rattle.kp_bits.specs.Rows.{DifferFirst}
 use Rattle.kp_classic.specs.States.{FactSet, has, IsBefore}

@@ -1,13 +1,13 @@
 -- States as rows of truth values.
-use Rattle.std.proofs.Common.{◌≡◌, ◌≢◌, ◌<◌, ◌≤◌, ◌+◌, ◌↔◌, ℕ, zero, suc, Bool, true, false, not, ◌&&◌, ◌||◌, List, [], ◌∷◌, Some, length, set, replicate, length-set, get_or-set_same, get_or-set_other, filter, nat_eq, get_or, slice_get, arith, refl, sym, ap, subst, ◌∙◌, inl, inr}
-use Rattle.std.specs.List.{list_any, range_with_len}
+use Rattle.std.proofs.Common.{◌≡◌, ◌≢◌, ◌<◌, ◌≤◌, ◌+◌, ℕ, zero, suc, Bool, true, false, not, ◌&&◌, ◌||◌, List, [], ◌∷◌, ◌++◌, Some, length, set, replicate, length-set, get_or-set_same, get_or-set_other, filter, nat_eq, slice_get, arith, add-one, refl, sym, ap, subst, ◌∙◌, inl, inr}
+use Rattle.std.specs.List.{range_with_len}
 use Rattle.std.proofs.lemmas.Bool.{eqb-true, eq-eqb, ne_eqb, cases_eq, cases_lt}
 use Rattle.std.proofs.lemmas.List.{ext_get_or, get_or-replicate, length-replicate}
-use Rattle.std.proofs.lemmas.Option.{slice_get_within, slice_get-get_or}
-use Rattle.kp_base.specs.Lists.{Member}
+use Rattle.std.proofs.lemmas.List.Elements.{filter-append}
+use Rattle.std.proofs.lemmas.Option.{slice_get-get_or}
+use Rattle.kp_base.specs.Lists.{Member, only_if}
 use Rattle.kp_base.proofs.Lists.{bool_same, any_from, any_member, range_there, member_filter, filter_member}
-use Rattle.kp_bits.specs.Rows.{DifferFirst}
-use Rattle.kp_classic.specs.States.{FactSet, has, those, state_of, IsBefore}
+use Rattle.kp_classic.specs.States.{FactSet, has, those, state_of}
 use Rattle.kp_classic.specs.Packed.{bit, set_of}
 
 -- ---- the facts of a list that pass a test
@@ -28,9 +28,13 @@ has_those n p f lt = bool_same (has (those n p) f) (p f) forth back
     back : p f ≡ true → has (those n p) f ≡ true
     back h = any_from (nat_eq f) (those n p) f (member_filter p (range_with_len 0 n) f (range_there 0 n f (omega arith) (omega (arith, lt))) h) (eq-eqb f f refl)
 
+-- each of them is below the number
+pub those_below : (n : ℕ) (p : ℕ → Bool) (f : ℕ) → Member (those n p) f → f < n
+those_below n p f m = let lt = range_below 0 n f (filter_member p (range_with_len 0 n) f m).0 in omega (arith, lt)
+
 -- no fact past the number holds
 pub has_past : (n : ℕ) (p : ℕ → Bool) (f : ℕ) → n ≤ f → has (those n p) f ≡ false
-has_past n p f le = none (has (those n p) f) (λ h. let r = any_member (nat_eq f) (those n p) h in let e = eqb-true f r.0 r.2 in let lt = range_below 0 n r.0 (filter_member p (range_with_len 0 n) r.0 r.1).0 in absurd (omega (arith, e, lt, le)))
+has_past n p f le = none (has (those n p) f) (λ h. let r = any_member (nat_eq f) (those n p) h in let e = eqb-true f r.0 r.2 in let lt = those_below n p r.0 r.1 in absurd (omega (arith, e, lt, le)))
   where
     none : (b : Bool) → (b ≡ true → ⊥) → b ≡ false
     none true h = absurd (h refl)
@@ -102,3 +106,12 @@ clear_holds bits i f lt lf = elim (cases_eq f i) [
     and_true : (b : Bool) → (b && true) ≡ b
     and_true true = refl
     and_true false = refl
+
+-- ---- one fact more
+
+range_more : (a k : ℕ) → range_with_len a (suc k) ≡ range_with_len a k ++ (a + k) ∷ []
+range_more a zero = ap (λ x. x ∷ []) (omega arith)
+range_more a (suc k) = ap (λ xs. a ∷ xs) (range_more (a + 1) k ∙ ap (λ x. range_with_len (a + 1) k ++ x ∷ []) (omega arith))
+
+pub those_more : (k : ℕ) (p : ℕ → Bool) → those (k + 1) p ≡ those k p ++ only_if (p k) (k ∷ [])
+those_more k p = ap (λ m. those m p) (add-one k) ∙ (ap (filter p) (range_more 0 k) ∙ (filter-append p (range_with_len 0 k) ((0 + k) ∷ []) ∙ ap (λ x. those k p ++ filter p (x ∷ [])) (omega arith)))

@@ -1,7 +1,7 @@
 -- Steps and runs from tests that agree on the facts of a task.
 use Rattle.std.proofs.Common.{◌≡◌, ◌<◌, ◌&&◌, ◌||◌, ℕ, Bool, true, false, not, List, [], ◌∷◌, Option, Some, None, length, nat_eq, nat_lt, slice_get, IsTrue, refl, sym, ap, ap₂, subst, ◌∙◌}
 use Rattle.std.specs.Bool.{beq, then_some}
-use Rattle.std.specs.List.{list_any, list_all}
+use Rattle.std.specs.List.{list_all}
 use Rattle.std.proofs.lemmas.Bool.{and_parts, ltb-true}
 use Rattle.kp_base.specs.Lists.{Member}
 use Rattle.kp_base.proofs.Lists.{all_member, all_alike, any_alike}
@@ -9,7 +9,7 @@ use Rattle.kp_classic.specs.declared.task.Conds.{Conds}
 use Rattle.kp_classic.specs.declared.task.OpEffect.{OpEffect}
 use Rattle.kp_classic.specs.declared.task.Op.{Op}
 use Rattle.kp_classic.specs.declared.task.Task.{Task}
-use Rattle.kp_classic.specs.Fits.{are_below, fits, fits_effect, fits_op, IsFit}
+use Rattle.kp_classic.specs.Fits.{are_below, fits, fits_effect, IsFit}
 use Rattle.kp_classic.specs.States.{FactSet, has, state_of}
 use Rattle.kp_classic.specs.Runs.{outcome}
 use Rattle.kp_classic.specs.Steps.{Holding, meets, fires, after, applicable, next, start, runs, holding_after, succeeds}
@@ -65,6 +65,10 @@ module _ (t : Task) (fit : IsFit t) where
       go : (o : Option Op) → slice_get t.ops k ≡ o → Agree (length t.facts) (next o p) (next o q)
       go None e = same
       go (Some o) e = after_alike (length t.facts) p q same o (op_fits t k (length t.facts) o fit refl e)
+
+  pub succeeds_alike : (ks : List ℕ) (p q : Holding) → Agree (length t.facts) p q → succeeds t p ks ≡ succeeds t q ks
+  succeeds_alike [] p q same = meets_alike (length t.facts) p q same t.goal fit.goal
+  succeeds_alike (k ∷ ks) p q same = ap₂ (λ a b. a && b) (applicable_alike k p q same) (succeeds_alike ks (next (slice_get t.ops k) p) (next (slice_get t.ops k) q) (next_alike k p q same))
 
   pub runs_alike : (ks : List ℕ) (p q : Holding) → Agree (length t.facts) p q → runs t p ks ≡ runs t q ks
   runs_alike [] p q same = refl

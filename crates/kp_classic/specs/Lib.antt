@@ -1,4 +1,5 @@
 pub mod Fits
+pub mod Grounded
 pub mod Packed
 pub mod Runs
 pub mod States

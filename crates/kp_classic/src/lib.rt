@@ -3,12 +3,15 @@
 #![tactic(auto)]
 
 mod conds;
+mod grounded;
 mod runs;
+mod said;
 mod state;
 mod steps;
 mod task;
 
 pub use conds::{applicable, meets};
+pub use grounded::task_of;
 pub use runs::{run_ops, start};
 pub use state::State;
 pub use steps::step_into;

@@ -3,9 +3,8 @@ use Rattle.std.proofs.lemmas.Bool.{and_parts}
 use Rattle.std.proofs.lemmas.List.{drop_all}
 use Rattle.kp_classic.specs.Fits.{are_below}
 use Rattle.kp_classic.specs.States.{FactSet, has}
-use Rattle.kp_classic.specs.Steps.{holding_after}
 use Rattle.kp_classic.proofs.States.{is_state}
-use Rattle.kp_classic.proofs.Stepping.{Rests, rests_more}
+use Rattle.kp_classic.proofs.Stepping.{rests_more}
 use Rattle.kp_classic.proofs.runs.run_on.Goals as goal
 
 -- the operator was applicable, and its step is done

@@ -1,8 +1,7 @@
 use Rattle.std.proofs.Common.{◌≡◌, drop, true, length}
 use Rattle.kp_classic.specs.Fits.{are_below}
 use Rattle.kp_classic.specs.States.{has}
-use Rattle.kp_classic.specs.Steps.{runs, holding_after}
-use Rattle.kp_classic.proofs.Stepping.{Agree, Rests}
+use Rattle.kp_classic.proofs.Stepping.{Rests}
 use Rattle.kp_classic.proofs.runs.run_on.Given as goal
 
 -- what is left leads where all operators lead
