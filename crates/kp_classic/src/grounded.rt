@@ -1,7 +1,10 @@
 //! The task of a ground problem.
-ghost use Rattle.std.specs.Prelude.{◌≡◌, ◌<◌, [], ◌∷◌, ◌++◌, map, length, IfOk, OnOk};
+ghost use Rattle.std.specs.Prelude.{◌≡◌, ◌<◌, [], ◌∷◌, ◌++◌, true, map, length, IfOk, OnOk};
+ghost use Rattle.std.specs.List.{list_all};
+ghost use Rattle.kp_base.specs.Implicates.{are_below};
 ghost use Rattle.kp_classic.specs.Fits.{IsFit};
-ghost use Rattle.kp_classic.specs.Grounded.{atoms_with, conds_of, effect_of, op_of, nameless, task_of, IsOfItsAtoms, SaysOneState, DoesTheSame};
+ghost use Rattle.kp_classic.specs.Grounded.{atoms_with, conds_of, effect_of, op_of, nameless, is_said, task_of, IsOfItsAtoms, SaysOneState, DoesTheSame};
+ghost use Rattle.kp_classic.specs.States.{those};
 
 use crate::said::said_facts;
 use crate::{Conds, Op, OpEffect, Task};
@@ -94,6 +97,32 @@ fn no_names(alloc: Global, atoms: &[GroundName]) -> Result<Row<Text>, Memory>
     Ok(row)
 }
 
+// The names of the facts, and those that hold at the start.
+fn facts_of(
+    alloc: Global,
+    ground: &Ground,
+    initial: &Initial,
+) -> Result<(Row<Text>, Row<u32>), Memory>
+    requires few { length ground.now.atoms < 2147483648 }
+    requires of_atoms { list_all (are_below (length ground.now.atoms)) initial.now.clauses ≡ true }
+    ensures names { IfOk result (λ facts. facts.0 ≡ map nameless ground.now.atoms) }
+    ensures init { IfOk result (λ facts. facts.1 ≡ those (length ground.now.atoms) (is_said initial.now)) }
+{
+    let names = no_names(alloc, ground.atoms.slice())?;
+    let init = said_facts(alloc, ground.atoms.len() as u32, initial)?;
+    Ok((names, init))
+}
+
+// The goal and the operators.
+fn steps_of(alloc: Global, ground: &Ground) -> Result<(Conds, Row<Op>), Memory>
+    ensures goal { IfOk result (λ steps. steps.0 ≡ conds_of ground.now.goal) }
+    ensures ops { IfOk result (λ steps. steps.1 ≡ map op_of ground.now.actions) }
+{
+    let goal = conds_of(alloc, ground.goal.slice())?;
+    let ops = ops_of(alloc, ground.actions.slice())?;
+    Ok((goal, ops))
+}
+
 /// The task of a ground problem with one initial state. Fact i is atom i, and operator i is action i, with its effects in
 /// order: a positive result adds, and a negative one deletes. All names are empty.
 pub fn task_of(alloc: Global, ground: &Ground, initial: &Initial) -> Result<Task, Memory>
@@ -103,10 +132,12 @@ pub fn task_of(alloc: Global, ground: &Ground, initial: &Initial) -> Result<Task
     ensures fit { IfOk result IsFit }
     ensures same { IfOk result (DoesTheSame ground.now initial.now) }
 {
+    let (facts, init) = facts_of(alloc, ground, initial)?;
+    let (goal, ops) = steps_of(alloc, ground)?;
     Ok(Task {
-        facts: no_names(alloc, ground.atoms.slice())?,
-        init: said_facts(alloc, ground.atoms.len() as u32, initial)?,
-        goal: conds_of(alloc, ground.goal.slice())?,
-        ops: ops_of(alloc, ground.actions.slice())?,
+        facts,
+        init,
+        goal,
+        ops,
     })
 }

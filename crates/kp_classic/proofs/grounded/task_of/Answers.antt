@@ -6,7 +6,7 @@ use Rattle.kp_classic.proofs.grounded.task_of.Goals as goal
 
 -- each part is that of the definition
 pub returns-clause-value : goal.returns-clause-value
-returns-clause-value c = cc (c.in_ok-no_names.ensures, c.in_ok-said_facts.ensures, c.in_ok-conds_of.ensures, c.in_ok-ops_of.ensures, c.slice-2.ensures.value)
+returns-clause-value c = cc (c.in_ok-facts.ensures.names, c.in_ok-facts.ensures.init, c.in_ok-goal.ensures.goal, c.in_ok-goal.ensures.ops)
 
 pub returns-clause-fit : goal.returns-clause-fit
 returns-clause-fit c = subst IsFit (sym (returns-clause-value c)) (task_fits c.args.ground.now c.args.initial.now c.requires.of_atoms)
