@@ -3,6 +3,7 @@
 #![tactic(auto)]
 
 mod conds;
+mod fits;
 mod grounded;
 mod runs;
 mod said;
@@ -11,6 +12,7 @@ mod steps;
 mod task;
 
 pub use conds::{applicable, meets};
+pub use fits::is_fit;
 pub use grounded::task_of;
 pub use runs::{run_ops, start};
 pub use state::State;
