@@ -1,0 +1,5 @@
+pub mod Fitting
+pub mod OfGround
+pub mod Ordered
+pub mod States
+pub mod Stepping

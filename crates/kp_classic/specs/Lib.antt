@@ -1,0 +1,6 @@
+pub mod Fits
+pub mod Grounded
+pub mod Packed
+pub mod Runs
+pub mod States
+pub mod Steps

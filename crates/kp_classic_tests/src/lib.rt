@@ -1,0 +1,9 @@
+//! Tests of classical tasks.
+#![tactic(auto)]
+
+#[cfg(test)]
+mod given;
+#[cfg(test)]
+mod runs;
+#[cfg(test)]
+mod states;
