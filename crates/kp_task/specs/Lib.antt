@@ -1,0 +1,5 @@
+pub mod Task
+pub mod Writable
+pub mod Accepted
+pub mod Known
+pub mod Laws

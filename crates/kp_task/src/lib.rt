@@ -1,0 +1,9 @@
+//! The task of a ground problem and any table of tags and merges, by laws over definitions. `specs/Task.antt` says what it is.
+#![tactic(auto)]
+
+mod laws;
+
+pub use laws::{
+    facts_are_known, facts_are_numbered, one_tag_is_as_before, steps_are_injective,
+    tagged_plans_are_accepted, tagged_plans_are_sound, tagged_steps_strip, tagged_tasks_are_tasks,
+};
