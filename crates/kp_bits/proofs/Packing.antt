@@ -1,17 +1,17 @@
 -- Rows of bits by their words.
-use Rattle.std.proofs.Common.{◌≡◌, ◌≢◌, ◌<◌, ◌≤◌, ◌+◌, ◌*◌, ◌/◌, ◌%◌, ◌↔◌, ⊎_elim, ℕ, zero, suc, Bool, true, false, ◌||◌, List, Some, length, set, replicate, get_or, slice_get, nat_eq, max, bit_or, refl, sym, ap, subst, ◌∙◌, arith, length-set, get_or-set_same, get_or-set_other}
+use Rattle.std.proofs.Common.{◌≡◌, ◌≢◌, ◌<◌, ◌≤◌, ◌+◌, ◌*◌, ◌/◌, ◌%◌, ◌↔◌, ⊎_elim, ℕ, zero, suc, Bool, true, false, ◌||◌, List, Some, length, set, replicate, get_or, slice_get, unwrap_or, nat_eq, max, bit_or, refl, sym, ap, subst, ◌∙◌, arith, length-set, get_or-set_same, get_or-set_other}
 use Rattle.std.proofs.lemmas.Bool.{eqb-true, eq-eqb, cases_eq, cases_lt, both_ways}
 use Rattle.std.proofs.lemmas.List.{length-map, ext_get_or, get_or-replicate, get_or-map, length-replicate, get_or_past}
 use Rattle.std.proofs.lemmas.Grind.{get_or_default_zero}
 use Rattle.std.proofs.lemmas.List.FromFn.{length-map-range_with_len, get_or-map-range_with_len}
-use Rattle.std.proofs.lemmas.Option.{slice_get_within, slice_get-get_or}
+use Rattle.std.proofs.lemmas.Option.{slice_get_within, slice_get_past, slice_get-get_or, unwrap_or-slice_get}
 use Rattle.std.proofs.lemmas.Nat.{div-mul-add, mod-mul-add}
 use Rattle.std.proofs.lemmas.Nat.Bits.{bit_at_or, bit_at-zero, bit_at-lt}
 use Rattle.std.proofs.lemmas.Slice.Zip.{length-zip, get_or-zip}
 use Rattle.std.specs.Int.{bit_at}
 use Rattle.std.specs.List.{zip}
 use Rattle.kp_bits.specs.Packed.{bit_of, bits_of, IsPacked}
-use Rattle.kp_bits.specs.Rows.{either, IsWithin}
+use Rattle.kp_bits.specs.Rows.{either, IsWithin, DifferFirst}
 
 pub length-bits_of : (n : ℕ) (ws : List ℕ) → length (bits_of n ws) ≡ n
 length-bits_of n ws = length-map-range_with_len (bit_of ws) 0 n
@@ -241,3 +241,72 @@ words_of_row n m ws vs same p q e k j in_range l =
 
     past : n ≤ k * 64 + j → bit_of ws (k * 64 + j) ≡ bit_of vs (k * 64 + j)
     past ge = p.clear_past (k * 64 + j) ge ∙ sym (q.clear_past (k * 64 + j) (subst (λ x. x ≤ k * 64 + j) same ge))
+
+-- ---- the first difference
+
+-- two rows from the first bit on are the same before a place
+abbrev pub AreSameBefore : List Bool → List Bool → ℕ → Type 0
+AreSameBefore xs ys k = (i : ℕ) → i < k → slice_get xs i ≡ slice_get ys i
+
+same_at : (n m : ℕ) (ws vs : List ℕ) → n ≡ m → (i : ℕ) → bit_of ws i ≡ bit_of vs i → slice_get (bits_of n ws) i ≡ slice_get (bits_of m vs) i
+same_at n m ws vs same i e = ⊎_elim inside past (cases_lt i n)
+  where
+    inside : i < n → slice_get (bits_of n ws) i ≡ slice_get (bits_of m vs) i
+    inside h = slice_get-bits_of n ws i h ∙ (ap Some e ∙ sym (slice_get-bits_of m vs i (subst (λ x. i < x) same h)))
+
+    past : n ≤ i → slice_get (bits_of n ws) i ≡ slice_get (bits_of m vs) i
+    past h =
+        slice_get_past (bits_of n ws) i (subst (λ x. x ≤ i) (sym (length-bits_of n ws)) h)
+        ∙ sym (slice_get_past (bits_of m vs) i (subst (λ x. x ≤ i) (same ∙ sym (length-bits_of m vs)) h))
+
+-- one more word that is the same
+pub same_word_more : (n m : ℕ) (ws vs : List ℕ) → n ≡ m → (k : ℕ) → get_or ws k 0 ≡ get_or vs k 0 → AreSameBefore (bits_of n ws) (bits_of m vs) (k * 64) → AreSameBefore (bits_of n ws) (bits_of m vs) ((k + 1) * 64)
+same_word_more n m ws vs same k e before i h = ⊎_elim (before i) here (cases_lt i (k * 64))
+  where
+    here : k * 64 ≤ i → slice_get (bits_of n ws) i ≡ slice_get (bits_of m vs) i
+    here ge =
+        let f : i / 64 ≡ k = omega arith in
+        same_at n m ws vs same i (
+        ap (λ x. nat_eq (bit_at (get_or ws x 0) (i % 64)) 1) f
+        ∙ (ap (λ w. nat_eq (bit_at w (i % 64)) 1) e
+        ∙ ap (λ x. nat_eq (bit_at (get_or vs x 0) (i % 64)) 1) (sym f))
+        )
+
+-- rows that are the same before their end are one
+pub same_rows : (xs ys : List Bool) (k : ℕ) → length xs ≡ length ys → length xs ≤ k → AreSameBefore xs ys k → xs ≡ ys
+same_rows xs ys k e le before =
+    ext_get_or false xs ys e (λ i h.
+    sym (unwrap_or-slice_get xs i false) ∙ (ap (λ o. unwrap_or o false) (before i (omega arith)) ∙ unwrap_or-slice_get ys i false))
+
+-- a bit in which two words at one place differ
+module _ (n m : ℕ) (ws vs : List ℕ) (same : n ≡ m) (p : IsPacked n ws) (q : IsPacked m vs) (k j : ℕ) (l : j < 64) (differ : bit_at (get_or ws k 0) j ≢ bit_at (get_or vs k 0) j) where
+  apart : bit_of ws (k * 64 + j) ≢ bit_of vs (k * 64 + j)
+  apart e = differ (same_bit _ _ (bit_at-lt (get_or ws k 0) j) (bit_at-lt (get_or vs k 0) j) (sym (word_bit ws k j l) ∙ (e ∙ word_bit vs k j l)))
+
+  -- it is a bit of the rows
+  pub difference_in_row : k * 64 + j < n
+  difference_in_row = ⊎_elim (λ h. h) (λ ge. absurd (apart (p.clear_past _ ge ∙ sym (q.clear_past _ (subst (λ x. x ≤ k * 64 + j) same ge))))) (cases_lt (k * 64 + j) n)
+
+  bits_differ : slice_get (bits_of n ws) (k * 64 + j) ≢ slice_get (bits_of m vs) (k * 64 + j)
+  bits_differ e =
+      let one = slice_get-bits_of n ws (k * 64 + j) difference_in_row in
+      let other = slice_get-bits_of m vs (k * 64 + j) (subst (λ x. k * 64 + j < x) same difference_in_row) in
+      apart (cc)
+
+  -- the first, where the rows are the same before the word, and the words before the bit
+  pub difference_is_first : AreSameBefore (bits_of n ws) (bits_of m vs) (k * 64) → ((i : ℕ) → i < j → bit_at (get_or ws k 0) i ≡ bit_at (get_or vs k 0) i) → DifferFirst (bits_of n ws) (bits_of m vs) (k * 64 + j)
+  difference_is_first before bits = record {
+    in_range = rw (length-bits_of n ws) difference_in_row;
+    differ = bits_differ;
+    same_before = λ i h. ⊎_elim (before i) (here i h) (cases_lt i (k * 64));
+  }
+    where
+      here : (i : ℕ) → i < k * 64 + j → k * 64 ≤ i → slice_get (bits_of n ws) i ≡ slice_get (bits_of m vs) i
+      here i h ge =
+          let e : i / 64 ≡ k = omega arith in
+          let lt : i % 64 < j = omega arith in
+          same_at n m ws vs same i (
+          ap (λ x. nat_eq (bit_at (get_or ws x 0) (i % 64)) 1) e
+          ∙ (ap (λ b. nat_eq b 1) (bits (i % 64) lt)
+          ∙ ap (λ x. nat_eq (bit_at (get_or vs x 0) (i % 64)) 1) (sym e))
+          )

@@ -1,8 +1,10 @@
-ghost use Rattle.std.specs.Prelude.{◌≡◌, ◌<◌, ◌+◌, ◌*◌, ◌↔◌, ℕ, true, false, Some, length, replicate, set, slice_get, IfOk, IsTrue};
+ghost use Rattle.std.specs.Prelude.{◌≡◌, ◌<◌, ◌+◌, ◌*◌, ◌↔◌, ℕ, true, false, Some, length, replicate, set, slice_get, IfOk, IfSome, IfNone, IsTrue};
 ghost use Rattle.std.specs.Int.{bit_at};
-ghost use Rattle.kp_bits.specs.Rows.{either, IsWithin};
+ghost use Rattle.kp_bits.specs.Rows.{either, IsWithin, DifferFirst};
 
-use crate::words::{has_bit, or_words, same_words, with_bit, without_bit, word_at, words_within};
+use crate::words::{
+    first_other_bit, has_bit, or_words, same_words, with_bit, without_bit, word_at, words_within,
+};
 use kp_base::Memory;
 use std::alloc::Global;
 use std::marker::Model;
@@ -32,6 +34,13 @@ impl Bits {
     {
         let words = vec![in alloc; 0u64; n.div_ceil(64) as usize]?;
         Ok(Bits { count: n, words })
+    }
+
+    /// How many bits there are.
+    pub fn len(&self) -> u32
+        ensures { result ≡ length self.now }
+    {
+        self.count
     }
 
     /// Sets a bit.
@@ -89,6 +98,22 @@ impl Bits {
         ensures { IsTrue result ↔ (self.now ≡ other.now) }
     {
         same_words(&self.words, &other.words)
+    }
+
+    /// The first place at which the two rows differ.
+    pub fn first_difference(&self, other: &Bits) -> Option<u32>
+        requires { length self.now ≡ length other.now }
+        ensures some { IfSome result (DifferFirst self.now other.now) }
+        ensures none { IfNone result (self.now ≡ other.now) }
+    {
+        for k in 0..self.count.div_ceil(64) {
+            let here = self.words[k as usize];
+            let there = other.words[k as usize];
+            if here != there {
+                return Some(k * 64 + first_other_bit(here, there));
+            }
+        }
+        None
     }
 
     /// Makes this row the same as the other.

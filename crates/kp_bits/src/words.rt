@@ -99,3 +99,13 @@ pub(crate) fn same_words(words: &[u64], others: &[u64]) -> bool
     }
     true
 }
+
+/// The lowest bit in which the two words differ.
+pub(crate) fn first_other_bit(word: u64, other: u64) -> u32
+    requires { word ≢ other }
+    ensures in_range { result < 64 }
+    ensures differ { bit_at word result ≢ bit_at other result }
+    ensures same_before { (j : ℕ) → j < result → bit_at word j ≡ bit_at other j }
+{
+    (word ^ other).trailing_zeros()
+}
