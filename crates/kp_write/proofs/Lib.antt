@@ -10,6 +10,7 @@ pub mod Placed
 pub mod Faultless
 pub mod Runs
 pub mod Encoded
+pub mod Pieces
 pub mod Grounds
 pub mod ExampleFiles
 pub mod ExampleGrounds

@@ -5,4 +5,5 @@ pub mod Trees
 pub mod Texts
 pub mod Problems
 pub mod Runs
+pub mod Named
 pub mod Grounds
