@@ -11,6 +11,7 @@ pub mod Faultless
 pub mod Runs
 pub mod Encoded
 pub mod Pieces
+pub mod Numbered
 pub mod Grounds
 pub mod ExampleFiles
 pub mod ExampleGrounds

@@ -6,4 +6,5 @@ pub mod Texts
 pub mod Problems
 pub mod Runs
 pub mod Named
+pub mod Tasks
 pub mod Grounds
