@@ -1,4 +1,4 @@
--- One step by name is of one step of the machine; plans are sound.
+-- One step by name is of one step of the machine.
 use Rattle.std.proofs.Common.{◌≡◌, ◌<◌, ℕ, List, ◌++◌, Option, Some, None, option_map, map, length, slice_get, codes, drop, refl, sym, ap, subst, ◌∙◌, arith}
 use Rattle.std.proofs.lemmas.Bool.{false≢true}
 use Rattle.std.proofs.lemmas.Option.{slice_get-map, slice_get_within}
@@ -17,15 +17,13 @@ use Rattle.kp_write.specs.Grounds.{IsGroundName, IsGroundAction}
 use Rattle.kp_write.specs.Runs.{step_of}
 use Rattle.kp_write.proofs.Encoded.{decodes}
 use Rattle.kp_write.proofs.Lists.{one_of_all}
-use Rattle.kp_machine.proofs.Sound.{sound}
-use Rattle.kp_task.specs.Task.{op_of, merge_op, merge_word}
+use Rattle.kp_task.specs.Task.{merge_word}
+use Rattle.kp_task.specs.ByName.{op_of, merge_op}
 use Rattle.kp_task.specs.Accepted.{step_at}
-use Rattle.kp_task.specs.Laws.{StepsAreInjective, TaggedPlansAreSound}
+use Rattle.kp_task.specs.Laws.{StepsAreInjective}
 use Rattle.kp_task.proofs.Facts.{one_place}
 use Rattle.kp_task.proofs.Runs.{one_of_some}
-use Rattle.kp_task.proofs.Strips.{steps_strip}
 use Rattle.kp_task.proofs.MergeNames.{one_merge, action_no_merge}
-use Rattle.kp_task.proofs.Whole.{plans_are_accepted}
 
 -- the step by name is that of the action of this number
 record IsAction (g : Ground) (n : ℕ) (step : Step) : Type 0 where
@@ -76,8 +74,3 @@ injective g table w (MachineStep.merge n) (MachineStep.merge m) step e f =
     let x = merge_step g table n step e in
     let y = merge_step g table m step f in
     ap MachineStep.merge (one_merge n m (omega (arith, x.less, w.merges_fit)) (omega (arith, y.less, w.merges_fit)) (x.head ∙ sym y.head))
-
-pub plans_sound : TaggedPlansAreSound
-plans_sound g i table w right valid never steps plan =
-    let r = (plans_are_accepted g table w steps).0 plan in
-    record { machine = r.0; stripped_to = steps_strip g table w steps r.0 r.1.steps_are; plan = sound g i table right valid never r.0 r.1.accepted }

@@ -11,7 +11,8 @@ use Rattle.kp_texts.specs.Task.{Op}
 use Rattle.kp_write.specs.Grounds.{IsGroundAction}
 use Rattle.kp_write.specs.Runs.{Facts, after_op}
 use Rattle.kp_write.proofs.Lists.{one_of_all}
-use Rattle.kp_task.specs.Task.{op_of, merge_op, names_of, start_of}
+use Rattle.kp_task.specs.Task.{start_of}
+use Rattle.kp_task.specs.ByName.{op_of, merge_op, names_of}
 use Rattle.kp_task.specs.Writable.{IsWritableTask, IsMergeOn}
 use Rattle.kp_task.specs.Known.{held_after, known_after}
 use Rattle.kp_task.specs.Laws.{FactsAreKnown}

@@ -10,7 +10,8 @@ use Rattle.kp_meaning.specs.Strip.{do_front}
 use Rattle.kp_texts.specs.Task as old
 use Rattle.kp_texts.specs.Task.{Op, fact_of, sign_word, encoded_or_none, tag_word, facts_of_atom}
 use Rattle.kp_texts.specs.Written.{domain_text, problem_text}
-use Rattle.kp_task.specs.Task.{name_of, lits_from, under, op_of, effects_under, names_of, goal_of, ops_of}
+use Rattle.kp_task.specs.Task.{name_of, lits_from, under}
+use Rattle.kp_task.specs.ByName.{op_of, effects_under, names_of, goal_of, ops_of}
 use Rattle.kp_task.specs.Laws.{OneTagIsAsBefore}
 
 facts_same : (atoms : List GroundName) (rest : List GroundName) (i : ℕ) → ((j : ℕ) → slice_get atoms (i + j) ≡ slice_get rest j) → map (name_of atoms) (under 0 (lits_from i (length rest))) ≡ flat_map (facts_of_atom 0) rest

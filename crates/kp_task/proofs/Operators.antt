@@ -17,15 +17,11 @@ use Rattle.kp_texts.specs.Task.{Signed, Effect as TaskEffect, fact_of, opposites
 use Rattle.kp_write.specs.Grounds.{IsGroundName, same_name, IsOfAtom, AreOfAtoms, IsGroundEffect, IsGroundAction}
 use Rattle.kp_write.specs.Runs.{Facts, is_so, is_made, after_op}
 use Rattle.kp_write.proofs.Grounds.{opposites_of}
+use Rattle.kp_write.proofs.Numbered.{made_first}
 use Rattle.kp_machine.specs.Laws.{is_cancelled}
 use Rattle.kp_machine.proofs.Operators.{operators_are_exact}
-use Rattle.kp_task.specs.Task.{effects_under, effects_from, op_of}
+use Rattle.kp_task.specs.ByName.{effects_under, effects_from, op_of}
 use Rattle.kp_task.proofs.Facts.{same_fact-turned, other_fact}
-
--- a result is made where an effect that has its condition makes it, or a later one
-made_first : (b : Bool) (r : Signed) (rest : List Signed) (holds : Bool) (n : List ℕ) → is_made (only_if b (r ∷ []) ++ rest) holds n ≡ ((b && (beq holds r.holds && same n r.fact)) || is_made rest holds n)
-made_first true r rest holds n = refl
-made_first false r rest holds n = refl
 
 -- negations of literals all pass where the literals' negations do
 all_opposites : (k : Lit → Bool) (ls : List Lit) → list_all k (opposites ls) ≡ list_all (λ l. k (negated l)) ls

@@ -14,7 +14,8 @@ use Rattle.kp_texts.specs.Task.{Op}
 use Rattle.kp_write.specs.Grounds.{IsGroundAction}
 use Rattle.kp_write.specs.Runs.{Facts, after_op, runs, step_of}
 use Rattle.kp_write.proofs.Lists.{one_of_all}
-use Rattle.kp_task.specs.Task.{op_of, merge_op, merge_ops_from, ops_of, op_at, names_of, start_of, goal_of}
+use Rattle.kp_task.specs.Task.{start_of}
+use Rattle.kp_task.specs.ByName.{op_of, merge_op, merge_ops_from, ops_of, op_at, names_of, goal_of}
 use Rattle.kp_task.specs.Writable.{IsMergeOn, IsWritableTask}
 use Rattle.kp_task.specs.Accepted.{step_at}
 use Rattle.kp_task.specs.Laws.{RunsAreAccepted}

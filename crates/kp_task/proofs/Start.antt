@@ -13,7 +13,8 @@ use Rattle.kp_meaning.specs.Names.{same, is_among}
 use Rattle.kp_texts.specs.Task.{fact_of}
 use Rattle.kp_write.specs.Grounds.{IsGroundName, same_name, IsOfAtom, AreOfAtoms}
 use Rattle.kp_write.specs.Runs.{Facts, after_op}
-use Rattle.kp_task.specs.Task.{Fact, name_of, under, starts_from, merge_op}
+use Rattle.kp_task.specs.Task.{Fact, name_of, under, starts_from}
+use Rattle.kp_task.specs.ByName.{merge_op}
 use Rattle.kp_task.specs.Writable.{IsRowOn, IsTag}
 use Rattle.kp_task.proofs.Facts.{same_fact, same_fact-turned, other_fact}
 use Rattle.kp_task.proofs.Operators.{AgreeBelow}

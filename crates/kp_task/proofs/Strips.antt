@@ -22,7 +22,8 @@ use Rattle.kp_write.specs.Grounds.{IsGroundAction}
 use Rattle.kp_write.specs.Runs.{step_of}
 use Rattle.kp_write.proofs.Encoded.{decodes}
 use Rattle.kp_write.proofs.Lists.{one_of_all}
-use Rattle.kp_task.specs.Task.{op_of, merge_op, merge_word}
+use Rattle.kp_task.specs.Task.{merge_word}
+use Rattle.kp_task.specs.ByName.{op_of, merge_op}
 use Rattle.kp_task.specs.Writable.{IsWritableTask}
 use Rattle.kp_task.specs.Accepted.{IsStrippedTo}
 use Rattle.kp_task.specs.Laws.{TaggedStepsStrip}

@@ -20,11 +20,10 @@ use Rattle.kp_write.specs.Grounds.{IsGroundName, same_name, IsOfAtom, AreOfAtoms
 use Rattle.kp_write.specs.Problems.{AreAmong, IsEffectOn, IsOpOn}
 use Rattle.kp_write.proofs.Encoded.{operator_is_name, operators_apart}
 use Rattle.kp_write.proofs.Grounds.{mapped, opposites_of}
-use Rattle.kp_write.proofs.Runs.{plans_are_runs}
-use Rattle.kp_task.specs.Task.{name_of, lits_from, under, starts_from, effects_under, effects_from, op_of, merge_ops_from, ops_of, names_of, facts_of, start_of, goal_of}
+use Rattle.kp_task.specs.Task.{name_of, lits_from, under, starts_from, facts_of, start_of}
+use Rattle.kp_task.specs.ByName.{effects_under, effects_from, op_of, merge_ops_from, ops_of, names_of, goal_of}
 use Rattle.kp_task.specs.Writable.{IsRowOn, IsTag, IsMergeOn, IsWritableTask}
-use Rattle.kp_task.specs.Laws.{TaggedTasksAreTasks, TaggedPlansAreAccepted}
-use Rattle.kp_task.proofs.Runs.{runs_are_accepted}
+use Rattle.kp_task.specs.Laws.{TaggedTasksAreTasks}
 use Rattle.kp_task.proofs.Tasks.{distinct_append, distinct_map, lit_among, lits_of, lits_differ, fact_among, heads, facts_differ}
 use Rattle.kp_task.proofs.MergeNames.{merge_is_name, merges_apart, action_no_merge}
 
@@ -117,9 +116,3 @@ tasks_are_tasks g table w = record {
   start_among = mapped (λ f. Member (names_of g (facts_of g table)) (name_of g.atoms f)) (Member (names_of g (facts_of g table))) (name_of g.atoms) (λ f h. h) (start_of table) (starts g table 0 table.tags (omega arith) w.rows);
   goal_among = mapped (λ f. Member (names_of g (facts_of g table)) (name_of g.atoms f)) (Member (names_of g (facts_of g table))) (name_of g.atoms) (λ f h. h) (goal_of g) (mapped (IsOfAtom g.atoms) (λ f. Member (names_of g (facts_of g table)) (name_of g.atoms f)) (λ l. record { tag = 0; lit = l }) (λ l b. among g table 0 w.some_tag l b) g.goal w.ground.goal_of_atoms);
 }
-
-pub plans_are_accepted : TaggedPlansAreAccepted
-plans_are_accepted g table w steps =
-    let plans = plans_are_runs (names_of g (facts_of g table)) (ops_of g table) (names_of g (start_of table)) (names_of g (goal_of g)) (tasks_are_tasks g table w) steps in
-    let runs = runs_are_accepted g table w steps in
-    (λ p. runs.0 (plans.0 p), λ r. plans.1 (runs.1 r))

@@ -9,7 +9,7 @@ use Rattle.kp_base.specs.Machine.{MachineStep, accepts, stripped}
 use Rattle.kp_meaning.specs.Steps.{Step}
 use Rattle.kp_meaning.specs.Strip.{strip}
 use Rattle.kp_write.specs.Runs.{step_of}
-use Rattle.kp_task.specs.Task.{op_at}
+use Rattle.kp_task.specs.ByName.{op_at}
 
 -- the step by name of a step of the machine: its operator, without objects
 abbrev pub step_at : Ground → TagTable → MachineStep → Option Step

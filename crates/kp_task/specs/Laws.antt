@@ -1,10 +1,9 @@
 -- What is proved of the task of a ground problem and a table.
-use Rattle.std.specs.Prelude.{◌≡◌, ◌↔◌, ◌<◌, ◌+◌, ◌*◌, ℕ, List, Some, map, length, slice_get}
+use Rattle.std.specs.Prelude.{◌≡◌, ◌↔◌, ◌<◌, ℕ, List, Some, map, length, slice_get}
 use Rattle.kp_base.specs.declared.lit.Lit.{Lit}
 use Rattle.kp_base.specs.declared.ground.Ground.{Ground}
 use Rattle.kp_base.specs.declared.ground.TagTable.{TagTable}
 use Rattle.kp_base.specs.declared.ground.Initial.{Initial}
-use Rattle.kp_base.specs.Lit.{code_of}
 use Rattle.kp_base.specs.Entailed.{IsTable, AreValid}
 use Rattle.kp_base.specs.Clashes.{NeverClashes}
 use Rattle.kp_base.specs.Machine.{MachineStep, start as known_at_start, one_tag_table}
@@ -16,14 +15,22 @@ use Rattle.kp_write.specs.Grounds as before
 use Rattle.kp_write.specs.Grounds.{IsOfAtom}
 use Rattle.kp_write.specs.Problems.{IsTask}
 use Rattle.kp_write.specs.Runs.{IsRun}
-use Rattle.kp_task.specs.Task.{facts_of, start_of, goal_of, names_of, ops_of, op_at}
-use Rattle.kp_task.specs.Writable.{IsWritableTask, domain_file, problem_file}
+use Rattle.kp_write.specs.Named.{domain_of, problem_of}
+use Rattle.kp_write.specs.Tasks.{CanBeWritten}
+use Rattle.kp_task.specs.Task.{number, task_of, facts_of, start_of}
+use Rattle.kp_task.specs.ByName.{goal_of, names_of, ops_of, op_at}
+use Rattle.kp_task.specs.Writable.{IsWritableTask}
+use Rattle.kp_task.specs.ByName.{domain_file, problem_file}
 use Rattle.kp_task.specs.Accepted.{step_at, IsAccepted, IsStrippedTo, StripsToGroundPlan}
 use Rattle.kp_task.specs.Known.{held_after, known_after}
 
 -- ---- the task and its plans
 
--- its names can be written and differ, and only its facts are used
+-- it can be written
+abbrev pub TaggedTasksCanBeWritten : Type 0
+TaggedTasksCanBeWritten = (g : Ground) (table : TagTable) → IsWritableTask g table → CanBeWritten (task_of g table)
+
+-- its facts and operators by name are a task
 abbrev pub TaggedTasksAreTasks : Type 0
 TaggedTasksAreTasks = (g : Ground) (table : TagTable) → IsWritableTask g table → IsTask (names_of g (facts_of g table)) (ops_of g table) (names_of g (start_of table)) (names_of g (goal_of g))
 
@@ -33,7 +40,7 @@ RunsAreAccepted = (g : Ground) (table : TagTable) → IsWritableTask g table →
 
 -- so are the plans of its two texts
 abbrev pub TaggedPlansAreAccepted : Type 0
-TaggedPlansAreAccepted = (g : Ground) (table : TagTable) → IsWritableTask g table → (steps : List Step) → IsPlan (domain_file g table) (problem_file g table) steps ↔ ((ms : List MachineStep) × IsAccepted g table steps ms)
+TaggedPlansAreAccepted = (g : Ground) (table : TagTable) → IsWritableTask g table → (steps : List Step) → IsPlan (domain_of (task_of g table)) (problem_of (task_of g table)) steps ↔ ((ms : List MachineStep) × IsAccepted g table steps ms)
 
 -- steps of the machine with one step by name are one
 abbrev pub StepsAreInjective : Type 0
@@ -45,7 +52,7 @@ TaggedStepsStrip = (g : Ground) (table : TagTable) → IsWritableTask g table �
 
 -- where the table is right, its merges are valid and nothing clashes, each plan of the two texts strips to a ground plan
 abbrev pub TaggedPlansAreSound : Type 0
-TaggedPlansAreSound = (g : Ground) (i : Initial) (table : TagTable) → IsWritableTask g table → IsTable g i table → AreValid i table → NeverClashes g i → (steps : List Step) → IsPlan (domain_file g table) (problem_file g table) steps → StripsToGroundPlan g i steps
+TaggedPlansAreSound = (g : Ground) (i : Initial) (table : TagTable) → IsWritableTask g table → IsTable g i table → AreValid i table → NeverClashes g i → (steps : List Step) → IsPlan (domain_of (task_of g table)) (problem_of (task_of g table)) steps → StripsToGroundPlan g i steps
 
 -- ---- facts
 
@@ -53,9 +60,9 @@ TaggedPlansAreSound = (g : Ground) (i : Initial) (table : TagTable) → IsWritab
 abbrev pub FactsAreKnown : Type 0
 FactsAreKnown = (g : Ground) (table : TagTable) → IsWritableTask g table → (ms : List MachineStep) (os : List Op) → map (op_at g table) ms ≡ map Some os → (t : ℕ) (l : Lit) → t < length table.tags → IsOfAtom g.atoms l → held_after os (is_among (names_of g (start_of table))) (fact_of g.atoms t l) ≡ known_after g table ms (known_at_start table) t l
 
--- the fact of a literal under a tag has for its number the literal's code, and as many more as there are literals under the earlier tags
+-- each fact has its number
 abbrev pub FactsAreNumbered : Type 0
-FactsAreNumbered = (g : Ground) (table : TagTable) (t : ℕ) (l : Lit) → t < length table.tags → IsOfAtom g.atoms l → slice_get (facts_of g table) (t * (2 * length g.atoms) + code_of l) ≡ Some (record { tag = t; lit = l })
+FactsAreNumbered = (g : Ground) (table : TagTable) (t : ℕ) (l : Lit) → t < length table.tags → IsOfAtom g.atoms l → slice_get (facts_of g table) (number (length g.atoms) (record { tag = t; lit = l })) ≡ Some (record { tag = t; lit = l })
 
 -- ---- the empty tag alone
 

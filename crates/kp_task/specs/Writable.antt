@@ -1,4 +1,4 @@
--- Which ground problems and tables can be written, and the two texts of their task.
+-- Which ground problems and tables can be written.
 use Rattle.std.specs.Prelude.{◌<◌, ◌^◌, ℕ, List, [], length}
 use Rattle.std.specs.List.{AllByRecursion}
 use Rattle.kp_base.specs.declared.ground.GroundName.{GroundName}
@@ -6,9 +6,7 @@ use Rattle.kp_base.specs.declared.ground.Ground.{Ground}
 use Rattle.kp_base.specs.declared.ground.TagRow.{TagRow}
 use Rattle.kp_base.specs.declared.ground.TagTable.{TagTable}
 use Rattle.kp_base.specs.declared.ground.Merge.{Merge}
-use Rattle.kp_texts.specs.Written.{domain_text, problem_text}
 use Rattle.kp_write.specs.Grounds.{IsOfAtom, AreOfAtoms, IsWritable}
-use Rattle.kp_task.specs.Task.{facts_of, start_of, goal_of, names_of, ops_of}
 
 -- the literals of the closure are of these atoms
 pub record IsRowOn (atoms : List GroundName) (row : TagRow) : Type 0 where
@@ -31,11 +29,3 @@ pub record IsWritableTask (g : Ground) (table : TagTable) : Type 0 where
   pub rows : AllByRecursion (IsRowOn g.atoms) table.tags
   pub merges : AllByRecursion (IsMergeOn g.atoms (length table.tags)) table.merges
   pub merges_fit : length table.merges < 2 ^ 64
-
--- the text of the domain
-abbrev pub domain_file : Ground → TagTable → List ℕ
-domain_file g table = domain_text (names_of g (facts_of g table)) (ops_of g table)
-
--- the text of the problem
-abbrev pub problem_file : Ground → TagTable → List ℕ
-problem_file g table = problem_text (names_of g (start_of table)) (names_of g (goal_of g))

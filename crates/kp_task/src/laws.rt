@@ -1,8 +1,20 @@
 //! Laws of the task of a ground problem and a table, each proved as the contract of a function that does nothing.
 
-ghost use Rattle.kp_task.specs.Laws.{FactsAreKnown, FactsAreNumbered, OneTagIsAsBefore, RunsAreAccepted, StepsAreInjective, TaggedPlansAreAccepted, TaggedPlansAreSound, TaggedStepsStrip, TaggedTasksAreTasks};
+ghost use Rattle.kp_task.specs.ByName.{TasksAreNamed};
+ghost use Rattle.kp_task.specs.Laws.{FactsAreKnown, FactsAreNumbered, OneTagIsAsBefore, RunsAreAccepted, StepsAreInjective, TaggedPlansAreAccepted, TaggedPlansAreSound, TaggedStepsStrip, TaggedTasksAreTasks, TaggedTasksCanBeWritten};
+ghost use Rattle.kp_task.specs.Weight.{BothWeighAlike, WeightIsCounted};
 
-/// The facts and operators are a task: their names can be written and differ, and only its facts are used.
+/// The task can be written: its names are Names and differ, and it has only numbers of its facts.
+pub fn tagged_tasks_can_be_written()
+    ensures { TaggedTasksCanBeWritten }
+{}
+
+/// Its facts and operators by name are those that `specs/ByName.antt` says.
+pub fn tagged_tasks_are_named()
+    ensures { TasksAreNamed }
+{}
+
+/// These are a task: their names can be written and differ, and only its facts are used.
 pub fn tagged_tasks_are_tasks()
     ensures { TaggedTasksAreTasks }
 {}
@@ -26,7 +38,7 @@ pub fn tagged_steps_strip()
 {}
 
 /// Where the table is right, its merges are valid and nothing clashes, plans of the two texts strip to ground plans.
-#[tactic(auto, using(crate::proofs::Injective::plans_sound))]
+#[tactic(auto, using(crate::proofs::Plans::plans_sound))]
 pub fn tagged_plans_are_sound()
     ensures { TaggedPlansAreSound }
 {}
@@ -39,6 +51,16 @@ pub fn facts_are_known()
 /// Each fact has its number.
 pub fn facts_are_numbered()
     ensures { FactsAreNumbered }
+{}
+
+/// The task's weight is that of the actions, for each tag, and of the merges.
+pub fn weight_is_counted()
+    ensures { WeightIsCounted }
+{}
+
+/// A cancellation has as many conditions as its support.
+pub fn both_weigh_alike()
+    ensures { BothWeighAlike }
 {}
 
 /// With the empty tag alone the two texts are those of `kp_texts`.

@@ -68,7 +68,7 @@ module _ (facts : List (List ℕ)) where
       let r = and_parts (are_below (length facts) o.pre.yes) (are_below (length facts) o.pre.no) q.0 in
       (record { name = w.0.name; pre = all_among o.pre.yes r.0; effects = effects_on o.effects q.1 }, ops_on os w.1 p.1)
 
-  names_are : (os : List NumberedOp) → map (λ o. o.name) os ≡ map (λ (o : Op). o.name) (map (named_op facts) os)
+  pub names_are : (os : List NumberedOp) → map (λ o. o.name) os ≡ map (λ (o : Op). o.name) (map (named_op facts) os)
   names_are [] = refl
   names_are (o ∷ os) = ap (λ ns. o.name ∷ ns) (names_are os)
 
