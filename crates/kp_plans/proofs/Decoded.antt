@@ -1,12 +1,12 @@
 -- A word is read byte by byte as it is read whole.
-use Rattle.std.proofs.Common.{◌≡◌, ℕ, Bool, true, false, not, List, [], ◌∷◌, ◌++◌, refl, sym, ap, ◌∙◌, Some, None, Option, option_map, ◌==◌, append_assoc, append-nil, eqb-true}
+use Rattle.std.proofs.Common.{◌≡◌, ℕ, Bool, true, false, List, [], ◌∷◌, ◌++◌, refl, sym, ap, ◌∙◌, Some, None, Option, option_map, ◌==◌, append_assoc}
 use Rattle.kp_meaning.specs.Names.{Name}
 use Rattle.kp_base.specs.declared.ground.GroundName.{GroundName}
 use Rattle.kp_meaning.specs.Encoding.{underscore, dash, with_byte, split, decoded}
 use Rattle.kp_meaning.proofs.Encoding.{encoded_decodes, decoded_is_encoding}
 use Rattle.kp_plans.specs.declared.decoding.Parts.{Parts}
-use Rattle.kp_plans.specs.Decoding.{with_bytes, behind, components, Reads, Breaks}
-use Rattle.kp_plans.specs.Names.{IsEncodingOf, IsNameOf}
+use Rattle.kp_plans.specs.Decoding.{with_bytes, components, Reads, Breaks}
+use Rattle.kp_plans.specs.Names.{IsNameOf}
 
 map_map : {X Y Z : Type 0} (f : X → Y) (g : Y → Z) (h : X → Z) (o : Option X) → ((x : X) → g (f x) ≡ h x) → option_map g (option_map f o) ≡ option_map h o
 map_map f g h None e = refl

@@ -1,2 +1,4 @@
 pub mod Names
 pub mod Decoding
+pub mod Grammar
+pub mod Printed

@@ -1,8 +1,10 @@
-//! Names as words, and plans as text. `specs/Encoding.antt` says when a word stands for a name.
+//! Names as words, and plans as text. `specs/Grammar.antt` says which texts are plans, `specs/Printed.antt` how plans are printed.
 #![tactic(auto)]
 
 mod decoding;
 mod encoding;
+mod printing;
 
 pub use decoding::decode_name;
 pub use encoding::{encode_name, put, put_name};
+pub use printing::plan_text;

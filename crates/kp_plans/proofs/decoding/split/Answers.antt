@@ -1,4 +1,3 @@
-use Rattle.std.proofs.Common.{◌≡◌, ap}
 use Rattle.kp_plans.proofs.Decoded.{starts}
 use Rattle.kp_plans.proofs.decoding.split.Goals as goal
 

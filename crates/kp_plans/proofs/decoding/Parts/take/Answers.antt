@@ -1,6 +1,5 @@
-use Rattle.std.proofs.Common.{refl, sym, subst, ap, ◌≡◌, ◌++◌, ◌∷◌, [], ◌∙◌, List}
+use Rattle.std.proofs.Common.{refl}
 use Rattle.std.proofs.lemmas.Bool.{ne_eqb}
-use Rattle.kp_plans.specs.Decoding.{Reads}
 use Rattle.kp_plans.proofs.Decoded.{opens, stands, doubles, ends}
 use Rattle.kp_plans.proofs.decoding.Parts.take.Goals as goal
 
