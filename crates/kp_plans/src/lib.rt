@@ -4,7 +4,11 @@
 mod decoding;
 mod encoding;
 mod printing;
+mod step;
+mod stripping;
 
 pub use decoding::decode_name;
 pub use encoding::{encode_name, put, put_name};
 pub use printing::plan_text;
+pub use step::PlanStep;
+pub use stripping::strip;
