@@ -1,9 +1,12 @@
 -- The number of a fact.
 use Rattle.std.proofs.Common.{◌≡◌, ◌<◌, ◌+◌, ◌*◌, ℕ, zero, suc, Bool, true, false, if◌then◌else◌, List, [], ◌∷◌, ◌++◌, Some, option_map, length, slice_get, refl, sym, ap, subst, ◌∙◌, arith}
+use Rattle.std.proofs.lemmas.List.{length-map, length-append}
 use Rattle.std.proofs.lemmas.Option.{slice_get-map}
 use Rattle.kp_base.specs.declared.lit.Lit.{Lit}
+use Rattle.kp_base.specs.declared.ground.Ground.{Ground}
+use Rattle.kp_base.specs.declared.ground.TagTable.{TagTable}
 use Rattle.kp_base.specs.Lit.{code_of}
-use Rattle.kp_task.specs.Task.{lits_from, under, facts_from}
+use Rattle.kp_task.specs.Task.{name_of, task_of, facts_of, lits_from, under, facts_from}
 use Rattle.kp_task.specs.Laws.{FactsAreNumbered}
 
 get_left : {X : Type 0} (xs ys : List X) (n : ℕ) (x : X) → slice_get xs n ≡ Some x → slice_get (xs ++ ys) n ≡ Some x
@@ -54,6 +57,19 @@ fact_place t (suc n) (suc d) u k j ls l e less there at =
     let more = one_more d (length ls) in
     get_right (under t ls) (facts_from (suc t) n ls) (d * length ls + j) k (omega (arith, at, size, more))
     ∙ fact_place (suc t) n d u (d * length ls + j) j ls l (omega (arith, e)) (omega (arith, less)) there refl
+
+facts_from_length : (t n : ℕ) (ls : List Lit) → length (facts_from t n ls) ≡ n * length ls
+facts_from_length t zero ls = omega arith
+facts_from_length t (suc n) ls =
+    let first = under_length t ls in
+    let rest = facts_from_length (suc t) n ls in
+    let more = one_more n (length ls) in
+    length-append (under t ls) (facts_from (suc t) n ls) ∙ omega (arith, first, rest, more)
+
+-- how many facts there are
+pub facts_length : (g : Ground) (table : TagTable) → length (task_of g table).facts ≡ length table.tags * (2 * length g.atoms)
+facts_length g table =
+    length-map (facts_of g table) (name_of g.atoms) ∙ facts_from_length 0 (length table.tags) (lits_from 0 (length g.atoms)) ∙ ap (λ m. length table.tags * m) (lits_length 0 (length g.atoms))
 
 pub numbered : FactsAreNumbered
 numbered g table t l below b =
