@@ -24,10 +24,10 @@ use Rattle.kp_machine.proofs.Sound.{sound}
 
 -- ---- the problem and its table
 
-abbrev nullary : List ℕ → GroundName
+abbrev pub nullary : List ℕ → GroundName
 nullary head = record { head = head; objects = [] }
 
-abbrev effect : ℕ → Lit → Effect
+abbrev pub effect : ℕ → Lit → Effect
 effect p l = record { cond = positive p ∷ []; result = l }
 
 abbrev pub left : Action
@@ -55,16 +55,16 @@ one_of_three = record {
   closed = [];
 }
 
-abbrev first : List Lit
+abbrev pub first : List Lit
 first = positive 0 ∷ negative 1 ∷ negative 2 ∷ []
 
-abbrev second : List Lit
+abbrev pub second : List Lit
 second = negative 0 ∷ positive 1 ∷ negative 2 ∷ []
 
-abbrev third : List Lit
+abbrev pub third : List Lit
 third = negative 0 ∷ negative 1 ∷ positive 2 ∷ []
 
-abbrev table : TagTable
+abbrev pub table : TagTable
 table = record {
   tags = record { lits = []; closure = [] } ∷ record { lits = positive 0 ∷ []; closure = first } ∷ record { lits = positive 1 ∷ []; closure = second } ∷ record { lits = positive 2 ∷ []; closure = third } ∷ [];
   merges = record { target = positive 0; tags = 1 ∷ 2 ∷ 3 ∷ [] } ∷ [];
@@ -72,7 +72,7 @@ table = record {
 
 -- ---- accepted lists
 
-abbrev two_and_merge : List MachineStep
+abbrev pub two_and_merge : List MachineStep
 two_and_merge = MachineStep.act 0 ∷ MachineStep.act 0 ∷ MachineStep.merge 0 ∷ []
 
 two_are_accepted : accepts cells table two_and_merge ≡ true
@@ -171,7 +171,7 @@ cell s h = cell_by s (s 0) (s 1) (s 2) refl refl refl h
 -- ---- closures
 
 -- each model has something in one of the cells
-valid : AreValid one_of_three table
+pub valid : AreValid one_of_three table
 valid = record { each = each }
   where
     by : (s : State) → Cell s → list_any (λ t. tag_holds (slice_get table.tags t) s) (1 ∷ 2 ∷ 3 ∷ []) ≡ true
@@ -248,7 +248,7 @@ third_is_right = closure_from 2 third refl refl (by_literal (λ l. has third l �
     by s t (is_second e f g) = absurd (false≢true (sym g ∙ t))
     by s t (is_third e f g) = rw (e, f, g) refl
 
-right : IsTable cells one_of_three table
+pub right : IsTable cells one_of_three table
 right = record {
   first = (record { lits = []; closure = [] }, refl, refl);
   tags = in_range;

@@ -26,11 +26,11 @@ use Rattle.kp_write.specs.Grounds.{IsGroundName, same_name, FactsTellApart}
 -- ---- bytes
 
 -- the byte goes on with a name, and is in lower case
-record IsPlain (b : ℕ) : Type 0 where
+pub record IsPlain (b : ℕ) : Type 0 where
   pub on : follows b ≡ true
   pub low : to_ascii_lowercase b ≡ b
 
-abbrev ArePlain : List ℕ → Type 0
+abbrev pub ArePlain : List ℕ → Type 0
 ArePlain bs = AllByRecursion IsPlain bs
 
 all_on : (bs : List ℕ) → ArePlain bs → AllAre follows bs
@@ -42,16 +42,16 @@ all_low [] h = refl
 all_low (b ∷ bs) h = let first = h.0.low in let others = all_low bs h.1 in cc
 
 -- such bytes are a Name where the first is a letter or a digit
-name_from : {b : ℕ} {bs : List ℕ} → is_alphanumeric b ≡ true → ArePlain (b ∷ bs) → IsName (b ∷ bs)
+pub name_from : {b : ℕ} {bs : List ℕ} → is_alphanumeric b ≡ true → ArePlain (b ∷ bs) → IsName (b ∷ bs)
 unfolding class_of
 name_from {b} {bs} e h = record { token = a_name (rw e refl) (all_on bs h.1); low = all_low (b ∷ bs) h }
 
-joined : (xs ys : List ℕ) → ArePlain xs → ArePlain ys → ArePlain (xs ++ ys)
+pub joined : (xs ys : List ℕ) → ArePlain xs → ArePlain ys → ArePlain (xs ++ ys)
 joined [] ys h k = k
 joined (x ∷ xs) ys h k = (h.0, joined xs ys h.1 k)
 
 -- bytes that are written out
-computed : (bs : List ℕ) → list_all (λ b. follows b && (to_ascii_lowercase b == b)) bs ≡ true → ArePlain bs
+pub computed : (bs : List ℕ) → list_all (λ b. follows b && (to_ascii_lowercase b == b)) bs ≡ true → ArePlain bs
 computed [] e = tt
 computed (b ∷ bs) e =
     let h = and_parts (follows b && (to_ascii_lowercase b == b)) (list_all (λ c. follows c && (to_ascii_lowercase c == c)) bs) e in
@@ -95,7 +95,7 @@ digit : (c : ℕ) → IsInRange 48 57 c → IsPlain c
 unfolding class_of
 digit c h = record { on = rw (alphanumeric c h) refl; low = (lowercase_is c).1 (omega arith) }
 
-digits : (ds : List ℕ) → AllDigits 10 ds → ArePlain ds
+pub digits : (ds : List ℕ) → AllDigits 10 ds → ArePlain ds
 digits [] h = tt
 digits (c ∷ cs) h = (digit c (omega (arith, digit_from_value c h.0)), digits cs h.1)
 

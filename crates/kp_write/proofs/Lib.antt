@@ -10,6 +10,8 @@ pub mod Placed
 pub mod Faultless
 pub mod Runs
 pub mod Encoded
+pub mod Pieces
+pub mod Numbered
 pub mod Grounds
 pub mod ExampleFiles
 pub mod ExampleGrounds

@@ -8,9 +8,9 @@ use Rattle.kp_grammar.specs.Sorts.{Sort, El, with_kinds, Maker, apply, m_word, m
 use Rattle.kp_grammar.specs.Forms.{hits, Form}
 use Rattle.kp_grammar.specs.Reading.{At, stop_by, reason_of, ReadBy, r_token, r_none, r_both, r_after, r_end, r_more, r_last, r_next, r_absent, r_present, r_make, r_choice, r_loose, r_bracket, r_within, StopBy, s_token, s_nothing, s_first, s_second, s_before, s_after, s_here, s_later, s_lacks, s_at, s_next, s_present, s_make, s_none_there, s_choice, s_loose, s_unopened, s_inside, s_unclosed, s_within}
 use Rattle.kp_grammar.proofs.Exact.{reads_once, reads_or_stops, always_one}
-use Rattle.kp_meaning.specs.Places.{typed_map, cond_map, conds_map, eff_map, effs_map, lit_map, item_map, items_map, pred_map, schema_map}
+use Rattle.kp_meaning.specs.Places.{typed_map, cond_map, conds_map, eff_map, effs_map, item_map, items_map, pred_map, schema_map}
 use Rattle.kp_write.specs.Tokens.{text_of}
-use Rattle.kp_write.proofs.Lists.{map_swap, flat_swap}
+use Rattle.kp_write.proofs.Lists.{flat_swap}
 use Rattle.kp_write.specs.Maps.{section_map, given_map, el_map, ReadsWithPlaces, PlacesDontMatter}
 
 module _ {V W : Type 0} (f : V → W) where

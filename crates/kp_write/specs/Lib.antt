@@ -5,4 +5,6 @@ pub mod Trees
 pub mod Texts
 pub mod Problems
 pub mod Runs
+pub mod Named
+pub mod Tasks
 pub mod Grounds

@@ -4,6 +4,7 @@ ghost use Rattle.kp_write.specs.Grounds.{FactsTellApart, GroundProblemsAreWritte
 ghost use Rattle.kp_write.specs.Maps.{PlacesDontMatter};
 ghost use Rattle.kp_write.specs.Problems.{WrittenTextsHaveProblem};
 ghost use Rattle.kp_write.specs.Runs.{PlansAreRuns};
+ghost use Rattle.kp_write.specs.Tasks.{TaskPlansAreRuns, TasksRead};
 ghost use Rattle.kp_write.specs.Texts.{DomainReadsAsMeant, ProblemReadsAsMeant};
 ghost use Rattle.kp_write.specs.Tokens.{FinePiecesAreCut};
 
@@ -50,4 +51,15 @@ pub fn ground_tasks_are_tasks()
 /// So the two texts of such a ground problem have the problem of these facts and operators, and its plans are the runs of the operators.
 pub fn ground_problems_are_written()
     ensures { GroundProblemsAreWritten }
+{}
+
+/// The two texts of a task by number that can be written have its problem.
+#[tactic(auto, using(crate::proofs::Numbered::tasks_read))]
+pub fn tasks_read()
+    ensures { TasksRead }
+{}
+
+/// The plans of the two texts are the lists of its operators that run from its start and meet its goal.
+pub fn task_plans_are_runs()
+    ensures { TaskPlansAreRuns }
 {}

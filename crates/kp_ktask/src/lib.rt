@@ -1,0 +1,12 @@
+//! The task of a ground problem and a table of tags and merges. `specs/Task.antt` of `kp_task` says what it is,
+//! `specs/Translated.antt` when it is refused.
+#![tactic(auto)]
+
+mod facts;
+mod numbers;
+mod operators;
+mod translating;
+mod weights;
+
+pub use numbers::literal_of;
+pub use translating::translate;

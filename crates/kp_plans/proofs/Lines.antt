@@ -1,0 +1,101 @@
+-- The lines of a plan read back as its steps.
+use Rattle.std.proofs.Common.{cond as if_then, ◌≡◌, ℕ, Bool, true, false, List, [], ◌∷◌, map, bytes_eq, refl, sym, ap, ◌∙◌}
+use Rattle.std.specs.List.{AllByRecursion, list_all}
+use Rattle.std.proofs.lemmas.Bool.{and_parts}
+use Rattle.kp_base.specs.declared.ground.GroundName.{GroundName}
+use Rattle.kp_lex.specs.declared.token.TokenKind.TheVariants as kinds
+use Rattle.kp_lex.specs.Bytes.{class_of, follows}
+use Rattle.kp_lex.specs.Cutting.{Ends}
+use Rattle.kp_grammar.specs.declared.symbol.Symbol.{Symbol}
+use Rattle.kp_grammar.specs.declared.symbol.Symbol.TheVariants as symbols
+use Rattle.kp_grammar.specs.declared.tree.Word.{Word}
+use Rattle.kp_grammar.specs.Symbols.{Table, names, look_up, symbol_of, is_name, is_left}
+use Rattle.kp_grammar.specs.Sorts.{s_word, s_pair, s_list}
+use Rattle.kp_grammar.specs.Forms.{hits, many}
+use Rattle.kp_grammar.specs.Grammar.{word}
+use Rattle.kp_grammar.specs.Reading.{Reads, r_token, r_both, r_end, r_more, r_bracket}
+use Rattle.kp_grammar.specs.Words.{IsName}
+use Rattle.kp_pieces.specs.Pieces.{Piece, right, spelling, each, spaced, name, line_feed}
+use Rattle.kp_pieces.specs.Tokens.{words, Fine, done, lefts, rights, blanks, says}
+use Rattle.kp_pieces.specs.Maps.{without_places}
+use Rattle.kp_pieces.proofs.Applied.{◌$◌}
+use Rattle.kp_pieces.proofs.Fine.{Keeps, fine_each}
+use Rattle.kp_pieces.proofs.Reading.{Gives, many_reads}
+use Rattle.kp_pieces.proofs.Texts.{pieces_read}
+use Rattle.kp_plans.specs.Names.{IsGroundName}
+use Rattle.kp_plans.specs.Grammar.{step, plan, name_of}
+use Rattle.kp_plans.specs.Printed.{step_line, plan_pieces, PrintedPlansRead}
+
+-- ---- the lines are fine
+
+ends_objects : (os : List (List ℕ)) (rest : List Piece) → Ends follows (spelling (each (spaced name) os (right ∷ rest)))
+unfolding class_of
+ends_objects [] rest = refl
+ends_objects (o ∷ os) rest = refl
+
+fine_objects : (os : List (List ℕ)) {rest : List Piece} → AllByRecursion IsName os → Fine rest → Fine (each (spaced name) os (right ∷ rest))
+unfolding class_of
+fine_objects [] all f = rights f
+fine_objects (o ∷ os) {rest} all f = blanks refl (says all.0.token all.0.low (ends_objects os rest) (fine_objects os all.1 f))
+
+fine_step : (n : GroundName) → IsGroundName n → Keeps (step_line n)
+unfolding class_of
+fine_step n h = record { keeps = λ {rest} f. lefts $ says h.head.token h.head.low (ends_objects n.objects (line_feed rest)) $ fine_objects n.objects h.objects $ blanks refl f }
+
+-- ---- they read as steps
+
+-- every symbol of the table passes, and so does the other one
+all_found : (p : Symbol → Bool) (es : Table) (other : Symbol) (w : List ℕ) → list_all (λ e. p e.1) es ≡ true → p other ≡ true → p (look_up es other w) ≡ true
+all_found p [] other w h o = o
+all_found p (e ∷ es) other w h o =
+    let parts = and_parts (p e.1) (list_all (λ e. p e.1) es) h in
+    pick (bytes_eq w e.0) parts.0 (all_found p es other w parts.1 o)
+  where
+    pick : (b : Bool) → p e.1 ≡ true → p (look_up es other w) ≡ true → p (if_then b e.1 (look_up es other w)) ≡ true
+    pick true f g = f
+    pick false f g = g
+
+-- a name is a name to the grammar
+pub name_hits : (w : List ℕ) → hits is_name (symbol_of kinds.Name w) ≡ true
+unfolding symbol_of
+name_hits w = all_found (hits is_name) names symbols.Name w refl refl
+
+pub name_is : (w : List ℕ) → is_name (symbol_of kinds.Name w) ≡ true
+unfolding symbol_of
+name_is w = all_found is_name names symbols.Name w refl refl
+
+word_reads : (w : List ℕ) (rest : List Piece) → Reads (word is_name) (words (spaced name w rest)) w (words rest)
+word_reads w rest = r_token (name_hits w)
+
+-- the words of a step
+abbrev words_of : GroundName → List ℕ × List (List ℕ)
+words_of n = (n.head, n.objects)
+
+objects_read : (os : List (List ℕ)) (rest : List Piece) → Reads (many is_name (word is_name)) (words (each (spaced name) os (right ∷ rest))) os (words (right ∷ rest))
+objects_read [] rest = r_end refl
+objects_read (o ∷ os) rest = r_more (name_is o) (word_reads o (each (spaced name) os (right ∷ rest))) (objects_read os rest)
+
+step_reads : (n : GroundName) → Gives step (step_line n) (words_of n)
+step_reads n rest = r_bracket refl (r_both (r_token (name_hits n.head)) (objects_read n.objects (line_feed rest))) refl
+
+plan_reads : (steps : List GroundName) → AllByRecursion IsGroundName steps → Reads plan (words (plan_pieces steps)) (map words_of steps) []
+plan_reads steps h = many_reads is_left step step_line words_of IsGroundName (λ n _. step_reads n) (λ n rest. refl) steps [] h refl
+
+-- ---- so the text does
+
+-- the name that is made of a step's words
+abbrev named : List ℕ × List (List ℕ) → GroundName
+named x = record { head = x.0; objects = x.1 }
+
+named_words : (steps : List GroundName) → map named (map words_of steps) ≡ steps
+named_words [] = refl
+named_words (n ∷ ns) = ap (λ xs. n ∷ xs) (named_words ns)
+
+named_tree : (tree : List (Word × List Word)) → map named (without_places (s_list (s_pair s_word (s_list s_word))) tree) ≡ map name_of tree
+named_tree [] = refl
+named_tree (x ∷ xs) = ap (λ ns. name_of x ∷ ns) (named_tree xs)
+
+pub printed_plans_read : PrintedPlansRead
+printed_plans_read steps h =
+    let r = pieces_read _ _ plan (plan_pieces steps) (map words_of steps) ((fine_each step_line IsGroundName fine_step steps h).keeps done) (plan_reads steps h) in
+    record { tree = r.tree; names = sym (named_tree r.tree) ∙ ap (map named) r.is ∙ named_words steps; reads = r.reads }

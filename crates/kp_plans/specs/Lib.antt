@@ -1,0 +1,6 @@
+pub mod Names
+pub mod Decoding
+pub mod Grammar
+pub mod Printed
+pub mod Stripping
+pub mod Adding

@@ -1,0 +1,7 @@
+use Rattle.std.proofs.Common.{drop}
+use Rattle.kp_texts.specs.Written.{fact_line}
+use Rattle.kp_texts.proofs.Putting.{Leaves}
+use Rattle.kp_write.proofs.putting.put_names.Given as goal
+
+abbrev pub invariant-loop-name : goal.invariant-loop-name
+invariant-loop-name l = Leaves l.fn.out.items l.out.items fact_line (drop l.name-index l.names) l.names
