@@ -1,9 +1,9 @@
 -- What reading with 64 levels gives is the tree of the tokens, or the token at which they are refused.
-use Rattle.std.proofs.Common.{◌≡◌, ℕ, zero, suc, ◌≤◌, ◌<◌, ◌⊎◌, inl, inr, Bool, true, false, List, [], ◌∷◌, length, Option, Some, None, Ok, Err, refl, sym, ap, subst, ◌∙◌, arith}
+use Rattle.std.proofs.Common.{◌≡◌, ℕ, zero, suc, ◌≤◌, ◌⊎◌, inl, inr, Bool, true, false, List, [], ◌∷◌, length, Option, Some, Ok, Err, refl, sym, ap, subst, ◌∙◌, arith}
 use Rattle.kp_grammar.specs.Symbols.{Tok, is_left, is_right}
 use Rattle.kp_grammar.specs.Sorts.{Sort, El}
 use Rattle.kp_grammar.specs.Forms.{Form}
-use Rattle.kp_grammar.specs.Reading.{Syntax, At, stop, ReadBy, StopBy, ReadsWhole, StopsWhole, within_form, after_form}
+use Rattle.kp_grammar.specs.Reading.{Syntax, At, stop, ReadBy, ReadsWhole, StopsWhole, within_form, after_form}
 use Rattle.kp_grammar.specs.Parsing.{Outcome, ◌>>=◌, ended, go, level}
 use Rattle.kp_grammar.specs.Depth.{deep_case, deep}
 use Rattle.kp_grammar.specs.declared.tree.Word.{Word}

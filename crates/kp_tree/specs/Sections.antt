@@ -1,20 +1,14 @@
 -- What the functions for sections and whole files give. This file serves proofs alone.
-use Rattle.std.specs.Prelude.{◌≡◌, ℕ, List, [], ◌∷◌, Bool, Result, Ok, Err, map, Some}
-use Rattle.kp_base.specs.declared.refused.Part.{Part}
-use Rattle.kp_base.specs.declared.refused.Refused.{Refused}
-use Rattle.kp_base.specs.declared.refused.Stop.{Stop}
-use Rattle.kp_base.specs.declared.refused.Stop.TheVariants as causes
+use Rattle.std.specs.Prelude.{◌≡◌, ℕ, List, Result, Ok, Err, map}
 use Rattle.kp_grammar.specs.declared.tree.Word.{Word}
-use Rattle.kp_grammar.specs.declared.symbol.Symbol.{Symbol}
-use Rattle.kp_grammar.specs.declared.symbol.Symbol.TheVariants as symbols
-use Rattle.kp_grammar.specs.Trees.{Section, Given, Domain, Problem, Typed, Item, Cond}
-use Rattle.kp_grammar.specs.Symbols.{Tok, is_left, is_define, is_domain, is_problem, is_of_domain, is_init, is_goal}
-use Rattle.kp_grammar.specs.Sorts.{El, Seen, apply, m_domain, m_problem}
-use Rattle.kp_grammar.specs.Forms.{Form, many, run, make, choose, bracket, ◌▸◌, ◌▹◌}
-use Rattle.kp_grammar.specs.Grammar.{section, section_case, title, domain, given, given_case, has_stood, problem}
+use Rattle.kp_grammar.specs.Trees.{Section, Domain}
+use Rattle.kp_grammar.specs.Symbols.{is_left, is_define, is_domain}
+use Rattle.kp_grammar.specs.Sorts.{apply, m_domain}
+use Rattle.kp_grammar.specs.Forms.{many, make, choose, ◌▸◌, ◌▹◌}
+use Rattle.kp_grammar.specs.Grammar.{section, section_case, title, domain}
 use Rattle.kp_grammar.specs.Parsing.{Outcome, read}
-use Rattle.kp_parts.specs.declared.halt.Halt.{Halt}
-use Rattle.kp_parts.specs.declared.lexeme.Lexeme.{Lexeme}
+use Rattle.kp_cursor.specs.declared.halt.Halt.{Halt}
+use Rattle.kp_cursor.specs.declared.lexeme.Lexeme.{Lexeme}
 use Rattle.kp_nodes.specs.declared.node.DomainNode.{DomainNode}
 use Rattle.kp_tree.specs.declared.domains.DomainPart.{DomainPart}
 use Rattle.kp_tree.specs.declared.domains.DomainPart.TheVariants as parts

@@ -2,7 +2,7 @@ use Rattle.std.proofs.Common.{refl, sym, ◌∙◌, arith}
 use Rattle.std.proofs.lemmas.Result.{err_from_is_err_and}
 use Rattle.kp_grammar.specs.Symbols.{is_left, is_goal}
 use Rattle.kp_grammar.specs.Grammar.{given, has_stood}
-use Rattle.kp_tree.specs.Givens.{given_view, given_at, givens_at}
+use Rattle.kp_tree.specs.Givens.{given_at, givens_at}
 use Rattle.kp_parts.proofs.Loops.{run_goes_on, run_ends, run_done, run_lacks}
 use Rattle.kp_tree.proofs.Stating.{given_more, goal_is}
 use Rattle.kp_tree.proofs.problems.givens.Goals as goal
