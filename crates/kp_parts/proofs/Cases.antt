@@ -11,7 +11,7 @@ use Rattle.kp_grammar.specs.Parsing.{◌>>=◌, go, level, read}
 use Rattle.kp_parts.specs.declared.conds.Mode.{Mode}
 use Rattle.kp_parts.specs.declared.conds.Mode.TheVariants as modes
 use Rattle.kp_parts.specs.Readers.{terms_class, test_at, body_at, eff_inside_at, each_at, lit_inside_at, item_inside_at}
-use Rattle.kp_parts.specs.declared.cursor.Class.TheVariants as classes
+use Rattle.kp_cursor.specs.declared.cursor.Class.TheVariants as classes
 
 -- a kind that isn't in brackets is a name
 kind_by : (d : ℕ) (s : Symbol) (t : Tok Word) (ts : List (Tok Word)) → t.symbol ≡ s → is_left s ≡ false → go (level d) true (s_list s_word) (kind_case s) (t ∷ ts) ≡ (read 0 (word is_name) (t ∷ ts) >>= λ x. Ok (x.0 ∷ [], x.1))

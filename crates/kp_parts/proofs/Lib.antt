@@ -1,4 +1,3 @@
-pub mod Ascii
 pub mod Several
 pub mod Cases
 pub mod Loops

@@ -11,9 +11,9 @@ use Rattle.kp_grammar.specs.Forms.{Form, many, run, make}
 use Rattle.kp_grammar.specs.Reading.{stop}
 use Rattle.kp_grammar.specs.Parsing.{Outcome, ◌>>=◌, read}
 use Rattle.kp_grammar.proofs.Exact.{many_step, run_step}
-use Rattle.kp_parts.specs.declared.lexeme.Lexeme.{Lexeme}
-use Rattle.kp_parts.specs.declared.halt.Halt.{Halt}
-use Rattle.kp_parts.specs.declared.halt.Halt.TheVariants as halts
+use Rattle.kp_cursor.specs.declared.lexeme.Lexeme.{Lexeme}
+use Rattle.kp_cursor.specs.declared.halt.Halt.{Halt}
+use Rattle.kp_cursor.specs.declared.halt.Halt.TheVariants as halts
 use Rattle.kp_parts.specs.Lexemes.{word_of}
 use Rattle.kp_parts.specs.Readers.{Fails}
 

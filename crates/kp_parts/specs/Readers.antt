@@ -1,121 +1,24 @@
 -- What the calls of this crate give, by the forms of `kp_grammar`. What is promised of whole files doesn't speak of it.
-use Rattle.std.specs.Prelude.{◌≡◌, ◌+◌, ℕ, length, List, [], ◌∷◌, ◌++◌, Bool, true, false, Result, Ok, Err, map}
+use Rattle.std.specs.Prelude.{ℕ, List, Bool, true, false}
 use Rattle.kp_grammar.specs.declared.tree.Word.{Word}
 use Rattle.kp_grammar.specs.declared.symbol.Symbol.{Symbol}
-use Rattle.kp_grammar.specs.declared.symbol.Symbol.TheVariants as symbols
-use Rattle.kp_grammar.specs.Trees.{Typed, Term, Atom, Cond, Eff, Lit, Item, Pred, Schema, Section, Given, Domain, Problem}
-use Rattle.kp_grammar.specs.Symbols.{Tok, is_left, is_right, is_head, is_name, is_variable, is_term, is_keyword, is_define, is_domain, is_problem, is_either, is_dash, is_equal, is_parameters, is_precondition, is_effect}
-use Rattle.kp_grammar.specs.Sorts.{Sort, El, Seen, Maker, s_word, s_term, s_list, s_typed, s_atom, s_cond, m_name, m_kinds, m_untyped, m_typed, m_atom, m_when, m_each, m_no_params, m_true, m_idle, m_pred}
-use Rattle.kp_grammar.specs.Forms.{hits, Form, token, many, make, maybe, bracket, ◌▸◌, ◌▹◌, choose, within, Named, n_cond, n_goal, n_eff, n_item}
-use Rattle.kp_grammar.specs.Grammar.{word, some, skip, term, term_maker, words_of_requirements, kind, typed, equality, test_case, goal_lit_case, rule, lit, lit_case, pred, cond, eff, parts_end_case, schema, title}
-use Rattle.kp_grammar.specs.Reading.{Unsupported, At, stop}
-use Rattle.kp_grammar.specs.Parsing.{Outcome, read, ended, ◌>>=◌}
-use Rattle.kp_parts.specs.declared.halt.Halt.{Halt}
-use Rattle.kp_parts.specs.declared.halt.Halt.TheVariants as halts
-use Rattle.kp_parts.specs.declared.lexeme.Lexeme.{Lexeme}
-use Rattle.kp_parts.specs.declared.cursor.Class.{Class}
-use Rattle.kp_parts.specs.declared.cursor.Class.TheVariants as classes
+use Rattle.kp_grammar.specs.Trees.{Typed, Term, Atom, Cond, Eff, Lit, Item, Pred, Schema}
+use Rattle.kp_grammar.specs.Symbols.{is_left, is_head, is_name, is_variable, is_either, is_dash, is_parameters, is_precondition, is_effect}
+use Rattle.kp_grammar.specs.Sorts.{Sort, El, Maker, s_word, s_term, s_list, s_typed, s_atom, s_cond, m_name, m_kinds, m_untyped, m_typed, m_atom, m_when, m_each, m_no_params, m_true, m_idle, m_pred}
+use Rattle.kp_grammar.specs.Forms.{Form, token, many, make, maybe, bracket, ◌▸◌, ◌▹◌, choose, within, Named, n_cond, n_goal, n_eff, n_item}
+use Rattle.kp_grammar.specs.Grammar.{word, some, skip, term, term_maker, kind, typed, equality, test_case, goal_lit_case, rule, lit, lit_case, pred, cond, eff, parts_end_case, schema, title}
+use Rattle.kp_grammar.specs.Parsing.{read, ended, ◌>>=◌}
+use Rattle.kp_cursor.specs.declared.cursor.Class.{Class}
+use Rattle.kp_cursor.specs.declared.cursor.Class.TheVariants as classes
 use Rattle.kp_parts.specs.declared.conds.Mode.{Mode}
 use Rattle.kp_parts.specs.declared.conds.Mode.TheVariants as modes
-use Rattle.kp_parts.specs.declared.cursor.Lead.{Lead}
-use Rattle.kp_parts.specs.declared.cursor.Lead.TheVariants as leads
+use Rattle.kp_cursor.specs.declared.cursor.Lead.{Lead}
 use Rattle.kp_grammar.specs.Depth.{levels}
-use Rattle.kp_parts.specs.Lexemes.{word_of, from}
-
--- ---- what a function answers is what reading gives, unless memory runs out
-
--- where a form stops at a token that is known and not supported
-abbrev pub unsupported : List (Tok Word) → At Word
-unsupported ts = record { tokens = ts; reason = Unsupported }
-
-abbrev pub Fails : {Y : Type 0} → List Lexeme → Halt → Outcome Word Y → Type 0
-Fails ls halts.Memory reading = Unit {0}
-Fails ls (halts.Syntax i) reading = reading ≡ Err (stop (from ls i))
-Fails ls (halts.Unsupported i) reading = reading ≡ Err (unsupported (from ls i))
-
-abbrev pub Gives : {X Y : Type 0} → List Lexeme → (X → Y) → Result (X × ℕ) Halt → Outcome Word Y → Type 0
-Gives ls view (Ok x) reading = reading ≡ Ok (view x.0, from ls x.1)
-Gives ls view (Err e) reading = Fails ls e reading
-
--- for a function that keeps nothing of what it reads
-abbrev pub Passes : List Lexeme → Result ℕ Halt → Outcome Word (Unit {0}) → Type 0
-Passes ls (Ok n) reading = reading ≡ Ok (tt, from ls n)
-Passes ls (Err e) reading = Fails ls e reading
-
--- for a function that reads all tokens
-abbrev pub GivesAll : {X Y : Type 0} → List Lexeme → (X → Y) → Result X Halt → Outcome Word Y → Type 0
-GivesAll ls view (Ok x) reading = reading ≡ Ok (view x, [])
-GivesAll ls view (Err e) reading = Fails ls e reading
-
--- a closing bracket stands there, and the rest is left
-pub record Closed (ts rest : List (Tok Word)) : Type 0 where
-  pub token : Tok Word
-  pub is : ts ≡ token ∷ rest
-  pub right : is_right token.symbol ≡ true
-
--- an opening bracket stands there, and the rest is left
-pub record Opened (ts rest : List (Tok Word)) : Type 0 where
-  pub token : Tok Word
-  pub is : ts ≡ token ∷ rest
-  pub left : is_left token.symbol ≡ true
-
-abbrev pub Reader : Type 0 → Type 0
-Reader A = List (Tok Word) → Outcome Word A
+pub use Rattle.kp_cursor.specs.Readers.{unsupported, Fails, Gives, Passes, GivesAll, Closed, Opened, Reader, class_test, is_of, lead_test, Led, word_at, name_at, some_at, Words, keywords_at}
 
 -- all tokens, with none left
 unfoldable pub whole_at : {b : Bool} {c : Sort} → Form b c → Reader (El Word c)
 whole_at X ts = read levels X ts >>= λ x. ended x.0 x.1
-
--- ---- tokens
-
--- a token of the class
-abbrev pub class_test : Class → Symbol → Bool
-class_test classes.Name = is_name
-class_test classes.Head = is_head
-class_test classes.Variable = is_variable
-class_test classes.Term = is_term
-class_test classes.Keyword = is_keyword
-
--- the same, of a token of the program
-abbrev pub is_of : Class → Lexeme → Bool
-is_of c l = class_test c l.symbol
-
--- the word that must come first
-abbrev pub lead_test : Lead → Symbol → Bool
-lead_test leads.Define = is_define
-lead_test leads.Domain = is_domain
-lead_test leads.Problem = is_problem
-lead_test leads.Either = is_either
-lead_test leads.Equal = is_equal
-
--- it stands there, and the rest is left
-pub record Led (lead : Lead) (ts rest : List (Tok Word)) : Type 0 where
-  pub token : Tok Word
-  pub is : ts ≡ token ∷ rest
-  pub leads : hits (lead_test lead) token.symbol ≡ true
-
-unfoldable pub word_at : Class → Reader Word
-word_at c = read 0 (word (class_test c))
-
-unfoldable pub name_at : Reader (Unit {0})
-name_at = read 0 (skip is_name)
-
--- ---- several tokens of a class
-
--- one or more words
-unfoldable pub some_at : Class → Reader (Word × List Word)
-some_at c = read 0 (some (class_test c))
-
--- they stand there
-pub record Words (c : Class) (ls : List Lexeme) (at : ℕ) (run : List Lexeme) : Type 0 where
-  pub first : Word
-  pub others : List Word
-  pub are : map word_of run ≡ first ∷ others
-  pub reads : some_at c (from ls at) ≡ Ok ((first, others), from ls (at + length run))
-
--- keywords, which aren't kept
-unfoldable pub keywords_at : Reader (Unit {0})
-keywords_at = read 0 words_of_requirements
 
 -- what is made of a term that is a token of the class
 abbrev pub maker_of : Class → Symbol → Maker s_word s_term

@@ -3,11 +3,10 @@ ghost use Rattle.kp_parts.specs.Lexemes.{from};
 ghost use Rattle.kp_nodes.specs.Nodes.{term_view, atom_view};
 ghost use Rattle.kp_parts.specs.Readers.{Gives, term_at, equality_at, body_at, atom_at};
 
-use crate::cursor::{Class, Lead, close, follow, has, is_left, peek, word};
-use crate::halt::Halt;
-use crate::lexeme::Lexeme;
+use crate::lexeme::{term_node, word};
 use crate::runs::terms;
 use bumpalo::Bump;
+use kp_cursor::{Class, Halt, Lead, Lexeme, close, follow, has, is_left, peek};
 use kp_nodes::{AtomNode, TermNode};
 
 // A name or a variable.
@@ -17,7 +16,7 @@ fn term<'a>(tokens: &[Lexeme<'a>], at: usize) -> Result<(TermNode<'a>, usize), H
     ensures onward { IfOk result (λ x. (at < x.1) × (x.1 ≤ length tokens.now)) }
 {
     match peek(tokens, at) {
-        Some(first) if has(Class::Term, first.symbol) => Ok((first.term(), at + 1)),
+        Some(first) if has(Class::Term, first.symbol) => Ok((term_node(first), at + 1)),
         _ => Err(Halt::Syntax(at)),
     }
 }
@@ -38,7 +37,7 @@ pub fn equality<'a>(
 }
 
 /// A head and its terms, each of the class.
-#[tactic(auto, unfolding(crate::specs::Readers::body_at, crate::specs::Readers::word_at, crate::specs::Readers::terms_at))]
+#[tactic(auto, unfolding(crate::specs::Readers::body_at, kp_cursor::specs::Readers::word_at, crate::specs::Readers::terms_at))]
 pub fn body<'a>(
     bump: &'a Bump,
     tokens: &[Lexeme<'a>],

@@ -6,12 +6,10 @@ ghost use Rattle.kp_nodes.specs.Nodes.{cond_view};
 ghost use Rattle.kp_parts.specs.Readers.{Gives, terms_class, test_at, denied_at, cond_at, cond_inside_at, conds_at};
 
 use crate::atoms::{body, equality};
-use crate::cursor::{Class, close, is_left, peek};
-use crate::halt::Halt;
-use crate::lexeme::Lexeme;
 use crate::runs::add;
 use bumpalo::Bump;
 use bumpalo::collections::into_bump_slice;
+use kp_cursor::{Class, Halt, Lexeme, close, is_left, peek};
 use kp_grammar::Symbol;
 use kp_nodes::CondNode;
 

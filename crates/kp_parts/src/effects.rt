@@ -6,14 +6,12 @@ ghost use Rattle.kp_parts.specs.Readers.{Gives, eff_at, eff_inside_at, when_at, 
 
 use crate::atoms::{atom, body};
 use crate::conds::{Mode, cond};
-use crate::cursor::{Class, close, is_left, peek};
-use crate::halt::Halt;
-use crate::lexeme::Lexeme;
 use crate::runs::add;
 use crate::typed_lists::variables;
 use bumpalo::Bump;
 use bumpalo::collections::into_bump_slice;
 use kp_base::Memory;
+use kp_cursor::{Class, Halt, Lexeme, close, is_left, peek};
 use kp_grammar::Symbol;
 use kp_nodes::{CondNode, EffNode, TypedNode};
 

@@ -4,12 +4,11 @@ ghost use Rattle.kp_nodes.specs.Nodes.{item_view, lit_view};
 ghost use Rattle.kp_parts.specs.Readers.{Gives, lit_at, lit_inside_at, lits_at, item_at, item_inside_at, items_at};
 
 use crate::atoms::{atom, body};
-use crate::cursor::{Class, close, is_left, peek};
-use crate::halt::Halt;
-use crate::lexeme::Lexeme;
+use crate::lexeme::word_node;
 use crate::runs::add;
 use bumpalo::Bump;
 use bumpalo::collections::into_bump_slice;
+use kp_cursor::{Class, Halt, Lexeme, close, is_left, peek};
 use kp_grammar::Symbol;
 use kp_nodes::{ItemNode, LitNode};
 
@@ -128,15 +127,15 @@ fn inside<'a>(
         }
         Symbol::OneOf => {
             let (lits, at) = lits(bump, tokens, at + 1, levels)?;
-            Ok((ItemNode::OneOf(first.word(), lits), at))
+            Ok((ItemNode::OneOf(word_node(first), lits), at))
         }
         Symbol::Or => {
             let (lits, at) = lits(bump, tokens, at + 1, levels)?;
-            Ok((ItemNode::AnyOf(first.word(), lits), at))
+            Ok((ItemNode::AnyOf(word_node(first), lits), at))
         }
         Symbol::Unknown => {
             let (atom, at) = atom(bump, tokens, at + 1, levels, Class::Name)?;
-            Ok((ItemNode::Unknown(first.word(), atom), at))
+            Ok((ItemNode::Unknown(word_node(first), atom), at))
         }
         Symbol::Forall | Symbol::Equal => Err(Halt::Unsupported(at)),
         _ => {

@@ -1,50 +1,18 @@
-ghost use Rattle.std.specs.Prelude.{◌≡◌, ◌≤◌, length, slice_range, IfOk, IsUtf8};
+ghost use Rattle.std.specs.Prelude.{◌≡◌, ◌<◌, ◌≤◌, length, IfOk};
 ghost use Rattle.std.specs.Str.{str_to_ascii_lowercase};
 ghost use Rattle.kp_lex.specs.Cutting.{Cut};
 ghost use Rattle.kp_grammar.specs.Symbols.{all_seen_in};
 ghost use Rattle.kp_nodes.specs.Nodes.{word_view, term_view};
-ghost use Rattle.kp_parts.specs.Lexemes.{tok, toks, word_of, term_of, lexed};
+ghost use Rattle.kp_parts.specs.Lexemes.{toks, from, word_of, term_of};
+ghost use Rattle.kp_parts.specs.Readers.{Gives, word_at};
 
 use bumpalo::Bump;
 use bumpalo::collections::into_bump_slice;
-use kp_grammar::{Symbol, symbol_of};
+use kp_cursor::{Class, Halt, Lexeme, has, peek};
+use kp_grammar::Symbol;
 use kp_lex::Token;
 use kp_nodes::{TermNode, WordNode};
 use std::alloc::{AllocError, Global};
-use std::str::from_utf8;
-
-/// A token as the grammar sees it.
-#[derive(Clone, Copy)]
-pub struct Lexeme<'a> {
-    /// Its text in lower case.
-    pub text: &'a str,
-    /// Its first byte, counted from 0.
-    pub byte: u32,
-    /// What it is.
-    pub symbol: Symbol,
-}
-
-impl<'a> Lexeme<'a> {
-    /// The word that it is.
-    pub fn word(&self) -> WordNode<'a>
-        ensures { word_view result ≡ word_of self.now }
-    {
-        WordNode {
-            text: self.text,
-            byte: self.byte,
-        }
-    }
-
-    /// The term that it is: a variable, or else a name.
-    pub fn term(&self) -> TermNode<'a>
-        ensures { term_view result ≡ term_of self.now }
-    {
-        match self.symbol {
-            Symbol::Variable => TermNode::Variable(self.word()),
-            _ => TermNode::Name(self.word()),
-        }
-    }
-}
 
 // The bytes in lower case, in the arena.
 fn lower_case<'a>(bump: &'a Bump, bytes: &[u8]) -> Result<&'a [u8], AllocError>
@@ -54,35 +22,7 @@ fn lower_case<'a>(bump: &'a Bump, bytes: &[u8]) -> Result<&'a [u8], AllocError>
     Ok(into_bump_slice(lower))
 }
 
-// The text of a token, from all bytes in lower case.
-fn text_of<'a>(lower: &'a [u8], token: &Token) -> &'a str
-    requires from { token.now.from ≤ token.now.to }
-    requires to { token.now.to ≤ length lower.now }
-    requires utf8 { IsUtf8 (slice_range lower.now token.now.from token.now.to) }
-    ensures { result.now ≡ slice_range lower.now token.now.from token.now.to }
-{
-    match from_utf8(&lower[token.from as usize..token.to as usize]) {
-        Ok(text) => text,
-        Err(_) => unreachable!(),
-    }
-}
-
-// A token, from all bytes in lower case.
-fn read_token<'a>(lower: &'a [u8], token: &Token) -> Lexeme<'a>
-    requires from { token.now.from ≤ token.now.to }
-    requires to { token.now.to ≤ length lower.now }
-    requires utf8 { IsUtf8 (slice_range lower.now token.now.from token.now.to) }
-    ensures { tok result ≡ lexed lower.now token.now }
-{
-    let text = text_of(lower, token);
-    Lexeme {
-        text,
-        byte: token.from,
-        symbol: symbol_of(token.kind, text.as_bytes()),
-    }
-}
-
-/// The tokens of a text as the grammar sees them.
+/// The tokens of a text as the grammar sees them, their words in the arena.
 pub fn lexemes<'a>(
     bump: &'a Bump,
     alloc: Global,
@@ -93,9 +33,41 @@ pub fn lexemes<'a>(
     ensures { IfOk result (λ v. toks v.items ≡ all_seen_in bytes.now tokens.now) }
 {
     let lower = lower_case(bump, bytes)?;
-    let mut lexemes = Vec::with_capacity(alloc, tokens.len())?;
-    for token in tokens {
-        lexemes.push(read_token(lower, token))?;
+    kp_cursor::lexemes(alloc, lower, tokens)
+}
+
+/// The word that a token is.
+pub fn word_node<'a>(token: &Lexeme<'a>) -> WordNode<'a>
+    ensures { word_view result ≡ word_of token.now }
+{
+    WordNode {
+        text: token.text,
+        byte: token.byte,
     }
-    Ok(lexemes)
+}
+
+/// The term that a token is: a variable, or else a name.
+pub fn term_node<'a>(token: &Lexeme<'a>) -> TermNode<'a>
+    ensures { term_view result ≡ term_of token.now }
+{
+    match token.symbol {
+        Symbol::Variable => TermNode::Variable(word_node(token)),
+        _ => TermNode::Name(word_node(token)),
+    }
+}
+
+/// A token of the class, and the place behind it.
+#[tactic(auto, unfolding(kp_cursor::specs::Readers::word_at))]
+pub fn word<'a>(
+    tokens: &[Lexeme<'a>],
+    at: usize,
+    class: Class,
+) -> Result<(WordNode<'a>, usize), Halt>
+    ensures reads { Gives tokens.now word_view result (word_at class (from tokens.now at)) }
+    ensures onward { IfOk result (λ x. (at < x.1) × (x.1 ≤ length tokens.now)) }
+{
+    match peek(tokens, at) {
+        Some(first) if has(class, first.symbol) => Ok((word_node(first), at + 1)),
+        _ => Err(Halt::Syntax(at)),
+    }
 }

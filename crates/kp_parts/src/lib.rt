@@ -4,9 +4,7 @@
 
 mod atoms;
 mod conds;
-mod cursor;
 mod effects;
-mod halt;
 mod init_items;
 mod lexeme;
 mod runs;
@@ -14,11 +12,12 @@ mod titles;
 mod typed_lists;
 
 pub use conds::{Mode, cond, no_condition};
-pub use cursor::{Class, Lead, begins, close, follow, has, is_left, peek, skip_name, word};
 pub use effects::{eff, no_effect};
-pub use halt::Halt;
 pub use init_items::items;
-pub use lexeme::{Lexeme, lexemes};
-pub use runs::{add, append, skip_keywords};
+pub use kp_cursor::{
+    Class, Halt, Lead, Lexeme, begins, close, follow, has, is_left, peek, skip_keywords, skip_name,
+};
+pub use lexeme::{lexemes, word};
+pub use runs::{add, append};
 pub use titles::title;
 pub use typed_lists::{typed, variables};

@@ -2,12 +2,10 @@ ghost use Rattle.std.specs.Prelude.{◌≡◌, ◌<◌, ◌≤◌, length, IfOk}
 ghost use Rattle.kp_parts.specs.Lexemes.{from};
 ghost use Rattle.kp_parts.specs.Readers.{Passes, title_inside_at, title_at};
 
-use crate::cursor::{Lead, close, follow, is_left, skip_name};
-use crate::halt::Halt;
-use crate::lexeme::Lexeme;
+use kp_cursor::{Halt, Lead, Lexeme, close, follow, is_left, skip_name};
 
 // The word and a name.
-#[tactic(auto, unfolding(crate::specs::Readers::title_inside_at, crate::specs::Readers::name_at))]
+#[tactic(auto, unfolding(crate::specs::Readers::title_inside_at, kp_cursor::specs::Readers::name_at))]
 fn title_inside(tokens: &[Lexeme], at: usize, lead: Lead) -> Result<usize, Halt>
     ensures reads { Passes tokens.now result (title_inside_at lead (from tokens.now at)) }
     ensures onward { IfOk result (λ n. (at < n) × (n ≤ length tokens.now)) }

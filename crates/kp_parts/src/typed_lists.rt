@@ -4,13 +4,12 @@ ghost use Rattle.kp_parts.specs.Lexemes.{word_of, from};
 ghost use Rattle.kp_nodes.specs.Nodes.{word_view, typed_view};
 ghost use Rattle.kp_parts.specs.Readers.{Gives, names_at, either_names_at, either_at, kind_at, kind_part_at, group_at, typed_at, typed_bracket_at};
 
-use crate::cursor::{Class, Lead, begins, close, follow, is_left, peek, word};
-use crate::halt::Halt;
-use crate::lexeme::Lexeme;
-use crate::runs::{keep_words, words};
+use crate::lexeme::{word, word_node};
+use crate::runs::keep_words;
 use bumpalo::Bump;
 use bumpalo::collections::into_bump_slice;
 use kp_base::Memory;
+use kp_cursor::{Class, Halt, Lead, Lexeme, begins, close, follow, is_left, peek, words};
 use kp_grammar::Symbol;
 use kp_nodes::{TypedNode, WordNode};
 
@@ -62,7 +61,7 @@ fn either<'a>(
 }
 
 // Name, or ( either Name+ )
-#[tactic(auto, using(crate::proofs::Cases::kind_is), unfolding(crate::specs::Readers::either_at, crate::specs::Readers::kind_at, crate::specs::Readers::word_at))]
+#[tactic(auto, using(crate::proofs::Cases::kind_is), unfolding(crate::specs::Readers::either_at, crate::specs::Readers::kind_at, kp_cursor::specs::Readers::word_at))]
 fn kind<'a>(
     bump: &'a Bump,
     tokens: &[Lexeme<'a>],
@@ -100,7 +99,7 @@ fn kind_part<'a>(
 }
 
 // Words of the class, and the kinds that are written for them.
-#[tactic(auto, unfolding(crate::specs::Readers::group_at, crate::specs::Readers::some_at, crate::specs::Readers::kind_part_at))]
+#[tactic(auto, unfolding(crate::specs::Readers::group_at, kp_cursor::specs::Readers::some_at, crate::specs::Readers::kind_part_at))]
 fn group<'t, 'a>(
     bump: &'a Bump,
     tokens: &'t [Lexeme<'a>],
@@ -127,7 +126,7 @@ fn declare<'a>(
 {
     for token in run {
         typed.push(TypedNode {
-            word: token.word(),
+            word: word_node(token),
             kinds,
         })?;
     }

@@ -7,8 +7,8 @@ use Rattle.kp_grammar.specs.Sorts.{Seen, apply, m_problem}
 use Rattle.kp_grammar.specs.Forms.{run, make, choose, ◌▸◌, ◌▹◌}
 use Rattle.kp_grammar.specs.Grammar.{title, given, given_case, has_stood, problem}
 use Rattle.kp_grammar.specs.Parsing.{Outcome, read}
-use Rattle.kp_parts.specs.declared.halt.Halt.{Halt}
-use Rattle.kp_parts.specs.declared.lexeme.Lexeme.{Lexeme}
+use Rattle.kp_cursor.specs.declared.halt.Halt.{Halt}
+use Rattle.kp_cursor.specs.declared.lexeme.Lexeme.{Lexeme}
 use Rattle.kp_nodes.specs.declared.node.ProblemNode.{ProblemNode}
 use Rattle.kp_parts.specs.Lexemes.{from}
 use Rattle.kp_nodes.specs.Nodes.{problem_view}

@@ -7,8 +7,8 @@ use Rattle.kp_grammar.specs.Sorts.{apply, m_domain}
 use Rattle.kp_grammar.specs.Forms.{many, make, choose, ◌▸◌, ◌▹◌}
 use Rattle.kp_grammar.specs.Grammar.{section, section_case, title, domain}
 use Rattle.kp_grammar.specs.Parsing.{Outcome, read}
-use Rattle.kp_parts.specs.declared.halt.Halt.{Halt}
-use Rattle.kp_parts.specs.declared.lexeme.Lexeme.{Lexeme}
+use Rattle.kp_cursor.specs.declared.halt.Halt.{Halt}
+use Rattle.kp_cursor.specs.declared.lexeme.Lexeme.{Lexeme}
 use Rattle.kp_nodes.specs.declared.node.DomainNode.{DomainNode}
 use Rattle.kp_parts.specs.Lexemes.{from}
 use Rattle.kp_nodes.specs.Nodes.{domain_view}

@@ -15,7 +15,7 @@ use kp_parts::{
 use kp_stated::{Declared, DomainPart, as_domain, keep_section};
 
 // What stands between the brackets of a section.
-#[tactic(auto, unfolding(crate::specs::Sections::section_inside_at, kp_parts::specs::Readers::keywords_at, kp_parts::specs::Readers::typed_at, kp_parts::specs::Readers::preds_at, kp_parts::specs::Readers::schema_at))]
+#[tactic(auto, unfolding(crate::specs::Sections::section_inside_at, kp_cursor::specs::Readers::keywords_at, kp_parts::specs::Readers::typed_at, kp_parts::specs::Readers::preds_at, kp_parts::specs::Readers::schema_at))]
 fn section_inside<'a>(
     bump: &'a Bump,
     tokens: &[Lexeme<'a>],

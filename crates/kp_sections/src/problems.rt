@@ -16,7 +16,7 @@ use kp_stated::{Once, ProblemPart, Stated, as_problem, has_stood, keep_given, no
 use std::alloc::Global;
 
 // What stands between the brackets of a section, where some have stood.
-#[tactic(auto, unfolding(crate::specs::Givens::given_inside_at, kp_parts::specs::Readers::name_at, kp_parts::specs::Readers::keywords_at, kp_parts::specs::Readers::typed_at, kp_parts::specs::Readers::items_at, kp_parts::specs::Readers::cond_at))]
+#[tactic(auto, unfolding(crate::specs::Givens::given_inside_at, kp_cursor::specs::Readers::name_at, kp_cursor::specs::Readers::keywords_at, kp_parts::specs::Readers::typed_at, kp_parts::specs::Readers::items_at, kp_parts::specs::Readers::cond_at))]
 fn given_inside<'a>(
     bump: &'a Bump,
     tokens: &[Lexeme<'a>],

@@ -13,7 +13,7 @@ use kp_parts::{
 };
 
 // Head typed variables
-#[tactic(auto, unfolding(kp_parts::specs::Readers::pred_inside_at, kp_parts::specs::Readers::word_at, kp_parts::specs::Readers::typed_at))]
+#[tactic(auto, unfolding(kp_parts::specs::Readers::pred_inside_at, kp_cursor::specs::Readers::word_at, kp_parts::specs::Readers::typed_at))]
 fn pred_inside<'a>(
     bump: &'a Bump,
     tokens: &[Lexeme<'a>],
@@ -146,7 +146,7 @@ fn parts_end(tokens: &[Lexeme], at: usize) -> Result<usize, Halt>
 }
 
 /// Name [:parameters ( typed variables )] [:precondition cond] [:effect eff]
-#[tactic(auto, unfolding(kp_parts::specs::Readers::schema_at, kp_parts::specs::Readers::word_at, kp_parts::specs::Readers::params_at, kp_parts::specs::Readers::precondition_at, kp_parts::specs::Readers::effect_at, kp_parts::specs::Readers::parts_end_at))]
+#[tactic(auto, unfolding(kp_parts::specs::Readers::schema_at, kp_cursor::specs::Readers::word_at, kp_parts::specs::Readers::params_at, kp_parts::specs::Readers::precondition_at, kp_parts::specs::Readers::effect_at, kp_parts::specs::Readers::parts_end_at))]
 pub fn schema<'a>(
     bump: &'a Bump,
     tokens: &[Lexeme<'a>],

@@ -1,32 +1,22 @@
 -- From what the reader computes to what it promises.
-use Rattle.std.proofs.Common.{◌≡◌, ℕ, ◌≤◌, ◌<◌, Bool, List, [], length, drop, slice_index_or, Ok, Err, refl, sym, ap, ◌∙◌, arith}
+use Rattle.std.proofs.Common.{◌≡◌, ℕ, Bool, List, [], drop, Ok, Err, refl, sym, ap, ◌∙◌}
 use Rattle.std.specs.List.{drop-map}
-use Rattle.std.proofs.lemmas.Option.{slice_get-get_or}
 use Rattle.kp_base.specs.declared.refused.Part.{Part}
 use Rattle.kp_base.specs.declared.refused.Stop.{Stop}
 use Rattle.kp_lex.specs.declared.token.Token.{Token}
-use Rattle.kp_lex.specs.Cutting.{Cut}
-use Rattle.kp_lex.proofs.Spans.{each_token}
 use Rattle.kp_grammar.specs.declared.tree.Word.{Word}
 use Rattle.kp_grammar.specs.Symbols.{Tok, seen_in, all_seen_in}
 use Rattle.kp_grammar.specs.Sorts.{Sort, El}
 use Rattle.kp_grammar.specs.Forms.{Form}
 use Rattle.kp_grammar.specs.Reading.{At, stop}
-use Rattle.kp_parts.specs.declared.halt.Halt.{Halt}
-use Rattle.kp_parts.specs.declared.halt.Halt.TheVariants as halts
-use Rattle.kp_parts.specs.declared.lexeme.Lexeme.{Lexeme}
+use Rattle.kp_cursor.specs.declared.halt.Halt.{Halt}
+use Rattle.kp_cursor.specs.declared.halt.Halt.TheVariants as halts
+use Rattle.kp_cursor.specs.declared.lexeme.Lexeme.{Lexeme}
 use Rattle.kp_tree.specs.Files.{RefusedAt, AnswersTokens}
 use Rattle.kp_parts.specs.Lexemes.{tok, toks, from}
 use Rattle.kp_parts.specs.Readers.{Fails, unsupported, whole_at}
 use Rattle.kp_tree.specs.Refusals.{IsTold}
 use Rattle.kp_tree.proofs.Whole.{is_read, is_refused}
-
--- ---- the byte of a token
-
-pub byte_within : (text : List ℕ) (ts : List Token) (i : ℕ) (t : Token) → Cut 0 text ts → i < length ts → t ≡ slice_index_or ts i t → t.from ≤ length text
-byte_within text ts i t cut less is =
-    let h = each_token ts i (slice_index_or ts i t) cut (slice_get-get_or ts i t less) in
-    omega (arith, ap (λ (u : Token). u.from) is, h.not_empty, h.within)
 
 -- ---- the answer
 

@@ -1,5 +1,5 @@
 -- Which files are read, and how the others are refused.
-use Rattle.std.specs.Prelude.{◌≡◌, ℕ, ◌≤◌, ◌<◌, List, [], ◌∷◌, length, Bool, Some, None, Result, Ok, Err, ◌⊎◌}
+use Rattle.std.specs.Prelude.{◌≡◌, ℕ, ◌≤◌, ◌<◌, List, length, Bool, Some, None, Result, Ok, Err, ◌⊎◌}
 use Rattle.kp_base.specs.declared.refused.Part.{Part}
 use Rattle.kp_base.specs.declared.refused.Place.{Place}
 use Rattle.kp_base.specs.declared.refused.Refused.{Refused}
@@ -15,6 +15,7 @@ use Rattle.kp_grammar.specs.Sorts.{Sort, El}
 use Rattle.kp_grammar.specs.Forms.{Form}
 use Rattle.kp_grammar.specs.Reading.{Reason, Syntax, Unsupported, At, stop, ReadsWhole, StopsWhole}
 use Rattle.kp_grammar.specs.Depth.{levels, deep}
+use Rattle.kp_cursor.specs.Lexemes.{byte_at}
 
 -- the most bytes that a file may have
 abbrev pub most_bytes : ℕ
@@ -31,11 +32,6 @@ pub record ReadsShallow {b : Bool} {c : Sort} (X : Form b c) (ts : List (Tok Wor
 pub data RefusedAt {b : Bool} {c : Sort} (X : Form b c) (ts : List (Tok Word)) : At Word → Type 0 where
   offending : (at : At Word) → StopsWhole X ts at → ((us : List (Tok Word)) → deep levels ts ≡ Some us → length us ≤ length at.tokens) → RefusedAt X ts at
   too_deep : (us : List (Tok Word)) → deep levels ts ≡ Some us → ((at : At Word) → StopsWhole X ts at → length at.tokens < length us) → RefusedAt X ts (stop us)
-
--- the byte at which the first of the tokens begins; with no token left, the end of the text
-abbrev pub byte_at : List ℕ → List (Tok Word) → ℕ
-byte_at text [] = length text
-byte_at text (t ∷ ts) = t.word.byte
 
 -- a refusal for this reason
 abbrev pub refusal_for : Reason → Place → Refused

@@ -6,8 +6,8 @@ use Rattle.kp_base.specs.declared.refused.Stop.TheVariants as causes
 use Rattle.kp_lex.specs.declared.token.Token.{Token}
 use Rattle.kp_grammar.specs.Symbols.{all_seen_in}
 use Rattle.kp_grammar.specs.Reading.{stop}
-use Rattle.kp_parts.specs.declared.halt.Halt.{Halt}
-use Rattle.kp_parts.specs.declared.halt.Halt.TheVariants as halts
+use Rattle.kp_cursor.specs.declared.halt.Halt.{Halt}
+use Rattle.kp_cursor.specs.declared.halt.Halt.TheVariants as halts
 use Rattle.kp_tree.specs.Files.{refusal_at}
 use Rattle.kp_parts.specs.Readers.{unsupported}
 

@@ -1,10 +1,9 @@
-ghost use Rattle.std.specs.Prelude.{◌≡◌, ◌≤◌, drop, length};
+ghost use Rattle.std.specs.Prelude.{◌≡◌, ◌≤◌, length};
 ghost use Rattle.kp_lex.specs.Cutting.{Cut};
 ghost use Rattle.kp_base.specs.declared.refused.Part.TheVariants as parts;
 ghost use Rattle.kp_grammar.specs.Depth.{levels};
 ghost use Rattle.kp_grammar.specs.Grammar.{domain, problem};
-ghost use Rattle.kp_grammar.specs.Symbols.{all_seen_in};
-ghost use Rattle.kp_tree.specs.Files.{AnswersTokens, byte_at};
+ghost use Rattle.kp_tree.specs.Files.{AnswersTokens};
 ghost use Rattle.kp_parts.specs.Lexemes.{toks};
 ghost use Rattle.kp_nodes.specs.Nodes.{domain_view, problem_view};
 ghost use Rattle.kp_parts.specs.Readers.{GivesAll, whole_at};
@@ -12,6 +11,7 @@ ghost use Rattle.kp_tree.specs.Refusals.{IsTold};
 
 use bumpalo::Bump;
 use kp_base::{Part, Refused, Row, Stop};
+use kp_cursor::byte_of;
 use kp_lex::{Token, place};
 use kp_nodes::{DomainNode, ProblemNode};
 use kp_parts::{Halt, Lexeme, lexemes, peek};
@@ -23,19 +23,6 @@ fn levels() -> u32
     ensures { result ≡ levels }
 {
     64
-}
-
-// The first byte of a token, or the end of the text where no token has the number.
-fn byte_of(bytes: &[u8], tokens: &[Token], number: usize) -> u32
-    requires short { length bytes.now ≤ 16777216 }
-    requires cut { Cut 0 bytes.now tokens.now }
-    ensures value { result ≡ byte_at bytes.now (all_seen_in bytes.now (drop number tokens.now)) }
-    ensures within { result ≤ length bytes.now }
-{
-    match tokens.get(number) {
-        Some(token) => token.from,
-        None => bytes.len() as u32,
-    }
 }
 
 // What ends the call where no tree was read.

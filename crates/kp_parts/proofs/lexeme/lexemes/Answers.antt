@@ -1,14 +1,9 @@
-use Rattle.kp_parts.proofs.Ascii.{begins_first, ends_within, is_utf8, all_read}
+use Rattle.kp_cursor.proofs.Ascii.{all_lexed}
 use Rattle.kp_parts.proofs.lexeme.lexemes.Goals as goal
 
-pub read_token-requires-clause-from : goal.read_token-requires-clause-from
-read_token-requires-clause-from c = begins_first c.args.bytes.now c.args.tokens.now c.loop-token.token-index _ c.requires c.loop-token-test.true
+pub lexemes-requires : goal.lexemes-requires
+lexemes-requires c = record { text = c.args.bytes.now; lowered = c.in_ok-lower.ensures; cut = c.requires }
 
-pub read_token-requires-clause-to : goal.read_token-requires-clause-to
-read_token-requires-clause-to c = ends_within c.args.bytes.now _ c.args.tokens.now c.loop-token.token-index _ c.requires c.loop-token-test.true c.in_ok-lower.ensures
-
-pub read_token-requires-clause-utf8 : goal.read_token-requires-clause-utf8
-read_token-requires-clause-utf8 c = is_utf8 c.args.bytes.now _ c.args.tokens.now c.loop-token.token-index _ c.requires c.loop-token-test.true c.in_ok-lower.ensures
-
+-- tokens from the text in lower case are the tokens of the text
 pub returns : goal.returns
-returns c = all_read c.args.bytes.now _ c.args.tokens.now c.loop-token.token-index _ c.in_ok-lower.ensures c.loop-token-test.false c.loop-token.invariant
+returns c = rw (← all_lexed c.args.bytes.now c.in_ok-lower.lower.now c.args.tokens.now c.in_ok-lower.ensures) c.lexemes.ensures

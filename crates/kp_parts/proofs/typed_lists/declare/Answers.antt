@@ -1,6 +1,5 @@
-use Rattle.std.proofs.Common.{◌∙◌, sym, ap, ◌++◌, map, take, ◌≡◌}
-use Rattle.std.proofs.lemmas.List.{take_all}
-use Rattle.kp_nodes.specs.Nodes.{word_view, typed_view}
+use Rattle.std.proofs.Common.{map}
+use Rattle.kp_nodes.specs.Nodes.{word_view}
 use Rattle.kp_parts.proofs.Loops.{all_declared}
 use Rattle.kp_parts.proofs.typed_lists.declare.Goals as goal
 

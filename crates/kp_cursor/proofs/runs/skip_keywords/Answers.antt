@@ -1,5 +1,5 @@
-use Rattle.kp_parts.proofs.Several.{keywords_read}
-use Rattle.kp_parts.proofs.runs.skip_keywords.Goals as goal
+use Rattle.kp_cursor.proofs.Several.{keywords_read}
+use Rattle.kp_cursor.proofs.runs.skip_keywords.Goals as goal
 
 pub returns-clause-reads : goal.returns-clause-reads
 returns-clause-reads c = keywords_read c.args.tokens.now c.args.at _ c.run.ensures

@@ -3,14 +3,12 @@ ghost use Rattle.std.specs.Bool.{OnTrue};
 ghost use Rattle.std.specs.List.{take_while};
 ghost use Rattle.kp_grammar.specs.Forms.{hits};
 ghost use Rattle.kp_grammar.specs.Symbols.{first_is, is_left, is_right};
-ghost use Rattle.kp_parts.specs.Lexemes.{tok, from};
-ghost use Rattle.kp_nodes.specs.Nodes.{word_view};
-ghost use Rattle.kp_parts.specs.Readers.{Gives, Passes, Closed, Opened, Led, class_test, is_of, lead_test, word_at, name_at};
+ghost use Rattle.kp_cursor.specs.Lexemes.{tok, from};
+ghost use Rattle.kp_cursor.specs.Readers.{Passes, Closed, Opened, Led, class_test, lead_test, name_at};
 
 use crate::halt::Halt;
 use crate::lexeme::Lexeme;
 use kp_grammar::Symbol;
-use kp_nodes::WordNode;
 
 /// What a token may be.
 #[derive(Clone, Copy, Debug, PartialEq, Eq)]
@@ -145,22 +143,6 @@ pub fn begins(tokens: &[Lexeme], at: usize, class: Class) -> bool
     match peek(tokens, at) {
         Some(first) => has(class, first.symbol),
         None => false,
-    }
-}
-
-/// A token of the class, and the place behind it.
-#[tactic(auto, unfolding(crate::specs::Readers::word_at))]
-pub fn word<'a>(
-    tokens: &[Lexeme<'a>],
-    at: usize,
-    class: Class,
-) -> Result<(WordNode<'a>, usize), Halt>
-    ensures reads { Gives tokens.now word_view result (word_at class (from tokens.now at)) }
-    ensures onward { IfOk result (λ x. (at < x.1) × (x.1 ≤ length tokens.now)) }
-{
-    match peek(tokens, at) {
-        Some(first) if has(class, first.symbol) => Ok((first.word(), at + 1)),
-        _ => Err(Halt::Syntax(at)),
     }
 }
 

@@ -1,11 +1,11 @@
 -- The text of each token is ASCII, and so is what is cut from the text in lower case.
-use Rattle.std.proofs.Common.{◌≡◌, ℕ, zero, suc, ◌==◌, ◌-◌, ◌≤◌, ◌<◌, Bool, true, false, nat_le, List, [], ◌∷◌, length, slice_range, slice_index_or, map, drop, take, refl, sym, ap, subst, ◌∙◌, arith}
+use Rattle.std.proofs.Common.{◌≡◌, ℕ, zero, suc, ◌==◌, ◌-◌, ◌≤◌, ◌<◌, Bool, true, false, nat_le, List, [], ◌∷◌, length, slice_range, slice_index_or, map, drop, refl, sym, ap, ◌∙◌, arith}
 use Rattle.std.specs.Str.{IsAscii, IsUtf8, str_to_ascii_lowercase}
 use Rattle.std.specs.Char.{to_ascii_lowercase}
 use Rattle.std.specs.List.{drop-map, take-map}
 use Rattle.std.proofs.lemmas.Str.{IsUtf8-from_ascii}
 use Rattle.std.proofs.lemmas.Option.{slice_get-get_or}
-use Rattle.std.proofs.lemmas.List.{length-map, take_all}
+use Rattle.std.proofs.lemmas.List.{length-map}
 use Rattle.kp_lex.specs.declared.token.Token.{Token}
 use Rattle.kp_lex.specs.declared.token.TokenKind.{TokenKind}
 use Rattle.kp_lex.specs.Bytes.{class_of, follows, follows_class}
@@ -13,9 +13,8 @@ use Rattle.kp_lex.specs.Cutting.{AllAre, IsToken, left, right, dash, equal, name
 use Rattle.kp_lex.specs.Spans.{IsTokenOf}
 use Rattle.kp_lex.specs.Words.{folded}
 use Rattle.kp_lex.proofs.Spans.{each_token}
-use Rattle.kp_grammar.specs.Symbols.{Tok, symbol_of, seen_in, all_seen_in}
-use Rattle.kp_grammar.specs.declared.tree.Word.{Word}
-use Rattle.kp_parts.specs.Lexemes.{lexed}
+use Rattle.kp_grammar.specs.Symbols.{symbol_of, seen_in, all_seen_in}
+use Rattle.kp_cursor.specs.Lexemes.{lexed}
 
 -- a byte that isn't ASCII begins nothing, like 200
 high : (b : ℕ) → 128 ≤ b → class_of b ≡ class_of 200
@@ -97,10 +96,6 @@ is_utf8 text lower ts i d cut less e = rw e (span_utf8 text (slice_index_or ts i
 lexed_is : (text : List ℕ) (t : Token) → lexed (str_to_ascii_lowercase text) t ≡ seen_in text t
 lexed_is text t = ap (λ (w : List ℕ). record { symbol = symbol_of t.kind w; word = record { text = w; byte = t.from } }) (lower_span text t)
 
-all_lexed : (text lower : List ℕ) (ts : List Token) → lower ≡ str_to_ascii_lowercase text → map (lexed lower) ts ≡ all_seen_in text ts
+pub all_lexed : (text lower : List ℕ) (ts : List Token) → lower ≡ str_to_ascii_lowercase text → map (lexed lower) ts ≡ all_seen_in text ts
 all_lexed text lower [] e = refl
 all_lexed text lower (t ∷ ts) e = let rest = all_lexed text lower ts e in let first : lexed lower t ≡ seen_in text t = rw e (lexed_is text t) in rw (first, rest) refl
-
--- all of them
-pub all_read : (text lower : List ℕ) (ts : List Token) (i : ℕ) (read : List (Tok Word)) → lower ≡ str_to_ascii_lowercase text → length ts ≤ i → read ≡ map (lexed lower) (take i ts) → read ≡ all_seen_in text ts
-all_read text lower ts i read e done so_far = so_far ∙ ap (λ (us : List Token). map (lexed lower) us) (take_all i ts done) ∙ all_lexed text lower ts e

@@ -1,6 +1,6 @@
 use Rattle.std.proofs.Common.{◌≡◌, map, take}
-use Rattle.kp_parts.specs.Lexemes.{toks, lexed}
-use Rattle.kp_parts.proofs.lexeme.lexemes.Given as goal
+use Rattle.kp_cursor.specs.Lexemes.{toks, lexed}
+use Rattle.kp_cursor.proofs.lexeme.lexemes.Given as goal
 
 -- the tokens so far are there
 abbrev pub invariant-loop-token : goal.invariant-loop-token

@@ -1,5 +1,5 @@
 ghost use Rattle.std.specs.Prelude.{◌≡◌};
-ghost use Rattle.kp_parts.specs.declared.halt.Halt.TheVariants.{Memory as OutOfMemory};
+ghost use Rattle.kp_cursor.specs.declared.halt.Halt.TheVariants.{Memory as OutOfMemory};
 
 use kp_base::Memory;
 use std::alloc::{AllocError, AllocFailed};

@@ -1,0 +1,19 @@
+ghost use Rattle.std.specs.Prelude.{◌≡◌, ◌≤◌, drop, length};
+ghost use Rattle.kp_lex.specs.Cutting.{Cut};
+ghost use Rattle.kp_grammar.specs.Symbols.{all_seen_in};
+ghost use Rattle.kp_cursor.specs.Lexemes.{byte_at};
+
+use kp_lex::Token;
+
+/// The first byte of a token, or the end of the text where no token has the number.
+pub fn byte_of(bytes: &[u8], tokens: &[Token], number: usize) -> u32
+    requires short { length bytes.now ≤ 16777216 }
+    requires cut { Cut 0 bytes.now tokens.now }
+    ensures value { result ≡ byte_at bytes.now (all_seen_in bytes.now (drop number tokens.now)) }
+    ensures within { result ≤ length bytes.now }
+{
+    match tokens.get(number) {
+        Some(token) => token.from,
+        None => bytes.len() as u32,
+    }
+}

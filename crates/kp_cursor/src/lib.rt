@@ -1,0 +1,15 @@
+//! The tokens of a file as the grammar sees them, and steps from one to the next.
+//! `specs/Readers.antt` says which form of the grammar each call reads.
+#![tactic(auto)]
+
+mod bytes;
+mod cursor;
+mod halt;
+mod lexeme;
+mod runs;
+
+pub use bytes::byte_of;
+pub use cursor::{Class, Lead, begins, close, follow, has, is_left, peek, skip_name};
+pub use halt::Halt;
+pub use lexeme::{Lexeme, lexemes};
+pub use runs::{run, skip_keywords, words};
