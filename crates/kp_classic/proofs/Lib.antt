@@ -1,3 +1,4 @@
+pub mod ExampleTask
 pub mod Fitting
 pub mod OfGround
 pub mod Ordered

@@ -15,7 +15,7 @@ use Rattle.kp_base.specs.declared.ground.Initial.{Initial}
 use Rattle.kp_base.specs.Implicates.{are_below}
 use Rattle.kp_base.specs.Lists.{Member, signed}
 use Rattle.kp_base.specs.Lit.{positive, negative, has as has_literal}
-use Rattle.kp_base.specs.Steps as ground
+use Rattle.kp_base.specs.Steps as on_atoms
 use Rattle.kp_base.proofs.Lists.{bool_same, any_map, all_alike, any_alike, all_member, any_member, any_from, all_from, map_member, filter_member}
 use Rattle.kp_base.proofs.Lits.{same_lit-true}
 use Rattle.kp_classic.specs.Fits.{are_below as facts_below, fits, fits_effect, fits_op, IsFit}
@@ -28,9 +28,9 @@ use Rattle.kp_classic.proofs.Stepping.{succeeds_alike}
 -- ---- conditions
 
 -- the literals hold where their conditions are met
-pub conds_same : (s : Holding) (ls : List Lit) → meets (conds_of ls) s ≡ list_all (ground.holds s) ls
+pub conds_same : (s : Holding) (ls : List Lit) → meets (conds_of ls) s ≡ list_all (on_atoms.holds s) ls
 conds_same s [] = refl
-conds_same s (l ∷ ls) = go l.positive refl ∙ ap (λ b. ground.holds s l && b) (conds_same s ls)
+conds_same s (l ∷ ls) = go l.positive refl ∙ ap (λ b. on_atoms.holds s l && b) (conds_same s ls)
   where
     yes_first : (a y n : Bool) → ((a && y) && n) ≡ (a && (y && n))
     yes_first true y n = refl
@@ -41,7 +41,7 @@ conds_same s (l ∷ ls) = go l.positive refl ∙ ap (λ b. ground.holds s l && b
     no_later false true n = refl
     no_later false false n = refl
 
-    go : (b : Bool) → l.positive ≡ b → meets (conds_of (l ∷ ls)) s ≡ (ground.holds s l && meets (conds_of ls) s)
+    go : (b : Bool) → l.positive ≡ b → meets (conds_of (l ∷ ls)) s ≡ (on_atoms.holds s l && meets (conds_of ls) s)
     go true e = rw e (yes_first (s l.atom.0) _ _)
     go false e = rw e (no_later (not (s l.atom.0)) _ _)
 
@@ -56,10 +56,10 @@ beq_sym true false = refl
 beq_sym false true = refl
 beq_sym false false = refl
 
-effects_same : (es : List Effect) (s : Holding) (adds : Bool) (p : ℕ) → fires (map effect_of es) s adds p ≡ ground.fires es (ground.holds s) (record { atom = record { 0 = p }; positive = adds })
+effects_same : (es : List Effect) (s : Holding) (adds : Bool) (p : ℕ) → fires (map effect_of es) s adds p ≡ on_atoms.fires es (on_atoms.holds s) (record { atom = record { 0 = p }; positive = adds })
 effects_same es s adds p = any_map effect_of _ _ es (λ e.
     ap₂ (λ a b. a && b) (beq_sym adds e.result.positive) (ap₂ (λ a b. a && b) (nat_eq_sym p e.result.atom.0) (conds_same s e.cond))
-    ∙ turned (beq e.result.positive adds) (nat_eq e.result.atom.0 p) (list_all (ground.holds s) e.cond))
+    ∙ turned (beq e.result.positive adds) (nat_eq e.result.atom.0 p) (list_all (on_atoms.holds s) e.cond))
   where
     turned : (x y z : Bool) → (x && (y && z)) ≡ ((y && x) && z)
     turned true true z = refl
@@ -69,29 +69,29 @@ effects_same es s adds p = any_map effect_of _ _ es (λ e.
 
 -- ---- steps
 
-pub step_same : (a : Action) (s : Holding) (p : ℕ) → after (op_of a) s p ≡ ground.after a s p
+pub step_same : (a : Action) (s : Holding) (p : ℕ) → after (op_of a) s p ≡ on_atoms.after a s p
 step_same a s p = ap₂ (λ x y. x || (s p && not y)) (effects_same a.effects s true p) (effects_same a.effects s false p)
 
 module _ (g : Ground) (i : Initial) where
-  pub applicable_same : (n : ℕ) (s : Holding) → applicable (slice_get (task_of g i).ops n) s ≡ ground.applicable (slice_get g.actions n) s
+  pub applicable_same : (n : ℕ) (s : Holding) → applicable (slice_get (task_of g i).ops n) s ≡ on_atoms.applicable (slice_get g.actions n) s
   applicable_same n s = ap (λ o. applicable o s) (slice_get-map op_of g.actions n) ∙ go (slice_get g.actions n)
     where
-      go : (o : Option Action) → applicable (option_map op_of o) s ≡ ground.applicable o s
+      go : (o : Option Action) → applicable (option_map op_of o) s ≡ on_atoms.applicable o s
       go None = refl
       go (Some a) = conds_same s a.pre
 
-  pub next_same : (n : ℕ) (s : Holding) (p : ℕ) → next (slice_get (task_of g i).ops n) s p ≡ ground.next (slice_get g.actions n) s p
+  pub next_same : (n : ℕ) (s : Holding) (p : ℕ) → next (slice_get (task_of g i).ops n) s p ≡ on_atoms.next (slice_get g.actions n) s p
   next_same n s p = ap (λ o. next o s p) (slice_get-map op_of g.actions n) ∙ go (slice_get g.actions n)
     where
-      go : (o : Option Action) → next (option_map op_of o) s p ≡ ground.next o s p
+      go : (o : Option Action) → next (option_map op_of o) s p ≡ on_atoms.next o s p
       go None = refl
       go (Some a) = step_same a s p
 
-  pub succeeds_same : (ns : List ℕ) (s : Holding) → succeeds (task_of g i) s ns ≡ ground.succeeds g s ns
+  pub succeeds_same : (ns : List ℕ) (s : Holding) → succeeds (task_of g i) s ns ≡ on_atoms.succeeds g s ns
   succeeds_same [] s = conds_same s g.goal
   succeeds_same (n ∷ ns) s =
       ap₂ (λ a b. a && b) (applicable_same n s)
-      (ap (λ x. succeeds (task_of g i) x ns) (fun_ext (next_same n s)) ∙ succeeds_same ns (ground.next (slice_get g.actions n) s))
+      (ap (λ x. succeeds (task_of g i) x ns) (fun_ext (next_same n s)) ∙ succeeds_same ns (on_atoms.next (slice_get g.actions n) s))
 
 -- ---- its numbers are those of its facts
 
@@ -134,16 +134,16 @@ or_none false h = h
 
 module _ (n : ℕ) (i : Initial) (one : SaysOneState n i) where
   -- a literal of a clause holds in each model, since it is alone there
-  said_holds : (s : Holding) → ground.is_model i s ≡ true → (c : List Lit) → Member i.clauses c → (l : Lit) → has_literal c l ≡ true → ground.holds s l ≡ true
-  said_holds s m c mc l h = go c (eqb-true (length c) 1 (all_member (λ (d : List Lit). nat_eq (length d) 1) i.clauses c mc one.units)) h (all_member (list_any (ground.holds s)) i.clauses c mc (and_parts (list_all (list_any (ground.holds s)) i.clauses) _ m).0)
+  said_holds : (s : Holding) → on_atoms.is_model i s ≡ true → (c : List Lit) → Member i.clauses c → (l : Lit) → has_literal c l ≡ true → on_atoms.holds s l ≡ true
+  said_holds s m c mc l h = go c (eqb-true (length c) 1 (all_member (λ (d : List Lit). nat_eq (length d) 1) i.clauses c mc one.units)) h (all_member (list_any (on_atoms.holds s)) i.clauses c mc (and_parts (list_all (list_any (on_atoms.holds s)) i.clauses) _ m).0)
     where
-      go : (c : List Lit) → length c ≡ 1 → has_literal c l ≡ true → list_any (ground.holds s) c ≡ true → ground.holds s l ≡ true
+      go : (c : List Lit) → length c ≡ 1 → has_literal c l ≡ true → list_any (on_atoms.holds s) c ≡ true → on_atoms.holds s l ≡ true
       go [] e h t = absurd (cc)
-      go (x ∷ []) e h t = subst (λ y. ground.holds s y ≡ true) (sym (same_lit-true l x (or_none _ h))) (or_none _ t)
+      go (x ∷ []) e h t = subst (λ y. on_atoms.holds s y ≡ true) (sym (same_lit-true l x (or_none _ h))) (or_none _ t)
       go (x ∷ y ∷ c) e h t = absurd (omega (arith, e))
 
   -- of the first n atoms just those hold in a model that a clause says
-  pub known_as : (s : Holding) → ground.is_model i s ≡ true → (p : ℕ) → p < n → s p ≡ is_said i p
+  pub known_as : (s : Holding) → on_atoms.is_model i s ≡ true → (p : ℕ) → p < n → s p ≡ is_said i p
   known_as s m p lt = bool_same (s p) (is_said i p) forth back
     where
       back : is_said i p ≡ true → s p ≡ true
@@ -152,7 +152,7 @@ module _ (n : ℕ) (i : Initial) (one : SaysOneState n i) where
       closed_false : list_any (λ (q : AtomId). nat_eq q.0 p) i.closed ≡ true → s p ≡ true → ⊥
       closed_false e t =
           let r = any_member (λ (q : AtomId). nat_eq q.0 p) i.closed e in
-          let absent = all_member (λ (q : AtomId). not (s q.0)) i.closed r.0 r.1 (and_parts (list_all (list_any (ground.holds s)) i.clauses) _ m).1 in
+          let absent = all_member (λ (q : AtomId). not (s q.0)) i.closed r.0 r.1 (and_parts (list_all (list_any (on_atoms.holds s)) i.clauses) _ m).1 in
           let same = ap s (eqb-true r.0.0 p r.2) in
           let gone = ap not (same ∙ t) in
           cc
@@ -168,12 +168,12 @@ module _ (n : ℕ) (i : Initial) (one : SaysOneState n i) where
         | inr e ↦ absurd (closed_false e t)
       ]
 
-  models_alike : (s q : Holding) → ((p : ℕ) → p < n → s p ≡ q p) → ground.is_model i s ≡ ground.is_model i q
+  models_alike : (s q : Holding) → ((p : ℕ) → p < n → s p ≡ q p) → on_atoms.is_model i s ≡ on_atoms.is_model i q
   models_alike s q same = ap₂ (λ a b. a && b) clauses closed
     where
-      clauses : list_all (list_any (ground.holds s)) i.clauses ≡ list_all (list_any (ground.holds q)) i.clauses
-      clauses = all_alike (list_any (ground.holds s)) (list_any (ground.holds q)) i.clauses (λ c mc.
-          any_alike (ground.holds s) (ground.holds q) c (λ l ml.
+      clauses : list_all (list_any (on_atoms.holds s)) i.clauses ≡ list_all (list_any (on_atoms.holds q)) i.clauses
+      clauses = all_alike (list_any (on_atoms.holds s)) (list_any (on_atoms.holds q)) i.clauses (λ c mc.
+          any_alike (on_atoms.holds s) (on_atoms.holds q) c (λ l ml.
           ap (signed l.positive) (same l.atom.0 (ltb-true l.atom.0 n (all_member (λ (x : Lit). nat_lt x.atom.0 n) c l ml (all_member (are_below n) i.clauses c mc one.of_atoms.clauses))))))
 
       closed : list_all (λ (p : AtomId). not (s p.0)) i.closed ≡ list_all (λ (p : AtomId). not (q p.0)) i.closed
@@ -189,16 +189,16 @@ task_does_the_same g i fit one = record {
   plans = λ ns. (forth ns, back ns);
 }
   where
-    one_model : (s : Holding) → ground.is_model i s ≡ true → (p : ℕ) → p < length g.atoms → s p ≡ start (task_of g i) p
+    one_model : (s : Holding) → on_atoms.is_model i s ≡ true → (p : ℕ) → p < length g.atoms → s p ≡ start (task_of g i) p
     one_model s m p lt = known_as (length g.atoms) i one s m p lt ∙ sym (has_those (length g.atoms) (is_said i) p lt)
 
-    starts : ground.is_model i (start (task_of g i)) ≡ true
+    starts : on_atoms.is_model i (start (task_of g i)) ≡ true
     starts = let m = one.consistent in sym (models_alike (length g.atoms) i one m.state (start (task_of g i)) (one_model m.state m.model)) ∙ m.model
 
-    forth : (ns : List ℕ) → succeeds (task_of g i) (start (task_of g i)) ns ≡ true → ground.IsGroundPlan g i ns
+    forth : (ns : List ℕ) → succeeds (task_of g i) (start (task_of g i)) ns ≡ true → on_atoms.IsGroundPlan g i ns
     forth ns h s m =
         sym (succeeds_same g i ns s)
         ∙ (succeeds_alike (task_of g i) (task_fits g i fit) ns s (start (task_of g i)) (record { each = λ p lt. one_model s m p (subst (λ k. p < k) (length-map g.atoms nameless) lt) }) ∙ h)
 
-    back : (ns : List ℕ) → ground.IsGroundPlan g i ns → succeeds (task_of g i) (start (task_of g i)) ns ≡ true
+    back : (ns : List ℕ) → on_atoms.IsGroundPlan g i ns → succeeds (task_of g i) (start (task_of g i)) ns ≡ true
     back ns f = succeeds_same g i ns (start (task_of g i)) ∙ f (start (task_of g i)) starts

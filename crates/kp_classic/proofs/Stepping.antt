@@ -109,3 +109,11 @@ outcome_is t fit ks s end b is ran ends = go b (ran ∙ runs_alike t fit ks (has
     go : (b : Bool) → b ≡ runs t (start t) ks → (IsTrue b → end ≡ state_of (length t.facts) (holding_after t (has s.hold) ks)) → then_some b end ≡ outcome t ks
     go true e f = rw (← e) (ap Some (f refl ∙ at_end))
     go false e f = rw (← e) refl
+
+pub success_is_a_run : (t : Task) (s : Holding) (ns : List ℕ) → succeeds t s ns ≡ (runs t s ns && meets t.goal (holding_after t s ns))
+success_is_a_run t s [] = refl
+success_is_a_run t s (n ∷ ns) = ap (λ b. applicable (slice_get t.ops n) s && b) (success_is_a_run t (next (slice_get t.ops n) s) ns) ∙ regroup (applicable (slice_get t.ops n) s) _ _
+  where
+    regroup : (a b c : Bool) → (a && (b && c)) ≡ ((a && b) && c)
+    regroup true b c = refl
+    regroup false b c = refl

@@ -11,7 +11,7 @@ use Rattle.kp_base.specs.declared.ground.Initial.{Initial}
 use Rattle.kp_base.specs.Entailed.{HasModel}
 use Rattle.kp_base.specs.Implicates.{are_below, IsOfAtoms}
 use Rattle.kp_base.specs.Lit.{positive, negative, has}
-use Rattle.kp_base.specs.Steps as ground
+use Rattle.kp_base.specs.Steps as on_atoms
 use Rattle.kp_classic.specs.declared.task.Conds.{Conds}
 use Rattle.kp_classic.specs.declared.task.OpEffect.{OpEffect}
 use Rattle.kp_classic.specs.declared.task.Op.{Op}
@@ -86,9 +86,9 @@ pub record SaysOneState (n : ℕ) (i : Initial) : Type 0 where
 
 -- The task's steps and goal are those of the ground problem, and its start is the one model; so its plans are those of the ground problem.
 pub record DoesTheSame (g : Ground) (i : Initial) (t : Task) : Type 0 where
-  pub may_take : (n : ℕ) (s : Holding) → applicable (slice_get t.ops n) s ≡ ground.applicable (slice_get g.actions n) s
-  pub steps : (n : ℕ) (s : Holding) (p : ℕ) → next (slice_get t.ops n) s p ≡ ground.next (slice_get g.actions n) s p
-  pub goals : (s : Holding) → meets t.goal s ≡ list_all (ground.holds s) g.goal
-  pub starts : ground.is_model i (start t) ≡ true
-  pub one_model : (s : Holding) → ground.is_model i s ≡ true → (p : ℕ) → p < length g.atoms → s p ≡ start t p
-  pub plans : (ns : List ℕ) → (succeeds t (start t) ns ≡ true) ↔ ground.IsGroundPlan g i ns
+  pub may_take : (n : ℕ) (s : Holding) → applicable (slice_get t.ops n) s ≡ on_atoms.applicable (slice_get g.actions n) s
+  pub steps : (n : ℕ) (s : Holding) (p : ℕ) → next (slice_get t.ops n) s p ≡ on_atoms.next (slice_get g.actions n) s p
+  pub goals : (s : Holding) → meets t.goal s ≡ list_all (on_atoms.holds s) g.goal
+  pub starts : on_atoms.is_model i (start t) ≡ true
+  pub one_model : (s : Holding) → on_atoms.is_model i s ≡ true → (p : ℕ) → p < length g.atoms → s p ≡ start t p
+  pub plans : (ns : List ℕ) → (succeeds t (start t) ns ≡ true) ↔ on_atoms.IsGroundPlan g i ns

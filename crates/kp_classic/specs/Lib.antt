@@ -1,5 +1,6 @@
 pub mod Fits
 pub mod Grounded
+pub mod Laws
 pub mod Packed
 pub mod Runs
 pub mod States

@@ -5,6 +5,7 @@
 mod conds;
 mod fits;
 mod grounded;
+mod laws;
 mod runs;
 mod said;
 mod state;
@@ -14,6 +15,7 @@ mod task;
 pub use conds::{applicable, meets};
 pub use fits::is_fit;
 pub use grounded::task_of;
+pub use laws::success_is_a_run;
 pub use runs::{run_ops, start};
 pub use state::State;
 pub use steps::step_into;

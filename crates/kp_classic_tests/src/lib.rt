@@ -4,6 +4,8 @@
 #[cfg(test)]
 mod given;
 #[cfg(test)]
+mod grounded;
+#[cfg(test)]
 mod runs;
 #[cfg(test)]
 mod states;

@@ -14,8 +14,8 @@ fn are_below(numbers: &[u32], count: u32) -> bool
     numbers.iter().all(|number| *number < count)
 }
 
-// Whether the operators run, and meet the goal; none where one may not be taken.
-fn reaches(alloc: Global, task: &Task, ops: &Row<u32>) -> Result<Option<bool>, Memory> {
+/// Whether the operators run, and meet the goal; none where one may not be taken.
+pub(crate) fn reaches(alloc: Global, task: &Task, ops: &Row<u32>) -> Result<Option<bool>, Memory> {
     if !is_fit(task) {
         return Err(Memory);
     }
