@@ -3,12 +3,16 @@
 
 mod decoding;
 mod encoding;
+mod laws;
 mod printing;
+mod reading;
 mod step;
 mod stripping;
 
 pub use decoding::decode_name;
 pub use encoding::{encode_name, put, put_name};
+pub use laws::a_plan_file_has_one_answer;
 pub use printing::plan_text;
+pub use reading::read_plan;
 pub use step::PlanStep;
 pub use stripping::strip;
