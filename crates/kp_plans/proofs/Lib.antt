@@ -4,3 +4,5 @@ pub mod Strips
 pub mod StepsRead
 pub mod PlanPlaces
 pub mod WholePlans
+pub mod Tabled
+pub mod StepsFound

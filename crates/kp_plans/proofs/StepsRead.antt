@@ -1,16 +1,15 @@
 -- The steps of a plan are read one by one.
-use Rattle.std.proofs.Common.{◌≡◌, ℕ, zero, suc, ◌+◌, ◌-◌, ◌<◌, ◌≤◌, Bool, true, false, List, [], ◌∷◌, ◌++◌, map, drop, get_or, length, Ok, Err, refl, sym, ap, subst, ◌∙◌, append-nil, append_assoc, arith}
+use Rattle.std.proofs.Common.{◌≡◌, ℕ, zero, suc, ◌+◌, ◌-◌, ◌≤◌, Bool, true, false, List, [], ◌∷◌, ◌++◌, map, drop, get_or, length, Err, refl, sym, ap, subst, ◌∙◌, append-nil, append_assoc, arith}
 use Rattle.std.specs.List.{drop-map}
 use Rattle.std.proofs.lemmas.List.{drop-drop, map-append}
 use Rattle.kp_base.specs.declared.refused.Part.TheVariants as parts
 use Rattle.kp_lex.specs.Places.{place_of}
-use Rattle.kp_grammar.specs.declared.symbol.Symbol.{Symbol}
 use Rattle.kp_grammar.specs.declared.tree.Word.{Word}
 use Rattle.kp_grammar.specs.Symbols.{Tok, first_is, is_left, is_right, is_name}
 use Rattle.kp_grammar.specs.Sorts.{m_word}
 use Rattle.kp_grammar.specs.Forms.{hits}
 use Rattle.kp_grammar.specs.Grammar.{some}
-use Rattle.kp_grammar.specs.Reading.{At, stop, Reads, Stops, ReadsWhole, StopsWhole, within_form, after_form, r_token, r_both, r_end, r_more, r_bracket, s_token, s_first, s_here, s_later, s_unopened, s_inside, s_unclosed}
+use Rattle.kp_grammar.specs.Reading.{stop, Reads, Stops, StopsWhole, within_form, after_form, r_token, r_both, r_end, r_more, r_bracket, s_token, s_first, s_here, s_later, s_unopened, s_inside, s_unclosed}
 use Rattle.kp_grammar.specs.Parsing.{read}
 use Rattle.kp_grammar.proofs.Exact.{go_reads}
 use Rattle.kp_cursor.specs.declared.cursor.Class.TheVariants as classes

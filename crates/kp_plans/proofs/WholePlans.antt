@@ -1,5 +1,5 @@
 -- From the steps of tokens to those of files: one list of steps, or one refusal.
-use Rattle.std.proofs.Common.{◌≡◌, ℕ, ◌≤◌, ◌⊎◌, inl, inr, List, [], ◌∷◌, map, drop, length, Result, Ok, Err, refl, sym, ap, subst, ◌∙◌, arith}
+use Rattle.std.proofs.Common.{◌≡◌, ℕ, ◌⊎◌, inl, inr, List, [], ◌∷◌, map, drop, length, Result, Ok, Err, refl, sym, ap, subst, ◌∙◌, arith}
 use Rattle.std.specs.List.{drop-map}
 use Rattle.std.specs.Str.{str_to_ascii_lowercase}
 use Rattle.kp_base.specs.declared.refused.Part.TheVariants as parts

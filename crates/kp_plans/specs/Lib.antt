@@ -6,3 +6,5 @@ pub mod Steps
 pub mod Printed
 pub mod Stripping
 pub mod Adding
+pub mod Found
+pub mod Tables

@@ -1,4 +1,4 @@
-use Rattle.std.proofs.Common.{◌≡◌, map, sym, subst, List}
+use Rattle.std.proofs.Common.{◌≡◌, map}
 use Rattle.kp_lex.proofs.Spans.{in_text}
 use Rattle.kp_cursor.specs.Lexemes.{toks, lexed}
 use Rattle.kp_plans.proofs.WholePlans.{lexemes_ascend, of_tokens}

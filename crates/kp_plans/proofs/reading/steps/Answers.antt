@@ -1,11 +1,10 @@
-use Rattle.std.proofs.Common.{◌≡◌, ◌≤◌, ◌+◌, get_or, length, sym, subst, ap, ◌∙◌, arith, ℕ, List}
+use Rattle.std.proofs.Common.{◌≡◌, ◌≤◌, ◌+◌, length, sym, subst, ap, ◌∙◌, arith, ℕ}
 use Rattle.std.proofs.lemmas.Result.{err_from_is_err_and}
 use Rattle.kp_lex.specs.Places.{place_of}
 use Rattle.kp_base.specs.declared.refused.Part.TheVariants as parts
-use Rattle.kp_cursor.specs.declared.lexeme.Lexeme.{Lexeme}
-use Rattle.kp_cursor.specs.Lexemes.{toks, from}
+use Rattle.kp_cursor.specs.Lexemes.{from}
 use Rattle.kp_plans.specs.Steps.{Ascends}
-use Rattle.kp_plans.proofs.StepsRead.{HeadStands, head_stands, first_byte, made_of, one_more, fails, all_read, more_left}
+use Rattle.kp_plans.proofs.StepsRead.{head_stands, first_byte, made_of, one_more, fails, all_read, more_left}
 use Rattle.kp_plans.proofs.reading.steps.Goals as goal
 
 -- no step stands there
