@@ -24,7 +24,8 @@ use Rattle.kp_pieces.proofs.Reading.{Gives, many_reads}
 use Rattle.kp_pieces.proofs.Texts.{pieces_read}
 use Rattle.kp_plans.specs.Names.{IsGroundName}
 use Rattle.kp_plans.specs.Grammar.{step, plan, name_of}
-use Rattle.kp_plans.specs.Printed.{step_line, plan_pieces, PrintedPlansRead}
+use Rattle.kp_plans.specs.PlanFiles.{names as plan_names, step_of}
+use Rattle.kp_plans.specs.Printed.{step_line, plan_pieces, plan_text, PrintedPlansRead}
 
 -- ---- the lines are fine
 
@@ -95,7 +96,16 @@ named_tree : (tree : List (Word × List Word)) → map named (without_places (s_
 named_tree [] = refl
 named_tree (x ∷ xs) = ap (λ ns. name_of x ∷ ns) (named_tree xs)
 
+-- the steps of the text have the names that were made
+same_names : (text : List ℕ) (tree : List (Word × List Word)) → plan_names (map (step_of text) tree) ≡ map name_of tree
+same_names text [] = refl
+same_names text (x ∷ xs) = ap (λ ns. name_of x ∷ ns) (same_names text xs)
+
 pub printed_plans_read : PrintedPlansRead
 printed_plans_read steps h =
     let r = pieces_read _ _ plan (plan_pieces steps) (map words_of steps) ((fine_each step_line IsGroundName fine_step steps h).keeps done) (plan_reads steps h) in
-    record { tree = r.tree; names = sym (named_tree r.tree) ∙ ap (map named) r.is ∙ named_words steps; reads = r.reads }
+    record {
+      steps = map (step_of (plan_text steps)) r.tree;
+      have = same_names (plan_text steps) r.tree ∙ sym (named_tree r.tree) ∙ ap (map named) r.is ∙ named_words steps;
+      plan = record { tree = r.tree; are = refl; reads = r.reads };
+    }

@@ -1,11 +1,12 @@
 -- Steps are stripped one by one.
-use Rattle.std.proofs.Common.{◌≡◌, ℕ, ◌<◌, ◌+◌, suc, List, [], ◌∷◌, ◌++◌, Option, Some, None, option_map, option_and_then, map, take, drop, get_or, length, refl, sym, ap, ◌∙◌, append_assoc, append-nil}
+use Rattle.std.proofs.Common.{◌≡◌, ℕ, ◌<◌, ◌+◌, suc, List, [], ◌∷◌, ◌++◌, Option, Some, None, option_map, option_and_then, take, drop, get_or, length, refl, sym, ap, ◌∙◌, append_assoc, append-nil}
 use Rattle.std.proofs.lemmas.List.{map-append, take_more}
 use Rattle.std.proofs.Math.Seq.{split_at}
 use Rattle.kp_base.specs.declared.ground.GroundName.{GroundName}
 use Rattle.kp_meaning.specs.Strip.{stripped, strip}
 use Rattle.kp_plans.specs.declared.step.PlanStep.{PlanStep}
-use Rattle.kp_plans.specs.Stripping.{names, IsFirstUnstripped}
+use Rattle.kp_plans.specs.PlanFiles.{names}
+use Rattle.kp_plans.specs.Stripping.{IsFirstUnstripped}
 
 -- with what comes in front
 in_front : (o p q r : Option (List GroundName)) (done now : List GroundName) → option_and_then (λ front. option_map (λ rest. front ++ rest) p) o ≡ Some done → option_map (λ xs. done ++ xs) r ≡ Some now → ((rest others : List GroundName) → p ≡ Some rest → option_map (λ xs. rest ++ xs) r ≡ Some others → q ≡ Some others) → option_and_then (λ front. option_map (λ rest. front ++ rest) q) o ≡ Some now

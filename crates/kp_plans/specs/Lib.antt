@@ -1,6 +1,10 @@
 pub mod Names
 pub mod Decoding
 pub mod Grammar
+pub mod PlanFiles
+pub mod Steps
 pub mod Printed
 pub mod Stripping
 pub mod Adding
+pub mod Found
+pub mod Tables

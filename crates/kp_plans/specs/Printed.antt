@@ -1,12 +1,11 @@
 -- How a plan is printed, and that it reads back.
-use Rattle.std.specs.Prelude.{◌≡◌, ℕ, List, [], map}
+use Rattle.std.specs.Prelude.{◌≡◌, ℕ, List, []}
 use Rattle.std.specs.List.{AllByRecursion}
 use Rattle.kp_base.specs.declared.ground.GroundName.{GroundName}
-use Rattle.kp_grammar.specs.declared.tree.Word.{Word}
-use Rattle.kp_grammar.specs.Texts.{ReadsAs}
 use Rattle.kp_pieces.specs.Pieces.{Piece, Put, ◌⨾◌, each, opens, closes, line_feed, name, spaced, spelling}
 use Rattle.kp_plans.specs.Names.{IsGroundName}
-use Rattle.kp_plans.specs.Grammar.{plan, name_of}
+use Rattle.kp_plans.specs.declared.step.PlanStep.{PlanStep}
+use Rattle.kp_plans.specs.PlanFiles.{names, IsPlanOf}
 
 -- (HEAD OBJECT OBJECT) on a line of its own
 abbrev pub step_line : GroundName → Put
@@ -20,11 +19,11 @@ plan_pieces steps = each step_line steps []
 abbrev pub plan_text : List GroundName → List ℕ
 plan_text steps = spelling (plan_pieces steps)
 
--- the text reads as a plan with these steps
-pub record IsTextOf (text : List ℕ) (steps : List GroundName) : Type 0 where
-  pub tree : List (Word × List Word)
-  pub names : map name_of tree ≡ steps
-  pub reads : ReadsAs plan text tree
+-- the text reads as a plan whose steps have these names
+pub record IsTextOf (text : List ℕ) (named : List GroundName) : Type 0 where
+  pub steps : List PlanStep
+  pub have : names steps ≡ named
+  pub plan : IsPlanOf text steps
 
 -- ---- a law
 

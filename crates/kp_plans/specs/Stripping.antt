@@ -1,15 +1,12 @@
 -- What the steps of a plan of the written files come to, or which of them comes to nothing.
-use Rattle.std.specs.Prelude.{◌≡◌, List, ◌∷◌, ◌++◌, Some, None, Result, Ok, Err, map, IsSome}
+use Rattle.std.specs.Prelude.{◌≡◌, List, ◌∷◌, ◌++◌, Some, None, Result, Ok, Err, IsSome}
 use Rattle.kp_base.specs.declared.ground.GroundName.{GroundName}
 use Rattle.kp_base.specs.declared.refused.Stop.{Stop}
 use Rattle.kp_base.specs.declared.refused.Stop.TheVariants as stops
 use Rattle.kp_base.specs.declared.refused.Refused.TheVariants as refusals
 use Rattle.kp_meaning.specs.Strip.{stripped, strip}
 use Rattle.kp_plans.specs.declared.step.PlanStep.{PlanStep}
-
--- the names of steps
-abbrev pub names : List PlanStep → List GroundName
-names steps = map (λ s. s.name) steps
+use Rattle.kp_plans.specs.PlanFiles.{names}
 
 -- the first step that is no operator's
 pub record IsFirstUnstripped (steps : List PlanStep) (step : PlanStep) : Type 0 where

@@ -51,6 +51,15 @@ pub fn put_name(out: &mut Vec<u8>, name: &GroundName) -> Result<(), Memory>
     Ok(())
 }
 
+// The name of an atom or an action as one word.
+pub fn word_of(alloc: Global, name: &GroundName) -> Result<Vec<u8>, Memory>
+    ensures { IfOk result (λ word. word.items ≡ encoded name.now) }
+{
+    let mut word = Vec::new(alloc);
+    put_name(&mut word, name)?;
+    Ok(word)
+}
+
 /// The name of an atom or an action as one word: its parts joined by `_-`, each `_` within them doubled.
 pub fn encode_name(alloc: Global, name: &GroundName) -> Result<Text, Memory>
     requires { HasNoEmptyPart name.now }
@@ -58,7 +67,6 @@ pub fn encode_name(alloc: Global, name: &GroundName) -> Result<Text, Memory>
     // What was encoded is decoded again.
     ensures decodes { IfOk result (λ word. decoded word ≡ Some name.now) }
 {
-    let mut out = Vec::new(alloc);
-    put_name(&mut out, name)?;
-    Ok(Text::from_slice(alloc, &out)?)
+    let word = word_of(alloc, name)?;
+    Ok(Text::from_slice(alloc, &word)?)
 }

@@ -1,6 +1,5 @@
-use Rattle.std.proofs.Common.{◌≡◌, refl, sym, subst, List}
+use Rattle.std.proofs.Common.{refl, subst, List}
 use Rattle.kp_plans.specs.declared.step.PlanStep.{PlanStep}
-use Rattle.kp_plans.specs.Adding.{Adds}
 use Rattle.kp_plans.specs.Stripping.{IsFirstUnstripped}
 use Rattle.kp_plans.proofs.Strips.{one_more, first_one}
 use Rattle.kp_plans.proofs.stripping.strip.Goals as goal

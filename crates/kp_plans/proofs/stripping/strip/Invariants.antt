@@ -1,6 +1,6 @@
 use Rattle.std.proofs.Common.{◌≡◌, Some, take}
 use Rattle.kp_meaning.specs.Strip.{strip}
-use Rattle.kp_plans.specs.Stripping.{names}
+use Rattle.kp_plans.specs.PlanFiles.{names}
 use Rattle.kp_plans.proofs.stripping.strip.Given as goal
 
 -- the actions of the steps so far

@@ -1,0 +1,12 @@
+use Rattle.std.proofs.Common.{◌≡◌, ℕ, List, map, drop}
+use Rattle.std.specs.List.{position_from}
+use Rattle.std.specs.Option.{option_or}
+use Rattle.kp_meaning.specs.Names.{same}
+use Rattle.kp_meaning.specs.Encoding.{encoded}
+use Rattle.kp_plans.specs.Found.{action_names}
+use Rattle.kp_plans.specs.Tables.{number_under}
+use Rattle.kp_plans.proofs.table.NameTable.of_actions.Given as goal
+
+-- a word that the table doesn't tell stands first where it does among those that are left
+abbrev pub invariant-loop-number : goal.invariant-loop-number
+invariant-loop-number l = (x : List ℕ) → option_or (number_under l.table x) (position_from (same x) l.number (map encoded (action_names (drop l.number l.actions)))) ≡ position_from (same x) 0 (map encoded (action_names l.actions))
