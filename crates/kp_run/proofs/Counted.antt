@@ -21,7 +21,7 @@ use Rattle.kp_ground.specs.Grounded.{IsGrounded}
 use Rattle.kp_ground.specs.Passes.{action_at}
 use Rattle.kp_ground.proofs.Kept.{actions_at}
 use Rattle.kp_clash.specs.Counted.{IsCounted}
-use Rattle.kp_run.specs.Due.{usual}
+use Rattle.kp_run.specs.Outcomes.{usual}
 
 -- ---- lists
 
