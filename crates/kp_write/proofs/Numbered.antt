@@ -184,7 +184,7 @@ one_of_some x y e = cc
 
 module _ (t : Task) (w : CanBeWritten t) where
   -- these operators are those of these numbers
-  abbrev AreAt : List ℕ → List Op → Type 0
+  abbrev pub AreAt : List ℕ → List Op → Type 0
   AreAt ns os = map (λ n. option_map (named_op t.facts) (slice_get t.ops n)) ns ≡ map Some os
 
   run_alike : (ns : List ℕ) (os : List Op) → AreAt ns os → (s : Facts) (h : Holding) → Agree t.facts w.facts_differ s h → runs (named_goal t) os s ≡ succeeds t h ns
@@ -207,7 +207,7 @@ module _ (t : Task) (w : CanBeWritten t) where
           subst (λ (z : Op). runs (named_goal t) (z ∷ os) s ≡ (applicable (Some a) h && succeeds t (next (Some a) h) ns)) it
           (rw (pre, rest (after_op (named_op t.facts a) s) (after a h) (goes_on t.facts w.facts_differ s h agree a ok)) refl)
 
-  from_start : (ns : List ℕ) (os : List Op) → AreAt ns os → runs (named_goal t) os (is_among (named_start t)) ≡ succeeds t (start t) ns
+  pub from_start : (ns : List ℕ) (os : List Op) → AreAt ns os → runs (named_goal t) os (is_among (named_start t)) ≡ succeeds t (start t) ns
   from_start ns os at = run_alike ns os at (is_among (named_start t)) (start t) (at_start t.facts w.facts_differ t.init w.start_fits)
 
 -- ---- operators by number
