@@ -36,13 +36,6 @@ impl Bits {
         Ok(Bits { count: n, words })
     }
 
-    /// How many bits there are.
-    pub fn len(&self) -> u32
-        ensures { result ≡ length self.now }
-    {
-        self.count
-    }
-
     /// Sets a bit.
     pub fn set(&mut self, i: u32)
         requires { i < length self.old }

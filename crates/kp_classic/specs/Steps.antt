@@ -19,7 +19,7 @@ meets c s = list_all s c.yes && list_all (λ f. not (s f)) c.no
 
 -- some effect that adds the fact, or deletes it, has its conditions met
 abbrev pub fires : List OpEffect → Holding → Bool → ℕ → Bool
-fires es s adds f = list_any (λ e. beq adds e.adds && (nat_eq e.fact f && meets e.cond s)) es
+fires es s adds f = list_any (λ e. beq adds e.adds && (nat_eq f e.fact && meets e.cond s)) es
 
 -- what holds after an operator, all conditions being read before: deleted facts go, and then added ones come
 abbrev pub after : Op → Holding → Holding

@@ -1,0 +1,6 @@
+pub mod ExampleTask
+pub mod Fitting
+pub mod OfGround
+pub mod Ordered
+pub mod States
+pub mod Stepping
