@@ -1,7 +1,7 @@
 -- What is put and what is read while a front of a list is done.
-use Rattle.std.proofs.Common.{◌≡◌, ◌<◌, ◌+◌, ◌++◌, ℕ, Bool, true, false, nat_lt, IsTrue, subst, arith, suc, add-one, List, [], ◌∷◌, Option, Some, None, map, drop, get_or, length, refl, sym, ap, ◌∙◌, drop-cons}
+use Rattle.std.proofs.Common.{◌≡◌, ◌<◌, ◌≤◌, ◌+◌, ◌++◌, ℕ, Bool, true, false, nat_lt, IsTrue, subst, arith, suc, add-one, List, [], ◌∷◌, Option, Some, None, map, drop, take, min, get_or, length, refl, sym, ap, ◌∙◌, drop-cons}
 use Rattle.std.specs.FinMap.{get}
-use Rattle.std.proofs.lemmas.List.{take_all, take_at, length-append}
+use Rattle.std.proofs.lemmas.List.{take_all, take_at, length-append, length-take, length-take-le}
 use Rattle.std.proofs.lemmas.Bool.Decides.{nat_tests}
 use Rattle.kp_outside.specs.declared.outside.Got.{Got}
 use Rattle.kp_outside.specs.Outside.{FileMap, Gets, IsFront, IsWithin, with_file, without_file, Rises}
@@ -72,7 +72,7 @@ pub begin_gets : (held : Option FileMap) (names : List (List ℕ)) → AreReadTo
 begin_gets held names = record { front = []; in_order = refl; read = record { texts = []; are_held = nothing held; are_fronts = none } }
   where
     nothing : (held : Option FileMap) → AreHeld held [] []
-    nothing None = tt
+    nothing None = refl
     nothing (Some m) = refl
 
 held_last : (m : FileMap) (front texts : List (List ℕ)) (name text : List ℕ) → map (get m) front ≡ map Some texts → get m name ≡ Some text → map (get m) (front ++ (name ∷ [])) ≡ map Some (texts ++ (text ∷ []))
@@ -102,7 +102,10 @@ some_text got h = by got.more refl
 -- what was got of a name, where it is told what is held
 text_of : (held : Option FileMap) (front : List (List ℕ)) (texts : List (List ℕ)) (name : List ℕ) (got : Got) → Gets held name most_bytes got → IsWithin most_bytes got → AreHeld held front texts
     → (text : List ℕ) × AreHeld held (front ++ (name ∷ [])) (texts ++ (text ∷ [])) × IsFront (Some text) most_bytes got
-text_of None front texts name got gets within held = let t = some_text got within in (t.0, tt, t.1)
+text_of None front texts name got gets within held = let t = some_text got within in (t.0, counted t.0, t.1)
+  where
+    counted : (text : List ℕ) → length (texts ++ (text ∷ [])) ≡ length (front ++ (name ∷ []))
+    counted text = length-append texts (text ∷ []) ∙ (ap (λ n. n + 1) held ∙ sym (length-append front (name ∷ [])))
 text_of (Some m) front texts name got gets within held = by (get m name) refl gets
   where
     by : (o : Option (List ℕ)) → get m name ≡ o → IsFront o most_bytes got → (text : List ℕ) × AreHeld (Some m) (front ++ (name ∷ [])) (texts ++ (text ∷ [])) × IsFront (Some text) most_bytes got
@@ -117,3 +120,33 @@ read_next held now names rest gots name got same gets within h =
       in_order = h.in_order ∙ moved h.front name rest;
       read = record { texts = h.read.texts ++ (t.0 ∷ []); are_held = t.1; are_fronts = fronts_last h.read.texts gots t.0 got h.read.are_fronts t.2 };
     }
+
+-- ---- what was read
+
+-- there are as many as names
+pub as_many : (held : Option FileMap) (names : List (List ℕ)) (gots : List Got) → AreRead held names gots → length gots ≡ length names
+as_many held names gots h = fronts h.texts gots h.are_fronts ∙ counted held names h.texts h.are_held
+  where
+    fronts : (texts : List (List ℕ)) (gs : List Got) → AreFronts texts gs → length gs ≡ length texts
+    fronts _ _ none = refl
+    fronts _ _ (also t ts g gs first more) = ap suc (fronts ts gs more)
+
+    counted : (o : Option FileMap) (ns texts : List (List ℕ)) → AreHeld o ns texts → length texts ≡ length ns
+    counted None ns texts h = h
+    counted (Some m) ns texts h = by ns texts h
+      where
+        by : (ns texts : List (List ℕ)) → map (get m) ns ≡ map Some texts → length texts ≡ length ns
+        by [] [] e = refl
+        by [] (t ∷ ts) e = absurd cc
+        by (n ∷ ns) [] e = absurd cc
+        by (n ∷ ns) (t ∷ ts) e = ap suc (by ns ts cc)
+
+-- a front is no longer than what was asked for
+pub front_within : (text : List ℕ) (most : ℕ) (got : Got) → IsFront (Some text) most got → IsWithin most got
+front_within text most got h = (rw h.0 (take_short most text), λ more. rw h.0 (take_long most text (sym h.1 ∙ more)))
+  where
+    take_short : (n : ℕ) (xs : List ℕ) → length (take n xs) ≤ n
+    take_short n xs = omega (arith, length-take n xs)
+
+    take_long : (n : ℕ) (xs : List ℕ) → nat_lt n (length xs) ≡ true → length (take n xs) ≡ n
+    take_long n xs e = length-take-le n xs (grind (arith, nat_tests, e))

@@ -1,5 +1,5 @@
 -- How a command ends: what is held and was told afterwards, and which counts of faults rose.
-use Rattle.std.specs.Prelude.{◌≡◌, List, [], ◌∷◌, ◌++◌, ℕ, Option, Some, None, map}
+use Rattle.std.specs.Prelude.{◌≡◌, List, [], ◌∷◌, ◌++◌, ℕ, Option, Some, None, map, length}
 use Rattle.std.specs.FinMap.{get}
 use Rattle.kp_outside.specs.declared.outside.Got.{Got}
 use Rattle.kp_outside.specs.declared.outside.OutsideStop.{OutsideStop}
@@ -78,9 +78,9 @@ pub data CarriesOut (o : Outcome) (old new : Outside) (s : Status) : Type 0 wher
 abbrev pub most_bytes : ℕ
 most_bytes = 16777216
 
--- these are the contents of the names, where it is told what is held
+-- these are the contents of the names; where it isn't told what is held, there are as many
 abbrev pub AreHeld : Option FileMap → List (List ℕ) → List (List ℕ) → Type 0
-AreHeld None names texts = Unit {0}
+AreHeld None names texts = length texts ≡ length names
 AreHeld (Some m) names texts = map (get m) names ≡ map Some texts
 
 -- what was read of files with these contents

@@ -58,7 +58,7 @@ pub fn carry_out<S: Shelf, O: Sink>(
     match put_all(alloc, outcome.puts.slice(), shelf) {
         Ok(()) => match print(alloc, out, &outcome.text) {
             Ok(()) => outcome.status,
-            Err(stop) => stopped(stop, Status::WriteFault),
+            Err(cause) => stopped(cause, Status::WriteFault),
         },
         Err(stop) => stopped(stop, Status::WriteFault),
     }

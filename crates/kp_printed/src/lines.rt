@@ -72,11 +72,7 @@ pub(crate) fn put_state(
 }
 
 // Adds the line of a step of a plan, counted from 1.
-pub(crate) fn put_step(
-    out: &mut Vec<u8>,
-    steps: &[GroundName],
-    step: u32,
-) -> Result<(), Memory>
+pub(crate) fn put_step(out: &mut Vec<u8>, steps: &[GroundName], step: u32) -> Result<(), Memory>
     ensures { OnOk result (out.new.items ≡ out.old.items ++ step_line steps.now step) }
 {
     put(out, b"step ")?;
@@ -87,11 +83,7 @@ pub(crate) fn put_step(
 }
 
 // Adds the line of a target.
-pub(crate) fn put_target(
-    out: &mut Vec<u8>,
-    atoms: &[GroundName],
-    target: Lit,
-) -> Result<(), Memory>
+pub(crate) fn put_target(out: &mut Vec<u8>, atoms: &[GroundName], target: Lit) -> Result<(), Memory>
     ensures { OnOk result (out.new.items ≡ out.old.items ++ target_line atoms.now target) }
 {
     put(out, b"target ")?;

@@ -9,6 +9,7 @@ use std::alloc::Global;
 use std::marker::Model;
 
 /// What a refusal may name by number.
+#[derive(Drop)]
 pub struct Named<'a> {
     /// The atoms of the ground problem.
     pub atoms: &'a [GroundName],
@@ -85,12 +86,7 @@ fn put_invalid(
 }
 
 // Adds the lines of a target that has too many sets of a size.
-fn put_sets(
-    out: &mut Vec<u8>,
-    atoms: &[GroundName],
-    target: Lit,
-    size: u32,
-) -> Result<(), Memory>
+fn put_sets(out: &mut Vec<u8>, atoms: &[GroundName], target: Lit, size: u32) -> Result<(), Memory>
     ensures { OnOk result (out.new.items ≡ out.old.items ++ (target_line atoms.now target ++ number_line (codes "size ") size)) }
 {
     put_target(out, atoms, target)?;
