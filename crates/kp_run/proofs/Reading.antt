@@ -1,4 +1,4 @@
--- What a file is read as, and which refusals may come.
+-- What a file is read as.
 use Rattle.std.proofs.Common.{◌≡◌, ℕ, Bool, true, false, List, length, take, nat_lt, Result, Ok, Err, IfOk, subst, ◌∙◌, arith}
 use Rattle.std.proofs.lemmas.List.{take_all}
 use Rattle.std.proofs.lemmas.Bool.Decides.{nat_tests}
@@ -12,12 +12,10 @@ use Rattle.kp_grammar.specs.Grammar as grammar
 use Rattle.kp_grammar.specs.Sorts.{Sort, El}
 use Rattle.kp_grammar.specs.Forms.{Form}
 use Rattle.kp_grammar.specs.Trees.{Domain, Problem}
-use Rattle.kp_meaning.specs.Faults.{unknown_name, declared_twice, wrong_use}
 use Rattle.kp_tree.specs.Files.{Reads, Refuses, AnswersFile}
 use Rattle.kp_lifted.specs.declared.lifted.Lifted.{Lifted}
-use Rattle.kp_names.specs.Resolved.{RefusesNames, in_domain, in_problem, AnswersNames}
-use Rattle.kp_run.specs.Due.{IsOrdinary}
-use Rattle.kp_run.specs.Reports.{IsProblemOf}
+use Rattle.kp_names.specs.Resolved.{RefusesNames, AnswersNames}
+use Rattle.kp_run.specs.Numbered.{IsProblemOf}
 
 -- ---- one tree
 
@@ -41,15 +39,6 @@ refused_names x y d p result r h e = subst (AnswersNames x y d p) e h
 pub resolved_is : (x y : List ℕ) (d : Domain Word) (p : Problem Word) (result : Result Lifted Stop) → Reads grammar.domain x d → Reads grammar.problem y p → AnswersNames x y d p result → IfOk result (IsProblemOf x y)
 resolved_is x y d p (Ok l) h k a = record { first = d; second = p; trees = record { domain_reads = h; problem_reads = k; no_fault = a.no_fault }; resolved = a }
 resolved_is x y d p (Err e) h k a = tt
-
--- such a refusal may come
-pub names_ordinary : (x y : List ℕ) (d : Domain Word) (p : Problem Word) (r : Refused) → RefusesNames x y d p r → IsOrdinary r
-names_ordinary x y d p _ (in_domain (unknown_name byte) h) = tt
-names_ordinary x y d p _ (in_domain (declared_twice byte) h) = tt
-names_ordinary x y d p _ (in_domain (wrong_use byte) h) = tt
-names_ordinary x y d p _ (in_problem (unknown_name byte) none h) = tt
-names_ordinary x y d p _ (in_problem (declared_twice byte) none h) = tt
-names_ordinary x y d p _ (in_problem (wrong_use byte) none h) = tt
 
 -- what holds anyway holds of an answer
 pub where_ok : {A E : Type 0} {P : Type 0} (result : Result A E) → P → IfOk result (λ x. P)

@@ -17,16 +17,18 @@ use Rattle.kp_given.specs.Laws.{HasInitialState}
 use Rattle.kp_given.specs.Translations.{ground_of, initial_of}
 use Rattle.kp_sound.proofs.Trees.{translations_sound}
 use Rattle.kp_run.specs.Texts.{HaveTrees}
-use Rattle.kp_run.specs.Due.{AnswersTrees, too_large, implicates_over, no_initial_state, clash as when_clash, done as when_done}
-use Rattle.kp_run.specs.declared.status.Status.{Status}
-use Rattle.kp_run.specs.declared.status.Status.TheVariants as status
-use Rattle.kp_run.specs.Command.{Command, IsCommand}
-use Rattle.kp_run.specs.Results.{Outcome, IsResult, usage, refused, clashed, translated, ComesTo, with_files}
+use Rattle.kp_outcome.specs.declared.outcome.Outcome.{Outcome}
+use Rattle.kp_outcome.specs.declared.status.Status.{Status}
+use Rattle.kp_outcome.specs.declared.status.Status.TheVariants as status
+use Rattle.kp_outcome.specs.Ends.{Outside, AreHeld, with_files, CarriesOut, whole, put_failed, put_no_memory, print_failed, print_no_memory}
+use Rattle.kp_run.specs.Names.{Translate}
+use Rattle.kp_run.specs.declared.command.Command.{Command}
+use Rattle.kp_run.specs.declared.command.Command.TheVariants as commands
+use Rattle.kp_run.specs.Command.{IsTranslate, IsCommand, inputs_of}
+use Rattle.kp_run.specs.Outcomes.{translates, IsStarted, TranslatesTrees, too_large, implicates_over, no_initial_state, clash as when_clash, done as when_done, TranslatesTexts, refused, on_trees, ComesTo, translated, IsDue, usage, of_command}
+use Rattle.kp_run.specs.Ends.{Ends, came, read_failed, no_memory}
 use Rattle.kp_run.specs.Soundness.{IsSound}
-use Rattle.kp_outside.specs.declared.outside.OutsideStop.{OutsideStop}
-use Rattle.kp_outside.specs.declared.outside.OutsideStop.TheVariants as stops
-use Rattle.kp_run.specs.Reports.{stop_of}
-use Rattle.kp_run.proofs.Reporting.{one_command}
+use Rattle.kp_run.proofs.OneCommand.{one_command}
 
 -- ---- what is held under two names
 
@@ -52,51 +54,81 @@ problem_of domain problem d p h = record {
   no_fault = h.no_fault;
 }
 
--- what Done says of the trees
-record IsDone (d : Domain Word) (p : Problem Word) : Type 0 where
-  initial : HasInitialState p
-  no_clash : IsClashFree (ground_of d p) (initial_of d p)
+-- what Done says of the texts
+record IsDone (c : Translate) (domain problem : List ℕ) (o : Outcome) : Type 0 where
+  first : Domain Word
+  second : Problem Word
+  trees : HaveTrees domain problem first second
+  started : IsStarted c.implicates first second
+  no_clash : IsClashFree (ground_of first second) (initial_of first second)
+  outcome : o ≡ translates c (translation_of first second)
 
-is_done : (limit : ℕ) (d : Domain Word) (p : Problem Word) (s : Status) → AnswersTrees limit d p s → s ≡ status.Done → IsDone d p
-is_done limit d p _ (too_large r a) e = absurd cc
-is_done limit d p _ (implicates_over k a b) e = absurd cc
-is_done limit d p _ (no_initial_state a b c) e = absurd cc
-is_done limit d p _ (when_clash c a b) e = absurd cc
-is_done limit d p _ (when_done a b) e = record { initial = a.initial; no_clash = b }
+is_done : (c : Translate) (x y : List ℕ) (o : Outcome) → TranslatesTexts c x y o → o.status ≡ status.Done → IsDone c x y o
+is_done c x y _ (refused r a) e = absurd cc
+is_done c x y _ (on_trees d p _ h (too_large r a)) e = absurd cc
+is_done c x y _ (on_trees d p _ h (implicates_over k a b)) e = absurd cc
+is_done c x y _ (on_trees d p _ h (no_initial_state a b f)) e = absurd cc
+is_done c x y _ (on_trees d p _ h (when_clash z a b)) e = absurd cc
+is_done c x y _ (on_trees d p _ h (when_done a b)) e = record { first = d; second = p; trees = h; started = a; no_clash = b; outcome = refl }
 
-sound_result : (words : List (Vec ℕ Global)) (before after : FileMap) (c : Command) (o : Outcome) → IsCommand words c → IsResult words before o → o.status ≡ status.Done → Some after ≡ with_files (Some before) o.puts → IsSound before after c
-sound_result words before after c _ is (usage none) done puts = absurd cc
-sound_result words before after c _ is (refused d r so may answers) done puts = absurd cc
-sound_result words before after c _ is (clashed d f p at so holds answers) done puts = absurd cc
-sound_result words before after c _ is (translated e d p so holds answers) done puts =
-    subst (IsSound before after) (one_command words e c so is) (record {
-      domain = holds.domain;
-      problem = holds.problem;
-      domain_out = (translation_of d p).domain;
-      problem_out = (translation_of d p).problem;
-      domain_held = holds.domain_held;
-      problem_held = holds.problem_held;
-      has_problem = has;
-      initial_state = all_done.initial;
-      domain_put = ap (λ m. get m e.domain_out) held ∙ (under_another (insert before e.domain_out (translation_of d p).domain) e.domain_out e.problem_out (translation_of d p).problem so.files.outputs_differ ∙ at_last before e.domain_out (translation_of d p).domain);
-      problem_put = ap (λ m. get m e.problem_out) held ∙ at_last (insert before e.domain_out (translation_of d p).domain) e.problem_out (translation_of d p).problem;
-      plans = translations_sound holds.domain holds.problem has (never_clashes (ground_of d p) (initial_of d p) all_done.no_clash);
-    })
-  where
-    has : HasProblem holds.domain holds.problem
-    has = problem_of holds.domain holds.problem d p holds.trees
+-- both texts are held
+record AreBoth (m : FileMap) (c : Translate) (o : Outcome) : Type 0 where
+  domain : List ℕ
+  problem : List ℕ
+  domain_held : get m c.domain ≡ Some domain
+  problem_held : get m c.problem ≡ Some problem
+  texts : TranslatesTexts c domain problem o
 
-    all_done : IsDone d p
-    all_done = is_done e.implicates d p status.Done answers refl
+both_held : (m : FileMap) (c : Translate) (e : Command) (texts : List (List ℕ)) (o : Outcome) → commands.Translate c ≡ e → AreHeld (Some m) (inputs_of e) texts → ComesTo e texts o → AreBoth m c o
+both_held m c _ _ o same held (translated d x y _ a) =
+    let it : d ≡ c = cc in
+    let there = subst (λ z. AreHeld (Some m) (inputs_of (commands.Translate z)) (x ∷ y ∷ [])) it held in
+    record { domain = x; problem = y; domain_held = cc there; problem_held = cc there; texts = subst (λ z. TranslatesTexts z x y o) it a }
 
-    held : after ≡ insert (insert before e.domain_out (translation_of d p).domain) e.problem_out (translation_of d p).problem
-    held = cc
+module _ (before after : FileMap) (c : Translate) (o : Outcome) (apart : c.domain_out ≢ c.problem_out) (both : AreBoth before c o) (done : o.status ≡ status.Done) (puts : Some after ≡ with_files (Some before) o.puts) where
+  all_done : IsDone c both.domain both.problem o
+  all_done = is_done c both.domain both.problem o both.texts done
 
--- a run that ended with Done, where it was told what is held
-pub is_sound : (words : List (Vec ℕ Global)) (before after : FileMap) (c : Command) (new told_old told_new : Option _) (s : Status) → IsCommand words c → s ≡ status.Done → new ≡ Some after → ComesTo words before (Some before) new told_old told_new s → IsSound before after c
-is_sound words before after c new told_old told_new s is done held came = sound_result words before after c came.outcome is came.is_result (sym came.status_is ∙ done) (sym held ∙ came.puts_are)
+  abbrev d : Domain Word
+  d = all_done.first
 
--- what stopped isn't Done
-pub never_done : (stop : OutsideStop) → stop_of stop status.ReadFault ≡ status.Done → ⊥
-never_done stops.Failed e = cc
-never_done stops.Memory e = cc
+  abbrev p : Problem Word
+  p = all_done.second
+
+  has : HasProblem both.domain both.problem
+  has = problem_of both.domain both.problem d p all_done.trees
+
+  held : after ≡ insert (insert before c.domain_out (translation_of d p).domain) c.problem_out (translation_of d p).problem
+  held = let they = subst (λ (z : Outcome). Some after ≡ with_files (Some before) z.puts) all_done.outcome puts in cc they
+
+  pub sound_outcome : IsSound before after c
+  sound_outcome = record {
+    domain = both.domain;
+    problem = both.problem;
+    domain_out = (translation_of d p).domain;
+    problem_out = (translation_of d p).problem;
+    domain_held = both.domain_held;
+    problem_held = both.problem_held;
+    has_problem = has;
+    initial_state = all_done.started.initial;
+    domain_put = ap (λ m. get m c.domain_out) held ∙ (under_another (insert before c.domain_out (translation_of d p).domain) c.domain_out c.problem_out (translation_of d p).problem apart ∙ at_last before c.domain_out (translation_of d p).domain);
+    problem_put = ap (λ m. get m c.problem_out) held ∙ at_last (insert before c.domain_out (translation_of d p).domain) c.problem_out (translation_of d p).problem;
+    plans = translations_sound both.domain both.problem has (never_clashes (ground_of d p) (initial_of d p) all_done.no_clash);
+  }
+
+-- ---- a run that ended with Done
+
+sound_due : (words : List (Vec ℕ Global)) (before after : FileMap) (c : Translate) (o : Outcome) → IsTranslate words c → IsDue words (Some before) o → o.status ≡ status.Done → Some after ≡ with_files (Some before) o.puts → IsSound before after c
+sound_due words before after c _ is (usage none) done puts = absurd cc
+sound_due words before after c o is (of_command e texts _ so held comes) done puts =
+    sound_outcome before after c o is.files.outputs_differ (both_held before c e texts o (one_command words (commands.Translate c) e is so) held comes) done puts
+
+pub sound_end : (words : List (Vec ℕ Global)) (old new : Outside) (s : Status) → Ends words old new s → (before after : FileMap) (c : Translate) → old.held ≡ Some before → new.held ≡ Some after → IsTranslate words c → s ≡ status.Done → IsSound before after c
+sound_end words old new s (came o due (whole same none held told)) before after c first last is done =
+    sound_due words before after c o is (subst (λ m. IsDue words m o) first due) (sym same ∙ done) (sym last ∙ (held ∙ ap (λ m. with_files m o.puts) first))
+sound_end words old new s (came o due (put_failed f e a b g h i)) before after c first last is done = absurd cc
+sound_end words old new s (came o due (put_no_memory f e a b g)) before after c first last is done = absurd cc
+sound_end words old new s (came o due (print_failed e a b g h i)) before after c first last is done = absurd cc
+sound_end words old new s (came o due (print_no_memory e a b g)) before after c first last is done = absurd cc
+sound_end words old new s (read_failed d e k a b g h) before after c first last is done = absurd cc
+sound_end words old new s (no_memory e a b) before after c first last is done = absurd cc

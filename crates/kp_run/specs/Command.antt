@@ -1,15 +1,12 @@
--- Which words are a command.
+-- Which words are a command, and which files a command reads and writes.
 use Rattle.std.specs.Prelude.{◌≡◌, ◌≢◌, ◌≤◌, List, [], ◌∷◌, ◌++◌, ℕ, false, nat_eq, map, codes, decimal, Vec, IsUtf8}
 use Rattle.std.specs.List.{starts_with}
 use Rattle.std.specs.declared.alloc.Global.{Global}
+use Rattle.kp_run.specs.Names.{Translate}
+use Rattle.kp_run.specs.declared.command.Command.{Command}
+use Rattle.kp_run.specs.declared.command.Command.TheVariants as commands
 
--- the names of the files of a command, two that are read and two that are written; and how many prime implicates it allows
-pub record Command : Type 0 where
-  pub domain : List ℕ
-  pub problem : List ℕ
-  pub domain_out : List ℕ
-  pub problem_out : List ℕ
-  pub implicates : ℕ
+-- ---- words
 
 -- a word that may name a file: it isn't empty, doesn't begin with a dash, and is UTF-8
 pub record IsPositional (word : List ℕ) : Type 0 where
@@ -17,8 +14,8 @@ pub record IsPositional (word : List ℕ) : Type 0 where
   pub no_dash : starts_with nat_eq word (codes "-") ≡ false
   pub utf8 : IsUtf8 word
 
--- the first words say what is to be done, name the files, and say the mode
-pub record NamesFiles (words : List (List ℕ)) (c : Command) : Type 0 where
+-- the first words of `translate` say what is to be done, name the files, and say the mode
+pub record NamesFiles (words : List (List ℕ)) (c : Translate) : Type 0 where
   pub words_are : words ≡ codes "translate" ∷ c.domain ∷ c.problem ∷ c.domain_out ∷ c.problem_out ∷ codes "--mode" ∷ codes "k0" ∷ []
   pub domain : IsPositional c.domain
   pub problem : IsPositional c.problem
@@ -36,13 +33,27 @@ pub data SaysLimit : List (List ℕ) → ℕ → Type 0 where
   usual_limit : SaysLimit [] 20000
   stated : (n : ℕ) → IsLimit n → SaysLimit (codes "--implicates" ∷ decimal n ∷ []) n
 
--- the words are this command
-pub record IsCommand (words : List (Vec ℕ Global)) (c : Command) : Type 0 where
+-- the words are this translation
+pub record IsTranslate (words : List (Vec ℕ Global)) (c : Translate) : Type 0 where
   pub front : List (List ℕ)
   pub options : List (List ℕ)
   pub words_are : map (λ w. w.items) words ≡ front ++ options
   pub files : NamesFiles front c
   pub limit : SaysLimit options c.implicates
+
+-- ---- the table of commands
+
+-- the words are this command
+abbrev pub IsCommand : List (Vec ℕ Global) → Command → Type 0
+IsCommand words (commands.Translate c) = IsTranslate words c
+
+-- the names of the files that a command reads, in order
+abbrev pub inputs_of : Command → List (List ℕ)
+inputs_of (commands.Translate c) = c.domain ∷ c.problem ∷ []
+
+-- the names of the files that it writes, in order
+abbrev pub outputs_of : Command → List (List ℕ)
+outputs_of (commands.Translate c) = c.domain_out ∷ c.problem_out ∷ []
 
 -- the words are no command
 abbrev pub IsNoCommand : List (Vec ℕ Global) → Type 0

@@ -1,9 +1,9 @@
+pub mod Names
 pub mod Command
-pub mod Printed
 pub mod Texts
-pub mod Due
+pub mod Outcomes
 pub mod Ends
-pub mod Numbers
-pub mod Reports
-pub mod Results
 pub mod Soundness
+pub mod Laws
+pub mod Follows
+pub mod Numbered

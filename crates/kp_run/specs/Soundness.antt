@@ -5,10 +5,10 @@ use Rattle.kp_outside.specs.Outside.{FileMap}
 use Rattle.kp_meaning.specs.Plans.{HasProblem}
 use Rattle.kp_given.specs.Laws.{HasInitialState}
 use Rattle.kp_sound.specs.Laws.{PlansStrip}
-use Rattle.kp_run.specs.Command.{Command}
+use Rattle.kp_run.specs.Names.{Translate}
 
 -- The contents of the two input names before the command have a problem, in which some state is initial, and each plan of the contents of the two output names after it strips to a plan of theirs.
-pub record IsSound (before after : FileMap) (c : Command) : Type 0 where
+pub record IsSound (before after : FileMap) (c : Translate) : Type 0 where
   pub domain : List ℕ
   pub problem : List ℕ
   pub domain_out : List ℕ

@@ -1,5 +1,6 @@
 ghost use Rattle.std.specs.Prelude.{◌≡◌, ◌≢◌, ◌≤◌, ◌<◌, ◌^◌, ◌↔◌, ℕ, List, map, decimal, IsTrue, MatchOption, IfSome};
-ghost use Rattle.kp_run.specs.Command.{Command as Names, IsPositional, NamesFiles, IsLimit, SaysLimit, IsCommand, IsNoCommand};
+ghost use Rattle.kp_run.specs.Names.{Translate as Names};
+ghost use Rattle.kp_run.specs.Command.{IsPositional, NamesFiles, IsLimit, SaysLimit, IsTranslate, IsCommand, IsNoCommand};
 
 use itoa::Buffer;
 use std::marker::Model;
@@ -11,9 +12,9 @@ const USUAL_IMPLICATES: u32 = 20_000;
 // How many may be allowed at most.
 const MOST_IMPLICATES: u32 = 100_000;
 
-/// The names of the files of a command, and its limit.
+/// The words of `translate`.
 #[derive(Drop)]
-pub struct Command<'a> {
+pub struct Translate<'a> {
     /// The domain that is read.
     pub domain: &'a [u8],
     /// The problem that is read.
@@ -26,12 +27,19 @@ pub struct Command<'a> {
     pub implicates: u32,
 }
 
-impl<'a> Model for Command<'a> {
-    ghost use Rattle.kp_run.specs.Command.{Command as Names};
+impl<'a> Model for Translate<'a> {
+    ghost use Rattle.kp_run.specs.Names.{Translate as Names};
 
     ghost Value = { Names };
 
     ghost view = { λ c. record { domain = c.domain.now; problem = c.problem.now; domain_out = c.domain_out.now; problem_out = c.problem_out.now; implicates = c.implicates } };
+}
+
+/// A command, with what its words say.
+#[derive(Drop)]
+pub enum Command<'a> {
+    /// Writes the classical problem of a conformant one.
+    Translate(Translate<'a>),
 }
 
 // Whether a word may name a file.
@@ -114,9 +122,9 @@ fn said_limit(options: &[Vec<u8>]) -> Option<u32>
     limit_of(number.as_slice())
 }
 
-impl<'a> Command<'a> {
-    // The command whose first words are these.
-    fn from_front(words: &'a [Vec<u8>], implicates: u32) -> Option<Command<'a>>
+impl<'a> Translate<'a> {
+    // The translation whose first words are these.
+    fn from_front(words: &'a [Vec<u8>], implicates: u32) -> Option<Translate<'a>>
         ensures files { MatchOption result ((c : Names) → NamesFiles (map (λ w. w.items) words.now) c → ⊥) (λ c. NamesFiles (map (λ w. w.items) words.now) c) }
         ensures limit { IfSome result (λ c. c.implicates ≡ implicates) }
     {
@@ -135,7 +143,7 @@ impl<'a> Command<'a> {
         if !are_apart(domain_out, problem_out) {
             return None;
         }
-        Some(Command {
+        Some(Translate {
             domain: domain.as_slice(),
             problem: problem.as_slice(),
             domain_out: domain_out.as_slice(),
@@ -144,15 +152,24 @@ impl<'a> Command<'a> {
         })
     }
 
-    /// The command of the words after the program's name.
-    pub fn from_words(words: &'a [Vec<u8>]) -> Option<Command<'a>>
-        ensures { MatchOption result (IsNoCommand words.now) (λ c. IsCommand words.now c) }
+    // The translation of the words after the program's name.
+    fn from_words(words: &'a [Vec<u8>]) -> Option<Translate<'a>>
+        ensures { MatchOption result ((c : Names) → IsTranslate words.now c → ⊥) (λ c. IsTranslate words.now c) }
     {
         if words.len() < 7 {
             return None;
         }
         let (front, options) = words.split_at(7);
         let implicates = said_limit(options)?;
-        Command::from_front(front, implicates)
+        Translate::from_front(front, implicates)
+    }
+}
+
+impl<'a> Command<'a> {
+    /// The command of the words after the program's name.
+    pub fn from_words(words: &'a [Vec<u8>]) -> Option<Command<'a>>
+        ensures { MatchOption result (IsNoCommand words.now) (λ c. IsCommand words.now c) }
+    {
+        Some(Command::Translate(Translate::from_words(words)?))
     }
 }

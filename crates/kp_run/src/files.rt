@@ -6,8 +6,7 @@ ghost use Rattle.kp_grammar.specs.Grammar as grammar;
 ghost use Rattle.kp_grammar.specs.View.{domain_view, problem_view};
 ghost use Rattle.kp_outside.specs.Outside.{IsFront, IsWithin};
 ghost use Rattle.kp_tree.specs.Files.{Reads, AnswersFile};
-ghost use Rattle.kp_run.specs.Due.{IsOrdinary};
-ghost use Rattle.kp_run.specs.Reports.{IsProblemOf};
+ghost use Rattle.kp_run.specs.Numbered.{IsProblemOf};
 ghost use Rattle.kp_run.specs.Texts.{RefusesTexts};
 
 use kp_base::{Part, Refused, Stop, Texts};
@@ -22,7 +21,6 @@ fn domain_of(alloc: Global, got: &Got) -> Result<Domain, Stop>
     ensures tree { IfOk result (λ d. Reads grammar.domain got.now.bytes (domain_view d)) }
     ensures whole { (text : List ℕ) → IsFront (Some text) 16777216 got.now → IfOk result (λ d. got.now.bytes ≡ text) }
     ensures front { (text : List ℕ) → IsFront (Some text) 16777216 got.now → AnswersFile parts.Domain grammar.domain domain_view text result }
-    ensures refusal { (r : Refusal) → result ≡ Err (stops.Refused r) → IsOrdinary r }
 {
     if got.more {
         return Err(Stop::Refused(Refused::TooLong(Part::Domain)));
@@ -36,7 +34,6 @@ fn problem_of(alloc: Global, got: &Got) -> Result<Problem, Stop>
     ensures tree { IfOk result (λ p. Reads grammar.problem got.now.bytes (problem_view p)) }
     ensures whole { (text : List ℕ) → IsFront (Some text) 16777216 got.now → IfOk result (λ p. got.now.bytes ≡ text) }
     ensures front { (text : List ℕ) → IsFront (Some text) 16777216 got.now → AnswersFile parts.Problem grammar.problem problem_view text result }
-    ensures refusal { (r : Refusal) → result ≡ Err (stops.Refused r) → IsOrdinary r }
 {
     if got.more {
         return Err(Stop::Refused(Refused::TooLong(Part::Problem)));
@@ -50,7 +47,6 @@ pub fn read_files(alloc: Global, domain: Got, problem: Got) -> Result<Lifted, St
     requires problem { IsWithin 16777216 problem }
     ensures resolved { (d p : List ℕ) → IsFront (Some d) 16777216 domain → IsFront (Some p) 16777216 problem → IfOk result (IsProblemOf d p) }
     ensures refused { (d p : List ℕ) (r : Refusal) → IsFront (Some d) 16777216 domain → IsFront (Some p) 16777216 problem → result ≡ Err (stops.Refused r) → RefusesTexts d p r }
-    ensures refusal { (r : Refusal) → result ≡ Err (stops.Refused r) → IsOrdinary r }
 {
     let domain_tree = domain_of(alloc, &domain)?;
     let problem_tree = problem_of(alloc, &problem)?;

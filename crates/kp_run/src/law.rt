@@ -1,14 +1,19 @@
-ghost use Rattle.kp_run.specs.Due.{OneIsDue};
-ghost use Rattle.kp_run.specs.Results.{HasOneResult};
+ghost use Rattle.kp_run.specs.Laws.{OutcomesAreAnswers, WordsAreOneCommand, HasOneOutcome};
 
-/// Where a shelf tells what it holds, at most one answer is due.
-#[tactic(auto, using(crate::proofs::OneAnswer::one_is_due))]
-pub fn one_answer_is_due()
-    ensures { OneIsDue }
+/// Words are one command at most.
+#[tactic(auto, using(crate::proofs::OneCommand::one_command))]
+pub fn words_are_one_command()
+    ensures { WordsAreOneCommand }
 {}
 
-/// Words have at most one result on what is held.
-#[tactic(auto, using(crate::proofs::Results::one_result))]
-pub fn words_have_one_result()
-    ensures { HasOneResult }
+/// An outcome that is due is an answer, and no fault.
+#[tactic(auto, using(crate::proofs::OneOutcome::outcomes_are_answers))]
+pub fn outcomes_are_answers()
+    ensures { OutcomesAreAnswers }
+{}
+
+/// Words have at most one outcome on what is held.
+#[tactic(auto, using(crate::proofs::OneOutcome::one_outcome))]
+pub fn words_have_one_outcome()
+    ensures { HasOneOutcome }
 {}

@@ -1,17 +1,21 @@
-//! The commands of the program, each from its words to its status. `specs/Due.antt` says which
-//! answer is due, `specs/Ends.antt` what the outside holds and was told afterwards.
+//! The commands of the program, each from its words to its status. `specs/Outcomes.antt` says which
+//! outcome is due, `specs/Ends.antt` how a run ends.
 #![tactic(auto)]
 
-mod answer;
-mod clash;
 mod command;
 mod entry;
 mod files;
+mod follows;
 mod law;
-mod outputs;
-mod printed;
-mod status;
+mod outcomes;
+mod translating;
 
 pub use entry::run;
-pub use law::{one_answer_is_due, words_have_one_result};
-pub use status::Status;
+pub use follows::{
+    answers_are_whole, failed_gets_are_told, failed_writes_are_told, inputs_are_read_in_order,
+    missing_inputs_are_faults, no_command_puts_nothing, only_done_puts, others_put_nothing,
+    puts_are_of_the_due, read_faults_are_true, read_faults_tell_nothing, texts_are_of_the_due,
+    the_due_is_carried_out, write_faults_are_true,
+};
+pub use kp_outcome::Status;
+pub use law::{outcomes_are_answers, words_are_one_command, words_have_one_outcome};

@@ -5,8 +5,8 @@ use Rattle.kp_grammar.specs.View.{domain_view, problem_view}
 use Rattle.kp_tree.specs.Files.{Reads}
 use Rattle.kp_names.specs.Resolved.{RefusesNames}
 use Rattle.kp_run.specs.Texts.{of_domain, of_problem, of_names}
-use Rattle.kp_run.specs.Reports.{IsProblemOf}
-use Rattle.kp_run.proofs.Reading.{refused_file, refused_names, resolved_is, names_ordinary}
+use Rattle.kp_run.specs.Numbered.{IsProblemOf}
+use Rattle.kp_run.proofs.Reading.{refused_file, refused_names, resolved_is}
 use Rattle.kp_run.proofs.files.read_files.Goals as goal
 
 -- the domain is refused
@@ -35,12 +35,6 @@ returns-clause-refused c d p r first second is =
     (subst (λ (text : List ℕ). Reads grammar.problem text pv) also c.in_ok-problem_tree.ensures.tree)
     (subst (λ (text : List ℕ). RefusesNames d text dv pv r) also (subst (λ (text : List ℕ). RefusesNames text c.args.problem.bytes dv pv r) same
     (refused_names c.args.domain.bytes c.args.problem.bytes dv pv c.resolve.result r c.resolve.ensures is)))
-
-pub returns-clause-refusal : goal.returns-clause-refusal
-returns-clause-refusal c r is =
-    let dv = domain_view c.in_ok-domain_tree.domain_tree in
-    let pv = problem_view c.in_ok-problem_tree.problem_tree in
-    names_ordinary c.args.domain.bytes c.args.problem.bytes dv pv r (refused_names c.args.domain.bytes c.args.problem.bytes dv pv c.resolve.result r c.resolve.ensures is)
 
 -- the problem by number
 pub returns-clause-resolved : goal.returns-clause-resolved

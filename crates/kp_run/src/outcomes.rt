@@ -1,0 +1,97 @@
+ghost use Rattle.std.specs.Prelude.{◌≡◌, ◌∷◌, [], IfOk, OnOk, ◌++◌};
+ghost use Rattle.kp_base.specs.declared.refused.Refused.TheVariants as refusals;
+ghost use Rattle.kp_printed.specs.Refusals.{nothing};
+ghost use Rattle.kp_run.specs.Outcomes.{shows_usage, refuses, named_in, translates};
+
+use crate::command::Translate;
+use kp_base::{ClashAt, Ground, Memory, Refused, Row, Text};
+use kp_outcome::{FilePut, Outcome, Status};
+use kp_printed::{Named, refusal, usage};
+use kp_texts::Translation;
+use std::alloc::Global;
+
+/// The usage is printed.
+pub fn usage_outcome(alloc: Global) -> Result<Outcome, Memory>
+    ensures { IfOk result (λ o. o ≡ shows_usage) }
+{
+    Ok(Outcome {
+        status: Status::Usage,
+        puts: Row::new(alloc),
+        text: usage(alloc)?,
+    })
+}
+
+// A refusal is printed, with what it may name.
+fn refused(alloc: Global, named: &Named<'_>, refused: Refused) -> Result<Outcome, Memory>
+    ensures { IfOk result (λ o. o ≡ refuses named.now refused) }
+{
+    let text = refusal(alloc, named, &refused)?;
+    Ok(Outcome {
+        status: Status::Refused(refused),
+        puts: Row::new(alloc),
+        text,
+    })
+}
+
+/// A refusal is printed that names nothing by number.
+pub fn refuse(alloc: Global, refusal: Refused) -> Result<Outcome, Memory>
+    ensures { IfOk result (λ o. o ≡ refuses nothing refusal) }
+{
+    refused(alloc, &Named::nothing(), refusal)
+}
+
+/// A clash in a ground problem is printed.
+pub fn refuse_clash(alloc: Global, ground: &Ground, at: ClashAt) -> Result<Outcome, Memory>
+    ensures { IfOk result (λ o. o ≡ refuses (named_in ground.now) (refusals.Clash at)) }
+{
+    let named = Named {
+        atoms: ground.atoms.slice(),
+        actions: ground.actions.slice(),
+        steps: &[],
+    };
+    refused(alloc, &named, Refused::Clash(at))
+}
+
+// Adds a file that is put, with this content.
+fn add_put(
+    alloc: Global,
+    puts: &mut Row<FilePut>,
+    name: &[u8],
+    content: Row<u8>,
+) -> Result<(), Memory>
+    ensures { OnOk result (puts.new ≡ puts.old ++ record { name = name.now; content = content } ∷ []) }
+{
+    let name = Text::from_slice(alloc, name)?;
+    puts.push(FilePut { name, content })
+}
+
+// Both files are put.
+fn put_both(
+    alloc: Global,
+    command: &Translate<'_>,
+    domain: Row<u8>,
+    problem: Row<u8>,
+) -> Result<Row<FilePut>, Memory>
+    ensures { IfOk result (λ puts. puts ≡ record { name = command.now.domain_out; content = domain } ∷ record { name = command.now.problem_out; content = problem } ∷ []) }
+{
+    let mut puts = Row::new(alloc);
+    add_put(alloc, &mut puts, command.domain_out, domain)?;
+    add_put(alloc, &mut puts, command.problem_out, problem)?;
+    Ok(puts)
+}
+
+/// The two files of a translation are put, and its report is printed.
+pub fn translates(
+    alloc: Global,
+    command: &Translate<'_>,
+    translation: Translation,
+) -> Result<Outcome, Memory>
+    ensures { IfOk result (λ o. o ≡ translates command.now translation) }
+{
+    let puts = put_both(alloc, command, translation.domain, translation.problem)?;
+    Ok(Outcome {
+        status: Status::Done,
+        puts,
+        text: translation.report,
+    })
+}
