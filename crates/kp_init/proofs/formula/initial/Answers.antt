@@ -13,6 +13,5 @@ returns c =
     ∙ ap (initial_over l)
     (c.slice-2.ensures
     ∙ (c.in_ok-atoms.ensures
-    ∙ (ap (λ p. map (named_atom (lifted_view p)) c.slice.result.now) c.in_ok-numbers.ensures
     ∙ (ap (map (named_atom l)) c.slice.ensures
-    ∙ (ap (λ (g : Ground). map (named_atom l) g.atoms) c.requires.ground ∙ atoms_back l c.requires.names)))))
+    ∙ (ap (λ (g : Ground). map (named_atom l) g.atoms) c.requires.ground ∙ atoms_back l c.requires.names))))
