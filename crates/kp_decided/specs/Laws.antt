@@ -3,6 +3,7 @@ use Rattle.std.specs.Prelude.{◌⊎◌, ℕ, List, length}
 use Rattle.kp_base.specs.declared.lit.Lit.{Lit}
 use Rattle.kp_base.specs.declared.ground.Ground.{Ground}
 use Rattle.kp_base.specs.declared.ground.Initial.{Initial}
+use Rattle.kp_base.specs.declared.limits.Limits.{Limits}
 use Rattle.kp_base.specs.declared.refused.ClashAt.{ClashAt}
 use Rattle.kp_base.specs.declared.refused.Refused.{Refused}
 use Rattle.kp_base.specs.Lists.{Member}
@@ -15,11 +16,17 @@ use Rattle.kp_grammar.specs.Trees.{Domain, Problem}
 use Rattle.kp_meaning.specs.Faults.{HasNoFault}
 use Rattle.kp_meaning.specs.Numbered.{Lifted}
 use Rattle.kp_names.specs.Resolved.{RefusesNames}
+use Rattle.kp_grounding.specs.Ground.{ground_of}
+use Rattle.kp_ground.specs.Grounded.{IsGrounded, RefusesGround}
 use Rattle.kp_init.specs.Initial.{initial_of}
 
 -- no name of two trees is at fault, or the trees are refused for one
 abbrev pub NamesAreDecided : Type 0
 NamesAreDecided = (domain problem : List ℕ) (d : Domain Word) (p : Problem Word) → HasNoFault d p ⊎ ((r : Refused) × RefusesNames domain problem d p r)
+
+-- a problem by number is refused for its size, or it has a ground problem
+abbrev pub SizesAreDecided : Type 0
+SizesAreDecided = (l : Lifted) (limits : Limits) → ((r : Refused) × RefusesGround l limits r) ⊎ IsGrounded l limits (ground_of l)
 
 -- each clause of the formula is in ascending order
 abbrev pub HasAscendingClauses : Initial → Type 0

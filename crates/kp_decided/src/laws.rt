@@ -1,10 +1,15 @@
 //! Laws of questions that have an answer, each proved as the contract of a function that does nothing.
 
-ghost use Rattle.kp_decided.specs.Laws.{ClashesAreDecided, FormulasAreAscending, ImplicatesAreCounted, ModelsAreDecided, NamesAreDecided};
+ghost use Rattle.kp_decided.specs.Laws.{ClashesAreDecided, FormulasAreAscending, ImplicatesAreCounted, ModelsAreDecided, NamesAreDecided, SizesAreDecided};
 
 /// No name of two trees is at fault, or the trees are refused for one.
 pub fn names_are_decided()
     ensures { NamesAreDecided }
+{}
+
+/// A problem by number is refused for its size, or it has a ground problem.
+pub fn sizes_are_decided()
+    ensures { SizesAreDecided }
 {}
 
 /// Each clause of an initial formula is in ascending order.

@@ -5,5 +5,5 @@ mod laws;
 
 pub use laws::{
     clashes_are_decided, formulas_are_ascending, implicates_are_counted, models_are_decided,
-    names_are_decided,
+    names_are_decided, sizes_are_decided,
 };
