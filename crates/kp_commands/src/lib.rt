@@ -11,3 +11,5 @@ mod implicates;
 mod refusals;
 #[cfg(test)]
 mod running;
+#[cfg(test)]
+mod stripping;

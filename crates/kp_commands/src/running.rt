@@ -80,3 +80,12 @@ pub fn refuses(
     drop(shelf);
     Ok(is_so? && is_bare)
 }
+
+/// Whether stripping this plan file ends with this number and prints this text.
+pub fn strips_so(alloc: Global, plan: &str, number: u8, printed: &str) -> Result<bool, Memory> {
+    let mut words = Vec::new(alloc);
+    push_all(alloc, &mut words, ["strip", "t"].as_slice())?;
+    let mut shelf = MemoryShelf::new(alloc)?;
+    shelf.hold(b"t".as_slice(), plan.as_bytes())?;
+    runs_so(alloc, &words, &mut shelf, number, printed)
+}

@@ -3,4 +3,5 @@ pub mod Complete
 pub mod Valid
 pub mod Apart
 pub mod Written
+pub mod Tables
 pub mod ExampleUncertain

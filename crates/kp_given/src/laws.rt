@@ -1,5 +1,6 @@
 //! Laws of what is written for two trees, each proved as the contract of a function that does nothing.
 
+ghost use Rattle.kp_given.specs.Tables.{EmptyTagIsTable, TablesCanBeWritten};
 ghost use Rattle.kp_given.specs.Laws.{ClosuresAreStarts, CompleteStartsHaveOneValue, FormulasSpeakOfGroundAtoms, GroundProblemsAreWritable, InitialStatesAreModels, NamesTellGroundAtoms, StartsAreOfAtoms, StartsAreWritable};
 
 /// Where no name is at fault, some state is initial exactly where the initial formula has a model.
@@ -41,4 +42,10 @@ pub fn starts_speak_of_ground_atoms()
 pub fn ground_problems_can_be_written()
     ensures any_start { GroundProblemsAreWritable }
     ensures its_start { StartsAreWritable }
+{}
+
+/// So it can with each table that is right, whose merges are valid and of ground atoms, and with that of the empty tag alone.
+pub fn tables_can_be_written()
+    ensures tables { TablesCanBeWritten }
+    ensures empty_tag { EmptyTagIsTable }
 {}

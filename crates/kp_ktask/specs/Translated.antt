@@ -18,7 +18,7 @@ pub data RefusesTask (t : Task) (limits : Limits) : Refused → Type 0 where
   weight_over : length t.facts ≤ limits.facts → limits.task_weight < weight_of t → RefusesTask t limits refusals.WeightOver
 
 -- a task within the limits
-pub record IsWithin (t : Task) (limits : Limits) : Type 0 where
+pub record FitsLimits (t : Task) (limits : Limits) : Type 0 where
   pub facts : length t.facts ≤ limits.facts
   pub weight : weight_of t ≤ limits.task_weight
 
@@ -29,7 +29,7 @@ StopsTask t limits stops.Memory = Unit {0}
 
 -- of a ground problem and a table: their task, which is within the limits, or the refusal
 abbrev pub AnswersTask : Ground → TagTable → Limits → Result Task Stop → Type 0
-AnswersTask g table limits (Ok t) = IsWithin (task_of g table) limits × (t ≡ task_of g table)
+AnswersTask g table limits (Ok t) = FitsLimits (task_of g table) limits × (t ≡ task_of g table)
 AnswersTask g table limits (Err stop) = StopsTask (task_of g table) limits stop
 
 -- the literal is that of the fact, under some tag, with so many atoms

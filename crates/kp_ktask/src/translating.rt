@@ -1,6 +1,6 @@
 ghost use Rattle.std.specs.Prelude.{◌≡◌, ◌++◌, length, map, IfOk, OnOk, IfErr};
 ghost use Rattle.kp_task.specs.Task.{op_of, merge_ops_from, task_of};
-ghost use Rattle.kp_ktask.specs.Translated.{IsWithin, StopsTask, AnswersTask};
+ghost use Rattle.kp_ktask.specs.Translated.{FitsLimits, StopsTask, AnswersTask};
 
 use crate::facts::{fact_names, start};
 use crate::numbers::numbers;
@@ -12,7 +12,7 @@ use std::alloc::Global;
 
 // Whether the task is within the limits.
 fn judge(ground: &Ground, table: &TagTable, limits: &Limits) -> Result<(), Stop>
-    ensures within { OnOk result (IsWithin (task_of ground.now table.now) limits.now) }
+    ensures within { OnOk result (FitsLimits (task_of ground.now table.now) limits.now) }
     ensures refused { IfErr result (StopsTask (task_of ground.now table.now) limits.now) }
 {
     if fact_count(ground, table) > u128::from(limits.facts) {

@@ -20,19 +20,19 @@ pub record Outside : Type 0 where
 
 -- ---- which counts stand still
 
--- no get failed
+-- no count of failed gets changes
 abbrev pub NoGetFailed : Outside → Outside → Type 0
 NoGetFailed old new = (name : List ℕ) → new.get_faults name ≡ old.get_faults name
 
--- no put failed
+-- no count of failed puts changes
 abbrev pub NoPutFailed : Outside → Outside → Type 0
 NoPutFailed old new = (name : List ℕ) → new.put_faults name ≡ old.put_faults name
 
--- no write failed
+-- the count of failed writes doesn't change
 abbrev pub NoWriteFailed : Outside → Outside → Type 0
 NoWriteFailed old new = new.write_faults ≡ old.write_faults
 
--- nothing failed
+-- no count of faults changes
 pub record NothingFailed (old new : Outside) : Type 0 where
   pub gets : NoGetFailed old new
   pub puts : NoPutFailed old new

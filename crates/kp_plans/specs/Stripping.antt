@@ -20,5 +20,4 @@ pub record IsFirstUnstripped (steps : List PlanStep) (step : PlanStep) : Type 0 
 abbrev pub AnswersStrip : List PlanStep → Result (List GroundName) Stop → Type 0
 AnswersStrip steps (Ok actions) = strip (names steps) ≡ Some actions
 AnswersStrip steps (Err stops.Memory) = Unit {0}
-AnswersStrip steps (Err (stops.Refused (refusals.PlanSyntax place))) = (step : PlanStep) × (IsFirstUnstripped steps step × (place ≡ step.place))
-AnswersStrip steps (Err (stops.Refused _)) = ⊥
+AnswersStrip steps (Err (stops.Refused r)) = (step : PlanStep) × (IsFirstUnstripped steps step × (r ≡ refusals.PlanSyntax step.place))

@@ -40,10 +40,6 @@ file_line part = codes "file " ++ (part_text part ++ codes "\n")
 abbrev pub place_line : Place → List ℕ
 place_line place = codes "at " ++ (part_text place.part ++ (codes " line " ++ (decimal place.line ++ (codes " byte " ++ (decimal place.byte ++ codes "\n")))))
 
--- the line that says how many of the first clauses have too many prime implicates
-abbrev pub prefix_line : ℕ → List ℕ
-prefix_line prefix = codes "prefix " ++ (decimal prefix ++ codes "\n")
-
 -- the line of a number under a title
 abbrev pub number_line : List ℕ → ℕ → List ℕ
 number_line title n = title ++ (decimal n ++ codes "\n")

@@ -251,6 +251,7 @@ sound = sound_end words before_it after_it status.Done ends held after command r
 -- ---- the usage
 
 no_words : IsNoCommand []
+no_words (commands.Strip c) h = let all = h.words_are in cc
 no_words (commands.Translate c) h = let e = h.files.words_are in let all = h.words_are in cc
 
 usage_is_due : IsDue [] (Some held) shows_usage
@@ -261,6 +262,7 @@ abbrev dashed : List (Vec ℕ Global)
 dashed = translate (word (codes "-d") (omega arith)) (word (codes "p") (omega arith)) (word (codes "od") (omega arith)) (word (codes "op") (omega arith))
 
 dashed_is_none : IsNoCommand dashed
+dashed_is_none (commands.Strip c) h = let all = h.words_are in cc
 dashed_is_none (commands.Translate c) h =
     let all = h.words_are in
     let first = h.files.words_are in
@@ -272,6 +274,7 @@ abbrev one_output : List (Vec ℕ Global)
 one_output = translate (word (codes "d") (omega arith)) (word (codes "p") (omega arith)) (word (codes "od") (omega arith)) (word (codes "od") (omega arith))
 
 one_output_is_none : IsNoCommand one_output
+one_output_is_none (commands.Strip c) h = let all = h.words_are in cc
 one_output_is_none (commands.Translate c) h =
     let all = h.words_are in
     let front = h.files.words_are in
@@ -286,6 +289,7 @@ without_number =
     ∷ word (codes "--mode") (omega arith) ∷ word (codes "k0") (omega arith) ∷ word (codes "--implicates") (omega arith) ∷ []
 
 without_number_is_none : IsNoCommand without_number
+without_number_is_none (commands.Strip c) h = let all = h.words_are in cc
 without_number_is_none (commands.Translate c) h = no_limit h.options c.implicates h.limit (let all = h.words_are in let front = h.files.words_are in cc)
   where
     no_limit : (ws : List (List ℕ)) (n : ℕ) → SaysLimit ws n → ws ≡ codes "--implicates" ∷ [] → ⊥
@@ -303,6 +307,7 @@ not_held name names (t ∷ ts) h = absurd (let e = get-empty {X = List ℕ} (sli
 
 nothing_is_due : (o : Outcome) → IsDue words (Some no_files) o → ⊥
 nothing_is_due _ (usage never) = never (commands.Translate command) is_command
+nothing_is_due o (of_command (commands.Strip c) texts _ h held comes) = not_held c.plan [] texts held
 nothing_is_due o (of_command (commands.Translate c) texts _ h held comes) = not_held c.domain (c.problem ∷ []) texts held
 
 -- ---- refusals: no initial state

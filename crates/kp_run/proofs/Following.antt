@@ -3,13 +3,13 @@ use Rattle.std.proofs.Common.{◌≡◌, ◌≢◌, ◌⊎◌, ◌++◌, ℕ, Li
 use Rattle.std.specs.FinMap.{get}
 use Rattle.std.specs.declared.alloc.Global.{Global}
 use Rattle.kp_base.specs.Lists.{Member}
-use Rattle.kp_outside.specs.Outside.{FileMap, Rises}
+use Rattle.kp_outside.specs.Outside.{FileMap, Rises, with_bytes}
 use Rattle.kp_outcome.specs.declared.outcome.FilePut.{FilePut}
 use Rattle.kp_outcome.specs.declared.outcome.Outcome.{Outcome}
 use Rattle.kp_outcome.specs.declared.status.Status.{Status}
 use Rattle.kp_outcome.specs.declared.status.Status.TheVariants as status
 use Rattle.kp_outcome.specs.Ends.{Outside, IsAnswer, AreHeld, with_files, StopsAt, CarriesOut, whole, put_failed, put_no_memory, print_failed, print_no_memory, GetFails}
-use Rattle.kp_run.specs.Names.{Translate}
+use Rattle.kp_run.specs.Names.{Translate, Strip}
 use Rattle.kp_run.specs.declared.command.Command.{Command}
 use Rattle.kp_run.specs.declared.command.Command.TheVariants as commands
 use Rattle.kp_run.specs.Command.{IsCommand, inputs_of, outputs_of}
@@ -17,16 +17,16 @@ use Rattle.kp_base.specs.declared.refused.Refused.{Refused}
 use Rattle.kp_printed.specs.Refusals.{Named, nothing}
 use Rattle.kp_texts.specs.declared.translation.Translation.{Translation}
 use Rattle.kp_given.specs.Translations.{ground_of, translation_of}
-use Rattle.kp_run.specs.Outcomes.{refuses, named_in, translates, TranslatesTrees, too_large, implicates_over, no_initial_state, clash, done, TranslatesTexts, refused, on_trees, ComesTo, translated, IsDue, usage, of_command}
+use Rattle.kp_run.specs.Outcomes.{refuses, named_in, translates, TranslatesTrees, too_large, implicates_over, no_initial_state, clash, done, TranslatesTexts, refused, on_trees, StripsText, too_long, no_plan, no_strip, strips, ComesTo, translated, stripped, IsDue, usage, of_command}
 use Rattle.kp_run.specs.Ends.{Ends, came, read_failed, no_memory}
-use Rattle.kp_run.specs.Follows.{IsWhole, AnswersAreWhole, TheDueIsCarriedOut, OnlyDonePuts, OthersPutNothing, NoCommandPutsNothing, PutsSome, none_put, some_put, all_put, PutsAreOfTheDue, TellsSome, none_told, some_told, TextsAreOfTheDue, ReadFaultsTellNothing, ReadFaultsAreTrue, WriteFaultsAreTrue, FailedGetsAreTold, FailedWritesAreTold, MissingInputsAreFaults, InputsAreReadInOrder}
+use Rattle.kp_run.specs.Follows.{IsWhole, AnswersAreWhole, CameToNothing, TheDueIsCarriedOut, NothingRises, IsAnsweredBy, TheDueIsTheAnswer, TranslationsAreAnswered, OnlyDonePuts, DonePutsTheOutputs, OthersPutNothing, NoCommandPutsNothing, PutsSome, none_put, some_put, all_put, PutsAreOfTheDue, TellsSome, none_told, some_told, TextsAreOfTheDue, ReadFaultsTellNothing, ReadFaultsAreTrue, WriteFaultsAreTrue, FailedGetsAreTold, FailedWritesAreTold, MissingInputsAreFaults, InputsAreReadInOrder}
 use Rattle.kp_run.proofs.OneCommand.{one_command}
 use Rattle.kp_run.proofs.OneOutcome.{one_outcome, outcomes_are_answers}
 
 -- ---- an answer and its outcome
 
 pub answers_are_whole : AnswersAreWhole
-answers_are_whole words old new s (came o due (whole is none held told)) answer = record { outcome = o; due = due; status_is = is; puts_are = held; text_is = told }
+answers_are_whole words old new s (came o due (whole is none held told)) answer = record { outcome = o; due = due; answered = record { status_is = is; puts_are = held; text_is = told } }
 answers_are_whole words old new s (came o due (put_failed f is a b g h i)) answer = absurd (subst IsAnswer is answer)
 answers_are_whole words old new s (came o due (put_no_memory f is a b g)) answer = absurd (subst IsAnswer is answer)
 answers_are_whole words old new s (came o due (print_failed is a b g h i)) answer = absurd (subst IsAnswer is answer)
@@ -37,22 +37,50 @@ answers_are_whole words old new s (no_memory is a b) answer = absurd (subst IsAn
 pub the_due_is_carried_out : TheDueIsCarriedOut
 the_due_is_carried_out words old new s (came o due carried) m u held also =
     inl (subst (λ x. CarriesOut x old new s) (one_outcome words m o u (subst (λ h. IsDue words h o) held due) (subst (λ h. IsDue words h u) held also)) carried)
-the_due_is_carried_out words old new s (read_failed c is_command is a b g same) m u held also = inr same
-the_due_is_carried_out words old new s (no_memory is a same) m u held also = inr same
+the_due_is_carried_out words old new s (read_failed c is_command is a b g same) m u held also = inr (record { untouched = same; stopped = inl is })
+the_due_is_carried_out words old new s (no_memory is a same) m u held also = inr (record { untouched = same; stopped = inr is })
+
+pub the_due_is_the_answer : TheDueIsTheAnswer
+the_due_is_the_answer words old new s ends m o held due none = by ends
+  where
+    same : (u : Outcome) → IsDue words old.held u → u ≡ o
+    same u also = one_outcome words m u o (subst (λ h. IsDue words h u) held also) (subst (λ h. IsDue words h o) held due)
+
+    by : Ends words old new s → IsAnsweredBy o old new s ⊎ (s ≡ status.Memory)
+    by (came u also (whole is calm puts told)) = let e = same u also in inl (record {
+      status_is = is ∙ ap (λ (z : Outcome). z.status) e;
+      puts_are = puts ∙ ap (λ (z : Outcome). with_files old.held z.puts) e;
+      text_is = told ∙ ap (λ (z : Outcome). with_bytes old.told z.text) e;
+    })
+    by (came u also (put_failed f is at rises gets writes told)) = absurd (none.puts f.name rises)
+    by (came u also (put_no_memory f is at calm told)) = inr is
+    by (came u also (print_failed is puts front rises gets more)) = absurd (none.writes rises)
+    by (came u also (print_no_memory is puts front calm)) = inr is
+    by (read_failed c is_command is h puts writes untouched) = absurd (none.gets h.name h.rises)
+    by (no_memory is calm untouched) = inr is
+
+pub translations_are_answered : TranslationsAreAnswered
+translations_are_answered words old new s ends m c domain problem d p held is first second trees started free none =
+    the_due_is_the_answer words old new s ends m (translates c (translation_of d p)) held (subst (λ h. IsDue words h (translates c (translation_of d p))) (sym held) due) none
+  where
+    due : IsDue words (Some m) (translates c (translation_of d p))
+    due = of_command (commands.Translate c) (domain ∷ problem ∷ []) _ is (cc (first, second)) (translated c domain problem _ (on_trees d p trees (done started free refl)))
 
 -- what a translation puts is under its output names
 record PutsUnder (c : Command) (o : Outcome) : Type 0 where
+  done : o.status ≡ status.Done → map (λ (f : FilePut). f.name) o.puts ≡ outputs_of c
   nothing : o.status ≢ status.Done → o.puts ≡ []
   names : (file : FilePut) → Member o.puts file → Member (outputs_of c) file.name
 
-under_none : (c : Command) (o : Outcome) → o.puts ≡ [] → PutsUnder c o
-under_none c o e = record { nothing = λ n. e; names = λ file m. absurd (subst (λ (fs : List FilePut). Member fs file) e m) }
+under_none : (c : Command) (o : Outcome) → o.puts ≡ [] → (o.status ≡ status.Done → outputs_of c ≡ []) → PutsUnder c o
+under_none c o e d = record { done = λ n. ap (map (λ (f : FilePut). f.name)) e ∙ sym (d n); nothing = λ n. e; names = λ file m. absurd (subst (λ (fs : List FilePut). Member fs file) e m) }
 
 refusal_under : (c : Command) (o : Outcome) (n : Named) (r : Refused) → o ≡ refuses n r → PutsUnder c o
-refusal_under c o n r is = under_none c o (ap (λ (z : Outcome). z.puts) is)
+refusal_under c o n r is = under_none c o (ap (λ (z : Outcome). z.puts) is) (λ e. absurd (let f : status.Refused r ≡ status.Done = sym (ap (λ (z : Outcome). z.status) is) ∙ e in cc))
 
 translation_under : (c : Translate) (t : Translation) (o : Outcome) → o ≡ translates c t → PutsUnder (commands.Translate c) o
 translation_under c t o is = record {
+  done = λ n. ap (λ (z : Outcome). map (λ (f : FilePut). f.name) z.puts) is;
   nothing = λ n. absurd (n (ap (λ (z : Outcome). z.status) is));
   names = λ file m. by file (subst (λ (z : Outcome). Member z.puts file) is m);
 }
@@ -70,8 +98,18 @@ texts_under c x y o (on_trees d p h (no_initial_state a b f e)) = refusal_under 
 texts_under c x y o (on_trees d p h (clash z a b e)) = refusal_under (commands.Translate c) o (named_in (ground_of d p)) _ e
 texts_under c x y o (on_trees d p h (done a b e)) = translation_under c (translation_of d p) o e
 
+strip_under : (c : Strip) (x : List ℕ) (o : Outcome) → StripsText x o → PutsUnder (commands.Strip c) o
+strip_under c x o (too_long a e) = refusal_under (commands.Strip c) o nothing _ e
+strip_under c x o (no_plan r a h e) = refusal_under (commands.Strip c) o nothing r e
+strip_under c x o (no_strip ss s a h n e) = refusal_under (commands.Strip c) o nothing _ e
+strip_under c x o (strips ss as' a h n e) = under_none (commands.Strip c) o (ap (λ (z : Outcome). z.puts) e) (λ d. refl)
+
 comes_under : (c : Command) (texts : List (List ℕ)) (o : Outcome) → ComesTo c texts o → PutsUnder c o
 comes_under _ _ o (translated c x y _ a) = texts_under c x y o a
+comes_under _ _ o (stripped c x _ a) = strip_under c x o a
+
+pub done_puts_the_outputs : DonePutsTheOutputs
+done_puts_the_outputs c texts o comes = (comes_under c texts o comes).done
 
 pub only_done_puts : OnlyDonePuts
 only_done_puts words held _ (usage a) other = refl
@@ -112,12 +150,19 @@ no_command_puts_nothing words old new s (came o due carried) none = by o due car
 no_command_puts_nothing words old new s (read_failed c is_command is h i j same) none = same.held
 no_command_puts_nothing words old new s (no_memory is h same) none = same.held
 
+-- an answer and want of memory are no WriteFault
+answer_no_fault : (t s : Status) → IsAnswer t → s ≡ t → s ≡ status.WriteFault → ⊥
+answer_no_fault t s answer is e = subst IsAnswer (sym is ∙ e) answer
+
+memory_no_fault : (s : Status) → s ≡ status.Memory → s ≡ status.WriteFault → ⊥
+memory_no_fault s is e = absurd cc
+
 pub puts_are_of_the_due : PutsAreOfTheDue
-puts_are_of_the_due words old new s (came o due (whole is a held told)) = all_put o due held
-puts_are_of_the_due words old new s (came o due (put_failed f is at i j k l)) = some_put o f due at
-puts_are_of_the_due words old new s (came o due (put_no_memory f is at i j)) = some_put o f due at
-puts_are_of_the_due words old new s (came o due (print_failed is held i j k l)) = all_put o due held
-puts_are_of_the_due words old new s (came o due (print_no_memory is held i j)) = all_put o due held
+puts_are_of_the_due words old new s (came o due (whole is a held told)) = all_put o due held (λ e. absurd (answer_no_fault o.status s (outcomes_are_answers words old.held o due) is e))
+puts_are_of_the_due words old new s (came o due (put_failed f is at rises j k l)) = some_put o f due at (λ e. rises)
+puts_are_of_the_due words old new s (came o due (put_no_memory f is at i j)) = some_put o f due at (λ e. absurd (memory_no_fault s is e))
+puts_are_of_the_due words old new s (came o due (print_failed is held i rises k l)) = all_put o due held (λ e. rises)
+puts_are_of_the_due words old new s (came o due (print_no_memory is held i j)) = all_put o due held (λ e. absurd (memory_no_fault s is e))
 puts_are_of_the_due words old new s (read_failed c is_command is h i j same) = none_put same.held
 puts_are_of_the_due words old new s (no_memory is h same) = none_put same.held
 
@@ -127,8 +172,8 @@ pub texts_are_of_the_due : TextsAreOfTheDue
 texts_are_of_the_due words old new s (came o due (whole is a held told)) fault = absurd (fault (subst IsAnswer (sym is) (outcomes_are_answers words old.held o due)))
 texts_are_of_the_due words old new s (came o due (put_failed f is at i j k told)) fault = none_told told
 texts_are_of_the_due words old new s (came o due (put_no_memory f is at i told)) fault = none_told told
-texts_are_of_the_due words old new s (came o due (print_failed is held front j k l)) fault = some_told o due front
-texts_are_of_the_due words old new s (came o due (print_no_memory is held front j)) fault = some_told o due front
+texts_are_of_the_due words old new s (came o due (print_failed is held front rises k l)) fault = some_told o due front (λ e. rises)
+texts_are_of_the_due words old new s (came o due (print_no_memory is held front j)) fault = some_told o due front (λ e. absurd (memory_no_fault s is e))
 texts_are_of_the_due words old new s (read_failed c is_command is h i j same) fault = none_told same.told
 texts_are_of_the_due words old new s (no_memory is h same) fault = none_told same.told
 

@@ -3,6 +3,7 @@ pub mod Reading
 pub mod Words
 pub mod Numbers
 pub mod OneCommand
+pub mod Strips
 pub mod OneOutcome
 pub mod Counted
 pub mod Translations

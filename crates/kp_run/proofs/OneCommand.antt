@@ -1,12 +1,19 @@
 -- Words are one command at most.
-use Rattle.std.proofs.Common.{◌≡◌, ℕ, List, [], ◌∷◌, Vec, codes, decimal, arith, refl, sym, ap, ◌∙◌, subst}
+use Rattle.std.proofs.Common.{◌≡◌, ℕ, false, List, [], ◌∷◌, Vec, codes, decimal, arith, refl, sym, ap, ◌∙◌, subst}
+use Rattle.std.proofs.lemmas.Bool.{false≢true}
 use Rattle.std.proofs.lemmas.Fmt.{decimal_injective}
+use Rattle.kp_base.proofs.Lists.{same-refl}
+use Rattle.kp_meaning.specs.Names.{same}
 use Rattle.std.specs.declared.alloc.Global.{Global}
-use Rattle.kp_run.specs.Names.{Translate}
+use Rattle.kp_run.specs.Names.{Translate, Strip}
 use Rattle.kp_run.specs.declared.command.Command.{Command}
 use Rattle.kp_run.specs.declared.command.Command.TheVariants as commands
-use Rattle.kp_run.specs.Command.{IsLimit, SaysLimit, usual_limit, stated, IsTranslate, IsCommand}
+use Rattle.kp_run.specs.Command.{IsLimit, SaysLimit, usual_limit, stated, IsTranslate, IsStrip, IsCommand}
 use Rattle.kp_run.specs.Laws.{WordsAreOneCommand}
+
+-- two words that are seen to differ
+pub words_differ : (x y : List ℕ) → same x y ≡ false → x ≡ y → ⊥
+words_differ x y h e = false≢true (sym h ∙ (sym (ap (same x) e) ∙ same-refl x))
 
 -- the words say one limit at most
 one_limit : (words : List (List ℕ)) (m n : ℕ) → SaysLimit words m → SaysLimit words n → m ≡ n
@@ -42,5 +49,16 @@ one_translate words c other is so =
         ∙ (ap (λ x. record { domain = other.domain; problem = other.problem; domain_out = other.domain_out; problem_out = x; implicates = c.implicates }) e
         ∙ ap (λ x. record { domain = other.domain; problem = other.problem; domain_out = other.domain_out; problem_out = other.problem_out; implicates = x }) f)))
 
+-- the words of a translation are no strip
+never_both : (words : List (Vec ℕ Global)) (c : Translate) (d : Strip) → IsTranslate words c → IsStrip words d → ⊥
+never_both words c d is so = words_differ (codes "translate") (codes "strip") refl (cc (is.words_are, is.files.words_are, so.words_are))
+
+-- words are one strip at most
+one_strip : (words : List (Vec ℕ Global)) (c d : Strip) → IsStrip words c → IsStrip words d → c ≡ d
+one_strip words c d is so = ap (λ plan. record { plan = plan }) (let same : c.plan ≡ d.plan = cc (is.words_are, so.words_are) in same)
+
 pub one_command : WordsAreOneCommand
 one_command words (commands.Translate c) (commands.Translate d) is so = ap commands.Translate (one_translate words c d is so)
+one_command words (commands.Translate c) (commands.Strip d) is so = absurd (never_both words c d is so)
+one_command words (commands.Strip c) (commands.Translate d) is so = absurd (never_both words d c so is)
+one_command words (commands.Strip c) (commands.Strip d) is so = ap commands.Strip (one_strip words c d is so)

@@ -32,9 +32,10 @@ use Rattle.kp_run.specs.declared.command.Command.{Command}
 use Rattle.kp_run.specs.declared.command.Command.TheVariants as commands
 use Rattle.kp_run.specs.Command.{inputs_of}
 use Rattle.kp_run.specs.Texts.{HaveTrees, RefusesTexts, of_domain, of_problem, of_names}
-use Rattle.kp_run.specs.Outcomes.{usual, refuses, named_in, TranslatesTrees, too_large, implicates_over, no_initial_state, clash, done, TranslatesTexts, refused, on_trees, ComesTo, translated, IsDue, usage, of_command}
+use Rattle.kp_run.specs.Outcomes.{usual, refuses, named_in, TranslatesTrees, too_large, implicates_over, no_initial_state, clash, done, TranslatesTexts, refused, on_trees, StripsText, too_long, no_plan, no_strip, strips, ComesTo, translated, stripped, IsDue, usage, of_command}
 use Rattle.kp_run.specs.Laws.{OutcomesAreAnswers, HasOneOutcome}
 use Rattle.kp_run.proofs.OneCommand.{one_command}
+use Rattle.kp_run.proofs.Strips.{strips_once}
 
 -- ---- two texts have one pair of trees, or one refusal
 
@@ -170,6 +171,12 @@ comes_once _ _ o u (translated c x y _ a) b = go _ _ u b refl refl
         let first : v ≡ x = cc in
         let second : w ≡ y = cc in
         texts_once c x y o u a (subst (λ t. TranslatesTexts c x t u) second (subst (λ t. TranslatesTexts c t w u) first (subst (λ z. TranslatesTexts z v w u) command b)))
+    go _ _ u (stripped d v _ b) same at = absurd cc
+comes_once _ _ o u (stripped c x _ a) b = go _ _ u b refl refl
+  where
+    go : (e : Command) (texts : List (List ℕ)) (u : Outcome) → ComesTo e texts u → e ≡ commands.Strip c → texts ≡ x ∷ [] → o ≡ u
+    go _ _ u (translated d v w _ b) same at = absurd cc
+    go _ _ u (stripped d v _ b) same at = let first : v ≡ x = cc in strips_once x o u a (subst (λ t. StripsText t u) first b)
 
 -- names have one list of contents
 held_once : (m : FileMap) (names ts us : List (List ℕ)) → map (get m) names ≡ map Some ts → map (get m) names ≡ map Some us → ts ≡ us
@@ -203,6 +210,13 @@ texts_answer c x y o (on_trees d p h (no_initial_state a b n e)) = subst (λ (z 
 texts_answer c x y o (on_trees d p h (clash z a b e)) = subst (λ (z : Outcome). IsAnswer z.status) (sym e) tt
 texts_answer c x y o (on_trees d p h (done a b e)) = subst (λ (z : Outcome). IsAnswer z.status) (sym e) tt
 
+strip_answer : (x : List ℕ) (o : Outcome) → StripsText x o → IsAnswer o.status
+strip_answer x o (too_long a e) = subst (λ (z : Outcome). IsAnswer z.status) (sym e) tt
+strip_answer x o (no_plan r a h e) = subst (λ (z : Outcome). IsAnswer z.status) (sym e) tt
+strip_answer x o (no_strip ss s a h n e) = subst (λ (z : Outcome). IsAnswer z.status) (sym e) tt
+strip_answer x o (strips ss as' a h n e) = subst (λ (z : Outcome). IsAnswer z.status) (sym e) tt
+
 pub outcomes_are_answers : OutcomesAreAnswers
 outcomes_are_answers words held _ (usage a) = tt
 outcomes_are_answers words held o (of_command _ _ _ is at (translated c x y _ a)) = texts_answer c x y o a
+outcomes_are_answers words held o (of_command _ _ _ is at (stripped c x _ a)) = strip_answer x o a

@@ -27,7 +27,7 @@ use Rattle.kp_run.specs.Names.{Translate}
 use Rattle.kp_run.specs.declared.command.Command.{Command}
 use Rattle.kp_run.specs.declared.command.Command.TheVariants as commands
 use Rattle.kp_run.specs.Command.{IsTranslate, IsCommand, inputs_of}
-use Rattle.kp_run.specs.Outcomes.{refuses, named_in, translates, IsStarted, TranslatesTrees, too_large, implicates_over, no_initial_state, clash as when_clash, done as when_done, TranslatesTexts, refused, on_trees, ComesTo, translated, IsDue, usage, of_command}
+use Rattle.kp_run.specs.Outcomes.{refuses, named_in, translates, IsStarted, TranslatesTrees, too_large, implicates_over, no_initial_state, clash as when_clash, done as when_done, TranslatesTexts, refused, on_trees, ComesTo, translated, stripped, IsDue, usage, of_command}
 use Rattle.kp_run.specs.Ends.{Ends, came, read_failed, no_memory}
 use Rattle.kp_run.specs.Soundness.{IsSound}
 use Rattle.kp_run.proofs.OneCommand.{one_command}
@@ -89,6 +89,7 @@ both_held m c _ _ o same held (translated d x y _ a) =
     let it : d ≡ c = cc in
     let there = subst (λ z. AreHeld (Some m) (inputs_of (commands.Translate z)) (x ∷ y ∷ [])) it held in
     record { domain = x; problem = y; domain_held = cc there; problem_held = cc there; texts = subst (λ z. TranslatesTexts z x y o) it a }
+both_held m c _ _ o same held (stripped d x _ a) = absurd cc
 
 module _ (before after : FileMap) (c : Translate) (o : Outcome) (apart : c.domain_out ≢ c.problem_out) (both : AreBoth before c o) (done : o.status ≡ status.Done) (puts : Some after ≡ with_files (Some before) o.puts) where
   all_done : IsDone c both.domain both.problem o

@@ -2,7 +2,7 @@
 use Rattle.std.specs.Prelude.{◌≡◌, ◌≢◌, ◌≤◌, List, [], ◌∷◌, ◌++◌, ℕ, false, nat_eq, map, codes, decimal, Vec, IsUtf8}
 use Rattle.std.specs.List.{starts_with}
 use Rattle.std.specs.declared.alloc.Global.{Global}
-use Rattle.kp_run.specs.Names.{Translate}
+use Rattle.kp_run.specs.Names.{Translate, Strip}
 use Rattle.kp_run.specs.declared.command.Command.{Command}
 use Rattle.kp_run.specs.declared.command.Command.TheVariants as commands
 
@@ -41,19 +41,27 @@ pub record IsTranslate (words : List (Vec ℕ Global)) (c : Translate) : Type 0 
   pub files : NamesFiles front c
   pub limit : SaysLimit options c.implicates
 
+-- the words are this strip
+pub record IsStrip (words : List (Vec ℕ Global)) (c : Strip) : Type 0 where
+  pub words_are : map (λ w. w.items) words ≡ codes "strip" ∷ c.plan ∷ []
+  pub plan : IsPositional c.plan
+
 -- ---- the table of commands
 
 -- the words are this command
 abbrev pub IsCommand : List (Vec ℕ Global) → Command → Type 0
 IsCommand words (commands.Translate c) = IsTranslate words c
+IsCommand words (commands.Strip c) = IsStrip words c
 
 -- the names of the files that a command reads, in order
 abbrev pub inputs_of : Command → List (List ℕ)
 inputs_of (commands.Translate c) = c.domain ∷ c.problem ∷ []
+inputs_of (commands.Strip c) = c.plan ∷ []
 
 -- the names of the files that it writes, in order
 abbrev pub outputs_of : Command → List (List ℕ)
 outputs_of (commands.Translate c) = c.domain_out ∷ c.problem_out ∷ []
+outputs_of (commands.Strip c) = []
 
 -- the words are no command
 abbrev pub IsNoCommand : List (Vec ℕ Global) → Type 0

@@ -1,8 +1,12 @@
 -- What follows from how a run ends, said side by side.
-use Rattle.std.specs.Prelude.{◌≡◌, ◌≢◌, ◌⊎◌, List, [], ◌∷◌, ◌++◌, ℕ, Option, Some, None, Vec}
+use Rattle.std.specs.Prelude.{◌≡◌, ◌≢◌, ◌⊎◌, List, [], ◌∷◌, ◌++◌, ℕ, Option, Some, None, Vec, map}
 use Rattle.std.specs.FinMap.{get}
 use Rattle.std.specs.declared.alloc.Global.{Global}
+use Rattle.kp_base.specs.Exclusive.{IsClashFree}
 use Rattle.kp_base.specs.Lists.{Member}
+use Rattle.kp_grammar.specs.declared.tree.Word.{Word}
+use Rattle.kp_grammar.specs.Trees.{Domain, Problem}
+use Rattle.kp_given.specs.Translations.{ground_of, initial_of, translation_of}
 use Rattle.kp_outside.specs.Outside.{FileMap, Rises, AddsFront, with_bytes}
 use Rattle.kp_outcome.specs.declared.outcome.FilePut.{FilePut}
 use Rattle.kp_outcome.specs.declared.outcome.Outcome.{Outcome}
@@ -10,8 +14,10 @@ use Rattle.kp_outcome.specs.declared.status.Status.{Status}
 use Rattle.kp_outcome.specs.declared.status.Status.TheVariants as status
 use Rattle.kp_outcome.specs.Ends.{Outside, NoGetFailed, NoPutFailed, NoWriteFailed, IsUntouched, IsAnswer, with_files, StopsAt, CarriesOut}
 use Rattle.kp_run.specs.declared.command.Command.{Command}
-use Rattle.kp_run.specs.Command.{IsCommand, IsNoCommand, inputs_of, outputs_of}
-use Rattle.kp_run.specs.Outcomes.{IsDue}
+use Rattle.kp_run.specs.Names.{Translate}
+use Rattle.kp_run.specs.Command.{IsTranslate, IsCommand, IsNoCommand, inputs_of, outputs_of}
+use Rattle.kp_run.specs.Texts.{HaveTrees}
+use Rattle.kp_run.specs.Outcomes.{translates, IsStarted, ComesTo, IsDue}
 use Rattle.kp_run.specs.Ends.{Ends}
 
 -- what is said of every run that ends so
@@ -20,25 +26,54 @@ OfRuns P = (words : List (Vec ℕ Global)) (old new : Outside) (s : Status) → 
 
 -- ---- answers
 
--- the status is that of an outcome that is due, all of whose files were put and all of whose text was printed
+-- all of an outcome was carried out: the status is its own, its files were put, its text was printed
+pub record IsAnsweredBy (o : Outcome) (old new : Outside) (s : Status) : Type 0 where
+  pub status_is : s ≡ o.status
+  pub puts_are : new.held ≡ with_files old.held o.puts
+  pub text_is : new.told ≡ with_bytes old.told o.text
+
+-- so it was with an outcome that is due
 pub record IsWhole (words : List (Vec ℕ Global)) (old new : Outside) (s : Status) : Type 0 where
   pub outcome : Outcome
   pub due : IsDue words old.held outcome
-  pub status_is : s ≡ outcome.status
-  pub puts_are : new.held ≡ with_files old.held outcome.puts
-  pub text_is : new.told ≡ with_bytes old.told outcome.text
+  pub answered : IsAnsweredBy outcome old new s
 
 -- an answer comes with the whole of its outcome
 abbrev pub AnswersAreWhole : Type 0
 AnswersAreWhole = OfRuns (λ words old new s. IsAnswer s → IsWhole words old new s)
 
--- the outcome that is due is carried out, where anything happens at all
+-- a run that came to nothing: a read failed, or memory ran out
+pub record CameToNothing (old new : Outside) (s : Status) : Type 0 where
+  pub untouched : IsUntouched old new
+  pub stopped : (s ≡ status.ReadFault) ⊎ (s ≡ status.Memory)
+
+-- where it is told what is held, the outcome that is due is carried out, or the run came to nothing
 abbrev pub TheDueIsCarriedOut : Type 0
-TheDueIsCarriedOut = OfRuns (λ words old new s. (m : FileMap) (o : Outcome) → old.held ≡ Some m → IsDue words old.held o → CarriesOut o old new s ⊎ IsUntouched old new)
+TheDueIsCarriedOut = OfRuns (λ words old new s. (m : FileMap) (o : Outcome) → old.held ≡ Some m → IsDue words old.held o → CarriesOut o old new s ⊎ CameToNothing old new s)
+
+-- no count of faults rises
+pub record NothingRises (old new : Outside) : Type 0 where
+  pub gets : (name : List ℕ) → Rises (old.get_faults name) (new.get_faults name) → ⊥
+  pub puts : (name : List ℕ) → Rises (old.put_faults name) (new.put_faults name) → ⊥
+  pub writes : Rises old.write_faults new.write_faults → ⊥
+
+-- where no count of faults rises, the outcome that is due is the answer, or memory ran out
+abbrev pub TheDueIsTheAnswer : Type 0
+TheDueIsTheAnswer = OfRuns (λ words old new s. (m : FileMap) (o : Outcome) → old.held ≡ Some m → IsDue words old.held o → NothingRises old new → IsAnsweredBy o old new s ⊎ (s ≡ status.Memory))
+
+-- a translation of held files is answered so, or memory ran out, where the files have trees without a fault of names, are within the limits, with some initial state and no clash
+abbrev pub TranslationsAreAnswered : Type 0
+TranslationsAreAnswered = OfRuns (λ words old new s. (m : FileMap) (c : Translate) (domain problem : List ℕ) (d : Domain Word) (p : Problem Word)
+    → old.held ≡ Some m → IsTranslate words c → get m c.domain ≡ Some domain → get m c.problem ≡ Some problem → HaveTrees domain problem d p → IsStarted c.implicates d p → IsClashFree (ground_of d p) (initial_of d p)
+    → NothingRises old new → IsAnsweredBy (translates c (translation_of d p)) old new s ⊎ (s ≡ status.Memory))
 
 -- an outcome with another status than Done puts nothing
 abbrev pub OnlyDonePuts : Type 0
 OnlyDonePuts = (words : List (Vec ℕ Global)) (held : Option FileMap) (o : Outcome) → IsDue words held o → o.status ≢ status.Done → o.puts ≡ []
+
+-- of a command, an outcome with the status Done puts a file under each output name, in order
+abbrev pub DonePutsTheOutputs : Type 0
+DonePutsTheOutputs = (c : Command) (texts : List (List ℕ)) (o : Outcome) → ComesTo c texts o → o.status ≡ status.Done → map (λ f. f.name) o.puts ≡ outputs_of c
 
 -- ---- what is held, and what was told
 
@@ -50,22 +85,24 @@ OthersPutNothing = OfRuns (λ words old new s. s ≢ status.Done → s ≢ statu
 abbrev pub NoCommandPutsNothing : Type 0
 NoCommandPutsNothing = OfRuns (λ words old new s. IsNoCommand words → new.held ≡ old.held)
 
--- nothing is put, or each file of a due outcome is whole or as before, but for one whose put stopped
-pub data PutsSome (words : List (Vec ℕ Global)) (old new : Outside) : Type 0 where
-  none_put : new.held ≡ old.held → PutsSome words old new
-  some_put : (o : Outcome) (file : FilePut) → IsDue words old.held o → StopsAt o.puts old.held new.held file → PutsSome words old new
-  all_put : (o : Outcome) → IsDue words old.held o → new.held ≡ with_files old.held o.puts → PutsSome words old new
+-- nothing is put; or the files of a due outcome are put up to one whose put stopped, with WriteFault one whose count rose; or all are put, with WriteFault where a write failed
+pub data PutsSome (words : List (Vec ℕ Global)) (old new : Outside) (s : Status) : Type 0 where
+  none_put : new.held ≡ old.held → PutsSome words old new s
+  some_put : (o : Outcome) (file : FilePut) → IsDue words old.held o → StopsAt o.puts old.held new.held file → (s ≡ status.WriteFault → Rises (old.put_faults file.name) (new.put_faults file.name)) → PutsSome words old new s
+  all_put : (o : Outcome) → IsDue words old.held o → new.held ≡ with_files old.held o.puts → (s ≡ status.WriteFault → Rises old.write_faults new.write_faults) → PutsSome words old new s
 
+-- what is put is of an outcome that is due
 abbrev pub PutsAreOfTheDue : Type 0
-PutsAreOfTheDue = OfRuns (λ words old new s. PutsSome words old new)
+PutsAreOfTheDue = OfRuns (λ words old new s. PutsSome words old new s)
 
--- nothing was told, or some first bytes of the text of a due outcome
-pub data TellsSome (words : List (Vec ℕ Global)) (old new : Outside) : Type 0 where
-  none_told : new.told ≡ old.told → TellsSome words old new
-  some_told : (o : Outcome) → IsDue words old.held o → AddsFront old.told new.told o.text → TellsSome words old new
+-- nothing was told; or some first bytes of the text of a due outcome, with WriteFault where a write failed
+pub data TellsSome (words : List (Vec ℕ Global)) (old new : Outside) (s : Status) : Type 0 where
+  none_told : new.told ≡ old.told → TellsSome words old new s
+  some_told : (o : Outcome) → IsDue words old.held o → AddsFront old.told new.told o.text → (s ≡ status.WriteFault → Rises old.write_faults new.write_faults) → TellsSome words old new s
 
+-- what is told without an answer is a front of the text of an outcome that is due
 abbrev pub TextsAreOfTheDue : Type 0
-TextsAreOfTheDue = OfRuns (λ words old new s. (IsAnswer s → ⊥) → TellsSome words old new)
+TextsAreOfTheDue = OfRuns (λ words old new s. (IsAnswer s → ⊥) → TellsSome words old new s)
 
 -- with ReadFault nothing was told
 abbrev pub ReadFaultsTellNothing : Type 0

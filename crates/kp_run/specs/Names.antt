@@ -8,3 +8,7 @@ pub record Translate : Type 0 where
   pub domain_out : List ℕ
   pub problem_out : List ℕ
   pub implicates : ℕ
+
+-- `strip`: the name of the plan file
+pub record Strip : Type 0 where
+  pub plan : List ℕ

@@ -1,9 +1,11 @@
 -- What a command comes to: one outcome, by its words and by what its input files hold when it begins.
-use Rattle.std.specs.Prelude.{◌≡◌, List, [], ◌∷◌, ℕ, Option, Vec}
+use Rattle.std.specs.Prelude.{◌≡◌, ◌<◌, ◌≤◌, List, [], ◌∷◌, ℕ, Option, Some, Vec, length}
 use Rattle.std.specs.declared.alloc.Global.{Global}
 use Rattle.kp_base.specs.declared.ground.Ground.{Ground}
+use Rattle.kp_base.specs.declared.ground.GroundName.{GroundName}
 use Rattle.kp_base.specs.declared.limits.Limits.{Limits}
 use Rattle.kp_base.specs.declared.refused.ClashAt.{ClashAt}
+use Rattle.kp_base.specs.declared.refused.Part.TheVariants as parts
 use Rattle.kp_base.specs.declared.refused.Refused.{Refused}
 use Rattle.kp_base.specs.declared.refused.Refused.TheVariants as refusals
 use Rattle.kp_base.specs.Exclusive.{ClashesFirst, IsClashFree}
@@ -15,13 +17,18 @@ use Rattle.kp_ground.specs.Grounded.{IsGrounded, RefusesGround}
 use Rattle.kp_texts.specs.declared.translation.Translation.{Translation}
 use Rattle.kp_given.specs.Laws.{HasInitialState}
 use Rattle.kp_given.specs.Translations.{ground_of, initial_of, translation_of}
+use Rattle.kp_meaning.specs.Strip.{strip}
+use Rattle.kp_plans.specs.declared.step.PlanStep.{PlanStep}
+use Rattle.kp_plans.specs.PlanFiles.{names, IsPlanOf, RefusesPlan}
+use Rattle.kp_plans.specs.Printed.{plan_text}
+use Rattle.kp_plans.specs.Stripping.{IsFirstUnstripped}
 use Rattle.kp_outside.specs.Outside.{FileMap}
 use Rattle.kp_printed.specs.Refusals.{Named, nothing, refusal_text}
 use Rattle.kp_printed.specs.Usage.{usage_text}
 use Rattle.kp_outcome.specs.declared.outcome.Outcome.{Outcome}
 use Rattle.kp_outcome.specs.declared.status.Status.TheVariants as status
-use Rattle.kp_outcome.specs.Ends.{AreHeld}
-use Rattle.kp_run.specs.Names.{Translate}
+use Rattle.kp_outcome.specs.Ends.{AreHeld, most_bytes}
+use Rattle.kp_run.specs.Names.{Translate, Strip}
 use Rattle.kp_run.specs.declared.command.Command.{Command}
 use Rattle.kp_run.specs.declared.command.Command.TheVariants as commands
 use Rattle.kp_run.specs.Command.{IsCommand, IsNoCommand, inputs_of}
@@ -78,11 +85,25 @@ pub data TranslatesTexts (c : Translate) (domain problem : List ℕ) (o : Outcom
   refused : (r : Refused) → RefusesTexts domain problem r → o ≡ refuses nothing r → TranslatesTexts c domain problem o
   on_trees : (d : trees.Domain Word) (p : trees.Problem Word) → HaveTrees domain problem d p → TranslatesTrees c d p o → TranslatesTexts c domain problem o
 
+-- ---- `strip`
+
+-- a text is printed, and nothing is put
+abbrev pub prints : List ℕ → Outcome
+prints text = record { status = status.Done; puts = []; text = text }
+
+-- a text is stripped to this: a refusal of its length, of the text, or of its first step that is no operator's, at its place; or what its steps come to is printed
+pub data StripsText (text : List ℕ) (o : Outcome) : Type 0 where
+  too_long : most_bytes < length text → o ≡ refuses nothing (refusals.TooLong parts.Plan) → StripsText text o
+  no_plan : (r : Refused) → length text ≤ most_bytes → RefusesPlan text r → o ≡ refuses nothing r → StripsText text o
+  no_strip : (steps : List PlanStep) (step : PlanStep) → length text ≤ most_bytes → IsPlanOf text steps → IsFirstUnstripped steps step → o ≡ refuses nothing (refusals.PlanSyntax step.place) → StripsText text o
+  strips : (steps : List PlanStep) (actions : List GroundName) → length text ≤ most_bytes → IsPlanOf text steps → strip (names steps) ≡ Some actions → o ≡ prints (plan_text actions) → StripsText text o
+
 -- ---- all commands
 
 -- a command comes to this outcome on the contents of its input files, in the order of their names
 pub data ComesTo : Command → List (List ℕ) → Outcome → Type 0 where
   translated : (c : Translate) (domain problem : List ℕ) (o : Outcome) → TranslatesTexts c domain problem o → ComesTo (commands.Translate c) (domain ∷ problem ∷ []) o
+  stripped : (c : Strip) (text : List ℕ) (o : Outcome) → StripsText text o → ComesTo (commands.Strip c) (text ∷ []) o
 
 -- The outcome that is due: the usage where the words are no command; else what the command comes to on the contents of its input files. Where it isn't told what they hold, they may hold anything.
 pub data IsDue (words : List (Vec ℕ Global)) (held : Option FileMap) : Outcome → Type 0 where

@@ -1,6 +1,6 @@
 ghost use Rattle.std.specs.Prelude.{◌≡◌, ◌≢◌, ◌≤◌, ◌<◌, ◌^◌, ◌↔◌, ℕ, List, map, decimal, IsTrue, MatchOption, IfSome};
-ghost use Rattle.kp_run.specs.Names.{Translate as Names};
-ghost use Rattle.kp_run.specs.Command.{IsPositional, NamesFiles, IsLimit, SaysLimit, IsTranslate, IsCommand, IsNoCommand};
+ghost use Rattle.kp_run.specs.Names.{Translate as Names, Strip as PlanName};
+ghost use Rattle.kp_run.specs.Command.{IsPositional, NamesFiles, IsLimit, SaysLimit, IsTranslate, IsStrip, IsCommand, IsNoCommand};
 
 use itoa::Buffer;
 use std::marker::Model;
@@ -28,11 +28,26 @@ pub struct Translate<'a> {
 }
 
 impl<'a> Model for Translate<'a> {
-    ghost use Rattle.kp_run.specs.Names.{Translate as Names};
+    ghost use Rattle.kp_run.specs.Names.{Translate as Names, Strip as PlanName};
 
     ghost Value = { Names };
 
     ghost view = { λ c. record { domain = c.domain.now; problem = c.problem.now; domain_out = c.domain_out.now; problem_out = c.problem_out.now; implicates = c.implicates } };
+}
+
+/// The words of `strip`.
+#[derive(Drop)]
+pub struct Strip<'a> {
+    /// The plan that is read.
+    pub plan: &'a [u8],
+}
+
+impl<'a> Model for Strip<'a> {
+    ghost use Rattle.kp_run.specs.Names.{Strip as Names};
+
+    ghost Value = { Names };
+
+    ghost view = { λ c. record { plan = c.plan.now } };
 }
 
 /// A command, with what its words say.
@@ -40,6 +55,8 @@ impl<'a> Model for Translate<'a> {
 pub enum Command<'a> {
     /// Writes the classical problem of a conformant one.
     Translate(Translate<'a>),
+    /// Prints what a plan of the written files comes to in the given ones.
+    Strip(Strip<'a>),
 }
 
 // Whether a word may name a file.
@@ -165,11 +182,31 @@ impl<'a> Translate<'a> {
     }
 }
 
+impl<'a> Strip<'a> {
+    // The strip of the words after the program's name.
+    fn from_words(words: &'a [Vec<u8>]) -> Option<Strip<'a>>
+        ensures { MatchOption result ((c : PlanName) → IsStrip words.now c → ⊥) (λ c. IsStrip words.now c) }
+    {
+        let [verb, plan] = words else {
+            return None;
+        };
+        if !is_text(verb, "strip") || !is_positional(plan) {
+            return None;
+        }
+        Some(Strip {
+            plan: plan.as_slice(),
+        })
+    }
+}
+
 impl<'a> Command<'a> {
     /// The command of the words after the program's name.
     pub fn from_words(words: &'a [Vec<u8>]) -> Option<Command<'a>>
         ensures { MatchOption result (IsNoCommand words.now) (λ c. IsCommand words.now c) }
     {
-        Some(Command::Translate(Translate::from_words(words)?))
+        match Translate::from_words(words) {
+            Some(translate) => Some(Command::Translate(translate)),
+            None => Some(Command::Strip(Strip::from_words(words)?)),
+        }
     }
 }

@@ -11,8 +11,9 @@ ghost use Rattle.kp_run.specs.Outcomes.{ComesTo, IsDue};
 ghost use Rattle.kp_run.specs.Ends.{Ends};
 ghost use Rattle.kp_run.specs.Soundness.{IsSound};
 
-use crate::command::{Command, Translate};
+use crate::command::{Command, Strip, Translate};
 use crate::outcomes::usage_outcome;
+use crate::stripping::strip_text;
 use crate::translating::translate_texts;
 use kp_base::{Memory, Row};
 use kp_outcome::{Outcome, Status, carry_out, read_inputs, stopped};
@@ -33,6 +34,7 @@ fn read<S: Shelf>(
 {
     match command {
         Command::Translate(named) => read_inputs(alloc, &[named.domain, named.problem], shelf),
+        Command::Strip(named) => read_inputs(alloc, &[named.plan], shelf),
     }
 }
 
@@ -56,6 +58,24 @@ fn translate_gots(alloc: Global, named: &Translate<'_>, gots: Row<Got>) -> Resul
     translate_texts(alloc, named, domain, problem)
 }
 
+// The content that was read of one file.
+fn one_of(gots: Row<Got>) -> Got
+    requires { length gots ≡ 1 }
+    ensures { gots ≡ result ∷ [] }
+{
+    let mut gots = gots.into_vec();
+    gots.pop().unwrap()
+}
+
+// What a strip comes to on what was read of its file.
+fn strip_gots(alloc: Global, named: &Strip<'_>, gots: Row<Got>) -> Result<Outcome, Memory>
+    requires { (held : Option FileMap) × AreRead held (named.now.plan ∷ []) gots }
+    ensures { (texts : List (List ℕ)) → AreFronts texts gots → IfOk result (ComesTo (commands.Strip named.now) texts) }
+{
+    let _ = named;
+    strip_text(alloc, one_of(gots))
+}
+
 // What a command comes to on what was read of its input files.
 fn outcome_of(alloc: Global, command: &Command<'_>, gots: Row<Got>) -> Result<Outcome, Memory>
     requires { (held : Option FileMap) × AreRead held (inputs_of command.now) gots }
@@ -63,6 +83,7 @@ fn outcome_of(alloc: Global, command: &Command<'_>, gots: Row<Got>) -> Result<Ou
 {
     match command {
         Command::Translate(named) => translate_gots(alloc, named, gots),
+        Command::Strip(named) => strip_gots(alloc, named, gots),
     }
 }
 

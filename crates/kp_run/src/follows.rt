@@ -1,18 +1,33 @@
-ghost use Rattle.kp_run.specs.Follows.{AnswersAreWhole, TheDueIsCarriedOut, OnlyDonePuts, OthersPutNothing, NoCommandPutsNothing, PutsAreOfTheDue, TextsAreOfTheDue, ReadFaultsTellNothing, ReadFaultsAreTrue, WriteFaultsAreTrue, FailedGetsAreTold, FailedWritesAreTold, MissingInputsAreFaults, InputsAreReadInOrder};
+ghost use Rattle.kp_run.specs.Follows.{AnswersAreWhole, TheDueIsCarriedOut, TheDueIsTheAnswer, TranslationsAreAnswered, OnlyDonePuts, DonePutsTheOutputs, OthersPutNothing, NoCommandPutsNothing, PutsAreOfTheDue, TextsAreOfTheDue, ReadFaultsTellNothing, ReadFaultsAreTrue, WriteFaultsAreTrue, FailedGetsAreTold, FailedWritesAreTold, MissingInputsAreFaults, InputsAreReadInOrder};
 
 /// An answer comes with the whole of its outcome.
 pub fn answers_are_whole()
     ensures { AnswersAreWhole }
 {}
 
-/// The outcome that is due is carried out, where anything happens.
+/// Where it is told what is held, the outcome that is due is carried out, or the run came to nothing.
 pub fn the_due_is_carried_out()
     ensures { TheDueIsCarriedOut }
+{}
+
+/// Where no count of faults rises, the outcome that is due is the answer, or memory ran out.
+pub fn the_due_is_the_answer()
+    ensures { TheDueIsTheAnswer }
+{}
+
+/// A translation that nothing refuses is answered by its two files and its report, or memory ran out.
+pub fn translations_are_answered()
+    ensures { TranslationsAreAnswered }
 {}
 
 /// Only an outcome whose status is Done puts files.
 pub fn only_done_puts()
     ensures { OnlyDonePuts }
+{}
+
+/// An outcome with the status Done puts a file under each output name.
+pub fn done_puts_the_outputs()
+    ensures { DonePutsTheOutputs }
 {}
 
 /// Nothing is put but with Done, WriteFault and want of memory.

@@ -1,7 +1,7 @@
 ghost use Rattle.std.specs.Prelude.{◌≡◌, ◌∷◌, [], IfOk, OnOk, ◌++◌};
 ghost use Rattle.kp_base.specs.declared.refused.Refused.TheVariants as refusals;
 ghost use Rattle.kp_printed.specs.Refusals.{nothing};
-ghost use Rattle.kp_run.specs.Outcomes.{shows_usage, refuses, named_in, translates};
+ghost use Rattle.kp_run.specs.Outcomes.{shows_usage, refuses, named_in, translates, prints};
 
 use crate::command::Translate;
 use kp_base::{ClashAt, Ground, Memory, Refused, Row, Text};
@@ -50,6 +50,17 @@ pub fn refuse_clash(alloc: Global, ground: &Ground, at: ClashAt) -> Result<Outco
         steps: &[],
     };
     refused(alloc, &named, Refused::Clash(at))
+}
+
+/// A text is printed, and nothing is put.
+pub fn print_text(alloc: Global, text: Row<u8>) -> Outcome
+    ensures { result ≡ prints text }
+{
+    Outcome {
+        status: Status::Done,
+        puts: Row::new(alloc),
+        text,
+    }
 }
 
 // Adds a file that is put, with this content.

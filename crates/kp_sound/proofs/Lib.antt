@@ -5,3 +5,5 @@ pub mod Trees
 pub mod ExamplePlans
 pub mod ExampleTrees
 pub mod ExampleCells
+pub mod Tagged
+pub mod ExampleTagged

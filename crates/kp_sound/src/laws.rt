@@ -1,6 +1,7 @@
 //! Laws of the plans of the written files, each proved as the contract of a function that does nothing.
 
 ghost use Rattle.kp_sound.specs.Laws.{StepsStrip, TranslationsAreSound, WrittenPlansAreAccepted, WrittenPlansAreSound, WrittenPlansStripToPlans, WrittenPlansStripToSolutions};
+ghost use Rattle.kp_sound.specs.Tagged.{TaggedPlansStripToSolutions, TaggedTranslationsAreSound};
 
 /// The plans of the two texts of a ground problem are the lists of actions that the machine accepts with the empty tag alone.
 pub fn written_plans_are_accepted_lists()
@@ -35,4 +36,16 @@ pub fn written_plans_strip_to_plans()
 #[tactic(auto, using(crate::proofs::Trees::translations_sound))]
 pub fn translations_are_sound()
     ensures { TranslationsAreSound }
+{}
+
+/// With any table of tags and merges that is one for the two trees, each plan of what is written strips to a list that solves their problem.
+#[tactic(auto, using(crate::proofs::Tagged::tagged_plans_solve))]
+pub fn tagged_plans_strip_to_solutions()
+    ensures { TaggedPlansStripToSolutions }
+{}
+
+/// So each plan of what is written for two texts and such a table strips to a plan of the texts, where nothing clashes.
+#[tactic(auto, using(crate::proofs::Tagged::tagged_translations_sound))]
+pub fn tagged_translations_are_sound()
+    ensures { TaggedTranslationsAreSound }
 {}

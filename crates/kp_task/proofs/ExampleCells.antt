@@ -84,10 +84,10 @@ merge_bytes = rw (zeroth, first_tag, second_tag, third_tag) refl
 
 -- ---- a plan of its texts
 
-abbrev steps : List Step
+abbrev pub steps : List Step
 steps = record { head = codes "do_-left"; objects = [] } ∷ record { head = codes "do_-left"; objects = [] } ∷ record { head = codes "merge_-0"; objects = [] } ∷ []
 
-a_plan : IsPlan (domain_of (task_of cells table)) (problem_of (task_of cells table)) steps
+pub a_plan : IsPlan (domain_of (task_of cells table)) (problem_of (task_of cells table)) steps
 a_plan = (plans_are_accepted cells table writable steps).1 (two_and_merge, record { steps_are = rw zeroth refl; accepted = refl })
 
 it_strips : StripsToGroundPlan cells one_of_three steps

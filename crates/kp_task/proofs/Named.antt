@@ -27,7 +27,7 @@ use Rattle.kp_task.specs.Task.{name_of, under, starts_from, facts_of, number, nu
 use Rattle.kp_task.specs.ByName as byname
 use Rattle.kp_task.specs.ByName.{names_of, TasksAreNamed}
 use Rattle.kp_task.specs.Writable.{IsRowOn, IsTag, IsMergeOn, IsWritableTask}
-use Rattle.kp_task.specs.Laws.{TaggedTasksCanBeWritten}
+use Rattle.kp_task.specs.Laws.{TaggedTasksCanBeWritten, TaggedTasksAreFit}
 use Rattle.kp_task.proofs.MergeNames.{merge_is_name}
 use Rattle.kp_task.proofs.Numbers.{numbered}
 use Rattle.kp_task.proofs.Whole.{tasks_are_tasks}
@@ -119,14 +119,14 @@ module _ (g : Ground) (table : TagTable) where
       ∙ rw (effects_below t (omega (arith, fit)) es h, all_effects_below (suc t) k (omega (arith, fit)) es h) refl
 
   module _ (w : IsWritableTask g table) where
-    action_named : (a : Action) → IsGroundAction g.atoms a → named_op names (op_of n tags a) ≡ byname.op_of g.atoms tags a
+    pub action_named : (a : Action) → IsGroundAction g.atoms a → named_op names (op_of n tags a) ≡ byname.op_of g.atoms tags a
     action_named a h = rw (lits_named 0 w.some_tag a.pre h.pre, all_effects_named 0 tags (omega arith) a.effects h.effects) refl
 
     actions_named : (acts : List Action) → AllByRecursion (IsGroundAction g.atoms) acts → map (named_op names) (map (op_of n tags) acts) ≡ map (byname.op_of g.atoms tags) acts
     actions_named [] h = refl
     actions_named (a ∷ acts) h = rw (action_named a h.0, actions_named acts h.1) refl
 
-    merges_named : (m : ℕ) (xs : List Merge) → AllByRecursion (IsMergeOn g.atoms tags) xs → map (named_op names) (merge_ops_from n m xs) ≡ byname.merge_ops_from g.atoms m xs
+    pub merges_named : (m : ℕ) (xs : List Merge) → AllByRecursion (IsMergeOn g.atoms tags) xs → map (named_op names) (merge_ops_from n m xs) ≡ byname.merge_ops_from g.atoms m xs
     merges_named m [] h = refl
     merges_named m (x ∷ xs) h = rw (target_named x.target h.0.target x.tags h.0.tags_are, fact_named 0 x.target w.some_tag h.0.target, merges_named (suc m) xs h.1) refl
 
@@ -175,3 +175,6 @@ tasks_can_be_written g table w = record {
       list_all-append (fits_op (length (names_of g (facts_of g table)))) (map (op_of (length g.atoms) (length table.tags)) g.actions) (merge_ops_from (length g.atoms) 0 table.merges)
       ∙ rw (actions_below g table w g.actions w.ground.actions, merges_below g table w 0 table.merges w.merges) refl;
 }
+
+pub tasks_are_fit : TaggedTasksAreFit
+tasks_are_fit g table w few_facts few_ops = let can = tasks_can_be_written g table w in record { few_facts = few_facts; few_ops = few_ops; init = can.start_fits; goal = can.goal_fits; ops = can.operators_fit }

@@ -9,12 +9,12 @@ use Rattle.kp_base.specs.Lit.{code_of}
 use Rattle.kp_task.specs.Task.{name_of, task_of, facts_of, lits_from, under, facts_from}
 use Rattle.kp_task.specs.Laws.{FactsAreNumbered}
 
-get_left : {X : Type 0} (xs ys : List X) (n : ℕ) (x : X) → slice_get xs n ≡ Some x → slice_get (xs ++ ys) n ≡ Some x
+pub get_left : {X : Type 0} (xs ys : List X) (n : ℕ) (x : X) → slice_get xs n ≡ Some x → slice_get (xs ++ ys) n ≡ Some x
 get_left [] ys n x e = absurd cc
 get_left (z ∷ xs) ys zero x e = e
 get_left (z ∷ xs) ys (suc n) x e = get_left xs ys n x e
 
-get_right : {X : Type 0} (xs ys : List X) (n k : ℕ) → k ≡ length xs + n → slice_get (xs ++ ys) k ≡ slice_get ys n
+pub get_right : {X : Type 0} (xs ys : List X) (n k : ℕ) → k ≡ length xs + n → slice_get (xs ++ ys) k ≡ slice_get ys n
 get_right [] ys n k e = let same : k ≡ n = omega (arith, e) in ap (λ m. slice_get ys m) same
 get_right (z ∷ xs) ys n zero e = absurd (omega (arith, e))
 get_right (z ∷ xs) ys n (suc k) e = get_right xs ys n k (omega (arith, e))

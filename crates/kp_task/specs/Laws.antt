@@ -1,12 +1,14 @@
 -- What is proved of the task of a ground problem and a table.
-use Rattle.std.specs.Prelude.{◌≡◌, ◌↔◌, ◌<◌, ℕ, List, Some, map, length, slice_get}
+use Rattle.std.specs.Prelude.{◌≡◌, ◌↔◌, ◌<◌, ◌+◌, ℕ, List, Some, map, length, slice_get}
 use Rattle.kp_base.specs.declared.lit.Lit.{Lit}
 use Rattle.kp_base.specs.declared.ground.Ground.{Ground}
 use Rattle.kp_base.specs.declared.ground.TagTable.{TagTable}
 use Rattle.kp_base.specs.declared.ground.Initial.{Initial}
 use Rattle.kp_base.specs.Entailed.{IsTable, AreValid}
 use Rattle.kp_base.specs.Clashes.{NeverClashes}
-use Rattle.kp_base.specs.Machine.{MachineStep, start as known_at_start, one_tag_table}
+use Rattle.kp_base.specs.Machine.{MachineStep, accepts, start as known_at_start, one_tag_table}
+use Rattle.kp_classic.specs.Fits.{IsFit}
+use Rattle.kp_classic.specs.Steps.{start, succeeds}
 use Rattle.kp_meaning.specs.Names.{is_among}
 use Rattle.kp_meaning.specs.Steps.{Step}
 use Rattle.kp_meaning.specs.Plans.{IsPlan}
@@ -30,6 +32,10 @@ use Rattle.kp_task.specs.Known.{held_after, known_after}
 abbrev pub TaggedTasksCanBeWritten : Type 0
 TaggedTasksCanBeWritten = (g : Ground) (table : TagTable) → IsWritableTask g table → CanBeWritten (task_of g table)
 
+-- where a `u32` counts its facts and operators, it is fit to be run
+abbrev pub TaggedTasksAreFit : Type 0
+TaggedTasksAreFit = (g : Ground) (table : TagTable) → IsWritableTask g table → length (task_of g table).facts < 2147483648 → length (task_of g table).ops < 2147483648 → IsFit (task_of g table)
+
 -- its facts and operators by name are a task
 abbrev pub TaggedTasksAreTasks : Type 0
 TaggedTasksAreTasks = (g : Ground) (table : TagTable) → IsWritableTask g table → IsTask (names_of g (facts_of g table)) (ops_of g table) (names_of g (start_of table)) (names_of g (goal_of g))
@@ -41,6 +47,15 @@ RunsAreAccepted = (g : Ground) (table : TagTable) → IsWritableTask g table →
 -- so are the plans of its two texts
 abbrev pub TaggedPlansAreAccepted : Type 0
 TaggedPlansAreAccepted = (g : Ground) (table : TagTable) → IsWritableTask g table → (steps : List Step) → IsPlan (domain_of (task_of g table)) (problem_of (task_of g table)) steps ↔ ((ms : List MachineStep) × IsAccepted g table steps ms)
+
+-- the number of the operator of a step of the machine: merges stand behind all actions
+abbrev pub op_number : Ground → MachineStep → ℕ
+op_number g (MachineStep.act n) = n
+op_number g (MachineStep.merge m) = length g.actions + m
+
+-- by number, too: the operators of steps that are there succeed from the start exactly where the machine accepts the steps
+abbrev pub OperatorsDoSteps : Type 0
+OperatorsDoSteps = (g : Ground) (table : TagTable) → IsWritableTask g table → (ms : List MachineStep) (os : List Op) → map (op_at g table) ms ≡ map Some os → succeeds (task_of g table) (start (task_of g table)) (map (op_number g) ms) ≡ accepts g table ms
 
 -- steps of the machine with one step by name are one
 abbrev pub StepsAreInjective : Type 0

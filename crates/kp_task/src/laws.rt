@@ -1,12 +1,17 @@
 //! Laws of the task of a ground problem and a table, each proved as the contract of a function that does nothing.
 
 ghost use Rattle.kp_task.specs.ByName.{TasksAreNamed};
-ghost use Rattle.kp_task.specs.Laws.{FactsAreKnown, FactsAreNumbered, OneTagIsAsBefore, RunsAreAccepted, StepsAreInjective, TaggedPlansAreAccepted, TaggedPlansAreSound, TaggedStepsStrip, TaggedTasksAreTasks, TaggedTasksCanBeWritten};
+ghost use Rattle.kp_task.specs.Laws.{FactsAreKnown, FactsAreNumbered, OneTagIsAsBefore, OperatorsDoSteps, RunsAreAccepted, StepsAreInjective, TaggedPlansAreAccepted, TaggedPlansAreSound, TaggedStepsStrip, TaggedTasksAreFit, TaggedTasksAreTasks, TaggedTasksCanBeWritten};
 ghost use Rattle.kp_task.specs.Weight.{BothWeighAlike, WeightIsCounted};
 
 /// The task can be written: its names are Names and differ, and it has only numbers of its facts.
 pub fn tagged_tasks_can_be_written()
     ensures { TaggedTasksCanBeWritten }
+{}
+
+/// Where a `u32` counts its facts and operators, it is fit to be run.
+pub fn tagged_tasks_are_fit()
+    ensures { TaggedTasksAreFit }
 {}
 
 /// Its facts and operators by name are those that `specs/ByName.antt` says.
@@ -23,6 +28,11 @@ pub fn tagged_tasks_are_tasks()
 pub fn tagged_plans_are_accepted()
     ensures runs { RunsAreAccepted }
     ensures plans { TaggedPlansAreAccepted }
+{}
+
+/// The operators by number succeed exactly where the machine accepts their steps.
+pub fn operators_do_steps()
+    ensures { OperatorsDoSteps }
 {}
 
 /// Steps of the machine with one step by name are one.

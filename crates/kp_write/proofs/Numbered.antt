@@ -104,22 +104,18 @@ pub made_first : (b : Bool) (r : Signed) (rest : List Signed) (holds : Bool) (n 
 made_first true r rest holds n = refl
 made_first false r rest holds n = refl
 
--- whether two numbers are one, either way
-turned : (g f : ℕ) → nat_eq g f ≡ nat_eq f g
-turned g f = bool_same (nat_eq g f) (nat_eq f g) (λ e. let here = eqb-true g f e in grind (arith, here)) (λ e. let here = eqb-true f g e in grind (arith, here))
-
 module _ (facts : List (List ℕ)) (differ : IsDistinct same facts) where
-  one_name : (f g : ℕ) → f < length facts → nat_lt g (length facts) ≡ true → same (fact_name facts f) (fact_name facts g) ≡ nat_eq g f
+  one_name : (f g : ℕ) → f < length facts → nat_lt g (length facts) ≡ true → same (fact_name facts f) (fact_name facts g) ≡ nat_eq f g
   one_name f g p q =
-      bool_same (same (fact_name facts f) (fact_name facts g)) (nat_eq g f)
+      bool_same (same (fact_name facts f) (fact_name facts g)) (nat_eq f g)
       (λ e.
       let one : fact_name facts f ≡ fact_name facts g = same-true (fact_name facts f) (fact_name facts g) e in
       let here : f ≡ g = one_place facts differ f g (fact_name facts f) (fact_at facts f p) (fact_at facts g (ltb-true g (length facts) q) ∙ ap Some (sym one)) in
-      subst (λ i. nat_eq g i ≡ true) (sym here) (same_number g))
-      (λ e. let here : g ≡ f = eqb-true g f e in subst (λ i. same (fact_name facts f) (fact_name facts i) ≡ true) (sym here) (same-refl (fact_name facts f)))
+      subst (λ i. nat_eq f i ≡ true) here (same_number f))
+      (λ e. let here : f ≡ g = eqb-true f g e in subst (λ i. same (fact_name facts f) (fact_name facts i) ≡ true) here (same-refl (fact_name facts f)))
     where
-      same_number : (g : ℕ) → nat_eq g g ≡ true
-      same_number g = grind arith
+      same_number : (f : ℕ) → nat_eq f f ≡ true
+      same_number f = grind arith
 
   -- each fact holds by name where it does by number
   abbrev Agree : Facts → Holding → Type 0
@@ -129,7 +125,7 @@ module _ (facts : List (List ℕ)) (differ : IsDistinct same facts) where
   at_start [] h f below = refl
   at_start (g ∷ gs) h f below =
       let p = and_parts (nat_lt g (length facts)) (are_below (length facts) gs) h in
-      rw (one_name f g below p.0, at_start gs p.1 f below, turned g f) refl
+      rw (one_name f g below p.0, at_start gs p.1 f below) refl
 
   module _ (s : Facts) (h : Holding) (agree : Agree s h) where
     all_hold : (fs : List ℕ) → are_below (length facts) fs ≡ true → list_all s (map (fact_name facts) fs) ≡ list_all h fs
@@ -165,7 +161,7 @@ module _ (facts : List (List ℕ)) (differ : IsDistinct same facts) where
         let q = and_parts (fits_effect (length facts) e) (list_all (fits_effect (length facts)) es) p in
         let r = and_parts (nat_lt e.fact (length facts)) (fits (length facts) e.cond) q.0 in
         made_first (list_all (is_so s) (named_conds facts e.cond)) (signed_fact facts e.adds e.fact) (flat_map (λ e. only_if (list_all (is_so s) e.conds) (e.result ∷ [])) (map (named_effect facts) es)) holds (fact_name facts f)
-        ∙ rw (conds_met e.cond r.1, one_name f e.fact below r.0, makes es q.1 holds f below) (turn (meets e.cond h) (beq holds e.adds) (nat_eq e.fact f) (fires es h holds f) ∙ ap (λ z. (beq holds e.adds && (z && meets e.cond h)) || fires es h holds f) (turned e.fact f))
+        ∙ rw (conds_met e.cond r.1, one_name f e.fact below r.0, makes es q.1 holds f below) (turn (meets e.cond h) (beq holds e.adds) (nat_eq f e.fact) (fires es h holds f))
       where
         turn : (a b c d : Bool) → ((a && (b && c)) || d) ≡ ((b && (c && a)) || d)
         turn true true true d = refl
@@ -185,7 +181,7 @@ one_of_some x y e = cc
 
 module _ (t : Task) (w : CanBeWritten t) where
   -- these operators are those of these numbers
-  abbrev AreAt : List ℕ → List Op → Type 0
+  abbrev pub AreAt : List ℕ → List Op → Type 0
   AreAt ns os = map (λ n. option_map (named_op t.facts) (slice_get t.ops n)) ns ≡ map Some os
 
   run_alike : (ns : List ℕ) (os : List Op) → AreAt ns os → (s : Facts) (h : Holding) → Agree t.facts w.facts_differ s h → runs (named_goal t) os s ≡ succeeds t h ns
@@ -208,7 +204,7 @@ module _ (t : Task) (w : CanBeWritten t) where
           subst (λ (z : Op). runs (named_goal t) (z ∷ os) s ≡ (applicable (Some a) h && succeeds t (next (Some a) h) ns)) it
           (rw (pre, rest (after_op (named_op t.facts a) s) (after a h) (goes_on t.facts w.facts_differ s h agree a ok)) refl)
 
-  from_start : (ns : List ℕ) (os : List Op) → AreAt ns os → runs (named_goal t) os (is_among (named_start t)) ≡ succeeds t (start t) ns
+  pub from_start : (ns : List ℕ) (os : List Op) → AreAt ns os → runs (named_goal t) os (is_among (named_start t)) ≡ succeeds t (start t) ns
   from_start ns os at = run_alike ns os at (is_among (named_start t)) (start t) (at_start t.facts w.facts_differ t.init w.start_fits)
 
 -- ---- operators by number

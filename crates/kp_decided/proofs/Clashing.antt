@@ -1,0 +1,31 @@
+-- Some clash is the first, or no action clashes.
+use Rattle.std.proofs.Common.{◌≡◌, ◌⊎◌, inl, inr, refl, ℕ, List, Option, Some, None, length, arith}
+use Rattle.kp_base.specs.declared.ground.Ground.{Ground}
+use Rattle.kp_base.specs.declared.ground.Initial.{Initial}
+use Rattle.kp_base.specs.declared.refused.ClashAt.{ClashAt}
+use Rattle.kp_base.specs.Exclusive.{AreExclusive, ClashesFirst, IsClashFree}
+use Rattle.kp_base.specs.Implicates.{IsOfAtoms}
+use Rattle.kp_clash.specs.Paired.{is_pair}
+use Rattle.kp_clash.specs.Searching.{first_from}
+use Rattle.kp_clash.proofs.Initially.{left_exclusive}
+use Rattle.kp_clash.proofs.InOrder.{first_is, none_is}
+use Rattle.kp_decided.specs.Laws.{ClashesAreDecided}
+use Rattle.kp_decided.proofs.Together.{at_start, never_together}
+use Rattle.kp_decided.proofs.Settling.{settled}
+
+-- the exclusive pairs, as a list
+pub exclusive_pairs : (g : Ground) (i : Initial) → IsOfAtoms (length g.atoms) i → (pairs : List (ℕ × ℕ)) × AreExclusive g i (length g.atoms) (is_pair pairs)
+exclusive_pairs g i over =
+    let start = at_start i (length g.atoms) over in
+    let end = settled g (length start) start (omega arith) in
+    (end.0, left_exclusive g i (length g.atoms) start end.0 (never_together i (length g.atoms) over) end.1)
+
+pub clash_or_none : ClashesAreDecided
+clash_or_none g i over = go (exclusive_pairs g i over)
+  where
+    go : ((pairs : List (ℕ × ℕ)) × AreExclusive g i (length g.atoms) (is_pair pairs)) → ((c : ClashAt) × ClashesFirst g i c) ⊎ IsClashFree g i
+    go (pairs, exclusive) = by (first_from (is_pair pairs) 0 g.actions) refl
+      where
+        by : (o : Option ClashAt) → o ≡ first_from (is_pair pairs) 0 g.actions → ((c : ClashAt) × ClashesFirst g i c) ⊎ IsClashFree g i
+        by (Some c) is = inl (c, record { pairs = is_pair pairs; exclusive = exclusive; first = first_is (is_pair pairs) g (Some c) is })
+        by None is = inr (record { pairs = is_pair pairs; exclusive = exclusive; none = none_is (is_pair pairs) g None is })

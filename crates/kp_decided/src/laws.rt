@@ -1,0 +1,33 @@
+//! Laws of questions that have an answer, each proved as the contract of a function that does nothing.
+
+ghost use Rattle.kp_decided.specs.Laws.{ClashesAreDecided, FormulasAreAscending, ImplicatesAreCounted, ModelsAreDecided, NamesAreDecided, SizesAreDecided};
+
+/// No name of two trees is at fault, or the trees are refused for one.
+pub fn names_are_decided()
+    ensures { NamesAreDecided }
+{}
+
+/// A problem by number is refused for its size, or it has a ground problem.
+pub fn sizes_are_decided()
+    ensures { SizesAreDecided }
+{}
+
+/// Each clause of an initial formula is in ascending order.
+pub fn formulas_are_ascending()
+    ensures { FormulasAreAscending }
+{}
+
+/// Some least number of first clauses has more prime implicates than a limit, or no number of them has.
+pub fn implicates_are_counted()
+    ensures { ImplicatesAreCounted }
+{}
+
+/// A formula over finitely many atoms has a model, or none.
+pub fn models_are_decided()
+    ensures { ModelsAreDecided }
+{}
+
+/// Some clash is the first, or no action clashes.
+pub fn clashes_are_decided()
+    ensures { ClashesAreDecided }
+{}

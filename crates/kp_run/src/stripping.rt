@@ -1,0 +1,37 @@
+ghost use Rattle.std.specs.Prelude.{◌≤◌, Some, List, ℕ, IfOk, length};
+ghost use Rattle.kp_outside.specs.Outside.{IsFront, IsWithin};
+ghost use Rattle.kp_plans.specs.PlanFiles.{IsPlanOf};
+ghost use Rattle.kp_run.specs.Outcomes.{StripsText};
+
+use crate::outcomes::{print_text, refuse};
+use kp_base::{Memory, Part, Refused, Row, Stop};
+use kp_outcome::Outcome;
+use kp_outside::Got;
+use kp_plans::{PlanStep, plan_text, read_plan, strip};
+use std::alloc::Global;
+
+// What the steps of a plan file come to.
+fn strip_steps(alloc: Global, steps: &Row<PlanStep>) -> Result<Outcome, Memory>
+    ensures { (text : List ℕ) → length text ≤ 16777216 → IsPlanOf text steps.now → IfOk result (StripsText text) }
+{
+    match strip(alloc, steps) {
+        Ok(actions) => Ok(print_text(alloc, plan_text(alloc, &actions)?)),
+        Err(Stop::Refused(refused)) => refuse(alloc, refused),
+        Err(Stop::Memory) => Err(Memory),
+    }
+}
+
+/// What a plan file comes to, at most 16,777,216 bytes of which were read.
+pub fn strip_text(alloc: Global, got: Got) -> Result<Outcome, Memory>
+    requires { IsWithin 16777216 got }
+    ensures { (text : List ℕ) → IsFront (Some text) 16777216 got → IfOk result (StripsText text) }
+{
+    if got.more {
+        return refuse(alloc, Refused::TooLong(Part::Plan));
+    }
+    match read_plan(alloc, got.bytes.slice()) {
+        Ok(steps) => strip_steps(alloc, &steps),
+        Err(Stop::Refused(refused)) => refuse(alloc, refused),
+        Err(Stop::Memory) => Err(Memory),
+    }
+}

@@ -1,0 +1,94 @@
+//! Tasks: their limits, and runs of their operators.
+ghost use Rattle.std.specs.Prelude.{◌≡◌};
+ghost use Rattle.kp_classic.specs.Fits.{are_below};
+
+use crate::given::{cells, lit, tag_for_each};
+use kp_base::{Limits, Memory, Refused, Row, Stop};
+use kp_classic::{Task, is_fit, meets, run_ops};
+use kp_ktask::{literal_of, translate};
+use std::alloc::Global;
+use std::test::Fail;
+
+fn limited(alloc: Global, facts: u32, task_weight: u64) -> Result<Task, Stop> {
+    let ground = cells(alloc)?;
+    let table = tag_for_each(alloc)?;
+    let mut limits = Limits::usual();
+    limits.facts = facts;
+    limits.task_weight = task_weight;
+    translate(alloc, &ground, &table, &limits)
+}
+
+fn fits(alloc: Global, facts: u32, task_weight: u64) -> bool {
+    match limited(alloc, facts, task_weight) {
+        Ok(task) => task.facts.len() == 24,
+        Err(_) => false,
+    }
+}
+
+// 24 facts, and a weight of 68: four for the merge, and for each of four tags two for each of eight effects.
+#[test]
+fn at_the_limits(rt: HostRuntime) -> Result<(), Fail> {
+    assert!(rt; fits(rt.alloc(), 24, 68));
+    assert!(rt;
+        matches!(
+            limited(rt.alloc(), 23, 67),
+            Err(Stop::Refused(Refused::FactsOver))
+        )
+    );
+    assert!(rt;
+        matches!(
+            limited(rt.alloc(), 24, 67),
+            Err(Stop::Refused(Refused::WeightOver))
+        )
+    );
+    Ok(())
+}
+
+fn are_below(numbers: &[u32], count: u32) -> bool
+    ensures { result ≡ are_below count numbers.now }
+{
+    numbers.iter().all(|number| *number < count)
+}
+
+// Whether the operators run, and meet the goal; none where one may not be taken.
+fn reaches(alloc: Global, task: &Task, ops: &Row<u32>) -> Result<Option<bool>, Memory> {
+    if !is_fit(task) {
+        return Err(Memory);
+    }
+    if !are_below(ops.slice(), task.ops.len() as u32) {
+        return Err(Memory);
+    }
+    match run_ops(alloc, task, ops)? {
+        Some(state) => Ok(Some(meets(task, &state))),
+        None => Ok(None),
+    }
+}
+
+fn goes(alloc: Global, steps: &[u32]) -> Result<Option<bool>, Stop> {
+    let task = limited(alloc, 24, 68)?;
+    let mut ops = Row::new(alloc);
+    for step in steps {
+        ops.push(*step)?;
+    }
+    let reached = reaches(alloc, &task, &ops)?;
+    drop(ops);
+    drop(task);
+    Ok(reached)
+}
+
+// Two steps to the left and the merge lead to the goal, one step doesn't, and the merge can't be first.
+#[test]
+fn two_steps_and_the_merge(rt: HostRuntime) -> Result<(), Fail> {
+    assert!(rt; matches!(goes(rt.alloc(), &[0, 0, 1]), Ok(Some(true))));
+    assert!(rt; matches!(goes(rt.alloc(), &[0, 0]), Ok(Some(false))));
+    assert!(rt; matches!(goes(rt.alloc(), &[1]), Ok(None)));
+    Ok(())
+}
+
+// Facts 6 to 11 are of the second tag.
+#[test]
+fn literals_of_facts(rt: HostRuntime) -> Result<(), Fail> {
+    assert!(rt; literal_of(3, 0) == lit(0, true));
+    assert!(rt; literal_of(3, 11) == lit(2, false));
+    Ok(())
+}

@@ -1,0 +1,96 @@
+//! Texts of tasks.
+
+use crate::given::{cells, exchange, one_tag, tag_for_each};
+use kp_base::{Ground, Limits, Row, Stop, TagTable};
+use kp_ktask::translate;
+use kp_write::{domain_text, problem_text};
+use std::alloc::Global;
+use std::test::Fail;
+
+fn domain(alloc: Global, ground: &Ground, table: &TagTable) -> Result<Row<u8>, Stop> {
+    let task = translate(alloc, ground, table, &Limits::usual())?;
+    Ok(domain_text(alloc, &task)?)
+}
+
+fn problem(alloc: Global, ground: &Ground, table: &TagTable) -> Result<Row<u8>, Stop> {
+    let task = translate(alloc, ground, table, &Limits::usual())?;
+    Ok(problem_text(alloc, &task)?)
+}
+
+// Whether the bytes stand in the text somewhere.
+fn has(text: &Row<u8>, bytes: &[u8]) -> bool {
+    let text = text.slice();
+    for from in 0..text.len() {
+        if text[from..].starts_with(bytes) {
+            return true;
+        }
+    }
+    false
+}
+
+fn domain_is(alloc: Global, expected: &[u8]) -> Result<bool, Stop> {
+    let ground = exchange(alloc)?;
+    let table = one_tag(alloc)?;
+    let text = domain(alloc, &ground, &table)?;
+    Ok(text.slice() == expected)
+}
+
+fn problem_is(alloc: Global, expected: &[u8]) -> Result<bool, Stop> {
+    let ground = exchange(alloc)?;
+    let table = one_tag(alloc)?;
+    let text = problem(alloc, &ground, &table)?;
+    Ok(text.slice() == expected)
+}
+
+fn tagged_has(alloc: Global, bytes: &[u8]) -> Result<bool, Stop> {
+    let ground = cells(alloc)?;
+    let table = tag_for_each(alloc)?;
+    let text = domain(alloc, &ground, &table)?;
+    Ok(has(&text, bytes))
+}
+
+#[test]
+fn the_empty_tag_alone(rt: HostRuntime) -> Result<(), Fail> {
+    assert!(rt;
+        matches!(
+            domain_is(
+                rt.alloc(),
+                b"(define (domain kplan)\n(:requirements :strips :negative-preconditions :conditional-effects)\n(:predicates\n(kp_-p_-0)\n(kn_-p_-0)\n(kp_-q_-0)\n(kn_-q_-0)\n)\n(:action do_-a\n:parameters ()\n:precondition (and (kp_-p_-0))\n:effect (and\n(kp_-q_-0)\n(not (kn_-q_-0))\n(kn_-p_-0)\n(not (kp_-p_-0))\n)\n)\n)\n"
+            ),
+            Ok(true)
+        )
+    );
+    assert!(rt;
+        matches!(
+            problem_is(
+                rt.alloc(),
+                b"(define (problem kplan)\n(:domain kplan)\n(:init\n(kp_-p_-0)\n(kn_-q_-0)\n)\n(:goal (and\n(kp_-q_-0)\n))\n)\n"
+            ),
+            Ok(true)
+        )
+    );
+    Ok(())
+}
+
+#[test]
+fn tags_and_a_merge(rt: HostRuntime) -> Result<(), Fail> {
+    assert!(rt;
+        matches!(
+            tagged_has(
+                rt.alloc(),
+                b"(when (and (kp_-x3_-0)) (kp_-x2_-0))\n(when (and (not (kn_-x3_-0))) (not (kn_-x2_-0)))\n"
+            ),
+            Ok(true)
+        )
+    );
+    assert!(rt;
+        matches!(
+            tagged_has(
+                rt.alloc(),
+                b"(:action merge_-0\n:parameters ()\n:precondition (and (kp_-x1_-1) (kp_-x1_-2) (kp_-x1_-3))\n:effect (and\n(kp_-x1_-0)\n)\n)\n"
+            ),
+            Ok(true)
+        )
+    );
+    Ok(())
+}

@@ -1,0 +1,2 @@
+pub mod SomeCommand
+pub mod SomeOutcome
