@@ -31,6 +31,16 @@ impl<'a> Model for Effects<'a> {
     ghost invariant = { λ e. AreShapes e.seen.keys e.rows.items };
 }
 
+// The effect that makes a literal under these conditions.
+fn effect_of(alloc: Global, conds: &Conditions, made: &BoundLit) -> Result<FlatEffect, Memory>
+    ensures { IfOk result (λ e. e ≡ record { cond = conds.now; result = lit_view made.now }) }
+{
+    Ok(FlatEffect {
+        cond: conds.owned(alloc)?,
+        result: owned(alloc, made)?,
+    })
+}
+
 impl<'a> Effects<'a> {
     /// No effects.
     pub fn new(alloc: Global) -> Effects<'a>
@@ -52,10 +62,7 @@ impl<'a> Effects<'a> {
         ensures { OnOk result (self.new ≡ with_effect self.old (record { cond = conds.now; result = lit_view made.entry })) }
     {
         let shape = shape_of(alloc, conds.slice(), made)?;
-        let effect = FlatEffect {
-            cond: conds.owned(alloc)?,
-            result: owned(alloc, &made)?,
-        };
+        let effect = effect_of(alloc, conds, &made)?;
         self.note(shape, effect)
     }
 

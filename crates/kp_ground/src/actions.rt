@@ -3,26 +3,40 @@ ghost use Rattle.std.specs.List.{list_all};
 ghost use Rattle.kp_names.specs.View.{lifted_view};
 ghost use Rattle.kp_kept.specs.Counts.{kept_view};
 ghost use Rattle.kp_bound.specs.Problem.{problem_of};
+ghost use Rattle.kp_grounding.specs.Ground.{numbered_effect, lasting};
 ghost use Rattle.kp_ground.specs.Passes.{has_schema, action_from, name_with, action_at};
 
 use crate::effects::all_numbered;
 use crate::lasting::lasting_effects;
 use crate::names::names_of_objects;
 use kp_atoms::{Atoms, literal_set};
-use kp_base::{Action, GroundName, Memory, Row};
+use kp_base::{Action, Effect, GroundName, LitSet, Memory, Row};
 use kp_bound::Flattener;
 use kp_grounding::Flat;
 use kp_kept::Kept;
 use kp_names::Lifted;
 use std::alloc::Global;
 
+// The lasting effects of a flat form, by number, beside this precondition.
+fn effects_beside(
+    alloc: Global,
+    atoms: &Atoms,
+    pre: &LitSet,
+    flat: &Flat,
+) -> Result<Row<Effect>, Memory>
+    ensures { IfOk result (λ row. row ≡ lasting pre.now (map (numbered_effect atoms.now) flat.now.effects)) }
+{
+    let numbered = all_numbered(alloc, atoms, flat.effects.slice())?;
+    let effects = lasting_effects(alloc, pre, numbered.slice())?;
+    Ok(effects)
+}
+
 // The action of this name with this flat form.
 fn named(alloc: Global, atoms: &Atoms, name: GroundName, flat: &Flat) -> Result<Action, Memory>
     ensures { IfOk result (λ a. a ≡ action_from atoms.now name flat.now) }
 {
     let pre = literal_set(alloc, atoms, flat.pre.slice())?;
-    let numbered = all_numbered(alloc, atoms, flat.effects.slice())?;
-    let effects = lasting_effects(alloc, &pre, numbered.slice())?;
+    let effects = effects_beside(alloc, atoms, &pre, flat)?;
     Ok(Action { name, pre, effects })
 }
 

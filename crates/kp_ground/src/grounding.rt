@@ -1,15 +1,16 @@
 ghost use Rattle.std.specs.Prelude.{◌≡◌, map, IfOk};
 ghost use Rattle.kp_names.specs.View.{lifted_view};
-ghost use Rattle.kp_grounding.specs.Ground.{kept_instances, ground_over};
+ghost use Rattle.kp_grounding.specs.Ground.{kept_instances, ground_over, atom_name, numbered_set};
 ghost use Rattle.kp_kept.specs.Counts.{kept_view};
 ghost use Rattle.kp_bound.specs.Problem.{problem_of};
 ghost use Rattle.kp_ground.specs.Grounded.{AnswersGround, AnswersWithAtoms};
+ghost use Rattle.kp_ground.specs.Passes.{action_at};
 
 use crate::actions::all_actions;
 use crate::names::names_of_atoms;
 use crate::occurring::occurring_atoms;
 use kp_atoms::{Atoms, literal_set};
-use kp_base::{Ground, Limits, Memory, Row, Stop};
+use kp_base::{Action, Ground, Limits, Memory, Row, Stop};
 use kp_bound::Flattener;
 use kp_grounding::Atom;
 use kp_kept::{Kept, Statics, kept_instances};
@@ -25,6 +26,41 @@ pub struct GroundWithAtoms {
     pub atoms: Row<Atom>,
 }
 
+// The actions of the kept instances.
+fn kept_actions(
+    alloc: Global,
+    statics: &Statics,
+    atoms: &Atoms,
+    kept: &[Kept],
+) -> Result<Row<Action>, Memory>
+    requires { map kept_view kept.now ≡ kept_instances (problem_of statics.now) }
+    ensures { IfOk result (λ row. row ≡ map (action_at (problem_of statics.now) atoms.now) (kept_instances (problem_of statics.now))) }
+{
+    let mut flattener = Flattener::new(alloc, statics);
+    let actions = all_actions(alloc, &mut flattener, atoms, kept)?;
+    Ok(actions)
+}
+
+// The ground problem with these actions.
+fn with_actions(
+    alloc: Global,
+    lifted: &Lifted,
+    atoms: &Atoms,
+    row: &Row<Atom>,
+    actions: Row<Action>,
+) -> Result<Ground, Memory>
+    ensures names { IfOk result (λ g. g.atoms ≡ map (atom_name (lifted_view lifted.now)) row.now) }
+    ensures actions { IfOk result (λ g. g.actions ≡ actions) }
+    ensures goal { IfOk result (λ g. g.goal ≡ numbered_set atoms.now (lifted_view lifted.now).goal) }
+{
+    let goal = literal_set(alloc, atoms, lifted.goal.slice())?;
+    Ok(Ground {
+        atoms: names_of_atoms(alloc, lifted, row.slice())?,
+        actions,
+        goal,
+    })
+}
+
 // The ground problem over these atoms.
 fn over_atoms(
     alloc: Global,
@@ -36,17 +72,9 @@ fn over_atoms(
     ensures ground { IfOk result (λ g. g.ground ≡ ground_over (problem_of statics.now) atoms.now) }
     ensures atoms { IfOk result (λ g. g.atoms ≡ atoms.now) }
 {
-    let lifted = statics.lifted;
-    let mut flattener = Flattener::new(alloc, statics);
-    let actions = all_actions(alloc, &mut flattener, atoms, kept)?;
-    let goal = literal_set(alloc, atoms, lifted.goal.slice())?;
     let row = atoms.row(alloc)?;
-    let names = names_of_atoms(alloc, lifted, row.slice())?;
-    let ground = Ground {
-        atoms: names,
-        actions,
-        goal,
-    };
+    let actions = kept_actions(alloc, statics, atoms, kept)?;
+    let ground = with_actions(alloc, statics.lifted, atoms, &row, actions)?;
     Ok(GroundWithAtoms { ground, atoms: row })
 }
 
