@@ -4,12 +4,12 @@ use Rattle.kp_base.specs.declared.ground.Action.{Action}
 use Rattle.kp_base.specs.declared.ground.Ground.{Ground}
 use Rattle.kp_base.specs.declared.ground.Initial.{Initial}
 use Rattle.kp_base.specs.declared.refused.ClashAt.{ClashAt}
-use Rattle.kp_base.specs.Steps.{State, is_model}
 use Rattle.kp_base.specs.Clashes.{Pairs, Clashes, IsClash, IsFirstClash}
 use Rattle.kp_base.specs.Exclusive.{IsPart, IsInductive, IsExclusive, AreExclusive, ClashesFirst, IsClashFree}
 use Rattle.kp_base.proofs.Lists.{bool_same}
 use Rattle.kp_base.proofs.Exclusive.{compatible_under_fewer}
 use Rattle.kp_machine.specs.Laws.{ClashFreeNeverClashes}
+use Rattle.kp_machine.specs.Formulas.{HaveSameModels}
 use Rattle.kp_machine.proofs.Inductive as inductive
 use Rattle.kp_machine.proofs.Union.{union_inductive}
 
@@ -17,10 +17,6 @@ pub never_clashes : ClashFreeNeverClashes
 never_clashes g i free = inductive.never_clashes g i (length g.atoms) free.pairs (union_inductive g i (length g.atoms) free.pairs free.exclusive) free.none
 
 -- ---- by the initial states alone
-
--- both formulas have the same models
-abbrev pub HaveSameModels : Initial → Initial → Type 0
-HaveSameModels i j = (s : State) → is_model i s ≡ is_model j s
 
 inductive_by_models : (g : Ground) (i j : Initial) (atoms : ℕ) (pairs : Pairs) → HaveSameModels i j → IsInductive g i atoms pairs → IsInductive g j atoms pairs
 inductive_by_models g i j atoms pairs same ind = record {
@@ -33,7 +29,7 @@ inductive_by_models g i j atoms pairs same ind = record {
 exclusive_by_models : (g : Ground) (i j : Initial) (atoms p q : ℕ) → HaveSameModels i j → IsExclusive g i atoms p q → IsExclusive g j atoms p q
 exclusive_by_models g i j atoms p q same x = record { pairs = x.pairs; inductive = inductive_by_models g i j atoms x.pairs same x.inductive; has_pair = x.has_pair }
 
-by_models : (g : Ground) (i j : Initial) (atoms : ℕ) (pairs : Pairs) → HaveSameModels i j → AreExclusive g i atoms pairs → AreExclusive g j atoms pairs
+pub by_models : (g : Ground) (i j : Initial) (atoms : ℕ) (pairs : Pairs) → HaveSameModels i j → AreExclusive g i atoms pairs → AreExclusive g j atoms pairs
 by_models g i j atoms pairs same are = record {
   each = λ p q pair. exclusive_by_models g i j atoms p q same (are.each p q pair);
   all = λ p q x. are.all p q (exclusive_by_models g j i atoms p q (λ s. sym (same s)) x);

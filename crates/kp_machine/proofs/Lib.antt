@@ -5,6 +5,7 @@ pub mod OneSided
 pub mod Inductive
 pub mod Union
 pub mod Exclusive
+pub mod Formulas
 pub mod Operators
 pub mod OneTag
 pub mod ExampleCells

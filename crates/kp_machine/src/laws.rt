@@ -1,5 +1,6 @@
 //! Laws of the tagged machine, each proved as the contract of a function that does nothing.
 
+ghost use Rattle.kp_machine.specs.Formulas.{SameModelsSayTheSame};
 ghost use Rattle.kp_machine.specs.Laws.{ClashFreeNeverClashes, ExclusivePairsAreInductive, InductiveNeverClashes, InductivePairsStayApart, IsSound, OneTagHasNoMerges, OneTagIsTable, OperatorsAreExact};
 
 /// Each list that the machine accepts is, without its merges, a plan from every model.
@@ -48,4 +49,10 @@ pub fn one_tag_is_a_table()
 #[tactic(auto, using(crate::proofs::OneTag::has_no_merges))]
 pub fn one_tag_has_no_merges()
     ensures { OneTagHasNoMerges }
+{}
+
+/// Formulas with the same models have the same closures, consistent tags, valid merges, right tables, exclusive pairs and first clash.
+#[tactic(auto, using(crate::proofs::Formulas::same_models))]
+pub fn same_models_say_the_same()
+    ensures { SameModelsSayTheSame }
 {}

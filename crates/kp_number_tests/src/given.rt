@@ -18,7 +18,7 @@ pub(crate) fn set(alloc: Global, lits: &[(u32, bool)]) -> Result<LitSet, Memory>
     Ok(set)
 }
 
-fn sets(alloc: Global, clauses: &[&[(u32, bool)]]) -> Result<Row<LitSet>, Memory> {
+pub(crate) fn sets(alloc: Global, clauses: &[&[(u32, bool)]]) -> Result<Row<LitSet>, Memory> {
     let mut row = Row::new(alloc);
     for lits in clauses {
         row.push(set(alloc, lits)?)?;

@@ -1,4 +1,4 @@
-//! Tests of what stands on numbers: literals, rows, bits, clauses, prime implicates and exclusive pairs.
+//! Tests of what stands on numbers: literals, rows, bits, clauses, prime implicates, exclusive pairs and valid tags.
 #![tactic(auto)]
 
 #[cfg(test)]
@@ -9,6 +9,8 @@ mod bits;
 mod clash;
 #[cfg(test)]
 mod clauses;
+#[cfg(test)]
+mod cover;
 #[cfg(test)]
 mod given;
 #[cfg(test)]

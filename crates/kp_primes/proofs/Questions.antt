@@ -1,5 +1,5 @@
 -- Whole lists of prime implicates answer the questions of tags exactly.
-use Rattle.std.proofs.Common.{◌↔◌, true, not, IsTrue, List, refl, ap}
+use Rattle.std.proofs.Common.{◌≡◌, ◌↔◌, true, false, not, IsTrue, List, refl, ap}
 use Rattle.std.proofs.lemmas.Bool.{and_from, not-true}
 use Rattle.std.specs.List.{list_any, list_all}
 use Rattle.kp_base.specs.declared.lit.Lit.{Lit}
@@ -23,12 +23,16 @@ own_cover h whole = record {
     prime : (c : List Lit) → Member h.clauses c → IsPrime (formula h) c
     prime c m = (whole.primes.primes.exact c).0 m
 
+-- a consistent tag isn't found to be inconsistent
+pub consistent_free : (h : Held) → AreWhole h → (tag : List Lit) → IsConsistent (formula h) tag → inconsistent h.clauses tag ≡ false
+consistent_free h whole tag met = not-true-case (inconsistent h.clauses tag) (λ none. met_nowhere (is_model (formula h)) h.clauses (own_cover h whole) tag none met.state met.model met.all_true)
+
 pub consistent_exact : (h : Held) → AreWhole h → (tag : List Lit) → IsTrue (not (inconsistent h.clauses tag)) ↔ IsConsistent (formula h) tag
 consistent_exact h whole tag = (
   λ yes.
       let found = met_somewhere (is_model (formula h)) h.clauses (own_cover h whole) h.atoms whole.of_atoms.clauses tag (not-true (inconsistent h.clauses tag) yes) in
       record { state = found.0; model = and_from (list_all (list_any (holds found.0)) h.clauses) true found.1 refl; all_true = found.2 },
-  λ met. ap not (not-true-case (inconsistent h.clauses tag) (λ none. met_nowhere (is_model (formula h)) h.clauses (own_cover h whole) tag none met.state met.model met.all_true)),
+  λ met. ap not (consistent_free h whole tag met),
 )
 
 pub entails_exact : (h : Held) → AreWhole h → (tag : List Lit) (l : Lit) → IsTrue (entailed_by h.clauses tag l) ↔ Entails (formula h) tag l

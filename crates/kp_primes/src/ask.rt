@@ -1,9 +1,8 @@
-ghost use Rattle.std.specs.Prelude.{◌≡◌, ◌||◌, OnOk};
+ghost use Rattle.std.specs.Prelude.{◌≡◌, ◌||◌, fold, OnOk};
 ghost use Rattle.std.specs.List.{list_any};
-ghost use Rattle.kp_base.specs.Lit.{positive, negative};
-ghost use Rattle.kp_primes.specs.Asked.{denied, denied_but, inconsistent, entailed_by, with_entailed};
+ghost use Rattle.kp_primes.specs.Asked.{denied, denied_but, inconsistent, entailed_by, first_left, with_left, with_below};
 
-use kp_base::{AtomId, Lit, LitSet, Memory};
+use kp_base::{Lit, LitSet, Memory};
 use kp_clauses::{has_lit, is_tautology};
 
 // Whether each literal's negation is in the tag.
@@ -50,30 +49,51 @@ pub fn is_entailed(clauses: &[LitSet], tag: &LitSet, lit: Lit) -> bool
     is_tautology(tag) || has_lit(tag, lit) || some_denied_but(clauses, tag, lit)
 }
 
-// Adds a literal where it is entailed.
-fn add_entailed(set: &mut LitSet, clauses: &[LitSet], tag: &LitSet, lit: Lit) -> Result<(), Memory>
-    ensures { OnOk result (set.new ≡ with_entailed clauses.now tag.now set.old lit) }
+// The first literal of a clause that the tag doesn't deny.
+fn first_left(tag: &LitSet, c: &[Lit]) -> Option<Lit>
+    ensures { result ≡ first_left tag.now c.now }
 {
-    if is_entailed(clauses, tag, lit) {
-        set.insert(lit)?;
+    for x in c {
+        if !has_lit(tag, x.negated()) {
+            return Some(*x);
+        }
+    }
+    None
+}
+
+// Adds what the tag leaves of a clause, if that is one literal.
+fn add_left(set: &mut LitSet, tag: &LitSet, c: &LitSet) -> Result<(), Memory>
+    ensures { OnOk result (set.new ≡ with_left tag.now set.old c.now) }
+{
+    match first_left(tag, c.slice()) {
+        Some(l) => {
+            if is_denied_but(tag, l, c) {
+                set.insert(l)?;
+            }
+            Ok(())
+        }
+        None => Ok(()),
+    }
+}
+
+/// Adds what the tag leaves of each clause, where that is one literal.
+pub fn add_all_left(set: &mut LitSet, clauses: &[LitSet], tag: &LitSet) -> Result<(), Memory>
+    ensures { OnOk result (set.new ≡ fold (with_left tag.now) set.old clauses.now) }
+{
+    for c in clauses {
+        add_left(set, tag, c)?;
     }
     Ok(())
 }
 
-/// Adds those of an atom's literals that are entailed.
-pub fn add_atom(
-    set: &mut LitSet,
-    clauses: &[LitSet],
-    tag: &LitSet,
-    atom: AtomId,
-) -> Result<(), Memory>
-    ensures { OnOk result (set.new ≡ with_entailed clauses.now tag.now (with_entailed clauses.now tag.now set.old (positive atom.0)) (negative atom.0)) }
+/// Adds those literals that are of the first atoms.
+pub fn add_below(set: &mut LitSet, lits: &[Lit], atoms: u32) -> Result<(), Memory>
+    ensures { OnOk result (set.new ≡ fold (with_below atoms) set.old lits.now) }
 {
-    let holding = Lit {
-        atom,
-        positive: true,
-    };
-    add_entailed(set, clauses, tag, holding)?;
-    add_entailed(set, clauses, tag, holding.negated())?;
+    for l in lits {
+        if l.atom.0 < atoms {
+            set.insert(*l)?;
+        }
+    }
     Ok(())
 }

@@ -12,4 +12,4 @@ mod range;
 
 pub use laws::limits_are_exact;
 pub use primes::Primes;
-pub use range::is_of_atoms;
+pub use range::{are_of_atoms, is_of_atoms};

@@ -4,10 +4,10 @@ ghost use Rattle.kp_base.specs.Implicates.{IsOfAtoms};
 ghost use Rattle.kp_primes.specs.Held.{formula, AreWhole};
 ghost use Rattle.kp_primes.specs.Answers.{AnswersPrimes, AnswersClosure};
 
-use crate::ask::{add_atom, is_entailed, is_inconsistent};
+use crate::ask::{add_all_left, add_below, is_entailed, is_inconsistent};
 use crate::build::{has_empty, in_order, include_all, include_closed};
 use crate::holders::Holders;
-use kp_base::{AtomId, Initial, Lit, LitSet, Memory, Refused, Row, Stop};
+use kp_base::{Initial, Lit, LitSet, Memory, Refused, Row, Stop};
 use kp_clauses::Store;
 use std::alloc::Global;
 use std::marker::Model;
@@ -60,6 +60,13 @@ impl Primes {
         })
     }
 
+    /// The number of atoms.
+    pub fn atoms(&self) -> u32
+        ensures { result ≡ self.now.atoms }
+    {
+        self.atoms
+    }
+
     /// The prime implicates, in order: by the codes of their literals, the first difference deciding.
     pub fn clauses(&self) -> &Row<LitSet>
         ensures value { result.now ≡ self.now.clauses }
@@ -94,15 +101,14 @@ impl Primes {
         Ok(Some(set))
     }
 
-    // The literals of the atoms that are entailed.
+    // The literals of the atoms that a consistent tag entails: its own, and what it leaves of each clause.
     fn all_entailed(&self, alloc: Global, tag: &LitSet) -> Result<LitSet, Memory>
+        requires { IsConsistent (formula self.now) tag.now }
         ensures { IfOk result (IsClosure self.now.atoms (formula self.now) tag.now) }
     {
-        let clauses = self.clauses.slice();
         let mut set = LitSet::new(alloc);
-        for p in 0..self.atoms {
-            add_atom(&mut set, clauses, tag, AtomId(p))?;
-        }
+        add_below(&mut set, tag.slice(), self.atoms)?;
+        add_all_left(&mut set, self.clauses.slice(), tag)?;
         Ok(set)
     }
 }

@@ -1,19 +1,19 @@
 ghost use Rattle.std.specs.Prelude.{◌≡◌, ◌↔◌, IsTrue, nat_lt};
 ghost use Rattle.std.specs.List.{list_all};
-ghost use Rattle.kp_base.specs.Implicates.{IsOfAtoms};
+ghost use Rattle.kp_base.specs.Implicates.{IsOfAtoms, are_below};
 
 use kp_base::{AtomId, Initial, LitSet};
 
 // Whether each literal is of one of the first atoms.
 fn is_below(c: &LitSet, atoms: u32) -> bool
-    ensures { result ≡ list_all (λ l. nat_lt l.atom.0 atoms) c.now }
+    ensures { result ≡ are_below atoms c.now }
 {
     c.slice().iter().all(|l| l.atom.0 < atoms)
 }
 
-// Whether each literal of the clauses is.
-fn are_below(clauses: &[LitSet], atoms: u32) -> bool
-    ensures { result ≡ list_all (λ c. list_all (λ l. nat_lt l.atom.0 atoms) c) clauses.now }
+/// Whether the literals of clauses or tags are of atoms below this number alone.
+pub fn are_of_atoms(clauses: &[LitSet], atoms: u32) -> bool
+    ensures { result ≡ list_all (are_below atoms) clauses.now }
 {
     clauses.iter().all(|c| is_below(c, atoms))
 }
@@ -29,5 +29,5 @@ fn are_first(closed: &[AtomId], atoms: u32) -> bool
 pub fn is_of_atoms(initial: &Initial, atoms: u32) -> bool
     ensures { IsTrue result ↔ IsOfAtoms atoms initial.now }
 {
-    are_below(initial.clauses.slice(), atoms) && are_first(initial.closed.slice(), atoms)
+    are_of_atoms(initial.clauses.slice(), atoms) && are_first(initial.closed.slice(), atoms)
 }

@@ -1,0 +1,49 @@
+-- Whether a state that satisfies what is known is inside some tags.
+use Rattle.std.proofs.Common.{◌≡◌, ◌<◌, ℕ, zero, suc, Bool, true, false, not, ◌&&◌, ◌||◌, nat_lt, List, [], ◌∷◌, arith, refl, sym, ap, ◌∙◌, ltb-true}
+use Rattle.std.proofs.lemmas.Bool.{false≢true, true_from_ne_false}
+use Rattle.std.specs.List.{list_any, list_all}
+use Rattle.kp_base.specs.declared.lit.Lit.{Lit}
+use Rattle.kp_base.specs.declared.ground.Initial.{Initial}
+use Rattle.kp_base.specs.Steps.{State, holds, is_model}
+use Rattle.kp_base.specs.Implicates.{are_below}
+use Rattle.kp_base.proofs.Lists.{all_member}
+use Rattle.kp_first.specs.declared.truth.Truth.TheVariants.{Yes, No}
+use Rattle.kp_first.specs.Truths.{IsTruth, opposite, truth_in}
+use Rattle.kp_first.specs.Asked.{Judges, is_wanted, passes_one, test_at}
+use Rattle.kp_first.proofs.Truths.{opposite_is, all_is, any_is, truth_in_is}
+use Rattle.kp_cover.specs.Valid.{satisfies_one, AreValidTags, is_outside}
+use Rattle.kp_cover.specs.Inside.{all_truth, any_truth}
+
+pub judged : (n : ℕ) (known : List Lit) (tags : List (List Lit)) → list_all (are_below n) tags ≡ true → (s : State) → list_all (holds s) known ≡ true → IsTruth n known (not (satisfies_one tags s)) (opposite (any_truth known tags))
+judged n known tags below s met = opposite_is n known (satisfies_one tags s) (any_truth known tags)
+    (any_is n known (list_all (holds s)) (all_truth known) tags
+    (λ tag m. all_is n known (holds s) (truth_in known) tag
+    (λ l i. truth_in_is n known s met l (ltb-true l.atom.0 n (all_member (λ l. nat_lt l.atom.0 n) tag l i (all_member (are_below n) tags tag m below))))
+    true Yes refl)
+    false No refl)
+
+-- the one test
+abbrev pub outside_test : List (List Lit) → State → Bool
+outside_test tags s = not (satisfies_one tags s)
+
+pub judged_at : (n : ℕ) (known : List Lit) (tags : List (List Lit)) → list_all (are_below n) tags ≡ true → (k : ℕ) → k < 1 → Judges n (test_at (outside_test tags ∷ []) k) known (opposite (any_truth known tags))
+judged_at n known tags below zero lt = judged n known tags below
+judged_at n known tags below (suc k) lt = absurd (omega arith)
+
+-- who passes it is outside
+abbrev pub wanted : Initial → List (List Lit) → State → Bool
+wanted i tags = is_wanted i (passes_one (outside_test tags ∷ []))
+
+abbrev pub outside : Initial → List (List Lit) → State → Bool
+outside i tags = is_outside i tags
+
+pub one_is : (i : Initial) (tags : List (List Lit)) (s : State) → wanted i tags s ≡ outside i tags s
+one_is i tags s = ap (λ b. is_model i s && b) (alone (outside_test tags s))
+  where
+    alone : (b : Bool) → (b || false) ≡ b
+    alone true = refl
+    alone false = refl
+
+-- where no model is outside, the tags are valid
+pub all_inside : (i : Initial) (tags : List (List Lit)) → ((s : State) → is_outside i tags s ≡ false) → AreValidTags i tags
+all_inside i tags none s m = true_from_ne_false (satisfies_one tags s) (λ off. false≢true (sym (none s) ∙ (ap (λ b. b && not (satisfies_one tags s)) m ∙ ap not off)))

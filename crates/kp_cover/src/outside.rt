@@ -1,0 +1,54 @@
+ghost use Rattle.std.specs.Prelude.{◌≡◌, ◌∷◌, [], true, not};
+ghost use Rattle.std.specs.List.{list_all};
+ghost use Rattle.kp_base.specs.Implicates.{are_below};
+ghost use Rattle.kp_cover.specs.Valid.{satisfies_one};
+ghost use Rattle.kp_cover.specs.Inside.{all_truth, any_truth};
+
+use kp_base::{Lit, LitSet, Memory};
+use kp_first::{Question, Truth, truth_in};
+use std::alloc::Global;
+
+// Whether a tag's literals are true.
+fn all_truth(known: &LitSet, tag: &[Lit]) -> Truth
+    ensures { result ≡ all_truth known.now tag.now }
+{
+    let mut all = Truth::Yes;
+    for lit in tag {
+        all = all.and(truth_in(known, *lit));
+    }
+    all
+}
+
+// Whether those of some tag are.
+fn any_truth(known: &LitSet, tags: &[LitSet]) -> Truth
+    ensures { result ≡ any_truth known.now tags.now }
+{
+    let mut any = Truth::No;
+    for tag in tags {
+        any = any.or(all_truth(known, tag.slice()));
+    }
+    any
+}
+
+/// The states that satisfy none of some tags.
+#[derive(Drop)]
+pub struct Outside<'a> {
+    pub atoms: u32,
+    pub tags: &'a [LitSet],
+}
+
+impl<'a> Question for Outside<'a> {
+    ghost atoms = { λ q. q.atoms };
+
+    ghost tests = { λ q. (λ s. not (satisfies_one q.tags.now s)) ∷ [] };
+
+    ghost ready = { λ q. list_all (are_below q.atoms) q.tags.now ≡ true };
+
+    fn count(&self) -> usize {
+        1
+    }
+
+    fn judge(&self, _alloc: Global, _number: usize, known: &LitSet) -> Result<Truth, Memory> {
+        Ok(any_truth(known, self.tags).negated())
+    }
+}

@@ -1,0 +1,37 @@
+ghost use Rattle.std.specs.Prelude.{◌≡◌, true, IfOk};
+ghost use Rattle.std.specs.List.{list_all};
+ghost use Rattle.kp_base.specs.Implicates.{are_below};
+ghost use Rattle.kp_primes.specs.Held.{formula};
+ghost use Rattle.kp_cover.specs.Valid.{AnswersValid};
+
+use crate::outside::Outside;
+use kp_base::{AtomId, LitSet, Memory, Row};
+use kp_first::{first, first_goes_by_what_passes};
+use kp_primes::Primes;
+use std::alloc::Global;
+
+/// Whether each initial state satisfies one of some tags.
+#[derive(Debug, Drop)]
+pub enum Validity {
+    /// Each does.
+    Valid,
+    /// Some satisfies none: the atoms that are true in the first such state, in order.
+    Invalid(Row<AtomId>),
+}
+
+/// Whether each initial state satisfies one of the tags, and else the first that satisfies none: at the first atom in
+/// which two states differ, the one without it comes first. The tags must be of the atoms (`are_of_atoms`).
+pub fn valid(alloc: Global, primes: &Primes, tags: &Row<LitSet>) -> Result<Validity, Memory>
+    requires { list_all (are_below primes.now.atoms) tags.now ≡ true }
+    ensures { IfOk result (AnswersValid primes.now.atoms (formula primes.now) tags.now) }
+{
+    first_goes_by_what_passes();
+    let outside = Outside {
+        atoms: primes.atoms(),
+        tags: tags.slice(),
+    };
+    match first(alloc, primes, &outside)? {
+        Some(state) => Ok(Validity::Invalid(state)),
+        None => Ok(Validity::Valid),
+    }
+}

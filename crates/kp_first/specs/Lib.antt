@@ -1,0 +1,4 @@
+pub mod Asked
+pub mod Known
+pub mod Ordered
+pub mod Truths

@@ -1,0 +1,101 @@
+ghost use Rattle.std.specs.Prelude.{◌≡◌, ◌<◌, true, length, IfOk};
+ghost use Rattle.kp_base.specs.LitSet.{with_lit};
+ghost use Rattle.kp_base.specs.Implicates.{are_below};
+ghost use Rattle.kp_primes.specs.Held.{formula};
+ghost use Rattle.kp_first.specs.Asked.{AnswersFind, JudgesTag, passes_one, test_at};
+
+use crate::{Question, Truth};
+use kp_base::{Lit, LitSet, Memory};
+use kp_primes::Primes;
+use std::alloc::Global;
+
+/// The tag with one literal more.
+pub fn extended(alloc: Global, tag: &LitSet, lit: Lit) -> Result<LitSet, Memory>
+    ensures { IfOk result (λ set. set ≡ with_lit lit tag.now) }
+{
+    let mut more = tag.copy(alloc)?;
+    more.insert(lit)?;
+    Ok(more)
+}
+
+// Whether the models of a tag pass a test; `No` where it has none.
+fn judge_tag<T: Question>(
+    alloc: Global,
+    primes: &Primes,
+    question: &T,
+    number: usize,
+    tag: &LitSet,
+) -> Result<Truth, Memory>
+    requires ready { T.ready question.now }
+    requires atoms { T.atoms question.now ≡ primes.now.atoms }
+    requires in_range { number < length (T.tests question.now) }
+    requires below { are_below primes.now.atoms tag.now ≡ true }
+    ensures { IfOk result (JudgesTag primes.now.atoms (formula primes.now) (test_at (T.tests question.now) number) tag.now) }
+{
+    match primes.closure(alloc, tag)? {
+        Some(known) => {
+            let truth = question.judge(alloc, number, &known)?;
+            Ok(truth)
+        }
+        None => Ok(Truth::No),
+    }
+}
+
+// A tag within this one all of whose models pass the test with this number, and that has one. None where no model of
+// the tag passes.
+fn find<T: Question>(
+    alloc: Global,
+    primes: &Primes,
+    question: &T,
+    number: usize,
+    tag: LitSet,
+) -> Result<Option<LitSet>, Memory>
+    requires ready { T.ready question.now }
+    requires atoms { T.atoms question.now ≡ primes.now.atoms }
+    requires in_range { number < length (T.tests question.now) }
+    requires below { are_below primes.now.atoms tag ≡ true }
+    ensures { IfOk result (AnswersFind primes.now.atoms (formula primes.now) (test_at (T.tests question.now) number) tag) }
+{
+    match judge_tag(alloc, primes, question, number, &tag)? {
+        Truth::Yes => Ok(Some(tag)),
+        Truth::No => Ok(None),
+        Truth::Open(atom) => {
+            let lit = Lit {
+                atom,
+                positive: false,
+            };
+            let without = extended(alloc, &tag, lit)?;
+            match find(alloc, primes, question, number, without)? {
+                Some(found) => Ok(Some(found)),
+                None => {
+                    let with = extended(alloc, &tag, lit.negated())?;
+                    let rest = find(alloc, primes, question, number, with)?;
+                    Ok(rest)
+                }
+            }
+        }
+    }
+}
+
+/// A tag within this one all of whose models pass one of the tests, and that has one. None where no model of the tag
+/// passes any.
+pub fn find_any<T: Question>(
+    alloc: Global,
+    primes: &Primes,
+    question: &T,
+    tag: &LitSet,
+) -> Result<Option<LitSet>, Memory>
+    requires ready { T.ready question.now }
+    requires atoms { T.atoms question.now ≡ primes.now.atoms }
+    requires below { are_below primes.now.atoms tag.now ≡ true }
+    ensures { IfOk result (AnswersFind primes.now.atoms (formula primes.now) (passes_one (T.tests question.now)) tag.now) }
+{
+    let count = question.count();
+    for number in 0..count {
+        match find(alloc, primes, question, number, tag.copy(alloc)?)? {
+            Some(found) => return Ok(Some(found)),
+            None => {}
+        }
+    }
+    Ok(None)
+}
