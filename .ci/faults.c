@@ -1,8 +1,9 @@
 /* Preloaded by `.ci/edge`: counts a program's calls on the outside, and lets one of them fail once.
  *
  * EDGE_FAIL is KIND:NUMBER:ERRNO, the call of that kind (alloc, open, read, write) that fails and its errno; EDGE_SHORT
- * has each read and write move one byte at most; EDGE_COUNTS is a file, to which the numbers of calls are written at the
- * end, in that order. Only calls from the program's start on count. */
+ * has each read and write move one byte at most; EDGE_AGAIN has each open, read and write interrupted when it is first
+ * tried; EDGE_COUNTS is a file, to which the numbers of calls are written at the end, in that order. Only calls from the
+ * program's start on count. */
 #define _GNU_SOURCE
 #include <errno.h>
 #include <fcntl.h>
@@ -20,7 +21,7 @@ extern void *__libc_realloc(void *, size_t);
 enum kind { ALLOC, OPEN, READ, WRITE, KINDS };
 static const char *const names[KINDS] = {"alloc", "open", "read", "write"};
 static long calls[KINDS];
-static int started, one_byte, fail_kind = -1, fail_errno;
+static int started, one_byte, again, interrupted, fail_kind = -1, fail_errno;
 static long fail_number;
 
 __attribute__((constructor)) static void start(void) {
@@ -31,6 +32,7 @@ __attribute__((constructor)) static void start(void) {
             if (!strcmp(name, names[kind]))
                 fail_kind = kind;
     one_byte = getenv("EDGE_SHORT") != NULL;
+    again = getenv("EDGE_AGAIN") != NULL;
     started = 1;
 }
 
@@ -46,9 +48,15 @@ __attribute__((destructor)) static void stop(void) {
         _exit(99);
 }
 
-/* Counts the call, and says whether it is the one that fails. */
+/* Counts the call, and says whether it fails. */
 static int fails(enum kind kind) {
-    if (!started || ++calls[kind] != fail_number || (int)kind != fail_kind)
+    if (!started)
+        return 0;
+    if (again && kind != ALLOC && (interrupted = !interrupted)) {
+        errno = EINTR;
+        return 1;
+    }
+    if (++calls[kind] != fail_number || (int)kind != fail_kind)
         return 0;
     errno = fail_errno;
     return 1;

@@ -8,6 +8,8 @@ mod faults;
 #[cfg(test)]
 mod implicates;
 #[cfg(test)]
+mod limits;
+#[cfg(test)]
 mod refusals;
 #[cfg(test)]
 mod running;

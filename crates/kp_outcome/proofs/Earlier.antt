@@ -29,5 +29,5 @@ module _ (o : Outcome) (old mid new : Outside) (calm : NothingFailed old mid) (s
   carried_from s (whole is none held told) = whole is (nothing none) (files held) (told ∙ ap (λ t. with_bytes t o.text) same.told)
   carried_from s (put_failed file is at rises gets writes told) = put_failed file is (stops file at) (subst (λ n. Rises n (new.put_faults file.name)) (calm.puts file.name) rises) (no_get gets) (no_write writes) (told ∙ same.told)
   carried_from s (put_no_memory file is at none told) = put_no_memory file is (stops file at) (nothing none) (told ∙ same.told)
-  carried_from s (print_failed is held front rises gets puts) = print_failed is (files held) (subst (λ t. AddsFront t new.told o.text) same.told front) (subst (λ n. Rises n new.write_faults) calm.writes rises) (no_get gets) (no_put puts)
-  carried_from s (print_no_memory is held front none) = print_no_memory is (files held) (subst (λ t. AddsFront t new.told o.text) same.told front) (nothing none)
+  carried_from s (print_failed is held front rises gets puts has_text) = print_failed is (files held) (subst (λ t. AddsFront t new.told o.text) same.told front) (subst (λ n. Rises n new.write_faults) calm.writes rises) (no_get gets) (no_put puts) has_text
+  carried_from s (print_no_memory is held front none has_text) = print_no_memory is (files held) (subst (λ t. AddsFront t new.told o.text) same.told front) (nothing none) has_text

@@ -1,5 +1,5 @@
 -- How a command ends: what is held and was told afterwards, and which counts of faults rose.
-use Rattle.std.specs.Prelude.{◌≡◌, List, [], ◌∷◌, ◌++◌, ℕ, Option, Some, None, map, length}
+use Rattle.std.specs.Prelude.{◌≡◌, ◌≢◌, List, [], ◌∷◌, ◌++◌, ℕ, Option, Some, None, map, length}
 use Rattle.std.specs.FinMap.{get}
 use Rattle.kp_outside.specs.declared.outside.Got.{Got}
 use Rattle.kp_outside.specs.declared.outside.OutsideStop.{OutsideStop}
@@ -64,13 +64,13 @@ pub record StopsAt (puts : List FilePut) (old new : Option FileMap) (file : File
   pub in_order : puts ≡ front ++ file ∷ rest
   pub others : without_file new file.name ≡ without_file (with_files old front) file.name
 
--- an outcome was carried out as far as the command came: wholly; up to a put that failed or found no memory; or up to the printing that did
+-- an outcome was carried out as far as the command came: wholly; up to a put that failed or found no memory; or up to the printing that did, where there is something to print
 pub data CarriesOut (o : Outcome) (old new : Outside) (s : Status) : Type 0 where
   whole : s ≡ o.status → NothingFailed old new → new.held ≡ with_files old.held o.puts → new.told ≡ with_bytes old.told o.text → CarriesOut o old new s
   put_failed : (file : FilePut) → s ≡ status.WriteFault → StopsAt o.puts old.held new.held file → Rises (old.put_faults file.name) (new.put_faults file.name) → NoGetFailed old new → NoWriteFailed old new → new.told ≡ old.told → CarriesOut o old new s
   put_no_memory : (file : FilePut) → s ≡ status.Memory → StopsAt o.puts old.held new.held file → NothingFailed old new → new.told ≡ old.told → CarriesOut o old new s
-  print_failed : s ≡ status.WriteFault → new.held ≡ with_files old.held o.puts → AddsFront old.told new.told o.text → Rises old.write_faults new.write_faults → NoGetFailed old new → NoPutFailed old new → CarriesOut o old new s
-  print_no_memory : s ≡ status.Memory → new.held ≡ with_files old.held o.puts → AddsFront old.told new.told o.text → NothingFailed old new → CarriesOut o old new s
+  print_failed : s ≡ status.WriteFault → new.held ≡ with_files old.held o.puts → AddsFront old.told new.told o.text → Rises old.write_faults new.write_faults → NoGetFailed old new → NoPutFailed old new → o.text ≢ [] → CarriesOut o old new s
+  print_no_memory : s ≡ status.Memory → new.held ≡ with_files old.held o.puts → AddsFront old.told new.told o.text → NothingFailed old new → o.text ≢ [] → CarriesOut o old new s
 
 -- ---- the inputs
 

@@ -1,4 +1,4 @@
-ghost use Rattle.std.specs.Prelude.{◌≡◌, ◌≢◌, ℕ, List, Err, OnOk, OnErr, IsErrOf};
+ghost use Rattle.std.specs.Prelude.{◌≡◌, ◌≢◌, ℕ, List, [], Err, OnOk, OnErr, IsErrOf};
 ghost use Rattle.kp_outside.specs.declared.outside.OutsideStop.TheVariants as stops;
 ghost use Rattle.kp_outside.specs.Outside.{Counted, Rises, AddsFront, with_bytes};
 ghost use Rattle.kp_outcome.specs.declared.outcome.FilePut.{FilePut as Put};
@@ -25,6 +25,9 @@ fn print<O: Sink>(alloc: Global, out: &mut O, text: &Row<u8>) -> Result<(), Outs
     ensures written { OnOk result (O.told out.new ≡ with_bytes (O.told out.old) text.now) }
     ensures err { OnErr result (AddsFront (O.told out.old) (O.told out.new) text.now) }
     ensures faults { Counted result (O.faults out.old) (O.faults out.new) }
+    // A text of no bytes isn't written.
+    ensures some { OnErr result (text.now ≢ []) }
+    ensures unprinted { text.now ≡ [] → out.new ≡ out.old }
 {
     if text.len() == 0 {
         return Ok(());
@@ -45,7 +48,7 @@ fn put_all<S: Shelf>(alloc: Global, puts: &[FilePut], shelf: &mut S) -> Result<(
     Ok(())
 }
 
-/// Puts the files of an outcome, in order, and then prints its text.
+/// Puts the files of an outcome, in order, and then prints its text, where it has one.
 pub fn carry_out<S: Shelf, O: Sink>(
     alloc: Global,
     outcome: Outcome,
@@ -53,7 +56,8 @@ pub fn carry_out<S: Shelf, O: Sink>(
     out: &mut O,
 ) -> Status
     requires { IsAnswer outcome.status }
-    ensures { CarriesOut outcome (record { held = S.contents shelf.old; told = O.told out.old; get_faults = S.get_faults shelf.old; put_faults = S.put_faults shelf.old; write_faults = O.faults out.old }) (record { held = S.contents shelf.new; told = O.told out.new; get_faults = S.get_faults shelf.new; put_faults = S.put_faults shelf.new; write_faults = O.faults out.new }) result }
+    ensures ends { CarriesOut outcome (record { held = S.contents shelf.old; told = O.told out.old; get_faults = S.get_faults shelf.old; put_faults = S.put_faults shelf.old; write_faults = O.faults out.old }) (record { held = S.contents shelf.new; told = O.told out.new; get_faults = S.get_faults shelf.new; put_faults = S.put_faults shelf.new; write_faults = O.faults out.new }) result }
+    ensures unprinted { outcome.text ≡ [] → out.new ≡ out.old }
 {
     match put_all(alloc, outcome.puts.slice(), shelf) {
         Ok(()) => match print(alloc, out, &outcome.text) {

@@ -1,5 +1,4 @@
 ghost use Rattle.std.specs.Prelude.{◌≡◌, ℕ, List, None, OnOk, IfOk, IsErrOf};
-ghost use Rattle.std.specs.Bool.{OnTrue};
 ghost use Rattle.std.specs.Str.{IsUtf8};
 ghost use Rattle.kp_outside.specs.Outside.{Counts, Gets, IsWithin, with_file};
 ghost use Rattle.kp_outside.specs.Numbered.{faults_after};
@@ -13,8 +12,9 @@ use std::rt::Files;
 
 /// The files of the machine. A name is a path, in UTF-8. It doesn't tell what they hold.
 ///
-/// Each error of the machine is a fault, and so is a name that isn't UTF-8. There is one count for
-/// the gets of all names, and one for the puts.
+/// Each error of the machine is a fault, but for want of memory, and so is a name that isn't UTF-8.
+/// What a signal interrupts is tried again. There is one count for the gets of all names, and one
+/// for the puts.
 #[derive(Drop)]
 pub struct FileShelf<'a, R: Files> {
     rt: &'a R,
@@ -50,22 +50,18 @@ fn read_file<R: Files>(rt: &R, alloc: Global, name: &[u8], most: usize) -> Resul
     let Ok(path) = str::from_utf8(name) else {
         return Err(OutsideStop::Failed);
     };
-    match fs::open(rt, path) {
-        Ok(mut file) => read_front(&mut file, alloc, most),
-        Err(_) => Err(OutsideStop::Failed),
-    }
+    let mut file = fs::open(rt, path)?;
+    read_front(&mut file, alloc, most)
 }
 
-fn write_file<R: Files>(rt: &R, name: &[u8], bytes: &[u8]) -> bool
-    ensures { OnTrue result (IsUtf8 name.now) }
+fn write_file<R: Files>(rt: &R, name: &[u8], bytes: &[u8]) -> Result<(), OutsideStop>
+    ensures { ¬ (IsUtf8 name.now) → IsErrOf result OutsideStop.Failed }
 {
     let Ok(path) = str::from_utf8(name) else {
-        return false;
+        return Err(OutsideStop::Failed);
     };
-    match fs::create(rt, path) {
-        Ok(mut file) => write_whole(&mut file, bytes),
-        Err(_) => false,
-    }
+    let mut file = fs::create(rt, path)?;
+    write_whole(&mut file, bytes)
 }
 
 impl<'a, R: Files> Shelf for FileShelf<'a, R> {
@@ -97,10 +93,10 @@ impl<'a, R: Files> Shelf for FileShelf<'a, R> {
         ensures after { self.new ≡ record self.old { puts = faults_after result self.old.puts } }
         ensures named { ¬ (IsUtf8 name.now) → IsErrOf result OutsideStop.Failed }
     {
-        if write_file(self.rt, name, bytes) {
-            return Ok(());
+        let result = write_file(self.rt, name, bytes);
+        if matches!(&result, Err(OutsideStop::Failed)) {
+            self.put_faults = self.put_faults.saturating_add(1);
         }
-        self.put_faults = self.put_faults.saturating_add(1);
-        Err(OutsideStop::Failed)
+        result
     }
 }

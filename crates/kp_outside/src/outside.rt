@@ -4,6 +4,7 @@ ghost use Rattle.kp_outside.specs.Outside.{FileMap, Counts, Counted, Gets, IsWit
 
 use kp_base::{Memory, Row};
 use std::alloc::Global;
+use std::io;
 use thiserror::Error;
 
 /// Why a call on the outside gave nothing.
@@ -22,6 +23,20 @@ impl From<Memory> for OutsideStop {
 
     fn from(_: Memory) -> OutsideStop {
         OutsideStop::Memory
+    }
+}
+
+impl From<io::Error> for OutsideStop {
+    ghost use Rattle.kp_outside.specs.Edge.{IsToldAs};
+
+    ghost from_gives = { λ error stop. IsToldAs error stop };
+
+    fn from(error: io::Error) -> OutsideStop {
+        if error.kind() == io::ErrorKind::OutOfMemory {
+            OutsideStop::Memory
+        } else {
+            OutsideStop::Failed
+        }
     }
 }
 

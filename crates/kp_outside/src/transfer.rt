@@ -1,16 +1,33 @@
-ghost use Rattle.std.specs.Prelude.{◌+◌, ◌≤◌, length, Some, IfOk, IfSome};
-ghost use Rattle.std.specs.Bool.{OnTrue};
-ghost use Rattle.std.specs.Io.KnownBytes.{Consumes, Appends, IsAtEnd};
+ghost use Rattle.std.specs.Prelude.{◌+◌, ◌≤◌, ◌≢◌, length, Some, OnOk, IfOk, IfErr, IfSome};
+ghost use Rattle.std.specs.Io.{ReadsAtMost};
+ghost use Rattle.std.specs.Io.KnownBytes.{Consumes, Appends, IsAtEnd, ReadConsumes};
+ghost use Rattle.std.specs.IoError.{error_kind};
 ghost use Rattle.kp_outside.specs.Outside.{IsFront, IsWithin};
 ghost use Rattle.kp_outside.specs.Transfer.{TakesAtMost};
 
 use crate::{Got, OutsideStop};
 use kp_base::Row;
 use std::alloc::Global;
-use std::io::{Read, Write};
+use std::io;
+use std::io::{ErrorKind, Read, Write};
 
 // How many bytes one read asks for at most.
 const CHUNK: usize = 8192;
+
+// One read, tried again where it is interrupted.
+fn read_again<F: Read>(file: &mut F, buffer: &mut [u8]) -> io::Result<usize>
+    ensures bound { ReadsAtMost result buffer.new }
+    ensures bytes { ReadConsumes (F.remaining file.old) (F.remaining file.new) result buffer.new }
+    ensures retried { IfErr result (λ e. error_kind e ≢ ErrorKind.Interrupted) }
+{
+    for _ in 0..u64::MAX {
+        match file.read(buffer) {
+            Err(error) if error.kind() == ErrorKind::Interrupted => {}
+            read => return read,
+        }
+    }
+    Err(io::Error::from(ErrorKind::TimedOut))
+}
 
 // Reads to the end, or until there is a byte more than `most`.
 fn read_past<F: Read>(file: &mut F, alloc: Global, most: usize) -> Result<Vec<u8>, OutsideStop>
@@ -23,12 +40,11 @@ fn read_past<F: Read>(file: &mut F, alloc: Global, most: usize) -> Result<Vec<u8
     let mut buffer = [0u8; CHUNK];
     while bytes.len() <= most {
         let want = buffer.len().min((most - bytes.len()).saturating_add(1));
-        match file.read(&mut buffer[..want]) {
-            Ok(0) => break,
-            Ok(n) => bytes
+        match read_again(file, &mut buffer[..want])? {
+            0 => break,
+            n => bytes
                 .extend_from_slice(&buffer[..n])
                 .map_err(|_| OutsideStop::Memory)?,
-            Err(_) => return Err(OutsideStop::Failed),
         }
     }
     Ok(bytes)
@@ -54,15 +70,9 @@ pub(crate) fn read_front<F: Read>(
 }
 
 // Writes all the bytes, by as many writes as it takes, or fails.
-pub(crate) fn write_whole<F: Write>(file: &mut F, bytes: &[u8]) -> bool
-    ensures { OnTrue result (Appends (F.contents file.old) (F.contents file.new) bytes.now) }
+pub(crate) fn write_whole<F: Write>(file: &mut F, bytes: &[u8]) -> Result<(), OutsideStop>
+    ensures { OnOk result (Appends (F.contents file.old) (F.contents file.new) bytes.now) }
 {
-    let mut rest = bytes;
-    while !rest.is_empty() {
-        match file.write(rest) {
-            Ok(0) | Err(_) => return false,
-            Ok(n) => rest = &rest[n..],
-        }
-    }
-    file.flush().is_ok()
+    file.write_all(bytes)?;
+    Ok(file.flush()?)
 }
