@@ -1,4 +1,4 @@
-"""What the scripts of this folder share: one translation by kplan, timed, and a table of several."""
+"""What the scripts of this folder share: one run of kplan, timed, and a table of several translations."""
 
 import argparse
 import os
@@ -6,6 +6,7 @@ import subprocess
 import sys
 import tempfile
 import time
+from itertools import islice
 from pathlib import Path
 
 PROGRAM = Path(__file__).resolve().parent.parent / "crates" / "kplan" / "out" / "kplan"
@@ -21,26 +22,34 @@ def built_program(about):
     return program
 
 
-def measure(program, domain, problem, options=()):
-    """Seconds, peak in bytes, exit status and printed lines of one translation of two files, given by their parts.
+def timed(program, files, words):
+    """Seconds, usage, exit status and first printed lines of one run with these words on files, given by their parts.
 
-    The time is that of the whole translation, from both files to both files. The peak is the most memory that the
-    program held at once, as the system tells it, and at least what this script holds when it starts the program.
+    The time is that of the whole run, from all files to all files. The usage is what the system tells of the program:
+    its processor time, and as its peak the most memory that it held at once, which is at least what this script holds
+    when it starts the program.
     """
     with tempfile.TemporaryDirectory() as name:
         folder = Path(name)
-        for file, parts in (("d.pddl", domain), ("p.pddl", problem)):
+        for file, parts in files.items():
             with open(folder / file, "w", encoding="ascii") as out:
                 out.writelines(parts)
-        words = [str(program), "translate", "d.pddl", "p.pddl", "od.pddl", "op.pddl", "--mode", "k0", *options]
         with open(folder / "out.txt", "w", encoding="ascii") as out:
             begun = time.perf_counter()
-            child = subprocess.Popen(words, cwd=folder, stdout=out, stderr=subprocess.STDOUT)
+            child = subprocess.Popen([str(program), *words], cwd=folder, stdout=out, stderr=subprocess.STDOUT)
             _, status, usage = os.wait4(child.pid, 0)
             seconds = time.perf_counter() - begun
         child.returncode = os.waitstatus_to_exitcode(status)
-        printed = (folder / "out.txt").read_text(encoding="ascii", errors="replace").splitlines()
-    return seconds, usage.ru_maxrss * 1_024, child.returncode, printed
+        with open(folder / "out.txt", encoding="ascii", errors="replace") as out:
+            printed = [line.rstrip("\n") for line in islice(out, 10)]
+    return seconds, usage, child.returncode, printed
+
+
+def measure(program, domain, problem, options=()):
+    """Seconds, peak in bytes, exit status and first printed lines of one translation of two files, given by their parts."""
+    words = ["translate", "d.pddl", "p.pddl", "od.pddl", "op.pddl", "--mode", "k0", *options]
+    seconds, usage, status, printed = timed(program, {"d.pddl": domain, "p.pddl": problem}, words)
+    return seconds, usage.ru_maxrss * 1_024, status, printed
 
 
 def print_table(about, problems):

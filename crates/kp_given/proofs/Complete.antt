@@ -8,7 +8,7 @@ use Rattle.kp_base.specs.Lit.{positive, negative}
 use Rattle.kp_base.specs.Steps.{State, has, is_model}
 use Rattle.kp_base.specs.Entailed.{IsClosure}
 use Rattle.kp_base.proofs.Lists.{all_from, all_member, range_there}
-use Rattle.kp_texts.specs.Report.{is_known}
+use Rattle.kp_translation.specs.Report.{is_known}
 use Rattle.kp_init.proofs.Closure.{closure_exact, range_only}
 use Rattle.kp_given.specs.Translations.{ground_of, initial_of, start_of}
 use Rattle.kp_given.specs.Laws.{HasOneValue, CompleteStartsHaveOneValue}

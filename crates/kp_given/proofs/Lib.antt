@@ -4,4 +4,5 @@ pub mod Valid
 pub mod Apart
 pub mod Written
 pub mod Tables
+pub mod Sizes
 pub mod ExampleUncertain

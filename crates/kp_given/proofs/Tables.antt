@@ -18,7 +18,7 @@ tables_written domain_text problem_text x table h =
     let tags = length table.tags in
     let first = h.right.first in
     record {
-      ground = grounds_written domain_text problem_text x [] tt;
+      ground = grounds_written domain_text problem_text x;
       some_tag = slice_get_within table.tags 0 first.0 first.1;
       tags_fit = h.tags_fit;
       rows = all_from (IsRowOn atoms) table.tags (λ row m. record { closure = all_from (IsOfAtom atoms) row.closure (λ l i. (h.right.closures row m).of_atoms l (has-member row.closure l i)) });

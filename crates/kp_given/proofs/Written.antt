@@ -36,11 +36,12 @@ use Rattle.kp_grounding.proofs.Atoms.{irreflexive, same_atom-true, atoms_are_num
 use Rattle.kp_grounding.proofs.Names.{actions_named_once}
 use Rattle.kp_grounding.proofs.Step.{occurs}
 use Rattle.kp_init.proofs.Closure.{closure_exact}
-use Rattle.kp_write.specs.Grounds.{IsGroundName, same_name, IsOfAtom, AreOfAtoms, IsGroundEffect, IsGroundAction, IsWritable}
+use Rattle.kp_plans.specs.Names.{IsGroundName, same_name}
+use Rattle.kp_write.specs.Grounds.{IsOfAtom, AreOfAtoms, IsGroundEffect, IsGroundAction, IsWritable}
 use Rattle.kp_write.proofs.Lists.{one_of_all, all_from}
 use Rattle.kp_write.proofs.Grounds.{mapped}
 use Rattle.kp_given.specs.Translations.{ground_of, initial_of, start_of}
-use Rattle.kp_given.specs.Laws.{StartsAreOfAtoms, GroundProblemsAreWritable, StartsAreWritable}
+use Rattle.kp_given.specs.Laws.{StartsAreOfAtoms, GroundProblemsAreWritable}
 use Rattle.kp_given.proofs.Apart.{as_literal, heads_are, atom_valid}
 use Rattle.kp_given.proofs.Starts.{formulas_over_atoms}
 use Rattle.kp_given.proofs.Valid.{kept_objects}
@@ -228,13 +229,12 @@ module _ (d : Domain Word) (p : Problem Word) (domain : IsNamedDomain d) (proble
 
   -- ---- the ground problem
 
-  trees_written : (start : List Lit) → AreOfAtoms (ground_of d p).atoms start → IsWritable (ground_of d p) start
-  trees_written start h = record {
+  trees_written : IsWritable (ground_of d p)
+  trees_written = record {
     atoms = mapped (Member atoms) IsGroundName (atom_name l) atom_written atoms (all_from (Member atoms) atoms (λ a m. m));
     atoms_differ = atoms_differ;
     actions = actions_written;
     actions_differ = actions_differ;
-    start_of_atoms = h;
     goal_of_atoms = of_atoms l.goal (λ m i. member_left l.goal (open_literals l ++ flat_map (kept_literals l) l.schemas) m i);
   }
 
@@ -246,7 +246,4 @@ starts_of_atoms d p =
     all_from (IsOfAtom (ground_of d p).atoms) (start_of d p) (λ x m. exact.closure.of_atoms x (has-member (start_of d p) x m))
 
 pub grounds_written : GroundProblemsAreWritable
-grounds_written domain_text problem_text x start h = trees_written x.domain x.problem (domains_named domain_text x.domain x.domain_reads) (problems_named problem_text x.problem x.problem_reads) x.no_fault start h
-
-pub starts_written : StartsAreWritable
-starts_written domain_text problem_text x = grounds_written domain_text problem_text x (start_of x.domain x.problem) (starts_of_atoms x.domain x.problem)
+grounds_written domain_text problem_text x = trees_written x.domain x.problem (domains_named domain_text x.domain x.domain_reads) (problems_named problem_text x.problem x.problem_reads) x.no_fault

@@ -15,7 +15,7 @@ use Rattle.kp_meaning.specs.Plans.{HasProblem}
 use Rattle.kp_base.specs.Implicates.{IsOfAtoms}
 use Rattle.kp_meaning.specs.Numbering.{numbered_problem}
 use Rattle.kp_init.specs.ByName.{HasNamedAtoms}
-use Rattle.kp_texts.specs.Report.{is_complete}
+use Rattle.kp_translation.specs.Report.{is_complete}
 use Rattle.kp_write.specs.Grounds.{AreOfAtoms, IsWritable}
 use Rattle.kp_given.specs.Translations.{ground_of, initial_of, start_of}
 
@@ -54,10 +54,6 @@ CompleteStartsHaveOneValue = (d : Domain Word) (p : Problem Word) → HasNoFault
 abbrev pub StartsAreOfAtoms : Type 0
 StartsAreOfAtoms = (d : Domain Word) (p : Problem Word) → AreOfAtoms (ground_of d p).atoms (start_of d p)
 
--- where two texts have a problem, its ground problem can be written, whatever literals of its atoms are known at the start
+-- where two texts have a problem, its ground problem can be written
 abbrev pub GroundProblemsAreWritable : Type 0
-GroundProblemsAreWritable = (domain_text problem_text : List ℕ) (x : HasProblem domain_text problem_text) (start : List Lit) → AreOfAtoms (ground_of x.domain x.problem).atoms start → IsWritable (ground_of x.domain x.problem) start
-
--- and so with those that are
-abbrev pub StartsAreWritable : Type 0
-StartsAreWritable = (domain_text problem_text : List ℕ) (x : HasProblem domain_text problem_text) → IsWritable (ground_of x.domain x.problem) (start_of x.domain x.problem)
+GroundProblemsAreWritable = (domain_text problem_text : List ℕ) (x : HasProblem domain_text problem_text) → IsWritable (ground_of x.domain x.problem)

@@ -1,5 +1,5 @@
 -- What is written for two trees and a table of tags and merges.
-use Rattle.std.specs.Prelude.{◌<◌, ◌^◌, ℕ, List, length}
+use Rattle.std.specs.Prelude.{◌<◌, ◌≤◌, ◌^◌, ◌*◌, ℕ, List, length}
 use Rattle.std.specs.List.{AllByRecursion}
 use Rattle.kp_base.specs.declared.ground.TagTable.{TagTable}
 use Rattle.kp_base.specs.Entailed.{IsTable, AreValid}
@@ -7,19 +7,19 @@ use Rattle.kp_base.specs.Machine.{one_tag_table}
 use Rattle.kp_grammar.specs.declared.tree.Word.{Word}
 use Rattle.kp_grammar.specs.Trees.{Domain, Problem}
 use Rattle.kp_meaning.specs.Plans.{HasProblem}
+use Rattle.kp_meaning.specs.Numbering.{numbered_problem}
+use Rattle.kp_grounding.specs.Weights.{total_weight}
 use Rattle.kp_write.specs.Grounds.{IsOfAtom}
-use Rattle.kp_write.specs.Named.{domain_of, problem_of}
 use Rattle.kp_task.specs.Task.{task_of}
+use Rattle.kp_task.specs.Weight.{weight_of}
 use Rattle.kp_task.specs.Writable.{IsWritableTask}
+use Rattle.kp_translation.specs.declared.translation.Translation.{Translation}
+use Rattle.kp_translation.specs.Translations.{translation_with}
 use Rattle.kp_given.specs.Translations.{ground_of, initial_of, start_of}
 
--- the text of the domain of their task
-abbrev pub domain_for : Domain Word → Problem Word → TagTable → List ℕ
-domain_for d p table = domain_of (task_of (ground_of d p) table)
-
--- the text of its problem
-abbrev pub problem_for : Domain Word → Problem Word → TagTable → List ℕ
-problem_for d p table = problem_of (task_of (ground_of d p) table)
+-- the two files, and what is printed
+abbrev pub translation_of : Domain Word → Problem Word → TagTable → Translation
+translation_of d p table = translation_with (ground_of d p) table
 
 -- the table of the empty tag alone, with its closure
 abbrev pub empty_tag : Domain Word → Problem Word → TagTable
@@ -42,3 +42,7 @@ TablesCanBeWritten = (domain_text problem_text : List ℕ) (x : HasProblem domai
 -- the table of the empty tag alone is one
 abbrev pub EmptyTagIsTable : Type 0
 EmptyTagIsTable = (d : Domain Word) (p : Problem Word) → IsTableFor d p (empty_tag d p)
+
+-- with it alone a task weighs at most twice what the instances do
+abbrev pub EmptyTagsAreLight : Type 0
+EmptyTagsAreLight = (d : Domain Word) (p : Problem Word) → weight_of (task_of (ground_of d p) (empty_tag d p)) ≤ 2 * total_weight (numbered_problem d p)

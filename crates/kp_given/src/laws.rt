@@ -1,7 +1,7 @@
 //! Laws of what is written for two trees, each proved as the contract of a function that does nothing.
 
-ghost use Rattle.kp_given.specs.Tables.{EmptyTagIsTable, TablesCanBeWritten};
-ghost use Rattle.kp_given.specs.Laws.{ClosuresAreStarts, CompleteStartsHaveOneValue, FormulasSpeakOfGroundAtoms, GroundProblemsAreWritable, InitialStatesAreModels, NamesTellGroundAtoms, StartsAreOfAtoms, StartsAreWritable};
+ghost use Rattle.kp_given.specs.Tables.{EmptyTagIsTable, EmptyTagsAreLight, TablesCanBeWritten};
+ghost use Rattle.kp_given.specs.Laws.{ClosuresAreStarts, CompleteStartsHaveOneValue, FormulasSpeakOfGroundAtoms, GroundProblemsAreWritable, InitialStatesAreModels, NamesTellGroundAtoms, StartsAreOfAtoms};
 
 /// Where no name is at fault, some state is initial exactly where the initial formula has a model.
 #[tactic(auto, using(crate::proofs::Starts::states_are_models))]
@@ -38,14 +38,19 @@ pub fn starts_speak_of_ground_atoms()
     ensures { StartsAreOfAtoms }
 {}
 
-/// The ground problem of two texts can be written, with any literals of its atoms known at the start, and so with those that are.
+/// The ground problem of two texts can be written.
 pub fn ground_problems_can_be_written()
-    ensures any_start { GroundProblemsAreWritable }
-    ensures its_start { StartsAreWritable }
+    ensures { GroundProblemsAreWritable }
 {}
 
 /// So it can with each table that is right, whose merges are valid and of ground atoms, and with that of the empty tag alone.
 pub fn tables_can_be_written()
     ensures tables { TablesCanBeWritten }
     ensures empty_tag { EmptyTagIsTable }
+{}
+
+/// With the empty tag alone a task weighs at most twice what the instances do.
+#[tactic(auto, using(crate::proofs::Sizes::empty_tags_light))]
+pub fn empty_tags_are_light()
+    ensures { EmptyTagsAreLight }
 {}

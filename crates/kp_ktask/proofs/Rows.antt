@@ -4,7 +4,7 @@ use Rattle.std.proofs.lemmas.List.{map-append}
 use Rattle.std.specs.List.{flat_map}
 use Rattle.kp_base.specs.declared.lit.Lit.{Lit}
 use Rattle.kp_base.specs.declared.ground.GroundName.{GroundName}
-use Rattle.kp_texts.specs.Task.{facts_of_atom}
+use Rattle.kp_write.specs.Facts.{facts_of_atom}
 use Rattle.kp_task.specs.Task.{name_of, lits_from, under, facts_from}
 
 -- the names of one tag's facts are those of the atoms

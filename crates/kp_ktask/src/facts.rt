@@ -1,6 +1,6 @@
 ghost use Rattle.std.specs.Prelude.{◌≡◌, ◌++◌, length, map, decimal, IfOk, OnOk};
 ghost use Rattle.std.specs.List.{flat_map};
-ghost use Rattle.kp_texts.specs.Task.{sign_word, tag_word, atom_fact, facts_of_atom};
+ghost use Rattle.kp_write.specs.Facts.{sign_word, tag_word, atom_fact, facts_of_atom};
 ghost use Rattle.kp_task.specs.Task.{name_of, lits_from, facts_from, number, starts_from};
 
 use crate::numbers::push_numbers;

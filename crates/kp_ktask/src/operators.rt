@@ -2,7 +2,7 @@ ghost use Rattle.std.specs.Prelude.{◌≡◌, ◌∷◌, [], ◌++◌, true, ma
 ghost use Rattle.std.specs.List.{flat_map};
 ghost use Rattle.kp_meaning.specs.Encoding.{encoded};
 ghost use Rattle.kp_meaning.specs.Strip.{do_front};
-ghost use Rattle.kp_texts.specs.Task.{opposites};
+ghost use Rattle.kp_write.specs.Facts.{opposites};
 ghost use Rattle.kp_task.specs.Task.{number, support, cancellation, effects_under, effects_from, op_of, merge_word, merge_op, merge_ops_from};
 
 use crate::facts::put_decimal;

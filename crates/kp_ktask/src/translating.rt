@@ -63,7 +63,7 @@ fn whole(alloc: Global, ground: &Ground, table: &TagTable) -> Result<Task, Memor
 }
 
 /// The task of a ground problem and a table of tags and merges, with names that tell its facts and operators. A task
-/// with more facts than the limit, or else with a greater weight, is refused before any of it is made.
+/// with more facts than the limit, or else with a greater weight, is refused.
 pub fn translate(
     alloc: Global,
     ground: &Ground,

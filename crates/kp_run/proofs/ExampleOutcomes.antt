@@ -55,7 +55,8 @@ use Rattle.kp_grounding.specs.Ground as by_number
 use Rattle.kp_grounding.specs.Weights.{binding_count, total_weight}
 use Rattle.kp_ground.specs.Grounded.{IsGrounded}
 use Rattle.kp_given.specs.Laws.{HasInitialState}
-use Rattle.kp_given.specs.Translations.{ground_of, initial_of, translation_of}
+use Rattle.kp_given.specs.Translations.{ground_of, initial_of}
+use Rattle.kp_given.specs.Tables.{translation_of, empty_tag}
 use Rattle.kp_given.proofs.Starts.{states_are_models}
 use Rattle.kp_outside.specs.Outside.{FileMap}
 use Rattle.kp_printed.specs.Refusals.{nothing, refusal_text}
@@ -67,10 +68,11 @@ use Rattle.kp_run.specs.declared.command.Command.{Command}
 use Rattle.kp_run.specs.declared.command.Command.TheVariants as commands
 use Rattle.kp_run.specs.Command.{NamesFiles, SaysLimit, usual_limit, stated, IsTranslate, IsCommand, IsNoCommand, inputs_of}
 use Rattle.kp_run.specs.Texts.{HaveTrees, of_problem, of_names}
-use Rattle.kp_run.specs.Outcomes.{usual, shows_usage, refuses, named_in, translates, IsStarted, TranslatesTrees, implicates_over, no_initial_state, clash, done, TranslatesTexts, on_trees, ComesTo, translated, IsDue, usage, of_command}
+use Rattle.kp_run.specs.Outcomes.{usual, shows_usage, refuses, named_in, translates, IsStarted, TranslatesTrees, implicates_over, no_initial_state, clash, no_clash as without_clash, done, TranslatesTexts, on_trees, ComesTo, translated, IsDue, usage, of_command}
 use Rattle.kp_run.specs.Outcomes as outcomes
 use Rattle.kp_run.specs.Ends.{Ends, came}
 use Rattle.kp_run.specs.Soundness.{IsSound}
+use Rattle.kp_run.proofs.Counted.{empty_tags_fit}
 use Rattle.kp_run.proofs.Computed.{reads_file}
 use Rattle.kp_run.proofs.Soundness.{at_last, under_another, sound_end}
 
@@ -220,29 +222,29 @@ closed_q i closed s model = not-true (s 1) (and_parts (not (s 1)) true (subst (�
 no_clash : IsClashFree (ground_of exchange_tree from_p_to_q_tree) from_p
 no_clash = free from_p (closed_q from_p refl)
 
-is_done : TranslatesTrees command exchange_tree from_p_to_q_tree (translates command (translation_of exchange_tree from_p_to_q_tree))
-is_done = done started no_clash refl
+is_done : TranslatesTrees command exchange_tree from_p_to_q_tree (translates command (translation_of exchange_tree from_p_to_q_tree (empty_tag exchange_tree from_p_to_q_tree)))
+is_done = without_clash started no_clash (done (empty_tags_fit exchange_tree from_p_to_q_tree started.small) refl)
 
 abbrev held : FileMap
 held = holding exchange from_p_to_q
 
-due : IsDue words (Some held) (translates command (translation_of exchange_tree from_p_to_q_tree))
+due : IsDue words (Some held) (translates command (translation_of exchange_tree from_p_to_q_tree (empty_tag exchange_tree from_p_to_q_tree)))
 due = on_files exchange from_p_to_q _ (on_trees exchange_tree from_p_to_q_tree trees is_done)
 
 -- what is held after it
 abbrev after : FileMap
-after = insert (insert held (codes "od") (translation_of exchange_tree from_p_to_q_tree).domain) (codes "op") (translation_of exchange_tree from_p_to_q_tree).problem
+after = insert (insert held (codes "od") (translation_of exchange_tree from_p_to_q_tree (empty_tag exchange_tree from_p_to_q_tree)).domain) (codes "op") (translation_of exchange_tree from_p_to_q_tree (empty_tag exchange_tree from_p_to_q_tree)).problem
 
 -- the outside before a run and after it
 abbrev before_it : Outside
 before_it = record { held = Some held; told = Some []; get_faults = λ q. 0; put_faults = λ q. 0; write_faults = 0 }
 
 abbrev after_it : Outside
-after_it = record { held = Some after; told = Some (translation_of exchange_tree from_p_to_q_tree).report; get_faults = λ q. 0; put_faults = λ q. 0; write_faults = 0 }
+after_it = record { held = Some after; told = Some (translation_of exchange_tree from_p_to_q_tree (empty_tag exchange_tree from_p_to_q_tree)).report; get_faults = λ q. 0; put_faults = λ q. 0; write_faults = 0 }
 
 -- a run that put the two files and printed the report ended so
 ends : Ends words before_it after_it status.Done
-ends = came (translates command (translation_of exchange_tree from_p_to_q_tree)) due (whole refl (record { gets = λ q. refl; puts = λ q. refl; writes = refl }) refl refl)
+ends = came (translates command (translation_of exchange_tree from_p_to_q_tree (empty_tag exchange_tree from_p_to_q_tree))) due (whole refl (record { gets = λ q. refl; puts = λ q. refl; writes = refl }) refl refl)
 
 -- and is sound
 sound : IsSound held after command
@@ -451,18 +453,21 @@ half_known_model : is_model (initial_of exchange_tree half_known_tree) only_p �
 unfolding only_p
 half_known_model = refl
 
-half_known_done : TranslatesTrees command exchange_tree half_known_tree (translates command (translation_of exchange_tree half_known_tree))
-half_known_done = done (record {
+half_known_started : IsStarted 20000 exchange_tree half_known_tree
+half_known_started = record {
   small = is_small (numbered_problem exchange_tree half_known_tree) refl refl refl refl;
   counted = half_known_few;
   initial = has_state exchange_tree half_known_tree half_known_trees.no_fault only_p half_known_model;
-}) (free (initial_of exchange_tree half_known_tree) (closed_q (initial_of exchange_tree half_known_tree) refl)) refl
+}
 
-half_known_due : IsDue words (Some (holding exchange half_known)) (translates command (translation_of exchange_tree half_known_tree))
+half_known_done : TranslatesTrees command exchange_tree half_known_tree (translates command (translation_of exchange_tree half_known_tree (empty_tag exchange_tree half_known_tree)))
+half_known_done = without_clash half_known_started (free (initial_of exchange_tree half_known_tree) (closed_q (initial_of exchange_tree half_known_tree) refl)) (done (empty_tags_fit exchange_tree half_known_tree half_known_started.small) refl)
+
+half_known_due : IsDue words (Some (holding exchange half_known)) (translates command (translation_of exchange_tree half_known_tree (empty_tag exchange_tree half_known_tree)))
 half_known_due = on_files exchange half_known _ (on_trees exchange_tree half_known_tree half_known_trees half_known_done)
 
 -- it isn't known whether p holds, so the report has no last line
-half_known_report : (translation_of exchange_tree half_known_tree).report ≡ codes "atoms 2\nactions 1\ntags 1\nmerges 0\nfacts 4\n"
+half_known_report : (translation_of exchange_tree half_known_tree (empty_tag exchange_tree half_known_tree)).report ≡ codes "atoms 2\nactions 1\ntags 1\nmerges 0\nfacts 4\n"
 unfolding digits
 half_known_report = refl
 

@@ -4,11 +4,10 @@ pub mod Words
 pub mod Numbers
 pub mod OneCommand
 pub mod Strips
-pub mod OneOutcome
+pub mod Answered
 pub mod Counted
 pub mod Translations
 pub mod Soundness
 pub mod Ending
 pub mod TwoFiles
-pub mod Following
 pub mod ExampleOutcomes

@@ -7,7 +7,8 @@ use Rattle.std.specs.FinMap.{get, insert, get-insert}
 use Rattle.std.specs.declared.alloc.Global.{Global}
 use Rattle.kp_base.proofs.Lists.{same-true, same-refl}
 use Rattle.kp_outside.specs.Outside.{FileMap}
-use Rattle.kp_given.specs.Translations.{translation_of}
+use Rattle.kp_given.specs.Tables.{translation_of, empty_tag}
+use Rattle.kp_given.proofs.Tables.{empty_tag_is_table}
 use Rattle.kp_base.specs.Exclusive.{IsClashFree}
 use Rattle.kp_machine.proofs.Exclusive.{never_clashes}
 use Rattle.kp_grammar.specs.declared.tree.Word.{Word}
@@ -27,7 +28,7 @@ use Rattle.kp_run.specs.Names.{Translate}
 use Rattle.kp_run.specs.declared.command.Command.{Command}
 use Rattle.kp_run.specs.declared.command.Command.TheVariants as commands
 use Rattle.kp_run.specs.Command.{IsTranslate, IsCommand, inputs_of}
-use Rattle.kp_run.specs.Outcomes.{refuses, named_in, translates, IsStarted, TranslatesTrees, too_large, implicates_over, no_initial_state, clash as when_clash, done as when_done, TranslatesTexts, refused, on_trees, ComesTo, translated, stripped, IsDue, usage, of_command}
+use Rattle.kp_run.specs.Outcomes.{refuses, named_in, translates, IsStarted, TranslatesGround, over as when_over, done as when_done, TranslatesTrees, too_large, implicates_over, no_initial_state, clash as when_clash, no_clash as when_no_clash, TranslatesTexts, refused, on_trees, ComesTo, translated, stripped, IsDue, usage, of_command}
 use Rattle.kp_run.specs.Ends.{Ends, came, read_failed, no_memory}
 use Rattle.kp_run.specs.Soundness.{IsSound}
 use Rattle.kp_run.proofs.OneCommand.{one_command}
@@ -63,7 +64,7 @@ record IsDone (c : Translate) (domain problem : List ℕ) (o : Outcome) : Type 0
   trees : HaveTrees domain problem first second
   started : IsStarted c.implicates first second
   no_clash : IsClashFree (ground_of first second) (initial_of first second)
-  outcome : o ≡ translates c (translation_of first second)
+  outcome : o ≡ translates c (translation_of first second (empty_tag first second))
 
 refusal_not_done : (o : Outcome) (n : Named) (r : Refused) → o ≡ refuses n r → o.status ≡ status.Done → ⊥
 refusal_not_done o n r is e = absurd (let f : status.Refused r ≡ status.Done = sym (ap (λ (z : Outcome). z.status) is) ∙ e in cc)
@@ -74,7 +75,8 @@ is_done c x y o (on_trees d p h (too_large r a is)) e = absurd (refusal_not_done
 is_done c x y o (on_trees d p h (implicates_over k a b is)) e = absurd (refusal_not_done o nothing _ is e)
 is_done c x y o (on_trees d p h (no_initial_state a b f is)) e = absurd (refusal_not_done o nothing _ is e)
 is_done c x y o (on_trees d p h (when_clash z a b is)) e = absurd (refusal_not_done o (named_in (ground_of d p)) _ is e)
-is_done c x y o (on_trees d p h (when_done a b is)) e = record { first = d; second = p; trees = h; started = a; no_clash = b; outcome = is }
+is_done c x y o (on_trees d p h (when_no_clash a b (when_over r t is))) e = absurd (refusal_not_done o nothing r is e)
+is_done c x y o (on_trees d p h (when_no_clash a b (when_done f is))) e = record { first = d; second = p; trees = h; started = a; no_clash = b; outcome = is }
 
 -- both texts are held
 pub record AreBoth (m : FileMap) (c : Translate) (o : Outcome) : Type 0 where
@@ -104,7 +106,7 @@ module _ (before after : FileMap) (c : Translate) (o : Outcome) (apart : c.domai
   has : HasProblem both.domain both.problem
   has = problem_of both.domain both.problem d p all_done.trees
 
-  held : after ≡ insert (insert before c.domain_out (translation_of d p).domain) c.problem_out (translation_of d p).problem
+  held : after ≡ insert (insert before c.domain_out (translation_of d p (empty_tag d p)).domain) c.problem_out (translation_of d p (empty_tag d p)).problem
   held = let they = subst (λ (z : Outcome). Some after ≡ with_files (Some before) z.puts) all_done.outcome puts in cc they
 
   pub sound_outcome : IsSound before after c
@@ -112,15 +114,15 @@ module _ (before after : FileMap) (c : Translate) (o : Outcome) (apart : c.domai
   sound_outcome = record {
     domain = both.domain;
     problem = both.problem;
-    domain_out = (translation_of d p).domain;
-    problem_out = (translation_of d p).problem;
+    domain_out = (translation_of d p (empty_tag d p)).domain;
+    problem_out = (translation_of d p (empty_tag d p)).problem;
     domain_held = both.domain_held;
     problem_held = both.problem_held;
     has_problem = has;
     initial_state = all_done.started.initial;
-    domain_put = ap (λ m. get m c.domain_out) held ∙ (under_another (insert before c.domain_out (translation_of d p).domain) c.domain_out c.problem_out (translation_of d p).problem apart ∙ at_last before c.domain_out (translation_of d p).domain);
-    problem_put = ap (λ m. get m c.problem_out) held ∙ at_last (insert before c.domain_out (translation_of d p).domain) c.problem_out (translation_of d p).problem;
-    plans = translations_sound both.domain both.problem has (never_clashes (ground_of d p) (initial_of d p) all_done.no_clash);
+    domain_put = ap (λ m. get m c.domain_out) held ∙ (under_another (insert before c.domain_out (translation_of d p (empty_tag d p)).domain) c.domain_out c.problem_out (translation_of d p (empty_tag d p)).problem apart ∙ at_last before c.domain_out (translation_of d p (empty_tag d p)).domain);
+    problem_put = ap (λ m. get m c.problem_out) held ∙ at_last (insert before c.domain_out (translation_of d p (empty_tag d p)).domain) c.problem_out (translation_of d p (empty_tag d p)).problem;
+    plans = translations_sound both.domain both.problem has (empty_tag d p) (empty_tag_is_table d p) (never_clashes (ground_of d p) (initial_of d p) all_done.no_clash);
   }
 
 -- ---- a run that ended with Done
@@ -135,7 +137,7 @@ sound_end words old new s (came o due (whole same none held told)) before after 
     sound_due words before after c o is (subst (λ m. IsDue words m o) first due) (sym same ∙ done) (sym last ∙ (held ∙ ap (λ m. with_files m o.puts) first))
 sound_end words old new s (came o due (put_failed f e a b g h i)) before after c first last is done = absurd cc
 sound_end words old new s (came o due (put_no_memory f e a b g)) before after c first last is done = absurd cc
-sound_end words old new s (came o due (print_failed e a b g h i)) before after c first last is done = absurd cc
-sound_end words old new s (came o due (print_no_memory e a b g)) before after c first last is done = absurd cc
+sound_end words old new s (came o due (print_failed e a b g h i has_text)) before after c first last is done = absurd cc
+sound_end words old new s (came o due (print_no_memory e a b g has_text)) before after c first last is done = absurd cc
 sound_end words old new s (read_failed d e k a b g h) before after c first last is done = absurd cc
 sound_end words old new s (no_memory e a b) before after c first last is done = absurd cc

@@ -11,7 +11,8 @@ use Rattle.kp_base.specs.Steps.{State, is_model}
 use Rattle.kp_base.specs.LitSet.{IsAscending}
 use Rattle.kp_base.specs.Entailed.{IsClosure}
 use Rattle.kp_base.specs.Exclusive.{ClashesFirst, IsClashFree}
-use Rattle.kp_machine.proofs.Exclusive.{first_by_models, free_by_models}
+use Rattle.kp_machine.specs.Formulas.{SayTheSame}
+use Rattle.kp_machine.proofs.Formulas.{same_models}
 use Rattle.kp_grammar.specs.declared.tree.Word.{Word}
 use Rattle.kp_grammar.specs.Trees.{Domain, Problem}
 use Rattle.kp_meaning.specs.Numbered.{Lifted as Numbers}
@@ -23,17 +24,21 @@ use Rattle.kp_ground.specs.Grounded.{IsGrounded, RefusesGround}
 use Rattle.kp_init.specs.Initial.{initial_of}
 use Rattle.kp_primes.specs.Held.{Held, formula}
 use Rattle.kp_primes.specs.Answers.{HoldsPrimes, HasNoState, RefusesPrimes, too_many, no_state, AnswersClosure}
-use Rattle.kp_texts.specs.declared.translation.Translation.{Translation}
-use Rattle.kp_texts.specs.Translations as texts
-use Rattle.kp_given.specs.Translations.{ground_of, translation_of}
+use Rattle.kp_base.specs.Machine.{one_tag_table}
+use Rattle.kp_base.specs.declared.ground.TagTable.{TagTable}
+use Rattle.kp_task.specs.Task.{task_of}
+use Rattle.kp_ktask.specs.Translated.{FitsLimits, RefusesTask}
+use Rattle.kp_translation.specs.declared.translation.Translation.{Translation}
+use Rattle.kp_translation.specs.Translations.{translation_with}
+use Rattle.kp_given.specs.Translations.{ground_of}
 use Rattle.kp_given.specs.Laws.{HasInitialState}
 use Rattle.kp_given.proofs.Starts.{states_are_models, closures_are_starts}
 use Rattle.kp_printed.specs.Refusals.{nothing}
 use Rattle.kp_outcome.specs.declared.outcome.Outcome.{Outcome}
 use Rattle.kp_run.specs.Names.{Translate}
 use Rattle.kp_run.specs.Texts.{HaveTrees, RefusesTexts}
-use Rattle.kp_run.specs.Outcomes.{usual, refuses, named_in, translates, IsStarted, TranslatesTrees, too_large, implicates_over, no_initial_state, clash, done, TranslatesTexts, refused, on_trees}
-use Rattle.kp_run.specs.Numbered.{IsProblemOf, IsCounted, IsWritten, EndsBy, by_implicates, by_no_model, by_clash, by_translation, EndsWithin, over, within}
+use Rattle.kp_run.specs.Outcomes.{usual, refuses, named_in, translates, IsStarted, TranslatesGround, over as task_over, done, TranslatesTrees, too_large, implicates_over, no_initial_state, clash, no_clash, TranslatesTexts, refused, on_trees}
+use Rattle.kp_run.specs.Numbered.{IsProblemOf, IsCounted, EndsBy, by_implicates, by_no_model, by_clash, by_table, EndsWithin, over, within}
 
 -- ---- refusals
 
@@ -58,46 +63,46 @@ formula_ends c l _ (Ok o) (too_many k least) is = subst (EndsBy c l) (sym is) (b
 formula_ends c l _ (Ok o) (no_state none) is = subst (EndsBy c l) (sym is) (by_no_model none)
 formula_ends c l x (Err m) h is = tt
 
--- ---- what ends with its prime implicates
+-- ---- what ends with a table
 
--- a closure over formulas of the same models
-same_closure : (n : ℕ) (i j : Initial) (tag ls : List Lit) → ((s : State) → is_model i s ≡ is_model j s) → IsClosure n i tag ls → IsClosure n j tag ls
-same_closure n i j tag ls same h = record {
-  of_atoms = h.of_atoms;
-  entailed = λ l m s is all. h.entailed l m s (same s ∙ is) all;
-  whole = λ l below e. h.whole l below (λ s is all. e s (sym (same s) ∙ is) all);
-}
+-- a task is refused
+pub task_refused : (c : Translate) (g : Ground) (table : TagTable) (x : Refused) (r : Result Outcome Memory) → RefusesTask (task_of g table) usual x → IfOk r (λ o. o ≡ refuses nothing x) → IfOk r (TranslatesGround c g table)
+task_refused c g table x (Ok o) too is = task_over x too is
+task_refused c g table x (Err m) too is = tt
+
+-- its two files are put
+pub task_done : (c : Translate) (g : Ground) (table : TagTable) (t : Translation) (r : Result Outcome Memory) → FitsLimits (task_of g table) usual → t ≡ translation_with g table → IfOk r (λ o. o ≡ translates c t) → IfOk r (TranslatesGround c g table)
+task_done c g table t (Ok o) fits own is = done fits (is ∙ ap (translates c) own)
+task_done c g table t (Err m) fits own is = tt
+
+-- ---- what ends with its prime implicates
 
 module _ (c : Translate) (l : Numbers) (g : Ground) (is : g ≡ by_number.ground_of l) (h : Held) (holds : HoldsPrimes (initial_of l) (length g.atoms) c.implicates h) where
   counted : IsCounted c.implicates l
   counted = record { never_over = holds.never_over; has_model = holds.has_model }
 
+  -- what is so by the prime implicates is so by the initial formula
+  by_formula : SayTheSame g (formula h) (initial_of l)
+  by_formula = same_models g (formula h) (initial_of l) holds.same_models
+
   -- an action clashes
   pub clash_ends : (at : ClashAt) (r : Result Outcome Memory) → ClashesFirst g (formula h) at → IfOk r (λ o. o ≡ refuses (named_in g) (refusals.Clash at)) → IfOk r (EndsBy c l)
-  clash_ends at (Ok o) first own = subst (EndsBy c l) (sym (own ∙ ap (λ (x : Ground). refuses (named_in x) (refusals.Clash at)) is)) (by_clash at counted (subst (λ (x : Ground). ClashesFirst x (initial_of l) at) is (first_by_models g (formula h) (initial_of l) at holds.same_models first)))
+  clash_ends at (Ok o) first own = subst (EndsBy c l) (sym (own ∙ ap (λ (x : Ground). refuses (named_in x) (refusals.Clash at)) is)) (by_clash at counted (subst (λ (x : Ground). ClashesFirst x (initial_of l) at) is (by_formula.first_clash at first)))
   clash_ends at (Err m) first own = tt
 
   -- none does
-  pub done_ends : (t : Translation) (start : List Lit) (r : Result Outcome Memory) → IsClashFree g (formula h) → AnswersClosure h [] (Some start) → IsAscending start → t ≡ texts.translation_of g start → IfOk r (λ o. o ≡ translates c t) → IfOk r (EndsBy c l)
-  done_ends t start (Ok o) none answers up own made = subst (EndsBy c l) (sym made) (by_translation t counted (subst (λ (x : Ground). IsClashFree x (initial_of l)) is (free_by_models g (formula h) (initial_of l) holds.same_models none)) (record {
-    start = start;
-    closure = record {
-      closure = same_closure (length (by_number.ground_of l).atoms) (formula h) (initial_of l) [] start holds.same_models (subst (λ n. IsClosure n (formula h) [] start) (holds.atoms_are ∙ ap (λ (x : Ground). length x.atoms) is) answers.1);
-      ascending = up;
-    };
-    translation = own ∙ ap (λ (x : Ground). texts.translation_of x start) is;
-  }))
-  done_ends t start (Err m) none answers up own made = tt
+  pub free_ends : (start : List Lit) (r : Result Outcome Memory) → IsClashFree g (formula h) → AnswersClosure h [] (Some start) → IsAscending start → IfOk r (TranslatesGround c g (one_tag_table start)) → IfOk r (EndsBy c l)
+  free_ends start (Ok o) none answers up made = by_table o start counted (subst (λ (x : Ground). IsClashFree x (initial_of l)) is (by_formula.clash_free none)) (record {
+    closure = by_formula.closures (length (by_number.ground_of l).atoms) [] start (subst (λ n. IsClosure n (formula h) [] start) (holds.atoms_are ∙ ap (λ (x : Ground). length x.atoms) is) answers.1);
+    ascending = up;
+  }) (subst (λ (x : Ground). TranslatesGround c x (one_tag_table start) o) is made)
+  free_ends start (Err m) none answers up made = tt
 
 -- ---- two trees
 
 module _ (c : Translate) (x y : List ℕ) (d : Domain Word) (p : Problem Word) (h : HaveTrees x y d p) where
   abbrev l : Numbers
   l = numbered_problem d p
-
-  -- what is written for them
-  made : (t : Translation) → IsWritten l t → t ≡ translation_of d p
-  made t w = w.translation ∙ ap (texts.translation_of (ground_of d p)) (closures_are_starts d p w.start w.closure.closure w.closure.ascending)
 
   trees_end : (o : Outcome) → EndsWithin c l o → TranslatesTrees c d p o
   trees_end _ (over z a) = too_large z a refl
@@ -114,7 +119,7 @@ module _ (c : Translate) (x y : List ℕ) (d : Domain Word) (p : Problem Word) (
       by _ (by_implicates k least) = implicates_over k w least refl
       by _ (by_no_model none) = no_initial_state w none.never_over (without none) refl
       by _ (by_clash at k first) = clash at (started k) first refl
-      by _ (by_translation t k none own) = done (started k) none (ap (translates c) (made t own))
+      by z (by_table _ start k none closure made) = no_clash (started k) none (subst (λ (ls : List Lit). TranslatesGround c (ground_of d p) (one_tag_table ls) z) (closures_are_starts d p start closure.closure closure.ascending) made)
 
 -- the same of a problem by number of two texts
 pub problem_ends : (c : Translate) (x y : List ℕ) (l : Lifted) (h : IsProblemOf x y l) (r : Result Outcome Memory) → IfOk r (EndsWithin c (lifted_view l)) → IfOk r (TranslatesTexts c x y)

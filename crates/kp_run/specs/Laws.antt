@@ -1,12 +1,18 @@
 -- Laws on commands and their outcomes.
 use Rattle.std.specs.Prelude.{◌≡◌, ℕ, List, Option, Some, Vec}
 use Rattle.std.specs.declared.alloc.Global.{Global}
+use Rattle.kp_grammar.specs.declared.tree.Word.{Word}
+use Rattle.kp_grammar.specs.Trees.{Domain, Problem}
+use Rattle.kp_task.specs.Task.{task_of}
+use Rattle.kp_ktask.specs.Translated.{FitsLimits}
+use Rattle.kp_given.specs.Translations.{ground_of}
+use Rattle.kp_given.specs.Tables.{empty_tag}
 use Rattle.kp_outside.specs.Outside.{FileMap}
 use Rattle.kp_outcome.specs.declared.outcome.Outcome.{Outcome}
 use Rattle.kp_outcome.specs.Ends.{IsAnswer}
 use Rattle.kp_run.specs.declared.command.Command.{Command}
 use Rattle.kp_run.specs.Command.{IsCommand}
-use Rattle.kp_run.specs.Outcomes.{IsDue}
+use Rattle.kp_run.specs.Outcomes.{usual, IsSmall, IsDue}
 
 -- words are one command at most
 abbrev pub WordsAreOneCommand : Type 0
@@ -16,6 +22,6 @@ WordsAreOneCommand = (words : List (Vec ℕ Global)) (c d : Command) → IsComma
 abbrev pub OutcomesAreAnswers : Type 0
 OutcomesAreAnswers = (words : List (Vec ℕ Global)) (held : Option FileMap) (o : Outcome) → IsDue words held o → IsAnswer o.status
 
--- words have at most one outcome on what is held
-abbrev pub HasOneOutcome : Type 0
-HasOneOutcome = (words : List (Vec ℕ Global)) (held : FileMap) (o p : Outcome) → IsDue words (Some held) o → IsDue words (Some held) p → o ≡ p
+-- where the ground problem of two trees is within the limits, its task with the empty tag alone is, too
+abbrev pub EmptyTagsFit : Type 0
+EmptyTagsFit = (d : Domain Word) (p : Problem Word) → IsSmall d p → FitsLimits (task_of (ground_of d p) (empty_tag d p)) usual

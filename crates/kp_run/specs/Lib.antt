@@ -5,5 +5,4 @@ pub mod Outcomes
 pub mod Ends
 pub mod Soundness
 pub mod Laws
-pub mod Follows
 pub mod Numbered

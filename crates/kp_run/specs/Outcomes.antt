@@ -3,6 +3,7 @@ use Rattle.std.specs.Prelude.{◌≡◌, ◌<◌, ◌≤◌, List, [], ◌∷◌
 use Rattle.std.specs.declared.alloc.Global.{Global}
 use Rattle.kp_base.specs.declared.ground.Ground.{Ground}
 use Rattle.kp_base.specs.declared.ground.GroundName.{GroundName}
+use Rattle.kp_base.specs.declared.ground.TagTable.{TagTable}
 use Rattle.kp_base.specs.declared.limits.Limits.{Limits}
 use Rattle.kp_base.specs.declared.refused.ClashAt.{ClashAt}
 use Rattle.kp_base.specs.declared.refused.Part.TheVariants as parts
@@ -14,9 +15,13 @@ use Rattle.kp_grammar.specs.declared.tree.Word.{Word}
 use Rattle.kp_grammar.specs.Trees as trees
 use Rattle.kp_meaning.specs.Numbering.{numbered_problem}
 use Rattle.kp_ground.specs.Grounded.{IsGrounded, RefusesGround}
-use Rattle.kp_texts.specs.declared.translation.Translation.{Translation}
+use Rattle.kp_task.specs.Task.{task_of}
+use Rattle.kp_ktask.specs.Translated.{FitsLimits, RefusesTask}
+use Rattle.kp_translation.specs.declared.translation.Translation.{Translation}
+use Rattle.kp_translation.specs.Translations.{translation_with}
 use Rattle.kp_given.specs.Laws.{HasInitialState}
-use Rattle.kp_given.specs.Translations.{ground_of, initial_of, translation_of}
+use Rattle.kp_given.specs.Translations.{ground_of, initial_of}
+use Rattle.kp_given.specs.Tables.{empty_tag}
 use Rattle.kp_meaning.specs.Strip.{strip}
 use Rattle.kp_plans.specs.declared.step.PlanStep.{PlanStep}
 use Rattle.kp_plans.specs.PlanFiles.{names, IsPlanOf, RefusesPlan}
@@ -72,13 +77,18 @@ pub record IsStarted (limit : ℕ) (d : trees.Domain Word) (p : trees.Problem Wo
   pub counted : IsNeverOver (initial_of d p) limit
   pub initial : HasInitialState p
 
+-- a ground problem is translated with a table of tags and merges to this: the refusal of their task, or its two files
+pub data TranslatesGround (c : Translate) (g : Ground) (table : TagTable) (o : Outcome) : Type 0 where
+  over : (r : Refused) → RefusesTask (task_of g table) usual r → o ≡ refuses nothing r → TranslatesGround c g table o
+  done : FitsLimits (task_of g table) usual → o ≡ translates c (translation_with g table) → TranslatesGround c g table o
+
 -- two trees in which no name is at fault are translated to this: the first of these that holds, and only one of them does
 pub data TranslatesTrees (c : Translate) (d : trees.Domain Word) (p : trees.Problem Word) (o : Outcome) : Type 0 where
   too_large : (r : Refused) → RefusesGround (numbered_problem d p) usual r → o ≡ refuses nothing r → TranslatesTrees c d p o
   implicates_over : (k : ℕ) → IsSmall d p → IsLeastOver (initial_of d p) c.implicates k → o ≡ refuses nothing (refusals.ImplicatesOver k) → TranslatesTrees c d p o
   no_initial_state : IsSmall d p → IsNeverOver (initial_of d p) c.implicates → (HasInitialState p → ⊥) → o ≡ refuses nothing refusals.NoInitialState → TranslatesTrees c d p o
   clash : (at : ClashAt) → IsStarted c.implicates d p → ClashesFirst (ground_of d p) (initial_of d p) at → o ≡ refuses (named_in (ground_of d p)) (refusals.Clash at) → TranslatesTrees c d p o
-  done : IsStarted c.implicates d p → IsClashFree (ground_of d p) (initial_of d p) → o ≡ translates c (translation_of d p) → TranslatesTrees c d p o
+  no_clash : IsStarted c.implicates d p → IsClashFree (ground_of d p) (initial_of d p) → TranslatesGround c (ground_of d p) (empty_tag d p) o → TranslatesTrees c d p o
 
 -- two texts are translated to this: a refusal of a text or of a name, or what their trees are translated to
 pub data TranslatesTexts (c : Translate) (domain problem : List ℕ) (o : Outcome) : Type 0 where

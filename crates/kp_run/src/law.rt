@@ -1,4 +1,4 @@
-ghost use Rattle.kp_run.specs.Laws.{OutcomesAreAnswers, WordsAreOneCommand, HasOneOutcome};
+ghost use Rattle.kp_run.specs.Laws.{EmptyTagsFit, OutcomesAreAnswers, WordsAreOneCommand};
 
 /// Words are one command at most.
 pub fn words_are_one_command()
@@ -10,7 +10,8 @@ pub fn outcomes_are_answers()
     ensures { OutcomesAreAnswers }
 {}
 
-/// Words have at most one outcome on what is held.
-pub fn words_have_one_outcome()
-    ensures { HasOneOutcome }
+/// No limit on facts or weight is passed with the empty tag alone.
+#[tactic(auto, using(crate::proofs::Counted::empty_tags_fit))]
+pub fn empty_tags_fit()
+    ensures { EmptyTagsFit }
 {}

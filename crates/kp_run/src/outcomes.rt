@@ -7,7 +7,7 @@ use crate::command::Translate;
 use kp_base::{ClashAt, Ground, Memory, Refused, Row, Text};
 use kp_outcome::{FilePut, Outcome, Status};
 use kp_printed::{Named, refusal, usage};
-use kp_texts::Translation;
+use kp_translation::Translation;
 use std::alloc::Global;
 
 /// The usage is printed.

@@ -1,5 +1,6 @@
-ghost use Rattle.std.specs.Prelude.{◌≡◌, ◌≤◌, Some, List, ℕ, IfOk, length};
+ghost use Rattle.std.specs.Prelude.{◌≡◌, ◌<◌, ◌≤◌, Some, List, ℕ, IfOk, length};
 ghost use Rattle.kp_base.specs.Exclusive.{IsClashFree};
+ghost use Rattle.kp_base.specs.Machine.{one_tag_table};
 ghost use Rattle.kp_clash.specs.Counted.{IsCounted};
 ghost use Rattle.kp_meaning.specs.Numbered.{Lifted as Numbers};
 ghost use Rattle.kp_grounding.specs.Ground.{ground_atoms, ground_of};
@@ -8,13 +9,13 @@ ghost use Rattle.kp_names.specs.View.{lifted_view};
 ghost use Rattle.kp_outside.specs.Outside.{IsFront, IsWithin};
 ghost use Rattle.kp_primes.specs.Answers.{HoldsPrimes};
 ghost use Rattle.kp_primes.specs.Held.{formula};
-ghost use Rattle.kp_run.specs.Outcomes.{TranslatesTexts};
+ghost use Rattle.kp_run.specs.Outcomes.{TranslatesGround, TranslatesTexts};
 ghost use Rattle.kp_run.specs.Numbered.{EndsBy, EndsWithin};
 
 use crate::command::Translate;
 use crate::files::read_files;
 use crate::outcomes::{refuse, refuse_clash, translates};
-use kp_base::{Ground, Limits, LitSet, Memory, Refused, Stop};
+use kp_base::{Ground, Limits, LitSet, Memory, Refused, Stop, TagTable};
 use kp_clash::{clash_test, exclusive};
 use kp_ground::{GroundWithAtoms, ground_with_atoms};
 use kp_init::initial_over;
@@ -23,8 +24,38 @@ use kp_names::Lifted;
 use kp_outcome::Outcome;
 use kp_outside::Got;
 use kp_primes::Primes;
-use kp_texts::translate;
+use kp_translation::{empty_tag, translation_with};
 use std::alloc::Global;
+
+// What a ground problem without a clash comes to with a table of tags and merges.
+fn with_table(
+    alloc: Global,
+    command: &Translate<'_>,
+    ground: &Ground,
+    table: &TagTable,
+) -> Result<Outcome, Memory>
+    requires { 0 < length table.now.tags }
+    ensures { IfOk result (TranslatesGround command.now ground.now table.now) }
+{
+    match translation_with(alloc, ground, table, &Limits::usual()) {
+        Ok(translation) => translates(alloc, command, translation),
+        Err(Stop::Refused(refused)) => refuse(alloc, refused),
+        Err(Stop::Memory) => Err(Memory),
+    }
+}
+
+// The same with the empty tag alone, which has this closure.
+fn with_empty_tag(
+    alloc: Global,
+    command: &Translate<'_>,
+    ground: &Ground,
+    closure: &LitSet,
+) -> Result<Outcome, Memory>
+    ensures { IfOk result (TranslatesGround command.now ground.now (one_tag_table closure.now)) }
+{
+    let table = empty_tag(alloc, closure)?;
+    with_table(alloc, command, ground, &table)
+}
 
 // What a ground problem without a clash comes to, whose initial formula has these prime implicates.
 fn without_clash(
@@ -36,7 +67,7 @@ fn without_clash(
     ensures { (l : Numbers) → ground.now ≡ ground_of l → HoldsPrimes (initial_of l) (length ground.now.atoms) command.now.implicates primes.now → IsClashFree ground.now (formula primes.now) → IfOk result (EndsBy command.now l) }
 {
     match primes.closure(alloc, &LitSet::new(alloc))? {
-        Some(start) => translates(alloc, command, translate(alloc, ground, &start)?),
+        Some(known) => with_empty_tag(alloc, command, ground, &known),
         // (prime implicates are of a formula with a model, so the empty tag has a closure)
         None => refuse(alloc, Refused::NoInitialState),
     }

@@ -1,9 +1,3 @@
-pub mod Facts
-pub mod Operators
-pub mod Plans
 pub mod Trees
-pub mod ExamplePlans
 pub mod ExampleTrees
 pub mod ExampleCells
-pub mod Tagged
-pub mod ExampleTagged

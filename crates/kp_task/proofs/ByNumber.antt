@@ -6,7 +6,7 @@ use Rattle.kp_base.specs.declared.ground.Ground.{Ground}
 use Rattle.kp_base.specs.declared.ground.TagTable.{TagTable}
 use Rattle.kp_base.specs.declared.ground.Merge.{Merge}
 use Rattle.kp_base.specs.Machine.{MachineStep}
-use Rattle.kp_texts.specs.Task.{Op}
+use Rattle.kp_write.specs.Task.{Op}
 use Rattle.kp_write.specs.Named.{named_op, named_start}
 use Rattle.kp_write.specs.Runs.{runs}
 use Rattle.kp_meaning.specs.Names.{is_among}

@@ -1,18 +1,21 @@
 -- Three cells of which one is full, with a tag for each and a merge: they can be written, and the texts have a plan with the merge.
-use Rattle.std.proofs.Common.{◌≡◌, ◌∷◌, [], List, length, map, codes, decimal, refl, arith}
+use Rattle.std.proofs.Common.{◌≡◌, ℕ, ◌∷◌, [], List, length, map, codes, decimal, refl, arith}
 use Rattle.std.proofs.lemmas.Fmt.{decimal_digit}
 use Rattle.std.specs.List.{IsDistinct}
 use Rattle.kp_base.specs.declared.ground.Merge.{Merge}
 use Rattle.kp_base.specs.Lit.{positive}
+use Rattle.kp_lex.specs.declared.token.TokenKind.TheVariants as kinds
 use Rattle.kp_lex.specs.Bytes.{class_of}
+use Rattle.kp_lex.specs.Cutting.{IsToken}
+use Rattle.kp_grammar.specs.Words.{IsLow, IsName}
 use Rattle.kp_meaning.specs.Steps.{Step}
 use Rattle.kp_meaning.specs.Plans.{IsPlan}
-use Rattle.kp_texts.specs.Pieces.{spelling, each}
-use Rattle.kp_texts.specs.Written.{op, effect_line}
+use Rattle.kp_pieces.specs.Pieces.{spelling, each}
+use Rattle.kp_plans.specs.Names.{IsGroundName}
+use Rattle.kp_write.specs.Written.{op, effect_line}
 use Rattle.kp_write.specs.Grounds.{IsWritable}
 use Rattle.kp_write.specs.Named.{named_op, named_effect, domain_of, problem_of}
-use Rattle.kp_write.proofs.Fine.{named}
-use Rattle.kp_write.proofs.ExampleGrounds.{a_name, nullary_name}
+use Rattle.kp_pieces.proofs.Fine.{named}
 use Rattle.kp_machine.proofs.ExampleCells.{cells, one_of_three, table, two_and_merge, right, valid, never, effect}
 use Rattle.kp_task.specs.Task.{facts_of, effects_under, merge_op, task_of}
 use Rattle.kp_task.specs.Weight.{weight_of}
@@ -20,21 +23,24 @@ use Rattle.kp_task.specs.Writable.{IsWritableTask}
 use Rattle.kp_task.specs.Accepted.{StripsToGroundPlan}
 use Rattle.kp_task.proofs.Plans.{plans_are_accepted, plans_sound}
 
-ground_writable : IsWritable cells []
+-- a word that is a Name, as a name without objects
+nullary_name : (w : List ℕ) → IsToken kinds.Name w → IsLow w → IsGroundName (record { head = w; objects = [] })
+nullary_name w t low = record { head = record { token = t; low = low }; objects = tt }
+
+ground_writable : IsWritable cells
 unfolding class_of IsDistinct
 ground_writable = record {
-  atoms = (nullary_name (codes "x1") (a_name (codes "x1") (named (codes "x1") refl) refl), (nullary_name (codes "x2") (a_name (codes "x2") (named (codes "x2") refl) refl), (nullary_name (codes "x3") (a_name (codes "x3") (named (codes "x3") refl) refl), tt)));
+  atoms = (nullary_name (codes "x1") (named (codes "x1") refl) refl, (nullary_name (codes "x2") (named (codes "x2") refl) refl, (nullary_name (codes "x3") (named (codes "x3") refl) refl, tt)));
   atoms_differ = ((refl, (refl, tt)), ((refl, tt), (tt, tt)));
   actions = (
     record {
-      name = nullary_name (codes "left") (a_name (codes "left") (named (codes "left") refl) refl);
+      name = nullary_name (codes "left") (named (codes "left") refl) refl;
       pre = tt;
       effects = (record { conds = (omega arith, tt); result = omega arith }, (record { conds = (omega arith, tt); result = omega arith }, (record { conds = (omega arith, tt); result = omega arith }, (record { conds = (omega arith, tt); result = omega arith }, tt))));
     },
     tt,
   );
   actions_differ = (tt, tt);
-  start_of_atoms = tt;
   goal_of_atoms = (omega arith, tt);
 }
 

@@ -9,8 +9,9 @@ use Rattle.kp_base.proofs.Lists.{bool_same, member_at}
 use Rattle.kp_base.proofs.Lits.{same_lit-true, same_lit-refl}
 use Rattle.kp_meaning.specs.Names.{same}
 use Rattle.kp_meaning.proofs.Lists.{same-true, same-refl}
-use Rattle.kp_texts.specs.Task.{sign_word, encoded_or_none, tag_word, atom_fact, fact_of}
-use Rattle.kp_write.specs.Grounds.{IsGroundName, same_name, IsOfAtom}
+use Rattle.kp_write.specs.Facts.{sign_word, encoded_or_none, tag_word, atom_fact, fact_of}
+use Rattle.kp_plans.specs.Names.{IsGroundName, same_name}
+use Rattle.kp_write.specs.Grounds.{IsOfAtom}
 use Rattle.kp_write.proofs.Lists.{one_of_all}
 use Rattle.kp_write.proofs.Encoded.{facts_tell_apart, same_name-refl}
 

@@ -13,7 +13,8 @@ use Rattle.kp_meaning.specs.Names.{same}
 use Rattle.kp_meaning.specs.Steps.{Step}
 use Rattle.kp_meaning.specs.Encoding.{encoded, decoded}
 use Rattle.kp_meaning.proofs.Lists.{same-refl}
-use Rattle.kp_write.specs.Grounds.{IsGroundName, IsGroundAction}
+use Rattle.kp_plans.specs.Names.{IsGroundName}
+use Rattle.kp_write.specs.Grounds.{IsGroundAction}
 use Rattle.kp_write.specs.Runs.{step_of}
 use Rattle.kp_write.proofs.Encoded.{decodes}
 use Rattle.kp_write.proofs.Lists.{one_of_all}

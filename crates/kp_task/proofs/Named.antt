@@ -16,7 +16,7 @@ use Rattle.kp_base.specs.Lit.{negated}
 use Rattle.kp_base.proofs.Lists.{each_append}
 use Rattle.kp_meaning.specs.Names.{same}
 use Rattle.kp_classic.specs.Fits.{are_below, fits_effect, fits_op}
-use Rattle.kp_texts.specs.Task.{fact_of, known, opposites, support as named_support, cancellation as named_cancellation}
+use Rattle.kp_write.specs.Facts.{fact_of, known, opposites, support as named_support, cancellation as named_cancellation}
 use Rattle.kp_write.specs.Grounds.{IsOfAtom, AreOfAtoms, IsGroundEffect, IsGroundAction}
 use Rattle.kp_write.specs.Named.{fact_name, signed_fact, named_effect, named_op}
 use Rattle.kp_write.specs.Tasks.{IsWritableOp}

@@ -7,6 +7,7 @@ use Rattle.kp_base.specs.declared.ground.Ground.{Ground}
 use Rattle.kp_base.specs.declared.ground.TagTable.{TagTable}
 use Rattle.kp_base.specs.Lit.{code_of}
 use Rattle.kp_task.specs.Task.{name_of, task_of, facts_of, lits_from, under, facts_from}
+use Rattle.kp_task.specs.Weight.{FactsAreCounted}
 use Rattle.kp_task.specs.Laws.{FactsAreNumbered}
 
 pub get_left : {X : Type 0} (xs ys : List X) (n : ℕ) (x : X) → slice_get xs n ≡ Some x → slice_get (xs ++ ys) n ≡ Some x
@@ -67,7 +68,7 @@ facts_from_length t (suc n) ls =
     length-append (under t ls) (facts_from (suc t) n ls) ∙ omega (arith, first, rest, more)
 
 -- how many facts there are
-pub facts_length : (g : Ground) (table : TagTable) → length (task_of g table).facts ≡ length table.tags * (2 * length g.atoms)
+pub facts_length : FactsAreCounted
 facts_length g table =
     length-map (facts_of g table) (name_of g.atoms) ∙ facts_from_length 0 (length table.tags) (lits_from 0 (length g.atoms)) ∙ ap (λ m. length table.tags * m) (lits_length 0 (length g.atoms))
 

@@ -2,7 +2,7 @@
 use Rattle.std.proofs.Common.{◌≡◌, ap, ap₂}
 use Rattle.kp_base.specs.declared.ground.Ground.{Ground}
 use Rattle.kp_base.specs.declared.ground.TagTable.{TagTable}
-use Rattle.kp_texts.specs.Written.{domain_text, problem_text}
+use Rattle.kp_write.specs.Written.{domain_text, problem_text}
 use Rattle.kp_write.specs.Named.{domain_of, problem_of}
 use Rattle.kp_write.proofs.Runs.{plans_are_runs}
 use Rattle.kp_machine.proofs.Sound.{sound}

@@ -10,7 +10,7 @@ use Rattle.kp_base.specs.Machine.{MachineStep, Known, start as known_at_start, m
 use Rattle.kp_base.proofs.Lists.{member_at, member_map, map_member, number_at, member_left, member_right, append_member}
 use Rattle.kp_meaning.specs.Names.{is_among}
 use Rattle.kp_meaning.specs.Steps.{Step}
-use Rattle.kp_texts.specs.Task.{Op}
+use Rattle.kp_write.specs.Task.{Op}
 use Rattle.kp_write.specs.Grounds.{IsGroundAction}
 use Rattle.kp_write.specs.Runs.{Facts, after_op, runs, step_of}
 use Rattle.kp_write.proofs.Lists.{one_of_all}

@@ -14,7 +14,7 @@ use Rattle.kp_base.specs.LitSet.{IsAscending, with_lit}
 use Rattle.kp_base.proofs.Ascending.{code_of-injective, tail_ascends}
 use Rattle.kp_base.proofs.Lits.{negated-negated}
 use Rattle.kp_base.proofs.Sets.{any-with_lit}
-use Rattle.kp_texts.specs.Task.{opposites}
+use Rattle.kp_write.specs.Facts.{opposites}
 use Rattle.kp_task.specs.Task.{under, number, numbers, effects_under, effects_from, op_of, merge_op, merge_ops_from}
 use Rattle.kp_task.specs.Weight.{effect_weight, op_weight, both_weight, action_weight, merge_weight, WeightIsCounted, BothWeighAlike}
 

@@ -15,8 +15,10 @@ use Rattle.kp_base.proofs.Lists.{member_map, each_append}
 use Rattle.kp_grammar.specs.Words.{IsHead}
 use Rattle.kp_meaning.specs.Names.{same}
 use Rattle.kp_meaning.specs.Encoding.{encoded}
-use Rattle.kp_texts.specs.Task.{Op, fact_of, known, opposites}
-use Rattle.kp_write.specs.Grounds.{IsGroundName, same_name, IsOfAtom, AreOfAtoms, IsGroundEffect, IsGroundAction}
+use Rattle.kp_write.specs.Task.{Op}
+use Rattle.kp_write.specs.Facts.{fact_of, known, opposites}
+use Rattle.kp_plans.specs.Names.{IsGroundName, same_name}
+use Rattle.kp_write.specs.Grounds.{IsOfAtom, AreOfAtoms, IsGroundEffect, IsGroundAction}
 use Rattle.kp_write.specs.Problems.{AreAmong, IsEffectOn, IsOpOn}
 use Rattle.kp_write.proofs.Encoded.{operator_is_name, operators_apart}
 use Rattle.kp_write.proofs.Grounds.{mapped, opposites_of}

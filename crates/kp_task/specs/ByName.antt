@@ -11,8 +11,9 @@ use Rattle.kp_base.specs.Machine.{MachineStep}
 use Rattle.kp_meaning.specs.Encoding.{encoded}
 use Rattle.kp_meaning.specs.Strip.{do_front}
 use Rattle.kp_task.specs.Task.{Fact, name_of, under, facts_of, start_of, merge_word, task_of}
-use Rattle.kp_texts.specs.Task.{Op, Effect, fact_of, known, support, cancellation}
-use Rattle.kp_texts.specs.Written.{domain_text, problem_text}
+use Rattle.kp_write.specs.Task.{Op, Effect}
+use Rattle.kp_write.specs.Facts.{fact_of, known, support, cancellation}
+use Rattle.kp_write.specs.Written.{domain_text, problem_text}
 use Rattle.kp_write.specs.Named.{named_ops, named_start, named_goal}
 use Rattle.kp_task.specs.Writable.{IsWritableTask}
 

@@ -6,14 +6,14 @@ use Rattle.kp_base.specs.declared.ground.TagTable.{TagTable}
 use Rattle.kp_base.specs.declared.ground.Initial.{Initial}
 use Rattle.kp_base.specs.Entailed.{IsTable, AreValid}
 use Rattle.kp_base.specs.Clashes.{NeverClashes}
-use Rattle.kp_base.specs.Machine.{MachineStep, accepts, start as known_at_start, one_tag_table}
+use Rattle.kp_base.specs.Machine.{MachineStep, accepts, start as known_at_start}
 use Rattle.kp_classic.specs.Fits.{IsFit}
 use Rattle.kp_classic.specs.Steps.{start, succeeds}
 use Rattle.kp_meaning.specs.Names.{is_among}
 use Rattle.kp_meaning.specs.Steps.{Step}
 use Rattle.kp_meaning.specs.Plans.{IsPlan}
-use Rattle.kp_texts.specs.Task.{Op, fact_of}
-use Rattle.kp_write.specs.Grounds as before
+use Rattle.kp_write.specs.Task.{Op}
+use Rattle.kp_write.specs.Facts.{fact_of}
 use Rattle.kp_write.specs.Grounds.{IsOfAtom}
 use Rattle.kp_write.specs.Problems.{IsTask}
 use Rattle.kp_write.specs.Runs.{IsRun}
@@ -22,7 +22,6 @@ use Rattle.kp_write.specs.Tasks.{CanBeWritten}
 use Rattle.kp_task.specs.Task.{number, task_of, facts_of, start_of}
 use Rattle.kp_task.specs.ByName.{goal_of, names_of, ops_of, op_at}
 use Rattle.kp_task.specs.Writable.{IsWritableTask}
-use Rattle.kp_task.specs.ByName.{domain_file, problem_file}
 use Rattle.kp_task.specs.Accepted.{step_at, IsAccepted, IsStrippedTo, StripsToGroundPlan}
 use Rattle.kp_task.specs.Known.{held_after, known_after}
 
@@ -78,9 +77,3 @@ FactsAreKnown = (g : Ground) (table : TagTable) → IsWritableTask g table → (
 -- each fact has its number
 abbrev pub FactsAreNumbered : Type 0
 FactsAreNumbered = (g : Ground) (table : TagTable) (t : ℕ) (l : Lit) → t < length table.tags → IsOfAtom g.atoms l → slice_get (facts_of g table) (number (length g.atoms) (record { tag = t; lit = l })) ≡ Some (record { tag = t; lit = l })
-
--- ---- the empty tag alone
-
--- with the empty tag alone the two texts are those of `kp_texts`
-abbrev pub OneTagIsAsBefore : Type 0
-OneTagIsAsBefore = (g : Ground) (start : List Lit) → (domain_file g (one_tag_table start) ≡ before.domain_file g) × (problem_file g (one_tag_table start) ≡ before.problem_file g start)

@@ -16,7 +16,7 @@ use Rattle.kp_classic.specs.declared.task.Conds.{Conds}
 use Rattle.kp_classic.specs.declared.task.OpEffect.{OpEffect}
 use Rattle.kp_classic.specs.declared.task.Op.{Op}
 use Rattle.kp_classic.specs.declared.task.Task.{Task}
-use Rattle.kp_texts.specs.Task.{fact_of, opposites}
+use Rattle.kp_write.specs.Facts.{fact_of, opposites}
 
 -- ---- facts
 

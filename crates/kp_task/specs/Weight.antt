@@ -10,7 +10,7 @@ use Rattle.kp_classic.specs.declared.task.Conds.{Conds}
 use Rattle.kp_classic.specs.declared.task.OpEffect.{OpEffect}
 use Rattle.kp_classic.specs.declared.task.Op.{Op}
 use Rattle.kp_classic.specs.declared.task.Task.{Task}
-use Rattle.kp_texts.specs.Task.{opposites}
+use Rattle.kp_write.specs.Facts.{opposites}
 use Rattle.kp_task.specs.Task.{task_of}
 
 -- how many conditions there are
@@ -52,6 +52,10 @@ counted_weight g table = sum_by (action_weight (length table.tags)) g.actions + 
 -- so much is the weight of the task
 abbrev pub WeightIsCounted : Type 0
 WeightIsCounted = (g : Ground) (table : TagTable) → weight_of (task_of g table) ≡ counted_weight g table
+
+-- there are two facts for each tag and atom
+abbrev pub FactsAreCounted : Type 0
+FactsAreCounted = (g : Ground) (table : TagTable) → length (task_of g table).facts ≡ length table.tags * (2 * length g.atoms)
 
 -- an effect whose conditions are a set has as many in its cancellation
 abbrev pub BothWeighAlike : Type 0

@@ -1,8 +1,8 @@
 //! Laws of the task of a ground problem and a table, each proved as the contract of a function that does nothing.
 
 ghost use Rattle.kp_task.specs.ByName.{TasksAreNamed};
-ghost use Rattle.kp_task.specs.Laws.{FactsAreKnown, FactsAreNumbered, OneTagIsAsBefore, OperatorsDoSteps, RunsAreAccepted, StepsAreInjective, TaggedPlansAreAccepted, TaggedPlansAreSound, TaggedStepsStrip, TaggedTasksAreFit, TaggedTasksAreTasks, TaggedTasksCanBeWritten};
-ghost use Rattle.kp_task.specs.Weight.{BothWeighAlike, WeightIsCounted};
+ghost use Rattle.kp_task.specs.Laws.{FactsAreKnown, FactsAreNumbered, OperatorsDoSteps, RunsAreAccepted, StepsAreInjective, TaggedPlansAreAccepted, TaggedPlansAreSound, TaggedStepsStrip, TaggedTasksAreFit, TaggedTasksAreTasks, TaggedTasksCanBeWritten};
+ghost use Rattle.kp_task.specs.Weight.{BothWeighAlike, FactsAreCounted, WeightIsCounted};
 
 /// The task can be written: its names are Names and differ, and it has only numbers of its facts.
 pub fn tagged_tasks_can_be_written()
@@ -63,6 +63,12 @@ pub fn facts_are_numbered()
     ensures { FactsAreNumbered }
 {}
 
+/// There are two facts for each tag and atom.
+#[tactic(auto, using(crate::proofs::Numbers::facts_length))]
+pub fn facts_are_counted()
+    ensures { FactsAreCounted }
+{}
+
 /// The task's weight is that of the actions, for each tag, and of the merges.
 pub fn weight_is_counted()
     ensures { WeightIsCounted }
@@ -71,9 +77,4 @@ pub fn weight_is_counted()
 /// A cancellation has as many conditions as its support.
 pub fn both_weigh_alike()
     ensures { BothWeighAlike }
-{}
-
-/// With the empty tag alone the two texts are those of `kp_texts`.
-pub fn one_tag_is_as_before()
-    ensures { OneTagIsAsBefore }
 {}

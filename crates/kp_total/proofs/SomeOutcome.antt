@@ -11,7 +11,8 @@ use Rattle.kp_grammar.specs.Grammar as grammar
 use Rattle.kp_meaning.specs.Faults.{HasNoFault}
 use Rattle.kp_meaning.specs.Numbering.{numbered_problem}
 use Rattle.kp_tree.proofs.OneAnswer.{always_some}
-use Rattle.kp_given.specs.Translations.{ground_of, initial_of, translation_of}
+use Rattle.kp_given.specs.Translations.{ground_of, initial_of}
+use Rattle.kp_given.specs.Tables.{translation_of, empty_tag}
 use Rattle.kp_given.proofs.Starts.{states_are_models, formulas_over_atoms}
 use Rattle.kp_decided.proofs.Sizes.{names_decided, sizes_decided}
 use Rattle.kp_decided.proofs.Counting.{formulas_ascend, counted}
@@ -27,11 +28,12 @@ use Rattle.kp_plans.specs.Printed.{plan_text}
 use Rattle.kp_plans.specs.Stripping.{IsFirstUnstripped}
 use Rattle.kp_plans.proofs.WholePlans.{always_some as plans_always_one}
 use Rattle.kp_base.specs.declared.ground.GroundName.{GroundName}
+use Rattle.kp_run.proofs.Counted.{empty_tags_fit}
 use Rattle.kp_run.specs.Names.{Translate}
 use Rattle.kp_run.specs.declared.command.Command.TheVariants as commands
 use Rattle.kp_run.specs.Command.{inputs_of}
 use Rattle.kp_run.specs.Texts.{of_domain, of_problem, of_names}
-use Rattle.kp_run.specs.Outcomes.{usual, shows_usage, refuses, named_in, translates, IsSmall, IsStarted, TranslatesTrees, too_large, implicates_over, no_initial_state, clash, done, TranslatesTexts, refused, on_trees, prints, StripsText, too_long, no_plan, no_strip, strips, translated, usage, of_command}
+use Rattle.kp_run.specs.Outcomes.{usual, shows_usage, refuses, named_in, translates, IsSmall, IsStarted, TranslatesTrees, too_large, implicates_over, no_initial_state, clash, no_clash, done, TranslatesTexts, refused, on_trees, prints, StripsText, too_long, no_plan, no_strip, strips, translated, usage, of_command}
 use Rattle.kp_run.specs.Outcomes as outcomes
 use Rattle.kp_total.specs.Laws.{CommandsHaveAnOutcome, HasSomeOutcome}
 use Rattle.kp_total.proofs.SomeCommand.{words_decided}
@@ -42,7 +44,7 @@ module _ (c : Translate) (d : Domain Word) (p : Problem Word) where
   of_started : IsStarted c.implicates d p → (o : Outcome) × TranslatesTrees c d p o
   of_started started = elim (clash_or_none (ground_of d p) (initial_of d p) (formulas_over_atoms d p)) [
     | inl first ↦ (refuses (named_in (ground_of d p)) (refusals.Clash first.0), clash first.0 started first.1 refl)
-    | inr free ↦ (translates c (translation_of d p), done started free refl)
+    | inr free ↦ (translates c (translation_of d p (empty_tag d p)), no_clash started free (done (empty_tags_fit d p started.small) refl))
   ]
 
   of_small : HasNoFault d p → IsSmall d p → (o : Outcome) × TranslatesTrees c d p o

@@ -19,3 +19,7 @@ WordsAreDecided = (words : List (Vec ℕ Global)) → ((c : Command) × IsComman
 -- words have an outcome on what is held, if, where they are a command, its input files are held
 abbrev pub HasSomeOutcome : Type 0
 HasSomeOutcome = (words : List (Vec ℕ Global)) (held : FileMap) → ((c : Command) → IsCommand words c → (texts : List (List ℕ)) × AreHeld (Some held) (inputs_of c) texts) → (o : Outcome) × IsDue words (Some held) o
+
+-- words have at most one outcome on what is held
+abbrev pub HasOneOutcome : Type 0
+HasOneOutcome = (words : List (Vec ℕ Global)) (held : FileMap) (o p : Outcome) → IsDue words (Some held) o → IsDue words (Some held) p → o ≡ p

@@ -20,8 +20,9 @@ use Rattle.kp_meaning.specs.Names.{same, all_same}
 use Rattle.kp_meaning.specs.Encoding.{underscore, doubled_byte, doubled, encoded_objects, encoded, decoded, is_empty}
 use Rattle.kp_meaning.proofs.Encoding.{encoded_decodes}
 use Rattle.kp_meaning.proofs.Lists.{same-true, same-refl, all_same-refl}
-use Rattle.kp_texts.specs.Task.{sign_word, tag_word, atom_fact}
-use Rattle.kp_write.specs.Grounds.{IsGroundName, same_name, FactsTellApart}
+use Rattle.kp_write.specs.Facts.{sign_word, tag_word, atom_fact}
+use Rattle.kp_plans.specs.Names.{IsGroundName, same_name}
+use Rattle.kp_write.specs.Grounds.{FactsTellApart}
 
 -- ---- bytes
 

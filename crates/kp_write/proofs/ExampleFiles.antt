@@ -9,13 +9,13 @@ use Rattle.kp_grammar.specs.Words.{IsLow, IsHead}
 use Rattle.kp_base.specs.Lists.{Member}
 use Rattle.kp_meaning.specs.Names.{is_among}
 use Rattle.kp_meaning.specs.Plans.{IsPlan}
-use Rattle.kp_texts.specs.Pieces.{spelling}
-use Rattle.kp_texts.specs.Task.{Effect, Op}
-use Rattle.kp_texts.specs.Written.{op, domain_pieces, problem_pieces, domain_text, problem_text}
+use Rattle.kp_pieces.specs.Pieces.{spelling}
+use Rattle.kp_write.specs.Task.{Effect, Op}
+use Rattle.kp_write.specs.Written.{op, domain_pieces, problem_pieces, domain_text, problem_text}
 use Rattle.kp_lex.specs.Cutting.{IsToken}
 use Rattle.kp_write.specs.Problems.{IsEffectOn, IsTask, HasMeantProblem}
 use Rattle.kp_write.specs.Runs.{runs, step_of}
-use Rattle.kp_write.proofs.Fine.{named}
+use Rattle.kp_pieces.proofs.Fine.{named}
 use Rattle.kp_write.proofs.Faultless.{written_texts_have_problem}
 use Rattle.kp_write.proofs.Runs.{plans_are_runs}
 

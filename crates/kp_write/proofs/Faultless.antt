@@ -11,7 +11,7 @@ use Rattle.kp_meaning.specs.Faults.{repeated, twice_in, words, head_faults, atom
 use Rattle.kp_meaning.specs.Places.{atom_map, cond_map, conds_map, eff_map, effs_map, item_map, pred_map, schema_map, domain_map, problem_map}
 use Rattle.kp_meaning.proofs.Lists.{same-refl}
 use Rattle.kp_meaning.proofs.PlacesOfFaults.{places_mean_nothing}
-use Rattle.kp_texts.specs.Task.{Signed, Effect, Op}
+use Rattle.kp_write.specs.Task.{Signed, Effect, Op}
 use Rattle.kp_write.specs.Names.{IsEffect, IsOp, AreHeads}
 use Rattle.kp_write.specs.Trees.{atom_of, fact_holds, signed_holds, made_where, effect_of, schema_of, predicate_of, item_of, written_domain, written_problem}
 use Rattle.kp_write.specs.Problems.{AreAmong, IsEffectOn, IsOpOn, IsTask, WrittenTextsHaveProblem}

@@ -1,7 +1,4 @@
-pub mod Applied
 pub mod Lists
-pub mod Cuts
-pub mod Natural
 pub mod Fine
 pub mod Reading
 pub mod Whole
@@ -14,4 +11,3 @@ pub mod Pieces
 pub mod Numbered
 pub mod Grounds
 pub mod ExampleFiles
-pub mod ExampleGrounds

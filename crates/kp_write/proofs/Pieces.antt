@@ -1,9 +1,9 @@
 -- Pieces of a task by number that are written one after the other.
-use Rattle.std.proofs.Common.{◌≡◌, ℕ, ◌<◌, true, false, ◌&&◌, ◌==◌, List, [], ◌∷◌, ◌++◌, map, length, refl, sym, ap, ◌∙◌, codes, arith}
-use Rattle.kp_texts.specs.Pieces.{Piece, right, spelling, each, ◌⨾◌}
-use Rattle.kp_texts.specs.Task.{Signed, Op}
-use Rattle.kp_texts.specs.Written.{Puts, opens, space, line_feed, name, key, fact, signed, spaced, guarded, when_put, precondition, effect_line, op}
-use Rattle.kp_texts.proofs.Putting.{wrote, each-append}
+use Rattle.std.proofs.Common.{◌≡◌, ℕ, ◌<◌, true, false, ◌&&◌, ◌==◌, List, [], ◌∷◌, ◌++◌, map, length, refl, sym, ap, ◌∙◌, append-nil, codes, arith}
+use Rattle.kp_pieces.specs.Pieces.{Piece, right, spelling, Put, each, ◌⨾◌, Puts, opens, space, line_feed, name, key, spaced}
+use Rattle.kp_write.specs.Task.{Signed, Op}
+use Rattle.kp_write.specs.Written.{fact, fact_line, signed_case, signed, guarded, when_put, precondition, effect_line, op, domain_pieces, domain_text, problem_pieces, problem_text}
+use Rattle.kp_pieces.proofs.Putting.{wrote, each-append}
 use Rattle.kp_write.specs.Named.{fact_name, signed_fact}
 
 pub when_puts : (a b c d e f g : List ℕ) (xs ys : List Signed) (r : Signed) → b ≡ a ++ codes "(when (and" → Puts b c (each (spaced signed) xs) → Puts c d (each (spaced signed) ys) → e ≡ d ++ codes ") " → Puts e f (signed r) → g ≡ f ++ codes ")" → Puts a g (when_put (xs ++ ys) r)
@@ -43,3 +43,29 @@ op_puts a b c d e f g h o h1 h2 h3 h4 h5 h6 h7 = record {
       wrote g h (codes ")\n)\n") (spelling rest) h7 ∙ h6.puts end ∙ wrote e f (codes ":effect (and\n") (spelling effects) h5
       ∙ h4.puts ((key (codes ":effect") ⨾ space ⨾ opens ⨾ name (codes "and") ⨾ line_feed) effects) ∙ wrote c d (codes "\n:parameters ()\n") _ h3 ∙ wrote b c o.name _ h2 ∙ wrote a b (codes "(:action ") _ h1;
 }
+
+pub fact_puts : (a b c d word : List ℕ) → b ≡ a ++ codes "(" → c ≡ b ++ word → d ≡ c ++ codes ")" → Puts a d (fact word)
+fact_puts a b c d word h i k = record { puts = λ rest. wrote c d (codes ")") (spelling rest) k ∙ wrote b c word _ i ∙ wrote a b (codes "(") _ h }
+
+pub line_puts : (a b c : List ℕ) (f : Put) → Puts a b f → c ≡ b ++ codes "\n" → Puts a c (f ⨾ line_feed)
+line_puts a b c f p e = record { puts = λ rest. wrote b c (codes "\n") (spelling rest) e ∙ p.puts (line_feed rest) }
+
+pub denied_puts : (a b c d n : List ℕ) → b ≡ a ++ codes "(not " → Puts b c (fact n) → d ≡ c ++ codes ")" → Puts a d (signed_case false n)
+denied_puts a b c d n e p h = record { puts = λ rest. wrote c d (codes ")") (spelling rest) h ∙ p.puts (right ∷ rest) ∙ wrote a b (codes "(not ") (spelling (fact n (right ∷ rest))) e }
+
+pub domain_is : (a b c d e : List ℕ) (facts : List (List ℕ)) (ops : List Op) → a ≡ codes "(define (domain kplan)\n(:requirements :strips :negative-preconditions :conditional-effects)\n(:predicates\n" → Puts a b (each fact_line facts) → c ≡ b ++ codes ")\n" → Puts c d (each op ops) → e ≡ d ++ codes ")\n" → e ≡ domain_text facts ops
+unfolding domain_pieces
+domain_is a b c d e facts ops h1 h2 h3 h4 h5 =
+    let end : List Piece = right ∷ line_feed [] in
+    let after : List Piece = right ∷ line_feed (each op ops end) in
+    sym (append-nil e) ∙ wrote d e (codes ")\n") [] h5 ∙ h4.puts end ∙ wrote b c (codes ")\n") (spelling (each op ops end)) h3 ∙ h2.puts after
+    ∙ ap (λ (l : List ℕ). l ++ spelling (each fact_line facts after)) h1
+
+pub problem_is : (a b c d e : List ℕ) (init goal : List (List ℕ)) → a ≡ codes "(define (problem kplan)\n(:domain kplan)\n(:init\n" → Puts a b (each fact_line init) → c ≡ b ++ codes ")\n(:goal (and\n" → Puts c d (each fact_line goal) → e ≡ d ++ codes "))\n)\n" → e ≡ problem_text init goal
+unfolding problem_pieces
+problem_is a b c d e init goal h1 h2 h3 h4 h5 =
+    let end : List Piece = right ∷ right ∷ line_feed (right ∷ line_feed []) in
+    let goals : List Piece = each fact_line goal end in
+    let after : List Piece = right ∷ line_feed ((opens ⨾ key (codes ":goal") ⨾ space ⨾ opens ⨾ name (codes "and") ⨾ line_feed) goals) in
+    sym (append-nil e) ∙ wrote d e (codes "))\n)\n") [] h5 ∙ h4.puts end ∙ wrote b c (codes ")\n(:goal (and\n") (spelling goals) h3 ∙ h2.puts after
+    ∙ ap (λ (l : List ℕ). l ++ spelling (each fact_line init after)) h1

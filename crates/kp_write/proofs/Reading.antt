@@ -13,24 +13,14 @@ use Rattle.kp_grammar.specs.Forms.{hits, Form, nothing, many, make, maybe, ◌�
 use Rattle.kp_grammar.specs.Grammar.{atom_body, fact_body, test_case, cond_case, cond, goal_case, goal as goal_form, eff_case, eff, item_case, item, pred, section, domain, problem}
 use Rattle.kp_grammar.specs.Reading.{Reads, ReadsWhole, r_token, r_none, r_both, r_after, r_end, r_more, r_last, r_next, r_absent, r_present, r_make, r_choice, r_loose, r_bracket, r_within}
 use Rattle.kp_grammar.specs.Words.{IsHead}
-use Rattle.kp_texts.specs.Pieces.{Piece, right, Put, each}
-use Rattle.kp_texts.specs.Task.{Signed, Op}
-use Rattle.kp_texts.specs.Written.{line_feed, name, fact, fact_line, signed_case, signed, spaced, conjunction, guarded, effect_line, precondition, op, domain_pieces, problem_pieces}
-use Rattle.kp_write.specs.Tokens.{words}
+use Rattle.kp_pieces.specs.Pieces.{Piece, right, Put, each, line_feed, name, spaced}
+use Rattle.kp_write.specs.Task.{Signed, Op}
+use Rattle.kp_write.specs.Written.{fact, fact_line, signed_case, signed, conjunction, guarded, effect_line, precondition, op, domain_pieces, problem_pieces}
+use Rattle.kp_pieces.specs.Tokens.{words}
 use Rattle.kp_write.specs.Names.{IsSigned, IsEffect, IsOp, AreHeads, AreOps}
 use Rattle.kp_write.specs.Trees.{atom_of, fact_holds, signed_holds, all_facts, made_where, effect_of, schema_of, predicate_of, item_of, written_domain, written_problem}
-use Rattle.kp_write.proofs.Applied.{◌$◌}
-
--- f puts pieces whose words read as x
-abbrev Gives : {b : Bool} {c : Sort} → Form b c → Put → El (List ℕ) c → Type 0
-Gives X f x = (rest : List Piece) → Reads X (words (f rest)) x (words rest)
-
--- Lists of pieces that read as the parts of a repetition read as the list of the parts.
-many_reads : {a : Sort} {T : Type 0} (p : Symbol → Bool) (X : Form true a) (f : T → Put) (tree : T → El (List ℕ) a) (P : T → Type 0)
-    → ((x : T) → P x → Gives X (f x) (tree x)) → ((x : T) (rest : List Piece) → first_is p (words (f x rest)) ≡ true)
-    → (xs : List T) (rest : List Piece) → AllByRecursion P xs → first_is p (words rest) ≡ false → Reads (many p X) (words (each f xs rest)) (map tree xs) (words rest)
-many_reads p X f tree P reads begun [] rest every ends = r_end ends
-many_reads p X f tree P reads begun (x ∷ xs) rest every ends = r_more (begun x (each f xs rest)) (reads x every.0 (each f xs rest)) (many_reads p X f tree P reads begun xs rest every.1 ends)
+use Rattle.kp_pieces.proofs.Applied.{◌$◌}
+use Rattle.kp_pieces.proofs.Reading.{Gives, many_reads}
 
 -- the form that a test picks, where it passes
 picked : {b : Bool} {c : Sort} (v : Bool) (X Y : Form b c) {ts rest : List (Tok (List ℕ))} {x : El (List ℕ) c} → v ≡ true → Reads X ts x rest → Reads (if_then v X Y) ts x rest

@@ -17,8 +17,8 @@ use Rattle.kp_meaning.proofs.Lists.{any_from, any_member, same-true, same-refl}
 use Rattle.kp_meaning.proofs.Places.{find_map}
 use Rattle.kp_meaning.proofs.PlacesOfFaults.{places_mean_nothing}
 use Rattle.kp_meaning.proofs.Texts.{solves_theirs}
-use Rattle.kp_texts.specs.Task.{Signed, Effect, Op}
-use Rattle.kp_texts.specs.Written.{domain_text, problem_text}
+use Rattle.kp_write.specs.Task.{Signed, Effect, Op}
+use Rattle.kp_write.specs.Written.{domain_text, problem_text}
 use Rattle.kp_write.specs.Trees.{fact_holds, signed_holds, made_where, effect_of, schema_of, item_of, written_domain, written_problem}
 use Rattle.kp_write.specs.Runs.{Facts, is_so, results, is_made, after_op, runs, step_of, IsRun, PlansAreRuns}
 use Rattle.kp_write.proofs.Lists.{one_of_all, all_from}

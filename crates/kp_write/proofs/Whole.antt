@@ -5,14 +5,14 @@ use Rattle.kp_grammar.specs.Sorts.{Sort, El}
 use Rattle.kp_grammar.specs.Forms.{Form}
 use Rattle.kp_grammar.specs.Grammar as grammar
 use Rattle.kp_grammar.specs.Reading.{ReadsWhole}
-use Rattle.kp_texts.specs.Pieces.{Piece, spelling}
-use Rattle.kp_texts.specs.Written.{domain_pieces, problem_pieces}
-use Rattle.kp_write.specs.Tokens.{spans, words, Fine}
-use Rattle.kp_write.specs.Maps.{ReadsWithPlaces}
+use Rattle.kp_pieces.specs.Pieces.{Piece, spelling}
+use Rattle.kp_write.specs.Written.{domain_pieces, problem_pieces}
+use Rattle.kp_pieces.specs.Tokens.{spans, words, Fine}
+use Rattle.kp_pieces.specs.Maps.{ReadsWithPlaces}
 use Rattle.kp_write.specs.Texts.{DomainReadsAsMeant, ProblemReadsAsMeant}
 use Rattle.kp_write.specs.Trees.{written_domain, written_problem}
-use Rattle.kp_write.proofs.Cuts.{pieces_are_cut}
-use Rattle.kp_write.proofs.Natural.{places_dont_matter}
+use Rattle.kp_pieces.proofs.Cuts.{pieces_are_cut}
+use Rattle.kp_pieces.proofs.Natural.{places_dont_matter}
 use Rattle.kp_write.proofs.Fine.{fine_domain, fine_problem}
 use Rattle.kp_write.proofs.Reading.{domain_reads, problem_reads}
 

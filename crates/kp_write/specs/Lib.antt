@@ -1,5 +1,5 @@
-pub mod Tokens
-pub mod Maps
+pub mod Task
+pub mod Written
 pub mod Names
 pub mod Trees
 pub mod Texts
@@ -7,4 +7,5 @@ pub mod Problems
 pub mod Runs
 pub mod Named
 pub mod Tasks
+pub mod Facts
 pub mod Grounds

@@ -6,9 +6,9 @@ use Rattle.kp_grammar.specs.Words.{IsName}
 use Rattle.kp_meaning.specs.Names.{same}
 use Rattle.kp_meaning.specs.Places.{domain_map, problem_map}
 use Rattle.kp_meaning.specs.Plans.{HasProblem}
-use Rattle.kp_texts.specs.Task.{Effect, Op}
-use Rattle.kp_texts.specs.Written.{domain_text, problem_text}
-use Rattle.kp_write.specs.Tokens.{text_of}
+use Rattle.kp_write.specs.Task.{Effect, Op}
+use Rattle.kp_write.specs.Written.{domain_text, problem_text}
+use Rattle.kp_pieces.specs.Tokens.{text_of}
 use Rattle.kp_write.specs.Names.{AreHeads}
 use Rattle.kp_write.specs.Trees.{written_domain, written_problem}
 

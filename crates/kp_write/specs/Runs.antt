@@ -6,8 +6,8 @@ use Rattle.kp_base.specs.Lists.{only_if, signed, Member}
 use Rattle.kp_meaning.specs.Names.{same, is_among}
 use Rattle.kp_meaning.specs.Steps.{Step}
 use Rattle.kp_meaning.specs.Plans.{IsPlan}
-use Rattle.kp_texts.specs.Task.{Signed, Op}
-use Rattle.kp_texts.specs.Written.{domain_text, problem_text}
+use Rattle.kp_write.specs.Task.{Signed, Op}
+use Rattle.kp_write.specs.Written.{domain_text, problem_text}
 use Rattle.kp_write.specs.Problems.{IsTask}
 
 -- which facts hold

@@ -5,9 +5,9 @@ use Rattle.kp_grammar.specs.Trees.{Domain, Problem}
 use Rattle.kp_grammar.specs.Grammar as grammar
 use Rattle.kp_grammar.specs.Texts.{ReadsAs}
 use Rattle.kp_meaning.specs.Places.{domain_map, problem_map}
-use Rattle.kp_texts.specs.Task.{Op}
-use Rattle.kp_texts.specs.Written.{domain_text, problem_text}
-use Rattle.kp_write.specs.Tokens.{text_of}
+use Rattle.kp_write.specs.Task.{Op}
+use Rattle.kp_write.specs.Written.{domain_text, problem_text}
+use Rattle.kp_pieces.specs.Tokens.{text_of}
 use Rattle.kp_write.specs.Names.{AreHeads, AreOps}
 use Rattle.kp_write.specs.Trees.{written_domain, written_problem}
 

@@ -1,4 +1,4 @@
-//! The two texts of a task, and what they read as. `specs/Written.antt` of `kp_texts` says what is written, and
+//! The two texts of a task, and what they read as. `specs/Written.antt` says what is written, and
 //! `specs/Texts.antt` what it reads as.
 #![tactic(auto)]
 
@@ -7,8 +7,7 @@ mod putting;
 mod writing;
 
 pub use laws::{
-    facts_tell_apart, ground_problems_are_written, ground_tasks_are_tasks, pieces_are_cut,
-    places_dont_matter, plans_are_runs, task_plans_are_runs, tasks_read, written_domains_read,
+    facts_tell_apart, plans_are_runs, task_plans_are_runs, tasks_read, written_domains_read,
     written_problems_read, written_texts_have_a_problem,
 };
 pub use writing::{domain_text, problem_text};

@@ -1,6 +1,6 @@
 ghost use Rattle.std.specs.Prelude.{◌≡◌, ◌++◌, ◌&&◌, ◌==◌, false, length, map, OnOk};
-ghost use Rattle.kp_texts.specs.Pieces.{each};
-ghost use Rattle.kp_texts.specs.Written.{Puts, fact, fact_line, signed, spaced, guarded, when_put, effect_line, precondition, op};
+ghost use Rattle.kp_pieces.specs.Pieces.{each, Puts, spaced};
+ghost use Rattle.kp_write.specs.Written.{fact, fact_line, signed, guarded, when_put, effect_line, precondition, op};
 ghost use Rattle.kp_write.specs.Named.{fact_name, signed_fact, named_conds, named_effect, named_op};
 
 use kp_base::{Memory, Text};

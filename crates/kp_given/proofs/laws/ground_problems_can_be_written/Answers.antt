@@ -1,5 +1,5 @@
-use Rattle.kp_given.proofs.Written.{grounds_written, starts_written}
+use Rattle.kp_given.proofs.Written.{grounds_written}
 use Rattle.kp_given.proofs.laws.ground_problems_can_be_written.Goals as goal
 
 pub returns : goal.returns
-returns c = record { any_start = grounds_written; its_start = starts_written }
+returns c = grounds_written

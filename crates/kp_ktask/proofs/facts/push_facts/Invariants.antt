@@ -1,6 +1,6 @@
 use Rattle.std.proofs.Common.{◌≡◌, ◌++◌, drop}
 use Rattle.std.specs.List.{flat_map}
-use Rattle.kp_texts.specs.Task.{facts_of_atom}
+use Rattle.kp_write.specs.Facts.{facts_of_atom}
 use Rattle.kp_ktask.proofs.facts.push_facts.Given as goal
 
 -- with the atoms that are left come all

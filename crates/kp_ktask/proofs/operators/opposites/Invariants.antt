@@ -1,7 +1,7 @@
 use Rattle.std.proofs.Common.{◌≡◌, drop, fold, map}
 use Rattle.kp_base.specs.Lit.{negated}
 use Rattle.kp_base.specs.LitSet.{with_lit}
-use Rattle.kp_texts.specs.Task.{opposites}
+use Rattle.kp_write.specs.Facts.{opposites}
 use Rattle.kp_ktask.proofs.operators.opposites.Given as goal
 
 -- with the literals that are left come all

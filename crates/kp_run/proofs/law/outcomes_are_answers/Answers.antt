@@ -1,4 +1,4 @@
-use Rattle.kp_run.proofs.OneOutcome.{outcomes_are_answers}
+use Rattle.kp_run.proofs.Answered.{outcomes_are_answers}
 use Rattle.kp_run.proofs.law.outcomes_are_answers.Goals as goal
 
 pub returns : goal.returns

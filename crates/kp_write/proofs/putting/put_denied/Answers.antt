@@ -1,4 +1,4 @@
-use Rattle.kp_texts.proofs.Putting.{denied_puts}
+use Rattle.kp_write.proofs.Pieces.{denied_puts}
 use Rattle.kp_write.proofs.putting.put_denied.Goals as goal
 
 pub returns : goal.returns

@@ -1,4 +1,4 @@
-use Rattle.kp_texts.proofs.Putting.{fact_puts}
+use Rattle.kp_write.proofs.Pieces.{fact_puts}
 use Rattle.kp_write.proofs.putting.put_fact.Goals as goal
 
 pub returns : goal.returns

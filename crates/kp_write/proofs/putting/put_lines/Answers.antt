@@ -1,5 +1,6 @@
-use Rattle.kp_texts.specs.Written.{fact, fact_line}
-use Rattle.kp_texts.proofs.Putting.{next_of, one_more, line_puts}
+use Rattle.kp_write.specs.Written.{fact, fact_line}
+use Rattle.kp_pieces.proofs.Putting.{next_of, one_more}
+use Rattle.kp_write.proofs.Pieces.{line_puts}
 use Rattle.kp_write.specs.Named.{fact_name}
 use Rattle.kp_write.proofs.putting.put_lines.Goals as goal
 

@@ -1,6 +1,6 @@
 use Rattle.std.proofs.Common.{drop}
-use Rattle.kp_texts.specs.Written.{fact_line}
-use Rattle.kp_texts.proofs.Putting.{Leaves}
+use Rattle.kp_write.specs.Written.{fact_line}
+use Rattle.kp_pieces.proofs.Putting.{Leaves}
 use Rattle.kp_write.proofs.putting.put_names.Given as goal
 
 abbrev pub invariant-loop-name : goal.invariant-loop-name

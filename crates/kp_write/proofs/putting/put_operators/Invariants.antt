@@ -1,6 +1,6 @@
 use Rattle.std.proofs.Common.{drop, map}
-use Rattle.kp_texts.specs.Written.{op}
-use Rattle.kp_texts.proofs.Putting.{Leaves}
+use Rattle.kp_write.specs.Written.{op}
+use Rattle.kp_pieces.proofs.Putting.{Leaves}
 use Rattle.kp_write.specs.Named.{named_op}
 use Rattle.kp_write.proofs.putting.put_operators.Given as goal
 

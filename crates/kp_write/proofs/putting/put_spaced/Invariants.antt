@@ -1,6 +1,7 @@
 use Rattle.std.proofs.Common.{drop, map}
-use Rattle.kp_texts.specs.Written.{spaced, signed}
-use Rattle.kp_texts.proofs.Putting.{Leaves}
+use Rattle.kp_pieces.specs.Pieces.{spaced}
+use Rattle.kp_write.specs.Written.{signed}
+use Rattle.kp_pieces.proofs.Putting.{Leaves}
 use Rattle.kp_write.specs.Named.{signed_fact}
 use Rattle.kp_write.proofs.putting.put_spaced.Given as goal
 

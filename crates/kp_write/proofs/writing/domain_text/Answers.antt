@@ -1,5 +1,5 @@
 use Rattle.std.proofs.Common.{◌∙◌}
-use Rattle.kp_texts.proofs.Putting.{domain_is}
+use Rattle.kp_write.proofs.Pieces.{domain_is}
 use Rattle.kp_write.specs.Named.{named_ops}
 use Rattle.kp_write.proofs.writing.domain_text.Goals as goal
 

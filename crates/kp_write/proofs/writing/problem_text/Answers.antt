@@ -1,5 +1,5 @@
 use Rattle.std.proofs.Common.{◌∙◌}
-use Rattle.kp_texts.proofs.Putting.{problem_is}
+use Rattle.kp_write.proofs.Pieces.{problem_is}
 use Rattle.kp_write.specs.Named.{named_start, named_goal}
 use Rattle.kp_write.proofs.writing.problem_text.Goals as goal
 

@@ -1,8 +1,0 @@
-use Rattle.std.proofs.Common.{◌≡◌, drop, fold, map}
-use Rattle.kp_base.specs.Lit.{negated}
-use Rattle.kp_base.specs.LitSet.{with_lit}
-use Rattle.kp_texts.specs.Task.{opposites}
-use Rattle.kp_texts.proofs.writing.opposite.Given as goal
-
-abbrev pub invariant-loop-lit : goal.invariant-loop-lit
-invariant-loop-lit l = fold (λ set m. with_lit m set) l.set (map negated (drop l.lit-index l.lits)) ≡ opposites l.lits

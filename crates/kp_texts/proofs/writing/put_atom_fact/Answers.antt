@@ -1,5 +1,0 @@
-use Rattle.kp_texts.proofs.Putting.{fact_line_puts}
-use Rattle.kp_texts.proofs.writing.put_atom_fact.Goals as goal
-
-pub returns : goal.returns
-returns c = fact_line_puts _ _ _ _ _ c.in_ok-put.ensures c.in_ok-put_atom_word.ensures c.in_ok-put-2.ensures

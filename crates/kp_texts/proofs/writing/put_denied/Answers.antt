@@ -1,5 +1,0 @@
-use Rattle.kp_texts.proofs.Putting.{denied_puts}
-use Rattle.kp_texts.proofs.writing.put_denied.Goals as goal
-
-pub returns : goal.returns
-returns c = denied_puts _ _ _ _ _ c.in_ok-put.ensures c.in_ok-put_fact.ensures c.in_ok-put-2.ensures

@@ -1,0 +1,300 @@
+-- What follows from how a run ends.
+use Rattle.std.proofs.Common.{◌≡◌, ◌≢◌, ◌⊎◌, ◌++◌, ℕ, List, [], ◌∷◌, Option, Some, None, Vec, map, take, inl, inr, refl, sym, ap, ◌∙◌, subst}
+use Rattle.std.specs.FinMap.{get}
+use Rattle.std.specs.declared.alloc.Global.{Global}
+use Rattle.kp_base.specs.declared.refused.Refused.TheVariants as refusals
+use Rattle.kp_base.specs.Lists.{Member}
+use Rattle.kp_grammar.specs.declared.tree.Word.{Word}
+use Rattle.kp_grammar.specs.Trees.{Domain, Problem}
+use Rattle.kp_plans.specs.Printed.{plan_text}
+use Rattle.kp_outside.specs.Outside.{FileMap, Rises, with_bytes}
+use Rattle.kp_outcome.specs.declared.outcome.FilePut.{FilePut}
+use Rattle.kp_outcome.specs.declared.outcome.Outcome.{Outcome}
+use Rattle.kp_outcome.specs.declared.status.Status.{Status}
+use Rattle.kp_outcome.specs.declared.status.Status.TheVariants as status
+use Rattle.kp_outcome.specs.Ends.{Outside, IsAnswer, AreHeld, with_files, StopsAt, CarriesOut, whole, put_failed, put_no_memory, print_failed, print_no_memory, GetFails}
+use Rattle.kp_run.specs.Names.{Translate, Strip}
+use Rattle.kp_run.specs.declared.command.Command.{Command}
+use Rattle.kp_run.specs.declared.command.Command.TheVariants as commands
+use Rattle.kp_run.specs.Command.{IsTranslate, IsCommand, inputs_of, outputs_of}
+use Rattle.kp_run.specs.Texts.{HaveTrees}
+use Rattle.kp_base.specs.declared.refused.Refused.{Refused}
+use Rattle.kp_printed.specs.Refusals.{Named, nothing}
+use Rattle.kp_translation.specs.declared.translation.Translation.{Translation}
+use Rattle.kp_translation.specs.Translations.{translation_with}
+use Rattle.kp_given.specs.Translations.{ground_of}
+use Rattle.kp_given.specs.Tables.{translation_of, empty_tag}
+use Rattle.kp_run.specs.Outcomes.{refuses, named_in, translates, TranslatesTrees, TranslatesGround, over, done, too_large, implicates_over, no_initial_state, clash, no_clash, TranslatesTexts, refused, on_trees, StripsText, too_long, no_plan, no_strip, strips, prints, ComesTo, translated, stripped, IsDue, usage, of_command}
+use Rattle.kp_run.specs.Ends.{Ends, came, read_failed, no_memory}
+use Rattle.kp_total.specs.Follows.{IsWhole, AnswersAreWhole, CameToNothing, TheDueIsCarriedOut, NothingRises, IsAnsweredBy, TheDueIsTheAnswer, EndsWith, TranslationsAreAnswered, ClashesAreAnswered, StripsAreAnswered, OnlyDonePuts, DonePutsTheOutputs, OthersPutNothing, NoCommandPutsNothing, PutsSome, none_put, some_put, all_put, PutsAreOfTheDue, TellsSome, none_told, some_told, TextsAreOfTheDue, ReadFaultsTellNothing, ReadFaultsAreTrue, WriteFaultsAreTrue, FailedGetsAreTold, FailedWritesAreTold, MissingInputsAreFaults, InputsAreReadInOrder}
+use Rattle.kp_run.proofs.Counted.{empty_tags_fit}
+use Rattle.kp_run.proofs.OneCommand.{one_command}
+use Rattle.kp_run.proofs.Answered.{outcomes_are_answers}
+use Rattle.kp_total.proofs.OneOutcome.{one_outcome}
+
+-- ---- an answer and its outcome
+
+pub answers_are_whole : AnswersAreWhole
+answers_are_whole words old new s (came o due (whole is none held told)) answer = record { outcome = o; due = due; answered = record { status_is = is; puts_are = held; text_is = told } }
+answers_are_whole words old new s (came o due (put_failed f is a b g h i)) answer = absurd (subst IsAnswer is answer)
+answers_are_whole words old new s (came o due (put_no_memory f is a b g)) answer = absurd (subst IsAnswer is answer)
+answers_are_whole words old new s (came o due (print_failed is a b g h i has_text)) answer = absurd (subst IsAnswer is answer)
+answers_are_whole words old new s (came o due (print_no_memory is a b g has_text)) answer = absurd (subst IsAnswer is answer)
+answers_are_whole words old new s (read_failed c is_command is a b g h) answer = absurd (subst IsAnswer is answer)
+answers_are_whole words old new s (no_memory is a b) answer = absurd (subst IsAnswer is answer)
+
+pub the_due_is_carried_out : TheDueIsCarriedOut
+the_due_is_carried_out words old new s (came o due carried) m u held also =
+    inl (subst (λ x. CarriesOut x old new s) (one_outcome words m o u (subst (λ h. IsDue words h o) held due) (subst (λ h. IsDue words h u) held also)) carried)
+the_due_is_carried_out words old new s (read_failed c is_command is a b g same) m u held also = inr (record { untouched = same; stopped = inl is })
+the_due_is_carried_out words old new s (no_memory is a same) m u held also = inr (record { untouched = same; stopped = inr is })
+
+pub the_due_is_the_answer : TheDueIsTheAnswer
+the_due_is_the_answer words old new s ends m o held due none = by ends
+  where
+    same : (u : Outcome) → IsDue words old.held u → u ≡ o
+    same u also = one_outcome words m u o (subst (λ h. IsDue words h u) held also) (subst (λ h. IsDue words h o) held due)
+
+    by : Ends words old new s → IsAnsweredBy o old new s ⊎ (s ≡ status.Memory)
+    by (came u also (whole is calm puts told)) = let e = same u also in inl (record {
+      status_is = is ∙ ap (λ (z : Outcome). z.status) e;
+      puts_are = puts ∙ ap (λ (z : Outcome). with_files old.held z.puts) e;
+      text_is = told ∙ ap (λ (z : Outcome). with_bytes old.told z.text) e;
+    })
+    by (came u also (put_failed f is at rises gets writes told)) = absurd (none.puts f.name rises)
+    by (came u also (put_no_memory f is at calm told)) = inr is
+    by (came u also (print_failed is puts front rises gets more has_text)) = absurd (none.writes rises)
+    by (came u also (print_no_memory is puts front calm has_text)) = inr is
+    by (read_failed c is_command is h puts writes untouched) = absurd (none.gets h.name h.rises)
+    by (no_memory is calm untouched) = inr is
+
+-- a run ends with the outcome that is due
+ends_with : (words : List (Vec ℕ Global)) (old new : Outside) (s : Status) → Ends words old new s → (m : FileMap) (o : Outcome) → old.held ≡ Some m → IsDue words (Some m) o → EndsWith o old new s
+ends_with words old new s ends m o held due =
+    let here = subst (λ h. IsDue words h o) (sym held) due in
+    record { carried_out = the_due_is_carried_out words old new s ends m o held here; answered = the_due_is_the_answer words old new s ends m o held here }
+
+-- what two held files come to
+two_due : (words : List (Vec ℕ Global)) (m : FileMap) (c : Translate) (domain problem : List ℕ) (d : Domain Word) (p : Problem Word) (o : Outcome)
+    → IsTranslate words c → get m c.domain ≡ Some domain → get m c.problem ≡ Some problem → HaveTrees domain problem d p → TranslatesTrees c d p o → IsDue words (Some m) o
+two_due words m c domain problem d p o is first second trees comes = of_command (commands.Translate c) (domain ∷ problem ∷ []) o is (cc (first, second)) (translated c domain problem o (on_trees d p trees comes))
+
+pub translations_are_answered : TranslationsAreAnswered
+translations_are_answered words old new s ends m c domain problem d p held is first second trees started free =
+    ends_with words old new s ends m _ held (two_due words m c domain problem d p (translates c (translation_of d p (empty_tag d p))) is first second trees (no_clash started free (done (empty_tags_fit d p started.small) refl)))
+
+pub clashes_are_answered : ClashesAreAnswered
+clashes_are_answered words old new s ends m c domain problem d p at held is first second trees started clashes =
+    ends_with words old new s ends m _ held (two_due words m c domain problem d p (refuses (named_in (ground_of d p)) (refusals.Clash at)) is first second trees (clash at started clashes refl))
+
+pub strips_are_answered : StripsAreAnswered
+strips_are_answered words old new s ends m c text steps actions held is first short plan stripped_to =
+    ends_with words old new s ends m _ held (of_command (commands.Strip c) (text ∷ []) (prints (plan_text actions)) is (cc first) (stripped c text (prints (plan_text actions)) (strips steps actions short plan stripped_to refl)))
+
+-- what a translation puts is under its output names
+record PutsUnder (c : Command) (o : Outcome) : Type 0 where
+  done : o.status ≡ status.Done → map (λ (f : FilePut). f.name) o.puts ≡ outputs_of c
+  nothing : o.status ≢ status.Done → o.puts ≡ []
+  names : (file : FilePut) → Member o.puts file → Member (outputs_of c) file.name
+
+under_none : (c : Command) (o : Outcome) → o.puts ≡ [] → (o.status ≡ status.Done → outputs_of c ≡ []) → PutsUnder c o
+under_none c o e d = record { done = λ n. ap (map (λ (f : FilePut). f.name)) e ∙ sym (d n); nothing = λ n. e; names = λ file m. absurd (subst (λ (fs : List FilePut). Member fs file) e m) }
+
+refusal_under : (c : Command) (o : Outcome) (n : Named) (r : Refused) → o ≡ refuses n r → PutsUnder c o
+refusal_under c o n r is = under_none c o (ap (λ (z : Outcome). z.puts) is) (λ e. absurd (let f : status.Refused r ≡ status.Done = sym (ap (λ (z : Outcome). z.status) is) ∙ e in cc))
+
+translation_under : (c : Translate) (t : Translation) (o : Outcome) → o ≡ translates c t → PutsUnder (commands.Translate c) o
+translation_under c t o is = record {
+  done = λ n. ap (λ (z : Outcome). map (λ (f : FilePut). f.name) z.puts) is;
+  nothing = λ n. absurd (n (ap (λ (z : Outcome). z.status) is));
+  names = λ file m. by file (subst (λ (z : Outcome). Member z.puts file) is m);
+}
+  where
+    by : (file : FilePut) → Member (translates c t).puts file → Member (outputs_of (commands.Translate c)) file.name
+    by file (inl e) = inl (ap (λ (f : FilePut). f.name) e)
+    by file (inr (inl e)) = inr (inl (ap (λ (f : FilePut). f.name) e))
+    by file (inr (inr e)) = absurd e
+
+texts_under : (c : Translate) (x y : List ℕ) (o : Outcome) → TranslatesTexts c x y o → PutsUnder (commands.Translate c) o
+texts_under c x y o (refused r a e) = refusal_under (commands.Translate c) o nothing r e
+texts_under c x y o (on_trees d p h (too_large r a e)) = refusal_under (commands.Translate c) o nothing r e
+texts_under c x y o (on_trees d p h (implicates_over k a b e)) = refusal_under (commands.Translate c) o nothing _ e
+texts_under c x y o (on_trees d p h (no_initial_state a b f e)) = refusal_under (commands.Translate c) o nothing _ e
+texts_under c x y o (on_trees d p h (clash z a b e)) = refusal_under (commands.Translate c) o (named_in (ground_of d p)) _ e
+texts_under c x y o (on_trees d p h (no_clash a b (over r t e))) = refusal_under (commands.Translate c) o nothing r e
+texts_under c x y o (on_trees d p h (no_clash a b (done f e))) = translation_under c (translation_with (ground_of d p) (empty_tag d p)) o e
+
+strip_under : (c : Strip) (x : List ℕ) (o : Outcome) → StripsText x o → PutsUnder (commands.Strip c) o
+strip_under c x o (too_long a e) = refusal_under (commands.Strip c) o nothing _ e
+strip_under c x o (no_plan r a h e) = refusal_under (commands.Strip c) o nothing r e
+strip_under c x o (no_strip ss s a h n e) = refusal_under (commands.Strip c) o nothing _ e
+strip_under c x o (strips ss as' a h n e) = under_none (commands.Strip c) o (ap (λ (z : Outcome). z.puts) e) (λ d. refl)
+
+comes_under : (c : Command) (texts : List (List ℕ)) (o : Outcome) → ComesTo c texts o → PutsUnder c o
+comes_under _ _ o (translated c x y _ a) = texts_under c x y o a
+comes_under _ _ o (stripped c x _ a) = strip_under c x o a
+
+pub done_puts_the_outputs : DonePutsTheOutputs
+done_puts_the_outputs c texts o comes = (comes_under c texts o comes).done
+
+pub only_done_puts : OnlyDonePuts
+only_done_puts words held _ (usage a) other = refl
+only_done_puts words held o (of_command c texts _ is at comes) other = (comes_under c texts o comes).nothing other
+
+-- ---- what is held
+
+pub others_put_nothing : OthersPutNothing
+others_put_nothing words old new s (came o due (whole is none held told)) a b d = held ∙ ap (with_files old.held) (only_done_puts words old.held o due (λ e. a (is ∙ e)))
+others_put_nothing words old new s (came o due (put_failed f is h i j k l)) a b d = absurd (b is)
+others_put_nothing words old new s (came o due (put_no_memory f is h i j)) a b d = absurd (d is)
+others_put_nothing words old new s (came o due (print_failed is h i j k l has_text)) a b d = absurd (b is)
+others_put_nothing words old new s (came o due (print_no_memory is h i j has_text)) a b d = absurd (d is)
+others_put_nothing words old new s (read_failed c is_command is h i j same) a b d = same.held
+others_put_nothing words old new s (no_memory is h same) a b d = same.held
+
+-- what puts nothing stops at no file
+stops_nowhere : (old new : Option FileMap) (file : FilePut) (puts : List FilePut) → puts ≡ [] → StopsAt puts old new file → ⊥
+stops_nowhere old new file puts none at = by at.front (sym none ∙ at.in_order)
+  where
+    by : (front : List FilePut) → [] ≡ front ++ (file ∷ at.rest) → ⊥
+    by [] e = absurd cc
+    by (f ∷ fs) e = absurd cc
+
+pub no_command_puts_nothing : NoCommandPutsNothing
+no_command_puts_nothing words old new s (came o due carried) none = by o due carried
+  where
+    nothing : (o : Outcome) → IsDue words old.held o → o.puts ≡ []
+    nothing _ (usage a) = refl
+    nothing o (of_command c texts _ is at comes) = absurd (none c is)
+
+    by : (o : Outcome) → IsDue words old.held o → CarriesOut o old new s → new.held ≡ old.held
+    by o due (whole is a held told) = held ∙ ap (with_files old.held) (nothing o due)
+    by o due (put_failed f is at i j k l) = absurd (stops_nowhere old.held new.held f o.puts (nothing o due) at)
+    by o due (put_no_memory f is at i j) = absurd (stops_nowhere old.held new.held f o.puts (nothing o due) at)
+    by o due (print_failed is held i j k l has_text) = held ∙ ap (with_files old.held) (nothing o due)
+    by o due (print_no_memory is held i j has_text) = held ∙ ap (with_files old.held) (nothing o due)
+no_command_puts_nothing words old new s (read_failed c is_command is h i j same) none = same.held
+no_command_puts_nothing words old new s (no_memory is h same) none = same.held
+
+-- an answer and want of memory are no WriteFault
+answer_no_fault : (t s : Status) → IsAnswer t → s ≡ t → s ≡ status.WriteFault → ⊥
+answer_no_fault t s answer is e = subst IsAnswer (sym is ∙ e) answer
+
+memory_no_fault : (s : Status) → s ≡ status.Memory → s ≡ status.WriteFault → ⊥
+memory_no_fault s is e = absurd cc
+
+pub puts_are_of_the_due : PutsAreOfTheDue
+puts_are_of_the_due words old new s (came o due (whole is a held told)) = all_put o due held (λ e. absurd (answer_no_fault o.status s (outcomes_are_answers words old.held o due) is e))
+puts_are_of_the_due words old new s (came o due (put_failed f is at rises j k l)) = some_put o f due at (λ e. rises)
+puts_are_of_the_due words old new s (came o due (put_no_memory f is at i j)) = some_put o f due at (λ e. absurd (memory_no_fault s is e))
+puts_are_of_the_due words old new s (came o due (print_failed is held i rises k l has_text)) = all_put o due held (λ e. rises)
+puts_are_of_the_due words old new s (came o due (print_no_memory is held i j has_text)) = all_put o due held (λ e. absurd (memory_no_fault s is e))
+puts_are_of_the_due words old new s (read_failed c is_command is h i j same) = none_put same.held
+puts_are_of_the_due words old new s (no_memory is h same) = none_put same.held
+
+-- ---- what was told
+
+pub texts_are_of_the_due : TextsAreOfTheDue
+texts_are_of_the_due words old new s (came o due (whole is a held told)) fault = absurd (fault (subst IsAnswer (sym is) (outcomes_are_answers words old.held o due)))
+texts_are_of_the_due words old new s (came o due (put_failed f is at i j k told)) fault = none_told told
+texts_are_of_the_due words old new s (came o due (put_no_memory f is at i told)) fault = none_told told
+texts_are_of_the_due words old new s (came o due (print_failed is held front rises k l has_text)) fault = some_told o due front (λ e. rises)
+texts_are_of_the_due words old new s (came o due (print_no_memory is held front j has_text)) fault = some_told o due front (λ e. absurd (memory_no_fault s is e))
+texts_are_of_the_due words old new s (read_failed c is_command is h i j same) fault = none_told same.told
+texts_are_of_the_due words old new s (no_memory is h same) fault = none_told same.told
+
+pub read_faults_tell_nothing : ReadFaultsTellNothing
+read_faults_tell_nothing words old new s (came o due (whole is a held told)) e = absurd (subst IsAnswer (sym is ∙ e) (outcomes_are_answers words old.held o due))
+read_faults_tell_nothing words old new s (came o due (put_failed f is at i j k told)) e = told
+read_faults_tell_nothing words old new s (came o due (put_no_memory f is at i told)) e = told
+read_faults_tell_nothing words old new s (came o due (print_failed is held front j k l has_text)) e = absurd cc
+read_faults_tell_nothing words old new s (came o due (print_no_memory is held front j has_text)) e = absurd cc
+read_faults_tell_nothing words old new s (read_failed c is_command is h i j same) e = same.told
+read_faults_tell_nothing words old new s (no_memory is h same) e = same.told
+
+-- ---- faults
+
+-- the item between two parts of a list is in it
+between : {X : Type 0} (front : List X) (x : X) (rest : List X) → Member (front ++ (x ∷ rest)) x
+between [] x rest = inl refl
+between (y ∷ ys) x rest = inr (between ys x rest)
+
+in_order : {X : Type 0} (xs front : List X) (x : X) (rest : List X) → xs ≡ front ++ (x ∷ rest) → Member xs x
+in_order xs front x rest e = subst (λ ys. Member ys x) (sym e) (between front x rest)
+
+pub read_faults_are_true : ReadFaultsAreTrue
+read_faults_are_true words old new s (came o due (whole is a held told)) e = absurd (subst IsAnswer (sym is ∙ e) (outcomes_are_answers words old.held o due))
+read_faults_are_true words old new s (came o due (put_failed f is at i j k told)) e = absurd cc
+read_faults_are_true words old new s (came o due (put_no_memory f is at i told)) e = absurd cc
+read_faults_are_true words old new s (came o due (print_failed is held front j k l has_text)) e = absurd cc
+read_faults_are_true words old new s (came o due (print_no_memory is held front j has_text)) e = absurd cc
+read_faults_are_true words old new s (read_failed c is_command is h i j same) e = (c, is_command, (h.name, in_order (inputs_of c) h.front h.name h.rest h.in_order, h.rises))
+read_faults_are_true words old new s (no_memory is h same) e = absurd cc
+
+-- a put of a due outcome is of an output of the command
+put_under : (words : List (Vec ℕ Global)) (old : Outside) (new : Option FileMap) (o : Outcome) (file : FilePut) → IsDue words old.held o → StopsAt o.puts old.held new file → (c : Command) × IsCommand words c × Member (outputs_of c) file.name
+put_under words old new _ file (usage a) at = absurd (stops_nowhere old.held new file [] refl at)
+put_under words old new o file (of_command c texts _ is held comes) at = (c, is, (comes_under c texts o comes).names file (in_order o.puts at.front file at.rest at.in_order))
+
+pub write_faults_are_true : WriteFaultsAreTrue
+write_faults_are_true words old new s (came o due (whole is a held told)) e = absurd (subst IsAnswer (sym is ∙ e) (outcomes_are_answers words old.held o due))
+write_faults_are_true words old new s (came o due (put_failed f is at rises j k told)) e = let p = put_under words old new.held o f due at in inl (p.0, p.1, (f.name, p.2, rises))
+write_faults_are_true words old new s (came o due (put_no_memory f is at i told)) e = absurd cc
+write_faults_are_true words old new s (came o due (print_failed is held front rises k l has_text)) e = inr rises
+write_faults_are_true words old new s (came o due (print_no_memory is held front j has_text)) e = absurd cc
+write_faults_are_true words old new s (read_failed c is_command is h i j same) e = absurd cc
+write_faults_are_true words old new s (no_memory is h same) e = absurd cc
+
+pub failed_gets_are_told : FailedGetsAreTold
+failed_gets_are_told words old new s (came o due (whole is none held told)) e = none.gets
+failed_gets_are_told words old new s (came o due (put_failed f is at rises gets k told)) e = gets
+failed_gets_are_told words old new s (came o due (put_no_memory f is at none told)) e = none.gets
+failed_gets_are_told words old new s (came o due (print_failed is held front rises gets l has_text)) e = gets
+failed_gets_are_told words old new s (came o due (print_no_memory is held front none has_text)) e = none.gets
+failed_gets_are_told words old new s (read_failed c is_command is h i j same) e = absurd (e is)
+failed_gets_are_told words old new s (no_memory is none same) e = none.gets
+
+pub failed_writes_are_told : FailedWritesAreTold
+failed_writes_are_told words old new s (came o due (whole is none held told)) e = (none.puts, none.writes)
+failed_writes_are_told words old new s (came o due (put_failed f is at rises gets k told)) e = absurd (e is)
+failed_writes_are_told words old new s (came o due (put_no_memory f is at none told)) e = (none.puts, none.writes)
+failed_writes_are_told words old new s (came o due (print_failed is held front rises gets l has_text)) e = absurd (e is)
+failed_writes_are_told words old new s (came o due (print_no_memory is held front none has_text)) e = (none.puts, none.writes)
+failed_writes_are_told words old new s (read_failed c is_command is h puts writes same) e = (puts, writes)
+failed_writes_are_told words old new s (no_memory is none same) e = (none.puts, none.writes)
+
+-- a name with a content isn't missing
+not_missing : (m : FileMap) (name : List ℕ) (names texts : List (List ℕ)) → map (get m) names ≡ map Some texts → Member names name → get m name ≡ None → ⊥
+not_missing m name [] texts held at missing = absurd at
+not_missing m name (n ∷ ns) [] held at missing = absurd cc
+not_missing m name (n ∷ ns) (t ∷ ts) held (inl is) missing = absurd (let here : get m n ≡ Some t = cc in cc (ap (get m) is, here, missing))
+not_missing m name (n ∷ ns) (t ∷ ts) held (inr at) missing = let rest : map (get m) ns ≡ map Some ts = cc in not_missing m name ns ts rest at missing
+
+-- so a run came to no outcome of the command
+none_due : (words : List (Vec ℕ Global)) (m : FileMap) (c : Command) (name : List ℕ) (o : Outcome) → IsCommand words c → Member (inputs_of c) name → get m name ≡ None → IsDue words (Some m) o → ⊥
+none_due words m c name _ is at missing (usage a) = a c is
+none_due words m c name o is at missing (of_command d texts _ so held comes) = not_missing m name (inputs_of d) texts held (subst (λ x. Member (inputs_of x) name) (one_command words c d is so) at) missing
+
+pub missing_inputs_are_faults : MissingInputsAreFaults
+missing_inputs_are_faults words old new s (came o due carried) m c name told is at missing = absurd (none_due words m c name o is at missing (subst (λ h. IsDue words h o) told due))
+missing_inputs_are_faults words old new s (read_failed d is_command is h i j same) m c name told so at missing = inl is
+missing_inputs_are_faults words old new s (no_memory is h same) m c name told so at missing = inr is
+
+-- of two ways to cut a list at an item, the one whose front is held ends no later
+cut_before : (m : FileMap) (front rest held_front texts rest_too : List (List ℕ)) (name q : List ℕ) → front ++ (name ∷ rest) ≡ held_front ++ (q ∷ rest_too) → map (get m) held_front ≡ map Some texts → get m name ≡ None → Member (front ++ (name ∷ [])) q
+cut_before m [] rest [] texts rest_too name q e held missing = inl (let first : name ≡ q = cc in first)
+cut_before m [] rest (x ∷ xs) [] rest_too name q e held missing = absurd cc
+cut_before m [] rest (x ∷ xs) (t ∷ ts) rest_too name q e held missing = absurd (let first : name ≡ x = cc in let here : get m x ≡ Some t = cc in cc (ap (get m) first, here, missing))
+cut_before m (f ∷ fs) rest [] texts rest_too name q e held missing = inl (let first : f ≡ q = cc in first)
+cut_before m (f ∷ fs) rest (x ∷ xs) [] rest_too name q e held missing = absurd cc
+cut_before m (f ∷ fs) rest (x ∷ xs) (t ∷ ts) rest_too name q e held missing =
+    let others : fs ++ (name ∷ rest) ≡ xs ++ (q ∷ rest_too) = cc in
+    let more : map (get m) xs ≡ map Some ts = cc in
+    inr (cut_before m fs rest xs ts rest_too name q others more missing)
+
+pub inputs_are_read_in_order : InputsAreReadInOrder
+inputs_are_read_in_order words old new s (came o due carried) m c front rest name told is cut missing e = absurd (none_due words m c name o is (in_order (inputs_of c) front name rest cut) missing (subst (λ h. IsDue words h o) told due))
+inputs_are_read_in_order words old new s (read_failed d so is h i j same) m c front rest name told is_command cut missing e =
+    let one = ap inputs_of (one_command words c d is_command so) in
+    (h.name, cut_before m front rest h.front h.texts h.rest name h.name (sym cut ∙ (one ∙ h.in_order)) (subst (λ o. AreHeld o h.front h.texts) told h.are_held) missing, h.rises)
+inputs_are_read_in_order words old new s (no_memory is h same) m c front rest name told so cut missing e = absurd cc

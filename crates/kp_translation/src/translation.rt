@@ -1,0 +1,54 @@
+ghost use Rattle.std.specs.Prelude.{◌≡◌, ◌<◌, length, IfOk};
+ghost use Rattle.kp_task.specs.Task.{task_of};
+ghost use Rattle.kp_translation.specs.Translations.{translation_with, AnswersTranslation};
+
+use crate::report::report_text;
+use kp_base::{Ground, Limits, Memory, Row, Stop, TagTable};
+use kp_classic::Task;
+use kp_ktask::translate;
+use kp_write::{domain_text, problem_text};
+use std::alloc::Global;
+
+/// The texts of a translation.
+#[derive(Debug, PartialEq, Eq, Drop)]
+pub struct Translation {
+    /// The bytes of the domain file.
+    pub domain: Row<u8>,
+    /// The bytes of the problem file.
+    pub problem: Row<u8>,
+    /// What is printed: the counts, and `complete` where each atom has the same value in all initial states.
+    pub report: Row<u8>,
+}
+
+// The texts of a ground problem with a table, whose task this is.
+fn texts(
+    alloc: Global,
+    ground: &Ground,
+    table: &TagTable,
+    task: &Task,
+) -> Result<Translation, Memory>
+    requires some_tag { 0 < length table.now.tags }
+    requires task { task.now ≡ task_of ground.now table.now }
+    ensures { IfOk result (λ t. t ≡ translation_with ground.now table.now) }
+{
+    Ok(Translation {
+        domain: domain_text(alloc, task)?,
+        problem: problem_text(alloc, task)?,
+        report: report_text(alloc, ground, table, task.facts.len())?,
+    })
+}
+
+/// The texts of a ground problem with a table of tags and merges, the first tag of which is the empty one.
+/// A task with more facts than the limit, or else with a greater weight, is refused.
+pub fn translation_with(
+    alloc: Global,
+    ground: &Ground,
+    table: &TagTable,
+    limits: &Limits,
+) -> Result<Translation, Stop>
+    requires { 0 < length table.now.tags }
+    ensures { AnswersTranslation ground.now table.now limits.now result }
+{
+    let task = translate(alloc, ground, table, limits)?;
+    Ok(texts(alloc, ground, table, &task)?)
+}
