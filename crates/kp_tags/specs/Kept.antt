@@ -1,0 +1,27 @@
+-- Tags that are gathered one by one, and their rows. This file serves proofs alone.
+use Rattle.std.specs.Prelude.{◌≡◌, List, [], ◌∷◌, ◌++◌, if◌then◌else◌, map}
+use Rattle.std.specs.List.{list_any}
+use Rattle.kp_base.specs.declared.lit.Lit.{Lit}
+use Rattle.kp_base.specs.declared.ground.TagRow.{TagRow}
+use Rattle.kp_base.specs.Lists.{Member}
+use Rattle.kp_base.specs.LitSet.{IsAscending}
+use Rattle.kp_primes.specs.Held.{Held}
+use Rattle.kp_tags.specs.Tables.{same_tag, HasClosure}
+
+-- each is an ascending list
+pub record AreSets (tags : List (List Lit)) : Type 0 where
+  pub each : (t : List Lit) → Member tags t → IsAscending t
+
+-- the tags with one more, where it is new
+abbrev pub with_tag : List (List Lit) → List Lit → List (List Lit)
+with_tag tags t = if list_any (same_tag t) tags then tags else tags ++ t ∷ []
+
+-- the tag with its closure
+pub record IsRowOf (h : Held) (tag : List Lit) (row : TagRow) : Type 0 where
+  pub lits : row.lits ≡ tag
+  pub closed : HasClosure h row
+
+-- each tag with its closure
+pub record AreRows (h : Held) (tags : List (List Lit)) (rows : List TagRow) : Type 0 where
+  pub lits : map (λ row. row.lits) rows ≡ tags
+  pub closed : (row : TagRow) → Member rows row → HasClosure h row

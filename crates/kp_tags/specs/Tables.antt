@@ -1,0 +1,50 @@
+-- The table of the merges of a file.
+use Rattle.std.specs.Prelude.{◌≡◌, ℕ, Bool, List, [], ◌∷◌, map}
+use Rattle.std.specs.List.{list_all, flat_map, position_or_len}
+use Rattle.std.specs.Cmp.Lexicographic.{pointwise}
+use Rattle.kp_base.specs.declared.lit.Lit.{Lit}
+use Rattle.kp_base.specs.declared.ground.TagRow.{TagRow}
+use Rattle.kp_base.specs.declared.ground.TagTable.{TagTable}
+use Rattle.kp_base.specs.declared.ground.Merge.{Merge}
+use Rattle.kp_base.specs.Lists.{Member, each_once}
+use Rattle.kp_base.specs.Lit.{same_lit}
+use Rattle.kp_base.specs.LitSet.{IsAscending}
+use Rattle.kp_base.specs.Implicates.{are_below}
+use Rattle.kp_base.specs.Entailed.{IsClosure}
+use Rattle.kp_primes.specs.Held.{Held, formula}
+use Rattle.kp_tags.specs.declared.merge.FileMerge.{FileMerge}
+
+-- the tags of the merge are of the first n atoms
+abbrev pub has_tags_of_atoms : ℕ → FileMerge → Bool
+has_tags_of_atoms n m = list_all (are_below n) m.tags
+
+-- ---- tags
+
+-- the same tag; tags are sets, and sets are ascending lists
+abbrev pub same_tag : List Lit → List Lit → Bool
+same_tag = pointwise same_lit
+
+-- the tags of merges in the order of their first use, behind the empty one, each once
+abbrev pub used_tags : List FileMerge → List (List Lit)
+used_tags ms = each_once same_tag ([] ∷ flat_map (λ m. m.tags) ms)
+
+-- a tag's number: its position
+abbrev pub number_in : List (List Lit) → List Lit → ℕ
+number_in tags t = position_or_len (same_tag t) tags
+
+-- ---- tables
+
+-- a merge with its tags by number
+abbrev pub numbered : List (List Lit) → FileMerge → Merge
+numbered tags m = record { target = m.target; tags = map (number_in tags) m.tags }
+
+-- a tag stands with its closure, as a set
+pub record HasClosure (h : Held) (row : TagRow) : Type 0 where
+  pub closure : IsClosure h.atoms (formula h) row.lits row.closure
+  pub ascending : IsAscending row.closure
+
+-- the tags that are used, each with its closure, and the merges in order with their tags by number
+pub record IsTableOf (h : Held) (ms : List FileMerge) (table : TagTable) : Type 0 where
+  pub tags : map (λ row. row.lits) table.tags ≡ used_tags ms
+  pub closures : (row : TagRow) → Member table.tags row → HasClosure h row
+  pub merges : table.merges ≡ map (numbered (used_tags ms)) ms

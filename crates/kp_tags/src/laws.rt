@@ -1,0 +1,13 @@
+//! Laws of tables of merges, each proved as the contract of a function that does nothing.
+
+ghost use Rattle.kp_tags.specs.Laws.{AcceptedTablesAreRight, IsTableOnce};
+
+/// Merges have one table.
+pub fn there_is_one_table()
+    ensures { IsTableOnce }
+{}
+
+/// A table of accepted merges is right, and its merges are valid, for each formula with the same models.
+pub fn accepted_tables_are_right()
+    ensures { AcceptedTablesAreRight }
+{}
