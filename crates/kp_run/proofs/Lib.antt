@@ -11,3 +11,4 @@ pub mod Soundness
 pub mod Ending
 pub mod TwoFiles
 pub mod ExampleOutcomes
+pub mod ExampleRefusals
