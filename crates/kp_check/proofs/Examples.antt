@@ -1,0 +1,50 @@
+-- Where steps fail, on two small ground problems: a step that may be taken once, and three cells of which one is full.
+use Rattle.std.proofs.Common.{◌≡◌, true, [], ◌∷◌, Some, None, refl, arith}
+use Rattle.kp_base.specs.declared.ground.Ground.{Ground}
+use Rattle.kp_base.specs.declared.ground.GroundName.{GroundName}
+use Rattle.kp_base.specs.Lit.{positive, negative}
+use Rattle.kp_base.specs.Steps.{succeeds}
+use Rattle.kp_classic.specs.Grounded.{IsOfItsAtoms}
+use Rattle.kp_first.specs.Ordered.{state_of}
+use Rattle.kp_check.specs.Failing.{failure}
+
+nameless : GroundName
+nameless = record { head = []; objects = [] }
+
+-- where p holds, q comes and p goes
+abbrev once : Ground
+once = record {
+  atoms = nameless ∷ nameless ∷ [];
+  actions = record { name = nameless; pre = positive 0 ∷ []; effects = record { cond = []; result = positive 1 } ∷ record { cond = []; result = negative 0 } ∷ [] } ∷ [];
+  goal = positive 1 ∷ [];
+}
+
+once_of_atoms : IsOfItsAtoms once
+once_of_atoms = record { few_atoms = omega arith; few_actions = omega arith; actions = refl; goal = refl }
+
+-- the step is a plan where p holds
+taken_once : succeeds once (state_of (record { 0 = 0 } ∷ [])) (0 ∷ []) ≡ true
+taken_once = refl
+
+-- a second one fails at p
+taken_twice : failure once (state_of (record { 0 = 0 } ∷ [])) (0 ∷ 0 ∷ []) 0 ≡ Some (record { step = 1; literal = positive 0 })
+taken_twice = refl
+
+-- a full cell's left one comes to be full, and it empty
+abbrev cells : Ground
+cells = record {
+  atoms = nameless ∷ nameless ∷ nameless ∷ [];
+  actions = record {
+    name = nameless;
+    pre = [];
+    effects = record { cond = positive 2 ∷ []; result = positive 1 } ∷ record { cond = positive 2 ∷ []; result = negative 2 } ∷ record { cond = positive 1 ∷ []; result = positive 0 } ∷ record { cond = positive 1 ∷ []; result = negative 1 } ∷ [];
+  } ∷ [];
+  goal = positive 0 ∷ [];
+}
+
+-- one step to the left fails at the goal where the third cell is full, and two don't
+one_to_the_left : failure cells (state_of (record { 0 = 2 } ∷ [])) (0 ∷ []) 0 ≡ Some (record { step = 1; literal = positive 0 })
+one_to_the_left = refl
+
+two_to_the_left : failure cells (state_of (record { 0 = 2 } ∷ [])) (0 ∷ 0 ∷ []) 0 ≡ None
+two_to_the_left = refl

@@ -1,0 +1,131 @@
+-- Where steps fail from a state whose atoms are all known.
+use Rattle.std.proofs.Common.{◌≡◌, ◌<◌, ◌+◌, ℕ, zero, suc, Bool, true, false, not, ◌&&◌, if◌then◌else◌, nat_lt, List, [], ◌∷◌, length, map, Option, Some, None, slice_get, refl, sym, ap, subst, ◌∙◌, arith, ltb-true}
+use Rattle.std.proofs.lemmas.Bool.{and_parts, and_from, or_left, or_right, false≢true, true_from_ne_false}
+use Rattle.std.specs.List.{list_all, range_with_len}
+use Rattle.kp_base.specs.declared.lit.Lit.{Lit}
+use Rattle.kp_base.specs.declared.lit.AtomId.{AtomId}
+use Rattle.kp_base.specs.declared.ground.Action.{Action}
+use Rattle.kp_base.specs.declared.ground.Ground.{Ground}
+use Rattle.kp_base.specs.Lit.{positive, negative, has}
+use Rattle.kp_base.specs.Steps.{State, is_model, holds, applicable, next, after, succeeds, IsGroundPlan}
+use Rattle.kp_base.specs.Implicates.{are_below}
+use Rattle.kp_base.proofs.Lists.{member_map, range_there}
+use Rattle.kp_base.proofs.Lits.{has-member}
+use Rattle.kp_first.specs.declared.truth.Truth.{Truth}
+use Rattle.kp_first.specs.declared.truth.Truth.TheVariants.{Yes, No, Open}
+use Rattle.kp_first.specs.Known.{is_decided}
+use Rattle.kp_first.specs.Truths.{IsTruth}
+use Rattle.kp_first.specs.Ordered.{state_of, IsFirst}
+use Rattle.kp_first.specs.Asked.{is_wanted}
+use Rattle.kp_base.specs.declared.ground.Initial.{Initial}
+use Rattle.kp_check.specs.declared.failing.At.{At}
+use Rattle.kp_check.specs.Values.{truth_at, stepped, next_values}
+use Rattle.kp_check.proofs.Grounded.{IsGroundOf, action_parts}
+use Rattle.kp_check.specs.Judging.{fails}
+use Rattle.kp_check.specs.Failing.{first_false, pre_false, at_or, failure}
+use Rattle.kp_check.specs.FailingValues.{is_no, first_no, pre_no, failure_in, decided, state_values}
+use Rattle.kp_check.proofs.Fitting.{Fits, truth_at_is, stepped_fits, at_range, length_range}
+
+-- ---- all literals of a state
+
+literal_of : State → ℕ → Lit
+literal_of s p = record { atom = record { 0 = p }; positive = s p }
+
+full : ℕ → State → List Lit
+full n s = map (literal_of s) (range_with_len 0 n)
+
+full_decides : (n : ℕ) (s : State) (a : ℕ) → a < n → is_decided (full n s) a ≡ true
+unfolding full literal_of
+full_decides n s a lt = pick (s a) (has-member (full n s) (literal_of s a) (member_map (literal_of s) (range_with_len 0 n) a (range_there 0 n a (omega arith) (omega arith))))
+  where
+    pick : (b : Bool) → has (full n s) (record { atom = record { 0 = a }; positive = b }) ≡ true → is_decided (full n s) a ≡ true
+    pick true h = or_left (has (full n s) (positive a)) (has (full n s) (negative a)) h
+    pick false h = or_right (has (full n s) (positive a)) (has (full n s) (negative a)) h
+
+values_fit : (n : ℕ) (known : List Lit) (ps : List AtomId) → Fits n known (state_values n ps) (state_of ps)
+values_fit n known ps = record {
+  len = length_range (λ p. decided (state_of ps p)) 0 n;
+  each = λ q lt. subst (IsTruth n known (state_of ps q)) (sym (at_range (λ p. decided (state_of ps p)) 0 n q lt ∙ ap (λ p. decided (state_of ps p)) (omega arith))) (known_is (state_of ps q));
+}
+  where
+    known_is : (b : Bool) → IsTruth n known b (decided b)
+    known_is true = refl
+    known_is false = refl
+
+-- ---- where nothing is open
+
+module _ (n : ℕ) (known : List Lit) (all : (a : ℕ) → a < n → is_decided known a ≡ true) where
+  no_open : (b : Bool) (t : Truth) → IsTruth n known b t → is_no t ≡ not b
+  no_open b Yes h = sym (ap not h)
+  no_open b No h = sym (ap not h)
+  no_open b (Open a) h = absurd (false≢true (sym h.1 ∙ all a.0 h.0))
+
+  first_no_is : (vs : List Truth) (s : State) → Fits n known vs s → (ls : List Lit) → are_below n ls ≡ true → first_no vs ls ≡ first_false s ls
+  first_no_is vs s f [] below = refl
+  first_no_is vs s f (l ∷ ls) below =
+      let parts = and_parts (nat_lt l.atom.0 n) (are_below n ls) below in
+      rw (no_open (holds s l) (truth_at vs l) (truth_at_is n known vs s f l (ltb-true l.atom.0 n parts.0)), first_no_is vs s f ls parts.1) (turned (holds s l))
+    where
+      turned : (b : Bool) → (if not b then Some l else first_false s ls) ≡ (if b then first_false s ls else Some l)
+      turned true = refl
+      turned false = refl
+
+  failure_is : (g : Ground) → IsGroundOf n g → (ns : List ℕ) (vs : List Truth) (s : State) (k : ℕ) → Fits n known vs s → failure_in g vs ns k ≡ failure g s ns k
+  failure_is g of [] vs s k f = ap (λ o. at_or k o None) (first_no_is vs s f g.goal of.goal)
+  failure_is g of (m ∷ ns) vs s k f = go (slice_get g.actions m) refl (λ us t h. failure_is g of ns us t (k + 1) h)
+    where
+      go : (o : Option Action) → slice_get g.actions m ≡ o → ((us : List Truth) (t : State) → Fits n known us t → failure_in g us ns (k + 1) ≡ failure g t ns (k + 1)) → at_or k (pre_no o vs) (failure_in g (next_values o vs) ns (k + 1)) ≡ at_or k (pre_false o s) (failure g (next o s) ns (k + 1))
+      go None is rest = rest vs s f
+      go (Some a) is rest =
+          let parts = action_parts n g of m a is in
+          rw (first_no_is vs s f a.pre parts.0, rest (stepped vs a.effects) (after a s) (stepped_fits n known vs s f a parts.1)) refl
+
+-- what the values of a state tell is where the steps fail from it
+pub failure_found : (n : ℕ) (g : Ground) → IsGroundOf n g → (ns : List ℕ) (ps : List AtomId) → failure_in g (state_values n ps) ns 0 ≡ failure g (state_of ps) ns 0
+failure_found n g of ns ps = failure_is n (full n (state_of ps)) (full_decides n (state_of ps)) g of ns (state_values n ps) (state_of ps) 0 (values_fit n (full n (state_of ps)) ps)
+
+-- ---- where they fail nowhere
+
+all_hold : (s : State) (ls : List Lit) → first_false s ls ≡ None → list_all (holds s) ls ≡ true
+all_hold s [] h = refl
+all_hold s (l ∷ ls) h = pick (λ e. all_hold s ls e) (holds s l) h
+  where
+    pick : (first_false s ls ≡ None → list_all (holds s) ls ≡ true) → (b : Bool) → (if b then first_false s ls else Some l) ≡ None → (b && list_all (holds s) ls) ≡ true
+    pick rest true e = rest e
+    pick rest false e = cc
+
+parts_none : (k : ℕ) (o : Option Lit) (rest : Option At) → at_or k o rest ≡ None → (o ≡ None) × (rest ≡ None)
+parts_none k None rest h = (refl, h)
+parts_none k (Some l) rest h = cc
+
+pub none_past : {X : Type 0} (xs : List X) (m : ℕ) → m < length xs → slice_get xs m ≡ None → ⊥
+none_past [] m lt h = absurd (omega (arith, lt))
+none_past (x ∷ xs) zero lt h = cc
+none_past (x ∷ xs) (suc m) lt h = none_past xs m (omega (arith, lt)) h
+
+pub none_fails : (g : Ground) (ns : List ℕ) (s : State) (k : ℕ) → list_all (λ m. nat_lt m (length g.actions)) ns ≡ true → failure g s ns k ≡ None → succeeds g s ns ≡ true
+none_fails g [] s k inside h = all_hold s g.goal (parts_none k (first_false s g.goal) None h).0
+none_fails g (m ∷ ns) s k inside h = go (slice_get g.actions m) refl h (λ t e. none_fails g ns t (k + 1) parts.1 e)
+  where
+    parts : (nat_lt m (length g.actions) ≡ true) × (list_all (λ m. nat_lt m (length g.actions)) ns ≡ true)
+    parts = and_parts (nat_lt m (length g.actions)) (list_all (λ m. nat_lt m (length g.actions)) ns) inside
+
+    there : slice_get g.actions m ≡ None → ⊥
+    there = none_past g.actions m (ltb-true m (length g.actions) parts.0)
+
+    go : (o : Option Action) → slice_get g.actions m ≡ o → at_or k (pre_false o s) (failure g (next o s) ns (k + 1)) ≡ None → ((t : State) → failure g t ns (k + 1) ≡ None → succeeds g t ns ≡ true) → (applicable o s && succeeds g (next o s) ns) ≡ true
+    go None is e rest = absurd (there is)
+    go (Some a) is e rest =
+        let none = parts_none k (first_false s a.pre) (failure g (after a s) ns (k + 1)) e in
+        and_from (list_all (holds s) a.pre) (succeeds g (after a s) ns) (all_hold s a.pre none.0) (rest (after a s) none.1)
+
+-- so a state from which they fail tells where
+pub tells_where : (n : ℕ) (g : Ground) (i : Initial) (ns : List ℕ) (ps : List AtomId) → IsGroundOf n g → list_all (λ m. nat_lt m (length g.actions)) ns ≡ true → IsFirst n (is_wanted i (fails g ns)) (state_of ps) → failure_in g (state_values n ps) ns 0 ≡ None → ⊥
+tells_where n g i ns ps of inside first none =
+    let all = none_fails g ns (state_of ps) 0 inside (sym (failure_found n g of ns ps) ∙ none) in
+    let failed = (and_parts (is_model i (state_of ps)) (fails g ns (state_of ps)) first.passed).1 in
+    false≢true (sym (ap not all) ∙ failed)
+
+-- where the steps fail from no model, they are a plan
+pub all_succeed : (g : Ground) (i : Initial) (ns : List ℕ) → ((s : State) → is_wanted i (fails g ns) s ≡ false) → IsGroundPlan g i ns
+all_succeed g i ns none s m = true_from_ne_false (succeeds g s ns) (λ off. false≢true (sym (none s) ∙ (ap (λ b. b && not (succeeds g s ns)) m ∙ ap not off)))

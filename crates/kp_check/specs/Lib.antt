@@ -1,0 +1,5 @@
+pub mod Judging
+pub mod Failing
+pub mod Values
+pub mod FailingValues
+pub mod Marks

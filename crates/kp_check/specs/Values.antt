@@ -1,0 +1,62 @@
+-- Values of atoms, which are known or open, and what an action makes of them. This file serves proofs alone.
+use Rattle.std.specs.Prelude.{ℕ, if◌then◌else◌, List, [], ◌∷◌, Option, Some, None, length, map, fold, nat_lt, slice_get, slice_set}
+use Rattle.std.specs.List.{range_with_len}
+use Rattle.kp_base.specs.declared.lit.Lit.{Lit}
+use Rattle.kp_base.specs.declared.ground.Effect.{Effect}
+use Rattle.kp_base.specs.declared.ground.Action.{Action}
+use Rattle.kp_base.specs.declared.ground.Ground.{Ground}
+use Rattle.kp_base.specs.Lit.{positive}
+use Rattle.kp_first.specs.declared.truth.Truth.{Truth}
+use Rattle.kp_first.specs.declared.truth.Truth.TheVariants.{Yes, No, Open}
+use Rattle.kp_first.specs.Truths.{opposite, both, either, truth_in}
+
+abbrev pub value_of : Option Truth → Truth
+value_of None = No
+value_of (Some t) = t
+
+abbrev pub value_at : List Truth → ℕ → Truth
+value_at vs p = value_of (slice_get vs p)
+
+abbrev pub truth_at : List Truth → Lit → Truth
+truth_at vs l = if l.positive then value_at vs l.atom.0 else opposite (value_at vs l.atom.0)
+
+abbrev pub all_true : List Truth → List Lit → Truth
+all_true vs ls = fold (λ t l. both t (truth_at vs l)) Yes ls
+
+abbrev pub with_value : List Truth → ℕ → Truth → List Truth
+with_value vs p t = if nat_lt p (length vs) then slice_set vs p t else vs
+
+abbrev pub start : List Lit → ℕ → List Truth
+start known n = map (λ p. truth_in known (positive p)) (range_with_len 0 n)
+
+-- ---- a step: deletes first, and then adds
+
+abbrev pub with_delete : List Truth → List Truth → Effect → List Truth
+with_delete old vs e = if e.result.positive then vs else with_value vs e.result.atom.0 (both (value_at vs e.result.atom.0) (opposite (all_true old e.cond)))
+
+abbrev pub with_add : List Truth → List Truth → Effect → List Truth
+with_add old vs e = if e.result.positive then with_value vs e.result.atom.0 (either (value_at vs e.result.atom.0) (all_true old e.cond)) else vs
+
+abbrev pub stepped : List Truth → List Effect → List Truth
+stepped vs es = fold (with_add vs) (fold (with_delete vs) vs es) es
+
+-- ---- a run
+
+-- the second where the first is so
+abbrev pub and_then : Truth → Truth → Truth
+and_then Yes u = u
+and_then No u = No
+and_then (Open a) u = Open a
+
+abbrev pub pre_truth : Option Action → List Truth → Truth
+pre_truth None vs = No
+pre_truth (Some a) vs = all_true vs a.pre
+
+abbrev pub next_values : Option Action → List Truth → List Truth
+next_values None vs = vs
+next_values (Some a) vs = stepped vs a.effects
+
+-- whether the steps succeed
+abbrev pub run_truth : Ground → List Truth → List ℕ → Truth
+run_truth g vs [] = all_true vs g.goal
+run_truth g vs (n ∷ ns) = and_then (pre_truth (slice_get g.actions n) vs) (run_truth g (next_values (slice_get g.actions n) vs) ns)

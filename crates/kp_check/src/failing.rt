@@ -1,0 +1,114 @@
+ghost use Rattle.std.specs.Prelude.{◌≡◌, ◌<◌, length, slice_get, IfOk};
+ghost use Rattle.kp_first.specs.Ordered.{state_of};
+ghost use Rattle.kp_check.specs.Values.{next_values};
+ghost use Rattle.kp_check.specs.FailingValues.{decided, first_no, pre_no, failure_in, state_values};
+
+use crate::steps::step;
+use crate::values::truth_at;
+use kp_base::{AtomId, Ground, Lit, Memory};
+use kp_first::Truth;
+use std::alloc::Global;
+
+/// A step by its number from 0, or the goal by the number of all steps, and a literal there.
+#[derive(Clone, Copy, Debug, PartialEq, Eq)]
+pub struct At {
+    /// The number.
+    pub step: u32,
+    /// The literal.
+    pub literal: Lit,
+}
+
+// The first of some literals that is false.
+fn first_no(values: &[Truth], lits: &[Lit]) -> Option<Lit>
+    ensures { result ≡ first_no values.now lits.now }
+{
+    for lit in lits {
+        if let Truth::No = truth_at(values, *lit) {
+            return Some(*lit);
+        }
+    }
+    None
+}
+
+// Whether the atom is one of these.
+fn is_one(present: &[AtomId], atom: u32) -> bool
+    ensures { result ≡ state_of present.now atom }
+{
+    present.iter().any(|a| a.0 == atom)
+}
+
+fn decided(so: bool) -> Truth
+    ensures { result ≡ decided so }
+{
+    if so { Truth::Yes } else { Truth::No }
+}
+
+/// The values of the first atoms in the state in which these are true.
+pub fn state_values(alloc: Global, atoms: u32, present: &[AtomId]) -> Result<Vec<Truth>, Memory>
+    ensures { IfOk result (λ values. values.items ≡ state_values atoms present.now) }
+{
+    let mut values = Vec::new(alloc);
+    for p in 0..atoms {
+        values.push(decided(is_one(present, p)))?;
+    }
+    Ok(values)
+}
+
+// The first literal of a step's precondition that is false.
+fn pre_no(ground: &Ground, number: u32, values: &[Truth]) -> Option<Lit>
+    ensures { result ≡ pre_no (slice_get ground.now.actions number) values.now }
+{
+    match ground.actions.slice().get(number as usize) {
+        Some(action) => first_no(values, action.pre.slice()),
+        None => None,
+    }
+}
+
+// The values after a step.
+pub fn next_values(
+    alloc: Global,
+    ground: &Ground,
+    number: u32,
+    values: Vec<Truth>,
+) -> Result<Vec<Truth>, Memory>
+    ensures { IfOk result (λ new. new.items ≡ next_values (slice_get ground.now.actions number) values.items) }
+{
+    match ground.actions.slice().get(number as usize) {
+        Some(action) => {
+            let new = step(alloc, &values, action)?;
+            Ok(new)
+        }
+        None => Ok(values),
+    }
+}
+
+/// Where the steps fail, from a state in which the atoms have these values.
+pub fn failure_in(
+    alloc: Global,
+    ground: &Ground,
+    steps: &[u32],
+    from: Vec<Truth>,
+) -> Result<Option<At>, Memory>
+    requires { length steps.now < 2147483648 }
+    ensures { IfOk result (λ at. at ≡ failure_in ground.now from.items steps.now 0) }
+{
+    let mut values = from;
+    let mut count = 0u32;
+    for number in steps {
+        if let Some(literal) = pre_no(ground, *number, &values) {
+            return Ok(Some(At {
+                step: count,
+                literal,
+            }));
+        }
+        values = next_values(alloc, ground, *number, values)?;
+        count += 1;
+    }
+    match first_no(&values, ground.goal.slice()) {
+        Some(literal) => Ok(Some(At {
+            step: count,
+            literal,
+        })),
+        None => Ok(None),
+    }
+}

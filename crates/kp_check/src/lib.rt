@@ -1,0 +1,15 @@
+//! Whether a plan works from every initial state; else the first from which it fails, and where.
+//! `AnswersJudged` in `specs/Judging.antt` says what is answered.
+#![tactic(auto)]
+
+mod answer;
+mod failing;
+mod judge;
+mod laws;
+mod marks;
+mod steps;
+mod values;
+
+pub use answer::{Judged, check};
+pub use failing::At;
+pub use laws::the_first_false_is_least;
