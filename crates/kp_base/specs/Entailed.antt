@@ -36,6 +36,10 @@ pub record IsClosure (atoms : ℕ) (i : Initial) (lits closure : List Lit) : Typ
   pub entailed : (l : Lit) → has closure l ≡ true → Entails i lits l
   pub whole : (l : Lit) → l.atom.0 < atoms → Entails i lits l → has closure l ≡ true
 
+-- the atom has the same value in all models
+abbrev pub HasOneValue : Initial → ℕ → Type 0
+HasOneValue i q = (s t : State) → is_model i s ≡ true → is_model i t ≡ true → s q ≡ t q
+
 -- ---- merges
 
 -- there is such a tag, and its literals are true in the state

@@ -1,8 +1,11 @@
 -- The implicates of an initial formula, its prime implicates, and when there are more of them than a limit.
-use Rattle.std.specs.Prelude.{◌≡◌, ◌↔◌, ◌<◌, ◌≤◌, ℕ, Bool, true, false, List, [], ◌∷◌, length, take, nat_lt}
+use Rattle.std.specs.Prelude.{◌≡◌, ◌↔◌, ◌<◌, ◌≤◌, ◌&&◌, ℕ, Bool, true, false, List, [], ◌∷◌, length, take, nat_lt}
 use Rattle.std.specs.List.{list_any, list_all}
 use Rattle.std.specs.List.Sorted.{IsSorted}
 use Rattle.kp_base.specs.declared.lit.Lit.{Lit}
+use Rattle.kp_base.specs.declared.ground.Effect.{Effect}
+use Rattle.kp_base.specs.declared.ground.Action.{Action}
+use Rattle.kp_base.specs.declared.ground.Ground.{Ground}
 use Rattle.kp_base.specs.declared.ground.Initial.{Initial}
 use Rattle.kp_base.specs.Lists.{Member}
 use Rattle.kp_base.specs.LitSet.{IsAscending, lits_cmp, is_opposed}
@@ -27,6 +30,23 @@ are_below n ls = list_all (λ l. nat_lt l.atom.0 n) ls
 pub record IsOfAtoms (n : ℕ) (i : Initial) : Type 0 where
   pub clauses : list_all (are_below n) i.clauses ≡ true
   pub closed : list_all (λ p. nat_lt p.0 n) i.closed ≡ true
+
+-- ---- ground problems
+
+-- each literal of an effect is of one of the first n atoms
+abbrev pub effect_below : ℕ → Effect → Bool
+effect_below n e = nat_lt e.result.atom.0 n && are_below n e.cond
+
+-- each literal of an action is
+abbrev pub action_below : ℕ → Action → Bool
+action_below n a = are_below n a.pre && list_all (effect_below n) a.effects
+
+-- each literal of the ground problem is of one of its atoms, and a `u32` counts atoms and actions
+pub record IsOfItsAtoms (g : Ground) : Type 0 where
+  pub few_atoms : length g.atoms < 2147483648
+  pub few_actions : length g.actions < 2147483648
+  pub actions : list_all (action_below (length g.atoms)) g.actions ≡ true
+  pub goal : are_below (length g.atoms) g.goal ≡ true
 
 -- ---- implicates
 

@@ -1,5 +1,5 @@
 -- Ground problems: states, models, steps and plans. Atoms and actions go by number.
-use Rattle.std.specs.Prelude.{◌≡◌, ◌≤◌, ℕ, Bool, true, false, not, ◌&&◌, ◌||◌, List, [], ◌∷◌, Option, Some, None, slice_get}
+use Rattle.std.specs.Prelude.{◌≡◌, ◌<◌, ◌≤◌, ℕ, Bool, true, false, not, ◌&&◌, ◌||◌, List, [], ◌∷◌, Option, Some, None, slice_get}
 use Rattle.std.specs.List.{list_any, list_all}
 use Rattle.kp_base.specs.declared.lit.Lit.{Lit}
 use Rattle.kp_base.specs.declared.ground.Effect.{Effect}
@@ -21,6 +21,21 @@ Facts = Lit → Bool
 -- no atom from this number on is true
 pub record IsBounded (atoms : ℕ) (s : State) : Type 0 where
   pub none_past : (p : ℕ) → atoms ≤ p → s p ≡ false
+
+-- ---- the order of states
+
+-- the two states have the same of the first n atoms
+abbrev pub SameBelow : ℕ → State → State → Type 0
+SameBelow n s t = (p : ℕ) → p < n → s p ≡ t p
+
+-- at the first atom in which the two differ, s is without it
+pub record ComesBefore (s t : State) : Type 0 where
+  pub at : ℕ
+  pub alike : SameBelow at s t
+  pub absent : s at ≡ false
+  pub present : t at ≡ true
+
+-- ---- literals
 
 -- a literal is true in a state
 abbrev pub holds : State → Facts

@@ -6,7 +6,8 @@ use Rattle.kp_base.specs.declared.ground.Ground.{Ground}
 use Rattle.kp_base.specs.declared.ground.Initial.{Initial}
 use Rattle.kp_base.specs.Lit.{positive, negative}
 use Rattle.kp_classic.specs.declared.task.Task.{Task}
-use Rattle.kp_classic.specs.Grounded.{task_of, IsOfItsAtoms, is_known, SaysOneState}
+use Rattle.kp_base.specs.Implicates.{IsOfItsAtoms}
+use Rattle.kp_classic.specs.Grounded.{task_of, is_known, SaysOneState}
 use Rattle.kp_classic.specs.Runs.{outcome}
 use Rattle.kp_classic.specs.Steps.{Holding, start, succeeds}
 

@@ -12,14 +12,14 @@ use Rattle.kp_base.specs.declared.ground.Effect.{Effect}
 use Rattle.kp_base.specs.declared.ground.Action.{Action}
 use Rattle.kp_base.specs.declared.ground.Ground.{Ground}
 use Rattle.kp_base.specs.declared.ground.Initial.{Initial}
-use Rattle.kp_base.specs.Implicates.{are_below}
+use Rattle.kp_base.specs.Implicates.{are_below, effect_below, action_below, IsOfItsAtoms}
 use Rattle.kp_base.specs.Lists.{Member, signed}
 use Rattle.kp_base.specs.Lit.{positive, negative, has as has_literal}
 use Rattle.kp_base.specs.Steps as on_atoms
 use Rattle.kp_base.proofs.Lists.{bool_same, any_map, all_alike, any_alike, all_member, any_member, any_from, all_from, map_member, filter_member}
 use Rattle.kp_base.proofs.Lits.{same_lit-true}
 use Rattle.kp_classic.specs.Fits.{are_below as facts_below, fits, fits_effect, fits_op, IsFit}
-use Rattle.kp_classic.specs.Grounded.{atoms_with, conds_of, effect_of, op_of, nameless, is_said, task_of, effect_below, action_below, IsOfItsAtoms, SaysOneState, DoesTheSame}
+use Rattle.kp_classic.specs.Grounded.{atoms_with, conds_of, effect_of, op_of, nameless, is_said, task_of, SaysOneState, DoesTheSame}
 use Rattle.kp_classic.specs.States.{those}
 use Rattle.kp_classic.specs.Steps.{Holding, meets, fires, after, applicable, next, start, succeeds}
 use Rattle.kp_classic.proofs.States.{has_those, those_below}

@@ -9,7 +9,7 @@ use Rattle.kp_base.specs.declared.ground.Action.{Action}
 use Rattle.kp_base.specs.declared.ground.Ground.{Ground}
 use Rattle.kp_base.specs.declared.ground.Initial.{Initial}
 use Rattle.kp_base.specs.Entailed.{HasModel}
-use Rattle.kp_base.specs.Implicates.{are_below, IsOfAtoms}
+use Rattle.kp_base.specs.Implicates.{IsOfAtoms}
 use Rattle.kp_base.specs.Lit.{positive, negative, has}
 use Rattle.kp_base.specs.Steps as on_atoms
 use Rattle.kp_classic.specs.declared.task.Conds.{Conds}
@@ -55,21 +55,6 @@ task_of g i = record {
 }
 
 -- ---- what it asks for
-
--- each literal of an effect is of one of the first n atoms
-abbrev pub effect_below : ℕ → Effect → Bool
-effect_below n e = nat_lt e.result.atom.0 n && are_below n e.cond
-
--- each literal of an action is
-abbrev pub action_below : ℕ → Action → Bool
-action_below n a = are_below n a.pre && list_all (effect_below n) a.effects
-
--- each literal of the ground problem is of one of its atoms, and a `u32` counts atoms and actions
-pub record IsOfItsAtoms (g : Ground) : Type 0 where
-  pub few_atoms : length g.atoms < 2147483648
-  pub few_actions : length g.actions < 2147483648
-  pub actions : list_all (action_below (length g.atoms)) g.actions ≡ true
-  pub goal : are_below (length g.atoms) g.goal ≡ true
 
 -- it is said of the atom whether it holds: by a clause that has one of its literals, or since it is closed
 abbrev pub is_known : Initial → ℕ → Bool

@@ -3,7 +3,8 @@ ghost use Rattle.std.specs.Prelude.{◌≡◌, ◌<◌, [], ◌∷◌, ◌++◌,
 ghost use Rattle.std.specs.List.{list_all};
 ghost use Rattle.kp_base.specs.Implicates.{are_below};
 ghost use Rattle.kp_classic.specs.Fits.{IsFit};
-ghost use Rattle.kp_classic.specs.Grounded.{atoms_with, conds_of, effect_of, op_of, nameless, is_said, task_of, IsOfItsAtoms, SaysOneState, DoesTheSame};
+ghost use Rattle.kp_base.specs.Implicates.{IsOfItsAtoms};
+ghost use Rattle.kp_classic.specs.Grounded.{atoms_with, conds_of, effect_of, op_of, nameless, is_said, task_of, SaysOneState, DoesTheSame};
 ghost use Rattle.kp_classic.specs.States.{those};
 
 use crate::said::said_facts;

@@ -2,7 +2,7 @@
 use Rattle.std.specs.Prelude.{◌≡◌, ◌+◌, ℕ, length, List, [], ◌∷◌, Bool, true, Result, Ok, Err, map}
 use Rattle.kp_grammar.specs.declared.tree.Word.{Word}
 use Rattle.kp_grammar.specs.declared.symbol.Symbol.{Symbol}
-use Rattle.kp_grammar.specs.Symbols.{Tok, is_left, is_right, is_head, is_name, is_variable, is_term, is_keyword, is_define, is_domain, is_problem, is_either, is_equal}
+use Rattle.kp_grammar.specs.Symbols.{Tok, is_left, is_right, is_head, is_name, is_variable, is_term, is_keyword, is_define, is_domain, is_problem, is_either, is_merge, is_equal}
 use Rattle.kp_grammar.specs.Forms.{hits}
 use Rattle.kp_grammar.specs.Grammar.{word, some, skip, words_of_requirements}
 use Rattle.kp_grammar.specs.Reading.{Unsupported, At, stop}
@@ -76,6 +76,7 @@ lead_test leads.Define = is_define
 lead_test leads.Domain = is_domain
 lead_test leads.Problem = is_problem
 lead_test leads.Either = is_either
+lead_test leads.Merge = is_merge
 lead_test leads.Equal = is_equal
 
 -- it stands there, and the rest is left

@@ -36,6 +36,8 @@ pub enum Lead {
     Problem,
     /// `either`
     Either,
+    /// `merge`
+    Merge,
     /// `=`
     Equal,
 }
@@ -46,7 +48,12 @@ fn is_head(symbol: Symbol) -> bool
 {
     matches!(
         symbol,
-        Symbol::Define | Symbol::Domain | Symbol::Problem | Symbol::Either | Symbol::Name
+        Symbol::Define
+            | Symbol::Domain
+            | Symbol::Problem
+            | Symbol::Either
+            | Symbol::Merge
+            | Symbol::Name
     )
 }
 
@@ -167,6 +174,7 @@ fn leads(lead: Lead, symbol: Symbol) -> bool
         Lead::Domain => matches!(symbol, Symbol::Domain),
         Lead::Problem => matches!(symbol, Symbol::Problem),
         Lead::Either => matches!(symbol, Symbol::Either),
+        Lead::Merge => matches!(symbol, Symbol::Merge),
         Lead::Equal => matches!(symbol, Symbol::Equal),
     }
 }

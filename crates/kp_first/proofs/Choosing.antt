@@ -11,7 +11,8 @@ use Rattle.kp_base.specs.LitSet.{with_lit}
 use Rattle.kp_base.specs.Steps.{State, IsBounded, holds, is_model}
 use Rattle.kp_base.specs.Implicates.{are_below, IsOfAtoms}
 use Rattle.kp_base.proofs.Lists.{all_weaker}
-use Rattle.kp_first.specs.Ordered.{SameBelow, ComesBefore, state_of, AreRising, AreFirst}
+use Rattle.kp_base.specs.Steps.{SameBelow, ComesBefore}
+use Rattle.kp_first.specs.Ordered.{state_of, AreRising, AreFirst}
 use Rattle.kp_first.specs.Asked.{is_wanted, IsWitness, AnswersFind}
 use Rattle.kp_first.proofs.Tags.{more_met, more_parts, more_below}
 use Rattle.kp_first.proofs.Reading.{all_same, model_same}

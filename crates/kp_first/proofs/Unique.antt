@@ -3,7 +3,8 @@ use Rattle.std.proofs.Common.{◌≡◌, ◌<◌, ◌+◌, ◌⊎◌, ℕ, zero,
 use Rattle.std.proofs.lemmas.Bool.{cases_lt}
 use Rattle.kp_base.specs.declared.lit.AtomId.{AtomId}
 use Rattle.kp_base.specs.Steps.{State}
-use Rattle.kp_first.specs.Ordered.{SameBelow, ComesBefore, IsFirst, AnswersFirst}
+use Rattle.kp_base.specs.Steps.{SameBelow, ComesBefore}
+use Rattle.kp_first.specs.Ordered.{IsFirst, AnswersFirst}
 
 -- two states are the same below n, or one comes before the other
 compared : (n : ℕ) (s t : State) → SameBelow n s t ⊎ (ComesBefore s t ⊎ ComesBefore t s)

@@ -1,19 +1,8 @@
--- The order of states, and the first of those that pass a test.
+-- The first state, in their order, that passes a test.
 use Rattle.std.specs.Prelude.{◌≡◌, ◌<◌, ℕ, Bool, true, false, List, [], ◌∷◌, Option, Some, None, nat_eq}
 use Rattle.std.specs.List.{list_any}
 use Rattle.kp_base.specs.declared.lit.AtomId.{AtomId}
-use Rattle.kp_base.specs.Steps.{State, IsBounded}
-
--- the two states have the same of the first n atoms
-abbrev pub SameBelow : ℕ → State → State → Type 0
-SameBelow n s t = (p : ℕ) → p < n → s p ≡ t p
-
--- at the first atom in which the two differ, s is without it
-pub record ComesBefore (s t : State) : Type 0 where
-  pub at : ℕ
-  pub alike : SameBelow at s t
-  pub absent : s at ≡ false
-  pub present : t at ≡ true
+use Rattle.kp_base.specs.Steps.{State, IsBounded, ComesBefore}
 
 -- a state of the first n atoms that passes, and none that passes comes before it
 pub record IsFirst (n : ℕ) (passes : State → Bool) (s : State) : Type 0 where

@@ -11,7 +11,8 @@ use Rattle.kp_base.proofs.Lists.{all_from, all_member, range_there}
 use Rattle.kp_translation.specs.Report.{is_known}
 use Rattle.kp_init.proofs.Closure.{closure_exact, range_only}
 use Rattle.kp_given.specs.Translations.{ground_of, initial_of, start_of}
-use Rattle.kp_given.specs.Laws.{HasOneValue, CompleteStartsHaveOneValue}
+use Rattle.kp_base.specs.Entailed.{HasOneValue}
+use Rattle.kp_given.specs.Laws.{CompleteStartsHaveOneValue}
 use Rattle.kp_given.proofs.Starts.{formulas_over_atoms, states_are_models}
 
 module _ (n : ℕ) (i : Initial) (start : List Lit) (is : IsClosure n i [] start) where

@@ -12,7 +12,7 @@ use Rattle.kp_meaning.proofs.Texts.{domain_of, problem_of}
 use Rattle.kp_meaning.proofs.ExampleCells.{cells, one_of_three}
 use Rattle.kp_init.proofs.Closure.{closure_exact}
 use Rattle.kp_given.specs.Translations.{ground_of, initial_of, start_of}
-use Rattle.kp_given.specs.Laws.{HasInitialState}
+use Rattle.kp_meaning.specs.Initial.{HasInitialState}
 use Rattle.kp_given.proofs.Starts.{states_are_models, formulas_over_atoms, closures_are_starts}
 
 -- ---- a `oneof` of three

@@ -5,4 +5,5 @@ pub mod Apart
 pub mod Written
 pub mod Tables
 pub mod Sizes
+pub mod OfAtoms
 pub mod ExampleUncertain

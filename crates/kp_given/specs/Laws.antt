@@ -1,28 +1,19 @@
 -- What is proved of the translation of two trees, and of their initial states.
 use Rattle.std.specs.Prelude.{◌≡◌, ◌↔◌, ◌<◌, ℕ, true, List, [], length}
 use Rattle.kp_base.specs.declared.lit.Lit.{Lit}
-use Rattle.kp_base.specs.declared.ground.Initial.{Initial}
 use Rattle.kp_base.specs.LitSet.{IsAscending}
-use Rattle.kp_base.specs.Steps as steps
-use Rattle.kp_base.specs.Steps.{is_model}
-use Rattle.kp_base.specs.Entailed.{HasModel, IsClosure}
+use Rattle.kp_base.specs.Entailed.{HasModel, IsClosure, HasOneValue}
 use Rattle.kp_grammar.specs.declared.tree.Word.{Word}
 use Rattle.kp_grammar.specs.Trees.{Domain, Problem}
-use Rattle.kp_meaning.specs.States.{State}
-use Rattle.kp_meaning.specs.Initial.{IsInitial}
+use Rattle.kp_meaning.specs.Initial.{HasInitialState}
 use Rattle.kp_meaning.specs.Faults.{HasNoFault}
 use Rattle.kp_meaning.specs.Plans.{HasProblem}
-use Rattle.kp_base.specs.Implicates.{IsOfAtoms}
+use Rattle.kp_base.specs.Implicates.{IsOfAtoms, IsOfItsAtoms}
 use Rattle.kp_meaning.specs.Numbering.{numbered_problem}
 use Rattle.kp_init.specs.ByName.{HasNamedAtoms}
 use Rattle.kp_translation.specs.Report.{is_complete}
 use Rattle.kp_write.specs.Grounds.{AreOfAtoms, IsWritable}
 use Rattle.kp_given.specs.Translations.{ground_of, initial_of, start_of}
-
--- some state is initial
-pub record HasInitialState (p : Problem Word) : Type 0 where
-  pub state : State
-  pub is_initial : IsInitial p state
 
 -- where no name is at fault, some state is initial exactly where the initial formula has a model
 abbrev pub InitialStatesAreModels : Type 0
@@ -40,10 +31,6 @@ NamesTellGroundAtoms = (d : Domain Word) (p : Problem Word) → HasNoFault d p �
 abbrev pub ClosuresAreStarts : Type 0
 ClosuresAreStarts = (d : Domain Word) (p : Problem Word) (ls : List Lit) → IsClosure (length (ground_of d p).atoms) (initial_of d p) [] ls → IsAscending ls → ls ≡ start_of d p
 
--- the ground atom of this number has the same value in all models
-abbrev pub HasOneValue : Initial → ℕ → Type 0
-HasOneValue i q = (s t : steps.State) → is_model i s ≡ true → is_model i t ≡ true → s q ≡ t q
-
 -- where no name is at fault and some state is initial, `complete` is printed exactly where each ground atom has the same value in all models
 abbrev pub CompleteStartsHaveOneValue : Type 0
 CompleteStartsHaveOneValue = (d : Domain Word) (p : Problem Word) → HasNoFault d p → HasInitialState p → (is_complete (length (ground_of d p).atoms) (start_of d p) ≡ true) ↔ ((q : ℕ) → q < length (ground_of d p).atoms → HasOneValue (initial_of d p) q)
@@ -57,3 +44,7 @@ StartsAreOfAtoms = (d : Domain Word) (p : Problem Word) → AreOfAtoms (ground_o
 -- where two texts have a problem, its ground problem can be written
 abbrev pub GroundProblemsAreWritable : Type 0
 GroundProblemsAreWritable = (domain_text problem_text : List ℕ) (x : HasProblem domain_text problem_text) → IsWritable (ground_of x.domain x.problem)
+
+-- the ground problem of two trees speaks of its own atoms alone, where a `u32` counts atoms and actions
+abbrev pub GroundProblemsAreOfTheirAtoms : Type 0
+GroundProblemsAreOfTheirAtoms = (d : Domain Word) (p : Problem Word) → length (ground_of d p).atoms < 2147483648 → length (ground_of d p).actions < 2147483648 → IsOfItsAtoms (ground_of d p)

@@ -1,7 +1,7 @@
 //! Laws of what is written for two trees, each proved as the contract of a function that does nothing.
 
 ghost use Rattle.kp_given.specs.Tables.{EmptyTagIsTable, EmptyTagsAreLight, TablesCanBeWritten};
-ghost use Rattle.kp_given.specs.Laws.{ClosuresAreStarts, CompleteStartsHaveOneValue, FormulasSpeakOfGroundAtoms, GroundProblemsAreWritable, InitialStatesAreModels, NamesTellGroundAtoms, StartsAreOfAtoms};
+ghost use Rattle.kp_given.specs.Laws.{ClosuresAreStarts, CompleteStartsHaveOneValue, FormulasSpeakOfGroundAtoms, GroundProblemsAreOfTheirAtoms, GroundProblemsAreWritable, InitialStatesAreModels, NamesTellGroundAtoms, StartsAreOfAtoms};
 
 /// Where no name is at fault, some state is initial exactly where the initial formula has a model.
 #[tactic(auto, using(crate::proofs::Starts::states_are_models))]
@@ -53,4 +53,10 @@ pub fn tables_can_be_written()
 #[tactic(auto, using(crate::proofs::Sizes::empty_tags_light))]
 pub fn empty_tags_are_light()
     ensures { EmptyTagsAreLight }
+{}
+
+/// The ground problem of two trees speaks of its own atoms alone.
+#[tactic(auto, using(crate::proofs::OfAtoms::of_their_atoms))]
+pub fn ground_problems_are_of_their_atoms()
+    ensures { GroundProblemsAreOfTheirAtoms }
 {}

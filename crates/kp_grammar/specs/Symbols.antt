@@ -26,7 +26,7 @@ names =
     ∷ (codes "forall", symbols.Forall) ∷ (codes "when", symbols.When) ∷ (codes "oneof", symbols.OneOf) ∷ (codes "unknown", symbols.Unknown)
     ∷ (codes "preference", symbols.Preference) ∷ (codes "probabilistic", symbols.Probabilistic) ∷ (codes "increase", symbols.Increase) ∷ (codes "decrease", symbols.Decrease)
     ∷ (codes "assign", symbols.Assign) ∷ (codes "scale-up", symbols.ScaleUp) ∷ (codes "scale-down", symbols.ScaleDown)
-    ∷ (codes "define", symbols.Define) ∷ (codes "domain", symbols.Domain) ∷ (codes "problem", symbols.Problem) ∷ (codes "either", symbols.Either) ∷ []
+    ∷ (codes "define", symbols.Define) ∷ (codes "domain", symbols.Domain) ∷ (codes "problem", symbols.Problem) ∷ (codes "either", symbols.Either) ∷ (codes "merge", symbols.Merge) ∷ []
 
 -- the keywords of the language
 abbrev pub keywords : Table
@@ -156,6 +156,11 @@ abbrev pub is_either : Symbol → Bool
 is_either symbols.Either = true
 is_either _ = false
 
+-- `merge`
+abbrev pub is_merge : Symbol → Bool
+is_merge symbols.Merge = true
+is_merge _ = false
+
 -- `:requirements`
 abbrev pub is_requirements : Symbol → Bool
 is_requirements symbols.Requirements = true
@@ -222,6 +227,7 @@ is_head symbols.Define = true
 is_head symbols.Domain = true
 is_head symbols.Problem = true
 is_head symbols.Either = true
+is_head symbols.Merge = true
 is_head symbols.Name = true
 is_head _ = false
 

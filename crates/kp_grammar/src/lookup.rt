@@ -22,6 +22,7 @@ fn name_symbol(text: &[u8]) -> Symbol
     ensures { result ≡ look_up names symbols.Name text.now }
 {
     let symbol = Symbol::Name;
+    let symbol = known(text, "merge", Symbol::Merge, symbol);
     let symbol = known(text, "either", Symbol::Either, symbol);
     let symbol = known(text, "problem", Symbol::Problem, symbol);
     let symbol = known(text, "domain", Symbol::Domain, symbol);

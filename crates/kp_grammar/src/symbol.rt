@@ -31,6 +31,7 @@ pub enum Symbol {
     Domain,
     Problem,
     Either,
+    Merge,
     /// Any other name.
     Name,
     Requirements,

@@ -14,7 +14,8 @@ pub use Rattle.kp_base.proofs.Lists.{range_there}
 use Rattle.kp_base.proofs.Lits.{has-member, member-has}
 use Rattle.kp_init.specs.Closure.{literals, state_of, states, models_of, closure, IsClosureExact}
 use Rattle.kp_base.specs.Implicates.{are_below, IsOfAtoms}
-use Rattle.kp_init.proofs.Runs.{below, SameBelow, holds_same, all_same}
+use Rattle.kp_base.specs.Steps.{SameBelow}
+use Rattle.kp_init.proofs.Runs.{below, holds_same, all_same}
 
 -- ---- the literals of the first n atoms
 

@@ -13,6 +13,7 @@ use Rattle.kp_base.specs.Lists.{Member, signed, each_once, only_if}
 use Rattle.kp_base.specs.Lit.{positive, negative, negated, same_lit}
 use Rattle.kp_base.specs.LitSet.{set_of}
 use Rattle.kp_base.specs.Steps as steps
+use Rattle.kp_base.specs.Steps.{SameBelow}
 use Rattle.kp_base.proofs.Lists.{any_alike, all_alike, all_member, member_at, flat_member, all_from, member_left, member_right, member_flat_map}
 use Rattle.kp_base.proofs.Once.{all_filter, all_each_once}
 use Rattle.kp_base.proofs.Sets.{all-set_of}
@@ -51,9 +52,6 @@ below n l = nat_lt l.atom.0 n
 
 abbrev action_below : ℕ → Action → Bool
 action_below n a = are_below n a.pre && list_all (λ e. are_below n e.cond) a.effects
-
-abbrev pub SameBelow : ℕ → steps.State → steps.State → Type 0
-SameBelow n s t = (k : ℕ) → k < n → s k ≡ t k
 
 pub holds_same : (n : ℕ) (s t : steps.State) → SameBelow n s t → (l : Lit) → below n l ≡ true → steps.holds s l ≡ steps.holds t l
 holds_same n s t same l h = ap (signed l.positive) (same l.atom.0 (ltb-true l.atom.0 n h))

@@ -52,3 +52,8 @@ is_named p h os = list_any (λ i. list_any (is_of h os) (item_literals i)) p.ini
 pub record IsInitial (p : Problem Word) (s : State) : Type 0 where
   pub items : list_all (item_holds s) p.init ≡ true
   pub absent : (h : Name) (os : List Name) → is_named p h os ≡ false → s h os ≡ false
+
+-- some state is initial
+pub record HasInitialState (p : Problem Word) : Type 0 where
+  pub state : State
+  pub is_initial : IsInitial p state

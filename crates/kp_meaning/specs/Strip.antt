@@ -1,8 +1,11 @@
 -- What a plan of the written files comes to in the given ones.
-use Rattle.std.specs.Prelude.{ℕ, Bool, false, ◌&&◌, not, ◌==◌, nat_eq, nat_le, List, [], ◌∷◌, ◌++◌, if◌then◌else◌, Option, Some, None, option_map, option_and_then, unwrap_or, codes, drop, length}
+use Rattle.std.specs.Prelude.{◌≡◌, ℕ, Bool, false, ◌&&◌, not, ◌==◌, nat_eq, nat_le, List, [], ◌∷◌, ◌++◌, if◌then◌else◌, Option, Some, None, option_map, option_and_then, unwrap_or, codes, drop, length}
 use Rattle.std.specs.List.{list_all, starts_with}
+use Rattle.kp_grammar.specs.declared.tree.Word.{Word}
+use Rattle.kp_grammar.specs.Trees.{Domain, Problem}
 use Rattle.kp_meaning.specs.Names.{Name}
 use Rattle.kp_meaning.specs.Steps.{Step}
+use Rattle.kp_meaning.specs.Plans.{Solves, IsPlan}
 use Rattle.kp_meaning.specs.Encoding.{decoded}
 
 -- what the names of the operators of actions begin with
@@ -28,8 +31,8 @@ is_number (b ∷ []) = is_digit b
 is_number (b ∷ c ∷ bs) = not (b == 48) && list_all is_digit (b ∷ c ∷ bs)
 
 -- the operator is a merge's
-abbrev pub is_merge : Name → Bool
-is_merge operator = unwrap_or (option_map is_number (past merge_front operator)) false
+abbrev pub is_merge_operator : Name → Bool
+is_merge_operator operator = unwrap_or (option_map is_number (past merge_front operator)) false
 
 -- the step whose operator this is
 abbrev pub action_of : Name → Option Step
@@ -37,7 +40,7 @@ action_of operator = option_and_then decoded (past do_front operator)
 
 -- what an operator comes to: the action's step, or nothing for a merge; no other name is an operator's
 abbrev pub stripped_operator : Name → Option (List Step)
-stripped_operator operator = if is_merge operator then Some [] else option_map (λ i. i ∷ []) (action_of operator)
+stripped_operator operator = if is_merge_operator operator then Some [] else option_map (λ i. i ∷ []) (action_of operator)
 
 -- operators have no objects
 abbrev pub stripped : Name → List Name → Option (List Step)
@@ -48,3 +51,21 @@ stripped operator (o ∷ os) = None
 abbrev pub strip : List Step → Option (List Step)
 strip [] = Some []
 strip (i ∷ is) = option_and_then (λ front. option_map (λ rest. front ++ rest) (strip is)) (stripped i.head i.objects)
+
+-- ---- plans that strip to plans
+
+-- the steps strip to a list that solves the problem of the two trees
+pub record StripsToSolution (d : Domain Word) (p : Problem Word) (steps : List Step) : Type 0 where
+  pub stripped : List Step
+  pub strips : strip steps ≡ Some stripped
+  pub solves : Solves d p stripped
+
+-- the steps strip to a plan of the two texts
+pub record StripsToPlan (domain problem : List ℕ) (steps : List Step) : Type 0 where
+  pub stripped : List Step
+  pub strips : strip steps ≡ Some stripped
+  pub is_plan : IsPlan domain problem stripped
+
+-- each plan of the two texts that were written strips to a plan of the two given ones
+abbrev pub PlansStrip : List ℕ → List ℕ → List ℕ → List ℕ → Type 0
+PlansStrip domain_out problem_out domain problem = (steps : List Step) → IsPlan domain_out problem_out steps → StripsToPlan domain problem steps

@@ -1,6 +1,6 @@
 ghost use Rattle.std.specs.Prelude.{◌≡◌, IfOk, option_map};
 ghost use Rattle.std.specs.List.{list_all};
-ghost use Rattle.kp_meaning.specs.Strip.{past, is_digit, is_number, is_merge, action_of};
+ghost use Rattle.kp_meaning.specs.Strip.{past, is_digit, is_number, is_merge_operator, action_of};
 ghost use Rattle.kp_plans.specs.Adding.{Adds};
 ghost use Rattle.kp_plans.specs.Stripping.{AnswersStrip};
 
@@ -39,8 +39,8 @@ fn is_number(text: &[u8]) -> bool
 }
 
 // Whether the name is that of a merge's operator.
-fn is_merge(operator: &[u8]) -> bool
-    ensures { result ≡ is_merge operator.now }
+fn is_merge_operator(operator: &[u8]) -> bool
+    ensures { result ≡ is_merge_operator operator.now }
 {
     match past(b"merge_-", operator) {
         Some(number) => is_number(number),
@@ -69,7 +69,7 @@ fn strip_step(
     if step.objects.len() > 0 {
         return Ok(false);
     }
-    if is_merge(step.head.slice()) {
+    if is_merge_operator(step.head.slice()) {
         return Ok(true);
     }
     match action_of(alloc, step.head.slice())? {

@@ -30,7 +30,8 @@ use Rattle.kp_task.specs.Writable.{IsWritableTask}
 use Rattle.kp_task.specs.Accepted.{IsAccepted}
 use Rattle.kp_task.proofs.Plans.{plans_are_accepted}
 use Rattle.kp_task.proofs.ExampleCells as tagged
-use Rattle.kp_sound.specs.Laws.{StripsToPlan, IsSafelyWritten}
+use Rattle.kp_meaning.specs.Strip.{StripsToPlan}
+use Rattle.kp_sound.specs.Laws.{IsSafelyWritten}
 use Rattle.kp_sound.proofs.Trees.{translations_sound}
 
 -- ---- what is computed from the texts

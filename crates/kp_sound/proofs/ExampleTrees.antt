@@ -29,7 +29,8 @@ use Rattle.kp_task.specs.Task.{task_of}
 use Rattle.kp_task.specs.Writable.{IsWritableTask}
 use Rattle.kp_task.specs.Accepted.{IsAccepted}
 use Rattle.kp_task.proofs.Plans.{plans_are_accepted}
-use Rattle.kp_sound.specs.Laws.{StripsToSolution, StripsToPlan, IsSafelyWritten}
+use Rattle.kp_meaning.specs.Strip.{StripsToSolution, StripsToPlan}
+use Rattle.kp_sound.specs.Laws.{IsSafelyWritten}
 use Rattle.kp_sound.proofs.Trees.{plans_solve, translations_sound}
 
 -- ---- the ground problem can be written

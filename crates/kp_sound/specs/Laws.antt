@@ -1,33 +1,17 @@
 -- The plans of what is written for two trees, or two texts, and a table of tags and merges: they strip to plans of these.
-use Rattle.std.specs.Prelude.{◌≡◌, ℕ, true, List, Some}
+use Rattle.std.specs.Prelude.{◌≡◌, ℕ, true, List}
 use Rattle.kp_base.specs.declared.ground.TagTable.{TagTable}
 use Rattle.kp_base.specs.Clashes.{NeverClashes}
 use Rattle.kp_grammar.specs.declared.tree.Word.{Word}
 use Rattle.kp_grammar.specs.Trees.{Domain, Problem}
 use Rattle.kp_meaning.specs.Faults.{HasNoFault}
 use Rattle.kp_meaning.specs.Steps.{Step}
-use Rattle.kp_meaning.specs.Plans.{HasProblem, Solves, IsPlan}
-use Rattle.kp_meaning.specs.Strip.{strip}
+use Rattle.kp_meaning.specs.Plans.{HasProblem, IsPlan}
+use Rattle.kp_meaning.specs.Strip.{StripsToSolution, PlansStrip}
 use Rattle.kp_meaning.specs.NumberLaws.{is_plain_goal}
 use Rattle.kp_task.specs.Writable.{IsWritableTask}
 use Rattle.kp_given.specs.Translations.{ground_of, initial_of}
 use Rattle.kp_given.specs.Tables.{IsTableFor, translation_of}
-
--- the steps strip to a list that solves the problem of the two trees
-pub record StripsToSolution (d : Domain Word) (p : Problem Word) (steps : List Step) : Type 0 where
-  pub stripped : List Step
-  pub strips : strip steps ≡ Some stripped
-  pub solves : Solves d p stripped
-
--- the steps strip to a plan of the two texts
-pub record StripsToPlan (domain problem : List ℕ) (steps : List Step) : Type 0 where
-  pub stripped : List Step
-  pub strips : strip steps ≡ Some stripped
-  pub is_plan : IsPlan domain problem stripped
-
--- each plan of the two texts that were written strips to a plan of the two given ones
-abbrev pub PlansStrip : List ℕ → List ℕ → List ℕ → List ℕ → Type 0
-PlansStrip domain_out problem_out domain problem = (steps : List Step) → IsPlan domain_out problem_out steps → StripsToPlan domain problem steps
 
 -- the table is one for the trees, with which their ground problem can be written, and nothing clashes
 pub record IsSafelyWritten (d : Domain Word) (p : Problem Word) (table : TagTable) : Type 0 where
