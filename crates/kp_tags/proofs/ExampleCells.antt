@@ -13,9 +13,10 @@ use Rattle.kp_base.specs.Steps.{State, holds, is_model}
 use Rattle.kp_base.specs.Entailed.{IsConsistent, AreValid, IsTable}
 use Rattle.kp_machine.proofs.ExampleCells.{cells, one_of_three, table, right, valid}
 use Rattle.kp_primes.specs.Held.{Held}
-use Rattle.kp_first.specs.Ordered.{state_of, ComesBefore, AreFirst}
+use Rattle.kp_base.specs.Steps.{ComesBefore}
+use Rattle.kp_first.specs.Ordered.{state_of, AreFirst}
 use Rattle.kp_cover.specs.Valid.{satisfies_one, AreValidTags, is_outside}
-use Rattle.kp_tags.specs.declared.merge.FileMerge.{FileMerge}
+use Rattle.kp_merges.specs.declared.merge.FileMerge.{FileMerge}
 use Rattle.kp_tags.specs.Tables.{IsTableOf}
 use Rattle.kp_tags.specs.Answers.{AreConsistent, AreAcceptable, AreAllAcceptable, RefusesMerge, Accepts, RefusesTable}
 use Rattle.kp_tags.proofs.Right as tables
@@ -55,7 +56,7 @@ no_fault = record { each = each }
     each m (inl e) = subst (λ (x : FileMerge). AreAcceptable one_of_three x.tags) e (record { consistent = consistent; valid = valid_tags })
     each m (inr none) = absurd none
 
-is_table : IsTableOf held file table
+is_table : IsTableOf 3 one_of_three file table
 is_table = record { tags = refl; closures = λ row m. record { closure = right.closures row m; ascending = ascends row m }; merges = refl }
   where
     ascends : (row : TagRow) → Member table.tags row → IsAscending row.closure
@@ -66,17 +67,17 @@ is_table = record { tags = refl; closures = λ row m. record { closure = right.c
     ascends row (inr (inr (inr (inr none)))) = absurd none
 
 -- four tags, the empty one included, are within four
-accepted : Accepts held file 4 table
+accepted : Accepts 3 one_of_three file 4 table
 accepted = record { acceptable = no_fault; within_limit = omega arith; is_table = is_table }
 
 -- and so the table is right
 is_right : IsTable cells one_of_three table × AreValid one_of_three table
-is_right = tables.right cells held one_of_three file table refl (λ s. refl) no_fault is_table
+is_right = tables.right cells one_of_three file table no_fault is_table
 
 -- ---- refused
 
 -- but not within three
-too_many : RefusesTable held file 3 refusals.TagsOver
+too_many : RefusesTable 3 one_of_three file 3 refusals.TagsOver
 too_many = RefusesTable.tags_over no_fault (omega arith)
 
 -- the first and the second cell aren't both full
@@ -94,7 +95,7 @@ both_full c = by c.state (c.state 0) (c.state 1) refl refl c.model c.all_true
 abbrev with_both : FileMerge
 with_both = record { target = positive 0; tags = (positive 2 ∷ []) ∷ both ∷ [] }
 
-second_tag_refused : RefusesTable held (with_both ∷ []) 4 (refusals.TagInconsistent 0 1)
+second_tag_refused : RefusesTable 3 one_of_three (with_both ∷ []) 4 (refusals.TagInconsistent 0 1)
 second_tag_refused = RefusesTable.at_fault (refusals.TagInconsistent 0 1) (record {
   number = 0;
   merge = with_both;
@@ -139,7 +140,7 @@ third_is_first = (record { bounded = record { none_past = past_three }; passed =
 abbrev of_two : FileMerge
 of_two = record { target = positive 0; tags = two }
 
-third_cell_refused : RefusesTable held (of_two ∷ []) 4 (refusals.MergeInvalid 0 third_cell)
+third_cell_refused : RefusesTable 3 one_of_three (of_two ∷ []) 4 (refusals.MergeInvalid 0 third_cell)
 third_cell_refused = RefusesTable.at_fault (refusals.MergeInvalid 0 third_cell) (record {
   number = 0;
   merge = of_two;

@@ -8,8 +8,7 @@ use Rattle.kp_base.specs.declared.refused.Stop.TheVariants as stops
 use Rattle.kp_base.specs.Lists.{Member, each_once}
 use Rattle.kp_base.specs.Entailed.{IsConsistent, HasModel}
 use Rattle.kp_base.proofs.Lists.{append_member, flat_member, filter_member}
-use Rattle.kp_primes.specs.Held.{Held, formula}
-use Rattle.kp_tags.specs.declared.merge.FileMerge.{FileMerge}
+use Rattle.kp_merges.specs.declared.merge.FileMerge.{FileMerge}
 use Rattle.kp_tags.specs.Tables.{same_tag, used_tags}
 use Rattle.kp_tags.specs.Answers.{AreConsistent, AreAcceptable, AreAllAcceptable, AnswersMerges, RefusesTable, AnswersTable}
 use Rattle.kp_tags.proofs.Places.{take_next}
@@ -54,6 +53,6 @@ used_consistent i ms model fine = record { each = each }
 -- ---- what stops
 
 -- what stops the judging of merges stops the table
-pub stops_table : (h : Held) (ms : List FileMerge) (limit : ℕ) (stop : Stop) → AnswersMerges h ms (Err stop) → AnswersTable h ms limit (Err stop)
-stops_table h ms limit (stops.Refused r) fault = RefusesTable.at_fault r fault
-stops_table h ms limit stops.Memory fault = tt
+pub stops_table : (atoms : ℕ) (i : Initial) (ms : List FileMerge) (limit : ℕ) (stop : Stop) → AnswersMerges atoms i ms (Err stop) → AnswersTable atoms i ms limit (Err stop)
+stops_table atoms i ms limit (stops.Refused r) fault = RefusesTable.at_fault r fault
+stops_table atoms i ms limit stops.Memory fault = tt

@@ -12,7 +12,7 @@ use Rattle.kp_base.proofs.Lits.{same_lit-true, same_lit-refl, same_lits, contain
 use Rattle.kp_base.proofs.Ascending.{same_members}
 use Rattle.kp_base.proofs.Sets.{any-set_of, set_ascends}
 use Rattle.kp_base.proofs.Once.{once_by_one}
-use Rattle.kp_tags.specs.declared.merge.FileMerge.{FileMerge}
+use Rattle.kp_merges.specs.declared.merge.FileMerge.{FileMerge}
 use Rattle.kp_tags.specs.Tables.{same_tag, used_tags}
 use Rattle.kp_tags.specs.Kept.{AreSets, with_tag}
 

@@ -6,3 +6,4 @@ pub mod Faults
 pub mod Unique
 pub mod Right
 pub mod ExampleCells
+pub mod ByModels

@@ -1,23 +1,19 @@
 -- The table of merges none of which is at fault is right, and its merges are valid.
-use Rattle.std.proofs.Common.{◌≡◌, ◌<◌, ◌+◌, ◌||◌, ℕ, suc, Bool, true, false, not, cond, List, [], ◌∷◌, Some, map, length, slice_get, refl, sym, ap, subst, ◌∙◌, inl, inr, arith}
+use Rattle.std.proofs.Common.{◌≡◌, ◌<◌, ◌+◌, ◌||◌, ℕ, suc, Bool, true, false, not, cond, List, [], ◌∷◌, Some, map, length, slice_get, refl, sym, ap, subst, ◌∙◌, inr, arith}
 use Rattle.std.specs.List.{list_any, list_all, flat_map}
 use Rattle.std.proofs.lemmas.Bool.{false≢true}
 use Rattle.std.proofs.lemmas.List.{length-map}
 use Rattle.kp_base.specs.declared.lit.Lit.{Lit}
-use Rattle.kp_base.specs.declared.ground.Ground.{Ground}
 use Rattle.kp_base.specs.declared.ground.Initial.{Initial}
 use Rattle.kp_base.specs.declared.ground.TagRow.{TagRow}
 use Rattle.kp_base.specs.declared.ground.Merge.{Merge}
 use Rattle.kp_base.specs.declared.ground.TagTable.{TagTable}
-use Rattle.kp_base.specs.Lists.{Member, each_once}
-use Rattle.kp_base.specs.Steps.{State, holds, is_model}
-use Rattle.kp_base.specs.Entailed.{tag_holds, IsClosure, IsValid, AreValid, IsTable}
+use Rattle.kp_base.specs.Lists.{Member}
+use Rattle.kp_base.specs.Steps.{State, holds}
+use Rattle.kp_base.specs.Entailed.{tag_holds, IsValid, AreValid}
 use Rattle.kp_base.proofs.Lists.{any_from, any_map, any_weaker, map_member, member_flat_map}
 use Rattle.kp_base.proofs.Once.{any-each_once}
-use Rattle.kp_machine.specs.Formulas.{HaveSameModels}
-use Rattle.kp_machine.proofs.Formulas.{same_models}
-use Rattle.kp_primes.specs.Held.{Held, formula}
-use Rattle.kp_tags.specs.declared.merge.FileMerge.{FileMerge}
+use Rattle.kp_merges.specs.declared.merge.FileMerge.{FileMerge}
 use Rattle.kp_tags.specs.Tables.{same_tag, used_tags, number_in, numbered, IsTableOf}
 use Rattle.kp_tags.specs.Answers.{AreAllAcceptable}
 use Rattle.kp_tags.specs.Laws.{AcceptedTablesAreRight}
@@ -54,7 +50,7 @@ is_used ms m t in-ms in-m =
     any-each_once same_tag (same_tag t) (λ x y h. same_tags.symm t x ∙ (same_tags.congr x y t h ∙ same_tags.symm y t)) ([] ∷ flat_map (λ m. m.tags) ms)
     ∙ any_from (same_tag t) ([] ∷ flat_map (λ m. m.tags) ms) t (inr (member_flat_map (λ (m : FileMerge). m.tags) ms m t in-ms in-m)) (same_tags.refl t)
 
-module _ (h : Held) (ms : List FileMerge) (table : TagTable) (is : IsTableOf h ms table) where
+module _ (atoms : ℕ) (i : Initial) (ms : List FileMerge) (table : TagTable) (is : IsTableOf atoms i ms table) where
   -- so they stand in the table at their numbers
   stands : (m : FileMerge) (t : List Lit) → Member ms m → Member m.tags t → (row : TagRow) × (slice_get table.tags (number_in (used_tags ms) t) ≡ Some row) × (row.lits ≡ t)
   stands m t in-ms in-m =
@@ -84,28 +80,24 @@ module _ (h : Held) (ms : List FileMerge) (table : TagTable) (is : IsTableOf h m
       ap (λ o. tag_holds o s) row.1 ∙ (ap (list_all (holds s)) row.2 ∙ all)
 
   -- a merge whose tags are valid is valid by number
-  valid_by_number : (i : Initial) → HaveSameModels (formula h) i → AreAllAcceptable (formula h) ms → (m : FileMerge) → Member ms m → IsValid i table (numbered (used_tags ms) m)
-  valid_by_number i same fine m in-ms s model =
+  valid_by_number : AreAllAcceptable i ms → (m : FileMerge) → Member ms m → IsValid i table (numbered (used_tags ms) m)
+  valid_by_number fine m in-ms s model =
       any_map (number_in (used_tags ms)) (λ n. tag_holds (slice_get table.tags n) s) (λ t. tag_holds (slice_get table.tags (number_in (used_tags ms) t)) s) m.tags (λ t. refl)
-      ∙ any_weaker (list_all (holds s)) (λ t. tag_holds (slice_get table.tags (number_in (used_tags ms) t)) s) m.tags (one_holds m in-ms s) ((fine.each m in-ms).valid s (same s ∙ model))
+      ∙ any_weaker (list_all (holds s)) (λ t. tag_holds (slice_get table.tags (number_in (used_tags ms) t)) s) m.tags (one_holds m in-ms s) ((fine.each m in-ms).valid s model)
 
-  each_valid : (i : Initial) → HaveSameModels (formula h) i → AreAllAcceptable (formula h) ms → AreValid i table
-  each_valid i same fine = record {
+  each_valid : AreAllAcceptable i ms → AreValid i table
+  each_valid fine = record {
     each = λ m in-table.
         let file = map_member (numbered (used_tags ms)) ms m (subst (λ (all : List Merge). Member all m) is.merges in-table) in
-        subst (IsValid i table) file.2 (valid_by_number i same fine file.0 file.1);
+        subst (IsValid i table) file.2 (valid_by_number fine file.0 file.1);
   }
 
-  closed : (g : Ground) (i : Initial) → length g.atoms ≡ h.atoms → HaveSameModels (formula h) i → (row : TagRow) → Member table.tags row → IsClosure (length g.atoms) i row.lits row.closure
-  closed g i atoms same row m =
-      (same_models g (formula h) i same).closures (length g.atoms) row.lits row.closure (subst (λ n. IsClosure n (formula h) row.lits row.closure) (sym atoms) (is.closures row m).closure)
-
 pub right : AcceptedTablesAreRight
-right g h i ms table atoms same fine is = (
+right g i ms table fine is = (
   record {
-    first = empty_first h ms table is;
-    tags = in_range h ms table is;
-    closures = closed h ms table is g i atoms same;
+    first = empty_first (length g.atoms) i ms table is;
+    tags = in_range (length g.atoms) i ms table is;
+    closures = λ row m. (is.closures row m).closure;
   },
-  each_valid h ms table is i same fine,
+  each_valid (length g.atoms) i ms table is fine,
 )

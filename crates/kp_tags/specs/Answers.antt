@@ -10,10 +10,9 @@ use Rattle.kp_base.specs.declared.refused.Refused.{Refused}
 use Rattle.kp_base.specs.declared.refused.Refused.TheVariants as refusals
 use Rattle.kp_base.specs.Lists.{Member}
 use Rattle.kp_base.specs.Entailed.{IsConsistent}
-use Rattle.kp_primes.specs.Held.{Held, formula}
 use Rattle.kp_first.specs.Ordered.{AreFirst}
 use Rattle.kp_cover.specs.Valid.{AreValidTags, is_outside}
-use Rattle.kp_tags.specs.declared.merge.FileMerge.{FileMerge}
+use Rattle.kp_merges.specs.declared.merge.FileMerge.{FileMerge}
 use Rattle.kp_tags.specs.Tables.{used_tags, IsTableOf}
 
 -- ---- one merge
@@ -40,15 +39,15 @@ pub record AreAcceptable (i : Initial) (tags : List (List Lit)) : Type 0 where
   pub valid : AreValidTags i tags
 
 -- what is at fault with the merge of this number: its first inconsistent tag; or all are consistent, and the first model outside them
-pub data RefusesMerge (h : Held) (number : ℕ) (tags : List (List Lit)) : Refused → Type 0 where
-  inconsistent : (place : ℕ) → IsFirstInconsistent (formula h) tags place → RefusesMerge h number tags (refusals.TagInconsistent number place)
-  invalid : (state : List AtomId) → AreConsistent (formula h) tags → AreFirst h.atoms (is_outside (formula h) tags) state → RefusesMerge h number tags (refusals.MergeInvalid number state)
+pub data RefusesMerge (atoms : ℕ) (i : Initial) (number : ℕ) (tags : List (List Lit)) : Refused → Type 0 where
+  inconsistent : (place : ℕ) → IsFirstInconsistent i tags place → RefusesMerge atoms i number tags (refusals.TagInconsistent number place)
+  invalid : (state : List AtomId) → AreConsistent i tags → AreFirst atoms (is_outside i tags) state → RefusesMerge atoms i number tags (refusals.MergeInvalid number state)
 
 -- what is answered on one merge
-abbrev pub AnswersMerge : Held → ℕ → List (List Lit) → Result Unit Stop → Type 0
-AnswersMerge h number tags (Ok done) = AreAcceptable (formula h) tags
-AnswersMerge h number tags (Err (stops.Refused r)) = RefusesMerge h number tags r
-AnswersMerge h number tags (Err stops.Memory) = Unit {0}
+abbrev pub AnswersMerge : ℕ → Initial → ℕ → List (List Lit) → Result Unit Stop → Type 0
+AnswersMerge atoms i number tags (Ok done) = AreAcceptable i tags
+AnswersMerge atoms i number tags (Err (stops.Refused r)) = RefusesMerge atoms i number tags r
+AnswersMerge atoms i number tags (Err stops.Memory) = Unit {0}
 
 -- ---- all merges
 
@@ -57,34 +56,34 @@ pub record AreAllAcceptable (i : Initial) (ms : List FileMerge) : Type 0 where
   pub each : (m : FileMerge) → Member ms m → AreAcceptable i m.tags
 
 -- the first merge at fault is refused so
-pub record RefusesFirst (h : Held) (ms : List FileMerge) (r : Refused) : Type 0 where
+pub record RefusesFirst (atoms : ℕ) (i : Initial) (ms : List FileMerge) (r : Refused) : Type 0 where
   pub number : ℕ
   pub merge : FileMerge
   pub merge_at : slice_get ms number ≡ Some merge
-  pub before : AreAllAcceptable (formula h) (take number ms)
-  pub fault : RefusesMerge h number merge.tags r
+  pub before : AreAllAcceptable i (take number ms)
+  pub fault : RefusesMerge atoms i number merge.tags r
 
 -- whether a merge is at fault
-abbrev pub AnswersMerges : Held → List FileMerge → Result Unit Stop → Type 0
-AnswersMerges h ms (Ok done) = AreAllAcceptable (formula h) ms
-AnswersMerges h ms (Err (stops.Refused r)) = RefusesFirst h ms r
-AnswersMerges h ms (Err stops.Memory) = Unit {0}
+abbrev pub AnswersMerges : ℕ → Initial → List FileMerge → Result Unit Stop → Type 0
+AnswersMerges atoms i ms (Ok done) = AreAllAcceptable i ms
+AnswersMerges atoms i ms (Err (stops.Refused r)) = RefusesFirst atoms i ms r
+AnswersMerges atoms i ms (Err stops.Memory) = Unit {0}
 
 -- ---- the table
 
 -- no merge is at fault, the tags are within the limit, and this is the table
-pub record Accepts (h : Held) (ms : List FileMerge) (limit : ℕ) (table : TagTable) : Type 0 where
-  pub acceptable : AreAllAcceptable (formula h) ms
+pub record Accepts (atoms : ℕ) (i : Initial) (ms : List FileMerge) (limit : ℕ) (table : TagTable) : Type 0 where
+  pub acceptable : AreAllAcceptable i ms
   pub within_limit : length (used_tags ms) ≤ limit
-  pub is_table : IsTableOf h ms table
+  pub is_table : IsTableOf atoms i ms table
 
 -- why there is no table: a merge is at fault; or none is, and there are too many tags
-pub data RefusesTable (h : Held) (ms : List FileMerge) (limit : ℕ) : Refused → Type 0 where
-  at_fault : (r : Refused) → RefusesFirst h ms r → RefusesTable h ms limit r
-  tags_over : AreAllAcceptable (formula h) ms → limit < length (used_tags ms) → RefusesTable h ms limit refusals.TagsOver
+pub data RefusesTable (atoms : ℕ) (i : Initial) (ms : List FileMerge) (limit : ℕ) : Refused → Type 0 where
+  at_fault : (r : Refused) → RefusesFirst atoms i ms r → RefusesTable atoms i ms limit r
+  tags_over : AreAllAcceptable i ms → limit < length (used_tags ms) → RefusesTable atoms i ms limit refusals.TagsOver
 
 -- what is answered
-abbrev pub AnswersTable : Held → List FileMerge → ℕ → Result TagTable Stop → Type 0
-AnswersTable h ms limit (Ok table) = Accepts h ms limit table
-AnswersTable h ms limit (Err (stops.Refused r)) = RefusesTable h ms limit r
-AnswersTable h ms limit (Err stops.Memory) = Unit {0}
+abbrev pub AnswersTable : ℕ → Initial → List FileMerge → ℕ → Result TagTable Stop → Type 0
+AnswersTable atoms i ms limit (Ok table) = Accepts atoms i ms limit table
+AnswersTable atoms i ms limit (Err (stops.Refused r)) = RefusesTable atoms i ms limit r
+AnswersTable atoms i ms limit (Err stops.Memory) = Unit {0}

@@ -3,6 +3,7 @@ use Rattle.std.specs.Prelude.{◌≡◌, ℕ, Bool, List, [], ◌∷◌, map}
 use Rattle.std.specs.List.{list_all, flat_map, position_or_len}
 use Rattle.std.specs.Cmp.Lexicographic.{pointwise}
 use Rattle.kp_base.specs.declared.lit.Lit.{Lit}
+use Rattle.kp_base.specs.declared.ground.Initial.{Initial}
 use Rattle.kp_base.specs.declared.ground.TagRow.{TagRow}
 use Rattle.kp_base.specs.declared.ground.TagTable.{TagTable}
 use Rattle.kp_base.specs.declared.ground.Merge.{Merge}
@@ -11,8 +12,7 @@ use Rattle.kp_base.specs.Lit.{same_lit}
 use Rattle.kp_base.specs.LitSet.{IsAscending}
 use Rattle.kp_base.specs.Implicates.{are_below}
 use Rattle.kp_base.specs.Entailed.{IsClosure}
-use Rattle.kp_primes.specs.Held.{Held, formula}
-use Rattle.kp_tags.specs.declared.merge.FileMerge.{FileMerge}
+use Rattle.kp_merges.specs.declared.merge.FileMerge.{FileMerge}
 
 -- the tags of the merge are of the first n atoms
 abbrev pub has_tags_of_atoms : ℕ → FileMerge → Bool
@@ -39,12 +39,12 @@ abbrev pub numbered : List (List Lit) → FileMerge → Merge
 numbered tags m = record { target = m.target; tags = map (number_in tags) m.tags }
 
 -- a tag stands with its closure, as a set
-pub record HasClosure (h : Held) (row : TagRow) : Type 0 where
-  pub closure : IsClosure h.atoms (formula h) row.lits row.closure
+pub record HasClosure (atoms : ℕ) (i : Initial) (row : TagRow) : Type 0 where
+  pub closure : IsClosure atoms i row.lits row.closure
   pub ascending : IsAscending row.closure
 
 -- the tags that are used, each with its closure, and the merges in order with their tags by number
-pub record IsTableOf (h : Held) (ms : List FileMerge) (table : TagTable) : Type 0 where
+pub record IsTableOf (atoms : ℕ) (i : Initial) (ms : List FileMerge) (table : TagTable) : Type 0 where
   pub tags : map (λ row. row.lits) table.tags ≡ used_tags ms
-  pub closures : (row : TagRow) → Member table.tags row → HasClosure h row
+  pub closures : (row : TagRow) → Member table.tags row → HasClosure atoms i row
   pub merges : table.merges ≡ map (numbered (used_tags ms)) ms

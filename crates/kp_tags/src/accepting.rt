@@ -5,11 +5,11 @@ ghost use Rattle.kp_tags.specs.Tables.{has_tags_of_atoms, used_tags, IsTableOf};
 ghost use Rattle.kp_tags.specs.Answers.{AnswersTable, AreAllAcceptable};
 
 use crate::judging::judge_all;
-use crate::merge::FileMerge;
 use crate::numbers::all_numbered;
 use crate::rows::rows;
 use crate::tags::Tags;
 use kp_base::{Limits, Memory, Refused, Row, Stop, TagTable};
+use kp_merges::FileMerge;
 use kp_primes::Primes;
 use std::alloc::Global;
 
@@ -22,7 +22,7 @@ fn table(
 ) -> Result<TagTable, Memory>
     requires used { tags.now ≡ used_tags merges.now }
     requires acceptable { AreAllAcceptable (formula primes.now) merges.now }
-    ensures { IfOk result (IsTableOf primes.now merges.now) }
+    ensures { IfOk result (IsTableOf primes.now.atoms (formula primes.now) merges.now) }
 {
     // There is a model, which the empty tag needs.
     let _clauses = primes.clauses();
@@ -40,7 +40,7 @@ fn table_within(
     limit: u32,
 ) -> Result<TagTable, Stop>
     requires { AreAllAcceptable (formula primes.now) merges.now }
-    ensures { AnswersTable primes.now merges.now limit result }
+    ensures { AnswersTable primes.now.atoms (formula primes.now) merges.now limit result }
 {
     let tags = Tags::used(alloc, merges)?;
     if tags.len() > limit as usize {
@@ -64,7 +64,7 @@ pub fn accept_merges(
     limits: &Limits,
 ) -> Result<TagTable, Stop>
     requires { list_all (has_tags_of_atoms primes.now.atoms) merges.now ≡ true }
-    ensures { AnswersTable primes.now merges.now limits.now.tags result }
+    ensures { AnswersTable primes.now.atoms (formula primes.now) merges.now limits.now.tags result }
 {
     match judge_all(alloc, primes, merges.slice()) {
         Ok(()) => table_within(alloc, primes, merges.slice(), limits.tags),

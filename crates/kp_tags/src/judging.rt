@@ -5,10 +5,10 @@ ghost use Rattle.kp_primes.specs.Held.{formula};
 ghost use Rattle.kp_tags.specs.Tables.{has_tags_of_atoms};
 ghost use Rattle.kp_tags.specs.Answers.{AnswersInconsistent, AnswersMerge, AnswersMerges, AreConsistent};
 
-use crate::merge::FileMerge;
 use crate::tags::as_number;
 use kp_base::{LitSet, Refused, Row, Stop};
 use kp_cover::{Validity, valid};
+use kp_merges::FileMerge;
 use kp_primes::Primes;
 use std::alloc::Global;
 
@@ -33,7 +33,7 @@ fn judge_consistent(
 ) -> Result<(), Stop>
     requires of_atoms { list_all (are_below primes.now.atoms) tags.now ≡ true }
     requires consistent { AreConsistent (formula primes.now) tags.now }
-    ensures { AnswersMerge primes.now merge tags.now result }
+    ensures { AnswersMerge primes.now.atoms (formula primes.now) merge tags.now result }
 {
     match valid(alloc, primes, tags)? {
         Validity::Valid => Ok(()),
@@ -44,7 +44,7 @@ fn judge_consistent(
 // Whether tags are consistent, and those of a valid merge.
 fn judge(alloc: Global, primes: &Primes, merge: u32, tags: &Row<LitSet>) -> Result<(), Stop>
     requires { list_all (are_below primes.now.atoms) tags.now ≡ true }
-    ensures { AnswersMerge primes.now merge tags.now result }
+    ensures { AnswersMerge primes.now.atoms (formula primes.now) merge tags.now result }
 {
     match first_inconsistent(primes, tags.slice()) {
         Some(place) => Err(Stop::Refused(Refused::TagInconsistent {
@@ -58,7 +58,7 @@ fn judge(alloc: Global, primes: &Primes, merge: u32, tags: &Row<LitSet>) -> Resu
 /// Whether each merge is valid and each of its tags consistent; else the first that isn't is refused.
 pub fn judge_all(alloc: Global, primes: &Primes, merges: &[FileMerge]) -> Result<(), Stop>
     requires { list_all (has_tags_of_atoms primes.now.atoms) merges.now ≡ true }
-    ensures { AnswersMerges primes.now merges.now result }
+    ensures { AnswersMerges primes.now.atoms (formula primes.now) merges.now result }
 {
     for (number, merge) in merges.iter().enumerate() {
         judge(alloc, primes, as_number(number)?, &merge.tags)?;

@@ -11,5 +11,6 @@ mod rows;
 mod tags;
 
 pub use accepting::accept_merges;
-pub use laws::{accepted_tables_are_right, there_is_one_table};
-pub use merge::{FileMerge, tags_are_of_atoms};
+pub use kp_merges::{FileMerge, merges_text, read_merges};
+pub use laws::{accepted_tables_are_right, tables_go_by_models, there_is_one_table};
+pub use merge::tags_are_of_atoms;

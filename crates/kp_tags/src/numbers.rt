@@ -1,9 +1,9 @@
 ghost use Rattle.std.specs.Prelude.{◌≡◌, IfOk, map};
 ghost use Rattle.kp_tags.specs.Tables.{number_in, numbered};
 
-use crate::merge::FileMerge;
 use crate::tags::Tags;
 use kp_base::{LitSet, Memory, Merge, Row};
+use kp_merges::FileMerge;
 use std::alloc::Global;
 
 // The numbers of some tags.

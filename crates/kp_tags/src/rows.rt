@@ -25,7 +25,7 @@ fn set_of(alloc: Global, lits: &[Lit]) -> Result<LitSet, Memory>
 fn row(alloc: Global, primes: &Primes, tag: &[Lit]) -> Result<TagRow, Memory>
     requires ascending { IsAscending tag.now }
     requires consistent { IsConsistent (formula primes.now) tag.now }
-    ensures { IfOk result (IsRowOf primes.now tag.now) }
+    ensures { IfOk result (IsRowOf primes.now.atoms (formula primes.now) tag.now) }
 {
     let lits = set_of(alloc, tag)?;
     match primes.closure(alloc, &lits)? {
@@ -47,7 +47,7 @@ fn row_with(lits: LitSet, closure: LitSet) -> TagRow
 /// The tags with their closures. The tags must be consistent.
 pub fn rows(alloc: Global, primes: &Primes, tags: &Tags) -> Result<Row<TagRow>, Memory>
     requires { AreConsistent (formula primes.now) tags.now }
-    ensures { IfOk result (AreRows primes.now tags.now) }
+    ensures { IfOk result (AreRows primes.now.atoms (formula primes.now) tags.now) }
 {
     let mut rows = Row::new(alloc);
     for tag in tags.slice() {

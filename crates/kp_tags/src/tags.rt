@@ -3,9 +3,9 @@ ghost use Rattle.kp_base.specs.LitSet.{IsAscending};
 ghost use Rattle.kp_tags.specs.Tables.{number_in, used_tags};
 ghost use Rattle.kp_tags.specs.Kept.{AreSets, with_tag};
 
-use crate::merge::FileMerge;
 use indexmap::IndexSet;
 use kp_base::{Lit, LitSet, Memory};
+use kp_merges::FileMerge;
 use std::alloc::Global;
 use std::marker::Model;
 

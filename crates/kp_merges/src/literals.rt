@@ -1,0 +1,98 @@
+ghost use Rattle.std.specs.Prelude.{◌≡◌, ◌<◌, ◌≤◌, ◌+◌, length, IfOk, IfErr};
+ghost use Rattle.std.specs.Bool.{OnTrue};
+ghost use Rattle.kp_grammar.specs.Symbols.{first_is, is_left as is_opening, is_not};
+ghost use Rattle.kp_grammar.specs.Forms.{many};
+ghost use Rattle.kp_grammar.specs.Grammar.{lit};
+ghost use Rattle.kp_cursor.specs.Lexemes.{from};
+ghost use Rattle.kp_merges.specs.Grammar.{tag};
+ghost use Rattle.kp_merges.specs.Numbers.{IsLit, IsTag};
+ghost use Rattle.kp_merges.specs.Parts.{ReadsAt, HaltsAt, is_denied, numbers_of};
+
+use crate::atoms::atom_at;
+use kp_base::{Lit, LitSet};
+use kp_cursor::{Halt, Lexeme, close, is_left, peek};
+use kp_grammar::Symbol;
+use kp_plans::NameTable;
+use std::alloc::Global;
+
+// Whether the word `not` stands at a place.
+fn is_not(tokens: &[Lexeme], at: usize) -> bool
+    ensures test { result ≡ first_is is_not (from tokens.now at) }
+    ensures within { OnTrue result (at < length tokens.now) }
+{
+    match peek(tokens, at) {
+        Some(first) => matches!(first.symbol, Symbol::Not),
+        None => false,
+    }
+}
+
+// Whether a literal that stands at a place has a negation.
+fn is_denied(tokens: &[Lexeme], at: usize) -> bool
+    ensures test { result ≡ is_denied (from tokens.now at) }
+    ensures within { OnTrue result (at + 2 ≤ length tokens.now) }
+{
+    is_left(tokens, at) && is_not(tokens, at + 1)
+}
+
+/// The literal that stands at a place, and the place behind it.
+pub fn literal_at(
+    alloc: Global,
+    table: &NameTable,
+    tokens: &[Lexeme],
+    at: usize,
+) -> Result<(Lit, usize), Halt>
+    ensures found { IfOk result (λ x. ReadsAt lit (IsLit (numbers_of table.now)) tokens.now at x.0 x.1) }
+    ensures stopped { IfErr result (λ e. HaltsAt (numbers_of table.now) lit tokens.now at e) }
+    ensures onward { IfOk result (λ x. (at < x.1) × (x.1 ≤ length tokens.now)) }
+{
+    let positive = !is_denied(tokens, at);
+    if positive {
+        let (atom, behind) = atom_at(alloc, table, tokens, at)?;
+        Ok((Lit { atom, positive }, behind))
+    } else {
+        let (atom, behind) = atom_at(alloc, table, tokens, at + 2)?;
+        let behind = close(tokens, behind)?;
+        Ok((Lit { atom, positive }, behind))
+    }
+}
+
+// The literals that stand at a place, as a set, and the place behind them.
+fn literals_at(
+    alloc: Global,
+    table: &NameTable,
+    tokens: &[Lexeme],
+    start: usize,
+) -> Result<(LitSet, usize), Halt>
+    requires { start ≤ length tokens.now }
+    ensures found { IfOk result (λ x. ReadsAt (many is_opening lit) (IsTag (numbers_of table.now)) tokens.now start x.0 x.1) }
+    ensures stopped { IfErr result (λ e. HaltsAt (numbers_of table.now) (many is_opening lit) tokens.now start e) }
+    ensures onward { IfOk result (λ x. (start ≤ x.1) × (x.1 ≤ length tokens.now)) }
+{
+    let mut set = LitSet::new(alloc);
+    let mut at = start;
+    'literals: while is_left(tokens, at) {
+        let (lit, behind) = literal_at(alloc, table, tokens, at)?;
+        set.insert(lit)?;
+        at = behind;
+    }
+    Ok((set, at))
+}
+
+/// The tag that stands at a place, and the place behind it.
+pub fn tag_at(
+    alloc: Global,
+    table: &NameTable,
+    tokens: &[Lexeme],
+    at: usize,
+) -> Result<(LitSet, usize), Halt>
+    ensures found { IfOk result (λ x. ReadsAt tag (IsTag (numbers_of table.now)) tokens.now at x.0 x.1) }
+    ensures stopped { IfErr result (λ e. HaltsAt (numbers_of table.now) tag tokens.now at e) }
+    ensures onward { IfOk result (λ x. (at < x.1) × (x.1 ≤ length tokens.now)) }
+{
+    if !is_left(tokens, at) {
+        return Err(Halt::Syntax(at));
+    }
+    let (set, at) = literals_at(alloc, table, tokens, at + 1)?;
+    let behind = close(tokens, at)?;
+    Ok((set, behind))
+}
