@@ -1,0 +1,7 @@
+pub mod Tables
+pub mod Closing
+pub mod Chains
+pub mod Exact
+pub mod Once
+pub mod Clauses
+pub mod ExampleRelevance

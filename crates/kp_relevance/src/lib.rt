@@ -1,0 +1,13 @@
+//! Which literals are relevant to which, and which clauses to a literal.
+//! `IsRelevant` in `specs/Relevant.antt` says what relevance is, and `AreClausesFor` in `Candidates.antt` which
+//! clauses are answered.
+#![tactic(auto)]
+
+mod fill;
+mod gather;
+mod laws;
+mod relevance;
+mod table;
+
+pub use laws::{relevance_goes_by_chains, relevance_is_least};
+pub use relevance::Relevance;
