@@ -1,15 +1,20 @@
 -- Where steps fail, on two small ground problems: a step that may be taken once, and three cells of which one is full.
-use Rattle.std.proofs.Common.{◌≡◌, true, [], ◌∷◌, Some, None, refl, arith}
+use Rattle.std.proofs.Common.{◌≡◌, ◌≤◌, true, false, [], ◌∷◌, refl, subst, inl, inr, arith}
+use Rattle.kp_base.specs.declared.lit.Lit.{Lit}
 use Rattle.kp_base.specs.declared.ground.Ground.{Ground}
 use Rattle.kp_base.specs.declared.ground.GroundName.{GroundName}
-use Rattle.kp_base.specs.Lit.{positive, negative}
-use Rattle.kp_base.specs.Steps.{succeeds}
-use Rattle.kp_classic.specs.Grounded.{IsOfItsAtoms}
+use Rattle.kp_base.specs.Lit.{positive, negative, code_of}
+use Rattle.kp_base.specs.Steps.{State, holds, succeeds}
+use Rattle.kp_base.specs.Implicates.{IsOfItsAtoms}
 use Rattle.kp_first.specs.Ordered.{state_of}
-use Rattle.kp_check.specs.Failing.{failure}
+use Rattle.kp_check.specs.Failing.{IsLeastFalse, FailAt}
 
 nameless : GroundName
 nameless = record { head = []; objects = [] }
+
+-- one literal that is false is the least
+only : {s : State} {l : Lit} → holds s l ≡ false → IsLeastFalse s (l ∷ []) l
+only {s} {l} h = record { among = inl refl; wrong = h; least = λ m in-ls off. elim in-ls [ inl e ↦ subst (λ x. code_of l ≤ code_of x) e (omega arith) | inr none ↦ absurd none ] }
 
 -- where p holds, q comes and p goes
 abbrev once : Ground
@@ -27,8 +32,8 @@ taken_once : succeeds once (state_of (record { 0 = 0 } ∷ [])) (0 ∷ []) ≡ t
 taken_once = refl
 
 -- a second one fails at p
-taken_twice : failure once (state_of (record { 0 = 0 } ∷ [])) (0 ∷ 0 ∷ []) 0 ≡ Some (record { step = 1; literal = positive 0 })
-taken_twice = refl
+taken_twice : FailAt once (state_of (record { 0 = 0 } ∷ [])) (0 ∷ 0 ∷ []) 1 (positive 0)
+taken_twice = record { in_range = omega arith; reached = refl; fails = only refl }
 
 -- a full cell's left one comes to be full, and it empty
 abbrev cells : Ground
@@ -43,8 +48,8 @@ cells = record {
 }
 
 -- one step to the left fails at the goal where the third cell is full, and two don't
-one_to_the_left : failure cells (state_of (record { 0 = 2 } ∷ [])) (0 ∷ []) 0 ≡ Some (record { step = 1; literal = positive 0 })
-one_to_the_left = refl
+one_to_the_left : FailAt cells (state_of (record { 0 = 2 } ∷ [])) (0 ∷ []) 1 (positive 0)
+one_to_the_left = record { in_range = omega arith; reached = refl; fails = only refl }
 
-two_to_the_left : failure cells (state_of (record { 0 = 2 } ∷ [])) (0 ∷ 0 ∷ []) 0 ≡ None
+two_to_the_left : succeeds cells (state_of (record { 0 = 2 } ∷ [])) (0 ∷ 0 ∷ []) ≡ true
 two_to_the_left = refl

@@ -1,5 +1,5 @@
 -- Where steps fail from a state whose atoms are all known.
-use Rattle.std.proofs.Common.{◌≡◌, ◌<◌, ◌+◌, ℕ, zero, suc, Bool, true, false, not, ◌&&◌, if◌then◌else◌, nat_lt, List, [], ◌∷◌, length, map, Option, Some, None, slice_get, refl, sym, ap, subst, ◌∙◌, arith, ltb-true}
+use Rattle.std.proofs.Common.{◌≡◌, ◌<◌, ◌≤◌, ◌+◌, ℕ, zero, suc, Bool, true, false, not, ◌&&◌, if◌then◌else◌, nat_lt, List, [], ◌∷◌, length, map, take, Option, Some, None, slice_get, refl, sym, ap, subst, ◌∙◌, arith, ltb-true}
 use Rattle.std.proofs.lemmas.Bool.{and_parts, and_from, or_left, or_right, false≢true, true_from_ne_false}
 use Rattle.std.specs.List.{list_all, range_with_len}
 use Rattle.kp_base.specs.declared.lit.Lit.{Lit}
@@ -7,7 +7,8 @@ use Rattle.kp_base.specs.declared.lit.AtomId.{AtomId}
 use Rattle.kp_base.specs.declared.ground.Action.{Action}
 use Rattle.kp_base.specs.declared.ground.Ground.{Ground}
 use Rattle.kp_base.specs.Lit.{positive, negative, has}
-use Rattle.kp_base.specs.Steps.{State, is_model, holds, applicable, next, after, succeeds, IsGroundPlan}
+use Rattle.kp_base.specs.LitSet.{IsAscending}
+use Rattle.kp_base.specs.Steps.{State, is_model, holds, applicable, next, after, runs, succeeds, state_after, IsGroundPlan}
 use Rattle.kp_base.specs.Implicates.{are_below}
 use Rattle.kp_base.proofs.Lists.{member_map, range_there}
 use Rattle.kp_base.proofs.Lits.{has-member}
@@ -22,8 +23,9 @@ use Rattle.kp_check.specs.declared.failing.At.{At}
 use Rattle.kp_check.specs.Values.{truth_at, stepped, next_values}
 use Rattle.kp_check.proofs.Grounded.{IsGroundOf, action_parts}
 use Rattle.kp_check.specs.Judging.{fails}
-use Rattle.kp_check.specs.Failing.{first_false, pre_false, at_or, failure}
-use Rattle.kp_check.specs.FailingValues.{is_no, first_no, pre_no, failure_in, decided, state_values}
+use Rattle.kp_check.specs.Failing.{pre_of, asked, FailAt}
+use Rattle.kp_check.specs.FailingValues.{first_false, at_or, failure, AscendsAt, is_no, first_no, failure_in, decided, state_values}
+use Rattle.kp_check.proofs.Least.{first_least}
 use Rattle.kp_check.proofs.Fitting.{Fits, truth_at_is, stepped_fits, at_range, length_range}
 
 -- ---- all literals of a state
@@ -74,7 +76,7 @@ module _ (n : ℕ) (known : List Lit) (all : (a : ℕ) → a < n → is_decided 
   failure_is g of [] vs s k f = ap (λ o. at_or k o None) (first_no_is vs s f g.goal of.goal)
   failure_is g of (m ∷ ns) vs s k f = go (slice_get g.actions m) refl (λ us t h. failure_is g of ns us t (k + 1) h)
     where
-      go : (o : Option Action) → slice_get g.actions m ≡ o → ((us : List Truth) (t : State) → Fits n known us t → failure_in g us ns (k + 1) ≡ failure g t ns (k + 1)) → at_or k (pre_no o vs) (failure_in g (next_values o vs) ns (k + 1)) ≡ at_or k (pre_false o s) (failure g (next o s) ns (k + 1))
+      go : (o : Option Action) → slice_get g.actions m ≡ o → ((us : List Truth) (t : State) → Fits n known us t → failure_in g us ns (k + 1) ≡ failure g t ns (k + 1)) → at_or k (first_no vs (pre_of o)) (failure_in g (next_values o vs) ns (k + 1)) ≡ at_or k (first_false s (pre_of o)) (failure g (next o s) ns (k + 1))
       go None is rest = rest vs s f
       go (Some a) is rest =
           let parts = action_parts n g of m a is in
@@ -113,13 +115,67 @@ none_fails g (m ∷ ns) s k inside h = go (slice_get g.actions m) refl h (λ t e
     there : slice_get g.actions m ≡ None → ⊥
     there = none_past g.actions m (ltb-true m (length g.actions) parts.0)
 
-    go : (o : Option Action) → slice_get g.actions m ≡ o → at_or k (pre_false o s) (failure g (next o s) ns (k + 1)) ≡ None → ((t : State) → failure g t ns (k + 1) ≡ None → succeeds g t ns ≡ true) → (applicable o s && succeeds g (next o s) ns) ≡ true
+    go : (o : Option Action) → slice_get g.actions m ≡ o → at_or k (first_false s (pre_of o)) (failure g (next o s) ns (k + 1)) ≡ None → ((t : State) → failure g t ns (k + 1) ≡ None → succeeds g t ns ≡ true) → (applicable o s && succeeds g (next o s) ns) ≡ true
     go None is e rest = absurd (there is)
     go (Some a) is e rest =
         let none = parts_none k (first_false s a.pre) (failure g (after a s) ns (k + 1)) e in
         and_from (list_all (holds s) a.pre) (succeeds g (after a s) ns) (all_hold s a.pre none.0) (rest (after a s) none.1)
 
--- so a state from which they fail tells where
+-- ---- where they fail somewhere
+
+-- j steps further on than the k-th, the steps before being applicable
+record IsReached (g : Ground) (s : State) (ns : List ℕ) (k : ℕ) (at : At) (j : ℕ) : Type 0 where
+  place : at.step ≡ k + j
+  in_range : j ≤ length ns
+  reached : runs g s (take j ns) ≡ true
+  first : first_false (state_after g s (take j ns)) (asked g (slice_get ns j)) ≡ Some at.literal
+
+reached_here : (g : Ground) (s : State) (ns : List ℕ) (k : ℕ) (l : Lit) (at : At) → Some (record { step = k; literal = l }) ≡ Some at → first_false s (asked g (slice_get ns 0)) ≡ Some l → IsReached g s ns k at 0
+reached_here g s ns k l at e h = let same : record { step = k; literal = l } ≡ at = cc in subst (λ a. IsReached g s ns k a 0) same (record { place = omega arith; in_range = omega arith; reached = refl; first = here ns h })
+  where
+    here : (xs : List ℕ) → first_false s (asked g (slice_get xs 0)) ≡ Some l → first_false (state_after g s (take 0 xs)) (asked g (slice_get xs 0)) ≡ Some l
+    here [] e = e
+    here (x ∷ xs) e = e
+
+failure_reached : (g : Ground) (ns : List ℕ) (s : State) (k : ℕ) (at : At) → list_all (λ m. nat_lt m (length g.actions)) ns ≡ true → failure g s ns k ≡ Some at → (j : ℕ) × IsReached g s ns k at j
+failure_reached g [] s k at inside h = go (first_false s g.goal) refl h
+  where
+    go : (o : Option Lit) → first_false s g.goal ≡ o → at_or k o None ≡ Some at → (j : ℕ) × IsReached g s [] k at j
+    go None is e = cc
+    go (Some l) is e = (0, reached_here g s [] k l at e is)
+failure_reached g (m ∷ ns) s k at inside h = go (slice_get g.actions m) refl (first_false s (asked g (Some m))) refl h (λ t e. failure_reached g ns t (k + 1) at parts.1 e)
+  where
+    parts : (nat_lt m (length g.actions) ≡ true) × (list_all (λ m. nat_lt m (length g.actions)) ns ≡ true)
+    parts = and_parts (nat_lt m (length g.actions)) (list_all (λ m. nat_lt m (length g.actions)) ns) inside
+
+    there : slice_get g.actions m ≡ None → ⊥
+    there = none_past g.actions m (ltb-true m (length g.actions) parts.0)
+
+    go : (a : Option Action) → slice_get g.actions m ≡ a → (o : Option Lit) → first_false s (pre_of (slice_get g.actions m)) ≡ o → at_or k o (failure g (next (slice_get g.actions m) s) ns (k + 1)) ≡ Some at → ((t : State) → failure g t ns (k + 1) ≡ Some at → (j : ℕ) × IsReached g t ns (k + 1) at j) → (j : ℕ) × IsReached g s (m ∷ ns) k at j
+    go None is o first e rest = absurd (there is)
+    go (Some a) is (Some l) first e rest = (0, reached_here g s (m ∷ ns) k l at e first)
+    go (Some a) is None first e rest =
+        let r = rest (next (slice_get g.actions m) s) e in
+        let can : applicable (slice_get g.actions m) s ≡ true = subst (λ o. applicable o s ≡ true) (sym is) (all_hold s a.pre (subst (λ o. first_false s (pre_of o) ≡ None) is first)) in (
+          suc r.0,
+          record {
+            place = let p = r.1.place in omega arith;
+            in_range = let p = r.1.in_range in omega arith;
+            reached = and_from (applicable (slice_get g.actions m) s) (runs g (next (slice_get g.actions m) s) (take r.0 ns)) can r.1.reached;
+            first = r.1.first;
+          },
+        )
+
+-- where what must hold there is an ascending list, the literal is the least
+pub fail_at : (g : Ground) (ns : List ℕ) (s : State) (at : At) → list_all (λ m. nat_lt m (length g.actions)) ns ≡ true → AscendsAt g ns (Some at) → failure g s ns 0 ≡ Some at → FailAt g s ns at.step at.literal
+fail_at g ns s at inside up h =
+    let r = failure_reached g ns s 0 at inside h in
+    let place = r.1.place in
+    let e : at.step ≡ r.0 = omega arith in
+    subst (λ k. IsAscending (asked g (slice_get ns k)) → FailAt g s ns k at.literal) (sym e)
+    (λ ascending. record { in_range = r.1.in_range; reached = r.1.reached; fails = first_least (state_after g s (take r.0 ns)) (asked g (slice_get ns r.0)) at.literal ascending r.1.first }) up
+
+-- a state from which they fail tells where
 pub tells_where : (n : ℕ) (g : Ground) (i : Initial) (ns : List ℕ) (ps : List AtomId) → IsGroundOf n g → list_all (λ m. nat_lt m (length g.actions)) ns ≡ true → IsFirst n (is_wanted i (fails g ns)) (state_of ps) → failure_in g (state_values n ps) ns 0 ≡ None → ⊥
 tells_where n g i ns ps of inside first none =
     let all = none_fails g ns (state_of ps) 0 inside (sym (failure_found n g of ns ps) ∙ none) in

@@ -10,13 +10,12 @@ use Rattle.kp_base.specs.declared.ground.Action.{Action}
 use Rattle.kp_base.specs.Lists.{signed}
 use Rattle.kp_base.specs.Lit.{positive, negative, same_lit}
 use Rattle.kp_base.specs.Steps.{State, holds, fires, after}
-use Rattle.kp_base.specs.Implicates.{are_below}
+use Rattle.kp_base.specs.Implicates.{are_below, effect_below}
 use Rattle.kp_base.proofs.Lists.{all_member}
 use Rattle.kp_first.specs.declared.truth.Truth.{Truth}
 use Rattle.kp_first.specs.declared.truth.Truth.TheVariants.{Yes, No}
 use Rattle.kp_first.specs.Truths.{IsTruth, opposite, both, either, truth_in}
 use Rattle.kp_first.proofs.Truths.{opposite_is, both_is, either_is, all_is, truth_in_is}
-use Rattle.kp_classic.specs.Grounded.{effect_below}
 use Rattle.kp_check.specs.Values.{value_of, value_at, truth_at, all_true, with_value, start, with_delete, with_add, stepped}
 
 -- ---- lists of values

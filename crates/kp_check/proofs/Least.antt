@@ -7,7 +7,8 @@ use Rattle.kp_base.specs.Lit.{code_of}
 use Rattle.kp_base.specs.LitSet.{IsAscending}
 use Rattle.kp_base.specs.Steps.{State, holds}
 use Rattle.kp_base.proofs.Ascending.{tail_ascends}
-use Rattle.kp_check.specs.Failing.{first_false, IsLeastFalse}
+use Rattle.kp_check.specs.Failing.{IsLeastFalse}
+use Rattle.kp_check.specs.FailingValues.{first_false}
 
 above : (x : Lit) (ls : List Lit) → IsAscending (x ∷ ls) → (m : Lit) → Member ls m → code_of x < code_of m
 above x [] up m in-ls = absurd in-ls

@@ -1,8 +1,9 @@
 pub mod Fitting
 pub mod Grounded
 pub mod Walking
+pub mod Least
 pub mod FailingFrom
 pub mod Marking
 pub mod Asking
-pub mod Least
+pub mod Once
 pub mod Examples

@@ -1,34 +1,11 @@
--- Where steps fail from a state: the first step whose precondition isn't met, or the goal, and the first literal there that is false.
-use Rattle.std.specs.Prelude.{◌≡◌, ◌≤◌, ℕ, false, ◌+◌, if◌then◌else◌, List, [], ◌∷◌, Option, Some, None, slice_get}
+-- Where steps fail from a state: at the first step whose precondition isn't met, or else at the goal; and the least literal there that is false.
+use Rattle.std.specs.Prelude.{◌≡◌, ◌≤◌, ℕ, true, false, List, [], Option, Some, None, length, take, slice_get}
 use Rattle.kp_base.specs.declared.lit.Lit.{Lit}
 use Rattle.kp_base.specs.declared.ground.Action.{Action}
 use Rattle.kp_base.specs.declared.ground.Ground.{Ground}
 use Rattle.kp_base.specs.Lists.{Member}
 use Rattle.kp_base.specs.Lit.{code_of}
-use Rattle.kp_base.specs.LitSet.{IsAscending}
-use Rattle.kp_base.specs.Steps.{State, holds, next}
-use Rattle.kp_check.specs.declared.failing.At.{At}
-
--- the first of the literals that is false, which in a literal set is the least
-abbrev pub first_false : State → List Lit → Option Lit
-first_false s [] = None
-first_false s (l ∷ ls) = if holds s l then first_false s ls else Some l
-
-abbrev pub pre_false : Option Action → State → Option Lit
-pre_false None s = None
-pre_false (Some a) s = first_false s a.pre
-
--- at this step, where there is such a literal, and else what comes later
-abbrev pub at_or : ℕ → Option Lit → Option At → Option At
-at_or k None rest = rest
-at_or k (Some l) rest = Some (record { step = k; literal = l })
-
--- the number of the step, counted from k on, and the literal. That of the goal is the number of all steps
-abbrev pub failure : Ground → State → List ℕ → ℕ → Option At
-failure g s [] k = at_or k (first_false s g.goal) None
-failure g s (n ∷ ns) k = at_or k (pre_false (slice_get g.actions n) s) (failure g (next (slice_get g.actions n) s) ns (k + 1))
-
--- ---- law
+use Rattle.kp_base.specs.Steps.{State, holds, runs, succeeds, state_after}
 
 -- one of the literals that is false, and none of them that is false is less
 pub record IsLeastFalse (s : State) (ls : List Lit) (l : Lit) : Type 0 where
@@ -36,6 +13,28 @@ pub record IsLeastFalse (s : State) (ls : List Lit) (l : Lit) : Type 0 where
   pub wrong : holds s l ≡ false
   pub least : (m : Lit) → Member ls m → holds s m ≡ false → code_of l ≤ code_of m
 
--- the first that is false in a literal set is the least
-abbrev pub IsFirstTheLeast : Type 0
-IsFirstTheLeast = (s : State) (ls : List Lit) (l : Lit) → IsAscending ls → first_false s ls ≡ Some l → IsLeastFalse s ls l
+-- an action's precondition
+abbrev pub pre_of : Option Action → List Lit
+pre_of None = []
+pre_of (Some a) = a.pre
+
+-- what must hold before a step, which is its precondition; where no step is left, the goal
+abbrev pub asked : Ground → Option ℕ → List Lit
+asked g None = g.goal
+asked g (Some n) = pre_of (slice_get g.actions n)
+
+-- the first k steps are applicable in their turn, and then the literal is the least that is false of what must hold
+pub record FailAt (g : Ground) (s : State) (ns : List ℕ) (k : ℕ) (l : Lit) : Type 0 where
+  pub in_range : k ≤ length ns
+  pub reached : runs g s (take k ns) ≡ true
+  pub fails : IsLeastFalse (state_after g s (take k ns)) (asked g (slice_get ns k)) l
+
+-- ---- laws
+
+-- steps that fail somewhere don't succeed
+abbrev pub IsFailing : Type 0
+IsFailing = (g : Ground) (s : State) (ns : List ℕ) (k : ℕ) (l : Lit) → FailAt g s ns k l → succeeds g s ns ≡ false
+
+-- from one state they fail in one place, and one literal is told
+abbrev pub IsFailingOnce : Type 0
+IsFailingOnce = (g : Ground) (s : State) (ns : List ℕ) (k j : ℕ) (l m : Lit) → FailAt g s ns k l → FailAt g s ns j m → (k ≡ j) × (l ≡ m)

@@ -1,11 +1,11 @@
 -- Whether steps are a plan from every model; else the first model from which they fail, and where.
-use Rattle.std.specs.Prelude.{◌≡◌, ℕ, Bool, not, List, Some}
+use Rattle.std.specs.Prelude.{ℕ, Bool, not, List}
 use Rattle.kp_base.specs.declared.ground.Ground.{Ground}
 use Rattle.kp_base.specs.declared.ground.Initial.{Initial}
 use Rattle.kp_base.specs.Steps.{State, succeeds, IsGroundPlan}
 use Rattle.kp_first.specs.Asked.{is_wanted}
 use Rattle.kp_first.specs.Ordered.{AreFirst, state_of}
-use Rattle.kp_check.specs.Failing.{failure}
+use Rattle.kp_check.specs.Failing.{FailAt}
 use Rattle.kp_check.specs.declared.answer.Judged.{Judged}
 use Rattle.kp_check.specs.declared.answer.Judged.TheVariants.{Yes, No}
 
@@ -13,7 +13,7 @@ use Rattle.kp_check.specs.declared.answer.Judged.TheVariants.{Yes, No}
 abbrev pub fails : Ground → List ℕ → State → Bool
 fails g ns s = not (succeeds g s ns)
 
--- the steps are a plan; or the first model from which they fail, and where
+-- the steps are a plan; or these are the atoms of the first model from which they fail, in order, and they fail from it there
 abbrev pub AnswersJudged : ℕ → Ground → Initial → List ℕ → Judged → Type 0
 AnswersJudged n g i ns Yes = IsGroundPlan g i ns
-AnswersJudged n g i ns (No ps k l) = AreFirst n (is_wanted i (fails g ns)) ps × (failure g (state_of ps) ns 0 ≡ Some (record { step = k; literal = l }))
+AnswersJudged n g i ns (No ps k l) = AreFirst n (is_wanted i (fails g ns)) ps × FailAt g (state_of ps) ns k l

@@ -1,15 +1,15 @@
 -- The literals that a run meets and that aren't known to be true there. This file serves proofs alone.
-use Rattle.std.specs.Prelude.{◌≡◌, ℕ, zero, suc, ◌+◌, Bool, true, false, not, if◌then◌else◌, nat_lt, List, [], ◌∷◌, ◌++◌, Option, Some, None, length, slice_get, take, fold}
+use Rattle.std.specs.Prelude.{◌≡◌, ℕ, zero, suc, ◌+◌, Bool, true, false, not, if◌then◌else◌, nat_lt, List, [], ◌∷◌, ◌++◌, Some, None, length, slice_get, take, fold}
 use Rattle.std.specs.List.{list_any, list_all}
 use Rattle.kp_base.specs.declared.lit.Lit.{Lit}
-use Rattle.kp_base.specs.declared.ground.Action.{Action}
 use Rattle.kp_base.specs.declared.ground.Ground.{Ground}
 use Rattle.kp_base.specs.declared.ground.Initial.{Initial}
 use Rattle.kp_base.specs.Steps.{State, holds, is_model, state_after, succeeds}
-use Rattle.kp_classic.specs.Grounded.{IsOfItsAtoms}
+use Rattle.kp_base.specs.Implicates.{IsOfItsAtoms}
 use Rattle.kp_first.specs.declared.truth.Truth.{Truth}
 use Rattle.kp_first.specs.declared.truth.Truth.TheVariants.{Yes, No, Open}
 use Rattle.kp_check.specs.declared.failing.At.{At}
+use Rattle.kp_check.specs.Failing.{asked}
 use Rattle.kp_check.specs.Values.{truth_at, next_values}
 
 abbrev pub is_yes : Truth → Bool
@@ -20,14 +20,10 @@ is_yes (Open a) = false
 abbrev pub with_open : List Truth → ℕ → List At → Lit → List At
 with_open vs k ms l = if is_yes (truth_at vs l) then ms else ms ++ record { step = k; literal = l } ∷ []
 
-abbrev pub pre_of : Option Action → List Lit
-pre_of None = []
-pre_of (Some a) = a.pre
-
 -- those of a run that ignores preconditions, its steps counted from k on
 abbrev pub open_marks : Ground → List Truth → List ℕ → ℕ → List At → List At
-open_marks g vs [] k ms = fold (with_open vs k) ms g.goal
-open_marks g vs (n ∷ ns) k ms = open_marks g (next_values (slice_get g.actions n) vs) ns (k + 1) (fold (with_open vs k) ms (pre_of (slice_get g.actions n)))
+open_marks g vs [] k ms = fold (with_open vs k) ms (asked g None)
+open_marks g vs (n ∷ ns) k ms = open_marks g (next_values (slice_get g.actions n) vs) ns (k + 1) (fold (with_open vs k) ms (asked g (Some n)))
 
 -- the values after the first k steps
 abbrev pub later_values : Ground → List Truth → List ℕ → ℕ → List Truth

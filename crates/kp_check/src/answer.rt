@@ -1,7 +1,7 @@
 ghost use Rattle.std.specs.Prelude.{◌≡◌, ◌<◌, true, length, nat_lt, IfOk};
 ghost use Rattle.std.specs.List.{list_all};
 ghost use Rattle.kp_primes.specs.Held.{formula};
-ghost use Rattle.kp_classic.specs.Grounded.{IsOfItsAtoms};
+ghost use Rattle.kp_base.specs.Implicates.{IsOfItsAtoms};
 ghost use Rattle.kp_check.specs.Judging.{AnswersJudged};
 
 use crate::failing::{failure_in, state_values};

@@ -1,7 +1,9 @@
 ghost use Rattle.std.specs.Prelude.{◌≡◌, ◌<◌, length, slice_get, IfOk};
+ghost use Rattle.kp_base.specs.LitSet.{IsAscending};
 ghost use Rattle.kp_first.specs.Ordered.{state_of};
 ghost use Rattle.kp_check.specs.Values.{next_values};
-ghost use Rattle.kp_check.specs.FailingValues.{decided, first_no, pre_no, failure_in, state_values};
+ghost use Rattle.kp_check.specs.Failing.{pre_of};
+ghost use Rattle.kp_check.specs.FailingValues.{decided, first_no, failure_in, state_values, AscendsAt};
 
 use crate::steps::step;
 use crate::values::truth_at;
@@ -54,13 +56,14 @@ pub fn state_values(alloc: Global, atoms: u32, present: &[AtomId]) -> Result<Vec
     Ok(values)
 }
 
-// The first literal of a step's precondition that is false.
-fn pre_no(ground: &Ground, number: u32, values: &[Truth]) -> Option<Lit>
-    ensures { result ≡ pre_no (slice_get ground.now.actions number) values.now }
+/// What must hold before a step. Nothing, where there is no such action.
+pub fn pre(ground: &Ground, number: u32) -> &[Lit]
+    ensures value { result.now ≡ pre_of (slice_get ground.now.actions number) }
+    ensures ascending { IsAscending result.now }
 {
     match ground.actions.slice().get(number as usize) {
-        Some(action) => first_no(values, action.pre.slice()),
-        None => None,
+        Some(action) => action.pre.slice(),
+        None => &[],
     }
 }
 
@@ -90,12 +93,13 @@ pub fn failure_in(
     from: Vec<Truth>,
 ) -> Result<Option<At>, Memory>
     requires { length steps.now < 2147483648 }
-    ensures { IfOk result (λ at. at ≡ failure_in ground.now from.items steps.now 0) }
+    ensures place { IfOk result (λ at. at ≡ failure_in ground.now from.items steps.now 0) }
+    ensures ascending { IfOk result (AscendsAt ground.now steps.now) }
 {
     let mut values = from;
     let mut count = 0u32;
     for number in steps {
-        if let Some(literal) = pre_no(ground, *number, &values) {
+        if let Some(literal) = first_no(&values, pre(ground, *number)) {
             return Ok(Some(At {
                 step: count,
                 literal,

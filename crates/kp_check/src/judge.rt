@@ -3,7 +3,7 @@ ghost use Rattle.std.specs.List.{list_all};
 ghost use Rattle.kp_primes.specs.Held.{formula};
 ghost use Rattle.kp_first.specs.Asked.{is_wanted};
 ghost use Rattle.kp_first.specs.Ordered.{AnswersFirst};
-ghost use Rattle.kp_classic.specs.Grounded.{IsOfItsAtoms};
+ghost use Rattle.kp_base.specs.Implicates.{IsOfItsAtoms};
 ghost use Rattle.kp_check.specs.Judging.{fails};
 ghost use Rattle.kp_check.specs.Marks.{is_false_at, IsReady, AreInEach, AreMarks};
 

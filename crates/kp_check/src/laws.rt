@@ -1,8 +1,15 @@
-//! A law of what is told, proved as the contract of a function that does nothing.
+//! Laws of what is told, each proved as the contract of a function that does nothing.
 
-ghost use Rattle.kp_check.specs.Failing.{IsFirstTheLeast};
+ghost use Rattle.kp_check.specs.Failing.{IsFailing, IsFailingOnce};
 
-/// The first literal of a literal set that is false is the least that is.
-pub fn the_first_false_is_least()
-    ensures { IsFirstTheLeast }
+/// Steps that fail somewhere don't succeed.
+#[tactic(auto, using(crate::proofs::Once::failing))]
+pub fn failing_steps_fail()
+    ensures { IsFailing }
+{}
+
+/// From one state steps fail in one place, at one literal.
+#[tactic(auto, using(crate::proofs::Once::failing_once))]
+pub fn steps_fail_in_one_place()
+    ensures { IsFailingOnce }
 {}

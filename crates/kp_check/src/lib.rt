@@ -12,4 +12,4 @@ mod values;
 
 pub use answer::{Judged, check};
 pub use failing::At;
-pub use laws::the_first_false_is_least;
+pub use laws::{failing_steps_fail, steps_fail_in_one_place};

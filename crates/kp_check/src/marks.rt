@@ -1,8 +1,8 @@
-ghost use Rattle.std.specs.Prelude.{◌≡◌, ◌<◌, length, slice_get, fold, [], OnOk, IfOk};
-ghost use Rattle.kp_check.specs.Marks.{with_open, pre_of, open_marks, later_values};
+ghost use Rattle.std.specs.Prelude.{◌≡◌, ◌<◌, length, fold, [], OnOk, IfOk};
+ghost use Rattle.kp_check.specs.Marks.{with_open, open_marks, later_values};
 ghost use Rattle.kp_check.specs.Values.{truth_at};
 
-use crate::failing::{At, next_values};
+use crate::failing::{At, next_values, pre};
 use crate::values::truth_at;
 use kp_base::{Ground, Lit, Memory};
 use kp_first::Truth;
@@ -39,22 +39,6 @@ fn add_all_open(
     Ok(())
 }
 
-// The literals of a step's precondition.
-fn add_pre(
-    marks: &mut Vec<At>,
-    ground: &Ground,
-    number: u32,
-    values: &[Truth],
-    step: u32,
-) -> Result<(), Memory>
-    ensures { OnOk result (marks.new.items ≡ fold (with_open values.now step) marks.old.items (pre_of (slice_get ground.now.actions number))) }
-{
-    match ground.actions.slice().get(number as usize) {
-        Some(action) => add_all_open(marks, values, step, action.pre.slice()),
-        None => Ok(()),
-    }
-}
-
 /// The literals of preconditions and of the goal that aren't known to be true in their turn, where each step is taken
 /// whether it is applicable or not, from these values on.
 pub fn open_marks(
@@ -70,7 +54,7 @@ pub fn open_marks(
     let mut marks = Vec::new(alloc);
     let mut count = 0u32;
     for number in steps {
-        add_pre(&mut marks, ground, *number, &values, count)?;
+        add_all_open(&mut marks, &values, count, pre(ground, *number))?;
         values = next_values(alloc, ground, *number, values)?;
         count += 1;
     }

@@ -1,6 +1,11 @@
 pub mod Sizes
 pub mod Counting
+pub mod Firsts
 pub mod Modelled
 pub mod Together
 pub mod Settling
 pub mod Clashing
+pub mod Tabling
+pub mod Judging
+pub mod Finding
+pub mod Once

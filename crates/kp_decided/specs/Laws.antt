@@ -1,14 +1,17 @@
 -- Each question on which the outcome of a translation turns has an answer.
-use Rattle.std.specs.Prelude.{◌⊎◌, ℕ, List, length}
+use Rattle.std.specs.Prelude.{◌≡◌, ◌⊎◌, ℕ, true, List, Some, map, length, nat_lt}
+use Rattle.std.specs.List.{list_all}
 use Rattle.kp_base.specs.declared.lit.Lit.{Lit}
+use Rattle.kp_base.specs.declared.ground.Action.{Action}
 use Rattle.kp_base.specs.declared.ground.Ground.{Ground}
 use Rattle.kp_base.specs.declared.ground.Initial.{Initial}
+use Rattle.kp_base.specs.declared.ground.TagTable.{TagTable}
 use Rattle.kp_base.specs.declared.limits.Limits.{Limits}
 use Rattle.kp_base.specs.declared.refused.ClashAt.{ClashAt}
 use Rattle.kp_base.specs.declared.refused.Refused.{Refused}
 use Rattle.kp_base.specs.Lists.{Member}
 use Rattle.kp_base.specs.LitSet.{IsAscending}
-use Rattle.kp_base.specs.Implicates.{IsOfAtoms, IsLeastOver, IsNeverOver}
+use Rattle.kp_base.specs.Implicates.{IsOfAtoms, IsOfItsAtoms, IsLeastOver, IsNeverOver}
 use Rattle.kp_base.specs.Entailed.{HasModel, HasNoModel}
 use Rattle.kp_base.specs.Exclusive.{ClashesFirst, IsClashFree}
 use Rattle.kp_grammar.specs.declared.tree.Word.{Word}
@@ -19,6 +22,13 @@ use Rattle.kp_names.specs.Resolved.{RefusesNames}
 use Rattle.kp_grounding.specs.Ground.{ground_of}
 use Rattle.kp_ground.specs.Grounded.{IsGrounded, RefusesGround}
 use Rattle.kp_init.specs.Initial.{initial_of}
+use Rattle.kp_check.specs.declared.answer.Judged.{Judged}
+use Rattle.kp_check.specs.Judging.{AnswersJudged}
+use Rattle.kp_plans.specs.declared.step.PlanStep.{PlanStep}
+use Rattle.kp_plans.specs.Found.{action_of, IsFirstUnknown}
+use Rattle.kp_merges.specs.declared.merge.FileMerge.{FileMerge}
+use Rattle.kp_tags.specs.Tables.{has_tags_of_atoms}
+use Rattle.kp_tags.specs.Answers.{Accepts, RefusesTable}
 
 -- no name of two trees is at fault, or the trees are refused for one
 abbrev pub NamesAreDecided : Type 0
@@ -47,3 +57,15 @@ ModelsAreDecided = (n : ℕ) (i : Initial) → IsOfAtoms n i → HasModel i ⊎ 
 -- where the formula speaks of ground atoms alone, some clash is the first, or no action clashes
 abbrev pub ClashesAreDecided : Type 0
 ClashesAreDecided = (g : Ground) (i : Initial) → IsOfAtoms (length g.atoms) i → ((c : ClashAt) × ClashesFirst g i c) ⊎ IsClashFree g i
+
+-- where the formula and the tags speak of ground atoms alone, merges have a table, or are refused
+abbrev pub TablesAreDecided : Type 0
+TablesAreDecided = (atoms : ℕ) (i : Initial) (ms : List FileMerge) (limit : ℕ) → IsOfAtoms atoms i → list_all (has_tags_of_atoms atoms) ms ≡ true → ((table : TagTable) × Accepts atoms i ms limit table) ⊎ ((r : Refused) × RefusesTable atoms i ms limit r)
+
+-- where the formula and the ground problem speak of ground atoms alone, the numbers of actions have a verdict
+abbrev pub VerdictsAreDecided : Type 0
+VerdictsAreDecided = (atoms : ℕ) (g : Ground) (i : Initial) (ns : List ℕ) → IsOfAtoms atoms i → length g.atoms ≡ atoms → IsOfItsAtoms g → list_all (λ m. nat_lt m (length g.actions)) ns ≡ true → (j : Judged) × AnswersJudged atoms g i ns j
+
+-- each step names an action, or some step is the first that names none
+abbrev pub StepsAreDecided : Type 0
+StepsAreDecided = (actions : List Action) (steps : List PlanStep) → ((ns : List ℕ) × (map (action_of actions) steps ≡ map Some ns)) ⊎ ((n : ℕ) × IsFirstUnknown (action_of actions) steps n)

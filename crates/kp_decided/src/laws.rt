@@ -1,6 +1,6 @@
 //! Laws of questions that have an answer, each proved as the contract of a function that does nothing.
 
-ghost use Rattle.kp_decided.specs.Laws.{ClashesAreDecided, FormulasAreAscending, ImplicatesAreCounted, ModelsAreDecided, NamesAreDecided, SizesAreDecided};
+ghost use Rattle.kp_decided.specs.Laws.{ClashesAreDecided, FormulasAreAscending, ImplicatesAreCounted, ModelsAreDecided, NamesAreDecided, SizesAreDecided, StepsAreDecided, TablesAreDecided, VerdictsAreDecided};
 
 /// No name of two trees is at fault, or the trees are refused for one.
 pub fn names_are_decided()
@@ -30,4 +30,19 @@ pub fn models_are_decided()
 /// Some clash is the first, or no action clashes.
 pub fn clashes_are_decided()
     ensures { ClashesAreDecided }
+{}
+
+/// Merges have a table, or are refused.
+pub fn tables_are_decided()
+    ensures { TablesAreDecided }
+{}
+
+/// Steps are a plan, or fail first from some model, and somewhere.
+pub fn verdicts_are_decided()
+    ensures { VerdictsAreDecided }
+{}
+
+/// Each step names an action, or some step is the first that names none.
+pub fn steps_are_decided()
+    ensures { StepsAreDecided }
 {}

@@ -1,9 +1,10 @@
-//! The questions on which the outcome of a translation turns: each has an answer. `specs/Laws.antt` says what is proved.
+//! The questions on which the outcome of a command turns: each has an answer. `specs/Laws.antt` says what is proved.
 #![tactic(auto)]
 
 mod laws;
 
 pub use laws::{
     clashes_are_decided, formulas_are_ascending, implicates_are_counted, models_are_decided,
-    names_are_decided, sizes_are_decided,
+    names_are_decided, sizes_are_decided, steps_are_decided, tables_are_decided,
+    verdicts_are_decided,
 };
