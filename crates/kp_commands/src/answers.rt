@@ -1,11 +1,5 @@
-use crate::running::{DOMAIN, PROBLEM, ends_so};
+use crate::running::{CELLS, DOMAIN, ONE_IS_FULL, PROBLEM, ends_so};
 use std::test::Fail;
-
-const CELLS: &str =
-    "(define (domain cells) (:predicates (x1) (x2) (x3)) (:action left :effect (and (when (x3) (and (x2) (not (x3)))) (when (x2) (and (x1) (not (x2)))))))";
-
-const ONE_IS_FULL: &str =
-    "(define (problem c) (:domain cells) (:init (oneof (x1) (x2) (x3))) (:goal (x1)))";
 
 #[test]
 fn each_answer(rt: HostRuntime) -> Result<(), Fail> {

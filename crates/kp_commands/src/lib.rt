@@ -4,11 +4,15 @@
 #[cfg(test)]
 mod answers;
 #[cfg(test)]
+mod checking;
+#[cfg(test)]
 mod faults;
 #[cfg(test)]
 mod implicates;
 #[cfg(test)]
 mod limits;
+#[cfg(test)]
+mod merging;
 #[cfg(test)]
 mod refusals;
 #[cfg(test)]

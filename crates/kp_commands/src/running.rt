@@ -6,6 +6,12 @@ use std::alloc::Global;
 pub const DOMAIN: &str =
     "(define (domain d) (:predicates (p) (q)) (:action a :precondition (p) :effect (and (q) (not (p)))))";
 
+pub const CELLS: &str =
+    "(define (domain cells) (:predicates (x1) (x2) (x3)) (:action left :effect (and (when (x3) (and (x2) (not (x3)))) (when (x2) (and (x1) (not (x2)))))))";
+
+pub const ONE_IS_FULL: &str =
+    "(define (problem c) (:domain cells) (:init (oneof (x1) (x2) (x3))) (:goal (x1)))";
+
 pub const PROBLEM: &str = "(define (problem e) (:domain d) (:init (p)) (:goal (q)))";
 
 pub const USAGE: &str =
@@ -86,6 +92,41 @@ pub fn strips_so(alloc: Global, plan: &str, number: u8, printed: &str) -> Result
     let mut words = Vec::new(alloc);
     push_all(alloc, &mut words, ["strip", "t"].as_slice())?;
     let mut shelf = MemoryShelf::new(alloc)?;
+    shelf.hold(b"t".as_slice(), plan.as_bytes())?;
+    runs_so(alloc, &words, &mut shelf, number, printed)
+}
+
+/// Whether a translation with this file of merges ends with this number and prints this text, and puts files just with 0.
+pub fn merges_so(
+    alloc: Global,
+    texts: (&str, &str),
+    merges: &str,
+    number: u8,
+    printed: &str,
+) -> Result<bool, Memory> {
+    let mut words = Vec::new(alloc);
+    let named = ["translate", "d", "p", "od", "op", "--merges", "m"];
+    push_all(alloc, &mut words, named.as_slice())?;
+    let mut shelf = shelf_of(alloc, texts.0.as_bytes(), texts.1.as_bytes())?;
+    shelf.hold(b"m".as_slice(), merges.as_bytes())?;
+    let is_so = runs_so(alloc, &words, &mut shelf, number, printed);
+    drop(words);
+    let is_put = shelf.held(b"od".as_slice()).is_some() && shelf.held(b"op".as_slice()).is_some();
+    drop(shelf);
+    Ok(is_so? && is_put == (number == 0))
+}
+
+/// Whether a check of this plan file ends with this number and prints this text.
+pub fn checks_so(
+    alloc: Global,
+    texts: (&str, &str),
+    plan: &str,
+    number: u8,
+    printed: &str,
+) -> Result<bool, Memory> {
+    let mut words = Vec::new(alloc);
+    push_all(alloc, &mut words, ["check", "d", "p", "t"].as_slice())?;
+    let mut shelf = shelf_of(alloc, texts.0.as_bytes(), texts.1.as_bytes())?;
     shelf.hold(b"t".as_slice(), plan.as_bytes())?;
     runs_so(alloc, &words, &mut shelf, number, printed)
 }

@@ -3,11 +3,13 @@
 #![tactic(auto)]
 
 mod clash;
+mod failing;
 mod help;
 mod lines;
 mod names;
 mod refusals;
 
+pub use failing::counterexample;
 pub use help::usage;
 pub use names::put_name;
 pub use refusals::{Named, refusal};

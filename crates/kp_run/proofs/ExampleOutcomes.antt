@@ -1,8 +1,8 @@
 -- Words and what is held, with the one outcome that is due: a translation, the usage, and none where a file isn't held.
-use Rattle.std.proofs.Common.{[], ◌≡◌, ◌≢◌, ◌<◌, ◌≤◌, ◌^◌, ℕ, zero, suc, true, false, not, List, ◌∷◌, length, take, nat_eq, Some, Vec, codes, inl, inr, refl, sym, ap, subst, ◌∙◌, arith}
+use Rattle.std.proofs.Common.{[], ◌≡◌, ◌≢◌, ◌<◌, ◌≤◌, ◌^◌, ℕ, zero, suc, true, false, not, List, ◌∷◌, length, take, nat_eq, Some, None, Vec, codes, inl, inr, refl, sym, ap, subst, ◌∙◌, arith}
 use Rattle.std.specs.FinMap.{empty, get, insert, get-empty}
 use Rattle.std.specs.Fmt.{digits}
-use Rattle.std.specs.List.{list_all, starts_with}
+use Rattle.std.specs.List.{list_all}
 use Rattle.std.specs.Ordering.{nat_cmp}
 use Rattle.std.specs.Cmp.Lexicographic.{slice_cmp}
 use Rattle.std.specs.declared.alloc.Global.{Global}
@@ -40,7 +40,7 @@ use Rattle.kp_grounding.specs.Ground.{kept_instances, ground_atoms}
 use Rattle.kp_grounding.specs.Ground as by_number
 use Rattle.kp_grounding.specs.Weights.{binding_count, total_weight}
 use Rattle.kp_ground.specs.Grounded.{IsGrounded}
-use Rattle.kp_given.specs.Laws.{HasInitialState}
+use Rattle.kp_meaning.specs.Initial.{HasInitialState}
 use Rattle.kp_given.specs.Translations.{ground_of, initial_of}
 use Rattle.kp_given.specs.Tables.{translation_of, empty_tag}
 use Rattle.kp_given.proofs.Starts.{states_are_models}
@@ -48,11 +48,13 @@ use Rattle.kp_outside.specs.Outside.{FileMap}
 use Rattle.kp_outcome.specs.declared.outcome.Outcome.{Outcome}
 use Rattle.kp_outcome.specs.declared.status.Status.TheVariants as status
 use Rattle.kp_outcome.specs.Ends.{Outside, AreHeld, whole}
-use Rattle.kp_run.specs.Names.{Translate}
-use Rattle.kp_run.specs.declared.command.Command.TheVariants as commands
-use Rattle.kp_run.specs.Command.{NamesFiles, SaysLimit, usual_limit, stated, IsTranslate, IsNoCommand}
-use Rattle.kp_run.specs.Texts.{HaveTrees}
-use Rattle.kp_run.specs.Outcomes.{usual, shows_usage, translates, IsStarted, TranslatesTrees, no_clash as without_clash, done, TranslatesTexts, on_trees, translated, IsDue, usage, of_command}
+use Rattle.kp_words.specs.Names.{Translate}
+use Rattle.kp_words.specs.declared.command.Command.TheVariants as commands
+use Rattle.kp_words.specs.Command.{NamesFiles, usual_limit, stated, IsTranslate, if_named}
+use Rattle.kp_words.proofs.Examples.{no_words}
+use Rattle.kp_prepared.specs.Texts.{HaveTrees}
+use Rattle.kp_prepared.specs.Prepared.{usual, IsStarted, later}
+use Rattle.kp_run.specs.Outcomes.{shows_usage, translates, done, TranslatesTexts, translated, IsDue, usage, of_command}
 use Rattle.kp_run.specs.Ends.{Ends, came}
 use Rattle.kp_run.specs.Soundness.{IsSound}
 use Rattle.kp_run.proofs.Counted.{empty_tags_fit}
@@ -73,13 +75,13 @@ abbrev pub words : List (Vec ℕ Global)
 words = translate (word (codes "d") (omega arith)) (word (codes "p") (omega arith)) (word (codes "od") (omega arith)) (word (codes "op") (omega arith))
 
 abbrev pub command : Translate
-command = record { domain = codes "d"; problem = codes "p"; domain_out = codes "od"; problem_out = codes "op"; implicates = 20000 }
+command = record { domain = codes "d"; problem = codes "p"; domain_out = codes "od"; problem_out = codes "op"; merges = None; implicates = 20000 }
 
 -- two names that are seen to differ
 apart : (x y : List ℕ) → same x y ≡ false → x ≢ y
 apart x y h e = false≢true (sym h ∙ (sym (ap (same x) e) ∙ same-refl x))
 
-names_files : (n : ℕ) → NamesFiles (codes "translate" ∷ codes "d" ∷ codes "p" ∷ codes "od" ∷ codes "op" ∷ codes "--mode" ∷ codes "k0" ∷ []) (record { domain = codes "d"; problem = codes "p"; domain_out = codes "od"; problem_out = codes "op"; implicates = n })
+names_files : (n : ℕ) → NamesFiles (codes "translate" ∷ codes "d" ∷ codes "p" ∷ codes "od" ∷ codes "op" ∷ []) (record { domain = codes "d"; problem = codes "p"; domain_out = codes "od"; problem_out = codes "op"; merges = None; implicates = n })
 unfolding encode
 names_files n = record {
   words_are = refl;
@@ -92,10 +94,12 @@ names_files n = record {
 
 is_command : IsTranslate words command
 is_command = record {
-  front = codes "translate" ∷ codes "d" ∷ codes "p" ∷ codes "od" ∷ codes "op" ∷ codes "--mode" ∷ codes "k0" ∷ [];
+  front = codes "translate" ∷ codes "d" ∷ codes "p" ∷ codes "od" ∷ codes "op" ∷ [];
+  source = codes "--mode" ∷ codes "k0" ∷ [];
   options = [];
   words_are = refl;
   files = names_files 20000;
+  merges = refl;
   limit = usual_limit;
 }
 
@@ -106,15 +110,17 @@ with_limit =
     ∷ word (codes "--mode") (omega arith) ∷ word (codes "k0") (omega arith) ∷ word (codes "--implicates") (omega arith) ∷ word (codes "1") (omega arith) ∷ []
 
 abbrev pub limited : Translate
-limited = record { domain = codes "d"; problem = codes "p"; domain_out = codes "od"; problem_out = codes "op"; implicates = 1 }
+limited = record { domain = codes "d"; problem = codes "p"; domain_out = codes "od"; problem_out = codes "op"; merges = None; implicates = 1 }
 
 pub is_limited : IsTranslate with_limit limited
 unfolding digits
 is_limited = record {
-  front = codes "translate" ∷ codes "d" ∷ codes "p" ∷ codes "od" ∷ codes "op" ∷ codes "--mode" ∷ codes "k0" ∷ [];
+  front = codes "translate" ∷ codes "d" ∷ codes "p" ∷ codes "od" ∷ codes "op" ∷ [];
+  source = codes "--mode" ∷ codes "k0" ∷ [];
   options = codes "--implicates" ∷ codes "1" ∷ [];
   words_are = refl;
   files = names_files 1;
+  merges = refl;
   limit = stated 1 (record { least = omega arith; most = omega arith });
 }
 
@@ -131,11 +137,11 @@ problem_held : (domain problem : List ℕ) → get (holding domain problem) (cod
 problem_held domain problem = at_last (insert empty (codes "d") domain) (codes "p") problem
 
 -- what the two texts are translated to is due
-pub due_with : (ws : List (Vec ℕ Global)) (c : Translate) → IsTranslate ws c → c.domain ≡ codes "d" → c.problem ≡ codes "p" → (domain problem : List ℕ) (o : Outcome) → TranslatesTexts c domain problem o → IsDue ws (Some (holding domain problem)) o
-due_with ws c is first second domain problem o h = of_command (commands.Translate c) (domain ∷ problem ∷ []) o is (rw (first, second, domain_held domain problem, problem_held domain problem) refl) (translated c domain problem o h)
+pub due_with : (ws : List (Vec ℕ Global)) (c : Translate) → IsTranslate ws c → c.domain ≡ codes "d" → c.problem ≡ codes "p" → c.merges ≡ None → (domain problem : List ℕ) (o : Outcome) → TranslatesTexts c domain problem [] o → IsDue ws (Some (holding domain problem)) o
+due_with ws c is first second alone domain problem o h = of_command (commands.Translate c) (domain ∷ problem ∷ []) o is (rw (first, second, alone, domain_held domain problem, problem_held domain problem) refl) (translated c domain problem [] o h)
 
-pub on_files : (domain problem : List ℕ) (o : Outcome) → TranslatesTexts command domain problem o → IsDue words (Some (holding domain problem)) o
-on_files = due_with words command is_command refl refl
+pub on_files : (domain problem : List ℕ) (o : Outcome) → TranslatesTexts command domain problem [] o → IsDue words (Some (holding domain problem)) o
+on_files = due_with words command is_command refl refl refl
 
 -- ---- what computing has to show of a ground problem
 
@@ -205,14 +211,14 @@ closed_q i closed s model = not-true (s 1) (and_parts (not (s 1)) true (subst (�
 no_clash : IsClashFree (ground_of exchange_tree from_p_to_q_tree) from_p
 no_clash = free from_p (closed_q from_p refl)
 
-is_done : TranslatesTrees command exchange_tree from_p_to_q_tree (translates command (translation_of exchange_tree from_p_to_q_tree (empty_tag exchange_tree from_p_to_q_tree)))
-is_done = without_clash started no_clash (done (empty_tags_fit exchange_tree from_p_to_q_tree started.small) refl)
+is_done : TranslatesTexts command exchange from_p_to_q [] (translates command (translation_of exchange_tree from_p_to_q_tree (empty_tag exchange_tree from_p_to_q_tree)))
+is_done = later exchange_tree from_p_to_q_tree trees (record { started = started; clash_free = no_clash }) (done (empty_tags_fit exchange_tree from_p_to_q_tree started.small) refl)
 
 abbrev held : FileMap
 held = holding exchange from_p_to_q
 
 due : IsDue words (Some held) (translates command (translation_of exchange_tree from_p_to_q_tree (empty_tag exchange_tree from_p_to_q_tree)))
-due = on_files exchange from_p_to_q _ (on_trees exchange_tree from_p_to_q_tree trees is_done)
+due = on_files exchange from_p_to_q _ is_done
 
 -- what is held after it
 abbrev after : FileMap
@@ -235,51 +241,8 @@ sound = sound_end words before_it after_it status.Done ends held after command r
 
 -- ---- the usage
 
-no_words : IsNoCommand []
-no_words (commands.Strip c) h = let all = h.words_are in cc
-no_words (commands.Translate c) h = let e = h.files.words_are in let all = h.words_are in cc
-
 usage_is_due : IsDue [] (Some held) shows_usage
 usage_is_due = usage no_words
-
--- the first file's name begins with a dash
-abbrev dashed : List (Vec ℕ Global)
-dashed = translate (word (codes "-d") (omega arith)) (word (codes "p") (omega arith)) (word (codes "od") (omega arith)) (word (codes "op") (omega arith))
-
-dashed_is_none : IsNoCommand dashed
-dashed_is_none (commands.Strip c) h = let all = h.words_are in cc
-dashed_is_none (commands.Translate c) h =
-    let all = h.words_are in
-    let first = h.files.words_are in
-    let it : codes "-d" ≡ c.domain = cc in
-    false≢true (sym h.files.domain.no_dash ∙ sym (ap (λ w. starts_with nat_eq w (codes "-")) it))
-
--- both files would be written under one name
-abbrev one_output : List (Vec ℕ Global)
-one_output = translate (word (codes "d") (omega arith)) (word (codes "p") (omega arith)) (word (codes "od") (omega arith)) (word (codes "od") (omega arith))
-
-one_output_is_none : IsNoCommand one_output
-one_output_is_none (commands.Strip c) h = let all = h.words_are in cc
-one_output_is_none (commands.Translate c) h =
-    let all = h.words_are in
-    let front = h.files.words_are in
-    let first : codes "od" ≡ c.domain_out = cc in
-    let second : codes "od" ≡ c.problem_out = cc in
-    h.files.outputs_differ (sym first ∙ second)
-
--- an option without its number
-abbrev without_number : List (Vec ℕ Global)
-without_number =
-    word (codes "translate") (omega arith) ∷ word (codes "d") (omega arith) ∷ word (codes "p") (omega arith) ∷ word (codes "od") (omega arith) ∷ word (codes "op") (omega arith)
-    ∷ word (codes "--mode") (omega arith) ∷ word (codes "k0") (omega arith) ∷ word (codes "--implicates") (omega arith) ∷ []
-
-without_number_is_none : IsNoCommand without_number
-without_number_is_none (commands.Strip c) h = let all = h.words_are in cc
-without_number_is_none (commands.Translate c) h = no_limit h.options c.implicates h.limit (let all = h.words_are in let front = h.files.words_are in cc)
-  where
-    no_limit : (ws : List (List ℕ)) (n : ℕ) → SaysLimit ws n → ws ≡ codes "--implicates" ∷ [] → ⊥
-    no_limit _ _ usual_limit e = cc
-    no_limit _ _ (stated n is) e = cc
 
 -- ---- a file that isn't held: nothing is due
 
@@ -293,4 +256,5 @@ not_held name names (t ∷ ts) h = absurd (let e = get-empty {X = List ℕ} (sli
 nothing_is_due : (o : Outcome) → IsDue words (Some no_files) o → ⊥
 nothing_is_due _ (usage never) = never (commands.Translate command) is_command
 nothing_is_due o (of_command (commands.Strip c) texts _ h held comes) = not_held c.plan [] texts held
-nothing_is_due o (of_command (commands.Translate c) texts _ h held comes) = not_held c.domain (c.problem ∷ []) texts held
+nothing_is_due o (of_command (commands.Check c) texts _ h held comes) = not_held c.domain (c.problem ∷ c.plan ∷ []) texts held
+nothing_is_due o (of_command (commands.Translate c) texts _ h held comes) = not_held c.domain (c.problem ∷ if_named c.merges) texts held

@@ -40,15 +40,16 @@ use Rattle.kp_meaning.proofs.Texts.{tokens}
 use Rattle.kp_tree.specs.Files.{Reads, offending}
 use Rattle.kp_tree.specs.Files as files
 use Rattle.kp_names.specs.Resolved.{in_problem}
-use Rattle.kp_given.specs.Laws.{HasInitialState}
+use Rattle.kp_meaning.specs.Initial.{HasInitialState}
 use Rattle.kp_given.specs.Translations.{ground_of, initial_of}
 use Rattle.kp_given.specs.Tables.{translation_of, empty_tag}
 use Rattle.kp_given.proofs.Starts.{states_are_models}
 use Rattle.kp_printed.specs.Refusals.{nothing, refusal_text}
 use Rattle.kp_outcome.specs.declared.status.Status.TheVariants as status
-use Rattle.kp_run.specs.Texts.{HaveTrees, of_problem, of_names}
-use Rattle.kp_run.specs.Outcomes.{refuses, named_in, translates, IsStarted, TranslatesTrees, implicates_over, no_initial_state, clash, no_clash as without_clash, done, on_trees, IsDue}
-use Rattle.kp_run.specs.Outcomes as outcomes
+use Rattle.kp_prepared.specs.Texts.{HaveTrees, of_problem, of_names}
+use Rattle.kp_prepared.specs.Refusing.{named_in}
+use Rattle.kp_prepared.specs.Prepared.{IsStarted, RefusesTrees, implicates_over, no_initial_state, clash, by_texts, by_trees, early, later}
+use Rattle.kp_run.specs.Outcomes.{translates, done, TranslatesTexts, IsDue}
 use Rattle.kp_run.proofs.Counted.{empty_tags_fit}
 use Rattle.kp_run.proofs.Computed.{reads_file}
 use Rattle.kp_run.proofs.ExampleOutcomes.{closed_q, command, domain_reads, due_with, few_primes, has_state, holding, is_limited, is_small, limited, on_files, only_p, problem_reads, with_limit, words}
@@ -96,11 +97,11 @@ both_few = never_over (initial_of exchange_tree both_tree) 20000 (all_included [
     at (suc (suc zero)) = omega arith
     at (suc (suc (suc j))) = omega arith
 
-without_state : TranslatesTrees command exchange_tree both_tree (refuses nothing refusals.NoInitialState)
-without_state = no_initial_state (is_small (numbered_problem exchange_tree both_tree) refl refl refl refl) both_few no_state refl
+without_state : RefusesTrees 20000 exchange_tree both_tree nothing refusals.NoInitialState
+without_state = no_initial_state (is_small (numbered_problem exchange_tree both_tree) refl refl refl refl) both_few no_state
 
 no_state_due : IsDue words (Some (holding exchange both)) (record { status = status.Refused refusals.NoInitialState; puts = []; text = codes "refused 12 NoInitialState\n" })
-no_state_due = on_files exchange both _ (on_trees exchange_tree both_tree both_trees without_state)
+no_state_due = on_files exchange both _ (early (by_trees exchange_tree both_tree nothing refusals.NoInitialState both_trees without_state refl))
 
 -- ---- refusals: a name
 
@@ -120,7 +121,7 @@ unknown_name = refusals.UnknownName (record { part = parts.Problem; line = 2; by
 
 unknown_name_due : IsDue words (Some (holding exchange to_r)) (record { status = status.Refused unknown_name; puts = []; text = codes "refused 5 UnknownName\nat problem line 2 byte 48\n" })
 unfolding digits
-unknown_name_due = on_files exchange to_r _ (outcomes.refused unknown_name (of_names exchange_tree to_r_tree unknown_name domain_reads to_r_reads (in_problem (faults.unknown_name 48) refl refl)) refl)
+unknown_name_due = on_files exchange to_r _ (early (by_texts unknown_name (of_names exchange_tree to_r_tree unknown_name domain_reads to_r_reads (in_problem (faults.unknown_name 48) refl refl)) refl))
 
 -- ---- refusals: an empty problem
 
@@ -129,7 +130,7 @@ at_once = refusals.Syntax (record { part = parts.Problem; line = 1; byte = 0 })
 
 syntax_due : IsDue words (Some (holding exchange [])) (record { status = status.Refused at_once; puts = []; text = codes "refused 3 Syntax\nat problem line 1 byte 0\n" })
 unfolding digits
-syntax_due = on_files exchange [] _ (outcomes.refused at_once (of_problem exchange_tree at_once domain_reads (files.stops [] (stop []) (omega arith) at_end (offending (stop []) (within_form (s_unopened refl)) (λ us e. absurd cc)))) refl)
+syntax_due = on_files exchange [] _ (early (by_texts at_once (of_problem exchange_tree at_once domain_reads (files.stops [] (stop []) (omega arith) at_end (offending (stop []) (within_form (s_unopened refl)) (λ us e. absurd cc)))) refl))
 
 -- ---- refusals: too many prime implicates
 
@@ -166,7 +167,7 @@ second_is_over = go (prefix_stops (initial_of exchange_tree p_and_q_tree) 2 1 (s
 
 over_due : IsDue with_limit (Some (holding exchange p_and_q)) (record { status = status.Refused (refusals.ImplicatesOver 2); puts = []; text = codes "refused 11 ImplicatesOver\nprefix 2\n" })
 unfolding digits
-over_due = due_with with_limit limited is_limited refl refl exchange p_and_q _ (on_trees exchange_tree p_and_q_tree p_and_q_trees (implicates_over 2 (is_small (numbered_problem exchange_tree p_and_q_tree) refl refl refl refl) second_is_over refl))
+over_due = due_with with_limit limited is_limited refl refl refl exchange p_and_q _ (early (by_trees exchange_tree p_and_q_tree nothing (refusals.ImplicatesOver 2) p_and_q_trees (implicates_over 2 (is_small (numbered_problem exchange_tree p_and_q_tree) refl refl refl refl) second_is_over) refl))
 
 -- ---- an `unknown`
 
@@ -201,11 +202,11 @@ half_known_started = record {
   initial = has_state exchange_tree half_known_tree half_known_trees.no_fault only_p half_known_model;
 }
 
-half_known_done : TranslatesTrees command exchange_tree half_known_tree (translates command (translation_of exchange_tree half_known_tree (empty_tag exchange_tree half_known_tree)))
-half_known_done = without_clash half_known_started (free (initial_of exchange_tree half_known_tree) (closed_q (initial_of exchange_tree half_known_tree) refl)) (done (empty_tags_fit exchange_tree half_known_tree half_known_started.small) refl)
+half_known_done : TranslatesTexts command exchange half_known [] (translates command (translation_of exchange_tree half_known_tree (empty_tag exchange_tree half_known_tree)))
+half_known_done = later exchange_tree half_known_tree half_known_trees (record { started = half_known_started; clash_free = free (initial_of exchange_tree half_known_tree) (closed_q (initial_of exchange_tree half_known_tree) refl) }) (done (empty_tags_fit exchange_tree half_known_tree half_known_started.small) refl)
 
 half_known_due : IsDue words (Some (holding exchange half_known)) (translates command (translation_of exchange_tree half_known_tree (empty_tag exchange_tree half_known_tree)))
-half_known_due = on_files exchange half_known _ (on_trees exchange_tree half_known_tree half_known_trees half_known_done)
+half_known_due = on_files exchange half_known _ half_known_done
 
 -- it isn't known whether p holds, so the report has no last line
 half_known_report : (translation_of exchange_tree half_known_tree (empty_tag exchange_tree half_known_tree)).report ≡ codes "atoms 2\nactions 1\ntags 1\nmerges 0\nfacts 4\n"
@@ -300,11 +301,11 @@ first_clash = record {
   first = first_is (λ p q. false) (ground_of clashing_tree from_not_p_tree) (Some of_q) refl;
 }
 
-clashes : TranslatesTrees command clashing_tree from_not_p_tree (refuses (named_in (ground_of clashing_tree from_not_p_tree)) (refusals.Clash of_q))
-clashes = clash of_q clashing_started first_clash refl
+clashes : RefusesTrees 20000 clashing_tree from_not_p_tree (named_in (ground_of clashing_tree from_not_p_tree)) (refusals.Clash of_q)
+clashes = clash of_q clashing_started first_clash
 
 clash_printed : refusal_text (named_in (ground_of clashing_tree from_not_p_tree)) (refusals.Clash of_q) ≡ codes "refused 13 Clash\naction (a)\natom (q)\nadd (p)\ndelete\n"
 clash_printed = refl
 
 clash_due : IsDue words (Some (holding clashing from_not_p)) (record { status = status.Refused (refusals.Clash of_q); puts = []; text = codes "refused 13 Clash\naction (a)\natom (q)\nadd (p)\ndelete\n" })
-clash_due = subst (λ text. IsDue words (Some (holding clashing from_not_p)) (record { status = status.Refused (refusals.Clash of_q); puts = []; text = text })) clash_printed (on_files clashing from_not_p _ (on_trees clashing_tree from_not_p_tree clashing_trees clashes))
+clash_due = subst (λ text. IsDue words (Some (holding clashing from_not_p)) (record { status = status.Refused (refusals.Clash of_q); puts = []; text = text })) clash_printed (on_files clashing from_not_p _ (early (by_trees clashing_tree from_not_p_tree (named_in (ground_of clashing_tree from_not_p_tree)) (refusals.Clash of_q) clashing_trees clashes refl)))

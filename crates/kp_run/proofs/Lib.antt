@@ -1,14 +1,12 @@
 pub mod Computed
-pub mod Reading
-pub mod Words
-pub mod Numbers
-pub mod OneCommand
+pub mod FileMerges
 pub mod Strips
 pub mod Answered
 pub mod Counted
 pub mod Translations
+pub mod Checks
 pub mod Soundness
 pub mod Ending
-pub mod TwoFiles
+pub mod Files
 pub mod ExampleOutcomes
 pub mod ExampleRefusals

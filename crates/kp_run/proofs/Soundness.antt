@@ -1,5 +1,7 @@
 -- What a run that ended with Done put is sound.
-use Rattle.std.proofs.Common.{◌≡◌, ◌≢◌, ℕ, cond, List, [], ◌∷◌, Some, Vec, refl, sym, ap, subst, ◌∙◌}
+use Rattle.std.proofs.Common.{◌≡◌, ◌≢◌, ◌≤◌, ℕ, cond, List, [], ◌∷◌, Some, Vec, length, map, sym, ap, subst, ◌∙◌, arith}
+use Rattle.std.specs.List.{AllByRecursion}
+use Rattle.std.proofs.lemmas.List.{length-map}
 use Rattle.std.proofs.lemmas.Bool.{false_from_ne_true}
 use Rattle.std.proofs.lemmas.Map.Text.{is_eq-slice_cmp}
 use Rattle.std.specs.Cmp.Lexicographic.{nat_list_cmp_total}
@@ -7,31 +9,44 @@ use Rattle.std.specs.FinMap.{get, insert, get-insert}
 use Rattle.std.specs.declared.alloc.Global.{Global}
 use Rattle.kp_base.proofs.Lists.{same-true, same-refl}
 use Rattle.kp_outside.specs.Outside.{FileMap}
-use Rattle.kp_given.specs.Tables.{translation_of, empty_tag}
+use Rattle.kp_base.specs.declared.ground.Ground.{Ground}
+use Rattle.kp_base.specs.declared.ground.Merge.{Merge}
+use Rattle.kp_base.specs.declared.ground.TagRow.{TagRow}
+use Rattle.kp_base.specs.declared.ground.TagTable.{TagTable}
+use Rattle.kp_write.specs.Grounds.{IsOfAtom}
+use Rattle.kp_translation.specs.declared.translation.Translation.{Translation}
+use Rattle.kp_translation.specs.Translations.{translation_with}
+use Rattle.kp_merges.specs.declared.merge.FileMerge.{FileMerge}
+use Rattle.kp_merges.specs.MergesFiles.{IsMergesOf}
+use Rattle.kp_tags.specs.Tables.{used_tags, numbered}
+use Rattle.kp_tags.specs.Answers.{Accepts}
+use Rattle.kp_tags.proofs.Right.{right as tables_right}
+use Rattle.kp_given.specs.Tables.{IsTableFor, translation_of, empty_tag}
 use Rattle.kp_given.proofs.Tables.{empty_tag_is_table}
-use Rattle.kp_base.specs.Exclusive.{IsClashFree}
 use Rattle.kp_machine.proofs.Exclusive.{never_clashes}
 use Rattle.kp_grammar.specs.declared.tree.Word.{Word}
 use Rattle.kp_grammar.specs.Trees.{Domain, Problem}
 use Rattle.kp_meaning.specs.Plans.{HasProblem}
-use Rattle.kp_given.specs.Laws.{HasInitialState}
 use Rattle.kp_given.specs.Translations.{ground_of, initial_of}
 use Rattle.kp_sound.proofs.Trees.{translations_sound}
-use Rattle.kp_run.specs.Texts.{HaveTrees}
+use Rattle.kp_prepared.specs.Texts.{HaveTrees}
+use Rattle.kp_prepared.specs.Refusing.{refuses, named_in}
+use Rattle.kp_prepared.specs.Prepared.{usual, IsPrepared, by_texts, by_trees, early, later}
 use Rattle.kp_base.specs.declared.refused.Refused.{Refused}
 use Rattle.kp_printed.specs.Refusals.{Named, nothing}
 use Rattle.kp_outcome.specs.declared.outcome.Outcome.{Outcome}
 use Rattle.kp_outcome.specs.declared.status.Status.{Status}
 use Rattle.kp_outcome.specs.declared.status.Status.TheVariants as status
-use Rattle.kp_outcome.specs.Ends.{Outside, AreHeld, with_files, CarriesOut, whole, put_failed, put_no_memory, print_failed, print_no_memory}
-use Rattle.kp_run.specs.Names.{Translate}
-use Rattle.kp_run.specs.declared.command.Command.{Command}
-use Rattle.kp_run.specs.declared.command.Command.TheVariants as commands
-use Rattle.kp_run.specs.Command.{IsTranslate, IsCommand, inputs_of}
-use Rattle.kp_run.specs.Outcomes.{refuses, named_in, translates, IsStarted, TranslatesGround, over as when_over, done as when_done, TranslatesTrees, too_large, implicates_over, no_initial_state, clash as when_clash, no_clash as when_no_clash, TranslatesTexts, refused, on_trees, ComesTo, translated, stripped, IsDue, usage, of_command}
+use Rattle.kp_outcome.specs.Ends.{Outside, most_bytes, AreHeld, with_files, whole, put_failed, put_no_memory, print_failed, print_no_memory}
+use Rattle.kp_words.specs.Names.{Translate}
+use Rattle.kp_words.specs.declared.command.Command.{Command}
+use Rattle.kp_words.specs.declared.command.Command.TheVariants as commands
+use Rattle.kp_words.specs.Command.{IsTranslate, inputs_of}
+use Rattle.kp_run.specs.Outcomes.{translates, TranslatesGround, over as when_over, done as when_done, TranslatesWith, long_merges, no_merges, no_table, with_table, TranslatesBy, TranslatesTexts, ComesTo, translated, stripped, checked, IsDue, usage, of_command}
 use Rattle.kp_run.specs.Ends.{Ends, came, read_failed, no_memory}
 use Rattle.kp_run.specs.Soundness.{IsSound}
-use Rattle.kp_run.proofs.OneCommand.{one_command}
+use Rattle.kp_words.proofs.OneCommand.{one_command}
+use Rattle.kp_run.proofs.FileMerges.{targets_of_atoms, few_merges}
 
 -- ---- what is held under two names
 
@@ -57,45 +72,83 @@ problem_of domain problem d p h = record {
   no_fault = h.no_fault;
 }
 
--- what Done says of the texts
+-- what Done says of two texts: they are translated with some table for their trees
 record IsDone (c : Translate) (domain problem : List ℕ) (o : Outcome) : Type 0 where
   first : Domain Word
   second : Problem Word
   trees : HaveTrees domain problem first second
-  started : IsStarted c.implicates first second
-  no_clash : IsClashFree (ground_of first second) (initial_of first second)
-  outcome : o ≡ translates c (translation_of first second (empty_tag first second))
+  prepared : IsPrepared c.implicates first second
+  table : TagTable
+  table_for : IsTableFor first second table
+  outcome : o ≡ translates c (translation_of first second table)
 
 refusal_not_done : (o : Outcome) (n : Named) (r : Refused) → o ≡ refuses n r → o.status ≡ status.Done → ⊥
 refusal_not_done o n r is e = absurd (let f : status.Refused r ≡ status.Done = sym (ap (λ (z : Outcome). z.status) is) ∙ e in cc)
 
-is_done : (c : Translate) (x y : List ℕ) (o : Outcome) → TranslatesTexts c x y o → o.status ≡ status.Done → IsDone c x y o
-is_done c x y o (refused r a is) e = absurd (refusal_not_done o nothing r is e)
-is_done c x y o (on_trees d p h (too_large r a is)) e = absurd (refusal_not_done o nothing r is e)
-is_done c x y o (on_trees d p h (implicates_over k a b is)) e = absurd (refusal_not_done o nothing _ is e)
-is_done c x y o (on_trees d p h (no_initial_state a b f is)) e = absurd (refusal_not_done o nothing _ is e)
-is_done c x y o (on_trees d p h (when_clash z a b is)) e = absurd (refusal_not_done o (named_in (ground_of d p)) _ is e)
-is_done c x y o (on_trees d p h (when_no_clash a b (when_over r t is))) e = absurd (refusal_not_done o nothing r is e)
-is_done c x y o (on_trees d p h (when_no_clash a b (when_done f is))) e = record { first = d; second = p; trees = h; started = a; no_clash = b; outcome = is }
+ground_done : (c : Translate) (g : Ground) (table : TagTable) (o : Outcome) → TranslatesGround c g table o → o.status ≡ status.Done → o ≡ translates c (translation_with g table)
+ground_done c g table o (when_over r t is) e = absurd (refusal_not_done o nothing r is e)
+ground_done c g table o (when_done f is) e = is
+
+-- the table of the merges of a file is one for the trees
+file_table : (d : Domain Word) (p : Problem Word) (text : List ℕ) (ms : List FileMerge) (table : TagTable) → length text ≤ most_bytes → IsMergesOf (ground_of d p).atoms text ms → Accepts (length (ground_of d p).atoms) (initial_of d p) ms usual.tags table → IsTableFor d p table
+file_table d p text ms table short read fine =
+    let right = tables_right (ground_of d p) (initial_of d p) ms table fine.acceptable fine.is_table in
+    record {
+      right = right.0;
+      valid = right.1;
+      targets = subst (λ all. AllByRecursion (λ (m : Merge). IsOfAtom (ground_of d p).atoms m.target) all) (sym fine.is_table.merges) (their_targets ms (targets_of_atoms (ground_of d p).atoms text ms read));
+      tags_fit = (let a = ap length fine.is_table.tags in let b = length-map table.tags (λ (row : TagRow). row.lits) in let f = fine.within_limit in omega (arith, a, b, f));
+      merges_fit = (let a = ap length fine.is_table.merges in let b = length-map ms (numbered (used_tags ms)) in let f = few_merges (ground_of d p).atoms text ms read in omega (arith, a, b, f, short));
+    }
+  where
+    their_targets : (all : List FileMerge) → AllByRecursion (λ m. IsOfAtom (ground_of d p).atoms m.target) all → AllByRecursion (λ (m : Merge). IsOfAtom (ground_of d p).atoms m.target) (map (numbered (used_tags ms)) all)
+    their_targets [] h = tt
+    their_targets (m ∷ all) h = (h.0, their_targets all h.1)
+
+-- what two trees are translated to, if that is Done
+record HasTable (c : Translate) (d : Domain Word) (p : Problem Word) (o : Outcome) : Type 0 where
+  table : TagTable
+  table_for : IsTableFor d p table
+  outcome : o ≡ translates c (translation_of d p table)
+
+with_done : (c : Translate) (d : Domain Word) (p : Problem Word) (text : List ℕ) (o : Outcome) → TranslatesWith c (ground_of d p) (initial_of d p) text o → o.status ≡ status.Done → HasTable c d p o
+with_done c d p text o (long_merges a is) e = absurd (refusal_not_done o nothing _ is e)
+with_done c d p text o (no_merges r a b is) e = absurd (refusal_not_done o nothing r is e)
+with_done c d p text o (no_table ms r a b f is) e = absurd (refusal_not_done o (named_in (ground_of d p)) r is e)
+with_done c d p text o (with_table ms table short read fine made) e = record { table = table; table_for = file_table d p text ms table short read fine; outcome = ground_done c (ground_of d p) table o made e }
+
+trees_done : (c : Translate) (merges : List (List ℕ)) (d : Domain Word) (p : Problem Word) (o : Outcome) → TranslatesBy c merges d p o → o.status ≡ status.Done → HasTable c d p o
+trees_done c [] d p o made e = record { table = empty_tag d p; table_for = empty_tag_is_table d p; outcome = ground_done c (ground_of d p) (empty_tag d p) o made e }
+trees_done c (text ∷ []) d p o made e = with_done c d p text o made e
+trees_done c (text ∷ other ∷ others) d p o made e = absurd made
+
+is_done : (c : Translate) (x y : List ℕ) (merges : List (List ℕ)) (o : Outcome) → TranslatesTexts c x y merges o → o.status ≡ status.Done → IsDone c x y o
+is_done c x y merges o (early (by_texts r a is)) e = absurd (refusal_not_done o nothing r is e)
+is_done c x y merges o (early (by_trees d p names r h a is)) e = absurd (refusal_not_done o names r is e)
+is_done c x y merges o (later d p h ready made) e =
+    let t = trees_done c merges d p o made e in
+    record { first = d; second = p; trees = h; prepared = ready; table = t.table; table_for = t.table_for; outcome = t.outcome }
 
 -- both texts are held
 pub record AreBoth (m : FileMap) (c : Translate) (o : Outcome) : Type 0 where
   pub domain : List ℕ
   pub problem : List ℕ
+  pub merges : List (List ℕ)
   pub domain_held : get m c.domain ≡ Some domain
   pub problem_held : get m c.problem ≡ Some problem
-  pub texts : TranslatesTexts c domain problem o
+  pub texts : TranslatesTexts c domain problem merges o
 
 both_held : (m : FileMap) (c : Translate) (e : Command) (texts : List (List ℕ)) (o : Outcome) → commands.Translate c ≡ e → AreHeld (Some m) (inputs_of e) texts → ComesTo e texts o → AreBoth m c o
-both_held m c _ _ o same held (translated d x y _ a) =
+both_held m c _ _ o same held (translated d x y merges _ a) =
     let it : d ≡ c = cc in
-    let there = subst (λ z. AreHeld (Some m) (inputs_of (commands.Translate z)) (x ∷ y ∷ [])) it held in
-    record { domain = x; problem = y; domain_held = cc there; problem_held = cc there; texts = subst (λ z. TranslatesTexts z x y o) it a }
+    let there = subst (λ z. AreHeld (Some m) (inputs_of (commands.Translate z)) (x ∷ y ∷ merges)) it held in
+    record { domain = x; problem = y; merges = merges; domain_held = cc there; problem_held = cc there; texts = subst (λ z. TranslatesTexts z x y merges o) it a }
 both_held m c _ _ o same held (stripped d x _ a) = absurd cc
+both_held m c _ _ o same held (checked d x y plan _ a) = absurd cc
 
 module _ (before after : FileMap) (c : Translate) (o : Outcome) (apart : c.domain_out ≢ c.problem_out) (both : AreBoth before c o) (done : o.status ≡ status.Done) (puts : Some after ≡ with_files (Some before) o.puts) where
   all_done : IsDone c both.domain both.problem o
-  all_done = is_done c both.domain both.problem o both.texts done
+  all_done = is_done c both.domain both.problem both.merges o both.texts done
 
   abbrev d : Domain Word
   d = all_done.first
@@ -103,10 +156,13 @@ module _ (before after : FileMap) (c : Translate) (o : Outcome) (apart : c.domai
   abbrev p : Problem Word
   p = all_done.second
 
+  abbrev written : Translation
+  written = translation_of d p all_done.table
+
   has : HasProblem both.domain both.problem
   has = problem_of both.domain both.problem d p all_done.trees
 
-  held : after ≡ insert (insert before c.domain_out (translation_of d p (empty_tag d p)).domain) c.problem_out (translation_of d p (empty_tag d p)).problem
+  held : after ≡ insert (insert before c.domain_out written.domain) c.problem_out written.problem
   held = let they = subst (λ (z : Outcome). Some after ≡ with_files (Some before) z.puts) all_done.outcome puts in cc they
 
   pub sound_outcome : IsSound before after c
@@ -114,15 +170,15 @@ module _ (before after : FileMap) (c : Translate) (o : Outcome) (apart : c.domai
   sound_outcome = record {
     domain = both.domain;
     problem = both.problem;
-    domain_out = (translation_of d p (empty_tag d p)).domain;
-    problem_out = (translation_of d p (empty_tag d p)).problem;
+    domain_out = written.domain;
+    problem_out = written.problem;
     domain_held = both.domain_held;
     problem_held = both.problem_held;
     has_problem = has;
-    initial_state = all_done.started.initial;
-    domain_put = ap (λ m. get m c.domain_out) held ∙ (under_another (insert before c.domain_out (translation_of d p (empty_tag d p)).domain) c.domain_out c.problem_out (translation_of d p (empty_tag d p)).problem apart ∙ at_last before c.domain_out (translation_of d p (empty_tag d p)).domain);
-    problem_put = ap (λ m. get m c.problem_out) held ∙ at_last (insert before c.domain_out (translation_of d p (empty_tag d p)).domain) c.problem_out (translation_of d p (empty_tag d p)).problem;
-    plans = translations_sound both.domain both.problem has (empty_tag d p) (empty_tag_is_table d p) (never_clashes (ground_of d p) (initial_of d p) all_done.no_clash);
+    initial_state = all_done.prepared.started.initial;
+    domain_put = ap (λ m. get m c.domain_out) held ∙ (under_another (insert before c.domain_out written.domain) c.domain_out c.problem_out written.problem apart ∙ at_last before c.domain_out written.domain);
+    problem_put = ap (λ m. get m c.problem_out) held ∙ at_last (insert before c.domain_out written.domain) c.problem_out written.problem;
+    plans = translations_sound both.domain both.problem has all_done.table all_done.table_for (never_clashes (ground_of d p) (initial_of d p) all_done.prepared.clash_free);
   }
 
 -- ---- a run that ended with Done

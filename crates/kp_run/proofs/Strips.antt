@@ -15,7 +15,8 @@ use Rattle.kp_plans.specs.PlanFiles.{names, IsPlanOf, RefusesPlan}
 use Rattle.kp_plans.specs.Printed.{plan_text}
 use Rattle.kp_plans.specs.Stripping.{AnswersStrip}
 use Rattle.kp_printed.specs.Refusals.{nothing}
-use Rattle.kp_run.specs.Outcomes.{refuses, prints, StripsText, too_long, no_plan, no_strip, strips}
+use Rattle.kp_prepared.specs.Refusing.{refuses}
+use Rattle.kp_run.specs.Outcomes.{prints, StripsText, too_long, no_plan, no_strip, strips}
 
 -- a step is refused
 pub refused_step : (text : List ℕ) (steps : List PlanStep) (r : Refused) (result : Result Outcome Memory) → length text ≤ most_bytes → IsPlanOf text steps → AnswersStrip steps (Err (stops.Refused r)) → IfOk result (λ o. o ≡ refuses nothing r) → IfOk result (StripsText text)

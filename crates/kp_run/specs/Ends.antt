@@ -4,9 +4,9 @@ use Rattle.std.specs.declared.alloc.Global.{Global}
 use Rattle.kp_outcome.specs.declared.outcome.Outcome.{Outcome}
 use Rattle.kp_outcome.specs.declared.status.Status.{Status}
 use Rattle.kp_outcome.specs.declared.status.Status.TheVariants as status
-use Rattle.kp_outcome.specs.Ends.{Outside, NoGetFailed, NoPutFailed, NoWriteFailed, NothingFailed, IsUntouched, CarriesOut, GetFails}
-use Rattle.kp_run.specs.declared.command.Command.{Command}
-use Rattle.kp_run.specs.Command.{IsCommand, inputs_of}
+use Rattle.kp_outcome.specs.Ends.{Outside, NoPutFailed, NoWriteFailed, NothingFailed, IsUntouched, CarriesOut, GetFails}
+use Rattle.kp_words.specs.declared.command.Command.{Command}
+use Rattle.kp_words.specs.Command.{IsCommand, inputs_of}
 use Rattle.kp_run.specs.Outcomes.{IsDue}
 
 -- A run ends with a status: the outcome that is due was carried out as far as the run came; or, before that, a get of one of the input names failed, or memory ran out.

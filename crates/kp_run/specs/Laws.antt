@@ -1,5 +1,5 @@
 -- Laws on commands and their outcomes.
-use Rattle.std.specs.Prelude.{◌≡◌, ℕ, List, Option, Some, Vec}
+use Rattle.std.specs.Prelude.{◌≡◌, ℕ, List, Option, Vec}
 use Rattle.std.specs.declared.alloc.Global.{Global}
 use Rattle.kp_grammar.specs.declared.tree.Word.{Word}
 use Rattle.kp_grammar.specs.Trees.{Domain, Problem}
@@ -10,13 +10,8 @@ use Rattle.kp_given.specs.Tables.{empty_tag}
 use Rattle.kp_outside.specs.Outside.{FileMap}
 use Rattle.kp_outcome.specs.declared.outcome.Outcome.{Outcome}
 use Rattle.kp_outcome.specs.Ends.{IsAnswer}
-use Rattle.kp_run.specs.declared.command.Command.{Command}
-use Rattle.kp_run.specs.Command.{IsCommand}
-use Rattle.kp_run.specs.Outcomes.{usual, IsSmall, IsDue}
-
--- words are one command at most
-abbrev pub WordsAreOneCommand : Type 0
-WordsAreOneCommand = (words : List (Vec ℕ Global)) (c d : Command) → IsCommand words c → IsCommand words d → c ≡ d
+use Rattle.kp_prepared.specs.Prepared.{usual, IsSmall}
+use Rattle.kp_run.specs.Outcomes.{IsDue}
 
 -- an outcome that is due is an answer, and no fault
 abbrev pub OutcomesAreAnswers : Type 0

@@ -1,8 +1,6 @@
-pub mod Names
-pub mod Command
-pub mod Texts
 pub mod Outcomes
 pub mod Ends
 pub mod Soundness
+pub mod Tables
+pub mod Judging
 pub mod Laws
-pub mod Numbered

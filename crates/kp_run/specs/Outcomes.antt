@@ -1,43 +1,48 @@
 -- What a command comes to: one outcome, by its words and by what its input files hold when it begins.
-use Rattle.std.specs.Prelude.{◌≡◌, ◌<◌, ◌≤◌, List, [], ◌∷◌, ℕ, Option, Some, Vec, length}
+use Rattle.std.specs.Prelude.{◌≡◌, ◌<◌, ◌≤◌, ◌==◌, if◌then◌else◌, List, [], ◌∷◌, ℕ, Option, Some, None, Vec, length, map, codes}
 use Rattle.std.specs.declared.alloc.Global.{Global}
 use Rattle.kp_base.specs.declared.ground.Ground.{Ground}
 use Rattle.kp_base.specs.declared.ground.GroundName.{GroundName}
+use Rattle.kp_base.specs.declared.ground.Initial.{Initial}
 use Rattle.kp_base.specs.declared.ground.TagTable.{TagTable}
-use Rattle.kp_base.specs.declared.limits.Limits.{Limits}
-use Rattle.kp_base.specs.declared.refused.ClashAt.{ClashAt}
+use Rattle.kp_base.specs.declared.lit.AtomId.{AtomId}
+use Rattle.kp_base.specs.declared.lit.Lit.{Lit}
 use Rattle.kp_base.specs.declared.refused.Part.TheVariants as parts
 use Rattle.kp_base.specs.declared.refused.Refused.{Refused}
 use Rattle.kp_base.specs.declared.refused.Refused.TheVariants as refusals
-use Rattle.kp_base.specs.Exclusive.{ClashesFirst, IsClashFree}
-use Rattle.kp_base.specs.Implicates.{IsLeastOver, IsNeverOver}
 use Rattle.kp_grammar.specs.declared.tree.Word.{Word}
 use Rattle.kp_grammar.specs.Trees as trees
-use Rattle.kp_meaning.specs.Numbering.{numbered_problem}
-use Rattle.kp_ground.specs.Grounded.{IsGrounded, RefusesGround}
 use Rattle.kp_task.specs.Task.{task_of}
 use Rattle.kp_ktask.specs.Translated.{FitsLimits, RefusesTask}
 use Rattle.kp_translation.specs.declared.translation.Translation.{Translation}
 use Rattle.kp_translation.specs.Translations.{translation_with}
-use Rattle.kp_given.specs.Laws.{HasInitialState}
 use Rattle.kp_given.specs.Translations.{ground_of, initial_of}
 use Rattle.kp_given.specs.Tables.{empty_tag}
+use Rattle.kp_merges.specs.declared.merge.FileMerge.{FileMerge}
+use Rattle.kp_merges.specs.MergesFiles.{IsMergesOf, RefusesMerges}
+use Rattle.kp_tags.specs.Answers.{Accepts, RefusesTable}
+use Rattle.kp_check.specs.declared.answer.Judged.{Judged}
+use Rattle.kp_check.specs.declared.answer.Judged.TheVariants.{Yes, No}
+use Rattle.kp_check.specs.Judging.{AnswersJudged}
 use Rattle.kp_meaning.specs.Strip.{strip}
 use Rattle.kp_plans.specs.declared.step.PlanStep.{PlanStep}
 use Rattle.kp_plans.specs.PlanFiles.{names, IsPlanOf, RefusesPlan}
+use Rattle.kp_plans.specs.Found.{action_of, IsFirstUnknown}
 use Rattle.kp_plans.specs.Printed.{plan_text}
 use Rattle.kp_plans.specs.Stripping.{IsFirstUnstripped}
 use Rattle.kp_outside.specs.Outside.{FileMap}
-use Rattle.kp_printed.specs.Refusals.{Named, nothing, refusal_text}
+use Rattle.kp_printed.specs.Refusals.{Named, nothing}
+use Rattle.kp_printed.specs.Counterexamples.{counterexample_text}
 use Rattle.kp_printed.specs.Usage.{usage_text}
 use Rattle.kp_outcome.specs.declared.outcome.Outcome.{Outcome}
 use Rattle.kp_outcome.specs.declared.status.Status.TheVariants as status
 use Rattle.kp_outcome.specs.Ends.{AreHeld, most_bytes}
-use Rattle.kp_run.specs.Names.{Translate, Strip}
-use Rattle.kp_run.specs.declared.command.Command.{Command}
-use Rattle.kp_run.specs.declared.command.Command.TheVariants as commands
-use Rattle.kp_run.specs.Command.{IsCommand, IsNoCommand, inputs_of}
-use Rattle.kp_run.specs.Texts.{HaveTrees, RefusesTexts}
+use Rattle.kp_words.specs.Names.{Translate, Strip, Check}
+use Rattle.kp_words.specs.declared.command.Command.{Command}
+use Rattle.kp_words.specs.declared.command.Command.TheVariants as commands
+use Rattle.kp_words.specs.Command.{IsCommand, IsNoCommand, inputs_of}
+use Rattle.kp_prepared.specs.Refusing.{refuses, named_in}
+use Rattle.kp_prepared.specs.Prepared.{usual, Comes}
 
 -- ---- outcomes
 
@@ -45,13 +50,9 @@ use Rattle.kp_run.specs.Texts.{HaveTrees, RefusesTexts}
 abbrev pub shows_usage : Outcome
 shows_usage = record { status = status.Usage; puts = []; text = usage_text }
 
--- a refusal is printed, with what it may name, and nothing is put
-abbrev pub refuses : Named → Refused → Outcome
-refuses names r = record { status = status.Refused r; puts = []; text = refusal_text names r }
-
--- what may be named of a ground problem
-abbrev pub named_in : Ground → Named
-named_in g = record { atoms = g.atoms; actions = g.actions; steps = [] }
+-- a text is printed, and nothing is put
+abbrev pub prints : List ℕ → Outcome
+prints text = record { status = status.Done; puts = []; text = text }
 
 -- the two files of a translation are put under the output names, and its report is printed
 abbrev pub translates : Translate → Translation → Outcome
@@ -63,43 +64,29 @@ translates c t = record {
 
 -- ---- `translate`
 
--- how large a problem may be
-abbrev pub usual : Limits
-usual = record { bindings = 1000000; atoms = 4096; actions = 20000; weight = 4000000; tags = 4096; sets = 1000000; facts = 262144; task_weight = 16000000 }
-
--- the ground problem of the trees is within the limits
-abbrev pub IsSmall : trees.Domain Word → trees.Problem Word → Type 0
-IsSmall d p = IsGrounded (numbered_problem d p) usual (ground_of d p)
-
--- so it is, the clauses of `:init` have no more prime implicates than the limit, and some state is initial
-pub record IsStarted (limit : ℕ) (d : trees.Domain Word) (p : trees.Problem Word) : Type 0 where
-  pub small : IsSmall d p
-  pub counted : IsNeverOver (initial_of d p) limit
-  pub initial : HasInitialState p
-
 -- a ground problem is translated with a table of tags and merges to this: the refusal of their task, or its two files
 pub data TranslatesGround (c : Translate) (g : Ground) (table : TagTable) (o : Outcome) : Type 0 where
   over : (r : Refused) → RefusesTask (task_of g table) usual r → o ≡ refuses nothing r → TranslatesGround c g table o
   done : FitsLimits (task_of g table) usual → o ≡ translates c (translation_with g table) → TranslatesGround c g table o
 
--- two trees in which no name is at fault are translated to this: the first of these that holds, and only one of them does
-pub data TranslatesTrees (c : Translate) (d : trees.Domain Word) (p : trees.Problem Word) (o : Outcome) : Type 0 where
-  too_large : (r : Refused) → RefusesGround (numbered_problem d p) usual r → o ≡ refuses nothing r → TranslatesTrees c d p o
-  implicates_over : (k : ℕ) → IsSmall d p → IsLeastOver (initial_of d p) c.implicates k → o ≡ refuses nothing (refusals.ImplicatesOver k) → TranslatesTrees c d p o
-  no_initial_state : IsSmall d p → IsNeverOver (initial_of d p) c.implicates → (HasInitialState p → ⊥) → o ≡ refuses nothing refusals.NoInitialState → TranslatesTrees c d p o
-  clash : (at : ClashAt) → IsStarted c.implicates d p → ClashesFirst (ground_of d p) (initial_of d p) at → o ≡ refuses (named_in (ground_of d p)) (refusals.Clash at) → TranslatesTrees c d p o
-  no_clash : IsStarted c.implicates d p → IsClashFree (ground_of d p) (initial_of d p) → TranslatesGround c (ground_of d p) (empty_tag d p) o → TranslatesTrees c d p o
+-- a ground problem and its initial formula are translated with the merges of a text to this: the refusal of the text or of its merges, or what their table gives
+pub data TranslatesWith (c : Translate) (g : Ground) (i : Initial) (text : List ℕ) (o : Outcome) : Type 0 where
+  long_merges : most_bytes < length text → o ≡ refuses nothing (refusals.TooLong parts.Merges) → TranslatesWith c g i text o
+  no_merges : (r : Refused) → length text ≤ most_bytes → RefusesMerges g.atoms text r → o ≡ refuses nothing r → TranslatesWith c g i text o
+  no_table : (ms : List FileMerge) (r : Refused) → length text ≤ most_bytes → IsMergesOf g.atoms text ms → RefusesTable (length g.atoms) i ms usual.tags r → o ≡ refuses (named_in g) r → TranslatesWith c g i text o
+  with_table : (ms : List FileMerge) (table : TagTable) → length text ≤ most_bytes → IsMergesOf g.atoms text ms → Accepts (length g.atoms) i ms usual.tags table → TranslatesGround c g table o → TranslatesWith c g i text o
 
--- two texts are translated to this: a refusal of a text or of a name, or what their trees are translated to
-pub data TranslatesTexts (c : Translate) (domain problem : List ℕ) (o : Outcome) : Type 0 where
-  refused : (r : Refused) → RefusesTexts domain problem r → o ≡ refuses nothing r → TranslatesTexts c domain problem o
-  on_trees : (d : trees.Domain Word) (p : trees.Problem Word) → HaveTrees domain problem d p → TranslatesTrees c d p o → TranslatesTexts c domain problem o
+-- two trees are translated to this, with the empty tag alone or with the merges of the one text that is given
+abbrev pub TranslatesBy : Translate → List (List ℕ) → trees.Domain Word → trees.Problem Word → Outcome → Type 0
+TranslatesBy c [] d p o = TranslatesGround c (ground_of d p) (empty_tag d p) o
+TranslatesBy c (text ∷ []) d p o = TranslatesWith c (ground_of d p) (initial_of d p) text o
+TranslatesBy c (text ∷ other ∷ others) d p o = ⊥
+
+-- two texts are translated to this, by the text of merges if one is given
+abbrev pub TranslatesTexts : Translate → List ℕ → List ℕ → List (List ℕ) → Outcome → Type 0
+TranslatesTexts c domain problem merges o = Comes c.implicates domain problem (TranslatesBy c merges) o
 
 -- ---- `strip`
-
--- a text is printed, and nothing is put
-abbrev pub prints : List ℕ → Outcome
-prints text = record { status = status.Done; puts = []; text = text }
 
 -- a text is stripped to this: a refusal of its length, of the text, or of its first step that is no operator's, at its place; or what its steps come to is printed
 pub data StripsText (text : List ℕ) (o : Outcome) : Type 0 where
@@ -108,12 +95,47 @@ pub data StripsText (text : List ℕ) (o : Outcome) : Type 0 where
   no_strip : (steps : List PlanStep) (step : PlanStep) → length text ≤ most_bytes → IsPlanOf text steps → IsFirstUnstripped steps step → o ≡ refuses nothing (refusals.PlanSyntax step.place) → StripsText text o
   strips : (steps : List PlanStep) (actions : List GroundName) → length text ≤ most_bytes → IsPlanOf text steps → strip (names steps) ≡ Some actions → o ≡ prints (plan_text actions) → StripsText text o
 
+-- ---- `check`
+
+-- the step that fails; none where all of them are passed, and so the goal fails
+abbrev pub failing_step : ℕ → ℕ → Option ℕ
+failing_step steps k = if k == steps then None else Some k
+
+-- the answer is no, and the state from which the steps fail is printed, and where
+abbrev pub denies : Ground → List AtomId → Option ℕ → Lit → Outcome
+denies g state step l = record { status = status.Negative; puts = []; text = counterexample_text g.atoms state step l }
+
+-- of so many steps: `yes` is printed, or the first initial state from which they fail, and where
+abbrev pub tells : Ground → ℕ → Judged → Outcome
+tells g steps Yes = prints (codes "yes\n")
+tells g steps (No state k l) = denies g state (failing_step steps k) l
+
+-- what may be named of a ground problem and the steps of a plan
+abbrev pub named_with : Ground → List GroundName → Named
+named_with g steps = record { atoms = g.atoms; actions = g.actions; steps = steps }
+
+-- the text of a plan is checked with a ground problem and its initial formula to this: the refusal of the text, or of its first step that names no action; or whether its steps succeed from each model
+pub data ChecksPlan (g : Ground) (i : Initial) (text : List ℕ) (o : Outcome) : Type 0 where
+  long_plan : most_bytes < length text → o ≡ refuses nothing (refusals.TooLong parts.Plan) → ChecksPlan g i text o
+  no_steps : (r : Refused) → length text ≤ most_bytes → RefusesPlan text r → o ≡ refuses nothing r → ChecksPlan g i text o
+  unknown_step : (steps : List PlanStep) (number : ℕ) → length text ≤ most_bytes → IsPlanOf text steps → IsFirstUnknown (action_of g.actions) steps number → o ≡ refuses (named_with g (names steps)) (refusals.StepUnknown number) → ChecksPlan g i text o
+  judged : (steps : List PlanStep) (numbers : List ℕ) (j : Judged) → length text ≤ most_bytes → IsPlanOf text steps → map (action_of g.actions) steps ≡ map Some numbers → AnswersJudged (length g.atoms) g i numbers j → o ≡ tells g (length steps) j → ChecksPlan g i text o
+
+-- two trees and a plan are checked to this
+abbrev pub ChecksTrees : List ℕ → trees.Domain Word → trees.Problem Word → Outcome → Type 0
+ChecksTrees text d p o = ChecksPlan (ground_of d p) (initial_of d p) text o
+
+-- two texts and a plan are
+abbrev pub ChecksTexts : Check → List ℕ → List ℕ → List ℕ → Outcome → Type 0
+ChecksTexts c domain problem plan o = Comes c.implicates domain problem (ChecksTrees plan) o
+
 -- ---- all commands
 
 -- a command comes to this outcome on the contents of its input files, in the order of their names
 pub data ComesTo : Command → List (List ℕ) → Outcome → Type 0 where
-  translated : (c : Translate) (domain problem : List ℕ) (o : Outcome) → TranslatesTexts c domain problem o → ComesTo (commands.Translate c) (domain ∷ problem ∷ []) o
+  translated : (c : Translate) (domain problem : List ℕ) (merges : List (List ℕ)) (o : Outcome) → TranslatesTexts c domain problem merges o → ComesTo (commands.Translate c) (domain ∷ problem ∷ merges) o
   stripped : (c : Strip) (text : List ℕ) (o : Outcome) → StripsText text o → ComesTo (commands.Strip c) (text ∷ []) o
+  checked : (c : Check) (domain problem plan : List ℕ) (o : Outcome) → ChecksTexts c domain problem plan o → ComesTo (commands.Check c) (domain ∷ problem ∷ plan ∷ []) o
 
 -- The outcome that is due: the usage where the words are no command; else what the command comes to on the contents of its input files. Where it isn't told what they hold, they may hold anything.
 pub data IsDue (words : List (Vec ℕ Global)) (held : Option FileMap) : Outcome → Type 0 where

@@ -3,9 +3,9 @@ use Rattle.std.specs.Prelude.{◌≡◌, ℕ, List, Some}
 use Rattle.std.specs.FinMap.{get}
 use Rattle.kp_outside.specs.Outside.{FileMap}
 use Rattle.kp_meaning.specs.Plans.{HasProblem}
-use Rattle.kp_given.specs.Laws.{HasInitialState}
-use Rattle.kp_sound.specs.Laws.{PlansStrip}
-use Rattle.kp_run.specs.Names.{Translate}
+use Rattle.kp_meaning.specs.Initial.{HasInitialState}
+use Rattle.kp_meaning.specs.Strip.{PlansStrip}
+use Rattle.kp_words.specs.Names.{Translate}
 
 -- The contents of the two input names before the command have a problem, in which some state is initial, and each plan of the contents of the two output names after it strips to a plan of theirs.
 pub record IsSound (before after : FileMap) (c : Translate) : Type 0 where

@@ -3,22 +3,41 @@ ghost use Rattle.kp_outside.specs.declared.outside.OutsideStop.TheVariants as st
 ghost use Rattle.kp_outside.specs.Outside.{FileMap};
 ghost use Rattle.kp_outcome.specs.declared.status.Status.TheVariants as status;
 ghost use Rattle.kp_outcome.specs.Ends.{AreHeld, AreFronts, AreRead, GetFails};
-ghost use Rattle.kp_run.specs.declared.command.Command.{Command as Ordered};
-ghost use Rattle.kp_run.specs.declared.command.Command.TheVariants as commands;
-ghost use Rattle.kp_run.specs.Names.{Translate as Names};
-ghost use Rattle.kp_run.specs.Command.{IsTranslate, IsCommand, inputs_of};
+ghost use Rattle.kp_words.specs.declared.command.Command.{Command as Ordered};
+ghost use Rattle.kp_words.specs.declared.command.Command.TheVariants as commands;
+ghost use Rattle.kp_words.specs.Names.{Translate as Names};
+ghost use Rattle.kp_words.specs.Command.{IsTranslate, IsCommand, if_named, inputs_of};
 ghost use Rattle.kp_run.specs.Outcomes.{ComesTo, IsDue};
 ghost use Rattle.kp_run.specs.Ends.{Ends};
 ghost use Rattle.kp_run.specs.Soundness.{IsSound};
 
-use crate::command::{Command, Strip, Translate};
+use crate::checking::check_texts;
 use crate::outcomes::usage_outcome;
 use crate::stripping::strip_text;
-use crate::translating::translate_texts;
+use crate::translating::{translate_alone, translate_merged};
 use kp_base::{Memory, Row};
 use kp_outcome::{Outcome, Status, carry_out, read_inputs, stopped};
 use kp_outside::{Got, OutsideStop, Shelf, Sink};
+use kp_words::{Check, Command, Strip, Translate};
 use std::alloc::Global;
+
+// Reads the two or three files that a translation names.
+fn read_translate<S: Shelf>(
+    alloc: Global,
+    named: &Translate<'_>,
+    shelf: &mut S,
+) -> Result<Row<Got>, OutsideStop>
+    ensures read { IfOk result (AreRead (S.contents shelf.old) (named.now.domain ∷ named.now.problem ∷ if_named named.now.merges)) }
+    ensures failed { IsErrOf result stops.Failed → GetFails (S.contents shelf.old) (named.now.domain ∷ named.now.problem ∷ if_named named.now.merges) (S.get_faults shelf.old) (S.get_faults shelf.new) }
+    ensures get_faults { result ≢ Err stops.Failed → (q : List ℕ) → S.get_faults shelf.new q ≡ S.get_faults shelf.old q }
+    ensures contents { S.contents shelf.new ≡ S.contents shelf.old }
+    ensures put_faults { (q : List ℕ) → S.put_faults shelf.new q ≡ S.put_faults shelf.old q }
+{
+    match named.merges {
+        Some(merges) => read_inputs(alloc, &[named.domain, named.problem, merges], shelf),
+        None => read_inputs(alloc, &[named.domain, named.problem], shelf),
+    }
+}
 
 // Reads the files that a command names, in order.
 fn read<S: Shelf>(
@@ -33,9 +52,21 @@ fn read<S: Shelf>(
     ensures put_faults { (q : List ℕ) → S.put_faults shelf.new q ≡ S.put_faults shelf.old q }
 {
     match command {
-        Command::Translate(named) => read_inputs(alloc, &[named.domain, named.problem], shelf),
+        Command::Translate(named) => read_translate(alloc, named, shelf),
         Command::Strip(named) => read_inputs(alloc, &[named.plan], shelf),
+        Command::Check(named) => {
+            read_inputs(alloc, &[named.domain, named.problem, named.plan], shelf)
+        }
     }
+}
+
+// The content that was read of one file.
+fn one_of(gots: Row<Got>) -> Got
+    requires { length gots ≡ 1 }
+    ensures { gots ≡ result ∷ [] }
+{
+    let mut gots = gots.into_vec();
+    gots.pop().unwrap()
 }
 
 // The contents that were read of two files.
@@ -49,22 +80,45 @@ fn two_of(gots: Row<Got>) -> (Got, Got)
     (first, second)
 }
 
-// What a translation comes to on what was read of its two files.
-fn translate_gots(alloc: Global, named: &Translate<'_>, gots: Row<Got>) -> Result<Outcome, Memory>
+// The contents that were read of three files.
+fn three_of(gots: Row<Got>) -> (Got, Got, Got)
+    requires { length gots ≡ 3 }
+    ensures { gots ≡ result.0 ∷ result.1 ∷ result.2 ∷ [] }
+{
+    let mut gots = gots.into_vec();
+    let third = gots.pop().unwrap();
+    let second = gots.pop().unwrap();
+    let first = gots.pop().unwrap();
+    (first, second, third)
+}
+
+// What a translation with the empty tag alone comes to on what was read of its two files.
+fn alone_gots(alloc: Global, named: &Translate<'_>, gots: Row<Got>) -> Result<Outcome, Memory>
     requires { (held : Option FileMap) × AreRead held (named.now.domain ∷ named.now.problem ∷ []) gots }
     ensures { (texts : List (List ℕ)) → AreFronts texts gots → IfOk result (ComesTo (commands.Translate named.now) texts) }
 {
     let (domain, problem) = two_of(gots);
-    translate_texts(alloc, named, domain, problem)
+    translate_alone(alloc, named, domain, problem)
 }
 
-// The content that was read of one file.
-fn one_of(gots: Row<Got>) -> Got
-    requires { length gots ≡ 1 }
-    ensures { gots ≡ result ∷ [] }
+// What a translation with merges comes to on what was read of its three files.
+fn merged_gots(alloc: Global, named: &Translate<'_>, gots: Row<Got>) -> Result<Outcome, Memory>
+    requires { (held : Option FileMap) × (merges : List ℕ) × AreRead held (named.now.domain ∷ named.now.problem ∷ merges ∷ []) gots }
+    ensures { (texts : List (List ℕ)) → AreFronts texts gots → IfOk result (ComesTo (commands.Translate named.now) texts) }
 {
-    let mut gots = gots.into_vec();
-    gots.pop().unwrap()
+    let (domain, problem, merges) = three_of(gots);
+    translate_merged(alloc, named, domain, problem, merges)
+}
+
+// What a translation comes to on what was read of its files.
+fn translate_gots(alloc: Global, named: &Translate<'_>, gots: Row<Got>) -> Result<Outcome, Memory>
+    requires { (held : Option FileMap) × AreRead held (named.now.domain ∷ named.now.problem ∷ if_named named.now.merges) gots }
+    ensures { (texts : List (List ℕ)) → AreFronts texts gots → IfOk result (ComesTo (commands.Translate named.now) texts) }
+{
+    match named.merges {
+        Some(_) => merged_gots(alloc, named, gots),
+        None => alone_gots(alloc, named, gots),
+    }
 }
 
 // What a strip comes to on what was read of its file.
@@ -76,6 +130,15 @@ fn strip_gots(alloc: Global, named: &Strip<'_>, gots: Row<Got>) -> Result<Outcom
     strip_text(alloc, one_of(gots))
 }
 
+// What a check comes to on what was read of its three files.
+fn check_gots(alloc: Global, named: &Check<'_>, gots: Row<Got>) -> Result<Outcome, Memory>
+    requires { (held : Option FileMap) × AreRead held (named.now.domain ∷ named.now.problem ∷ named.now.plan ∷ []) gots }
+    ensures { (texts : List (List ℕ)) → AreFronts texts gots → IfOk result (ComesTo (commands.Check named.now) texts) }
+{
+    let (domain, problem, plan) = three_of(gots);
+    check_texts(alloc, named, domain, problem, plan)
+}
+
 // What a command comes to on what was read of its input files.
 fn outcome_of(alloc: Global, command: &Command<'_>, gots: Row<Got>) -> Result<Outcome, Memory>
     requires { (held : Option FileMap) × AreRead held (inputs_of command.now) gots }
@@ -84,6 +147,7 @@ fn outcome_of(alloc: Global, command: &Command<'_>, gots: Row<Got>) -> Result<Ou
     match command {
         Command::Translate(named) => translate_gots(alloc, named, gots),
         Command::Strip(named) => strip_gots(alloc, named, gots),
+        Command::Check(named) => check_gots(alloc, named, gots),
     }
 }
 

@@ -1,9 +1,4 @@
-ghost use Rattle.kp_run.specs.Laws.{EmptyTagsFit, OutcomesAreAnswers, WordsAreOneCommand};
-
-/// Words are one command at most.
-pub fn words_are_one_command()
-    ensures { WordsAreOneCommand }
-{}
+ghost use Rattle.kp_run.specs.Laws.{EmptyTagsFit, OutcomesAreAnswers};
 
 /// An outcome that is due is an answer, and no fault.
 pub fn outcomes_are_answers()

@@ -2,9 +2,8 @@
 //! outcome is due, `specs/Ends.antt` how a run ends.
 #![tactic(auto)]
 
-mod command;
+mod checking;
 mod entry;
-mod files;
 mod law;
 mod outcomes;
 mod stripping;
@@ -12,4 +11,4 @@ mod translating;
 
 pub use entry::run;
 pub use kp_outcome::Status;
-pub use law::{empty_tags_fit, outcomes_are_answers, words_are_one_command};
+pub use law::{empty_tags_fit, outcomes_are_answers};

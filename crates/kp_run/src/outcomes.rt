@@ -1,13 +1,11 @@
 ghost use Rattle.std.specs.Prelude.{◌≡◌, ◌∷◌, [], IfOk, OnOk, ◌++◌};
-ghost use Rattle.kp_base.specs.declared.refused.Refused.TheVariants as refusals;
-ghost use Rattle.kp_printed.specs.Refusals.{nothing};
-ghost use Rattle.kp_run.specs.Outcomes.{shows_usage, refuses, named_in, translates, prints};
+ghost use Rattle.kp_run.specs.Outcomes.{shows_usage, translates, prints};
 
-use crate::command::Translate;
-use kp_base::{ClashAt, Ground, Memory, Refused, Row, Text};
+use kp_base::{Memory, Row, Text};
 use kp_outcome::{FilePut, Outcome, Status};
-use kp_printed::{Named, refusal, usage};
+use kp_printed::usage;
 use kp_translation::Translation;
+use kp_words::Translate;
 use std::alloc::Global;
 
 /// The usage is printed.
@@ -19,37 +17,6 @@ pub fn usage_outcome(alloc: Global) -> Result<Outcome, Memory>
         puts: Row::new(alloc),
         text: usage(alloc)?,
     })
-}
-
-// A refusal is printed, with what it may name.
-fn refused(alloc: Global, named: &Named<'_>, refused: Refused) -> Result<Outcome, Memory>
-    ensures { IfOk result (λ o. o ≡ refuses named.now refused) }
-{
-    let text = refusal(alloc, named, &refused)?;
-    Ok(Outcome {
-        status: Status::Refused(refused),
-        puts: Row::new(alloc),
-        text,
-    })
-}
-
-/// A refusal is printed that names nothing by number.
-pub fn refuse(alloc: Global, refusal: Refused) -> Result<Outcome, Memory>
-    ensures { IfOk result (λ o. o ≡ refuses nothing refusal) }
-{
-    refused(alloc, &Named::nothing(), refusal)
-}
-
-/// A clash in a ground problem is printed.
-pub fn refuse_clash(alloc: Global, ground: &Ground, at: ClashAt) -> Result<Outcome, Memory>
-    ensures { IfOk result (λ o. o ≡ refuses (named_in ground.now) (refusals.Clash at)) }
-{
-    let named = Named {
-        atoms: ground.atoms.slice(),
-        actions: ground.actions.slice(),
-        steps: &[],
-    };
-    refused(alloc, &named, Refused::Clash(at))
 }
 
 /// A text is printed, and nothing is put.

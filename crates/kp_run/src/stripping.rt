@@ -3,11 +3,12 @@ ghost use Rattle.kp_outside.specs.Outside.{IsFront, IsWithin};
 ghost use Rattle.kp_plans.specs.PlanFiles.{IsPlanOf};
 ghost use Rattle.kp_run.specs.Outcomes.{StripsText};
 
-use crate::outcomes::{print_text, refuse};
+use crate::outcomes::print_text;
 use kp_base::{Memory, Part, Refused, Row, Stop};
 use kp_outcome::Outcome;
 use kp_outside::Got;
 use kp_plans::{PlanStep, plan_text, read_plan, strip};
+use kp_prepared::refuse;
 use std::alloc::Global;
 
 // What the steps of a plan file come to.

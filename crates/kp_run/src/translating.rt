@@ -1,30 +1,30 @@
-ghost use Rattle.std.specs.Prelude.{◌≡◌, ◌<◌, ◌≤◌, Some, List, ℕ, IfOk, length};
-ghost use Rattle.kp_base.specs.Exclusive.{IsClashFree};
+ghost use Rattle.std.specs.Prelude.{◌≡◌, ◌<◌, ◌∷◌, [], Some, List, ℕ, true, IfOk, length};
+ghost use Rattle.std.specs.List.{list_all};
+ghost use Rattle.kp_base.specs.declared.ground.Initial.{Initial as Formula};
 ghost use Rattle.kp_base.specs.Machine.{one_tag_table};
-ghost use Rattle.kp_clash.specs.Counted.{IsCounted};
-ghost use Rattle.kp_meaning.specs.Numbered.{Lifted as Numbers};
-ghost use Rattle.kp_grounding.specs.Ground.{ground_atoms, ground_of};
-ghost use Rattle.kp_init.specs.Initial.{initial_of};
-ghost use Rattle.kp_names.specs.View.{lifted_view};
+ghost use Rattle.kp_grammar.specs.declared.tree.Word.{Word};
+ghost use Rattle.kp_grammar.specs.Trees.{Domain as DomainTree, Problem as ProblemTree};
+ghost use Rattle.kp_machine.specs.Formulas.{HaveSameModels};
 ghost use Rattle.kp_outside.specs.Outside.{IsFront, IsWithin};
-ghost use Rattle.kp_primes.specs.Answers.{HoldsPrimes};
 ghost use Rattle.kp_primes.specs.Held.{formula};
-ghost use Rattle.kp_run.specs.Outcomes.{TranslatesGround, TranslatesTexts};
-ghost use Rattle.kp_run.specs.Numbered.{EndsBy, EndsWithin};
+ghost use Rattle.kp_primes.specs.Answers.{HoldsPrimes};
+ghost use Rattle.kp_tags.specs.Tables.{has_tags_of_atoms};
+ghost use Rattle.kp_given.specs.Translations.{ground_of, initial_of};
+ghost use Rattle.kp_given.specs.Tables.{empty_tag};
+ghost use Rattle.kp_prepared.specs.Prepared.{IsUsable};
+ghost use Rattle.kp_run.specs.Outcomes.{TranslatesGround, TranslatesWith, TranslatesTexts};
+ghost use Rattle.kp_run.specs.Tables.{TranslatesMerges};
 
-use crate::command::Translate;
-use crate::files::read_files;
-use crate::outcomes::{refuse, refuse_clash, translates};
-use kp_base::{Ground, Limits, LitSet, Memory, Refused, Stop, TagTable};
-use kp_clash::{clash_test, exclusive};
-use kp_ground::{GroundWithAtoms, ground_with_atoms};
-use kp_init::initial_over;
-use kp_kept::Statics;
-use kp_names::Lifted;
+use crate::outcomes::translates;
+use kp_base::{Ground, Limits, LitSet, Memory, Part, Refused, Row, Stop, TagTable};
+use kp_merges::{FileMerge, read_merges};
 use kp_outcome::Outcome;
 use kp_outside::Got;
+use kp_prepared::{Early, Prepared, prepare, refuse, refuse_in};
 use kp_primes::Primes;
+use kp_tags::accept_merges;
 use kp_translation::{empty_tag, translation_with};
+use kp_words::Translate;
 use std::alloc::Global;
 
 // What a ground problem without a clash comes to with a table of tags and merges.
@@ -45,7 +45,7 @@ fn with_table(
 }
 
 // The same with the empty tag alone, which has this closure.
-fn with_empty_tag(
+fn with_closure(
     alloc: Global,
     command: &Translate<'_>,
     ground: &Ground,
@@ -57,81 +57,62 @@ fn with_empty_tag(
     with_table(alloc, command, ground, &table)
 }
 
-// What a ground problem without a clash comes to, whose initial formula has these prime implicates.
-fn without_clash(
+// The same by the prime implicates, of which the closure is made.
+fn with_empty_tag(
     alloc: Global,
     command: &Translate<'_>,
-    ground: &Ground,
-    primes: &Primes,
+    prepared: &Prepared,
 ) -> Result<Outcome, Memory>
-    ensures { (l : Numbers) → ground.now ≡ ground_of l → HoldsPrimes (initial_of l) (length ground.now.atoms) command.now.implicates primes.now → IsClashFree ground.now (formula primes.now) → IfOk result (EndsBy command.now l) }
+    ensures { (limit : ℕ) (d : DomainTree Word) (p : ProblemTree Word) → prepared.now.ground ≡ ground_of d p → HoldsPrimes (initial_of d p) (length (ground_of d p).atoms) limit prepared.now.primes → IfOk result (TranslatesGround command.now (ground_of d p) (empty_tag d p)) }
 {
-    match primes.closure(alloc, &LitSet::new(alloc))? {
-        Some(known) => with_empty_tag(alloc, command, ground, &known),
+    match prepared.primes.closure(alloc, &LitSet::new(alloc))? {
+        Some(known) => with_closure(alloc, command, &prepared.ground, &known),
         // (prime implicates are of a formula with a model, so the empty tag has a closure)
         None => refuse(alloc, Refused::NoInitialState),
     }
 }
 
-// What a ground problem comes to whose initial formula has these prime implicates.
-fn on_primes(
+// What a ground problem without a clash comes to with the merges of a file.
+fn with_merges(
     alloc: Global,
     command: &Translate<'_>,
-    ground: &Ground,
-    primes: &Primes,
+    prepared: &Prepared,
+    merges: &Row<FileMerge>,
 ) -> Result<Outcome, Memory>
-    requires counted { IsCounted ground.now }
-    requires atoms { primes.now.atoms ≡ length ground.now.atoms }
-    ensures { (l : Numbers) → ground.now ≡ ground_of l → HoldsPrimes (initial_of l) (length ground.now.atoms) command.now.implicates primes.now → IfOk result (EndsBy command.now l) }
+    requires { list_all (has_tags_of_atoms prepared.now.primes.atoms) merges.now ≡ true }
+    ensures { IfOk result (TranslatesMerges command.now prepared.now.ground prepared.now.primes.atoms (formula prepared.now.primes) merges.now) }
 {
-    let pairs = exclusive(alloc, ground, primes)?;
-    match clash_test(ground, &pairs) {
-        Ok(()) => without_clash(alloc, command, ground, primes),
-        Err(at) => refuse_clash(alloc, ground, at),
+    match accept_merges(alloc, &prepared.primes, merges, &Limits::usual()) {
+        Ok(table) => with_table(alloc, command, &prepared.ground, &table),
+        Err(Stop::Refused(refused)) => refuse_in(alloc, &prepared.ground, refused),
+        Err(Stop::Memory) => Err(Memory),
     }
 }
 
-// What a ground problem comes to.
-fn on_ground(
+// The same with the text of the file, at most 16,777,216 bytes of which were read.
+fn with_text(
     alloc: Global,
     command: &Translate<'_>,
-    lifted: &Lifted,
-    made: &GroundWithAtoms,
+    prepared: &Prepared,
+    merges: Got,
 ) -> Result<Outcome, Memory>
-    requires ground { made.now.ground ≡ ground_of (lifted_view lifted.now) }
-    requires atoms { made.now.atoms ≡ ground_atoms (lifted_view lifted.now) }
-    requires few { length made.now.ground.atoms ≤ 4096 }
-    requires counted { IsCounted made.now.ground }
-    ensures { IfOk result (EndsBy command.now (lifted_view lifted.now)) }
+    requires within { IsWithin 16777216 merges }
+    requires usable { IsUsable prepared.now }
+    ensures { (text : List ℕ) (i : Formula) → IsFront (Some text) 16777216 merges → HaveSameModels (formula prepared.now.primes) i → IfOk result (TranslatesWith command.now prepared.now.ground i text) }
 {
-    let formula = initial_over(alloc, lifted, made.atoms.slice())?;
-    match Primes::build(
-        alloc,
-        &formula,
-        made.ground.atoms.len() as u32,
-        command.implicates,
-    ) {
-        Ok(primes) => on_primes(alloc, command, &made.ground, &primes),
+    if merges.more {
+        return refuse(alloc, Refused::TooLong(Part::Merges));
+    }
+    match read_merges(alloc, merges.bytes.slice(), &prepared.ground) {
+        Ok(merges) => with_merges(alloc, command, prepared, &merges),
         Err(Stop::Refused(refused)) => refuse(alloc, refused),
         Err(Stop::Memory) => Err(Memory),
     }
 }
 
-// What a problem by number comes to: by its ground problem, or at a limit.
-fn on_problem(alloc: Global, command: &Translate<'_>, lifted: &Lifted) -> Result<Outcome, Memory>
-    ensures { IfOk result (EndsWithin command.now (lifted_view lifted.now)) }
-{
-    let statics = Statics::of(alloc, lifted)?;
-    match ground_with_atoms(alloc, &statics, &Limits::usual()) {
-        Ok(made) => on_ground(alloc, command, lifted, &made),
-        Err(Stop::Refused(refused)) => refuse(alloc, refused),
-        Err(Stop::Memory) => Err(Memory),
-    }
-}
-
-/// What a translation comes to on the contents of its two files, at most 16,777,216 bytes of each
-/// of which were read.
-pub fn translate_texts(
+/// What a translation with the empty tag alone comes to on the contents of its two files, at most 16,777,216
+/// bytes of each of which were read.
+pub fn translate_alone(
     alloc: Global,
     command: &Translate<'_>,
     domain: Got,
@@ -139,11 +120,31 @@ pub fn translate_texts(
 ) -> Result<Outcome, Memory>
     requires domain { IsWithin 16777216 domain }
     requires problem { IsWithin 16777216 problem }
-    ensures { (d p : List ℕ) → IsFront (Some d) 16777216 domain → IsFront (Some p) 16777216 problem → IfOk result (TranslatesTexts command.now d p) }
+    ensures { (d p : List ℕ) → IsFront (Some d) 16777216 domain → IsFront (Some p) 16777216 problem → IfOk result (TranslatesTexts command.now d p []) }
 {
-    match read_files(alloc, domain, problem) {
-        Ok(lifted) => on_problem(alloc, command, &lifted),
-        Err(Stop::Refused(refused)) => refuse(alloc, refused),
-        Err(Stop::Memory) => Err(Memory),
+    match prepare(alloc, command.implicates, domain, problem) {
+        Ok(prepared) => with_empty_tag(alloc, command, &prepared),
+        Err(Early::With(outcome)) => Ok(outcome),
+        Err(Early::Memory) => Err(Memory),
+    }
+}
+
+/// What a translation with the merges of a file comes to, at most 16,777,216 bytes of each file of which were read.
+pub fn translate_merged(
+    alloc: Global,
+    command: &Translate<'_>,
+    domain: Got,
+    problem: Got,
+    merges: Got,
+) -> Result<Outcome, Memory>
+    requires domain { IsWithin 16777216 domain }
+    requires problem { IsWithin 16777216 problem }
+    requires merges { IsWithin 16777216 merges }
+    ensures { (d p m : List ℕ) → IsFront (Some d) 16777216 domain → IsFront (Some p) 16777216 problem → IsFront (Some m) 16777216 merges → IfOk result (TranslatesTexts command.now d p (m ∷ [])) }
+{
+    match prepare(alloc, command.implicates, domain, problem) {
+        Ok(prepared) => with_text(alloc, command, &prepared, merges),
+        Err(Early::With(outcome)) => Ok(outcome),
+        Err(Early::Memory) => Err(Memory),
     }
 }

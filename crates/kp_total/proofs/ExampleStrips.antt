@@ -1,6 +1,6 @@
 -- Plan files: one that strips, and three that are refused, at a name, at the end and at a byte.
-use Rattle.std.proofs.Common.{◌≡◌, ℕ, List, [], ◌∷◌, Some, Err, Vec, map, length, codes, refl, arith}
-use Rattle.std.specs.FinMap.{empty, insert, get}
+use Rattle.std.proofs.Common.{◌≡◌, ℕ, List, [], ◌∷◌, Some, Vec, map, codes, refl, arith}
+use Rattle.std.specs.FinMap.{empty, insert}
 use lib.Utf8.{encode}
 use Rattle.std.specs.Fmt.{digits}
 use Rattle.std.specs.declared.alloc.Global.{Global}
@@ -15,7 +15,6 @@ use Rattle.kp_grammar.specs.Symbols.{symbol_of, all_seen_in}
 use Rattle.kp_grammar.specs.Parsing.{some_at, next_at}
 use Rattle.kp_grammar.specs.Reading.{stop, within_form}
 use Rattle.kp_grammar.proofs.Computed.{tokens, reads_as, stops}
-use Rattle.kp_outside.specs.Outside.{FileMap}
 use Rattle.kp_plans.specs.declared.step.PlanStep.{PlanStep}
 use Rattle.kp_plans.specs.Grammar.{plan}
 use Rattle.kp_plans.specs.PlanFiles.{step_of, IsPlanOf, bad_token}
@@ -23,9 +22,9 @@ use Rattle.kp_plans.specs.PlanFiles as files
 use Rattle.kp_plans.specs.Stripping.{IsFirstUnstripped}
 use Rattle.kp_outcome.specs.declared.outcome.Outcome.{Outcome}
 use Rattle.kp_outcome.specs.declared.status.Status.TheVariants as status
-use Rattle.kp_run.specs.Names.{Strip}
-use Rattle.kp_run.specs.declared.command.Command.TheVariants as commands
-use Rattle.kp_run.specs.Command.{IsStrip}
+use Rattle.kp_words.specs.Names.{Strip}
+use Rattle.kp_words.specs.declared.command.Command.TheVariants as commands
+use Rattle.kp_words.specs.Command.{IsStrip}
 use Rattle.kp_run.specs.Outcomes.{prints, StripsText, no_plan, no_strip, strips, stripped, IsDue, of_command}
 use Rattle.kp_run.proofs.Soundness.{at_last}
 

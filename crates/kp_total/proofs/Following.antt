@@ -1,36 +1,44 @@
 -- What follows from how a run ends.
-use Rattle.std.proofs.Common.{◌≡◌, ◌≢◌, ◌⊎◌, ◌++◌, ℕ, List, [], ◌∷◌, Option, Some, None, Vec, map, take, inl, inr, refl, sym, ap, ◌∙◌, subst}
+use Rattle.std.proofs.Common.{◌≡◌, ◌≢◌, ◌⊎◌, ◌++◌, ℕ, List, [], ◌∷◌, Option, Some, None, Vec, map, length, inl, inr, refl, sym, ap, ◌∙◌, subst}
 use Rattle.std.specs.FinMap.{get}
 use Rattle.std.specs.declared.alloc.Global.{Global}
 use Rattle.kp_base.specs.declared.refused.Refused.TheVariants as refusals
 use Rattle.kp_base.specs.Lists.{Member}
 use Rattle.kp_grammar.specs.declared.tree.Word.{Word}
 use Rattle.kp_grammar.specs.Trees.{Domain, Problem}
+use Rattle.kp_plans.specs.PlanFiles.{names}
 use Rattle.kp_plans.specs.Printed.{plan_text}
-use Rattle.kp_outside.specs.Outside.{FileMap, Rises, with_bytes}
+use Rattle.kp_outside.specs.Outside.{FileMap, with_bytes}
 use Rattle.kp_outcome.specs.declared.outcome.FilePut.{FilePut}
 use Rattle.kp_outcome.specs.declared.outcome.Outcome.{Outcome}
 use Rattle.kp_outcome.specs.declared.status.Status.{Status}
 use Rattle.kp_outcome.specs.declared.status.Status.TheVariants as status
-use Rattle.kp_outcome.specs.Ends.{Outside, IsAnswer, AreHeld, with_files, StopsAt, CarriesOut, whole, put_failed, put_no_memory, print_failed, print_no_memory, GetFails}
-use Rattle.kp_run.specs.Names.{Translate, Strip}
-use Rattle.kp_run.specs.declared.command.Command.{Command}
-use Rattle.kp_run.specs.declared.command.Command.TheVariants as commands
-use Rattle.kp_run.specs.Command.{IsTranslate, IsCommand, inputs_of, outputs_of}
-use Rattle.kp_run.specs.Texts.{HaveTrees}
+use Rattle.kp_outcome.specs.Ends.{Outside, IsAnswer, AreHeld, with_files, StopsAt, CarriesOut, whole, put_failed, put_no_memory, print_failed, print_no_memory}
+use Rattle.kp_words.specs.Names.{Translate, Strip, Check}
+use Rattle.kp_words.specs.declared.command.Command.{Command}
+use Rattle.kp_words.specs.declared.command.Command.TheVariants as commands
+use Rattle.kp_words.specs.Command.{IsTranslate, IsCommand, inputs_of, outputs_of}
+use Rattle.kp_prepared.specs.Refusing.{refuses, named_in}
+use Rattle.kp_prepared.specs.Prepared.{clash, by_texts, by_trees, Comes, early, later}
 use Rattle.kp_base.specs.declared.refused.Refused.{Refused}
 use Rattle.kp_printed.specs.Refusals.{Named, nothing}
 use Rattle.kp_translation.specs.declared.translation.Translation.{Translation}
 use Rattle.kp_translation.specs.Translations.{translation_with}
-use Rattle.kp_given.specs.Translations.{ground_of}
+use Rattle.kp_base.specs.declared.ground.Ground.{Ground}
+use Rattle.kp_base.specs.declared.ground.Initial.{Initial}
+use Rattle.kp_base.specs.declared.ground.TagTable.{TagTable}
+use Rattle.kp_check.specs.declared.answer.Judged.{Judged}
+use Rattle.kp_check.specs.declared.answer.Judged.TheVariants.{Yes, No}
+use Rattle.kp_given.specs.Translations.{ground_of, initial_of}
 use Rattle.kp_given.specs.Tables.{translation_of, empty_tag}
-use Rattle.kp_run.specs.Outcomes.{refuses, named_in, translates, TranslatesTrees, TranslatesGround, over, done, too_large, implicates_over, no_initial_state, clash, no_clash, TranslatesTexts, refused, on_trees, StripsText, too_long, no_plan, no_strip, strips, prints, ComesTo, translated, stripped, IsDue, usage, of_command}
+use Rattle.kp_run.specs.Outcomes.{translates, TranslatesGround, over, done, TranslatesWith, long_merges, no_merges, no_table, with_table, TranslatesBy, TranslatesTexts, StripsText, too_long, no_plan, no_strip, strips, prints, ChecksPlan, long_plan, no_steps, unknown_step, judged, ChecksTrees, named_with, tells, ComesTo, translated, stripped, checked, IsDue, usage, of_command}
 use Rattle.kp_run.specs.Ends.{Ends, came, read_failed, no_memory}
-use Rattle.kp_total.specs.Follows.{IsWhole, AnswersAreWhole, CameToNothing, TheDueIsCarriedOut, NothingRises, IsAnsweredBy, TheDueIsTheAnswer, EndsWith, TranslationsAreAnswered, ClashesAreAnswered, StripsAreAnswered, OnlyDonePuts, DonePutsTheOutputs, OthersPutNothing, NoCommandPutsNothing, PutsSome, none_put, some_put, all_put, PutsAreOfTheDue, TellsSome, none_told, some_told, TextsAreOfTheDue, ReadFaultsTellNothing, ReadFaultsAreTrue, WriteFaultsAreTrue, FailedGetsAreTold, FailedWritesAreTold, MissingInputsAreFaults, InputsAreReadInOrder}
+use Rattle.kp_total.specs.Follows.{AnswersAreWhole, TheDueIsCarriedOut, IsAnsweredBy, TheDueIsTheAnswer, EndsWith, TranslationsAreAnswered, MergesAreAnswered, ClashesAreAnswered, ChecksAreAnswered, ChecksAreTrue, StripsAreAnswered, OnlyDonePuts, DonePutsTheOutputs, OthersPutNothing, NoCommandPutsNothing, none_put, some_put, all_put, PutsAreOfTheDue, none_told, some_told, TextsAreOfTheDue, ReadFaultsTellNothing, ReadFaultsAreTrue, WriteFaultsAreTrue, FailedGetsAreTold, FailedWritesAreTold, MissingInputsAreFaults, InputsAreReadInOrder}
 use Rattle.kp_run.proofs.Counted.{empty_tags_fit}
-use Rattle.kp_run.proofs.OneCommand.{one_command}
+use Rattle.kp_words.proofs.OneCommand.{one_command}
 use Rattle.kp_run.proofs.Answered.{outcomes_are_answers}
 use Rattle.kp_total.proofs.OneOutcome.{one_outcome}
+use Rattle.kp_total.proofs.YesPlans.{problem_of, yes_is_a_plan}
 
 -- ---- an answer and its outcome
 
@@ -74,18 +82,49 @@ ends_with words old new s ends m o held due =
     let here = subst (λ h. IsDue words h o) (sym held) due in
     record { carried_out = the_due_is_carried_out words old new s ends m o held here; answered = the_due_is_the_answer words old new s ends m o held here }
 
--- what two held files come to
-two_due : (words : List (Vec ℕ Global)) (m : FileMap) (c : Translate) (domain problem : List ℕ) (d : Domain Word) (p : Problem Word) (o : Outcome)
-    → IsTranslate words c → get m c.domain ≡ Some domain → get m c.problem ≡ Some problem → HaveTrees domain problem d p → TranslatesTrees c d p o → IsDue words (Some m) o
-two_due words m c domain problem d p o is first second trees comes = of_command (commands.Translate c) (domain ∷ problem ∷ []) o is (cc (first, second)) (translated c domain problem o (on_trees d p trees comes))
+-- what the files that a translation names come to
+merges_due : (words : List (Vec ℕ Global)) (m : FileMap) (c : Translate) (domain problem : List ℕ) (merges : List (List ℕ)) (o : Outcome)
+    → IsTranslate words c → AreHeld (Some m) (inputs_of (commands.Translate c)) (domain ∷ problem ∷ merges) → TranslatesTexts c domain problem merges o → IsDue words (Some m) o
+merges_due words m c domain problem merges o is held comes = of_command (commands.Translate c) (domain ∷ problem ∷ merges) o is held (translated c domain problem merges o comes)
 
 pub translations_are_answered : TranslationsAreAnswered
-translations_are_answered words old new s ends m c domain problem d p held is first second trees started free =
-    ends_with words old new s ends m _ held (two_due words m c domain problem d p (translates c (translation_of d p (empty_tag d p))) is first second trees (no_clash started free (done (empty_tags_fit d p started.small) refl)))
+translations_are_answered words old new s ends m c d p held is alone g =
+    ends_with words old new s ends m _ held (merges_due words m c g.domain g.problem [] (translates c (translation_of d p (empty_tag d p))) is (rw (alone, g.domain_held, g.problem_held) refl)
+    (later d p g.trees g.prepared (done (empty_tags_fit d p g.prepared.started.small) refl)))
+
+pub merges_are_answered : MergesAreAnswered
+merges_are_answered words old new s ends m c name d p table held is named g h =
+    ends_with words old new s ends m _ held (merges_due words m c g.domain g.problem (h.text ∷ []) (translates c (translation_of d p table)) is (rw (named, g.domain_held, g.problem_held, h.held) refl)
+    (later d p g.trees g.prepared (with_table h.merges table h.short h.reads h.accepted (done h.fits refl))))
 
 pub clashes_are_answered : ClashesAreAnswered
-clashes_are_answered words old new s ends m c domain problem d p at held is first second trees started clashes =
-    ends_with words old new s ends m _ held (two_due words m c domain problem d p (refuses (named_in (ground_of d p)) (refusals.Clash at)) is first second trees (clash at started clashes refl))
+clashes_are_answered words old new s ends m c domain problem merges d p at held is all trees started clashes =
+    ends_with words old new s ends m _ held (merges_due words m c domain problem merges (refuses (named_in (ground_of d p)) (refusals.Clash at)) is all (early (by_trees d p (named_in (ground_of d p)) (refusals.Clash at) trees (clash at started clashes) refl)))
+
+pub checks_are_answered : ChecksAreAnswered
+checks_are_answered words old new s ends m c d p steps j held is g h =
+    ends_with words old new s ends m _ held (of_command (commands.Check c) (g.domain ∷ g.problem ∷ h.text ∷ []) (tells (ground_of d p) (length steps) j) is (rw (g.domain_held, g.problem_held, h.held) refl)
+    (checked c g.domain g.problem h.text (tells (ground_of d p) (length steps) j) (later d p g.trees g.prepared (judged steps h.numbers j h.short h.reads h.known h.answers refl))))
+
+-- a verdict is Done exactly where it is yes
+done_yes : (g : Ground) (steps : ℕ) (j : Judged) → (tells g steps j).status ≡ status.Done → j ≡ Yes
+done_yes g steps Yes e = refl
+done_yes g steps (No ps k l) e = absurd cc
+
+yes_done : (g : Ground) (steps : ℕ) (j : Judged) → j ≡ Yes → (tells g steps j).status ≡ status.Done
+yes_done g steps j is = ap (λ v. (tells g steps v).status) is
+
+pub checks_are_true : ChecksAreTrue
+checks_are_true words old new s ends m c d p steps j held is g h answer =
+    let whole = answers_are_whole words old new s ends answer in
+    let due = of_command (commands.Check c) (g.domain ∷ g.problem ∷ h.text ∷ []) (tells (ground_of d p) (length steps) j) is (rw (g.domain_held, g.problem_held, h.held) refl)
+    (checked c g.domain g.problem h.text (tells (ground_of d p) (length steps) j) (later d p g.trees g.prepared (judged steps h.numbers j h.short h.reads h.known h.answers refl))) in
+    let same = one_outcome words m whole.outcome (tells (ground_of d p) (length steps) j) (subst (λ x. IsDue words x whole.outcome) held whole.due) due in
+    let ended : s ≡ (tells (ground_of d p) (length steps) j).status = whole.answered.status_is ∙ ap (λ (o : Outcome). o.status) same in
+    let plan = yes_is_a_plan g.domain g.problem (problem_of g.domain g.problem d p g.trees) g.prepared.started.initial steps h.numbers j h.known h.answers in (
+      (λ done. plan.0 (done_yes (ground_of d p) (length steps) j (sym ended ∙ done))),
+      (λ is_plan. ended ∙ yes_done (ground_of d p) (length steps) j (plan.1 is_plan)),
+    )
 
 pub strips_are_answered : StripsAreAnswered
 strips_are_answered words old new s ends m c text steps actions held is first short plan stripped_to =
@@ -115,14 +154,26 @@ translation_under c t o is = record {
     by file (inr (inl e)) = inr (inl (ap (λ (f : FilePut). f.name) e))
     by file (inr (inr e)) = absurd e
 
-texts_under : (c : Translate) (x y : List ℕ) (o : Outcome) → TranslatesTexts c x y o → PutsUnder (commands.Translate c) o
-texts_under c x y o (refused r a e) = refusal_under (commands.Translate c) o nothing r e
-texts_under c x y o (on_trees d p h (too_large r a e)) = refusal_under (commands.Translate c) o nothing r e
-texts_under c x y o (on_trees d p h (implicates_over k a b e)) = refusal_under (commands.Translate c) o nothing _ e
-texts_under c x y o (on_trees d p h (no_initial_state a b f e)) = refusal_under (commands.Translate c) o nothing _ e
-texts_under c x y o (on_trees d p h (clash z a b e)) = refusal_under (commands.Translate c) o (named_in (ground_of d p)) _ e
-texts_under c x y o (on_trees d p h (no_clash a b (over r t e))) = refusal_under (commands.Translate c) o nothing r e
-texts_under c x y o (on_trees d p h (no_clash a b (done f e))) = translation_under c (translation_with (ground_of d p) (empty_tag d p)) o e
+-- a command that goes on so
+comes_of : (e : Command) (limit : ℕ) (x y : List ℕ) (P : Domain Word → Problem Word → Outcome → Type 0) (o : Outcome) → ((d : Domain Word) (p : Problem Word) → P d p o → PutsUnder e o) → Comes limit x y P o → PutsUnder e o
+comes_of e limit x y P o under (early (by_texts r a is)) = refusal_under e o nothing r is
+comes_of e limit x y P o under (early (by_trees d p names r h a is)) = refusal_under e o names r is
+comes_of e limit x y P o under (later d p h w goes) = under d p goes
+
+ground_under : (c : Translate) (g : Ground) (table : TagTable) (o : Outcome) → TranslatesGround c g table o → PutsUnder (commands.Translate c) o
+ground_under c g table o (over r t e) = refusal_under (commands.Translate c) o nothing r e
+ground_under c g table o (done f e) = translation_under c (translation_with g table) o e
+
+with_under : (c : Translate) (g : Ground) (i : Initial) (text : List ℕ) (o : Outcome) → TranslatesWith c g i text o → PutsUnder (commands.Translate c) o
+with_under c g i text o (long_merges a e) = refusal_under (commands.Translate c) o nothing _ e
+with_under c g i text o (no_merges r a b e) = refusal_under (commands.Translate c) o nothing r e
+with_under c g i text o (no_table ms r a b f e) = refusal_under (commands.Translate c) o (named_in g) r e
+with_under c g i text o (with_table ms table a b f made) = ground_under c g table o made
+
+by_under : (c : Translate) (merges : List (List ℕ)) (o : Outcome) (d : Domain Word) (p : Problem Word) → TranslatesBy c merges d p o → PutsUnder (commands.Translate c) o
+by_under c [] o d p made = ground_under c (ground_of d p) (empty_tag d p) o made
+by_under c (text ∷ []) o d p made = with_under c (ground_of d p) (initial_of d p) text o made
+by_under c (text ∷ other ∷ others) o d p made = absurd made
 
 strip_under : (c : Strip) (x : List ℕ) (o : Outcome) → StripsText x o → PutsUnder (commands.Strip c) o
 strip_under c x o (too_long a e) = refusal_under (commands.Strip c) o nothing _ e
@@ -130,9 +181,17 @@ strip_under c x o (no_plan r a h e) = refusal_under (commands.Strip c) o nothing
 strip_under c x o (no_strip ss s a h n e) = refusal_under (commands.Strip c) o nothing _ e
 strip_under c x o (strips ss as' a h n e) = under_none (commands.Strip c) o (ap (λ (z : Outcome). z.puts) e) (λ d. refl)
 
+check_under : (c : Check) (g : Ground) (i : Initial) (text : List ℕ) (o : Outcome) → ChecksPlan g i text o → PutsUnder (commands.Check c) o
+check_under c g i text o (long_plan a e) = refusal_under (commands.Check c) o nothing _ e
+check_under c g i text o (no_steps r a h e) = refusal_under (commands.Check c) o nothing r e
+check_under c g i text o (unknown_step ss n a h f e) = refusal_under (commands.Check c) o (named_with g (names ss)) _ e
+check_under c g i text o (judged ss ns Yes a h f v e) = under_none (commands.Check c) o (ap (λ (z : Outcome). z.puts) e) (λ d. refl)
+check_under c g i text o (judged ss ns (No ps k l) a h f v e) = under_none (commands.Check c) o (ap (λ (z : Outcome). z.puts) e) (λ d. refl)
+
 comes_under : (c : Command) (texts : List (List ℕ)) (o : Outcome) → ComesTo c texts o → PutsUnder c o
-comes_under _ _ o (translated c x y _ a) = texts_under c x y o a
+comes_under _ _ o (translated c x y merges _ a) = comes_of (commands.Translate c) c.implicates x y (TranslatesBy c merges) o (by_under c merges o) a
 comes_under _ _ o (stripped c x _ a) = strip_under c x o a
+comes_under _ _ o (checked c x y plan _ a) = comes_of (commands.Check c) c.implicates x y (ChecksTrees plan) o (λ d p. check_under c (ground_of d p) (initial_of d p) plan o) a
 
 pub done_puts_the_outputs : DonePutsTheOutputs
 done_puts_the_outputs c texts o comes = (comes_under c texts o comes).done

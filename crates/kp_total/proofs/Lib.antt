@@ -1,6 +1,11 @@
+pub mod OneText
+pub mod OneStart
+pub mod OneTranslation
 pub mod OneStrip
+pub mod OneCheck
 pub mod OneOutcome
-pub mod Following
-pub mod SomeCommand
+pub mod SomeStart
 pub mod SomeOutcome
+pub mod YesPlans
+pub mod Following
 pub mod ExampleStrips

@@ -12,7 +12,8 @@ use Rattle.kp_plans.specs.Printed.{plan_text}
 use Rattle.kp_plans.specs.Stripping.{IsFirstUnstripped}
 use Rattle.kp_plans.proofs.WholePlans.{read_once, refused_once, never_two}
 use Rattle.kp_printed.specs.Refusals.{nothing}
-use Rattle.kp_run.specs.Outcomes.{refuses, prints, StripsText, too_long, no_plan, no_strip, strips}
+use Rattle.kp_prepared.specs.Refusing.{refuses}
+use Rattle.kp_run.specs.Outcomes.{prints, StripsText, too_long, no_plan, no_strip, strips}
 
 -- ---- the first step without a strip
 

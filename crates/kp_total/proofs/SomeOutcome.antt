@@ -1,80 +1,79 @@
 -- A command has an outcome on the contents of its files, and so have words, where the files of their command are held.
-use Rattle.std.proofs.Common.{◌≡◌, ◌⊎◌, ◌++◌, ℕ, List, [], ◌∷◌, Option, Some, None, option_map, IsSome, map, inl, inr, refl, sym, ap, subst, ◌∙◌, length, arith}
+use Rattle.std.proofs.Common.{◌≡◌, ◌≤◌, ◌⊎◌, ◌++◌, ℕ, List, [], ◌∷◌, Option, Some, None, option_map, IsSome, map, inl, inr, refl, sym, ap, subst, ◌∙◌, length, arith}
 use Rattle.std.specs.Option.{option_and_then}
 use Rattle.std.proofs.lemmas.Bool.{cases_lt, false≢true}
 use Rattle.std.specs.FinMap.{get}
 use Rattle.kp_base.specs.declared.refused.Part.TheVariants as parts
 use Rattle.kp_base.specs.declared.refused.Refused.TheVariants as refusals
+use Rattle.kp_base.specs.declared.ground.Ground.{Ground}
+use Rattle.kp_base.specs.declared.ground.GroundName.{GroundName}
+use Rattle.kp_base.specs.declared.ground.TagTable.{TagTable}
 use Rattle.kp_grammar.specs.declared.tree.Word.{Word}
 use Rattle.kp_grammar.specs.Trees.{Domain, Problem}
-use Rattle.kp_grammar.specs.Grammar as grammar
-use Rattle.kp_meaning.specs.Faults.{HasNoFault}
 use Rattle.kp_meaning.specs.Numbering.{numbered_problem}
-use Rattle.kp_tree.proofs.OneAnswer.{always_some}
+use Rattle.kp_meaning.specs.Strip.{stripped, strip}
 use Rattle.kp_given.specs.Translations.{ground_of, initial_of}
-use Rattle.kp_given.specs.Tables.{translation_of, empty_tag}
-use Rattle.kp_given.proofs.Starts.{states_are_models, formulas_over_atoms}
-use Rattle.kp_decided.proofs.Sizes.{names_decided, sizes_decided}
-use Rattle.kp_decided.proofs.Counting.{formulas_ascend, counted}
-use Rattle.kp_decided.proofs.Modelled.{model_or_none}
-use Rattle.kp_decided.proofs.Clashing.{clash_or_none}
-use Rattle.kp_printed.specs.Refusals.{nothing}
+use Rattle.kp_given.specs.Tables.{empty_tag}
+use Rattle.kp_given.proofs.Starts.{formulas_over_atoms}
+use Rattle.kp_task.specs.Task.{task_of}
+use Rattle.kp_task.specs.Weight.{weight_of}
+use Rattle.kp_ktask.specs.Translated.{facts_over, weight_over}
+use Rattle.kp_translation.specs.Translations.{translation_with}
+use Rattle.kp_decided.proofs.Tabling.{tables_decided}
+use Rattle.kp_decided.proofs.Judging.{verdicts_decided}
+use Rattle.kp_decided.proofs.Finding.{steps_decided}
 use Rattle.kp_outcome.specs.declared.outcome.Outcome.{Outcome}
 use Rattle.kp_outcome.specs.Ends.{most_bytes}
-use Rattle.kp_meaning.specs.Strip.{stripped, strip}
+use Rattle.kp_merges.proofs.OneAnswer.{always_some as merges_always_one}
 use Rattle.kp_plans.specs.declared.step.PlanStep.{PlanStep}
-use Rattle.kp_plans.specs.PlanFiles.{names}
+use Rattle.kp_plans.specs.PlanFiles.{names, IsPlanOf}
 use Rattle.kp_plans.specs.Printed.{plan_text}
 use Rattle.kp_plans.specs.Stripping.{IsFirstUnstripped}
 use Rattle.kp_plans.proofs.WholePlans.{always_some as plans_always_one}
-use Rattle.kp_base.specs.declared.ground.GroundName.{GroundName}
-use Rattle.kp_run.proofs.Counted.{empty_tags_fit}
-use Rattle.kp_run.specs.Names.{Translate}
-use Rattle.kp_run.specs.declared.command.Command.TheVariants as commands
-use Rattle.kp_run.specs.Command.{inputs_of}
-use Rattle.kp_run.specs.Texts.{of_domain, of_problem, of_names}
-use Rattle.kp_run.specs.Outcomes.{usual, shows_usage, refuses, named_in, translates, IsSmall, IsStarted, TranslatesTrees, too_large, implicates_over, no_initial_state, clash, no_clash, done, TranslatesTexts, refused, on_trees, prints, StripsText, too_long, no_plan, no_strip, strips, translated, usage, of_command}
+use Rattle.kp_printed.specs.Refusals.{nothing}
+use Rattle.kp_words.specs.Names.{Translate}
+use Rattle.kp_words.specs.declared.command.Command.TheVariants as commands
+use Rattle.kp_words.specs.Command.{if_named, inputs_of}
+use Rattle.kp_words.proofs.Decided.{words_decided}
+use Rattle.kp_prepared.specs.Texts.{HaveTrees}
+use Rattle.kp_prepared.specs.Refusing.{refuses, named_in}
+use Rattle.kp_prepared.specs.Prepared.{usual, IsPrepared}
+use Rattle.kp_prepared.proofs.Counted.{is_of_atoms}
+use Rattle.kp_run.specs.Outcomes.{shows_usage, translates, TranslatesGround, over, done, TranslatesWith, long_merges, no_merges, no_table, with_table, TranslatesBy, prints, StripsText, too_long, no_plan, no_strip, strips, tells, named_with, long_plan, no_steps, unknown_step, judged, ChecksTrees, translated, checked, usage, of_command}
 use Rattle.kp_run.specs.Outcomes as outcomes
+use Rattle.kp_run.proofs.FileMerges.{tags_of_atoms}
+use Rattle.kp_run.proofs.Checks.{inside}
 use Rattle.kp_total.specs.Laws.{CommandsHaveAnOutcome, HasSomeOutcome}
-use Rattle.kp_total.proofs.SomeCommand.{words_decided}
+use Rattle.kp_total.proofs.SomeStart.{some_comes}
 
--- ---- two trees
+-- ---- a translation
 
-module _ (c : Translate) (d : Domain Word) (p : Problem Word) where
-  of_started : IsStarted c.implicates d p → (o : Outcome) × TranslatesTrees c d p o
-  of_started started = elim (clash_or_none (ground_of d p) (initial_of d p) (formulas_over_atoms d p)) [
-    | inl first ↦ (refuses (named_in (ground_of d p)) (refusals.Clash first.0), clash first.0 started first.1 refl)
-    | inr free ↦ (translates c (translation_of d p (empty_tag d p)), no_clash started free (done (empty_tags_fit d p started.small) refl))
-  ]
-
-  of_small : HasNoFault d p → IsSmall d p → (o : Outcome) × TranslatesTrees c d p o
-  of_small no_fault small = elim (counted (initial_of d p) c.implicates (formulas_ascend (numbered_problem d p))) [
-    | inl over ↦ (refuses nothing (refusals.ImplicatesOver over.0), implicates_over over.0 small over.1 refl)
-    | inr never ↦ elim (model_or_none (length (ground_of d p).atoms) (initial_of d p) (formulas_over_atoms d p)) [
-      | inl model ↦ of_started (record { small = small; counted = never; initial = (states_are_models d p no_fault).1 model })
-      | inr none ↦ (refuses nothing refusals.NoInitialState, no_initial_state small never (λ has. none ((states_are_models d p no_fault).0 has)) refl)
-    ]
-  ]
-
-  of_trees : HasNoFault d p → (o : Outcome) × TranslatesTrees c d p o
-  of_trees no_fault = elim (sizes_decided (numbered_problem d p) usual) [
-    | inl over ↦ (refuses nothing over.0, too_large over.0 over.1 refl)
-    | inr small ↦ of_small no_fault small
-  ]
-
--- ---- two texts
-
-of_texts : (c : Translate) (x y : List ℕ) → (o : Outcome) × TranslatesTexts c x y o
-of_texts c x y = elim (always_some parts.Domain _ _ grammar.domain x) [
-  | inr r ↦ (refuses nothing r.0, refused r.0 (of_domain r.0 r.1) refl)
-  | inl d ↦ elim (always_some parts.Problem _ _ grammar.problem y) [
-    | inr r ↦ (refuses nothing r.0, refused r.0 (of_problem d.0 r.0 d.1 r.1) refl)
-    | inl p ↦ elim (names_decided x y d.0 p.0) [
-      | inr r ↦ (refuses nothing r.0, refused r.0 (of_names d.0 p.0 r.0 d.1 p.1 r.1) refl)
-      | inl no_fault ↦ let t = of_trees c d.0 p.0 no_fault in (t.0, on_trees d.0 p.0 (record { domain_reads = d.1; problem_reads = p.1; no_fault = no_fault }) t.1)
-    ]
+of_table : (c : Translate) (g : Ground) (table : TagTable) → (o : Outcome) × TranslatesGround c g table o
+of_table c g table = elim (cases_lt 262144 (length (task_of g table).facts)) [
+  | inl more ↦ (refuses nothing refusals.FactsOver, over refusals.FactsOver (facts_over more) refl)
+  | inr few ↦ elim (cases_lt 16000000 (weight_of (task_of g table))) [
+    | inl heavy ↦ (refuses nothing refusals.WeightOver, over refusals.WeightOver (weight_over few heavy) refl)
+    | inr light ↦ (translates c (translation_with g table), done (record { facts = few; weight = light }) refl)
   ]
 ]
+
+module _ (c : Translate) (d : Domain Word) (p : Problem Word) (x y : List ℕ) (trees : HaveTrees x y d p) (ready : IsPrepared c.implicates d p) where
+  of_merges : (text : List ℕ) → (o : Outcome) × TranslatesWith c (ground_of d p) (initial_of d p) text o
+  of_merges text = elim (cases_lt most_bytes (length text)) [
+    | inl long ↦ (refuses nothing (refusals.TooLong parts.Merges), long_merges long refl)
+    | inr short ↦ elim (merges_always_one (ground_of d p).atoms text) [
+      | inr r ↦ (refuses nothing r.0, no_merges r.0 short r.1 refl)
+      | inl ms ↦ elim (tables_decided (length (ground_of d p).atoms) (initial_of d p) ms.0 usual.tags (formulas_over_atoms d p) (tags_of_atoms (ground_of d p).atoms text ms.0 ms.1)) [
+        | inl t ↦ let o = of_table c (ground_of d p) t.0 in (o.0, with_table ms.0 t.0 short ms.1 t.1 o.1)
+        | inr r ↦ (refuses (named_in (ground_of d p)) r.0, no_table ms.0 r.0 short ms.1 r.1 refl)
+      ]
+    ]
+  ]
+
+of_texts : (c : Translate) (merges : List (List ℕ)) → length merges ≤ 1 → (d : Domain Word) (p : Problem Word) (x y : List ℕ) → HaveTrees x y d p → IsPrepared c.implicates d p → (o : Outcome) × TranslatesBy c merges d p o
+of_texts c [] one d p x y trees ready = of_table c (ground_of d p) (empty_tag d p)
+of_texts c (text ∷ []) one d p x y trees ready = of_merges c d p x y trees ready text
+of_texts c (text ∷ other ∷ others) one d p x y trees ready = absurd (omega (arith, one))
 
 -- ---- a plan file
 
@@ -120,16 +119,51 @@ of_plan text = elim (cases_lt most_bytes (length text)) [
   ]
 ]
 
+-- ---- a check
+
+module _ (limit : ℕ) (d : Domain Word) (p : Problem Word) (ready : IsPrepared limit d p) (text : List ℕ) where
+  of_steps : (steps : List PlanStep) → length text ≤ most_bytes → IsPlanOf text steps → (o : Outcome) × ChecksTrees text d p o
+  of_steps steps short plan = elim (steps_decided (ground_of d p).actions steps) [
+    | inl ns ↦
+        let v = verdicts_decided (length (ground_of d p).atoms) (ground_of d p) (initial_of d p) ns.0 (formulas_over_atoms d p) refl (is_of_atoms (numbered_problem d p) (ground_of d p) ready.started.small) (inside (ground_of d p) steps ns.0 ns.1) in
+        (tells (ground_of d p) (length steps) v.0, judged steps ns.0 v.0 short plan ns.1 v.1 refl)
+    | inr n ↦ (refuses (named_with (ground_of d p) (names steps)) (refusals.StepUnknown n.0), unknown_step steps n.0 short plan n.1 refl)
+  ]
+
+  of_check : (o : Outcome) × ChecksTrees text d p o
+  of_check = elim (cases_lt most_bytes (length text)) [
+    | inl long ↦ (refuses nothing (refusals.TooLong parts.Plan), long_plan long refl)
+    | inr short ↦ elim (plans_always_one text) [
+      | inr r ↦ (refuses nothing r.0, no_steps r.0 short r.1 refl)
+      | inl steps ↦ of_steps steps.0 short steps.1
+    ]
+  ]
+
 -- ---- commands
 
+-- there is one file of merges at most
+few_named : (name : Option (List ℕ)) → length (if_named name) ≤ 1
+few_named None = omega arith
+few_named (Some n) = omega arith
+
 pub some_outcome : CommandsHaveAnOutcome
-some_outcome (commands.Translate c) (x ∷ y ∷ []) many = let t = of_texts c x y in (t.0, translated c x y t.0 t.1)
+some_outcome (commands.Translate c) (x ∷ y ∷ merges) many =
+    let few = few_named c.merges in
+    let one : length merges ≤ 1 = omega (arith, many, few) in
+    let t = some_comes c.implicates x y (TranslatesBy c merges) (λ d p trees ready. of_texts c merges one d p x y trees ready) in
+    (t.0, translated c x y merges t.0 t.1)
+some_outcome (commands.Translate c) [] many = absurd (omega (arith, many))
+some_outcome (commands.Translate c) (x ∷ []) many = absurd (omega (arith, many))
 some_outcome (commands.Strip c) (text ∷ []) many = let t = of_plan text in (t.0, outcomes.stripped c text t.0 t.1)
 some_outcome (commands.Strip c) [] many = absurd (omega (arith, many))
 some_outcome (commands.Strip c) (x ∷ y ∷ zs) many = absurd (omega (arith, many))
-some_outcome (commands.Translate c) [] many = absurd (omega (arith, many))
-some_outcome (commands.Translate c) (x ∷ []) many = absurd (omega (arith, many))
-some_outcome (commands.Translate c) (x ∷ y ∷ z ∷ zs) many = absurd (omega (arith, many))
+some_outcome (commands.Check c) (x ∷ y ∷ plan ∷ []) many =
+    let t = some_comes c.implicates x y (ChecksTrees plan) (λ d p trees ready. of_check c.implicates d p ready plan) in
+    (t.0, checked c x y plan t.0 t.1)
+some_outcome (commands.Check c) [] many = absurd (omega (arith, many))
+some_outcome (commands.Check c) (x ∷ []) many = absurd (omega (arith, many))
+some_outcome (commands.Check c) (x ∷ y ∷ []) many = absurd (omega (arith, many))
+some_outcome (commands.Check c) (x ∷ y ∷ z ∷ w ∷ zs) many = absurd (omega (arith, many))
 
 -- contents of names are as many as these
 as_many : (X Y Z : Type 0) (f : X → Z) (g : Y → Z) (xs : List X) (ys : List Y) → map f xs ≡ map g ys → length ys ≡ length xs

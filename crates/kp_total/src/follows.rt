@@ -1,4 +1,4 @@
-ghost use Rattle.kp_total.specs.Follows.{AnswersAreWhole, TheDueIsCarriedOut, TheDueIsTheAnswer, TranslationsAreAnswered, ClashesAreAnswered, StripsAreAnswered, OnlyDonePuts, DonePutsTheOutputs, OthersPutNothing, NoCommandPutsNothing, PutsAreOfTheDue, TextsAreOfTheDue, ReadFaultsTellNothing, ReadFaultsAreTrue, WriteFaultsAreTrue, FailedGetsAreTold, FailedWritesAreTold, MissingInputsAreFaults, InputsAreReadInOrder};
+ghost use Rattle.kp_total.specs.Follows.{AnswersAreWhole, TheDueIsCarriedOut, TheDueIsTheAnswer, TranslationsAreAnswered, ClashesAreAnswered, MergesAreAnswered, ChecksAreAnswered, ChecksAreTrue, StripsAreAnswered, OnlyDonePuts, DonePutsTheOutputs, OthersPutNothing, NoCommandPutsNothing, PutsAreOfTheDue, TextsAreOfTheDue, ReadFaultsTellNothing, ReadFaultsAreTrue, WriteFaultsAreTrue, FailedGetsAreTold, FailedWritesAreTold, MissingInputsAreFaults, InputsAreReadInOrder};
 
 /// An answer comes with the whole of its outcome.
 pub fn answers_are_whole()
@@ -18,6 +18,21 @@ pub fn the_due_is_the_answer()
 /// A run on files that nothing refuses ends with their translation.
 pub fn translations_are_answered()
     ensures { TranslationsAreAnswered }
+{}
+
+/// A run on such files and a file of merges that are accepted ends with their translation.
+pub fn merges_are_answered()
+    ensures { MergesAreAnswered }
+{}
+
+/// A run on such files and a plan ends with the verdict.
+pub fn checks_are_answered()
+    ensures { ChecksAreAnswered }
+{}
+
+/// A check that ends with an answer ends with Done exactly where the steps are a plan of the two files.
+pub fn checks_are_true()
+    ensures { ChecksAreTrue }
 {}
 
 /// A run on files of which an action clashes ends with the lines of the first clash.

@@ -6,13 +6,14 @@ mod follows;
 mod laws;
 
 pub use follows::{
-    answers_are_whole, clashes_are_answered, done_puts_the_outputs, failed_gets_are_told,
-    failed_writes_are_told, inputs_are_read_in_order, missing_inputs_are_faults,
-    no_command_puts_nothing, only_done_puts, others_put_nothing, puts_are_of_the_due,
-    read_faults_are_true, read_faults_tell_nothing, strips_are_answered, texts_are_of_the_due,
-    the_due_is_carried_out, the_due_is_the_answer, translations_are_answered,
-    write_faults_are_true,
+    answers_are_whole, checks_are_answered, checks_are_true, clashes_are_answered,
+    done_puts_the_outputs, failed_gets_are_told, failed_writes_are_told, inputs_are_read_in_order,
+    merges_are_answered, missing_inputs_are_faults, no_command_puts_nothing, only_done_puts,
+    others_put_nothing, puts_are_of_the_due, read_faults_are_true, read_faults_tell_nothing,
+    strips_are_answered, texts_are_of_the_due, the_due_is_carried_out, the_due_is_the_answer,
+    translations_are_answered, write_faults_are_true,
 };
 pub use laws::{
-    commands_have_an_outcome, words_are_decided, words_have_one_outcome, words_have_some_outcome,
+    commands_have_an_outcome, unknown_steps_are_no_plan, words_have_one_outcome,
+    words_have_some_outcome, yes_is_a_plan,
 };

@@ -1,6 +1,6 @@
 use Rattle.std.proofs.Common.{sym, subst}
 use Rattle.kp_run.specs.Outcomes.{IsDue, usage}
-use Rattle.kp_run.proofs.TwoFiles.{due_of}
+use Rattle.kp_run.proofs.Files.{due_of}
 use Rattle.kp_run.proofs.entry.due.Goals as goal
 
 -- the words are a command

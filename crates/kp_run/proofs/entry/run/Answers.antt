@@ -1,5 +1,4 @@
-use Rattle.std.proofs.Common.{◌≡◌, ◌≢◌, Ok, Err, refl, ap}
-use Rattle.kp_outside.specs.declared.outside.OutsideStop.TheVariants as stops
+use Rattle.std.proofs.Common.{◌≡◌, ◌≢◌, Err, refl, ap}
 use Rattle.kp_outcome.proofs.Earlier.{carried_from}
 use Rattle.kp_run.specs.Ends.{came}
 use Rattle.kp_run.proofs.Answered.{outcomes_are_answers}

@@ -1,6 +1,6 @@
 use Rattle.std.proofs.Common.{[], ◌∷◌}
 use Rattle.kp_outcome.proofs.Fronts.{as_many}
-use Rattle.kp_run.proofs.TwoFiles.{one_within, one_stripped}
+use Rattle.kp_run.proofs.Files.{one_within, one_stripped}
 use Rattle.kp_run.proofs.entry.strip_gots.Goals as goal
 
 -- one file was read

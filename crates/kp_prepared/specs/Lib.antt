@@ -1,0 +1,4 @@
+pub mod Texts
+pub mod Refusing
+pub mod Prepared
+pub mod Numbered

@@ -1,0 +1,58 @@
+ghost use Rattle.std.specs.Prelude.{◌≡◌, ℕ, List, Some, Err, IfOk};
+ghost use Rattle.kp_base.specs.declared.refused.Part.TheVariants as parts;
+ghost use Rattle.kp_base.specs.declared.refused.Refused.{Refused as Refusal};
+ghost use Rattle.kp_base.specs.declared.refused.Stop.TheVariants as stops;
+ghost use Rattle.kp_grammar.specs.Grammar as grammar;
+ghost use Rattle.kp_grammar.specs.View.{domain_view, problem_view};
+ghost use Rattle.kp_outside.specs.Outside.{IsFront, IsWithin};
+ghost use Rattle.kp_tree.specs.Files.{Reads, AnswersFile};
+ghost use Rattle.kp_prepared.specs.Numbered.{IsProblemOf};
+ghost use Rattle.kp_prepared.specs.Texts.{RefusesTexts};
+
+use kp_base::{Part, Refused, Stop, Texts};
+use kp_names::{Lifted, resolve};
+use kp_outside::Got;
+use kp_tree::{Domain, Problem, read_domain, read_problem};
+use std::alloc::Global;
+
+// The tree of a domain, at most 16,777,216 bytes of which were read.
+fn domain_of(alloc: Global, got: &Got) -> Result<Domain, Stop>
+    requires { IsWithin 16777216 got.now }
+    ensures tree { IfOk result (λ d. Reads grammar.domain got.now.bytes (domain_view d)) }
+    ensures whole { (text : List ℕ) → IsFront (Some text) 16777216 got.now → IfOk result (λ d. got.now.bytes ≡ text) }
+    ensures front { (text : List ℕ) → IsFront (Some text) 16777216 got.now → AnswersFile parts.Domain grammar.domain domain_view text result }
+{
+    if got.more {
+        return Err(Stop::Refused(Refused::TooLong(Part::Domain)));
+    }
+    read_domain(alloc, got.bytes.slice())
+}
+
+// The tree of a problem, at most 16,777,216 bytes of which were read.
+fn problem_of(alloc: Global, got: &Got) -> Result<Problem, Stop>
+    requires { IsWithin 16777216 got.now }
+    ensures tree { IfOk result (λ p. Reads grammar.problem got.now.bytes (problem_view p)) }
+    ensures whole { (text : List ℕ) → IsFront (Some text) 16777216 got.now → IfOk result (λ p. got.now.bytes ≡ text) }
+    ensures front { (text : List ℕ) → IsFront (Some text) 16777216 got.now → AnswersFile parts.Problem grammar.problem problem_view text result }
+{
+    if got.more {
+        return Err(Stop::Refused(Refused::TooLong(Part::Problem)));
+    }
+    read_problem(alloc, got.bytes.slice())
+}
+
+/// The problem by number of two files, at most 16,777,216 bytes of each of which were read.
+pub fn read_files(alloc: Global, domain: Got, problem: Got) -> Result<Lifted, Stop>
+    requires domain { IsWithin 16777216 domain }
+    requires problem { IsWithin 16777216 problem }
+    ensures resolved { (d p : List ℕ) → IsFront (Some d) 16777216 domain → IsFront (Some p) 16777216 problem → IfOk result (IsProblemOf d p) }
+    ensures refused { (d p : List ℕ) (r : Refusal) → IsFront (Some d) 16777216 domain → IsFront (Some p) 16777216 problem → result ≡ Err (stops.Refused r) → RefusesTexts d p r }
+{
+    let domain_tree = domain_of(alloc, &domain)?;
+    let problem_tree = problem_of(alloc, &problem)?;
+    let texts = Texts {
+        domain: domain.bytes,
+        problem: problem.bytes,
+    };
+    resolve(alloc, &texts, &domain_tree, &problem_tree)
+}

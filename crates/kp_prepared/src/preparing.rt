@@ -1,0 +1,111 @@
+ghost use Rattle.std.specs.Prelude.{◌≡◌, ◌≤◌, Some, List, ℕ, IfOk, length};
+ghost use Rattle.kp_base.specs.Implicates.{IsOfItsAtoms};
+ghost use Rattle.kp_clash.specs.Counted.{IsCounted};
+ghost use Rattle.kp_meaning.specs.Numbered.{Lifted as Numbers};
+ghost use Rattle.kp_grounding.specs.Ground.{ground_atoms, ground_of};
+ghost use Rattle.kp_init.specs.Initial.{initial_of};
+ghost use Rattle.kp_names.specs.View.{lifted_view};
+ghost use Rattle.kp_outside.specs.Outside.{IsFront, IsWithin};
+ghost use Rattle.kp_primes.specs.Answers.{HoldsPrimes};
+ghost use Rattle.kp_prepared.specs.Prepared.{AnswersPrepared, IsUsable};
+ghost use Rattle.kp_prepared.specs.Numbered.{IsEnd, IsEndAt, AnswersGround, AnswersNumbers};
+
+use crate::files::read_files;
+use crate::prepared::{Early, Prepared};
+use crate::refusing::{refuse, refuse_in};
+use kp_base::{ClashAt, Ground, Limits, Refused, Stop};
+use kp_clash::{clash_test, exclusive};
+use kp_ground::{GroundWithAtoms, ground_with_atoms};
+use kp_init::initial_over;
+use kp_kept::Statics;
+use kp_names::Lifted;
+use kp_outside::Got;
+use kp_primes::Primes;
+use std::alloc::Global;
+
+// A command ends with a refusal that names nothing by number, or since memory ran out.
+fn end(alloc: Global, stop: Stop) -> Early
+    ensures { IsEnd stop result }
+{
+    match stop {
+        Stop::Refused(refused) => match refuse(alloc, refused) {
+            Ok(outcome) => Early::With(outcome),
+            Err(_) => Early::Memory,
+        },
+        Stop::Memory => Early::Memory,
+    }
+}
+
+// A command ends with a clash in a ground problem.
+fn end_at_clash(alloc: Global, ground: &Ground, at: ClashAt) -> Early
+    ensures { IsEndAt ground.now at result }
+{
+    match refuse_in(alloc, ground, Refused::Clash(at)) {
+        Ok(outcome) => Early::With(outcome),
+        Err(_) => Early::Memory,
+    }
+}
+
+// What a command goes on with, if no action clashes.
+fn without_clash(alloc: Global, ground: Ground, primes: Primes) -> Result<Prepared, Early>
+    requires counted { IsCounted ground }
+    requires of_atoms { IsOfItsAtoms ground }
+    requires atoms { primes.atoms ≡ length ground.atoms }
+    ensures usable { IfOk result IsUsable }
+    ensures answers { (l : Numbers) (limit : ℕ) → ground ≡ ground_of l → HoldsPrimes (initial_of l) (length ground.atoms) limit primes → AnswersGround limit l result }
+{
+    let pairs = exclusive(alloc, &ground, &primes)?;
+    match clash_test(&ground, &pairs) {
+        Ok(()) => Ok(Prepared { ground, primes }),
+        Err(at) => Err(end_at_clash(alloc, &ground, at)),
+    }
+}
+
+// The same of a ground problem whose atoms are known, with the prime implicates of its initial formula.
+fn on_ground(
+    alloc: Global,
+    implicates: u32,
+    lifted: &Lifted,
+    made: GroundWithAtoms,
+) -> Result<Prepared, Early>
+    requires ground { made.ground ≡ ground_of (lifted_view lifted.now) }
+    requires atoms { made.atoms ≡ ground_atoms (lifted_view lifted.now) }
+    requires few { length made.ground.atoms ≤ 4096 }
+    requires counted { IsCounted made.ground }
+    requires of_atoms { IsOfItsAtoms made.ground }
+    ensures usable { IfOk result IsUsable }
+    ensures answers { AnswersGround implicates (lifted_view lifted.now) result }
+{
+    let formula = initial_over(alloc, lifted, made.atoms.slice())?;
+    let atoms = made.ground.atoms.len() as u32;
+    match Primes::build(alloc, &formula, atoms, implicates) {
+        Ok(primes) => without_clash(alloc, made.ground, primes),
+        Err(stop) => Err(end(alloc, stop)),
+    }
+}
+
+// The same of a problem by number: by its ground problem, or at a limit.
+fn on_problem(alloc: Global, implicates: u32, lifted: &Lifted) -> Result<Prepared, Early>
+    ensures usable { IfOk result IsUsable }
+    ensures answers { AnswersNumbers implicates (lifted_view lifted.now) result }
+{
+    let statics = Statics::of(alloc, lifted)?;
+    match ground_with_atoms(alloc, &statics, &Limits::usual()) {
+        Ok(made) => on_ground(alloc, implicates, lifted, made),
+        Err(stop) => Err(end(alloc, stop)),
+    }
+}
+
+/// The ground problem and the prime implicates with which a command goes on, from the contents of its two
+/// files, at most 16,777,216 bytes of each of which were read; or the outcome with which it ends early.
+pub fn prepare(alloc: Global, implicates: u32, domain: Got, problem: Got) -> Result<Prepared, Early>
+    requires domain { IsWithin 16777216 domain }
+    requires problem { IsWithin 16777216 problem }
+    ensures usable { IfOk result IsUsable }
+    ensures answers { (d p : List ℕ) → IsFront (Some d) 16777216 domain → IsFront (Some p) 16777216 problem → AnswersPrepared implicates d p result }
+{
+    match read_files(alloc, domain, problem) {
+        Ok(lifted) => on_problem(alloc, implicates, &lifted),
+        Err(stop) => Err(end(alloc, stop)),
+    }
+}

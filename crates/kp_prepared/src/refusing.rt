@@ -1,0 +1,39 @@
+ghost use Rattle.std.specs.Prelude.{◌≡◌, IfOk};
+ghost use Rattle.kp_printed.specs.Refusals.{nothing};
+ghost use Rattle.kp_prepared.specs.Refusing.{refuses, named_in};
+
+use kp_base::{Ground, Memory, Refused, Row};
+use kp_outcome::{Outcome, Status};
+use kp_printed::{Named, refusal};
+use std::alloc::Global;
+
+/// A refusal is printed, with what it may name.
+pub fn refuse_with(alloc: Global, named: &Named<'_>, refused: Refused) -> Result<Outcome, Memory>
+    ensures { IfOk result (λ o. o ≡ refuses named.now refused) }
+{
+    let text = refusal(alloc, named, &refused)?;
+    Ok(Outcome {
+        status: Status::Refused(refused),
+        puts: Row::new(alloc),
+        text,
+    })
+}
+
+/// A refusal is printed that names nothing by number.
+pub fn refuse(alloc: Global, refused: Refused) -> Result<Outcome, Memory>
+    ensures { IfOk result (λ o. o ≡ refuses nothing refused) }
+{
+    refuse_with(alloc, &Named::nothing(), refused)
+}
+
+/// A refusal is printed that may name the atoms and actions of a ground problem.
+pub fn refuse_in(alloc: Global, ground: &Ground, refused: Refused) -> Result<Outcome, Memory>
+    ensures { IfOk result (λ o. o ≡ refuses (named_in ground.now) refused) }
+{
+    let named = Named {
+        atoms: ground.atoms.slice(),
+        actions: ground.actions.slice(),
+        steps: &[],
+    };
+    refuse_with(alloc, &named, refused)
+}

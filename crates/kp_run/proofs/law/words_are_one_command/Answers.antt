@@ -1,5 +1,0 @@
-use Rattle.kp_run.proofs.OneCommand.{one_command}
-use Rattle.kp_run.proofs.law.words_are_one_command.Goals as goal
-
-pub returns : goal.returns
-returns c = one_command

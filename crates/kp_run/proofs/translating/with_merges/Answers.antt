@@ -1,0 +1,24 @@
+use Rattle.std.proofs.Common.{Err, subst}
+use Rattle.kp_base.specs.declared.limits.Limits.{Limits}
+use Rattle.kp_primes.specs.Held.{formula}
+use Rattle.kp_tags.specs.Answers.{Accepts, RefusesTable, AnswersTable}
+use Rattle.kp_run.proofs.Translations.{has_tags, table_refused, table_accepted}
+use Rattle.kp_run.proofs.translating.with_merges.Goals as goal
+
+pub with_table-requires : goal.with_table-requires
+with_table-requires c = has_tags c.args.prepared.now.primes.atoms (formula c.args.prepared.now.primes) c.args.merges.now c.usual.result.tags c.in-Ok.table c.in-Ok.ensures
+
+-- the merges have a table
+pub returns-in-Ok : goal.returns-in-Ok
+returns-in-Ok c =
+    table_accepted c.args.command.now c.args.prepared.now.ground c.args.prepared.now.primes.atoms (formula c.args.prepared.now.primes) c.args.merges.now c.in-Ok.table c.with_table.result
+    (subst (λ (m : Limits). Accepts c.args.prepared.now.primes.atoms (formula c.args.prepared.now.primes) c.args.merges.now m.tags c.in-Ok.table) c.usual.ensures c.in-Ok.ensures) c.with_table.ensures
+
+-- they have none
+pub returns-in-Err-Refused : goal.returns-in-Err-Refused
+returns-in-Err-Refused c =
+    let atoms = c.args.prepared.now.primes.atoms in
+    let i = formula c.args.prepared.now.primes in
+    let stops = subst (λ s. AnswersTable atoms i c.args.merges.now c.usual.result.tags (Err s)) c.in-Err-Refused.field-0-is c.in-Err-Refused.ensures in
+    table_refused c.args.command.now c.args.prepared.now.ground atoms i c.args.merges.now c.in-Err-Refused.refused c.refuse_in.result
+    (subst (λ (m : Limits). RefusesTable atoms i c.args.merges.now m.tags c.in-Err-Refused.refused) c.usual.ensures stops) c.refuse_in.ensures

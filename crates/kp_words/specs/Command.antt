@@ -1,0 +1,98 @@
+-- Which words are a command, and which files a command reads and writes.
+use Rattle.std.specs.Prelude.{◌≡◌, ◌≢◌, ◌≤◌, List, [], ◌∷◌, ◌++◌, ℕ, Option, Some, None, false, nat_eq, map, codes, decimal, Vec, IsUtf8}
+use Rattle.std.specs.List.{starts_with}
+use Rattle.std.specs.declared.alloc.Global.{Global}
+use Rattle.kp_words.specs.Names.{Translate, Strip, Check}
+use Rattle.kp_words.specs.declared.command.Command.{Command}
+use Rattle.kp_words.specs.declared.command.Command.TheVariants as commands
+
+-- ---- words
+
+-- a word that may name a file: it isn't empty, doesn't begin with a dash, and is UTF-8
+pub record IsPositional (word : List ℕ) : Type 0 where
+  pub not_empty : word ≢ []
+  pub no_dash : starts_with nat_eq word (codes "-") ≡ false
+  pub utf8 : IsUtf8 word
+
+-- the first words of `translate` say what is to be done, and name the files
+pub record NamesFiles (words : List (List ℕ)) (c : Translate) : Type 0 where
+  pub words_are : words ≡ codes "translate" ∷ c.domain ∷ c.problem ∷ c.domain_out ∷ c.problem_out ∷ []
+  pub domain : IsPositional c.domain
+  pub problem : IsPositional c.problem
+  pub domain_out : IsPositional c.domain_out
+  pub problem_out : IsPositional c.problem_out
+  pub outputs_differ : c.domain_out ≢ c.problem_out
+
+-- two words say where the tags come from: from the mode of the empty tag, or from a file of merges
+abbrev pub SaysMerges : List (List ℕ) → Option (List ℕ) → Type 0
+SaysMerges words None = words ≡ codes "--mode" ∷ codes "k0" ∷ []
+SaysMerges words (Some name) = (words ≡ codes "--merges" ∷ name ∷ []) × IsPositional name
+
+-- a limit of prime implicates may be anything from 1 to 100,000
+pub record IsLimit (n : ℕ) : Type 0 where
+  pub least : 1 ≤ n
+  pub most : n ≤ 100000
+
+-- the last words say the limit: there are none, and it is the usual one; or they are the option and a number in decimal
+pub data SaysLimit : List (List ℕ) → ℕ → Type 0 where
+  usual_limit : SaysLimit [] 20000
+  stated : (n : ℕ) → IsLimit n → SaysLimit (codes "--implicates" ∷ decimal n ∷ []) n
+
+-- the words are this translation
+pub record IsTranslate (words : List (Vec ℕ Global)) (c : Translate) : Type 0 where
+  pub front : List (List ℕ)
+  pub source : List (List ℕ)
+  pub options : List (List ℕ)
+  pub words_are : map (λ w. w.items) words ≡ front ++ (source ++ options)
+  pub files : NamesFiles front c
+  pub merges : SaysMerges source c.merges
+  pub limit : SaysLimit options c.implicates
+
+-- the words are this strip
+pub record IsStrip (words : List (Vec ℕ Global)) (c : Strip) : Type 0 where
+  pub words_are : map (λ w. w.items) words ≡ codes "strip" ∷ c.plan ∷ []
+  pub plan : IsPositional c.plan
+
+-- the first words of `check` say what is to be done, and name the files
+pub record NamesChecked (words : List (List ℕ)) (c : Check) : Type 0 where
+  pub words_are : words ≡ codes "check" ∷ c.domain ∷ c.problem ∷ c.plan ∷ []
+  pub domain : IsPositional c.domain
+  pub problem : IsPositional c.problem
+  pub plan : IsPositional c.plan
+
+-- the words are this check
+pub record IsCheck (words : List (Vec ℕ Global)) (c : Check) : Type 0 where
+  pub front : List (List ℕ)
+  pub options : List (List ℕ)
+  pub words_are : map (λ w. w.items) words ≡ front ++ options
+  pub files : NamesChecked front c
+  pub limit : SaysLimit options c.implicates
+
+-- ---- the table of commands
+
+-- the words are this command
+abbrev pub IsCommand : List (Vec ℕ Global) → Command → Type 0
+IsCommand words (commands.Translate c) = IsTranslate words c
+IsCommand words (commands.Strip c) = IsStrip words c
+IsCommand words (commands.Check c) = IsCheck words c
+
+-- the name, if there is one
+abbrev pub if_named : Option (List ℕ) → List (List ℕ)
+if_named None = []
+if_named (Some name) = name ∷ []
+
+-- the names of the files that a command reads, in order
+abbrev pub inputs_of : Command → List (List ℕ)
+inputs_of (commands.Translate c) = c.domain ∷ c.problem ∷ if_named c.merges
+inputs_of (commands.Strip c) = c.plan ∷ []
+inputs_of (commands.Check c) = c.domain ∷ c.problem ∷ c.plan ∷ []
+
+-- the names of the files that it writes, in order
+abbrev pub outputs_of : Command → List (List ℕ)
+outputs_of (commands.Translate c) = c.domain_out ∷ c.problem_out ∷ []
+outputs_of (commands.Strip c) = []
+outputs_of (commands.Check c) = []
+
+-- the words are no command
+abbrev pub IsNoCommand : List (Vec ℕ Global) → Type 0
+IsNoCommand words = (c : Command) → IsCommand words c → ⊥

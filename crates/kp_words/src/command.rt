@@ -1,0 +1,32 @@
+ghost use Rattle.std.specs.Prelude.{MatchOption};
+ghost use Rattle.kp_words.specs.Command.{IsCommand, IsNoCommand};
+
+use crate::check::Check;
+use crate::strip::Strip;
+use crate::translate::Translate;
+
+/// A command, with what its words say.
+#[derive(Drop)]
+pub enum Command<'a> {
+    /// Writes the classical problem of a conformant one.
+    Translate(Translate<'a>),
+    /// Prints what a plan of the written files comes to in the given ones.
+    Strip(Strip<'a>),
+    /// Prints whether a plan works from every initial state, or the first from which it fails.
+    Check(Check<'a>),
+}
+
+impl<'a> Command<'a> {
+    /// The command of the words after the program's name.
+    pub fn from_words(words: &'a [Vec<u8>]) -> Option<Command<'a>>
+        ensures { MatchOption result (IsNoCommand words.now) (λ c. IsCommand words.now c) }
+    {
+        if let Some(translate) = Translate::from_words(words) {
+            return Some(Command::Translate(translate));
+        }
+        if let Some(check) = Check::from_words(words) {
+            return Some(Command::Check(check));
+        }
+        Some(Command::Strip(Strip::from_words(words)?))
+    }
+}

@@ -1,0 +1,16 @@
+//! The words of a command line, and the command that they are. `specs/Command.antt` says which words are
+//! which command.
+#![tactic(auto)]
+
+mod check;
+mod command;
+mod law;
+mod strip;
+mod translate;
+mod values;
+
+pub use check::Check;
+pub use command::Command;
+pub use law::{words_are_decided, words_are_one_command};
+pub use strip::Strip;
+pub use translate::Translate;
