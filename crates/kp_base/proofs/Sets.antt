@@ -1,10 +1,20 @@
 -- Sets of literals that were put in one by one.
-use Rattle.std.proofs.Common.{◌≡◌, Bool, true, false, ◌&&◌, ◌||◌, if◌then◌else◌, List, [], ◌∷◌, fold, refl, ◌∙◌, nat_eq, nat_lt, eqb-true}
+use Rattle.std.proofs.Common.{◌≡◌, Bool, true, false, ◌&&◌, ◌||◌, if◌then◌else◌, List, [], ◌∷◌, fold, refl, subst, ◌∙◌, nat_eq, nat_lt, eqb-true}
 use Rattle.std.specs.List.{list_any, list_all}
+use Rattle.std.specs.Cmp.{IsEquivalence}
+use Rattle.std.specs.Cmp.Lexicographic.{pointwise_decides, lists_equiv}
 use Rattle.kp_base.specs.declared.lit.Lit.{Lit}
-use Rattle.kp_base.specs.Lit.{code_of}
-use Rattle.kp_base.specs.LitSet.{IsAscending, with_lit, set_of}
+use Rattle.kp_base.specs.Lit.{code_of, same_lit}
+use Rattle.kp_base.specs.LitSet.{IsAscending, same_set, with_lit, set_of}
+use Rattle.kp_base.proofs.Lits.{same_lit-true, same_lit-refl, same_lits}
 use Rattle.kp_base.proofs.Ascending.{code_of-injective, IsAscending-with_lit}
+
+-- the test whether two sets are one
+pub same_sets : IsEquivalence same_set
+same_sets = lists_equiv same_lits
+
+pub same_set-true : (a b : List Lit) → same_set a b ≡ true → a ≡ b
+same_set-true a b = (pointwise_decides (λ (x y : Lit). (same_lit-true x y, λ (e : x ≡ y). subst (λ z. same_lit x z ≡ true) e (same_lit-refl x))) a b).0
 
 pub any-with_lit : (k : Lit → Bool) (l : Lit) (ls : List Lit) → list_any k (with_lit l ls) ≡ (list_any k ls || k l)
 any-with_lit k l [] = turned (k l)

@@ -1,4 +1,5 @@
 pub mod Clashes
+pub mod Covering
 pub mod Entailed
 pub mod Exclusive
 pub mod Implicates
@@ -6,6 +7,7 @@ pub mod Lists
 pub mod Lit
 pub mod LitSet
 pub mod Machine
+pub mod Relevance
 pub mod Search
 pub mod Steps
 pub mod formers

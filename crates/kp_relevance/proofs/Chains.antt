@@ -9,7 +9,7 @@ use Rattle.kp_base.specs.Lists.{Member}
 use Rattle.kp_base.specs.Lit.{negated, same_lit, has}
 use Rattle.kp_base.proofs.Lists.{any_weaker, any_member, any_from}
 use Rattle.kp_base.proofs.Lits.{same_lit-true, same_lit-refl, negated-negated, member-has, has-member}
-use Rattle.kp_relevance.specs.Relevant.{IsConditionOf, IsRelevant, leads, joins, IsChained}
+use Rattle.kp_base.specs.Relevance.{IsConditionOf, IsRelevant, leads, joins, IsChained}
 use Rattle.kp_relevance.specs.Laws.{KeepsTheRules}
 
 -- an effect joins two literals

@@ -16,7 +16,8 @@ use Rattle.kp_base.proofs.Lits.{has-member}
 use Rattle.kp_primes.specs.Held.{Held, AreWhole, formula}
 use Rattle.kp_primes.proofs.Sorting.{permuted_member}
 use Rattle.kp_relevance.specs.Relevant.{is_pair, ArePairsOf}
-use Rattle.kp_relevance.specs.Candidates.{either_value, IsCandidate, AreRelevant, IsClauseFor, AreClausesFor, AnswersClausesFor}
+use Rattle.kp_base.specs.Relevance.{either_value, IsCandidate, AreRelevant, IsClauseFor, AreClausesFor}
+use Rattle.kp_relevance.specs.Candidates.{AnswersClausesFor}
 use Rattle.kp_relevance.specs.Gathered.{are_paired, is_wanted, is_unsettled, unsettled_below, gathered}
 use Rattle.kp_relevance.proofs.Once.{once_filter, once_append, once_map, once_range, range_bounds, permuted_once}
 

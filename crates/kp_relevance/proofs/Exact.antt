@@ -13,7 +13,8 @@ use Rattle.kp_base.proofs.Lists.{bool_same, any_weaker, any_member, any_from, al
 use Rattle.kp_base.proofs.Lits.{same_lit-true, same_lit-refl, negated-negated, member-has, has-member}
 use Rattle.kp_base.proofs.Ascending.{code_of-injective}
 use Rattle.kp_base.specs.declared.ground.Ground.{Ground}
-use Rattle.kp_relevance.specs.Relevant.{IsRelevant, is_pair, ArePairsOf, leads, joins, IsChained}
+use Rattle.kp_base.specs.Relevance.{IsRelevant, leads, joins, IsChained}
+use Rattle.kp_relevance.specs.Relevant.{is_pair, ArePairsOf}
 use Rattle.kp_relevance.specs.Tabled.{marked, AddsMarks, Linked, Closes, lit_of, at_both, at_pair, marks_of, marks_of_all, is_marked, literals_of, pairs_of}
 use Rattle.kp_relevance.proofs.Chains.{joins_by, joins_relevant, to_chain}
 

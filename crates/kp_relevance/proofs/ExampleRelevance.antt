@@ -11,8 +11,8 @@ use Rattle.kp_base.specs.Entailed.{HasOneValue}
 use Rattle.kp_base.specs.Implicates.{IsOfItsAtoms, formula_of}
 use Rattle.kp_base.proofs.Lists.{any_member}
 use Rattle.kp_base.proofs.Lits.{same_lit-true, same_lit-refl}
-use Rattle.kp_relevance.specs.Relevant.{IsRelevant, is_pair, ArePairsOf}
-use Rattle.kp_relevance.specs.Candidates.{either_value, IsCandidate, IsClauseFor}
+use Rattle.kp_base.specs.Relevance.{IsRelevant, either_value, IsCandidate, IsClauseFor}
+use Rattle.kp_relevance.specs.Relevant.{is_pair, ArePairsOf}
 use Rattle.kp_relevance.specs.Laws.{KeepsTheRules}
 use Rattle.kp_relevance.proofs.Chains.{within_rules}
 

@@ -4,7 +4,7 @@ use Rattle.std.specs.List.{list_any, list_all, range_with_len}
 use Rattle.kp_base.specs.declared.lit.Lit.{Lit}
 use Rattle.kp_base.specs.Lit.{has}
 use Rattle.kp_relevance.specs.Relevant.{is_pair}
-use Rattle.kp_relevance.specs.Candidates.{either_value}
+use Rattle.kp_base.specs.Relevance.{either_value}
 
 -- each literal of the clause is the first of a pair with the target
 abbrev pub are_paired : List (Lit × Lit) → Lit → List Lit → Bool

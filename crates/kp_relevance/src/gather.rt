@@ -7,7 +7,7 @@ ghost use Rattle.kp_base.specs.Lit.{has};
 ghost use Rattle.kp_base.specs.LitSet.{with_lit, lits_cmp};
 ghost use Rattle.kp_base.specs.Entailed.{IsClosure};
 ghost use Rattle.kp_primes.specs.Held.{formula};
-ghost use Rattle.kp_relevance.specs.Candidates.{either_value};
+ghost use Rattle.kp_base.specs.Relevance.{either_value};
 ghost use Rattle.kp_relevance.specs.Gathered.{are_paired, is_wanted, is_unsettled, unsettled_below};
 
 use crate::Relevance;

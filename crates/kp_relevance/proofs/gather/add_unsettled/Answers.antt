@@ -2,7 +2,7 @@ use Rattle.std.proofs.Common.{◌∙◌, ◌++◌, ◌∷◌, [], Bool, List, fi
 use Rattle.std.proofs.lemmas.List.{append_assoc}
 use Rattle.std.proofs.lemmas.List.FromFn.{filter_of_map_range_with_len_more}
 use Rattle.kp_base.specs.declared.lit.Lit.{Lit}
-use Rattle.kp_relevance.specs.Candidates.{either_value}
+use Rattle.kp_base.specs.Relevance.{either_value}
 use Rattle.kp_relevance.specs.Gathered.{is_unsettled, unsettled_below}
 use Rattle.kp_relevance.proofs.gather.add_unsettled.Goals as goal
 

@@ -1,0 +1,4 @@
+pub mod Counting
+pub mod InOrder
+pub mod Searching
+pub mod Sublists

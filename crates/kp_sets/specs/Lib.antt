@@ -1,0 +1,5 @@
+pub mod Counted
+pub mod Laws
+pub mod Searched
+pub mod Sizes
+pub mod Subsets
