@@ -16,7 +16,7 @@ use Rattle.kp_first.specs.declared.truth.Truth.{Truth}
 use Rattle.kp_first.specs.declared.truth.Truth.TheVariants.{Yes, No}
 use Rattle.kp_first.specs.Truths.{IsTruth, opposite, both, either, truth_in}
 use Rattle.kp_first.proofs.Truths.{opposite_is, both_is, either_is, all_is, truth_in_is}
-use Rattle.kp_check.specs.Values.{value_of, value_at, truth_at, all_true, with_value, start, with_delete, with_add, stepped}
+use Rattle.kp_check.specs.Values.{value_of, value_at, truth_at, all_true, with_value, start, firing, deleted, added, stepped}
 
 -- ---- lists of values
 
@@ -95,8 +95,8 @@ module _ (n : ℕ) (known : List Lit) where
   -- ---- effects
 
   module _ (old : List Truth) (s : State) (fit : Fits old s) where
-    with_delete_fits : (vs : List Truth) (t : State) → Fits vs t → (e : Effect) → effect_below n e ≡ true → Fits (with_delete old vs e) (λ q. t q && not (same_lit e.result (negative q) && list_all (holds s) e.cond))
-    with_delete_fits vs t f e below = go e.result.positive
+    deleted_fits : (vs : List Truth) (t : State) → Fits vs t → (e : Effect) → effect_below n e ≡ true → Fits (deleted vs (firing old e)) (λ q. t q && not (same_lit e.result (negative q) && list_all (holds s) e.cond))
+    deleted_fits vs t f e below = go e.result.positive
       where
         p : ℕ
         p = e.result.atom.0
@@ -118,8 +118,8 @@ module _ (n : ℕ) (known : List Lit) where
             (both_is n known (t p) (not c) (value_at vs p) (opposite (all_true old e.cond)) (f.each p lt) (opposite_is n known c (all_true old e.cond) (all_true_is old s fit e.cond parts.1))))
             (λ q ne. subst (λ x. t q ≡ (t q && not ((x && true) && c))) (sym (ne_eqb p q (λ e. ne (sym e)))) (sym (and_true (t q))))
 
-    with_add_fits : (vs : List Truth) (t : State) → Fits vs t → (e : Effect) → effect_below n e ≡ true → Fits (with_add old vs e) (λ q. t q || (same_lit e.result (positive q) && list_all (holds s) e.cond))
-    with_add_fits vs t f e below = go e.result.positive
+    added_fits : (vs : List Truth) (t : State) → Fits vs t → (e : Effect) → effect_below n e ≡ true → Fits (added vs (firing old e)) (λ q. t q || (same_lit e.result (positive q) && list_all (holds s) e.cond))
+    added_fits vs t f e below = go e.result.positive
       where
         p : ℕ
         p = e.result.atom.0
@@ -141,30 +141,30 @@ module _ (n : ℕ) (known : List Lit) where
             (either_is n known (t p) c (value_at vs p) (all_true old e.cond) (f.each p lt) (all_true_is old s fit e.cond parts.1)))
             (λ q ne. subst (λ x. t q ≡ (t q || ((x && true) && c))) (sym (ne_eqb p q (λ e. ne (sym e)))) (sym (or_false (t q))))
 
-    deletes_fit : (es : List Effect) → list_all (effect_below n) es ≡ true → (vs : List Truth) (t : State) → Fits vs t → Fits (fold (with_delete old) vs es) (λ q. t q && not (fires es (holds s) (negative q)))
+    deletes_fit : (es : List Effect) → list_all (effect_below n) es ≡ true → (vs : List Truth) (t : State) → Fits vs t → Fits (fold deleted vs (map (firing old) es)) (λ q. t q && not (fires es (holds s) (negative q)))
     deletes_fit [] below vs t f = fits_alike vs t (λ q. t q && true) (λ q. sym (and_true (t q))) f
     deletes_fit (e ∷ es) below vs t f =
         let parts = and_parts (effect_below n e) (list_all (effect_below n) es) below in
-        fits_alike (fold (with_delete old) (with_delete old vs e) es)
+        fits_alike (fold deleted (deleted vs (firing old e)) (map (firing old) es))
         (λ q. (t q && not (same_lit e.result (negative q) && list_all (holds s) e.cond)) && not (fires es (holds s) (negative q)))
         (λ q. t q && not ((same_lit e.result (negative q) && list_all (holds s) e.cond) || fires es (holds s) (negative q)))
         (λ q. joined (t q) (same_lit e.result (negative q) && list_all (holds s) e.cond) (fires es (holds s) (negative q)))
-        (deletes_fit es parts.1 (with_delete old vs e) (λ q. t q && not (same_lit e.result (negative q) && list_all (holds s) e.cond)) (with_delete_fits vs t f e parts.0))
+        (deletes_fit es parts.1 (deleted vs (firing old e)) (λ q. t q && not (same_lit e.result (negative q) && list_all (holds s) e.cond)) (deleted_fits vs t f e parts.0))
       where
         joined : (a x y : Bool) → ((a && not x) && not y) ≡ (a && not (x || y))
         joined true true y = refl
         joined true false y = refl
         joined false x y = refl
 
-    adds_fit : (es : List Effect) → list_all (effect_below n) es ≡ true → (vs : List Truth) (t : State) → Fits vs t → Fits (fold (with_add old) vs es) (λ q. t q || fires es (holds s) (positive q))
+    adds_fit : (es : List Effect) → list_all (effect_below n) es ≡ true → (vs : List Truth) (t : State) → Fits vs t → Fits (fold added vs (map (firing old) es)) (λ q. t q || fires es (holds s) (positive q))
     adds_fit [] below vs t f = fits_alike vs t (λ q. t q || false) (λ q. sym (or_false (t q))) f
     adds_fit (e ∷ es) below vs t f =
         let parts = and_parts (effect_below n e) (list_all (effect_below n) es) below in
-        fits_alike (fold (with_add old) (with_add old vs e) es)
+        fits_alike (fold added (added vs (firing old e)) (map (firing old) es))
         (λ q. (t q || (same_lit e.result (positive q) && list_all (holds s) e.cond)) || fires es (holds s) (positive q))
         (λ q. t q || ((same_lit e.result (positive q) && list_all (holds s) e.cond) || fires es (holds s) (positive q)))
         (λ q. joined (t q) (same_lit e.result (positive q) && list_all (holds s) e.cond) (fires es (holds s) (positive q)))
-        (adds_fit es parts.1 (with_add old vs e) (λ q. t q || (same_lit e.result (positive q) && list_all (holds s) e.cond)) (with_add_fits vs t f e parts.0))
+        (adds_fit es parts.1 (added vs (firing old e)) (λ q. t q || (same_lit e.result (positive q) && list_all (holds s) e.cond)) (added_fits vs t f e parts.0))
       where
         joined : (a x y : Bool) → ((a || x) || y) ≡ (a || (x || y))
         joined true x y = refl
@@ -177,7 +177,7 @@ module _ (n : ℕ) (known : List Lit) where
         (λ q. (s q && not (fires a.effects (holds s) (negative q))) || fires a.effects (holds s) (positive q))
         (after a s)
         (λ q. turned (s q && not (fires a.effects (holds s) (negative q))) (fires a.effects (holds s) (positive q)))
-        (adds_fit a.effects below (fold (with_delete old) old a.effects) (λ q. s q && not (fires a.effects (holds s) (negative q))) (deletes_fit a.effects below old s fit))
+        (adds_fit a.effects below (fold deleted old (map (firing old) a.effects)) (λ q. s q && not (fires a.effects (holds s) (negative q))) (deletes_fit a.effects below old s fit))
       where
         turned : (x y : Bool) → (x || y) ≡ (y || x)
         turned true true = refl

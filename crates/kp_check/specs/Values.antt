@@ -9,6 +9,7 @@ use Rattle.kp_base.specs.Lit.{positive}
 use Rattle.kp_first.specs.declared.truth.Truth.{Truth}
 use Rattle.kp_first.specs.declared.truth.Truth.TheVariants.{Yes, No, Open}
 use Rattle.kp_first.specs.Truths.{opposite, both, either, truth_in}
+use Rattle.kp_check.specs.declared.steps.Firing.{Firing}
 
 abbrev pub value_of : Option Truth → Truth
 value_of None = No
@@ -29,16 +30,22 @@ with_value vs p t = if nat_lt p (length vs) then slice_set vs p t else vs
 abbrev pub start : List Lit → ℕ → List Truth
 start known n = map (λ p. truth_in known (positive p)) (range_with_len 0 n)
 
--- ---- a step: deletes first, and then adds
+-- ---- a step: deletes first, and then adds, each as far as it fires in the values before
 
-abbrev pub with_delete : List Truth → List Truth → Effect → List Truth
-with_delete old vs e = if e.result.positive then vs else with_value vs e.result.atom.0 (both (value_at vs e.result.atom.0) (opposite (all_true old e.cond)))
+abbrev pub firing : List Truth → Effect → Firing
+firing vs e = record { result = e.result; fires = all_true vs e.cond }
 
-abbrev pub with_add : List Truth → List Truth → Effect → List Truth
-with_add old vs e = if e.result.positive then with_value vs e.result.atom.0 (either (value_at vs e.result.atom.0) (all_true old e.cond)) else vs
+abbrev pub deleted : List Truth → Firing → List Truth
+deleted vs f = if f.result.positive then vs else with_value vs f.result.atom.0 (both (value_at vs f.result.atom.0) (opposite f.fires))
+
+abbrev pub added : List Truth → Firing → List Truth
+added vs f = if f.result.positive then with_value vs f.result.atom.0 (either (value_at vs f.result.atom.0) f.fires) else vs
+
+abbrev pub with_firings : List Truth → List Firing → List Truth
+with_firings vs fs = fold added (fold deleted vs fs) fs
 
 abbrev pub stepped : List Truth → List Effect → List Truth
-stepped vs es = fold (with_add vs) (fold (with_delete vs) vs es) es
+stepped vs es = with_firings vs (map (firing vs) es)
 
 -- ---- a run
 

@@ -1,11 +1,10 @@
 ghost use Rattle.std.specs.Prelude.{◌≡◌, ◌<◌, length, slice_get, IfOk};
 ghost use Rattle.kp_base.specs.LitSet.{IsAscending};
 ghost use Rattle.kp_first.specs.Ordered.{state_of};
-ghost use Rattle.kp_check.specs.Values.{next_values};
 ghost use Rattle.kp_check.specs.Failing.{pre_of};
 ghost use Rattle.kp_check.specs.FailingValues.{decided, first_no, failure_in, state_values, AscendsAt};
 
-use crate::steps::step;
+use crate::steps::Walk;
 use crate::values::truth_at;
 use kp_base::{AtomId, Ground, Lit, Memory};
 use kp_first::Truth;
@@ -67,24 +66,6 @@ pub fn pre(ground: &Ground, number: u32) -> &[Lit]
     }
 }
 
-// The values after a step.
-pub fn next_values(
-    alloc: Global,
-    ground: &Ground,
-    number: u32,
-    values: Vec<Truth>,
-) -> Result<Vec<Truth>, Memory>
-    ensures { IfOk result (λ new. new.items ≡ next_values (slice_get ground.now.actions number) values.items) }
-{
-    match ground.actions.slice().get(number as usize) {
-        Some(action) => {
-            let new = step(alloc, &values, action)?;
-            Ok(new)
-        }
-        None => Ok(values),
-    }
-}
-
 /// Where the steps fail, from a state in which the atoms have these values.
 pub fn failure_in(
     alloc: Global,
@@ -96,19 +77,19 @@ pub fn failure_in(
     ensures place { IfOk result (λ at. at ≡ failure_in ground.now from.items steps.now 0) }
     ensures ascending { IfOk result (AscendsAt ground.now steps.now) }
 {
-    let mut values = from;
+    let mut walk = Walk::from(alloc, from);
     let mut count = 0u32;
     for number in steps {
-        if let Some(literal) = first_no(&values, pre(ground, *number)) {
+        if let Some(literal) = first_no(&walk.values, pre(ground, *number)) {
             return Ok(Some(At {
                 step: count,
                 literal,
             }));
         }
-        values = next_values(alloc, ground, *number, values)?;
+        walk.step(ground, *number)?;
         count += 1;
     }
-    match first_no(&values, ground.goal.slice()) {
+    match first_no(&walk.values, ground.goal.slice()) {
         Some(literal) => Ok(Some(At {
             step: count,
             literal,

@@ -2,7 +2,8 @@ ghost use Rattle.std.specs.Prelude.{◌≡◌, ◌<◌, length, fold, [], OnOk, 
 ghost use Rattle.kp_check.specs.Marks.{with_open, open_marks, later_values};
 ghost use Rattle.kp_check.specs.Values.{truth_at};
 
-use crate::failing::{At, next_values, pre};
+use crate::failing::{At, pre};
+use crate::steps::Walk;
 use crate::values::truth_at;
 use kp_base::{Ground, Lit, Memory};
 use kp_first::Truth;
@@ -50,38 +51,38 @@ pub fn open_marks(
     requires { length steps.now < 2147483648 }
     ensures { IfOk result (λ marks. marks.items ≡ open_marks ground.now from.items steps.now 0 []) }
 {
-    let mut values = from;
+    let mut walk = Walk::from(alloc, from);
     let mut marks = Vec::new(alloc);
     let mut count = 0u32;
     for number in steps {
-        add_all_open(&mut marks, &values, count, pre(ground, *number))?;
-        values = next_values(alloc, ground, *number, values)?;
+        add_all_open(&mut marks, &walk.values, count, pre(ground, *number))?;
+        walk.step(ground, *number)?;
         count += 1;
     }
-    add_all_open(&mut marks, &values, count, ground.goal.slice())?;
+    add_all_open(&mut marks, &walk.values, count, ground.goal.slice())?;
     Ok(marks)
 }
 
-// The values after some of the steps.
-fn later_values(
+// The walk over the first steps.
+fn walk_to(
     alloc: Global,
     ground: &Ground,
     steps: &[u32],
     count: u32,
     from: Vec<Truth>,
-) -> Result<Vec<Truth>, Memory>
-    ensures { IfOk result (λ values. values.items ≡ later_values ground.now from.items steps.now count) }
+) -> Result<Walk, Memory>
+    ensures { IfOk result (λ walk. walk.values.items ≡ later_values ground.now from.items steps.now count) }
 {
-    let mut values = from;
+    let mut walk = Walk::from(alloc, from);
     let mut left = count;
     for number in steps {
         if left == 0 {
-            return Ok(values);
+            return Ok(walk);
         }
-        values = next_values(alloc, ground, *number, values)?;
+        walk.step(ground, *number)?;
         left -= 1;
     }
-    Ok(values)
+    Ok(walk)
 }
 
 /// Whether the literal is true in its turn.
@@ -94,6 +95,6 @@ pub fn truth_later(
 ) -> Result<Truth, Memory>
     ensures { IfOk result (λ t. t ≡ truth_at (later_values ground.now from.items steps.now mark.step) mark.literal) }
 {
-    let values = later_values(alloc, ground, steps, mark.step, from)?;
-    Ok(truth_at(&values, mark.literal))
+    let walk = walk_to(alloc, ground, steps, mark.step, from)?;
+    Ok(truth_at(&walk.values, mark.literal))
 }

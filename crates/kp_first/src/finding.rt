@@ -90,6 +90,9 @@ pub fn find_any<T: Question>(
     requires below { are_below primes.now.atoms tag.now ≡ true }
     ensures { IfOk result (AnswersFind primes.now.atoms (formula primes.now) (passes_one (T.tests question.now)) tag.now) }
 {
+    if !primes.consistent(tag) {
+        return Ok(None);
+    }
     let count = question.count();
     for number in 0..count {
         match find(alloc, primes, question, number, tag.copy(alloc)?)? {
