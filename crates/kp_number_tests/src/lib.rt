@@ -1,4 +1,4 @@
-//! Tests of what stands on numbers: literals, rows, bits, clauses, prime implicates, exclusive pairs and valid tags.
+//! Tests of what stands on numbers: literals, rows, bits, clauses, prime implicates, exclusive pairs, valid tags and tags of clauses.
 #![tactic(auto)]
 
 #[cfg(test)]
@@ -9,6 +9,8 @@ mod bits;
 mod clash;
 #[cfg(test)]
 mod clauses;
+#[cfg(test)]
+mod cov;
 #[cfg(test)]
 mod cover;
 #[cfg(test)]
