@@ -49,7 +49,7 @@ module _ (i j : Initial) (same : HaveSameModels i j) where
   all_acceptable : (ms : List FileMerge) → AreAllAcceptable i ms → AreAllAcceptable j ms
   all_acceptable ms h = record { each = λ m at. acceptable m.tags (h.each m at) }
 
-  table_of : (atoms : ℕ) (ms : List FileMerge) (table : TagTable) → IsTableOf atoms i ms table → IsTableOf atoms j ms table
+  pub table_of : (atoms : ℕ) (ms : List FileMerge) (table : TagTable) → IsTableOf atoms i ms table → IsTableOf atoms j ms table
   table_of atoms ms table h = record {
     tags = h.tags;
     closures = λ row m. record { closure = closure_by atoms i j same row.lits row.closure (h.closures row m).closure; ascending = (h.closures row m).ascending };

@@ -9,7 +9,8 @@ use Rattle.kp_base.specs.Lists.{Member, each_once}
 use Rattle.kp_base.specs.Entailed.{IsConsistent, HasModel}
 use Rattle.kp_base.proofs.Lists.{append_member, flat_member, filter_member}
 use Rattle.kp_merges.specs.declared.merge.FileMerge.{FileMerge}
-use Rattle.kp_tags.specs.Tables.{same_tag, used_tags}
+use Rattle.kp_base.specs.LitSet.{same_set}
+use Rattle.kp_tags.specs.Tables.{used_tags}
 use Rattle.kp_tags.specs.Answers.{AreConsistent, AreAcceptable, AreAllAcceptable, AnswersMerges, RefusesTable, AnswersTable}
 use Rattle.kp_tags.proofs.Places.{take_next}
 
@@ -45,7 +46,7 @@ pub used_consistent : (i : Initial) (ms : List FileMerge) → HasModel i → Are
 used_consistent i ms model fine = record { each = each }
   where
     each : (t : List Lit) → Member (used_tags ms) t → IsConsistent i t
-    each t m = elim (member_once same_tag ([] ∷ flat_map (λ m. m.tags) ms) t m) [
+    each t m = elim (member_once same_set ([] ∷ flat_map (λ m. m.tags) ms) t m) [
       | inl e ↦ subst (IsConsistent i) e model
       | inr r ↦ let h = flat_member (λ (x : FileMerge). x.tags) ms t r in (fine.each h.0 h.1).consistent.each t h.2
     ]

@@ -1,28 +1,18 @@
 -- Tags as a set keeps them.
 use Rattle.std.proofs.Common.{◌≡◌, Bool, true, false, if◌then◌else◌, List, [], ◌∷◌, ◌++◌, fold, map, refl, sym, ap, subst, ◌∙◌, inl, inr}
 use Rattle.std.specs.List.{list_any, flat_map}
-use Rattle.std.specs.Cmp.{IsEquivalence}
-use Rattle.std.specs.Cmp.Lexicographic.{pointwise_decides, lists_equiv}
 use Rattle.kp_base.specs.declared.lit.Lit.{Lit}
 use Rattle.kp_base.specs.Lists.{Member}
 use Rattle.kp_base.specs.Lit.{same_lit}
-use Rattle.kp_base.specs.LitSet.{IsAscending, set_of}
+use Rattle.kp_base.specs.LitSet.{IsAscending, set_of, same_set}
 use Rattle.kp_base.proofs.Lists.{append_member, gathered}
-use Rattle.kp_base.proofs.Lits.{same_lit-true, same_lit-refl, same_lits, contains_has, has_contains}
+use Rattle.kp_base.proofs.Lits.{contains_has, has_contains}
 use Rattle.kp_base.proofs.Ascending.{same_members}
-use Rattle.kp_base.proofs.Sets.{any-set_of, set_ascends}
+use Rattle.kp_base.proofs.Sets.{same_sets, same_set-true, any-set_of, set_ascends}
 use Rattle.kp_base.proofs.Once.{once_by_one}
 use Rattle.kp_merges.specs.declared.merge.FileMerge.{FileMerge}
-use Rattle.kp_tags.specs.Tables.{same_tag, used_tags}
+use Rattle.kp_tags.specs.Tables.{used_tags}
 use Rattle.kp_tags.specs.Kept.{AreSets, with_tag}
-
--- ---- the test whether two tags are one
-
-pub same_tags : IsEquivalence same_tag
-same_tags = lists_equiv same_lits
-
-pub same_tag-true : (a b : List Lit) → same_tag a b ≡ true → a ≡ b
-same_tag-true a b = (pointwise_decides (λ (x y : Lit). (same_lit-true x y, λ (e : x ≡ y). subst (λ z. same_lit x z ≡ true) e (same_lit-refl x))) a b).0
 
 -- ---- sets
 
@@ -30,7 +20,7 @@ pub no_sets : AreSets []
 no_sets = record { each = λ t m. absurd m }
 
 pub sets_with : (tags : List (List Lit)) (t : List Lit) → AreSets tags → IsAscending t → AreSets (with_tag tags t)
-sets_with tags t sets s = by (list_any (same_tag t) tags)
+sets_with tags t sets s = by (list_any (same_set t) tags)
   where
     at_end : (u : List Lit) → Member (tags ++ t ∷ []) u → IsAscending u
     at_end u m = elim (append_member tags (t ∷ []) u m) [
@@ -44,10 +34,10 @@ sets_with tags t sets s = by (list_any (same_tag t) tags)
 
 -- ---- the keys of a set
 
-module _ {K : Type 0} (seen : K → List Lit) (ks ls : List K) (k : K) (t : List Lit) (is : seen k ≡ t) (grown : ls ≡ (if list_any (λ x. same_tag (seen k) (seen x)) ks then ks else ks ++ k ∷ [])) where
+module _ {K : Type 0} (seen : K → List Lit) (ks ls : List K) (k : K) (t : List Lit) (is : seen k ≡ t) (grown : ls ≡ (if list_any (λ x. same_set (seen k) (seen x)) ks then ks else ks ++ k ∷ [])) where
   -- with a key more, where it is new, they are the tags with its tag
   pub key_added : map seen ls ≡ with_tag (map seen ks) t
-  key_added = ap (map seen) grown ∙ (gathered same_tag seen ks k ∙ ap (with_tag (map seen ks)) is)
+  key_added = ap (map seen) grown ∙ (gathered same_set seen ks k ∙ ap (with_tag (map seen ks)) is)
 
   pub sets_added : AreSets (map seen ks) → IsAscending t → AreSets (map seen ls)
   sets_added sets s = subst AreSets (sym key_added) (sets_with (map seen ks) t sets s)
@@ -72,4 +62,4 @@ next_merge m ms tags = folded m.tags (flat_map (λ m. m.tags) ms) tags
 
 -- one by one they are those that are used
 pub all_used : (ms : List FileMerge) → fold with_tag (with_tag [] []) (flat_map (λ m. m.tags) ms) ≡ used_tags ms
-all_used ms = once_by_one same_tag same_tags ([] ∷ flat_map (λ m. m.tags) ms)
+all_used ms = once_by_one same_set same_sets ([] ∷ flat_map (λ m. m.tags) ms)

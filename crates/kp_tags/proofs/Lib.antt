@@ -7,3 +7,5 @@ pub mod Unique
 pub mod Right
 pub mod ExampleCells
 pub mod ByModels
+pub mod ModesByModels
+pub mod Made

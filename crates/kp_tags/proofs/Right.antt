@@ -14,48 +14,49 @@ use Rattle.kp_base.specs.Entailed.{tag_holds, IsValid, AreValid}
 use Rattle.kp_base.proofs.Lists.{any_from, any_map, any_weaker, map_member, member_flat_map}
 use Rattle.kp_base.proofs.Once.{any-each_once}
 use Rattle.kp_merges.specs.declared.merge.FileMerge.{FileMerge}
-use Rattle.kp_tags.specs.Tables.{same_tag, used_tags, number_in, numbered, IsTableOf}
+use Rattle.kp_base.specs.LitSet.{same_set}
+use Rattle.kp_tags.specs.Tables.{used_tags, number_in, numbered, IsTableOf}
 use Rattle.kp_tags.specs.Answers.{AreAllAcceptable}
 use Rattle.kp_tags.specs.Laws.{AcceptedTablesAreRight}
-use Rattle.kp_tags.proofs.Gathered.{same_tags, same_tag-true}
+use Rattle.kp_base.proofs.Sets.{same_sets, same_set-true}
 
 -- ---- tags by their numbers
 
 -- a tag that is used stands at its number
-at_number : (rows : List TagRow) (t : List Lit) → list_any (same_tag t) (map (λ row. row.lits) rows) ≡ true → (row : TagRow) × (slice_get rows (number_in (map (λ r. r.lits) rows) t) ≡ Some row) × (row.lits ≡ t)
+at_number : (rows : List TagRow) (t : List Lit) → list_any (same_set t) (map (λ row. row.lits) rows) ≡ true → (row : TagRow) × (slice_get rows (number_in (map (λ r. r.lits) rows) t) ≡ Some row) × (row.lits ≡ t)
 at_number [] t h = absurd (false≢true h)
-at_number (r ∷ rows) t h = by (at_number rows t) (same_tag t r.lits) refl h
+at_number (r ∷ rows) t h = by (at_number rows t) (same_set t r.lits) refl h
   where
-    by : (list_any (same_tag t) (map (λ row. row.lits) rows) ≡ true → (row : TagRow) × (slice_get rows (number_in (map (λ r. r.lits) rows) t) ≡ Some row) × (row.lits ≡ t))
-        → (b : Bool) → same_tag t r.lits ≡ b → (b || list_any (same_tag t) (map (λ row. row.lits) rows)) ≡ true
+    by : (list_any (same_set t) (map (λ row. row.lits) rows) ≡ true → (row : TagRow) × (slice_get rows (number_in (map (λ r. r.lits) rows) t) ≡ Some row) × (row.lits ≡ t))
+        → (b : Bool) → same_set t r.lits ≡ b → (b || list_any (same_set t) (map (λ row. row.lits) rows)) ≡ true
         → (row : TagRow) × (slice_get (r ∷ rows) (cond (not b) (1 + number_in (map (λ r. r.lits) rows) t) 0) ≡ Some row) × (row.lits ≡ t)
-    by rest true is g = (r, refl, sym (same_tag-true t r.lits is))
+    by rest true is g = (r, refl, sym (same_set-true t r.lits is))
     by rest false is g =
         let h = rest g in
         let e : suc (number_in (map (λ r. r.lits) rows) t) ≡ 1 + number_in (map (λ r. r.lits) rows) t = omega arith in
         (h.0, subst (λ n. slice_get (r ∷ rows) n ≡ Some h.0) e h.1, h.2)
 
 -- and the number is below how many there are
-number_below : (tags : List (List Lit)) (t : List Lit) → list_any (same_tag t) tags ≡ true → number_in tags t < length tags
+number_below : (tags : List (List Lit)) (t : List Lit) → list_any (same_set t) tags ≡ true → number_in tags t < length tags
 number_below [] t h = absurd (false≢true h)
-number_below (x ∷ tags) t h = by (number_below tags t) (same_tag t x) h
+number_below (x ∷ tags) t h = by (number_below tags t) (same_set t x) h
   where
-    by : (list_any (same_tag t) tags ≡ true → number_in tags t < length tags) → (b : Bool) → (b || list_any (same_tag t) tags) ≡ true → cond (not b) (1 + number_in tags t) 0 < length (x ∷ tags)
+    by : (list_any (same_set t) tags ≡ true → number_in tags t < length tags) → (b : Bool) → (b || list_any (same_set t) tags) ≡ true → cond (not b) (1 + number_in tags t) 0 < length (x ∷ tags)
     by rest true g = omega arith
     by rest false g = let below = rest g in omega arith
 
 -- the tags of merges are used
-is_used : (ms : List FileMerge) (m : FileMerge) (t : List Lit) → Member ms m → Member m.tags t → list_any (same_tag t) (used_tags ms) ≡ true
+is_used : (ms : List FileMerge) (m : FileMerge) (t : List Lit) → Member ms m → Member m.tags t → list_any (same_set t) (used_tags ms) ≡ true
 is_used ms m t in-ms in-m =
-    any-each_once same_tag (same_tag t) (λ x y h. same_tags.symm t x ∙ (same_tags.congr x y t h ∙ same_tags.symm y t)) ([] ∷ flat_map (λ m. m.tags) ms)
-    ∙ any_from (same_tag t) ([] ∷ flat_map (λ m. m.tags) ms) t (inr (member_flat_map (λ (m : FileMerge). m.tags) ms m t in-ms in-m)) (same_tags.refl t)
+    any-each_once same_set (same_set t) (λ x y h. same_sets.symm t x ∙ (same_sets.congr x y t h ∙ same_sets.symm y t)) ([] ∷ flat_map (λ m. m.tags) ms)
+    ∙ any_from (same_set t) ([] ∷ flat_map (λ m. m.tags) ms) t (inr (member_flat_map (λ (m : FileMerge). m.tags) ms m t in-ms in-m)) (same_sets.refl t)
 
 module _ (atoms : ℕ) (i : Initial) (ms : List FileMerge) (table : TagTable) (is : IsTableOf atoms i ms table) where
   -- so they stand in the table at their numbers
   stands : (m : FileMerge) (t : List Lit) → Member ms m → Member m.tags t → (row : TagRow) × (slice_get table.tags (number_in (used_tags ms) t) ≡ Some row) × (row.lits ≡ t)
   stands m t in-ms in-m =
       subst (λ (tags : List (List Lit)). (row : TagRow) × (slice_get table.tags (number_in tags t) ≡ Some row) × (row.lits ≡ t)) is.tags
-      (at_number table.tags t (subst (λ (tags : List (List Lit)). list_any (same_tag t) tags ≡ true) (sym is.tags) (is_used ms m t in-ms in-m)))
+      (at_number table.tags t (subst (λ (tags : List (List Lit)). list_any (same_set t) tags ≡ true) (sym is.tags) (is_used ms m t in-ms in-m)))
 
   -- tag 0 is the empty one
   empty_first : (row : TagRow) × (slice_get table.tags 0 ≡ Some row) × (row.lits ≡ [])

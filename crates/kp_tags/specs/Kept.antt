@@ -5,8 +5,8 @@ use Rattle.kp_base.specs.declared.lit.Lit.{Lit}
 use Rattle.kp_base.specs.declared.ground.Initial.{Initial}
 use Rattle.kp_base.specs.declared.ground.TagRow.{TagRow}
 use Rattle.kp_base.specs.Lists.{Member}
-use Rattle.kp_base.specs.LitSet.{IsAscending}
-use Rattle.kp_tags.specs.Tables.{same_tag, HasClosure}
+use Rattle.kp_base.specs.LitSet.{IsAscending, same_set}
+use Rattle.kp_tags.specs.Tables.{HasClosure}
 
 -- each is an ascending list
 pub record AreSets (tags : List (List Lit)) : Type 0 where
@@ -14,7 +14,7 @@ pub record AreSets (tags : List (List Lit)) : Type 0 where
 
 -- the tags with one more, where it is new
 abbrev pub with_tag : List (List Lit) → List Lit → List (List Lit)
-with_tag tags t = if list_any (same_tag t) tags then tags else tags ++ t ∷ []
+with_tag tags t = if list_any (same_set t) tags then tags else tags ++ t ∷ []
 
 -- the tag with its closure
 pub record IsRowOf (atoms : ℕ) (i : Initial) (tag : List Lit) (row : TagRow) : Type 0 where

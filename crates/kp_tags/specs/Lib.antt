@@ -1,4 +1,5 @@
 pub mod Tables
 pub mod Answers
 pub mod Laws
+pub mod Made
 pub mod Kept

@@ -1,15 +1,13 @@
 -- The table of the merges of a file.
 use Rattle.std.specs.Prelude.{◌≡◌, ℕ, Bool, List, [], ◌∷◌, map}
 use Rattle.std.specs.List.{list_all, flat_map, position_or_len}
-use Rattle.std.specs.Cmp.Lexicographic.{pointwise}
 use Rattle.kp_base.specs.declared.lit.Lit.{Lit}
 use Rattle.kp_base.specs.declared.ground.Initial.{Initial}
 use Rattle.kp_base.specs.declared.ground.TagRow.{TagRow}
 use Rattle.kp_base.specs.declared.ground.TagTable.{TagTable}
 use Rattle.kp_base.specs.declared.ground.Merge.{Merge}
 use Rattle.kp_base.specs.Lists.{Member, each_once}
-use Rattle.kp_base.specs.Lit.{same_lit}
-use Rattle.kp_base.specs.LitSet.{IsAscending}
+use Rattle.kp_base.specs.LitSet.{IsAscending, same_set}
 use Rattle.kp_base.specs.Implicates.{are_below}
 use Rattle.kp_base.specs.Entailed.{IsClosure}
 use Rattle.kp_merges.specs.declared.merge.FileMerge.{FileMerge}
@@ -20,17 +18,13 @@ has_tags_of_atoms n m = list_all (are_below n) m.tags
 
 -- ---- tags
 
--- the same tag; tags are sets, and sets are ascending lists
-abbrev pub same_tag : List Lit → List Lit → Bool
-same_tag = pointwise same_lit
-
 -- the tags of merges in the order of their first use, behind the empty one, each once
 abbrev pub used_tags : List FileMerge → List (List Lit)
-used_tags ms = each_once same_tag ([] ∷ flat_map (λ m. m.tags) ms)
+used_tags ms = each_once same_set ([] ∷ flat_map (λ m. m.tags) ms)
 
 -- a tag's number: its position
 abbrev pub number_in : List (List Lit) → List Lit → ℕ
-number_in tags t = position_or_len (same_tag t) tags
+number_in tags t = position_or_len (same_set t) tags
 
 -- ---- tables
 

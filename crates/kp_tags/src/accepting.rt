@@ -32,8 +32,8 @@ fn table(
     })
 }
 
-// The table of merges without a fault, unless their tags pass the limit.
-fn table_within(
+/// The table of merges without a fault, unless their tags pass the limit.
+pub(crate) fn table_within(
     alloc: Global,
     primes: &Primes,
     merges: &[FileMerge],

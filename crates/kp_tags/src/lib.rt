@@ -1,10 +1,12 @@
-//! Tags and merges of a translation: so far, the table of the merges of a file.
-//! `IsTableOf` in `specs/Tables.antt` says which table is theirs, `AnswersTable` in `specs/Answers.antt` what is answered.
+//! Tags and merges of a translation: the table of the merges of a file, or of a mode.
+//! `IsTableOf` in `specs/Tables.antt` says which table merges have, `AnswersTable` in `specs/Answers.antt` what is answered
+//! on those of a file, `AnswersMade` in `specs/Made.antt` what is answered in a mode.
 #![tactic(auto)]
 
 mod accepting;
 mod judging;
 mod laws;
+mod making;
 mod merge;
 mod numbers;
 mod rows;
@@ -12,5 +14,9 @@ mod tags;
 
 pub use accepting::accept_merges;
 pub use kp_merges::{FileMerge, merges_text, read_merges};
-pub use laws::{accepted_tables_are_right, tables_go_by_models, there_is_one_table};
+pub use laws::{
+    accepted_tables_are_right, coverage_goes_by_models, made_tables_are_right,
+    made_tables_go_by_models, tables_go_by_models, there_is_one_made_table, there_is_one_table,
+};
+pub use making::make;
 pub use merge::tags_are_of_atoms;

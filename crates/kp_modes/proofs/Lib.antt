@@ -1,0 +1,10 @@
+pub mod Behind
+pub mod Below
+pub mod ByModels
+pub mod Gathered
+pub mod Good
+pub mod InTurn
+pub mod Never
+pub mod OneAnswer
+pub mod Picked
+pub mod Searched

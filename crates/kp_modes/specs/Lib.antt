@@ -1,0 +1,5 @@
+pub mod Added
+pub mod Answers
+pub mod Assignments
+pub mod Laws
+pub mod Modes
