@@ -1,5 +1,4 @@
 pub mod Starts
-pub mod Complete
 pub mod Valid
 pub mod Apart
 pub mod Written

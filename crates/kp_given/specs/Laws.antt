@@ -1,8 +1,8 @@
 -- What is proved of the translation of two trees, and of their initial states.
-use Rattle.std.specs.Prelude.{◌≡◌, ◌↔◌, ◌<◌, ℕ, true, List, [], length}
+use Rattle.std.specs.Prelude.{◌≡◌, ◌↔◌, ◌<◌, ℕ, List, [], length}
 use Rattle.kp_base.specs.declared.lit.Lit.{Lit}
 use Rattle.kp_base.specs.LitSet.{IsAscending}
-use Rattle.kp_base.specs.Entailed.{HasModel, IsClosure, HasOneValue}
+use Rattle.kp_base.specs.Entailed.{HasModel, IsClosure}
 use Rattle.kp_grammar.specs.declared.tree.Word.{Word}
 use Rattle.kp_grammar.specs.Trees.{Domain, Problem}
 use Rattle.kp_meaning.specs.Initial.{HasInitialState}
@@ -11,7 +11,6 @@ use Rattle.kp_meaning.specs.Plans.{HasProblem}
 use Rattle.kp_base.specs.Implicates.{IsOfAtoms, IsOfItsAtoms}
 use Rattle.kp_meaning.specs.Numbering.{numbered_problem}
 use Rattle.kp_init.specs.ByName.{HasNamedAtoms}
-use Rattle.kp_translation.specs.Report.{is_complete}
 use Rattle.kp_write.specs.Grounds.{AreOfAtoms, IsWritable}
 use Rattle.kp_given.specs.Translations.{ground_of, initial_of, start_of}
 
@@ -30,10 +29,6 @@ NamesTellGroundAtoms = (d : Domain Word) (p : Problem Word) → HasNoFault d p �
 -- whichever ascending list is a closure of the empty tag, it is what is known at the start
 abbrev pub ClosuresAreStarts : Type 0
 ClosuresAreStarts = (d : Domain Word) (p : Problem Word) (ls : List Lit) → IsClosure (length (ground_of d p).atoms) (initial_of d p) [] ls → IsAscending ls → ls ≡ start_of d p
-
--- where no name is at fault and some state is initial, `complete` is printed exactly where each ground atom has the same value in all models
-abbrev pub CompleteStartsHaveOneValue : Type 0
-CompleteStartsHaveOneValue = (d : Domain Word) (p : Problem Word) → HasNoFault d p → HasInitialState p → (is_complete (length (ground_of d p).atoms) (start_of d p) ≡ true) ↔ ((q : ℕ) → q < length (ground_of d p).atoms → HasOneValue (initial_of d p) q)
 
 -- ---- what is written
 

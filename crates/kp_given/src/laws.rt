@@ -1,7 +1,7 @@
 //! Laws of what is written for two trees, each proved as the contract of a function that does nothing.
 
 ghost use Rattle.kp_given.specs.Tables.{EmptyTagIsTable, EmptyTagsAreLight, TablesCanBeWritten};
-ghost use Rattle.kp_given.specs.Laws.{ClosuresAreStarts, CompleteStartsHaveOneValue, FormulasSpeakOfGroundAtoms, GroundProblemsAreOfTheirAtoms, GroundProblemsAreWritable, InitialStatesAreModels, NamesTellGroundAtoms, StartsAreOfAtoms};
+ghost use Rattle.kp_given.specs.Laws.{ClosuresAreStarts, FormulasSpeakOfGroundAtoms, GroundProblemsAreOfTheirAtoms, GroundProblemsAreWritable, InitialStatesAreModels, NamesTellGroundAtoms, StartsAreOfAtoms};
 
 /// Where no name is at fault, some state is initial exactly where the initial formula has a model.
 #[tactic(auto, using(crate::proofs::Starts::states_are_models))]
@@ -24,12 +24,6 @@ pub fn names_tell_ground_atoms()
 #[tactic(auto, using(crate::proofs::Starts::closures_are_starts))]
 pub fn closures_are_starts()
     ensures { ClosuresAreStarts }
-{}
-
-/// Where some state is initial, it is known of each ground atom at the start whether it holds, exactly where it has the
-/// same value in all models.
-pub fn complete_starts_have_one_value()
-    ensures { CompleteStartsHaveOneValue }
 {}
 
 /// The literals that are known at the start are of ground atoms.

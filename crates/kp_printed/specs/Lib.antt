@@ -2,3 +2,4 @@ pub mod Names
 pub mod Refusals
 pub mod Counterexamples
 pub mod Usage
+pub mod Coverage

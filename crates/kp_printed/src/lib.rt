@@ -1,14 +1,16 @@
-//! What commands print: the usage, names, and each refusal. `specs/Refusals.antt` says the lines of
+//! What commands print: the usage, names, each refusal, and whether a table is complete. `specs/Refusals.antt` says the lines of
 //! each refusal.
 #![tactic(auto)]
 
 mod clash;
+mod coverage;
 mod failing;
 mod help;
 mod lines;
 mod names;
 mod refusals;
 
+pub use coverage::put_coverage;
 pub use failing::counterexample;
 pub use help::usage;
 pub use names::put_name;

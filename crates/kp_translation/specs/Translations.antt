@@ -1,4 +1,4 @@
--- What is written and printed of a ground problem with a table of tags and merges.
+-- What is written of a ground problem with a table of tags and merges, and its counts.
 use Rattle.std.specs.Prelude.{◌≡◌, Result, Ok, Err}
 use Rattle.kp_base.specs.declared.ground.Ground.{Ground}
 use Rattle.kp_base.specs.declared.ground.TagTable.{TagTable}
@@ -8,14 +8,14 @@ use Rattle.kp_write.specs.Named.{domain_of, problem_of}
 use Rattle.kp_task.specs.Task.{task_of}
 use Rattle.kp_ktask.specs.Translated.{FitsLimits, StopsTask}
 use Rattle.kp_translation.specs.declared.translation.Translation.{Translation}
-use Rattle.kp_translation.specs.Report.{report_of}
+use Rattle.kp_translation.specs.Report.{counts_of}
 
--- the two texts of their task, and what is printed
+-- the two texts of their task, and the counts
 abbrev pub translation_with : Ground → TagTable → Translation
 translation_with g table = record {
   domain = domain_of (task_of g table);
   problem = problem_of (task_of g table);
-  report = report_of g table;
+  counts = counts_of g table;
 }
 
 -- these texts, where the task is within the limits, or its refusal; want of memory is free

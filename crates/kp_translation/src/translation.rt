@@ -1,8 +1,8 @@
-ghost use Rattle.std.specs.Prelude.{◌≡◌, ◌<◌, length, IfOk};
+ghost use Rattle.std.specs.Prelude.{◌≡◌, IfOk};
 ghost use Rattle.kp_task.specs.Task.{task_of};
 ghost use Rattle.kp_translation.specs.Translations.{translation_with, AnswersTranslation};
 
-use crate::report::report_text;
+use crate::report::counts_text;
 use kp_base::{Ground, Limits, Memory, Row, Stop, TagTable};
 use kp_classic::Task;
 use kp_ktask::translate;
@@ -16,8 +16,8 @@ pub struct Translation {
     pub domain: Row<u8>,
     /// The bytes of the problem file.
     pub problem: Row<u8>,
-    /// What is printed: the counts, and `complete` where each atom has the same value in all initial states.
-    pub report: Row<u8>,
+    /// How many atoms, actions, tags, merges and facts there are, each on a line of its own.
+    pub counts: Row<u8>,
 }
 
 // The texts of a ground problem with a table, whose task this is.
@@ -27,18 +27,17 @@ fn texts(
     table: &TagTable,
     task: &Task,
 ) -> Result<Translation, Memory>
-    requires some_tag { 0 < length table.now.tags }
-    requires task { task.now ≡ task_of ground.now table.now }
+    requires { task.now ≡ task_of ground.now table.now }
     ensures { IfOk result (λ t. t ≡ translation_with ground.now table.now) }
 {
     Ok(Translation {
         domain: domain_text(alloc, task)?,
         problem: problem_text(alloc, task)?,
-        report: report_text(alloc, ground, table, task.facts.len())?,
+        counts: counts_text(alloc, ground, table, task.facts.len())?,
     })
 }
 
-/// The texts of a ground problem with a table of tags and merges, the first tag of which is the empty one.
+/// The texts of a ground problem with a table of tags and merges.
 /// A task with more facts than the limit, or else with a greater weight, is refused.
 pub fn translation_with(
     alloc: Global,
@@ -46,7 +45,6 @@ pub fn translation_with(
     table: &TagTable,
     limits: &Limits,
 ) -> Result<Translation, Stop>
-    requires { 0 < length table.now.tags }
     ensures { AnswersTranslation ground.now table.now limits.now result }
 {
     let task = translate(alloc, ground, table, limits)?;

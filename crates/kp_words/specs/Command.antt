@@ -2,7 +2,9 @@
 use Rattle.std.specs.Prelude.{◌≡◌, ◌≢◌, ◌≤◌, List, [], ◌∷◌, ◌++◌, ℕ, Option, Some, None, false, nat_eq, map, codes, decimal, Vec, IsUtf8}
 use Rattle.std.specs.List.{starts_with}
 use Rattle.std.specs.declared.alloc.Global.{Global}
-use Rattle.kp_words.specs.Names.{Translate, Strip, Check}
+use Rattle.kp_base.specs.declared.limits.Mode.{Mode}
+use Rattle.kp_base.specs.declared.limits.Mode.TheVariants as modes
+use Rattle.kp_words.specs.Names.{Source, of_mode, of_file, Translate, Merges, Strip, Check}
 use Rattle.kp_words.specs.declared.command.Command.{Command}
 use Rattle.kp_words.specs.declared.command.Command.TheVariants as commands
 
@@ -14,6 +16,45 @@ pub record IsPositional (word : List ℕ) : Type 0 where
   pub no_dash : starts_with nat_eq word (codes "-") ≡ false
   pub utf8 : IsUtf8 word
 
+-- the word of each mode
+abbrev pub mode_word : Mode → List ℕ
+mode_word modes.K0 = codes "k0"
+mode_word modes.K1 = codes "k1"
+mode_word modes.K2 = codes "k2"
+mode_word modes.K3 = codes "k3"
+mode_word modes.Models = codes "models"
+mode_word modes.Auto = codes "auto"
+
+-- words say the mode: there are none, and it is k1; or they are the option and the word of the mode
+pub data SaysMode : List (List ℕ) → Mode → Type 0 where
+  usual_mode : SaysMode [] modes.K1
+  stated_mode : (mode : Mode) → SaysMode (codes "--mode" ∷ mode_word mode ∷ []) mode
+
+-- words say where tags and merges come from: from a mode, or from a file of merges that they name
+abbrev pub SaysSource : List (List ℕ) → Source → Type 0
+SaysSource words (of_mode mode) = SaysMode words mode
+SaysSource words (of_file name) = (words ≡ codes "--merges" ∷ name ∷ []) × IsPositional name
+
+-- a limit of prime implicates may be anything from 1 to 100,000
+pub record IsLimit (n : ℕ) : Type 0 where
+  pub least : 1 ≤ n
+  pub most : n ≤ 100000
+
+-- words say the limit: there are none, and it is the usual one; or they are the option and a number in decimal
+pub data SaysLimit : List (List ℕ) → ℕ → Type 0 where
+  usual_limit : SaysLimit [] 20000
+  stated : (n : ℕ) → IsLimit n → SaysLimit (codes "--implicates" ∷ decimal n ∷ []) n
+
+-- the last words say where tags and merges come from, and then the limit
+pub record SaysOptions (words : List (List ℕ)) (origin : Source) (n : ℕ) : Type 0 where
+  pub first : List (List ℕ)
+  pub last : List (List ℕ)
+  pub words_are : words ≡ first ++ last
+  pub source : SaysSource first origin
+  pub limit : SaysLimit last n
+
+-- ---- commands
+
 -- the first words of `translate` say what is to be done, and name the files
 pub record NamesFiles (words : List (List ℕ)) (c : Translate) : Type 0 where
   pub words_are : words ≡ codes "translate" ∷ c.domain ∷ c.problem ∷ c.domain_out ∷ c.problem_out ∷ []
@@ -23,30 +64,27 @@ pub record NamesFiles (words : List (List ℕ)) (c : Translate) : Type 0 where
   pub problem_out : IsPositional c.problem_out
   pub outputs_differ : c.domain_out ≢ c.problem_out
 
--- two words say where the tags come from: from the mode of the empty tag, or from a file of merges
-abbrev pub SaysMerges : List (List ℕ) → Option (List ℕ) → Type 0
-SaysMerges words None = words ≡ codes "--mode" ∷ codes "k0" ∷ []
-SaysMerges words (Some name) = (words ≡ codes "--merges" ∷ name ∷ []) × IsPositional name
-
--- a limit of prime implicates may be anything from 1 to 100,000
-pub record IsLimit (n : ℕ) : Type 0 where
-  pub least : 1 ≤ n
-  pub most : n ≤ 100000
-
--- the last words say the limit: there are none, and it is the usual one; or they are the option and a number in decimal
-pub data SaysLimit : List (List ℕ) → ℕ → Type 0 where
-  usual_limit : SaysLimit [] 20000
-  stated : (n : ℕ) → IsLimit n → SaysLimit (codes "--implicates" ∷ decimal n ∷ []) n
-
 -- the words are this translation
 pub record IsTranslate (words : List (Vec ℕ Global)) (c : Translate) : Type 0 where
   pub front : List (List ℕ)
-  pub source : List (List ℕ)
   pub options : List (List ℕ)
-  pub words_are : map (λ w. w.items) words ≡ front ++ (source ++ options)
+  pub words_are : map (λ w. w.items) words ≡ front ++ options
   pub files : NamesFiles front c
-  pub merges : SaysMerges source c.merges
-  pub limit : SaysLimit options c.implicates
+  pub says : SaysOptions options c.source c.implicates
+
+-- the first words of `merges` say what is to be done, and name the files
+pub record NamesGiven (words : List (List ℕ)) (c : Merges) : Type 0 where
+  pub words_are : words ≡ codes "merges" ∷ c.domain ∷ c.problem ∷ []
+  pub domain : IsPositional c.domain
+  pub problem : IsPositional c.problem
+
+-- the words are this call for merges
+pub record IsMerges (words : List (Vec ℕ Global)) (c : Merges) : Type 0 where
+  pub front : List (List ℕ)
+  pub options : List (List ℕ)
+  pub words_are : map (λ w. w.items) words ≡ front ++ options
+  pub files : NamesGiven front c
+  pub says : SaysOptions options (of_mode c.mode) c.implicates
 
 -- the words are this strip
 pub record IsStrip (words : List (Vec ℕ Global)) (c : Strip) : Type 0 where
@@ -73,8 +111,14 @@ pub record IsCheck (words : List (Vec ℕ Global)) (c : Check) : Type 0 where
 -- the words are this command
 abbrev pub IsCommand : List (Vec ℕ Global) → Command → Type 0
 IsCommand words (commands.Translate c) = IsTranslate words c
+IsCommand words (commands.Merges c) = IsMerges words c
 IsCommand words (commands.Strip c) = IsStrip words c
 IsCommand words (commands.Check c) = IsCheck words c
+
+-- the file of merges, if they come from one
+abbrev pub file_of : Source → Option (List ℕ)
+file_of (of_mode mode) = None
+file_of (of_file name) = Some name
 
 -- the name, if there is one
 abbrev pub if_named : Option (List ℕ) → List (List ℕ)
@@ -83,13 +127,15 @@ if_named (Some name) = name ∷ []
 
 -- the names of the files that a command reads, in order
 abbrev pub inputs_of : Command → List (List ℕ)
-inputs_of (commands.Translate c) = c.domain ∷ c.problem ∷ if_named c.merges
+inputs_of (commands.Translate c) = c.domain ∷ c.problem ∷ if_named (file_of c.source)
+inputs_of (commands.Merges c) = c.domain ∷ c.problem ∷ []
 inputs_of (commands.Strip c) = c.plan ∷ []
 inputs_of (commands.Check c) = c.domain ∷ c.problem ∷ c.plan ∷ []
 
 -- the names of the files that it writes, in order
 abbrev pub outputs_of : Command → List (List ℕ)
 outputs_of (commands.Translate c) = c.domain_out ∷ c.problem_out ∷ []
+outputs_of (commands.Merges c) = []
 outputs_of (commands.Strip c) = []
 outputs_of (commands.Check c) = []
 

@@ -1,13 +1,33 @@
 -- What the words of a command say.
-use Rattle.std.specs.Prelude.{List, ℕ, Option}
+use Rattle.std.specs.Prelude.{List, ℕ}
+use Rattle.kp_base.specs.declared.limits.Mode.{Mode}
+use Rattle.kp_words.specs.declared.source.Source.{Source as Held}
+use Rattle.kp_words.specs.declared.source.Source.TheVariants as held
 
--- `translate`: the names of the two files that are read and of the two that are written, of the file of merges if there is one, and how many prime implicates a prefix of the initial clauses may have
+-- where tags and merges come from: from a mode, or from a file of merges of this name
+pub data Source : Type 0 where
+  of_mode : Mode → Source
+  of_file : List ℕ → Source
+
+-- what a source of the code says
+abbrev pub source_view : Held → Source
+source_view (held.Mode mode) = of_mode mode
+source_view (held.File name) = of_file name.now
+
+-- `translate`: the names of the two files that are read and of the two that are written, where tags and merges come from, and how many prime implicates a prefix of the initial clauses may have
 pub record Translate : Type 0 where
   pub domain : List ℕ
   pub problem : List ℕ
   pub domain_out : List ℕ
   pub problem_out : List ℕ
-  pub merges : Option (List ℕ)
+  pub source : Source
+  pub implicates : ℕ
+
+-- `merges`: the names of the two files, the mode, and the limit of prime implicates
+pub record Merges : Type 0 where
+  pub domain : List ℕ
+  pub problem : List ℕ
+  pub mode : Mode
   pub implicates : ℕ
 
 -- `strip`: the name of the plan file

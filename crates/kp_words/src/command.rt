@@ -2,6 +2,7 @@ ghost use Rattle.std.specs.Prelude.{MatchOption};
 ghost use Rattle.kp_words.specs.Command.{IsCommand, IsNoCommand};
 
 use crate::check::Check;
+use crate::merges::Merges;
 use crate::strip::Strip;
 use crate::translate::Translate;
 
@@ -10,6 +11,8 @@ use crate::translate::Translate;
 pub enum Command<'a> {
     /// Writes the classical problem of a conformant one.
     Translate(Translate<'a>),
+    /// Prints the merges of a conformant problem.
+    Merges(Merges<'a>),
     /// Prints what a plan of the written files comes to in the given ones.
     Strip(Strip<'a>),
     /// Prints whether a plan works from every initial state, or the first from which it fails.
@@ -23,6 +26,9 @@ impl<'a> Command<'a> {
     {
         if let Some(translate) = Translate::from_words(words) {
             return Some(Command::Translate(translate));
+        }
+        if let Some(merges) = Merges::from_words(words) {
+            return Some(Command::Merges(merges));
         }
         if let Some(check) = Check::from_words(words) {
             return Some(Command::Check(check));

@@ -5,6 +5,9 @@
 mod check;
 mod command;
 mod law;
+mod merges;
+mod options;
+mod source;
 mod strip;
 mod translate;
 mod values;
@@ -12,5 +15,7 @@ mod values;
 pub use check::Check;
 pub use command::Command;
 pub use law::{words_are_decided, words_are_one_command};
+pub use merges::Merges;
+pub use source::Source;
 pub use strip::Strip;
 pub use translate::Translate;

@@ -1,8 +1,10 @@
-ghost use Rattle.std.specs.Prelude.{◌≡◌, ℕ, List, Option, map, option_map, MatchOption, IfSome};
-ghost use Rattle.kp_words.specs.Names.{Translate as Names};
-ghost use Rattle.kp_words.specs.Command.{NamesFiles, SaysMerges, IsTranslate};
+ghost use Rattle.std.specs.Prelude.{◌≡◌, map, MatchOption, IfSome};
+ghost use Rattle.kp_words.specs.Names.{Translate as Names, source_view};
+ghost use Rattle.kp_words.specs.Command.{NamesFiles, IsTranslate};
 
-use crate::values::{are_apart, is_positional, is_text, said_limit};
+use crate::options::said_options;
+use crate::source::Source;
+use crate::values::{are_apart, is_positional, is_text};
 use std::marker::Model;
 
 /// The words of `translate`.
@@ -16,46 +18,29 @@ pub struct Translate<'a> {
     pub domain_out: &'a [u8],
     /// The problem that is written.
     pub problem_out: &'a [u8],
-    /// The merges that are read. Where there is none, the empty tag stands alone.
-    pub merges: Option<&'a [u8]>,
+    /// Where the tags and merges come from.
+    pub source: Source<'a>,
     /// How many prime implicates a prefix of the initial clauses may have.
     pub implicates: u32,
 }
 
 impl<'a> Model for Translate<'a> {
-    ghost use Rattle.std.specs.Prelude.{option_map};
-    ghost use Rattle.kp_words.specs.Names.{Translate as Names};
+    ghost use Rattle.kp_words.specs.Names.{Translate as Names, source_view};
 
     ghost Value = { Names };
 
-    ghost view = { λ c. record { domain = c.domain.now; problem = c.problem.now; domain_out = c.domain_out.now; problem_out = c.problem_out.now; merges = option_map (λ m. m.now) c.merges; implicates = c.implicates } };
-}
-
-// The file of merges that two words name; inside, none in the mode of the empty tag.
-fn said_merges(words: &[Vec<u8>]) -> Option<Option<&[u8]>>
-    ensures { MatchOption result ((m : Option (List ℕ)) → SaysMerges (map (λ w. w.items) words.now) m → ⊥) (λ m. SaysMerges (map (λ w. w.items) words.now) (option_map (λ n. n.now) m)) }
-{
-    let [option, value] = words else {
-        return None;
-    };
-    if is_text(option, "--mode") && is_text(value, "k0") {
-        return Some(None);
-    }
-    if !is_text(option, "--merges") || !is_positional(value) {
-        return None;
-    }
-    Some(Some(value.as_slice()))
+    ghost view = { λ c. record { domain = c.domain.now; problem = c.problem.now; domain_out = c.domain_out.now; problem_out = c.problem_out.now; source = source_view c.source; implicates = c.implicates } };
 }
 
 impl<'a> Translate<'a> {
     // The translation whose first words are these.
     fn from_front(
         words: &'a [Vec<u8>],
-        merges: Option<&'a [u8]>,
+        source: Source<'a>,
         implicates: u32,
     ) -> Option<Translate<'a>>
         ensures files { MatchOption result ((c : Names) → NamesFiles (map (λ w. w.items) words.now) c → ⊥) (λ c. NamesFiles (map (λ w. w.items) words.now) c) }
-        ensures merges { IfSome result (λ c. c.merges ≡ option_map (λ n. n.now) merges.entry) }
+        ensures source { IfSome result (λ c. c.source ≡ source_view source.entry) }
         ensures limit { IfSome result (λ c. c.implicates ≡ implicates) }
     {
         let [verb, domain, problem, domain_out, problem_out] = words else {
@@ -75,7 +60,7 @@ impl<'a> Translate<'a> {
             problem: problem.as_slice(),
             domain_out: domain_out.as_slice(),
             problem_out: problem_out.as_slice(),
-            merges,
+            source,
             implicates,
         })
     }
@@ -84,13 +69,11 @@ impl<'a> Translate<'a> {
     pub fn from_words(words: &'a [Vec<u8>]) -> Option<Translate<'a>>
         ensures { MatchOption result ((c : Names) → IsTranslate words.now c → ⊥) (λ c. IsTranslate words.now c) }
     {
-        if words.len() < 7 {
+        if words.len() < 5 {
             return None;
         }
-        let (front, others) = words.split_at(5);
-        let (source, options) = others.split_at(2);
-        let merges = said_merges(source)?;
-        let implicates = said_limit(options)?;
-        Translate::from_front(front, merges, implicates)
+        let (front, options) = words.split_at(5);
+        let (source, implicates) = said_options(options)?;
+        Translate::from_front(front, source, implicates)
     }
 }

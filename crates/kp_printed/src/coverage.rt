@@ -1,0 +1,32 @@
+ghost use Rattle.std.specs.Prelude.{◌≡◌, ◌++◌, OnOk};
+ghost use Rattle.kp_printed.specs.Coverage.{uncovered_lines, coverage_text};
+
+use crate::names::{put, put_literal};
+use kp_base::{GroundName, Lit, Memory};
+
+// Adds the lines of targets that aren't covered.
+fn put_uncovered(out: &mut Vec<u8>, atoms: &[GroundName], targets: &[Lit]) -> Result<(), Memory>
+    ensures { OnOk result (out.new.items ≡ out.old.items ++ uncovered_lines atoms.now targets.now) }
+{
+    for target in targets {
+        put(out, b"uncovered ")?;
+        put_literal(out, atoms, *target)?;
+        put(out, b"\n")?;
+    }
+    Ok(())
+}
+
+/// Adds `complete` where no target is uncovered, and else `incomplete` and a line for each that is.
+pub fn put_coverage(
+    out: &mut Vec<u8>,
+    atoms: &[GroundName],
+    uncovered: &[Lit],
+) -> Result<(), Memory>
+    ensures { OnOk result (out.new.items ≡ out.old.items ++ coverage_text atoms.now uncovered.now) }
+{
+    if uncovered.is_empty() {
+        return put(out, b"complete\n");
+    }
+    put(out, b"incomplete\n")?;
+    put_uncovered(out, atoms, uncovered)
+}
