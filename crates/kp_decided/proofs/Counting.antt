@@ -57,7 +57,7 @@ taken_member (suc k) [] x m = absurd m
 taken_member (suc k) (y ∷ xs) x m = elim m [ inl e ↦ inl e | inr r ↦ inr (taken_member k xs x r) ]
 
 module _ (i : Initial) (limit : ℕ) (sets : AreSets i.clauses) where
-  taken : (k : ℕ) → AreSets (take k i.clauses)
+  pub taken : (k : ℕ) → AreSets (take k i.clauses)
   taken k c m = sets c (taken_member k i.clauses c m)
 
   abbrev count : ℕ → ℕ

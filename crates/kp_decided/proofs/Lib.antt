@@ -9,3 +9,13 @@ pub mod Tabling
 pub mod Judging
 pub mod Finding
 pub mod Once
+pub mod InOrder
+pub mod Relevant
+pub mod Holding
+pub mod Candidates
+pub mod Either
+pub mod Needed
+pub mod Tags
+pub mod Covered
+pub mod Moded
+pub mod Made

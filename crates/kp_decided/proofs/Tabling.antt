@@ -22,8 +22,9 @@ use Rattle.kp_cover.proofs.Inside.{all_inside}
 use Rattle.kp_init.specs.Closure.{closure}
 use Rattle.kp_init.proofs.Closure.{closure_exact}
 use Rattle.kp_merges.specs.declared.merge.FileMerge.{FileMerge}
-use Rattle.kp_tags.specs.Tables.{has_tags_of_atoms, same_tag, used_tags, numbered, HasClosure, IsTableOf}
-use Rattle.kp_tags.specs.Answers.{AreConsistent, AreAcceptable, RefusesMerge, inconsistent, Accepts, RefusesTable}
+use Rattle.kp_base.specs.LitSet.{same_set}
+use Rattle.kp_tags.specs.Tables.{has_tags_of_atoms, used_tags, numbered, HasClosure, IsTableOf}
+use Rattle.kp_tags.specs.Answers.{AreConsistent, AreAcceptable, RefusesMerge, Accepts, RefusesTable}
 use Rattle.kp_decided.specs.Laws.{TablesAreDecided}
 use Rattle.kp_decided.proofs.Firsts.{ReadsFirst, first_or_none}
 use Rattle.kp_decided.proofs.Modelled.{consistent_or_not}
@@ -102,7 +103,7 @@ module _ (n : ℕ) (i : Initial) (over : IsOfAtoms n i) where
 
   used_below : (ms : List FileMerge) → list_all (has_tags_of_atoms n) ms ≡ true → list_all (are_below n) (used_tags ms) ≡ true
   used_below ms below =
-      all_each_once same_tag (are_below n) ([] ∷ flat_map (λ m. m.tags) ms)
+      all_each_once same_set (are_below n) ([] ∷ flat_map (λ m. m.tags) ms)
       (all_from (are_below n) (flat_map (λ m. m.tags) ms)
       (λ tag m. let from = flat_member (λ (x : FileMerge). x.tags) ms tag m in all_member (are_below n) from.0.tags tag from.2 (all_member (has_tags_of_atoms n) ms from.0 from.1 below)))
 

@@ -1,6 +1,6 @@
 //! Laws of questions that have an answer, each proved as the contract of a function that does nothing.
 
-ghost use Rattle.kp_decided.specs.Laws.{ClashesAreDecided, FormulasAreAscending, ImplicatesAreCounted, ModelsAreDecided, NamesAreDecided, SizesAreDecided, StepsAreDecided, TablesAreDecided, VerdictsAreDecided};
+ghost use Rattle.kp_decided.specs.Laws.{ClashesAreDecided, ClausesAreDecided, CoveragesAreDecided, CoversAreDecided, FormulasAreAscending, ImplicatesAreCounted, MadeTablesAreDecided, ModelsAreDecided, ModesAreDecided, NamesAreDecided, RelevanceIsDecided, SizesAreDecided, StepsAreDecided, TablesAreDecided, TablesWithNoneAreComplete, TagsAreDecided, TargetsAreDecided, VerdictsAreDecided};
 
 /// No name of two trees is at fault, or the trees are refused for one.
 pub fn names_are_decided()
@@ -45,4 +45,49 @@ pub fn verdicts_are_decided()
 /// Each step names an action, or some step is the first that names none.
 pub fn steps_are_decided()
     ensures { StepsAreDecided }
+{}
+
+/// Some pairs of literals are those of a ground problem.
+pub fn relevance_is_decided()
+    ensures { RelevanceIsDecided }
+{}
+
+/// Some clauses are those that are relevant to a literal.
+pub fn clauses_are_decided()
+    ensures { ClausesAreDecided }
+{}
+
+/// Some literals are the targets.
+pub fn targets_are_decided()
+    ensures { TargetsAreDecided }
+{}
+
+/// Tags are consistent or not, clauses have tags, and tags meet clauses or don't.
+pub fn tags_are_decided()
+    ensures { TagsAreDecided }
+{}
+
+/// Tags cover a literal, or don't.
+pub fn covers_are_decided()
+    ensures { CoversAreDecided }
+{}
+
+/// Some literals are the targets that a table leaves uncovered.
+pub fn coverages_are_decided()
+    ensures { CoveragesAreDecided }
+{}
+
+/// Some merges are those of a mode, or the mode is refused.
+pub fn modes_are_decided()
+    ensures { ModesAreDecided }
+{}
+
+/// A table that leaves no target uncovered is complete.
+pub fn tables_with_none_are_complete()
+    ensures { TablesWithNoneAreComplete }
+{}
+
+/// A mode has a table, or a refusal.
+pub fn made_tables_are_decided()
+    ensures { MadeTablesAreDecided }
 {}

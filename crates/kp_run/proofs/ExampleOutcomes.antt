@@ -11,10 +11,14 @@ use lib.Utf8.{encode}
 use Rattle.std.proofs.lemmas.Bool.{and_parts, false≢true, not-true}
 use Rattle.kp_base.proofs.Lists.{same-refl}
 use Rattle.kp_base.specs.declared.lit.AtomId.{AtomId}
+use Rattle.kp_base.specs.declared.limits.Mode.TheVariants as modes
+use Rattle.kp_base.specs.declared.ground.Action.{Action}
+use Rattle.kp_base.specs.declared.ground.Effect.{Effect}
+use Rattle.kp_base.specs.declared.ground.TagTable.{TagTable}
 use Rattle.kp_base.specs.declared.ground.Initial.{Initial}
 use Rattle.kp_base.specs.declared.lit.Lit.{Lit}
 use Rattle.kp_base.specs.Lists.{Member}
-use Rattle.kp_base.specs.Lit.{positive}
+use Rattle.kp_base.specs.Lit.{positive, negative}
 use Rattle.kp_base.specs.LitSet.{IsAscending}
 use Rattle.kp_base.specs.Steps.{State as NumberedState, is_model}
 use Rattle.kp_base.specs.Exclusive.{IsClashFree}
@@ -48,16 +52,17 @@ use Rattle.kp_outside.specs.Outside.{FileMap}
 use Rattle.kp_outcome.specs.declared.outcome.Outcome.{Outcome}
 use Rattle.kp_outcome.specs.declared.status.Status.TheVariants as status
 use Rattle.kp_outcome.specs.Ends.{Outside, AreHeld, whole}
-use Rattle.kp_words.specs.Names.{Translate}
+use Rattle.kp_words.specs.Names.{of_mode, Translate}
 use Rattle.kp_words.specs.declared.command.Command.TheVariants as commands
-use Rattle.kp_words.specs.Command.{NamesFiles, usual_limit, stated, IsTranslate, if_named}
+use Rattle.kp_words.specs.Command.{NamesFiles, stated_mode, usual_limit, stated, IsTranslate, file_of, if_named}
 use Rattle.kp_words.proofs.Examples.{no_words}
 use Rattle.kp_prepared.specs.Texts.{HaveTrees}
 use Rattle.kp_prepared.specs.Prepared.{usual, IsStarted, later}
-use Rattle.kp_run.specs.Outcomes.{shows_usage, translates, done, TranslatesTexts, translated, IsDue, usage, of_command}
+use Rattle.kp_run.specs.Outcomes.{shows_usage, translates, done, made, TranslatesTexts, translated, IsDue, usage, of_command}
 use Rattle.kp_run.specs.Ends.{Ends, came}
 use Rattle.kp_run.specs.Soundness.{IsSound}
 use Rattle.kp_run.proofs.Counted.{empty_tags_fit}
+use Rattle.kp_run.proofs.EmptyTags.{HaveNoConditions, empty_tag_made, nothing_uncovered}
 use Rattle.kp_run.proofs.Computed.{reads_file}
 use Rattle.kp_run.proofs.Soundness.{at_last, under_another, sound_end}
 
@@ -75,13 +80,13 @@ abbrev pub words : List (Vec ℕ Global)
 words = translate (word (codes "d") (omega arith)) (word (codes "p") (omega arith)) (word (codes "od") (omega arith)) (word (codes "op") (omega arith))
 
 abbrev pub command : Translate
-command = record { domain = codes "d"; problem = codes "p"; domain_out = codes "od"; problem_out = codes "op"; merges = None; implicates = 20000 }
+command = record { domain = codes "d"; problem = codes "p"; domain_out = codes "od"; problem_out = codes "op"; source = of_mode modes.K0; implicates = 20000 }
 
 -- two names that are seen to differ
 apart : (x y : List ℕ) → same x y ≡ false → x ≢ y
 apart x y h e = false≢true (sym h ∙ (sym (ap (same x) e) ∙ same-refl x))
 
-names_files : (n : ℕ) → NamesFiles (codes "translate" ∷ codes "d" ∷ codes "p" ∷ codes "od" ∷ codes "op" ∷ []) (record { domain = codes "d"; problem = codes "p"; domain_out = codes "od"; problem_out = codes "op"; merges = None; implicates = n })
+names_files : (n : ℕ) → NamesFiles (codes "translate" ∷ codes "d" ∷ codes "p" ∷ codes "od" ∷ codes "op" ∷ []) (record { domain = codes "d"; problem = codes "p"; domain_out = codes "od"; problem_out = codes "op"; source = of_mode modes.K0; implicates = n })
 unfolding encode
 names_files n = record {
   words_are = refl;
@@ -95,12 +100,10 @@ names_files n = record {
 is_command : IsTranslate words command
 is_command = record {
   front = codes "translate" ∷ codes "d" ∷ codes "p" ∷ codes "od" ∷ codes "op" ∷ [];
-  source = codes "--mode" ∷ codes "k0" ∷ [];
-  options = [];
+  options = codes "--mode" ∷ codes "k0" ∷ [];
   words_are = refl;
   files = names_files 20000;
-  merges = refl;
-  limit = usual_limit;
+  says = record { first = codes "--mode" ∷ codes "k0" ∷ []; last = []; words_are = refl; source = stated_mode modes.K0; limit = usual_limit };
 }
 
 -- with a limit of one prime implicate
@@ -110,18 +113,22 @@ with_limit =
     ∷ word (codes "--mode") (omega arith) ∷ word (codes "k0") (omega arith) ∷ word (codes "--implicates") (omega arith) ∷ word (codes "1") (omega arith) ∷ []
 
 abbrev pub limited : Translate
-limited = record { domain = codes "d"; problem = codes "p"; domain_out = codes "od"; problem_out = codes "op"; merges = None; implicates = 1 }
+limited = record { domain = codes "d"; problem = codes "p"; domain_out = codes "od"; problem_out = codes "op"; source = of_mode modes.K0; implicates = 1 }
 
 pub is_limited : IsTranslate with_limit limited
 unfolding digits
 is_limited = record {
   front = codes "translate" ∷ codes "d" ∷ codes "p" ∷ codes "od" ∷ codes "op" ∷ [];
-  source = codes "--mode" ∷ codes "k0" ∷ [];
-  options = codes "--implicates" ∷ codes "1" ∷ [];
+  options = codes "--mode" ∷ codes "k0" ∷ codes "--implicates" ∷ codes "1" ∷ [];
   words_are = refl;
   files = names_files 1;
-  merges = refl;
-  limit = stated 1 (record { least = omega arith; most = omega arith });
+  says = record {
+    first = codes "--mode" ∷ codes "k0" ∷ [];
+    last = codes "--implicates" ∷ codes "1" ∷ [];
+    words_are = refl;
+    source = stated_mode modes.K0;
+    limit = stated 1 (record { least = omega arith; most = omega arith });
+  };
 }
 
 -- ---- what is held
@@ -137,7 +144,7 @@ problem_held : (domain problem : List ℕ) → get (holding domain problem) (cod
 problem_held domain problem = at_last (insert empty (codes "d") domain) (codes "p") problem
 
 -- what the two texts are translated to is due
-pub due_with : (ws : List (Vec ℕ Global)) (c : Translate) → IsTranslate ws c → c.domain ≡ codes "d" → c.problem ≡ codes "p" → c.merges ≡ None → (domain problem : List ℕ) (o : Outcome) → TranslatesTexts c domain problem [] o → IsDue ws (Some (holding domain problem)) o
+pub due_with : (ws : List (Vec ℕ Global)) (c : Translate) → IsTranslate ws c → c.domain ≡ codes "d" → c.problem ≡ codes "p" → c.source ≡ of_mode modes.K0 → (domain problem : List ℕ) (o : Outcome) → TranslatesTexts c domain problem [] o → IsDue ws (Some (holding domain problem)) o
 due_with ws c is first second alone domain problem o h = of_command (commands.Translate c) (domain ∷ problem ∷ []) o is (rw (first, second, alone, domain_held domain problem, problem_held domain problem) refl) (translated c domain problem [] o h)
 
 pub on_files : (domain problem : List ℕ) (o : Outcome) → TranslatesTexts command domain problem [] o → IsDue words (Some (holding domain problem)) o
@@ -211,13 +218,37 @@ closed_q i closed s model = not-true (s 1) (and_parts (not (s 1)) true (subst (�
 no_clash : IsClashFree (ground_of exchange_tree from_p_to_q_tree) from_p
 no_clash = free from_p (closed_q from_p refl)
 
-is_done : TranslatesTexts command exchange from_p_to_q [] (translates command (translation_of exchange_tree from_p_to_q_tree (empty_tag exchange_tree from_p_to_q_tree)))
-is_done = later exchange_tree from_p_to_q_tree trees (record { started = started; clash_free = no_clash }) (done (empty_tags_fit exchange_tree from_p_to_q_tree started.small) refl)
+-- the one action
+abbrev exchange_action : Action
+exchange_action = record { name = record { head = codes "a"; objects = [] }; pre = positive 0 ∷ []; effects = record { cond = []; result = positive 1 } ∷ record { cond = []; result = negative 0 } ∷ [] }
+
+-- no effect has a condition
+pub unconditional : (p : Problem Word) → (ground_of exchange_tree p).actions ≡ exchange_action ∷ [] → HaveNoConditions (ground_of exchange_tree p).actions
+unconditional p acts a e in-acts in-effects = by (subst (λ (xs : List Action). Member xs a) acts in-acts) in-effects
+  where
+    by : Member (exchange_action ∷ []) a → Member a.effects e → e.cond ≡ []
+    by (inr none) m = absurd none
+    by (inl same) m = of_these (subst (λ (x : Action). Member x.effects e) (sym same) m)
+      where
+        of_these : Member exchange_action.effects e → e.cond ≡ []
+        of_these (inl x) = ap (λ (y : Effect). y.cond) (sym x)
+        of_these (inr (inl x)) = ap (λ (y : Effect). y.cond) (sym x)
+        of_these (inr (inr none)) = absurd none
+
+abbrev the_table : TagTable
+the_table = empty_tag exchange_tree from_p_to_q_tree
+
+abbrev the_outcome : Outcome
+the_outcome = translates command (ground_of exchange_tree from_p_to_q_tree) the_table []
+
+is_done : TranslatesTexts command exchange from_p_to_q [] the_outcome
+is_done = later exchange_tree from_p_to_q_tree trees (record { started = started; clash_free = no_clash })
+    (made the_table (empty_tag_made exchange_tree from_p_to_q_tree) (done [] (empty_tags_fit exchange_tree from_p_to_q_tree started.small) (nothing_uncovered (ground_of exchange_tree from_p_to_q_tree) from_p (unconditional from_p_to_q_tree refl) the_table) refl))
 
 abbrev held : FileMap
 held = holding exchange from_p_to_q
 
-due : IsDue words (Some held) (translates command (translation_of exchange_tree from_p_to_q_tree (empty_tag exchange_tree from_p_to_q_tree)))
+due : IsDue words (Some held) the_outcome
 due = on_files exchange from_p_to_q _ is_done
 
 -- what is held after it
@@ -229,11 +260,11 @@ abbrev before_it : Outside
 before_it = record { held = Some held; told = Some []; get_faults = λ q. 0; put_faults = λ q. 0; write_faults = 0 }
 
 abbrev after_it : Outside
-after_it = record { held = Some after; told = Some (translation_of exchange_tree from_p_to_q_tree (empty_tag exchange_tree from_p_to_q_tree)).report; get_faults = λ q. 0; put_faults = λ q. 0; write_faults = 0 }
+after_it = record { held = Some after; told = Some the_outcome.text; get_faults = λ q. 0; put_faults = λ q. 0; write_faults = 0 }
 
 -- a run that put the two files and printed the report ended so
 ends : Ends words before_it after_it status.Done
-ends = came (translates command (translation_of exchange_tree from_p_to_q_tree (empty_tag exchange_tree from_p_to_q_tree))) due (whole refl (record { gets = λ q. refl; puts = λ q. refl; writes = refl }) refl refl)
+ends = came the_outcome due (whole refl (record { gets = λ q. refl; puts = λ q. refl; writes = refl }) refl refl)
 
 -- and is sound
 sound : IsSound held after command
@@ -257,4 +288,5 @@ nothing_is_due : (o : Outcome) → IsDue words (Some no_files) o → ⊥
 nothing_is_due _ (usage never) = never (commands.Translate command) is_command
 nothing_is_due o (of_command (commands.Strip c) texts _ h held comes) = not_held c.plan [] texts held
 nothing_is_due o (of_command (commands.Check c) texts _ h held comes) = not_held c.domain (c.problem ∷ c.plan ∷ []) texts held
-nothing_is_due o (of_command (commands.Translate c) texts _ h held comes) = not_held c.domain (c.problem ∷ if_named c.merges) texts held
+nothing_is_due o (of_command (commands.Merges c) texts _ h held comes) = not_held c.domain (c.problem ∷ []) texts held
+nothing_is_due o (of_command (commands.Translate c) texts _ h held comes) = not_held c.domain (c.problem ∷ if_named (file_of c.source)) texts held

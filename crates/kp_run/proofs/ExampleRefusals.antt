@@ -10,6 +10,7 @@ use Rattle.kp_base.specs.declared.refused.Refused.{Refused}
 use Rattle.kp_base.specs.declared.refused.Refused.TheVariants as refusals
 use Rattle.kp_base.specs.declared.refused.Stop.TheVariants as stops
 use Rattle.kp_base.specs.declared.ground.Initial.{Initial}
+use Rattle.kp_base.specs.declared.ground.TagTable.{TagTable}
 use Rattle.kp_base.specs.declared.lit.Lit.{Lit}
 use Rattle.kp_base.specs.Lists.{Member}
 use Rattle.kp_base.specs.Lit.{positive, negative}
@@ -42,17 +43,19 @@ use Rattle.kp_tree.specs.Files as files
 use Rattle.kp_names.specs.Resolved.{in_problem}
 use Rattle.kp_meaning.specs.Initial.{HasInitialState}
 use Rattle.kp_given.specs.Translations.{ground_of, initial_of}
-use Rattle.kp_given.specs.Tables.{translation_of, empty_tag}
+use Rattle.kp_given.specs.Tables.{empty_tag}
 use Rattle.kp_given.proofs.Starts.{states_are_models}
 use Rattle.kp_printed.specs.Refusals.{nothing, refusal_text}
+use Rattle.kp_outcome.specs.declared.outcome.Outcome.{Outcome}
 use Rattle.kp_outcome.specs.declared.status.Status.TheVariants as status
 use Rattle.kp_prepared.specs.Texts.{HaveTrees, of_problem, of_names}
 use Rattle.kp_prepared.specs.Refusing.{named_in}
 use Rattle.kp_prepared.specs.Prepared.{IsStarted, RefusesTrees, implicates_over, no_initial_state, clash, by_texts, by_trees, early, later}
-use Rattle.kp_run.specs.Outcomes.{translates, done, TranslatesTexts, IsDue}
+use Rattle.kp_run.specs.Outcomes.{translates, done, made, TranslatesTexts, IsDue}
 use Rattle.kp_run.proofs.Counted.{empty_tags_fit}
 use Rattle.kp_run.proofs.Computed.{reads_file}
-use Rattle.kp_run.proofs.ExampleOutcomes.{closed_q, command, domain_reads, due_with, few_primes, has_state, holding, is_limited, is_small, limited, on_files, only_p, problem_reads, with_limit, words}
+use Rattle.kp_run.proofs.ExampleOutcomes.{closed_q, command, domain_reads, due_with, few_primes, has_state, holding, is_limited, is_small, limited, on_files, only_p, problem_reads, unconditional, with_limit, words}
+use Rattle.kp_run.proofs.EmptyTags.{empty_tag_made, nothing_uncovered}
 
 -- ---- refusals: no initial state
 
@@ -202,16 +205,23 @@ half_known_started = record {
   initial = has_state exchange_tree half_known_tree half_known_trees.no_fault only_p half_known_model;
 }
 
-half_known_done : TranslatesTexts command exchange half_known [] (translates command (translation_of exchange_tree half_known_tree (empty_tag exchange_tree half_known_tree)))
-half_known_done = later exchange_tree half_known_tree half_known_trees (record { started = half_known_started; clash_free = free (initial_of exchange_tree half_known_tree) (closed_q (initial_of exchange_tree half_known_tree) refl) }) (done (empty_tags_fit exchange_tree half_known_tree half_known_started.small) refl)
+abbrev half_known_table : TagTable
+half_known_table = empty_tag exchange_tree half_known_tree
 
-half_known_due : IsDue words (Some (holding exchange half_known)) (translates command (translation_of exchange_tree half_known_tree (empty_tag exchange_tree half_known_tree)))
+abbrev half_known_outcome : Outcome
+half_known_outcome = translates command (ground_of exchange_tree half_known_tree) half_known_table []
+
+half_known_done : TranslatesTexts command exchange half_known [] half_known_outcome
+half_known_done = later exchange_tree half_known_tree half_known_trees (record { started = half_known_started; clash_free = free (initial_of exchange_tree half_known_tree) (closed_q (initial_of exchange_tree half_known_tree) refl) })
+    (made half_known_table (empty_tag_made exchange_tree half_known_tree) (done [] (empty_tags_fit exchange_tree half_known_tree half_known_started.small) (nothing_uncovered (ground_of exchange_tree half_known_tree) (initial_of exchange_tree half_known_tree) (unconditional half_known_tree refl) half_known_table) refl))
+
+half_known_due : IsDue words (Some (holding exchange half_known)) half_known_outcome
 half_known_due = on_files exchange half_known _ half_known_done
 
--- it isn't known whether p holds, so the report has no last line
-half_known_report : (translation_of exchange_tree half_known_tree (empty_tag exchange_tree half_known_tree)).report ≡ codes "atoms 2\nactions 1\ntags 1\nmerges 0\nfacts 4\n"
+-- it isn't known whether p holds, but no effect turns on it: the empty tag covers each target
+half_known_printed : half_known_outcome.text ≡ codes "atoms 2\nactions 1\ntags 1\nmerges 0\nfacts 4\ncomplete\n"
 unfolding digits
-half_known_report = refl
+half_known_printed = refl
 
 -- ---- a clash
 

@@ -8,11 +8,11 @@ use Rattle.kp_outside.specs.Outside.{FileMap, IsFront, IsWithin}
 use Rattle.kp_outcome.specs.declared.outcome.Outcome.{Outcome}
 use Rattle.kp_outcome.specs.Ends.{most_bytes, AreHeld, AreFronts, none, also}
 use Rattle.kp_outcome.proofs.Fronts.{front_within}
-use Rattle.kp_words.specs.Names.{Translate, Strip, Check}
+use Rattle.kp_words.specs.Names.{Translate, Merges, Strip, Check}
 use Rattle.kp_words.specs.declared.command.Command.{Command}
 use Rattle.kp_words.specs.declared.command.Command.TheVariants as commands
 use Rattle.kp_words.specs.Command.{IsCommand, inputs_of}
-use Rattle.kp_run.specs.Outcomes.{TranslatesTexts, StripsText, ChecksTexts, ComesTo, translated, stripped, checked, IsDue, of_command}
+use Rattle.kp_run.specs.Outcomes.{TranslatesTexts, MergesTexts, StripsText, ChecksTexts, ComesTo, translated, merged, stripped, checked, IsDue, of_command}
 
 -- ---- fronts are of as many texts
 
@@ -79,9 +79,9 @@ all_within texts gots a b c fronts e =
 
 -- ---- what a command comes to
 
-pub alone_translated : (c : Translate) (texts : List (List ℕ)) (gots : List Got) (a b : Got) (r : Result Outcome Memory) → AreFronts texts gots → gots ≡ a ∷ b ∷ []
+pub mode_translated : (c : Translate) (texts : List (List ℕ)) (gots : List Got) (a b : Got) (r : Result Outcome Memory) → AreFronts texts gots → gots ≡ a ∷ b ∷ []
     → ((d p : List ℕ) → IsFront (Some d) most_bytes a → IsFront (Some p) most_bytes b → IfOk r (TranslatesTexts c d p [])) → IfOk r (ComesTo (commands.Translate c) texts)
-alone_translated c texts gots a b r fronts e comes =
+mode_translated c texts gots a b r fronts e comes =
     let t = two texts gots a b fronts e in
     subst (λ us. IfOk r (ComesTo (commands.Translate c) us)) (sym t.are) (by t.first t.second r (comes t.first t.second t.first_front t.second_front))
   where
@@ -98,6 +98,16 @@ merged_translated c texts gots a b m r fronts e comes =
     by : (d p u : List ℕ) (r : Result Outcome Memory) → IfOk r (TranslatesTexts c d p (u ∷ [])) → IfOk r (ComesTo (commands.Translate c) (d ∷ p ∷ u ∷ []))
     by d p u (Ok o) h = translated c d p (u ∷ []) o h
     by d p u (Err m) h = tt
+
+pub two_merged : (c : Merges) (texts : List (List ℕ)) (gots : List Got) (a b : Got) (r : Result Outcome Memory) → AreFronts texts gots → gots ≡ a ∷ b ∷ []
+    → ((d p : List ℕ) → IsFront (Some d) most_bytes a → IsFront (Some p) most_bytes b → IfOk r (MergesTexts c d p)) → IfOk r (ComesTo (commands.Merges c) texts)
+two_merged c texts gots a b r fronts e comes =
+    let t = two texts gots a b fronts e in
+    subst (λ us. IfOk r (ComesTo (commands.Merges c) us)) (sym t.are) (by t.first t.second r (comes t.first t.second t.first_front t.second_front))
+  where
+    by : (d p : List ℕ) (r : Result Outcome Memory) → IfOk r (MergesTexts c d p) → IfOk r (ComesTo (commands.Merges c) (d ∷ p ∷ []))
+    by d p (Ok o) h = merged c d p o h
+    by d p (Err m) h = tt
 
 pub one_stripped : (c : Strip) (texts : List (List ℕ)) (gots : List Got) (a : Got) (r : Result Outcome Memory) → AreFronts texts gots → gots ≡ a ∷ []
     → ((t : List ℕ) → IsFront (Some t) most_bytes a → IfOk r (StripsText t)) → IfOk r (ComesTo (commands.Strip c) texts)

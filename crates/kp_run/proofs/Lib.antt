@@ -1,5 +1,7 @@
 pub mod Computed
 pub mod FileMerges
+pub mod EmptyTags
+pub mod ModeTables
 pub mod Strips
 pub mod Answered
 pub mod Counted

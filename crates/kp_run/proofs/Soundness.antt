@@ -10,19 +10,22 @@ use Rattle.std.specs.declared.alloc.Global.{Global}
 use Rattle.kp_base.proofs.Lists.{same-true, same-refl}
 use Rattle.kp_outside.specs.Outside.{FileMap}
 use Rattle.kp_base.specs.declared.ground.Ground.{Ground}
+use Rattle.kp_base.specs.declared.ground.Initial.{Initial}
 use Rattle.kp_base.specs.declared.ground.Merge.{Merge}
+use Rattle.kp_base.specs.declared.lit.Lit.{Lit}
+use Rattle.kp_base.specs.declared.limits.Mode.{Mode}
 use Rattle.kp_base.specs.declared.ground.TagRow.{TagRow}
 use Rattle.kp_base.specs.declared.ground.TagTable.{TagTable}
 use Rattle.kp_write.specs.Grounds.{IsOfAtom}
+use Rattle.kp_task.specs.Task.{task_of}
+use Rattle.kp_ktask.specs.Translated.{FitsLimits}
 use Rattle.kp_translation.specs.declared.translation.Translation.{Translation}
-use Rattle.kp_translation.specs.Translations.{translation_with}
 use Rattle.kp_merges.specs.declared.merge.FileMerge.{FileMerge}
 use Rattle.kp_merges.specs.MergesFiles.{IsMergesOf}
 use Rattle.kp_tags.specs.Tables.{used_tags, numbered}
 use Rattle.kp_tags.specs.Answers.{Accepts}
 use Rattle.kp_tags.proofs.Right.{right as tables_right}
-use Rattle.kp_given.specs.Tables.{IsTableFor, translation_of, empty_tag}
-use Rattle.kp_given.proofs.Tables.{empty_tag_is_table}
+use Rattle.kp_given.specs.Tables.{IsTableFor, translation_of}
 use Rattle.kp_machine.proofs.Exclusive.{never_clashes}
 use Rattle.kp_grammar.specs.declared.tree.Word.{Word}
 use Rattle.kp_grammar.specs.Trees.{Domain, Problem}
@@ -31,22 +34,23 @@ use Rattle.kp_given.specs.Translations.{ground_of, initial_of}
 use Rattle.kp_sound.proofs.Trees.{translations_sound}
 use Rattle.kp_prepared.specs.Texts.{HaveTrees}
 use Rattle.kp_prepared.specs.Refusing.{refuses, named_in}
-use Rattle.kp_prepared.specs.Prepared.{usual, IsPrepared, by_texts, by_trees, early, later}
+use Rattle.kp_prepared.specs.Prepared.{usual, IsSmall, IsPrepared, by_texts, by_trees, early, later}
 use Rattle.kp_base.specs.declared.refused.Refused.{Refused}
 use Rattle.kp_printed.specs.Refusals.{Named, nothing}
 use Rattle.kp_outcome.specs.declared.outcome.Outcome.{Outcome}
 use Rattle.kp_outcome.specs.declared.status.Status.{Status}
 use Rattle.kp_outcome.specs.declared.status.Status.TheVariants as status
 use Rattle.kp_outcome.specs.Ends.{Outside, most_bytes, AreHeld, with_files, whole, put_failed, put_no_memory, print_failed, print_no_memory}
-use Rattle.kp_words.specs.Names.{Translate}
+use Rattle.kp_words.specs.Names.{Source, of_mode, of_file, Translate}
 use Rattle.kp_words.specs.declared.command.Command.{Command}
 use Rattle.kp_words.specs.declared.command.Command.TheVariants as commands
 use Rattle.kp_words.specs.Command.{IsTranslate, inputs_of}
-use Rattle.kp_run.specs.Outcomes.{translates, TranslatesGround, over as when_over, done as when_done, TranslatesWith, long_merges, no_merges, no_table, with_table, TranslatesBy, TranslatesTexts, ComesTo, translated, stripped, checked, IsDue, usage, of_command}
+use Rattle.kp_run.specs.Outcomes.{translates, TranslatesGround, over as when_over, done as when_done, TranslatesIn, none_made, made, TranslatesWith, long_merges, no_merges, no_table, with_table, TranslatesBy, TranslatesTexts, ComesTo, translated, merged, stripped, checked, IsDue, usage, of_command}
 use Rattle.kp_run.specs.Ends.{Ends, came, read_failed, no_memory}
 use Rattle.kp_run.specs.Soundness.{IsSound}
 use Rattle.kp_words.proofs.OneCommand.{one_command}
 use Rattle.kp_run.proofs.FileMerges.{targets_of_atoms, few_merges}
+use Rattle.kp_run.proofs.ModeTables.{mode_table}
 
 -- ---- what is held under two names
 
@@ -80,14 +84,21 @@ record IsDone (c : Translate) (domain problem : List ℕ) (o : Outcome) : Type 0
   prepared : IsPrepared c.implicates first second
   table : TagTable
   table_for : IsTableFor first second table
-  outcome : o ≡ translates c (translation_of first second table)
+  uncovered : List Lit
+  outcome : o ≡ translates c (ground_of first second) table uncovered
 
 refusal_not_done : (o : Outcome) (n : Named) (r : Refused) → o ≡ refuses n r → o.status ≡ status.Done → ⊥
 refusal_not_done o n r is e = absurd (let f : status.Refused r ≡ status.Done = sym (ap (λ (z : Outcome). z.status) is) ∙ e in cc)
 
-ground_done : (c : Translate) (g : Ground) (table : TagTable) (o : Outcome) → TranslatesGround c g table o → o.status ≡ status.Done → o ≡ translates c (translation_with g table)
-ground_done c g table o (when_over r t is) e = absurd (refusal_not_done o nothing r is e)
-ground_done c g table o (when_done f is) e = is
+-- what a ground problem is translated to, if that is Done
+record IsGroundDone (c : Translate) (g : Ground) (table : TagTable) (o : Outcome) : Type 0 where
+  uncovered : List Lit
+  fits : FitsLimits (task_of g table) usual
+  outcome : o ≡ translates c g table uncovered
+
+ground_done : (c : Translate) (g : Ground) (i : Initial) (table : TagTable) (o : Outcome) → TranslatesGround c g i table o → o.status ≡ status.Done → IsGroundDone c g table o
+ground_done c g i table o (when_over r t is) e = absurd (refusal_not_done o nothing r is e)
+ground_done c g i table o (when_done ls f are is) e = record { uncovered = ls; fits = f; outcome = is }
 
 -- the table of the merges of a file is one for the trees
 file_table : (d : Domain Word) (p : Problem Word) (text : List ℕ) (ms : List FileMerge) (table : TagTable) → length text ≤ most_bytes → IsMergesOf (ground_of d p).atoms text ms → Accepts (length (ground_of d p).atoms) (initial_of d p) ms usual.tags table → IsTableFor d p table
@@ -109,25 +120,36 @@ file_table d p text ms table short read fine =
 record HasTable (c : Translate) (d : Domain Word) (p : Problem Word) (o : Outcome) : Type 0 where
   table : TagTable
   table_for : IsTableFor d p table
-  outcome : o ≡ translates c (translation_of d p table)
+  uncovered : List Lit
+  outcome : o ≡ translates c (ground_of d p) table uncovered
 
 with_done : (c : Translate) (d : Domain Word) (p : Problem Word) (text : List ℕ) (o : Outcome) → TranslatesWith c (ground_of d p) (initial_of d p) text o → o.status ≡ status.Done → HasTable c d p o
 with_done c d p text o (long_merges a is) e = absurd (refusal_not_done o nothing _ is e)
 with_done c d p text o (no_merges r a b is) e = absurd (refusal_not_done o nothing r is e)
 with_done c d p text o (no_table ms r a b f is) e = absurd (refusal_not_done o (named_in (ground_of d p)) r is e)
-with_done c d p text o (with_table ms table short read fine made) e = record { table = table; table_for = file_table d p text ms table short read fine; outcome = ground_done c (ground_of d p) table o made e }
+with_done c d p text o (with_table ms table short read fine h) e =
+    let g = ground_done c (ground_of d p) (initial_of d p) table o h e in
+    record { table = table; table_for = file_table d p text ms table short read fine; uncovered = g.uncovered; outcome = g.outcome }
 
-trees_done : (c : Translate) (merges : List (List ℕ)) (d : Domain Word) (p : Problem Word) (o : Outcome) → TranslatesBy c merges d p o → o.status ≡ status.Done → HasTable c d p o
-trees_done c [] d p o made e = record { table = empty_tag d p; table_for = empty_tag_is_table d p; outcome = ground_done c (ground_of d p) (empty_tag d p) o made e }
-trees_done c (text ∷ []) d p o made e = with_done c d p text o made e
-trees_done c (text ∷ other ∷ others) d p o made e = absurd made
+mode_done : (c : Translate) (d : Domain Word) (p : Problem Word) (mode : Mode) (o : Outcome) → IsSmall d p → TranslatesIn c (ground_of d p) (initial_of d p) mode o → o.status ≡ status.Done → HasTable c d p o
+mode_done c d p mode o small (none_made r a is) e = absurd (refusal_not_done o (named_in (ground_of d p)) r is e)
+mode_done c d p mode o small (made table is h) e =
+    let g = ground_done c (ground_of d p) (initial_of d p) table o h e in
+    record { table = table; table_for = mode_table d p mode table small is g.fits; uncovered = g.uncovered; outcome = g.outcome }
+
+trees_done : (c : Translate) (source : Source) (merges : List (List ℕ)) (d : Domain Word) (p : Problem Word) (o : Outcome) → IsSmall d p → TranslatesBy c source merges d p o → o.status ≡ status.Done → HasTable c d p o
+trees_done c (of_mode mode) [] d p o small h e = mode_done c d p mode o small h e
+trees_done c (of_mode mode) (text ∷ others) d p o small h e = absurd h
+trees_done c (of_file name) [] d p o small h e = absurd h
+trees_done c (of_file name) (text ∷ []) d p o small h e = with_done c d p text o h e
+trees_done c (of_file name) (text ∷ other ∷ others) d p o small h e = absurd h
 
 is_done : (c : Translate) (x y : List ℕ) (merges : List (List ℕ)) (o : Outcome) → TranslatesTexts c x y merges o → o.status ≡ status.Done → IsDone c x y o
 is_done c x y merges o (early (by_texts r a is)) e = absurd (refusal_not_done o nothing r is e)
 is_done c x y merges o (early (by_trees d p names r h a is)) e = absurd (refusal_not_done o names r is e)
-is_done c x y merges o (later d p h ready made) e =
-    let t = trees_done c merges d p o made e in
-    record { first = d; second = p; trees = h; prepared = ready; table = t.table; table_for = t.table_for; outcome = t.outcome }
+is_done c x y merges o (later d p h ready goes) e =
+    let t = trees_done c c.source merges d p o ready.started.small goes e in
+    record { first = d; second = p; trees = h; prepared = ready; table = t.table; table_for = t.table_for; uncovered = t.uncovered; outcome = t.outcome }
 
 -- both texts are held
 pub record AreBoth (m : FileMap) (c : Translate) (o : Outcome) : Type 0 where
@@ -143,6 +165,7 @@ both_held m c _ _ o same held (translated d x y merges _ a) =
     let it : d ≡ c = cc in
     let there = subst (λ z. AreHeld (Some m) (inputs_of (commands.Translate z)) (x ∷ y ∷ merges)) it held in
     record { domain = x; problem = y; merges = merges; domain_held = cc there; problem_held = cc there; texts = subst (λ z. TranslatesTexts z x y merges o) it a }
+both_held m c _ _ o same held (merged d x y _ a) = absurd cc
 both_held m c _ _ o same held (stripped d x _ a) = absurd cc
 both_held m c _ _ o same held (checked d x y plan _ a) = absurd cc
 

@@ -5,20 +5,21 @@ ghost use Rattle.kp_outcome.specs.declared.status.Status.TheVariants as status;
 ghost use Rattle.kp_outcome.specs.Ends.{AreHeld, AreFronts, AreRead, GetFails};
 ghost use Rattle.kp_words.specs.declared.command.Command.{Command as Ordered};
 ghost use Rattle.kp_words.specs.declared.command.Command.TheVariants as commands;
-ghost use Rattle.kp_words.specs.Names.{Translate as Names};
-ghost use Rattle.kp_words.specs.Command.{IsTranslate, IsCommand, if_named, inputs_of};
+ghost use Rattle.kp_words.specs.Names.{Translate as Names, of_mode, of_file};
+ghost use Rattle.kp_words.specs.Command.{IsTranslate, IsCommand, file_of, if_named, inputs_of};
 ghost use Rattle.kp_run.specs.Outcomes.{ComesTo, IsDue};
 ghost use Rattle.kp_run.specs.Ends.{Ends};
 ghost use Rattle.kp_run.specs.Soundness.{IsSound};
 
 use crate::checking::check_texts;
+use crate::listing::merges_of_texts;
 use crate::outcomes::usage_outcome;
 use crate::stripping::strip_text;
-use crate::translating::{translate_alone, translate_merged};
-use kp_base::{Memory, Row};
+use crate::translating::{translate_in, translate_merged};
+use kp_base::{Memory, Mode, Row};
 use kp_outcome::{Outcome, Status, carry_out, read_inputs, stopped};
 use kp_outside::{Got, OutsideStop, Shelf, Sink};
-use kp_words::{Check, Command, Strip, Translate};
+use kp_words::{Check, Command, Merges, Source, Strip, Translate};
 use std::alloc::Global;
 
 // Reads the two or three files that a translation names.
@@ -27,15 +28,15 @@ fn read_translate<S: Shelf>(
     named: &Translate<'_>,
     shelf: &mut S,
 ) -> Result<Row<Got>, OutsideStop>
-    ensures read { IfOk result (AreRead (S.contents shelf.old) (named.now.domain ∷ named.now.problem ∷ if_named named.now.merges)) }
-    ensures failed { IsErrOf result stops.Failed → GetFails (S.contents shelf.old) (named.now.domain ∷ named.now.problem ∷ if_named named.now.merges) (S.get_faults shelf.old) (S.get_faults shelf.new) }
+    ensures read { IfOk result (AreRead (S.contents shelf.old) (named.now.domain ∷ named.now.problem ∷ if_named (file_of named.now.source))) }
+    ensures failed { IsErrOf result stops.Failed → GetFails (S.contents shelf.old) (named.now.domain ∷ named.now.problem ∷ if_named (file_of named.now.source)) (S.get_faults shelf.old) (S.get_faults shelf.new) }
     ensures get_faults { result ≢ Err stops.Failed → (q : List ℕ) → S.get_faults shelf.new q ≡ S.get_faults shelf.old q }
     ensures contents { S.contents shelf.new ≡ S.contents shelf.old }
     ensures put_faults { (q : List ℕ) → S.put_faults shelf.new q ≡ S.put_faults shelf.old q }
 {
-    match named.merges {
-        Some(merges) => read_inputs(alloc, &[named.domain, named.problem, merges], shelf),
-        None => read_inputs(alloc, &[named.domain, named.problem], shelf),
+    match named.source {
+        Source::File(merges) => read_inputs(alloc, &[named.domain, named.problem, merges], shelf),
+        Source::Mode(_) => read_inputs(alloc, &[named.domain, named.problem], shelf),
     }
 }
 
@@ -53,6 +54,7 @@ fn read<S: Shelf>(
 {
     match command {
         Command::Translate(named) => read_translate(alloc, named, shelf),
+        Command::Merges(named) => read_inputs(alloc, &[named.domain, named.problem], shelf),
         Command::Strip(named) => read_inputs(alloc, &[named.plan], shelf),
         Command::Check(named) => {
             read_inputs(alloc, &[named.domain, named.problem, named.plan], shelf)
@@ -92,18 +94,25 @@ fn three_of(gots: Row<Got>) -> (Got, Got, Got)
     (first, second, third)
 }
 
-// What a translation with the empty tag alone comes to on what was read of its two files.
-fn alone_gots(alloc: Global, named: &Translate<'_>, gots: Row<Got>) -> Result<Outcome, Memory>
-    requires { (held : Option FileMap) × AreRead held (named.now.domain ∷ named.now.problem ∷ []) gots }
+// What a translation in a mode comes to on what was read of its two files.
+fn mode_gots(
+    alloc: Global,
+    named: &Translate<'_>,
+    mode: Mode,
+    gots: Row<Got>,
+) -> Result<Outcome, Memory>
+    requires mode { named.now.source ≡ of_mode mode }
+    requires read { (held : Option FileMap) × AreRead held (named.now.domain ∷ named.now.problem ∷ []) gots }
     ensures { (texts : List (List ℕ)) → AreFronts texts gots → IfOk result (ComesTo (commands.Translate named.now) texts) }
 {
     let (domain, problem) = two_of(gots);
-    translate_alone(alloc, named, domain, problem)
+    translate_in(alloc, named, mode, domain, problem)
 }
 
 // What a translation with merges comes to on what was read of its three files.
 fn merged_gots(alloc: Global, named: &Translate<'_>, gots: Row<Got>) -> Result<Outcome, Memory>
-    requires { (held : Option FileMap) × (merges : List ℕ) × AreRead held (named.now.domain ∷ named.now.problem ∷ merges ∷ []) gots }
+    requires file { (name : List ℕ) × (named.now.source ≡ of_file name) }
+    requires read { (held : Option FileMap) × (merges : List ℕ) × AreRead held (named.now.domain ∷ named.now.problem ∷ merges ∷ []) gots }
     ensures { (texts : List (List ℕ)) → AreFronts texts gots → IfOk result (ComesTo (commands.Translate named.now) texts) }
 {
     let (domain, problem, merges) = three_of(gots);
@@ -112,13 +121,22 @@ fn merged_gots(alloc: Global, named: &Translate<'_>, gots: Row<Got>) -> Result<O
 
 // What a translation comes to on what was read of its files.
 fn translate_gots(alloc: Global, named: &Translate<'_>, gots: Row<Got>) -> Result<Outcome, Memory>
-    requires { (held : Option FileMap) × AreRead held (named.now.domain ∷ named.now.problem ∷ if_named named.now.merges) gots }
+    requires { (held : Option FileMap) × AreRead held (named.now.domain ∷ named.now.problem ∷ if_named (file_of named.now.source)) gots }
     ensures { (texts : List (List ℕ)) → AreFronts texts gots → IfOk result (ComesTo (commands.Translate named.now) texts) }
 {
-    match named.merges {
-        Some(_) => merged_gots(alloc, named, gots),
-        None => alone_gots(alloc, named, gots),
+    match named.source {
+        Source::File(_) => merged_gots(alloc, named, gots),
+        Source::Mode(mode) => mode_gots(alloc, named, mode, gots),
     }
+}
+
+// What a call for merges comes to on what was read of its two files.
+fn merges_gots(alloc: Global, named: &Merges<'_>, gots: Row<Got>) -> Result<Outcome, Memory>
+    requires { (held : Option FileMap) × AreRead held (named.now.domain ∷ named.now.problem ∷ []) gots }
+    ensures { (texts : List (List ℕ)) → AreFronts texts gots → IfOk result (ComesTo (commands.Merges named.now) texts) }
+{
+    let (domain, problem) = two_of(gots);
+    merges_of_texts(alloc, named, domain, problem)
 }
 
 // What a strip comes to on what was read of its file.
@@ -146,6 +164,7 @@ fn outcome_of(alloc: Global, command: &Command<'_>, gots: Row<Got>) -> Result<Ou
 {
     match command {
         Command::Translate(named) => translate_gots(alloc, named, gots),
+        Command::Merges(named) => merges_gots(alloc, named, gots),
         Command::Strip(named) => strip_gots(alloc, named, gots),
         Command::Check(named) => check_gots(alloc, named, gots),
     }

@@ -1,12 +1,23 @@
 ghost use Rattle.std.specs.Prelude.{◌≡◌, ◌∷◌, [], IfOk, OnOk, ◌++◌};
+ghost use Rattle.kp_printed.specs.Coverage.{coverage_text};
+ghost use Rattle.kp_translation.specs.Translations.{translation_with};
 ghost use Rattle.kp_run.specs.Outcomes.{shows_usage, translates, prints};
 
-use kp_base::{Memory, Row, Text};
+use kp_base::{Ground, Lit, Memory, Row, TagTable, Text};
 use kp_outcome::{FilePut, Outcome, Status};
-use kp_printed::usage;
+use kp_printed::{put_coverage, usage};
 use kp_translation::Translation;
 use kp_words::Translate;
 use std::alloc::Global;
+
+// The counts, and behind them whether the table is complete.
+fn with_coverage(ground: &Ground, counts: Row<u8>, uncovered: &[Lit]) -> Result<Row<u8>, Memory>
+    ensures { IfOk result (λ text. text ≡ counts ++ coverage_text ground.now.atoms uncovered.now) }
+{
+    let mut text = counts.into_vec();
+    put_coverage(&mut text, ground.atoms.slice(), uncovered)?;
+    Ok(Row::from_vec(text))
+}
 
 /// The usage is printed.
 pub fn usage_outcome(alloc: Global) -> Result<Outcome, Memory>
@@ -58,18 +69,24 @@ fn put_both(
     Ok(puts)
 }
 
-/// The two files of a translation are put, and its report is printed.
+/// The two files of a translation are put, the counts are printed, and whether the table is complete.
 pub fn translates(
     alloc: Global,
     command: &Translate<'_>,
+    ground: &Ground,
+    table: &TagTable,
     translation: Translation,
+    uncovered: &[Lit],
 ) -> Result<Outcome, Memory>
-    ensures { IfOk result (λ o. o ≡ translates command.now translation) }
+    requires { translation ≡ translation_with ground.now table.now }
+    ensures { IfOk result (λ o. o ≡ translates command.now ground.now table.now uncovered.now) }
 {
+    let _ = table;
     let puts = put_both(alloc, command, translation.domain, translation.problem)?;
+    let text = with_coverage(ground, translation.counts, uncovered)?;
     Ok(Outcome {
         status: Status::Done,
         puts,
-        text: translation.report,
+        text,
     })
 }

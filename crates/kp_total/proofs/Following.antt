@@ -1,5 +1,5 @@
 -- What follows from how a run ends.
-use Rattle.std.proofs.Common.{◌≡◌, ◌≢◌, ◌⊎◌, ◌++◌, ℕ, List, [], ◌∷◌, Option, Some, None, Vec, map, length, inl, inr, refl, sym, ap, ◌∙◌, subst}
+use Rattle.std.proofs.Common.{◌≡◌, ◌≢◌, ◌⊎◌, ◌++◌, ℕ, List, [], ◌∷◌, Option, Some, None, Vec, map, codes, length, inl, inr, refl, sym, ap, ◌∙◌, subst}
 use Rattle.std.specs.FinMap.{get}
 use Rattle.std.specs.declared.alloc.Global.{Global}
 use Rattle.kp_base.specs.declared.refused.Refused.TheVariants as refusals
@@ -14,7 +14,7 @@ use Rattle.kp_outcome.specs.declared.outcome.Outcome.{Outcome}
 use Rattle.kp_outcome.specs.declared.status.Status.{Status}
 use Rattle.kp_outcome.specs.declared.status.Status.TheVariants as status
 use Rattle.kp_outcome.specs.Ends.{Outside, IsAnswer, AreHeld, with_files, StopsAt, CarriesOut, whole, put_failed, put_no_memory, print_failed, print_no_memory}
-use Rattle.kp_words.specs.Names.{Translate, Strip, Check}
+use Rattle.kp_words.specs.Names.{Source, of_mode, of_file, Translate, Merges, Strip, Check}
 use Rattle.kp_words.specs.declared.command.Command.{Command}
 use Rattle.kp_words.specs.declared.command.Command.TheVariants as commands
 use Rattle.kp_words.specs.Command.{IsTranslate, IsCommand, inputs_of, outputs_of}
@@ -22,19 +22,22 @@ use Rattle.kp_prepared.specs.Refusing.{refuses, named_in}
 use Rattle.kp_prepared.specs.Prepared.{clash, by_texts, by_trees, Comes, early, later}
 use Rattle.kp_base.specs.declared.refused.Refused.{Refused}
 use Rattle.kp_printed.specs.Refusals.{Named, nothing}
-use Rattle.kp_translation.specs.declared.translation.Translation.{Translation}
-use Rattle.kp_translation.specs.Translations.{translation_with}
 use Rattle.kp_base.specs.declared.ground.Ground.{Ground}
 use Rattle.kp_base.specs.declared.ground.Initial.{Initial}
 use Rattle.kp_base.specs.declared.ground.TagTable.{TagTable}
 use Rattle.kp_check.specs.declared.answer.Judged.{Judged}
 use Rattle.kp_check.specs.declared.answer.Judged.TheVariants.{Yes, No}
 use Rattle.kp_given.specs.Translations.{ground_of, initial_of}
-use Rattle.kp_given.specs.Tables.{translation_of, empty_tag}
-use Rattle.kp_run.specs.Outcomes.{translates, TranslatesGround, over, done, TranslatesWith, long_merges, no_merges, no_table, with_table, TranslatesBy, TranslatesTexts, StripsText, too_long, no_plan, no_strip, strips, prints, ChecksPlan, long_plan, no_steps, unknown_step, judged, ChecksTrees, named_with, tells, ComesTo, translated, stripped, checked, IsDue, usage, of_command}
+use Rattle.kp_run.specs.Outcomes.{translates, TranslatesGround, over, done, TranslatesIn, none_made, made, ListsMerges, unmade, listed, MergesTrees, TranslatesWith, long_merges, no_merges, no_table, with_table, TranslatesBy, TranslatesTexts, StripsText, too_long, no_plan, no_strip, strips, prints, ChecksPlan, long_plan, no_steps, unknown_step, judged, ChecksTrees, named_with, tells, ComesTo, translated, merged, stripped, checked, IsDue, usage, of_command}
 use Rattle.kp_run.specs.Ends.{Ends, came, read_failed, no_memory}
-use Rattle.kp_total.specs.Follows.{AnswersAreWhole, TheDueIsCarriedOut, IsAnsweredBy, TheDueIsTheAnswer, EndsWith, TranslationsAreAnswered, MergesAreAnswered, ClashesAreAnswered, ChecksAreAnswered, ChecksAreTrue, StripsAreAnswered, OnlyDonePuts, DonePutsTheOutputs, OthersPutNothing, NoCommandPutsNothing, none_put, some_put, all_put, PutsAreOfTheDue, none_told, some_told, TextsAreOfTheDue, ReadFaultsTellNothing, ReadFaultsAreTrue, WriteFaultsAreTrue, FailedGetsAreTold, FailedWritesAreTold, MissingInputsAreFaults, InputsAreReadInOrder}
-use Rattle.kp_run.proofs.Counted.{empty_tags_fit}
+use Rattle.kp_total.specs.Follows.{AnswersAreWhole, TheDueIsCarriedOut, IsAnsweredBy, TheDueIsTheAnswer, EndsWith, TranslationsAreAnswered, MergesAreListed, CompleteIsPrinted, MergesAreAnswered, ClashesAreAnswered, ChecksAreAnswered, ChecksAreTrue, StripsAreAnswered, OnlyDonePuts, DonePutsTheOutputs, OthersPutNothing, NoCommandPutsNothing, none_put, some_put, all_put, PutsAreOfTheDue, none_told, some_told, TextsAreOfTheDue, ReadFaultsTellNothing, ReadFaultsAreTrue, WriteFaultsAreTrue, FailedGetsAreTold, FailedWritesAreTold, MissingInputsAreFaults, InputsAreReadInOrder}
+use Rattle.kp_printed.specs.Coverage.{coverage_text}
+use Rattle.kp_merges.specs.Printed.{merges_of, merges_text}
+use Rattle.kp_cover.proofs.Answered.{none_uncovered}
+use Rattle.kp_decided.proofs.Covered.{complete_with_none}
+use Rattle.kp_base.specs.Covering.{AreUncovered}
+use Rattle.kp_base.specs.declared.limits.Mode.{Mode}
+use Rattle.kp_base.specs.declared.lit.Lit.{Lit}
 use Rattle.kp_words.proofs.OneCommand.{one_command}
 use Rattle.kp_run.proofs.Answered.{outcomes_are_answers}
 use Rattle.kp_total.proofs.OneOutcome.{one_outcome}
@@ -88,14 +91,30 @@ merges_due : (words : List (Vec ℕ Global)) (m : FileMap) (c : Translate) (doma
 merges_due words m c domain problem merges o is held comes = of_command (commands.Translate c) (domain ∷ problem ∷ merges) o is held (translated c domain problem merges o comes)
 
 pub translations_are_answered : TranslationsAreAnswered
-translations_are_answered words old new s ends m c d p held is alone g =
-    ends_with words old new s ends m _ held (merges_due words m c g.domain g.problem [] (translates c (translation_of d p (empty_tag d p))) is (rw (alone, g.domain_held, g.problem_held) refl)
-    (later d p g.trees g.prepared (done (empty_tags_fit d p g.prepared.started.small) refl)))
+translations_are_answered words old new s ends m c mode d p table ls held is source g h =
+    ends_with words old new s ends m _ held (merges_due words m c g.domain g.problem [] (translates c (ground_of d p) table ls) is (rw (source, g.domain_held, g.problem_held) refl)
+    (later d p g.trees g.prepared (subst (λ x. TranslatesBy c x [] d p (translates c (ground_of d p) table ls)) (sym source) (made table h.made (done ls h.fits h.are_uncovered refl)))))
+
+pub merges_are_listed : MergesAreListed
+merges_are_listed words old new s ends m c d p table held is g h =
+    let o = prints (merges_text (ground_of d p).atoms (merges_of table)) in
+    ends_with words old new s ends m _ held (of_command (commands.Merges c) (g.domain ∷ g.problem ∷ []) o is (rw (g.domain_held, g.problem_held) refl)
+    (merged c g.domain g.problem o (later d p g.trees g.prepared (listed table h refl))))
+
+pub complete_is_printed : CompleteIsPrinted
+complete_is_printed g i table ls proper are = (
+  λ printed. complete_with_none g i table proper (subst (AreUncovered g i table) (none ls printed) are),
+  λ whole. ap (coverage_text g.atoms) (none_uncovered g i table ls are whole),
+)
+  where
+    none : (ls : List Lit) → coverage_text g.atoms ls ≡ codes "complete\n" → ls ≡ []
+    none [] e = refl
+    none (l ∷ ls) e = absurd cc
 
 pub merges_are_answered : MergesAreAnswered
-merges_are_answered words old new s ends m c name d p table held is named g h =
-    ends_with words old new s ends m _ held (merges_due words m c g.domain g.problem (h.text ∷ []) (translates c (translation_of d p table)) is (rw (named, g.domain_held, g.problem_held, h.held) refl)
-    (later d p g.trees g.prepared (with_table h.merges table h.short h.reads h.accepted (done h.fits refl))))
+merges_are_answered words old new s ends m c name d p table ls held is named g h =
+    ends_with words old new s ends m _ held (merges_due words m c g.domain g.problem (h.text ∷ []) (translates c (ground_of d p) table ls) is (rw (named, g.domain_held, g.problem_held, h.held) refl)
+    (later d p g.trees g.prepared (subst (λ x. TranslatesBy c x (h.text ∷ []) d p (translates c (ground_of d p) table ls)) (sym named) (with_table h.merges table h.short h.reads h.accepted (done ls h.fits h.are_uncovered refl)))))
 
 pub clashes_are_answered : ClashesAreAnswered
 clashes_are_answered words old new s ends m c domain problem merges d p at held is all trees started clashes =
@@ -142,14 +161,14 @@ under_none c o e d = record { done = λ n. ap (map (λ (f : FilePut). f.name)) e
 refusal_under : (c : Command) (o : Outcome) (n : Named) (r : Refused) → o ≡ refuses n r → PutsUnder c o
 refusal_under c o n r is = under_none c o (ap (λ (z : Outcome). z.puts) is) (λ e. absurd (let f : status.Refused r ≡ status.Done = sym (ap (λ (z : Outcome). z.status) is) ∙ e in cc))
 
-translation_under : (c : Translate) (t : Translation) (o : Outcome) → o ≡ translates c t → PutsUnder (commands.Translate c) o
-translation_under c t o is = record {
+translation_under : (c : Translate) (g : Ground) (table : TagTable) (ls : List Lit) (o : Outcome) → o ≡ translates c g table ls → PutsUnder (commands.Translate c) o
+translation_under c g table ls o is = record {
   done = λ n. ap (λ (z : Outcome). map (λ (f : FilePut). f.name) z.puts) is;
   nothing = λ n. absurd (n (ap (λ (z : Outcome). z.status) is));
   names = λ file m. by file (subst (λ (z : Outcome). Member z.puts file) is m);
 }
   where
-    by : (file : FilePut) → Member (translates c t).puts file → Member (outputs_of (commands.Translate c)) file.name
+    by : (file : FilePut) → Member (translates c g table ls).puts file → Member (outputs_of (commands.Translate c)) file.name
     by file (inl e) = inl (ap (λ (f : FilePut). f.name) e)
     by file (inr (inl e)) = inr (inl (ap (λ (f : FilePut). f.name) e))
     by file (inr (inr e)) = absurd e
@@ -160,20 +179,30 @@ comes_of e limit x y P o under (early (by_texts r a is)) = refusal_under e o not
 comes_of e limit x y P o under (early (by_trees d p names r h a is)) = refusal_under e o names r is
 comes_of e limit x y P o under (later d p h w goes) = under d p goes
 
-ground_under : (c : Translate) (g : Ground) (table : TagTable) (o : Outcome) → TranslatesGround c g table o → PutsUnder (commands.Translate c) o
-ground_under c g table o (over r t e) = refusal_under (commands.Translate c) o nothing r e
-ground_under c g table o (done f e) = translation_under c (translation_with g table) o e
+ground_under : (c : Translate) (g : Ground) (i : Initial) (table : TagTable) (o : Outcome) → TranslatesGround c g i table o → PutsUnder (commands.Translate c) o
+ground_under c g i table o (over r t e) = refusal_under (commands.Translate c) o nothing r e
+ground_under c g i table o (done ls f are e) = translation_under c g table ls o e
+
+mode_under : (c : Translate) (g : Ground) (i : Initial) (mode : Mode) (o : Outcome) → TranslatesIn c g i mode o → PutsUnder (commands.Translate c) o
+mode_under c g i mode o (none_made r a e) = refusal_under (commands.Translate c) o (named_in g) r e
+mode_under c g i mode o (made table a h) = ground_under c g i table o h
 
 with_under : (c : Translate) (g : Ground) (i : Initial) (text : List ℕ) (o : Outcome) → TranslatesWith c g i text o → PutsUnder (commands.Translate c) o
 with_under c g i text o (long_merges a e) = refusal_under (commands.Translate c) o nothing _ e
 with_under c g i text o (no_merges r a b e) = refusal_under (commands.Translate c) o nothing r e
 with_under c g i text o (no_table ms r a b f e) = refusal_under (commands.Translate c) o (named_in g) r e
-with_under c g i text o (with_table ms table a b f made) = ground_under c g table o made
+with_under c g i text o (with_table ms table a b f h) = ground_under c g i table o h
 
-by_under : (c : Translate) (merges : List (List ℕ)) (o : Outcome) (d : Domain Word) (p : Problem Word) → TranslatesBy c merges d p o → PutsUnder (commands.Translate c) o
-by_under c [] o d p made = ground_under c (ground_of d p) (empty_tag d p) o made
-by_under c (text ∷ []) o d p made = with_under c (ground_of d p) (initial_of d p) text o made
-by_under c (text ∷ other ∷ others) o d p made = absurd made
+by_under : (c : Translate) (source : Source) (merges : List (List ℕ)) (o : Outcome) (d : Domain Word) (p : Problem Word) → TranslatesBy c source merges d p o → PutsUnder (commands.Translate c) o
+by_under c (of_mode mode) [] o d p h = mode_under c (ground_of d p) (initial_of d p) mode o h
+by_under c (of_mode mode) (text ∷ others) o d p h = absurd h
+by_under c (of_file name) [] o d p h = absurd h
+by_under c (of_file name) (text ∷ []) o d p h = with_under c (ground_of d p) (initial_of d p) text o h
+by_under c (of_file name) (text ∷ other ∷ others) o d p h = absurd h
+
+listed_under : (c : Merges) (g : Ground) (i : Initial) (o : Outcome) → ListsMerges g i c.mode o → PutsUnder (commands.Merges c) o
+listed_under c g i o (unmade r a e) = refusal_under (commands.Merges c) o (named_in g) r e
+listed_under c g i o (listed table a e) = under_none (commands.Merges c) o (ap (λ (z : Outcome). z.puts) e) (λ d. refl)
 
 strip_under : (c : Strip) (x : List ℕ) (o : Outcome) → StripsText x o → PutsUnder (commands.Strip c) o
 strip_under c x o (too_long a e) = refusal_under (commands.Strip c) o nothing _ e
@@ -189,7 +218,8 @@ check_under c g i text o (judged ss ns Yes a h f v e) = under_none (commands.Che
 check_under c g i text o (judged ss ns (No ps k l) a h f v e) = under_none (commands.Check c) o (ap (λ (z : Outcome). z.puts) e) (λ d. refl)
 
 comes_under : (c : Command) (texts : List (List ℕ)) (o : Outcome) → ComesTo c texts o → PutsUnder c o
-comes_under _ _ o (translated c x y merges _ a) = comes_of (commands.Translate c) c.implicates x y (TranslatesBy c merges) o (by_under c merges o) a
+comes_under _ _ o (translated c x y merges _ a) = comes_of (commands.Translate c) c.implicates x y (TranslatesBy c c.source merges) o (by_under c c.source merges o) a
+comes_under _ _ o (merged c x y _ a) = comes_of (commands.Merges c) c.implicates x y (MergesTrees c.mode) o (λ d p. listed_under c (ground_of d p) (initial_of d p) o) a
 comes_under _ _ o (stripped c x _ a) = strip_under c x o a
 comes_under _ _ o (checked c x y plan _ a) = comes_of (commands.Check c) c.implicates x y (ChecksTrees plan) o (λ d p. check_under c (ground_of d p) (initial_of d p) plan o) a
 

@@ -5,22 +5,25 @@ use Rattle.kp_given.specs.Translations.{ground_of, initial_of}
 use Rattle.kp_outside.specs.Outside.{FileMap}
 use Rattle.kp_outcome.specs.declared.outcome.Outcome.{Outcome}
 use Rattle.kp_outcome.specs.Ends.{AreHeld}
-use Rattle.kp_words.specs.Names.{Translate, Check}
+use Rattle.kp_words.specs.Names.{Translate, Merges, Check}
 use Rattle.kp_words.specs.declared.command.Command.{Command}
 use Rattle.kp_words.specs.declared.command.Command.TheVariants as commands
 use Rattle.kp_words.specs.Command.{inputs_of}
 use Rattle.kp_words.proofs.OneCommand.{one_command}
-use Rattle.kp_run.specs.Outcomes.{TranslatesBy, TranslatesTexts, StripsText, ChecksTrees, ChecksTexts, ComesTo, translated, stripped, checked, usage, of_command}
+use Rattle.kp_run.specs.Outcomes.{TranslatesBy, TranslatesTexts, MergesTrees, MergesTexts, StripsText, ChecksTrees, ChecksTexts, ComesTo, translated, merged, stripped, checked, usage, of_command}
 use Rattle.kp_total.specs.Laws.{HasOneOutcome}
 use Rattle.kp_total.proofs.OneStart.{comes_once}
-use Rattle.kp_total.proofs.OneTranslation.{translates_once}
+use Rattle.kp_total.proofs.OneTranslation.{merges_once, translates_once}
 use Rattle.kp_total.proofs.OneStrip.{strips_once}
 use Rattle.kp_total.proofs.OneCheck.{checks_once}
 
 -- ---- one outcome of a command
 
 texts_once : (c : Translate) (x y : List ℕ) (merges : List (List ℕ)) (o u : Outcome) → TranslatesTexts c x y merges o → TranslatesTexts c x y merges u → o ≡ u
-texts_once c x y merges = comes_once c.implicates x y (TranslatesBy c merges) (λ d p o u w a b. translates_once c merges d p o u a b)
+texts_once c x y merges = comes_once c.implicates x y (TranslatesBy c c.source merges) (λ d p o u w a b. translates_once c c.source merges d p o u a b)
+
+listed_once : (c : Merges) (x y : List ℕ) (o u : Outcome) → MergesTexts c x y o → MergesTexts c x y u → o ≡ u
+listed_once c x y = comes_once c.implicates x y (MergesTrees c.mode) (λ d p o u w a b. merges_once (ground_of d p) (initial_of d p) c.mode o u a b)
 
 plans_once : (c : Check) (x y plan : List ℕ) (o u : Outcome) → ChecksTexts c x y plan o → ChecksTexts c x y plan u → o ≡ u
 plans_once c x y plan = comes_once c.implicates x y (ChecksTrees plan) (λ d p o u w a b. checks_once (ground_of d p) (initial_of d p) plan o u a b)
@@ -35,18 +38,32 @@ outcome_once _ _ o u (translated c x y merges _ a) b = go _ _ u b refl refl
         let second : w ≡ y = cc in
         let others : more ≡ merges = cc in
         texts_once c x y merges o u a (subst (λ t. TranslatesTexts c x y t u) others (subst (λ t. TranslatesTexts c x t more u) second (subst (λ t. TranslatesTexts c t w more u) first (subst (λ z. TranslatesTexts z v w more u) command b))))
+    go _ _ u (merged d v w _ b) same at = absurd cc
+    go _ _ u (stripped d v _ b) same at = absurd cc
+    go _ _ u (checked d v w t _ b) same at = absurd cc
+outcome_once _ _ o u (merged c x y _ a) b = go _ _ u b refl refl
+  where
+    go : (e : Command) (texts : List (List ℕ)) (u : Outcome) → ComesTo e texts u → e ≡ commands.Merges c → texts ≡ x ∷ y ∷ [] → o ≡ u
+    go _ _ u (translated d v w more _ b) same at = absurd cc
+    go _ _ u (merged d v w _ b) same at =
+        let command : d ≡ c = cc in
+        let first : v ≡ x = cc in
+        let second : w ≡ y = cc in
+        listed_once c x y o u a (subst (λ t. MergesTexts c x t u) second (subst (λ t. MergesTexts c t w u) first (subst (λ z. MergesTexts z v w u) command b)))
     go _ _ u (stripped d v _ b) same at = absurd cc
     go _ _ u (checked d v w t _ b) same at = absurd cc
 outcome_once _ _ o u (stripped c x _ a) b = go _ _ u b refl refl
   where
     go : (e : Command) (texts : List (List ℕ)) (u : Outcome) → ComesTo e texts u → e ≡ commands.Strip c → texts ≡ x ∷ [] → o ≡ u
     go _ _ u (translated d v w more _ b) same at = absurd cc
+    go _ _ u (merged d v w _ b) same at = absurd cc
     go _ _ u (stripped d v _ b) same at = let first : v ≡ x = cc in strips_once x o u a (subst (λ t. StripsText t u) first b)
     go _ _ u (checked d v w t _ b) same at = absurd cc
 outcome_once _ _ o u (checked c x y plan _ a) b = go _ _ u b refl refl
   where
     go : (e : Command) (texts : List (List ℕ)) (u : Outcome) → ComesTo e texts u → e ≡ commands.Check c → texts ≡ x ∷ y ∷ plan ∷ [] → o ≡ u
     go _ _ u (translated d v w more _ b) same at = absurd cc
+    go _ _ u (merged d v w _ b) same at = absurd cc
     go _ _ u (stripped d v _ b) same at = absurd cc
     go _ _ u (checked d v w t _ b) same at =
         let command : d ≡ c = cc in

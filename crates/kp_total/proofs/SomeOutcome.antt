@@ -7,19 +7,25 @@ use Rattle.kp_base.specs.declared.refused.Part.TheVariants as parts
 use Rattle.kp_base.specs.declared.refused.Refused.TheVariants as refusals
 use Rattle.kp_base.specs.declared.ground.Ground.{Ground}
 use Rattle.kp_base.specs.declared.ground.GroundName.{GroundName}
+use Rattle.kp_base.specs.declared.ground.Initial.{Initial}
 use Rattle.kp_base.specs.declared.ground.TagTable.{TagTable}
+use Rattle.kp_base.specs.declared.limits.Mode.{Mode}
+use Rattle.kp_base.specs.Implicates.{IsOfItsAtoms}
 use Rattle.kp_grammar.specs.declared.tree.Word.{Word}
 use Rattle.kp_grammar.specs.Trees.{Domain, Problem}
 use Rattle.kp_meaning.specs.Numbering.{numbered_problem}
 use Rattle.kp_meaning.specs.Strip.{stripped, strip}
 use Rattle.kp_given.specs.Translations.{ground_of, initial_of}
-use Rattle.kp_given.specs.Tables.{empty_tag}
-use Rattle.kp_given.proofs.Starts.{formulas_over_atoms}
+use Rattle.kp_given.proofs.Starts.{formulas_over_atoms, states_are_models}
 use Rattle.kp_task.specs.Task.{task_of}
 use Rattle.kp_task.specs.Weight.{weight_of}
 use Rattle.kp_ktask.specs.Translated.{facts_over, weight_over}
-use Rattle.kp_translation.specs.Translations.{translation_with}
+use Rattle.kp_merges.specs.Printed.{merges_of, merges_text}
+use Rattle.kp_decided.specs.Laws.{AreProper}
+use Rattle.kp_decided.proofs.Counting.{formulas_ascend}
 use Rattle.kp_decided.proofs.Tabling.{tables_decided}
+use Rattle.kp_decided.proofs.Made.{made_decided}
+use Rattle.kp_decided.proofs.Covered.{coverages_decided}
 use Rattle.kp_decided.proofs.Judging.{verdicts_decided}
 use Rattle.kp_decided.proofs.Finding.{steps_decided}
 use Rattle.kp_outcome.specs.declared.outcome.Outcome.{Outcome}
@@ -31,15 +37,15 @@ use Rattle.kp_plans.specs.Printed.{plan_text}
 use Rattle.kp_plans.specs.Stripping.{IsFirstUnstripped}
 use Rattle.kp_plans.proofs.WholePlans.{always_some as plans_always_one}
 use Rattle.kp_printed.specs.Refusals.{nothing}
-use Rattle.kp_words.specs.Names.{Translate}
+use Rattle.kp_words.specs.Names.{Source, of_mode, of_file, Translate}
 use Rattle.kp_words.specs.declared.command.Command.TheVariants as commands
-use Rattle.kp_words.specs.Command.{if_named, inputs_of}
+use Rattle.kp_words.specs.Command.{file_of, if_named, inputs_of}
 use Rattle.kp_words.proofs.Decided.{words_decided}
 use Rattle.kp_prepared.specs.Texts.{HaveTrees}
 use Rattle.kp_prepared.specs.Refusing.{refuses, named_in}
 use Rattle.kp_prepared.specs.Prepared.{usual, IsPrepared}
 use Rattle.kp_prepared.proofs.Counted.{is_of_atoms}
-use Rattle.kp_run.specs.Outcomes.{shows_usage, translates, TranslatesGround, over, done, TranslatesWith, long_merges, no_merges, no_table, with_table, TranslatesBy, prints, StripsText, too_long, no_plan, no_strip, strips, tells, named_with, long_plan, no_steps, unknown_step, judged, ChecksTrees, translated, checked, usage, of_command}
+use Rattle.kp_run.specs.Outcomes.{shows_usage, translates, TranslatesGround, over, done, TranslatesIn, none_made, made, ListsMerges, unmade, listed, MergesTrees, TranslatesWith, long_merges, no_merges, no_table, with_table, TranslatesBy, prints, StripsText, too_long, no_plan, no_strip, strips, tells, named_with, long_plan, no_steps, unknown_step, judged, ChecksTrees, translated, merged, checked, usage, of_command}
 use Rattle.kp_run.specs.Outcomes as outcomes
 use Rattle.kp_run.proofs.FileMerges.{tags_of_atoms}
 use Rattle.kp_run.proofs.Checks.{inside}
@@ -48,32 +54,54 @@ use Rattle.kp_total.proofs.SomeStart.{some_comes}
 
 -- ---- a translation
 
-of_table : (c : Translate) (g : Ground) (table : TagTable) → (o : Outcome) × TranslatesGround c g table o
-of_table c g table = elim (cases_lt 262144 (length (task_of g table).facts)) [
-  | inl more ↦ (refuses nothing refusals.FactsOver, over refusals.FactsOver (facts_over more) refl)
-  | inr few ↦ elim (cases_lt 16000000 (weight_of (task_of g table))) [
-    | inl heavy ↦ (refuses nothing refusals.WeightOver, over refusals.WeightOver (weight_over few heavy) refl)
-    | inr light ↦ (translates c (translation_with g table), done (record { facts = few; weight = light }) refl)
-  ]
-]
+module _ (c : Translate) (limit : ℕ) (d : Domain Word) (p : Problem Word) (x y : List ℕ) (trees : HaveTrees x y d p) (ready : IsPrepared limit d p) where
+  own : IsOfItsAtoms (ground_of d p)
+  own = is_of_atoms (numbered_problem d p) (ground_of d p) ready.started.small
 
-module _ (c : Translate) (d : Domain Word) (p : Problem Word) (x y : List ℕ) (trees : HaveTrees x y d p) (ready : IsPrepared c.implicates d p) where
+  proper : AreProper (ground_of d p) (initial_of d p)
+  proper = record { own_atoms = own; over = formulas_over_atoms d p; ascending = formulas_ascend (numbered_problem d p); model = (states_are_models d p trees.no_fault).0 ready.started.initial }
+
+  of_table : (table : TagTable) → (o : Outcome) × TranslatesGround c (ground_of d p) (initial_of d p) table o
+  of_table table = elim (cases_lt 262144 (length (task_of (ground_of d p) table).facts)) [
+    | inl more ↦ (refuses nothing refusals.FactsOver, over refusals.FactsOver (facts_over more) refl)
+    | inr few ↦ elim (cases_lt 16000000 (weight_of (task_of (ground_of d p) table))) [
+      | inl heavy ↦ (refuses nothing refusals.WeightOver, over refusals.WeightOver (weight_over few heavy) refl)
+      | inr light ↦
+          let ls = coverages_decided (ground_of d p) (initial_of d p) table proper in
+          (translates c (ground_of d p) table ls.0, done ls.0 (record { facts = few; weight = light }) ls.1 refl)
+    ]
+  ]
+
   of_merges : (text : List ℕ) → (o : Outcome) × TranslatesWith c (ground_of d p) (initial_of d p) text o
   of_merges text = elim (cases_lt most_bytes (length text)) [
     | inl long ↦ (refuses nothing (refusals.TooLong parts.Merges), long_merges long refl)
     | inr short ↦ elim (merges_always_one (ground_of d p).atoms text) [
       | inr r ↦ (refuses nothing r.0, no_merges r.0 short r.1 refl)
       | inl ms ↦ elim (tables_decided (length (ground_of d p).atoms) (initial_of d p) ms.0 usual.tags (formulas_over_atoms d p) (tags_of_atoms (ground_of d p).atoms text ms.0 ms.1)) [
-        | inl t ↦ let o = of_table c (ground_of d p) t.0 in (o.0, with_table ms.0 t.0 short ms.1 t.1 o.1)
+        | inl t ↦ let o = of_table t.0 in (o.0, with_table ms.0 t.0 short ms.1 t.1 o.1)
         | inr r ↦ (refuses (named_in (ground_of d p)) r.0, no_table ms.0 r.0 short ms.1 r.1 refl)
       ]
     ]
   ]
 
-of_texts : (c : Translate) (merges : List (List ℕ)) → length merges ≤ 1 → (d : Domain Word) (p : Problem Word) (x y : List ℕ) → HaveTrees x y d p → IsPrepared c.implicates d p → (o : Outcome) × TranslatesBy c merges d p o
-of_texts c [] one d p x y trees ready = of_table c (ground_of d p) (empty_tag d p)
-of_texts c (text ∷ []) one d p x y trees ready = of_merges c d p x y trees ready text
-of_texts c (text ∷ other ∷ others) one d p x y trees ready = absurd (omega (arith, one))
+  of_mode_made : (mode : Mode) → (o : Outcome) × TranslatesIn c (ground_of d p) (initial_of d p) mode o
+  of_mode_made mode = elim (made_decided mode usual (ground_of d p) (initial_of d p) proper) [
+    | inl t ↦ let o = of_table t.0 in (o.0, made t.0 t.1 o.1)
+    | inr r ↦ (refuses (named_in (ground_of d p)) r.0, none_made r.0 r.1 refl)
+  ]
+
+  of_listed : (mode : Mode) → (o : Outcome) × MergesTrees mode d p o
+  of_listed mode = elim (made_decided mode usual (ground_of d p) (initial_of d p) proper) [
+    | inl t ↦ (prints (merges_text (ground_of d p).atoms (merges_of t.0)), listed t.0 t.1 refl)
+    | inr r ↦ (refuses (named_in (ground_of d p)) r.0, unmade r.0 r.1 refl)
+  ]
+
+of_texts : (c : Translate) (source : Source) (merges : List (List ℕ)) → length merges ≡ length (if_named (file_of source)) → (d : Domain Word) (p : Problem Word) (x y : List ℕ) → HaveTrees x y d p → IsPrepared c.implicates d p → (o : Outcome) × TranslatesBy c source merges d p o
+of_texts c (of_mode mode) [] many d p x y trees ready = of_mode_made c c.implicates d p x y trees ready mode
+of_texts c (of_mode mode) (text ∷ others) many d p x y trees ready = absurd (omega (arith, many))
+of_texts c (of_file name) [] many d p x y trees ready = absurd (omega (arith, many))
+of_texts c (of_file name) (text ∷ []) many d p x y trees ready = of_merges c c.implicates d p x y trees ready text
+of_texts c (of_file name) (text ∷ other ∷ others) many d p x y trees ready = absurd (omega (arith, many))
 
 -- ---- a plan file
 
@@ -141,19 +169,19 @@ module _ (limit : ℕ) (d : Domain Word) (p : Problem Word) (ready : IsPrepared 
 
 -- ---- commands
 
--- there is one file of merges at most
-few_named : (name : Option (List ℕ)) → length (if_named name) ≤ 1
-few_named None = omega arith
-few_named (Some n) = omega arith
-
 pub some_outcome : CommandsHaveAnOutcome
 some_outcome (commands.Translate c) (x ∷ y ∷ merges) many =
-    let few = few_named c.merges in
-    let one : length merges ≤ 1 = omega (arith, many, few) in
-    let t = some_comes c.implicates x y (TranslatesBy c merges) (λ d p trees ready. of_texts c merges one d p x y trees ready) in
+    let others : length merges ≡ length (if_named (file_of c.source)) = omega (arith, many) in
+    let t = some_comes c.implicates x y (TranslatesBy c c.source merges) (λ d p trees ready. of_texts c c.source merges others d p x y trees ready) in
     (t.0, translated c x y merges t.0 t.1)
 some_outcome (commands.Translate c) [] many = absurd (omega (arith, many))
 some_outcome (commands.Translate c) (x ∷ []) many = absurd (omega (arith, many))
+some_outcome (commands.Merges c) (x ∷ y ∷ []) many =
+    let t = some_comes c.implicates x y (MergesTrees c.mode) (λ d p trees ready. of_listed (record { domain = c.domain; problem = c.problem; domain_out = []; problem_out = []; source = of_mode c.mode; implicates = c.implicates }) c.implicates d p x y trees ready c.mode) in
+    (t.0, merged c x y t.0 t.1)
+some_outcome (commands.Merges c) [] many = absurd (omega (arith, many))
+some_outcome (commands.Merges c) (x ∷ []) many = absurd (omega (arith, many))
+some_outcome (commands.Merges c) (x ∷ y ∷ z ∷ zs) many = absurd (omega (arith, many))
 some_outcome (commands.Strip c) (text ∷ []) many = let t = of_plan text in (t.0, outcomes.stripped c text t.0 t.1)
 some_outcome (commands.Strip c) [] many = absurd (omega (arith, many))
 some_outcome (commands.Strip c) (x ∷ y ∷ zs) many = absurd (omega (arith, many))

@@ -1,8 +1,13 @@
 -- What follows from how a run ends, said side by side.
-use Rattle.std.specs.Prelude.{◌≡◌, ◌↔◌, ◌≢◌, ◌≤◌, ◌⊎◌, length, List, [], ◌∷◌, ◌++◌, ℕ, Option, Some, None, Vec, map}
+use Rattle.std.specs.Prelude.{◌≡◌, ◌↔◌, ◌≢◌, ◌≤◌, ◌⊎◌, length, List, [], ◌∷◌, ◌++◌, ℕ, Option, Some, None, Vec, map, codes}
 use Rattle.std.specs.FinMap.{get}
 use Rattle.std.specs.declared.alloc.Global.{Global}
+use Rattle.kp_base.specs.declared.ground.Ground.{Ground}
 use Rattle.kp_base.specs.declared.ground.GroundName.{GroundName}
+use Rattle.kp_base.specs.declared.ground.Initial.{Initial}
+use Rattle.kp_base.specs.declared.lit.Lit.{Lit}
+use Rattle.kp_base.specs.declared.limits.Mode.{Mode}
+use Rattle.kp_base.specs.Covering.{IsComplete, AreUncovered}
 use Rattle.kp_base.specs.declared.refused.ClashAt.{ClashAt}
 use Rattle.kp_base.specs.declared.refused.Refused.TheVariants as refusals
 use Rattle.kp_base.specs.Exclusive.{ClashesFirst}
@@ -19,12 +24,15 @@ use Rattle.kp_task.specs.Task.{task_of}
 use Rattle.kp_ktask.specs.Translated.{FitsLimits}
 use Rattle.kp_merges.specs.declared.merge.FileMerge.{FileMerge}
 use Rattle.kp_merges.specs.MergesFiles.{IsMergesOf}
+use Rattle.kp_merges.specs.Printed.{merges_of, merges_text}
 use Rattle.kp_tags.specs.Answers.{Accepts}
+use Rattle.kp_tags.specs.Made.{IsMade}
+use Rattle.kp_printed.specs.Coverage.{coverage_text}
 use Rattle.kp_plans.specs.Found.{action_of}
+use Rattle.kp_decided.specs.Laws.{AreProper}
 use Rattle.kp_check.specs.declared.answer.Judged.{Judged}
 use Rattle.kp_check.specs.Judging.{AnswersJudged}
 use Rattle.kp_given.specs.Translations.{ground_of, initial_of}
-use Rattle.kp_given.specs.Tables.{translation_of, empty_tag}
 use Rattle.kp_outside.specs.Outside.{FileMap, Rises, AddsFront, with_bytes}
 use Rattle.kp_outcome.specs.declared.outcome.FilePut.{FilePut}
 use Rattle.kp_outcome.specs.declared.outcome.Outcome.{Outcome}
@@ -33,8 +41,8 @@ use Rattle.kp_outcome.specs.declared.status.Status.TheVariants as status
 use Rattle.kp_outcome.specs.Ends.{Outside, AreHeld, NoGetFailed, NoPutFailed, NoWriteFailed, IsUntouched, IsAnswer, with_files, StopsAt, CarriesOut, most_bytes}
 use Rattle.kp_words.specs.declared.command.Command.{Command}
 use Rattle.kp_words.specs.declared.command.Command.TheVariants as commands
-use Rattle.kp_words.specs.Names.{Translate, Strip, Check}
-use Rattle.kp_words.specs.Command.{IsTranslate, IsStrip, IsCheck, IsCommand, IsNoCommand, inputs_of, outputs_of}
+use Rattle.kp_words.specs.Names.{of_mode, of_file, Translate, Merges, Strip, Check}
+use Rattle.kp_words.specs.Command.{IsTranslate, IsMerges, IsStrip, IsCheck, IsCommand, IsNoCommand, inputs_of, outputs_of}
 use Rattle.kp_prepared.specs.Texts.{HaveTrees}
 use Rattle.kp_prepared.specs.Refusing.{refuses, named_in}
 use Rattle.kp_prepared.specs.Prepared.{usual, IsStarted, IsPrepared}
@@ -96,14 +104,30 @@ pub record GoesOn (m : FileMap) (domain_name problem_name : List ℕ) (limit : �
   pub trees : HaveTrees domain problem d p
   pub prepared : IsPrepared limit d p
 
--- a translation of such files with the empty tag alone: the run ends with their translation
-abbrev pub TranslationsAreAnswered : Type 0
-TranslationsAreAnswered = OfRuns (λ words old new s. (m : FileMap) (c : Translate) (d : Domain Word) (p : Problem Word)
-    → old.held ≡ Some m → IsTranslate words c → c.merges ≡ None → GoesOn m c.domain c.problem c.implicates d p
-    → EndsWith (translates c (translation_of d p (empty_tag d p))) old new s)
+-- the table is that of a mode, its task is within the limits, and it leaves these targets uncovered
+pub record HasTable (d : Domain Word) (p : Problem Word) (mode : Mode) (table : TagTable) (uncovered : List Lit) : Type 0 where
+  pub made : IsMade mode usual (ground_of d p) (initial_of d p) table
+  pub fits : FitsLimits (task_of (ground_of d p) table) usual
+  pub are_uncovered : AreUncovered (ground_of d p) (initial_of d p) table uncovered
 
--- under a name a file of merges is held for such trees: it isn't too long, reads, and its merges have this table, whose task is within the limits
-pub record HasMerges (m : FileMap) (name : List ℕ) (d : Domain Word) (p : Problem Word) (table : TagTable) : Type 0 where
+-- a translation of such files in a mode: the run ends with their translation
+abbrev pub TranslationsAreAnswered : Type 0
+TranslationsAreAnswered = OfRuns (λ words old new s. (m : FileMap) (c : Translate) (mode : Mode) (d : Domain Word) (p : Problem Word) (table : TagTable) (uncovered : List Lit)
+    → old.held ≡ Some m → IsTranslate words c → c.source ≡ of_mode mode → GoesOn m c.domain c.problem c.implicates d p → HasTable d p mode table uncovered
+    → EndsWith (translates c (ground_of d p) table uncovered) old new s)
+
+-- merges of such files in a mode: the run ends with the merges of its table
+abbrev pub MergesAreListed : Type 0
+MergesAreListed = OfRuns (λ words old new s. (m : FileMap) (c : Merges) (d : Domain Word) (p : Problem Word) (table : TagTable)
+    → old.held ≡ Some m → IsMerges words c → GoesOn m c.domain c.problem c.implicates d p → IsMade c.mode usual (ground_of d p) (initial_of d p) table
+    → EndsWith (prints (merges_text (ground_of d p).atoms (merges_of table))) old new s)
+
+-- of a ground problem and its initial formula, what is printed behind the counts is `complete` exactly where the table is complete
+abbrev pub CompleteIsPrinted : Type 0
+CompleteIsPrinted = (g : Ground) (i : Initial) (table : TagTable) (uncovered : List Lit) → AreProper g i → AreUncovered g i table uncovered → (coverage_text g.atoms uncovered ≡ codes "complete\n") ↔ IsComplete g i table
+
+-- under a name a file of merges is held for such trees: it isn't too long, reads, and its merges have this table, whose task is within the limits, and which leaves these targets uncovered
+pub record HasMerges (m : FileMap) (name : List ℕ) (d : Domain Word) (p : Problem Word) (table : TagTable) (uncovered : List Lit) : Type 0 where
   pub text : List ℕ
   pub merges : List FileMerge
   pub held : get m name ≡ Some text
@@ -111,12 +135,13 @@ pub record HasMerges (m : FileMap) (name : List ℕ) (d : Domain Word) (p : Prob
   pub reads : IsMergesOf (ground_of d p).atoms text merges
   pub accepted : Accepts (length (ground_of d p).atoms) (initial_of d p) merges usual.tags table
   pub fits : FitsLimits (task_of (ground_of d p) table) usual
+  pub are_uncovered : AreUncovered (ground_of d p) (initial_of d p) table uncovered
 
 -- a translation of such files with such merges: the run ends with their translation with the table
 abbrev pub MergesAreAnswered : Type 0
-MergesAreAnswered = OfRuns (λ words old new s. (m : FileMap) (c : Translate) (name : List ℕ) (d : Domain Word) (p : Problem Word) (table : TagTable)
-    → old.held ≡ Some m → IsTranslate words c → c.merges ≡ Some name → GoesOn m c.domain c.problem c.implicates d p → HasMerges m name d p table
-    → EndsWith (translates c (translation_of d p table)) old new s)
+MergesAreAnswered = OfRuns (λ words old new s. (m : FileMap) (c : Translate) (name : List ℕ) (d : Domain Word) (p : Problem Word) (table : TagTable) (uncovered : List Lit)
+    → old.held ≡ Some m → IsTranslate words c → c.source ≡ of_file name → GoesOn m c.domain c.problem c.implicates d p → HasMerges m name d p table uncovered
+    → EndsWith (translates c (ground_of d p) table uncovered) old new s)
 
 -- files of a translation with a clash, and whichever merges: the run ends with the lines of the first clash
 abbrev pub ClashesAreAnswered : Type 0

@@ -1,4 +1,4 @@
-ghost use Rattle.kp_total.specs.Follows.{AnswersAreWhole, TheDueIsCarriedOut, TheDueIsTheAnswer, TranslationsAreAnswered, ClashesAreAnswered, MergesAreAnswered, ChecksAreAnswered, ChecksAreTrue, StripsAreAnswered, OnlyDonePuts, DonePutsTheOutputs, OthersPutNothing, NoCommandPutsNothing, PutsAreOfTheDue, TextsAreOfTheDue, ReadFaultsTellNothing, ReadFaultsAreTrue, WriteFaultsAreTrue, FailedGetsAreTold, FailedWritesAreTold, MissingInputsAreFaults, InputsAreReadInOrder};
+ghost use Rattle.kp_total.specs.Follows.{AnswersAreWhole, TheDueIsCarriedOut, TheDueIsTheAnswer, TranslationsAreAnswered, MergesAreListed, CompleteIsPrinted, ClashesAreAnswered, MergesAreAnswered, ChecksAreAnswered, ChecksAreTrue, StripsAreAnswered, OnlyDonePuts, DonePutsTheOutputs, OthersPutNothing, NoCommandPutsNothing, PutsAreOfTheDue, TextsAreOfTheDue, ReadFaultsTellNothing, ReadFaultsAreTrue, WriteFaultsAreTrue, FailedGetsAreTold, FailedWritesAreTold, MissingInputsAreFaults, InputsAreReadInOrder};
 
 /// An answer comes with the whole of its outcome.
 pub fn answers_are_whole()
@@ -15,9 +15,19 @@ pub fn the_due_is_the_answer()
     ensures { TheDueIsTheAnswer }
 {}
 
-/// A run on files that nothing refuses ends with their translation.
+/// A run on files that nothing refuses ends with their translation in the mode.
 pub fn translations_are_answered()
     ensures { TranslationsAreAnswered }
+{}
+
+/// A call for merges on such files ends with the merges of the mode.
+pub fn merges_are_listed()
+    ensures { MergesAreListed }
+{}
+
+/// `complete` is printed exactly where each target is covered.
+pub fn complete_is_printed()
+    ensures { CompleteIsPrinted }
 {}
 
 /// A run on such files and a file of merges that are accepted ends with their translation.

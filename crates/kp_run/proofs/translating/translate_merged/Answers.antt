@@ -10,8 +10,8 @@ use Rattle.kp_run.proofs.translating.translate_merged.Goals as goal
 pub returns-in-Ok : goal.returns-in-Ok
 returns-in-Ok c d p m first second third =
     let w = subst (λ r. AnswersPrepared c.args.command.now.implicates d p r) c.in-Ok.is (subst (λ n. AnswersPrepared n d p c.prepare.result) (ap (λ (k : Translate). k.implicates) c.command.view_is) (c.prepare.ensures.answers d p first second)) in
-    goes_later c.args.command.now.implicates d p (TranslatesBy c.args.command.now (m ∷ [])) c.in-Ok.prepared w c.with_text.result
-    (given c.args.command.now w.first w.second m c.in-Ok.prepared.ground c.with_text.result w.ground (c.with_text.ensures m (initial_of w.first w.second) third w.primes.same_models))
+    goes_later c.args.command.now.implicates d p (TranslatesBy c.args.command.now c.args.command.now.source (m ∷ [])) c.in-Ok.prepared w c.with_text.result
+    (given c.args.command.now w.first w.second c.requires.file.0 m c.in-Ok.prepared.ground c.with_text.result c.requires.file.1 w.ground (c.with_text.ensures m (initial_of w.first w.second) third w.primes.same_models))
 
 -- it ends early
 pub returns-in-Err-With : goal.returns-in-Err-With

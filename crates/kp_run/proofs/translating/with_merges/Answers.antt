@@ -1,12 +1,15 @@
-use Rattle.std.proofs.Common.{Err, subst}
+use Rattle.std.proofs.Common.{Err, sym, subst}
 use Rattle.kp_base.specs.declared.limits.Limits.{Limits}
 use Rattle.kp_primes.specs.Held.{formula}
 use Rattle.kp_tags.specs.Answers.{Accepts, RefusesTable, AnswersTable}
-use Rattle.kp_run.proofs.Translations.{has_tags, table_refused, table_accepted}
+use Rattle.kp_tags.proofs.Right.{right}
+use Rattle.kp_run.proofs.Translations.{table_refused, table_accepted}
 use Rattle.kp_run.proofs.translating.with_merges.Goals as goal
 
-pub with_table-requires : goal.with_table-requires
-with_table-requires c = has_tags c.args.prepared.now.primes.atoms (formula c.args.prepared.now.primes) c.args.merges.now c.usual.result.tags c.in-Ok.table c.in-Ok.ensures
+pub with_table-requires-clause-table : goal.with_table-requires-clause-table
+with_table-requires-clause-table c =
+    let fine = subst (λ n. Accepts n (formula c.args.prepared.now.primes) c.args.merges.now c.usual.result.tags c.in-Ok.table) (sym c.requires.usable.atoms) c.in-Ok.ensures in
+    (right c.args.prepared.now.ground (formula c.args.prepared.now.primes) c.args.merges.now c.in-Ok.table fine.acceptable fine.is_table).0
 
 -- the merges have a table
 pub returns-in-Ok : goal.returns-in-Ok

@@ -13,8 +13,8 @@ use Rattle.kp_run.proofs.translating.with_text.Goals as goal
 pub returns-then-merges : goal.returns-then-merges
 returns-then-merges c text i front same = merges_long c.args.command.now c.args.prepared.now.ground (formula c.args.prepared.now.primes) i text c.refuse.result (over_length 16777216 text c.args.merges.more refl front.1 c.if-merges.true) c.refuse.ensures
 
-pub with_merges-requires : goal.with_merges-requires
-with_merges-requires c = subst (λ n. list_all (has_tags_of_atoms n) c.in-Ok.merges ≡ true) c.requires.usable.atoms (tags_of_atoms c.args.prepared.now.ground.atoms c.slice.result.now c.in-Ok.merges c.in-Ok.ensures)
+pub with_merges-requires-clause-of_atoms : goal.with_merges-requires-clause-of_atoms
+with_merges-requires-clause-of_atoms c = subst (λ n. list_all (has_tags_of_atoms n) c.in-Ok.merges ≡ true) c.requires.usable.atoms (tags_of_atoms c.args.prepared.now.ground.atoms c.slice.result.now c.in-Ok.merges c.in-Ok.ensures)
 
 -- the text has merges
 pub returns-in-Ok : goal.returns-in-Ok
