@@ -47,7 +47,8 @@ def timed(program, files, words):
 
 def measure(program, domain, problem, options=()):
     """Seconds, peak in bytes, exit status and first printed lines of one translation of two files, given by their parts."""
-    words = ["translate", "d.pddl", "p.pddl", "od.pddl", "op.pddl", "--mode", "k0", *options]
+    mode = () if "--mode" in options else ("--mode", "k0")
+    words = ["translate", "d.pddl", "p.pddl", "od.pddl", "op.pddl", *mode, *options]
     seconds, usage, status, printed = timed(program, {"d.pddl": domain, "p.pddl": problem}, words)
     return seconds, usage.ru_maxrss * 1_024, status, printed
 

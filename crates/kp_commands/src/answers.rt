@@ -25,7 +25,7 @@ fn each_answer(rt: HostRuntime) -> Result<(), Fail> {
             CELLS,
             ONE_IS_FULL,
             0,
-            "atoms 3\nactions 1\ntags 1\nmerges 0\nfacts 6\n",
+            "atoms 3\nactions 1\ntags 1\nmerges 0\nfacts 6\nincomplete\nuncovered (x1)\n",
         ),
         (
             CELLS,
@@ -37,7 +37,7 @@ fn each_answer(rt: HostRuntime) -> Result<(), Fail> {
             DOMAIN,
             "(define (problem e) (:domain d) (:init (unknown (p))) (:goal (q)))",
             0,
-            "atoms 2\nactions 1\ntags 1\nmerges 0\nfacts 4\n",
+            "atoms 2\nactions 1\ntags 1\nmerges 0\nfacts 4\ncomplete\n",
         ),
         (
             DOMAIN,

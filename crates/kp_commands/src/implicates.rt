@@ -8,7 +8,7 @@ fn limits_of_implicates(rt: HostRuntime) -> Result<(), Fail> {
     let domain = "(define (domain g) (:predicates (a) (b) (c)))";
     let problem =
         "(define (problem g) (:domain g) (:init (or (a) (b)) (or (not (a)) (c))) (:goal (a)))";
-    let accepted = "atoms 3\nactions 0\ntags 1\nmerges 0\nfacts 6\n";
+    let accepted = "atoms 3\nactions 0\ntags 1\nmerges 0\nfacts 6\ncomplete\n";
     let cases = [
         ("2", 3, "refused 11 ImplicatesOver\nprefix 2\n"),
         ("3", 0, accepted),

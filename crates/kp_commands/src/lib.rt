@@ -14,6 +14,8 @@ mod limits;
 #[cfg(test)]
 mod merging;
 #[cfg(test)]
+mod modes;
+#[cfg(test)]
 mod refusals;
 #[cfg(test)]
 mod running;

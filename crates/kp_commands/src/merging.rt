@@ -14,12 +14,12 @@ fn merges_are_translated(rt: HostRuntime) -> Result<(), Fail> {
         (
             "(merge (x1) ((x1)) ((x2)) ((x3)))",
             0,
-            "atoms 3\nactions 1\ntags 4\nmerges 1\nfacts 24\n",
+            "atoms 3\nactions 1\ntags 4\nmerges 1\nfacts 24\ncomplete\n",
         ),
         (
             "; in upper case\n(MERGE (X1)\n((X1)) ((X2)) ((X3)))\n",
             0,
-            "atoms 3\nactions 1\ntags 4\nmerges 1\nfacts 24\n",
+            "atoms 3\nactions 1\ntags 4\nmerges 1\nfacts 24\ncomplete\n",
         ),
         (
             "(merge (x1) ((x1) (x2)))",
@@ -36,11 +36,15 @@ fn merges_are_translated(rt: HostRuntime) -> Result<(), Fail> {
             3,
             "refused 16 MergeInvalid\nmerge 0\nstate (x3)\n",
         ),
-        ("", 0, "atoms 3\nactions 1\ntags 1\nmerges 0\nfacts 6\n"),
+        (
+            "",
+            0,
+            "atoms 3\nactions 1\ntags 1\nmerges 0\nfacts 6\nincomplete\nuncovered (x1)\n",
+        ),
         (
             "(merge (x2) ((x1)) ((not (x1))))",
             0,
-            "atoms 3\nactions 1\ntags 3\nmerges 1\nfacts 18\n",
+            "atoms 3\nactions 1\ntags 3\nmerges 1\nfacts 18\nincomplete\nuncovered (x1)\n",
         ),
         (
             "(merge (x1) ((x1)) ((x2)) ((x3))) x",

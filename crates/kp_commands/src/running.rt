@@ -71,6 +71,20 @@ pub fn ends_so(
     runs_so(alloc, &words, &mut shelf, number, printed)
 }
 
+/// Whether these words on two files end with this number and print this text.
+pub fn says_so(
+    alloc: Global,
+    texts: (&str, &str),
+    said: &[&str],
+    number: u8,
+    printed: &str,
+) -> Result<bool, Memory> {
+    let mut words = Vec::new(alloc);
+    push_all(alloc, &mut words, said)?;
+    let mut shelf = shelf_of(alloc, texts.0.as_bytes(), texts.1.as_bytes())?;
+    runs_so(alloc, &words, &mut shelf, number, printed)
+}
+
 /// Whether the two files are refused so, with nothing put.
 pub fn refuses(
     alloc: Global,
