@@ -227,7 +227,7 @@ module _ (pairs : List (Lit × Lit)) (h : Held) (table : TagTable) where
 
 -- ---- all targets
 
-target_below : (g : Ground) → IsOfItsAtoms g → (l : Lit) → IsTarget g l → l.atom.0 < length g.atoms
+pub target_below : (g : Ground) → IsOfItsAtoms g → (l : Lit) → IsTarget g l → l.atom.0 < length g.atoms
 target_below g of l (IsTarget.of_precondition a m p) = ltb-true l.atom.0 (length g.atoms) (all_member (λ (x : Lit). nat_lt x.atom.0 (length g.atoms)) a.pre l p (and_parts (are_below (length g.atoms) a.pre) (list_all (effect_below (length g.atoms)) a.effects) (all_member (action_below (length g.atoms)) g.actions a m of.actions)).0)
 target_below g of l (IsTarget.of_goal m) = ltb-true l.atom.0 (length g.atoms) (all_member (λ (x : Lit). nat_lt x.atom.0 (length g.atoms)) g.goal l m of.goal)
 

@@ -1,5 +1,5 @@
 -- Whether a state that satisfies what is known is inside some tags.
-use Rattle.std.proofs.Common.{◌≡◌, ◌<◌, ℕ, zero, suc, Bool, true, false, not, ◌&&◌, ◌||◌, nat_lt, List, [], ◌∷◌, arith, refl, sym, ap, ◌∙◌, ltb-true}
+use Rattle.std.proofs.Common.{◌≡◌, ◌<◌, ℕ, zero, suc, Bool, true, false, not, ◌&&◌, ◌||◌, nat_lt, List, [], ◌∷◌, fold, arith, refl, sym, ap, ◌∙◌, ltb-true}
 use Rattle.std.proofs.lemmas.Bool.{false≢true, true_from_ne_false}
 use Rattle.std.specs.List.{list_all}
 use Rattle.kp_base.specs.declared.lit.Lit.{Lit}
@@ -7,12 +7,45 @@ use Rattle.kp_base.specs.declared.ground.Initial.{Initial}
 use Rattle.kp_base.specs.Steps.{State, holds, is_model}
 use Rattle.kp_base.specs.Implicates.{are_below}
 use Rattle.kp_base.proofs.Lists.{all_member}
-use Rattle.kp_first.specs.declared.truth.Truth.TheVariants.{Yes, No}
-use Rattle.kp_first.specs.Truths.{IsTruth, opposite, truth_in}
+use Rattle.kp_first.specs.declared.truth.Truth.{Truth}
+use Rattle.kp_first.specs.declared.truth.Truth.TheVariants.{Yes, No, Open}
+use Rattle.kp_first.specs.Truths.{IsTruth, opposite, both, either, truth_in}
 use Rattle.kp_first.specs.Asked.{Judges, is_wanted, passes_one, test_at}
 use Rattle.kp_first.proofs.Truths.{opposite_is, all_is, any_is, truth_in_is}
 use Rattle.kp_cover.specs.Valid.{satisfies_one, AreValidTags, is_outside}
 use Rattle.kp_cover.specs.Inside.{all_truth, any_truth}
+
+-- ---- the first that decides
+
+all_no : (known : List Lit) (xs : List Lit) → fold (λ t x. both t (truth_in known x)) No xs ≡ No
+all_no known [] = refl
+all_no known (x ∷ xs) = all_no known xs
+
+both_no : (t : Truth) → both t No ≡ No
+both_no Yes = refl
+both_no No = refl
+both_no (Open a) = refl
+
+-- one literal that is false makes the whole false
+pub no_decides : (known : List Lit) (all : Truth) (x : Lit) (xs ys : List Lit) → ys ≡ x ∷ xs → truth_in known x ≡ No → No ≡ fold (λ t y. both t (truth_in known y)) all ys
+no_decides known all x xs ys here is =
+    sym (ap (fold (λ t y. both t (truth_in known y)) all) here ∙ (ap (λ u. fold (λ t y. both t (truth_in known y)) (both all u) xs) is ∙ (ap (λ u. fold (λ t y. both t (truth_in known y)) u xs) (both_no all) ∙ all_no known xs)))
+
+any_yes : (known : List Lit) (ts : List (List Lit)) → fold (λ t x. either t (all_truth known x)) Yes ts ≡ Yes
+any_yes known [] = refl
+any_yes known (t ∷ ts) = any_yes known ts
+
+either_yes : (t : Truth) → either t Yes ≡ Yes
+either_yes Yes = refl
+either_yes No = refl
+either_yes (Open a) = refl
+
+-- one tag that is true makes some true
+pub yes_decides : (known : List Lit) (any : Truth) (x : List Lit) (xs ys : List (List Lit)) → ys ≡ x ∷ xs → all_truth known x ≡ Yes → Yes ≡ fold (λ t y. either t (all_truth known y)) any ys
+yes_decides known any x xs ys here is =
+    sym (ap (fold (λ t y. either t (all_truth known y)) any) here ∙ (ap (λ u. fold (λ t y. either t (all_truth known y)) (either any u) xs) is ∙ (ap (λ u. fold (λ t y. either t (all_truth known y)) u xs) (either_yes any) ∙ any_yes known xs)))
+
+-- ---- the test
 
 pub judged : (n : ℕ) (known : List Lit) (tags : List (List Lit)) → list_all (are_below n) tags ≡ true → (s : State) → list_all (holds s) known ≡ true → IsTruth n known (not (satisfies_one tags s)) (opposite (any_truth known tags))
 judged n known tags below s met = opposite_is n known (satisfies_one tags s) (any_truth known tags)

@@ -14,7 +14,10 @@ fn all_truth(known: &LitSet, tag: &[Lit]) -> Truth
 {
     let mut all = Truth::Yes;
     for lit in tag {
-        all = all.and(truth_in(known, *lit));
+        match truth_in(known, *lit) {
+            Truth::No => return Truth::No,
+            truth => all = all.and(truth),
+        }
     }
     all
 }
@@ -25,7 +28,10 @@ fn any_truth(known: &LitSet, tags: &[LitSet]) -> Truth
 {
     let mut any = Truth::No;
     for tag in tags {
-        any = any.or(all_truth(known, tag.slice()));
+        match all_truth(known, tag.slice()) {
+            Truth::Yes => return Truth::Yes,
+            truth => any = any.or(truth),
+        }
     }
     any
 }

@@ -28,7 +28,8 @@ use Rattle.kp_decided.proofs.Firsts.{first_or_none}
 use Rattle.kp_decided.proofs.Either.{IsEither, both, denied, as_well, some_or_none, kept}
 use Rattle.kp_decided.proofs.Tags.{below_more, over_more, room, all_meet}
 use Rattle.kp_decided.proofs.Candidates.{clauses_decided}
-use Rattle.kp_decided.proofs.Needed.{set_member, member_set, target_below, targets_decided}
+use Rattle.kp_cover.proofs.Deciding.{target_below}
+use Rattle.kp_decided.proofs.Needed.{set_member, member_set, targets_decided}
 
 -- ---- covers
 

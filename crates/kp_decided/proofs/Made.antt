@@ -1,9 +1,8 @@
 -- Each mode has a table, or a refusal.
-use Rattle.std.proofs.Common.{◌≡◌, ℕ, true, List, [], ◌∷◌, Ok, Err, length, inl, inr, refl}
+use Rattle.std.proofs.Common.{◌≡◌, ℕ, true, List, Ok, Err, length, inl, inr, refl}
 use Rattle.std.specs.List.{list_all}
 use Rattle.kp_base.specs.declared.ground.Ground.{Ground}
 use Rattle.kp_base.specs.declared.ground.Initial.{Initial}
-use Rattle.kp_base.specs.declared.limits.Limits.{Limits}
 use Rattle.kp_base.specs.declared.limits.Mode.{Mode}
 use Rattle.kp_base.specs.declared.refused.Stop.TheVariants as stops
 use Rattle.kp_base.proofs.Lists.{all_from}

@@ -23,7 +23,8 @@ use Rattle.kp_decided.specs.Laws.{AreProper, ModesAreDecided}
 use Rattle.kp_decided.proofs.Either.{IsEither}
 use Rattle.kp_decided.proofs.Tags.{cov, all_meet}
 use Rattle.kp_decided.proofs.Candidates.{clauses_decided}
-use Rattle.kp_decided.proofs.Needed.{target_below, targets_decided}
+use Rattle.kp_cover.proofs.Deciding.{target_below}
+use Rattle.kp_decided.proofs.Needed.{targets_decided}
 
 -- a set of one size has that many elements
 subset_length : {X : Type 0} (k : ℕ) (xs s : List X) → Member (subsets k xs) s → length s ≡ k

@@ -1,15 +1,12 @@
 -- Some list of literals is that of the targets.
-use Rattle.std.proofs.Common.{◌<◌, ◌++◌, nat_lt, List, length, flat_map, sym, ◌∙◌, inl, inr, ltb-true}
-use Rattle.std.proofs.lemmas.Bool.{and_parts}
-use Rattle.std.specs.List.{list_all}
+use Rattle.std.proofs.Common.{◌++◌, List, flat_map, sym, ◌∙◌, inl, inr}
 use Rattle.kp_base.specs.declared.lit.Lit.{Lit}
 use Rattle.kp_base.specs.declared.ground.Ground.{Ground}
 use Rattle.kp_base.specs.Lists.{Member}
 use Rattle.kp_base.specs.Lit.{same_lit}
 use Rattle.kp_base.specs.LitSet.{set_of}
 use Rattle.kp_base.specs.Covering.{IsTarget}
-use Rattle.kp_base.specs.Implicates.{are_below, effect_below, action_below, IsOfItsAtoms}
-use Rattle.kp_base.proofs.Lists.{all_member, append_member, member_left, member_right, flat_member, member_flat_map}
+use Rattle.kp_base.proofs.Lists.{append_member, member_left, member_right, flat_member, member_flat_map}
 use Rattle.kp_base.proofs.Lits.{has-member, member-has}
 use Rattle.kp_base.proofs.Sets.{any-set_of, set_ascends}
 use Rattle.kp_decided.specs.Laws.{TargetsAreDecided}
@@ -35,13 +32,6 @@ module _ (g : Ground) where
   of_target : (l : Lit) → IsTarget g l → Member (in_actions ++ g.goal) l
   of_target l (IsTarget.of_precondition a in_acts in_pre) = member_left in_actions g.goal l (member_flat_map (λ a. a.pre) g.actions a l in_acts in_pre)
   of_target l (IsTarget.of_goal m) = member_right in_actions g.goal l m
-
-  -- a target is of one of the atoms
-  pub target_below : IsOfItsAtoms g → (l : Lit) → IsTarget g l → l.atom.0 < length g.atoms
-  target_below own l (IsTarget.of_precondition a in_acts in_pre) =
-      let parts = and_parts (are_below (length g.atoms) a.pre) (list_all (effect_below (length g.atoms)) a.effects) (all_member (action_below (length g.atoms)) g.actions a in_acts own.actions) in
-      ltb-true l.atom.0 (length g.atoms) (all_member (λ (x : Lit). nat_lt x.atom.0 (length g.atoms)) a.pre l in_pre parts.0)
-  target_below own l (IsTarget.of_goal m) = ltb-true l.atom.0 (length g.atoms) (all_member (λ (x : Lit). nat_lt x.atom.0 (length g.atoms)) g.goal l m own.goal)
 
 pub targets_decided : TargetsAreDecided
 targets_decided g = (

@@ -32,7 +32,7 @@ candidate i j same n c (IsCandidate.implicate _ prime more) = IsCandidate.implic
 }) more
 candidate i j same n _ (IsCandidate.unsettled p lt differ) = IsCandidate.unsettled p lt (λ one. differ (λ s t m k. one s t (sym (same s) ∙ m) (sym (same t) ∙ k)))
 
-clauses : (i j : Initial) → HaveSameModels i j → (acts : List Action) (n : ℕ) (t : Lit) (cs : List (List Lit)) → AreClausesFor acts n i t cs → AreClausesFor acts n j t cs
+pub clauses : (i j : Initial) → HaveSameModels i j → (acts : List Action) (n : ℕ) (t : Lit) (cs : List (List Lit)) → AreClausesFor acts n i t cs → AreClausesFor acts n j t cs
 clauses i j same acts n t cs are = record {
   exact = λ c. (
     λ m. let h = (are.exact c).0 m in record { candidate = candidate i j same n c h.candidate; relevant = h.relevant },

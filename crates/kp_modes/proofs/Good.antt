@@ -25,7 +25,7 @@ use Rattle.kp_modes.specs.declared.way.Way.{Way}
 use Rattle.kp_modes.specs.Assignments.{AreAssignments}
 use Rattle.kp_modes.specs.Modes.{IsFirstCovering, AreOneForEach, AreOtherwise, AreMergesBy, merge_of, AreMergesInTurn, AreMergesOf}
 use Rattle.kp_modes.specs.Laws.{IsGoodMerge, MergesOfModesAreGood}
-use Rattle.kp_modes.proofs.Below.{target_below}
+use Rattle.kp_cover.proofs.Deciding.{target_below}
 
 -- ---- the tags of clauses
 
@@ -141,7 +141,7 @@ module _ (way : Way) (limit : ℕ) (g : Ground) (i : Initial) (of : IsOfItsAtoms
     | inl a ↦
         let q = map_member (merge_of t) lists m a in
         let is = targets t (inl refl) in
-        let good = lists_good g i of t (target_below g t of is) here.clauses here.are_clauses way limit lists here.by_clauses q.0 q.1 in
+        let good = lists_good g i of t (target_below g of t is) here.clauses here.are_clauses way limit lists here.by_clauses q.0 q.1 in
         subst (IsGoodMerge g i) q.2 (record { target = is; consistent = good.consistent; valid = good.valid; of_atoms = good.below })
     | inr b ↦ turns_good ts ms (λ u j. targets u (inr j)) rest m b
   ]

@@ -1,11 +1,10 @@
 //! The clauses that say of each atom of some clauses that it is true or false.
-ghost use Rattle.std.specs.Prelude.{◌≡◌, [], map, fold, IfOk, OnOk};
-ghost use Rattle.kp_base.specs.LitSet.{with_lit};
-ghost use Rattle.kp_base.specs.Lit.{positive};
+ghost use Rattle.std.specs.Prelude.{◌≡◌, map, IfOk, OnOk};
 ghost use Rattle.kp_base.specs.Relevance.{either_value};
 ghost use Rattle.kp_modes.specs.Added.{with_atoms, atoms_in};
 
-use kp_base::{AtomId, Lit, LitSet, Memory, Row};
+use kp_base::{Lit, LitSet, Memory, Row};
+use kp_relevance::either_value;
 use std::alloc::Global;
 
 // Adds the atoms of a clause, as positive literals.
@@ -30,27 +29,6 @@ fn atoms_in(alloc: Global, clauses: &[LitSet]) -> Result<LitSet, Memory>
         add_atoms(&mut set, c.slice())?;
     }
     Ok(set)
-}
-
-// The set with a literal more.
-fn extended(mut set: LitSet, lit: Lit) -> Result<LitSet, Memory>
-    ensures { IfOk result (λ more. more ≡ with_lit lit set) }
-{
-    set.insert(lit)?;
-    Ok(set)
-}
-
-// That an atom is true or false, as a clause.
-fn either_value(alloc: Global, atom: AtomId) -> Result<LitSet, Memory>
-    ensures { IfOk result (λ clause. clause ≡ either_value atom.0) }
-{
-    let lit = Lit {
-        atom,
-        positive: true,
-    };
-    let one = extended(LitSet::new(alloc), lit)?;
-    let both = extended(one, lit.negated())?;
-    Ok(both)
 }
 
 // That each atom is true or false, as clauses.

@@ -94,8 +94,8 @@ fn extended(mut set: LitSet, lit: Lit) -> Result<LitSet, Memory>
     Ok(set)
 }
 
-// The set of the two literals of an atom.
-fn either_value(alloc: Global, atom: AtomId) -> Result<LitSet, Memory>
+/// That an atom or its negation is true, as a clause.
+pub fn either_value(alloc: Global, atom: AtomId) -> Result<LitSet, Memory>
     ensures { IfOk result (λ clause. clause ≡ either_value atom.0) }
 {
     let lit = Lit {

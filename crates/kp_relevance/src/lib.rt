@@ -9,5 +9,6 @@ mod laws;
 mod relevance;
 mod table;
 
+pub use gather::either_value;
 pub use laws::{relevance_goes_by_chains, relevance_is_least, there_is_one_list_of_clauses};
 pub use relevance::Relevance;

@@ -1,5 +1,5 @@
 -- A ground problem within the limits has a task with the empty tag alone that is within the limits, too.
-use Rattle.std.proofs.Common.{◌≡◌, arith}
+use Rattle.std.proofs.Common.{arith}
 use Rattle.std.proofs.lemmas.List.{length-map}
 use Rattle.kp_meaning.specs.Numbering.{numbered_problem}
 use Rattle.kp_grounding.specs.Ground.{ground_atoms, atom_name}

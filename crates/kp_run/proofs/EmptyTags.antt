@@ -1,18 +1,16 @@
 -- The empty tag alone is the table of `k0`. Where no effect has a condition, it covers each target.
-use Rattle.std.proofs.Common.{◌≡◌, ◌<◌, ◌≤◌, ℕ, true, false, List, [], ◌∷◌, length, inl, inr, refl, sym, ap, subst, ◌∙◌, arith}
+use Rattle.std.proofs.Common.{◌≡◌, true, false, List, [], ◌∷◌, length, inl, inr, refl, sym, ap, subst, ◌∙◌, arith}
 use Rattle.std.proofs.lemmas.Bool.{false≢true}
 use Rattle.kp_base.specs.declared.lit.Lit.{Lit}
 use Rattle.kp_base.specs.declared.ground.Action.{Action}
 use Rattle.kp_base.specs.declared.ground.Effect.{Effect}
 use Rattle.kp_base.specs.declared.ground.Ground.{Ground}
 use Rattle.kp_base.specs.declared.ground.Initial.{Initial}
-use Rattle.kp_base.specs.declared.ground.TagRow.{TagRow}
 use Rattle.kp_base.specs.declared.ground.TagTable.{TagTable}
 use Rattle.kp_base.specs.declared.limits.Mode.TheVariants as modes
 use Rattle.kp_base.specs.Lists.{Member}
 use Rattle.kp_base.specs.Lit.{code_of, positive, negative, negated}
-use Rattle.kp_base.specs.LitSet.{IsAscending}
-use Rattle.kp_base.specs.Relevance.{IsConditionOf, IsRelevant, IsCandidate, AreRelevant, IsClauseFor}
+use Rattle.kp_base.specs.Relevance.{IsRelevant, IsCandidate, AreRelevant}
 use Rattle.kp_base.specs.Covering.{IsCovered, AreUncovered}
 use Rattle.kp_grammar.specs.declared.tree.Word.{Word}
 use Rattle.kp_grammar.specs.Trees.{Domain, Problem}
@@ -20,7 +18,7 @@ use Rattle.kp_modes.specs.Modes.{AreMergesOf}
 use Rattle.kp_tags.specs.Tables.{HasClosure}
 use Rattle.kp_tags.specs.Made.{IsMade}
 use Rattle.kp_init.proofs.Closure.{closure_exact}
-use Rattle.kp_given.specs.Translations.{ground_of, initial_of, start_of}
+use Rattle.kp_given.specs.Translations.{ground_of, initial_of}
 use Rattle.kp_given.specs.Tables.{empty_tag}
 use Rattle.kp_given.proofs.Starts.{formulas_over_atoms}
 use Rattle.kp_prepared.specs.Prepared.{usual}

@@ -1,5 +1,5 @@
 -- Words and what is held, with the one outcome that is due: a translation, the usage, and none where a file isn't held.
-use Rattle.std.proofs.Common.{[], ◌≡◌, ◌≢◌, ◌<◌, ◌≤◌, ◌^◌, ℕ, zero, suc, true, false, not, List, ◌∷◌, length, take, nat_eq, Some, None, Vec, codes, inl, inr, refl, sym, ap, subst, ◌∙◌, arith}
+use Rattle.std.proofs.Common.{[], ◌≡◌, ◌≢◌, ◌<◌, ◌≤◌, ◌^◌, ℕ, zero, suc, true, false, not, List, ◌∷◌, length, take, nat_eq, Some, Vec, codes, inl, inr, refl, sym, ap, subst, ◌∙◌, arith}
 use Rattle.std.specs.FinMap.{empty, get, insert, get-empty}
 use Rattle.std.specs.Fmt.{digits}
 use Rattle.std.specs.List.{list_all}

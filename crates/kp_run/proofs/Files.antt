@@ -1,5 +1,5 @@
 -- What is read of one, two or three files, and what is due then.
-use Rattle.std.proofs.Common.{◌≡◌, ℕ, List, [], ◌∷◌, Option, Some, Vec, Result, Ok, Err, IfOk, refl, sym, ap, subst, ◌∙◌}
+use Rattle.std.proofs.Common.{◌≡◌, ℕ, List, [], ◌∷◌, Option, Some, Vec, Result, Ok, Err, IfOk, refl, sym, ap, subst}
 use Rattle.std.specs.declared.alloc.Global.{Global}
 use Rattle.kp_base.specs.declared.memory.Memory.{Memory}
 use Rattle.kp_outside.specs.declared.outside.Got.{Got}

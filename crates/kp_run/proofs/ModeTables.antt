@@ -1,28 +1,23 @@
 -- The table of a mode is one for the trees.
-use Rattle.std.proofs.Common.{◌≡◌, ◌≤◌, ◌<◌, true, ℕ, List, [], ◌∷◌, length, map, sum_by, inl, inr, refl, sym, ap, subst, arith}
-use Rattle.std.specs.List.{AllByRecursion, list_all}
-use Rattle.std.proofs.lemmas.Bool.{and_parts, ltb-true}
+use Rattle.std.proofs.Common.{◌≤◌, ◌<◌, List, [], ◌∷◌, length, map, sum_by, inl, inr, refl, sym, ap, subst, arith}
+use Rattle.std.specs.List.{AllByRecursion}
 use Rattle.std.proofs.lemmas.List.{length-map}
 use Rattle.std.proofs.lemmas.List.Sums.{sum_by-cons}
-use Rattle.kp_base.specs.declared.lit.Lit.{Lit}
-use Rattle.kp_base.specs.declared.ground.Action.{Action}
-use Rattle.kp_base.specs.declared.ground.Ground.{Ground}
 use Rattle.kp_base.specs.declared.ground.Merge.{Merge}
 use Rattle.kp_base.specs.declared.ground.TagRow.{TagRow}
 use Rattle.kp_base.specs.declared.ground.TagTable.{TagTable}
 use Rattle.kp_base.specs.declared.limits.Mode.{Mode}
 use Rattle.kp_base.specs.Lists.{Member}
-use Rattle.kp_base.specs.Covering.{IsTarget}
-use Rattle.kp_base.specs.Implicates.{are_below, action_below, effect_below, IsOfItsAtoms}
-use Rattle.kp_base.proofs.Lists.{all_member}
+use Rattle.kp_base.specs.Implicates.{IsOfItsAtoms}
 use Rattle.kp_grammar.specs.declared.tree.Word.{Word}
 use Rattle.kp_grammar.specs.Trees.{Domain, Problem}
 use Rattle.kp_meaning.specs.Numbering.{numbered_problem}
 use Rattle.kp_merges.specs.declared.merge.FileMerge.{FileMerge}
+use Rattle.kp_cover.proofs.Deciding.{target_below}
 use Rattle.kp_modes.proofs.Good.{merges_good}
 use Rattle.kp_write.specs.Grounds.{IsOfAtom}
 use Rattle.kp_task.specs.Task.{task_of}
-use Rattle.kp_task.specs.Weight.{merge_weight, action_weight}
+use Rattle.kp_task.specs.Weight.{merge_weight}
 use Rattle.kp_task.proofs.Weights.{weight_counted}
 use Rattle.kp_ktask.specs.Translated.{FitsLimits}
 use Rattle.kp_tags.specs.Tables.{used_tags, numbered}
@@ -32,16 +27,6 @@ use Rattle.kp_given.specs.Translations.{ground_of, initial_of}
 use Rattle.kp_given.specs.Tables.{IsTableFor}
 use Rattle.kp_prepared.specs.Prepared.{usual, IsSmall}
 use Rattle.kp_prepared.proofs.Counted.{is_of_atoms}
-
--- a literal among literals of the first atoms is of one of them
-lit_below : (n : ℕ) (ls : List Lit) (l : Lit) → are_below n ls ≡ true → Member ls l → l.atom.0 < n
-lit_below n ls l all m = ltb-true l.atom.0 n (all_member _ ls l m all)
-
--- a target is of a ground atom
-target_below : (g : Ground) (l : Lit) → IsOfItsAtoms g → IsTarget g l → l.atom.0 < length g.atoms
-target_below g l own (IsTarget.of_precondition a in-actions in-pre) =
-    lit_below (length g.atoms) a.pre l (and_parts (are_below (length g.atoms) a.pre) (list_all (effect_below (length g.atoms)) a.effects) (all_member (action_below (length g.atoms)) g.actions a in-actions own.actions)).0 in-pre
-target_below g l own (IsTarget.of_goal in-goal) = lit_below (length g.atoms) g.goal l own.goal in-goal
 
 -- there are no more merges than they weigh
 few_by_weight : (ms : List Merge) → length ms ≤ sum_by merge_weight ms
@@ -63,7 +48,7 @@ module _ (d : Domain Word) (p : Problem Word) (mode : Mode) (table : TagTable) (
         right = right.0;
         valid = right.1;
         targets = subst (λ all. AllByRecursion (λ (m : Merge). IsOfAtom (ground_of d p).atoms m.target) all) (sym is.is_table.merges)
-            (each_target is.merges (λ m there. target_below (ground_of d p) m.target own (merges_good mode usual.sets (ground_of d p) (initial_of d p) is.merges own is.of_mode m there).target));
+            (each_target is.merges (λ m there. target_below (ground_of d p) own m.target (merges_good mode usual.sets (ground_of d p) (initial_of d p) is.merges own is.of_mode m there).target));
         tags_fit = (let a = ap length is.is_table.tags in let b = length-map table.tags (λ (row : TagRow). row.lits) in let f = is.within_limit in omega (arith, a, b, f));
         merges_fit = (let a = few_by_weight table.merges in let b = weight_counted (ground_of d p) table in let f = fits.weight in omega (arith, a, b, f));
       }

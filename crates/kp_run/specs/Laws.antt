@@ -1,5 +1,5 @@
 -- Laws on commands and their outcomes.
-use Rattle.std.specs.Prelude.{◌≡◌, ℕ, List, Option, Vec}
+use Rattle.std.specs.Prelude.{ℕ, List, Option, Vec}
 use Rattle.std.specs.declared.alloc.Global.{Global}
 use Rattle.kp_grammar.specs.declared.tree.Word.{Word}
 use Rattle.kp_grammar.specs.Trees.{Domain, Problem}

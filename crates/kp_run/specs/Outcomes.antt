@@ -16,7 +16,6 @@ use Rattle.kp_grammar.specs.declared.tree.Word.{Word}
 use Rattle.kp_grammar.specs.Trees as trees
 use Rattle.kp_task.specs.Task.{task_of}
 use Rattle.kp_ktask.specs.Translated.{FitsLimits, RefusesTask}
-use Rattle.kp_translation.specs.declared.translation.Translation.{Translation}
 use Rattle.kp_translation.specs.Translations.{translation_with}
 use Rattle.kp_given.specs.Translations.{ground_of, initial_of}
 use Rattle.kp_merges.specs.declared.merge.FileMerge.{FileMerge}

@@ -1,5 +1,5 @@
 -- Formulas with the same models have the same answers on merges.
-use Rattle.std.proofs.Common.{◌≡◌, ◌&&◌, ◌∙◌, ℕ, List, Some, Ok, Err, take, not, sym, ap}
+use Rattle.std.proofs.Common.{◌&&◌, ◌∙◌, ℕ, List, Some, Ok, Err, take, not, sym, ap}
 use Rattle.kp_base.specs.declared.lit.Lit.{Lit}
 use Rattle.kp_base.specs.declared.lit.AtomId.{AtomId}
 use Rattle.kp_base.specs.declared.ground.Initial.{Initial}

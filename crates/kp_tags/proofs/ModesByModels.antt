@@ -1,5 +1,5 @@
 -- Which table a mode has, and which targets a table leaves uncovered, goes by the models alone.
-use Rattle.std.proofs.Common.{ℕ, List, [], ◌∷◌, Ok, Err, length, ◌∙◌}
+use Rattle.std.proofs.Common.{List, [], ◌∷◌, Ok, Err, length, ◌∙◌}
 use Rattle.kp_base.specs.declared.lit.Lit.{Lit}
 use Rattle.kp_base.specs.declared.ground.Ground.{Ground}
 use Rattle.kp_base.specs.declared.ground.Initial.{Initial}

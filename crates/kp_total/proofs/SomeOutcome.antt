@@ -5,9 +5,7 @@ use Rattle.std.proofs.lemmas.Bool.{cases_lt, false≢true}
 use Rattle.std.specs.FinMap.{get}
 use Rattle.kp_base.specs.declared.refused.Part.TheVariants as parts
 use Rattle.kp_base.specs.declared.refused.Refused.TheVariants as refusals
-use Rattle.kp_base.specs.declared.ground.Ground.{Ground}
 use Rattle.kp_base.specs.declared.ground.GroundName.{GroundName}
-use Rattle.kp_base.specs.declared.ground.Initial.{Initial}
 use Rattle.kp_base.specs.declared.ground.TagTable.{TagTable}
 use Rattle.kp_base.specs.declared.limits.Mode.{Mode}
 use Rattle.kp_base.specs.Implicates.{IsOfItsAtoms}
@@ -45,7 +43,7 @@ use Rattle.kp_prepared.specs.Texts.{HaveTrees}
 use Rattle.kp_prepared.specs.Refusing.{refuses, named_in}
 use Rattle.kp_prepared.specs.Prepared.{usual, IsPrepared}
 use Rattle.kp_prepared.proofs.Counted.{is_of_atoms}
-use Rattle.kp_run.specs.Outcomes.{shows_usage, translates, TranslatesGround, over, done, TranslatesIn, none_made, made, ListsMerges, unmade, listed, MergesTrees, TranslatesWith, long_merges, no_merges, no_table, with_table, TranslatesBy, prints, StripsText, too_long, no_plan, no_strip, strips, tells, named_with, long_plan, no_steps, unknown_step, judged, ChecksTrees, translated, merged, checked, usage, of_command}
+use Rattle.kp_run.specs.Outcomes.{shows_usage, translates, TranslatesGround, over, done, TranslatesIn, none_made, made, unmade, listed, MergesTrees, TranslatesWith, long_merges, no_merges, no_table, with_table, TranslatesBy, prints, StripsText, too_long, no_plan, no_strip, strips, tells, named_with, long_plan, no_steps, unknown_step, judged, ChecksTrees, translated, merged, checked, usage, of_command}
 use Rattle.kp_run.specs.Outcomes as outcomes
 use Rattle.kp_run.proofs.FileMerges.{tags_of_atoms}
 use Rattle.kp_run.proofs.Checks.{inside}

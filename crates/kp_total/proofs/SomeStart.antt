@@ -1,5 +1,5 @@
 -- Two texts come to a refusal, or a command goes on with their trees.
-use Rattle.std.proofs.Common.{◌≡◌, ◌⊎◌, ℕ, List, inl, inr, refl, length}
+use Rattle.std.proofs.Common.{◌⊎◌, ℕ, List, inl, inr, refl, length}
 use Rattle.kp_base.specs.declared.refused.Part.TheVariants as parts
 use Rattle.kp_base.specs.declared.refused.Refused.{Refused}
 use Rattle.kp_base.specs.declared.refused.Refused.TheVariants as refusals

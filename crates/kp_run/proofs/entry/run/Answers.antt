@@ -1,4 +1,4 @@
-use Rattle.std.proofs.Common.{◌≡◌, ◌≢◌, Err, refl, ap}
+use Rattle.std.proofs.Common.{Err, refl, ap}
 use Rattle.kp_outcome.proofs.Earlier.{carried_from}
 use Rattle.kp_run.specs.Ends.{came}
 use Rattle.kp_run.proofs.Answered.{outcomes_are_answers}

@@ -1,4 +1,4 @@
-use Rattle.std.proofs.Common.{List, Ok, sym, subst}
+use Rattle.std.proofs.Common.{List, sym, subst}
 use Rattle.std.proofs.lemmas.Result.{err_from_is_err_and}
 use Rattle.kp_primes.specs.Held.{formula}
 use Rattle.kp_merges.specs.declared.merge.FileMerge.{FileMerge}
