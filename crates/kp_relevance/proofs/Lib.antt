@@ -1,5 +1,6 @@
 pub mod Tables
 pub mod Closing
+pub mod Searching
 pub mod Chains
 pub mod Exact
 pub mod Once

@@ -1,5 +1,5 @@
 -- A list of clauses in order, each once, is told by its members.
-use Rattle.std.proofs.Common.{◌≡◌, ◌+◌, ℕ, suc, Bool, true, false, List, [], ◌∷◌, get_or, arith, is_lt, Ordering, Less, Equal, Greater, IsSorted, refl, sym, ap, ap₂, subst, ◌∙◌, inl, inr}
+use Rattle.std.proofs.Common.{◌≡◌, ◌+◌, suc, false, List, [], ◌∷◌, get_or, arith, is_lt, Ordering, Less, Equal, Greater, IsSorted, refl, sym, ap, ap₂, subst, ◌∙◌, inl, inr}
 use Rattle.std.proofs.lemmas.Bool.{false≢true}
 use Rattle.std.specs.Cmp.{IsTotalOrder, on_total, nat_cmp_total}
 use Rattle.std.specs.Cmp.Lexicographic.{lists_total}
@@ -9,7 +9,6 @@ use Rattle.kp_base.specs.Lists.{Member}
 use Rattle.kp_base.specs.Lit.{code_of}
 use Rattle.kp_base.specs.LitSet.{lits_cmp}
 use Rattle.kp_base.specs.Implicates.{IsOnce}
-use Rattle.kp_base.specs.Relevance.{AreClausesFor}
 use Rattle.kp_base.proofs.Ascending.{equal_iff}
 use Rattle.kp_relevance.specs.Laws.{AreClausesForOnce}
 

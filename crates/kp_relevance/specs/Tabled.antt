@@ -1,6 +1,6 @@
 -- Relevance as rows of bits, one for each literal by its code. This file serves proofs alone.
-use Rattle.std.specs.Prelude.{◌≡◌, ◌*◌, ◌<◌, ◌/◌, ◌%◌, ◌||◌, ◌&&◌, ℕ, Bool, true, false, List, [], filter, flat_map, map, length, get_or, nat_eq, nat_lt}
-use Rattle.std.specs.List.{list_any, range_with_len}
+use Rattle.std.specs.Prelude.{◌≡◌, ◌≢◌, ◌*◌, ◌<◌, ◌/◌, ◌%◌, ◌||◌, ◌&&◌, ℕ, Bool, true, false, cond, List, [], filter, flat_map, map, length, get_or, nat_eq, nat_lt, replicate}
+use Rattle.std.specs.List.{All, list_any, range_with_len, sum_by}
 use Rattle.kp_base.specs.declared.lit.Lit.{Lit}
 use Rattle.kp_base.specs.declared.ground.Action.{Action}
 use Rattle.kp_base.specs.declared.ground.Effect.{Effect}
@@ -43,6 +43,75 @@ pub record Closes (n k : ℕ) (old new : List (List Bool)) : Type 0 where
   pub kept : (j i : ℕ) → j < n → i < n → marked old j i ≡ true → marked new j i ≡ true
   pub closed : AreClosed n k new
   pub only : (j i : ℕ) → j < n → i < n → marked new j i ≡ true → Linked n (marked old) j i
+
+-- ---- row by row
+
+-- the row is closed: what is marked in the row of a number in it is in it
+abbrev pub IsClosedRow : ℕ → List (List Bool) → List Bool → Type 0
+IsClosedRow n rows row = (m i : ℕ) → m < n → i < n → get_or row m false ≡ true → marked rows m i ≡ true → get_or row i false ≡ true
+
+-- the rows of these numbers are closed
+abbrev pub AreClosedRows : ℕ → List Bool → List (List Bool) → Type 0
+AreClosedRows n closed rows = (j : ℕ) → j < n → get_or closed j false ≡ true → IsClosedRow n rows (get_or rows j [])
+
+-- the number is in the row, or marks lead to it from one that is
+pub data LeadsTo (n : ℕ) (rows : List (List Bool)) (row : List Bool) : ℕ → Type 0 where
+  there : (i : ℕ) → get_or row i false ≡ true → LeadsTo n rows row i
+  linked : (m i : ℕ) → m < n → get_or row m false ≡ true → Linked n (marked rows) m i → LeadsTo n rows row i
+
+-- the new row has what is in the old one, and no more than marks lead to from there
+pub record Grows (n : ℕ) (rows : List (List Bool)) (old new : List Bool) : Type 0 where
+  pub wide : length new ≡ n
+  pub kept : (i : ℕ) → i < n → get_or old i false ≡ true → get_or new i false ≡ true
+  pub only : (i : ℕ) → i < n → get_or new i false ≡ true → LeadsTo n rows old i
+
+-- what is done is in the row, and so is all that is marked in the rows of what is done
+pub record IsFollowed (n : ℕ) (rows : List (List Bool)) (row done : List Bool) : Type 0 where
+  pub wide : length row ≡ n
+  pub wide_done : length done ≡ n
+  pub within : (i : ℕ) → i < n → get_or done i false ≡ true → get_or row i false ≡ true
+  pub followed : (m i : ℕ) → m < n → i < n → get_or done m false ≡ true → marked rows m i ≡ true → get_or row i false ≡ true
+
+-- a number that is in the row, and not done
+pub record IsNext (n : ℕ) (row done : List Bool) (k : ℕ) : Type 0 where
+  pub below : k < n
+  pub there : get_or row k false ≡ true
+  pub undone : get_or done k false ≡ false
+
+-- how many bits are not set
+abbrev pub unset : List Bool → ℕ
+unset row = sum_by (λ b. cond b 0 1) row
+
+-- row j has grown until it was closed, and the other rows are as they were
+pub record ClosesRow (n j : ℕ) (old new : List (List Bool)) : Type 0 where
+  pub square : IsSquare n new
+  pub grows : Grows n old (get_or old j []) (get_or new j [])
+  pub closed : IsClosedRow n old (get_or new j [])
+  pub others : (r : ℕ) → r ≢ j → get_or new r [] ≡ get_or old r []
+
+-- the new marks are the old ones and no more than they lead to, and the rows of these numbers are closed
+pub record ClosesRows (n : ℕ) (closed : List Bool) (old new : List (List Bool)) : Type 0 where
+  pub square : IsSquare n new
+  pub wide : length closed ≡ n
+  pub kept : (j i : ℕ) → j < n → i < n → marked old j i ≡ true → marked new j i ≡ true
+  pub closed_rows : AreClosedRows n closed new
+  pub only : (j i : ℕ) → j < n → i < n → marked new j i ≡ true → Linked n (marked old) j i
+
+-- rows that are written over in a search: none has no bit set
+pub record AreSpare (n : ℕ) (none row done : List Bool) : Type 0 where
+  pub clear : none ≡ replicate n false
+  pub wide : length row ≡ n
+  pub wide_done : length done ≡ n
+
+-- what a walk over the rows goes by: numbers below n
+pub record IsWalk (n : ℕ) (seen left spare : List Bool) (way order : List ℕ) : Type 0 where
+  pub wide : length seen ≡ n
+  pub wide_left : length left ≡ n
+  pub wide_spare : length spare ≡ n
+  pub on_way : All (λ k. k < n) way
+  pub ordered : All (λ k. k < n) order
+
+-- ---- literals
 
 -- the literal with a code
 abbrev pub lit_of : ℕ → Lit

@@ -6,6 +6,8 @@
 mod fill;
 mod gather;
 mod laws;
+mod order;
+mod reach;
 mod relevance;
 mod table;
 

@@ -1,7 +1,10 @@
 //! Rows of bits, one for each literal by its code, and their closing.
-ghost use Rattle.std.specs.Prelude.{◌≡◌, ◌<◌, ◌&&◌, ◌||◌, ℕ, Bool, false, length, get_or, nat_eq, nat_lt, IfOk, OnOk};
-ghost use Rattle.kp_relevance.specs.Tabled.{marked, IsSquare, AddsMarks, through, Closes};
+ghost use Rattle.std.specs.Prelude.{◌≡◌, ◌<◌, ℕ, Bool, true, false, List, length, get_or, IfOk, OnOk};
+ghost use Rattle.std.specs.List.{All};
+ghost use Rattle.kp_relevance.specs.Tabled.{marked, IsSquare, AreSpare, ClosesRows, Closes};
 
+use crate::order::closing_order;
+use crate::reach::{Spare, close_row};
 use kp_base::Memory;
 use kp_bits::Bits;
 use std::alloc::Global;
@@ -18,41 +21,45 @@ pub(crate) fn empty_table(alloc: Global, n: u32) -> Result<Vec<Bits>, Memory>
     Ok(rows)
 }
 
-// Adds the row to row j, if that one has bit k.
-fn pass_row(rows: &mut [Bits], j: usize, k: u32, row: &Bits)
-    requires square { IsSquare (length rows.old) rows.old }
-    requires from { j < length rows.old }
-    requires over { k < length rows.old }
-    requires wide { length row.now ≡ length rows.old }
-    ensures { AddsMarks (length rows.old) (λ r i. nat_eq r j && (marked rows.old j k && get_or row.now i false)) rows.old rows.new }
+// Closes row j and notes it, if it isn't closed yet.
+fn close_one(rows: &mut [Bits], j: u32, closed: &mut Bits, spare: &mut Spare)
+    requires row { j < length rows.old }
+    requires closed { ClosesRows (length rows.old) closed.old rows.old rows.old }
+    requires spare { AreSpare (length rows.old) spare.old.none spare.old.row spare.old.done }
+    ensures closes { (first : List (List Bool)) → ClosesRows (length rows.old) closed.old first rows.old → ClosesRows (length rows.old) closed.new first rows.new }
+    ensures closed { get_or closed.new j false ≡ true }
+    ensures kept { (i : ℕ) → get_or closed.old i false ≡ true → get_or closed.new i false ≡ true }
+    ensures spare { AreSpare (length rows.old) spare.new.none spare.new.row spare.new.done }
 {
-    if rows[j].get(k) {
-        rows[j].or_with(row);
+    if !closed.get(j) {
+        close_row(rows, j as usize, closed, spare);
+        closed.set(j);
     }
 }
 
-// Adds the row to each row that has bit k.
-fn pass_rows(rows: &mut [Bits], k: u32, row: &Bits)
-    requires square { IsSquare (length rows.old) rows.old }
-    requires over { k < length rows.old }
-    requires wide { length row.now ≡ length rows.old }
-    ensures { AddsMarks (length rows.old) (λ r i. marked rows.old r k && get_or row.now i false) rows.old rows.new }
+// Closes these rows, one after another.
+fn close_each(rows: &mut [Bits], order: &[u32], closed: &mut Bits, spare: &mut Spare)
+    requires order { All (λ j. j < length rows.old) order.now }
+    requires closed { ClosesRows (length rows.old) closed.old rows.old rows.old }
+    requires spare { AreSpare (length rows.old) spare.old.none spare.old.row spare.old.done }
+    ensures closes { ClosesRows (length rows.old) closed.new rows.old rows.new }
+    ensures spare { AreSpare (length rows.old) spare.new.none spare.new.row spare.new.done }
 {
-    for j in 0..rows.len() {
-        pass_row(rows, j, k, row);
+    for j in order {
+        close_one(rows, *j, closed, spare);
     }
 }
 
-/// Closes the rows through a number. The spare row is written over.
-fn close_through(rows: &mut [Bits], k: u32, spare: &mut Bits)
-    requires square { IsSquare (length rows.old) rows.old }
-    requires over { k < length rows.old }
-    requires wide { length spare.old ≡ length rows.old }
-    ensures adds { AddsMarks (length rows.old) (through k rows.old) rows.old rows.new }
-    ensures wide { length spare.new ≡ length rows.old }
+// Closes the rows that are left.
+fn close_rest(rows: &mut [Bits], n: u32, closed: &mut Bits, spare: &mut Spare)
+    requires many { length rows.old ≡ n }
+    requires closed { ClosesRows n closed.old rows.old rows.old }
+    requires spare { AreSpare n spare.old.none spare.old.row spare.old.done }
+    ensures { (first : List (List Bool)) → ClosesRows n closed.old first rows.old → Closes n n first rows.new }
 {
-    spare.copy_from(&rows[k as usize]);
-    pass_rows(rows, k, spare);
+    for j in 0..n {
+        close_one(rows, j, closed, spare);
+    }
 }
 
 /// Closes the rows: what is marked through a number is marked.
@@ -61,9 +68,10 @@ pub(crate) fn close(alloc: Global, rows: &mut [Bits], n: u32) -> Result<(), Memo
     requires square { IsSquare n rows.old }
     ensures { OnOk result (Closes n n rows.old rows.new) }
 {
-    let mut spare = Bits::new(alloc, n)?;
-    for k in 0..n {
-        close_through(rows, k, &mut spare);
-    }
+    let order = closing_order(alloc, rows, n)?;
+    let mut spare = Spare::new(alloc, n)?;
+    let mut closed = Bits::new(alloc, n)?;
+    close_each(rows, &order, &mut closed, &mut spare);
+    close_rest(rows, n, &mut closed, &mut spare);
     Ok(())
 }

@@ -1,16 +1,20 @@
-use Rattle.std.proofs.Common.{◌∙◌, length, false, ap, subst}
-use Rattle.std.proofs.lemmas.List.{length-replicate}
-use Rattle.kp_relevance.specs.Tabled.{AddsMarks, through}
-use Rattle.kp_relevance.proofs.Closing.{closes_none, closes_more}
+use Rattle.std.proofs.Common.{Bool, List, sym, subst}
+use Rattle.kp_relevance.specs.Tabled.{ClosesRows}
+use Rattle.kp_relevance.proofs.Searching.{rows_begun, rows_same}
 use Rattle.kp_relevance.proofs.table.close.Goals as goal
 
-pub loop-k-init : goal.loop-k-init
-loop-k-init c = record { closes = closes_none c.args.n c.args.rows.now c.requires.square; wide = ap length c.in_ok-spare.ensures ∙ length-replicate c.args.n false }
+pub close_each-requires-clause-closed : goal.close_each-requires-clause-closed
+close_each-requires-clause-closed c =
+    let rows = c.args.rows.now in
+    subst (λ m. ClosesRows m c.in_ok-closed.closed rows rows) (sym c.requires.many)
+    (subst (λ (xs : List Bool). ClosesRows c.args.n xs rows rows) (sym c.in_ok-closed.ensures) (rows_begun c.args.n rows c.requires.square))
 
-pub loop-k-preserved : goal.loop-k-preserved
-loop-k-preserved c =
-    let e = c.loop-k.invariant.closes.square.many in
-    record {
-      closes = closes_more c.args.n c.loop-k.k c.args.rows.now c.loop-k.rows c.close_through.new.rows c.loop-k-test.true c.loop-k.invariant.closes (subst (λ m. AddsMarks m (through c.loop-k.k c.loop-k.rows) c.loop-k.rows c.close_through.new.rows) e c.close_through.ensures.adds);
-      wide = c.close_through.ensures.wide ∙ e;
-    }
+pub close_rest-requires-clause-closed : goal.close_rest-requires-clause-closed
+close_rest-requires-clause-closed c =
+    let rows = c.args.rows.now in
+    rows_same c.args.n c.close_each.new.closed rows c.close_each.new.rows (subst (λ m. ClosesRows m c.close_each.new.closed rows c.close_each.new.rows) c.requires.many c.close_each.ensures.closes)
+
+pub returns : goal.returns
+returns c =
+    let rows = c.args.rows.now in
+    c.close_rest.ensures rows (subst (λ m. ClosesRows m c.close_each.new.closed rows c.close_each.new.rows) c.requires.many c.close_each.ensures.closes)
