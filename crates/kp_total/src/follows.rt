@@ -40,7 +40,8 @@ pub fn checks_are_answered()
     ensures { ChecksAreAnswered }
 {}
 
-/// A check that ends with an answer ends with Done exactly where the steps are a plan of the two files.
+/// Where two files aren't refused and steps name kept actions, a check that ends with an answer ends with Done exactly where
+/// the steps are a plan of the files.
 pub fn checks_are_true()
     ensures { ChecksAreTrue }
 {}
