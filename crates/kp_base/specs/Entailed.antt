@@ -40,6 +40,12 @@ pub record IsClosure (atoms : ℕ) (i : Initial) (lits closure : List Lit) : Typ
 abbrev pub HasOneValue : Initial → ℕ → Type 0
 HasOneValue i q = (s t : State) → is_model i s ≡ true → is_model i t ≡ true → s q ≡ t q
 
+-- ---- formulas
+
+-- both formulas have the same models
+abbrev pub HaveSameModels : Initial → Initial → Type 0
+HaveSameModels i j = (s : State) → is_model i s ≡ is_model j s
+
 -- ---- merges
 
 -- there is such a tag, and its literals are true in the state

@@ -6,8 +6,8 @@ use Rattle.kp_base.specs.declared.ground.Effect.{Effect}
 use Rattle.kp_base.specs.declared.ground.Action.{Action}
 use Rattle.kp_base.specs.declared.ground.Ground.{Ground}
 use Rattle.kp_base.specs.declared.ground.Initial.{Initial}
-use Rattle.kp_base.specs.Lists.{signed}
-use Rattle.kp_base.specs.Lit.{positive, negative, same_lit}
+use Rattle.kp_base.specs.Lists.{Member, signed}
+use Rattle.kp_base.specs.Lit.{positive, negative, same_lit, code_of}
 pub use Rattle.kp_base.specs.Lit.{has}
 
 -- the atoms that are true
@@ -40,6 +40,12 @@ pub record ComesBefore (s t : State) : Type 0 where
 -- a literal is true in a state
 abbrev pub holds : State → Facts
 holds s l = signed l.positive (s l.atom.0)
+
+-- one of the literals that is no fact, and none of them that is no fact is less
+pub record IsLeastMissing (k : Facts) (ls : List Lit) (l : Lit) : Type 0 where
+  pub among : Member ls l
+  pub missing : k l ≡ false
+  pub least : (m : Lit) → Member ls m → k m ≡ false → code_of l ≤ code_of m
 
 -- ---- models
 
@@ -87,3 +93,15 @@ succeeds g s (n ∷ ns) = applicable (slice_get g.actions n) s && succeeds g (ne
 -- the steps succeed from each model, run by itself
 abbrev pub IsGroundPlan : Ground → Initial → List ℕ → Type 0
 IsGroundPlan g i ns = (s : State) → is_model i s ≡ true → succeeds g s ns ≡ true
+
+-- ---- what is asked in its turn
+
+-- an action's precondition
+abbrev pub pre_of : Option Action → List Lit
+pre_of None = []
+pre_of (Some a) = a.pre
+
+-- what must hold before a step, which is its precondition; where no step is left, the goal
+abbrev pub asked : Ground → Option ℕ → List Lit
+asked g None = g.goal
+asked g (Some n) = pre_of (slice_get g.actions n)

@@ -1,17 +1,17 @@
 -- Rows of bits by their words.
-use Rattle.std.proofs.Common.{◌≡◌, ◌≢◌, ◌<◌, ◌≤◌, ◌+◌, ◌*◌, ◌/◌, ◌%◌, ◌↔◌, ⊎_elim, ℕ, zero, suc, Bool, true, false, ◌||◌, List, Some, length, set, replicate, get_or, slice_get, unwrap_or, nat_eq, max, bit_or, refl, sym, ap, subst, ◌∙◌, arith, length-set, get_or-set_same, get_or-set_other}
+use Rattle.std.proofs.Common.{◌≡◌, ◌≢◌, ◌<◌, ◌≤◌, ◌+◌, ◌*◌, ◌/◌, ◌%◌, ◌↔◌, ⊎_elim, ℕ, zero, suc, Bool, true, false, ◌&&◌, ◌||◌, List, Some, length, map, set, replicate, get_or, slice_get, unwrap_or, nat_eq, min, max, bit_and, bit_or, refl, sym, ap, subst, ◌∙◌, arith, length-set, get_or-set_same, get_or-set_other}
 use Rattle.std.proofs.lemmas.Bool.{eqb-true, eq-eqb, cases_eq, cases_lt, both_ways}
 use Rattle.std.proofs.lemmas.List.{length-map, ext_get_or, get_or-replicate, get_or-map, length-replicate, get_or_past}
 use Rattle.std.proofs.lemmas.Grind.{get_or_default_zero}
 use Rattle.std.proofs.lemmas.List.FromFn.{length-map-range_with_len, get_or-map-range_with_len}
 use Rattle.std.proofs.lemmas.Option.{slice_get_within, slice_get_past, slice_get-get_or, unwrap_or-slice_get}
 use Rattle.std.proofs.lemmas.Nat.{div-mul-add, mod-mul-add}
-use Rattle.std.proofs.lemmas.Nat.Bits.{bit_at_or, bit_at-zero, bit_at-lt}
+use Rattle.std.proofs.lemmas.Nat.Bits.{bit_at_and, bit_at_or, bit_at-zero, bit_at-lt}
 use Rattle.std.proofs.lemmas.Slice.Zip.{length-zip, get_or-zip}
 use Rattle.std.specs.Int.{bit_at}
 use Rattle.std.specs.List.{zip}
 use Rattle.kp_bits.specs.Packed.{bit_of, bits_of, IsPacked}
-use Rattle.kp_bits.specs.Rows.{either, IsWithin, DifferFirst}
+use Rattle.kp_bits.specs.Rows.{IsWithin, DifferFirst}
 
 pub length-bits_of : (n : ℕ) (ws : List ℕ) → length (bits_of n ws) ≡ n
 length-bits_of n ws = length-map-range_with_len (bit_of ws) 0 n
@@ -109,15 +109,20 @@ changed_packed n ws i w b p h c = record {
 
 -- ---- two rows
 
--- the words us are those of ws with the bits of vs set
-abbrev pub AreOred : List ℕ → List ℕ → List ℕ → Type 0
-AreOred ws vs us = (length us ≡ length ws) × ((k : ℕ) → k < length ws → get_or us k 0 ≡ bit_or (get_or ws k 0) (get_or vs k 0))
+-- each word of us is made of those of ws and vs at its place
+abbrev pub AreMade : (ℕ → ℕ → ℕ) → List ℕ → List ℕ → List ℕ → Type 0
+AreMade op ws vs us = (length us ≡ length ws) × ((k : ℕ) → k < length ws → get_or us k 0 ≡ op (get_or ws k 0) (get_or vs k 0))
 
-pub ored_from : (ws vs us old others : List ℕ) → old ≡ ws → others ≡ vs → AreOred old others us → AreOred ws vs us
-ored_from ws vs us old others e f o = subst (λ xs. AreOred xs vs us) e (subst (λ xs. AreOred old xs us) f o)
+pub made_from : (op : ℕ → ℕ → ℕ) (ws vs us old others : List ℕ) → old ≡ ws → others ≡ vs → AreMade op old others us → AreMade op ws vs us
+made_from op ws vs us old others e f o = subst (λ xs. AreMade op xs vs us) e (subst (λ xs. AreMade op old xs us) f o)
 
-bit_or_one : (a b k : ℕ) → nat_eq (bit_at (bit_or a b) k) 1 ≡ (nat_eq (bit_at a k) 1 || nat_eq (bit_at b k) 1)
-bit_or_one a b k = ap (λ x. nat_eq x 1) (bit_at_or a b k) ∙ go (bit_at a k) (bit_at b k) (bit_at-lt a k) (bit_at-lt b k)
+-- the operation on words does this with the bits of each place
+pub record DoesBits (op : ℕ → ℕ → ℕ) (f : Bool → Bool → Bool) : Type 0 where
+  pub each : (a b k : ℕ) → nat_eq (bit_at (op a b) k) 1 ≡ f (nat_eq (bit_at a k) 1) (nat_eq (bit_at b k) 1)
+  pub none : f false false ≡ false
+
+pub or_does : DoesBits bit_or (λ x y. x || y)
+or_does = record { each = λ a b k. ap (λ x. nat_eq x 1) (bit_at_or a b k) ∙ go (bit_at a k) (bit_at b k) (bit_at-lt a k) (bit_at-lt b k); none = refl }
   where
     go : (x y : ℕ) → x < 2 → y < 2 → nat_eq (max x y) 1 ≡ (nat_eq x 1 || nat_eq y 1)
     go zero zero _ _ = refl
@@ -128,46 +133,63 @@ bit_or_one a b k = ap (λ x. nat_eq x 1) (bit_at_or a b k) ∙ go (bit_at a k) (
     go zero (suc (suc y)) _ h = absurd (omega (arith, h))
     go (suc zero) (suc (suc y)) _ h = absurd (omega (arith, h))
 
-ored_bit : (ws vs us : List ℕ) → length ws ≡ length vs → AreOred ws vs us → (i : ℕ) → bit_of us i ≡ (bit_of ws i || bit_of vs i)
-ored_bit ws vs us e o i = ⊎_elim inside past (cases_lt (i / 64) (length ws))
+pub and_does : DoesBits bit_and (λ x y. x && y)
+and_does = record { each = λ a b k. ap (λ x. nat_eq x 1) (bit_at_and a b k) ∙ go (bit_at a k) (bit_at b k) (bit_at-lt a k) (bit_at-lt b k); none = refl }
   where
-    inside : i / 64 < length ws → bit_of us i ≡ (bit_of ws i || bit_of vs i)
-    inside l = ap (λ w. nat_eq (bit_at w (i % 64)) 1) (o.1 (i / 64) l) ∙ bit_or_one (get_or ws (i / 64) 0) (get_or vs (i / 64) 0) (i % 64)
+    go : (x y : ℕ) → x < 2 → y < 2 → nat_eq (min x y) 1 ≡ (nat_eq x 1 && nat_eq y 1)
+    go zero zero _ _ = refl
+    go zero (suc zero) _ _ = refl
+    go (suc zero) zero _ _ = refl
+    go (suc zero) (suc zero) _ _ = refl
+    go (suc (suc x)) y h _ = absurd (omega (arith, h))
+    go zero (suc (suc y)) _ h = absurd (omega (arith, h))
+    go (suc zero) (suc (suc y)) _ h = absurd (omega (arith, h))
+
+-- the rows are made bit by bit
+pub made_bit : (op : ℕ → ℕ → ℕ) (f : Bool → Bool → Bool) → DoesBits op f → (ws vs us : List ℕ) → length ws ≡ length vs → AreMade op ws vs us → (i : ℕ) → bit_of us i ≡ f (bit_of ws i) (bit_of vs i)
+made_bit op f d ws vs us e o i = ⊎_elim inside past (cases_lt (i / 64) (length ws))
+  where
+    inside : i / 64 < length ws → bit_of us i ≡ f (bit_of ws i) (bit_of vs i)
+    inside l = ap (λ w. nat_eq (bit_at w (i % 64)) 1) (o.1 (i / 64) l) ∙ d.each (get_or ws (i / 64) 0) (get_or vs (i / 64) 0) (i % 64)
 
     none : (xs : List ℕ) → length xs ≤ i / 64 → bit_of xs i ≡ false
     none xs ge = ap (λ w. nat_eq (bit_at w (i % 64)) 1) (get_or_past xs (i / 64) 0 ge) ∙ ap (λ b. nat_eq b 1) (bit_at-zero (i % 64))
 
-    past : length ws ≤ i / 64 → bit_of us i ≡ (bit_of ws i || bit_of vs i)
-    past ge = let f = o.0 in rw (none us (omega arith), none ws ge, none vs (omega arith)) refl
+    past : length ws ≤ i / 64 → bit_of us i ≡ f (bit_of ws i) (bit_of vs i)
+    past ge = let l = o.0 in rw (none us (omega arith), none ws ge, none vs (omega arith)) (sym d.none)
 
-pub ored_row : (n m : ℕ) (ws vs us : List ℕ) → n ≡ m → length ws ≡ length vs → AreOred ws vs us → bits_of n us ≡ either (bits_of n ws) (bits_of m vs)
-ored_row n m ws vs us same e o = subst (λ k. bits_of n us ≡ either (bits_of n ws) (bits_of k vs)) same (row_is n us (either (bits_of n ws) (bits_of n vs)) long each)
+-- at each place, what is made of the two bits there
+abbrev pub at_each : (Bool → Bool → Bool) → List Bool → List Bool → List Bool
+at_each f xs ys = map (λ (p : Bool × Bool). f p.0 p.1) (zip xs ys)
+
+pub made_row : (op : ℕ → ℕ → ℕ) (f : Bool → Bool → Bool) → DoesBits op f → (n m : ℕ) (ws vs us : List ℕ) → n ≡ m → length ws ≡ length vs → AreMade op ws vs us → bits_of n us ≡ at_each f (bits_of n ws) (bits_of m vs)
+made_row op f d n m ws vs us same e o = subst (λ k. bits_of n us ≡ at_each f (bits_of n ws) (bits_of k vs)) same (row_is n us (at_each f (bits_of n ws) (bits_of n vs)) long each)
   where
-    both : List (Bool × Bool)
-    both = zip (bits_of n ws) (bits_of n vs)
+    zips : List (Bool × Bool)
+    zips = zip (bits_of n ws) (bits_of n vs)
 
-    or_of : Bool × Bool → Bool
-    or_of p = p.0 || p.1
+    of_pair : Bool × Bool → Bool
+    of_pair p = f p.0 p.1
 
-    zipped : length both ≡ n
+    zipped : length zips ≡ n
     zipped = let a = length-bits_of n ws in let b = length-bits_of n vs in omega (arith, length-zip (bits_of n ws) (bits_of n vs))
 
-    long : length (either (bits_of n ws) (bits_of n vs)) ≡ n
-    long = length-map both or_of ∙ zipped
+    long : length (at_each f (bits_of n ws) (bits_of n vs)) ≡ n
+    long = length-map zips of_pair ∙ zipped
 
-    each : (i : ℕ) → i < n → bit_of us i ≡ get_or (either (bits_of n ws) (bits_of n vs)) i false
+    each : (i : ℕ) → i < n → bit_of us i ≡ get_or (at_each f (bits_of n ws) (bits_of n vs)) i false
     each i h =
-        ored_bit ws vs us e o i
-        ∙ sym (get_or-map or_of both i (false, false) false (rw zipped h)
-        ∙ (ap or_of (get_or-zip (bits_of n ws) (bits_of n vs) i (false, false) (rw (length-bits_of n ws) h) (rw (length-bits_of n vs) h))
-        ∙ (ap (λ x. x || get_or (bits_of n vs) i false) (get_or-bits_of n ws i false h)
-        ∙ ap (λ x. bit_of ws i || x) (get_or-bits_of n vs i false h))))
+        made_bit op f d ws vs us e o i
+        ∙ sym (get_or-map of_pair zips i (false, false) false (rw zipped h)
+        ∙ (ap of_pair (get_or-zip (bits_of n ws) (bits_of n vs) i (false, false) (rw (length-bits_of n ws) h) (rw (length-bits_of n vs) h))
+        ∙ (ap (λ x. f x (get_or (bits_of n vs) i false)) (get_or-bits_of n ws i false h)
+        ∙ ap (λ x. f (bit_of ws i) x) (get_or-bits_of n vs i false h))))
 
-pub ored_packed : (n m : ℕ) (ws vs us : List ℕ) → n ≡ m → IsPacked n ws → IsPacked m vs → AreOred ws vs us → IsPacked n us
-ored_packed n m ws vs us same p q o = record {
+pub made_packed : (op : ℕ → ℕ → ℕ) (f : Bool → Bool → Bool) → DoesBits op f → (n m : ℕ) (ws vs us : List ℕ) → n ≡ m → IsPacked n ws → IsPacked m vs → AreMade op ws vs us → IsPacked n us
+made_packed op f d n m ws vs us same p q o = record {
   enough = rw o.0 p.enough;
   no_more = rw o.0 p.no_more;
-  clear_past = λ i l. ored_bit ws vs us (same_count n m ws vs p q same) o i ∙ (rw (p.clear_past i l) (q.clear_past i (subst (λ k. k ≤ i) same l)));
+  clear_past = λ i l. made_bit op f d ws vs us (same_count n m ws vs p q same) o i ∙ (rw (p.clear_past i l, q.clear_past i (subst (λ k. k ≤ i) same l)) d.none);
 }
 
 -- the bit j of the word k stands at its place

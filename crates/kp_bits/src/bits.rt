@@ -1,9 +1,10 @@
 ghost use Rattle.std.specs.Prelude.{◌≡◌, ◌<◌, ◌+◌, ◌*◌, ◌↔◌, ℕ, true, false, Some, length, replicate, set, slice_get, IfOk, IfSome, IfNone, IsTrue};
 ghost use Rattle.std.specs.Int.{bit_at};
-ghost use Rattle.kp_bits.specs.Rows.{either, IsWithin, DifferFirst};
+ghost use Rattle.kp_bits.specs.Rows.{both, either, IsWithin, DifferFirst};
 
 use crate::words::{
-    first_other_bit, has_bit, or_words, same_words, with_bit, without_bit, word_at, words_within,
+    and_words, first_other_bit, has_bit, or_words, same_words, with_bit, without_bit, word_at,
+    words_within,
 };
 use kp_base::Memory;
 use std::alloc::Global;
@@ -75,6 +76,14 @@ impl Bits {
         ensures { self.new ≡ either self.old other.now }
     {
         or_words(&mut self.words, &other.words);
+    }
+
+    /// Clears the bits that aren't set in the other row.
+    pub fn and_with(&mut self, other: &Bits)
+        requires { length self.old ≡ length other.now }
+        ensures { self.new ≡ both self.old other.now }
+    {
+        and_words(&mut self.words, &other.words);
     }
 
     /// Whether each bit that is set here is set in the other row.

@@ -1,7 +1,7 @@
 //! Words of 64 bits, bit by bit.
 ghost use Rattle.std.specs.Prelude.{◌≡◌, ◌≢◌, ◌<◌, ◌↔◌, ℕ, IsTrue, length, slice_index_or};
 ghost use Rattle.std.specs.Int.{bit_at};
-ghost use Rattle.std.specs.Int.RustNames.{bit_or};
+ghost use Rattle.std.specs.Int.RustNames.{bit_and, bit_or};
 
 /// The word with this bit set.
 pub fn with_bit(word: u64, k: u32) -> u64
@@ -57,6 +57,17 @@ pub(crate) fn or_words(words: &mut [u64], others: &[u64])
 {
     for k in 0..words.len() {
         words[k] |= others[k];
+    }
+}
+
+/// Clears in each word the bits that aren't set in the other word at its place.
+pub(crate) fn and_words(words: &mut [u64], others: &[u64])
+    requires { length words.old ≡ length others.now }
+    ensures len { length words.new ≡ length words.old }
+    ensures each { (k : ℕ) → k < length words.old → slice_index_or words.new k 0 ≡ bit_and (slice_index_or words.old k 0) (slice_index_or others.now k 0) }
+{
+    for k in 0..words.len() {
+        words[k] &= others[k];
     }
 }
 

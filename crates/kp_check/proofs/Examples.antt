@@ -4,17 +4,17 @@ use Rattle.kp_base.specs.declared.lit.Lit.{Lit}
 use Rattle.kp_base.specs.declared.ground.Ground.{Ground}
 use Rattle.kp_base.specs.declared.ground.GroundName.{GroundName}
 use Rattle.kp_base.specs.Lit.{positive, negative, code_of}
-use Rattle.kp_base.specs.Steps.{State, holds, succeeds}
+use Rattle.kp_base.specs.Steps.{State, holds, succeeds, IsLeastMissing}
 use Rattle.kp_base.specs.Implicates.{IsOfItsAtoms}
 use Rattle.kp_first.specs.Ordered.{state_of}
-use Rattle.kp_check.specs.Failing.{IsLeastFalse, FailAt}
+use Rattle.kp_check.specs.Failing.{FailAt}
 
 nameless : GroundName
 nameless = record { head = []; objects = [] }
 
 -- one literal that is false is the least
-only : {s : State} {l : Lit} → holds s l ≡ false → IsLeastFalse s (l ∷ []) l
-only {s} {l} h = record { among = inl refl; wrong = h; least = λ m in-ls off. elim in-ls [ inl e ↦ subst (λ x. code_of l ≤ code_of x) e (omega arith) | inr none ↦ absurd none ] }
+only : (s : State) {l : Lit} → holds s l ≡ false → IsLeastMissing (holds s) (l ∷ []) l
+only s {l} h = record { among = inl refl; missing = h; least = λ m in-ls off. elim in-ls [ inl e ↦ subst (λ x. code_of l ≤ code_of x) e (omega arith) | inr none ↦ absurd none ] }
 
 -- where p holds, q comes and p goes
 abbrev once : Ground
@@ -33,7 +33,7 @@ taken_once = refl
 
 -- a second one fails at p
 taken_twice : FailAt once (state_of (record { 0 = 0 } ∷ [])) (0 ∷ 0 ∷ []) 1 (positive 0)
-taken_twice = record { in_range = omega arith; reached = refl; fails = only refl }
+taken_twice = record { in_range = omega arith; reached = refl; fails = only _ refl }
 
 -- a full cell's left one comes to be full, and it empty
 abbrev cells : Ground
@@ -49,7 +49,7 @@ cells = record {
 
 -- one step to the left fails at the goal where the third cell is full, and two don't
 one_to_the_left : FailAt cells (state_of (record { 0 = 2 } ∷ [])) (0 ∷ []) 1 (positive 0)
-one_to_the_left = record { in_range = omega arith; reached = refl; fails = only refl }
+one_to_the_left = record { in_range = omega arith; reached = refl; fails = only _ refl }
 
 two_to_the_left : succeeds cells (state_of (record { 0 = 2 } ∷ [])) (0 ∷ 0 ∷ []) ≡ true
 two_to_the_left = refl

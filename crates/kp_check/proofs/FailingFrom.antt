@@ -8,7 +8,7 @@ use Rattle.kp_base.specs.declared.ground.Action.{Action}
 use Rattle.kp_base.specs.declared.ground.Ground.{Ground}
 use Rattle.kp_base.specs.Lit.{positive, negative, has}
 use Rattle.kp_base.specs.LitSet.{IsAscending}
-use Rattle.kp_base.specs.Steps.{State, is_model, holds, applicable, next, after, runs, succeeds, state_after, IsGroundPlan}
+use Rattle.kp_base.specs.Steps.{State, is_model, holds, applicable, next, after, runs, succeeds, state_after, IsGroundPlan, pre_of, asked}
 use Rattle.kp_base.specs.Implicates.{are_below}
 use Rattle.kp_base.proofs.Lists.{member_map, range_there}
 use Rattle.kp_base.proofs.Lits.{has-member}
@@ -23,7 +23,7 @@ use Rattle.kp_check.specs.declared.failing.At.{At}
 use Rattle.kp_check.specs.Values.{truth_at, stepped, next_values}
 use Rattle.kp_check.proofs.Grounded.{IsGroundOf, action_parts}
 use Rattle.kp_check.specs.Judging.{fails}
-use Rattle.kp_check.specs.Failing.{pre_of, asked, FailAt}
+use Rattle.kp_check.specs.Failing.{FailAt}
 use Rattle.kp_check.specs.FailingValues.{first_false, at_or, failure, AscendsAt, is_no, first_no, failure_in, decided, state_values}
 use Rattle.kp_check.proofs.Least.{first_least}
 use Rattle.kp_check.proofs.Fitting.{Fits, truth_at_is, stepped_fits, at_range, length_range}

@@ -5,9 +5,8 @@ use Rattle.kp_base.specs.declared.lit.Lit.{Lit}
 use Rattle.kp_base.specs.Lists.{Member}
 use Rattle.kp_base.specs.Lit.{code_of}
 use Rattle.kp_base.specs.LitSet.{IsAscending}
-use Rattle.kp_base.specs.Steps.{State, holds}
+use Rattle.kp_base.specs.Steps.{State, holds, IsLeastMissing}
 use Rattle.kp_base.proofs.Ascending.{tail_ascends}
-use Rattle.kp_check.specs.Failing.{IsLeastFalse}
 use Rattle.kp_check.specs.FailingValues.{first_false}
 
 above : (x : Lit) (ls : List Lit) → IsAscending (x ∷ ls) → (m : Lit) → Member ls m → code_of x < code_of m
@@ -15,7 +14,7 @@ above x [] up m in-ls = absurd in-ls
 above x (y ∷ ls) up m (inl e) = subst (λ z. code_of x < code_of z) e up.0
 above x (y ∷ ls) up m (inr in-ls) = let a = above y ls up.1 m in-ls in let b = up.0 in omega arith
 
-pub first_least : (s : State) (ls : List Lit) (l : Lit) → IsAscending ls → first_false s ls ≡ Some l → IsLeastFalse s ls l
+pub first_least : (s : State) (ls : List Lit) (l : Lit) → IsAscending ls → first_false s ls ≡ Some l → IsLeastMissing (holds s) ls l
 first_least s [] l up h = cc
 first_least s (x ∷ ls) l up h = pick (holds s x) refl h (λ e. first_least s ls l (tail_ascends x ls up) e)
   where
@@ -23,10 +22,10 @@ first_least s (x ∷ ls) l up h = pick (holds s x) refl h (λ e. first_least s l
     least_of m (inl e) = subst (λ z. code_of x ≤ code_of z) e (omega arith)
     least_of m (inr k) = let a = above x ls up m k in omega arith
 
-    later : holds s x ≡ true → IsLeastFalse s ls l → (m : Lit) → Member (x ∷ ls) m → holds s m ≡ false → code_of l ≤ code_of m
+    later : holds s x ≡ true → IsLeastMissing (holds s) ls l → (m : Lit) → Member (x ∷ ls) m → holds s m ≡ false → code_of l ≤ code_of m
     later t i m (inl e) off = absurd (false≢true (sym off ∙ (ap (holds s) (sym e) ∙ t)))
     later t i m (inr k) off = i.least m k off
 
-    pick : (b : Bool) → holds s x ≡ b → (if b then first_false s ls else Some x) ≡ Some l → (first_false s ls ≡ Some l → IsLeastFalse s ls l) → IsLeastFalse s (x ∷ ls) l
-    pick true t e rest = let i = rest e in record { among = inr i.among; wrong = i.wrong; least = later t i }
-    pick false t e rest = let same : x ≡ l = cc in subst (IsLeastFalse s (x ∷ ls)) same (record { among = inl refl; wrong = t; least = λ m k off. least_of m k })
+    pick : (b : Bool) → holds s x ≡ b → (if b then first_false s ls else Some x) ≡ Some l → (first_false s ls ≡ Some l → IsLeastMissing (holds s) ls l) → IsLeastMissing (holds s) (x ∷ ls) l
+    pick true t e rest = let i = rest e in record { among = inr i.among; missing = i.missing; least = later t i }
+    pick false t e rest = let same : x ≡ l = cc in subst (IsLeastMissing (holds s) (x ∷ ls)) same (record { among = inl refl; missing = t; least = λ m k off. least_of m k })

@@ -49,21 +49,6 @@ stepped vs es = with_firings vs (map (firing vs) es)
 
 -- ---- a run
 
--- the second where the first is so
-abbrev pub and_then : Truth → Truth → Truth
-and_then Yes u = u
-and_then No u = No
-and_then (Open a) u = Open a
-
-abbrev pub pre_truth : Option Action → List Truth → Truth
-pre_truth None vs = No
-pre_truth (Some a) vs = all_true vs a.pre
-
 abbrev pub next_values : Option Action → List Truth → List Truth
 next_values None vs = vs
 next_values (Some a) vs = stepped vs a.effects
-
--- whether the steps succeed
-abbrev pub run_truth : Ground → List Truth → List ℕ → Truth
-run_truth g vs [] = all_true vs g.goal
-run_truth g vs (n ∷ ns) = and_then (pre_truth (slice_get g.actions n) vs) (run_truth g (next_values (slice_get g.actions n) vs) ns)

@@ -1,7 +1,7 @@
 ghost use Rattle.std.specs.Prelude.{◌≡◌, ◌<◌, length, slice_get, IfOk};
 ghost use Rattle.kp_base.specs.LitSet.{IsAscending};
 ghost use Rattle.kp_first.specs.Ordered.{state_of};
-ghost use Rattle.kp_check.specs.Failing.{pre_of};
+ghost use Rattle.kp_base.specs.Steps.{pre_of};
 ghost use Rattle.kp_check.specs.FailingValues.{decided, first_no, failure_in, state_values, AscendsAt};
 
 use crate::steps::Walk;

@@ -10,6 +10,8 @@ mod faults;
 #[cfg(test)]
 mod implicates;
 #[cfg(test)]
+mod lifting;
+#[cfg(test)]
 mod limits;
 #[cfg(test)]
 mod merging;

@@ -8,10 +8,10 @@ const EITHER: &str =
 const NOTHING_OF_P: &str = "(define (problem c) (:domain c) (:init (unknown (p))) (:goal (q)))";
 
 // One action that makes g true in each of four cases.
-const FOUR: &str =
+pub const FOUR: &str =
     "(define (domain e) (:predicates (p) (r) (g)) (:action a :effect (and (when (and (p) (r)) (g)) (when (and (p) (not (r))) (g)) (when (and (not (p)) (r)) (g)) (when (and (not (p)) (not (r))) (g)))))";
 
-const NOTHING_OF_BOTH: &str =
+pub const NOTHING_OF_BOTH: &str =
     "(define (problem e) (:domain e) (:init (unknown (p)) (unknown (r))) (:goal (g)))";
 
 // Translations by what is said behind their names, with what is printed.

@@ -144,3 +144,25 @@ pub fn checks_so(
     shelf.hold(b"t".as_slice(), plan.as_bytes())?;
     runs_so(alloc, &words, &mut shelf, number, printed)
 }
+
+/// Whether a lift of this plan file, with these last words and a file of merges that has a tag for each cell, ends with
+/// this number and prints this text.
+pub fn lifts_so(
+    alloc: Global,
+    texts: (&str, &str),
+    plan: &str,
+    more: &[&str],
+    number: u8,
+    printed: &str,
+) -> Result<bool, Memory> {
+    let mut words = Vec::new(alloc);
+    push_all(alloc, &mut words, ["lift", "d", "p", "t"].as_slice())?;
+    push_all(alloc, &mut words, more)?;
+    let mut shelf = shelf_of(alloc, texts.0.as_bytes(), texts.1.as_bytes())?;
+    shelf.hold(b"t".as_slice(), plan.as_bytes())?;
+    shelf.hold(
+        b"m".as_slice(),
+        b"(merge (x1) ((x1)) ((x2)) ((x3)))".as_slice(),
+    )?;
+    runs_so(alloc, &words, &mut shelf, number, printed)
+}

@@ -5,10 +5,9 @@ use Rattle.std.specs.List.Sorted.{IsPermutation, IsSorted}
 use Rattle.kp_base.specs.declared.lit.Lit.{Lit}
 use Rattle.kp_base.specs.declared.ground.Initial.{Initial}
 use Rattle.kp_base.specs.LitSet.{lits_cmp}
-use Rattle.kp_base.specs.Entailed.{HasModel}
+use Rattle.kp_base.specs.Entailed.{HasModel, HaveSameModels}
 use Rattle.kp_base.specs.Implicates.{IsOfAtoms}
 use Rattle.kp_clauses.specs.Stored.{subsumed}
-use Rattle.kp_machine.specs.Formulas.{HaveSameModels}
 use Rattle.kp_primes.specs.Included.{all_included, unit_of, AreCounted}
 use Rattle.kp_primes.specs.Held.{Held, formula, AreWhole}
 use Rattle.kp_primes.proofs.Answered.{is_empty}

@@ -9,15 +9,16 @@ use Rattle.kp_base.specs.declared.ground.Action.{Action}
 use Rattle.kp_base.specs.declared.ground.Ground.{Ground}
 use Rattle.kp_base.specs.declared.ground.Initial.{Initial}
 use Rattle.kp_base.specs.Lit.{positive, negative, same_lit, code_of}
-use Rattle.kp_base.specs.Steps.{State, SameBelow, holds, is_model, fires, after, applicable, next, runs, succeeds, state_after}
+use Rattle.kp_base.specs.Steps.{State, SameBelow, holds, IsLeastMissing, is_model, fires, after, applicable, next, runs, succeeds, state_after, pre_of, asked}
 use Rattle.kp_base.specs.Implicates.{are_below, effect_below, IsOfAtoms}
 use Rattle.kp_base.proofs.Lists.{any_alike, all_member}
+use Rattle.kp_base.proofs.Least.{least_missing}
 use Rattle.kp_first.specs.Asked.{is_wanted}
 use Rattle.kp_first.specs.Ordered.{state_of, AreFirst, AnswersFirst}
 use Rattle.kp_first.proofs.Reading.{all_same, model_same}
 use Rattle.kp_check.specs.declared.answer.Judged.{Judged}
 use Rattle.kp_check.specs.declared.answer.Judged.TheVariants.{Yes, No}
-use Rattle.kp_check.specs.Failing.{IsLeastFalse, pre_of, asked, FailAt}
+use Rattle.kp_check.specs.Failing.{FailAt}
 use Rattle.kp_check.specs.Judging.{fails, AnswersJudged}
 use Rattle.kp_check.proofs.Grounded.{IsGroundOf, ground_of, action_parts}
 use Rattle.kp_check.proofs.FailingFrom.{none_past, all_succeed}
@@ -50,55 +51,6 @@ run_same n g of (m ∷ ns) s t same = go (slice_get g.actions m) refl (λ u v h.
 reads_fails : (n : ℕ) (g : Ground) (i : Initial) (ns : List ℕ) → IsOfAtoms n i → IsGroundOf n g → ReadsFirst n (is_wanted i (fails g ns))
 reads_fails n g i ns over of = record { alike = λ s t same. ap₂ (λ x y. x && y) (model_same n s t same i over) (ap not (run_same n g of ns s t same)) }
 
--- ---- the least literal that is false
-
--- the first literal, or one of the rest
-least_of : (s : State) (x : Lit) (ls : List Lit) → holds s x ≡ false → (l : Lit) → IsLeastFalse s ls l → (k : Lit) × IsLeastFalse s (x ∷ ls) k
-least_of s x ls off l f = elim (cases_lt (code_of l) (code_of x)) [
-  | inl less ↦ (
-    l,
-    record {
-      among = inr f.among;
-      wrong = f.wrong;
-      least = λ m there no_m. elim there [ inl e ↦ subst (λ z. code_of l ≤ code_of z) e (omega (arith, less)) | inr later ↦ f.least m later no_m ];
-    },
-  )
-  | inr le ↦ (
-    x,
-    record {
-      among = inl refl;
-      wrong = off;
-      least = λ m there no_m. elim there [ inl e ↦ subst (λ z. code_of x ≤ code_of z) e (omega arith) | inr later ↦ let more = f.least m later no_m in omega (arith, le, more) ];
-    },
-  )
-]
-
--- the first alone
-least_first : (s : State) (x : Lit) (ls : List Lit) → holds s x ≡ false → list_all (holds s) ls ≡ true → IsLeastFalse s (x ∷ ls) x
-least_first s x ls off all = record {
-  among = inl refl;
-  wrong = off;
-  least = λ m there no_m. elim there [ inl e ↦ subst (λ z. code_of x ≤ code_of z) e (omega arith) | inr later ↦ absurd (false≢true (sym no_m ∙ all_member (holds s) ls m later all)) ];
-}
-
--- one of the rest alone
-least_later : (s : State) (x : Lit) (ls : List Lit) → holds s x ≡ true → (l : Lit) → IsLeastFalse s ls l → IsLeastFalse s (x ∷ ls) l
-least_later s x ls on l f = record {
-  among = inr f.among;
-  wrong = f.wrong;
-  least = λ m there no_m. elim there [ inl e ↦ absurd (false≢true (sym no_m ∙ subst (λ z. holds s z ≡ true) e on)) | inr later ↦ f.least m later no_m ];
-}
-
-least_false : (s : State) (ls : List Lit) → list_all (holds s) ls ≡ false → (l : Lit) × IsLeastFalse s ls l
-least_false s [] h = absurd (false≢true (sym h))
-least_false s (x ∷ ls) h = by (holds s x) refl (list_all (holds s) ls) refl h (λ e. least_false s ls e)
-  where
-    by : (b : Bool) → holds s x ≡ b → (c : Bool) → list_all (holds s) ls ≡ c → (b && c) ≡ false → (list_all (holds s) ls ≡ false → (l : Lit) × IsLeastFalse s ls l) → (l : Lit) × IsLeastFalse s (x ∷ ls) l
-    by true on true all h rest = absurd (false≢true (sym h))
-    by true on false some h rest = let l = rest some in (l.0, least_later s x ls on l.0 l.1)
-    by false off true all h rest = (x, least_first s x ls off all)
-    by false off false some h rest = let l = rest some in least_of s x ls off l.0 l.1
-
 -- ---- where steps fail
 
 record Failure (g : Ground) (s : State) (ns : List ℕ) : Type 0 where
@@ -106,10 +58,10 @@ record Failure (g : Ground) (s : State) (ns : List ℕ) : Type 0 where
   literal : Lit
   at : FailAt g s ns step literal
 
-fails_now : (g : Ground) (s : State) (ns : List ℕ) → ((l : Lit) × IsLeastFalse s (asked g (slice_get ns 0)) l) → Failure g s ns
+fails_now : (g : Ground) (s : State) (ns : List ℕ) → ((l : Lit) × IsLeastMissing (holds s) (asked g (slice_get ns 0)) l) → Failure g s ns
 fails_now g s ns l = record { step = 0; literal = l.0; at = record { in_range = omega arith; reached = refl; fails = here ns l.1 } }
   where
-    here : (xs : List ℕ) → IsLeastFalse s (asked g (slice_get xs 0)) l.0 → IsLeastFalse (state_after g s (take 0 xs)) (asked g (slice_get xs 0)) l.0
+    here : (xs : List ℕ) → IsLeastMissing (holds s) (asked g (slice_get xs 0)) l.0 → IsLeastMissing (holds (state_after g s (take 0 xs))) (asked g (slice_get xs 0)) l.0
     here [] f = f
     here (x ∷ xs) f = f
 
@@ -125,7 +77,7 @@ fails_later g s m ns can f = record {
 }
 
 failure : (g : Ground) (ns : List ℕ) (s : State) → list_all (λ m. nat_lt m (length g.actions)) ns ≡ true → succeeds g s ns ≡ false → Failure g s ns
-failure g [] s inside off = fails_now g s [] (least_false s g.goal off)
+failure g [] s inside off = fails_now g s [] (least_missing (holds s) g.goal off)
 failure g (m ∷ ns) s inside off = go (slice_get g.actions m) refl (λ t e. failure g ns t parts.1 e)
   where
     parts : (nat_lt m (length g.actions) ≡ true) × (list_all (λ m. nat_lt m (length g.actions)) ns ≡ true)
@@ -135,7 +87,7 @@ failure g (m ∷ ns) s inside off = go (slice_get g.actions m) refl (λ t e. fai
     off_later can = sym (ap (λ b. b && succeeds g (next (slice_get g.actions m) s) ns) can) ∙ off
 
     by : (a : Action) → slice_get g.actions m ≡ Some a → (b : Bool) → list_all (holds s) a.pre ≡ b → ((t : State) → succeeds g t ns ≡ false → Failure g t ns) → Failure g s (m ∷ ns)
-    by a is false some rest = fails_now g s (m ∷ ns) (subst (λ o. (l : Lit) × IsLeastFalse s (pre_of o) l) (sym is) (least_false s a.pre some))
+    by a is false some rest = fails_now g s (m ∷ ns) (subst (λ o. (l : Lit) × IsLeastMissing (holds s) (pre_of o) l) (sym is) (least_missing (holds s) a.pre some))
     by a is true all rest =
         let can : applicable (slice_get g.actions m) s ≡ true = subst (λ o. applicable o s ≡ true) (sym is) all in
         fails_later g s m ns can (rest (next (slice_get g.actions m) s) (off_later can))

@@ -56,6 +56,7 @@ fn choose<T: Question>(
     requires witness { IsWitness atoms (formula primes.now) (passes_one (T.tests question.now)) [] start }
     ensures { IfOk result (AreFirst atoms (is_wanted (formula primes.now) (passes_one (T.tests question.now)))) }
 {
+    // Taken for what its contract says of the clauses, which the loop's invariant cites.
     let clauses = primes.clauses();
     let mut found = start;
     let mut tag = LitSet::new(alloc);

@@ -9,7 +9,7 @@ use Rattle.kp_base.specs.Exclusive.{IsPart, IsInductive, IsExclusive, AreExclusi
 use Rattle.kp_base.proofs.Lists.{bool_same}
 use Rattle.kp_base.proofs.Exclusive.{compatible_under_fewer}
 use Rattle.kp_machine.specs.Laws.{ClashFreeNeverClashes}
-use Rattle.kp_machine.specs.Formulas.{HaveSameModels}
+use Rattle.kp_base.specs.Entailed.{HaveSameModels}
 use Rattle.kp_machine.proofs.Inductive as inductive
 use Rattle.kp_machine.proofs.Union.{union_inductive}
 

@@ -6,14 +6,9 @@ use Rattle.kp_base.specs.declared.ground.Initial.{Initial}
 use Rattle.kp_base.specs.declared.ground.Merge.{Merge}
 use Rattle.kp_base.specs.declared.ground.TagTable.{TagTable}
 use Rattle.kp_base.specs.declared.refused.ClashAt.{ClashAt}
-use Rattle.kp_base.specs.Steps.{State, is_model}
-use Rattle.kp_base.specs.Entailed.{IsConsistent, IsClosure, IsValid, IsTable}
+use Rattle.kp_base.specs.Entailed.{IsConsistent, IsClosure, HaveSameModels, IsValid, IsTable}
 use Rattle.kp_base.specs.Clashes.{Pairs}
 use Rattle.kp_base.specs.Exclusive.{AreExclusive, ClashesFirst, IsClashFree}
-
--- both formulas have the same models
-abbrev pub HaveSameModels : Initial → Initial → Type 0
-HaveSameModels i j = (s : State) → is_model i s ≡ is_model j s
 
 -- what is so by one formula is so by the other: closures, consistent tags, valid merges, right tables, exclusive pairs, the first clash, and that there is none
 pub record SayTheSame (g : Ground) (i j : Initial) : Type 0 where

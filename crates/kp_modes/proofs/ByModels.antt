@@ -5,11 +5,10 @@ use Rattle.kp_base.specs.declared.ground.Ground.{Ground}
 use Rattle.kp_base.specs.declared.ground.Initial.{Initial}
 use Rattle.kp_base.specs.declared.ground.Action.{Action}
 use Rattle.kp_base.specs.declared.refused.Refused.{Refused}
-use Rattle.kp_base.specs.Entailed.{IsConsistent}
+use Rattle.kp_base.specs.Entailed.{IsConsistent, HaveSameModels}
 use Rattle.kp_base.specs.Implicates.{IsImplicate}
 use Rattle.kp_base.specs.Relevance.{IsCandidate, AreClausesFor}
 use Rattle.kp_base.specs.Covering.{IsCov, AllMeet}
-use Rattle.kp_machine.specs.Formulas.{HaveSameModels}
 use Rattle.kp_merges.specs.declared.merge.FileMerge.{FileMerge}
 use Rattle.kp_modes.specs.declared.way.Way.{Way}
 use Rattle.kp_modes.specs.Modes.{IsCovering, IsFirstCovering, IsPassed, ArePassed, IsLeastCover, IsRefusedAt, AreOneForEach, AreOtherwise, AreMergesBy, AreMergesFor, AreMergesInTurn, AreMergesOf}

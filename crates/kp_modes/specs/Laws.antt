@@ -9,9 +9,8 @@ use Rattle.kp_base.specs.declared.limits.Mode.TheVariants.{Models, Auto}
 use Rattle.kp_base.specs.declared.refused.Refused.{Refused}
 use Rattle.kp_base.specs.Lists.{Member}
 use Rattle.kp_base.specs.Covering.{IsTarget}
-use Rattle.kp_base.specs.Entailed.{IsConsistent}
+use Rattle.kp_base.specs.Entailed.{IsConsistent, HaveSameModels}
 use Rattle.kp_base.specs.Implicates.{are_below, IsOfItsAtoms}
-use Rattle.kp_machine.specs.Formulas.{HaveSameModels}
 use Rattle.kp_cover.specs.Valid.{AreValidTags}
 use Rattle.kp_merges.specs.declared.merge.FileMerge.{FileMerge}
 use Rattle.kp_modes.specs.Modes.{way_of, AreMergesOf}

@@ -1,3 +1,5 @@
 pub mod Reading
 pub mod Counted
 pub mod Ended
+pub mod OneText
+pub mod OneStart

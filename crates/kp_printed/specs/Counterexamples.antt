@@ -6,7 +6,7 @@ use Rattle.kp_base.specs.declared.lit.Lit.{Lit}
 use Rattle.kp_printed.specs.Names.{literal_text}
 use Rattle.kp_printed.specs.Refusals.{state_line}
 
--- where it fails, at a step or at the goal, and the literal that is false there; steps are counted from 1
+-- where a plan fails, at a step or at the goal, and the literal that is missing there; steps are counted from 1
 abbrev pub failing_line : List GroundName → Option ℕ → Lit → List ℕ
 failing_line atoms None l = codes "goal " ++ (literal_text atoms l ++ codes "\n")
 failing_line atoms (Some before) l = codes "step " ++ (decimal (before + 1) ++ (codes " " ++ (literal_text atoms l ++ codes "\n")))

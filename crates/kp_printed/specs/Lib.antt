@@ -1,5 +1,6 @@
 pub mod Names
 pub mod Refusals
 pub mod Counterexamples
+pub mod Lifting
 pub mod Usage
 pub mod Coverage

@@ -1,5 +1,6 @@
 ghost use Rattle.std.specs.Prelude.{◌≡◌, ◌++◌, ◌<◌, Option, IfOk, IfSome, OnOk};
 ghost use Rattle.kp_printed.specs.Counterexamples.{failing_line, counterexample_text};
+ghost use Rattle.kp_printed.specs.Lifting.{unlifted_text};
 
 use crate::lines::put_state;
 use crate::names::{put, put_literal, put_number};
@@ -41,6 +42,22 @@ pub fn counterexample(
     let mut out = Vec::new(alloc);
     put(&mut out, b"no\n")?;
     put_state(&mut out, atoms, state)?;
+    put_failing(&mut out, atoms, step, literal)?;
+    Ok(Row::from_vec(out))
+}
+
+/// A plan that doesn't lift: the step at which lifting it fails, counted from 0, or none where that is the goal,
+/// and the literal that isn't known there.
+pub fn unlifted(
+    alloc: Global,
+    atoms: &[GroundName],
+    step: Option<u32>,
+    literal: Lit,
+) -> Result<Row<u8>, Memory>
+    ensures { IfOk result (λ text. text ≡ unlifted_text atoms.now step literal) }
+{
+    let mut out = Vec::new(alloc);
+    put(&mut out, b"unlifted\n")?;
     put_failing(&mut out, atoms, step, literal)?;
     Ok(Row::from_vec(out))
 }

@@ -1,5 +1,5 @@
-//! What commands print: the usage, names, each refusal, and whether a table is complete. `specs/Refusals.antt` says the lines of
-//! each refusal.
+//! What commands print: the usage, names, each refusal, where a plan fails, and whether a table is complete.
+//! `specs/Refusals.antt` says the lines of each refusal.
 #![tactic(auto)]
 
 mod clash;
@@ -11,7 +11,7 @@ mod names;
 mod refusals;
 
 pub use coverage::put_coverage;
-pub use failing::counterexample;
+pub use failing::{counterexample, unlifted};
 pub use help::usage;
 pub use names::put_name;
 pub use refusals::{Named, refusal};

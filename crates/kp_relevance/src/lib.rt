@@ -1,6 +1,6 @@
 //! Which literals are relevant to which, and which clauses to a literal.
-//! `IsRelevant` in `specs/Relevant.antt` says what relevance is, and `AreClausesFor` in `Candidates.antt` which
-//! clauses are answered.
+//! `IsRelevant` in `specs/Relevance.antt` of `kp_base` says what relevance is, and `AreClausesFor` there which clauses
+//! are answered.
 #![tactic(auto)]
 
 mod fill;

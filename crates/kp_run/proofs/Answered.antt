@@ -1,18 +1,20 @@
 -- What is due is an answer, and no fault.
-use Rattle.std.proofs.Common.{◌≡◌, ℕ, List, [], ◌∷◌, sym, subst}
+use Rattle.std.proofs.Common.{◌≡◌, ℕ, List, [], length, sym, subst}
 use Rattle.kp_base.specs.declared.ground.Ground.{Ground}
 use Rattle.kp_base.specs.declared.ground.Initial.{Initial}
 use Rattle.kp_base.specs.declared.ground.TagTable.{TagTable}
-use Rattle.kp_base.specs.declared.limits.Mode.{Mode}
 use Rattle.kp_grammar.specs.declared.tree.Word.{Word}
 use Rattle.kp_grammar.specs.Trees.{Domain, Problem}
 use Rattle.kp_given.specs.Translations.{ground_of, initial_of}
+use Rattle.kp_check.specs.declared.answer.Judged.{Judged}
 use Rattle.kp_check.specs.declared.answer.Judged.TheVariants.{Yes, No}
 use Rattle.kp_outcome.specs.declared.outcome.Outcome.{Outcome}
 use Rattle.kp_outcome.specs.Ends.{IsAnswer}
-use Rattle.kp_words.specs.Names.{Source, of_mode, of_file, Translate}
+use Rattle.kp_words.specs.Names.{Source, of_mode, Translate}
 use Rattle.kp_prepared.specs.Prepared.{by_texts, by_trees, Comes, early, later}
-use Rattle.kp_run.specs.Outcomes.{TranslatesGround, over, done, TranslatesIn, none_made, made, TranslatesWith, long_merges, no_merges, no_table, with_table, TranslatesBy, ListsMerges, unmade, listed, StripsText, too_long, no_plan, no_strip, strips, ChecksPlan, long_plan, no_steps, unknown_step, judged, translated, merged, stripped, checked, usage, of_command}
+use Rattle.kp_inputs.specs.Tables.{ComesByTable, no_table, with_table}
+use Rattle.kp_inputs.specs.Actions.{ComesByPlan, no_actions, with_actions}
+use Rattle.kp_run.specs.Outcomes.{TranslatesGround, over, done, TranslatesTrees, MergesTrees, StripsText, too_long, no_plan, no_strip, strips, tells, ChecksTrees, LiftsActions, lifts, fails, LiftsPlan, no_task, with_task, LiftsTrees, translated, merged, stripped, checked, lifted, usage, of_command}
 use Rattle.kp_run.specs.Laws.{OutcomesAreAnswers}
 
 -- an outcome that is known
@@ -24,30 +26,29 @@ comes_answer limit x y P o answers (early (by_texts r a e)) = known o _ e tt
 comes_answer limit x y P o answers (early (by_trees d p names r h a e)) = known o _ e tt
 comes_answer limit x y P o answers (later d p h a goes) = answers d p goes
 
+table_answer : (g : Ground) (i : Initial) (source : Source) (merges : List (List ℕ)) (P : TagTable → Outcome → Type 0) (o : Outcome) → ((table : TagTable) → P table o → IsAnswer o.status) → ComesByTable g i source merges P o → IsAnswer o.status
+table_answer g i source merges P o answers (no_table names r a e) = known o _ e tt
+table_answer g i source merges P o answers (with_table table has h) = answers table h
+
+plan_answer : (g : Ground) (text : List ℕ) (P : List ℕ → Outcome → Type 0) (o : Outcome) → ((ns : List ℕ) → P ns o → IsAnswer o.status) → ComesByPlan g text P o → IsAnswer o.status
+plan_answer g text P o answers (no_actions named r a e) = known o _ e tt
+plan_answer g text P o answers (with_actions ss ns has h) = answers ns h
+
 ground_answer : (c : Translate) (g : Ground) (i : Initial) (table : TagTable) (o : Outcome) → TranslatesGround c g i table o → IsAnswer o.status
 ground_answer c g i table o (over r a e) = known o _ e tt
 ground_answer c g i table o (done ls a are e) = known o _ e tt
 
-mode_answer : (c : Translate) (g : Ground) (i : Initial) (mode : Mode) (o : Outcome) → TranslatesIn c g i mode o → IsAnswer o.status
-mode_answer c g i mode o (none_made r a e) = known o _ e tt
-mode_answer c g i mode o (made table is h) = ground_answer c g i table o h
+judged_answer : (g : Ground) (ns : List ℕ) (o : Outcome) (v : Judged) → o ≡ tells g (length ns) v → IsAnswer o.status
+judged_answer g ns o Yes e = known o _ e tt
+judged_answer g ns o (No ps k l) e = known o _ e tt
 
-merges_answer : (g : Ground) (i : Initial) (mode : Mode) (o : Outcome) → ListsMerges g i mode o → IsAnswer o.status
-merges_answer g i mode o (unmade r a e) = known o _ e tt
-merges_answer g i mode o (listed table is e) = known o _ e tt
+lifts_answer : (g : Ground) (table : TagTable) (ns : List ℕ) (o : Outcome) → LiftsActions g table ns o → IsAnswer o.status
+lifts_answer g table ns o (lifts steps h e) = known o _ e tt
+lifts_answer g table ns o (fails k l h e) = known o _ e tt
 
-with_answer : (c : Translate) (g : Ground) (i : Initial) (text : List ℕ) (o : Outcome) → TranslatesWith c g i text o → IsAnswer o.status
-with_answer c g i text o (long_merges a e) = known o _ e tt
-with_answer c g i text o (no_merges r a b e) = known o _ e tt
-with_answer c g i text o (no_table ms r a b f e) = known o _ e tt
-with_answer c g i text o (with_table ms table a b f h) = ground_answer c g i table o h
-
-by_answer : (c : Translate) (source : Source) (merges : List (List ℕ)) (o : Outcome) (d : Domain Word) (p : Problem Word) → TranslatesBy c source merges d p o → IsAnswer o.status
-by_answer c (of_mode mode) [] o d p h = mode_answer c (ground_of d p) (initial_of d p) mode o h
-by_answer c (of_mode mode) (text ∷ others) o d p h = absurd h
-by_answer c (of_file name) [] o d p h = absurd h
-by_answer c (of_file name) (text ∷ []) o d p h = with_answer c (ground_of d p) (initial_of d p) text o h
-by_answer c (of_file name) (text ∷ other ∷ others) o d p h = absurd h
+lift_answer : (g : Ground) (plan : List ℕ) (table : TagTable) (o : Outcome) → LiftsPlan g plan table o → IsAnswer o.status
+lift_answer g plan table o (no_task r a e) = known o _ e tt
+lift_answer g plan table o (with_task fits h) = plan_answer g plan (LiftsActions g table) o (λ ns. lifts_answer g table ns o) h
 
 strip_answer : (x : List ℕ) (o : Outcome) → StripsText x o → IsAnswer o.status
 strip_answer x o (too_long a e) = known o _ e tt
@@ -55,16 +56,10 @@ strip_answer x o (no_plan r a h e) = known o _ e tt
 strip_answer x o (no_strip ss s a h n e) = known o _ e tt
 strip_answer x o (strips ss as' a h n e) = known o _ e tt
 
-check_answer : (g : Ground) (i : Initial) (text : List ℕ) (o : Outcome) → ChecksPlan g i text o → IsAnswer o.status
-check_answer g i text o (long_plan a e) = known o _ e tt
-check_answer g i text o (no_steps r a h e) = known o _ e tt
-check_answer g i text o (unknown_step ss n a h f e) = known o _ e tt
-check_answer g i text o (judged ss ns Yes a h f v e) = known o _ e tt
-check_answer g i text o (judged ss ns (No ps k l) a h f v e) = known o _ e tt
-
 pub outcomes_are_answers : OutcomesAreAnswers
 outcomes_are_answers words held _ (usage a) = tt
-outcomes_are_answers words held o (of_command _ _ _ is at (translated c x y merges _ a)) = comes_answer c.implicates x y (TranslatesBy c c.source merges) o (by_answer c c.source merges o) a
-outcomes_are_answers words held o (of_command _ _ _ is at (merged c x y _ a)) = comes_answer c.implicates x y _ o (λ d p. merges_answer (ground_of d p) (initial_of d p) c.mode o) a
+outcomes_are_answers words held o (of_command _ _ _ is at (translated c x y merges _ a)) = comes_answer c.implicates x y (TranslatesTrees c merges) o (λ d p. table_answer (ground_of d p) (initial_of d p) c.source merges _ o (λ table. ground_answer c (ground_of d p) (initial_of d p) table o)) a
+outcomes_are_answers words held o (of_command _ _ _ is at (merged c x y _ a)) = comes_answer c.implicates x y (MergesTrees c.mode) o (λ d p. table_answer (ground_of d p) (initial_of d p) (of_mode c.mode) [] _ o (λ table e. known o _ e tt)) a
 outcomes_are_answers words held o (of_command _ _ _ is at (stripped c x _ a)) = strip_answer x o a
-outcomes_are_answers words held o (of_command _ _ _ is at (checked c x y plan _ a)) = comes_answer c.implicates x y _ o (λ d p. check_answer (ground_of d p) (initial_of d p) plan o) a
+outcomes_are_answers words held o (of_command _ _ _ is at (checked c x y plan _ a)) = comes_answer c.implicates x y (ChecksTrees plan) o (λ d p. plan_answer (ground_of d p) plan _ o (λ ns j. judged_answer (ground_of d p) ns o j.judged j.told)) a
+outcomes_are_answers words held o (of_command _ _ _ is at (lifted c x y merges plan _ a)) = comes_answer c.implicates x y (LiftsTrees c merges plan) o (λ d p. table_answer (ground_of d p) (initial_of d p) c.source merges _ o (λ table. lift_answer (ground_of d p) plan table o)) a

@@ -1,5 +1,5 @@
 -- Words and what is held, with the one outcome that is due: a translation, the usage, and none where a file isn't held.
-use Rattle.std.proofs.Common.{[], ◌≡◌, ◌≢◌, ◌<◌, ◌≤◌, ◌^◌, ℕ, zero, suc, true, false, not, List, ◌∷◌, length, take, nat_eq, Some, Vec, codes, inl, inr, refl, sym, ap, subst, ◌∙◌, arith}
+use Rattle.std.proofs.Common.{◌++◌, [], ◌≡◌, ◌≢◌, ◌<◌, ◌≤◌, ◌^◌, ℕ, zero, suc, true, false, not, List, ◌∷◌, length, take, nat_eq, Some, Vec, codes, inl, inr, refl, sym, ap, subst, ◌∙◌, arith}
 use Rattle.std.specs.FinMap.{empty, get, insert, get-empty}
 use Rattle.std.specs.Fmt.{digits}
 use Rattle.std.specs.List.{list_all}
@@ -58,7 +58,8 @@ use Rattle.kp_words.specs.Command.{NamesFiles, stated_mode, usual_limit, stated,
 use Rattle.kp_words.proofs.Examples.{no_words}
 use Rattle.kp_prepared.specs.Texts.{HaveTrees}
 use Rattle.kp_prepared.specs.Prepared.{usual, IsStarted, later}
-use Rattle.kp_run.specs.Outcomes.{shows_usage, translates, done, made, TranslatesTexts, translated, IsDue, usage, of_command}
+use Rattle.kp_inputs.specs.Tables.{by_mode, with_table}
+use Rattle.kp_run.specs.Outcomes.{shows_usage, translates, done, TranslatesTexts, translated, IsDue, usage, of_command}
 use Rattle.kp_run.specs.Ends.{Ends, came}
 use Rattle.kp_run.specs.Soundness.{IsSound}
 use Rattle.kp_run.proofs.Counted.{empty_tags_fit}
@@ -243,7 +244,7 @@ the_outcome = translates command (ground_of exchange_tree from_p_to_q_tree) the_
 
 is_done : TranslatesTexts command exchange from_p_to_q [] the_outcome
 is_done = later exchange_tree from_p_to_q_tree trees (record { started = started; clash_free = no_clash })
-    (made the_table (empty_tag_made exchange_tree from_p_to_q_tree) (done [] (empty_tags_fit exchange_tree from_p_to_q_tree started.small) (nothing_uncovered (ground_of exchange_tree from_p_to_q_tree) from_p (unconditional from_p_to_q_tree refl) the_table) refl))
+    (with_table the_table (by_mode modes.K0 the_table (empty_tag_made exchange_tree from_p_to_q_tree)) (done [] (empty_tags_fit exchange_tree from_p_to_q_tree started.small) (nothing_uncovered (ground_of exchange_tree from_p_to_q_tree) from_p (unconditional from_p_to_q_tree refl) the_table) refl))
 
 abbrev held : FileMap
 held = holding exchange from_p_to_q
@@ -288,5 +289,6 @@ nothing_is_due : (o : Outcome) → IsDue words (Some no_files) o → ⊥
 nothing_is_due _ (usage never) = never (commands.Translate command) is_command
 nothing_is_due o (of_command (commands.Strip c) texts _ h held comes) = not_held c.plan [] texts held
 nothing_is_due o (of_command (commands.Check c) texts _ h held comes) = not_held c.domain (c.problem ∷ c.plan ∷ []) texts held
+nothing_is_due o (of_command (commands.Lift c) texts _ h held comes) = not_held c.domain (c.problem ∷ (if_named (file_of c.source) ++ c.plan ∷ [])) texts held
 nothing_is_due o (of_command (commands.Merges c) texts _ h held comes) = not_held c.domain (c.problem ∷ []) texts held
 nothing_is_due o (of_command (commands.Translate c) texts _ h held comes) = not_held c.domain (c.problem ∷ if_named (file_of c.source)) texts held

@@ -51,7 +51,9 @@ use Rattle.kp_outcome.specs.declared.status.Status.TheVariants as status
 use Rattle.kp_prepared.specs.Texts.{HaveTrees, of_problem, of_names}
 use Rattle.kp_prepared.specs.Refusing.{named_in}
 use Rattle.kp_prepared.specs.Prepared.{IsStarted, RefusesTrees, implicates_over, no_initial_state, clash, by_texts, by_trees, early, later}
-use Rattle.kp_run.specs.Outcomes.{translates, done, made, TranslatesTexts, IsDue}
+use Rattle.kp_base.specs.declared.limits.Mode.TheVariants as modes
+use Rattle.kp_inputs.specs.Tables.{by_mode, with_table}
+use Rattle.kp_run.specs.Outcomes.{translates, done, TranslatesTexts, IsDue}
 use Rattle.kp_run.proofs.Counted.{empty_tags_fit}
 use Rattle.kp_run.proofs.Computed.{reads_file}
 use Rattle.kp_run.proofs.ExampleOutcomes.{closed_q, command, domain_reads, due_with, few_primes, has_state, holding, is_limited, is_small, limited, on_files, only_p, problem_reads, unconditional, with_limit, words}
@@ -213,7 +215,7 @@ half_known_outcome = translates command (ground_of exchange_tree half_known_tree
 
 half_known_done : TranslatesTexts command exchange half_known [] half_known_outcome
 half_known_done = later exchange_tree half_known_tree half_known_trees (record { started = half_known_started; clash_free = free (initial_of exchange_tree half_known_tree) (closed_q (initial_of exchange_tree half_known_tree) refl) })
-    (made half_known_table (empty_tag_made exchange_tree half_known_tree) (done [] (empty_tags_fit exchange_tree half_known_tree half_known_started.small) (nothing_uncovered (ground_of exchange_tree half_known_tree) (initial_of exchange_tree half_known_tree) (unconditional half_known_tree refl) half_known_table) refl))
+    (with_table half_known_table (by_mode modes.K0 half_known_table (empty_tag_made exchange_tree half_known_tree)) (done [] (empty_tags_fit exchange_tree half_known_tree half_known_started.small) (nothing_uncovered (ground_of exchange_tree half_known_tree) (initial_of exchange_tree half_known_tree) (unconditional half_known_tree refl) half_known_table) refl))
 
 half_known_due : IsDue words (Some (holding exchange half_known)) half_known_outcome
 half_known_due = on_files exchange half_known _ half_known_done

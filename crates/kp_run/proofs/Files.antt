@@ -1,5 +1,5 @@
--- What is read of one, two or three files, and what is due then.
-use Rattle.std.proofs.Common.{◌≡◌, ℕ, List, [], ◌∷◌, Option, Some, Vec, Result, Ok, Err, IfOk, refl, sym, ap, subst}
+-- What is read of one to four files, and what is due then.
+use Rattle.std.proofs.Common.{◌≡◌, ◌++◌, ℕ, List, [], ◌∷◌, Option, Some, Vec, Result, Ok, Err, IfOk, refl, sym, ap, subst}
 use Rattle.std.specs.declared.alloc.Global.{Global}
 use Rattle.kp_base.specs.declared.memory.Memory.{Memory}
 use Rattle.kp_outside.specs.declared.outside.Got.{Got}
@@ -8,11 +8,14 @@ use Rattle.kp_outside.specs.Outside.{FileMap, IsFront, IsWithin}
 use Rattle.kp_outcome.specs.declared.outcome.Outcome.{Outcome}
 use Rattle.kp_outcome.specs.Ends.{most_bytes, AreHeld, AreFronts, none, also}
 use Rattle.kp_outcome.proofs.Fronts.{front_within}
-use Rattle.kp_words.specs.Names.{Translate, Merges, Strip, Check}
+use Rattle.kp_words.specs.Names.{of_mode, of_file, Translate, Merges, Strip, Check, Lift}
+use Rattle.kp_base.specs.declared.limits.Mode.{Mode}
+use Rattle.kp_inputs.specs.declared.origin.Origin.TheVariants as origins
+use Rattle.kp_inputs.specs.Tables.{IsOrigin, from_mode, from_file}
 use Rattle.kp_words.specs.declared.command.Command.{Command}
 use Rattle.kp_words.specs.declared.command.Command.TheVariants as commands
 use Rattle.kp_words.specs.Command.{IsCommand, inputs_of}
-use Rattle.kp_run.specs.Outcomes.{TranslatesTexts, MergesTexts, StripsText, ChecksTexts, ComesTo, translated, merged, stripped, checked, IsDue, of_command}
+use Rattle.kp_run.specs.Outcomes.{TranslatesTexts, MergesTexts, StripsText, ChecksTexts, LiftsTexts, ComesTo, translated, merged, stripped, checked, lifted, IsDue, of_command}
 
 -- ---- fronts are of as many texts
 
@@ -36,6 +39,17 @@ pub record AreThree (texts : List (List ℕ)) (a b c : Got) : Type 0 where
   pub first_front : IsFront (Some first) most_bytes a
   pub second_front : IsFront (Some second) most_bytes b
   pub third_front : IsFront (Some third) most_bytes c
+
+pub record AreFour (texts : List (List ℕ)) (a b c d : Got) : Type 0 where
+  pub first : List ℕ
+  pub second : List ℕ
+  pub third : List ℕ
+  pub fourth : List ℕ
+  pub are : texts ≡ first ∷ second ∷ third ∷ fourth ∷ []
+  pub first_front : IsFront (Some first) most_bytes a
+  pub second_front : IsFront (Some second) most_bytes b
+  pub third_front : IsFront (Some third) most_bytes c
+  pub fourth_front : IsFront (Some fourth) most_bytes d
 
 no_more : (us : List (List ℕ)) (hs : List Got) → AreFronts us hs → hs ≡ [] → us ≡ []
 no_more _ _ none e = refl
@@ -64,6 +78,14 @@ three _ _ a b c (also t ts g gs front more) e =
     let o = two ts gs b c more there in
     record { first = t; second = o.first; third = o.second; are = ap (t ∷◌) o.are; first_front = subst (IsFront (Some t) most_bytes) here front; second_front = o.first_front; third_front = o.second_front }
 
+pub four : (texts : List (List ℕ)) (gots : List Got) (a b c d : Got) → AreFronts texts gots → gots ≡ a ∷ b ∷ c ∷ d ∷ [] → AreFour texts a b c d
+four _ _ a b c d none e = absurd cc
+four _ _ a b c d (also t ts g gs front more) e =
+    let here : g ≡ a = cc in
+    let there : gs ≡ b ∷ c ∷ d ∷ [] = cc in
+    let o = three ts gs b c d more there in
+    record { first = t; second = o.first; third = o.second; fourth = o.third; are = ap (t ∷◌) o.are; first_front = subst (IsFront (Some t) most_bytes) here front; second_front = o.first_front; third_front = o.second_front; fourth_front = o.third_front }
+
 -- ---- what is read is within the limit
 
 pub one_within : (texts : List (List ℕ)) (gots : List Got) (a : Got) → AreFronts texts gots → gots ≡ a ∷ [] → IsWithin most_bytes a
@@ -77,27 +99,52 @@ all_within texts gots a b c fronts e =
     let t = three texts gots a b c fronts e in
     (front_within t.first most_bytes a t.first_front, front_within t.second most_bytes b t.second_front, front_within t.third most_bytes c t.third_front)
 
+pub four_within : (texts : List (List ℕ)) (gots : List Got) (a b c d : Got) → AreFronts texts gots → gots ≡ a ∷ b ∷ c ∷ d ∷ [] → IsWithin most_bytes a × IsWithin most_bytes b × IsWithin most_bytes c × IsWithin most_bytes d
+four_within texts gots a b c d fronts e =
+    let t = four texts gots a b c d fronts e in
+    (front_within t.first most_bytes a t.first_front, front_within t.second most_bytes b t.second_front, front_within t.third most_bytes c t.third_front, front_within t.fourth most_bytes d t.fourth_front)
+
 -- ---- what a command comes to
 
-pub mode_translated : (c : Translate) (texts : List (List ℕ)) (gots : List Got) (a b : Got) (r : Result Outcome Memory) → AreFronts texts gots → gots ≡ a ∷ b ∷ []
-    → ((d p : List ℕ) → IsFront (Some d) most_bytes a → IsFront (Some p) most_bytes b → IfOk r (TranslatesTexts c d p [])) → IfOk r (ComesTo (commands.Translate c) texts)
-mode_translated c texts gots a b r fronts e comes =
+pub mode_translated : (c : Translate) (m : Mode) (texts : List (List ℕ)) (gots : List Got) (a b : Got) (r : Result Outcome Memory) → c.source ≡ of_mode m → AreFronts texts gots → gots ≡ a ∷ b ∷ []
+    → ((d p : List ℕ) (merges : List (List ℕ)) → IsFront (Some d) most_bytes a → IsFront (Some p) most_bytes b → IsOrigin c.source merges (origins.Mode m) → IfOk r (TranslatesTexts c d p merges)) → IfOk r (ComesTo (commands.Translate c) texts)
+mode_translated c m texts gots a b r source fronts e comes =
     let t = two texts gots a b fronts e in
-    subst (λ us. IfOk r (ComesTo (commands.Translate c) us)) (sym t.are) (by t.first t.second r (comes t.first t.second t.first_front t.second_front))
+    subst (λ us. IfOk r (ComesTo (commands.Translate c) us)) (sym t.are) (by t.first t.second r (comes t.first t.second [] t.first_front t.second_front (subst (λ s. IsOrigin s [] (origins.Mode m)) (sym source) (from_mode m))))
   where
     by : (d p : List ℕ) (r : Result Outcome Memory) → IfOk r (TranslatesTexts c d p []) → IfOk r (ComesTo (commands.Translate c) (d ∷ p ∷ []))
     by d p (Ok o) h = translated c d p [] o h
     by d p (Err m) h = tt
 
-pub merged_translated : (c : Translate) (texts : List (List ℕ)) (gots : List Got) (a b m : Got) (r : Result Outcome Memory) → AreFronts texts gots → gots ≡ a ∷ b ∷ m ∷ []
-    → ((d p t : List ℕ) → IsFront (Some d) most_bytes a → IsFront (Some p) most_bytes b → IsFront (Some t) most_bytes m → IfOk r (TranslatesTexts c d p (t ∷ []))) → IfOk r (ComesTo (commands.Translate c) texts)
-merged_translated c texts gots a b m r fronts e comes =
+pub merged_translated : (c : Translate) (name : List ℕ) (texts : List (List ℕ)) (gots : List Got) (a b m : Got) (r : Result Outcome Memory) → c.source ≡ of_file name → AreFronts texts gots → gots ≡ a ∷ b ∷ m ∷ []
+    → ((d p : List ℕ) (merges : List (List ℕ)) → IsFront (Some d) most_bytes a → IsFront (Some p) most_bytes b → IsOrigin c.source merges (origins.Merges m) → IfOk r (TranslatesTexts c d p merges)) → IfOk r (ComesTo (commands.Translate c) texts)
+merged_translated c name texts gots a b m r source fronts e comes =
     let t = three texts gots a b m fronts e in
-    subst (λ us. IfOk r (ComesTo (commands.Translate c) us)) (sym t.are) (by t.first t.second t.third r (comes t.first t.second t.third t.first_front t.second_front t.third_front))
+    subst (λ us. IfOk r (ComesTo (commands.Translate c) us)) (sym t.are) (by t.first t.second t.third r (comes t.first t.second (t.third ∷ []) t.first_front t.second_front (subst (λ s. IsOrigin s (t.third ∷ []) (origins.Merges m)) (sym source) (from_file name t.third m t.third_front))))
   where
     by : (d p u : List ℕ) (r : Result Outcome Memory) → IfOk r (TranslatesTexts c d p (u ∷ [])) → IfOk r (ComesTo (commands.Translate c) (d ∷ p ∷ u ∷ []))
     by d p u (Ok o) h = translated c d p (u ∷ []) o h
     by d p u (Err m) h = tt
+
+pub mode_lifted : (c : Lift) (m : Mode) (texts : List (List ℕ)) (gots : List Got) (a b t : Got) (r : Result Outcome Memory) → c.source ≡ of_mode m → AreFronts texts gots → gots ≡ a ∷ b ∷ t ∷ []
+    → ((d p : List ℕ) (merges : List (List ℕ)) (plan : List ℕ) → IsFront (Some d) most_bytes a → IsFront (Some p) most_bytes b → IsOrigin c.source merges (origins.Mode m) → IsFront (Some plan) most_bytes t → IfOk r (LiftsTexts c d p merges plan)) → IfOk r (ComesTo (commands.Lift c) texts)
+mode_lifted c m texts gots a b t r source fronts e comes =
+    let h = three texts gots a b t fronts e in
+    subst (λ us. IfOk r (ComesTo (commands.Lift c) us)) (sym h.are) (by h.first h.second h.third r (comes h.first h.second [] h.third h.first_front h.second_front (subst (λ s. IsOrigin s [] (origins.Mode m)) (sym source) (from_mode m)) h.third_front))
+  where
+    by : (d p u : List ℕ) (r : Result Outcome Memory) → IfOk r (LiftsTexts c d p [] u) → IfOk r (ComesTo (commands.Lift c) (d ∷ p ∷ u ∷ []))
+    by d p u (Ok o) h = lifted c d p [] u o h
+    by d p u (Err m) h = tt
+
+pub merged_lifted : (c : Lift) (name : List ℕ) (texts : List (List ℕ)) (gots : List Got) (a b m t : Got) (r : Result Outcome Memory) → c.source ≡ of_file name → AreFronts texts gots → gots ≡ a ∷ b ∷ m ∷ t ∷ []
+    → ((d p : List ℕ) (merges : List (List ℕ)) (plan : List ℕ) → IsFront (Some d) most_bytes a → IsFront (Some p) most_bytes b → IsOrigin c.source merges (origins.Merges m) → IsFront (Some plan) most_bytes t → IfOk r (LiftsTexts c d p merges plan)) → IfOk r (ComesTo (commands.Lift c) texts)
+merged_lifted c name texts gots a b m t r source fronts e comes =
+    let h = four texts gots a b m t fronts e in
+    subst (λ us. IfOk r (ComesTo (commands.Lift c) us)) (sym h.are) (by h.first h.second h.third h.fourth r (comes h.first h.second (h.third ∷ []) h.fourth h.first_front h.second_front (subst (λ s. IsOrigin s (h.third ∷ []) (origins.Merges m)) (sym source) (from_file name h.third m h.third_front)) h.fourth_front))
+  where
+    by : (d p u v : List ℕ) (r : Result Outcome Memory) → IfOk r (LiftsTexts c d p (u ∷ []) v) → IfOk r (ComesTo (commands.Lift c) (d ∷ p ∷ u ∷ v ∷ []))
+    by d p u v (Ok o) h = lifted c d p (u ∷ []) v o h
+    by d p u v (Err m) h = tt
 
 pub two_merged : (c : Merges) (texts : List (List ℕ)) (gots : List Got) (a b : Got) (r : Result Outcome Memory) → AreFronts texts gots → gots ≡ a ∷ b ∷ []
     → ((d p : List ℕ) → IsFront (Some d) most_bytes a → IsFront (Some p) most_bytes b → IfOk r (MergesTexts c d p)) → IfOk r (ComesTo (commands.Merges c) texts)
@@ -134,3 +181,12 @@ pub due_of : (words : List (Vec ℕ Global)) (held : Option FileMap) (c : Comman
     → IfOk r (λ o. (texts : List (List ℕ)) × AreHeld held (inputs_of c) texts × ComesTo c texts o) → IfOk r (IsDue words held)
 due_of words held c (Ok o) is comes = of_command c comes.0 o is comes.1 comes.2
 due_of words held c (Err s) is comes = tt
+
+-- what stands before a last one is one, and so is the last
+pub last_once : (xs ys : List (List ℕ)) (x y : List ℕ) → xs ++ x ∷ [] ≡ ys ++ y ∷ [] → (xs ≡ ys) × (x ≡ y)
+last_once [] [] x y e = (refl, cc)
+last_once [] (v ∷ []) x y e = absurd cc
+last_once [] (v ∷ w ∷ ys) x y e = absurd cc
+last_once (v ∷ []) [] x y e = absurd cc
+last_once (v ∷ w ∷ xs) [] x y e = absurd cc
+last_once (v ∷ xs) (w ∷ ys) x y e = let first : v ≡ w = cc in let rest : xs ++ x ∷ [] ≡ ys ++ y ∷ [] = cc in let r = last_once xs ys x y rest in (cc (first, r.0), r.1)

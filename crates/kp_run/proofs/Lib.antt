@@ -1,13 +1,15 @@
 pub mod Computed
-pub mod FileMerges
 pub mod EmptyTags
-pub mod ModeTables
 pub mod Strips
 pub mod Answered
 pub mod Counted
 pub mod Translations
 pub mod Checks
+pub mod Lifts
 pub mod Soundness
+pub mod Tasks
+pub mod CompleteText
+pub mod Completeness
 pub mod Ending
 pub mod Files
 pub mod ExampleOutcomes

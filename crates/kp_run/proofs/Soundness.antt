@@ -1,7 +1,5 @@
 -- What a run that ended with Done put is sound.
-use Rattle.std.proofs.Common.{◌≡◌, ◌≢◌, ◌≤◌, ℕ, cond, List, [], ◌∷◌, Some, Vec, length, map, sym, ap, subst, ◌∙◌, arith}
-use Rattle.std.specs.List.{AllByRecursion}
-use Rattle.std.proofs.lemmas.List.{length-map}
+use Rattle.std.proofs.Common.{◌≡◌, ◌≢◌, ℕ, cond, List, [], ◌∷◌, Some, Vec, sym, ap, subst, ◌∙◌}
 use Rattle.std.proofs.lemmas.Bool.{false_from_ne_true}
 use Rattle.std.proofs.lemmas.Map.Text.{is_eq-slice_cmp}
 use Rattle.std.specs.Cmp.Lexicographic.{nat_list_cmp_total}
@@ -11,20 +9,12 @@ use Rattle.kp_base.proofs.Lists.{same-true, same-refl}
 use Rattle.kp_outside.specs.Outside.{FileMap}
 use Rattle.kp_base.specs.declared.ground.Ground.{Ground}
 use Rattle.kp_base.specs.declared.ground.Initial.{Initial}
-use Rattle.kp_base.specs.declared.ground.Merge.{Merge}
 use Rattle.kp_base.specs.declared.lit.Lit.{Lit}
-use Rattle.kp_base.specs.declared.limits.Mode.{Mode}
-use Rattle.kp_base.specs.declared.ground.TagRow.{TagRow}
+use Rattle.kp_base.specs.Covering.{AreUncovered}
 use Rattle.kp_base.specs.declared.ground.TagTable.{TagTable}
-use Rattle.kp_write.specs.Grounds.{IsOfAtom}
 use Rattle.kp_task.specs.Task.{task_of}
 use Rattle.kp_ktask.specs.Translated.{FitsLimits}
 use Rattle.kp_translation.specs.declared.translation.Translation.{Translation}
-use Rattle.kp_merges.specs.declared.merge.FileMerge.{FileMerge}
-use Rattle.kp_merges.specs.MergesFiles.{IsMergesOf}
-use Rattle.kp_tags.specs.Tables.{used_tags, numbered}
-use Rattle.kp_tags.specs.Answers.{Accepts}
-use Rattle.kp_tags.proofs.Right.{right as tables_right}
 use Rattle.kp_given.specs.Tables.{IsTableFor, translation_of}
 use Rattle.kp_machine.proofs.Exclusive.{never_clashes}
 use Rattle.kp_grammar.specs.declared.tree.Word.{Word}
@@ -33,24 +23,24 @@ use Rattle.kp_meaning.specs.Plans.{HasProblem}
 use Rattle.kp_given.specs.Translations.{ground_of, initial_of}
 use Rattle.kp_sound.proofs.Trees.{translations_sound}
 use Rattle.kp_prepared.specs.Texts.{HaveTrees}
-use Rattle.kp_prepared.specs.Refusing.{refuses, named_in}
-use Rattle.kp_prepared.specs.Prepared.{usual, IsSmall, IsPrepared, by_texts, by_trees, early, later}
+use Rattle.kp_prepared.specs.Refusing.{refuses}
+use Rattle.kp_prepared.specs.Prepared.{usual, IsPrepared, by_texts, by_trees, early, later}
 use Rattle.kp_base.specs.declared.refused.Refused.{Refused}
 use Rattle.kp_printed.specs.Refusals.{Named, nothing}
 use Rattle.kp_outcome.specs.declared.outcome.Outcome.{Outcome}
 use Rattle.kp_outcome.specs.declared.status.Status.{Status}
 use Rattle.kp_outcome.specs.declared.status.Status.TheVariants as status
-use Rattle.kp_outcome.specs.Ends.{Outside, most_bytes, AreHeld, with_files, whole, put_failed, put_no_memory, print_failed, print_no_memory}
-use Rattle.kp_words.specs.Names.{Source, of_mode, of_file, Translate}
+use Rattle.kp_outcome.specs.Ends.{Outside, AreHeld, with_files, whole, put_failed, put_no_memory, print_failed, print_no_memory}
+use Rattle.kp_words.specs.Names.{Translate}
 use Rattle.kp_words.specs.declared.command.Command.{Command}
 use Rattle.kp_words.specs.declared.command.Command.TheVariants as commands
 use Rattle.kp_words.specs.Command.{IsTranslate, inputs_of}
-use Rattle.kp_run.specs.Outcomes.{translates, TranslatesGround, over as when_over, done as when_done, TranslatesIn, none_made, made, TranslatesWith, long_merges, no_merges, no_table, with_table, TranslatesBy, TranslatesTexts, ComesTo, translated, merged, stripped, checked, IsDue, usage, of_command}
+use Rattle.kp_inputs.specs.Tables.{HasTable, no_table, with_table}
+use Rattle.kp_inputs.proofs.TablesFor.{table_for}
+use Rattle.kp_run.specs.Outcomes.{translates, TranslatesGround, over as when_over, done as when_done, TranslatesTrees, TranslatesTexts, ComesTo, translated, merged, stripped, checked, lifted, IsDue, usage, of_command}
 use Rattle.kp_run.specs.Ends.{Ends, came, read_failed, no_memory}
 use Rattle.kp_run.specs.Soundness.{IsSound}
 use Rattle.kp_words.proofs.OneCommand.{one_command}
-use Rattle.kp_run.proofs.FileMerges.{targets_of_atoms, few_merges}
-use Rattle.kp_run.proofs.ModeTables.{mode_table}
 
 -- ---- what is held under two names
 
@@ -67,7 +57,7 @@ under_another m name other content apart =
 -- ---- the result
 
 -- the problem of two texts that have these trees
-abbrev problem_of : (domain problem : List ℕ) (d : Domain Word) (p : Problem Word) → HaveTrees domain problem d p → HasProblem domain problem
+abbrev pub problem_of : (domain problem : List ℕ) (d : Domain Word) (p : Problem Word) → HaveTrees domain problem d p → HasProblem domain problem
 problem_of domain problem d p h = record {
   domain = d;
   problem = p;
@@ -76,80 +66,46 @@ problem_of domain problem d p h = record {
   no_fault = h.no_fault;
 }
 
--- what Done says of two texts: they are translated with some table for their trees
-record IsDone (c : Translate) (domain problem : List ℕ) (o : Outcome) : Type 0 where
-  first : Domain Word
-  second : Problem Word
-  trees : HaveTrees domain problem first second
-  prepared : IsPrepared c.implicates first second
-  table : TagTable
-  table_for : IsTableFor first second table
-  uncovered : List Lit
-  outcome : o ≡ translates c (ground_of first second) table uncovered
+-- what a ground problem is translated to, if that is Done
+pub record IsGroundDone (c : Translate) (g : Ground) (i : Initial) (table : TagTable) (o : Outcome) : Type 0 where
+  pub uncovered : List Lit
+  pub fits : FitsLimits (task_of g table) usual
+  pub are_uncovered : AreUncovered g i table uncovered
+  pub outcome : o ≡ translates c g table uncovered
+
+-- what Done says of two texts: they are translated with a table for their trees
+pub record IsDone (c : Translate) (domain problem : List ℕ) (merges : List (List ℕ)) (o : Outcome) : Type 0 where
+  pub first : Domain Word
+  pub second : Problem Word
+  pub trees : HaveTrees domain problem first second
+  pub prepared : IsPrepared c.implicates first second
+  pub table : TagTable
+  pub has_table : HasTable (ground_of first second) (initial_of first second) c.source merges table
+  pub ground : IsGroundDone c (ground_of first second) (initial_of first second) table o
 
 refusal_not_done : (o : Outcome) (n : Named) (r : Refused) → o ≡ refuses n r → o.status ≡ status.Done → ⊥
 refusal_not_done o n r is e = absurd (let f : status.Refused r ≡ status.Done = sym (ap (λ (z : Outcome). z.status) is) ∙ e in cc)
 
--- what a ground problem is translated to, if that is Done
-record IsGroundDone (c : Translate) (g : Ground) (table : TagTable) (o : Outcome) : Type 0 where
-  uncovered : List Lit
-  fits : FitsLimits (task_of g table) usual
-  outcome : o ≡ translates c g table uncovered
-
-ground_done : (c : Translate) (g : Ground) (i : Initial) (table : TagTable) (o : Outcome) → TranslatesGround c g i table o → o.status ≡ status.Done → IsGroundDone c g table o
+ground_done : (c : Translate) (g : Ground) (i : Initial) (table : TagTable) (o : Outcome) → TranslatesGround c g i table o → o.status ≡ status.Done → IsGroundDone c g i table o
 ground_done c g i table o (when_over r t is) e = absurd (refusal_not_done o nothing r is e)
-ground_done c g i table o (when_done ls f are is) e = record { uncovered = ls; fits = f; outcome = is }
-
--- the table of the merges of a file is one for the trees
-file_table : (d : Domain Word) (p : Problem Word) (text : List ℕ) (ms : List FileMerge) (table : TagTable) → length text ≤ most_bytes → IsMergesOf (ground_of d p).atoms text ms → Accepts (length (ground_of d p).atoms) (initial_of d p) ms usual.tags table → IsTableFor d p table
-file_table d p text ms table short read fine =
-    let right = tables_right (ground_of d p) (initial_of d p) ms table fine.acceptable fine.is_table in
-    record {
-      right = right.0;
-      valid = right.1;
-      targets = subst (λ all. AllByRecursion (λ (m : Merge). IsOfAtom (ground_of d p).atoms m.target) all) (sym fine.is_table.merges) (their_targets ms (targets_of_atoms (ground_of d p).atoms text ms read));
-      tags_fit = (let a = ap length fine.is_table.tags in let b = length-map table.tags (λ (row : TagRow). row.lits) in let f = fine.within_limit in omega (arith, a, b, f));
-      merges_fit = (let a = ap length fine.is_table.merges in let b = length-map ms (numbered (used_tags ms)) in let f = few_merges (ground_of d p).atoms text ms read in omega (arith, a, b, f, short));
-    }
-  where
-    their_targets : (all : List FileMerge) → AllByRecursion (λ m. IsOfAtom (ground_of d p).atoms m.target) all → AllByRecursion (λ (m : Merge). IsOfAtom (ground_of d p).atoms m.target) (map (numbered (used_tags ms)) all)
-    their_targets [] h = tt
-    their_targets (m ∷ all) h = (h.0, their_targets all h.1)
+ground_done c g i table o (when_done ls f are is) e = record { uncovered = ls; fits = f; are_uncovered = are; outcome = is }
 
 -- what two trees are translated to, if that is Done
-record HasTable (c : Translate) (d : Domain Word) (p : Problem Word) (o : Outcome) : Type 0 where
+record IsTranslated (c : Translate) (merges : List (List ℕ)) (d : Domain Word) (p : Problem Word) (o : Outcome) : Type 0 where
   table : TagTable
-  table_for : IsTableFor d p table
-  uncovered : List Lit
-  outcome : o ≡ translates c (ground_of d p) table uncovered
+  has_table : HasTable (ground_of d p) (initial_of d p) c.source merges table
+  ground : IsGroundDone c (ground_of d p) (initial_of d p) table o
 
-with_done : (c : Translate) (d : Domain Word) (p : Problem Word) (text : List ℕ) (o : Outcome) → TranslatesWith c (ground_of d p) (initial_of d p) text o → o.status ≡ status.Done → HasTable c d p o
-with_done c d p text o (long_merges a is) e = absurd (refusal_not_done o nothing _ is e)
-with_done c d p text o (no_merges r a b is) e = absurd (refusal_not_done o nothing r is e)
-with_done c d p text o (no_table ms r a b f is) e = absurd (refusal_not_done o (named_in (ground_of d p)) r is e)
-with_done c d p text o (with_table ms table short read fine h) e =
-    let g = ground_done c (ground_of d p) (initial_of d p) table o h e in
-    record { table = table; table_for = file_table d p text ms table short read fine; uncovered = g.uncovered; outcome = g.outcome }
+trees_done : (c : Translate) (merges : List (List ℕ)) (d : Domain Word) (p : Problem Word) (o : Outcome) → TranslatesTrees c merges d p o → o.status ≡ status.Done → IsTranslated c merges d p o
+trees_done c merges d p o (no_table names r why is) e = absurd (refusal_not_done o names r is e)
+trees_done c merges d p o (with_table table has h) e = record { table = table; has_table = has; ground = ground_done c (ground_of d p) (initial_of d p) table o h e }
 
-mode_done : (c : Translate) (d : Domain Word) (p : Problem Word) (mode : Mode) (o : Outcome) → IsSmall d p → TranslatesIn c (ground_of d p) (initial_of d p) mode o → o.status ≡ status.Done → HasTable c d p o
-mode_done c d p mode o small (none_made r a is) e = absurd (refusal_not_done o (named_in (ground_of d p)) r is e)
-mode_done c d p mode o small (made table is h) e =
-    let g = ground_done c (ground_of d p) (initial_of d p) table o h e in
-    record { table = table; table_for = mode_table d p mode table small is g.fits; uncovered = g.uncovered; outcome = g.outcome }
-
-trees_done : (c : Translate) (source : Source) (merges : List (List ℕ)) (d : Domain Word) (p : Problem Word) (o : Outcome) → IsSmall d p → TranslatesBy c source merges d p o → o.status ≡ status.Done → HasTable c d p o
-trees_done c (of_mode mode) [] d p o small h e = mode_done c d p mode o small h e
-trees_done c (of_mode mode) (text ∷ others) d p o small h e = absurd h
-trees_done c (of_file name) [] d p o small h e = absurd h
-trees_done c (of_file name) (text ∷ []) d p o small h e = with_done c d p text o h e
-trees_done c (of_file name) (text ∷ other ∷ others) d p o small h e = absurd h
-
-is_done : (c : Translate) (x y : List ℕ) (merges : List (List ℕ)) (o : Outcome) → TranslatesTexts c x y merges o → o.status ≡ status.Done → IsDone c x y o
+pub is_done : (c : Translate) (x y : List ℕ) (merges : List (List ℕ)) (o : Outcome) → TranslatesTexts c x y merges o → o.status ≡ status.Done → IsDone c x y merges o
 is_done c x y merges o (early (by_texts r a is)) e = absurd (refusal_not_done o nothing r is e)
 is_done c x y merges o (early (by_trees d p names r h a is)) e = absurd (refusal_not_done o names r is e)
 is_done c x y merges o (later d p h ready goes) e =
-    let t = trees_done c c.source merges d p o ready.started.small goes e in
-    record { first = d; second = p; trees = h; prepared = ready; table = t.table; table_for = t.table_for; uncovered = t.uncovered; outcome = t.outcome }
+    let t = trees_done c merges d p o goes e in
+    record { first = d; second = p; trees = h; prepared = ready; table = t.table; has_table = t.has_table; ground = t.ground }
 
 -- both texts are held
 pub record AreBoth (m : FileMap) (c : Translate) (o : Outcome) : Type 0 where
@@ -158,35 +114,46 @@ pub record AreBoth (m : FileMap) (c : Translate) (o : Outcome) : Type 0 where
   pub merges : List (List ℕ)
   pub domain_held : get m c.domain ≡ Some domain
   pub problem_held : get m c.problem ≡ Some problem
+  pub all_held : AreHeld (Some m) (inputs_of (commands.Translate c)) (domain ∷ problem ∷ merges)
   pub texts : TranslatesTexts c domain problem merges o
 
-both_held : (m : FileMap) (c : Translate) (e : Command) (texts : List (List ℕ)) (o : Outcome) → commands.Translate c ≡ e → AreHeld (Some m) (inputs_of e) texts → ComesTo e texts o → AreBoth m c o
+pub both_held : (m : FileMap) (c : Translate) (e : Command) (texts : List (List ℕ)) (o : Outcome) → commands.Translate c ≡ e → AreHeld (Some m) (inputs_of e) texts → ComesTo e texts o → AreBoth m c o
 both_held m c _ _ o same held (translated d x y merges _ a) =
     let it : d ≡ c = cc in
     let there = subst (λ z. AreHeld (Some m) (inputs_of (commands.Translate z)) (x ∷ y ∷ merges)) it held in
-    record { domain = x; problem = y; merges = merges; domain_held = cc there; problem_held = cc there; texts = subst (λ z. TranslatesTexts z x y merges o) it a }
+    record { domain = x; problem = y; merges = merges; domain_held = cc there; problem_held = cc there; all_held = there; texts = subst (λ z. TranslatesTexts z x y merges o) it a }
 both_held m c _ _ o same held (merged d x y _ a) = absurd cc
 both_held m c _ _ o same held (stripped d x _ a) = absurd cc
 both_held m c _ _ o same held (checked d x y plan _ a) = absurd cc
+both_held m c _ _ o same held (lifted d x y texts plan _ a) = absurd cc
 
 module _ (before after : FileMap) (c : Translate) (o : Outcome) (apart : c.domain_out ≢ c.problem_out) (both : AreBoth before c o) (done : o.status ≡ status.Done) (puts : Some after ≡ with_files (Some before) o.puts) where
-  all_done : IsDone c both.domain both.problem o
+  pub all_done : IsDone c both.domain both.problem both.merges o
   all_done = is_done c both.domain both.problem both.merges o both.texts done
 
-  abbrev d : Domain Word
+  abbrev pub d : Domain Word
   d = all_done.first
 
-  abbrev p : Problem Word
+  abbrev pub p : Problem Word
   p = all_done.second
 
-  abbrev written : Translation
+  abbrev pub written : Translation
   written = translation_of d p all_done.table
+
+  pub is_table : IsTableFor d p all_done.table
+  is_table = table_for d p c.source both.merges all_done.table all_done.prepared.started.small all_done.ground.fits all_done.has_table
 
   has : HasProblem both.domain both.problem
   has = problem_of both.domain both.problem d p all_done.trees
 
   held : after ≡ insert (insert before c.domain_out written.domain) c.problem_out written.problem
-  held = let they = subst (λ (z : Outcome). Some after ≡ with_files (Some before) z.puts) all_done.outcome puts in cc they
+  held = let they = subst (λ (z : Outcome). Some after ≡ with_files (Some before) z.puts) all_done.ground.outcome puts in cc they
+
+  pub first_put : get after c.domain_out ≡ Some written.domain
+  first_put = ap (λ m. get m c.domain_out) held ∙ (under_another (insert before c.domain_out written.domain) c.domain_out c.problem_out written.problem apart ∙ at_last before c.domain_out written.domain)
+
+  pub second_put : get after c.problem_out ≡ Some written.problem
+  second_put = ap (λ m. get m c.problem_out) held ∙ at_last (insert before c.domain_out written.domain) c.problem_out written.problem
 
   pub sound_outcome : IsSound before after c
   unfolding has all_done
@@ -199,9 +166,9 @@ module _ (before after : FileMap) (c : Translate) (o : Outcome) (apart : c.domai
     problem_held = both.problem_held;
     has_problem = has;
     initial_state = all_done.prepared.started.initial;
-    domain_put = ap (λ m. get m c.domain_out) held ∙ (under_another (insert before c.domain_out written.domain) c.domain_out c.problem_out written.problem apart ∙ at_last before c.domain_out written.domain);
-    problem_put = ap (λ m. get m c.problem_out) held ∙ at_last (insert before c.domain_out written.domain) c.problem_out written.problem;
-    plans = translations_sound both.domain both.problem has all_done.table all_done.table_for (never_clashes (ground_of d p) (initial_of d p) all_done.prepared.clash_free);
+    domain_put = first_put;
+    problem_put = second_put;
+    plans = translations_sound both.domain both.problem has all_done.table is_table (never_clashes (ground_of d p) (initial_of d p) all_done.prepared.clash_free);
   }
 
 -- ---- a run that ended with Done

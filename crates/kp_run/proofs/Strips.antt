@@ -1,6 +1,5 @@
 -- What a text is stripped to, from what the code finds.
-use Rattle.std.proofs.Common.{◌≡◌, ◌<◌, ◌≤◌, ℕ, List, Some, length, Result, Ok, Err, IfOk, Bool, true, false, nat_lt, arith, ap, ◌∙◌}
-use Rattle.std.proofs.lemmas.Bool.Decides.{nat_tests}
+use Rattle.std.proofs.Common.{◌≡◌, ◌<◌, ◌≤◌, ℕ, List, Some, length, Result, Ok, Err, IfOk, ap, ◌∙◌}
 use Rattle.kp_base.specs.declared.ground.GroundName.{GroundName}
 use Rattle.kp_base.specs.declared.memory.Memory.{Memory}
 use Rattle.kp_base.specs.declared.refused.Part.TheVariants as parts
@@ -36,10 +35,3 @@ refused_length text (Err m) long is = tt
 -- what the steps come to is printed
 pub printed_steps : (text : List ℕ) (steps : List PlanStep) (actions : List GroundName) (o : Outcome) → length text ≤ most_bytes → IsPlanOf text steps → strip (names steps) ≡ Some actions → o ≡ prints (plan_text actions) → StripsText text o
 printed_steps text steps actions o short plan is printed = strips steps actions short plan is printed
-
--- more bytes than may be, or no more
-pub over_length : (most : ℕ) (text : List ℕ) (more : Bool) → most ≡ most_bytes → more ≡ nat_lt most (length text) → more ≡ true → most_bytes < length text
-over_length most text more m is true_ = grind (arith, nat_tests)
-
-pub short_length : (most : ℕ) (text : List ℕ) (more : Bool) → most ≡ most_bytes → more ≡ nat_lt most (length text) → more ≡ false → length text ≤ most_bytes
-short_length most text more m is none = grind (arith, nat_tests)

@@ -1,6 +1,6 @@
 pub mod Outcomes
 pub mod Ends
 pub mod Soundness
+pub mod Completeness
 pub mod Tables
-pub mod Judging
 pub mod Laws

@@ -14,38 +14,39 @@ use Rattle.kp_base.specs.declared.refused.Refused.TheVariants as refusals
 use Rattle.kp_base.specs.Covering.{AreUncovered}
 use Rattle.kp_grammar.specs.declared.tree.Word.{Word}
 use Rattle.kp_grammar.specs.Trees as trees
+use Rattle.kp_complete.specs.Lifts.{lifted as lift_of, UnliftedAt}
 use Rattle.kp_task.specs.Task.{task_of}
+use Rattle.kp_task.specs.Accepted.{IsAccepted}
 use Rattle.kp_ktask.specs.Translated.{FitsLimits, RefusesTask}
 use Rattle.kp_translation.specs.Translations.{translation_with}
 use Rattle.kp_given.specs.Translations.{ground_of, initial_of}
-use Rattle.kp_merges.specs.declared.merge.FileMerge.{FileMerge}
-use Rattle.kp_merges.specs.MergesFiles.{IsMergesOf, RefusesMerges}
 use Rattle.kp_merges.specs.Printed.{merges_of, merges_text}
-use Rattle.kp_tags.specs.Answers.{Accepts, RefusesTable}
-use Rattle.kp_tags.specs.Made.{IsMade, RefusesMade}
 use Rattle.kp_check.specs.declared.answer.Judged.{Judged}
 use Rattle.kp_check.specs.declared.answer.Judged.TheVariants.{Yes, No}
 use Rattle.kp_check.specs.Judging.{AnswersJudged}
+use Rattle.kp_meaning.specs.Steps.{Step}
 use Rattle.kp_meaning.specs.Strip.{strip}
 use Rattle.kp_plans.specs.declared.step.PlanStep.{PlanStep}
 use Rattle.kp_plans.specs.PlanFiles.{names, IsPlanOf, RefusesPlan}
-use Rattle.kp_plans.specs.Found.{action_of, IsFirstUnknown}
 use Rattle.kp_plans.specs.Printed.{plan_text}
 use Rattle.kp_plans.specs.Stripping.{IsFirstUnstripped}
 use Rattle.kp_outside.specs.Outside.{FileMap}
-use Rattle.kp_printed.specs.Refusals.{Named, nothing}
+use Rattle.kp_printed.specs.Refusals.{nothing}
 use Rattle.kp_printed.specs.Counterexamples.{counterexample_text}
 use Rattle.kp_printed.specs.Coverage.{coverage_text}
+use Rattle.kp_printed.specs.Lifting.{unlifted_text}
 use Rattle.kp_printed.specs.Usage.{usage_text}
 use Rattle.kp_outcome.specs.declared.outcome.Outcome.{Outcome}
 use Rattle.kp_outcome.specs.declared.status.Status.TheVariants as status
 use Rattle.kp_outcome.specs.Ends.{AreHeld, most_bytes}
-use Rattle.kp_words.specs.Names.{Source, of_mode, of_file, Translate, Merges, Strip, Check}
+use Rattle.kp_words.specs.Names.{of_mode, Translate, Merges, Strip, Check, Lift}
 use Rattle.kp_words.specs.declared.command.Command.{Command}
 use Rattle.kp_words.specs.declared.command.Command.TheVariants as commands
 use Rattle.kp_words.specs.Command.{IsCommand, IsNoCommand, inputs_of}
-use Rattle.kp_prepared.specs.Refusing.{refuses, named_in}
+use Rattle.kp_prepared.specs.Refusing.{refuses}
 use Rattle.kp_prepared.specs.Prepared.{usual, Comes}
+use Rattle.kp_inputs.specs.Tables.{ComesByTable}
+use Rattle.kp_inputs.specs.Actions.{ComesByPlan}
 
 -- ---- outcomes
 
@@ -72,40 +73,23 @@ pub data TranslatesGround (c : Translate) (g : Ground) (i : Initial) (table : Ta
   over : (r : Refused) → RefusesTask (task_of g table) usual r → o ≡ refuses nothing r → TranslatesGround c g i table o
   done : (uncovered : List Lit) → FitsLimits (task_of g table) usual → AreUncovered g i table uncovered → o ≡ translates c g table uncovered → TranslatesGround c g i table o
 
--- they are translated in a mode to this: the refusal of its table, or what the table gives
-pub data TranslatesIn (c : Translate) (g : Ground) (i : Initial) (mode : Mode) (o : Outcome) : Type 0 where
-  none_made : (r : Refused) → RefusesMade mode usual g i r → o ≡ refuses (named_in g) r → TranslatesIn c g i mode o
-  made : (table : TagTable) → IsMade mode usual g i table → TranslatesGround c g i table o → TranslatesIn c g i mode o
-
--- they are translated with the merges of a text to this: the refusal of the text or of its merges, or what their table gives
-pub data TranslatesWith (c : Translate) (g : Ground) (i : Initial) (text : List ℕ) (o : Outcome) : Type 0 where
-  long_merges : most_bytes < length text → o ≡ refuses nothing (refusals.TooLong parts.Merges) → TranslatesWith c g i text o
-  no_merges : (r : Refused) → length text ≤ most_bytes → RefusesMerges g.atoms text r → o ≡ refuses nothing r → TranslatesWith c g i text o
-  no_table : (ms : List FileMerge) (r : Refused) → length text ≤ most_bytes → IsMergesOf g.atoms text ms → RefusesTable (length g.atoms) i ms usual.tags r → o ≡ refuses (named_in g) r → TranslatesWith c g i text o
-  with_table : (ms : List FileMerge) (table : TagTable) → length text ≤ most_bytes → IsMergesOf g.atoms text ms → Accepts (length g.atoms) i ms usual.tags table → TranslatesGround c g i table o → TranslatesWith c g i text o
-
--- two trees are translated to this, in a mode, or with the merges of the one text that is given
-abbrev pub TranslatesBy : Translate → Source → List (List ℕ) → trees.Domain Word → trees.Problem Word → Outcome → Type 0
-TranslatesBy c (of_mode mode) [] d p o = TranslatesIn c (ground_of d p) (initial_of d p) mode o
-TranslatesBy c (of_mode mode) (text ∷ others) d p o = ⊥
-TranslatesBy c (of_file name) [] d p o = ⊥
-TranslatesBy c (of_file name) (text ∷ []) d p o = TranslatesWith c (ground_of d p) (initial_of d p) text o
-TranslatesBy c (of_file name) (text ∷ other ∷ others) d p o = ⊥
+-- two trees are translated to this, with the table of the command's source, to which these texts belong
+abbrev pub TranslatesTrees : Translate → List (List ℕ) → trees.Domain Word → trees.Problem Word → Outcome → Type 0
+TranslatesTrees c merges d p o = ComesByTable (ground_of d p) (initial_of d p) c.source merges (TranslatesGround c (ground_of d p) (initial_of d p)) o
 
 -- two texts are translated to this, by the text of merges if one is given
 abbrev pub TranslatesTexts : Translate → List ℕ → List ℕ → List (List ℕ) → Outcome → Type 0
-TranslatesTexts c domain problem merges o = Comes c.implicates domain problem (TranslatesBy c c.source merges) o
+TranslatesTexts c domain problem merges o = Comes c.implicates domain problem (TranslatesTrees c merges) o
 
 -- ---- `merges`
 
--- a ground problem and its initial formula have these merges in a mode: the refusal of its table, or the table's merges are printed
-pub data ListsMerges (g : Ground) (i : Initial) (mode : Mode) (o : Outcome) : Type 0 where
-  unmade : (r : Refused) → RefusesMade mode usual g i r → o ≡ refuses (named_in g) r → ListsMerges g i mode o
-  listed : (table : TagTable) → IsMade mode usual g i table → o ≡ prints (merges_text g.atoms (merges_of table)) → ListsMerges g i mode o
+-- the merges of a table are printed
+abbrev pub ListsMerges : Ground → TagTable → Outcome → Type 0
+ListsMerges g table o = o ≡ prints (merges_text g.atoms (merges_of table))
 
--- two trees have
+-- two trees have these merges in a mode
 abbrev pub MergesTrees : Mode → trees.Domain Word → trees.Problem Word → Outcome → Type 0
-MergesTrees mode d p o = ListsMerges (ground_of d p) (initial_of d p) mode o
+MergesTrees mode d p o = ComesByTable (ground_of d p) (initial_of d p) (of_mode mode) [] (ListsMerges (ground_of d p)) o
 
 -- two texts have
 abbrev pub MergesTexts : Merges → List ℕ → List ℕ → Outcome → Type 0
@@ -135,24 +119,43 @@ abbrev pub tells : Ground → ℕ → Judged → Outcome
 tells g steps Yes = prints (codes "yes\n")
 tells g steps (No state k l) = denies g state (failing_step steps k) l
 
--- what may be named of a ground problem and the steps of a plan
-abbrev pub named_with : Ground → List GroundName → Named
-named_with g steps = record { atoms = g.atoms; actions = g.actions; steps = steps }
-
--- the text of a plan is checked with a ground problem and its initial formula to this: the refusal of the text, or of its first step that names no action; or whether its steps succeed from each model
-pub data ChecksPlan (g : Ground) (i : Initial) (text : List ℕ) (o : Outcome) : Type 0 where
-  long_plan : most_bytes < length text → o ≡ refuses nothing (refusals.TooLong parts.Plan) → ChecksPlan g i text o
-  no_steps : (r : Refused) → length text ≤ most_bytes → RefusesPlan text r → o ≡ refuses nothing r → ChecksPlan g i text o
-  unknown_step : (steps : List PlanStep) (number : ℕ) → length text ≤ most_bytes → IsPlanOf text steps → IsFirstUnknown (action_of g.actions) steps number → o ≡ refuses (named_with g (names steps)) (refusals.StepUnknown number) → ChecksPlan g i text o
-  judged : (steps : List PlanStep) (numbers : List ℕ) (j : Judged) → length text ≤ most_bytes → IsPlanOf text steps → map (action_of g.actions) steps ≡ map Some numbers → AnswersJudged (length g.atoms) g i numbers j → o ≡ tells g (length steps) j → ChecksPlan g i text o
+-- it is told of actions whether they succeed from each model
+pub record TellsJudged (g : Ground) (i : Initial) (numbers : List ℕ) (o : Outcome) : Type 0 where
+  pub judged : Judged
+  pub answers : AnswersJudged (length g.atoms) g i numbers judged
+  pub told : o ≡ tells g (length numbers) judged
 
 -- two trees and a plan are checked to this
 abbrev pub ChecksTrees : List ℕ → trees.Domain Word → trees.Problem Word → Outcome → Type 0
-ChecksTrees text d p o = ChecksPlan (ground_of d p) (initial_of d p) text o
+ChecksTrees plan d p o = ComesByPlan (ground_of d p) plan (TellsJudged (ground_of d p) (initial_of d p)) o
 
 -- two texts and a plan are
 abbrev pub ChecksTexts : Check → List ℕ → List ℕ → List ℕ → Outcome → Type 0
 ChecksTexts c domain problem plan o = Comes c.implicates domain problem (ChecksTrees plan) o
+
+-- ---- `lift`
+
+-- the answer is no, and it is printed at which step a literal isn't known, or at the goal
+abbrev pub unlifted : Ground → Option ℕ → Lit → Outcome
+unlifted g step l = record { status = status.Negative; puts = []; text = unlifted_text g.atoms step l }
+
+-- actions are lifted to this: the operators' names are printed, a line each; or where the first literal is that isn't known in its turn
+pub data LiftsActions (g : Ground) (table : TagTable) (numbers : List ℕ) (o : Outcome) : Type 0 where
+  lifts : (steps : List Step) → IsAccepted g table steps (lift_of g table numbers) → o ≡ prints (plan_text steps) → LiftsActions g table numbers o
+  fails : (k : ℕ) (l : Lit) → UnliftedAt g table numbers k l → o ≡ unlifted g (failing_step (length numbers) k) l → LiftsActions g table numbers o
+
+-- a plan is lifted with a table to this: the refusal of the task, or of the plan; or its actions are lifted
+pub data LiftsPlan (g : Ground) (plan : List ℕ) (table : TagTable) (o : Outcome) : Type 0 where
+  no_task : (r : Refused) → RefusesTask (task_of g table) usual r → o ≡ refuses nothing r → LiftsPlan g plan table o
+  with_task : FitsLimits (task_of g table) usual → ComesByPlan g plan (LiftsActions g table) o → LiftsPlan g plan table o
+
+-- two trees and a plan are, with the table of the command's source, to which these texts belong
+abbrev pub LiftsTrees : Lift → List (List ℕ) → List ℕ → trees.Domain Word → trees.Problem Word → Outcome → Type 0
+LiftsTrees c merges plan d p o = ComesByTable (ground_of d p) (initial_of d p) c.source merges (LiftsPlan (ground_of d p) plan) o
+
+-- two texts and a plan are
+abbrev pub LiftsTexts : Lift → List ℕ → List ℕ → List (List ℕ) → List ℕ → Outcome → Type 0
+LiftsTexts c domain problem merges plan o = Comes c.implicates domain problem (LiftsTrees c merges plan) o
 
 -- ---- all commands
 
@@ -162,6 +165,7 @@ pub data ComesTo : Command → List (List ℕ) → Outcome → Type 0 where
   merged : (c : Merges) (domain problem : List ℕ) (o : Outcome) → MergesTexts c domain problem o → ComesTo (commands.Merges c) (domain ∷ problem ∷ []) o
   stripped : (c : Strip) (text : List ℕ) (o : Outcome) → StripsText text o → ComesTo (commands.Strip c) (text ∷ []) o
   checked : (c : Check) (domain problem plan : List ℕ) (o : Outcome) → ChecksTexts c domain problem plan o → ComesTo (commands.Check c) (domain ∷ problem ∷ plan ∷ []) o
+  lifted : (c : Lift) (domain problem : List ℕ) (merges : List (List ℕ)) (plan : List ℕ) (o : Outcome) → LiftsTexts c domain problem merges plan o → ComesTo (commands.Lift c) (domain ∷ problem ∷ (merges ++ plan ∷ [])) o
 
 -- The outcome that is due: the usage where the words are no command; else what the command comes to on the contents of its input files. Where it isn't told what they hold, they may hold anything.
 pub data IsDue (words : List (Vec ℕ Global)) (held : Option FileMap) : Outcome → Type 0 where

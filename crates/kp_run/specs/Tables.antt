@@ -1,18 +1,17 @@
--- What a ground problem is translated to with a table, and with the merges of a file. This file serves proofs alone.
-use Rattle.std.specs.Prelude.{◌≡◌, ℕ, List}
+-- What a ground problem is translated to with a table, and what is printed of operators. This file serves proofs alone.
+use Rattle.std.specs.Prelude.{◌≡◌, ℕ, List, Some, map}
 use Rattle.kp_base.specs.declared.ground.Ground.{Ground}
+use Rattle.kp_base.specs.declared.ground.GroundName.{GroundName}
 use Rattle.kp_base.specs.declared.ground.Initial.{Initial}
 use Rattle.kp_base.specs.declared.ground.TagTable.{TagTable}
 use Rattle.kp_base.specs.declared.lit.Lit.{Lit}
-use Rattle.kp_base.specs.declared.refused.Refused.{Refused}
 use Rattle.kp_base.specs.Covering.{AreUncovered}
-use Rattle.kp_merges.specs.declared.merge.FileMerge.{FileMerge}
-use Rattle.kp_tags.specs.Answers.{Accepts, RefusesTable}
+use Rattle.kp_classic.specs.declared.task.Task.{Task}
+use Rattle.kp_lift.specs.Lifting.{operator_step}
+use Rattle.kp_plans.specs.Printed.{plan_text}
 use Rattle.kp_outcome.specs.declared.outcome.Outcome.{Outcome}
 use Rattle.kp_words.specs.Names.{Translate}
-use Rattle.kp_prepared.specs.Refusing.{refuses, named_in}
-use Rattle.kp_prepared.specs.Prepared.{usual}
-use Rattle.kp_run.specs.Outcomes.{translates, TranslatesGround}
+use Rattle.kp_run.specs.Outcomes.{translates, prints}
 
 -- both files are put, and it is told which targets aren't covered
 pub record IsPut (c : Translate) (g : Ground) (i : Initial) (table : TagTable) (o : Outcome) : Type 0 where
@@ -20,7 +19,8 @@ pub record IsPut (c : Translate) (g : Ground) (i : Initial) (table : TagTable) (
   pub are : AreUncovered g i table uncovered
   pub outcome : o ≡ translates c g table uncovered
 
--- the merges are refused, or what their table gives
-pub data TranslatesMerges (c : Translate) (g : Ground) (atoms : ℕ) (i : Initial) (ms : List FileMerge) (o : Outcome) : Type 0 where
-  refused : (r : Refused) → RefusesTable atoms i ms usual.tags r → o ≡ refuses (named_in g) r → TranslatesMerges c g atoms i ms o
-  accepted : (table : TagTable) → Accepts atoms i ms usual.tags table → TranslatesGround c g i table o → TranslatesMerges c g atoms i ms o
+-- the names of these operators of a task are printed
+pub record PrintsOperators (task : Task) (ops : List ℕ) (o : Outcome) : Type 0 where
+  pub steps : List GroundName
+  pub are : map (operator_step task) ops ≡ map Some steps
+  pub printed : o ≡ prints (plan_text steps)

@@ -1,25 +1,28 @@
-ghost use Rattle.std.specs.Prelude.{◌≡◌, ◌≢◌, ℕ, List, [], ◌∷◌, Option, Some, Err, IfOk, IsErrOf, length};
+ghost use Rattle.std.specs.Prelude.{◌≡◌, ◌≢◌, ℕ, List, [], ◌∷◌, ◌++◌, Option, Some, Err, IfOk, IsErrOf, length};
 ghost use Rattle.kp_outside.specs.declared.outside.OutsideStop.TheVariants as stops;
 ghost use Rattle.kp_outside.specs.Outside.{FileMap};
 ghost use Rattle.kp_outcome.specs.declared.status.Status.TheVariants as status;
 ghost use Rattle.kp_outcome.specs.Ends.{AreHeld, AreFronts, AreRead, GetFails};
 ghost use Rattle.kp_words.specs.declared.command.Command.{Command as Ordered};
 ghost use Rattle.kp_words.specs.declared.command.Command.TheVariants as commands;
-ghost use Rattle.kp_words.specs.Names.{Translate as Names, of_mode, of_file};
-ghost use Rattle.kp_words.specs.Command.{IsTranslate, IsCommand, file_of, if_named, inputs_of};
+ghost use Rattle.kp_words.specs.Names.{Translate as Names, Lift as LiftNames, of_mode, of_file};
+ghost use Rattle.kp_words.specs.Command.{IsTranslate, IsLift, IsCommand, file_of, if_named, inputs_of};
 ghost use Rattle.kp_run.specs.Outcomes.{ComesTo, IsDue};
 ghost use Rattle.kp_run.specs.Ends.{Ends};
 ghost use Rattle.kp_run.specs.Soundness.{IsSound};
+ghost use Rattle.kp_run.specs.Completeness.{LosesNoPlan};
 
 use crate::checking::check_texts;
+use crate::lifting::lift_texts;
 use crate::listing::merges_of_texts;
 use crate::outcomes::usage_outcome;
 use crate::stripping::strip_text;
-use crate::translating::{translate_in, translate_merged};
+use crate::translating::translate_texts;
 use kp_base::{Memory, Mode, Row};
+use kp_inputs::Origin;
 use kp_outcome::{Outcome, Status, carry_out, read_inputs, stopped};
 use kp_outside::{Got, OutsideStop, Shelf, Sink};
-use kp_words::{Check, Command, Merges, Source, Strip, Translate};
+use kp_words::{Check, Command, Lift, Merges, Source, Strip, Translate};
 use std::alloc::Global;
 
 // Reads the two or three files that a translation names.
@@ -37,6 +40,25 @@ fn read_translate<S: Shelf>(
     match named.source {
         Source::File(merges) => read_inputs(alloc, &[named.domain, named.problem, merges], shelf),
         Source::Mode(_) => read_inputs(alloc, &[named.domain, named.problem], shelf),
+    }
+}
+
+// Reads the three or four files that a lift names.
+fn read_lift<S: Shelf>(
+    alloc: Global,
+    named: &Lift<'_>,
+    shelf: &mut S,
+) -> Result<Row<Got>, OutsideStop>
+    ensures read { IfOk result (AreRead (S.contents shelf.old) (named.now.domain ∷ named.now.problem ∷ (if_named (file_of named.now.source) ++ named.now.plan ∷ []))) }
+    ensures failed { IsErrOf result stops.Failed → GetFails (S.contents shelf.old) (named.now.domain ∷ named.now.problem ∷ (if_named (file_of named.now.source) ++ named.now.plan ∷ [])) (S.get_faults shelf.old) (S.get_faults shelf.new) }
+    ensures get_faults { result ≢ Err stops.Failed → (q : List ℕ) → S.get_faults shelf.new q ≡ S.get_faults shelf.old q }
+    ensures contents { S.contents shelf.new ≡ S.contents shelf.old }
+    ensures put_faults { (q : List ℕ) → S.put_faults shelf.new q ≡ S.put_faults shelf.old q }
+{
+    let (domain, problem, plan) = (named.domain, named.problem, named.plan);
+    match named.source {
+        Source::File(merges) => read_inputs(alloc, &[domain, problem, merges, plan], shelf),
+        Source::Mode(_) => read_inputs(alloc, &[domain, problem, plan], shelf),
     }
 }
 
@@ -59,6 +81,7 @@ fn read<S: Shelf>(
         Command::Check(named) => {
             read_inputs(alloc, &[named.domain, named.problem, named.plan], shelf)
         }
+        Command::Lift(named) => read_lift(alloc, named, shelf),
     }
 }
 
@@ -94,6 +117,19 @@ fn three_of(gots: Row<Got>) -> (Got, Got, Got)
     (first, second, third)
 }
 
+// The contents that were read of four files.
+fn four_of(gots: Row<Got>) -> (Got, Got, Got, Got)
+    requires { length gots ≡ 4 }
+    ensures { gots ≡ result.0 ∷ result.1 ∷ result.2 ∷ result.3 ∷ [] }
+{
+    let mut gots = gots.into_vec();
+    let fourth = gots.pop().unwrap();
+    let third = gots.pop().unwrap();
+    let second = gots.pop().unwrap();
+    let first = gots.pop().unwrap();
+    (first, second, third, fourth)
+}
+
 // What a translation in a mode comes to on what was read of its two files.
 fn mode_gots(
     alloc: Global,
@@ -106,7 +142,7 @@ fn mode_gots(
     ensures { (texts : List (List ℕ)) → AreFronts texts gots → IfOk result (ComesTo (commands.Translate named.now) texts) }
 {
     let (domain, problem) = two_of(gots);
-    translate_in(alloc, named, mode, domain, problem)
+    translate_texts(alloc, named, domain, problem, Origin::Mode(mode))
 }
 
 // What a translation with merges comes to on what was read of its three files.
@@ -116,7 +152,7 @@ fn merged_gots(alloc: Global, named: &Translate<'_>, gots: Row<Got>) -> Result<O
     ensures { (texts : List (List ℕ)) → AreFronts texts gots → IfOk result (ComesTo (commands.Translate named.now) texts) }
 {
     let (domain, problem, merges) = three_of(gots);
-    translate_merged(alloc, named, domain, problem, merges)
+    translate_texts(alloc, named, domain, problem, Origin::Merges(merges))
 }
 
 // What a translation comes to on what was read of its files.
@@ -127,6 +163,42 @@ fn translate_gots(alloc: Global, named: &Translate<'_>, gots: Row<Got>) -> Resul
     match named.source {
         Source::File(_) => merged_gots(alloc, named, gots),
         Source::Mode(mode) => mode_gots(alloc, named, mode, gots),
+    }
+}
+
+// What a lift in a mode comes to on what was read of its three files.
+fn lift_mode_gots(
+    alloc: Global,
+    named: &Lift<'_>,
+    mode: Mode,
+    gots: Row<Got>,
+) -> Result<Outcome, Memory>
+    requires mode { named.now.source ≡ of_mode mode }
+    requires read { (held : Option FileMap) × AreRead held (named.now.domain ∷ named.now.problem ∷ named.now.plan ∷ []) gots }
+    ensures { (texts : List (List ℕ)) → AreFronts texts gots → IfOk result (ComesTo (commands.Lift named.now) texts) }
+{
+    let (domain, problem, plan) = three_of(gots);
+    lift_texts(alloc, named, domain, problem, Origin::Mode(mode), plan)
+}
+
+// What a lift with merges comes to on what was read of its four files.
+fn lift_merged_gots(alloc: Global, named: &Lift<'_>, gots: Row<Got>) -> Result<Outcome, Memory>
+    requires file { (name : List ℕ) × (named.now.source ≡ of_file name) }
+    requires read { (held : Option FileMap) × (merges : List ℕ) × AreRead held (named.now.domain ∷ named.now.problem ∷ merges ∷ named.now.plan ∷ []) gots }
+    ensures { (texts : List (List ℕ)) → AreFronts texts gots → IfOk result (ComesTo (commands.Lift named.now) texts) }
+{
+    let (domain, problem, merges, plan) = four_of(gots);
+    lift_texts(alloc, named, domain, problem, Origin::Merges(merges), plan)
+}
+
+// What a lift comes to on what was read of its files.
+fn lift_gots(alloc: Global, named: &Lift<'_>, gots: Row<Got>) -> Result<Outcome, Memory>
+    requires { (held : Option FileMap) × AreRead held (named.now.domain ∷ named.now.problem ∷ (if_named (file_of named.now.source) ++ named.now.plan ∷ [])) gots }
+    ensures { (texts : List (List ℕ)) → AreFronts texts gots → IfOk result (ComesTo (commands.Lift named.now) texts) }
+{
+    match named.source {
+        Source::File(_) => lift_merged_gots(alloc, named, gots),
+        Source::Mode(mode) => lift_mode_gots(alloc, named, mode, gots),
     }
 }
 
@@ -167,6 +239,7 @@ fn outcome_of(alloc: Global, command: &Command<'_>, gots: Row<Got>) -> Result<Ou
         Command::Merges(named) => merges_gots(alloc, named, gots),
         Command::Strip(named) => strip_gots(alloc, named, gots),
         Command::Check(named) => check_gots(alloc, named, gots),
+        Command::Lift(named) => lift_gots(alloc, named, gots),
     }
 }
 
@@ -214,6 +287,8 @@ pub fn run<S: Shelf, O: Sink>(
     ensures ends { Ends words.now (record { held = S.contents shelf.old; told = O.told out.old; get_faults = S.get_faults shelf.old; put_faults = S.put_faults shelf.old; write_faults = O.faults out.old }) (record { held = S.contents shelf.new; told = O.told out.new; get_faults = S.get_faults shelf.new; put_faults = S.put_faults shelf.new; write_faults = O.faults out.new }) result }
     // With Done, what was read has a problem with an initial state, and each plan of what was put strips to a plan of it.
     ensures sound { (before after : FileMap) (c : Names) → S.contents shelf.old ≡ Some before → S.contents shelf.new ≡ Some after → IsTranslate words.now c → result ≡ status.Done → IsSound before after c }
+    // Whenever a translation of the same files told `complete`, a lift finds for each plan of them a plan of what it put that strips to it.
+    ensures complete { (c : LiftNames) → IsLift words.now c → LosesNoPlan c (record { held = S.contents shelf.old; told = O.told out.old; get_faults = S.get_faults shelf.old; put_faults = S.put_faults shelf.old; write_faults = O.faults out.old }) (record { held = S.contents shelf.new; told = O.told out.new; get_faults = S.get_faults shelf.new; put_faults = S.put_faults shelf.new; write_faults = O.faults out.new }) result }
 {
     match due(alloc, words, shelf) {
         Ok(outcome) => carry_out(alloc, outcome, shelf, out),

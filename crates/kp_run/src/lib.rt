@@ -5,6 +5,7 @@
 mod checking;
 mod entry;
 mod law;
+mod lifting;
 mod listing;
 mod outcomes;
 mod stripping;

@@ -1,24 +1,26 @@
-ghost use Rattle.std.specs.Prelude.{◌≡◌, Some, List, ℕ, IfOk};
+ghost use Rattle.std.specs.Prelude.{◌≡◌, [], Some, List, ℕ, IfOk};
+ghost use Rattle.kp_base.specs.declared.ground.Initial.{Initial as Formula};
+ghost use Rattle.kp_base.specs.Entailed.{HaveSameModels};
 ghost use Rattle.kp_outside.specs.Outside.{IsFront, IsWithin};
 ghost use Rattle.kp_primes.specs.Held.{formula};
+ghost use Rattle.kp_words.specs.Names.{of_mode};
 ghost use Rattle.kp_prepared.specs.Prepared.{IsUsable};
-ghost use Rattle.kp_run.specs.Outcomes.{prints, ListsMerges, MergesTexts};
-ghost use Rattle.kp_merges.specs.Printed.{merges_of, merges_text};
+ghost use Rattle.kp_inputs.specs.Tables.{ComesByTable};
+ghost use Rattle.kp_run.specs.Outcomes.{ListsMerges, MergesTexts};
 
 use crate::outcomes::print_text;
-use kp_base::{Ground, Limits, Memory, Mode, Stop, TagTable};
+use kp_base::{Ground, Memory, Mode, TagTable};
+use kp_inputs::{Origin, settle, table_alone};
 use kp_merges::merges_text;
 use kp_outcome::Outcome;
 use kp_outside::Got;
-use kp_prepared::{Early, Prepared, prepare, refuse_in};
-use kp_relevance::Relevance;
-use kp_tags::make;
+use kp_prepared::{Prepared, prepare};
 use kp_words::Merges;
 use std::alloc::Global;
 
 // The merges of a table are printed.
 fn list(alloc: Global, ground: &Ground, table: &TagTable) -> Result<Outcome, Memory>
-    ensures { IfOk result (λ o. o ≡ prints (merges_text ground.now.atoms (merges_of table.now))) }
+    ensures { IfOk result (ListsMerges ground.now table.now) }
 {
     Ok(print_text(alloc, merges_text(alloc, ground, table)?))
 }
@@ -26,20 +28,11 @@ fn list(alloc: Global, ground: &Ground, table: &TagTable) -> Result<Outcome, Mem
 // What a ground problem without a clash has as merges in a mode.
 fn list_in(alloc: Global, prepared: &Prepared, mode: Mode) -> Result<Outcome, Memory>
     requires { IsUsable prepared.now }
-    ensures { IfOk result (ListsMerges prepared.now.ground (formula prepared.now.primes) mode) }
+    ensures { (i : Formula) → HaveSameModels (formula prepared.now.primes) i → IfOk result (ComesByTable prepared.now.ground i (of_mode mode) [] (ListsMerges prepared.now.ground)) }
 {
-    let relevance = Relevance::of(alloc, &prepared.ground)?;
-    match make(
-        alloc,
-        mode,
-        &prepared.ground,
-        &prepared.primes,
-        &relevance,
-        &Limits::usual(),
-    ) {
+    match table_alone(alloc, prepared, Origin::Mode(mode)) {
         Ok(table) => list(alloc, &prepared.ground, &table),
-        Err(Stop::Refused(refused)) => refuse_in(alloc, &prepared.ground, refused),
-        Err(Stop::Memory) => Err(Memory),
+        Err(early) => settle(early),
     }
 }
 
@@ -57,7 +50,6 @@ pub fn merges_of_texts(
 {
     match prepare(alloc, command.implicates, domain, problem) {
         Ok(prepared) => list_in(alloc, &prepared, command.mode),
-        Err(Early::With(outcome)) => Ok(outcome),
-        Err(Early::Memory) => Err(Memory),
+        Err(early) => settle(early),
     }
 }

@@ -1,7 +1,7 @@
 ghost use Rattle.std.specs.Prelude.{◌≡◌, ◌∷◌, [], IfOk, OnOk, ◌++◌};
 ghost use Rattle.kp_printed.specs.Coverage.{coverage_text};
 ghost use Rattle.kp_translation.specs.Translations.{translation_with};
-ghost use Rattle.kp_run.specs.Outcomes.{shows_usage, translates, prints};
+ghost use Rattle.kp_run.specs.Outcomes.{shows_usage, translates, prints, failing_step};
 
 use kp_base::{Ground, Lit, Memory, Row, TagTable, Text};
 use kp_outcome::{FilePut, Outcome, Status};
@@ -38,6 +38,17 @@ pub fn print_text(alloc: Global, text: Row<u8>) -> Outcome
         status: Status::Done,
         puts: Row::new(alloc),
         text,
+    }
+}
+
+/// The step that fails, of so many; none where all of them are passed.
+pub fn failing(steps: usize, step: u32) -> Option<u32>
+    ensures { result ≡ failing_step steps step }
+{
+    if step as usize == steps {
+        None
+    } else {
+        Some(step)
     }
 }
 

@@ -1,27 +1,24 @@
-ghost use Rattle.std.specs.Prelude.{◌≡◌, ◌∷◌, [], Some, List, ℕ, true, IfOk};
-ghost use Rattle.std.specs.List.{list_all};
+ghost use Rattle.std.specs.Prelude.{◌≡◌, Some, List, ℕ, IfOk};
 ghost use Rattle.kp_base.specs.declared.ground.Initial.{Initial as Formula};
-ghost use Rattle.kp_base.specs.Entailed.{IsTable};
-ghost use Rattle.kp_machine.specs.Formulas.{HaveSameModels};
+ghost use Rattle.kp_base.specs.Entailed.{IsTable, HaveSameModels};
 ghost use Rattle.kp_outside.specs.Outside.{IsFront, IsWithin};
 ghost use Rattle.kp_primes.specs.Held.{formula};
 ghost use Rattle.kp_relevance.specs.Relevant.{ArePairsOf};
-ghost use Rattle.kp_tags.specs.Tables.{has_tags_of_atoms};
 ghost use Rattle.kp_translation.specs.Translations.{translation_with};
-ghost use Rattle.kp_words.specs.Names.{of_mode, of_file};
+ghost use Rattle.kp_words.specs.Names.{Source};
 ghost use Rattle.kp_prepared.specs.Prepared.{IsUsable};
-ghost use Rattle.kp_run.specs.Outcomes.{TranslatesGround, TranslatesIn, TranslatesWith, TranslatesTexts};
-ghost use Rattle.kp_run.specs.Tables.{IsPut, TranslatesMerges};
+ghost use Rattle.kp_inputs.specs.Tables.{IsOrigin, IsShort, ComesByTable};
+ghost use Rattle.kp_run.specs.Outcomes.{TranslatesGround, TranslatesTexts};
+ghost use Rattle.kp_run.specs.Tables.{IsPut};
 
 use crate::outcomes::translates;
-use kp_base::{Limits, Memory, Mode, Part, Refused, Row, Stop, TagTable};
+use kp_base::{Limits, Memory, Stop, TagTable};
 use kp_cover::coverage;
-use kp_merges::{FileMerge, read_merges};
+use kp_inputs::{Origin, settle, table_of};
 use kp_outcome::Outcome;
 use kp_outside::Got;
-use kp_prepared::{Early, Prepared, prepare, refuse, refuse_in};
+use kp_prepared::{Prepared, prepare, refuse};
 use kp_relevance::Relevance;
-use kp_tags::{accept_merges, make};
 use kp_translation::{Translation, translation_with};
 use kp_words::Translate;
 use std::alloc::Global;
@@ -72,109 +69,41 @@ fn with_table(
     }
 }
 
-// What it comes to in a mode.
-fn with_mode(
+// The same with the table of a mode or of a file of merges.
+fn with_origin(
     alloc: Global,
     command: &Translate<'_>,
     prepared: &Prepared,
-    mode: Mode,
+    origin: Origin,
 ) -> Result<Outcome, Memory>
-    requires { IsUsable prepared.now }
-    ensures { IfOk result (TranslatesIn command.now prepared.now.ground (formula prepared.now.primes) mode) }
+    requires short { IsShort origin }
+    requires usable { IsUsable prepared.now }
+    requires origin { (source : Source) × (merges : List (List ℕ)) × IsOrigin source merges origin }
+    ensures { (source : Source) (merges : List (List ℕ)) (i : Formula) → IsOrigin source merges origin → HaveSameModels (formula prepared.now.primes) i → IfOk result (ComesByTable prepared.now.ground i source merges (TranslatesGround command.now prepared.now.ground i)) }
 {
     let relevance = Relevance::of(alloc, &prepared.ground)?;
-    match make(
-        alloc,
-        mode,
-        &prepared.ground,
-        &prepared.primes,
-        &relevance,
-        &Limits::usual(),
-    ) {
+    match table_of(alloc, prepared, &relevance, origin) {
         Ok(table) => with_table(alloc, command, prepared, &relevance, &table),
-        Err(Stop::Refused(refused)) => refuse_in(alloc, &prepared.ground, refused),
-        Err(Stop::Memory) => Err(Memory),
+        Err(early) => settle(early),
     }
 }
 
-// What a ground problem without a clash comes to with the merges of a file.
-fn with_merges(
-    alloc: Global,
-    command: &Translate<'_>,
-    prepared: &Prepared,
-    merges: &Row<FileMerge>,
-) -> Result<Outcome, Memory>
-    requires usable { IsUsable prepared.now }
-    requires of_atoms { list_all (has_tags_of_atoms prepared.now.primes.atoms) merges.now ≡ true }
-    ensures { IfOk result (TranslatesMerges command.now prepared.now.ground prepared.now.primes.atoms (formula prepared.now.primes) merges.now) }
-{
-    let relevance = Relevance::of(alloc, &prepared.ground)?;
-    match accept_merges(alloc, &prepared.primes, merges, &Limits::usual()) {
-        Ok(table) => with_table(alloc, command, prepared, &relevance, &table),
-        Err(Stop::Refused(refused)) => refuse_in(alloc, &prepared.ground, refused),
-        Err(Stop::Memory) => Err(Memory),
-    }
-}
-
-// The same with the text of the file, at most 16,777,216 bytes of which were read.
-fn with_text(
-    alloc: Global,
-    command: &Translate<'_>,
-    prepared: &Prepared,
-    merges: Got,
-) -> Result<Outcome, Memory>
-    requires within { IsWithin 16777216 merges }
-    requires usable { IsUsable prepared.now }
-    ensures { (text : List ℕ) (i : Formula) → IsFront (Some text) 16777216 merges → HaveSameModels (formula prepared.now.primes) i → IfOk result (TranslatesWith command.now prepared.now.ground i text) }
-{
-    if merges.more {
-        return refuse(alloc, Refused::TooLong(Part::Merges));
-    }
-    match read_merges(alloc, merges.bytes.slice(), &prepared.ground) {
-        Ok(merges) => with_merges(alloc, command, prepared, &merges),
-        Err(Stop::Refused(refused)) => refuse(alloc, refused),
-        Err(Stop::Memory) => Err(Memory),
-    }
-}
-
-/// What a translation in a mode comes to on the contents of its two files, at most 16,777,216 bytes of each of which
-/// were read.
-pub fn translate_in(
-    alloc: Global,
-    command: &Translate<'_>,
-    mode: Mode,
-    domain: Got,
-    problem: Got,
-) -> Result<Outcome, Memory>
-    requires mode { command.now.source ≡ of_mode mode }
-    requires domain { IsWithin 16777216 domain }
-    requires problem { IsWithin 16777216 problem }
-    ensures { (d p : List ℕ) → IsFront (Some d) 16777216 domain → IsFront (Some p) 16777216 problem → IfOk result (TranslatesTexts command.now d p []) }
-{
-    match prepare(alloc, command.implicates, domain, problem) {
-        Ok(prepared) => with_mode(alloc, command, &prepared, mode),
-        Err(Early::With(outcome)) => Ok(outcome),
-        Err(Early::Memory) => Err(Memory),
-    }
-}
-
-/// What a translation with the merges of a file comes to, at most 16,777,216 bytes of each file of which were read.
-pub fn translate_merged(
+/// What a translation comes to on the contents of its files, at most 16,777,216 bytes of each of which were read.
+pub fn translate_texts(
     alloc: Global,
     command: &Translate<'_>,
     domain: Got,
     problem: Got,
-    merges: Got,
+    origin: Origin,
 ) -> Result<Outcome, Memory>
-    requires file { (name : List ℕ) × (command.now.source ≡ of_file name) }
     requires domain { IsWithin 16777216 domain }
     requires problem { IsWithin 16777216 problem }
-    requires merges { IsWithin 16777216 merges }
-    ensures { (d p m : List ℕ) → IsFront (Some d) 16777216 domain → IsFront (Some p) 16777216 problem → IsFront (Some m) 16777216 merges → IfOk result (TranslatesTexts command.now d p (m ∷ [])) }
+    requires short { IsShort origin }
+    requires origin { (source : Source) × (merges : List (List ℕ)) × IsOrigin source merges origin }
+    ensures { (d p : List ℕ) (merges : List (List ℕ)) → IsFront (Some d) 16777216 domain → IsFront (Some p) 16777216 problem → IsOrigin command.now.source merges origin → IfOk result (TranslatesTexts command.now d p merges) }
 {
     match prepare(alloc, command.implicates, domain, problem) {
-        Ok(prepared) => with_text(alloc, command, &prepared, merges),
-        Err(Early::With(outcome)) => Ok(outcome),
-        Err(Early::Memory) => Err(Memory),
+        Ok(prepared) => with_origin(alloc, command, &prepared, origin),
+        Err(early) => settle(early),
     }
 }

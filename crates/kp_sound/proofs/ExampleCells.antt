@@ -1,11 +1,10 @@
 -- Three cells of which exactly one is full: they can be written, and nothing clashes, though one step adds and deletes one atom. With the empty tag alone what is written has no plan; with a tag for each cell and a merge it has one.
-use Rattle.std.proofs.Common.{◌<◌, length, arith, Bool, ◌&&◌, ◌≡◌, ℕ, zero, suc, true, false, List, [], ◌∷◌, Some, map, codes, refl, sym, subst}
+use Rattle.std.proofs.Common.{◌<◌, length, arith, ◌≡◌, zero, suc, true, false, List, [], ◌∷◌, Some, refl, sym, subst}
 use Rattle.std.proofs.Math.Bool.{and-false}
 use Rattle.std.proofs.lemmas.Bool.{false≢true}
 use Rattle.kp_base.specs.declared.lit.Lit.{Lit}
 use Rattle.kp_base.specs.Lit.{positive, negative, same_lit}
-use Rattle.kp_base.specs.declared.ground.Initial.{Initial}
-use Rattle.kp_base.specs.Steps.{Facts, State, is_model}
+use Rattle.kp_base.specs.Steps.{Facts}
 use Rattle.kp_base.specs.Machine.{MachineStep, Known, start, facts_after, after_act, accepts_from, one_tag_table}
 use Rattle.kp_lex.specs.Bytes.{class_of}
 use Rattle.kp_lex.specs.Scanning.{cut_from}
@@ -27,7 +26,6 @@ use Rattle.kp_base.specs.Entailed.{IsTable, AreValid}
 use Rattle.kp_base.specs.Clashes.{NeverClashes}
 use Rattle.kp_task.specs.Task.{task_of}
 use Rattle.kp_task.specs.Writable.{IsWritableTask}
-use Rattle.kp_task.specs.Accepted.{IsAccepted}
 use Rattle.kp_task.proofs.Plans.{plans_are_accepted}
 use Rattle.kp_task.proofs.ExampleCells as tagged
 use Rattle.kp_meaning.specs.Strip.{StripsToPlan}
@@ -36,22 +34,22 @@ use Rattle.kp_sound.proofs.Trees.{translations_sound}
 
 -- ---- what is computed from the texts
 
-its_ground : ground_of (domain_of cells) (problem_of one_of_three) ≡ machine.cells
+pub its_ground : ground_of (domain_of cells) (problem_of one_of_three) ≡ machine.cells
 unfolding cut_from class_of symbol_of some_at next_at
 its_ground = refl
 
-its_formula : initial_of (domain_of cells) (problem_of one_of_three) ≡ machine.one_of_three
+pub its_formula : initial_of (domain_of cells) (problem_of one_of_three) ≡ machine.one_of_three
 unfolding cut_from class_of symbol_of some_at next_at
 its_formula = refl
 
 -- of no cell it is known whether it is full
-its_start : start_of (domain_of cells) (problem_of one_of_three) ≡ []
+pub its_start : start_of (domain_of cells) (problem_of one_of_three) ≡ []
 unfolding cut_from class_of symbol_of some_at next_at
 its_start = refl
 
 -- ---- the premises
 
-its_problem : HasProblem cells one_of_three
+unfoldable pub its_problem : HasProblem cells one_of_three
 unfolding cut_from class_of symbol_of some_at next_at
 its_problem = has_problem cells one_of_three (record { domain_cut = refl; problem_cut = refl; domain_read = refl; problem_read = refl; domain_faults = refl; problem_faults = refl })
 
@@ -68,7 +66,7 @@ no_clash = rw (its_ground, its_formula) machine.never
 safe : IsSafelyWritten (domain_of cells) (problem_of one_of_three) (empty_tag (domain_of cells) (problem_of one_of_three))
 safe = record { writable = trees_writable; table_for = empty_tag_is_table (domain_of cells) (problem_of one_of_three); no_clash = no_clash }
 
-no_fault : HasNoFault (domain_of cells) (problem_of one_of_three)
+pub no_fault : HasNoFault (domain_of cells) (problem_of one_of_three)
 unfolding cut_from class_of symbol_of some_at next_at
 no_fault = record { domain = refl; problem = refl }
 
@@ -81,7 +79,7 @@ plain = refl
 still_unknown : (k : Facts) → ((l : Lit) → k l ≡ false) → (l : Lit) → facts_after machine.left k l ≡ false
 still_unknown k h l = rw (h (positive 2), h (positive 1), h l, and-false (same_lit (positive 1) l), and-false (same_lit (negative 2) l), and-false (same_lit (positive 0) l), and-false (same_lit (negative 1) l)) refl
 
-unmet : (ms : List MachineStep) (k : Known) → ((l : Lit) → k 0 l ≡ false) → accepts_from machine.cells (one_tag_table []) k ms ≡ true → ⊥
+pub unmet : (ms : List MachineStep) (k : Known) → ((l : Lit) → k 0 l ≡ false) → accepts_from machine.cells (one_tag_table []) k ms ≡ true → ⊥
 unmet [] k h e = false≢true (rw (h (positive 0)) at e)
 unmet (MachineStep.act zero ∷ ms) k h e = unmet ms (after_act (Some machine.left) k) (still_unknown (k 0) h) e
 unmet (MachineStep.act (suc n) ∷ ms) k h e = false≢true e
@@ -100,7 +98,7 @@ right = rw (its_ground, its_formula) machine.right
 valid : AreValid (initial_of (domain_of cells) (problem_of one_of_three)) machine.table
 valid = rw its_formula machine.valid
 
-table_for : IsTableFor (domain_of cells) (problem_of one_of_three) machine.table
+pub table_for : IsTableFor (domain_of cells) (problem_of one_of_three) machine.table
 table_for = record { right = right; valid = valid; targets = (subst (λ (g : Ground). 0 < length g.atoms) (sym its_ground) (omega arith), tt); tags_fit = omega arith; merges_fit = omega arith }
 
 -- two steps and the merge are a plan of what is written

@@ -1,3 +1,5 @@
 pub mod Trees
+pub mod Lifting
 pub mod ExampleTrees
 pub mod ExampleCells
+pub mod ExampleLifts

@@ -1,15 +1,20 @@
--- The plans of what is written for two trees, or two texts, and a table of tags and merges: they strip to plans of these.
-use Rattle.std.specs.Prelude.{◌≡◌, ℕ, true, List}
+-- The plans of what is written for two trees, or two texts, and a table of tags and merges: they strip to plans of these, and with a complete table each plan of these is the strip of one.
+use Rattle.std.specs.Prelude.{◌≡◌, ℕ, true, List, Some, map}
 use Rattle.kp_base.specs.declared.ground.TagTable.{TagTable}
+use Rattle.kp_base.specs.Implicates.{IsOfItsAtoms}
 use Rattle.kp_base.specs.Clashes.{NeverClashes}
+use Rattle.kp_base.specs.Covering.{IsComplete}
+use Rattle.kp_complete.specs.Lifts.{lifted}
 use Rattle.kp_grammar.specs.declared.tree.Word.{Word}
 use Rattle.kp_grammar.specs.Trees.{Domain, Problem}
 use Rattle.kp_meaning.specs.Faults.{HasNoFault}
 use Rattle.kp_meaning.specs.Steps.{Step}
 use Rattle.kp_meaning.specs.Plans.{HasProblem, IsPlan}
-use Rattle.kp_meaning.specs.Strip.{StripsToSolution, PlansStrip}
+use Rattle.kp_meaning.specs.Initial.{HasInitialState}
+use Rattle.kp_meaning.specs.Strip.{strip, StripsToSolution, PlansStrip}
 use Rattle.kp_meaning.specs.NumberLaws.{is_plain_goal}
 use Rattle.kp_task.specs.Writable.{IsWritableTask}
+use Rattle.kp_task.specs.Accepted.{name_at, IsAccepted}
 use Rattle.kp_given.specs.Translations.{ground_of, initial_of}
 use Rattle.kp_given.specs.Tables.{IsTableFor, translation_of}
 
@@ -28,3 +33,29 @@ WrittenPlansStripToSolutions = (d : Domain Word) (p : Problem Word) (table : Tag
 -- where two texts have a problem and nothing clashes, each plan of what is written for it with such a table strips to a plan of the texts
 abbrev pub TranslationsAreSound : Type 0
 TranslationsAreSound = (domain problem : List ℕ) (x : HasProblem domain problem) (table : TagTable) → IsTableFor x.domain x.problem table → NeverClashes (ground_of x.domain x.problem) (initial_of x.domain x.problem) → PlansStrip (translation_of x.domain x.problem table).domain (translation_of x.domain x.problem table).problem domain problem
+
+-- ---- lifting
+
+-- the steps by name that lifted actions have are a plan of what is written, and strip to the names of the actions
+pub record IsWrittenLift (d : Domain Word) (p : Problem Word) (table : TagTable) (numbers : List ℕ) (steps : List Step) : Type 0 where
+  pub is_plan : IsPlan (translation_of d p table).domain (translation_of d p table).problem steps
+  pub names : List Step
+  pub are_names : map (name_at (ground_of d p)) numbers ≡ map Some names
+  pub strips : strip steps ≡ Some names
+
+-- where two texts have a problem, and a table is one for it: so it is with actions whose lifted list the machine accepts
+abbrev pub LiftsAreWritten : Type 0
+LiftsAreWritten = (domain problem : List ℕ) (x : HasProblem domain problem) (table : TagTable) → IsTableFor x.domain x.problem table → (numbers : List ℕ) (steps : List Step)
+    → IsAccepted (ground_of x.domain x.problem) table steps (lifted (ground_of x.domain x.problem) table numbers) → IsWrittenLift x.domain x.problem table numbers steps
+
+-- a list of steps by name lifts: they are actions, and their lifted list is accepted and has these steps by name
+pub record Lifts (d : Domain Word) (p : Problem Word) (table : TagTable) (plan : List Step) : Type 0 where
+  pub numbers : List ℕ
+  pub are_names : map (name_at (ground_of d p)) numbers ≡ map Some plan
+  pub steps : List Step
+  pub accepted : IsAccepted (ground_of d p) table steps (lifted (ground_of d p) table numbers)
+
+-- where two texts have a problem in which some state is initial, and the table for it is complete, each plan of the texts lifts
+abbrev pub PlansLift : Type 0
+PlansLift = (domain problem : List ℕ) (x : HasProblem domain problem) (table : TagTable) → HasInitialState x.problem → IsOfItsAtoms (ground_of x.domain x.problem) → IsTableFor x.domain x.problem table → IsComplete (ground_of x.domain x.problem) (initial_of x.domain x.problem) table
+    → (plan : List Step) → IsPlan domain problem plan → Lifts x.domain x.problem table plan

@@ -6,8 +6,7 @@ use Rattle.kp_base.specs.declared.ground.Initial.{Initial}
 use Rattle.kp_base.specs.declared.ground.TagTable.{TagTable}
 use Rattle.kp_base.specs.declared.refused.Refused.{Refused}
 use Rattle.kp_base.specs.declared.refused.Stop.TheVariants as stops
-use Rattle.kp_base.specs.Entailed.{IsConsistent, IsClosure}
-use Rattle.kp_machine.specs.Formulas.{HaveSameModels}
+use Rattle.kp_base.specs.Entailed.{IsConsistent, IsClosure, HaveSameModels}
 use Rattle.kp_first.specs.Ordered.{AreFirst}
 use Rattle.kp_first.proofs.Unique.{first_by_passing}
 use Rattle.kp_cover.specs.Valid.{satisfies_one, is_outside}

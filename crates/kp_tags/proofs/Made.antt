@@ -18,7 +18,7 @@ use Rattle.kp_first.specs.Ordered.{state_of, AreFirst}
 use Rattle.kp_cover.specs.Valid.{AreValidTags, satisfies_one, is_outside}
 use Rattle.kp_base.specs.Implicates.{IsOfItsAtoms}
 use Rattle.kp_merges.specs.declared.merge.FileMerge.{FileMerge}
-use Rattle.kp_machine.specs.Formulas.{HaveSameModels}
+use Rattle.kp_base.specs.Entailed.{HaveSameModels}
 use Rattle.kp_modes.specs.Modes.{way_of, AreMergesOf}
 use Rattle.kp_modes.specs.Answers.{AnswersMode}
 use Rattle.kp_modes.proofs.Good.{merges_good}

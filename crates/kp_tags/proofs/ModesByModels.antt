@@ -6,7 +6,7 @@ use Rattle.kp_base.specs.declared.ground.Initial.{Initial}
 use Rattle.kp_base.specs.declared.ground.TagTable.{TagTable}
 use Rattle.kp_base.specs.declared.refused.Stop.TheVariants as stops
 use Rattle.kp_base.specs.Covering.{Covers, IsCovered}
-use Rattle.kp_machine.specs.Formulas.{HaveSameModels}
+use Rattle.kp_base.specs.Entailed.{HaveSameModels}
 use Rattle.kp_modes.specs.Modes.{way_of}
 use Rattle.kp_modes.proofs.ByModels.{back, candidate, merges_by, refused_by}
 use Rattle.kp_tags.specs.Made.{RefusesMade}

@@ -10,8 +10,7 @@ use Rattle.kp_base.specs.declared.refused.Stop.{Stop}
 use Rattle.kp_base.specs.declared.refused.Stop.TheVariants as stops
 use Rattle.kp_base.specs.Covering.{AreUncovered}
 use Rattle.kp_base.specs.Implicates.{IsOfItsAtoms}
-use Rattle.kp_base.specs.Entailed.{IsTable, AreValid}
-use Rattle.kp_machine.specs.Formulas.{HaveSameModels}
+use Rattle.kp_base.specs.Entailed.{IsTable, AreValid, HaveSameModels}
 use Rattle.kp_merges.specs.declared.merge.FileMerge.{FileMerge}
 use Rattle.kp_tags.specs.Tables.{IsTableOf}
 use Rattle.kp_tags.specs.Answers.{AreAllAcceptable, AnswersTable}

@@ -13,6 +13,7 @@ mod rows;
 mod tags;
 
 pub use accepting::accept_merges;
+pub use kp_base::Mode;
 pub use kp_merges::{FileMerge, merges_text, read_merges};
 pub use laws::{
     accepted_tables_are_right, coverage_goes_by_models, made_tables_are_right,

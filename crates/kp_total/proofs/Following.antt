@@ -1,25 +1,23 @@
 -- What follows from how a run ends.
-use Rattle.std.proofs.Common.{◌≡◌, ◌≢◌, ◌⊎◌, ◌++◌, ℕ, List, [], ◌∷◌, Option, Some, None, Vec, map, codes, length, inl, inr, refl, sym, ap, ◌∙◌, subst}
+use Rattle.std.proofs.Common.{◌≡◌, ◌≢◌, ◌⊎◌, ◌++◌, ℕ, List, [], ◌∷◌, Option, Some, None, Vec, map, length, inl, inr, refl, sym, ap, ◌∙◌, subst}
 use Rattle.std.specs.FinMap.{get}
 use Rattle.std.specs.declared.alloc.Global.{Global}
-use Rattle.kp_base.specs.declared.refused.Refused.TheVariants as refusals
 use Rattle.kp_base.specs.Lists.{Member}
 use Rattle.kp_grammar.specs.declared.tree.Word.{Word}
 use Rattle.kp_grammar.specs.Trees.{Domain, Problem}
 use Rattle.kp_plans.specs.PlanFiles.{names}
-use Rattle.kp_plans.specs.Printed.{plan_text}
 use Rattle.kp_outside.specs.Outside.{FileMap, with_bytes}
 use Rattle.kp_outcome.specs.declared.outcome.FilePut.{FilePut}
 use Rattle.kp_outcome.specs.declared.outcome.Outcome.{Outcome}
 use Rattle.kp_outcome.specs.declared.status.Status.{Status}
 use Rattle.kp_outcome.specs.declared.status.Status.TheVariants as status
 use Rattle.kp_outcome.specs.Ends.{Outside, IsAnswer, AreHeld, with_files, StopsAt, CarriesOut, whole, put_failed, put_no_memory, print_failed, print_no_memory}
-use Rattle.kp_words.specs.Names.{Source, of_mode, of_file, Translate, Merges, Strip, Check}
+use Rattle.kp_words.specs.Names.{Source, of_mode, Translate, Strip, Check, Lift}
 use Rattle.kp_words.specs.declared.command.Command.{Command}
 use Rattle.kp_words.specs.declared.command.Command.TheVariants as commands
-use Rattle.kp_words.specs.Command.{IsTranslate, IsCommand, inputs_of, outputs_of}
-use Rattle.kp_prepared.specs.Refusing.{refuses, named_in}
-use Rattle.kp_prepared.specs.Prepared.{clash, by_texts, by_trees, Comes, early, later}
+use Rattle.kp_words.specs.Command.{IsCommand, inputs_of, outputs_of}
+use Rattle.kp_prepared.specs.Refusing.{refuses}
+use Rattle.kp_prepared.specs.Prepared.{by_texts, by_trees, Comes, early, later}
 use Rattle.kp_base.specs.declared.refused.Refused.{Refused}
 use Rattle.kp_printed.specs.Refusals.{Named, nothing}
 use Rattle.kp_base.specs.declared.ground.Ground.{Ground}
@@ -28,20 +26,15 @@ use Rattle.kp_base.specs.declared.ground.TagTable.{TagTable}
 use Rattle.kp_check.specs.declared.answer.Judged.{Judged}
 use Rattle.kp_check.specs.declared.answer.Judged.TheVariants.{Yes, No}
 use Rattle.kp_given.specs.Translations.{ground_of, initial_of}
-use Rattle.kp_run.specs.Outcomes.{translates, TranslatesGround, over, done, TranslatesIn, none_made, made, ListsMerges, unmade, listed, MergesTrees, TranslatesWith, long_merges, no_merges, no_table, with_table, TranslatesBy, TranslatesTexts, StripsText, too_long, no_plan, no_strip, strips, prints, ChecksPlan, long_plan, no_steps, unknown_step, judged, ChecksTrees, named_with, tells, ComesTo, translated, merged, stripped, checked, IsDue, usage, of_command}
+use Rattle.kp_inputs.specs.Tables.{ComesByTable, no_table, with_table}
+use Rattle.kp_inputs.specs.Actions.{ComesByPlan, no_actions, with_actions}
+use Rattle.kp_run.specs.Outcomes.{translates, TranslatesGround, over, done, TranslatesTrees, ListsMerges, MergesTrees, StripsText, too_long, no_plan, no_strip, strips, tells, TellsJudged, ChecksTrees, LiftsActions, lifts, fails, LiftsPlan, no_task, with_task, LiftsTrees, ComesTo, translated, merged, stripped, checked, lifted, IsDue, usage, of_command}
 use Rattle.kp_run.specs.Ends.{Ends, came, read_failed, no_memory}
-use Rattle.kp_total.specs.Follows.{AnswersAreWhole, TheDueIsCarriedOut, IsAnsweredBy, TheDueIsTheAnswer, EndsWith, TranslationsAreAnswered, MergesAreListed, CompleteIsPrinted, MergesAreAnswered, ClashesAreAnswered, ChecksAreAnswered, ChecksAreTrue, StripsAreAnswered, OnlyDonePuts, DonePutsTheOutputs, OthersPutNothing, NoCommandPutsNothing, none_put, some_put, all_put, PutsAreOfTheDue, none_told, some_told, TextsAreOfTheDue, ReadFaultsTellNothing, ReadFaultsAreTrue, WriteFaultsAreTrue, FailedGetsAreTold, FailedWritesAreTold, MissingInputsAreFaults, InputsAreReadInOrder}
-use Rattle.kp_printed.specs.Coverage.{coverage_text}
-use Rattle.kp_merges.specs.Printed.{merges_of, merges_text}
-use Rattle.kp_cover.proofs.Answered.{none_uncovered}
-use Rattle.kp_decided.proofs.Covered.{complete_with_none}
-use Rattle.kp_base.specs.Covering.{AreUncovered}
-use Rattle.kp_base.specs.declared.limits.Mode.{Mode}
+use Rattle.kp_total.specs.Follows.{AnswersAreWhole, TheDueIsCarriedOut, IsAnsweredBy, TheDueIsTheAnswer, EndsWith, OnlyDonePuts, DonePutsTheOutputs, OthersPutNothing, NoCommandPutsNothing, none_put, some_put, all_put, PutsAreOfTheDue, none_told, some_told, TextsAreOfTheDue, ReadFaultsTellNothing, ReadFaultsAreTrue, WriteFaultsAreTrue, FailedGetsAreTold, FailedWritesAreTold, MissingInputsAreFaults, InputsAreReadInOrder}
 use Rattle.kp_base.specs.declared.lit.Lit.{Lit}
 use Rattle.kp_words.proofs.OneCommand.{one_command}
 use Rattle.kp_run.proofs.Answered.{outcomes_are_answers}
 use Rattle.kp_total.proofs.OneOutcome.{one_outcome}
-use Rattle.kp_total.proofs.YesPlans.{problem_of, yes_is_a_plan}
 
 -- ---- an answer and its outcome
 
@@ -80,74 +73,10 @@ the_due_is_the_answer words old new s ends m o held due none = by ends
     by (no_memory is calm untouched) = inr is
 
 -- a run ends with the outcome that is due
-ends_with : (words : List (Vec ℕ Global)) (old new : Outside) (s : Status) → Ends words old new s → (m : FileMap) (o : Outcome) → old.held ≡ Some m → IsDue words (Some m) o → EndsWith o old new s
+pub ends_with : (words : List (Vec ℕ Global)) (old new : Outside) (s : Status) → Ends words old new s → (m : FileMap) (o : Outcome) → old.held ≡ Some m → IsDue words (Some m) o → EndsWith o old new s
 ends_with words old new s ends m o held due =
     let here = subst (λ h. IsDue words h o) (sym held) due in
     record { carried_out = the_due_is_carried_out words old new s ends m o held here; answered = the_due_is_the_answer words old new s ends m o held here }
-
--- what the files that a translation names come to
-merges_due : (words : List (Vec ℕ Global)) (m : FileMap) (c : Translate) (domain problem : List ℕ) (merges : List (List ℕ)) (o : Outcome)
-    → IsTranslate words c → AreHeld (Some m) (inputs_of (commands.Translate c)) (domain ∷ problem ∷ merges) → TranslatesTexts c domain problem merges o → IsDue words (Some m) o
-merges_due words m c domain problem merges o is held comes = of_command (commands.Translate c) (domain ∷ problem ∷ merges) o is held (translated c domain problem merges o comes)
-
-pub translations_are_answered : TranslationsAreAnswered
-translations_are_answered words old new s ends m c mode d p table ls held is source g h =
-    ends_with words old new s ends m _ held (merges_due words m c g.domain g.problem [] (translates c (ground_of d p) table ls) is (rw (source, g.domain_held, g.problem_held) refl)
-    (later d p g.trees g.prepared (subst (λ x. TranslatesBy c x [] d p (translates c (ground_of d p) table ls)) (sym source) (made table h.made (done ls h.fits h.are_uncovered refl)))))
-
-pub merges_are_listed : MergesAreListed
-merges_are_listed words old new s ends m c d p table held is g h =
-    let o = prints (merges_text (ground_of d p).atoms (merges_of table)) in
-    ends_with words old new s ends m _ held (of_command (commands.Merges c) (g.domain ∷ g.problem ∷ []) o is (rw (g.domain_held, g.problem_held) refl)
-    (merged c g.domain g.problem o (later d p g.trees g.prepared (listed table h refl))))
-
-pub complete_is_printed : CompleteIsPrinted
-complete_is_printed g i table ls proper are = (
-  λ printed. complete_with_none g i table proper (subst (AreUncovered g i table) (none ls printed) are),
-  λ whole. ap (coverage_text g.atoms) (none_uncovered g i table ls are whole),
-)
-  where
-    none : (ls : List Lit) → coverage_text g.atoms ls ≡ codes "complete\n" → ls ≡ []
-    none [] e = refl
-    none (l ∷ ls) e = absurd cc
-
-pub merges_are_answered : MergesAreAnswered
-merges_are_answered words old new s ends m c name d p table ls held is named g h =
-    ends_with words old new s ends m _ held (merges_due words m c g.domain g.problem (h.text ∷ []) (translates c (ground_of d p) table ls) is (rw (named, g.domain_held, g.problem_held, h.held) refl)
-    (later d p g.trees g.prepared (subst (λ x. TranslatesBy c x (h.text ∷ []) d p (translates c (ground_of d p) table ls)) (sym named) (with_table h.merges table h.short h.reads h.accepted (done ls h.fits h.are_uncovered refl)))))
-
-pub clashes_are_answered : ClashesAreAnswered
-clashes_are_answered words old new s ends m c domain problem merges d p at held is all trees started clashes =
-    ends_with words old new s ends m _ held (merges_due words m c domain problem merges (refuses (named_in (ground_of d p)) (refusals.Clash at)) is all (early (by_trees d p (named_in (ground_of d p)) (refusals.Clash at) trees (clash at started clashes) refl)))
-
-pub checks_are_answered : ChecksAreAnswered
-checks_are_answered words old new s ends m c d p steps j held is g h =
-    ends_with words old new s ends m _ held (of_command (commands.Check c) (g.domain ∷ g.problem ∷ h.text ∷ []) (tells (ground_of d p) (length steps) j) is (rw (g.domain_held, g.problem_held, h.held) refl)
-    (checked c g.domain g.problem h.text (tells (ground_of d p) (length steps) j) (later d p g.trees g.prepared (judged steps h.numbers j h.short h.reads h.known h.answers refl))))
-
--- a verdict is Done exactly where it is yes
-done_yes : (g : Ground) (steps : ℕ) (j : Judged) → (tells g steps j).status ≡ status.Done → j ≡ Yes
-done_yes g steps Yes e = refl
-done_yes g steps (No ps k l) e = absurd cc
-
-yes_done : (g : Ground) (steps : ℕ) (j : Judged) → j ≡ Yes → (tells g steps j).status ≡ status.Done
-yes_done g steps j is = ap (λ v. (tells g steps v).status) is
-
-pub checks_are_true : ChecksAreTrue
-checks_are_true words old new s ends m c d p steps j held is g h answer =
-    let whole = answers_are_whole words old new s ends answer in
-    let due = of_command (commands.Check c) (g.domain ∷ g.problem ∷ h.text ∷ []) (tells (ground_of d p) (length steps) j) is (rw (g.domain_held, g.problem_held, h.held) refl)
-    (checked c g.domain g.problem h.text (tells (ground_of d p) (length steps) j) (later d p g.trees g.prepared (judged steps h.numbers j h.short h.reads h.known h.answers refl))) in
-    let same = one_outcome words m whole.outcome (tells (ground_of d p) (length steps) j) (subst (λ x. IsDue words x whole.outcome) held whole.due) due in
-    let ended : s ≡ (tells (ground_of d p) (length steps) j).status = whole.answered.status_is ∙ ap (λ (o : Outcome). o.status) same in
-    let plan = yes_is_a_plan g.domain g.problem (problem_of g.domain g.problem d p g.trees) g.prepared.started.initial steps h.numbers j h.known h.answers in (
-      (λ done. plan.0 (done_yes (ground_of d p) (length steps) j (sym ended ∙ done))),
-      (λ is_plan. ended ∙ yes_done (ground_of d p) (length steps) j (plan.1 is_plan)),
-    )
-
-pub strips_are_answered : StripsAreAnswered
-strips_are_answered words old new s ends m c text steps actions held is first short plan stripped_to =
-    ends_with words old new s ends m _ held (of_command (commands.Strip c) (text ∷ []) (prints (plan_text actions)) is (cc first) (stripped c text (prints (plan_text actions)) (strips steps actions short plan stripped_to refl)))
 
 -- what a translation puts is under its output names
 record PutsUnder (c : Command) (o : Outcome) : Type 0 where
@@ -183,26 +112,13 @@ ground_under : (c : Translate) (g : Ground) (i : Initial) (table : TagTable) (o 
 ground_under c g i table o (over r t e) = refusal_under (commands.Translate c) o nothing r e
 ground_under c g i table o (done ls f are e) = translation_under c g table ls o e
 
-mode_under : (c : Translate) (g : Ground) (i : Initial) (mode : Mode) (o : Outcome) → TranslatesIn c g i mode o → PutsUnder (commands.Translate c) o
-mode_under c g i mode o (none_made r a e) = refusal_under (commands.Translate c) o (named_in g) r e
-mode_under c g i mode o (made table a h) = ground_under c g i table o h
+table_under : (e : Command) (g : Ground) (i : Initial) (source : Source) (merges : List (List ℕ)) (P : TagTable → Outcome → Type 0) (o : Outcome) → ((table : TagTable) → P table o → PutsUnder e o) → ComesByTable g i source merges P o → PutsUnder e o
+table_under e g i source merges P o under (no_table names r a is) = refusal_under e o names r is
+table_under e g i source merges P o under (with_table table has h) = under table h
 
-with_under : (c : Translate) (g : Ground) (i : Initial) (text : List ℕ) (o : Outcome) → TranslatesWith c g i text o → PutsUnder (commands.Translate c) o
-with_under c g i text o (long_merges a e) = refusal_under (commands.Translate c) o nothing _ e
-with_under c g i text o (no_merges r a b e) = refusal_under (commands.Translate c) o nothing r e
-with_under c g i text o (no_table ms r a b f e) = refusal_under (commands.Translate c) o (named_in g) r e
-with_under c g i text o (with_table ms table a b f h) = ground_under c g i table o h
-
-by_under : (c : Translate) (source : Source) (merges : List (List ℕ)) (o : Outcome) (d : Domain Word) (p : Problem Word) → TranslatesBy c source merges d p o → PutsUnder (commands.Translate c) o
-by_under c (of_mode mode) [] o d p h = mode_under c (ground_of d p) (initial_of d p) mode o h
-by_under c (of_mode mode) (text ∷ others) o d p h = absurd h
-by_under c (of_file name) [] o d p h = absurd h
-by_under c (of_file name) (text ∷ []) o d p h = with_under c (ground_of d p) (initial_of d p) text o h
-by_under c (of_file name) (text ∷ other ∷ others) o d p h = absurd h
-
-listed_under : (c : Merges) (g : Ground) (i : Initial) (o : Outcome) → ListsMerges g i c.mode o → PutsUnder (commands.Merges c) o
-listed_under c g i o (unmade r a e) = refusal_under (commands.Merges c) o (named_in g) r e
-listed_under c g i o (listed table a e) = under_none (commands.Merges c) o (ap (λ (z : Outcome). z.puts) e) (λ d. refl)
+plan_under : (e : Command) (g : Ground) (text : List ℕ) (P : List ℕ → Outcome → Type 0) (o : Outcome) → ((ns : List ℕ) → P ns o → PutsUnder e o) → ComesByPlan g text P o → PutsUnder e o
+plan_under e g text P o under (no_actions named r a is) = refusal_under e o named r is
+plan_under e g text P o under (with_actions ss ns has h) = under ns h
 
 strip_under : (c : Strip) (x : List ℕ) (o : Outcome) → StripsText x o → PutsUnder (commands.Strip c) o
 strip_under c x o (too_long a e) = refusal_under (commands.Strip c) o nothing _ e
@@ -210,18 +126,24 @@ strip_under c x o (no_plan r a h e) = refusal_under (commands.Strip c) o nothing
 strip_under c x o (no_strip ss s a h n e) = refusal_under (commands.Strip c) o nothing _ e
 strip_under c x o (strips ss as' a h n e) = under_none (commands.Strip c) o (ap (λ (z : Outcome). z.puts) e) (λ d. refl)
 
-check_under : (c : Check) (g : Ground) (i : Initial) (text : List ℕ) (o : Outcome) → ChecksPlan g i text o → PutsUnder (commands.Check c) o
-check_under c g i text o (long_plan a e) = refusal_under (commands.Check c) o nothing _ e
-check_under c g i text o (no_steps r a h e) = refusal_under (commands.Check c) o nothing r e
-check_under c g i text o (unknown_step ss n a h f e) = refusal_under (commands.Check c) o (named_with g (names ss)) _ e
-check_under c g i text o (judged ss ns Yes a h f v e) = under_none (commands.Check c) o (ap (λ (z : Outcome). z.puts) e) (λ d. refl)
-check_under c g i text o (judged ss ns (No ps k l) a h f v e) = under_none (commands.Check c) o (ap (λ (z : Outcome). z.puts) e) (λ d. refl)
+judged_under : (c : Check) (g : Ground) (ns : List ℕ) (v : Judged) (o : Outcome) → o ≡ tells g (length ns) v → PutsUnder (commands.Check c) o
+judged_under c g ns Yes o e = under_none (commands.Check c) o (ap (λ (z : Outcome). z.puts) e) (λ d. refl)
+judged_under c g ns (No ps k l) o e = under_none (commands.Check c) o (ap (λ (z : Outcome). z.puts) e) (λ d. refl)
+
+actions_under : (c : Lift) (g : Ground) (table : TagTable) (ns : List ℕ) (o : Outcome) → LiftsActions g table ns o → PutsUnder (commands.Lift c) o
+actions_under c g table ns o (lifts steps h e) = under_none (commands.Lift c) o (ap (λ (z : Outcome). z.puts) e) (λ d. refl)
+actions_under c g table ns o (fails k l h e) = under_none (commands.Lift c) o (ap (λ (z : Outcome). z.puts) e) (λ d. refl)
+
+lift_under : (c : Lift) (g : Ground) (plan : List ℕ) (table : TagTable) (o : Outcome) → LiftsPlan g plan table o → PutsUnder (commands.Lift c) o
+lift_under c g plan table o (no_task r a e) = refusal_under (commands.Lift c) o nothing r e
+lift_under c g plan table o (with_task fits h) = plan_under (commands.Lift c) g plan (LiftsActions g table) o (λ ns. actions_under c g table ns o) h
 
 comes_under : (c : Command) (texts : List (List ℕ)) (o : Outcome) → ComesTo c texts o → PutsUnder c o
-comes_under _ _ o (translated c x y merges _ a) = comes_of (commands.Translate c) c.implicates x y (TranslatesBy c c.source merges) o (by_under c c.source merges o) a
-comes_under _ _ o (merged c x y _ a) = comes_of (commands.Merges c) c.implicates x y (MergesTrees c.mode) o (λ d p. listed_under c (ground_of d p) (initial_of d p) o) a
+comes_under _ _ o (translated c x y merges _ a) = comes_of (commands.Translate c) c.implicates x y (TranslatesTrees c merges) o (λ d p. table_under (commands.Translate c) (ground_of d p) (initial_of d p) c.source merges (TranslatesGround c (ground_of d p) (initial_of d p)) o (λ table. ground_under c (ground_of d p) (initial_of d p) table o)) a
+comes_under _ _ o (merged c x y _ a) = comes_of (commands.Merges c) c.implicates x y (MergesTrees c.mode) o (λ d p. table_under (commands.Merges c) (ground_of d p) (initial_of d p) (of_mode c.mode) [] (ListsMerges (ground_of d p)) o (λ table e. under_none (commands.Merges c) o (ap (λ (z : Outcome). z.puts) e) (λ n. refl))) a
 comes_under _ _ o (stripped c x _ a) = strip_under c x o a
-comes_under _ _ o (checked c x y plan _ a) = comes_of (commands.Check c) c.implicates x y (ChecksTrees plan) o (λ d p. check_under c (ground_of d p) (initial_of d p) plan o) a
+comes_under _ _ o (checked c x y plan _ a) = comes_of (commands.Check c) c.implicates x y (ChecksTrees plan) o (λ d p. plan_under (commands.Check c) (ground_of d p) plan (TellsJudged (ground_of d p) (initial_of d p)) o (λ ns j. judged_under c (ground_of d p) ns j.judged o j.told)) a
+comes_under _ _ o (lifted c x y merges plan _ a) = comes_of (commands.Lift c) c.implicates x y (LiftsTrees c merges plan) o (λ d p. table_under (commands.Lift c) (ground_of d p) (initial_of d p) c.source merges (LiftsPlan (ground_of d p) plan) o (λ table. lift_under c (ground_of d p) plan table o)) a
 
 pub done_puts_the_outputs : DonePutsTheOutputs
 done_puts_the_outputs c texts o comes = (comes_under c texts o comes).done

@@ -1,11 +1,10 @@
-pub mod OneText
-pub mod OneStart
 pub mod OneTranslation
 pub mod OneStrip
-pub mod OneCheck
 pub mod OneOutcome
 pub mod SomeStart
 pub mod SomeOutcome
 pub mod YesPlans
+pub mod LiftedPlans
 pub mod Following
 pub mod ExampleStrips
+pub mod OfCommands

@@ -1,32 +1,36 @@
 -- Words have at most one outcome on what is held.
-use Rattle.std.proofs.Common.{◌≡◌, ℕ, List, [], ◌∷◌, Some, map, refl, sym, ◌∙◌, subst}
+use Rattle.std.proofs.Common.{◌≡◌, ◌++◌, ℕ, List, [], ◌∷◌, Some, map, refl, sym, ◌∙◌, subst}
 use Rattle.std.specs.FinMap.{get}
 use Rattle.kp_given.specs.Translations.{ground_of, initial_of}
 use Rattle.kp_outside.specs.Outside.{FileMap}
 use Rattle.kp_outcome.specs.declared.outcome.Outcome.{Outcome}
 use Rattle.kp_outcome.specs.Ends.{AreHeld}
-use Rattle.kp_words.specs.Names.{Translate, Merges, Check}
+use Rattle.kp_words.specs.Names.{of_mode, Translate, Merges, Check, Lift}
 use Rattle.kp_words.specs.declared.command.Command.{Command}
 use Rattle.kp_words.specs.declared.command.Command.TheVariants as commands
 use Rattle.kp_words.specs.Command.{inputs_of}
 use Rattle.kp_words.proofs.OneCommand.{one_command}
-use Rattle.kp_run.specs.Outcomes.{TranslatesBy, TranslatesTexts, MergesTrees, MergesTexts, StripsText, ChecksTrees, ChecksTexts, ComesTo, translated, merged, stripped, checked, usage, of_command}
+use Rattle.kp_prepared.proofs.OneStart.{comes_once}
+use Rattle.kp_inputs.proofs.Commands.{by_table_once, by_plan_once}
+use Rattle.kp_run.specs.Outcomes.{TranslatesGround, TranslatesTrees, TranslatesTexts, ListsMerges, MergesTrees, MergesTexts, StripsText, TellsJudged, ChecksTrees, ChecksTexts, LiftsPlan, LiftsTrees, LiftsTexts, ComesTo, translated, merged, stripped, checked, lifted, usage, of_command}
+use Rattle.kp_run.proofs.Files.{last_once}
 use Rattle.kp_total.specs.Laws.{HasOneOutcome}
-use Rattle.kp_total.proofs.OneStart.{comes_once}
-use Rattle.kp_total.proofs.OneTranslation.{merges_once, translates_once}
+use Rattle.kp_total.proofs.OneTranslation.{table_once, verdicts_once, lifts_once}
 use Rattle.kp_total.proofs.OneStrip.{strips_once}
-use Rattle.kp_total.proofs.OneCheck.{checks_once}
 
 -- ---- one outcome of a command
 
 texts_once : (c : Translate) (x y : List ℕ) (merges : List (List ℕ)) (o u : Outcome) → TranslatesTexts c x y merges o → TranslatesTexts c x y merges u → o ≡ u
-texts_once c x y merges = comes_once c.implicates x y (TranslatesBy c c.source merges) (λ d p o u w a b. translates_once c c.source merges d p o u a b)
+texts_once c x y merges = comes_once c.implicates x y (TranslatesTrees c merges) (λ d p o u w. by_table_once (ground_of d p) (initial_of d p) c.source merges (TranslatesGround c (ground_of d p) (initial_of d p)) (table_once c (ground_of d p) (initial_of d p)) o u)
 
 listed_once : (c : Merges) (x y : List ℕ) (o u : Outcome) → MergesTexts c x y o → MergesTexts c x y u → o ≡ u
-listed_once c x y = comes_once c.implicates x y (MergesTrees c.mode) (λ d p o u w a b. merges_once (ground_of d p) (initial_of d p) c.mode o u a b)
+listed_once c x y = comes_once c.implicates x y (MergesTrees c.mode) (λ d p o u w. by_table_once (ground_of d p) (initial_of d p) (of_mode c.mode) [] (ListsMerges (ground_of d p)) (λ t o u e f. e ∙ sym f) o u)
 
 plans_once : (c : Check) (x y plan : List ℕ) (o u : Outcome) → ChecksTexts c x y plan o → ChecksTexts c x y plan u → o ≡ u
-plans_once c x y plan = comes_once c.implicates x y (ChecksTrees plan) (λ d p o u w a b. checks_once (ground_of d p) (initial_of d p) plan o u a b)
+plans_once c x y plan = comes_once c.implicates x y (ChecksTrees plan) (λ d p o u w. by_plan_once (ground_of d p) plan (TellsJudged (ground_of d p) (initial_of d p)) (verdicts_once (ground_of d p) (initial_of d p)) o u)
+
+lifted_once : (c : Lift) (x y : List ℕ) (merges : List (List ℕ)) (plan : List ℕ) (o u : Outcome) → LiftsTexts c x y merges plan o → LiftsTexts c x y merges plan u → o ≡ u
+lifted_once c x y merges plan = comes_once c.implicates x y (LiftsTrees c merges plan) (λ d p o u w. by_table_once (ground_of d p) (initial_of d p) c.source merges (LiftsPlan (ground_of d p) plan) (λ table. lifts_once (ground_of d p) table plan) o u)
 
 outcome_once : (c : Command) (texts : List (List ℕ)) (o u : Outcome) → ComesTo c texts o → ComesTo c texts u → o ≡ u
 outcome_once _ _ o u (translated c x y merges _ a) b = go _ _ u b refl refl
@@ -41,6 +45,7 @@ outcome_once _ _ o u (translated c x y merges _ a) b = go _ _ u b refl refl
     go _ _ u (merged d v w _ b) same at = absurd cc
     go _ _ u (stripped d v _ b) same at = absurd cc
     go _ _ u (checked d v w t _ b) same at = absurd cc
+    go _ _ u (lifted d v w more t _ b) same at = absurd cc
 outcome_once _ _ o u (merged c x y _ a) b = go _ _ u b refl refl
   where
     go : (e : Command) (texts : List (List ℕ)) (u : Outcome) → ComesTo e texts u → e ≡ commands.Merges c → texts ≡ x ∷ y ∷ [] → o ≡ u
@@ -52,6 +57,7 @@ outcome_once _ _ o u (merged c x y _ a) b = go _ _ u b refl refl
         listed_once c x y o u a (subst (λ t. MergesTexts c x t u) second (subst (λ t. MergesTexts c t w u) first (subst (λ z. MergesTexts z v w u) command b)))
     go _ _ u (stripped d v _ b) same at = absurd cc
     go _ _ u (checked d v w t _ b) same at = absurd cc
+    go _ _ u (lifted d v w more t _ b) same at = absurd cc
 outcome_once _ _ o u (stripped c x _ a) b = go _ _ u b refl refl
   where
     go : (e : Command) (texts : List (List ℕ)) (u : Outcome) → ComesTo e texts u → e ≡ commands.Strip c → texts ≡ x ∷ [] → o ≡ u
@@ -59,6 +65,7 @@ outcome_once _ _ o u (stripped c x _ a) b = go _ _ u b refl refl
     go _ _ u (merged d v w _ b) same at = absurd cc
     go _ _ u (stripped d v _ b) same at = let first : v ≡ x = cc in strips_once x o u a (subst (λ t. StripsText t u) first b)
     go _ _ u (checked d v w t _ b) same at = absurd cc
+    go _ _ u (lifted d v w more t _ b) same at = absurd cc
 outcome_once _ _ o u (checked c x y plan _ a) b = go _ _ u b refl refl
   where
     go : (e : Command) (texts : List (List ℕ)) (u : Outcome) → ComesTo e texts u → e ≡ commands.Check c → texts ≡ x ∷ y ∷ plan ∷ [] → o ≡ u
@@ -71,6 +78,21 @@ outcome_once _ _ o u (checked c x y plan _ a) b = go _ _ u b refl refl
         let second : w ≡ y = cc in
         let third : t ≡ plan = cc in
         plans_once c x y plan o u a (subst (λ z. ChecksTexts c x y z u) third (subst (λ z. ChecksTexts c x z t u) second (subst (λ z. ChecksTexts c z w t u) first (subst (λ z. ChecksTexts z v w t u) command b))))
+    go _ _ u (lifted d v w more t _ b) same at = absurd cc
+outcome_once _ _ o u (lifted c x y merges plan _ a) b = go _ _ u b refl refl
+  where
+    go : (e : Command) (texts : List (List ℕ)) (u : Outcome) → ComesTo e texts u → e ≡ commands.Lift c → texts ≡ x ∷ y ∷ (merges ++ plan ∷ []) → o ≡ u
+    go _ _ u (translated d v w more _ b) same at = absurd cc
+    go _ _ u (merged d v w _ b) same at = absurd cc
+    go _ _ u (stripped d v _ b) same at = absurd cc
+    go _ _ u (checked d v w t _ b) same at = absurd cc
+    go _ _ u (lifted d v w more t _ b) same at =
+        let command : d ≡ c = cc in
+        let first : v ≡ x = cc in
+        let second : w ≡ y = cc in
+        let rest : more ++ t ∷ [] ≡ merges ++ plan ∷ [] = cc in
+        let lasts = last_once more merges t plan rest in
+        lifted_once c x y merges plan o u a (subst (λ z. LiftsTexts c x y merges z u) lasts.1 (subst (λ z. LiftsTexts c x y z t u) lasts.0 (subst (λ z. LiftsTexts c x z more t u) second (subst (λ z. LiftsTexts c z w more t u) first (subst (λ z. LiftsTexts z v w more t u) command b)))))
 
 -- names have one list of contents
 held_once : (m : FileMap) (names ts us : List (List ℕ)) → map (get m) names ≡ map Some ts → map (get m) names ≡ map Some us → ts ≡ us

@@ -1,9 +1,12 @@
 -- A command has an outcome on the contents of its files, and so have words, where the files of their command are held.
-use Rattle.std.proofs.Common.{◌≡◌, ◌≤◌, ◌⊎◌, ◌++◌, ℕ, List, [], ◌∷◌, Option, Some, None, option_map, IsSome, map, inl, inr, refl, sym, ap, subst, ◌∙◌, length, arith}
+use Rattle.std.proofs.Common.{◌≡◌, ◌⊎◌, ◌++◌, ℕ, true, nat_lt, List, [], ◌∷◌, Option, Some, None, option_map, IsSome, map, inl, inr, refl, sym, ap, subst, ◌∙◌, length, arith}
 use Rattle.std.specs.Option.{option_and_then}
+use Rattle.std.specs.List.{list_all}
+use Rattle.std.proofs.lemmas.List.{length-append}
 use Rattle.std.proofs.lemmas.Bool.{cases_lt, false≢true}
 use Rattle.std.specs.FinMap.{get}
 use Rattle.kp_base.specs.declared.refused.Part.TheVariants as parts
+use Rattle.kp_base.specs.declared.refused.Refused.{Refused}
 use Rattle.kp_base.specs.declared.refused.Refused.TheVariants as refusals
 use Rattle.kp_base.specs.declared.ground.GroundName.{GroundName}
 use Rattle.kp_base.specs.declared.ground.TagTable.{TagTable}
@@ -17,89 +20,100 @@ use Rattle.kp_given.specs.Translations.{ground_of, initial_of}
 use Rattle.kp_given.proofs.Starts.{formulas_over_atoms, states_are_models}
 use Rattle.kp_task.specs.Task.{task_of}
 use Rattle.kp_task.specs.Weight.{weight_of}
-use Rattle.kp_ktask.specs.Translated.{facts_over, weight_over}
+use Rattle.kp_classic.specs.declared.task.Task.{Task}
+use Rattle.kp_ktask.specs.Translated.{FitsLimits, RefusesTask, facts_over, weight_over}
 use Rattle.kp_merges.specs.Printed.{merges_of, merges_text}
 use Rattle.kp_decided.specs.Laws.{AreProper}
 use Rattle.kp_decided.proofs.Counting.{formulas_ascend}
-use Rattle.kp_decided.proofs.Tabling.{tables_decided}
-use Rattle.kp_decided.proofs.Made.{made_decided}
 use Rattle.kp_decided.proofs.Covered.{coverages_decided}
 use Rattle.kp_decided.proofs.Judging.{verdicts_decided}
-use Rattle.kp_decided.proofs.Finding.{steps_decided}
 use Rattle.kp_outcome.specs.declared.outcome.Outcome.{Outcome}
 use Rattle.kp_outcome.specs.Ends.{most_bytes}
-use Rattle.kp_merges.proofs.OneAnswer.{always_some as merges_always_one}
 use Rattle.kp_plans.specs.declared.step.PlanStep.{PlanStep}
-use Rattle.kp_plans.specs.PlanFiles.{names, IsPlanOf}
+use Rattle.kp_plans.specs.PlanFiles.{names}
 use Rattle.kp_plans.specs.Printed.{plan_text}
 use Rattle.kp_plans.specs.Stripping.{IsFirstUnstripped}
 use Rattle.kp_plans.proofs.WholePlans.{always_some as plans_always_one}
 use Rattle.kp_printed.specs.Refusals.{nothing}
-use Rattle.kp_words.specs.Names.{Source, of_mode, of_file, Translate}
+use Rattle.kp_words.specs.Names.{of_mode, Translate, Lift}
 use Rattle.kp_words.specs.declared.command.Command.TheVariants as commands
 use Rattle.kp_words.specs.Command.{file_of, if_named, inputs_of}
 use Rattle.kp_words.proofs.Decided.{words_decided}
 use Rattle.kp_prepared.specs.Texts.{HaveTrees}
-use Rattle.kp_prepared.specs.Refusing.{refuses, named_in}
+use Rattle.kp_prepared.specs.Refusing.{refuses}
 use Rattle.kp_prepared.specs.Prepared.{usual, IsPrepared}
 use Rattle.kp_prepared.proofs.Counted.{is_of_atoms}
-use Rattle.kp_run.specs.Outcomes.{shows_usage, translates, TranslatesGround, over, done, TranslatesIn, none_made, made, unmade, listed, MergesTrees, TranslatesWith, long_merges, no_merges, no_table, with_table, TranslatesBy, prints, StripsText, too_long, no_plan, no_strip, strips, tells, named_with, long_plan, no_steps, unknown_step, judged, ChecksTrees, translated, merged, checked, usage, of_command}
+use Rattle.kp_inputs.proofs.Ended.{found_below}
+use Rattle.kp_inputs.proofs.Commands.{by_table_some, by_plan_some}
+use Rattle.kp_complete.proofs.Failing.{lift_or_fail}
+use Rattle.kp_sound.proofs.Lifting.{there, lift_named}
+use Rattle.kp_run.specs.Outcomes.{shows_usage, translates, TranslatesGround, over, done, TranslatesTrees, ListsMerges, MergesTrees, prints, StripsText, too_long, no_plan, no_strip, strips, tells, TellsJudged, ChecksTrees, failing_step, unlifted, LiftsActions, lifts, fails, LiftsPlan, no_task, with_task, LiftsTrees, ComesTo, translated, merged, checked, lifted, usage, of_command}
 use Rattle.kp_run.specs.Outcomes as outcomes
-use Rattle.kp_run.proofs.FileMerges.{tags_of_atoms}
-use Rattle.kp_run.proofs.Checks.{inside}
 use Rattle.kp_total.specs.Laws.{CommandsHaveAnOutcome, HasSomeOutcome}
 use Rattle.kp_total.proofs.SomeStart.{some_comes}
 
--- ---- a translation
+-- ---- tables and their tasks
 
-module _ (c : Translate) (limit : ℕ) (d : Domain Word) (p : Problem Word) (x y : List ℕ) (trees : HaveTrees x y d p) (ready : IsPrepared limit d p) where
+-- a task within the limits, or a refusal
+fits_or_refused : (t : Task) → FitsLimits t usual ⊎ ((r : Refused) × RefusesTask t usual r)
+fits_or_refused t = elim (cases_lt 262144 (length t.facts)) [
+  | inl more ↦ inr (refusals.FactsOver, facts_over more)
+  | inr few ↦ elim (cases_lt 16000000 (weight_of t)) [
+    | inl heavy ↦ inr (refusals.WeightOver, weight_over few heavy)
+    | inr light ↦ inl (record { facts = few; weight = light })
+  ]
+]
+
+module _ (limit : ℕ) (d : Domain Word) (p : Problem Word) (x y : List ℕ) (trees : HaveTrees x y d p) (ready : IsPrepared limit d p) where
   own : IsOfItsAtoms (ground_of d p)
   own = is_of_atoms (numbered_problem d p) (ground_of d p) ready.started.small
 
   proper : AreProper (ground_of d p) (initial_of d p)
   proper = record { own_atoms = own; over = formulas_over_atoms d p; ascending = formulas_ascend (numbered_problem d p); model = (states_are_models d p trees.no_fault).0 ready.started.initial }
 
-  of_table : (table : TagTable) → (o : Outcome) × TranslatesGround c (ground_of d p) (initial_of d p) table o
-  of_table table = elim (cases_lt 262144 (length (task_of (ground_of d p) table).facts)) [
-    | inl more ↦ (refuses nothing refusals.FactsOver, over refusals.FactsOver (facts_over more) refl)
-    | inr few ↦ elim (cases_lt 16000000 (weight_of (task_of (ground_of d p) table))) [
-      | inl heavy ↦ (refuses nothing refusals.WeightOver, over refusals.WeightOver (weight_over few heavy) refl)
-      | inr light ↦
-          let ls = coverages_decided (ground_of d p) (initial_of d p) table proper in
-          (translates c (ground_of d p) table ls.0, done ls.0 (record { facts = few; weight = light }) ls.1 refl)
-    ]
+  -- ---- a translation
+
+  of_table : (c : Translate) (table : TagTable) → (o : Outcome) × TranslatesGround c (ground_of d p) (initial_of d p) table o
+  of_table c table = elim (fits_or_refused (task_of (ground_of d p) table)) [
+    | inr r ↦ (refuses nothing r.0, over r.0 r.1 refl)
+    | inl fits ↦
+        let ls = coverages_decided (ground_of d p) (initial_of d p) table proper in
+        (translates c (ground_of d p) table ls.0, done ls.0 fits ls.1 refl)
   ]
 
-  of_merges : (text : List ℕ) → (o : Outcome) × TranslatesWith c (ground_of d p) (initial_of d p) text o
-  of_merges text = elim (cases_lt most_bytes (length text)) [
-    | inl long ↦ (refuses nothing (refusals.TooLong parts.Merges), long_merges long refl)
-    | inr short ↦ elim (merges_always_one (ground_of d p).atoms text) [
-      | inr r ↦ (refuses nothing r.0, no_merges r.0 short r.1 refl)
-      | inl ms ↦ elim (tables_decided (length (ground_of d p).atoms) (initial_of d p) ms.0 usual.tags (formulas_over_atoms d p) (tags_of_atoms (ground_of d p).atoms text ms.0 ms.1)) [
-        | inl t ↦ let o = of_table t.0 in (o.0, with_table ms.0 t.0 short ms.1 t.1 o.1)
-        | inr r ↦ (refuses (named_in (ground_of d p)) r.0, no_table ms.0 r.0 short ms.1 r.1 refl)
-      ]
-    ]
-  ]
-
-  of_mode_made : (mode : Mode) → (o : Outcome) × TranslatesIn c (ground_of d p) (initial_of d p) mode o
-  of_mode_made mode = elim (made_decided mode usual (ground_of d p) (initial_of d p) proper) [
-    | inl t ↦ let o = of_table t.0 in (o.0, made t.0 t.1 o.1)
-    | inr r ↦ (refuses (named_in (ground_of d p)) r.0, none_made r.0 r.1 refl)
-  ]
+  of_translate : (c : Translate) (merges : List (List ℕ)) → length merges ≡ length (if_named (file_of c.source)) → (o : Outcome) × TranslatesTrees c merges d p o
+  of_translate c merges many = by_table_some (ground_of d p) (initial_of d p) c.source merges (TranslatesGround c (ground_of d p) (initial_of d p)) proper many (λ t has. of_table c t)
 
   of_listed : (mode : Mode) → (o : Outcome) × MergesTrees mode d p o
-  of_listed mode = elim (made_decided mode usual (ground_of d p) (initial_of d p) proper) [
-    | inl t ↦ (prints (merges_text (ground_of d p).atoms (merges_of t.0)), listed t.0 t.1 refl)
-    | inr r ↦ (refuses (named_in (ground_of d p)) r.0, unmade r.0 r.1 refl)
+  of_listed mode = by_table_some (ground_of d p) (initial_of d p) (of_mode mode) [] (ListsMerges (ground_of d p)) proper refl (λ t has. (prints (merges_text (ground_of d p).atoms (merges_of t)), refl))
+
+  -- ---- a check
+
+  of_check : (plan : List ℕ) → (o : Outcome) × ChecksTrees plan d p o
+  of_check plan = by_plan_some (ground_of d p) plan (TellsJudged (ground_of d p) (initial_of d p)) (λ ss ns has.
+      let v = verdicts_decided (length (ground_of d p).atoms) (ground_of d p) (initial_of d p) ns (formulas_over_atoms d p) refl own (found_below (ground_of d p) ss ns has.known) in
+      (tells (ground_of d p) (length ns) v.0, record { judged = v.0; answers = v.1; told = refl }))
+
+  -- ---- a lift
+
+  of_actions : (table : TagTable) (ns : List ℕ) → list_all (λ n. nat_lt n (length (ground_of d p).actions)) ns ≡ true → (o : Outcome) × LiftsActions (ground_of d p) table ns o
+  of_actions table ns inside = elim (lift_or_fail (ground_of d p) table ns (there (ground_of d p) ns inside)) [
+    | inl accepted ↦
+        let named = lift_named (ground_of d p) table ns inside in
+        (prints (plan_text named.0), lifts named.0 (record { steps_are = named.1; accepted = accepted }) refl)
+    | inr f ↦ (unlifted (ground_of d p) (failing_step (length ns) f.0) f.1, fails f.0 f.1 f.2 refl)
   ]
 
-of_texts : (c : Translate) (source : Source) (merges : List (List ℕ)) → length merges ≡ length (if_named (file_of source)) → (d : Domain Word) (p : Problem Word) (x y : List ℕ) → HaveTrees x y d p → IsPrepared c.implicates d p → (o : Outcome) × TranslatesBy c source merges d p o
-of_texts c (of_mode mode) [] many d p x y trees ready = of_mode_made c c.implicates d p x y trees ready mode
-of_texts c (of_mode mode) (text ∷ others) many d p x y trees ready = absurd (omega (arith, many))
-of_texts c (of_file name) [] many d p x y trees ready = absurd (omega (arith, many))
-of_texts c (of_file name) (text ∷ []) many d p x y trees ready = of_merges c c.implicates d p x y trees ready text
-of_texts c (of_file name) (text ∷ other ∷ others) many d p x y trees ready = absurd (omega (arith, many))
+  of_plan_lifted : (plan : List ℕ) (table : TagTable) → (o : Outcome) × LiftsPlan (ground_of d p) plan table o
+  of_plan_lifted plan table = elim (fits_or_refused (task_of (ground_of d p) table)) [
+    | inr r ↦ (refuses nothing r.0, no_task r.0 r.1 refl)
+    | inl fits ↦
+        let o = by_plan_some (ground_of d p) plan (LiftsActions (ground_of d p) table) (λ ss ns has. of_actions table ns (found_below (ground_of d p) ss ns has.known)) in
+        (o.0, with_task fits o.1)
+  ]
+
+  of_lift : (c : Lift) (merges : List (List ℕ)) (plan : List ℕ) → length merges ≡ length (if_named (file_of c.source)) → (o : Outcome) × LiftsTrees c merges plan d p o
+  of_lift c merges plan many = by_table_some (ground_of d p) (initial_of d p) c.source merges (LiftsPlan (ground_of d p) plan) proper many (λ t has. of_plan_lifted plan t)
 
 -- ---- a plan file
 
@@ -145,37 +159,22 @@ of_plan text = elim (cases_lt most_bytes (length text)) [
   ]
 ]
 
--- ---- a check
-
-module _ (limit : ℕ) (d : Domain Word) (p : Problem Word) (ready : IsPrepared limit d p) (text : List ℕ) where
-  of_steps : (steps : List PlanStep) → length text ≤ most_bytes → IsPlanOf text steps → (o : Outcome) × ChecksTrees text d p o
-  of_steps steps short plan = elim (steps_decided (ground_of d p).actions steps) [
-    | inl ns ↦
-        let v = verdicts_decided (length (ground_of d p).atoms) (ground_of d p) (initial_of d p) ns.0 (formulas_over_atoms d p) refl (is_of_atoms (numbered_problem d p) (ground_of d p) ready.started.small) (inside (ground_of d p) steps ns.0 ns.1) in
-        (tells (ground_of d p) (length steps) v.0, judged steps ns.0 v.0 short plan ns.1 v.1 refl)
-    | inr n ↦ (refuses (named_with (ground_of d p) (names steps)) (refusals.StepUnknown n.0), unknown_step steps n.0 short plan n.1 refl)
-  ]
-
-  of_check : (o : Outcome) × ChecksTrees text d p o
-  of_check = elim (cases_lt most_bytes (length text)) [
-    | inl long ↦ (refuses nothing (refusals.TooLong parts.Plan), long_plan long refl)
-    | inr short ↦ elim (plans_always_one text) [
-      | inr r ↦ (refuses nothing r.0, no_steps r.0 short r.1 refl)
-      | inl steps ↦ of_steps steps.0 short steps.1
-    ]
-  ]
-
 -- ---- commands
+
+-- texts but the last, and the last
+last_of : (t : List ℕ) (ts : List (List ℕ)) → (front : List (List ℕ)) × (last : List ℕ) × (t ∷ ts ≡ front ++ last ∷ [])
+last_of t [] = ([], t, refl)
+last_of t (u ∷ us) = let r = last_of u us in (t ∷ r.0, r.1, ap (λ (xs : List (List ℕ)). t ∷ xs) r.2)
 
 pub some_outcome : CommandsHaveAnOutcome
 some_outcome (commands.Translate c) (x ∷ y ∷ merges) many =
     let others : length merges ≡ length (if_named (file_of c.source)) = omega (arith, many) in
-    let t = some_comes c.implicates x y (TranslatesBy c c.source merges) (λ d p trees ready. of_texts c c.source merges others d p x y trees ready) in
+    let t = some_comes c.implicates x y (TranslatesTrees c merges) (λ d p trees ready. of_translate c.implicates d p x y trees ready c merges others) in
     (t.0, translated c x y merges t.0 t.1)
 some_outcome (commands.Translate c) [] many = absurd (omega (arith, many))
 some_outcome (commands.Translate c) (x ∷ []) many = absurd (omega (arith, many))
 some_outcome (commands.Merges c) (x ∷ y ∷ []) many =
-    let t = some_comes c.implicates x y (MergesTrees c.mode) (λ d p trees ready. of_listed (record { domain = c.domain; problem = c.problem; domain_out = []; problem_out = []; source = of_mode c.mode; implicates = c.implicates }) c.implicates d p x y trees ready c.mode) in
+    let t = some_comes c.implicates x y (MergesTrees c.mode) (λ d p trees ready. of_listed c.implicates d p x y trees ready c.mode) in
     (t.0, merged c x y t.0 t.1)
 some_outcome (commands.Merges c) [] many = absurd (omega (arith, many))
 some_outcome (commands.Merges c) (x ∷ []) many = absurd (omega (arith, many))
@@ -184,12 +183,20 @@ some_outcome (commands.Strip c) (text ∷ []) many = let t = of_plan text in (t.
 some_outcome (commands.Strip c) [] many = absurd (omega (arith, many))
 some_outcome (commands.Strip c) (x ∷ y ∷ zs) many = absurd (omega (arith, many))
 some_outcome (commands.Check c) (x ∷ y ∷ plan ∷ []) many =
-    let t = some_comes c.implicates x y (ChecksTrees plan) (λ d p trees ready. of_check c.implicates d p ready plan) in
+    let t = some_comes c.implicates x y (ChecksTrees plan) (λ d p trees ready. of_check c.implicates d p x y trees ready plan) in
     (t.0, checked c x y plan t.0 t.1)
 some_outcome (commands.Check c) [] many = absurd (omega (arith, many))
 some_outcome (commands.Check c) (x ∷ []) many = absurd (omega (arith, many))
 some_outcome (commands.Check c) (x ∷ y ∷ []) many = absurd (omega (arith, many))
 some_outcome (commands.Check c) (x ∷ y ∷ z ∷ w ∷ zs) many = absurd (omega (arith, many))
+some_outcome (commands.Lift c) [] many = absurd (omega (arith, many))
+some_outcome (commands.Lift c) (x ∷ []) many = absurd (omega (arith, many))
+some_outcome (commands.Lift c) (x ∷ y ∷ []) many = absurd (let some = length-append (if_named (file_of c.source)) (c.plan ∷ []) in omega (arith, many, some))
+some_outcome (commands.Lift c) (x ∷ y ∷ z ∷ zs) many =
+    let cut = last_of z zs in
+    let others : length cut.0 ≡ length (if_named (file_of c.source)) = (let some = length-append (if_named (file_of c.source)) (c.plan ∷ []) in let here = ap length cut.2 in let there = length-append cut.0 (cut.1 ∷ []) in omega (arith, many, some, here, there)) in
+    let t = some_comes c.implicates x y (LiftsTrees c cut.0 cut.1) (λ d p trees ready. of_lift c.implicates d p x y trees ready c cut.0 cut.1 others) in
+    (t.0, subst (λ rest. ComesTo (commands.Lift c) (x ∷ y ∷ rest) t.0) (sym cut.2) (lifted c x y cut.0 cut.1 t.0 t.1))
 
 -- contents of names are as many as these
 as_many : (X Y Z : Type 0) (f : X → Z) (g : Y → Z) (xs : List X) (ys : List Y) → map f xs ≡ map g ys → length ys ≡ length xs

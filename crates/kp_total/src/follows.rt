@@ -1,4 +1,6 @@
-ghost use Rattle.kp_total.specs.Follows.{AnswersAreWhole, TheDueIsCarriedOut, TheDueIsTheAnswer, TranslationsAreAnswered, MergesAreListed, CompleteIsPrinted, ClashesAreAnswered, MergesAreAnswered, ChecksAreAnswered, ChecksAreTrue, StripsAreAnswered, OnlyDonePuts, DonePutsTheOutputs, OthersPutNothing, NoCommandPutsNothing, PutsAreOfTheDue, TextsAreOfTheDue, ReadFaultsTellNothing, ReadFaultsAreTrue, WriteFaultsAreTrue, FailedGetsAreTold, FailedWritesAreTold, MissingInputsAreFaults, InputsAreReadInOrder};
+//! What follows from how a run ends, each law the contract of a function that does nothing.
+
+ghost use Rattle.kp_total.specs.Follows.{AnswersAreWhole, TheDueIsCarriedOut, TheDueIsTheAnswer, OnlyDonePuts, DonePutsTheOutputs, OthersPutNothing, NoCommandPutsNothing, PutsAreOfTheDue, TextsAreOfTheDue, ReadFaultsTellNothing, ReadFaultsAreTrue, WriteFaultsAreTrue, FailedGetsAreTold, FailedWritesAreTold, MissingInputsAreFaults, InputsAreReadInOrder};
 
 /// An answer comes with the whole of its outcome.
 pub fn answers_are_whole()
@@ -13,47 +15,6 @@ pub fn the_due_is_carried_out()
 /// Where no count of faults rises, the outcome that is due is the answer, or memory ran out.
 pub fn the_due_is_the_answer()
     ensures { TheDueIsTheAnswer }
-{}
-
-/// A run on files that nothing refuses ends with their translation in the mode.
-pub fn translations_are_answered()
-    ensures { TranslationsAreAnswered }
-{}
-
-/// A call for merges on such files ends with the merges of the mode.
-pub fn merges_are_listed()
-    ensures { MergesAreListed }
-{}
-
-/// `complete` is printed exactly where each target is covered.
-pub fn complete_is_printed()
-    ensures { CompleteIsPrinted }
-{}
-
-/// A run on such files and a file of merges that are accepted ends with their translation.
-pub fn merges_are_answered()
-    ensures { MergesAreAnswered }
-{}
-
-/// A run on such files and a plan ends with the verdict.
-pub fn checks_are_answered()
-    ensures { ChecksAreAnswered }
-{}
-
-/// Where two files aren't refused and steps name kept actions, a check that ends with an answer ends with Done exactly where
-/// the steps are a plan of the files.
-pub fn checks_are_true()
-    ensures { ChecksAreTrue }
-{}
-
-/// A run on files of which an action clashes ends with the lines of the first clash.
-pub fn clashes_are_answered()
-    ensures { ClashesAreAnswered }
-{}
-
-/// A run on a plan file that strips ends with what its steps come to.
-pub fn strips_are_answered()
-    ensures { StripsAreAnswered }
 {}
 
 /// Only an outcome whose status is Done puts files.

@@ -2,13 +2,14 @@
 use Rattle.std.proofs.Common.{◌≡◌, ◌≢◌, inl, inr, refl, sym, ap, subst, ◌∙◌, ℕ, List, [], ◌∷◌, Vec, map, codes}
 use Rattle.std.specs.declared.alloc.Global.{Global}
 use Rattle.kp_base.specs.declared.limits.Mode.{Mode}
-use Rattle.kp_words.specs.Names.{Source, of_mode, Translate, Merges, Strip, Check}
+use Rattle.kp_words.specs.Names.{Source, of_mode, Translate, Merges, Strip, Check, Lift}
 use Rattle.kp_words.specs.declared.command.Command.{Command}
 use Rattle.kp_words.specs.declared.command.Command.TheVariants as commands
-use Rattle.kp_words.specs.Command.{IsPositional, SaysLimit, SaysOptions, IsTranslate, IsMerges, IsStrip, IsCheck, IsCommand}
+use Rattle.kp_words.specs.Command.{IsPositional, SaysOptions, IsTranslate, IsMerges, IsStrip, IsCheck, IsLift, IsCommand}
 use Rattle.kp_words.specs.Laws.{WordsAreDecided}
-use Rattle.kp_words.proofs.Decisions.{Decided, both, same_word, other_word, names_file, says_limit, options_decided, mode_decided}
-use Rattle.kp_words.proofs.OneCommand.{whole_translate, whole_merges, whole_check}
+use Rattle.kp_words.proofs.Decisions.{Decided, both, same_word, other_word, names_file, options_decided, mode_decided}
+use Rattle.kp_words.proofs.OneCommand.{whole_translate, whole_merges}
+use Rattle.kp_words.proofs.PlanCommands.{check_decided, lift_decided, strip_decided}
 
 -- ---- a translation
 
@@ -122,72 +123,7 @@ module _ (words : List (Vec ℕ Global)) where
   merges_decided (a ∷ []) is = inr (λ h. absurd (cc (is, whole_merges words h.0 h.1)))
   merges_decided (a ∷ b ∷ []) is = inr (λ h. absurd (cc (is, whole_merges words h.0 h.1)))
 
--- ---- a check
-
--- what four words and the options have to be
-record AreChecked (t d p s : List ℕ) (options : List (List ℕ)) : Type 0 where
-  verb : t ≡ codes "check"
-  domain : IsPositional d
-  problem : IsPositional p
-  plan : IsPositional s
-  limit : (n : ℕ) × SaysLimit options n
-
-four_decided : (t d p s : List ℕ) (options : List (List ℕ)) → Decided (AreChecked t d p s options)
-four_decided t d p s options = elim
-    (both _ _ (same_word t (codes "check")) (both _ _ (names_file d) (both _ _ (names_file p) (both _ _ (names_file s) (says_limit options))))) [
-      | inl (a, (e, (f, (g, j)))) ↦ inl (record { verb = a; domain = e; problem = f; plan = g; limit = j })
-      | inr none ↦ inr (λ (h : AreChecked t d p s options). none (h.verb, (h.domain, (h.problem, (h.plan, h.limit)))))
-    ]
-
-module _ (words : List (Vec ℕ Global)) where
-  checks_if : (t d p s : List ℕ) (options : List (List ℕ)) → map (λ w. w.items) words ≡ t ∷ d ∷ p ∷ s ∷ options → AreChecked t d p s options → (c : Check) × IsCheck words c
-  checks_if t d p s options is h =
-      let c : Check = record { domain = d; problem = p; plan = s; implicates = h.limit.0 } in (
-        c,
-        record {
-          front = t ∷ d ∷ p ∷ s ∷ [];
-          options = options;
-          words_are = is;
-          files = record { words_are = ap (λ (v : List ℕ). v ∷ d ∷ p ∷ s ∷ []) h.verb; domain = h.domain; problem = h.problem; plan = h.plan };
-          limit = h.limit.1;
-        },
-      )
-
-  checked_if : (t d p s : List ℕ) (options : List (List ℕ)) → map (λ w. w.items) words ≡ t ∷ d ∷ p ∷ s ∷ options → (c : Check) → IsCheck words c → AreChecked t d p s options
-  checked_if t d p s options is c h = by (sym is ∙ whole_check words c h)
-    where
-      by : t ∷ d ∷ p ∷ s ∷ options ≡ codes "check" ∷ c.domain ∷ c.problem ∷ c.plan ∷ h.options → AreChecked t d p s options
-      by e = record {
-        verb = cc;
-        domain = subst IsPositional (let f : c.domain ≡ d = cc in f) h.files.domain;
-        problem = subst IsPositional (let f : c.problem ≡ p = cc in f) h.files.problem;
-        plan = subst IsPositional (let f : c.plan ≡ s = cc in f) h.files.plan;
-        limit = (c.implicates, subst (λ ws. SaysLimit ws c.implicates) (let f : h.options ≡ options = cc in f) h.limit);
-      }
-
-  check_decided : (ws : List (List ℕ)) → map (λ w. w.items) words ≡ ws → Decided ((c : Check) × IsCheck words c)
-  check_decided (t ∷ d ∷ p ∷ s ∷ options) is = elim (four_decided t d p s options) [
-    | inl so ↦ inl (checks_if t d p s options is so)
-    | inr none ↦ inr (λ h. none (checked_if t d p s options is h.0 h.1))
-  ]
-  check_decided [] is = inr (λ h. absurd (cc (is, whole_check words h.0 h.1)))
-  check_decided (a ∷ []) is = inr (λ h. absurd (cc (is, whole_check words h.0 h.1)))
-  check_decided (a ∷ b ∷ []) is = inr (λ h. absurd (cc (is, whole_check words h.0 h.1)))
-  check_decided (a ∷ b ∷ c ∷ []) is = inr (λ h. absurd (cc (is, whole_check words h.0 h.1)))
-
--- ---- a strip
-
-strip_decided : (words : List (Vec ℕ Global)) (ws : List (List ℕ)) → map (λ w. w.items) words ≡ ws → Decided ((c : Strip) × IsStrip words c)
-strip_decided words (verb ∷ plan ∷ []) is = elim (both (verb ≡ codes "strip") (IsPositional plan) (same_word verb (codes "strip")) (names_file plan)) [
-  | inl h ↦ inl (record { plan = plan }, record { words_are = is ∙ ap (λ (v : List ℕ). v ∷ plan ∷ []) h.0; plan = h.1 })
-  | inr none ↦ inr (λ h. none (
-    (let f : verb ≡ codes "strip" = cc (is, h.1.words_are) in f),
-    subst IsPositional (let f : h.0.plan ≡ plan = cc (is, h.1.words_are) in f) h.1.plan,
-  ))
-]
-strip_decided words [] is = inr (λ h. absurd (cc (is, h.1.words_are)))
-strip_decided words (a ∷ []) is = inr (λ h. absurd (cc (is, h.1.words_are)))
-strip_decided words (a ∷ b ∷ c ∷ more) is = inr (λ h. absurd (cc (is, h.1.words_are)))
+-- ---- any command
 
 pub words_decided : WordsAreDecided
 words_decided words = elim (translate_decided words (map (λ w. w.items) words) refl) [
@@ -198,14 +134,18 @@ words_decided words = elim (translate_decided words (map (λ w. w.items) words) 
       | inl h ↦ inl (commands.Strip h.0, h.1)
       | inr no_strip ↦ elim (check_decided words (map (λ w. w.items) words) refl) [
         | inl h ↦ inl (commands.Check h.0, h.1)
-        | inr no_check ↦ inr (none no_translation no_merges no_strip no_check)
+        | inr no_check ↦ elim (lift_decided words (map (λ w. w.items) words) refl) [
+          | inl h ↦ inl (commands.Lift h.0, h.1)
+          | inr no_lift ↦ inr (none no_translation no_merges no_strip no_check no_lift)
+        ]
       ]
     ]
   ]
 ]
   where
-    none : (((c : Translate) × IsTranslate words c) → ⊥) → (((c : Merges) × IsMerges words c) → ⊥) → (((c : Strip) × IsStrip words c) → ⊥) → (((c : Check) × IsCheck words c) → ⊥) → (c : Command) → IsCommand words c → ⊥
-    none no_translation no_merges no_strip no_check (commands.Translate c) h = no_translation (c, h)
-    none no_translation no_merges no_strip no_check (commands.Merges c) h = no_merges (c, h)
-    none no_translation no_merges no_strip no_check (commands.Strip c) h = no_strip (c, h)
-    none no_translation no_merges no_strip no_check (commands.Check c) h = no_check (c, h)
+    none : (((c : Translate) × IsTranslate words c) → ⊥) → (((c : Merges) × IsMerges words c) → ⊥) → (((c : Strip) × IsStrip words c) → ⊥) → (((c : Check) × IsCheck words c) → ⊥) → (((c : Lift) × IsLift words c) → ⊥) → (c : Command) → IsCommand words c → ⊥
+    none no_translation no_merges no_strip no_check no_lift (commands.Translate c) h = no_translation (c, h)
+    none no_translation no_merges no_strip no_check no_lift (commands.Merges c) h = no_merges (c, h)
+    none no_translation no_merges no_strip no_check no_lift (commands.Strip c) h = no_strip (c, h)
+    none no_translation no_merges no_strip no_check no_lift (commands.Check c) h = no_check (c, h)
+    none no_translation no_merges no_strip no_check no_lift (commands.Lift c) h = no_lift (c, h)

@@ -10,10 +10,10 @@ use Rattle.kp_base.specs.declared.limits.Mode.{Mode}
 use Rattle.kp_base.specs.declared.limits.Mode.TheVariants as modes
 use Rattle.kp_words.specs.Names.{Source, of_mode, of_file, Translate, Merges}
 use Rattle.kp_words.specs.declared.command.Command.TheVariants as commands
-use Rattle.kp_words.specs.Command.{mode_word, usual_mode, stated_mode, SaysSource, usual_limit, stated, SaysOptions, NamesFiles, IsTranslate, IsMerges, IsCheck, IsNoCommand}
+use Rattle.kp_words.specs.Command.{mode_word, usual_mode, stated_mode, SaysSource, usual_limit, stated, SaysOptions, NamesFiles, IsTranslate, IsMerges, IsCheck, IsLift, inputs_of, IsNoCommand}
 use Rattle.kp_words.proofs.Words.{words_differ}
 use Rattle.kp_words.proofs.SaidOnce.{mode_words, source_words, limit_words, limit_first, says_apart}
-use Rattle.kp_words.proofs.OneCommand.{StartWith, whole_translate, whole_merges, translate_first, merges_first, strip_first, check_first, apart}
+use Rattle.kp_words.proofs.OneCommand.{StartWith, whole_translate, whole_merges, whole_lift, translate_first, merges_first, strip_first, check_first, lift_first, apart}
 
 -- a word as the program gets it, of which the bytes alone matter
 abbrev word : (bytes : List ℕ) → length bytes < 2 ^ 63 → Vec ℕ Global
@@ -118,6 +118,32 @@ is_check = record {
   limit = usual_limit;
 }
 
+-- a lift, with a file of merges
+is_lift : IsLift (word (codes "lift") (omega arith) ∷ word (codes "d") (omega arith) ∷ word (codes "p") (omega arith) ∷ word (codes "t") (omega arith) ∷ word (codes "--merges") (omega arith) ∷ word (codes "m") (omega arith) ∷ []) (record { domain = codes "d"; problem = codes "p"; plan = codes "t"; source = of_file (codes "m"); implicates = 20000 })
+unfolding encode
+is_lift = record {
+  front = codes "lift" ∷ codes "d" ∷ codes "p" ∷ codes "t" ∷ [];
+  options = codes "--merges" ∷ codes "m" ∷ [];
+  words_are = refl;
+  files = record {
+    words_are = refl;
+    domain = record { not_empty = λ e. cc; no_dash = refl; utf8 = (codes "d", (refl, refl)) };
+    problem = record { not_empty = λ e. cc; no_dash = refl; utf8 = (codes "p", (refl, refl)) };
+    plan = record { not_empty = λ e. cc; no_dash = refl; utf8 = (codes "t", (refl, refl)) };
+  };
+  says = record {
+    first = codes "--merges" ∷ codes "m" ∷ [];
+    last = [];
+    words_are = refl;
+    source = (refl, record { not_empty = λ e. cc; no_dash = refl; utf8 = (codes "m", (refl, refl)) });
+    limit = usual_limit;
+  };
+}
+
+-- which reads the merges before the plan
+merges_before_plan : inputs_of (commands.Lift (record { domain = codes "d"; problem = codes "p"; plan = codes "t"; source = of_file (codes "m"); implicates = 20000 })) ≡ codes "d" ∷ codes "p" ∷ codes "m" ∷ codes "t" ∷ []
+merges_before_plan = refl
+
 -- ---- no command
 
 -- no words
@@ -126,6 +152,7 @@ no_words (commands.Strip c) h = let all = h.words_are in cc
 no_words (commands.Merges c) h = let all = whole_merges [] c h in cc
 no_words (commands.Translate c) h = let all = whole_translate [] c h in cc
 no_words (commands.Check c) h = let e = h.files.words_are in let all = h.words_are in cc
+no_words (commands.Lift c) h = let all = whole_lift [] c h in cc
 
 -- words behind `translate` that are no translation are no command
 no_translation : (words : List (Vec ℕ Global)) → StartWith words (codes "translate") → ((c : Translate) → IsTranslate words c → ⊥) → IsNoCommand words
@@ -133,6 +160,7 @@ no_translation words verb none (commands.Translate c) h = none c h
 no_translation words verb none (commands.Merges c) h = apart words (codes "translate") (codes "merges") refl verb (merges_first words c h)
 no_translation words verb none (commands.Strip c) h = apart words (codes "translate") (codes "strip") refl verb (strip_first words c h)
 no_translation words verb none (commands.Check c) h = apart words (codes "translate") (codes "check") refl verb (check_first words c h)
+no_translation words verb none (commands.Lift c) h = apart words (codes "translate") (codes "lift") refl verb (lift_first words c h)
 
 -- and words behind `merges` that are no call for merges are none
 no_merges : (words : List (Vec ℕ Global)) → StartWith words (codes "merges") → ((c : Merges) → IsMerges words c → ⊥) → IsNoCommand words
@@ -140,6 +168,7 @@ no_merges words verb none (commands.Translate c) h = apart words (codes "merges"
 no_merges words verb none (commands.Merges c) h = none c h
 no_merges words verb none (commands.Strip c) h = apart words (codes "merges") (codes "strip") refl verb (strip_first words c h)
 no_merges words verb none (commands.Check c) h = apart words (codes "merges") (codes "check") refl verb (check_first words c h)
+no_merges words verb none (commands.Lift c) h = apart words (codes "merges") (codes "lift") refl verb (lift_first words c h)
 
 -- the first file's name begins with a dash
 dashed_is_none : (p od op : Vec ℕ Global) (more : List (Vec ℕ Global)) → IsNoCommand (word (codes "translate") (omega arith) ∷ word (codes "-d") (omega arith) ∷ p ∷ od ∷ op ∷ more)

@@ -1,9 +1,9 @@
--- What stands behind the first words of a translation, and of a call for merges.
+-- What stands behind the first words of a translation, of a lift, and of a call for merges.
 use Rattle.std.proofs.Common.{◌≡◌, ℕ, List, ◌++◌, Vec, map, length, take, drop, sym, ap, subst, ◌∙◌, arith}
 use Rattle.std.proofs.lemmas.List.{take-append-drop, length-map, map-append}
 use Rattle.std.specs.declared.alloc.Global.{Global}
-use Rattle.kp_words.specs.Names.{Source, of_mode, of_file, Translate, Merges}
-use Rattle.kp_words.specs.Command.{SaysOptions, IsTranslate, IsMerges}
+use Rattle.kp_words.specs.Names.{Source, of_mode, of_file, Translate, Merges, Lift}
+use Rattle.kp_words.specs.Command.{SaysOptions, IsTranslate, IsMerges, IsLift}
 use Rattle.kp_words.proofs.Words.{same_front}
 use Rattle.kp_words.proofs.SaidOnce.{one_options}
 
@@ -19,6 +19,10 @@ module _ (words front back : List (Vec ℕ Global)) where
   -- words are no translation where no options stand behind the fifth
   pub refused_translate : front ≡ take 5 words → back ≡ drop 5 words → length front ≡ 5 → ((s : Source) (n : ℕ) → SaysOptions (map (λ w. w.items) back) s n → ⊥) → (c : Translate) → IsTranslate words c → ⊥
   refused_translate f b long none c h = none c.source c.implicates (subst (λ ws. SaysOptions ws c.source c.implicates) (behind words front back 5 f b long h.front h.options (ap length h.files.words_are) h.words_are) h.says)
+
+  -- and no lift where none stand behind the fourth
+  pub refused_lift : front ≡ take 4 words → back ≡ drop 4 words → length front ≡ 4 → ((s : Source) (n : ℕ) → SaysOptions (map (λ w. w.items) back) s n → ⊥) → (c : Lift) → IsLift words c → ⊥
+  refused_lift f b long none c h = none c.source c.implicates (subst (λ ws. SaysOptions ws c.source c.implicates) (behind words front back 4 f b long h.front h.options (ap length h.files.words_are) h.words_are) h.says)
 
   -- what a call for merges says behind its third word
   merges_say : front ≡ take 3 words → back ≡ drop 3 words → length front ≡ 3 → (c : Merges) → IsMerges words c → SaysOptions (map (λ w. w.items) back) (of_mode c.mode) c.implicates

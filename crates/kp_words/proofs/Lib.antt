@@ -4,5 +4,6 @@ pub mod SaidOnce
 pub mod Fronts
 pub mod OneCommand
 pub mod Decisions
+pub mod PlanCommands
 pub mod Decided
 pub mod Examples

@@ -2,9 +2,9 @@
 use Rattle.std.proofs.Common.{◌≡◌, ℕ, false, List, ◌∷◌, bytes_eq, Vec, map, ◌++◌, codes, refl, ap, ◌∙◌, subst}
 use Rattle.std.specs.declared.alloc.Global.{Global}
 use Rattle.kp_base.specs.declared.limits.Mode.{Mode}
-use Rattle.kp_words.specs.Names.{Source, of_mode, Translate, Merges, Strip, Check}
+use Rattle.kp_words.specs.Names.{Source, of_mode, Translate, Merges, Strip, Check, Lift}
 use Rattle.kp_words.specs.declared.command.Command.TheVariants as commands
-use Rattle.kp_words.specs.Command.{SaysLimit, SaysOptions, IsTranslate, IsMerges, IsStrip, IsCheck}
+use Rattle.kp_words.specs.Command.{SaysLimit, SaysOptions, IsTranslate, IsMerges, IsStrip, IsCheck, IsLift}
 use Rattle.kp_words.specs.Laws.{WordsAreOneCommand}
 use Rattle.kp_words.proofs.Words.{words_differ}
 use Rattle.kp_words.proofs.SaidOnce.{one_limit, one_options}
@@ -19,6 +19,9 @@ whole_merges words c is = is.words_are ∙ ap (λ front. front ++ is.options) is
 
 pub whole_check : (words : List (Vec ℕ Global)) (c : Check) (is : IsCheck words c) → map (λ w. w.items) words ≡ codes "check" ∷ c.domain ∷ c.problem ∷ c.plan ∷ is.options
 whole_check words c is = is.words_are ∙ ap (λ front. front ++ is.options) is.files.words_are
+
+pub whole_lift : (words : List (Vec ℕ Global)) (c : Lift) (is : IsLift words c) → map (λ w. w.items) words ≡ codes "lift" ∷ c.domain ∷ c.problem ∷ c.plan ∷ is.options
+whole_lift words c is = is.words_are ∙ ap (λ front. front ++ is.options) is.files.words_are
 
 -- ---- one of each command at most
 
@@ -69,6 +72,22 @@ one_check words c other is so =
     by : c.domain ≡ other.domain → c.problem ≡ other.problem → c.plan ≡ other.plan → c.implicates ≡ other.implicates → c ≡ other
     by a b d e = let same : checking c.domain c.problem c.plan c.implicates ≡ checking other.domain other.problem other.plan other.implicates = cc in same
 
+lifting : List ℕ → List ℕ → List ℕ → Source → ℕ → Lift
+lifting domain problem plan source implicates = record { domain = domain; problem = problem; plan = plan; source = source; implicates = implicates }
+
+-- words are one lift at most
+one_lift : (words : List (Vec ℕ Global)) (c other : Lift) → IsLift words c → IsLift words other → c ≡ other
+unfolding lifting
+one_lift words c other is so =
+    let w = whole_lift words c is in
+    let v = whole_lift words other so in
+    let options : is.options ≡ so.options = cc (w, v) in
+    let said = one_options so.options c.source other.source c.implicates other.implicates (subst (λ o. SaysOptions o c.source c.implicates) options is.says) so.says in
+    by (cc (w, v)) (cc (w, v)) (cc (w, v)) said.0 said.1
+  where
+    by : c.domain ≡ other.domain → c.problem ≡ other.problem → c.plan ≡ other.plan → c.source ≡ other.source → c.implicates ≡ other.implicates → c ≡ other
+    by a b d e f = let same : lifting c.domain c.problem c.plan c.source c.implicates ≡ lifting other.domain other.problem other.plan other.source other.implicates = cc in same
+
 -- words are one strip at most
 one_strip : (words : List (Vec ℕ Global)) (c d : Strip) → IsStrip words c → IsStrip words d → c ≡ d
 one_strip words c d is so = ap (λ plan. record { plan = plan }) (let same : c.plan ≡ d.plan = cc (is.words_are, so.words_are) in same)
@@ -91,6 +110,9 @@ strip_first words c is = (_, is.words_are)
 pub check_first : (words : List (Vec ℕ Global)) (c : Check) → IsCheck words c → StartWith words (codes "check")
 check_first words c is = (_, whole_check words c is)
 
+pub lift_first : (words : List (Vec ℕ Global)) (c : Lift) → IsLift words c → StartWith words (codes "lift")
+lift_first words c is = (_, whole_lift words c is)
+
 -- two different first words
 pub apart : (words : List (Vec ℕ Global)) (x y : List ℕ) → bytes_eq x y ≡ false → StartWith words x → StartWith words y → ⊥
 apart words x y differ is so = words_differ x y differ (let f = is.1 in let g = so.1 in let same : x ≡ y = cc in same)
@@ -100,15 +122,24 @@ one_command words (commands.Translate c) (commands.Translate d) is so = ap comma
 one_command words (commands.Translate c) (commands.Merges d) is so = absurd (apart _ _ _ refl (translate_first words c is) (merges_first words d so))
 one_command words (commands.Translate c) (commands.Strip d) is so = absurd (apart _ _ _ refl (translate_first words c is) (strip_first words d so))
 one_command words (commands.Translate c) (commands.Check d) is so = absurd (apart _ _ _ refl (translate_first words c is) (check_first words d so))
+one_command words (commands.Translate c) (commands.Lift d) is so = absurd (apart _ _ _ refl (translate_first words c is) (lift_first words d so))
 one_command words (commands.Merges c) (commands.Translate d) is so = absurd (apart _ _ _ refl (merges_first words c is) (translate_first words d so))
 one_command words (commands.Merges c) (commands.Merges d) is so = ap commands.Merges (one_merges words c d is so)
 one_command words (commands.Merges c) (commands.Strip d) is so = absurd (apart _ _ _ refl (merges_first words c is) (strip_first words d so))
 one_command words (commands.Merges c) (commands.Check d) is so = absurd (apart _ _ _ refl (merges_first words c is) (check_first words d so))
+one_command words (commands.Merges c) (commands.Lift d) is so = absurd (apart _ _ _ refl (merges_first words c is) (lift_first words d so))
 one_command words (commands.Strip c) (commands.Translate d) is so = absurd (apart _ _ _ refl (strip_first words c is) (translate_first words d so))
 one_command words (commands.Strip c) (commands.Merges d) is so = absurd (apart _ _ _ refl (strip_first words c is) (merges_first words d so))
 one_command words (commands.Strip c) (commands.Strip d) is so = ap commands.Strip (one_strip words c d is so)
 one_command words (commands.Strip c) (commands.Check d) is so = absurd (apart _ _ _ refl (strip_first words c is) (check_first words d so))
+one_command words (commands.Strip c) (commands.Lift d) is so = absurd (apart _ _ _ refl (strip_first words c is) (lift_first words d so))
 one_command words (commands.Check c) (commands.Translate d) is so = absurd (apart _ _ _ refl (check_first words c is) (translate_first words d so))
 one_command words (commands.Check c) (commands.Merges d) is so = absurd (apart _ _ _ refl (check_first words c is) (merges_first words d so))
 one_command words (commands.Check c) (commands.Strip d) is so = absurd (apart _ _ _ refl (check_first words c is) (strip_first words d so))
 one_command words (commands.Check c) (commands.Check d) is so = ap commands.Check (one_check words c d is so)
+one_command words (commands.Check c) (commands.Lift d) is so = absurd (apart _ _ _ refl (check_first words c is) (lift_first words d so))
+one_command words (commands.Lift c) (commands.Translate d) is so = absurd (apart _ _ _ refl (lift_first words c is) (translate_first words d so))
+one_command words (commands.Lift c) (commands.Merges d) is so = absurd (apart _ _ _ refl (lift_first words c is) (merges_first words d so))
+one_command words (commands.Lift c) (commands.Strip d) is so = absurd (apart _ _ _ refl (lift_first words c is) (strip_first words d so))
+one_command words (commands.Lift c) (commands.Check d) is so = absurd (apart _ _ _ refl (lift_first words c is) (check_first words d so))
+one_command words (commands.Lift c) (commands.Lift d) is so = ap commands.Lift (one_lift words c d is so)

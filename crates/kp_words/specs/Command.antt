@@ -4,7 +4,7 @@ use Rattle.std.specs.List.{starts_with}
 use Rattle.std.specs.declared.alloc.Global.{Global}
 use Rattle.kp_base.specs.declared.limits.Mode.{Mode}
 use Rattle.kp_base.specs.declared.limits.Mode.TheVariants as modes
-use Rattle.kp_words.specs.Names.{Source, of_mode, of_file, Translate, Merges, Strip, Check}
+use Rattle.kp_words.specs.Names.{Source, of_mode, of_file, Translate, Merges, Strip, Check, Lift}
 use Rattle.kp_words.specs.declared.command.Command.{Command}
 use Rattle.kp_words.specs.declared.command.Command.TheVariants as commands
 
@@ -106,6 +106,21 @@ pub record IsCheck (words : List (Vec ℕ Global)) (c : Check) : Type 0 where
   pub files : NamesChecked front c
   pub limit : SaysLimit options c.implicates
 
+-- the first words of `lift` say what is to be done, and name the files
+pub record NamesLifted (words : List (List ℕ)) (c : Lift) : Type 0 where
+  pub words_are : words ≡ codes "lift" ∷ c.domain ∷ c.problem ∷ c.plan ∷ []
+  pub domain : IsPositional c.domain
+  pub problem : IsPositional c.problem
+  pub plan : IsPositional c.plan
+
+-- the words are this lift
+pub record IsLift (words : List (Vec ℕ Global)) (c : Lift) : Type 0 where
+  pub front : List (List ℕ)
+  pub options : List (List ℕ)
+  pub words_are : map (λ w. w.items) words ≡ front ++ options
+  pub files : NamesLifted front c
+  pub says : SaysOptions options c.source c.implicates
+
 -- ---- the table of commands
 
 -- the words are this command
@@ -114,6 +129,7 @@ IsCommand words (commands.Translate c) = IsTranslate words c
 IsCommand words (commands.Merges c) = IsMerges words c
 IsCommand words (commands.Strip c) = IsStrip words c
 IsCommand words (commands.Check c) = IsCheck words c
+IsCommand words (commands.Lift c) = IsLift words c
 
 -- the file of merges, if they come from one
 abbrev pub file_of : Source → Option (List ℕ)
@@ -131,6 +147,7 @@ inputs_of (commands.Translate c) = c.domain ∷ c.problem ∷ if_named (file_of 
 inputs_of (commands.Merges c) = c.domain ∷ c.problem ∷ []
 inputs_of (commands.Strip c) = c.plan ∷ []
 inputs_of (commands.Check c) = c.domain ∷ c.problem ∷ c.plan ∷ []
+inputs_of (commands.Lift c) = c.domain ∷ c.problem ∷ (if_named (file_of c.source) ++ c.plan ∷ [])
 
 -- the names of the files that it writes, in order
 abbrev pub outputs_of : Command → List (List ℕ)
@@ -138,6 +155,7 @@ outputs_of (commands.Translate c) = c.domain_out ∷ c.problem_out ∷ []
 outputs_of (commands.Merges c) = []
 outputs_of (commands.Strip c) = []
 outputs_of (commands.Check c) = []
+outputs_of (commands.Lift c) = []
 
 -- the words are no command
 abbrev pub IsNoCommand : List (Vec ℕ Global) → Type 0

@@ -40,3 +40,11 @@ pub record Check : Type 0 where
   pub problem : List ℕ
   pub plan : List ℕ
   pub implicates : ℕ
+
+-- `lift`: the names of the two files and of the plan file, where the tags and merges of the written files come from, and the limit of prime implicates
+pub record Lift : Type 0 where
+  pub domain : List ℕ
+  pub problem : List ℕ
+  pub plan : List ℕ
+  pub source : Source
+  pub implicates : ℕ

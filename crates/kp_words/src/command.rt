@@ -2,6 +2,7 @@ ghost use Rattle.std.specs.Prelude.{MatchOption};
 ghost use Rattle.kp_words.specs.Command.{IsCommand, IsNoCommand};
 
 use crate::check::Check;
+use crate::lift::Lift;
 use crate::merges::Merges;
 use crate::strip::Strip;
 use crate::translate::Translate;
@@ -17,6 +18,8 @@ pub enum Command<'a> {
     Strip(Strip<'a>),
     /// Prints whether a plan works from every initial state, or the first from which it fails.
     Check(Check<'a>),
+    /// Prints a plan of the written files that comes to a given plan, or where none can.
+    Lift(Lift<'a>),
 }
 
 impl<'a> Command<'a> {
@@ -32,6 +35,9 @@ impl<'a> Command<'a> {
         }
         if let Some(check) = Check::from_words(words) {
             return Some(Command::Check(check));
+        }
+        if let Some(lift) = Lift::from_words(words) {
+            return Some(Command::Lift(lift));
         }
         Some(Command::Strip(Strip::from_words(words)?))
     }

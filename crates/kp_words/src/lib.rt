@@ -5,6 +5,7 @@
 mod check;
 mod command;
 mod law;
+mod lift;
 mod merges;
 mod options;
 mod source;
@@ -15,6 +16,7 @@ mod values;
 pub use check::Check;
 pub use command::Command;
 pub use law::{words_are_decided, words_are_one_command};
+pub use lift::Lift;
 pub use merges::Merges;
 pub use source::Source;
 pub use strip::Strip;

@@ -1,6 +1,6 @@
 use Rattle.std.proofs.Common.{sym, ap, ◌∙◌}
 use Rattle.std.proofs.lemmas.Option.{slice_get_past}
-use Rattle.kp_check.specs.Failing.{pre_of}
+use Rattle.kp_base.specs.Steps.{pre_of}
 use Rattle.kp_check.proofs.Walking.{found}
 use Rattle.kp_check.proofs.failing.pre.Goals as goal
 

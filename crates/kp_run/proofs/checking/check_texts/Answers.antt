@@ -1,21 +1,22 @@
-use Rattle.std.proofs.Common.{◌∙◌, ap, sym, subst, Err}
-use Rattle.kp_given.specs.Translations.{initial_of}
-use Rattle.kp_prepared.specs.Prepared.{AnswersPrepared, EndsEarly, early}
+use Rattle.std.proofs.Common.{ap, sym, subst, IfOk}
+use Rattle.kp_given.specs.Translations.{ground_of, initial_of}
+use Rattle.kp_prepared.specs.Prepared.{AnswersPrepared}
 use Rattle.kp_words.specs.Names.{Check}
-use Rattle.kp_run.specs.Outcomes.{ChecksTrees}
-use Rattle.kp_run.proofs.Translations.{goes_later}
-use Rattle.kp_run.proofs.Checks.{checked_given}
+use Rattle.kp_inputs.specs.Actions.{ComesByPlan}
+use Rattle.kp_inputs.proofs.Going.{later_goes, early_ends}
+use Rattle.kp_run.specs.Outcomes.{ChecksTrees, TellsJudged}
 use Rattle.kp_run.proofs.checking.check_texts.Goals as goal
 
 -- the command goes on
 pub returns-in-Ok : goal.returns-in-Ok
 returns-in-Ok c d p t first second third =
-    let w = subst (λ r. AnswersPrepared c.args.command.now.implicates d p r) c.in-Ok.is (subst (λ n. AnswersPrepared n d p c.prepare.result) (ap (λ (k : Check). k.implicates) c.command.view_is) (c.prepare.ensures.answers d p first second)) in
-    goes_later c.args.command.now.implicates d p (ChecksTrees t) c.in-Ok.prepared w c.check_plan.result
-    (checked_given w.first w.second t c.in-Ok.prepared.ground c.check_plan.result w.ground (c.check_plan.ensures t (initial_of w.first w.second) third w.primes.same_models))
+    let n = c.args.command.now.implicates in
+    let w = subst (AnswersPrepared n d p) c.in-Ok.is (subst (λ k. AnswersPrepared k d p c.prepare.result) (ap (λ (k : Check). k.implicates) c.command.view_is) (c.prepare.ensures.answers d p first second)) in
+    later_goes n d p (ChecksTrees t) c.in-Ok.prepared w c.check_plan.result
+    (subst (λ g. IfOk c.check_plan.result (ComesByPlan g t (TellsJudged g (initial_of w.first w.second)))) w.ground (c.check_plan.ensures t (initial_of w.first w.second) third w.primes.same_models))
 
 -- it ends early
-pub returns-in-Err-With : goal.returns-in-Err-With
-returns-in-Err-With c d p t first second third =
-    let w = subst (λ n. AnswersPrepared n d p c.prepare.result) (ap (λ (k : Check). k.implicates) c.command.view_is) (c.prepare.ensures.answers d p first second) in
-    early (subst (EndsEarly c.args.command.now.implicates d p) (sym c.in-Err-With.outcome-is) (subst (λ r. AnswersPrepared c.args.command.now.implicates d p r) (c.in-Err-With.is ∙ ap Err c.in-Err-With.field-0-is) w))
+pub returns-in-Err : goal.returns-in-Err
+returns-in-Err c d p t first second third =
+    let n = c.args.command.now.implicates in
+    early_ends n d p (ChecksTrees t) c.in-Err.early c.settle.result (subst (AnswersPrepared n d p) c.in-Err.is (subst (λ k. AnswersPrepared k d p c.prepare.result) (ap (λ (k : Check). k.implicates) c.command.view_is) (c.prepare.ensures.answers d p first second))) c.settle.ensures

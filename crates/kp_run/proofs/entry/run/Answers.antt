@@ -3,6 +3,7 @@ use Rattle.kp_outcome.proofs.Earlier.{carried_from}
 use Rattle.kp_run.specs.Ends.{came}
 use Rattle.kp_run.proofs.Answered.{outcomes_are_answers}
 use Rattle.kp_run.proofs.Soundness.{sound_end}
+use Rattle.kp_run.proofs.Completeness.{loses_none}
 use Rattle.kp_run.proofs.Ending.{stopped_end}
 use Rattle.kp_run.proofs.entry.run.Goals as goal
 
@@ -19,3 +20,9 @@ returns-in-Ok-clause-sound g c = sound_end c.args.words.now _ _ c.carry_out.resu
 -- there is none
 pub returns-in-Err-clause-ends : goal.returns-in-Err-clause-ends
 returns-in-Err-clause-ends g c = rw c.stopped.ensures (stopped_end c.args.words.now _ _ c.in-Err.stop (λ is. c.in-Err.ensures.failed (ap Err is)) (λ is. c.in-Err.ensures.get_faults (λ e. cc (is, e))) c.in-Err.ensures.put_faults refl (record { held = c.in-Err.ensures.contents; told = refl }))
+
+pub returns-in-Ok-clause-complete : goal.returns-in-Ok-clause-complete
+returns-in-Ok-clause-complete g c command is = loses_none c.args.words.now _ _ c.carry_out.result (returns-in-Ok-clause-ends g c) command is
+
+pub returns-in-Err-clause-complete : goal.returns-in-Err-clause-complete
+returns-in-Err-clause-complete g c command is = loses_none c.args.words.now _ _ _ (returns-in-Err-clause-ends g c) command is

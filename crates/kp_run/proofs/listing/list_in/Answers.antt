@@ -1,21 +1,20 @@
-use Rattle.std.proofs.Common.{Err, subst}
-use Rattle.kp_base.specs.declared.limits.Limits.{Limits}
-use Rattle.kp_primes.specs.Held.{formula}
-use Rattle.kp_tags.specs.Made.{IsMade, RefusesMade, AnswersMade}
-use Rattle.kp_run.proofs.Translations.{merges_unmade, merges_listed}
+use Rattle.std.proofs.Common.{[], subst}
+use Rattle.kp_words.specs.Names.{of_mode}
+use Rattle.kp_inputs.specs.Tables.{AnswersTable, from_mode}
+use Rattle.kp_inputs.proofs.Going.{table_goes, table_ends}
+use Rattle.kp_run.specs.Outcomes.{ListsMerges}
 use Rattle.kp_run.proofs.listing.list_in.Goals as goal
 
 -- there is a table
 pub returns-in-Ok : goal.returns-in-Ok
-returns-in-Ok c =
-    merges_listed c.args.prepared.now.ground (formula c.args.prepared.now.primes) c.args.mode c.in-Ok.table c.list.result
-    (subst (λ (m : Limits). IsMade c.args.mode m c.args.prepared.now.ground (formula c.args.prepared.now.primes) c.in-Ok.table) c.usual.ensures c.in-Ok.ensures) c.list.ensures
+returns-in-Ok c i same =
+    let g = c.args.prepared.now.ground in
+    table_goes g i (of_mode c.args.mode) [] (ListsMerges g) c.in-Ok.table c.list.result
+    (subst (AnswersTable g i (of_mode c.args.mode) []) c.in-Ok.is (c.table_alone.ensures (of_mode c.args.mode) [] i (from_mode c.args.mode) same)) c.list.ensures
 
 -- there is none
-pub returns-in-Err-Refused : goal.returns-in-Err-Refused
-returns-in-Err-Refused c =
+pub returns-in-Err : goal.returns-in-Err
+returns-in-Err c i same =
     let g = c.args.prepared.now.ground in
-    let i = formula c.args.prepared.now.primes in
-    let stops = subst (λ s. AnswersMade c.args.mode c.usual.result g i (Err s)) c.in-Err-Refused.field-0-is c.in-Err-Refused.ensures in
-    merges_unmade g i c.args.mode c.in-Err-Refused.refused c.refuse_in.result
-    (subst (λ (m : Limits). RefusesMade c.args.mode m g i c.in-Err-Refused.refused) c.usual.ensures stops) c.refuse_in.ensures
+    table_ends g i (of_mode c.args.mode) [] (ListsMerges g) c.in-Err.early c.settle.result
+    (subst (AnswersTable g i (of_mode c.args.mode) []) c.in-Err.is (c.table_alone.ensures (of_mode c.args.mode) [] i (from_mode c.args.mode) same)) c.settle.ensures

@@ -1,21 +1,23 @@
-use Rattle.std.proofs.Common.{◌∙◌, ap, sym, subst, Err, IfOk}
-use Rattle.kp_primes.specs.Held.{formula}
-use Rattle.kp_prepared.specs.Prepared.{AnswersPrepared, EndsEarly, early}
-use Rattle.kp_words.specs.Names.{Merges}
+use Rattle.std.proofs.Common.{[], ap, subst, IfOk}
+use Rattle.kp_given.specs.Translations.{initial_of}
+use Rattle.kp_prepared.specs.Prepared.{AnswersPrepared}
+use Rattle.kp_words.specs.Names.{Merges, of_mode}
+use Rattle.kp_inputs.specs.Tables.{ComesByTable}
+use Rattle.kp_inputs.proofs.Going.{later_goes, early_ends}
 use Rattle.kp_run.specs.Outcomes.{ListsMerges, MergesTrees}
-use Rattle.kp_run.proofs.Translations.{goes_later, given_merges}
 use Rattle.kp_run.proofs.listing.merges_of_texts.Goals as goal
 
 -- the command goes on
 pub returns-in-Ok : goal.returns-in-Ok
 returns-in-Ok c d p first second =
-    let w = subst (λ r. AnswersPrepared c.args.command.now.implicates d p r) c.in-Ok.is (subst (λ n. AnswersPrepared n d p c.prepare.result) (ap (λ (k : Merges). k.implicates) c.command.view_is) (c.prepare.ensures.answers d p first second)) in
-    goes_later c.args.command.now.implicates d p (MergesTrees c.args.command.now.mode) c.in-Ok.prepared w c.list_in.result
-    (given_merges w.first w.second c.args.command.now.mode c.in-Ok.prepared.ground (formula c.in-Ok.prepared.primes) c.list_in.result w.ground w.primes.same_models
-    (subst (λ m. IfOk c.list_in.result (ListsMerges c.in-Ok.prepared.ground (formula c.in-Ok.prepared.primes) m)) (ap (λ (k : Merges). k.mode) c.command.view_is) c.list_in.ensures))
+    let n = c.args.command.now.implicates in
+    let w = subst (AnswersPrepared n d p) c.in-Ok.is (subst (λ k. AnswersPrepared k d p c.prepare.result) (ap (λ (k : Merges). k.implicates) c.command.view_is) (c.prepare.ensures.answers d p first second)) in
+    later_goes n d p (MergesTrees c.args.command.now.mode) c.in-Ok.prepared w c.list_in.result
+    (subst (λ g. IfOk c.list_in.result (ComesByTable g (initial_of w.first w.second) (of_mode c.args.command.now.mode) [] (ListsMerges g))) w.ground
+    (subst (λ m. IfOk c.list_in.result (ComesByTable c.in-Ok.prepared.ground (initial_of w.first w.second) (of_mode m) [] (ListsMerges c.in-Ok.prepared.ground))) (ap (λ (k : Merges). k.mode) c.command.view_is) (c.list_in.ensures (initial_of w.first w.second) w.primes.same_models)))
 
 -- it ends early
-pub returns-in-Err-With : goal.returns-in-Err-With
-returns-in-Err-With c d p first second =
-    let w = subst (λ n. AnswersPrepared n d p c.prepare.result) (ap (λ (k : Merges). k.implicates) c.command.view_is) (c.prepare.ensures.answers d p first second) in
-    early (subst (EndsEarly c.args.command.now.implicates d p) (sym c.in-Err-With.outcome-is) (subst (λ r. AnswersPrepared c.args.command.now.implicates d p r) (c.in-Err-With.is ∙ ap Err c.in-Err-With.field-0-is) w))
+pub returns-in-Err : goal.returns-in-Err
+returns-in-Err c d p first second =
+    let n = c.args.command.now.implicates in
+    early_ends n d p (MergesTrees c.args.command.now.mode) c.in-Err.early c.settle.result (subst (AnswersPrepared n d p) c.in-Err.is (subst (λ k. AnswersPrepared k d p c.prepare.result) (ap (λ (k : Merges). k.implicates) c.command.view_is) (c.prepare.ensures.answers d p first second))) c.settle.ensures

@@ -2,7 +2,8 @@ use Rattle.std.proofs.Common.{◌∙◌, ℕ, List, Err, refl, subst}
 use Rattle.kp_base.specs.declared.refused.Stop.TheVariants as causes
 use Rattle.kp_plans.specs.PlanFiles.{IsPlanOf, AnswersPlan}
 use Rattle.kp_prepared.proofs.Reading.{whole}
-use Rattle.kp_run.proofs.Strips.{refused_length, refused_plan, over_length, short_length}
+use Rattle.kp_inputs.proofs.Lengths.{over_length, short_length}
+use Rattle.kp_run.proofs.Strips.{refused_length, refused_plan}
 use Rattle.kp_run.proofs.stripping.strip_text.Goals as goal
 
 -- there are more bytes than may be

@@ -1,8 +1,9 @@
 use Rattle.std.proofs.Common.{◌≡◌, ◌∙◌, length, ap, sym, subst}
+use Rattle.std.specs.Int.RustNames.{bit_or}
 use Rattle.std.specs.Vec.{with_items}
 use Rattle.std.proofs.lemmas.List.{with_items_is}
 use Rattle.kp_bits.specs.Packed.{bits_of, IsPacked}
-use Rattle.kp_bits.proofs.Packing.{same_size, same_count, ored_from, ored_row, ored_packed}
+use Rattle.kp_bits.proofs.Packing.{same_size, same_count, made_from, or_does, made_row, made_packed}
 use Rattle.kp_bits.proofs.bits.Bits.or_with.Goals as goal
 
 -- both rows have as many words
@@ -18,8 +19,8 @@ invariant_of-self c =
     let words = c.or_words.new.words in
     let written : (with_items c.self.inside.words words).items ≡ words = with_items_is c.self.inside.words words (c.or_words.ensures.len ∙ c.deref_mut.ensures.len) in
     subst (λ xs. IsPacked c.self.inside.count xs) (sym written)
-    (ored_packed _ _ c.self.inside.words.items c.other.inside.words.items words size c.self.invariant c.other.invariant
-    (ored_from _ _ words _ _ c.deref_mut.ensures.value c.deref.ensures.value (c.or_words.ensures.len, c.or_words.ensures.each)))
+    (made_packed _ _ or_does _ _ c.self.inside.words.items c.other.inside.words.items words size c.self.invariant c.other.invariant
+    (made_from bit_or _ _ words _ _ c.deref_mut.ensures.value c.deref.ensures.value (c.or_words.ensures.len, c.or_words.ensures.each)))
 
 pub returns : goal.returns
 returns c =
@@ -29,5 +30,5 @@ returns c =
     let written : (with_items c.self.inside.words words).items ≡ words = with_items_is c.self.inside.words words (c.or_words.ensures.len ∙ c.deref_mut.ensures.len) in
     rw (← c.self.view_is, ← c.other.view_is)
     (ap (bits_of c.self.inside.count) written
-    ∙ ored_row _ _ c.self.inside.words.items c.other.inside.words.items words size count
-    (ored_from _ _ words _ _ c.deref_mut.ensures.value c.deref.ensures.value (c.or_words.ensures.len, c.or_words.ensures.each)))
+    ∙ made_row _ _ or_does _ _ c.self.inside.words.items c.other.inside.words.items words size count
+    (made_from bit_or _ _ words _ _ c.deref_mut.ensures.value c.deref.ensures.value (c.or_words.ensures.len, c.or_words.ensures.each)))

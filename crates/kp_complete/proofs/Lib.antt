@@ -1,0 +1,9 @@
+pub mod Merges
+pub mod Lifted
+pub mod Failing
+pub mod Relevance
+pub mod Facts
+pub mod Primes
+pub mod Covered
+pub mod Complete
+pub mod ExampleEither

@@ -1,0 +1,12 @@
+pub mod FileMerges
+pub mod Lengths
+pub mod Right
+pub mod ByModels
+pub mod OneTable
+pub mod SomeTable
+pub mod OnePlan
+pub mod Ended
+pub mod Commands
+pub mod Going
+pub mod TablesFor
+pub mod Named

@@ -1,0 +1,4 @@
+pub mod Tables
+pub mod Actions
+pub mod Laws
+pub mod Ending

@@ -1,0 +1,5 @@
+pub mod Tables
+pub mod Stepping
+pub mod Missing
+pub mod Closures
+pub mod ExampleKnowing

@@ -1,0 +1,5 @@
+pub mod Named
+pub mod Merges
+pub mod Ending
+pub mod Items
+pub mod ExampleEither

@@ -1,0 +1,107 @@
+-- The last printed line is `complete` just where no target is uncovered.
+use Rattle.std.proofs.Common.{◌≡◌, ◌⊎◌, ◌++◌, ◌∙◌, ℕ, Bool, true, false, List, [], ◌∷◌, Option, Some, None, if◌then◌else◌, codes, decimal, length, slice_get, inl, inr, refl, sym, ap, append_assoc, arith}
+use Rattle.kp_base.specs.declared.ground.GroundName.{GroundName}
+use Rattle.kp_base.specs.declared.ground.Ground.{Ground}
+use Rattle.kp_base.specs.declared.ground.TagTable.{TagTable}
+use Rattle.kp_base.specs.declared.lit.Lit.{Lit}
+use Rattle.kp_task.specs.Task.{task_of}
+use Rattle.kp_printed.specs.Names.{objects_text, name_text, atom_text, literal_text}
+use Rattle.kp_printed.specs.Coverage.{uncovered_lines, coverage_text}
+use Rattle.kp_translation.specs.Report.{count_line, counts_of}
+use Rattle.kp_run.specs.Completeness.{PrintsComplete}
+
+-- ---- how a text ends
+
+-- the text ends with a line feed behind something that isn't the letter e
+record EndsOtherwise (text : List ℕ) : Type 0 where
+  front : List ℕ
+  before : ℕ
+  is : text ≡ front ++ before ∷ 10 ∷ []
+  no_e : before ≡ 101 → ⊥
+
+behind : (front text : List ℕ) → EndsOtherwise text → EndsOtherwise (front ++ text)
+behind front text h = record { front = front ++ h.front; before = h.before; is = ap (front ++◌) h.is ∙ sym (append_assoc front h.front (h.before ∷ 10 ∷ [])); no_e = h.no_e }
+
+-- the last but one of a list is one
+last_but_one : (xs ys : List ℕ) (a b c d : ℕ) → xs ++ a ∷ b ∷ [] ≡ ys ++ c ∷ d ∷ [] → a ≡ c
+last_but_one [] [] a b c d e = cc
+last_but_one [] (y ∷ []) a b c d e = absurd cc
+last_but_one [] (y ∷ z ∷ []) a b c d e = absurd cc
+last_but_one [] (y ∷ z ∷ w ∷ ys) a b c d e = absurd cc
+last_but_one (x ∷ []) [] a b c d e = absurd cc
+last_but_one (x ∷ z ∷ []) [] a b c d e = absurd cc
+last_but_one (x ∷ z ∷ w ∷ xs) [] a b c d e = absurd cc
+last_but_one (x ∷ xs) (y ∷ ys) a b c d e = let rest : xs ++ a ∷ b ∷ [] ≡ ys ++ c ∷ d ∷ [] = cc in last_but_one xs ys a b c d rest
+
+not_complete : (text : List ℕ) → EndsOtherwise text → PrintsComplete text → ⊥
+not_complete text h p = h.no_e (last_but_one h.front (p.front ++ codes "\ncomplet") h.before 10 101 10 (sym h.is ∙ (p.are ∙ sym (append_assoc p.front (codes "\ncomplet") (codes "e\n")))))
+
+-- ---- lines of targets
+
+-- a text is empty, or ends with a bracket
+IsClosed : List ℕ → Type 0
+IsClosed text = (text ≡ []) ⊎ ((front : List ℕ) × (text ≡ front ++ codes ")"))
+
+name_closed : (n : GroundName) → IsClosed (name_text n)
+unfolding IsClosed
+name_closed n = inr (codes "(" ++ (n.head ++ objects_text n.objects), ap (codes "(" ++◌) (sym (append_assoc n.head (objects_text n.objects) (codes ")"))) ∙ sym (append_assoc (codes "(") (n.head ++ objects_text n.objects) (codes ")")))
+
+atom_closed : (o : Option GroundName) → IsClosed (atom_text o)
+unfolding IsClosed
+atom_closed None = inl refl
+atom_closed (Some n) = name_closed n
+
+denied_closed : (text : List ℕ) → IsClosed (codes "(not " ++ (text ++ codes ")"))
+unfolding IsClosed
+denied_closed text = inr (codes "(not " ++ text, sym (append_assoc (codes "(not ") text (codes ")")))
+
+literal_closed : (atoms : List GroundName) (l : Lit) → IsClosed (literal_text atoms l)
+literal_closed atoms l = by l.positive
+  where
+    by : (b : Bool) → IsClosed (if b then atom_text (slice_get atoms l.atom.0) else codes "(not " ++ (atom_text (slice_get atoms l.atom.0) ++ codes ")"))
+    by true = atom_closed (slice_get atoms l.atom.0)
+    by false = denied_closed (atom_text (slice_get atoms l.atom.0))
+
+-- behind a blank, such a text and a line feed end otherwise
+line_ends : (front text : List ℕ) → IsClosed text → EndsOtherwise ((front ++ 32 ∷ []) ++ (text ++ (10 ∷ [] ++ [])))
+unfolding IsClosed
+line_ends front text (inl e) = record { front = front; before = 32; is = ap (λ t. (front ++ 32 ∷ []) ++ (t ++ 10 ∷ [])) e ∙ append_assoc front (32 ∷ []) (10 ∷ []); no_e = λ f. omega (arith, f) }
+line_ends front text (inr h) = behind (front ++ 32 ∷ []) (text ++ (10 ∷ [] ++ [])) (record { front = h.0; before = 41; is = ap (λ t. t ++ 10 ∷ []) h.1 ∙ append_assoc h.0 (codes ")") (10 ∷ []); no_e = λ f. omega (arith, f) })
+
+-- the line of a target
+target_ends : (atoms : List GroundName) (l : Lit) → EndsOtherwise (codes "uncovered " ++ (literal_text atoms l ++ (codes "\n" ++ [])))
+target_ends atoms l = line_ends (codes "uncovered") (literal_text atoms l) (literal_closed atoms l)
+
+lines_end : (atoms : List GroundName) (l : Lit) (ls : List Lit) → EndsOtherwise (uncovered_lines atoms (l ∷ ls))
+lines_end atoms l [] = target_ends atoms l
+lines_end atoms l (m ∷ ls) = behind (codes "uncovered ") _ (behind (literal_text atoms l) _ (behind (codes "\n") (uncovered_lines atoms (m ∷ ls)) (lines_end atoms m ls)))
+
+-- behind whichever counts, `complete` is told where nothing is uncovered alone
+pub none_uncovered : (counts : List ℕ) (atoms : List GroundName) (ls : List Lit) → PrintsComplete (counts ++ coverage_text atoms ls) → ls ≡ []
+none_uncovered counts atoms [] p = refl
+none_uncovered counts atoms (l ∷ ls) p = absurd (not_complete _ (behind counts _ (behind (codes "incomplete\n") (uncovered_lines atoms (l ∷ ls)) (lines_end atoms l ls))) p)
+
+-- ---- counts
+
+-- counts end with a line feed
+record EndsLine (text : List ℕ) : Type 0 where
+  front : List ℕ
+  is : text ≡ front ++ codes "\n"
+
+line_behind : (front text : List ℕ) → EndsLine text → EndsLine (front ++ text)
+line_behind front text h = record { front = front ++ h.front; is = ap (front ++◌) h.is ∙ sym (append_assoc front h.front (codes "\n")) }
+
+line_end : (word : List ℕ) (n : ℕ) → EndsLine (count_line word n)
+line_end word n = line_behind word (codes " " ++ (decimal n ++ codes "\n")) (line_behind (codes " ") (decimal n ++ codes "\n") (record { front = decimal n; is = refl }))
+
+counts_end : (g : Ground) (table : TagTable) → EndsLine (counts_of g table)
+counts_end g table =
+    line_behind (count_line (codes "atoms") (length g.atoms)) _
+    (line_behind (count_line (codes "actions") (length g.actions)) _
+    (line_behind (count_line (codes "tags") (length table.tags)) _
+    (line_behind (count_line (codes "merges") (length table.merges)) _
+    (line_end (codes "facts") (length (task_of g table).facts)))))
+
+-- so it is told there
+pub complete_told : (g : Ground) (table : TagTable) → PrintsComplete (counts_of g table ++ coverage_text g.atoms [])
+complete_told g table = let h = counts_end g table in record { front = h.front; are = ap (λ x. x ++ codes "complete\n") h.is ∙ append_assoc h.front (codes "\n") (codes "complete\n") }

@@ -1,0 +1,252 @@
+-- Where a translation told `complete`, each plan of its files lifts.
+use Rattle.std.proofs.Common.{◌≡◌, ◌∙◌, ◌++◌, ℕ, Bool, true, false, List, [], ◌∷◌, Some, Vec, map, inl, inr, refl, sym, ap, subst}
+use Rattle.std.proofs.lemmas.Bool.{false≢true}
+use Rattle.std.specs.FinMap.{get}
+use Rattle.std.specs.declared.alloc.Global.{Global}
+use Rattle.kp_base.specs.declared.ground.Ground.{Ground}
+use Rattle.kp_base.specs.declared.ground.Initial.{Initial}
+use Rattle.kp_base.specs.declared.ground.TagTable.{TagTable}
+use Rattle.kp_base.specs.Implicates.{IsOfItsAtoms}
+use Rattle.kp_base.specs.Covering.{IsComplete, AreUncovered}
+use Rattle.kp_complete.specs.Lifts.{lifted as lift_of, UnliftedAt}
+use Rattle.kp_complete.proofs.Lifted.{lists_strip}
+use Rattle.kp_complete.proofs.Failing.{dont_lift}
+use Rattle.kp_grammar.specs.declared.tree.Word.{Word}
+use Rattle.kp_grammar.specs.Trees.{Domain, Problem}
+use Rattle.kp_meaning.specs.Numbering.{numbered_problem}
+use Rattle.kp_meaning.specs.Steps.{Step}
+use Rattle.kp_meaning.specs.Plans.{HasProblem, IsPlan}
+use Rattle.kp_meaning.specs.Strip.{strip}
+use Rattle.kp_decided.specs.Laws.{AreProper}
+use Rattle.kp_decided.proofs.Counting.{formulas_ascend}
+use Rattle.kp_decided.proofs.Covered.{complete_with_none}
+use Rattle.kp_plans.specs.Printed.{plan_text}
+use Rattle.kp_task.specs.Task.{task_of}
+use Rattle.kp_task.specs.Accepted.{step_at}
+use Rattle.kp_translation.specs.Report.{counts_of}
+use Rattle.kp_given.specs.Translations.{ground_of, initial_of}
+use Rattle.kp_given.specs.Tables.{IsTableFor, translation_of}
+use Rattle.kp_given.proofs.Starts.{formulas_over_atoms, states_are_models}
+use Rattle.kp_sound.specs.Laws.{IsWrittenLift, Lifts}
+use Rattle.kp_sound.proofs.Lifting.{lifts_written, plans_lift}
+use Rattle.kp_outside.specs.Outside.{FileMap, with_bytes}
+use Rattle.kp_outcome.specs.declared.outcome.Outcome.{Outcome}
+use Rattle.kp_outcome.specs.declared.status.Status.{Status}
+use Rattle.kp_outcome.specs.declared.status.Status.TheVariants as status
+use Rattle.kp_outcome.specs.Ends.{Outside, AreHeld, with_files, CarriesOut, whole, put_failed, put_no_memory, print_failed, print_no_memory}
+use Rattle.kp_words.specs.Names.{Source, Translate, Lift}
+use Rattle.kp_words.specs.declared.command.Command.{Command}
+use Rattle.kp_words.specs.declared.command.Command.TheVariants as commands
+use Rattle.kp_words.specs.Command.{IsTranslate, IsLift, file_of, if_named, inputs_of}
+use Rattle.kp_words.proofs.OneCommand.{one_command}
+use Rattle.kp_printed.specs.Coverage.{coverage_text}
+use Rattle.kp_prepared.specs.Prepared.{usual}
+use Rattle.kp_prepared.proofs.Counted.{is_of_atoms}
+use Rattle.kp_prepared.proofs.OneStart.{comes_later, prepared_above}
+use Rattle.kp_inputs.specs.Tables.{HasTable, ComesByTable, no_table, with_table}
+use Rattle.kp_inputs.specs.Actions.{HasActions, ComesByPlan, no_actions, with_actions}
+use Rattle.kp_inputs.proofs.OneTable.{one_table}
+use Rattle.kp_inputs.proofs.OnePlan.{one_plan, some_alike}
+use Rattle.kp_inputs.proofs.Named.{found_at}
+use Rattle.kp_run.specs.Outcomes.{prints, LiftsActions, lifts, fails, LiftsPlan, no_task, with_task, LiftsTrees, LiftsTexts, ComesTo, translated, merged, stripped, checked, lifted, IsDue, usage, of_command}
+use Rattle.kp_run.specs.Ends.{Ends, came, read_failed, no_memory}
+use Rattle.kp_run.specs.Completeness as complete
+use Rattle.kp_run.specs.Completeness.{PrintsComplete, RanComplete, IsOfTheSame, HoldsPlan, LosesNoPlan}
+use Rattle.kp_run.proofs.Files.{last_once}
+use Rattle.kp_run.proofs.Tasks.{task_or_within}
+use Rattle.kp_run.proofs.CompleteText.{none_uncovered}
+use Rattle.kp_run.proofs.Soundness.{problem_of, IsDone, AreBoth, both_held, all_done, is_table, first_put, second_put}
+
+-- ---- the translation
+
+-- what a translation that ran and ended with Done came to
+record DidTranslate (t : Translate) (before after : FileMap) (text : List ℕ) : Type 0 where
+  outcome : Outcome
+  apart : (t.domain_out ≡ t.problem_out) → ⊥
+  both : AreBoth before t outcome
+  done : outcome.status ≡ status.Done
+  puts : Some after ≡ with_files (Some before) outcome.puts
+  told : text ≡ outcome.text
+
+after_front : (front xs ys : List ℕ) → front ++ xs ≡ front ++ ys → xs ≡ ys
+after_front [] xs ys e = e
+after_front (z ∷ front) xs ys e = let rest : front ++ xs ≡ front ++ ys = cc in after_front front xs ys rest
+
+did_translate : (words : List (Vec ℕ Global)) (t : Translate) (before after : FileMap) (r : RanComplete words t before after) → DidTranslate t before after r.text
+did_translate words t before after r = by r.ended
+  where
+    of_due : (o : Outcome) → IsDue words (Some before) o → o.status ≡ status.Done → Some after ≡ with_files (Some before) o.puts → r.text ≡ o.text → DidTranslate t before after r.text
+    of_due _ (usage none) done puts told = absurd cc
+    of_due o (of_command e texts _ so held comes) done puts told = record {
+      outcome = o;
+      apart = r.is_translate.files.outputs_differ;
+      both = both_held before t e texts o (one_command words (commands.Translate t) e r.is_translate so) held comes;
+      done = done;
+      puts = puts;
+      told = told;
+    }
+
+    by : Ends words r.old r.new status.Done → DidTranslate t before after r.text
+    by (came o due (whole same none held told)) =
+        of_due o (subst (λ m. IsDue words m o) r.held_before due) (sym same)
+        (sym r.held_after ∙ (held ∙ ap (λ m. with_files m o.puts) r.held_before))
+        (after_front r.earlier r.text o.text (let e = sym r.told_after ∙ (told ∙ ap (λ m. with_bytes m o.text) r.told_before) in cc))
+    by (came o due (put_failed f e a b g h i)) = absurd cc
+    by (came o due (put_no_memory f e a b g)) = absurd cc
+    by (came o due (print_failed e a b g h i has_text)) = absurd cc
+    by (came o due (print_no_memory e a b g has_text)) = absurd cc
+    by (read_failed d e k a b g h) = absurd cc
+    by (no_memory e a b) = absurd cc
+
+-- ---- the lift
+
+module _ (t : Translate) (before after : FileMap) (text : List ℕ) (x : DidTranslate t before after text) (told_complete : PrintsComplete text) (c : Lift) (now : FileMap) (same : IsOfTheSame t before c now) (plan : List Step) (holds : HoldsPlan now c plan) where
+  abbrev y : IsDone t x.both.domain x.both.problem x.both.merges x.outcome
+  y = all_done before after t x.outcome x.apart x.both x.done x.puts
+
+  abbrev d : Domain Word
+  d = y.first
+
+  abbrev p : Problem Word
+  p = y.second
+
+  abbrev g : Ground
+  g = ground_of d p
+
+  abbrev i : Initial
+  i = initial_of d p
+
+  abbrev has : HasProblem x.both.domain x.both.problem
+  has = problem_of x.both.domain x.both.problem d p y.trees
+
+  table_is : IsTableFor d p y.table
+  table_is = is_table before after t x.outcome x.apart x.both x.done x.puts
+
+  own : IsOfItsAtoms g
+  own = is_of_atoms (numbered_problem d p) g y.prepared.started.small
+
+  proper : AreProper g i
+  proper = record { own_atoms = own; over = formulas_over_atoms d p; ascending = formulas_ascend (numbered_problem d p); model = (states_are_models d p y.trees.no_fault).0 y.prepared.started.initial }
+
+  -- the table is complete
+  is_complete : IsComplete g i y.table
+  is_complete =
+      let text_is : text ≡ counts_of g y.table ++ coverage_text g.atoms y.ground.uncovered = x.told ∙ ap (λ (z : Outcome). z.text) y.ground.outcome in
+      complete_with_none g i y.table proper (subst (AreUncovered g i y.table) (none_uncovered (counts_of g y.table) g.atoms y.ground.uncovered (subst PrintsComplete text_is told_complete)) y.ground.are_uncovered)
+
+  -- what the lift's names hold
+  held_now : map (get now) (c.domain ∷ c.problem ∷ if_named (file_of c.source)) ≡ map Some (x.both.domain ∷ x.both.problem ∷ x.both.merges)
+  held_now = sym same.held ∙ subst (λ s. map (get before) (c.domain ∷ c.problem ∷ if_named (file_of s)) ≡ map Some (x.both.domain ∷ x.both.problem ∷ x.both.merges)) same.source (subst (λ n. map (get before) (c.domain ∷ n ∷ if_named (file_of t.source)) ≡ map Some (x.both.domain ∷ x.both.problem ∷ x.both.merges)) same.problem (subst (λ n. map (get before) (n ∷ t.problem ∷ if_named (file_of t.source)) ≡ map Some (x.both.domain ∷ x.both.problem ∷ x.both.merges)) same.domain x.both.all_held))
+
+  same_domain : holds.domain ≡ x.both.domain
+  same_domain = let h = held_now in let e : get now c.domain ≡ Some x.both.domain = cc in let f = sym holds.domain_held ∙ e in cc
+
+  same_problem : holds.problem ≡ x.both.problem
+  same_problem = let h = held_now in let e : get now c.problem ≡ Some x.both.problem = cc in let f = sym holds.problem_held ∙ e in cc
+
+  -- the plan lifts, and so to a plan of what was put
+  lift : Lifts d p y.table plan
+  lift = plans_lift x.both.domain x.both.problem has y.table y.prepared.started.initial own table_is is_complete plan (subst (λ z. IsPlan x.both.domain z plan) same_problem (subst (λ z. IsPlan z holds.problem plan) same_domain holds.is_plan))
+
+  written : IsWrittenLift d p y.table lift.numbers lift.steps
+  written = lifts_written x.both.domain x.both.problem has y.table table_is lift.numbers lift.steps lift.accepted
+
+  strips : strip lift.steps ≡ Some plan
+  strips = written.strips ∙ ap Some (some_alike written.names plan (sym written.are_names ∙ lift.are_names))
+
+  actions : HasActions g holds.text holds.steps lift.numbers
+  actions = record { short = holds.short; reads = holds.reads; known = found_at d p y.trees.no_fault holds.steps lift.numbers (lift.are_names ∙ ap (map Some) (sym holds.names_are)) }
+
+  abbrev prints_it : Outcome
+  prints_it = prints (plan_text lift.steps)
+
+  of_lift : (ns : List ℕ) (o : Outcome) → ns ≡ lift.numbers → LiftsActions g y.table ns o → o ≡ prints_it
+  of_lift ns o e (lifts steps k is) = is ∙ ap (λ z. prints (plan_text z)) (some_alike steps lift.steps (sym (subst (λ (z : List ℕ). map (step_at g y.table) (lift_of g y.table z) ≡ map Some steps) e k.steps_are) ∙ lift.accepted.steps_are))
+  of_lift ns o e (fails k l f is) =
+      absurd (false≢true (sym (dont_lift g y.table (lift_of g y.table lift.numbers) k l (subst (λ z. UnliftedAt g y.table z k l) (e ∙ sym (lists_strip g y.table lift.numbers)) f)) ∙ lift.accepted.accepted))
+
+  of_plan : (o : Outcome) → LiftsPlan g holds.text y.table o → o ≡ prints_it
+  of_plan o (no_task r a e) = absurd (task_or_within (task_of g y.table) usual r a y.ground.fits)
+  of_plan o (with_task fits (no_actions named r why e)) = absurd ((one_plan g holds.text).either holds.steps lift.numbers named r actions why)
+  of_plan o (with_task fits (with_actions ss ns k h)) = of_lift ns o ((one_plan g holds.text).actions ss holds.steps ns lift.numbers k actions) h
+
+  abbrev has_table : HasTable g i c.source x.both.merges y.table
+  has_table = subst (λ s. HasTable g i s x.both.merges y.table) same.source y.has_table
+
+  of_trees : (o : Outcome) → LiftsTrees c x.both.merges holds.text d p o → o ≡ prints_it
+  of_trees o (no_table names r why e) = absurd ((one_table g i c.source x.both.merges).either y.table names r has_table why)
+  of_trees o (with_table v k h) = of_plan o (subst (λ z. LiftsPlan g holds.text z o) ((one_table g i c.source x.both.merges).tables v y.table k has_table) h)
+
+  of_texts : (o : Outcome) → LiftsTexts c x.both.domain x.both.problem x.both.merges holds.text o → o ≡ prints_it
+  of_texts o h = of_trees o (comes_later c.implicates x.both.domain x.both.problem (LiftsTrees c x.both.merges holds.text) d p o y.trees (prepared_above t.implicates c.implicates d p same.implicates y.prepared) h)
+
+  -- the contents of the lift's names
+  all_now : map (get now) (inputs_of (commands.Lift c)) ≡ map Some (x.both.domain ∷ x.both.problem ∷ (x.both.merges ++ holds.text ∷ []))
+  all_now = let h = held_now in cc (first h, second h, behind (if_named (file_of c.source)) x.both.merges (third h))
+    where
+      first : map (get now) (c.domain ∷ c.problem ∷ if_named (file_of c.source)) ≡ map Some (x.both.domain ∷ x.both.problem ∷ x.both.merges) → get now c.domain ≡ Some x.both.domain
+      first h = cc
+
+      second : map (get now) (c.domain ∷ c.problem ∷ if_named (file_of c.source)) ≡ map Some (x.both.domain ∷ x.both.problem ∷ x.both.merges) → get now c.problem ≡ Some x.both.problem
+      second h = cc
+
+      third : map (get now) (c.domain ∷ c.problem ∷ if_named (file_of c.source)) ≡ map Some (x.both.domain ∷ x.both.problem ∷ x.both.merges) → map (get now) (if_named (file_of c.source)) ≡ map Some x.both.merges
+      third h = cc
+
+      behind : (names texts : List (List ℕ)) → map (get now) names ≡ map Some texts → map (get now) (names ++ c.plan ∷ []) ≡ map Some (texts ++ holds.text ∷ [])
+      behind [] [] e = ap (λ z. z ∷ []) holds.plan_held
+      behind [] (u ∷ us) e = absurd cc
+      behind (n ∷ ns) [] e = absurd cc
+      behind (n ∷ ns) (u ∷ us) e = let here : get now n ≡ Some u = cc in let rest : map (get now) ns ≡ map Some us = cc in cc (here, behind ns us rest)
+
+  of_command_is : (e : Command) (texts : List (List ℕ)) (o : Outcome) → commands.Lift c ≡ e → AreHeld (Some now) (inputs_of e) texts → ComesTo e texts o → o ≡ prints_it
+  of_command_is e texts o is held comes = go e texts is comes (some_alike texts (x.both.domain ∷ x.both.problem ∷ (x.both.merges ++ holds.text ∷ [])) (sym (subst (λ z. AreHeld (Some now) (inputs_of z) texts) (sym is) held) ∙ all_now))
+    where
+      go : (e : Command) (texts : List (List ℕ)) → commands.Lift c ≡ e → ComesTo e texts o → texts ≡ x.both.domain ∷ x.both.problem ∷ (x.both.merges ++ holds.text ∷ []) → o ≡ prints_it
+      go _ _ is (translated e v w more _ b) at = absurd cc
+      go _ _ is (merged e v w _ b) at = absurd cc
+      go _ _ is (stripped e v _ b) at = absurd cc
+      go _ _ is (checked e v w u _ b) at = absurd cc
+      go _ _ is (lifted e v w more u _ b) at =
+          let command : e ≡ c = cc in
+          let first : v ≡ x.both.domain = cc in
+          let second : w ≡ x.both.problem = cc in
+          let rest : more ++ u ∷ [] ≡ x.both.merges ++ holds.text ∷ [] = cc in
+          let lasts = last_once more x.both.merges u holds.text rest in
+          of_texts o (subst (λ z. LiftsTexts c x.both.domain x.both.problem x.both.merges z o) lasts.1 (subst (λ z. LiftsTexts c x.both.domain x.both.problem z u o) lasts.0 (subst (λ z. LiftsTexts c x.both.domain z more u o) second (subst (λ z. LiftsTexts c z w more u o) first (subst (λ z. LiftsTexts z v w more u o) command b)))))
+
+  lifted_to : (old new : Outside) (s : Status) → s ≡ status.Done → new.told ≡ with_bytes old.told (plan_text lift.steps) → complete.IsLiftedTo t after plan old new s
+  lifted_to old new s is told = record {
+    domain_out = (translation_of d p y.table).domain;
+    problem_out = (translation_of d p y.table).problem;
+    written = lift.steps;
+    status_is = is;
+    domain_put = first_put before after t x.outcome x.apart x.both x.done x.puts;
+    problem_put = second_put before after t x.outcome x.apart x.both x.done x.puts;
+    is_plan = written.is_plan;
+    strips = strips;
+    told = told;
+  }
+
+  of_due : (words : List (Vec ℕ Global)) (o : Outcome) → IsLift words c → IsDue words (Some now) o → o ≡ prints_it
+  of_due words _ is (usage none) = absurd (none (commands.Lift c) is)
+  of_due words o is (of_command e texts _ so held comes) = of_command_is e texts o (one_command words (commands.Lift c) e is so) held comes
+
+  ends_lifted : (words : List (Vec ℕ Global)) (old new : Outside) (s : Status) → Ends words old new s → IsLift words c → old.held ≡ Some now → complete.Lifts t after plan old new s
+  ends_lifted words old new s (came o due carried) is held = by carried
+    where
+      it : o ≡ prints_it
+      it = of_due words o is (subst (λ m. IsDue words m o) held due)
+
+      by : CarriesOut o old new s → complete.Lifts t after plan old new s
+      by (whole same_status none puts told) = inl (lifted_to old new s (same_status ∙ ap (λ (z : Outcome). z.status) it) (told ∙ ap (λ (z : Outcome). with_bytes old.told z.text) it))
+      by (put_failed f e a b h j k) = inr (inr (inr e))
+      by (put_no_memory f e a b h) = inr (inl e)
+      by (print_failed e a b h j k has_text) = inr (inr (inr e))
+      by (print_no_memory e a b h has_text) = inr (inl e)
+  ends_lifted words old new s (read_failed e so is_fault a b h j) is held = inr (inr (inl is_fault))
+  ends_lifted words old new s (no_memory e a b) is held = inr (inl e)
+
+pub loses_none : (words : List (Vec ℕ Global)) (old new : Outside) (s : Status) → Ends words old new s → (c : Lift) → IsLift words c → LosesNoPlan c old new s
+loses_none words old new s ends c is t_words t before after now plan r held same holds =
+    ends_lifted t before after r.text (did_translate t_words t before after r) r.complete c now same plan holds words old new s ends is held

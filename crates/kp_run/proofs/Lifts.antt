@@ -1,0 +1,66 @@
+-- What a plan is lifted to, from what the code finds.
+use Rattle.std.proofs.Common.{◌≡◌, ◌∙◌, ℕ, true, nat_lt, List, length, map, Result, Ok, Err, IfOk, sym, ap}
+use Rattle.std.specs.List.{list_all}
+use Rattle.std.proofs.lemmas.Bool.{lt-ltb}
+use Rattle.std.proofs.lemmas.Option.{slice_get_within}
+use Rattle.kp_base.specs.declared.lit.Lit.{Lit}
+use Rattle.kp_base.specs.declared.memory.Memory.{Memory}
+use Rattle.kp_base.specs.declared.ground.Ground.{Ground}
+use Rattle.kp_base.specs.declared.ground.Initial.{Initial}
+use Rattle.kp_base.specs.declared.ground.TagTable.{TagTable}
+use Rattle.kp_base.specs.declared.refused.Refused.{Refused}
+use Rattle.kp_base.specs.Implicates.{IsOfItsAtoms}
+use Rattle.kp_base.proofs.Lists.{all_from}
+use Rattle.kp_base.proofs.Lits.{has-member}
+use Rattle.kp_task.specs.Task.{task_of}
+use Rattle.kp_ktask.specs.Translated.{FitsLimits, RefusesTask}
+use Rattle.kp_printed.specs.Refusals.{nothing}
+use Rattle.kp_outcome.specs.declared.outcome.Outcome.{Outcome}
+use Rattle.kp_words.specs.Names.{Source}
+use Rattle.kp_prepared.specs.Refusing.{refuses}
+use Rattle.kp_prepared.specs.Prepared.{usual}
+use Rattle.kp_inputs.specs.Actions.{ComesByPlan}
+use Rattle.kp_inputs.specs.Tables.{HasTable}
+use Rattle.kp_inputs.proofs.Right.{tables_right}
+use Rattle.kp_inputs.proofs.TablesFor.{targets_are, target_within}
+use Rattle.kp_lift.specs.declared.lifting.Lifting.TheVariants as Lifting
+use Rattle.kp_lift.specs.Lifting.{IsTableOn, AnswersLifting, operator_step}
+use Rattle.kp_lift.proofs.Named.{lifted_operators_steps}
+use Rattle.kp_run.specs.Outcomes.{LiftsActions, lifts, fails, LiftsPlan, no_task, with_task, unlifted, failing_step}
+use Rattle.kp_run.specs.Tables.{PrintsOperators}
+
+-- ---- with a table
+
+-- a task is refused
+pub task_refused : (g : Ground) (plan : List ℕ) (table : TagTable) (x : Refused) (r : Result Outcome Memory) → RefusesTask (task_of g table) usual x → IfOk r (λ o. o ≡ refuses nothing x) → IfOk r (LiftsPlan g plan table)
+task_refused g plan table x (Ok o) too is = no_task x too is
+task_refused g plan table x (Err m) too is = tt
+
+-- it is within the limits
+pub task_fits : (g : Ground) (plan : List ℕ) (table : TagTable) (r : Result Outcome Memory) → FitsLimits (task_of g table) usual → IfOk r (ComesByPlan g plan (LiftsActions g table)) → IfOk r (LiftsPlan g plan table)
+task_fits g plan table (Ok o) fits h = with_task fits h
+task_fits g plan table (Err m) fits h = tt
+
+-- the table of a source is on the atoms of the ground problem
+pub table_on : (g : Ground) (i : Initial) (source : Source) (merges : List (List ℕ)) (table : TagTable) → IsOfItsAtoms g → HasTable g i source merges table → IsTableOn g table
+table_on g i source merges table own has =
+    let right = (tables_right g i source merges table own has).0 in
+    record {
+      some_tag = slice_get_within table.tags 0 right.first.0 right.first.1;
+      closures = λ row there. all_from (λ l. nat_lt l.atom.0 (length g.atoms)) row.closure (λ l in-closure. lt-ltb l.atom.0 (length g.atoms) ((right.closures row there).of_atoms l (has-member row.closure l in-closure)));
+      targets = target_within g.atoms table.merges (targets_are g i source merges table own has);
+      tags = right.tags;
+    }
+
+-- ---- actions
+
+-- the lifted operators are printed
+pub lifted_printed : (g : Ground) (table : TagTable) (ns ops : List ℕ) (r : Result Outcome Memory) → list_all (λ n. nat_lt n (length g.actions)) ns ≡ true → AnswersLifting g table ns (Lifting.Lifted ops) → IfOk r (PrintsOperators (task_of g table) ops) → IfOk r (LiftsActions g table ns)
+lifted_printed g table ns ops (Ok o) inside h printed =
+    lifts printed.steps (record { steps_are = sym (lifted_operators_steps g table ns inside) ∙ (ap (map (operator_step (task_of g table))) (sym h.0) ∙ printed.are); accepted = h.1 }) printed.printed
+lifted_printed g table ns ops (Err m) inside h printed = tt
+
+-- it is told where lifting fails
+pub unlifted_told : (g : Ground) (table : TagTable) (ns : List ℕ) (k : ℕ) (l : Lit) (r : Result Outcome Memory) → AnswersLifting g table ns (Lifting.Unlifted k l) → IfOk r (λ o. o ≡ unlifted g (failing_step (length ns) k) l) → IfOk r (LiftsActions g table ns)
+unlifted_told g table ns k l (Ok o) h told = fails k l h.0 told
+unlifted_told g table ns k l (Err m) h told = tt
