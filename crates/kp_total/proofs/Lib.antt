@@ -7,4 +7,5 @@ pub mod YesPlans
 pub mod LiftedPlans
 pub mod Following
 pub mod ExampleStrips
+pub mod ExampleLifts
 pub mod OfCommands
