@@ -1,0 +1,33 @@
+use Rattle.std.proofs.Common.{◌≡◌, ◌∙◌, length, set, false, sym, subst, refl}
+use Rattle.std.proofs.lemmas.Bool.{false≢true}
+use Rattle.kp_guide.specs.Waiting.{Waits, row}
+use Rattle.kp_guide.proofs.Noting.{row_read}
+use Rattle.kp_guide.proofs.Waiting.{read_at, rule_in, tries}
+use Rattle.kp_guide.proofs.settle.try_rule.Goals as goal
+
+-- its fact's cost fell, and those that need it wait
+pub returns-in_ok-wait_all : goal.returns-in_ok-wait_all
+returns-in_ok-wait_all c =
+    let index = c.args.index.now in
+    let rules = index.rules.items in
+    let users = index.users.items in
+    let r = c.index-rule.result.now in
+    let at = read_at rules c.args.number r c.requires.number c.index-rule.ensures in
+    let more : c.slice.result.now ≡ row users r.fact = c.slice.ensures ∙ (c.index.ensures ∙ row_read users r.fact c.index.result.now (rule_in rules (length users) c.args.number r index.fit at)) in
+    tries rules (length users) users index.listed index.fit c.args.number r at c.args.costs.now c.args.waits.now c.args.next.now.items c.requires.work
+    c.relax.result c.relax.new.costs c.wait_all.new.waits c.wait_all.new.next.items c.relax.ensures
+    (λ fell. subst (λ ks. Waits ks (set c.args.waits.now c.args.number false) c.args.next.now.items c.wait_all.new.waits c.wait_all.new.next.items) more c.in_ok-wait_all.ensures)
+    (λ same. absurd (false≢true (sym same ∙ c.if-relax.true)))
+
+-- it lowers no cost
+pub returns-else-relax : goal.returns-else-relax
+returns-else-relax c =
+    let index = c.args.index.now in
+    let rules = index.rules.items in
+    let users = index.users.items in
+    let r = c.index-rule.result.now in
+    let at = read_at rules c.args.number r c.requires.number c.index-rule.ensures in
+    tries rules (length users) users index.listed index.fit c.args.number r at c.args.costs.now c.args.waits.now c.args.next.now.items c.requires.work
+    c.relax.result c.relax.new.costs (set c.args.waits.now c.args.number false) c.args.next.now.items c.relax.ensures
+    (λ fell. absurd (false≢true (sym c.if-relax.false ∙ fell)))
+    (λ same. (refl, refl))

@@ -1,0 +1,84 @@
+//! The rules of a task, with those that need each fact.
+ghost use Rattle.std.specs.Prelude.{◌≡◌, ◌<◌, [], ◌∷◌, ℕ, true, length, IfOk, OnOk};
+ghost use Rattle.std.specs.List.{list_all};
+ghost use Rattle.kp_classic.specs.Fits.{are_below, IsFit};
+ghost use Rattle.kp_guide.specs.Added.{rules_of};
+ghost use Rattle.kp_guide.specs.Tables.{fits_rule};
+ghost use Rattle.kp_guide.specs.Waiting.{AreUsers, Notes, row};
+
+use crate::Rule;
+use crate::rules::rules_of;
+use kp_base::{Memory, Row};
+use kp_classic::Task;
+use std::alloc::Global;
+
+/// The rules of a task, and for each fact the numbers of the rules that need it.
+#[derive(Drop)]
+pub(crate) struct Index {
+    pub(crate) rules: Vec<Rule>,
+    pub(crate) users: Vec<Row<usize>>,
+    ghost fit: { list_all (fits_rule (length users.items)) rules.items ≡ true },
+    ghost listed: { AreUsers rules.items (length rules.items) users.items },
+}
+
+// As many empty rows.
+fn empty_rows(alloc: Global, count: usize) -> Result<Vec<Row<usize>>, Memory>
+    ensures long { IfOk result (λ rows. length rows.items ≡ count) }
+    ensures empty { IfOk result (λ rows. (f : ℕ) → row rows.items f ≡ []) }
+{
+    let mut rows = Vec::new(alloc);
+    for _ in 0..count {
+        rows.push(Row::new(alloc))?;
+    }
+    Ok(rows)
+}
+
+// Adds a number to the row of a fact.
+#[tactic(auto, using(crate::proofs::Noting::notes_one))]
+fn note(users: &mut [Row<usize>], fact: u32, number: usize) -> Result<(), Memory>
+    requires { fact < length users.old }
+    ensures { OnOk result (Notes (fact ∷ []) number users.old users.new) }
+{
+    users[fact as usize].push(number)?;
+    Ok(())
+}
+
+// Adds a number to the rows of some facts.
+#[tactic(auto, using(crate::proofs::Noting::notes_none))]
+fn note_all(users: &mut [Row<usize>], facts: &[u32], number: usize) -> Result<(), Memory>
+    requires { are_below (length users.old) facts.now ≡ true }
+    ensures { OnOk result (Notes facts.now number users.old users.new) }
+{
+    for fact in facts {
+        note(users, *fact, number)?;
+    }
+    Ok(())
+}
+
+// For each of so many facts the rules that need it.
+#[tactic(auto, using(crate::proofs::Noting::users_none))]
+fn users_of(alloc: Global, rules: &[Rule], facts: usize) -> Result<Vec<Row<usize>>, Memory>
+    requires { list_all (fits_rule facts) rules.now ≡ true }
+    ensures long { IfOk result (λ users. length users.items ≡ facts) }
+    ensures listed { IfOk result (λ users. AreUsers rules.now (length rules.now) users.items) }
+{
+    let mut users = empty_rows(alloc, facts)?;
+    for number in 0..rules.len() {
+        note_all(&mut users, rules[number].needs.slice(), number)?;
+    }
+    Ok(users)
+}
+
+impl Index {
+    /// The rules of a task.
+    #[tactic(auto, using(crate::proofs::Estimates::rules_fit))]
+    pub(crate) fn of(alloc: Global, task: &Task) -> Result<Index, Memory>
+        requires { IsFit task.now }
+        ensures rules { IfOk result (λ i. i.rules.items ≡ rules_of task.now) }
+        ensures long { IfOk result (λ i. length i.users.items ≡ length task.now.facts) }
+    {
+        let rules = rules_of(alloc, task)?;
+        let users = users_of(alloc, &rules, task.facts.len())?;
+        Ok(Index { rules, users })
+    }
+}

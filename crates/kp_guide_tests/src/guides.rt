@@ -1,0 +1,82 @@
+//! A guide that keeps a closure, and what is then known of its answers.
+ghost use Rattle.std.specs.Prelude.{◌≡◌, length, IfOk};
+ghost use Rattle.kp_classic.specs.Fits.{IsFit};
+ghost use Rattle.kp_classic.specs.States.{has};
+ghost use Rattle.kp_guide.specs.Added.{IsAdded};
+
+use crate::given::task;
+use kp_base::Memory;
+use kp_classic::{State, Task, is_fit, start};
+use kp_guide::{Additive, Estimate, Estimator, Guide, added, added_is_right};
+use std::alloc::Global;
+use std::test::Fail;
+
+// The estimate `added`, by a guide that keeps a closure over it.
+fn kept(alloc: Global, task: &Task, state: &State) -> Result<Option<u32>, Memory>
+    requires fits { IsFit task.now }
+    requires of_task { state.now.facts ≡ length task.now.facts }
+    ensures { IfOk result (IsAdded task.now (has state.now.hold)) }
+{
+    added_is_right();
+    let estimate: Estimate = Box::new(
+        alloc,
+        move |t: &Task, s: &State| -> Result<Option<u32>, Memory>
+            requires fits { IsFit t.now }
+            requires of_task { s.now.facts ≡ length t.now.facts }
+            ensures { IfOk result (IsAdded t.now (has s.now.hold)) }
+        { added(alloc, t, s) },
+    )?;
+    let guide = Guide::keep(estimate);
+    guide.estimate(task, state)
+}
+
+// Any estimator.
+fn ask<E: Estimator>(estimator: &E, task: &Task, state: &State) -> Result<Option<u32>, Memory>
+    requires fits { IsFit task.now }
+    requires of_task { state.now.facts ≡ length task.now.facts }
+    ensures { IfOk result (λ h. E.may_answer estimator.now task.now state.now h) }
+{
+    let answer = estimator.estimate(task, state)?;
+    Ok(answer)
+}
+
+// The estimate `added`, by its own estimator.
+fn own(alloc: Global, task: &Task, state: &State) -> Result<Option<u32>, Memory>
+    requires fits { IsFit task.now }
+    requires of_task { state.now.facts ≡ length task.now.facts }
+    ensures { IfOk result (IsAdded task.now (has state.now.hold)) }
+{
+    let estimator = Additive::new(alloc);
+    let answer = ask(&estimator, task, state)?;
+    Ok(answer)
+}
+
+// Both estimates of a task's start.
+fn both(alloc: Global, task: &Task) -> Result<(Option<u32>, Option<u32>), Memory> {
+    if !is_fit(task) {
+        return Err(Memory);
+    }
+    let state = start(alloc, task)?;
+    Ok((kept(alloc, task, &state)?, own(alloc, task, &state)?))
+}
+
+// Both where fact 1 needs fact 0, which is added freely.
+fn chain(alloc: Global, goal: &[u32]) -> Result<(Option<u32>, Option<u32>), Memory> {
+    let task = task(
+        alloc,
+        3,
+        &[],
+        &[(&[], &[(&[], 0, true)]), (&[0], &[(&[], 1, true)])],
+        goal,
+    )?;
+    let answers = both(alloc, &task);
+    drop(task);
+    answers
+}
+
+#[test]
+fn guides_answer_the_estimate(rt: HostRuntime) -> Result<(), Fail> {
+    assert!(rt; matches!(chain(rt.alloc(), &[1]), Ok((Some(2), Some(2)))));
+    assert!(rt; matches!(chain(rt.alloc(), &[2]), Ok((None, None))));
+    Ok(())
+}

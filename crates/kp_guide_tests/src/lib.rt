@@ -1,0 +1,9 @@
+//! Tests of estimates and guides.
+#![tactic(auto)]
+
+#[cfg(test)]
+mod estimates;
+#[cfg(test)]
+mod given;
+#[cfg(test)]
+mod guides;
