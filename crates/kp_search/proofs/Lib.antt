@@ -1,0 +1,15 @@
+pub mod ByAdded
+pub mod Ends
+pub mod Kept
+pub mod Keys
+pub mod MoreEstimates
+pub mod OneEnd
+pub mod SomeEnd
+pub mod Ordered
+pub mod Origins
+pub mod Slices
+pub mod Sound
+pub mod Spreads
+pub mod States
+pub mod Taken
+pub mod Turning

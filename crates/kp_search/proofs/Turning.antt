@@ -1,0 +1,205 @@
+-- The turns of a search, on what is kept of its course.
+use Rattle.std.proofs.Common.{◌≡◌, ◌<◌, ◌≤◌, ◌+◌, ◌-◌, ◌*◌, ℕ, suc, Bool, true, false, cond, IsTrue, List, [], ◌∷◌, Option, Some, None, length, slice_get, get_or, arith, refl, sym, ap, subst, ◌∙◌}
+use Rattle.std.proofs.lemmas.Bool.{false≢true}
+use Rattle.std.proofs.lemmas.Option.{slice_get_within, slice_get-get_or, same_Some}
+use Rattle.std.proofs.lemmas.List.{length-append}
+use Rattle.kp_base.specs.Lists.{Member}
+use Rattle.kp_base.proofs.Lists.{number_at, member_at}
+use Rattle.kp_classic.specs.declared.task.Task.{Task}
+use Rattle.kp_classic.specs.Fits.{IsFit}
+use Rattle.kp_classic.specs.States.{FactSet}
+use Rattle.kp_search.specs.declared.course.Origin.TheVariants.{Start}
+use Rattle.kp_search.specs.declared.course.Search.{Search}
+use Rattle.kp_search.specs.declared.key.Key.{Key}
+use Rattle.kp_search.specs.Queue.{times}
+use Rattle.kp_search.specs.Trace.{Entry, Course, first, is_goal, nothing, one_entry, IsNext, WasTaken, with_taken, with_expanded, IsCourse, EndsWithPlan, EndsSpent, EndsWithoutPlan}
+use Rattle.kp_search.specs.Trace.IsCourse.{lost, begun, passed, spread}
+use Rattle.kp_search.specs.Kept.{Adds, Keeps, Pops, Expands, IsEmpty}
+use Rattle.kp_search.specs.Turns.{IsAt, IsKnown, OfEntry, IsNew, Spreads, work}
+use Rattle.kp_search.proofs.Kept.{keeps_added, waits_from}
+use Rattle.kp_search.proofs.Taken.{popped_next, keeps_popped, keeps_expanded}
+use Rattle.kp_search.proofs.Sound.{sound}
+
+pub is_true : (b : Bool) → b ≡ true → IsTrue b
+is_true b h = h
+
+pub is_not : {P : Type 0} (b : Bool) → ((IsTrue b → P) × (P → IsTrue b)) → b ≡ false → P → ⊥
+is_not b h e p = false≢true (sym e ∙ h.1 p)
+
+-- nothing is kept of the course without entries
+keeps_nothing : (t : Task) (s : Search) → IsEmpty (length t.facts) s → Keeps t nothing s
+keeps_nothing t s h = record {
+  long = ap length h.origins;
+  origins = λ n e h. cc;
+  waiting = λ y. ap (λ ks. times ks y) h.waiting;
+  expanded = h.expanded;
+  facts = h.facts_are;
+  tables = ap length h.states;
+  states = λ k n e h _. cc;
+  taken = λ n h. absurd (false≢true h);
+  within = λ k n h. cc;
+}
+
+module _ (t : Task) (fit : IsFit t) (may : FactSet → Option ℕ → Type 0) (budget : ℕ) where
+  pub at_lost : (s : Search) → IsEmpty (length t.facts) s → budget ≤ s.table.room → may (first t) None → IsAt t may budget s
+  at_lost s h room m = record { course = nothing; is = lost m; kept = keeps_nothing t s h; has_room = room }
+
+  pub at_begun : (s s' : Search) (v : ℕ) → IsEmpty (length t.facts) s → budget ≤ s.table.room → may (first t) (Some v) → Adds s Start v s' → IsAt t may budget s'
+  at_begun s s' v h room m adds = record {
+    course = one_entry (first t) v;
+    is = begun v m;
+    kept = keeps_added t nothing s s' (record { state = first t; estimate = v; ops = [] }) Start (keeps_nothing t s h) adds (refl, refl);
+    has_room = let e = ap (λ x. x.room) adds.table in omega (arith, room, e);
+  }
+
+  pub ends_without : (s : Search) → IsAt t may budget s → s.waiting ≡ [] → EndsWithoutPlan t may budget
+  ends_without s at none = record {
+    course = at.course;
+    is = at.is;
+    empty = λ n e w.
+        let y : Key = record { estimate = e.estimate; number = n } in
+        let a = at.kept.waiting y in
+        let b = ap {B = ℕ} (λ z. cond z 1 0) (waits_from at.course n e w) in
+        let d = ap (λ ks. times ks y) none in
+        absurd (omega (arith, a, b, d));
+  }
+
+  -- the table has the states of the expanded entries
+  seen : (c : Course) (n : ℕ) (s : Search) → IsCourse t may budget c → Keeps t (with_taken c n) s → (x : FactSet) → Member s.table.states x → WasTaken c x
+  seen c n s is k x m =
+      let at = number_at s.table.states x m in
+      let lt = slice_get_within s.table.states at.0 x at.1 in
+      let long = k.tables in
+      let i = get_or c.expanded at.0 0 in
+      let there : slice_get c.expanded at.0 ≡ Some i = slice_get-get_or c.expanded at.0 0 (omega (arith, lt, long)) in
+      let d : Entry = get_or c.entries i (record { state = first t; estimate = 0; ops = [] }) in
+      let entry : slice_get c.entries i ≡ Some d = slice_get-get_or c.entries i (record { state = first t; estimate = 0; ops = [] }) (k.within at.0 i there) in
+      record {
+        number = i;
+        entry = d;
+        taken = (sound t fit may budget c is).expanded at.0 i there;
+        there = entry;
+        same = same_Some d.state x (sym (k.states at.0 i d there entry) ∙ at.1);
+      }
+
+  seen_all : (c : Course) (n : ℕ) (s : Search) → IsCourse t may budget c → Keeps t (with_taken c n) s → (x : FactSet) → WasTaken c x → Member s.table.states x
+  seen_all c n s is k x w =
+      let r = (sound t fit may budget c is).taken w.number w.entry w.taken w.there in
+      let e = r.1 in
+      subst (Member s.table.states) (e.4 ∙ w.same) (member_at s.table.states r.0 e.1.state (k.states r.0 e.0 e.1 e.2 e.3))
+
+  -- ---- a key came out of the queue
+
+  module _ (old new : Search) (key : Key) (at : IsAt t may budget old) (p : Pops old key new) where
+    entry : Entry
+    entry = (popped_next t at.course old new key at.kept p).0
+
+    is_next : IsNext at.course key.number entry
+    unfolding entry
+    is_next = (popped_next t at.course old new key at.kept p).1
+
+    kept : Keeps t (with_taken at.course key.number) new
+    kept = keeps_popped t at.course old new key at.kept p
+
+    -- what holds of the entry
+    of_it : (P : Entry → Type 0) → OfEntry t new key.number P → P entry
+    of_it P h = h (with_taken at.course key.number) entry kept is_next.waits.there
+
+    pub known : IsKnown t new key.number
+    known = record { course = with_taken at.course key.number; entry = entry; kept = kept; there = is_next.waits.there }
+
+    has_room : budget ≤ new.table.room
+    has_room = let r = at.has_room in let e = ap (λ x. x.room) p.table in omega (arith, r, e)
+
+    -- less is left to do
+    pub less : work t budget new < work t budget old
+    less = let e = ap (λ xs. (budget - length xs) * (length t.ops + 1)) p.expanded in let n = p.first.len in omega (arith, e, n)
+
+    module _ (x : FactSet) (of : OfEntry t new key.number (λ e. e.state ≡ x)) where
+      same : entry.state ≡ x
+      same = of_it (λ e. e.state ≡ x) of
+
+      -- its state was taken before
+      pub passes : Member new.table.states x → IsAt t may budget new
+      passes m = record {
+        course = with_taken at.course key.number;
+        is = passed at.course key.number entry at.is is_next (subst (WasTaken at.course) (sym same) (seen at.course key.number new at.is kept x m));
+        kept = kept;
+        has_room = has_room;
+      }
+
+      -- it wasn't
+      pub is_new : (Member new.table.states x → ⊥) → IsNew t may budget key.number x new
+      is_new not_in = record {
+        course = at.course;
+        is = at.is;
+        entry = entry;
+        next = is_next;
+        kept = kept;
+        has_room = has_room;
+        same = same;
+        fresh = λ w. not_in (subst (Member new.table.states) same (seen_all at.course key.number new at.is kept entry.state w));
+      }
+
+  -- ---- an entry whose state is new
+
+  module _ (n : ℕ) (x : FactSet) (s : Search) (k : IsNew t may budget n x s) where
+    pub new_known : IsKnown t s n
+    new_known = record { course = with_taken k.course n; entry = k.entry; kept = k.kept; there = k.next.waits.there }
+
+    -- not more are expanded than the budget says
+    pub few : length s.expanded.items ≤ budget
+    few = let h = (sound t fit may budget k.course k.is).few in let l = ap length k.kept.expanded in omega (arith, h, l)
+
+    pub ends_plan : (ops : List ℕ) → is_goal t x ≡ true → OfEntry t s n (λ e. ops ≡ e.ops) → EndsWithPlan t may budget ops (length s.expanded.items)
+    ends_plan ops goal of = record {
+      course = k.course;
+      is = k.is;
+      number = n;
+      entry = k.entry;
+      next = k.next;
+      new = k.fresh;
+      goal = subst (λ z. is_goal t z ≡ true) (sym k.same) goal;
+      ops_are = of (with_taken k.course n) k.entry k.kept k.next.waits.there;
+      expanded_are = ap length k.kept.expanded;
+    }
+
+    pub ends_spent : is_goal t x ≡ false → budget ≤ length s.expanded.items → EndsSpent t may budget budget
+    ends_spent plain full = record {
+      course = k.course;
+      is = k.is;
+      number = n;
+      entry = k.entry;
+      next = k.next;
+      new = k.fresh;
+      goal = subst (λ z. is_goal t z ≡ false) (sym k.same) plain;
+      full = let h = few in let l = ap length k.kept.expanded in omega (arith, h, l, full);
+      expanded_are = refl;
+    }
+
+  pub at_expanded : (n place : ℕ) (x : FactSet) (old mid new : Search) → IsNew t may budget n x old → is_goal t x ≡ false → length old.expanded.items < budget → place ≡ length old.expanded.items → Expands old n x mid
+      → Spreads t may place x mid (length t.ops) new → mid.table.room ≤ new.table.room → IsAt t may budget new
+  at_expanded n place x old mid new k plain room is_place ex h stays =
+      let kept = keeps_expanded t k.course old mid n k.entry k.kept k.next.waits.there (subst (λ z. Expands old n z mid) (sym k.same) ex) in
+      let r = h k.course n k.entry (record { kept = kept; place = is_place ∙ ap length k.kept.expanded; there = k.next.waits.there; same = k.same }) in
+      let l = ap length k.kept.expanded in
+      record {
+        course = with_expanded k.course n r.0;
+        is = spread k.course n k.entry r.0 k.is k.next k.fresh (subst (λ z. is_goal t z ≡ false) (sym k.same) plain) (omega (arith, l, room)) r.1;
+        kept = r.2;
+        has_room = let a = k.has_room in let b = ex.room in omega (arith, a, b, stays);
+      }
+
+  pub expanded_less : (n : ℕ) (x : FactSet) (old mid new : Search) → length old.expanded.items < budget → Expands old n x mid → length new.waiting ≤ length mid.waiting + length t.ops → new.expanded.items ≡ mid.expanded.items → work t budget new < work t budget old + 1
+  expanded_less n x old mid new room ex few_more as_before =
+      let a : length new.expanded.items ≡ length old.expanded.items + 1 = ap length as_before ∙ (ap length ex.expanded ∙ length-append old.expanded.items (n ∷ [])) in
+      let w = ap length ex.waiting in
+      let m = product budget (length old.expanded.items) (length t.ops) room in
+      let b = ap (λ i. (budget - i) * (length t.ops + 1)) a in
+      omega (arith, few_more, w, m, b)
+    where
+      product : (b y o : ℕ) → y < b → (b - y) * (o + 1) ≡ (b - (y + 1)) * (o + 1) + (o + 1)
+      product b y o lt = let e : b - y ≡ suc (b - (y + 1)) = omega (arith, lt) in ap (λ i. i * (o + 1)) e ∙ more (b - (y + 1)) (o + 1)
+        where
+          more : (a c : ℕ) → suc a * c ≡ a * c + c
+          more a c = grind arith

@@ -1,0 +1,11 @@
+pub mod Ends
+pub mod Estimates
+pub mod Heaped
+pub mod Kept
+pub mod Laws
+pub mod Queue
+pub mod Sorted
+pub mod Sound
+pub mod Tables
+pub mod Trace
+pub mod Turns

@@ -1,0 +1,168 @@
+//! The turns of a search.
+ghost use Rattle.std.specs.Prelude.{◌≡◌, ◌<◌, ◌+◌, false, length, IfOk, OnOk, MatchOption};
+ghost use Rattle.kp_classic.specs.Fits.{IsFit};
+ghost use Rattle.kp_search.specs.Trace as trace;
+ghost use Rattle.kp_search.specs.Ends.{HasEnd, Tells};
+ghost use Rattle.kp_search.specs.Turns.{IsAt, IsNew, work};
+
+use crate::{Found, Origin, Search};
+use kp_base::Memory;
+use kp_classic::{State, Task, meets, start};
+use kp_guide::Estimator;
+use std::alloc::Global;
+
+impl Search {
+    // Expands an entry whose state wasn't taken before.
+    fn expand<E: Estimator>(
+        &mut self,
+        alloc: Global,
+        task: &Task,
+        guide: &E,
+        budget: u32,
+        number: usize,
+        state: &State,
+        next: &mut State,
+    ) -> Result<(), Memory>
+        requires fit { IsFit task.now }
+        requires of_task { state.now.facts ≡ length task.now.facts }
+        requires next_of_task { next.old.facts ≡ length task.now.facts }
+        requires new { IsNew task.now (E.may_answer guide.now task.now) budget number state.now self.old }
+        requires no_goal { trace.is_goal task.now state.now ≡ false }
+        requires room { length self.old.expanded.items < budget }
+        ensures facts { next.new.facts ≡ length task.now.facts }
+        ensures at { OnOk result (IsAt task.now (E.may_answer guide.now task.now) budget self.new) }
+        ensures less { OnOk result (work task.now budget self.new < work task.now budget self.old + 1) }
+    {
+        let place = self.expanded.len() as u32;
+        self.keep(alloc, task, number, state)?;
+        self.spread(task, guide, place, state, next)?;
+        Ok(())
+    }
+
+    // Ends the search with an entry whose state wasn't taken before, or else expands it. None where the search goes on.
+    fn visit<E: Estimator>(
+        &mut self,
+        alloc: Global,
+        task: &Task,
+        guide: &E,
+        budget: u32,
+        number: usize,
+        state: &State,
+        next: &mut State,
+    ) -> Result<Option<Found>, Memory>
+        requires fit { IsFit task.now }
+        requires of_task { state.now.facts ≡ length task.now.facts }
+        requires next_of_task { next.old.facts ≡ length task.now.facts }
+        requires new { IsNew task.now (E.may_answer guide.now task.now) budget number state.now self.old }
+        ensures facts { next.new.facts ≡ length task.now.facts }
+        ensures ends { IfOk result (λ end. MatchOption end ((IsAt task.now (E.may_answer guide.now task.now) budget self.new) × (work task.now budget self.new < work task.now budget self.old + 1)) (HasEnd task.now (E.may_answer guide.now task.now) budget)) }
+    {
+        let expanded = self.expanded.len();
+        if meets(task, state) {
+            let ops = self.ops_to(alloc, task, number)?;
+            let expanded = expanded as u32;
+            return Ok(Some(Found::Plan { ops, expanded }));
+        }
+        if expanded >= budget as usize {
+            return Ok(Some(Found::Spent { expanded: budget }));
+        }
+        self.expand(alloc, task, guide, budget, number, state, next)?;
+        Ok(None)
+    }
+
+    // Takes the next entry. None where the search goes on.
+    fn turn<E: Estimator>(
+        &mut self,
+        alloc: Global,
+        task: &Task,
+        guide: &E,
+        budget: u32,
+        first: &State,
+        spare: &mut State,
+        state: &mut State,
+    ) -> Result<Option<Found>, Memory>
+        requires fit { IsFit task.now }
+        requires at { IsAt task.now (E.may_answer guide.now task.now) budget self.old }
+        requires first { first.now ≡ trace.first task.now }
+        requires spare_of_task { spare.old.facts ≡ length task.now.facts }
+        requires of_task { state.old.facts ≡ length task.now.facts }
+        ensures spare { spare.new.facts ≡ length task.now.facts }
+        ensures facts { state.new.facts ≡ length task.now.facts }
+        ensures ends { IfOk result (λ end. MatchOption end ((IsAt task.now (E.may_answer guide.now task.now) budget self.new) × (work task.now budget self.new < work task.now budget self.old)) (HasEnd task.now (E.may_answer guide.now task.now) budget)) }
+    {
+        let key = match self.take() {
+            Some(key) => key,
+            None => return Ok(Some(Found::NoPlan)),
+        };
+        self.load(task, key.number, first, spare, state);
+        if self.table.has(state) {
+            return Ok(None);
+        }
+        self.visit(alloc, task, guide, budget, key.number, state, spare)
+    }
+
+    // Takes entries until the search ends.
+    fn take_turns<E: Estimator>(
+        &mut self,
+        alloc: Global,
+        task: &Task,
+        guide: &E,
+        budget: u32,
+        first: &State,
+    ) -> Result<Found, Memory>
+        requires fit { IsFit task.now }
+        requires at { IsAt task.now (E.may_answer guide.now task.now) budget self.old }
+        requires first { first.now ≡ trace.first task.now }
+        ensures { IfOk result (HasEnd task.now (E.may_answer guide.now task.now) budget) }
+    {
+        let mut state = start(alloc, task)?;
+        let mut spare = start(alloc, task)?;
+        'turns: loop {
+            let end = self.turn(alloc, task, guide, budget, first, &mut spare, &mut state)?;
+            if let Some(found) = end {
+                return Ok(found);
+            }
+        }
+    }
+}
+
+// Enters the state at the start.
+fn begin<E: Estimator>(
+    alloc: Global,
+    task: &Task,
+    guide: &E,
+    budget: u32,
+    first: &State,
+) -> Result<Search, Memory>
+    requires fit { IsFit task.now }
+    requires first { first.now ≡ trace.first task.now }
+    ensures { IfOk result (IsAt task.now (E.may_answer guide.now task.now) budget) }
+{
+    let mut search = Search::new(alloc, task.facts.len() as u32, budget)?;
+    match guide.estimate(task, first)? {
+        None => Ok(search),
+        Some(estimate) => {
+            search.enter(Origin::Start, estimate)?;
+            Ok(search)
+        }
+    }
+}
+
+/// Searches for a plan: takes the entry of least estimate first, and of those the one that was entered first. The table of
+/// expanded states is made for the whole budget before the first entry is taken.
+pub fn search<E: Estimator>(
+    alloc: Global,
+    task: &Task,
+    guide: &E,
+    budget: u32,
+) -> Result<Found, Memory>
+    requires { IsFit task.now }
+    ensures end { IfOk result (HasEnd task.now (E.may_answer guide.now task.now) budget) }
+    ensures tells { IfOk result (Tells task.now budget) }
+{
+    let first = start(alloc, task)?;
+    let mut search = begin(alloc, task, guide, budget, &first)?;
+    let found = search.take_turns(alloc, task, guide, budget, &first)?;
+    guide.is_right();
+    Ok(found)
+}

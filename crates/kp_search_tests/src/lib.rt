@@ -1,0 +1,7 @@
+//! Tests of the search.
+#![tactic(auto)]
+
+#[cfg(test)]
+mod given;
+#[cfg(test)]
+mod searches;
