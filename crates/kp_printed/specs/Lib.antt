@@ -4,3 +4,4 @@ pub mod Counterexamples
 pub mod Lifting
 pub mod Usage
 pub mod Coverage
+pub mod Searches

@@ -1,5 +1,5 @@
 ghost use Rattle.std.specs.Prelude.{◌≡◌, ◌++◌, OnOk};
-ghost use Rattle.kp_printed.specs.Coverage.{uncovered_lines, coverage_text};
+ghost use Rattle.kp_printed.specs.Coverage.{completeness_line, uncovered_lines, coverage_text};
 
 use crate::names::{put, put_literal};
 use kp_base::{GroundName, Lit, Memory};
@@ -16,7 +16,18 @@ fn put_uncovered(out: &mut Vec<u8>, atoms: &[GroundName], targets: &[Lit]) -> Re
     Ok(())
 }
 
-/// Adds `complete` where no target is uncovered, and else `incomplete` and a line for each that is.
+// Adds `complete` where no target is uncovered, and else `incomplete`.
+pub(crate) fn put_completeness(out: &mut Vec<u8>, uncovered: &[Lit]) -> Result<(), Memory>
+    ensures { OnOk result (out.new.items ≡ out.old.items ++ completeness_line uncovered.now) }
+{
+    if uncovered.is_empty() {
+        put(out, b"complete\n")
+    } else {
+        put(out, b"incomplete\n")
+    }
+}
+
+/// Adds whether the table is complete, and a line for each target that is uncovered.
 pub fn put_coverage(
     out: &mut Vec<u8>,
     atoms: &[GroundName],
@@ -24,9 +35,6 @@ pub fn put_coverage(
 ) -> Result<(), Memory>
     ensures { OnOk result (out.new.items ≡ out.old.items ++ coverage_text atoms.now uncovered.now) }
 {
-    if uncovered.is_empty() {
-        return put(out, b"complete\n");
-    }
-    put(out, b"incomplete\n")?;
+    put_completeness(out, uncovered)?;
     put_uncovered(out, atoms, uncovered)
 }

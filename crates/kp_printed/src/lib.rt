@@ -1,4 +1,5 @@
-//! What commands print: the usage, names, each refusal, where a plan fails, and whether a table is complete.
+//! What commands print: the usage, names, each refusal, where a plan fails, whether a table is complete, and
+//! how a search ends without a plan.
 //! `specs/Refusals.antt` says the lines of each refusal.
 #![tactic(auto)]
 
@@ -9,9 +10,11 @@ mod help;
 mod lines;
 mod names;
 mod refusals;
+mod searches;
 
 pub use coverage::put_coverage;
 pub use failing::{counterexample, unlifted};
 pub use help::usage;
 pub use names::put_name;
 pub use refusals::{Named, refusal};
+pub use searches::{no_classical_plan, no_plan, spent};

@@ -2,14 +2,15 @@
 use Rattle.std.proofs.Common.{◌≡◌, ◌≢◌, inl, inr, refl, sym, ap, subst, ◌∙◌, ℕ, List, [], ◌∷◌, Vec, map, codes}
 use Rattle.std.specs.declared.alloc.Global.{Global}
 use Rattle.kp_base.specs.declared.limits.Mode.{Mode}
-use Rattle.kp_words.specs.Names.{Source, of_mode, Translate, Merges, Strip, Check, Lift}
+use Rattle.kp_words.specs.Names.{Source, of_mode, Translate, Merges, Strip, Check, Lift, Solve, Classical}
 use Rattle.kp_words.specs.declared.command.Command.{Command}
 use Rattle.kp_words.specs.declared.command.Command.TheVariants as commands
-use Rattle.kp_words.specs.Command.{IsPositional, SaysOptions, IsTranslate, IsMerges, IsStrip, IsCheck, IsLift, IsCommand}
+use Rattle.kp_words.specs.Command.{IsPositional, SaysOptions, IsTranslate, IsMerges, IsStrip, IsCheck, IsLift, IsSolve, IsClassical, IsCommand}
 use Rattle.kp_words.specs.Laws.{WordsAreDecided}
 use Rattle.kp_words.proofs.Decisions.{Decided, both, same_word, other_word, names_file, options_decided, mode_decided}
 use Rattle.kp_words.proofs.OneCommand.{whole_translate, whole_merges}
 use Rattle.kp_words.proofs.PlanCommands.{check_decided, lift_decided, strip_decided}
+use Rattle.kp_words.proofs.SearchCommands.{solve_decided, call_decided}
 
 -- ---- a translation
 
@@ -136,16 +137,24 @@ words_decided words = elim (translate_decided words (map (λ w. w.items) words) 
         | inl h ↦ inl (commands.Check h.0, h.1)
         | inr no_check ↦ elim (lift_decided words (map (λ w. w.items) words) refl) [
           | inl h ↦ inl (commands.Lift h.0, h.1)
-          | inr no_lift ↦ inr (none no_translation no_merges no_strip no_check no_lift)
+          | inr no_lift ↦ elim (solve_decided words (map (λ w. w.items) words) refl) [
+            | inl h ↦ inl (commands.Solve h.0, h.1)
+            | inr no_solve ↦ elim (call_decided words (map (λ w. w.items) words) refl) [
+              | inl h ↦ inl (commands.Classical h.0, h.1)
+              | inr no_call ↦ inr (none no_translation no_merges no_strip no_check no_lift no_solve no_call)
+            ]
+          ]
         ]
       ]
     ]
   ]
 ]
   where
-    none : (((c : Translate) × IsTranslate words c) → ⊥) → (((c : Merges) × IsMerges words c) → ⊥) → (((c : Strip) × IsStrip words c) → ⊥) → (((c : Check) × IsCheck words c) → ⊥) → (((c : Lift) × IsLift words c) → ⊥) → (c : Command) → IsCommand words c → ⊥
-    none no_translation no_merges no_strip no_check no_lift (commands.Translate c) h = no_translation (c, h)
-    none no_translation no_merges no_strip no_check no_lift (commands.Merges c) h = no_merges (c, h)
-    none no_translation no_merges no_strip no_check no_lift (commands.Strip c) h = no_strip (c, h)
-    none no_translation no_merges no_strip no_check no_lift (commands.Check c) h = no_check (c, h)
-    none no_translation no_merges no_strip no_check no_lift (commands.Lift c) h = no_lift (c, h)
+    none : (((c : Translate) × IsTranslate words c) → ⊥) → (((c : Merges) × IsMerges words c) → ⊥) → (((c : Strip) × IsStrip words c) → ⊥) → (((c : Check) × IsCheck words c) → ⊥) → (((c : Lift) × IsLift words c) → ⊥) → (((c : Solve) × IsSolve words c) → ⊥) → (((c : Classical) × IsClassical words c) → ⊥) → (c : Command) → IsCommand words c → ⊥
+    none no_translation no_merges no_strip no_check no_lift no_solve no_call (commands.Translate c) h = no_translation (c, h)
+    none no_translation no_merges no_strip no_check no_lift no_solve no_call (commands.Merges c) h = no_merges (c, h)
+    none no_translation no_merges no_strip no_check no_lift no_solve no_call (commands.Strip c) h = no_strip (c, h)
+    none no_translation no_merges no_strip no_check no_lift no_solve no_call (commands.Check c) h = no_check (c, h)
+    none no_translation no_merges no_strip no_check no_lift no_solve no_call (commands.Lift c) h = no_lift (c, h)
+    none no_translation no_merges no_strip no_check no_lift no_solve no_call (commands.Solve c) h = no_solve (c, h)
+    none no_translation no_merges no_strip no_check no_lift no_solve no_call (commands.Classical c) h = no_call (c, h)

@@ -1,5 +1,5 @@
 -- What a word is and what options say is decided by tests.
-use Rattle.std.proofs.Common.{◌≡◌, ◌≢◌, ◌⊎◌, ◌<◌, ◌≤◌, ◌++◌, inl, inr, refl, sym, ap, subst, ◌∙◌, ℕ, zero, suc, Bool, true, false, List, [], ◌∷◌, codes, decimal, nat_eq, arith}
+use Rattle.std.proofs.Common.{◌≡◌, ◌≢◌, ◌⊎◌, ◌<◌, ◌≤◌, ◌+◌, ◌++◌, inl, inr, refl, sym, ap, subst, ◌∙◌, ℕ, zero, suc, Bool, true, false, List, [], ◌∷◌, codes, decimal, nat_eq, arith}
 use Rattle.std.proofs.lemmas.Bool.{cases_lt, cases_Bool, false≢true}
 use Rattle.std.proofs.lemmas.Str.{IsUtf8-from_is_utf8, is_utf8-from_IsUtf8}
 use Rattle.std.specs.Str.{is_utf8, bytes_eq}
@@ -8,8 +8,8 @@ use Rattle.kp_base.proofs.Lists.{same-true, same-refl}
 use Rattle.kp_base.specs.declared.limits.Mode.{Mode}
 use Rattle.kp_base.specs.declared.limits.Mode.TheVariants as modes
 use Rattle.kp_words.specs.Names.{Source, of_mode, of_file}
-use Rattle.kp_words.specs.Command.{IsPositional, mode_word, SaysMode, usual_mode, stated_mode, SaysSource, IsLimit, SaysLimit, usual_limit, stated, SaysOptions}
-use Rattle.kp_words.proofs.SaidOnce.{mode_at, mode_at_word, mode_words, limit_words, source_words, one_options}
+use Rattle.kp_words.specs.Command.{IsPositional, mode_word, SaysMode, usual_mode, stated_mode, SaysSource, IsUpTo, SaysNumber, unsaid, stated, SaysLimit, SaysOptions}
+use Rattle.kp_words.proofs.SaidOnce.{mode_at, mode_at_word, mode_words, number_words, source_words, one_options}
 
 -- ---- what is decided
 
@@ -59,30 +59,33 @@ names_file w = elim (both (w ≢ []) ((starts_with nat_eq w (codes "-") ≡ fals
   | inr none ↦ inr (λ (h : IsPositional w). none (h.not_empty, (h.no_dash, is_utf8-from_IsUtf8 w h.utf8)))
 ]
 
--- ---- the limit
+-- ---- numbers
 
-is_limit : (w : List ℕ) (n : ℕ) → Decided (IsLimit n × (w ≡ decimal n))
-is_limit w n = both (IsLimit n) (w ≡ decimal n) (in_range (cases_lt 0 n) (cases_lt n 100001)) (same_word w (decimal n))
+is_up_to : (highest : ℕ) (w : List ℕ) (n : ℕ) → Decided (IsUpTo highest n × (w ≡ decimal n))
+is_up_to highest w n = both (IsUpTo highest n) (w ≡ decimal n) (in_range (cases_lt 0 n) (cases_lt n (highest + 1))) (same_word w (decimal n))
   where
-    in_range : (0 < n) ⊎ (n ≤ 0) → (n < 100001) ⊎ (100001 ≤ n) → Decided (IsLimit n)
+    in_range : (0 < n) ⊎ (n ≤ 0) → (n < highest + 1) ⊎ (highest + 1 ≤ n) → Decided (IsUpTo highest n)
     in_range (inr low) high = inr (λ h. let least = h.least in omega (arith, low, least))
     in_range (inl low) (inr high) = inr (λ h. let most = h.most in omega (arith, high, most))
     in_range (inl low) (inl high) = inl (record { least = omega (arith, low); most = omega (arith, high) })
 
-pub says_limit : (options : List (List ℕ)) → Decided ((n : ℕ) × SaysLimit options n)
-says_limit [] = inl (20000, usual_limit)
-says_limit (option ∷ []) = inr (λ h. elim (limit_words (option ∷ []) h.0 h.1) [ inl none ↦ absurd cc | inr (limit, two) ↦ absurd cc ])
-says_limit (a ∷ b ∷ d ∷ more) = inr (λ h. elim (limit_words (a ∷ b ∷ d ∷ more) h.0 h.1) [ inl none ↦ absurd cc | inr (limit, two) ↦ absurd cc ])
-says_limit (option ∷ number ∷ []) = elim (both (option ≡ codes "--implicates") ((n : ℕ) × (n < 100001) × (IsLimit n × (number ≡ decimal n))) (same_word option (codes "--implicates")) (some_below (λ n. IsLimit n × (number ≡ decimal n)) (is_limit number) 100001)) [
-  | inl h ↦ inl (h.1.0, subst (λ ws. SaysLimit ws h.1.0) (spell option number h.1.0 h.0 h.1.2.1) (stated h.1.0 h.1.2.0))
-  | inr none ↦ inr (λ h. elim (limit_words (option ∷ number ∷ []) h.0 h.1) [
+pub says_number : (option : List ℕ) (usual highest : ℕ) (words : List (List ℕ)) → Decided ((n : ℕ) × SaysNumber option usual highest words n)
+says_number option usual highest [] = inl (usual, unsaid)
+says_number option usual highest (first ∷ []) = inr (λ h. elim (number_words (first ∷ []) h.0 h.1) [ inl none ↦ absurd cc | inr (within, two) ↦ absurd cc ])
+says_number option usual highest (a ∷ b ∷ d ∷ more) = inr (λ h. elim (number_words (a ∷ b ∷ d ∷ more) h.0 h.1) [ inl none ↦ absurd cc | inr (within, two) ↦ absurd cc ])
+says_number option usual highest (first ∷ number ∷ []) = elim (both (first ≡ option) ((n : ℕ) × (n < highest + 1) × (IsUpTo highest n × (number ≡ decimal n))) (same_word first option) (some_below (λ n. IsUpTo highest n × (number ≡ decimal n)) (is_up_to highest number) (highest + 1))) [
+  | inl h ↦ inl (h.1.0, subst (λ ws. SaysNumber option usual highest ws h.1.0) (spell h.1.0 h.0 h.1.2.1) (stated h.1.0 h.1.2.0))
+  | inr none ↦ inr (λ h. elim (number_words (first ∷ number ∷ []) h.0 h.1) [
     | inl empty ↦ absurd cc
-    | inr (limit, two) ↦ let most = limit.most in none ((let f : option ≡ codes "--implicates" = cc in f), (h.0, omega (arith, most), (limit, let f : number ≡ decimal h.0 = cc in f)))
+    | inr (within, two) ↦ let most = within.most in none ((let f : first ≡ option = cc in f), (h.0, omega (arith, most), (within, let f : number ≡ decimal h.0 = cc in f)))
   ])
 ]
   where
-    spell : (option number : List ℕ) (n : ℕ) → option ≡ codes "--implicates" → number ≡ decimal n → codes "--implicates" ∷ decimal n ∷ [] ≡ option ∷ number ∷ []
-    spell option number n a b = cc (a, b)
+    spell : (n : ℕ) → first ≡ option → number ≡ decimal n → option ∷ decimal n ∷ [] ≡ first ∷ number ∷ []
+    spell n a b = cc (a, b)
+
+pub says_limit : (words : List (List ℕ)) → Decided ((n : ℕ) × SaysLimit words n)
+says_limit = says_number (codes "--implicates") 20000 100000
 
 -- ---- where tags and merges come from
 
@@ -134,9 +137,9 @@ without_source : (ws : List (List ℕ)) (s : Source) (n : ℕ) (h : SaysOptions 
 without_source ws s n h none = subst (λ os. SaysLimit os n) (sym (h.words_are ∙ ap (λ os. os ++ h.last) none)) h.limit
 
 pub options_decided : (ws : List (List ℕ)) → Decided (SaySome ws)
-options_decided [] = inl (limit_alone [] 20000 usual_limit)
+options_decided [] = inl (limit_alone [] 20000 unsaid)
 options_decided (a ∷ []) = inr (λ h. elim (source_words h.2.first h.0 h.2.source) [
-  | inl none ↦ elim (limit_words (a ∷ []) h.1 (without_source (a ∷ []) h.0 h.1 h.2 none)) [ inl empty ↦ absurd cc | inr (limit, two) ↦ absurd cc ]
+  | inl none ↦ elim (number_words (a ∷ []) h.1 (without_source (a ∷ []) h.0 h.1 h.2 none)) [ inl empty ↦ absurd cc | inr (limit, two) ↦ absurd cc ]
   | inr (x, y, apart, two) ↦ let e : a ∷ [] ≡ x ∷ y ∷ h.2.last = h.2.words_are ∙ ap (λ os. os ++ h.2.last) two in absurd cc
 ])
 options_decided (a ∷ b ∷ more) = elim (says_limit (a ∷ b ∷ more)) [

@@ -10,13 +10,14 @@ use Rattle.kp_base.specs.declared.limits.Mode.{Mode}
 use Rattle.kp_base.specs.declared.limits.Mode.TheVariants as modes
 use Rattle.kp_words.specs.Names.{Source, of_mode, of_file, Translate, Merges}
 use Rattle.kp_words.specs.declared.command.Command.TheVariants as commands
-use Rattle.kp_words.specs.Command.{mode_word, usual_mode, stated_mode, SaysSource, usual_limit, stated, SaysOptions, NamesFiles, IsTranslate, IsMerges, IsCheck, IsLift, inputs_of, IsNoCommand}
+use Rattle.kp_words.specs.Command.{mode_word, usual_mode, stated_mode, SaysSource, unsaid, stated, SaysOptions, NamesFiles, IsTranslate, IsMerges, IsCheck, IsLift, inputs_of, IsNoCommand}
 use Rattle.kp_words.proofs.Words.{words_differ}
-use Rattle.kp_words.proofs.SaidOnce.{mode_words, source_words, limit_words, limit_first, says_apart}
-use Rattle.kp_words.proofs.OneCommand.{StartWith, whole_translate, whole_merges, whole_lift, translate_first, merges_first, strip_first, check_first, lift_first, apart}
+use Rattle.kp_words.proofs.SaidOnce.{mode_words, source_words, number_words, limit_first, says_apart}
+use Rattle.kp_words.proofs.OneCommand.{StartWith, whole_translate, whole_merges, whole_lift, translate_first, merges_first, strip_first, check_first, lift_first, solve_first, classical_first, apart}
+use Rattle.kp_words.proofs.SearchCommands.{whole_solve, whole_classical}
 
 -- a word as the program gets it, of which the bytes alone matter
-abbrev word : (bytes : List ℕ) → length bytes < 2 ^ 63 → Vec ℕ Global
+abbrev pub word : (bytes : List ℕ) → length bytes < 2 ^ 63 → Vec ℕ Global
 word bytes small = record { ptr = null_ptr; len = length bytes; cap = length bytes; alloc = record { memory = record { seal = tt } }; items = bytes; ok = (refl, omega arith); small = small }
 
 -- `translate d p od op`, and more words
@@ -50,7 +51,7 @@ is_usual = record {
   options = [];
   words_are = refl;
   files = names_files (of_mode modes.K1) 20000;
-  says = record { first = []; last = []; words_are = refl; source = usual_mode; limit = usual_limit };
+  says = record { first = []; last = []; words_are = refl; source = usual_mode; limit = unsaid };
 }
 
 -- a mode and a limit
@@ -83,7 +84,7 @@ is_merging = record {
     last = [];
     words_are = refl;
     source = (refl, record { not_empty = λ e. cc; no_dash = refl; utf8 = (codes "m", (refl, refl)) });
-    limit = usual_limit;
+    limit = unsaid;
   };
 }
 
@@ -99,7 +100,7 @@ is_merges = record {
     domain = record { not_empty = λ e. cc; no_dash = refl; utf8 = (codes "d", (refl, refl)) };
     problem = record { not_empty = λ e. cc; no_dash = refl; utf8 = (codes "p", (refl, refl)) };
   };
-  says = record { first = codes "--mode" ∷ codes "auto" ∷ []; last = []; words_are = refl; source = stated_mode modes.Auto; limit = usual_limit };
+  says = record { first = codes "--mode" ∷ codes "auto" ∷ []; last = []; words_are = refl; source = stated_mode modes.Auto; limit = unsaid };
 }
 
 -- a check
@@ -115,7 +116,7 @@ is_check = record {
     problem = record { not_empty = λ e. cc; no_dash = refl; utf8 = (codes "p", (refl, refl)) };
     plan = record { not_empty = λ e. cc; no_dash = refl; utf8 = (codes "t", (refl, refl)) };
   };
-  limit = usual_limit;
+  limit = unsaid;
 }
 
 -- a lift, with a file of merges
@@ -136,7 +137,7 @@ is_lift = record {
     last = [];
     words_are = refl;
     source = (refl, record { not_empty = λ e. cc; no_dash = refl; utf8 = (codes "m", (refl, refl)) });
-    limit = usual_limit;
+    limit = unsaid;
   };
 }
 
@@ -153,6 +154,8 @@ no_words (commands.Merges c) h = let all = whole_merges [] c h in cc
 no_words (commands.Translate c) h = let all = whole_translate [] c h in cc
 no_words (commands.Check c) h = let e = h.files.words_are in let all = h.words_are in cc
 no_words (commands.Lift c) h = let all = whole_lift [] c h in cc
+no_words (commands.Solve c) h = let all = whole_solve [] c h in cc
+no_words (commands.Classical c) h = let all = whole_classical [] c h in cc
 
 -- words behind `translate` that are no translation are no command
 no_translation : (words : List (Vec ℕ Global)) → StartWith words (codes "translate") → ((c : Translate) → IsTranslate words c → ⊥) → IsNoCommand words
@@ -161,6 +164,8 @@ no_translation words verb none (commands.Merges c) h = apart words (codes "trans
 no_translation words verb none (commands.Strip c) h = apart words (codes "translate") (codes "strip") refl verb (strip_first words c h)
 no_translation words verb none (commands.Check c) h = apart words (codes "translate") (codes "check") refl verb (check_first words c h)
 no_translation words verb none (commands.Lift c) h = apart words (codes "translate") (codes "lift") refl verb (lift_first words c h)
+no_translation words verb none (commands.Solve c) h = apart words (codes "translate") (codes "solve") refl verb (solve_first words c h)
+no_translation words verb none (commands.Classical c) h = apart words (codes "translate") (codes "classical") refl verb (classical_first words c h)
 
 -- and words behind `merges` that are no call for merges are none
 no_merges : (words : List (Vec ℕ Global)) → StartWith words (codes "merges") → ((c : Merges) → IsMerges words c → ⊥) → IsNoCommand words
@@ -169,6 +174,8 @@ no_merges words verb none (commands.Merges c) h = none c h
 no_merges words verb none (commands.Strip c) h = apart words (codes "merges") (codes "strip") refl verb (strip_first words c h)
 no_merges words verb none (commands.Check c) h = apart words (codes "merges") (codes "check") refl verb (check_first words c h)
 no_merges words verb none (commands.Lift c) h = apart words (codes "merges") (codes "lift") refl verb (lift_first words c h)
+no_merges words verb none (commands.Solve c) h = apart words (codes "merges") (codes "solve") refl verb (solve_first words c h)
+no_merges words verb none (commands.Classical c) h = apart words (codes "merges") (codes "classical") refl verb (classical_first words c h)
 
 -- the first file's name begins with a dash
 dashed_is_none : (p od op : Vec ℕ Global) (more : List (Vec ℕ Global)) → IsNoCommand (word (codes "translate") (omega arith) ∷ word (codes "-d") (omega arith) ∷ p ∷ od ∷ op ∷ more)
@@ -230,7 +237,7 @@ limit_first_is_none = unsaid_is_none _ none
     none : (s : Source) (n : ℕ) → SaysOptions (codes "--implicates" ∷ codes "7" ∷ codes "--mode" ∷ codes "k2" ∷ []) s n → ⊥
     none s n h = elim (source_words h.first s h.source) [
       | inr (a, b, other, two) ↦ let all = h.words_are in other (let f : a ≡ codes "--implicates" = cc in f)
-      | inl empty ↦ elim (limit_words h.last n h.limit) [
+      | inl empty ↦ elim (number_words h.last n h.limit) [
         | inl nothing ↦ let all = h.words_are in absurd cc
         | inr (limit, two) ↦ let all = h.words_are in absurd cc
       ]

@@ -8,12 +8,19 @@ use Rattle.kp_words.proofs.Words.{same_front}
 use Rattle.kp_words.proofs.SaidOnce.{one_options}
 
 -- words that are cut behind as many words are cut so
-behind : (words front back : List (Vec ℕ Global)) (n : ℕ) → front ≡ take n words → back ≡ drop n words → length front ≡ n
+pub behind : (words front back : List (Vec ℕ Global)) (n : ℕ) → front ≡ take n words → back ≡ drop n words → length front ≡ n
     → (first last : List (List ℕ)) → length first ≡ n → map (λ w. w.items) words ≡ first ++ last → last ≡ map (λ w. w.items) back
 behind words front back n f b long first last same e =
     let named = length-map front (λ w. w.items) in
     let whole : words ≡ front ++ back = sym (take-append-drop n words) ∙ cc (f, b) in
     (same_front first last (map (λ w. w.items) front) (map (λ w. w.items) back) (omega (arith, long, same, named)) (sym e ∙ (ap (map (λ w. w.items)) whole ∙ map-append (λ w. w.items) front back))).1
+
+pub ahead : (words front back : List (Vec ℕ Global)) (n : ℕ) → front ≡ take n words → back ≡ drop n words → length front ≡ n
+    → (first last : List (List ℕ)) → length first ≡ n → map (λ w. w.items) words ≡ first ++ last → first ≡ map (λ w. w.items) front
+ahead words front back n f b long first last same e =
+    let named = length-map front (λ w. w.items) in
+    let whole : words ≡ front ++ back = sym (take-append-drop n words) ∙ cc (f, b) in
+    (same_front first last (map (λ w. w.items) front) (map (λ w. w.items) back) (omega (arith, long, same, named)) (sym e ∙ (ap (map (λ w. w.items)) whole ∙ map-append (λ w. w.items) front back))).0
 
 module _ (words front back : List (Vec ℕ Global)) where
   -- words are no translation where no options stand behind the fifth

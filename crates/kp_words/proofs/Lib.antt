@@ -1,9 +1,13 @@
 pub mod Words
 pub mod Numbers
 pub mod SaidOnce
+pub mod Cut
 pub mod Fronts
-pub mod OneCommand
 pub mod Decisions
+pub mod Solving
+pub mod SearchCommands
+pub mod OneCommand
 pub mod PlanCommands
 pub mod Decided
 pub mod Examples
+pub mod SearchExamples

@@ -1,13 +1,14 @@
 -- Words are one command at most.
-use Rattle.std.proofs.Common.{◌≡◌, ℕ, false, List, ◌∷◌, bytes_eq, Vec, map, ◌++◌, codes, refl, ap, ◌∙◌, subst}
+use Rattle.std.proofs.Common.{◌≡◌, ℕ, arith, false, List, ◌∷◌, bytes_eq, Vec, map, ◌++◌, codes, refl, ap, ◌∙◌, subst}
 use Rattle.std.specs.declared.alloc.Global.{Global}
 use Rattle.kp_base.specs.declared.limits.Mode.{Mode}
-use Rattle.kp_words.specs.Names.{Source, of_mode, Translate, Merges, Strip, Check, Lift}
+use Rattle.kp_words.specs.Names.{Source, of_mode, Translate, Merges, Strip, Check, Lift, Solve, Classical}
 use Rattle.kp_words.specs.declared.command.Command.TheVariants as commands
-use Rattle.kp_words.specs.Command.{SaysLimit, SaysOptions, IsTranslate, IsMerges, IsStrip, IsCheck, IsLift}
+use Rattle.kp_words.specs.Command.{SaysLimit, SaysOptions, IsTranslate, IsMerges, IsStrip, IsCheck, IsLift, IsSolve, IsClassical}
 use Rattle.kp_words.specs.Laws.{WordsAreOneCommand}
 use Rattle.kp_words.proofs.Words.{words_differ}
-use Rattle.kp_words.proofs.SaidOnce.{one_limit, one_options}
+use Rattle.kp_words.proofs.SaidOnce.{one_number, one_options}
+use Rattle.kp_words.proofs.SearchCommands.{whole_solve, one_solve, whole_classical, one_call}
 
 -- ---- a command's words are its first ones, and the options
 
@@ -67,7 +68,7 @@ one_check words c other is so =
     let w = whole_check words c is in
     let v = whole_check words other so in
     let options : is.options ≡ so.options = cc (w, v) in
-    by (cc (w, v)) (cc (w, v)) (cc (w, v)) (one_limit so.options c.implicates other.implicates (subst (λ o. SaysLimit o c.implicates) options is.limit) so.limit)
+    by (cc (w, v)) (cc (w, v)) (cc (w, v)) (one_number (omega arith) so.options c.implicates other.implicates (subst (λ o. SaysLimit o c.implicates) options is.limit) so.limit)
   where
     by : c.domain ≡ other.domain → c.problem ≡ other.problem → c.plan ≡ other.plan → c.implicates ≡ other.implicates → c ≡ other
     by a b d e = let same : checking c.domain c.problem c.plan c.implicates ≡ checking other.domain other.problem other.plan other.implicates = cc in same
@@ -113,6 +114,12 @@ check_first words c is = (_, whole_check words c is)
 pub lift_first : (words : List (Vec ℕ Global)) (c : Lift) → IsLift words c → StartWith words (codes "lift")
 lift_first words c is = (_, whole_lift words c is)
 
+pub solve_first : (words : List (Vec ℕ Global)) (c : Solve) → IsSolve words c → StartWith words (codes "solve")
+solve_first words c is = (_, whole_solve words c is)
+
+pub classical_first : (words : List (Vec ℕ Global)) (c : Classical) → IsClassical words c → StartWith words (codes "classical")
+classical_first words c is = (_, whole_classical words c is)
+
 -- two different first words
 pub apart : (words : List (Vec ℕ Global)) (x y : List ℕ) → bytes_eq x y ≡ false → StartWith words x → StartWith words y → ⊥
 apart words x y differ is so = words_differ x y differ (let f = is.1 in let g = so.1 in let same : x ≡ y = cc in same)
@@ -123,23 +130,47 @@ one_command words (commands.Translate c) (commands.Merges d) is so = absurd (apa
 one_command words (commands.Translate c) (commands.Strip d) is so = absurd (apart _ _ _ refl (translate_first words c is) (strip_first words d so))
 one_command words (commands.Translate c) (commands.Check d) is so = absurd (apart _ _ _ refl (translate_first words c is) (check_first words d so))
 one_command words (commands.Translate c) (commands.Lift d) is so = absurd (apart _ _ _ refl (translate_first words c is) (lift_first words d so))
+one_command words (commands.Translate c) (commands.Solve d) is so = absurd (apart _ _ _ refl (translate_first words c is) (solve_first words d so))
+one_command words (commands.Translate c) (commands.Classical d) is so = absurd (apart _ _ _ refl (translate_first words c is) (classical_first words d so))
 one_command words (commands.Merges c) (commands.Translate d) is so = absurd (apart _ _ _ refl (merges_first words c is) (translate_first words d so))
 one_command words (commands.Merges c) (commands.Merges d) is so = ap commands.Merges (one_merges words c d is so)
 one_command words (commands.Merges c) (commands.Strip d) is so = absurd (apart _ _ _ refl (merges_first words c is) (strip_first words d so))
 one_command words (commands.Merges c) (commands.Check d) is so = absurd (apart _ _ _ refl (merges_first words c is) (check_first words d so))
 one_command words (commands.Merges c) (commands.Lift d) is so = absurd (apart _ _ _ refl (merges_first words c is) (lift_first words d so))
+one_command words (commands.Merges c) (commands.Solve d) is so = absurd (apart _ _ _ refl (merges_first words c is) (solve_first words d so))
+one_command words (commands.Merges c) (commands.Classical d) is so = absurd (apart _ _ _ refl (merges_first words c is) (classical_first words d so))
 one_command words (commands.Strip c) (commands.Translate d) is so = absurd (apart _ _ _ refl (strip_first words c is) (translate_first words d so))
 one_command words (commands.Strip c) (commands.Merges d) is so = absurd (apart _ _ _ refl (strip_first words c is) (merges_first words d so))
 one_command words (commands.Strip c) (commands.Strip d) is so = ap commands.Strip (one_strip words c d is so)
 one_command words (commands.Strip c) (commands.Check d) is so = absurd (apart _ _ _ refl (strip_first words c is) (check_first words d so))
 one_command words (commands.Strip c) (commands.Lift d) is so = absurd (apart _ _ _ refl (strip_first words c is) (lift_first words d so))
+one_command words (commands.Strip c) (commands.Solve d) is so = absurd (apart _ _ _ refl (strip_first words c is) (solve_first words d so))
+one_command words (commands.Strip c) (commands.Classical d) is so = absurd (apart _ _ _ refl (strip_first words c is) (classical_first words d so))
 one_command words (commands.Check c) (commands.Translate d) is so = absurd (apart _ _ _ refl (check_first words c is) (translate_first words d so))
 one_command words (commands.Check c) (commands.Merges d) is so = absurd (apart _ _ _ refl (check_first words c is) (merges_first words d so))
 one_command words (commands.Check c) (commands.Strip d) is so = absurd (apart _ _ _ refl (check_first words c is) (strip_first words d so))
 one_command words (commands.Check c) (commands.Check d) is so = ap commands.Check (one_check words c d is so)
 one_command words (commands.Check c) (commands.Lift d) is so = absurd (apart _ _ _ refl (check_first words c is) (lift_first words d so))
+one_command words (commands.Check c) (commands.Solve d) is so = absurd (apart _ _ _ refl (check_first words c is) (solve_first words d so))
+one_command words (commands.Check c) (commands.Classical d) is so = absurd (apart _ _ _ refl (check_first words c is) (classical_first words d so))
 one_command words (commands.Lift c) (commands.Translate d) is so = absurd (apart _ _ _ refl (lift_first words c is) (translate_first words d so))
 one_command words (commands.Lift c) (commands.Merges d) is so = absurd (apart _ _ _ refl (lift_first words c is) (merges_first words d so))
 one_command words (commands.Lift c) (commands.Strip d) is so = absurd (apart _ _ _ refl (lift_first words c is) (strip_first words d so))
 one_command words (commands.Lift c) (commands.Check d) is so = absurd (apart _ _ _ refl (lift_first words c is) (check_first words d so))
 one_command words (commands.Lift c) (commands.Lift d) is so = ap commands.Lift (one_lift words c d is so)
+one_command words (commands.Lift c) (commands.Solve d) is so = absurd (apart _ _ _ refl (lift_first words c is) (solve_first words d so))
+one_command words (commands.Lift c) (commands.Classical d) is so = absurd (apart _ _ _ refl (lift_first words c is) (classical_first words d so))
+one_command words (commands.Solve c) (commands.Translate d) is so = absurd (apart _ _ _ refl (solve_first words c is) (translate_first words d so))
+one_command words (commands.Solve c) (commands.Merges d) is so = absurd (apart _ _ _ refl (solve_first words c is) (merges_first words d so))
+one_command words (commands.Solve c) (commands.Strip d) is so = absurd (apart _ _ _ refl (solve_first words c is) (strip_first words d so))
+one_command words (commands.Solve c) (commands.Check d) is so = absurd (apart _ _ _ refl (solve_first words c is) (check_first words d so))
+one_command words (commands.Solve c) (commands.Lift d) is so = absurd (apart _ _ _ refl (solve_first words c is) (lift_first words d so))
+one_command words (commands.Solve c) (commands.Solve d) is so = ap commands.Solve (one_solve words c d is so)
+one_command words (commands.Solve c) (commands.Classical d) is so = absurd (apart _ _ _ refl (solve_first words c is) (classical_first words d so))
+one_command words (commands.Classical c) (commands.Translate d) is so = absurd (apart _ _ _ refl (classical_first words c is) (translate_first words d so))
+one_command words (commands.Classical c) (commands.Merges d) is so = absurd (apart _ _ _ refl (classical_first words c is) (merges_first words d so))
+one_command words (commands.Classical c) (commands.Strip d) is so = absurd (apart _ _ _ refl (classical_first words c is) (strip_first words d so))
+one_command words (commands.Classical c) (commands.Check d) is so = absurd (apart _ _ _ refl (classical_first words c is) (check_first words d so))
+one_command words (commands.Classical c) (commands.Lift d) is so = absurd (apart _ _ _ refl (classical_first words c is) (lift_first words d so))
+one_command words (commands.Classical c) (commands.Solve d) is so = absurd (apart _ _ _ refl (classical_first words c is) (solve_first words d so))
+one_command words (commands.Classical c) (commands.Classical d) is so = ap commands.Classical (one_call words c d is so)

@@ -1,11 +1,11 @@
 -- The last words of a command are cut in one way, and say one thing at most.
-use Rattle.std.proofs.Common.{◌≡◌, ◌≢◌, ◌⊎◌, inl, inr, ℕ, Bool, true, false, List, [], ◌∷◌, ◌++◌, Option, Some, None, MatchOption, bytes_eq, codes, decimal, arith, refl, sym, ap, ◌∙◌, subst}
+use Rattle.std.proofs.Common.{◌≡◌, ◌≢◌, ◌⊎◌, ◌<◌, ◌^◌, inl, inr, ℕ, Bool, true, false, List, [], ◌∷◌, ◌++◌, Option, Some, None, MatchOption, bytes_eq, codes, decimal, arith, refl, sym, ap, ◌∙◌, subst}
 use Rattle.std.proofs.lemmas.Fmt.{decimal_injective}
 use Rattle.std.proofs.lemmas.List.{append_cancel_left}
 use Rattle.kp_base.specs.declared.limits.Mode.{Mode}
 use Rattle.kp_base.specs.declared.limits.Mode.TheVariants as modes
 use Rattle.kp_words.specs.Names.{Source, of_mode, of_file}
-use Rattle.kp_words.specs.Command.{mode_word, SaysMode, usual_mode, stated_mode, SaysSource, IsLimit, SaysLimit, usual_limit, stated, SaysOptions}
+use Rattle.kp_words.specs.Command.{mode_word, SaysMode, usual_mode, stated_mode, SaysSource, IsUpTo, SaysNumber, unsaid, stated, SaysLimit, SaysOptions}
 use Rattle.kp_words.proofs.Words.{words_differ}
 
 -- ---- modes
@@ -86,32 +86,36 @@ one_source words (of_mode m) (of_file name) is so = absurd (no_file words m name
 one_source words (of_file name) (of_mode m) is so = absurd (no_file words m name so is.0)
 one_source words (of_file a) (of_file b) is so = ap of_file (let f = is.0 in let g = so.0 in let same : a ≡ b = cc in same)
 
--- ---- the limit
+-- ---- numbers
 
 -- nothing is said of it, or the option stands in front of a number
-pub limit_words : (words : List (List ℕ)) (n : ℕ) → SaysLimit words n → (words ≡ []) ⊎ (IsLimit n × (words ≡ codes "--implicates" ∷ decimal n ∷ []))
-limit_words _ _ usual_limit = inl refl
-limit_words _ _ (stated n limit) = inr (limit, refl)
+pub number_words : {option : List ℕ} {usual highest : ℕ} (words : List (List ℕ)) (n : ℕ) → SaysNumber option usual highest words n → (words ≡ []) ⊎ (IsUpTo highest n × (words ≡ option ∷ decimal n ∷ []))
+number_words _ _ unsaid = inl refl
+number_words _ _ (stated n within) = inr (within, refl)
+
+-- the words say one number at most
+pub one_number : {option : List ℕ} {usual highest : ℕ} → highest < 2 ^ 64 → (words : List (List ℕ)) (m n : ℕ) → SaysNumber option usual highest words m → SaysNumber option usual highest words n → m ≡ n
+one_number {option = option} {usual = usual} {highest = highest} high _ _ _ unsaid other = of_none _ _ other refl
+  where
+    of_none : (n : ℕ) (words : List (List ℕ)) → SaysNumber option usual highest words n → words ≡ [] → usual ≡ n
+    of_none _ _ unsaid e = refl
+    of_none _ _ (stated n b) e = absurd cc
+one_number {option = option} {usual = usual} {highest = highest} high _ _ _ (stated m a) other = of_stated _ _ other refl
+  where
+    of_stated : (n : ℕ) (words : List (List ℕ)) → SaysNumber option usual highest words n → words ≡ option ∷ decimal m ∷ [] → m ≡ n
+    of_stated _ _ unsaid e = absurd cc
+    of_stated _ _ (stated n b) e =
+        let same : decimal n ≡ decimal m = cc in
+        let low = a.most in
+        let this = b.most in
+        sym (decimal_injective n m (omega (arith, this, high)) (omega (arith, low, high)) same)
 
 -- no limit begins with another word
 pub limit_first : (a : List ℕ) (more : List (List ℕ)) (n : ℕ) → a ≢ codes "--implicates" → SaysLimit (a ∷ more) n → ⊥
-limit_first a more n other h = elim (limit_words (a ∷ more) n h) [
+limit_first a more n other h = elim (number_words (a ∷ more) n h) [
   | inl e ↦ absurd cc
   | inr (limit, e) ↦ other (let f : a ≡ codes "--implicates" = cc in f)
 ]
-
--- the words say one limit at most
-pub one_limit : (words : List (List ℕ)) (m n : ℕ) → SaysLimit words m → SaysLimit words n → m ≡ n
-one_limit _ _ _ usual_limit usual_limit = refl
-one_limit _ _ _ (stated m a) other = of_stated m a _ _ other refl
-  where
-    of_stated : (m : ℕ) → IsLimit m → (n : ℕ) (words : List (List ℕ)) → SaysLimit words n → words ≡ codes "--implicates" ∷ decimal m ∷ [] → m ≡ n
-    of_stated m a _ _ usual_limit e = absurd cc
-    of_stated m a _ _ (stated n b) e =
-        let same : decimal n ≡ decimal m = cc in
-        let low = a.most in
-        let high = b.most in
-        sym (decimal_injective n m (omega (arith, high)) (omega (arith, low)) same)
 
 -- ---- both
 
@@ -147,7 +151,7 @@ one_options words s t m n is so =
     let first = one_cut is.first is.last so.first so.last s t m n e is.source is.limit so.source so.limit in
     let last : is.last ≡ so.last = append_cancel_left so.first is.last so.last (sym (ap (λ ws. ws ++ is.last) first) ∙ e) in (
       one_source so.first s t (subst (λ ws. SaysSource ws s) first is.source) so.source,
-      one_limit so.last m n (subst (λ ws. SaysLimit ws m) last is.limit) so.limit,
+      one_number (omega arith) so.last m n (subst (λ ws. SaysLimit ws m) last is.limit) so.limit,
     )
 
 -- what stands behind the only source says no limit, so nothing is said

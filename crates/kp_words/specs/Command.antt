@@ -4,7 +4,7 @@ use Rattle.std.specs.List.{starts_with}
 use Rattle.std.specs.declared.alloc.Global.{Global}
 use Rattle.kp_base.specs.declared.limits.Mode.{Mode}
 use Rattle.kp_base.specs.declared.limits.Mode.TheVariants as modes
-use Rattle.kp_words.specs.Names.{Source, of_mode, of_file, Translate, Merges, Strip, Check, Lift}
+use Rattle.kp_words.specs.Names.{Source, of_mode, of_file, Translate, Merges, Strip, Check, Lift, Solve, Classical}
 use Rattle.kp_words.specs.declared.command.Command.{Command}
 use Rattle.kp_words.specs.declared.command.Command.TheVariants as commands
 
@@ -35,15 +35,28 @@ abbrev pub SaysSource : List (List ℕ) → Source → Type 0
 SaysSource words (of_mode mode) = SaysMode words mode
 SaysSource words (of_file name) = (words ≡ codes "--merges" ∷ name ∷ []) × IsPositional name
 
--- a limit of prime implicates may be anything from 1 to 100,000
-pub record IsLimit (n : ℕ) : Type 0 where
+-- a number that may be said where the highest is this one: anything from 1 on
+pub record IsUpTo (highest n : ℕ) : Type 0 where
   pub least : 1 ≤ n
-  pub most : n ≤ 100000
+  pub most : n ≤ highest
 
--- words say the limit: there are none, and it is the usual one; or they are the option and a number in decimal
-pub data SaysLimit : List (List ℕ) → ℕ → Type 0 where
-  usual_limit : SaysLimit [] 20000
-  stated : (n : ℕ) → IsLimit n → SaysLimit (codes "--implicates" ∷ decimal n ∷ []) n
+-- words say a number: there are none, and it is the usual one; or they are the option and a number in decimal
+pub data SaysNumber (option : List ℕ) (usual highest : ℕ) : List (List ℕ) → ℕ → Type 0 where
+  unsaid : SaysNumber option usual highest [] usual
+  stated : (n : ℕ) → IsUpTo highest n → SaysNumber option usual highest (option ∷ decimal n ∷ []) n
+
+-- words say the limit of prime implicates: anything from 1 to 100,000
+abbrev pub SaysLimit : List (List ℕ) → ℕ → Type 0
+SaysLimit = SaysNumber (codes "--implicates") 20000 100000
+
+-- words say the budget of a search: anything from 1 to 1,000,000
+abbrev pub SaysBudget : List (List ℕ) → ℕ → Type 0
+SaysBudget = SaysNumber (codes "--budget") 10000 1000000
+
+-- words name the file that the classical plan is written to, or there are none, and it isn't written
+abbrev pub SaysClassical : List (List ℕ) → Option (List ℕ) → Type 0
+SaysClassical words None = words ≡ []
+SaysClassical words (Some name) = (words ≡ codes "--classical" ∷ name ∷ []) × IsPositional name
 
 -- the last words say where tags and merges come from, and then the limit
 pub record SaysOptions (words : List (List ℕ)) (origin : Source) (n : ℕ) : Type 0 where
@@ -121,6 +134,38 @@ pub record IsLift (words : List (Vec ℕ Global)) (c : Lift) : Type 0 where
   pub files : NamesLifted front c
   pub says : SaysOptions options c.source c.implicates
 
+-- the first words of `solve` say what is to be done, and name the files
+pub record NamesSolved (words : List (List ℕ)) (c : Solve) : Type 0 where
+  pub words_are : words ≡ codes "solve" ∷ c.domain ∷ c.problem ∷ []
+  pub domain : IsPositional c.domain
+  pub problem : IsPositional c.problem
+
+-- the words are this call to solve
+pub record IsSolve (words : List (Vec ℕ Global)) (c : Solve) : Type 0 where
+  pub front : List (List ℕ)
+  pub options : List (List ℕ)
+  pub budget : List (List ℕ)
+  pub classical : List (List ℕ)
+  pub words_are : map (λ w. w.items) words ≡ front ++ (options ++ (budget ++ classical))
+  pub files : NamesSolved front c
+  pub says : SaysOptions options c.source c.implicates
+  pub says_budget : SaysBudget budget c.budget
+  pub says_classical : SaysClassical classical c.classical
+
+-- the first words of `classical` say what is to be done, and name the files
+pub record NamesClassical (words : List (List ℕ)) (c : Classical) : Type 0 where
+  pub words_are : words ≡ codes "classical" ∷ c.domain ∷ c.problem ∷ []
+  pub domain : IsPositional c.domain
+  pub problem : IsPositional c.problem
+
+-- the words are this call to solve a classical problem
+pub record IsClassical (words : List (Vec ℕ Global)) (c : Classical) : Type 0 where
+  pub front : List (List ℕ)
+  pub options : List (List ℕ)
+  pub words_are : map (λ w. w.items) words ≡ front ++ options
+  pub files : NamesClassical front c
+  pub budget : SaysBudget options c.budget
+
 -- ---- the table of commands
 
 -- the words are this command
@@ -130,6 +175,8 @@ IsCommand words (commands.Merges c) = IsMerges words c
 IsCommand words (commands.Strip c) = IsStrip words c
 IsCommand words (commands.Check c) = IsCheck words c
 IsCommand words (commands.Lift c) = IsLift words c
+IsCommand words (commands.Solve c) = IsSolve words c
+IsCommand words (commands.Classical c) = IsClassical words c
 
 -- the file of merges, if they come from one
 abbrev pub file_of : Source → Option (List ℕ)
@@ -148,6 +195,8 @@ inputs_of (commands.Merges c) = c.domain ∷ c.problem ∷ []
 inputs_of (commands.Strip c) = c.plan ∷ []
 inputs_of (commands.Check c) = c.domain ∷ c.problem ∷ c.plan ∷ []
 inputs_of (commands.Lift c) = c.domain ∷ c.problem ∷ (if_named (file_of c.source) ++ c.plan ∷ [])
+inputs_of (commands.Solve c) = c.domain ∷ c.problem ∷ if_named (file_of c.source)
+inputs_of (commands.Classical c) = c.domain ∷ c.problem ∷ []
 
 -- the names of the files that it writes, in order
 abbrev pub outputs_of : Command → List (List ℕ)
@@ -156,6 +205,8 @@ outputs_of (commands.Merges c) = []
 outputs_of (commands.Strip c) = []
 outputs_of (commands.Check c) = []
 outputs_of (commands.Lift c) = []
+outputs_of (commands.Solve c) = if_named c.classical
+outputs_of (commands.Classical c) = []
 
 -- the words are no command
 abbrev pub IsNoCommand : List (Vec ℕ Global) → Type 0

@@ -1,3 +1,4 @@
 pub mod Names
 pub mod Command
 pub mod Laws
+pub mod Cut

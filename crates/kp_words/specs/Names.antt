@@ -1,5 +1,5 @@
 -- What the words of a command say.
-use Rattle.std.specs.Prelude.{List, ℕ}
+use Rattle.std.specs.Prelude.{List, ℕ, Option}
 use Rattle.kp_base.specs.declared.limits.Mode.{Mode}
 use Rattle.kp_words.specs.declared.source.Source.{Source as Held}
 use Rattle.kp_words.specs.declared.source.Source.TheVariants as held
@@ -48,3 +48,18 @@ pub record Lift : Type 0 where
   pub plan : List ℕ
   pub source : Source
   pub implicates : ℕ
+
+-- `solve`: the names of the two files, where the tags and merges come from, the limit of prime implicates, how many states may be expanded, and the name of the file that the classical plan is written to, if it is
+pub record Solve : Type 0 where
+  pub domain : List ℕ
+  pub problem : List ℕ
+  pub source : Source
+  pub implicates : ℕ
+  pub budget : ℕ
+  pub classical : Option (List ℕ)
+
+-- `classical`: the names of the two files, and how many states may be expanded
+pub record Classical : Type 0 where
+  pub domain : List ℕ
+  pub problem : List ℕ
+  pub budget : ℕ

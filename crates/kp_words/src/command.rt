@@ -2,8 +2,10 @@ ghost use Rattle.std.specs.Prelude.{MatchOption};
 ghost use Rattle.kp_words.specs.Command.{IsCommand, IsNoCommand};
 
 use crate::check::Check;
+use crate::classical::Classical;
 use crate::lift::Lift;
 use crate::merges::Merges;
+use crate::solve::Solve;
 use crate::strip::Strip;
 use crate::translate::Translate;
 
@@ -20,6 +22,10 @@ pub enum Command<'a> {
     Check(Check<'a>),
     /// Prints a plan of the written files that comes to a given plan, or where none can.
     Lift(Lift<'a>),
+    /// Prints a plan of a conformant problem.
+    Solve(Solve<'a>),
+    /// Prints a plan of a classical problem.
+    Classical(Classical<'a>),
 }
 
 impl<'a> Command<'a> {
@@ -38,6 +44,12 @@ impl<'a> Command<'a> {
         }
         if let Some(lift) = Lift::from_words(words) {
             return Some(Command::Lift(lift));
+        }
+        if let Some(solve) = Solve::from_words(words) {
+            return Some(Command::Solve(solve));
+        }
+        if let Some(classical) = Classical::from_words(words) {
+            return Some(Command::Classical(classical));
         }
         Some(Command::Strip(Strip::from_words(words)?))
     }

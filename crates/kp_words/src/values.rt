@@ -1,14 +1,8 @@
 ghost use Rattle.std.specs.Prelude.{◌≡◌, ◌≢◌, ◌<◌, ◌^◌, ◌↔◌, ℕ, List, map, decimal, IsTrue, MatchOption};
-ghost use Rattle.kp_words.specs.Command.{IsPositional, IsLimit, SaysLimit};
+ghost use Rattle.kp_words.specs.Command.{IsPositional, IsUpTo, SaysNumber, SaysLimit, SaysBudget};
 
 use itoa::Buffer;
 use std::str;
-
-// How many prime implicates are allowed where nothing is said.
-const USUAL_IMPLICATES: u32 = 20_000;
-
-// How many may be allowed at most.
-const MOST_IMPLICATES: u32 = 100_000;
 
 /// Whether a word may name a file.
 pub fn is_positional(word: &[u8]) -> bool
@@ -56,36 +50,50 @@ fn number_of(word: &[u8]) -> Option<u32>
     Some(number)
 }
 
-// Whether a number may be a limit of prime implicates.
-fn is_limit(number: u32) -> bool
-    ensures { IsTrue result ↔ IsLimit number }
+// Whether a number may be said where the highest is this one.
+fn is_up_to(highest: u32, number: u32) -> bool
+    ensures { IsTrue result ↔ IsUpTo highest number }
 {
-    1 <= number && number <= MOST_IMPLICATES
+    1 <= number && number <= highest
 }
 
-// The limit that a word says.
-fn limit_of(word: &[u8]) -> Option<u32>
-    ensures { MatchOption result ((n : ℕ) → IsLimit n → word.now ≢ decimal n) (λ n. IsLimit n × (word.now ≡ decimal n)) }
+// The number, of those up to the highest, that a word says.
+fn number_up_to(highest: u32, word: &[u8]) -> Option<u32>
+    ensures { MatchOption result ((n : ℕ) → IsUpTo highest n → word.now ≢ decimal n) (λ n. IsUpTo highest n × (word.now ≡ decimal n)) }
 {
     let number = number_of(word)?;
-    if !is_limit(number) {
+    if !is_up_to(highest, number) {
         return None;
     }
     Some(number)
 }
 
-/// The limit of prime implicates that the last words of a command say.
-pub fn said_limit(options: &[Vec<u8>]) -> Option<u32>
-    ensures { MatchOption result ((n : ℕ) → SaysLimit (map (λ w. w.items) options.now) n → ⊥) (λ n. SaysLimit (map (λ w. w.items) options.now) n) }
+// The number that words say behind an option, or the usual one.
+fn said_number(words: &[Vec<u8>], option: &str, usual: u32, highest: u32) -> Option<u32>
+    ensures { MatchOption result ((n : ℕ) → SaysNumber option.now usual highest (map (λ w. w.items) words.now) n → ⊥) (λ n. SaysNumber option.now usual highest (map (λ w. w.items) words.now) n) }
 {
-    if options.is_empty() {
-        return Some(USUAL_IMPLICATES);
+    if words.is_empty() {
+        return Some(usual);
     }
-    let [option, number] = options else {
+    let [first, number] = words else {
         return None;
     };
-    if !is_text(option, "--implicates") {
+    if !is_text(first, option) {
         return None;
     }
-    limit_of(number.as_slice())
+    number_up_to(highest, number.as_slice())
+}
+
+/// The limit of prime implicates that words say.
+pub fn said_limit(words: &[Vec<u8>]) -> Option<u32>
+    ensures { MatchOption result ((n : ℕ) → SaysLimit (map (λ w. w.items) words.now) n → ⊥) (λ n. SaysLimit (map (λ w. w.items) words.now) n) }
+{
+    said_number(words, "--implicates", 20_000, 100_000)
+}
+
+/// The budget of a search that words say.
+pub fn said_budget(words: &[Vec<u8>]) -> Option<u32>
+    ensures { MatchOption result ((n : ℕ) → SaysBudget (map (λ w. w.items) words.now) n → ⊥) (λ n. SaysBudget (map (λ w. w.items) words.now) n) }
+{
+    said_number(words, "--budget", 10_000, 1_000_000)
 }
