@@ -1,5 +1,5 @@
 -- What is answered, from what the code finds.
-use Rattle.std.proofs.Common.{◌≡◌, ◌<◌, ◌≤◌, ℕ, true, nat_lt, List, [], ◌∷◌, Some, length, map, Result, Ok, Err, IfOk, refl, sym, ap, subst, ◌∙◌}
+use Rattle.std.proofs.Common.{◌≡◌, ◌<◌, ◌≤◌, ℕ, true, nat_lt, List, [], ◌∷◌, Some, length, map, Result, Ok, Err, refl, sym, ap, subst, ◌∙◌}
 use Rattle.std.specs.List.{list_all}
 use Rattle.std.proofs.lemmas.Bool.{and_from, lt-ltb}
 use Rattle.std.proofs.lemmas.List.{length-map}
@@ -17,12 +17,11 @@ use Rattle.kp_plans.specs.declared.step.PlanStep.{PlanStep}
 use Rattle.kp_plans.specs.PlanFiles.{names, IsPlanOf}
 use Rattle.kp_plans.specs.Found.{action_names, action_of, AnswersSteps as AnswersFound}
 use Rattle.kp_printed.specs.Refusals.{Named, nothing}
-use Rattle.kp_outcome.specs.declared.outcome.Outcome.{Outcome}
 use Rattle.kp_outcome.specs.Ends.{most_bytes}
 use Rattle.kp_words.specs.Names.{Source, of_mode, of_file}
 use Rattle.kp_prepared.specs.declared.prepared.Early.{Early}
 use Rattle.kp_prepared.specs.declared.prepared.Early.TheVariants as halts
-use Rattle.kp_prepared.specs.Refusing.{refuses, named_in}
+use Rattle.kp_prepared.specs.Refusing.{named_in, EndsBy}
 use Rattle.kp_prepared.specs.Prepared.{usual}
 use Rattle.kp_base.specs.declared.limits.Mode.{Mode}
 use Rattle.kp_base.specs.declared.refused.Stop.{Stop}
@@ -30,13 +29,11 @@ use Rattle.kp_tags.specs.Answers.{Accepts, RefusesTable, AnswersTable as Answers
 use Rattle.kp_tags.specs.Made.{AnswersMade}
 use Rattle.kp_merges.specs.MergesFiles.{AnswersMergesFile}
 use Rattle.kp_plans.specs.PlanFiles.{AnswersPlan}
-use Rattle.kp_inputs.specs.Ending.{EndsBy}
 use Rattle.kp_outside.specs.declared.outside.Got.{Got}
 use Rattle.kp_outside.specs.Outside.{IsFront}
 use Rattle.kp_inputs.specs.declared.origin.Origin.TheVariants as origins
-use Rattle.kp_inputs.specs.Tables.{IsOrigin, from_mode, from_file, by_file, of_its_mode, no_merges, bad_merges, RefusesSource, HasTable, AnswersTable, AnswersMerges}
-use Rattle.kp_inputs.specs.Actions.{named_with, HasActions, RefusesActions, no_plan, unknown_step, AnswersActions, AnswersSteps}
-use Rattle.kp_inputs.specs.Laws.{IsAlike}
+use Rattle.kp_inputs.specs.Tables.{IsOrigin, from_mode, from_file, by_file, of_its_mode, no_merges, bad_merges, RefusesSource, AnswersTable, AnswersMerges}
+use Rattle.kp_inputs.specs.Actions.{named_with, RefusesActions, no_plan, unknown_step, AnswersActions, AnswersSteps}
 use Rattle.kp_inputs.proofs.ByModels.{alike}
 use Rattle.kp_inputs.proofs.FileMerges.{number_below}
 

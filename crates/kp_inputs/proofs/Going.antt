@@ -1,12 +1,11 @@
 -- How a command goes on, or ends early, from what the code finds.
-use Rattle.std.proofs.Common.{◌≡◌, ℕ, List, Result, Ok, Err, IfOk, refl, sym, subst}
+use Rattle.std.proofs.Common.{ℕ, List, Result, Ok, Err, IfOk, sym, subst}
 use Rattle.kp_base.specs.declared.memory.Memory.{Memory}
 use Rattle.kp_base.specs.declared.ground.Ground.{Ground}
 use Rattle.kp_base.specs.declared.ground.Initial.{Initial}
 use Rattle.kp_base.specs.declared.ground.TagTable.{TagTable}
 use Rattle.kp_grammar.specs.declared.tree.Word.{Word}
 use Rattle.kp_grammar.specs.Trees.{Domain, Problem}
-use Rattle.kp_plans.specs.declared.step.PlanStep.{PlanStep}
 use Rattle.kp_outcome.specs.declared.outcome.Outcome.{Outcome}
 use Rattle.kp_words.specs.Names.{Source}
 use Rattle.kp_prepared.specs.declared.prepared.Prepared.{Prepared as Made}
@@ -15,7 +14,7 @@ use Rattle.kp_prepared.specs.declared.prepared.Early.TheVariants as halts
 use Rattle.kp_prepared.specs.Prepared.{Comes, early, later, IsPreparedOf, AnswersPrepared}
 use Rattle.kp_inputs.specs.Ending.{Settles}
 use Rattle.kp_inputs.specs.Tables.{HasTable, ComesByTable, no_table, with_table, AnswersTable}
-use Rattle.kp_inputs.specs.Actions.{HasActions, ComesByPlan, no_actions, with_actions, AnswersActions}
+use Rattle.kp_inputs.specs.Actions.{ComesByPlan, no_actions, with_actions, AnswersActions}
 
 -- ---- after the clash test
 

@@ -10,3 +10,4 @@ pub mod Commands
 pub mod Going
 pub mod TablesFor
 pub mod Named
+pub mod Tasks

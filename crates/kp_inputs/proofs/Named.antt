@@ -17,6 +17,7 @@ use Rattle.kp_plans.specs.PlanFiles.{names}
 use Rattle.kp_plans.specs.Names.{same_name}
 use Rattle.kp_plans.specs.Found.{action_names, action_of}
 use Rattle.kp_given.specs.Translations.{ground_of}
+pub use Rattle.kp_prepared.proofs.Problems.{numbers_once}
 
 -- ---- the action that a step names has its name
 
@@ -45,21 +46,6 @@ named_actions g (s ∷ steps) (n ∷ ns) e =
     let here : action_of g.actions s ≡ Some n = cc in
     let there : map (action_of g.actions) steps ≡ map Some ns = cc in
     cc (named_action g s n here, named_actions g steps ns there)
-
--- ---- names tell actions
-
-pub numbers_once : (d : Domain Word) (p : Problem Word) → HasNoFault d p → (is : List GroundName) (ms ns : List ℕ) → map (action_name (ground_of d p)) ms ≡ map Some is → map (action_name (ground_of d p)) ns ≡ map Some is → ms ≡ ns
-numbers_once d p h [] [] [] e f = refl
-numbers_once d p h [] [] (n ∷ ns) e f = absurd cc
-numbers_once d p h [] (m ∷ ms) ns e f = absurd cc
-numbers_once d p h (i ∷ is) [] ns e f = absurd cc
-numbers_once d p h (i ∷ is) (m ∷ ms) [] e f = absurd cc
-numbers_once d p h (i ∷ is) (m ∷ ms) (n ∷ ns) e f =
-    let first : action_name (ground_of d p) m ≡ Some i = cc in
-    let also : action_name (ground_of d p) n ≡ Some i = cc in
-    let rest : map (action_name (ground_of d p)) ms ≡ map Some is = cc in
-    let more : map (action_name (ground_of d p)) ns ≡ map Some is = cc in
-    cc (actions_named_once d p h m n i first also, numbers_once d p h is ms ns rest more)
 
 -- ---- steps with the names of actions are found
 

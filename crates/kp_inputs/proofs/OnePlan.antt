@@ -14,7 +14,7 @@ use Rattle.kp_plans.specs.Found.{action_of, IsFirstUnknown}
 use Rattle.kp_plans.proofs.WholePlans.{read_once, refused_once, never_two, always_some}
 use Rattle.kp_printed.specs.Refusals.{Named, nothing}
 use Rattle.kp_inputs.specs.Actions.{named_with, HasActions, RefusesActions, long_plan, no_plan, unknown_step}
-use Rattle.kp_inputs.specs.Laws.{IsOnePlan, PlansHaveOneList, PlansAreDecided}
+use Rattle.kp_inputs.specs.Laws.{PlansHaveOneList, PlansAreDecided}
 
 pub some_alike : {X : Type 0} (xs ys : List X) → map Some xs ≡ map Some ys → xs ≡ ys
 some_alike [] [] e = refl

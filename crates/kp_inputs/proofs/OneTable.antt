@@ -1,5 +1,5 @@
 -- A source has one table, or one refusal.
-use Rattle.std.proofs.Common.{◌≡◌, ℕ, List, [], ◌∷◌, Ok, Err, length, refl, sym, subst, arith}
+use Rattle.std.proofs.Common.{◌≡◌, ℕ, List, Ok, Err, length, refl, subst, arith}
 use Rattle.kp_base.specs.declared.ground.Ground.{Ground}
 use Rattle.kp_base.specs.declared.ground.Initial.{Initial}
 use Rattle.kp_base.specs.declared.ground.TagTable.{TagTable}
@@ -14,10 +14,10 @@ use Rattle.kp_tags.specs.Made.{IsMade, RefusesMade}
 use Rattle.kp_tags.proofs.Made.{made_once}
 use Rattle.kp_decided.proofs.Once.{tables_once, table_or_refused, accepts_once}
 use Rattle.kp_printed.specs.Refusals.{Named}
-use Rattle.kp_words.specs.Names.{Source, of_mode, of_file}
+use Rattle.kp_words.specs.Names.{Source}
 use Rattle.kp_prepared.specs.Prepared.{usual}
 use Rattle.kp_inputs.specs.Tables.{HasTable, by_mode, by_file, RefusesSource, of_its_mode, long_file, no_merges, bad_merges}
-use Rattle.kp_inputs.specs.Laws.{IsOneTable, SourcesHaveOneTable}
+use Rattle.kp_inputs.specs.Laws.{SourcesHaveOneTable}
 
 -- ---- in a mode
 

@@ -2,7 +2,7 @@
 use Rattle.kp_tags.proofs.Made.{made_right}
 use Rattle.kp_tags.proofs.Right.{right}
 use Rattle.kp_prepared.specs.Prepared.{usual}
-use Rattle.kp_inputs.specs.Tables.{HasTable, by_mode, by_file}
+use Rattle.kp_inputs.specs.Tables.{by_mode, by_file}
 use Rattle.kp_inputs.specs.Laws.{TablesAreRight}
 
 pub tables_right : TablesAreRight

@@ -66,8 +66,11 @@ tags_fit : (g : Ground) (i : Initial) (source : Source) (merges : List (List ℕ
 tags_fit g i _ _ table (by_mode mode _ is) = let a = ap length is.is_table.tags in let b = length-map table.tags (λ (row : TagRow). row.lits) in let f = is.within_limit in omega (arith, a, b, f)
 tags_fit g i _ _ table (by_file name text ms _ short read fine) = let a = ap length fine.is_table.tags in let b = length-map table.tags (λ (row : TagRow). row.lits) in let f = fine.within_limit in omega (arith, a, b, f)
 
+pub few_merges : (g : Ground) (table : TagTable) → FitsLimits (task_of g table) usual → length table.merges ≤ 16000000
+few_merges g table fits = let a = few_by_weight table.merges in let b = weight_counted g table in let f = fits.weight in omega (arith, a, b, f)
+
 merges_fit : (g : Ground) (table : TagTable) → FitsLimits (task_of g table) usual → length table.merges < 2 ^ 64
-merges_fit g table fits = let a = few_by_weight table.merges in let b = weight_counted g table in let f = fits.weight in omega (arith, a, b, f)
+merges_fit g table fits = let few = few_merges g table fits in omega (arith, few)
 
 pub table_for : (d : Domain Word) (p : Problem Word) (source : Source) (merges : List (List ℕ)) (table : TagTable) → IsSmall d p → FitsLimits (task_of (ground_of d p) table) usual → HasTable (ground_of d p) (initial_of d p) source merges table → IsTableFor d p table
 table_for d p source merges table small fits has =

@@ -4,14 +4,13 @@ ghost use Rattle.kp_base.specs.Implicates.{IsOfItsAtoms};
 ghost use Rattle.kp_outside.specs.Outside.{IsFront, IsWithin};
 ghost use Rattle.kp_plans.specs.PlanFiles.{names};
 ghost use Rattle.kp_base.specs.declared.refused.Stop.TheVariants as causes;
-ghost use Rattle.kp_inputs.specs.Ending.{EndsBy};
+ghost use Rattle.kp_prepared.specs.Refusing.{EndsBy};
 ghost use Rattle.kp_inputs.specs.Actions.{named_with, AnswersActions, AnswersSteps};
 
-use crate::ending::end;
 use kp_base::{Ground, GroundName, Memory, Part, Refused, Row, Stop};
 use kp_outside::Got;
 use kp_plans::{PlanStep, find_steps, read_plan};
-use kp_prepared::{Early, refuse_with};
+use kp_prepared::{Early, ended_by, refuse_with};
 use kp_printed::Named;
 use std::alloc::Global;
 
@@ -69,10 +68,10 @@ pub fn actions_of(alloc: Global, ground: &Ground, plan: Got) -> Result<Row<u32>,
     ensures few { IfOk result (λ ns. length ns < 2147483648) }
 {
     if plan.more {
-        return Err(end(alloc, Stop::Refused(Refused::TooLong(Part::Plan))));
+        return Err(ended_by(alloc, Stop::Refused(Refused::TooLong(Part::Plan))));
     }
     match read_plan(alloc, plan.bytes.slice()) {
         Ok(steps) => numbers_of(alloc, ground, steps),
-        Err(stop) => Err(end(alloc, stop)),
+        Err(stop) => Err(ended_by(alloc, stop)),
     }
 }

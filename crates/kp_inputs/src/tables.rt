@@ -10,12 +10,11 @@ ghost use Rattle.kp_words.specs.Names.{Source, of_mode, of_file};
 ghost use Rattle.kp_prepared.specs.Prepared.{IsUsable};
 ghost use Rattle.kp_inputs.specs.Tables.{IsOrigin, IsShort, AnswersTable, AnswersMerges};
 
-use crate::ending::{end, end_in};
 use crate::origin::Origin;
 use kp_base::{Limits, Mode, Part, Refused, Row, Stop, TagTable};
 use kp_merges::{FileMerge, read_merges};
 use kp_outside::Got;
-use kp_prepared::{Early, Prepared};
+use kp_prepared::{Early, Prepared, ended_by, ended_in};
 use kp_relevance::Relevance;
 use kp_tags::{accept_merges, make};
 use std::alloc::Global;
@@ -40,7 +39,7 @@ fn table_in(
         &Limits::usual(),
     ) {
         Ok(table) => Ok(table),
-        Err(stop) => Err(end_in(alloc, &prepared.ground, stop)),
+        Err(stop) => Err(ended_in(alloc, &prepared.ground, stop)),
     }
 }
 
@@ -51,7 +50,7 @@ fn table_for(alloc: Global, prepared: &Prepared, merges: &Row<FileMerge>) -> Res
 {
     match accept_merges(alloc, &prepared.primes, merges, &Limits::usual()) {
         Ok(table) => Ok(table),
-        Err(stop) => Err(end_in(alloc, &prepared.ground, stop)),
+        Err(stop) => Err(ended_in(alloc, &prepared.ground, stop)),
     }
 }
 
@@ -62,11 +61,11 @@ fn table_with(alloc: Global, prepared: &Prepared, merges: Got) -> Result<TagTabl
     ensures { (name text : List ℕ) (j : Formula) → IsFront (Some text) 16777216 merges → HaveSameModels (formula prepared.now.primes) j → AnswersTable prepared.now.ground j (of_file name) (text ∷ []) result }
 {
     if merges.more {
-        return Err(end(alloc, Stop::Refused(Refused::TooLong(Part::Merges))));
+        return Err(ended_by(alloc, Stop::Refused(Refused::TooLong(Part::Merges))));
     }
     match read_merges(alloc, merges.bytes.slice(), &prepared.ground) {
         Ok(merges) => table_for(alloc, prepared, &merges),
-        Err(stop) => Err(end(alloc, stop)),
+        Err(stop) => Err(ended_by(alloc, stop)),
     }
 }
 

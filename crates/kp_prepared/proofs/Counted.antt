@@ -1,5 +1,5 @@
 -- A ground problem within the limits has few actions, and few effects of each.
-use Rattle.std.proofs.Common.{◌≡◌, ◌≤◌, ◌+◌, ◌*◌, ℕ, List, [], ◌∷◌, length, inl, inr, sym, ap, subst, arith}
+use Rattle.std.proofs.Common.{◌≤◌, ℕ, List, [], ◌∷◌, length, inl, inr, sym, ap, subst, arith}
 use Rattle.std.specs.Prelude.{sum_by}
 use Rattle.std.proofs.lemmas.List.{length-map}
 use Rattle.std.proofs.lemmas.List.Sums.{sum_by-cons}
@@ -33,7 +33,7 @@ effects_within [] = omega arith
 effects_within (e ∷ es) = let a = sum_by-cons both_weight e es in let b = effects_within es in omega (arith, a, b)
 
 module _ (l : Lifted) (w : IsWithin l usual) where
-  few_actions : length (ground_of l).actions ≤ 20000
+  pub few_actions : length (ground_of l).actions ≤ 20000
   few_actions =
       let a = ap (λ (as' : List Action). length as') (actions_at l (ground_atoms l)) in
       let m = length-map (kept_instances l) (action_at l (ground_atoms l)) in

@@ -27,21 +27,21 @@ use Rattle.kp_outcome.specs.declared.outcome.Outcome.{Outcome}
 use Rattle.kp_prepared.specs.declared.prepared.Prepared.{Prepared as Made}
 use Rattle.kp_prepared.specs.declared.prepared.Early.{Early}
 use Rattle.kp_prepared.specs.declared.prepared.Early.TheVariants as early
-use Rattle.kp_prepared.specs.Texts.{HaveTrees, RefusesTexts}
-use Rattle.kp_prepared.specs.Refusing.{refuses, named_in}
+use Rattle.kp_prepared.specs.Texts.{HaveTrees, IsProblemOf, RefusesTexts}
+use Rattle.kp_prepared.specs.Refusing.{refuses, named_in, EndsBy}
 use Rattle.kp_prepared.specs.Prepared.{usual, IsStarted, too_large, implicates_over, no_initial_state, clash, EndsEarly, by_texts, by_trees, AnswersPrepared}
-use Rattle.kp_prepared.specs.Numbered.{IsProblemOf, IsEnd, IsEndAt, HasPrimes, GoesOn, Ends, by_implicates, by_no_model, by_clash, AnswersGround, EndsWithin, over, within, AnswersNumbers}
+use Rattle.kp_prepared.specs.Numbered.{HasPrimes, GoesOn, Ends, by_implicates, by_no_model, by_clash, AnswersGround, EndsWithin, over, within, AnswersNumbers}
 
 -- ---- refusals
 
 -- texts are refused
-pub texts_end : (limit : ℕ) (x y : List ℕ) (stop : Stop) (e : Early) → ((r : Refused) → stop ≡ causes.Refused r → RefusesTexts x y r) → IsEnd stop e → AnswersPrepared limit x y (Err e)
+pub texts_end : (limit : ℕ) (x y : List ℕ) (stop : Stop) (e : Early) → ((r : Refused) → stop ≡ causes.Refused r → RefusesTexts x y r) → EndsBy nothing stop e → AnswersPrepared limit x y (Err e)
 texts_end limit x y stop early.Memory refused ends = tt
 texts_end limit x y (causes.Refused r) (early.With o) refused ends = by_texts r (refused r refl) ends
 texts_end limit x y causes.Memory (early.With o) refused ends = absurd ends
 
 -- a problem by number is too large
-pub over_ends : (limit : ℕ) (l : Numbers) (stop : Stop) (e : Early) → ((r : Refused) → stop ≡ causes.Refused r → RefusesGround l usual r) → IsEnd stop e → AnswersNumbers limit l (Err e)
+pub over_ends : (limit : ℕ) (l : Numbers) (stop : Stop) (e : Early) → ((r : Refused) → stop ≡ causes.Refused r → RefusesGround l usual r) → EndsBy nothing stop e → AnswersNumbers limit l (Err e)
 over_ends limit l stop early.Memory too ends = tt
 over_ends limit l (causes.Refused r) (early.With o) too ends = subst (EndsWithin limit l) (sym ends) (over r (too r refl))
 over_ends limit l causes.Memory (early.With o) too ends = absurd ends
@@ -57,7 +57,7 @@ formula_refused : (limit : ℕ) (l : Numbers) (r : Refused) (o : Outcome) → Re
 formula_refused limit l _ o (too_many k least) is = subst (Ends limit l) (sym is) (by_implicates k least)
 formula_refused limit l _ o (no_state none) is = subst (Ends limit l) (sym is) (by_no_model none)
 
-pub formula_ends : (limit : ℕ) (l : Numbers) (stop : Stop) (e : Early) → ((r : Refused) → stop ≡ causes.Refused r → RefusesPrimes (initial_of l) limit r) → IsEnd stop e → AnswersGround limit l (Err e)
+pub formula_ends : (limit : ℕ) (l : Numbers) (stop : Stop) (e : Early) → ((r : Refused) → stop ≡ causes.Refused r → RefusesPrimes (initial_of l) limit r) → EndsBy nothing stop e → AnswersGround limit l (Err e)
 formula_ends limit l stop early.Memory refused ends = tt
 formula_ends limit l (causes.Refused r) (early.With o) refused ends = formula_refused limit l r o (refused r refl) ends
 formula_ends limit l causes.Memory (early.With o) refused ends = absurd ends
@@ -70,7 +70,7 @@ module _ (limit : ℕ) (l : Numbers) (g : Ground) (is : g ≡ ground_of l) (h : 
   by_formula = same_models g (formula h) (initial_of l) holds.same_models
 
   -- an action clashes
-  pub clash_ends : (at : ClashAt) (e : Early) → ClashesFirst g (formula h) at → IsEndAt g at e → AnswersGround limit l (Err e)
+  pub clash_ends : (at : ClashAt) (e : Early) → ClashesFirst g (formula h) at → EndsBy (named_in g) (causes.Refused (refusals.Clash at)) e → AnswersGround limit l (Err e)
   clash_ends at early.Memory first ends = tt
   clash_ends at (early.With o) first ends =
       subst (Ends limit l) (sym (ends ∙ ap (λ (x : Ground). refuses (named_in x) (refusals.Clash at)) is))

@@ -3,3 +3,4 @@ pub mod Counted
 pub mod Ended
 pub mod OneText
 pub mod OneStart
+pub mod Problems

@@ -43,13 +43,13 @@ counts_or_within l m _ (bindings_over a) w = let b = w.bindings in omega (arith,
 counts_or_within l m _ (actions_over a b) w = let c = w.actions in omega (arith, b, c)
 counts_or_within l m _ (effects_over a b c) w = let d = w.weight in omega (arith, c, d)
 
-ground_once : (l : Lifted) (m : Limits) (r s : Refused) → RefusesGround l m r → RefusesGround l m s → r ≡ s
+pub ground_once : (l : Lifted) (m : Limits) (r s : Refused) → RefusesGround l m r → RefusesGround l m s → r ≡ s
 ground_once l m _ _ (counts_over r a) (counts_over s b) = counts_once l m r s a b
 ground_once l m _ _ (counts_over r a) (atoms_over w b) = absurd (counts_or_within l m r a w)
 ground_once l m _ _ (atoms_over w a) (counts_over s b) = absurd (counts_or_within l m s b w)
 ground_once l m _ _ (atoms_over w a) (atoms_over v b) = refl
 
-ground_or_within : (l : Lifted) (m : Limits) (r : Refused) (g : Ground) → RefusesGround l m r → IsGrounded l m g → ⊥
+pub ground_or_within : (l : Lifted) (m : Limits) (r : Refused) (g : Ground) → RefusesGround l m r → IsGrounded l m g → ⊥
 ground_or_within l m _ g (counts_over r a) w = counts_or_within l m r a w.counts
 ground_or_within l m _ g (atoms_over v a) w = let b = w.atoms in omega (arith, a, b)
 

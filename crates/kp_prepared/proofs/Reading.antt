@@ -15,7 +15,7 @@ use Rattle.kp_grammar.specs.Trees.{Domain, Problem}
 use Rattle.kp_tree.specs.Files.{Reads, Refuses, AnswersFile}
 use Rattle.kp_lifted.specs.declared.lifted.Lifted.{Lifted}
 use Rattle.kp_names.specs.Resolved.{RefusesNames, AnswersNames}
-use Rattle.kp_prepared.specs.Numbered.{IsProblemOf}
+use Rattle.kp_prepared.specs.Texts.{IsProblemOf}
 
 -- ---- one tree
 

@@ -1,20 +1,13 @@
 -- What a problem by number comes to before a command does its own work. This file serves proofs alone.
-use Rattle.std.specs.Prelude.{◌≡◌, List, ℕ, Result, Ok, Err, length}
-use Rattle.kp_base.specs.declared.ground.Ground.{Ground}
+use Rattle.std.specs.Prelude.{◌≡◌, ℕ, Result, Ok, Err, length}
 use Rattle.kp_base.specs.declared.refused.ClashAt.{ClashAt}
 use Rattle.kp_base.specs.declared.refused.Refused.{Refused}
 use Rattle.kp_base.specs.declared.refused.Refused.TheVariants as refusals
-use Rattle.kp_base.specs.declared.refused.Stop.{Stop}
-use Rattle.kp_base.specs.declared.refused.Stop.TheVariants as causes
 use Rattle.kp_base.specs.Exclusive.{ClashesFirst, IsClashFree}
 use Rattle.kp_base.specs.Entailed.{HasModel}
 use Rattle.kp_base.specs.Implicates.{IsLeastOver, IsNeverOver}
 use Rattle.kp_primes.specs.Answers.{HasNoState, HoldsPrimes}
-use Rattle.kp_grammar.specs.declared.tree.Word.{Word}
-use Rattle.kp_grammar.specs.Trees as trees
 use Rattle.kp_meaning.specs.Numbered.{Lifted as Numbers}
-use Rattle.kp_lifted.specs.declared.lifted.Lifted.{Lifted}
-use Rattle.kp_names.specs.Resolved.{IsResolved}
 use Rattle.kp_grounding.specs.Ground.{ground_of}
 use Rattle.kp_ground.specs.Grounded.{IsGrounded, RefusesGround}
 use Rattle.kp_init.specs.Initial.{initial_of}
@@ -23,27 +16,8 @@ use Rattle.kp_outcome.specs.declared.outcome.Outcome.{Outcome}
 use Rattle.kp_prepared.specs.declared.prepared.Prepared.{Prepared as Made}
 use Rattle.kp_prepared.specs.declared.prepared.Early.{Early}
 use Rattle.kp_prepared.specs.declared.prepared.Early.TheVariants as early
-use Rattle.kp_prepared.specs.Texts.{HaveTrees}
 use Rattle.kp_prepared.specs.Refusing.{refuses, named_in}
 use Rattle.kp_prepared.specs.Prepared.{usual}
-
--- the problem by number of two texts
-pub record IsProblemOf (domain problem : List ℕ) (l : Lifted) : Type 0 where
-  pub first : trees.Domain Word
-  pub second : trees.Problem Word
-  pub trees : HaveTrees domain problem first second
-  pub resolved : IsResolved problem first second l
-
--- a command ends so where a call stopped: with its refusal, which names nothing by number, or since memory ran out
-abbrev pub IsEnd : Stop → Early → Type 0
-IsEnd stop early.Memory = Unit {0}
-IsEnd (causes.Refused r) (early.With o) = o ≡ refuses nothing r
-IsEnd causes.Memory (early.With o) = ⊥
-
--- and so where an action clashes
-abbrev pub IsEndAt : Ground → ClashAt → Early → Type 0
-IsEndAt g at early.Memory = Unit {0}
-IsEndAt g at (early.With o) = o ≡ refuses (named_in g) (refusals.Clash at)
 
 -- the clauses of the initial formula have no more prime implicates than the limit, and it has a model
 pub record HasPrimes (limit : ℕ) (l : Numbers) : Type 0 where

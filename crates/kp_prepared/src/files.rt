@@ -6,8 +6,7 @@ ghost use Rattle.kp_grammar.specs.Grammar as grammar;
 ghost use Rattle.kp_grammar.specs.View.{domain_view, problem_view};
 ghost use Rattle.kp_outside.specs.Outside.{IsFront, IsWithin};
 ghost use Rattle.kp_tree.specs.Files.{Reads, AnswersFile};
-ghost use Rattle.kp_prepared.specs.Numbered.{IsProblemOf};
-ghost use Rattle.kp_prepared.specs.Texts.{RefusesTexts};
+ghost use Rattle.kp_prepared.specs.Texts.{IsProblemOf, RefusesTexts};
 
 use kp_base::{Part, Refused, Stop, Texts};
 use kp_names::{Lifted, resolve};
@@ -45,6 +44,7 @@ fn problem_of(alloc: Global, got: &Got) -> Result<Problem, Stop>
 pub fn read_files(alloc: Global, domain: Got, problem: Got) -> Result<Lifted, Stop>
     requires domain { IsWithin 16777216 domain }
     requires problem { IsWithin 16777216 problem }
+    ensures read { IfOk result (IsProblemOf domain.bytes problem.bytes) }
     ensures resolved { (d p : List ℕ) → IsFront (Some d) 16777216 domain → IsFront (Some p) 16777216 problem → IfOk result (IsProblemOf d p) }
     ensures refused { (d p : List ℕ) (r : Refusal) → IsFront (Some d) 16777216 domain → IsFront (Some p) 16777216 problem → result ≡ Err (stops.Refused r) → RefusesTexts d p r }
 {

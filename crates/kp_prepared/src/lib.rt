@@ -8,6 +8,7 @@ mod prepared;
 mod preparing;
 mod refusing;
 
+pub use files::read_files;
 pub use prepared::{Early, Prepared};
 pub use preparing::prepare;
-pub use refusing::{refuse, refuse_in, refuse_with};
+pub use refusing::{ended_by, ended_in, refuse, refuse_in, refuse_with};

@@ -1,4 +1,6 @@
 ghost use Rattle.std.specs.Prelude.{◌≡◌, ◌≤◌, Some, List, ℕ, IfOk, length};
+ghost use Rattle.kp_base.specs.declared.refused.Refused.TheVariants as refusals;
+ghost use Rattle.kp_base.specs.declared.refused.Stop.TheVariants as causes;
 ghost use Rattle.kp_base.specs.Implicates.{IsOfItsAtoms};
 ghost use Rattle.kp_clash.specs.Counted.{IsCounted};
 ghost use Rattle.kp_meaning.specs.Numbered.{Lifted as Numbers};
@@ -8,11 +10,12 @@ ghost use Rattle.kp_names.specs.View.{lifted_view};
 ghost use Rattle.kp_outside.specs.Outside.{IsFront, IsWithin};
 ghost use Rattle.kp_primes.specs.Answers.{HoldsPrimes};
 ghost use Rattle.kp_prepared.specs.Prepared.{AnswersPrepared, IsUsable};
-ghost use Rattle.kp_prepared.specs.Numbered.{IsEnd, IsEndAt, AnswersGround, AnswersNumbers};
+ghost use Rattle.kp_prepared.specs.Refusing.{named_in, EndsBy};
+ghost use Rattle.kp_prepared.specs.Numbered.{AnswersGround, AnswersNumbers};
 
 use crate::files::read_files;
 use crate::prepared::{Early, Prepared};
-use crate::refusing::{refuse, refuse_in};
+use crate::refusing::{ended_by, ended_in};
 use kp_base::{ClashAt, Ground, Limits, Refused, Stop};
 use kp_clash::{clash_test, exclusive};
 use kp_ground::{GroundWithAtoms, ground_with_atoms};
@@ -23,27 +26,11 @@ use kp_outside::Got;
 use kp_primes::Primes;
 use std::alloc::Global;
 
-// A command ends with a refusal that names nothing by number, or since memory ran out.
-fn end(alloc: Global, stop: Stop) -> Early
-    ensures { IsEnd stop result }
-{
-    match stop {
-        Stop::Refused(refused) => match refuse(alloc, refused) {
-            Ok(outcome) => Early::With(outcome),
-            Err(_) => Early::Memory,
-        },
-        Stop::Memory => Early::Memory,
-    }
-}
-
 // A command ends with a clash in a ground problem.
-fn end_at_clash(alloc: Global, ground: &Ground, at: ClashAt) -> Early
-    ensures { IsEndAt ground.now at result }
+fn ended_at_clash(alloc: Global, ground: &Ground, at: ClashAt) -> Early
+    ensures { EndsBy (named_in ground.now) (causes.Refused (refusals.Clash at)) result }
 {
-    match refuse_in(alloc, ground, Refused::Clash(at)) {
-        Ok(outcome) => Early::With(outcome),
-        Err(_) => Early::Memory,
-    }
+    ended_in(alloc, ground, Stop::Refused(Refused::Clash(at)))
 }
 
 // What a command goes on with, if no action clashes.
@@ -57,7 +44,7 @@ fn without_clash(alloc: Global, ground: Ground, primes: Primes) -> Result<Prepar
     let pairs = exclusive(alloc, &ground, &primes)?;
     match clash_test(&ground, &pairs) {
         Ok(()) => Ok(Prepared { ground, primes }),
-        Err(at) => Err(end_at_clash(alloc, &ground, at)),
+        Err(at) => Err(ended_at_clash(alloc, &ground, at)),
     }
 }
 
@@ -80,7 +67,7 @@ fn on_ground(
     let atoms = made.ground.atoms.len() as u32;
     match Primes::build(alloc, &formula, atoms, implicates) {
         Ok(primes) => without_clash(alloc, made.ground, primes),
-        Err(stop) => Err(end(alloc, stop)),
+        Err(stop) => Err(ended_by(alloc, stop)),
     }
 }
 
@@ -92,7 +79,7 @@ fn on_problem(alloc: Global, implicates: u32, lifted: &Lifted) -> Result<Prepare
     let statics = Statics::of(alloc, lifted)?;
     match ground_with_atoms(alloc, &statics, &Limits::usual()) {
         Ok(made) => on_ground(alloc, implicates, lifted, made),
-        Err(stop) => Err(end(alloc, stop)),
+        Err(stop) => Err(ended_by(alloc, stop)),
     }
 }
 
@@ -106,6 +93,6 @@ pub fn prepare(alloc: Global, implicates: u32, domain: Got, problem: Got) -> Res
 {
     match read_files(alloc, domain, problem) {
         Ok(lifted) => on_problem(alloc, implicates, &lifted),
-        Err(stop) => Err(end(alloc, stop)),
+        Err(stop) => Err(ended_by(alloc, stop)),
     }
 }

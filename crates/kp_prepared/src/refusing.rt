@@ -1,8 +1,9 @@
 ghost use Rattle.std.specs.Prelude.{◌≡◌, IfOk};
 ghost use Rattle.kp_printed.specs.Refusals.{nothing};
-ghost use Rattle.kp_prepared.specs.Refusing.{refuses, named_in};
+ghost use Rattle.kp_prepared.specs.Refusing.{refuses, named_in, EndsBy};
 
-use kp_base::{Ground, Memory, Refused, Row};
+use crate::prepared::Early;
+use kp_base::{Ground, Memory, Refused, Row, Stop};
 use kp_outcome::{Outcome, Status};
 use kp_printed::{Named, refusal};
 use std::alloc::Global;
@@ -36,4 +37,30 @@ pub fn refuse_in(alloc: Global, ground: &Ground, refused: Refused) -> Result<Out
         steps: &[],
     };
     refuse_with(alloc, &named, refused)
+}
+
+/// Where a call stopped, a command ends with its refusal, which names nothing by number.
+pub fn ended_by(alloc: Global, stop: Stop) -> Early
+    ensures { EndsBy nothing stop result }
+{
+    match stop {
+        Stop::Refused(refused) => match refuse(alloc, refused) {
+            Ok(outcome) => Early::With(outcome),
+            Err(_) => Early::Memory,
+        },
+        Stop::Memory => Early::Memory,
+    }
+}
+
+/// The same where the refusal may name the atoms and actions of a ground problem.
+pub fn ended_in(alloc: Global, ground: &Ground, stop: Stop) -> Early
+    ensures { EndsBy (named_in ground.now) stop result }
+{
+    match stop {
+        Stop::Refused(refused) => match refuse_in(alloc, ground, refused) {
+            Ok(outcome) => Early::With(outcome),
+            Err(_) => Early::Memory,
+        },
+        Stop::Memory => Early::Memory,
+    }
 }

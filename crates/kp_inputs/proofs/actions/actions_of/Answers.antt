@@ -12,7 +12,7 @@ use Rattle.kp_inputs.proofs.actions.actions_of.Goals as goal
 
 -- there are more bytes than may be
 pub returns-then-plan-clause-answers : goal.returns-then-plan-clause-answers
-returns-then-plan-clause-answers c text front = ends_at_plan c.args.ground.now text nothing (refusals.TooLong parts.Plan) (long_plan (over_length 16777216 text c.args.plan.more refl front.1 c.if-plan.true)) c.end.result c.end.ensures
+returns-then-plan-clause-answers c text front = ends_at_plan c.args.ground.now text nothing (refusals.TooLong parts.Plan) (long_plan (over_length 16777216 text c.args.plan.more refl front.1 c.if-plan.true)) c.ended_by.result c.ended_by.ensures
 
 pub numbers_of-requires-clause-few : goal.numbers_of-requires-clause-few
 numbers_of-requires-clause-few c =
@@ -33,4 +33,4 @@ pub returns-clause-answers : goal.returns-clause-answers
 returns-clause-answers c text front =
     let its = c.slice.ensures ∙ whole 16777216 text c.args.plan.bytes c.args.plan.more front.0 front.1 c.if-plan.false in
     no_plan_file c.args.ground.now text c.in-Err.stop (short_length 16777216 text c.args.plan.more refl front.1 c.if-plan.false)
-    (subst (λ (bytes : List ℕ). AnswersPlan bytes (Err c.in-Err.stop)) its c.in-Err.ensures) c.end-in-Err.result c.end-in-Err.ensures
+    (subst (λ (bytes : List ℕ). AnswersPlan bytes (Err c.in-Err.stop)) its c.in-Err.ensures) c.ended_by-in-Err.result c.ended_by-in-Err.ensures

@@ -14,4 +14,4 @@ pub returns-in-Err : goal.returns-in-Err
 returns-in-Err c =
     let atoms = c.args.prepared.now.primes.atoms in
     let i = formula c.args.prepared.now.primes in
-    ends_at_merges c.args.prepared.now.ground atoms i c.args.merges.now c.in-Err.stop (subst (λ (m : Limits). AnswersTable atoms i c.args.merges.now m.tags (Err c.in-Err.stop)) c.usual.ensures c.in-Err.ensures) c.end_in.result c.end_in.ensures
+    ends_at_merges c.args.prepared.now.ground atoms i c.args.merges.now c.in-Err.stop (subst (λ (m : Limits). AnswersTable atoms i c.args.merges.now m.tags (Err c.in-Err.stop)) c.usual.ensures c.in-Err.ensures) c.ended_in.result c.ended_in.ensures

@@ -19,5 +19,5 @@ pub returns-in-Err : goal.returns-in-Err
 returns-in-Err c j same =
     let g = c.args.prepared.now.ground in
     let i = formula c.args.prepared.now.primes in
-    answer_by g i j (of_mode c.args.mode) [] (Err c.end_in.result) same
-    (no_mode_table g i c.args.mode c.in-Err.stop (subst (λ (m : Limits). AnswersMade c.args.mode m g i (Err c.in-Err.stop)) c.usual.ensures c.in-Err.ensures) c.end_in.result c.end_in.ensures)
+    answer_by g i j (of_mode c.args.mode) [] (Err c.ended_in.result) same
+    (no_mode_table g i c.args.mode c.in-Err.stop (subst (λ (m : Limits). AnswersMade c.args.mode m g i (Err c.in-Err.stop)) c.usual.ensures c.in-Err.ensures) c.ended_in.result c.ended_in.ensures)

@@ -18,7 +18,7 @@ use Rattle.kp_inputs.proofs.tables.table_with.Goals as goal
 pub returns-then-merges : goal.returns-then-merges
 returns-then-merges c name text j front same =
     ends_at_table c.args.prepared.now.ground j (of_file name) (text ∷ []) nothing (refusals.TooLong parts.Merges)
-    (long_file name text (over_length 16777216 text c.args.merges.more refl front.1 c.if-merges.true)) c.end.result c.end.ensures
+    (long_file name text (over_length 16777216 text c.args.merges.more refl front.1 c.if-merges.true)) c.ended_by.result c.ended_by.ensures
 
 pub table_for-requires : goal.table_for-requires
 table_for-requires c = record { of_atoms = subst (λ n. list_all (has_tags_of_atoms n) c.in-Ok.merges ≡ true) c.requires.usable.atoms (tags_of_atoms c.args.prepared.now.ground.atoms c.slice.result.now c.in-Ok.merges c.in-Ok.ensures) }
@@ -40,4 +40,4 @@ returns c name text j front same =
     let g = c.args.prepared.now.ground in
     let its = c.slice.ensures ∙ whole 16777216 text c.args.merges.bytes c.args.merges.more front.0 front.1 c.if-merges.false in
     no_file_table g j name text c.in-Err.stop (short_length 16777216 text c.args.merges.more refl front.1 c.if-merges.false)
-    (subst (λ (bytes : List ℕ). AnswersMergesFile g.atoms bytes (Err c.in-Err.stop)) its c.in-Err.ensures) c.end-in-Err.result c.end-in-Err.ensures
+    (subst (λ (bytes : List ℕ). AnswersMergesFile g.atoms bytes (Err c.in-Err.stop)) its c.in-Err.ensures) c.ended_by-in-Err.result c.ended_by-in-Err.ensures

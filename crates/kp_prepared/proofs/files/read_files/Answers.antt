@@ -4,8 +4,7 @@ use Rattle.kp_grammar.specs.Grammar as grammar
 use Rattle.kp_grammar.specs.View.{domain_view, problem_view}
 use Rattle.kp_tree.specs.Files.{Reads}
 use Rattle.kp_names.specs.Resolved.{RefusesNames}
-use Rattle.kp_prepared.specs.Texts.{of_domain, of_problem, of_names}
-use Rattle.kp_prepared.specs.Numbered.{IsProblemOf}
+use Rattle.kp_prepared.specs.Texts.{IsProblemOf, of_domain, of_problem, of_names}
 use Rattle.kp_prepared.proofs.Reading.{refused_file, refused_names, resolved_is}
 use Rattle.kp_prepared.proofs.files.read_files.Goals as goal
 
@@ -35,6 +34,11 @@ returns-clause-refused c d p r first second is =
     (subst (λ (text : List ℕ). Reads grammar.problem text pv) also c.in_ok-problem_tree.ensures.tree)
     (subst (λ (text : List ℕ). RefusesNames d text dv pv r) also (subst (λ (text : List ℕ). RefusesNames text c.args.problem.bytes dv pv r) same
     (refused_names c.args.domain.bytes c.args.problem.bytes dv pv c.resolve.result r c.resolve.ensures is)))
+
+-- the problem by number of the bytes
+pub returns-clause-read : goal.returns-clause-read
+returns-clause-read c =
+    resolved_is c.args.domain.bytes c.args.problem.bytes (domain_view c.in_ok-domain_tree.domain_tree) (problem_view c.in_ok-problem_tree.problem_tree) c.resolve.result c.in_ok-domain_tree.ensures.tree c.in_ok-problem_tree.ensures.tree c.resolve.ensures
 
 -- the problem by number
 pub returns-clause-resolved : goal.returns-clause-resolved

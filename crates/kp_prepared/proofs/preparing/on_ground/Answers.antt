@@ -30,5 +30,5 @@ pub returns-in-Err-clause-answers : goal.returns-in-Err-clause-answers
 returns-in-Err-clause-answers c =
     let l = lifted_view c.args.lifted.now in
     let formula = c.in_ok-formula.ensures ∙ ap (initial_over l) (c.slice.ensures ∙ c.requires.atoms) in
-    formula_ends c.args.implicates l c.in-Err.stop c.end.result
-    (λ r is. subst (λ (i : Initial). RefusesPrimes i c.args.implicates r) formula (subst (λ s. AnswersPrimes c.in_ok-formula.formula c.len-atoms.result c.args.implicates (Err s)) is c.in-Err.ensures)) c.end.ensures
+    formula_ends c.args.implicates l c.in-Err.stop c.ended_by.result
+    (λ r is. subst (λ (i : Initial). RefusesPrimes i c.args.implicates r) formula (subst (λ s. AnswersPrimes c.in_ok-formula.formula c.len-atoms.result c.args.implicates (Err s)) is c.in-Err.ensures)) c.ended_by.ensures

@@ -22,9 +22,9 @@ on_ground-requires-clause-of_atoms c =
 pub returns-clause-answers : goal.returns-clause-answers
 returns-clause-answers c =
     let l = lifted_view c.args.lifted.now in
-    over_ends c.args.implicates l c.in-Err.stop c.end.result
+    over_ends c.args.implicates l c.in-Err.stop c.ended_by.result
     (λ r is. subst (λ m. RefusesGround l m r) c.usual.ensures (subst (λ k. RefusesGround k c.usual.result r) (ap lifted_view c.in_ok-statics.ensures) (subst (λ s. StopsGround (lifted_view c.in_ok-statics.statics.lifted.now) c.usual.result s) is c.in-Err.ensures)))
-    c.end.ensures
+    c.ended_by.ensures
 
 -- it is within the limits
 pub returns-in-Ok-clause-answers : goal.returns-in-Ok-clause-answers

@@ -9,4 +9,4 @@ returns-in-Ok-clause-answers c d p first second = problem_ends c.args.implicates
 -- the files are refused
 pub returns-in-Err-clause-answers : goal.returns-in-Err-clause-answers
 returns-in-Err-clause-answers c d p first second =
-    texts_end c.args.implicates d p c.in-Err.stop c.end.result (λ r is. c.read_files.ensures.refused d p r first second (c.in-Err.is ∙ ap Err is)) c.end.ensures
+    texts_end c.args.implicates d p c.in-Err.stop c.ended_by.result (λ r is. c.read_files.ensures.refused d p r first second (c.in-Err.is ∙ ap Err is)) c.ended_by.ensures

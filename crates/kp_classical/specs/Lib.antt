@@ -1,0 +1,4 @@
+pub mod Classical
+pub mod Laws
+pub mod Certain
+pub mod Numbered
