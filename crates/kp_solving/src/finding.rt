@@ -1,0 +1,25 @@
+//! The search of a task.
+ghost use Rattle.std.specs.Prelude.{length, IfOk};
+ghost use Rattle.kp_solving.specs.Operators.{IsInside};
+ghost use Rattle.kp_solving.specs.Solving.{Finds};
+
+use kp_base::Memory;
+use kp_classic::{Task, is_fit};
+use kp_guide::Additive;
+use kp_search::{Found, search};
+use std::alloc::Global;
+
+/// What the search of a task ends with, guided by the estimate `added`. A task with a number that is none of its facts', or
+/// with more facts or operators than 2,147,483,647, is want of memory.
+#[tactic(auto, using(crate::proofs::Searches::inside))]
+pub fn find(alloc: Global, task: &Task, budget: u32) -> Result<Found, Memory>
+    ensures finds { IfOk result (Finds task.now budget) }
+    ensures inside { IfOk result (IsInside (length task.now.ops)) }
+{
+    if !is_fit(task) {
+        return Err(Memory);
+    }
+    let guide = Additive::new(alloc);
+    let found = search(alloc, task, &guide, budget)?;
+    Ok(found)
+}
