@@ -22,4 +22,6 @@ mod refusals;
 #[cfg(test)]
 mod running;
 #[cfg(test)]
+mod solving;
+#[cfg(test)]
 mod stripping;

@@ -8,7 +8,7 @@ const MOVES: &str =
 const FROM_A_TO_B: &str =
     "(define (problem f) (:domain f) (:objects a b - cell) (:init (at a)) (:goal (at b)))";
 
-const NO_GOAL: &str = "(define (problem e) (:domain d) (:init (p)) (:goal (and)))";
+pub const NO_GOAL: &str = "(define (problem e) (:domain d) (:init (p)) (:goal (and)))";
 
 // Plans that lift, with their lines, and plans that don't.
 #[test]

@@ -2,10 +2,10 @@ use crate::running::{CELLS, DOMAIN, ONE_IS_FULL, PROBLEM, says_so};
 use std::test::Fail;
 
 // Two actions of which one makes q true, whatever p is.
-const EITHER: &str =
+pub const EITHER: &str =
     "(define (domain c) (:predicates (p) (q)) (:action a :effect (when (p) (q))) (:action b :effect (when (not (p)) (q))))";
 
-const NOTHING_OF_P: &str = "(define (problem c) (:domain c) (:init (unknown (p))) (:goal (q)))";
+pub const NOTHING_OF_P: &str = "(define (problem c) (:domain c) (:init (unknown (p))) (:goal (q)))";
 
 // One action that makes g true in each of four cases.
 pub const FOUR: &str =

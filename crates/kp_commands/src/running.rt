@@ -166,3 +166,25 @@ pub fn lifts_so(
     )?;
     runs_so(alloc, &words, &mut shelf, number, printed)
 }
+
+/// Whether a call to solve that puts its whole plan under a name prints this text and puts this content, or none.
+pub fn solves_so(
+    alloc: Global,
+    texts: (&str, &str),
+    printed: &str,
+    put: Option<&str>,
+) -> Result<bool, Memory> {
+    let mut words = Vec::new(alloc);
+    let named = ["solve", "d", "p", "--classical", "f"];
+    push_all(alloc, &mut words, named.as_slice())?;
+    let mut shelf = shelf_of(alloc, texts.0.as_bytes(), texts.1.as_bytes())?;
+    let number = if put.is_some() { 0 } else { 1 };
+    let is_so = runs_so(alloc, &words, &mut shelf, number, printed);
+    drop(words);
+    let is_put = match (shelf.held(b"f".as_slice()), put) {
+        (Some(held), Some(put)) => held.slice() == put.as_bytes(),
+        (held, put) => held.is_none() && put.is_none(),
+    };
+    drop(shelf);
+    Ok(is_so? && is_put)
+}

@@ -1,5 +1,5 @@
 -- What is due is an answer, and no fault.
-use Rattle.std.proofs.Common.{◌≡◌, ℕ, List, [], length, sym, subst}
+use Rattle.std.proofs.Common.{◌≡◌, ℕ, List, [], Option, length, sym, subst}
 use Rattle.kp_base.specs.declared.ground.Ground.{Ground}
 use Rattle.kp_base.specs.declared.ground.Initial.{Initial}
 use Rattle.kp_base.specs.declared.ground.TagTable.{TagTable}
@@ -14,7 +14,11 @@ use Rattle.kp_words.specs.Names.{Source, of_mode, Translate}
 use Rattle.kp_prepared.specs.Prepared.{by_texts, by_trees, Comes, early, later}
 use Rattle.kp_inputs.specs.Tables.{ComesByTable, no_table, with_table}
 use Rattle.kp_inputs.specs.Actions.{ComesByPlan, no_actions, with_actions}
-use Rattle.kp_run.specs.Outcomes.{TranslatesGround, over, done, TranslatesTrees, MergesTrees, StripsText, too_long, no_plan, no_strip, strips, tells, ChecksTrees, LiftsActions, lifts, fails, LiftsPlan, no_task, with_task, LiftsTrees, translated, merged, stripped, checked, lifted, usage, of_command}
+use Rattle.kp_run.specs.Outcomes.{TranslatesGround, over, done, TranslatesTrees, MergesTrees, StripsText, too_long, no_plan, no_strip, strips, tells, ChecksTrees, LiftsActions, lifts, fails, LiftsPlan, no_task, with_task, LiftsTrees, SolvesTrees, ClassicalTrees, translated, merged, stripped, checked, lifted, solved, searched, usage, of_command}
+use Rattle.kp_search.specs.declared.found.Found.{Found}
+use Rattle.kp_search.specs.declared.found.Found.TheVariants.{Plan, NoPlan, Spent}
+use Rattle.kp_classical.specs.Classical.{ComesClassical, by_texts as no_texts, by_trees as no_trees, early as at_once, later as goes_on}
+use Rattle.kp_solving.specs.Solving.{TellsSolved, SolvesGround, over as too_large, searched as by_search, TellsClassical}
 use Rattle.kp_run.specs.Laws.{OutcomesAreAnswers}
 
 -- an outcome that is known
@@ -56,6 +60,25 @@ strip_answer x o (no_plan r a h e) = known o _ e tt
 strip_answer x o (no_strip ss s a h n e) = known o _ e tt
 strip_answer x o (strips ss as' a h n e) = known o _ e tt
 
+told_answer : (name : Option (List ℕ)) (g : Ground) (i : Initial) (table : TagTable) (o : Outcome) (found : Found) → TellsSolved name g i table found o → IsAnswer o.status
+told_answer name g i table o (Plan ops n) t = known o _ t.3 tt
+told_answer name g i table o NoPlan t = known o _ t.2 tt
+told_answer name g i table o (Spent n) t = known o _ t tt
+
+solved_answer : (name : Option (List ℕ)) (budget : ℕ) (g : Ground) (i : Initial) (table : TagTable) (o : Outcome) → SolvesGround name budget g i table o → IsAnswer o.status
+solved_answer name budget g i table o (too_large r a e) = known o _ e tt
+solved_answer name budget g i table o (by_search found a finds t) = told_answer name g i table o found t
+
+classical_answer : (g : Ground) (o : Outcome) (found : Found) → TellsClassical g found o → IsAnswer o.status
+classical_answer g o (Plan ops n) t = known o _ t.2 tt
+classical_answer g o NoPlan t = known o _ t tt
+classical_answer g o (Spent n) t = known o _ t tt
+
+comes_classical_answer : (x y : List ℕ) (P : Domain Word → Problem Word → Outcome → Type 0) (o : Outcome) → ((d : Domain Word) (p : Problem Word) → P d p o → IsAnswer o.status) → ComesClassical x y P o → IsAnswer o.status
+comes_classical_answer x y P o answers (at_once (no_texts r a e)) = known o _ e tt
+comes_classical_answer x y P o answers (at_once (no_trees d p r h a e)) = known o _ e tt
+comes_classical_answer x y P o answers (goes_on d p h a on) = answers d p on
+
 pub outcomes_are_answers : OutcomesAreAnswers
 outcomes_are_answers words held _ (usage a) = tt
 outcomes_are_answers words held o (of_command _ _ _ is at (translated c x y merges _ a)) = comes_answer c.implicates x y (TranslatesTrees c merges) o (λ d p. table_answer (ground_of d p) (initial_of d p) c.source merges _ o (λ table. ground_answer c (ground_of d p) (initial_of d p) table o)) a
@@ -63,3 +86,5 @@ outcomes_are_answers words held o (of_command _ _ _ is at (merged c x y _ a)) = 
 outcomes_are_answers words held o (of_command _ _ _ is at (stripped c x _ a)) = strip_answer x o a
 outcomes_are_answers words held o (of_command _ _ _ is at (checked c x y plan _ a)) = comes_answer c.implicates x y (ChecksTrees plan) o (λ d p. plan_answer (ground_of d p) plan _ o (λ ns j. judged_answer (ground_of d p) ns o j.judged j.told)) a
 outcomes_are_answers words held o (of_command _ _ _ is at (lifted c x y merges plan _ a)) = comes_answer c.implicates x y (LiftsTrees c merges plan) o (λ d p. table_answer (ground_of d p) (initial_of d p) c.source merges _ o (λ table. lift_answer (ground_of d p) plan table o)) a
+outcomes_are_answers words held o (of_command _ _ _ is at (solved c x y merges _ a)) = comes_answer c.implicates x y (SolvesTrees c merges) o (λ d p. table_answer (ground_of d p) (initial_of d p) c.source merges _ o (λ table. solved_answer c.classical c.budget (ground_of d p) (initial_of d p) table o)) a
+outcomes_are_answers words held o (of_command _ _ _ is at (searched c x y _ a)) = comes_classical_answer x y (ClassicalTrees c) o (λ d p s. classical_answer (ground_of d p) o s.found s.tells) a

@@ -48,12 +48,12 @@ use Rattle.kp_inputs.specs.Actions.{HasActions, ComesByPlan, no_actions, with_ac
 use Rattle.kp_inputs.proofs.OneTable.{one_table}
 use Rattle.kp_inputs.proofs.OnePlan.{one_plan, some_alike}
 use Rattle.kp_inputs.proofs.Named.{found_at}
-use Rattle.kp_run.specs.Outcomes.{prints, LiftsActions, lifts, fails, LiftsPlan, no_task, with_task, LiftsTrees, LiftsTexts, ComesTo, translated, merged, stripped, checked, lifted, IsDue, usage, of_command}
+use Rattle.kp_run.specs.Outcomes.{prints, LiftsActions, lifts, fails, LiftsPlan, no_task, with_task, LiftsTrees, LiftsTexts, ComesTo, translated, merged, stripped, checked, lifted, IsDue, usage, of_command, solved, searched}
 use Rattle.kp_run.specs.Ends.{Ends, came, read_failed, no_memory}
 use Rattle.kp_run.specs.Completeness as complete
 use Rattle.kp_run.specs.Completeness.{PrintsComplete, RanComplete, IsOfTheSame, HoldsPlan, LosesNoPlan}
 use Rattle.kp_run.proofs.Files.{last_once}
-use Rattle.kp_run.proofs.Tasks.{task_or_within}
+use Rattle.kp_inputs.proofs.Tasks.{task_or_within}
 use Rattle.kp_run.proofs.CompleteText.{none_uncovered}
 use Rattle.kp_run.proofs.Soundness.{problem_of, IsDone, AreBoth, both_held, all_done, is_table, first_put, second_put}
 
@@ -207,6 +207,8 @@ module _ (t : Translate) (before after : FileMap) (text : List ℕ) (x : DidTran
       go _ _ is (merged e v w _ b) at = absurd cc
       go _ _ is (stripped e v _ b) at = absurd cc
       go _ _ is (checked e v w u _ b) at = absurd cc
+      go _ _ is (solved e v w more _ b) at = absurd cc
+      go _ _ is (searched e v w _ b) at = absurd cc
       go _ _ is (lifted e v w more u _ b) at =
           let command : e ≡ c = cc in
           let first : v ≡ x.both.domain = cc in

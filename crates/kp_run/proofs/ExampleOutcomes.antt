@@ -54,7 +54,7 @@ use Rattle.kp_outcome.specs.declared.status.Status.TheVariants as status
 use Rattle.kp_outcome.specs.Ends.{Outside, AreHeld, whole}
 use Rattle.kp_words.specs.Names.{of_mode, Translate}
 use Rattle.kp_words.specs.declared.command.Command.TheVariants as commands
-use Rattle.kp_words.specs.Command.{NamesFiles, stated_mode, usual_limit, stated, IsTranslate, file_of, if_named}
+use Rattle.kp_words.specs.Command.{NamesFiles, stated_mode, unsaid, stated, IsTranslate, file_of, if_named}
 use Rattle.kp_words.proofs.Examples.{no_words}
 use Rattle.kp_prepared.specs.Texts.{HaveTrees}
 use Rattle.kp_prepared.specs.Prepared.{usual, IsStarted, later}
@@ -104,7 +104,7 @@ is_command = record {
   options = codes "--mode" ∷ codes "k0" ∷ [];
   words_are = refl;
   files = names_files 20000;
-  says = record { first = codes "--mode" ∷ codes "k0" ∷ []; last = []; words_are = refl; source = stated_mode modes.K0; limit = usual_limit };
+  says = record { first = codes "--mode" ∷ codes "k0" ∷ []; last = []; words_are = refl; source = stated_mode modes.K0; limit = unsaid };
 }
 
 -- with a limit of one prime implicate
@@ -291,4 +291,6 @@ nothing_is_due o (of_command (commands.Strip c) texts _ h held comes) = not_held
 nothing_is_due o (of_command (commands.Check c) texts _ h held comes) = not_held c.domain (c.problem ∷ c.plan ∷ []) texts held
 nothing_is_due o (of_command (commands.Lift c) texts _ h held comes) = not_held c.domain (c.problem ∷ (if_named (file_of c.source) ++ c.plan ∷ [])) texts held
 nothing_is_due o (of_command (commands.Merges c) texts _ h held comes) = not_held c.domain (c.problem ∷ []) texts held
+nothing_is_due o (of_command (commands.Solve c) texts _ h held comes) = not_held c.domain (c.problem ∷ if_named (file_of c.source)) texts held
+nothing_is_due o (of_command (commands.Classical c) texts _ h held comes) = not_held c.domain (c.problem ∷ []) texts held
 nothing_is_due o (of_command (commands.Translate c) texts _ h held comes) = not_held c.domain (c.problem ∷ if_named (file_of c.source)) texts held

@@ -8,14 +8,17 @@ use Rattle.kp_outside.specs.Outside.{FileMap, IsFront, IsWithin}
 use Rattle.kp_outcome.specs.declared.outcome.Outcome.{Outcome}
 use Rattle.kp_outcome.specs.Ends.{most_bytes, AreHeld, AreFronts, none, also}
 use Rattle.kp_outcome.proofs.Fronts.{front_within}
-use Rattle.kp_words.specs.Names.{of_mode, of_file, Translate, Merges, Strip, Check, Lift}
+use Rattle.kp_words.specs.Names.{Source, of_mode, of_file, Translate, Merges, Strip, Check, Lift, Solve, Classical}
 use Rattle.kp_base.specs.declared.limits.Mode.{Mode}
 use Rattle.kp_inputs.specs.declared.origin.Origin.TheVariants as origins
-use Rattle.kp_inputs.specs.Tables.{IsOrigin, from_mode, from_file}
+use Rattle.kp_inputs.specs.declared.origin.Origin.{Origin}
+use Rattle.kp_inputs.specs.Tables.{IsOrigin, IsShort, from_mode, from_file}
 use Rattle.kp_words.specs.declared.command.Command.{Command}
 use Rattle.kp_words.specs.declared.command.Command.TheVariants as commands
 use Rattle.kp_words.specs.Command.{IsCommand, inputs_of}
-use Rattle.kp_run.specs.Outcomes.{TranslatesTexts, MergesTexts, StripsText, ChecksTexts, LiftsTexts, ComesTo, translated, merged, stripped, checked, lifted, IsDue, of_command}
+use Rattle.kp_run.specs.declared.sourced.Sourced.{Sourced}
+use Rattle.kp_run.specs.Tables.{IsSourced}
+use Rattle.kp_run.specs.Outcomes.{TranslatesTexts, MergesTexts, StripsText, ChecksTexts, LiftsTexts, SolvesTexts, ClassicalTexts, ComesTo, translated, merged, stripped, checked, lifted, solved, searched, IsDue, of_command}
 
 -- ---- fronts are of as many texts
 
@@ -106,25 +109,48 @@ four_within texts gots a b c d fronts e =
 
 -- ---- what a command comes to
 
-pub mode_translated : (c : Translate) (m : Mode) (texts : List (List ℕ)) (gots : List Got) (a b : Got) (r : Result Outcome Memory) → c.source ≡ of_mode m → AreFronts texts gots → gots ≡ a ∷ b ∷ []
-    → ((d p : List ℕ) (merges : List (List ℕ)) → IsFront (Some d) most_bytes a → IsFront (Some p) most_bytes b → IsOrigin c.source merges (origins.Mode m) → IfOk r (TranslatesTexts c d p merges)) → IfOk r (ComesTo (commands.Translate c) texts)
-mode_translated c m texts gots a b r source fronts e comes =
+pub mode_sourced : (m : Mode) (texts : List (List ℕ)) (gots : List Got) (a b : Got) → AreFronts texts gots → gots ≡ a ∷ b ∷ [] → IsSourced (of_mode m) texts (record { domain = a; problem = b; origin = origins.Mode m })
+mode_sourced m texts gots a b fronts e =
     let t = two texts gots a b fronts e in
-    subst (λ us. IfOk r (ComesTo (commands.Translate c) us)) (sym t.are) (by t.first t.second r (comes t.first t.second [] t.first_front t.second_front (subst (λ s. IsOrigin s [] (origins.Mode m)) (sym source) (from_mode m))))
-  where
-    by : (d p : List ℕ) (r : Result Outcome Memory) → IfOk r (TranslatesTexts c d p []) → IfOk r (ComesTo (commands.Translate c) (d ∷ p ∷ []))
-    by d p (Ok o) h = translated c d p [] o h
-    by d p (Err m) h = tt
+    record { domain = t.first; problem = t.second; merges = []; are = t.are; domain_front = t.first_front; problem_front = t.second_front; origin = from_mode m }
 
-pub merged_translated : (c : Translate) (name : List ℕ) (texts : List (List ℕ)) (gots : List Got) (a b m : Got) (r : Result Outcome Memory) → c.source ≡ of_file name → AreFronts texts gots → gots ≡ a ∷ b ∷ m ∷ []
-    → ((d p : List ℕ) (merges : List (List ℕ)) → IsFront (Some d) most_bytes a → IsFront (Some p) most_bytes b → IsOrigin c.source merges (origins.Merges m) → IfOk r (TranslatesTexts c d p merges)) → IfOk r (ComesTo (commands.Translate c) texts)
-merged_translated c name texts gots a b m r source fronts e comes =
+pub merges_sourced : (name : List ℕ) (texts : List (List ℕ)) (gots : List Got) (a b m : Got) → AreFronts texts gots → gots ≡ a ∷ b ∷ m ∷ [] → IsSourced (of_file name) texts (record { domain = a; problem = b; origin = origins.Merges m })
+merges_sourced name texts gots a b m fronts e =
     let t = three texts gots a b m fronts e in
-    subst (λ us. IfOk r (ComesTo (commands.Translate c) us)) (sym t.are) (by t.first t.second t.third r (comes t.first t.second (t.third ∷ []) t.first_front t.second_front (subst (λ s. IsOrigin s (t.third ∷ []) (origins.Merges m)) (sym source) (from_file name t.third m t.third_front))))
+    record { domain = t.first; problem = t.second; merges = t.third ∷ []; are = t.are; domain_front = t.first_front; problem_front = t.second_front; origin = from_file name t.third m t.third_front }
+
+-- what is read so is short
+pub short_origin : (source : Source) (merges : List (List ℕ)) (o : Origin) → IsOrigin source merges o → IsShort o
+short_origin _ _ _ (from_mode m) = tt
+short_origin _ _ _ (from_file name text got front) = front_within text most_bytes got front
+
+pub sourced_translated : (c : Translate) (texts : List (List ℕ)) (s : Sourced) (r : Result Outcome Memory) → IsSourced c.source texts s
+    → ((d p : List ℕ) (merges : List (List ℕ)) → IsFront (Some d) most_bytes s.domain → IsFront (Some p) most_bytes s.problem → IsOrigin c.source merges s.origin → IfOk r (TranslatesTexts c d p merges)) → IfOk r (ComesTo (commands.Translate c) texts)
+sourced_translated c texts s r t comes =
+    subst (λ us. IfOk r (ComesTo (commands.Translate c) us)) (sym t.are) (by r (comes t.domain t.problem t.merges t.domain_front t.problem_front t.origin))
   where
-    by : (d p u : List ℕ) (r : Result Outcome Memory) → IfOk r (TranslatesTexts c d p (u ∷ [])) → IfOk r (ComesTo (commands.Translate c) (d ∷ p ∷ u ∷ []))
-    by d p u (Ok o) h = translated c d p (u ∷ []) o h
-    by d p u (Err m) h = tt
+    by : (r : Result Outcome Memory) → IfOk r (TranslatesTexts c t.domain t.problem t.merges) → IfOk r (ComesTo (commands.Translate c) (t.domain ∷ t.problem ∷ t.merges))
+    by (Ok o) h = translated c t.domain t.problem t.merges o h
+    by (Err m) h = tt
+
+pub sourced_solved : (c : Solve) (texts : List (List ℕ)) (s : Sourced) (r : Result Outcome Memory) → IsSourced c.source texts s
+    → ((d p : List ℕ) (merges : List (List ℕ)) → IsFront (Some d) most_bytes s.domain → IsFront (Some p) most_bytes s.problem → IsOrigin c.source merges s.origin → IfOk r (SolvesTexts c d p merges)) → IfOk r (ComesTo (commands.Solve c) texts)
+sourced_solved c texts s r t comes =
+    subst (λ us. IfOk r (ComesTo (commands.Solve c) us)) (sym t.are) (by r (comes t.domain t.problem t.merges t.domain_front t.problem_front t.origin))
+  where
+    by : (r : Result Outcome Memory) → IfOk r (SolvesTexts c t.domain t.problem t.merges) → IfOk r (ComesTo (commands.Solve c) (t.domain ∷ t.problem ∷ t.merges))
+    by (Ok o) h = solved c t.domain t.problem t.merges o h
+    by (Err m) h = tt
+
+pub two_searched : (c : Classical) (texts : List (List ℕ)) (gots : List Got) (a b : Got) (r : Result Outcome Memory) → AreFronts texts gots → gots ≡ a ∷ b ∷ []
+    → ((d p : List ℕ) → IsFront (Some d) most_bytes a → IsFront (Some p) most_bytes b → IfOk r (ClassicalTexts c d p)) → IfOk r (ComesTo (commands.Classical c) texts)
+two_searched c texts gots a b r fronts e comes =
+    let t = two texts gots a b fronts e in
+    subst (λ us. IfOk r (ComesTo (commands.Classical c) us)) (sym t.are) (by t.first t.second r (comes t.first t.second t.first_front t.second_front))
+  where
+    by : (d p : List ℕ) (r : Result Outcome Memory) → IfOk r (ClassicalTexts c d p) → IfOk r (ComesTo (commands.Classical c) (d ∷ p ∷ []))
+    by d p (Ok o) h = searched c d p o h
+    by d p (Err m) h = tt
 
 pub mode_lifted : (c : Lift) (m : Mode) (texts : List (List ℕ)) (gots : List Got) (a b t : Got) (r : Result Outcome Memory) → c.source ≡ of_mode m → AreFronts texts gots → gots ≡ a ∷ b ∷ t ∷ []
     → ((d p : List ℕ) (merges : List (List ℕ)) (plan : List ℕ) → IsFront (Some d) most_bytes a → IsFront (Some p) most_bytes b → IsOrigin c.source merges (origins.Mode m) → IsFront (Some plan) most_bytes t → IfOk r (LiftsTexts c d p merges plan)) → IfOk r (ComesTo (commands.Lift c) texts)

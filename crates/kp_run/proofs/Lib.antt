@@ -7,10 +7,10 @@ pub mod Translations
 pub mod Checks
 pub mod Lifts
 pub mod Soundness
-pub mod Tasks
 pub mod CompleteText
 pub mod Completeness
 pub mod Ending
 pub mod Files
 pub mod ExampleOutcomes
 pub mod ExampleRefusals
+pub mod Searches

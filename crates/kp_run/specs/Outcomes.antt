@@ -39,14 +39,16 @@ use Rattle.kp_printed.specs.Usage.{usage_text}
 use Rattle.kp_outcome.specs.declared.outcome.Outcome.{Outcome}
 use Rattle.kp_outcome.specs.declared.status.Status.TheVariants as status
 use Rattle.kp_outcome.specs.Ends.{AreHeld, most_bytes}
-use Rattle.kp_words.specs.Names.{of_mode, Translate, Merges, Strip, Check, Lift}
+use Rattle.kp_words.specs.Names.{of_mode, Translate, Merges, Strip, Check, Lift, Solve, Classical}
 use Rattle.kp_words.specs.declared.command.Command.{Command}
 use Rattle.kp_words.specs.declared.command.Command.TheVariants as commands
 use Rattle.kp_words.specs.Command.{IsCommand, IsNoCommand, inputs_of}
 use Rattle.kp_prepared.specs.Refusing.{refuses}
 use Rattle.kp_prepared.specs.Prepared.{usual, Comes}
+use Rattle.kp_classical.specs.Classical.{ComesClassical, task_of as classical_task}
 use Rattle.kp_inputs.specs.Tables.{ComesByTable}
 use Rattle.kp_inputs.specs.Actions.{ComesByPlan}
+use Rattle.kp_solving.specs.Solving.{SolvesGround, SolvesClassical}
 
 -- ---- outcomes
 
@@ -157,6 +159,26 @@ LiftsTrees c merges plan d p o = ComesByTable (ground_of d p) (initial_of d p) c
 abbrev pub LiftsTexts : Lift → List ℕ → List ℕ → List (List ℕ) → List ℕ → Outcome → Type 0
 LiftsTexts c domain problem merges plan o = Comes c.implicates domain problem (LiftsTrees c merges plan) o
 
+-- ---- `solve`
+
+-- two trees are solved to this, with the table of the command's source, to which these texts belong
+abbrev pub SolvesTrees : Solve → List (List ℕ) → trees.Domain Word → trees.Problem Word → Outcome → Type 0
+SolvesTrees c merges d p o = ComesByTable (ground_of d p) (initial_of d p) c.source merges (SolvesGround c.classical c.budget (ground_of d p) (initial_of d p)) o
+
+-- two texts are
+abbrev pub SolvesTexts : Solve → List ℕ → List ℕ → List (List ℕ) → Outcome → Type 0
+SolvesTexts c domain problem merges o = Comes c.implicates domain problem (SolvesTrees c merges) o
+
+-- ---- `classical`
+
+-- two classical trees are solved to this
+abbrev pub ClassicalTrees : Classical → trees.Domain Word → trees.Problem Word → Outcome → Type 0
+ClassicalTrees c d p o = SolvesClassical c.budget (ground_of d p) (classical_task d p) o
+
+-- two texts are
+abbrev pub ClassicalTexts : Classical → List ℕ → List ℕ → Outcome → Type 0
+ClassicalTexts c domain problem o = ComesClassical domain problem (ClassicalTrees c) o
+
 -- ---- all commands
 
 -- a command comes to this outcome on the contents of its input files, in the order of their names
@@ -166,6 +188,8 @@ pub data ComesTo : Command → List (List ℕ) → Outcome → Type 0 where
   stripped : (c : Strip) (text : List ℕ) (o : Outcome) → StripsText text o → ComesTo (commands.Strip c) (text ∷ []) o
   checked : (c : Check) (domain problem plan : List ℕ) (o : Outcome) → ChecksTexts c domain problem plan o → ComesTo (commands.Check c) (domain ∷ problem ∷ plan ∷ []) o
   lifted : (c : Lift) (domain problem : List ℕ) (merges : List (List ℕ)) (plan : List ℕ) (o : Outcome) → LiftsTexts c domain problem merges plan o → ComesTo (commands.Lift c) (domain ∷ problem ∷ (merges ++ plan ∷ [])) o
+  solved : (c : Solve) (domain problem : List ℕ) (merges : List (List ℕ)) (o : Outcome) → SolvesTexts c domain problem merges o → ComesTo (commands.Solve c) (domain ∷ problem ∷ merges) o
+  searched : (c : Classical) (domain problem : List ℕ) (o : Outcome) → ClassicalTexts c domain problem o → ComesTo (commands.Classical c) (domain ∷ problem ∷ []) o
 
 -- The outcome that is due: the usage where the words are no command; else what the command comes to on the contents of its input files. Where it isn't told what they hold, they may hold anything.
 pub data IsDue (words : List (Vec ℕ Global)) (held : Option FileMap) : Outcome → Type 0 where

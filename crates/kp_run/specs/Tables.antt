@@ -1,5 +1,5 @@
--- What a ground problem is translated to with a table, and what is printed of operators. This file serves proofs alone.
-use Rattle.std.specs.Prelude.{◌≡◌, ℕ, List, Some, map}
+-- What a ground problem is translated to with a table, what is printed of operators, and what was read of a source. This file serves proofs alone.
+use Rattle.std.specs.Prelude.{◌≡◌, ◌∷◌, ℕ, List, Some, map}
 use Rattle.kp_base.specs.declared.ground.Ground.{Ground}
 use Rattle.kp_base.specs.declared.ground.GroundName.{GroundName}
 use Rattle.kp_base.specs.declared.ground.Initial.{Initial}
@@ -11,6 +11,11 @@ use Rattle.kp_lift.specs.Lifting.{operator_step}
 use Rattle.kp_plans.specs.Printed.{plan_text}
 use Rattle.kp_outcome.specs.declared.outcome.Outcome.{Outcome}
 use Rattle.kp_words.specs.Names.{Translate}
+use Rattle.kp_outside.specs.Outside.{IsFront}
+use Rattle.kp_outcome.specs.Ends.{most_bytes}
+use Rattle.kp_words.specs.Names.{Source}
+use Rattle.kp_inputs.specs.Tables.{IsOrigin}
+use Rattle.kp_run.specs.declared.sourced.Sourced.{Sourced}
 use Rattle.kp_run.specs.Outcomes.{translates, prints}
 
 -- both files are put, and it is told which targets aren't covered
@@ -24,3 +29,13 @@ pub record PrintsOperators (task : Task) (ops : List ℕ) (o : Outcome) : Type 0
   pub steps : List GroundName
   pub are : map (operator_step task) ops ≡ map Some steps
   pub printed : o ≡ prints (plan_text steps)
+
+-- these texts of a domain, a problem and perhaps merges were read so
+pub record IsSourced (source : Source) (texts : List (List ℕ)) (s : Sourced) : Type 0 where
+  pub domain : List ℕ
+  pub problem : List ℕ
+  pub merges : List (List ℕ)
+  pub are : texts ≡ domain ∷ problem ∷ merges
+  pub domain_front : IsFront (Some domain) most_bytes s.domain
+  pub problem_front : IsFront (Some problem) most_bytes s.problem
+  pub origin : IsOrigin source merges s.origin

@@ -16,14 +16,35 @@ use crate::checking::check_texts;
 use crate::lifting::lift_texts;
 use crate::listing::merges_of_texts;
 use crate::outcomes::usage_outcome;
+use crate::solving::{classical_texts, solve_texts};
+use crate::sourced::{four_of, one_of, taken_apart, three_of, two_of};
 use crate::stripping::strip_text;
 use crate::translating::translate_texts;
 use kp_base::{Memory, Mode, Row};
 use kp_inputs::Origin;
 use kp_outcome::{Outcome, Status, carry_out, read_inputs, stopped};
 use kp_outside::{Got, OutsideStop, Shelf, Sink};
-use kp_words::{Check, Command, Lift, Merges, Source, Strip, Translate};
+use kp_words::{Check, Classical, Command, Lift, Merges, Solve, Source, Strip, Translate};
 use std::alloc::Global;
+
+// Reads the two or three files that a call to solve names.
+fn read_solve<S: Shelf>(
+    alloc: Global,
+    named: &Solve<'_>,
+    shelf: &mut S,
+) -> Result<Row<Got>, OutsideStop>
+    ensures read { IfOk result (AreRead (S.contents shelf.old) (named.now.domain ∷ named.now.problem ∷ if_named (file_of named.now.source))) }
+    ensures failed { IsErrOf result stops.Failed → GetFails (S.contents shelf.old) (named.now.domain ∷ named.now.problem ∷ if_named (file_of named.now.source)) (S.get_faults shelf.old) (S.get_faults shelf.new) }
+    ensures get_faults { result ≢ Err stops.Failed → (q : List ℕ) → S.get_faults shelf.new q ≡ S.get_faults shelf.old q }
+    ensures contents { S.contents shelf.new ≡ S.contents shelf.old }
+    ensures put_faults { (q : List ℕ) → S.put_faults shelf.new q ≡ S.put_faults shelf.old q }
+{
+    let (domain, problem) = (named.domain, named.problem);
+    match named.source {
+        Source::File(merges) => read_inputs(alloc, &[domain, problem, merges], shelf),
+        Source::Mode(_) => read_inputs(alloc, &[domain, problem], shelf),
+    }
+}
 
 // Reads the two or three files that a translation names.
 fn read_translate<S: Shelf>(
@@ -82,77 +103,9 @@ fn read<S: Shelf>(
             read_inputs(alloc, &[named.domain, named.problem, named.plan], shelf)
         }
         Command::Lift(named) => read_lift(alloc, named, shelf),
+        Command::Solve(named) => read_solve(alloc, named, shelf),
+        Command::Classical(named) => read_inputs(alloc, &[named.domain, named.problem], shelf),
     }
-}
-
-// The content that was read of one file.
-fn one_of(gots: Row<Got>) -> Got
-    requires { length gots ≡ 1 }
-    ensures { gots ≡ result ∷ [] }
-{
-    let mut gots = gots.into_vec();
-    gots.pop().unwrap()
-}
-
-// The contents that were read of two files.
-fn two_of(gots: Row<Got>) -> (Got, Got)
-    requires { length gots ≡ 2 }
-    ensures { gots ≡ result.0 ∷ result.1 ∷ [] }
-{
-    let mut gots = gots.into_vec();
-    let second = gots.pop().unwrap();
-    let first = gots.pop().unwrap();
-    (first, second)
-}
-
-// The contents that were read of three files.
-fn three_of(gots: Row<Got>) -> (Got, Got, Got)
-    requires { length gots ≡ 3 }
-    ensures { gots ≡ result.0 ∷ result.1 ∷ result.2 ∷ [] }
-{
-    let mut gots = gots.into_vec();
-    let third = gots.pop().unwrap();
-    let second = gots.pop().unwrap();
-    let first = gots.pop().unwrap();
-    (first, second, third)
-}
-
-// The contents that were read of four files.
-fn four_of(gots: Row<Got>) -> (Got, Got, Got, Got)
-    requires { length gots ≡ 4 }
-    ensures { gots ≡ result.0 ∷ result.1 ∷ result.2 ∷ result.3 ∷ [] }
-{
-    let mut gots = gots.into_vec();
-    let fourth = gots.pop().unwrap();
-    let third = gots.pop().unwrap();
-    let second = gots.pop().unwrap();
-    let first = gots.pop().unwrap();
-    (first, second, third, fourth)
-}
-
-// What a translation in a mode comes to on what was read of its two files.
-fn mode_gots(
-    alloc: Global,
-    named: &Translate<'_>,
-    mode: Mode,
-    gots: Row<Got>,
-) -> Result<Outcome, Memory>
-    requires mode { named.now.source ≡ of_mode mode }
-    requires read { (held : Option FileMap) × AreRead held (named.now.domain ∷ named.now.problem ∷ []) gots }
-    ensures { (texts : List (List ℕ)) → AreFronts texts gots → IfOk result (ComesTo (commands.Translate named.now) texts) }
-{
-    let (domain, problem) = two_of(gots);
-    translate_texts(alloc, named, domain, problem, Origin::Mode(mode))
-}
-
-// What a translation with merges comes to on what was read of its three files.
-fn merged_gots(alloc: Global, named: &Translate<'_>, gots: Row<Got>) -> Result<Outcome, Memory>
-    requires file { (name : List ℕ) × (named.now.source ≡ of_file name) }
-    requires read { (held : Option FileMap) × (merges : List ℕ) × AreRead held (named.now.domain ∷ named.now.problem ∷ merges ∷ []) gots }
-    ensures { (texts : List (List ℕ)) → AreFronts texts gots → IfOk result (ComesTo (commands.Translate named.now) texts) }
-{
-    let (domain, problem, merges) = three_of(gots);
-    translate_texts(alloc, named, domain, problem, Origin::Merges(merges))
 }
 
 // What a translation comes to on what was read of its files.
@@ -160,10 +113,8 @@ fn translate_gots(alloc: Global, named: &Translate<'_>, gots: Row<Got>) -> Resul
     requires { (held : Option FileMap) × AreRead held (named.now.domain ∷ named.now.problem ∷ if_named (file_of named.now.source)) gots }
     ensures { (texts : List (List ℕ)) → AreFronts texts gots → IfOk result (ComesTo (commands.Translate named.now) texts) }
 {
-    match named.source {
-        Source::File(_) => merged_gots(alloc, named, gots),
-        Source::Mode(mode) => mode_gots(alloc, named, mode, gots),
-    }
+    let given = taken_apart(named.source, gots);
+    translate_texts(alloc, named, given.domain, given.problem, given.origin)
 }
 
 // What a lift in a mode comes to on what was read of its three files.
@@ -229,6 +180,24 @@ fn check_gots(alloc: Global, named: &Check<'_>, gots: Row<Got>) -> Result<Outcom
     check_texts(alloc, named, domain, problem, plan)
 }
 
+// What a call to solve comes to on what was read of its files.
+fn solve_gots(alloc: Global, named: &Solve<'_>, gots: Row<Got>) -> Result<Outcome, Memory>
+    requires { (held : Option FileMap) × AreRead held (named.now.domain ∷ named.now.problem ∷ if_named (file_of named.now.source)) gots }
+    ensures { (texts : List (List ℕ)) → AreFronts texts gots → IfOk result (ComesTo (commands.Solve named.now) texts) }
+{
+    let given = taken_apart(named.source, gots);
+    solve_texts(alloc, named, given.domain, given.problem, given.origin)
+}
+
+// What a call to solve two classical files comes to on what was read of them.
+fn classical_gots(alloc: Global, named: &Classical<'_>, gots: Row<Got>) -> Result<Outcome, Memory>
+    requires { (held : Option FileMap) × AreRead held (named.now.domain ∷ named.now.problem ∷ []) gots }
+    ensures { (texts : List (List ℕ)) → AreFronts texts gots → IfOk result (ComesTo (commands.Classical named.now) texts) }
+{
+    let (domain, problem) = two_of(gots);
+    classical_texts(alloc, named, domain, problem)
+}
+
 // What a command comes to on what was read of its input files.
 fn outcome_of(alloc: Global, command: &Command<'_>, gots: Row<Got>) -> Result<Outcome, Memory>
     requires { (held : Option FileMap) × AreRead held (inputs_of command.now) gots }
@@ -240,6 +209,8 @@ fn outcome_of(alloc: Global, command: &Command<'_>, gots: Row<Got>) -> Result<Ou
         Command::Strip(named) => strip_gots(alloc, named, gots),
         Command::Check(named) => check_gots(alloc, named, gots),
         Command::Lift(named) => lift_gots(alloc, named, gots),
+        Command::Solve(named) => solve_gots(alloc, named, gots),
+        Command::Classical(named) => classical_gots(alloc, named, gots),
     }
 }
 

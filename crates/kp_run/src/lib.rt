@@ -8,6 +8,8 @@ mod law;
 mod lifting;
 mod listing;
 mod outcomes;
+mod solving;
+mod sourced;
 mod stripping;
 mod translating;
 

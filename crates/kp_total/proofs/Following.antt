@@ -12,10 +12,10 @@ use Rattle.kp_outcome.specs.declared.outcome.Outcome.{Outcome}
 use Rattle.kp_outcome.specs.declared.status.Status.{Status}
 use Rattle.kp_outcome.specs.declared.status.Status.TheVariants as status
 use Rattle.kp_outcome.specs.Ends.{Outside, IsAnswer, AreHeld, with_files, StopsAt, CarriesOut, whole, put_failed, put_no_memory, print_failed, print_no_memory}
-use Rattle.kp_words.specs.Names.{Source, of_mode, Translate, Strip, Check, Lift}
+use Rattle.kp_words.specs.Names.{Source, of_mode, Translate, Strip, Check, Lift, Solve, Classical}
 use Rattle.kp_words.specs.declared.command.Command.{Command}
 use Rattle.kp_words.specs.declared.command.Command.TheVariants as commands
-use Rattle.kp_words.specs.Command.{IsCommand, inputs_of, outputs_of}
+use Rattle.kp_words.specs.Command.{IsCommand, if_named, inputs_of, outputs_of}
 use Rattle.kp_prepared.specs.Refusing.{refuses}
 use Rattle.kp_prepared.specs.Prepared.{by_texts, by_trees, Comes, early, later}
 use Rattle.kp_base.specs.declared.refused.Refused.{Refused}
@@ -28,7 +28,12 @@ use Rattle.kp_check.specs.declared.answer.Judged.TheVariants.{Yes, No}
 use Rattle.kp_given.specs.Translations.{ground_of, initial_of}
 use Rattle.kp_inputs.specs.Tables.{ComesByTable, no_table, with_table}
 use Rattle.kp_inputs.specs.Actions.{ComesByPlan, no_actions, with_actions}
-use Rattle.kp_run.specs.Outcomes.{translates, TranslatesGround, over, done, TranslatesTrees, ListsMerges, MergesTrees, StripsText, too_long, no_plan, no_strip, strips, tells, TellsJudged, ChecksTrees, LiftsActions, lifts, fails, LiftsPlan, no_task, with_task, LiftsTrees, ComesTo, translated, merged, stripped, checked, lifted, IsDue, usage, of_command}
+use Rattle.kp_run.specs.Outcomes.{translates, TranslatesGround, over, done, TranslatesTrees, ListsMerges, MergesTrees, StripsText, too_long, no_plan, no_strip, strips, tells, TellsJudged, ChecksTrees, LiftsActions, lifts, fails, LiftsPlan, no_task, with_task, LiftsTrees, SolvesTrees, ClassicalTrees, ComesTo, translated, merged, stripped, checked, lifted, solved, searched, IsDue, usage, of_command}
+use Rattle.kp_meaning.specs.Steps.{Step}
+use Rattle.kp_search.specs.declared.found.Found.{Found}
+use Rattle.kp_search.specs.declared.found.Found.TheVariants.{Plan, NoPlan, Spent}
+use Rattle.kp_classical.specs.Classical.{ComesClassical, by_texts as no_texts, by_trees as no_trees, early as at_once, later as goes_on}
+use Rattle.kp_solving.specs.Solving.{solves, TellsSolved, SolvesGround, over as too_large, searched as by_search, TellsClassical}
 use Rattle.kp_run.specs.Ends.{Ends, came, read_failed, no_memory}
 use Rattle.kp_total.specs.Follows.{AnswersAreWhole, TheDueIsCarriedOut, IsAnsweredBy, TheDueIsTheAnswer, EndsWith, OnlyDonePuts, DonePutsTheOutputs, OthersPutNothing, NoCommandPutsNothing, none_put, some_put, all_put, PutsAreOfTheDue, none_told, some_told, TextsAreOfTheDue, ReadFaultsTellNothing, ReadFaultsAreTrue, WriteFaultsAreTrue, FailedGetsAreTold, FailedWritesAreTold, MissingInputsAreFaults, InputsAreReadInOrder}
 use Rattle.kp_base.specs.declared.lit.Lit.{Lit}
@@ -138,12 +143,57 @@ lift_under : (c : Lift) (g : Ground) (plan : List ℕ) (table : TagTable) (o : O
 lift_under c g plan table o (no_task r a e) = refusal_under (commands.Lift c) o nothing r e
 lift_under c g plan table o (with_task fits h) = plan_under (commands.Lift c) g plan (LiftsActions g table) o (λ ns. actions_under c g table ns o) h
 
+-- a plan is put under the name that is given for it
+solution_under : (c : Solve) (written plan : List Step) (o : Outcome) → o ≡ solves c.classical written plan → PutsUnder (commands.Solve c) o
+solution_under c written plan o is = by c.classical refl
+  where
+    by : (name : Option (List ℕ)) → c.classical ≡ name → PutsUnder (commands.Solve c) o
+    by None e =
+        let same = ap (λ z. solves z written plan) e in
+        record {
+          done = λ d. ap (λ (z : Outcome). map (λ (f : FilePut). f.name) z.puts) (is ∙ same) ∙ sym (ap if_named e);
+          nothing = λ n. absurd (n (ap (λ (z : Outcome). z.status) is));
+          names = λ file m. absurd (subst (λ (z : Outcome). Member z.puts file) (is ∙ same) m);
+        }
+    by (Some name) e =
+        let same = ap (λ z. solves z written plan) e in
+        record {
+          done = λ d. ap (λ (z : Outcome). map (λ (f : FilePut). f.name) z.puts) (is ∙ same) ∙ sym (ap if_named e);
+          nothing = λ n. absurd (n (ap (λ (z : Outcome). z.status) is));
+          names = λ file m. subst (λ names. Member names file.name) (sym (ap if_named e)) (one file name (subst (λ (z : Outcome). Member z.puts file) (is ∙ same) m));
+        }
+      where
+        one : (file : FilePut) (name : List ℕ) → Member (solves (Some name) written plan).puts file → Member (name ∷ []) file.name
+        one file name (inl f) = inl (ap (λ (x : FilePut). x.name) f)
+        one file name (inr f) = absurd f
+
+told_under : (c : Solve) (g : Ground) (i : Initial) (table : TagTable) (o : Outcome) (found : Found) → TellsSolved c.classical g i table found o → PutsUnder (commands.Solve c) o
+told_under c g i table o (Plan ops n) t = solution_under c t.0 t.1 o t.3
+told_under c g i table o NoPlan t = under_none (commands.Solve c) o (ap (λ (z : Outcome). z.puts) t.2) (λ d. absurd (let f = sym (ap (λ (z : Outcome). z.status) t.2) ∙ d in cc))
+told_under c g i table o (Spent n) t = under_none (commands.Solve c) o (ap (λ (z : Outcome). z.puts) t) (λ d. absurd (let f = sym (ap (λ (z : Outcome). z.status) t) ∙ d in cc))
+
+solved_under : (c : Solve) (g : Ground) (i : Initial) (table : TagTable) (o : Outcome) → SolvesGround c.classical c.budget g i table o → PutsUnder (commands.Solve c) o
+solved_under c g i table o (too_large r a e) = refusal_under (commands.Solve c) o nothing r e
+solved_under c g i table o (by_search found a finds t) = told_under c g i table o found t
+
+classical_under : (c : Classical) (g : Ground) (o : Outcome) (found : Found) → TellsClassical g found o → PutsUnder (commands.Classical c) o
+classical_under c g o (Plan ops n) t = under_none (commands.Classical c) o (ap (λ (z : Outcome). z.puts) t.2) (λ d. refl)
+classical_under c g o NoPlan t = under_none (commands.Classical c) o (ap (λ (z : Outcome). z.puts) t) (λ d. refl)
+classical_under c g o (Spent n) t = under_none (commands.Classical c) o (ap (λ (z : Outcome). z.puts) t) (λ d. refl)
+
+comes_classical_under : (c : Classical) (x y : List ℕ) (P : Domain Word → Problem Word → Outcome → Type 0) (o : Outcome) → ((d : Domain Word) (p : Problem Word) → P d p o → PutsUnder (commands.Classical c) o) → ComesClassical x y P o → PutsUnder (commands.Classical c) o
+comes_classical_under c x y P o under (at_once (no_texts r a is)) = refusal_under (commands.Classical c) o nothing r is
+comes_classical_under c x y P o under (at_once (no_trees d p r h a is)) = refusal_under (commands.Classical c) o nothing r is
+comes_classical_under c x y P o under (goes_on d p h w on) = under d p on
+
 comes_under : (c : Command) (texts : List (List ℕ)) (o : Outcome) → ComesTo c texts o → PutsUnder c o
 comes_under _ _ o (translated c x y merges _ a) = comes_of (commands.Translate c) c.implicates x y (TranslatesTrees c merges) o (λ d p. table_under (commands.Translate c) (ground_of d p) (initial_of d p) c.source merges (TranslatesGround c (ground_of d p) (initial_of d p)) o (λ table. ground_under c (ground_of d p) (initial_of d p) table o)) a
 comes_under _ _ o (merged c x y _ a) = comes_of (commands.Merges c) c.implicates x y (MergesTrees c.mode) o (λ d p. table_under (commands.Merges c) (ground_of d p) (initial_of d p) (of_mode c.mode) [] (ListsMerges (ground_of d p)) o (λ table e. under_none (commands.Merges c) o (ap (λ (z : Outcome). z.puts) e) (λ n. refl))) a
 comes_under _ _ o (stripped c x _ a) = strip_under c x o a
 comes_under _ _ o (checked c x y plan _ a) = comes_of (commands.Check c) c.implicates x y (ChecksTrees plan) o (λ d p. plan_under (commands.Check c) (ground_of d p) plan (TellsJudged (ground_of d p) (initial_of d p)) o (λ ns j. judged_under c (ground_of d p) ns j.judged o j.told)) a
 comes_under _ _ o (lifted c x y merges plan _ a) = comes_of (commands.Lift c) c.implicates x y (LiftsTrees c merges plan) o (λ d p. table_under (commands.Lift c) (ground_of d p) (initial_of d p) c.source merges (LiftsPlan (ground_of d p) plan) o (λ table. lift_under c (ground_of d p) plan table o)) a
+comes_under _ _ o (solved c x y merges _ a) = comes_of (commands.Solve c) c.implicates x y (SolvesTrees c merges) o (λ d p. table_under (commands.Solve c) (ground_of d p) (initial_of d p) c.source merges (SolvesGround c.classical c.budget (ground_of d p) (initial_of d p)) o (λ table. solved_under c (ground_of d p) (initial_of d p) table o)) a
+comes_under _ _ o (searched c x y _ a) = comes_classical_under c x y (ClassicalTrees c) o (λ d p s. classical_under c (ground_of d p) o s.found s.tells) a
 
 pub done_puts_the_outputs : DonePutsTheOutputs
 done_puts_the_outputs c texts o comes = (comes_under c texts o comes).done

@@ -9,3 +9,7 @@ pub mod Following
 pub mod ExampleStrips
 pub mod ExampleLifts
 pub mod OfCommands
+pub mod Fitting
+pub mod SomeSearch
+pub mod Solvings
+pub mod Classicals

@@ -75,13 +75,13 @@ pub translations_are_answered : TranslationsAreAnswered
 translations_are_answered words old new s ends m c d p table ls held is g h = ends_with words old new s ends m _ held (translation_due words m c d p table ls is g h)
 
 -- the answer of a run is that of the outcome that is due
-answered_by : (words : List (Vec ℕ Global)) (old new : Outside) (s : Status) → Ends words old new s → (m : FileMap) (o : Outcome) → old.held ≡ Some m → IsDue words (Some m) o → IsAnswer s → IsAnsweredBy o old new s
+pub answered_by : (words : List (Vec ℕ Global)) (old new : Outside) (s : Status) → Ends words old new s → (m : FileMap) (o : Outcome) → old.held ≡ Some m → IsDue words (Some m) o → IsAnswer s → IsAnsweredBy o old new s
 answered_by words old new s ends m o held due answer =
     let whole = answers_are_whole words old new s ends answer in
     let same = one_outcome words m whole.outcome o (subst (λ x. IsDue words x whole.outcome) held whole.due) due in
     subst (λ z. IsAnsweredBy z old new s) same whole.answered
 
-proper_of : (m : FileMap) (domain problem : List ℕ) (limit : ℕ) (d : Domain Word) (p : Problem Word) → GoesOn m domain problem limit d p → AreProper (ground_of d p) (initial_of d p)
+pub proper_of : (m : FileMap) (domain problem : List ℕ) (limit : ℕ) (d : Domain Word) (p : Problem Word) → GoesOn m domain problem limit d p → AreProper (ground_of d p) (initial_of d p)
 proper_of m domain problem limit d p g = record { own_atoms = is_of_atoms (numbered_problem d p) (ground_of d p) g.prepared.started.small; over = formulas_over_atoms d p; ascending = formulas_ascend (numbered_problem d p); model = (states_are_models d p g.trees.no_fault).0 g.prepared.started.initial }
 
 complete_text : (g : Ground) (i : Initial) (table : TagTable) (ls : List Lit) → AreProper g i → AreUncovered g i table ls → PrintsComplete (counts_of g table ++ coverage_text g.atoms ls) ↔ IsComplete g i table

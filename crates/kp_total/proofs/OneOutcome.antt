@@ -5,14 +5,18 @@ use Rattle.kp_given.specs.Translations.{ground_of, initial_of}
 use Rattle.kp_outside.specs.Outside.{FileMap}
 use Rattle.kp_outcome.specs.declared.outcome.Outcome.{Outcome}
 use Rattle.kp_outcome.specs.Ends.{AreHeld}
-use Rattle.kp_words.specs.Names.{of_mode, Translate, Merges, Check, Lift}
+use Rattle.kp_words.specs.Names.{of_mode, Translate, Merges, Check, Lift, Solve, Classical}
 use Rattle.kp_words.specs.declared.command.Command.{Command}
 use Rattle.kp_words.specs.declared.command.Command.TheVariants as commands
 use Rattle.kp_words.specs.Command.{inputs_of}
 use Rattle.kp_words.proofs.OneCommand.{one_command}
 use Rattle.kp_prepared.proofs.OneStart.{comes_once}
 use Rattle.kp_inputs.proofs.Commands.{by_table_once, by_plan_once}
-use Rattle.kp_run.specs.Outcomes.{TranslatesGround, TranslatesTrees, TranslatesTexts, ListsMerges, MergesTrees, MergesTexts, StripsText, TellsJudged, ChecksTrees, ChecksTexts, LiftsPlan, LiftsTrees, LiftsTexts, ComesTo, translated, merged, stripped, checked, lifted, usage, of_command}
+use Rattle.kp_classical.specs.Classical.{task_of as classical_task}
+use Rattle.kp_classical.proofs.OneStart.{comes_once as comes_classical_once}
+use Rattle.kp_solving.specs.Solving.{SolvesGround}
+use Rattle.kp_solving.proofs.OneSolving.{ground_once, classical_once as one_classical}
+use Rattle.kp_run.specs.Outcomes.{TranslatesGround, TranslatesTrees, TranslatesTexts, ListsMerges, MergesTrees, MergesTexts, StripsText, TellsJudged, ChecksTrees, ChecksTexts, LiftsPlan, LiftsTrees, LiftsTexts, SolvesTrees, SolvesTexts, ClassicalTrees, ClassicalTexts, ComesTo, translated, merged, stripped, checked, lifted, solved, searched, usage, of_command}
 use Rattle.kp_run.proofs.Files.{last_once}
 use Rattle.kp_total.specs.Laws.{HasOneOutcome}
 use Rattle.kp_total.proofs.OneTranslation.{table_once, verdicts_once, lifts_once}
@@ -32,6 +36,12 @@ plans_once c x y plan = comes_once c.implicates x y (ChecksTrees plan) (λ d p o
 lifted_once : (c : Lift) (x y : List ℕ) (merges : List (List ℕ)) (plan : List ℕ) (o u : Outcome) → LiftsTexts c x y merges plan o → LiftsTexts c x y merges plan u → o ≡ u
 lifted_once c x y merges plan = comes_once c.implicates x y (LiftsTrees c merges plan) (λ d p o u w. by_table_once (ground_of d p) (initial_of d p) c.source merges (LiftsPlan (ground_of d p) plan) (λ table. lifts_once (ground_of d p) table plan) o u)
 
+solved_once : (c : Solve) (x y : List ℕ) (merges : List (List ℕ)) (o u : Outcome) → SolvesTexts c x y merges o → SolvesTexts c x y merges u → o ≡ u
+solved_once c x y merges = comes_once c.implicates x y (SolvesTrees c merges) (λ d p o u w. by_table_once (ground_of d p) (initial_of d p) c.source merges (SolvesGround c.classical c.budget (ground_of d p) (initial_of d p)) (λ table. ground_once c.classical c.budget (ground_of d p) (initial_of d p) table) o u)
+
+classical_once : (c : Classical) (x y : List ℕ) (o u : Outcome) → ClassicalTexts c x y o → ClassicalTexts c x y u → o ≡ u
+classical_once c x y = comes_classical_once x y (ClassicalTrees c) (λ d p o u w. one_classical c.budget (ground_of d p) (classical_task d p) o u)
+
 outcome_once : (c : Command) (texts : List (List ℕ)) (o u : Outcome) → ComesTo c texts o → ComesTo c texts u → o ≡ u
 outcome_once _ _ o u (translated c x y merges _ a) b = go _ _ u b refl refl
   where
@@ -46,6 +56,8 @@ outcome_once _ _ o u (translated c x y merges _ a) b = go _ _ u b refl refl
     go _ _ u (stripped d v _ b) same at = absurd cc
     go _ _ u (checked d v w t _ b) same at = absurd cc
     go _ _ u (lifted d v w more t _ b) same at = absurd cc
+    go _ _ u (solved d v w more _ b) same at = absurd cc
+    go _ _ u (searched d v w _ b) same at = absurd cc
 outcome_once _ _ o u (merged c x y _ a) b = go _ _ u b refl refl
   where
     go : (e : Command) (texts : List (List ℕ)) (u : Outcome) → ComesTo e texts u → e ≡ commands.Merges c → texts ≡ x ∷ y ∷ [] → o ≡ u
@@ -58,6 +70,8 @@ outcome_once _ _ o u (merged c x y _ a) b = go _ _ u b refl refl
     go _ _ u (stripped d v _ b) same at = absurd cc
     go _ _ u (checked d v w t _ b) same at = absurd cc
     go _ _ u (lifted d v w more t _ b) same at = absurd cc
+    go _ _ u (solved d v w more _ b) same at = absurd cc
+    go _ _ u (searched d v w _ b) same at = absurd cc
 outcome_once _ _ o u (stripped c x _ a) b = go _ _ u b refl refl
   where
     go : (e : Command) (texts : List (List ℕ)) (u : Outcome) → ComesTo e texts u → e ≡ commands.Strip c → texts ≡ x ∷ [] → o ≡ u
@@ -66,6 +80,8 @@ outcome_once _ _ o u (stripped c x _ a) b = go _ _ u b refl refl
     go _ _ u (stripped d v _ b) same at = let first : v ≡ x = cc in strips_once x o u a (subst (λ t. StripsText t u) first b)
     go _ _ u (checked d v w t _ b) same at = absurd cc
     go _ _ u (lifted d v w more t _ b) same at = absurd cc
+    go _ _ u (solved d v w more _ b) same at = absurd cc
+    go _ _ u (searched d v w _ b) same at = absurd cc
 outcome_once _ _ o u (checked c x y plan _ a) b = go _ _ u b refl refl
   where
     go : (e : Command) (texts : List (List ℕ)) (u : Outcome) → ComesTo e texts u → e ≡ commands.Check c → texts ≡ x ∷ y ∷ plan ∷ [] → o ≡ u
@@ -79,6 +95,8 @@ outcome_once _ _ o u (checked c x y plan _ a) b = go _ _ u b refl refl
         let third : t ≡ plan = cc in
         plans_once c x y plan o u a (subst (λ z. ChecksTexts c x y z u) third (subst (λ z. ChecksTexts c x z t u) second (subst (λ z. ChecksTexts c z w t u) first (subst (λ z. ChecksTexts z v w t u) command b))))
     go _ _ u (lifted d v w more t _ b) same at = absurd cc
+    go _ _ u (solved d v w more _ b) same at = absurd cc
+    go _ _ u (searched d v w _ b) same at = absurd cc
 outcome_once _ _ o u (lifted c x y merges plan _ a) b = go _ _ u b refl refl
   where
     go : (e : Command) (texts : List (List ℕ)) (u : Outcome) → ComesTo e texts u → e ≡ commands.Lift c → texts ≡ x ∷ y ∷ (merges ++ plan ∷ []) → o ≡ u
@@ -93,6 +111,37 @@ outcome_once _ _ o u (lifted c x y merges plan _ a) b = go _ _ u b refl refl
         let rest : more ++ t ∷ [] ≡ merges ++ plan ∷ [] = cc in
         let lasts = last_once more merges t plan rest in
         lifted_once c x y merges plan o u a (subst (λ z. LiftsTexts c x y merges z u) lasts.1 (subst (λ z. LiftsTexts c x y z t u) lasts.0 (subst (λ z. LiftsTexts c x z more t u) second (subst (λ z. LiftsTexts c z w more t u) first (subst (λ z. LiftsTexts z v w more t u) command b)))))
+    go _ _ u (solved d v w more _ b) same at = absurd cc
+    go _ _ u (searched d v w _ b) same at = absurd cc
+outcome_once _ _ o u (solved c x y merges _ a) b = go _ _ u b refl refl
+  where
+    go : (e : Command) (texts : List (List ℕ)) (u : Outcome) → ComesTo e texts u → e ≡ commands.Solve c → texts ≡ x ∷ y ∷ merges → o ≡ u
+    go _ _ u (translated d v w more _ b) same at = absurd cc
+    go _ _ u (merged d v w _ b) same at = absurd cc
+    go _ _ u (stripped d v _ b) same at = absurd cc
+    go _ _ u (checked d v w t _ b) same at = absurd cc
+    go _ _ u (lifted d v w more t _ b) same at = absurd cc
+    go _ _ u (solved d v w more _ b) same at =
+        let command : d ≡ c = cc in
+        let first : v ≡ x = cc in
+        let second : w ≡ y = cc in
+        let others : more ≡ merges = cc in
+        solved_once c x y merges o u a (subst (λ t. SolvesTexts c x y t u) others (subst (λ t. SolvesTexts c x t more u) second (subst (λ t. SolvesTexts c t w more u) first (subst (λ z. SolvesTexts z v w more u) command b))))
+    go _ _ u (searched d v w _ b) same at = absurd cc
+outcome_once _ _ o u (searched c x y _ a) b = go _ _ u b refl refl
+  where
+    go : (e : Command) (texts : List (List ℕ)) (u : Outcome) → ComesTo e texts u → e ≡ commands.Classical c → texts ≡ x ∷ y ∷ [] → o ≡ u
+    go _ _ u (translated d v w more _ b) same at = absurd cc
+    go _ _ u (merged d v w _ b) same at = absurd cc
+    go _ _ u (stripped d v _ b) same at = absurd cc
+    go _ _ u (checked d v w t _ b) same at = absurd cc
+    go _ _ u (lifted d v w more t _ b) same at = absurd cc
+    go _ _ u (solved d v w more _ b) same at = absurd cc
+    go _ _ u (searched d v w _ b) same at =
+        let command : d ≡ c = cc in
+        let first : v ≡ x = cc in
+        let second : w ≡ y = cc in
+        classical_once c x y o u a (subst (λ t. ClassicalTexts c x t u) second (subst (λ t. ClassicalTexts c t w u) first (subst (λ z. ClassicalTexts z v w u) command b)))
 
 -- names have one list of contents
 held_once : (m : FileMap) (names ts us : List (List ℕ)) → map (get m) names ≡ map Some ts → map (get m) names ≡ map Some us → ts ≡ us

@@ -17,7 +17,7 @@ use Rattle.kp_prepared.specs.Refusing.{refuses}
 use Rattle.kp_prepared.specs.Prepared.{usual}
 use Rattle.kp_inputs.proofs.OnePlan.{some_alike}
 use Rattle.kp_inputs.proofs.Commands.{by_plan_once}
-use Rattle.kp_run.proofs.Tasks.{task_once, task_or_within}
+use Rattle.kp_inputs.proofs.Tasks.{task_once, task_or_within}
 use Rattle.kp_run.specs.Outcomes.{translates, prints, tells, TranslatesGround, over, done, TellsJudged, LiftsActions, lifts, fails, LiftsPlan, no_task, with_task, unlifted, failing_step}
 
 pub table_once : (c : Translate) (g : Ground) (i : Initial) (table : TagTable) (o u : Outcome) → TranslatesGround c g i table o → TranslatesGround c g i table u → o ≡ u

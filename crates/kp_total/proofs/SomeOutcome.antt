@@ -35,7 +35,7 @@ use Rattle.kp_plans.specs.Printed.{plan_text}
 use Rattle.kp_plans.specs.Stripping.{IsFirstUnstripped}
 use Rattle.kp_plans.proofs.WholePlans.{always_some as plans_always_one}
 use Rattle.kp_printed.specs.Refusals.{nothing}
-use Rattle.kp_words.specs.Names.{of_mode, Translate, Lift}
+use Rattle.kp_words.specs.Names.{of_mode, Translate, Lift, Solve}
 use Rattle.kp_words.specs.declared.command.Command.TheVariants as commands
 use Rattle.kp_words.specs.Command.{file_of, if_named, inputs_of}
 use Rattle.kp_words.proofs.Decided.{words_decided}
@@ -47,10 +47,17 @@ use Rattle.kp_inputs.proofs.Ended.{found_below}
 use Rattle.kp_inputs.proofs.Commands.{by_table_some, by_plan_some}
 use Rattle.kp_complete.proofs.Failing.{lift_or_fail}
 use Rattle.kp_sound.proofs.Lifting.{there, lift_named}
-use Rattle.kp_run.specs.Outcomes.{shows_usage, translates, TranslatesGround, over, done, TranslatesTrees, ListsMerges, MergesTrees, prints, StripsText, too_long, no_plan, no_strip, strips, tells, TellsJudged, ChecksTrees, failing_step, unlifted, LiftsActions, lifts, fails, LiftsPlan, no_task, with_task, LiftsTrees, ComesTo, translated, merged, checked, lifted, usage, of_command}
+use Rattle.kp_run.specs.Outcomes.{shows_usage, translates, TranslatesGround, over, done, TranslatesTrees, ListsMerges, MergesTrees, prints, StripsText, too_long, no_plan, no_strip, strips, tells, TellsJudged, ChecksTrees, failing_step, unlifted, LiftsActions, lifts, fails, LiftsPlan, no_task, with_task, LiftsTrees, SolvesTrees, ComesTo, translated, merged, checked, lifted, solved, usage, of_command}
 use Rattle.kp_run.specs.Outcomes as outcomes
 use Rattle.kp_total.specs.Laws.{CommandsHaveAnOutcome, HasSomeOutcome}
+use Rattle.kp_given.proofs.Tables.{tables_written}
+use Rattle.kp_inputs.specs.Tables.{HasTable}
+use Rattle.kp_inputs.proofs.TablesFor.{table_for}
+use Rattle.kp_solving.specs.Solving.{SolvesGround, over as too_large}
+use Rattle.kp_run.proofs.Soundness.{problem_of}
 use Rattle.kp_total.proofs.SomeStart.{some_comes}
+use Rattle.kp_total.proofs.SomeSearch.{some_search, some_classical_comes}
+use Rattle.kp_total.proofs.Fitting.{task_fits}
 
 -- ---- tables and their tasks
 
@@ -114,6 +121,19 @@ module _ (limit : ℕ) (d : Domain Word) (p : Problem Word) (x y : List ℕ) (tr
 
   of_lift : (c : Lift) (merges : List (List ℕ)) (plan : List ℕ) → length merges ≡ length (if_named (file_of c.source)) → (o : Outcome) × LiftsTrees c merges plan d p o
   of_lift c merges plan many = by_table_some (ground_of d p) (initial_of d p) c.source merges (LiftsPlan (ground_of d p) plan) proper many (λ t has. of_plan_lifted plan t)
+
+  -- ---- a search
+
+  of_search : (c : Solve) (merges : List (List ℕ)) (table : TagTable) → HasTable (ground_of d p) (initial_of d p) c.source merges table → (o : Outcome) × SolvesGround c.classical c.budget (ground_of d p) (initial_of d p) table o
+  of_search c merges table has = elim (fits_or_refused (task_of (ground_of d p) table)) [
+    | inr r ↦ (refuses nothing r.0, too_large r.0 r.1 refl)
+    | inl fits ↦
+        let for = table_for d p c.source merges table ready.started.small fits has in
+        some_search c.classical c.budget (ground_of d p) (initial_of d p) table proper fits (task_fits d p table ready.started.small fits (tables_written x y (problem_of x y d p trees) table for))
+  ]
+
+  of_solve : (c : Solve) (merges : List (List ℕ)) → length merges ≡ length (if_named (file_of c.source)) → (o : Outcome) × SolvesTrees c merges d p o
+  of_solve c merges many = by_table_some (ground_of d p) (initial_of d p) c.source merges (SolvesGround c.classical c.budget (ground_of d p) (initial_of d p)) proper many (λ t has. of_search c merges t has)
 
 -- ---- a plan file
 
@@ -197,6 +217,16 @@ some_outcome (commands.Lift c) (x ∷ y ∷ z ∷ zs) many =
     let others : length cut.0 ≡ length (if_named (file_of c.source)) = (let some = length-append (if_named (file_of c.source)) (c.plan ∷ []) in let here = ap length cut.2 in let there = length-append cut.0 (cut.1 ∷ []) in omega (arith, many, some, here, there)) in
     let t = some_comes c.implicates x y (LiftsTrees c cut.0 cut.1) (λ d p trees ready. of_lift c.implicates d p x y trees ready c cut.0 cut.1 others) in
     (t.0, subst (λ rest. ComesTo (commands.Lift c) (x ∷ y ∷ rest) t.0) (sym cut.2) (lifted c x y cut.0 cut.1 t.0 t.1))
+some_outcome (commands.Solve c) (x ∷ y ∷ merges) many =
+    let others : length merges ≡ length (if_named (file_of c.source)) = omega (arith, many) in
+    let t = some_comes c.implicates x y (SolvesTrees c merges) (λ d p trees ready. of_solve c.implicates d p x y trees ready c merges others) in
+    (t.0, solved c x y merges t.0 t.1)
+some_outcome (commands.Solve c) [] many = absurd (omega (arith, many))
+some_outcome (commands.Solve c) (x ∷ []) many = absurd (omega (arith, many))
+some_outcome (commands.Classical c) (x ∷ y ∷ []) many = let t = some_classical_comes c.budget x y in (t.0, outcomes.searched c x y t.0 t.1)
+some_outcome (commands.Classical c) [] many = absurd (omega (arith, many))
+some_outcome (commands.Classical c) (x ∷ []) many = absurd (omega (arith, many))
+some_outcome (commands.Classical c) (x ∷ y ∷ z ∷ zs) many = absurd (omega (arith, many))
 
 -- contents of names are as many as these
 as_many : (X Y Z : Type 0) (f : X → Z) (g : Y → Z) (xs : List X) (ys : List Y) → map f xs ≡ map g ys → length ys ≡ length xs

@@ -52,7 +52,7 @@ module _ (limit : ℕ) (d : Domain Word) (p : Problem Word) where
 -- ---- two texts
 
 -- they have trees, or are refused
-texts_decided : (x y : List ℕ) → ((d : Domain Word) × (p : Problem Word) × HaveTrees x y d p) ⊎ ((r : Refused) × RefusesTexts x y r)
+pub texts_decided : (x y : List ℕ) → ((d : Domain Word) × (p : Problem Word) × HaveTrees x y d p) ⊎ ((r : Refused) × RefusesTexts x y r)
 texts_decided x y = elim (always_some parts.Domain _ _ grammar.domain x) [
   | inr r ↦ inr (r.0, of_domain r.0 r.1)
   | inl d ↦ elim (always_some parts.Problem _ _ grammar.problem y) [

@@ -1,3 +1,4 @@
 pub mod Laws
 pub mod Follows
 pub mod Commands
+pub mod Solving

@@ -1,11 +1,12 @@
 //! Laws of outcomes and runs: words have just one outcome on what is held (`specs/Laws.antt`), what
 //! follows from how a run ends (`specs/Follows.antt`), and with what a run of each command ends
-//! (`specs/Commands.antt`).
+//! (`specs/Commands.antt`, `specs/Solving.antt`).
 #![tactic(auto)]
 
 mod commands;
 mod follows;
 mod laws;
+mod solving;
 
 pub use commands::{
     checks_are_answered, checks_are_true, clashes_are_answered, complete_is_true,
@@ -21,4 +22,8 @@ pub use follows::{
 pub use laws::{
     commands_have_an_outcome, unknown_steps_are_no_plan, words_have_one_outcome,
     words_have_some_outcome, yes_is_a_plan,
+};
+pub use solving::{
+    classical_is_a_plan, classicals_are_answered, no_classical_plan_is_true, no_plan_is_true,
+    solved_is_a_plan, solvings_are_answered, spent_is_true,
 };

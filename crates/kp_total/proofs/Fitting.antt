@@ -1,0 +1,24 @@
+-- The task of two trees and a table within the limits is fit to be searched.
+use Rattle.std.proofs.Common.{◌<◌, length, arith}
+use Rattle.kp_base.specs.declared.ground.TagTable.{TagTable}
+use Rattle.kp_grammar.specs.declared.tree.Word.{Word}
+use Rattle.kp_grammar.specs.Trees.{Domain, Problem}
+use Rattle.kp_meaning.specs.Numbering.{numbered_problem}
+use Rattle.kp_classic.specs.Fits.{IsFit}
+use Rattle.kp_task.specs.Task.{task_of}
+use Rattle.kp_task.specs.Writable.{IsWritableTask}
+use Rattle.kp_task.proofs.Named.{tasks_are_fit}
+use Rattle.kp_ktask.specs.Translated.{FitsLimits}
+use Rattle.kp_given.specs.Translations.{ground_of}
+use Rattle.kp_prepared.specs.Prepared.{usual, IsSmall}
+use Rattle.kp_prepared.proofs.Counted.{few_actions}
+use Rattle.kp_inputs.proofs.TablesFor.{few_merges}
+use Rattle.kp_solving.proofs.Operators.{op_count}
+
+pub task_fits : (d : Domain Word) (p : Problem Word) (table : TagTable) → IsSmall d p → FitsLimits (task_of (ground_of d p) table) usual → IsWritableTask (ground_of d p) table → IsFit (task_of (ground_of d p) table)
+task_fits d p table small fits writable =
+    let facts = fits.facts in
+    let ops = op_count (ground_of d p) table in
+    let merges = few_merges (ground_of d p) table fits in
+    let actions = few_actions (numbered_problem d p) small.counts in
+    tasks_are_fit (ground_of d p) table writable (omega (arith, facts)) (omega (arith, ops, merges, actions))
