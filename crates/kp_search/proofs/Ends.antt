@@ -11,7 +11,7 @@ use Rattle.kp_classic.specs.States.{FactSet, has}
 use Rattle.kp_classic.specs.Steps.{start, succeeds}
 use Rattle.kp_search.specs.declared.found.Found.{Found}
 use Rattle.kp_search.specs.declared.found.Found.TheVariants.{Plan, NoPlan, Spent}
-use Rattle.kp_search.specs.Trace.{Entry, Course, first, WasTaken, EndsWithPlan, EndsWithoutPlan}
+use Rattle.kp_search.specs.Trace.{Entry, Course, first, is_goal, WasTaken, EndsWithPlan, EndsWithoutPlan}
 use Rattle.kp_search.specs.Ends.{HasEnd, HasMoreStates, IsReached, Tells}
 use Rattle.kp_search.specs.Sound.{Expanded, IsSound}
 use Rattle.kp_search.proofs.Sound.{sound, no_plan}
@@ -47,9 +47,9 @@ module _ (t : Task) (may : FactSet → Option ℕ → Type 0) (budget : ℕ) (c 
   was_taken : (k : ℕ) (x : FactSet) → Expanded c k x → WasTaken c x
   was_taken k x (m, d, a, b, e) = record { number = m; entry = d; taken = s.expanded k m a; there = b; same = e }
 
-  -- an entry more whose state wasn't taken
-  pub more_states : (n : ℕ) (e : Entry) → slice_get c.entries n ≡ Some e → (WasTaken c e.state → ⊥) → length c.expanded ≡ budget → HasMoreStates t budget
-  more_states n e there fresh full = record {
+  -- an entry more whose state wasn't taken and doesn't meet the goal
+  pub more_states : (n : ℕ) (e : Entry) → slice_get c.entries n ≡ Some e → (WasTaken c e.state → ⊥) → is_goal t e.state ≡ false → length c.expanded ≡ budget → HasMoreStates t budget
+  more_states n e there fresh plain full = record {
     states = states;
     many = length-map c.expanded (λ n. (entry_at n).state) ∙ full;
     different = λ i j x a b. s.apart i j x (state_at i x a) (state_at j x b);
@@ -58,6 +58,7 @@ module _ (t : Task) (may : FactSet → Option ℕ → Type 0) (budget : ℕ) (c 
     one_more = e.state;
     more_reached = record { ops = e.ops; leads = (s.reached n e there).leads };
     more_is_new = λ m. let r = expanded_of e.state m in fresh (was_taken r.0 e.state r.1);
+    more_no_goal = plain;
   }
 
 -- ---- the ends
@@ -80,4 +81,4 @@ module _ (t : Task) (fit : IsFit t) (may : FactSet → Option ℕ → Type 0) (b
   pub tells : ((s : FactSet) → s.facts ≡ length t.facts → may s None → (ks : List ℕ) → succeeds t (has s.hold) ks ≡ true → ⊥) → (f : Found) → HasEnd t may budget f → Tells t budget f
   tells right (Plan ops n) e = planned ops n e
   tells right NoPlan e = unplanned right e
-  tells right (Spent n) e = more_states t may budget e.course (sound t fit may budget e.course e.is) e.number e.entry e.next.waits.there e.new e.full
+  tells right (Spent n) e = more_states t may budget e.course (sound t fit may budget e.course e.is) e.number e.entry e.next.waits.there e.new e.goal e.full

@@ -23,7 +23,7 @@ pub record IsReached (t : Task) (s : FactSet) : Type 0 where
   pub ops : List ℕ
   pub leads : outcome t ops ≡ Some s
 
--- so many different states can be reached that don't meet the goal, and one more
+-- so many different states can be reached that don't meet the goal, and one more such
 pub record HasMoreStates (t : Task) (budget : ℕ) : Type 0 where
   pub states : List FactSet
   pub many : length states ≡ budget
@@ -33,6 +33,7 @@ pub record HasMoreStates (t : Task) (budget : ℕ) : Type 0 where
   pub one_more : FactSet
   pub more_reached : IsReached t one_more
   pub more_is_new : Member states one_more → ⊥
+  pub more_no_goal : is_goal t one_more ≡ false
 
 -- The operators are those of the task, and are a plan; or there is none; or there are more states than the budget says.
 abbrev pub Tells : Task → ℕ → Found → Type 0

@@ -1,5 +1,5 @@
 -- A translation that told `complete`, and a plan file held beside its files: the premises of what is said of such lifts are met, from the bytes on.
-use Rattle.std.proofs.Common.{◌++◌, ◌≡◌, ◌≢◌, ◌≤◌, ℕ, zero, suc, true, false, List, [], ◌∷◌, length, take, nat_eq, Some, map, codes, inl, inr, refl, sym, ap, subst, ◌∙◌, arith}
+use Rattle.std.proofs.Common.{◌≡◌, ◌≢◌, ◌≤◌, ℕ, zero, suc, true, false, List, [], ◌∷◌, length, take, Some, map, codes, inl, inr, refl, sym, ap, subst, ◌∙◌, arith}
 use Rattle.std.specs.FinMap.{get, insert}
 use Rattle.std.proofs.lemmas.Bool.{false≢true}
 use Rattle.kp_base.proofs.Lists.{same-refl}
@@ -38,9 +38,9 @@ use Rattle.kp_outcome.specs.declared.status.Status.TheVariants as status
 use Rattle.kp_outcome.specs.Ends.{Outside, whole}
 use Rattle.kp_words.specs.Names.{of_mode, Lift}
 use Rattle.kp_prepared.specs.Texts.{HaveTrees}
-use Rattle.kp_prepared.specs.Prepared.{usual, IsStarted, later}
+use Rattle.kp_prepared.specs.Prepared.{IsStarted, later}
 use Rattle.kp_inputs.specs.Tables.{by_mode, with_table}
-use Rattle.kp_run.specs.Outcomes.{translates, done, TranslatesTexts, IsDue}
+use Rattle.kp_run.specs.Outcomes.{translates, done, TranslatesTexts}
 use Rattle.kp_run.specs.Ends.{Ends, came}
 use Rattle.kp_run.specs.Completeness.{RanComplete, IsOfTheSame, HoldsPlan}
 use Rattle.kp_run.proofs.Counted.{empty_tags_fit}

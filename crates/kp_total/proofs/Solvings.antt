@@ -1,19 +1,16 @@
 -- What a run of `solve` ends with, and what that says of the files.
-use Rattle.std.proofs.Common.{◌≡◌, ◌↔◌, ◌<◌, ◌++◌, ℕ, true, false, codes, drop, List, [], ◌∷◌, Some, Vec, map, length, inl, inr, refl, sym, ap, ◌∙◌, subst, arith}
+use Rattle.std.proofs.Common.{◌≡◌, ◌↔◌, ◌++◌, ℕ, true, false, codes, drop, List, [], ◌∷◌, Some, Vec, length, refl, sym, ap, ◌∙◌, subst, arith}
 use Rattle.std.proofs.Math.Seq.{drop-append_seam}
 use Rattle.std.proofs.lemmas.List.{length-append}
-use Rattle.std.specs.FinMap.{get}
 use Rattle.std.specs.declared.alloc.Global.{Global}
 use Rattle.kp_base.specs.declared.lit.Lit.{Lit}
 use Rattle.kp_base.specs.declared.ground.Ground.{Ground}
 use Rattle.kp_base.specs.declared.ground.Initial.{Initial}
 use Rattle.kp_base.specs.declared.ground.TagTable.{TagTable}
 use Rattle.kp_base.specs.Covering.{AreUncovered, IsComplete}
-use Rattle.kp_base.specs.Machine.{MachineStep}
 use Rattle.kp_machine.proofs.Exclusive.{never_clashes}
 use Rattle.kp_grammar.specs.declared.tree.Word.{Word}
 use Rattle.kp_grammar.specs.Trees.{Domain, Problem}
-use Rattle.kp_meaning.specs.Numbering.{numbered_problem}
 use Rattle.kp_meaning.specs.Steps.{Step}
 use Rattle.kp_meaning.specs.Plans.{IsPlan}
 use Rattle.kp_meaning.specs.Strip.{strip}
@@ -28,10 +25,8 @@ use Rattle.kp_search.specs.declared.found.Found.TheVariants.{Plan, NoPlan, Spent
 use Rattle.kp_search.specs.Ends.{HasMoreStates}
 use Rattle.kp_task.specs.Task.{task_of}
 use Rattle.kp_task.specs.Writable.{IsWritableTask}
-use Rattle.kp_task.specs.Accepted.{IsAccepted, name_at}
 use Rattle.kp_task.proofs.Plans.{plans_are_accepted}
 use Rattle.kp_task.proofs.Strips.{steps_strip}
-use Rattle.kp_ktask.specs.Translated.{FitsLimits}
 use Rattle.kp_given.specs.Translations.{ground_of, initial_of}
 use Rattle.kp_given.specs.Tables.{IsTableFor}
 use Rattle.kp_given.proofs.Tables.{tables_written}
@@ -43,12 +38,12 @@ use Rattle.kp_outside.specs.Outside.{FileMap}
 use Rattle.kp_outcome.specs.declared.outcome.Outcome.{Outcome}
 use Rattle.kp_outcome.specs.declared.status.Status.{Status}
 use Rattle.kp_outcome.specs.declared.status.Status.TheVariants as status
-use Rattle.kp_outcome.specs.Ends.{Outside, IsAnswer, AreHeld, with_files}
-use Rattle.kp_words.specs.Names.{Source, Solve}
+use Rattle.kp_outcome.specs.Ends.{Outside, IsAnswer, with_files}
+use Rattle.kp_words.specs.Names.{Solve}
 use Rattle.kp_words.specs.declared.command.Command.TheVariants as commands
-use Rattle.kp_words.specs.Command.{IsSolve, file_of, if_named, inputs_of}
-use Rattle.kp_prepared.specs.Prepared.{usual, IsSmall, later}
-use Rattle.kp_inputs.specs.Tables.{HasTable, with_table}
+use Rattle.kp_words.specs.Command.{IsSolve}
+use Rattle.kp_prepared.specs.Prepared.{later}
+use Rattle.kp_inputs.specs.Tables.{with_table}
 use Rattle.kp_inputs.proofs.TablesFor.{table_for}
 use Rattle.kp_inputs.proofs.OnePlan.{some_alike}
 use Rattle.kp_solving.specs.Solving.{Finds, solves, finds_none, spends, AreNamed, SolvesGround, searched}

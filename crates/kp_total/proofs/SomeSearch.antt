@@ -1,5 +1,5 @@
 -- A search comes to some outcome, and so do two classical texts.
-use Rattle.std.proofs.Common.{◌≡◌, ◌⊎◌, ℕ, List, Option, Some, None, map, inl, inr, refl, ap, ◌∙◌, length}
+use Rattle.std.proofs.Common.{◌≡◌, ◌⊎◌, ℕ, List, Option, Some, None, inl, inr, refl, ap, ◌∙◌, length}
 use Rattle.kp_base.specs.declared.ground.Ground.{Ground}
 use Rattle.kp_base.specs.declared.ground.Initial.{Initial}
 use Rattle.kp_base.specs.declared.ground.TagTable.{TagTable}
@@ -11,7 +11,6 @@ use Rattle.kp_grammar.specs.Trees.{Domain, Problem}
 use Rattle.kp_meaning.specs.Faults.{HasNoFault}
 use Rattle.kp_meaning.specs.Numbering.{numbered_problem}
 use Rattle.kp_names.specs.Resolved.{first_unsure, place_in}
-use Rattle.kp_classic.specs.declared.task.Task.{Task}
 use Rattle.kp_classic.specs.Fits.{IsFit}
 use Rattle.kp_classic.proofs.OfGround.{task_fits}
 use Rattle.kp_decided.specs.Laws.{AreProper}
@@ -27,14 +26,12 @@ use Rattle.kp_given.proofs.Starts.{states_are_models, formulas_over_atoms}
 use Rattle.kp_printed.specs.Refusals.{nothing}
 use Rattle.kp_printed.specs.Searches.{no_plan_line, no_plan_text}
 use Rattle.kp_outcome.specs.declared.outcome.Outcome.{Outcome}
-use Rattle.kp_prepared.specs.Texts.{HaveTrees}
 use Rattle.kp_prepared.specs.Refusing.{refuses}
 use Rattle.kp_prepared.specs.Prepared.{usual}
 use Rattle.kp_classical.specs.Classical.{classical, IsCertain, IsSmall, IsClassical, RefusesClassical, not_classical, too_large, no_initial_state, by_texts, by_trees, ComesClassical, early, later, task_of as classical_task}
-use Rattle.kp_classical.specs.Laws.{HaveNames}
 use Rattle.kp_classical.proofs.Counted.{is_of_atoms}
 use Rattle.kp_classical.proofs.Plans.{have_names as actions_named}
-use Rattle.kp_solving.specs.Solving.{Finds, solves, finds_none, spends, TellsSolved, SolvesGround, searched, SolvesClassical}
+use Rattle.kp_solving.specs.Solving.{Finds, solves, finds_none, spends, SolvesGround, searched, SolvesClassical}
 use Rattle.kp_search.proofs.ByAdded.{some_end_by_added}
 use Rattle.kp_solving.proofs.Searches.{ends_true}
 use Rattle.kp_solving.proofs.Operators.{have_names}

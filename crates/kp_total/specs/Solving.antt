@@ -63,7 +63,7 @@ NoPlanIsTrue = OfRuns (λ words old new s. (m : FileMap) (c : Solve) (d : Domain
     → (text : List ℕ) × Tells old new text × ((steps : List Step) → IsWrittenPlan d p table steps → ⊥)
     × (PrintsComplete text ↔ IsComplete (ground_of d p) (initial_of d p) table) × (PrintsComplete text → (steps : List Step) → IsPlan g.domain g.problem steps → ⊥))
 
--- where it ends with Spent, the budget was told, and so many different states of the task that don't meet the goal can be reached, and one more
+-- where it ends with Spent, the budget was told, and so many different states of the task that don't meet the goal can be reached, and one more such
 abbrev pub SpentIsTrue : Type 0
 SpentIsTrue = OfRuns (λ words old new s. (m : FileMap) (c : Solve) (d : Domain Word) (p : Problem Word) (table : TagTable)
     → old.held ≡ Some m → IsSolve words c → GoesOn m c.domain c.problem c.implicates d p → HasTask m c.source d p table → s ≡ status.Spent
@@ -97,3 +97,9 @@ abbrev pub NoClassicalPlanIsTrue : Type 0
 NoClassicalPlanIsTrue = OfRuns (λ words old new s. (m : FileMap) (c : Classical) (d : Domain Word) (p : Problem Word)
     → old.held ≡ Some m → SaysClassical words c → (g : IsHeldClassical m c.domain c.problem d p) → s ≡ status.Negative
     → (steps : List Step) → IsPlan g.domain g.problem steps → ⊥)
+
+-- where it ends with Spent, the budget was told, and so many different states of their task that don't meet the goal can be reached, and one more such
+abbrev pub ClassicalSpentIsTrue : Type 0
+ClassicalSpentIsTrue = OfRuns (λ words old new s. (m : FileMap) (c : Classical) (d : Domain Word) (p : Problem Word)
+    → old.held ≡ Some m → SaysClassical words c → IsHeldClassical m c.domain c.problem d p → s ≡ status.Spent
+    → Tells old new (spent_text c.budget) × HasMoreStates (classical_task d p) c.budget)

@@ -1,6 +1,6 @@
 //! What runs of `solve` and `classical` end with, each proved as the contract of a function that does nothing.
 
-ghost use Rattle.kp_total.specs.Solving.{ClassicalIsAPlan, ClassicalsAreAnswered, NoClassicalPlanIsTrue, NoPlanIsTrue, SolvedIsAPlan, SolvingsAreAnswered, SpentIsTrue};
+ghost use Rattle.kp_total.specs.Solving.{ClassicalIsAPlan, ClassicalSpentIsTrue, ClassicalsAreAnswered, NoClassicalPlanIsTrue, NoPlanIsTrue, SolvedIsAPlan, SolvingsAreAnswered, SpentIsTrue};
 
 /// A call to solve ends with what its search comes to.
 pub fn solvings_are_answered()
@@ -35,4 +35,9 @@ pub fn classical_is_a_plan()
 /// With Negative they have none.
 pub fn no_classical_plan_is_true()
     ensures { NoClassicalPlanIsTrue }
+{}
+
+/// With Spent more states than the budget says can be reached.
+pub fn classical_spent_is_true()
+    ensures { ClassicalSpentIsTrue }
 {}
