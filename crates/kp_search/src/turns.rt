@@ -148,8 +148,8 @@ fn begin<E: Estimator>(
     }
 }
 
-/// Searches for a plan: takes the entry of least estimate first, and of those the one that was entered first. The table of
-/// expanded states is made for the whole budget before the first entry is taken.
+/// Searches for a plan: takes the entry of least estimate first, and of those the one that was entered first. The list of
+/// expanded states has room for the whole budget before the first entry is taken.
 pub fn search<E: Estimator>(
     alloc: Global,
     task: &Task,
