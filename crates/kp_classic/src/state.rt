@@ -24,7 +24,7 @@ impl Model for State {
 
 impl State {
     /// The state of so many facts in which none holds.
-    pub(crate) fn empty(alloc: Global, facts: u32) -> Result<State, Memory>
+    pub fn empty(alloc: Global, facts: u32) -> Result<State, Memory>
         ensures facts { IfOk result (λ s. s.facts ≡ facts) }
         ensures none { IfOk result (λ s. (f : ℕ) → has s.hold f ≡ false) }
     {
