@@ -18,7 +18,10 @@ impl Additive {
 
 impl Estimator for Additive {
     ghost use Rattle.kp_classic.specs.States.{has};
+    ghost use Rattle.kp_classic.specs.Fits.{IsFit};
     ghost use Rattle.kp_guide.specs.Added.{IsAdded};
+
+    ghost serves = { λ a t. IsFit t };
 
     ghost may_answer = { λ a t s. IsAdded t (has s.hold) };
 

@@ -11,11 +11,15 @@ pub trait Estimator {
     ghost use Rattle.kp_classic.specs.declared.task.Task.{Task};
     ghost use Rattle.kp_classic.specs.States.{FactSet};
 
+    // The tasks whose states it estimates.
+    ghost serves: { Self → Task → Type 0 };
+
     // What it may answer on a state of a task.
     ghost may_answer: { Self → Task → FactSet → Option ℕ → Type 0 };
 
     /// The estimate of a state; `None` says that no operators lead to the goal.
     fn estimate(&self, task: &Task, state: &State) -> Result<Option<u32>, Memory>
+        requires serves { serves self.now task.now }
         requires fits { IsFit task.now }
         requires of_task { state.now.facts ≡ length task.now.facts }
         ensures { IfOk result (may_answer self.now task.now state.now) };

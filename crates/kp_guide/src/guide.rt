@@ -31,6 +31,8 @@ impl Guide {
 }
 
 impl Estimator for Guide {
+    ghost serves = { λ g t. IsFit t };
+
     ghost may_answer = { λ g. MayAnswer (Estimate.post g.estimate) };
 
     fn estimate(&self, task: &Task, state: &State) -> Result<Option<u32>, Memory> {
