@@ -1,11 +1,10 @@
 -- From tables of costs to the estimate.
 use Rattle.std.proofs.Common.{◌≡◌, ◌<◌, ◌≤◌, ℕ, Bool, true, false, if◌then◌else◌, nat_lt, nat_le, nat_eq, List, [], ◌∷◌, ◌++◌, Some, None, map, fold, length, arith, refl, sym, ap, subst, ◌∙◌, inl, inr}
-use Rattle.std.specs.List.{list_all, range_with_len}
+use Rattle.std.specs.List.{list_all}
 use Rattle.std.specs.Cmp.{nat_eq_equiv}
 use Rattle.std.proofs.lemmas.Bool.{and_parts, and_from, cases_lt, cases_Bool}
-use Rattle.std.proofs.lemmas.List.{get_or_past}
+use Rattle.std.proofs.lemmas.List.{get_or_past, get_or-map, length-map}
 use Rattle.std.proofs.lemmas.List.Sums.{fold-append}
-use Rattle.std.proofs.lemmas.List.FromFn.{length-map-range_with_len, get_or-map-range_with_len}
 use Rattle.kp_base.specs.Lists.{Member, each_once, only_if}
 use Rattle.kp_base.proofs.Lists.{all_from, all_member, flat_member}
 use Rattle.kp_base.proofs.Once.{all_each_once, once_by_one}
@@ -17,6 +16,7 @@ use Rattle.kp_classic.specs.Fits.{are_below, fits, fits_effect, fits_op, IsFit}
 use Rattle.kp_classic.specs.Steps.{Holding}
 use Rattle.kp_guide.specs.Added.{IsLeast, rule_of, rules_of_effect, rules_of_op, rules_of, goal_of}
 use Rattle.kp_guide.specs.Added.Costs.{none, given}
+use Rattle.kp_guide.specs.Relaxed.{at}
 use Rattle.kp_guide.specs.Tables.{value, total, are_costs, fits_rule, first_cost, with_fact, AreAchieved, IsClosed, AreSettled, Lowers}
 use Rattle.kp_guide.proofs.Chains.{lower, reached}
 
@@ -57,38 +57,26 @@ goal_fits t n same fit =
 
 -- ---- the first costs
 
-module _ (rules : List Rule) (s : Holding) (n : ℕ) where
-  pub first_long : length (map (first_cost s) (range_with_len 0 n)) ≡ n
-  first_long = length-map-range_with_len (first_cost s) 0 n
+pub first_costs : (s : Holding) (fs : List ℕ) → are_costs (map (first_cost s) fs) ≡ true
+first_costs s [] = refl
+first_costs s (f ∷ fs) = and_from (nat_le (first_cost s f) 1000000001) (are_costs (map (first_cost s) fs)) (pick (s f)) (first_costs s fs)
+  where
+    pick : (b : Bool) → nat_le (if b then 0 else 1000000001) 1000000001 ≡ true
+    pick true = refl
+    pick false = refl
 
-  at_first : (f : ℕ) → f < n → value (map (first_cost s) (range_with_len 0 n)) f ≡ first_cost s f
-  at_first f lt = get_or-map-range_with_len (first_cost s) 0 n f f 0 lt (omega arith)
-
-  pub first_costs : are_costs (map (first_cost s) (range_with_len 0 n)) ≡ true
-  first_costs = each (range_with_len 0 n)
-    where
-      one : (f : ℕ) → nat_le (first_cost s f) 1000000001 ≡ true
-      one f = pick (s f)
-        where
-          pick : (b : Bool) → nat_le (if b then 0 else 1000000001) 1000000001 ≡ true
-          pick true = refl
-          pick false = refl
-
-      each : (fs : List ℕ) → list_all (λ c. nat_le c 1000000001) (map (first_cost s) fs) ≡ true
-      each [] = refl
-      each (f ∷ fs) = and_from (nat_le (first_cost s f) 1000000001) (list_all (λ c. nat_le c 1000000001) (map (first_cost s) fs)) (one f) (each fs)
-
-  first_given : (f : ℕ) → s f ≡ true → value (map (first_cost s) (range_with_len 0 n)) f ≡ 0
+-- these are the costs of so many facts at first
+module _ (rules : List Rule) (s : Holding) (n : ℕ) (first : List ℕ) (long : length first ≡ n) (is : (f : ℕ) → f < n → value first f ≡ first_cost s f) where
+  first_given : (f : ℕ) → s f ≡ true → value first f ≡ 0
   first_given f h = elim (cases_lt f n) [
-    | inl lt ↦ at_first f lt ∙ ap {B = ℕ} (λ b. if b then 0 else 1000000001) h
-    | inr ge ↦ let l = first_long in get_or_past (map (first_cost s) (range_with_len 0 n)) f 0 (omega (arith, l, ge))
+    | inl lt ↦ is f lt ∙ ap {B = ℕ} (λ b. if b then 0 else 1000000001) h
+    | inr ge ↦ get_or_past first f 0 (omega (arith, long, ge))
   ]
 
-  pub first_achieved : AreAchieved rules s (map (first_cost s) (range_with_len 0 n))
+  first_achieved : AreAchieved rules s first
   first_achieved = record {
     each = λ f lt low.
-        let l = first_long in
-        let v = at_first f (omega (arith, lt, l)) in
+        let v = is f (omega (arith, lt, long)) in
         elim (cases_Bool (s f)) [
           | inl h ↦ (0, given f [] 0 h none, v ∙ ap {B = ℕ} (λ b. if b then 0 else 1000000001) h)
           | inr h ↦ let e = v ∙ ap {B = ℕ} (λ b. if b then 0 else 1000000001) h in absurd (omega (arith, e, low))
@@ -96,14 +84,18 @@ module _ (rules : List Rule) (s : Holding) (n : ℕ) where
   }
 
   -- what comes of them, and no rule lowers
-  pub settles : (new : List ℕ) → Lowers rules (map (first_cost s) (range_with_len 0 n)) new → IsClosed rules new → AreSettled rules s n new
+  pub settles : (new : List ℕ) → Lowers rules first new → IsClosed rules new → AreSettled rules s n new
   settles new l closed = record {
-    long = l.len ∙ first_long;
+    long = l.len ∙ long;
     in_range = l.costs;
     given_free = λ f h. let a = l.low.each f in let b = first_given f h in omega (arith, a, b);
     achieved = l.achieved s first_achieved;
     closed = closed;
   }
+
+-- the costs of the facts at some places
+pub settles_placed : (rules : List Rule) (s : Holding) (facts : List ℕ) (new : List ℕ) → Lowers rules (map (first_cost s) facts) new → IsClosed rules new → AreSettled rules (λ i. s (at facts i)) (length facts) new
+settles_placed rules s facts = settles rules (λ i. s (at facts i)) (length facts) (map (first_cost s) facts) (length-map facts (first_cost s)) (λ i lt. get_or-map (first_cost s) facts i 0 0 lt)
 
 -- ---- the estimate
 

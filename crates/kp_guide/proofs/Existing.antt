@@ -2,6 +2,7 @@
 use Rattle.std.proofs.Common.{◌≡◌, ◌<◌, ◌≤◌, ◌+◌, ◌⊎◌, ℕ, zero, suc, true, sum, map, set, List, [], ◌∷◌, Option, Some, None, length, arith, refl, sym, ap, subst, inl, inr}
 use Rattle.std.specs.List.{list_all, range_with_len}
 use Rattle.std.proofs.lemmas.Bool.{cases_lt}
+use Rattle.std.proofs.lemmas.List.FromFn.{length-map-range_with_len, get_or-map-range_with_len}
 use Rattle.kp_base.specs.Lists.{Member}
 use Rattle.kp_base.proofs.Lists.{all_member}
 use Rattle.kp_classic.specs.declared.task.Task.{Task}
@@ -11,7 +12,7 @@ use Rattle.kp_guide.specs.declared.rule.Rule.{Rule}
 use Rattle.kp_guide.specs.Added.{IsAdded, rules_of, goal_of}
 use Rattle.kp_guide.specs.Tables.{value, total, cost_by, are_costs, fits_rule, first_cost, IsClosed, Lowers}
 use Rattle.kp_guide.proofs.Relaxing.{lowers_none, lowers_on, fallen, sum_less}
-use Rattle.kp_guide.proofs.Estimates.{first_costs, first_long, settles, rules_fit, goal_fits, told_some, told_none}
+use Rattle.kp_guide.proofs.Estimates.{first_costs, settles, rules_fit, goal_fits, told_some, told_none}
 
 module _ (rules : List Rule) where
   -- a rule that lowers a cost; or none does
@@ -42,9 +43,9 @@ pub added_exists : (t : Task) (s : Holding) → IsFit t → (h : Option ℕ) × 
 added_exists t s fit =
     let n = length t.facts in
     let first = map (first_cost s) (range_with_len 0 n) in
-    let fits = subst (λ k. list_all (fits_rule k) (rules_of t) ≡ true) (sym (first_long (rules_of t) s n)) (rules_fit t n refl fit) in
-    let r = settled (rules_of t) (1 + sum first) first (omega arith) (first_costs (rules_of t) s n) fits in
-    let a = settles (rules_of t) s n r.0 r.1 r.2 in
+    let fits = subst (λ k. list_all (fits_rule k) (rules_of t) ≡ true) (sym (length-map-range_with_len (first_cost s) 0 n)) (rules_fit t n refl fit) in
+    let r = settled (rules_of t) (1 + sum first) first (omega arith) (first_costs s (range_with_len 0 n)) fits in
+    let a = settles (rules_of t) s n first (length-map-range_with_len (first_cost s) 0 n) (λ f lt. get_or-map-range_with_len (first_cost s) 0 n f f 0 lt (omega arith)) r.0 r.1 r.2 in
     elim (cases_lt 1000000000 (total r.0 (goal_of t))) [
       | inl high ↦ (None, told_none (rules_of t) s n r.0 a (goal_of t) high)
       | inr low ↦ (Some (total r.0 (goal_of t)), told_some (rules_of t) s n r.0 a (goal_of t) (goal_fits t n refl fit) low)

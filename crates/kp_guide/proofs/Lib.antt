@@ -2,7 +2,10 @@ pub mod Chains
 pub mod Estimates
 pub mod Existing
 pub mod Joins
+pub mod Listed
 pub mod Noting
+pub mod Placed
+pub mod Placing
 pub mod Relaxed
 pub mod Relaxing
 pub mod Waiting

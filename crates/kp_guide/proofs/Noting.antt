@@ -15,14 +15,14 @@ pub notes_none : (number : ℕ) (users : List (List ℕ)) → Notes [] number us
 notes_none number users = record { long = refl; keeps = λ f k m. m; there = λ f m. absurd m; below = λ m lt h. h }
 
 -- a number stands in a list that has one more
-has_pushed : (xs : List ℕ) (x k : ℕ) → has xs k ≡ true → has (xs ++ x ∷ []) k ≡ true
+pub has_pushed : (xs : List ℕ) (x k : ℕ) → has xs k ≡ true → has (xs ++ x ∷ []) k ≡ true
 has_pushed (y ∷ ys) x k h = elim (or_cases (nat_eq k y) (has ys k) h) [
   | inl e ↦ ap (λ b. b || has (ys ++ x ∷ []) k) e
   | inr e ↦ ap (λ b. nat_eq k y || b) (has_pushed ys x k e) ∙ or-true (nat_eq k y)
 ]
 has_pushed [] x k h = absurd (false≢true h)
 
-has_last : (xs : List ℕ) (x : ℕ) → has (xs ++ x ∷ []) x ≡ true
+pub has_last : (xs : List ℕ) (x : ℕ) → has (xs ++ x ∷ []) x ≡ true
 has_last [] x = ap (λ b. b || false) (eq-eqb x x refl)
 has_last (y ∷ ys) x = ap (λ b. nat_eq x y || b) (has_last ys x) ∙ or-true (nat_eq x y)
 

@@ -1,6 +1,5 @@
 //! Tables of the costs of facts.
 ghost use Rattle.std.specs.Prelude.{◌≡◌, ◌<◌, ◌≤◌, true, length, map, IfOk};
-ghost use Rattle.std.specs.List.{range_with_len};
 ghost use Rattle.kp_classic.specs.Fits.{are_below};
 ghost use Rattle.kp_classic.specs.States.{has};
 ghost use Rattle.kp_guide.specs.Tables.{are_costs, first_cost, joined, total};
@@ -53,14 +52,14 @@ fn cost_at_first(state: &State, fact: u32) -> u32
     if state.holds(fact) { 0 } else { NONE }
 }
 
-/// What the facts cost at first.
-pub(crate) fn costs_at_first(alloc: Global, state: &State, facts: u32) -> Result<Vec<u32>, Memory>
-    requires { facts ≡ state.now.facts }
-    ensures { IfOk result (λ costs. costs.items ≡ map (first_cost (has state.now.hold)) (range_with_len 0 facts)) }
+/// What some facts cost at first.
+pub(crate) fn costs_at_first(alloc: Global, state: &State, facts: &[u32]) -> Result<Vec<u32>, Memory>
+    requires { are_below state.now.facts facts.now ≡ true }
+    ensures { IfOk result (λ costs. costs.items ≡ map (first_cost (has state.now.hold)) facts.now) }
 {
-    let mut costs = Vec::new(alloc);
-    for f in 0..facts {
-        costs.push(cost_at_first(state, f))?;
+    let mut costs = Vec::with_capacity(alloc, facts.len())?;
+    for fact in facts {
+        costs.push(cost_at_first(state, *fact))?;
     }
     Ok(costs)
 }

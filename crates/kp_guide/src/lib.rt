@@ -2,13 +2,18 @@
 //! `specs/Added.antt` what the estimate `added` is.
 #![tactic(auto)]
 
+mod adders;
 mod adding;
 mod additive;
 mod costs;
+mod estimating;
 mod estimator;
 mod guide;
 mod index;
 mod laws;
+mod making;
+mod places;
+mod relaxation;
 mod rule;
 mod rules;
 mod settle;

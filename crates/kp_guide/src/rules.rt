@@ -5,27 +5,17 @@ ghost use Rattle.kp_guide.specs.Added.{rules_of, rules_of_effect, rules_of_op};
 ghost use Rattle.kp_guide.specs.Tables.{with_fact};
 
 use crate::Rule;
+use indexmap::IndexSet;
 use kp_base::{Memory, Row};
 use kp_classic::{Op, OpEffect, Task};
 use std::alloc::Global;
 
-// Adds a fact, unless it is there.
-fn add_one(facts: &mut Vec<u32>, fact: u32) -> Result<(), Memory>
-    ensures { OnOk result (facts.new.items ≡ with_fact facts.old.items fact) }
-{
-    if facts.contains(&fact) {
-        return Ok(());
-    }
-    facts.push(fact)?;
-    Ok(())
-}
-
 // Adds the facts that are not there.
-fn add_new(facts: &mut Vec<u32>, more: &[u32]) -> Result<(), Memory>
-    ensures { OnOk result (facts.new.items ≡ fold with_fact facts.old.items more.now) }
+fn add_new(facts: &mut IndexSet<u32>, more: &[u32]) -> Result<(), Memory>
+    ensures { OnOk result (facts.new.keys ≡ fold with_fact facts.old.keys more.now) }
 {
     for fact in more {
-        add_one(facts, *fact)?;
+        facts.insert(*fact)?;
     }
     Ok(())
 }
@@ -35,10 +25,10 @@ fn add_new(facts: &mut Vec<u32>, more: &[u32]) -> Result<(), Memory>
 pub(crate) fn once(alloc: Global, first: &[u32], second: &[u32]) -> Result<Row<u32>, Memory>
     ensures { IfOk result (λ row. row ≡ each_once nat_eq (first.now ++ second.now)) }
 {
-    let mut facts = Vec::new(alloc);
+    let mut facts = IndexSet::new(alloc);
     add_new(&mut facts, first)?;
     add_new(&mut facts, second)?;
-    Ok(Row::from_vec(facts))
+    Ok(Row::from_vec(facts.as_slice().to_vec(alloc)?))
 }
 
 // Adds the rule of an effect, where it adds.

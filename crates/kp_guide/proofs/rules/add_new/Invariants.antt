@@ -3,4 +3,4 @@ use Rattle.kp_guide.specs.Tables.{with_fact}
 use Rattle.kp_guide.proofs.rules.add_new.Given as goal
 
 abbrev pub invariant-loop-fact : goal.invariant-loop-fact
-invariant-loop-fact l = fold with_fact l.facts.items (drop l.fact-index l.more) ≡ fold with_fact l.initial.facts.items l.more
+invariant-loop-fact l = fold with_fact l.facts.keys (drop l.fact-index l.more) ≡ fold with_fact l.initial.facts.keys l.more
