@@ -7,7 +7,7 @@ ghost use Rattle.kp_guide.specs.Tables.{AreSettled};
 
 use crate::Index;
 use crate::costs::{CAP, cost_of, costs_at_first};
-use crate::rules::once;
+use crate::rules::{once, rules_of};
 use crate::settle::settle;
 use kp_base::Memory;
 use kp_classic::{State, Task};
@@ -26,12 +26,14 @@ fn costs_by(alloc: Global, index: &Index, state: &State) -> Result<Vec<u32>, Mem
 }
 
 // The costs of all facts of a task.
+#[tactic(auto, using(crate::proofs::Estimates::rules_fit))]
 fn costs_in(alloc: Global, task: &Task, state: &State) -> Result<Vec<u32>, Memory>
     requires fits { IsFit task.now }
     requires of_task { state.now.facts ≡ length task.now.facts }
     ensures { IfOk result (λ costs. AreSettled (rules_of task.now) (has state.now.hold) (length task.now.facts) costs.items) }
 {
-    let index = Index::of(alloc, task)?;
+    let rules = rules_of(alloc, task)?;
+    let index = Index::of(alloc, rules, task.facts.len())?;
     let costs = costs_by(alloc, &index, state)?;
     Ok(costs)
 }

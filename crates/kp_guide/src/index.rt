@@ -1,18 +1,15 @@
-//! The rules of a task, with those that need each fact.
+//! Rules, with those that need each fact.
 ghost use Rattle.std.specs.Prelude.{◌≡◌, ◌<◌, [], ◌∷◌, ℕ, true, length, IfOk, OnOk};
 ghost use Rattle.std.specs.List.{list_all};
-ghost use Rattle.kp_classic.specs.Fits.{are_below, IsFit};
-ghost use Rattle.kp_guide.specs.Added.{rules_of};
+ghost use Rattle.kp_classic.specs.Fits.{are_below};
 ghost use Rattle.kp_guide.specs.Tables.{fits_rule};
 ghost use Rattle.kp_guide.specs.Waiting.{AreUsers, Notes, row};
 
 use crate::Rule;
-use crate::rules::rules_of;
 use kp_base::{Memory, Row};
-use kp_classic::Task;
 use std::alloc::Global;
 
-/// The rules of a task, and for each fact the numbers of the rules that need it.
+/// Rules, and for each fact the numbers of those that need it.
 #[derive(Drop)]
 pub(crate) struct Index {
     pub(crate) rules: Vec<Rule>,
@@ -70,15 +67,13 @@ fn users_of(alloc: Global, rules: &[Rule], facts: usize) -> Result<Vec<Row<usize
 }
 
 impl Index {
-    /// The rules of a task.
-    #[tactic(auto, using(crate::proofs::Estimates::rules_fit))]
-    pub(crate) fn of(alloc: Global, task: &Task) -> Result<Index, Memory>
-        requires { IsFit task.now }
-        ensures rules { IfOk result (λ i. i.rules.items ≡ rules_of task.now) }
-        ensures long { IfOk result (λ i. length i.users.items ≡ length task.now.facts) }
+    /// These rules, on so many facts.
+    pub(crate) fn of(alloc: Global, rules: Vec<Rule>, facts: usize) -> Result<Index, Memory>
+        requires fit { list_all (fits_rule facts) rules.items ≡ true }
+        ensures rules { IfOk result (λ i. i.rules.items ≡ rules.items) }
+        ensures long { IfOk result (λ i. length i.users.items ≡ facts) }
     {
-        let rules = rules_of(alloc, task)?;
-        let users = users_of(alloc, &rules, task.facts.len())?;
+        let users = users_of(alloc, &rules, facts)?;
         Ok(Index { rules, users })
     }
 }
