@@ -1,15 +1,16 @@
 -- Rules that wait, and what is left of that when one is tried.
-use Rattle.std.proofs.Common.{◌≡◌, ◌<◌, ◌≤◌, ◌+◌, ℕ, zero, suc, Bool, true, false, nat_lt, nat_eq, List, [], ◌∷◌, ◌++◌, Some, length, set, take, drop, replicate, get_or, slice_get, slice_index_or, length-set, get_or-set_same, get_or-set_other, append-nil, add-one, arith, refl, sym, ap, subst, ◌∙◌, inl, inr}
-use Rattle.std.specs.List.{list_any, list_all, range_with_len}
-use Rattle.std.proofs.lemmas.Bool.{and_parts, and_from, cases_eq, cases_lt, cases_Bool, eqb-true, false≢true, lt-ltb, ltb-true}
+use Rattle.std.proofs.Common.{◌≡◌, ◌<◌, ◌≤◌, ◌+◌, ℕ, zero, suc, Bool, true, false, nat_lt, nat_le, nat_eq, List, [], ◌∷◌, ◌++◌, Some, length, set, take, drop, replicate, get_or, slice_get, slice_index_or, length-set, get_or-set_same, get_or-set_other, append-nil, arith, refl, sym, ap, subst, ◌∙◌, inl, inr}
+use Rattle.std.specs.List.{list_any, list_all}
+use Rattle.std.proofs.lemmas.Bool.{and_parts, and_from, cases_eq, cases_lt, cases_Bool, eqb-true, false≢true, lt-ltb, ltb-true, leb-true}
 use Rattle.std.proofs.lemmas.Option.{same_Some, slice_get_within, slice_get_read, slice_get-get_or}
 use Rattle.std.proofs.lemmas.List.{get_or_past, get_or-replicate, length-replicate}
 use Rattle.kp_base.specs.Lists.{Member}
-use Rattle.kp_base.proofs.Lists.{append_member, member_left, member_right, member_at, number_at, all_member, same_member, range_there}
+use Rattle.kp_base.proofs.Lists.{append_member, member_left, member_right, member_at, number_at, all_member, same_member}
 use Rattle.kp_classic.specs.Fits.{are_below}
 use Rattle.kp_guide.specs.declared.rule.Rule.{Rule}
-use Rattle.kp_guide.specs.Tables.{value, joined, cost_by, are_costs, fits_rule, IsClosed, Lowers, Relaxes}
-use Rattle.kp_guide.specs.Waiting.{row, waits_at, AreUsers, Waits, IsReady, IsWork, Tries, Rounds}
+use Rattle.kp_guide.specs.Tables.{value, joined, total, cost_by, are_costs, fits_rule, IsClosed, Lowers, Relaxes}
+use Rattle.kp_guide.specs.Waiting.{row, waits_at, AreUsers, Waits, IsReady, IsReadyBefore, IsWork, Tries, Rounds}
+use Rattle.kp_guide.proofs.Joins.{joined_is}
 use Rattle.kp_guide.proofs.Relaxing.{lowers_none, lowers_on, fallen, sum_less, here, total_same}
 
 -- ---- one more element of a list
@@ -195,29 +196,70 @@ drop_at (x ∷ xs) (suc i) lt = let e : suc i + 1 ≡ suc (i + 1) = omega arith 
 pub round_next : (rules : List Rule) (n : ℕ) (now : List ℕ) (i : ℕ) (old costs : List ℕ) (waits : List Bool) (next : List ℕ) (costs' : List ℕ) (waits' : List Bool) (next' : List ℕ) → i < length now → Rounds rules n old costs waits (drop i now) next → Tries rules n (slice_index_or now i 0) costs waits next costs' waits' next' → Rounds rules n old costs' waits' (drop (i + 1) now) next'
 round_next rules n now i old costs waits next costs' waits' next' lt a t = round_on rules n (slice_index_or now i 0) old costs waits next costs' waits' next' (drop (i + 1) now) (subst (λ rest. Rounds rules n old costs waits rest next) (drop_at now i lt) a) t
 
--- at first all rules wait
-range_more : (a k : ℕ) → range_with_len a (suc k) ≡ range_with_len a k ++ (a + k) ∷ []
-range_more a zero = ap (λ x. x ∷ []) (omega arith)
-range_more a (suc k) = ap (λ xs. a ∷ xs) (range_more (a + 1) k ∙ ap (λ x. range_with_len (a + 1) k ++ x ∷ []) (omega arith))
+-- ---- the first rules that wait
 
-pub one_number_more : (k : ℕ) → range_with_len 0 (k + 1) ≡ range_with_len 0 k ++ k ∷ []
-one_number_more k = ap (range_with_len 0) (add-one k) ∙ (range_more 0 k ∙ ap (λ x. range_with_len 0 k ++ x ∷ []) (omega arith))
+value_low : (costs : List ℕ) (f : ℕ) → are_costs costs ≡ true → value costs f ≤ 1000000001
+value_low [] f h = omega arith
+value_low (c ∷ cs) zero h = leb-true c 1000000001 (and_parts (nat_le c 1000000001) (are_costs cs) h).0
+value_low (c ∷ cs) (suc f) h = value_low cs f (and_parts (nat_le c 1000000001) (are_costs cs) h).1
 
-range_below : (a k m : ℕ) → a + k ≤ m → are_below m (range_with_len a k) ≡ true
-range_below a zero m le = refl
-range_below a (suc k) m le = and_from (nat_lt a m) (are_below m (range_with_len (a + 1) k)) (lt-ltb a m (omega (arith, le))) (range_below (a + 1) k m (omega (arith, le)))
+-- a rule that needs a fact without cost lowers none
+lowers_no : (costs : List ℕ) (r : Rule) → are_costs costs ≡ true → 1000000000 < total costs r.needs → value costs r.fact ≤ cost_by costs r
+lowers_no costs r h high =
+    let low = value_low costs r.fact h in
+    elim (joined_is 1 (total costs r.needs)) [
+      | inl j ↦ let a = j.1 in absurd (omega (arith, a, high))
+      | inr j ↦ let e = j.1 in omega (arith, e, low)
+    ]
 
-pub work_first : (rules : List Rule) (n : ℕ) (costs : List ℕ) → length costs ≡ n → are_costs costs ≡ true → IsWork rules n costs (replicate (length rules) true) (range_with_len 0 (length rules))
-work_first rules n costs long costs_are = record { long = long; in_range = costs_are; flags = length-replicate (length rules) true; known = range_below 0 (length rules) (length rules) (omega arith) }
+none_flagged : (n k : ℕ) → waits_at (replicate n false) k ≡ true → ⊥
+none_flagged n k h = elim (cases_lt k n) [
+  | inl lt ↦ false≢true (sym (get_or-replicate n k false false lt) ∙ h)
+  | inr ge ↦ let l = length-replicate n false in false≢true (sym (get_or_past (replicate n false) k false (omega (arith, l, ge))) ∙ h)
+]
 
-pub ready_first : (rules : List Rule) (costs : List ℕ) → IsReady rules costs (replicate (length rules) true) (range_with_len 0 (length rules))
-ready_first rules costs = record {
-  each = λ k r h. inl (get_or-replicate (length rules) k true false (slice_get_within rules k r h));
-  listed = λ k h. elim (cases_lt k (length rules)) [
-    | inl lt ↦ range_there 0 (length rules) k (omega arith) (omega (arith, lt))
-    | inr ge ↦ let l = length-replicate (length rules) true in absurd (false≢true (sym (get_or_past (replicate (length rules) true) k false (omega (arith, l, ge))) ∙ h))
-  ];
-}
+pub none_ready : (rules : List Rule) (costs : List ℕ) (waits : List Bool) → waits ≡ replicate (length rules) false → IsReadyBefore rules 0 costs waits []
+none_ready rules costs waits e = subst (λ ws. IsReadyBefore rules 0 costs ws []) (sym e) (record {
+  flags = length-replicate (length rules) false;
+  known = refl;
+  each = λ k r lt h. absurd (omega (arith, lt));
+  listed = λ k h. absurd (none_flagged (length rules) k h);
+})
+
+module _ (rules : List Rule) (costs : List ℕ) (i : ℕ) (r : Rule) (at : slice_get rules i ≡ Some r) (waits : List Bool) (next : List ℕ) (a : IsReadyBefore rules i costs waits next) where
+  -- the next waits
+  pub waits_first : (waits' : List Bool) (next' : List ℕ) → Waits (i ∷ []) waits next waits' next' → IsReadyBefore rules (i + 1) costs waits' next'
+  waits_first waits' next' w = record {
+    flags = w.long ∙ a.flags;
+    known = subst (λ n. are_below n next' ≡ true) a.flags (w.below (subst (λ n. are_below n next ≡ true) (sym a.flags) a.known));
+    each = λ k q lt h. elim (cases_lt k i) [
+      | inl before ↦ elim (a.each k q before h) [ inl f ↦ inl (w.keeps k f) | inr c ↦ inr c ]
+      | inr past ↦ inl (w.all k (inl (omega (arith, past, lt))))
+    ];
+    listed = λ k h. elim (w.listed k h) [ inl f ↦ w.stays k (a.listed k f) | inr m ↦ m ];
+  }
+
+  -- or it needs a fact without cost
+  pub skips_first : are_costs costs ≡ true → 1000000000 < total costs r.needs → IsReadyBefore rules (i + 1) costs waits next
+  skips_first h high = record {
+    flags = a.flags;
+    known = a.known;
+    each = λ k q lt g. elim (cases_lt k i) [
+      | inl before ↦ a.each k q before g
+      | inr past ↦
+          let e : k ≡ i = omega (arith, past, lt) in
+          let same = same_Some r q (sym at ∙ subst (λ x. slice_get rules x ≡ Some q) e g) in
+          inr (subst (λ z. value costs z.fact ≤ cost_by costs z) same (lowers_no costs r h high))
+    ];
+    listed = a.listed;
+  }
+
+module _ (rules : List Rule) (costs : List ℕ) (waits : List Bool) (next : List ℕ) (a : IsReadyBefore rules (length rules) costs waits next) where
+  pub first_work : (n : ℕ) → length costs ≡ n → are_costs costs ≡ true → IsWork rules n costs waits next
+  first_work n long costs_are = record { long = long; in_range = costs_are; flags = a.flags; known = a.known }
+
+  pub first_ready : IsReady rules costs waits next
+  first_ready = record { each = λ k r h. a.each k r (slice_get_within rules k r h) h; listed = a.listed }
 
 -- between rounds nothing is left
 pub round_ends : (rules : List Rule) (n : ℕ) (first old new : List ℕ) (waits : List Bool) (next : List ℕ) → Lowers rules first old → Rounds rules n old new waits [] next → IsWork rules n new waits next × Lowers rules first new × IsReady rules new waits next

@@ -47,6 +47,13 @@ pub record IsReady (rules : List Rule) (costs : List ℕ) (waits : List Bool) (l
   pub each : (k : ℕ) (r : Rule) → slice_get rules k ≡ Some r → (waits_at waits k ≡ true) ⊎ (value costs r.fact ≤ cost_by costs r)
   pub listed : (k : ℕ) → waits_at waits k ≡ true → Member list k
 
+-- each of the first i rules waits, or lowers no cost; and what waits is listed
+pub record IsReadyBefore (rules : List Rule) (i : ℕ) (costs : List ℕ) (waits : List Bool) (list : List ℕ) : Type 0 where
+  pub flags : length waits ≡ length rules
+  pub known : are_below (length rules) list ≡ true
+  pub each : (k : ℕ) (r : Rule) → k < i → slice_get rules k ≡ Some r → (waits_at waits k ≡ true) ⊎ (value costs r.fact ≤ cost_by costs r)
+  pub listed : (k : ℕ) → waits_at waits k ≡ true → Member list k
+
 -- costs of n facts, flags of the rules, and numbers of rules
 pub record IsWork (rules : List Rule) (n : ℕ) (costs : List ℕ) (waits : List Bool) (next : List ℕ) : Type 0 where
   pub long : length costs ≡ n

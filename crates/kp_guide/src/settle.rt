@@ -1,12 +1,11 @@
 //! Least costs by the rules of a task: each rule that may lower a cost waits, is tried, and where it lowers one, those rules
 //! wait that need the fact.
-ghost use Rattle.std.specs.Prelude.{◌≡◌, ◌<◌, [], ◌∷◌, true, false, length, set, IfOk, OnOk};
-ghost use Rattle.std.specs.List.{range_with_len};
+ghost use Rattle.std.specs.Prelude.{◌≡◌, ◌<◌, ◌+◌, [], ◌∷◌, true, false, length, replicate, IfOk, OnOk};
 ghost use Rattle.kp_classic.specs.Fits.{are_below};
 ghost use Rattle.kp_guide.specs.Tables.{IsClosed, Lowers, Relaxes, are_costs, fits_rule};
-ghost use Rattle.kp_guide.specs.Waiting.{IsReady, IsWork, Rounds, Tries, Waits};
+ghost use Rattle.kp_guide.specs.Waiting.{IsReady, IsReadyBefore, IsWork, Rounds, Tries, Waits};
 
-use crate::costs::{cost_of, join};
+use crate::costs::{CAP, cost_of, join};
 use crate::{Index, Rule};
 use kp_base::Memory;
 use std::alloc::Global;
@@ -93,15 +92,46 @@ fn round(
     Ok(next)
 }
 
-// The first numbers.
-fn numbers(alloc: Global, count: usize) -> Result<Vec<usize>, Memory>
-    ensures { IfOk result (λ ns. ns.items ≡ range_with_len 0 count) }
+// Lets a rule wait, unless a fact that it needs has no cost.
+#[tactic(auto, using(crate::proofs::Waiting::waits_first, crate::proofs::Waiting::rule_fits))]
+fn consider(
+    index: &Index,
+    number: usize,
+    costs: &[u32],
+    waits: &mut [bool],
+    next: &mut Vec<usize>,
+) -> Result<(), Memory>
+    requires costs { are_costs costs.now ≡ true }
+    requires long { length costs.now ≡ length index.now.users.items }
+    requires number { number < length index.now.rules.items }
+    requires ready { IsReadyBefore index.now.rules.items number costs.now waits.old next.old.items }
+    ensures { OnOk result (IsReadyBefore index.now.rules.items (number + 1) costs.now waits.new next.new.items) }
 {
-    let mut numbers = Vec::new(alloc);
-    for number in 0..count {
-        numbers.push(number)?;
+    if cost_of(costs, index.rules[number].needs.slice()) > CAP {
+        return Ok(());
     }
-    Ok(numbers)
+    wait(number, waits, next)?;
+    Ok(())
+}
+
+// Lets the rules wait whose needs all have costs, and answers them.
+#[tactic(auto, using(crate::proofs::Waiting::none_ready))]
+fn first_waiting(
+    alloc: Global,
+    index: &Index,
+    costs: &[u32],
+    waits: &mut [bool],
+) -> Result<Vec<usize>, Memory>
+    requires costs { are_costs costs.now ≡ true }
+    requires long { length costs.now ≡ length index.now.users.items }
+    requires none { waits.old ≡ replicate (length index.now.rules.items) false }
+    ensures { IfOk result (λ next. IsReadyBefore index.now.rules.items (length index.now.rules.items) costs.now waits.new next.items) }
+{
+    let mut next = Vec::new(alloc);
+    for number in 0..index.rules.len() {
+        consider(index, number, costs, waits, &mut next)?;
+    }
+    Ok(next)
 }
 
 // Goes round until none waits.
@@ -125,15 +155,26 @@ fn rounds(
     Ok(())
 }
 
+// Lets the first rules wait, and goes round.
+#[tactic(auto, using(crate::proofs::Waiting::first_work, crate::proofs::Waiting::first_ready))]
+fn begin(alloc: Global, index: &Index, costs: &mut [u32], waits: &mut [bool]) -> Result<(), Memory>
+    requires costs { are_costs costs.old ≡ true }
+    requires long { length costs.old ≡ length index.now.users.items }
+    requires none { waits.old ≡ replicate (length index.now.rules.items) false }
+    ensures lowers { OnOk result (Lowers index.now.rules.items costs.old costs.new) }
+    ensures closed { OnOk result (IsClosed index.now.rules.items costs.new) }
+{
+    let first = first_waiting(alloc, index, costs, waits)?;
+    rounds(alloc, index, costs, waits, first)
+}
+
 /// Lowers the costs until no rule lowers one.
-#[tactic(auto, using(crate::proofs::Waiting::work_first, crate::proofs::Waiting::ready_first))]
 pub(crate) fn settle(alloc: Global, index: &Index, costs: &mut [u32]) -> Result<(), Memory>
     requires costs { are_costs costs.old ≡ true }
     requires long { length costs.old ≡ length index.now.users.items }
     ensures lowers { OnOk result (Lowers index.now.rules.items costs.old costs.new) }
     ensures closed { OnOk result (IsClosed index.now.rules.items costs.new) }
 {
-    let first = numbers(alloc, index.rules.len())?;
-    let mut waits = vec![in alloc; true; index.rules.len()]?;
-    rounds(alloc, index, costs, &mut waits, first)
+    let mut waits = vec![in alloc; false; index.rules.len()]?;
+    begin(alloc, index, costs, &mut waits)
 }
