@@ -1,11 +1,12 @@
 //! Rules, with those that need each fact.
-ghost use Rattle.std.specs.Prelude.{◌≡◌, ◌<◌, [], ◌∷◌, ℕ, true, length, IfOk, OnOk};
+ghost use Rattle.std.specs.Prelude.{◌≡◌, ◌<◌, ◌+◌, [], ◌∷◌, ℕ, true, length, IfOk, OnOk};
 ghost use Rattle.std.specs.List.{list_all};
 ghost use Rattle.kp_classic.specs.Fits.{are_below};
 ghost use Rattle.kp_guide.specs.Tables.{fits_rule};
-ghost use Rattle.kp_guide.specs.Waiting.{AreUsers, Notes, row};
+ghost use Rattle.kp_guide.specs.Waiting.{AreCounts, AreUsers, CountsDown, Notes, needs_of, row, unreached, unreached_before};
 
 use crate::Rule;
+use crate::costs::CAP;
 use kp_base::{Memory, Row};
 use std::alloc::Global;
 
@@ -66,6 +67,53 @@ fn users_of(alloc: Global, rules: &[Rule], facts: usize) -> Result<Vec<Row<usize
     Ok(users)
 }
 
+/// Lowers the counts of some rules, by one for each time that a rule is named.
+#[tactic(auto, using(crate::proofs::Noting::counts_none, crate::proofs::Noting::counts_on))]
+pub(crate) fn count_down(numbers: &[usize], counts: &mut [usize])
+    requires { are_below (length counts.old) numbers.now ≡ true }
+    ensures { CountsDown numbers.now counts.old counts.new }
+{
+    for number in numbers {
+        counts[*number] = counts[*number].saturating_sub(1);
+    }
+}
+
+// How much each rule needs.
+fn needs_of(alloc: Global, rules: &[Rule]) -> Result<Vec<usize>, Memory>
+    ensures { IfOk result (λ counts. counts.items ≡ needs_of rules.now) }
+{
+    let mut counts = Vec::new(alloc);
+    for rule in rules {
+        counts.push(rule.needs.len())?;
+    }
+    Ok(counts)
+}
+
+// Where a fact has a cost, lowers the counts of the rules that need it.
+#[tactic(auto, using(crate::proofs::Noting::counts_reached, crate::proofs::Noting::counts_unreached))]
+fn count_fact(index: &Index, fact: usize, costs: &[u32], counts: &mut [usize])
+    requires fact { fact < length costs.now }
+    requires long { length costs.now ≡ length index.now.users.items }
+    requires counts { AreCounts index.now.rules.items (unreached_before costs.now fact) counts.old }
+    ensures { AreCounts index.now.rules.items (unreached_before costs.now (fact + 1)) counts.new }
+{
+    if costs[fact] <= CAP {
+        count_down(index.users[fact].slice(), counts);
+    }
+}
+
+// Lowers the counts for all facts that have a cost.
+#[tactic(auto, using(crate::proofs::Noting::counts_begin, crate::proofs::Noting::counts_end))]
+fn count_facts(index: &Index, costs: &[u32], counts: &mut [usize])
+    requires long { length costs.now ≡ length index.now.users.items }
+    requires counts { counts.old ≡ needs_of index.now.rules.items }
+    ensures { AreCounts index.now.rules.items (unreached costs.now) counts.new }
+{
+    for fact in 0..costs.len() {
+        count_fact(index, fact, costs, counts);
+    }
+}
+
 impl Index {
     /// These rules, on so many facts.
     pub(crate) fn of(alloc: Global, rules: Vec<Rule>, facts: usize) -> Result<Index, Memory>
@@ -75,5 +123,15 @@ impl Index {
     {
         let users = users_of(alloc, &rules, facts)?;
         Ok(Index { rules, users })
+    }
+
+    /// How many needs of each rule have no cost.
+    pub(crate) fn counts(&self, alloc: Global, costs: &[u32]) -> Result<Vec<usize>, Memory>
+        requires { length costs.now ≡ length self.now.users.items }
+        ensures { IfOk result (λ counts. AreCounts self.now.rules.items (unreached costs.now) counts.items) }
+    {
+        let mut counts = needs_of(alloc, &self.rules)?;
+        count_facts(self, costs, &mut counts);
+        Ok(counts)
     }
 }
