@@ -4,6 +4,7 @@ use Rattle.std.specs.List.{list_all}
 use Rattle.std.specs.Cmp.{nat_eq_equiv}
 use Rattle.std.proofs.lemmas.Bool.{and_parts, and_from, cases_lt, cases_Bool}
 use Rattle.std.proofs.lemmas.List.{get_or_past, get_or-map, length-map}
+use Rattle.std.proofs.lemmas.List.Folds.{list_all-append}
 use Rattle.std.proofs.lemmas.List.Sums.{fold-append}
 use Rattle.kp_base.specs.Lists.{Member, each_once, only_if}
 use Rattle.kp_base.proofs.Lists.{all_from, all_member, flat_member}
@@ -27,10 +28,6 @@ once_of xs ys = sym (fold-append with_fact [] xs ys) ∙ once_by_one nat_eq nat_
 
 -- ---- the rules fit
 
-joined_below : (p : ℕ → Bool) (xs ys : List ℕ) → list_all p xs ≡ true → list_all p ys ≡ true → list_all p (xs ++ ys) ≡ true
-joined_below p [] ys h g = g
-joined_below p (x ∷ xs) ys h g = let parts = and_parts (p x) (list_all p xs) h in rw parts.0 (joined_below p xs ys parts.1 g)
-
 pub rules_fit : (t : Task) (n : ℕ) → n ≡ length t.facts → IsFit t → list_all (fits_rule n) (rules_of t) ≡ true
 rules_fit t n same fit = all_from (fits_rule n) (rules_of t) (λ r m.
     let a = flat_member rules_of_op t.ops r m in
@@ -42,7 +39,7 @@ rules_fit t n same fit = all_from (fits_rule n) (rules_of t) (λ r m.
     let eff = and_parts (nat_lt e.fact n) (fits n e.cond) (all_member (fits_effect n) o.effects e b.1 parts.1) in
     let pre = (and_parts (are_below n o.pre.yes) (are_below n o.pre.no) parts.0).0 in
     let con = (and_parts (are_below n e.cond.yes) (are_below n e.cond.no) eff.1).0 in
-    let rule_ok : fits_rule n (rule_of o e) ≡ true = and_from (nat_lt e.fact n) (are_below n (rule_of o e).needs) eff.0 (all_each_once nat_eq (λ f. nat_lt f n) (o.pre.yes ++ e.cond.yes) (joined_below (λ f. nat_lt f n) o.pre.yes e.cond.yes pre con)) in
+    let rule_ok : fits_rule n (rule_of o e) ≡ true = and_from (nat_lt e.fact n) (are_below n (rule_of o e).needs) eff.0 (all_each_once nat_eq (λ f. nat_lt f n) (o.pre.yes ++ e.cond.yes) (list_all-append (λ f. nat_lt f n) o.pre.yes e.cond.yes ∙ and_from (are_below n o.pre.yes) (are_below n e.cond.yes) pre con)) in
     here n r o e rule_ok e.adds b.2)
   where
     here : (n : ℕ) (r : Rule) (o : Op) (e : OpEffect) → fits_rule n (rule_of o e) ≡ true → (b : Bool) → Member (only_if b (rule_of o e ∷ [])) r → fits_rule n r ≡ true

@@ -1,15 +1,21 @@
 -- The rules that add a fact.
 use Rattle.std.proofs.Common.{◌≡◌, ◌<◌, ◌+◌, ℕ, true, List, [], ◌∷◌, ◌++◌, ◌⊎◌, Some, length, nat_eq, set, slice_get, get_or, get_or-set_same, get_or-set_other, arith, refl, sym, ap, subst, ◌∙◌, inl, inr}
-use Rattle.std.proofs.lemmas.Bool.{cases_eq, cases_lt, eqb-true}
+use Rattle.std.proofs.lemmas.Bool.{cases_eq, cases_lt, eq-eqb, eqb-true}
 use Rattle.std.proofs.lemmas.Option.{same_Some, slice_get-get_or, slice_get_within}
 use Rattle.kp_base.specs.Lists.{Member}
-use Rattle.kp_base.proofs.Lists.{append_member, same_member, number_at}
+use Rattle.kp_base.proofs.Lists.{any_from, append_member, member_left, member_right, same_member, number_at}
 use Rattle.kp_classic.specs.States.{has}
 use Rattle.kp_guide.specs.declared.rule.Rule.{Rule}
 use Rattle.kp_guide.specs.Placing.{AddThere, AreAdders}
 use Rattle.kp_guide.specs.Relaxed.{at}
 use Rattle.kp_guide.specs.Waiting.{row}
-use Rattle.kp_guide.proofs.Noting.{has_pushed, has_last}
+
+-- a number stands in a list that has one more
+has_pushed : (xs : List ℕ) (x k : ℕ) → has xs k ≡ true → has (xs ++ x ∷ []) k ≡ true
+has_pushed xs x k h = any_from (nat_eq k) (xs ++ x ∷ []) k (member_left xs (x ∷ []) k (same_member nat_eq (λ a b e. eqb-true a b e) xs k h)) (eq-eqb k k refl)
+
+has_last : (xs : List ℕ) (x : ℕ) → has (xs ++ x ∷ []) x ≡ true
+has_last xs x = any_from (nat_eq x) (xs ++ x ∷ []) x (member_right xs (x ∷ []) x (inl refl)) (eq-eqb x x refl)
 
 pub adders_none : (rules : List Rule) (rows : List (List ℕ)) → ((f : ℕ) → row rows f ≡ []) → AreAdders rules 0 rows
 adders_none rules rows empty = record {

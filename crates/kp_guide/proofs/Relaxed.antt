@@ -1,8 +1,9 @@
 -- A fact that operators reach is reached by a chain of rules.
-use Rattle.std.proofs.Common.{◌≡◌, ◌+◌, ℕ, Bool, true, false, not, ◌&&◌, List, [], ◌∷◌, ◌++◌, Option, Some, None, nat_eq, slice_get, refl, sym, subst, inl, inr}
+use Rattle.std.proofs.Common.{◌≡◌, ◌+◌, ℕ, Bool, true, false, not, ◌&&◌, List, [], ◌∷◌, ◌++◌, Option, Some, None, nat_eq, slice_get, refl, sym, subst, ◌∙◌, inl, inr}
 use Rattle.std.specs.Bool.{beq}
 use Rattle.std.specs.List.{list_all}
-use Rattle.std.proofs.lemmas.Bool.{and_parts, or_cases, eqb-true, false≢true}
+use Rattle.std.proofs.lemmas.Bool.{and_parts, and_from, or_cases, eqb-true, false≢true}
+use Rattle.std.proofs.lemmas.List.Folds.{list_all-append}
 use Rattle.kp_base.specs.Lists.{Member, only_if}
 use Rattle.kp_base.proofs.Lists.{any_member, member_flat_map, member_at}
 use Rattle.kp_base.proofs.Once.{all_each_once}
@@ -18,10 +19,6 @@ use Rattle.kp_guide.specs.Added.Costs.{none, given, by_rule}
 free : (rules : List Rule) (s : Holding) (fs : List ℕ) → list_all s fs ≡ true → Costs rules s fs 0
 free rules s [] h = none
 free rules s (f ∷ fs) h = let parts = and_parts (s f) (list_all s fs) h in given f fs 0 parts.0 (free rules s fs parts.1)
-
-all_joined : (p : ℕ → Bool) (xs ys : List ℕ) → list_all p xs ≡ true → list_all p ys ≡ true → list_all p (xs ++ ys) ≡ true
-all_joined p [] ys h g = g
-all_joined p (x ∷ xs) ys h g = let parts = and_parts (p x) (list_all p xs) h in rw parts.0 (all_joined p xs ys parts.1 g)
 
 is_true : (b : Bool) → beq true b ≡ true → b ≡ true
 is_true true h = refl
@@ -40,7 +37,7 @@ module _ (t : Task) (s : Holding) where
       let same : f ≡ e.fact = eqb-true f e.fact more.0 in
       let pre_yes = (and_parts (list_all s o.pre.yes) (list_all (λ g. not (s g)) o.pre.no) pre).0 in
       let cond_yes = (and_parts (list_all s e.cond.yes) (list_all (λ g. not (s g)) e.cond.no) more.1).0 in
-      let all = all_each_once nat_eq s (o.pre.yes ++ e.cond.yes) (all_joined s o.pre.yes e.cond.yes pre_yes cond_yes) in
+      let all = all_each_once nat_eq s (o.pre.yes ++ e.cond.yes) (list_all-append s o.pre.yes e.cond.yes ∙ and_from (list_all s o.pre.yes) (list_all s e.cond.yes) pre_yes cond_yes) in
       let here : Member (rules_of_effect o e) (rule_of o e) = subst (λ b. Member (only_if b (rule_of o e ∷ [])) (rule_of o e)) (sym (is_true e.adds parts.0)) (inl refl) in
       let in_op : Member (rules_of_op o) (rule_of o e) = member_flat_map (rules_of_effect o) o.effects e (rule_of o e) r.1 here in
       let member : Member (rules_of t) (rule_of o e) = member_flat_map rules_of_op t.ops o (rule_of o e) (member_at t.ops k o there) in_op in

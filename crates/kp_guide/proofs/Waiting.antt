@@ -1,54 +1,51 @@
 -- Rules that wait, and what is left of that when one is tried.
-use Rattle.std.proofs.Common.{◌≡◌, ◌<◌, ◌≤◌, ◌+◌, ℕ, zero, suc, Bool, true, false, nat_lt, nat_eq, List, [], ◌∷◌, ◌++◌, Some, length, set, take, drop, replicate, get_or, slice_get, slice_index_or, length-set, get_or-set_same, get_or-set_other, append-nil, add-one, arith, refl, sym, ap, subst, ◌∙◌, inl, inr}
+use Rattle.std.proofs.Common.{◌≡◌, ◌<◌, ◌≤◌, ◌+◌, ◌⊎◌, ℕ, zero, suc, Bool, true, false, nat_lt, nat_le, nat_eq, List, [], ◌∷◌, ◌++◌, Some, length, set, take, drop, replicate, get_or, slice_get, slice_index_or, length-set, get_or-set_same, get_or-set_other, append-nil, add-one, arith, refl, sym, ap, subst, ◌∙◌, inl, inr}
 use Rattle.std.specs.List.{list_any, list_all, range_with_len}
-use Rattle.std.proofs.lemmas.Bool.{and_parts, and_from, cases_eq, cases_lt, cases_Bool, eqb-true, false≢true, lt-ltb, ltb-true}
+use Rattle.std.proofs.lemmas.Bool.{and_parts, cases_eq, cases_lt, cases_Bool, eqb-true, false≢true, lt-ltb, le-ltb, ltb-true, leb-true}
 use Rattle.std.proofs.lemmas.Option.{same_Some, slice_get_within, slice_get_read, slice_get-get_or}
 use Rattle.std.proofs.lemmas.List.{get_or_past, get_or-replicate, length-replicate}
-use Rattle.kp_base.specs.Lists.{Member}
+use Rattle.kp_base.specs.Lists.{Member, only_if}
 use Rattle.kp_base.proofs.Lists.{append_member, member_left, member_right, member_at, number_at, all_member, same_member, range_there}
 use Rattle.kp_classic.specs.Fits.{are_below}
 use Rattle.kp_guide.specs.declared.rule.Rule.{Rule}
-use Rattle.kp_guide.specs.Tables.{value, joined, cost_by, are_costs, fits_rule, IsClosed, Lowers, Relaxes}
-use Rattle.kp_guide.specs.Waiting.{row, waits_at, AreUsers, Waits, IsReady, IsWork, Tries, Rounds}
-use Rattle.kp_guide.proofs.Relaxing.{lowers_none, lowers_on, fallen, sum_less, here, total_same}
-
--- ---- one more element of a list
-
-pub taken_on : {X : Type 0} (xs : List X) (i : ℕ) (x : X) → slice_get xs i ≡ Some x → take (i + 1) xs ≡ take i xs ++ x ∷ []
-taken_on [] i x h = cc
-taken_on (y ∷ ys) zero x h = ap (λ z. z ∷ []) (same_Some y x h)
-taken_on (y ∷ ys) (suc i) x h = let e : suc i + 1 ≡ suc (i + 1) = omega arith in ap (λ n. take n (y ∷ ys)) e ∙ ap (λ zs. y ∷ zs) (taken_on ys i x h)
-
-pub all_pushed : (p : ℕ → Bool) (xs : List ℕ) (x : ℕ) → list_all p xs ≡ true → p x ≡ true → list_all p (xs ++ x ∷ []) ≡ true
-all_pushed p [] x h e = and_from (p x) true e refl
-all_pushed p (y ∷ ys) x h e = let parts = and_parts (p y) (list_all p ys) h in and_from (p y) (list_all p (ys ++ x ∷ [])) parts.0 (all_pushed p ys x parts.1 e)
+use Rattle.kp_guide.specs.Tables.{value, joined, total, cost_by, are_costs, fits_rule, IsClosed, Lowers, Relaxes}
+use Rattle.kp_guide.specs.Waiting.{row, unreached, count_at, AreCounts, CountsDown, waits_at, AreUsers, Waits, IsReady, IsWork, Tries, Rounds}
+use Rattle.kp_guide.proofs.Joins.{joined_is}
+use Rattle.kp_guide.proofs.Noting.{taken_on, all_pushed, some_passes, user_there, counts_met, counts_alike, counts_same}
+use Rattle.kp_guide.proofs.Relaxing.{lowers_none, lowers_on, fallen, sum_less, here, elsewhere, total_same}
 
 -- ---- rules that wait
 
-pub waits_none : (waits : List Bool) (next : List ℕ) → Waits [] waits next waits next
-waits_none waits next = record { long = refl; below = λ h. h; keeps = λ k h. h; all = λ k m. absurd m; listed = λ k h. inl h; stays = λ k m. m }
+pub waits_none : (counts : List ℕ) (waits : List Bool) (next : List ℕ) → Waits counts [] waits next waits next
+waits_none counts waits next = record { long = refl; below = λ h. h; keeps = λ k h. h; all = λ k m none. absurd m; listed = λ k h. inl h; stays = λ k m. m }
 
--- one that waits already
-pub waits_still : (k : ℕ) (waits : List Bool) (next : List ℕ) → waits_at waits k ≡ true → Waits (k ∷ []) waits next waits next
-waits_still k waits next w = record {
+-- one that waits already, or lacks a need
+pub waits_still : (counts : List ℕ) (k : ℕ) (waits : List Bool) (next : List ℕ) → (0 < count_at counts k) ⊎ (waits_at waits k ≡ true) → Waits counts (k ∷ []) waits next waits next
+waits_still counts k waits next why = record {
   long = refl;
   below = λ h. h;
   keeps = λ j h. h;
-  all = λ j m. elim m [ inl e ↦ subst (λ x. waits_at waits x ≡ true) e w | inr n ↦ absurd n ];
+  all = λ j m none. elim m [
+    | inl e ↦ subst (λ x. waits_at waits x ≡ true) e (elim why [
+      | inl more ↦ let same : count_at counts k ≡ count_at counts j = ap (count_at counts) e in absurd (omega (arith, more, same, none))
+      | inr w ↦ w
+    ])
+    | inr n ↦ absurd n
+  ];
   listed = λ j h. inl h;
   stays = λ j m. m;
 }
 
 -- one that didn't
-pub waits_now : (k : ℕ) (waits : List Bool) (next : List ℕ) → k < length waits → Waits (k ∷ []) waits next (set waits k true) (next ++ k ∷ [])
-waits_now k waits next lt = record {
+pub waits_now : (counts : List ℕ) (k : ℕ) (waits : List Bool) (next : List ℕ) → k < length waits → Waits counts (k ∷ []) waits next (set waits k true) (next ++ k ∷ [])
+waits_now counts k waits next lt = record {
   long = length-set waits k true;
   below = λ h. all_pushed (λ x. nat_lt x (length waits)) next k h (lt-ltb k (length waits) lt);
   keeps = λ j h. elim (cases_eq j k) [
     | inl e ↦ subst (λ x. waits_at (set waits k true) x ≡ true) (sym e) (get_or-set_same waits k true false lt)
     | inr ne ↦ get_or-set_other waits k j true false ne ∙ h
   ];
-  all = λ j m. elim m [ inl e ↦ subst (λ x. waits_at (set waits k true) x ≡ true) e (get_or-set_same waits k true false lt) | inr n ↦ absurd n ];
+  all = λ j m none. elim m [ inl e ↦ subst (λ x. waits_at (set waits k true) x ≡ true) e (get_or-set_same waits k true false lt) | inr n ↦ absurd n ];
   listed = λ j h. elim (cases_eq j k) [
     | inl e ↦ inr (member_right next (k ∷ []) j (inl (sym e)))
     | inr ne ↦ inl (sym (get_or-set_other waits k j true false ne) ∙ h)
@@ -56,12 +53,12 @@ waits_now k waits next lt = record {
   stays = λ j m. member_left next (k ∷ []) j m;
 }
 
-pub waits_more : (done : List ℕ) (k : ℕ) (w0 : List Bool) (x0 : List ℕ) (w : List Bool) (x : List ℕ) (w' : List Bool) (x' : List ℕ) → Waits done w0 x0 w x → Waits (k ∷ []) w x w' x' → Waits (done ++ k ∷ []) w0 x0 w' x'
-waits_more done k w0 x0 w x w' x' a b = record {
+pub waits_more : (counts done : List ℕ) (k : ℕ) (w0 : List Bool) (x0 : List ℕ) (w : List Bool) (x : List ℕ) (w' : List Bool) (x' : List ℕ) → Waits counts done w0 x0 w x → Waits counts (k ∷ []) w x w' x' → Waits counts (done ++ k ∷ []) w0 x0 w' x'
+waits_more counts done k w0 x0 w x w' x' a b = record {
   long = b.long ∙ a.long;
   below = λ h. subst (λ n. are_below n x' ≡ true) a.long (b.below (subst (λ n. are_below n x ≡ true) (sym a.long) (a.below h)));
   keeps = λ j h. b.keeps j (a.keeps j h);
-  all = λ j m. elim (append_member done (k ∷ []) j m) [ inl h ↦ b.keeps j (a.all j h) | inr h ↦ b.all j h ];
+  all = λ j m none. elim (append_member done (k ∷ []) j m) [ inl h ↦ b.keeps j (a.all j h none) | inr h ↦ b.all j h none ];
   listed = λ j h. elim (b.listed j h) [
     | inl g ↦ elim (a.listed j g) [ inl f ↦ inl f | inr m ↦ inr (b.stays j m) ]
     | inr m ↦ inr m
@@ -70,13 +67,46 @@ waits_more done k w0 x0 w x w' x' a b = record {
 }
 
 -- the next of some numbers
-pub waits_on : (more : List ℕ) (i : ℕ) (w0 : List Bool) (x0 : List ℕ) (w : List Bool) (x : List ℕ) (w' : List Bool) (x' : List ℕ) → i < length more → Waits (take i more) w0 x0 w x → Waits (slice_index_or more i 0 ∷ []) w x w' x' → Waits (take (i + 1) more) w0 x0 w' x'
-waits_on more i w0 x0 w x w' x' lt a b = subst (λ ks. Waits ks w0 x0 w' x') (sym (taken_on more i (slice_index_or more i 0) (slice_get-get_or more i 0 lt))) (waits_more (take i more) (slice_index_or more i 0) w0 x0 w x w' x' a b)
+pub waits_on : (counts more : List ℕ) (i : ℕ) (w0 : List Bool) (x0 : List ℕ) (w : List Bool) (x : List ℕ) (w' : List Bool) (x' : List ℕ) → i < length more → Waits counts (take i more) w0 x0 w x → Waits counts (slice_index_or more i 0 ∷ []) w x w' x' → Waits counts (take (i + 1) more) w0 x0 w' x'
+waits_on counts more i w0 x0 w x w' x' lt a b = subst (λ ks. Waits counts ks w0 x0 w' x') (sym (taken_on more i (slice_index_or more i 0) (slice_get-get_or more i 0 lt))) (waits_more counts (take i more) (slice_index_or more i 0) w0 x0 w x w' x' a b)
+
+-- ---- a rule that lacks a need
+
+value_low : (costs : List ℕ) (f : ℕ) → are_costs costs ≡ true → value costs f ≤ 1000000001
+value_low [] f h = omega arith
+value_low (c ∷ cs) zero h = leb-true c 1000000001 (and_parts (nat_le c 1000000001) (are_costs cs) h).0
+value_low (c ∷ cs) (suc f) h = value_low cs f (and_parts (nat_le c 1000000001) (are_costs cs) h).1
+
+-- facts cost none together where one of them has no cost
+total_none : (costs fs : List ℕ) (f : ℕ) → Member fs f → 1000000000 < value costs f → 1000000000 < total costs fs
+total_none costs [] f m high = absurd m
+total_none costs (g ∷ gs) f m high = elim (joined_is (value costs g) (total costs gs)) [
+  | inl j ↦
+      let a = j.0 in
+      let b = j.1 in
+      elim m [
+        | inl e ↦ let same : value costs g ≡ value costs f = ap (value costs) e in absurd (omega (arith, a, high, same))
+        | inr r ↦ let rest = total_none costs gs f r high in absurd (omega (arith, b, rest))
+      ]
+  | inr j ↦ let e = j.1 in omega (arith, e)
+]
+
+-- it lowers no cost
+lowers_no : (rules : List Rule) (costs counts : List ℕ) (k : ℕ) (r : Rule) → are_costs costs ≡ true → AreCounts rules (unreached costs) counts → slice_get rules k ≡ Some r → 0 < count_at counts k → value costs r.fact ≤ cost_by costs r
+lowers_no rules costs counts k r in_range counted at more =
+    let e = counted.each k r at in
+    let f = some_passes (unreached costs) r.needs (omega (arith, e, more)) in
+    let high = total_none costs r.needs f.0 f.1 (ltb-true 1000000000 (value costs f.0) f.2) in
+    let low = value_low costs r.fact in_range in
+    elim (joined_is 1 (total costs r.needs)) [
+      | inl j ↦ let a = j.1 in absurd (omega (arith, a, high))
+      | inr j ↦ let n = j.1 in omega (arith, n, low)
+    ]
 
 -- ---- a rule is tried
 
 module _ (rules : List Rule) (n : ℕ) (users : List (List ℕ)) (u : AreUsers rules (length rules) users) (fit : list_all (fits_rule n) rules ≡ true)
-    (k : ℕ) (r : Rule) (at : slice_get rules k ≡ Some r) (costs : List ℕ) (waits : List Bool) (next : List ℕ) (w : IsWork rules n costs waits next) where
+    (k : ℕ) (r : Rule) (at : slice_get rules k ≡ Some r) (costs counts : List ℕ) (waits : List Bool) (next : List ℕ) (w : IsWork rules n costs counts waits next) where
   there : Member rules r
   there = member_at rules k r at
 
@@ -99,9 +129,9 @@ module _ (rules : List Rule) (n : ℕ) (users : List (List ℕ)) (u : AreUsers r
       let p = unflagged j h in
       elim (a.listed j p.1) [ inl e ↦ absurd (p.0 (sym e)) | inr m ↦ m ]
 
-  pub tries_same : value costs r.fact ≤ cost_by costs r → Tries rules n k costs waits next costs (set waits k false) next
+  pub tries_same : value costs r.fact ≤ cost_by costs r → Tries rules n k costs counts waits next costs counts (set waits k false) next
   tries_same above = record {
-    work = record { long = w.long; in_range = w.in_range; flags = length-set waits k false ∙ w.flags; known = w.known };
+    work = record { long = w.long; in_range = w.in_range; counted = w.counted; flags = length-set waits k false ∙ w.flags; known = w.known };
     lowers = lowers_none rules costs w.in_range;
     lighter = omega arith;
     ready = λ rest a. record {
@@ -127,15 +157,36 @@ module _ (rules : List Rule) (n : ℕ) (users : List (List ℕ)) (u : AreUsers r
         let same : cost_by (set costs r.fact (cost_by costs r)) r ≡ cost_by costs r = ap (joined 1) (total_same costs r.fact (cost_by costs r) r.needs h) in
         omega (arith, e, same)
 
-    pub tries_fell : (waits' : List Bool) (next' : List ℕ) → Waits (row users r.fact) (set waits k false) next waits' next' → Tries rules n k costs waits next (set costs r.fact (cost_by costs r)) waits' next'
-    tries_fell waits' next' f =
+    -- the costs of other facts are what they were
+    others_reached : (x : ℕ) → (x ≡ r.fact → ⊥) → unreached (set costs r.fact (cost_by costs r)) x ≡ unreached costs x
+    others_reached x ne = ap (nat_lt 1000000000) (elsewhere r costs fits less x ne)
+
+    now_reached : unreached (set costs r.fact (cost_by costs r)) r.fact ≡ false
+    now_reached =
+        let e = here r costs fits less in
+        let low = value_low costs r.fact w.in_range in
+        let l = less in
+        le-ltb 1000000000 (value (set costs r.fact (cost_by costs r)) r.fact) (omega (arith, e, low, l))
+
+    -- where it had no cost, the rules that need it lack one need less
+    counts_fell : (counts' : List ℕ) (b : Bool) → unreached costs r.fact ≡ b → CountsDown (only_if b (row users r.fact)) counts counts' → AreCounts rules (unreached (set costs r.fact (cost_by costs r))) counts'
+    counts_fell counts' true was d = counts_met rules (unreached costs) (unreached (set costs r.fact (cost_by costs r))) users u r.fact was now_reached others_reached counts counts' d w.counted
+    counts_fell counts' false was d = counts_same counts counts' d (counts_alike rules (unreached costs) (unreached (set costs r.fact (cost_by costs r))) counts (λ j q x h m. elim (cases_eq x r.fact) [
+      | inl e ↦ subst (λ y. unreached costs y ≡ unreached (set costs r.fact (cost_by costs r)) y) (sym e) (was ∙ sym now_reached)
+      | inr ne ↦ sym (others_reached x ne)
+    ]) w.counted)
+
+    pub tries_fell : (counts' : List ℕ) (waits' : List Bool) (next' : List ℕ) → CountsDown (only_if (unreached costs r.fact) (row users r.fact)) counts counts' → Waits counts' (row users r.fact) (set waits k false) next waits' next' → Tries rules n k costs counts waits next (set costs r.fact (cost_by costs r)) counts' waits' next'
+    tries_fell counts' waits' next' d f =
         let fall = fallen r costs fits less rules there w.in_range in
+        let counted = counts_fell counts' (unreached costs r.fact) refl d in
         let flags : length waits' ≡ length rules = f.long ∙ (length-set waits k false ∙ w.flags) in
         let was : length (set waits k false) ≡ length rules = length-set waits k false ∙ w.flags in
         record {
           work = record {
             long = fall.len ∙ w.long;
             in_range = fall.costs;
+            counted = counted;
             flags = flags;
             known = subst (λ m. are_below m next' ≡ true) was (f.below (subst (λ m. are_below m next ≡ true) (sym was) w.known));
           };
@@ -143,7 +194,12 @@ module _ (rules : List Rule) (n : ℕ) (users : List (List ℕ)) (u : AreUsers r
           lighter = let down = sum_less r costs fits less in omega (arith, down);
           ready = λ rest a. record {
             each = λ j q h. elim (cases_Bool (list_any (nat_eq r.fact) q.needs)) [
-              | inl needed ↦ inl (f.all j (same_member nat_eq (λ x y. eqb-true x y) (row users r.fact) j (u.listed j q r.fact (slice_get_within rules j q h) h (same_member nat_eq (λ x y. eqb-true x y) q.needs r.fact needed))))
+              | inl needed ↦
+                  let needs_it = same_member nat_eq (λ x y. eqb-true x y) q.needs r.fact needed in
+                  elim (cases_lt 0 (count_at counts' j)) [
+                    | inl more ↦ inr (lowers_no rules (set costs r.fact (cost_by costs r)) counts' j q fall.costs counted h more)
+                    | inr none ↦ inl (f.all j (user_there rules users j q r.fact u h needs_it) (omega (arith, none)))
+                  ]
               | inr not_needed ↦ elim (cases_eq j k) [
                 | inl e ↦
                     let same = same_Some r q (sym at ∙ subst (λ x. slice_get rules x ≡ Some q) e h) in
@@ -164,22 +220,23 @@ module _ (rules : List Rule) (n : ℕ) (users : List (List ℕ)) (u : AreUsers r
           };
         }
 
-  pub tries : (fell : Bool) (new : List ℕ) (waits' : List Bool) (next' : List ℕ) → Relaxes r costs fell new → (fell ≡ true → Waits (row users r.fact) (set waits k false) next waits' next') → (fell ≡ false → (waits' ≡ set waits k false) × (next' ≡ next)) → Tries rules n k costs waits next new waits' next'
-  tries fell new waits' next' one f g = elim one.is [
-    | inl (t, less, is) ↦ subst (λ cs. Tries rules n k costs waits next cs waits' next') (sym is) (tries_fell less waits' next' (f t))
+  pub tries : (fell : Bool) (new counts' : List ℕ) (waits' : List Bool) (next' : List ℕ) → Relaxes r costs fell new → (fell ≡ true → CountsDown (only_if (unreached costs r.fact) (row users r.fact)) counts counts' × Waits counts' (row users r.fact) (set waits k false) next waits' next') → (fell ≡ false → (counts' ≡ counts) × (waits' ≡ set waits k false) × (next' ≡ next)) → Tries rules n k costs counts waits next new counts' waits' next'
+  tries fell new counts' waits' next' one f g = elim one.is [
+    | inl (t, less, is) ↦ subst (λ cs. Tries rules n k costs counts waits next cs counts' waits' next') (sym is) (tries_fell less counts' waits' next' (f t).0 (f t).1)
     | inr (t, above, is) ↦
-        subst (λ cs. Tries rules n k costs waits next cs waits' next') (sym is)
-        (subst (λ ws. Tries rules n k costs waits next costs ws next') (sym (g t).0)
-        (subst (Tries rules n k costs waits next costs (set waits k false)) (sym (g t).1) (tries_same above)))
+        subst (λ cs. Tries rules n k costs counts waits next cs counts' waits' next') (sym is)
+        (subst (λ ks. Tries rules n k costs counts waits next costs ks waits' next') (sym (g t).0)
+        (subst (λ ws. Tries rules n k costs counts waits next costs counts ws next') (sym (g t).1)
+        (subst (Tries rules n k costs counts waits next costs counts (set waits k false)) (sym (g t).2) (tries_same above))))
   ]
 
 -- ---- rounds
 
-pub round_begins : (rules : List Rule) (n : ℕ) (costs : List ℕ) (waits : List Bool) (now : List ℕ) → IsWork rules n costs waits [] → IsReady rules costs waits now → Rounds rules n costs costs waits now []
-round_begins rules n costs waits now w a = record { work = w; lowers = lowers_none rules costs w.in_range; lighter = omega arith; ready = subst (IsReady rules costs waits) (sym (append-nil now)) a }
+pub round_begins : (rules : List Rule) (n : ℕ) (costs counts : List ℕ) (waits : List Bool) (now : List ℕ) → IsWork rules n costs counts waits [] → IsReady rules costs waits now → Rounds rules n costs costs counts waits now []
+round_begins rules n costs counts waits now w a = record { work = w; lowers = lowers_none rules costs w.in_range; lighter = omega arith; ready = subst (IsReady rules costs waits) (sym (append-nil now)) a }
 
-pub round_on : (rules : List Rule) (n k : ℕ) (old costs : List ℕ) (waits : List Bool) (next : List ℕ) (costs' : List ℕ) (waits' : List Bool) (next' rest : List ℕ) → Rounds rules n old costs waits (k ∷ rest) next → Tries rules n k costs waits next costs' waits' next' → Rounds rules n old costs' waits' rest next'
-round_on rules n k old costs waits next costs' waits' next' rest a t = record {
+pub round_on : (rules : List Rule) (n k : ℕ) (old costs counts : List ℕ) (waits : List Bool) (next costs' counts' : List ℕ) (waits' : List Bool) (next' rest : List ℕ) → Rounds rules n old costs counts waits (k ∷ rest) next → Tries rules n k costs counts waits next costs' counts' waits' next' → Rounds rules n old costs' counts' waits' rest next'
+round_on rules n k old costs counts waits next costs' counts' waits' next' rest a t = record {
   work = t.work;
   lowers = lowers_on rules old costs costs' a.lowers t.lowers;
   lighter = let x = a.lighter in let y = t.lighter in omega (arith, x, y);
@@ -192,36 +249,54 @@ drop_at (x ∷ xs) zero lt = refl
 drop_at (x ∷ xs) (suc i) lt = let e : suc i + 1 ≡ suc (i + 1) = omega arith in drop_at xs i (omega (arith, lt)) ∙ ap (λ n. slice_index_or xs i 0 ∷ drop n (x ∷ xs)) (sym e)
 
 -- the next of the rules that waited
-pub round_next : (rules : List Rule) (n : ℕ) (now : List ℕ) (i : ℕ) (old costs : List ℕ) (waits : List Bool) (next : List ℕ) (costs' : List ℕ) (waits' : List Bool) (next' : List ℕ) → i < length now → Rounds rules n old costs waits (drop i now) next → Tries rules n (slice_index_or now i 0) costs waits next costs' waits' next' → Rounds rules n old costs' waits' (drop (i + 1) now) next'
-round_next rules n now i old costs waits next costs' waits' next' lt a t = round_on rules n (slice_index_or now i 0) old costs waits next costs' waits' next' (drop (i + 1) now) (subst (λ rest. Rounds rules n old costs waits rest next) (drop_at now i lt) a) t
+pub round_next : (rules : List Rule) (n : ℕ) (now : List ℕ) (i : ℕ) (old costs counts : List ℕ) (waits : List Bool) (next costs' counts' : List ℕ) (waits' : List Bool) (next' : List ℕ) → i < length now → Rounds rules n old costs counts waits (drop i now) next → Tries rules n (slice_index_or now i 0) costs counts waits next costs' counts' waits' next' → Rounds rules n old costs' counts' waits' (drop (i + 1) now) next'
+round_next rules n now i old costs counts waits next costs' counts' waits' next' lt a t = round_on rules n (slice_index_or now i 0) old costs counts waits next costs' counts' waits' next' (drop (i + 1) now) (subst (λ rest. Rounds rules n old costs counts waits rest next) (drop_at now i lt) a) t
 
--- at first all rules wait
+-- ---- the first rules that wait
+
 range_more : (a k : ℕ) → range_with_len a (suc k) ≡ range_with_len a k ++ (a + k) ∷ []
 range_more a zero = ap (λ x. x ∷ []) (omega arith)
 range_more a (suc k) = ap (λ xs. a ∷ xs) (range_more (a + 1) k ∙ ap (λ x. range_with_len (a + 1) k ++ x ∷ []) (omega arith))
 
-pub one_number_more : (k : ℕ) → range_with_len 0 (k + 1) ≡ range_with_len 0 k ++ k ∷ []
+one_number_more : (k : ℕ) → range_with_len 0 (k + 1) ≡ range_with_len 0 k ++ k ∷ []
 one_number_more k = ap (range_with_len 0) (add-one k) ∙ (range_more 0 k ∙ ap (λ x. range_with_len 0 k ++ x ∷ []) (omega arith))
 
-range_below : (a k m : ℕ) → a + k ≤ m → are_below m (range_with_len a k) ≡ true
-range_below a zero m le = refl
-range_below a (suc k) m le = and_from (nat_lt a m) (are_below m (range_with_len (a + 1) k)) (lt-ltb a m (omega (arith, le))) (range_below (a + 1) k m (omega (arith, le)))
+-- the next of all rules
+pub first_on : (counts : List ℕ) (k : ℕ) (w0 : List Bool) (x0 : List ℕ) (w : List Bool) (x : List ℕ) (w' : List Bool) (x' : List ℕ) → Waits counts (range_with_len 0 k) w0 x0 w x → Waits counts (k ∷ []) w x w' x' → Waits counts (range_with_len 0 (k + 1)) w0 x0 w' x'
+first_on counts k w0 x0 w x w' x' a b = subst (λ ks. Waits counts ks w0 x0 w' x') (sym (one_number_more k)) (waits_more counts (range_with_len 0 k) k w0 x0 w x w' x' a b)
 
-pub work_first : (rules : List Rule) (n : ℕ) (costs : List ℕ) → length costs ≡ n → are_costs costs ≡ true → IsWork rules n costs (replicate (length rules) true) (range_with_len 0 (length rules))
-work_first rules n costs long costs_are = record { long = long; in_range = costs_are; flags = length-replicate (length rules) true; known = range_below 0 (length rules) (length rules) (omega arith) }
+none_flagged : (n k : ℕ) → waits_at (replicate n false) k ≡ true → ⊥
+none_flagged n k h = elim (cases_lt k n) [
+  | inl lt ↦ false≢true (sym (get_or-replicate n k false false lt) ∙ h)
+  | inr ge ↦ let l = length-replicate n false in false≢true (sym (get_or_past (replicate n false) k false (omega (arith, l, ge))) ∙ h)
+]
 
-pub ready_first : (rules : List Rule) (costs : List ℕ) → IsReady rules costs (replicate (length rules) true) (range_with_len 0 (length rules))
-ready_first rules costs = record {
-  each = λ k r h. inl (get_or-replicate (length rules) k true false (slice_get_within rules k r h));
-  listed = λ k h. elim (cases_lt k (length rules)) [
-    | inl lt ↦ range_there 0 (length rules) k (omega arith) (omega (arith, lt))
-    | inr ge ↦ let l = length-replicate (length rules) true in absurd (false≢true (sym (get_or_past (replicate (length rules) true) k false (omega (arith, l, ge))) ∙ h))
-  ];
-}
+module _ (rules : List Rule) (costs counts : List ℕ) (in_range : are_costs costs ≡ true) (counted : AreCounts rules (unreached costs) counts) (waits : List Bool) (next : List ℕ)
+    (a : Waits counts (range_with_len 0 (length counts)) (replicate (length rules) false) [] waits next) where
+  pub first_work : (n : ℕ) → length costs ≡ n → IsWork rules n costs counts waits next
+  first_work n long = record {
+    long = long;
+    in_range = in_range;
+    counted = counted;
+    flags = a.long ∙ length-replicate (length rules) false;
+    known = subst (λ m. are_below m next ≡ true) (length-replicate (length rules) false) (a.below refl);
+  }
+
+  pub first_ready : IsReady rules costs waits next
+  first_ready = record {
+    each = λ k r h. elim (cases_lt 0 (count_at counts k)) [
+      | inl more ↦ inr (lowers_no rules costs counts k r in_range counted h more)
+      | inr none ↦
+          let l = counted.long in
+          let lt = slice_get_within rules k r h in
+          inl (a.all k (range_there 0 (length counts) k (omega arith) (omega (arith, l, lt))) (omega (arith, none)))
+    ];
+    listed = λ k h. elim (a.listed k h) [ inl f ↦ absurd (none_flagged (length rules) k f) | inr m ↦ m ];
+  }
 
 -- between rounds nothing is left
-pub round_ends : (rules : List Rule) (n : ℕ) (first old new : List ℕ) (waits : List Bool) (next : List ℕ) → Lowers rules first old → Rounds rules n old new waits [] next → IsWork rules n new waits next × Lowers rules first new × IsReady rules new waits next
-round_ends rules n first old new waits next l r = (r.work, lowers_on rules first old new l r.lowers, r.ready)
+pub round_ends : (rules : List Rule) (n : ℕ) (first old new counts : List ℕ) (waits : List Bool) (next : List ℕ) → Lowers rules first old → Rounds rules n old new counts waits [] next → IsWork rules n new counts waits next × Lowers rules first new × IsReady rules new waits next
+round_ends rules n first old new counts waits next l r = (r.work, lowers_on rules first old new l r.lowers, r.ready)
 
 -- the row of a fact has numbers of rules
 pub row_below : (rules : List Rule) (users : List (List ℕ)) (m f : ℕ) → AreUsers rules (length rules) users → m ≡ length rules → are_below m (row users f) ≡ true

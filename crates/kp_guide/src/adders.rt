@@ -1,5 +1,5 @@
 //! The rules of a task by the facts that they add, and those of them that the goal may need.
-ghost use Rattle.std.specs.Prelude.{◌≡◌, ◌<◌, [], ◌∷◌, ◌++◌, ℕ, Some, true, length, set, slice_get, IfOk, OnOk};
+ghost use Rattle.std.specs.Prelude.{◌≡◌, ◌<◌, [], ◌∷◌, Some, true, length, slice_get, IfOk, OnOk};
 ghost use Rattle.std.specs.List.{list_all};
 ghost use Rattle.kp_classic.specs.Fits.{are_below, IsFit};
 ghost use Rattle.kp_guide.specs.Added.{rules_of};
@@ -9,8 +9,8 @@ ghost use Rattle.kp_guide.specs.Tables.{fits_rule};
 ghost use Rattle.kp_guide.specs.Waiting.{row};
 
 use crate::Rule;
-use crate::index::empty_rows;
 use crate::places::places_of;
+use crate::rows::{empty_rows, put};
 use crate::rules::rules_of;
 use indexmap::IndexSet;
 use kp_base::{Memory, Row};
@@ -24,15 +24,6 @@ pub(crate) struct Adders {
     rows: Vec<Row<usize>>,
     ghost fit: { list_all (fits_rule (length rows.items)) rules.items ≡ true },
     ghost listed: { AreAdders rules.items (length rules.items) rows.items },
-}
-
-// Adds a number to the row of a fact.
-fn put(rows: &mut [Row<usize>], fact: u32, number: usize) -> Result<(), Memory>
-    requires { fact < length rows.old }
-    ensures { OnOk result (rows.new ≡ set rows.old fact (row rows.old fact ++ number ∷ [])) }
-{
-    rows[fact as usize].push(number)?;
-    Ok(())
 }
 
 // For each of so many facts the rules that add it.

@@ -1,43 +1,23 @@
-//! The rules of a task, with those that need each fact.
-ghost use Rattle.std.specs.Prelude.{◌≡◌, ◌<◌, [], ◌∷◌, ℕ, true, length, IfOk, OnOk};
+//! Rules, with those that need each fact.
+ghost use Rattle.std.specs.Prelude.{◌≡◌, ◌<◌, ◌+◌, true, length, IfOk, OnOk};
 ghost use Rattle.std.specs.List.{list_all};
 ghost use Rattle.kp_classic.specs.Fits.{are_below};
 ghost use Rattle.kp_guide.specs.Tables.{fits_rule};
-ghost use Rattle.kp_guide.specs.Waiting.{AreUsers, Notes, row};
+ghost use Rattle.kp_guide.specs.Waiting.{AreCounts, AreUsers, CountsDown, Notes, needs_of, unreached, unreached_before};
 
 use crate::Rule;
+use crate::costs::CAP;
+use crate::rows::{empty_rows, put};
 use kp_base::{Memory, Row};
 use std::alloc::Global;
 
-/// The rules of a task, and for each fact the numbers of the rules that need it.
+/// Rules, and for each fact the numbers of those that need it.
 #[derive(Drop)]
 pub(crate) struct Index {
     pub(crate) rules: Vec<Rule>,
     pub(crate) users: Vec<Row<usize>>,
     ghost fit: { list_all (fits_rule (length users.items)) rules.items ≡ true },
     ghost listed: { AreUsers rules.items (length rules.items) users.items },
-}
-
-/// As many empty rows.
-pub(crate) fn empty_rows(alloc: Global, count: usize) -> Result<Vec<Row<usize>>, Memory>
-    ensures long { IfOk result (λ rows. length rows.items ≡ count) }
-    ensures empty { IfOk result (λ rows. (f : ℕ) → row rows.items f ≡ []) }
-{
-    let mut rows = Vec::new(alloc);
-    for _ in 0..count {
-        rows.push(Row::new(alloc))?;
-    }
-    Ok(rows)
-}
-
-// Adds a number to the row of a fact.
-#[tactic(auto, using(crate::proofs::Noting::notes_one))]
-fn note(users: &mut [Row<usize>], fact: u32, number: usize) -> Result<(), Memory>
-    requires { fact < length users.old }
-    ensures { OnOk result (Notes (fact ∷ []) number users.old users.new) }
-{
-    users[fact as usize].push(number)?;
-    Ok(())
 }
 
 // Adds a number to the rows of some facts.
@@ -47,7 +27,7 @@ fn note_all(users: &mut [Row<usize>], facts: &[u32], number: usize) -> Result<()
     ensures { OnOk result (Notes facts.now number users.old users.new) }
 {
     for fact in facts {
-        note(users, *fact, number)?;
+        put(users, *fact, number)?;
     }
     Ok(())
 }
@@ -66,14 +46,71 @@ fn users_of(alloc: Global, rules: &[Rule], facts: usize) -> Result<Vec<Row<usize
     Ok(users)
 }
 
+/// Lowers the counts of some rules, by one for each time that a rule is named.
+#[tactic(auto, using(crate::proofs::Noting::counts_none, crate::proofs::Noting::counts_on))]
+pub(crate) fn count_down(numbers: &[usize], counts: &mut [usize])
+    requires { are_below (length counts.old) numbers.now ≡ true }
+    ensures { CountsDown numbers.now counts.old counts.new }
+{
+    for number in numbers {
+        counts[*number] = counts[*number].saturating_sub(1);
+    }
+}
+
+// How much each rule needs.
+fn needs_of(alloc: Global, rules: &[Rule]) -> Result<Vec<usize>, Memory>
+    ensures { IfOk result (λ counts. counts.items ≡ needs_of rules.now) }
+{
+    let mut counts = Vec::new(alloc);
+    for rule in rules {
+        counts.push(rule.needs.len())?;
+    }
+    Ok(counts)
+}
+
+// Where a fact has a cost, lowers the counts of the rules that need it.
+#[tactic(auto, using(crate::proofs::Noting::counts_reached, crate::proofs::Noting::counts_unreached))]
+fn count_fact(index: &Index, fact: usize, costs: &[u32], counts: &mut [usize])
+    requires fact { fact < length costs.now }
+    requires long { length costs.now ≡ length index.now.users.items }
+    requires counts { AreCounts index.now.rules.items (unreached_before costs.now fact) counts.old }
+    ensures { AreCounts index.now.rules.items (unreached_before costs.now (fact + 1)) counts.new }
+{
+    if costs[fact] <= CAP {
+        count_down(index.users[fact].slice(), counts);
+    }
+}
+
+// Lowers the counts for all facts that have a cost.
+#[tactic(auto, using(crate::proofs::Noting::counts_begin, crate::proofs::Noting::counts_end))]
+fn count_facts(index: &Index, costs: &[u32], counts: &mut [usize])
+    requires long { length costs.now ≡ length index.now.users.items }
+    requires counts { counts.old ≡ needs_of index.now.rules.items }
+    ensures { AreCounts index.now.rules.items (unreached costs.now) counts.new }
+{
+    for fact in 0..costs.len() {
+        count_fact(index, fact, costs, counts);
+    }
+}
+
 impl Index {
-    /// That of some rules over so many facts.
+    /// These rules, on so many facts.
     pub(crate) fn of(alloc: Global, rules: Vec<Rule>, facts: usize) -> Result<Index, Memory>
-        requires { list_all (fits_rule facts) rules.items ≡ true }
+        requires fit { list_all (fits_rule facts) rules.items ≡ true }
         ensures rules { IfOk result (λ i. i.rules.items ≡ rules.items) }
         ensures long { IfOk result (λ i. length i.users.items ≡ facts) }
     {
         let users = users_of(alloc, &rules, facts)?;
         Ok(Index { rules, users })
+    }
+
+    /// How many needs of each rule have no cost.
+    pub(crate) fn counts(&self, alloc: Global, costs: &[u32]) -> Result<Vec<usize>, Memory>
+        requires { length costs.now ≡ length self.now.users.items }
+        ensures { IfOk result (λ counts. AreCounts self.now.rules.items (unreached costs.now) counts.items) }
+    {
+        let mut counts = needs_of(alloc, &self.rules)?;
+        count_facts(self, costs, &mut counts);
+        Ok(counts)
     }
 }

@@ -14,6 +14,7 @@ mod laws;
 mod making;
 mod places;
 mod relaxation;
+mod rows;
 mod rule;
 mod rules;
 mod settle;

@@ -1,12 +1,14 @@
 //! Least costs by the rules of a task: each rule that may lower a cost waits, is tried, and where it lowers one, those rules
-//! wait that need the fact.
-ghost use Rattle.std.specs.Prelude.{◌≡◌, ◌<◌, [], ◌∷◌, true, false, length, set, IfOk, OnOk};
+//! wait that need the fact and lack no other.
+ghost use Rattle.std.specs.Prelude.{◌≡◌, ◌<◌, [], ◌∷◌, true, false, length, replicate, IfOk, OnOk};
 ghost use Rattle.std.specs.List.{range_with_len};
+ghost use Rattle.kp_base.specs.Lists.{only_if};
 ghost use Rattle.kp_classic.specs.Fits.{are_below};
 ghost use Rattle.kp_guide.specs.Tables.{IsClosed, Lowers, Relaxes, are_costs, fits_rule};
-ghost use Rattle.kp_guide.specs.Waiting.{IsReady, IsWork, Rounds, Tries, Waits};
+ghost use Rattle.kp_guide.specs.Waiting.{AreCounts, CountsDown, IsReady, IsWork, Rounds, Tries, Waits, unreached};
 
-use crate::costs::{cost_of, join};
+use crate::costs::{CAP, cost_of, join};
+use crate::index::count_down;
 use crate::{Index, Rule};
 use kp_base::Memory;
 use std::alloc::Global;
@@ -25,13 +27,19 @@ fn relax(rule: &Rule, costs: &mut [u32]) -> bool
     false
 }
 
-// Lets a rule wait, unless it does.
+// Lets a rule wait, unless it does or lacks a need.
 #[tactic(auto, using(crate::proofs::Waiting::waits_still, crate::proofs::Waiting::waits_now))]
-fn wait(number: usize, waits: &mut [bool], next: &mut Vec<usize>) -> Result<(), Memory>
-    requires { number < length waits.old }
-    ensures { OnOk result (Waits (number ∷ []) waits.old next.old.items waits.new next.new.items) }
+fn wait(
+    number: usize,
+    counts: &[usize],
+    waits: &mut [bool],
+    next: &mut Vec<usize>,
+) -> Result<(), Memory>
+    requires number { number < length waits.old }
+    requires counts { length counts.now ≡ length waits.old }
+    ensures { OnOk result (Waits counts.now (number ∷ []) waits.old next.old.items waits.new next.new.items) }
 {
-    if waits[number] {
+    if counts[number] > 0 || waits[number] {
         return Ok(());
     }
     next.push(number)?;
@@ -39,16 +47,33 @@ fn wait(number: usize, waits: &mut [bool], next: &mut Vec<usize>) -> Result<(), 
     Ok(())
 }
 
-// Lets some rules wait.
+// Lets those of some rules wait that lack no need.
 #[tactic(auto, using(crate::proofs::Waiting::waits_none))]
-fn wait_all(numbers: &[usize], waits: &mut [bool], next: &mut Vec<usize>) -> Result<(), Memory>
-    requires { are_below (length waits.old) numbers.now ≡ true }
-    ensures { OnOk result (Waits numbers.now waits.old next.old.items waits.new next.new.items) }
+fn wait_all(
+    numbers: &[usize],
+    counts: &[usize],
+    waits: &mut [bool],
+    next: &mut Vec<usize>,
+) -> Result<(), Memory>
+    requires numbers { are_below (length waits.old) numbers.now ≡ true }
+    requires counts { length counts.now ≡ length waits.old }
+    ensures { OnOk result (Waits counts.now numbers.now waits.old next.old.items waits.new next.new.items) }
 {
     for number in numbers {
-        wait(*number, waits, next)?;
+        wait(*number, counts, waits, next)?;
     }
     Ok(())
+}
+
+// Lowers the counts of the rules that need a fact, where it is reached for the first time.
+#[tactic(auto, using(crate::proofs::Noting::counts_none))]
+fn count_first(first: bool, users: &[usize], counts: &mut [usize])
+    requires { are_below (length counts.old) users.now ≡ true }
+    ensures { CountsDown (only_if first users.now) counts.old counts.new }
+{
+    if first {
+        count_down(users, counts);
+    }
 }
 
 // Tries a rule, which waits no more.
@@ -57,17 +82,21 @@ fn try_rule(
     index: &Index,
     number: usize,
     costs: &mut [u32],
+    counts: &mut [usize],
     waits: &mut [bool],
     next: &mut Vec<usize>,
 ) -> Result<(), Memory>
-    requires work { IsWork index.now.rules.items (length index.now.users.items) costs.old waits.old next.old.items }
+    requires work { IsWork index.now.rules.items (length index.now.users.items) costs.old counts.old waits.old next.old.items }
     requires number { number < length index.now.rules.items }
-    ensures { OnOk result (Tries index.now.rules.items (length index.now.users.items) number costs.old waits.old next.old.items costs.new waits.new next.new.items) }
+    ensures { OnOk result (Tries index.now.rules.items (length index.now.users.items) number costs.old counts.old waits.old next.old.items costs.new counts.new waits.new next.new.items) }
 {
     let rule = &index.rules[number];
     waits[number] = false;
+    let first = costs[rule.fact as usize] > CAP;
     if relax(rule, costs) {
-        wait_all(index.users[rule.fact as usize].slice(), waits, next)?;
+        let users = index.users[rule.fact as usize].slice();
+        count_first(first, users, counts);
+        wait_all(users, counts, waits, next)?;
     }
     Ok(())
 }
@@ -78,30 +107,20 @@ fn round(
     alloc: Global,
     index: &Index,
     costs: &mut [u32],
+    counts: &mut [usize],
     waits: &mut [bool],
     now: &[usize],
 ) -> Result<Vec<usize>, Memory>
-    requires work { IsWork index.now.rules.items (length index.now.users.items) costs.old waits.old [] }
+    requires work { IsWork index.now.rules.items (length index.now.users.items) costs.old counts.old waits.old [] }
     requires known { are_below (length index.now.rules.items) now.now ≡ true }
     requires ready { IsReady index.now.rules.items costs.old waits.old now.now }
-    ensures { IfOk result (λ next. Rounds index.now.rules.items (length index.now.users.items) costs.old costs.new waits.new [] next.items) }
+    ensures { IfOk result (λ next. Rounds index.now.rules.items (length index.now.users.items) costs.old costs.new counts.new waits.new [] next.items) }
 {
     let mut next = Vec::new(alloc);
     for number in now {
-        try_rule(index, *number, costs, waits, &mut next)?;
+        try_rule(index, *number, costs, counts, waits, &mut next)?;
     }
     Ok(next)
-}
-
-// The first numbers.
-fn numbers(alloc: Global, count: usize) -> Result<Vec<usize>, Memory>
-    ensures { IfOk result (λ ns. ns.items ≡ range_with_len 0 count) }
-{
-    let mut numbers = Vec::new(alloc);
-    for number in 0..count {
-        numbers.push(number)?;
-    }
-    Ok(numbers)
 }
 
 // Goes round until none waits.
@@ -110,30 +129,63 @@ fn rounds(
     alloc: Global,
     index: &Index,
     costs: &mut [u32],
+    counts: &mut [usize],
     waits: &mut [bool],
     first: Vec<usize>,
 ) -> Result<(), Memory>
-    requires work { IsWork index.now.rules.items (length index.now.users.items) costs.old waits.old first.items }
+    requires work { IsWork index.now.rules.items (length index.now.users.items) costs.old counts.old waits.old first.items }
     requires ready { IsReady index.now.rules.items costs.old waits.old first.items }
     ensures lowers { OnOk result (Lowers index.now.rules.items costs.old costs.new) }
     ensures closed { OnOk result (IsClosed index.now.rules.items costs.new) }
 {
     let mut now = first;
     'rounds: while !now.is_empty() {
-        now = round(alloc, index, costs, waits, &now)?;
+        now = round(alloc, index, costs, counts, waits, &now)?;
     }
     Ok(())
 }
 
+// Lets those of all rules wait that lack no need, and answers them.
+#[tactic(auto, using(crate::proofs::Waiting::waits_none, crate::proofs::Waiting::first_on))]
+fn first_waiting(alloc: Global, counts: &[usize], waits: &mut [bool]) -> Result<Vec<usize>, Memory>
+    requires { length counts.now ≡ length waits.old }
+    ensures { IfOk result (λ next. Waits counts.now (range_with_len 0 (length counts.now)) waits.old [] waits.new next.items) }
+{
+    let mut next = Vec::new(alloc);
+    for number in 0..counts.len() {
+        wait(number, counts, waits, &mut next)?;
+    }
+    Ok(next)
+}
+
+// Lets the first rules wait, and goes round.
+#[tactic(auto, using(crate::proofs::Waiting::first_work, crate::proofs::Waiting::first_ready))]
+fn begin(
+    alloc: Global,
+    index: &Index,
+    costs: &mut [u32],
+    counts: &mut [usize],
+    waits: &mut [bool],
+) -> Result<(), Memory>
+    requires costs { are_costs costs.old ≡ true }
+    requires long { length costs.old ≡ length index.now.users.items }
+    requires counts { AreCounts index.now.rules.items (unreached costs.old) counts.old }
+    requires none { waits.old ≡ replicate (length index.now.rules.items) false }
+    ensures lowers { OnOk result (Lowers index.now.rules.items costs.old costs.new) }
+    ensures closed { OnOk result (IsClosed index.now.rules.items costs.new) }
+{
+    let first = first_waiting(alloc, counts, waits)?;
+    rounds(alloc, index, costs, counts, waits, first)
+}
+
 /// Lowers the costs until no rule lowers one.
-#[tactic(auto, using(crate::proofs::Waiting::work_first, crate::proofs::Waiting::ready_first))]
 pub(crate) fn settle(alloc: Global, index: &Index, costs: &mut [u32]) -> Result<(), Memory>
     requires costs { are_costs costs.old ≡ true }
     requires long { length costs.old ≡ length index.now.users.items }
     ensures lowers { OnOk result (Lowers index.now.rules.items costs.old costs.new) }
     ensures closed { OnOk result (IsClosed index.now.rules.items costs.new) }
 {
-    let first = numbers(alloc, index.rules.len())?;
-    let mut waits = vec![in alloc; true; index.rules.len()]?;
-    rounds(alloc, index, costs, &mut waits, first)
+    let mut counts = index.counts(alloc, costs)?;
+    let mut waits = vec![in alloc; false; index.rules.len()]?;
+    begin(alloc, index, costs, &mut counts, &mut waits)
 }

@@ -1,6 +1,7 @@
 use Rattle.std.proofs.Common.{◌≡◌, ◌∙◌, length, set, false, sym, subst, refl}
 use Rattle.std.proofs.lemmas.Bool.{false≢true}
-use Rattle.kp_guide.specs.Waiting.{Waits, row}
+use Rattle.kp_base.specs.Lists.{only_if}
+use Rattle.kp_guide.specs.Waiting.{CountsDown, Waits, row, unreached}
 use Rattle.kp_guide.proofs.Noting.{row_read}
 use Rattle.kp_guide.proofs.Waiting.{read_at, rule_in, tries}
 use Rattle.kp_guide.proofs.settle.try_rule.Goals as goal
@@ -11,12 +12,16 @@ returns-in_ok-wait_all c =
     let index = c.args.index.now in
     let rules = index.rules.items in
     let users = index.users.items in
+    let costs = c.args.costs.now in
     let r = c.index-rule.result.now in
     let at = read_at rules c.args.number r c.requires.number c.index-rule.ensures in
-    let more : c.slice.result.now ≡ row users r.fact = c.slice.ensures ∙ (c.index.ensures ∙ row_read users r.fact c.index.result.now (rule_in rules (length users) c.args.number r index.fit at)) in
-    tries rules (length users) users index.listed index.fit c.args.number r at c.args.costs.now c.args.waits.now c.args.next.now.items c.requires.work
-    c.relax.result c.relax.new.costs c.wait_all.new.waits c.wait_all.new.next.items c.relax.ensures
-    (λ fell. subst (λ ks. Waits ks (set c.args.waits.now c.args.number false) c.args.next.now.items c.wait_all.new.waits c.wait_all.new.next.items) more c.in_ok-wait_all.ensures)
+    let more : c.slice-users.result.now ≡ row users r.fact = c.slice-users.ensures ∙ (c.index.ensures ∙ row_read users r.fact c.index.result.now (rule_in rules (length users) c.args.number r index.fit at)) in
+    tries rules (length users) users index.listed index.fit c.args.number r at costs c.args.counts.now c.args.waits.now c.args.next.now.items c.requires.work
+    c.relax.result c.relax.new.costs c.count_first.new.counts c.wait_all.new.waits c.wait_all.new.next.items c.relax.ensures
+    (λ fell. (
+      subst (λ ks. CountsDown (only_if (unreached costs r.fact) ks) c.args.counts.now c.count_first.new.counts) more c.count_first.ensures,
+      subst (λ ks. Waits c.count_first.new.counts ks (set c.args.waits.now c.args.number false) c.args.next.now.items c.wait_all.new.waits c.wait_all.new.next.items) more c.in_ok-wait_all.ensures,
+    ))
     (λ same. absurd (false≢true (sym same ∙ c.if-relax.true)))
 
 -- it lowers no cost
@@ -27,7 +32,7 @@ returns-else-relax c =
     let users = index.users.items in
     let r = c.index-rule.result.now in
     let at = read_at rules c.args.number r c.requires.number c.index-rule.ensures in
-    tries rules (length users) users index.listed index.fit c.args.number r at c.args.costs.now c.args.waits.now c.args.next.now.items c.requires.work
-    c.relax.result c.relax.new.costs (set c.args.waits.now c.args.number false) c.args.next.now.items c.relax.ensures
+    tries rules (length users) users index.listed index.fit c.args.number r at c.args.costs.now c.args.counts.now c.args.waits.now c.args.next.now.items c.requires.work
+    c.relax.result c.relax.new.costs c.args.counts.now (set c.args.waits.now c.args.number false) c.args.next.now.items c.relax.ensures
     (λ fell. absurd (false≢true (sym c.if-relax.false ∙ fell)))
-    (λ same. (refl, refl))
+    (λ same. (refl, refl, refl))

@@ -1,0 +1,22 @@
+use Rattle.std.proofs.Common.{◌≡◌, ◌<◌, ◌∙◌, length, subst}
+use Rattle.std.proofs.lemmas.Bool.{le-ltb, lt-ltb}
+use Rattle.kp_guide.specs.Tables.{value}
+use Rattle.kp_guide.specs.Waiting.{CountsDown, row}
+use Rattle.kp_guide.proofs.Noting.{counts_reached, counts_unreached, row_read}
+use Rattle.kp_guide.proofs.index.count_fact.Goals as goal
+
+-- the fact has a cost
+pub returns-then-costs-fact-le-CAP : goal.returns-then-costs-fact-le-CAP
+returns-then-costs-fact-le-CAP c =
+    let index = c.args.index.now in
+    let users = index.users.items in
+    let costs = c.args.costs.now in
+    let fact = c.args.fact in
+    let within : fact < length users = subst (λ n. fact < n) c.requires.long c.requires.fact in
+    let more : c.slice.result.now ≡ row users fact = c.slice.ensures ∙ (c.index.ensures ∙ row_read users fact c.index.result.now within) in
+    counts_reached index.rules.items costs fact users index.listed (le-ltb 1000000000 (value costs fact) c.if-costs-fact-le-CAP.true) c.args.counts.now c.count_down.new.counts
+    (subst (λ ks. CountsDown ks c.args.counts.now c.count_down.new.counts) more c.count_down.ensures) c.requires.counts
+
+-- it has none
+pub returns-else-costs-fact-le-CAP : goal.returns-else-costs-fact-le-CAP
+returns-else-costs-fact-le-CAP c = counts_unreached c.args.index.now.rules.items c.args.costs.now c.args.fact (lt-ltb 1000000000 (value c.args.costs.now c.args.fact) c.if-costs-fact-le-CAP.false) c.args.counts.now c.requires.counts
