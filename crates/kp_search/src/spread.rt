@@ -20,6 +20,7 @@ impl Search {
         next: &mut State,
     ) -> Result<(), Memory>
         requires fit { IsFit task.now }
+        requires serves { E.serves guide.now task.now }
         requires of_task { state.now.facts ≡ length task.now.facts }
         requires next_of_task { next.old.facts ≡ length task.now.facts }
         requires in_range { op < length task.now.ops }
@@ -52,6 +53,7 @@ impl Search {
         next: &mut State,
     ) -> Result<(), Memory>
         requires fit { IsFit task.now }
+        requires serves { E.serves guide.now task.now }
         requires of_task { state.now.facts ≡ length task.now.facts }
         requires next_of_task { next.old.facts ≡ length task.now.facts }
         ensures facts { next.new.facts ≡ next.old.facts }

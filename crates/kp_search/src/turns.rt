@@ -24,6 +24,7 @@ impl Search {
         next: &mut State,
     ) -> Result<(), Memory>
         requires fit { IsFit task.now }
+        requires serves { E.serves guide.now task.now }
         requires of_task { state.now.facts ≡ length task.now.facts }
         requires next_of_task { next.old.facts ≡ length task.now.facts }
         requires new { IsNew task.now (E.may_answer guide.now task.now) budget number state.now self.old }
@@ -51,6 +52,7 @@ impl Search {
         next: &mut State,
     ) -> Result<Option<Found>, Memory>
         requires fit { IsFit task.now }
+        requires serves { E.serves guide.now task.now }
         requires of_task { state.now.facts ≡ length task.now.facts }
         requires next_of_task { next.old.facts ≡ length task.now.facts }
         requires new { IsNew task.now (E.may_answer guide.now task.now) budget number state.now self.old }
@@ -82,6 +84,7 @@ impl Search {
         state: &mut State,
     ) -> Result<Option<Found>, Memory>
         requires fit { IsFit task.now }
+        requires serves { E.serves guide.now task.now }
         requires at { IsAt task.now (E.may_answer guide.now task.now) budget self.old }
         requires first { first.now ≡ trace.first task.now }
         requires spare_of_task { spare.old.facts ≡ length task.now.facts }
@@ -111,6 +114,7 @@ impl Search {
         first: &State,
     ) -> Result<Found, Memory>
         requires fit { IsFit task.now }
+        requires serves { E.serves guide.now task.now }
         requires at { IsAt task.now (E.may_answer guide.now task.now) budget self.old }
         requires first { first.now ≡ trace.first task.now }
         ensures { IfOk result (HasEnd task.now (E.may_answer guide.now task.now) budget) }
@@ -135,6 +139,7 @@ fn begin<E: Estimator>(
     first: &State,
 ) -> Result<Search, Memory>
     requires fit { IsFit task.now }
+    requires serves { E.serves guide.now task.now }
     requires first { first.now ≡ trace.first task.now }
     ensures { IfOk result (IsAt task.now (E.may_answer guide.now task.now) budget) }
 {
@@ -149,14 +154,16 @@ fn begin<E: Estimator>(
 }
 
 /// Searches for a plan: takes the entry of least estimate first, and of those the one that was entered first. The list of
-/// expanded states has room for the whole budget before the first entry is taken.
+/// expanded states has room for the whole budget before the first entry is taken. An estimator that was made for one task is
+/// asked about that task alone; the `Guide` of `kp_guide` serves every task that fits.
 pub fn search<E: Estimator>(
     alloc: Global,
     task: &Task,
     guide: &E,
     budget: u32,
 ) -> Result<Found, Memory>
-    requires { IsFit task.now }
+    requires fit { IsFit task.now }
+    requires serves { E.serves guide.now task.now }
     ensures end { IfOk result (HasEnd task.now (E.may_answer guide.now task.now) budget) }
     ensures tells { IfOk result (Tells task.now budget) }
 {
