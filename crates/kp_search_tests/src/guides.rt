@@ -34,6 +34,7 @@ fn kept(alloc: Global, task: &Task, state: &State) -> Result<Option<u32>, Memory
 fn ask<E: Estimator>(estimator: &E, task: &Task, state: &State) -> Result<Option<u32>, Memory>
     requires fits { IsFit task.now }
     requires of_task { state.now.facts ≡ length task.now.facts }
+    requires serves { E.serves estimator.now task.now }
     ensures { IfOk result (λ h. E.may_answer estimator.now task.now state.now h) }
 {
     let answer = estimator.estimate(task, state)?;
@@ -46,7 +47,7 @@ fn own(alloc: Global, task: &Task, state: &State) -> Result<Option<u32>, Memory>
     requires of_task { state.now.facts ≡ length task.now.facts }
     ensures { IfOk result (IsAdded task.now (has state.now.hold)) }
 {
-    let estimator = Additive::new(alloc);
+    let estimator = Additive::of(alloc, task)?;
     let answer = ask(&estimator, task, state)?;
     Ok(answer)
 }

@@ -19,7 +19,7 @@ pub fn find(alloc: Global, task: &Task, budget: u32) -> Result<Found, Memory>
     if !is_fit(task) {
         return Err(Memory);
     }
-    let guide = Additive::new(alloc);
+    let guide = Additive::of(alloc, task)?;
     let found = search(alloc, task, &guide, budget)?;
     Ok(found)
 }
