@@ -1,15 +1,17 @@
 -- A table's states in their order.
-use Rattle.std.proofs.Common.{◌≡◌, ◌<◌, ◌≤◌, ◌+◌, ◌-◌, ◌⊎◌, ℕ, Bool, IsTrue, Result, Ok, Err, MatchResult, is_ok, List, [], ◌∷◌, ◌++◌, Some, insert, length, slice_get, get_or, arith, refl, sym, ap, subst, ◌∙◌, inl, inr}
+use Rattle.std.proofs.Common.{◌≡◌, ◌<◌, ◌≤◌, ◌+◌, ◌-◌, ◌⊎◌, ℕ, zero, suc, Bool, IsTrue, Result, Ok, Err, MatchResult, is_ok, List, [], ◌∷◌, ◌++◌, Some, insert, set, take, length, slice_get, get_or, arith, refl, sym, ap, subst, ◌∙◌, inl, inr}
 use Rattle.std.specs.List.{AllByRecursion}
 use Rattle.std.proofs.lemmas.Bool.{cases_order, cases_lt, false≢true}
-use Rattle.std.proofs.lemmas.List.{length-append}
+use Rattle.std.proofs.lemmas.List.{length-append, length-set, length-take-le}
+use Rattle.std.proofs.lemmas.Grind.{take-set_at}
 use Rattle.std.proofs.lemmas.List.Edits.{get_or-insert_at, get_or-insert_below, get_or-insert_above, length-insert}
 use Rattle.std.proofs.lemmas.Option.{slice_get_within, slice_get-get_or, get_or_from_slice_get, same_Some}
 use Rattle.kp_base.specs.Lists.{Member}
 use Rattle.kp_base.proofs.Lists.{append_member, member_at}
 use Rattle.kp_classic.specs.States.{FactSet, has, IsBefore}
 use Rattle.kp_classic.proofs.Ordered.{never_before_itself}
-use Rattle.kp_search.specs.Sorted.{StandsAt, IsOrderOf, AreBefore, IsBeforeRest, IsGap}
+use Rattle.kp_search.specs.Tables.{StateList, with_state}
+use Rattle.kp_search.specs.Sorted.{StandsAt, IsOrderOf, AreBefore, IsBeforeRest, IsGap, IsWhole}
 use Rattle.kp_search.proofs.Slices.{slice_left, slice_last, slice_parts, read_at}
 
 before_trans : (a b c : FactSet) → IsBefore a b → IsBefore b c → IsBefore a c
@@ -106,18 +108,6 @@ module _ (states : List FactSet) (order : List ℕ) (o : IsOrderOf order states)
     more : length states < length (states ++ s ∷ [])
     more = let l = length-append states (s ∷ []) in omega (arith, l)
 
-    -- it was there
-    pub kept : (at : ℕ) → StandsAt states order at s → IsOrderOf order (states ++ s ∷ [])
-    kept at here = record {
-      inside = λ k place h. let a = o.inside k place h in let b = more in omega (arith, a, b);
-      rising = λ k m a b lt p q. o.rising k m a b lt (was k a p) (was m b q);
-      each = λ a m. elim (append_member states (s ∷ []) a m) [
-        | inl old ↦ let r = o.each a old in (r.0, stays r.0 a r.1)
-        | inr (inl same) ↦ subst (λ x. (k : ℕ) × StandsAt (states ++ s ∷ []) order k x) same (at, stays at s here)
-        | inr (inr none) ↦ absurd none
-      ];
-    }
-
     -- it is put into its gap
     module _ (gap : ℕ) (g : IsGap states order gap s) where
       abbrev grown : List ℕ
@@ -171,25 +161,59 @@ module _ (states : List FactSet) (order : List ℕ) (o : IsOrderOf order states)
   tells s (Ok at) b is h = (λ _. found at s h, λ _. subst IsTrue (sym is) refl)
   tells s (Err gap) b is h = (λ t. absurd (false≢true (sym is ∙ t)), λ m. absurd (not_found gap s h m))
 
+-- states of one number of facts, and the first of them
+pub alike_first : (n : ℕ) (states : List FactSet) (k : ℕ) → AllByRecursion (λ (x : FactSet). x.facts ≡ n) states → AllByRecursion (λ (x : FactSet). x.facts ≡ n) (take k states)
+alike_first n states zero h = tt
+alike_first n [] (suc k) h = tt
+alike_first n (x ∷ xs) (suc k) h = (h.0, alike_first n xs k h.1)
+
+-- and each that is read
+pub alike_at : (n : ℕ) (states : List FactSet) (i : ℕ) (s : FactSet) → AllByRecursion (λ (x : FactSet). x.facts ≡ n) states → i < length states → s ≡ get_or states i s → s.facts ≡ n
+alike_at n [] i s h lt is = absurd (omega (arith, lt))
+alike_at n (x ∷ xs) zero s h lt is = ap (λ (y : FactSet). y.facts) is ∙ h.0
+alike_at n (x ∷ xs) (suc i) s h lt is = alike_at n xs i s h.1 (omega (arith, lt)) is
+
+-- and with another in a row
+alike_set : (n : ℕ) (states : List FactSet) (i : ℕ) (s : FactSet) → AllByRecursion (λ (x : FactSet). x.facts ≡ n) states → s.facts ≡ n → AllByRecursion (λ (x : FactSet). x.facts ≡ n) (set states i s)
+alike_set n [] i s h one = tt
+alike_set n (x ∷ xs) zero s h one = (one, h.1)
+alike_set n (x ∷ xs) (suc i) s h one = (h.0, alike_set n xs i s h.1 one)
+
+-- a state in the next row, and that row's place in its gap
+module _ (rows : List FactSet) (order : List ℕ) (s : FactSet) (gap capacity : ℕ) (w : IsWhole s.facts rows order capacity) (g : IsGap (take (length order) rows) order gap s) (lt : length order < length rows) where
+  longer : length (insert order gap (length order)) ≡ length order + 1
+  longer = length-insert order gap (length order) g.in_range
+
+  pub one_more : take (length (insert order gap (length order))) (set rows (length order) s) ≡ take (length order) rows ++ s ∷ []
+  one_more = take-set_at rows (length order) (length (insert order gap (length order))) s longer lt
+
+  pub still_whole : (more : ℕ) → capacity ≤ more → IsWhole s.facts (set rows (length order) s) (insert order gap (length order)) more
+  still_whole more le =
+      let long = length-set rows (length order) s in
+      let e = longer in
+      let r = w.reserved in
+      let first = length-take-le (length order) rows w.within in
+      record {
+        alike = alike_set s.facts rows (length order) s w.alike refl;
+        sorted = subst (IsOrderOf (insert order gap (length order))) (sym one_more)
+            (subst (λ k. IsOrderOf (insert order gap k) (take (length order) rows ++ s ∷ [])) first (put (take (length order) rows) order w.sorted s gap g));
+        within = omega (arith, long, e, lt);
+        reserved = omega (arith, long, r, le);
+      }
+
+  -- the same, of what was written
+  pub whole_put : (rows' : List FactSet) (order' : List ℕ) (more : ℕ) → rows' ≡ set rows (length order) s → order' ≡ insert order gap (length order) → capacity ≤ more → IsWhole s.facts rows' order' more
+  whole_put rows' order' more r o le = rw (r, o) (still_whole more le)
+
 -- the same, of what was read
-pub put_in : (states : List FactSet) (order : List ℕ) (read : List FactSet) (keys : List ℕ) (s : FactSet) (gap place : ℕ) (order' : List ℕ) (states' : List FactSet) → IsOrderOf order states → read ≡ states → keys ≡ order → IsGap read keys gap s
-    → order' ≡ insert order gap place → place ≡ length states → states' ≡ states ++ s ∷ [] → IsOrderOf order' states'
-put_in states order read keys s gap place order' states' o r k g e p f =
-    subst (λ x. IsOrderOf x states') (sym (e ∙ ap (insert order gap) p))
-    (subst (IsOrderOf (insert order gap (length states))) (sym f)
-    (put states order o s gap (subst (λ x. IsGap states x gap s) k (subst (λ x. IsGap x keys gap s) r g))))
+pub tells_read : (states read : List FactSet) (order keys : List ℕ) → IsOrderOf order states → read ≡ states → keys ≡ order → (s : FactSet) (r : Result ℕ ℕ) (b : Bool) → b ≡ is_ok r
+    → MatchResult r (λ at. StandsAt read keys at s) (λ gap. IsGap read keys gap s) → (IsTrue b → Member states s) × (Member states s → IsTrue b)
+tells_read states read order keys o is_read is_order s r b is h =
+    tells states order o s r b is
+    (subst (λ xs. MatchResult r (λ at. StandsAt xs order at s) (λ gap. IsGap xs order gap s)) is_read
+    (subst (λ ks. MatchResult r (λ at. StandsAt read ks at s) (λ gap. IsGap read ks gap s)) is_order h))
 
-pub kept_in : (states : List FactSet) (order : List ℕ) (read : List FactSet) (keys : List ℕ) (s : FactSet) (at : ℕ) (order' : List ℕ) (states' : List FactSet) → IsOrderOf order states → read ≡ states → keys ≡ order → StandsAt read keys at s
-    → order' ≡ order → states' ≡ states ++ s ∷ [] → IsOrderOf order' states'
-kept_in states order read keys s at order' states' o r k g e f =
-    subst (λ x. IsOrderOf x states') (sym e)
-    (subst (IsOrderOf order) (sym f)
-    (kept states order o s at (subst (λ x. StandsAt states x at s) k (subst (λ x. StandsAt x keys at s) r g))))
-
--- states of one number of facts, and one more
-pub alike_more : (n : ℕ) (states states' : List FactSet) (s : FactSet) → AllByRecursion (λ (x : FactSet). x.facts ≡ n) states → s.facts ≡ n → states' ≡ states ++ s ∷ [] → AllByRecursion (λ (x : FactSet). x.facts ≡ n) states'
-alike_more n states states' s all one e = subst (AllByRecursion (λ (x : FactSet). x.facts ≡ n)) (sym e) (go states all)
-  where
-    go : (xs : List FactSet) → AllByRecursion (λ (x : FactSet). x.facts ≡ n) xs → AllByRecursion (λ (x : FactSet). x.facts ≡ n) (xs ++ s ∷ [])
-    go [] h = (one, tt)
-    go (x ∷ xs) h = (h.0, go xs h.1)
+-- what contracts see of the table then
+pub view_put : (facts : ℕ) (rows was rows' : List FactSet) (order order' : List ℕ) (s : FactSet) → was ≡ rows → take (length order') rows' ≡ take (length order) was ++ s ∷ [] → length rows' ≡ length was
+    → ◌≡◌ {A = StateList} (record { facts = facts; states = take (length order') rows'; room = length rows' }) (with_state (record { facts = facts; states = take (length order) rows; room = length rows }) s)
+view_put facts rows was rows' order order' s e f g = rw (f, g, e) refl

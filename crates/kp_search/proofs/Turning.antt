@@ -1,8 +1,7 @@
 -- The turns of a search, on what is kept of its course.
-use Rattle.std.proofs.Common.{◌≡◌, ◌<◌, ◌≤◌, ◌+◌, ◌-◌, ◌*◌, ℕ, suc, Bool, true, false, cond, IsTrue, List, [], ◌∷◌, Option, Some, None, length, slice_get, get_or, arith, refl, sym, ap, subst, ◌∙◌}
+use Rattle.std.proofs.Common.{◌≡◌, ◌<◌, ◌≤◌, ◌+◌, ◌-◌, ◌*◌, ℕ, Bool, true, false, cond, IsTrue, List, [], Option, Some, None, length, slice_get, get_or, arith, refl, sym, ap, subst, ◌∙◌}
 use Rattle.std.proofs.lemmas.Bool.{false≢true}
 use Rattle.std.proofs.lemmas.Option.{slice_get_within, slice_get-get_or, same_Some}
-use Rattle.std.proofs.lemmas.List.{length-append}
 use Rattle.kp_base.specs.Lists.{Member}
 use Rattle.kp_base.proofs.Lists.{number_at, member_at}
 use Rattle.kp_classic.specs.declared.task.Task.{Task}
@@ -14,8 +13,9 @@ use Rattle.kp_search.specs.declared.key.Key.{Key}
 use Rattle.kp_search.specs.Queue.{times}
 use Rattle.kp_search.specs.Trace.{Entry, Course, first, is_goal, nothing, one_entry, IsNext, WasTaken, with_taken, with_expanded, IsCourse, EndsWithPlan, EndsSpent, EndsWithoutPlan}
 use Rattle.kp_search.specs.Trace.IsCourse.{lost, begun, passed, spread}
-use Rattle.kp_search.specs.Kept.{Adds, Keeps, Pops, Expands, IsEmpty}
-use Rattle.kp_search.specs.Turns.{IsAt, IsKnown, OfEntry, IsNew, Spreads, work}
+use Rattle.kp_search.specs.Kept.{Adds, Keeps, Pops, Expands, ExpandsIfNew, IsEmpty}
+use Rattle.kp_search.specs.Sound.{Expanded}
+use Rattle.kp_search.specs.Turns.{IsAt, IsKnown, OfEntry, IsTaken, Spreads, work}
 use Rattle.kp_search.proofs.Kept.{keeps_added, waits_from}
 use Rattle.kp_search.proofs.Taken.{popped_next, keeps_popped, keeps_expanded}
 use Rattle.kp_search.proofs.Sound.{sound}
@@ -115,37 +115,42 @@ module _ (t : Task) (fit : IsFit t) (may : FactSet → Option ℕ → Type 0) (b
     pub less : work t budget new < work t budget old
     less = let e = ap (λ xs. (budget - length xs) * (length t.ops + 1)) p.expanded in let n = p.first.len in omega (arith, e, n)
 
-    module _ (x : FactSet) (of : OfEntry t new key.number (λ e. e.state ≡ x)) where
-      same : entry.state ≡ x
-      same = of_it (λ e. e.state ≡ x) of
+    pub took : (x : FactSet) → OfEntry t new key.number (λ e. e.state ≡ x) → IsTaken t may budget key.number x new
+    took x of = record {
+      course = at.course;
+      is = at.is;
+      entry = entry;
+      next = is_next;
+      kept = kept;
+      has_room = has_room;
+      same = of_it (λ e. e.state ≡ x) of;
+    }
 
-      -- its state was taken before
-      pub passes : Member new.table.states x → IsAt t may budget new
-      passes m = record {
-        course = with_taken at.course key.number;
-        is = passed at.course key.number entry at.is is_next (subst (WasTaken at.course) (sym same) (seen at.course key.number new at.is kept x m));
-        kept = kept;
-        has_room = has_room;
-      }
+  -- ---- an entry that was taken
 
-      -- it wasn't
-      pub is_new : (Member new.table.states x → ⊥) → IsNew t may budget key.number x new
-      is_new not_in = record {
-        course = at.course;
-        is = at.is;
-        entry = entry;
-        next = is_next;
-        kept = kept;
-        has_room = has_room;
-        same = same;
-        fresh = λ w. not_in (subst (Member new.table.states) same (seen_all at.course key.number new at.is kept entry.state w));
-      }
+  module _ (n : ℕ) (x : FactSet) (s : Search) (k : IsTaken t may budget n x s) where
+    pub taken_known : IsKnown t s n
+    taken_known = record { course = with_taken k.course n; entry = k.entry; kept = k.kept; there = k.next.waits.there }
 
-  -- ---- an entry whose state is new
+    -- its state was taken before
+    pub passes : Member s.table.states x → IsAt t may budget s
+    passes m = record {
+      course = with_taken k.course n;
+      is = passed k.course n k.entry k.is k.next (subst (WasTaken k.course) (sym k.same) (seen k.course n s k.is k.kept x m));
+      kept = k.kept;
+      has_room = k.has_room;
+    }
 
-  module _ (n : ℕ) (x : FactSet) (s : Search) (k : IsNew t may budget n x s) where
-    pub new_known : IsKnown t s n
-    new_known = record { course = with_taken k.course n; entry = k.entry; kept = k.kept; there = k.next.waits.there }
+    -- it wasn't
+    fresh : (Member s.table.states x → ⊥) → WasTaken k.course k.entry.state → ⊥
+    fresh not_in w = not_in (subst (Member s.table.states) k.same (seen_all k.course n s k.is k.kept k.entry.state w))
+
+    -- no state that was taken before meets the goal
+    fresh_goal : is_goal t x ≡ true → WasTaken k.course k.entry.state → ⊥
+    fresh_goal goal w =
+        let holds = sound t fit may budget k.course k.is in
+        let r = holds.taken w.number w.entry w.taken w.there in
+        false≢true (sym (holds.no_goal r.0 x (subst (Expanded k.course r.0) (w.same ∙ k.same) r.1)) ∙ goal)
 
     -- not more are expanded than the budget says
     pub few : length s.expanded.items ≤ budget
@@ -158,48 +163,40 @@ module _ (t : Task) (fit : IsFit t) (may : FactSet → Option ℕ → Type 0) (b
       number = n;
       entry = k.entry;
       next = k.next;
-      new = k.fresh;
+      new = fresh_goal goal;
       goal = subst (λ z. is_goal t z ≡ true) (sym k.same) goal;
       ops_are = of (with_taken k.course n) k.entry k.kept k.next.waits.there;
       expanded_are = ap length k.kept.expanded;
     }
 
-    pub ends_spent : is_goal t x ≡ false → budget ≤ length s.expanded.items → EndsSpent t may budget budget
-    ends_spent plain full = record {
+    pub ends_spent : (Member s.table.states x → ⊥) → is_goal t x ≡ false → budget ≤ length s.expanded.items → EndsSpent t may budget budget
+    ends_spent not_in plain full = record {
       course = k.course;
       is = k.is;
       number = n;
       entry = k.entry;
       next = k.next;
-      new = k.fresh;
+      new = fresh not_in;
       goal = subst (λ z. is_goal t z ≡ false) (sym k.same) plain;
       full = let h = few in let l = ap length k.kept.expanded in omega (arith, h, l, full);
       expanded_are = refl;
     }
 
-  pub at_expanded : (n place : ℕ) (x : FactSet) (old mid new : Search) → IsNew t may budget n x old → is_goal t x ≡ false → length old.expanded.items < budget → place ≡ length old.expanded.items → Expands old n x mid
-      → Spreads t may place x mid (length t.ops) new → mid.table.room ≤ new.table.room → IsAt t may budget new
-  at_expanded n place x old mid new k plain room is_place ex h stays =
-      let kept = keeps_expanded t k.course old mid n k.entry k.kept k.next.waits.there (subst (λ z. Expands old n z mid) (sym k.same) ex) in
-      let r = h k.course n k.entry (record { kept = kept; place = is_place ∙ ap length k.kept.expanded; there = k.next.waits.there; same = k.same }) in
+  pub at_expanded : (n place : ℕ) (x : FactSet) (old mid new : Search) → IsTaken t may budget n x old → is_goal t x ≡ false → length old.expanded.items < budget → place ≡ length old.expanded.items → (kept : Bool) → kept ≡ true → ExpandsIfNew old n x kept mid
+      → Spreads t may place x mid (length t.ops) new → new.table ≡ mid.table → IsAt t may budget new
+  at_expanded n place x old mid new k plain room is_place false e h spreads stays = absurd (false≢true e)
+  at_expanded n place x old mid new k plain room is_place true e h spreads stays =
+      let kept = keeps_expanded t k.course old mid n k.entry k.kept k.next.waits.there (subst (λ z. Expands old n z mid) (sym k.same) h.1) in
+      let r = spreads k.course n k.entry (record { kept = kept; place = is_place ∙ ap length k.kept.expanded; there = k.next.waits.there; same = k.same }) in
       let l = ap length k.kept.expanded in
       record {
         course = with_expanded k.course n r.0;
-        is = spread k.course n k.entry r.0 k.is k.next k.fresh (subst (λ z. is_goal t z ≡ false) (sym k.same) plain) (omega (arith, l, room)) r.1;
+        is = spread k.course n k.entry r.0 k.is k.next (fresh n x old k h.0) (subst (λ z. is_goal t z ≡ false) (sym k.same) plain) (omega (arith, l, room)) r.1;
         kept = r.2;
-        has_room = let a = k.has_room in let b = ex.room in omega (arith, a, b, stays);
+        has_room = let a = k.has_room in let b = h.1.room in let c = ap (λ z. z.room) stays in omega (arith, a, b, c);
       }
 
-  pub expanded_less : (n : ℕ) (x : FactSet) (old mid new : Search) → length old.expanded.items < budget → Expands old n x mid → length new.waiting ≤ length mid.waiting + length t.ops → new.expanded.items ≡ mid.expanded.items → work t budget new < work t budget old + 1
-  expanded_less n x old mid new room ex few_more as_before =
-      let a : length new.expanded.items ≡ length old.expanded.items + 1 = ap length as_before ∙ (ap length ex.expanded ∙ length-append old.expanded.items (n ∷ [])) in
-      let w = ap length ex.waiting in
-      let m = product budget (length old.expanded.items) (length t.ops) room in
-      let b = ap (λ i. (budget - i) * (length t.ops + 1)) a in
-      omega (arith, few_more, w, m, b)
-    where
-      product : (b y o : ℕ) → y < b → (b - y) * (o + 1) ≡ (b - (y + 1)) * (o + 1) + (o + 1)
-      product b y o lt = let e : b - y ≡ suc (b - (y + 1)) = omega (arith, lt) in ap (λ i. i * (o + 1)) e ∙ more (b - (y + 1)) (o + 1)
-        where
-          more : (a c : ℕ) → suc a * c ≡ a * c + c
-          more a c = grind arith
+  -- its state was there
+  pub stays_at : (n : ℕ) (x : FactSet) (old new : Search) → IsTaken t may budget n x old → (kept : Bool) → kept ≡ false → ExpandsIfNew old n x kept new → IsAt t may budget new
+  stays_at n x old new k true e h = absurd (false≢true (sym e))
+  stays_at n x old new k false e h = subst (IsAt t may budget) (sym h.1) (passes n x old k h.0)

@@ -1,5 +1,6 @@
 -- What the search keeps of a course. This file serves proofs alone.
-use Rattle.std.specs.Prelude.{◌≡◌, ◌<◌, ◌≤◌, ◌+◌, ℕ, Bool, true, false, not, ◌&&◌, if◌then◌else◌, [], ◌∷◌, ◌++◌, Option, Some, None, nat_eq, length, slice_get}
+use Rattle.std.specs.Prelude.{◌≡◌, ◌<◌, ◌+◌, ℕ, Bool, true, false, not, ◌&&◌, if◌then◌else◌, [], ◌∷◌, ◌++◌, Option, Some, None, nat_eq, length, slice_get}
+use Rattle.kp_base.specs.Lists.{Member}
 use Rattle.kp_classic.specs.declared.task.Task.{Task}
 use Rattle.kp_classic.specs.States.{FactSet}
 use Rattle.kp_search.specs.declared.course.Origin.{Origin}
@@ -58,9 +59,14 @@ pub record Expands (old : Search) (n : ℕ) (s : FactSet) (new : Search) : Type 
   pub expanded : new.expanded.items ≡ old.expanded.items ++ n ∷ []
   pub states : new.table.states ≡ old.table.states ++ s ∷ []
   pub facts : new.table.facts ≡ old.table.facts
-  pub room : old.table.room ≤ new.table.room
+  pub room : new.table.room ≡ old.table.room
   pub origins : new.origins.items ≡ old.origins.items
   pub waiting : new.waiting ≡ old.waiting
+
+-- one more entry is expanded, unless its state is there
+abbrev pub ExpandsIfNew : Search → ℕ → FactSet → Bool → Search → Type 0
+ExpandsIfNew old n s true new = (Member old.table.states s → ⊥) × Expands old n s new
+ExpandsIfNew old n s false new = Member old.table.states s × (new ≡ old)
 
 -- nothing was entered
 pub record IsEmpty (facts : ℕ) (s : Search) : Type 0 where

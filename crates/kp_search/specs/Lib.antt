@@ -4,6 +4,7 @@ pub mod Heaped
 pub mod Kept
 pub mod Laws
 pub mod Queue
+pub mod Scratch
 pub mod Sorted
 pub mod Sound
 pub mod Tables

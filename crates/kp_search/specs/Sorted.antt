@@ -1,5 +1,6 @@
 -- How the table finds a state: by the places of its states in the order of these. This file serves proofs alone.
-use Rattle.std.specs.Prelude.{◌≡◌, ◌<◌, ◌≤◌, ℕ, List, Some, length, slice_get}
+use Rattle.std.specs.Prelude.{◌≡◌, ◌<◌, ◌≤◌, ℕ, List, Some, length, slice_get, take}
+use Rattle.std.specs.List.{AllByRecursion}
 use Rattle.kp_base.specs.Lists.{Member}
 use Rattle.kp_classic.specs.States.{FactSet, IsBefore}
 
@@ -28,3 +29,10 @@ pub record IsGap (states : List FactSet) (order : List ℕ) (gap : ℕ) (s : Fac
   pub in_range : gap ≤ length order
   pub below : AreBefore states order gap s
   pub above : IsBeforeRest states order gap s
+
+-- what a table keeps: its rows are states of so many facts, and the first of them came in, as many as the order has; the order has room for all
+pub record IsWhole (facts : ℕ) (rows : List FactSet) (order : List ℕ) (capacity : ℕ) : Type 0 where
+  pub alike : AllByRecursion (λ (s : FactSet). s.facts ≡ facts) rows
+  pub sorted : IsOrderOf order (take (length order) rows)
+  pub within : length order ≤ length rows
+  pub reserved : length rows ≤ capacity

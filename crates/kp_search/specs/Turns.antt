@@ -4,7 +4,7 @@ use Rattle.kp_classic.specs.declared.task.Task.{Task}
 use Rattle.kp_classic.specs.States.{FactSet}
 use Rattle.kp_search.specs.declared.course.Origin.TheVariants.{Step}
 use Rattle.kp_search.specs.declared.course.Search.{Search}
-use Rattle.kp_search.specs.Trace.{Entry, Course, can, step, IsNext, WasTaken, with_taken, with_expanded, Enters, IsCourse}
+use Rattle.kp_search.specs.Trace.{Entry, Course, can, step, IsNext, with_taken, with_expanded, Enters, IsCourse}
 use Rattle.kp_search.specs.Kept.{Adds, Keeps}
 
 -- what is kept of the course at a turn, where the table has room for the budget
@@ -47,8 +47,8 @@ pub record IsKnown (t : Task) (s : Search) (n : ℕ) : Type 0 where
 abbrev pub OfEntry : Task → Search → ℕ → (Entry → Type 0) → Type 0
 OfEntry t s n P = (c : Course) (e : Entry) → Keeps t c s → slice_get c.entries n ≡ Some e → P e
 
--- the entry with this number and state was taken, and its state wasn't taken before
-pub record IsNew (t : Task) (may : FactSet → Option ℕ → Type 0) (budget n : ℕ) (state : FactSet) (s : Search) : Type 0 where
+-- the entry with this number and state was taken
+pub record IsTaken (t : Task) (may : FactSet → Option ℕ → Type 0) (budget n : ℕ) (state : FactSet) (s : Search) : Type 0 where
   pub course : Course
   pub is : IsCourse t may budget course
   pub entry : Entry
@@ -56,7 +56,6 @@ pub record IsNew (t : Task) (may : FactSet → Option ℕ → Type 0) (budget n 
   pub kept : Keeps t (with_taken course n) s
   pub has_room : budget ≤ s.table.room
   pub same : entry.state ≡ state
-  pub fresh : WasTaken course entry.state → ⊥
 
 -- the entry at a place is on the way to the one with this number, and these operators, the last first, lead on from it
 abbrev pub IsBehind : Task → Search → ℕ → ℕ → List ℕ → Type 0

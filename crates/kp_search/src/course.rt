@@ -1,10 +1,9 @@
-ghost use Rattle.std.specs.Prelude.{◌≡◌, ◌<◌, ◌≤◌, [], length, IfOk, IfSome, IfNone, OnOk};
-ghost use Rattle.kp_classic.specs.Fits.{IsFit};
-ghost use Rattle.kp_search.specs.Kept.{Adds, Expands, Pops, IsEmpty};
+ghost use Rattle.std.specs.Prelude.{◌≡◌, ◌<◌, [], length, IfOk, IfSome, IfNone, OnOk};
+ghost use Rattle.kp_search.specs.Kept.{Adds, ExpandsIfNew, Pops, IsEmpty};
 
 use crate::{Key, Table, Waiting};
 use kp_base::Memory;
-use kp_classic::{State, Task, start};
+use kp_classic::State;
 use std::alloc::Global;
 
 /// Where an entry comes from: the start, or an expanded entry, by its place among those, and an operator.
@@ -30,10 +29,10 @@ pub struct Search {
 }
 
 impl Search {
-    /// Nothing is entered yet, and the table has room for the budget.
+    /// Nothing is entered yet. The table has room for the whole budget, and will want no more memory.
     pub fn new(alloc: Global, facts: u32, budget: u32) -> Result<Search, Memory>
         ensures empty { IfOk result (IsEmpty facts) }
-        ensures room { IfOk result (λ search. budget ≤ search.table.room) }
+        ensures room { IfOk result (λ search. search.table.room ≡ budget) }
     {
         Ok(Search {
             table: Table::with_capacity(alloc, facts, budget)?,
@@ -61,23 +60,16 @@ impl Search {
         self.waiting.pop()
     }
 
-    /// Keeps an entry that is expanded, with its state.
-    pub fn keep(
-        &mut self,
-        alloc: Global,
-        task: &Task,
-        number: usize,
-        state: &State,
-    ) -> Result<(), Memory>
-        requires fit { IsFit task.now }
-        requires of_task { state.now.facts ≡ length task.now.facts }
-        requires of_table { state.now.facts ≡ self.old.table.facts }
-        ensures { OnOk result (Expands self.old number state.now self.new) }
+    /// Keeps an entry as expanded, with its state, unless the state is there. Whether it was kept.
+    pub fn keep(&mut self, number: usize, state: &State) -> Result<bool, Memory>
+        requires same { state.now.facts ≡ self.old.table.facts }
+        requires room { length self.old.table.states < self.old.table.room }
+        ensures { IfOk result (λ kept. ExpandsIfNew self.old number state.now kept self.new) }
     {
-        let mut kept = start(alloc, task)?;
-        kept.copy_from(state);
-        self.table.push(kept)?;
+        if !self.table.insert(state) {
+            return Ok(false);
+        }
         self.expanded.push(number)?;
-        Ok(())
+        Ok(true)
     }
 }

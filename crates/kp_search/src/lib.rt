@@ -7,6 +7,7 @@ mod found;
 mod key;
 mod laws;
 mod read;
+mod scratch;
 mod sorted;
 mod spread;
 mod table;

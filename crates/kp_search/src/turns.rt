@@ -3,19 +3,20 @@ ghost use Rattle.std.specs.Prelude.{◌≡◌, ◌<◌, ◌+◌, false, length, 
 ghost use Rattle.kp_classic.specs.Fits.{IsFit};
 ghost use Rattle.kp_search.specs.Trace as trace;
 ghost use Rattle.kp_search.specs.Ends.{HasEnd, Tells};
-ghost use Rattle.kp_search.specs.Turns.{IsAt, IsNew, work};
+ghost use Rattle.kp_search.specs.Scratch.{AreOf};
+ghost use Rattle.kp_search.specs.Turns.{IsAt, IsTaken, work};
 
+use crate::scratch::Scratch;
 use crate::{Found, Origin, Search};
 use kp_base::Memory;
-use kp_classic::{State, Task, meets, start};
+use kp_classic::{State, Task, meets};
 use kp_guide::Estimator;
 use std::alloc::Global;
 
 impl Search {
-    // Expands an entry whose state wasn't taken before.
+    // Expands an entry that was taken, unless its state was taken before.
     fn expand<E: Estimator>(
         &mut self,
-        alloc: Global,
         task: &Task,
         guide: &E,
         budget: u32,
@@ -27,7 +28,7 @@ impl Search {
         requires serves { E.serves guide.now task.now }
         requires of_task { state.now.facts ≡ length task.now.facts }
         requires next_of_task { next.old.facts ≡ length task.now.facts }
-        requires new { IsNew task.now (E.may_answer guide.now task.now) budget number state.now self.old }
+        requires taken { IsTaken task.now (E.may_answer guide.now task.now) budget number state.now self.old }
         requires no_goal { trace.is_goal task.now state.now ≡ false }
         requires room { length self.old.expanded.items < budget }
         ensures facts { next.new.facts ≡ length task.now.facts }
@@ -35,12 +36,14 @@ impl Search {
         ensures less { OnOk result (work task.now budget self.new < work task.now budget self.old + 1) }
     {
         let place = self.expanded.len() as u32;
-        self.keep(alloc, task, number, state)?;
+        if !self.keep(number, state)? {
+            return Ok(());
+        }
         self.spread(task, guide, place, state, next)?;
         Ok(())
     }
 
-    // Ends the search with an entry whose state wasn't taken before, or else expands it. None where the search goes on.
+    // Ends the search with an entry that was taken, or else expands it. None where the search goes on.
     fn visit<E: Estimator>(
         &mut self,
         alloc: Global,
@@ -55,7 +58,7 @@ impl Search {
         requires serves { E.serves guide.now task.now }
         requires of_task { state.now.facts ≡ length task.now.facts }
         requires next_of_task { next.old.facts ≡ length task.now.facts }
-        requires new { IsNew task.now (E.may_answer guide.now task.now) budget number state.now self.old }
+        requires taken { IsTaken task.now (E.may_answer guide.now task.now) budget number state.now self.old }
         ensures facts { next.new.facts ≡ length task.now.facts }
         ensures ends { IfOk result (λ end. MatchOption end ((IsAt task.now (E.may_answer guide.now task.now) budget self.new) × (work task.now budget self.new < work task.now budget self.old + 1)) (HasEnd task.now (E.may_answer guide.now task.now) budget)) }
     {
@@ -65,11 +68,14 @@ impl Search {
             let expanded = expanded as u32;
             return Ok(Some(Found::Plan { ops, expanded }));
         }
-        if expanded >= budget as usize {
-            return Ok(Some(Found::Spent { expanded: budget }));
+        if expanded < budget as usize {
+            self.expand(task, guide, budget, number, state, next)?;
+            return Ok(None);
         }
-        self.expand(alloc, task, guide, budget, number, state, next)?;
-        Ok(None)
+        if self.table.has(state) {
+            return Ok(None);
+        }
+        Ok(Some(Found::Spent { expanded: budget }))
     }
 
     // Takes the next entry. None where the search goes on.
@@ -79,29 +85,35 @@ impl Search {
         task: &Task,
         guide: &E,
         budget: u32,
-        first: &State,
-        spare: &mut State,
-        state: &mut State,
+        scratch: &mut Scratch,
     ) -> Result<Option<Found>, Memory>
         requires fit { IsFit task.now }
         requires serves { E.serves guide.now task.now }
         requires at { IsAt task.now (E.may_answer guide.now task.now) budget self.old }
-        requires first { first.now ≡ trace.first task.now }
-        requires spare_of_task { spare.old.facts ≡ length task.now.facts }
-        requires of_task { state.old.facts ≡ length task.now.facts }
-        ensures spare { spare.new.facts ≡ length task.now.facts }
-        ensures facts { state.new.facts ≡ length task.now.facts }
+        requires scratch { AreOf task.now scratch.old }
+        ensures scratch { AreOf task.now scratch.new }
         ensures ends { IfOk result (λ end. MatchOption end ((IsAt task.now (E.may_answer guide.now task.now) budget self.new) × (work task.now budget self.new < work task.now budget self.old)) (HasEnd task.now (E.may_answer guide.now task.now) budget)) }
     {
         let key = match self.take() {
             Some(key) => key,
             None => return Ok(Some(Found::NoPlan)),
         };
-        self.load(task, key.number, first, spare, state);
-        if self.table.has(state) {
-            return Ok(None);
-        }
-        self.visit(alloc, task, guide, budget, key.number, state, spare)
+        self.load(
+            task,
+            key.number,
+            &scratch.first,
+            &mut scratch.spare,
+            &mut scratch.state,
+        );
+        self.visit(
+            alloc,
+            task,
+            guide,
+            budget,
+            key.number,
+            &scratch.state,
+            &mut scratch.spare,
+        )
     }
 
     // Takes entries until the search ends.
@@ -111,18 +123,16 @@ impl Search {
         task: &Task,
         guide: &E,
         budget: u32,
-        first: &State,
+        scratch: &mut Scratch,
     ) -> Result<Found, Memory>
         requires fit { IsFit task.now }
         requires serves { E.serves guide.now task.now }
         requires at { IsAt task.now (E.may_answer guide.now task.now) budget self.old }
-        requires first { first.now ≡ trace.first task.now }
+        requires scratch { AreOf task.now scratch.old }
         ensures { IfOk result (HasEnd task.now (E.may_answer guide.now task.now) budget) }
     {
-        let mut state = start(alloc, task)?;
-        let mut spare = start(alloc, task)?;
         'turns: loop {
-            let end = self.turn(alloc, task, guide, budget, first, &mut spare, &mut state)?;
+            let end = self.turn(alloc, task, guide, budget, scratch)?;
             if let Some(found) = end {
                 return Ok(found);
             }
@@ -143,8 +153,9 @@ fn begin<E: Estimator>(
     requires first { first.now ≡ trace.first task.now }
     ensures { IfOk result (IsAt task.now (E.may_answer guide.now task.now) budget) }
 {
+    let estimate = guide.estimate(task, first)?;
     let mut search = Search::new(alloc, task.facts.len() as u32, budget)?;
-    match guide.estimate(task, first)? {
+    match estimate {
         None => Ok(search),
         Some(estimate) => {
             search.enter(Origin::Start, estimate)?;
@@ -153,9 +164,26 @@ fn begin<E: Estimator>(
     }
 }
 
-/// Searches for a plan: takes the entry of least estimate first, and of those the one that was entered first. The list of
-/// expanded states has room for the whole budget before the first entry is taken. An estimator that was made for one task is
-/// asked about that task alone; the `Guide` of `kp_guide` serves every task that fits.
+// Searches with these states.
+fn search_with<E: Estimator>(
+    alloc: Global,
+    task: &Task,
+    guide: &E,
+    budget: u32,
+    scratch: &mut Scratch,
+) -> Result<Found, Memory>
+    requires fit { IsFit task.now }
+    requires serves { E.serves guide.now task.now }
+    requires scratch { AreOf task.now scratch.old }
+    ensures { IfOk result (HasEnd task.now (E.may_answer guide.now task.now) budget) }
+{
+    let mut search = begin(alloc, task, guide, budget, &scratch.first)?;
+    search.take_turns(alloc, task, guide, budget, scratch)
+}
+
+/// Searches for a plan: takes the entry of least estimate first, and of those the one that was entered first. The rows of all
+/// states that may be expanded are made before the first entry is taken. An estimator that was made for one task can only be
+/// asked about that task; the `Guide` of `kp_guide` serves every task that fits.
 pub fn search<E: Estimator>(
     alloc: Global,
     task: &Task,
@@ -167,9 +195,8 @@ pub fn search<E: Estimator>(
     ensures end { IfOk result (HasEnd task.now (E.may_answer guide.now task.now) budget) }
     ensures tells { IfOk result (Tells task.now budget) }
 {
-    let first = start(alloc, task)?;
-    let mut search = begin(alloc, task, guide, budget, &first)?;
-    let found = search.take_turns(alloc, task, guide, budget, &first)?;
+    let mut scratch = Scratch::new(alloc, task)?;
+    let found = search_with(alloc, task, guide, budget, &mut scratch)?;
     guide.is_right();
     Ok(found)
 }

@@ -1,12 +1,15 @@
-use Rattle.std.proofs.Common.{rules, arith, ap}
-use Rattle.kp_search.proofs.Turning.{at_expanded, expanded_less}
+use Rattle.std.proofs.Common.{rules}
+use Rattle.kp_search.proofs.Turning.{at_expanded, stays_at}
 use Rattle.kp_search.proofs.course.Search.expand.Goals as goal
+
+-- its state was taken before
+pub returns-then-not-branch-clause-at : goal.returns-then-not-branch-clause-at
+returns-then-not-branch-clause-at g c =
+    stays_at c.args.task.now c.requires.fit (g.E.Estimator.may_answer c.args.guide.now c.args.task.now) c.args.budget c.args.number c.args.state.now c.args.self.now c.keep.new.self c.requires.taken
+    c.in_ok-keep.field-0 c.if-not-branch.true c.in_ok-keep.ensures
 
 -- the course has the entry expanded
 pub returns-clause-at : goal.returns-clause-at
 returns-clause-at g c =
-    let e = ap (λ x. x.room) c.in_ok-spread.ensures.table in
-    at_expanded c.args.task.now c.requires.fit _ _ c.args.number _ c.args.state.now c.args.self.now c.keep.new.self c.spread.new.self c.requires.new c.requires.no_goal c.requires.room (search rules) c.in_ok-keep.ensures c.in_ok-spread.ensures.spreads (omega (arith, e))
-
-pub returns-clause-less : goal.returns-clause-less
-returns-clause-less g c = expanded_less c.args.task.now c.requires.fit (g.E.Estimator.may_answer c.args.guide.now c.args.task.now) _ c.args.number c.args.state.now c.args.self.now c.keep.new.self c.spread.new.self c.requires.room c.in_ok-keep.ensures c.in_ok-spread.ensures.len c.in_ok-spread.ensures.expanded
+    at_expanded c.args.task.now c.requires.fit (g.E.Estimator.may_answer c.args.guide.now c.args.task.now) c.args.budget c.args.number _ c.args.state.now c.args.self.now c.keep.new.self c.spread.new.self c.requires.taken c.requires.no_goal c.requires.room (search rules)
+    c.in_ok-keep.field-0 c.if-not-branch.false c.in_ok-keep.ensures c.in_ok-spread.ensures.spreads c.in_ok-spread.ensures.table
