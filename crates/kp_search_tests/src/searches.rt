@@ -13,7 +13,8 @@ fn found(alloc: Global, task: &Task, budget: u32) -> Result<Found, Memory> {
     if !is_fit(task) {
         return Err(Memory);
     }
-    search(alloc, task, &Additive::new(alloc), budget)
+    let guide = Additive::of(alloc, task)?;
+    search(alloc, task, &guide, budget)
 }
 
 // The search for these facts, with these operators and nothing at the start.
