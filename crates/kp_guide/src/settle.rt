@@ -76,6 +76,24 @@ fn count_first(first: bool, users: &[usize], counts: &mut [usize])
     }
 }
 
+// A fact's cost fell: counts and lets wait the rules that need it.
+fn tell(
+    first: bool,
+    users: &[usize],
+    counts: &mut [usize],
+    waits: &mut [bool],
+    next: &mut Vec<usize>,
+) -> Result<(), Memory>
+    requires users { are_below (length waits.old) users.now ≡ true }
+    requires counts { length counts.old ≡ length waits.old }
+    ensures counted { OnOk result (CountsDown (only_if first users.now) counts.old counts.new) }
+    ensures waiting { OnOk result (Waits counts.new users.now waits.old next.old.items waits.new next.new.items) }
+{
+    count_first(first, users, counts);
+    wait_all(users, counts, waits, next)?;
+    Ok(())
+}
+
 // Tries a rule, which waits no more.
 #[tactic(auto, using(crate::proofs::Waiting::rule_fits, crate::proofs::Waiting::row_below))]
 fn try_rule(
@@ -94,9 +112,13 @@ fn try_rule(
     waits[number] = false;
     let first = costs[rule.fact as usize] > CAP;
     if relax(rule, costs) {
-        let users = index.users[rule.fact as usize].slice();
-        count_first(first, users, counts);
-        wait_all(users, counts, waits, next)?;
+        tell(
+            first,
+            index.users[rule.fact as usize].slice(),
+            counts,
+            waits,
+            next,
+        )?;
     }
     Ok(())
 }
