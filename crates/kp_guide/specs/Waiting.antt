@@ -66,6 +66,10 @@ pub record AreCounts (rules : List Rule) (test : ℕ → Bool) (counts : List �
   pub long : length counts ≡ length rules
   pub each : (k : ℕ) (r : Rule) → slice_get rules k ≡ Some r → count_at counts k ≡ how_many test r.needs
 
+-- no rule is named more often than its count says
+pub record AreEnough (numbers counts : List ℕ) : Type 0 where
+  pub each : (k : ℕ) → times numbers k ≤ count_at counts k
+
 -- the counts of these rules fall, by one for each time that a rule is named
 pub record CountsDown (numbers : List ℕ) (old new : List ℕ) : Type 0 where
   pub long : length new ≡ length old

@@ -5,7 +5,7 @@ ghost use Rattle.std.specs.List.{range_with_len};
 ghost use Rattle.kp_base.specs.Lists.{only_if};
 ghost use Rattle.kp_classic.specs.Fits.{are_below};
 ghost use Rattle.kp_guide.specs.Tables.{IsClosed, Lowers, Relaxes, are_costs, fits_rule};
-ghost use Rattle.kp_guide.specs.Waiting.{AreCounts, CountsDown, IsReady, IsWork, Rounds, Tries, Waits, unreached};
+ghost use Rattle.kp_guide.specs.Waiting.{AreCounts, AreEnough, CountsDown, IsReady, IsWork, Rounds, Tries, Waits, unreached};
 
 use crate::costs::{CAP, cost_of, join};
 use crate::index::count_down;
@@ -68,7 +68,8 @@ fn wait_all(
 // Lowers the counts of the rules that need a fact, where it is reached for the first time.
 #[tactic(auto, using(crate::proofs::Noting::counts_none))]
 fn count_first(first: bool, users: &[usize], counts: &mut [usize])
-    requires { are_below (length counts.old) users.now ≡ true }
+    requires users { are_below (length counts.old) users.now ≡ true }
+    requires enough { AreEnough (only_if first users.now) counts.old }
     ensures { CountsDown (only_if first users.now) counts.old counts.new }
 {
     if first {
@@ -86,6 +87,7 @@ fn tell(
 ) -> Result<(), Memory>
     requires users { are_below (length waits.old) users.now ≡ true }
     requires counts { length counts.old ≡ length waits.old }
+    requires enough { AreEnough (only_if first users.now) counts.old }
     ensures counted { OnOk result (CountsDown (only_if first users.now) counts.old counts.new) }
     ensures waiting { OnOk result (Waits counts.new users.now waits.old next.old.items waits.new next.new.items) }
 {
