@@ -1,14 +1,14 @@
 -- The rules that need a fact, and how many needs of each rule aren't met.
-use Rattle.std.proofs.Common.{◌≡◌, ◌<◌, ◌+◌, ◌-◌, ℕ, zero, suc, Bool, true, false, ◌||◌, nat_eq, nat_lt, List, [], ◌∷◌, ◌++◌, Some, length, set, take, get_or, slice_get, slice_index_or, length-set, get_or-set_same, get_or-set_other, arith, refl, sym, ap, ap₂, subst, ◌∙◌, inl, inr}
+use Rattle.std.proofs.Common.{◌≡◌, ◌<◌, ◌≤◌, ◌+◌, ◌-◌, ℕ, zero, suc, Bool, true, false, ◌||◌, nat_eq, nat_lt, List, [], ◌∷◌, ◌++◌, Some, length, set, take, get_or, slice_get, slice_index_or, length-set, get_or-set_same, get_or-set_other, arith, refl, sym, ap, ap₂, subst, ◌∙◌, inl, inr}
 use Rattle.std.specs.List.{list_all}
 use Rattle.std.proofs.lemmas.Bool.{and_parts, and_from, cases_eq, cases_lt, cases_Bool, eq-eqb, ne_eqb, eqb-true, lt-ltb, le-leb, lt-leb, ltb-true}
 use Rattle.std.proofs.lemmas.Option.{same_Some, slice_get_within, slice_get-get_or}
-use Rattle.kp_base.specs.Lists.{Member}
+use Rattle.kp_base.specs.Lists.{Member, only_if}
 use Rattle.kp_base.proofs.Lists.{all_member, member_at}
 use Rattle.kp_classic.specs.Fits.{are_below}
 use Rattle.kp_guide.specs.declared.rule.Rule.{Rule}
 use Rattle.kp_guide.specs.Tables.{fits_rule}
-use Rattle.kp_guide.specs.Waiting.{one_if, how_many, times, row, AreUsers, Notes, unreached, unreached_before, count_at, needs_of, AreCounts, CountsDown}
+use Rattle.kp_guide.specs.Waiting.{one_if, how_many, times, row, AreUsers, Notes, unreached, unreached_before, count_at, needs_of, AreCounts, AreEnough, CountsDown}
 
 -- ---- one more element of a list
 
@@ -79,6 +79,26 @@ member_times (y ∷ ys) x m = elim m [
   | inl e ↦ let a = one_same x y (sym e) in omega (arith, a)
   | inr r ↦ let rest = member_times ys x r in omega (arith, rest)
 ]
+
+-- no more pass than in a longer list
+how_many_taken : (p : ℕ → Bool) (xs : List ℕ) (i : ℕ) → how_many p (take i xs) ≤ how_many p xs
+how_many_taken p [] zero = omega arith
+how_many_taken p [] (suc i) = omega arith
+how_many_taken p (x ∷ xs) zero = omega arith
+how_many_taken p (x ∷ xs) (suc i) = let rest = how_many_taken p xs i in omega (arith, rest)
+
+-- a number that passes stands no more often than numbers pass
+times_passed : (p : ℕ → Bool) (f : ℕ) → p f ≡ true → (xs : List ℕ) → times xs f ≤ how_many p xs
+times_passed p f passed [] = omega arith
+times_passed p f passed (x ∷ xs) =
+    let rest = times_passed p f passed xs in
+    elim (cases_eq f x) [
+      | inl e ↦
+          let a : one_if (p x) ≡ 1 = ap one_if (subst (λ y. p y ≡ true) e passed) in
+          let c = one_same f x e in
+          omega (arith, a, c, rest)
+      | inr ne ↦ let c = one_other f x ne in omega (arith, c, rest)
+    ]
 
 times_pushed : (xs : List ℕ) (y x : ℕ) → times (xs ++ y ∷ []) x ≡ times xs x + one_if (nat_eq x y)
 times_pushed xs y x = let e = how_many_append (nat_eq x) xs (y ∷ []) in omega (arith, e)
@@ -185,6 +205,48 @@ counts_none counts = record { long = refl; each = λ k. omega arith }
 pub counts_same : {rules : List Rule} {p : ℕ → Bool} (old new : List ℕ) → CountsDown [] old new → AreCounts rules p old → AreCounts rules p new
 counts_same old new d a = record { long = d.long ∙ a.long; each = λ k r at. let x = d.each k in let y = a.each k r at in omega (arith, x, y) }
 
+-- a count that is left for the next of some rules
+pub counts_left : (numbers : List ℕ) (i : ℕ) (old mid : List ℕ) → i < length numbers → AreEnough numbers old → CountsDown (take i numbers) old mid → 1 ≤ count_at mid (slice_index_or numbers i 0)
+counts_left numbers i old mid lt enough a =
+    let number = slice_index_or numbers i 0 in
+    let x = a.each number in
+    let y = enough.each number in
+    let z : times (take (i + 1) numbers) number ≡ times (take i numbers ++ number ∷ []) number = ap (λ ks. times ks number) (taken_on numbers i number (slice_get-get_or numbers i 0 lt)) in
+    let w = times_pushed (take i numbers) number number in
+    let s = one_same number number refl in
+    let t = how_many_taken (nat_eq number) numbers (i + 1) in
+    omega (arith, x, y, z, w, s, t)
+
+enough_none : (counts : List ℕ) → AreEnough [] counts
+enough_none counts = record { each = λ k. omega arith }
+
+at_within : {X : Type 0} (xs : List X) (k : ℕ) → k < length xs → (x : X) × (slice_get xs k ≡ Some x)
+at_within [] k lt = absurd (omega (arith, lt))
+at_within (x ∷ xs) zero lt = (x, refl)
+at_within (x ∷ xs) (suc k) lt = at_within xs k (omega (arith, lt))
+
+-- the rules that need a fact count it, where it passes
+pub enough_for : (rules : List Rule) (p : ℕ → Bool) (users : List (List ℕ)) (counts : List ℕ) (f : ℕ) → AreUsers rules (length rules) users → AreCounts rules p counts → p f ≡ true → AreEnough (row users f) counts
+enough_for rules p users counts f u a passed = record {
+  each = λ k. elim (cases_lt k (length rules)) [
+    | inl lt ↦
+        let r = at_within rules k lt in
+        let x = u.listed k r.0 f lt r.1 in
+        let y = a.each k r.0 r.1 in
+        let z = times_passed p f passed r.0.needs in
+        omega (arith, x, y, z)
+    | inr ge ↦ let x = u.later k f ge in omega (arith, x)
+  ];
+}
+
+-- and where it has a cost, none is counted
+pub enough_told : (rules : List Rule) (costs : List ℕ) (users : List (List ℕ)) (counts : List ℕ) (f : ℕ) → AreUsers rules (length rules) users → AreCounts rules (unreached costs) counts → AreEnough (only_if (unreached costs f) (row users f)) counts
+enough_told rules costs users counts f u a = by (unreached costs f) refl
+  where
+    by : (b : Bool) → unreached costs f ≡ b → AreEnough (only_if b (row users f)) counts
+    by true is = enough_for rules (unreached costs) users counts f u a is
+    by false is = enough_none counts
+
 -- one more is counted down
 counts_more : (done : List ℕ) (k : ℕ) (old mid : List ℕ) → k < length mid → CountsDown done old mid → CountsDown (done ++ k ∷ []) old (set mid k (count_at mid k - 1))
 counts_more done k old mid lt a = record {
@@ -251,7 +313,7 @@ module _ (rules : List Rule) (costs : List ℕ) (i : ℕ) where
     | inr ge ↦ le-leb (i + 1) x (omega (arith, ge, ne)) ∙ sym (le-leb i x ge)
   ])
 
-  itself_before : unreached_before costs i i ≡ true
+  pub itself_before : unreached_before costs i i ≡ true
   itself_before = ap (λ b. b || unreached costs i) (le-leb i i (omega arith))
 
   itself_after : unreached_before costs (i + 1) i ≡ unreached costs i

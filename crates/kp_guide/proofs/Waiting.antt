@@ -17,7 +17,7 @@ use Rattle.kp_guide.proofs.Relaxing.{lowers_none, lowers_on, fallen, sum_less, h
 -- ---- rules that wait
 
 pub waits_none : (counts : List ℕ) (waits : List Bool) (next : List ℕ) → Waits counts [] waits next waits next
-waits_none counts waits next = record { long = refl; below = λ h. h; keeps = λ k h. h; all = λ k m none. absurd m; listed = λ k h. inl h; stays = λ k m. m }
+waits_none counts waits next = record { long = refl; below = λ h. h; keeps = λ k h. h; all = λ k m none. absurd m; only = λ k h. inl h; listed = λ k h. inl h; stays = λ k m. m }
 
 -- one that waits already, or lacks a need
 pub waits_still : (counts : List ℕ) (k : ℕ) (waits : List Bool) (next : List ℕ) → (0 < count_at counts k) ⊎ (waits_at waits k ≡ true) → Waits counts (k ∷ []) waits next waits next
@@ -32,13 +32,14 @@ waits_still counts k waits next why = record {
     ])
     | inr n ↦ absurd n
   ];
+  only = λ j h. inl h;
   listed = λ j h. inl h;
   stays = λ j m. m;
 }
 
 -- one that didn't
-pub waits_now : (counts : List ℕ) (k : ℕ) (waits : List Bool) (next : List ℕ) → k < length waits → Waits counts (k ∷ []) waits next (set waits k true) (next ++ k ∷ [])
-waits_now counts k waits next lt = record {
+pub waits_now : (counts : List ℕ) (k : ℕ) (waits : List Bool) (next : List ℕ) → k < length waits → count_at counts k ≡ 0 → Waits counts (k ∷ []) waits next (set waits k true) (next ++ k ∷ [])
+waits_now counts k waits next lt met = record {
   long = length-set waits k true;
   below = λ h. all_pushed (λ x. nat_lt x (length waits)) next k h (lt-ltb k (length waits) lt);
   keeps = λ j h. elim (cases_eq j k) [
@@ -46,6 +47,10 @@ waits_now counts k waits next lt = record {
     | inr ne ↦ get_or-set_other waits k j true false ne ∙ h
   ];
   all = λ j m none. elim m [ inl e ↦ subst (λ x. waits_at (set waits k true) x ≡ true) e (get_or-set_same waits k true false lt) | inr n ↦ absurd n ];
+  only = λ j h. elim (cases_eq j k) [
+    | inl e ↦ inr (ap (count_at counts) e ∙ met)
+    | inr ne ↦ inl (sym (get_or-set_other waits k j true false ne) ∙ h)
+  ];
   listed = λ j h. elim (cases_eq j k) [
     | inl e ↦ inr (member_right next (k ∷ []) j (inl (sym e)))
     | inr ne ↦ inl (sym (get_or-set_other waits k j true false ne) ∙ h)
@@ -59,6 +64,7 @@ waits_more counts done k w0 x0 w x w' x' a b = record {
   below = λ h. subst (λ n. are_below n x' ≡ true) a.long (b.below (subst (λ n. are_below n x ≡ true) (sym a.long) (a.below h)));
   keeps = λ j h. b.keeps j (a.keeps j h);
   all = λ j m none. elim (append_member done (k ∷ []) j m) [ inl h ↦ b.keeps j (a.all j h none) | inr h ↦ b.all j h none ];
+  only = λ j h. elim (b.only j h) [ inl g ↦ a.only j g | inr met ↦ inr met ];
   listed = λ j h. elim (b.listed j h) [
     | inl g ↦ elim (a.listed j g) [ inl f ↦ inl f | inr m ↦ inr (b.stays j m) ]
     | inr m ↦ inr m
@@ -131,7 +137,7 @@ module _ (rules : List Rule) (n : ℕ) (users : List (List ℕ)) (u : AreUsers r
 
   pub tries_same : value costs r.fact ≤ cost_by costs r → Tries rules n k costs counts waits next costs counts (set waits k false) next
   tries_same above = record {
-    work = record { long = w.long; in_range = w.in_range; counted = w.counted; flags = length-set waits k false ∙ w.flags; known = w.known };
+    work = record { long = w.long; in_range = w.in_range; counted = w.counted; flags = length-set waits k false ∙ w.flags; lack_none = λ j h. w.lack_none j (unflagged j h).1; known = w.known };
     lowers = lowers_none rules costs w.in_range;
     lighter = omega arith;
     ready = λ rest a. record {
@@ -188,6 +194,13 @@ module _ (rules : List Rule) (n : ℕ) (users : List (List ℕ)) (u : AreUsers r
             in_range = fall.costs;
             counted = counted;
             flags = flags;
+            lack_none = λ j h. elim (f.only j h) [
+              | inl g ↦
+                  let x = w.lack_none j (unflagged j g).1 in
+                  let y = d.each j in
+                  omega (arith, x, y)
+              | inr met ↦ met
+            ];
             known = subst (λ m. are_below m next' ≡ true) was (f.below (subst (λ m. are_below m next ≡ true) (sym was) w.known));
           };
           lowers = fall;
@@ -279,6 +292,7 @@ module _ (rules : List Rule) (costs counts : List ℕ) (in_range : are_costs cos
     in_range = in_range;
     counted = counted;
     flags = a.long ∙ length-replicate (length rules) false;
+    lack_none = λ k h. elim (a.only k h) [ inl f ↦ absurd (none_flagged (length rules) k f) | inr met ↦ met ];
     known = subst (λ m. are_below m next ≡ true) (length-replicate (length rules) false) (a.below refl);
   }
 

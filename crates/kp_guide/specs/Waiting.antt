@@ -66,6 +66,10 @@ pub record AreCounts (rules : List Rule) (test : ℕ → Bool) (counts : List �
   pub long : length counts ≡ length rules
   pub each : (k : ℕ) (r : Rule) → slice_get rules k ≡ Some r → count_at counts k ≡ how_many test r.needs
 
+-- no rule is named more often than its count says
+pub record AreEnough (numbers counts : List ℕ) : Type 0 where
+  pub each : (k : ℕ) → times numbers k ≤ count_at counts k
+
 -- the counts of these rules fall, by one for each time that a rule is named
 pub record CountsDown (numbers : List ℕ) (old new : List ℕ) : Type 0 where
   pub long : length new ≡ length old
@@ -76,12 +80,13 @@ pub record CountsDown (numbers : List ℕ) (old new : List ℕ) : Type 0 where
 abbrev pub waits_at : List Bool → ℕ → Bool
 waits_at waits k = slice_index_or waits k false
 
--- more rules wait, those whose counts are none; and those that didn't are listed
+-- more rules wait, just those whose counts are none; and those that didn't are listed
 pub record Waits (counts : List ℕ) (more : List ℕ) (waits : List Bool) (next : List ℕ) (waits' : List Bool) (next' : List ℕ) : Type 0 where
   pub long : length waits' ≡ length waits
   pub below : are_below (length waits) next ≡ true → are_below (length waits) next' ≡ true
   pub keeps : (k : ℕ) → waits_at waits k ≡ true → waits_at waits' k ≡ true
   pub all : (k : ℕ) → Member more k → count_at counts k ≡ 0 → waits_at waits' k ≡ true
+  pub only : (k : ℕ) → waits_at waits' k ≡ true → (waits_at waits k ≡ true) ⊎ (count_at counts k ≡ 0)
   pub listed : (k : ℕ) → waits_at waits' k ≡ true → (waits_at waits k ≡ true) ⊎ Member next' k
   pub stays : (k : ℕ) → Member next k → Member next' k
 
@@ -90,12 +95,13 @@ pub record IsReady (rules : List Rule) (costs : List ℕ) (waits : List Bool) (l
   pub each : (k : ℕ) (r : Rule) → slice_get rules k ≡ Some r → (waits_at waits k ≡ true) ⊎ (value costs r.fact ≤ cost_by costs r)
   pub listed : (k : ℕ) → waits_at waits k ≡ true → Member list k
 
--- costs of n facts, counts and flags of the rules, and numbers of rules
+-- costs of n facts, counts and flags of the rules, of which none waits that lacks a need, and numbers of rules
 pub record IsWork (rules : List Rule) (n : ℕ) (costs counts : List ℕ) (waits : List Bool) (next : List ℕ) : Type 0 where
   pub long : length costs ≡ n
   pub in_range : are_costs costs ≡ true
   pub counted : AreCounts rules (unreached costs) counts
   pub flags : length waits ≡ length rules
+  pub lack_none : (k : ℕ) → waits_at waits k ≡ true → count_at counts k ≡ 0
   pub known : are_below (length rules) next ≡ true
 
 -- what falls with each round

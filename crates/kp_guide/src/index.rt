@@ -3,7 +3,7 @@ ghost use Rattle.std.specs.Prelude.{◌≡◌, ◌<◌, ◌+◌, true, length, I
 ghost use Rattle.std.specs.List.{list_all};
 ghost use Rattle.kp_classic.specs.Fits.{are_below};
 ghost use Rattle.kp_guide.specs.Tables.{fits_rule};
-ghost use Rattle.kp_guide.specs.Waiting.{AreCounts, AreUsers, CountsDown, Notes, needs_of, unreached, unreached_before};
+ghost use Rattle.kp_guide.specs.Waiting.{AreCounts, AreEnough, AreUsers, CountsDown, Notes, needs_of, unreached, unreached_before};
 
 use crate::Rule;
 use crate::costs::CAP;
@@ -49,11 +49,12 @@ fn users_of(alloc: Global, rules: &[Rule], facts: usize) -> Result<Vec<Row<usize
 /// Lowers the counts of some rules, by one for each time that a rule is named.
 #[tactic(auto, using(crate::proofs::Noting::counts_none, crate::proofs::Noting::counts_on))]
 pub(crate) fn count_down(numbers: &[usize], counts: &mut [usize])
-    requires { are_below (length counts.old) numbers.now ≡ true }
+    requires numbers { are_below (length counts.old) numbers.now ≡ true }
+    requires enough { AreEnough numbers.now counts.old }
     ensures { CountsDown numbers.now counts.old counts.new }
 {
     for number in numbers {
-        counts[*number] = counts[*number].saturating_sub(1);
+        counts[*number] -= 1;
     }
 }
 

@@ -5,7 +5,7 @@ ghost use Rattle.std.specs.List.{range_with_len};
 ghost use Rattle.kp_base.specs.Lists.{only_if};
 ghost use Rattle.kp_classic.specs.Fits.{are_below};
 ghost use Rattle.kp_guide.specs.Tables.{IsClosed, Lowers, Relaxes, are_costs, fits_rule};
-ghost use Rattle.kp_guide.specs.Waiting.{AreCounts, CountsDown, IsReady, IsWork, Rounds, Tries, Waits, unreached};
+ghost use Rattle.kp_guide.specs.Waiting.{AreCounts, AreEnough, CountsDown, IsReady, IsWork, Rounds, Tries, Waits, unreached};
 
 use crate::costs::{CAP, cost_of, join};
 use crate::index::count_down;
@@ -68,12 +68,32 @@ fn wait_all(
 // Lowers the counts of the rules that need a fact, where it is reached for the first time.
 #[tactic(auto, using(crate::proofs::Noting::counts_none))]
 fn count_first(first: bool, users: &[usize], counts: &mut [usize])
-    requires { are_below (length counts.old) users.now ≡ true }
+    requires users { are_below (length counts.old) users.now ≡ true }
+    requires enough { AreEnough (only_if first users.now) counts.old }
     ensures { CountsDown (only_if first users.now) counts.old counts.new }
 {
     if first {
         count_down(users, counts);
     }
+}
+
+// A fact's cost fell: counts and lets wait the rules that need it.
+fn tell(
+    first: bool,
+    users: &[usize],
+    counts: &mut [usize],
+    waits: &mut [bool],
+    next: &mut Vec<usize>,
+) -> Result<(), Memory>
+    requires users { are_below (length waits.old) users.now ≡ true }
+    requires counts { length counts.old ≡ length waits.old }
+    requires enough { AreEnough (only_if first users.now) counts.old }
+    ensures counted { OnOk result (CountsDown (only_if first users.now) counts.old counts.new) }
+    ensures waiting { OnOk result (Waits counts.new users.now waits.old next.old.items waits.new next.new.items) }
+{
+    count_first(first, users, counts);
+    wait_all(users, counts, waits, next)?;
+    Ok(())
 }
 
 // Tries a rule, which waits no more.
@@ -94,9 +114,13 @@ fn try_rule(
     waits[number] = false;
     let first = costs[rule.fact as usize] > CAP;
     if relax(rule, costs) {
-        let users = index.users[rule.fact as usize].slice();
-        count_first(first, users, counts);
-        wait_all(users, counts, waits, next)?;
+        tell(
+            first,
+            index.users[rule.fact as usize].slice(),
+            counts,
+            waits,
+            next,
+        )?;
     }
     Ok(())
 }
