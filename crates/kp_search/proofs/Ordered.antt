@@ -161,19 +161,13 @@ module _ (states : List FactSet) (order : List ℕ) (o : IsOrderOf order states)
   tells s (Ok at) b is h = (λ _. found at s h, λ _. subst IsTrue (sym is) refl)
   tells s (Err gap) b is h = (λ t. absurd (false≢true (sym is ∙ t)), λ m. absurd (not_found gap s h m))
 
--- states of one number of facts, and the first of them
-pub alike_first : (n : ℕ) (states : List FactSet) (k : ℕ) → AllByRecursion (λ (x : FactSet). x.facts ≡ n) states → AllByRecursion (λ (x : FactSet). x.facts ≡ n) (take k states)
-alike_first n states zero h = tt
-alike_first n [] (suc k) h = tt
-alike_first n (x ∷ xs) (suc k) h = (h.0, alike_first n xs k h.1)
-
--- and each that is read
+-- of states of one number of facts, each that is read
 pub alike_at : (n : ℕ) (states : List FactSet) (i : ℕ) (s : FactSet) → AllByRecursion (λ (x : FactSet). x.facts ≡ n) states → i < length states → s ≡ get_or states i s → s.facts ≡ n
 alike_at n [] i s h lt is = absurd (omega (arith, lt))
 alike_at n (x ∷ xs) zero s h lt is = ap (λ (y : FactSet). y.facts) is ∙ h.0
 alike_at n (x ∷ xs) (suc i) s h lt is = alike_at n xs i s h.1 (omega (arith, lt)) is
 
--- and with another in a row
+-- the same states, with another in a row
 alike_set : (n : ℕ) (states : List FactSet) (i : ℕ) (s : FactSet) → AllByRecursion (λ (x : FactSet). x.facts ≡ n) states → s.facts ≡ n → AllByRecursion (λ (x : FactSet). x.facts ≡ n) (set states i s)
 alike_set n [] i s h one = tt
 alike_set n (x ∷ xs) zero s h one = (one, h.1)

@@ -33,6 +33,7 @@ fn kept(alloc: Global, task: &Task, state: &State) -> Result<Option<u32>, Memory
 // Any estimator.
 fn ask<E: Estimator>(estimator: &E, task: &Task, state: &State) -> Result<Option<u32>, Memory>
     requires fits { IsFit task.now }
+    requires serves { E.serves estimator.now task.now }
     requires of_task { state.now.facts ≡ length task.now.facts }
     requires serves { E.serves estimator.now task.now }
     ensures { IfOk result (λ h. E.may_answer estimator.now task.now state.now h) }
