@@ -35,7 +35,6 @@ fn ask<E: Estimator>(estimator: &E, task: &Task, state: &State) -> Result<Option
     requires fits { IsFit task.now }
     requires serves { E.serves estimator.now task.now }
     requires of_task { state.now.facts ≡ length task.now.facts }
-    requires serves { E.serves estimator.now task.now }
     ensures { IfOk result (λ h. E.may_answer estimator.now task.now state.now h) }
 {
     let answer = estimator.estimate(task, state)?;
