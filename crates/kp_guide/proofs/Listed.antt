@@ -55,7 +55,6 @@ adders_on rules i r rows within is a = record {
     other : (f : ℕ) → (f ≡ r.fact → ⊥) → row new f ≡ row rows f
     other f ne = get_or-set_other rows r.fact f (row rows r.fact ++ i ∷ []) [] ne
 
-
     -- what stands in a row stood there, or is the new number in its fact's row
     rows_of : (f k : ℕ) → Member (row new f) k → Member (row rows f) k ⊎ ((f ≡ r.fact) × (k ≡ i))
     rows_of f k m = elim (cases_eq f r.fact) [

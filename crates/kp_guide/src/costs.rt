@@ -53,7 +53,11 @@ fn cost_at_first(state: &State, fact: u32) -> u32
 }
 
 /// What some facts cost at first.
-pub(crate) fn costs_at_first(alloc: Global, state: &State, facts: &[u32]) -> Result<Vec<u32>, Memory>
+pub(crate) fn costs_at_first(
+    alloc: Global,
+    state: &State,
+    facts: &[u32],
+) -> Result<Vec<u32>, Memory>
     requires { are_below state.now.facts facts.now ≡ true }
     ensures { IfOk result (λ costs. costs.items ≡ map (first_cost (has state.now.hold)) facts.now) }
 {

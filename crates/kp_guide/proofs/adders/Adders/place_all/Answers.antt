@@ -38,7 +38,7 @@ places-preserved c =
     let le = longer old new grows.more grows.grows in (
       grows_on all c.args.facts.now.keys old new [] rules rules_new c.places.invariant.0 grows,
       placed_on all p old new rules rules_new lt grows c.places.invariant.1
-      (λ r there is. let k = in_row all rows r self.listed there in c.in_ok-place_adders.ensures.has k.0 r (subst (λ f. Member (row rows f) k.0) (is ∙ sym fact) k.1) k.2),
+          (λ r there is. let k = in_row all rows r self.listed there in c.in_ok-place_adders.ensures.has k.0 r (subst (λ f. Member (row rows f) k.0) (is ∙ sym fact) k.1) k.2),
       grows.below (length rows) c.places.invariant.2 self.fit,
       omega (arith, lt, le),
     )
