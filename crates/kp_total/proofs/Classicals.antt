@@ -1,40 +1,41 @@
 -- What a run of `classical` ends with, and what that says of the files.
-use Rattle.std.proofs.Common.{◌≡◌, ℕ, false, List, [], ◌∷◌, Some, None, Vec, refl, sym, ◌∙◌, subst}
+use Rattle.std.proofs.Common.{◌≡◌, ℕ, List, [], ◌∷◌, Some, None, Vec, refl, sym, ◌∙◌, subst}
+use Rattle.std.specs.FinMap.{get}
 use Rattle.std.specs.declared.alloc.Global.{Global}
 use Rattle.std.proofs.lemmas.Bool.{false≢true}
+use Rattle.kp_base.specs.declared.refused.Refused.{Refused}
 use Rattle.kp_grammar.specs.declared.tree.Word.{Word}
 use Rattle.kp_grammar.specs.Trees.{Domain, Problem}
-use Rattle.kp_meaning.specs.Steps.{Step}
-use Rattle.kp_meaning.specs.Plans.{IsPlan}
-use Rattle.kp_classic.specs.declared.task.Task.{Task}
-use Rattle.kp_classic.specs.Steps.{start, succeeds}
-use Rattle.kp_search.specs.Ends.{HasMoreStates}
+use Rattle.kp_classic.specs.Fits.{IsFit}
 use Rattle.kp_search.specs.declared.found.Found.{Found}
 use Rattle.kp_search.specs.declared.found.Found.TheVariants.{Plan, NoPlan, Spent}
-use Rattle.kp_plans.specs.Printed.{plan_text}
 use Rattle.kp_given.specs.Translations.{ground_of}
+use Rattle.kp_given.proofs.Written.{grounds_written}
 use Rattle.kp_outside.specs.Outside.{FileMap}
 use Rattle.kp_outcome.specs.declared.outcome.Outcome.{Outcome}
 use Rattle.kp_outcome.specs.declared.status.Status.{Status}
 use Rattle.kp_outcome.specs.declared.status.Status.TheVariants as status
-use Rattle.kp_outcome.specs.Ends.{Outside, IsAnswer}
+use Rattle.kp_outcome.specs.Ends.{Outside, AreHeld, IsAnswer}
 use Rattle.kp_words.specs.Names.{Classical}
+use Rattle.kp_words.specs.declared.command.Command.{Command}
 use Rattle.kp_words.specs.declared.command.Command.TheVariants as commands
-use Rattle.kp_words.specs.Command.{IsClassical as SaysClassical}
-use Rattle.kp_classical.specs.Classical.{later, task_of}
-use Rattle.kp_classical.proofs.Plans.{have_names, are_plans, are_successes}
-use Rattle.kp_printed.specs.Searches.{no_plan_line, spent_text}
-use Rattle.kp_solving.specs.Solving.{Finds, solves, finds_none, spends, SolvesClassical}
-use Rattle.kp_search.proofs.ByAdded.{some_end_by_added}
+use Rattle.kp_words.specs.Command.{IsClassical as SaysClassical, inputs_of}
+use Rattle.kp_words.proofs.OneCommand.{one_command}
+use Rattle.kp_classical.specs.Classical.{by_texts, by_trees, early, later, task_of}
+use Rattle.kp_classical.proofs.Plans.{are_plans, are_successes}
+use Rattle.kp_printed.specs.Refusals.{nothing}
+use Rattle.kp_printed.specs.Searches.{no_plan_line}
+use Rattle.kp_solving.specs.Solving.{Finds, solves, finds_none, spends, TellsClassical, SolvesClassical}
 use Rattle.kp_solving.proofs.Searches.{ends_true}
-use Rattle.kp_run.specs.Outcomes.{searched, IsDue, of_command}
+use Rattle.kp_run.specs.Outcomes.{ClassicalTexts, ComesTo, translated, merged, stripped, checked, lifted, solved, searched, IsDue, usage, of_command}
 use Rattle.kp_run.specs.Ends.{Ends}
-use Rattle.kp_total.specs.Commands.{Tells}
+use Rattle.kp_run.proofs.Soundness.{problem_of}
 use Rattle.kp_total.specs.Follows.{IsAnsweredBy}
-use Rattle.kp_total.specs.Solving.{IsHeldClassical, ClassicalsAreAnswered, ClassicalIsAPlan, NoClassicalPlanIsTrue, ClassicalSpentIsTrue}
-use Rattle.kp_total.proofs.Following.{ends_with}
+use Rattle.kp_total.specs.Solving.{IsHeldClassical, IsPosedClassical, IsSolvedClassical, HasNoClassicalPlan, IsSpentClassical, ClassicalsAreAnswered, ClassicalIsAPlan, NoClassicalPlanIsTrue, ClassicalSpentIsTrue}
+use Rattle.kp_total.proofs.Following.{answers_are_whole, ends_with}
 use Rattle.kp_total.proofs.SomeSearch.{classical_fit}
-use Rattle.kp_total.proofs.OfCommands.{answered_by}
+use Rattle.kp_total.proofs.PlanLines.{actions_read}
+use Rattle.kp_total.proofs.Posed.{IsNoRefusal, not_refused}
 
 classical_due : (words : List (Vec ℕ Global)) (m : FileMap) (c : Classical) (d : Domain Word) (p : Problem Word) (o : Outcome) → SaysClassical words c → IsHeldClassical m c.domain c.problem d p → SolvesClassical c.budget (ground_of d p) (task_of d p) o → IsDue words (Some m) o
 classical_due words m c d p o is g does = of_command (commands.Classical c) (g.domain ∷ g.problem ∷ []) o is (rw (g.domain_held, g.problem_held) refl) (searched c g.domain g.problem o (later d p g.trees g.classical does))
@@ -42,58 +43,119 @@ classical_due words m c d p o is g does = of_command (commands.Classical c) (g.d
 pub classicals_are_answered : ClassicalsAreAnswered
 classicals_are_answered words old new s ends m c d p o held is g does = ends_with words old new s ends m o held (classical_due words m c d p o is g does)
 
--- how such a run is answered: by a plan, by none, or by a spent budget
-data Answered (task : Task) (domain problem : List ℕ) (budget : ℕ) (old new : Outside) (s : Status) : Type 0 where
-  by_plan : (plan : List Step) → IsPlan domain problem plan → IsAnsweredBy (solves None plan plan) old new s → Answered task domain problem budget old new s
-  by_none : ((ops : List ℕ) → succeeds task (start task) ops ≡ false) → IsAnsweredBy (finds_none no_plan_line) old new s → Answered task domain problem budget old new s
-  by_spent : HasMoreStates task budget → IsAnsweredBy (spends budget) old new s → Answered task domain problem budget old new s
+-- ---- what such a run came to
 
-module _ (words : List (Vec ℕ Global)) (old new : Outside) (s : Status) (ends : Ends words old new s) (m : FileMap) (c : Classical) (d : Domain Word) (p : Problem Word)
-    (held : old.held ≡ Some m) (is : SaysClassical words c) (g : IsHeldClassical m c.domain c.problem d p) where
-  answered : IsAnswer s → Answered (task_of d p) g.domain g.problem c.budget old new s
-  answered answer = let end = some_end_by_added (task_of d p) c.budget (classical_fit d p g.classical) in by end.0 end.1
-    where
-      by : (found : Found) → Finds (task_of d p) c.budget found → Answered (task_of d p) g.domain g.problem c.budget old new s
-      by (Plan ops n) finds =
-          let succeed = (ends_true (task_of d p) c.budget (Plan ops n) (classical_fit d p g.classical) finds).1 in
-          let names = have_names d p ops succeed in
-          by_plan names.0 ((are_plans g.domain g.problem d p g.trees g.classical ops names.0 names.1).0 succeed)
-          (answered_by words old new s ends m _ held (classical_due words m c d p _ is g (record { found = Plan ops n; finds = finds; tells = (names.0, names.1, refl) })) answer)
-      by NoPlan finds =
-          by_none (ends_true (task_of d p) c.budget NoPlan (classical_fit d p g.classical) finds)
-          (answered_by words old new s ends m _ held (classical_due words m c d p _ is g (record { found = NoPlan; finds = finds; tells = refl })) answer)
-      by (Spent n) finds =
-          by_spent (ends_true (task_of d p) c.budget (Spent n) (classical_fit d p g.classical) finds) (subst (λ k. IsAnsweredBy (spends k) old new s) finds.expanded_are (answered_by words old new s ends m _ held (classical_due words m c d p _ is g (record { found = Spent n; finds = finds; tells = refl })) answer))
+-- what it was about, and what its search found
+record HasSearched (m : FileMap) (c : Classical) (o : Outcome) : Type 0 where
+  posed : IsPosedClassical m c
+  found : Found
+  finds : Finds (task_of posed.domain_tree posed.problem_tree) c.budget found
+  tells : TellsClassical (ground_of posed.domain_tree posed.problem_tree) found o
 
-  pub is_solved : s ≡ status.Done → (plan : List Step) × IsPlan g.domain g.problem plan × Tells old new (plan_text plan)
-  is_solved done = by (answered (subst IsAnswer (sym done) tt))
-    where
-      by : Answered (task_of d p) g.domain g.problem c.budget old new s → (plan : List Step) × IsPlan g.domain g.problem plan × Tells old new (plan_text plan)
-      by (by_plan plan is_plan a) = (plan, is_plan, a.text_is)
-      by (by_none none a) = absurd (let not_done = sym a.status_is ∙ done in cc)
-      by (by_spent more a) = absurd (let not_done = sym a.status_is ∙ done in cc)
+of_texts : (m : FileMap) (c : Classical) (domain problem : List ℕ) → get m c.domain ≡ Some domain → get m c.problem ≡ Some problem → (o : Outcome) → IsNoRefusal o → ClassicalTexts c domain problem o → HasSearched m c o
+of_texts m c domain problem domain_held problem_held o answers (early (by_texts r why is)) = absurd (not_refused o nothing r is answers)
+of_texts m c domain problem domain_held problem_held o answers (early (by_trees d p r trees why is)) = absurd (not_refused o nothing r is answers)
+of_texts m c domain problem domain_held problem_held o answers (later d p trees classical goes) = record {
+  posed = record {
+    domain_tree = d;
+    problem_tree = p;
+    given = record { domain = domain; problem = problem; domain_held = domain_held; problem_held = problem_held; trees = trees; classical = classical };
+  };
+  found = goes.found;
+  finds = goes.finds;
+  tells = goes.tells;
+}
 
-  pub has_none : s ≡ status.Negative → (steps : List Step) → IsPlan g.domain g.problem steps → ⊥
-  has_none negative steps plan = by (answered (subst IsAnswer (sym negative) tt))
-    where
-      by : Answered (task_of d p) g.domain g.problem c.budget old new s → ⊥
-      by (by_plan other is_plan a) = absurd (let not_no = sym a.status_is ∙ negative in cc)
-      by (by_none none a) = let run = are_successes g.domain g.problem d p g.trees g.classical steps plan in false≢true (sym (none run.0) ∙ run.2)
-      by (by_spent more a) = absurd (let not_no = sym a.status_is ∙ negative in cc)
+has_searched : (words : List (Vec ℕ Global)) (m : FileMap) (c : Classical) (o : Outcome) → SaysClassical words c → IsDue words (Some m) o → IsNoRefusal o → HasSearched m c o
+has_searched words m c _ is (usage none) answers = absurd (none (commands.Classical c) is)
+has_searched words m c o is (of_command e texts _ so held comes) answers = by e texts (one_command words (commands.Classical c) e is so) held comes
+  where
+    by : (e : Command) (texts : List (List ℕ)) → commands.Classical c ≡ e → AreHeld (Some m) (inputs_of e) texts → ComesTo e texts o → HasSearched m c o
+    by _ _ same held (translated d x y merges _ a) = absurd cc
+    by _ _ same held (merged d x y _ a) = absurd cc
+    by _ _ same held (stripped d x _ a) = absurd cc
+    by _ _ same held (checked d x y plan _ a) = absurd cc
+    by _ _ same held (lifted d x y merges plan _ a) = absurd cc
+    by _ _ same held (solved d x y merges _ a) = absurd cc
+    by _ _ same held (searched d x y _ a) =
+        let it : d ≡ c = cc in
+        let there = subst (λ z. AreHeld (Some m) (inputs_of (commands.Classical z)) (x ∷ y ∷ [])) it held in
+        of_texts m c x y (cc there) (cc there) o answers (subst (λ z. ClassicalTexts z x y o) it a)
 
-  pub is_spent : s ≡ status.Spent → Tells old new (spent_text c.budget) × HasMoreStates (task_of d p) c.budget
-  is_spent spent = by (answered (subst IsAnswer (sym spent) tt))
+-- ---- what its answer says
+
+module _ (m : FileMap) (c : Classical) (o : Outcome) (x : HasSearched m c o) (old new : Outside) (s : Status) (a : IsAnsweredBy o old new s) where
+  abbrev d : Domain Word
+  d = x.posed.domain_tree
+
+  abbrev p : Problem Word
+  p = x.posed.problem_tree
+
+  abbrev g : IsHeldClassical m c.domain c.problem d p
+  g = x.posed.given
+
+  fit : IsFit (task_of d p)
+  fit = classical_fit d p g.classical
+
+  answered : (u : Outcome) → o ≡ u → IsAnsweredBy u old new s
+  answered u is = subst (λ z. IsAnsweredBy z old new s) is a
+
+  is_solved : s ≡ status.Done → IsSolvedClassical m c old new
+  is_solved done = by x.found x.finds x.tells
     where
-      by : Answered (task_of d p) g.domain g.problem c.budget old new s → Tells old new (spent_text c.budget) × HasMoreStates (task_of d p) c.budget
-      by (by_plan plan is_plan a) = absurd (let not_spent = sym a.status_is ∙ spent in cc)
-      by (by_none none a) = absurd (let not_spent = sym a.status_is ∙ spent in cc)
-      by (by_spent more a) = (a.text_is, more)
+      by : (found : Found) → Finds (task_of d p) c.budget found → TellsClassical (ground_of d p) found o → IsSolvedClassical m c old new
+      by (Plan ops n) finds (plan, named, is) =
+          let b = answered (solves None plan plan) is in
+          let succeed = (ends_true (task_of d p) c.budget (Plan ops n) fit finds).1 in
+          record { posed = x.posed; plan = plan; is_plan = (are_plans g.domain g.problem d p g.trees g.classical ops plan named).0 succeed; told = b.text_is; told_reads = actions_read (ground_of d p) (grounds_written g.domain g.problem (problem_of g.domain g.problem d p g.trees)) ops plan named; put = b.puts_are }
+      by NoPlan finds is = absurd (let b = answered (finds_none no_plan_line) is in let not_done = sym b.status_is ∙ done in cc)
+      by (Spent n) finds is = absurd (let b = answered (spends n) is in let not_done = sym b.status_is ∙ done in cc)
+
+  has_none : s ≡ status.Negative → HasNoClassicalPlan m c old new
+  has_none negative = by x.found x.finds x.tells
+    where
+      by : (found : Found) → Finds (task_of d p) c.budget found → TellsClassical (ground_of d p) found o → HasNoClassicalPlan m c old new
+      by (Plan ops n) finds (plan, named, is) = absurd (let b = answered (solves None plan plan) is in let not_no = sym b.status_is ∙ negative in cc)
+      by NoPlan finds is =
+          let b = answered (finds_none no_plan_line) is in
+          let none = ends_true (task_of d p) c.budget NoPlan fit finds in
+          record {
+            posed = x.posed;
+            none = λ steps plan. let run = are_successes g.domain g.problem d p g.trees g.classical steps plan in false≢true (sym (none run.0) ∙ run.2);
+            told = b.text_is;
+            put = b.puts_are;
+          }
+      by (Spent n) finds is = absurd (let b = answered (spends n) is in let not_no = sym b.status_is ∙ negative in cc)
+
+  is_spent : s ≡ status.Spent → IsSpentClassical m c old new
+  is_spent spent = by x.found x.finds x.tells
+    where
+      by : (found : Found) → Finds (task_of d p) c.budget found → TellsClassical (ground_of d p) found o → IsSpentClassical m c old new
+      by (Plan ops n) finds (plan, named, is) = absurd (let b = answered (solves None plan plan) is in let not_spent = sym b.status_is ∙ spent in cc)
+      by NoPlan finds is = absurd (let b = answered (finds_none no_plan_line) is in let not_spent = sym b.status_is ∙ spent in cc)
+      by (Spent n) finds is =
+          let b = subst (λ k. IsAnsweredBy (spends k) old new s) finds.expanded_are (answered (spends n) is) in
+          record { posed = x.posed; ended = subst (λ k. Finds (task_of d p) c.budget (Spent k)) finds.expanded_are finds; more = ends_true (task_of d p) c.budget (Spent n) fit finds; told = b.text_is; put = b.puts_are }
+
+-- ---- the laws
+
+-- what an answer comes of
+of_answer : (words : List (Vec ℕ Global)) (old new : Outside) (s : Status) → Ends words old new s → (m : FileMap) (c : Classical) → old.held ≡ Some m → SaysClassical words c → IsAnswer s → ((r : Refused) → s ≡ status.Refused r → ⊥) → (o : Outcome) × HasSearched m c o × IsAnsweredBy o old new s
+of_answer words old new s ends m c held is answer other =
+    let w = answers_are_whole words old new s ends answer in
+    (w.outcome, has_searched words m c w.outcome is (subst (λ h. IsDue words h w.outcome) held w.due) (λ r e. other r (w.answered.status_is ∙ e)), w.answered)
 
 pub classical_is_a_plan : ClassicalIsAPlan
-classical_is_a_plan words old new s ends m c d p held is g done = is_solved words old new s ends m c d p held is g done
+classical_is_a_plan words old new s ends m c held is done =
+    let x = of_answer words old new s ends m c held is (subst IsAnswer (sym done) tt) (λ r e. absurd (let f = sym done ∙ e in cc)) in
+    is_solved m c x.0 x.1 old new s x.2 done
 
 pub no_classical_plan_is_true : NoClassicalPlanIsTrue
-no_classical_plan_is_true words old new s ends m c d p held is g negative = has_none words old new s ends m c d p held is g negative
+no_classical_plan_is_true words old new s ends m c held is negative =
+    let x = of_answer words old new s ends m c held is (subst IsAnswer (sym negative) tt) (λ r e. absurd (let f = sym negative ∙ e in cc)) in
+    has_none m c x.0 x.1 old new s x.2 negative
 
 pub classical_spent_is_true : ClassicalSpentIsTrue
-classical_spent_is_true words old new s ends m c d p held is g spent = is_spent words old new s ends m c d p held is g spent
+classical_spent_is_true words old new s ends m c held is spent =
+    let x = of_answer words old new s ends m c held is (subst IsAnswer (sym spent) tt) (λ r e. absurd (let f = sym spent ∙ e in cc)) in
+    is_spent m c x.0 x.1 old new s x.2 spent

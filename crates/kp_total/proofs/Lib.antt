@@ -11,5 +11,11 @@ pub mod ExampleLifts
 pub mod OfCommands
 pub mod Fitting
 pub mod SomeSearch
+pub mod PlanLines
+pub mod Posed
 pub mod Solvings
 pub mod Classicals
+pub mod ExampleCourses
+pub mod ExampleFiles
+pub mod ExampleSolvings
+pub mod ExampleClassicals

@@ -24,6 +24,7 @@ pub use laws::{
     words_have_some_outcome, yes_is_a_plan,
 };
 pub use solving::{
-    classical_is_a_plan, classicals_are_answered, no_classical_plan_is_true, no_plan_is_true,
-    solved_is_a_plan, solvings_are_answered, spent_is_true,
+    classical_is_a_plan, classical_posed_once, classical_spent_is_true, classicals_are_answered,
+    no_classical_plan_is_true, no_plan_is_true, posed_once, solved_is_a_plan,
+    solvings_are_answered, spent_is_true,
 };

@@ -1,10 +1,15 @@
 //! What runs of `solve` and `classical` end with, each proved as the contract of a function that does nothing.
 
-ghost use Rattle.kp_total.specs.Solving.{ClassicalIsAPlan, ClassicalSpentIsTrue, ClassicalsAreAnswered, NoClassicalPlanIsTrue, NoPlanIsTrue, SolvedIsAPlan, SolvingsAreAnswered, SpentIsTrue};
+ghost use Rattle.kp_total.specs.Solving.{ClassicalIsAPlan, ClassicalPosedOnce, ClassicalSpentIsTrue, ClassicalsAreAnswered, NoClassicalPlanIsTrue, NoPlanIsTrue, PosedOnce, SolvedIsAPlan, SolvingsAreAnswered, SpentIsTrue};
 
 /// A call to solve ends with what its search comes to.
 pub fn solvings_are_answered()
     ensures { SolvingsAreAnswered }
+{}
+
+/// A call to solve is about one pair of trees and one table.
+pub fn posed_once()
+    ensures { PosedOnce }
 {}
 
 /// With Done it told a plan of the given files, and put a plan of the written ones if a name was given for it.
@@ -25,6 +30,11 @@ pub fn spent_is_true()
 /// A call to solve classical files ends with what its search comes to.
 pub fn classicals_are_answered()
     ensures { ClassicalsAreAnswered }
+{}
+
+/// It is about one pair of trees.
+pub fn classical_posed_once()
+    ensures { ClassicalPosedOnce }
 {}
 
 /// With Done it told a plan of them.

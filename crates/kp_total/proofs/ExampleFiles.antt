@@ -1,0 +1,201 @@
+-- Three pairs of files, computed: from p to q; from p to both, which nothing does; and from nothing to q, which takes two turns.
+use Rattle.std.proofs.Common.{◌≡◌, ◌≤◌, ℕ, true, false, List, [], ◌∷◌, length, codes, inl, inr, refl, sym, ap, ◌∙◌, subst, arith}
+use Rattle.std.proofs.lemmas.Bool.{false≢true}
+use Rattle.kp_base.specs.declared.limits.Limits.{Limits}
+use Rattle.kp_base.specs.declared.lit.Lit.{Lit}
+use Rattle.kp_base.specs.declared.ground.Action.{Action}
+use Rattle.kp_base.specs.declared.ground.Effect.{Effect}
+use Rattle.kp_base.specs.Lists.{Member}
+use Rattle.kp_base.specs.Lit.{positive, negative}
+use Rattle.kp_base.specs.Steps.{State, is_model}
+use Rattle.kp_base.specs.Clashes.{Pairs, Clashes}
+use Rattle.kp_base.specs.Exclusive.{IsClashFree}
+use Rattle.kp_base.proofs.Lists.{member_at}
+use Rattle.kp_lex.specs.Bytes.{class_of}
+use Rattle.kp_lex.specs.Scanning.{cut_from}
+use Rattle.kp_grammar.specs.Symbols.{symbol_of}
+use Rattle.kp_grammar.specs.Parsing.{some_at, next_at}
+use Rattle.kp_grammar.specs.declared.tree.Word.{Word}
+use Rattle.kp_grammar.specs.Trees.{Cond, conds_of, Eff, effs_of, Item, Schema, Domain, Problem}
+use Rattle.kp_grammar.specs.Grammar as grammar
+use Rattle.kp_grammar.proofs.ExampleTexts.{word_at, atom_at, pred_at, exchange, exchange_tree, from_p_to_q, from_p_to_q_tree}
+use Rattle.kp_meaning.specs.Numbered.{Lifted}
+use Rattle.kp_meaning.specs.Numbering.{numbered_problem}
+use Rattle.kp_meaning.proofs.Texts.{tokens}
+use Rattle.kp_grounding.specs.Ground.{kept_instances, ground_atoms}
+use Rattle.kp_grounding.specs.Ground as by_number
+use Rattle.kp_grounding.specs.Weights.{binding_count, total_weight}
+use Rattle.kp_ground.specs.Grounded.{IsGrounded}
+use Rattle.kp_tree.specs.Files.{Reads}
+use Rattle.kp_decided.proofs.Clashing.{clash_or_none}
+use Rattle.kp_given.specs.Translations.{ground_of, initial_of}
+use Rattle.kp_given.proofs.Starts.{formulas_over_atoms}
+use Rattle.kp_prepared.specs.Texts.{HaveTrees}
+use Rattle.kp_prepared.specs.Prepared.{usual, IsPrepared}
+use Rattle.kp_classical.specs.Classical.{classical, IsClassical}
+use Rattle.kp_run.proofs.Computed.{reads_file}
+use Rattle.kp_run.proofs.ExampleOutcomes.{domain_reads, problem_reads, only_p, has_state, few_primes}
+
+-- ---- no clash
+
+-- where no action clashes by whichever pairs, none does
+never_clashing : (d : Domain Word) (p : Problem Word) → ((pairs : Pairs) (a : Action) (atom k j : ℕ) → Member (ground_of d p).actions a → Clashes pairs a atom k j → ⊥) → IsClashFree (ground_of d p) (initial_of d p)
+never_clashing d p never = elim (clash_or_none (ground_of d p) (initial_of d p) (formulas_over_atoms d p)) [
+  | inl first ↦ absurd (let x = first.1.first.clash in never first.1.pairs x.action first.0.atom.0 first.0.add first.0.delete (member_at (ground_of d p).actions first.0.action x.action x.action_at) x.clashes)
+  | inr free ↦ free
+]
+
+-- ---- limits
+
+-- few of each
+within : (l : Lifted) (m : Limits) (weight atoms : ℕ) → 1 ≤ m.bindings → 1 ≤ m.actions → weight ≤ m.weight → atoms ≤ m.atoms → binding_count l ≡ 1 → length (kept_instances l) ≡ 1 → total_weight l ≡ weight → length (ground_atoms l) ≡ atoms → IsGrounded l m (by_number.ground_of l)
+within l m weight atoms a b c d e f g h = record { counts = record { bindings = omega (arith, a, e); actions = omega (arith, b, f); weight = omega (arith, c, g) }; atoms = omega (arith, d, h); ground = refl }
+
+-- ---- one action that exchanges p for q
+
+abbrev swap : Action
+swap = record { name = record { head = codes "a"; objects = [] }; pre = positive 0 ∷ []; effects = record { cond = []; result = positive 1 } ∷ record { cond = []; result = negative 0 } ∷ [] }
+
+-- it adds q, and deletes p
+swap_free : (pairs : Pairs) (a : Action) (atom k j : ℕ) → Member (swap ∷ []) a → Clashes pairs a atom k j → ⊥
+swap_free pairs a atom k j (inr none) c = absurd none
+swap_free pairs a atom k j (inl same) c = apart (subst (λ (x : Action). Clashes pairs x atom k j) (sym same) c)
+  where
+    adds : (e : Effect) → Member swap.effects e → e.result ≡ positive atom → 1 ≡ atom
+    adds e (inl m) is = ap (λ (l : Lit). l.atom.0) (ap (λ (x : Effect). x.result) m ∙ is)
+    adds e (inr (inl m)) is = absurd (false≢true (ap (λ (l : Lit). l.positive) (ap (λ (x : Effect). x.result) m ∙ is)))
+    adds e (inr (inr none)) is = absurd none
+
+    deletes : (e : Effect) → Member swap.effects e → e.result ≡ negative atom → 0 ≡ atom
+    deletes e (inl m) is = absurd (false≢true (sym (ap (λ (l : Lit). l.positive) (ap (λ (x : Effect). x.result) m ∙ is))))
+    deletes e (inr (inl m)) is = ap (λ (l : Lit). l.atom.0) (ap (λ (x : Effect). x.result) m ∙ is)
+    deletes e (inr (inr none)) is = absurd none
+
+    apart : Clashes pairs swap atom k j → ⊥
+    apart x =
+        let one = adds x.adding (member_at swap.effects k x.adding x.add_at) x.adds in
+        let zero_ = deletes x.deleting (member_at swap.effects j x.deleting x.delete_at) x.deletes in
+        omega (arith, one, zero_)
+
+-- ---- from p to q
+
+pub trees : HaveTrees exchange from_p_to_q exchange_tree from_p_to_q_tree
+trees = record { domain_reads = domain_reads; problem_reads = problem_reads; no_fault = record { domain = refl; problem = refl } }
+
+only_p_is : is_model (initial_of exchange_tree from_p_to_q_tree) only_p ≡ true
+unfolding only_p
+only_p_is = refl
+
+pub prepared : IsPrepared 20000 exchange_tree from_p_to_q_tree
+prepared = record {
+  started = record {
+    small = within (numbered_problem exchange_tree from_p_to_q_tree) usual 3 2 (omega arith) (omega arith) (omega arith) (omega arith) refl refl refl refl;
+    counted = few_primes (initial_of exchange_tree from_p_to_q_tree) (positive 0) refl (omega arith);
+    initial = has_state exchange_tree from_p_to_q_tree trees.no_fault only_p only_p_is;
+  };
+  clash_free = never_clashing exchange_tree from_p_to_q_tree swap_free;
+}
+
+pub is_classical : IsClassical exchange_tree from_p_to_q_tree
+is_classical = record { certain = refl; small = within (numbered_problem exchange_tree from_p_to_q_tree) classical 3 2 (omega arith) (omega arith) (omega arith) (omega arith) refl refl refl refl; initial = prepared.started.initial }
+
+-- ---- from p to both
+
+abbrev pub to_both : List ℕ
+to_both = codes "(define (problem e) (:domain d) (:init (p)) (:goal (and (p) (q))))\n"
+
+abbrev pub to_both_tree : Problem Word
+to_both_tree = record { objects = []; init = Item.fact true (atom_at (codes "p") 40) ∷ []; goal = Cond.all (conds_of (Cond.atom true (atom_at (codes "p") 57) ∷ Cond.atom true (atom_at (codes "q") 61) ∷ [])) }
+
+to_both_reads : Reads grammar.problem to_both to_both_tree
+unfolding cut_from class_of symbol_of some_at next_at
+to_both_reads = reads_file grammar.problem to_both (tokens to_both) to_both_tree (omega arith) refl refl refl
+
+pub both_trees : HaveTrees exchange to_both exchange_tree to_both_tree
+both_trees = record { domain_reads = domain_reads; problem_reads = to_both_reads; no_fault = record { domain = refl; problem = refl } }
+
+both_start : is_model (initial_of exchange_tree to_both_tree) only_p ≡ true
+unfolding only_p
+both_start = refl
+
+pub both_prepared : IsPrepared 20000 exchange_tree to_both_tree
+both_prepared = record {
+  started = record {
+    small = within (numbered_problem exchange_tree to_both_tree) usual 3 2 (omega arith) (omega arith) (omega arith) (omega arith) refl refl refl refl;
+    counted = few_primes (initial_of exchange_tree to_both_tree) (positive 0) refl (omega arith);
+    initial = has_state exchange_tree to_both_tree both_trees.no_fault only_p both_start;
+  };
+  clash_free = never_clashing exchange_tree to_both_tree swap_free;
+}
+
+pub both_classical : IsClassical exchange_tree to_both_tree
+both_classical = record { certain = refl; small = within (numbered_problem exchange_tree to_both_tree) classical 3 2 (omega arith) (omega arith) (omega arith) (omega arith) refl refl refl refl; initial = both_prepared.started.initial }
+
+-- ---- p comes, and where p holds q comes
+
+abbrev pub chain : List ℕ
+chain = codes "(define (domain d) (:predicates (p) (q)) (:action a :effect (and (p) (when (p) (q)))))\n"
+
+abbrev chain_schema : Schema Word
+chain_schema = record {
+  name = word_at (codes "a") 50;
+  params = [];
+  pre = Cond.all (conds_of []);
+  effect = Eff.both (effs_of (Eff.makes true (atom_at (codes "p") 66) ∷ Eff.when (Cond.atom true (atom_at (codes "p") 76)) (Eff.makes true (atom_at (codes "q") 80)) ∷ []));
+}
+
+abbrev pub chain_tree : Domain Word
+chain_tree = record { kinds = []; constants = []; predicates = pred_at (codes "p") 33 ∷ pred_at (codes "q") 37 ∷ []; schemas = chain_schema ∷ [] }
+
+chain_reads : Reads grammar.domain chain chain_tree
+unfolding cut_from class_of symbol_of some_at next_at
+chain_reads = reads_file grammar.domain chain (tokens chain) chain_tree (omega arith) refl refl refl
+
+abbrev pub to_q : List ℕ
+to_q = codes "(define (problem e) (:domain d) (:init (not (p))) (:goal (q)))\n"
+
+abbrev pub to_q_tree : Problem Word
+to_q_tree = record { objects = []; init = Item.fact false (atom_at (codes "p") 45) ∷ []; goal = Cond.atom true (atom_at (codes "q") 58) }
+
+to_q_reads : Reads grammar.problem to_q to_q_tree
+unfolding cut_from class_of symbol_of some_at next_at
+to_q_reads = reads_file grammar.problem to_q (tokens to_q) to_q_tree (omega arith) refl refl refl
+
+pub chain_trees : HaveTrees chain to_q chain_tree to_q_tree
+chain_trees = record { domain_reads = chain_reads; problem_reads = to_q_reads; no_fault = record { domain = refl; problem = refl } }
+
+abbrev turn : Action
+turn = record { name = record { head = codes "a"; objects = [] }; pre = []; effects = record { cond = []; result = positive 0 } ∷ record { cond = positive 0 ∷ []; result = positive 1 } ∷ [] }
+
+-- it deletes nothing
+turn_free : (pairs : Pairs) (a : Action) (atom k j : ℕ) → Member (turn ∷ []) a → Clashes pairs a atom k j → ⊥
+turn_free pairs a atom k j (inr none) c = absurd none
+turn_free pairs a atom k j (inl same) c = by (subst (λ (x : Action). Clashes pairs x atom k j) (sym same) c)
+  where
+    adds : (e : Effect) → Member turn.effects e → e.result ≡ negative atom → ⊥
+    adds e (inl m) is = false≢true (sym (ap (λ (l : Lit). l.positive) (ap (λ (x : Effect). x.result) m ∙ is)))
+    adds e (inr (inl m)) is = false≢true (sym (ap (λ (l : Lit). l.positive) (ap (λ (x : Effect). x.result) m ∙ is)))
+    adds e (inr (inr none)) is = absurd none
+
+    by : Clashes pairs turn atom k j → ⊥
+    by x = adds x.deleting (member_at turn.effects j x.deleting x.delete_at) x.deletes
+
+unfoldable no_atom : State
+no_atom n = false
+
+chain_start : is_model (initial_of chain_tree to_q_tree) no_atom ≡ true
+unfolding no_atom
+chain_start = refl
+
+pub chain_prepared : IsPrepared 20000 chain_tree to_q_tree
+chain_prepared = record {
+  started = record {
+    small = within (numbered_problem chain_tree to_q_tree) usual 3 2 (omega arith) (omega arith) (omega arith) (omega arith) refl refl refl refl;
+    counted = few_primes (initial_of chain_tree to_q_tree) (negative 0) refl (omega arith);
+    initial = has_state chain_tree to_q_tree chain_trees.no_fault no_atom chain_start;
+  };
+  clash_free = never_clashing chain_tree to_q_tree turn_free;
+}
+
+pub chain_classical : IsClassical chain_tree to_q_tree
+chain_classical = record { certain = refl; small = within (numbered_problem chain_tree to_q_tree) classical 3 2 (omega arith) (omega arith) (omega arith) (omega arith) refl refl refl refl; initial = chain_prepared.started.initial }

@@ -1,0 +1,254 @@
+-- Calls to solve that end with a plan, with none, and with a spent budget: the premises of what is said of such runs are met, from the bytes on.
+use Rattle.std.proofs.Common.{◌≡◌, ◌≢◌, ℕ, false, List, [], ◌∷◌, Option, Some, None, Vec, codes, inl, inr, refl, sym, ap, ◌∙◌, arith}
+use Rattle.std.proofs.lemmas.Bool.{false≢true}
+use Rattle.std.specs.FinMap.{empty, get, insert}
+use Rattle.std.specs.Fmt.{digits}
+use Rattle.std.specs.declared.alloc.Global.{Global}
+use lib.Utf8.{encode}
+use Rattle.kp_base.proofs.Lists.{same-refl}
+use Rattle.kp_base.specs.declared.limits.Mode.TheVariants as modes
+use Rattle.kp_base.specs.Lists.{Member}
+use Rattle.kp_base.specs.Machine.{MachineStep}
+use Rattle.kp_grammar.specs.declared.tree.Word.{Word}
+use Rattle.kp_grammar.specs.Trees.{Domain, Problem}
+use Rattle.kp_grammar.proofs.ExampleTexts.{exchange, exchange_tree, from_p_to_q, from_p_to_q_tree}
+use Rattle.kp_meaning.specs.Names.{same}
+use Rattle.kp_meaning.specs.Steps.{Step}
+use Rattle.kp_classic.specs.declared.task.Task.{Task}
+use Rattle.kp_classic.specs.Fits.{IsFit}
+use Rattle.kp_classic.specs.States.{FactSet, has}
+use Rattle.kp_guide.specs.declared.rule.Rule.{Rule}
+use Rattle.kp_guide.specs.Added.{rules_of, goal_of, Costs}
+use Rattle.kp_guide.specs.Added.Costs.{none, given, by_rule}
+use Rattle.kp_search.specs.declared.found.Found.{Found}
+use Rattle.kp_search.specs.declared.found.Found.TheVariants.{Plan, NoPlan, Spent}
+use Rattle.kp_search.specs.Trace.{first, step}
+use Rattle.kp_task.specs.Task.{task_of}
+use Rattle.kp_given.specs.Translations.{ground_of, initial_of}
+use Rattle.kp_given.specs.Tables.{empty_tag}
+use Rattle.kp_given.proofs.Tables.{tables_written}
+use Rattle.kp_outside.specs.Outside.{with_bytes}
+use Rattle.kp_outcome.specs.declared.outcome.Outcome.{Outcome}
+use Rattle.kp_outcome.specs.declared.status.Status.TheVariants as status
+use Rattle.kp_outcome.specs.Ends.{Outside, with_files, whole}
+use Rattle.kp_words.specs.Names.{of_mode, Solve}
+use Rattle.kp_words.specs.declared.command.Command.TheVariants as commands
+use Rattle.kp_words.specs.Command.{NamesSolved, stated_mode, unsaid, stated, IsSolve}
+use Rattle.kp_words.proofs.Examples.{word}
+use Rattle.kp_prepared.specs.Texts.{HaveTrees}
+use Rattle.kp_prepared.specs.Prepared.{IsPrepared, later}
+use Rattle.kp_inputs.specs.Tables.{HasTable, by_mode, with_table}
+use Rattle.kp_inputs.proofs.TablesFor.{table_for}
+use Rattle.kp_solving.specs.Solving.{Finds, solves, finds_none, spends, AreNamed, TellsSolved, searched}
+use Rattle.kp_printed.specs.Searches.{no_plan_text}
+use Rattle.kp_run.specs.Outcomes.{SolvesTexts, solved, of_command}
+use Rattle.kp_run.specs.Ends.{Ends, came}
+use Rattle.kp_run.proofs.Counted.{empty_tags_fit}
+use Rattle.kp_run.proofs.EmptyTags.{empty_tag_made, nothing_uncovered}
+use Rattle.kp_run.proofs.ExampleOutcomes.{holding, unconditional}
+use Rattle.kp_run.proofs.Soundness.{at_last, under_another, problem_of}
+use Rattle.kp_total.specs.Solving.{IsSolved, HasNoPlan, IsSpent}
+use Rattle.kp_total.proofs.Fitting.{task_fits}
+use Rattle.kp_total.proofs.Solvings.{solved_is_a_plan, no_plan_is_true, spent_is_true}
+use Rattle.kp_total.proofs.ExampleCourses.{leading, reaching, unreached, with_plan, without_plan, spent}
+use Rattle.kp_total.proofs.ExampleFiles.{trees, prepared, to_both, to_both_tree, both_trees, both_prepared, chain, chain_tree, to_q, to_q_tree, chain_trees, chain_prepared}
+
+-- ---- words
+
+abbrev front : List (Vec ℕ Global) → List (Vec ℕ Global)
+front more = word (codes "solve") (omega arith) ∷ word (codes "d") (omega arith) ∷ word (codes "p") (omega arith) ∷ word (codes "--mode") (omega arith) ∷ word (codes "k0") (omega arith) ∷ more
+
+abbrev solving : ℕ → Option (List ℕ) → Solve
+solving budget name = record { domain = codes "d"; problem = codes "p"; source = of_mode modes.K0; implicates = 20000; budget = budget; classical = name }
+
+names_files : (budget : ℕ) (name : Option (List ℕ)) → NamesSolved (codes "solve" ∷ codes "d" ∷ codes "p" ∷ []) (solving budget name)
+unfolding encode
+names_files budget name = record {
+  words_are = refl;
+  domain = record { not_empty = λ e. cc; no_dash = refl; utf8 = (codes "d", (refl, refl)) };
+  problem = record { not_empty = λ e. cc; no_dash = refl; utf8 = (codes "p", (refl, refl)) };
+}
+
+abbrev plain : List (Vec ℕ Global)
+plain = front []
+
+is_plain : IsSolve plain (solving 10000 None)
+is_plain = record {
+  front = codes "solve" ∷ codes "d" ∷ codes "p" ∷ [];
+  options = codes "--mode" ∷ codes "k0" ∷ [];
+  budget = [];
+  classical = [];
+  words_are = refl;
+  files = names_files 10000 None;
+  says = record { first = codes "--mode" ∷ codes "k0" ∷ []; last = []; words_are = refl; source = stated_mode modes.K0; limit = unsaid };
+  says_budget = unsaid;
+  says_classical = refl;
+}
+
+-- the classical plan is written to c
+abbrev with_classical : List (Vec ℕ Global)
+with_classical = front (word (codes "--classical") (omega arith) ∷ word (codes "c") (omega arith) ∷ [])
+
+is_with_classical : IsSolve with_classical (solving 10000 (Some (codes "c")))
+unfolding encode
+is_with_classical = record {
+  front = codes "solve" ∷ codes "d" ∷ codes "p" ∷ [];
+  options = codes "--mode" ∷ codes "k0" ∷ [];
+  budget = [];
+  classical = codes "--classical" ∷ codes "c" ∷ [];
+  words_are = refl;
+  files = names_files 10000 (Some (codes "c"));
+  says = record { first = codes "--mode" ∷ codes "k0" ∷ []; last = []; words_are = refl; source = stated_mode modes.K0; limit = unsaid };
+  says_budget = unsaid;
+  says_classical = (refl, record { not_empty = λ e. cc; no_dash = refl; utf8 = (codes "c", (refl, refl)) });
+}
+
+-- one state may be expanded
+abbrev with_budget : List (Vec ℕ Global)
+with_budget = front (word (codes "--budget") (omega arith) ∷ word (codes "1") (omega arith) ∷ [])
+
+is_with_budget : IsSolve with_budget (solving 1 None)
+unfolding digits
+is_with_budget = record {
+  front = codes "solve" ∷ codes "d" ∷ codes "p" ∷ [];
+  options = codes "--mode" ∷ codes "k0" ∷ [];
+  budget = codes "--budget" ∷ codes "1" ∷ [];
+  classical = [];
+  words_are = refl;
+  files = names_files 1 None;
+  says = record { first = codes "--mode" ∷ codes "k0" ∷ []; last = []; words_are = refl; source = stated_mode modes.K0; limit = unsaid };
+  says_budget = stated 1 (record { least = omega arith; most = omega arith });
+  says_classical = refl;
+}
+
+-- ---- two files
+
+apart : (x y : List ℕ) → same x y ≡ false → x ≢ y
+apart x y h e = false≢true (sym h ∙ (sym (ap (same x) e) ∙ same-refl x))
+
+-- before a run on two files, and after it, where it comes to an outcome
+abbrev before : List ℕ → List ℕ → Outside
+before domain problem = record { held = Some (holding domain problem); told = Some []; get_faults = λ q. 0; put_faults = λ q. 0; write_faults = 0 }
+
+abbrev after : List ℕ → List ℕ → Outcome → Outside
+after domain problem o = record { held = with_files (Some (holding domain problem)) o.puts; told = with_bytes (Some []) o.text; get_faults = λ q. 0; put_faults = λ q. 0; write_faults = 0 }
+
+domain_held : (domain problem : List ℕ) → get (holding domain problem) (codes "d") ≡ Some domain
+domain_held domain problem = under_another (insert empty (codes "d") domain) (codes "d") (codes "p") problem (apart (codes "d") (codes "p") refl) ∙ at_last empty (codes "d") domain
+
+problem_held : (domain problem : List ℕ) → get (holding domain problem) (codes "p") ≡ Some problem
+problem_held domain problem = at_last (insert empty (codes "d") domain) (codes "p") problem
+
+ends : (ws : List (Vec ℕ Global)) (budget : ℕ) (name : Option (List ℕ)) → IsSolve ws (solving budget name) → (domain problem : List ℕ) (o : Outcome) → SolvesTexts (solving budget name) domain problem [] o → Ends ws (before domain problem) (after domain problem o) o.status
+ends ws budget name is domain problem o comes =
+    came o (of_command (commands.Solve (solving budget name)) (domain ∷ problem ∷ []) o is (rw (domain_held domain problem, problem_held domain problem) refl) (solved (solving budget name) domain problem [] o comes))
+    (whole refl (record { gets = λ q. refl; puts = λ q. refl; writes = refl }) refl refl)
+
+-- two files and the table of the empty tag: what the search of their task finds is told
+module _ (domain problem : List ℕ) (d : Domain Word) (p : Problem Word) (have : HaveTrees domain problem d p) (ready : IsPrepared 20000 d p) where
+  has_table : HasTable (ground_of d p) (initial_of d p) (of_mode modes.K0) [] (empty_tag d p)
+  has_table = by_mode modes.K0 (empty_tag d p) (empty_tag_made d p)
+
+  fit : IsFit (task_of (ground_of d p) (empty_tag d p))
+  fit =
+      let fits = empty_tags_fit d p ready.started.small in
+      task_fits d p (empty_tag d p) ready.started.small fits (tables_written domain problem (problem_of domain problem d p have) (empty_tag d p) (table_for d p (of_mode modes.K0) [] (empty_tag d p) ready.started.small fits has_table))
+
+  comes_to : (budget : ℕ) (name : Option (List ℕ)) (found : Found) (o : Outcome) → Finds (task_of (ground_of d p) (empty_tag d p)) budget found → TellsSolved name (ground_of d p) (initial_of d p) (empty_tag d p) found o → SolvesTexts (solving budget name) domain problem [] o
+  comes_to budget name found o finds tells = later d p have ready (with_table (empty_tag d p) has_table (searched found (empty_tags_fit d p ready.started.small) finds tells))
+
+-- ---- from p to q: the plan is told, and the plan of the translation is put under c
+
+abbrev swapping : Task
+swapping = task_of (ground_of exchange_tree from_p_to_q_tree) (empty_tag exchange_tree from_p_to_q_tree)
+
+swapping_fits : IsFit swapping
+swapping_fits = fit exchange from_p_to_q exchange_tree from_p_to_q_tree trees prepared
+
+found_plan : Finds swapping 10000 (Plan (0 ∷ []) 1)
+found_plan =
+    let here = leading swapping swapping_fits (first swapping) (0 ∷ []) refl in
+    let there = leading swapping swapping_fits (step swapping 0 (first swapping)) [] refl in
+    with_plan swapping 10000 (omega arith) refl refl refl here.0 here.1 there.0 there.1 (λ e. false≢true (sym (ap (λ (s : FactSet). has s.hold 0) e))) refl
+
+abbrev a : Step
+a = record { head = codes "a"; objects = [] }
+
+abbrev do_a : Step
+do_a = record { head = codes "do_-a"; objects = [] }
+
+are_named : AreNamed (ground_of exchange_tree from_p_to_q_tree) (empty_tag exchange_tree from_p_to_q_tree) (0 ∷ []) (do_a ∷ []) (a ∷ [])
+are_named = record { machine = MachineStep.act 0 ∷ []; numbers = refl; steps_are = refl; actions_are = refl }
+
+abbrev the_plan : Outcome
+the_plan = solves (Some (codes "c")) (do_a ∷ []) (a ∷ [])
+
+ends_with_plan : Ends with_classical (before exchange from_p_to_q) (after exchange from_p_to_q the_plan) status.Done
+ends_with_plan =
+    ends with_classical 10000 (Some (codes "c")) is_with_classical exchange from_p_to_q the_plan
+    (comes_to exchange from_p_to_q exchange_tree from_p_to_q_tree trees prepared 10000 (Some (codes "c")) (Plan (0 ∷ []) 1) the_plan found_plan (do_a ∷ [], a ∷ [], are_named, refl))
+
+is_solved : IsSolved (holding exchange from_p_to_q) (solving 10000 (Some (codes "c"))) (before exchange from_p_to_q) (after exchange from_p_to_q the_plan)
+is_solved = solved_is_a_plan with_classical _ _ status.Done ends_with_plan (holding exchange from_p_to_q) (solving 10000 (Some (codes "c"))) refl is_with_classical refl
+
+-- a line of each
+told_and_put : after exchange from_p_to_q the_plan ≡ record { held = Some (insert (holding exchange from_p_to_q) (codes "c") (codes "(do_-a)\n")); told = Some (codes "(a)\n"); get_faults = λ q. 0; put_faults = λ q. 0; write_faults = 0 }
+told_and_put = refl
+
+-- ---- from p to both: there is no plan, and the table is complete
+
+abbrev keeping : Task
+keeping = task_of (ground_of exchange_tree to_both_tree) (empty_tag exchange_tree to_both_tree)
+
+keeping_fits : IsFit keeping
+keeping_fits = fit exchange to_both exchange_tree to_both_tree both_trees both_prepared
+
+-- by rules both are reached, as if p didn't go
+both_cost : Costs (rules_of keeping) (has (first keeping).hold) (goal_of keeping) 1
+both_cost = given 0 (2 ∷ []) 1 refl (by_rule (record { fact = 2; needs = 0 ∷ [] }) 0 [] 0 (inl refl) (given 0 [] 0 refl none) none)
+
+-- but once it went, no rule adds it
+p_lost : (n : ℕ) → Costs (rules_of keeping) (has (step keeping 0 (first keeping)).hold) (goal_of keeping) n → ⊥
+p_lost n costs = unreached (rules_of keeping) (has (step keeping 0 (first keeping)).hold) 0 refl no_rule (2 ∷ []) (goal_of keeping) n costs refl
+  where
+    no_rule : (r : Rule) → Member (rules_of keeping) r → r.fact ≡ 0 → ⊥
+    no_rule r (inl m) is = let e : 2 ≡ 0 = ap (λ (x : Rule). x.fact) m ∙ is in omega (arith, e)
+    no_rule r (inr (inl m)) is = let e : 1 ≡ 0 = ap (λ (x : Rule). x.fact) m ∙ is in omega (arith, e)
+    no_rule r (inr (inr never)) is = absurd never
+
+found_none : Finds keeping 10000 NoPlan
+found_none = let here = reaching keeping keeping_fits (first keeping) 1 both_cost in without_plan keeping 10000 (omega arith) refl refl refl here.0 here.1 p_lost
+
+abbrev no_plan : Outcome
+no_plan = finds_none (no_plan_text [])
+
+ends_with_none : Ends plain (before exchange to_both) (after exchange to_both no_plan) status.Negative
+ends_with_none =
+    ends plain 10000 None is_plain exchange to_both no_plan
+    (comes_to exchange to_both exchange_tree to_both_tree both_trees both_prepared 10000 None NoPlan no_plan found_none ([], nothing_uncovered (ground_of exchange_tree to_both_tree) (initial_of exchange_tree to_both_tree) (unconditional to_both_tree refl) (empty_tag exchange_tree to_both_tree), refl))
+
+has_no_plan : HasNoPlan (holding exchange to_both) (solving 10000 None) (before exchange to_both) (after exchange to_both no_plan)
+has_no_plan = no_plan_is_true plain _ _ status.Negative ends_with_none (holding exchange to_both) (solving 10000 None) refl is_plain refl
+
+told_none : (after exchange to_both no_plan).told ≡ Some (codes "no plan\ncomplete\n")
+told_none = refl
+
+-- ---- from nothing to q: one state may be expanded, and another waits
+
+abbrev turning : Task
+turning = task_of (ground_of chain_tree to_q_tree) (empty_tag chain_tree to_q_tree)
+
+turning_fits : IsFit turning
+turning_fits = fit chain to_q chain_tree to_q_tree chain_trees chain_prepared
+
+found_more : Finds turning 1 (Spent 1)
+found_more =
+    let here = leading turning turning_fits (first turning) (0 ∷ 0 ∷ []) refl in
+    let there = leading turning turning_fits (step turning 0 (first turning)) (0 ∷ []) refl in
+    spent turning 1 (omega arith) refl refl refl here.0 here.1 there.0 there.1 (λ e. false≢true (sym (ap (λ (s : FactSet). has s.hold 1) e))) refl refl
+
+ends_spent : Ends with_budget (before chain to_q) (after chain to_q (spends 1)) status.Spent
+ends_spent = ends with_budget 1 None is_with_budget chain to_q (spends 1) (comes_to chain to_q chain_tree to_q_tree chain_trees chain_prepared 1 None (Spent 1) (spends 1) found_more refl)
+
+is_spent : IsSpent (holding chain to_q) (solving 1 None) (before chain to_q) (after chain to_q (spends 1))
+is_spent = spent_is_true with_budget _ _ status.Spent ends_spent (holding chain to_q) (solving 1 None) refl is_with_budget refl

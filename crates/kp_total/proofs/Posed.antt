@@ -1,0 +1,54 @@
+-- What a run of `solve` or of `classical` is about is one pair of trees, and one table.
+use Rattle.std.proofs.Common.{◌≡◌, ℕ, List, sym, ap, ◌∙◌, subst}
+use Rattle.kp_base.specs.declared.ground.TagTable.{TagTable}
+use Rattle.kp_base.specs.declared.refused.Refused.{Refused}
+use Rattle.kp_grammar.specs.declared.tree.Word.{Word}
+use Rattle.kp_grammar.specs.Trees.{Domain, Problem}
+use Rattle.kp_given.specs.Translations.{ground_of, initial_of}
+use Rattle.kp_printed.specs.Refusals.{Named}
+use Rattle.kp_outside.specs.Outside.{FileMap}
+use Rattle.kp_outcome.specs.declared.outcome.Outcome.{Outcome}
+use Rattle.kp_outcome.specs.declared.status.Status.TheVariants as status
+use Rattle.kp_words.specs.Names.{Source}
+use Rattle.kp_prepared.specs.Texts.{HaveTrees}
+use Rattle.kp_prepared.specs.Refusing.{refuses}
+use Rattle.kp_prepared.proofs.OneText.{same_domain, same_problem}
+use Rattle.kp_inputs.specs.Tables.{HasTable}
+use Rattle.kp_inputs.proofs.OneTable.{one_table}
+use Rattle.kp_inputs.proofs.OnePlan.{some_alike}
+use Rattle.kp_total.specs.Solving.{HasTask, PosedOnce, ClassicalPosedOnce}
+
+-- ---- refusals
+
+-- an outcome is no refusal
+abbrev pub IsNoRefusal : Outcome → Type 0
+IsNoRefusal o = (r : Refused) → o.status ≡ status.Refused r → ⊥
+
+pub not_refused : (o : Outcome) (names : Named) (r : Refused) → o ≡ refuses names r → IsNoRefusal o → ⊥
+not_refused o names r is answers = answers r (ap (λ (z : Outcome). z.status) is)
+
+-- ---- one pair of trees, and one table
+
+trees_once : (x y v w : List ℕ) (d e : Domain Word) (p q : Problem Word) → x ≡ v → y ≡ w → HaveTrees x y d p → HaveTrees v w e q → (d ≡ e) × (p ≡ q)
+trees_once x y v w d e p q first second h k =
+    let there = subst (λ z. HaveTrees v z d p) second (subst (λ z. HaveTrees z y d p) first h) in
+    (same_domain v w d e p q there k, same_problem v w d e p q there k)
+
+table_once : (m : FileMap) (source : Source) (d e : Domain Word) (p q : Problem Word) (t v : TagTable) → d ≡ e → p ≡ q → HasTask m source d p t → HasTask m source e q v → t ≡ v
+table_once m source d e p q t v first second h k =
+    let there = subst (λ z. HasTask m source e z t) second (subst (λ z. HasTask m source z p t) first h) in
+    let same = some_alike there.merges k.merges (sym there.held ∙ k.held) in
+    (one_table (ground_of e q) (initial_of e q) source k.merges).tables t v (subst (λ z. HasTable (ground_of e q) (initial_of e q) source z t) same there.has_table) k.has_table
+
+pub posed_once : PosedOnce
+posed_once m c x y =
+    let first : x.given.domain ≡ y.given.domain = cc (sym x.given.domain_held ∙ y.given.domain_held) in
+    let second : x.given.problem ≡ y.given.problem = cc (sym x.given.problem_held ∙ y.given.problem_held) in
+    let trees = trees_once _ _ _ _ x.domain_tree y.domain_tree x.problem_tree y.problem_tree first second x.given.trees y.given.trees in
+    (trees.0, trees.1, table_once m c.source x.domain_tree y.domain_tree x.problem_tree y.problem_tree x.table y.table trees.0 trees.1 x.has_task y.has_task)
+
+pub classical_posed_once : ClassicalPosedOnce
+classical_posed_once m c x y =
+    let first : x.given.domain ≡ y.given.domain = cc (sym x.given.domain_held ∙ y.given.domain_held) in
+    let second : x.given.problem ≡ y.given.problem = cc (sym x.given.problem_held ∙ y.given.problem_held) in
+    trees_once _ _ _ _ x.domain_tree y.domain_tree x.problem_tree y.problem_tree first second x.given.trees y.given.trees
