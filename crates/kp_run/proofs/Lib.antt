@@ -14,3 +14,8 @@ pub mod Files
 pub mod ExampleOutcomes
 pub mod ExampleRefusals
 pub mod Searches
+pub mod Whole
+pub mod Fitting
+pub mod PlanLines
+pub mod Solved
+pub mod SolvedClassical

@@ -2,5 +2,6 @@ pub mod Outcomes
 pub mod Ends
 pub mod Soundness
 pub mod Completeness
+pub mod Solved
 pub mod Tables
 pub mod Laws

@@ -5,12 +5,13 @@ ghost use Rattle.kp_outcome.specs.declared.status.Status.TheVariants as status;
 ghost use Rattle.kp_outcome.specs.Ends.{AreHeld, AreFronts, AreRead, GetFails};
 ghost use Rattle.kp_words.specs.declared.command.Command.{Command as Ordered};
 ghost use Rattle.kp_words.specs.declared.command.Command.TheVariants as commands;
-ghost use Rattle.kp_words.specs.Names.{Translate as Names, Lift as LiftNames, of_mode, of_file};
-ghost use Rattle.kp_words.specs.Command.{IsTranslate, IsLift, IsCommand, file_of, if_named, inputs_of};
+ghost use Rattle.kp_words.specs.Names.{Translate as Names, Lift as LiftNames, Solve as SolveNames, Classical as ClassicalNames, of_mode, of_file};
+ghost use Rattle.kp_words.specs.Command.{IsTranslate, IsLift, IsSolve, IsClassical, IsCommand, file_of, if_named, inputs_of};
 ghost use Rattle.kp_run.specs.Outcomes.{ComesTo, IsDue};
 ghost use Rattle.kp_run.specs.Ends.{Ends};
 ghost use Rattle.kp_run.specs.Soundness.{IsSound};
 ghost use Rattle.kp_run.specs.Completeness.{LosesNoPlan};
+ghost use Rattle.kp_run.specs.Solved.{SolveIsTrue, ClassicalIsTrue};
 
 use crate::checking::check_texts;
 use crate::lifting::lift_texts;
@@ -260,6 +261,10 @@ pub fn run<S: Shelf, O: Sink>(
     ensures sound { (before after : FileMap) (c : Names) → S.contents shelf.old ≡ Some before → S.contents shelf.new ≡ Some after → IsTranslate words.now c → result ≡ status.Done → IsSound before after c }
     // Whenever a translation of the same files told `complete`, a lift finds for each plan of them a plan of what it put that strips to it.
     ensures complete { (c : LiftNames) → IsLift words.now c → LosesNoPlan c (record { held = S.contents shelf.old; told = O.told out.old; get_faults = S.get_faults shelf.old; put_faults = S.put_faults shelf.old; write_faults = O.faults out.old }) (record { held = S.contents shelf.new; told = O.told out.new; get_faults = S.get_faults shelf.new; put_faults = S.put_faults shelf.new; write_faults = O.faults out.new }) result }
+    // With Done, what a call to solve told is a plan of its two files; with Negative, what `translate` writes for them has none; with Spent, there are more states than its budget says.
+    ensures solve { (m : FileMap) (c : SolveNames) → S.contents shelf.old ≡ Some m → IsSolve words.now c → SolveIsTrue m c (record { held = S.contents shelf.old; told = O.told out.old; get_faults = S.get_faults shelf.old; put_faults = S.put_faults shelf.old; write_faults = O.faults out.old }) (record { held = S.contents shelf.new; told = O.told out.new; get_faults = S.get_faults shelf.new; put_faults = S.put_faults shelf.new; write_faults = O.faults out.new }) result }
+    // And so it is of the files of `classical`.
+    ensures classical { (m : FileMap) (c : ClassicalNames) → S.contents shelf.old ≡ Some m → IsClassical words.now c → ClassicalIsTrue m c (record { held = S.contents shelf.old; told = O.told out.old; get_faults = S.get_faults shelf.old; put_faults = S.put_faults shelf.old; write_faults = O.faults out.old }) (record { held = S.contents shelf.new; told = O.told out.new; get_faults = S.get_faults shelf.new; put_faults = S.put_faults shelf.new; write_faults = O.faults out.new }) result }
 {
     match due(alloc, words, shelf) {
         Ok(outcome) => carry_out(alloc, outcome, shelf, out),

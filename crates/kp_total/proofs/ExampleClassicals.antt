@@ -38,8 +38,8 @@ use Rattle.kp_run.specs.Outcomes.{ClassicalTexts, searched, of_command}
 use Rattle.kp_run.specs.Ends.{Ends, came}
 use Rattle.kp_run.proofs.ExampleOutcomes.{holding}
 use Rattle.kp_run.proofs.Soundness.{at_last, under_another}
-use Rattle.kp_total.specs.Solving.{IsSolvedClassical, HasNoClassicalPlan, IsSpentClassical}
-use Rattle.kp_total.proofs.SomeSearch.{classical_fit}
+use Rattle.kp_run.specs.Solved.{IsSolvedClassical, HasNoClassicalPlan, IsSpentClassical}
+use Rattle.kp_run.proofs.Fitting.{classical_fit}
 use Rattle.kp_total.proofs.Classicals.{classical_is_a_plan, no_classical_plan_is_true, classical_spent_is_true}
 use Rattle.kp_total.proofs.ExampleCourses.{leading, reaching, unreached, with_plan, without_plan, spent}
 use Rattle.kp_total.proofs.ExampleFiles.{trees, is_classical, to_both, to_both_tree, both_trees, both_classical, chain, chain_tree, to_q, to_q_tree, chain_trees, chain_classical}

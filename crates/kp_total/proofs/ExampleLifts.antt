@@ -48,7 +48,8 @@ use Rattle.kp_run.proofs.CompleteText.{complete_told}
 use Rattle.kp_run.proofs.EmptyTags.{empty_tag_made, nothing_uncovered}
 use Rattle.kp_run.proofs.ExampleOutcomes.{with_limit, limited, is_limited, holding, due_with, is_small, domain_reads, problem_reads, only_p, has_state, closed_q, unconditional}
 use Rattle.kp_run.proofs.Soundness.{at_last, under_another}
-use Rattle.kp_total.specs.Commands.{GoesOn, HasLift}
+use Rattle.kp_run.specs.Solved.{GoesOn}
+use Rattle.kp_total.specs.Commands.{HasLift}
 
 -- ---- a translation with a limit of one prime implicate
 

@@ -47,8 +47,8 @@ use Rattle.kp_run.proofs.Counted.{empty_tags_fit}
 use Rattle.kp_run.proofs.EmptyTags.{empty_tag_made, nothing_uncovered}
 use Rattle.kp_run.proofs.ExampleOutcomes.{holding, unconditional}
 use Rattle.kp_run.proofs.Soundness.{at_last, under_another, problem_of}
-use Rattle.kp_total.specs.Solving.{IsSolved, HasNoPlan, IsSpent}
-use Rattle.kp_total.proofs.Fitting.{task_fits}
+use Rattle.kp_run.specs.Solved.{IsSolved, HasNoPlan, IsSpent}
+use Rattle.kp_run.proofs.Fitting.{task_fits}
 use Rattle.kp_total.proofs.Solvings.{solved_is_a_plan, no_plan_is_true, spent_is_true}
 use Rattle.kp_total.proofs.ExampleCourses.{leading, reaching, unreached, with_plan, without_plan, spent}
 use Rattle.kp_total.proofs.ExampleFiles.{trees, prepared, to_both, to_both_tree, both_trees, both_prepared, chain, chain_tree, to_q, to_q_tree, chain_trees, chain_prepared}

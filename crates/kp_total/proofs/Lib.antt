@@ -9,9 +9,7 @@ pub mod Following
 pub mod ExampleStrips
 pub mod ExampleLifts
 pub mod OfCommands
-pub mod Fitting
 pub mod SomeSearch
-pub mod PlanLines
 pub mod Posed
 pub mod Solvings
 pub mod Classicals

@@ -28,28 +28,26 @@ use Rattle.kp_merges.specs.Printed.{merges_of, merges_text}
 use Rattle.kp_base.specs.declared.lit.Lit.{Lit}
 use Rattle.kp_base.specs.declared.ground.TagTable.{TagTable}
 use Rattle.kp_base.specs.Covering.{IsComplete, AreUncovered}
-use Rattle.kp_meaning.specs.Numbering.{numbered_problem}
 use Rattle.kp_decided.specs.Laws.{AreProper}
-use Rattle.kp_decided.proofs.Counting.{formulas_ascend}
 use Rattle.kp_decided.proofs.Covered.{complete_with_none}
 use Rattle.kp_cover.proofs.Answered.{none_uncovered}
 use Rattle.kp_complete.specs.Lifts.{lifted as lift_of, UnliftedAt}
 use Rattle.kp_complete.proofs.Lifted.{lists_strip}
 use Rattle.kp_complete.proofs.Failing.{lift_or_fail, dont_lift}
-use Rattle.kp_given.proofs.Starts.{formulas_over_atoms, states_are_models}
 use Rattle.kp_sound.proofs.Lifting.{there, lift_named}
 use Rattle.kp_base.specs.Machine.{MachineStep, accepts, stripped as actions_of}
 use Rattle.kp_translation.specs.Report.{counts_of}
 use Rattle.kp_plans.specs.declared.step.PlanStep.{PlanStep}
 use Rattle.kp_words.specs.Command.{IsTranslate, IsCheck, IsLift, file_of, if_named, inputs_of}
-use Rattle.kp_prepared.proofs.Counted.{is_of_atoms}
 use Rattle.kp_inputs.specs.Tables.{by_mode, with_table}
 use Rattle.kp_inputs.specs.Actions.{with_actions}
 use Rattle.kp_inputs.proofs.Ended.{found_below, as_many_numbers}
 use Rattle.kp_run.specs.Completeness.{PrintsComplete}
 use Rattle.kp_run.proofs.CompleteText.{none_uncovered as none_told, complete_told}
 use Rattle.kp_run.proofs.Soundness.{problem_of}
-use Rattle.kp_total.specs.Commands.{GoesOn, HasTranslation, TranslationsAreAnswered, CompleteIsTrue, MergesAreListed, ClashesAreAnswered, HasVerdict, ChecksAreAnswered, ChecksAreTrue, HasLift, LiftsAreAnswered, LiftsAreTrue, StripsAreAnswered}
+use Rattle.kp_run.specs.Solved.{GoesOn}
+use Rattle.kp_run.proofs.Solved.{proper}
+use Rattle.kp_total.specs.Commands.{HasTranslation, TranslationsAreAnswered, CompleteIsTrue, MergesAreListed, ClashesAreAnswered, HasVerdict, ChecksAreAnswered, ChecksAreTrue, HasLift, LiftsAreAnswered, LiftsAreTrue, StripsAreAnswered}
 use Rattle.kp_total.specs.Follows.{IsAnsweredBy}
 use Rattle.kp_total.proofs.Following.{answers_are_whole, ends_with}
 use Rattle.kp_total.proofs.OneOutcome.{one_outcome}
@@ -81,8 +79,8 @@ answered_by words old new s ends m o held due answer =
     let same = one_outcome words m whole.outcome o (subst (λ x. IsDue words x whole.outcome) held whole.due) due in
     subst (λ z. IsAnsweredBy z old new s) same whole.answered
 
-pub proper_of : (m : FileMap) (domain problem : List ℕ) (limit : ℕ) (d : Domain Word) (p : Problem Word) → GoesOn m domain problem limit d p → AreProper (ground_of d p) (initial_of d p)
-proper_of m domain problem limit d p g = record { own_atoms = is_of_atoms (numbered_problem d p) (ground_of d p) g.prepared.started.small; over = formulas_over_atoms d p; ascending = formulas_ascend (numbered_problem d p); model = (states_are_models d p g.trees.no_fault).0 g.prepared.started.initial }
+proper_of : (m : FileMap) (domain problem : List ℕ) (limit : ℕ) (d : Domain Word) (p : Problem Word) → GoesOn m domain problem limit d p → AreProper (ground_of d p) (initial_of d p)
+proper_of m domain problem limit d p g = proper limit d p g.trees.no_fault g.prepared
 
 complete_text : (g : Ground) (i : Initial) (table : TagTable) (ls : List Lit) → AreProper g i → AreUncovered g i table ls → PrintsComplete (counts_of g table ++ coverage_text g.atoms ls) ↔ IsComplete g i table
 complete_text g i table ls proper are = (

@@ -1,31 +1,18 @@
 -- What a run of `solve` or of `classical` is about is one pair of trees, and one table.
-use Rattle.std.proofs.Common.{◌≡◌, ℕ, List, sym, ap, ◌∙◌, subst}
+use Rattle.std.proofs.Common.{◌≡◌, ℕ, List, sym, ◌∙◌, subst}
 use Rattle.kp_base.specs.declared.ground.TagTable.{TagTable}
-use Rattle.kp_base.specs.declared.refused.Refused.{Refused}
 use Rattle.kp_grammar.specs.declared.tree.Word.{Word}
 use Rattle.kp_grammar.specs.Trees.{Domain, Problem}
 use Rattle.kp_given.specs.Translations.{ground_of, initial_of}
-use Rattle.kp_printed.specs.Refusals.{Named}
 use Rattle.kp_outside.specs.Outside.{FileMap}
-use Rattle.kp_outcome.specs.declared.outcome.Outcome.{Outcome}
-use Rattle.kp_outcome.specs.declared.status.Status.TheVariants as status
 use Rattle.kp_words.specs.Names.{Source}
 use Rattle.kp_prepared.specs.Texts.{HaveTrees}
-use Rattle.kp_prepared.specs.Refusing.{refuses}
 use Rattle.kp_prepared.proofs.OneText.{same_domain, same_problem}
 use Rattle.kp_inputs.specs.Tables.{HasTable}
 use Rattle.kp_inputs.proofs.OneTable.{one_table}
 use Rattle.kp_inputs.proofs.OnePlan.{some_alike}
-use Rattle.kp_total.specs.Solving.{HasTask, PosedOnce, ClassicalPosedOnce}
-
--- ---- refusals
-
--- an outcome is no refusal
-abbrev pub IsNoRefusal : Outcome → Type 0
-IsNoRefusal o = (r : Refused) → o.status ≡ status.Refused r → ⊥
-
-pub not_refused : (o : Outcome) (names : Named) (r : Refused) → o ≡ refuses names r → IsNoRefusal o → ⊥
-not_refused o names r is answers = answers r (ap (λ (z : Outcome). z.status) is)
+use Rattle.kp_run.specs.Solved.{HasTask}
+use Rattle.kp_total.specs.Solving.{PosedOnce, ClassicalPosedOnce}
 
 -- ---- one pair of trees, and one table
 

@@ -57,7 +57,7 @@ use Rattle.kp_solving.specs.Solving.{SolvesGround, over as too_large}
 use Rattle.kp_run.proofs.Soundness.{problem_of}
 use Rattle.kp_total.proofs.SomeStart.{some_comes}
 use Rattle.kp_total.proofs.SomeSearch.{some_search, some_classical_comes}
-use Rattle.kp_total.proofs.Fitting.{task_fits}
+use Rattle.kp_run.proofs.Fitting.{task_fits}
 
 -- ---- tables and their tasks
 

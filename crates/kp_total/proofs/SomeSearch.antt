@@ -12,7 +12,6 @@ use Rattle.kp_meaning.specs.Faults.{HasNoFault}
 use Rattle.kp_meaning.specs.Numbering.{numbered_problem}
 use Rattle.kp_names.specs.Resolved.{first_unsure, place_in}
 use Rattle.kp_classic.specs.Fits.{IsFit}
-use Rattle.kp_classic.proofs.OfGround.{task_fits}
 use Rattle.kp_decided.specs.Laws.{AreProper}
 use Rattle.kp_decided.proofs.Covered.{coverages_decided}
 use Rattle.kp_decided.proofs.Modelled.{model_or_none}
@@ -29,12 +28,12 @@ use Rattle.kp_outcome.specs.declared.outcome.Outcome.{Outcome}
 use Rattle.kp_prepared.specs.Refusing.{refuses}
 use Rattle.kp_prepared.specs.Prepared.{usual}
 use Rattle.kp_classical.specs.Classical.{classical, IsCertain, IsSmall, IsClassical, RefusesClassical, not_classical, too_large, no_initial_state, by_texts, by_trees, ComesClassical, early, later, task_of as classical_task}
-use Rattle.kp_classical.proofs.Counted.{is_of_atoms}
 use Rattle.kp_classical.proofs.Plans.{have_names as actions_named}
 use Rattle.kp_solving.specs.Solving.{Finds, solves, finds_none, spends, SolvesGround, searched, SolvesClassical}
 use Rattle.kp_search.proofs.ByAdded.{some_end_by_added}
 use Rattle.kp_solving.proofs.Searches.{ends_true}
 use Rattle.kp_solving.proofs.Operators.{have_names}
+use Rattle.kp_run.proofs.Fitting.{classical_fit}
 use Rattle.kp_total.proofs.SomeStart.{texts_decided}
 
 -- ---- a ground problem with a table
@@ -72,9 +71,6 @@ module _ (y : List ℕ) (d : Domain Word) (p : Problem Word) where
         | inl over ↦ inl (over.0, too_large over.0 e over.1)
         | inr small ↦ of_small no_fault e small
       ]
-
-pub classical_fit : (d : Domain Word) (p : Problem Word) → IsClassical d p → IsFit (classical_task d p)
-classical_fit d p c = task_fits (ground_of d p) (initial_of d p) (is_of_atoms (numbered_problem d p) (ground_of d p) c.small)
 
 -- the search of their task comes to something that is told
 some_classical : (budget : ℕ) (d : Domain Word) (p : Problem Word) → IsClassical d p → (o : Outcome) × SolvesClassical budget (ground_of d p) (classical_task d p) o

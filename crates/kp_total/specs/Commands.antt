@@ -24,30 +24,22 @@ use Rattle.kp_check.specs.declared.answer.Judged.{Judged}
 use Rattle.kp_check.specs.Judging.{AnswersJudged}
 use Rattle.kp_given.specs.Translations.{ground_of, initial_of}
 use Rattle.kp_given.specs.Tables.{translation_of}
-use Rattle.kp_outside.specs.Outside.{FileMap, with_bytes}
+use Rattle.kp_outside.specs.Outside.{FileMap}
 use Rattle.kp_outcome.specs.declared.outcome.Outcome.{Outcome}
 use Rattle.kp_outcome.specs.declared.status.Status.TheVariants as status
-use Rattle.kp_outcome.specs.Ends.{Outside, AreHeld, IsAnswer, most_bytes}
+use Rattle.kp_outcome.specs.Ends.{AreHeld, IsAnswer, most_bytes}
 use Rattle.kp_words.specs.Names.{Source, Translate, Merges, Strip, Check, Lift}
 use Rattle.kp_words.specs.declared.command.Command.TheVariants as commands
 use Rattle.kp_words.specs.Command.{IsTranslate, IsMerges, IsStrip, IsCheck, IsLift, file_of, if_named, inputs_of}
 use Rattle.kp_prepared.specs.Texts.{HaveTrees}
 use Rattle.kp_prepared.specs.Refusing.{refuses, named_in}
-use Rattle.kp_prepared.specs.Prepared.{usual, IsStarted, IsPrepared}
+use Rattle.kp_prepared.specs.Prepared.{usual, IsStarted}
 use Rattle.kp_inputs.specs.Tables.{HasTable}
 use Rattle.kp_inputs.specs.Actions.{HasActions}
 use Rattle.kp_run.specs.Outcomes.{translates, prints, tells, LiftsActions}
+use Rattle.kp_run.specs.Solved.{GoesOn, Tells}
 use Rattle.kp_run.specs.Completeness.{PrintsComplete}
 use Rattle.kp_total.specs.Follows.{OfRuns, EndsWith}
-
--- under two names files are held with which a command goes on: they have trees without a fault of names, are within the limits, with some initial state and no clash
-pub record GoesOn (m : FileMap) (domain_name problem_name : List ℕ) (limit : ℕ) (d : Domain Word) (p : Problem Word) : Type 0 where
-  pub domain : List ℕ
-  pub problem : List ℕ
-  pub domain_held : get m domain_name ≡ Some domain
-  pub problem_held : get m problem_name ≡ Some problem
-  pub trees : HaveTrees domain problem d p
-  pub prepared : IsPrepared limit d p
 
 -- the source of a translation has this table for such trees, on the texts of its file of merges if it names one; its task is within the limits, and it leaves these targets uncovered
 pub record HasTranslation (m : FileMap) (source : Source) (d : Domain Word) (p : Problem Word) (table : TagTable) (uncovered : List Lit) : Type 0 where
@@ -62,10 +54,6 @@ abbrev pub TranslationsAreAnswered : Type 0
 TranslationsAreAnswered = OfRuns (λ words old new s. (m : FileMap) (c : Translate) (d : Domain Word) (p : Problem Word) (table : TagTable) (uncovered : List Lit)
     → old.held ≡ Some m → IsTranslate words c → GoesOn m c.domain c.problem c.implicates d p → HasTranslation m c.source d p table uncovered
     → EndsWith (translates c (ground_of d p) table uncovered) old new s)
-
--- this text was told, and nothing else
-abbrev pub Tells : Outside → Outside → List ℕ → Type 0
-Tells old new text = new.told ≡ with_bytes old.told text
 
 -- where such a run ends with an answer, the last line that it told is `complete` exactly where the table is complete
 abbrev pub CompleteIsTrue : Type 0

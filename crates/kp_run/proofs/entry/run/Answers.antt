@@ -4,6 +4,8 @@ use Rattle.kp_run.specs.Ends.{came}
 use Rattle.kp_run.proofs.Answered.{outcomes_are_answers}
 use Rattle.kp_run.proofs.Soundness.{sound_end}
 use Rattle.kp_run.proofs.Completeness.{loses_none}
+use Rattle.kp_run.proofs.Solved.{solve_true}
+use Rattle.kp_run.proofs.SolvedClassical.{classical_true}
 use Rattle.kp_run.proofs.Ending.{stopped_end}
 use Rattle.kp_run.proofs.entry.run.Goals as goal
 
@@ -26,3 +28,15 @@ returns-in-Ok-clause-complete g c command is = loses_none c.args.words.now _ _ c
 
 pub returns-in-Err-clause-complete : goal.returns-in-Err-clause-complete
 returns-in-Err-clause-complete g c command is = loses_none c.args.words.now _ _ _ (returns-in-Err-clause-ends g c) command is
+
+pub returns-in-Ok-clause-solve : goal.returns-in-Ok-clause-solve
+returns-in-Ok-clause-solve g c m command held is = solve_true c.args.words.now _ _ c.carry_out.result (returns-in-Ok-clause-ends g c) m command held is
+
+pub returns-in-Err-clause-solve : goal.returns-in-Err-clause-solve
+returns-in-Err-clause-solve g c m command held is = solve_true c.args.words.now _ _ _ (returns-in-Err-clause-ends g c) m command held is
+
+pub returns-in-Ok-clause-classical : goal.returns-in-Ok-clause-classical
+returns-in-Ok-clause-classical g c m command held is = classical_true c.args.words.now _ _ c.carry_out.result (returns-in-Ok-clause-ends g c) m command held is
+
+pub returns-in-Err-clause-classical : goal.returns-in-Err-clause-classical
+returns-in-Err-clause-classical g c m command held is = classical_true c.args.words.now _ _ _ (returns-in-Err-clause-ends g c) m command held is

@@ -1,4 +1,4 @@
--- The task of two trees and a table within the limits is fit to be searched.
+-- The task of two trees and a table within the limits is fit to be searched, and so is that of two classical trees.
 use Rattle.std.proofs.Common.{arith}
 use Rattle.kp_base.specs.declared.ground.TagTable.{TagTable}
 use Rattle.kp_grammar.specs.declared.tree.Word.{Word}
@@ -9,10 +9,13 @@ use Rattle.kp_task.specs.Task.{task_of}
 use Rattle.kp_task.specs.Writable.{IsWritableTask}
 use Rattle.kp_task.proofs.Named.{tasks_are_fit}
 use Rattle.kp_ktask.specs.Translated.{FitsLimits}
-use Rattle.kp_given.specs.Translations.{ground_of}
 use Rattle.kp_prepared.specs.Prepared.{usual, IsSmall}
 use Rattle.kp_prepared.proofs.Counted.{few_actions}
 use Rattle.kp_inputs.proofs.TablesFor.{few_merges}
+use Rattle.kp_classic.proofs.OfGround.{task_fits as ground_fits}
+use Rattle.kp_given.specs.Translations.{ground_of, initial_of}
+use Rattle.kp_classical.specs.Classical.{IsClassical, task_of as classical_task}
+use Rattle.kp_classical.proofs.Counted.{is_of_atoms}
 use Rattle.kp_solving.proofs.Operators.{op_count}
 
 pub task_fits : (d : Domain Word) (p : Problem Word) (table : TagTable) → IsSmall d p → FitsLimits (task_of (ground_of d p) table) usual → IsWritableTask (ground_of d p) table → IsFit (task_of (ground_of d p) table)
@@ -22,3 +25,6 @@ task_fits d p table small fits writable =
     let merges = few_merges (ground_of d p) table fits in
     let actions = few_actions (numbered_problem d p) small.counts in
     tasks_are_fit (ground_of d p) table writable (omega (arith, facts)) (omega (arith, ops, merges, actions))
+
+pub classical_fit : (d : Domain Word) (p : Problem Word) → IsClassical d p → IsFit (classical_task d p)
+classical_fit d p c = ground_fits (ground_of d p) (initial_of d p) (is_of_atoms (numbered_problem d p) (ground_of d p) c.small)
