@@ -1,5 +1,5 @@
 -- Where the parts of the question are known, there is an answer.
-use Rattle.std.proofs.Common.{◌≡◌, ◌≤◌, ◌+◌, ◌⊎◌, ℕ, zero, suc, Bool, false, List, [], ◌∷◌, Option, Some, None, length, refl, sym, ap, subst, inl, inr, arith}
+use Rattle.std.proofs.Common.{◌≡◌, ◌≤◌, ◌+◌, ◌⊎◌, ℕ, zero, suc, List, [], ◌∷◌, length, refl, sym, ap, subst, inl, inr, arith}
 use Rattle.std.proofs.lemmas.Bool.{cases_lt}
 use Rattle.kp_base.specs.declared.lit.Lit.{Lit}
 use Rattle.kp_base.specs.declared.ground.Ground.{Ground}
@@ -7,76 +7,110 @@ use Rattle.kp_base.specs.declared.ground.Initial.{Initial}
 use Rattle.kp_base.specs.declared.refused.Refused.{Refused}
 use Rattle.kp_base.specs.declared.refused.Refused.TheVariants as refusals
 use Rattle.kp_base.specs.Lists.{Member}
-use Rattle.kp_base.specs.Covering.{IsCov}
+use Rattle.kp_base.specs.Covering.{IsCov, AllMeet}
 use Rattle.kp_base.specs.Relevance.{AreClausesFor}
-use Rattle.kp_sets.specs.Subsets.{place_sets, choose, first_that}
-use Rattle.kp_sets.specs.Sizes.{IsPassed, ArePassed, IsLeast, HasTooMany}
-use Rattle.kp_cover.specs.Covering.{pick, TellsCovers}
+use Rattle.kp_sets.specs.Subsets.{subsets, choose}
+use Rattle.kp_cover.specs.Covering.{IsCover}
+use Rattle.kp_cover.proofs.Taking.{one_cov}
 use Rattle.kp_width.specs.declared.report.WidthRow.{WidthRow}
 use Rattle.kp_width.specs.declared.report.WidthReport.{WidthReport}
 use Rattle.kp_width.specs.declared.report.WidthReport.TheVariants as reports
-use Rattle.kp_width.specs.Rows.{IsRowOf, IsOver, IsRefusedAt, AreRows, IsReached, used_tags}
+use Rattle.kp_width.specs.Rows.{NoneCovers, IsFirstCover, ArePassed, IsLeastCover, HasTooManySets, IsRowOf, IsOver, IsRefusedAt, AreRows, IsReached, used_tags}
 use Rattle.kp_width.specs.Answers.{IsReport, RefusesWidth}
 use Rattle.kp_width.specs.Laws.{KnownProblemsAreAnswered}
-use Rattle.kp_width.proofs.Sized.{as_many}
+use Rattle.kp_width.proofs.Places.{subset_length}
+use Rattle.kp_width.proofs.Right.{it_is_there}
 
 -- ---- one search
 
--- how a search among the sizes below a number ends
-data Ends (p : List ℕ → Bool) (n limit bound k : ℕ) : Type 0 where
-  passed : ArePassed p n limit false 0 k → Ends p n limit bound k
-  found : (size : ℕ) (places : List ℕ) → IsLeast p n limit false 0 bound size places → Ends p n limit bound k
-  refused : (size : ℕ) → HasTooMany p n limit false 0 bound size → Ends p n limit bound k
+module _ (i : Initial) (cs : List (List Lit)) (tags : (ds : List (List Lit)) → (ts : List (List Lit)) × IsCov i ds ts) (meeting : (ts ds : List (List Lit)) → AllMeet i ts ds ⊎ (AllMeet i ts ds → ⊥)) where
+  -- the first of some sets that covers, or none does
+  abbrev FirstOrNone : List (List (List Lit)) → Type 0
+  FirstOrNone sets = ((set : List (List Lit)) × (ts : List (List Lit)) × IsFirstCover i cs sets set ts) ⊎ NoneCovers i cs sets
 
-sizes : (p : List ℕ → Bool) (n limit bound k : ℕ) → k ≤ bound + 1 → Ends p n limit bound k
-sizes p n limit bound zero le = Ends.passed (λ v from below. absurd (omega (arith, below)))
-sizes p n limit bound (suc k) le = go (sizes p n limit bound k (omega (arith, le)))
-  where
-    by : (o : Option (List ℕ)) → first_that p (place_sets n k) ≡ o → choose n k ≤ limit → ArePassed p n limit false 0 k → Ends p n limit bound (suc k)
-    by (Some places) is few before = Ends.found k places (record { in_range = (omega arith, omega (arith, le)); few = few; first_one = is; least = before })
-    by None is few before = Ends.passed (λ v from below. elim (cases_lt v k) [
-      | inl lt ↦ before v from lt
-      | inr ge ↦ let same : k ≡ v = omega (arith, below, ge) in subst (IsPassed p n limit false) same (inl (few, is))
-    ])
+  -- a set of clauses covers, or doesn't
+  covering : (set : List (List Lit)) → ((ts : List (List Lit)) × IsCover i cs set ts) ⊎ ((ts : List (List Lit)) → IsCover i cs set ts → ⊥)
+  covering set = let its = tags set in elim (meeting its.0 cs) [
+    | inl meet ↦ inl (its.0, record { are = its.1; cover = meet })
+    | inr never ↦ inr (λ ts c. never (subst (λ (us : List (List Lit)). AllMeet i us cs) (one_cov i i set ts its.0 (λ s. refl) c.are its.1) c.cover))
+  ]
 
-    go : Ends p n limit bound k → Ends p n limit bound (suc k)
-    go (Ends.found size places l) = Ends.found size places l
-    go (Ends.refused size r) = Ends.refused size r
-    go (Ends.passed before) = elim (cases_lt limit (choose n k)) [
-      | inl over ↦ Ends.refused k (record { in_range = (omega arith, omega (arith, le)); many = over; stops = refl; before = before })
-      | inr few ↦ by (first_that p (place_sets n k)) refl few before
-    ]
+  first_cover : (sets : List (List (List Lit))) → FirstOrNone sets
+  first_cover [] = inr (λ set ts m c. absurd m)
+  first_cover (x ∷ sets) = go (covering x) (first_cover sets)
+    where
+      go : ((ts : List (List Lit)) × IsCover i cs x ts) ⊎ ((ts : List (List Lit)) → IsCover i cs x ts → ⊥) → FirstOrNone sets → FirstOrNone (x ∷ sets)
+      go (inl found) rest = inl (x, found.0, record { earlier = []; later = sets; among = refl; covers = found.1; none_earlier = λ set ts m c. absurd m })
+      go (inr never) (inl (set, ts, f)) = inl (
+        set,
+        ts,
+        record {
+          earlier = x ∷ f.earlier;
+          later = f.later;
+          among = ap (λ z. x ∷ z) f.among;
+          covers = f.covers;
+          none_earlier = λ other us m c. elim m [ inl same ↦ never us (subst (λ (z : List (List Lit)). IsCover i cs z us) (sym same) c) | inr later ↦ f.none_earlier other us later c ];
+        },
+      )
+      go (inr never) (inr lack) = inr (λ other us m c. elim m [ inl same ↦ never us (subst (λ (z : List (List Lit)). IsCover i cs z us) (sym same) c) | inr later ↦ lack other us later c ])
+
+  -- how a search among the sizes below a number ends
+  data Ends (limit bound k : ℕ) : Type 0 where
+    passed : ArePassed limit i cs k → Ends limit bound k
+    found : (set ts : List (List Lit)) → IsLeastCover limit bound i cs set ts → Ends limit bound k
+    refused : (size : ℕ) → HasTooManySets limit bound i cs size → Ends limit bound k
+
+  sizes : (limit bound k : ℕ) → k ≤ bound + 1 → Ends limit bound k
+  sizes limit bound zero le = Ends.passed (record { few = λ v below. absurd (omega (arith, below)); none_covers = λ v below. absurd (omega (arith, below)) })
+  sizes limit bound (suc k) le = go (sizes limit bound k (omega (arith, le)))
+    where
+      -- one size more is passed
+      onward : choose (length cs) k ≤ limit → NoneCovers i cs (subsets k cs) → ArePassed limit i cs k → ArePassed limit i cs (suc k)
+      onward few lack before = record {
+        few = λ v below. elim (cases_lt v k) [
+          | inl lt ↦ before.few v lt
+          | inr ge ↦ let same : k ≡ v = omega (arith, below, ge) in subst (λ (m : ℕ). choose (length cs) m ≤ limit) same few
+        ];
+        none_covers = λ v below. elim (cases_lt v k) [
+          | inl lt ↦ before.none_covers v lt
+          | inr ge ↦ let same : k ≡ v = omega (arith, below, ge) in subst (λ (m : ℕ). NoneCovers i cs (subsets m cs)) same lack
+        ];
+      }
+
+      by : FirstOrNone (subsets k cs) → choose (length cs) k ≤ limit → ArePassed limit i cs k → Ends limit bound (suc k)
+      by (inl (set, ts, f)) few before =
+          let long : k ≡ length set = sym (subset_length k cs set (it_is_there i cs (subsets k cs) set ts f)) in
+          Ends.found set ts (record {
+            in_bound = omega (arith, le, long);
+            few = subst (λ (m : ℕ). choose (length cs) m ≤ limit) long few;
+            first = subst (λ (m : ℕ). IsFirstCover i cs (subsets m cs) set ts) long f;
+            passed = subst (ArePassed limit i cs) long before;
+          })
+      by (inr lack) few before = Ends.passed (onward few lack before)
+
+      go : Ends limit bound k → Ends limit bound (suc k)
+      go (Ends.found set ts l) = Ends.found set ts l
+      go (Ends.refused size r) = Ends.refused size r
+      go (Ends.passed before) = elim (cases_lt limit (choose (length cs) k)) [
+        | inl over ↦ Ends.refused k (record { in_bound = omega (arith, le); many = over; passed = before })
+        | inr few ↦ by (first_cover (subsets k cs)) few before
+      ]
 
 -- ---- targets
 
-module _ (limit bound : ℕ) (g : Ground) (i : Initial) (test : List (List Lit) → List ℕ → Bool) (tells : (cs : List (List Lit)) → TellsCovers i cs (test cs)) (tags : (cs : List (List Lit)) → (ts : List (List Lit)) × IsCov i cs ts) where
+module _ (limit bound : ℕ) (g : Ground) (i : Initial) (tags : (ds : List (List Lit)) → (ts : List (List Lit)) × IsCov i ds ts) (meeting : (ts ds : List (List Lit)) → AllMeet i ts ds ⊎ (AllMeet i ts ds → ⊥)) where
   data OnTarget (t : Lit) : Type 0 where
     covered : (row : WidthRow) → IsRowOf limit bound g i t row → OnTarget t
     over : IsOver limit bound g i t → OnTarget t
     refused : (size : ℕ) → IsRefusedAt limit bound g i t size → OnTarget t
 
   on_target : (t : Lit) (cs : List (List Lit)) → AreClausesFor g.actions (length g.atoms) i t cs → OnTarget t
-  on_target t cs are = by (sizes (test cs) (length cs) limit bound (bound + 1) (omega arith))
+  on_target t cs are = by (sizes i cs tags meeting limit bound (bound + 1) (omega arith))
     where
-      by : Ends (test cs) (length cs) limit bound (bound + 1) → OnTarget t
-      by (Ends.passed h) = OnTarget.over (record { relevant = cs; are_relevant = are; no_cover = record { test = test cs; tells = tells cs; none = h } })
-      by (Ends.refused size h) = OnTarget.refused size (record { relevant = cs; are_relevant = are; too_many = record { test = test cs; tells = tells cs; many = h } })
-      by (Ends.found size places h) =
-          let set = pick cs places in
-          let long = as_many (test cs) (length cs) limit false 0 bound size places h in
-          OnTarget.covered (record { target = t; clauses = set; tags = (tags set).0 }) (record {
-            same_target = refl;
-            relevant = cs;
-            are_relevant = are;
-            least_cover = record {
-              test = test cs;
-              tells = tells cs;
-              places = places;
-              least = subst (λ (m : ℕ). IsLeast (test cs) (length cs) limit false 0 bound m places) (sym long) h;
-              clauses_there = refl;
-              its_tags = (tags set).1;
-            };
-          })
+      by : Ends i cs tags meeting limit bound (bound + 1) → OnTarget t
+      by (Ends.passed h) = OnTarget.over (record { relevant = cs; are_relevant = are; no_cover = h })
+      by (Ends.refused size h) = OnTarget.refused size (record { relevant = cs; are_relevant = are; too_many = h })
+      by (Ends.found set ts h) = OnTarget.covered (record { target = t; clauses = set; tags = ts }) (record { same_target = refl; relevant = cs; are_relevant = are; least_cover = h })
 
   data InTurn (ts : List Lit) : Type 0 where
     all : (rows : List WidthRow) → AreRows limit bound g i ts rows → InTurn ts
@@ -103,9 +137,9 @@ module _ (limit bound : ℕ) (g : Ground) (i : Initial) (test : List (List Lit) 
       go (OnTarget.covered row h) (InTurn.refused u size r o) = InTurn.refused u size (behind t u ts row h r) o
 
 pub answered : KnownProblemsAreAnswered
-answered limits bound g i k = by (in_turn limits.sets bound g i (λ cs. (k.covers cs).0) (λ cs. (k.covers cs).1) k.tags k.targets k.clauses)
+answered limits bound g i k = by (in_turn limits.sets bound g i k.tags k.meeting k.targets k.clauses)
   where
-    by : InTurn limits.sets bound g i (λ cs. (k.covers cs).0) (λ cs. (k.covers cs).1) k.tags k.targets → ((report : WidthReport) × IsReport limits bound g i report) ⊎ ((r : Refused) × RefusesWidth limits bound g i r)
+    by : InTurn limits.sets bound g i k.tags k.meeting k.targets → ((report : WidthReport) × IsReport limits bound g i report) ⊎ ((r : Refused) × RefusesWidth limits bound g i r)
     by (InTurn.over t r o) = inl (reports.Over t, IsReport.over k.targets t k.are_targets r o)
     by (InTurn.refused t size r o) = inr (refusals.SetsOver t size, RefusesWidth.sets_over k.targets t size k.are_targets r o)
     by (InTurn.all rows h) = elim (cases_lt limits.tags (length (used_tags rows))) [

@@ -1,5 +1,5 @@
 -- What is said of widths goes by the models alone.
-use Rattle.std.proofs.Common.{ℕ, Bool, List, length, sym, ◌∙◌}
+use Rattle.std.proofs.Common.{◌+◌, ℕ, List, length, sym, ◌∙◌}
 use Rattle.kp_base.specs.declared.lit.Lit.{Lit}
 use Rattle.kp_base.specs.declared.ground.Ground.{Ground}
 use Rattle.kp_base.specs.declared.ground.Initial.{Initial}
@@ -10,10 +10,11 @@ use Rattle.kp_base.specs.Entailed.{IsConsistent, HaveSameModels}
 use Rattle.kp_base.specs.Implicates.{IsImplicate}
 use Rattle.kp_base.specs.Relevance.{IsCandidate, AreClausesFor}
 use Rattle.kp_base.specs.Covering.{IsCov}
-use Rattle.kp_cover.specs.Covering.{IsCover, TellsCovers}
+use Rattle.kp_sets.specs.Subsets.{subsets}
+use Rattle.kp_cover.specs.Covering.{IsCover}
 use Rattle.kp_width.specs.declared.report.WidthRow.{WidthRow}
 use Rattle.kp_width.specs.declared.report.WidthReport.{WidthReport}
-use Rattle.kp_width.specs.Rows.{IsRowOf, IsOver, IsRefusedAt, AreRows, IsReached}
+use Rattle.kp_width.specs.Rows.{NoneCovers, IsFirstCover, ArePassed, IsRowOf, IsOver, IsRefusedAt, AreRows, IsReached}
 use Rattle.kp_width.specs.Answers.{IsReport, RefusesWidth}
 
 pub back : (i j : Initial) → HaveSameModels i j → HaveSameModels j i
@@ -56,11 +57,14 @@ cover i j same cs set tags h = record {
   cover = λ t c m k. let q = h.cover t c m k in record { lit = q.lit; of_clause = q.of_clause; entailed = λ s model. q.entailed s (same s ∙ model) };
 }
 
-tells : (i j : Initial) → HaveSameModels i j → (cs : List (List Lit)) (p : List ℕ → Bool) → TellsCovers i cs p → TellsCovers j cs p
-tells i j same cs p h s = (
-  λ e. let q = (h s).0 e in (q.0, cover i j same cs _ q.0 q.1),
-  λ q. (h s).1 (q.0, cover j i (back i j same) cs _ q.0 q.1),
-)
+none : (i j : Initial) → HaveSameModels i j → (cs : List (List Lit)) (sets : List (List (List Lit))) → NoneCovers i cs sets → NoneCovers j cs sets
+none i j same cs sets h set tags m c = h set tags m (cover j i (back i j same) cs set tags c)
+
+passed : (i j : Initial) → HaveSameModels i j → (limit : ℕ) (cs : List (List Lit)) (size : ℕ) → ArePassed limit i cs size → ArePassed limit j cs size
+passed i j same limit cs size h = record { few = h.few; none_covers = λ v below. none i j same cs (subsets v cs) (h.none_covers v below) }
+
+first : (i j : Initial) → HaveSameModels i j → (cs : List (List Lit)) (sets : List (List (List Lit))) (set tags : List (List Lit)) → IsFirstCover i cs sets set tags → IsFirstCover j cs sets set tags
+first i j same cs sets set tags h = record { earlier = h.earlier; later = h.later; among = h.among; covers = cover i j same cs set tags h.covers; none_earlier = none i j same cs h.earlier h.none_earlier }
 
 -- ---- targets
 
@@ -73,21 +77,21 @@ module _ (i j : Initial) (same : HaveSameModels i j) (g : Ground) (bound : ℕ) 
           same_target = h.same_target;
           relevant = h.relevant;
           are_relevant = clauses i j same g.actions (length g.atoms) t h.relevant h.are_relevant;
-          least_cover = record { test = l.test; tells = tells i j same h.relevant l.test l.tells; places = l.places; least = l.least; clauses_there = l.clauses_there; its_tags = cov i j same row.clauses row.tags l.its_tags };
+          least_cover = record { in_bound = l.in_bound; few = l.few; first = first i j same h.relevant (subsets (length row.clauses) h.relevant) row.clauses row.tags l.first; passed = passed i j same limit h.relevant (length row.clauses) l.passed };
         }
 
     over_by : (t : Lit) → IsOver limit bound g i t → IsOver limit bound g j t
     over_by t h = record {
       relevant = h.relevant;
       are_relevant = clauses i j same g.actions (length g.atoms) t h.relevant h.are_relevant;
-      no_cover = record { test = h.no_cover.test; tells = tells i j same h.relevant h.no_cover.test h.no_cover.tells; none = h.no_cover.none };
+      no_cover = passed i j same limit h.relevant (bound + 1) h.no_cover;
     }
 
     refused_by : (t : Lit) (size : ℕ) → IsRefusedAt limit bound g i t size → IsRefusedAt limit bound g j t size
     refused_by t size h = record {
       relevant = h.relevant;
       are_relevant = clauses i j same g.actions (length g.atoms) t h.relevant h.are_relevant;
-      too_many = record { test = h.too_many.test; tells = tells i j same h.relevant h.too_many.test h.too_many.tells; many = h.too_many.many };
+      too_many = record { in_bound = h.too_many.in_bound; many = h.too_many.many; passed = passed i j same limit h.relevant size h.too_many.passed };
     }
 
     rows_by : (ts : List Lit) (rows : List WidthRow) → AreRows limit bound g i ts rows → AreRows limit bound g j ts rows

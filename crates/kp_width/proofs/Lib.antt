@@ -9,4 +9,4 @@ pub mod OneAnswer
 pub mod OneSearch
 pub mod Places
 pub mod Right
-pub mod Sized
+pub mod Searched

@@ -1,5 +1,5 @@
 -- There is one answer on the width of a ground problem.
-use Rattle.std.proofs.Common.{◌≡◌, ◌+◌, ◌++◌, ℕ, Bool, List, [], ◌∷◌, length, refl, sym, ap, ap₂, subst, ◌∙◌, arith}
+use Rattle.std.proofs.Common.{◌≡◌, ◌++◌, ℕ, List, [], ◌∷◌, length, refl, sym, ap, ap₂, subst, ◌∙◌, arith}
 use Rattle.kp_base.specs.declared.lit.Lit.{Lit}
 use Rattle.kp_base.specs.declared.ground.Ground.{Ground}
 use Rattle.kp_base.specs.declared.ground.Initial.{Initial}
@@ -7,10 +7,9 @@ use Rattle.kp_base.specs.declared.limits.Limits.{Limits}
 use Rattle.kp_base.specs.declared.refused.Refused.{Refused}
 use Rattle.kp_base.specs.declared.refused.Refused.TheVariants as refusals
 use Rattle.kp_base.specs.Covering.{IsCov}
-use Rattle.kp_base.proofs.Lists.{bool_same, member_contains, contains_member}
+use Rattle.kp_base.proofs.Lists.{member_contains, contains_member}
 use Rattle.kp_base.proofs.Ascending.{same_members}
 use Rattle.kp_relevance.proofs.Ordered.{one_clauses_for}
-use Rattle.kp_cover.specs.Covering.{pick, TellsCovers}
 use Rattle.kp_cover.specs.Targets.{AreTargets}
 use Rattle.kp_cover.proofs.Taking.{one_cov}
 use Rattle.kp_width.specs.declared.report.WidthRow.{WidthRow}
@@ -20,31 +19,7 @@ use Rattle.kp_width.specs.Rows.{IsLeastCover, HasNoCover, HasTooManySets, IsRowO
 use Rattle.kp_width.specs.Answers.{IsReport, RefusesWidth}
 use Rattle.kp_width.specs.Laws.{ProblemsHaveOneWidth}
 use Rattle.kp_width.proofs.ByModels.{back, report_by, refusal_by}
-use Rattle.kp_width.proofs.OneSearch as searches
-
--- ---- one target, by its relevant clauses
-
-module _ (limit bound : ℕ) (i : Initial) (cs : List (List Lit)) where
-  alike : (p q : List ℕ → Bool) → TellsCovers i cs p → TellsCovers i cs q → (s : List ℕ) → p s ≡ q s
-  alike p q a b s = bool_same (p s) (q s) (λ e. (b s).1 ((a s).0 e)) (λ e. (a s).1 ((b s).0 e))
-
-  one_set : (set other tags more : List (List Lit)) → IsLeastCover limit bound i cs set tags → IsLeastCover limit bound i cs other more → set ≡ other
-  one_set set other tags more l m =
-      let q = searches.least l.test m.test (alike l.test m.test l.tells m.tells) (length cs) limit bound (length m.places) m.places m.least in
-      let e = searches.one_least l.test (length cs) limit bound (length l.places) (length m.places) l.places m.places l.least q in
-      l.clauses_there ∙ (ap (pick cs) e ∙ sym m.clauses_there)
-
-  not_none : (set tags : List (List Lit)) → IsLeastCover limit bound i cs set tags → HasNoCover limit bound i cs → ⊥
-  not_none set tags l m = searches.not_none l.test (length cs) limit bound (length l.places) l.places l.least (searches.are_passed l.test m.test (alike l.test m.test l.tells m.tells) (length cs) limit (bound + 1) m.none)
-
-  not_many : (set tags : List (List Lit)) (size : ℕ) → IsLeastCover limit bound i cs set tags → HasTooManySets limit bound i cs size → ⊥
-  not_many set tags size l m = searches.not_both l.test (length cs) limit bound (length l.places) size l.places l.least (searches.too_many l.test m.test (alike l.test m.test l.tells m.tells) (length cs) limit bound size m.many)
-
-  never_refused : (size : ℕ) → HasNoCover limit bound i cs → HasTooManySets limit bound i cs size → ⊥
-  never_refused size l m = searches.never_refused l.test (length cs) limit bound size (searches.too_many l.test m.test (alike l.test m.test l.tells m.tells) (length cs) limit bound size m.many) l.none
-
-  one_size : (a b : ℕ) → HasTooManySets limit bound i cs a → HasTooManySets limit bound i cs b → a ≡ b
-  one_size a b l m = searches.one_size l.test (length cs) limit bound a b l.many (searches.too_many l.test m.test (alike l.test m.test l.tells m.tells) (length cs) limit bound b m.many)
+use Rattle.kp_width.proofs.OneSearch.{one_set, one_size, not_many, not_none, never_refused}
 
 -- ---- targets
 
@@ -53,30 +28,30 @@ module _ (limit bound : ℕ) (g : Ground) (i : Initial) where
   one_row t a b p q =
       let e = one_clauses_for g.actions (length g.atoms) i t q.relevant p.relevant q.are_relevant p.are_relevant in
       let l = subst (λ (cs : List (List Lit)). IsLeastCover limit bound i cs b.clauses b.tags) e q.least_cover in
-      let set = one_set limit bound i p.relevant a.clauses b.clauses a.tags b.tags p.least_cover l in
-      let tags = one_cov i i a.clauses a.tags b.tags (λ s. refl) p.least_cover.its_tags (subst (λ (z : List (List Lit)). IsCov i z b.tags) (sym set) l.its_tags) in
+      let set = one_set i p.relevant limit bound a.clauses b.clauses a.tags b.tags p.least_cover l in
+      let tags = one_cov i i a.clauses a.tags b.tags (λ s. refl) p.least_cover.first.covers.are (subst (λ (z : List (List Lit)). IsCov i z b.tags) (sym set) l.first.covers.are) in
       ap (λ (u : Lit). let row : WidthRow = record { target = u; clauses = a.clauses; tags = a.tags } in row) (p.same_target ∙ sym q.same_target)
       ∙ ap₂ (λ (x y : List (List Lit)). let row : WidthRow = record { target = b.target; clauses = x; tags = y } in row) set tags
 
   not_over : (t : Lit) (row : WidthRow) → IsRowOf limit bound g i t row → IsOver limit bound g i t → ⊥
   not_over t row p q =
       let e = one_clauses_for g.actions (length g.atoms) i t q.relevant p.relevant q.are_relevant p.are_relevant in
-      not_none limit bound i p.relevant row.clauses row.tags p.least_cover (subst (HasNoCover limit bound i) e q.no_cover)
+      not_none i p.relevant limit bound row.clauses row.tags p.least_cover (subst (λ (cs : List (List Lit)). HasNoCover limit bound i cs) e q.no_cover)
 
   not_refused : (t : Lit) (row : WidthRow) (size : ℕ) → IsRowOf limit bound g i t row → IsRefusedAt limit bound g i t size → ⊥
   not_refused t row size p q =
       let e = one_clauses_for g.actions (length g.atoms) i t q.relevant p.relevant q.are_relevant p.are_relevant in
-      not_many limit bound i p.relevant row.clauses row.tags size p.least_cover (subst (λ (cs : List (List Lit)). HasTooManySets limit bound i cs size) e q.too_many)
+      not_many i p.relevant limit bound row.clauses row.tags size p.least_cover (subst (λ (cs : List (List Lit)). HasTooManySets limit bound i cs size) e q.too_many)
 
   not_over_refused : (t : Lit) (size : ℕ) → IsOver limit bound g i t → IsRefusedAt limit bound g i t size → ⊥
   not_over_refused t size p q =
       let e = one_clauses_for g.actions (length g.atoms) i t q.relevant p.relevant q.are_relevant p.are_relevant in
-      never_refused limit bound i p.relevant size p.no_cover (subst (λ (cs : List (List Lit)). HasTooManySets limit bound i cs size) e q.too_many)
+      never_refused i p.relevant limit bound size p.no_cover (subst (λ (cs : List (List Lit)). HasTooManySets limit bound i cs size) e q.too_many)
 
   one_refused : (t : Lit) (a b : ℕ) → IsRefusedAt limit bound g i t a → IsRefusedAt limit bound g i t b → a ≡ b
   one_refused t a b p q =
       let e = one_clauses_for g.actions (length g.atoms) i t q.relevant p.relevant q.are_relevant p.are_relevant in
-      one_size limit bound i p.relevant a b p.too_many (subst (λ (cs : List (List Lit)). HasTooManySets limit bound i cs b) e q.too_many)
+      one_size i p.relevant limit bound a b p.too_many (subst (λ (cs : List (List Lit)). HasTooManySets limit bound i cs b) e q.too_many)
 
   -- ---- one after the other
 

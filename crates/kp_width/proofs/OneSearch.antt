@@ -1,75 +1,61 @@
--- A search by sizes ends in one way.
-use Rattle.std.proofs.Common.{◌≡◌, ◌≤◌, ◌+◌, ℕ, Bool, false, List, [], ◌∷◌, Option, Some, None, if◌then◌else◌, refl, sym, ap, ap₂, subst, ◌∙◌, inl, inr, arith}
-use Rattle.std.proofs.lemmas.Bool.{cases_lt, false≢true}
+-- A search among the sets of clauses ends in one way.
+use Rattle.std.proofs.Common.{◌≡◌, ◌<◌, ◌≤◌, ◌+◌, ◌++◌, ℕ, List, [], ◌∷◌, length, sym, subst, ◌∙◌, inl, inr, arith}
+use Rattle.std.proofs.lemmas.Bool.{cases_lt}
 use Rattle.std.proofs.Math.Nat.{eq-or-lt_of_le}
-use Rattle.kp_sets.specs.Subsets.{place_sets, choose, first_that}
-use Rattle.kp_sets.specs.Sizes.{IsPassed, ArePassed, IsLeast, HasTooMany}
+use Rattle.kp_base.specs.declared.lit.Lit.{Lit}
+use Rattle.kp_base.specs.declared.ground.Initial.{Initial}
+use Rattle.kp_sets.specs.Subsets.{subsets, choose}
+use Rattle.kp_cover.specs.Covering.{IsCover}
+use Rattle.kp_width.specs.Rows.{NoneCovers, IsFirstCover, ArePassed, IsLeastCover, HasNoCover, HasTooManySets}
+use Rattle.kp_width.proofs.Right.{it_is_there}
 
--- ---- two tests that say the same
+module _ (i : Initial) (cs : List (List Lit)) where
+  one_split : (e f l m : List (List (List Lit))) (a b s t : List (List Lit)) → e ++ a ∷ l ≡ f ++ b ∷ m → IsCover i cs a s → IsCover i cs b t → NoneCovers i cs e → NoneCovers i cs f → a ≡ b
+  one_split [] [] l m a b s t is p q before sooner = cc is
+  one_split [] (x ∷ f) l m a b s t is p q before sooner = let same : x ≡ a = cc is in absurd (sooner a s (inl same) p)
+  one_split (x ∷ e) [] l m a b s t is p q before sooner = let same : x ≡ b = cc is in absurd (before b t (inl same) q)
+  one_split (x ∷ e) (y ∷ f) l m a b s t is p q before sooner =
+      let rest : e ++ a ∷ l ≡ f ++ b ∷ m = cc is in
+      one_split e f l m a b s t rest p q (λ z ts k. before z ts (inr k)) (λ z ts k. sooner z ts (inr k))
 
-first_alike : (p q : List ℕ → Bool) → ((s : List ℕ) → p s ≡ q s) → (sets : List (List ℕ)) → first_that p sets ≡ first_that q sets
-first_alike p q e [] = refl
-first_alike p q e (s ∷ sets) = ap₂ (λ (b : Bool) (r : Option (List ℕ)). if b then Some s else r) (e s) (first_alike p q e sets)
+  one_first : (sets : List (List (List Lit))) (a b s t : List (List Lit)) → IsFirstCover i cs sets a s → IsFirstCover i cs sets b t → a ≡ b
+  one_first sets a b s t p q = one_split p.earlier q.earlier p.later q.later a b s t (sym p.among ∙ q.among) p.covers q.covers p.none_earlier q.none_earlier
 
-module _ (p q : List ℕ → Bool) (alike : (s : List ℕ) → p s ≡ q s) (n limit : ℕ) where
-  passed : (size : ℕ) → IsPassed q n limit false size → IsPassed p n limit false size
-  passed size h = elim h [ inl a ↦ inl (a.0, first_alike p q alike (place_sets n size) ∙ a.1) | inr b ↦ inr b ]
+  module _ (limit bound : ℕ) where
+    -- the size of a least set isn't passed
+    found : (set tags : List (List Lit)) (size : ℕ) → IsLeastCover limit bound i cs set tags → length set < size → ArePassed limit i cs size → ⊥
+    found set tags size l lt h = h.none_covers (length set) lt set tags (it_is_there i cs (subsets (length set) cs) set tags l.first) l.first.covers
 
-  pub are_passed : (size : ℕ) → ArePassed q n limit false 0 size → ArePassed p n limit false 0 size
-  are_passed size h v from below = passed v (h v from below)
+    -- nor is one that is refused
+    refused : (a size : ℕ) → HasTooManySets limit bound i cs a → a < size → ArePassed limit i cs size → ⊥
+    refused a size r lt h = absurd (omega (arith, r.many, h.few a lt))
 
-  pub least : (bound size : ℕ) (places : List ℕ) → IsLeast q n limit false 0 bound size places → IsLeast p n limit false 0 bound size places
-  least bound size places l = record { in_range = l.in_range; few = l.few; first_one = first_alike p q alike (place_sets n size) ∙ l.first_one; least = are_passed size l.least }
-
-  pub too_many : (bound size : ℕ) → HasTooMany q n limit false 0 bound size → HasTooMany p n limit false 0 bound size
-  too_many bound size h = record { in_range = h.in_range; many = h.many; stops = h.stops; before = are_passed size h.before }
-
--- ---- one test
-
-module _ (p : List ℕ → Bool) (n limit bound : ℕ) where
-  -- the size of a least set isn't passed
-  found : (size : ℕ) (places : List ℕ) → IsLeast p n limit false 0 bound size places → IsPassed p n limit false size → ⊥
-  found size places l h = elim h [
-    | inl a ↦ let bad : None ≡ Some places = sym a.1 ∙ l.first_one in absurd (cc bad)
-    | inr b ↦ absurd (false≢true b.1)
-  ]
-
-  -- nor is a size that is refused
-  refused : (size : ℕ) → HasTooMany p n limit false 0 bound size → IsPassed p n limit false size → ⊥
-  refused size r h = elim h [
-    | inl a ↦ absurd (omega (arith, r.many, a.0))
-    | inr b ↦ absurd (false≢true b.1)
-  ]
-
-  pub one_least : (a b : ℕ) (x y : List ℕ) → IsLeast p n limit false 0 bound a x → IsLeast p n limit false 0 bound b y → x ≡ y
-  one_least a b x y l m = elim (cases_lt a b) [
-    | inl lt ↦ absurd (found a x l (m.least a (omega arith) lt))
-    | inr le ↦ elim (eq-or-lt_of_le le) [
-      | inl e ↦ let both : Some x ≡ Some y = sym l.first_one ∙ (ap (λ m. first_that p (place_sets n m)) (sym e) ∙ m.first_one) in cc both
-      | inr gt ↦ absurd (found b y m (l.least b (omega arith) gt))
+    pub one_set : (a b s t : List (List Lit)) → IsLeastCover limit bound i cs a s → IsLeastCover limit bound i cs b t → a ≡ b
+    one_set a b s t l m = elim (cases_lt (length a) (length b)) [
+      | inl lt ↦ absurd (found a s (length b) l lt m.passed)
+      | inr le ↦ elim (eq-or-lt_of_le le) [
+        | inl e ↦ one_first (subsets (length a) cs) a b s t l.first (subst (λ (k : ℕ). IsFirstCover i cs (subsets k cs) b t) e m.first)
+        | inr gt ↦ absurd (found b t (length a) m gt l.passed)
+      ]
     ]
-  ]
 
-  pub one_size : (a b : ℕ) → HasTooMany p n limit false 0 bound a → HasTooMany p n limit false 0 bound b → a ≡ b
-  one_size a b l m = elim (cases_lt a b) [
-    | inl lt ↦ absurd (refused a l (m.before a (omega arith) lt))
-    | inr le ↦ elim (eq-or-lt_of_le le) [
-      | inl e ↦ sym e
-      | inr gt ↦ absurd (refused b m (l.before b (omega arith) gt))
+    pub one_size : (a b : ℕ) → HasTooManySets limit bound i cs a → HasTooManySets limit bound i cs b → a ≡ b
+    one_size a b l m = elim (cases_lt a b) [
+      | inl lt ↦ absurd (refused a b l lt m.passed)
+      | inr le ↦ elim (eq-or-lt_of_le le) [ inl e ↦ sym e | inr gt ↦ absurd (refused b a m gt l.passed) ]
     ]
-  ]
 
-  pub not_both : (a b : ℕ) (x : List ℕ) → IsLeast p n limit false 0 bound a x → HasTooMany p n limit false 0 bound b → ⊥
-  not_both a b x l m = elim (cases_lt a b) [
-    | inl lt ↦ found a x l (m.before a (omega arith) lt)
-    | inr le ↦ elim (eq-or-lt_of_le le) [
-      | inl e ↦ absurd (omega (arith, m.many, subst (λ (k : ℕ). choose n k ≤ limit) (sym e) l.few))
-      | inr gt ↦ refused b m (l.least b (omega arith) gt)
+    pub not_many : (set tags : List (List Lit)) (size : ℕ) → IsLeastCover limit bound i cs set tags → HasTooManySets limit bound i cs size → ⊥
+    not_many set tags size l m = elim (cases_lt (length set) size) [
+      | inl lt ↦ found set tags size l lt m.passed
+      | inr le ↦ elim (eq-or-lt_of_le le) [
+        | inl e ↦ absurd (omega (arith, m.many, subst (λ (k : ℕ). choose (length cs) k ≤ limit) (sym e) l.few))
+        | inr gt ↦ refused size (length set) m gt l.passed
+      ]
     ]
-  ]
 
-  pub not_none : (a : ℕ) (x : List ℕ) → IsLeast p n limit false 0 bound a x → ArePassed p n limit false 0 (bound + 1) → ⊥
-  not_none a x l none = found a x l (none a (omega arith) (omega (arith, l.in_range.1)))
+    pub not_none : (set tags : List (List Lit)) → IsLeastCover limit bound i cs set tags → HasNoCover limit bound i cs → ⊥
+    not_none set tags l none = found set tags (bound + 1) l (omega (arith, l.in_bound)) none
 
-  pub never_refused : (a : ℕ) → HasTooMany p n limit false 0 bound a → ArePassed p n limit false 0 (bound + 1) → ⊥
-  never_refused a m none = refused a m (none a (omega arith) (omega (arith, m.in_range.1)))
+    pub never_refused : (size : ℕ) → HasNoCover limit bound i cs → HasTooManySets limit bound i cs size → ⊥
+    never_refused size none m = refused size (bound + 1) m (omega (arith, m.in_bound)) none

@@ -1,5 +1,5 @@
 -- Laws of widths.
-use Rattle.std.specs.Prelude.{◌≡◌, ◌<◌, ◌⊎◌, ℕ, Bool, List, length}
+use Rattle.std.specs.Prelude.{◌≡◌, ◌<◌, ◌⊎◌, ℕ, List, length}
 use Rattle.kp_base.specs.declared.lit.Lit.{Lit}
 use Rattle.kp_base.specs.declared.ground.Ground.{Ground}
 use Rattle.kp_base.specs.declared.ground.Initial.{Initial}
@@ -7,9 +7,8 @@ use Rattle.kp_base.specs.declared.limits.Limits.{Limits}
 use Rattle.kp_base.specs.declared.refused.Refused.{Refused}
 use Rattle.kp_base.specs.Lists.{Member}
 use Rattle.kp_base.specs.Entailed.{HaveSameModels}
-use Rattle.kp_base.specs.Covering.{IsCov}
+use Rattle.kp_base.specs.Covering.{IsCov, AllMeet}
 use Rattle.kp_base.specs.Relevance.{AreClausesFor}
-use Rattle.kp_cover.specs.Covering.{TellsCovers}
 use Rattle.kp_cover.specs.Targets.{AreTargets}
 use Rattle.kp_width.specs.declared.report.WidthRow.{WidthRow}
 use Rattle.kp_width.specs.declared.report.WidthReport.{WidthReport}
@@ -34,13 +33,13 @@ TargetsOverAreWider = (limit bound : ℕ) (g : Ground) (i : Initial) (target : L
 
 -- ---- there is an answer
 
--- what the width is made of is known: the targets, the clauses that are relevant to each, which sets of clauses cover, and the tags of clauses
+-- what the width is made of is known: the targets, the clauses that are relevant to each, the tags of clauses, and whether tags meet clauses
 pub record IsKnown (g : Ground) (i : Initial) : Type 0 where
   pub targets : List Lit
   pub are_targets : AreTargets g targets
   pub clauses : (target : Lit) → Member targets target → (cs : List (List Lit)) × AreClausesFor g.actions (length g.atoms) i target cs
-  pub covers : (cs : List (List Lit)) → (test : (List ℕ → Bool)) × TellsCovers i cs test
   pub tags : (cs : List (List Lit)) → (ts : List (List Lit)) × IsCov i cs ts
+  pub meeting : (ts cs : List (List Lit)) → AllMeet i ts cs ⊎ (AllMeet i ts cs → ⊥)
 
 -- then there is a report, or a refusal
 abbrev pub KnownProblemsAreAnswered : Type 0

@@ -1,39 +1,51 @@
--- The rows of targets: the first of the least sets of relevant clauses that covers, with its tags. Sets of one size stand in order, and there is a limit on how many of one size are tried.
-use Rattle.std.specs.Prelude.{◌≡◌, ◌+◌, ◌++◌, ℕ, Bool, false, List, [], ◌∷◌, length}
+-- The rows of targets: the first of the least sets of relevant clauses that cover, with its tags. Sets of one size stand in order, and there is a limit on how many of one size are tried.
+use Rattle.std.specs.Prelude.{◌≡◌, ◌≤◌, ◌<◌, ◌+◌, ◌++◌, ℕ, List, [], ◌∷◌, length}
 use Rattle.std.specs.List.{flat_map}
 use Rattle.kp_base.specs.declared.lit.Lit.{Lit}
 use Rattle.kp_base.specs.declared.ground.Ground.{Ground}
 use Rattle.kp_base.specs.declared.ground.Initial.{Initial}
-use Rattle.kp_base.specs.Lists.{each_once}
+use Rattle.kp_base.specs.Lists.{Member, each_once}
 use Rattle.kp_base.specs.LitSet.{same_set}
-use Rattle.kp_base.specs.Covering.{IsCov}
 use Rattle.kp_base.specs.Relevance.{AreClausesFor}
-use Rattle.kp_sets.specs.Sizes.{ArePassed, IsLeast, HasTooMany}
-use Rattle.kp_cover.specs.Covering.{pick, TellsCovers}
+use Rattle.kp_sets.specs.Subsets.{subsets, choose}
+use Rattle.kp_cover.specs.Covering.{IsCover}
 use Rattle.kp_width.specs.declared.report.WidthRow.{WidthRow}
 
 -- ---- sets of the clauses that are relevant to a target
 
--- the set is the first of the least sets of the clauses that cover them all, of sizes up to the bound, and these are its tags
+-- none of these sets of clauses has tags that meet all the clauses
+abbrev pub NoneCovers : Initial → List (List Lit) → List (List (List Lit)) → Type 0
+NoneCovers i cs sets = (set tags : List (List Lit)) → Member sets set → IsCover i cs set tags → ⊥
+
+-- the set is the first of these that covers, and these are its tags
+pub record IsFirstCover (i : Initial) (cs : List (List Lit)) (sets : List (List (List Lit))) (set tags : List (List Lit)) : Type 0 where
+  pub earlier : List (List (List Lit))
+  pub later : List (List (List Lit))
+  pub among : sets ≡ earlier ++ set ∷ later
+  pub covers : IsCover i cs set tags
+  pub none_earlier : NoneCovers i cs earlier
+
+-- the sizes below this one are passed: of each there are no more sets of clauses than the limit, and none of them covers
+pub record ArePassed (limit : ℕ) (i : Initial) (cs : List (List Lit)) (size : ℕ) : Type 0 where
+  pub few : (v : ℕ) → v < size → choose (length cs) v ≤ limit
+  pub none_covers : (v : ℕ) → v < size → NoneCovers i cs (subsets v cs)
+
+-- the set is the first of the least sets that cover, of a size up to the bound, and these are its tags
 pub record IsLeastCover (limit bound : ℕ) (i : Initial) (cs set tags : List (List Lit)) : Type 0 where
-  pub test : List ℕ → Bool
-  pub tells : TellsCovers i cs test
-  pub places : List ℕ
-  pub least : IsLeast test (length cs) limit false 0 bound (length places) places
-  pub clauses_there : set ≡ pick cs places
-  pub its_tags : IsCov i set tags
+  pub in_bound : length set ≤ bound
+  pub few : choose (length cs) (length set) ≤ limit
+  pub first : IsFirstCover i cs (subsets (length set) cs) set tags
+  pub passed : ArePassed limit i cs (length set)
 
--- no set of the clauses of a size up to the bound covers
-pub record HasNoCover (limit bound : ℕ) (i : Initial) (cs : List (List Lit)) : Type 0 where
-  pub test : List ℕ → Bool
-  pub tells : TellsCovers i cs test
-  pub none : ArePassed test (length cs) limit false 0 (bound + 1)
+-- no set of a size up to the bound covers
+abbrev pub HasNoCover : ℕ → ℕ → Initial → List (List Lit) → Type 0
+HasNoCover limit bound i cs = ArePassed limit i cs (bound + 1)
 
--- no set of fewer of the clauses covers, and there are more sets of this size than the limit
+-- no smaller set covers, and of this size there are more sets than the limit
 pub record HasTooManySets (limit bound : ℕ) (i : Initial) (cs : List (List Lit)) (size : ℕ) : Type 0 where
-  pub test : List ℕ → Bool
-  pub tells : TellsCovers i cs test
-  pub many : HasTooMany test (length cs) limit false 0 bound size
+  pub in_bound : size ≤ bound
+  pub many : limit < choose (length cs) size
+  pub passed : ArePassed limit i cs size
 
 -- ---- targets
 

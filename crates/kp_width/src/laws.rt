@@ -12,7 +12,7 @@ pub fn targets_over_are_wider()
     ensures { TargetsOverAreWider }
 {}
 
-/// Where targets, relevant clauses, covers and tags are known, there is an answer on the width.
+/// Where targets, relevant clauses and tags are known, and whether tags meet clauses, there is an answer on the width.
 pub fn known_problems_are_answered()
     ensures { KnownProblemsAreAnswered }
 {}
