@@ -1,0 +1,3 @@
+mod ExampleTexts
+pub mod Spelled
+pub mod Turns

@@ -1,0 +1,4 @@
+pub mod Bombs
+pub mod Line
+pub mod Lines
+pub mod Numbered

@@ -1,0 +1,66 @@
+-- The clauses of a row are as many as the width of its target.
+use Rattle.std.proofs.Common.{◌≤◌, ℕ, List, ◌∷◌, length, refl, sym, subst, inl, inr, arith}
+use Rattle.std.proofs.lemmas.Bool.{cases_lt}
+use Rattle.kp_base.specs.declared.lit.Lit.{Lit}
+use Rattle.kp_base.specs.declared.ground.Ground.{Ground}
+use Rattle.kp_base.specs.declared.ground.Initial.{Initial}
+use Rattle.kp_base.specs.Lists.{Member}
+use Rattle.kp_base.specs.Relevance.{AreClausesFor}
+use Rattle.kp_base.proofs.Lists.{member_right}
+use Rattle.kp_sets.specs.Subsets.{subsets}
+use Rattle.kp_sets.specs.Laws.{IsSublist}
+use Rattle.kp_relevance.proofs.Ordered.{one_clauses_for}
+use Rattle.kp_cover.specs.Covering.{IsCover}
+use Rattle.kp_width.specs.declared.report.WidthRow.{WidthRow}
+use Rattle.kp_width.specs.Width.{CoversTarget}
+use Rattle.kp_width.specs.Rows.{IsFirstCover, IsRowOf}
+use Rattle.kp_width.specs.Laws.{RowsHaveTheWidth, TargetsOverAreWider}
+use Rattle.kp_width.proofs.Places.{some_of, of_some}
+
+-- the first of some sets that covers is one of them
+pub it_is_there : (i : Initial) (cs : List (List Lit)) (sets : List (List (List Lit))) (set tags : List (List Lit)) → IsFirstCover i cs sets set tags → Member sets set
+it_is_there i cs sets set tags f = subst (λ (z : List (List (List Lit))). Member z set) (sym f.among) (member_right f.earlier (set ∷ f.later) set (inl refl))
+
+-- clauses that cover a target are a set of their size, and cover all that are relevant
+module _ (g : Ground) (i : Initial) (target : Lit) (cs : List (List Lit)) (are : AreClausesFor g.actions (length g.atoms) i target cs) where
+  there : (set tags : List (List Lit)) → CoversTarget g i target set tags → Member (subsets (length set) cs) set
+  there set tags h = of_some cs set (subst (IsSublist set) (one_clauses_for g.actions (length g.atoms) i target h.relevant cs h.are_relevant are) h.some)
+
+  covers_them : (set tags : List (List Lit)) → CoversTarget g i target set tags → IsCover i cs set tags
+  covers_them set tags h = record { are = h.its_tags; cover = λ tag c m k. h.cover tag c m ((are.exact c).0 k) }
+
+module _ (limit bound : ℕ) (g : Ground) (i : Initial) (target : Lit) (row : WidthRow) (r : IsRowOf limit bound g i target row) where
+  covers : CoversTarget g i target row.clauses row.tags
+  covers =
+      let l = r.least_cover in
+      record {
+        relevant = r.relevant;
+        are_relevant = r.are_relevant;
+        some = some_of r.relevant (length row.clauses) row.clauses (it_is_there i r.relevant (subsets (length row.clauses) r.relevant) row.clauses row.tags l.first);
+        its_tags = l.first.covers.are;
+        cover = λ tag c m k. l.first.covers.cover tag c m ((r.are_relevant.exact c).1 k);
+      }
+
+  least : (others more : List (List Lit)) → CoversTarget g i target others more → length row.clauses ≤ length others
+  least others more h = elim (cases_lt (length others) (length row.clauses)) [
+    | inr le ↦ le
+    | inl lt ↦ absurd (r.least_cover.passed.none_covers (length others) lt others more (there g i target r.relevant r.are_relevant others more h) (covers_them g i target r.relevant r.are_relevant others more h))
+  ]
+
+pub rows_right : RowsHaveTheWidth
+rows_right limit bound g i target row r = record {
+  covers = covers limit bound g i target row r;
+  width = record {
+    clauses = row.clauses;
+    tags = row.tags;
+    covers = covers limit bound g i target row r;
+    as_many = refl;
+    least = least limit bound g i target row r;
+  };
+}
+
+pub over_wider : TargetsOverAreWider
+over_wider limit bound g i target width o h = elim (cases_lt bound width) [
+  | inl lt ↦ lt
+  | inr le ↦ absurd (o.no_cover.none_covers (length h.clauses) (omega (arith, h.as_many, le)) h.clauses h.tags (there g i target o.relevant o.are_relevant h.clauses h.tags h.covers) (covers_them g i target o.relevant o.are_relevant h.clauses h.tags h.covers))
+]

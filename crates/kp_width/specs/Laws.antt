@@ -1,0 +1,58 @@
+-- Laws of widths.
+use Rattle.std.specs.Prelude.{◌≡◌, ◌<◌, ◌⊎◌, ℕ, List, length}
+use Rattle.kp_base.specs.declared.lit.Lit.{Lit}
+use Rattle.kp_base.specs.declared.ground.Ground.{Ground}
+use Rattle.kp_base.specs.declared.ground.Initial.{Initial}
+use Rattle.kp_base.specs.declared.limits.Limits.{Limits}
+use Rattle.kp_base.specs.declared.refused.Refused.{Refused}
+use Rattle.kp_base.specs.Lists.{Member}
+use Rattle.kp_base.specs.Entailed.{HaveSameModels}
+use Rattle.kp_base.specs.Covering.{IsCov, AllMeet}
+use Rattle.kp_base.specs.Relevance.{AreClausesFor}
+use Rattle.kp_cover.specs.Targets.{AreTargets}
+use Rattle.kp_width.specs.declared.report.WidthRow.{WidthRow}
+use Rattle.kp_width.specs.declared.report.WidthReport.{WidthReport}
+use Rattle.kp_width.specs.Width.{CoversTarget, HasWidth}
+use Rattle.kp_width.specs.Rows.{IsRowOf, IsOver}
+use Rattle.kp_width.specs.Answers.{IsReport, RefusesWidth}
+
+-- ---- the rows are right
+
+-- the clauses of a row cover its target, and are as many as the width
+pub record IsRightRow (g : Ground) (i : Initial) (target : Lit) (row : WidthRow) : Type 0 where
+  pub covers : CoversTarget g i target row.clauses row.tags
+  pub width : HasWidth g i target (length row.clauses)
+
+-- each row is so
+abbrev pub RowsHaveTheWidth : Type 0
+RowsHaveTheWidth = (limit bound : ℕ) (g : Ground) (i : Initial) (target : Lit) (row : WidthRow) → IsRowOf limit bound g i target row → IsRightRow g i target row
+
+-- a target without a cover within the bound is wider than the bound
+abbrev pub TargetsOverAreWider : Type 0
+TargetsOverAreWider = (limit bound : ℕ) (g : Ground) (i : Initial) (target : Lit) (width : ℕ) → IsOver limit bound g i target → HasWidth g i target width → bound < width
+
+-- ---- there is an answer
+
+-- what the width is made of is known: the targets, the clauses that are relevant to each, the tags of clauses, and whether tags meet clauses
+pub record IsKnown (g : Ground) (i : Initial) : Type 0 where
+  pub targets : List Lit
+  pub are_targets : AreTargets g targets
+  pub clauses : (target : Lit) → Member targets target → (cs : List (List Lit)) × AreClausesFor g.actions (length g.atoms) i target cs
+  pub tags : (cs : List (List Lit)) → (ts : List (List Lit)) × IsCov i cs ts
+  pub meeting : (ts cs : List (List Lit)) → AllMeet i ts cs ⊎ (AllMeet i ts cs → ⊥)
+
+-- then there is a report, or a refusal
+abbrev pub KnownProblemsAreAnswered : Type 0
+KnownProblemsAreAnswered = (limits : Limits) (bound : ℕ) (g : Ground) (i : Initial) → IsKnown g i → ((report : WidthReport) × IsReport limits bound g i report) ⊎ ((r : Refused) × RefusesWidth limits bound g i r)
+
+-- ---- there is one answer
+
+-- two answers are the same: the same report, or the same refusal
+pub record HasOneAnswer (limits : Limits) (bound : ℕ) (g : Ground) (i j : Initial) : Type 0 where
+  pub reports : (a b : WidthReport) → IsReport limits bound g i a → IsReport limits bound g j b → a ≡ b
+  pub refusals : (r s : Refused) → RefusesWidth limits bound g i r → RefusesWidth limits bound g j s → r ≡ s
+  pub never_both : (a : WidthReport) (r : Refused) → IsReport limits bound g i a → RefusesWidth limits bound g j r → ⊥
+
+-- so it is with the formulas that have the same models
+abbrev pub ProblemsHaveOneWidth : Type 0
+ProblemsHaveOneWidth = (limits : Limits) (bound : ℕ) (g : Ground) (i j : Initial) → HaveSameModels i j → HasOneAnswer limits bound g i j

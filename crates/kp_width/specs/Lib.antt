@@ -1,0 +1,5 @@
+pub mod Answers
+pub mod Found
+pub mod Laws
+pub mod Rows
+pub mod Width

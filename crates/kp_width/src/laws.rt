@@ -1,0 +1,24 @@
+//! Laws of widths, each proved as the contract of a function that does nothing.
+
+ghost use Rattle.kp_width.specs.Laws.{KnownProblemsAreAnswered, ProblemsHaveOneWidth, RowsHaveTheWidth, TargetsOverAreWider};
+
+/// The clauses of a row are as many as the width of its target.
+pub fn rows_have_the_width()
+    ensures { RowsHaveTheWidth }
+{}
+
+/// A target that no set within the bound covers has no width within the bound.
+pub fn targets_over_are_wider()
+    ensures { TargetsOverAreWider }
+{}
+
+/// Where targets, relevant clauses and tags are known, and whether tags meet clauses, there is an answer on the width.
+pub fn known_problems_are_answered()
+    ensures { KnownProblemsAreAnswered }
+{}
+
+/// There is one answer on the width of a ground problem, whichever formula with these models says what is so at the
+/// start.
+pub fn problems_have_one_width()
+    ensures { ProblemsHaveOneWidth }
+{}
