@@ -64,7 +64,7 @@ use Rattle.kp_meaning.specs.Numbering.{numbered_problem}
 use Rattle.kp_decided.proofs.Counting.{formulas_ascend}
 use Rattle.kp_given.proofs.Starts.{formulas_over_atoms, states_are_models}
 use Rattle.kp_prepared.proofs.Counted.{is_of_atoms}
-use Rattle.kp_run.specs.Solved.{GoesOn, IsWrittenPlan, IsPosed, with_named, IsSolved, HasNoPlan, IsSpent, SolveIsTrue}
+use Rattle.kp_run.specs.Solved.{GoesOn, IsPosed, its_ground, its_formula, its_task, IsWrittenPlan, with_named, IsSolved, HasNoPlan, IsSpent, SolveIsTrue}
 use Rattle.kp_run.proofs.Fitting.{task_fits}
 use Rattle.kp_run.proofs.PlanLines.{actions_read, steps_read}
 use Rattle.kp_run.proofs.Whole.{IsCarriedOut, did, IsNoRefusal, not_refused}
@@ -96,8 +96,8 @@ complete_text g i table (l ∷ ls) proper are = ((λ printed. absurd (not_so pri
 record HasSearched (m : FileMap) (c : Solve) (o : Outcome) : Type 0 where
   posed : IsPosed m c
   found : Found
-  finds : Finds (task_of (ground_of posed.domain_tree posed.problem_tree) posed.table) c.budget found
-  tells : TellsSolved c.classical (ground_of posed.domain_tree posed.problem_tree) (initial_of posed.domain_tree posed.problem_tree) posed.table found o
+  finds : Finds (its_task posed) c.budget found
+  tells : TellsSolved c.classical (its_ground posed) (its_formula posed) posed.table found o
 
 module _ (m : FileMap) (c : Solve) (domain problem : List ℕ) (merges : List (List ℕ)) (domain_held : get m c.domain ≡ Some domain) (problem_held : get m c.problem ≡ Some problem)
     (held : AreHeld (Some m) (if_named (file_of c.source)) merges) (o : Outcome) (answers : IsNoRefusal o) where
@@ -177,7 +177,7 @@ module _ (m : FileMap) (c : Solve) (o : Outcome) (x : HasSearched m c o) (old ne
   fit = task_fits d p table g.prepared.started.small x.posed.has_task.fits writable
 
   -- the machine accepts nothing that the search doesn't find, so what is written has no plan
-  none_written : ((ops : List ℕ) → succeeds task (start task) ops ≡ false) → (steps : List Step) → IsWrittenPlan d p table steps → ⊥
+  none_written : ((ops : List ℕ) → succeeds task (start task) ops ≡ false) → (steps : List Step) → IsWrittenPlan x.posed steps → ⊥
   none_written none steps plan = let found = (plans_are_accepted ground table writable steps).0 plan in none_accepted ground table writable none steps found.0 found.1
 
   answered : (u : Outcome) → o ≡ u → IsCarriedOut u old new s
