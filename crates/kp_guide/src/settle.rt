@@ -12,6 +12,7 @@ use crate::index::count_down;
 use crate::{Index, Rule};
 use kp_base::Memory;
 use std::alloc::Global;
+use std::mem::swap;
 
 // Lowers the cost of the rule's fact, where the rule reaches it for less; whether it did.
 fn relax(rule: &Rule, costs: &mut [u32]) -> bool
@@ -125,26 +126,26 @@ fn try_rule(
     Ok(())
 }
 
-// Tries all rules that wait, and answers those that wait then.
+// Tries all rules that wait, and puts down those that wait then.
 #[tactic(auto, using(crate::proofs::Waiting::round_begins, crate::proofs::Waiting::round_next))]
 fn round(
-    alloc: Global,
     index: &Index,
     costs: &mut [u32],
     counts: &mut [usize],
     waits: &mut [bool],
     now: &[usize],
-) -> Result<Vec<usize>, Memory>
+    next: &mut Vec<usize>,
+) -> Result<(), Memory>
     requires work { IsWork index.now.rules.items (length index.now.users.items) costs.old counts.old waits.old [] }
     requires known { are_below (length index.now.rules.items) now.now ≡ true }
     requires ready { IsReady index.now.rules.items costs.old waits.old now.now }
-    ensures { IfOk result (λ next. Rounds index.now.rules.items (length index.now.users.items) costs.old costs.new counts.new waits.new [] next.items) }
+    requires none { next.old.items ≡ [] }
+    ensures { OnOk result (Rounds index.now.rules.items (length index.now.users.items) costs.old costs.new counts.new waits.new [] next.new.items) }
 {
-    let mut next = Vec::new(alloc);
     for number in now {
-        try_rule(index, *number, costs, counts, waits, &mut next)?;
+        try_rule(index, *number, costs, counts, waits, next)?;
     }
-    Ok(next)
+    Ok(())
 }
 
 // Goes round until none waits.
@@ -163,8 +164,11 @@ fn rounds(
     ensures closed { OnOk result (IsClosed index.now.rules.items costs.new) }
 {
     let mut now = first;
+    let mut next = Vec::new(alloc);
     'rounds: while !now.is_empty() {
-        now = round(alloc, index, costs, counts, waits, &now)?;
+        next.clear();
+        round(index, costs, counts, waits, &now, &mut next)?;
+        swap(&mut now, &mut next);
     }
     Ok(())
 }
