@@ -7,7 +7,11 @@ use Rattle.kp_classic.specs.Fits.{IsFit}
 use Rattle.kp_classic.specs.States.{FactSet, has}
 use Rattle.kp_classic.specs.Steps.{succeeds}
 
--- None is answered only where no operators lead from the state to the goal
+-- no operators lead from the state to the goal
+abbrev pub IsHopeless : Task → FactSet → Type 0
+IsHopeless t s = (ks : List ℕ) → succeeds t (has s.hold) ks ≡ true → ⊥
+
+-- None is answered only in such a state
 abbrev pub IsRight : (Task → FactSet → Option ℕ → Type 0) → Type 0
 IsRight answers = (t : Task) (s : FactSet) (ks : List ℕ) → IsFit t → s.facts ≡ length t.facts → answers t s None → succeeds t (has s.hold) ks ≡ true → ⊥
 

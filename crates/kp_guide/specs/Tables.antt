@@ -1,4 +1,4 @@
--- Tables of the costs of facts, a number above a thousand million for those that aren't reached. This file serves proofs alone.
+-- Tables of the costs of facts, a number above a thousand million for those that aren't reached. This file serves proofs alone, but for `fits_rule`.
 use Rattle.std.specs.Prelude.{◌≡◌, ◌<◌, ◌≤◌, ◌+◌, ◌⊎◌, ℕ, Bool, true, false, ◌&&◌, if◌then◌else◌, min, nat_lt, nat_le, nat_eq, List, [], ◌∷◌, ◌++◌, length, set, slice_index_or}
 use Rattle.std.specs.List.{list_any, list_all}
 use Rattle.kp_base.specs.Lists.{Member}

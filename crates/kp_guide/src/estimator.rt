@@ -1,6 +1,6 @@
-ghost use Rattle.std.specs.Prelude.{◌≡◌, length, IfOk};
+ghost use Rattle.std.specs.Prelude.{◌≡◌, Ok, None, length, IfOk};
 ghost use Rattle.kp_classic.specs.Fits.{IsFit};
-ghost use Rattle.kp_guide.specs.Guides.{IsRight};
+ghost use Rattle.kp_guide.specs.Guides.{IsHopeless, IsRight};
 
 use kp_base::Memory;
 use kp_classic::{State, Task};
@@ -22,7 +22,8 @@ pub trait Estimator {
         requires serves { serves self.now task.now }
         requires fits { IsFit task.now }
         requires of_task { state.now.facts ≡ length task.now.facts }
-        ensures { IfOk result (may_answer self.now task.now state.now) };
+        ensures answers { IfOk result (may_answer self.now task.now state.now) }
+        ensures none { result ≡ Ok None → IsHopeless task.now state.now };
 
     /// It answers `None` only where no operators lead to the goal. A law; nothing runs.
     fn is_right(&self)

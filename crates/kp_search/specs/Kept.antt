@@ -1,4 +1,4 @@
--- What the search keeps of a course. This file serves proofs alone.
+-- What the search keeps of a course: the contracts of `Search` are made of this, which crates above don't need.
 use Rattle.std.specs.Prelude.{◌≡◌, ◌<◌, ◌+◌, ℕ, Bool, true, false, not, ◌&&◌, if◌then◌else◌, [], ◌∷◌, ◌++◌, Option, Some, None, nat_eq, length, slice_get}
 use Rattle.kp_base.specs.Lists.{Member}
 use Rattle.kp_classic.specs.declared.task.Task.{Task}

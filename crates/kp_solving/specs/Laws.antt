@@ -28,7 +28,7 @@ SolvingsHaveOneOutcome = (name : Option (List ℕ)) (budget : ℕ) (g : Ground) 
 abbrev pub ClassicalSolvingsHaveOneOutcome : Type 0
 ClassicalSolvingsHaveOneOutcome = (budget : ℕ) (g : Ground) (task : Task) (o u : Outcome) → SolvesClassical budget g task o → SolvesClassical budget g task u → o ≡ u
 
--- operators of a task that can be written succeed exactly where the machine accepts their steps, which have these names
+-- where operators of a task that can be written succeed, the machine accepts their steps, which have these names
 abbrev pub NamedPlansAreAccepted : Type 0
 NamedPlansAreAccepted = (g : Ground) (table : TagTable) → IsWritableTask g table → (ops : List ℕ) (written plan : List Step) → AreNamed g table ops written plan → succeeds (task_of g table) (start (task_of g table)) ops ≡ true
     → (ms : List MachineStep) × IsAccepted g table written ms

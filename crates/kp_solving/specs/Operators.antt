@@ -1,4 +1,4 @@
--- The operators of the task of a ground problem and a table, by number. This file serves proofs alone.
+-- The operators of the task of a ground problem and a table, by number. This file serves the crate's own functions and proofs.
 use Rattle.std.specs.Prelude.{◌≡◌, ◌-◌, ℕ, true, if◌then◌else◌, List, Some, length, map, filter, nat_lt}
 use Rattle.std.specs.List.{list_all}
 use Rattle.kp_base.specs.declared.ground.Ground.{Ground}

@@ -1,6 +1,6 @@
 //! The search of a task.
-ghost use Rattle.std.specs.Prelude.{length, IfOk};
-ghost use Rattle.kp_solving.specs.Operators.{IsInside};
+ghost use Rattle.std.specs.Prelude.{IfOk};
+ghost use Rattle.kp_search.specs.Ends.{Tells};
 ghost use Rattle.kp_solving.specs.Solving.{Finds};
 
 use kp_base::Memory;
@@ -11,10 +11,9 @@ use std::alloc::Global;
 
 /// What the search of a task ends with, guided by the estimate `added`. A task with a number that is none of its facts', or
 /// with more facts or operators than 2,147,483,647, is want of memory.
-#[tactic(auto, using(crate::proofs::Searches::inside))]
 pub fn find(alloc: Global, task: &Task, budget: u32) -> Result<Found, Memory>
     ensures finds { IfOk result (Finds task.now budget) }
-    ensures inside { IfOk result (IsInside (length task.now.ops)) }
+    ensures tells { IfOk result (Tells task.now budget) }
 {
     if !is_fit(task) {
         return Err(Memory);

@@ -17,6 +17,7 @@ use kp_relevance::Relevance;
 use std::alloc::Global;
 
 // What the task of a ground problem and a table is solved to.
+#[tactic(auto, using(crate::proofs::Searches::inside))]
 fn solve_task(
     alloc: Global,
     name: Option<&[u8]>,
@@ -59,6 +60,7 @@ pub fn solve_table(
 }
 
 /// What a classical task is solved to, whose operators are the actions of a ground problem.
+#[tactic(auto, using(crate::proofs::Searches::inside))]
 pub fn solve_classical(
     alloc: Global,
     budget: u32,

@@ -7,5 +7,5 @@ returns-in_ok-enter-in-Some-clause-tries g c =
     let answers = g.E.Estimator.may_answer c.args.guide.now c.args.task.now in
     enters c.in-Some.estimate (search rules)
     (subst (λ s. answers s (Some c.in-Some.estimate)) c.step_into.ensures
-    (subst (answers c.step_into.new.next) c.in-Some.is c.in_ok-estimate.ensures))
+    (subst (answers c.step_into.new.next) c.in-Some.is c.in_ok-estimate.ensures.answers))
     c.in_ok-enter-in-Some.ensures
