@@ -115,7 +115,7 @@ fn chain_searched(alloc: Global, goal: &[u32], budget: u32) -> Result<Found, Mem
 // Whether the search by a guide finds the two operators in turn, two states having been expanded.
 fn finds_both(alloc: Global) -> bool {
     match chain_searched(alloc, &[1], 2) {
-        Ok(Found::Plan { ops, expanded }) => ops.slice() == [0, 1] && expanded == 2,
+        Ok(Found::Plan { ops, expanded }) => ops.slice() == [0, 1].as_slice() && expanded == 2,
         _ => false,
     }
 }
