@@ -60,7 +60,6 @@ pub fn solve_table(
 }
 
 /// What a classical task is solved to, whose operators are the actions of a ground problem.
-#[tactic(auto, using(crate::proofs::Searches::inside))]
 pub fn solve_classical(
     alloc: Global,
     budget: u32,
