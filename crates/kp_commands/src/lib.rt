@@ -25,3 +25,5 @@ mod running;
 mod solving;
 #[cfg(test)]
 mod stripping;
+#[cfg(test)]
+mod widths;

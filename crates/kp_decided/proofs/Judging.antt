@@ -1,6 +1,6 @@
 -- Steps are a plan, or fail first from some model, and somewhere.
-use Rattle.std.proofs.Common.{◌≡◌, ◌≤◌, ℕ, suc, Bool, true, false, not, ◌&&◌, ◌||◌, nat_lt, List, [], ◌∷◌, Option, Some, None, length, take, slice_get, refl, sym, ap, ap₂, subst, ◌∙◌, inl, inr, arith, ltb-true}
-use Rattle.std.proofs.lemmas.Bool.{and_parts, and_from, false≢true, cases_lt}
+use Rattle.std.proofs.Common.{◌≡◌, ℕ, suc, Bool, true, false, not, ◌&&◌, ◌||◌, nat_lt, List, [], ◌∷◌, Option, Some, None, length, take, slice_get, refl, sym, ap, ap₂, subst, ◌∙◌, arith, ltb-true}
+use Rattle.std.proofs.lemmas.Bool.{and_parts, and_from}
 use Rattle.std.specs.List.{list_all}
 use Rattle.kp_base.specs.declared.lit.Lit.{Lit}
 use Rattle.kp_base.specs.declared.lit.AtomId.{AtomId}
@@ -8,7 +8,7 @@ use Rattle.kp_base.specs.declared.ground.Effect.{Effect}
 use Rattle.kp_base.specs.declared.ground.Action.{Action}
 use Rattle.kp_base.specs.declared.ground.Ground.{Ground}
 use Rattle.kp_base.specs.declared.ground.Initial.{Initial}
-use Rattle.kp_base.specs.Lit.{positive, negative, same_lit, code_of}
+use Rattle.kp_base.specs.Lit.{positive, negative, same_lit}
 use Rattle.kp_base.specs.Steps.{State, SameBelow, holds, IsLeastMissing, is_model, fires, after, applicable, next, runs, succeeds, state_after, pre_of, asked}
 use Rattle.kp_base.specs.Implicates.{are_below, effect_below, IsOfAtoms}
 use Rattle.kp_base.proofs.Lists.{any_alike, all_member}

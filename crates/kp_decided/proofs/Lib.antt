@@ -19,3 +19,4 @@ pub mod Tags
 pub mod Covered
 pub mod Moded
 pub mod Made
+pub mod Widths

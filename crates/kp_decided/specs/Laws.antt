@@ -19,6 +19,8 @@ use Rattle.kp_base.specs.Relevance.{AreClausesFor}
 use Rattle.kp_base.specs.Covering.{TellsConsistent, IsCov, AllMeet, Covers, AreUncovered, IsComplete}
 use Rattle.kp_cover.specs.Targets.{AreTargets}
 use Rattle.kp_relevance.specs.Relevant.{ArePairsOf}
+use Rattle.kp_width.specs.declared.report.WidthReport.{WidthReport}
+use Rattle.kp_width.specs.Answers.{IsReport, RefusesWidth}
 use Rattle.kp_grammar.specs.declared.tree.Word.{Word}
 use Rattle.kp_grammar.specs.Trees.{Domain, Problem}
 use Rattle.kp_meaning.specs.Faults.{HasNoFault}
@@ -129,3 +131,7 @@ TablesWithNoneAreComplete = (g : Ground) (i : Initial) (table : TagTable) → Ar
 -- some table is that of a mode, or there is a refusal
 abbrev pub MadeTablesAreDecided : Type 0
 MadeTablesAreDecided = (mode : Mode) (limits : Limits) (g : Ground) (i : Initial) → AreProper g i → ((table : TagTable) × IsMade mode limits g i table) ⊎ ((r : Refused) × RefusesMade mode limits g i r)
+
+-- a proper problem has a report on its width within any bound, or there is a refusal
+abbrev pub WidthsAreDecided : Type 0
+WidthsAreDecided = (limits : Limits) (bound : ℕ) (g : Ground) (i : Initial) → AreProper g i → ((report : WidthReport) × IsReport limits bound g i report) ⊎ ((r : Refused) × RefusesWidth limits bound g i r)

@@ -1,6 +1,6 @@
 //! Laws of questions that have an answer, each proved as the contract of a function that does nothing.
 
-ghost use Rattle.kp_decided.specs.Laws.{ClashesAreDecided, ClausesAreDecided, CoveragesAreDecided, CoversAreDecided, FormulasAreAscending, ImplicatesAreCounted, MadeTablesAreDecided, ModelsAreDecided, ModesAreDecided, NamesAreDecided, RelevanceIsDecided, SizesAreDecided, StepsAreDecided, TablesAreDecided, TablesWithNoneAreComplete, TagsAreDecided, TargetsAreDecided, VerdictsAreDecided};
+ghost use Rattle.kp_decided.specs.Laws.{ClashesAreDecided, ClausesAreDecided, CoveragesAreDecided, CoversAreDecided, FormulasAreAscending, ImplicatesAreCounted, MadeTablesAreDecided, ModelsAreDecided, ModesAreDecided, NamesAreDecided, RelevanceIsDecided, SizesAreDecided, StepsAreDecided, TablesAreDecided, TablesWithNoneAreComplete, TagsAreDecided, TargetsAreDecided, VerdictsAreDecided, WidthsAreDecided};
 
 /// No name of two trees is at fault, or the trees are refused for one.
 pub fn names_are_decided()
@@ -90,4 +90,9 @@ pub fn tables_with_none_are_complete()
 /// A mode has a table, or a refusal.
 pub fn made_tables_are_decided()
     ensures { MadeTablesAreDecided }
+{}
+
+/// A problem has a width within a bound, a target over it, or a refusal.
+pub fn widths_are_decided()
+    ensures { WidthsAreDecided }
 {}

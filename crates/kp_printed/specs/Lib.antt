@@ -5,3 +5,4 @@ pub mod Lifting
 pub mod Usage
 pub mod Coverage
 pub mod Searches
+pub mod Widths

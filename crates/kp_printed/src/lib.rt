@@ -1,5 +1,5 @@
-//! What commands print: the usage, names, each refusal, where a plan fails, whether a table is complete, and
-//! how a search ends without a plan.
+//! What commands print: the usage, names, each refusal, where a plan fails, whether a table is complete,
+//! how a search ends without a plan, and how wide a problem is.
 //! `specs/Refusals.antt` says the lines of each refusal.
 #![tactic(auto)]
 
@@ -11,6 +11,7 @@ mod lines;
 mod names;
 mod refusals;
 mod searches;
+mod widths;
 
 pub use coverage::put_coverage;
 pub use failing::{counterexample, unlifted};
@@ -18,3 +19,4 @@ pub use help::usage;
 pub use names::put_name;
 pub use refusals::{Named, refusal};
 pub use searches::{no_classical_plan, no_plan, spent};
+pub use widths::{over, width_report};

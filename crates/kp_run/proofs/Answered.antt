@@ -14,7 +14,9 @@ use Rattle.kp_words.specs.Names.{Source, of_mode, Translate}
 use Rattle.kp_prepared.specs.Prepared.{by_texts, by_trees, Comes, early, later}
 use Rattle.kp_inputs.specs.Tables.{ComesByTable, no_table, with_table}
 use Rattle.kp_inputs.specs.Actions.{ComesByPlan, no_actions, with_actions}
-use Rattle.kp_run.specs.Outcomes.{TranslatesGround, over, done, TranslatesTrees, MergesTrees, StripsText, too_long, no_plan, no_strip, strips, tells, ChecksTrees, LiftsActions, lifts, fails, LiftsPlan, no_task, with_task, LiftsTrees, SolvesTrees, ClassicalTrees, translated, merged, stripped, checked, lifted, solved, searched, usage, of_command}
+use Rattle.kp_run.specs.Outcomes.{TranslatesGround, over, done, TranslatesTrees, MergesTrees, StripsText, too_long, no_plan, no_strip, strips, tells, ChecksTrees, LiftsActions, lifts, fails, LiftsPlan, no_task, with_task, LiftsTrees, SolvesTrees, ClassicalTrees, tells_width, MeasuresGround, no_report, with_report, MeasuresTrees, translated, merged, stripped, checked, lifted, solved, searched, measured, usage, of_command}
+use Rattle.kp_width.specs.declared.report.WidthReport.{WidthReport}
+use Rattle.kp_width.specs.declared.report.WidthReport.TheVariants.{Within, Over}
 use Rattle.kp_search.specs.declared.found.Found.{Found}
 use Rattle.kp_search.specs.declared.found.Found.TheVariants.{Plan, NoPlan, Spent}
 use Rattle.kp_classical.specs.Classical.{ComesClassical, by_texts as no_texts, by_trees as no_trees, early as at_once, later as goes_on}
@@ -74,6 +76,14 @@ classical_answer g o (Plan ops n) t = known o _ t.2 tt
 classical_answer g o NoPlan t = known o _ t tt
 classical_answer g o (Spent n) t = known o _ t tt
 
+width_answer : (bound : ℕ) (g : Ground) (i : Initial) (o : Outcome) → MeasuresGround bound g i o → IsAnswer o.status
+width_answer bound g i o (no_report r a e) = known o _ e tt
+width_answer bound g i o (with_report report a e) = by report e
+  where
+    by : (report : WidthReport) → o ≡ tells_width g bound report → IsAnswer o.status
+    by (Within rows) e = known o _ e tt
+    by (Over target) e = known o _ e tt
+
 comes_classical_answer : (x y : List ℕ) (P : Domain Word → Problem Word → Outcome → Type 0) (o : Outcome) → ((d : Domain Word) (p : Problem Word) → P d p o → IsAnswer o.status) → ComesClassical x y P o → IsAnswer o.status
 comes_classical_answer x y P o answers (at_once (no_texts r a e)) = known o _ e tt
 comes_classical_answer x y P o answers (at_once (no_trees d p r h a e)) = known o _ e tt
@@ -88,3 +98,4 @@ outcomes_are_answers words held o (of_command _ _ _ is at (checked c x y plan _ 
 outcomes_are_answers words held o (of_command _ _ _ is at (lifted c x y merges plan _ a)) = comes_answer c.implicates x y (LiftsTrees c merges plan) o (λ d p. table_answer (ground_of d p) (initial_of d p) c.source merges _ o (λ table. lift_answer (ground_of d p) plan table o)) a
 outcomes_are_answers words held o (of_command _ _ _ is at (solved c x y merges _ a)) = comes_answer c.implicates x y (SolvesTrees c merges) o (λ d p. table_answer (ground_of d p) (initial_of d p) c.source merges _ o (λ table. solved_answer c.classical c.budget (ground_of d p) (initial_of d p) table o)) a
 outcomes_are_answers words held o (of_command _ _ _ is at (searched c x y _ a)) = comes_classical_answer x y (ClassicalTrees c) o (λ d p s. classical_answer (ground_of d p) o s.found s.tells) a
+outcomes_are_answers words held o (of_command _ _ _ is at (measured c x y _ a)) = comes_answer c.implicates x y (MeasuresTrees c) o (λ d p. width_answer c.bound (ground_of d p) (initial_of d p) o) a

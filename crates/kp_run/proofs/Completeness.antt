@@ -1,11 +1,10 @@
 -- Where a translation told `complete`, each plan of its files lifts.
-use Rattle.std.proofs.Common.{◌≡◌, ◌∙◌, ◌++◌, ℕ, Bool, true, false, List, [], ◌∷◌, Some, Vec, map, inl, inr, refl, sym, ap, subst}
+use Rattle.std.proofs.Common.{◌≡◌, ◌∙◌, ◌++◌, ℕ, List, [], ◌∷◌, Some, Vec, map, inl, inr, sym, ap, subst}
 use Rattle.std.proofs.lemmas.Bool.{false≢true}
 use Rattle.std.specs.FinMap.{get}
 use Rattle.std.specs.declared.alloc.Global.{Global}
 use Rattle.kp_base.specs.declared.ground.Ground.{Ground}
 use Rattle.kp_base.specs.declared.ground.Initial.{Initial}
-use Rattle.kp_base.specs.declared.ground.TagTable.{TagTable}
 use Rattle.kp_base.specs.Implicates.{IsOfItsAtoms}
 use Rattle.kp_base.specs.Covering.{IsComplete, AreUncovered}
 use Rattle.kp_complete.specs.Lifts.{lifted as lift_of, UnliftedAt}
@@ -34,21 +33,21 @@ use Rattle.kp_outcome.specs.declared.outcome.Outcome.{Outcome}
 use Rattle.kp_outcome.specs.declared.status.Status.{Status}
 use Rattle.kp_outcome.specs.declared.status.Status.TheVariants as status
 use Rattle.kp_outcome.specs.Ends.{Outside, AreHeld, with_files, CarriesOut, whole, put_failed, put_no_memory, print_failed, print_no_memory}
-use Rattle.kp_words.specs.Names.{Source, Translate, Lift}
+use Rattle.kp_words.specs.Names.{Translate, Lift}
 use Rattle.kp_words.specs.declared.command.Command.{Command}
 use Rattle.kp_words.specs.declared.command.Command.TheVariants as commands
-use Rattle.kp_words.specs.Command.{IsTranslate, IsLift, file_of, if_named, inputs_of}
+use Rattle.kp_words.specs.Command.{IsLift, file_of, if_named, inputs_of}
 use Rattle.kp_words.proofs.OneCommand.{one_command}
 use Rattle.kp_printed.specs.Coverage.{coverage_text}
 use Rattle.kp_prepared.specs.Prepared.{usual}
 use Rattle.kp_prepared.proofs.Counted.{is_of_atoms}
 use Rattle.kp_prepared.proofs.OneStart.{comes_later, prepared_above}
-use Rattle.kp_inputs.specs.Tables.{HasTable, ComesByTable, no_table, with_table}
-use Rattle.kp_inputs.specs.Actions.{HasActions, ComesByPlan, no_actions, with_actions}
+use Rattle.kp_inputs.specs.Tables.{HasTable, no_table, with_table}
+use Rattle.kp_inputs.specs.Actions.{HasActions, no_actions, with_actions}
 use Rattle.kp_inputs.proofs.OneTable.{one_table}
 use Rattle.kp_inputs.proofs.OnePlan.{one_plan, some_alike}
 use Rattle.kp_inputs.proofs.Named.{found_at}
-use Rattle.kp_run.specs.Outcomes.{prints, LiftsActions, lifts, fails, LiftsPlan, no_task, with_task, LiftsTrees, LiftsTexts, ComesTo, translated, merged, stripped, checked, lifted, IsDue, usage, of_command, solved, searched}
+use Rattle.kp_run.specs.Outcomes.{prints, LiftsActions, lifts, fails, LiftsPlan, no_task, with_task, LiftsTrees, LiftsTexts, ComesTo, translated, merged, stripped, checked, lifted, IsDue, usage, of_command, solved, searched, measured}
 use Rattle.kp_run.specs.Ends.{Ends, came, read_failed, no_memory}
 use Rattle.kp_run.specs.Completeness as complete
 use Rattle.kp_run.specs.Completeness.{PrintsComplete, RanComplete, IsOfTheSame, HoldsPlan, LosesNoPlan}
@@ -209,6 +208,7 @@ module _ (t : Translate) (before after : FileMap) (text : List ℕ) (x : DidTran
       go _ _ is (checked e v w u _ b) at = absurd cc
       go _ _ is (solved e v w more _ b) at = absurd cc
       go _ _ is (searched e v w _ b) at = absurd cc
+      go _ _ is (measured e v w _ b) at = absurd cc
       go _ _ is (lifted e v w more u _ b) at =
           let command : e ≡ c = cc in
           let first : v ≡ x.both.domain = cc in

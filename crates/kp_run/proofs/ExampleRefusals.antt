@@ -1,5 +1,5 @@
 -- Files with the one outcome that is due: each kind of refusal, a translation of what is half known, and a clash.
-use Rattle.std.proofs.Common.{[], ◌≡◌, ◌≢◌, ◌<◌, ◌≤◌, ℕ, zero, suc, Bool, true, false, not, ◌&&◌, ◌||◌, List, ◌∷◌, length, take, Some, codes, inl, inr, refl, sym, ap, subst, ◌∙◌, arith}
+use Rattle.std.proofs.Common.{[], ◌≡◌, ◌<◌, ◌≤◌, ℕ, zero, suc, Bool, true, false, not, ◌&&◌, ◌||◌, List, ◌∷◌, length, take, Some, codes, inl, inr, refl, sym, ap, subst, ◌∙◌, arith}
 use Rattle.std.specs.Fmt.{digits}
 use Rattle.std.proofs.lemmas.Bool.{false≢true, false_from_ne_true}
 use Rattle.kp_base.specs.declared.ground.Effect.{Effect}
@@ -56,7 +56,7 @@ use Rattle.kp_inputs.specs.Tables.{by_mode, with_table}
 use Rattle.kp_run.specs.Outcomes.{translates, done, TranslatesTexts, IsDue}
 use Rattle.kp_run.proofs.Counted.{empty_tags_fit}
 use Rattle.kp_run.proofs.Computed.{reads_file}
-use Rattle.kp_run.proofs.ExampleOutcomes.{closed_q, command, domain_reads, due_with, few_primes, has_state, holding, is_limited, is_small, limited, on_files, only_p, problem_reads, unconditional, with_limit, words}
+use Rattle.kp_run.proofs.ExampleOutcomes.{closed_q, command, domain_reads, due_with, few_primes, has_state, holding, is_limited, is_small, limited, on_files, only_p, unconditional, with_limit, words}
 use Rattle.kp_run.proofs.EmptyTags.{empty_tag_made, nothing_uncovered}
 
 -- ---- refusals: no initial state

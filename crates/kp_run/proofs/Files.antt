@@ -8,7 +8,7 @@ use Rattle.kp_outside.specs.Outside.{FileMap, IsFront, IsWithin}
 use Rattle.kp_outcome.specs.declared.outcome.Outcome.{Outcome}
 use Rattle.kp_outcome.specs.Ends.{most_bytes, AreHeld, AreFronts, none, also}
 use Rattle.kp_outcome.proofs.Fronts.{front_within}
-use Rattle.kp_words.specs.Names.{Source, of_mode, of_file, Translate, Merges, Strip, Check, Lift, Solve, Classical}
+use Rattle.kp_words.specs.Names.{Source, of_mode, of_file, Translate, Merges, Strip, Check, Lift, Solve, Classical, Width}
 use Rattle.kp_base.specs.declared.limits.Mode.{Mode}
 use Rattle.kp_inputs.specs.declared.origin.Origin.TheVariants as origins
 use Rattle.kp_inputs.specs.declared.origin.Origin.{Origin}
@@ -18,7 +18,7 @@ use Rattle.kp_words.specs.declared.command.Command.TheVariants as commands
 use Rattle.kp_words.specs.Command.{IsCommand, inputs_of}
 use Rattle.kp_run.specs.declared.sourced.Sourced.{Sourced}
 use Rattle.kp_run.specs.Tables.{IsSourced}
-use Rattle.kp_run.specs.Outcomes.{TranslatesTexts, MergesTexts, StripsText, ChecksTexts, LiftsTexts, SolvesTexts, ClassicalTexts, ComesTo, translated, merged, stripped, checked, lifted, solved, searched, IsDue, of_command}
+use Rattle.kp_run.specs.Outcomes.{TranslatesTexts, MergesTexts, StripsText, ChecksTexts, LiftsTexts, SolvesTexts, ClassicalTexts, MeasuresTexts, ComesTo, translated, merged, stripped, checked, lifted, solved, searched, measured, IsDue, of_command}
 
 -- ---- fronts are of as many texts
 
@@ -180,6 +180,16 @@ two_merged c texts gots a b r fronts e comes =
   where
     by : (d p : List ℕ) (r : Result Outcome Memory) → IfOk r (MergesTexts c d p) → IfOk r (ComesTo (commands.Merges c) (d ∷ p ∷ []))
     by d p (Ok o) h = merged c d p o h
+    by d p (Err m) h = tt
+
+pub two_measured : (c : Width) (texts : List (List ℕ)) (gots : List Got) (a b : Got) (r : Result Outcome Memory) → AreFronts texts gots → gots ≡ a ∷ b ∷ []
+    → ((d p : List ℕ) → IsFront (Some d) most_bytes a → IsFront (Some p) most_bytes b → IfOk r (MeasuresTexts c d p)) → IfOk r (ComesTo (commands.Width c) texts)
+two_measured c texts gots a b r fronts e comes =
+    let t = two texts gots a b fronts e in
+    subst (λ us. IfOk r (ComesTo (commands.Width c) us)) (sym t.are) (by t.first t.second r (comes t.first t.second t.first_front t.second_front))
+  where
+    by : (d p : List ℕ) (r : Result Outcome Memory) → IfOk r (MeasuresTexts c d p) → IfOk r (ComesTo (commands.Width c) (d ∷ p ∷ []))
+    by d p (Ok o) h = measured c d p o h
     by d p (Err m) h = tt
 
 pub one_stripped : (c : Strip) (texts : List (List ℕ)) (gots : List Got) (a : Got) (r : Result Outcome Memory) → AreFronts texts gots → gots ≡ a ∷ []

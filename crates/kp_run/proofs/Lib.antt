@@ -5,6 +5,7 @@ pub mod Answered
 pub mod Counted
 pub mod Translations
 pub mod Checks
+pub mod Widths
 pub mod Lifts
 pub mod Soundness
 pub mod CompleteText

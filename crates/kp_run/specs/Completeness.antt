@@ -1,5 +1,5 @@
 -- What a lift is good for: where a translation told `complete`, it finds for each plan of the given files a plan of the written ones.
-use Rattle.std.specs.Prelude.{◌≡◌, ◌⊎◌, ◌≤◌, ◌++◌, ℕ, List, [], ◌∷◌, Some, Vec, codes, length, map}
+use Rattle.std.specs.Prelude.{◌≡◌, ◌⊎◌, ◌≤◌, ◌++◌, ℕ, List, ◌∷◌, Some, Vec, codes, length, map}
 use Rattle.std.specs.FinMap.{get}
 use Rattle.std.specs.declared.alloc.Global.{Global}
 use Rattle.kp_meaning.specs.Steps.{Step}

@@ -1,5 +1,5 @@
 -- What a command comes to: one outcome, by its words and by what its input files hold when it begins.
-use Rattle.std.specs.Prelude.{◌≡◌, ◌<◌, ◌≤◌, ◌==◌, if◌then◌else◌, List, [], ◌∷◌, ◌++◌, ℕ, Option, Some, None, Vec, length, map, codes}
+use Rattle.std.specs.Prelude.{◌≡◌, ◌<◌, ◌≤◌, ◌==◌, if◌then◌else◌, List, [], ◌∷◌, ◌++◌, ℕ, Option, Some, None, Vec, length, codes}
 use Rattle.std.specs.declared.alloc.Global.{Global}
 use Rattle.kp_base.specs.declared.ground.Ground.{Ground}
 use Rattle.kp_base.specs.declared.ground.GroundName.{GroundName}
@@ -21,6 +21,9 @@ use Rattle.kp_ktask.specs.Translated.{FitsLimits, RefusesTask}
 use Rattle.kp_translation.specs.Translations.{translation_with}
 use Rattle.kp_given.specs.Translations.{ground_of, initial_of}
 use Rattle.kp_merges.specs.Printed.{merges_of, merges_text}
+use Rattle.kp_width.specs.declared.report.WidthReport.{WidthReport}
+use Rattle.kp_width.specs.declared.report.WidthReport.TheVariants.{Within, Over}
+use Rattle.kp_width.specs.Answers.{IsReport, RefusesWidth}
 use Rattle.kp_check.specs.declared.answer.Judged.{Judged}
 use Rattle.kp_check.specs.declared.answer.Judged.TheVariants.{Yes, No}
 use Rattle.kp_check.specs.Judging.{AnswersJudged}
@@ -36,14 +39,15 @@ use Rattle.kp_printed.specs.Counterexamples.{counterexample_text}
 use Rattle.kp_printed.specs.Coverage.{coverage_text}
 use Rattle.kp_printed.specs.Lifting.{unlifted_text}
 use Rattle.kp_printed.specs.Usage.{usage_text}
+use Rattle.kp_printed.specs.Widths.{width_text, over_text}
 use Rattle.kp_outcome.specs.declared.outcome.Outcome.{Outcome}
 use Rattle.kp_outcome.specs.declared.status.Status.TheVariants as status
 use Rattle.kp_outcome.specs.Ends.{AreHeld, most_bytes}
-use Rattle.kp_words.specs.Names.{of_mode, Translate, Merges, Strip, Check, Lift, Solve, Classical}
+use Rattle.kp_words.specs.Names.{of_mode, Translate, Merges, Strip, Check, Lift, Solve, Classical, Width}
 use Rattle.kp_words.specs.declared.command.Command.{Command}
 use Rattle.kp_words.specs.declared.command.Command.TheVariants as commands
 use Rattle.kp_words.specs.Command.{IsCommand, IsNoCommand, inputs_of}
-use Rattle.kp_prepared.specs.Refusing.{refuses}
+use Rattle.kp_prepared.specs.Refusing.{refuses, named_in}
 use Rattle.kp_prepared.specs.Prepared.{usual, Comes}
 use Rattle.kp_classical.specs.Classical.{ComesClassical, task_of as classical_task}
 use Rattle.kp_inputs.specs.Tables.{ComesByTable}
@@ -179,6 +183,26 @@ ClassicalTrees c d p o = SolvesClassical c.budget (ground_of d p) (classical_tas
 abbrev pub ClassicalTexts : Classical → List ℕ → List ℕ → Outcome → Type 0
 ClassicalTexts c domain problem o = ComesClassical domain problem (ClassicalTrees c) o
 
+-- ---- `width`
+
+-- a report is told: the width is printed, and how each target is covered; or the answer is no, and the bound is printed, and the target that is over it
+abbrev pub tells_width : Ground → ℕ → WidthReport → Outcome
+tells_width g bound (Within rows) = prints (width_text g.atoms rows)
+tells_width g bound (Over target) = record { status = status.Negative; puts = []; text = over_text g.atoms bound target }
+
+-- a ground problem and its initial formula are measured to this: a refusal, or what is told of the report
+pub data MeasuresGround (bound : ℕ) (g : Ground) (i : Initial) (o : Outcome) : Type 0 where
+  no_report : (r : Refused) → RefusesWidth usual bound g i r → o ≡ refuses (named_in g) r → MeasuresGround bound g i o
+  with_report : (report : WidthReport) → IsReport usual bound g i report → o ≡ tells_width g bound report → MeasuresGround bound g i o
+
+-- two trees are
+abbrev pub MeasuresTrees : Width → trees.Domain Word → trees.Problem Word → Outcome → Type 0
+MeasuresTrees c d p o = MeasuresGround c.bound (ground_of d p) (initial_of d p) o
+
+-- two texts are
+abbrev pub MeasuresTexts : Width → List ℕ → List ℕ → Outcome → Type 0
+MeasuresTexts c domain problem o = Comes c.implicates domain problem (MeasuresTrees c) o
+
 -- ---- all commands
 
 -- a command comes to this outcome on the contents of its input files, in the order of their names
@@ -190,6 +214,7 @@ pub data ComesTo : Command → List (List ℕ) → Outcome → Type 0 where
   lifted : (c : Lift) (domain problem : List ℕ) (merges : List (List ℕ)) (plan : List ℕ) (o : Outcome) → LiftsTexts c domain problem merges plan o → ComesTo (commands.Lift c) (domain ∷ problem ∷ (merges ++ plan ∷ [])) o
   solved : (c : Solve) (domain problem : List ℕ) (merges : List (List ℕ)) (o : Outcome) → SolvesTexts c domain problem merges o → ComesTo (commands.Solve c) (domain ∷ problem ∷ merges) o
   searched : (c : Classical) (domain problem : List ℕ) (o : Outcome) → ClassicalTexts c domain problem o → ComesTo (commands.Classical c) (domain ∷ problem ∷ []) o
+  measured : (c : Width) (domain problem : List ℕ) (o : Outcome) → MeasuresTexts c domain problem o → ComesTo (commands.Width c) (domain ∷ problem ∷ []) o
 
 -- The outcome that is due: the usage where the words are no command; else what the command comes to on the contents of its input files. Where it isn't told what they hold, they may hold anything.
 pub data IsDue (words : List (Vec ℕ Global)) (held : Option FileMap) : Outcome → Type 0 where

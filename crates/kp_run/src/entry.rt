@@ -16,6 +16,7 @@ ghost use Rattle.kp_run.specs.Solved.{SolveIsTrue, ClassicalIsTrue};
 use crate::checking::check_texts;
 use crate::lifting::lift_texts;
 use crate::listing::merges_of_texts;
+use crate::measuring::width_of_texts;
 use crate::outcomes::usage_outcome;
 use crate::solving::{classical_texts, solve_texts};
 use crate::sourced::{four_of, one_of, taken_apart, three_of, two_of};
@@ -25,7 +26,7 @@ use kp_base::{Memory, Mode, Row};
 use kp_inputs::Origin;
 use kp_outcome::{Outcome, Status, carry_out, read_inputs, stopped};
 use kp_outside::{Got, OutsideStop, Shelf, Sink};
-use kp_words::{Check, Classical, Command, Lift, Merges, Solve, Source, Strip, Translate};
+use kp_words::{Check, Classical, Command, Lift, Merges, Solve, Source, Strip, Translate, Width};
 use std::alloc::Global;
 
 // Reads the two or three files that a call to solve names.
@@ -106,6 +107,7 @@ fn read<S: Shelf>(
         Command::Lift(named) => read_lift(alloc, named, shelf),
         Command::Solve(named) => read_solve(alloc, named, shelf),
         Command::Classical(named) => read_inputs(alloc, &[named.domain, named.problem], shelf),
+        Command::Width(named) => read_inputs(alloc, &[named.domain, named.problem], shelf),
     }
 }
 
@@ -199,6 +201,15 @@ fn classical_gots(alloc: Global, named: &Classical<'_>, gots: Row<Got>) -> Resul
     classical_texts(alloc, named, domain, problem)
 }
 
+// What a call for the width comes to on what was read of its two files.
+fn width_gots(alloc: Global, named: &Width<'_>, gots: Row<Got>) -> Result<Outcome, Memory>
+    requires { (held : Option FileMap) × AreRead held (named.now.domain ∷ named.now.problem ∷ []) gots }
+    ensures { (texts : List (List ℕ)) → AreFronts texts gots → IfOk result (ComesTo (commands.Width named.now) texts) }
+{
+    let (domain, problem) = two_of(gots);
+    width_of_texts(alloc, named, domain, problem)
+}
+
 // What a command comes to on what was read of its input files.
 fn outcome_of(alloc: Global, command: &Command<'_>, gots: Row<Got>) -> Result<Outcome, Memory>
     requires { (held : Option FileMap) × AreRead held (inputs_of command.now) gots }
@@ -212,6 +223,7 @@ fn outcome_of(alloc: Global, command: &Command<'_>, gots: Row<Got>) -> Result<Ou
         Command::Lift(named) => lift_gots(alloc, named, gots),
         Command::Solve(named) => solve_gots(alloc, named, gots),
         Command::Classical(named) => classical_gots(alloc, named, gots),
+        Command::Width(named) => width_gots(alloc, named, gots),
     }
 }
 

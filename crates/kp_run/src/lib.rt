@@ -7,6 +7,7 @@ mod entry;
 mod law;
 mod lifting;
 mod listing;
+mod measuring;
 mod outcomes;
 mod solving;
 mod sourced;

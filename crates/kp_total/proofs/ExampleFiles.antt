@@ -39,7 +39,7 @@ use Rattle.kp_run.proofs.ExampleOutcomes.{domain_reads, problem_reads, only_p, h
 -- ---- no clash
 
 -- where no action clashes by whichever pairs, none does
-never_clashing : (d : Domain Word) (p : Problem Word) → ((pairs : Pairs) (a : Action) (atom k j : ℕ) → Member (ground_of d p).actions a → Clashes pairs a atom k j → ⊥) → IsClashFree (ground_of d p) (initial_of d p)
+pub never_clashing : (d : Domain Word) (p : Problem Word) → ((pairs : Pairs) (a : Action) (atom k j : ℕ) → Member (ground_of d p).actions a → Clashes pairs a atom k j → ⊥) → IsClashFree (ground_of d p) (initial_of d p)
 never_clashing d p never = elim (clash_or_none (ground_of d p) (initial_of d p) (formulas_over_atoms d p)) [
   | inl first ↦ absurd (let x = first.1.first.clash in never first.1.pairs x.action first.0.atom.0 first.0.add first.0.delete (member_at (ground_of d p).actions first.0.action x.action x.action_at) x.clashes)
   | inr free ↦ free
@@ -48,7 +48,7 @@ never_clashing d p never = elim (clash_or_none (ground_of d p) (initial_of d p) 
 -- ---- limits
 
 -- few of each
-within : (l : Lifted) (m : Limits) (weight atoms : ℕ) → 1 ≤ m.bindings → 1 ≤ m.actions → weight ≤ m.weight → atoms ≤ m.atoms → binding_count l ≡ 1 → length (kept_instances l) ≡ 1 → total_weight l ≡ weight → length (ground_atoms l) ≡ atoms → IsGrounded l m (by_number.ground_of l)
+pub within : (l : Lifted) (m : Limits) (weight atoms : ℕ) → 1 ≤ m.bindings → 1 ≤ m.actions → weight ≤ m.weight → atoms ≤ m.atoms → binding_count l ≡ 1 → length (kept_instances l) ≡ 1 → total_weight l ≡ weight → length (ground_atoms l) ≡ atoms → IsGrounded l m (by_number.ground_of l)
 within l m weight atoms a b c d e f g h = record { counts = record { bindings = omega (arith, a, e); actions = omega (arith, b, f); weight = omega (arith, c, g) }; atoms = omega (arith, d, h); ground = refl }
 
 -- ---- one action that exchanges p for q
@@ -147,7 +147,7 @@ chain_schema = record {
 abbrev pub chain_tree : Domain Word
 chain_tree = record { kinds = []; constants = []; predicates = pred_at (codes "p") 33 ∷ pred_at (codes "q") 37 ∷ []; schemas = chain_schema ∷ [] }
 
-chain_reads : Reads grammar.domain chain chain_tree
+pub chain_reads : Reads grammar.domain chain chain_tree
 unfolding cut_from class_of symbol_of some_at next_at
 chain_reads = reads_file grammar.domain chain (tokens chain) chain_tree (omega arith) refl refl refl
 
@@ -164,11 +164,11 @@ to_q_reads = reads_file grammar.problem to_q (tokens to_q) to_q_tree (omega arit
 pub chain_trees : HaveTrees chain to_q chain_tree to_q_tree
 chain_trees = record { domain_reads = chain_reads; problem_reads = to_q_reads; no_fault = record { domain = refl; problem = refl } }
 
-abbrev turn : Action
+abbrev pub turn : Action
 turn = record { name = record { head = codes "a"; objects = [] }; pre = []; effects = record { cond = []; result = positive 0 } ∷ record { cond = positive 0 ∷ []; result = positive 1 } ∷ [] }
 
 -- it deletes nothing
-turn_free : (pairs : Pairs) (a : Action) (atom k j : ℕ) → Member (turn ∷ []) a → Clashes pairs a atom k j → ⊥
+pub turn_free : (pairs : Pairs) (a : Action) (atom k j : ℕ) → Member (turn ∷ []) a → Clashes pairs a atom k j → ⊥
 turn_free pairs a atom k j (inr none) c = absurd none
 turn_free pairs a atom k j (inl same) c = by (subst (λ (x : Action). Clashes pairs x atom k j) (sym same) c)
   where
@@ -180,7 +180,7 @@ turn_free pairs a atom k j (inl same) c = by (subst (λ (x : Action). Clashes pa
     by : Clashes pairs turn atom k j → ⊥
     by x = adds x.deleting (member_at turn.effects j x.deleting x.delete_at) x.deletes
 
-unfoldable no_atom : State
+unfoldable pub no_atom : State
 no_atom n = false
 
 chain_start : is_model (initial_of chain_tree to_q_tree) no_atom ≡ true

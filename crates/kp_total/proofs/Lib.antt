@@ -17,3 +17,5 @@ pub mod ExampleCourses
 pub mod ExampleFiles
 pub mod ExampleSolvings
 pub mod ExampleClassicals
+pub mod Measures
+pub mod ExampleMeasuring

@@ -1,22 +1,27 @@
 -- Words have at most one outcome on what is held.
-use Rattle.std.proofs.Common.{◌≡◌, ◌++◌, ℕ, List, [], ◌∷◌, Some, map, refl, sym, ◌∙◌, subst}
+use Rattle.std.proofs.Common.{◌≡◌, ◌++◌, ℕ, List, [], ◌∷◌, Some, map, refl, sym, ap, ◌∙◌, subst}
 use Rattle.std.specs.FinMap.{get}
 use Rattle.kp_given.specs.Translations.{ground_of, initial_of}
 use Rattle.kp_outside.specs.Outside.{FileMap}
 use Rattle.kp_outcome.specs.declared.outcome.Outcome.{Outcome}
 use Rattle.kp_outcome.specs.Ends.{AreHeld}
-use Rattle.kp_words.specs.Names.{of_mode, Translate, Merges, Check, Lift, Solve, Classical}
+use Rattle.kp_words.specs.Names.{of_mode, Translate, Merges, Check, Lift, Solve, Classical, Width}
 use Rattle.kp_words.specs.declared.command.Command.{Command}
 use Rattle.kp_words.specs.declared.command.Command.TheVariants as commands
 use Rattle.kp_words.specs.Command.{inputs_of}
 use Rattle.kp_words.proofs.OneCommand.{one_command}
+use Rattle.kp_base.specs.declared.ground.Ground.{Ground}
+use Rattle.kp_base.specs.declared.ground.Initial.{Initial}
+use Rattle.kp_width.proofs.OneAnswer.{one_width}
+use Rattle.kp_prepared.specs.Refusing.{refuses, named_in}
+use Rattle.kp_prepared.specs.Prepared.{usual}
 use Rattle.kp_prepared.proofs.OneStart.{comes_once}
 use Rattle.kp_inputs.proofs.Commands.{by_table_once, by_plan_once}
 use Rattle.kp_classical.specs.Classical.{task_of as classical_task}
 use Rattle.kp_classical.proofs.OneStart.{comes_once as comes_classical_once}
 use Rattle.kp_solving.specs.Solving.{SolvesGround}
 use Rattle.kp_solving.proofs.OneSolving.{ground_once, classical_once as one_classical}
-use Rattle.kp_run.specs.Outcomes.{TranslatesGround, TranslatesTrees, TranslatesTexts, ListsMerges, MergesTrees, MergesTexts, StripsText, TellsJudged, ChecksTrees, ChecksTexts, LiftsPlan, LiftsTrees, LiftsTexts, SolvesTrees, SolvesTexts, ClassicalTrees, ClassicalTexts, ComesTo, translated, merged, stripped, checked, lifted, solved, searched, usage, of_command}
+use Rattle.kp_run.specs.Outcomes.{TranslatesGround, TranslatesTrees, TranslatesTexts, ListsMerges, MergesTrees, MergesTexts, StripsText, TellsJudged, ChecksTrees, ChecksTexts, LiftsPlan, LiftsTrees, LiftsTexts, SolvesTrees, SolvesTexts, ClassicalTrees, ClassicalTexts, tells_width, MeasuresGround, no_report, with_report, MeasuresTrees, MeasuresTexts, ComesTo, translated, merged, stripped, checked, lifted, solved, searched, measured, usage, of_command}
 use Rattle.kp_run.proofs.Files.{last_once}
 use Rattle.kp_total.specs.Laws.{HasOneOutcome}
 use Rattle.kp_total.proofs.OneTranslation.{table_once, verdicts_once, lifts_once}
@@ -42,6 +47,15 @@ solved_once c x y merges = comes_once c.implicates x y (SolvesTrees c merges) (�
 classical_once : (c : Classical) (x y : List ℕ) (o u : Outcome) → ClassicalTexts c x y o → ClassicalTexts c x y u → o ≡ u
 classical_once c x y = comes_classical_once x y (ClassicalTrees c) (λ d p o u w. one_classical c.budget (ground_of d p) (classical_task d p) o u)
 
+ground_measured_once : (bound : ℕ) (g : Ground) (i : Initial) (o u : Outcome) → MeasuresGround bound g i o → MeasuresGround bound g i u → o ≡ u
+ground_measured_once bound g i o u (no_report r a e) (no_report s b f) = e ∙ (ap (refuses (named_in g)) ((one_width usual bound g i i (λ s. refl)).refusals r s a b) ∙ sym f)
+ground_measured_once bound g i o u (no_report r a e) (with_report x b f) = absurd ((one_width usual bound g i i (λ s. refl)).never_both x r b a)
+ground_measured_once bound g i o u (with_report x a e) (no_report r b f) = absurd ((one_width usual bound g i i (λ s. refl)).never_both x r a b)
+ground_measured_once bound g i o u (with_report x a e) (with_report y b f) = e ∙ (ap (tells_width g bound) ((one_width usual bound g i i (λ s. refl)).reports x y a b) ∙ sym f)
+
+measured_once : (c : Width) (x y : List ℕ) (o u : Outcome) → MeasuresTexts c x y o → MeasuresTexts c x y u → o ≡ u
+measured_once c x y = comes_once c.implicates x y (MeasuresTrees c) (λ d p o u w. ground_measured_once c.bound (ground_of d p) (initial_of d p) o u)
+
 outcome_once : (c : Command) (texts : List (List ℕ)) (o u : Outcome) → ComesTo c texts o → ComesTo c texts u → o ≡ u
 outcome_once _ _ o u (translated c x y merges _ a) b = go _ _ u b refl refl
   where
@@ -58,6 +72,7 @@ outcome_once _ _ o u (translated c x y merges _ a) b = go _ _ u b refl refl
     go _ _ u (lifted d v w more t _ b) same at = absurd cc
     go _ _ u (solved d v w more _ b) same at = absurd cc
     go _ _ u (searched d v w _ b) same at = absurd cc
+    go _ _ u (measured d v w _ b) same at = absurd cc
 outcome_once _ _ o u (merged c x y _ a) b = go _ _ u b refl refl
   where
     go : (e : Command) (texts : List (List ℕ)) (u : Outcome) → ComesTo e texts u → e ≡ commands.Merges c → texts ≡ x ∷ y ∷ [] → o ≡ u
@@ -72,6 +87,7 @@ outcome_once _ _ o u (merged c x y _ a) b = go _ _ u b refl refl
     go _ _ u (lifted d v w more t _ b) same at = absurd cc
     go _ _ u (solved d v w more _ b) same at = absurd cc
     go _ _ u (searched d v w _ b) same at = absurd cc
+    go _ _ u (measured d v w _ b) same at = absurd cc
 outcome_once _ _ o u (stripped c x _ a) b = go _ _ u b refl refl
   where
     go : (e : Command) (texts : List (List ℕ)) (u : Outcome) → ComesTo e texts u → e ≡ commands.Strip c → texts ≡ x ∷ [] → o ≡ u
@@ -82,6 +98,7 @@ outcome_once _ _ o u (stripped c x _ a) b = go _ _ u b refl refl
     go _ _ u (lifted d v w more t _ b) same at = absurd cc
     go _ _ u (solved d v w more _ b) same at = absurd cc
     go _ _ u (searched d v w _ b) same at = absurd cc
+    go _ _ u (measured d v w _ b) same at = absurd cc
 outcome_once _ _ o u (checked c x y plan _ a) b = go _ _ u b refl refl
   where
     go : (e : Command) (texts : List (List ℕ)) (u : Outcome) → ComesTo e texts u → e ≡ commands.Check c → texts ≡ x ∷ y ∷ plan ∷ [] → o ≡ u
@@ -97,6 +114,7 @@ outcome_once _ _ o u (checked c x y plan _ a) b = go _ _ u b refl refl
     go _ _ u (lifted d v w more t _ b) same at = absurd cc
     go _ _ u (solved d v w more _ b) same at = absurd cc
     go _ _ u (searched d v w _ b) same at = absurd cc
+    go _ _ u (measured d v w _ b) same at = absurd cc
 outcome_once _ _ o u (lifted c x y merges plan _ a) b = go _ _ u b refl refl
   where
     go : (e : Command) (texts : List (List ℕ)) (u : Outcome) → ComesTo e texts u → e ≡ commands.Lift c → texts ≡ x ∷ y ∷ (merges ++ plan ∷ []) → o ≡ u
@@ -113,6 +131,7 @@ outcome_once _ _ o u (lifted c x y merges plan _ a) b = go _ _ u b refl refl
         lifted_once c x y merges plan o u a (subst (λ z. LiftsTexts c x y merges z u) lasts.1 (subst (λ z. LiftsTexts c x y z t u) lasts.0 (subst (λ z. LiftsTexts c x z more t u) second (subst (λ z. LiftsTexts c z w more t u) first (subst (λ z. LiftsTexts z v w more t u) command b)))))
     go _ _ u (solved d v w more _ b) same at = absurd cc
     go _ _ u (searched d v w _ b) same at = absurd cc
+    go _ _ u (measured d v w _ b) same at = absurd cc
 outcome_once _ _ o u (solved c x y merges _ a) b = go _ _ u b refl refl
   where
     go : (e : Command) (texts : List (List ℕ)) (u : Outcome) → ComesTo e texts u → e ≡ commands.Solve c → texts ≡ x ∷ y ∷ merges → o ≡ u
@@ -128,6 +147,7 @@ outcome_once _ _ o u (solved c x y merges _ a) b = go _ _ u b refl refl
         let others : more ≡ merges = cc in
         solved_once c x y merges o u a (subst (λ t. SolvesTexts c x y t u) others (subst (λ t. SolvesTexts c x t more u) second (subst (λ t. SolvesTexts c t w more u) first (subst (λ z. SolvesTexts z v w more u) command b))))
     go _ _ u (searched d v w _ b) same at = absurd cc
+    go _ _ u (measured d v w _ b) same at = absurd cc
 outcome_once _ _ o u (searched c x y _ a) b = go _ _ u b refl refl
   where
     go : (e : Command) (texts : List (List ℕ)) (u : Outcome) → ComesTo e texts u → e ≡ commands.Classical c → texts ≡ x ∷ y ∷ [] → o ≡ u
@@ -142,6 +162,22 @@ outcome_once _ _ o u (searched c x y _ a) b = go _ _ u b refl refl
         let first : v ≡ x = cc in
         let second : w ≡ y = cc in
         classical_once c x y o u a (subst (λ t. ClassicalTexts c x t u) second (subst (λ t. ClassicalTexts c t w u) first (subst (λ z. ClassicalTexts z v w u) command b)))
+    go _ _ u (measured d v w _ b) same at = absurd cc
+outcome_once _ _ o u (measured c x y _ a) b = go _ _ u b refl refl
+  where
+    go : (e : Command) (texts : List (List ℕ)) (u : Outcome) → ComesTo e texts u → e ≡ commands.Width c → texts ≡ x ∷ y ∷ [] → o ≡ u
+    go _ _ u (translated d v w more _ b) same at = absurd cc
+    go _ _ u (merged d v w _ b) same at = absurd cc
+    go _ _ u (stripped d v _ b) same at = absurd cc
+    go _ _ u (checked d v w t _ b) same at = absurd cc
+    go _ _ u (lifted d v w more t _ b) same at = absurd cc
+    go _ _ u (solved d v w more _ b) same at = absurd cc
+    go _ _ u (searched d v w _ b) same at = absurd cc
+    go _ _ u (measured d v w _ b) same at =
+        let command : d ≡ c = cc in
+        let first : v ≡ x = cc in
+        let second : w ≡ y = cc in
+        measured_once c x y o u a (subst (λ t. MeasuresTexts c x t u) second (subst (λ t. MeasuresTexts c t w u) first (subst (λ z. MeasuresTexts z v w u) command b)))
 
 -- names have one list of contents
 held_once : (m : FileMap) (names ts us : List (List ℕ)) → map (get m) names ≡ map Some ts → map (get m) names ≡ map Some us → ts ≡ us

@@ -27,6 +27,7 @@ use Rattle.kp_decided.specs.Laws.{AreProper}
 use Rattle.kp_decided.proofs.Counting.{formulas_ascend}
 use Rattle.kp_decided.proofs.Covered.{coverages_decided}
 use Rattle.kp_decided.proofs.Judging.{verdicts_decided}
+use Rattle.kp_decided.proofs.Widths.{widths_decided}
 use Rattle.kp_outcome.specs.declared.outcome.Outcome.{Outcome}
 use Rattle.kp_outcome.specs.Ends.{most_bytes}
 use Rattle.kp_plans.specs.declared.step.PlanStep.{PlanStep}
@@ -35,19 +36,19 @@ use Rattle.kp_plans.specs.Printed.{plan_text}
 use Rattle.kp_plans.specs.Stripping.{IsFirstUnstripped}
 use Rattle.kp_plans.proofs.WholePlans.{always_some as plans_always_one}
 use Rattle.kp_printed.specs.Refusals.{nothing}
-use Rattle.kp_words.specs.Names.{of_mode, Translate, Lift, Solve}
+use Rattle.kp_words.specs.Names.{of_mode, Translate, Lift, Solve, Width}
 use Rattle.kp_words.specs.declared.command.Command.TheVariants as commands
 use Rattle.kp_words.specs.Command.{file_of, if_named, inputs_of}
 use Rattle.kp_words.proofs.Decided.{words_decided}
 use Rattle.kp_prepared.specs.Texts.{HaveTrees}
-use Rattle.kp_prepared.specs.Refusing.{refuses}
+use Rattle.kp_prepared.specs.Refusing.{refuses, named_in}
 use Rattle.kp_prepared.specs.Prepared.{usual, IsPrepared}
 use Rattle.kp_prepared.proofs.Counted.{is_of_atoms}
 use Rattle.kp_inputs.proofs.Ended.{found_below}
 use Rattle.kp_inputs.proofs.Commands.{by_table_some, by_plan_some}
 use Rattle.kp_complete.proofs.Failing.{lift_or_fail}
 use Rattle.kp_sound.proofs.Lifting.{there, lift_named}
-use Rattle.kp_run.specs.Outcomes.{shows_usage, translates, TranslatesGround, over, done, TranslatesTrees, ListsMerges, MergesTrees, prints, StripsText, too_long, no_plan, no_strip, strips, tells, TellsJudged, ChecksTrees, failing_step, unlifted, LiftsActions, lifts, fails, LiftsPlan, no_task, with_task, LiftsTrees, SolvesTrees, ComesTo, translated, merged, checked, lifted, solved, usage, of_command}
+use Rattle.kp_run.specs.Outcomes.{shows_usage, translates, TranslatesGround, over, done, TranslatesTrees, ListsMerges, MergesTrees, prints, StripsText, too_long, no_plan, no_strip, strips, tells, TellsJudged, ChecksTrees, failing_step, unlifted, LiftsActions, lifts, fails, LiftsPlan, no_task, with_task, LiftsTrees, SolvesTrees, tells_width, no_report, with_report, MeasuresTrees, ComesTo, translated, merged, checked, lifted, solved, measured, usage, of_command}
 use Rattle.kp_run.specs.Outcomes as outcomes
 use Rattle.kp_total.specs.Laws.{CommandsHaveAnOutcome, HasSomeOutcome}
 use Rattle.kp_given.proofs.Tables.{tables_written}
@@ -134,6 +135,14 @@ module _ (limit : ℕ) (d : Domain Word) (p : Problem Word) (x y : List ℕ) (tr
 
   of_solve : (c : Solve) (merges : List (List ℕ)) → length merges ≡ length (if_named (file_of c.source)) → (o : Outcome) × SolvesTrees c merges d p o
   of_solve c merges many = by_table_some (ground_of d p) (initial_of d p) c.source merges (SolvesGround c.classical c.budget (ground_of d p) (initial_of d p)) proper many (λ t has. of_search c merges t has)
+
+  -- ---- a width
+
+  of_width : (c : Width) → (o : Outcome) × MeasuresTrees c d p o
+  of_width c = elim (widths_decided usual c.bound (ground_of d p) (initial_of d p) proper) [
+    | inl r ↦ (tells_width (ground_of d p) c.bound r.0, with_report r.0 r.1 refl)
+    | inr r ↦ (refuses (named_in (ground_of d p)) r.0, no_report r.0 r.1 refl)
+  ]
 
 -- ---- a plan file
 
@@ -227,6 +236,12 @@ some_outcome (commands.Classical c) (x ∷ y ∷ []) many = let t = some_classic
 some_outcome (commands.Classical c) [] many = absurd (omega (arith, many))
 some_outcome (commands.Classical c) (x ∷ []) many = absurd (omega (arith, many))
 some_outcome (commands.Classical c) (x ∷ y ∷ z ∷ zs) many = absurd (omega (arith, many))
+some_outcome (commands.Width c) (x ∷ y ∷ []) many =
+    let t = some_comes c.implicates x y (MeasuresTrees c) (λ d p trees ready. of_width c.implicates d p x y trees ready c) in
+    (t.0, measured c x y t.0 t.1)
+some_outcome (commands.Width c) [] many = absurd (omega (arith, many))
+some_outcome (commands.Width c) (x ∷ []) many = absurd (omega (arith, many))
+some_outcome (commands.Width c) (x ∷ y ∷ z ∷ zs) many = absurd (omega (arith, many))
 
 -- contents of names are as many as these
 as_many : (X Y Z : Type 0) (f : X → Z) (g : Y → Z) (xs : List X) (ys : List Y) → map f xs ≡ map g ys → length ys ≡ length xs

@@ -2,3 +2,4 @@ pub mod Laws
 pub mod Follows
 pub mod Commands
 pub mod Solving
+pub mod Measuring

@@ -1,11 +1,12 @@
 //! Laws of outcomes and runs: words have just one outcome on what is held (`specs/Laws.antt`), what
 //! follows from how a run ends (`specs/Follows.antt`), and with what a run of each command ends
-//! (`specs/Commands.antt`, `specs/Solving.antt`).
+//! (`specs/Commands.antt`, `specs/Solving.antt`, `specs/Measuring.antt`).
 #![tactic(auto)]
 
 mod commands;
 mod follows;
 mod laws;
+mod measuring;
 mod solving;
 
 pub use commands::{
@@ -23,6 +24,7 @@ pub use laws::{
     commands_have_an_outcome, unknown_steps_are_no_plan, words_have_one_outcome,
     words_have_some_outcome, yes_is_a_plan,
 };
+pub use measuring::{widths_are_answered, widths_are_true};
 pub use solving::{
     classical_is_a_plan, classical_posed_once, classical_spent_is_true, classicals_are_answered,
     no_classical_plan_is_true, no_plan_is_true, posed_once, solved_is_a_plan,

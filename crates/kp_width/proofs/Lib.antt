@@ -10,3 +10,4 @@ pub mod OneSearch
 pub mod Places
 pub mod Right
 pub mod Searched
+pub mod Widest

@@ -1,5 +1,5 @@
 -- The clauses of a row are as many as the width of its target.
-use Rattle.std.proofs.Common.{◌≤◌, ℕ, List, ◌∷◌, length, refl, sym, subst, inl, inr, arith}
+use Rattle.std.proofs.Common.{◌≤◌, ◌<◌, ℕ, List, ◌∷◌, length, refl, sym, subst, inl, inr, arith}
 use Rattle.std.proofs.lemmas.Bool.{cases_lt}
 use Rattle.kp_base.specs.declared.lit.Lit.{Lit}
 use Rattle.kp_base.specs.declared.ground.Ground.{Ground}
@@ -13,7 +13,7 @@ use Rattle.kp_relevance.proofs.Ordered.{one_clauses_for}
 use Rattle.kp_cover.specs.Covering.{IsCover}
 use Rattle.kp_width.specs.declared.report.WidthRow.{WidthRow}
 use Rattle.kp_width.specs.Width.{CoversTarget}
-use Rattle.kp_width.specs.Rows.{IsFirstCover, IsRowOf}
+use Rattle.kp_width.specs.Rows.{IsFirstCover, IsRowOf, IsOver}
 use Rattle.kp_width.specs.Laws.{RowsHaveTheWidth, TargetsOverAreWider}
 use Rattle.kp_width.proofs.Places.{some_of, of_some}
 
@@ -59,8 +59,12 @@ rows_right limit bound g i target row r = record {
   };
 }
 
-pub over_wider : TargetsOverAreWider
-over_wider limit bound g i target width o h = elim (cases_lt bound width) [
+-- clauses that cover a target without a cover within the bound are more than the bound
+pub more_than : (limit bound : ℕ) (g : Ground) (i : Initial) (target : Lit) → IsOver limit bound g i target → (set tags : List (List Lit)) → CoversTarget g i target set tags → bound < length set
+more_than limit bound g i target o set tags h = elim (cases_lt bound (length set)) [
   | inl lt ↦ lt
-  | inr le ↦ absurd (o.no_cover.none_covers (length h.clauses) (omega (arith, h.as_many, le)) h.clauses h.tags (there g i target o.relevant o.are_relevant h.clauses h.tags h.covers) (covers_them g i target o.relevant o.are_relevant h.clauses h.tags h.covers))
+  | inr le ↦ absurd (o.no_cover.none_covers (length set) (omega (arith, le)) set tags (there g i target o.relevant o.are_relevant set tags h) (covers_them g i target o.relevant o.are_relevant set tags h))
 ]
+
+pub over_wider : TargetsOverAreWider
+over_wider limit bound g i target width o h = let more = more_than limit bound g i target o h.clauses h.tags h.covers in omega (arith, more, h.as_many)

@@ -12,8 +12,9 @@ use Rattle.kp_base.specs.Relevance.{AreClausesFor}
 use Rattle.kp_cover.specs.Targets.{AreTargets}
 use Rattle.kp_width.specs.declared.report.WidthRow.{WidthRow}
 use Rattle.kp_width.specs.declared.report.WidthReport.{WidthReport}
-use Rattle.kp_width.specs.Width.{CoversTarget, HasWidth}
-use Rattle.kp_width.specs.Rows.{IsRowOf, IsOver}
+use Rattle.kp_width.specs.declared.report.WidthReport.TheVariants as reports
+use Rattle.kp_width.specs.Width.{CoversTarget, HasWidth, IsAsWide}
+use Rattle.kp_width.specs.Rows.{IsRowOf, IsOver, greatest_width}
 use Rattle.kp_width.specs.Answers.{IsReport, RefusesWidth}
 
 -- ---- the rows are right
@@ -26,6 +27,10 @@ pub record IsRightRow (g : Ground) (i : Initial) (target : Lit) (row : WidthRow)
 -- each row is so
 abbrev pub RowsHaveTheWidth : Type 0
 RowsHaveTheWidth = (limit bound : ℕ) (g : Ground) (i : Initial) (target : Lit) (row : WidthRow) → IsRowOf limit bound g i target row → IsRightRow g i target row
+
+-- where each target has its row, the problem is as wide as the greatest of the rows
+abbrev pub ReportsHaveTheWidth : Type 0
+ReportsHaveTheWidth = (limits : Limits) (bound : ℕ) (g : Ground) (i : Initial) (rows : List WidthRow) → IsReport limits bound g i (reports.Within rows) → IsAsWide g i (greatest_width rows)
 
 -- a target without a cover within the bound is wider than the bound
 abbrev pub TargetsOverAreWider : Type 0

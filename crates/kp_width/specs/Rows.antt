@@ -1,5 +1,5 @@
 -- The rows of targets: the first of the least sets of relevant clauses that cover, with its tags. Sets of one size stand in order, and there is a limit on how many of one size are tried.
-use Rattle.std.specs.Prelude.{◌≡◌, ◌≤◌, ◌<◌, ◌+◌, ◌++◌, ℕ, List, [], ◌∷◌, length}
+use Rattle.std.specs.Prelude.{◌≡◌, ◌≤◌, ◌<◌, ◌+◌, ◌++◌, ℕ, List, [], ◌∷◌, length, max}
 use Rattle.std.specs.List.{flat_map}
 use Rattle.kp_base.specs.declared.lit.Lit.{Lit}
 use Rattle.kp_base.specs.declared.ground.Ground.{Ground}
@@ -81,8 +81,13 @@ pub record IsReached (limit bound : ℕ) (g : Ground) (i : Initial) (targets : L
   pub rows : List WidthRow
   pub are_rows : AreRows limit bound g i earlier rows
 
--- ---- tags
+-- ---- all rows
 
 -- the different tags of the rows, and the empty one
 abbrev pub used_tags : List WidthRow → List (List Lit)
 used_tags rows = each_once same_set ([] ∷ flat_map (λ row. row.tags) rows)
+
+-- the greatest number of clauses of a row, and 0 where there is none
+abbrev pub greatest_width : List WidthRow → ℕ
+greatest_width [] = 0
+greatest_width (row ∷ rows) = max (length row.clauses) (greatest_width rows)

@@ -1,9 +1,9 @@
--- The width of a target: how many of its relevant clauses it takes to cover it. (Palacios and Geffner, JAIR 35, 2009.)
-use Rattle.std.specs.Prelude.{◌≡◌, ◌≤◌, ℕ, List, length}
+-- The width of a target, how many of its relevant clauses it takes to cover it, and of a problem. (Palacios and Geffner, JAIR 35, 2009.)
+use Rattle.std.specs.Prelude.{◌≡◌, ◌≤◌, ◌⊎◌, ℕ, List, length}
 use Rattle.kp_base.specs.declared.lit.Lit.{Lit}
 use Rattle.kp_base.specs.declared.ground.Ground.{Ground}
 use Rattle.kp_base.specs.declared.ground.Initial.{Initial}
-use Rattle.kp_base.specs.Covering.{IsCov, Covers}
+use Rattle.kp_base.specs.Covering.{IsCov, Covers, IsTarget}
 use Rattle.kp_base.specs.Relevance.{AreClausesFor}
 use Rattle.kp_sets.specs.Laws.{IsSublist}
 
@@ -22,3 +22,8 @@ pub record HasWidth (g : Ground) (i : Initial) (target : Lit) (width : ℕ) : Ty
   pub covers : CoversTarget g i target clauses tags
   pub as_many : length clauses ≡ width
   pub least : (others more : List (List Lit)) → CoversTarget g i target others more → width ≤ length others
+
+-- a problem is as wide as the widest of its targets, and 0 wide where it has none
+pub record IsAsWide (g : Ground) (i : Initial) (width : ℕ) : Type 0 where
+  pub each : (target : Lit) → IsTarget g target → (w : ℕ) × HasWidth g i target w × (w ≤ width)
+  pub some : (width ≡ 0) ⊎ ((target : Lit) × IsTarget g target × HasWidth g i target width)

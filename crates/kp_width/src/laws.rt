@@ -1,10 +1,15 @@
 //! Laws of widths, each proved as the contract of a function that does nothing.
 
-ghost use Rattle.kp_width.specs.Laws.{KnownProblemsAreAnswered, ProblemsHaveOneWidth, RowsHaveTheWidth, TargetsOverAreWider};
+ghost use Rattle.kp_width.specs.Laws.{KnownProblemsAreAnswered, ProblemsHaveOneWidth, ReportsHaveTheWidth, RowsHaveTheWidth, TargetsOverAreWider};
 
 /// The clauses of a row are as many as the width of its target.
 pub fn rows_have_the_width()
     ensures { RowsHaveTheWidth }
+{}
+
+/// Where each target has its row, the greatest number of clauses of a row is the width of the problem.
+pub fn reports_have_the_width()
+    ensures { ReportsHaveTheWidth }
 {}
 
 /// A target that no set within the bound covers has no width within the bound.

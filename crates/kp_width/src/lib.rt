@@ -13,8 +13,8 @@ mod tags;
 mod target;
 
 pub use laws::{
-    known_problems_are_answered, problems_have_one_width, rows_have_the_width,
-    targets_over_are_wider,
+    known_problems_are_answered, problems_have_one_width, reports_have_the_width,
+    rows_have_the_width, targets_over_are_wider,
 };
 pub use measure::width;
 pub use report::{WidthReport, WidthRow};

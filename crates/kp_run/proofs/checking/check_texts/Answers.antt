@@ -1,5 +1,5 @@
-use Rattle.std.proofs.Common.{ap, sym, subst, IfOk}
-use Rattle.kp_given.specs.Translations.{ground_of, initial_of}
+use Rattle.std.proofs.Common.{ap, subst, IfOk}
+use Rattle.kp_given.specs.Translations.{initial_of}
 use Rattle.kp_prepared.specs.Prepared.{AnswersPrepared}
 use Rattle.kp_words.specs.Names.{Check}
 use Rattle.kp_inputs.specs.Actions.{ComesByPlan}

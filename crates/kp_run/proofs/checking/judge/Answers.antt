@@ -1,4 +1,4 @@
-use Rattle.std.proofs.Common.{◌≡◌, ◌∙◌, subst, IfOk}
+use Rattle.std.proofs.Common.{◌≡◌, subst, IfOk}
 use Rattle.kp_primes.specs.Held.{formula}
 use Rattle.kp_run.specs.Outcomes.{tells}
 use Rattle.kp_run.proofs.Checks.{told_judged}
