@@ -34,8 +34,8 @@ use Rattle.kp_outcome.specs.declared.status.Status.{Status}
 use Rattle.kp_outcome.specs.declared.status.Status.TheVariants as status
 use Rattle.kp_outcome.specs.Ends.{Outside, AreHeld, with_files, CarriesOut, whole, put_failed, put_no_memory, print_failed, print_no_memory}
 use Rattle.kp_words.specs.Names.{Translate, Lift}
-use Rattle.kp_words.specs.declared.command.Command.{Command}
-use Rattle.kp_words.specs.declared.command.Command.TheVariants as commands
+use Rattle.kp_words.specs.declared.lent.CommandRef.{CommandRef as Command}
+use Rattle.kp_words.specs.declared.lent.CommandRef.TheVariants as commands
 use Rattle.kp_words.specs.Command.{IsLift, file_of, if_named, inputs_of}
 use Rattle.kp_words.proofs.OneCommand.{one_command}
 use Rattle.kp_printed.specs.Coverage.{coverage_text}

@@ -52,9 +52,10 @@ use Rattle.kp_outside.specs.Outside.{FileMap}
 use Rattle.kp_outcome.specs.declared.outcome.Outcome.{Outcome}
 use Rattle.kp_outcome.specs.declared.status.Status.TheVariants as status
 use Rattle.kp_outcome.specs.Ends.{Outside, AreHeld, whole}
+use Rattle.kp_line.specs.Words.{nothing, a_word, apart as apart_words, word as said_word, option as said_option}
 use Rattle.kp_words.specs.Names.{of_mode, Translate}
-use Rattle.kp_words.specs.declared.command.Command.TheVariants as commands
-use Rattle.kp_words.specs.Command.{NamesFiles, stated_mode, unsaid, stated, IsTranslate, file_of, if_named}
+use Rattle.kp_words.specs.declared.lent.CommandRef.TheVariants as commands
+use Rattle.kp_words.specs.Command.{IsTranslate, file_of, if_named}
 use Rattle.kp_words.proofs.Examples.{no_words}
 use Rattle.kp_prepared.specs.Texts.{HaveTrees}
 use Rattle.kp_prepared.specs.Prepared.{usual, IsStarted, later}
@@ -87,24 +88,18 @@ command = record { domain = codes "d"; problem = codes "p"; domain_out = codes "
 apart : (x y : List ℕ) → same x y ≡ false → x ≢ y
 apart x y h e = false≢true (sym h ∙ (sym (ap (same x) e) ∙ same-refl x))
 
-names_files : (n : ℕ) → NamesFiles (codes "translate" ∷ codes "d" ∷ codes "p" ∷ codes "od" ∷ codes "op" ∷ []) (record { domain = codes "d"; problem = codes "p"; domain_out = codes "od"; problem_out = codes "op"; source = of_mode modes.K0; implicates = n })
-unfolding encode
-names_files n = record {
-  words_are = refl;
-  domain = record { not_empty = λ e. cc; no_dash = refl; utf8 = (codes "d", (refl, refl)) };
-  problem = record { not_empty = λ e. cc; no_dash = refl; utf8 = (codes "p", (refl, refl)) };
-  domain_out = record { not_empty = λ e. cc; no_dash = refl; utf8 = (codes "od", (refl, refl)) };
-  problem_out = record { not_empty = λ e. cc; no_dash = refl; utf8 = (codes "op", (refl, refl)) };
-  outputs_differ = apart (codes "od") (codes "op") refl;
-}
-
 is_command : IsTranslate words command
+unfolding encode
 is_command = record {
-  front = codes "translate" ∷ codes "d" ∷ codes "p" ∷ codes "od" ∷ codes "op" ∷ [];
-  options = codes "--mode" ∷ codes "k0" ∷ [];
+  rest = codes "d" ∷ codes "p" ∷ codes "od" ∷ codes "op" ∷ codes "--mode" ∷ codes "k0" ∷ [];
+  utf8 = ((codes "translate", (refl, refl)), ((codes "d", (refl, refl)), ((codes "p", (refl, refl)), ((codes "od", (refl, refl)), ((codes "op", (refl, refl)), ((codes "--mode", (refl, refl)), ((codes "k0", (refl, refl)), tt)))))));
   words_are = refl;
-  files = names_files 20000;
-  says = record { first = codes "--mode" ∷ codes "k0" ∷ []; last = []; words_are = refl; source = stated_mode modes.K0; limit = unsaid };
+  says = record {
+    places = codes "d" ∷ codes "p" ∷ codes "od" ∷ codes "op" ∷ [];
+    values = Some (codes "k0") ∷ None ∷ None ∷ [];
+    line = record { said = said_word (codes "d") ∷ said_word (codes "p") ∷ said_word (codes "od") ∷ said_word (codes "op") ∷ said_option (codes "mode") (codes "k0") ∷ []; says = a_word _ _ _ refl (a_word _ _ _ refl (a_word _ _ _ refl (a_word _ _ _ refl (apart_words (codes "mode") (codes "k0") _ _ refl refl (nothing))))); places_are = refl; known = refl; once = refl; values_are = refl };
+    are_so = record { mode = Some (codes "k0"); merges = None; implicates = None; places_are = refl; values_are = refl; outputs_differ = apart (codes "od") (codes "op") refl; source = (refl, refl); limit = refl };
+  };
 }
 
 -- with a limit of one prime implicate
@@ -117,18 +112,16 @@ abbrev pub limited : Translate
 limited = record { domain = codes "d"; problem = codes "p"; domain_out = codes "od"; problem_out = codes "op"; source = of_mode modes.K0; implicates = 1 }
 
 pub is_limited : IsTranslate with_limit limited
-unfolding digits
+unfolding encode digits
 is_limited = record {
-  front = codes "translate" ∷ codes "d" ∷ codes "p" ∷ codes "od" ∷ codes "op" ∷ [];
-  options = codes "--mode" ∷ codes "k0" ∷ codes "--implicates" ∷ codes "1" ∷ [];
+  rest = codes "d" ∷ codes "p" ∷ codes "od" ∷ codes "op" ∷ codes "--mode" ∷ codes "k0" ∷ codes "--implicates" ∷ codes "1" ∷ [];
+  utf8 = ((codes "translate", (refl, refl)), ((codes "d", (refl, refl)), ((codes "p", (refl, refl)), ((codes "od", (refl, refl)), ((codes "op", (refl, refl)), ((codes "--mode", (refl, refl)), ((codes "k0", (refl, refl)), ((codes "--implicates", (refl, refl)), ((codes "1", (refl, refl)), tt)))))))));
   words_are = refl;
-  files = names_files 1;
   says = record {
-    first = codes "--mode" ∷ codes "k0" ∷ [];
-    last = codes "--implicates" ∷ codes "1" ∷ [];
-    words_are = refl;
-    source = stated_mode modes.K0;
-    limit = stated 1 (record { least = omega arith; most = omega arith });
+    places = codes "d" ∷ codes "p" ∷ codes "od" ∷ codes "op" ∷ [];
+    values = Some (codes "k0") ∷ None ∷ Some (codes "1") ∷ [];
+    line = record { said = said_word (codes "d") ∷ said_word (codes "p") ∷ said_word (codes "od") ∷ said_word (codes "op") ∷ said_option (codes "mode") (codes "k0") ∷ said_option (codes "implicates") (codes "1") ∷ []; says = a_word _ _ _ refl (a_word _ _ _ refl (a_word _ _ _ refl (a_word _ _ _ refl (apart_words (codes "mode") (codes "k0") _ _ refl refl (apart_words (codes "implicates") (codes "1") _ _ refl refl (nothing)))))); places_are = refl; known = refl; once = refl; values_are = refl };
+    are_so = record { mode = Some (codes "k0"); merges = None; implicates = Some (codes "1"); places_are = refl; values_are = refl; outputs_differ = apart (codes "od") (codes "op") refl; source = (refl, refl); limit = (record { at_least = omega arith; at_most = omega arith }, refl) };
   };
 }
 

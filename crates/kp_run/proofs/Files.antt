@@ -13,8 +13,8 @@ use Rattle.kp_base.specs.declared.limits.Mode.{Mode}
 use Rattle.kp_inputs.specs.declared.origin.Origin.TheVariants as origins
 use Rattle.kp_inputs.specs.declared.origin.Origin.{Origin}
 use Rattle.kp_inputs.specs.Tables.{IsOrigin, IsShort, from_mode, from_file}
-use Rattle.kp_words.specs.declared.command.Command.{Command}
-use Rattle.kp_words.specs.declared.command.Command.TheVariants as commands
+use Rattle.kp_words.specs.declared.lent.CommandRef.{CommandRef as Command}
+use Rattle.kp_words.specs.declared.lent.CommandRef.TheVariants as commands
 use Rattle.kp_words.specs.Command.{IsCommand, inputs_of}
 use Rattle.kp_run.specs.declared.sourced.Sourced.{Sourced}
 use Rattle.kp_run.specs.Tables.{IsSourced}

@@ -32,8 +32,8 @@ use Rattle.kp_outcome.specs.declared.status.Status.{Status}
 use Rattle.kp_outcome.specs.declared.status.Status.TheVariants as status
 use Rattle.kp_outcome.specs.Ends.{Outside, AreHeld, with_files, whole, put_failed, put_no_memory, print_failed, print_no_memory}
 use Rattle.kp_words.specs.Names.{Translate}
-use Rattle.kp_words.specs.declared.command.Command.{Command}
-use Rattle.kp_words.specs.declared.command.Command.TheVariants as commands
+use Rattle.kp_words.specs.declared.lent.CommandRef.{CommandRef as Command}
+use Rattle.kp_words.specs.declared.lent.CommandRef.TheVariants as commands
 use Rattle.kp_words.specs.Command.{IsTranslate, inputs_of}
 use Rattle.kp_inputs.specs.Tables.{HasTable, no_table, with_table}
 use Rattle.kp_inputs.proofs.TablesFor.{table_for}
@@ -179,7 +179,7 @@ module _ (before after : FileMap) (c : Translate) (o : Outcome) (apart : c.domai
 sound_due : (words : List (Vec ℕ Global)) (before after : FileMap) (c : Translate) (o : Outcome) → IsTranslate words c → IsDue words (Some before) o → o.status ≡ status.Done → Some after ≡ with_files (Some before) o.puts → IsSound before after c
 sound_due words before after c _ is (usage none) done puts = absurd cc
 sound_due words before after c o is (of_command e texts _ so held comes) done puts =
-    sound_outcome before after c o is.files.outputs_differ (both_held before c e texts o (one_command words (commands.Translate c) e is so) held comes) done puts
+    sound_outcome before after c o is.says.are_so.outputs_differ (both_held before c e texts o (one_command words (commands.Translate c) e is so) held comes) done puts
 
 pub sound_end : (words : List (Vec ℕ Global)) (old new : Outside) (s : Status) → Ends words old new s → (before after : FileMap) (c : Translate) → old.held ≡ Some before → new.held ≡ Some after → IsTranslate words c → s ≡ status.Done → IsSound before after c
 sound_end words old new s (came o due (whole same none held told)) before after c first last is done =

@@ -44,8 +44,8 @@ use Rattle.kp_outcome.specs.declared.outcome.Outcome.{Outcome}
 use Rattle.kp_outcome.specs.declared.status.Status.TheVariants as status
 use Rattle.kp_outcome.specs.Ends.{AreHeld, most_bytes}
 use Rattle.kp_words.specs.Names.{of_mode, Translate, Merges, Strip, Check, Lift, Solve, Classical, Width}
-use Rattle.kp_words.specs.declared.command.Command.{Command}
-use Rattle.kp_words.specs.declared.command.Command.TheVariants as commands
+use Rattle.kp_words.specs.declared.lent.CommandRef.{CommandRef as Command}
+use Rattle.kp_words.specs.declared.lent.CommandRef.TheVariants as commands
 use Rattle.kp_words.specs.Command.{IsCommand, IsNoCommand, inputs_of}
 use Rattle.kp_prepared.specs.Refusing.{refuses, named_in}
 use Rattle.kp_prepared.specs.Prepared.{usual, Comes}

@@ -3,8 +3,8 @@ ghost use Rattle.kp_outside.specs.declared.outside.OutsideStop.TheVariants as st
 ghost use Rattle.kp_outside.specs.Outside.{FileMap};
 ghost use Rattle.kp_outcome.specs.declared.status.Status.TheVariants as status;
 ghost use Rattle.kp_outcome.specs.Ends.{AreHeld, AreFronts, AreRead, GetFails};
-ghost use Rattle.kp_words.specs.declared.command.Command.{Command as Ordered};
-ghost use Rattle.kp_words.specs.declared.command.Command.TheVariants as commands;
+ghost use Rattle.kp_words.specs.declared.lent.CommandRef.{CommandRef as Ordered};
+ghost use Rattle.kp_words.specs.declared.lent.CommandRef.TheVariants as commands;
 ghost use Rattle.kp_words.specs.Names.{Translate as Names, Lift as LiftNames, Solve as SolveNames, Classical as ClassicalNames, of_mode, of_file};
 ghost use Rattle.kp_words.specs.Command.{IsTranslate, IsLift, IsSolve, IsClassical, IsCommand, file_of, if_named, inputs_of};
 ghost use Rattle.kp_run.specs.Outcomes.{ComesTo, IsDue};
@@ -26,7 +26,10 @@ use kp_base::{Memory, Mode, Row};
 use kp_inputs::Origin;
 use kp_outcome::{Outcome, Status, carry_out, read_inputs, stopped};
 use kp_outside::{Got, OutsideStop, Shelf, Sink};
-use kp_words::{Check, Classical, Command, Lift, Merges, Solve, Source, Strip, Translate, Width};
+use kp_words::{
+    Check, Classical, CommandRef, Lift, Merges, Solve, SourceRef, Strip, Translate, Width, WordStop,
+    command,
+};
 use std::alloc::Global;
 
 // Reads the two or three files that a call to solve names.
@@ -43,8 +46,8 @@ fn read_solve<S: Shelf>(
 {
     let (domain, problem) = (named.domain, named.problem);
     match named.source {
-        Source::File(merges) => read_inputs(alloc, &[domain, problem, merges], shelf),
-        Source::Mode(_) => read_inputs(alloc, &[domain, problem], shelf),
+        SourceRef::File(merges) => read_inputs(alloc, &[domain, problem, merges], shelf),
+        SourceRef::Mode(_) => read_inputs(alloc, &[domain, problem], shelf),
     }
 }
 
@@ -61,8 +64,8 @@ fn read_translate<S: Shelf>(
     ensures put_faults { (q : List ℕ) → S.put_faults shelf.new q ≡ S.put_faults shelf.old q }
 {
     match named.source {
-        Source::File(merges) => read_inputs(alloc, &[named.domain, named.problem, merges], shelf),
-        Source::Mode(_) => read_inputs(alloc, &[named.domain, named.problem], shelf),
+        SourceRef::File(merges) => read_inputs(alloc, &[named.domain, named.problem, merges], shelf),
+        SourceRef::Mode(_) => read_inputs(alloc, &[named.domain, named.problem], shelf),
     }
 }
 
@@ -80,15 +83,15 @@ fn read_lift<S: Shelf>(
 {
     let (domain, problem, plan) = (named.domain, named.problem, named.plan);
     match named.source {
-        Source::File(merges) => read_inputs(alloc, &[domain, problem, merges, plan], shelf),
-        Source::Mode(_) => read_inputs(alloc, &[domain, problem, plan], shelf),
+        SourceRef::File(merges) => read_inputs(alloc, &[domain, problem, merges, plan], shelf),
+        SourceRef::Mode(_) => read_inputs(alloc, &[domain, problem, plan], shelf),
     }
 }
 
 // Reads the files that a command names, in order.
 fn read<S: Shelf>(
     alloc: Global,
-    command: &Command<'_>,
+    command: &CommandRef<'_>,
     shelf: &mut S,
 ) -> Result<Row<Got>, OutsideStop>
     ensures read { IfOk result (AreRead (S.contents shelf.old) (inputs_of command.now)) }
@@ -98,16 +101,16 @@ fn read<S: Shelf>(
     ensures put_faults { (q : List ℕ) → S.put_faults shelf.new q ≡ S.put_faults shelf.old q }
 {
     match command {
-        Command::Translate(named) => read_translate(alloc, named, shelf),
-        Command::Merges(named) => read_inputs(alloc, &[named.domain, named.problem], shelf),
-        Command::Strip(named) => read_inputs(alloc, &[named.plan], shelf),
-        Command::Check(named) => {
+        CommandRef::Translate(named) => read_translate(alloc, named, shelf),
+        CommandRef::Merges(named) => read_inputs(alloc, &[named.domain, named.problem], shelf),
+        CommandRef::Strip(named) => read_inputs(alloc, &[named.plan], shelf),
+        CommandRef::Check(named) => {
             read_inputs(alloc, &[named.domain, named.problem, named.plan], shelf)
         }
-        Command::Lift(named) => read_lift(alloc, named, shelf),
-        Command::Solve(named) => read_solve(alloc, named, shelf),
-        Command::Classical(named) => read_inputs(alloc, &[named.domain, named.problem], shelf),
-        Command::Width(named) => read_inputs(alloc, &[named.domain, named.problem], shelf),
+        CommandRef::Lift(named) => read_lift(alloc, named, shelf),
+        CommandRef::Solve(named) => read_solve(alloc, named, shelf),
+        CommandRef::Classical(named) => read_inputs(alloc, &[named.domain, named.problem], shelf),
+        CommandRef::Width(named) => read_inputs(alloc, &[named.domain, named.problem], shelf),
     }
 }
 
@@ -151,8 +154,8 @@ fn lift_gots(alloc: Global, named: &Lift<'_>, gots: Row<Got>) -> Result<Outcome,
     ensures { (texts : List (List ℕ)) → AreFronts texts gots → IfOk result (ComesTo (commands.Lift named.now) texts) }
 {
     match named.source {
-        Source::File(_) => lift_merged_gots(alloc, named, gots),
-        Source::Mode(mode) => lift_mode_gots(alloc, named, mode, gots),
+        SourceRef::File(_) => lift_merged_gots(alloc, named, gots),
+        SourceRef::Mode(mode) => lift_mode_gots(alloc, named, mode, gots),
     }
 }
 
@@ -211,26 +214,26 @@ fn width_gots(alloc: Global, named: &Width<'_>, gots: Row<Got>) -> Result<Outcom
 }
 
 // What a command comes to on what was read of its input files.
-fn outcome_of(alloc: Global, command: &Command<'_>, gots: Row<Got>) -> Result<Outcome, Memory>
+fn outcome_of(alloc: Global, command: &CommandRef<'_>, gots: Row<Got>) -> Result<Outcome, Memory>
     requires { (held : Option FileMap) × AreRead held (inputs_of command.now) gots }
     ensures { (texts : List (List ℕ)) → AreFronts texts gots → IfOk result (ComesTo command.now texts) }
 {
     match command {
-        Command::Translate(named) => translate_gots(alloc, named, gots),
-        Command::Merges(named) => merges_gots(alloc, named, gots),
-        Command::Strip(named) => strip_gots(alloc, named, gots),
-        Command::Check(named) => check_gots(alloc, named, gots),
-        Command::Lift(named) => lift_gots(alloc, named, gots),
-        Command::Solve(named) => solve_gots(alloc, named, gots),
-        Command::Classical(named) => classical_gots(alloc, named, gots),
-        Command::Width(named) => width_gots(alloc, named, gots),
+        CommandRef::Translate(named) => translate_gots(alloc, named, gots),
+        CommandRef::Merges(named) => merges_gots(alloc, named, gots),
+        CommandRef::Strip(named) => strip_gots(alloc, named, gots),
+        CommandRef::Check(named) => check_gots(alloc, named, gots),
+        CommandRef::Lift(named) => lift_gots(alloc, named, gots),
+        CommandRef::Solve(named) => solve_gots(alloc, named, gots),
+        CommandRef::Classical(named) => classical_gots(alloc, named, gots),
+        CommandRef::Width(named) => width_gots(alloc, named, gots),
     }
 }
 
 // What a command comes to. At `Err` a read failed, or memory ran out.
 fn come_to<S: Shelf>(
     alloc: Global,
-    command: &Command<'_>,
+    command: &CommandRef<'_>,
     shelf: &mut S,
 ) -> Result<Outcome, OutsideStop>
     ensures comes_to { IfOk result (λ o. (texts : List (List ℕ)) × AreHeld (S.contents shelf.old) (inputs_of command.now) texts × ComesTo command.now texts o) }
@@ -251,9 +254,10 @@ fn due<S: Shelf>(alloc: Global, words: &[Vec<u8>], shelf: &mut S) -> Result<Outc
     ensures contents { S.contents shelf.new ≡ S.contents shelf.old }
     ensures put_faults { (q : List ℕ) → S.put_faults shelf.new q ≡ S.put_faults shelf.old q }
 {
-    match Command::from_words(words) {
-        Some(command) => come_to(alloc, &command, shelf),
-        None => Ok(usage_outcome(alloc)?),
+    match command(alloc, words) {
+        Ok(command) => come_to(alloc, &command.lend(), shelf),
+        Err(WordStop::Usage) => Ok(usage_outcome(alloc)?),
+        Err(WordStop::Memory) => Err(OutsideStop::Memory),
     }
 }
 

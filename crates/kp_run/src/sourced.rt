@@ -10,7 +10,7 @@ ghost use Rattle.kp_run.specs.Tables.{IsSourced};
 use kp_base::{Mode, Row};
 use kp_inputs::Origin;
 use kp_outside::Got;
-use kp_words::Source;
+use kp_words::SourceRef;
 
 /// What was read of a domain and a problem, and where the tags and merges come from.
 #[derive(Drop)]
@@ -95,7 +95,7 @@ fn with_merges(gots: Row<Got>) -> Sourced
 }
 
 /// What was read of a domain, a problem, and the file of merges if there is one.
-pub fn taken_apart(source: Source<'_>, gots: Row<Got>) -> Sourced
+pub fn taken_apart(source: SourceRef<'_>, gots: Row<Got>) -> Sourced
     requires { (held : Option FileMap) × (domain : List ℕ) × (problem : List ℕ) × AreRead held (domain ∷ problem ∷ if_named (file_of (source_view source))) gots }
     ensures texts { (texts : List (List ℕ)) → AreFronts texts gots → IsSourced (source_view source.entry) texts result }
     ensures domain { IsWithin 16777216 result.domain }
@@ -104,7 +104,7 @@ pub fn taken_apart(source: Source<'_>, gots: Row<Got>) -> Sourced
     ensures origin { (origin : Origins) × (merges : List (List ℕ)) × IsOrigin origin merges result.origin }
 {
     match source {
-        Source::Mode(mode) => with_mode(mode, gots),
-        Source::File(_) => with_merges(gots),
+        SourceRef::Mode(mode) => with_mode(mode, gots),
+        SourceRef::File(_) => with_merges(gots),
     }
 }

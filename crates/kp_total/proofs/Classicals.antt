@@ -7,7 +7,7 @@ use Rattle.kp_given.specs.Translations.{ground_of}
 use Rattle.kp_outside.specs.Outside.{FileMap}
 use Rattle.kp_outcome.specs.declared.outcome.Outcome.{Outcome}
 use Rattle.kp_words.specs.Names.{Classical}
-use Rattle.kp_words.specs.declared.command.Command.TheVariants as commands
+use Rattle.kp_words.specs.declared.lent.CommandRef.TheVariants as commands
 use Rattle.kp_words.specs.Command.{IsClassical as SaysClassical}
 use Rattle.kp_classical.specs.Classical.{later, task_of}
 use Rattle.kp_solving.specs.Solving.{SolvesClassical}

@@ -27,8 +27,9 @@ use Rattle.kp_outcome.specs.declared.outcome.Outcome.{Outcome}
 use Rattle.kp_outcome.specs.declared.status.Status.TheVariants as status
 use Rattle.kp_outcome.specs.Ends.{Outside, whole}
 use Rattle.kp_words.specs.Names.{Classical}
-use Rattle.kp_words.specs.declared.command.Command.TheVariants as commands
-use Rattle.kp_words.specs.Command.{NamesClassical, unsaid, stated, IsClassical as SaysClassical}
+use Rattle.kp_words.specs.declared.lent.CommandRef.TheVariants as commands
+use Rattle.kp_line.specs.Words.{nothing, a_word, apart as apart_words, word as said_word, option as said_option}
+use Rattle.kp_words.specs.Command.{IsClassical as SaysClassical}
 use Rattle.kp_words.proofs.Examples.{word}
 use Rattle.kp_prepared.specs.Texts.{HaveTrees}
 use Rattle.kp_classical.specs.Classical.{IsClassical, later, task_of}
@@ -52,29 +53,36 @@ front more = word (codes "classical") (omega arith) ∷ word (codes "d") (omega 
 abbrev solving : ℕ → Classical
 solving budget = record { domain = codes "d"; problem = codes "p"; budget = budget }
 
-names_files : (budget : ℕ) → NamesClassical (codes "classical" ∷ codes "d" ∷ codes "p" ∷ []) (solving budget)
-unfolding encode
-names_files budget = record {
-  words_are = refl;
-  domain = record { not_empty = λ e. cc; no_dash = refl; utf8 = (codes "d", (refl, refl)) };
-  problem = record { not_empty = λ e. cc; no_dash = refl; utf8 = (codes "p", (refl, refl)) };
-}
-
 is_plain : SaysClassical (front []) (solving 10000)
-is_plain = record { front = codes "classical" ∷ codes "d" ∷ codes "p" ∷ []; options = []; words_are = refl; files = names_files 10000; budget = unsaid }
+unfolding encode
+is_plain = record {
+  rest = codes "d" ∷ codes "p" ∷ [];
+  utf8 = ((codes "classical", (refl, refl)), ((codes "d", (refl, refl)), ((codes "p", (refl, refl)), tt)));
+  words_are = refl;
+  says = record {
+    places = codes "d" ∷ codes "p" ∷ [];
+    values = None ∷ [];
+    line = record { said = said_word (codes "d") ∷ said_word (codes "p") ∷ []; says = a_word _ _ _ refl (a_word _ _ _ refl (nothing)); places_are = refl; known = refl; once = refl; values_are = refl };
+    are_so = record { budget = None; places_are = refl; values_are = refl; says_budget = refl };
+  };
+}
 
 -- one state may be expanded
 abbrev with_budget : List (Vec ℕ Global)
 with_budget = front (word (codes "--budget") (omega arith) ∷ word (codes "1") (omega arith) ∷ [])
 
 is_with_budget : SaysClassical with_budget (solving 1)
-unfolding digits
+unfolding encode digits
 is_with_budget = record {
-  front = codes "classical" ∷ codes "d" ∷ codes "p" ∷ [];
-  options = codes "--budget" ∷ codes "1" ∷ [];
+  rest = codes "d" ∷ codes "p" ∷ codes "--budget" ∷ codes "1" ∷ [];
+  utf8 = ((codes "classical", (refl, refl)), ((codes "d", (refl, refl)), ((codes "p", (refl, refl)), ((codes "--budget", (refl, refl)), ((codes "1", (refl, refl)), tt)))));
   words_are = refl;
-  files = names_files 1;
-  budget = stated 1 (record { least = omega arith; most = omega arith });
+  says = record {
+    places = codes "d" ∷ codes "p" ∷ [];
+    values = Some (codes "1") ∷ [];
+    line = record { said = said_word (codes "d") ∷ said_word (codes "p") ∷ said_option (codes "budget") (codes "1") ∷ []; says = a_word _ _ _ refl (a_word _ _ _ refl (apart_words (codes "budget") (codes "1") _ _ refl refl (nothing))); places_are = refl; known = refl; once = refl; values_are = refl };
+    are_so = record { budget = Some (codes "1"); places_are = refl; values_are = refl; says_budget = (record { at_least = omega arith; at_most = omega arith }, refl) };
+  };
 }
 
 -- ---- two files

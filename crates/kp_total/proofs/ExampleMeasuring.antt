@@ -45,7 +45,7 @@ use Rattle.kp_outcome.specs.declared.status.Status.TheVariants as status
 use Rattle.kp_outcome.specs.Ends.{Outside, whole}
 use Rattle.kp_printed.specs.Widths.{width_text, over_text}
 use Rattle.kp_words.specs.Names.{Width}
-use Rattle.kp_words.specs.declared.command.Command.TheVariants as commands
+use Rattle.kp_words.specs.declared.lent.CommandRef.TheVariants as commands
 use Rattle.kp_words.specs.Command.{unsaid, stated, NamesMeasured, IsWidth}
 use Rattle.kp_words.proofs.Examples.{word}
 use Rattle.kp_prepared.specs.Texts.{HaveTrees}

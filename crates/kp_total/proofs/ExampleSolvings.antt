@@ -32,8 +32,9 @@ use Rattle.kp_outcome.specs.declared.outcome.Outcome.{Outcome}
 use Rattle.kp_outcome.specs.declared.status.Status.TheVariants as status
 use Rattle.kp_outcome.specs.Ends.{Outside, with_files, whole}
 use Rattle.kp_words.specs.Names.{of_mode, Solve}
-use Rattle.kp_words.specs.declared.command.Command.TheVariants as commands
-use Rattle.kp_words.specs.Command.{NamesSolved, stated_mode, unsaid, stated, IsSolve}
+use Rattle.kp_words.specs.declared.lent.CommandRef.TheVariants as commands
+use Rattle.kp_line.specs.Words.{nothing, a_word, apart as apart_words, word as said_word, option as said_option}
+use Rattle.kp_words.specs.Command.{IsSolve}
 use Rattle.kp_words.proofs.Examples.{word}
 use Rattle.kp_prepared.specs.Texts.{HaveTrees}
 use Rattle.kp_prepared.specs.Prepared.{IsPrepared, later}
@@ -61,28 +62,21 @@ front more = word (codes "solve") (omega arith) ∷ word (codes "d") (omega arit
 abbrev solving : ℕ → Option (List ℕ) → Solve
 solving budget name = record { domain = codes "d"; problem = codes "p"; source = of_mode modes.K0; implicates = 20000; budget = budget; classical = name }
 
-names_files : (budget : ℕ) (name : Option (List ℕ)) → NamesSolved (codes "solve" ∷ codes "d" ∷ codes "p" ∷ []) (solving budget name)
-unfolding encode
-names_files budget name = record {
-  words_are = refl;
-  domain = record { not_empty = λ e. cc; no_dash = refl; utf8 = (codes "d", (refl, refl)) };
-  problem = record { not_empty = λ e. cc; no_dash = refl; utf8 = (codes "p", (refl, refl)) };
-}
-
 abbrev plain : List (Vec ℕ Global)
 plain = front []
 
 is_plain : IsSolve plain (solving 10000 None)
+unfolding encode
 is_plain = record {
-  front = codes "solve" ∷ codes "d" ∷ codes "p" ∷ [];
-  options = codes "--mode" ∷ codes "k0" ∷ [];
-  budget = [];
-  classical = [];
+  rest = codes "d" ∷ codes "p" ∷ codes "--mode" ∷ codes "k0" ∷ [];
+  utf8 = ((codes "solve", (refl, refl)), ((codes "d", (refl, refl)), ((codes "p", (refl, refl)), ((codes "--mode", (refl, refl)), ((codes "k0", (refl, refl)), tt)))));
   words_are = refl;
-  files = names_files 10000 None;
-  says = record { first = codes "--mode" ∷ codes "k0" ∷ []; last = []; words_are = refl; source = stated_mode modes.K0; limit = unsaid };
-  says_budget = unsaid;
-  says_classical = refl;
+  says = record {
+    places = codes "d" ∷ codes "p" ∷ [];
+    values = Some (codes "k0") ∷ None ∷ None ∷ None ∷ None ∷ [];
+    line = record { said = said_word (codes "d") ∷ said_word (codes "p") ∷ said_option (codes "mode") (codes "k0") ∷ []; says = a_word _ _ _ refl (a_word _ _ _ refl (apart_words (codes "mode") (codes "k0") _ _ refl refl (nothing))); places_are = refl; known = refl; once = refl; values_are = refl };
+    are_so = record { mode = Some (codes "k0"); merges = None; implicates = None; budget = None; places_are = refl; values_are = refl; source = (refl, refl); limit = refl; says_budget = refl };
+  };
 }
 
 -- the classical plan is written to c
@@ -92,15 +86,15 @@ with_classical = front (word (codes "--classical") (omega arith) ∷ word (codes
 is_with_classical : IsSolve with_classical (solving 10000 (Some (codes "c")))
 unfolding encode
 is_with_classical = record {
-  front = codes "solve" ∷ codes "d" ∷ codes "p" ∷ [];
-  options = codes "--mode" ∷ codes "k0" ∷ [];
-  budget = [];
-  classical = codes "--classical" ∷ codes "c" ∷ [];
+  rest = codes "d" ∷ codes "p" ∷ codes "--mode" ∷ codes "k0" ∷ codes "--classical" ∷ codes "c" ∷ [];
+  utf8 = ((codes "solve", (refl, refl)), ((codes "d", (refl, refl)), ((codes "p", (refl, refl)), ((codes "--mode", (refl, refl)), ((codes "k0", (refl, refl)), ((codes "--classical", (refl, refl)), ((codes "c", (refl, refl)), tt)))))));
   words_are = refl;
-  files = names_files 10000 (Some (codes "c"));
-  says = record { first = codes "--mode" ∷ codes "k0" ∷ []; last = []; words_are = refl; source = stated_mode modes.K0; limit = unsaid };
-  says_budget = unsaid;
-  says_classical = (refl, record { not_empty = λ e. cc; no_dash = refl; utf8 = (codes "c", (refl, refl)) });
+  says = record {
+    places = codes "d" ∷ codes "p" ∷ [];
+    values = Some (codes "k0") ∷ None ∷ None ∷ None ∷ Some (codes "c") ∷ [];
+    line = record { said = said_word (codes "d") ∷ said_word (codes "p") ∷ said_option (codes "mode") (codes "k0") ∷ said_option (codes "classical") (codes "c") ∷ []; says = a_word _ _ _ refl (a_word _ _ _ refl (apart_words (codes "mode") (codes "k0") _ _ refl refl (apart_words (codes "classical") (codes "c") _ _ refl refl (nothing)))); places_are = refl; known = refl; once = refl; values_are = refl };
+    are_so = record { mode = Some (codes "k0"); merges = None; implicates = None; budget = None; places_are = refl; values_are = refl; source = (refl, refl); limit = refl; says_budget = refl };
+  };
 }
 
 -- one state may be expanded
@@ -108,17 +102,17 @@ abbrev with_budget : List (Vec ℕ Global)
 with_budget = front (word (codes "--budget") (omega arith) ∷ word (codes "1") (omega arith) ∷ [])
 
 is_with_budget : IsSolve with_budget (solving 1 None)
-unfolding digits
+unfolding encode digits
 is_with_budget = record {
-  front = codes "solve" ∷ codes "d" ∷ codes "p" ∷ [];
-  options = codes "--mode" ∷ codes "k0" ∷ [];
-  budget = codes "--budget" ∷ codes "1" ∷ [];
-  classical = [];
+  rest = codes "d" ∷ codes "p" ∷ codes "--mode" ∷ codes "k0" ∷ codes "--budget" ∷ codes "1" ∷ [];
+  utf8 = ((codes "solve", (refl, refl)), ((codes "d", (refl, refl)), ((codes "p", (refl, refl)), ((codes "--mode", (refl, refl)), ((codes "k0", (refl, refl)), ((codes "--budget", (refl, refl)), ((codes "1", (refl, refl)), tt)))))));
   words_are = refl;
-  files = names_files 1 None;
-  says = record { first = codes "--mode" ∷ codes "k0" ∷ []; last = []; words_are = refl; source = stated_mode modes.K0; limit = unsaid };
-  says_budget = stated 1 (record { least = omega arith; most = omega arith });
-  says_classical = refl;
+  says = record {
+    places = codes "d" ∷ codes "p" ∷ [];
+    values = Some (codes "k0") ∷ None ∷ None ∷ Some (codes "1") ∷ None ∷ [];
+    line = record { said = said_word (codes "d") ∷ said_word (codes "p") ∷ said_option (codes "mode") (codes "k0") ∷ said_option (codes "budget") (codes "1") ∷ []; says = a_word _ _ _ refl (a_word _ _ _ refl (apart_words (codes "mode") (codes "k0") _ _ refl refl (apart_words (codes "budget") (codes "1") _ _ refl refl (nothing)))); places_are = refl; known = refl; once = refl; values_are = refl };
+    are_so = record { mode = Some (codes "k0"); merges = None; implicates = None; budget = Some (codes "1"); places_are = refl; values_are = refl; source = (refl, refl); limit = refl; says_budget = (record { at_least = omega arith; at_most = omega arith }, refl) };
+  };
 }
 
 -- ---- two files

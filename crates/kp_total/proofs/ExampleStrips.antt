@@ -23,8 +23,9 @@ use Rattle.kp_plans.specs.Stripping.{IsFirstUnstripped}
 use Rattle.kp_outcome.specs.declared.outcome.Outcome.{Outcome}
 use Rattle.kp_outcome.specs.declared.status.Status.TheVariants as status
 use Rattle.kp_words.specs.Names.{Strip}
-use Rattle.kp_words.specs.declared.command.Command.TheVariants as commands
-use Rattle.kp_words.specs.Command.{IsStrip}
+use Rattle.kp_words.specs.declared.lent.CommandRef.TheVariants as commands
+use Rattle.kp_line.specs.Words.{nothing, a_word, word as said_word}
+use Rattle.kp_words.specs.Command.{AreUtf8, IsStrip}
 use Rattle.kp_run.specs.Outcomes.{prints, StripsText, no_plan, no_strip, strips, stripped, IsDue, of_command}
 use Rattle.kp_run.proofs.Soundness.{at_last}
 
@@ -35,7 +36,17 @@ command = record { plan = codes "t" }
 
 is_strip : (words : List (Vec ℕ Global)) → map (λ w. w.items) words ≡ codes "strip" ∷ codes "t" ∷ [] → IsStrip words command
 unfolding encode
-is_strip words e = record { words_are = e; plan = record { not_empty = λ f. cc; no_dash = refl; utf8 = (codes "t", (refl, refl)) } }
+is_strip words e = record {
+  rest = codes "t" ∷ [];
+  utf8 = subst AreUtf8 (sym e) ((codes "strip", (refl, refl)), ((codes "t", (refl, refl)), tt));
+  words_are = e;
+  says = record {
+    places = codes "t" ∷ [];
+    values = [];
+    line = record { said = said_word (codes "t") ∷ []; says = a_word _ _ _ refl (nothing); places_are = refl; known = refl; once = refl; values_are = refl };
+    are_so = record { places_are = refl };
+  };
+}
 
 -- what the text of its file is stripped to is due
 due : (words : List (Vec ℕ Global)) (text : List ℕ) (o : Outcome) → map (λ w. w.items) words ≡ codes "strip" ∷ codes "t" ∷ [] → StripsText text o → IsDue words (Some (insert empty (codes "t") text)) o

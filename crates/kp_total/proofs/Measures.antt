@@ -27,8 +27,8 @@ use Rattle.kp_outcome.specs.declared.status.Status.TheVariants as status
 use Rattle.kp_outcome.specs.Ends.{Outside, IsAnswer, AreHeld}
 use Rattle.kp_printed.specs.Refusals.{nothing}
 use Rattle.kp_words.specs.Names.{Width}
-use Rattle.kp_words.specs.declared.command.Command.{Command}
-use Rattle.kp_words.specs.declared.command.Command.TheVariants as commands
+use Rattle.kp_words.specs.declared.lent.CommandRef.{CommandRef as Command}
+use Rattle.kp_words.specs.declared.lent.CommandRef.TheVariants as commands
 use Rattle.kp_words.specs.Command.{IsWidth, inputs_of}
 use Rattle.kp_words.proofs.OneCommand.{one_command}
 use Rattle.kp_prepared.specs.Refusing.{named_in}

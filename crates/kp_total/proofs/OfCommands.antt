@@ -13,7 +13,7 @@ use Rattle.kp_outcome.specs.declared.status.Status.{Status}
 use Rattle.kp_outcome.specs.declared.status.Status.TheVariants as status
 use Rattle.kp_outcome.specs.Ends.{Outside, IsAnswer, AreHeld}
 use Rattle.kp_words.specs.Names.{Translate, Check, Lift}
-use Rattle.kp_words.specs.declared.command.Command.TheVariants as commands
+use Rattle.kp_words.specs.declared.lent.CommandRef.TheVariants as commands
 use Rattle.kp_prepared.specs.Refusing.{refuses, named_in}
 use Rattle.kp_prepared.specs.Prepared.{clash, by_trees, early, later}
 use Rattle.kp_base.specs.declared.ground.Ground.{Ground}

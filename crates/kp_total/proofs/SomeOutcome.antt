@@ -37,7 +37,7 @@ use Rattle.kp_plans.specs.Stripping.{IsFirstUnstripped}
 use Rattle.kp_plans.proofs.WholePlans.{always_some as plans_always_one}
 use Rattle.kp_printed.specs.Refusals.{nothing}
 use Rattle.kp_words.specs.Names.{of_mode, Translate, Lift, Solve, Width}
-use Rattle.kp_words.specs.declared.command.Command.TheVariants as commands
+use Rattle.kp_words.specs.declared.lent.CommandRef.TheVariants as commands
 use Rattle.kp_words.specs.Command.{file_of, if_named, inputs_of}
 use Rattle.kp_words.proofs.Decided.{words_decided}
 use Rattle.kp_prepared.specs.Texts.{HaveTrees}

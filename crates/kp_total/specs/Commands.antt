@@ -29,7 +29,7 @@ use Rattle.kp_outcome.specs.declared.outcome.Outcome.{Outcome}
 use Rattle.kp_outcome.specs.declared.status.Status.TheVariants as status
 use Rattle.kp_outcome.specs.Ends.{AreHeld, IsAnswer, most_bytes}
 use Rattle.kp_words.specs.Names.{Source, Translate, Merges, Strip, Check, Lift}
-use Rattle.kp_words.specs.declared.command.Command.TheVariants as commands
+use Rattle.kp_words.specs.declared.lent.CommandRef.TheVariants as commands
 use Rattle.kp_words.specs.Command.{IsTranslate, IsMerges, IsStrip, IsCheck, IsLift, file_of, if_named, inputs_of}
 use Rattle.kp_prepared.specs.Texts.{HaveTrees}
 use Rattle.kp_prepared.specs.Refusing.{refuses, named_in}

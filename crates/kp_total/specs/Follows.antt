@@ -9,7 +9,7 @@ use Rattle.kp_outcome.specs.declared.outcome.Outcome.{Outcome}
 use Rattle.kp_outcome.specs.declared.status.Status.{Status}
 use Rattle.kp_outcome.specs.declared.status.Status.TheVariants as status
 use Rattle.kp_outcome.specs.Ends.{Outside, NoGetFailed, NoPutFailed, NoWriteFailed, IsUntouched, IsAnswer, with_files, StopsAt, CarriesOut}
-use Rattle.kp_words.specs.declared.command.Command.{Command}
+use Rattle.kp_words.specs.declared.lent.CommandRef.{CommandRef as Command}
 use Rattle.kp_words.specs.Command.{IsCommand, IsNoCommand, inputs_of, outputs_of}
 use Rattle.kp_run.specs.Outcomes.{ComesTo, IsDue}
 use Rattle.kp_run.specs.Ends.{Ends}

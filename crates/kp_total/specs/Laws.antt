@@ -13,7 +13,7 @@ use Rattle.kp_given.specs.Translations.{ground_of, initial_of}
 use Rattle.kp_outside.specs.Outside.{FileMap}
 use Rattle.kp_outcome.specs.declared.outcome.Outcome.{Outcome}
 use Rattle.kp_outcome.specs.Ends.{AreHeld}
-use Rattle.kp_words.specs.declared.command.Command.{Command}
+use Rattle.kp_words.specs.declared.lent.CommandRef.{CommandRef as Command}
 use Rattle.kp_words.specs.Command.{IsCommand, inputs_of}
 use Rattle.kp_run.specs.Outcomes.{ComesTo, IsDue}
 

@@ -1,15 +1,13 @@
--- What a word is and what options say is decided by tests.
-use Rattle.std.proofs.Common.{◌≡◌, ◌≢◌, ◌⊎◌, ◌<◌, ◌≤◌, ◌+◌, ◌++◌, inl, inr, refl, sym, ap, subst, ◌∙◌, ℕ, zero, suc, Bool, true, false, List, [], ◌∷◌, codes, decimal, nat_eq, arith}
+-- What a word is and what the value of an option says is decided by tests.
+use Rattle.std.proofs.Common.{◌≡◌, ◌≢◌, ◌⊎◌, ◌<◌, ◌≤◌, inl, inr, refl, sym, subst, ◌∙◌, ℕ, zero, suc, Bool, true, List, [], ◌∷◌, length, Option, Some, None, codes, decimal, bytes_eq, arith}
 use Rattle.std.proofs.lemmas.Bool.{cases_lt, cases_Bool, false≢true}
-use Rattle.std.proofs.lemmas.Str.{IsUtf8-from_is_utf8, is_utf8-from_IsUtf8}
-use Rattle.std.specs.Str.{is_utf8, bytes_eq}
-use Rattle.std.specs.List.{starts_with}
-use Rattle.kp_base.proofs.Lists.{same-true, same-refl}
+use Rattle.std.proofs.lemmas.Slice.Eq.{bytes_eq-Decides}
 use Rattle.kp_base.specs.declared.limits.Mode.{Mode}
 use Rattle.kp_base.specs.declared.limits.Mode.TheVariants as modes
+use Rattle.kp_words.specs.declared.source.Family.{Family}
+use Rattle.kp_words.specs.declared.source.Family.TheVariants as families
 use Rattle.kp_words.specs.Names.{Source, of_mode, of_file}
-use Rattle.kp_words.specs.Command.{IsPositional, mode_word, SaysMode, usual_mode, stated_mode, SaysSource, IsUpTo, SaysNumber, unsaid, stated, SaysLimit, SaysOptions}
-use Rattle.kp_words.proofs.SaidOnce.{mode_at, mode_at_word, mode_words, number_words, source_words, one_options}
+use Rattle.kp_words.specs.Options.{IsWithin, SaysNumber, SaysLimit, SaysBudget, SaysBound, SaysMode, SaysSource, mode_word, family_word}
 
 -- ---- what is decided
 
@@ -45,126 +43,134 @@ some_below P each (suc k) = elim (some_below P each k) [
 -- ---- words
 
 pub same_word : (xs ys : List ℕ) → Decided (xs ≡ ys)
-same_word xs ys = by_test (xs ≡ ys) (bytes_eq xs ys) (same-true xs ys) (λ e. subst (λ zs. bytes_eq xs zs ≡ true) e (same-refl xs))
+same_word xs ys = by_test (xs ≡ ys) (bytes_eq xs ys) (bytes_eq-Decides xs ys).0 (bytes_eq-Decides xs ys).1
 
 pub other_word : (xs ys : List ℕ) → Decided (xs ≢ ys)
 other_word xs ys = elim (same_word xs ys) [ inl same ↦ inr (λ differ. differ same) | inr differ ↦ inl differ ]
 
-no_dash : (w : List ℕ) → Decided (starts_with nat_eq w (codes "-") ≡ false)
-no_dash w = elim (cases_Bool (starts_with nat_eq w (codes "-"))) [ inl dash ↦ inr (λ none. false≢true (sym none ∙ dash)) | inr none ↦ inl none ]
-
-pub names_file : (w : List ℕ) → Decided (IsPositional w)
-names_file w = elim (both (w ≢ []) ((starts_with nat_eq w (codes "-") ≡ false) × (is_utf8 w ≡ true)) (other_word w []) (both (starts_with nat_eq w (codes "-") ≡ false) (is_utf8 w ≡ true) (no_dash w) (by_test (is_utf8 w ≡ true) (is_utf8 w) (λ h. h) (λ h. h)))) [
-  | inl h ↦ inl (record { not_empty = h.0; no_dash = h.1.0; utf8 = IsUtf8-from_is_utf8 w h.1.1 })
-  | inr none ↦ inr (λ (h : IsPositional w). none (h.not_empty, (h.no_dash, is_utf8-from_IsUtf8 w h.utf8)))
-]
-
 -- ---- numbers
 
-is_up_to : (highest : ℕ) (w : List ℕ) (n : ℕ) → Decided (IsUpTo highest n × (w ≡ decimal n))
-is_up_to highest w n = both (IsUpTo highest n) (w ≡ decimal n) (in_range (cases_lt 0 n) (cases_lt n (highest + 1))) (same_word w (decimal n))
+in_range : (least most n : ℕ) → Decided (IsWithin least most n)
+in_range least most n = by (cases_lt n least) (cases_lt most n)
   where
-    in_range : (0 < n) ⊎ (n ≤ 0) → (n < highest + 1) ⊎ (highest + 1 ≤ n) → Decided (IsUpTo highest n)
-    in_range (inr low) high = inr (λ h. let least = h.least in omega (arith, low, least))
-    in_range (inl low) (inr high) = inr (λ h. let most = h.most in omega (arith, high, most))
-    in_range (inl low) (inl high) = inl (record { least = omega (arith, low); most = omega (arith, high) })
+    by : (n < least) ⊎ (least ≤ n) → (most < n) ⊎ (n ≤ most) → Decided (IsWithin least most n)
+    by (inl low) high = inr (λ h. let from = h.at_least in omega (arith, low, from))
+    by (inr low) (inl high) = inr (λ h. let to = h.at_most in omega (arith, high, to))
+    by (inr low) (inr high) = inl (record { at_least = low; at_most = high })
 
-pub says_number : (option : List ℕ) (usual highest : ℕ) (words : List (List ℕ)) → Decided ((n : ℕ) × SaysNumber option usual highest words n)
-says_number option usual highest [] = inl (usual, unsaid)
-says_number option usual highest (first ∷ []) = inr (λ h. elim (number_words (first ∷ []) h.0 h.1) [ inl none ↦ absurd cc | inr (within, two) ↦ absurd cc ])
-says_number option usual highest (a ∷ b ∷ d ∷ more) = inr (λ h. elim (number_words (a ∷ b ∷ d ∷ more) h.0 h.1) [ inl none ↦ absurd cc | inr (within, two) ↦ absurd cc ])
-says_number option usual highest (first ∷ number ∷ []) = elim (both (first ≡ option) ((n : ℕ) × (n < highest + 1) × (IsUpTo highest n × (number ≡ decimal n))) (same_word first option) (some_below (λ n. IsUpTo highest n × (number ≡ decimal n)) (is_up_to highest number) (highest + 1))) [
-  | inl h ↦ inl (h.1.0, subst (λ ws. SaysNumber option usual highest ws h.1.0) (spell h.1.0 h.0 h.1.2.1) (stated h.1.0 h.1.2.0))
-  | inr none ↦ inr (λ h. elim (number_words (first ∷ number ∷ []) h.0 h.1) [
-    | inl empty ↦ absurd cc
-    | inr (within, two) ↦ let most = within.most in none ((let f : first ≡ option = cc in f), (h.0, omega (arith, most), (within, let f : number ≡ decimal h.0 = cc in f)))
-  ])
-]
-  where
-    spell : (n : ℕ) → first ≡ option → number ≡ decimal n → option ∷ decimal n ∷ [] ≡ first ∷ number ∷ []
-    spell n a b = cc (a, b)
-
-pub says_limit : (words : List (List ℕ)) → Decided ((n : ℕ) × SaysLimit words n)
-says_limit = says_number (codes "--implicates") 20000 100000
-
--- ---- where tags and merges come from
-
--- the word is that of a mode
-some_mode : (w : List ℕ) → Decided ((m : Mode) × (w ≡ mode_word m))
-some_mode w = elim (same_word w (mode_word (mode_at w))) [
-  | inl same ↦ inl (mode_at w, same)
-  | inr other ↦ inr (λ h. other (h.1 ∙ ap mode_word (sym (mode_at_word h.0) ∙ ap mode_at (sym h.1))))
+-- a word says a number of the range
+pub within_decided : (least most : ℕ) (word : List ℕ) → Decided ((n : ℕ) × (IsWithin least most n × (word ≡ decimal n)))
+within_decided least most word = elim (some_below (λ n. IsWithin least most n × (word ≡ decimal n)) (λ n. both (IsWithin least most n) (word ≡ decimal n) (in_range least most n) (same_word word (decimal n))) (suc most)) [
+  | inl h ↦ inl (h.0, h.2)
+  | inr none ↦ inr (λ h. let high = h.1.0.at_most in none (h.0, omega (arith, high), h.1))
 ]
 
-says_mode : (a b : List ℕ) → Decided ((m : Mode) × SaysMode (a ∷ b ∷ []) m)
-says_mode a b = elim (both (a ≡ codes "--mode") ((m : Mode) × (b ≡ mode_word m)) (same_word a (codes "--mode")) (some_mode b)) [
-  | inl h ↦ inl (h.1.0, subst (λ ws. SaysMode ws h.1.0) (spell h.1.0 h.0 h.1.1) (stated_mode h.1.0))
-  | inr none ↦ inr (λ h. elim (mode_words (a ∷ b ∷ []) h.0 h.1) [
-    | inl empty ↦ absurd cc
-    | inr two ↦ none ((let f : a ≡ codes "--mode" = cc in f), (h.0, let f : b ≡ mode_word h.0 = cc in f))
-  ])
-]
-  where
-    spell : (m : Mode) → a ≡ codes "--mode" → b ≡ mode_word m → codes "--mode" ∷ mode_word m ∷ [] ≡ a ∷ b ∷ []
-    spell m e f = cc (e, f)
+number_decided : (least most usual : ℕ) (value : Option (List ℕ)) → Decided ((n : ℕ) × SaysNumber least most usual value n)
+number_decided least most usual None = inl (usual, refl)
+number_decided least most usual (Some word) = within_decided least most word
 
--- two words say it
-says_source : (a b : List ℕ) → Decided ((s : Source) × SaysSource (a ∷ b ∷ []) s)
-says_source a b = elim (says_mode a b) [
-  | inl h ↦ inl (of_mode h.0, h.1)
-  | inr no_mode ↦ elim (both (a ≡ codes "--merges") (IsPositional b) (same_word a (codes "--merges")) (names_file b)) [
-    | inl h ↦ inl (of_file b, (ap (λ (w : List ℕ). w ∷ b ∷ []) h.0, h.1))
-    | inr no_merges ↦ inr (λ h. neither h.0 h.1 no_mode no_merges)
-  ]
-]
-  where
-    neither : (s : Source) → SaysSource (a ∷ b ∷ []) s → (((m : Mode) × SaysMode (a ∷ b ∷ []) m) → ⊥) → ((a ≡ codes "--merges") × IsPositional b → ⊥) → ⊥
-    neither (of_mode m) h no_mode no_merges = no_mode (m, h)
-    neither (of_file name) h no_mode no_merges = let e = h.0 in no_merges ((let f : a ≡ codes "--merges" = cc in f), subst IsPositional (let f : name ≡ b = cc in f) h.1)
+pub limit_decided : (value : Option (List ℕ)) → Decided ((n : ℕ) × SaysLimit value n)
+limit_decided = number_decided 1 100000 20000
 
--- ---- options
+pub budget_decided : (value : Option (List ℕ)) → Decided ((n : ℕ) × SaysBudget value n)
+budget_decided = number_decided 1 1000000 10000
 
--- options say a source and a limit
-abbrev pub SaySome : List (List ℕ) → Type 0
-SaySome ws = (s : Source) × (n : ℕ) × SaysOptions ws s n
+pub bound_decided : (value : Option (List ℕ)) → Decided ((n : ℕ) × SaysBound value n)
+bound_decided = number_decided 0 8 3
 
--- a limit alone
-limit_alone : (ws : List (List ℕ)) (n : ℕ) → SaysLimit ws n → SaySome ws
-limit_alone ws n limit = (of_mode modes.K1, n, record { first = []; last = ws; words_are = refl; source = usual_mode; limit = limit })
+pub size_decided : (word : List ℕ) → Decided ((n : ℕ) × (IsWithin 2 100 n × (word ≡ decimal n)))
+size_decided = within_decided 2 100
 
--- options whose first words say no source say a limit alone
-without_source : (ws : List (List ℕ)) (s : Source) (n : ℕ) (h : SaysOptions ws s n) → h.first ≡ [] → SaysLimit ws n
-without_source ws s n h none = subst (λ os. SaysLimit os n) (sym (h.words_are ∙ ap (λ os. os ++ h.last) none)) h.limit
+-- ---- modes, sources and families
 
-pub options_decided : (ws : List (List ℕ)) → Decided (SaySome ws)
-options_decided [] = inl (limit_alone [] 20000 unsaid)
-options_decided (a ∷ []) = inr (λ h. elim (source_words h.2.first h.0 h.2.source) [
-  | inl none ↦ elim (number_words (a ∷ []) h.1 (without_source (a ∷ []) h.0 h.1 h.2 none)) [ inl empty ↦ absurd cc | inr (limit, two) ↦ absurd cc ]
-  | inr (x, y, apart, two) ↦ let e : a ∷ [] ≡ x ∷ y ∷ h.2.last = h.2.words_are ∙ ap (λ os. os ++ h.2.last) two in absurd cc
-])
-options_decided (a ∷ b ∷ more) = elim (says_limit (a ∷ b ∷ more)) [
-  | inl h ↦ inl (limit_alone (a ∷ b ∷ more) h.0 h.1)
-  | inr no_limit ↦ elim (both ((s : Source) × SaysSource (a ∷ b ∷ []) s) ((n : ℕ) × SaysLimit more n) (says_source a b) (says_limit more)) [
-    | inl h ↦ inl (h.0.0, h.1.0, record { first = a ∷ b ∷ []; last = more; words_are = refl; source = h.0.1; limit = h.1.1 })
-    | inr none ↦ inr (λ h. neither h.0 h.1 h.2 no_limit none)
-  ]
-]
-  where
-    neither : (s : Source) (n : ℕ) → SaysOptions (a ∷ b ∷ more) s n → (((n : ℕ) × SaysLimit (a ∷ b ∷ more) n) → ⊥) → (((s : Source) × SaysSource (a ∷ b ∷ []) s) × ((n : ℕ) × SaysLimit more n) → ⊥) → ⊥
-    neither s n h no_limit none = elim (source_words h.first s h.source) [
-      | inl empty ↦ no_limit (n, without_source (a ∷ b ∷ more) s n h empty)
-      | inr (x, y, apart, two) ↦
-          let e : a ∷ b ∷ more ≡ x ∷ y ∷ h.last = h.words_are ∙ ap (λ os. os ++ h.last) two in
-          let first : h.first ≡ a ∷ b ∷ [] = cc in
-          let last : h.last ≡ more = cc in
-          none ((s, subst (λ ws. SaysSource ws s) first h.source), (n, subst (λ ws. SaysLimit ws n) last h.limit))
+-- a word is that of some mode
+word_of_mode : (word : List ℕ) → Decided ((m : Mode) × (word ≡ mode_word m))
+word_of_mode word = elim (same_word word (codes "k0")) [
+  | inl e ↦ inl (modes.K0, e)
+  | inr a ↦ elim (same_word word (codes "k1")) [
+    | inl e ↦ inl (modes.K1, e)
+    | inr b ↦ elim (same_word word (codes "k2")) [
+      | inl e ↦ inl (modes.K2, e)
+      | inr c ↦ elim (same_word word (codes "k3")) [
+        | inl e ↦ inl (modes.K3, e)
+        | inr d ↦ elim (same_word word (codes "models")) [
+          | inl e ↦ inl (modes.Models, e)
+          | inr f ↦ elim (same_word word (codes "auto")) [
+            | inl e ↦ inl (modes.Auto, e)
+            | inr g ↦ inr (λ h. none a b c d f g h.0 h.1)
+          ]
+        ]
+      ]
     ]
-
--- options say a mode and a limit
-pub mode_decided : (ws : List (List ℕ)) → Decided ((m : Mode) × (n : ℕ) × SaysOptions ws (of_mode m) n)
-mode_decided ws = by (options_decided ws)
+  ]
+]
   where
-    by : Decided (SaySome ws) → Decided ((m : Mode) × (n : ℕ) × SaysOptions ws (of_mode m) n)
-    by (inl (of_mode m, n, h)) = inl (m, n, h)
-    by (inl (of_file name, n, h)) = inr (λ g. let e = (one_options ws (of_mode g.0) (of_file name) g.1 n g.2 h).0 in absurd cc)
-    by (inr none) = inr (λ g. none (of_mode g.0, g.1, g.2))
+    none : word ≢ codes "k0" → word ≢ codes "k1" → word ≢ codes "k2" → word ≢ codes "k3" → word ≢ codes "models" → word ≢ codes "auto" → (m : Mode) → word ≡ mode_word m → ⊥
+    none a b c d f g modes.K0 e = a e
+    none a b c d f g modes.K1 e = b e
+    none a b c d f g modes.K2 e = c e
+    none a b c d f g modes.K3 e = d e
+    none a b c d f g modes.Models e = f e
+    none a b c d f g modes.Auto e = g e
+
+pub mode_decided : (value : Option (List ℕ)) → Decided ((m : Mode) × SaysMode value m)
+mode_decided None = inl (modes.K1, refl)
+mode_decided (Some word) = word_of_mode word
+
+-- a mode and a file of merges aren't said together
+pub not_both : (word name : List ℕ) (s : Source) → SaysSource (Some word) (Some name) s → ⊥
+not_both word name (of_mode m) h = let e = h.0 in absurd cc
+not_both word name (of_file other) h = let e = h.0 in absurd cc
+
+pub source_decided : (mode merges : Option (List ℕ)) → Decided ((s : Source) × SaysSource mode merges s)
+source_decided mode None = elim (mode_decided mode) [
+  | inl h ↦ inl (of_mode h.0, (refl, h.1))
+  | inr none ↦ inr (λ h. by none h.0 h.1)
+]
+  where
+    by : (((m : Mode) × SaysMode mode m) → ⊥) → (s : Source) → SaysSource mode None s → ⊥
+    by none (of_mode m) h = none (m, h.1)
+    by none (of_file name) h = let e = h.1 in absurd cc
+source_decided None (Some name) = inl (of_file name, (refl, refl))
+source_decided (Some word) (Some name) = inr (λ h. not_both word name h.0 h.1)
+
+pub family_decided : (word : List ℕ) → Decided ((f : Family) × (word ≡ family_word f))
+family_decided word = elim (same_word word (codes "line")) [
+  | inl e ↦ inl (families.Line, e)
+  | inr a ↦ elim (same_word word (codes "bombs")) [
+    | inl e ↦ inl (families.Bombs, e)
+    | inr b ↦ inr (λ h. none a b h.0 h.1)
+  ]
+]
+  where
+    none : word ≢ codes "line" → word ≢ codes "bombs" → (f : Family) → word ≡ family_word f → ⊥
+    none a b families.Line e = a e
+    none a b families.Bombs e = b e
+
+-- ---- how many positional words there are
+
+pub one_or_not : (ws : List (List ℕ)) → ((a : List ℕ) × (ws ≡ a ∷ [])) ⊎ (length ws ≢ 1)
+one_or_not [] = inr (λ e. absurd (omega (arith, e)))
+one_or_not (a ∷ []) = inl (a, refl)
+one_or_not (a ∷ b ∷ ws) = inr (λ e. absurd (omega (arith, e)))
+
+pub two_or_not : (ws : List (List ℕ)) → ((a b : List ℕ) × (ws ≡ a ∷ b ∷ [])) ⊎ (length ws ≢ 2)
+two_or_not [] = inr (λ e. absurd (omega (arith, e)))
+two_or_not (a ∷ []) = inr (λ e. absurd (omega (arith, e)))
+two_or_not (a ∷ b ∷ []) = inl (a, b, refl)
+two_or_not (a ∷ b ∷ c ∷ ws) = inr (λ e. absurd (omega (arith, e)))
+
+pub three_or_not : (ws : List (List ℕ)) → ((a b c : List ℕ) × (ws ≡ a ∷ b ∷ c ∷ [])) ⊎ (length ws ≢ 3)
+three_or_not [] = inr (λ e. absurd (omega (arith, e)))
+three_or_not (a ∷ []) = inr (λ e. absurd (omega (arith, e)))
+three_or_not (a ∷ b ∷ []) = inr (λ e. absurd (omega (arith, e)))
+three_or_not (a ∷ b ∷ c ∷ []) = inl (a, b, c, refl)
+three_or_not (a ∷ b ∷ c ∷ d ∷ ws) = inr (λ e. absurd (omega (arith, e)))
+
+pub four_or_not : (ws : List (List ℕ)) → ((a b c d : List ℕ) × (ws ≡ a ∷ b ∷ c ∷ d ∷ [])) ⊎ (length ws ≢ 4)
+four_or_not [] = inr (λ e. absurd (omega (arith, e)))
+four_or_not (a ∷ []) = inr (λ e. absurd (omega (arith, e)))
+four_or_not (a ∷ b ∷ []) = inr (λ e. absurd (omega (arith, e)))
+four_or_not (a ∷ b ∷ c ∷ []) = inr (λ e. absurd (omega (arith, e)))
+four_or_not (a ∷ b ∷ c ∷ d ∷ []) = inl (a, b, c, d, refl)
+four_or_not (a ∷ b ∷ c ∷ d ∷ f ∷ ws) = inr (λ e. absurd (omega (arith, e)))

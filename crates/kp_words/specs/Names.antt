@@ -1,8 +1,11 @@
 -- What the words of a command say.
 use Rattle.std.specs.Prelude.{List, ℕ, Option}
 use Rattle.kp_base.specs.declared.limits.Mode.{Mode}
-use Rattle.kp_words.specs.declared.source.Source.{Source as Held}
-use Rattle.kp_words.specs.declared.source.Source.TheVariants as held
+use Rattle.kp_words.specs.declared.source.Family.{Family}
+use Rattle.kp_words.specs.declared.source.Source.{Source as Owned}
+use Rattle.kp_words.specs.declared.source.Source.TheVariants as owned
+use Rattle.kp_words.specs.declared.source.SourceRef.{SourceRef}
+use Rattle.kp_words.specs.declared.source.SourceRef.TheVariants as lent
 
 -- where tags and merges come from: from a mode, or from a file of merges of this name
 pub data Source : Type 0 where
@@ -10,9 +13,14 @@ pub data Source : Type 0 where
   of_file : List ℕ → Source
 
 -- what a source of the code says
-abbrev pub source_view : Held → Source
-source_view (held.Mode mode) = of_mode mode
-source_view (held.File name) = of_file name.now
+abbrev pub source_of : Owned → Source
+source_of (owned.Mode mode) = of_mode mode
+source_of (owned.File name) = of_file name
+
+-- and what one says that borrows its name
+abbrev pub source_view : SourceRef → Source
+source_view (lent.Mode mode) = of_mode mode
+source_view (lent.File name) = of_file name.now
 
 -- `translate`: the names of the two files that are read and of the two that are written, where tags and merges come from, and how many prime implicates a prefix of the initial clauses may have
 pub record Translate : Type 0 where
@@ -62,4 +70,18 @@ pub record Solve : Type 0 where
 pub record Classical : Type 0 where
   pub domain : List ℕ
   pub problem : List ℕ
+  pub budget : ℕ
+
+-- `width`: the names of the two files, the greatest size of a set of clauses that is tried, and the limit of prime implicates
+pub record Width : Type 0 where
+  pub domain : List ℕ
+  pub problem : List ℕ
+  pub bound : ℕ
+  pub implicates : ℕ
+
+-- `bench`: the family and the size of a generated problem, the mode, and how many states may be expanded
+pub record Bench : Type 0 where
+  pub family : Family
+  pub n : ℕ
+  pub mode : Mode
   pub budget : ℕ

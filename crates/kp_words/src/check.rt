@@ -1,8 +1,17 @@
-ghost use Rattle.std.specs.Prelude.{◌≡◌, map, MatchOption, IfSome};
+ghost use Rattle.std.specs.Prelude.{◌≡◌, length, MatchOption, IfOk, IfErr};
+ghost use Rattle.kp_line.specs.Texts.{texts, places_of, values_of};
+ghost use Rattle.kp_line.specs.declared.stop.WordStop.TheVariants.{Usage};
 ghost use Rattle.kp_words.specs.Names.{Check as Names};
-ghost use Rattle.kp_words.specs.Command.{NamesChecked, IsCheck};
+ghost use Rattle.kp_words.specs.Command.{AreCheck, SaysCheck};
+ghost use Rattle.kp_words.specs.Owned.{command_view};
+ghost use Rattle.kp_words.specs.declared.lent.CommandRef.TheVariants as commands;
 
-use crate::values::{is_positional, is_text, said_limit};
+use crate::commands::Command;
+use crate::owned::two_names;
+use crate::values::said_limit;
+use kp_base::{Memory, Text};
+use kp_line::{Given, WordStop, line_of};
+use std::alloc::Global;
 use std::marker::Model;
 
 /// The words of `check`.
@@ -27,37 +36,45 @@ impl<'a> Model for Check<'a> {
 }
 
 impl<'a> Check<'a> {
-    // The check whose first words are these.
-    fn from_front(words: &'a [Vec<u8>], implicates: u32) -> Option<Check<'a>>
-        ensures files { MatchOption result ((c : Names) → NamesChecked (map (λ w. w.items) words.now) c → ⊥) (λ c. NamesChecked (map (λ w. w.items) words.now) c) }
-        ensures limit { IfSome result (λ c. c.implicates ≡ implicates) }
+    // The check that these positional words and values are.
+    fn from_line(line: &Given<'a>) -> Option<Check<'a>>
+        requires places { length line.now.places.items ≡ 3 }
+        requires values { length line.now.values.items ≡ 1 }
+        ensures { MatchOption result ((c : Names) → AreCheck (places_of line.now) (values_of line.now) c → ⊥) (λ c. AreCheck (places_of line.now) (values_of line.now) c) }
     {
-        let [verb, domain, problem, plan] = words else {
-            return None;
-        };
-        if !is_text(verb, "check") || !is_positional(domain) {
-            return None;
-        }
-        if !is_positional(problem) || !is_positional(plan) {
-            return None;
-        }
+        let (domain, problem, plan) = line.three_places();
+        let implicates = said_limit(line.one_value())?;
         Some(Check {
-            domain: domain.as_slice(),
-            problem: problem.as_slice(),
-            plan: plan.as_slice(),
+            domain: domain.as_bytes(),
+            problem: problem.as_bytes(),
+            plan: plan.as_bytes(),
             implicates,
         })
     }
 
-    /// The check that these words are.
-    pub fn from_words(words: &'a [Vec<u8>]) -> Option<Check<'a>>
-        ensures { MatchOption result ((c : Names) → IsCheck words.now c → ⊥) (λ c. IsCheck words.now c) }
+    /// The check that the words behind `check` say.
+    pub(crate) fn from_rest(alloc: Global, words: &'a [&'a str]) -> Result<Check<'a>, WordStop>
+        ensures ok { IfOk result (λ c. SaysCheck (texts words.entry.now) c) }
+        ensures err { IfErr result (λ e. e ≡ Usage → (c : Names) → SaysCheck (texts words.entry.now) c → ⊥) }
     {
-        if words.len() < 4 {
-            return None;
+        let line = line_of(alloc, "check", &["D", "P", "PLAN"], &["implicates"], words)?;
+        match Check::from_line(&line) {
+            Some(found) => Ok(found),
+            None => Err(WordStop::Usage),
         }
-        let (front, options) = words.split_at(4);
-        let implicates = said_limit(options)?;
-        Check::from_front(front, implicates)
+    }
+
+    /// The command, with names of its own.
+    pub(crate) fn to_owned(&self, alloc: Global) -> Result<Command, Memory>
+        ensures { IfOk result (λ c. command_view c ≡ commands.Check self.now) }
+    {
+        let given = two_names(alloc, self.domain, self.problem)?;
+        let plan = Text::from_slice(alloc, self.plan)?;
+        Ok(Command::Check {
+            domain: given.first,
+            problem: given.second,
+            plan,
+            implicates: self.implicates,
+        })
     }
 }

@@ -1,8 +1,17 @@
-ghost use Rattle.std.specs.Prelude.{◌≡◌, map, MatchOption, IfSome};
+ghost use Rattle.std.specs.Prelude.{◌≡◌, length, MatchOption, IfOk, IfErr};
+ghost use Rattle.kp_line.specs.Texts.{texts, places_of, values_of};
+ghost use Rattle.kp_line.specs.declared.stop.WordStop.TheVariants.{Usage};
 ghost use Rattle.kp_words.specs.Names.{Classical as Names};
-ghost use Rattle.kp_words.specs.Command.{NamesClassical, IsClassical};
+ghost use Rattle.kp_words.specs.Command.{AreClassical, SaysClassical};
+ghost use Rattle.kp_words.specs.Owned.{command_view};
+ghost use Rattle.kp_words.specs.declared.lent.CommandRef.TheVariants as commands;
 
-use crate::values::{is_positional, is_text, said_budget};
+use crate::commands::Command;
+use crate::owned::two_names;
+use crate::values::said_budget;
+use kp_base::Memory;
+use kp_line::{Given, WordStop, line_of};
+use std::alloc::Global;
 use std::marker::Model;
 
 /// The words of `classical`.
@@ -25,33 +34,42 @@ impl<'a> Model for Classical<'a> {
 }
 
 impl<'a> Classical<'a> {
-    // The call to solve a classical problem whose first words are these.
-    fn from_front(words: &'a [Vec<u8>], budget: u32) -> Option<Classical<'a>>
-        ensures files { MatchOption result ((c : Names) → NamesClassical (map (λ w. w.items) words.now) c → ⊥) (λ c. NamesClassical (map (λ w. w.items) words.now) c) }
-        ensures budget { IfSome result (λ c. c.budget ≡ budget) }
+    // The call to solve a classical problem that these positional words and values are.
+    fn from_line(line: &Given<'a>) -> Option<Classical<'a>>
+        requires places { length line.now.places.items ≡ 2 }
+        requires values { length line.now.values.items ≡ 1 }
+        ensures { MatchOption result ((c : Names) → AreClassical (places_of line.now) (values_of line.now) c → ⊥) (λ c. AreClassical (places_of line.now) (values_of line.now) c) }
     {
-        let [verb, domain, problem] = words else {
-            return None;
-        };
-        if !is_text(verb, "classical") || !is_positional(domain) || !is_positional(problem) {
-            return None;
-        }
+        let (domain, problem) = line.two_places();
+        let budget = said_budget(line.one_value())?;
         Some(Classical {
-            domain: domain.as_slice(),
-            problem: problem.as_slice(),
+            domain: domain.as_bytes(),
+            problem: problem.as_bytes(),
             budget,
         })
     }
 
-    /// The call to solve a classical problem that these words are.
-    pub fn from_words(words: &'a [Vec<u8>]) -> Option<Classical<'a>>
-        ensures { MatchOption result ((c : Names) → IsClassical words.now c → ⊥) (λ c. IsClassical words.now c) }
+    /// The call to solve a classical problem that the words behind `classical` say.
+    pub(crate) fn from_rest(alloc: Global, words: &'a [&'a str]) -> Result<Classical<'a>, WordStop>
+        ensures ok { IfOk result (λ c. SaysClassical (texts words.entry.now) c) }
+        ensures err { IfErr result (λ e. e ≡ Usage → (c : Names) → SaysClassical (texts words.entry.now) c → ⊥) }
     {
-        if words.len() < 3 {
-            return None;
+        let line = line_of(alloc, "classical", &["D", "P"], &["budget"], words)?;
+        match Classical::from_line(&line) {
+            Some(found) => Ok(found),
+            None => Err(WordStop::Usage),
         }
-        let (front, options) = words.split_at(3);
-        let budget = said_budget(options)?;
-        Classical::from_front(front, budget)
+    }
+
+    /// The command, with names of its own.
+    pub(crate) fn to_owned(&self, alloc: Global) -> Result<Command, Memory>
+        ensures { IfOk result (λ c. command_view c ≡ commands.Classical self.now) }
+    {
+        let given = two_names(alloc, self.domain, self.problem)?;
+        Ok(Command::Classical {
+            domain: given.first,
+            problem: given.second,
+            budget: self.budget,
+        })
     }
 }

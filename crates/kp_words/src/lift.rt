@@ -1,10 +1,18 @@
-ghost use Rattle.std.specs.Prelude.{◌≡◌, map, MatchOption, IfSome};
+ghost use Rattle.std.specs.Prelude.{◌≡◌, length, MatchOption, IfOk, IfErr};
+ghost use Rattle.kp_line.specs.Texts.{texts, places_of, values_of};
+ghost use Rattle.kp_line.specs.declared.stop.WordStop.TheVariants.{Usage};
 ghost use Rattle.kp_words.specs.Names.{Lift as Names, source_view};
-ghost use Rattle.kp_words.specs.Command.{NamesLifted, IsLift};
+ghost use Rattle.kp_words.specs.Command.{AreLift, SaysLift};
+ghost use Rattle.kp_words.specs.Owned.{command_view};
+ghost use Rattle.kp_words.specs.declared.lent.CommandRef.TheVariants as commands;
 
-use crate::options::said_options;
-use crate::source::Source;
-use crate::values::{is_positional, is_text};
+use crate::commands::Command;
+use crate::owned::two_names;
+use crate::source::{SourceRef, said_source};
+use crate::values::said_limit;
+use kp_base::{Memory, Text};
+use kp_line::{Given, WordStop, line_of};
+use std::alloc::Global;
 use std::marker::Model;
 
 /// The words of `lift`.
@@ -17,7 +25,7 @@ pub struct Lift<'a> {
     /// The plan that is read.
     pub plan: &'a [u8],
     /// Where the tags and merges of the written files come from.
-    pub source: Source<'a>,
+    pub source: SourceRef<'a>,
     /// How many prime implicates a prefix of the initial clauses may have.
     pub implicates: u32,
 }
@@ -31,39 +39,56 @@ impl<'a> Model for Lift<'a> {
 }
 
 impl<'a> Lift<'a> {
-    // The lift whose first words are these.
-    fn from_front(words: &'a [Vec<u8>], source: Source<'a>, implicates: u32) -> Option<Lift<'a>>
-        ensures files { MatchOption result ((c : Names) → NamesLifted (map (λ w. w.items) words.now) c → ⊥) (λ c. NamesLifted (map (λ w. w.items) words.now) c) }
-        ensures source { IfSome result (λ c. c.source ≡ source_view source.entry) }
-        ensures limit { IfSome result (λ c. c.implicates ≡ implicates) }
+    // The lift that these positional words and values are.
+    fn from_line(line: &Given<'a>) -> Option<Lift<'a>>
+        requires places { length line.now.places.items ≡ 3 }
+        requires values { length line.now.values.items ≡ 3 }
+        ensures { MatchOption result ((c : Names) → AreLift (places_of line.now) (values_of line.now) c → ⊥) (λ c. AreLift (places_of line.now) (values_of line.now) c) }
     {
-        let [verb, domain, problem, plan] = words else {
-            return None;
-        };
-        if !is_text(verb, "lift") || !is_positional(domain) {
-            return None;
-        }
-        if !is_positional(problem) || !is_positional(plan) {
-            return None;
-        }
+        let (domain, problem, plan) = line.three_places();
+        let (mode, merges, implicates) = line.three_values();
+        let source = said_source(mode, merges)?;
+        let implicates = said_limit(implicates)?;
         Some(Lift {
-            domain: domain.as_slice(),
-            problem: problem.as_slice(),
-            plan: plan.as_slice(),
+            domain: domain.as_bytes(),
+            problem: problem.as_bytes(),
+            plan: plan.as_bytes(),
             source,
             implicates,
         })
     }
 
-    /// The lift that these words are.
-    pub fn from_words(words: &'a [Vec<u8>]) -> Option<Lift<'a>>
-        ensures { MatchOption result ((c : Names) → IsLift words.now c → ⊥) (λ c. IsLift words.now c) }
+    /// The lift that the words behind `lift` say.
+    pub(crate) fn from_rest(alloc: Global, words: &'a [&'a str]) -> Result<Lift<'a>, WordStop>
+        ensures ok { IfOk result (λ c. SaysLift (texts words.entry.now) c) }
+        ensures err { IfErr result (λ e. e ≡ Usage → (c : Names) → SaysLift (texts words.entry.now) c → ⊥) }
     {
-        if words.len() < 4 {
-            return None;
+        let line = line_of(
+            alloc,
+            "lift",
+            &["D", "P", "PLAN"],
+            &["mode", "merges", "implicates"],
+            words,
+        )?;
+        match Lift::from_line(&line) {
+            Some(found) => Ok(found),
+            None => Err(WordStop::Usage),
         }
-        let (front, options) = words.split_at(4);
-        let (source, implicates) = said_options(options)?;
-        Lift::from_front(front, source, implicates)
+    }
+
+    /// The command, with names of its own.
+    pub(crate) fn to_owned(&self, alloc: Global) -> Result<Command, Memory>
+        ensures { IfOk result (λ c. command_view c ≡ commands.Lift self.now) }
+    {
+        let given = two_names(alloc, self.domain, self.problem)?;
+        let plan = Text::from_slice(alloc, self.plan)?;
+        let source = self.source.to_owned(alloc)?;
+        Ok(Command::Lift {
+            domain: given.first,
+            problem: given.second,
+            plan,
+            source,
+            implicates: self.implicates,
+        })
     }
 }

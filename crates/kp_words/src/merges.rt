@@ -1,11 +1,18 @@
-ghost use Rattle.std.specs.Prelude.{◌≡◌, map, MatchOption, IfSome};
+ghost use Rattle.std.specs.Prelude.{◌≡◌, length, MatchOption, IfOk, IfErr};
+ghost use Rattle.kp_line.specs.Texts.{texts, places_of, values_of};
+ghost use Rattle.kp_line.specs.declared.stop.WordStop.TheVariants.{Usage};
 ghost use Rattle.kp_words.specs.Names.{Merges as Names};
-ghost use Rattle.kp_words.specs.Command.{NamesGiven, IsMerges};
+ghost use Rattle.kp_words.specs.Command.{AreMerges, SaysMerges};
+ghost use Rattle.kp_words.specs.Owned.{command_view};
+ghost use Rattle.kp_words.specs.declared.lent.CommandRef.TheVariants as commands;
 
-use crate::options::said_options;
-use crate::source::Source;
-use crate::values::{is_positional, is_text};
-use kp_base::Mode;
+use crate::commands::Command;
+use crate::owned::two_names;
+use crate::source::said_mode;
+use crate::values::said_limit;
+use kp_base::{Memory, Mode};
+use kp_line::{Given, WordStop, line_of};
+use std::alloc::Global;
 use std::marker::Model;
 
 /// The words of `merges`.
@@ -30,38 +37,46 @@ impl<'a> Model for Merges<'a> {
 }
 
 impl<'a> Merges<'a> {
-    // The call for merges whose first words are these.
-    fn from_front(words: &'a [Vec<u8>], mode: Mode, implicates: u32) -> Option<Merges<'a>>
-        ensures files { MatchOption result ((c : Names) → NamesGiven (map (λ w. w.items) words.now) c → ⊥) (λ c. NamesGiven (map (λ w. w.items) words.now) c) }
-        ensures mode { IfSome result (λ c. c.mode ≡ mode) }
-        ensures limit { IfSome result (λ c. c.implicates ≡ implicates) }
+    // The call for merges that these positional words and values are.
+    fn from_line(line: &Given<'a>) -> Option<Merges<'a>>
+        requires places { length line.now.places.items ≡ 2 }
+        requires values { length line.now.values.items ≡ 2 }
+        ensures { MatchOption result ((c : Names) → AreMerges (places_of line.now) (values_of line.now) c → ⊥) (λ c. AreMerges (places_of line.now) (values_of line.now) c) }
     {
-        let [verb, domain, problem] = words else {
-            return None;
-        };
-        if !is_text(verb, "merges") || !is_positional(domain) || !is_positional(problem) {
-            return None;
-        }
+        let (domain, problem) = line.two_places();
+        let (mode, implicates) = line.two_values();
+        let mode = said_mode(mode)?;
+        let implicates = said_limit(implicates)?;
         Some(Merges {
-            domain: domain.as_slice(),
-            problem: problem.as_slice(),
+            domain: domain.as_bytes(),
+            problem: problem.as_bytes(),
             mode,
             implicates,
         })
     }
 
-    /// The call for merges that these words are.
-    pub fn from_words(words: &'a [Vec<u8>]) -> Option<Merges<'a>>
-        ensures { MatchOption result ((c : Names) → IsMerges words.now c → ⊥) (λ c. IsMerges words.now c) }
+    /// The call for merges that the words behind `merges` say.
+    pub(crate) fn from_rest(alloc: Global, words: &'a [&'a str]) -> Result<Merges<'a>, WordStop>
+        ensures ok { IfOk result (λ c. SaysMerges (texts words.entry.now) c) }
+        ensures err { IfErr result (λ e. e ≡ Usage → (c : Names) → SaysMerges (texts words.entry.now) c → ⊥) }
     {
-        if words.len() < 3 {
-            return None;
+        let line = line_of(alloc, "merges", &["D", "P"], &["mode", "implicates"], words)?;
+        match Merges::from_line(&line) {
+            Some(found) => Ok(found),
+            None => Err(WordStop::Usage),
         }
-        let (front, options) = words.split_at(3);
-        let (source, implicates) = said_options(options)?;
-        match source {
-            Source::Mode(mode) => Merges::from_front(front, mode, implicates),
-            Source::File(_) => None,
-        }
+    }
+
+    /// The command, with names of its own.
+    pub(crate) fn to_owned(&self, alloc: Global) -> Result<Command, Memory>
+        ensures { IfOk result (λ c. command_view c ≡ commands.Merges self.now) }
+    {
+        let given = two_names(alloc, self.domain, self.problem)?;
+        Ok(Command::Merges {
+            domain: given.first,
+            problem: given.second,
+            mode: self.mode,
+            implicates: self.implicates,
+        })
     }
 }

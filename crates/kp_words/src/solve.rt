@@ -1,10 +1,18 @@
-ghost use Rattle.std.specs.Prelude.{◌≡◌, List, ℕ, Option, map, option_map, MatchOption, IfSome};
+ghost use Rattle.std.specs.Prelude.{◌≡◌, length, MatchOption, IfOk, IfErr};
+ghost use Rattle.kp_line.specs.Texts.{texts, places_of, values_of};
+ghost use Rattle.kp_line.specs.declared.stop.WordStop.TheVariants.{Usage};
 ghost use Rattle.kp_words.specs.Names.{Solve as Names, source_view};
-ghost use Rattle.kp_words.specs.Command.{SaysClassical, NamesSolved, IsSolve};
+ghost use Rattle.kp_words.specs.Command.{AreSolve, SaysSolve};
+ghost use Rattle.kp_words.specs.Owned.{command_view};
+ghost use Rattle.kp_words.specs.declared.lent.CommandRef.TheVariants as commands;
 
-use crate::options::{cut_at, said_options};
-use crate::source::Source;
-use crate::values::{is_positional, is_text, said_budget};
+use crate::commands::Command;
+use crate::owned::{name_owned, two_names};
+use crate::source::{SourceRef, said_source};
+use crate::values::{bytes_of, said_budget, said_limit};
+use kp_base::Memory;
+use kp_line::{Given, WordStop, line_of};
+use std::alloc::Global;
 use std::marker::Model;
 
 /// The words of `solve`.
@@ -15,7 +23,7 @@ pub struct Solve<'a> {
     /// The problem that is read.
     pub problem: &'a [u8],
     /// Where the tags and merges come from.
-    pub source: Source<'a>,
+    pub source: SourceRef<'a>,
     /// How many prime implicates a prefix of the initial clauses may have.
     pub implicates: u32,
     /// How many states the search may expand.
@@ -33,66 +41,60 @@ impl<'a> Model for Solve<'a> {
     ghost view = { λ c. record { domain = c.domain.now; problem = c.problem.now; source = source_view c.source; implicates = c.implicates; budget = c.budget; classical = option_map (λ n. n.now) c.classical } };
 }
 
-// The file that words name for the classical plan, if they do.
-fn said_classical(words: &[Vec<u8>]) -> Option<Option<&[u8]>>
-    ensures { MatchOption result ((c : Option (List ℕ)) → SaysClassical (map (λ w. w.items) words.now) c → ⊥) (λ c. SaysClassical (map (λ w. w.items) words.now) (option_map (λ n. n.now) c)) }
-{
-    if words.is_empty() {
-        return Some(None);
-    }
-    let [option, value] = words else {
-        return None;
-    };
-    if !is_text(option, "--classical") || !is_positional(value) {
-        return None;
-    }
-    Some(Some(value.as_slice()))
-}
-
 impl<'a> Solve<'a> {
-    // The call to solve that names these files, and no more.
-    fn from_front(
-        words: &'a [Vec<u8>],
-        source: Source<'a>,
-        implicates: u32,
-        budget: u32,
-        classical: Option<&'a [u8]>,
-    ) -> Option<Solve<'a>>
-        ensures files { MatchOption result ((c : Names) → NamesSolved (map (λ w. w.items) words.now) c → ⊥) (λ c. NamesSolved (map (λ w. w.items) words.now) c) }
-        ensures source { IfSome result (λ c. c.source ≡ source_view source.entry) }
-        ensures limit { IfSome result (λ c. c.implicates ≡ implicates) }
-        ensures budget { IfSome result (λ c. c.budget ≡ budget) }
-        ensures classical { IfSome result (λ c. c.classical ≡ option_map (λ n. n.now) classical.entry) }
+    // The call to solve that these positional words and values are.
+    fn from_line(line: &Given<'a>) -> Option<Solve<'a>>
+        requires places { length line.now.places.items ≡ 2 }
+        requires values { length line.now.values.items ≡ 5 }
+        ensures { MatchOption result ((c : Names) → AreSolve (places_of line.now) (values_of line.now) c → ⊥) (λ c. AreSolve (places_of line.now) (values_of line.now) c) }
     {
-        let [verb, domain, problem] = words else {
-            return None;
-        };
-        if !is_text(verb, "solve") || !is_positional(domain) || !is_positional(problem) {
-            return None;
-        }
+        let (domain, problem) = line.two_places();
+        let [mode, merges, implicates, budget, classical] = line.five_values();
+        let source = said_source(mode, merges)?;
+        let implicates = said_limit(implicates)?;
+        let budget = said_budget(budget)?;
         Some(Solve {
-            domain: domain.as_slice(),
-            problem: problem.as_slice(),
+            domain: domain.as_bytes(),
+            problem: problem.as_bytes(),
             source,
             implicates,
             budget,
-            classical,
+            classical: bytes_of(classical),
         })
     }
 
-    /// The call to solve that these words are.
-    pub fn from_words(words: &'a [Vec<u8>]) -> Option<Solve<'a>>
-        ensures { MatchOption result ((c : Names) → IsSolve words.now c → ⊥) (λ c. IsSolve words.now c) }
+    /// The call to solve that the words behind `solve` say.
+    pub(crate) fn from_rest(alloc: Global, words: &'a [&'a str]) -> Result<Solve<'a>, WordStop>
+        ensures ok { IfOk result (λ c. SaysSolve (texts words.entry.now) c) }
+        ensures err { IfErr result (λ e. e ≡ Usage → (c : Names) → SaysSolve (texts words.entry.now) c → ⊥) }
     {
-        if words.len() < 3 {
-            return None;
+        let line = line_of(
+            alloc,
+            "solve",
+            &["D", "P"],
+            &["mode", "merges", "implicates", "budget", "classical"],
+            words,
+        )?;
+        match Solve::from_line(&line) {
+            Some(found) => Ok(found),
+            None => Err(WordStop::Usage),
         }
-        let (front, options) = words.split_at(3);
-        let (options, classical) = cut_at(options, "--classical");
-        let (options, budget) = cut_at(options, "--budget");
-        let (source, implicates) = said_options(options)?;
-        let budget = said_budget(budget)?;
-        let classical = said_classical(classical)?;
-        Solve::from_front(front, source, implicates, budget, classical)
+    }
+
+    /// The command, with names of its own.
+    pub(crate) fn to_owned(&self, alloc: Global) -> Result<Command, Memory>
+        ensures { IfOk result (λ c. command_view c ≡ commands.Solve self.now) }
+    {
+        let given = two_names(alloc, self.domain, self.problem)?;
+        let source = self.source.to_owned(alloc)?;
+        let classical = name_owned(alloc, self.classical)?;
+        Ok(Command::Solve {
+            domain: given.first,
+            problem: given.second,
+            source,
+            implicates: self.implicates,
+            budget: self.budget,
+            classical,
+        })
     }
 }

@@ -1,14 +1,21 @@
-ghost use Rattle.std.specs.Prelude.{MatchOption};
-ghost use Rattle.kp_words.specs.Names.{Strip as PlanName};
-ghost use Rattle.kp_words.specs.Command.{IsStrip};
+ghost use Rattle.std.specs.Prelude.{◌≡◌, length, MatchOption, IfOk, IfErr};
+ghost use Rattle.kp_line.specs.Texts.{texts, places_of, values_of};
+ghost use Rattle.kp_line.specs.declared.stop.WordStop.TheVariants.{Usage};
+ghost use Rattle.kp_words.specs.Names.{Strip as Names};
+ghost use Rattle.kp_words.specs.Command.{AreStrip, SaysStrip};
+ghost use Rattle.kp_words.specs.Owned.{command_view};
+ghost use Rattle.kp_words.specs.declared.lent.CommandRef.TheVariants as commands;
 
-use crate::values::{is_positional, is_text};
+use crate::commands::Command;
+use kp_base::{Memory, Text};
+use kp_line::{Given, WordStop, line_of};
+use std::alloc::Global;
 use std::marker::Model;
 
 /// The words of `strip`.
 #[derive(Drop)]
 pub struct Strip<'a> {
-    /// The plan that is read.
+    /// The plan of the written files.
     pub plan: &'a [u8],
 }
 
@@ -21,18 +28,35 @@ impl<'a> Model for Strip<'a> {
 }
 
 impl<'a> Strip<'a> {
-    /// The strip that these words are.
-    pub fn from_words(words: &'a [Vec<u8>]) -> Option<Strip<'a>>
-        ensures { MatchOption result ((c : PlanName) → IsStrip words.now c → ⊥) (λ c. IsStrip words.now c) }
+    // The strip that these positional words and values are.
+    fn from_line(line: &Given<'a>) -> Option<Strip<'a>>
+        requires places { length line.now.places.items ≡ 1 }
+        ensures { MatchOption result ((c : Names) → AreStrip (places_of line.now) (values_of line.now) c → ⊥) (λ c. AreStrip (places_of line.now) (values_of line.now) c) }
     {
-        let [verb, plan] = words else {
-            return None;
-        };
-        if !is_text(verb, "strip") || !is_positional(plan) {
-            return None;
-        }
+        let plan = line.one_place();
         Some(Strip {
-            plan: plan.as_slice(),
+            plan: plan.as_bytes(),
+        })
+    }
+
+    /// The strip that the words behind `strip` say.
+    pub(crate) fn from_rest(alloc: Global, words: &'a [&'a str]) -> Result<Strip<'a>, WordStop>
+        ensures ok { IfOk result (λ c. SaysStrip (texts words.entry.now) c) }
+        ensures err { IfErr result (λ e. e ≡ Usage → (c : Names) → SaysStrip (texts words.entry.now) c → ⊥) }
+    {
+        let line = line_of(alloc, "strip", &["T"], &[], words)?;
+        match Strip::from_line(&line) {
+            Some(found) => Ok(found),
+            None => Err(WordStop::Usage),
+        }
+    }
+
+    /// The command, with names of its own.
+    pub(crate) fn to_owned(&self, alloc: Global) -> Result<Command, Memory>
+        ensures { IfOk result (λ c. command_view c ≡ commands.Strip self.now) }
+    {
+        Ok(Command::Strip {
+            plan: Text::from_slice(alloc, self.plan)?,
         })
     }
 }

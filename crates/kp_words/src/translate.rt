@@ -1,10 +1,18 @@
-ghost use Rattle.std.specs.Prelude.{◌≡◌, map, MatchOption, IfSome};
+ghost use Rattle.std.specs.Prelude.{◌≡◌, length, MatchOption, IfOk, IfErr};
+ghost use Rattle.kp_line.specs.Texts.{texts, places_of, values_of};
+ghost use Rattle.kp_line.specs.declared.stop.WordStop.TheVariants.{Usage};
 ghost use Rattle.kp_words.specs.Names.{Translate as Names, source_view};
-ghost use Rattle.kp_words.specs.Command.{NamesFiles, IsTranslate};
+ghost use Rattle.kp_words.specs.Command.{AreTranslate, SaysTranslate};
+ghost use Rattle.kp_words.specs.Owned.{command_view};
+ghost use Rattle.kp_words.specs.declared.lent.CommandRef.TheVariants as commands;
 
-use crate::options::said_options;
-use crate::source::Source;
-use crate::values::{are_apart, is_positional, is_text};
+use crate::commands::Command;
+use crate::owned::two_names;
+use crate::source::{SourceRef, said_source};
+use crate::values::{are_apart, said_limit};
+use kp_base::Memory;
+use kp_line::{Given, WordStop, line_of};
+use std::alloc::Global;
 use std::marker::Model;
 
 /// The words of `translate`.
@@ -19,7 +27,7 @@ pub struct Translate<'a> {
     /// The problem that is written.
     pub problem_out: &'a [u8],
     /// Where the tags and merges come from.
-    pub source: Source<'a>,
+    pub source: SourceRef<'a>,
     /// How many prime implicates a prefix of the initial clauses may have.
     pub implicates: u32,
 }
@@ -33,47 +41,61 @@ impl<'a> Model for Translate<'a> {
 }
 
 impl<'a> Translate<'a> {
-    // The translation whose first words are these.
-    fn from_front(
-        words: &'a [Vec<u8>],
-        source: Source<'a>,
-        implicates: u32,
-    ) -> Option<Translate<'a>>
-        ensures files { MatchOption result ((c : Names) → NamesFiles (map (λ w. w.items) words.now) c → ⊥) (λ c. NamesFiles (map (λ w. w.items) words.now) c) }
-        ensures source { IfSome result (λ c. c.source ≡ source_view source.entry) }
-        ensures limit { IfSome result (λ c. c.implicates ≡ implicates) }
+    // The translation that these positional words and values are.
+    fn from_line(line: &Given<'a>) -> Option<Translate<'a>>
+        requires places { length line.now.places.items ≡ 4 }
+        requires values { length line.now.values.items ≡ 3 }
+        ensures { MatchOption result ((c : Names) → AreTranslate (places_of line.now) (values_of line.now) c → ⊥) (λ c. AreTranslate (places_of line.now) (values_of line.now) c) }
     {
-        let [verb, domain, problem, domain_out, problem_out] = words else {
-            return None;
-        };
-        if !is_text(verb, "translate") || !is_positional(domain) || !is_positional(problem) {
-            return None;
-        }
-        if !is_positional(domain_out) || !is_positional(problem_out) {
-            return None;
-        }
+        let (domain, problem, domain_out, problem_out) = line.four_places();
+        let (mode, merges, implicates) = line.three_values();
         if !are_apart(domain_out, problem_out) {
             return None;
         }
+        let source = said_source(mode, merges)?;
+        let implicates = said_limit(implicates)?;
         Some(Translate {
-            domain: domain.as_slice(),
-            problem: problem.as_slice(),
-            domain_out: domain_out.as_slice(),
-            problem_out: problem_out.as_slice(),
+            domain: domain.as_bytes(),
+            problem: problem.as_bytes(),
+            domain_out: domain_out.as_bytes(),
+            problem_out: problem_out.as_bytes(),
             source,
             implicates,
         })
     }
 
-    /// The translation that these words are.
-    pub fn from_words(words: &'a [Vec<u8>]) -> Option<Translate<'a>>
-        ensures { MatchOption result ((c : Names) → IsTranslate words.now c → ⊥) (λ c. IsTranslate words.now c) }
+    /// The translation that the words behind `translate` say.
+    pub(crate) fn from_rest(alloc: Global, words: &'a [&'a str]) -> Result<Translate<'a>, WordStop>
+        ensures ok { IfOk result (λ c. SaysTranslate (texts words.entry.now) c) }
+        ensures err { IfErr result (λ e. e ≡ Usage → (c : Names) → SaysTranslate (texts words.entry.now) c → ⊥) }
     {
-        if words.len() < 5 {
-            return None;
+        let line = line_of(
+            alloc,
+            "translate",
+            &["D", "P", "OD", "OP"],
+            &["mode", "merges", "implicates"],
+            words,
+        )?;
+        match Translate::from_line(&line) {
+            Some(found) => Ok(found),
+            None => Err(WordStop::Usage),
         }
-        let (front, options) = words.split_at(5);
-        let (source, implicates) = said_options(options)?;
-        Translate::from_front(front, source, implicates)
+    }
+
+    /// The command, with names of its own.
+    pub(crate) fn to_owned(&self, alloc: Global) -> Result<Command, Memory>
+        ensures { IfOk result (λ c. command_view c ≡ commands.Translate self.now) }
+    {
+        let given = two_names(alloc, self.domain, self.problem)?;
+        let written = two_names(alloc, self.domain_out, self.problem_out)?;
+        let source = self.source.to_owned(alloc)?;
+        Ok(Command::Translate {
+            domain: given.first,
+            problem: given.second,
+            to_domain: written.first,
+            to_problem: written.second,
+            source,
+            implicates: self.implicates,
+        })
     }
 }

@@ -1,0 +1,13 @@
+pub mod Rows
+pub mod Steps
+pub mod Turns
+pub mod Walks
+pub mod Passing
+pub mod Assigned
+pub mod Found
+pub mod Options
+pub mod Unique
+pub mod Scanned
+pub mod Giving
+pub mod LineOf
+pub mod LineDecided

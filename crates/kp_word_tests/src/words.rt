@@ -1,0 +1,57 @@
+//! What the tests make and ask.
+
+use kp_base::Mode;
+use kp_words::{Command, SourceRef, WordStop, command};
+use std::alloc::{AllocError, Global};
+
+// The words, as the program gets them.
+fn words(alloc: Global, all: &[&str]) -> Result<Vec<Vec<u8>>, AllocError> {
+    let mut words = Vec::new(alloc);
+    for word in all {
+        words.push(word.as_bytes().to_vec(alloc)?)?;
+    }
+    Ok(words)
+}
+
+// The command that words are.
+pub fn told(alloc: Global, all: &[&str]) -> Result<Command, WordStop> {
+    let words = words(alloc, all)?;
+    command(alloc, words.as_slice())
+}
+
+// Whether words are no command.
+pub fn is_usage(alloc: Global, all: &[&str]) -> bool {
+    match told(alloc, all) {
+        Err(WordStop::Usage) => true,
+        _ => false,
+    }
+}
+
+// Whether a name is this one.
+pub fn is(name: &[u8], wanted: &str) -> bool {
+    name == wanted.as_bytes()
+}
+
+// Whether it is the first mode.
+pub fn is_k0(mode: Mode) -> bool {
+    match mode {
+        Mode::K0 => true,
+        _ => false,
+    }
+}
+
+// Whether it is the mode where none is said.
+pub fn is_k1(mode: Mode) -> bool {
+    match mode {
+        Mode::K1 => true,
+        _ => false,
+    }
+}
+
+// Whether merges come from this file.
+pub fn is_file(source: SourceRef<'_>, wanted: &str) -> bool {
+    match source {
+        SourceRef::File(name) => is(name, wanted),
+        SourceRef::Mode(_) => false,
+    }
+}

@@ -1,0 +1,103 @@
+-- Commands by their verbs.
+use Rattle.std.proofs.Common.{◌≡◌, ◌∙◌, List, ◌∷◌, ℕ, Option, Some, None, Vec, map, codes, refl, ap, sym, subst, bytes_eq, if◌then◌else◌}
+use Rattle.std.specs.declared.alloc.Global.{Global}
+use Rattle.kp_words.specs.Command.{AreUtf8, IsCommand, IsNoCommand}
+use Rattle.kp_words.specs.Verbs.{verb_word, verb_in, ReadAs, read_as, SaysOf, SaysCommand, IsRead}
+use Rattle.kp_words.specs.declared.verb.Verb.{Verb}
+use Rattle.kp_words.specs.declared.verb.Verb.TheVariants as verbs
+use Rattle.kp_words.specs.declared.lent.CommandRef.{CommandRef}
+use Rattle.kp_words.specs.declared.lent.CommandRef.TheVariants as commands
+
+abbrev Texts : Type 0
+Texts = List (List ℕ)
+
+-- ---- a word is one verb at most
+
+-- the verb of a word, looked for in this order
+abbrev found_verb : List ℕ → Option Verb
+found_verb w =
+    if bytes_eq w (codes "translate") then Some verbs.Translate else
+    if bytes_eq w (codes "merges") then Some verbs.Merges else
+    if bytes_eq w (codes "strip") then Some verbs.Strip else
+    if bytes_eq w (codes "check") then Some verbs.Check else
+    if bytes_eq w (codes "lift") then Some verbs.Lift else
+    if bytes_eq w (codes "solve") then Some verbs.Solve else
+    if bytes_eq w (codes "classical") then Some verbs.Classical else
+    if bytes_eq w (codes "width") then Some verbs.Width else
+    if bytes_eq w (codes "bench") then Some verbs.Bench else None
+
+found_again : (v : Verb) → found_verb (verb_word v) ≡ Some v
+found_again verbs.Translate = refl
+found_again verbs.Merges = refl
+found_again verbs.Strip = refl
+found_again verbs.Check = refl
+found_again verbs.Lift = refl
+found_again verbs.Solve = refl
+found_again verbs.Classical = refl
+found_again verbs.Width = refl
+found_again verbs.Bench = refl
+
+pub one_verb : (v w : Verb) → verb_word v ≡ verb_word w → v ≡ w
+one_verb v w e = let same : Some v ≡ Some w = sym (found_again v) ∙ (ap found_verb e ∙ found_again w) in cc
+
+-- ---- a command is its verb, and what it is read as
+
+-- the command of a verb
+abbrev pub command_of : (v : Verb) → ReadAs v → CommandRef
+command_of verbs.Translate c = commands.Translate c
+command_of verbs.Merges c = commands.Merges c
+command_of verbs.Strip c = commands.Strip c
+command_of verbs.Check c = commands.Check c
+command_of verbs.Lift c = commands.Lift c
+command_of verbs.Solve c = commands.Solve c
+command_of verbs.Classical c = commands.Classical c
+command_of verbs.Width c = commands.Width c
+command_of verbs.Bench c = commands.Bench c
+
+pub same_command : (c : CommandRef) → command_of (verb_in c) (read_as c) ≡ c
+same_command (commands.Translate c) = refl
+same_command (commands.Merges c) = refl
+same_command (commands.Strip c) = refl
+same_command (commands.Check c) = refl
+same_command (commands.Lift c) = refl
+same_command (commands.Solve c) = refl
+same_command (commands.Classical c) = refl
+same_command (commands.Width c) = refl
+same_command (commands.Bench c) = refl
+
+-- where words say nothing of a verb, they say no command of it
+pub none_of : (v : Verb) (words : Texts) → ((d : ReadAs v) → SaysOf v words d → ⊥) → (c : CommandRef) → verb_in c ≡ v → SaysCommand words c → ⊥
+none_of v words none c e says = subst (λ w. (d : ReadAs w) → SaysOf w words d → ⊥) (sym e) none (read_as c) says
+
+-- ---- words are a command just where they are read as it
+
+pub is_command : (words : List (Vec ℕ Global)) (c : CommandRef) → AreUtf8 (map (λ w. w.items) words) → IsRead (map (λ w. w.items) words) c → IsCommand words c
+is_command words (commands.Translate c) utf8 is = record { rest = is.rest; utf8 = utf8; words_are = is.words_are; says = is.says }
+is_command words (commands.Merges c) utf8 is = record { rest = is.rest; utf8 = utf8; words_are = is.words_are; says = is.says }
+is_command words (commands.Strip c) utf8 is = record { rest = is.rest; utf8 = utf8; words_are = is.words_are; says = is.says }
+is_command words (commands.Check c) utf8 is = record { rest = is.rest; utf8 = utf8; words_are = is.words_are; says = is.says }
+is_command words (commands.Lift c) utf8 is = record { rest = is.rest; utf8 = utf8; words_are = is.words_are; says = is.says }
+is_command words (commands.Solve c) utf8 is = record { rest = is.rest; utf8 = utf8; words_are = is.words_are; says = is.says }
+is_command words (commands.Classical c) utf8 is = record { rest = is.rest; utf8 = utf8; words_are = is.words_are; says = is.says }
+is_command words (commands.Width c) utf8 is = record { rest = is.rest; utf8 = utf8; words_are = is.words_are; says = is.says }
+is_command words (commands.Bench c) utf8 is = record { rest = is.rest; utf8 = utf8; words_are = is.words_are; says = is.says }
+
+pub is_read : (words : List (Vec ℕ Global)) (c : CommandRef) → IsCommand words c → AreUtf8 (map (λ w. w.items) words) × IsRead (map (λ w. w.items) words) c
+is_read words (commands.Translate c) is = (is.utf8, record { rest = is.rest; words_are = is.words_are; says = is.says })
+is_read words (commands.Merges c) is = (is.utf8, record { rest = is.rest; words_are = is.words_are; says = is.says })
+is_read words (commands.Strip c) is = (is.utf8, record { rest = is.rest; words_are = is.words_are; says = is.says })
+is_read words (commands.Check c) is = (is.utf8, record { rest = is.rest; words_are = is.words_are; says = is.says })
+is_read words (commands.Lift c) is = (is.utf8, record { rest = is.rest; words_are = is.words_are; says = is.says })
+is_read words (commands.Solve c) is = (is.utf8, record { rest = is.rest; words_are = is.words_are; says = is.says })
+is_read words (commands.Classical c) is = (is.utf8, record { rest = is.rest; words_are = is.words_are; says = is.says })
+is_read words (commands.Width c) is = (is.utf8, record { rest = is.rest; words_are = is.words_are; says = is.says })
+is_read words (commands.Bench c) is = (is.utf8, record { rest = is.rest; words_are = is.words_are; says = is.says })
+
+-- words whose verb has nothing of this to say are no command
+pub no_command : (v : Verb) (words : List (Vec ℕ Global)) (rest : Texts) → map (λ w. w.items) words ≡ verb_word v ∷ rest → ((d : ReadAs v) → SaysOf v rest d → ⊥) → IsNoCommand words
+no_command v words rest e none c is =
+    let read = (is_read words c is).1 in
+    let f : verb_word v ∷ rest ≡ verb_word (verb_in c) ∷ read.rest = sym e ∙ read.words_are in
+    let verb : verb_word (verb_in c) ≡ verb_word v = cc in
+    let behind : read.rest ≡ rest = cc in
+    none_of v rest none c (one_verb (verb_in c) v verb) (subst (λ ws. SaysOf (verb_in c) ws (read_as c)) behind read.says)

@@ -1,0 +1,53 @@
+-- What the values of options say.
+use Rattle.std.specs.Prelude.{◌≡◌, ◌≤◌, List, ℕ, Option, Some, None, codes, decimal}
+use Rattle.kp_base.specs.declared.limits.Mode.{Mode}
+use Rattle.kp_base.specs.declared.limits.Mode.TheVariants as modes
+use Rattle.kp_words.specs.declared.source.Family.{Family}
+use Rattle.kp_words.specs.declared.source.Family.TheVariants as families
+use Rattle.kp_words.specs.Names.{Source, of_mode, of_file}
+
+-- a number of a range
+pub record IsWithin (least most n : ℕ) : Type 0 where
+  pub at_least : least ≤ n
+  pub at_most : n ≤ most
+
+-- an option says a number: its value is a number of the range in decimal; or it is left out, and the number is the usual one
+abbrev pub SaysNumber : ℕ → ℕ → ℕ → Option (List ℕ) → ℕ → Type 0
+SaysNumber least most usual None n = n ≡ usual
+SaysNumber least most usual (Some word) n = IsWithin least most n × (word ≡ decimal n)
+
+-- the limit of prime implicates: from 1 to 100,000, and usually 20,000
+abbrev pub SaysLimit : Option (List ℕ) → ℕ → Type 0
+SaysLimit = SaysNumber 1 100000 20000
+
+-- the budget of a search: from 1 to 1,000,000, and usually 10,000
+abbrev pub SaysBudget : Option (List ℕ) → ℕ → Type 0
+SaysBudget = SaysNumber 1 1000000 10000
+
+-- the greatest size of a set of clauses: from 0 to 8, and usually 3
+abbrev pub SaysBound : Option (List ℕ) → ℕ → Type 0
+SaysBound = SaysNumber 0 8 3
+
+-- the word of each mode
+abbrev pub mode_word : Mode → List ℕ
+mode_word modes.K0 = codes "k0"
+mode_word modes.K1 = codes "k1"
+mode_word modes.K2 = codes "k2"
+mode_word modes.K3 = codes "k3"
+mode_word modes.Models = codes "models"
+mode_word modes.Auto = codes "auto"
+
+-- an option says a mode: its value is the word of the mode; or it is left out, and the mode is k1
+abbrev pub SaysMode : Option (List ℕ) → Mode → Type 0
+SaysMode None mode = mode ≡ modes.K1
+SaysMode (Some word) mode = word ≡ mode_word mode
+
+-- two options say where tags and merges come from: from a mode, where no file of merges is named; or from the named file of merges, where no mode is said
+abbrev pub SaysSource : Option (List ℕ) → Option (List ℕ) → Source → Type 0
+SaysSource mode merges (of_mode m) = (merges ≡ None) × SaysMode mode m
+SaysSource mode merges (of_file name) = (mode ≡ None) × (merges ≡ Some name)
+
+-- the word of each family
+abbrev pub family_word : Family → List ℕ
+family_word families.Line = codes "line"
+family_word families.Bombs = codes "bombs"

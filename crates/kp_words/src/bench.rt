@@ -1,0 +1,67 @@
+ghost use Rattle.std.specs.Prelude.{◌≡◌, length, MatchOption, IfOk, IfErr};
+ghost use Rattle.kp_line.specs.Texts.{texts, places_of, values_of};
+ghost use Rattle.kp_line.specs.declared.stop.WordStop.TheVariants.{Usage};
+ghost use Rattle.kp_words.specs.Names.{Bench as Names};
+ghost use Rattle.kp_words.specs.Command.{AreBench, SaysBench};
+
+use crate::source::{Family, family_of, said_mode};
+use crate::values::{number_within, said_budget};
+use kp_base::Mode;
+use kp_line::{Given, WordStop, line_of};
+use std::alloc::Global;
+use std::marker::Model;
+
+/// The words of `bench`.
+#[derive(Drop)]
+pub struct Bench {
+    /// The family of the problem.
+    pub family: Family,
+    /// Its size.
+    pub n: u32,
+    /// How the merges are chosen.
+    pub mode: Mode,
+    /// How many states the search may expand.
+    pub budget: u32,
+}
+
+impl Model for Bench {
+    ghost use Rattle.kp_words.specs.Names.{Bench as Names};
+
+    ghost Value = { Names };
+
+    ghost view = { λ c. record { family = c.family; n = c.n; mode = c.mode; budget = c.budget } };
+}
+
+impl Bench {
+    // The run on a generated problem that these positional words and values are.
+    fn from_line(line: &Given<'_>) -> Option<Bench>
+        requires places { length line.now.places.items ≡ 2 }
+        requires values { length line.now.values.items ≡ 2 }
+        ensures { MatchOption result ((c : Names) → AreBench (places_of line.now) (values_of line.now) c → ⊥) (λ c. AreBench (places_of line.now) (values_of line.now) c) }
+    {
+        let (family, size) = line.two_places();
+        let (mode, budget) = line.two_values();
+        let family = family_of(family)?;
+        let n = number_within(size, 2, 100)?;
+        let mode = said_mode(mode)?;
+        let budget = said_budget(budget)?;
+        Some(Bench {
+            family,
+            n,
+            mode,
+            budget,
+        })
+    }
+
+    /// The run on a generated problem that the words behind `bench` say.
+    pub(crate) fn from_rest<'a>(alloc: Global, words: &'a [&'a str]) -> Result<Bench, WordStop>
+        ensures ok { IfOk result (λ c. SaysBench (texts words.entry.now) c) }
+        ensures err { IfErr result (λ e. e ≡ Usage → (c : Names) → SaysBench (texts words.entry.now) c → ⊥) }
+    {
+        let line = line_of(alloc, "bench", &["FAMILY", "N"], &["mode", "budget"], words)?;
+        match Bench::from_line(&line) {
+            Some(found) => Ok(found),
+            None => Err(WordStop::Usage),
+        }
+    }
+}
