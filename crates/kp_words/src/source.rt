@@ -28,9 +28,9 @@ pub enum SourceRef<'a> {
 /// A family of generated problems.
 #[derive(Clone, Copy)]
 pub enum Family {
-    /// Packages of which one is armed, in a line.
+    /// Something that stands at one of the cells of a line, and is to come to the first.
     Line,
-    /// Packages that may be armed, and a toilet.
+    /// Packages of which one is armed, and two toilets.
     Bombs,
 }
 
