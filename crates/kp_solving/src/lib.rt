@@ -14,3 +14,4 @@ pub use laws::{
     no_plan_is_accepted, operators_have_names, solvings_have_one_outcome,
 };
 pub use solving::{solve_classical, solve_table};
+pub use telling::tell_solved;
