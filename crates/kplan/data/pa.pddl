@@ -1,1 +1,0 @@
-(define (problem e) (:domain d) (:init (p)) (:goal (q)))
