@@ -1,4 +1,4 @@
-"""What the scripts of this folder share: one run of kplan, timed, and a table of several translations."""
+"""What the scripts of this folder share: one run of kplan, timed, and tables of several runs."""
 
 import argparse
 import os
@@ -6,10 +6,20 @@ import subprocess
 import sys
 import tempfile
 import time
+from importlib.machinery import SourceFileLoader
+from importlib.util import module_from_spec, spec_from_loader
 from itertools import islice
 from pathlib import Path
 
 PROGRAM = Path(__file__).resolve().parent.parent / "crates" / "kplan" / "out" / "kplan"
+
+
+def neighbour(name):
+    """Another script of this folder."""
+    loader = SourceFileLoader(name, str(Path(__file__).resolve().parent / name))
+    module = module_from_spec(spec_from_loader(name, loader))
+    loader.exec_module(module)
+    return module
 
 
 def built_program(about):
@@ -60,3 +70,13 @@ def print_table(about, problems):
     for title, (domain, problem), options in problems:
         seconds, peak, status, printed = measure(program, domain, problem, options)
         print(f"{title:40} {seconds:8.2f} {peak / 1e6:7.0f} {status:6}  {', '.join(printed[:2])}", flush=True)
+
+
+def print_commands(about, runs):
+    """Measures runs of commands, each with a title, files given by their parts, and words, and prints a line for each."""
+    program = built_program(about)
+    print(f"{'command':10} {'problem':34} {'seconds':>8} {'MB':>7} {'status':>6}  printed")
+    for title, files, words in runs:
+        seconds, usage, status, printed = timed(program, files, words)
+        first = " ".join(printed)
+        print(f"{words[0]:10} {title:34} {seconds:8.2f} {usage.ru_maxrss * 1_024 / 1e6:7.0f} {status:6}  {first[:40]}", flush=True)
