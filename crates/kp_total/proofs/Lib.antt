@@ -19,3 +19,4 @@ pub mod ExampleSolvings
 pub mod ExampleClassicals
 pub mod Measures
 pub mod ExampleMeasuring
+pub mod Benches

@@ -49,6 +49,25 @@ some_search name budget g i table proper fits fit = let end = some_end_by_added 
     by NoPlan finds = let ls = coverages_decided g i table proper in (finds_none (no_plan_text ls.0), searched NoPlan fits finds (ls.0, ls.1, refl))
     by (Spent n) finds = (spends n, searched (Spent n) fits finds refl)
 
+-- ---- a run on a generated problem
+
+-- what a plan that the search finds comes to: without its merges its actions work from each model
+pub some_bench : (c : Bench) (g : Ground) (i : Initial) (table : TagTable) → AreProper g i → FitsLimits (task_of g table) usual → IsFit (task_of g table) → IsWritableTask g table → IsTable g i table → AreValid i table → NeverClashes g i → (o : Outcome) × BenchesGround c g i table o
+some_bench c g i table proper fits fit writable right valid never = let end = some_end_by_added (task_of g table) c.budget fit in by end.0 end.1
+  where
+    ls : (ls : List Lit) × AreUncovered g i table ls
+    ls = coverages_decided g i table proper
+
+    by : (found : Found) → Finds (task_of g table) c.budget found → (o : Outcome) × BenchesGround c g i table o
+    by (Plan ops n) finds =
+        let ended = ends_true (task_of g table) c.budget (Plan ops n) fit finds in
+        let names = have_names g table ops ended.0 in
+        let machine = names.2.machine in
+        (sums_up (summary_text c g table ls.0 (length (stripped machine)) n),
+        bench_searched (Plan ops n) fits finds (record { machine = machine; numbers = names.2.numbers; works = found_works; uncovered = ls.0; are_uncovered = ls.1; told = refl }))
+    by NoPlan finds = (finds_none (no_plan_text ls.0), bench_searched NoPlan fits finds (ls.0, ls.1, refl))
+    by (Spent n) finds = (spends n, bench_searched (Spent n) fits finds refl)
+
 -- ---- two classical trees
 
 module _ (y : List ℕ) (d : Domain Word) (p : Problem Word) where
