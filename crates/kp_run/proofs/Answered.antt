@@ -1,5 +1,5 @@
 -- What is due is an answer, and no fault.
-use Rattle.std.proofs.Common.{◌≡◌, ℕ, List, [], Option, length, sym, subst}
+use Rattle.std.proofs.Common.{◌≡◌, ℕ, List, [], Option, None, length, sym, subst}
 use Rattle.kp_base.specs.declared.ground.Ground.{Ground}
 use Rattle.kp_base.specs.declared.ground.Initial.{Initial}
 use Rattle.kp_base.specs.declared.ground.TagTable.{TagTable}
@@ -10,17 +10,18 @@ use Rattle.kp_check.specs.declared.answer.Judged.{Judged}
 use Rattle.kp_check.specs.declared.answer.Judged.TheVariants.{Yes, No}
 use Rattle.kp_outcome.specs.declared.outcome.Outcome.{Outcome}
 use Rattle.kp_outcome.specs.Ends.{IsAnswer}
-use Rattle.kp_words.specs.Names.{Source, of_mode, Translate}
+use Rattle.kp_words.specs.Names.{Source, of_mode, Translate, Bench}
 use Rattle.kp_prepared.specs.Prepared.{by_texts, by_trees, Comes, early, later}
 use Rattle.kp_inputs.specs.Tables.{ComesByTable, no_table, with_table}
 use Rattle.kp_inputs.specs.Actions.{ComesByPlan, no_actions, with_actions}
-use Rattle.kp_run.specs.Outcomes.{TranslatesGround, over, done, TranslatesTrees, MergesTrees, StripsText, too_long, no_plan, no_strip, strips, tells, ChecksTrees, LiftsActions, lifts, fails, LiftsPlan, no_task, with_task, LiftsTrees, SolvesTrees, ClassicalTrees, tells_width, MeasuresGround, no_report, with_report, MeasuresTrees, translated, merged, stripped, checked, lifted, solved, searched, measured, usage, of_command}
+use Rattle.kp_run.specs.Outcomes.{TranslatesGround, over, done, TranslatesTrees, MergesTrees, StripsText, too_long, no_plan, no_strip, strips, tells, ChecksTrees, LiftsActions, lifts, fails, LiftsPlan, no_task, with_task, LiftsTrees, SolvesTrees, ClassicalTrees, tells_width, MeasuresGround, no_report, with_report, MeasuresTrees, translated, merged, stripped, checked, lifted, solved, searched, measured, benched, usage, of_command}
 use Rattle.kp_width.specs.declared.report.WidthReport.{WidthReport}
 use Rattle.kp_width.specs.declared.report.WidthReport.TheVariants.{Within, Over}
 use Rattle.kp_search.specs.declared.found.Found.{Found}
 use Rattle.kp_search.specs.declared.found.Found.TheVariants.{Plan, NoPlan, Spent}
 use Rattle.kp_classical.specs.Classical.{ComesClassical, by_texts as no_texts, by_trees as no_trees, early as at_once, later as goes_on}
 use Rattle.kp_solving.specs.Solving.{TellsSolved, SolvesGround, over as too_large, searched as by_search, TellsClassical}
+use Rattle.kp_bench.specs.Bench.{texts_of, usual_implicates, TellsBench, BenchesGround, over as too_heavy, searched as by_found, BenchesTrees, Benches}
 use Rattle.kp_run.specs.Laws.{OutcomesAreAnswers}
 
 -- an outcome that is known
@@ -89,6 +90,18 @@ comes_classical_answer x y P o answers (at_once (no_texts r a e)) = known o _ e 
 comes_classical_answer x y P o answers (at_once (no_trees d p r h a e)) = known o _ e tt
 comes_classical_answer x y P o answers (goes_on d p h a on) = answers d p on
 
+summary_answer : (c : Bench) (g : Ground) (i : Initial) (table : TagTable) (o : Outcome) (found : Found) → TellsBench c g i table found o → IsAnswer o.status
+summary_answer c g i table o (Plan ops n) t = known o _ t.told tt
+summary_answer c g i table o NoPlan t = told_answer None g i table o NoPlan t
+summary_answer c g i table o (Spent n) t = told_answer None g i table o (Spent n) t
+
+benched_answer : (c : Bench) (g : Ground) (i : Initial) (table : TagTable) (o : Outcome) → BenchesGround c g i table o → IsAnswer o.status
+benched_answer c g i table o (too_heavy r a e) = known o _ e tt
+benched_answer c g i table o (by_found found a finds t) = summary_answer c g i table o found t
+
+bench_answer : (c : Bench) (o : Outcome) → Benches c o → IsAnswer o.status
+bench_answer c o a = comes_answer usual_implicates (texts_of c).domain (texts_of c).problem (BenchesTrees c) o (λ d p. table_answer (ground_of d p) (initial_of d p) (of_mode c.mode) [] _ o (λ table. benched_answer c (ground_of d p) (initial_of d p) table o)) a
+
 pub outcomes_are_answers : OutcomesAreAnswers
 outcomes_are_answers words held _ (usage a) = tt
 outcomes_are_answers words held o (of_command _ _ _ is at (translated c x y merges _ a)) = comes_answer c.implicates x y (TranslatesTrees c merges) o (λ d p. table_answer (ground_of d p) (initial_of d p) c.source merges _ o (λ table. ground_answer c (ground_of d p) (initial_of d p) table o)) a
@@ -98,4 +111,5 @@ outcomes_are_answers words held o (of_command _ _ _ is at (checked c x y plan _ 
 outcomes_are_answers words held o (of_command _ _ _ is at (lifted c x y merges plan _ a)) = comes_answer c.implicates x y (LiftsTrees c merges plan) o (λ d p. table_answer (ground_of d p) (initial_of d p) c.source merges _ o (λ table. lift_answer (ground_of d p) plan table o)) a
 outcomes_are_answers words held o (of_command _ _ _ is at (solved c x y merges _ a)) = comes_answer c.implicates x y (SolvesTrees c merges) o (λ d p. table_answer (ground_of d p) (initial_of d p) c.source merges _ o (λ table. solved_answer c.classical c.budget (ground_of d p) (initial_of d p) table o)) a
 outcomes_are_answers words held o (of_command _ _ _ is at (searched c x y _ a)) = comes_classical_answer x y (ClassicalTrees c) o (λ d p s. classical_answer (ground_of d p) o s.found s.tells) a
+outcomes_are_answers words held o (of_command _ _ _ is at (benched c _ a)) = bench_answer c o a
 outcomes_are_answers words held o (of_command _ _ _ is at (measured c x y _ a)) = comes_answer c.implicates x y (MeasuresTrees c) o (λ d p. width_answer c.bound (ground_of d p) (initial_of d p) o) a

@@ -47,7 +47,7 @@ use Rattle.kp_inputs.specs.Actions.{HasActions, no_actions, with_actions}
 use Rattle.kp_inputs.proofs.OneTable.{one_table}
 use Rattle.kp_inputs.proofs.OnePlan.{one_plan, some_alike}
 use Rattle.kp_inputs.proofs.Named.{found_at}
-use Rattle.kp_run.specs.Outcomes.{prints, LiftsActions, lifts, fails, LiftsPlan, no_task, with_task, LiftsTrees, LiftsTexts, ComesTo, translated, merged, stripped, checked, lifted, IsDue, usage, of_command, solved, searched, measured}
+use Rattle.kp_run.specs.Outcomes.{prints, LiftsActions, lifts, fails, LiftsPlan, no_task, with_task, LiftsTrees, LiftsTexts, ComesTo, translated, merged, stripped, checked, lifted, IsDue, usage, of_command, solved, searched, measured, benched}
 use Rattle.kp_run.specs.Ends.{Ends, came, read_failed, no_memory}
 use Rattle.kp_run.specs.Completeness as complete
 use Rattle.kp_run.specs.Completeness.{PrintsComplete, RanComplete, IsOfTheSame, HoldsPlan, LosesNoPlan}
@@ -78,7 +78,7 @@ did_translate words t before after r = by r.ended
     of_due _ (usage none) done puts told = absurd cc
     of_due o (of_command e texts _ so held comes) done puts told = record {
       outcome = o;
-      apart = r.is_translate.files.outputs_differ;
+      apart = r.is_translate.says.are_so.outputs_differ;
       both = both_held before t e texts o (one_command words (commands.Translate t) e r.is_translate so) held comes;
       done = done;
       puts = puts;
@@ -209,6 +209,7 @@ module _ (t : Translate) (before after : FileMap) (text : List ℕ) (x : DidTran
       go _ _ is (solved e v w more _ b) at = absurd cc
       go _ _ is (searched e v w _ b) at = absurd cc
       go _ _ is (measured e v w _ b) at = absurd cc
+      go _ _ is (benched e _ b) at = absurd cc
       go _ _ is (lifted e v w more u _ b) at =
           let command : e ≡ c = cc in
           let first : v ≡ x.both.domain = cc in

@@ -53,10 +53,11 @@ use Rattle.kp_outcome.specs.declared.outcome.Outcome.{Outcome}
 use Rattle.kp_outcome.specs.declared.status.Status.TheVariants as status
 use Rattle.kp_outcome.specs.Ends.{Outside, AreHeld, whole}
 use Rattle.kp_line.specs.Words.{nothing, a_word, apart as apart_words, word as said_word, option as said_option}
-use Rattle.kp_words.specs.Names.{of_mode, Translate}
+use Rattle.kp_words.specs.Names.{of_mode, Translate, Bench}
 use Rattle.kp_words.specs.declared.lent.CommandRef.TheVariants as commands
 use Rattle.kp_words.specs.Command.{IsTranslate, file_of, if_named}
 use Rattle.kp_words.proofs.Examples.{no_words}
+use Rattle.kp_words.proofs.OneCommand.{one_command}
 use Rattle.kp_prepared.specs.Texts.{HaveTrees}
 use Rattle.kp_prepared.specs.Prepared.{usual, IsStarted, later}
 use Rattle.kp_inputs.specs.Tables.{by_mode, with_table}
@@ -278,6 +279,9 @@ not_held : (name : List ℕ) (names texts : List (List ℕ)) → AreHeld (Some n
 not_held name names [] h = absurd cc
 not_held name names (t ∷ ts) h = absurd (let e = get-empty {X = List ℕ} (slice_cmp nat_cmp) name in let f : get no_files name ≡ Some t = cc in cc (e, f))
 
+other_verb : (c : Translate) (d : Bench) → commands.Translate c ≡ commands.Bench d → ⊥
+other_verb c d same = absurd cc
+
 nothing_is_due : (o : Outcome) → IsDue words (Some no_files) o → ⊥
 nothing_is_due _ (usage never) = never (commands.Translate command) is_command
 nothing_is_due o (of_command (commands.Strip c) texts _ h held comes) = not_held c.plan [] texts held
@@ -287,4 +291,5 @@ nothing_is_due o (of_command (commands.Merges c) texts _ h held comes) = not_hel
 nothing_is_due o (of_command (commands.Solve c) texts _ h held comes) = not_held c.domain (c.problem ∷ if_named (file_of c.source)) texts held
 nothing_is_due o (of_command (commands.Classical c) texts _ h held comes) = not_held c.domain (c.problem ∷ []) texts held
 nothing_is_due o (of_command (commands.Width c) texts _ h held comes) = not_held c.domain (c.problem ∷ []) texts held
+nothing_is_due o (of_command (commands.Bench c) texts _ h held comes) = other_verb command c (one_command words (commands.Translate command) (commands.Bench c) is_command h)
 nothing_is_due o (of_command (commands.Translate c) texts _ h held comes) = not_held c.domain (c.problem ∷ if_named (file_of c.source)) texts held

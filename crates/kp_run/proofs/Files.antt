@@ -1,5 +1,5 @@
 -- What is read of one to four files, and what is due then.
-use Rattle.std.proofs.Common.{◌≡◌, ◌++◌, ℕ, List, [], ◌∷◌, Option, Some, Vec, Result, Ok, Err, IfOk, refl, sym, ap, subst}
+use Rattle.std.proofs.Common.{◌≡◌, ◌++◌, ℕ, List, [], ◌∷◌, Option, Some, Vec, Result, Ok, Err, IfOk, length, refl, sym, ap, subst, arith}
 use Rattle.std.specs.declared.alloc.Global.{Global}
 use Rattle.kp_base.specs.declared.memory.Memory.{Memory}
 use Rattle.kp_outside.specs.declared.outside.Got.{Got}
@@ -8,7 +8,7 @@ use Rattle.kp_outside.specs.Outside.{FileMap, IsFront, IsWithin}
 use Rattle.kp_outcome.specs.declared.outcome.Outcome.{Outcome}
 use Rattle.kp_outcome.specs.Ends.{most_bytes, AreHeld, AreFronts, none, also}
 use Rattle.kp_outcome.proofs.Fronts.{front_within}
-use Rattle.kp_words.specs.Names.{Source, of_mode, of_file, Translate, Merges, Strip, Check, Lift, Solve, Classical, Width}
+use Rattle.kp_words.specs.Names.{Source, of_mode, of_file, Translate, Merges, Strip, Check, Lift, Solve, Classical, Width, Bench}
 use Rattle.kp_base.specs.declared.limits.Mode.{Mode}
 use Rattle.kp_inputs.specs.declared.origin.Origin.TheVariants as origins
 use Rattle.kp_inputs.specs.declared.origin.Origin.{Origin}
@@ -18,7 +18,8 @@ use Rattle.kp_words.specs.declared.lent.CommandRef.TheVariants as commands
 use Rattle.kp_words.specs.Command.{IsCommand, inputs_of}
 use Rattle.kp_run.specs.declared.sourced.Sourced.{Sourced}
 use Rattle.kp_run.specs.Tables.{IsSourced}
-use Rattle.kp_run.specs.Outcomes.{TranslatesTexts, MergesTexts, StripsText, ChecksTexts, LiftsTexts, SolvesTexts, ClassicalTexts, MeasuresTexts, ComesTo, translated, merged, stripped, checked, lifted, solved, searched, measured, IsDue, of_command}
+use Rattle.kp_run.specs.Outcomes.{TranslatesTexts, MergesTexts, StripsText, ChecksTexts, LiftsTexts, SolvesTexts, ClassicalTexts, MeasuresTexts, ComesTo, translated, merged, stripped, checked, lifted, solved, searched, measured, benched, IsDue, of_command}
+use Rattle.kp_bench.specs.Bench.{Benches}
 
 -- ---- fronts are of as many texts
 
@@ -211,6 +212,12 @@ three_checked c texts gots a b m r fronts e comes =
     by : (d p u : List ℕ) (r : Result Outcome Memory) → IfOk r (ChecksTexts c d p u) → IfOk r (ComesTo (commands.Check c) (d ∷ p ∷ u ∷ []))
     by d p u (Ok o) h = checked c d p u o h
     by d p u (Err m) h = tt
+
+-- no file is read
+pub none_benched : (c : Bench) (texts : List (List ℕ)) (gots : List Got) (r : Result Outcome Memory) → AreFronts texts gots → length gots ≡ 0 → IfOk r (Benches c) → IfOk r (ComesTo (commands.Bench c) texts)
+none_benched c _ _ (Ok o) none e h = benched c o h
+none_benched c _ _ (Err m) none e h = tt
+none_benched c _ _ r (also t ts g gs front more) e h = absurd (omega (arith, e))
 
 -- what a command comes to is due
 pub due_of : (words : List (Vec ℕ Global)) (held : Option FileMap) (c : Command) (r : Result Outcome OutsideStop) → IsCommand words c

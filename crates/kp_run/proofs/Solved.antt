@@ -55,7 +55,7 @@ use Rattle.kp_inputs.proofs.OnePlan.{some_alike}
 use Rattle.kp_solving.specs.Solving.{Finds, solves, finds_none, spends, TellsSolved, SolvesGround, over, searched}
 use Rattle.kp_solving.proofs.Searches.{ends_true}
 use Rattle.kp_solving.proofs.Plans.{named_accepted, none_accepted}
-use Rattle.kp_run.specs.Outcomes.{SolvesTexts, ComesTo, translated, merged, stripped, checked, lifted, solved, searched as searched_classical, measured, IsDue, usage, of_command}
+use Rattle.kp_run.specs.Outcomes.{SolvesTexts, ComesTo, translated, merged, stripped, checked, lifted, solved, searched as searched_classical, measured, benched, IsDue, usage, of_command}
 use Rattle.kp_run.specs.Completeness.{PrintsComplete}
 use Rattle.kp_run.specs.Ends.{Ends}
 use Rattle.kp_run.proofs.Soundness.{problem_of}
@@ -134,6 +134,7 @@ has_searched words m c o is (of_command e texts _ so held comes) answers = by e 
     by _ _ same held (lifted d x y merges plan _ a) = absurd cc
     by _ _ same held (searched_classical d x y _ a) = absurd cc
     by _ _ same held (measured d x y _ a) = absurd cc
+    by _ _ same held (benched d _ a) = absurd cc
     by _ _ same held (solved d x y merges _ a) =
         let it : d ≡ c = cc in
         let there = subst (λ z. AreHeld (Some m) (inputs_of (commands.Solve z)) (x ∷ y ∷ merges)) it held in

@@ -27,7 +27,7 @@ use Rattle.kp_printed.specs.Refusals.{nothing}
 use Rattle.kp_printed.specs.Searches.{no_plan_line}
 use Rattle.kp_solving.specs.Solving.{Finds, solves, finds_none, spends, TellsClassical}
 use Rattle.kp_solving.proofs.Searches.{ends_true}
-use Rattle.kp_run.specs.Outcomes.{ClassicalTexts, ComesTo, translated, merged, stripped, checked, lifted, solved, searched, measured, IsDue, usage, of_command}
+use Rattle.kp_run.specs.Outcomes.{ClassicalTexts, ComesTo, translated, merged, stripped, checked, lifted, solved, searched, measured, benched, IsDue, usage, of_command}
 use Rattle.kp_run.specs.Ends.{Ends}
 use Rattle.kp_run.proofs.Soundness.{problem_of}
 use Rattle.kp_run.specs.Solved.{IsHeldClassical, IsPosedClassical, IsSolvedClassical, HasNoClassicalPlan, IsSpentClassical, ClassicalIsTrue}
@@ -70,6 +70,7 @@ has_searched words m c o is (of_command e texts _ so held comes) answers = by e 
     by _ _ same held (lifted d x y merges plan _ a) = absurd cc
     by _ _ same held (solved d x y merges _ a) = absurd cc
     by _ _ same held (measured d x y _ a) = absurd cc
+    by _ _ same held (benched d _ a) = absurd cc
     by _ _ same held (searched d x y _ a) =
         let it : d ≡ c = cc in
         let there = subst (λ z. AreHeld (Some m) (inputs_of (commands.Classical z)) (x ∷ y ∷ [])) it held in

@@ -37,7 +37,7 @@ use Rattle.kp_words.specs.declared.lent.CommandRef.TheVariants as commands
 use Rattle.kp_words.specs.Command.{IsTranslate, inputs_of}
 use Rattle.kp_inputs.specs.Tables.{HasTable, no_table, with_table}
 use Rattle.kp_inputs.proofs.TablesFor.{table_for}
-use Rattle.kp_run.specs.Outcomes.{translates, TranslatesGround, over as when_over, done as when_done, TranslatesTrees, TranslatesTexts, ComesTo, translated, merged, stripped, checked, lifted, solved, searched, measured, IsDue, usage, of_command}
+use Rattle.kp_run.specs.Outcomes.{translates, TranslatesGround, over as when_over, done as when_done, TranslatesTrees, TranslatesTexts, ComesTo, translated, merged, stripped, checked, lifted, solved, searched, measured, benched, IsDue, usage, of_command}
 use Rattle.kp_run.specs.Ends.{Ends, came, read_failed, no_memory}
 use Rattle.kp_run.specs.Soundness.{IsSound}
 use Rattle.kp_words.proofs.OneCommand.{one_command}
@@ -129,6 +129,7 @@ both_held m c _ _ o same held (lifted d x y texts plan _ a) = absurd cc
 both_held m c _ _ o same held (solved d x y merges _ a) = absurd cc
 both_held m c _ _ o same held (searched d x y _ a) = absurd cc
 both_held m c _ _ o same held (measured d x y _ a) = absurd cc
+both_held m c _ _ o same held (benched d _ a) = absurd cc
 
 module _ (before after : FileMap) (c : Translate) (o : Outcome) (apart : c.domain_out ≢ c.problem_out) (both : AreBoth before c o) (done : o.status ≡ status.Done) (puts : Some after ≡ with_files (Some before) o.puts) where
   pub all_done : IsDone c both.domain both.problem both.merges o

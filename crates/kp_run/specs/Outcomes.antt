@@ -43,7 +43,7 @@ use Rattle.kp_printed.specs.Widths.{width_text, over_text}
 use Rattle.kp_outcome.specs.declared.outcome.Outcome.{Outcome}
 use Rattle.kp_outcome.specs.declared.status.Status.TheVariants as status
 use Rattle.kp_outcome.specs.Ends.{AreHeld, most_bytes}
-use Rattle.kp_words.specs.Names.{of_mode, Translate, Merges, Strip, Check, Lift, Solve, Classical, Width}
+use Rattle.kp_words.specs.Names.{of_mode, Translate, Merges, Strip, Check, Lift, Solve, Classical, Width, Bench}
 use Rattle.kp_words.specs.declared.lent.CommandRef.{CommandRef as Command}
 use Rattle.kp_words.specs.declared.lent.CommandRef.TheVariants as commands
 use Rattle.kp_words.specs.Command.{IsCommand, IsNoCommand, inputs_of}
@@ -53,6 +53,7 @@ use Rattle.kp_classical.specs.Classical.{ComesClassical, task_of as classical_ta
 use Rattle.kp_inputs.specs.Tables.{ComesByTable}
 use Rattle.kp_inputs.specs.Actions.{ComesByPlan}
 use Rattle.kp_solving.specs.Solving.{SolvesGround, SolvesClassical}
+use Rattle.kp_bench.specs.Bench.{Benches}
 
 -- ---- outcomes
 
@@ -215,6 +216,7 @@ pub data ComesTo : Command → List (List ℕ) → Outcome → Type 0 where
   solved : (c : Solve) (domain problem : List ℕ) (merges : List (List ℕ)) (o : Outcome) → SolvesTexts c domain problem merges o → ComesTo (commands.Solve c) (domain ∷ problem ∷ merges) o
   searched : (c : Classical) (domain problem : List ℕ) (o : Outcome) → ClassicalTexts c domain problem o → ComesTo (commands.Classical c) (domain ∷ problem ∷ []) o
   measured : (c : Width) (domain problem : List ℕ) (o : Outcome) → MeasuresTexts c domain problem o → ComesTo (commands.Width c) (domain ∷ problem ∷ []) o
+  benched : (c : Bench) (o : Outcome) → Benches c o → ComesTo (commands.Bench c) [] o
 
 -- The outcome that is due: the usage where the words are no command; else what the command comes to on the contents of its input files. Where it isn't told what they hold, they may hold anything.
 pub data IsDue (words : List (Vec ℕ Global)) (held : Option FileMap) : Outcome → Type 0 where

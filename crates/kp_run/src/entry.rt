@@ -23,12 +23,13 @@ use crate::sourced::{four_of, one_of, taken_apart, three_of, two_of};
 use crate::stripping::strip_text;
 use crate::translating::translate_texts;
 use kp_base::{Memory, Mode, Row};
+use kp_bench::bench;
 use kp_inputs::Origin;
 use kp_outcome::{Outcome, Status, carry_out, read_inputs, stopped};
 use kp_outside::{Got, OutsideStop, Shelf, Sink};
 use kp_words::{
-    Check, Classical, CommandRef, Lift, Merges, Solve, SourceRef, Strip, Translate, Width, WordStop,
-    command,
+    Bench, Check, Classical, CommandRef, Lift, Merges, Solve, SourceRef, Strip, Translate, Width,
+    WordStop, command,
 };
 use std::alloc::Global;
 
@@ -64,7 +65,11 @@ fn read_translate<S: Shelf>(
     ensures put_faults { (q : List ℕ) → S.put_faults shelf.new q ≡ S.put_faults shelf.old q }
 {
     match named.source {
-        SourceRef::File(merges) => read_inputs(alloc, &[named.domain, named.problem, merges], shelf),
+        SourceRef::File(merges) => read_inputs(
+            alloc,
+            &[named.domain, named.problem, merges],
+            shelf,
+        ),
         SourceRef::Mode(_) => read_inputs(alloc, &[named.domain, named.problem], shelf),
     }
 }
@@ -111,6 +116,7 @@ fn read<S: Shelf>(
         CommandRef::Solve(named) => read_solve(alloc, named, shelf),
         CommandRef::Classical(named) => read_inputs(alloc, &[named.domain, named.problem], shelf),
         CommandRef::Width(named) => read_inputs(alloc, &[named.domain, named.problem], shelf),
+        CommandRef::Bench(_) => read_inputs(alloc, &[], shelf),
     }
 }
 
@@ -213,6 +219,15 @@ fn width_gots(alloc: Global, named: &Width<'_>, gots: Row<Got>) -> Result<Outcom
     width_of_texts(alloc, named, domain, problem)
 }
 
+// What a run on a generated problem comes to, for which no file is read.
+fn bench_gots(alloc: Global, asked: &Bench, gots: Row<Got>) -> Result<Outcome, Memory>
+    requires { (held : Option FileMap) × AreRead held [] gots }
+    ensures { (texts : List (List ℕ)) → AreFronts texts gots → IfOk result (ComesTo (commands.Bench asked.now) texts) }
+{
+    drop(gots);
+    bench(alloc, asked)
+}
+
 // What a command comes to on what was read of its input files.
 fn outcome_of(alloc: Global, command: &CommandRef<'_>, gots: Row<Got>) -> Result<Outcome, Memory>
     requires { (held : Option FileMap) × AreRead held (inputs_of command.now) gots }
@@ -227,6 +242,7 @@ fn outcome_of(alloc: Global, command: &CommandRef<'_>, gots: Row<Got>) -> Result
         CommandRef::Solve(named) => solve_gots(alloc, named, gots),
         CommandRef::Classical(named) => classical_gots(alloc, named, gots),
         CommandRef::Width(named) => width_gots(alloc, named, gots),
+        CommandRef::Bench(asked) => bench_gots(alloc, asked, gots),
     }
 }
 

@@ -1,12 +1,16 @@
-use Rattle.std.proofs.Common.{sym, subst}
+use Rattle.std.proofs.Common.{Err, ap, sym, subst}
+use Rattle.kp_words.specs.Command.{IsCommand}
 use Rattle.kp_run.specs.Outcomes.{IsDue, usage}
 use Rattle.kp_run.proofs.Files.{due_of}
 use Rattle.kp_run.proofs.entry.due.Goals as goal
 
 -- the words are a command
-pub returns-in-Some-clause-due : goal.returns-in-Some-clause-due
-returns-in-Some-clause-due g c = due_of c.args.words.now (g.S.Shelf.contents c.args.shelf.now) c.in-Some.command c.come_to.result c.in-Some.ensures c.come_to.ensures.comes_to
+pub returns-in-Ok-clause-due : goal.returns-in-Ok-clause-due
+returns-in-Ok-clause-due g c = due_of c.args.words.now (g.S.Shelf.contents c.args.shelf.now) c.lend.result c.come_to.result (subst (IsCommand c.args.words.now) (sym c.lend.ensures) c.in-Ok.ensures.ok) c.come_to.ensures.comes_to
+
+pub returns-in-Ok-clause-failed : goal.returns-in-Ok-clause-failed
+returns-in-Ok-clause-failed g c failed = (c.lend.result, subst (IsCommand c.args.words.now) (sym c.lend.ensures) c.in-Ok.ensures.ok, c.come_to.ensures.failed failed)
 
 -- they are none
-pub returns-in_ok-usage_outcome-in-None-clause-due : goal.returns-in_ok-usage_outcome-in-None-clause-due
-returns-in_ok-usage_outcome-in-None-clause-due g c = subst (IsDue c.args.words.now (g.S.Shelf.contents c.args.shelf.now)) (sym c.in_ok-usage_outcome-in-None.ensures) (usage c.in-None.ensures)
+pub returns-in_ok-usage_outcome-in-Err-Usage-clause-due : goal.returns-in_ok-usage_outcome-in-Err-Usage-clause-due
+returns-in_ok-usage_outcome-in-Err-Usage-clause-due g c = subst (IsDue c.args.words.now (g.S.Shelf.contents c.args.shelf.now)) (sym c.in_ok-usage_outcome-in-Err-Usage.ensures) (usage (c.in-Err-Usage.ensures.usage (ap Err c.in-Err-Usage.field-0-is)))

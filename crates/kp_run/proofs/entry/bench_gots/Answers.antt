@@ -1,0 +1,7 @@
+use Rattle.std.proofs.Common.{[]}
+use Rattle.kp_outcome.proofs.Fronts.{as_many}
+use Rattle.kp_run.proofs.Files.{none_benched}
+use Rattle.kp_run.proofs.entry.bench_gots.Goals as goal
+
+pub returns : goal.returns
+returns c texts fronts = none_benched c.args.asked.now texts c.args.gots c.bench.result fronts (as_many c.requires.0 [] c.args.gots c.requires.1) c.bench.ensures
