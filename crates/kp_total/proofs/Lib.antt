@@ -20,3 +20,4 @@ pub mod ExampleClassicals
 pub mod Measures
 pub mod ExampleMeasuring
 pub mod Benches
+pub mod ExampleBenching

@@ -23,7 +23,7 @@ use Rattle.kp_solving.specs.Solving.{SolvesGround}
 use Rattle.kp_solving.proofs.OneSolving.{ground_once, classical_once as one_classical}
 use Rattle.kp_run.specs.Outcomes.{TranslatesGround, TranslatesTrees, TranslatesTexts, ListsMerges, MergesTrees, MergesTexts, StripsText, TellsJudged, ChecksTrees, ChecksTexts, LiftsPlan, LiftsTrees, LiftsTexts, SolvesTrees, SolvesTexts, ClassicalTrees, ClassicalTexts, tells_width, MeasuresGround, no_report, with_report, MeasuresTrees, MeasuresTexts, ComesTo, translated, merged, stripped, checked, lifted, solved, searched, measured, benched, usage, of_command}
 use Rattle.kp_bench.specs.Bench.{Benches}
-use Rattle.kp_bench.proofs.OneBench.{one_bench}
+use Rattle.kp_bench.proofs.OneBench.{benches_once}
 use Rattle.kp_run.proofs.Files.{last_once}
 use Rattle.kp_total.specs.Laws.{HasOneOutcome}
 use Rattle.kp_total.proofs.OneTranslation.{table_once, verdicts_once, lifts_once}
@@ -199,7 +199,7 @@ outcome_once _ _ o u (benched c _ a) b = go _ _ u b refl refl
     go _ _ u (solved d v w more _ b) same at = absurd cc
     go _ _ u (searched d v w _ b) same at = absurd cc
     go _ _ u (measured d v w _ b) same at = absurd cc
-    go _ _ u (benched d _ b) same at = let command : d ≡ c = cc in one_bench c o u a (subst (λ z. Benches z u) command b)
+    go _ _ u (benched d _ b) same at = let command : d ≡ c = cc in benches_once c o u a (subst (λ z. Benches z u) command b)
 
 -- names have one list of contents
 held_once : (m : FileMap) (names ts us : List (List ℕ)) → map (get m) names ≡ map Some ts → map (get m) names ≡ map Some us → ts ≡ us

@@ -154,7 +154,7 @@ module _ (limit : ℕ) (d : Domain Word) (p : Problem Word) (x y : List ℕ) (tr
     | inl fits ↦
         let for = table_for d p (of_mode c.mode) [] table ready.started.small fits has in
         let writable = tables_written x y (problem_of x y d p trees) table for in
-        some_bench c (ground_of d p) (initial_of d p) table proper fits (task_fits d p table ready.started.small fits writable) writable for.right for.valid (never_clashes (ground_of d p) (initial_of d p) ready.clash_free)
+        some_bench c (ground_of d p) (initial_of d p) table proper fits (task_fits d p table ready.started.small fits writable) (record { writable = writable; right = for.right; valid = for.valid; never_clashes = never_clashes (ground_of d p) (initial_of d p) ready.clash_free })
   ]
 
   of_bench : (c : Bench) → (o : Outcome) × BenchesTrees c d p o
