@@ -86,7 +86,7 @@ not_so p =
     let rest : codes "ncomplete\n" ≡ codes "\ncomplete\n" = ap (drop 9) p.are ∙ (ap (λ n. drop n (p.front ++ codes "\ncomplete\n")) (sym nine) ∙ drop-append_seam p.front (codes "\ncomplete\n")) in
     absurd cc
 
-complete_text : (g : Ground) (i : Initial) (table : TagTable) (ls : List Lit) → AreProper g i → AreUncovered g i table ls → PrintsComplete (no_plan_text ls) ↔ IsComplete g i table
+pub complete_text : (g : Ground) (i : Initial) (table : TagTable) (ls : List Lit) → AreProper g i → AreUncovered g i table ls → PrintsComplete (no_plan_text ls) ↔ IsComplete g i table
 complete_text g i table [] proper are = ((λ printed. complete_with_none g i table proper are), (λ whole. record { front = codes "no plan"; are = refl }))
 complete_text g i table (l ∷ ls) proper are = ((λ printed. absurd (not_so printed)), (λ whole. absurd (let none = none_uncovered g i table (l ∷ ls) are whole in cc)))
 

@@ -104,9 +104,9 @@ problem_held : (domain problem : List ℕ) → get (holding domain problem) (cod
 problem_held domain problem = at_last (insert empty (codes "d") domain) (codes "p") problem
 
 ends : (ws : List (Vec ℕ Global)) (budget : ℕ) → SaysClassical ws (solving budget) → (domain problem : List ℕ) (o : Outcome) → o.puts ≡ [] → ClassicalTexts (solving budget) domain problem o → Ends ws (before domain problem) (after domain problem o.text) o.status
-ends ws budget is domain problem o nothing comes =
+ends ws budget is domain problem o no_file comes =
     came o (of_command (commands.Classical (solving budget)) (domain ∷ problem ∷ []) o is (rw (domain_held domain problem, problem_held domain problem) refl) (searched (solving budget) domain problem o comes))
-    (whole refl (record { gets = λ q. refl; puts = λ q. refl; writes = refl }) (rw nothing refl) refl)
+    (whole refl (record { gets = λ q. refl; puts = λ q. refl; writes = refl }) (rw no_file refl) refl)
 
 -- what the search of their task finds is told
 comes_to : (domain problem : List ℕ) (d : Domain Word) (p : Problem Word) → HaveTrees domain problem d p → IsClassical d p → (budget : ℕ) (found : Found) (o : Outcome) → Finds (task_of d p) budget found → TellsClassical (ground_of d p) found o → ClassicalTexts (solving budget) domain problem o

@@ -1,5 +1,5 @@
 -- Calls for the width that end with Done and with Negative: the premises of what is said of such runs are met, from the bytes on. One problem has no target, and its width is 0; the other is over the bound of 0.
-use Rattle.std.proofs.Common.{◌≡◌, ◌≢◌, ◌<◌, ◌≤◌, ℕ, zero, suc, Bool, true, false, not, nat_eq, List, [], ◌∷◌, Some, Vec, filter, map, length, codes, inl, inr, refl, sym, ap, ◌∙◌, subst, arith}
+use Rattle.std.proofs.Common.{◌≡◌, ◌≢◌, ◌<◌, ◌≤◌, ℕ, zero, suc, Bool, true, false, not, nat_eq, List, [], ◌∷◌, Some, None, Vec, filter, map, length, codes, inl, inr, refl, sym, ap, ◌∙◌, subst, arith}
 use Rattle.std.proofs.lemmas.Bool.{false≢true}
 use Rattle.std.specs.FinMap.{empty, get, insert}
 use Rattle.std.specs.Fmt.{digits}
@@ -46,7 +46,8 @@ use Rattle.kp_outcome.specs.Ends.{Outside, whole}
 use Rattle.kp_printed.specs.Widths.{width_text, over_text}
 use Rattle.kp_words.specs.Names.{Width}
 use Rattle.kp_words.specs.declared.lent.CommandRef.TheVariants as commands
-use Rattle.kp_words.specs.Command.{unsaid, stated, NamesMeasured, IsWidth}
+use Rattle.kp_line.specs.Words.{nothing, a_word, apart as apart_words, word as said_word, option as said_option}
+use Rattle.kp_words.specs.Command.{IsWidth}
 use Rattle.kp_words.proofs.Examples.{word}
 use Rattle.kp_prepared.specs.Texts.{HaveTrees}
 use Rattle.kp_prepared.specs.Prepared.{usual, IsPrepared, later}
@@ -68,30 +69,35 @@ front more = word (codes "width") (omega arith) ∷ word (codes "d") (omega arit
 abbrev measuring : ℕ → Width
 measuring bound = record { domain = codes "d"; problem = codes "p"; bound = bound; implicates = 20000 }
 
-names_files : (bound : ℕ) → NamesMeasured (codes "width" ∷ codes "d" ∷ codes "p" ∷ []) (measuring bound)
-unfolding encode
-names_files bound = record {
-  words_are = refl;
-  domain = record { not_empty = λ e. cc; no_dash = refl; utf8 = (codes "d", (refl, refl)) };
-  problem = record { not_empty = λ e. cc; no_dash = refl; utf8 = (codes "p", (refl, refl)) };
-}
-
 is_plain : IsWidth (front []) (measuring 3)
-is_plain = record { front = codes "width" ∷ codes "d" ∷ codes "p" ∷ []; bound = []; limit = []; words_are = refl; files = names_files 3; says_bound = unsaid; says_limit = unsaid }
+unfolding encode
+is_plain = record {
+  rest = codes "d" ∷ codes "p" ∷ [];
+  utf8 = ((codes "width", (refl, refl)), ((codes "d", (refl, refl)), ((codes "p", (refl, refl)), tt)));
+  words_are = refl;
+  says = record {
+    places = codes "d" ∷ codes "p" ∷ [];
+    values = None ∷ None ∷ [];
+    line = record { said = said_word (codes "d") ∷ said_word (codes "p") ∷ []; says = a_word _ _ _ refl (a_word _ _ _ refl (nothing)); places_are = refl; known = refl; once = refl; values_are = refl };
+    are_so = record { bound = None; implicates = None; places_are = refl; values_are = refl; says_bound = refl; limit = refl };
+  };
+}
 
 abbrev with_bound : List (Vec ℕ Global)
 with_bound = front (word (codes "--bound") (omega arith) ∷ word (codes "0") (omega arith) ∷ [])
 
 is_with_bound : IsWidth with_bound (measuring 0)
-unfolding digits
+unfolding encode digits
 is_with_bound = record {
-  front = codes "width" ∷ codes "d" ∷ codes "p" ∷ [];
-  bound = codes "--bound" ∷ codes "0" ∷ [];
-  limit = [];
+  rest = codes "d" ∷ codes "p" ∷ codes "--bound" ∷ codes "0" ∷ [];
+  utf8 = ((codes "width", (refl, refl)), ((codes "d", (refl, refl)), ((codes "p", (refl, refl)), ((codes "--bound", (refl, refl)), ((codes "0", (refl, refl)), tt)))));
   words_are = refl;
-  files = names_files 0;
-  says_bound = stated 0 (record { least = omega arith; most = omega arith });
-  says_limit = unsaid;
+  says = record {
+    places = codes "d" ∷ codes "p" ∷ [];
+    values = Some (codes "0") ∷ None ∷ [];
+    line = record { said = said_word (codes "d") ∷ said_word (codes "p") ∷ said_option (codes "bound") (codes "0") ∷ []; says = a_word _ _ _ refl (a_word _ _ _ refl (apart_words (codes "bound") (codes "0") _ _ refl refl (nothing))); places_are = refl; known = refl; once = refl; values_are = refl };
+    are_so = record { bound = Some (codes "0"); implicates = None; places_are = refl; values_are = refl; says_bound = (record { at_least = omega arith; at_most = omega arith }, refl); limit = refl };
+  };
 }
 
 -- ---- a run on two files
@@ -114,10 +120,10 @@ problem_held domain problem = at_last (insert empty (codes "d") domain) (codes "
 ends : (ws : List (Vec ℕ Global)) (bound : ℕ) → IsWidth ws (measuring bound) → (domain problem : List ℕ) (d : Domain Word) (p : Problem Word) → HaveTrees domain problem d p → IsPrepared 20000 d p
     → (report : WidthReport) → IsReport usual bound (ground_of d p) (initial_of d p) report → (tells_width (ground_of d p) bound report).puts ≡ []
     → Ends ws (before domain problem) (after domain problem (tells_width (ground_of d p) bound report).text) (tells_width (ground_of d p) bound report).status
-ends ws bound is domain problem d p have ready report reports nothing =
+ends ws bound is domain problem d p have ready report reports no_file =
     let o = tells_width (ground_of d p) bound report in
     came o (of_command (commands.Width (measuring bound)) (domain ∷ problem ∷ []) o is (rw (domain_held domain problem, problem_held domain problem) refl) (measured (measuring bound) domain problem o (later d p have ready (with_report report reports refl))))
-    (whole refl (record { gets = λ q. refl; puts = λ q. refl; writes = refl }) (rw nothing refl) refl)
+    (whole refl (record { gets = λ q. refl; puts = λ q. refl; writes = refl }) (rw no_file refl) refl)
 
 -- ---- nothing is wanted: there is no target
 

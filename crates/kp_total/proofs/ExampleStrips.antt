@@ -1,5 +1,5 @@
 -- Plan files: one that strips, and three that are refused, at a name, at the end and at a byte.
-use Rattle.std.proofs.Common.{◌≡◌, ℕ, List, [], ◌∷◌, Some, Vec, map, codes, refl, arith}
+use Rattle.std.proofs.Common.{◌≡◌, ℕ, List, [], ◌∷◌, Some, Vec, map, codes, refl, sym, subst, arith}
 use Rattle.std.specs.FinMap.{empty, insert}
 use lib.Utf8.{encode}
 use Rattle.std.specs.Fmt.{digits}

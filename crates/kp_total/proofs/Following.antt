@@ -12,7 +12,7 @@ use Rattle.kp_outcome.specs.declared.outcome.Outcome.{Outcome}
 use Rattle.kp_outcome.specs.declared.status.Status.{Status}
 use Rattle.kp_outcome.specs.declared.status.Status.TheVariants as status
 use Rattle.kp_outcome.specs.Ends.{Outside, IsAnswer, AreHeld, with_files, StopsAt, CarriesOut, whole, put_failed, put_no_memory, print_failed, print_no_memory}
-use Rattle.kp_words.specs.Names.{Source, of_mode, Translate, Strip, Check, Lift, Solve, Classical, Width}
+use Rattle.kp_words.specs.Names.{Source, of_mode, Translate, Strip, Check, Lift, Solve, Classical, Width, Bench}
 use Rattle.kp_words.specs.declared.lent.CommandRef.{CommandRef as Command}
 use Rattle.kp_words.specs.declared.lent.CommandRef.TheVariants as commands
 use Rattle.kp_words.specs.Command.{IsCommand, if_named, inputs_of, outputs_of}
@@ -30,12 +30,13 @@ use Rattle.kp_check.specs.declared.answer.Judged.TheVariants.{Yes, No}
 use Rattle.kp_given.specs.Translations.{ground_of, initial_of}
 use Rattle.kp_inputs.specs.Tables.{ComesByTable, no_table, with_table}
 use Rattle.kp_inputs.specs.Actions.{ComesByPlan, no_actions, with_actions}
-use Rattle.kp_run.specs.Outcomes.{translates, TranslatesGround, over, done, TranslatesTrees, ListsMerges, MergesTrees, StripsText, too_long, no_plan, no_strip, strips, tells, TellsJudged, ChecksTrees, LiftsActions, lifts, fails, LiftsPlan, no_task, with_task, LiftsTrees, SolvesTrees, ClassicalTrees, tells_width, MeasuresGround, no_report, with_report, MeasuresTrees, ComesTo, translated, merged, stripped, checked, lifted, solved, searched, measured, IsDue, usage, of_command}
+use Rattle.kp_run.specs.Outcomes.{translates, TranslatesGround, over, done, TranslatesTrees, ListsMerges, MergesTrees, StripsText, too_long, no_plan, no_strip, strips, tells, TellsJudged, ChecksTrees, LiftsActions, lifts, fails, LiftsPlan, no_task, with_task, LiftsTrees, SolvesTrees, ClassicalTrees, tells_width, MeasuresGround, no_report, with_report, MeasuresTrees, ComesTo, translated, merged, stripped, checked, lifted, solved, searched, measured, benched, IsDue, usage, of_command}
 use Rattle.kp_meaning.specs.Steps.{Step}
 use Rattle.kp_search.specs.declared.found.Found.{Found}
 use Rattle.kp_search.specs.declared.found.Found.TheVariants.{Plan, NoPlan, Spent}
 use Rattle.kp_classical.specs.Classical.{ComesClassical, by_texts as no_texts, by_trees as no_trees, early as at_once, later as goes_on}
 use Rattle.kp_solving.specs.Solving.{solves, TellsSolved, SolvesGround, over as too_large, searched as by_search, TellsClassical}
+use Rattle.kp_bench.specs.Bench.{texts_of, usual_implicates, TellsBench, BenchesGround, over as too_large_to_bench, searched as by_bench, BenchesTrees}
 use Rattle.kp_run.specs.Ends.{Ends, came, read_failed, no_memory}
 use Rattle.kp_total.specs.Follows.{AnswersAreWhole, TheDueIsCarriedOut, IsAnsweredBy, TheDueIsTheAnswer, EndsWith, OnlyDonePuts, DonePutsTheOutputs, OthersPutNothing, NoCommandPutsNothing, none_put, some_put, all_put, PutsAreOfTheDue, none_told, some_told, TextsAreOfTheDue, ReadFaultsTellNothing, ReadFaultsAreTrue, WriteFaultsAreTrue, FailedGetsAreTold, FailedWritesAreTold, MissingInputsAreFaults, InputsAreReadInOrder}
 use Rattle.kp_base.specs.declared.lit.Lit.{Lit}
@@ -196,6 +197,15 @@ width_under c g i o (with_report report a e) = by report e
     by (Within rows) e = under_none (commands.Width c) o (ap (λ (z : Outcome). z.puts) e) (λ d. refl)
     by (Over target) e = under_none (commands.Width c) o (ap (λ (z : Outcome). z.puts) e) (λ d. refl)
 
+summary_under : (c : Bench) (g : Ground) (i : Initial) (table : TagTable) (o : Outcome) (found : Found) → TellsBench c g i table found o → PutsUnder (commands.Bench c) o
+summary_under c g i table o (Plan ops n) t = under_none (commands.Bench c) o (ap (λ (z : Outcome). z.puts) t.told) (λ d. refl)
+summary_under c g i table o NoPlan t = under_none (commands.Bench c) o (ap (λ (z : Outcome). z.puts) t.2) (λ d. refl)
+summary_under c g i table o (Spent n) t = under_none (commands.Bench c) o (ap (λ (z : Outcome). z.puts) t) (λ d. refl)
+
+bench_under : (c : Bench) (g : Ground) (i : Initial) (table : TagTable) (o : Outcome) → BenchesGround c g i table o → PutsUnder (commands.Bench c) o
+bench_under c g i table o (too_large_to_bench r a e) = refusal_under (commands.Bench c) o nothing r e
+bench_under c g i table o (by_bench found a finds t) = summary_under c g i table o found t
+
 comes_under : (c : Command) (texts : List (List ℕ)) (o : Outcome) → ComesTo c texts o → PutsUnder c o
 comes_under _ _ o (translated c x y merges _ a) = comes_of (commands.Translate c) c.implicates x y (TranslatesTrees c merges) o (λ d p. table_under (commands.Translate c) (ground_of d p) (initial_of d p) c.source merges (TranslatesGround c (ground_of d p) (initial_of d p)) o (λ table. ground_under c (ground_of d p) (initial_of d p) table o)) a
 comes_under _ _ o (merged c x y _ a) = comes_of (commands.Merges c) c.implicates x y (MergesTrees c.mode) o (λ d p. table_under (commands.Merges c) (ground_of d p) (initial_of d p) (of_mode c.mode) [] (ListsMerges (ground_of d p)) o (λ table e. under_none (commands.Merges c) o (ap (λ (z : Outcome). z.puts) e) (λ n. refl))) a
@@ -205,6 +215,7 @@ comes_under _ _ o (lifted c x y merges plan _ a) = comes_of (commands.Lift c) c.
 comes_under _ _ o (solved c x y merges _ a) = comes_of (commands.Solve c) c.implicates x y (SolvesTrees c merges) o (λ d p. table_under (commands.Solve c) (ground_of d p) (initial_of d p) c.source merges (SolvesGround c.classical c.budget (ground_of d p) (initial_of d p)) o (λ table. solved_under c (ground_of d p) (initial_of d p) table o)) a
 comes_under _ _ o (searched c x y _ a) = comes_classical_under c x y (ClassicalTrees c) o (λ d p s. classical_under c (ground_of d p) o s.found s.tells) a
 comes_under _ _ o (measured c x y _ a) = comes_of (commands.Width c) c.implicates x y (MeasuresTrees c) o (λ d p. width_under c (ground_of d p) (initial_of d p) o) a
+comes_under _ _ o (benched c _ a) = comes_of (commands.Bench c) usual_implicates (texts_of c).domain (texts_of c).problem (BenchesTrees c) o (λ d p. table_under (commands.Bench c) (ground_of d p) (initial_of d p) (of_mode c.mode) [] (BenchesGround c (ground_of d p) (initial_of d p)) o (λ table. bench_under c (ground_of d p) (initial_of d p) table o)) a
 
 pub done_puts_the_outputs : DonePutsTheOutputs
 done_puts_the_outputs c texts o comes = (comes_under c texts o comes).done

@@ -19,3 +19,5 @@ pub mod ExampleSolvings
 pub mod ExampleClassicals
 pub mod Measures
 pub mod ExampleMeasuring
+pub mod Benches
+pub mod ExampleBenching

@@ -33,7 +33,7 @@ use Rattle.kp_words.specs.Command.{IsWidth, inputs_of}
 use Rattle.kp_words.proofs.OneCommand.{one_command}
 use Rattle.kp_prepared.specs.Refusing.{named_in}
 use Rattle.kp_prepared.specs.Prepared.{usual, by_texts, by_trees, early, later}
-use Rattle.kp_run.specs.Outcomes.{tells_width, MeasuresTexts, no_report, with_report, ComesTo, translated, merged, stripped, checked, lifted, solved, searched, measured, IsDue, usage, of_command}
+use Rattle.kp_run.specs.Outcomes.{tells_width, MeasuresTexts, no_report, with_report, ComesTo, translated, merged, stripped, checked, lifted, solved, searched, measured, benched, IsDue, usage, of_command}
 use Rattle.kp_run.specs.Ends.{Ends}
 use Rattle.kp_run.specs.Solved.{GoesOn}
 use Rattle.kp_run.proofs.Whole.{IsCarriedOut, did, IsNoRefusal, not_refused}
@@ -102,6 +102,7 @@ has_report words m c o is (of_command e texts _ so held comes) answers = by e te
     by _ _ same held (lifted d x y merges plan _ a) = absurd cc
     by _ _ same held (solved d x y merges _ a) = absurd cc
     by _ _ same held (searched d x y _ a) = absurd cc
+    by _ _ same held (benched d _ a) = absurd cc
     by _ _ same held (measured d x y _ a) =
         let it : d ≡ c = cc in
         let there = subst (λ z. AreHeld (Some m) (inputs_of (commands.Width z)) (x ∷ y ∷ [])) it held in

@@ -21,7 +21,9 @@ use Rattle.kp_classical.specs.Classical.{task_of as classical_task}
 use Rattle.kp_classical.proofs.OneStart.{comes_once as comes_classical_once}
 use Rattle.kp_solving.specs.Solving.{SolvesGround}
 use Rattle.kp_solving.proofs.OneSolving.{ground_once, classical_once as one_classical}
-use Rattle.kp_run.specs.Outcomes.{TranslatesGround, TranslatesTrees, TranslatesTexts, ListsMerges, MergesTrees, MergesTexts, StripsText, TellsJudged, ChecksTrees, ChecksTexts, LiftsPlan, LiftsTrees, LiftsTexts, SolvesTrees, SolvesTexts, ClassicalTrees, ClassicalTexts, tells_width, MeasuresGround, no_report, with_report, MeasuresTrees, MeasuresTexts, ComesTo, translated, merged, stripped, checked, lifted, solved, searched, measured, usage, of_command}
+use Rattle.kp_run.specs.Outcomes.{TranslatesGround, TranslatesTrees, TranslatesTexts, ListsMerges, MergesTrees, MergesTexts, StripsText, TellsJudged, ChecksTrees, ChecksTexts, LiftsPlan, LiftsTrees, LiftsTexts, SolvesTrees, SolvesTexts, ClassicalTrees, ClassicalTexts, tells_width, MeasuresGround, no_report, with_report, MeasuresTrees, MeasuresTexts, ComesTo, translated, merged, stripped, checked, lifted, solved, searched, measured, benched, usage, of_command}
+use Rattle.kp_bench.specs.Bench.{Benches}
+use Rattle.kp_bench.proofs.OneBench.{benches_once}
 use Rattle.kp_run.proofs.Files.{last_once}
 use Rattle.kp_total.specs.Laws.{HasOneOutcome}
 use Rattle.kp_total.proofs.OneTranslation.{table_once, verdicts_once, lifts_once}
@@ -73,6 +75,7 @@ outcome_once _ _ o u (translated c x y merges _ a) b = go _ _ u b refl refl
     go _ _ u (solved d v w more _ b) same at = absurd cc
     go _ _ u (searched d v w _ b) same at = absurd cc
     go _ _ u (measured d v w _ b) same at = absurd cc
+    go _ _ u (benched d _ b) same at = absurd cc
 outcome_once _ _ o u (merged c x y _ a) b = go _ _ u b refl refl
   where
     go : (e : Command) (texts : List (List ℕ)) (u : Outcome) → ComesTo e texts u → e ≡ commands.Merges c → texts ≡ x ∷ y ∷ [] → o ≡ u
@@ -88,6 +91,7 @@ outcome_once _ _ o u (merged c x y _ a) b = go _ _ u b refl refl
     go _ _ u (solved d v w more _ b) same at = absurd cc
     go _ _ u (searched d v w _ b) same at = absurd cc
     go _ _ u (measured d v w _ b) same at = absurd cc
+    go _ _ u (benched d _ b) same at = absurd cc
 outcome_once _ _ o u (stripped c x _ a) b = go _ _ u b refl refl
   where
     go : (e : Command) (texts : List (List ℕ)) (u : Outcome) → ComesTo e texts u → e ≡ commands.Strip c → texts ≡ x ∷ [] → o ≡ u
@@ -99,6 +103,7 @@ outcome_once _ _ o u (stripped c x _ a) b = go _ _ u b refl refl
     go _ _ u (solved d v w more _ b) same at = absurd cc
     go _ _ u (searched d v w _ b) same at = absurd cc
     go _ _ u (measured d v w _ b) same at = absurd cc
+    go _ _ u (benched d _ b) same at = absurd cc
 outcome_once _ _ o u (checked c x y plan _ a) b = go _ _ u b refl refl
   where
     go : (e : Command) (texts : List (List ℕ)) (u : Outcome) → ComesTo e texts u → e ≡ commands.Check c → texts ≡ x ∷ y ∷ plan ∷ [] → o ≡ u
@@ -115,6 +120,7 @@ outcome_once _ _ o u (checked c x y plan _ a) b = go _ _ u b refl refl
     go _ _ u (solved d v w more _ b) same at = absurd cc
     go _ _ u (searched d v w _ b) same at = absurd cc
     go _ _ u (measured d v w _ b) same at = absurd cc
+    go _ _ u (benched d _ b) same at = absurd cc
 outcome_once _ _ o u (lifted c x y merges plan _ a) b = go _ _ u b refl refl
   where
     go : (e : Command) (texts : List (List ℕ)) (u : Outcome) → ComesTo e texts u → e ≡ commands.Lift c → texts ≡ x ∷ y ∷ (merges ++ plan ∷ []) → o ≡ u
@@ -132,6 +138,7 @@ outcome_once _ _ o u (lifted c x y merges plan _ a) b = go _ _ u b refl refl
     go _ _ u (solved d v w more _ b) same at = absurd cc
     go _ _ u (searched d v w _ b) same at = absurd cc
     go _ _ u (measured d v w _ b) same at = absurd cc
+    go _ _ u (benched d _ b) same at = absurd cc
 outcome_once _ _ o u (solved c x y merges _ a) b = go _ _ u b refl refl
   where
     go : (e : Command) (texts : List (List ℕ)) (u : Outcome) → ComesTo e texts u → e ≡ commands.Solve c → texts ≡ x ∷ y ∷ merges → o ≡ u
@@ -148,6 +155,7 @@ outcome_once _ _ o u (solved c x y merges _ a) b = go _ _ u b refl refl
         solved_once c x y merges o u a (subst (λ t. SolvesTexts c x y t u) others (subst (λ t. SolvesTexts c x t more u) second (subst (λ t. SolvesTexts c t w more u) first (subst (λ z. SolvesTexts z v w more u) command b))))
     go _ _ u (searched d v w _ b) same at = absurd cc
     go _ _ u (measured d v w _ b) same at = absurd cc
+    go _ _ u (benched d _ b) same at = absurd cc
 outcome_once _ _ o u (searched c x y _ a) b = go _ _ u b refl refl
   where
     go : (e : Command) (texts : List (List ℕ)) (u : Outcome) → ComesTo e texts u → e ≡ commands.Classical c → texts ≡ x ∷ y ∷ [] → o ≡ u
@@ -163,6 +171,7 @@ outcome_once _ _ o u (searched c x y _ a) b = go _ _ u b refl refl
         let second : w ≡ y = cc in
         classical_once c x y o u a (subst (λ t. ClassicalTexts c x t u) second (subst (λ t. ClassicalTexts c t w u) first (subst (λ z. ClassicalTexts z v w u) command b)))
     go _ _ u (measured d v w _ b) same at = absurd cc
+    go _ _ u (benched d _ b) same at = absurd cc
 outcome_once _ _ o u (measured c x y _ a) b = go _ _ u b refl refl
   where
     go : (e : Command) (texts : List (List ℕ)) (u : Outcome) → ComesTo e texts u → e ≡ commands.Width c → texts ≡ x ∷ y ∷ [] → o ≡ u
@@ -178,6 +187,19 @@ outcome_once _ _ o u (measured c x y _ a) b = go _ _ u b refl refl
         let first : v ≡ x = cc in
         let second : w ≡ y = cc in
         measured_once c x y o u a (subst (λ t. MeasuresTexts c x t u) second (subst (λ t. MeasuresTexts c t w u) first (subst (λ z. MeasuresTexts z v w u) command b)))
+    go _ _ u (benched d _ b) same at = absurd cc
+outcome_once _ _ o u (benched c _ a) b = go _ _ u b refl refl
+  where
+    go : (e : Command) (texts : List (List ℕ)) (u : Outcome) → ComesTo e texts u → e ≡ commands.Bench c → texts ≡ [] → o ≡ u
+    go _ _ u (translated d v w more _ b) same at = absurd cc
+    go _ _ u (merged d v w _ b) same at = absurd cc
+    go _ _ u (stripped d v _ b) same at = absurd cc
+    go _ _ u (checked d v w t _ b) same at = absurd cc
+    go _ _ u (lifted d v w more t _ b) same at = absurd cc
+    go _ _ u (solved d v w more _ b) same at = absurd cc
+    go _ _ u (searched d v w _ b) same at = absurd cc
+    go _ _ u (measured d v w _ b) same at = absurd cc
+    go _ _ u (benched d _ b) same at = let command : d ≡ c = cc in benches_once c o u a (subst (λ z. Benches z u) command b)
 
 -- names have one list of contents
 held_once : (m : FileMap) (names ts us : List (List ℕ)) → map (get m) names ≡ map Some ts → map (get m) names ≡ map Some us → ts ≡ us

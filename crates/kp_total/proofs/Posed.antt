@@ -1,11 +1,11 @@
--- What a run of `solve` or of `classical` is about is one pair of trees, and one table.
-use Rattle.std.proofs.Common.{◌≡◌, ℕ, List, sym, ◌∙◌, subst}
+-- What a run of `solve`, of `classical` or of `bench` is about is one pair of trees, and one table.
+use Rattle.std.proofs.Common.{◌≡◌, ℕ, List, [], refl, sym, ◌∙◌, subst}
 use Rattle.kp_base.specs.declared.ground.TagTable.{TagTable}
 use Rattle.kp_grammar.specs.declared.tree.Word.{Word}
 use Rattle.kp_grammar.specs.Trees.{Domain, Problem}
 use Rattle.kp_given.specs.Translations.{ground_of, initial_of}
 use Rattle.kp_outside.specs.Outside.{FileMap}
-use Rattle.kp_words.specs.Names.{Source}
+use Rattle.kp_words.specs.Names.{Source, of_mode}
 use Rattle.kp_prepared.specs.Texts.{HaveTrees}
 use Rattle.kp_prepared.proofs.OneText.{same_domain, same_problem}
 use Rattle.kp_inputs.specs.Tables.{HasTable}
@@ -13,6 +13,7 @@ use Rattle.kp_inputs.proofs.OneTable.{one_table}
 use Rattle.kp_inputs.proofs.OnePlan.{some_alike}
 use Rattle.kp_run.specs.Solved.{HasTask}
 use Rattle.kp_total.specs.Solving.{PosedOnce, ClassicalPosedOnce}
+use Rattle.kp_total.specs.Benching.{BenchPosedOnce}
 
 -- ---- one pair of trees, and one table
 
@@ -39,3 +40,13 @@ classical_posed_once m c x y =
     let first : x.given.domain ≡ y.given.domain = cc (sym x.given.domain_held ∙ y.given.domain_held) in
     let second : x.given.problem ≡ y.given.problem = cc (sym x.given.problem_held ∙ y.given.problem_held) in
     trees_once _ _ _ _ x.domain_tree y.domain_tree x.problem_tree y.problem_tree first second x.given.trees y.given.trees
+
+pub bench_posed_once : BenchPosedOnce
+bench_posed_once c x y =
+    let trees = trees_once _ _ _ _ x.domain_tree y.domain_tree x.problem_tree y.problem_tree refl refl x.trees y.trees in
+    (trees.0, trees.1, mode_table_once trees.0 trees.1 x.has_table)
+  where
+    mode_table_once : x.domain_tree ≡ y.domain_tree → x.problem_tree ≡ y.problem_tree → HasTable (ground_of x.domain_tree x.problem_tree) (initial_of x.domain_tree x.problem_tree) (of_mode c.mode) [] x.table → x.table ≡ y.table
+    mode_table_once first second has =
+        let there = subst (λ z. HasTable (ground_of y.domain_tree z) (initial_of y.domain_tree z) (of_mode c.mode) [] x.table) second (subst (λ z. HasTable (ground_of z x.problem_tree) (initial_of z x.problem_tree) (of_mode c.mode) [] x.table) first has) in
+        (one_table (ground_of y.domain_tree y.problem_tree) (initial_of y.domain_tree y.problem_tree) (of_mode c.mode) []).tables x.table y.table there y.has_table

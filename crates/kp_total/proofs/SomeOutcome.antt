@@ -36,7 +36,7 @@ use Rattle.kp_plans.specs.Printed.{plan_text}
 use Rattle.kp_plans.specs.Stripping.{IsFirstUnstripped}
 use Rattle.kp_plans.proofs.WholePlans.{always_some as plans_always_one}
 use Rattle.kp_printed.specs.Refusals.{nothing}
-use Rattle.kp_words.specs.Names.{of_mode, Translate, Lift, Solve, Width}
+use Rattle.kp_words.specs.Names.{of_mode, Translate, Lift, Solve, Width, Bench}
 use Rattle.kp_words.specs.declared.lent.CommandRef.TheVariants as commands
 use Rattle.kp_words.specs.Command.{file_of, if_named, inputs_of}
 use Rattle.kp_words.proofs.Decided.{words_decided}
@@ -48,7 +48,7 @@ use Rattle.kp_inputs.proofs.Ended.{found_below}
 use Rattle.kp_inputs.proofs.Commands.{by_table_some, by_plan_some}
 use Rattle.kp_complete.proofs.Failing.{lift_or_fail}
 use Rattle.kp_sound.proofs.Lifting.{there, lift_named}
-use Rattle.kp_run.specs.Outcomes.{shows_usage, translates, TranslatesGround, over, done, TranslatesTrees, ListsMerges, MergesTrees, prints, StripsText, too_long, no_plan, no_strip, strips, tells, TellsJudged, ChecksTrees, failing_step, unlifted, LiftsActions, lifts, fails, LiftsPlan, no_task, with_task, LiftsTrees, SolvesTrees, tells_width, no_report, with_report, MeasuresTrees, ComesTo, translated, merged, checked, lifted, solved, measured, usage, of_command}
+use Rattle.kp_run.specs.Outcomes.{shows_usage, translates, TranslatesGround, over, done, TranslatesTrees, ListsMerges, MergesTrees, prints, StripsText, too_long, no_plan, no_strip, strips, tells, TellsJudged, ChecksTrees, failing_step, unlifted, LiftsActions, lifts, fails, LiftsPlan, no_task, with_task, LiftsTrees, SolvesTrees, tells_width, no_report, with_report, MeasuresTrees, ComesTo, translated, merged, checked, lifted, solved, measured, benched, usage, of_command}
 use Rattle.kp_run.specs.Outcomes as outcomes
 use Rattle.kp_total.specs.Laws.{CommandsHaveAnOutcome, HasSomeOutcome}
 use Rattle.kp_given.proofs.Tables.{tables_written}
@@ -57,7 +57,9 @@ use Rattle.kp_inputs.proofs.TablesFor.{table_for}
 use Rattle.kp_solving.specs.Solving.{SolvesGround, over as too_large}
 use Rattle.kp_run.proofs.Soundness.{problem_of}
 use Rattle.kp_total.proofs.SomeStart.{some_comes}
-use Rattle.kp_total.proofs.SomeSearch.{some_search, some_classical_comes}
+use Rattle.kp_machine.proofs.Exclusive.{never_clashes}
+use Rattle.kp_bench.specs.Bench.{texts_of, usual_implicates, BenchesGround, over as too_large_to_bench, BenchesTrees}
+use Rattle.kp_total.proofs.SomeSearch.{some_search, some_bench, some_classical_comes}
 use Rattle.kp_run.proofs.Fitting.{task_fits}
 
 -- ---- tables and their tasks
@@ -143,6 +145,20 @@ module _ (limit : ℕ) (d : Domain Word) (p : Problem Word) (x y : List ℕ) (tr
     | inl r ↦ (tells_width (ground_of d p) c.bound r.0, with_report r.0 r.1 refl)
     | inr r ↦ (refuses (named_in (ground_of d p)) r.0, no_report r.0 r.1 refl)
   ]
+
+  -- ---- a run on a generated problem
+
+  of_bench_table : (c : Bench) (table : TagTable) → HasTable (ground_of d p) (initial_of d p) (of_mode c.mode) [] table → (o : Outcome) × BenchesGround c (ground_of d p) (initial_of d p) table o
+  of_bench_table c table has = elim (fits_or_refused (task_of (ground_of d p) table)) [
+    | inr r ↦ (refuses nothing r.0, too_large_to_bench r.0 r.1 refl)
+    | inl fits ↦
+        let for = table_for d p (of_mode c.mode) [] table ready.started.small fits has in
+        let writable = tables_written x y (problem_of x y d p trees) table for in
+        some_bench c (ground_of d p) (initial_of d p) table proper fits (task_fits d p table ready.started.small fits writable) (record { writable = writable; right = for.right; valid = for.valid; never_clashes = never_clashes (ground_of d p) (initial_of d p) ready.clash_free })
+  ]
+
+  of_bench : (c : Bench) → (o : Outcome) × BenchesTrees c d p o
+  of_bench c = by_table_some (ground_of d p) (initial_of d p) (of_mode c.mode) [] (BenchesGround c (ground_of d p) (initial_of d p)) proper refl (λ t has. of_bench_table c t has)
 
 -- ---- a plan file
 
@@ -242,9 +258,15 @@ some_outcome (commands.Width c) (x ∷ y ∷ []) many =
 some_outcome (commands.Width c) [] many = absurd (omega (arith, many))
 some_outcome (commands.Width c) (x ∷ []) many = absurd (omega (arith, many))
 some_outcome (commands.Width c) (x ∷ y ∷ z ∷ zs) many = absurd (omega (arith, many))
+some_outcome (commands.Bench c) [] many =
+    let x = (texts_of c).domain in
+    let y = (texts_of c).problem in
+    let t = some_comes usual_implicates x y (BenchesTrees c) (λ d p trees ready. of_bench usual_implicates d p x y trees ready c) in
+    (t.0, benched c t.0 t.1)
+some_outcome (commands.Bench c) (x ∷ xs) many = absurd (omega (arith, many))
 
 -- contents of names are as many as these
-as_many : (X Y Z : Type 0) (f : X → Z) (g : Y → Z) (xs : List X) (ys : List Y) → map f xs ≡ map g ys → length ys ≡ length xs
+pub as_many : (X Y Z : Type 0) (f : X → Z) (g : Y → Z) (xs : List X) (ys : List Y) → map f xs ≡ map g ys → length ys ≡ length xs
 as_many X Y Z f g [] [] e = omega arith
 as_many X Y Z f g [] (y ∷ ys) e = absurd cc
 as_many X Y Z f g (x ∷ xs) [] e = absurd cc

@@ -1,5 +1,5 @@
--- A search comes to some outcome, and so do two classical texts.
-use Rattle.std.proofs.Common.{◌≡◌, ◌⊎◌, ℕ, List, Option, Some, None, inl, inr, refl, ap, ◌∙◌, length}
+-- A search comes to some outcome, so does a run on a generated problem, and so do two classical texts.
+use Rattle.std.proofs.Common.{◌≡◌, ◌⊎◌, ℕ, List, Option, Some, None, Ok, inl, inr, refl, ap, ◌∙◌, length}
 use Rattle.kp_base.specs.declared.ground.Ground.{Ground}
 use Rattle.kp_base.specs.declared.ground.Initial.{Initial}
 use Rattle.kp_base.specs.declared.ground.TagTable.{TagTable}
@@ -33,6 +33,13 @@ use Rattle.kp_solving.specs.Solving.{Finds, solves, finds_none, spends, SolvesGr
 use Rattle.kp_search.proofs.ByAdded.{some_end_by_added}
 use Rattle.kp_solving.proofs.Searches.{ends_true}
 use Rattle.kp_solving.proofs.Operators.{have_names}
+use Rattle.kp_solving.specs.Operators.{acts_among}
+use Rattle.kp_words.specs.Names.{Bench}
+use Rattle.kp_bench.specs.Summary.{summary_text}
+use Rattle.kp_bench.specs.Bench.{sums_up, BenchesGround, searched as by_bench}
+use Rattle.kp_bench.specs.Working.{IsSafe}
+use Rattle.kp_bench.proofs.Working.{work}
+use Rattle.kp_bench.proofs.Told.{plan_told}
 use Rattle.kp_run.proofs.Fitting.{classical_fit}
 use Rattle.kp_total.proofs.SomeStart.{texts_decided}
 
@@ -48,6 +55,22 @@ some_search name budget g i table proper fits fit = let end = some_end_by_added 
         (solves name names.0 names.1, searched (Plan ops n) fits finds (names.0, names.1, names.2, refl))
     by NoPlan finds = let ls = coverages_decided g i table proper in (finds_none (no_plan_text ls.0), searched NoPlan fits finds (ls.0, ls.1, refl))
     by (Spent n) finds = (spends n, searched (Spent n) fits finds refl)
+
+-- ---- a run on a generated problem
+
+-- so does that of a task that is safe
+pub some_bench : (c : Bench) (g : Ground) (i : Initial) (table : TagTable) → AreProper g i → FitsLimits (task_of g table) usual → IsFit (task_of g table) → IsSafe g i table → (o : Outcome) × BenchesGround c g i table o
+some_bench c g i table proper fits fit safe = let end = some_end_by_added (task_of g table) c.budget fit in by end.0 end.1
+  where
+    by : (found : Found) → Finds (task_of g table) c.budget found → (o : Outcome) × BenchesGround c g i table o
+    by (Plan ops n) finds =
+        let ls = coverages_decided g i table proper in
+        let actions = acts_among (length g.actions) ops in
+        let works = work g i table ops safe (ends_true (task_of g table) c.budget (Plan ops n) fit finds) in
+        let o = sums_up (summary_text c g table ls.0 (length actions) n) in
+        (o, by_bench (Plan ops n) fits finds (plan_told c g i table ops actions n (Ok o) refl works (ls.0, ls.1, refl)))
+    by NoPlan finds = let ls = coverages_decided g i table proper in (finds_none (no_plan_text ls.0), by_bench NoPlan fits finds (ls.0, ls.1, refl))
+    by (Spent n) finds = (spends n, by_bench (Spent n) fits finds refl)
 
 -- ---- two classical trees
 

@@ -3,3 +3,4 @@ pub mod Follows
 pub mod Commands
 pub mod Solving
 pub mod Measuring
+pub mod Benching

@@ -1,14 +1,16 @@
 //! Laws of outcomes and runs: words have just one outcome on what is held (`specs/Laws.antt`), what
 //! follows from how a run ends (`specs/Follows.antt`), and with what a run of each command ends
-//! (`specs/Commands.antt`, `specs/Solving.antt`, `specs/Measuring.antt`).
+//! (`specs/Commands.antt`, `specs/Solving.antt`, `specs/Measuring.antt`, `specs/Benching.antt`).
 #![tactic(auto)]
 
+mod benching;
 mod commands;
 mod follows;
 mod laws;
 mod measuring;
 mod solving;
 
+pub use benching::{bench_posed_once, benches_are_answered, benches_are_true};
 pub use commands::{
     checks_are_answered, checks_are_true, clashes_are_answered, complete_is_true,
     lifts_are_answered, lifts_are_true, merges_are_listed, strips_are_answered,

@@ -1,0 +1,235 @@
+-- What a run of `bench` ends with, and what that says of its generated problem.
+use Rattle.std.proofs.Common.{◌≡◌, ℕ, true, false, List, [], ◌∷◌, Option, Some, None, option_map, Vec, length, map, slice_get, refl, sym, ap, ◌∙◌, subst}
+use Rattle.std.proofs.lemmas.Bool.{and_parts, false≢true}
+use Rattle.std.specs.declared.alloc.Global.{Global}
+use Rattle.kp_base.specs.declared.ground.Action.{Action}
+use Rattle.kp_base.specs.declared.ground.Ground.{Ground}
+use Rattle.kp_base.specs.declared.ground.Initial.{Initial}
+use Rattle.kp_base.specs.declared.ground.TagTable.{TagTable}
+use Rattle.kp_base.specs.declared.refused.Refused.{Refused}
+use Rattle.kp_base.specs.Covering.{AreUncovered}
+use Rattle.kp_base.specs.Machine.{stripped}
+use Rattle.kp_base.specs.Steps as on_atoms
+use Rattle.kp_grammar.specs.declared.tree.Word.{Word}
+use Rattle.kp_grammar.specs.Trees.{Domain, Problem}
+use Rattle.kp_meaning.specs.Steps.{Step}
+use Rattle.kp_meaning.specs.Plans.{HasProblem}
+use Rattle.kp_init.proofs.Runs.{plan_of_texts}
+use Rattle.kp_classic.specs.declared.task.Task.{Task}
+use Rattle.kp_classic.specs.Fits.{IsFit}
+use Rattle.kp_classic.specs.Steps.{start, succeeds}
+use Rattle.kp_cover.proofs.Answered.{none_uncovered}
+use Rattle.kp_decided.specs.Laws.{AreProper}
+use Rattle.kp_decided.proofs.Covered.{complete_with_none}
+use Rattle.kp_search.specs.declared.found.Found.{Found}
+use Rattle.kp_search.specs.declared.found.Found.TheVariants.{Plan, NoPlan, Spent}
+use Rattle.kp_task.specs.Task.{task_of}
+use Rattle.kp_task.specs.Accepted.{name_at}
+use Rattle.kp_task.specs.Writable.{IsWritableTask}
+use Rattle.kp_task.proofs.Plans.{plans_are_accepted}
+use Rattle.kp_given.specs.Translations.{ground_of, initial_of}
+use Rattle.kp_given.specs.Tables.{IsTableFor}
+use Rattle.kp_given.proofs.Starts.{states_are_models}
+use Rattle.kp_given.proofs.Tables.{tables_written}
+use Rattle.kp_sound.proofs.Lifting.{plans_lift}
+use Rattle.kp_printed.specs.Refusals.{nothing}
+use Rattle.kp_printed.specs.Searches.{no_plan_text}
+use Rattle.kp_outside.specs.Outside.{FileMap}
+use Rattle.kp_outcome.specs.declared.outcome.Outcome.{Outcome}
+use Rattle.kp_outcome.specs.declared.status.Status.{Status}
+use Rattle.kp_outcome.specs.declared.status.Status.TheVariants as status
+use Rattle.kp_outcome.specs.Ends.{Outside, IsAnswer}
+use Rattle.kp_words.specs.Names.{of_mode, Bench}
+use Rattle.kp_words.specs.declared.lent.CommandRef.{CommandRef as Command}
+use Rattle.kp_words.specs.declared.lent.CommandRef.TheVariants as commands
+use Rattle.kp_words.specs.Command.{IsBench}
+use Rattle.kp_words.proofs.OneCommand.{one_command}
+use Rattle.kp_prepared.specs.Prepared.{by_texts, by_trees, early, later}
+use Rattle.kp_inputs.specs.Tables.{no_table, with_table}
+use Rattle.kp_inputs.proofs.TablesFor.{table_for}
+use Rattle.kp_solving.specs.Solving.{Finds, finds_none, spends}
+use Rattle.kp_solving.proofs.Searches.{ends_true}
+use Rattle.kp_solving.proofs.Plans.{none_accepted}
+use Rattle.kp_bench.specs.Summary.{summary_text}
+use Rattle.kp_bench.specs.Bench.{texts_of, usual_implicates, sums_up, TellsBench, over, searched as by_search, Benches}
+use Rattle.kp_run.specs.Outcomes.{ComesTo, translated, merged, stripped as stripped_to, checked, lifted, solved, searched, measured, benched, IsDue, usage, of_command}
+use Rattle.kp_run.specs.Ends.{Ends}
+use Rattle.kp_run.specs.Solved.{Tells}
+use Rattle.kp_run.proofs.Fitting.{task_fits}
+use Rattle.kp_run.proofs.Solved.{proper, complete_text}
+use Rattle.kp_run.proofs.Soundness.{problem_of}
+use Rattle.kp_run.proofs.Whole.{IsNoRefusal, not_refused}
+use Rattle.kp_total.specs.Follows.{IsAnsweredBy}
+use Rattle.kp_total.specs.Benching.{IsPosedBench, its_ground, its_formula, its_task, IsWrittenPlan, IsSolvedBench, HasNoBenchPlan, IsSpentBench, BenchesAreTrue, BenchesAreAnswered}
+use Rattle.kp_total.proofs.Following.{answers_are_whole, ends_with}
+use Rattle.kp_total.proofs.SomeOutcome.{as_many}
+
+pub benches_are_answered : BenchesAreAnswered
+benches_are_answered words old new s ends m c o held is does = ends_with words old new s ends m o held (of_command (commands.Bench c) [] o is refl (benched c o does))
+
+-- ---- names
+
+-- actions that succeed one after the other have names
+have_names : (g : Ground) (ns : List ℕ) (s : on_atoms.State) → on_atoms.succeeds g s ns ≡ true → (plan : List Step) × (map (name_at g) ns ≡ map Some plan)
+have_names g [] s h = ([], refl)
+have_names g (n ∷ ns) s h =
+    let parts = and_parts (on_atoms.applicable (slice_get g.actions n) s) (on_atoms.succeeds g (on_atoms.next (slice_get g.actions n) s) ns) h in
+    by (slice_get g.actions n) refl parts.0 (have_names g ns (on_atoms.next (slice_get g.actions n) s) parts.1)
+  where
+    by : (o : Option Action) → slice_get g.actions n ≡ o → on_atoms.applicable o s ≡ true → ((plan : List Step) × (map (name_at g) ns ≡ map Some plan)) → (plan : List Step) × (map (name_at g) (n ∷ ns) ≡ map Some plan)
+    by None at may rest = absurd (false≢true may)
+    by (Some a) at may rest = let here : name_at g n ≡ Some a.name = ap (option_map (λ (x : Action). x.name)) at in (a.name ∷ rest.0, cc (here, rest.1))
+
+-- ---- what such a run came to
+
+-- what it was about, and what its search found
+record HasBenched (c : Bench) (o : Outcome) : Type 0 where
+  posed : IsPosedBench c
+  found : Found
+  finds : Finds (its_task posed) c.budget found
+  tells : TellsBench c (its_ground posed) (its_formula posed) posed.table found o
+
+of_texts : (c : Bench) (o : Outcome) → IsNoRefusal o → Benches c o → HasBenched c o
+of_texts c o answers (early (by_texts r why is)) = absurd (not_refused o nothing r is answers)
+of_texts c o answers (early (by_trees d p names r trees why is)) = absurd (not_refused o names r is answers)
+of_texts c o answers (later d p trees ready (no_table names r why is)) = absurd (not_refused o names r is answers)
+of_texts c o answers (later d p trees ready (with_table table has (over r why is))) = absurd (not_refused o nothing r is answers)
+of_texts c o answers (later d p trees ready (with_table table has (by_search found fits finds tells))) = record {
+  posed = record { domain_tree = d; problem_tree = p; table = table; trees = trees; prepared = ready; has_table = has; fits = fits };
+  found = found;
+  finds = finds;
+  tells = tells;
+}
+
+has_benched : (words : List (Vec ℕ Global)) (held : Option FileMap) (c : Bench) (o : Outcome) → IsBench words c → IsDue words held o → IsNoRefusal o → HasBenched c o
+has_benched words held c _ is (usage none) answers = absurd (none (commands.Bench c) is)
+has_benched words held c o is (of_command e texts _ so _ comes) answers = by e texts (one_command words (commands.Bench c) e is so) comes
+  where
+    by : (e : Command) (texts : List (List ℕ)) → commands.Bench c ≡ e → ComesTo e texts o → HasBenched c o
+    by _ _ same (translated d x y merges _ a) = absurd cc
+    by _ _ same (merged d x y _ a) = absurd cc
+    by _ _ same (stripped_to d x _ a) = absurd cc
+    by _ _ same (checked d x y plan _ a) = absurd cc
+    by _ _ same (lifted d x y merges plan _ a) = absurd cc
+    by _ _ same (solved d x y merges _ a) = absurd cc
+    by _ _ same (searched d x y _ a) = absurd cc
+    by _ _ same (measured d x y _ a) = absurd cc
+    by _ _ same (benched d _ a) = let it : d ≡ c = cc in of_texts c o answers (subst (λ z. Benches z o) it a)
+
+-- ---- what its answer says
+
+module _ (c : Bench) (o : Outcome) (x : HasBenched c o) (old new : Outside) (s : Status) (a : IsAnsweredBy o old new s) where
+  abbrev d : Domain Word
+  d = x.posed.domain_tree
+
+  abbrev p : Problem Word
+  p = x.posed.problem_tree
+
+  abbrev table : TagTable
+  table = x.posed.table
+
+  abbrev ground : Ground
+  ground = ground_of d p
+
+  abbrev formula : Initial
+  formula = initial_of d p
+
+  abbrev task : Task
+  task = task_of ground table
+
+  abbrev problem : HasProblem (texts_of c).domain (texts_of c).problem
+  problem = problem_of (texts_of c).domain (texts_of c).problem d p x.posed.trees
+
+  for : IsTableFor d p table
+  for = table_for d p (of_mode c.mode) [] table x.posed.prepared.started.small x.posed.fits x.posed.has_table
+
+  writable : IsWritableTask ground table
+  writable = tables_written (texts_of c).domain (texts_of c).problem problem table for
+
+  fit : IsFit task
+  fit = task_fits d p table x.posed.prepared.started.small x.posed.fits writable
+
+  fine : AreProper ground formula
+  fine = proper usual_implicates d p x.posed.trees.no_fault x.posed.prepared
+
+  -- the machine accepts nothing that the search doesn't find, so what is written has no plan
+  none_written : ((ops : List ℕ) → succeeds task (start task) ops ≡ false) → (steps : List Step) → IsWrittenPlan x.posed steps → ⊥
+  none_written none steps plan = let found = (plans_are_accepted ground table writable steps).0 plan in none_accepted ground table writable none steps found.0 found.1
+
+  answered : (u : Outcome) → o ≡ u → IsAnsweredBy u old new s
+  answered u is = subst (λ z. IsAnsweredBy z old new s) is a
+
+  is_solved : s ≡ status.Done → IsSolvedBench c old new
+  is_solved done = by x.found x.finds x.tells
+    where
+      by : (found : Found) → Finds task c.budget found → TellsBench c ground formula table found o → IsSolvedBench c old new
+      by (Plan ops n) finds sums =
+          let actions = stripped sums.machine in
+          let b = answered (sums_up (summary_text c ground table sums.uncovered (length actions) n)) sums.told in
+          let model = (states_are_models d p x.posed.trees.no_fault).0 x.posed.prepared.started.initial in
+          let names = have_names ground actions model.state (sums.works model.state model.model) in
+          let texts = plan_of_texts (texts_of c).domain (texts_of c).problem problem model.state model.model names.0 in
+          let many = as_many ℕ Step (Option Step) (name_at ground) Some actions names.0 names.1 in
+          record {
+            posed = x.posed;
+            ops = ops;
+            expanded = n;
+            ended = finds;
+            plan = names.0;
+            is_plan = texts.1 (actions, record { names = names.1; plan = sums.works });
+            uncovered = sums.uncovered;
+            are_uncovered = sums.are_uncovered;
+            complete = (λ none. complete_with_none ground formula table fine (subst (AreUncovered ground formula table) none sums.are_uncovered), λ whole. none_uncovered ground formula table sums.uncovered sums.are_uncovered whole);
+            told = subst (λ k. Tells old new (summary_text c ground table sums.uncovered k n)) (sym many) b.text_is;
+            put = b.puts_are;
+          }
+      by NoPlan finds (ls, are, is) = absurd (let b = answered (finds_none (no_plan_text ls)) is in let not_done = sym b.status_is ∙ done in cc)
+      by (Spent n) finds is = absurd (let b = answered (spends n) is in let not_done = sym b.status_is ∙ done in cc)
+
+  has_none : s ≡ status.Negative → HasNoBenchPlan c old new
+  has_none negative = by x.found x.finds x.tells
+    where
+      by : (found : Found) → Finds task c.budget found → TellsBench c ground formula table found o → HasNoBenchPlan c old new
+      by (Plan ops n) finds sums = absurd (let b = answered (sums_up (summary_text c ground table sums.uncovered (length (stripped sums.machine)) n)) sums.told in let not_no = sym b.status_is ∙ negative in cc)
+      by NoPlan finds (ls, are, is) =
+          let b = answered (finds_none (no_plan_text ls)) is in
+          let none = ends_true task c.budget NoPlan fit finds in
+          let exact = complete_text ground formula table ls fine are in
+          record {
+            posed = x.posed;
+            uncovered = ls;
+            are_uncovered = are;
+            none_written = none_written none;
+            complete = exact;
+            none_of_texts = λ printed steps plan.
+                let lifts = plans_lift (texts_of c).domain (texts_of c).problem problem table x.posed.prepared.started.initial fine.own_atoms for (exact.0 printed) steps plan in
+                none_accepted ground table writable none lifts.steps _ lifts.accepted;
+            told = b.text_is;
+            put = b.puts_are;
+          }
+      by (Spent n) finds is = absurd (let b = answered (spends n) is in let not_no = sym b.status_is ∙ negative in cc)
+
+  is_spent : s ≡ status.Spent → IsSpentBench c old new
+  is_spent spent = by x.found x.finds x.tells
+    where
+      by : (found : Found) → Finds task c.budget found → TellsBench c ground formula table found o → IsSpentBench c old new
+      by (Plan ops n) finds sums = absurd (let b = answered (sums_up (summary_text c ground table sums.uncovered (length (stripped sums.machine)) n)) sums.told in let not_spent = sym b.status_is ∙ spent in cc)
+      by NoPlan finds (ls, are, is) = absurd (let b = answered (finds_none (no_plan_text ls)) is in let not_spent = sym b.status_is ∙ spent in cc)
+      by (Spent n) finds is =
+          let b = subst (λ k. IsAnsweredBy (spends k) old new s) finds.expanded_are (answered (spends n) is) in
+          record { posed = x.posed; ended = subst (λ k. Finds task c.budget (Spent k)) finds.expanded_are finds; more = ends_true task c.budget (Spent n) fit finds; told = b.text_is; put = b.puts_are }
+
+-- ---- what it says of a run
+
+-- it came to an answer that is no refusal
+of_answer : (words : List (Vec ℕ Global)) (old new : Outside) (s : Status) → Ends words old new s → (c : Bench) → IsBench words c → IsAnswer s → ((r : Refused) → s ≡ status.Refused r → ⊥) → (o : Outcome) × HasBenched c o × IsAnsweredBy o old new s
+of_answer words old new s ends c is answer other =
+    let w = answers_are_whole words old new s ends answer in
+    (w.outcome, has_benched words old.held c w.outcome is w.due (λ r e. other r (w.answered.status_is ∙ e)), w.answered)
+
+pub benches_are_true : BenchesAreTrue
+benches_are_true words old new s ends c is = record {
+  done = λ done. let x = of_answer words old new s ends c is (subst IsAnswer (sym done) tt) (λ r e. absurd (let f = sym done ∙ e in cc)) in is_solved c x.0 x.1 old new s x.2 done;
+  negative = λ negative. let x = of_answer words old new s ends c is (subst IsAnswer (sym negative) tt) (λ r e. absurd (let f = sym negative ∙ e in cc)) in has_none c x.0 x.1 old new s x.2 negative;
+  spent = λ spent. let x = of_answer words old new s ends c is (subst IsAnswer (sym spent) tt) (λ r e. absurd (let f = sym spent ∙ e in cc)) in is_spent c x.0 x.1 old new s x.2 spent;
+}

@@ -1,0 +1,292 @@
+-- A run of `bench line 2 --mode k0`: it ends with Negative, since from the empty tag nothing is known of where it is. The premises of what is said of such runs are met, from the bytes on.
+use Rattle.std.proofs.Common.{◌≡◌, ◌≤◌, ℕ, zero, suc, true, false, nat_eq, List, [], ◌∷◌, Some, None, Vec, take, length, slice_get, codes, inl, inr, refl, sym, ap, ◌∙◌, subst, arith}
+use Rattle.std.proofs.lemmas.Bool.{false≢true}
+use Rattle.std.specs.FinMap.{empty}
+use Rattle.std.specs.Fmt.{digits}
+use Rattle.std.specs.declared.alloc.Global.{Global}
+use lib.Utf8.{encode}
+use Rattle.kp_base.specs.declared.ground.Action.{Action}
+use Rattle.kp_base.specs.declared.ground.Effect.{Effect}
+use Rattle.kp_base.specs.declared.ground.Ground.{Ground}
+use Rattle.kp_base.specs.declared.ground.Initial.{Initial}
+use Rattle.kp_base.specs.declared.ground.TagTable.{TagTable}
+use Rattle.kp_base.specs.declared.limits.Mode.TheVariants as modes
+use Rattle.kp_base.specs.declared.lit.Lit.{Lit}
+use Rattle.kp_base.specs.Clashes.{Pairs, Clashes}
+use Rattle.kp_base.specs.Covering.{AreUncovered}
+use Rattle.kp_base.specs.Implicates.{IsNeverOver}
+use Rattle.kp_base.specs.Lists.{Member}
+use Rattle.kp_base.specs.Lit.{positive, negative}
+use Rattle.kp_base.specs.LitSet.{IsAscending}
+use Rattle.kp_base.specs.Steps.{State, is_model}
+use Rattle.kp_base.proofs.Lists.{member_at}
+use Rattle.kp_primes.specs.Included.{all_included}
+use Rattle.kp_primes.proofs.Answered.{never_over}
+use Rattle.kp_lex.specs.Bytes.{class_of}
+use Rattle.kp_lex.specs.Scanning.{cut_from}
+use Rattle.kp_grammar.specs.Symbols.{symbol_of}
+use Rattle.kp_grammar.specs.Parsing.{some_at, next_at}
+use Rattle.kp_grammar.specs.declared.tree.Word.{Word}
+use Rattle.kp_grammar.specs.Trees.{Typed, Term, Atom, Cond, conds_of, Eff, effs_of, Item, Schema, Domain, Problem}
+use Rattle.kp_grammar.specs.Grammar as grammar
+use Rattle.kp_grammar.proofs.ExampleTexts.{word_at}
+use Rattle.kp_meaning.specs.Numbering.{numbered_problem}
+use Rattle.kp_meaning.proofs.Texts.{tokens}
+use Rattle.kp_tree.specs.Files.{Reads}
+use Rattle.kp_classic.specs.declared.task.Task.{Task}
+use Rattle.kp_classic.specs.Fits.{IsFit}
+use Rattle.kp_classic.specs.States.{FactSet, has}
+use Rattle.kp_classic.specs.Steps.{Holding}
+use Rattle.kp_guide.specs.declared.rule.Rule.{Rule}
+use Rattle.kp_guide.specs.Added.{rules_of, goal_of, Costs}
+use Rattle.kp_guide.specs.Added.Costs.{none, given, by_rule}
+use Rattle.kp_search.specs.declared.found.Found.TheVariants.{NoPlan}
+use Rattle.kp_search.specs.Trace.{Entry, first, nothing}
+use Rattle.kp_search.specs.Trace.IsCourse.{lost}
+use Rattle.kp_search.specs.Laws.{by_added}
+use Rattle.kp_decided.proofs.Covered.{coverages_decided}
+use Rattle.kp_task.specs.Task.{task_of}
+use Rattle.kp_given.specs.Translations.{ground_of, initial_of}
+use Rattle.kp_given.specs.Tables.{empty_tag}
+use Rattle.kp_gen.specs.Lines.{text}
+use Rattle.kp_gen.specs.Line as line
+use Rattle.kp_printed.specs.Searches.{no_plan_text}
+use Rattle.kp_outside.specs.Outside.{with_bytes}
+use Rattle.kp_outcome.specs.declared.status.Status.TheVariants as status
+use Rattle.kp_outcome.specs.Ends.{Outside, whole}
+use Rattle.kp_line.specs.Words.{a_word, apart as apart_words, word as said_word, option as said_option}
+use Rattle.kp_line.specs.Words as line_words
+use Rattle.kp_words.specs.declared.source.Family.TheVariants as families
+use Rattle.kp_words.specs.Names.{Bench}
+use Rattle.kp_words.specs.declared.lent.CommandRef.TheVariants as commands
+use Rattle.kp_words.specs.Command.{IsBench}
+use Rattle.kp_words.proofs.Examples.{word}
+use Rattle.kp_prepared.specs.Texts.{HaveTrees}
+use Rattle.kp_prepared.specs.Prepared.{usual, IsPrepared, later}
+use Rattle.kp_inputs.specs.Tables.{by_mode, with_table}
+use Rattle.kp_solving.specs.Solving.{Finds, finds_none}
+use Rattle.kp_bench.specs.Bench.{Benches, searched as by_search}
+use Rattle.kp_run.specs.Outcomes.{benched, of_command}
+use Rattle.kp_run.specs.Ends.{Ends, came}
+use Rattle.kp_run.proofs.Computed.{reads_file}
+use Rattle.kp_run.proofs.Counted.{empty_tags_fit}
+use Rattle.kp_run.proofs.EmptyTags.{empty_tag_made}
+use Rattle.kp_run.proofs.ExampleOutcomes.{has_state}
+use Rattle.kp_run.proofs.Solved.{proper}
+use Rattle.kp_total.specs.Benching.{HasNoBenchPlan}
+use Rattle.kp_total.proofs.Benches.{benches_are_true}
+use Rattle.kp_total.proofs.ExampleCourses.{unreached}
+use Rattle.kp_total.proofs.ExampleFiles.{within, never_clashing}
+
+-- ---- words
+
+abbrev running : Bench
+running = record { family = families.Line; n = 2; mode = modes.K0; budget = 10000 }
+
+abbrev bench_words : List (Vec ℕ Global)
+bench_words = word (codes "bench") (omega arith) ∷ word (codes "line") (omega arith) ∷ word (codes "2") (omega arith) ∷ word (codes "--mode") (omega arith) ∷ word (codes "k0") (omega arith) ∷ []
+
+is_bench : IsBench bench_words running
+unfolding encode digits
+is_bench = record {
+  rest = codes "line" ∷ codes "2" ∷ codes "--mode" ∷ codes "k0" ∷ [];
+  utf8 = ((codes "bench", (refl, refl)), ((codes "line", (refl, refl)), ((codes "2", (refl, refl)), ((codes "--mode", (refl, refl)), ((codes "k0", (refl, refl)), tt)))));
+  words_are = refl;
+  says = record {
+    places = codes "line" ∷ codes "2" ∷ [];
+    values = Some (codes "k0") ∷ None ∷ [];
+    line = record { said = said_word (codes "line") ∷ said_word (codes "2") ∷ said_option (codes "mode") (codes "k0") ∷ []; says = a_word _ _ _ refl (a_word _ _ _ refl (apart_words (codes "mode") (codes "k0") _ _ refl refl line_words.nothing)); places_are = refl; known = refl; once = refl; values_are = refl };
+    are_so = record { mode = Some (codes "k0"); budget = None; places_are = refl; values_are = refl; size = record { at_least = omega arith; at_most = omega arith }; says_mode = refl; says_budget = refl };
+  };
+}
+
+-- ---- two texts
+
+abbrev cells : List ℕ
+cells = codes "(define (domain line)\n(:requirements :typing :conditional-effects)\n(:types cell)\n(:predicates (at ?c - cell) (next ?b - cell ?a - cell))\n(:action left\n:parameters ()\n:effect (forall (?b - cell ?a - cell) (when (and (at ?b) (next ?b ?a)) (and (at ?a) (not (at ?b)))))\n)\n)\n"
+
+abbrev typed : List ℕ → ℕ → ℕ → Typed Word
+typed name byte kind = record { word = word_at name byte; kinds = word_at (codes "cell") kind ∷ [] }
+
+-- an atom of variables, or of names, at its byte
+abbrev of_variables : List ℕ → ℕ → List (Term Word) → Atom Word
+of_variables head byte terms = record { head = word_at head byte; terms = terms }
+
+abbrev left_schema : Schema Word
+left_schema = record {
+  name = word_at (codes "left") 146;
+  params = [];
+  pre = Cond.all (conds_of []);
+  effect = Eff.each (typed (codes "?b") 183 188 ∷ typed (codes "?a") 193 198 ∷ [])
+      (Eff.when (Cond.all (conds_of (Cond.atom true (of_variables (codes "at") 216 (Term.variable (word_at (codes "?b") 219) ∷ [])) ∷ Cond.atom true (of_variables (codes "next") 224 (Term.variable (word_at (codes "?b") 229) ∷ Term.variable (word_at (codes "?a") 232) ∷ [])) ∷ [])))
+      (Eff.both (effs_of (Eff.makes true (of_variables (codes "at") 243 (Term.variable (word_at (codes "?a") 246) ∷ [])) ∷ Eff.makes false (of_variables (codes "at") 256 (Term.variable (word_at (codes "?b") 259) ∷ [])) ∷ []))));
+}
+
+abbrev cells_tree : Domain Word
+cells_tree = record {
+  kinds = record { word = word_at (codes "cell") 75; kinds = [] } ∷ [];
+  constants = [];
+  predicates = record { head = word_at (codes "at") 95; params = typed (codes "?c") 98 103 ∷ [] }
+      ∷ record { head = word_at (codes "next") 110; params = typed (codes "?b") 115 120 ∷ typed (codes "?a") 125 130 ∷ [] } ∷ [];
+  schemas = left_schema ∷ [];
+}
+
+cells_read : Reads grammar.domain cells cells_tree
+unfolding cut_from class_of symbol_of some_at next_at
+cells_read = reads_file grammar.domain cells (tokens cells) cells_tree (omega arith) refl refl refl
+
+-- it is the text of the family
+are_cells : text line.domain_lines ≡ cells
+are_cells = refl
+
+abbrev two : List ℕ
+two = codes "(define (problem line)\n(:domain line)\n(:objects\nc1\nc2\n- cell)\n(:init\n(oneof\n(at c1)\n(at c2)\n)\n(next c2 c1)\n)\n(:goal (at c1))\n)\n"
+
+abbrev two_tree : Problem Word
+two_tree = record {
+  objects = typed (codes "c1") 48 56 ∷ typed (codes "c2") 51 56 ∷ [];
+  init = Item.one_of (word_at (codes "oneof") 70) (record { positive = true; atom = of_variables (codes "at") 77 (Term.name (word_at (codes "c1") 80) ∷ []) } ∷ record { positive = true; atom = of_variables (codes "at") 85 (Term.name (word_at (codes "c2") 88) ∷ []) } ∷ [])
+      ∷ Item.fact true (of_variables (codes "next") 95 (Term.name (word_at (codes "c2") 100) ∷ Term.name (word_at (codes "c1") 103) ∷ [])) ∷ [];
+  goal = Cond.atom true (of_variables (codes "at") 117 (Term.name (word_at (codes "c1") 120) ∷ []));
+}
+
+two_read : Reads grammar.problem two two_tree
+unfolding cut_from class_of symbol_of some_at next_at
+two_read = reads_file grammar.problem two (tokens two) two_tree (omega arith) refl refl refl
+
+-- so is this, with two cells
+are_two : text (line.problem_lines 2) ≡ two
+unfolding digits
+are_two = refl
+
+trees : HaveTrees (text line.domain_lines) (text (line.problem_lines 2)) cells_tree two_tree
+trees = record { domain_reads = subst (λ t. Reads grammar.domain t cells_tree) (sym are_cells) cells_read; problem_reads = subst (λ t. Reads grammar.problem t two_tree) (sym are_two) two_read; no_fault = record { domain = refl; problem = refl } }
+
+abbrev g : Ground
+g = ground_of cells_tree two_tree
+
+abbrev i : Initial
+i = initial_of cells_tree two_tree
+
+-- ---- the limits
+
+-- two clauses in order, with few prime implicates
+few_of_two : (h : Initial) (x y : List Lit) → h.clauses ≡ x ∷ y ∷ [] → IsAscending x → IsAscending y → length (all_included [] (x ∷ [])) ≤ 4 → length (all_included [] (x ∷ y ∷ [])) ≤ 4 → IsNeverOver h 20000
+few_of_two h x y e up above one all = never_over h 20000 (all_included [] (take (length h.clauses) h.clauses)) (record {
+  so_far = refl;
+  sets = λ c m. sets c (subst (λ cs. Member cs c) (ap (λ (cs : List (List Lit)). take (length cs) cs) e) m);
+  within_limit = λ j le. subst (λ (cs : List (List Lit)). length (all_included [] (take j cs)) ≤ 20000) (sym e) (at j);
+})
+  where
+    sets : (c : List Lit) → Member (x ∷ y ∷ []) c → IsAscending c
+    sets c (inl same) = subst IsAscending same up
+    sets c (inr (inl same)) = subst IsAscending same above
+    sets c (inr (inr never)) = absurd never
+
+    at : (j : ℕ) → length (all_included [] (take j (x ∷ y ∷ []))) ≤ 20000
+    at zero = omega arith
+    at (suc zero) = omega (arith, one)
+    at (suc (suc j)) = omega (arith, all)
+
+-- ---- no clash
+
+abbrev left : Action
+left = record { name = record { head = codes "left"; objects = [] }; pre = []; effects = record { cond = positive 1 ∷ []; result = positive 0 } ∷ record { cond = positive 1 ∷ []; result = negative 1 } ∷ [] }
+
+-- it adds the first cell, and deletes the second
+left_free : (pairs : Pairs) (a : Action) (atom k j : ℕ) → Member (left ∷ []) a → Clashes pairs a atom k j → ⊥
+left_free pairs a atom k j (inr never) c = absurd never
+left_free pairs a atom k j (inl same) c = apart (subst (λ (x : Action). Clashes pairs x atom k j) (sym same) c)
+  where
+    adds : (e : Effect) → Member left.effects e → e.result ≡ positive atom → 0 ≡ atom
+    adds e (inl m) is = ap (λ (l : Lit). l.atom.0) (ap (λ (x : Effect). x.result) m ∙ is)
+    adds e (inr (inl m)) is = absurd (false≢true (ap (λ (l : Lit). l.positive) (ap (λ (x : Effect). x.result) m ∙ is)))
+    adds e (inr (inr never)) is = absurd never
+
+    deletes : (e : Effect) → Member left.effects e → e.result ≡ negative atom → 1 ≡ atom
+    deletes e (inl m) is = absurd (false≢true (sym (ap (λ (l : Lit). l.positive) (ap (λ (x : Effect). x.result) m ∙ is))))
+    deletes e (inr (inl m)) is = ap (λ (l : Lit). l.atom.0) (ap (λ (x : Effect). x.result) m ∙ is)
+    deletes e (inr (inr never)) is = absurd never
+
+    apart : Clashes pairs left atom k j → ⊥
+    apart x =
+        let first_ = adds x.adding (member_at left.effects k x.adding x.add_at) x.adds in
+        let second_ = deletes x.deleting (member_at left.effects j x.deleting x.delete_at) x.deletes in
+        omega (arith, first_, second_)
+
+-- it is at the first cell
+unfoldable at_first : State
+at_first n = nat_eq n 0
+
+first_start : is_model i at_first ≡ true
+unfolding at_first
+first_start = refl
+
+prepared : IsPrepared 20000 cells_tree two_tree
+prepared = record {
+  started = record {
+    small = within (numbered_problem cells_tree two_tree) usual 24 2 (omega arith) (omega arith) (omega arith) (omega arith) refl refl refl refl;
+    counted = few_of_two i (positive 0 ∷ positive 1 ∷ []) (negative 0 ∷ negative 1 ∷ []) refl (omega arith, tt) (omega arith, tt) (omega arith) (omega arith);
+    initial = has_state cells_tree two_tree trees.no_fault at_first first_start;
+  };
+  clash_free = never_clashing cells_tree two_tree left_free;
+}
+
+-- ---- the search
+
+abbrev table : TagTable
+table = empty_tag cells_tree two_tree
+
+abbrev task : Task
+task = task_of g table
+
+-- a fact that doesn't hold and that rules add only from another isn't reached where that isn't
+not_from : (rules : List Rule) (s : Holding) (f k : ℕ) → s f ≡ false → ((r : Rule) → Member rules r → r.fact ≡ f → r.needs ≡ k ∷ []) → ((n : ℕ) → Costs rules s (k ∷ []) n → ⊥) → (fs xs : List ℕ) (n : ℕ) → Costs rules s xs n → xs ≡ f ∷ fs → ⊥
+not_from rules s f k off needs without fs _ _ none e = absurd cc
+not_from rules s f k off needs without fs _ _ (given x gs n holds rest) e = let same : x ≡ f = cc in absurd (false≢true (sym off ∙ subst (λ z. s z ≡ true) same holds))
+not_from rules s f k off needs without fs _ _ (by_rule r m gs n of_rules reach rest) e = let same : r.fact ≡ f = cc in without m (subst (λ xs. Costs rules s xs m) (needs r of_rules same) reach)
+
+-- that it is at the second cell isn't known, and no rule adds it
+second_lost : (n : ℕ) → Costs (rules_of task) (has (first task).hold) (2 ∷ []) n → ⊥
+second_lost n costs = unreached (rules_of task) (has (first task).hold) 2 refl no_rule [] (2 ∷ []) n costs refl
+  where
+    no_rule : (r : Rule) → Member (rules_of task) r → r.fact ≡ 2 → ⊥
+    no_rule r (inl m) is = let e : 0 ≡ 2 = ap (λ (x : Rule). x.fact) m ∙ is in omega (arith, e)
+    no_rule r (inr (inl m)) is = let e : 3 ≡ 2 = ap (λ (x : Rule). x.fact) m ∙ is in omega (arith, e)
+    no_rule r (inr (inr never)) is = absurd never
+
+-- so the first cell isn't reached
+goal_lost : (n : ℕ) → Costs (rules_of task) (has (first task).hold) (goal_of task) n → ⊥
+goal_lost n costs = not_from (rules_of task) (has (first task).hold) 0 2 refl from_second second_lost [] (goal_of task) n costs refl
+  where
+    from_second : (r : Rule) → Member (rules_of task) r → r.fact ≡ 0 → r.needs ≡ 2 ∷ []
+    from_second r (inl m) is = ap (λ (x : Rule). x.needs) (sym m)
+    from_second r (inr (inl m)) is = absurd (let e : 3 ≡ 0 = ap (λ (x : Rule). x.fact) m ∙ is in omega (arith, e))
+    from_second r (inr (inr never)) is = absurd never
+
+found_none : Finds task 10000 NoPlan
+found_none = record { course = nothing; is = lost goal_lost; empty = λ n e w. by n e w.there }
+  where
+    by : (n : ℕ) (e : Entry) → slice_get [] n ≡ Some e → ⊥
+    by zero e there = absurd cc
+    by (suc n) e there = absurd cc
+
+-- ---- the run
+
+ls : (ls : List Lit) × AreUncovered g i table ls
+ls = coverages_decided g i table (proper 20000 cells_tree two_tree trees.no_fault prepared)
+
+comes : Benches running (finds_none (no_plan_text ls.0))
+comes = later cells_tree two_tree trees prepared (with_table table (by_mode modes.K0 table (empty_tag_made cells_tree two_tree)) (by_search NoPlan (empty_tags_fit cells_tree two_tree prepared.started.small) found_none (ls.0, ls.1, refl)))
+
+abbrev before : Outside
+before = record { held = Some empty; told = Some []; get_faults = λ q. 0; put_faults = λ q. 0; write_faults = 0 }
+
+abbrev after : Outside
+after = record { held = Some empty; told = with_bytes (Some []) (no_plan_text ls.0); get_faults = λ q. 0; put_faults = λ q. 0; write_faults = 0 }
+
+ends : Ends bench_words before after status.Negative
+ends = came (finds_none (no_plan_text ls.0)) (of_command (commands.Bench running) [] (finds_none (no_plan_text ls.0)) is_bench refl (benched running (finds_none (no_plan_text ls.0)) comes)) (whole refl (record { gets = λ q. refl; puts = λ q. refl; writes = refl }) refl refl)
+
+has_none : HasNoBenchPlan running before after
+has_none = (benches_are_true bench_words before after status.Negative ends running is_bench).negative refl
