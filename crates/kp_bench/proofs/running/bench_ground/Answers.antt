@@ -1,4 +1,4 @@
-use Rattle.std.proofs.Common.{[], subst, IfOk}
+use Rattle.std.proofs.Common.{[], subst}
 use Rattle.kp_primes.specs.Held.{formula}
 use Rattle.kp_given.specs.Translations.{initial_of}
 use Rattle.kp_words.specs.Names.{of_mode, Bench}
@@ -34,8 +34,8 @@ returns-in-Ok c i same =
     (grounds_by t g (formula c.args.prepared.now.primes) i c.in-Ok.table c.bench_table.result same c.bench_table.ensures)
 
 -- there is none
-pub returns-in-Err : goal.returns-in-Err
-returns-in-Err c i same =
+pub returns : goal.returns
+returns c i same =
     let g = c.args.prepared.now.ground in
     let t = c.args.command.now in
     let answers = subst (λ (k : Bench). AnswersTable g i (of_mode k.mode) [] c.table_of.result) c.command.view_is (c.table_of.ensures (of_mode _) [] i (from_mode _) same) in

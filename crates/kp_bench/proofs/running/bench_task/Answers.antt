@@ -1,4 +1,4 @@
-use Rattle.std.proofs.Common.{subst, IfOk}
+use Rattle.std.proofs.Common.{subst}
 use Rattle.kp_primes.specs.Held.{formula}
 use Rattle.kp_words.specs.Names.{Bench}
 use Rattle.kp_search.specs.Ends.{Tells}

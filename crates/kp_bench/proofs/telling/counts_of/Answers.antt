@@ -10,4 +10,4 @@ pub unreachable-requires : goal.unreachable-requires
 unreachable-requires c =
     let task = task_of c.args.ground.now c.args.table.now in
     let stops = subst (λ s. StopsTask task c.usual.result s) c.in-Err-Refused.field-0-is c.in-Err-Refused.ensures in
-    task_or_within task usual _ (subst (λ m. RefusesTask task m _) c.usual.ensures stops) c.requires
+    task_or_within task usual c.in-Err-Refused.field-0-0 (subst (λ m. RefusesTask task m c.in-Err-Refused.field-0-0) c.usual.ensures stops) c.requires

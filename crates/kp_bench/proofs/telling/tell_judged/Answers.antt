@@ -1,4 +1,4 @@
-use Rattle.std.proofs.Common.{◌≡◌, ℕ, List, length, sym, subst, IfOk}
+use Rattle.std.proofs.Common.{◌≡◌, List, sym, subst, IfOk}
 use Rattle.kp_base.specs.declared.lit.Lit.{Lit}
 use Rattle.kp_base.specs.Covering.{AreUncovered}
 use Rattle.kp_base.specs.Steps.{IsGroundPlan}
@@ -11,8 +11,8 @@ use Rattle.kp_bench.proofs.Told.{plan_told}
 use Rattle.kp_bench.proofs.telling.tell_judged.Goals as goal
 
 -- the check says yes
-pub returns-in-Yes : goal.returns-in-Yes
-returns-in-Yes c =
+pub returns : goal.returns
+returns c =
     let x = c.args.prepared.now in
     let g = x.ground in
     let i = formula x.primes in
