@@ -186,7 +186,8 @@ few_of_two h x y e up above one all = never_over h 20000 (all_included [] (take 
     at : (j : ℕ) → length (all_included [] (take j (x ∷ y ∷ []))) ≤ 20000
     at zero = omega arith
     at (suc zero) = omega (arith, one)
-    at (suc (suc j)) = omega (arith, all)
+    at (suc (suc zero)) = omega (arith, all)
+    at (suc (suc (suc j))) = omega (arith, all)
 
 -- ---- no clash
 
