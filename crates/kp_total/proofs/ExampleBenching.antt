@@ -34,8 +34,7 @@ use Rattle.kp_meaning.specs.Numbering.{numbered_problem}
 use Rattle.kp_meaning.proofs.Texts.{tokens}
 use Rattle.kp_tree.specs.Files.{Reads}
 use Rattle.kp_classic.specs.declared.task.Task.{Task}
-use Rattle.kp_classic.specs.Fits.{IsFit}
-use Rattle.kp_classic.specs.States.{FactSet, has}
+use Rattle.kp_classic.specs.States.{has}
 use Rattle.kp_classic.specs.Steps.{Holding}
 use Rattle.kp_guide.specs.declared.rule.Rule.{Rule}
 use Rattle.kp_guide.specs.Added.{rules_of, goal_of, Costs}
@@ -43,7 +42,6 @@ use Rattle.kp_guide.specs.Added.Costs.{none, given, by_rule}
 use Rattle.kp_search.specs.declared.found.Found.TheVariants.{NoPlan}
 use Rattle.kp_search.specs.Trace.{Entry, first, nothing}
 use Rattle.kp_search.specs.Trace.IsCourse.{lost}
-use Rattle.kp_search.specs.Laws.{by_added}
 use Rattle.kp_decided.proofs.Covered.{coverages_decided}
 use Rattle.kp_task.specs.Task.{task_of}
 use Rattle.kp_given.specs.Translations.{ground_of, initial_of}
