@@ -1,5 +1,5 @@
 -- A run of `bench line 2 --mode k0`: it ends with Negative, since from the empty tag nothing is known of where it is. The premises of what is said of such runs are met, from the bytes on.
-use Rattle.std.proofs.Common.{◌≡◌, ◌≤◌, ℕ, zero, suc, true, false, nat_eq, List, [], ◌∷◌, Some, None, Vec, take, length, slice_get, codes, inl, inr, refl, sym, ap, ◌∙◌, subst, arith}
+use Rattle.std.proofs.Common.{◌≡◌, ◌≤◌, ℕ, zero, suc, true, false, not, nat_eq, List, [], ◌∷◌, Some, None, Vec, take, length, slice_get, codes, inl, inr, refl, sym, ap, ◌∙◌, subst, arith}
 use Rattle.std.proofs.lemmas.Bool.{false≢true}
 use Rattle.std.specs.FinMap.{empty}
 use Rattle.std.specs.Fmt.{digits}
@@ -13,12 +13,13 @@ use Rattle.kp_base.specs.declared.ground.TagTable.{TagTable}
 use Rattle.kp_base.specs.declared.limits.Mode.TheVariants as modes
 use Rattle.kp_base.specs.declared.lit.Lit.{Lit}
 use Rattle.kp_base.specs.Clashes.{Pairs, Clashes}
-use Rattle.kp_base.specs.Covering.{AreUncovered}
+use Rattle.kp_base.specs.Covering.{Meets, IsTarget, of_precondition, of_goal, IsCovered, AreUncovered}
 use Rattle.kp_base.specs.Implicates.{IsNeverOver}
 use Rattle.kp_base.specs.Lists.{Member}
 use Rattle.kp_base.specs.Lit.{positive, negative}
 use Rattle.kp_base.specs.LitSet.{IsAscending}
-use Rattle.kp_base.specs.Steps.{State, is_model}
+use Rattle.kp_base.specs.Relevance.{IsRelevant, either_value, IsCandidate}
+use Rattle.kp_base.specs.Steps.{State, holds, is_model}
 use Rattle.kp_base.proofs.Lists.{member_at}
 use Rattle.kp_primes.specs.Included.{all_included}
 use Rattle.kp_primes.proofs.Answered.{never_over}
@@ -34,8 +35,7 @@ use Rattle.kp_meaning.specs.Numbering.{numbered_problem}
 use Rattle.kp_meaning.proofs.Texts.{tokens}
 use Rattle.kp_tree.specs.Files.{Reads}
 use Rattle.kp_classic.specs.declared.task.Task.{Task}
-use Rattle.kp_classic.specs.Fits.{IsFit}
-use Rattle.kp_classic.specs.States.{FactSet, has}
+use Rattle.kp_classic.specs.States.{has}
 use Rattle.kp_classic.specs.Steps.{Holding}
 use Rattle.kp_guide.specs.declared.rule.Rule.{Rule}
 use Rattle.kp_guide.specs.Added.{rules_of, goal_of, Costs}
@@ -43,8 +43,6 @@ use Rattle.kp_guide.specs.Added.Costs.{none, given, by_rule}
 use Rattle.kp_search.specs.declared.found.Found.TheVariants.{NoPlan}
 use Rattle.kp_search.specs.Trace.{Entry, first, nothing}
 use Rattle.kp_search.specs.Trace.IsCourse.{lost}
-use Rattle.kp_search.specs.Laws.{by_added}
-use Rattle.kp_decided.proofs.Covered.{coverages_decided}
 use Rattle.kp_task.specs.Task.{task_of}
 use Rattle.kp_given.specs.Translations.{ground_of, initial_of}
 use Rattle.kp_given.specs.Tables.{empty_tag}
@@ -52,6 +50,7 @@ use Rattle.kp_gen.specs.Lines.{text}
 use Rattle.kp_gen.specs.Line as line
 use Rattle.kp_printed.specs.Searches.{no_plan_text}
 use Rattle.kp_outside.specs.Outside.{with_bytes}
+use Rattle.kp_outcome.specs.declared.outcome.Outcome.{Outcome}
 use Rattle.kp_outcome.specs.declared.status.Status.TheVariants as status
 use Rattle.kp_outcome.specs.Ends.{Outside, whole}
 use Rattle.kp_line.specs.Words.{a_word, apart as apart_words, word as said_word, option as said_option}
@@ -72,7 +71,6 @@ use Rattle.kp_run.proofs.Computed.{reads_file}
 use Rattle.kp_run.proofs.Counted.{empty_tags_fit}
 use Rattle.kp_run.proofs.EmptyTags.{empty_tag_made}
 use Rattle.kp_run.proofs.ExampleOutcomes.{has_state}
-use Rattle.kp_run.proofs.Solved.{proper}
 use Rattle.kp_total.specs.Benching.{HasNoBenchPlan}
 use Rattle.kp_total.proofs.Benches.{benches_are_true}
 use Rattle.kp_total.proofs.ExampleCourses.{unreached}
@@ -186,7 +184,8 @@ few_of_two h x y e up above one all = never_over h 20000 (all_included [] (take 
     at : (j : ℕ) → length (all_included [] (take j (x ∷ y ∷ []))) ≤ 20000
     at zero = omega arith
     at (suc zero) = omega (arith, one)
-    at (suc (suc j)) = omega (arith, all)
+    at (suc (suc zero)) = omega (arith, all)
+    at (suc (suc (suc j))) = omega (arith, all)
 
 -- ---- no clash
 
@@ -271,22 +270,86 @@ found_none = record { course = nothing; is = lost goal_lost; empty = λ n e w. b
     by zero e there = absurd cc
     by (suc n) e there = absurd cc
 
+-- ---- that it is at the first cell isn't covered
+
+-- it is at the second cell
+unfoldable at_second : State
+at_second n = nat_eq n 1
+
+second_start : is_model i at_second ≡ true
+unfolding at_second
+second_start = refl
+
+not_second : at_first 1 ≡ false
+unfolding at_first
+not_second = refl
+
+is_second : at_second 1 ≡ true
+unfolding at_second
+is_second = refl
+
+-- what the action does where it is at the second cell
+comes : IsRelevant g.actions (positive 1) (positive 0)
+comes = IsRelevant.condition (positive 1) (positive 0) (record { action = left; effect = record { cond = positive 1 ∷ []; result = positive 0 }; action_in = inl refl; effect_in = inl refl; condition = inl refl; result = refl })
+
+goes : IsRelevant g.actions (positive 1) (negative 1)
+goes = IsRelevant.condition (positive 1) (negative 1) (record { action = left; effect = record { cond = positive 1 ∷ []; result = negative 1 }; action_in = inl refl; effect_in = inr (inl refl); condition = inl refl; result = refl })
+
+-- whether it is there is relevant to its being at the first cell, and not known
+relevant : (l : Lit) → Member (either_value 1) l → IsRelevant g.actions l (positive 0)
+relevant l (inl e) = subst (λ z. IsRelevant g.actions z (positive 0)) e comes
+relevant l (inr (inl e)) = subst (λ z. IsRelevant g.actions z (positive 0)) e (IsRelevant.onward (negative 1) (positive 1) (positive 0) (IsRelevant.negation (positive 1) (negative 1) goes) comes)
+relevant l (inr (inr never)) = absurd never
+
+not_met : Meets i [] (either_value 1) → ⊥
+not_met x = by x.lit x.of_clause (λ s model. x.entailed s model refl)
+  where
+    by : (l : Lit) → Member (either_value 1) l → ((s : State) → is_model i s ≡ true → holds s l ≡ true) → ⊥
+    by l (inl e) known = false≢true (sym not_second ∙ subst (λ z. holds at_first z ≡ true) (sym e) (known at_first first_start))
+    by l (inr (inl e)) known = let denied = subst (λ z. holds at_second z ≡ true) (sym e) (known at_second second_start) in false≢true (sym (ap not is_second) ∙ denied)
+    by l (inr (inr never)) known = absurd never
+
+not_covered : IsCovered g i table (positive 0) → ⊥
+not_covered (IsCovered.by_empty_tag covers) = not_met (covers [] (either_value 1) (inl refl) (record { candidate = IsCandidate.unsettled 1 (omega arith) (λ one. false≢true (sym not_second ∙ (one at_first at_second first_start second_start ∙ is_second))); relevant = relevant }))
+not_covered (IsCovered.by_merge m there target valid covers) = absurd there
+
+-- it is the one target
+only_target : (l : Lit) → IsTarget g l → positive 0 ≡ l
+only_target l (of_precondition a m k) = by a m k
+  where
+    by : (a : Action) → Member (left ∷ []) a → Member a.pre l → positive 0 ≡ l
+    by a (inl e) k = absurd (subst (λ (x : Action). Member x.pre l) (sym e) k)
+    by a (inr never) k = absurd never
+only_target l (of_goal (inl e)) = e
+only_target l (of_goal (inr never)) = absurd never
+
+one_uncovered : AreUncovered g i table (positive 0 ∷ [])
+one_uncovered = record { exact = λ l. (there l, λ t. inl (only_target l t.0)); ascending = tt }
+  where
+    there : (l : Lit) → Member (positive 0 ∷ []) l → IsTarget g l × (IsCovered g i table l → ⊥)
+    there l (inl e) = subst (λ z. IsTarget g z × (IsCovered g i table z → ⊥)) e (of_goal (inl refl), not_covered)
+    there l (inr never) = absurd never
+
 -- ---- the run
 
-ls : (ls : List Lit) × AreUncovered g i table ls
-ls = coverages_decided g i table (proper 20000 cells_tree two_tree trees.no_fault prepared)
+abbrev no_plan : Outcome
+no_plan = finds_none (no_plan_text (positive 0 ∷ []))
 
-comes : Benches running (finds_none (no_plan_text ls.0))
-comes = later cells_tree two_tree trees prepared (with_table table (by_mode modes.K0 table (empty_tag_made cells_tree two_tree)) (by_search NoPlan (empty_tags_fit cells_tree two_tree prepared.started.small) found_none (ls.0, ls.1, refl)))
+benches : Benches running no_plan
+benches = later cells_tree two_tree trees prepared (with_table table (by_mode modes.K0 table (empty_tag_made cells_tree two_tree)) (by_search NoPlan (empty_tags_fit cells_tree two_tree prepared.started.small) found_none (positive 0 ∷ [], one_uncovered, refl)))
 
 abbrev before : Outside
 before = record { held = Some empty; told = Some []; get_faults = λ q. 0; put_faults = λ q. 0; write_faults = 0 }
 
 abbrev after : Outside
-after = record { held = Some empty; told = with_bytes (Some []) (no_plan_text ls.0); get_faults = λ q. 0; put_faults = λ q. 0; write_faults = 0 }
+after = record { held = Some empty; told = with_bytes (Some []) no_plan.text; get_faults = λ q. 0; put_faults = λ q. 0; write_faults = 0 }
 
 ends : Ends bench_words before after status.Negative
-ends = came (finds_none (no_plan_text ls.0)) (of_command (commands.Bench running) [] (finds_none (no_plan_text ls.0)) is_bench refl (benched running (finds_none (no_plan_text ls.0)) comes)) (whole refl (record { gets = λ q. refl; puts = λ q. refl; writes = refl }) refl refl)
+ends = came no_plan (of_command (commands.Bench running) [] no_plan is_bench refl (benched running no_plan benches)) (whole refl (record { gets = λ q. refl; puts = λ q. refl; writes = refl }) refl refl)
 
 has_none : HasNoBenchPlan running before after
 has_none = (benches_are_true bench_words before after status.Negative ends running is_bench).negative refl
+
+-- from the empty tag alone that isn't seen
+told : after.told ≡ Some (codes "no plan\nincomplete\n")
+told = refl
