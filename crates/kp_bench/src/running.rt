@@ -7,6 +7,7 @@ ghost use Rattle.kp_search.specs.declared.found.Found.{Found};
 ghost use Rattle.kp_task.specs.Task.{task_of};
 ghost use Rattle.kp_ktask.specs.Translated.{FitsLimits};
 ghost use Rattle.kp_words.specs.Names.{of_mode};
+ghost use Rattle.kp_words.specs.Options.{IsWithin};
 ghost use Rattle.kp_prepared.specs.Prepared.{usual, Comes, IsPreparedOf, IsUsable};
 ghost use Rattle.kp_inputs.specs.Tables.{ComesByTable};
 ghost use Rattle.kp_solving.specs.Solving.{Finds};
@@ -89,8 +90,9 @@ fn bench_texts(alloc: Global, command: &Words, texts: Texts) -> Result<Outcome, 
     }
 }
 
-/// What a run on a generated problem comes to. A size that isn't from 2 to 100 is want of memory.
+/// What a run on a generated problem of a size from 2 to 100 comes to.
 pub fn bench(alloc: Global, command: &Words) -> Result<Outcome, Memory>
+    requires { IsWithin 2 100 command.now.n }
     ensures { IfOk result (Benches command.now) }
 {
     let texts = texts_of(alloc, command.family, command.n)?;

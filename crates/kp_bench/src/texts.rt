@@ -1,6 +1,7 @@
 //! The texts of a generated problem, and what is read of them.
 ghost use Rattle.std.specs.Prelude.{◌≡◌, Some, IfOk};
 ghost use Rattle.kp_outside.specs.Outside.{IsFront, IsWithin};
+ghost use Rattle.kp_words.specs.Options.{IsWithin as IsOfRange};
 ghost use Rattle.kp_bench.specs.Bench.{family_texts};
 
 use kp_base::{Memory, Row, Texts};
@@ -12,13 +13,11 @@ use std::alloc::Global;
 // How many bytes of a text are read at most.
 const MOST: usize = 16_777_216;
 
-/// The texts of a family's problem. A size that isn't from 2 to 100 is want of memory.
+/// The texts of a family's problem.
 pub fn texts_of(alloc: Global, family: Family, n: u32) -> Result<Texts, Memory>
+    requires { IsOfRange 2 100 n }
     ensures { IfOk result (λ texts. texts ≡ family_texts family n) }
 {
-    if n < 2 || n > 100 {
-        return Err(Memory);
-    }
     match family {
         Family::Line => line_problem(alloc, n),
         Family::Bombs => bombs_problem(alloc, n),
