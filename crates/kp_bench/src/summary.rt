@@ -8,7 +8,7 @@ use itoa::Buffer;
 use kp_base::{Ground, Lit, Memory, Row, TagTable};
 use kp_plans::put;
 use kp_printed::put_coverage;
-use kp_words::Family;
+use kp_words::{Bench, Family};
 use std::alloc::Global;
 
 // A family as it is called.
@@ -60,7 +60,7 @@ fn put_plan(out: &mut Vec<u8>, steps: usize, expanded: u32) -> Result<(), Memory
 /// of a plan with so many steps that passed its check, so many states having been expanded.
 pub fn summary(
     alloc: Global,
-    command: &kp_words::Bench,
+    command: &Bench,
     ground: &Ground,
     table: &TagTable,
     counts: &[u8],

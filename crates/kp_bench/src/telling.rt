@@ -1,9 +1,7 @@
 //! What is told of what a search finds.
-ghost use Rattle.std.specs.Prelude.{◌≡◌, List, true, length, nat_lt, IfOk};
-ghost use Rattle.std.specs.List.{list_all};
+ghost use Rattle.std.specs.Prelude.{◌≡◌, List, IfOk};
 ghost use Rattle.kp_base.specs.declared.lit.Lit.{Lit as Literal};
 ghost use Rattle.kp_base.specs.Covering.{AreUncovered};
-ghost use Rattle.kp_check.specs.Judging.{AnswersJudged};
 ghost use Rattle.kp_primes.specs.Held.{formula};
 ghost use Rattle.kp_relevance.specs.Relevant.{ArePairsOf};
 ghost use Rattle.kp_task.specs.Task.{task_of};
@@ -11,7 +9,6 @@ ghost use Rattle.kp_ktask.specs.Translated.{FitsLimits};
 ghost use Rattle.kp_translation.specs.Translations.{translation_with};
 ghost use Rattle.kp_search.specs.Ends.{Tells};
 ghost use Rattle.kp_prepared.specs.Prepared.{usual, IsUsable};
-ghost use Rattle.kp_solving.specs.Operators.{acts_among};
 ghost use Rattle.kp_bench.specs.Summary.{summary_text};
 ghost use Rattle.kp_bench.specs.Bench.{sums_up, SumsUp, TellsBench};
 ghost use Rattle.kp_bench.specs.Working.{ArePlan, IsSafe};
@@ -85,43 +82,7 @@ fn sum_up(
     Ok(print_summary(alloc, text))
 }
 
-// What is told of a plan whose actions were judged. They work, since the plan's operators succeed.
-fn tell_judged(
-    alloc: Global,
-    command: &Bench,
-    prepared: &Prepared,
-    relevance: &Relevance,
-    table: &TagTable,
-    operators: &[u32],
-    expanded: u32,
-    numbers: &Row<u32>,
-    judged: Judged,
-) -> Result<Outcome, Memory>
-    requires usable { IsUsable prepared.now }
-    requires relevance { ArePairsOf prepared.now.ground relevance.now }
-    requires safe { IsSafe prepared.now.ground (formula prepared.now.primes) table.now }
-    requires fits { FitsLimits (task_of prepared.now.ground table.now) usual }
-    requires plan { ArePlan (task_of prepared.now.ground table.now) operators.now }
-    requires actions { numbers.now ≡ acts_among (length prepared.now.ground.actions) operators.now }
-    requires judged { AnswersJudged prepared.now.primes.atoms prepared.now.ground (formula prepared.now.primes) numbers.now judged }
-    ensures { IfOk result (SumsUp command.now prepared.now.ground (formula prepared.now.primes) table.now operators.now expanded) }
-{
-    let _ = operators;
-    match judged {
-        Judged::Yes => sum_up(
-            alloc,
-            command,
-            prepared,
-            relevance,
-            table,
-            numbers.len(),
-            expanded,
-        ),
-        Judged::No { .. } => unreachable!(),
-    }
-}
-
-// A plan is told: its actions are checked, and the summary is printed.
+// A plan is told: its actions are checked, and the summary is printed. They work, since its operators succeed.
 fn tell_plan(
     alloc: Global,
     command: &Bench,
@@ -139,18 +100,18 @@ fn tell_plan(
     ensures { IfOk result (SumsUp command.now prepared.now.ground (formula prepared.now.primes) table.now operators.now expanded) }
 {
     let numbers = actions_among(alloc, &prepared.ground, operators.slice())?;
-    let judged = judge(alloc, prepared, &numbers)?;
-    tell_judged(
-        alloc,
-        command,
-        prepared,
-        relevance,
-        table,
-        operators.slice(),
-        expanded,
-        &numbers,
-        judged,
-    )
+    match judge(alloc, prepared, &numbers)? {
+        Judged::Yes => sum_up(
+            alloc,
+            command,
+            prepared,
+            relevance,
+            table,
+            numbers.len(),
+            expanded,
+        ),
+        Judged::No { .. } => unreachable!(),
+    }
 }
 
 /// What is told of what the search of the task of a table finds, which is within the limits.
