@@ -1,7 +1,7 @@
 -- A run of `bench line 2 --mode models`: it ends with Done, with a plan of one step, merged over the two cells.
-use Rattle.std.proofs.Common.{◌≡◌, ◌≢◌, ◌<◌, ◌≤◌, ◌⊎◌, ℕ, zero, suc, Bool, ◌||◌, true, false, not, min, nat_eq, List, [], ◌∷◌, ◌++◌, Option, Some, None, Vec, filter, map, length, slice_get, codes, inl, inr, refl, sym, ap, ◌∙◌, subst, arith}
+use Rattle.std.proofs.Common.{◌≡◌, ◌<◌, ◌≤◌, ◌⊎◌, ℕ, zero, suc, Bool, ◌||◌, true, false, not, nat_eq, List, [], ◌∷◌, Some, None, Vec, filter, map, slice_get, codes, inl, inr, refl, sym, ap, ◌∙◌, subst, arith}
 use Rattle.std.proofs.lemmas.Bool.{and_parts, or_cases, eqb-true, false≢true, false_from_ne_true}
-use Rattle.std.specs.List.{list_any, list_all}
+use Rattle.std.specs.List.{list_any}
 use Rattle.std.specs.FinMap.{empty}
 use Rattle.std.specs.Fmt.{digits}
 use Rattle.std.specs.declared.alloc.Global.{Global}
@@ -12,14 +12,15 @@ use Rattle.kp_base.specs.declared.ground.TagRow.{TagRow}
 use Rattle.kp_base.specs.declared.ground.TagTable.{TagTable}
 use Rattle.kp_base.specs.declared.limits.Mode.TheVariants as modes
 use Rattle.kp_base.specs.declared.lit.Lit.{Lit}
-use Rattle.kp_base.specs.Covering.{AllMeet, IsTarget, AreUncovered, IsCov, of_goal}
+use Rattle.kp_base.specs.Covering.{Meets, IsTarget, IsCovered, AreUncovered, IsCov, of_goal}
 use Rattle.kp_base.specs.Entailed.{IsConsistent}
 use Rattle.kp_base.specs.Implicates.{IsImplicate, IsPrime}
-use Rattle.kp_base.specs.Lists.{Member, choices, each_once}
+use Rattle.kp_base.specs.declared.ground.Merge.{Merge}
+use Rattle.kp_base.specs.Lists.{Member, choices, each_once, signed}
 use Rattle.kp_base.specs.Machine.{MachineStep}
-use Rattle.kp_base.specs.Lit.{positive, negative, negated, has as has_lit}
-use Rattle.kp_base.specs.LitSet.{IsAscending, is_within, set_of, same_set}
-use Rattle.kp_base.specs.Relevance.{IsRelevant, either_value, IsCandidate, AreClausesFor}
+use Rattle.kp_base.specs.Lit.{positive, negative, has as has_lit}
+use Rattle.kp_base.specs.LitSet.{is_within, set_of, same_set}
+use Rattle.kp_base.specs.Relevance.{IsRelevant, either_value, IsCandidate, AreRelevant, IsClauseFor, AreClausesFor}
 use Rattle.kp_base.specs.Steps.{State, holds, is_model}
 use Rattle.kp_base.proofs.Lists.{all_member, any_member}
 use Rattle.kp_base.proofs.Lits.{has-member, member-has}
@@ -33,19 +34,18 @@ use Rattle.kp_guide.specs.declared.rule.Rule.{Rule}
 use Rattle.kp_guide.specs.Added.{rules_of, goal_of, Costs}
 use Rattle.kp_guide.specs.Added.Costs.{none, given, by_rule}
 use Rattle.kp_search.specs.declared.found.Found.TheVariants.{Plan}
-use Rattle.kp_search.specs.Trace.{Entry, Course, first, can, step, is_goal, one_entry, entry_after, is_taken, IsNext, WasTaken, with_expanded, Enters, IsCourse}
+use Rattle.kp_search.specs.Trace.{Entry, Course, first, step, one_entry, entry_after, is_taken, IsNext, WasTaken, with_expanded, IsCourse}
 use Rattle.kp_search.specs.Trace.Enters.{none as none_entered, off, enter}
 use Rattle.kp_search.specs.Trace.IsCourse.{begun, spread}
 use Rattle.kp_search.specs.Laws.{by_added}
 use Rattle.kp_cover.specs.Targets.{AreTargets}
 use Rattle.kp_merges.specs.declared.merge.FileMerge.{FileMerge}
 use Rattle.kp_modes.specs.declared.way.Way.{Way}
-use Rattle.kp_modes.specs.Assignments.{HasAtom, AreAtomsOf, AreAssignments}
+use Rattle.kp_modes.specs.Assignments.{HasAtom, AreAtomsOf}
 use Rattle.kp_modes.specs.Modes.{AreMergesBy, AreMergesInTurn, AreMergesOf, AreOtherwise, merge_of}
 use Rattle.kp_tags.specs.Tables.{HasClosure}
 use Rattle.kp_tags.specs.Made.{IsMade}
 use Rattle.kp_decided.proofs.Candidates.{clauses_decided}
-use Rattle.kp_decided.proofs.Covered.{coverages_decided}
 use Rattle.kp_decided.proofs.Tags.{tags_decided}
 use Rattle.kp_decided.specs.Laws.{AreProper, TellsOfTags}
 use Rattle.kp_task.specs.Task.{task_of}
@@ -66,7 +66,7 @@ use Rattle.kp_words.specs.declared.lent.CommandRef.TheVariants as commands
 use Rattle.kp_words.specs.Command.{IsBench}
 use Rattle.kp_words.proofs.Examples.{word}
 use Rattle.kp_prepared.specs.Prepared.{usual, later}
-use Rattle.kp_inputs.specs.Tables.{HasTable, by_mode, with_table}
+use Rattle.kp_inputs.specs.Tables.{by_mode, with_table}
 use Rattle.kp_inputs.proofs.TablesFor.{table_for}
 use Rattle.kp_solving.specs.Solving.{Finds}
 use Rattle.kp_solving.proofs.Searches.{ends_true}
@@ -150,13 +150,13 @@ below l m (IsRelevant.condition _ _ h) lt = by h.action h.action_in h.effect h.e
     by a (inr never) e k c = absurd never
     by a (inl same) e k c = of_these e (subst (λ (x : Action). Member x.effects e) (sym same) k) c
       where
-        one : (c : List Lit) → Member (positive 1 ∷ []) l → l.atom.0 < 2
-        one c (inl e) = subst (λ (z : Lit). z.atom.0 < 2) e (omega arith)
-        one c (inr never) = absurd never
+        second : Member (positive 1 ∷ []) l → l.atom.0 < 2
+        second (inl is) = subst (λ (z : Lit). z.atom.0 < 2) is (omega arith)
+        second (inr never) = absurd never
 
         of_these : (e : Effect) → Member left.effects e → Member e.cond l → l.atom.0 < 2
-        of_these e (inl e_is) c = one [] (subst (λ (x : Effect). Member x.cond l) (sym e_is) c)
-        of_these e (inr (inl e_is)) c = one [] (subst (λ (x : Effect). Member x.cond l) (sym e_is) c)
+        of_these e (inl is) c = second (subst (λ (x : Effect). Member x.cond l) (sym is) c)
+        of_these e (inr (inl is)) c = second (subst (λ (x : Effect). Member x.cond l) (sym is) c)
         of_these e (inr (inr never)) c = absurd never
 below l n (IsRelevant.onward _ m _ h k) lt = below l m h (below m n k lt)
 below _ _ (IsRelevant.negation l m h) lt = below l m h lt
@@ -422,21 +422,72 @@ merge_new w = by w.number w.entry w.taken w.there w.same
 found_plan : Finds task 10000 (Plan (0 ∷ 1 ∷ []) 2)
 found_plan = record { course = course_three; is = is_three; number = 3; entry = after_merge; next = merge_next; new = merge_new; goal = refl; ops_are = refl; expanded_are = refl }
 
+-- ---- the table is complete
+
+-- a tag that has all literals that hold in a state entails one of each relevant clause
+module _ (tag : List Lit) (s : State) (model : is_model i s ≡ true) (whole_tag : (l : Lit) → l.atom.0 < 2 → holds s l ≡ true → Member tag l) where
+  meets_with : (c : List Lit) (l : Lit) → Member c l → l.atom.0 < 2 → holds s l ≡ true → Meets i tag c
+  meets_with c l there lt h = record { lit = l; of_clause = there; entailed = λ u is all. all_member (holds u) tag l (whole_tag l lt h) all }
+
+  meets : (c : List Lit) → IsClauseFor g.actions 2 i (positive 0) c → Meets i tag c
+  meets c is = by c is.candidate is.relevant
+    where
+      by : (c : List Lit) → IsCandidate 2 i c → AreRelevant g.actions (positive 0) c → Meets i tag c
+      by c (IsCandidate.implicate _ is_prime long) each = let l = any_member (holds s) c (is_prime.implicate.holds_always s model) in meets_with c l.0 l.1 (below l.0 (positive 0) (each l.0 l.1) (omega arith)) l.2
+      by _ (IsCandidate.unsettled p lt differ) each = of_value (s p) refl
+        where
+          of_value : (b : Bool) → s p ≡ b → Meets i tag (either_value p)
+          of_value true e = meets_with (either_value p) (positive p) (inl refl) lt e
+          of_value false e = meets_with (either_value p) (negative p) (inr (inl refl)) lt (ap not e)
+
+whole_one : (l : Lit) → l.atom.0 < 2 → holds at_first l ≡ true → Member one l
+unfolding at_first
+whole_one l = by l.atom.0 l.positive
+  where
+    by : (p : ℕ) (b : Bool) → p < 2 → signed b (at_first p) ≡ true → Member one (record { atom = record { 0 = p }; positive = b })
+    by zero true lt h = inl refl
+    by zero false lt h = absurd (false≢true h)
+    by (suc zero) true lt h = absurd (false≢true h)
+    by (suc zero) false lt h = inr (inl refl)
+    by (suc (suc p)) b lt h = absurd (omega (arith, lt))
+
+whole_other : (l : Lit) → l.atom.0 < 2 → holds at_second l ≡ true → Member other l
+unfolding at_second
+whole_other l = by l.atom.0 l.positive
+  where
+    by : (p : ℕ) (b : Bool) → p < 2 → signed b (at_second p) ≡ true → Member other (record { atom = record { 0 = p }; positive = b })
+    by zero true lt h = absurd (false≢true h)
+    by zero false lt h = inl refl
+    by (suc zero) true lt h = inr (inl refl)
+    by (suc zero) false lt h = absurd (false≢true h)
+    by (suc (suc p)) b lt h = absurd (omega (arith, lt))
+
+abbrev the_merge : Merge
+the_merge = record { target = positive 0; tags = 1 ∷ 2 ∷ [] }
+
+covered : IsCovered g i table (positive 0)
+covered = IsCovered.by_merge the_merge (inl refl) refl (for.valid.each the_merge (inl refl)) covers
+  where
+    covers : (tag c : List Lit) → Member (one ∷ other ∷ []) tag → IsClauseFor g.actions 2 i (positive 0) c → Meets i tag c
+    covers tag c (inl e) is = subst (λ t. Meets i t c) e (meets one at_first first_start whole_one c is)
+    covers tag c (inr (inl e)) is = subst (λ t. Meets i t c) e (meets other at_second second_start whole_other c is)
+    covers tag c (inr (inr never)) is = absurd never
+
+none_left : AreUncovered g i table []
+none_left = record { exact = λ l. (λ m. absurd m, λ t. absurd (t.1 (subst (IsCovered g i table) (only_target l t.0) covered))); ascending = tt }
+
 -- ---- the run
 
-ls : (ls : List Lit) × AreUncovered g i table ls
-ls = coverages_decided g i table fine
-
 abbrev summary : Outcome
-summary = sums_up (summary_text running g table ls.0 1 2)
+summary = sums_up (summary_text running g table [] 1 2)
 
 benches : Benches running summary
 benches = later cells_tree two_tree trees prepared (with_table table (by_mode modes.Models table is_made) (by_search (Plan (0 ∷ 1 ∷ []) 2) fits found_plan (record {
   machine = MachineStep.act 0 ∷ MachineStep.merge 0 ∷ [];
   numbers = refl;
   works = work g i table (0 ∷ 1 ∷ []) safe (ends_true task 10000 (Plan (0 ∷ 1 ∷ []) 2) fit found_plan);
-  uncovered = ls.0;
-  are_uncovered = ls.1;
+  uncovered = [];
+  are_uncovered = none_left;
   told = refl;
 })))
 
@@ -451,3 +502,8 @@ ends = came summary (of_command (commands.Bench running) [] summary is_bench ref
 
 is_solved : IsSolvedBench running before after
 is_solved = (benches_are_true bench_words before after status.Done ends running is_bench).done refl
+
+-- the whole text
+told : after.told ≡ Some (codes "family line\nn 2\natoms 2\nactions 1\ntags 3\nmerges 1\nfacts 12\ncomplete\nsteps 1\nexpanded 2\ncheck yes\n")
+unfolding digits
+told = refl
