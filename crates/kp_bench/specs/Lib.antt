@@ -1,3 +1,4 @@
 pub mod Summary
 pub mod Bench
 pub mod Laws
+pub mod Working

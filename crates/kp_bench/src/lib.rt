@@ -1,3 +1,13 @@
-//! What `bench` comes to: a problem of a family and a size is made, translated, solved, and the plan's actions are checked.
+//! What `bench` comes to: a problem of a family and a size is made, translated and solved, and the plan's actions are checked.
 //! `specs/Bench.antt` says what.
 #![tactic(auto)]
+
+mod judging;
+mod laws;
+mod running;
+mod summary;
+mod telling;
+mod texts;
+
+pub use laws::benches_have_one_outcome;
+pub use running::bench;

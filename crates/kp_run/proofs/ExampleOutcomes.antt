@@ -1,5 +1,5 @@
 -- Words and what is held, with the one outcome that is due: a translation, the usage, and none where a file isn't held.
-use Rattle.std.proofs.Common.{◌++◌, [], ◌≡◌, ◌≢◌, ◌<◌, ◌≤◌, ◌^◌, ℕ, zero, suc, true, false, not, List, ◌∷◌, length, take, nat_eq, Some, Vec, codes, inl, inr, refl, sym, ap, subst, ◌∙◌, arith}
+use Rattle.std.proofs.Common.{◌++◌, [], ◌≡◌, ◌≢◌, ◌<◌, ◌≤◌, ◌^◌, ℕ, zero, suc, true, false, not, List, ◌∷◌, length, take, nat_eq, Some, None, Vec, codes, inl, inr, refl, sym, ap, subst, ◌∙◌, arith}
 use Rattle.std.specs.FinMap.{empty, get, insert, get-empty}
 use Rattle.std.specs.Fmt.{digits}
 use Rattle.std.specs.List.{list_all}
@@ -291,5 +291,5 @@ nothing_is_due o (of_command (commands.Merges c) texts _ h held comes) = not_hel
 nothing_is_due o (of_command (commands.Solve c) texts _ h held comes) = not_held c.domain (c.problem ∷ if_named (file_of c.source)) texts held
 nothing_is_due o (of_command (commands.Classical c) texts _ h held comes) = not_held c.domain (c.problem ∷ []) texts held
 nothing_is_due o (of_command (commands.Width c) texts _ h held comes) = not_held c.domain (c.problem ∷ []) texts held
-nothing_is_due o (of_command (commands.Bench c) texts _ h held comes) = other_verb command c (one_command words (commands.Translate command) (commands.Bench c) is_command h)
+nothing_is_due o (of_command (commands.Bench c) texts _ h at comes) = other_verb command c (one_command words (commands.Translate command) (commands.Bench c) is_command h)
 nothing_is_due o (of_command (commands.Translate c) texts _ h held comes) = not_held c.domain (c.problem ∷ if_named (file_of c.source)) texts held

@@ -1,0 +1,5 @@
+pub mod ByModels
+pub mod OneBench
+pub mod Safe
+pub mod Told
+pub mod Working

@@ -1,0 +1,81 @@
+//! The summary of a run.
+ghost use Rattle.std.specs.Prelude.{◌≡◌, ◌++◌, codes, IfOk, OnOk};
+ghost use Rattle.kp_translation.specs.Translations.{translation_with};
+ghost use Rattle.kp_words.specs.Options.{family_word};
+ghost use Rattle.kp_bench.specs.Summary.{word_line, number_line, summary_text};
+
+use itoa::Buffer;
+use kp_base::{Ground, Lit, Memory, Row, TagTable};
+use kp_plans::put;
+use kp_printed::put_coverage;
+use kp_words::Family;
+use std::alloc::Global;
+
+// A family as it is called.
+fn word_of(family: Family) -> &'static str
+    ensures { result.now ≡ family_word family }
+{
+    match family {
+        Family::Line => "line",
+        Family::Bombs => "bombs",
+    }
+}
+
+// Adds a line of a name and a word.
+fn put_word(out: &mut Vec<u8>, name: &[u8], word: &[u8]) -> Result<(), Memory>
+    ensures { OnOk result (out.new.items ≡ out.old.items ++ word_line name.now word.now) }
+{
+    put(out, name)?;
+    put(out, b" ")?;
+    put(out, word)?;
+    put(out, b"\n")
+}
+
+// Adds a line of a name and a number.
+fn put_number(out: &mut Vec<u8>, name: &[u8], number: usize) -> Result<(), Memory>
+    ensures { OnOk result (out.new.items ≡ out.old.items ++ number_line name.now number) }
+{
+    let mut buffer = Buffer::new();
+    put_word(out, name, buffer.format(number).as_bytes())
+}
+
+// Adds the lines of a problem.
+fn put_problem(out: &mut Vec<u8>, family: Family, n: u32) -> Result<(), Memory>
+    ensures { OnOk result (out.new.items ≡ out.old.items ++ (word_line (codes "family") (family_word family) ++ number_line (codes "n") n)) }
+{
+    put_word(out, b"family", word_of(family).as_bytes())?;
+    put_number(out, b"n", n as usize)
+}
+
+// Adds the lines of a plan that passed its check.
+fn put_plan(out: &mut Vec<u8>, steps: usize, expanded: u32) -> Result<(), Memory>
+    ensures { OnOk result (out.new.items ≡ out.old.items ++ (number_line (codes "steps") steps ++ (number_line (codes "expanded") expanded ++ codes "check yes\n"))) }
+{
+    put_number(out, b"steps", steps)?;
+    put_number(out, b"expanded", expanded as usize)?;
+    put(out, b"check yes\n")
+}
+
+/// The summary of a run: of its problem, of the counts of its translation with a table and the targets that aren't covered, and
+/// of a plan with so many steps that passed its check, so many states having been expanded.
+pub fn summary(
+    alloc: Global,
+    command: &kp_words::Bench,
+    ground: &Ground,
+    table: &TagTable,
+    counts: &[u8],
+    uncovered: &[Lit],
+    steps: usize,
+    expanded: u32,
+) -> Result<Row<u8>, Memory>
+    requires { counts.now ≡ (translation_with ground.now table.now).counts }
+    ensures { IfOk result (λ text. text ≡ summary_text command.now ground.now table.now uncovered.now steps expanded) }
+{
+    let _ = table;
+    let mut out = Vec::new(alloc);
+    put_problem(&mut out, command.family, command.n)?;
+    put(&mut out, counts)?;
+    put_coverage(&mut out, ground.atoms.slice(), uncovered)?;
+    put_plan(&mut out, steps, expanded)?;
+    Ok(Row::from_vec(out))
+}
