@@ -120,7 +120,7 @@ left_schema = record {
       (Eff.both (effs_of (Eff.makes true (of_variables (codes "at") 243 (Term.variable (word_at (codes "?a") 246) ∷ [])) ∷ Eff.makes false (of_variables (codes "at") 256 (Term.variable (word_at (codes "?b") 259) ∷ [])) ∷ []))));
 }
 
-abbrev cells_tree : Domain Word
+abbrev pub cells_tree : Domain Word
 cells_tree = record {
   kinds = record { word = word_at (codes "cell") 75; kinds = [] } ∷ [];
   constants = [];
@@ -140,7 +140,7 @@ are_cells = refl
 abbrev two : List ℕ
 two = codes "(define (problem line)\n(:domain line)\n(:objects\nc1\nc2\n- cell)\n(:init\n(oneof\n(at c1)\n(at c2)\n)\n(next c2 c1)\n)\n(:goal (at c1))\n)\n"
 
-abbrev two_tree : Problem Word
+abbrev pub two_tree : Problem Word
 two_tree = record {
   objects = typed (codes "c1") 48 56 ∷ typed (codes "c2") 51 56 ∷ [];
   init = Item.one_of (word_at (codes "oneof") 70) (record { positive = true; atom = of_variables (codes "at") 77 (Term.name (word_at (codes "c1") 80) ∷ []) } ∷ record { positive = true; atom = of_variables (codes "at") 85 (Term.name (word_at (codes "c2") 88) ∷ []) } ∷ [])
@@ -157,13 +157,13 @@ are_two : text (line.problem_lines 2) ≡ two
 unfolding digits
 are_two = refl
 
-trees : HaveTrees (text line.domain_lines) (text (line.problem_lines 2)) cells_tree two_tree
+pub trees : HaveTrees (text line.domain_lines) (text (line.problem_lines 2)) cells_tree two_tree
 trees = record { domain_reads = subst (λ t. Reads grammar.domain t cells_tree) (sym are_cells) cells_read; problem_reads = subst (λ t. Reads grammar.problem t two_tree) (sym are_two) two_read; no_fault = record { domain = refl; problem = refl } }
 
-abbrev g : Ground
+abbrev pub g : Ground
 g = ground_of cells_tree two_tree
 
-abbrev i : Initial
+abbrev pub i : Initial
 i = initial_of cells_tree two_tree
 
 -- ---- the limits
@@ -189,7 +189,7 @@ few_of_two h x y e up above one all = never_over h 20000 (all_included [] (take 
 
 -- ---- no clash
 
-abbrev left : Action
+abbrev pub left : Action
 left = record { name = record { head = codes "left"; objects = [] }; pre = []; effects = record { cond = positive 1 ∷ []; result = positive 0 } ∷ record { cond = positive 1 ∷ []; result = negative 1 } ∷ [] }
 
 -- it adds the first cell, and deletes the second
@@ -214,14 +214,14 @@ left_free pairs a atom k j (inl same) c = apart (subst (λ (x : Action). Clashes
         omega (arith, first_, second_)
 
 -- it is at the first cell
-unfoldable at_first : State
+unfoldable pub at_first : State
 at_first n = nat_eq n 0
 
-first_start : is_model i at_first ≡ true
+pub first_start : is_model i at_first ≡ true
 unfolding at_first
 first_start = refl
 
-prepared : IsPrepared 20000 cells_tree two_tree
+pub prepared : IsPrepared 20000 cells_tree two_tree
 prepared = record {
   started = record {
     small = within (numbered_problem cells_tree two_tree) usual 24 2 (omega arith) (omega arith) (omega arith) (omega arith) refl refl refl refl;
@@ -273,18 +273,18 @@ found_none = record { course = nothing; is = lost goal_lost; empty = λ n e w. b
 -- ---- that it is at the first cell isn't covered
 
 -- it is at the second cell
-unfoldable at_second : State
+unfoldable pub at_second : State
 at_second n = nat_eq n 1
 
-second_start : is_model i at_second ≡ true
+pub second_start : is_model i at_second ≡ true
 unfolding at_second
 second_start = refl
 
-not_second : at_first 1 ≡ false
+pub not_second : at_first 1 ≡ false
 unfolding at_first
 not_second = refl
 
-is_second : at_second 1 ≡ true
+pub is_second : at_second 1 ≡ true
 unfolding at_second
 is_second = refl
 
@@ -296,12 +296,12 @@ goes : IsRelevant g.actions (positive 1) (negative 1)
 goes = IsRelevant.condition (positive 1) (negative 1) (record { action = left; effect = record { cond = positive 1 ∷ []; result = negative 1 }; action_in = inl refl; effect_in = inr (inl refl); condition = inl refl; result = refl })
 
 -- whether it is there is relevant to its being at the first cell, and not known
-relevant : (l : Lit) → Member (either_value 1) l → IsRelevant g.actions l (positive 0)
+pub relevant : (l : Lit) → Member (either_value 1) l → IsRelevant g.actions l (positive 0)
 relevant l (inl e) = subst (λ z. IsRelevant g.actions z (positive 0)) e comes
 relevant l (inr (inl e)) = subst (λ z. IsRelevant g.actions z (positive 0)) e (IsRelevant.onward (negative 1) (positive 1) (positive 0) (IsRelevant.negation (positive 1) (negative 1) goes) comes)
 relevant l (inr (inr never)) = absurd never
 
-not_met : Meets i [] (either_value 1) → ⊥
+pub not_met : Meets i [] (either_value 1) → ⊥
 not_met x = by x.lit x.of_clause (λ s model. x.entailed s model refl)
   where
     by : (l : Lit) → Member (either_value 1) l → ((s : State) → is_model i s ≡ true → holds s l ≡ true) → ⊥
@@ -314,7 +314,7 @@ not_covered (IsCovered.by_empty_tag covers) = not_met (covers [] (either_value 1
 not_covered (IsCovered.by_merge m there target valid covers) = absurd there
 
 -- it is the one target
-only_target : (l : Lit) → IsTarget g l → positive 0 ≡ l
+pub only_target : (l : Lit) → IsTarget g l → positive 0 ≡ l
 only_target l (of_precondition a m k) = by a m k
   where
     by : (a : Action) → Member (left ∷ []) a → Member a.pre l → positive 0 ≡ l

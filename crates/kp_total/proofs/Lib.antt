@@ -21,3 +21,4 @@ pub mod Measures
 pub mod ExampleMeasuring
 pub mod Benches
 pub mod ExampleBenching
+pub mod ExampleMoving
