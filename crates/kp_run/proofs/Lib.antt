@@ -20,3 +20,4 @@ pub mod Fitting
 pub mod PlanLines
 pub mod Solved
 pub mod SolvedClassical
+pub mod Sized

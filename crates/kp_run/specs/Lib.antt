@@ -4,4 +4,5 @@ pub mod Soundness
 pub mod Completeness
 pub mod Solved
 pub mod Tables
+pub mod Sized
 pub mod Laws

@@ -7,7 +7,9 @@ ghost use Rattle.kp_words.specs.declared.lent.CommandRef.{CommandRef as Ordered}
 ghost use Rattle.kp_words.specs.declared.lent.CommandRef.TheVariants as commands;
 ghost use Rattle.kp_words.specs.Names.{Translate as Names, Lift as LiftNames, Solve as SolveNames, Classical as ClassicalNames, of_mode, of_file};
 ghost use Rattle.kp_words.specs.Command.{IsTranslate, IsLift, IsSolve, IsClassical, IsCommand, file_of, if_named, inputs_of};
+ghost use Rattle.kp_words.specs.Options.{IsWithin as IsOfRange};
 ghost use Rattle.kp_run.specs.Outcomes.{ComesTo, IsDue};
+ghost use Rattle.kp_run.specs.Sized.{IsSized};
 ghost use Rattle.kp_run.specs.Ends.{Ends};
 ghost use Rattle.kp_run.specs.Soundness.{IsSound};
 ghost use Rattle.kp_run.specs.Completeness.{LosesNoPlan};
@@ -221,7 +223,8 @@ fn width_gots(alloc: Global, named: &Width<'_>, gots: Row<Got>) -> Result<Outcom
 
 // What a run on a generated problem comes to, for which no file is read.
 fn bench_gots(alloc: Global, asked: &Bench, gots: Row<Got>) -> Result<Outcome, Memory>
-    requires { (held : Option FileMap) × AreRead held [] gots }
+    requires size { IsOfRange 2 100 asked.now.n }
+    requires read { (held : Option FileMap) × AreRead held [] gots }
     ensures { (texts : List (List ℕ)) → AreFronts texts gots → IfOk result (ComesTo (commands.Bench asked.now) texts) }
 {
     drop(gots);
@@ -230,7 +233,8 @@ fn bench_gots(alloc: Global, asked: &Bench, gots: Row<Got>) -> Result<Outcome, M
 
 // What a command comes to on what was read of its input files.
 fn outcome_of(alloc: Global, command: &CommandRef<'_>, gots: Row<Got>) -> Result<Outcome, Memory>
-    requires { (held : Option FileMap) × AreRead held (inputs_of command.now) gots }
+    requires size { IsSized command.now }
+    requires read { (held : Option FileMap) × AreRead held (inputs_of command.now) gots }
     ensures { (texts : List (List ℕ)) → AreFronts texts gots → IfOk result (ComesTo command.now texts) }
 {
     match command {
@@ -252,6 +256,7 @@ fn come_to<S: Shelf>(
     command: &CommandRef<'_>,
     shelf: &mut S,
 ) -> Result<Outcome, OutsideStop>
+    requires { IsSized command.now }
     ensures comes_to { IfOk result (λ o. (texts : List (List ℕ)) × AreHeld (S.contents shelf.old) (inputs_of command.now) texts × ComesTo command.now texts o) }
     ensures failed { IsErrOf result stops.Failed → GetFails (S.contents shelf.old) (inputs_of command.now) (S.get_faults shelf.old) (S.get_faults shelf.new) }
     ensures get_faults { result ≢ Err stops.Failed → (q : List ℕ) → S.get_faults shelf.new q ≡ S.get_faults shelf.old q }
