@@ -20,4 +20,3 @@ pub mod Fitting
 pub mod PlanLines
 pub mod Solved
 pub mod SolvedClassical
-pub mod Sized
