@@ -118,9 +118,12 @@ fn add_if_unsettled(
 ) -> Result<(), Memory>
     ensures { OnOk result (found.new ≡ found.old ++ filter (is_unsettled relevance.now known.now target) (either_value atom.0 ∷ [])) }
 {
-    let clause = either_value(alloc, atom)?;
-    if is_unsettled(relevance, known, target, clause.slice()) {
-        found.push(clause)?;
+    let lit = Lit {
+        atom,
+        positive: true,
+    };
+    if is_unsettled(relevance, known, target, &[lit, lit.negated()]) {
+        found.push(either_value(alloc, atom)?)?;
     }
     Ok(())
 }
