@@ -1,0 +1,10 @@
+(define (problem blocks-p1)
+  (:domain blocks)
+  (:objects b1 b2 - block)
+  (:init
+    (table b1)
+    (clear b2)
+    (oneof (table b2) (on b2 b1))
+    (oneof (clear b1) (on b2 b1))
+  )
+  (:goal (on b1 b2)))

@@ -1,0 +1,12 @@
+(define (problem blocks-p2)
+  (:domain blocks)
+  (:objects b1 b2 b3 - block)
+  (:init
+    (table b1)
+    (clear b3)
+    (oneof (table b2) (on b2 b1))
+    (oneof (table b3) (on b3 b1) (on b3 b2))
+    (oneof (clear b1) (on b2 b1) (on b3 b1))
+    (oneof (clear b2) (on b3 b2))
+  )
+  (:goal (and (on b1 b2) (on b2 b3))))

@@ -1,0 +1,13 @@
+(define (problem coins-p1)
+  (:domain coins)
+  (:objects f1 - floor s1 s2 s3 - spot c1 - coin)
+  (:init
+    (at f1 s1)
+    (shaft s1)
+    (beside s1 s2)
+    (beside s2 s1)
+    (beside s2 s3)
+    (beside s3 s2)
+    (oneof (lies c1 f1 s1) (lies c1 f1 s2) (lies c1 f1 s3))
+  )
+  (:goal (have c1)))

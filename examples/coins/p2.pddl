@@ -1,0 +1,13 @@
+(define (problem coins-p2)
+  (:domain coins)
+  (:objects f1 f2 - floor s1 s2 - spot c1 c2 - coin)
+  (:init
+    (at f1 s1)
+    (shaft s1)
+    (beside s1 s2)
+    (beside s2 s1)
+    (above f2 f1)
+    (oneof (lies c1 f1 s1) (lies c1 f1 s2) (lies c1 f2 s1) (lies c1 f2 s2))
+    (oneof (lies c2 f1 s1) (lies c2 f1 s2) (lies c2 f2 s1) (lies c2 f2 s2))
+  )
+  (:goal (and (have c1) (have c2))))

@@ -1,0 +1,10 @@
+(define (problem corners-p1)
+  (:domain corners)
+  (:objects i1 i2 i3 - line)
+  (:init
+    (oneof (column i1) (column i3))
+    (oneof (row i1) (row i3))
+    (next i1 i2)
+    (next i2 i3)
+  )
+  (:goal (and (column i2) (row i2))))

@@ -1,0 +1,12 @@
+(define (problem corners-p2)
+  (:domain corners)
+  (:objects i1 i2 i3 i4 i5 - line)
+  (:init
+    (oneof (column i1) (column i5))
+    (oneof (row i1) (row i5))
+    (next i1 i2)
+    (next i2 i3)
+    (next i3 i4)
+    (next i4 i5)
+  )
+  (:goal (and (column i3) (row i3))))

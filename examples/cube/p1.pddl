@@ -1,0 +1,11 @@
+(define (problem cube-p1)
+  (:domain cube)
+  (:objects x y z - axis i1 i2 i3 - line)
+  (:init
+    (oneof (at x i1) (at x i2) (at x i3))
+    (oneof (at y i1) (at y i2) (at y i3))
+    (oneof (at z i1) (at z i2) (at z i3))
+    (next i1 i2)
+    (next i2 i3)
+  )
+  (:goal (and (at x i2) (at y i2) (at z i2))))

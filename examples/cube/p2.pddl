@@ -1,0 +1,13 @@
+(define (problem cube-p2)
+  (:domain cube)
+  (:objects x y z - axis i1 i2 i3 i4 i5 - line)
+  (:init
+    (oneof (at x i1) (at x i2) (at x i3) (at x i4) (at x i5))
+    (oneof (at y i1) (at y i2) (at y i3) (at y i4) (at y i5))
+    (oneof (at z i1) (at z i2) (at z i3) (at z i4) (at z i5))
+    (next i1 i2)
+    (next i2 i3)
+    (next i3 i4)
+    (next i4 i5)
+  )
+  (:goal (and (at x i3) (at y i3) (at z i3))))

@@ -1,0 +1,11 @@
+(define (problem dispose-p1)
+  (:domain dispose)
+  (:objects c1-1 c2-1 - cell t1 - thing)
+  (:init
+    (robot c1-1)
+    (bin c1-1)
+    (beside c1-1 c2-1)
+    (beside c2-1 c1-1)
+    (oneof (lies t1 c1-1) (lies t1 c2-1))
+  )
+  (:goal (gone t1)))

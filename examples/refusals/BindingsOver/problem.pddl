@@ -1,0 +1,5 @@
+(define (problem eight)
+  (:domain lists)
+  (:objects o1 o2 o3 o4 o5 o6 o7 o8)
+  (:init (p o1))
+  (:goal (done)))

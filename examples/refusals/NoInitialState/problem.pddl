@@ -1,0 +1,5 @@
+(define (problem three)
+  (:domain cells)
+  (:init (not (x1)) (not (x2)) (not (x3))
+    (oneof (x1) (x2) (x3)))
+  (:goal (x1)))

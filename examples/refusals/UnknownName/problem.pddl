@@ -1,0 +1,5 @@
+(define (problem lamps)
+  (:domain switch)
+  (:objects a b - lamp)
+  (:init (unknown (on a)))
+  (:goal (lit a)))

@@ -1,0 +1,13 @@
+(define (problem ring-p1)
+  (:domain ring)
+  (:objects r1 r2 - room)
+  (:init
+    (oneof (in r1) (in r2))
+    (unknown (closed r1))
+    (unknown (closed r2))
+    (unknown (locked r1))
+    (unknown (locked r2))
+    (next r1 r2)
+    (next r2 r1)
+  )
+  (:goal (and (locked r1) (locked r2))))

@@ -1,0 +1,10 @@
+(define (problem sortnet-p1)
+  (:domain sortnet)
+  (:objects w1 w2 - wire)
+  (:init
+    (unknown (high w1))
+    (unknown (high w2))
+    (before w1 w2)
+    (neighbours w1 w2)
+  )
+  (:goal (ordered w1 w2)))

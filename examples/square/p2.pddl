@@ -1,0 +1,12 @@
+(define (problem square-p2)
+  (:domain square)
+  (:objects i1 i2 i3 i4 i5 - line)
+  (:init
+    (oneof (column i1) (column i2) (column i3) (column i4) (column i5))
+    (oneof (row i1) (row i2) (row i3) (row i4) (row i5))
+    (next i1 i2)
+    (next i2 i3)
+    (next i3 i4)
+    (next i4 i5)
+  )
+  (:goal (and (column i3) (row i3))))

@@ -1,0 +1,5 @@
+(define (problem door2)
+  (:domain door)
+  (:objects brass steel - key)
+  (:init (oneof (fits brass) (fits steel)))
+  (:goal (inside)))

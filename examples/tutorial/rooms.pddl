@@ -1,0 +1,5 @@
+(define (problem rooms)
+  (:domain vacuum)
+  (:objects hall study - room)
+  (:init (robot-at hall) (unknown (dirty hall)) (unknown (dirty study)))
+  (:goal (and (not (dirty hall)) (not (dirty study)))))
