@@ -2,7 +2,8 @@
 ghost use Rattle.std.specs.Prelude.{◌≡◌, ◌++◌, codes, IfOk, OnOk};
 ghost use Rattle.kp_translation.specs.Translations.{translation_with};
 ghost use Rattle.kp_words.specs.Options.{family_word};
-ghost use Rattle.kp_bench.specs.Summary.{word_line, number_line, summary_text};
+ghost use Rattle.kp_printed.specs.Refusals.{number_line};
+ghost use Rattle.kp_bench.specs.Summary.{word_line, summary_text};
 
 use itoa::Buffer;
 use kp_base::{Ground, Lit, Memory, Row, TagTable};
@@ -21,38 +22,37 @@ fn word_of(family: Family) -> &'static str
     }
 }
 
-// Adds a line of a name and a word.
-fn put_word(out: &mut Vec<u8>, name: &[u8], word: &[u8]) -> Result<(), Memory>
-    ensures { OnOk result (out.new.items ≡ out.old.items ++ word_line name.now word.now) }
+// Adds the line of a word under a title.
+fn put_word(out: &mut Vec<u8>, title: &[u8], word: &[u8]) -> Result<(), Memory>
+    ensures { OnOk result (out.new.items ≡ out.old.items ++ word_line title.now word.now) }
 {
-    put(out, name)?;
-    put(out, b" ")?;
+    put(out, title)?;
     put(out, word)?;
     put(out, b"\n")
 }
 
-// Adds a line of a name and a number.
-fn put_number(out: &mut Vec<u8>, name: &[u8], number: usize) -> Result<(), Memory>
-    ensures { OnOk result (out.new.items ≡ out.old.items ++ number_line name.now number) }
+// Adds the line of a number under a title.
+fn put_number(out: &mut Vec<u8>, title: &[u8], number: usize) -> Result<(), Memory>
+    ensures { OnOk result (out.new.items ≡ out.old.items ++ number_line title.now number) }
 {
     let mut buffer = Buffer::new();
-    put_word(out, name, buffer.format(number).as_bytes())
+    put_word(out, title, buffer.format(number).as_bytes())
 }
 
 // Adds the lines of a problem.
 fn put_problem(out: &mut Vec<u8>, family: Family, n: u32) -> Result<(), Memory>
-    ensures { OnOk result (out.new.items ≡ out.old.items ++ (word_line (codes "family") (family_word family) ++ number_line (codes "n") n)) }
+    ensures { OnOk result (out.new.items ≡ out.old.items ++ (word_line (codes "family ") (family_word family) ++ number_line (codes "n ") n)) }
 {
-    put_word(out, b"family", word_of(family).as_bytes())?;
-    put_number(out, b"n", n as usize)
+    put_word(out, b"family ", word_of(family).as_bytes())?;
+    put_number(out, b"n ", n as usize)
 }
 
 // Adds the lines of a plan that passed its check.
 fn put_plan(out: &mut Vec<u8>, steps: usize, expanded: u32) -> Result<(), Memory>
-    ensures { OnOk result (out.new.items ≡ out.old.items ++ (number_line (codes "steps") steps ++ (number_line (codes "expanded") expanded ++ codes "check yes\n"))) }
+    ensures { OnOk result (out.new.items ≡ out.old.items ++ (number_line (codes "steps ") steps ++ (number_line (codes "expanded ") expanded ++ codes "check yes\n"))) }
 {
-    put_number(out, b"steps", steps)?;
-    put_number(out, b"expanded", expanded as usize)?;
+    put_number(out, b"steps ", steps)?;
+    put_number(out, b"expanded ", expanded as usize)?;
     put(out, b"check yes\n")
 }
 

@@ -99,7 +99,7 @@ pub fn width_report(
     Ok(Row::from_vec(out))
 }
 
-/// A target has no cover within the bound.
+/// The lines of a target that no clauses up to the bound cover.
 pub fn over(alloc: Global, atoms: &[GroundName], bound: u32, target: Lit) -> Result<Row<u8>, Memory>
     ensures { IfOk result (λ text. text ≡ over_text atoms.now bound target) }
 {

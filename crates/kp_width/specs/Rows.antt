@@ -37,7 +37,7 @@ pub record IsLeastCover (limit bound : ℕ) (i : Initial) (cs set tags : List (L
   pub first : IsFirstCover i cs (subsets (length set) cs) set tags
   pub passed : ArePassed limit i cs (length set)
 
--- no set of a size up to the bound covers
+-- of each size up to the bound there are no more sets than the limit, and none of them covers
 abbrev pub HasNoCover : ℕ → ℕ → Initial → List (List Lit) → Type 0
 HasNoCover limit bound i cs = ArePassed limit i cs (bound + 1)
 
@@ -56,7 +56,7 @@ pub record IsRowOf (limit bound : ℕ) (g : Ground) (i : Initial) (target : Lit)
   pub are_relevant : AreClausesFor g.actions (length g.atoms) i target relevant
   pub least_cover : IsLeastCover limit bound i relevant row.clauses row.tags
 
--- the target has no cover of a size up to the bound
+-- the target has no cover of a size up to the bound, and of none of these sizes are there more sets than the limit
 pub record IsOver (limit bound : ℕ) (g : Ground) (i : Initial) (target : Lit) : Type 0 where
   pub relevant : List (List Lit)
   pub are_relevant : AreClausesFor g.actions (length g.atoms) i target relevant

@@ -15,7 +15,7 @@ pub record CoversTarget (g : Ground) (i : Initial) (target : Lit) (clauses tags 
   pub its_tags : IsCov i clauses tags
   pub cover : Covers g i tags target
 
--- so many clauses can be so, and no fewer
+-- some set of so many clauses covers the target, and no smaller one does
 pub record HasWidth (g : Ground) (i : Initial) (target : Lit) (width : ℕ) : Type 0 where
   pub clauses : List (List Lit)
   pub tags : List (List Lit)
