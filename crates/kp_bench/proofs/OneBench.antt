@@ -58,12 +58,13 @@ among g (MachineStep.act n ∷ ms) e =
     rw parts.0 (ap (n ∷◌) (among g ms parts.1))
 among g (MachineStep.merge m ∷ ms) e = rw (le-ltb (length g.actions + m) (length g.actions) (omega arith)) (among g ms e)
 
--- so a plan has one list of actions
+-- so the actions that were told of a plan are those among its operators
+pub actions_of : (c : Bench) (g : Ground) (i : Initial) (table : TagTable) (ops : List ℕ) (n : ℕ) (o : Outcome) → HasModel i → (a : SumsUp c g i table ops n o) → stripped a.machine ≡ acts_among (length g.actions) ops
+actions_of c g i table ops n o some a = among g a.machine (are_actions g some.state (stripped a.machine) (a.works some.state some.model)) ∙ ap (acts_among (length g.actions)) a.numbers
+
+-- and there is one list of them
 same_actions : (c : Bench) (g : Ground) (i : Initial) (table : TagTable) (ops : List ℕ) (n : ℕ) (o u : Outcome) → HasModel i → (a : SumsUp c g i table ops n o) (b : SumsUp c g i table ops n u) → stripped a.machine ≡ stripped b.machine
-same_actions c g i table ops n o u some a b =
-    let first = among g a.machine (are_actions g some.state (stripped a.machine) (a.works some.state some.model)) in
-    let second = among g b.machine (are_actions g some.state (stripped b.machine) (b.works some.state some.model)) in
-    first ∙ (ap (acts_among (length g.actions)) (a.numbers ∙ sym b.numbers) ∙ sym second)
+same_actions c g i table ops n o u some a b = actions_of c g i table ops n o some a ∙ sym (actions_of c g i table ops n u some b)
 
 -- ---- outcomes
 

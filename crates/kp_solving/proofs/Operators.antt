@@ -106,7 +106,7 @@ all_actions n (k ∷ ops) all =
 step_named : (g : Ground) (table : TagTable) (n : ℕ) → n < length (task_of g table).ops → (s : Step) × (operator_step (task_of g table) n ≡ Some s)
 step_named g table n below = let o = element (task_of g table).ops n below in (record { head = o.0.name; objects = [] }, rw o.1 refl)
 
-steps_named : (g : Ground) (table : TagTable) (ops : List ℕ) → list_all (λ n. nat_lt n (length (task_of g table).ops)) ops ≡ true → (written : List Step) × (map (operator_step (task_of g table)) ops ≡ map Some written)
+pub steps_named : (g : Ground) (table : TagTable) (ops : List ℕ) → list_all (λ n. nat_lt n (length (task_of g table).ops)) ops ≡ true → (written : List Step) × (map (operator_step (task_of g table)) ops ≡ map Some written)
 steps_named g table [] all = ([], refl)
 steps_named g table (n ∷ ops) all =
     let parts = and_parts (nat_lt n (length (task_of g table).ops)) (list_all (λ k. nat_lt k (length (task_of g table).ops)) ops) all in
@@ -115,7 +115,7 @@ steps_named g table (n ∷ ops) all =
     (first.0 ∷ rest.0, cc (first.1, rest.1))
 
 -- so do the actions among operators
-acts_named : (g : Ground) (ops : List ℕ) → (plan : List Step) × NameActions g ops plan
+pub acts_named : (g : Ground) (ops : List ℕ) → (plan : List Step) × NameActions g ops plan
 acts_named g [] = ([], refl)
 acts_named g (n ∷ ops) = go (nat_lt n (length g.actions)) refl (acts_named g ops)
   where

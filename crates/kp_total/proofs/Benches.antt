@@ -1,20 +1,17 @@
 -- What a run of `bench` ends with, and what that says of its generated problem.
 use Rattle.std.proofs.Common.{◌≡◌, ℕ, true, false, List, [], ◌∷◌, Option, Some, None, option_map, Vec, length, map, slice_get, refl, sym, ap, ◌∙◌, subst}
-use Rattle.std.proofs.lemmas.Bool.{and_parts, false≢true}
 use Rattle.std.specs.declared.alloc.Global.{Global}
-use Rattle.kp_base.specs.declared.ground.Action.{Action}
 use Rattle.kp_base.specs.declared.ground.Ground.{Ground}
 use Rattle.kp_base.specs.declared.ground.Initial.{Initial}
 use Rattle.kp_base.specs.declared.ground.TagTable.{TagTable}
 use Rattle.kp_base.specs.declared.refused.Refused.{Refused}
 use Rattle.kp_base.specs.Covering.{AreUncovered}
 use Rattle.kp_base.specs.Machine.{stripped}
-use Rattle.kp_base.specs.Steps as on_atoms
 use Rattle.kp_grammar.specs.declared.tree.Word.{Word}
 use Rattle.kp_grammar.specs.Trees.{Domain, Problem}
 use Rattle.kp_meaning.specs.Steps.{Step}
-use Rattle.kp_meaning.specs.Plans.{HasProblem}
-use Rattle.kp_init.proofs.Runs.{plan_of_texts}
+use Rattle.kp_meaning.specs.Plans.{HasProblem, IsPlan}
+use Rattle.kp_meaning.specs.Strip.{strip}
 use Rattle.kp_classic.specs.declared.task.Task.{Task}
 use Rattle.kp_classic.specs.Fits.{IsFit}
 use Rattle.kp_classic.specs.Steps.{start, succeeds}
@@ -27,11 +24,15 @@ use Rattle.kp_task.specs.Task.{task_of}
 use Rattle.kp_task.specs.Accepted.{name_at}
 use Rattle.kp_task.specs.Writable.{IsWritableTask}
 use Rattle.kp_task.proofs.Plans.{plans_are_accepted}
+use Rattle.kp_task.proofs.Strips.{steps_strip}
 use Rattle.kp_given.specs.Translations.{ground_of, initial_of}
 use Rattle.kp_given.specs.Tables.{IsTableFor}
 use Rattle.kp_given.proofs.Starts.{states_are_models}
 use Rattle.kp_given.proofs.Tables.{tables_written}
 use Rattle.kp_sound.proofs.Lifting.{plans_lift}
+use Rattle.kp_sound.proofs.Trees.{translations_sound}
+use Rattle.kp_machine.proofs.Exclusive.{never_clashes}
+use Rattle.kp_inputs.proofs.OnePlan.{some_alike}
 use Rattle.kp_printed.specs.Refusals.{nothing}
 use Rattle.kp_printed.specs.Searches.{no_plan_text}
 use Rattle.kp_outside.specs.Outside.{FileMap}
@@ -49,9 +50,12 @@ use Rattle.kp_inputs.specs.Tables.{no_table, with_table}
 use Rattle.kp_inputs.proofs.TablesFor.{table_for}
 use Rattle.kp_solving.specs.Solving.{Finds, finds_none, spends}
 use Rattle.kp_solving.proofs.Searches.{ends_true}
-use Rattle.kp_solving.proofs.Plans.{none_accepted}
+use Rattle.kp_solving.proofs.Plans.{named_accepted, none_accepted}
+use Rattle.kp_solving.specs.Operators.{acts_among}
+use Rattle.kp_solving.proofs.Operators.{steps_named, acts_named, are_named}
 use Rattle.kp_bench.specs.Summary.{summary_text}
-use Rattle.kp_bench.specs.Bench.{texts_of, usual_implicates, sums_up, TellsBench, over, searched as by_search, Benches}
+use Rattle.kp_bench.proofs.OneBench.{actions_of}
+use Rattle.kp_bench.specs.Bench.{texts_of, usual_implicates, sums_up, SumsUp, TellsBench, over, searched as by_search, Benches}
 use Rattle.kp_run.specs.Outcomes.{ComesTo, translated, merged, stripped as stripped_to, checked, lifted, solved, searched, measured, benched, IsDue, usage, of_command}
 use Rattle.kp_run.specs.Ends.{Ends}
 use Rattle.kp_run.specs.Solved.{Tells}
@@ -66,19 +70,6 @@ use Rattle.kp_total.proofs.SomeOutcome.{as_many}
 
 pub benches_are_answered : BenchesAreAnswered
 benches_are_answered words old new s ends m c o held is does = ends_with words old new s ends m o held (of_command (commands.Bench c) [] o is refl (benched c o does))
-
--- ---- names
-
--- actions that succeed one after the other have names
-have_names : (g : Ground) (ns : List ℕ) (s : on_atoms.State) → on_atoms.succeeds g s ns ≡ true → (plan : List Step) × (map (name_at g) ns ≡ map Some plan)
-have_names g [] s h = ([], refl)
-have_names g (n ∷ ns) s h =
-    let parts = and_parts (on_atoms.applicable (slice_get g.actions n) s) (on_atoms.succeeds g (on_atoms.next (slice_get g.actions n) s) ns) h in
-    by (slice_get g.actions n) refl parts.0 (have_names g ns (on_atoms.next (slice_get g.actions n) s) parts.1)
-  where
-    by : (o : Option Action) → slice_get g.actions n ≡ o → on_atoms.applicable o s ≡ true → ((plan : List Step) × (map (name_at g) ns ≡ map Some plan)) → (plan : List Step) × (map (name_at g) (n ∷ ns) ≡ map Some plan)
-    by None at may rest = absurd (false≢true may)
-    by (Some a) at may rest = let here : name_at g n ≡ Some a.name = ap (option_map (λ (x : Action). x.name)) at in (a.name ∷ rest.0, cc (here, rest.1))
 
 -- ---- what such a run came to
 
@@ -156,6 +147,10 @@ module _ (c : Bench) (o : Outcome) (x : HasBenched c o) (old new : Outside) (s :
   none_written : ((ops : List ℕ) → succeeds task (start task) ops ≡ false) → (steps : List Step) → IsWrittenPlan x.posed steps → ⊥
   none_written none steps plan = let found = (plans_are_accepted ground table writable steps).0 plan in none_accepted ground table writable none steps found.0 found.1
 
+  -- the actions among the operators are those that were checked
+  same : (ops : List ℕ) (n : ℕ) (sums : SumsUp c ground formula table ops n o) → acts_among (length ground.actions) ops ≡ stripped sums.machine
+  same ops n sums = sym (actions_of c ground formula table ops n o ((states_are_models d p x.posed.trees.no_fault).0 x.posed.prepared.started.initial) sums)
+
   answered : (u : Outcome) → o ≡ u → IsAnsweredBy u old new s
   answered u is = subst (λ z. IsAnsweredBy z old new s) is a
 
@@ -166,17 +161,27 @@ module _ (c : Bench) (o : Outcome) (x : HasBenched c o) (old new : Outside) (s :
       by (Plan ops n) finds sums =
           let actions = stripped sums.machine in
           let b = answered (sums_up (summary_text c ground table sums.uncovered (length actions) n)) sums.told in
-          let model = (states_are_models d p x.posed.trees.no_fault).0 x.posed.prepared.started.initial in
-          let names = have_names ground actions model.state (sums.works model.state model.model) in
-          let texts = plan_of_texts (texts_of c).domain (texts_of c).problem problem model.state model.model names.0 in
-          let many = as_many ℕ Step (Option Step) (name_at ground) Some actions names.0 names.1 in
+          let ends = ends_true task c.budget (Plan ops n) fit finds in
+          let steps = steps_named ground table ops ends.0 in
+          let acts = acts_named ground ops in
+          let named = are_named ground table ops steps.0 acts.0 ends.0 steps.1 acts.1 in
+          let is_written = (plans_are_accepted ground table writable steps.0).1 (named_accepted ground table writable ops steps.0 acts.0 named ends.1) in
+          let names = steps_strip ground table writable steps.0 named.machine named.steps_are in
+          let strips : strip steps.0 ≡ Some acts.0 = names.strips ∙ ap Some (some_alike names.names acts.0 (sym names.are_names ∙ named.actions_are)) in
+          let sound = translations_sound (texts_of c).domain (texts_of c).problem problem table for (never_clashes ground formula x.posed.prepared.clash_free) steps.0 is_written in
+          let one : sound.stripped ≡ acts.0 = cc (sym sound.strips ∙ strips) in
+          let many = as_many ℕ Step (Option Step) (name_at ground) Some (acts_among (length ground.actions) ops) acts.0 acts.1 ∙ ap length (same ops n sums) in
           record {
             posed = x.posed;
             ops = ops;
             expanded = n;
             ended = finds;
-            plan = names.0;
-            is_plan = texts.1 (actions, record { names = names.1; plan = sums.works });
+            written = steps.0;
+            plan = acts.0;
+            named = named;
+            is_written = is_written;
+            strips = strips;
+            is_plan = subst (IsPlan (texts_of c).domain (texts_of c).problem) one sound.is_plan;
             uncovered = sums.uncovered;
             are_uncovered = sums.are_uncovered;
             complete = (λ none. complete_with_none ground formula table fine (subst (AreUncovered ground formula table) none sums.are_uncovered), λ whole. none_uncovered ground formula table sums.uncovered sums.are_uncovered whole);

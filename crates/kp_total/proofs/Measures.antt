@@ -132,6 +132,7 @@ module _ (m : FileMap) (c : Width) (o : Outcome) (x : HasReport m c o) (old new 
         as_wide = reports_right usual c.bound ground formula rows (IsReport.within ts rows are h few);
         in_bound = bounded usual.sets c.bound ground formula ts rows h;
         told = (answered (tells_width ground c.bound (Within rows)) told).text_is;
+        put = (answered (tells_width ground c.bound (Within rows)) told).puts_are;
       }
       by _ (IsReport.over ts t are h v) told = absurd (let b = answered (tells_width ground c.bound (Over t)) told in let not_done = sym b.status_is ∙ done in cc)
 
@@ -149,6 +150,7 @@ module _ (m : FileMap) (c : Width) (o : Outcome) (x : HasReport m c o) (old new 
         within_before = within usual.sets c.bound ground formula h.earlier h.rows h.are_rows;
         wider = more_than usual.sets c.bound ground formula t v;
         told = (answered (tells_width ground c.bound (Over t)) told).text_is;
+        put = (answered (tells_width ground c.bound (Over t)) told).puts_are;
       }
 
 -- it came to an answer that is no refusal

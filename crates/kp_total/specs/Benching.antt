@@ -9,6 +9,7 @@ use Rattle.kp_grammar.specs.declared.tree.Word.{Word}
 use Rattle.kp_grammar.specs.Trees.{Domain, Problem}
 use Rattle.kp_meaning.specs.Steps.{Step}
 use Rattle.kp_meaning.specs.Plans.{IsPlan}
+use Rattle.kp_meaning.specs.Strip.{strip}
 use Rattle.kp_classic.specs.declared.task.Task.{Task}
 use Rattle.kp_search.specs.declared.found.Found.TheVariants.{Plan, Spent}
 use Rattle.kp_search.specs.Ends.{HasMoreStates}
@@ -27,7 +28,7 @@ use Rattle.kp_words.specs.Command.{IsBench}
 use Rattle.kp_prepared.specs.Texts.{HaveTrees}
 use Rattle.kp_prepared.specs.Prepared.{usual, IsPrepared}
 use Rattle.kp_inputs.specs.Tables.{HasTable}
-use Rattle.kp_solving.specs.Solving.{Finds}
+use Rattle.kp_solving.specs.Solving.{Finds, AreNamed}
 use Rattle.kp_bench.specs.Summary.{summary_text}
 use Rattle.kp_bench.specs.Bench.{texts_of, usual_implicates, Benches}
 use Rattle.kp_run.specs.Completeness.{PrintsComplete}
@@ -64,13 +65,17 @@ IsWrittenPlan x steps = IsPlan (translation_of x.domain_tree x.problem_tree x.ta
 
 -- ---- what an answer says
 
--- The search of that task found a plan, and the two texts have one. The summary was told, with the number of its steps, and the number of states that the search expanded; `complete` stands in it where no target is uncovered, exactly where the table is complete. Nothing was put.
+-- The search of that task found a plan. Its operators have names that are a plan of the two files that `translate` writes, and its strip is a plan of the two texts. The summary was told, with the number of its steps, and the number of states that the search expanded; `complete` stands in it where no target is uncovered, exactly where the table is complete. Nothing was put.
 pub record IsSolvedBench (c : Bench) (old new : Outside) : Type 0 where
   pub posed : IsPosedBench c
   pub ops : List ℕ
   pub expanded : ℕ
   pub ended : Finds (its_task posed) c.budget (Plan ops expanded)
+  pub written : List Step
   pub plan : List Step
+  pub named : AreNamed (its_ground posed) posed.table ops written plan
+  pub is_written : IsWrittenPlan posed written
+  pub strips : strip written ≡ Some plan
   pub is_plan : IsPlan (texts_of c).domain (texts_of c).problem plan
   pub uncovered : List Lit
   pub are_uncovered : AreUncovered (its_ground posed) (its_formula posed) posed.table uncovered

@@ -53,7 +53,7 @@ ground_in x = ground_of x.domain_tree x.problem_tree
 abbrev pub initial_in : {m : FileMap} {c : Width} → IsTargeted m c → Initial
 initial_in x = initial_of x.domain_tree x.problem_tree
 
--- rows of the targets were told, each of as many clauses as the width of its target, and the greatest of them as the width of the problem; none is above the bound
+-- rows of the targets were told, each of as many clauses as the width of its target, and the greatest of them as the width of the problem; none is above the bound; nothing was put
 pub record IsMeasured (m : FileMap) (c : Width) (old new : Outside) : Type 0 where
   pub of_targets : IsTargeted m c
   pub rows : List WidthRow
@@ -61,8 +61,9 @@ pub record IsMeasured (m : FileMap) (c : Width) (old new : Outside) : Type 0 whe
   pub as_wide : IsAsWide (ground_in of_targets) (initial_in of_targets) (greatest_width rows)
   pub in_bound : greatest_width rows ≤ c.bound
   pub told : Tells old new (width_text (ground_in of_targets).atoms rows)
+  pub put : new.held ≡ old.held
 
--- a target was told that no clauses up to the bound cover; each target before it has a width within the bound
+-- a target was told that no clauses up to the bound cover; each target before it has a width within the bound; nothing was put
 pub record IsTooWide (m : FileMap) (c : Width) (old new : Outside) : Type 0 where
   pub of_targets : IsTargeted m c
   pub earlier : List Lit
@@ -72,6 +73,7 @@ pub record IsTooWide (m : FileMap) (c : Width) (old new : Outside) : Type 0 wher
   pub within_before : (l : Lit) → Member earlier l → (width : ℕ) × HasWidth (ground_in of_targets) (initial_in of_targets) l width × (width ≤ c.bound)
   pub wider : (clauses tags : List (List Lit)) → CoversTarget (ground_in of_targets) (initial_in of_targets) target clauses tags → c.bound < length clauses
   pub told : Tells old new (over_text (ground_in of_targets).atoms c.bound target)
+  pub put : new.held ≡ old.held
 
 -- what a run of `width` says of its files, where the shelf tells what it holds
 pub record WidthIsTrue (m : FileMap) (c : Width) (old new : Outside) (s : Status) : Type 0 where
