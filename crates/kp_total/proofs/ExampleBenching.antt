@@ -18,7 +18,7 @@ use Rattle.kp_base.specs.Implicates.{IsNeverOver}
 use Rattle.kp_base.specs.Lists.{Member}
 use Rattle.kp_base.specs.Lit.{positive, negative}
 use Rattle.kp_base.specs.LitSet.{IsAscending}
-use Rattle.kp_base.specs.Relevance.{IsRelevant, either_value, IsCandidate}
+use Rattle.kp_base.specs.Relevance.{IsRelevant, either_value, IsCandidate, IsClauseFor}
 use Rattle.kp_base.specs.Steps.{State, holds, is_model}
 use Rattle.kp_base.proofs.Lists.{member_at}
 use Rattle.kp_primes.specs.Included.{all_included}
@@ -301,6 +301,9 @@ relevant l (inl e) = subst (λ z. IsRelevant g.actions z (positive 0)) e comes
 relevant l (inr (inl e)) = subst (λ z. IsRelevant g.actions z (positive 0)) e (IsRelevant.onward (negative 1) (positive 1) (positive 0) (IsRelevant.negation (positive 1) (negative 1) goes) comes)
 relevant l (inr (inr never)) = absurd never
 
+pub second_for : IsClauseFor g.actions 2 i (positive 0) (either_value 1)
+second_for = record { candidate = IsCandidate.unsettled 1 (omega arith) (λ one. false≢true (sym not_second ∙ (one at_first at_second first_start second_start ∙ is_second))); relevant = relevant }
+
 pub not_met : Meets i [] (either_value 1) → ⊥
 not_met x = by x.lit x.of_clause (λ s model. x.entailed s model refl)
   where
@@ -310,7 +313,7 @@ not_met x = by x.lit x.of_clause (λ s model. x.entailed s model refl)
     by l (inr (inr never)) known = absurd never
 
 not_covered : IsCovered g i table (positive 0) → ⊥
-not_covered (IsCovered.by_empty_tag covers) = not_met (covers [] (either_value 1) (inl refl) (record { candidate = IsCandidate.unsettled 1 (omega arith) (λ one. false≢true (sym not_second ∙ (one at_first at_second first_start second_start ∙ is_second))); relevant = relevant }))
+not_covered (IsCovered.by_empty_tag covers) = not_met (covers [] (either_value 1) (inl refl) second_for)
 not_covered (IsCovered.by_merge m there target valid covers) = absurd there
 
 -- it is the one target

@@ -63,13 +63,13 @@ use Rattle.kp_total.proofs.ExampleFiles.{within, never_clashing, turn, turn_free
 
 -- ---- words
 
-abbrev front : List (Vec ℕ Global) → List (Vec ℕ Global)
+abbrev pub front : List (Vec ℕ Global) → List (Vec ℕ Global)
 front more = word (codes "width") (omega arith) ∷ word (codes "d") (omega arith) ∷ word (codes "p") (omega arith) ∷ more
 
-abbrev measuring : ℕ → Width
+abbrev pub measuring : ℕ → Width
 measuring bound = record { domain = codes "d"; problem = codes "p"; bound = bound; implicates = 20000 }
 
-is_plain : IsWidth (front []) (measuring 3)
+pub is_plain : IsWidth (front []) (measuring 3)
 unfolding encode
 is_plain = record {
   rest = codes "d" ∷ codes "p" ∷ [];
@@ -105,19 +105,19 @@ is_with_bound = record {
 apart : (x y : List ℕ) → same x y ≡ false → x ≢ y
 apart x y h e = false≢true (sym h ∙ (sym (ap (same x) e) ∙ same-refl x))
 
-abbrev before : List ℕ → List ℕ → Outside
+abbrev pub before : List ℕ → List ℕ → Outside
 before domain problem = record { held = Some (holding domain problem); told = Some []; get_faults = λ q. 0; put_faults = λ q. 0; write_faults = 0 }
 
-abbrev after : List ℕ → List ℕ → List ℕ → Outside
+abbrev pub after : List ℕ → List ℕ → List ℕ → Outside
 after domain problem text = record { held = Some (holding domain problem); told = with_bytes (Some []) text; get_faults = λ q. 0; put_faults = λ q. 0; write_faults = 0 }
 
-domain_held : (domain problem : List ℕ) → get (holding domain problem) (codes "d") ≡ Some domain
+pub domain_held : (domain problem : List ℕ) → get (holding domain problem) (codes "d") ≡ Some domain
 domain_held domain problem = under_another (insert empty (codes "d") domain) (codes "d") (codes "p") problem (apart (codes "d") (codes "p") refl) ∙ at_last empty (codes "d") domain
 
-problem_held : (domain problem : List ℕ) → get (holding domain problem) (codes "p") ≡ Some problem
+pub problem_held : (domain problem : List ℕ) → get (holding domain problem) (codes "p") ≡ Some problem
 problem_held domain problem = at_last (insert empty (codes "d") domain) (codes "p") problem
 
-ends : (ws : List (Vec ℕ Global)) (bound : ℕ) → IsWidth ws (measuring bound) → (domain problem : List ℕ) (d : Domain Word) (p : Problem Word) → HaveTrees domain problem d p → IsPrepared 20000 d p
+pub ends : (ws : List (Vec ℕ Global)) (bound : ℕ) → IsWidth ws (measuring bound) → (domain problem : List ℕ) (d : Domain Word) (p : Problem Word) → HaveTrees domain problem d p → IsPrepared 20000 d p
     → (report : WidthReport) → IsReport usual bound (ground_of d p) (initial_of d p) report → (tells_width (ground_of d p) bound report).puts ≡ []
     → Ends ws (before domain problem) (after domain problem (tells_width (ground_of d p) bound report).text) (tells_width (ground_of d p) bound report).status
 ends ws bound is domain problem d p have ready report reports no_file =
@@ -287,7 +287,7 @@ not_met x = by x.lit x.of_clause (λ s model. x.entailed s model refl)
     by l (inr (inr none)) known = absurd none
 
 -- the set of no clauses has the empty tag
-empty_tag : (test : List Lit → Bool) → test [] ≡ true → each_once same_set (filter test (map set_of (choices []))) ≡ [] ∷ []
+pub empty_tag : (test : List Lit → Bool) → test [] ≡ true → each_once same_set (filter test (map set_of (choices []))) ≡ [] ∷ []
 empty_tag test on = rw (on) refl
 
 over_it : IsOver usual.sets 0 g i (positive 1)

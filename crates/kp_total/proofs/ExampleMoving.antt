@@ -82,7 +82,7 @@ use Rattle.kp_run.proofs.Soundness.{problem_of}
 use Rattle.kp_total.specs.Benching.{IsSolvedBench}
 use Rattle.kp_total.proofs.Benches.{benches_are_true}
 use Rattle.kp_total.proofs.ExampleCourses.{leading}
-use Rattle.kp_total.proofs.ExampleBenching.{cells_tree, two_tree, trees, g, i, left, at_first, first_start, at_second, second_start, not_second, is_second, prepared, relevant, not_met, only_target}
+use Rattle.kp_total.proofs.ExampleBenching.{cells_tree, two_tree, trees, g, i, left, at_first, first_start, at_second, second_start, not_second, prepared, relevant, second_for, not_met, only_target}
 
 -- ---- words
 
@@ -112,7 +112,7 @@ fine : AreProper g i
 fine = proper 20000 cells_tree two_tree trees.no_fault prepared
 
 -- it is at one of the cells
-abbrev either_cell : List Lit
+abbrev pub either_cell : List Lit
 either_cell = positive 0 ∷ positive 1 ∷ []
 
 first_only : (l : Lit) → Member either_cell l → holds at_first l ≡ true → positive 0 ≡ l
@@ -129,7 +129,7 @@ second_only l (inl e) h = absurd (false≢true (sym not_first ∙ subst (λ z. h
 second_only l (inr (inl e)) h = e
 second_only l (inr (inr never)) h = absurd never
 
-prime : IsPrime i either_cell
+pub prime : IsPrime i either_cell
 prime = record {
   ascending = (omega arith, tt);
   implicate = record { proper = refl; holds_always = λ s model. (and_parts _ _ (and_parts _ _ model).0).0 };
@@ -142,7 +142,7 @@ prime = record {
         (l.0, has-member d l.0 l.1, member-has either_cell l.0 (all_member (has_lit either_cell) d l.0 l.1 within), l.2)
 
 -- what is relevant to a literal of these atoms is one of them
-below : (l m : Lit) → IsRelevant g.actions l m → m.atom.0 < 2 → l.atom.0 < 2
+pub below : (l m : Lit) → IsRelevant g.actions l m → m.atom.0 < 2 → l.atom.0 < 2
 below l _ (IsRelevant.itself _) lt = lt
 below l m (IsRelevant.condition _ _ h) lt = by h.action h.action_in h.effect h.effect_in h.condition
   where
@@ -161,17 +161,20 @@ below l m (IsRelevant.condition _ _ h) lt = by h.action h.action_in h.effect h.e
 below l n (IsRelevant.onward _ m _ h k) lt = below l m h (below m n k lt)
 below _ _ (IsRelevant.negation l m h) lt = below l m h lt
 
+pub cells_for : IsClauseFor g.actions 2 i (positive 0) either_cell
+cells_for = record { candidate = IsCandidate.implicate either_cell prime (omega arith); relevant = each }
+  where
+    each : (l : Lit) → Member either_cell l → IsRelevant g.actions l (positive 0)
+    each l (inl e) = subst (λ z. IsRelevant g.actions z (positive 0)) e (IsRelevant.itself (positive 0))
+    each l (inr (inl e)) = relevant l (inl e)
+    each l (inr (inr never)) = absurd never
+
 module _ (cs : List (List Lit)) (are : AreClausesFor g.actions 2 i (positive 0) cs) where
   second_there : Member cs (either_value 1)
-  second_there = (are.exact (either_value 1)).1 (record { candidate = IsCandidate.unsettled 1 (omega arith) (λ one. false≢true (sym not_second ∙ (one at_first at_second first_start second_start ∙ is_second))); relevant = relevant })
+  second_there = (are.exact (either_value 1)).1 second_for
 
   cells_there : Member cs either_cell
-  cells_there = (are.exact either_cell).1 (record { candidate = IsCandidate.implicate either_cell prime (omega arith); relevant = each })
-    where
-      each : (l : Lit) → Member either_cell l → IsRelevant g.actions l (positive 0)
-      each l (inl e) = subst (λ z. IsRelevant g.actions z (positive 0)) e (IsRelevant.itself (positive 0))
-      each l (inr (inl e)) = relevant l (inl e)
-      each l (inr (inr never)) = absurd never
+  cells_there = (are.exact either_cell).1 cells_for
 
   are_atoms : AreAtomsOf cs (0 ∷ 1 ∷ [])
   are_atoms = record { exact = λ p. (there p, one p); ascending = (omega arith, tt) }
@@ -197,10 +200,10 @@ one = positive 0 ∷ negative 1 ∷ []
 abbrev other : List Lit
 other = negative 0 ∷ positive 1 ∷ []
 
-told_of : TellsOfTags i
+pub told_of : TellsOfTags i
 told_of = tags_decided 2 i (formulas_over_atoms cells_tree two_tree)
 
-abbrev test : List Lit → Bool
+abbrev pub test : List Lit → Bool
 test = told_of.test
 
 one_passes : test one ≡ true
@@ -215,14 +218,14 @@ other_passes = (told_of.tells other).1 (record { state = at_second; model = seco
 abbrev both : List Lit
 both = positive 0 ∷ positive 1 ∷ []
 
-abbrev neither : List Lit
+abbrev pub neither : List Lit
 neither = negative 0 ∷ negative 1 ∷ []
 
-not_so : (s : State) (k : ℕ) → s k ≡ true → not (s k) ≡ true → ⊥
+pub not_so : (s : State) (k : ℕ) → s k ≡ true → not (s k) ≡ true → ⊥
 not_so s k e f = false≢true (sym (ap not e) ∙ f)
 
 -- a clause of the formula has a literal that holds
-some_holds : (s : State) → is_model i s ≡ true → (c : List Lit) → Member i.clauses c → (l : Lit) × Member c l × (holds s l ≡ true)
+pub some_holds : (s : State) → is_model i s ≡ true → (c : List Lit) → Member i.clauses c → (l : Lit) × Member c l × (holds s l ≡ true)
 some_holds s model c there = any_member (holds s) c (all_member (list_any (holds s)) i.clauses c there (and_parts _ _ model).0)
 
 both_fail : test both ≡ false
@@ -261,16 +264,16 @@ merges = merge_of (positive 0) (one ∷ other ∷ []) ∷ []
 abbrev way : Way
 way = record { greatest = 0; skips = true; by_models = true }
 
+pub are_targets : AreTargets g (positive 0 ∷ [])
+are_targets = record { exact = λ l. (there l, λ t. inl (only_target l t)); ascending = tt }
+  where
+    there : (l : Lit) → Member (positive 0 ∷ []) l → IsTarget g l
+    there l (inl e) = of_goal (inl e)
+    there l (inr never) = absurd never
+
 of_mode_models : AreMergesOf usual.sets g i (Some way) merges
 of_mode_models = by (clauses_decided g i (positive 0) fine (omega arith))
   where
-    are_targets : AreTargets g (positive 0 ∷ [])
-    are_targets = record { exact = λ l. (there l, λ t. inl (only_target l t)); ascending = tt }
-      where
-        there : (l : Lit) → Member (positive 0 ∷ []) l → IsTarget g l
-        there l (inl e) = of_goal (inl e)
-        there l (inr never) = absurd never
-
     by : ((cs : List (List Lit)) × AreClausesFor g.actions 2 i (positive 0) cs) → AreMergesOf usual.sets g i (Some way) merges
     by (cs, are) = AreMergesOf.of_targets way (positive 0 ∷ []) merges are_targets (AreMergesInTurn.more (positive 0) [] ((one ∷ other ∷ []) ∷ []) [] (record { clauses = cs; are_clauses = are; by_clauses = by_all }) AreMergesInTurn.done)
       where

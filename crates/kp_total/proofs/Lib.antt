@@ -22,3 +22,4 @@ pub mod ExampleMeasuring
 pub mod Benches
 pub mod ExampleBenching
 pub mod ExampleMoving
+pub mod ExampleWidths
