@@ -7,3 +7,4 @@ pub mod Once
 pub mod Ordered
 pub mod Clauses
 pub mod ExampleRelevance
+pub mod Closures

@@ -1,6 +1,6 @@
 //! The candidate clauses that are relevant to a literal.
 ghost use Rattle.std.specs.Prelude.{◌≡◌, ◌++◌, ◌∷◌, [], List, filter, OnOk, IfOk};
-ghost use Rattle.std.specs.List.{list_any};
+ghost use Rattle.std.specs.List.{list_any, range_with_len};
 ghost use Rattle.std.specs.List.Sorted.{IsPermutation, IsSorted};
 ghost use Rattle.kp_base.specs.declared.lit.Lit.{Lit as Literal};
 ghost use Rattle.kp_base.specs.Lit.{has};
@@ -145,6 +145,39 @@ fn add_unsettled(
     Ok(())
 }
 
+// Whether an atom and its negation are both relevant to the target.
+fn is_split(relevance: &Relevance, target: Lit, atom: AtomId) -> bool
+    ensures { result ≡ are_paired relevance.now target (either_value atom.0) }
+{
+    let lit = Lit {
+        atom,
+        positive: true,
+    };
+    are_relevant(relevance, &[lit, lit.negated()], target)
+}
+
+// Whether that is so of some atom.
+fn is_some_split(relevance: &Relevance, target: Lit, atoms: u32) -> bool
+    ensures { result ≡ list_any (λ p. are_paired relevance.now target (either_value p)) (range_with_len 0 atoms) }
+{
+    (0..atoms).any(|p| is_split(relevance, target, AtomId(p)))
+}
+
+// The same, where it is so of some atom.
+fn add_split(
+    alloc: Global,
+    relevance: &Relevance,
+    primes: &Primes,
+    target: Lit,
+    found: &mut Row<LitSet>,
+) -> Result<(), Memory>
+    ensures { OnOk result ((known : List Literal) × IsClosure primes.now.atoms (formula primes.now) [] known × (found.new ≡ found.old ++ unsettled_below relevance.now known target primes.now.atoms)) }
+{
+    let known = known_at_start(alloc, primes)?;
+    add_unsettled(alloc, relevance, &known, target, primes.atoms(), found)?;
+    Ok(())
+}
+
 /// Adds for each atom in which initial states differ that it or its negation is true, where both literals are relevant
 /// to the target.
 pub(crate) fn add_differing(
@@ -156,8 +189,10 @@ pub(crate) fn add_differing(
 ) -> Result<(), Memory>
     ensures { OnOk result ((known : List Literal) × IsClosure primes.now.atoms (formula primes.now) [] known × (found.new ≡ found.old ++ unsettled_below relevance.now known target primes.now.atoms)) }
 {
-    let known = known_at_start(alloc, primes)?;
-    add_unsettled(alloc, relevance, &known, target, primes.atoms(), found)?;
+    let _clauses = primes.clauses();
+    if is_some_split(relevance, target, primes.atoms()) {
+        add_split(alloc, relevance, primes, target, found)?;
+    }
     Ok(())
 }
 
