@@ -1,5 +1,6 @@
 -- What is answered, by what was found.
-use Rattle.std.proofs.Common.{◌≡◌, ◌<◌, ℕ, List, Option, Some, None, Result, Ok, Err, take, length, get_or, sym, subst}
+use Rattle.std.proofs.Common.{◌≡◌, ◌<◌, ◌+◌, ℕ, Bool, true, false, List, Option, Some, None, Result, Ok, Err, take, length, get_or, sym, subst}
+use Rattle.std.proofs.lemmas.Bool.{false≢true}
 use Rattle.std.specs.Result.{IsErrAnd}
 use Rattle.kp_base.specs.declared.lit.Lit.{Lit}
 use Rattle.kp_base.specs.declared.ground.Ground.{Ground}
@@ -12,10 +13,10 @@ use Rattle.kp_cover.specs.Targets.{AreTargets}
 use Rattle.kp_width.specs.declared.report.WidthRow.{WidthRow}
 use Rattle.kp_width.specs.declared.report.WidthReport.{WidthReport}
 use Rattle.kp_width.specs.declared.report.WidthReport.TheVariants as reports
-use Rattle.kp_width.specs.Rows.{AreRows}
+use Rattle.kp_width.specs.Rows.{AreRows, IsOver}
 use Rattle.kp_width.specs.Answers.{IsReport, RefusesWidth, AnswersWidth}
-use Rattle.kp_width.specs.Found.{AnswersClauses, AnswersTarget, AnswersTargets, AnswersTags}
-use Rattle.kp_width.proofs.InTurn.{reached}
+use Rattle.kp_width.specs.Found.{AnswersClauses, AnswersTarget, AddsTarget, AnswersTargets, AnswersTags}
+use Rattle.kp_width.proofs.InTurn.{next_target, reached}
 
 module _ (limit bound : ℕ) (g : Ground) (i : Initial) where
   -- what the relevant clauses say is said of the target
@@ -25,14 +26,24 @@ module _ (limit bound : ℕ) (g : Ground) (i : Initial) where
   by_clauses t cs are (Err (stops.Refused r)) a = (a.0, a.1, record { relevant = cs; are_relevant = are; too_many = a.2 })
   by_clauses t cs are (Err stops.Memory) a = tt
 
-  -- a target ends the search
-  ended : (ts : List Lit) (k : ℕ) (t : Lit) (rows : List WidthRow) (stop : Stop) → k < length ts → t ≡ get_or ts k t → AreRows limit bound g i (take k ts) rows → AnswersTarget limit bound g i t (Err stop) → AnswersTargets limit bound g i ts (Err stop)
-  ended ts k t rows (stops.Refused r) lt is before a = (t, a.0, a.1, reached limit bound g i ts k t rows lt is before, a.2)
-  ended ts k t rows stops.Memory lt is before a = tt
+  -- a target ends the rows
+  cut_off : (ts : List Lit) (k : ℕ) (t : Lit) (rows new : List WidthRow) (stop : Stop) → k < length ts → t ≡ get_or ts k t → AreRows limit bound g i (take k ts) rows → AddsTarget limit bound g i t rows new (Err stop) → AnswersTargets limit bound g i ts (Err stop)
+  cut_off ts k t rows new (stops.Refused r) lt is before a = (t, a.0, a.1, reached limit bound g i ts k t rows lt is before, a.2)
+  cut_off ts k t rows new stops.Memory lt is before a = tt
 
-  pub ended_so : (ts : List Lit) (k : ℕ) (t : Lit) (rows : List WidthRow) (stop : Stop) (r : Result WidthReport Stop) → k < length ts → t ≡ get_or ts k t → AreRows limit bound g i (take k ts) rows → AnswersTarget limit bound g i t (Err stop) → IsErrAnd r (λ e. e ≡ stop) → AnswersTargets limit bound g i ts r
-  ended_so ts k t rows stop (Ok x) lt is before a e = absurd e
-  ended_so ts k t rows stop (Err s) lt is before a e = subst (λ (x : Stop). AnswersTargets limit bound g i ts (Err x)) (sym e) (ended ts k t rows stop lt is before a)
+  pub cut_off_so : (ts : List Lit) (k : ℕ) (t : Lit) (rows new : List WidthRow) (stop : Stop) (r : Result WidthReport Stop) → k < length ts → t ≡ get_or ts k t → AreRows limit bound g i (take k ts) rows → AddsTarget limit bound g i t rows new (Err stop) → IsErrAnd r (λ e. e ≡ stop) → AnswersTargets limit bound g i ts r
+  cut_off_so ts k t rows new stop (Ok x) lt is before a e = absurd e
+  cut_off_so ts k t rows new stop (Err s) lt is before a e = subst (λ (x : Stop). AnswersTargets limit bound g i ts (Err x)) (sym e) (cut_off ts k t rows new stop lt is before a)
+
+  -- it has no row
+  pub without_row : (t : Lit) (rows new : List WidthRow) (b : Bool) → b ≡ false → AddsTarget limit bound g i t rows new (Ok b) → IsOver limit bound g i t
+  without_row t rows new false e a = a.0
+  without_row t rows new true e a = absurd (false≢true (sym e))
+
+  -- it has one
+  pub with_row : (ts : List Lit) (k : ℕ) (t : Lit) (rows new : List WidthRow) (b : Bool) → k < length ts → t ≡ get_or ts k t → AreRows limit bound g i (take k ts) rows → b ≡ true → AddsTarget limit bound g i t rows new (Ok b) → AreRows limit bound g i (take (k + 1) ts) new
+  with_row ts k t rows new true lt is before e a = next_target limit bound g i ts k t rows new a.0 lt is before a.1 a.2
+  with_row ts k t rows new false lt is before e a = absurd (false≢true e)
 
 module _ (limits : Limits) (bound : ℕ) (g : Ground) (i : Initial) (all ts : List Lit) (of_all : AreTargets g all) (same : ts ≡ all) where
   are : AreTargets g ts

@@ -1,5 +1,5 @@
 -- What is found of one target, and of one after the other. This file serves proofs alone.
-use Rattle.std.specs.Prelude.{◌≡◌, ◌≤◌, ◌<◌, ℕ, List, Option, Some, None, Result, Ok, Err, length}
+use Rattle.std.specs.Prelude.{◌≡◌, ◌≤◌, ◌<◌, ℕ, Bool, true, false, List, [], ◌∷◌, ◌++◌, Option, Some, None, Result, Ok, Err, length}
 use Rattle.kp_base.specs.declared.lit.Lit.{Lit}
 use Rattle.kp_base.specs.declared.ground.Ground.{Ground}
 use Rattle.kp_base.specs.declared.ground.Initial.{Initial}
@@ -32,6 +32,13 @@ AnswersTarget limit bound g i target (Ok (Some row)) = IsRowOf limit bound g i t
 AnswersTarget limit bound g i target (Ok None) = IsOver limit bound g i target
 AnswersTarget limit bound g i target (Err (stops.Refused r)) = (size : ℕ) × (r ≡ refusals.SetsOver target size) × IsRefusedAt limit bound g i target size
 AnswersTarget limit bound g i target (Err stops.Memory) = Unit {0}
+
+-- on a target, where its row goes behind others
+abbrev pub AddsTarget : ℕ → ℕ → Ground → Initial → Lit → List WidthRow → List WidthRow → Result Bool Stop → Type 0
+AddsTarget limit bound g i target before after (Ok true) = (row : WidthRow) × IsRowOf limit bound g i target row × (after ≡ before ++ row ∷ [])
+AddsTarget limit bound g i target before after (Ok false) = IsOver limit bound g i target × (after ≡ before)
+AddsTarget limit bound g i target before after (Err (stops.Refused r)) = (size : ℕ) × (r ≡ refusals.SetsOver target size) × IsRefusedAt limit bound g i target size
+AddsTarget limit bound g i target before after (Err stops.Memory) = Unit {0}
 
 -- on targets
 abbrev pub AnswersTargets : ℕ → ℕ → Ground → Initial → List Lit → Result WidthReport Stop → Type 0

@@ -1,10 +1,11 @@
 //! All targets in turn.
-ghost use Rattle.std.specs.Prelude.{◌≡◌, ◌↔◌, ◌≤◌, length, true, IsTrue, IfOk};
+ghost use Rattle.std.specs.Prelude.{◌≡◌, ◌↔◌, ◌≤◌, ◌<◌, length, true, IsTrue, IfOk};
 ghost use Rattle.kp_base.specs.Implicates.{IsOfItsAtoms, are_below};
 ghost use Rattle.kp_primes.specs.Held.{formula};
 ghost use Rattle.kp_relevance.specs.Relevant.{ArePairsOf};
-ghost use Rattle.kp_width.specs.Found.{AnswersTargets, AnswersTags};
+ghost use Rattle.kp_width.specs.Found.{AddsTarget, AnswersTargets, AnswersTags};
 ghost use Rattle.kp_width.specs.Rows.{used_tags};
+ghost use Rattle.kp_width.specs.declared.report.WidthReport.TheVariants as reports;
 ghost use Rattle.kp_width.specs.Answers.{AnswersWidth};
 
 use crate::problem::Problem;
@@ -16,6 +17,29 @@ use kp_cover::targets;
 use kp_primes::Primes;
 use kp_relevance::Relevance;
 use std::alloc::Global;
+
+// Adds the row of a target, and tells whether it has one.
+fn add_row(
+    alloc: Global,
+    problem: &Problem,
+    bound: u32,
+    limit: u64,
+    target: Lit,
+    rows: &mut Row<WidthRow>,
+) -> Result<bool, Stop>
+    requires pairs { ArePairsOf problem.now.ground.now problem.now.relevance.now }
+    requires atoms { length problem.now.ground.now.atoms ≡ problem.now.primes.now.atoms }
+    requires target { target.atom.0 < problem.now.primes.now.atoms }
+    ensures { AddsTarget limit bound problem.now.ground.now (formula problem.now.primes.now) target rows.old rows.new result }
+{
+    match row_of(alloc, problem, bound, limit, target)? {
+        Some(row) => {
+            rows.push(row)?;
+            Ok(true)
+        }
+        None => Ok(false),
+    }
+}
 
 // The rows of targets, or the first that has none.
 fn rows_of(
@@ -32,9 +56,8 @@ fn rows_of(
 {
     let mut rows = Row::new(alloc);
     for target in targets {
-        match row_of(alloc, problem, bound, limit, *target)? {
-            Some(row) => rows.push(row)?,
-            None => return Ok(WidthReport::Over(*target)),
+        if !add_row(alloc, problem, bound, limit, *target, &mut rows)? {
+            return Ok(WidthReport::Over(*target));
         }
     }
     Ok(WidthReport::Within(rows))
@@ -47,18 +70,23 @@ fn has_few_tags(alloc: Global, rows: &[WidthRow], limit: u32) -> Result<bool, Me
     Ok(count_tags(alloc, rows)? <= limit as usize)
 }
 
+// The report of rows, unless they have too many tags.
+fn within_tags(alloc: Global, rows: Row<WidthRow>, limit: u32) -> Result<WidthReport, Stop>
+    ensures { AnswersTags limit (reports.Within rows) result }
+{
+    if has_few_tags(alloc, rows.slice(), limit)? {
+        Ok(WidthReport::Within(rows))
+    } else {
+        Err(Stop::Refused(Refused::TagsOver))
+    }
+}
+
 // The report, unless its rows have too many tags.
 fn within(alloc: Global, report: WidthReport, limit: u32) -> Result<WidthReport, Stop>
     ensures { AnswersTags limit report result }
 {
     match report {
-        WidthReport::Within(rows) => {
-            if has_few_tags(alloc, rows.slice(), limit)? {
-                Ok(WidthReport::Within(rows))
-            } else {
-                Err(Stop::Refused(Refused::TagsOver))
-            }
-        }
+        WidthReport::Within(rows) => within_tags(alloc, rows, limit),
         WidthReport::Over(target) => Ok(WidthReport::Over(target)),
     }
 }
