@@ -5,6 +5,7 @@ ghost use Rattle.kp_parts.specs.Lexemes.{from};
 ghost use Rattle.kp_nodes.specs.Nodes.{cond_view};
 ghost use Rattle.kp_parts.specs.Readers.{Gives, terms_class, test_at, denied_at, cond_at, cond_inside_at, conds_at};
 
+use crate::ahead::parts_ahead;
 use crate::atoms::{body, equality};
 use crate::runs::add;
 use bumpalo::Bump;
@@ -171,7 +172,7 @@ fn conds<'a>(
     ensures reads { Gives tokens.now (λ s. map cond_view s.now) result (conds_at mode levels (from tokens.now start)) }
     ensures onward { IfOk result (λ x. (start ≤ x.1) × (x.1 ≤ length tokens.now)) }
 {
-    let mut parts = Vec::new(bump);
+    let mut parts = Vec::with_capacity(bump, parts_ahead(tokens, start))?;
     let mut at = start;
     'more: while is_left(tokens, at) {
         let (part, after) = cond(bump, tokens, at, levels, mode)?;

@@ -4,6 +4,7 @@ ghost use Rattle.kp_parts.specs.Lexemes.{from};
 ghost use Rattle.kp_nodes.specs.Nodes.{typed_view, cond_view, eff_view};
 ghost use Rattle.kp_parts.specs.Readers.{Gives, eff_at, eff_inside_at, when_at, each_at, effs_at};
 
+use crate::ahead::parts_ahead;
 use crate::atoms::{atom, body};
 use crate::conds::{Mode, cond};
 use crate::runs::add;
@@ -153,7 +154,7 @@ fn effs<'a>(
     ensures reads { Gives tokens.now (λ s. map eff_view s.now) result (effs_at levels (from tokens.now start)) }
     ensures onward { IfOk result (λ x. (start ≤ x.1) × (x.1 ≤ length tokens.now)) }
 {
-    let mut parts = Vec::new(bump);
+    let mut parts = Vec::with_capacity(bump, parts_ahead(tokens, start))?;
     let mut at = start;
     'more: while is_left(tokens, at) {
         let (part, after) = eff(bump, tokens, at, levels)?;

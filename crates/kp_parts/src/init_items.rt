@@ -3,6 +3,7 @@ ghost use Rattle.kp_parts.specs.Lexemes.{from};
 ghost use Rattle.kp_nodes.specs.Nodes.{item_view, lit_view};
 ghost use Rattle.kp_parts.specs.Readers.{Gives, lit_at, lit_inside_at, lits_at, item_at, item_inside_at, items_at};
 
+use crate::ahead::parts_ahead;
 use crate::atoms::{atom, body};
 use crate::lexeme::word_node;
 use crate::runs::add;
@@ -71,7 +72,7 @@ fn lits<'a>(
     ensures reads { Gives tokens.now (λ s. map lit_view s.now) result (lits_at levels (from tokens.now start)) }
     ensures onward { IfOk result (λ x. (start ≤ x.1) × (x.1 ≤ length tokens.now)) }
 {
-    let mut parts = Vec::new(bump);
+    let mut parts = Vec::with_capacity(bump, parts_ahead(tokens, start))?;
     let mut at = start;
     'more: while is_left(tokens, at) {
         let (part, after) = lit(bump, tokens, at, levels)?;
@@ -157,7 +158,7 @@ pub fn items<'a>(
     ensures reads { Gives tokens.now (λ v. map item_view v.items) result (items_at levels (from tokens.now start)) }
     ensures onward { IfOk result (λ x. (start ≤ x.1) × (x.1 ≤ length tokens.now)) }
 {
-    let mut parts = Vec::new(bump);
+    let mut parts = Vec::with_capacity(bump, parts_ahead(tokens, start))?;
     let mut at = start;
     'more: while is_left(tokens, at) {
         let (part, after) = item(bump, tokens, at, levels)?;

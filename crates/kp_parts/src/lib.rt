@@ -2,6 +2,7 @@
 //! `specs/Readers.antt` says which form of the grammar each one reads.
 #![tactic(auto)]
 
+mod ahead;
 mod atoms;
 mod conds;
 mod effects;

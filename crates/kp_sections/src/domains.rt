@@ -79,6 +79,14 @@ fn section<'a>(
     Ok((part, at))
 }
 
+// How many actions begin: as many schemas there may be. It says how much room to make, and no clause speaks of it.
+fn actions_ahead(tokens: &[Lexeme]) -> usize {
+    tokens
+        .iter()
+        .filter(|t| matches!(t.symbol, Symbol::Action))
+        .count()
+}
+
 // Sections, as many as stand there.
 fn sections<'a>(
     bump: &'a Bump,
@@ -90,11 +98,12 @@ fn sections<'a>(
     ensures reads { GivesSections tokens.now result (sections_at levels (from tokens.now start)) }
     ensures onward { IfOk result (λ x. (start ≤ x.1) × (x.1 ≤ length tokens.now)) }
 {
+    let schemas = Vec::with_capacity(bump, actions_ahead(tokens))?;
     let mut declared = Declared {
         kinds: Vec::new(bump),
         constants: Vec::new(bump),
         predicates: Vec::new(bump),
-        schemas: Vec::new(bump),
+        schemas,
     };
     let mut at = start;
     'more: while is_left(tokens, at) {

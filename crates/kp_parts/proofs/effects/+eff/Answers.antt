@@ -15,7 +15,7 @@ use Rattle.kp_parts.proofs.effects.+eff.Goals as goal
 pub effs-returns-in_err-part-clause-reads : goal.effs-returns-in_err-part-clause-reads
 unfolding eff_at effs_at
 effs-returns-in_err-part-clause-reads t c =
-    let p = err_from_is_err_and c.from_residual.result c.from_residual.ensures.1 in
+    let p = err_from_is_err_and c.from_residual-in_err-part.result c.from_residual-in_err-part.ensures.1 in
     rw (p.1, p.2) (ends c.args.levels is_left (within n_eff) _ c.in_err-part.field-0.0 _ _ _ (sym c.is_left.ensures.test ∙ c.more-test.true) c.in_err-part.ensures.reads c.more.invariant.so_far)
 
 pub effs-more-preserved : goal.effs-more-preserved

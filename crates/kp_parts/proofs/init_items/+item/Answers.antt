@@ -15,7 +15,7 @@ use Rattle.kp_parts.proofs.init_items.+item.Goals as goal
 pub items-returns-in_err-part-clause-reads : goal.items-returns-in_err-part-clause-reads
 unfolding item_at items_at
 items-returns-in_err-part-clause-reads t c =
-    let p = err_from_is_err_and c.from_residual.result c.from_residual.ensures.1 in
+    let p = err_from_is_err_and c.from_residual-in_err-part.result c.from_residual-in_err-part.ensures.1 in
     rw (p.1, p.2) (ends c.args.levels is_left (within n_item) _ c.in_err-part.field-0.0 _ _ _ (sym c.is_left.ensures.test ∙ c.more-test.true) c.in_err-part.ensures.reads c.more.invariant.so_far)
 
 pub items-more-preserved : goal.items-more-preserved

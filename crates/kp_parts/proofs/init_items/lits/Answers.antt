@@ -11,7 +11,7 @@ use Rattle.kp_parts.proofs.init_items.lits.Goals as goal
 pub returns-in_err-part-clause-reads : goal.returns-in_err-part-clause-reads
 unfolding lit_at lits_at
 returns-in_err-part-clause-reads c =
-    let p = err_from_is_err_and c.from_residual.result c.from_residual.ensures.1 in
+    let p = err_from_is_err_and c.from_residual-in_err-part.result c.from_residual-in_err-part.ensures.1 in
     rw (p.1, p.2) (ends c.args.levels is_left lit _ c.in_err-part.field-0.0 _ _ _ (sym c.is_left.ensures.test ∙ c.more-test.true) c.in_err-part.ensures.reads c.more.invariant.so_far)
 
 pub more-preserved : goal.more-preserved

@@ -10,7 +10,7 @@ use Rattle.kp_sections.proofs.domains.sections.Goals as goal
 pub returns-in_err-part-clause-reads : goal.returns-in_err-part-clause-reads
 unfolding section_at sections_at
 returns-in_err-part-clause-reads c =
-    let p = err_from_is_err_and c.from_residual.result c.from_residual.ensures.1 in
+    let p = err_from_is_err_and c.from_residual-in_err-part.result c.from_residual-in_err-part.ensures.1 in
     let k = c.more.invariant.kept in
     rw (p.1, p.2) (ends c.args.levels is_left section _ c.in_err-part.field-0.0 k.front _ _ (sym c.is_left.ensures.test ∙ c.more-test.true) c.in_err-part.ensures.reads k.so_far)
 

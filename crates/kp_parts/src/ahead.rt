@@ -1,0 +1,32 @@
+//! How much room lists of parts take, read ahead, so that they seldom move in the arena. No clause speaks of it.
+
+ghost use Rattle.std.specs.Prelude.{◌≤◌, length};
+
+use kp_cursor::Lexeme;
+use kp_grammar::Symbol;
+
+/// How many brackets open from a place on, those within them not counted, before the bracket around the place closes.
+pub fn parts_ahead(tokens: &[Lexeme], at: usize) -> usize
+    requires { at ≤ length tokens.now }
+{
+    let mut open = 0u32;
+    let mut parts = 0usize;
+    for token in &tokens[at..] {
+        match token.symbol {
+            Symbol::Left => {
+                if open == 0 {
+                    parts = parts.saturating_add(1);
+                }
+                open = open.saturating_add(1);
+            }
+            Symbol::Right => {
+                if open == 0 {
+                    return parts;
+                }
+                open -= 1;
+            }
+            _ => {}
+        }
+    }
+    parts
+}
