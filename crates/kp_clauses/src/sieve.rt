@@ -5,10 +5,12 @@ ghost use Rattle.kp_base.specs.Implicates.{is_within};
 ghost use Rattle.kp_clauses.specs.Stored.{subsumed, AreNeeded};
 ghost use Rattle.kp_clauses.specs.Sieved.{key_of, keys, stands, tried, common_at, narrowed, AreKept};
 ghost use Rattle.kp_clauses.specs.Listed.{row};
+ghost use Rattle.kp_clauses.specs.Rests.{AreRests};
 
 use crate::clause::{common, subsumes};
 use crate::lists::{list, make_lists};
 use crate::mark::{mark, marks_within};
+use crate::rests::put_rests;
 use kp_base::{Lit, LitSet, Memory, Row};
 use std::alloc::Global;
 use std::marker::Model;
@@ -16,8 +18,8 @@ use std::marker::Model;
 /// Where a clause stands, and its mark.
 #[derive(Clone, Copy)]
 pub struct Spot {
-    mark: u64,
-    place: usize,
+    pub(crate) mark: u64,
+    pub(crate) place: usize,
 }
 
 /// Clauses in the order in which they came, among which one within another clause is found soon. Contracts see the
@@ -88,6 +90,17 @@ impl Sieve {
         narrow_by(self.alloc, &mut set, clauses, spots, word, c)?;
         narrow_by_literals(self.alloc, &mut set, clauses, &self.lists, word, c)?;
         Ok(set)
+    }
+
+    /// What clauses have beside one without a literal, of some that have little. Where one of these is within another
+    /// clause, a clause of the sieve is within the resolvent of the two on the literal.
+    pub fn rests(&self, e: &LitSet, lit: Lit) -> Result<Sieve, Memory>
+        ensures { IfOk result (AreRests self.now e.now lit) }
+    {
+        let clauses = self.clauses.slice();
+        let mut rests = Sieve::new(self.alloc);
+        put_rests(self.alloc, &mut rests, clauses, &self.lists, mark(e), e, lit)?;
+        Ok(rests)
     }
 
     /// Adds a clause at the end. At `Memory` the clauses are as they were, and this one is gone.

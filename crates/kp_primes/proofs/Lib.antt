@@ -1,4 +1,5 @@
 pub mod Placing
+pub mod Refusing
 pub mod Spreading
 pub mod Cover
 pub mod Ranging

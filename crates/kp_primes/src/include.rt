@@ -7,6 +7,7 @@ ghost use Rattle.kp_base.specs.declared.lit.Lit.{Lit as Literal};
 ghost use Rattle.kp_base.specs.Lists.{Member};
 ghost use Rattle.kp_base.specs.Lit.{negated};
 ghost use Rattle.kp_clauses.specs.Stored.{subsumed, with_all, are_apart, AreNeeded};
+ghost use Rattle.kp_clauses.specs.Rests.{AreRests};
 ghost use Rattle.kp_primes.specs.Placed.{places, met_one, met_at, AreHolders};
 ghost use Rattle.kp_primes.specs.Included.{grown, spread, walked, is_spare, is_least, met, met_all, Spreads, Steps, AreNew, Counts, Walks, Enters, idle, included};
 
@@ -68,7 +69,7 @@ fn keep(
     requires { is_tautology c ≡ false }
     ensures { OnOk result (fresh.new ≡ cond (is_least primes.now news.now lit c) (grown fresh.old c) fresh.old) }
 {
-    if fresh.subsumes(&c) || has_lit(&c, lit) || primes.subsumes(&c) {
+    if has_lit(&c, lit) || primes.subsumes(&c) || fresh.subsumes(&c) {
         return Ok(());
     }
     if !has_spare(alloc, primes, news, lit, &c)? {
@@ -77,18 +78,25 @@ fn keep(
     Ok(())
 }
 
-// Resolves a new clause with a prime implicate, and keeps what is new.
+// Resolves a new clause with a prime implicate, and keeps what is new. Where what some prime implicate has beside the
+// new clause is within this one, the resolvent holds that prime implicate, and isn't made.
+#[tactic(auto, using(crate::proofs::Refusing::met_refused))]
 fn meet(
     alloc: Global,
     primes: &Store,
     news: &Store,
+    rests: &Sieve,
     fresh: &mut Sieve,
     e: &LitSet,
     p: &LitSet,
     lit: Lit,
 ) -> Result<(), Memory>
+    requires { AreRests primes.now e.now lit rests.now }
     ensures { OnOk result (fresh.new ≡ met primes.now news.now e.now lit p.now fresh.old) }
 {
+    if rests.subsumes(p) {
+        return Ok(());
+    }
     if has_lit(p, lit.negated()) {
         if let Some(r) = resolve(alloc, e, p, lit)? {
             keep(alloc, primes, news, fresh, r, lit)?;
@@ -102,15 +110,17 @@ fn meet_one(
     alloc: Global,
     primes: &Store,
     news: &Store,
+    rests: &Sieve,
     fresh: &mut Sieve,
     e: &LitSet,
     place: usize,
     lit: Lit,
 ) -> Result<(), Memory>
+    requires { AreRests primes.now e.now lit rests.now }
     ensures { OnOk result (fresh.new ≡ met_one primes.now news.now e.now lit (slice_get primes.now place) fresh.old) }
 {
     match primes.clauses().slice().get(place) {
-        Some(p) => meet(alloc, primes, news, fresh, e, p, lit),
+        Some(p) => meet(alloc, primes, news, rests, fresh, e, p, lit),
         None => Ok(()),
     }
 }
@@ -120,17 +130,41 @@ fn meet_at(
     alloc: Global,
     primes: &Store,
     news: &Store,
+    rests: &Sieve,
     fresh: &mut Sieve,
     e: &LitSet,
     at: &[usize],
     lit: Lit,
 ) -> Result<(), Memory>
+    requires { AreRests primes.now e.now lit rests.now }
     ensures { OnOk result (fresh.new ≡ met_at primes.now news.now e.now lit at.now fresh.old) }
 {
     for place in at {
-        meet_one(alloc, primes, news, fresh, e, *place, lit)?;
+        meet_one(alloc, primes, news, rests, fresh, e, *place, lit)?;
     }
     Ok(())
+}
+
+// Whether it is worth while to look at all prime implicates once before so many of them are resolved with a clause.
+fn are_many(at: &[usize], primes: &Store) -> bool {
+    at.len() > 8 && at.len() > primes.clauses().len() / 256
+}
+
+// What prime implicates have beside a new clause without the literal; nothing where few are resolved with it.
+#[tactic(auto, using(crate::proofs::Refusing::no_rests))]
+fn rests_at(
+    alloc: Global,
+    primes: &Store,
+    e: &LitSet,
+    at: &[usize],
+    lit: Lit,
+) -> Result<Sieve, Memory>
+    ensures { IfOk result (AreRests primes.now e.now lit) }
+{
+    if are_many(at, primes) {
+        return primes.rests(e, lit);
+    }
+    Ok(Sieve::new(alloc))
 }
 
 // Resolves a new clause with all prime implicates, where only these have the literal's negation.
@@ -147,7 +181,8 @@ fn meet_all(
     requires { at.now ≡ places (negated lit) 0 primes.now }
     ensures { OnOk result (fresh.new ≡ met_all primes.now news.now e.now lit primes.now fresh.old) }
 {
-    meet_at(alloc, primes, news, fresh, e, at, lit)?;
+    let rests = rests_at(alloc, primes, e, at, lit)?;
+    meet_at(alloc, primes, news, &rests, fresh, e, at, lit)?;
     Ok(())
 }
 
