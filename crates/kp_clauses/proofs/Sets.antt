@@ -32,7 +32,7 @@ ends_outside c d i x at none = not-true-case (is_within c d) (λ h. false≢true
 
 -- ---- first literals
 
-least : (y : Lit) (ys : List Lit) → IsAscending (y ∷ ys) → (x : Lit) → Member (y ∷ ys) x → code_of y ≤ code_of x
+pub least : (y : Lit) (ys : List Lit) → IsAscending (y ∷ ys) → (x : Lit) → Member (y ∷ ys) x → code_of y ≤ code_of x
 least y [] s x m = elim m [ inl e ↦ let h = ap code_of e in omega arith | inr bad ↦ absurd bad ]
 least y (z ∷ ys) s x m = elim m [ inl e ↦ let h = ap code_of e in omega arith | inr r ↦ let h = least z ys s.1 x r in let lt = s.0 in omega arith ]
 

@@ -2,7 +2,7 @@ ghost use Rattle.std.specs.Prelude.{◌≡◌, ◌≤◌, IsTrue, true, false, f
 ghost use Rattle.kp_base.specs.Lit.{positive, negative};
 ghost use Rattle.kp_base.specs.Steps.{has};
 ghost use Rattle.kp_base.specs.Implicates.{is_within, is_tautology};
-ghost use Rattle.kp_clauses.specs.Walked.{walked};
+ghost use Rattle.kp_clauses.specs.Walked.{walked, has_pair};
 ghost use Rattle.kp_clauses.specs.Resolved.{with_unless, with_if, common, opposed_elsewhere, resolved, resolvent_on};
 
 use kp_base::{AtomId, Lit, LitSet, Memory};
@@ -94,11 +94,29 @@ pub fn subsumes(c: &LitSet, d: &LitSet) -> bool
     is_inside(c, d)
 }
 
+// Whether two literals, one behind the other, are of one atom, where this one stands before the first.
+fn has_pair(first: Lit, lits: &[Lit]) -> bool
+    ensures { result ≡ has_pair first lits.now }
+{
+    let mut last = first;
+    for y in lits {
+        if last.atom == y.atom {
+            return true;
+        }
+        last = *y;
+    }
+    false
+}
+
 /// Whether the clause has a literal and its negation.
 pub fn is_tautology(c: &LitSet) -> bool
     ensures { result ≡ is_tautology c.now }
 {
-    c.opposed(c)
+    // In order of code the two stand side by side.
+    match c.slice().split_first() {
+        Some((x, others)) => has_pair(*x, others),
+        None => false,
+    }
 }
 
 // Adds a literal, unless it is the one to be left out.

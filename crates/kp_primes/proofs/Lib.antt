@@ -10,6 +10,7 @@ pub mod Lengths
 pub mod Growing
 pub mod Sorting
 pub mod Asking
+pub mod Below
 pub mod Closing
 pub mod Answered
 pub mod Found

@@ -69,7 +69,7 @@ fn keep(
     requires { is_tautology c ≡ false }
     ensures { OnOk result (fresh.new ≡ cond (is_least primes.now news.now lit c) (grown fresh.old c) fresh.old) }
 {
-    if has_lit(&c, lit) || primes.subsumes(&c) || fresh.subsumes(&c) {
+    if fresh.subsumes(&c) || has_lit(&c, lit) || primes.subsumes(&c) {
         return Ok(());
     }
     if !has_spare(alloc, primes, news, lit, &c)? {
