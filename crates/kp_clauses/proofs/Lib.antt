@@ -7,5 +7,6 @@ pub mod Resting
 pub mod Storing
 pub mod Extending
 pub mod Sieving
+pub mod Marking
 pub mod Saturated
 pub mod ExampleClauses

@@ -330,9 +330,9 @@ fn put_in(
     ensures all { OnOk result (primes.new ≡ with_all primes.old news) }
     ensures held { OnOk result (AreHolders holders.new primes.new) }
 {
-    let clauses = primes.clauses();
+    let _apart = primes.clauses();
     let others = news.clauses();
-    if are_held(clauses.slice(), holders, others.slice()) {
+    if are_held(primes, holders, others.slice()) {
         put_over(alloc, primes, holders, news)?;
     } else {
         put_behind(primes, holders, news)?;
