@@ -1,13 +1,13 @@
 -- What clauses have beside another one tells of its resolvents.
-use Rattle.std.proofs.Common.{◌≡◌, Bool, true, false, not, ◌||◌, ◌⊎◌, ℕ, cond, fold, sym, ◌∙◌, ap, subst, inl, inr, refl, List, [], ◌∷◌, ◌++◌, Some, slice_get}
-use Rattle.std.proofs.lemmas.Bool.{false≢true, cases_Bool, or_cases, not-true}
+use Rattle.std.proofs.Common.{◌≡◌, Bool, true, false, not, ◌||◌, ◌⊎◌, cond, fold, sym, ◌∙◌, ap, subst, inl, inr, refl, List, [], ◌∷◌, ◌++◌}
+use Rattle.std.proofs.lemmas.Bool.{false≢true, cases_Bool}
 use Rattle.kp_base.specs.declared.lit.Lit.{Lit}
 use Rattle.kp_base.specs.Lists.{Member}
 use Rattle.kp_base.specs.Lit.{negated, same_lit}
 use Rattle.kp_base.specs.LitSet.{with_lit}
 use Rattle.kp_base.specs.Steps.{has}
 use Rattle.kp_base.specs.Implicates.{is_within}
-use Rattle.kp_base.proofs.Lists.{any_member, any_from, member_at, member_left, member_right, append_member, filter_member, member_filter}
+use Rattle.kp_base.proofs.Lists.{any_member, any_from, member_left, member_right, append_member, member_filter}
 use Rattle.kp_base.proofs.Lits.{has-member, member-has, same_lit-true, same_lit-refl}
 use Rattle.kp_clauses.specs.Resolved.{without, resolved}
 use Rattle.kp_clauses.specs.Rests.{with_outside, rest_of, IsRest, AreRests}
@@ -44,18 +44,20 @@ outside e l (y ∷ d) set x m = elim m [
 
 -- one rest more
 pub rests_more : (cs : List (List Lit)) (e : List Lit) (l : Lit) (rs : List (List Lit)) (d : List Lit) → Member cs d → has (rest_of e l d) (negated l) ≡ false → AreRests cs e l rs → AreRests cs e l (rs ++ rest_of e l d ∷ [])
-rests_more cs e l rs d there free h = record { each = λ r m. elim (append_member rs (rest_of e l d ∷ []) r m) [
-  | inl old ↦ h.each r old
-  | inr new ↦ elim new [
-    | inl same ↦ subst (IsRest cs e l) same (record {
-      clause = d;
-      there = there;
-      covers = λ x n. elim (outside e l d [] x n) [ inl a ↦ member_left (without l e) (rest_of e l d) x a | inr b ↦ member_right (without l e) (rest_of e l d) x b ];
-      free = free;
-    })
-    | inr bad ↦ absurd bad
-  ]
-] }
+rests_more cs e l rs d there free h = record {
+  each = λ r m. elim (append_member rs (rest_of e l d ∷ []) r m) [
+    | inl old ↦ h.each r old
+    | inr new ↦ elim new [
+      | inl same ↦ subst (IsRest cs e l) same (record {
+        clause = d;
+        there = there;
+        covers = λ x n. elim (outside e l d [] x n) [ inl a ↦ member_left (without l e) (rest_of e l d) x a | inr b ↦ member_right (without l e) (rest_of e l d) x b ];
+        free = free;
+      })
+      | inr bad ↦ absurd bad
+    ]
+  ];
+}
 
 -- no rests at all
 pub no_rests : (cs : List (List Lit)) (e : List Lit) (l : Lit) → AreRests cs e l []

@@ -1,5 +1,5 @@
 -- A walk over two ascending clauses tells whether the first is within the second.
-use Rattle.std.proofs.Common.{◌≡◌, ◌*◌, not, eqb-true, ◌<◌, ◌≤◌, ◌+◌, ◌-◌, ℕ, zero, suc, Bool, true, false, ◌||◌, ◌&&◌, if◌then◌else◌, sym, ◌∙◌, ap, subst, inl, inr, refl, arith, List, [], ◌∷◌, length, drop, Some, None, slice_get, nat_lt, nat_eq}
+use Rattle.std.proofs.Common.{◌≡◌, ◌*◌, not, eqb-true, ◌<◌, ◌≤◌, ◌+◌, ◌-◌, ℕ, zero, suc, Bool, true, false, if◌then◌else◌, sym, ◌∙◌, ap, subst, inl, inr, refl, arith, List, [], ◌∷◌, length, drop, nat_eq}
 use Rattle.std.proofs.lemmas.Bool.{cases_order, false≢true, or_cases, or_left, or_right, eq-eqb}
 use Rattle.std.proofs.lemmas.Bool.Decides.{nat_tests}
 use Rattle.kp_base.specs.declared.lit.Lit.{Lit}
@@ -63,10 +63,13 @@ walked_is n (x ∷ c) (y ∷ d) s t long = elim (cases_order (code_of x) (code_o
   where
     step-same : code_of x ≡ code_of y → walked n c d ≡ is_within c d → walked n (x ∷ c) (y ∷ d) ≡ is_within c d
     step-same same rest = grind (arith, nat_tests)
+
     step-before : code_of x < code_of y → walked n (x ∷ c) (y ∷ d) ≡ false
     step-before before = grind (arith, nat_tests)
+
     step-none : code_of y < code_of x → n ≡ 0 → walked n (x ∷ c) (y ∷ d) ≡ false
     step-none after none = grind (arith, nat_tests)
+
     step-after : code_of y < code_of x → 0 < n → walked n (x ∷ c) (y ∷ d) ≡ walked (n - 1) (x ∷ c) d
     step-after after some = grind (arith, nat_tests)
 

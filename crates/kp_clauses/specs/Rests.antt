@@ -1,5 +1,5 @@
 -- What clauses have beside the literals of another one but one. This file serves proofs alone.
-use Rattle.std.specs.Prelude.{◌≡◌, Bool, false, not, ◌||◌, ◌++◌, cond, fold, List, []}
+use Rattle.std.specs.Prelude.{◌≡◌, false, not, ◌||◌, ◌++◌, cond, fold, List, []}
 use Rattle.kp_base.specs.declared.lit.Lit.{Lit}
 use Rattle.kp_base.specs.Lists.{Member}
 use Rattle.kp_base.specs.Lit.{negated, same_lit}

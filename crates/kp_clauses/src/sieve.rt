@@ -76,6 +76,9 @@ impl Sieve {
         ensures { result ≡ subsumed self.now c.now }
     {
         let clauses = self.clauses.slice();
+        if clauses.is_empty() {
+            return false;
+        }
         let word = mark(c);
         any_listed(clauses, &self.lists, 0, word, c)
             || any_of_literals(clauses, &self.lists, word, c)
@@ -108,7 +111,15 @@ impl Sieve {
     {
         let clauses = self.clauses.slice();
         let mut rests = Sieve::new(self.alloc);
-        put_rests(self.alloc, &mut rests, clauses, &self.lists, mark(e), e, lit)?;
+        put_rests(
+            self.alloc,
+            &mut rests,
+            clauses,
+            &self.lists,
+            mark(e),
+            e,
+            lit,
+        )?;
         Ok(rests)
     }
 
@@ -314,13 +325,7 @@ fn is_held_at(clauses: &[LitSet], marks: &[u64], place: usize, word: u64, c: &Li
 }
 
 // Whether it is within one of those at these places.
-fn any_holds(
-    clauses: &[LitSet],
-    marks: &[u64],
-    places: &[usize],
-    word: u64,
-    c: &LitSet,
-) -> bool
+fn any_holds(clauses: &[LitSet], marks: &[u64], places: &[usize], word: u64, c: &LitSet) -> bool
     requires marked { AreMarked marks.now clauses.now }
     requires word { IsMark c.now word }
     ensures { result ≡ list_any (λ i. stands (is_within c.now) (slice_get clauses.now i)) places.now }

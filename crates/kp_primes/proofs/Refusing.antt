@@ -1,6 +1,5 @@
 -- Resolvents that are surely not new.
 use Rattle.std.proofs.Common.{◌≡◌, Bool, true, false, not, ◌||◌, ◌&&◌, cond, refl, List, []}
-use Rattle.std.specs.List.{list_any}
 use Rattle.kp_base.specs.declared.lit.Lit.{Lit}
 use Rattle.kp_base.specs.Lit.{negated}
 use Rattle.kp_base.specs.Steps.{has}
@@ -9,7 +8,7 @@ use Rattle.kp_clauses.specs.Resolved.{resolved}
 use Rattle.kp_clauses.specs.Rests.{AreRests}
 use Rattle.kp_clauses.specs.Stored.{subsumed}
 use Rattle.kp_clauses.proofs.Resting as resting
-use Rattle.kp_primes.specs.Included.{is_least, is_spare, grown, met}
+use Rattle.kp_primes.specs.Included.{is_least, grown, met}
 
 -- what holds a prime implicate isn't least
 not_least : (ps es : List (List Lit)) (l : Lit) (c : List Lit) → subsumed ps c ≡ true → is_least ps es l c ≡ false

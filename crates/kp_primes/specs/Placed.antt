@@ -1,5 +1,5 @@
 -- The places of the clauses that have a literal. This file serves proofs alone.
-use Rattle.std.specs.Prelude.{◌≡◌, ◌+◌, ℕ, Bool, true, false, cond, List, [], ◌∷◌, Option, None, Some, slice_get, fold, length, nat_lt}
+use Rattle.std.specs.Prelude.{◌≡◌, ◌+◌, ℕ, Bool, true, cond, List, [], ◌∷◌, Option, None, Some, slice_get, fold, length, nat_lt}
 use Rattle.std.specs.List.{list_any}
 use Rattle.kp_base.specs.declared.lit.Lit.{Lit}
 use Rattle.kp_base.specs.Lit.{code_of}
