@@ -1,4 +1,4 @@
--- What clauses have beside the literals of another one but one. This file serves proofs alone.
+-- What clauses have beside the literals of another one but one.
 use Rattle.std.specs.Prelude.{◌≡◌, false, not, ◌||◌, ◌++◌, cond, fold, List, []}
 use Rattle.kp_base.specs.declared.lit.Lit.{Lit}
 use Rattle.kp_base.specs.Lists.{Member}
@@ -7,11 +7,11 @@ use Rattle.kp_base.specs.LitSet.{with_lit}
 use Rattle.kp_base.specs.Steps.{has}
 use Rattle.kp_clauses.specs.Resolved.{without}
 
--- the set with a literal, if a clause without l lacks it
+-- the set with a literal, if a clause without l lacks it; for proofs alone
 abbrev pub with_outside : List Lit → Lit → List Lit → Lit → List Lit
 with_outside e l set x = cond (same_lit x l || not (has e x)) (with_lit x set) set
 
--- what a clause has beside another one without l
+-- what a clause has beside another one without l; for proofs alone
 abbrev pub rest_of : List Lit → Lit → List Lit → List Lit
 rest_of e l d = fold (with_outside e l) [] d
 
