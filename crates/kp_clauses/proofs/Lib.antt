@@ -1,9 +1,12 @@
 pub mod Logic
+pub mod Walking
 pub mod Within
 pub mod Sets
 pub mod Resolving
+pub mod Resting
 pub mod Storing
 pub mod Extending
 pub mod Sieving
+pub mod Marking
 pub mod Saturated
 pub mod ExampleClauses

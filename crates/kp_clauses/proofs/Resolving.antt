@@ -41,7 +41,7 @@ without_true s l c off h =
     let x = any_member (holds s) c h in
     any_from (holds s) (without l c) x.0 (member_filter (λ x. not (same_lit x l)) c x.0 x.1 (ap not (not-true-case (same_lit x.0 l) (λ e. false≢true (sym off ∙ subst (λ (y : Lit). holds s y ≡ true) (same_lit-true x.0 l e) x.2))))) x.2
 
-both_parts : (p : Lit → Bool) (c d : List Lit) (l : Lit) (x : Lit) → Member (without l c ++ without (negated l) d) x → p x ≡ true → list_any p (resolved c d l) ≡ true
+pub both_parts : (p : Lit → Bool) (c d : List Lit) (l : Lit) (x : Lit) → Member (without l c ++ without (negated l) d) x → p x ≡ true → list_any p (resolved c d l) ≡ true
 both_parts p c d l x m h = any-set_of p (without l c ++ without (negated l) d) ∙ any_from p (without l c ++ without (negated l) d) x m h
 
 -- a resolvent holds where both clauses hold
@@ -85,7 +85,7 @@ within_resolved c d l = (
       | inr off ↦ inr (member-has (resolved c d l) x (both_parts (same_lit x) c d l x (f x (member_filter (λ x. not (same_lit x k)) b x m (ap not off))) (same_lit-refl x)))
     ]
 
-member_with : (l : Lit) (c : List Lit) (x : Lit) → Member (l ∷ c) x → Member (with_lit l c) x
+pub member_with : (l : Lit) (c : List Lit) (x : Lit) → Member (l ∷ c) x → Member (with_lit l c) x
 member_with l c x m = member-has (with_lit l c) x (any-with_lit (same_lit x) l c ∙ elim m [
   | inl same ↦ or_right (has c x) (same_lit x l) (subst (λ (y : Lit). same_lit x y ≡ true) (sym same) (same_lit-refl x))
   | inr r ↦ or_left (has c x) (same_lit x l) (has-member c x r)

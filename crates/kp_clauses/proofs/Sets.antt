@@ -32,9 +32,14 @@ ends_outside c d i x at none = not-true-case (is_within c d) (λ h. false≢true
 
 -- ---- first literals
 
-least : (y : Lit) (ys : List Lit) → IsAscending (y ∷ ys) → (x : Lit) → Member (y ∷ ys) x → code_of y ≤ code_of x
+pub least : (y : Lit) (ys : List Lit) → IsAscending (y ∷ ys) → (x : Lit) → Member (y ∷ ys) x → code_of y ≤ code_of x
 least y [] s x m = elim m [ inl e ↦ let h = ap code_of e in omega arith | inr bad ↦ absurd bad ]
 least y (z ∷ ys) s x m = elim m [ inl e ↦ let h = ap code_of e in omega arith | inr r ↦ let h = least z ys s.1 x r in let lt = s.0 in omega arith ]
+
+-- the others of an ascending list stand behind its first literal
+pub later : (y : Lit) (ys : List Lit) → IsAscending (y ∷ ys) → (x : Lit) → Member ys x → code_of y < code_of x
+later y [] s x m = absurd m
+later y (z ∷ ys) s x m = let h = least z ys s.1 x m in let lt = s.0 in omega arith
 
 -- a clause whose first literal stands before that of an ascending one isn't within it
 pub begins_outside : (c d : List Lit) (x y : Lit) → slice_get c 0 ≡ Some x → slice_get d 0 ≡ Some y → IsAscending d → code_of x < code_of y → is_within c d ≡ false

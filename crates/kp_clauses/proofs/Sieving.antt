@@ -52,7 +52,7 @@ max_keeps (suc (suc x)) y h _ _ = absurd (omega (arith, h))
 max_keeps (suc zero) (suc (suc y)) _ h _ = absurd (omega (arith, h))
 
 -- a clause within another has no bit that the other hasn't
-marks_fit : (d c : List Lit) (w v : ℕ) → IsMark d w → IsMark c v → is_within d c ≡ true → nat_eq (bit_or w v) v ≡ true
+pub marks_fit : (d c : List Lit) (w v : ℕ) → IsMark d w → IsMark c v → is_within d c ≡ true → nat_eq (bit_or w v) v ≡ true
 marks_fit d c w v m n inside =
     eq-eqb (bit_or w v) v (same_from_bits (bit_or w v) v (λ j.
     bit_at_or w v j

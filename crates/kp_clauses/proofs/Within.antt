@@ -52,7 +52,7 @@ tautology_true s c h =
       | inr off ↦ any_from (holds s) c (negated x.0) (member-has c (negated x.0) x.2) (holds-negated s x.0 ∙ ap not off)
     ]
 
-other : (l : Lit) → l ≡ negated l → ⊥
+pub other : (l : Lit) → l ≡ negated l → ⊥
 other l e = sign l.positive (ap (λ (x : Lit). x.positive) e)
   where
     sign : (b : Bool) → b ≡ not b → ⊥

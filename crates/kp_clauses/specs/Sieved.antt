@@ -1,5 +1,5 @@
 -- Lists of the places of clauses, by one literal of each. This file serves proofs alone.
-use Rattle.std.specs.Prelude.{◌≡◌, ◌+◌, ◌%◌, ℕ, Bool, false, not, ◌&&◌, cond, List, ◌∷◌, Option, None, Some, map, slice_get, nat_eq}
+use Rattle.std.specs.Prelude.{◌≡◌, ◌+◌, ◌%◌, ℕ, Bool, false, not, ◌&&◌, cond, List, [], ◌∷◌, Option, None, Some, map, slice_get, nat_eq}
 use Rattle.std.specs.Int.{bit_at}
 use Rattle.std.specs.Int.RustNames.{bit_or}
 use Rattle.kp_base.specs.declared.lit.Lit.{Lit}
@@ -66,3 +66,20 @@ pub record AreListed (lists : List (List Spot)) (cs : List (List Lit)) : Type 0 
 -- nothing is lost from the lists
 pub record AreKept (old new : List (List Spot)) : Type 0 where
   pub each : (k : ℕ) (s : Spot) → Member (row old k) s → Member (row new k) s
+
+-- the words are marks of the clauses, in order, and there may be more of them
+abbrev pub AreMarked : List ℕ → List (List Lit) → Type 0
+AreMarked ws [] = Unit {0}
+AreMarked [] (c ∷ cs) = ⊥
+AreMarked (w ∷ ws) (c ∷ cs) = IsMark c w × AreMarked ws cs
+
+-- what always holds of a sieve
+pub record IsSieve (lists : List (List Spot)) (marks : List ℕ) (cs : List (List Lit)) : Type 0 where
+  pub listed : AreListed lists cs
+  pub marked : AreMarked marks cs
+
+-- the mark at a place lacks a bit of this one
+pub record IsUnlike (marks : List ℕ) (place word : ℕ) : Type 0 where
+  pub other : ℕ
+  pub there : slice_get marks place ≡ Some other
+  pub unlike : nat_eq (bit_or word other) other ≡ false

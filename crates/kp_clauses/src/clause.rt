@@ -1,7 +1,8 @@
-ghost use Rattle.std.specs.Prelude.{◌≡◌, IsTrue, true, false, fold, IfOk, OnOk};
+ghost use Rattle.std.specs.Prelude.{◌≡◌, ◌≤◌, IsTrue, true, false, fold, length, IfOk, OnOk};
 ghost use Rattle.kp_base.specs.Lit.{positive, negative};
 ghost use Rattle.kp_base.specs.Steps.{has};
 ghost use Rattle.kp_base.specs.Implicates.{is_within, is_tautology};
+ghost use Rattle.kp_clauses.specs.Walked.{walked, has_pair};
 ghost use Rattle.kp_clauses.specs.Resolved.{with_unless, with_if, common, opposed_elsewhere, resolved, resolvent_on};
 
 use kp_base::{AtomId, Lit, LitSet, Memory};
@@ -34,6 +35,54 @@ fn ends_outside(c: &LitSet, d: &LitSet) -> bool
     }
 }
 
+// Whether each literal of the first list is in the second: one walk over both, which may pass over so many literals of
+// the second.
+fn is_walked(c: &[Lit], d: &[Lit], spare: usize) -> bool
+    ensures { result ≡ walked spare c.now d.now }
+{
+    let mut at = 0;
+    let mut left = spare;
+    for y in d {
+        match c.get(at) {
+            None => return true,
+            Some(x) => {
+                if x.code() == y.code() {
+                    at += 1;
+                    continue;
+                }
+                if x.code() < y.code() || left == 0 {
+                    return false;
+                }
+                left -= 1;
+            }
+        }
+    }
+    at == c.len()
+}
+
+// Whether each literal of the first clause is in the second, which has no fewer.
+fn is_in_longer(c: &LitSet, d: &LitSet) -> bool
+    requires { length c.now ≤ length d.now }
+    ensures { result ≡ is_within c.now d.now }
+{
+    let lits = c.slice();
+    let others = d.slice();
+    is_walked(lits, others, others.len() - lits.len())
+}
+
+// Whether each literal of the first clause is in the second. Where the second has many more, each is looked for.
+fn is_inside(c: &LitSet, d: &LitSet) -> bool
+    ensures { result ≡ is_within c.now d.now }
+{
+    if d.slice().len() < c.slice().len() {
+        return false;
+    }
+    if d.slice().len() / 8 < c.slice().len() {
+        return is_in_longer(c, d);
+    }
+    c.within(d)
+}
+
 /// Whether each literal of the first clause is in the second.
 pub fn subsumes(c: &LitSet, d: &LitSet) -> bool
     ensures { result ≡ is_within c.now d.now }
@@ -42,14 +91,32 @@ pub fn subsumes(c: &LitSet, d: &LitSet) -> bool
     if begins_before(c, d) || ends_outside(c, d) {
         return false;
     }
-    c.within(d)
+    is_inside(c, d)
+}
+
+// Whether two literals, one behind the other, are of one atom, where this one stands before the first.
+fn has_pair(first: Lit, lits: &[Lit]) -> bool
+    ensures { result ≡ has_pair first lits.now }
+{
+    let mut last = first;
+    for y in lits {
+        if last.atom == y.atom {
+            return true;
+        }
+        last = *y;
+    }
+    false
 }
 
 /// Whether the clause has a literal and its negation.
 pub fn is_tautology(c: &LitSet) -> bool
     ensures { result ≡ is_tautology c.now }
 {
-    c.opposed(c)
+    // In order of code the two stand side by side.
+    match c.slice().split_first() {
+        Some((x, others)) => has_pair(*x, others),
+        None => false,
+    }
 }
 
 // Adds a literal, unless it is the one to be left out.

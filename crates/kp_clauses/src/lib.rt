@@ -6,6 +6,7 @@ mod clause;
 mod laws;
 mod lists;
 mod mark;
+mod rests;
 mod sieve;
 mod store;
 

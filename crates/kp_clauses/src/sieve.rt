@@ -1,14 +1,16 @@
-ghost use Rattle.std.specs.Prelude.{◌≡◌, ◌⊎◌, ◌<◌, ◌∷◌, ◌++◌, [], fold, slice_get, OnOk, OnErr, IfOk};
+ghost use Rattle.std.specs.Prelude.{◌≡◌, ◌⊎◌, ◌<◌, ◌∷◌, ◌++◌, [], fold, take, slice_get, OnOk, OnErr, IfOk, IsTrue};
 ghost use Rattle.std.specs.List.{list_any};
 ghost use Rattle.kp_base.specs.Lists.{Member};
 ghost use Rattle.kp_base.specs.Implicates.{is_within};
 ghost use Rattle.kp_clauses.specs.Stored.{subsumed, AreNeeded};
-ghost use Rattle.kp_clauses.specs.Sieved.{key_of, keys, stands, tried, common_at, narrowed, AreKept};
+ghost use Rattle.kp_clauses.specs.Sieved.{key_of, keys, stands, tried, common_at, narrowed, AreKept, AreMarked, IsMark, IsUnlike};
 ghost use Rattle.kp_clauses.specs.Listed.{row};
+ghost use Rattle.kp_clauses.specs.Rests.{AreRests};
 
 use crate::clause::{common, subsumes};
 use crate::lists::{list, make_lists};
 use crate::mark::{mark, marks_within};
+use crate::rests::put_rests;
 use kp_base::{Lit, LitSet, Memory, Row};
 use std::alloc::Global;
 use std::marker::Model;
@@ -16,8 +18,8 @@ use std::marker::Model;
 /// Where a clause stands, and its mark.
 #[derive(Clone, Copy)]
 pub struct Spot {
-    mark: u64,
-    place: usize,
+    pub(crate) mark: u64,
+    pub(crate) place: usize,
 }
 
 /// Clauses in the order in which they came, among which one within another clause is found soon. Contracts see the
@@ -27,18 +29,19 @@ pub struct Sieve {
     alloc: Global,
     clauses: Row<LitSet>,
     lists: Vec<Row<Spot>>,
+    marks: Vec<u64>,
 }
 
 impl Model for Sieve {
     ghost use Rattle.std.specs.Prelude.{List};
     ghost use Rattle.kp_base.specs.declared.lit.Lit.{Lit};
-    ghost use Rattle.kp_clauses.specs.Sieved.{AreListed};
+    ghost use Rattle.kp_clauses.specs.Sieved.{IsSieve};
 
     ghost Value = { List (List Lit) };
 
     ghost view = { λ s. s.clauses };
 
-    ghost invariant = { λ s. AreListed s.lists.items s.clauses };
+    ghost invariant = { λ s. IsSieve s.lists.items s.marks.items s.clauses };
 }
 
 impl Sieve {
@@ -50,6 +53,7 @@ impl Sieve {
             alloc,
             clauses: Row::new(alloc),
             lists: Vec::new(alloc),
+            marks: Vec::new(alloc),
         }
     }
 
@@ -72,6 +76,9 @@ impl Sieve {
         ensures { result ≡ subsumed self.now c.now }
     {
         let clauses = self.clauses.slice();
+        if clauses.is_empty() {
+            return false;
+        }
         let word = mark(c);
         any_listed(clauses, &self.lists, 0, word, c)
             || any_of_literals(clauses, &self.lists, word, c)
@@ -90,6 +97,32 @@ impl Sieve {
         Ok(set)
     }
 
+    /// Whether this clause is within one of those at the places.
+    pub fn holds_at(&self, c: &LitSet, places: &[usize]) -> bool
+        ensures { result ≡ list_any (λ i. stands (is_within c.now) (slice_get self.now i)) places.now }
+    {
+        any_holds(self.clauses.slice(), &self.marks, places, mark(c), c)
+    }
+
+    /// What clauses have beside one without a literal, of some that have little. Where one of these is within another
+    /// clause, a clause of the sieve is within the resolvent of the two on the literal.
+    pub fn rests(&self, e: &LitSet, lit: Lit) -> Result<Sieve, Memory>
+        ensures { IfOk result (AreRests self.now e.now lit) }
+    {
+        let clauses = self.clauses.slice();
+        let mut rests = Sieve::new(self.alloc);
+        put_rests(
+            self.alloc,
+            &mut rests,
+            clauses,
+            &self.lists,
+            mark(e),
+            e,
+            lit,
+        )?;
+        Ok(rests)
+    }
+
     /// Adds a clause at the end. At `Memory` the clauses are as they were, and this one is gone.
     pub fn push(&mut self, clause: LitSet) -> Result<(), Memory>
         ensures ok { OnOk result (self.new ≡ self.old ++ clause ∷ []) }
@@ -99,6 +132,7 @@ impl Sieve {
             mark: mark(&clause),
             place: self.clauses.len(),
         };
+        put_mark(&mut self.marks, spot.place, spot.mark)?;
         let key = choose(&self.lists, &clause);
         note(self.alloc, &mut self.lists, key, spot)?;
         self.clauses.push(clause)?;
@@ -246,4 +280,60 @@ fn note(alloc: Global, lists: &mut Vec<Row<Spot>>, key: usize, spot: Spot) -> Re
     make_lists(alloc, lists, key)?;
     lists[key].push(spot)?;
     Ok(())
+}
+
+// Puts a mark at a place, behind those before it.
+fn put_mark(marks: &mut Vec<u64>, place: usize, word: u64) -> Result<(), Memory>
+    ensures ok { OnOk result (marks.new.items ≡ take place marks.old.items ++ word ∷ []) }
+    ensures err { OnErr result (marks.new.items ≡ take place marks.old.items) }
+{
+    marks.truncate(place);
+    marks.push(word)?;
+    Ok(())
+}
+
+// Whether the mark at a place tells that the clause there doesn't hold one with this mark.
+fn is_unlike(marks: &[u64], place: usize, word: u64) -> bool
+    ensures { IsTrue result → IsUnlike marks.now place word }
+{
+    match marks.get(place) {
+        Some(other) => !marks_within(word, *other),
+        None => false,
+    }
+}
+
+// Whether a clause is within the one at a place.
+fn holds(clauses: &[LitSet], place: usize, c: &LitSet) -> bool
+    ensures { result ≡ stands (is_within c.now) (slice_get clauses.now place) }
+{
+    match clauses.get(place) {
+        Some(d) => subsumes(c, d),
+        None => false,
+    }
+}
+
+// The same, where the marks are looked at first.
+fn is_held_at(clauses: &[LitSet], marks: &[u64], place: usize, word: u64, c: &LitSet) -> bool
+    requires marked { AreMarked marks.now clauses.now }
+    requires word { IsMark c.now word }
+    ensures { result ≡ stands (is_within c.now) (slice_get clauses.now place) }
+{
+    if is_unlike(marks, place, word) {
+        return false;
+    }
+    holds(clauses, place, c)
+}
+
+// Whether it is within one of those at these places.
+fn any_holds(clauses: &[LitSet], marks: &[u64], places: &[usize], word: u64, c: &LitSet) -> bool
+    requires marked { AreMarked marks.now clauses.now }
+    requires word { IsMark c.now word }
+    ensures { result ≡ list_any (λ i. stands (is_within c.now) (slice_get clauses.now i)) places.now }
+{
+    for i in places {
+        if is_held_at(clauses, marks, *i, word, c) {
+            return true;
+        }
+    }
+    false
 }

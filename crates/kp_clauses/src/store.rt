@@ -1,14 +1,16 @@
-ghost use Rattle.std.specs.Prelude.{◌≡◌, ◌↔◌, true, false, not, List, [], ◌∷◌, ◌++◌, cond, filter, IfOk, OnOk, OnErr};
+ghost use Rattle.std.specs.Prelude.{◌≡◌, ◌↔◌, true, false, not, List, [], ◌∷◌, ◌++◌, cond, filter, slice_get, IfOk, OnOk, OnErr};
 ghost use Rattle.std.specs.List.{list_any};
 ghost use Rattle.kp_base.specs.declared.lit.Lit.{Lit as Literal};
 ghost use Rattle.kp_base.specs.Lists.{Member};
 ghost use Rattle.kp_base.specs.Implicates.{is_within};
 ghost use Rattle.kp_clauses.specs.Stored.{subsumed, replaced, with_clause, with_all, are_apart, AreNeeded};
+ghost use Rattle.kp_clauses.specs.Sieved.{stands};
+ghost use Rattle.kp_clauses.specs.Rests.{AreRests};
 ghost use Rattle.kp_clauses.specs.declared.store.Added.TheVariants.{Subsumed};
 
 use crate::clause::subsumes;
 use crate::sieve::Sieve;
-use kp_base::{LitSet, Memory, Row};
+use kp_base::{Lit, LitSet, Memory, Row};
 use std::alloc::Global;
 use std::marker::Model;
 use std::mem;
@@ -87,6 +89,21 @@ impl Store {
         ensures { IfOk result (AreNeeded self.now c.now) }
     {
         self.sieve.needed(c)
+    }
+
+    /// Whether this clause is within one of those at the places.
+    pub fn holds_at(&self, c: &LitSet, places: &[usize]) -> bool
+        ensures { result ≡ list_any (λ i. stands (is_within c.now) (slice_get self.now i)) places.now }
+    {
+        self.sieve.holds_at(c, places)
+    }
+
+    /// What clauses have beside one without a literal, of some that have little. Where one of these is within another
+    /// clause, a stored one is within the resolvent of the two on the literal.
+    pub fn rests(&self, e: &LitSet, lit: Lit) -> Result<Sieve, Memory>
+        ensures { IfOk result (AreRests self.now e.now lit) }
+    {
+        self.sieve.rests(e, lit)
     }
 
     /// Adds a clause, unless a stored one is within it; the clauses that hold it go. At `Memory` the store is as it

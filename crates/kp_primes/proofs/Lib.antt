@@ -1,4 +1,5 @@
 pub mod Placing
+pub mod Refusing
 pub mod Spreading
 pub mod Cover
 pub mod Ranging
@@ -9,6 +10,7 @@ pub mod Lengths
 pub mod Growing
 pub mod Sorting
 pub mod Asking
+pub mod Below
 pub mod Closing
 pub mod Answered
 pub mod Found

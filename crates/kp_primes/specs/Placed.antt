@@ -1,11 +1,12 @@
 -- The places of the clauses that have a literal. This file serves proofs alone.
-use Rattle.std.specs.Prelude.{◌≡◌, ◌+◌, ℕ, Bool, true, false, cond, List, [], ◌∷◌, Option, None, Some, slice_get, fold, length, nat_lt}
+use Rattle.std.specs.Prelude.{◌≡◌, ◌+◌, ℕ, Bool, true, cond, List, [], ◌∷◌, Option, None, Some, slice_get, fold, length, nat_lt}
 use Rattle.std.specs.List.{list_any}
 use Rattle.kp_base.specs.declared.lit.Lit.{Lit}
 use Rattle.kp_base.specs.Lit.{code_of}
 use Rattle.kp_base.specs.Steps.{has}
 use Rattle.kp_base.specs.Implicates.{is_within}
 use Rattle.kp_clauses.specs.Listed.{row}
+use Rattle.kp_clauses.specs.Sieved.{stands}
 use Rattle.kp_primes.specs.Included.{met}
 
 -- counted from i
@@ -29,8 +30,7 @@ met_at ps es e l (i ∷ rest) fs = met_at ps es e l rest (met_one ps es e l (sli
 
 -- a clause is within the one at a place
 abbrev pub within_at : List Lit → Option (List Lit) → Bool
-within_at c None = false
-within_at c (Some p) = is_within c p
+within_at c p = stands (is_within c) p
 
 -- the one of two literals that fewer clauses have
 abbrev pub rarer : List (List ℕ) → Lit → Lit → Lit

@@ -1,9 +1,11 @@
-ghost use Rattle.std.specs.Prelude.{◌≡◌, ◌||◌, fold, OnOk};
+ghost use Rattle.std.specs.Prelude.{◌≡◌, ◌||◌, [], fold, OnOk, IfOk};
 ghost use Rattle.std.specs.List.{list_any};
 ghost use Rattle.kp_primes.specs.Asked.{denied, denied_but, inconsistent, entailed_by, first_left, with_left, with_below};
 
+use crate::range::is_below;
 use kp_base::{Lit, LitSet, Memory};
 use kp_clauses::{has_lit, is_tautology};
+use std::alloc::Global;
 
 // Whether each literal's negation is in the tag.
 fn is_denied(tag: &LitSet, c: &LitSet) -> bool
@@ -86,8 +88,8 @@ pub fn add_all_left(set: &mut LitSet, clauses: &[LitSet], tag: &LitSet) -> Resul
     Ok(())
 }
 
-/// Adds those literals that are of the first atoms.
-pub fn add_below(set: &mut LitSet, lits: &[Lit], atoms: u32) -> Result<(), Memory>
+// Adds those literals that are of the first atoms.
+fn add_below(set: &mut LitSet, lits: &[Lit], atoms: u32) -> Result<(), Memory>
     ensures { OnOk result (set.new ≡ fold (with_below atoms) set.old lits.now) }
 {
     for l in lits {
@@ -96,4 +98,18 @@ pub fn add_below(set: &mut LitSet, lits: &[Lit], atoms: u32) -> Result<(), Memor
         }
     }
     Ok(())
+}
+
+/// Those literals of a tag that are of the first atoms.
+pub fn all_below(alloc: Global, tag: &LitSet, atoms: u32) -> Result<LitSet, Memory>
+    ensures { IfOk result (λ set. set ≡ fold (with_below atoms) [] tag.now) }
+{
+    // Mostly these are all of them.
+    if is_below(tag, atoms) {
+        let set = tag.copy(alloc)?;
+        return Ok(set);
+    }
+    let mut set = LitSet::new(alloc);
+    add_below(&mut set, tag.slice(), atoms)?;
+    Ok(set)
 }

@@ -4,10 +4,10 @@ ghost use Rattle.kp_base.specs.declared.lit.Lit.{Lit as Literal};
 ghost use Rattle.kp_base.specs.Lit.{code_of};
 ghost use Rattle.kp_base.specs.Steps.{has};
 ghost use Rattle.kp_clauses.specs.Listed.{row};
-ghost use Rattle.kp_primes.specs.Placed.{within_at, rarer, held_at, AreHolders};
+ghost use Rattle.kp_primes.specs.Placed.{rarer, held_at, AreHolders};
 
 use kp_base::{Lit, LitSet, Memory, Row};
-use kp_clauses::{list, make_lists, subsumes};
+use kp_clauses::{Store, list, make_lists};
 use std::alloc::Global;
 use std::marker::Model;
 
@@ -79,23 +79,6 @@ fn note(alloc: Global, lists: &mut Vec<Row<usize>>, lit: Lit, place: usize) -> R
     Ok(())
 }
 
-// Whether the clause is within the one at a place.
-fn is_at(clauses: &[LitSet], place: usize, c: &LitSet) -> bool
-    ensures { result ≡ within_at c.now (slice_get clauses.now place) }
-{
-    match clauses.get(place) {
-        Some(p) => subsumes(c, p),
-        None => false,
-    }
-}
-
-// Whether it is within one of those at these places.
-fn any_at(clauses: &[LitSet], places: &[usize], c: &LitSet) -> bool
-    ensures { result ≡ list_any (λ i. within_at c.now (slice_get clauses.now i)) places.now }
-{
-    places.iter().any(|i| is_at(clauses, *i, c))
-}
-
 // The one of two literals that fewer clauses have.
 fn rarer(holders: &Holders, a: Lit, b: Lit) -> Lit
     ensures { result ≡ rarer holders.now a b }
@@ -118,21 +101,21 @@ fn rarest(holders: &Holders, first: Lit, lits: &[Lit]) -> Lit
 }
 
 // Whether some clause may hold this one: those are looked at that have the literal of it that fewest have.
-fn is_held(clauses: &[LitSet], holders: &Holders, c: &LitSet) -> bool
-    ensures { result ≡ held_at clauses.now holders.now c.now (slice_get c.now 0) }
+fn is_held(primes: &Store, holders: &Holders, c: &LitSet) -> bool
+    ensures { result ≡ held_at primes.now holders.now c.now (slice_get c.now 0) }
 {
     match c.slice().first() {
         Some(l) => {
             let best = rarest(holders, *l, c.slice());
-            any_at(clauses, holders.of(best), c)
+            primes.holds_at(c, holders.of(best))
         }
         None => true,
     }
 }
 
 /// Whether some clause may hold one of the others.
-pub fn are_held(clauses: &[LitSet], holders: &Holders, others: &[LitSet]) -> bool
-    ensures { result ≡ list_any (λ c. held_at clauses.now holders.now c (slice_get c 0)) others.now }
+pub fn are_held(primes: &Store, holders: &Holders, others: &[LitSet]) -> bool
+    ensures { result ≡ list_any (λ c. held_at primes.now holders.now c (slice_get c 0)) others.now }
 {
-    others.iter().any(|c| is_held(clauses, holders, c))
+    others.iter().any(|c| is_held(primes, holders, c))
 }

@@ -1,155 +1,19 @@
-ghost use Rattle.std.specs.Prelude.{◌≡◌, ◌&&◌, true, false, not, cond, List, [], ◌∷◌, ◌++◌, slice_get, OnOk, IfOk};
-ghost use Rattle.std.specs.List.{list_any};
-ghost use Rattle.kp_base.specs.LitSet.{IsAscending, with_lit};
+ghost use Rattle.std.specs.Prelude.{◌≡◌, true, false, List, [], ◌∷◌, ◌++◌, OnOk, IfOk};
+ghost use Rattle.kp_base.specs.LitSet.{IsAscending};
 ghost use Rattle.kp_base.specs.Steps.{has};
 ghost use Rattle.kp_base.specs.Implicates.{is_tautology};
 ghost use Rattle.kp_base.specs.declared.lit.Lit.{Lit as Literal};
 ghost use Rattle.kp_base.specs.Lists.{Member};
 ghost use Rattle.kp_base.specs.Lit.{negated};
-ghost use Rattle.kp_clauses.specs.Stored.{subsumed, with_all, are_apart, AreNeeded};
-ghost use Rattle.kp_primes.specs.Placed.{places, met_one, met_at, AreHolders};
-ghost use Rattle.kp_primes.specs.Included.{grown, spread, walked, is_spare, is_least, met, met_all, Spreads, Steps, AreNew, Counts, Walks, Enters, idle, included};
+ghost use Rattle.kp_clauses.specs.Stored.{subsumed, with_all, are_apart};
+ghost use Rattle.kp_primes.specs.Placed.{places, AreHolders};
+ghost use Rattle.kp_primes.specs.Included.{spread, walked, Spreads, Steps, AreNew, Counts, Walks, Enters, idle, included};
 
 use crate::holders::{Holders, are_held};
+use crate::resolving::meet_all;
 use kp_base::{Lit, LitSet, Memory};
-use kp_clauses::{Sieve, Store, has_lit, is_tautology, resolve};
+use kp_clauses::{Sieve, Store, has_lit, is_tautology};
 use std::alloc::Global;
-
-// A clause with one literal more.
-fn add_lit(alloc: Global, c: &LitSet, lit: Lit) -> Result<LitSet, Memory>
-    ensures { IfOk result (λ set. set ≡ with_lit lit c.now) }
-{
-    let mut set = c.copy(alloc)?;
-    set.insert(lit)?;
-    Ok(set)
-}
-
-// Whether some literal of a clause is in neither of two sets.
-fn is_any_outside(c: &LitSet, a: &LitSet, b: &LitSet) -> bool
-    ensures { result ≡ list_any (λ x. not (has a.now x) && not (has b.now x)) c.now }
-{
-    c.slice().iter().any(|x| !has_lit(a, *x) && !has_lit(b, *x))
-}
-
-// What is needed of a clause with one literal more.
-fn needed_with(alloc: Global, store: &Store, c: &LitSet, lit: Lit) -> Result<LitSet, Memory>
-    ensures { IfOk result (AreNeeded store.now (with_lit lit c.now)) }
-{
-    let with = add_lit(alloc, c, lit)?;
-    store.needed(&with)
-}
-
-// Whether some literal of a clause may be left out: with the literal that is resolved on a new clause is within the
-// others, and with the negation of that a prime implicate.
-fn has_spare(
-    alloc: Global,
-    primes: &Store,
-    news: &Store,
-    lit: Lit,
-    c: &LitSet,
-) -> Result<bool, Memory>
-    ensures { IfOk result (λ spare. spare ≡ list_any (is_spare primes.now news.now lit c.now) c.now) }
-{
-    let new = needed_with(alloc, news, c, lit)?;
-    let old = needed_with(alloc, primes, c, lit.negated())?;
-    Ok(is_any_outside(c, &new, &old))
-}
-
-// Keeps a resolvent that is no tautology, unless it has the literal, one that was kept or a prime implicate is within
-// it, or a literal of it may be left out.
-fn keep(
-    alloc: Global,
-    primes: &Store,
-    news: &Store,
-    fresh: &mut Sieve,
-    c: LitSet,
-    lit: Lit,
-) -> Result<(), Memory>
-    requires { is_tautology c ≡ false }
-    ensures { OnOk result (fresh.new ≡ cond (is_least primes.now news.now lit c) (grown fresh.old c) fresh.old) }
-{
-    if fresh.subsumes(&c) || has_lit(&c, lit) || primes.subsumes(&c) {
-        return Ok(());
-    }
-    if !has_spare(alloc, primes, news, lit, &c)? {
-        fresh.push(c)?;
-    }
-    Ok(())
-}
-
-// Resolves a new clause with a prime implicate, and keeps what is new.
-fn meet(
-    alloc: Global,
-    primes: &Store,
-    news: &Store,
-    fresh: &mut Sieve,
-    e: &LitSet,
-    p: &LitSet,
-    lit: Lit,
-) -> Result<(), Memory>
-    ensures { OnOk result (fresh.new ≡ met primes.now news.now e.now lit p.now fresh.old) }
-{
-    if has_lit(p, lit.negated()) {
-        if let Some(r) = resolve(alloc, e, p, lit)? {
-            keep(alloc, primes, news, fresh, r, lit)?;
-        }
-    }
-    Ok(())
-}
-
-// Resolves a new clause with the prime implicate at a place.
-fn meet_one(
-    alloc: Global,
-    primes: &Store,
-    news: &Store,
-    fresh: &mut Sieve,
-    e: &LitSet,
-    place: usize,
-    lit: Lit,
-) -> Result<(), Memory>
-    ensures { OnOk result (fresh.new ≡ met_one primes.now news.now e.now lit (slice_get primes.now place) fresh.old) }
-{
-    match primes.clauses().slice().get(place) {
-        Some(p) => meet(alloc, primes, news, fresh, e, p, lit),
-        None => Ok(()),
-    }
-}
-
-// Resolves a new clause with the prime implicates at these places.
-fn meet_at(
-    alloc: Global,
-    primes: &Store,
-    news: &Store,
-    fresh: &mut Sieve,
-    e: &LitSet,
-    at: &[usize],
-    lit: Lit,
-) -> Result<(), Memory>
-    ensures { OnOk result (fresh.new ≡ met_at primes.now news.now e.now lit at.now fresh.old) }
-{
-    for place in at {
-        meet_one(alloc, primes, news, fresh, e, *place, lit)?;
-    }
-    Ok(())
-}
-
-// Resolves a new clause with all prime implicates, where only these have the literal's negation.
-#[tactic(auto, using(crate::proofs::Placing::met_places))]
-fn meet_all(
-    alloc: Global,
-    primes: &Store,
-    news: &Store,
-    fresh: &mut Sieve,
-    e: &LitSet,
-    at: &[usize],
-    lit: Lit,
-) -> Result<(), Memory>
-    requires { at.now ≡ places (negated lit) 0 primes.now }
-    ensures { OnOk result (fresh.new ≡ met_all primes.now news.now e.now lit primes.now fresh.old) }
-{
-    meet_at(alloc, primes, news, fresh, e, at, lit)?;
-    Ok(())
-}
 
 /// What became of clauses that were put in.
 #[derive(Clone, Copy)]
@@ -295,9 +159,9 @@ fn put_in(
     ensures all { OnOk result (primes.new ≡ with_all primes.old news) }
     ensures held { OnOk result (AreHolders holders.new primes.new) }
 {
-    let clauses = primes.clauses();
+    let _apart = primes.clauses();
     let others = news.clauses();
-    if are_held(clauses.slice(), holders, others.slice()) {
+    if are_held(primes, holders, others.slice()) {
         put_over(alloc, primes, holders, news)?;
     } else {
         put_behind(primes, holders, news)?;

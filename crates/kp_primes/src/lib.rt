@@ -9,6 +9,7 @@ mod include;
 mod laws;
 mod primes;
 mod range;
+mod resolving;
 
 pub use laws::limits_are_exact;
 pub use primes::Primes;

@@ -4,7 +4,7 @@ ghost use Rattle.kp_base.specs.Implicates.{IsOfAtoms};
 ghost use Rattle.kp_primes.specs.Held.{formula, AreWhole};
 ghost use Rattle.kp_primes.specs.Answers.{AnswersPrimes, AnswersClosure};
 
-use crate::ask::{add_all_left, add_below, is_entailed, is_inconsistent};
+use crate::ask::{add_all_left, all_below, is_entailed, is_inconsistent};
 use crate::build::{has_empty, in_order, include_all, include_closed};
 use crate::holders::Holders;
 use kp_base::{Initial, Lit, LitSet, Memory, Refused, Row, Stop};
@@ -106,8 +106,7 @@ impl Primes {
         requires { IsConsistent (formula self.now) tag.now }
         ensures { IfOk result (IsClosure self.now.atoms (formula self.now) tag.now) }
     {
-        let mut set = LitSet::new(alloc);
-        add_below(&mut set, tag.slice(), self.atoms)?;
+        let mut set = all_below(alloc, tag, self.atoms)?;
         add_all_left(&mut set, self.clauses.slice(), tag)?;
         Ok(set)
     }

@@ -4,8 +4,8 @@ ghost use Rattle.kp_base.specs.Implicates.{IsOfAtoms, are_below};
 
 use kp_base::{AtomId, Initial, LitSet};
 
-// Whether each literal is of one of the first atoms.
-fn is_below(c: &LitSet, atoms: u32) -> bool
+/// Whether each literal is of one of the first atoms.
+pub(crate) fn is_below(c: &LitSet, atoms: u32) -> bool
     ensures { result ≡ are_below atoms c.now }
 {
     c.slice().iter().all(|l| l.atom.0 < atoms)

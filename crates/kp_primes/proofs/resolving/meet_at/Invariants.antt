@@ -1,6 +1,6 @@
 use Rattle.std.proofs.Common.{◌≡◌, drop}
 use Rattle.kp_primes.specs.Placed.{met_at}
-use Rattle.kp_primes.proofs.include.meet_at.Given as goal
+use Rattle.kp_primes.proofs.resolving.meet_at.Given as goal
 
 -- the rest goes on from what is new so far
 abbrev pub invariant-loop-place : goal.invariant-loop-place

@@ -1,6 +1,6 @@
 use Rattle.std.proofs.Common.{◌∙◌}
 use Rattle.kp_primes.proofs.Spreading.{spare_is}
-use Rattle.kp_primes.proofs.include.has_spare.Goals as goal
+use Rattle.kp_primes.proofs.resolving.has_spare.Goals as goal
 
 -- neither the new clauses nor the prime implicates need it
 pub returns : goal.returns
