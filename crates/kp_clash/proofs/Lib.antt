@@ -7,6 +7,7 @@ pub mod Starting
 pub mod Initially
 pub mod Firing
 pub mod Candidates
+pub mod Excluded
 pub mod Written
 pub mod Places
 pub mod Best

@@ -30,6 +30,15 @@ is_added words e = not e.result.positive || is_set words e.result.atom.0
 abbrev pub all_added : List ℕ → List Effect → Bool
 all_added words es = list_all (is_added words) es
 
+-- ---- atoms that a precondition asks for
+
+-- the literal is negative, or its atom is set
+abbrev pub is_asked : List ℕ → Lit → Bool
+is_asked words l = not l.positive || is_set words l.atom.0
+
+abbrev pub all_asked : List ℕ → List Lit → Bool
+all_asked words ls = list_all (is_asked words) ls
+
 -- ---- atoms that are surely deleted
 
 -- no other bit was set
@@ -40,9 +49,10 @@ AddsBit old new p = (q : ℕ) → bit_in new q ≡ 1 → (bit_in old q ≡ 1) �
 abbrev pub AreDeleted : List ℕ → Action → Type 0
 AreDeleted words a = (q : ℕ) → bit_in words q ≡ 1 → deletes_within a q a.pre ≡ true
 
--- what is noted of an action: the slots of its deletes, the atoms that it adds, and those that it surely deletes
-pub record AreNoted (slots : List Bool) (added sure : List ℕ) (a : Action) : Type 0 where
+-- what is noted of an action: the slots of its deletes, the atoms that it asks for, those that it adds, and those that it surely deletes
+pub record AreNoted (slots : List Bool) (asked added sure : List ℕ) (a : Action) : Type 0 where
   pub deletes : all_noted slots a.effects ≡ true
+  pub asks : all_asked asked a.pre ≡ true
   pub adds : all_added added a.effects ≡ true
   pub deletes_surely : AreDeleted sure a
 

@@ -9,15 +9,17 @@ ghost use Rattle.kp_base.specs.Lit.{positive};
 ghost use Rattle.kp_clash.specs.Paired.{is_pair};
 ghost use Rattle.kp_clash.specs.Settled.{deletes_within};
 ghost use Rattle.kp_clash.specs.Removed.{breaks, adds_pair, FindsAlone, FindsTogether, FindsOfEffect, FindsBroken};
-ghost use Rattle.kp_clash.specs.Left.{AreNoted, FindsInWord};
+ghost use Rattle.kp_clash.specs.Left.{AreNoted, FindsInWord, all_asked};
 
 use crate::Pairs;
 use crate::added::may_add_pair;
+use crate::asked::may_exclude;
 use crate::compatible::{are_exclusive, may_fire, pre_compatible, stay_compatible};
 use crate::left::candidates;
 use crate::pairs::words_of;
 use crate::tables::Tables;
 use crate::within::{deletes_noted, holding};
+use crate::words::WORDS;
 use kp_base::{Action, AtomId, Effect, Ground, Lit};
 use kp_bits::has_bit;
 
@@ -28,21 +30,29 @@ fn excludes(pairs: &Pairs, lits: &[Lit], atom: AtomId) -> bool
     lits.iter().any(|l| are_exclusive(pairs, *l, holding(atom)))
 }
 
+// Whether a literal of the precondition does.
+fn pre_excludes(pairs: &Pairs, action: &Action, asked: &[u64; WORDS], atom: AtomId) -> bool
+    requires { all_asked asked.now action.now.pre ≡ true }
+    ensures { result ≡ list_any (λ l. are_exclusive (is_pair pairs.now) l (positive atom.0)) action.now.pre }
+{
+    may_exclude(pairs, action, asked, atom) && excludes(pairs, action.pre.slice(), atom)
+}
+
 // Whether a literal excludes the atom, or a delete of it comes with the effect.
 fn is_against(pairs: &Pairs, action: &Action, tables: &Tables, effect: &Effect, q: AtomId) -> bool
-    requires { AreNoted tables.now.slots tables.now.added tables.now.sure action.now }
+    requires { AreNoted tables.now.slots tables.now.asked tables.now.added tables.now.sure action.now }
     ensures { result ≡ (list_any (λ l. are_exclusive (is_pair pairs.now) l (positive q.0)) action.now.pre || (list_any (λ l. are_exclusive (is_pair pairs.now) l (positive q.0)) effect.now.cond || deletes_within action.now q.0 (firing_with action.now effect.now q.0))) }
 {
     let pre = action.pre.slice();
     let cond = effect.cond.slice();
     let other = [holding(q)];
-    excludes(pairs, pre, q)
+    pre_excludes(pairs, action, &tables.asked, q)
         || (excludes(pairs, cond, q) || deletes_noted(action, &tables.slots, q, pre, cond, &other))
 }
 
-// Whether the effect, which may fire, adds one atom of a pair where the other may be true and stay.
-fn breaks(pairs: &Pairs, action: &Action, tables: &Tables, effect: &Effect, q: AtomId) -> bool
-    requires noted { AreNoted tables.now.slots tables.now.added tables.now.sure action.now }
+/// Whether the effect, which may fire, adds one atom of a pair where the other may be true and stay.
+pub(crate) fn breaks(pairs: &Pairs, action: &Action, tables: &Tables, effect: &Effect, q: AtomId) -> bool
+    requires noted { AreNoted tables.now.slots tables.now.asked tables.now.added tables.now.sure action.now }
     requires different { (p : ℕ) → is_pair pairs.now p p ≡ false }
     requires adds { effect.now.result.positive ≡ true }
     requires compatible { are_compatible (is_pair pairs.now) (action.now.pre ++ effect.now.cond) ≡ true }
@@ -60,7 +70,7 @@ fn breaks_at(
     word: u64,
     q: u32,
 ) -> bool
-    requires noted { AreNoted tables.now.slots tables.now.added tables.now.sure action.now }
+    requires noted { AreNoted tables.now.slots tables.now.asked tables.now.added tables.now.sure action.now }
     requires different { (p : ℕ) → is_pair pairs.now p p ≡ false }
     requires adds { effect.now.result.positive ≡ true }
     requires compatible { are_compatible (is_pair pairs.now) (action.now.pre ++ effect.now.cond) ≡ true }
@@ -79,7 +89,7 @@ fn first_in_word(
     from: u32,
     k: u32,
 ) -> Option<AtomId>
-    requires noted { AreNoted tables.now.slots tables.now.added tables.now.sure action.now }
+    requires noted { AreNoted tables.now.slots tables.now.asked tables.now.added tables.now.sure action.now }
     requires different { (p : ℕ) → is_pair pairs.now p p ≡ false }
     requires adds { effect.now.result.positive ≡ true }
     requires compatible { are_compatible (is_pair pairs.now) (action.now.pre ++ effect.now.cond) ≡ true }
@@ -107,7 +117,7 @@ pub(crate) fn next_alone(
     effect: &Effect,
     from: u32,
 ) -> Option<AtomId>
-    requires noted { AreNoted tables.now.slots tables.now.added tables.now.sure action.now }
+    requires noted { AreNoted tables.now.slots tables.now.asked tables.now.added tables.now.sure action.now }
     requires compatible { are_compatible (is_pair pairs.now) (action.now.pre ++ effect.now.cond) ≡ true }
     ensures { FindsAlone (is_pair pairs.now) action.now effect.now from result }
 {
@@ -145,7 +155,7 @@ fn first_together(
     tables: &Tables,
     effect: &Effect,
 ) -> Option<AtomId>
-    requires noted { AreNoted tables.now.slots tables.now.added tables.now.sure action.now }
+    requires noted { AreNoted tables.now.slots tables.now.asked tables.now.added tables.now.sure action.now }
     requires of_action { Member action.now.effects effect.now }
     requires compatible { are_compatible (is_pair pairs.now) (action.now.pre ++ effect.now.cond) ≡ true }
     ensures { FindsTogether (is_pair pairs.now) action.now effect.now result }
@@ -168,7 +178,7 @@ fn of_effect(
     tables: &Tables,
     effect: &Effect,
 ) -> Option<(AtomId, AtomId)>
-    requires noted { AreNoted tables.now.slots tables.now.added tables.now.sure action.now }
+    requires noted { AreNoted tables.now.slots tables.now.asked tables.now.added tables.now.sure action.now }
     requires of_action { Member action.now.effects effect.now }
     requires compatible { are_compatible (is_pair pairs.now) action.now.pre ≡ true }
     ensures { FindsOfEffect (is_pair pairs.now) action.now effect.now result }

@@ -1,5 +1,5 @@
 //! Removes pairs that don't stay.
-ghost use Rattle.std.specs.Prelude.{◌≡◌, ◌<◌, ◌++◌, true, [], ◌∷◌, length};
+ghost use Rattle.std.specs.Prelude.{◌≡◌, ◌<◌, ◌++◌, ℕ, true, false, [], ◌∷◌, length};
 ghost use Rattle.kp_base.specs.Clashes.{are_compatible};
 ghost use Rattle.kp_base.specs.Lists.{Member};
 ghost use Rattle.kp_clash.specs.Paired.{is_pair};
@@ -9,11 +9,85 @@ ghost use Rattle.kp_clash.specs.Settling.{IsSettled};
 
 use crate::Pairs;
 use crate::added::may_add_pair;
-use crate::broken::{adds_pair, broken, next_alone};
+use crate::broken::{adds_pair, breaks, broken};
 use crate::compatible::{may_fire, pre_compatible};
+use crate::left::candidates;
+use crate::pairs::words_of;
 use crate::tables::Tables;
 use crate::touched::Touched;
 use kp_base::{Action, AtomId, Effect, Ground};
+use kp_bits::has_bit;
+
+// Removes the pair of the effect's atom and this one, if the effect breaks it alone.
+fn clear_at(
+    pairs: &mut Pairs,
+    touched: &mut Touched,
+    action: &Action,
+    tables: &Tables,
+    effect: &Effect,
+    q: AtomId,
+)
+    requires of_action { Member action.now.effects effect.now }
+    requires noted { AreNoted tables.now.slots tables.now.asked tables.now.added tables.now.sure action.now }
+    requires different { (p : ℕ) → is_pair pairs.old p p ≡ false }
+    requires adds { effect.now.result.positive ≡ true }
+    requires compatible { are_compatible (is_pair pairs.old) (action.now.pre ++ effect.now.cond) ≡ true }
+    ensures { Shrinks (action.now ∷ []) pairs.old pairs.new }
+{
+    if breaks(pairs, action, tables, effect, q) {
+        pairs.remove(effect.result.atom, q);
+        touched.note(effect.result.atom, q);
+    }
+}
+
+// The same where the atom is a candidate.
+fn clear_if(
+    pairs: &mut Pairs,
+    touched: &mut Touched,
+    action: &Action,
+    tables: &Tables,
+    effect: &Effect,
+    is_candidate: bool,
+    q: AtomId,
+)
+    requires of_action { Member action.now.effects effect.now }
+    requires noted { AreNoted tables.now.slots tables.now.asked tables.now.added tables.now.sure action.now }
+    requires different { (p : ℕ) → is_pair pairs.old p p ≡ false }
+    requires adds { effect.now.result.positive ≡ true }
+    requires compatible { are_compatible (is_pair pairs.old) (action.now.pre ++ effect.now.cond) ≡ true }
+    ensures { Shrinks (action.now ∷ []) pairs.old pairs.new }
+{
+    if is_candidate {
+        clear_at(pairs, touched, action, tables, effect, q);
+    }
+}
+
+// Removes the pairs with the 64 atoms from 64 k on that the effect breaks alone.
+fn clear_word(
+    pairs: &mut Pairs,
+    touched: &mut Touched,
+    action: &Action,
+    tables: &Tables,
+    effect: &Effect,
+    k: u32,
+)
+    requires of_action { Member action.now.effects effect.now }
+    requires noted { AreNoted tables.now.slots tables.now.asked tables.now.added tables.now.sure action.now }
+    requires different { (p : ℕ) → is_pair pairs.old p p ≡ false }
+    requires adds { effect.now.result.positive ≡ true }
+    requires compatible { are_compatible (is_pair pairs.old) (action.now.pre ++ effect.now.cond) ≡ true }
+    requires few { k < 1024 }
+    ensures { Shrinks (action.now ∷ []) pairs.old pairs.new }
+{
+    let word = candidates(pairs, action, &tables.sure, effect, k);
+    if word == 0 {
+        return;
+    }
+    for j in 0..64u32 {
+        let q = AtomId(k * 64 + j);
+        clear_if(pairs, touched, action, tables, effect, has_bit(word, j), q);
+    }
+}
 
 // Removes the pairs that the effect breaks alone.
 fn clear_alone(
@@ -24,15 +98,13 @@ fn clear_alone(
     effect: &Effect,
 )
     requires of_action { Member action.now.effects effect.now }
-    requires noted { AreNoted tables.now.slots tables.now.added tables.now.sure action.now }
+    requires noted { AreNoted tables.now.slots tables.now.asked tables.now.added tables.now.sure action.now }
+    requires adds { effect.now.result.positive ≡ true }
     requires compatible { are_compatible (is_pair pairs.old) (action.now.pre ++ effect.now.cond) ≡ true }
     ensures { Shrinks (action.now ∷ []) pairs.old pairs.new }
 {
-    let mut from = 0u32;
-    'rest: while let Some(q) = next_alone(pairs, action, tables, effect, from) {
-        pairs.remove(effect.result.atom, q);
-        touched.note(effect.result.atom, q);
-        from = q.0 + 1;
+    for k in 0..words_of(pairs.atoms()) {
+        clear_word(pairs, touched, action, tables, effect, k);
     }
 }
 
@@ -60,7 +132,7 @@ fn clear_together(
     effect: &Effect,
 )
     requires of_action { Member action.now.effects effect.now }
-    requires noted { AreNoted tables.now.slots tables.now.added tables.now.sure action.now }
+    requires noted { AreNoted tables.now.slots tables.now.asked tables.now.added tables.now.sure action.now }
     requires compatible { are_compatible (is_pair pairs.old) (action.now.pre ++ effect.now.cond) ≡ true }
     ensures { Shrinks (action.now ∷ []) pairs.old pairs.new }
 {
@@ -85,7 +157,7 @@ fn clear_effect(
     tables: &Tables,
     effect: &Effect,
 )
-    requires noted { AreNoted tables.now.slots tables.now.added tables.now.sure action.now }
+    requires noted { AreNoted tables.now.slots tables.now.asked tables.now.added tables.now.sure action.now }
     requires of_action { Member action.now.effects effect.now }
     requires compatible { are_compatible (is_pair pairs.old) action.now.pre ≡ true }
     ensures { Shrinks (action.now ∷ []) pairs.old pairs.new }

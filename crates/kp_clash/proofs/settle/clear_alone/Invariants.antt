@@ -1,10 +1,7 @@
-use Rattle.std.proofs.Common.{[], ◌∷◌, length}
+use Rattle.std.proofs.Common.{[], ◌∷◌}
 use Rattle.kp_clash.specs.Removed.{Shrinks}
 use Rattle.kp_clash.proofs.settle.clear_alone.Given as goal
 
 -- what was removed so far
-abbrev pub invariant-rest : goal.invariant-rest
-invariant-rest l = Shrinks (l.action ∷ []) l.fn.pairs l.pairs
-
-abbrev pub decreases-rest : goal.decreases-rest
-decreases-rest l = length l.pairs
+abbrev pub invariant-loop-k : goal.invariant-loop-k
+invariant-loop-k l = Shrinks (l.action ∷ []) l.fn.pairs l.pairs
