@@ -8,6 +8,8 @@ pub mod Initially
 pub mod Firing
 pub mod Candidates
 pub mod Excluded
+pub mod Spans
+pub mod Small
 pub mod Written
 pub mod Places
 pub mod Best

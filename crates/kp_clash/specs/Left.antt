@@ -9,7 +9,7 @@ use Rattle.kp_base.specs.declared.ground.Action.{Action}
 use Rattle.kp_base.specs.Lit.{positive}
 use Rattle.kp_base.specs.Clashes.{Pairs, are_exclusive}
 use Rattle.kp_bits.specs.Packed.{bit_in, bit_of}
-use Rattle.kp_clash.specs.Searching.{all_noted}
+use Rattle.kp_clash.specs.Between.{AreBetween}
 use Rattle.kp_clash.specs.Settled.{deletes_within}
 use Rattle.kp_clash.specs.Removed.{breaks}
 
@@ -49,9 +49,9 @@ AddsBit old new p = (q : ℕ) → bit_in new q ≡ 1 → (bit_in old q ≡ 1) �
 abbrev pub AreDeleted : List ℕ → Action → Type 0
 AreDeleted words a = (q : ℕ) → bit_in words q ≡ 1 → deletes_within a q a.pre ≡ true
 
--- what is noted of an action: the slots of its deletes, the atoms that it asks for, those that it adds, and those that it surely deletes
-pub record AreNoted (slots : List Bool) (asked added sure : List ℕ) (a : Action) : Type 0 where
-  pub deletes : all_noted slots a.effects ≡ true
+-- what is noted of an action: between which places its deletes stand, the atoms that it asks for, those that it adds, and those that it surely deletes
+pub record AreNoted (firsts ends asked added sure : List ℕ) (a : Action) : Type 0 where
+  pub deletes : AreBetween firsts ends a.effects
   pub asks : all_asked asked a.pre ≡ true
   pub adds : all_added added a.effects ≡ true
   pub deletes_surely : AreDeleted sure a

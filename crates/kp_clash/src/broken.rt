@@ -1,7 +1,8 @@
 //! Looks for a pair that doesn't stay.
-ghost use Rattle.std.specs.Prelude.{◌≡◌, ◌<◌, ◌%◌, ◌++◌, ◌||◌, [], ◌∷◌, ℕ, true, false};
+ghost use Rattle.std.specs.Prelude.{◌≡◌, ◌<◌, ◌≤◌, ◌%◌, ◌++◌, ◌||◌, [], ◌∷◌, ℕ, true, false, length};
 ghost use Rattle.std.specs.Int.{bit_at};
 ghost use Rattle.std.specs.List.{list_any};
+ghost use Rattle.kp_base.specs.declared.ground.Action.{Action as ActionOf};
 ghost use Rattle.kp_base.specs.Clashes.{are_exclusive, are_compatible};
 ghost use Rattle.kp_base.specs.Exclusive.{firing_with};
 ghost use Rattle.kp_base.specs.Lists.{Member};
@@ -14,11 +15,12 @@ ghost use Rattle.kp_clash.specs.Left.{AreNoted, FindsInWord, all_asked};
 use crate::Pairs;
 use crate::added::may_add_pair;
 use crate::asked::may_exclude;
+use crate::between::deletes_noted;
 use crate::compatible::{are_exclusive, may_fire, pre_compatible, stay_compatible};
 use crate::left::candidates;
 use crate::pairs::words_of;
-use crate::tables::Tables;
-use crate::within::{deletes_noted, holding};
+use crate::tables::{Tables, is_small};
+use crate::within::holding;
 use crate::words::WORDS;
 use kp_base::{Action, AtomId, Effect, Ground, Lit};
 use kp_bits::has_bit;
@@ -40,19 +42,19 @@ fn pre_excludes(pairs: &Pairs, action: &Action, asked: &[u64; WORDS], atom: Atom
 
 // Whether a literal excludes the atom, or a delete of it comes with the effect.
 fn is_against(pairs: &Pairs, action: &Action, tables: &Tables, effect: &Effect, q: AtomId) -> bool
-    requires { AreNoted tables.now.slots tables.now.asked tables.now.added tables.now.sure action.now }
+    requires { AreNoted tables.now.firsts tables.now.ends tables.now.asked tables.now.added tables.now.sure action.now }
     ensures { result ≡ (list_any (λ l. are_exclusive (is_pair pairs.now) l (positive q.0)) action.now.pre || (list_any (λ l. are_exclusive (is_pair pairs.now) l (positive q.0)) effect.now.cond || deletes_within action.now q.0 (firing_with action.now effect.now q.0))) }
 {
     let pre = action.pre.slice();
     let cond = effect.cond.slice();
     let other = [holding(q)];
     pre_excludes(pairs, action, &tables.asked, q)
-        || (excludes(pairs, cond, q) || deletes_noted(action, &tables.slots, q, pre, cond, &other))
+        || (excludes(pairs, cond, q) || deletes_noted(action, &tables.firsts, &tables.ends, q, pre, cond, &other))
 }
 
 /// Whether the effect, which may fire, adds one atom of a pair where the other may be true and stay.
 pub(crate) fn breaks(pairs: &Pairs, action: &Action, tables: &Tables, effect: &Effect, q: AtomId) -> bool
-    requires noted { AreNoted tables.now.slots tables.now.asked tables.now.added tables.now.sure action.now }
+    requires noted { AreNoted tables.now.firsts tables.now.ends tables.now.asked tables.now.added tables.now.sure action.now }
     requires different { (p : ℕ) → is_pair pairs.now p p ≡ false }
     requires adds { effect.now.result.positive ≡ true }
     requires compatible { are_compatible (is_pair pairs.now) (action.now.pre ++ effect.now.cond) ≡ true }
@@ -70,7 +72,7 @@ fn breaks_at(
     word: u64,
     q: u32,
 ) -> bool
-    requires noted { AreNoted tables.now.slots tables.now.asked tables.now.added tables.now.sure action.now }
+    requires noted { AreNoted tables.now.firsts tables.now.ends tables.now.asked tables.now.added tables.now.sure action.now }
     requires different { (p : ℕ) → is_pair pairs.now p p ≡ false }
     requires adds { effect.now.result.positive ≡ true }
     requires compatible { are_compatible (is_pair pairs.now) (action.now.pre ++ effect.now.cond) ≡ true }
@@ -89,7 +91,7 @@ fn first_in_word(
     from: u32,
     k: u32,
 ) -> Option<AtomId>
-    requires noted { AreNoted tables.now.slots tables.now.asked tables.now.added tables.now.sure action.now }
+    requires noted { AreNoted tables.now.firsts tables.now.ends tables.now.asked tables.now.added tables.now.sure action.now }
     requires different { (p : ℕ) → is_pair pairs.now p p ≡ false }
     requires adds { effect.now.result.positive ≡ true }
     requires compatible { are_compatible (is_pair pairs.now) (action.now.pre ++ effect.now.cond) ≡ true }
@@ -117,7 +119,7 @@ pub(crate) fn next_alone(
     effect: &Effect,
     from: u32,
 ) -> Option<AtomId>
-    requires noted { AreNoted tables.now.slots tables.now.asked tables.now.added tables.now.sure action.now }
+    requires noted { AreNoted tables.now.firsts tables.now.ends tables.now.asked tables.now.added tables.now.sure action.now }
     requires compatible { are_compatible (is_pair pairs.now) (action.now.pre ++ effect.now.cond) ≡ true }
     ensures { FindsAlone (is_pair pairs.now) action.now effect.now from result }
 {
@@ -155,7 +157,7 @@ fn first_together(
     tables: &Tables,
     effect: &Effect,
 ) -> Option<AtomId>
-    requires noted { AreNoted tables.now.slots tables.now.asked tables.now.added tables.now.sure action.now }
+    requires noted { AreNoted tables.now.firsts tables.now.ends tables.now.asked tables.now.added tables.now.sure action.now }
     requires of_action { Member action.now.effects effect.now }
     requires compatible { are_compatible (is_pair pairs.now) (action.now.pre ++ effect.now.cond) ≡ true }
     ensures { FindsTogether (is_pair pairs.now) action.now effect.now result }
@@ -178,7 +180,7 @@ fn of_effect(
     tables: &Tables,
     effect: &Effect,
 ) -> Option<(AtomId, AtomId)>
-    requires noted { AreNoted tables.now.slots tables.now.asked tables.now.added tables.now.sure action.now }
+    requires noted { AreNoted tables.now.firsts tables.now.ends tables.now.asked tables.now.added tables.now.sure action.now }
     requires of_action { Member action.now.effects effect.now }
     requires compatible { are_compatible (is_pair pairs.now) action.now.pre ≡ true }
     ensures { FindsOfEffect (is_pair pairs.now) action.now effect.now result }
@@ -198,28 +200,43 @@ fn of_effect(
     }
 }
 
-// A pair that an effect of the action breaks.
-fn of_action(pairs: &Pairs, action: &Action) -> Option<(AtomId, AtomId)>
+// A pair that an effect of the action breaks, by what is noted of the action.
+fn of_effects(pairs: &Pairs, action: &Action, tables: &Tables) -> Option<(AtomId, AtomId)>
+    requires noted { AreNoted tables.now.firsts tables.now.ends tables.now.asked tables.now.added tables.now.sure action.now }
+    requires compatible { are_compatible (is_pair pairs.now) action.now.pre ≡ true }
     ensures { FindsBroken (is_pair pairs.now) (action.now ∷ []) result }
 {
-    if !pre_compatible(pairs, action) {
-        return None;
-    }
-    let tables = Tables::of(action);
     for effect in action.effects.slice() {
-        if let Some(found) = of_effect(pairs, action, &tables, effect) {
+        if let Some(found) = of_effect(pairs, action, tables, effect) {
             return Some(found);
         }
     }
     None
 }
 
+// A pair that an effect of the action breaks.
+fn of_action(pairs: &Pairs, any: &Tables, action: &Action) -> Option<(AtomId, AtomId)>
+    requires { (a : ActionOf) → length a.effects ≤ 8 → AreNoted any.now.firsts any.now.ends any.now.asked any.now.added any.now.sure a }
+    ensures { FindsBroken (is_pair pairs.now) (action.now ∷ []) result }
+{
+    if !pre_compatible(pairs, action) {
+        return None;
+    }
+    if is_small(action) {
+        of_effects(pairs, action, any)
+    } else {
+        let tables = Tables::of(action);
+        of_effects(pairs, action, &tables)
+    }
+}
+
 /// A pair that doesn't stay, if there is one.
 pub(crate) fn broken(ground: &Ground, pairs: &Pairs) -> Option<(AtomId, AtomId)>
     ensures { FindsBroken (is_pair pairs.now) ground.now.actions result }
 {
+    let any = Tables::any();
     for action in ground.actions.slice() {
-        if let Some(found) = of_action(pairs, action) {
+        if let Some(found) = of_action(pairs, &any, action) {
             return Some(found);
         }
     }

@@ -5,6 +5,7 @@
 
 mod added;
 mod asked;
+mod between;
 mod broken;
 mod clash;
 mod compatible;

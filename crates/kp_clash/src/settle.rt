@@ -1,5 +1,6 @@
 //! Removes pairs that don't stay.
-ghost use Rattle.std.specs.Prelude.{◌≡◌, ◌<◌, ◌++◌, ℕ, true, false, [], ◌∷◌, length};
+ghost use Rattle.std.specs.Prelude.{◌≡◌, ◌<◌, ◌≤◌, ◌++◌, ℕ, true, false, [], ◌∷◌, length};
+ghost use Rattle.kp_base.specs.declared.ground.Action.{Action as ActionOf};
 ghost use Rattle.kp_base.specs.Clashes.{are_compatible};
 ghost use Rattle.kp_base.specs.Lists.{Member};
 ghost use Rattle.kp_clash.specs.Paired.{is_pair};
@@ -13,7 +14,7 @@ use crate::broken::{adds_pair, breaks, broken};
 use crate::compatible::{may_fire, pre_compatible};
 use crate::left::candidates;
 use crate::pairs::words_of;
-use crate::tables::Tables;
+use crate::tables::{Tables, is_small};
 use crate::touched::Touched;
 use kp_base::{Action, AtomId, Effect, Ground};
 use kp_bits::has_bit;
@@ -28,7 +29,7 @@ fn clear_at(
     q: AtomId,
 )
     requires of_action { Member action.now.effects effect.now }
-    requires noted { AreNoted tables.now.slots tables.now.asked tables.now.added tables.now.sure action.now }
+    requires noted { AreNoted tables.now.firsts tables.now.ends tables.now.asked tables.now.added tables.now.sure action.now }
     requires different { (p : ℕ) → is_pair pairs.old p p ≡ false }
     requires adds { effect.now.result.positive ≡ true }
     requires compatible { are_compatible (is_pair pairs.old) (action.now.pre ++ effect.now.cond) ≡ true }
@@ -51,7 +52,7 @@ fn clear_if(
     q: AtomId,
 )
     requires of_action { Member action.now.effects effect.now }
-    requires noted { AreNoted tables.now.slots tables.now.asked tables.now.added tables.now.sure action.now }
+    requires noted { AreNoted tables.now.firsts tables.now.ends tables.now.asked tables.now.added tables.now.sure action.now }
     requires different { (p : ℕ) → is_pair pairs.old p p ≡ false }
     requires adds { effect.now.result.positive ≡ true }
     requires compatible { are_compatible (is_pair pairs.old) (action.now.pre ++ effect.now.cond) ≡ true }
@@ -72,7 +73,7 @@ fn clear_word(
     k: u32,
 )
     requires of_action { Member action.now.effects effect.now }
-    requires noted { AreNoted tables.now.slots tables.now.asked tables.now.added tables.now.sure action.now }
+    requires noted { AreNoted tables.now.firsts tables.now.ends tables.now.asked tables.now.added tables.now.sure action.now }
     requires different { (p : ℕ) → is_pair pairs.old p p ≡ false }
     requires adds { effect.now.result.positive ≡ true }
     requires compatible { are_compatible (is_pair pairs.old) (action.now.pre ++ effect.now.cond) ≡ true }
@@ -98,7 +99,7 @@ fn clear_alone(
     effect: &Effect,
 )
     requires of_action { Member action.now.effects effect.now }
-    requires noted { AreNoted tables.now.slots tables.now.asked tables.now.added tables.now.sure action.now }
+    requires noted { AreNoted tables.now.firsts tables.now.ends tables.now.asked tables.now.added tables.now.sure action.now }
     requires adds { effect.now.result.positive ≡ true }
     requires compatible { are_compatible (is_pair pairs.old) (action.now.pre ++ effect.now.cond) ≡ true }
     ensures { Shrinks (action.now ∷ []) pairs.old pairs.new }
@@ -132,7 +133,7 @@ fn clear_together(
     effect: &Effect,
 )
     requires of_action { Member action.now.effects effect.now }
-    requires noted { AreNoted tables.now.slots tables.now.asked tables.now.added tables.now.sure action.now }
+    requires noted { AreNoted tables.now.firsts tables.now.ends tables.now.asked tables.now.added tables.now.sure action.now }
     requires compatible { are_compatible (is_pair pairs.old) (action.now.pre ++ effect.now.cond) ≡ true }
     ensures { Shrinks (action.now ∷ []) pairs.old pairs.new }
 {
@@ -157,7 +158,7 @@ fn clear_effect(
     tables: &Tables,
     effect: &Effect,
 )
-    requires noted { AreNoted tables.now.slots tables.now.asked tables.now.added tables.now.sure action.now }
+    requires noted { AreNoted tables.now.firsts tables.now.ends tables.now.asked tables.now.added tables.now.sure action.now }
     requires of_action { Member action.now.effects effect.now }
     requires compatible { are_compatible (is_pair pairs.old) action.now.pre ≡ true }
     ensures { Shrinks (action.now ∷ []) pairs.old pairs.new }
@@ -185,8 +186,32 @@ fn is_met(last: &Touched, action: &Action) -> bool {
             .any(|e| last.meets(e.cond.slice()))
 }
 
+// Removes the pairs that an effect of the action breaks, by what is noted of the action.
+fn clear_effects(
+    pairs: &mut Pairs,
+    last: &Touched,
+    next: &mut Touched,
+    action: &Action,
+    tables: &Tables,
+)
+    requires noted { AreNoted tables.now.firsts tables.now.ends tables.now.asked tables.now.added tables.now.sure action.now }
+    requires compatible { are_compatible (is_pair pairs.old) action.now.pre ≡ true }
+    ensures { Shrinks (action.now ∷ []) pairs.old pairs.new }
+{
+    for effect in action.effects.slice() {
+        clear_effect(pairs, last, next, action, tables, effect);
+    }
+}
+
 // Removes the pairs that an effect of the action breaks.
-fn clear_action(pairs: &mut Pairs, last: &Touched, next: &mut Touched, action: &Action)
+fn clear_action(
+    pairs: &mut Pairs,
+    any: &Tables,
+    last: &Touched,
+    next: &mut Touched,
+    action: &Action,
+)
+    requires { (a : ActionOf) → length a.effects ≤ 8 → AreNoted any.now.firsts any.now.ends any.now.asked any.now.added any.now.sure a }
     ensures { Shrinks (action.now ∷ []) pairs.old pairs.new }
 {
     if !is_met(last, action) {
@@ -195,18 +220,21 @@ fn clear_action(pairs: &mut Pairs, last: &Touched, next: &mut Touched, action: &
     if !pre_compatible(pairs, action) {
         return;
     }
-    let tables = Tables::of(action);
-    for effect in action.effects.slice() {
-        clear_effect(pairs, last, next, action, &tables, effect);
+    if is_small(action) {
+        clear_effects(pairs, last, next, action, any);
+    } else {
+        let tables = Tables::of(action);
+        clear_effects(pairs, last, next, action, &tables);
     }
 }
 
 // Removes pairs that don't stay now that the last ones are gone, in one walk over the actions.
-fn sweep(ground: &Ground, pairs: &mut Pairs, last: &Touched, next: &mut Touched)
+fn sweep(ground: &Ground, pairs: &mut Pairs, any: &Tables, last: &Touched, next: &mut Touched)
+    requires { (a : ActionOf) → length a.effects ≤ 8 → AreNoted any.now.firsts any.now.ends any.now.asked any.now.added any.now.sure a }
     ensures { Shrinks ground.now.actions pairs.old pairs.new }
 {
     for action in ground.actions.slice() {
-        clear_action(pairs, last, next, action);
+        clear_action(pairs, any, last, next, action);
     }
 }
 
@@ -215,13 +243,14 @@ fn sweep(ground: &Ground, pairs: &mut Pairs, last: &Touched, next: &mut Touched)
 fn sweep_on(ground: &Ground, pairs: &mut Pairs, first: Touched)
     ensures { Shrinks ground.now.actions pairs.old pairs.new }
 {
+    let any = Tables::any();
     let mut last = first;
     for _ in 0..pairs.atoms() {
         if !last.is_some() {
             return;
         }
         let mut next = Touched::none();
-        sweep(ground, pairs, &last, &mut next);
+        sweep(ground, pairs, &any, &last, &mut next);
         last = next;
     }
 }

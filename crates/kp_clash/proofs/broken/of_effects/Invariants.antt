@@ -3,7 +3,7 @@ use Rattle.kp_base.specs.declared.ground.Effect.{Effect}
 use Rattle.kp_base.specs.Lists.{Member}
 use Rattle.kp_clash.specs.Paired.{is_pair}
 use Rattle.kp_clash.specs.Removed.{BreaksNone}
-use Rattle.kp_clash.proofs.broken.of_action.Given as goal
+use Rattle.kp_clash.proofs.broken.of_effects.Given as goal
 
 -- no effect so far breaks a pair
 abbrev pub invariant-loop-effect : goal.invariant-loop-effect
