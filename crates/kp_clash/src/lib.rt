@@ -4,7 +4,9 @@
 #![tactic(auto)]
 
 mod added;
+mod alone;
 mod asked;
+mod asking;
 mod between;
 mod broken;
 mod clash;
@@ -17,6 +19,7 @@ mod settle;
 mod start;
 mod sure;
 mod tables;
+mod together;
 mod touched;
 mod within;
 mod words;

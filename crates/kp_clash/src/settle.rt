@@ -1,5 +1,5 @@
 //! Removes pairs that don't stay.
-ghost use Rattle.std.specs.Prelude.{◌≡◌, ◌<◌, ◌≤◌, ◌++◌, ℕ, true, false, [], ◌∷◌, length};
+ghost use Rattle.std.specs.Prelude.{◌≡◌, ◌<◌, ◌≤◌, true, [], ◌∷◌, length, OnOk};
 ghost use Rattle.kp_base.specs.declared.ground.Action.{Action as ActionOf};
 ghost use Rattle.kp_base.specs.Clashes.{are_compatible};
 ghost use Rattle.kp_base.specs.Lists.{Member};
@@ -9,151 +9,22 @@ ghost use Rattle.kp_clash.specs.Left.{AreNoted};
 ghost use Rattle.kp_clash.specs.Settling.{IsSettled};
 
 use crate::Pairs;
-use crate::added::may_add_pair;
-use crate::broken::{adds_pair, breaks, broken};
+use crate::alone::clear_alone;
+use crate::asking::Asking;
+use crate::broken::broken;
 use crate::compatible::{may_fire, pre_compatible};
-use crate::left::candidates;
-use crate::pairs::words_of;
 use crate::tables::{Tables, is_small};
+use crate::together::{clear_partners, clear_together};
 use crate::touched::Touched;
-use kp_base::{Action, AtomId, Effect, Ground};
-use kp_bits::has_bit;
-
-// Removes the pair of the effect's atom and this one, if the effect breaks it alone.
-fn clear_at(
-    pairs: &mut Pairs,
-    touched: &mut Touched,
-    action: &Action,
-    tables: &Tables,
-    effect: &Effect,
-    q: AtomId,
-)
-    requires of_action { Member action.now.effects effect.now }
-    requires noted { AreNoted tables.now.firsts tables.now.ends tables.now.asked tables.now.added tables.now.sure action.now }
-    requires different { (p : ℕ) → is_pair pairs.old p p ≡ false }
-    requires adds { effect.now.result.positive ≡ true }
-    requires compatible { are_compatible (is_pair pairs.old) (action.now.pre ++ effect.now.cond) ≡ true }
-    ensures { Shrinks (action.now ∷ []) pairs.old pairs.new }
-{
-    if breaks(pairs, action, tables, effect, q) {
-        pairs.remove(effect.result.atom, q);
-        touched.note(effect.result.atom, q);
-    }
-}
-
-// The same where the atom is a candidate.
-fn clear_if(
-    pairs: &mut Pairs,
-    touched: &mut Touched,
-    action: &Action,
-    tables: &Tables,
-    effect: &Effect,
-    is_candidate: bool,
-    q: AtomId,
-)
-    requires of_action { Member action.now.effects effect.now }
-    requires noted { AreNoted tables.now.firsts tables.now.ends tables.now.asked tables.now.added tables.now.sure action.now }
-    requires different { (p : ℕ) → is_pair pairs.old p p ≡ false }
-    requires adds { effect.now.result.positive ≡ true }
-    requires compatible { are_compatible (is_pair pairs.old) (action.now.pre ++ effect.now.cond) ≡ true }
-    ensures { Shrinks (action.now ∷ []) pairs.old pairs.new }
-{
-    if is_candidate {
-        clear_at(pairs, touched, action, tables, effect, q);
-    }
-}
-
-// Removes the pairs with the 64 atoms from 64 k on that the effect breaks alone.
-fn clear_word(
-    pairs: &mut Pairs,
-    touched: &mut Touched,
-    action: &Action,
-    tables: &Tables,
-    effect: &Effect,
-    k: u32,
-)
-    requires of_action { Member action.now.effects effect.now }
-    requires noted { AreNoted tables.now.firsts tables.now.ends tables.now.asked tables.now.added tables.now.sure action.now }
-    requires different { (p : ℕ) → is_pair pairs.old p p ≡ false }
-    requires adds { effect.now.result.positive ≡ true }
-    requires compatible { are_compatible (is_pair pairs.old) (action.now.pre ++ effect.now.cond) ≡ true }
-    requires few { k < 1024 }
-    ensures { Shrinks (action.now ∷ []) pairs.old pairs.new }
-{
-    let word = candidates(pairs, action, &tables.sure, effect, k);
-    if word == 0 {
-        return;
-    }
-    for j in 0..64u32 {
-        let q = AtomId(k * 64 + j);
-        clear_if(pairs, touched, action, tables, effect, has_bit(word, j), q);
-    }
-}
-
-// Removes the pairs that the effect breaks alone.
-fn clear_alone(
-    pairs: &mut Pairs,
-    touched: &mut Touched,
-    action: &Action,
-    tables: &Tables,
-    effect: &Effect,
-)
-    requires of_action { Member action.now.effects effect.now }
-    requires noted { AreNoted tables.now.firsts tables.now.ends tables.now.asked tables.now.added tables.now.sure action.now }
-    requires adds { effect.now.result.positive ≡ true }
-    requires compatible { are_compatible (is_pair pairs.old) (action.now.pre ++ effect.now.cond) ≡ true }
-    ensures { Shrinks (action.now ∷ []) pairs.old pairs.new }
-{
-    for k in 0..words_of(pairs.atoms()) {
-        clear_word(pairs, touched, action, tables, effect, k);
-    }
-}
-
-// Removes the pair whose atoms the two effects may add, and tells whether there was one.
-fn clear_both(pairs: &mut Pairs, action: &Action, effect: &Effect, other: &Effect) -> bool
-    requires one { Member action.now.effects effect.now }
-    requires other { Member action.now.effects other.now }
-    requires compatible { are_compatible (is_pair pairs.old) (action.now.pre ++ effect.now.cond) ≡ true }
-    ensures { Shrinks (action.now ∷ []) pairs.old pairs.new }
-{
-    if adds_pair(pairs, action, effect, other) {
-        pairs.remove(effect.result.atom, other.result.atom);
-        true
-    } else {
-        false
-    }
-}
-
-// Removes the pairs that the effect breaks together with another effect.
-fn clear_together(
-    pairs: &mut Pairs,
-    touched: &mut Touched,
-    action: &Action,
-    tables: &Tables,
-    effect: &Effect,
-)
-    requires of_action { Member action.now.effects effect.now }
-    requires noted { AreNoted tables.now.firsts tables.now.ends tables.now.asked tables.now.added tables.now.sure action.now }
-    requires compatible { are_compatible (is_pair pairs.old) (action.now.pre ++ effect.now.cond) ≡ true }
-    ensures { Shrinks (action.now ∷ []) pairs.old pairs.new }
-{
-    let mut left = may_add_pair(pairs, action, effect, &tables.added);
-    for other in action.effects.slice() {
-        if !left {
-            return;
-        }
-        if clear_both(pairs, action, effect, other) {
-            touched.note(effect.result.atom, other.result.atom);
-            left = may_add_pair(pairs, action, effect, &tables.added);
-        }
-    }
-}
+use kp_base::{Action, AtomId, Effect, Ground, Memory};
+use std::alloc::Global;
 
 // Removes the pairs that the effect breaks, where it has a condition on an atom of the last pairs that were removed.
 fn clear_effect(
     pairs: &mut Pairs,
     last: &Touched,
     next: &mut Touched,
+    asking: &Asking,
     action: &Action,
     tables: &Tables,
     effect: &Effect,
@@ -163,17 +34,21 @@ fn clear_effect(
     requires compatible { are_compatible (is_pair pairs.old) action.now.pre ≡ true }
     ensures { Shrinks (action.now ∷ []) pairs.old pairs.new }
 {
-    if !last.meets(action.pre.slice()) && !last.meets(effect.cond.slice()) {
+    if !effect.result.positive {
         return;
     }
-    if !effect.result.positive {
+    if !last.meets(action.pre.slice()) && !last.meets(effect.cond.slice()) {
         return;
     }
     if !may_fire(pairs, action, effect) {
         return;
     }
-    clear_alone(pairs, next, action, tables, effect);
-    clear_together(pairs, next, action, tables, effect);
+    clear_alone(pairs, last, next, action, tables, effect);
+    if is_small(action) || last.is_whole(action.pre.slice(), effect.cond.slice()) {
+        clear_together(pairs, next, action, tables, effect);
+    } else {
+        clear_partners(pairs, last, next, asking, action, effect);
+    }
 }
 
 // Whether the action has a condition on one of these atoms.
@@ -191,6 +66,7 @@ fn clear_effects(
     pairs: &mut Pairs,
     last: &Touched,
     next: &mut Touched,
+    asking: &Asking,
     action: &Action,
     tables: &Tables,
 )
@@ -199,8 +75,25 @@ fn clear_effects(
     ensures { Shrinks (action.now ∷ []) pairs.old pairs.new }
 {
     for effect in action.effects.slice() {
-        clear_effect(pairs, last, next, action, tables, effect);
+        clear_effect(pairs, last, next, asking, action, tables, effect);
     }
+}
+
+// The same of an action that isn't small.
+fn clear_large(
+    pairs: &mut Pairs,
+    last: &Touched,
+    next: &mut Touched,
+    asking: &mut Asking,
+    action: &Action,
+)
+    requires { are_compatible (is_pair pairs.old) action.now.pre ≡ true }
+    ensures { Shrinks (action.now ∷ []) pairs.old pairs.new }
+{
+    let tables = Tables::of(action);
+    asking.fill(action);
+    clear_effects(pairs, last, next, asking, action, &tables);
+    asking.empty(action);
 }
 
 // Removes the pairs that an effect of the action breaks.
@@ -209,6 +102,7 @@ fn clear_action(
     any: &Tables,
     last: &Touched,
     next: &mut Touched,
+    asking: &mut Asking,
     action: &Action,
 )
     requires { (a : ActionOf) → length a.effects ≤ 8 → AreNoted any.now.firsts any.now.ends any.now.asked any.now.added any.now.sure a }
@@ -221,63 +115,122 @@ fn clear_action(
         return;
     }
     if is_small(action) {
-        clear_effects(pairs, last, next, action, any);
+        clear_effects(pairs, last, next, asking, action, any);
     } else {
-        let tables = Tables::of(action);
-        clear_effects(pairs, last, next, action, &tables);
+        clear_large(pairs, last, next, asking, action);
     }
 }
 
 // Removes pairs that don't stay now that the last ones are gone, in one walk over the actions.
-fn sweep(ground: &Ground, pairs: &mut Pairs, any: &Tables, last: &Touched, next: &mut Touched)
+fn sweep(
+    ground: &Ground,
+    pairs: &mut Pairs,
+    any: &Tables,
+    last: &Touched,
+    next: &mut Touched,
+    asking: &mut Asking,
+)
     requires { (a : ActionOf) → length a.effects ≤ 8 → AreNoted any.now.firsts any.now.ends any.now.asked any.now.added any.now.sure a }
     ensures { Shrinks ground.now.actions pairs.old pairs.new }
 {
     for action in ground.actions.slice() {
-        clear_action(pairs, any, last, next, action);
+        clear_action(pairs, any, last, next, asking, action);
     }
+}
+
+// Two such walks, the second for the pairs that the first removes.
+fn sweep_twice(
+    ground: &Ground,
+    pairs: &mut Pairs,
+    any: &Tables,
+    last: &mut Touched,
+    next: &mut Touched,
+    asking: &mut Asking,
+)
+    requires { (a : ActionOf) → length a.effects ≤ 8 → AreNoted any.now.firsts any.now.ends any.now.asked any.now.added any.now.sure a }
+    ensures { Shrinks ground.now.actions pairs.old pairs.new }
+{
+    sweep(ground, pairs, any, last, next, asking);
+    last.clear();
+    sweep(ground, pairs, any, next, last, asking);
+    next.clear();
 }
 
 // Removes pairs that don't stay, as long as the last ones that were removed may have held up others. It need not remove
 // all: what is left over is found by `broken`.
-fn sweep_on(ground: &Ground, pairs: &mut Pairs, first: Touched)
+fn sweep_on(
+    ground: &Ground,
+    pairs: &mut Pairs,
+    last: &mut Touched,
+    next: &mut Touched,
+    asking: &mut Asking,
+)
     ensures { Shrinks ground.now.actions pairs.old pairs.new }
 {
     let any = Tables::any();
-    let mut last = first;
-    for _ in 0..pairs.atoms() {
+    for _ in 0..u32::MAX {
         if !last.is_some() {
             return;
         }
-        let mut next = Touched::none();
-        sweep(ground, pairs, &any, &last, &mut next);
-        last = next;
+        sweep_twice(ground, pairs, &any, last, next, asking);
     }
 }
 
-// The atoms of one pair.
-fn atoms_of(p: AtomId, q: AtomId) -> Touched {
-    let mut touched = Touched::none();
-    touched.note(p, q);
-    touched
-}
-
 // Removes a pair that doesn't stay, and what it held up.
-fn remove(ground: &Ground, pairs: &mut Pairs, p: AtomId, q: AtomId)
+fn remove(
+    ground: &Ground,
+    pairs: &mut Pairs,
+    last: &mut Touched,
+    next: &mut Touched,
+    asking: &mut Asking,
+    p: AtomId,
+    q: AtomId,
+)
     requires { IsBroken (is_pair pairs.old) ground.now.actions p.0 q.0 }
     ensures shrinks { Shrinks ground.now.actions pairs.old pairs.new }
     ensures fewer { length pairs.new < length pairs.old }
 {
     pairs.remove(p, q);
-    sweep_on(ground, pairs, atoms_of(p, q));
+    last.note(p, q);
+    sweep_on(ground, pairs, last, next, asking);
+}
+
+// Removes pairs until each one stays, with room for those that are to be looked at.
+fn settle_in(
+    ground: &Ground,
+    pairs: &mut Pairs,
+    last: &mut Touched,
+    next: &mut Touched,
+    asking: &mut Asking,
+)
+    ensures { IsSettled ground.now pairs.old pairs.new }
+{
+    last.note_all();
+    sweep_on(ground, pairs, last, next, asking);
+    'rounds: while let Some((p, q)) = broken(ground, pairs) {
+        remove(ground, pairs, last, next, asking, p, q);
+    }
+}
+
+// The same where there is room for the last pairs.
+fn settle_with(
+    alloc: Global,
+    ground: &Ground,
+    pairs: &mut Pairs,
+    last: &mut Touched,
+) -> Result<(), Memory>
+    ensures { OnOk result (IsSettled ground.now pairs.old pairs.new) }
+{
+    let mut next = Touched::new(alloc, pairs.atoms())?;
+    let mut asking = Asking::new(alloc, ground)?;
+    settle_in(ground, pairs, last, &mut next, &mut asking);
+    Ok(())
 }
 
 /// Removes pairs until each one stays.
-pub(crate) fn settle(ground: &Ground, pairs: &mut Pairs)
-    ensures { IsSettled ground.now pairs.old pairs.new }
+pub(crate) fn settle(alloc: Global, ground: &Ground, pairs: &mut Pairs) -> Result<(), Memory>
+    ensures { OnOk result (IsSettled ground.now pairs.old pairs.new) }
 {
-    sweep_on(ground, pairs, Touched::all());
-    'rounds: while let Some((p, q)) = broken(ground, pairs) {
-        remove(ground, pairs, p, q);
-    }
+    let mut last = Touched::new(alloc, pairs.atoms())?;
+    settle_with(alloc, ground, pairs, &mut last)
 }

@@ -3,7 +3,7 @@ use Rattle.kp_clash.proofs.Removing.{shrinks_on}
 use Rattle.kp_clash.proofs.Walks.{item_member}
 use Rattle.kp_clash.specs.Paired.{is_pair}
 use Rattle.kp_base.proofs.Exclusive.{compatible_under_fewer}
-use Rattle.kp_clash.proofs.settle.clear_together.Goals as goal
+use Rattle.kp_clash.proofs.together.clear_together.Goals as goal
 
 pub clear_both-requires-clause-other : goal.clear_both-requires-clause-other
 clear_both-requires-clause-other c =

@@ -1,7 +1,7 @@
 use Rattle.std.proofs.Common.{[], ◌∷◌, sym, ◌∙◌}
 use Rattle.kp_clash.specs.Paired.{is_pair}
 use Rattle.kp_clash.proofs.Removing.{adds_broken, removes}
-use Rattle.kp_clash.proofs.settle.clear_both.Goals as goal
+use Rattle.kp_clash.proofs.together.clear_both.Goals as goal
 
 pub returns-then-adds_pair : goal.returns-then-adds_pair
 returns-then-adds_pair c =

@@ -2,7 +2,7 @@ use Rattle.std.proofs.Common.{[], ◌∷◌, ◌++◌}
 use Rattle.kp_clash.specs.Paired.{is_pair}
 use Rattle.kp_clash.proofs.Removing.{shrinks_on, fewer_different}
 use Rattle.kp_base.proofs.Exclusive.{compatible_under_fewer}
-use Rattle.kp_clash.proofs.settle.clear_word.Goals as goal
+use Rattle.kp_clash.proofs.alone.clear_word.Goals as goal
 
 pub clear_if-requires-clause-different : goal.clear_if-requires-clause-different
 clear_if-requires-clause-different c = fewer_different (is_pair c.loop-j.pairs) (is_pair c.args.pairs.now) c.loop-j.invariant.part c.requires.different

@@ -1,6 +1,6 @@
 use Rattle.std.proofs.Common.{length}
 use Rattle.kp_clash.specs.Removed.{Shrinks}
-use Rattle.kp_clash.proofs.settle.settle.Given as goal
+use Rattle.kp_clash.proofs.settle.settle_in.Given as goal
 
 -- what was removed so far
 abbrev pub invariant-rounds : goal.invariant-rounds

@@ -1,7 +1,7 @@
 use Rattle.std.proofs.Common.{[], ◌∷◌, sym, ◌∙◌}
 use Rattle.kp_clash.specs.Paired.{is_pair}
 use Rattle.kp_clash.proofs.Removing.{breaks_broken, breaks_broken_pair, removes}
-use Rattle.kp_clash.proofs.settle.clear_at.Goals as goal
+use Rattle.kp_clash.proofs.alone.clear_at.Goals as goal
 
 pub remove-requires : goal.remove-requires
 remove-requires c = breaks_broken_pair (is_pair c.args.pairs.now) c.args.action.now c.args.effect.now c.args.q.0 (sym c.breaks.ensures ∙ c.if-breaks.true)
