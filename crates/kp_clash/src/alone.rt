@@ -94,6 +94,7 @@ fn clear_freed(
     action: &Action,
     tables: &Tables,
     effect: &Effect,
+    is_all: bool,
     k: u32,
 )
     requires of_action { Member action.now.effects effect.now }
@@ -104,7 +105,7 @@ fn clear_freed(
     requires few { k < 1024 }
     ensures { Shrinks (action.now ∷ []) pairs.old pairs.new }
 {
-    if last.frees(action.pre.slice(), effect.cond.slice(), k) {
+    if is_all || last.frees(action.pre.slice(), effect.cond.slice(), k) {
         clear_word(pairs, next, action, tables, effect, k);
     }
 }
@@ -124,7 +125,8 @@ pub(crate) fn clear_alone(
     requires compatible { are_compatible (is_pair pairs.old) (action.now.pre ++ effect.now.cond) ≡ true }
     ensures { Shrinks (action.now ∷ []) pairs.old pairs.new }
 {
+    let is_all = last.frees_all(action.pre.slice(), effect.cond.slice());
     for k in 0..words_of(pairs.atoms()) {
-        clear_freed(pairs, last, next, action, tables, effect, k);
+        clear_freed(pairs, last, next, action, tables, effect, is_all, k);
     }
 }

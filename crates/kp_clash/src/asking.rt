@@ -11,15 +11,17 @@ const NONE: u32 = u32::MAX;
 #[derive(Drop)]
 pub(crate) struct Asking {
     heads: Vec<u32>,
+    // Where the list of those begins that have no atom.
+    free: u32,
     items: Vec<(u32, u32)>,
     used: u32,
 }
 
-// How many literals the conditions of the action have.
+// How many literals the conditions of the action have, and one more for each.
 fn size_of(action: &Action) -> usize {
     let mut size = 0usize;
     for effect in action.effects.slice() {
-        size = size.wrapping_add(effect.cond.slice().len());
+        size = size.wrapping_add(effect.cond.slice().len()).wrapping_add(1);
     }
     size
 }
@@ -43,12 +45,16 @@ impl Asking {
         let items = vec![in alloc; (0u32, NONE); greatest_size(ground)]?;
         Ok(Asking {
             heads,
+            free: NONE,
             items,
             used: 0,
         })
     }
 
     fn note_lit(&mut self, lit: &Lit, place: u32) {
+        if !lit.positive {
+            return;
+        }
         let used = self.used;
         if let Some(head) = self.heads.get_mut(lit.atom.0 as usize) {
             if let Some(item) = self.items.get_mut(used as usize) {
@@ -59,11 +65,24 @@ impl Asking {
         }
     }
 
+    fn note_free(&mut self, place: u32) {
+        let used = self.used;
+        if let Some(item) = self.items.get_mut(used as usize) {
+            *item = (place, self.free);
+            self.free = used;
+            self.used = used.wrapping_add(1);
+        }
+    }
+
     fn note(&mut self, effect: &Effect, place: u32) {
+        let cond = effect.cond.slice();
         if effect.result.positive {
-            for lit in effect.cond.slice() {
+            for lit in cond {
                 self.note_lit(lit, place);
             }
+        }
+        if effect.result.positive && !cond.iter().any(|l| l.positive) {
+            self.note_free(place);
         }
     }
 
@@ -89,7 +108,13 @@ impl Asking {
         for effect in action.effects.slice() {
             self.forget(effect.cond.slice());
         }
+        self.free = NONE;
         self.used = 0;
+    }
+
+    /// Where the list of those begins that have no atom among their conditions.
+    pub(crate) fn first_free(&self) -> usize {
+        self.free as usize
     }
 
     /// Where the list of the atom begins.

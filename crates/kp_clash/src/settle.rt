@@ -14,7 +14,7 @@ use crate::asking::Asking;
 use crate::broken::broken;
 use crate::compatible::{may_fire, pre_compatible};
 use crate::tables::{Tables, is_small};
-use crate::together::{clear_partners, clear_together};
+use crate::together::{clear_compatible, clear_partners, clear_together};
 use crate::touched::Touched;
 use kp_base::{Action, AtomId, Effect, Ground, Memory};
 use std::alloc::Global;
@@ -44,8 +44,10 @@ fn clear_effect(
         return;
     }
     clear_alone(pairs, last, next, action, tables, effect);
-    if is_small(action) || last.is_whole(action.pre.slice(), effect.cond.slice()) {
+    if is_small(action) {
         clear_together(pairs, next, action, tables, effect);
+    } else if last.is_whole(action.pre.slice(), effect.cond.slice()) {
+        clear_compatible(pairs, next, asking, action, tables, effect);
     } else {
         clear_partners(pairs, last, next, asking, action, effect);
     }

@@ -10,6 +10,7 @@ use crate::Pairs;
 use crate::added::may_add_pair;
 use crate::asking::Asking;
 use crate::broken::adds_pair;
+use crate::left::leave;
 use crate::pairs::words_of;
 use crate::tables::Tables;
 use crate::touched::Touched;
@@ -91,20 +92,20 @@ fn clear_place(
     }
 }
 
-// Removes the pairs that the effect breaks together with those that have the atom among their conditions.
-fn clear_asking(
+// Removes the pairs that the effect breaks together with those of a list from an item on.
+fn clear_list(
     pairs: &mut Pairs,
     touched: &mut Touched,
     asking: &Asking,
     action: &Action,
     effect: &Effect,
-    atom: AtomId,
+    first: usize,
 )
     requires of_action { Member action.now.effects effect.now }
     requires compatible { are_compatible (is_pair pairs.old) (action.now.pre ++ effect.now.cond) ≡ true }
     ensures { Shrinks (action.now ∷ []) pairs.old pairs.new }
 {
-    let mut item = asking.first(atom);
+    let mut item = first;
     for _ in 0..u32::MAX {
         match asking.at(item) {
             Some((place, next)) => {
@@ -116,7 +117,7 @@ fn clear_asking(
     }
 }
 
-// The same for the atoms from 64 k on whose bits are set.
+// The same with those that have an atom among their conditions, of the 64 from 64 k on whose bits are set.
 fn clear_asking_word(
     pairs: &mut Pairs,
     touched: &mut Touched,
@@ -136,7 +137,7 @@ fn clear_asking_word(
             return;
         }
         let atom = AtomId(k.wrapping_mul(64).wrapping_add(left.trailing_zeros()));
-        clear_asking(pairs, touched, asking, action, effect, atom);
+        clear_list(pairs, touched, asking, action, effect, asking.first(atom));
         left &= left.wrapping_sub(1);
     }
 }
@@ -176,5 +177,61 @@ pub(crate) fn clear_partners(
 {
     for lit in effect.cond.slice() {
         clear_freed_by(pairs, last, next, asking, action, effect, lit);
+    }
+}
+
+// Those of the 64 atoms from 64 k on that the effect's conditions don't exclude.
+fn left_by(pairs: &Pairs, action: &Action, effect: &Effect, k: u32) -> u64 {
+    let pre = action.pre.slice();
+    let left = if pre.len() > 8 {
+        u64::MAX
+    } else {
+        leave(pairs, pre, k, u64::MAX)
+    };
+    leave(pairs, effect.cond.slice(), k, left)
+}
+
+// Removes the pairs that the effect breaks together with those that have one of the 64 atoms from 64 k on among their
+// conditions, as long as there are such pairs.
+fn clear_left(
+    pairs: &mut Pairs,
+    touched: &mut Touched,
+    asking: &Asking,
+    action: &Action,
+    tables: &Tables,
+    effect: &Effect,
+    k: u32,
+)
+    requires noted { AreNoted tables.now.firsts tables.now.ends tables.now.asked tables.now.added tables.now.sure action.now }
+    requires of_action { Member action.now.effects effect.now }
+    requires compatible { are_compatible (is_pair pairs.old) (action.now.pre ++ effect.now.cond) ≡ true }
+    ensures { Shrinks (action.now ∷ []) pairs.old pairs.new }
+{
+    let word = left_by(pairs, action, effect, k);
+    if word != 0 && may_add_pair(pairs, action, effect, &tables.added) {
+        clear_asking_word(pairs, touched, asking, action, effect, word, k);
+    }
+}
+
+/// Removes the pairs that the effect breaks together with another effect, of those that its conditions don't exclude.
+pub(crate) fn clear_compatible(
+    pairs: &mut Pairs,
+    touched: &mut Touched,
+    asking: &Asking,
+    action: &Action,
+    tables: &Tables,
+    effect: &Effect,
+)
+    requires noted { AreNoted tables.now.firsts tables.now.ends tables.now.asked tables.now.added tables.now.sure action.now }
+    requires of_action { Member action.now.effects effect.now }
+    requires compatible { are_compatible (is_pair pairs.old) (action.now.pre ++ effect.now.cond) ≡ true }
+    ensures { Shrinks (action.now ∷ []) pairs.old pairs.new }
+{
+    if !may_add_pair(pairs, action, effect, &tables.added) {
+        return;
+    }
+    clear_list(pairs, touched, asking, action, effect, asking.first_free());
+    for k in 0..words_of(pairs.atoms()) {
+        clear_left(pairs, touched, asking, action, tables, effect, k);
     }
 }

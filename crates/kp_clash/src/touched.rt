@@ -114,12 +114,15 @@ impl Touched {
         freed
     }
 
-    /// Whether one of the 64 atoms from 64 k on is to be looked at with an effect of these literals.
+    /// Whether an effect of these literals is to be looked at with each atom: it may not have fired before, or there are
+    /// too many literals to look through.
+    pub(crate) fn frees_all(&self, pre: &[Lit], cond: &[Lit]) -> bool {
+        self.is_all || pre.len() > 8 || self.is_whole(&[], cond)
+    }
+
+    /// Whether one of the 64 atoms from 64 k on was excluded before by these literals.
     pub(crate) fn frees(&self, pre: &[Lit], cond: &[Lit], k: u32) -> bool {
-        self.is_all
-            || pre.len() > 8
-            || self.is_whole(&[], cond)
-            || self.freed_by(pre, k) | self.freed_by(cond, k) != 0
+        self.freed_by(pre, k) | self.freed_by(cond, k) != 0
     }
 
     fn clear_row(&mut self, p: usize) {

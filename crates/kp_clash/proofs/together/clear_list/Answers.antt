@@ -2,7 +2,7 @@ use Rattle.std.proofs.Common.{[], ◌∷◌, ◌++◌}
 use Rattle.kp_clash.specs.Paired.{is_pair}
 use Rattle.kp_clash.proofs.Removing.{shrinks_on}
 use Rattle.kp_base.proofs.Exclusive.{compatible_under_fewer}
-use Rattle.kp_clash.proofs.together.clear_asking.Goals as goal
+use Rattle.kp_clash.proofs.together.clear_list.Goals as goal
 
 pub loop-preserved : goal.loop-preserved
 loop-preserved c = shrinks_on (c.args.action.now ∷ []) c.args.pairs.now c.loop.pairs c.clear_place.new.pairs c.loop.invariant c.clear_place.ensures
