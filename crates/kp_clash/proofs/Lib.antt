@@ -10,6 +10,7 @@ pub mod Candidates
 pub mod Excluded
 pub mod Spans
 pub mod Small
+pub mod Joining
 pub mod Written
 pub mod Places
 pub mod Best

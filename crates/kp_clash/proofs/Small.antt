@@ -1,5 +1,5 @@
 -- What holds of each small action.
-use Rattle.std.proofs.Common.{◌≡◌, ⊎_elim, ◌≤◌, ◌<◌, ◌-◌, ◌/◌, ◌%◌, ℕ, zero, Bool, true, false, not, List, length, replicate, get_or, slice_index_or, w64, nat_eq, nat_lt, inl, inr, ap, ◌∙◌, arith}
+use Rattle.std.proofs.Common.{◌≡◌, ⊎_elim, ◌≤◌, ◌<◌, ◌-◌, ◌/◌, ◌%◌, ℕ, zero, true, not, List, length, replicate, get_or, w64, nat_eq, nat_lt, inl, inr, ap, ◌∙◌, arith}
 use Rattle.std.proofs.lemmas.Bool.{or_left, or_right, eq-eqb, le-ltb, cases_lt}
 use Rattle.std.proofs.lemmas.List.{get_or-replicate, length-replicate, get_or_past}
 use Rattle.std.proofs.lemmas.Nat.Bits.{bit_at_not, bit_at-zero}
@@ -16,10 +16,10 @@ use Rattle.kp_clash.proofs.Spans.{get_below}
 zeros : (n k : ℕ) → get_or (replicate n zero) k zero ≡ zero
 zeros n k = ⊎_elim (λ l. get_or-replicate n k zero zero l) (λ ge. get_or_past (replicate n zero) k zero (rw (length-replicate n zero) ge)) (cases_lt k n)
 
-ones : (j : ℕ) → j < 64 → bit_at 18446744073709551615 j ≡ 1
+pub ones : (j : ℕ) → j < 64 → bit_at 18446744073709551615 j ≡ 1
 ones j l = bit_at_not w64 0 j (omega arith) l ∙ ap (λ b. 1 - b) (bit_at-zero j)
 
-all_set : (p : ℕ) → is_set (replicate 1024 18446744073709551615) p ≡ true
+pub all_set : (p : ℕ) → is_set (replicate 1024 18446744073709551615) p ≡ true
 all_set p = elim (cases_lt p 65536) [
   | inl l ↦
       let word : ◌≡◌ {A = ℕ} (get_or (replicate 1024 18446744073709551615) (p / 64) 0) 18446744073709551615 = get_or-replicate 1024 (p / 64) 18446744073709551615 0 (omega (arith, l)) in

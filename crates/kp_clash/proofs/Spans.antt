@@ -2,7 +2,6 @@
 use Rattle.std.proofs.Common.{◌≡◌, ◌⊎◌, ◌≤◌, ◌<◌, ◌+◌, ◌%◌, ℕ, zero, suc, Bool, true, false, ◌&&◌, List, [], ◌∷◌, Some, length, get_or, slice_get, slice_index_or, inl, inr, sym, ap, subst, ◌∙◌, arith}
 use Rattle.std.proofs.lemmas.Bool.{and_parts, false≢true, false_from_ne_true, cases_lt}
 use Rattle.std.proofs.lemmas.Option.{get_or_from_slice_get}
-use Rattle.std.specs.List.{list_any}
 use Rattle.kp_base.specs.declared.lit.Lit.{Lit}
 use Rattle.kp_base.specs.declared.ground.Effect.{Effect}
 use Rattle.kp_base.specs.declared.ground.Action.{Action}
@@ -76,5 +75,5 @@ deletes_nowhere a q ls from to n there end none = false_from_ne_true (deletes_wi
     let low = between.0 in
     let high = between.1 in
     let below = get_below a.effects at.0 x.0 at.1 in
-    let lt : at.0 < n = elim end [ | inl le ↦ omega (arith, high, le) | inr le ↦ omega (arith, below, le) ] in
+    let lt : at.0 < n = elim end [ inl le ↦ omega (arith, high, le) | inr le ↦ omega (arith, below, le) ] in
     false≢true (sym (none at.0 x.0 low lt at.1) ∙ x.2))

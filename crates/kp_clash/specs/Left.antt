@@ -66,6 +66,10 @@ HasBreaking pairs a e k word = (q : ℕ) → q / 64 ≡ k → breaks pairs a e q
 abbrev pub KeepsFree : Pairs → List Lit → ℕ → ℕ → ℕ → Type 0
 KeepsFree pairs lits k old new = (q : ℕ) → q / 64 ≡ k → list_any (λ l. are_exclusive pairs l (positive q)) lits ≡ false → bit_at old (q % 64) ≡ 1 → bit_at new (q % 64) ≡ 1
 
+-- the bits are set of the atoms below 65,536 that neither precondition nor condition excludes
+abbrev pub AreLeft : Pairs → List Lit → List Lit → List ℕ → Type 0
+AreLeft pairs pre cs words = (q : ℕ) → q < 65536 → list_any (λ l. are_exclusive pairs l (positive q)) pre ≡ false → list_any (λ l. are_exclusive pairs l (positive q)) cs ≡ false → bit_in words q ≡ 1
+
 -- the other atom of a pair that the effect breaks alone, among the 64 from 64 k on and from this atom on; or there is none
 abbrev pub FindsInWord : Pairs → Action → Effect → ℕ → ℕ → Option AtomId → Type 0
 FindsInWord pairs a e from k (Some q) = (breaks pairs a e q.0 ≡ true) × (q.0 < 4294967295)

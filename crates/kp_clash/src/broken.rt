@@ -10,13 +10,14 @@ ghost use Rattle.kp_base.specs.Lit.{positive};
 ghost use Rattle.kp_clash.specs.Paired.{is_pair};
 ghost use Rattle.kp_clash.specs.Settled.{deletes_within};
 ghost use Rattle.kp_clash.specs.Removed.{breaks, adds_pair, FindsAlone, FindsTogether, FindsOfEffect, FindsBroken};
-ghost use Rattle.kp_clash.specs.Left.{AreNoted, FindsInWord, all_asked};
+ghost use Rattle.kp_clash.specs.Left.{AreLeft, AreNoted, FindsInWord, all_asked};
 
 use crate::Pairs;
 use crate::added::may_add_pair;
 use crate::asked::may_exclude;
 use crate::between::deletes_noted;
 use crate::compatible::{are_exclusive, may_fire, pre_compatible, stay_compatible};
+use crate::joined::{all_join, atoms_left};
 use crate::left::candidates;
 use crate::pairs::words_of;
 use crate::tables::{Tables, is_small};
@@ -49,11 +50,18 @@ fn is_against(pairs: &Pairs, action: &Action, tables: &Tables, effect: &Effect, 
     let cond = effect.cond.slice();
     let other = [holding(q)];
     pre_excludes(pairs, action, &tables.asked, q)
-        || (excludes(pairs, cond, q) || deletes_noted(action, &tables.firsts, &tables.ends, q, pre, cond, &other))
+        || (excludes(pairs, cond, q)
+            || deletes_noted(action, &tables.firsts, &tables.ends, q, pre, cond, &other))
 }
 
 /// Whether the effect, which may fire, adds one atom of a pair where the other may be true and stay.
-pub(crate) fn breaks(pairs: &Pairs, action: &Action, tables: &Tables, effect: &Effect, q: AtomId) -> bool
+pub(crate) fn breaks(
+    pairs: &Pairs,
+    action: &Action,
+    tables: &Tables,
+    effect: &Effect,
+    q: AtomId,
+) -> bool
     requires noted { AreNoted tables.now.firsts tables.now.ends tables.now.asked tables.now.added tables.now.sure action.now }
     requires different { (p : ℕ) → is_pair pairs.now p p ≡ false }
     requires adds { effect.now.result.positive ≡ true }
@@ -150,6 +158,21 @@ pub(crate) fn adds_pair(pairs: &Pairs, action: &Action, one: &Effect, other: &Ef
         )
 }
 
+// The same, where the atoms are noted that the first effect's conditions leave.
+fn adds_left(
+    pairs: &Pairs,
+    action: &Action,
+    left: &[u64; WORDS],
+    one: &Effect,
+    other: &Effect,
+) -> bool
+    requires left { AreLeft (is_pair pairs.now) action.now.pre one.now.cond left.now }
+    requires compatible { are_compatible (is_pair pairs.now) (action.now.pre ++ one.now.cond) ≡ true }
+    ensures { result ≡ adds_pair (is_pair pairs.now) action.now one.now other.now }
+{
+    all_join(left, other.cond.slice()) && adds_pair(pairs, action, one, other)
+}
+
 // The other atom of the first pair that the effect breaks together with another effect.
 fn first_together(
     pairs: &Pairs,
@@ -165,8 +188,9 @@ fn first_together(
     if !may_add_pair(pairs, action, effect, &tables.added) {
         return None;
     }
+    let left = atoms_left(pairs, action, effect);
     for other in action.effects.slice() {
-        if adds_pair(pairs, action, effect, other) {
+        if adds_left(pairs, action, &left, effect, other) {
             return Some(other.result.atom);
         }
     }

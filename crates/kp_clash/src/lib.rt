@@ -13,6 +13,7 @@ mod clash;
 mod compatible;
 mod deleted;
 mod find;
+mod joined;
 mod left;
 mod pairs;
 mod settle;

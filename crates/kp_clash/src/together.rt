@@ -10,7 +10,7 @@ use crate::Pairs;
 use crate::added::may_add_pair;
 use crate::asking::Asking;
 use crate::broken::adds_pair;
-use crate::left::leave;
+use crate::joined::left_by;
 use crate::pairs::words_of;
 use crate::tables::Tables;
 use crate::touched::Touched;
@@ -178,17 +178,6 @@ pub(crate) fn clear_partners(
     for lit in effect.cond.slice() {
         clear_freed_by(pairs, last, next, asking, action, effect, lit);
     }
-}
-
-// Those of the 64 atoms from 64 k on that the effect's conditions don't exclude.
-fn left_by(pairs: &Pairs, action: &Action, effect: &Effect, k: u32) -> u64 {
-    let pre = action.pre.slice();
-    let left = if pre.len() > 8 {
-        u64::MAX
-    } else {
-        leave(pairs, pre, k, u64::MAX)
-    };
-    leave(pairs, effect.cond.slice(), k, left)
 }
 
 // Removes the pairs that the effect breaks together with those that have one of the 64 atoms from 64 k on among their

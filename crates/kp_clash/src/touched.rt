@@ -95,8 +95,7 @@ impl Touched {
 
     // Whether the literal's atom was a pair with that of one of these.
     fn joins_one(&self, lit: &Lit, lits: &[Lit]) -> bool {
-        lits.iter()
-            .any(|l| l.positive && has_bit(self.word(lit, l.atom.0 / 64), l.atom.0 % 64))
+        lits.iter().any(|l| l.positive && has_bit(self.word(lit, l.atom.0 / 64), l.atom.0 % 64))
     }
 
     /// Whether an effect with these literals for its condition is to be looked at with all others: it may not have fired
@@ -127,7 +126,10 @@ impl Touched {
 
     fn clear_row(&mut self, p: usize) {
         for k in 0..self.words {
-            if let Some(word) = self.rows.get_mut(p.wrapping_mul(self.words).wrapping_add(k)) {
+            if let Some(word) = self
+                .rows
+                .get_mut(p.wrapping_mul(self.words).wrapping_add(k))
+            {
                 *word = 0;
             }
         }

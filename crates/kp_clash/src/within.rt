@@ -39,7 +39,13 @@ fn all_among(pre: &[Lit], cond: &[Lit], other: &[Lit], lits: &[Lit]) -> bool
 }
 
 /// Whether the effect deletes the atom with a condition within these literals.
-pub(crate) fn deletes_by(pre: &[Lit], cond: &[Lit], other: &[Lit], q: AtomId, delete: &Effect) -> bool
+pub(crate) fn deletes_by(
+    pre: &[Lit],
+    cond: &[Lit],
+    other: &[Lit],
+    q: AtomId,
+    delete: &Effect,
+) -> bool
     ensures { result ≡ (same_lit delete.now.result (negative q.0) && is_within delete.now.cond (pre.now ++ (cond.now ++ other.now))) }
 {
     deletes(delete, q) && all_among(pre, cond, other, delete.cond.slice())

@@ -1,5 +1,4 @@
 use Rattle.std.proofs.Common.{◌≡◌, ◌⊎◌, ◌≤◌, ◌<◌, ◌++◌, ◌&&◌, length, inl, inr, sym, ap, ◌∙◌, arith}
-use Rattle.kp_base.specs.declared.ground.Effect.{Effect}
 use Rattle.kp_base.specs.Implicates.{is_within}
 use Rattle.kp_base.specs.Lit.{negative, same_lit}
 use Rattle.kp_clash.proofs.Spans.{none_more, deletes_at, deletes_nowhere}

@@ -1,13 +1,11 @@
-use Rattle.std.proofs.Common.{true, refl, sym, subst, ◌∙◌, inl, inr}
+use Rattle.std.proofs.Common.{true, refl, sym, ◌∙◌}
 use Rattle.std.proofs.lemmas.Bool.{and_from}
 use Rattle.kp_base.specs.declared.ground.Effect.{Effect}
 use Rattle.kp_base.specs.Lists.{Member}
 use Rattle.kp_clash.specs.Paired.{is_pair}
 use Rattle.kp_clash.specs.Settled.{stays_in}
-use Rattle.kp_clash.specs.Removed.{BreaksNone}
 use Rattle.kp_clash.proofs.Removing.{pair_turned, none_stays}
 use Rattle.kp_clash.proofs.Firing.{breaks_none, incompatible_with_more}
-use Rattle.kp_clash.proofs.Walks.{item_member, taken_more, taken_all}
 use Rattle.kp_clash.proofs.broken.of_action.Goals as goal
 
 pub returns-then-not-pre_compatible : goal.returns-then-not-pre_compatible

@@ -1,4 +1,3 @@
-use Rattle.std.proofs.Common.{sym, ◌∙◌}
 use Rattle.kp_clash.proofs.settle.clear_action.Goals as goal
 
 pub clear_effects-requires-clause-noted : goal.clear_effects-requires-clause-noted
