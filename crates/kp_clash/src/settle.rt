@@ -49,7 +49,7 @@ fn clear_effect(
     } else if last.is_whole(action.pre.slice(), effect.cond.slice()) {
         clear_compatible(pairs, next, asking, action, tables, effect);
     } else {
-        clear_partners(pairs, last, next, asking, action, effect);
+        clear_partners(pairs, last, next, asking, action, tables, effect);
     }
 }
 

@@ -169,12 +169,17 @@ pub(crate) fn clear_partners(
     next: &mut Touched,
     asking: &Asking,
     action: &Action,
+    tables: &Tables,
     effect: &Effect,
 )
+    requires noted { AreNoted tables.now.firsts tables.now.ends tables.now.asked tables.now.added tables.now.sure action.now }
     requires of_action { Member action.now.effects effect.now }
     requires compatible { are_compatible (is_pair pairs.old) (action.now.pre ++ effect.now.cond) ≡ true }
     ensures { Shrinks (action.now ∷ []) pairs.old pairs.new }
 {
+    if !may_add_pair(pairs, action, effect, &tables.added) {
+        return;
+    }
     for lit in effect.cond.slice() {
         clear_freed_by(pairs, last, next, asking, action, effect, lit);
     }
