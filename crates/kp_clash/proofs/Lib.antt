@@ -7,6 +7,10 @@ pub mod Starting
 pub mod Initially
 pub mod Firing
 pub mod Candidates
+pub mod Excluded
+pub mod Spans
+pub mod Small
+pub mod Joining
 pub mod Written
 pub mod Places
 pub mod Best

@@ -26,6 +26,9 @@ pair_turned (x ∷ ps) p q = ap₂ (λ a b. a || b) (or_comm (nat_eq x.0 p && na
 
 -- ---- what is removed
 
+pub fewer_different : (some more : Pairs) → IsPart some more → ((p : ℕ) → more p p ≡ false) → (p : ℕ) → some p p ≡ false
+fewer_different some more part none p = false_from_ne_true (some p p) (λ h. false≢true (sym (none p) ∙ part p p h))
+
 pub shrinks_on : (actions : List Action) (a b c : List (ℕ × ℕ)) → Shrinks actions a b → Shrinks actions b c → Shrinks actions a c
 shrinks_on actions a b c f g = record {
   part = λ p q h. f.part p q (g.part p q h);

@@ -9,7 +9,7 @@ use Rattle.kp_base.specs.declared.ground.Action.{Action}
 use Rattle.kp_base.specs.Lit.{positive}
 use Rattle.kp_base.specs.Clashes.{Pairs, are_exclusive}
 use Rattle.kp_bits.specs.Packed.{bit_in, bit_of}
-use Rattle.kp_clash.specs.Searching.{all_noted}
+use Rattle.kp_clash.specs.Between.{AreBetween}
 use Rattle.kp_clash.specs.Settled.{deletes_within}
 use Rattle.kp_clash.specs.Removed.{breaks}
 
@@ -30,6 +30,15 @@ is_added words e = not e.result.positive || is_set words e.result.atom.0
 abbrev pub all_added : List ℕ → List Effect → Bool
 all_added words es = list_all (is_added words) es
 
+-- ---- atoms that a precondition asks for
+
+-- the literal is negative, or its atom is set
+abbrev pub is_asked : List ℕ → Lit → Bool
+is_asked words l = not l.positive || is_set words l.atom.0
+
+abbrev pub all_asked : List ℕ → List Lit → Bool
+all_asked words ls = list_all (is_asked words) ls
+
 -- ---- atoms that are surely deleted
 
 -- no other bit was set
@@ -40,9 +49,10 @@ AddsBit old new p = (q : ℕ) → bit_in new q ≡ 1 → (bit_in old q ≡ 1) �
 abbrev pub AreDeleted : List ℕ → Action → Type 0
 AreDeleted words a = (q : ℕ) → bit_in words q ≡ 1 → deletes_within a q a.pre ≡ true
 
--- what is noted of an action: the slots of its deletes, the atoms that it adds, and those that it surely deletes
-pub record AreNoted (slots : List Bool) (added sure : List ℕ) (a : Action) : Type 0 where
-  pub deletes : all_noted slots a.effects ≡ true
+-- what is noted of an action: between which places its deletes stand, the atoms that it asks for, those that it adds, and those that it surely deletes
+pub record AreNoted (firsts ends asked added sure : List ℕ) (a : Action) : Type 0 where
+  pub deletes : AreBetween firsts ends a.effects
+  pub asks : all_asked asked a.pre ≡ true
   pub adds : all_added added a.effects ≡ true
   pub deletes_surely : AreDeleted sure a
 
@@ -55,6 +65,10 @@ HasBreaking pairs a e k word = (q : ℕ) → q / 64 ≡ k → breaks pairs a e q
 -- of the word of the atoms from 64 k on, the bits stay whose atoms no literal excludes
 abbrev pub KeepsFree : Pairs → List Lit → ℕ → ℕ → ℕ → Type 0
 KeepsFree pairs lits k old new = (q : ℕ) → q / 64 ≡ k → list_any (λ l. are_exclusive pairs l (positive q)) lits ≡ false → bit_at old (q % 64) ≡ 1 → bit_at new (q % 64) ≡ 1
+
+-- the bits are set of the atoms below 65,536 that neither precondition nor condition excludes
+abbrev pub AreLeft : Pairs → List Lit → List Lit → List ℕ → Type 0
+AreLeft pairs pre cs words = (q : ℕ) → q < 65536 → list_any (λ l. are_exclusive pairs l (positive q)) pre ≡ false → list_any (λ l. are_exclusive pairs l (positive q)) cs ≡ false → bit_in words q ≡ 1
 
 -- the other atom of a pair that the effect breaks alone, among the 64 from 64 k on and from this atom on; or there is none
 abbrev pub FindsInWord : Pairs → Action → Effect → ℕ → ℕ → Option AtomId → Type 0

@@ -1,3 +1,4 @@
+pub mod Between
 pub mod Counted
 pub mod Left
 pub mod Paired

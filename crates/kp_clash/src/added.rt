@@ -32,8 +32,8 @@ pub(crate) fn atoms_added(effects: &[Effect]) -> [u64; WORDS]
     words
 }
 
-// Whether the atom is a pair with one of these.
-fn meets(pairs: &Pairs, atom: AtomId, added: &[u64; WORDS]) -> bool
+/// Whether the atom is a pair with one of these.
+pub(crate) fn meets(pairs: &Pairs, atom: AtomId, added: &[u64; WORDS]) -> bool
     ensures { result ≡ false → (q : ℕ) → is_pair pairs.now atom.0 q ≡ true → (q < 65536) × (bit_in added.now q ≡ 0) }
 {
     for k in 0..words_of(pairs.atoms()) {

@@ -1,7 +1,8 @@
 //! Looks for a pair that doesn't stay.
-ghost use Rattle.std.specs.Prelude.{◌≡◌, ◌<◌, ◌%◌, ◌++◌, ◌||◌, [], ◌∷◌, ℕ, true, false};
+ghost use Rattle.std.specs.Prelude.{◌≡◌, ◌<◌, ◌≤◌, ◌%◌, ◌++◌, ◌||◌, [], ◌∷◌, ℕ, true, false, length};
 ghost use Rattle.std.specs.Int.{bit_at};
 ghost use Rattle.std.specs.List.{list_any};
+ghost use Rattle.kp_base.specs.declared.ground.Action.{Action as ActionOf};
 ghost use Rattle.kp_base.specs.Clashes.{are_exclusive, are_compatible};
 ghost use Rattle.kp_base.specs.Exclusive.{firing_with};
 ghost use Rattle.kp_base.specs.Lists.{Member};
@@ -9,15 +10,19 @@ ghost use Rattle.kp_base.specs.Lit.{positive};
 ghost use Rattle.kp_clash.specs.Paired.{is_pair};
 ghost use Rattle.kp_clash.specs.Settled.{deletes_within};
 ghost use Rattle.kp_clash.specs.Removed.{breaks, adds_pair, FindsAlone, FindsTogether, FindsOfEffect, FindsBroken};
-ghost use Rattle.kp_clash.specs.Left.{AreNoted, FindsInWord};
+ghost use Rattle.kp_clash.specs.Left.{AreLeft, AreNoted, FindsInWord, all_asked};
 
 use crate::Pairs;
 use crate::added::may_add_pair;
+use crate::asked::may_exclude;
+use crate::between::deletes_noted;
 use crate::compatible::{are_exclusive, may_fire, pre_compatible, stay_compatible};
+use crate::joined::{all_join, atoms_left};
 use crate::left::candidates;
 use crate::pairs::words_of;
-use crate::tables::Tables;
-use crate::within::{deletes_noted, holding};
+use crate::tables::{Tables, is_small};
+use crate::within::holding;
+use crate::words::WORDS;
 use kp_base::{Action, AtomId, Effect, Ground, Lit};
 use kp_bits::has_bit;
 
@@ -28,21 +33,36 @@ fn excludes(pairs: &Pairs, lits: &[Lit], atom: AtomId) -> bool
     lits.iter().any(|l| are_exclusive(pairs, *l, holding(atom)))
 }
 
+// Whether a literal of the precondition does.
+fn pre_excludes(pairs: &Pairs, action: &Action, asked: &[u64; WORDS], atom: AtomId) -> bool
+    requires { all_asked asked.now action.now.pre ≡ true }
+    ensures { result ≡ list_any (λ l. are_exclusive (is_pair pairs.now) l (positive atom.0)) action.now.pre }
+{
+    may_exclude(pairs, action, asked, atom) && excludes(pairs, action.pre.slice(), atom)
+}
+
 // Whether a literal excludes the atom, or a delete of it comes with the effect.
 fn is_against(pairs: &Pairs, action: &Action, tables: &Tables, effect: &Effect, q: AtomId) -> bool
-    requires { AreNoted tables.now.slots tables.now.added tables.now.sure action.now }
+    requires { AreNoted tables.now.firsts tables.now.ends tables.now.asked tables.now.added tables.now.sure action.now }
     ensures { result ≡ (list_any (λ l. are_exclusive (is_pair pairs.now) l (positive q.0)) action.now.pre || (list_any (λ l. are_exclusive (is_pair pairs.now) l (positive q.0)) effect.now.cond || deletes_within action.now q.0 (firing_with action.now effect.now q.0))) }
 {
     let pre = action.pre.slice();
     let cond = effect.cond.slice();
     let other = [holding(q)];
-    excludes(pairs, pre, q)
-        || (excludes(pairs, cond, q) || deletes_noted(action, &tables.slots, q, pre, cond, &other))
+    pre_excludes(pairs, action, &tables.asked, q)
+        || (excludes(pairs, cond, q)
+            || deletes_noted(action, &tables.firsts, &tables.ends, q, pre, cond, &other))
 }
 
-// Whether the effect, which may fire, adds one atom of a pair where the other may be true and stay.
-fn breaks(pairs: &Pairs, action: &Action, tables: &Tables, effect: &Effect, q: AtomId) -> bool
-    requires noted { AreNoted tables.now.slots tables.now.added tables.now.sure action.now }
+/// Whether the effect, which may fire, adds one atom of a pair where the other may be true and stay.
+pub(crate) fn breaks(
+    pairs: &Pairs,
+    action: &Action,
+    tables: &Tables,
+    effect: &Effect,
+    q: AtomId,
+) -> bool
+    requires noted { AreNoted tables.now.firsts tables.now.ends tables.now.asked tables.now.added tables.now.sure action.now }
     requires different { (p : ℕ) → is_pair pairs.now p p ≡ false }
     requires adds { effect.now.result.positive ≡ true }
     requires compatible { are_compatible (is_pair pairs.now) (action.now.pre ++ effect.now.cond) ≡ true }
@@ -60,7 +80,7 @@ fn breaks_at(
     word: u64,
     q: u32,
 ) -> bool
-    requires noted { AreNoted tables.now.slots tables.now.added tables.now.sure action.now }
+    requires noted { AreNoted tables.now.firsts tables.now.ends tables.now.asked tables.now.added tables.now.sure action.now }
     requires different { (p : ℕ) → is_pair pairs.now p p ≡ false }
     requires adds { effect.now.result.positive ≡ true }
     requires compatible { are_compatible (is_pair pairs.now) (action.now.pre ++ effect.now.cond) ≡ true }
@@ -79,7 +99,7 @@ fn first_in_word(
     from: u32,
     k: u32,
 ) -> Option<AtomId>
-    requires noted { AreNoted tables.now.slots tables.now.added tables.now.sure action.now }
+    requires noted { AreNoted tables.now.firsts tables.now.ends tables.now.asked tables.now.added tables.now.sure action.now }
     requires different { (p : ℕ) → is_pair pairs.now p p ≡ false }
     requires adds { effect.now.result.positive ≡ true }
     requires compatible { are_compatible (is_pair pairs.now) (action.now.pre ++ effect.now.cond) ≡ true }
@@ -107,7 +127,7 @@ pub(crate) fn next_alone(
     effect: &Effect,
     from: u32,
 ) -> Option<AtomId>
-    requires noted { AreNoted tables.now.slots tables.now.added tables.now.sure action.now }
+    requires noted { AreNoted tables.now.firsts tables.now.ends tables.now.asked tables.now.added tables.now.sure action.now }
     requires compatible { are_compatible (is_pair pairs.now) (action.now.pre ++ effect.now.cond) ≡ true }
     ensures { FindsAlone (is_pair pairs.now) action.now effect.now from result }
 {
@@ -138,6 +158,21 @@ pub(crate) fn adds_pair(pairs: &Pairs, action: &Action, one: &Effect, other: &Ef
         )
 }
 
+// The same, where the atoms are noted that the first effect's conditions leave.
+fn adds_left(
+    pairs: &Pairs,
+    action: &Action,
+    left: &[u64; WORDS],
+    one: &Effect,
+    other: &Effect,
+) -> bool
+    requires left { AreLeft (is_pair pairs.now) action.now.pre one.now.cond left.now }
+    requires compatible { are_compatible (is_pair pairs.now) (action.now.pre ++ one.now.cond) ≡ true }
+    ensures { result ≡ adds_pair (is_pair pairs.now) action.now one.now other.now }
+{
+    all_join(left, other.cond.slice()) && adds_pair(pairs, action, one, other)
+}
+
 // The other atom of the first pair that the effect breaks together with another effect.
 fn first_together(
     pairs: &Pairs,
@@ -145,7 +180,7 @@ fn first_together(
     tables: &Tables,
     effect: &Effect,
 ) -> Option<AtomId>
-    requires noted { AreNoted tables.now.slots tables.now.added tables.now.sure action.now }
+    requires noted { AreNoted tables.now.firsts tables.now.ends tables.now.asked tables.now.added tables.now.sure action.now }
     requires of_action { Member action.now.effects effect.now }
     requires compatible { are_compatible (is_pair pairs.now) (action.now.pre ++ effect.now.cond) ≡ true }
     ensures { FindsTogether (is_pair pairs.now) action.now effect.now result }
@@ -153,8 +188,9 @@ fn first_together(
     if !may_add_pair(pairs, action, effect, &tables.added) {
         return None;
     }
+    let left = atoms_left(pairs, action, effect);
     for other in action.effects.slice() {
-        if adds_pair(pairs, action, effect, other) {
+        if adds_left(pairs, action, &left, effect, other) {
             return Some(other.result.atom);
         }
     }
@@ -168,7 +204,7 @@ fn of_effect(
     tables: &Tables,
     effect: &Effect,
 ) -> Option<(AtomId, AtomId)>
-    requires noted { AreNoted tables.now.slots tables.now.added tables.now.sure action.now }
+    requires noted { AreNoted tables.now.firsts tables.now.ends tables.now.asked tables.now.added tables.now.sure action.now }
     requires of_action { Member action.now.effects effect.now }
     requires compatible { are_compatible (is_pair pairs.now) action.now.pre ≡ true }
     ensures { FindsOfEffect (is_pair pairs.now) action.now effect.now result }
@@ -188,28 +224,43 @@ fn of_effect(
     }
 }
 
-// A pair that an effect of the action breaks.
-fn of_action(pairs: &Pairs, action: &Action) -> Option<(AtomId, AtomId)>
+// A pair that an effect of the action breaks, by what is noted of the action.
+fn of_effects(pairs: &Pairs, action: &Action, tables: &Tables) -> Option<(AtomId, AtomId)>
+    requires noted { AreNoted tables.now.firsts tables.now.ends tables.now.asked tables.now.added tables.now.sure action.now }
+    requires compatible { are_compatible (is_pair pairs.now) action.now.pre ≡ true }
     ensures { FindsBroken (is_pair pairs.now) (action.now ∷ []) result }
 {
-    if !pre_compatible(pairs, action) {
-        return None;
-    }
-    let tables = Tables::of(action);
     for effect in action.effects.slice() {
-        if let Some(found) = of_effect(pairs, action, &tables, effect) {
+        if let Some(found) = of_effect(pairs, action, tables, effect) {
             return Some(found);
         }
     }
     None
 }
 
+// A pair that an effect of the action breaks.
+fn of_action(pairs: &Pairs, any: &Tables, action: &Action) -> Option<(AtomId, AtomId)>
+    requires { (a : ActionOf) → length a.effects ≤ 8 → AreNoted any.now.firsts any.now.ends any.now.asked any.now.added any.now.sure a }
+    ensures { FindsBroken (is_pair pairs.now) (action.now ∷ []) result }
+{
+    if !pre_compatible(pairs, action) {
+        return None;
+    }
+    if is_small(action) {
+        of_effects(pairs, action, any)
+    } else {
+        let tables = Tables::of(action);
+        of_effects(pairs, action, &tables)
+    }
+}
+
 /// A pair that doesn't stay, if there is one.
 pub(crate) fn broken(ground: &Ground, pairs: &Pairs) -> Option<(AtomId, AtomId)>
     ensures { FindsBroken (is_pair pairs.now) ground.now.actions result }
 {
+    let any = Tables::any();
     for action in ground.actions.slice() {
-        if let Some(found) = of_action(pairs, action) {
+        if let Some(found) = of_action(pairs, &any, action) {
             return Some(found);
         }
     }

@@ -37,6 +37,6 @@ pub fn exclusive(alloc: Global, ground: &Ground, primes: &Primes) -> Result<Pair
         return Err(Memory);
     };
     let mut pairs = never_together(alloc, atoms, primes)?;
-    settle(ground, &mut pairs);
+    settle(alloc, ground, &mut pairs)?;
     Ok(pairs)
 }

@@ -22,8 +22,8 @@ fn leave_one(pairs: &Pairs, lit: Lit, k: u32, word: u64) -> u64
     }
 }
 
-// Clears bits of the word at place k whose atoms some literal excludes.
-fn leave(pairs: &Pairs, lits: &[Lit], k: u32, word: u64) -> u64
+/// Clears bits of the word at place k whose atoms some literal excludes.
+pub(crate) fn leave(pairs: &Pairs, lits: &[Lit], k: u32, word: u64) -> u64
     ensures { KeepsFree (is_pair pairs.now) lits.now k word result }
 {
     let mut left = word;

@@ -4,17 +4,23 @@
 #![tactic(auto)]
 
 mod added;
+mod alone;
+mod asked;
+mod asking;
+mod between;
 mod broken;
 mod clash;
 mod compatible;
 mod deleted;
 mod find;
+mod joined;
 mod left;
 mod pairs;
 mod settle;
 mod start;
 mod sure;
 mod tables;
+mod together;
 mod touched;
 mod within;
 mod words;

@@ -9,4 +9,4 @@ pub returns : goal.returns
 returns c =
     let atoms : c.in-Ok.atoms ≡ length c.args.ground.now.atoms = c.in-Ok.ensures.1 ∙ c.len.ensures in
     let start : AreNeverTogether (formula c.args.primes.now) (length c.args.ground.now.atoms) (is_pair c.in_ok-pairs.pairs) = rw (← atoms) c.in_ok-pairs.ensures in
-    left_exclusive c.args.ground.now (formula c.args.primes.now) (length c.args.ground.now.atoms) c.in_ok-pairs.pairs c.settle.new.pairs start c.settle.ensures
+    left_exclusive c.args.ground.now (formula c.args.primes.now) (length c.args.ground.now.atoms) c.in_ok-pairs.pairs c.settle.new.pairs start c.in_ok-settle.ensures
