@@ -3,3 +3,4 @@ pub mod Entries
 pub mod NumbersOfNames
 pub mod TypesBelow
 pub mod ObjectsOfTypes
+pub mod InnermostVariables

@@ -1,11 +1,12 @@
 -- This file serves proofs alone. What the loops of the numbering do, step by step.
-use Rattle.std.specs.Prelude.{◌≡◌, ◌+◌, ◌||◌, ℕ, Bool, true, List, [], ◌∷◌, ◌++◌, if◌then◌else◌, cond, fold, filter, map, slice_set}
+use Rattle.std.specs.Prelude.{◌≡◌, ◌+◌, ◌||◌, ℕ, Bool, true, List, [], ◌∷◌, ◌++◌, if◌then◌else◌, cond, fold, filter, map, slice_set, unwrap_or}
 use Rattle.std.specs.List.{list_any}
+use Rattle.std.specs.Map.{lookup}
 use Rattle.kp_grammar.specs.declared.tree.Word.{Word}
 use Rattle.kp_grammar.specs.Trees.{Typed, Domain, Problem}
-use Rattle.kp_meaning.specs.Names.{Name, is_among}
+use Rattle.kp_meaning.specs.Names.{Name, same, is_among}
 use Rattle.kp_meaning.specs.Types.{object, objects, is_below, is_of_type}
-use Rattle.kp_meaning.specs.Numbering.{index_of}
+use Rattle.kp_meaning.specs.Numbering.{index_of, variable_number}
 
 -- ---- names
 
@@ -50,3 +51,9 @@ mark_line os names marks x = if has_type names x then slice_set marks (index_of 
 abbrev pub marked_from : ℕ → List Bool → List ℕ
 marked_from n [] = []
 marked_from n (m ∷ ms) = cond m (n ∷ marked_from (n + 1) ms) (marked_from (n + 1) ms)
+
+-- ---- variables round a place
+
+-- the entries have, under each name, the number of its innermost variable
+pub record AreInnermost (scope : List Name) (entries : List (Name × ℕ)) : Type 0 where
+  pub each : (n : Name) → unwrap_or (lookup (same n) entries) 0 ≡ variable_number scope n
