@@ -13,7 +13,7 @@ use Rattle.kp_tables.proofs.Entries.{found}
 
 module _ {K : Type 0} (now : K → Name) where
   -- what is found once an entry is inserted
-  inserted : (n : Name) (es : List (K × ℕ)) (k : K) (v : ℕ)
+  pub inserted : (n : Name) (es : List (K × ℕ)) (k : K) (v : ℕ)
       → lookup (λ j. same n (now j)) (insert_entry (λ i j. same (now i) (now j)) es k v) ≡ cond (same n (now k)) (Some v) (lookup (λ j. same n (now j)) es)
   inserted n [] k v = refl
   inserted n (e ∷ es) k v = by (same (now k) (now e.0)) refl (inserted n es k v)
