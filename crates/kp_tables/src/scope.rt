@@ -46,7 +46,7 @@ fn innermost<'a>(alloc: Global, names: &[&'a [u8]]) -> Result<IndexMap<&'a [u8],
     requires { length names.now ≤ 4294967295 }
     ensures { IfOk result (λ m. AreInnermost (reverse (map (λ v. v.now) names.now)) (map (λ e. (e.0.now, e.1)) m.entries)) }
 {
-    let mut numbers = IndexMap::new(alloc);
+    let mut numbers = IndexMap::with_capacity(alloc, names.len())?;
     for (place, name) in names.iter().enumerate() {
         numbers.insert(*name, place as u32)?;
     }
