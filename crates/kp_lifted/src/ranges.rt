@@ -45,7 +45,7 @@ impl<'a> Ranges<'a> {
     fn found(&self, alloc: Global, name: &'a [u8]) -> Result<Row<u32>, Memory>
         ensures { IfOk result (λ row. row ≡ range_of (domain_view self.now.names.domain.now) (problem_view self.now.names.problem.now) (name.now ∷ [])) }
     {
-        let below = below_type(alloc, self.names.domain.kinds.slice(), name)?;
+        let below = below_type(alloc, &self.names, name)?;
         let objects = objects_of(alloc, &self.names, &below)?;
         Ok(objects)
     }
@@ -68,7 +68,7 @@ impl<'a> Ranges<'a> {
     fn of_types(&self, alloc: Global, words: &'a [Word]) -> Result<Row<u32>, Memory>
         ensures { IfOk result (λ row. row ≡ range_of (domain_view self.now.names.domain.now) (problem_view self.now.names.problem.now) (names words.now)) }
     {
-        let below = below_types(alloc, self.names.domain.kinds.slice(), words)?;
+        let below = below_types(alloc, &self.names, words)?;
         let objects = objects_of(alloc, &self.names, &below)?;
         Ok(objects)
     }

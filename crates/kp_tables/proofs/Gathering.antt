@@ -10,7 +10,9 @@ use Rattle.kp_base.proofs.Once.{any-added, all_added, once_by_one}
 use Rattle.kp_meaning.specs.Types.{declared}
 use Rattle.kp_meaning.specs.Names.{Name, same, is_among, distinct}
 use Rattle.kp_meaning.specs.Numbering.{index_of}
-use Rattle.kp_meaning.proofs.Lists.{same_names, same-sym}
+use Rattle.kp_base.specs.Lists.{Member}
+use Rattle.kp_base.proofs.Lists.{same_member}
+use Rattle.kp_meaning.proofs.Lists.{same_names, same-sym, same-true, among_member}
 use Rattle.kp_meaning.proofs.Indexes.{index_below}
 use Rattle.kp_tables.specs.Steps.{with_name}
 use Rattle.kp_tables.specs.Tables.{number_of}
@@ -44,6 +46,12 @@ among_gathered xs (x ∷ more) y =
 
 pub among_all : (xs : List Name) (y : Name) → is_among (fold with_name [] xs) y ≡ is_among xs y
 among_all xs y = among_gathered [] xs y
+
+pub gathered_member : (xs : List Name) (y : Name) → Member (fold with_name [] xs) y → Member xs y
+gathered_member xs y m = same_member same same-true xs y (sym (among_all xs y) ∙ among_member (fold with_name [] xs) y m)
+
+pub member_gathered : (xs : List Name) (y : Name) → Member xs y → Member (fold with_name [] xs) y
+member_gathered xs y m = same_member same same-true (fold with_name [] xs) y (among_all xs y ∙ among_member xs y m)
 
 -- a name is among the objects where some line declares it
 pub among_objects : (xs : List Name) (y : Name) → is_among (distinct xs) y ≡ is_among xs y

@@ -1,20 +1,25 @@
--- What the marks find: exactly the objects of some types, in ascending order.
-use Rattle.std.proofs.Common.{◌≡◌, ◌+◌, ℕ, suc, Bool, true, false, ◌&&◌, ◌||◌, if◌then◌else◌, cond, List, [], ◌∷◌, length, map, filter, fold, slice_set, replicate, length-set, refl, sym, ap, ap₂, ◌∙◌, subst, inl, inr, arith}
-use Rattle.std.specs.List.{list_any}
-use Rattle.std.proofs.lemmas.Bool.{and_parts, and_from, both_ways}
-use Rattle.std.proofs.Math.Bool.{and-true, and-false, or-true, or-false, or_assoc}
-use Rattle.std.proofs.lemmas.List.Elements.{filter_agree}
-use Rattle.std.proofs.lemmas.List.Sums.{fold-append}
+-- What is found under types: exactly the objects of some types, in ascending order.
+use Rattle.std.proofs.Common.{◌≡◌, ◌+◌, ◌<◌, ◌≤◌, ℕ, zero, suc, Bool, true, false, ◌&&◌, if◌then◌else◌, cond, List, [], ◌∷◌, map, filter, flat_map, AllPairs, IsPermutation, IsSorted, refl, sym, ap, ap₂, ◌∙◌, subst, inl, inr, arith, eqb}
+use Rattle.std.specs.List.{list_any, dedup}
+use Rattle.std.specs.Ordering.{nat_cmp}
+use Rattle.std.proofs.lemmas.Bool.{and_parts, and_from, or_cases, or_left, both_ways}
+use Rattle.std.proofs.lemmas.Map.Keys.{IsStrictlyIncreasing-dedup}
+use Rattle.std.proofs.lemmas.List.Kept.{AllPairs-from_increasing, Contains-dedup_nat, Contains-from_dedup}
+use Rattle.std.proofs.lemmas.List.Sorted.{Contains-permutation, IsPermutation-sym}
+use Rattle.std.proofs.lemmas.Option.{slice_get_within, get_or_from_slice_get}
 use Rattle.kp_grammar.specs.declared.tree.Word.{Word}
 use Rattle.kp_grammar.specs.Trees.{Typed, Domain, Problem}
 use Rattle.kp_base.specs.Lists.{Member}
+use Rattle.kp_base.proofs.Lists.{number_at, contains_member, member_contains, member_flat_map, member_filter, same_member}
 use Rattle.kp_meaning.specs.Names.{Name, same, is_among}
-use Rattle.kp_meaning.specs.Types.{declared, types_of, is_below, object_lines, objects, is_of_type}
+use Rattle.kp_meaning.specs.Types.{object, declared, types_of, is_below, object_lines, objects, is_of_type}
 use Rattle.kp_meaning.specs.Numbering.{index_of}
-use Rattle.kp_meaning.proofs.Lists.{any_member, any_from, bool_same, same-true, same-refl, same-sym, among_member, filter_member}
+use Rattle.kp_meaning.proofs.Lists.{any_member, any_from, bool_same, same-true, same-refl, among_member, member_map, map_member, flat_member, filter_member}
 use Rattle.kp_meaning.proofs.Indexes.{Distinct, distinct_once}
-use Rattle.kp_tables.specs.Steps.{has_type, AreBelow, range_of, mark_line, marked_from}
-use Rattle.kp_tables.proofs.TypesBelow.{reached_type, there_type}
+use Rattle.kp_tables.specs.Steps.{any_among, has_type, AreBelow, under, lines_under, range_of, IsRowOf}
+use Rattle.kp_tables.proofs.Gathering.{among_objects}
+use Rattle.kp_tables.proofs.NamesUnderTypes.{put_by, puts_it}
+use Rattle.kp_tables.proofs.TypesBelow.{written, reached_type, there_type}
 
 -- ---- lists
 
@@ -22,50 +27,54 @@ map_alike : {X Y : Type 0} (f g : X → Y) (xs : List X) → ((x : X) → Member
 map_alike f g [] h = refl
 map_alike f g (x ∷ xs) h = ap₂ (λ a b. a ∷ b) (h x (inl refl)) (map_alike f g xs (λ y m. h y (inr m)))
 
--- ---- marks
+-- ---- numbers that rise
 
--- a mark is set at one name's place
-set_at : (p : Name → Bool) (os : List Name) (w : Name) → Distinct os → slice_set (map p os) (index_of os w) true ≡ map (λ o. p o || same w o) os
-set_at p [] w d = refl
-set_at p (o ∷ os) w d = by (same o w) refl (set_at p os w d.1)
+-- each number is below all later ones
+abbrev Rises : List ℕ → Type 0
+Rises [] = Unit {0}
+Rises (x ∷ xs) = ((y : ℕ) → Member xs y → x < y) × Rises xs
+
+rises_from_pairs : (xs : List ℕ) → AllPairs (λ x y. x < y) xs → Rises xs
+rises_from_pairs [] h = tt
+rises_from_pairs (x ∷ xs) h = (head, rises_from_pairs xs (λ i j d lt within. h (suc i) (suc j) d (omega (arith, lt)) (omega (arith, within))))
   where
-    other : (x : Name) → same o w ≡ true → Member os x → p x ≡ (p x || same w x)
-    other x is m = sym (ap (λ b. p x || b) (apart (same w x) refl) ∙ or-false (p x))
-      where
-        apart : (b : Bool) → same w x ≡ b → same w x ≡ false
-        apart false e = e
-        apart true e = absurd (both_ways (is_among os o) d.0 (subst (λ z. is_among os z ≡ true) (sym (same-true o w is ∙ same-true w x e)) (among_member os x m)))
+    head : (y : ℕ) → Member xs y → x < y
+    head y m =
+        let n = number_at xs y m in
+        subst (λ z. x < z) (get_or_from_slice_get xs n.0 y 0 n.1) (h zero (suc n.0) 0 (omega arith) (let lt = slice_get_within xs n.0 y n.1 in omega (arith, lt)))
 
-    by : (b : Bool) → same o w ≡ b → slice_set (map p os) (index_of os w) true ≡ map (λ x. p x || same w x) os → slice_set (p o ∷ map p os) (if b then 0 else suc (index_of os w)) true ≡ (p o || same w o) ∷ map (λ x. p x || same w x) os
-    by true is rest = ap₂ (λ a b. a ∷ b) (sym (ap (λ b. p o || b) (same-sym w o ∙ is) ∙ or-true (p o))) (map_alike p (λ x. p x || same w x) os (λ x m. other x is m))
-    by false is rest = ap₂ (λ a b. a ∷ b) (sym (ap (λ b. p o || b) (same-sym w o ∙ is) ∙ or-false (p o))) rest
+-- the numbers of marks that are set, counted on
+abbrev marked_from : ℕ → List Bool → List ℕ
+marked_from n [] = []
+marked_from n (m ∷ ms) = cond m (n ∷ marked_from (n + 1) ms) (marked_from (n + 1) ms)
 
-module _ (os names : List Name) (once : Distinct os) where
-  -- the object of a line that has a type
-  abbrev pub has_line : Name → Typed Word → Bool
-  has_line o x = same x.word.text o && has_type names x
+marks_rise : (n : ℕ) (ms : List Bool) → ((y : ℕ) → Member (marked_from n ms) y → n ≤ y) × Rises (marked_from n ms)
+marks_rise n [] = (λ y m. absurd m, tt)
+marks_rise n (m ∷ ms) = by m (marks_rise (n + 1) ms)
+  where
+    by : (b : Bool) → ((y : ℕ) → Member (marked_from (n + 1) ms) y → n + 1 ≤ y) × Rises (marked_from (n + 1) ms)
+        → ((y : ℕ) → Member (cond b (n ∷ marked_from (n + 1) ms) (marked_from (n + 1) ms)) y → n ≤ y) × Rises (cond b (n ∷ marked_from (n + 1) ms) (marked_from (n + 1) ms))
+    by true rest = (λ y m. elim m [ inl e ↦ omega (arith, e) | inr r ↦ let le = rest.0 y r in omega (arith, le) ], (λ y m. (let le = rest.0 y m in omega (arith, le)), rest.1))
+    by false rest = (λ y m. let le = rest.0 y m in omega (arith, le), rest.1)
 
-  line_marks : (p : Name → Bool) (x : Typed Word) → mark_line os names (map p os) x ≡ map (λ o. p o || has_line o x) os
-  line_marks p x = by (has_type names x) refl
-    where
-      both : (o : Name) → has_type names x ≡ true → (p o || same x.word.text o) ≡ (p o || has_line o x)
-      both o e = ap (λ b. p o || b) (sym (ap (λ b. same x.word.text o && b) e ∙ and-true (same x.word.text o)))
+-- two rising lists of the same numbers are one
+rising_same : (xs ys : List ℕ) → Rises xs → Rises ys → ((n : ℕ) → Member xs n → Member ys n) → ((n : ℕ) → Member ys n → Member xs n) → xs ≡ ys
+rising_same [] [] r s f g = refl
+rising_same [] (y ∷ ys) r s f g = absurd (g y (inl refl))
+rising_same (x ∷ xs) [] r s f g = absurd (f x (inl refl))
+rising_same (x ∷ xs) (y ∷ ys) r s f g = ap₂ (λ a b. a ∷ b) first (rising_same xs ys r.1 s.1 there back)
+  where
+    first : x ≡ y
+    first = elim (f x (inl refl)) [
+      | inl e ↦ sym e
+      | inr m ↦ elim (g y (inl refl)) [ inl e ↦ e | inr n ↦ absurd (let a = r.0 y n in let b = s.0 x m in omega (arith, a, b)) ]
+    ]
 
-      none : (o : Name) → has_type names x ≡ false → p o ≡ (p o || has_line o x)
-      none o e = sym (ap (λ b. p o || b) (ap (λ b. same x.word.text o && b) e ∙ and-false (same x.word.text o)) ∙ or-false (p o))
+    there : (n : ℕ) → Member xs n → Member ys n
+    there n m = elim (f n (inr m)) [ inl e ↦ absurd (let a = r.0 n m in omega (arith, a, e, first)) | inr k ↦ k ]
 
-      by : (b : Bool) → has_type names x ≡ b → (if b then slice_set (map p os) (index_of os x.word.text) true else map p os) ≡ map (λ o. p o || has_line o x) os
-      by true e = set_at p os x.word.text once ∙ map_alike (λ o. p o || same x.word.text o) (λ o. p o || has_line o x) os (λ o m. both o e)
-      by false e = map_alike p (λ o. p o || has_line o x) os (λ o m. none o e)
-
-  lines_mark : (p : Name → Bool) (xs : List (Typed Word)) → fold (mark_line os names) (map p os) xs ≡ map (λ o. p o || list_any (has_line o) xs) os
-  lines_mark p [] = map_alike p (λ o. p o || false) os (λ o m. sym (or-false (p o)))
-  lines_mark p (x ∷ xs) =
-      ap (λ ms. fold (mark_line os names) ms xs) (line_marks p x)
-      ∙ lines_mark (λ o. p o || has_line o x) xs
-      ∙ map_alike (λ o. (p o || has_line o x) || list_any (has_line o) xs) (λ o. p o || (has_line o x || list_any (has_line o) xs)) os (λ o m. or_assoc (p o) (has_line o x) (list_any (has_line o) xs))
-
--- ---- numbers of marks
+    back : (n : ℕ) → Member ys n → Member xs n
+    back n m = elim (g n (inr m)) [ inl e ↦ absurd (let a = s.0 n m in omega (arith, a, e, first)) | inr k ↦ k ]
 
 add_suc : (n i : ℕ) → n + suc i ≡ (n + 1) + i
 add_suc n i = omega arith
@@ -115,25 +124,77 @@ module _ (d : Domain Word) (p : Problem Word) (ts names : List Name) (below : Ar
           any_from (λ y. same y.word.text o && has_type names y) (object_lines d p) x.0 x.1
           (and_from (same x.0.word.text o) (has_type names x.0) parts.0 (reached_type names x.0 k.0 k.1 reached))
 
-  pub marked_are : marked_from 0 (fold (mark_line (objects d p) names) (fold (mark_line (objects d p) names) (map (λ o. false) (objects d p)) d.constants) p.objects) ≡ range_of d p ts
-  marked_are =
-      let once = distinct_once (declared (object_lines d p)) in
-      let os = objects d p in
-      ap (marked_from 0) (sym (fold-append (mark_line os names) (map (λ o. false) os) d.constants p.objects) ∙ lines_mark os names once (λ o. false) (object_lines d p))
-      ∙ marks_number (λ o. list_any (has_line os names once o) (object_lines d p)) os once 0
-      ∙ map_alike (λ o. 0 + index_of os o) (index_of os) (filter (λ o. list_any (has_line os names once o) (object_lines d p)) os) (λ o m. omega arith)
-      ∙ ap (map (index_of os)) (filter_agree (λ o. list_any (has_line os names once o) (object_lines d p)) (λ o. list_any (is_of_type d p o) ts) has_either os)
+  -- the objects of the types, where every type is below them
+  pub all_objects : is_among names object ≡ true → (o : Name) → Member (objects d p) o → list_any (is_of_type d p o) ts ≡ true
+  all_objects all o m =
+      let declared_there : Member (declared (object_lines d p)) o = same_member same same-true (declared (object_lines d p)) o (sym (among_objects (declared (object_lines d p)) o) ∙ among_member (objects d p) o m) in
+      let x = map_member (λ (x : Typed Word). x.word.text) (object_lines d p) o declared_there in
+      sym (has_either o)
+      ∙ any_from (λ y. same y.word.text o && has_type names y) (object_lines d p) x.0 x.1
+      (and_from (same x.0.word.text o) (has_type names x.0) (subst (λ z. same z o ≡ true) (sym x.2) (same-refl o)) (or_left (is_among names object) (any_among names x.0.kinds) all))
 
--- ---- as many marks as objects
+  -- what stands under the types below are the objects of the types
+  under_there : (o : Name) → Member (flat_map (under (lines_under (object_lines d p))) names) o → Member (objects d p) o × (list_any (is_of_type d p o) ts ≡ true)
+  under_there o m =
+      let k = flat_member (under (lines_under (object_lines d p))) names o m in
+      let x = put_by k.0 o (object_lines d p) (among_member (under (lines_under (object_lines d p)) k.0) o k.2) in
+      let reached = reached_type names x.0 k.0 (written x.0.kinds k.0 x.2) (or_left (is_among names k.0) (is_among names object) (among_member names k.0 k.1)) in
+      let declared_there : Member (declared (object_lines d p)) o = subst (Member (declared (object_lines d p))) x.3 (member_map (λ (x : Typed Word). x.word.text) (object_lines d p) x.0 x.1) in (
+        same_member same same-true (objects d p) o (among_objects (declared (object_lines d p)) o ∙ among_member (declared (object_lines d p)) o declared_there),
+        sym (has_either o)
+            ∙ any_from (λ y. same y.word.text o && has_type names y) (object_lines d p) x.0 x.1 (and_from (same x.0.word.text o) (has_type names x.0) (subst (λ z. same z o ≡ true) (sym x.3) (same-refl o)) reached),
+      )
 
-pub no_marks : (os : List Name) → replicate (length os) false ≡ map (λ o. false) os
-no_marks [] = refl
-no_marks (o ∷ os) = ap (λ ms. false ∷ ms) (no_marks os)
+  under_back : is_among names object ≡ false → (o : Name) → list_any (is_of_type d p o) ts ≡ true → Member (flat_map (under (lines_under (object_lines d p))) names) o
+  under_back not_all o h =
+      let x = any_member (λ y. same y.word.text o && has_type names y) (object_lines d p) (has_either o ∙ h) in
+      let parts = and_parts (same x.0.word.text o) (has_type names x.0) x.2 in
+      elim (or_cases (is_among names object) (any_among names x.0.kinds) parts.1) [
+        | inl e ↦ absurd (both_ways (is_among names object) not_all e)
+        | inr e ↦
+            let w = any_member (λ w. is_among names w.text) x.0.kinds e in
+            let put = puts_it (object_lines d p) x.0 w.0.text x.1 (member_map (λ w. w.text) x.0.kinds w.0 w.1) in
+            member_flat_map (under (lines_under (object_lines d p))) names w.0.text o (same_member same same-true names w.0.text w.2)
+            (same_member same same-true (under (lines_under (object_lines d p)) w.0.text) o (subst (λ z. is_among (under (lines_under (object_lines d p)) w.0.text) z ≡ true) (same-true x.0.word.text o parts.0) put))
+      ]
 
-pub marks_length : (os names : List Name) (marks : List Bool) (xs : List (Typed Word)) → length (fold (mark_line os names) marks xs) ≡ length marks
-marks_length os names marks [] = refl
-marks_length os names marks (x ∷ xs) = marks_length os names (mark_line os names marks x) xs ∙ by (has_type names x)
-  where
-    by : (b : Bool) → length (if b then slice_set marks (index_of os x.word.text) true else marks) ≡ length marks
-    by true = length-set marks (index_of os x.word.text) true
-    by false = refl
+  -- a rising row of the numbers of some objects, which are those of the types
+  row_is : (found : List Name) (row : List ℕ) → ((o : Name) → Member found o → Member (objects d p) o × (list_any (is_of_type d p o) ts ≡ true))
+      → ((o : Name) → Member (objects d p) o → list_any (is_of_type d p o) ts ≡ true → Member found o)
+      → IsRowOf (map (index_of (objects d p)) found) row → row ≡ range_of d p ts
+  row_is found row there back is =
+      rising_same row (range_of d p ts) (rises_from_pairs row is.rising) (subst Rises marks (marks_rise 0 (map q os)).1)
+      (λ n m.
+      let o = map_member (index_of os) found n (is.there n m) in
+      let both = there o.0 o.1 in
+      subst (Member (range_of d p ts)) o.2 (member_map (index_of os) (filter q os) o.0 (member_filter q os o.0 both.0 both.1)))
+      (λ n m.
+      let o = map_member (index_of os) (filter q os) n m in
+      let both = filter_member q os o.0 o.1 in
+      is.back n (subst (Member (map (index_of os) found)) o.2 (member_map (index_of os) found o.0 (back o.0 both.0 both.1))))
+    where
+      os : List Name
+      os = objects d p
+
+      q : Name → Bool
+      q o = list_any (is_of_type d p o) ts
+
+      marks : marked_from 0 (map q os) ≡ range_of d p ts
+      marks =
+          marks_number q os (distinct_once (declared (object_lines d p))) 0
+          ∙ map_alike (λ o. 0 + index_of os o) (index_of os) (filter q os) (λ o m. omega arith)
+
+  pub row_of_all : is_among names object ≡ true → (row : List ℕ) → IsRowOf (map (index_of (objects d p)) (objects d p)) row → row ≡ range_of d p ts
+  row_of_all all row is = row_is (objects d p) row (λ o m. (m, all_objects all o m)) (λ o m h. m) is
+
+  pub row_of_found : is_among names object ≡ false → (found : List Name) (row : List ℕ) → ((o : Name) → Member found o → Member (flat_map (under (lines_under (object_lines d p))) names) o)
+      → ((o : Name) → Member (flat_map (under (lines_under (object_lines d p))) names) o → Member found o) → IsRowOf (map (index_of (objects d p)) found) row → row ≡ range_of d p ts
+  row_of_found not_all found row f g is = row_is found row (λ o m. under_there o (f o m)) (λ o m h. g o (under_back not_all o h)) is
+
+-- sorted, with repeats taken out
+pub sorted_row : (numbers sorted : List ℕ) → IsPermutation numbers sorted → IsSorted nat_cmp sorted → IsRowOf numbers (dedup eqb sorted)
+sorted_row numbers sorted moved up = record {
+  rising = AllPairs-from_increasing (dedup eqb sorted) (IsStrictlyIncreasing-dedup sorted up);
+  there = λ n m. contains_member numbers n (Contains-permutation sorted numbers n (IsPermutation-sym numbers sorted moved) (Contains-from_dedup eqb sorted n (member_contains (dedup eqb sorted) n m)));
+  back = λ n m. contains_member (dedup eqb sorted) n (Contains-dedup_nat sorted n (Contains-permutation numbers sorted n moved (member_contains numbers n m)));
+}

@@ -1,64 +1,25 @@
--- What gathering types round by round finds: exactly the types below some.
-use Rattle.std.proofs.Common.{◌≡◌, ◌⊎◌, ℕ, Bool, true, false, ◌&&◌, ◌||◌, if◌then◌else◌, List, [], ◌∷◌, ◌++◌, length, fold, refl, sym, ap, subst, ◌∙◌, inl, inr}
+-- What gathering types one after the other finds: exactly the types below some.
+use Rattle.std.proofs.Common.{◌≡◌, ◌+◌, ◌<◌, ◌≤◌, ℕ, Bool, true, false, not, ◌||◌, List, [], ◌∷◌, ◌++◌, length, take, filter, fold, slice_get, Some, None, refl, sym, ap, subst, ◌∙◌, inl, inr, arith}
 use Rattle.std.specs.List.{list_any}
-use Rattle.std.proofs.lemmas.Bool.{and_parts, or_cases, or_left, or_right, false≢true}
+use Rattle.std.proofs.lemmas.Bool.{or_cases, or_left, or_right, false≢true}
+use Rattle.std.proofs.lemmas.List.{take_all, take_more, take-append-le}
 use Rattle.std.proofs.lemmas.List.Folds.{list_any-append}
+use Rattle.std.proofs.lemmas.Option.{none-some, slice_get_cases, slice_get_within, get_or_from_slice_get}
 use Rattle.kp_grammar.specs.declared.tree.Word.{Word}
 use Rattle.kp_grammar.specs.Trees.{Typed}
 use Rattle.kp_base.specs.Lists.{Member}
-use Rattle.kp_meaning.specs.Names.{Name, same, is_among}
-use Rattle.kp_meaning.specs.Types.{object, names, or_object, types_of, IsBelow, itself, root, parent, over, leads, below_within, is_below}
-use Rattle.kp_meaning.proofs.Lists.{any_member, any_from, any_map, bool_same, same-true, same-refl}
+use Rattle.kp_base.proofs.Lists.{same_member}
+use Rattle.kp_meaning.specs.Names.{Name, same, is_among, distinct}
+use Rattle.kp_meaning.specs.Types.{object, names, or_object, types_of, IsBelow, itself, root, parent, over, is_below}
+use Rattle.kp_meaning.proofs.Lists.{any_member, any_from, any_map, bool_same, same-true, member_at, among_member}
 use Rattle.kp_meaning.proofs.Types.{type_test_exact}
-use Rattle.kp_tables.specs.Steps.{with_name, any_among, has_type, with_line, closed, AreBelow}
+use Rattle.kp_tables.specs.Steps.{with_name, any_among, has_type, under, lines_under, IsClosing, AreBelow}
+use Rattle.kp_tables.proofs.Gathering.{gathers, among_gathered, among_all}
+use Rattle.kp_tables.proofs.NamesUnderTypes.{put_by, puts_it}
 
 -- the name is there, or `object` is
 abbrev pub reaches : List Name → Name → Bool
 reaches names k = is_among names k || is_among names object
-
--- ---- one more name
-
-pub among_with : (ns : List Name) (n x : Name) → is_among (with_name ns n) x ≡ true → (is_among ns x ≡ true) ⊎ (x ≡ n)
-among_with ns n x = by (is_among ns n)
-  where
-    by : (b : Bool) → is_among (if b then ns else ns ++ n ∷ []) x ≡ true → (is_among ns x ≡ true) ⊎ (x ≡ n)
-    by true h = inl h
-    by false h = elim (or_cases (is_among ns x) (same x n || false) (sym (list_any-append (same x) ns (n ∷ [])) ∙ h)) [
-      | inl e ↦ inl e
-      | inr e ↦ elim (or_cases (same x n) false e) [ inl f ↦ inr (same-true x n f) | inr f ↦ absurd (false≢true f) ]
-    ]
-
-with_among : (ns : List Name) (n x : Name) → is_among ns x ≡ true → is_among (with_name ns n) x ≡ true
-with_among ns n x h = by (is_among ns n)
-  where
-    by : (b : Bool) → is_among (if b then ns else ns ++ n ∷ []) x ≡ true
-    by true = h
-    by false = list_any-append (same x) ns (n ∷ []) ∙ or_left (is_among ns x) (same x n || false) h
-
-with_itself : (ns : List Name) (n : Name) → is_among (with_name ns n) n ≡ true
-with_itself ns n = by (is_among ns n) refl
-  where
-    by : (b : Bool) → is_among ns n ≡ b → is_among (if b then ns else ns ++ n ∷ []) n ≡ true
-    by true h = h
-    by false h = list_any-append (same n) ns (n ∷ []) ∙ or_right (is_among ns n) (same n n || false) (or_left (same n n) false (same-refl n))
-
-gathered_among : (done ns : List Name) (x : Name) → is_among done x ≡ true → is_among (fold with_name done ns) x ≡ true
-gathered_among done [] x h = h
-gathered_among done (n ∷ ns) x h = gathered_among (with_name done n) ns x (with_among done n x h)
-
-among_gathered : (done ns : List Name) (x : Name) → Member ns x → is_among (fold with_name done ns) x ≡ true
-among_gathered done [] x m = absurd m
-among_gathered done (n ∷ ns) x m = elim m [
-  | inl e ↦ gathered_among (with_name done n) ns x (subst (λ z. is_among (with_name done n) z ≡ true) e (with_itself done n))
-  | inr r ↦ among_gathered (with_name done n) ns x r
-]
-
-gathered_from : (done ns : List Name) (x : Name) → is_among (fold with_name done ns) x ≡ true → (is_among done x ≡ true) ⊎ Member ns x
-gathered_from done [] x h = inl h
-gathered_from done (n ∷ ns) x h = elim (gathered_from (with_name done n) ns x h) [
-  | inl e ↦ elim (among_with done n x e) [ inl f ↦ inl f | inr f ↦ inr (inl (sym f)) ]
-  | inr r ↦ inr (inr r)
-]
 
 -- ---- types behind a name
 
@@ -87,126 +48,111 @@ reached_type ns x k m h = elim (or_cases (is_among ns k) (is_among ns object) h)
   | inr e ↦ or_left (is_among ns object) (any_among ns x.kinds) e
 ]
 
--- ---- rounds
+pub written : (ws : List Word) (k : Name) → Member (names ws) k → Member (or_object (names ws)) k
+written [] k m = absurd m
+written (w ∷ ws) k m = m
 
-line_among : (ns : List Name) (l : Typed Word) (x : Name) → is_among ns x ≡ true → is_among (with_line ns l) x ≡ true
-line_among ns l x h = by (has_type ns l)
-  where
-    by : (b : Bool) → is_among (if b then with_name ns l.word.text else ns) x ≡ true
-    by true = with_among ns l.word.text x h
-    by false = h
+pub past_all : {X : Type 0} (xs : List X) (i : ℕ) → slice_get xs i ≡ None → length xs ≤ i
+past_all xs i h = elim (slice_get_cases xs i).1 [ inl there ↦ absurd (none-some there.0 (sym h ∙ there.2)) | inr past ↦ past.0 ]
 
-lines_among : (ns : List Name) (ls : List (Typed Word)) (x : Name) → is_among ns x ≡ true → is_among (fold with_line ns ls) x ≡ true
-lines_among ns [] x h = h
-lines_among ns (l ∷ ls) x h = lines_among (with_line ns l) ls x (line_among ns l x h)
+-- ---- one type after the other
 
--- a line whose parent is there adds its type
-line_adds : (ns : List Name) (l : Typed Word) (k : Name) → Member (types_of l) k → is_among ns k ≡ true → is_among (with_line ns l) l.word.text ≡ true
-line_adds ns l k m h = ap (λ b. is_among (if b then with_name ns l.word.text else ns) l.word.text) (type_there ns l k m h) ∙ with_itself ns l.word.text
+module _ (ps : List (Name × Name)) (old : List Name) where
+  -- none was looked at yet
+  pub closing_starts : IsClosing ps old 0 old
+  closing_starts = record {
+    kept = λ x h. h;
+    front = λ k x h u. absurd (false≢true h);
+    sound = λ q a b x h. a x h;
+  }
 
-lines_add : (ns : List Name) (ls : List (Typed Word)) (l : Typed Word) (k : Name) → Member ls l → Member (types_of l) k → is_among ns k ≡ true → is_among (fold with_line ns ls) l.word.text ≡ true
-lines_add ns [] l k m n h = absurd m
-lines_add ns (z ∷ ls) l k m n h = elim m [
-  | inl e ↦ subst (λ y. is_among (fold with_line (with_line ns z) ls) y.word.text ≡ true) e (lines_among (with_line ns z) ls z.word.text (line_adds ns z k (subst (λ y. Member (types_of y) k) (sym e) n) h))
-  | inr r ↦ lines_add (with_line ns z) ls l k r n (line_among ns z k h)
-]
+  -- what stands under one more is added
+  pub closing_goes_on : (at : ℕ) (ns : List Name) (n : Name) → slice_get ns at ≡ Some n → IsClosing ps old at ns → IsClosing ps old (at + 1) (fold with_name ns (under ps n))
+  closing_goes_on at ns n here c = record {
+    kept = λ x h. among_gathered ns (under ps n) x ∙ or_left (is_among ns x) (is_among (under ps n) x) (c.kept x h);
+    front = front;
+    sound = λ q a b x h. elim (or_cases (is_among ns x) (is_among (under ps n) x) (sym (among_gathered ns (under ps n) x) ∙ h)) [
+      | inl e ↦ c.sound q a b x e
+      | inr e ↦ b n x (c.sound q a b n (among_member ns n (member_at ns at n here))) e
+    ];
+  }
+    where
+      more : List Name
+      more = filter (λ y. not (is_among ns y)) (distinct (under ps n))
 
--- without change there never is one
-pub closed_stays : (rs kinds : List (Typed Word)) (ns : List Name) → fold with_line ns kinds ≡ ns → closed rs kinds ns ≡ ns
-closed_stays [] kinds ns h = refl
-closed_stays (r ∷ rs) kinds ns h = ap (closed rs kinds) h ∙ closed_stays rs kinds ns h
+      within : at < length ns
+      within = slice_get_within ns at n here
 
--- the last round may stand last
-last_round : (r : Typed Word) (rs kinds : List (Typed Word)) (ns : List Name) → closed (r ∷ rs) kinds ns ≡ fold with_line (closed rs kinds ns) kinds
-last_round r [] kinds ns = refl
-last_round r (s ∷ ss) kinds ns = last_round s ss kinds (fold with_line ns kinds)
+      first : take (at + 1) (fold with_name ns (under ps n)) ≡ take at ns ++ n ∷ []
+      first =
+          ap (take (at + 1)) (gathers ns (under ps n))
+          ∙ (take-append-le (at + 1) ns more (omega (arith, within))
+          ∙ (take_more ns at n within ∙ ap (λ z. take at ns ++ z ∷ []) (get_or_from_slice_get ns at n n here)))
 
--- ---- all types below are found
-
-at_once : (ns : List Name) (t k : Name) → is_among ns t ≡ true → (same k t || same t object) ≡ true → reaches ns k ≡ true
-at_once ns t k here h = elim (or_cases (same k t) (same t object) h) [
-  | inl e ↦ or_left (is_among ns k) (is_among ns object) (subst (λ z. is_among ns z ≡ true) (sym (same-true k t e)) here)
-  | inr e ↦ or_right (is_among ns k) (is_among ns object) (subst (λ z. is_among ns z ≡ true) (same-true t object e) here)
-]
-
-closed_among : (rs kinds : List (Typed Word)) (ns : List Name) (x : Name) → is_among ns x ≡ true → is_among (closed rs kinds ns) x ≡ true
-closed_among [] kinds ns x h = h
-closed_among (r ∷ rs) kinds ns x h = closed_among rs kinds (fold with_line ns kinds) x (lines_among ns kinds x h)
-
-goes_on : ℕ → List (Typed Word) → Name → Name → Typed Word → Bool
-goes_on n kinds k t x = leads x k && list_any (λ p. below_within n kinds p t) (types_of x)
-
-complete : (rs kinds : List (Typed Word)) (ns : List Name) (t : Name) → is_among ns t ≡ true → (k : Name) → below_within (length rs) kinds k t ≡ true → reaches (closed rs kinds ns) k ≡ true
-unfolding goes_on
-complete [] kinds ns t here k h = at_once ns t k here h
-complete (r ∷ rs) kinds ns t here k h =
-    let found : is_among (closed rs kinds ns) t ≡ true = closed_among rs kinds ns t here in
-    let S = closed rs kinds ns in
-    subst (λ z. reaches z k ≡ true) (sym (last_round r rs kinds ns))
-    (elim (or_cases (same k t || same t object) (list_any (goes_on (length rs) kinds k t) kinds) h) [
-      | inl e ↦ at_once (fold with_line S kinds) t k (lines_among S kinds t found) e
-      | inr e ↦
-          let x = any_member (goes_on (length rs) kinds k t) kinds e in
-          let parts = and_parts (leads x.0 k) (list_any (λ p. below_within (length rs) kinds p t) (types_of x.0)) x.2 in
-          let q = any_member (λ p. below_within (length rs) kinds p t) (types_of x.0) parts.1 in
-          elim (or_cases (is_among S q.0) (is_among S object) (complete rs kinds ns t here q.0 q.2)) [
-            | inl f ↦
-                let added = lines_add S kinds x.0 q.0 x.1 q.1 f in
-                elim (or_cases (same x.0.word.text k) (same x.0.word.text object) parts.0) [
-                  | inl g ↦ or_left (is_among (fold with_line S kinds) k) (is_among (fold with_line S kinds) object) (subst (λ z. is_among (fold with_line S kinds) z ≡ true) (same-true x.0.word.text k g) added)
-                  | inr g ↦ or_right (is_among (fold with_line S kinds) k) (is_among (fold with_line S kinds) object) (subst (λ z. is_among (fold with_line S kinds) z ≡ true) (same-true x.0.word.text object g) added)
-                ]
-            | inr f ↦ or_right (is_among (fold with_line S kinds) k) (is_among (fold with_line S kinds) object) (lines_among S kinds object f)
+      front : (k x : Name) → is_among (take (at + 1) (fold with_name ns (under ps n))) k ≡ true → is_among (under ps k) x ≡ true → is_among (fold with_name ns (under ps n)) x ≡ true
+      front k x h u =
+          among_gathered ns (under ps n) x
+          ∙ elim (or_cases (is_among (take at ns) k) (same k n || false) (sym (list_any-append (same k) (take at ns) (n ∷ [])) ∙ (sym (ap (λ l. is_among l k) first) ∙ h))) [
+            | inl e ↦ or_left (is_among ns x) (is_among (under ps n) x) (c.front k x e u)
+            | inr e ↦ elim (or_cases (same k n) false e) [
+              | inl f ↦ or_right (is_among ns x) (is_among (under ps n) x) (subst (λ z. is_among (under ps z) x ≡ true) (same-true k n f) u)
+              | inr f ↦ absurd (false≢true f)
+            ]
           ]
-    ])
 
--- ---- no others are
-
--- each of the names is below one of the tops
-abbrev AreSound : List (Typed Word) → List Name → List Name → Type 0
-AreSound kinds tops ns = (x : Name) → is_among ns x ≡ true → (t : Name) × Member tops t × IsBelow kinds x t
-
-reached_sound : (kinds : List (Typed Word)) (tops ns : List Name) → AreSound kinds tops ns → (k : Name) → reaches ns k ≡ true → (t : Name) × Member tops t × IsBelow kinds k t
-reached_sound kinds tops ns sound k h = elim (or_cases (is_among ns k) (is_among ns object) h) [
-  | inl e ↦ sound k e
-  | inr e ↦ let r = sound object e in (r.0, r.1, over root r.2)
-]
-
-line_sound : (kinds : List (Typed Word)) (tops ns : List Name) (l : Typed Word) → Member kinds l → AreSound kinds tops ns → AreSound kinds tops (with_line ns l)
-line_sound kinds tops ns l m sound x = by (has_type ns l) refl
-  where
-    by : (b : Bool) → has_type ns l ≡ b → is_among (if b then with_name ns l.word.text else ns) x ≡ true → (t : Name) × Member tops t × IsBelow kinds x t
-    by true e h = elim (among_with ns l.word.text x h) [
-      | inl f ↦ sound x f
-      | inr f ↦
-          let k = there_type ns l e in
-          let r = reached_sound kinds tops ns sound k.0 k.2 in
-          (r.0, r.1, subst (λ z. IsBelow kinds z r.0) (sym f) (over (parent l k.0 m k.1) r.2))
-    ]
-    by false e h = sound x h
-
-lines_sound : (kinds : List (Typed Word)) (tops ns : List Name) (ls : List (Typed Word)) → ((l : Typed Word) → Member ls l → Member kinds l) → AreSound kinds tops ns → AreSound kinds tops (fold with_line ns ls)
-lines_sound kinds tops ns [] f sound = sound
-lines_sound kinds tops ns (l ∷ ls) f sound = lines_sound kinds tops (with_line ns l) ls (λ z m. f z (inr m)) (line_sound kinds tops ns l (f l (inl refl)) sound)
-
-closed_sound : (rs kinds : List (Typed Word)) (tops ns : List Name) → AreSound kinds tops ns → AreSound kinds tops (closed rs kinds ns)
-closed_sound [] kinds tops ns sound = sound
-closed_sound (r ∷ rs) kinds tops ns sound = closed_sound rs kinds tops (fold with_line ns kinds) (lines_sound kinds tops ns kinds (λ l m. m) sound)
+  -- all were looked at
+  pub closing_ends : (at : ℕ) (ns : List Name) → length ns ≤ at → IsClosing ps old at ns → IsClosing ps old (length ns) ns
+  closing_ends at ns le c = record {
+    kept = c.kept;
+    front = λ k x h u. c.front k x (ap (λ l. is_among l k) (take_all at ns le ∙ sym (take_all (length ns) ns (omega arith))) ∙ h) u;
+    sound = c.sound;
+  }
 
 -- ---- together
 
-pub closed_below : (kinds : List (Typed Word)) (tops : List Name) → AreBelow kinds tops (closed kinds kinds (fold with_name [] tops))
-closed_below kinds tops = record { each = λ k. bool_same (reaches (closed kinds kinds (fold with_name [] tops)) k) (list_any (is_below kinds k) tops) (there k) (back k) }
+pub closed_below : (kinds : List (Typed Word)) (tops ns : List Name) → IsClosing (lines_under kinds) (fold with_name [] tops) (length ns) ns → AreBelow kinds tops ns
+closed_below kinds tops ns c = record { each = λ k. bool_same (reaches ns k) (list_any (is_below kinds k) tops) (there k) (back k) }
   where
-    start : AreSound kinds tops (fold with_name [] tops)
-    start x h = elim (gathered_from [] tops x h) [ inl e ↦ absurd (false≢true e) | inr m ↦ (x, m, itself) ]
+    below : Name → Bool
+    below k = list_any (is_below kinds k) tops
 
-    there : (k : Name) → reaches (closed kinds kinds (fold with_name [] tops)) k ≡ true → list_any (is_below kinds k) tops ≡ true
-    there k h =
-        let r = reached_sound kinds tops (closed kinds kinds (fold with_name [] tops)) (closed_sound kinds kinds tops (fold with_name [] tops) start) k h in
-        any_from (is_below kinds k) tops r.0 r.1 ((type_test_exact kinds k r.0).1 r.2)
+    at_top : (x : Name) → is_among (fold with_name [] tops) x ≡ true → list_any (is_below kinds x) tops ≡ true
+    at_top x h = any_from (is_below kinds x) tops x (same_member same same-true tops x (sym (among_all tops x) ∙ h)) ((type_test_exact kinds x x).1 itself)
 
-    back : (k : Name) → list_any (is_below kinds k) tops ≡ true → reaches (closed kinds kinds (fold with_name [] tops)) k ≡ true
+    under_it : (k x : Name) → list_any (is_below kinds k) tops ≡ true → is_among (under (lines_under kinds) k) x ≡ true → list_any (is_below kinds x) tops ≡ true
+    under_it k x h u =
+        let t = any_member (is_below kinds k) tops h in
+        let l = put_by k x kinds u in
+        let up : IsBelow kinds x k = subst (λ z. IsBelow kinds z k) l.3 (parent l.0 k l.1 (written l.0.kinds k l.2)) in
+        any_from (is_below kinds x) tops t.0 t.1 ((type_test_exact kinds x t.0).1 (over up ((type_test_exact kinds k t.0).0 t.2)))
+
+    sound : (x : Name) → is_among ns x ≡ true → list_any (is_below kinds x) tops ≡ true
+    sound = c.sound below at_top under_it
+
+    there : (k : Name) → reaches ns k ≡ true → list_any (is_below kinds k) tops ≡ true
+    there k h = elim (or_cases (is_among ns k) (is_among ns object) h) [
+      | inl e ↦ sound k e
+      | inr e ↦
+          let t = any_member (is_below kinds object) tops (sound object e) in
+          any_from (is_below kinds k) tops t.0 t.1 ((type_test_exact kinds k t.0).1 (over root ((type_test_exact kinds object t.0).0 t.2)))
+    ]
+
+    reached : (k u : Name) → IsBelow kinds k u → reaches ns u ≡ true → reaches ns k ≡ true
+    reached k u itself h = h
+    reached k u root h = or_right (is_among ns k) (is_among ns object) (elim (or_cases (is_among ns object) (is_among ns object) h) [ inl e ↦ e | inr e ↦ e ])
+    reached k u (parent l p m n) h = elim (or_cases (is_among ns p) (is_among ns object) h) [
+      | inl e ↦ by_kinds l.kinds refl n e
+      | inr e ↦ or_right (is_among ns l.word.text) (is_among ns object) e
+    ]
+      where
+        by_kinds : (ws : List Word) → l.kinds ≡ ws → Member (or_object (names ws)) p → is_among ns p ≡ true → reaches ns l.word.text ≡ true
+        by_kinds [] is n e = elim n [ inl f ↦ or_right (is_among ns l.word.text) (is_among ns object) (subst (λ z. is_among ns z ≡ true) (sym f) e) | inr f ↦ absurd f ]
+        by_kinds (w ∷ ws) is n e =
+            or_left (is_among ns l.word.text) (is_among ns object)
+            (c.front p l.word.text (ap (λ z. is_among z p) (take_all (length ns) ns (omega arith)) ∙ e) (puts_it kinds l p m (subst (λ z. Member (names z) p) (sym is) n)))
+    reached k u (over a b) h = reached k _ a (reached _ u b h)
+
+    back : (k : Name) → list_any (is_below kinds k) tops ≡ true → reaches ns k ≡ true
     back k h =
-        let r = any_member (is_below kinds k) tops h in
-        complete kinds kinds (fold with_name [] tops) r.0 (among_gathered [] tops r.0 r.1) k r.2
+        let t = any_member (is_below kinds k) tops h in
+        reached k t.0 ((type_test_exact kinds k t.0).0 t.2) (or_left (is_among ns t.0) (is_among ns object) (c.kept t.0 (among_all tops t.0 ∙ among_member tops t.0 t.1)))

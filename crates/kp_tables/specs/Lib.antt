@@ -2,3 +2,4 @@ pub mod Steps
 pub mod Tables
 pub mod Collected
 pub mod Unsure
+pub mod Chains

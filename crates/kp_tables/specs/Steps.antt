@@ -1,11 +1,13 @@
 -- This file serves proofs alone. What the loops of the numbering do, step by step.
-use Rattle.std.specs.Prelude.{◌≡◌, ◌+◌, ◌||◌, ℕ, Bool, true, List, [], ◌∷◌, ◌++◌, if◌then◌else◌, cond, fold, filter, map, slice_set}
+use Rattle.std.specs.Prelude.{◌≡◌, ◌<◌, ◌||◌, ℕ, Bool, true, List, [], ◌∷◌, ◌++◌, if◌then◌else◌, cond, fold, filter, map, take, unwrap_or, AllPairs}
 use Rattle.std.specs.List.{list_any}
+use Rattle.std.specs.Map.{lookup}
 use Rattle.kp_grammar.specs.declared.tree.Word.{Word}
 use Rattle.kp_grammar.specs.Trees.{Typed, Domain, Problem}
-use Rattle.kp_meaning.specs.Names.{Name, is_among}
+use Rattle.kp_base.specs.Lists.{Member}
+use Rattle.kp_meaning.specs.Names.{Name, same, is_among}
 use Rattle.kp_meaning.specs.Types.{object, objects, is_below, is_of_type}
-use Rattle.kp_meaning.specs.Numbering.{index_of}
+use Rattle.kp_meaning.specs.Numbering.{index_of, variable_number}
 
 -- ---- names
 
@@ -23,18 +25,30 @@ any_among names ws = list_any (λ w. is_among names w.text) ws
 abbrev pub has_type : List Name → Typed Word → Bool
 has_type names x = is_among names object || any_among names x.kinds
 
--- with the type of a line whose parent is there
-abbrev pub with_line : List Name → Typed Word → List Name
-with_line names x = if has_type names x then with_name names x.word.text else names
-
--- as often as the first list is long, with the types of all lines whose parents are there
-abbrev pub closed : List (Typed Word) → List (Typed Word) → List Name → List Name
-closed [] kinds names = names
-closed (r ∷ rs) kinds names = closed rs kinds (fold with_line names kinds)
-
 -- the names tell of each type whether it is below one of the tops
 pub record AreBelow (kinds : List (Typed Word)) (tops names : List Name) : Type 0 where
   pub each : (k : Name) → (is_among names k || is_among names object) ≡ list_any (is_below kinds k) tops
+
+-- ---- names under types
+
+-- pairs of type and name, with the name of a line under each of its types, the last first
+abbrev pub with_line_under : List (Name × Name) → Typed Word → List (Name × Name)
+with_line_under ps x = fold (λ qs k. (k.text, x.word.text) ∷ qs) ps x.kinds
+
+-- the same of all lines
+abbrev pub lines_under : List (Typed Word) → List (Name × Name)
+lines_under xs = fold with_line_under [] xs
+
+-- the names under a type
+abbrev pub under : List (Name × Name) → Name → List Name
+under [] k = []
+under (p ∷ ps) k = cond (same p.0 k) (p.1 ∷ under ps k) (under ps k)
+
+-- the names hold the old ones, and all that stand under the first of them, so many; what is true of the old ones, and of all under a type of which it is true, is true of them
+pub record IsClosing (pairs : List (Name × Name)) (old : List Name) (at : ℕ) (names : List Name) : Type 0 where
+  pub kept : (x : Name) → is_among old x ≡ true → is_among names x ≡ true
+  pub front : (k x : Name) → is_among (take at names) k ≡ true → is_among (under pairs k) x ≡ true → is_among names x ≡ true
+  pub sound : (q : Name → Bool) → ((x : Name) → is_among old x ≡ true → q x ≡ true) → ((k x : Name) → q k ≡ true → is_among (under pairs k) x ≡ true → q x ≡ true) → (x : Name) → is_among names x ≡ true → q x ≡ true
 
 -- ---- objects of types
 
@@ -42,11 +56,14 @@ pub record AreBelow (kinds : List (Typed Word)) (tops names : List Name) : Type 
 abbrev pub range_of : Domain Word → Problem Word → List Name → List ℕ
 range_of d p ts = map (index_of (objects d p)) (filter (λ o. list_any (is_of_type d p o) ts) (objects d p))
 
--- with a mark at the object of a line that has a type
-abbrev pub mark_line : List Name → List Name → List Bool → Typed Word → List Bool
-mark_line os names marks x = if has_type names x then slice_set marks (index_of os x.word.text) true else marks
+-- the row has just the numbers of a list, each once and ascending
+pub record IsRowOf (numbers row : List ℕ) : Type 0 where
+  pub rising : AllPairs (λ m n. m < n) row
+  pub there : (n : ℕ) → Member row n → Member numbers n
+  pub back : (n : ℕ) → Member numbers n → Member row n
 
--- the numbers of the marks that are set, counted on
-abbrev pub marked_from : ℕ → List Bool → List ℕ
-marked_from n [] = []
-marked_from n (m ∷ ms) = cond m (n ∷ marked_from (n + 1) ms) (marked_from (n + 1) ms)
+-- ---- variables round a place
+
+-- the entries have, under each name, the number of its innermost variable
+pub record AreInnermost (scope : List Name) (entries : List (Name × ℕ)) : Type 0 where
+  pub each : (n : Name) → unwrap_or (lookup (same n) entries) 0 ≡ variable_number scope n

@@ -3,17 +3,18 @@
 
 mod below;
 mod items;
-mod marks;
 mod name_set;
+mod objects;
 mod predicates;
 mod scope;
 mod tables;
+mod under;
 mod unsure;
 
 pub use below::{OBJECT, below_type, below_types};
 pub use items::{goal_literals, initial_items};
-pub use marks::objects_of;
 pub use name_set::NameSet;
+pub use objects::objects_of;
 pub use predicates::Declared;
 pub use scope::Scope;
 pub use tables::{Names, add_declared};

@@ -1,4 +1,4 @@
-ghost use Rattle.std.specs.Prelude.{◌≡◌, [], not, length, take, IfOk, OnOk};
+ghost use Rattle.std.specs.Prelude.{◌≡◌, [], not, length, map, option_map, slice_get, take, IfOk, OnOk};
 ghost use Rattle.kp_meaning.specs.Names.{is_among};
 ghost use Rattle.kp_tables.specs.Steps.{with_name};
 ghost use Rattle.kp_tables.specs.Tables.{number_of};
@@ -60,6 +60,20 @@ impl<'a> NameSet<'a> {
             Some(number) => Some(number as u32),
             None => None,
         }
+    }
+
+    /// The name of a number.
+    pub fn get(&self, number: u32) -> Option<&'a [u8]>
+        ensures { option_map (λ n. n.now) result ≡ slice_get self.now number }
+    {
+        self.set.get_index(number as usize).copied()
+    }
+
+    /// The names, in order of number.
+    pub fn names(&self) -> &[&'a [u8]]
+        ensures { map (λ n. n.now) result.now ≡ self.now }
+    {
+        self.set.as_slice()
     }
 
     /// How many there are.

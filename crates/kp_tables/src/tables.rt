@@ -3,11 +3,12 @@ ghost use Rattle.std.specs.List.{flat_map};
 ghost use Rattle.kp_grammar.specs.View.{domain_view, problem_view, typed_view};
 ghost use Rattle.kp_meaning.specs.Names.{is_among};
 ghost use Rattle.kp_meaning.specs.Types.{declared, names, object_lines, objects, types};
-ghost use Rattle.kp_tables.specs.Steps.{with_name};
+ghost use Rattle.kp_tables.specs.Steps.{with_name, lines_under};
 ghost use Rattle.kp_tables.specs.Tables.{names_of_line, entry_of, declaration_of};
 
 use crate::name_set::NameSet;
 use crate::predicates::{Declared, Predicates};
+use crate::under::{Declarations, Under};
 use kp_base::{Memory, Row, Text};
 use kp_grammar::{Domain, Problem, Typed, Word};
 use std::alloc::Global;
@@ -22,10 +23,13 @@ pub struct Names<'a> {
     type_names: NameSet<'a>,
     object_names: NameSet<'a>,
     predicate_names: Predicates<'a>,
+    declarations: Declarations<'a>,
     ghost types_known: { (name : List ℕ) → is_among type_names name ≡ is_among (types (domain_view domain.now)) name },
     ghost objects_known: { object_names ≡ objects (domain_view domain.now) (problem_view problem.now) },
     ghost predicates_few: { length domain.now.predicates ≤ 4294967295 },
     ghost predicates_known: { (name : List ℕ) → entry_of predicate_names name ≡ declaration_of (domain_view domain.now) name },
+    ghost types_declared: { declarations.types ≡ lines_under (domain_view domain.now).kinds },
+    ghost objects_declared: { declarations.objects ≡ lines_under (object_lines (domain_view domain.now) (problem_view problem.now)) },
 }
 
 // Adds the names of words.
@@ -97,12 +101,14 @@ impl<'a> Names<'a> {
         let type_names = types_of(alloc, domain)?;
         let object_names = objects_of(alloc, domain, problem)?;
         let predicate_names = Predicates::of(alloc, domain.predicates.slice())?;
+        let declarations = Declarations::of(alloc, domain, problem)?;
         Ok(Names {
             domain,
             problem,
             type_names,
             object_names,
             predicate_names,
+            declarations,
         })
     }
 
@@ -139,10 +145,38 @@ impl<'a> Names<'a> {
     pub fn object_number(&self, name: &Text) -> u32
         ensures { result ≡ index_of (objects (domain_view self.now.domain.now) (problem_view self.now.problem.now)) name.now }
     {
-        match self.object_names.find(name.slice()) {
+        self.number_of(name.slice())
+    }
+
+    /// The same where the name isn't in a text of its own.
+    pub fn number_of(&self, name: &[u8]) -> u32
+        ensures { result ≡ index_of (objects (domain_view self.now.domain.now) (problem_view self.now.problem.now)) name.now }
+    {
+        match self.object_names.find(name) {
             Some(number) => number,
             None => self.object_names.len(),
         }
+    }
+
+    /// The objects.
+    pub fn objects(&self) -> &NameSet<'a>
+        ensures { result.now ≡ objects (domain_view self.now.domain.now) (problem_view self.now.problem.now) }
+    {
+        &self.object_names
+    }
+
+    /// The types under each type.
+    pub fn types_under(&self) -> &Under<'a>
+        ensures { result.now ≡ lines_under (domain_view self.now.domain.now).kinds }
+    {
+        &self.declarations.types
+    }
+
+    /// The objects under each type.
+    pub fn objects_under(&self) -> &Under<'a>
+        ensures { result.now ≡ lines_under (object_lines (domain_view self.now.domain.now) (problem_view self.now.problem.now)) }
+    {
+        &self.declarations.objects
     }
 
     /// How many objects there are.

@@ -1,10 +1,14 @@
-use Rattle.std.proofs.Common.{[], ◌∷◌, map, subst, sym, ◌∙◌, ap}
-use Rattle.kp_grammar.specs.View.{typed_view}
-use Rattle.kp_tables.specs.Steps.{AreBelow, closed, with_name}
+use Rattle.std.proofs.Common.{◌∙◌, [], ◌∷◌, length, subst, ap}
+use Rattle.kp_grammar.specs.View.{domain_view}
+use Rattle.kp_tables.specs.Steps.{with_name, IsClosing}
 use Rattle.kp_tables.proofs.TypesBelow.{closed_below}
 use Rattle.kp_tables.proofs.below.below_type.Goals as goal
 
 pub returns : goal.returns
 returns c =
-    let kinds = map typed_view c.args.kinds.now in
-    subst (AreBelow kinds (c.args.top.now ∷ [])) (sym (c.in_ok-close.ensures ∙ ap (closed kinds kinds) (c.in_ok-insert.ensures.names ∙ ap (λ z. with_name z c.args.top.now) c.new-below.ensures))) (closed_below kinds (c.args.top.now ∷ []))
+    let kinds = (domain_view c.args.known.now.domain.now).kinds in
+    let top = c.args.top.now in
+    let all = c.close.new.names in
+    closed_below kinds (top ∷ []) all
+    (subst (λ ps. IsClosing ps (with_name [] top) (length all) all) c.types_under.ensures
+    (subst (λ old. IsClosing c.types_under.result.now old (length all) all) (c.in_ok-insert.ensures.names ∙ ap (λ z. with_name z top) c.new-below.ensures) c.in_ok-close.ensures))

@@ -1,7 +1,10 @@
-use Rattle.std.proofs.Common.{◌≡◌, map, drop}
-use Rattle.kp_grammar.specs.View.{typed_view}
-use Rattle.kp_tables.specs.Steps.{closed}
+use Rattle.std.proofs.Common.{◌-◌}
+use Rattle.kp_tables.specs.Steps.{IsClosing}
 use Rattle.kp_tables.proofs.below.close.Given as goal
 
-abbrev pub invariant-loop-round : goal.invariant-loop-round
-invariant-loop-round l = closed (map typed_view (drop l._round-index l.kinds)) (map typed_view l.kinds) l.names ≡ closed (map typed_view l.kinds) (map typed_view l.kinds) l.fn.names
+-- what stands under the names so far is there
+abbrev pub invariant-names : goal.invariant-names
+invariant-names l = IsClosing l.lines l.fn.names l.at l.names
+
+abbrev pub decreases-names : goal.decreases-names
+decreases-names l = 4294967296 - l.at

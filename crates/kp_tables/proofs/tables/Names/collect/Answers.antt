@@ -13,4 +13,6 @@ invariant_of-result c = record {
   types_known = λ name. ap (λ ns. is_among ns name) c.in_ok-type_names.ensures ∙ among_all (types (domain_view c.args.domain.now)) name;
   objects_known = c.in_ok-object_names.ensures;
   predicates_known = λ name. ap (λ es. entry_of es name) (rw c.slice.ensures at c.in_ok-predicate_names.ensures.entries) ∙ first_counts (domain_view c.args.domain.now) name;
+  types_declared = c.in_ok-declarations.ensures.types;
+  objects_declared = c.in_ok-declarations.ensures.objects;
 }
