@@ -1,7 +1,7 @@
 use Rattle.std.proofs.Common.{◌≡◌, ◌<◌, ◌/◌, ◌%◌, ◌-◌, ◌∷◌, [], ◌∙◌, ap, sym, subst, length, reverse, get_or, slice_get, Some, arith}
 use Rattle.std.proofs.lemmas.List.{reverse-append}
 use Rattle.kp_kept.proofs.Digits.{IsLeft, objects, is_left_none, last_has_objects, last_is_known}
-use Rattle.kp_kept.proofs.bindings.binding_at.Goals as goal
+use Rattle.kp_kept.proofs.bindings.fill_binding.Goals as goal
 
 -- the range has objects
 pub nonzero_rem-rest : goal.nonzero_rem-rest
@@ -37,4 +37,4 @@ pub returns : goal.returns
 returns c =
     let left : c.loop-left.left ≡ 0 = omega arith in
     is_left_none c.args.ranges.now c.args.number c.loop-left.rest (reverse c.loop-left.objects.items) c.requires (subst (λ n. IsLeft c.args.ranges.now c.args.number n c.loop-left.rest (reverse c.loop-left.objects.items)) left c.loop-left.invariant)
-    ∙ ap Some (sym (c.from_vec.ensures ∙ c.reverse.ensures.items))
+    ∙ ap Some (sym c.reverse.ensures.items)

@@ -1,7 +1,7 @@
 use Rattle.std.proofs.Common.{◌≡◌, map, drop}
 use Rattle.kp_names.specs.View.{conds_of, cond_view, lifted_view}
 use Rattle.kp_grounding.specs.Static.{all_settled}
-use Rattle.kp_kept.proofs.settling.+settled.Given as goal
+use Rattle.kp_kept.proofs.settling.+settled_in.Given as goal
 
 -- all are settled where those that are left are
 abbrev pub invariant-loop-part : goal.invariant-loop-part

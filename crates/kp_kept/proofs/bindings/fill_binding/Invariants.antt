@@ -1,6 +1,6 @@
 use Rattle.std.proofs.Common.{reverse}
 use Rattle.kp_kept.proofs.Digits.{IsLeft}
-use Rattle.kp_kept.proofs.bindings.binding_at.Given as goal
+use Rattle.kp_kept.proofs.bindings.fill_binding.Given as goal
 
 -- the objects of the last ranges are known
 abbrev pub invariant-loop-left : goal.invariant-loop-left
