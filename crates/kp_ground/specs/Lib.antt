@@ -1,3 +1,5 @@
 pub mod Grounded
 pub mod Passes
 pub mod Adds
+pub mod Made
+pub mod Hashed

@@ -4,8 +4,10 @@ ghost use Rattle.kp_base.specs.Steps.{has};
 ghost use Rattle.kp_base.specs.Implicates.{is_within};
 ghost use Rattle.kp_grounding.specs.Ground.{lasting};
 ghost use Rattle.kp_ground.specs.Adds.{adds_at, covered};
+ghost use Rattle.kp_ground.specs.Made.{made_effect};
 
 use crate::adds::Adds;
+use crate::made::Made;
 use kp_base::{Effect, Lit, LitSet, Memory, Row};
 use std::alloc::Global;
 
@@ -71,17 +73,13 @@ fn keep(
 }
 
 /// The effects without idle deletes.
-pub fn lasting_effects(
-    alloc: Global,
-    pre: &LitSet,
-    effects: &[Effect],
-) -> Result<Row<Effect>, Memory>
-    ensures { IfOk result (λ row. row ≡ lasting pre.now effects.now) }
+pub fn lasting_effects(alloc: Global, pre: &LitSet, effects: &[Made]) -> Result<Row<Effect>, Memory>
+    ensures { IfOk result (λ row. row ≡ lasting pre.now (map made_effect effects.now)) }
 {
     let adds = Adds::of(alloc, effects)?;
     let mut row = Row::new(alloc);
-    for effect in effects {
-        keep(alloc, &adds, pre, effect, &mut row)?;
+    for made in effects {
+        keep(alloc, &adds, pre, &made.effect, &mut row)?;
     }
     Ok(row)
 }
