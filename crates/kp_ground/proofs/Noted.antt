@@ -1,13 +1,12 @@
 -- What is gathered from the kept instances names the atoms that occur.
-use Rattle.std.proofs.Common.{◌≡◌, ℕ, suc, Bool, true, ◌||◌, List, [], ◌∷◌, ◌++◌, Some, map, slice_get, option_map, refl, sym, ap, ap₂, subst, ◌∙◌, inl, inr}
-use Rattle.std.specs.List.{list_any, list_all, flat_map}
-use Rattle.std.proofs.lemmas.Bool.{and_parts}
+use Rattle.std.proofs.Common.{◌≡◌, ℕ, suc, Bool, true, ◌||◌, List, [], ◌∷◌, ◌++◌, Some, map, slice_get, refl, sym, ap, ◌∙◌, inl, inr}
+use Rattle.std.specs.List.{list_any, flat_map}
 use Rattle.std.proofs.lemmas.List.Folds.{list_any-append}
-use Rattle.kp_base.specs.Lists.{Member, each_once}
-use Rattle.kp_base.proofs.Lists.{any_map, any_member, any_from, all_member, bool_same, member_at}
+use Rattle.kp_base.specs.Lists.{Member}
+use Rattle.kp_base.proofs.Lists.{any_map, any_member, any_from, bool_same, member_at}
 use Rattle.kp_meaning.specs.declared.lifted.GroundLit.{GroundLit}
 use Rattle.kp_meaning.specs.Numbered.{Schema, Lifted}
-use Rattle.kp_meaning.specs.Lifted.{Instance, same_literal, names_literal, schema_of}
+use Rattle.kp_meaning.specs.Lifted.{Instance, schema_of}
 use Rattle.kp_grounding.specs.declared.flat.Atom.{Atom}
 use Rattle.kp_grounding.specs.Ground.{kept_bindings, instance, kept_instances, atom_of, instance_literals, kept_literals, open_literals, occurring, same_atom, has_atom}
 use Rattle.kp_grounding.proofs.Kept.{kept_of, member_of}

@@ -1,5 +1,5 @@
 -- What the two passes over the kept instances make of them. This file serves proofs alone.
-use Rattle.std.specs.Prelude.{◌≡◌, ◌<◌, ◌≤◌, ℕ, Bool, not, List, [], ◌++◌, Option, Some, None, option_map, map, Result, Ok, Err, length, nat_lt, slice_get}
+use Rattle.std.specs.Prelude.{◌≡◌, ◌<◌, ◌≤◌, ℕ, Bool, not, List, [], ◌++◌, Option, Some, None, option_map, Result, Ok, Err, length, nat_lt, slice_get}
 use Rattle.std.specs.List.{flat_map}
 use Rattle.kp_base.specs.Lists.{Member}
 use Rattle.kp_base.specs.declared.refused.Refused.TheVariants as refusals

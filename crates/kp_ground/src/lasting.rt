@@ -1,4 +1,5 @@
 ghost use Rattle.std.specs.Prelude.{◌≡◌, ◌∷◌, [], ◌++◌, not, ◌&&◌, map, IfOk, OnOk};
+ghost use Rattle.std.specs.List.{list_any};
 ghost use Rattle.kp_base.specs.Lists.{only_if};
 ghost use Rattle.kp_base.specs.Steps.{has};
 ghost use Rattle.kp_base.specs.Implicates.{is_within};
@@ -72,8 +73,8 @@ fn keep(
     row.push(copied(alloc, effect)?)
 }
 
-/// The effects without idle deletes.
-pub fn lasting_effects(alloc: Global, pre: &LitSet, effects: &[Made]) -> Result<Row<Effect>, Memory>
+// The effects without idle deletes.
+fn without_idle(alloc: Global, pre: &LitSet, effects: &[Made]) -> Result<Row<Effect>, Memory>
     ensures { IfOk result (λ row. row ≡ lasting pre.now (map made_effect effects.now)) }
 {
     let adds = Adds::of(alloc, effects)?;
@@ -81,5 +82,34 @@ pub fn lasting_effects(alloc: Global, pre: &LitSet, effects: &[Made]) -> Result<
     for made in effects {
         keep(alloc, &adds, pre, &made.effect, &mut row)?;
     }
+    Ok(row)
+}
+
+// Whether some effect is a delete.
+fn some_delete(effects: &[Made]) -> bool
+    ensures { result ≡ list_any (λ made. not made.effect.result.positive) effects.now }
+{
+    effects.iter().any(|made| !made.effect.result.positive)
+}
+
+// Copies of all effects.
+fn all_copied(alloc: Global, effects: &[Made]) -> Result<Row<Effect>, Memory>
+    ensures { IfOk result (λ row. row ≡ map made_effect effects.now) }
+{
+    let mut row = Row::new(alloc);
+    for made in effects {
+        row.push(copied(alloc, &made.effect)?)?;
+    }
+    Ok(row)
+}
+
+/// The effects without idle deletes. Where there are no deletes, no table of adds is made.
+pub fn lasting_effects(alloc: Global, pre: &LitSet, effects: &[Made]) -> Result<Row<Effect>, Memory>
+    ensures { IfOk result (λ row. row ≡ lasting pre.now (map made_effect effects.now)) }
+{
+    if some_delete(effects) {
+        return without_idle(alloc, pre, effects);
+    }
+    let row = all_copied(alloc, effects)?;
     Ok(row)
 }

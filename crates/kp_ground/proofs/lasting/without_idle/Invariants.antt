@@ -1,7 +1,7 @@
 use Rattle.std.proofs.Common.{◌≡◌, ◌++◌, not, filter, map, drop}
 use Rattle.kp_grounding.specs.Ground.{is_idle, lasting}
 use Rattle.kp_ground.specs.Made.{made_effect}
-use Rattle.kp_ground.proofs.lasting.lasting_effects.Given as goal
+use Rattle.kp_ground.proofs.lasting.without_idle.Given as goal
 
 -- with the effects that are left come all
 abbrev pub invariant-loop-made : goal.invariant-loop-made
