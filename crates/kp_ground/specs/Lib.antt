@@ -2,4 +2,3 @@ pub mod Grounded
 pub mod Passes
 pub mod Adds
 pub mod Made
-pub mod Hashed

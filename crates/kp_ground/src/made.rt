@@ -35,12 +35,19 @@ impl Eq for Made {
 impl Hash for Made {
     ghost use Rattle.std.specs.Hash as fed;
     ghost use Rattle.std.specs.Prelude.{◌++◌};
+    ghost use Rattle.std.proofs.Common.{ap₂};
+    ghost use Rattle.std.proofs.lemmas.Bool.{and_parts};
+    ghost use Rattle.kp_base.specs.Lit.{same_lit};
+    ghost use Rattle.kp_base.specs.LitSet.{same_set};
+    ghost use Rattle.kp_base.proofs.Lits.{same_lit-true};
+    ghost use Rattle.kp_base.proofs.Sets.{same_set-true};
     ghost use Rattle.kp_ground.specs.Made.{fed_lit};
-    ghost use Rattle.kp_ground.specs.Hashed.{made_alike};
 
     ghost hash_input = { λ m. fed_lit m.effect.result ++ fed.slice fed_lit m.effect.cond };
 
-    ghost respects_eq = { λ x y. made_alike x.effect y.effect };
+    ghost respects_eq = { λ x y h. ap₂ (λ r c. fed_lit r ++ fed.slice fed_lit c)
+        (same_lit-true x.effect.result y.effect.result (and_parts (same_lit x.effect.result y.effect.result) (same_set x.effect.cond y.effect.cond) h).0)
+        (same_set-true x.effect.cond y.effect.cond (and_parts (same_lit x.effect.result y.effect.result) (same_set x.effect.cond y.effect.cond) h).1) };
 
     fn hash<H: Hasher>(&self, state: &mut H) {
         self.effect.result.hash(state);
