@@ -1,6 +1,5 @@
 use Rattle.std.proofs.Common.{◌≡◌, ◌∙◌, sym, ap, not, ◌++◌, ◌∷◌, [], map, flat_map, append-nil, arith}
 use Rattle.std.proofs.lemmas.Grind.{common_steps}
-use Rattle.std.proofs.lemmas.Result.{on_ok_weaker}
 use Rattle.kp_base.specs.Lists.{only_if}
 use Rattle.kp_meaning.specs.Lifted.{ground, object_of}
 use Rattle.kp_names.specs.View.{cond_view}

@@ -1,4 +1,4 @@
-use Rattle.std.proofs.Common.{◌∙◌, ap, [], map, fold}
+use Rattle.std.proofs.Common.{◌∙◌, ap, map, fold}
 use Rattle.std.proofs.lemmas.Result.{on_ok_weaker}
 use Rattle.kp_names.specs.View.{eff_view}
 use Rattle.kp_grounding.specs.Flattening.{under, flat}
