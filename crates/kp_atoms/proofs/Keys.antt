@@ -77,20 +77,20 @@ module _ {K : Type 0} (seen : K → Atom) where
   number_seen a (k ∷ ks) = ap (λ n. cond (not (same_atom a (seen k))) (1 + n) 0) (number_seen a ks)
 
   -- the place that a set finds is the number of the atom
-  pub place_there : (ks : List K) (q : K) (n : ℕ) → position (λ k. same_atom (seen q) (seen k)) ks ≡ Some n → n ≡ number_of (map seen ks) (seen q)
-  place_there ks q n h = by (nat_lt (position_or_len (λ k. same_atom (seen q) (seen k)) ks) (length ks)) h ∙ number_seen (seen q) ks
+  pub place_there : (ks : List K) (q : Atom) (n : ℕ) → position (λ k. same_atom q (seen k)) ks ≡ Some n → n ≡ number_of (map seen ks) q
+  place_there ks q n h = by (nat_lt (position_or_len (λ k. same_atom q (seen k)) ks) (length ks)) h ∙ number_seen q ks
     where
-      by : (b : Bool) → cond b (Some (position_or_len (λ k. same_atom (seen q) (seen k)) ks)) None ≡ Some n → n ≡ position_or_len (λ k. same_atom (seen q) (seen k)) ks
+      by : (b : Bool) → cond b (Some (position_or_len (λ k. same_atom q (seen k)) ks)) None ≡ Some n → n ≡ position_or_len (λ k. same_atom q (seen k)) ks
       by true e = cc
       by false e = cc
 
   -- and where it finds none, the number is how many atoms there are
-  pub place_nowhere : (ks : List K) (q : K) → position (λ k. same_atom (seen q) (seen k)) ks ≡ None → length ks ≡ number_of (map seen ks) (seen q)
-  place_nowhere ks q h = by (nat_lt (position_or_len (λ k. same_atom (seen q) (seen k)) ks) (length ks)) refl h ∙ number_seen (seen q) ks
+  pub place_nowhere : (ks : List K) (q : Atom) → position (λ k. same_atom q (seen k)) ks ≡ None → length ks ≡ number_of (map seen ks) q
+  place_nowhere ks q h = by (nat_lt (position_or_len (λ k. same_atom q (seen k)) ks) (length ks)) refl h ∙ number_seen q ks
     where
-      by : (b : Bool) → nat_lt (position_or_len (λ k. same_atom (seen q) (seen k)) ks) (length ks) ≡ b → cond b (Some (position_or_len (λ k. same_atom (seen q) (seen k)) ks)) None ≡ None → length ks ≡ position_or_len (λ k. same_atom (seen q) (seen k)) ks
+      by : (b : Bool) → nat_lt (position_or_len (λ k. same_atom q (seen k)) ks) (length ks) ≡ b → cond b (Some (position_or_len (λ k. same_atom q (seen k)) ks)) None ≡ None → length ks ≡ position_or_len (λ k. same_atom q (seen k)) ks
       by true t e = cc
       by false t e =
-          let above = ltb-false (position_or_len (λ k. same_atom (seen q) (seen k)) ks) (length ks) t in
-          let within = prefix_len-le-length (λ k. not (same_atom (seen q) (seen k))) ks in
+          let above = ltb-false (position_or_len (λ k. same_atom q (seen k)) ks) (length ks) t in
+          let within = prefix_len-le-length (λ k. not (same_atom q (seen k))) ks in
           omega arith

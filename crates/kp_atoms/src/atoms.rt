@@ -1,7 +1,9 @@
-ghost use Rattle.std.specs.Prelude.{◌≡◌, [], length, IfOk, OnOk};
+ghost use Rattle.std.specs.Prelude.{◌≡◌, true, [], length, IfOk, OnOk};
+ghost use Rattle.kp_meaning.specs.Lifted.{ground};
 ghost use Rattle.kp_grounding.specs.Ground.{atom_of, number_of};
 ghost use Rattle.kp_atoms.specs.Gathered.{kept_atom, with_atom, with_atom_within, IsSortOf};
 
+use crate::parts::Parts;
 use indexmap::IndexSet;
 use kp_base::{Memory, Row};
 use kp_grounding::Atom;
@@ -27,11 +29,11 @@ impl Model for Atoms {
     ghost invariant = { λ a. length a.set.keys ≤ 4294967295 };
 }
 
-// A literal's atom, as the set keeps it.
-fn key_of(alloc: Global, lit: &GroundLit) -> Result<(u32, Vec<u32>), Memory>
-    ensures { IfOk result (λ key. kept_atom key ≡ atom_of lit.now) }
+// An atom, as the set keeps it.
+fn key_of(alloc: Global, parts: &Parts) -> Result<(u32, Vec<u32>), Memory>
+    ensures { IfOk result (λ key. kept_atom key ≡ atom_of (ground true parts.now.pred parts.now.objects.now)) }
 {
-    Ok((lit.pred, lit.objects.slice().to_vec(alloc)?))
+    Ok((parts.pred, parts.objects.to_vec(alloc)?))
 }
 
 // The atom that the set keeps so.
@@ -61,25 +63,48 @@ impl Atoms {
         self.set.len() as u32
     }
 
-    // Adds the atom of a literal, where it is new. More atoms than a `u32` counts are want of memory.
-    fn insert(&mut self, alloc: Global, lit: &GroundLit) -> Result<(), Memory>
-        ensures { OnOk result (self.new ≡ with_atom self.old (atom_of lit.now)) }
+    // Adds an atom that is new. More atoms than a `u32` counts are want of memory.
+    fn push(&mut self, alloc: Global, parts: &Parts) -> Result<(), Memory>
+        ensures { OnOk result (self.new ≡ with_atom self.old (atom_of (ground true parts.now.pred parts.now.objects.now))) }
     {
         if self.set.len() >= u32::MAX as usize {
             return Err(Memory);
         }
-        self.set.insert(key_of(alloc, lit)?)?;
+        self.set.insert(key_of(alloc, parts)?)?;
         Ok(())
+    }
+
+    // Adds an atom, where it is new.
+    fn insert(&mut self, alloc: Global, parts: &Parts) -> Result<(), Memory>
+        ensures { OnOk result (self.new ≡ with_atom self.old (atom_of (ground true parts.now.pred parts.now.objects.now))) }
+    {
+        if self.set.contains(parts) {
+            return Ok(());
+        }
+        self.push(alloc, parts)
+    }
+
+    /// Adds the atom of this predicate and these objects, where it is new and there are no more atoms than the limit.
+    pub fn note(
+        &mut self,
+        alloc: Global,
+        limit: u32,
+        pred: u32,
+        objects: &[u32],
+    ) -> Result<(), Memory>
+        ensures { OnOk result (self.new ≡ with_atom_within limit self.old (ground true pred objects.now)) }
+    {
+        if limit < self.len() {
+            return Ok(());
+        }
+        self.insert(alloc, &Parts { pred, objects })
     }
 
     /// Adds the atom of a literal, where it is new and there are no more atoms than the limit.
     pub fn add(&mut self, alloc: Global, limit: u32, lit: &GroundLit) -> Result<(), Memory>
         ensures { OnOk result (self.new ≡ with_atom_within limit self.old lit.now) }
     {
-        if limit < self.len() {
-            return Ok(());
-        }
-        self.insert(alloc, lit)
+        self.note(alloc, limit, lit.pred, lit.objects.slice())
     }
 
     /// Puts the atoms in order.
@@ -90,15 +115,22 @@ impl Atoms {
         Ok(())
     }
 
+    /// The number of the atom of this predicate and these objects; how many atoms there are, where it is none of them.
+    pub fn place(&self, pred: u32, objects: &[u32]) -> u32
+        ensures { result ≡ number_of self.now (atom_of (ground true pred objects.now)) }
+    {
+        match self.set.get_index_of(&Parts { pred, objects }) {
+            Some(number) => number as u32,
+            None => self.set.len() as u32,
+        }
+    }
+
     /// The number of a literal's atom; how many atoms there are, where it is none of them.
     pub fn number(&self, alloc: Global, lit: &GroundLit) -> Result<u32, Memory>
         ensures { IfOk result (λ n. n ≡ number_of self.now (atom_of lit.now)) }
     {
-        let key = key_of(alloc, lit)?;
-        match self.set.get_index_of(&key) {
-            Some(number) => Ok(number as u32),
-            None => Ok(self.set.len() as u32),
-        }
+        let _ = alloc;
+        Ok(self.place(lit.pred, lit.objects.slice()))
     }
 
     /// Copies of the atoms, in order.

@@ -4,6 +4,7 @@
 mod atoms;
 mod gathering;
 mod numbers;
+mod parts;
 
 pub use atoms::Atoms;
 pub use gathering::add_literals;

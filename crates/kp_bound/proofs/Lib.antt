@@ -3,3 +3,4 @@ pub mod Views
 pub mod Sets
 pub mod Shapes
 pub mod Sorting
+pub mod Walks

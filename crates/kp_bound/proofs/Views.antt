@@ -131,7 +131,7 @@ module _ (l : Lifted) where
 -- ---- flat effects
 
 -- conditions round conditions
-under_under : (ls ms : List GroundLit) (fs : List FlatEffect) → map (under ls) (map (under ms) fs) ≡ map (under (ls ++ ms)) fs
+pub under_under : (ls ms : List GroundLit) (fs : List FlatEffect) → map (under ls) (map (under ms) fs) ≡ map (under (ls ++ ms)) fs
 under_under ls ms [] = refl
 under_under ls ms (f ∷ fs) = rw (under_under ls ms fs, append_assoc ls ms f.cond) refl
 

@@ -15,8 +15,8 @@ use kp_meaning::Term;
 use kp_names::{Cond, Eff, Lifted, Schema};
 use std::alloc::Global;
 
-// The objects that terms stand for, in the arena.
-fn bound_terms<'a>(bump: &'a Bump, objects: &[u32], terms: &[Term]) -> Result<&'a [u32], Memory>
+/// The objects that terms stand for, in the arena.
+pub fn bound_terms<'a>(bump: &'a Bump, objects: &[u32], terms: &[Term]) -> Result<&'a [u32], Memory>
     ensures { IfOk result (λ os. os.now ≡ map (object_of objects.now) terms.now) }
 {
     let mut bound = Vec::with_capacity(bump, terms.len())?;

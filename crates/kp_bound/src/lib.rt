@@ -11,6 +11,8 @@ mod laws;
 mod literal;
 mod node;
 mod shape;
+mod sink;
+mod walking;
 
 pub use binding::bind;
 pub use flattener::Flattener;
@@ -19,4 +21,7 @@ pub use laws::{
     bound_conditions_hold_alike, bound_conditions_split_alike, bound_effects_are_flat_alike,
     bound_effects_fire_alike, trees_are_flat_alike,
 };
+pub use literal::BoundLit;
 pub use node::{BoundCond, BoundEff, BoundNode};
+pub use sink::Sink;
+pub use walking::{hand_over, left_of};

@@ -1,6 +1,7 @@
 -- An idle delete is found among the adds of its atom.
 use Rattle.std.proofs.Common.{◌≡◌, ℕ, Bool, true, false, not, ◌&&◌, ◌||◌, cond, List, [], ◌∷◌, ◌++◌, filter, refl, ap, ◌∙◌, append_assoc, append-nil}
 use Rattle.std.specs.List.{list_any}
+use Rattle.std.proofs.lemmas.Bool.{or_parts}
 use Rattle.kp_base.specs.declared.lit.Lit.{Lit}
 use Rattle.kp_base.specs.declared.ground.Effect.{Effect}
 use Rattle.kp_base.specs.Lists.{only_if}
@@ -43,3 +44,14 @@ lasting_more pre es done new e rest adds are is =
     ap (λ ds. ds ++ filter (λ d. not (is_idle pre es d)) rest) is
     ∙ (kept_more done (not (not e.result.positive && covered pre e adds)) e (filter (λ d. not (is_idle pre es d)) rest)
     ∙ ap (λ b. done ++ cond (not b) (e ∷ filter (λ d. not (is_idle pre es d)) rest) (filter (λ d. not (is_idle pre es d)) rest)) (ap (λ es'. not e.result.positive && covered pre e es') are ∙ idle_by_atom pre es e))
+
+-- where there is no delete all effects last
+pub none_idle : (pre : List Lit) (all es : List Effect) → list_any (λ e. not e.result.positive) es ≡ false → filter (λ e. not (is_idle pre all e)) es ≡ es
+none_idle pre all [] h = refl
+none_idle pre all (e ∷ es) h =
+    let parts = or_parts (not e.result.positive) (list_any (λ d. not d.result.positive) es) h in
+    pick (not e.result.positive) _ parts.0 (none_idle pre all es parts.1)
+  where
+    pick : (s covered : Bool) → s ≡ false → filter (λ d. not (is_idle pre all d)) es ≡ es → cond (not (s && covered)) (e ∷ filter (λ d. not (is_idle pre all d)) es) (filter (λ d. not (is_idle pre all d)) es) ≡ e ∷ es
+    pick true covered is rest = cc
+    pick false covered is rest = ap (λ ds. e ∷ ds) rest

@@ -5,3 +5,5 @@ pub mod Idle
 pub mod NamesByNumber
 pub mod InSets
 pub mod LoopSteps
+pub mod Injective
+pub mod Taken

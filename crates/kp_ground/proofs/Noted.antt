@@ -1,22 +1,16 @@
--- What is gathered from the flat forms names the atoms that occur: leaving out repeats loses none.
-use Rattle.std.proofs.Common.{◌≡◌, ℕ, suc, Bool, true, ◌||◌, List, [], ◌∷◌, ◌++◌, Some, map, slice_get, option_map, refl, sym, ap, ap₂, subst, ◌∙◌, inl, inr}
-use Rattle.std.specs.List.{list_any, list_all, flat_map}
-use Rattle.std.proofs.lemmas.Bool.{and_parts}
+-- What is gathered from the kept instances names the atoms that occur.
+use Rattle.std.proofs.Common.{◌≡◌, ℕ, suc, Bool, true, ◌||◌, List, [], ◌∷◌, ◌++◌, Some, map, slice_get, refl, sym, ap, ◌∙◌, inl, inr}
+use Rattle.std.specs.List.{list_any, flat_map}
 use Rattle.std.proofs.lemmas.List.Folds.{list_any-append}
-use Rattle.kp_base.specs.Lists.{Member, each_once}
-use Rattle.kp_base.proofs.Lists.{any_map, any_member, any_from, all_member, bool_same, member_at}
-use Rattle.kp_base.proofs.Once.{any-each_once}
+use Rattle.kp_base.specs.Lists.{Member}
+use Rattle.kp_base.proofs.Lists.{any_map, any_member, any_from, bool_same, member_at}
 use Rattle.kp_meaning.specs.declared.lifted.GroundLit.{GroundLit}
 use Rattle.kp_meaning.specs.Numbered.{Schema, Lifted}
-use Rattle.kp_meaning.specs.Lifted.{Instance, same_literal, names_literal, schema_of}
+use Rattle.kp_meaning.specs.Lifted.{Instance, schema_of}
 use Rattle.kp_grounding.specs.declared.flat.Atom.{Atom}
-use Rattle.kp_grounding.specs.declared.flat.FlatEffect.{FlatEffect}
-use Rattle.kp_grounding.specs.Static.{remaining}
-use Rattle.kp_grounding.specs.Flattening.{same_literals, same_flat, flat, flat_of}
-use Rattle.kp_grounding.specs.Ground.{kept_bindings, instance, kept_instances, atom_of, effect_literals, instance_literals, kept_literals, open_literals, occurring, same_atom, has_atom}
-use Rattle.kp_grounding.proofs.Step.{same_literal-true}
+use Rattle.kp_grounding.specs.Ground.{kept_bindings, instance, kept_instances, atom_of, instance_literals, kept_literals, open_literals, occurring, same_atom, has_atom}
 use Rattle.kp_grounding.proofs.Kept.{kept_of, member_of}
-use Rattle.kp_ground.specs.Passes.{flat_literals, literals_of, literals_at, noted}
+use Rattle.kp_ground.specs.Passes.{literals_of, literals_at, noted}
 
 -- ---- lists
 
@@ -37,42 +31,10 @@ placed (y ∷ ys) x m = elim m [
 ]
 
 module _ (p : GroundLit → Bool) where
-  -- ---- repeats
-
-  same_pass : (ls ms : List GroundLit) → same_literals ls ms ≡ true → list_any p ls ≡ list_any p ms
-  same_pass ls ms h =
-      let parts = and_parts (list_all (names_literal ms) ls) (list_all (names_literal ls) ms) h in
-      bool_same (list_any p ls) (list_any p ms) (passes ls ms parts.0) (passes ms ls parts.1)
-    where
-      passes : (xs ys : List GroundLit) → list_all (names_literal ys) xs ≡ true → list_any p xs ≡ true → list_any p ys ≡ true
-      passes xs ys within some =
-          let found = any_member p xs some in
-          let twin = any_member (same_literal found.0) ys (all_member (names_literal ys) xs found.0 found.1 within) in
-          any_from p ys twin.0 twin.1 (subst (λ z. p z ≡ true) (same_literal-true found.0 twin.0 twin.2) found.2)
-
-  once_pass : (fs : List FlatEffect) → list_any p (flat_map effect_literals (each_once same_flat fs)) ≡ list_any p (flat_map effect_literals fs)
-  once_pass fs = any-flat_map p effect_literals (each_once same_flat fs) ∙ (any-each_once same_flat passes alike fs ∙ sym (any-flat_map p effect_literals fs))
-    where
-      passes : FlatEffect → Bool
-      passes f = list_any p (effect_literals f)
-
-      alike : (f g : FlatEffect) → same_flat f g ≡ true → passes f ≡ passes g
-      alike f g h =
-          let parts = and_parts (same_literal f.result g.result) (same_literals f.cond g.cond) h in
-          list_any-append p f.cond (f.result ∷ [])
-          ∙ (ap₂ (λ s m. s || list_any p (m ∷ [])) (same_pass f.cond g.cond parts.1) (same_literal-true f.result g.result parts.0)
-          ∙ sym (list_any-append p g.cond (g.result ∷ [])))
-
-  flat_pass : (l : Lifted) (a : Schema) (os : List ℕ) → list_any p (flat_literals (flat_of l a os)) ≡ list_any p (instance_literals l a os)
-  flat_pass l a os =
-      list_any-append p (remaining l os a.pre) (flat_map effect_literals (each_once same_flat (flat l os a.effect)))
-      ∙ (ap (λ t. list_any p (remaining l os a.pre) || t) (once_pass (flat l os a.effect))
-      ∙ sym (list_any-append p (remaining l os a.pre) (flat_map effect_literals (flat l os a.effect))))
-
   -- ---- kept instances
 
   of_schema : (l : Lifted) (i : Instance) (a : Schema) → schema_of l i ≡ Some a → list_any p (literals_at l i) ≡ list_any p (instance_literals l a i.objects)
-  of_schema l i a is = ap (λ o. list_any p (literals_of (option_map (λ b. flat_of l b i.objects) o))) is ∙ flat_pass l a i.objects
+  of_schema l i a is = ap (λ o. list_any p (literals_of l o i.objects)) is
 
   kept_pass : (l : Lifted) → list_any p (flat_map (literals_at l) (kept_instances l)) ≡ list_any p (flat_map (kept_literals l) l.schemas)
   kept_pass l =

@@ -1,3 +1,4 @@
 pub mod Grounded
 pub mod Passes
 pub mod Adds
+pub mod Made

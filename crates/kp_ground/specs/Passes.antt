@@ -1,6 +1,7 @@
 -- What the two passes over the kept instances make of them. This file serves proofs alone.
-use Rattle.std.specs.Prelude.{◌≡◌, ◌<◌, ◌≤◌, ℕ, Bool, not, List, [], ◌++◌, Option, Some, None, option_map, map, Result, Ok, Err, length, nat_lt, slice_get}
+use Rattle.std.specs.Prelude.{◌≡◌, ◌<◌, ◌≤◌, ℕ, Bool, not, List, [], ◌++◌, Option, Some, None, option_map, Result, Ok, Err, length, nat_lt, slice_get}
 use Rattle.std.specs.List.{flat_map}
+use Rattle.kp_base.specs.Lists.{Member}
 use Rattle.kp_base.specs.declared.refused.Refused.TheVariants as refusals
 use Rattle.kp_base.specs.declared.refused.Stop.{Stop}
 use Rattle.kp_base.specs.declared.refused.Stop.TheVariants as stops
@@ -10,10 +11,8 @@ use Rattle.kp_meaning.specs.declared.lifted.GroundLit.{GroundLit}
 use Rattle.kp_meaning.specs.Numbered.{Schema, Lifted}
 use Rattle.kp_meaning.specs.Lifted.{Instance, schema_of}
 use Rattle.kp_grounding.specs.declared.flat.Atom.{Atom}
-use Rattle.kp_grounding.specs.declared.flat.Flat.{Flat}
 use Rattle.kp_grounding.specs.Static.{is_static}
-use Rattle.kp_grounding.specs.Ground.{effect_literals, open_literals, kept_instances, ground_atoms, numbered_set, numbered_effect, lasting, object_names, action_of}
-use Rattle.kp_bound.specs.Bound.{flat_at}
+use Rattle.kp_grounding.specs.Ground.{kept_bindings, instance_literals, open_literals, kept_instances, ground_atoms, IsNumbering, object_names, action_of}
 
 -- ---- instances
 
@@ -24,10 +23,6 @@ has_schema l i = nat_lt i.schema (length l.schemas)
 -- the name of the action of an instance, if there is such a schema
 abbrev pub name_with : Lifted → ℕ → List ℕ → Option GroundName
 name_with l n os = option_map (λ a. record { head = a.name; objects = object_names l os }) (slice_get l.schemas n)
-
--- the action of this name with this flat form
-abbrev pub action_from : List Atom → GroundName → Flat → Action
-action_from atoms name f = record { name = name; pre = numbered_set atoms f.pre; effects = lasting (numbered_set atoms f.pre) (map (numbered_effect atoms) f.effects) }
 
 -- the action of a schema with these objects; an empty one where there is no such schema
 abbrev pub action_with : Lifted → List Atom → Option Schema → List ℕ → Action
@@ -44,18 +39,20 @@ action_at l atoms i = action_with l atoms (schema_of l i) i.objects
 abbrev pub is_open : Lifted → GroundLit → Bool
 is_open l m = not (is_static l m.pred)
 
--- the literals of a flat form
-abbrev pub flat_literals : Flat → List GroundLit
-flat_literals f = f.pre ++ flat_map effect_literals f.effects
-
--- those of a flat form, if there is one
-abbrev pub literals_of : Option Flat → List GroundLit
-literals_of None = []
-literals_of (Some f) = flat_literals f
+-- those of a schema with these objects, if there is one
+abbrev pub literals_of : Lifted → Option Schema → List ℕ → List GroundLit
+literals_of l None os = []
+literals_of l (Some a) os = instance_literals l a os
 
 -- those of an instance
 abbrev pub literals_at : Lifted → Instance → List GroundLit
-literals_at l i = literals_of (flat_at l i.schema i.objects)
+literals_at l i = literals_of l (schema_of l i) i.objects
+
+-- the schema with these objects is kept, and the atoms are those by whose places literals are numbered
+pub record IsKnown (l : Lifted) (atoms : List Atom) (a : Schema) (os : List ℕ) : Type 0 where
+  pub numbering : IsNumbering l atoms
+  pub schema : Member l.schemas a
+  pub kept : Member (kept_bindings l a) os
 
 -- the literals whose atoms are gathered, in this order
 abbrev pub noted : Lifted → List GroundLit

@@ -1,42 +1,71 @@
-ghost use Rattle.std.specs.Prelude.{◌≡◌, ◌<◌, map, true, length, Some, IfOk};
-ghost use Rattle.std.specs.List.{list_all};
-ghost use Rattle.kp_names.specs.View.{lifted_view};
+ghost use Rattle.std.specs.Prelude.{◌≡◌, ◌<◌, map, length, Some, IfOk};
+ghost use Rattle.kp_base.specs.Lists.{Member};
+ghost use Rattle.kp_names.specs.View.{schema_view, lifted_view};
 ghost use Rattle.kp_kept.specs.Counts.{kept_view};
 ghost use Rattle.kp_bound.specs.Problem.{problem_of};
-ghost use Rattle.kp_grounding.specs.Ground.{numbered_effect, lasting};
-ghost use Rattle.kp_ground.specs.Passes.{has_schema, action_from, name_with, action_at};
+ghost use Rattle.kp_grounding.specs.Flattening.{flat_of};
+ghost use Rattle.kp_grounding.specs.Ground.{numbered_effect, lasting, kept_instances, ground_pre, ground_effects, IsNumbering};
+ghost use Rattle.kp_ground.specs.Passes.{name_with, action_at, IsKnown};
 
-use crate::effects::all_numbered;
 use crate::lasting::lasting_effects;
 use crate::names::names_of_objects;
+use crate::numbered::Numbering;
 use kp_atoms::{Atoms, literal_set};
 use kp_base::{Action, Effect, GroundName, LitSet, Memory, Row};
-use kp_bound::Flattener;
-use kp_grounding::Flat;
-use kp_kept::Kept;
-use kp_names::Lifted;
+use kp_bound::{hand_over, left_of};
+use kp_kept::{Kept, Statics};
+use kp_names::{Lifted, Schema};
 use std::alloc::Global;
 
-// The lasting effects of a flat form, by number, beside this precondition.
+// The precondition of a schema with these objects, by number.
+fn pre_by_number(
+    alloc: Global,
+    statics: &Statics,
+    atoms: &Atoms,
+    objects: &[u32],
+    schema: &Schema,
+) -> Result<LitSet, Memory>
+    ensures { IfOk result (λ pre. pre ≡ ground_pre (problem_of statics.now) atoms.now (schema_view schema.now) objects.now) }
+{
+    let left = left_of(alloc, statics, objects, &schema.pre)?;
+    let pre = literal_set(alloc, atoms, left.slice())?;
+    Ok(pre)
+}
+
+// The effects of a schema with these objects, by number, that last beside this precondition.
 fn effects_beside(
     alloc: Global,
+    statics: &Statics,
     atoms: &Atoms,
     pre: &LitSet,
-    flat: &Flat,
+    objects: &[u32],
+    schema: &Schema,
 ) -> Result<Row<Effect>, Memory>
-    ensures { IfOk result (λ row. row ≡ lasting pre.now (map (numbered_effect atoms.now) flat.now.effects)) }
+    requires { IsKnown (problem_of statics.now) atoms.now (schema_view schema.now) objects.now }
+    ensures { IfOk result (λ row. row ≡ lasting pre.now (map (numbered_effect atoms.now) (flat_of (problem_of statics.now) (schema_view schema.now) objects.now).effects)) }
 {
-    let numbered = all_numbered(alloc, atoms, flat.effects.slice())?;
-    let effects = lasting_effects(alloc, pre, numbered.slice())?;
+    let mut numbering = Numbering::new(alloc, atoms);
+    hand_over(alloc, statics, objects, &schema.effect, &mut numbering)?;
+    let effects = lasting_effects(alloc, pre, numbering.slice())?;
     Ok(effects)
 }
 
-// The action of this name with this flat form.
-fn named(alloc: Global, atoms: &Atoms, name: GroundName, flat: &Flat) -> Result<Action, Memory>
-    ensures { IfOk result (λ a. a ≡ action_from atoms.now name flat.now) }
+// The action of this name of a schema with these objects.
+fn named(
+    alloc: Global,
+    statics: &Statics,
+    atoms: &Atoms,
+    name: GroundName,
+    objects: &[u32],
+    schema: &Schema,
+) -> Result<Action, Memory>
+    requires { IsKnown (problem_of statics.now) atoms.now (schema_view schema.now) objects.now }
+    ensures name { IfOk result (λ a. a.name ≡ name) }
+    ensures pre { IfOk result (λ a. a.pre ≡ ground_pre (problem_of statics.now) atoms.now (schema_view schema.now) objects.now) }
+    ensures effects { IfOk result (λ a. a.effects ≡ ground_effects (problem_of statics.now) atoms.now (schema_view schema.now) objects.now) }
 {
-    let pre = literal_set(alloc, atoms, flat.pre.slice())?;
-    let effects = effects_beside(alloc, atoms, &pre, flat)?;
+    let pre = pre_by_number(alloc, statics, atoms, objects, schema)?;
+    let effects = effects_beside(alloc, statics, atoms, &pre, objects, schema)?;
     Ok(Action { name, pre, effects })
 }
 
@@ -53,36 +82,31 @@ fn name_of(alloc: Global, lifted: &Lifted, one: &Kept) -> Result<GroundName, Mem
 }
 
 // The action of an instance.
-fn action(
-    alloc: Global,
-    flattener: &mut Flattener,
-    atoms: &Atoms,
-    one: &Kept,
-) -> Result<Action, Memory>
-    requires { has_schema (problem_of flattener.old.statics.now) (kept_view one.now) ≡ true }
-    ensures kept { flattener.new.statics ≡ flattener.old.statics }
-    ensures action { IfOk result (λ a. a ≡ action_at (problem_of flattener.old.statics.now) atoms.now (kept_view one.now)) }
+fn action(alloc: Global, statics: &Statics, atoms: &Atoms, one: &Kept) -> Result<Action, Memory>
+    requires numbering { IsNumbering (problem_of statics.now) atoms.now }
+    requires kept { Member (kept_instances (problem_of statics.now)) (kept_view one.now) }
+    ensures { IfOk result (λ a. a ≡ action_at (problem_of statics.now) atoms.now (kept_view one.now)) }
 {
-    let statics = flattener.statics;
     let name = name_of(alloc, statics.lifted, one)?;
-    let flat = flattener.flat(alloc, one.schema, &one.objects)?;
-    let action = named(alloc, atoms, name, &flat)?;
+    let schema = statics.lifted.schemas.at(one.schema as usize);
+    let action = named(alloc, statics, atoms, name, one.objects.slice(), schema)?;
     Ok(action)
 }
 
-/// The actions of some instances.
+/// The actions of the kept instances.
 pub fn all_actions(
     alloc: Global,
-    flattener: &mut Flattener,
+    statics: &Statics,
     atoms: &Atoms,
     kept: &[Kept],
 ) -> Result<Row<Action>, Memory>
-    requires { list_all (has_schema (problem_of flattener.old.statics.now)) (map kept_view kept.now) ≡ true }
-    ensures { IfOk result (λ row. row ≡ map (action_at (problem_of flattener.old.statics.now) atoms.now) (map kept_view kept.now)) }
+    requires numbering { IsNumbering (problem_of statics.now) atoms.now }
+    requires kept { map kept_view kept.now ≡ kept_instances (problem_of statics.now) }
+    ensures { IfOk result (λ row. row ≡ map (action_at (problem_of statics.now) atoms.now) (map kept_view kept.now)) }
 {
     let mut row = Row::new(alloc);
     for one in kept {
-        row.push(action(alloc, flattener, atoms, one)?)?;
+        row.push(action(alloc, statics, atoms, one)?)?;
     }
     Ok(row)
 }

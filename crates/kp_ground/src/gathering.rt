@@ -1,14 +1,12 @@
 ghost use Rattle.std.specs.Prelude.{◌≡◌, [], ◌∷◌, filter, OnOk};
 ghost use Rattle.std.specs.List.{flat_map};
 ghost use Rattle.kp_meaning.specs.Lifted.{item_literals};
-ghost use Rattle.kp_grounding.specs.Ground.{effect_literals};
 ghost use Rattle.kp_atoms.specs.Gathered.{gather};
 ghost use Rattle.kp_bound.specs.Problem.{problem_of};
-ghost use Rattle.kp_ground.specs.Passes.{is_open, flat_literals};
+ghost use Rattle.kp_ground.specs.Passes.{is_open};
 
-use kp_atoms::{Atoms, add_literals};
+use kp_atoms::Atoms;
 use kp_base::Memory;
-use kp_grounding::{Flat, FlatEffect};
 use kp_kept::Statics;
 use kp_meaning::{GroundLit, Item};
 use std::alloc::Global;
@@ -77,28 +75,4 @@ pub fn add_items(
         add_item(alloc, statics, limit, atoms, item)?;
     }
     Ok(())
-}
-
-// Adds the atoms of some effects.
-fn add_effects(
-    alloc: Global,
-    limit: u32,
-    atoms: &mut Atoms,
-    effects: &[FlatEffect],
-) -> Result<(), Memory>
-    ensures { OnOk result (atoms.new ≡ gather limit atoms.old (flat_map effect_literals effects.now)) }
-{
-    for effect in effects {
-        add_literals(alloc, limit, atoms, effect.cond.slice())?;
-        atoms.add(alloc, limit, &effect.result)?;
-    }
-    Ok(())
-}
-
-/// Adds the atoms of an instance.
-pub fn add_flat(alloc: Global, limit: u32, atoms: &mut Atoms, flat: &Flat) -> Result<(), Memory>
-    ensures { OnOk result (atoms.new ≡ gather limit atoms.old (flat_literals flat.now)) }
-{
-    add_literals(alloc, limit, atoms, flat.pre.slice())?;
-    add_effects(alloc, limit, atoms, flat.effects.slice())
 }

@@ -1,17 +1,15 @@
 ghost use Rattle.std.specs.Prelude.{◌≡◌, map, IfOk};
 ghost use Rattle.kp_names.specs.View.{lifted_view};
-ghost use Rattle.kp_grounding.specs.Ground.{kept_instances, ground_over, atom_name, numbered_set};
+ghost use Rattle.kp_grounding.specs.Ground.{kept_instances, ground_over, atom_name, numbered_set, IsNumbering};
 ghost use Rattle.kp_kept.specs.Counts.{kept_view};
 ghost use Rattle.kp_bound.specs.Problem.{problem_of};
 ghost use Rattle.kp_ground.specs.Grounded.{AnswersGround, AnswersWithAtoms};
-ghost use Rattle.kp_ground.specs.Passes.{action_at};
 
 use crate::actions::all_actions;
 use crate::names::names_of_atoms;
 use crate::occurring::occurring_atoms;
 use kp_atoms::{Atoms, literal_set};
 use kp_base::{Action, Ground, Limits, Memory, Row, Stop};
-use kp_bound::Flattener;
 use kp_grounding::Atom;
 use kp_kept::{Kept, Statics, kept_instances};
 use kp_names::Lifted;
@@ -24,21 +22,6 @@ pub struct GroundWithAtoms {
     pub ground: Ground,
     /// Its atoms, in the same order.
     pub atoms: Row<Atom>,
-}
-
-// The actions of the kept instances.
-fn kept_actions(
-    alloc: Global,
-    statics: &Statics,
-    atoms: &Atoms,
-    kept: &[Kept],
-) -> Result<Row<Action>, Memory>
-    requires { map kept_view kept.now ≡ kept_instances (problem_of statics.now) }
-    ensures { IfOk result (λ row. row ≡ map (action_at (problem_of statics.now) atoms.now) (kept_instances (problem_of statics.now))) }
-{
-    let mut flattener = Flattener::new(alloc, statics);
-    let actions = all_actions(alloc, &mut flattener, atoms, kept)?;
-    Ok(actions)
 }
 
 // The ground problem with these actions.
@@ -68,12 +51,13 @@ fn over_atoms(
     atoms: &Atoms,
     kept: &[Kept],
 ) -> Result<GroundWithAtoms, Memory>
-    requires { map kept_view kept.now ≡ kept_instances (problem_of statics.now) }
+    requires numbering { IsNumbering (problem_of statics.now) atoms.now }
+    requires kept { map kept_view kept.now ≡ kept_instances (problem_of statics.now) }
     ensures ground { IfOk result (λ g. g.ground ≡ ground_over (problem_of statics.now) atoms.now) }
     ensures atoms { IfOk result (λ g. g.atoms ≡ atoms.now) }
 {
     let row = atoms.row(alloc)?;
-    let actions = kept_actions(alloc, statics, atoms, kept)?;
+    let actions = all_actions(alloc, statics, atoms, kept)?;
     let ground = with_actions(alloc, statics.lifted, atoms, &row, actions)?;
     Ok(GroundWithAtoms { ground, atoms: row })
 }

@@ -3,11 +3,13 @@
 
 mod actions;
 mod adds;
-mod effects;
+mod effect_atoms;
 mod gathering;
 mod grounding;
 mod lasting;
+mod made;
 mod names;
+mod numbered;
 mod occurring;
 
 pub use grounding::{GroundWithAtoms, ground, ground_with_atoms};

@@ -1,35 +1,69 @@
-ghost use Rattle.std.specs.Prelude.{◌≡◌, [], map, true, IfOk, OnOk};
+ghost use Rattle.std.specs.Prelude.{◌≡◌, ◌<◌, [], map, true, length, IfOk, OnOk};
 ghost use Rattle.std.specs.List.{flat_map, list_all};
-ghost use Rattle.kp_grounding.specs.Ground.{kept_instances};
+ghost use Rattle.kp_names.specs.View.{schema_view};
+ghost use Rattle.kp_grounding.specs.Ground.{instance_literals, kept_instances};
 ghost use Rattle.kp_atoms.specs.Gathered.{gather};
 ghost use Rattle.kp_kept.specs.Counts.{kept_view};
 ghost use Rattle.kp_bound.specs.Problem.{problem_of};
 ghost use Rattle.kp_ground.specs.Passes.{has_schema, literals_at, noted, AnswersAtoms};
 
-use crate::gathering::{add_flat, add_items};
+use crate::effect_atoms::EffectAtoms;
+use crate::gathering::add_items;
 use kp_atoms::{Atoms, add_literals};
 use kp_base::{Memory, Refused, Stop};
-use kp_bound::Flattener;
+use kp_bound::{hand_over, left_of};
 use kp_kept::{Kept, Statics};
+use kp_names::Schema;
 use std::alloc::Global;
+
+// Adds the atoms of a schema with these objects.
+fn add_schema(
+    alloc: Global,
+    statics: &Statics,
+    objects: &[u32],
+    schema: &Schema,
+    into: &mut EffectAtoms,
+) -> Result<(), Memory>
+    ensures limit { OnOk result (into.new.limit ≡ into.old.limit) }
+    ensures atoms { OnOk result (into.new.atoms ≡ gather into.old.limit into.old.atoms (instance_literals (problem_of statics.now) (schema_view schema.now) objects.now)) }
+{
+    let pre = left_of(alloc, statics, objects, &schema.pre)?;
+    add_literals(alloc, into.limit, &mut into.atoms, pre.slice())?;
+    hand_over(alloc, statics, objects, &schema.effect, into)?;
+    Ok(())
+}
+
+// Adds the atoms of an instance.
+fn add_instance(
+    alloc: Global,
+    statics: &Statics,
+    one: &Kept,
+    into: &mut EffectAtoms,
+) -> Result<(), Memory>
+    requires { one.now.schema < length (problem_of statics.now).schemas }
+    ensures limit { OnOk result (into.new.limit ≡ into.old.limit) }
+    ensures atoms { OnOk result (into.new.atoms ≡ gather into.old.limit into.old.atoms (literals_at (problem_of statics.now) (kept_view one.now))) }
+{
+    let schema = statics.lifted.schemas.at(one.schema as usize);
+    add_schema(alloc, statics, one.objects.slice(), schema, into)?;
+    Ok(())
+}
 
 // Adds the atoms of some instances, until there are more atoms than the limit.
 fn add_kept(
     alloc: Global,
-    flattener: &mut Flattener,
-    limit: u32,
-    atoms: &mut Atoms,
+    statics: &Statics,
     kept: &[Kept],
+    into: &mut EffectAtoms,
 ) -> Result<(), Memory>
-    requires { list_all (has_schema (problem_of flattener.old.statics.now)) (map kept_view kept.now) ≡ true }
-    ensures { OnOk result (atoms.new ≡ gather limit atoms.old (flat_map (literals_at (problem_of flattener.old.statics.now)) (map kept_view kept.now))) }
+    requires { list_all (has_schema (problem_of statics.now)) (map kept_view kept.now) ≡ true }
+    ensures { OnOk result (into.new.atoms ≡ gather into.old.limit into.old.atoms (flat_map (literals_at (problem_of statics.now)) (map kept_view kept.now))) }
 {
     for one in kept {
-        if limit < atoms.len() {
+        if into.limit < into.atoms.len() {
             return Ok(());
         }
-        let flat = flattener.flat(alloc, one.schema, &one.objects)?;
-        add_flat(alloc, limit, atoms, &flat)?;
+        add_instance(alloc, statics, one, into)?;
     }
     Ok(())
 }
@@ -43,9 +77,9 @@ fn gathered(alloc: Global, statics: &Statics, kept: &[Kept], limit: u32) -> Resu
     let mut atoms = Atoms::new(alloc);
     add_literals(alloc, limit, &mut atoms, lifted.goal.slice())?;
     add_items(alloc, statics, limit, &mut atoms, lifted.init.slice())?;
-    let mut flattener = Flattener::new(alloc, statics);
-    add_kept(alloc, &mut flattener, limit, &mut atoms, kept)?;
-    Ok(atoms)
+    let mut into = EffectAtoms { atoms, limit };
+    add_kept(alloc, statics, kept, &mut into)?;
+    Ok(into.atoms)
 }
 
 /// The ground atoms in order, or the refusal where there are more than the limit.

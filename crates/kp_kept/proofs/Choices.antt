@@ -14,7 +14,7 @@ flat_flat : {X Y Z : Type 0} (g : X → List Y) (f : Y → List Z) (xs : List X)
 flat_flat g f [] = refl
 flat_flat g f (x ∷ xs) = flat_map-append f (g x) (flat_map g xs) ∙ ap (λ l. flat_map f (g x) ++ l) (flat_flat g f xs)
 
-map_flat : {X Y Z : Type 0} (g : X → List Y) (f : Y → Z) (xs : List X) → map f (flat_map g xs) ≡ flat_map (λ x. map f (g x)) xs
+pub map_flat : {X Y Z : Type 0} (g : X → List Y) (f : Y → Z) (xs : List X) → map f (flat_map g xs) ≡ flat_map (λ x. map f (g x)) xs
 map_flat g f [] = refl
 map_flat g f (x ∷ xs) = map-append f (g x) (flat_map g xs) ∙ ap (λ l. map f (g x) ++ l) (map_flat g f xs)
 

@@ -1,4 +1,4 @@
-ghost use Rattle.std.specs.Prelude.{◌≡◌, ◌<◌, Some, length, slice_get, IfOk};
+ghost use Rattle.std.specs.Prelude.{◌≡◌, ◌<◌, Some, length, slice_get, IfOk, OnOk};
 ghost use Rattle.kp_meaning.specs.Lifted.{bindings};
 
 use crate::counting::binding_number;
@@ -16,13 +16,13 @@ pub fn binding_total(ranges: &[Range]) -> Result<usize, Memory>
     }
 }
 
-/// The list of this number: an object from each range, the first range slowest.
-pub fn binding_at(alloc: Global, ranges: &[Range], number: usize) -> Result<Row<u32>, Memory>
+/// Puts the list of this number in place of what is there: an object from each range, the first range slowest.
+pub fn fill_binding(objects: &mut Vec<u32>, ranges: &[Range], number: usize) -> Result<(), Memory>
     requires { number < length (bindings ranges.now) }
-    ensures { IfOk result (λ row. slice_get (bindings ranges.now) number ≡ Some row) }
+    ensures { OnOk result (slice_get (bindings ranges.now) number ≡ Some objects.new.items) }
 {
     // The number's digits, the last first; the base of each is how many objects its range has.
-    let mut objects = Vec::with_capacity(alloc, ranges.len())?;
+    objects.clear();
     let mut rest = number;
     let mut left = ranges.len();
     while left > 0 {
@@ -32,6 +32,16 @@ pub fn binding_at(alloc: Global, ranges: &[Range], number: usize) -> Result<Row<
         rest /= range.len();
     }
     objects.reverse();
+    Ok(())
+}
+
+/// The list of this number.
+pub fn binding_at(alloc: Global, ranges: &[Range], number: usize) -> Result<Row<u32>, Memory>
+    requires { number < length (bindings ranges.now) }
+    ensures { IfOk result (λ row. slice_get (bindings ranges.now) number ≡ Some row) }
+{
+    let mut objects = Vec::with_capacity(alloc, ranges.len())?;
+    fill_binding(&mut objects, ranges, number)?;
     Ok(Row::from_vec(objects))
 }
 

@@ -7,34 +7,46 @@ ghost use Rattle.kp_grounding.specs.Weights.{weight};
 ghost use Rattle.kp_kept.specs.Counts.{kept_view, capped, IsWithin, StopsAtCounts};
 ghost use Rattle.kp_kept.specs.Tables.{Gathers, IsKeeping};
 
-use crate::bindings::{binding_at, binding_total};
+use crate::bindings::{binding_total, fill_binding};
 use crate::counting::{problem_bindings, schema_weight};
 use crate::kept::Kept;
-use crate::settling::settled;
+use crate::settling::settled_in;
 use crate::statics::Statics;
 use kp_base::{Limits, Memory, Refused, Row, Stop};
 use kp_names::Schema;
 use std::alloc::Global;
 
-// Adds an instance, where it is kept. False where there are too many then.
+// The instance of a schema with these objects.
+fn instance(alloc: Global, number: u32, objects: &[u32]) -> Result<Kept, Memory>
+    ensures { IfOk result (λ one. kept_view one ≡ instance number objects.now) }
+{
+    Ok(Kept {
+        schema: number,
+        objects: Row::from_vec(Vec::from_slice(alloc, objects)?),
+    })
+}
+
+// Adds the instance with these objects, where it is kept. False where there are too many then.
 fn keep(
     alloc: Global,
     statics: &Statics,
+    room: &mut Vec<u32>,
+    number: u32,
     schema: &Schema,
     most: usize,
-    one: Kept,
+    objects: &[u32],
     kept: &mut Row<Kept>,
 ) -> Result<bool, Memory>
     requires { length kept.old ≤ most }
-    ensures { IfOk result (λ fits. Gathers most (map kept_view kept.old) (only_if (settled (lifted_view statics.now.lifted.now) one.objects (cond_view schema.now.pre)) (kept_view one ∷ [])) (map kept_view kept.new) fits) }
+    ensures { IfOk result (λ fits. Gathers most (map kept_view kept.old) (only_if (settled (lifted_view statics.now.lifted.now) objects.now (cond_view schema.now.pre)) (instance number objects.now ∷ [])) (map kept_view kept.new) fits) }
 {
-    if !settled(alloc, statics, &schema.pre, one.objects.slice())? {
+    if !settled_in(statics, room, &schema.pre, objects)? {
         return Ok(true);
     }
     if kept.len() >= most {
         return Ok(false);
     }
-    kept.push(one)?;
+    kept.push(instance(alloc, number, objects)?)?;
     Ok(true)
 }
 
@@ -52,12 +64,13 @@ fn keep_all(
 {
     let params = schema.params.slice();
     let total = binding_total(params)?;
+    let mut objects = Vec::new(alloc);
+    let mut room = Vec::new(alloc);
     for place in 0..total {
-        let one = Kept {
-            schema: number,
-            objects: binding_at(alloc, params, place)?,
-        };
-        if !keep(alloc, statics, schema, most, one, kept)? {
+        fill_binding(&mut objects, params, place)?;
+        if !keep(
+            alloc, statics, &mut room, number, schema, most, &objects, kept,
+        )? {
             return Ok(false);
         }
     }

@@ -1,4 +1,4 @@
-ghost use Rattle.std.specs.Prelude.{◌≡◌, map, IfOk};
+ghost use Rattle.std.specs.Prelude.{◌≡◌, map, IfOk, OnOk};
 ghost use Rattle.kp_base.specs.Lists.{signed};
 ghost use Rattle.kp_meaning.specs.Lifted.{object_of};
 ghost use Rattle.kp_meaning.specs.Numbered as numbered;
@@ -6,7 +6,7 @@ ghost use Rattle.kp_names.specs.View.{cond_view, lifted_view};
 ghost use Rattle.kp_grounding.specs.Static.{settled};
 
 use crate::statics::Statics;
-use kp_base::{Memory, Row};
+use kp_base::Memory;
 use kp_meaning::Term;
 use kp_names::Cond;
 use std::alloc::Global;
@@ -21,14 +21,15 @@ pub fn object_of(objects: &[u32], term: &Term) -> u32
     }
 }
 
-fn objects_of(alloc: Global, objects: &[u32], terms: &[Term]) -> Result<Row<u32>, Memory>
-    ensures { IfOk result (λ row. row ≡ map (object_of objects.now) terms.now) }
+/// Puts the objects of terms in place of what is there.
+pub fn put_objects(room: &mut Vec<u32>, objects: &[u32], terms: &[Term]) -> Result<(), Memory>
+    ensures { OnOk result (room.new.items ≡ map (object_of objects.now) terms.now) }
 {
-    let mut row = Row::new(alloc);
+    room.clear();
     for term in terms {
-        row.push(object_of(objects, term))?;
+        room.push(object_of(objects, term))?;
     }
-    Ok(row)
+    Ok(())
 }
 
 // The truth value, or its negation.
@@ -40,8 +41,8 @@ fn signed(positive: bool, value: bool) -> bool
 
 // Whether an atom or its negation is true, where its predicate is static.
 fn literal_settled(
-    alloc: Global,
     statics: &Statics,
+    room: &mut Vec<u32>,
     positive: bool,
     pred: u32,
     terms: &[Term],
@@ -52,14 +53,15 @@ fn literal_settled(
     if !statics.is_static(pred) {
         return Ok(true);
     }
-    let row = objects_of(alloc, objects, terms)?;
-    Ok(signed(positive, statics.is_true_at_first(pred, row.slice())))
+    put_objects(room, objects, terms)?;
+    Ok(signed(positive, statics.is_true_at_first(pred, room.as_slice())))
 }
 
 /// Whether all static literals and all equalities of a condition are true under a list of objects for the variables.
-pub fn settled(
-    alloc: Global,
+/// What stands in the room is lost.
+pub fn settled_in(
     statics: &Statics,
+    room: &mut Vec<u32>,
     cond: &Cond,
     objects: &[u32],
 ) -> Result<bool, Memory>
@@ -68,7 +70,7 @@ pub fn settled(
     match cond {
         Cond::All(parts) => {
             for part in parts.slice() {
-                if !settled(alloc, statics, part, objects)? {
+                if !settled_in(statics, room, part, objects)? {
                     return Ok(false);
                 }
             }
@@ -78,7 +80,7 @@ pub fn settled(
             positive,
             pred,
             terms,
-        } => Ok(literal_settled(alloc, statics, *positive, *pred, terms.slice(), objects)?),
+        } => Ok(literal_settled(statics, room, *positive, *pred, terms.slice(), objects)?),
         Cond::Same {
             positive,
             left,
@@ -88,4 +90,17 @@ pub fn settled(
             object_of(objects, left) == object_of(objects, right),
         )),
     }
+}
+
+/// The same, with room of its own.
+pub fn settled(
+    alloc: Global,
+    statics: &Statics,
+    cond: &Cond,
+    objects: &[u32],
+) -> Result<bool, Memory>
+    ensures { IfOk result (λ b. b ≡ settled (lifted_view statics.now.lifted.now) objects.now (cond_view cond.now)) }
+{
+    let mut room = Vec::new(alloc);
+    settled_in(statics, &mut room, cond, objects)
 }

@@ -6,7 +6,4 @@ use Rattle.kp_ground.proofs.actions.all_actions.Given as goal
 
 -- with the instances that are left come all
 abbrev pub invariant-loop-one : goal.invariant-loop-one
-invariant-loop-one l = record {
-  problem : l.flattener.statics ≡ l.fn.flattener.statics;
-  actions : l.row ++ map (action_at (problem_of l.fn.flattener.statics.now) l.atoms) (map kept_view (drop l.one-index l.kept)) ≡ map (action_at (problem_of l.fn.flattener.statics.now) l.atoms) (map kept_view l.kept);
-}
+invariant-loop-one l = l.row ++ map (action_at (problem_of l.statics) l.atoms) (map kept_view (drop l.one-index l.kept)) ≡ map (action_at (problem_of l.statics) l.atoms) (map kept_view l.kept)

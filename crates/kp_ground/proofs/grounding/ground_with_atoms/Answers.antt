@@ -1,6 +1,7 @@
-use Rattle.std.proofs.Common.{ap, ◌∙◌}
+use Rattle.std.proofs.Common.{sym, ap, subst, ◌∙◌}
 use Rattle.std.proofs.lemmas.Result.{err_from_is_err_and}
-use Rattle.kp_grounding.specs.Ground.{ground_over}
+use Rattle.kp_grounding.specs.Ground.{ground_over, IsNumbering}
+use Rattle.kp_grounding.proofs.Atoms.{atoms_are_numbered}
 use Rattle.kp_bound.specs.Problem.{problem_of}
 use Rattle.kp_ground.proofs.Kept.{counts_stop, atoms_stop}
 use Rattle.kp_ground.proofs.grounding.ground_with_atoms.Goals as goal
@@ -28,3 +29,9 @@ pub returns-in_err-atoms : goal.returns-in_err-atoms
 returns-in_err-atoms c =
     let p = err_from_is_err_and c.from_residual-in_err-atoms.result c.from_residual-in_err-atoms.ensures.1 in
     rw (p.1, p.2) (atoms_stop (problem_of c.args.statics.now) c.args.limits.now c.in_err-atoms.field-0.0 c.in_ok-kept.ensures.within c.in_err-atoms.ensures)
+
+-- the ground atoms are numbered by their places
+pub over_atoms-requires-clause-numbering : goal.over_atoms-requires-clause-numbering
+over_atoms-requires-clause-numbering c =
+    let l = problem_of c.args.statics.now in
+    subst (IsNumbering l) (sym c.in_ok-atoms.ensures.0) (atoms_are_numbered l).numbering

@@ -1,17 +1,12 @@
-use Rattle.std.proofs.Common.{List, ◌+◌, ◌++◌, drop, not, filter, sym, ap, ◌∙◌}
-use Rattle.kp_base.specs.declared.ground.Effect.{Effect}
-use Rattle.kp_grounding.specs.Ground.{is_idle}
-use Rattle.kp_ground.specs.Adds.{adds_at}
-use Rattle.kp_ground.proofs.LoopSteps.{drop_item}
-use Rattle.kp_ground.proofs.Idle.{lasting_more}
+use Rattle.std.proofs.Common.{not, map, refl, sym, ◌∙◌}
+use Rattle.kp_base.proofs.Lists.{any_map}
+use Rattle.kp_ground.specs.Made.{made_effect}
+use Rattle.kp_ground.proofs.Idle.{none_idle}
 use Rattle.kp_ground.proofs.lasting.lasting_effects.Goals as goal
 
--- the effect comes next, unless it is an idle delete
-pub loop-effect-preserved : goal.loop-effect-preserved
-loop-effect-preserved c =
-    let es = c.args.effects.now in
-    let i = c.loop-effect.effect-index in
-    let e = c.effect-item.result in
-    lasting_more c.args.pre.now es c.loop-effect.row c.keep.new.row e (drop (i + 1) es) (adds_at c.in_ok-adds.adds e.result.atom.0) (c.in_ok-adds.ensures e.result.atom.0) c.in_ok-keep.ensures
-    ∙ (ap (λ (rest : List Effect). c.loop-effect.row ++ filter (λ d. not (is_idle c.args.pre.now es d)) rest) (sym (drop_item es i e c.loop-effect-test.true c.effect-item.is))
-    ∙ c.loop-effect.invariant)
+-- no add is idle
+pub returns : goal.returns
+returns c =
+    let es = map made_effect c.args.effects.now in
+    let none = any_map made_effect (λ e. not e.result.positive) (λ made. not made.effect.result.positive) c.args.effects.now (λ made. refl) ∙ (sym c.some_delete.ensures ∙ c.if-some_delete.false) in
+    c.in_ok-row.ensures ∙ sym (none_idle c.args.pre.now es es none)

@@ -9,6 +9,6 @@ use Rattle.kp_ground.proofs.occurring.add_kept.Given as goal
 -- with the instances that are left come all
 abbrev pub invariant-loop-one : goal.invariant-loop-one
 invariant-loop-one l = record {
-  problem : l.flattener.statics ≡ l.fn.flattener.statics;
-  atoms : gather l.limit l.atoms (flat_map (literals_at (problem_of l.fn.flattener.statics.now)) (map kept_view (drop l.one-index l.kept))) ≡ gather l.limit l.fn.atoms (flat_map (literals_at (problem_of l.fn.flattener.statics.now)) (map kept_view l.kept));
+  limit : l.into.limit ≡ l.fn.into.limit;
+  atoms : gather l.fn.into.limit l.into.atoms (flat_map (literals_at (problem_of l.statics)) (map kept_view (drop l.one-index l.kept))) ≡ gather l.fn.into.limit l.fn.into.atoms (flat_map (literals_at (problem_of l.statics)) (map kept_view l.kept));
 }

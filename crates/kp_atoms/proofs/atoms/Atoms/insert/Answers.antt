@@ -1,11 +1,14 @@
-use Rattle.std.proofs.Common.{◌≡◌, ◌∙◌, ap, subst, map}
-use Rattle.kp_base.proofs.Lists.{gathered}
-use Rattle.kp_grounding.specs.Ground.{same_atom}
-use Rattle.kp_atoms.specs.Gathered.{kept_atom, with_atom}
+use Rattle.std.proofs.Common.{◌≡◌, ◌∙◌, refl, sym, ap, map, true, if◌then◌else◌, Bool, ◌++◌, ◌∷◌, []}
+use Rattle.kp_base.proofs.Lists.{any_map}
+use Rattle.kp_meaning.specs.Lifted.{ground}
+use Rattle.kp_grounding.specs.Ground.{atom_of, same_atom, has_atom}
+use Rattle.kp_atoms.specs.Gathered.{kept_atom}
 use Rattle.kp_atoms.proofs.atoms.Atoms.insert.Goals as goal
 
--- the new keys are the atoms with the one that the literal names
-pub returns : goal.returns
-returns c =
-    let added = ap (map kept_atom) c.in_ok-insert.ensures.keys ∙ gathered same_atom kept_atom c.self.inside.set.keys c.in_ok-key_of.field-0 in
-    rw (← c.self.view_is) (subst (λ a. map kept_atom c.insert.new.self.keys ≡ with_atom (map kept_atom c.self.inside.set.keys) a) c.in_ok-key_of.ensures added)
+-- an atom that is there doesn't come again
+pub returns-then-contains : goal.returns-then-contains
+returns-then-contains c =
+    let a = atom_of (ground true c.args.parts.now.pred c.args.parts.now.objects.now) in
+    let old = map kept_atom c.self.inside.set.keys in
+    let there : has_atom old a ≡ true = any_map kept_atom (same_atom a) (λ k. same_atom a (kept_atom k)) c.self.inside.set.keys (λ k. refl) ∙ (sym c.contains.ensures ∙ c.if-contains.true) in
+    rw (← c.self.view_is) (sym (ap (λ (b : Bool). if b then old else old ++ a ∷ []) there))

@@ -1,0 +1,23 @@
+use Rattle.std.proofs.Common.{◌≡◌, List, refl, sym, ap, ap₂, map, ◌∙◌}
+use Rattle.kp_base.specs.declared.ground.Effect.{Effect}
+use Rattle.kp_base.specs.LitSet.{set_of}
+use Rattle.kp_base.proofs.Lists.{map_map}
+use Rattle.kp_grounding.specs.declared.flat.Atom.{Atom}
+use Rattle.kp_grounding.specs.declared.flat.FlatEffect.{FlatEffect}
+use Rattle.kp_grounding.specs.Ground.{numbered, numbered_effect}
+use Rattle.kp_bound.specs.Literals.{lit_view}
+use Rattle.kp_ground.specs.Made.{with_made}
+use Rattle.kp_ground.proofs.numbered.NumberingSink.take.Goals as goal
+
+pub returns : goal.returns
+returns c =
+    let atoms = c.self.inside.atoms.now in
+    let told : FlatEffect = record { cond = map lit_view c.args.conds.now; result = lit_view c.args.made.now } in
+    let made : Effect = record { cond = c.in_ok-set_by_number.field-0; result = c.by_number.result } in
+    let same : made ≡ numbered_effect atoms told =
+    ap₂ (λ s r. (let e : Effect = record { cond = s; result = r } in e))
+    (c.in_ok-set_by_number.ensures ∙ ap set_of (sym (map_map lit_view (numbered atoms) (λ l. numbered atoms (lit_view l)) c.args.conds.now (λ l. refl))))
+    c.by_number.ensures
+    in
+    let at : c.args.self.now.0 ≡ atoms = ap (λ (v : List Atom × List Effect). v.0) (sym c.self.view_is) in
+    c.in_ok-add.ensures ∙ ap (λ (e : Effect). (c.args.self.now.0, with_made c.args.self.now.1 e)) (same ∙ ap (λ (as' : List Atom). numbered_effect as' told) (sym at))
