@@ -1,7 +1,8 @@
-ghost use Rattle.std.specs.Prelude.{◌≡◌, ◌≤◌, Some, List, ℕ, IfOk, length};
+ghost use Rattle.std.specs.Prelude.{◌≡◌, ◌≤◌, Some, Err, List, ℕ, IfOk, IfErr, length};
 ghost use Rattle.kp_base.specs.declared.refused.Refused.TheVariants as refusals;
 ghost use Rattle.kp_base.specs.declared.refused.Stop.TheVariants as causes;
 ghost use Rattle.kp_base.specs.Implicates.{IsOfItsAtoms};
+ghost use Rattle.kp_base.specs.Exclusive.{IsClashFree};
 ghost use Rattle.kp_clash.specs.Counted.{IsCounted};
 ghost use Rattle.kp_meaning.specs.Numbered.{Lifted as Numbers};
 ghost use Rattle.kp_grounding.specs.Ground.{ground_atoms, ground_of};
@@ -9,6 +10,7 @@ ghost use Rattle.kp_init.specs.Initial.{initial_of};
 ghost use Rattle.kp_names.specs.View.{lifted_view};
 ghost use Rattle.kp_outside.specs.Outside.{IsFront, IsWithin};
 ghost use Rattle.kp_primes.specs.Answers.{HoldsPrimes};
+ghost use Rattle.kp_primes.specs.Held.{formula};
 ghost use Rattle.kp_prepared.specs.Prepared.{AnswersPrepared, IsUsable};
 ghost use Rattle.kp_prepared.specs.Refusing.{named_in, EndsBy};
 ghost use Rattle.kp_prepared.specs.Numbered.{AnswersGround, AnswersNumbers};
@@ -33,6 +35,20 @@ fn ended_at_clash(alloc: Global, ground: &Ground, at: ClashAt) -> Early
     ended_in(alloc, ground, Stop::Refused(Refused::Clash(at)))
 }
 
+// Nothing where no action clashes under the exclusive pairs, or how a command ends at the first clash.
+fn judge_clashes(alloc: Global, ground: &Ground, primes: &Primes) -> Result<(), Early>
+    requires counted { IsCounted ground.now }
+    requires atoms { primes.now.atoms ≡ length ground.now.atoms }
+    ensures free { IfOk result (λ _. IsClashFree ground.now (formula primes.now)) }
+    ensures ends { (l : Numbers) (limit : ℕ) → ground.now ≡ ground_of l → HoldsPrimes (initial_of l) (length ground.now.atoms) limit primes.now → IfErr result (λ e. AnswersGround limit l (Err e)) }
+{
+    let pairs = exclusive(alloc, ground, primes)?;
+    match clash_test(ground, &pairs) {
+        Ok(()) => Ok(()),
+        Err(at) => Err(ended_at_clash(alloc, ground, at)),
+    }
+}
+
 // What a command goes on with, if no action clashes.
 fn without_clash(alloc: Global, ground: Ground, primes: Primes) -> Result<Prepared, Early>
     requires counted { IsCounted ground }
@@ -41,10 +57,9 @@ fn without_clash(alloc: Global, ground: Ground, primes: Primes) -> Result<Prepar
     ensures usable { IfOk result IsUsable }
     ensures answers { (l : Numbers) (limit : ℕ) → ground ≡ ground_of l → HoldsPrimes (initial_of l) (length ground.atoms) limit primes → AnswersGround limit l result }
 {
-    let pairs = exclusive(alloc, &ground, &primes)?;
-    match clash_test(&ground, &pairs) {
+    match judge_clashes(alloc, &ground, &primes) {
         Ok(()) => Ok(Prepared { ground, primes }),
-        Err(at) => Err(ended_at_clash(alloc, &ground, at)),
+        Err(early) => Err(early),
     }
 }
 
