@@ -3,7 +3,7 @@ ghost use Rattle.std.specs.List.{list_any};
 ghost use Rattle.kp_base.specs.Lists.{Member};
 ghost use Rattle.kp_base.specs.Implicates.{is_within};
 ghost use Rattle.kp_clauses.specs.Stored.{subsumed, AreNeeded};
-ghost use Rattle.kp_clauses.specs.Sieved.{key_of, keys, stands, tried, common_at, narrowed, AreKept, AreMarked, IsMark, IsUnlike};
+ghost use Rattle.kp_clauses.specs.Sieved.{key_of, keys, stands, tried, common_at, narrowed, AreKept, AreMarked, IsMark, IsSieve, IsUnlike};
 ghost use Rattle.kp_clauses.specs.Listed.{row};
 ghost use Rattle.kp_clauses.specs.Rests.{AreRests};
 
@@ -128,13 +128,14 @@ impl Sieve {
         ensures ok { OnOk result (self.new ≡ self.old ++ clause ∷ []) }
         ensures err { OnErr result (self.new ≡ self.old) }
     {
-        let spot = Spot {
-            mark: mark(&clause),
-            place: self.clauses.len(),
-        };
-        put_mark(&mut self.marks, spot.place, spot.mark)?;
-        let key = choose(&self.lists, &clause);
-        note(self.alloc, &mut self.lists, key, spot)?;
+        let clauses = self.clauses.slice();
+        note_clause(
+            self.alloc,
+            &mut self.lists,
+            &mut self.marks,
+            clauses,
+            &clause,
+        )?;
         self.clauses.push(clause)?;
         Ok(())
     }
@@ -279,6 +280,28 @@ fn note(alloc: Global, lists: &mut Vec<Row<Spot>>, key: usize, spot: Spot) -> Re
 {
     make_lists(alloc, lists, key)?;
     lists[key].push(spot)?;
+    Ok(())
+}
+
+// Puts in a spot and the mark of a clause that is to stand behind the others.
+fn note_clause(
+    alloc: Global,
+    lists: &mut Vec<Row<Spot>>,
+    marks: &mut Vec<u64>,
+    clauses: &[LitSet],
+    c: &LitSet,
+) -> Result<(), Memory>
+    requires { IsSieve lists.old.items marks.old.items clauses.now }
+    ensures same { IsSieve lists.new.items marks.new.items clauses.now }
+    ensures more { OnOk result (IsSieve lists.new.items marks.new.items (clauses.now ++ c.now ∷ [])) }
+{
+    let spot = Spot {
+        mark: mark(c),
+        place: clauses.len(),
+    };
+    put_mark(marks, spot.place, spot.mark)?;
+    let key = choose(lists, c);
+    note(alloc, lists, key, spot)?;
     Ok(())
 }
 
