@@ -249,7 +249,7 @@ fn of_action(pairs: &Pairs, any: &Tables, action: &Action) -> Option<(AtomId, At
     if is_small(action) {
         of_effects(pairs, action, any)
     } else {
-        let tables = Tables::of(action);
+        let tables = Tables::of(pairs, action);
         of_effects(pairs, action, &tables)
     }
 }
