@@ -119,8 +119,8 @@ fn first_in_word(
     None
 }
 
-/// The other atom of the first pair, from an atom on, that the effect breaks alone.
-pub(crate) fn next_alone(
+// The other atom of the first pair, from an atom on, that the effect breaks alone.
+fn next_alone(
     pairs: &Pairs,
     action: &Action,
     tables: &Tables,
