@@ -15,9 +15,7 @@ use Rattle.kp_base.specs.Lit.{positive, negative, same_lit, has}
 use Rattle.kp_base.specs.Clashes.{Pairs, are_compatible, compatible_effects}
 use Rattle.kp_base.specs.Exclusive.{firing_with}
 use Rattle.kp_base.proofs.Lists.{all_member, all_weaker, any_weaker, any_from, any_member}
-use Rattle.kp_base.proofs.Lits.{same_lit-true}
 use Rattle.kp_bits.specs.Packed.{bit_in}
-use Rattle.kp_clash.specs.Searching.{may_be_deleted, is_noted, all_noted}
 use Rattle.kp_clash.specs.Settled.{deletes_within, keeps_apart}
 use Rattle.kp_clash.specs.Left.{KeepsBits, is_added, all_added, AreDeleted}
 use Rattle.kp_clash.specs.Removed.{breaks, adds_pair, BreaksNone}
@@ -71,14 +69,6 @@ delete_breaks_none pairs a e sign = record {
   alone = λ q. ap (λ b. b && (pairs e.result.atom.0 q && not (keeps_apart pairs e.result.atom.0 q a e))) sign;
   together = delete_adds_none pairs a e sign;
 }
-
--- ---- atoms that are deleted
-
-pub never_deletes : (slots : List Bool) (a : Action) (q : ℕ) (ls : List Lit) → all_noted slots a.effects ≡ true → may_be_deleted slots q ≡ false → deletes_within a q ls ≡ false
-never_deletes slots a q ls noted free = false_from_ne_true (deletes_within a q ls) (λ h.
-    let x = any_member (λ d. same_lit d.result (negative q) && is_within d.cond ls) a.effects h in
-    let same = same_lit-true x.0.result (negative q) (and_parts (same_lit x.0.result (negative q)) (is_within x.0.cond ls) x.2).0 in
-    false≢true (sym free ∙ (ap (λ (l : Lit). l.positive || may_be_deleted slots l.atom.0) (sym same) ∙ all_member (is_noted slots) a.effects x.0 x.1 noted)))
 
 -- ---- atoms that are surely deleted
 

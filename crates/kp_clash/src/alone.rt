@@ -8,7 +8,7 @@ ghost use Rattle.kp_clash.specs.Left.{AreNoted};
 
 use crate::Pairs;
 use crate::broken::breaks;
-use crate::left::candidates;
+use crate::left::likely;
 use crate::pairs::words_of;
 use crate::tables::Tables;
 use crate::touched::Touched;
@@ -76,7 +76,7 @@ fn clear_word(
     requires few { k < 1024 }
     ensures { Shrinks (action.now ∷ []) pairs.old pairs.new }
 {
-    let word = candidates(pairs, action, &tables.sure, effect, k);
+    let word = likely(pairs, action, &tables.sure, &tables.left, effect, k);
     if word == 0 {
         return;
     }

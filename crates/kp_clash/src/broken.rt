@@ -119,8 +119,8 @@ fn first_in_word(
     None
 }
 
-/// The other atom of the first pair, from an atom on, that the effect breaks alone.
-pub(crate) fn next_alone(
+// The other atom of the first pair, from an atom on, that the effect breaks alone.
+fn next_alone(
     pairs: &Pairs,
     action: &Action,
     tables: &Tables,
@@ -249,7 +249,7 @@ fn of_action(pairs: &Pairs, any: &Tables, action: &Action) -> Option<(AtomId, At
     if is_small(action) {
         of_effects(pairs, action, any)
     } else {
-        let tables = Tables::of(action);
+        let tables = Tables::of(pairs, action);
         of_effects(pairs, action, &tables)
     }
 }

@@ -7,6 +7,7 @@ ghost use Rattle.kp_clash.specs.Paired.{is_pair};
 ghost use Rattle.kp_clash.specs.Left.{AreDeleted, HasBreaking, KeepsFree};
 
 use crate::Pairs;
+use crate::pairs::words_of;
 use crate::words::WORDS;
 use kp_base::{Action, Effect, Lit};
 use kp_bits::only_here;
@@ -60,4 +61,40 @@ pub(crate) fn candidates(
     }
     let left = leave(pairs, action.pre.slice(), k, word);
     leave(pairs, effect.cond.slice(), k, left)
+}
+
+/// The atoms that these literals don't exclude, if they are more than eight.
+pub(crate) fn left_by_long(pairs: &Pairs, lits: &[Lit]) -> [u64; WORDS] {
+    let mut words = [0u64; WORDS];
+    if lits.len() > 8 {
+        for k in 0..words_of(pairs.atoms()) {
+            words[k as usize] = leave(pairs, lits, k, u64::MAX);
+        }
+    }
+    words
+}
+
+/// The same as `candidates`, where it is noted which atoms a long precondition left before; those that it leaves since are
+/// missing.
+pub(crate) fn likely(
+    pairs: &Pairs,
+    action: &Action,
+    sure: &[u64; WORDS],
+    left: &[u64; WORDS],
+    effect: &Effect,
+    k: u32,
+) -> u64
+    requires { k < 1024 }
+{
+    let word = only_here(pairs.row_word(effect.result.atom, k), sure[k as usize]);
+    if word == 0 {
+        return 0;
+    }
+    let pre = action.pre.slice();
+    let free = if pre.len() > 8 {
+        word & left[k as usize]
+    } else {
+        leave(pairs, pre, k, word)
+    };
+    leave(pairs, effect.cond.slice(), k, free)
 }

@@ -92,7 +92,7 @@ fn clear_large(
     requires { are_compatible (is_pair pairs.old) action.now.pre ≡ true }
     ensures { Shrinks (action.now ∷ []) pairs.old pairs.new }
 {
-    let tables = Tables::of(action);
+    let tables = Tables::of(pairs, action);
     asking.fill(action);
     clear_effects(pairs, last, next, asking, action, &tables);
     asking.empty(action);

@@ -3,10 +3,12 @@ ghost use Rattle.std.specs.Prelude.{◌≡◌, ◌≤◌, true, length};
 ghost use Rattle.kp_base.specs.declared.ground.Action.{Action as ActionOf};
 ghost use Rattle.kp_clash.specs.Left.{AreNoted};
 
+use crate::Pairs;
 use crate::added::atoms_added;
 use crate::asked::atoms_asked;
 use crate::between::spans_of;
 use crate::deleted::SLOTS;
+use crate::left::left_by_long;
 use crate::sure::atoms_deleted;
 use crate::words::WORDS;
 use kp_base::Action;
@@ -19,10 +21,12 @@ pub(crate) struct Tables {
     pub(crate) asked: [u64; WORDS],
     pub(crate) added: [u64; WORDS],
     pub(crate) sure: [u64; WORDS],
+    // The atoms that a long precondition doesn't exclude; no clause speaks of it.
+    pub(crate) left: [u64; WORDS],
 }
 
 impl Tables {
-    pub(crate) fn of(action: &Action) -> Tables
+    pub(crate) fn of(pairs: &Pairs, action: &Action) -> Tables
         ensures { AreNoted result.firsts result.ends result.asked result.added result.sure action.now }
     {
         let (firsts, ends) = spans_of(action.effects.slice());
@@ -32,6 +36,7 @@ impl Tables {
             asked: atoms_asked(action.pre.slice()),
             added: atoms_added(action.effects.slice()),
             sure: atoms_deleted(action),
+            left: left_by_long(pairs, action.pre.slice()),
         }
     }
 
@@ -45,6 +50,7 @@ impl Tables {
             asked: [u64::MAX; WORDS],
             added: [u64::MAX; WORDS],
             sure: [0; WORDS],
+            left: [0; WORDS],
         }
     }
 }
