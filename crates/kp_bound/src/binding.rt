@@ -1,5 +1,5 @@
 ghost use Rattle.std.specs.Prelude.{◌≡◌, ◌<◌, ◌++◌, Some, length, map, IfOk, OnOk};
-ghost use Rattle.kp_meaning.specs.Lifted.{object_of};
+ghost use Rattle.kp_meaning.specs.Lifted.{bindings, object_of};
 ghost use Rattle.kp_meaning.specs.Numbered.{Eff as Effect};
 ghost use Rattle.kp_names.specs.View as owned;
 ghost use Rattle.kp_names.specs.View.{lifted_view};
@@ -10,13 +10,13 @@ use crate::node::{BoundCond, BoundEff, BoundNode};
 use bumpalo::Bump;
 use bumpalo::collections::into_bump_slice;
 use kp_base::{Memory, Row};
-use kp_kept::{all_bindings, object_of};
-use kp_meaning::Term;
+use kp_kept::{binding_total, fill_binding, object_of};
+use kp_meaning::{Range, Term};
 use kp_names::{Cond, Eff, Lifted, Schema};
 use std::alloc::Global;
 
-/// The objects that terms stand for, in the arena.
-pub fn bound_terms<'a>(bump: &'a Bump, objects: &[u32], terms: &[Term]) -> Result<&'a [u32], Memory>
+// The objects that terms stand for, in the arena.
+fn bound_terms<'a>(bump: &'a Bump, objects: &[u32], terms: &[Term]) -> Result<&'a [u32], Memory>
     ensures { IfOk result (λ os. os.now ≡ map (object_of objects.now) terms.now) }
 {
     let mut bound = Vec::with_capacity(bump, terms.len())?;
@@ -26,9 +26,13 @@ pub fn bound_terms<'a>(bump: &'a Bump, objects: &[u32], terms: &[Term]) -> Resul
     Ok(into_bump_slice(bound))
 }
 
-// A condition under a binding.
+/// A condition under a binding, in the arena.
 #[cycle(conds)]
-fn condition<'a>(bump: &'a Bump, objects: &[u32], cond: &Cond) -> Result<BoundCond<'a>, Memory>
+pub(crate) fn condition<'a>(
+    bump: &'a Bump,
+    objects: &[u32],
+    cond: &Cond,
+) -> Result<BoundCond<'a>, Memory>
     ensures { IfOk result (λ c. cond_view c ≡ bound_cond objects.now (owned.cond_view cond.now)) }
 {
     match cond {
@@ -81,9 +85,9 @@ fn under<'a>(
     Ok(BoundEff::When(cond, bump.try_alloc(body)?))
 }
 
-// An effect under a binding, which is the same afterwards.
+/// An effect under a binding, which is the same afterwards, in the arena.
 #[cycle(effs)]
-fn effect<'a>(
+pub(crate) fn effect<'a>(
     bump: &'a Bump,
     alloc: Global,
     objects: &mut Vec<u32>,
@@ -100,8 +104,8 @@ fn effect<'a>(
             under(bump, cond, body)
         }
         Eff::Each(ranges, body) => {
-            let inners = all_bindings(alloc, ranges.slice())?;
-            Ok(BoundEff::All(bodies(bump, alloc, objects, inners.slice(), body)?))
+            let ranges = ranges.slice();
+            Ok(BoundEff::All(bodies(bump, alloc, objects, ranges, body)?))
         }
         Eff::Atom {
             positive,
@@ -152,21 +156,24 @@ fn body<'a>(
     Ok(bound)
 }
 
-// The body for each of some lists of objects.
+// The body for each list of objects of some ranges.
 #[cycle(effs)]
 fn bodies<'a>(
     bump: &'a Bump,
     alloc: Global,
     objects: &mut Vec<u32>,
-    inners: &[Row<u32>],
+    ranges: &[Range],
     eff: &Eff,
 ) -> Result<&'a [BoundEff<'a>], Memory>
     ensures kept { OnOk result (objects.new.items ≡ objects.old.items) }
-    ensures bound { IfOk result (λ es. map eff_view es.now ≡ map (λ os. bound_eff (objects.old.items ++ os) (owned.eff_view eff.now)) inners.now) }
+    ensures bound { IfOk result (λ es. map eff_view es.now ≡ map (λ os. bound_eff (objects.old.items ++ os) (owned.eff_view eff.now)) (bindings ranges.now)) }
 {
-    let mut bound = Vec::with_capacity(bump, inners.len())?;
-    'inners: for inner in inners {
-        bound.push(body(bump, alloc, objects, inner.slice(), eff)?)?;
+    let total = binding_total(ranges)?;
+    let mut bound = Vec::with_capacity(bump, total)?;
+    let mut inner = Vec::new(alloc);
+    'numbers: for number in 0..total {
+        fill_binding(&mut inner, ranges, number)?;
+        bound.push(body(bump, alloc, objects, inner.as_slice(), eff)?)?;
     }
     Ok(into_bump_slice(bound))
 }

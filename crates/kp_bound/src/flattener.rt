@@ -2,6 +2,7 @@ ghost use Rattle.std.specs.Prelude.{◌≡◌, ◌<◌, Some, length, IfOk};
 ghost use Rattle.kp_bound.specs.Bound.{flat_at};
 ghost use Rattle.kp_bound.specs.Problem.{problem_of};
 
+use crate::arena::give_up;
 use crate::binding::bind;
 use crate::flattening::flatten_over;
 use bumpalo::Bump;
@@ -56,12 +57,10 @@ impl<'s, 'l> Flattener<'s, 'l> {
         flat
     }
 
-    // Gives up the tree. Where the arena refuses, a new one takes its place.
+    // Gives up the tree.
     fn clear(&mut self, alloc: Global)
         ensures { self.new.statics ≡ self.old.statics }
     {
-        if self.bump.reset().is_err() {
-            self.bump = Bump::new(alloc);
-        }
+        give_up(&mut self.bump, alloc);
     }
 }

@@ -64,8 +64,12 @@ fn add_flat<'a>(
     }
 }
 
-// The literals of a precondition that aren't static, in text order.
-fn precondition(alloc: Global, statics: &Statics, pre: &BoundCond) -> Result<Row<GroundLit>, Memory>
+/// The literals of a condition that aren't static, in text order.
+pub(crate) fn precondition(
+    alloc: Global,
+    statics: &Statics,
+    pre: &BoundCond,
+) -> Result<Row<GroundLit>, Memory>
     ensures { IfOk result (λ row. row ≡ remaining (problem_of statics.now) [] (cond_view pre.now)) }
 {
     let mut conds = Conditions::new(alloc);

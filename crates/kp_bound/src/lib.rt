@@ -1,6 +1,7 @@
 //! The tree of an instance in an arena, and its flat form. `specs/Bound.antt` says what they are.
 #![tactic(auto)]
 
+mod arena;
 mod binding;
 mod conditions;
 mod effects;

@@ -1,182 +1,74 @@
-//! The flat effects of an effect under a binding, with no tree.
+//! The flat effects of an instance, handed over one by one. Their trees lie in an arena, part by part.
 
-ghost use Rattle.std.specs.Prelude.{◌≡◌, ◌++◌, map, fold, IfOk, OnOk};
+ghost use Rattle.std.specs.Prelude.{◌≡◌, ◌++◌, [], map, fold, IfOk, OnOk};
 ghost use Rattle.std.specs.List.{flat_map};
 ghost use Rattle.kp_meaning.specs.Lifted.{bindings};
-ghost use Rattle.kp_names.specs.View.{cond_view, eff_view};
+ghost use Rattle.kp_names.specs.View as owned;
 ghost use Rattle.kp_grounding.specs.Static.{remaining};
 ghost use Rattle.kp_grounding.specs.Flattening.{under, flat};
+ghost use Rattle.kp_bound.specs.Nodes.{eff_view};
 ghost use Rattle.kp_bound.specs.Problem.{problem_of};
 
-use crate::binding::bound_terms;
+use crate::arena::give_up;
+use crate::binding::{condition, effect};
 use crate::conditions::Conditions;
+use crate::evaluating::{add_remaining, is_settled};
+use crate::flattening::precondition;
 use crate::literal::BoundLit;
+use crate::node::BoundEff;
 use crate::sink::Sink;
 use bumpalo::Bump;
 use kp_base::{Memory, Row};
-use kp_kept::{Statics, binding_total, fill_binding, put_objects, settled_in};
+use kp_kept::{Statics, binding_total, fill_binding};
 use kp_meaning::{GroundLit, Range};
 use kp_names::{Cond, Eff};
 use std::alloc::Global;
 
-/// Adds the literals of a condition under a binding that aren't static, in text order, with their objects in the arena.
-pub fn add_left<'a>(
-    bump: &'a Bump,
-    statics: &Statics,
-    objects: &[u32],
-    cond: &Cond,
-    conds: &mut Conditions<'a>,
-) -> Result<(), Memory>
-    ensures { OnOk result (conds.new ≡ conds.old ++ remaining (problem_of statics.now) objects.now (cond_view cond.now)) }
-{
-    match cond {
-        Cond::All(parts) => {
-            'parts: for part in parts.slice() {
-                add_left(bump, statics, objects, part, conds)?;
-            }
-            Ok(())
-        }
-        Cond::Atom {
-            positive,
-            pred,
-            terms,
-        } => {
-            if statics.is_static(*pred) {
-                return Ok(());
-            }
-            let objects = bound_terms(bump, objects, terms.slice())?;
-            conds.push(BoundLit {
-                positive: *positive,
-                pred: *pred,
-                objects,
-            })
-        }
-        Cond::Same { .. } => Ok(()),
-    }
-}
-
-// Hands over the flat effects of an effect under a binding and further conditions, which both are the same afterwards.
-#[cycle(walks)]
-fn walk<'a, S: Sink>(
-    bump: &'a Bump,
+// Hands over the flat effects of a bound effect under further conditions, which are the same afterwards.
+fn hand_bound<'a, S: Sink>(
     alloc: Global,
     statics: &Statics,
-    room: &mut Vec<u32>,
-    objects: &mut Vec<u32>,
+    eff: &BoundEff<'a>,
     conds: &mut Conditions<'a>,
     sink: &mut S,
-    eff: &Eff,
 ) -> Result<(), Memory>
-    ensures binding { OnOk result (objects.new.items ≡ objects.old.items) }
-    ensures conds { OnOk result (conds.new ≡ conds.old) }
-    ensures taken { OnOk result (sink.new ≡ fold S.takes sink.old (map (under conds.old) (flat (problem_of statics.now) objects.old.items (eff_view eff.now)))) }
+    ensures kept { OnOk result (conds.new ≡ conds.old) }
+    ensures taken { OnOk result (sink.new ≡ fold S.takes sink.old (map (under conds.old) (flat (problem_of statics.now) [] (eff_view eff.now)))) }
 {
     match eff {
-        Eff::All(parts) => {
-            'parts: for part in parts.slice() {
-                walk(bump, alloc, statics, room, objects, conds, sink, part)?;
+        BoundEff::All(parts) => {
+            'parts: for part in *parts {
+                hand_bound(alloc, statics, part, conds, sink)?;
             }
             Ok(())
         }
-        Eff::When(cond, body) => {
-            if !settled_in(statics, room, cond, objects.as_slice())? {
+        BoundEff::When(cond, body) => {
+            if !is_settled(statics, cond) {
                 return Ok(());
             }
             let outer = conds.len();
-            add_left(bump, statics, objects.as_slice(), cond, conds)?;
-            walk(bump, alloc, statics, room, objects, conds, sink, body)?;
+            add_remaining(statics, cond, conds)?;
+            hand_bound(alloc, statics, body, conds, sink)?;
             conds.truncate(outer);
             Ok(())
         }
-        Eff::Each(ranges, body) => walk_each(
-            bump,
-            alloc,
-            statics,
-            room,
-            objects,
-            conds,
-            sink,
-            ranges.slice(),
-            body,
-        ),
-        Eff::Atom {
+        BoundEff::Atom {
             positive,
             pred,
             terms,
         } => {
-            put_objects(room, objects.as_slice(), terms.slice())?;
             let made = BoundLit {
                 positive: *positive,
                 pred: *pred,
-                objects: room.as_slice(),
+                objects: *terms,
             };
             sink.take(alloc, conds.slice(), &made)
         }
     }
 }
 
-// Hands over those of the body for each list of objects.
-#[cycle(walks)]
-fn walk_each<'a, S: Sink>(
-    bump: &'a Bump,
-    alloc: Global,
-    statics: &Statics,
-    room: &mut Vec<u32>,
-    objects: &mut Vec<u32>,
-    conds: &mut Conditions<'a>,
-    sink: &mut S,
-    ranges: &[Range],
-    eff: &Eff,
-) -> Result<(), Memory>
-    ensures binding { OnOk result (objects.new.items ≡ objects.old.items) }
-    ensures conds { OnOk result (conds.new ≡ conds.old) }
-    ensures taken { OnOk result (sink.new ≡ fold S.takes sink.old (flat_map (λ os. map (under conds.old) (flat (problem_of statics.now) (objects.old.items ++ os) (eff_view eff.now))) (bindings ranges.now))) }
-{
-    let total = binding_total(ranges)?;
-    let mut inner = Vec::new(alloc);
-    'numbers: for number in 0..total {
-        fill_binding(&mut inner, ranges, number)?;
-        walk_inner(
-            bump,
-            alloc,
-            statics,
-            room,
-            objects,
-            conds,
-            sink,
-            inner.as_slice(),
-            eff,
-        )?;
-    }
-    Ok(())
-}
-
-// Hands over those of the body under the binding and more objects behind it.
-#[cycle(walks)]
-fn walk_inner<'a, S: Sink>(
-    bump: &'a Bump,
-    alloc: Global,
-    statics: &Statics,
-    room: &mut Vec<u32>,
-    objects: &mut Vec<u32>,
-    conds: &mut Conditions<'a>,
-    sink: &mut S,
-    inner: &[u32],
-    eff: &Eff,
-) -> Result<(), Memory>
-    ensures binding { OnOk result (objects.new.items ≡ objects.old.items) }
-    ensures conds { OnOk result (conds.new ≡ conds.old) }
-    ensures taken { OnOk result (sink.new ≡ fold S.takes sink.old (map (under conds.old) (flat (problem_of statics.now) (objects.old.items ++ inner.now) (eff_view eff.now)))) }
-{
-    let outer = objects.len();
-    objects.extend_from_slice(inner)?;
-    walk(bump, alloc, statics, room, objects, conds, sink, eff)?;
-    objects.truncate(outer);
-    Ok(())
-}
-
-// Hands over the flat effects of an effect under a binding; the conditions' objects lie in the arena.
-fn walk_from<S: Sink>(
+// Hands over the flat effects of an effect under a binding, which is the same afterwards. Its tree lies in the arena.
+fn hand_tree<S: Sink>(
     bump: &Bump,
     alloc: Global,
     statics: &Statics,
@@ -184,42 +76,147 @@ fn walk_from<S: Sink>(
     sink: &mut S,
     eff: &Eff,
 ) -> Result<(), Memory>
-    ensures { OnOk result (sink.new ≡ fold S.takes sink.old (flat (problem_of statics.now) objects.old.items (eff_view eff.now))) }
+    ensures binding { OnOk result (objects.new.items ≡ objects.old.items) }
+    ensures taken { OnOk result (sink.new ≡ fold S.takes sink.old (flat (problem_of statics.now) objects.old.items (owned.eff_view eff.now))) }
 {
+    let tree = effect(bump, alloc, objects, eff)?;
     let mut conds = Conditions::new(alloc);
-    let mut room = Vec::new(alloc);
-    walk(
-        bump, alloc, statics, &mut room, objects, &mut conds, sink, eff,
-    )
+    hand_bound(alloc, statics, &tree, &mut conds, sink)
 }
 
-/// Hands over the flat effects of an effect under a binding.
+// The same, and its tree is given up.
+fn hand_part<S: Sink>(
+    bump: &mut Bump,
+    alloc: Global,
+    statics: &Statics,
+    objects: &mut Vec<u32>,
+    sink: &mut S,
+    eff: &Eff,
+) -> Result<(), Memory>
+    ensures binding { OnOk result (objects.new.items ≡ objects.old.items) }
+    ensures taken { OnOk result (sink.new ≡ fold S.takes sink.old (flat (problem_of statics.now) objects.old.items (owned.eff_view eff.now))) }
+{
+    let done = hand_tree(bump, alloc, statics, objects, sink, eff);
+    give_up(bump, alloc);
+    done
+}
+
+// Hands over the flat effects of an effect under a binding, which is the same afterwards: one part after another, and
+// for a quantifier one list of objects after another.
+#[cycle(walks)]
+fn walk<S: Sink>(
+    bump: &mut Bump,
+    alloc: Global,
+    statics: &Statics,
+    objects: &mut Vec<u32>,
+    sink: &mut S,
+    eff: &Eff,
+) -> Result<(), Memory>
+    ensures binding { OnOk result (objects.new.items ≡ objects.old.items) }
+    ensures taken { OnOk result (sink.new ≡ fold S.takes sink.old (flat (problem_of statics.now) objects.old.items (owned.eff_view eff.now))) }
+{
+    match eff {
+        Eff::All(parts) => {
+            'parts: for part in parts.slice() {
+                walk(bump, alloc, statics, objects, sink, part)?;
+            }
+            Ok(())
+        }
+        Eff::Each(ranges, body) => {
+            walk_each(bump, alloc, statics, objects, sink, ranges.slice(), body)
+        }
+        _ => hand_part(bump, alloc, statics, objects, sink, eff),
+    }
+}
+
+// Hands over those of the body for each list of objects.
+#[cycle(walks)]
+fn walk_each<S: Sink>(
+    bump: &mut Bump,
+    alloc: Global,
+    statics: &Statics,
+    objects: &mut Vec<u32>,
+    sink: &mut S,
+    ranges: &[Range],
+    eff: &Eff,
+) -> Result<(), Memory>
+    ensures binding { OnOk result (objects.new.items ≡ objects.old.items) }
+    ensures taken { OnOk result (sink.new ≡ fold S.takes sink.old (flat_map (λ os. flat (problem_of statics.now) (objects.old.items ++ os) (owned.eff_view eff.now)) (bindings ranges.now))) }
+{
+    let total = binding_total(ranges)?;
+    let mut inner = Vec::new(alloc);
+    'numbers: for number in 0..total {
+        fill_binding(&mut inner, ranges, number)?;
+        walk_inner(bump, alloc, statics, objects, sink, inner.as_slice(), eff)?;
+    }
+    Ok(())
+}
+
+// Hands over those of the body under the binding and more objects behind it.
+#[cycle(walks)]
+fn walk_inner<S: Sink>(
+    bump: &mut Bump,
+    alloc: Global,
+    statics: &Statics,
+    objects: &mut Vec<u32>,
+    sink: &mut S,
+    inner: &[u32],
+    eff: &Eff,
+) -> Result<(), Memory>
+    ensures binding { OnOk result (objects.new.items ≡ objects.old.items) }
+    ensures taken { OnOk result (sink.new ≡ fold S.takes sink.old (flat (problem_of statics.now) (objects.old.items ++ inner.now) (owned.eff_view eff.now))) }
+{
+    let outer = objects.len();
+    objects.extend_from_slice(inner)?;
+    walk(bump, alloc, statics, objects, sink, eff)?;
+    objects.truncate(outer);
+    Ok(())
+}
+
+/// Hands over the flat effects of an effect under a binding. It is bound part by part: the tree of each lies in the arena,
+/// which is reset behind it. A quantified effect that stands under no condition is bound for one list of objects at a
+/// time.
 pub fn hand_over<S: Sink>(
+    bump: &mut Bump,
     alloc: Global,
     statics: &Statics,
     objects: &[u32],
     eff: &Eff,
     sink: &mut S,
 ) -> Result<(), Memory>
-    ensures { OnOk result (sink.new ≡ fold S.takes sink.old (flat (problem_of statics.now) objects.now (eff_view eff.now))) }
+    ensures { OnOk result (sink.new ≡ fold S.takes sink.old (flat (problem_of statics.now) objects.now (owned.eff_view eff.now))) }
 {
     let mut binding = Vec::from_slice(alloc, objects)?;
-    let bump = Bump::new(alloc);
-    walk_from(&bump, alloc, statics, &mut binding, sink, eff)
+    walk(bump, alloc, statics, &mut binding, sink, eff)
 }
 
-/// The literals of a condition under a binding that aren't static, in text order.
-pub fn left_of(
+// The literals of a condition under a binding that aren't static, in text order. Its tree lies in the arena.
+fn left_in(
+    bump: &Bump,
     alloc: Global,
     statics: &Statics,
     objects: &[u32],
     cond: &Cond,
 ) -> Result<Row<GroundLit>, Memory>
-    ensures { IfOk result (λ row. row ≡ remaining (problem_of statics.now) objects.now (cond_view cond.now)) }
+    ensures { IfOk result (λ row. row ≡ remaining (problem_of statics.now) objects.now (owned.cond_view cond.now)) }
 {
-    let bump = Bump::new(alloc);
-    let mut conds = Conditions::new(alloc);
-    add_left(&bump, statics, objects, cond, &mut conds)?;
-    let row = conds.owned(alloc)?;
+    let tree = condition(bump, objects, cond)?;
+    let row = precondition(alloc, statics, &tree)?;
     Ok(row)
+}
+
+/// The literals of a condition under a binding that aren't static, in text order. Its tree lies in the arena, which is
+/// reset behind it.
+pub fn left_of(
+    bump: &mut Bump,
+    alloc: Global,
+    statics: &Statics,
+    objects: &[u32],
+    cond: &Cond,
+) -> Result<Row<GroundLit>, Memory>
+    ensures { IfOk result (λ row. row ≡ remaining (problem_of statics.now) objects.now (owned.cond_view cond.now)) }
+{
+    let row = left_in(bump, alloc, statics, objects, cond);
+    give_up(bump, alloc);
+    row
 }

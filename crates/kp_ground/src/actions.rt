@@ -10,6 +10,7 @@ ghost use Rattle.kp_ground.specs.Passes.{name_with, action_at, IsKnown};
 use crate::lasting::lasting_effects;
 use crate::names::names_of_objects;
 use crate::numbered::Numbering;
+use bumpalo::Bump;
 use kp_atoms::{Atoms, literal_set};
 use kp_base::{Action, Effect, GroundName, LitSet, Memory, Row};
 use kp_bound::{hand_over, left_of};
@@ -19,6 +20,7 @@ use std::alloc::Global;
 
 // The precondition of a schema with these objects, by number.
 fn pre_by_number(
+    bump: &mut Bump,
     alloc: Global,
     statics: &Statics,
     atoms: &Atoms,
@@ -27,13 +29,14 @@ fn pre_by_number(
 ) -> Result<LitSet, Memory>
     ensures { IfOk result (λ pre. pre ≡ ground_pre (problem_of statics.now) atoms.now (schema_view schema.now) objects.now) }
 {
-    let left = left_of(alloc, statics, objects, &schema.pre)?;
+    let left = left_of(bump, alloc, statics, objects, &schema.pre)?;
     let pre = literal_set(alloc, atoms, left.slice())?;
     Ok(pre)
 }
 
 // The effects of a schema with these objects, by number, that last beside this precondition.
 fn effects_beside(
+    bump: &mut Bump,
     alloc: Global,
     statics: &Statics,
     atoms: &Atoms,
@@ -45,13 +48,21 @@ fn effects_beside(
     ensures { IfOk result (λ row. row ≡ lasting pre.now (map (numbered_effect atoms.now) (flat_of (problem_of statics.now) (schema_view schema.now) objects.now).effects)) }
 {
     let mut numbering = Numbering::new(alloc, atoms);
-    hand_over(alloc, statics, objects, &schema.effect, &mut numbering)?;
+    hand_over(
+        bump,
+        alloc,
+        statics,
+        objects,
+        &schema.effect,
+        &mut numbering,
+    )?;
     let effects = lasting_effects(alloc, pre, numbering.slice())?;
     Ok(effects)
 }
 
 // The action of this name of a schema with these objects.
 fn named(
+    bump: &mut Bump,
     alloc: Global,
     statics: &Statics,
     atoms: &Atoms,
@@ -64,8 +75,8 @@ fn named(
     ensures pre { IfOk result (λ a. a.pre ≡ ground_pre (problem_of statics.now) atoms.now (schema_view schema.now) objects.now) }
     ensures effects { IfOk result (λ a. a.effects ≡ ground_effects (problem_of statics.now) atoms.now (schema_view schema.now) objects.now) }
 {
-    let pre = pre_by_number(alloc, statics, atoms, objects, schema)?;
-    let effects = effects_beside(alloc, statics, atoms, &pre, objects, schema)?;
+    let pre = pre_by_number(bump, alloc, statics, atoms, objects, schema)?;
+    let effects = effects_beside(bump, alloc, statics, atoms, &pre, objects, schema)?;
     Ok(Action { name, pre, effects })
 }
 
@@ -82,14 +93,28 @@ fn name_of(alloc: Global, lifted: &Lifted, one: &Kept) -> Result<GroundName, Mem
 }
 
 // The action of an instance.
-fn action(alloc: Global, statics: &Statics, atoms: &Atoms, one: &Kept) -> Result<Action, Memory>
+fn action(
+    bump: &mut Bump,
+    alloc: Global,
+    statics: &Statics,
+    atoms: &Atoms,
+    one: &Kept,
+) -> Result<Action, Memory>
     requires numbering { IsNumbering (problem_of statics.now) atoms.now }
     requires kept { Member (kept_instances (problem_of statics.now)) (kept_view one.now) }
     ensures { IfOk result (λ a. a ≡ action_at (problem_of statics.now) atoms.now (kept_view one.now)) }
 {
     let name = name_of(alloc, statics.lifted, one)?;
     let schema = statics.lifted.schemas.at(one.schema as usize);
-    let action = named(alloc, statics, atoms, name, one.objects.slice(), schema)?;
+    let action = named(
+        bump,
+        alloc,
+        statics,
+        atoms,
+        name,
+        one.objects.slice(),
+        schema,
+    )?;
     Ok(action)
 }
 
@@ -104,9 +129,10 @@ pub fn all_actions(
     requires kept { map kept_view kept.now ≡ kept_instances (problem_of statics.now) }
     ensures { IfOk result (λ row. row ≡ map (action_at (problem_of statics.now) atoms.now) (map kept_view kept.now)) }
 {
+    let mut bump = Bump::new(alloc);
     let mut row = Row::new(alloc);
     for one in kept {
-        row.push(action(alloc, statics, atoms, one)?)?;
+        row.push(action(&mut bump, alloc, statics, atoms, one)?)?;
     }
     Ok(row)
 }

@@ -9,6 +9,7 @@ ghost use Rattle.kp_ground.specs.Passes.{has_schema, literals_at, noted, Answers
 
 use crate::effect_atoms::EffectAtoms;
 use crate::gathering::add_items;
+use bumpalo::Bump;
 use kp_atoms::{Atoms, add_literals};
 use kp_base::{Memory, Refused, Stop};
 use kp_bound::{hand_over, left_of};
@@ -18,6 +19,7 @@ use std::alloc::Global;
 
 // Adds the atoms of a schema with these objects.
 fn add_schema(
+    bump: &mut Bump,
     alloc: Global,
     statics: &Statics,
     objects: &[u32],
@@ -27,14 +29,15 @@ fn add_schema(
     ensures limit { OnOk result (into.new.limit ≡ into.old.limit) }
     ensures atoms { OnOk result (into.new.atoms ≡ gather into.old.limit into.old.atoms (instance_literals (problem_of statics.now) (schema_view schema.now) objects.now)) }
 {
-    let pre = left_of(alloc, statics, objects, &schema.pre)?;
+    let pre = left_of(bump, alloc, statics, objects, &schema.pre)?;
     add_literals(alloc, into.limit, &mut into.atoms, pre.slice())?;
-    hand_over(alloc, statics, objects, &schema.effect, into)?;
+    hand_over(bump, alloc, statics, objects, &schema.effect, into)?;
     Ok(())
 }
 
 // Adds the atoms of an instance.
 fn add_instance(
+    bump: &mut Bump,
     alloc: Global,
     statics: &Statics,
     one: &Kept,
@@ -45,12 +48,13 @@ fn add_instance(
     ensures atoms { OnOk result (into.new.atoms ≡ gather into.old.limit into.old.atoms (literals_at (problem_of statics.now) (kept_view one.now))) }
 {
     let schema = statics.lifted.schemas.at(one.schema as usize);
-    add_schema(alloc, statics, one.objects.slice(), schema, into)?;
+    add_schema(bump, alloc, statics, one.objects.slice(), schema, into)?;
     Ok(())
 }
 
 // Adds the atoms of some instances, until there are more atoms than the limit.
 fn add_kept(
+    bump: &mut Bump,
     alloc: Global,
     statics: &Statics,
     kept: &[Kept],
@@ -63,9 +67,23 @@ fn add_kept(
         if into.limit < into.atoms.len() {
             return Ok(());
         }
-        add_instance(alloc, statics, one, into)?;
+        add_instance(bump, alloc, statics, one, into)?;
     }
     Ok(())
+}
+
+// Adds the atoms of some instances, whose trees lie in an arena that is given up behind each.
+fn add_instances(
+    alloc: Global,
+    statics: &Statics,
+    kept: &[Kept],
+    into: &mut EffectAtoms,
+) -> Result<(), Memory>
+    requires { list_all (has_schema (problem_of statics.now)) (map kept_view kept.now) ≡ true }
+    ensures { OnOk result (into.new.atoms ≡ gather into.old.limit into.old.atoms (flat_map (literals_at (problem_of statics.now)) (map kept_view kept.now))) }
+{
+    let mut bump = Bump::new(alloc);
+    add_kept(&mut bump, alloc, statics, kept, into)
 }
 
 // The atoms of the goal, of `:init` without static predicates, and of the kept instances, until there are more than the limit.
@@ -78,7 +96,7 @@ fn gathered(alloc: Global, statics: &Statics, kept: &[Kept], limit: u32) -> Resu
     add_literals(alloc, limit, &mut atoms, lifted.goal.slice())?;
     add_items(alloc, statics, limit, &mut atoms, lifted.init.slice())?;
     let mut into = EffectAtoms { atoms, limit };
-    add_kept(alloc, statics, kept, &mut into)?;
+    add_instances(alloc, statics, kept, &mut into)?;
     Ok(into.atoms)
 }
 

@@ -1,4 +1,5 @@
 use Rattle.std.proofs.Common.{◌≡◌, ◌++◌, map, take}
+use Rattle.kp_meaning.specs.Lifted.{bindings}
 use Rattle.kp_names.specs.View as owned
 use Rattle.kp_bound.specs.Bound.{bound_eff}
 use Rattle.kp_bound.specs.Nodes.{eff_view}
@@ -12,8 +13,8 @@ invariant-effects-parts l = record {
 }
 
 -- the body is bound under the lists before this one
-abbrev pub invariant-bodies-inners : goal.invariant-bodies-inners
-invariant-bodies-inners l = record {
+abbrev pub invariant-bodies-numbers : goal.invariant-bodies-numbers
+invariant-bodies-numbers l = record {
   kept : l.objects.items ≡ l.fn.objects.items;
-  so_far : map eff_view l.bound.items ≡ map (λ os. bound_eff (l.fn.objects.items ++ os) (owned.eff_view l.eff)) (take l.inner-index l.inners);
+  so_far : map eff_view l.bound.items ≡ map (λ os. bound_eff (l.fn.objects.items ++ os) (owned.eff_view l.eff)) (take l.number (bindings l.ranges));
 }
