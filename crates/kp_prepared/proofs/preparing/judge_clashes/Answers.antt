@@ -3,8 +3,8 @@ use Rattle.kp_prepared.proofs.Ended.{clash_ends}
 use Rattle.kp_prepared.proofs.preparing.judge_clashes.Goals as goal
 
 -- an action clashes
-pub returns-in-Err-clause-ends : goal.returns-in-Err-clause-ends
-returns-in-Err-clause-ends c l limit is holds =
+pub returns-clause-ends : goal.returns-clause-ends
+returns-clause-ends c l limit is holds =
     clash_ends limit l c.args.ground.now is c.args.primes.now holds c.in-Err.at c.ended_at_clash.result (record { pairs = is_pair c.in_ok-pairs.pairs; exclusive = c.in_ok-pairs.ensures; first = c.in-Err.ensures.first }) c.ended_at_clash.ensures
 
 -- none does
