@@ -1,0 +1,10 @@
+//! How names, atoms, literals and numbers are printed. `specs/Spelling.antt` says what is put for each.
+#![tactic(auto)]
+
+mod bytes;
+mod literals;
+mod names;
+
+pub use bytes::{put, put_number};
+pub use literals::{put_joined, put_literal, put_literals};
+pub use names::{put_atom, put_atoms, put_name};
