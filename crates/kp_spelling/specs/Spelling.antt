@@ -1,5 +1,5 @@
 -- How names, atoms and literals are printed: as pieces, which say how a text reads back, and as the bytes that these spell.
-use Rattle.std.specs.Prelude.{ℕ, Bool, true, false, List, [], ◌∷◌, Option, Some, None, slice_get, codes}
+use Rattle.std.specs.Prelude.{◌≡◌, ◌++◌, ℕ, Bool, true, false, List, [], ◌∷◌, Option, Some, None, slice_get, codes}
 use Rattle.kp_base.specs.declared.ground.GroundName.{GroundName}
 use Rattle.kp_base.specs.declared.lit.AtomId.{AtomId}
 use Rattle.kp_base.specs.declared.lit.Lit.{Lit}
@@ -63,3 +63,14 @@ literal_text atoms l = spelling (lit_put atoms l [])
 -- literals, a space before each
 abbrev pub literals_text : List GroundName → List Lit → List ℕ
 literals_text atoms ls = spelling (lits_put atoms ls [])
+
+-- ---- a law
+
+-- brackets stand round the text
+pub record IsBracketed (text : List ℕ) : Type 0 where
+  pub inner : List ℕ
+  pub is : text ≡ codes "(" ++ (inner ++ codes ")")
+
+-- each literal is printed in brackets, also one whose atom isn't there
+abbrev pub LiteralsAreBracketed : Type 0
+LiteralsAreBracketed = (atoms : List GroundName) (l : Lit) → IsBracketed (literal_text atoms l)

@@ -2,9 +2,11 @@
 #![tactic(auto)]
 
 mod bytes;
+mod laws;
 mod literals;
 mod names;
 
 pub use bytes::{put, put_number};
+pub use laws::literals_are_bracketed;
 pub use literals::{put_joined, put_literal, put_literals};
-pub use names::{put_atom, put_atoms, put_name};
+pub use names::{put_atoms, put_name, put_numbered};

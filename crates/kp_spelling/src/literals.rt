@@ -3,7 +3,7 @@ ghost use Rattle.kp_pieces.specs.Pieces.{Puts, each, spaced};
 ghost use Rattle.kp_spelling.specs.Spelling.{atom_put, signed_put, lit_put, lits_put, joined, literal_text, literals_text};
 
 use crate::bytes::put;
-use crate::names::put_atom;
+use crate::names::put_numbered;
 use kp_base::{AtomId, GroundName, Lit, Memory};
 
 // The negation of an atom.
@@ -11,7 +11,7 @@ fn put_denied(out: &mut Vec<u8>, atoms: &[GroundName], atom: AtomId) -> Result<(
     ensures { OnOk result (Puts out.old.items out.new.items (signed_put false (atom_put (slice_get atoms.now atom.0)))) }
 {
     put(out, b"(not ")?;
-    put_atom(out, atoms, atom)?;
+    put_numbered(out, atoms, atom.0)?;
     put(out, b")")?;
     Ok(())
 }
@@ -21,7 +21,7 @@ fn put_signed(out: &mut Vec<u8>, atoms: &[GroundName], literal: Lit) -> Result<(
     ensures { OnOk result (Puts out.old.items out.new.items (lit_put atoms.now literal)) }
 {
     if literal.positive {
-        put_atom(out, atoms, literal.atom)
+        put_numbered(out, atoms, literal.atom.0)
     } else {
         put_denied(out, atoms, literal.atom)
     }

@@ -1,6 +1,6 @@
 ghost use Rattle.std.specs.Prelude.{◌≡◌, ◌++◌, OnOk, slice_get};
 ghost use Rattle.kp_pieces.specs.Pieces.{Puts, each, spaced, name};
-ghost use Rattle.kp_spelling.specs.Spelling.{name_put, name_text, atom_text, numbered_put, atoms_put, atoms_text};
+ghost use Rattle.kp_spelling.specs.Spelling.{name_put, name_text, atom_put, atom_text, atoms_put, atoms_text};
 
 use crate::bytes::put;
 use kp_base::{AtomId, GroundName, Memory, Text};
@@ -37,22 +37,22 @@ pub fn put_name(out: &mut Vec<u8>, name: &GroundName) -> Result<(), Memory>
 }
 
 // The name of a number, or an empty bracket.
-fn put_place(out: &mut Vec<u8>, atoms: &[GroundName], atom: AtomId) -> Result<(), Memory>
-    ensures { OnOk result (Puts out.old.items out.new.items (numbered_put atoms.now atom)) }
+fn put_place(out: &mut Vec<u8>, names: &[GroundName], number: u32) -> Result<(), Memory>
+    ensures { OnOk result (Puts out.old.items out.new.items (atom_put (slice_get names.now number))) }
 {
-    match atoms.get(atom.0 as usize) {
+    match names.get(number as usize) {
         Some(name) => bracket(out, name),
         None => put(out, b"()"),
     }
 }
 
-/// Adds the atom of a number; `()` where there is none.
+/// Adds the name of a number; `()` where there is none.
 #[tactic(auto, using(crate::proofs::Adding::adds))]
-pub fn put_atom(out: &mut Vec<u8>, atoms: &[GroundName], atom: AtomId) -> Result<(), Memory>
-    ensures puts { OnOk result (Puts out.old.items out.new.items (numbered_put atoms.now atom)) }
-    ensures adds { OnOk result (out.new.items ≡ out.old.items ++ atom_text (slice_get atoms.now atom.0)) }
+pub fn put_numbered(out: &mut Vec<u8>, names: &[GroundName], number: u32) -> Result<(), Memory>
+    ensures puts { OnOk result (Puts out.old.items out.new.items (atom_put (slice_get names.now number))) }
+    ensures adds { OnOk result (out.new.items ≡ out.old.items ++ atom_text (slice_get names.now number)) }
 {
-    put_place(out, atoms, atom)
+    put_place(out, names, number)
 }
 
 // Atoms, a space before each.
@@ -61,7 +61,7 @@ fn put_places(out: &mut Vec<u8>, names: &[GroundName], atoms: &[AtomId]) -> Resu
 {
     for atom in atoms {
         put(out, b" ")?;
-        put_place(out, names, *atom)?;
+        put_place(out, names, atom.0)?;
     }
     Ok(())
 }
