@@ -3,7 +3,7 @@ use Rattle.std.specs.Prelude.{List, ◌++◌, ◌+◌, ℕ, Option, Some, None, 
 use Rattle.kp_base.specs.declared.ground.GroundName.{GroundName}
 use Rattle.kp_base.specs.declared.lit.AtomId.{AtomId}
 use Rattle.kp_base.specs.declared.lit.Lit.{Lit}
-use Rattle.kp_printed.specs.Names.{literal_text}
+use Rattle.kp_spelling.specs.Spelling.{literal_text}
 use Rattle.kp_printed.specs.Refusals.{state_line}
 
 -- where a plan fails, at a step or at the goal, and the literal that is missing there; steps are counted from 1

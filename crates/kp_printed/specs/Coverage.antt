@@ -2,7 +2,7 @@
 use Rattle.std.specs.Prelude.{List, [], ◌∷◌, ◌++◌, ℕ, codes}
 use Rattle.kp_base.specs.declared.ground.GroundName.{GroundName}
 use Rattle.kp_base.specs.declared.lit.Lit.{Lit}
-use Rattle.kp_printed.specs.Names.{literal_text}
+use Rattle.kp_spelling.specs.Spelling.{literal_text}
 
 -- `complete` where no target is uncovered, and else `incomplete`
 abbrev pub completeness_line : List Lit → List ℕ

@@ -11,7 +11,7 @@ use Rattle.kp_base.specs.declared.refused.Part.TheVariants as parts
 use Rattle.kp_base.specs.declared.refused.Place.{Place}
 use Rattle.kp_base.specs.declared.refused.Refused.{Refused}
 use Rattle.kp_base.specs.declared.refused.Refused.TheVariants as refusals
-use Rattle.kp_printed.specs.Names.{name_text, atom_text, atoms_text, literal_text, literals_text}
+use Rattle.kp_spelling.specs.Spelling.{name_text, atom_text, atoms_text, literal_text, literals_text}
 
 -- what a refusal may name by number: the atoms and the actions of a ground problem, and the steps of a plan
 pub record Named : Type 0 where

@@ -1,8 +1,8 @@
 ghost use Rattle.std.specs.Prelude.{◌≡◌, ◌++◌, Some, OnOk, slice_get};
 ghost use Rattle.kp_printed.specs.Refusals.{condition_text, conditions_text, clash_lines};
 
-use crate::names::{put, put_atom, put_literals, put_name};
 use kp_base::{Action, ClashAt, Effect, GroundName, Memory};
+use kp_spelling::{put, put_literals, put_name, put_numbered};
 
 // Adds the condition of the effect at a place.
 fn put_condition(
@@ -47,7 +47,7 @@ fn put_clash(
     put(out, b"action ")?;
     put_name(out, &action.name)?;
     put(out, b"\natom ")?;
-    put_atom(out, atoms, clash.atom.0)?;
+    put_numbered(out, atoms, clash.atom.0)?;
     put_conditions(out, atoms, action.effects.slice(), clash)
 }
 

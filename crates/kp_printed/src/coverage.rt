@@ -1,8 +1,8 @@
 ghost use Rattle.std.specs.Prelude.{◌≡◌, ◌++◌, OnOk};
 ghost use Rattle.kp_printed.specs.Coverage.{completeness_line, uncovered_lines, coverage_text};
 
-use crate::names::{put, put_literal};
 use kp_base::{GroundName, Lit, Memory};
+use kp_spelling::{put, put_literal};
 
 // Adds the lines of targets that aren't covered.
 fn put_uncovered(out: &mut Vec<u8>, atoms: &[GroundName], targets: &[Lit]) -> Result<(), Memory>

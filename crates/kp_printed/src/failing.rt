@@ -3,8 +3,8 @@ ghost use Rattle.kp_printed.specs.Counterexamples.{failing_line, counterexample_
 ghost use Rattle.kp_printed.specs.Lifting.{unlifted_text};
 
 use crate::lines::put_state;
-use crate::names::{put, put_literal, put_number};
 use kp_base::{AtomId, GroundName, Lit, Memory, Row};
+use kp_spelling::{put, put_literal, put_number};
 use std::alloc::Global;
 
 // Adds the line that tells where a plan fails: at a step, which is counted from 0, or at the goal.

@@ -1,4 +1,4 @@
-//! What commands print: the usage, names, each refusal, where a plan fails, whether a table is complete,
+//! What commands print: the usage, each refusal, where a plan fails, whether a table is complete,
 //! how a search ends without a plan, and how wide a problem is.
 //! `specs/Refusals.antt` says the lines of each refusal.
 #![tactic(auto)]
@@ -8,7 +8,6 @@ mod coverage;
 mod failing;
 mod help;
 mod lines;
-mod names;
 mod refusals;
 mod searches;
 mod widths;
@@ -16,7 +15,6 @@ mod widths;
 pub use coverage::put_coverage;
 pub use failing::{counterexample, unlifted};
 pub use help::usage;
-pub use names::put_name;
 pub use refusals::{Named, refusal};
 pub use searches::{no_classical_plan, no_plan, spent};
 pub use widths::{over, width_report};

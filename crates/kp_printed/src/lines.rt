@@ -1,8 +1,8 @@
 ghost use Rattle.std.specs.Prelude.{◌≡◌, ◌++◌, OnOk};
 ghost use Rattle.kp_printed.specs.Refusals.{part_text, file_line, place_line, number_line, tag_line, state_line, step_line, target_line};
 
-use crate::names::{put, put_atom, put_atoms, put_literal, put_number};
 use kp_base::{AtomId, GroundName, Lit, Memory, Part, Place};
+use kp_spelling::{put, put_atoms, put_literal, put_number, put_numbered};
 
 // A file as it is called in what is printed.
 fn part_name(part: Part) -> &'static str
@@ -78,7 +78,7 @@ pub(crate) fn put_step(out: &mut Vec<u8>, steps: &[GroundName], step: u32) -> Re
     put(out, b"step ")?;
     put_number(out, u64::from(step))?;
     put(out, b" ")?;
-    put_atom(out, steps, step.saturating_sub(1))?;
+    put_numbered(out, steps, step.saturating_sub(1))?;
     put(out, b"\n")
 }
 

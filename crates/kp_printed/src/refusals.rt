@@ -3,8 +3,8 @@ ghost use Rattle.kp_printed.specs.Refusals.{nothing, number_line, state_line, ta
 
 use crate::clash::put_clash_among;
 use crate::lines::{put_count, put_file, put_place, put_state, put_step, put_tag, put_target};
-use crate::names::put;
 use kp_base::{Action, AtomId, GroundName, Lit, Memory, Refused, Row};
+use kp_spelling::put;
 use std::alloc::Global;
 use std::marker::Model;
 

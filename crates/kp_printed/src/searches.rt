@@ -3,8 +3,8 @@ ghost use Rattle.kp_printed.specs.Searches.{no_plan_line, no_plan_text, spent_te
 
 use crate::coverage::put_completeness;
 use crate::lines::put_count;
-use crate::names::put;
 use kp_base::{Lit, Memory, Row};
+use kp_spelling::put;
 use std::alloc::Global;
 
 const NO_PLAN: &str = "no plan\n";

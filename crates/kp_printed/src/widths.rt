@@ -3,8 +3,8 @@ ghost use Rattle.kp_printed.specs.Widths.{set_lines, tag_lines, width_line, row_
 ghost use Rattle.kp_width.specs.Rows.{greatest_width};
 
 use crate::lines::{put_count, put_target};
-use crate::names::{put, put_literal, put_literals};
 use kp_base::{GroundName, Lit, LitSet, Memory, Row};
+use kp_spelling::{put, put_literal, put_literals};
 use kp_width::WidthRow;
 use std::alloc::Global;
 

@@ -1,11 +1,12 @@
 -- The last printed line is `complete` just where no target is uncovered.
-use Rattle.std.proofs.Common.{◌≡◌, ◌⊎◌, ◌++◌, ◌∙◌, ℕ, Bool, true, false, List, [], ◌∷◌, Option, Some, None, if◌then◌else◌, codes, decimal, length, slice_get, inl, inr, refl, sym, ap, append_assoc, arith}
+use Rattle.std.proofs.Common.{◌≡◌, ◌++◌, ◌∙◌, ℕ, List, [], ◌∷◌, codes, decimal, length, refl, sym, ap, append_assoc, arith}
 use Rattle.kp_base.specs.declared.ground.GroundName.{GroundName}
 use Rattle.kp_base.specs.declared.ground.Ground.{Ground}
 use Rattle.kp_base.specs.declared.ground.TagTable.{TagTable}
 use Rattle.kp_base.specs.declared.lit.Lit.{Lit}
 use Rattle.kp_task.specs.Task.{task_of}
-use Rattle.kp_printed.specs.Names.{objects_text, name_text, atom_text, literal_text}
+use Rattle.kp_spelling.specs.Spelling.{literal_text, IsBracketed}
+use Rattle.kp_spelling.proofs.Bracketed.{literals_are_bracketed}
 use Rattle.kp_printed.specs.Coverage.{uncovered_lines, coverage_text}
 use Rattle.kp_translation.specs.Report.{count_line, counts_of}
 use Rattle.kp_run.specs.Completeness.{PrintsComplete}
@@ -38,39 +39,13 @@ not_complete text h p = h.no_e (last_but_one h.front (p.front ++ codes "\ncomple
 
 -- ---- lines of targets
 
--- a text is empty, or ends with a bracket
-IsClosed : List ℕ → Type 0
-IsClosed text = (text ≡ []) ⊎ ((front : List ℕ) × (text ≡ front ++ codes ")"))
-
-name_closed : (n : GroundName) → IsClosed (name_text n)
-unfolding IsClosed
-name_closed n = inr (codes "(" ++ (n.head ++ objects_text n.objects), ap (codes "(" ++◌) (sym (append_assoc n.head (objects_text n.objects) (codes ")"))) ∙ sym (append_assoc (codes "(") (n.head ++ objects_text n.objects) (codes ")")))
-
-atom_closed : (o : Option GroundName) → IsClosed (atom_text o)
-unfolding IsClosed
-atom_closed None = inl refl
-atom_closed (Some n) = name_closed n
-
-denied_closed : (text : List ℕ) → IsClosed (codes "(not " ++ (text ++ codes ")"))
-unfolding IsClosed
-denied_closed text = inr (codes "(not " ++ text, sym (append_assoc (codes "(not ") text (codes ")")))
-
-literal_closed : (atoms : List GroundName) (l : Lit) → IsClosed (literal_text atoms l)
-literal_closed atoms l = by l.positive
-  where
-    by : (b : Bool) → IsClosed (if b then atom_text (slice_get atoms l.atom.0) else codes "(not " ++ (atom_text (slice_get atoms l.atom.0) ++ codes ")"))
-    by true = atom_closed (slice_get atoms l.atom.0)
-    by false = denied_closed (atom_text (slice_get atoms l.atom.0))
-
--- behind a blank, such a text and a line feed end otherwise
-line_ends : (front text : List ℕ) → IsClosed text → EndsOtherwise ((front ++ 32 ∷ []) ++ (text ++ (10 ∷ [] ++ [])))
-unfolding IsClosed
-line_ends front text (inl e) = record { front = front; before = 32; is = ap (λ t. (front ++ 32 ∷ []) ++ (t ++ 10 ∷ [])) e ∙ append_assoc front (32 ∷ []) (10 ∷ []); no_e = λ f. omega (arith, f) }
-line_ends front text (inr h) = behind (front ++ 32 ∷ []) (text ++ (10 ∷ [] ++ [])) (record { front = h.0; before = 41; is = ap (λ t. t ++ 10 ∷ []) h.1 ∙ append_assoc h.0 (codes ")") (10 ∷ []); no_e = λ f. omega (arith, f) })
+-- behind a blank, a bracketed text and a line feed end otherwise
+line_ends : (front text : List ℕ) → IsBracketed text → EndsOtherwise ((front ++ 32 ∷ []) ++ (text ++ (10 ∷ [] ++ [])))
+line_ends front text h = behind (front ++ 32 ∷ []) (text ++ (10 ∷ [] ++ [])) (record { front = 40 ∷ h.inner; before = 41; is = ap (λ t. t ++ 10 ∷ []) h.is ∙ ap (40 ∷◌) (append_assoc h.inner (codes ")") (10 ∷ [])); no_e = λ f. omega (arith, f) })
 
 -- the line of a target
 target_ends : (atoms : List GroundName) (l : Lit) → EndsOtherwise (codes "uncovered " ++ (literal_text atoms l ++ (codes "\n" ++ [])))
-target_ends atoms l = line_ends (codes "uncovered") (literal_text atoms l) (literal_closed atoms l)
+target_ends atoms l = line_ends (codes "uncovered") (literal_text atoms l) (literals_are_bracketed atoms l)
 
 lines_end : (atoms : List GroundName) (l : Lit) (ls : List Lit) → EndsOtherwise (uncovered_lines atoms (l ∷ ls))
 lines_end atoms l [] = target_ends atoms l
