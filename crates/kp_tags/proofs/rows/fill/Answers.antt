@@ -3,7 +3,7 @@ use Rattle.kp_base.specs.declared.lit.Lit.{Lit}
 use Rattle.kp_primes.specs.Held.{formula}
 use Rattle.kp_tags.proofs.Places.{at_place}
 use Rattle.kp_tags.proofs.Closed.{key_is_tag, next_row}
-use Rattle.kp_tags.proofs.rows.rows.Goals as goal
+use Rattle.kp_tags.proofs.rows.fill.Goals as goal
 
 pub row-requires-clause-ascending : goal.row-requires-clause-ascending
 row-requires-clause-ascending c =
@@ -14,7 +14,7 @@ row-requires-clause-ascending c =
 pub row-requires-clause-consistent : goal.row-requires-clause-consistent
 row-requires-clause-consistent c =
     rw c.as_slice.ensures.value
-    (c.requires.each c.tag-item.result.items
+    (c.requires.consistent.each c.tag-item.result.items
     (key_is_tag (λ (k : Vec Lit Global). k.items) c.slice-tag-items.result.now c.args.tags.now c.loop-tag.tag-index c.tag-item.result c.slice-tag-items.ensures.value (at_place c.slice-tag-items.result.now c.loop-tag.tag-index c.tag-item.result (omega arith) c.tag-item.is)))
 
 -- one row more
