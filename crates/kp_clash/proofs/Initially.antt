@@ -14,13 +14,13 @@ use Rattle.kp_base.specs.Clashes.{Pairs}
 use Rattle.kp_base.specs.Exclusive.{ArePairs, IsPart, AreExclusive, IsInductive}
 use Rattle.kp_base.proofs.Lists.{all_member, all_from, any_member}
 use Rattle.kp_primes.specs.Held.{Held, formula, AreWhole}
-use Rattle.kp_clash.specs.Paired.{is_pair, words_of, place_of, is_marked, IsSquare}
-use Rattle.kp_clash.specs.Starting.{not_both, denies, denied, IsMarkedWith}
+use Rattle.kp_pairs.specs.Paired.{is_pair, words_of, place_of, is_marked, IsSquare}
+use Rattle.kp_pairs.specs.Starting.{not_both, denies, denied, IsMarkedWith}
 use Rattle.kp_clash.specs.Settling.{AreNeverTogether, IsSettled}
-use Rattle.kp_clash.proofs.Greatest.{settled_exclusive}
-use Rattle.kp_clash.proofs.Removing.{pair_turned, inductive_kept}
-use Rattle.kp_clash.proofs.Marked.{marked_in}
-use Rattle.kp_clash.proofs.Starting.{in_both}
+use Rattle.kp_pairs.proofs.Greatest.{settled_exclusive}
+use Rattle.kp_pairs.proofs.Removing.{pair_turned, inductive_kept}
+use Rattle.kp_pairs.proofs.Marked.{marked_in}
+use Rattle.kp_pairs.proofs.Starting.{in_both}
 
 -- ---- the start
 

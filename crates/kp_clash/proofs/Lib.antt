@@ -1,17 +1,5 @@
-pub mod Greatest
-pub mod Marked
 pub mod Deletes
-pub mod Removing
-pub mod Walks
-pub mod Starting
 pub mod Initially
-pub mod Firing
-pub mod Candidates
-pub mod Excluded
-pub mod Spans
-pub mod Small
-pub mod Joining
-pub mod Written
 pub mod Places
 pub mod Best
 pub mod InOrder

@@ -1,75 +1,20 @@
 //! Looks for a pair that doesn't stay.
-ghost use Rattle.std.specs.Prelude.{◌≡◌, ◌<◌, ◌≤◌, ◌%◌, ◌++◌, ◌||◌, [], ◌∷◌, ℕ, true, false, length};
+ghost use Rattle.std.specs.Prelude.{◌≡◌, ◌<◌, ◌≤◌, ◌%◌, ◌++◌, [], ◌∷◌, ℕ, true, false, length};
 ghost use Rattle.std.specs.Int.{bit_at};
-ghost use Rattle.std.specs.List.{list_any};
 ghost use Rattle.kp_base.specs.declared.ground.Action.{Action as ActionOf};
-ghost use Rattle.kp_base.specs.Clashes.{are_exclusive, are_compatible};
-ghost use Rattle.kp_base.specs.Exclusive.{firing_with};
+ghost use Rattle.kp_base.specs.Clashes.{are_compatible};
 ghost use Rattle.kp_base.specs.Lists.{Member};
-ghost use Rattle.kp_base.specs.Lit.{positive};
-ghost use Rattle.kp_clash.specs.Paired.{is_pair};
-ghost use Rattle.kp_clash.specs.Settled.{deletes_within};
-ghost use Rattle.kp_clash.specs.Removed.{breaks, adds_pair, FindsAlone, FindsTogether, FindsOfEffect, FindsBroken};
-ghost use Rattle.kp_clash.specs.Left.{AreLeft, AreNoted, FindsInWord, all_asked};
+ghost use Rattle.kp_pairs.specs.Paired.{is_pair};
+ghost use Rattle.kp_pairs.specs.Removed.{breaks, adds_pair, FindsAlone, FindsTogether, FindsOfEffect, FindsBroken};
+ghost use Rattle.kp_pairs.specs.Left.{AreLeft, Notes, FindsInWord};
 
-use crate::Pairs;
-use crate::added::may_add_pair;
-use crate::asked::may_exclude;
-use crate::between::deletes_noted;
-use crate::compatible::{are_exclusive, may_fire, pre_compatible, stay_compatible};
-use crate::joined::{all_join, atoms_left};
-use crate::left::candidates;
-use crate::pairs::words_of;
-use crate::tables::{Tables, is_small};
-use crate::within::holding;
-use crate::words::WORDS;
-use kp_base::{Action, AtomId, Effect, Ground, Lit};
+use kp_base::{Action, AtomId, Effect, Ground};
 use kp_bits::has_bit;
-
-// Whether some literal is never true together with the atom.
-fn excludes(pairs: &Pairs, lits: &[Lit], atom: AtomId) -> bool
-    ensures { result ≡ list_any (λ l. are_exclusive (is_pair pairs.now) l (positive atom.0)) lits.now }
-{
-    lits.iter().any(|l| are_exclusive(pairs, *l, holding(atom)))
-}
-
-// Whether a literal of the precondition does.
-fn pre_excludes(pairs: &Pairs, action: &Action, asked: &[u64; WORDS], atom: AtomId) -> bool
-    requires { all_asked asked.now action.now.pre ≡ true }
-    ensures { result ≡ list_any (λ l. are_exclusive (is_pair pairs.now) l (positive atom.0)) action.now.pre }
-{
-    may_exclude(pairs, action, asked, atom) && excludes(pairs, action.pre.slice(), atom)
-}
-
-// Whether a literal excludes the atom, or a delete of it comes with the effect.
-fn is_against(pairs: &Pairs, action: &Action, tables: &Tables, effect: &Effect, q: AtomId) -> bool
-    requires { AreNoted tables.now.firsts tables.now.ends tables.now.asked tables.now.added tables.now.sure action.now }
-    ensures { result ≡ (list_any (λ l. are_exclusive (is_pair pairs.now) l (positive q.0)) action.now.pre || (list_any (λ l. are_exclusive (is_pair pairs.now) l (positive q.0)) effect.now.cond || deletes_within action.now q.0 (firing_with action.now effect.now q.0))) }
-{
-    let pre = action.pre.slice();
-    let cond = effect.cond.slice();
-    let other = [holding(q)];
-    pre_excludes(pairs, action, &tables.asked, q)
-        || (excludes(pairs, cond, q)
-            || deletes_noted(action, &tables.firsts, &tables.ends, q, pre, cond, &other))
-}
-
-/// Whether the effect, which may fire, adds one atom of a pair where the other may be true and stay.
-pub(crate) fn breaks(
-    pairs: &Pairs,
-    action: &Action,
-    tables: &Tables,
-    effect: &Effect,
-    q: AtomId,
-) -> bool
-    requires noted { AreNoted tables.now.firsts tables.now.ends tables.now.asked tables.now.added tables.now.sure action.now }
-    requires different { (p : ℕ) → is_pair pairs.now p p ≡ false }
-    requires adds { effect.now.result.positive ≡ true }
-    requires compatible { are_compatible (is_pair pairs.now) (action.now.pre ++ effect.now.cond) ≡ true }
-    ensures { result ≡ breaks (is_pair pairs.now) action.now effect.now q.0 }
-{
-    pairs.has(effect.result.atom, q) && !is_against(pairs, action, tables, effect, q)
-}
+use kp_pairs::{
+    Pairs, Tables, WORDS, all_join, atoms_left, candidates, is_small, may_add_pair, may_fire,
+    pre_compatible, words_of,
+};
+use kp_sweeps::{adds_pair, breaks};
 
 // The same, where the bit of the atom is set in the word unless the effect surely doesn't.
 fn breaks_at(
@@ -80,7 +25,7 @@ fn breaks_at(
     word: u64,
     q: u32,
 ) -> bool
-    requires noted { AreNoted tables.now.firsts tables.now.ends tables.now.asked tables.now.added tables.now.sure action.now }
+    requires noted { Notes tables.now action.now }
     requires different { (p : ℕ) → is_pair pairs.now p p ≡ false }
     requires adds { effect.now.result.positive ≡ true }
     requires compatible { are_compatible (is_pair pairs.now) (action.now.pre ++ effect.now.cond) ≡ true }
@@ -99,7 +44,7 @@ fn first_in_word(
     from: u32,
     k: u32,
 ) -> Option<AtomId>
-    requires noted { AreNoted tables.now.firsts tables.now.ends tables.now.asked tables.now.added tables.now.sure action.now }
+    requires noted { Notes tables.now action.now }
     requires different { (p : ℕ) → is_pair pairs.now p p ≡ false }
     requires adds { effect.now.result.positive ≡ true }
     requires compatible { are_compatible (is_pair pairs.now) (action.now.pre ++ effect.now.cond) ≡ true }
@@ -127,7 +72,7 @@ fn next_alone(
     effect: &Effect,
     from: u32,
 ) -> Option<AtomId>
-    requires noted { AreNoted tables.now.firsts tables.now.ends tables.now.asked tables.now.added tables.now.sure action.now }
+    requires noted { Notes tables.now action.now }
     requires compatible { are_compatible (is_pair pairs.now) (action.now.pre ++ effect.now.cond) ≡ true }
     ensures { FindsAlone (is_pair pairs.now) action.now effect.now from result }
 {
@@ -141,21 +86,6 @@ fn next_alone(
         }
     }
     None
-}
-
-/// Whether the effects may add both atoms of a pair, where the first may fire.
-pub(crate) fn adds_pair(pairs: &Pairs, action: &Action, one: &Effect, other: &Effect) -> bool
-    requires { are_compatible (is_pair pairs.now) (action.now.pre ++ one.now.cond) ≡ true }
-    ensures { result ≡ adds_pair (is_pair pairs.now) action.now one.now other.now }
-{
-    (one.result.positive
-        && (other.result.positive && pairs.has(one.result.atom, other.result.atom)))
-        && stay_compatible(
-            pairs,
-            action.pre.slice(),
-            one.cond.slice(),
-            other.cond.slice(),
-        )
 }
 
 // The same, where the atoms are noted that the first effect's conditions leave.
@@ -180,7 +110,7 @@ fn first_together(
     tables: &Tables,
     effect: &Effect,
 ) -> Option<AtomId>
-    requires noted { AreNoted tables.now.firsts tables.now.ends tables.now.asked tables.now.added tables.now.sure action.now }
+    requires noted { Notes tables.now action.now }
     requires of_action { Member action.now.effects effect.now }
     requires compatible { are_compatible (is_pair pairs.now) (action.now.pre ++ effect.now.cond) ≡ true }
     ensures { FindsTogether (is_pair pairs.now) action.now effect.now result }
@@ -204,7 +134,7 @@ fn of_effect(
     tables: &Tables,
     effect: &Effect,
 ) -> Option<(AtomId, AtomId)>
-    requires noted { AreNoted tables.now.firsts tables.now.ends tables.now.asked tables.now.added tables.now.sure action.now }
+    requires noted { Notes tables.now action.now }
     requires of_action { Member action.now.effects effect.now }
     requires compatible { are_compatible (is_pair pairs.now) action.now.pre ≡ true }
     ensures { FindsOfEffect (is_pair pairs.now) action.now effect.now result }
@@ -226,7 +156,7 @@ fn of_effect(
 
 // A pair that an effect of the action breaks, by what is noted of the action.
 fn of_effects(pairs: &Pairs, action: &Action, tables: &Tables) -> Option<(AtomId, AtomId)>
-    requires noted { AreNoted tables.now.firsts tables.now.ends tables.now.asked tables.now.added tables.now.sure action.now }
+    requires noted { Notes tables.now action.now }
     requires compatible { are_compatible (is_pair pairs.now) action.now.pre ≡ true }
     ensures { FindsBroken (is_pair pairs.now) (action.now ∷ []) result }
 {
@@ -240,7 +170,7 @@ fn of_effects(pairs: &Pairs, action: &Action, tables: &Tables) -> Option<(AtomId
 
 // A pair that an effect of the action breaks.
 fn of_action(pairs: &Pairs, any: &Tables, action: &Action) -> Option<(AtomId, AtomId)>
-    requires { (a : ActionOf) → length a.effects ≤ 8 → AreNoted any.now.firsts any.now.ends any.now.asked any.now.added any.now.sure a }
+    requires { (a : ActionOf) → length a.effects ≤ 8 → Notes any.now a }
     ensures { FindsBroken (is_pair pairs.now) (action.now ∷ []) result }
 {
     if !pre_compatible(pairs, action) {

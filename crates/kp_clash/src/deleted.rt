@@ -1,10 +1,8 @@
-ghost use Rattle.std.specs.Prelude.{◌≡◌, ◌<◌, ◌%◌, ℕ, true, slice_index_or};
+ghost use Rattle.std.specs.Prelude.{◌≡◌, ◌%◌, true};
 ghost use Rattle.kp_clash.specs.Searching.{KeepsMarks, is_noted, all_noted, may_be_deleted};
 
 use kp_base::{AtomId, Effect};
-
-/// How many slots there are for atoms: each has that of its number modulo 4,096.
-pub const SLOTS: usize = 4096;
+use kp_pairs::SLOTS;
 
 // Marks the slot of the atom of an effect that deletes it.
 fn note(slots: &mut [bool; SLOTS], effect: &Effect)
@@ -17,7 +15,7 @@ fn note(slots: &mut [bool; SLOTS], effect: &Effect)
 }
 
 /// A slot for each number modulo 4,096, marked where some effect deletes an atom of that slot.
-pub fn slots_of_deletes(effects: &[Effect]) -> [bool; SLOTS]
+pub(crate) fn slots_of_deletes(effects: &[Effect]) -> [bool; SLOTS]
     ensures { all_noted result effects.now ≡ true }
 {
     let mut slots = [false; SLOTS];
@@ -28,7 +26,7 @@ pub fn slots_of_deletes(effects: &[Effect]) -> [bool; SLOTS]
 }
 
 /// Whether the slot of the atom is marked; if not, no effect deletes the atom.
-pub fn may_be_deleted(slots: &[bool; SLOTS], atom: AtomId) -> bool
+pub(crate) fn may_be_deleted(slots: &[bool; SLOTS], atom: AtomId) -> bool
     ensures { result ≡ may_be_deleted slots.now atom.0 }
 {
     slots[atom.0 as usize % SLOTS]

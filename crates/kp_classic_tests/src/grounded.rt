@@ -127,6 +127,7 @@ fn formula(alloc: Global) -> Result<Initial, Memory>
 }
 
 // Whether the task of the ground problem runs these operators and meets the goal.
+#[tactic(auto, using(kp_classic::proofs::ExampleTask::one_state))]
 fn plans(alloc: Global, steps: &[u32]) -> Result<Option<bool>, Memory> {
     let ground = ground(alloc)?;
     let initial = formula(alloc)?;

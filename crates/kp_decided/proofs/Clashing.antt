@@ -5,7 +5,7 @@ use Rattle.kp_base.specs.declared.ground.Initial.{Initial}
 use Rattle.kp_base.specs.declared.refused.ClashAt.{ClashAt}
 use Rattle.kp_base.specs.Exclusive.{AreExclusive, ClashesFirst, IsClashFree}
 use Rattle.kp_base.specs.Implicates.{IsOfAtoms}
-use Rattle.kp_clash.specs.Paired.{is_pair}
+use Rattle.kp_pairs.specs.Paired.{is_pair}
 use Rattle.kp_clash.specs.Searching.{first_from}
 use Rattle.kp_clash.proofs.Initially.{left_exclusive}
 use Rattle.kp_clash.proofs.InOrder.{first_is, none_is}

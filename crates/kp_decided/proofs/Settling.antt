@@ -5,12 +5,12 @@ use Rattle.kp_base.specs.declared.ground.Ground.{Ground}
 use Rattle.kp_base.specs.Lists.{Member}
 use Rattle.kp_base.specs.Clashes.{Pairs}
 use Rattle.kp_base.proofs.Lists.{all_weaker, any_from, any_member, bool_same, member_filter, filter_member}
-use Rattle.kp_clash.specs.Paired.{are_both, is_pair}
-use Rattle.kp_clash.specs.Removed.{IsWithout, Shrinks}
-use Rattle.kp_clash.specs.Settled.{stays_in, stays}
+use Rattle.kp_pairs.specs.Paired.{are_both, is_pair}
+use Rattle.kp_pairs.specs.Removed.{IsWithout, Shrinks}
+use Rattle.kp_pairs.specs.Settled.{stays_in, stays}
 use Rattle.kp_clash.specs.Settling.{IsSettled}
-use Rattle.kp_clash.proofs.Greatest.{parts_of, stays_by}
-use Rattle.kp_clash.proofs.Removing.{removes, shrinks_on}
+use Rattle.kp_pairs.proofs.Greatest.{parts_of, stays_by}
+use Rattle.kp_pairs.proofs.Removing.{removes, shrinks_on}
 
 -- ---- lists
 

@@ -12,10 +12,10 @@ use Rattle.kp_base.specs.Implicates.{IsOfAtoms}
 use Rattle.kp_base.proofs.Lists.{any_from, any_member, flat_member, map_member, member_filter, filter_member}
 use Rattle.kp_init.specs.Closure.{closure}
 use Rattle.kp_init.proofs.Closure.{closure_exact, range_only}
-use Rattle.kp_clash.specs.Paired.{are_both, is_pair, all_below}
+use Rattle.kp_pairs.specs.Paired.{are_both, is_pair, all_below}
 use Rattle.kp_clash.specs.Settling.{AreNeverTogether}
-use Rattle.kp_clash.proofs.Removing.{pair_turned}
-use Rattle.kp_clash.proofs.Marked.{orders, in_all}
+use Rattle.kp_pairs.proofs.Removing.{pair_turned}
+use Rattle.kp_pairs.proofs.Marked.{orders, in_all}
 
 -- each of the pairs has two numbers below n
 below_in : (n : ℕ) (x : ℕ × ℕ) → Member (all_below n) x → (x.0 < n) × (x.1 < n)

@@ -32,6 +32,25 @@ fn table(
     })
 }
 
+// The same, unless there are more tags than the limit.
+fn table_with(
+    alloc: Global,
+    primes: &Primes,
+    tags: &Tags,
+    merges: &[FileMerge],
+    limit: u32,
+) -> Result<TagTable, Stop>
+    requires used { tags.now ≡ used_tags merges.now }
+    requires acceptable { AreAllAcceptable (formula primes.now) merges.now }
+    ensures { AnswersTable primes.now.atoms (formula primes.now) merges.now limit result }
+{
+    if tags.len() > limit as usize {
+        return Err(Stop::Refused(Refused::TagsOver));
+    }
+    let table = table(alloc, primes, tags, merges)?;
+    Ok(table)
+}
+
 /// The table of merges without a fault, unless their tags pass the limit.
 pub(crate) fn table_within(
     alloc: Global,
@@ -43,12 +62,9 @@ pub(crate) fn table_within(
     ensures { AnswersTable primes.now.atoms (formula primes.now) merges.now limit result }
 {
     let tags = Tags::used(alloc, merges)?;
-    if tags.len() > limit as usize {
-        return Err(Stop::Refused(Refused::TagsOver));
-    }
-    let table = table(alloc, primes, &tags, merges);
+    let answer = table_with(alloc, primes, &tags, merges, limit);
     drop(tags);
-    Ok(table?)
+    answer
 }
 
 /// The table of the merges of a file, where each tag is consistent and each merge valid. The tags must be of the atoms

@@ -1,4 +1,4 @@
-ghost use Rattle.std.specs.Prelude.{◌≡◌, map, IfOk};
+ghost use Rattle.std.specs.Prelude.{◌≡◌, [], map, IfOk, OnOk};
 ghost use Rattle.kp_base.specs.LitSet.{IsAscending, set_of};
 ghost use Rattle.kp_base.specs.Entailed.{IsConsistent};
 ghost use Rattle.kp_primes.specs.Held.{formula};
@@ -44,14 +44,24 @@ fn row_with(lits: LitSet, closure: LitSet) -> TagRow
     TagRow { lits, closure }
 }
 
+// Puts the tags with their closures into a row that has none yet.
+fn fill(alloc: Global, primes: &Primes, tags: &Tags, rows: &mut Row<TagRow>) -> Result<(), Memory>
+    requires consistent { AreConsistent (formula primes.now) tags.now }
+    requires empty { rows.old ≡ [] }
+    ensures { OnOk result (AreRows primes.now.atoms (formula primes.now) tags.now rows.new) }
+{
+    for tag in tags.slice() {
+        rows.push(row(alloc, primes, tag.as_slice())?)?;
+    }
+    Ok(())
+}
+
 /// The tags with their closures. The tags must be consistent.
 pub fn rows(alloc: Global, primes: &Primes, tags: &Tags) -> Result<Row<TagRow>, Memory>
     requires { AreConsistent (formula primes.now) tags.now }
     ensures { IfOk result (AreRows primes.now.atoms (formula primes.now) tags.now) }
 {
     let mut rows = Row::new(alloc);
-    for tag in tags.slice() {
-        rows.push(row(alloc, primes, tag.as_slice())?)?;
-    }
+    fill(alloc, primes, tags, &mut rows)?;
     Ok(rows)
 }

@@ -1,4 +1,5 @@
 ghost use Rattle.std.specs.Prelude.{◌≡◌, [], fold, length, map, IfOk, OnOk};
+ghost use Rattle.std.specs.List.{flat_map};
 ghost use Rattle.kp_base.specs.LitSet.{IsAscending};
 ghost use Rattle.kp_tags.specs.Tables.{number_in, used_tags};
 ghost use Rattle.kp_tags.specs.Kept.{AreSets, with_tag};
@@ -88,14 +89,22 @@ impl Tags {
         Ok(())
     }
 
+    // Adds the tags of merges, each where it is new.
+    fn insert_used(&mut self, alloc: Global, merges: &[FileMerge]) -> Result<(), Memory>
+        ensures { OnOk result (self.new ≡ fold with_tag self.old (flat_map (λ m. m.tags) merges.now)) }
+    {
+        for merge in merges {
+            self.insert_all(alloc, merge.tags.slice())?;
+        }
+        Ok(())
+    }
+
     /// The tags of merges, in the order of their first use, behind the empty one.
     pub fn used(alloc: Global, merges: &[FileMerge]) -> Result<Tags, Memory>
         ensures { IfOk result (λ tags. tags ≡ used_tags merges.now) }
     {
         let mut tags = Tags::with_empty(alloc)?;
-        for merge in merges {
-            tags.insert_all(alloc, merge.tags.slice())?;
-        }
+        tags.insert_used(alloc, merges)?;
         Ok(tags)
     }
 
@@ -104,7 +113,10 @@ impl Tags {
         ensures { IfOk result (λ tags. tags ≡ with_tag [] []) }
     {
         let mut tags = Tags::new(alloc);
-        tags.insert(alloc, &LitSet::new(alloc))?;
+        let empty = LitSet::new(alloc);
+        let inserted = tags.insert(alloc, &empty);
+        drop(empty);
+        inserted?;
         Ok(tags)
     }
 

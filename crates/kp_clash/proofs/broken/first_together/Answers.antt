@@ -1,8 +1,8 @@
 use Rattle.std.proofs.Common.{sym, ◌∙◌}
 use Rattle.kp_base.specs.Lists.{Member}
-use Rattle.kp_clash.specs.Paired.{is_pair}
-use Rattle.kp_clash.proofs.Removing.{adds_broken}
-use Rattle.kp_clash.proofs.Walks.{item_member}
+use Rattle.kp_pairs.specs.Paired.{is_pair}
+use Rattle.kp_pairs.proofs.Removing.{adds_broken}
+use Rattle.kp_pairs.proofs.Walks.{item_member}
 use Rattle.kp_clash.proofs.broken.first_together.Goals as goal
 
 pub returns-then-adds_left : goal.returns-then-adds_left

@@ -1,9 +1,9 @@
 use Rattle.std.proofs.Common.{sym, ◌∙◌, arith}
 use Rattle.std.proofs.lemmas.Bool.{false≢true, false_from_ne_true}
-use Rattle.kp_clash.specs.Paired.{is_pair}
-use Rattle.kp_clash.specs.Removed.{breaks}
-use Rattle.kp_clash.proofs.Removing.{breaks_broken_pair}
-use Rattle.kp_clash.proofs.Marked.{width}
+use Rattle.kp_pairs.specs.Paired.{is_pair}
+use Rattle.kp_pairs.specs.Removed.{breaks}
+use Rattle.kp_pairs.proofs.Removing.{breaks_broken_pair}
+use Rattle.kp_pairs.proofs.Marked.{width}
 use Rattle.kp_clash.proofs.broken.next_alone.Goals as goal
 
 pub returns : goal.returns

@@ -2,10 +2,10 @@ use Rattle.std.proofs.Common.{true, refl, sym, ◌∙◌}
 use Rattle.std.proofs.lemmas.Bool.{and_from}
 use Rattle.kp_base.specs.declared.ground.Effect.{Effect}
 use Rattle.kp_base.specs.Lists.{Member}
-use Rattle.kp_clash.specs.Paired.{is_pair}
-use Rattle.kp_clash.specs.Settled.{stays_in}
-use Rattle.kp_clash.proofs.Removing.{pair_turned, none_stays}
-use Rattle.kp_clash.proofs.Firing.{breaks_none, incompatible_with_more}
+use Rattle.kp_pairs.specs.Paired.{is_pair}
+use Rattle.kp_pairs.specs.Settled.{stays_in}
+use Rattle.kp_pairs.proofs.Removing.{pair_turned, none_stays}
+use Rattle.kp_pairs.proofs.Firing.{breaks_none, incompatible_with_more}
 use Rattle.kp_clash.proofs.broken.of_action.Goals as goal
 
 pub returns-then-not-pre_compatible : goal.returns-then-not-pre_compatible

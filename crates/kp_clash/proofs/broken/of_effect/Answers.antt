@@ -1,9 +1,9 @@
 use Rattle.std.proofs.Common.{Some, sym, ◌∙◌}
-use Rattle.kp_clash.specs.Paired.{is_pair}
-use Rattle.kp_clash.specs.Removed.{FindsAlone}
-use Rattle.kp_clash.proofs.Removing.{breaks_broken}
-use Rattle.kp_clash.proofs.Firing.{breaks_none}
-use Rattle.kp_clash.proofs.Candidates.{delete_breaks_none}
+use Rattle.kp_pairs.specs.Paired.{is_pair}
+use Rattle.kp_pairs.specs.Removed.{FindsAlone}
+use Rattle.kp_pairs.proofs.Removing.{breaks_broken}
+use Rattle.kp_pairs.proofs.Firing.{breaks_none}
+use Rattle.kp_pairs.proofs.Noted.{delete_breaks_none}
 use Rattle.kp_clash.proofs.broken.of_effect.Goals as goal
 
 pub returns-in-Some : goal.returns-in-Some

@@ -2,11 +2,11 @@ use Rattle.std.proofs.Common.{true, refl, subst, ◌∙◌, inl, inr}
 use Rattle.std.proofs.lemmas.Bool.{and_from}
 use Rattle.kp_base.specs.declared.ground.Effect.{Effect}
 use Rattle.kp_base.specs.Lists.{Member}
-use Rattle.kp_clash.specs.Paired.{is_pair}
-use Rattle.kp_clash.specs.Settled.{stays_in}
-use Rattle.kp_clash.specs.Removed.{BreaksNone}
-use Rattle.kp_clash.proofs.Removing.{pair_turned, none_stays}
-use Rattle.kp_clash.proofs.Walks.{item_member, taken_more, taken_all}
+use Rattle.kp_pairs.specs.Paired.{is_pair}
+use Rattle.kp_pairs.specs.Settled.{stays_in}
+use Rattle.kp_pairs.specs.Removed.{BreaksNone}
+use Rattle.kp_pairs.proofs.Removing.{pair_turned, none_stays}
+use Rattle.kp_pairs.proofs.Walks.{item_member, taken_more, taken_all}
 use Rattle.kp_clash.proofs.broken.of_effects.Goals as goal
 
 pub of_effect-requires-clause-of_action : goal.of_effect-requires-clause-of_action

@@ -1,5 +1,5 @@
 use Rattle.std.proofs.Common.{arith}
-use Rattle.kp_clash.proofs.Removing.{shrinks_on, removes}
+use Rattle.kp_pairs.proofs.Removing.{shrinks_on, removes}
 use Rattle.kp_clash.proofs.settle.remove.Goals as goal
 
 pub returns-clause-shrinks : goal.returns-clause-shrinks

@@ -1,4 +1,4 @@
-use Rattle.kp_clash.proofs.Removing.{shrinks_on}
+use Rattle.kp_pairs.proofs.Removing.{shrinks_on}
 use Rattle.kp_clash.proofs.settle.settle_in.Goals as goal
 
 pub rounds-preserved : goal.rounds-preserved

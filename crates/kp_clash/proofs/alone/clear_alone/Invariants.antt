@@ -1,7 +1,0 @@
-use Rattle.std.proofs.Common.{[], ◌∷◌}
-use Rattle.kp_clash.specs.Removed.{Shrinks}
-use Rattle.kp_clash.proofs.alone.clear_alone.Given as goal
-
--- what was removed so far
-abbrev pub invariant-loop-k : goal.invariant-loop-k
-invariant-loop-k l = Shrinks (l.action ∷ []) l.fn.pairs l.pairs

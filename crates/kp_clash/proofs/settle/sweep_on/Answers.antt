@@ -1,5 +1,0 @@
-use Rattle.kp_clash.proofs.Removing.{shrinks_on}
-use Rattle.kp_clash.proofs.settle.sweep_on.Goals as goal
-
-pub loop-preserved : goal.loop-preserved
-loop-preserved c = shrinks_on c.args.ground.now.actions c.args.pairs.now c.loop.pairs c.sweep_twice.new.pairs c.loop.invariant c.sweep_twice.ensures

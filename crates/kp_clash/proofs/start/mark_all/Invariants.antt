@@ -1,7 +1,0 @@
-use Rattle.kp_clash.specs.Starting.{IsMarkedWith}
-use Rattle.kp_clash.proofs.Starting.{with_below}
-use Rattle.kp_clash.proofs.start.mark_all.Given as goal
-
--- the pairs with the atoms so far
-abbrev pub invariant-loop-q : goal.invariant-loop-q
-invariant-loop-q l = IsMarkedWith l.atoms (with_below l.p l.q) l.fn.table l.table

@@ -1,0 +1,12 @@
+pub mod Greatest
+pub mod Marked
+pub mod Removing
+pub mod Walks
+pub mod Starting
+pub mod Firing
+pub mod Noted
+pub mod Excluded
+pub mod Spans
+pub mod Small
+pub mod Joining
+pub mod Written

@@ -1,6 +1,0 @@
-use Rattle.std.proofs.Common.{◌≡◌, map, take}
-use Rattle.kp_tags.specs.Tables.{numbered}
-use Rattle.kp_tags.proofs.numbers.all_numbered.Given as goal
-
-abbrev pub invariant-loop-merge : goal.invariant-loop-merge
-invariant-loop-merge l = l.row ≡ map (numbered l.tags) (take l.merge-index l.merges)

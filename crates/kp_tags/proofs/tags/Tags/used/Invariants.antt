@@ -1,9 +1,0 @@
-use Rattle.std.proofs.Common.{◌≡◌, drop, fold}
-use Rattle.std.specs.List.{flat_map}
-use Rattle.kp_tags.specs.Tables.{used_tags}
-use Rattle.kp_tags.specs.Kept.{with_tag}
-use Rattle.kp_tags.proofs.tags.Tags.used.Given as goal
-
--- with the merges that are left come all
-abbrev pub invariant-loop-merge : goal.invariant-loop-merge
-invariant-loop-merge l = fold with_tag l.tags (flat_map (λ m. m.tags) (drop l.merge-index l.merges)) ≡ used_tags l.merges
