@@ -1,8 +1,7 @@
-ghost use Rattle.std.specs.Prelude.{◌≡◌, length, MatchOption, IfOk, IfErr};
-ghost use Rattle.kp_line.specs.Texts.{texts, places_of, values_of};
-ghost use Rattle.kp_line.specs.declared.stop.WordStop.TheVariants.{Usage};
+ghost use Rattle.std.specs.Prelude.{◌≡◌, length, MatchOption, IfOk};
+ghost use Rattle.kp_line.specs.Texts.{places_of, values_of};
 ghost use Rattle.kp_words.specs.Names.{Lift as Names, source_view};
-ghost use Rattle.kp_words.specs.Command.{AreLift, SaysLift};
+ghost use Rattle.kp_words.specs.Command.{AreLift};
 ghost use Rattle.kp_words.specs.Owned.{command_view};
 ghost use Rattle.kp_words.specs.declared.lent.CommandRef.TheVariants as commands;
 
@@ -11,7 +10,7 @@ use crate::owned::two_names;
 use crate::source::{SourceRef, said_source};
 use crate::values::said_limit;
 use kp_base::{Memory, Text};
-use kp_line::{Given, WordStop, line_of};
+use kp_line::Given;
 use std::alloc::Global;
 use std::marker::Model;
 
@@ -39,8 +38,8 @@ impl<'a> Model for Lift<'a> {
 }
 
 impl<'a> Lift<'a> {
-    // The lift that these positional words and values are.
-    fn from_line(line: &Given<'a>) -> Option<Lift<'a>>
+    /// The lift that these positional words and values are.
+    pub(crate) fn from_line(line: &Given<'a>) -> Option<Lift<'a>>
         requires places { length line.now.places.items ≡ 3 }
         requires values { length line.now.values.items ≡ 3 }
         ensures { MatchOption result ((c : Names) → AreLift (places_of line.now) (values_of line.now) c → ⊥) (λ c. AreLift (places_of line.now) (values_of line.now) c) }
@@ -56,24 +55,6 @@ impl<'a> Lift<'a> {
             source,
             implicates,
         })
-    }
-
-    /// The lift that the words behind `lift` say.
-    pub(crate) fn from_rest(alloc: Global, words: &'a [&'a str]) -> Result<Lift<'a>, WordStop>
-        ensures ok { IfOk result (λ c. SaysLift (texts words.entry.now) c) }
-        ensures err { IfErr result (λ e. e ≡ Usage → (c : Names) → SaysLift (texts words.entry.now) c → ⊥) }
-    {
-        let line = line_of(
-            alloc,
-            "lift",
-            &["D", "P", "PLAN"],
-            &["mode", "merges", "implicates"],
-            words,
-        )?;
-        match Lift::from_line(&line) {
-            Some(found) => Ok(found),
-            None => Err(WordStop::Usage),
-        }
     }
 
     /// The command, with names of its own.
