@@ -2,7 +2,7 @@
 use Rattle.std.proofs.Common.{◌≡◌, ◌≢◌, ◌∙◌, List, ◌∷◌, ℕ, Option, Some, MatchOption, Vec, map, length, refl, ap, sym, subst}
 use Rattle.std.specs.declared.alloc.Global.{Global}
 use Rattle.kp_words.specs.Command.{AreUtf8, IsCommand, IsNoCommand}
-use Rattle.kp_words.specs.Verbs.{all_verbs, verb_named, verb_word, verb_in, places_named, options_of, ReadAs, read_as, AreOf, SaysOf, SaysCommand, IsRead}
+use Rattle.kp_words.specs.Verbs.{all_verbs, verb_named, verb_word, verb_in, places_named, options_of, ReadAs, read_as, AreOf, IsSaid, SaysOf, SaysCommand, IsRead}
 use Rattle.kp_words.proofs.Calls.{no_line}
 use Rattle.kp_words.proofs.Named.{named_is, one_named}
 use Rattle.kp_line.specs.Words.{Line}
@@ -61,6 +61,11 @@ same_command (commands.Bench c) = refl
 -- where words say nothing of a verb, they say no command of it
 pub none_of : (v : Verb) (words : Texts) → ((d : ReadAs v) → SaysOf v words d → ⊥) → (c : CommandRef) → verb_in c ≡ v → SaysCommand words c → ⊥
 none_of v words none c e says = subst (λ w. (d : ReadAs w) → SaysOf w words d → ⊥) (sym e) none (read_as c) says
+
+-- what is read of a line by a verb is read of it by an equal one
+pub said_by : (v w : Verb) (places : Texts) (values : List (Option (List ℕ))) (r : Option CommandRef) → v ≡ w → MatchOption r ((d : ReadAs w) → AreOf w places values d → ⊥) (IsSaid w places values)
+    → MatchOption r ((d : ReadAs v) → AreOf v places values d → ⊥) (IsSaid v places values)
+said_by v w places values r same h = subst (λ x. MatchOption r ((d : ReadAs x) → AreOf x places values d → ⊥) (IsSaid x places values)) (sym same) h
 
 -- they say nothing where they are no line of its options with as many positional words
 places_count : (v : Verb) (d : ReadAs v) (places : Texts) (values : List (Option (List ℕ))) → AreOf v places values d → length places ≡ length (places_named v)

@@ -106,6 +106,10 @@ AreOf verbs.Bench places values c = AreBench places values c
 abbrev pub AreCommand : List (List ℕ) → List (Option (List ℕ)) → CommandRef → Type 0
 AreCommand places values c = AreOf (verb_in c) places values (read_as c)
 
+-- they are those of this command, whose verb this is
+abbrev pub IsSaid : Verb → List (List ℕ) → List (Option (List ℕ)) → CommandRef → Type 0
+IsSaid v places values c = (verb_in c ≡ v) × AreCommand places values c
+
 -- words behind a verb say this
 abbrev pub SaysOf : (v : Verb) → List (List ℕ) → ReadAs v → Type 0
 SaysOf v words c = Behind words (options_of v) (λ places values. AreOf v places values c)

@@ -2,7 +2,10 @@ ghost use Rattle.std.specs.Prelude.{◌≡◌, length, MatchOption};
 ghost use Rattle.kp_line.specs.Texts.{places_of, values_of};
 ghost use Rattle.kp_words.specs.Names.{Bench as Names};
 ghost use Rattle.kp_words.specs.Command.{AreBench};
+ghost use Rattle.kp_words.specs.Verbs.{IsSaid};
+ghost use Rattle.kp_words.specs.declared.verb.Verb.TheVariants as verbs;
 
+use crate::lent::CommandRef;
 use crate::source::{Family, family_of, said_mode};
 use crate::values::{number_within, said_budget};
 use kp_base::Mode;
@@ -32,10 +35,10 @@ impl Model for Bench {
 
 impl Bench {
     /// The run on a generated problem that these positional words and values are.
-    pub(crate) fn from_line(line: &Given<'_>) -> Option<Bench>
+    pub(crate) fn from_line<'a>(line: &Given<'a>) -> Option<CommandRef<'a>>
         requires places { length line.now.places.items ≡ 2 }
         requires values { length line.now.values.items ≡ 2 }
-        ensures { MatchOption result ((c : Names) → AreBench (places_of line.now) (values_of line.now) c → ⊥) (λ c. AreBench (places_of line.now) (values_of line.now) c) }
+        ensures { MatchOption result ((c : Names) → AreBench (places_of line.now) (values_of line.now) c → ⊥) (IsSaid verbs.Bench (places_of line.now) (values_of line.now)) }
     {
         let (family, size) = line.two_places();
         let (mode, budget) = line.two_values();
@@ -43,11 +46,11 @@ impl Bench {
         let n = number_within(size, 2, 100)?;
         let mode = said_mode(mode)?;
         let budget = said_budget(budget)?;
-        Some(Bench {
+        Some(CommandRef::Bench(Bench {
             family,
             n,
             mode,
             budget,
-        })
+        }))
     }
 }

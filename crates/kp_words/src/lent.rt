@@ -2,7 +2,7 @@ ghost use Rattle.std.specs.Prelude.{◌≡◌, length, MatchOption, IfOk, IfErr}
 ghost use Rattle.kp_line.specs.Texts.{texts, places_of, values_of};
 ghost use Rattle.kp_line.specs.declared.stop.WordStop.TheVariants.{Usage};
 ghost use Rattle.kp_words.specs.Owned.{command_view};
-ghost use Rattle.kp_words.specs.Verbs.{verb_in, options_of, places_named, ReadAs, AreOf, AreCommand, SaysCommand};
+ghost use Rattle.kp_words.specs.Verbs.{verb_in, options_of, places_named, ReadAs, AreOf, IsSaid, SaysCommand};
 ghost use Rattle.kp_words.specs.declared.lent.CommandRef.{CommandRef as Commands};
 
 use crate::bench::Bench;
@@ -48,18 +48,18 @@ impl<'a> CommandRef<'a> {
     fn from_line(verb: Verb, line: &Given<'a>) -> Option<CommandRef<'a>>
         requires places { length line.now.places.items ≡ length (places_named verb) }
         requires values { length line.now.values.items ≡ length (options_of verb) }
-        ensures { MatchOption result ((d : ReadAs verb) → AreOf verb (places_of line.now) (values_of line.now) d → ⊥) (λ c. (verb_in c ≡ verb) × AreCommand (places_of line.now) (values_of line.now) c) }
+        ensures { MatchOption result ((d : ReadAs verb) → AreOf verb (places_of line.now) (values_of line.now) d → ⊥) (IsSaid verb (places_of line.now) (values_of line.now)) }
     {
         match verb {
-            Verb::Translate => Some(CommandRef::Translate(Translate::from_line(line)?)),
-            Verb::Merges => Some(CommandRef::Merges(Merges::from_line(line)?)),
-            Verb::Strip => Some(CommandRef::Strip(Strip::from_line(line)?)),
-            Verb::Check => Some(CommandRef::Check(Check::from_line(line)?)),
-            Verb::Lift => Some(CommandRef::Lift(Lift::from_line(line)?)),
-            Verb::Solve => Some(CommandRef::Solve(Solve::from_line(line)?)),
-            Verb::Classical => Some(CommandRef::Classical(Classical::from_line(line)?)),
-            Verb::Width => Some(CommandRef::Width(Width::from_line(line)?)),
-            Verb::Bench => Some(CommandRef::Bench(Bench::from_line(line)?)),
+            Verb::Translate => Translate::from_line(line),
+            Verb::Merges => Merges::from_line(line),
+            Verb::Strip => Strip::from_line(line),
+            Verb::Check => Check::from_line(line),
+            Verb::Lift => Lift::from_line(line),
+            Verb::Solve => Solve::from_line(line),
+            Verb::Classical => Classical::from_line(line),
+            Verb::Width => Width::from_line(line),
+            Verb::Bench => Bench::from_line(line),
         }
     }
 

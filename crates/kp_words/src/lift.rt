@@ -2,10 +2,13 @@ ghost use Rattle.std.specs.Prelude.{◌≡◌, length, MatchOption, IfOk};
 ghost use Rattle.kp_line.specs.Texts.{places_of, values_of};
 ghost use Rattle.kp_words.specs.Names.{Lift as Names, source_view};
 ghost use Rattle.kp_words.specs.Command.{AreLift};
+ghost use Rattle.kp_words.specs.Verbs.{IsSaid};
+ghost use Rattle.kp_words.specs.declared.verb.Verb.TheVariants as verbs;
 ghost use Rattle.kp_words.specs.Owned.{command_view};
 ghost use Rattle.kp_words.specs.declared.lent.CommandRef.TheVariants as commands;
 
 use crate::commands::Command;
+use crate::lent::CommandRef;
 use crate::owned::two_names;
 use crate::source::{SourceRef, said_source};
 use crate::values::said_limit;
@@ -39,22 +42,22 @@ impl<'a> Model for Lift<'a> {
 
 impl<'a> Lift<'a> {
     /// The lift that these positional words and values are.
-    pub(crate) fn from_line(line: &Given<'a>) -> Option<Lift<'a>>
+    pub(crate) fn from_line(line: &Given<'a>) -> Option<CommandRef<'a>>
         requires places { length line.now.places.items ≡ 3 }
         requires values { length line.now.values.items ≡ 3 }
-        ensures { MatchOption result ((c : Names) → AreLift (places_of line.now) (values_of line.now) c → ⊥) (λ c. AreLift (places_of line.now) (values_of line.now) c) }
+        ensures { MatchOption result ((c : Names) → AreLift (places_of line.now) (values_of line.now) c → ⊥) (IsSaid verbs.Lift (places_of line.now) (values_of line.now)) }
     {
         let (domain, problem, plan) = line.three_places();
         let (mode, merges, implicates) = line.three_values();
         let source = said_source(mode, merges)?;
         let implicates = said_limit(implicates)?;
-        Some(Lift {
+        Some(CommandRef::Lift(Lift {
             domain: domain.as_bytes(),
             problem: problem.as_bytes(),
             plan: plan.as_bytes(),
             source,
             implicates,
-        })
+        }))
     }
 
     /// The command, with names of its own.

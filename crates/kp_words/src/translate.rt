@@ -2,10 +2,13 @@ ghost use Rattle.std.specs.Prelude.{◌≡◌, length, MatchOption, IfOk};
 ghost use Rattle.kp_line.specs.Texts.{places_of, values_of};
 ghost use Rattle.kp_words.specs.Names.{Translate as Names, source_view};
 ghost use Rattle.kp_words.specs.Command.{AreTranslate};
+ghost use Rattle.kp_words.specs.Verbs.{IsSaid};
+ghost use Rattle.kp_words.specs.declared.verb.Verb.TheVariants as verbs;
 ghost use Rattle.kp_words.specs.Owned.{command_view};
 ghost use Rattle.kp_words.specs.declared.lent.CommandRef.TheVariants as commands;
 
 use crate::commands::Command;
+use crate::lent::CommandRef;
 use crate::owned::two_names;
 use crate::source::{SourceRef, said_source};
 use crate::values::{are_apart, said_limit};
@@ -41,10 +44,10 @@ impl<'a> Model for Translate<'a> {
 
 impl<'a> Translate<'a> {
     /// The translation that these positional words and values are.
-    pub(crate) fn from_line(line: &Given<'a>) -> Option<Translate<'a>>
+    pub(crate) fn from_line(line: &Given<'a>) -> Option<CommandRef<'a>>
         requires places { length line.now.places.items ≡ 4 }
         requires values { length line.now.values.items ≡ 3 }
-        ensures { MatchOption result ((c : Names) → AreTranslate (places_of line.now) (values_of line.now) c → ⊥) (λ c. AreTranslate (places_of line.now) (values_of line.now) c) }
+        ensures { MatchOption result ((c : Names) → AreTranslate (places_of line.now) (values_of line.now) c → ⊥) (IsSaid verbs.Translate (places_of line.now) (values_of line.now)) }
     {
         let (domain, problem, domain_out, problem_out) = line.four_places();
         let (mode, merges, implicates) = line.three_values();
@@ -53,14 +56,14 @@ impl<'a> Translate<'a> {
         }
         let source = said_source(mode, merges)?;
         let implicates = said_limit(implicates)?;
-        Some(Translate {
+        Some(CommandRef::Translate(Translate {
             domain: domain.as_bytes(),
             problem: problem.as_bytes(),
             domain_out: domain_out.as_bytes(),
             problem_out: problem_out.as_bytes(),
             source,
             implicates,
-        })
+        }))
     }
 
     /// The command, with names of its own.

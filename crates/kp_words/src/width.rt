@@ -2,10 +2,13 @@ ghost use Rattle.std.specs.Prelude.{◌≡◌, length, MatchOption, IfOk};
 ghost use Rattle.kp_line.specs.Texts.{places_of, values_of};
 ghost use Rattle.kp_words.specs.Names.{Width as Names};
 ghost use Rattle.kp_words.specs.Command.{AreWidth};
+ghost use Rattle.kp_words.specs.Verbs.{IsSaid};
+ghost use Rattle.kp_words.specs.declared.verb.Verb.TheVariants as verbs;
 ghost use Rattle.kp_words.specs.Owned.{command_view};
 ghost use Rattle.kp_words.specs.declared.lent.CommandRef.TheVariants as commands;
 
 use crate::commands::Command;
+use crate::lent::CommandRef;
 use crate::owned::two_names;
 use crate::values::{said_bound, said_limit};
 use kp_base::Memory;
@@ -36,21 +39,21 @@ impl<'a> Model for Width<'a> {
 
 impl<'a> Width<'a> {
     /// The call for the width that these positional words and values are.
-    pub(crate) fn from_line(line: &Given<'a>) -> Option<Width<'a>>
+    pub(crate) fn from_line(line: &Given<'a>) -> Option<CommandRef<'a>>
         requires places { length line.now.places.items ≡ 2 }
         requires values { length line.now.values.items ≡ 2 }
-        ensures { MatchOption result ((c : Names) → AreWidth (places_of line.now) (values_of line.now) c → ⊥) (λ c. AreWidth (places_of line.now) (values_of line.now) c) }
+        ensures { MatchOption result ((c : Names) → AreWidth (places_of line.now) (values_of line.now) c → ⊥) (IsSaid verbs.Width (places_of line.now) (values_of line.now)) }
     {
         let (domain, problem) = line.two_places();
         let (bound, implicates) = line.two_values();
         let bound = said_bound(bound)?;
         let implicates = said_limit(implicates)?;
-        Some(Width {
+        Some(CommandRef::Width(Width {
             domain: domain.as_bytes(),
             problem: problem.as_bytes(),
             bound,
             implicates,
-        })
+        }))
     }
 
     /// The command, with names of its own.
