@@ -90,16 +90,25 @@ fn put_goal(out: &mut Vec<u8>, n: u32) -> Result<(), Memory>
     Ok(())
 }
 
+// Adds the problem.
+fn put_problem(out: &mut Vec<u8>, n: u32) -> Result<(), Memory>
+    requires { n ≤ 100 }
+    ensures { OnOk result (out.new.items ≡ out.old.items ++ text (problem_lines n)) }
+{
+    put(out, b"(define (problem bombs)\n(:domain bombs)\n")?;
+    put_objects(out, n)?;
+    put_init(out, n)?;
+    put_goal(out, n)?;
+    put(out, b")\n")?;
+    Ok(())
+}
+
 fn problem(alloc: Global, n: u32) -> Result<Row<u8>, Memory>
     requires { n ≤ 100 }
     ensures { IfOk result (λ bytes. bytes ≡ text (problem_lines n)) }
 {
     let mut out = Vec::new(alloc);
-    put(&mut out, b"(define (problem bombs)\n(:domain bombs)\n")?;
-    put_objects(&mut out, n)?;
-    put_init(&mut out, n)?;
-    put_goal(&mut out, n)?;
-    put(&mut out, b")\n")?;
+    put_problem(&mut out, n)?;
     Ok(Row::from_vec(out))
 }
 

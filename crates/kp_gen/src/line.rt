@@ -4,7 +4,7 @@ ghost use Rattle.std.specs.List.{range_with_len};
 ghost use Rattle.kp_gen.specs.Lines.{text};
 ghost use Rattle.kp_gen.specs.Line.{cell, at_cell, next_cell, domain_lines, objects_lines, oneof_lines, init_lines, problem_lines, line_texts};
 
-use crate::lines::{put, put_each, put_number};
+use crate::lines::{put, put_each, put_numbered};
 use kp_base::{Memory, Row, Texts};
 use std::alloc::Global;
 
@@ -48,11 +48,8 @@ fn put_next(out: &mut Vec<u8>, i: u32) -> Result<(), Memory>
     requires { 1 ≤ i }
     ensures { OnOk result (out.new.items ≡ out.old.items ++ text (next_cell i ∷ [])) }
 {
-    put(out, b"(next c")?;
-    put_number(out, i)?;
-    put(out, b" c")?;
-    put_number(out, i - 1)?;
-    put(out, b")\n")
+    put_numbered(out, b"(next c", i, b"")?;
+    put_numbered(out, b" c", i - 1, b")\n")
 }
 
 // Adds that each cell but the first is.
@@ -100,15 +97,24 @@ fn put_init(out: &mut Vec<u8>, n: u32) -> Result<(), Memory>
     Ok(())
 }
 
+// Adds the problem.
+fn put_problem(out: &mut Vec<u8>, n: u32) -> Result<(), Memory>
+    requires { n ≤ 100 }
+    ensures { OnOk result (out.new.items ≡ out.old.items ++ text (problem_lines n)) }
+{
+    put(out, b"(define (problem line)\n(:domain line)\n")?;
+    put_objects(out, n)?;
+    put_init(out, n)?;
+    put(out, b"(:goal (at c1))\n)\n")?;
+    Ok(())
+}
+
 fn problem(alloc: Global, n: u32) -> Result<Row<u8>, Memory>
     requires { n ≤ 100 }
     ensures { IfOk result (λ bytes. bytes ≡ text (problem_lines n)) }
 {
     let mut out = Vec::new(alloc);
-    put(&mut out, b"(define (problem line)\n(:domain line)\n")?;
-    put_objects(&mut out, n)?;
-    put_init(&mut out, n)?;
-    put(&mut out, b"(:goal (at c1))\n)\n")?;
+    put_problem(&mut out, n)?;
     Ok(Row::from_vec(out))
 }
 

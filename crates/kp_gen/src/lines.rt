@@ -1,4 +1,4 @@
-ghost use Rattle.std.specs.Prelude.{◌≡◌, ◌++◌, ◌≤◌, ◌<◌, ◌-◌, decimal, OnOk};
+ghost use Rattle.std.specs.Prelude.{◌≡◌, ◌++◌, ◌<◌, ◌-◌, decimal, OnOk};
 ghost use Rattle.std.specs.List.{flat_map, range_with_len};
 ghost use Rattle.kp_gen.specs.Numbered.{numbered};
 
@@ -14,7 +14,7 @@ pub(crate) fn put(out: &mut Vec<u8>, bytes: &[u8]) -> Result<(), Memory>
 }
 
 // Adds a number in decimal.
-pub(crate) fn put_number(out: &mut Vec<u8>, number: u32) -> Result<(), Memory>
+fn put_number(out: &mut Vec<u8>, number: u32) -> Result<(), Memory>
     ensures { OnOk result (out.new.items ≡ out.old.items ++ decimal number) }
 {
     let mut buffer = Buffer::new();
@@ -22,7 +22,12 @@ pub(crate) fn put_number(out: &mut Vec<u8>, number: u32) -> Result<(), Memory>
 }
 
 // Adds a number with what stands in front of it and behind it.
-fn put_numbered(out: &mut Vec<u8>, front: &[u8], number: u32, behind: &[u8]) -> Result<(), Memory>
+pub(crate) fn put_numbered(
+    out: &mut Vec<u8>,
+    front: &[u8],
+    number: u32,
+    behind: &[u8],
+) -> Result<(), Memory>
     ensures { OnOk result (out.new.items ≡ out.old.items ++ numbered front.now behind.now number) }
 {
     put(out, front)?;

@@ -1,73 +1,64 @@
 -- Words are a command, or none.
-use Rattle.std.proofs.Common.{◌≡◌, ◌≢◌, ◌∙◌, inl, inr, ap, subst, ℕ, List, [], ◌∷◌, map, codes}
+use Rattle.std.proofs.Common.{◌≡◌, ◌≢◌, ◌∙◌, inl, inr, refl, ap, subst, ℕ, true, List, [], ◌∷◌, Option, Some, None, MatchOption, map, codes}
+use Rattle.std.specs.List.{list_all}
 use Rattle.std.specs.Str.{is_utf8, IsUtf8}
 use Rattle.std.proofs.lemmas.Str.{IsUtf8-from_is_utf8, is_utf8-from_IsUtf8}
+use Rattle.kp_line.specs.Words.{Said, is_name, positionals, value_of}
+use Rattle.kp_line.proofs.LineDecided.{line_decided}
 use Rattle.kp_words.specs.Command.{AreUtf8}
 use Rattle.kp_words.specs.Laws.{WordsAreDecided}
-use Rattle.kp_words.specs.Verbs.{verb_word, verb_in, ReadAs, read_as, SaysOf, IsRead}
+use Rattle.kp_words.specs.Verbs.{verb_named, verb_word, verb_in, options_of, ReadAs, read_as, AreOf, SaysOf, IsRead}
 use Rattle.kp_words.specs.declared.verb.Verb.{Verb}
 use Rattle.kp_words.specs.declared.verb.Verb.TheVariants as verbs
 use Rattle.kp_words.specs.declared.lent.CommandRef.{CommandRef}
-use Rattle.kp_words.proofs.Decisions.{Decided, both, by_test, same_word}
-use Rattle.kp_words.proofs.EachDecided.{translate_decided, merges_decided, strip_decided, check_decided, lift_decided, solve_decided, classical_decided, width_decided, bench_decided}
-use Rattle.kp_words.proofs.Verbs.{command_of, is_command, is_read, none_of, one_verb}
+use Rattle.kp_words.proofs.Calls.{not_so}
+use Rattle.kp_words.proofs.Decisions.{Decided, both, by_test}
+use Rattle.kp_words.proofs.EachDecided.{translate_places, merges_places, strip_places, check_places, lift_places, solve_places, classical_places, width_places, bench_places}
+use Rattle.kp_words.proofs.Verbs.{command_of, is_command, is_read, none_of, one_verb, verb_named_is}
 
 abbrev Texts : Type 0
 Texts = List (List ℕ)
 
 -- a word is that of some verb
 verb_decided : (word : List ℕ) → Decided ((v : Verb) × (word ≡ verb_word v))
-verb_decided word = elim (same_word word (codes "translate")) [
-  | inl e ↦ inl (verbs.Translate, e)
-  | inr a ↦ elim (same_word word (codes "merges")) [
-    | inl e ↦ inl (verbs.Merges, e)
-    | inr b ↦ elim (same_word word (codes "strip")) [
-      | inl e ↦ inl (verbs.Strip, e)
-      | inr c ↦ elim (same_word word (codes "check")) [
-        | inl e ↦ inl (verbs.Check, e)
-        | inr d ↦ elim (same_word word (codes "lift")) [
-          | inl e ↦ inl (verbs.Lift, e)
-          | inr f ↦ elim (same_word word (codes "solve")) [
-            | inl e ↦ inl (verbs.Solve, e)
-            | inr g ↦ elim (same_word word (codes "classical")) [
-              | inl e ↦ inl (verbs.Classical, e)
-              | inr i ↦ elim (same_word word (codes "width")) [
-                | inl e ↦ inl (verbs.Width, e)
-                | inr j ↦ elim (same_word word (codes "bench")) [
-                  | inl e ↦ inl (verbs.Bench, e)
-                  | inr k ↦ inr (λ h. none a b c d f g i j k h.0 h.1)
-                ]
-              ]
-            ]
-          ]
-        ]
-      ]
-    ]
-  ]
-]
+verb_decided word = by (verb_named word) (verb_named_is word)
   where
-    none : word ≢ codes "translate" → word ≢ codes "merges" → word ≢ codes "strip" → word ≢ codes "check" → word ≢ codes "lift" → word ≢ codes "solve" → word ≢ codes "classical"
-        → word ≢ codes "width" → word ≢ codes "bench" → (v : Verb) → word ≡ verb_word v → ⊥
-    none a b c d f g i j k verbs.Translate e = a e
-    none a b c d f g i j k verbs.Merges e = b e
-    none a b c d f g i j k verbs.Strip e = c e
-    none a b c d f g i j k verbs.Check e = d e
-    none a b c d f g i j k verbs.Lift e = f e
-    none a b c d f g i j k verbs.Solve e = g e
-    none a b c d f g i j k verbs.Classical e = i e
-    none a b c d f g i j k verbs.Width e = j e
-    none a b c d f g i j k verbs.Bench e = k e
+    by : (o : Option Verb) → MatchOption o ((v : Verb) → word ≢ verb_word v) (λ v. word ≡ verb_word v) → Decided ((v : Verb) × (word ≡ verb_word v))
+    by (Some v) is = inl (v, is)
+    by None none = inr (λ h. none h.0 h.1)
+
+-- each option of a verb has a name
+are_names : (v : Verb) → list_all is_name (options_of v) ≡ true
+are_names verbs.Translate = refl
+are_names verbs.Merges = refl
+are_names verbs.Strip = refl
+are_names verbs.Check = refl
+are_names verbs.Lift = refl
+are_names verbs.Solve = refl
+are_names verbs.Classical = refl
+are_names verbs.Width = refl
+are_names verbs.Bench = refl
+
+-- positional words, and the values that are said for the options of a verb, are those of some command of it
+are_decided : (v : Verb) (said : List Said) (places : Texts) → Decided ((d : ReadAs v) × AreOf v places (map (λ name. value_of name said) (options_of v)) d)
+are_decided verbs.Translate said places = translate_places (value_of (codes "mode") said) (value_of (codes "merges") said) (value_of (codes "implicates") said) places
+are_decided verbs.Merges said places = merges_places (value_of (codes "mode") said) (value_of (codes "implicates") said) places
+are_decided verbs.Strip said places = strip_places places
+are_decided verbs.Check said places = check_places (value_of (codes "implicates") said) places
+are_decided verbs.Lift said places = lift_places (value_of (codes "mode") said) (value_of (codes "merges") said) (value_of (codes "implicates") said) places
+are_decided verbs.Solve said places = solve_places (value_of (codes "mode") said) (value_of (codes "merges") said) (value_of (codes "implicates") said) (value_of (codes "budget") said) (value_of (codes "classical") said) places
+are_decided verbs.Classical said places = classical_places (value_of (codes "budget") said) places
+are_decided verbs.Width said places = width_places (value_of (codes "bound") said) (value_of (codes "implicates") said) places
+are_decided verbs.Bench said places = bench_places (value_of (codes "mode") said) (value_of (codes "budget") said) places
 
 decided_of : (v : Verb) (words : Texts) → Decided ((d : ReadAs v) × SaysOf v words d)
-decided_of verbs.Translate words = translate_decided words
-decided_of verbs.Merges words = merges_decided words
-decided_of verbs.Strip words = strip_decided words
-decided_of verbs.Check words = check_decided words
-decided_of verbs.Lift words = lift_decided words
-decided_of verbs.Solve words = solve_decided words
-decided_of verbs.Classical words = classical_decided words
-decided_of verbs.Width words = width_decided words
-decided_of verbs.Bench words = bench_decided words
+decided_of v words = elim (line_decided words (options_of v) (are_names v)) [
+  | inl l ↦ elim (are_decided v l.0 (positionals l.0)) [
+    | inl h ↦ inl (h.0, record { places = positionals l.0; values = map (λ name. value_of name l.0) (options_of v); line = l.1; are_so = h.1 })
+    | inr none ↦ inr (λ h. not_so words (options_of v) (positionals l.0) (map (λ name. value_of name l.0) (options_of v)) (λ places values. AreOf v places values h.0) l.1 (λ so. none (h.0, so)) h.1)
+  ]
+  | inr none ↦ inr (λ h. none h.1.places h.1.values h.1.line)
+]
 
 read_of : (v : Verb) (d : ReadAs v) (words rest : Texts) → words ≡ verb_word v ∷ rest → SaysOf v rest d → IsRead words (command_of v d)
 read_of verbs.Translate d words rest e says = record { rest = rest; words_are = e; says = says }

@@ -26,6 +26,11 @@ both P Q (inl p) (inl q) = inl (p, q)
 both P Q (inl p) (inr refuted) = inr (λ h. refuted h.1)
 both P Q (inr refuted) q = inr (λ h. refuted h.0)
 
+-- what holds where another that is decided does
+pub like : (P Q : Type 0) → (P → Q) → (Q → P) → Decided P → Decided Q
+like P Q to from (inl p) = inl (to p)
+like P Q to from (inr none) = inr (λ q. none (from q))
+
 -- some number below this one is so, or none is
 some_below : (P : ℕ → Type 0) → ((n : ℕ) → Decided (P n)) → (k : ℕ) → Decided ((n : ℕ) × (n < k) × P n)
 some_below P each zero = inr (λ h. let lt = h.1 in omega (arith, lt))

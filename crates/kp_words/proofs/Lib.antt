@@ -1,5 +1,7 @@
 pub mod Words
 pub mod Numbers
+pub mod Named
+pub mod Fitting
 pub mod Calls
 pub mod Verbs
 pub mod SaidOnce

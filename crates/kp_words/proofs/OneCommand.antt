@@ -1,24 +1,29 @@
 -- Words are one command at most.
-use Rattle.std.proofs.Common.{◌≡◌, ◌∙◌, List, ◌∷◌, ℕ, ap, sym, subst}
+use Rattle.std.proofs.Common.{◌≡◌, ◌∙◌, List, ◌∷◌, ℕ, Option, ap, sym, subst}
 use Rattle.kp_words.specs.Laws.{WordsAreOneCommand}
-use Rattle.kp_words.specs.Verbs.{verb_word, verb_in, ReadAs, read_as, SaysOf}
+use Rattle.kp_words.specs.Verbs.{verb_word, verb_in, options_of, ReadAs, read_as, AreOf, SaysOf}
 use Rattle.kp_words.specs.declared.verb.Verb.{Verb}
 use Rattle.kp_words.specs.declared.verb.Verb.TheVariants as verbs
 use Rattle.kp_words.proofs.Calls.{same_line}
 use Rattle.kp_words.proofs.OneEach.{one_translate, one_merges, one_strip, one_check, one_lift, one_solve, one_classical, one_width, one_bench}
 use Rattle.kp_words.proofs.Verbs.{command_of, is_read, one_verb, same_command}
 
+-- positional words and values are those of one command of a verb at most
+one_are : (v : Verb) (places : List (List ℕ)) (values : List (Option (List ℕ))) (c d : ReadAs v) → AreOf v places values c → AreOf v places values d → c ≡ d
+one_are verbs.Translate places values c d a b = one_translate places values c d a b
+one_are verbs.Merges places values c d a b = one_merges places values c d a b
+one_are verbs.Strip places values c d a b = one_strip places values c d a b
+one_are verbs.Check places values c d a b = one_check places values c d a b
+one_are verbs.Lift places values c d a b = one_lift places values c d a b
+one_are verbs.Solve places values c d a b = one_solve places values c d a b
+one_are verbs.Classical places values c d a b = one_classical places values c d a b
+one_are verbs.Width places values c d a b = one_width places values c d a b
+one_are verbs.Bench places values c d a b = one_bench places values c d a b
+
 -- words behind a verb say one thing at most
 one_of : (v : Verb) (words : List (List ℕ)) (c d : ReadAs v) → SaysOf v words c → SaysOf v words d → c ≡ d
-one_of verbs.Translate words c d a b = one_translate a.places a.values c d a.are_so (same_line words _ _ _ a b)
-one_of verbs.Merges words c d a b = one_merges a.places a.values c d a.are_so (same_line words _ _ _ a b)
-one_of verbs.Strip words c d a b = one_strip a.places a.values c d a.are_so (same_line words _ _ _ a b)
-one_of verbs.Check words c d a b = one_check a.places a.values c d a.are_so (same_line words _ _ _ a b)
-one_of verbs.Lift words c d a b = one_lift a.places a.values c d a.are_so (same_line words _ _ _ a b)
-one_of verbs.Solve words c d a b = one_solve a.places a.values c d a.are_so (same_line words _ _ _ a b)
-one_of verbs.Classical words c d a b = one_classical a.places a.values c d a.are_so (same_line words _ _ _ a b)
-one_of verbs.Width words c d a b = one_width a.places a.values c d a.are_so (same_line words _ _ _ a b)
-one_of verbs.Bench words c d a b = one_bench a.places a.values c d a.are_so (same_line words _ _ _ a b)
+one_of v words c d a b =
+    one_are v a.places a.values c d a.are_so (same_line words (options_of v) (λ places values. AreOf v places values c) (λ places values. AreOf v places values d) a b)
 
 -- also where two verbs are shown to be equal
 one_at : (v w : Verb) (words : List (List ℕ)) (c : ReadAs v) (d : ReadAs w) → v ≡ w → SaysOf v words c → SaysOf w words d → command_of v c ≡ command_of w d

@@ -3,7 +3,7 @@ use Rattle.std.proofs.Common.{◌≡◌, ◌<◌, ◌^◌, List, ℕ, Option, de
 use Rattle.kp_base.specs.declared.limits.Mode.{Mode}
 use Rattle.kp_words.specs.declared.source.Family.{Family}
 use Rattle.kp_words.specs.Names.{Source, Translate, Merges, Strip, Check, Lift, Solve, Classical, Width, Bench}
-use Rattle.kp_words.specs.Options.{SaysNumber, SaysMode, SaysSource, family_word}
+use Rattle.kp_words.specs.Options.{SaysNumber, SaysMode, SaysSource}
 use Rattle.kp_words.specs.Command.{AreTranslate, AreMerges, AreStrip, AreCheck, AreLift, AreSolve, AreClassical, AreWidth, AreBench}
 use Rattle.kp_words.proofs.SaidOnce.{one_within, one_number, one_mode, one_source, one_family}
 
@@ -37,15 +37,9 @@ one_translate places values c d a b =
     let q = b.places_are in
     let v = a.values_are in
     let u = b.values_are in
-    by (let e : c.domain ≡ d.domain = cc (p, q) in e)
-    (let e : c.problem ≡ d.problem = cc (p, q) in e)
-    (let e : c.domain_out ≡ d.domain_out = cc (p, q) in e)
-    (let e : c.problem_out ≡ d.problem_out = cc (p, q) in e)
-    (same_source c.source d.source a.mode b.mode a.merges b.merges (let e : a.mode ≡ b.mode = cc (v, u) in e) (let e : a.merges ≡ b.merges = cc (v, u) in e) a.source b.source)
-    (same_number 1 100000 20000 c.implicates d.implicates a.implicates b.implicates (omega arith) (let e : a.implicates ≡ b.implicates = cc (v, u) in e) a.limit b.limit)
-  where
-    by : c.domain ≡ d.domain → c.problem ≡ d.problem → c.domain_out ≡ d.domain_out → c.problem_out ≡ d.problem_out → c.source ≡ d.source → c.implicates ≡ d.implicates → c ≡ d
-    by e0 e1 e2 e3 e4 e5 = let same : making_translate c.domain c.problem c.domain_out c.problem_out c.source c.implicates ≡ making_translate d.domain d.problem d.domain_out d.problem_out d.source d.implicates = cc in same
+    let e0 : c.source ≡ d.source = same_source c.source d.source a.mode b.mode a.merges b.merges (cc) (cc) a.source b.source in
+    let e1 : c.implicates ≡ d.implicates = same_number 1 100000 20000 c.implicates d.implicates a.implicates b.implicates (omega arith) (cc) a.limit b.limit in
+    let same : making_translate c.domain c.problem c.domain_out c.problem_out c.source c.implicates ≡ making_translate d.domain d.problem d.domain_out d.problem_out d.source d.implicates = cc in same
 
 making_merges : List ℕ → List ℕ → Mode → ℕ → Merges
 making_merges domain problem mode implicates = record { domain = domain; problem = problem; mode = mode; implicates = implicates }
@@ -58,13 +52,9 @@ one_merges places values c d a b =
     let q = b.places_are in
     let v = a.values_are in
     let u = b.values_are in
-    by (let e : c.domain ≡ d.domain = cc (p, q) in e)
-    (let e : c.problem ≡ d.problem = cc (p, q) in e)
-    (same_mode c.mode d.mode a.mode b.mode (let e : a.mode ≡ b.mode = cc (v, u) in e) a.says_mode b.says_mode)
-    (same_number 1 100000 20000 c.implicates d.implicates a.implicates b.implicates (omega arith) (let e : a.implicates ≡ b.implicates = cc (v, u) in e) a.limit b.limit)
-  where
-    by : c.domain ≡ d.domain → c.problem ≡ d.problem → c.mode ≡ d.mode → c.implicates ≡ d.implicates → c ≡ d
-    by e0 e1 e2 e3 = let same : making_merges c.domain c.problem c.mode c.implicates ≡ making_merges d.domain d.problem d.mode d.implicates = cc in same
+    let e0 : c.mode ≡ d.mode = same_mode c.mode d.mode a.mode b.mode (cc) a.says_mode b.says_mode in
+    let e1 : c.implicates ≡ d.implicates = same_number 1 100000 20000 c.implicates d.implicates a.implicates b.implicates (omega arith) (cc) a.limit b.limit in
+    let same : making_merges c.domain c.problem c.mode c.implicates ≡ making_merges d.domain d.problem d.mode d.implicates = cc in same
 
 making_strip : List ℕ → Strip
 making_strip plan = record { plan = plan }
@@ -75,10 +65,7 @@ unfolding making_strip
 one_strip places values c d a b =
     let p = a.places_are in
     let q = b.places_are in
-    by (let e : c.plan ≡ d.plan = cc (p, q) in e)
-  where
-    by : c.plan ≡ d.plan → c ≡ d
-    by e0 = let same : making_strip c.plan ≡ making_strip d.plan = cc in same
+    let same : making_strip c.plan ≡ making_strip d.plan = cc in same
 
 making_check : List ℕ → List ℕ → List ℕ → ℕ → Check
 making_check domain problem plan implicates = record { domain = domain; problem = problem; plan = plan; implicates = implicates }
@@ -91,13 +78,8 @@ one_check places values c d a b =
     let q = b.places_are in
     let v = a.values_are in
     let u = b.values_are in
-    by (let e : c.domain ≡ d.domain = cc (p, q) in e)
-    (let e : c.problem ≡ d.problem = cc (p, q) in e)
-    (let e : c.plan ≡ d.plan = cc (p, q) in e)
-    (same_number 1 100000 20000 c.implicates d.implicates a.implicates b.implicates (omega arith) (let e : a.implicates ≡ b.implicates = cc (v, u) in e) a.limit b.limit)
-  where
-    by : c.domain ≡ d.domain → c.problem ≡ d.problem → c.plan ≡ d.plan → c.implicates ≡ d.implicates → c ≡ d
-    by e0 e1 e2 e3 = let same : making_check c.domain c.problem c.plan c.implicates ≡ making_check d.domain d.problem d.plan d.implicates = cc in same
+    let e0 : c.implicates ≡ d.implicates = same_number 1 100000 20000 c.implicates d.implicates a.implicates b.implicates (omega arith) (cc) a.limit b.limit in
+    let same : making_check c.domain c.problem c.plan c.implicates ≡ making_check d.domain d.problem d.plan d.implicates = cc in same
 
 making_lift : List ℕ → List ℕ → List ℕ → Source → ℕ → Lift
 making_lift domain problem plan source implicates = record { domain = domain; problem = problem; plan = plan; source = source; implicates = implicates }
@@ -110,14 +92,9 @@ one_lift places values c d a b =
     let q = b.places_are in
     let v = a.values_are in
     let u = b.values_are in
-    by (let e : c.domain ≡ d.domain = cc (p, q) in e)
-    (let e : c.problem ≡ d.problem = cc (p, q) in e)
-    (let e : c.plan ≡ d.plan = cc (p, q) in e)
-    (same_source c.source d.source a.mode b.mode a.merges b.merges (let e : a.mode ≡ b.mode = cc (v, u) in e) (let e : a.merges ≡ b.merges = cc (v, u) in e) a.source b.source)
-    (same_number 1 100000 20000 c.implicates d.implicates a.implicates b.implicates (omega arith) (let e : a.implicates ≡ b.implicates = cc (v, u) in e) a.limit b.limit)
-  where
-    by : c.domain ≡ d.domain → c.problem ≡ d.problem → c.plan ≡ d.plan → c.source ≡ d.source → c.implicates ≡ d.implicates → c ≡ d
-    by e0 e1 e2 e3 e4 = let same : making_lift c.domain c.problem c.plan c.source c.implicates ≡ making_lift d.domain d.problem d.plan d.source d.implicates = cc in same
+    let e0 : c.source ≡ d.source = same_source c.source d.source a.mode b.mode a.merges b.merges (cc) (cc) a.source b.source in
+    let e1 : c.implicates ≡ d.implicates = same_number 1 100000 20000 c.implicates d.implicates a.implicates b.implicates (omega arith) (cc) a.limit b.limit in
+    let same : making_lift c.domain c.problem c.plan c.source c.implicates ≡ making_lift d.domain d.problem d.plan d.source d.implicates = cc in same
 
 making_solve : List ℕ → List ℕ → Source → ℕ → ℕ → Option (List ℕ) → Solve
 making_solve domain problem source implicates budget classical = record { domain = domain; problem = problem; source = source; implicates = implicates; budget = budget; classical = classical }
@@ -130,15 +107,10 @@ one_solve places values c d a b =
     let q = b.places_are in
     let v = a.values_are in
     let u = b.values_are in
-    by (let e : c.domain ≡ d.domain = cc (p, q) in e)
-    (let e : c.problem ≡ d.problem = cc (p, q) in e)
-    (same_source c.source d.source a.mode b.mode a.merges b.merges (let e : a.mode ≡ b.mode = cc (v, u) in e) (let e : a.merges ≡ b.merges = cc (v, u) in e) a.source b.source)
-    (same_number 1 100000 20000 c.implicates d.implicates a.implicates b.implicates (omega arith) (let e : a.implicates ≡ b.implicates = cc (v, u) in e) a.limit b.limit)
-    (same_number 1 1000000 10000 c.budget d.budget a.budget b.budget (omega arith) (let e : a.budget ≡ b.budget = cc (v, u) in e) a.says_budget b.says_budget)
-    (let e : c.classical ≡ d.classical = cc (v, u) in e)
-  where
-    by : c.domain ≡ d.domain → c.problem ≡ d.problem → c.source ≡ d.source → c.implicates ≡ d.implicates → c.budget ≡ d.budget → c.classical ≡ d.classical → c ≡ d
-    by e0 e1 e2 e3 e4 e5 = let same : making_solve c.domain c.problem c.source c.implicates c.budget c.classical ≡ making_solve d.domain d.problem d.source d.implicates d.budget d.classical = cc in same
+    let e0 : c.source ≡ d.source = same_source c.source d.source a.mode b.mode a.merges b.merges (cc) (cc) a.source b.source in
+    let e1 : c.implicates ≡ d.implicates = same_number 1 100000 20000 c.implicates d.implicates a.implicates b.implicates (omega arith) (cc) a.limit b.limit in
+    let e2 : c.budget ≡ d.budget = same_number 1 1000000 10000 c.budget d.budget a.budget b.budget (omega arith) (cc) a.says_budget b.says_budget in
+    let same : making_solve c.domain c.problem c.source c.implicates c.budget c.classical ≡ making_solve d.domain d.problem d.source d.implicates d.budget d.classical = cc in same
 
 making_classical : List ℕ → List ℕ → ℕ → Classical
 making_classical domain problem budget = record { domain = domain; problem = problem; budget = budget }
@@ -151,12 +123,8 @@ one_classical places values c d a b =
     let q = b.places_are in
     let v = a.values_are in
     let u = b.values_are in
-    by (let e : c.domain ≡ d.domain = cc (p, q) in e)
-    (let e : c.problem ≡ d.problem = cc (p, q) in e)
-    (same_number 1 1000000 10000 c.budget d.budget a.budget b.budget (omega arith) (let e : a.budget ≡ b.budget = cc (v, u) in e) a.says_budget b.says_budget)
-  where
-    by : c.domain ≡ d.domain → c.problem ≡ d.problem → c.budget ≡ d.budget → c ≡ d
-    by e0 e1 e2 = let same : making_classical c.domain c.problem c.budget ≡ making_classical d.domain d.problem d.budget = cc in same
+    let e0 : c.budget ≡ d.budget = same_number 1 1000000 10000 c.budget d.budget a.budget b.budget (omega arith) (cc) a.says_budget b.says_budget in
+    let same : making_classical c.domain c.problem c.budget ≡ making_classical d.domain d.problem d.budget = cc in same
 
 making_width : List ℕ → List ℕ → ℕ → ℕ → Width
 making_width domain problem bound implicates = record { domain = domain; problem = problem; bound = bound; implicates = implicates }
@@ -169,13 +137,9 @@ one_width places values c d a b =
     let q = b.places_are in
     let v = a.values_are in
     let u = b.values_are in
-    by (let e : c.domain ≡ d.domain = cc (p, q) in e)
-    (let e : c.problem ≡ d.problem = cc (p, q) in e)
-    (same_number 0 8 3 c.bound d.bound a.bound b.bound (omega arith) (let e : a.bound ≡ b.bound = cc (v, u) in e) a.says_bound b.says_bound)
-    (same_number 1 100000 20000 c.implicates d.implicates a.implicates b.implicates (omega arith) (let e : a.implicates ≡ b.implicates = cc (v, u) in e) a.limit b.limit)
-  where
-    by : c.domain ≡ d.domain → c.problem ≡ d.problem → c.bound ≡ d.bound → c.implicates ≡ d.implicates → c ≡ d
-    by e0 e1 e2 e3 = let same : making_width c.domain c.problem c.bound c.implicates ≡ making_width d.domain d.problem d.bound d.implicates = cc in same
+    let e0 : c.bound ≡ d.bound = same_number 0 8 3 c.bound d.bound a.bound b.bound (omega arith) (cc) a.says_bound b.says_bound in
+    let e1 : c.implicates ≡ d.implicates = same_number 1 100000 20000 c.implicates d.implicates a.implicates b.implicates (omega arith) (cc) a.limit b.limit in
+    let same : making_width c.domain c.problem c.bound c.implicates ≡ making_width d.domain d.problem d.bound d.implicates = cc in same
 
 making_bench : Family → ℕ → Mode → ℕ → Bench
 making_bench family n mode budget = record { family = family; n = n; mode = mode; budget = budget }
@@ -188,10 +152,8 @@ one_bench places values c d a b =
     let q = b.places_are in
     let v = a.values_are in
     let u = b.values_are in
-    by (one_family c.family d.family (let e : family_word c.family ≡ family_word d.family = cc (p, q) in e))
-    (one_within 2 100 c.n d.n (decimal c.n) (omega arith) a.size refl b.size (let e : decimal c.n ≡ decimal d.n = cc (p, q) in e))
-    (same_mode c.mode d.mode a.mode b.mode (let e : a.mode ≡ b.mode = cc (v, u) in e) a.says_mode b.says_mode)
-    (same_number 1 1000000 10000 c.budget d.budget a.budget b.budget (omega arith) (let e : a.budget ≡ b.budget = cc (v, u) in e) a.says_budget b.says_budget)
-  where
-    by : c.family ≡ d.family → c.n ≡ d.n → c.mode ≡ d.mode → c.budget ≡ d.budget → c ≡ d
-    by e0 e1 e2 e3 = let same : making_bench c.family c.n c.mode c.budget ≡ making_bench d.family d.n d.mode d.budget = cc in same
+    let e0 : c.family ≡ d.family = one_family c.family d.family cc in
+    let e1 : c.n ≡ d.n = one_within 2 100 c.n d.n (decimal c.n) (omega arith) a.size refl b.size cc in
+    let e2 : c.mode ≡ d.mode = same_mode c.mode d.mode a.mode b.mode (cc) a.says_mode b.says_mode in
+    let e3 : c.budget ≡ d.budget = same_number 1 1000000 10000 c.budget d.budget a.budget b.budget (omega arith) (cc) a.says_budget b.says_budget in
+    let same : making_bench c.family c.n c.mode c.budget ≡ making_bench d.family d.n d.mode d.budget = cc in same

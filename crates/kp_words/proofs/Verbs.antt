@@ -1,8 +1,11 @@
 -- Commands by their verbs.
-use Rattle.std.proofs.Common.{◌≡◌, ◌∙◌, List, ◌∷◌, ℕ, Option, Some, None, Vec, map, codes, refl, ap, sym, subst, bytes_eq, if◌then◌else◌}
+use Rattle.std.proofs.Common.{◌≡◌, ◌≢◌, ◌∙◌, List, ◌∷◌, ℕ, Option, Some, MatchOption, Vec, map, length, refl, ap, sym, subst}
 use Rattle.std.specs.declared.alloc.Global.{Global}
 use Rattle.kp_words.specs.Command.{AreUtf8, IsCommand, IsNoCommand}
-use Rattle.kp_words.specs.Verbs.{verb_word, verb_in, ReadAs, read_as, SaysOf, SaysCommand, IsRead}
+use Rattle.kp_words.specs.Verbs.{all_verbs, verb_named, verb_word, verb_in, places_named, options_of, ReadAs, read_as, AreOf, IsSaid, SaysOf, SaysCommand, IsRead}
+use Rattle.kp_words.proofs.Calls.{no_line}
+use Rattle.kp_words.proofs.Named.{named_is, one_named}
+use Rattle.kp_line.specs.Words.{Line}
 use Rattle.kp_words.specs.declared.verb.Verb.{Verb}
 use Rattle.kp_words.specs.declared.verb.Verb.TheVariants as verbs
 use Rattle.kp_words.specs.declared.lent.CommandRef.{CommandRef}
@@ -13,32 +16,22 @@ Texts = List (List ℕ)
 
 -- ---- a word is one verb at most
 
--- the verb of a word, looked for in this order
-abbrev found_verb : List ℕ → Option Verb
-found_verb w =
-    if bytes_eq w (codes "translate") then Some verbs.Translate else
-    if bytes_eq w (codes "merges") then Some verbs.Merges else
-    if bytes_eq w (codes "strip") then Some verbs.Strip else
-    if bytes_eq w (codes "check") then Some verbs.Check else
-    if bytes_eq w (codes "lift") then Some verbs.Lift else
-    if bytes_eq w (codes "solve") then Some verbs.Solve else
-    if bytes_eq w (codes "classical") then Some verbs.Classical else
-    if bytes_eq w (codes "width") then Some verbs.Width else
-    if bytes_eq w (codes "bench") then Some verbs.Bench else None
+verb_again : (v : Verb) → verb_named (verb_word v) ≡ Some v
+verb_again verbs.Translate = refl
+verb_again verbs.Merges = refl
+verb_again verbs.Strip = refl
+verb_again verbs.Check = refl
+verb_again verbs.Lift = refl
+verb_again verbs.Solve = refl
+verb_again verbs.Classical = refl
+verb_again verbs.Width = refl
+verb_again verbs.Bench = refl
 
-found_again : (v : Verb) → found_verb (verb_word v) ≡ Some v
-found_again verbs.Translate = refl
-found_again verbs.Merges = refl
-found_again verbs.Strip = refl
-found_again verbs.Check = refl
-found_again verbs.Lift = refl
-found_again verbs.Solve = refl
-found_again verbs.Classical = refl
-found_again verbs.Width = refl
-found_again verbs.Bench = refl
+pub verb_named_is : (w : List ℕ) → MatchOption (verb_named w) ((v : Verb) → w ≢ verb_word v) (λ v. w ≡ verb_word v)
+verb_named_is w = named_is verb_word all_verbs verb_again w
 
 pub one_verb : (v w : Verb) → verb_word v ≡ verb_word w → v ≡ w
-one_verb v w e = let same : Some v ≡ Some w = sym (found_again v) ∙ (ap found_verb e ∙ found_again w) in cc
+one_verb v w e = one_named verb_word all_verbs verb_again v w e
 
 -- ---- a command is its verb, and what it is read as
 
@@ -68,6 +61,27 @@ same_command (commands.Bench c) = refl
 -- where words say nothing of a verb, they say no command of it
 pub none_of : (v : Verb) (words : Texts) → ((d : ReadAs v) → SaysOf v words d → ⊥) → (c : CommandRef) → verb_in c ≡ v → SaysCommand words c → ⊥
 none_of v words none c e says = subst (λ w. (d : ReadAs w) → SaysOf w words d → ⊥) (sym e) none (read_as c) says
+
+-- what is read of a line by a verb is read of it by an equal one
+pub said_by : (v w : Verb) (places : Texts) (values : List (Option (List ℕ))) (r : Option CommandRef) → v ≡ w → MatchOption r ((d : ReadAs w) → AreOf w places values d → ⊥) (IsSaid w places values)
+    → MatchOption r ((d : ReadAs v) → AreOf v places values d → ⊥) (IsSaid v places values)
+said_by v w places values r same h = subst (λ x. MatchOption r ((d : ReadAs x) → AreOf x places values d → ⊥) (IsSaid x places values)) (sym same) h
+
+-- they say nothing where they are no line of its options with as many positional words
+places_count : (v : Verb) (d : ReadAs v) (places : Texts) (values : List (Option (List ℕ))) → AreOf v places values d → length places ≡ length (places_named v)
+places_count verbs.Translate d places values are = ap length are.places_are
+places_count verbs.Merges d places values are = ap length are.places_are
+places_count verbs.Strip d places values are = ap length are.places_are
+places_count verbs.Check d places values are = ap length are.places_are
+places_count verbs.Lift d places values are = ap length are.places_are
+places_count verbs.Solve d places values are = ap length are.places_are
+places_count verbs.Classical d places values are = ap length are.places_are
+places_count verbs.Width d places values are = ap length are.places_are
+places_count verbs.Bench d places values are = ap length are.places_are
+
+pub says_none : (v : Verb) (words : Texts) → ((places : Texts) (values : List (Option (List ℕ))) → length places ≡ length (places_named v) → Line words places (options_of v) values → ⊥)
+    → (d : ReadAs v) → SaysOf v words d → ⊥
+says_none v words none d = no_line words (options_of v) (length (places_named v)) (λ places values. AreOf v places values d) (places_count v d) none
 
 -- ---- words are a command just where they are read as it
 

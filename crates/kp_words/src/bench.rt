@@ -1,14 +1,15 @@
-ghost use Rattle.std.specs.Prelude.{◌≡◌, length, MatchOption, IfOk, IfErr};
-ghost use Rattle.kp_line.specs.Texts.{texts, places_of, values_of};
-ghost use Rattle.kp_line.specs.declared.stop.WordStop.TheVariants.{Usage};
+ghost use Rattle.std.specs.Prelude.{◌≡◌, length, MatchOption};
+ghost use Rattle.kp_line.specs.Texts.{places_of, values_of};
 ghost use Rattle.kp_words.specs.Names.{Bench as Names};
-ghost use Rattle.kp_words.specs.Command.{AreBench, SaysBench};
+ghost use Rattle.kp_words.specs.Command.{AreBench};
+ghost use Rattle.kp_words.specs.Verbs.{IsSaid};
+ghost use Rattle.kp_words.specs.declared.verb.Verb.TheVariants as verbs;
 
+use crate::lent::CommandRef;
 use crate::source::{Family, family_of, said_mode};
 use crate::values::{number_within, said_budget};
 use kp_base::Mode;
-use kp_line::{Given, WordStop, line_of};
-use std::alloc::Global;
+use kp_line::Given;
 use std::marker::Model;
 
 /// The words of `bench`.
@@ -33,11 +34,11 @@ impl Model for Bench {
 }
 
 impl Bench {
-    // The run on a generated problem that these positional words and values are.
-    fn from_line(line: &Given<'_>) -> Option<Bench>
+    /// The run on a generated problem that these positional words and values are.
+    pub(crate) fn from_line<'a>(line: &Given<'a>) -> Option<CommandRef<'a>>
         requires places { length line.now.places.items ≡ 2 }
         requires values { length line.now.values.items ≡ 2 }
-        ensures { MatchOption result ((c : Names) → AreBench (places_of line.now) (values_of line.now) c → ⊥) (λ c. AreBench (places_of line.now) (values_of line.now) c) }
+        ensures { MatchOption result ((c : Names) → AreBench (places_of line.now) (values_of line.now) c → ⊥) (IsSaid verbs.Bench (places_of line.now) (values_of line.now)) }
     {
         let (family, size) = line.two_places();
         let (mode, budget) = line.two_values();
@@ -45,23 +46,11 @@ impl Bench {
         let n = number_within(size, 2, 100)?;
         let mode = said_mode(mode)?;
         let budget = said_budget(budget)?;
-        Some(Bench {
+        Some(CommandRef::Bench(Bench {
             family,
             n,
             mode,
             budget,
-        })
-    }
-
-    /// The run on a generated problem that the words behind `bench` say.
-    pub(crate) fn from_rest<'a>(alloc: Global, words: &'a [&'a str]) -> Result<Bench, WordStop>
-        ensures ok { IfOk result (λ c. SaysBench (texts words.entry.now) c) }
-        ensures err { IfErr result (λ e. e ≡ Usage → (c : Names) → SaysBench (texts words.entry.now) c → ⊥) }
-    {
-        let line = line_of(alloc, "bench", &["FAMILY", "N"], &["mode", "budget"], words)?;
-        match Bench::from_line(&line) {
-            Some(found) => Ok(found),
-            None => Err(WordStop::Usage),
-        }
+        }))
     }
 }

@@ -1,16 +1,18 @@
-ghost use Rattle.std.specs.Prelude.{◌≡◌, length, MatchOption, IfOk, IfErr};
-ghost use Rattle.kp_line.specs.Texts.{texts, places_of, values_of};
-ghost use Rattle.kp_line.specs.declared.stop.WordStop.TheVariants.{Usage};
+ghost use Rattle.std.specs.Prelude.{◌≡◌, length, MatchOption, IfOk};
+ghost use Rattle.kp_line.specs.Texts.{places_of, values_of};
 ghost use Rattle.kp_words.specs.Names.{Check as Names};
-ghost use Rattle.kp_words.specs.Command.{AreCheck, SaysCheck};
+ghost use Rattle.kp_words.specs.Command.{AreCheck};
+ghost use Rattle.kp_words.specs.Verbs.{IsSaid};
+ghost use Rattle.kp_words.specs.declared.verb.Verb.TheVariants as verbs;
 ghost use Rattle.kp_words.specs.Owned.{command_view};
 ghost use Rattle.kp_words.specs.declared.lent.CommandRef.TheVariants as commands;
 
 use crate::commands::Command;
+use crate::lent::CommandRef;
 use crate::owned::two_names;
 use crate::values::said_limit;
 use kp_base::{Memory, Text};
-use kp_line::{Given, WordStop, line_of};
+use kp_line::Given;
 use std::alloc::Global;
 use std::marker::Model;
 
@@ -36,32 +38,20 @@ impl<'a> Model for Check<'a> {
 }
 
 impl<'a> Check<'a> {
-    // The check that these positional words and values are.
-    fn from_line(line: &Given<'a>) -> Option<Check<'a>>
+    /// The check that these positional words and values are.
+    pub(crate) fn from_line(line: &Given<'a>) -> Option<CommandRef<'a>>
         requires places { length line.now.places.items ≡ 3 }
         requires values { length line.now.values.items ≡ 1 }
-        ensures { MatchOption result ((c : Names) → AreCheck (places_of line.now) (values_of line.now) c → ⊥) (λ c. AreCheck (places_of line.now) (values_of line.now) c) }
+        ensures { MatchOption result ((c : Names) → AreCheck (places_of line.now) (values_of line.now) c → ⊥) (IsSaid verbs.Check (places_of line.now) (values_of line.now)) }
     {
         let (domain, problem, plan) = line.three_places();
         let implicates = said_limit(line.one_value())?;
-        Some(Check {
+        Some(CommandRef::Check(Check {
             domain: domain.as_bytes(),
             problem: problem.as_bytes(),
             plan: plan.as_bytes(),
             implicates,
-        })
-    }
-
-    /// The check that the words behind `check` say.
-    pub(crate) fn from_rest(alloc: Global, words: &'a [&'a str]) -> Result<Check<'a>, WordStop>
-        ensures ok { IfOk result (λ c. SaysCheck (texts words.entry.now) c) }
-        ensures err { IfErr result (λ e. e ≡ Usage → (c : Names) → SaysCheck (texts words.entry.now) c → ⊥) }
-    {
-        let line = line_of(alloc, "check", &["D", "P", "PLAN"], &["implicates"], words)?;
-        match Check::from_line(&line) {
-            Some(found) => Ok(found),
-            None => Err(WordStop::Usage),
-        }
+        }))
     }
 
     /// The command, with names of its own.

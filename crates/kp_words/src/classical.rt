@@ -1,16 +1,18 @@
-ghost use Rattle.std.specs.Prelude.{◌≡◌, length, MatchOption, IfOk, IfErr};
-ghost use Rattle.kp_line.specs.Texts.{texts, places_of, values_of};
-ghost use Rattle.kp_line.specs.declared.stop.WordStop.TheVariants.{Usage};
+ghost use Rattle.std.specs.Prelude.{◌≡◌, length, MatchOption, IfOk};
+ghost use Rattle.kp_line.specs.Texts.{places_of, values_of};
 ghost use Rattle.kp_words.specs.Names.{Classical as Names};
-ghost use Rattle.kp_words.specs.Command.{AreClassical, SaysClassical};
+ghost use Rattle.kp_words.specs.Command.{AreClassical};
+ghost use Rattle.kp_words.specs.Verbs.{IsSaid};
+ghost use Rattle.kp_words.specs.declared.verb.Verb.TheVariants as verbs;
 ghost use Rattle.kp_words.specs.Owned.{command_view};
 ghost use Rattle.kp_words.specs.declared.lent.CommandRef.TheVariants as commands;
 
 use crate::commands::Command;
+use crate::lent::CommandRef;
 use crate::owned::two_names;
 use crate::values::said_budget;
 use kp_base::Memory;
-use kp_line::{Given, WordStop, line_of};
+use kp_line::Given;
 use std::alloc::Global;
 use std::marker::Model;
 
@@ -34,31 +36,19 @@ impl<'a> Model for Classical<'a> {
 }
 
 impl<'a> Classical<'a> {
-    // The call to solve a classical problem that these positional words and values are.
-    fn from_line(line: &Given<'a>) -> Option<Classical<'a>>
+    /// The call to solve a classical problem that these positional words and values are.
+    pub(crate) fn from_line(line: &Given<'a>) -> Option<CommandRef<'a>>
         requires places { length line.now.places.items ≡ 2 }
         requires values { length line.now.values.items ≡ 1 }
-        ensures { MatchOption result ((c : Names) → AreClassical (places_of line.now) (values_of line.now) c → ⊥) (λ c. AreClassical (places_of line.now) (values_of line.now) c) }
+        ensures { MatchOption result ((c : Names) → AreClassical (places_of line.now) (values_of line.now) c → ⊥) (IsSaid verbs.Classical (places_of line.now) (values_of line.now)) }
     {
         let (domain, problem) = line.two_places();
         let budget = said_budget(line.one_value())?;
-        Some(Classical {
+        Some(CommandRef::Classical(Classical {
             domain: domain.as_bytes(),
             problem: problem.as_bytes(),
             budget,
-        })
-    }
-
-    /// The call to solve a classical problem that the words behind `classical` say.
-    pub(crate) fn from_rest(alloc: Global, words: &'a [&'a str]) -> Result<Classical<'a>, WordStop>
-        ensures ok { IfOk result (λ c. SaysClassical (texts words.entry.now) c) }
-        ensures err { IfErr result (λ e. e ≡ Usage → (c : Names) → SaysClassical (texts words.entry.now) c → ⊥) }
-    {
-        let line = line_of(alloc, "classical", &["D", "P"], &["budget"], words)?;
-        match Classical::from_line(&line) {
-            Some(found) => Ok(found),
-            None => Err(WordStop::Usage),
-        }
+        }))
     }
 
     /// The command, with names of its own.

@@ -1,8 +1,8 @@
-ghost use Rattle.std.specs.Prelude.{◌≡◌, IfOk, IfErr};
-ghost use Rattle.kp_line.specs.Texts.{texts};
+ghost use Rattle.std.specs.Prelude.{◌≡◌, length, MatchOption, IfOk, IfErr};
+ghost use Rattle.kp_line.specs.Texts.{texts, places_of, values_of};
 ghost use Rattle.kp_line.specs.declared.stop.WordStop.TheVariants.{Usage};
 ghost use Rattle.kp_words.specs.Owned.{command_view};
-ghost use Rattle.kp_words.specs.Verbs.{verb_in, SaysCommand};
+ghost use Rattle.kp_words.specs.Verbs.{verb_in, options_of, places_named, ReadAs, AreOf, IsSaid, SaysCommand};
 ghost use Rattle.kp_words.specs.declared.lent.CommandRef.{CommandRef as Commands};
 
 use crate::bench::Bench;
@@ -17,7 +17,7 @@ use crate::translate::Translate;
 use crate::verb::Verb;
 use crate::width::Width;
 use kp_base::Memory;
-use kp_line::WordStop;
+use kp_line::{Given, WordStop};
 use std::alloc::Global;
 
 /// A command whose names are lent.
@@ -44,6 +44,25 @@ pub enum CommandRef<'a> {
 }
 
 impl<'a> CommandRef<'a> {
+    // The command of this verb that these positional words and values are.
+    fn from_line(verb: Verb, line: &Given<'a>) -> Option<CommandRef<'a>>
+        requires places { length line.now.places.items ≡ length (places_named verb) }
+        requires values { length line.now.values.items ≡ length (options_of verb) }
+        ensures { MatchOption result ((d : ReadAs verb) → AreOf verb (places_of line.now) (values_of line.now) d → ⊥) (IsSaid verb (places_of line.now) (values_of line.now)) }
+    {
+        match verb {
+            Verb::Translate => Translate::from_line(line),
+            Verb::Merges => Merges::from_line(line),
+            Verb::Strip => Strip::from_line(line),
+            Verb::Check => Check::from_line(line),
+            Verb::Lift => Lift::from_line(line),
+            Verb::Solve => Solve::from_line(line),
+            Verb::Classical => Classical::from_line(line),
+            Verb::Width => Width::from_line(line),
+            Verb::Bench => Bench::from_line(line),
+        }
+    }
+
     /// The command of this verb that the words behind it say.
     pub(crate) fn from_rest(
         alloc: Global,
@@ -54,16 +73,12 @@ impl<'a> CommandRef<'a> {
         ensures ok { IfOk result (λ c. SaysCommand (texts words.entry.now) c) }
         ensures err { IfErr result (λ e. e ≡ Usage → (c : Commands) → verb_in c ≡ verb → SaysCommand (texts words.entry.now) c → ⊥) }
     {
-        match verb {
-            Verb::Translate => Ok(CommandRef::Translate(Translate::from_rest(alloc, words)?)),
-            Verb::Merges => Ok(CommandRef::Merges(Merges::from_rest(alloc, words)?)),
-            Verb::Strip => Ok(CommandRef::Strip(Strip::from_rest(alloc, words)?)),
-            Verb::Check => Ok(CommandRef::Check(Check::from_rest(alloc, words)?)),
-            Verb::Lift => Ok(CommandRef::Lift(Lift::from_rest(alloc, words)?)),
-            Verb::Solve => Ok(CommandRef::Solve(Solve::from_rest(alloc, words)?)),
-            Verb::Classical => Ok(CommandRef::Classical(Classical::from_rest(alloc, words)?)),
-            Verb::Width => Ok(CommandRef::Width(Width::from_rest(alloc, words)?)),
-            Verb::Bench => Ok(CommandRef::Bench(Bench::from_rest(alloc, words)?)),
+        let line = verb.line(alloc, words)?;
+        let found = CommandRef::from_line(verb, &line);
+        drop(line);
+        match found {
+            Some(command) => Ok(command),
+            None => Err(WordStop::Usage),
         }
     }
 

@@ -1,17 +1,19 @@
-ghost use Rattle.std.specs.Prelude.{◌≡◌, length, MatchOption, IfOk, IfErr};
-ghost use Rattle.kp_line.specs.Texts.{texts, places_of, values_of};
-ghost use Rattle.kp_line.specs.declared.stop.WordStop.TheVariants.{Usage};
+ghost use Rattle.std.specs.Prelude.{◌≡◌, length, MatchOption, IfOk};
+ghost use Rattle.kp_line.specs.Texts.{places_of, values_of};
 ghost use Rattle.kp_words.specs.Names.{Lift as Names, source_view};
-ghost use Rattle.kp_words.specs.Command.{AreLift, SaysLift};
+ghost use Rattle.kp_words.specs.Command.{AreLift};
+ghost use Rattle.kp_words.specs.Verbs.{IsSaid};
+ghost use Rattle.kp_words.specs.declared.verb.Verb.TheVariants as verbs;
 ghost use Rattle.kp_words.specs.Owned.{command_view};
 ghost use Rattle.kp_words.specs.declared.lent.CommandRef.TheVariants as commands;
 
 use crate::commands::Command;
+use crate::lent::CommandRef;
 use crate::owned::two_names;
 use crate::source::{SourceRef, said_source};
 use crate::values::said_limit;
 use kp_base::{Memory, Text};
-use kp_line::{Given, WordStop, line_of};
+use kp_line::Given;
 use std::alloc::Global;
 use std::marker::Model;
 
@@ -39,41 +41,23 @@ impl<'a> Model for Lift<'a> {
 }
 
 impl<'a> Lift<'a> {
-    // The lift that these positional words and values are.
-    fn from_line(line: &Given<'a>) -> Option<Lift<'a>>
+    /// The lift that these positional words and values are.
+    pub(crate) fn from_line(line: &Given<'a>) -> Option<CommandRef<'a>>
         requires places { length line.now.places.items ≡ 3 }
         requires values { length line.now.values.items ≡ 3 }
-        ensures { MatchOption result ((c : Names) → AreLift (places_of line.now) (values_of line.now) c → ⊥) (λ c. AreLift (places_of line.now) (values_of line.now) c) }
+        ensures { MatchOption result ((c : Names) → AreLift (places_of line.now) (values_of line.now) c → ⊥) (IsSaid verbs.Lift (places_of line.now) (values_of line.now)) }
     {
         let (domain, problem, plan) = line.three_places();
         let (mode, merges, implicates) = line.three_values();
         let source = said_source(mode, merges)?;
         let implicates = said_limit(implicates)?;
-        Some(Lift {
+        Some(CommandRef::Lift(Lift {
             domain: domain.as_bytes(),
             problem: problem.as_bytes(),
             plan: plan.as_bytes(),
             source,
             implicates,
-        })
-    }
-
-    /// The lift that the words behind `lift` say.
-    pub(crate) fn from_rest(alloc: Global, words: &'a [&'a str]) -> Result<Lift<'a>, WordStop>
-        ensures ok { IfOk result (λ c. SaysLift (texts words.entry.now) c) }
-        ensures err { IfErr result (λ e. e ≡ Usage → (c : Names) → SaysLift (texts words.entry.now) c → ⊥) }
-    {
-        let line = line_of(
-            alloc,
-            "lift",
-            &["D", "P", "PLAN"],
-            &["mode", "merges", "implicates"],
-            words,
-        )?;
-        match Lift::from_line(&line) {
-            Some(found) => Ok(found),
-            None => Err(WordStop::Usage),
-        }
+        }))
     }
 
     /// The command, with names of its own.

@@ -1,17 +1,19 @@
-ghost use Rattle.std.specs.Prelude.{◌≡◌, length, MatchOption, IfOk, IfErr};
-ghost use Rattle.kp_line.specs.Texts.{texts, places_of, values_of};
-ghost use Rattle.kp_line.specs.declared.stop.WordStop.TheVariants.{Usage};
+ghost use Rattle.std.specs.Prelude.{◌≡◌, length, MatchOption, IfOk};
+ghost use Rattle.kp_line.specs.Texts.{places_of, values_of};
 ghost use Rattle.kp_words.specs.Names.{Merges as Names};
-ghost use Rattle.kp_words.specs.Command.{AreMerges, SaysMerges};
+ghost use Rattle.kp_words.specs.Command.{AreMerges};
+ghost use Rattle.kp_words.specs.Verbs.{IsSaid};
+ghost use Rattle.kp_words.specs.declared.verb.Verb.TheVariants as verbs;
 ghost use Rattle.kp_words.specs.Owned.{command_view};
 ghost use Rattle.kp_words.specs.declared.lent.CommandRef.TheVariants as commands;
 
 use crate::commands::Command;
+use crate::lent::CommandRef;
 use crate::owned::two_names;
 use crate::source::said_mode;
 use crate::values::said_limit;
 use kp_base::{Memory, Mode};
-use kp_line::{Given, WordStop, line_of};
+use kp_line::Given;
 use std::alloc::Global;
 use std::marker::Model;
 
@@ -37,34 +39,22 @@ impl<'a> Model for Merges<'a> {
 }
 
 impl<'a> Merges<'a> {
-    // The call for merges that these positional words and values are.
-    fn from_line(line: &Given<'a>) -> Option<Merges<'a>>
+    /// The call for merges that these positional words and values are.
+    pub(crate) fn from_line(line: &Given<'a>) -> Option<CommandRef<'a>>
         requires places { length line.now.places.items ≡ 2 }
         requires values { length line.now.values.items ≡ 2 }
-        ensures { MatchOption result ((c : Names) → AreMerges (places_of line.now) (values_of line.now) c → ⊥) (λ c. AreMerges (places_of line.now) (values_of line.now) c) }
+        ensures { MatchOption result ((c : Names) → AreMerges (places_of line.now) (values_of line.now) c → ⊥) (IsSaid verbs.Merges (places_of line.now) (values_of line.now)) }
     {
         let (domain, problem) = line.two_places();
         let (mode, implicates) = line.two_values();
         let mode = said_mode(mode)?;
         let implicates = said_limit(implicates)?;
-        Some(Merges {
+        Some(CommandRef::Merges(Merges {
             domain: domain.as_bytes(),
             problem: problem.as_bytes(),
             mode,
             implicates,
-        })
-    }
-
-    /// The call for merges that the words behind `merges` say.
-    pub(crate) fn from_rest(alloc: Global, words: &'a [&'a str]) -> Result<Merges<'a>, WordStop>
-        ensures ok { IfOk result (λ c. SaysMerges (texts words.entry.now) c) }
-        ensures err { IfErr result (λ e. e ≡ Usage → (c : Names) → SaysMerges (texts words.entry.now) c → ⊥) }
-    {
-        let line = line_of(alloc, "merges", &["D", "P"], &["mode", "implicates"], words)?;
-        match Merges::from_line(&line) {
-            Some(found) => Ok(found),
-            None => Err(WordStop::Usage),
-        }
+        }))
     }
 
     /// The command, with names of its own.

@@ -1,17 +1,19 @@
-ghost use Rattle.std.specs.Prelude.{◌≡◌, length, MatchOption, IfOk, IfErr};
-ghost use Rattle.kp_line.specs.Texts.{texts, places_of, values_of};
-ghost use Rattle.kp_line.specs.declared.stop.WordStop.TheVariants.{Usage};
+ghost use Rattle.std.specs.Prelude.{◌≡◌, length, MatchOption, IfOk};
+ghost use Rattle.kp_line.specs.Texts.{places_of, values_of};
 ghost use Rattle.kp_words.specs.Names.{Solve as Names, source_view};
-ghost use Rattle.kp_words.specs.Command.{AreSolve, SaysSolve};
+ghost use Rattle.kp_words.specs.Command.{AreSolve};
+ghost use Rattle.kp_words.specs.Verbs.{IsSaid};
+ghost use Rattle.kp_words.specs.declared.verb.Verb.TheVariants as verbs;
 ghost use Rattle.kp_words.specs.Owned.{command_view};
 ghost use Rattle.kp_words.specs.declared.lent.CommandRef.TheVariants as commands;
 
 use crate::commands::Command;
+use crate::lent::CommandRef;
 use crate::owned::{name_owned, two_names};
 use crate::source::{SourceRef, said_source};
 use crate::values::{bytes_of, said_budget, said_limit};
 use kp_base::Memory;
-use kp_line::{Given, WordStop, line_of};
+use kp_line::Given;
 use std::alloc::Global;
 use std::marker::Model;
 
@@ -42,43 +44,25 @@ impl<'a> Model for Solve<'a> {
 }
 
 impl<'a> Solve<'a> {
-    // The call to solve that these positional words and values are.
-    fn from_line(line: &Given<'a>) -> Option<Solve<'a>>
+    /// The call to solve that these positional words and values are.
+    pub(crate) fn from_line(line: &Given<'a>) -> Option<CommandRef<'a>>
         requires places { length line.now.places.items ≡ 2 }
         requires values { length line.now.values.items ≡ 5 }
-        ensures { MatchOption result ((c : Names) → AreSolve (places_of line.now) (values_of line.now) c → ⊥) (λ c. AreSolve (places_of line.now) (values_of line.now) c) }
+        ensures { MatchOption result ((c : Names) → AreSolve (places_of line.now) (values_of line.now) c → ⊥) (IsSaid verbs.Solve (places_of line.now) (values_of line.now)) }
     {
         let (domain, problem) = line.two_places();
         let [mode, merges, implicates, budget, classical] = line.five_values();
         let source = said_source(mode, merges)?;
         let implicates = said_limit(implicates)?;
         let budget = said_budget(budget)?;
-        Some(Solve {
+        Some(CommandRef::Solve(Solve {
             domain: domain.as_bytes(),
             problem: problem.as_bytes(),
             source,
             implicates,
             budget,
             classical: bytes_of(classical),
-        })
-    }
-
-    /// The call to solve that the words behind `solve` say.
-    pub(crate) fn from_rest(alloc: Global, words: &'a [&'a str]) -> Result<Solve<'a>, WordStop>
-        ensures ok { IfOk result (λ c. SaysSolve (texts words.entry.now) c) }
-        ensures err { IfErr result (λ e. e ≡ Usage → (c : Names) → SaysSolve (texts words.entry.now) c → ⊥) }
-    {
-        let line = line_of(
-            alloc,
-            "solve",
-            &["D", "P"],
-            &["mode", "merges", "implicates", "budget", "classical"],
-            words,
-        )?;
-        match Solve::from_line(&line) {
-            Some(found) => Ok(found),
-            None => Err(WordStop::Usage),
-        }
+        }))
     }
 
     /// The command, with names of its own.

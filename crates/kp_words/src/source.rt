@@ -1,4 +1,4 @@
-ghost use Rattle.std.specs.Prelude.{◌≡◌, ◌≢◌, ℕ, List, codes, option_map, MatchOption, IfOk};
+ghost use Rattle.std.specs.Prelude.{◌≡◌, ◌≢◌, option_map, MatchOption, IfOk};
 ghost use Rattle.kp_base.specs.declared.limits.Mode.{Mode as Modes};
 ghost use Rattle.kp_words.specs.Names.{Source as Origin, source_of, source_view};
 ghost use Rattle.kp_words.specs.Options.{mode_word, family_word, SaysMode, SaysSource};

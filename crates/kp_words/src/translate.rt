@@ -1,17 +1,19 @@
-ghost use Rattle.std.specs.Prelude.{◌≡◌, length, MatchOption, IfOk, IfErr};
-ghost use Rattle.kp_line.specs.Texts.{texts, places_of, values_of};
-ghost use Rattle.kp_line.specs.declared.stop.WordStop.TheVariants.{Usage};
+ghost use Rattle.std.specs.Prelude.{◌≡◌, length, MatchOption, IfOk};
+ghost use Rattle.kp_line.specs.Texts.{places_of, values_of};
 ghost use Rattle.kp_words.specs.Names.{Translate as Names, source_view};
-ghost use Rattle.kp_words.specs.Command.{AreTranslate, SaysTranslate};
+ghost use Rattle.kp_words.specs.Command.{AreTranslate};
+ghost use Rattle.kp_words.specs.Verbs.{IsSaid};
+ghost use Rattle.kp_words.specs.declared.verb.Verb.TheVariants as verbs;
 ghost use Rattle.kp_words.specs.Owned.{command_view};
 ghost use Rattle.kp_words.specs.declared.lent.CommandRef.TheVariants as commands;
 
 use crate::commands::Command;
+use crate::lent::CommandRef;
 use crate::owned::two_names;
 use crate::source::{SourceRef, said_source};
 use crate::values::{are_apart, said_limit};
 use kp_base::Memory;
-use kp_line::{Given, WordStop, line_of};
+use kp_line::Given;
 use std::alloc::Global;
 use std::marker::Model;
 
@@ -41,11 +43,11 @@ impl<'a> Model for Translate<'a> {
 }
 
 impl<'a> Translate<'a> {
-    // The translation that these positional words and values are.
-    fn from_line(line: &Given<'a>) -> Option<Translate<'a>>
+    /// The translation that these positional words and values are.
+    pub(crate) fn from_line(line: &Given<'a>) -> Option<CommandRef<'a>>
         requires places { length line.now.places.items ≡ 4 }
         requires values { length line.now.values.items ≡ 3 }
-        ensures { MatchOption result ((c : Names) → AreTranslate (places_of line.now) (values_of line.now) c → ⊥) (λ c. AreTranslate (places_of line.now) (values_of line.now) c) }
+        ensures { MatchOption result ((c : Names) → AreTranslate (places_of line.now) (values_of line.now) c → ⊥) (IsSaid verbs.Translate (places_of line.now) (values_of line.now)) }
     {
         let (domain, problem, domain_out, problem_out) = line.four_places();
         let (mode, merges, implicates) = line.three_values();
@@ -54,32 +56,14 @@ impl<'a> Translate<'a> {
         }
         let source = said_source(mode, merges)?;
         let implicates = said_limit(implicates)?;
-        Some(Translate {
+        Some(CommandRef::Translate(Translate {
             domain: domain.as_bytes(),
             problem: problem.as_bytes(),
             domain_out: domain_out.as_bytes(),
             problem_out: problem_out.as_bytes(),
             source,
             implicates,
-        })
-    }
-
-    /// The translation that the words behind `translate` say.
-    pub(crate) fn from_rest(alloc: Global, words: &'a [&'a str]) -> Result<Translate<'a>, WordStop>
-        ensures ok { IfOk result (λ c. SaysTranslate (texts words.entry.now) c) }
-        ensures err { IfErr result (λ e. e ≡ Usage → (c : Names) → SaysTranslate (texts words.entry.now) c → ⊥) }
-    {
-        let line = line_of(
-            alloc,
-            "translate",
-            &["D", "P", "OD", "OP"],
-            &["mode", "merges", "implicates"],
-            words,
-        )?;
-        match Translate::from_line(&line) {
-            Some(found) => Ok(found),
-            None => Err(WordStop::Usage),
-        }
+        }))
     }
 
     /// The command, with names of its own.

@@ -1,16 +1,18 @@
-ghost use Rattle.std.specs.Prelude.{◌≡◌, length, MatchOption, IfOk, IfErr};
-ghost use Rattle.kp_line.specs.Texts.{texts, places_of, values_of};
-ghost use Rattle.kp_line.specs.declared.stop.WordStop.TheVariants.{Usage};
+ghost use Rattle.std.specs.Prelude.{◌≡◌, length, MatchOption, IfOk};
+ghost use Rattle.kp_line.specs.Texts.{places_of, values_of};
 ghost use Rattle.kp_words.specs.Names.{Width as Names};
-ghost use Rattle.kp_words.specs.Command.{AreWidth, SaysWidth};
+ghost use Rattle.kp_words.specs.Command.{AreWidth};
+ghost use Rattle.kp_words.specs.Verbs.{IsSaid};
+ghost use Rattle.kp_words.specs.declared.verb.Verb.TheVariants as verbs;
 ghost use Rattle.kp_words.specs.Owned.{command_view};
 ghost use Rattle.kp_words.specs.declared.lent.CommandRef.TheVariants as commands;
 
 use crate::commands::Command;
+use crate::lent::CommandRef;
 use crate::owned::two_names;
 use crate::values::{said_bound, said_limit};
 use kp_base::Memory;
-use kp_line::{Given, WordStop, line_of};
+use kp_line::Given;
 use std::alloc::Global;
 use std::marker::Model;
 
@@ -36,34 +38,22 @@ impl<'a> Model for Width<'a> {
 }
 
 impl<'a> Width<'a> {
-    // The call for the width that these positional words and values are.
-    fn from_line(line: &Given<'a>) -> Option<Width<'a>>
+    /// The call for the width that these positional words and values are.
+    pub(crate) fn from_line(line: &Given<'a>) -> Option<CommandRef<'a>>
         requires places { length line.now.places.items ≡ 2 }
         requires values { length line.now.values.items ≡ 2 }
-        ensures { MatchOption result ((c : Names) → AreWidth (places_of line.now) (values_of line.now) c → ⊥) (λ c. AreWidth (places_of line.now) (values_of line.now) c) }
+        ensures { MatchOption result ((c : Names) → AreWidth (places_of line.now) (values_of line.now) c → ⊥) (IsSaid verbs.Width (places_of line.now) (values_of line.now)) }
     {
         let (domain, problem) = line.two_places();
         let (bound, implicates) = line.two_values();
         let bound = said_bound(bound)?;
         let implicates = said_limit(implicates)?;
-        Some(Width {
+        Some(CommandRef::Width(Width {
             domain: domain.as_bytes(),
             problem: problem.as_bytes(),
             bound,
             implicates,
-        })
-    }
-
-    /// The call for the width that the words behind `width` say.
-    pub(crate) fn from_rest(alloc: Global, words: &'a [&'a str]) -> Result<Width<'a>, WordStop>
-        ensures ok { IfOk result (λ c. SaysWidth (texts words.entry.now) c) }
-        ensures err { IfErr result (λ e. e ≡ Usage → (c : Names) → SaysWidth (texts words.entry.now) c → ⊥) }
-    {
-        let line = line_of(alloc, "width", &["D", "P"], &["bound", "implicates"], words)?;
-        match Width::from_line(&line) {
-            Some(found) => Ok(found),
-            None => Err(WordStop::Usage),
-        }
+        }))
     }
 
     /// The command, with names of its own.
