@@ -35,8 +35,8 @@ pub fn fill_binding(objects: &mut Vec<u32>, ranges: &[Range], number: usize) -> 
     Ok(())
 }
 
-/// The list of this number.
-pub fn binding_at(alloc: Global, ranges: &[Range], number: usize) -> Result<Row<u32>, Memory>
+// The list of this number.
+fn binding_at(alloc: Global, ranges: &[Range], number: usize) -> Result<Row<u32>, Memory>
     requires { number < length (bindings ranges.now) }
     ensures { IfOk result (λ row. slice_get (bindings ranges.now) number ≡ Some row) }
 {

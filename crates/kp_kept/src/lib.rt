@@ -11,9 +11,9 @@ mod settling;
 mod stated;
 mod statics;
 
-pub use bindings::{all_bindings, binding_at, binding_total, fill_binding};
+pub use bindings::{all_bindings, binding_total, fill_binding};
 pub use counting::{problem_bindings, schema_weight};
 pub use keeping::kept_instances;
 pub use kept::Kept;
-pub use settling::{object_of, put_objects, settled, settled_in};
+pub use settling::{object_of, put_objects, settled_in, signed};
 pub use statics::Statics;

@@ -9,7 +9,7 @@ use crate::statics::Statics;
 use kp_base::Memory;
 use kp_meaning::Term;
 use kp_names::Cond;
-use std::alloc::Global;
+use std::alloc::Allocator;
 
 /// The object that a term stands for under a list of objects for the variables.
 pub fn object_of(objects: &[u32], term: &Term) -> u32
@@ -22,7 +22,11 @@ pub fn object_of(objects: &[u32], term: &Term) -> u32
 }
 
 /// Puts the objects of terms in place of what is there.
-pub fn put_objects(room: &mut Vec<u32>, objects: &[u32], terms: &[Term]) -> Result<(), Memory>
+pub fn put_objects<A: Allocator>(
+    room: &mut Vec<u32, A>,
+    objects: &[u32],
+    terms: &[Term],
+) -> Result<(), Memory>
     ensures { OnOk result (room.new.items ≡ map (object_of objects.now) terms.now) }
 {
     room.clear();
@@ -32,8 +36,8 @@ pub fn put_objects(room: &mut Vec<u32>, objects: &[u32], terms: &[Term]) -> Resu
     Ok(())
 }
 
-// The truth value, or its negation.
-fn signed(positive: bool, value: bool) -> bool
+/// A truth value, or its negation.
+pub fn signed(positive: bool, value: bool) -> bool
     ensures { result ≡ signed positive value }
 {
     if positive { value } else { !value }
@@ -90,17 +94,4 @@ pub fn settled_in(
             object_of(objects, left) == object_of(objects, right),
         )),
     }
-}
-
-/// The same, with room of its own.
-pub fn settled(
-    alloc: Global,
-    statics: &Statics,
-    cond: &Cond,
-    objects: &[u32],
-) -> Result<bool, Memory>
-    ensures { IfOk result (λ b. b ≡ settled (lifted_view statics.now.lifted.now) objects.now (cond_view cond.now)) }
-{
-    let mut room = Vec::new(alloc);
-    settled_in(statics, &mut room, cond, objects)
 }

@@ -53,7 +53,7 @@ impl<'a> NameSet<'a> {
     }
 
     /// The number of a name, if it is one of them.
-    pub fn find(&self, name: &[u8]) -> Option<u32>
+    pub(crate) fn find(&self, name: &[u8]) -> Option<u32>
         ensures { result ≡ number_of self.now name.now }
     {
         match self.set.get_index_of(name) {
@@ -63,14 +63,14 @@ impl<'a> NameSet<'a> {
     }
 
     /// The name of a number.
-    pub fn get(&self, number: u32) -> Option<&'a [u8]>
+    pub(crate) fn get(&self, number: u32) -> Option<&'a [u8]>
         ensures { option_map (λ n. n.now) result ≡ slice_get self.now number }
     {
         self.set.get_index(number as usize).copied()
     }
 
     /// The names, in order of number.
-    pub fn names(&self) -> &[&'a [u8]]
+    pub(crate) fn names(&self) -> &[&'a [u8]]
         ensures { map (λ n. n.now) result.now ≡ self.now }
     {
         self.set.as_slice()
@@ -84,7 +84,7 @@ impl<'a> NameSet<'a> {
     }
 
     /// Copies of the names, in order.
-    pub fn texts(&self, alloc: Global) -> Result<Row<Text>, Memory>
+    pub(crate) fn texts(&self, alloc: Global) -> Result<Row<Text>, Memory>
         ensures { IfOk result (λ row. row ≡ self.now) }
     {
         let mut texts = Row::new(alloc);

@@ -1,10 +1,10 @@
 ghost use Rattle.std.specs.Prelude.{◌≡◌, ◌≤◌, ℕ, List, [], length, map, fold, IfOk, OnOk};
 ghost use Rattle.std.specs.List.{flat_map};
-ghost use Rattle.kp_grammar.specs.View.{domain_view, problem_view, typed_view};
+ghost use Rattle.kp_grammar.specs.View.{domain_view, pred_view, problem_view, typed_view};
 ghost use Rattle.kp_meaning.specs.Names.{is_among};
 ghost use Rattle.kp_meaning.specs.Types.{declared, names, object_lines, objects, types};
 ghost use Rattle.kp_tables.specs.Steps.{with_name, lines_under};
-ghost use Rattle.kp_tables.specs.Tables.{names_of_line, entry_of, declaration_of};
+ghost use Rattle.kp_tables.specs.Tables.{names_of_line, entries_from, entry_of, declaration_of, with_entry};
 
 use crate::name_set::NameSet;
 use crate::predicates::{Declared, Predicates};
@@ -100,7 +100,51 @@ impl<'a> Names<'a> {
     {
         let type_names = types_of(alloc, domain)?;
         let object_names = objects_of(alloc, domain, problem)?;
+        Names::with_names(alloc, domain, problem, type_names, object_names)
+    }
+
+    // The same, given the names of types and objects.
+    #[tactic(auto, unfolding(crate::specs::Collected::domain_of, crate::specs::Collected::problem_of))]
+    fn with_names(
+        alloc: Global,
+        domain: &'a Domain,
+        problem: &'a Problem,
+        type_names: NameSet<'a>,
+        object_names: NameSet<'a>,
+    ) -> Result<Names<'a>, Memory>
+        requires types { type_names ≡ fold with_name [] (types (domain_view domain.now)) }
+        requires objects { object_names ≡ objects (domain_view domain.now) (problem_view problem.now) }
+        ensures domain { IfOk result (λ names. domain_of names ≡ domain_view domain.now) }
+        ensures problem { IfOk result (λ names. problem_of names ≡ problem_view problem.now) }
+    {
         let predicate_names = Predicates::of(alloc, domain.predicates.slice())?;
+        Names::with_predicates(
+            alloc,
+            domain,
+            problem,
+            type_names,
+            object_names,
+            predicate_names,
+        )
+    }
+
+    // The same, given the predicates too.
+    #[tactic(auto, unfolding(crate::specs::Collected::domain_of, crate::specs::Collected::problem_of))]
+    fn with_predicates(
+        alloc: Global,
+        domain: &'a Domain,
+        problem: &'a Problem,
+        type_names: NameSet<'a>,
+        object_names: NameSet<'a>,
+        predicate_names: Predicates<'a>,
+    ) -> Result<Names<'a>, Memory>
+        requires types { type_names ≡ fold with_name [] (types (domain_view domain.now)) }
+        requires objects { object_names ≡ objects (domain_view domain.now) (problem_view problem.now) }
+        requires few { length domain.now.predicates ≤ 4294967295 }
+        requires predicates { predicate_names ≡ fold with_entry [] (entries_from 0 (map pred_view domain.now.predicates)) }
+        ensures domain { IfOk result (λ names. domain_of names ≡ domain_view domain.now) }
+        ensures problem { IfOk result (λ names. problem_of names ≡ problem_view problem.now) }
+    {
         let declarations = Declarations::of(alloc, domain, problem)?;
         Ok(Names {
             domain,
@@ -149,7 +193,7 @@ impl<'a> Names<'a> {
     }
 
     /// The same where the name isn't in a text of its own.
-    pub fn number_of(&self, name: &[u8]) -> u32
+    pub(crate) fn number_of(&self, name: &[u8]) -> u32
         ensures { result ≡ index_of (objects (domain_view self.now.domain.now) (problem_view self.now.problem.now)) name.now }
     {
         match self.object_names.find(name) {
@@ -159,31 +203,24 @@ impl<'a> Names<'a> {
     }
 
     /// The objects.
-    pub fn objects(&self) -> &NameSet<'a>
+    pub(crate) fn objects(&self) -> &NameSet<'a>
         ensures { result.now ≡ objects (domain_view self.now.domain.now) (problem_view self.now.problem.now) }
     {
         &self.object_names
     }
 
     /// The types under each type.
-    pub fn types_under(&self) -> &Under<'a>
+    pub(crate) fn types_under(&self) -> &Under<'a>
         ensures { result.now ≡ lines_under (domain_view self.now.domain.now).kinds }
     {
         &self.declarations.types
     }
 
     /// The objects under each type.
-    pub fn objects_under(&self) -> &Under<'a>
+    pub(crate) fn objects_under(&self) -> &Under<'a>
         ensures { result.now ≡ lines_under (object_lines (domain_view self.now.domain.now) (problem_view self.now.problem.now)) }
     {
         &self.declarations.objects
-    }
-
-    /// How many objects there are.
-    pub fn object_count(&self) -> u32
-        ensures { result ≡ length (objects (domain_view self.now.domain.now) (problem_view self.now.problem.now)) }
-    {
-        self.object_names.len()
     }
 
     /// The names of the objects, in order of number.

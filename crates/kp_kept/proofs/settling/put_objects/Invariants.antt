@@ -3,4 +3,4 @@ use Rattle.kp_meaning.specs.Lifted.{object_of}
 use Rattle.kp_kept.proofs.settling.put_objects.Given as goal
 
 abbrev pub invariant-loop-term : goal.invariant-loop-term
-invariant-loop-term l = l.room.items ++ map (object_of l.objects) (drop l.term-index l.terms) ≡ map (object_of l.objects) l.terms
+invariant-loop-term g l = l.room.items ++ map (object_of l.objects) (drop l.term-index l.terms) ≡ map (object_of l.objects) l.terms
