@@ -5,7 +5,7 @@ use Rattle.kp_base.specs.declared.ground.TagTable.{TagTable}
 use Rattle.kp_base.specs.declared.lit.Lit.{Lit}
 use Rattle.kp_translation.specs.Translations.{translation_with}
 use Rattle.kp_printed.specs.Coverage.{coverage_text}
-use Rattle.kp_printed.specs.Refusals.{number_line}
+use Rattle.kp_spelling.specs.Spelling.{number_line}
 use Rattle.kp_words.specs.Names.{Bench}
 use Rattle.kp_words.specs.Options.{family_word}
 

@@ -2,13 +2,12 @@
 ghost use Rattle.std.specs.Prelude.{◌≡◌, ◌++◌, codes, IfOk, OnOk};
 ghost use Rattle.kp_translation.specs.Translations.{translation_with};
 ghost use Rattle.kp_words.specs.Options.{family_word};
-ghost use Rattle.kp_printed.specs.Refusals.{number_line};
+ghost use Rattle.kp_spelling.specs.Spelling.{number_line};
 ghost use Rattle.kp_bench.specs.Summary.{word_line, summary_text};
 
-use itoa::Buffer;
 use kp_base::{Ground, Lit, Memory, Row, TagTable};
-use kp_plans::put;
 use kp_printed::put_coverage;
+use kp_spelling::{put, put_count};
 use kp_words::{Bench, Family};
 use std::alloc::Global;
 
@@ -31,28 +30,20 @@ fn put_word(out: &mut Vec<u8>, title: &[u8], word: &[u8]) -> Result<(), Memory>
     put(out, b"\n")
 }
 
-// Adds the line of a number under a title.
-fn put_number(out: &mut Vec<u8>, title: &[u8], number: usize) -> Result<(), Memory>
-    ensures { OnOk result (out.new.items ≡ out.old.items ++ number_line title.now number) }
-{
-    let mut buffer = Buffer::new();
-    put_word(out, title, buffer.format(number).as_bytes())
-}
-
 // Adds the lines of a problem.
 fn put_problem(out: &mut Vec<u8>, family: Family, n: u32) -> Result<(), Memory>
     ensures { OnOk result (out.new.items ≡ out.old.items ++ (word_line (codes "family ") (family_word family) ++ number_line (codes "n ") n)) }
 {
     put_word(out, b"family ", word_of(family).as_bytes())?;
-    put_number(out, b"n ", n as usize)
+    put_count(out, b"n ", u64::from(n))
 }
 
 // Adds the lines of a plan that passed its check.
 fn put_plan(out: &mut Vec<u8>, steps: usize, expanded: u32) -> Result<(), Memory>
     ensures { OnOk result (out.new.items ≡ out.old.items ++ (number_line (codes "steps ") steps ++ (number_line (codes "expanded ") expanded ++ codes "check yes\n"))) }
 {
-    put_number(out, b"steps ", steps)?;
-    put_number(out, b"expanded ", expanded as usize)?;
+    put_count(out, b"steps ", steps as u64)?;
+    put_count(out, b"expanded ", u64::from(expanded))?;
     put(out, b"check yes\n")
 }
 

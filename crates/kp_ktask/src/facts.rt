@@ -1,22 +1,13 @@
-ghost use Rattle.std.specs.Prelude.{◌≡◌, ◌++◌, length, map, decimal, IfOk, OnOk};
+ghost use Rattle.std.specs.Prelude.{◌≡◌, ◌++◌, length, map, IfOk, OnOk};
 ghost use Rattle.std.specs.List.{flat_map};
 ghost use Rattle.kp_write.specs.Facts.{sign_word, tag_word, atom_fact, facts_of_atom};
 ghost use Rattle.kp_task.specs.Task.{name_of, lits_from, facts_from, number, starts_from};
 
 use crate::numbers::push_numbers;
-use itoa::Buffer;
 use kp_base::{GroundName, Memory, Row, TagRow, Text};
-use kp_plans::{put, put_name};
+use kp_plans::put_name;
+use kp_spelling::{put, put_number};
 use std::alloc::Global;
-
-/// Adds a number in decimal.
-pub fn put_decimal(out: &mut Vec<u8>, number: u32) -> Result<(), Memory>
-    ensures { OnOk result (out.new.items ≡ out.old.items ++ decimal number) }
-{
-    let mut buffer = Buffer::new();
-    put(out, buffer.format(number).as_bytes())?;
-    Ok(())
-}
 
 fn put_sign(out: &mut Vec<u8>, positive: bool) -> Result<(), Memory>
     ensures { OnOk result (out.new.items ≡ out.old.items ++ sign_word positive) }
@@ -32,7 +23,7 @@ fn put_tag(out: &mut Vec<u8>, tag: u32) -> Result<(), Memory>
     ensures { OnOk result (out.new.items ≡ out.old.items ++ tag_word tag) }
 {
     put(out, b"_-")?;
-    put_decimal(out, tag)?;
+    put_number(out, u64::from(tag))?;
     Ok(())
 }
 

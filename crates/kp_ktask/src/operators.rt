@@ -5,11 +5,11 @@ ghost use Rattle.kp_meaning.specs.Strip.{do_front};
 ghost use Rattle.kp_write.specs.Facts.{opposites};
 ghost use Rattle.kp_task.specs.Task.{number, support, cancellation, effects_under, effects_from, op_of, merge_word, merge_op, merge_ops_from};
 
-use crate::facts::put_decimal;
 use crate::numbers::{number, numbers};
 use kp_base::{Action, Effect, GroundName, Lit, LitSet, Memory, Merge, Row, Text};
 use kp_classic::{Conds, Op, OpEffect};
-use kp_plans::{put, put_name};
+use kp_plans::put_name;
+use kp_spelling::{put, put_number};
 use std::alloc::Global;
 
 // The effect that makes the result known where the conditions are.
@@ -136,7 +136,7 @@ fn merge_name(alloc: Global, merge: u32) -> Result<Text, Memory>
 {
     let mut out = Vec::new(alloc);
     put(&mut out, b"merge_-")?;
-    put_decimal(&mut out, merge)?;
+    put_number(&mut out, u64::from(merge))?;
     Ok(Text::from_slice(alloc, &out)?)
 }
 

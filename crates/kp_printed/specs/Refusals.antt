@@ -11,7 +11,7 @@ use Rattle.kp_base.specs.declared.refused.Part.TheVariants as parts
 use Rattle.kp_base.specs.declared.refused.Place.{Place}
 use Rattle.kp_base.specs.declared.refused.Refused.{Refused}
 use Rattle.kp_base.specs.declared.refused.Refused.TheVariants as refusals
-use Rattle.kp_spelling.specs.Spelling.{name_text, atom_text, atoms_text, literal_text, literals_text}
+use Rattle.kp_spelling.specs.Spelling.{name_text, atom_text, atoms_text, literal_text, literals_text, number_line}
 
 -- what a refusal may name by number: the atoms and the actions of a ground problem, and the steps of a plan
 pub record Named : Type 0 where
@@ -39,10 +39,6 @@ file_line part = codes "file " ++ (part_text part ++ codes "\n")
 -- the line that names a place: lines are counted from 1, bytes from 0
 abbrev pub place_line : Place → List ℕ
 place_line place = codes "at " ++ (part_text place.part ++ (codes " line " ++ (decimal place.line ++ (codes " byte " ++ (decimal place.byte ++ codes "\n")))))
-
--- the line of a number under a title
-abbrev pub number_line : List ℕ → ℕ → List ℕ
-number_line title n = title ++ (decimal n ++ codes "\n")
 
 -- the line of a tag of a merge, both counted from 0
 abbrev pub tag_line : ℕ → ℕ → List ℕ

@@ -2,7 +2,7 @@
 use Rattle.std.specs.Prelude.{List, ◌++◌, ℕ, codes}
 use Rattle.kp_base.specs.declared.lit.Lit.{Lit}
 use Rattle.kp_printed.specs.Coverage.{completeness_line}
-use Rattle.kp_printed.specs.Refusals.{number_line}
+use Rattle.kp_spelling.specs.Spelling.{number_line}
 
 -- that there is no plan; of a classical problem nothing more is told
 abbrev pub no_plan_line : List ℕ

@@ -4,8 +4,8 @@ use Rattle.kp_base.specs.declared.ground.GroundName.{GroundName}
 use Rattle.kp_base.specs.declared.lit.Lit.{Lit}
 use Rattle.kp_width.specs.declared.report.WidthRow.{WidthRow}
 use Rattle.kp_width.specs.Rows.{greatest_width}
-use Rattle.kp_spelling.specs.Spelling.{literal_text, literals_text}
-use Rattle.kp_printed.specs.Refusals.{number_line, target_line}
+use Rattle.kp_spelling.specs.Spelling.{literal_text, literals_text, number_line}
+use Rattle.kp_printed.specs.Refusals.{target_line}
 
 -- sets of literals, each on a line of its own under a title
 abbrev pub set_lines : List ℕ → List GroundName → List (List Lit) → List ℕ

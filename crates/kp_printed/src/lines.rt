@@ -1,5 +1,5 @@
 ghost use Rattle.std.specs.Prelude.{◌≡◌, ◌++◌, OnOk};
-ghost use Rattle.kp_printed.specs.Refusals.{part_text, file_line, place_line, number_line, tag_line, state_line, step_line, target_line};
+ghost use Rattle.kp_printed.specs.Refusals.{part_text, file_line, place_line, tag_line, state_line, step_line, target_line};
 
 use kp_base::{AtomId, GroundName, Lit, Memory, Part, Place};
 use kp_spelling::{put, put_atoms, put_literal, put_number, put_numbered};
@@ -35,15 +35,6 @@ pub(crate) fn put_place(out: &mut Vec<u8>, place: &Place) -> Result<(), Memory>
     put_number(out, u64::from(place.line))?;
     put(out, b" byte ")?;
     put_number(out, u64::from(place.byte))?;
-    put(out, b"\n")
-}
-
-// Adds the line of a number under a title.
-pub(crate) fn put_count(out: &mut Vec<u8>, title: &[u8], number: u64) -> Result<(), Memory>
-    ensures { OnOk result (out.new.items ≡ out.old.items ++ number_line title.now number) }
-{
-    put(out, title)?;
-    put_number(out, number)?;
     put(out, b"\n")
 }
 

@@ -1,10 +1,11 @@
 ghost use Rattle.std.specs.Prelude.{◌≡◌, ◌++◌, IfOk, OnOk, codes};
-ghost use Rattle.kp_printed.specs.Refusals.{nothing, number_line, state_line, target_line, title_of, lines_of, refusal_text};
+ghost use Rattle.kp_printed.specs.Refusals.{nothing, state_line, target_line, title_of, lines_of, refusal_text};
+ghost use Rattle.kp_spelling.specs.Spelling.{number_line};
 
 use crate::clash::put_clash_among;
-use crate::lines::{put_count, put_file, put_place, put_state, put_step, put_tag, put_target};
+use crate::lines::{put_file, put_place, put_state, put_step, put_tag, put_target};
 use kp_base::{Action, AtomId, GroundName, Lit, Memory, Refused, Row};
-use kp_spelling::put;
+use kp_spelling::{put, put_count};
 use std::alloc::Global;
 use std::marker::Model;
 

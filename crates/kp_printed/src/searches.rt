@@ -2,9 +2,8 @@ ghost use Rattle.std.specs.Prelude.{◌≡◌, IfOk};
 ghost use Rattle.kp_printed.specs.Searches.{no_plan_line, no_plan_text, spent_text};
 
 use crate::coverage::put_completeness;
-use crate::lines::put_count;
 use kp_base::{Lit, Memory, Row};
-use kp_spelling::put;
+use kp_spelling::{put, put_count};
 use std::alloc::Global;
 
 const NO_PLAN: &str = "no plan\n";

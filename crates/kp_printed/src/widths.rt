@@ -2,9 +2,9 @@ ghost use Rattle.std.specs.Prelude.{◌≡◌, ◌++◌, max, length, IfOk, OnOk
 ghost use Rattle.kp_printed.specs.Widths.{set_lines, tag_lines, width_line, row_lines, rows_lines, width_text, over_text};
 ghost use Rattle.kp_width.specs.Rows.{greatest_width};
 
-use crate::lines::{put_count, put_target};
+use crate::lines::put_target;
 use kp_base::{GroundName, Lit, LitSet, Memory, Row};
-use kp_spelling::{put, put_literal, put_literals};
+use kp_spelling::{put, put_count, put_literal, put_literals};
 use kp_width::WidthRow;
 use std::alloc::Global;
 

@@ -5,10 +5,10 @@ use Rattle.kp_base.specs.declared.ground.Ground.{Ground}
 use Rattle.kp_base.specs.declared.ground.TagTable.{TagTable}
 use Rattle.kp_base.specs.declared.lit.Lit.{Lit}
 use Rattle.kp_task.specs.Task.{task_of}
-use Rattle.kp_spelling.specs.Spelling.{literal_text, IsBracketed}
+use Rattle.kp_spelling.specs.Spelling.{literal_text, number_line, IsBracketed}
 use Rattle.kp_spelling.proofs.Bracketed.{literals_are_bracketed}
 use Rattle.kp_printed.specs.Coverage.{uncovered_lines, coverage_text}
-use Rattle.kp_translation.specs.Report.{count_line, counts_of}
+use Rattle.kp_translation.specs.Report.{counts_of}
 use Rattle.kp_run.specs.Completeness.{PrintsComplete}
 
 -- ---- how a text ends
@@ -66,16 +66,16 @@ record EndsLine (text : List ℕ) : Type 0 where
 line_behind : (front text : List ℕ) → EndsLine text → EndsLine (front ++ text)
 line_behind front text h = record { front = front ++ h.front; is = ap (front ++◌) h.is ∙ sym (append_assoc front h.front (codes "\n")) }
 
-line_end : (word : List ℕ) (n : ℕ) → EndsLine (count_line word n)
-line_end word n = line_behind word (codes " " ++ (decimal n ++ codes "\n")) (line_behind (codes " ") (decimal n ++ codes "\n") (record { front = decimal n; is = refl }))
+line_end : (title : List ℕ) (n : ℕ) → EndsLine (number_line title n)
+line_end title n = line_behind title (decimal n ++ codes "\n") (record { front = decimal n; is = refl })
 
 counts_end : (g : Ground) (table : TagTable) → EndsLine (counts_of g table)
 counts_end g table =
-    line_behind (count_line (codes "atoms") (length g.atoms)) _
-    (line_behind (count_line (codes "actions") (length g.actions)) _
-    (line_behind (count_line (codes "tags") (length table.tags)) _
-    (line_behind (count_line (codes "merges") (length table.merges)) _
-    (line_end (codes "facts") (length (task_of g table).facts)))))
+    line_behind (number_line (codes "atoms ") (length g.atoms)) _
+    (line_behind (number_line (codes "actions ") (length g.actions)) _
+    (line_behind (number_line (codes "tags ") (length table.tags)) _
+    (line_behind (number_line (codes "merges ") (length table.merges)) _
+    (line_end (codes "facts ") (length (task_of g table).facts)))))
 
 -- so it is told there
 pub complete_told : (g : Ground) (table : TagTable) → PrintsComplete (counts_of g table ++ coverage_text g.atoms [])

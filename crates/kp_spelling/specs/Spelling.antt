@@ -1,5 +1,5 @@
 -- How names, atoms and literals are printed: as pieces, which say how a text reads back, and as the bytes that these spell.
-use Rattle.std.specs.Prelude.{◌≡◌, ◌++◌, ℕ, Bool, true, false, List, [], ◌∷◌, Option, Some, None, slice_get, codes}
+use Rattle.std.specs.Prelude.{◌≡◌, ◌++◌, ℕ, Bool, true, false, List, [], ◌∷◌, Option, Some, None, slice_get, codes, decimal}
 use Rattle.kp_base.specs.declared.ground.GroundName.{GroundName}
 use Rattle.kp_base.specs.declared.lit.AtomId.{AtomId}
 use Rattle.kp_base.specs.declared.lit.Lit.{Lit}
@@ -63,6 +63,10 @@ literal_text atoms l = spelling (lit_put atoms l [])
 -- literals, a space before each
 abbrev pub literals_text : List GroundName → List Lit → List ℕ
 literals_text atoms ls = spelling (lits_put atoms ls [])
+
+-- the line of a number under a title
+abbrev pub number_line : List ℕ → ℕ → List ℕ
+number_line title n = title ++ (decimal n ++ codes "\n")
 
 -- ---- a law
 
