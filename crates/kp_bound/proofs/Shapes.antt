@@ -8,40 +8,39 @@ use Rattle.kp_meaning.specs.Lifted.{same_literal, names_literal}
 use Rattle.kp_grounding.specs.declared.flat.FlatEffect.{FlatEffect}
 use Rattle.kp_grounding.specs.Flattening.{same_flat}
 use Rattle.kp_grounding.proofs.Step.{same_literal-true, same_literal-refl}
-use Rattle.kp_bound.specs.declared.literal.BoundLit.{BoundLit}
+use Rattle.kp_bound.specs.declared.shape.KeyLit.{KeyLit}
 use Rattle.kp_bound.specs.declared.shape.Shape.{Shape}
-use Rattle.kp_bound.specs.Literals.{lit_view}
-use Rattle.kp_bound.specs.Shapes.{IsShapeOf, AreShapes, with_effect}
+use Rattle.kp_bound.specs.Shapes.{key_view, IsShapeOf, AreShapes, with_effect}
 use Rattle.kp_bound.proofs.Sets.{alike_from, alike_to, sets_are_one}
 
--- whether two literals of trees are one
-abbrev pub same_lit : BoundLit → BoundLit → Bool
-same_lit a b = same_literal (lit_view a) (lit_view b)
+-- whether two literals of shapes are one
+abbrev pub same_key : KeyLit → KeyLit → Bool
+same_key a b = same_literal (key_view a) (key_view b)
 
 -- whether two shapes are one
 abbrev pub same_shape : Shape → Shape → Bool
-same_shape s t = same_lit s.result t.result && pointwise same_lit s.conds.items t.conds.items
+same_shape s t = same_key s.result t.result && pointwise same_key s.conds.items t.conds.items
 
 -- literals that are one, one by one, are the same literals
-views_same : (ks ls : List BoundLit) → pointwise same_lit ks ls ≡ true → map lit_view ks ≡ map lit_view ls
+views_same : (ks ls : List KeyLit) → pointwise same_key ks ls ≡ true → map key_view ks ≡ map key_view ls
 views_same [] [] h = refl
 views_same [] (l ∷ ls) h = absurd (false≢true h)
 views_same (k ∷ ks) [] h = absurd (false≢true h)
 views_same (k ∷ ks) (l ∷ ls) h =
-    let parts = and_parts (same_lit k l) (pointwise same_lit ks ls) h in
-    let first = same_literal-true (lit_view k) (lit_view l) parts.0 in
+    let parts = and_parts (same_key k l) (pointwise same_key ks ls) h in
+    let first = same_literal-true (key_view k) (key_view l) parts.0 in
     let rest = views_same ks ls parts.1 in
     rw (first, rest) refl
 
-same_views : (ks ls : List BoundLit) → map lit_view ks ≡ map lit_view ls → pointwise same_lit ks ls ≡ true
+same_views : (ks ls : List KeyLit) → map key_view ks ≡ map key_view ls → pointwise same_key ks ls ≡ true
 same_views [] [] h = refl
 same_views [] (l ∷ ls) h = cc
 same_views (k ∷ ks) [] h = cc
 same_views (k ∷ ks) (l ∷ ls) h =
-    let first : lit_view k ≡ lit_view l = cc in
-    let rest : map lit_view ks ≡ map lit_view ls = cc in
-    and_from (same_lit k l) (pointwise same_lit ks ls)
-    (subst (λ z. same_literal (lit_view k) z ≡ true) first (same_literal-refl (lit_view k)))
+    let first : key_view k ≡ key_view l = cc in
+    let rest : map key_view ks ≡ map key_view ls = cc in
+    and_from (same_key k l) (pointwise same_key ks ls)
+    (subst (λ z. same_literal (key_view k) z ≡ true) first (same_literal-refl (key_view k)))
     (same_views ks ls rest)
 
 -- two effects are one just where their shapes are
@@ -49,17 +48,17 @@ pub shapes_decide : (s t : Shape) (f g : FlatEffect) → IsShapeOf s f → IsSha
 shapes_decide s t f g of_f of_g =
     bool_same (same_shape s t) (same_flat f g)
     (λ h.
-    let parts = and_parts (same_lit s.result t.result) (pointwise same_lit s.conds.items t.conds.items) h in
+    let parts = and_parts (same_key s.result t.result) (pointwise same_key s.conds.items t.conds.items) h in
     let views = views_same s.conds.items t.conds.items parts.1 in
     alike_to f g (record {
-      result = sym of_f.result ∙ (same_literal-true (lit_view s.result) (lit_view t.result) parts.0 ∙ of_g.result);
+      result = sym of_f.result ∙ (same_literal-true (key_view s.result) (key_view t.result) parts.0 ∙ of_g.result);
       members = λ m. sym (of_f.conds.members m) ∙ (ap (λ z. names_literal z m) views ∙ of_g.conds.members m);
     }))
     (λ h.
     let a = alike_from f g h in
-    and_from (same_lit s.result t.result) (pointwise same_lit s.conds.items t.conds.items)
-    (subst (λ z. same_literal (lit_view s.result) z ≡ true) (of_f.result ∙ (a.result ∙ sym of_g.result)) (same_literal-refl (lit_view s.result)))
-    (same_views s.conds.items t.conds.items (sets_are_one (map lit_view s.conds.items) (map lit_view t.conds.items) f.cond g.cond of_f.conds of_g.conds a.members)))
+    and_from (same_key s.result t.result) (pointwise same_key s.conds.items t.conds.items)
+    (subst (λ z. same_literal (key_view s.result) z ≡ true) (of_f.result ∙ (a.result ∙ sym of_g.result)) (same_literal-refl (key_view s.result)))
+    (same_views s.conds.items t.conds.items (sets_are_one (map key_view s.conds.items) (map key_view t.conds.items) f.cond g.cond of_f.conds of_g.conds a.members)))
 
 -- an effect is among some effects just where its shape is among theirs
 pub shape_among : (s : Shape) (f : FlatEffect) → IsShapeOf s f → (ts : List Shape) (gs : List FlatEffect) → AreShapes ts gs → list_any (same_shape s) ts ≡ list_any (same_flat f) gs

@@ -18,7 +18,10 @@ use Rattle.kp_bound.specs.declared.literal.BoundLit.{BoundLit}
 use Rattle.kp_bound.specs.Literals.{lit_view}
 use Rattle.kp_bound.specs.Shapes.{lit_cmp, IsSetOf}
 use Rattle.kp_bound.proofs.Sets.{same_literal-symm, lit_cmp-total}
-use Rattle.kp_bound.proofs.Shapes.{same_lit}
+
+-- whether two literals of trees are one
+abbrev pub same_lit : BoundLit → BoundLit → Bool
+same_lit a b = same_literal (lit_view a) (lit_view b)
 
 -- ---- the order tells literals apart
 

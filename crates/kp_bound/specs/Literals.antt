@@ -1,4 +1,4 @@
--- Serves proofs alone: a literal whose objects lie in a tree, as a literal of a problem by number.
+-- A literal that a sink takes, whose objects lie in a tree, as a literal of a problem by number.
 use Rattle.kp_meaning.specs.declared.lifted.GroundLit.{GroundLit}
 use Rattle.kp_meaning.specs.Lifted.{ground}
 use Rattle.kp_bound.specs.declared.literal.BoundLit.{BoundLit}

@@ -6,11 +6,15 @@ use Rattle.std.specs.Cmp.Lexicographic.{slice_cmp}
 use Rattle.std.specs.List.{list_any}
 use Rattle.std.specs.List.Sorted.{IsStrictlySortedBy}
 use Rattle.kp_meaning.specs.declared.lifted.GroundLit.{GroundLit}
-use Rattle.kp_meaning.specs.Lifted.{names_literal}
+use Rattle.kp_meaning.specs.Lifted.{ground, names_literal}
 use Rattle.kp_grounding.specs.declared.flat.FlatEffect.{FlatEffect}
 use Rattle.kp_grounding.specs.Flattening.{same_flat}
+use Rattle.kp_bound.specs.declared.shape.KeyLit.{KeyLit}
 use Rattle.kp_bound.specs.declared.shape.Shape.{Shape}
-use Rattle.kp_bound.specs.Literals.{lit_view}
+
+-- a literal of a shape, as a literal of a problem by number
+abbrev pub key_view : KeyLit → GroundLit
+key_view k = ground k.positive k.pred k.objects.items
 
 -- which literal comes first: by sign, predicate and objects
 abbrev pub lit_cmp : GroundLit → GroundLit → Ordering
@@ -23,8 +27,8 @@ pub record IsSetOf (set ms : List GroundLit) : Type 0 where
 
 -- the effect's result, and the set of its conditions
 pub record IsShapeOf (s : Shape) (f : FlatEffect) : Type 0 where
-  pub result : lit_view s.result ≡ f.result
-  pub conds : IsSetOf (map lit_view s.conds.items) f.cond
+  pub result : key_view s.result ≡ f.result
+  pub conds : IsSetOf (map key_view s.conds.items) f.cond
 
 -- the effects' shapes, one by one
 abbrev pub AreShapes : List Shape → List FlatEffect → Type 0

@@ -10,7 +10,7 @@ use crate::node::{BoundCond, BoundEff, BoundNode};
 use bumpalo::Bump;
 use bumpalo::collections::into_bump_slice;
 use kp_base::{Memory, Row};
-use kp_kept::{binding_total, fill_binding, object_of};
+use kp_kept::{binding_total, fill_binding, object_of, put_objects};
 use kp_meaning::{Range, Term};
 use kp_names::{Cond, Eff, Lifted, Schema};
 use std::alloc::Global;
@@ -20,9 +20,7 @@ fn bound_terms<'a>(bump: &'a Bump, objects: &[u32], terms: &[Term]) -> Result<&'
     ensures { IfOk result (λ os. os.now ≡ map (object_of objects.now) terms.now) }
 {
     let mut bound = Vec::with_capacity(bump, terms.len())?;
-    'terms: for term in terms {
-        bound.push(object_of(objects, term))?;
-    }
+    put_objects(&mut bound, objects, terms)?;
     Ok(into_bump_slice(bound))
 }
 

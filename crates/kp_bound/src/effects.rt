@@ -1,11 +1,10 @@
-ghost use Rattle.std.specs.Prelude.{◌≡◌, [], IfOk, OnOk};
-ghost use Rattle.kp_grounding.specs.declared.flat.FlatEffect.{FlatEffect as Told};
+ghost use Rattle.std.specs.Prelude.{◌≡◌, [], map, IfOk, OnOk};
 ghost use Rattle.kp_bound.specs.Literals.{lit_view};
 ghost use Rattle.kp_bound.specs.Shapes.{IsShapeOf, with_effect};
 
-use crate::conditions::Conditions;
-use crate::literal::{BoundLit, owned};
+use crate::literal::{BoundLit, all_owned, owned};
 use crate::shape::{Shape, shape_of};
+use crate::sink::Sink;
 use indexmap::IndexSet;
 use kp_base::{Memory, Row};
 use kp_grounding::FlatEffect;
@@ -14,12 +13,12 @@ use std::marker::Model;
 
 /// Effects, each once, in the order in which they came first.
 #[derive(Drop)]
-pub struct Effects<'a> {
+pub struct Effects {
     rows: Vec<FlatEffect>,
-    seen: IndexSet<Shape<'a>>,
+    seen: IndexSet<Shape>,
 }
 
-impl<'a> Model for Effects<'a> {
+impl Model for Effects {
     ghost use Rattle.std.specs.Prelude.{List};
     ghost use Rattle.kp_grounding.specs.declared.flat.FlatEffect.{FlatEffect as Effect};
     ghost use Rattle.kp_bound.specs.Shapes.{AreShapes};
@@ -32,18 +31,18 @@ impl<'a> Model for Effects<'a> {
 }
 
 // The effect that makes a literal under these conditions.
-fn effect_of(alloc: Global, conds: &Conditions, made: &BoundLit) -> Result<FlatEffect, Memory>
-    ensures { IfOk result (λ e. e ≡ record { cond = conds.now; result = lit_view made.now }) }
+fn effect_of(alloc: Global, conds: &[BoundLit], made: &BoundLit) -> Result<FlatEffect, Memory>
+    ensures { IfOk result (λ e. e ≡ record { cond = map lit_view conds.now; result = lit_view made.now }) }
 {
     Ok(FlatEffect {
-        cond: conds.owned(alloc)?,
+        cond: all_owned(alloc, conds)?,
         result: owned(alloc, made)?,
     })
 }
 
-impl<'a> Effects<'a> {
+impl Effects {
     /// No effects.
-    pub fn new(alloc: Global) -> Effects<'a>
+    pub fn new(alloc: Global) -> Effects
         ensures { result ≡ [] }
     {
         Effects {
@@ -52,22 +51,8 @@ impl<'a> Effects<'a> {
         }
     }
 
-    /// Adds the effect that makes a literal under these conditions, if it isn't there yet.
-    pub fn add(
-        &mut self,
-        alloc: Global,
-        conds: &Conditions<'a>,
-        made: BoundLit<'a>,
-    ) -> Result<(), Memory>
-        ensures { OnOk result (self.new ≡ with_effect self.old (record { cond = conds.now; result = lit_view made.entry })) }
-    {
-        let shape = shape_of(alloc, conds.slice(), made)?;
-        let effect = effect_of(alloc, conds, &made)?;
-        self.note(shape, effect)
-    }
-
     // Adds an effect, if one of its shape isn't there yet.
-    fn note(&mut self, shape: Shape<'a>, effect: FlatEffect) -> Result<(), Memory>
+    fn note(&mut self, shape: Shape, effect: FlatEffect) -> Result<(), Memory>
         requires { IsShapeOf shape effect }
         ensures { OnOk result (self.new ≡ with_effect self.old effect) }
     {
@@ -84,8 +69,19 @@ impl<'a> Effects<'a> {
 
     /// The effects.
     pub fn into_row(self) -> Row<FlatEffect>
-        ensures { result ≡ self.entry }
+        ensures { result ≡ self }
     {
         Row::from_vec(self.rows)
+    }
+}
+
+impl Sink for Effects {
+    ghost takes = { with_effect };
+
+    // Adds the effect, if it isn't there yet.
+    fn take(&mut self, alloc: Global, conds: &[BoundLit], made: &BoundLit) -> Result<(), Memory> {
+        let shape = shape_of(alloc, conds, made)?;
+        let effect = effect_of(alloc, conds, made)?;
+        self.note(shape, effect)
     }
 }

@@ -1,5 +1,4 @@
 ghost use Rattle.std.specs.Prelude.{◌≡◌, ◌++◌, [], OnOk};
-ghost use Rattle.kp_base.specs.Lists.{signed};
 ghost use Rattle.kp_grounding.specs.Static.{settled, remaining};
 ghost use Rattle.kp_bound.specs.Nodes.{cond_view};
 ghost use Rattle.kp_bound.specs.Problem.{problem_of};
@@ -8,14 +7,7 @@ use crate::conditions::Conditions;
 use crate::literal::BoundLit;
 use crate::node::BoundCond;
 use kp_base::Memory;
-use kp_kept::Statics;
-
-// A truth value, or its negation.
-fn signed(positive: bool, value: bool) -> bool
-    ensures { result ≡ signed positive value }
-{
-    if positive { value } else { !value }
-}
+use kp_kept::{Statics, signed};
 
 /// Whether all static literals and all equalities of a condition are true.
 pub fn is_settled(statics: &Statics, cond: &BoundCond) -> bool

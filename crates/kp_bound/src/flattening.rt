@@ -1,17 +1,16 @@
-ghost use Rattle.std.specs.Prelude.{◌≡◌, [], map, IfOk, OnOk};
+ghost use Rattle.std.specs.Prelude.{◌≡◌, [], IfOk};
 ghost use Rattle.kp_names.specs.View.{lifted_view};
 ghost use Rattle.kp_base.specs.Lists.{each_once};
 ghost use Rattle.kp_grounding.specs.Static.{remaining};
-ghost use Rattle.kp_grounding.specs.Flattening.{under, flat, same_flat};
+ghost use Rattle.kp_grounding.specs.Flattening.{flat, same_flat};
 ghost use Rattle.kp_bound.specs.Bound.{flat_tree};
 ghost use Rattle.kp_bound.specs.Nodes.{cond_view, eff_view, node_view};
 ghost use Rattle.kp_bound.specs.Problem.{problem_of};
-ghost use Rattle.kp_bound.specs.Shapes.{with_effects};
 
 use crate::conditions::Conditions;
 use crate::effects::Effects;
-use crate::evaluating::{add_remaining, is_settled};
-use crate::literal::BoundLit;
+use crate::evaluating::add_remaining;
+use crate::handing::hand_bound;
 use crate::node::{BoundCond, BoundEff, BoundNode};
 use kp_base::{Memory, Row};
 use kp_grounding::{Flat, FlatEffect};
@@ -19,50 +18,6 @@ use kp_kept::Statics;
 use kp_meaning::GroundLit;
 use kp_names::Lifted;
 use std::alloc::Global;
-
-// Adds the flat effects of an effect under further conditions, which are the same afterwards.
-fn add_flat<'a>(
-    alloc: Global,
-    statics: &Statics,
-    eff: &BoundEff<'a>,
-    conds: &mut Conditions<'a>,
-    effects: &mut Effects<'a>,
-) -> Result<(), Memory>
-    ensures kept { OnOk result (conds.new ≡ conds.old) }
-    ensures added { OnOk result (effects.new ≡ with_effects effects.old (map (under conds.old) (flat (problem_of statics.now) [] (eff_view eff.now)))) }
-{
-    match eff {
-        BoundEff::All(parts) => {
-            'parts: for part in *parts {
-                add_flat(alloc, statics, part, conds, effects)?;
-            }
-            Ok(())
-        }
-        BoundEff::When(cond, body) => {
-            if !is_settled(statics, cond) {
-                return Ok(());
-            }
-            let outer = conds.len();
-            add_remaining(statics, cond, conds)?;
-            add_flat(alloc, statics, body, conds, effects)?;
-            conds.truncate(outer);
-            Ok(())
-        }
-        BoundEff::Atom {
-            positive,
-            pred,
-            terms,
-        } => effects.add(
-            alloc,
-            conds,
-            BoundLit {
-                positive: *positive,
-                pred: *pred,
-                objects: *terms,
-            },
-        ),
-    }
-}
 
 /// The literals of a condition that aren't static, in text order.
 pub(crate) fn precondition(
@@ -84,7 +39,7 @@ fn flat_effects(alloc: Global, statics: &Statics, eff: &BoundEff) -> Result<Row<
 {
     let mut conds = Conditions::new(alloc);
     let mut effects = Effects::new(alloc);
-    add_flat(alloc, statics, eff, &mut conds, &mut effects)?;
+    hand_bound(alloc, statics, eff, &mut conds, &mut effects)?;
     Ok(effects.into_row())
 }
 

@@ -8,6 +8,7 @@ mod effects;
 mod evaluating;
 mod flattener;
 mod flattening;
+mod handing;
 mod laws;
 mod literal;
 mod node;

@@ -3,10 +3,11 @@
 ghost use Rattle.std.specs.Prelude.{◌≡◌, ◌++◌, [], map, fold, IfOk, OnOk};
 ghost use Rattle.std.specs.List.{flat_map};
 ghost use Rattle.kp_meaning.specs.Lifted.{bindings};
+ghost use Rattle.kp_meaning.specs.Numbered.{Eff as Effect};
 ghost use Rattle.kp_names.specs.View as owned;
 ghost use Rattle.kp_grounding.specs.Static.{remaining};
 ghost use Rattle.kp_grounding.specs.Flattening.{under, flat};
-ghost use Rattle.kp_bound.specs.Nodes.{eff_view};
+ghost use Rattle.kp_bound.specs.Nodes.{cond_view, eff_view};
 ghost use Rattle.kp_bound.specs.Problem.{problem_of};
 
 use crate::arena::give_up;
@@ -14,8 +15,8 @@ use crate::binding::{condition, effect};
 use crate::conditions::Conditions;
 use crate::evaluating::{add_remaining, is_settled};
 use crate::flattening::precondition;
-use crate::literal::BoundLit;
-use crate::node::BoundEff;
+use crate::handing::hand_bound;
+use crate::node::{BoundCond, BoundEff};
 use crate::sink::Sink;
 use bumpalo::Bump;
 use kp_base::{Memory, Row};
@@ -24,51 +25,46 @@ use kp_meaning::{GroundLit, Range};
 use kp_names::{Cond, Eff};
 use std::alloc::Global;
 
-// Hands over the flat effects of a bound effect under further conditions, which are the same afterwards.
-fn hand_bound<'a, S: Sink>(
+// Hands over the flat effects of a bound effect under a bound condition, but for the static literals and equalities of
+// this.
+fn hand_under<'a, S: Sink>(
     alloc: Global,
     statics: &Statics,
-    eff: &BoundEff<'a>,
-    conds: &mut Conditions<'a>,
+    cond: &BoundCond<'a>,
+    body: &BoundEff<'a>,
     sink: &mut S,
 ) -> Result<(), Memory>
-    ensures kept { OnOk result (conds.new ≡ conds.old) }
-    ensures taken { OnOk result (sink.new ≡ fold S.takes sink.old (map (under conds.old) (flat (problem_of statics.now) [] (eff_view eff.now)))) }
+    ensures { OnOk result (sink.new ≡ fold S.takes sink.old (map (under (remaining (problem_of statics.now) [] (cond_view cond.now))) (flat (problem_of statics.now) [] (eff_view body.now)))) }
 {
-    match eff {
-        BoundEff::All(parts) => {
-            'parts: for part in *parts {
-                hand_bound(alloc, statics, part, conds, sink)?;
-            }
-            Ok(())
-        }
-        BoundEff::When(cond, body) => {
-            if !is_settled(statics, cond) {
-                return Ok(());
-            }
-            let outer = conds.len();
-            add_remaining(statics, cond, conds)?;
-            hand_bound(alloc, statics, body, conds, sink)?;
-            conds.truncate(outer);
-            Ok(())
-        }
-        BoundEff::Atom {
-            positive,
-            pred,
-            terms,
-        } => {
-            let made = BoundLit {
-                positive: *positive,
-                pred: *pred,
-                objects: *terms,
-            };
-            sink.take(alloc, conds.slice(), &made)
-        }
+    let mut conds = Conditions::new(alloc);
+    add_remaining(statics, cond, &mut conds)?;
+    hand_bound(alloc, statics, body, &mut conds, sink)
+}
+
+// Hands over the flat effects of an effect under a condition and a binding, which is the same afterwards. Where a static
+// literal or an equality of the condition is false there are none, and the effect isn't bound.
+fn hand_when<S: Sink>(
+    bump: &Bump,
+    alloc: Global,
+    statics: &Statics,
+    objects: &mut Vec<u32>,
+    sink: &mut S,
+    cond: &Cond,
+    body: &Eff,
+) -> Result<(), Memory>
+    ensures binding { OnOk result (objects.new.items ≡ objects.old.items) }
+    ensures taken { OnOk result (sink.new ≡ fold S.takes sink.old (flat (problem_of statics.now) objects.old.items (Effect.when (owned.cond_view cond.now) (owned.eff_view body.now)))) }
+{
+    let guard = condition(bump, objects.as_slice(), cond)?;
+    if !is_settled(statics, &guard) {
+        return Ok(());
     }
+    let tree = effect(bump, alloc, objects, body)?;
+    hand_under(alloc, statics, &guard, &tree, sink)
 }
 
 // Hands over the flat effects of an effect under a binding, which is the same afterwards. Its tree lies in the arena.
-fn hand_tree<S: Sink>(
+fn hand_whole<S: Sink>(
     bump: &Bump,
     alloc: Global,
     statics: &Statics,
@@ -82,6 +78,24 @@ fn hand_tree<S: Sink>(
     let tree = effect(bump, alloc, objects, eff)?;
     let mut conds = Conditions::new(alloc);
     hand_bound(alloc, statics, &tree, &mut conds, sink)
+}
+
+// The same, and a condition right round the effect is judged first.
+fn hand_tree<S: Sink>(
+    bump: &Bump,
+    alloc: Global,
+    statics: &Statics,
+    objects: &mut Vec<u32>,
+    sink: &mut S,
+    eff: &Eff,
+) -> Result<(), Memory>
+    ensures binding { OnOk result (objects.new.items ≡ objects.old.items) }
+    ensures taken { OnOk result (sink.new ≡ fold S.takes sink.old (flat (problem_of statics.now) objects.old.items (owned.eff_view eff.now))) }
+{
+    match eff {
+        Eff::When(cond, body) => hand_when(bump, alloc, statics, objects, sink, cond, body),
+        _ => hand_whole(bump, alloc, statics, objects, sink, eff),
+    }
 }
 
 // The same, and its tree is given up.

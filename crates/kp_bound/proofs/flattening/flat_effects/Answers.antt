@@ -12,7 +12,7 @@ pub returns : goal.returns
 returns c =
     let fs = flat (problem_of c.args.statics.now) [] (eff_view c.args.eff.now) in
     c.into_row.ensures
-    ∙ (c.in_ok-add_flat.ensures.added
+    ∙ (c.in_ok-hand_bound.ensures.taken
     ∙ (ap (λ z. with_effects z (map (under c.new-conds.result) fs)) c.new-effects.ensures
     ∙ (ap (λ z. with_effects [] (map (under z) fs)) c.new-conds.ensures
     ∙ (ap (with_effects []) (under_none fs) ∙ once_by_one same_flat same_flat-equivalence fs))))

@@ -3,8 +3,7 @@ use Rattle.std.proofs.lemmas.List.Filters.{dedup_is}
 use Rattle.std.specs.List.{dedup}
 use Rattle.kp_bound.specs.Literals.{lit_view}
 use Rattle.kp_bound.specs.Shapes.{IsSetOf}
-use Rattle.kp_bound.proofs.Shapes.{same_lit}
-use Rattle.kp_bound.proofs.Sorting.{set_made}
+use Rattle.kp_bound.proofs.Sorting.{same_lit, set_made}
 use Rattle.kp_bound.proofs.shape.set_of.Goals as goal
 
 pub returns : goal.returns

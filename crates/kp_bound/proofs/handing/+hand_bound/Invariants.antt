@@ -2,7 +2,7 @@ use Rattle.std.proofs.Common.{◌≡◌, map, fold, take, flat_map}
 use Rattle.kp_bound.specs.Problem.{problem_of}
 use Rattle.kp_bound.specs.Nodes.{eff_view}
 use Rattle.kp_bound.proofs.Views.{flat_under}
-use Rattle.kp_bound.proofs.walking.+hand_bound.Given as goal
+use Rattle.kp_bound.proofs.handing.+hand_bound.Given as goal
 
 -- the flat effects of the parts before this one are handed over
 abbrev pub invariant-parts : goal.invariant-parts

@@ -10,7 +10,7 @@ use Rattle.kp_grounding.specs.Flattening.{under, flat}
 use Rattle.kp_bound.specs.Nodes.{cond_view, eff_view}
 use Rattle.kp_bound.specs.Problem.{problem_of}
 use Rattle.kp_bound.proofs.Views.{flat_under, flat_all, flat_when, flat_atom}
-use Rattle.kp_bound.proofs.walking.+hand_bound.Goals as goal
+use Rattle.kp_bound.proofs.handing.+hand_bound.Goals as goal
 
 pub returns-after-parts-clause-taken : goal.returns-after-parts-clause-taken
 returns-after-parts-clause-taken g t c =
