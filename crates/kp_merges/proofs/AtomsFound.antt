@@ -1,6 +1,6 @@
 -- Atoms and literals at places among the tokens of the program.
 use Rattle.std.proofs.Common.{◌≡◌, ℕ, suc, ◌+◌, true, false, List, [], ◌∷◌, map, drop, length, Ok, Option, Some, None, refl, sym, ap, subst, ◌∙◌, arith, true≢false}
-use Rattle.std.specs.List.{prefix_len, take_while, drop-map}
+use Rattle.std.specs.List.{prefix_len, take_while}
 use Rattle.std.proofs.lemmas.List.{drop-drop}
 use Rattle.std.proofs.lemmas.Bool.{and_parts}
 use Rattle.kp_base.specs.declared.lit.AtomId.{AtomId}

@@ -73,7 +73,7 @@ fn whole_problem<'a>(
 
 /// The tree of a domain file, from its bytes and its tokens.
 ///
-/// The nodes lie in the arena; `alloc` is given back before the end. The file is refused with `Syntax` or
+/// The nodes lie in the arena, and nothing is taken from `alloc`. The file is refused with `Syntax` or
 /// `Unsupported` at the first token that is wrong, or at the first bracket of the 65th level where that comes first.
 pub fn parse_domain<'a>(
     bump: &'a Bump,

@@ -11,7 +11,7 @@ returns-in-Ok c =
     let seen : c.in_ok-tokens.tokens ≡ all_seen_in c.args.bytes.now c.args.tokens.now = rw c.slice-spans.ensures at c.in_ok-tokens.ensures in
     read_ok parts.Problem problem problem_view c.args.bytes.now c.args.tokens.now c.in_ok-tokens.tokens seen c.in-Ok.problem c.in-Ok.ensures
 
-pub returns : goal.returns
-returns c =
+pub returns-in-Err : goal.returns-in-Err
+returns-in-Err c =
     let seen : c.in_ok-tokens.tokens ≡ all_seen_in c.args.bytes.now c.args.tokens.now = rw c.slice-spans.ensures at c.in_ok-tokens.ensures in
     read_err parts.Problem problem problem_view c.args.bytes.now c.args.tokens.now c.in_ok-tokens.tokens seen c.in-Err.halt c.told.result c.in-Err.ensures (rw c.slice-spans.ensures at c.told.ensures)
