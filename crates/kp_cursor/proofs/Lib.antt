@@ -1,3 +1,5 @@
 pub mod Ascii
+pub mod Seen
+pub mod KindTests
 pub mod Several
 pub mod FirstBytes

@@ -1,5 +1,5 @@
 -- The tokens of the program as tokens of the grammar. The calls of this crate speak of it; what is promised of whole files doesn't.
-use Rattle.std.specs.Prelude.{◌≡◌, ℕ, List, [], ◌∷◌, length, map, drop, slice_range}
+use Rattle.std.specs.Prelude.{◌≡◌, ℕ, List, [], ◌∷◌, length, drop, slice_range}
 use Rattle.std.specs.Str.{str_to_ascii_lowercase}
 use Rattle.kp_lex.specs.declared.token.Token.{Token}
 use Rattle.kp_lex.specs.Cutting.{Cut}
@@ -10,25 +10,21 @@ use Rattle.kp_grammar.specs.Sorts.{apply}
 use Rattle.kp_grammar.specs.Grammar.{term_maker}
 use Rattle.kp_cursor.specs.declared.lexeme.Lexeme.{Lexeme}
 
--- its word
-abbrev pub word_of : Lexeme → Word
-word_of l = record { text = l.text.now; byte = l.byte }
+-- a token of the program
+abbrev pub tok : Lexeme → Tok Word
+tok l = record { symbol = l.symbol; word = record { text = l.text.now; byte = l.byte } }
+
+-- the word of a token
+abbrev pub word_of : Tok Word → Word
+word_of t = t.word
 
 -- the term that it is
-abbrev pub term_of : Lexeme → Term Word
-term_of l = apply Word (term_maker l.symbol) (word_of l)
-
--- the token
-abbrev pub tok : Lexeme → Tok Word
-tok l = record { symbol = l.symbol; word = word_of l }
-
--- all tokens
-abbrev pub toks : List Lexeme → List (Tok Word)
-toks ls = map tok ls
+abbrev pub term_of : Tok Word → Term Word
+term_of t = apply Word (term_maker t.symbol) t.word
 
 -- the tokens from the place i on
-abbrev pub from : List Lexeme → ℕ → List (Tok Word)
-from ls i = toks (drop i ls)
+abbrev pub from : List (Tok Word) → ℕ → List (Tok Word)
+from ts i = drop i ts
 
 -- a token of a text that is in lower case
 abbrev pub lexed : List ℕ → Token → Tok Word

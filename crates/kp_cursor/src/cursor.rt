@@ -7,8 +7,9 @@ ghost use Rattle.kp_cursor.specs.Lexemes.{tok, from};
 ghost use Rattle.kp_cursor.specs.Readers.{Passes, Closed, Opened, Led, class_test, lead_test, name_at};
 
 use crate::halt::Halt;
-use crate::lexeme::Lexeme;
+use crate::tokens::{Tokens, is_kind, peek};
 use kp_grammar::Symbol;
+use kp_lex::TokenKind;
 
 /// What a token may be.
 #[derive(Clone, Copy, Debug, PartialEq, Eq)]
@@ -109,59 +110,75 @@ pub fn has(class: Class, symbol: Symbol) -> bool
     }
 }
 
-/// The token at a place.
-pub fn peek<'t, 'a>(tokens: &'t [Lexeme<'a>], at: usize) -> Option<&'t Lexeme<'a>>
-    ensures found { IfSome result (λ x. from tokens.now at ≡ tok x.now ∷ from tokens.now (at + 1)) }
-    ensures within { IfSome result (λ x. at < length tokens.now) }
-    ensures none { IfNone result (from tokens.now at ≡ []) }
-{
-    tokens.get(at)
-}
-
 /// Whether an opening bracket stands at a place.
-pub fn is_left(tokens: &[Lexeme], at: usize) -> bool
+pub fn is_left(tokens: &Tokens, at: usize) -> bool
     ensures test { result ≡ first_is is_left (from tokens.now at) }
     ensures within { OnTrue result (at < length tokens.now) }
     ensures opens { OnTrue result (Opened (from tokens.now at) (from tokens.now (at + 1))) }
+    ensures few { length tokens.now < 9223372036854775808 }
 {
-    match peek(tokens, at) {
-        Some(first) => matches!(first.symbol, Symbol::Left),
-        None => false,
-    }
+    is_kind(tokens, at, TokenKind::Left)
 }
 
 /// The place behind a closing bracket.
-pub fn close(tokens: &[Lexeme], at: usize) -> Result<usize, Halt>
+pub fn close(tokens: &Tokens, at: usize) -> Result<usize, Halt>
     ensures found { IfOk result (λ n. Closed (from tokens.now at) (from tokens.now n)) }
     ensures stopped { IfErr result (λ e. (e ≡ Halt.Syntax at) × (first_is is_right (from tokens.now at) ≡ false)) }
     ensures onward { IfOk result (λ n. (at < n) × (n ≤ length tokens.now)) }
 {
-    match peek(tokens, at) {
-        Some(first) if matches!(first.symbol, Symbol::Right) => Ok(at + 1),
-        _ => Err(Halt::Syntax(at)),
+    if is_kind(tokens, at, TokenKind::Right) {
+        Ok(at + 1)
+    } else {
+        Err(Halt::Syntax(at))
     }
 }
 
-/// Whether a token of the class stands at a place.
-pub fn begins(tokens: &[Lexeme], at: usize, class: Class) -> bool
-    ensures test { result ≡ first_is (class_test class) (from tokens.now at) }
+// Whether a name that may be the head of an atom stands at a place.
+fn begins_head(tokens: &Tokens, at: usize) -> bool
+    ensures test { result ≡ first_is (class_test Class.Head) (from tokens.now at) }
     ensures within { OnTrue result (at < length tokens.now) }
+    ensures few { length tokens.now < 9223372036854775808 }
 {
     match peek(tokens, at) {
-        Some(first) => has(class, first.symbol),
+        Some(first) => is_head(first.symbol),
         None => false,
+    }
+}
+
+// Whether a name or a variable stands at a place.
+fn begins_term(tokens: &Tokens, at: usize) -> bool
+    ensures test { result ≡ first_is (class_test Class.Term) (from tokens.now at) }
+    ensures within { OnTrue result (at < length tokens.now) }
+    ensures few { length tokens.now < 9223372036854775808 }
+{
+    is_kind(tokens, at, TokenKind::Variable) || is_kind(tokens, at, TokenKind::Name)
+}
+
+/// Whether a token of the class stands at a place.
+pub fn begins(tokens: &Tokens, at: usize, class: Class) -> bool
+    ensures test { result ≡ first_is (class_test class) (from tokens.now at) }
+    ensures within { OnTrue result (at < length tokens.now) }
+    ensures few { length tokens.now < 9223372036854775808 }
+{
+    match class {
+        Class::Name => is_kind(tokens, at, TokenKind::Name),
+        Class::Head => begins_head(tokens, at),
+        Class::Variable => is_kind(tokens, at, TokenKind::Variable),
+        Class::Term => begins_term(tokens, at),
+        Class::Keyword => is_kind(tokens, at, TokenKind::Keyword),
     }
 }
 
 /// The place behind a name.
 #[tactic(auto, unfolding(crate::specs::Readers::name_at))]
-pub fn skip_name(tokens: &[Lexeme], at: usize) -> Result<usize, Halt>
+pub fn skip_name(tokens: &Tokens, at: usize) -> Result<usize, Halt>
     ensures reads { Passes tokens.now result (name_at (from tokens.now at)) }
     ensures onward { IfOk result (λ n. (at < n) × (n ≤ length tokens.now)) }
 {
-    match peek(tokens, at) {
-        Some(first) if has(Class::Name, first.symbol) => Ok(at + 1),
-        _ => Err(Halt::Syntax(at)),
+    if is_kind(tokens, at, TokenKind::Name) {
+        Ok(at + 1)
+    } else {
+        Err(Halt::Syntax(at))
     }
 }
 
@@ -180,7 +197,7 @@ fn leads(lead: Lead, symbol: Symbol) -> bool
 }
 
 /// The place behind a word that must come first.
-pub fn follow(tokens: &[Lexeme], at: usize, lead: Lead) -> Result<usize, Halt>
+pub fn follow(tokens: &Tokens, at: usize, lead: Lead) -> Result<usize, Halt>
     ensures found { IfOk result (λ n. Led lead (from tokens.now at) (from tokens.now n)) }
     ensures stopped { IfErr result (λ e. (e ≡ Halt.Syntax at) × (first_is (hits (lead_test lead)) (from tokens.now at) ≡ false)) }
     ensures onward { IfOk result (λ n. (at < n) × (n ≤ length tokens.now)) }

@@ -7,9 +7,11 @@ mod cursor;
 mod halt;
 mod lexeme;
 mod runs;
+mod tokens;
 
-pub use bytes::byte_of;
-pub use cursor::{Class, Lead, begins, close, follow, has, is_left, peek, skip_name};
+pub use bytes::{byte_of, lower_case};
+pub use cursor::{Class, Lead, begins, close, follow, has, is_left, skip_name};
 pub use halt::Halt;
-pub use lexeme::{Lexeme, lexemes};
+pub use lexeme::Lexeme;
 pub use runs::{run, skip_keywords, words};
+pub use tokens::{Tokens, peek};

@@ -4,44 +4,45 @@ ghost use Rattle.kp_grammar.specs.Reading.{stop};
 ghost use Rattle.kp_cursor.specs.Lexemes.{from};
 ghost use Rattle.kp_cursor.specs.Readers.{Passes, Words, is_of, some_at, keywords_at};
 
-use crate::cursor::{Class, has};
+use crate::cursor::{Class, begins};
 use crate::halt::Halt;
-use crate::lexeme::Lexeme;
+use crate::tokens::Tokens;
 
-// Whether the token is of the class.
-fn is_of(token: &Lexeme, class: Class) -> bool
-    ensures { result ≡ is_of class token.now }
+// The place behind the tokens of the class, up to the first that isn't.
+fn run_end(tokens: &Tokens, start: usize, class: Class) -> usize
+    requires { start ≤ length tokens.now }
+    ensures count { result ≡ start + prefix_len (is_of class) (drop start tokens.now) }
+    ensures onward { (start ≤ result) × (result ≤ length tokens.now) }
+    ensures few { length tokens.now < 9223372036854775808 }
 {
-    has(class, token.symbol)
-}
-
-// How many tokens are of the class, up to the first that isn't.
-fn run_len(tokens: &[Lexeme], class: Class) -> usize
-    ensures { result ≡ prefix_len (is_of class) tokens.now }
-{
-    tokens.iter().take_while(|t| is_of(t, class)).count()
+    let mut end = start;
+    'more: while begins(tokens, end, class) {
+        end += 1;
+    }
+    end
 }
 
 /// The tokens from a place on that are of the class, up to the first that isn't.
-pub fn run<'t, 'a>(tokens: &'t [Lexeme<'a>], at: usize, class: Class) -> &'t [Lexeme<'a>]
+pub fn run<'t, 'a>(tokens: &Tokens<'t, 'a>, at: usize, class: Class) -> Tokens<'t, 'a>
     requires { at ≤ length tokens.now }
-    ensures { result.now ≡ take_while (is_of class) (drop at tokens.now) }
+    ensures longest { result ≡ take_while (is_of class) (drop at tokens.now) }
+    ensures within { at + length result ≤ length tokens.now }
+    ensures few { length tokens.now < 9223372036854775808 }
 {
-    let rest = &tokens[at..];
-    let count = run_len(rest, class);
-    &rest[..count]
+    tokens.part(at, run_end(tokens, at, class))
 }
 
 /// One or more words of a class, as many as stand there.
 pub fn words<'t, 'a>(
-    tokens: &'t [Lexeme<'a>],
+    tokens: &Tokens<'t, 'a>,
     at: usize,
     class: Class,
-) -> Result<&'t [Lexeme<'a>], Halt>
+) -> Result<Tokens<'t, 'a>, Halt>
     requires { at ≤ length tokens.now }
-    ensures found { IfOk result (λ run. Words class tokens.now at run.now) }
+    ensures found { IfOk result (λ run. Words class tokens.now at run) }
     ensures stopped { IfErr result (λ e. (e ≡ Halt.Syntax at) × (some_at class (from tokens.now at) ≡ Err (stop (from tokens.now at)))) }
-    ensures onward { IfOk result (λ run. (0 < length run.now) × (at + length run.now ≤ length tokens.now)) }
+    ensures onward { IfOk result (λ run. (0 < length run) × (at + length run ≤ length tokens.now)) }
+    ensures few { length tokens.now < 9223372036854775808 }
 {
     let run = run(tokens, at, class);
     if run.is_empty() {
@@ -52,7 +53,7 @@ pub fn words<'t, 'a>(
 }
 
 /// The place behind keywords, which aren't kept.
-pub fn skip_keywords(tokens: &[Lexeme], at: usize) -> Result<usize, Halt>
+pub fn skip_keywords(tokens: &Tokens, at: usize) -> Result<usize, Halt>
     requires { at ≤ length tokens.now }
     ensures reads { Passes tokens.now result (keywords_at (from tokens.now at)) }
     ensures onward { IfOk result (λ n. (at ≤ n) × (n ≤ length tokens.now)) }

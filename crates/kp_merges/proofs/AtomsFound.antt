@@ -1,6 +1,6 @@
 -- Atoms and literals at places among the tokens of the program.
 use Rattle.std.proofs.Common.{◌≡◌, ℕ, suc, ◌+◌, true, false, List, [], ◌∷◌, map, drop, length, Ok, Option, Some, None, refl, sym, ap, subst, ◌∙◌, arith, true≢false}
-use Rattle.std.specs.List.{prefix_len, take_while, drop-map}
+use Rattle.std.specs.List.{prefix_len, take_while}
 use Rattle.std.proofs.lemmas.List.{drop-drop}
 use Rattle.std.proofs.lemmas.Bool.{and_parts}
 use Rattle.kp_base.specs.declared.lit.AtomId.{AtomId}
@@ -16,8 +16,7 @@ use Rattle.kp_grammar.proofs.Exact.{go_reads}
 use Rattle.kp_cursor.specs.declared.cursor.Class.TheVariants as classes
 use Rattle.kp_cursor.specs.declared.halt.Halt.{Halt}
 use Rattle.kp_cursor.specs.declared.halt.Halt.TheVariants as halts
-use Rattle.kp_cursor.specs.declared.lexeme.Lexeme.{Lexeme}
-use Rattle.kp_cursor.specs.Lexemes.{word_of, tok, toks, from}
+use Rattle.kp_cursor.specs.Lexemes.{word_of, from}
 use Rattle.kp_cursor.specs.Readers.{Opened, Closed, is_of}
 use Rattle.kp_cursor.proofs.Several.{never_bracket, run_reads, taken, words_are}
 use Rattle.kp_merges.specs.Grammar.{text_of, name_of}
@@ -27,8 +26,8 @@ use Rattle.kp_merges.proofs.Lits.{fact_halts, fact_unknown, plain_reads, negated
 
 -- ---- tokens from a place on
 
-pub next_from : (ls : List Lexeme) (at n : ℕ) → drop n (from ls at) ≡ from ls (at + n)
-next_from ls at n = drop-map tok n (drop at ls) ∙ ap toks (drop-drop n at ls)
+pub next_from : (ls : List (Tok Word)) (at n : ℕ) → drop n (from ls at) ≡ from ls (at + n)
+next_from ls at n = drop-drop n at ls
 
 -- ---- atoms
 
@@ -37,19 +36,19 @@ no_hit [] e = refl
 no_hit (t ∷ us) e = never_bracket classes.Head t.symbol ∙ e
 
 -- no head stands behind the bracket
-pub headless : (ls : List Lexeme) (at : ℕ) → Opened (from ls at) (from ls (at + 1)) → false ≡ first_is is_head (from ls (at + 1)) → Stops fact (from ls at) (stop (from ls (at + 1)))
+pub headless : (ls : List (Tok Word)) (at : ℕ) → Opened (from ls at) (from ls (at + 1)) → false ≡ first_is is_head (from ls (at + 1)) → Stops fact (from ls at) (stop (from ls (at + 1)))
 headless ls at o e = rw o.is (s_inside o.left (s_make (s_first (s_token (no_hit (from ls (at + 1)) (sym e))))))
 
 -- what stands between the brackets of an atom
-record BodyStands (ls : List Lexeme) (at : ℕ) (run : List Lexeme) : Type 0 where
+record BodyStands (ls : List (Tok Word)) (at : ℕ) (run : List (Tok Word)) : Type 0 where
   atom : Atom Word
   reads : Reads fact_body (from ls at) atom (from ls (at + length run))
   named : (name_of atom).head ∷ (name_of atom).objects ≡ map (λ w. (word_of w).text) run
 
-named_term : Lexeme → Term Word
+named_term : Tok Word → Term Word
 named_term l = apply Word m_name (word_of l)
 
-texts_same : (ws : List Lexeme) → map text_of (map named_term ws) ≡ map (λ w. (word_of w).text) ws
+texts_same : (ws : List (Tok Word)) → map text_of (map named_term ws) ≡ map (λ w. (word_of w).text) ws
 unfolding named_term
 texts_same [] = refl
 texts_same (w ∷ ws) = ap (λ (xs : List (List ℕ)). (word_of w).text ∷ xs) (texts_same ws)
@@ -57,23 +56,23 @@ texts_same (w ∷ ws) = ap (λ (xs : List (List ℕ)). (word_of w).text ∷ xs) 
 head_is_name : (s : Symbol) → is_head s ≡ true → is_name s ≡ true
 head_is_name s h = rw h refl
 
-module _ (ls : List Lexeme) (at : ℕ) (run : List Lexeme) (is : run ≡ take_while (is_of classes.Name) (drop at ls)) where
-  behind_run : toks (drop (prefix_len (is_of classes.Name) (drop at ls)) (drop at ls)) ≡ from ls (at + length run)
+module _ (ls : List (Tok Word)) (at : ℕ) (run : List (Tok Word)) (is : run ≡ take_while (is_of classes.Name) (drop at ls)) where
+  behind_run : (drop (prefix_len (is_of classes.Name) (drop at ls)) (drop at ls)) ≡ from ls (at + length run)
   behind_run =
-      let same = words_are classes.Name ls at run is (λ l. l) (Ok (map (λ l. l) (take_while (is_of classes.Name) (drop at ls)), toks (drop (prefix_len (is_of classes.Name) (drop at ls)) (drop at ls)))) refl in
-      let pairs : ◌≡◌ {A = List Lexeme × List (Tok Word)} (map (λ l. l) (take_while (is_of classes.Name) (drop at ls)), toks (drop (prefix_len (is_of classes.Name) (drop at ls)) (drop at ls))) (map (λ l. l) run, from ls (at + length run)) = cc in
-      ap (λ (x : List Lexeme × List (Tok Word)). x.1) pairs
+      let same = words_are classes.Name ls at run is (λ l. l) (Ok (map (λ l. l) (take_while (is_of classes.Name) (drop at ls)), (drop (prefix_len (is_of classes.Name) (drop at ls)) (drop at ls)))) refl in
+      let pairs : ◌≡◌ {A = List (Tok Word) × List (Tok Word)} (map (λ l. l) (take_while (is_of classes.Name) (drop at ls)), (drop (prefix_len (is_of classes.Name) (drop at ls)) (drop at ls))) (map (λ l. l) run, from ls (at + length run)) = cc in
+      ap (λ (x : List (Tok Word) × List (Tok Word)). x.1) pairs
 
-  body_by : (l : Lexeme) (us : List Lexeme) → drop at ls ≡ l ∷ us → is_head l.symbol ≡ true → BodyStands ls at run
+  body_by : (l : Tok Word) (us : List (Tok Word)) → drop at ls ≡ l ∷ us → is_head l.symbol ≡ true → BodyStands ls at run
   unfolding named_term
   body_by l us e h =
       let p = is_of classes.Name in
       let named : is_name l.symbol ≡ true = head_is_name l.symbol h in
       let front : run ≡ l ∷ take_while p us = is ∙ ap (take_while p) e ∙ taken p l us named in
       let more : prefix_len p (l ∷ us) ≡ suc (prefix_len p us) = rw named (omega arith) in
-      let left : toks (drop (prefix_len p us) us) ≡ from ls (at + length run) =
-      ap (λ (n : ℕ). toks (drop n (l ∷ us))) (sym more) ∙ ap (λ (vs : List Lexeme). toks (drop (prefix_len p vs) vs)) (sym e) ∙ behind_run in
-      let names = go_reads 0 _ _ (many is_name (token is_name (λ _. m_name))) (toks us) (map named_term (take_while p us)) (toks (drop (prefix_len p us) us)) (run_reads 0 is_name (λ _. m_name) (never_bracket classes.Name) us) in
+      let left : (drop (prefix_len p us) us) ≡ from ls (at + length run) =
+      ap (λ (n : ℕ). drop n (l ∷ us)) (sym more) ∙ ap (λ (vs : List (Tok Word)). (drop (prefix_len p vs) vs)) (sym e) ∙ behind_run in
+      let names = go_reads 0 _ _ (many is_name (token is_name (λ _. m_name))) us (map named_term (take_while p us)) ((drop (prefix_len p us) us)) (run_reads 0 is_name (λ _. m_name) (never_bracket classes.Name) us) in
       record {
         atom = record { head = word_of l; terms = map named_term (take_while p us) };
         reads = rw (e, sym left) (r_make (r_both (r_token (never_bracket classes.Head l.symbol ∙ h)) names));
@@ -82,11 +81,11 @@ module _ (ls : List Lexeme) (at : ℕ) (run : List Lexeme) (is : run ≡ take_wh
 
   body : first_is is_head (from ls at) ≡ true → BodyStands ls at run
   body h = go (drop at ls) refl h where
-    go : (us : List Lexeme) → drop at ls ≡ us → first_is is_head (toks us) ≡ true → BodyStands ls at run
+    go : (us : List (Tok Word)) → drop at ls ≡ us → first_is is_head us ≡ true → BodyStands ls at run
     go [] e f = absurd (true≢false (sym f))
     go (l ∷ us) e f = body_by l us e f
 
-module _ (ls : List Lexeme) (at : ℕ) (run : List Lexeme) (o : Opened (from ls at) (from ls (at + 1))) (h : true ≡ first_is is_head (from ls (at + 1))) (is : run ≡ take_while (is_of classes.Name) (drop (at + 1) ls)) where
+module _ (ls : List (Tok Word)) (at : ℕ) (run : List (Tok Word)) (o : Opened (from ls at) (from ls (at + 1))) (h : true ≡ first_is is_head (from ls (at + 1))) (is : run ≡ take_while (is_of classes.Name) (drop (at + 1) ls)) where
   -- no closing bracket stands behind the names
   pub unclosed : first_is is_right (from ls (at + 1 + length run)) ≡ false → Stops fact (from ls at) (stop (from ls (at + 1 + length run)))
   unclosed f = let b = body ls (at + 1) run is (sym h) in rw o.is (s_unclosed o.left b.reads f)
@@ -103,28 +102,28 @@ module _ (ls : List Lexeme) (at : ℕ) (run : List Lexeme) (o : Opened (from ls 
 
 -- ---- its number
 
-pub atom_halts : (number : Numbers) (ls : List Lexeme) (at : ℕ) (e : Halt) → FactStops ls at e → HaltsAt number fact ls at e
+pub atom_halts : (number : Numbers) (ls : List (Tok Word)) (at : ℕ) (e : Halt) → FactStops ls at e → HaltsAt number fact ls at e
 atom_halts number ls at halts.Memory h = absurd h
 atom_halts number ls at (halts.Syntax i) h = λ d. fact_halts h
 atom_halts number ls at (halts.Unsupported i) h = absurd h
 
-pub atom_found : (number : Numbers) (ls : List Lexeme) (at : ℕ) (run : List Lexeme) (behind n : ℕ) (o : Option ℕ) → FactStands ls at run behind → IsNumberOf number run o → o ≡ Some n → ReadsAt fact (IsAtom number) ls at (record { 0 = n }) behind
+pub atom_found : (number : Numbers) (ls : List (Tok Word)) (at : ℕ) (run : List (Tok Word)) (behind n : ℕ) (o : Option ℕ) → FactStands ls at run behind → IsNumberOf number run o → o ≡ Some n → ReadsAt fact (IsAtom number) ls at (record { 0 = n }) behind
 atom_found number ls at run behind n o s is e = record { tree = s.atom; reads = s.reads; is = is (name_of s.atom) s.named ∙ e }
 
-pub atom_unknown : (number : Numbers) (ls : List Lexeme) (at : ℕ) (run : List Lexeme) (behind : ℕ) (o : Option ℕ) → FactStands ls at run behind → IsNumberOf number run o → o ≡ None → HaltsAt number fact ls at (halts.Syntax (at + 1))
+pub atom_unknown : (number : Numbers) (ls : List (Tok Word)) (at : ℕ) (run : List (Tok Word)) (behind : ℕ) (o : Option ℕ) → FactStands ls at run behind → IsNumberOf number run o → o ≡ None → HaltsAt number fact ls at (halts.Syntax (at + 1))
 atom_unknown number ls at run behind o s is e d = subst (λ (us : List (Tok Word)). Halts number (suc d) fact (from ls at) us) (next_from ls at 1) (fact_unknown s.reads (is (name_of s.atom) s.named ∙ e))
 
 -- ---- literals
 
 -- a bracket and the word `not` stand there
-record DeniedStands (ls : List Lexeme) (at : ℕ) : Type 0 where
+record DeniedStands (ls : List (Tok Word)) (at : ℕ) : Type 0 where
   opening : Tok Word
   word : Tok Word
   is : from ls at ≡ opening ∷ word ∷ from ls (at + 2)
   left : is_left opening.symbol ≡ true
   negates : is_not word.symbol ≡ true
 
-denied_by : (ls : List Lexeme) (at : ℕ) (us : List (Tok Word)) → from ls at ≡ us → is_denied us ≡ true → DeniedStands ls at
+denied_by : (ls : List (Tok Word)) (at : ℕ) (us : List (Tok Word)) → from ls at ≡ us → is_denied us ≡ true → DeniedStands ls at
 denied_by ls at [] e d = absurd (true≢false (sym d))
 denied_by ls at (t ∷ []) e d = absurd (true≢false (sym d))
 denied_by ls at (t ∷ n ∷ us) e d =
@@ -137,7 +136,7 @@ denied_by ls at (t ∷ n ∷ us) e d =
       negates = p.1;
     }
 
-module _ (number : Numbers) (ls : List Lexeme) (at : ℕ) where
+module _ (number : Numbers) (ls : List (Tok Word)) (at : ℕ) where
   module _ (d : false ≡ is_denied (from ls at)) where
     pub plain_found : (x : AtomId) (behind : ℕ) → ReadsAt fact (IsAtom number) ls at x behind → ReadsAt lit (IsLit number) ls at (record { atom = x; positive = true }) behind
     plain_found x behind r = record { tree = record { positive = true; atom = r.tree }; reads = plain_reads r.reads; is = record { atom = r.is; sign = refl } }

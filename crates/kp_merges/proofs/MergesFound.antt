@@ -13,8 +13,7 @@ use Rattle.kp_grammar.specs.Reading.{Reads, r_bracket, r_after, r_both}
 use Rattle.kp_cursor.specs.declared.cursor.Lead.TheVariants as leads
 use Rattle.kp_cursor.specs.declared.halt.Halt.{Halt}
 use Rattle.kp_cursor.specs.declared.halt.Halt.TheVariants as halts
-use Rattle.kp_cursor.specs.declared.lexeme.Lexeme.{Lexeme}
-use Rattle.kp_cursor.specs.Lexemes.{toks, from}
+use Rattle.kp_cursor.specs.Lexemes.{from}
 use Rattle.kp_cursor.specs.Readers.{Opened, Closed, Led}
 use Rattle.kp_merges.specs.declared.merge.FileMerge.{FileMerge}
 use Rattle.kp_merges.specs.Grammar.{tag, merge, merges}
@@ -28,7 +27,7 @@ use Rattle.kp_merges.proofs.Firsts.{first_is as is_first, first_behind}
 
 -- ---- repetitions
 
-module _ {Y : Type 0} {c : Sort} (number : Numbers) (depth : ℕ → ℕ) (X : Form true c) (Is : El Word c → Y → Type 0) (ls : List Lexeme) (start : ℕ) where
+module _ {Y : Type 0} {c : Sort} (number : Numbers) (depth : ℕ → ℕ) (X : Form true c) (Is : El Word c → Y → Type 0) (ls : List (Tok Word)) (start : ℕ) where
   -- the next one is refused
   pub next_fails : (ys : List Y) (at : ℕ) (e : Halt) (n : ℕ) → true ≡ first_is is_left (from ls at) → HaltsBelow number (depth n) X ls at e → SoFar number depth X Is ys (from ls at) (from ls start) → HaltsBelow number (depth n) (many is_left X) ls start e
   next_fails ys at halts.Memory n l h so = tt
@@ -48,7 +47,7 @@ module _ {Y : Type 0} {c : Sort} (number : Numbers) (depth : ℕ → ℕ) (X : F
 pub no_lits : (number : Numbers) (all : List (Tok Word)) (set : List Literal) → set ≡ [] → LitsSoFar number set all all
 no_lits number all set e = record { lits = []; set = e; so_far = none_so_far all }
 
-module _ (number : Numbers) (ls : List Lexeme) (start at : ℕ) (set : List Literal) (so : LitsSoFar number set (from ls at) (from ls start)) where
+module _ (number : Numbers) (ls : List (Tok Word)) (start at : ℕ) (set : List Literal) (so : LitsSoFar number set (from ls at) (from ls start)) where
   pub lit_fails : (e : Halt) → true ≡ first_is is_left (from ls at) → HaltsAt number lit ls at e → HaltsAt number (many is_left lit) ls start e
   lit_fails e l h d = next_fails number suc lit (IsLit number) ls start so.lits at e d l (h d) so.so_far
 
@@ -66,7 +65,7 @@ module _ (number : Numbers) (ls : List Lexeme) (start at : ℕ) (set : List Lite
 
 -- ---- tags
 
-module _ (number : Numbers) (ls : List Lexeme) (at : ℕ) (o : Opened (from ls at) (from ls (at + 1))) where
+module _ (number : Numbers) (ls : List (Tok Word)) (at : ℕ) (o : Opened (from ls at) (from ls (at + 1))) where
   pub tag_fails : (e : Halt) → HaltsAt number (many is_left lit) ls (at + 1) e → HaltsAt number tag ls at e
   tag_fails halts.Memory h d = tt
   tag_fails (halts.Syntax i) h d = rw o.is (tag_halts o.left (h (suc d)))
@@ -82,15 +81,15 @@ module _ (number : Numbers) (ls : List Lexeme) (at : ℕ) (o : Opened (from ls a
     is = r.is;
   }
 
-pub no_tag : (number : Numbers) (ls : List Lexeme) (at : ℕ) → false ≡ first_is is_left (from ls at) → HaltsAt number tag ls at (halts.Syntax at)
+pub no_tag : (number : Numbers) (ls : List (Tok Word)) (at : ℕ) → false ≡ first_is is_left (from ls at) → HaltsAt number tag ls at (halts.Syntax at)
 no_tag number ls at e d = tag_unopened (sym e)
 
 -- ---- merges
 
-pub no_merge : (number : Numbers) (ls : List Lexeme) (at : ℕ) → false ≡ first_is is_left (from ls at) → HaltsBelow number 0 merge ls at (halts.Syntax at)
+pub no_merge : (number : Numbers) (ls : List (Tok Word)) (at : ℕ) → false ≡ first_is is_left (from ls at) → HaltsBelow number 0 merge ls at (halts.Syntax at)
 no_merge number ls at e = merge_unopened (sym e)
 
-module _ (number : Numbers) (ls : List Lexeme) (at : ℕ) (o : Opened (from ls at) (from ls (at + 1))) where
+module _ (number : Numbers) (ls : List (Tok Word)) (at : ℕ) (o : Opened (from ls at) (from ls (at + 1))) where
   pub no_word : first_is (hits is_merge) (from ls (at + 1)) ≡ false → HaltsBelow number 0 merge ls at (halts.Syntax (at + 1))
   no_word f = rw o.is (merge_unled o.left f)
 
@@ -119,20 +118,20 @@ module _ (number : Numbers) (ls : List Lexeme) (at : ℕ) (o : Opened (from ls a
 
 -- ---- all tokens
 
-module _ (number : Numbers) (ls : List Lexeme) (at : ℕ) (ms : List FileMerge) (so : SoFar number (λ _. 0) merge (IsMerge number) ms (from ls at) (toks ls)) where
+module _ (number : Numbers) (ls : List (Tok Word)) (at : ℕ) (ms : List FileMerge) (so : SoFar number (λ _. 0) merge (IsMerge number) ms (from ls at) ls) where
   pub merge_fails : (e : Halt) → true ≡ first_is is_left (from ls at) → HaltsBelow number 0 merge ls at e → AnswersTokens number ls (Err e)
   merge_fails halts.Memory l h = tt
   merge_fails (halts.Syntax i) l h = is_first (next_fails number (λ _. 0) merge (IsMerge number) ls 0 ms at (halts.Syntax i) 0 l h so)
   merge_fails (halts.Unsupported i) l h = absurd h
 
-  pub more_left : (t : Tok Word) (rest : List (Tok Word)) → from ls at ≡ t ∷ rest → false ≡ first_is is_left (from ls at) → IsFirstRefused number (toks ls) (from ls at)
+  pub more_left : (t : Tok Word) (rest : List (Tok Word)) → from ls at ≡ t ∷ rest → false ≡ first_is is_left (from ls at) → IsFirstRefused number ls (from ls at)
   more_left t rest e none =
-      subst (λ (ts : List (Tok Word)). IsFirstRefused number (toks ls) ts) (sym e)
-      (first_behind (subst (λ (ts : List (Tok Word)). Reads merges (toks ls) so.front ts) e (at_end (sym none) so)) (subst (λ (ts : List (Tok Word)). Walk number 0 (toks ls) 0 ts) e (so.walks 0)))
+      subst (λ (ts : List (Tok Word)). IsFirstRefused number ls ts) (sym e)
+      (first_behind (subst (λ (ts : List (Tok Word)). Reads merges ls so.front ts) e (at_end (sym none) so)) (subst (λ (ts : List (Tok Word)). Walk number 0 ls 0 ts) e (so.walks 0)))
 
-  pub none_left : from ls at ≡ [] → AreMergesOf number (toks ls) ms
+  pub none_left : from ls at ≡ [] → AreMergesOf number ls ms
   none_left e = record {
     tree = so.front;
     are = so.are;
-    reads = subst (λ (ts : List (Tok Word)). Reads merges (toks ls) so.front ts) e (at_end (ap (first_is is_left) e) so);
+    reads = subst (λ (ts : List (Tok Word)). Reads merges ls so.front ts) e (at_end (ap (first_is is_left) e) so);
   }

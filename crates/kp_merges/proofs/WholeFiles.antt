@@ -14,8 +14,7 @@ use Rattle.kp_grammar.specs.declared.tree.Word.{Word}
 use Rattle.kp_grammar.specs.Symbols.{Tok, seen_in, all_seen_in}
 use Rattle.kp_cursor.specs.declared.halt.Halt.{Halt}
 use Rattle.kp_cursor.specs.declared.halt.Halt.TheVariants as halts
-use Rattle.kp_cursor.specs.declared.lexeme.Lexeme.{Lexeme}
-use Rattle.kp_cursor.specs.Lexemes.{tok, toks, from, lexed}
+use Rattle.kp_cursor.specs.Lexemes.{from, lexed}
 use Rattle.kp_cursor.proofs.Ascii.{all_lexed}
 use Rattle.kp_plans.specs.Names.{number_of}
 use Rattle.kp_plans.specs.Tables.{IsTableOf}
@@ -26,12 +25,12 @@ use Rattle.kp_merges.specs.Parts.{AreMergesOf, AnswersTokens, AnswersCut, IsTold
 
 -- ---- tokens of a text
 
-module _ (number : Numbers) (text lower : List ℕ) (ts : List Token) (ls : List Lexeme) (e : lower ≡ str_to_ascii_lowercase text) (read : toks ls ≡ map (lexed lower) ts) where
-  seen : toks ls ≡ all_seen_in text ts
+module _ (number : Numbers) (text lower : List ℕ) (ts : List Token) (ls : List (Tok Word)) (e : lower ≡ str_to_ascii_lowercase text) (read : ls ≡ map (lexed lower) ts) where
+  seen : ls ≡ all_seen_in text ts
   seen = read ∙ all_lexed text lower ts e
 
   from_is : (i : ℕ) → from ls i ≡ all_seen_in text (drop i ts)
-  from_is i = sym (drop-map tok i ls) ∙ ap (drop i) seen ∙ drop-map (seen_in text) i ts
+  from_is i = ap (drop i) seen ∙ drop-map (seen_in text) i ts
 
   pub of_tokens : (r : Result (List FileMerge) Halt) → AnswersTokens number ls r → AnswersCut number text ts r
   of_tokens (Ok ms) h = subst (λ (us : List (Tok Word)). AreMergesOf number us ms) seen h

@@ -21,8 +21,7 @@ use Rattle.kp_grammar.specs.Reading.{At, stop, Reads, Stops, ReadsWhole}
 use Rattle.kp_meaning.specs.Encoding.{encoded}
 use Rattle.kp_cursor.specs.declared.halt.Halt.{Halt}
 use Rattle.kp_cursor.specs.declared.halt.Halt.TheVariants as halts
-use Rattle.kp_cursor.specs.declared.lexeme.Lexeme.{Lexeme}
-use Rattle.kp_cursor.specs.Lexemes.{word_of, toks, from, byte_at}
+use Rattle.kp_cursor.specs.Lexemes.{word_of, from, byte_at}
 use Rattle.kp_plans.specs.Tables.{number_under}
 use Rattle.kp_merges.specs.declared.merge.FileMerge.{FileMerge}
 use Rattle.kp_merges.specs.Grammar.{MergeTree, merges, name_of}
@@ -36,18 +35,18 @@ numbers_of table n = number_under table (encoded n)
 -- ---- atoms and negations
 
 -- an atom with these words stands at a place, and another place is behind it
-pub record FactStands (ls : List Lexeme) (at : ℕ) (run : List Lexeme) (behind : ℕ) : Type 0 where
+pub record FactStands (ls : List (Tok Word)) (at : ℕ) (run : List (Tok Word)) (behind : ℕ) : Type 0 where
   pub atom : Atom Word
   pub reads : Reads fact (from ls at) atom (from ls behind)
   pub named : (name_of atom).head ∷ (name_of atom).objects ≡ map (λ w. (word_of w).text) run
 
 -- none stands there; it stops at a token
-abbrev pub FactStops : List Lexeme → ℕ → Halt → Type 0
+abbrev pub FactStops : List (Tok Word) → ℕ → Halt → Type 0
 FactStops ls at (halts.Syntax i) = Stops fact (from ls at) (stop (from ls i))
 FactStops ls at _ = ⊥
 
 -- the number of the atom with these words, if it has one
-abbrev pub IsNumberOf : Numbers → List Lexeme → Option ℕ → Type 0
+abbrev pub IsNumberOf : Numbers → List (Tok Word) → Option ℕ → Type 0
 IsNumberOf number run o = (n : GroundName) → n.head ∷ n.objects ≡ map (λ w. (word_of w).text) run → number n ≡ o
 
 -- the atom by number
@@ -83,19 +82,19 @@ pub data Halts (number : Numbers) (d : ℕ) {b : Bool} {c : Sort} (X : Form b c)
 -- ---- what the calls answer
 
 -- the form stands at a place, as this value, and another place is behind it
-pub record ReadsAt {Y : Type 0} {b : Bool} {c : Sort} (X : Form b c) (Is : El Word c → Y → Type 0) (ls : List Lexeme) (at : ℕ) (y : Y) (behind : ℕ) : Type 0 where
+pub record ReadsAt {Y : Type 0} {b : Bool} {c : Sort} (X : Form b c) (Is : El Word c → Y → Type 0) (ls : List (Tok Word)) (at : ℕ) (y : Y) (behind : ℕ) : Type 0 where
   pub tree : El Word c
   pub reads : Reads X (from ls at) tree (from ls behind)
   pub is : Is tree y
 
 -- it doesn't stand there, and is refused first at a token; so many brackets are open before it
-abbrev pub HaltsBelow : Numbers → ℕ → {b : Bool} {c : Sort} → Form b c → List Lexeme → ℕ → Halt → Type 0
+abbrev pub HaltsBelow : Numbers → ℕ → {b : Bool} {c : Sort} → Form b c → List (Tok Word) → ℕ → Halt → Type 0
 HaltsBelow number d X ls at halts.Memory = Unit {0}
 HaltsBelow number d X ls at (halts.Syntax i) = Halts number d X (from ls at) (from ls i)
 HaltsBelow number d X ls at (halts.Unsupported i) = ⊥
 
 -- the same within brackets, however many are open
-abbrev pub HaltsAt : Numbers → {b : Bool} {c : Sort} → Form b c → List Lexeme → ℕ → Halt → Type 0
+abbrev pub HaltsAt : Numbers → {b : Bool} {c : Sort} → Form b c → List (Tok Word) → ℕ → Halt → Type 0
 HaltsAt number X ls at halt = (d : ℕ) → HaltsBelow number (suc d) X ls at halt
 
 -- of all that was read so far of a repetition, in front of the tokens that are left; so many brackets are open between two of them
@@ -119,10 +118,10 @@ pub record AreMergesOf (number : Numbers) (ts : List (Tok Word)) (ms : List File
   pub reads : ReadsWhole merges ts tree
 
 -- of all tokens: the merges, or the first token that is refused; want of memory is free
-abbrev pub AnswersTokens : Numbers → List Lexeme → Result (List FileMerge) Halt → Type 0
-AnswersTokens number ls (Ok ms) = AreMergesOf number (toks ls) ms
+abbrev pub AnswersTokens : Numbers → List (Tok Word) → Result (List FileMerge) Halt → Type 0
+AnswersTokens number ls (Ok ms) = AreMergesOf number ls ms
 AnswersTokens number ls (Err halts.Memory) = Unit {0}
-AnswersTokens number ls (Err (halts.Syntax i)) = IsFirstRefused number (toks ls) (from ls i)
+AnswersTokens number ls (Err (halts.Syntax i)) = IsFirstRefused number ls (from ls i)
 AnswersTokens number ls (Err (halts.Unsupported i)) = ⊥
 
 -- the same of the tokens of a text

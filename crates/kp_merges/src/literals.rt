@@ -10,13 +10,13 @@ ghost use Rattle.kp_merges.specs.Parts.{ReadsAt, HaltsAt, is_denied, numbers_of}
 
 use crate::atoms::atom_at;
 use kp_base::{Lit, LitSet};
-use kp_cursor::{Halt, Lexeme, close, is_left, peek};
+use kp_cursor::{Halt, Tokens, close, is_left, peek};
 use kp_grammar::Symbol;
 use kp_plans::NameTable;
 use std::alloc::Global;
 
 // Whether the word `not` stands at a place.
-fn is_not(tokens: &[Lexeme], at: usize) -> bool
+fn is_not(tokens: &Tokens, at: usize) -> bool
     ensures test { result ≡ first_is is_not (from tokens.now at) }
     ensures within { OnTrue result (at < length tokens.now) }
 {
@@ -27,9 +27,10 @@ fn is_not(tokens: &[Lexeme], at: usize) -> bool
 }
 
 // Whether a literal that stands at a place has a negation.
-fn is_denied(tokens: &[Lexeme], at: usize) -> bool
+fn is_denied(tokens: &Tokens, at: usize) -> bool
     ensures test { result ≡ is_denied (from tokens.now at) }
     ensures within { OnTrue result (at + 2 ≤ length tokens.now) }
+    ensures few { length tokens.now < 9223372036854775808 }
 {
     is_left(tokens, at) && is_not(tokens, at + 1)
 }
@@ -38,7 +39,7 @@ fn is_denied(tokens: &[Lexeme], at: usize) -> bool
 pub fn literal_at(
     alloc: Global,
     table: &NameTable,
-    tokens: &[Lexeme],
+    tokens: &Tokens,
     at: usize,
 ) -> Result<(Lit, usize), Halt>
     ensures found { IfOk result (λ x. ReadsAt lit (IsLit (numbers_of table.now)) tokens.now at x.0 x.1) }
@@ -60,7 +61,7 @@ pub fn literal_at(
 fn literals_at(
     alloc: Global,
     table: &NameTable,
-    tokens: &[Lexeme],
+    tokens: &Tokens,
     start: usize,
 ) -> Result<(LitSet, usize), Halt>
     requires { start ≤ length tokens.now }
@@ -82,7 +83,7 @@ fn literals_at(
 pub fn tag_at(
     alloc: Global,
     table: &NameTable,
-    tokens: &[Lexeme],
+    tokens: &Tokens,
     at: usize,
 ) -> Result<(LitSet, usize), Halt>
     ensures found { IfOk result (λ x. ReadsAt tag (IsTag (numbers_of table.now)) tokens.now at x.0 x.1) }

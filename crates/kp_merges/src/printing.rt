@@ -1,22 +1,11 @@
 ghost use Rattle.std.specs.Prelude.{◌≡◌, false, map, slice_get, IfOk, OnOk};
-ghost use Rattle.kp_pieces.specs.Pieces.{Puts, each, spaced, name};
+ghost use Rattle.kp_pieces.specs.Pieces.{Puts, each, spaced};
 ghost use Rattle.kp_merges.specs.MergesFiles.{IsMergesOf};
 ghost use Rattle.kp_merges.specs.Printed.{name_put, atom_put, signed_put, lit_put, joined, tag_put, tag_of, with_tags, merge_line, merges_of, merges_text, CanBeWritten};
 
-use kp_base::{AtomId, Ground, GroundName, Lit, Memory, Merge, Row, TagRow, TagTable, Text};
-use kp_plans::put;
+use kp_base::{AtomId, Ground, GroundName, Lit, Memory, Merge, Row, TagRow, TagTable};
+use kp_plans::{put, put_objects};
 use std::alloc::Global;
-
-// Objects, a space before each.
-fn put_objects(out: &mut Vec<u8>, objects: &[Text]) -> Result<(), Memory>
-    ensures { OnOk result (Puts out.old.items out.new.items (each (spaced name) objects.now)) }
-{
-    for object in objects {
-        put(out, b" ")?;
-        put(out, object.slice())?;
-    }
-    Ok(())
-}
 
 // A name in brackets.
 fn put_bracketed(out: &mut Vec<u8>, name: &GroundName) -> Result<(), Memory>

@@ -1,6 +1,5 @@
-ghost use Rattle.std.specs.Prelude.{◌≡◌, ◌<◌, ◌≤◌, length, IfOk, IfErr};
+ghost use Rattle.std.specs.Prelude.{◌<◌, ◌≤◌, length, IfOk, IfErr};
 ghost use Rattle.std.specs.List.{AllZip};
-ghost use Rattle.std.specs.Str.{str_to_ascii_lowercase};
 ghost use Rattle.kp_lex.specs.Cutting.{Cut};
 ghost use Rattle.kp_grammar.specs.Symbols.{is_left as is_opening};
 ghost use Rattle.kp_grammar.specs.Forms.{many};
@@ -12,16 +11,16 @@ ghost use Rattle.kp_merges.specs.Parts.{ReadsAt, HaltsAt, HaltsBelow, AnswersTok
 use crate::literals::{literal_at, tag_at};
 use crate::merge::FileMerge;
 use kp_base::{Ground, LitSet, Part, Refused, Row, Stop};
-use kp_cursor::{Halt, Lead, Lexeme, byte_of, close, follow, is_left, lexemes, peek};
+use kp_cursor::{Halt, Lead, Tokens, byte_of, close, follow, is_left, lower_case, peek};
 use kp_lex::{Token, place, tokens};
 use kp_plans::NameTable;
-use std::alloc::{AllocError, Global};
+use std::alloc::Global;
 
 // The tags that stand at a place, and the place behind them.
 fn tags_at(
     alloc: Global,
     table: &NameTable,
-    tokens: &[Lexeme],
+    tokens: &Tokens,
     start: usize,
 ) -> Result<(Row<LitSet>, usize), Halt>
     requires { start ≤ length tokens.now }
@@ -43,7 +42,7 @@ fn tags_at(
 fn merge_at(
     alloc: Global,
     table: &NameTable,
-    tokens: &[Lexeme],
+    tokens: &Tokens,
     at: usize,
 ) -> Result<(FileMerge, usize), Halt>
     ensures found { IfOk result (λ x. ReadsAt merge (IsMerge (numbers_of table.now)) tokens.now at x.0 x.1) }
@@ -61,7 +60,7 @@ fn merge_at(
 }
 
 // The merges that all the tokens are.
-fn merges(alloc: Global, table: &NameTable, tokens: &[Lexeme]) -> Result<Row<FileMerge>, Halt>
+fn merges(alloc: Global, table: &NameTable, tokens: &Tokens) -> Result<Row<FileMerge>, Halt>
     ensures { AnswersTokens (numbers_of table.now) tokens.now result }
 {
     let mut merges = Row::new(alloc);
@@ -77,13 +76,6 @@ fn merges(alloc: Global, table: &NameTable, tokens: &[Lexeme]) -> Result<Row<Fil
     }
 }
 
-// All bytes in lower case.
-fn lower_case(alloc: Global, bytes: &[u8]) -> Result<Vec<u8>, AllocError>
-    ensures { IfOk result (λ lower. lower.items ≡ str_to_ascii_lowercase bytes.now) }
-{
-    bytes.iter().map(|b| b.to_ascii_lowercase()).collect(alloc)
-}
-
 // The merges of a text that is cut into the tokens.
 fn read_tokens(
     alloc: Global,
@@ -95,8 +87,8 @@ fn read_tokens(
     ensures { AnswersCut (numbers_of table.now) bytes.now tokens.now result }
 {
     let lower = lower_case(alloc, bytes)?;
-    let lexemes = lexemes(alloc, &lower, tokens)?;
-    merges(alloc, table, &lexemes)
+    let seen = Tokens::new(&lower, tokens);
+    merges(alloc, table, &seen)
 }
 
 // What ends the call where no merges were read.

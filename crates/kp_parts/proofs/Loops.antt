@@ -1,7 +1,6 @@
 -- Reading any number of one form, as a loop does.
-use Rattle.std.proofs.Common.{◌≡◌, ℕ, Bool, true, false, map, List, [], ◌∷◌, ◌++◌, Ok, Err, refl, sym, ap, ◌∙◌, ◌≤◌, length, take, append_assoc, append-nil}
+use Rattle.std.proofs.Common.{◌≡◌, ℕ, Bool, true, false, map, List, [], ◌∷◌, ◌++◌, Ok, Err, refl, sym, ap, ◌∙◌, append_assoc, append-nil}
 use Rattle.std.specs.List.{flat_map}
-use Rattle.std.proofs.lemmas.List.{take_all}
 use Rattle.kp_grammar.specs.declared.symbol.Symbol.{Symbol}
 use Rattle.kp_grammar.specs.declared.tree.Word.{Word}
 use Rattle.kp_grammar.specs.Trees.{Typed}
@@ -11,7 +10,6 @@ use Rattle.kp_grammar.specs.Forms.{Form, many, run, make}
 use Rattle.kp_grammar.specs.Reading.{stop}
 use Rattle.kp_grammar.specs.Parsing.{Outcome, ◌>>=◌, read}
 use Rattle.kp_grammar.proofs.Exact.{many_step, run_step}
-use Rattle.kp_cursor.specs.declared.lexeme.Lexeme.{Lexeme}
 use Rattle.kp_cursor.specs.declared.halt.Halt.{Halt}
 use Rattle.kp_cursor.specs.declared.halt.Halt.TheVariants as halts
 use Rattle.kp_parts.specs.Lexemes.{word_of}
@@ -26,7 +24,7 @@ regroup {A} front x (Ok xs) = ap (λ (ys : List A). Ok (ys, xs.1)) (simp append_
 regroup front x (Err at) = refl
 
 -- a failure of a part is one of the whole
-pub failed : {A B : Type 0} (ls : List Lexeme) (e : Halt) (part : Outcome Word A) (whole : Outcome Word B) → ((at : _) → part ≡ Err at → whole ≡ Err at) → Fails ls e part → Fails ls e whole
+pub failed : {A B : Type 0} (ls : List (Tok Word)) (e : Halt) (part : Outcome Word A) (whole : Outcome Word B) → ((at : _) → part ≡ Err at → whole ≡ Err at) → Fails ls e part → Fails ls e whole
 failed ls halts.Memory part whole h f = tt
 failed ls (halts.Syntax i) part whole h f = h _ f
 failed ls (halts.Unsupported i) part whole h f = h _ f
@@ -36,7 +34,7 @@ module _ {A B : Type 0} (f : A → B) (whole : Outcome Word B) (part : Outcome W
   pub made : (v : A) (w : B) (rest : List (Tok Word)) → f v ≡ w → part ≡ Ok (v, rest) → whole ≡ Ok (w, rest)
   made v w rest l k = e ∙ ap (λ (r : Outcome Word A). r >>= λ x. Ok (f x.0, x.1)) k ∙ ap (λ (y : B). Ok (y, rest)) l
 
-  pub unmade : (ls : List Lexeme) (h : Halt) → Fails ls h part → Fails ls h whole
+  pub unmade : (ls : List (Tok Word)) (h : Halt) → Fails ls h part → Fails ls h whole
   unmade ls h k = failed ls h part whole (λ at l. e ∙ ap (λ (r : Outcome Word A). r >>= λ x. Ok (f x.0, x.1)) l) k
 
 module _ {a : Sort} (d : ℕ) (p : Symbol → Bool) (X : Form true a) where
@@ -49,7 +47,7 @@ module _ {a : Sort} (d : ℕ) (p : Symbol → Bool) (X : Form true a) where
       let step : all_of ts ≡ (all_of rest >>= λ xs. Ok (x ∷ xs.0, xs.1)) = many_step d p X ts ∙ rw (here, e) refl in
       sym (regroup front x (all_of rest)) ∙ ap (with_front front) (sym step) ∙ so_far
 
-  pub ends : (ls : List Lexeme) (e : Halt) (front : List (El Word a)) (ts : List (Tok Word)) (total : Outcome Word (List (El Word a))) → first_is p ts ≡ true → Fails ls e (read d X ts)
+  pub ends : (ls : List (Tok Word)) (e : Halt) (front : List (El Word a)) (ts : List (Tok Word)) (total : Outcome Word (List (El Word a))) → first_is p ts ≡ true → Fails ls e (read d X ts)
       → with_front front (all_of ts) ≡ total → Fails ls e total
   ends ls e front ts total here h so_far =
       failed ls e (read d X ts) total (λ at k. let step : all_of ts ≡ Err at = many_step d p X ts ∙ rw (here, k) refl in sym so_far ∙ ap (with_front front) step) h
@@ -71,7 +69,7 @@ module _ {a : Sort} (d : ℕ) (p : Symbol → Bool) (X : Seen → Form true (s_p
       let step : run_of s ts ≡ (run_of x.0 rest >>= λ xs. Ok (x.1 ∷ xs.0, xs.1)) = run_step d p X done s ts ∙ rw (here, e) refl in
       sym (regroup front x.1 (run_of x.0 rest)) ∙ ap (with_front front) (sym step) ∙ so_far
 
-  pub run_ends : (ls : List Lexeme) (e : Halt) (front : List (El Word a)) (s : Seen) (ts : List (Tok Word)) (total : Outcome Word (List (El Word a))) → first_is p ts ≡ true → Fails ls e (read d (X s) ts)
+  pub run_ends : (ls : List (Tok Word)) (e : Halt) (front : List (El Word a)) (s : Seen) (ts : List (Tok Word)) (total : Outcome Word (List (El Word a))) → first_is p ts ≡ true → Fails ls e (read d (X s) ts)
       → with_front front (run_of s ts) ≡ total → Fails ls e total
   run_ends ls e front s ts total here h so_far =
       failed ls e (read d (X s) ts) total (λ at k. let step : run_of s ts ≡ Err at = run_step d p X done s ts ∙ rw (here, k) refl in sym so_far ∙ ap (with_front front) step) h
@@ -92,16 +90,16 @@ pub flat_map-push : {S T : Type 0} (f : S → List T) (xs : List S) (x : S) → 
 flat_map-push f [] x = append-nil (f x)
 flat_map-push f (y ∷ ys) x = ap (λ zs. f y ++ zs) (flat_map-push f ys x) ∙ sym (simp append_assoc)
 
--- a word of the program with its types
-abbrev pub typed_of : List Word → Lexeme → Typed Word
+-- a word with its types
+abbrev pub typed_of : List Word → Tok Word → Typed Word
 typed_of ks l = record { word = word_of l; kinds = ks }
 
-pub typed_run : (ks : List Word) (ls : List Lexeme) → with_kinds ks (map word_of ls) ≡ map (typed_of ks) ls
+pub typed_run : (ks : List Word) (ls : List (Tok Word)) → with_kinds ks (map word_of ls) ≡ map (typed_of ks) ls
 typed_run ks [] = refl
 typed_run ks (l ∷ ls) = ap (λ ts. typed_of ks l ∷ ts) (typed_run ks ls)
 
-pub all_declared : (ks : List Word) (ls : List Lexeme) (i : ℕ) (before after : List (Typed Word)) → length ls ≤ i → after ≡ before ++ map (typed_of ks) (take i ls) → after ≡ before ++ with_kinds ks (map word_of ls)
-all_declared ks ls i before after done e = e ∙ rw (take_all i ls done, typed_run ks ls) refl
+pub all_declared : (ks : List Word) (ls : List (Tok Word)) (before after : List (Typed Word)) → after ≡ before ++ map (typed_of ks) ls → after ≡ before ++ with_kinds ks (map word_of ls)
+all_declared ks ls before after e = e ∙ rw (typed_run ks ls) refl
 
 -- the groups read so far, and what they declare
 pub record Groups (typed : List (Typed Word)) (here total : Outcome Word (List (List (Typed Word)))) : Type 0 where
@@ -121,7 +119,7 @@ module _ (d : ℕ) (p : Symbol → Bool) (X : Form true (s_list s_typed)) where
     are = flat_map-push (λ ts. ts) g.front x ∙ ap (λ ys. ys ++ x) g.are ∙ sym is;
   }
 
-  pub group_ends : (ls : List Lexeme) (e : Halt) (before : List (Typed Word)) (ts start : List (Tok Word)) → first_is p ts ≡ true → Fails ls e (read d X ts) → Groups before (groups_of ts) (groups_of start) → Fails ls e (read d (make m_joined (many p X)) start)
+  pub group_ends : (ls : List (Tok Word)) (e : Halt) (before : List (Typed Word)) (ts start : List (Tok Word)) → first_is p ts ≡ true → Fails ls e (read d X ts) → Groups before (groups_of ts) (groups_of start) → Fails ls e (read d (make m_joined (many p X)) start)
   group_ends ls e before ts start here h g =
       failed ls e (groups_of start) (read d (make m_joined (many p X)) start) (λ at k. rw k refl) (ends d p X ls e g.front ts (groups_of start) here h g.so_far)
 

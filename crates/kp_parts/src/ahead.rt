@@ -2,24 +2,24 @@
 
 ghost use Rattle.std.specs.Prelude.{◌≤◌, length};
 
-use kp_cursor::Lexeme;
-use kp_grammar::Symbol;
+use kp_cursor::Tokens;
+use kp_lex::TokenKind;
 
 /// How many brackets open from a place on, those within them not counted, before the bracket around the place closes.
-pub fn parts_ahead(tokens: &[Lexeme], at: usize) -> usize
+pub fn parts_ahead(tokens: &Tokens, at: usize) -> usize
     requires { at ≤ length tokens.now }
 {
     let mut open = 0u32;
     let mut parts = 0usize;
-    for token in &tokens[at..] {
-        match token.symbol {
-            Symbol::Left => {
+    for token in &tokens.spans()[at..] {
+        match token.kind {
+            TokenKind::Left => {
                 if open == 0 {
                     parts = parts.saturating_add(1);
                 }
                 open = open.saturating_add(1);
             }
-            Symbol::Right => {
+            TokenKind::Right => {
                 if open == 0 {
                     return parts;
                 }

@@ -6,17 +6,17 @@ ghost use Rattle.kp_parts.specs.Readers.{Gives, term_at, equality_at, body_at, a
 use crate::lexeme::{term_node, word};
 use crate::runs::terms;
 use bumpalo::Bump;
-use kp_cursor::{Class, Halt, Lead, Lexeme, close, follow, has, is_left, peek};
+use kp_cursor::{Class, Halt, Lead, Tokens, close, follow, has, is_left, peek};
 use kp_nodes::{AtomNode, TermNode};
 
 // A name or a variable.
 #[tactic(auto, unfolding(crate::specs::Readers::term_at))]
-fn term<'a>(tokens: &[Lexeme<'a>], at: usize) -> Result<(TermNode<'a>, usize), Halt>
+fn term<'a>(tokens: &Tokens<'_, 'a>, at: usize) -> Result<(TermNode<'a>, usize), Halt>
     ensures reads { Gives tokens.now term_view result (term_at (from tokens.now at)) }
     ensures onward { IfOk result (λ x. (at < x.1) × (x.1 ≤ length tokens.now)) }
 {
     match peek(tokens, at) {
-        Some(first) if has(Class::Term, first.symbol) => Ok((term_node(first), at + 1)),
+        Some(first) if has(Class::Term, first.symbol) => Ok((term_node(&first), at + 1)),
         _ => Err(Halt::Syntax(at)),
     }
 }
@@ -24,7 +24,7 @@ fn term<'a>(tokens: &[Lexeme<'a>], at: usize) -> Result<(TermNode<'a>, usize), H
 /// = term term
 #[tactic(auto, unfolding(crate::specs::Readers::equality_at, crate::specs::Readers::term_at))]
 pub fn equality<'a>(
-    tokens: &[Lexeme<'a>],
+    tokens: &Tokens<'_, 'a>,
     at: usize,
 ) -> Result<((TermNode<'a>, TermNode<'a>), usize), Halt>
     ensures reads { Gives tokens.now (λ x. (term_view x.0, term_view x.1)) result (equality_at (from tokens.now at)) }
@@ -40,7 +40,7 @@ pub fn equality<'a>(
 #[tactic(auto, unfolding(crate::specs::Readers::body_at, kp_cursor::specs::Readers::word_at, crate::specs::Readers::terms_at))]
 pub fn body<'a>(
     bump: &'a Bump,
-    tokens: &[Lexeme<'a>],
+    tokens: &Tokens<'_, 'a>,
     at: usize,
     class: Class,
 ) -> Result<(AtomNode<'a>, usize), Halt>
@@ -56,7 +56,7 @@ pub fn body<'a>(
 #[tactic(auto, unfolding(crate::specs::Readers::atom_at, crate::specs::Readers::body_at))]
 pub fn atom<'a>(
     bump: &'a Bump,
-    tokens: &[Lexeme<'a>],
+    tokens: &Tokens<'_, 'a>,
     at: usize,
     levels: u32,
     class: Class,

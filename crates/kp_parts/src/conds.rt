@@ -10,7 +10,7 @@ use crate::atoms::{body, equality};
 use crate::runs::add;
 use bumpalo::Bump;
 use bumpalo::collections::into_bump_slice;
-use kp_cursor::{Class, Halt, Lexeme, close, is_left, peek};
+use kp_cursor::{Class, Halt, Tokens, close, is_left, peek};
 use kp_grammar::Symbol;
 use kp_nodes::CondNode;
 
@@ -43,7 +43,7 @@ pub fn no_condition<'a>() -> CondNode<'a>
 // = term term, which no goal has.
 #[tactic(auto, unfolding(crate::specs::Readers::test_at, crate::specs::Readers::equality_at))]
 fn same<'a>(
-    tokens: &[Lexeme<'a>],
+    tokens: &Tokens<'_, 'a>,
     at: usize,
     levels: u32,
     mode: Mode,
@@ -66,7 +66,7 @@ fn same<'a>(
 #[tactic(auto, unfolding(crate::specs::Readers::test_at, crate::specs::Readers::body_at))]
 fn test<'a>(
     bump: &'a Bump,
-    tokens: &[Lexeme<'a>],
+    tokens: &Tokens<'_, 'a>,
     at: usize,
     levels: u32,
     mode: Mode,
@@ -94,7 +94,7 @@ fn test<'a>(
 #[tactic(auto, unfolding(crate::specs::Readers::denied_at, crate::specs::Readers::test_at))]
 fn denied<'a>(
     bump: &'a Bump,
-    tokens: &[Lexeme<'a>],
+    tokens: &Tokens<'_, 'a>,
     at: usize,
     levels: u32,
     mode: Mode,
@@ -115,7 +115,7 @@ fn denied<'a>(
 #[tactic(auto, unfolding(crate::specs::Readers::cond_at, crate::specs::Readers::cond_inside_at))]
 pub fn cond<'a>(
     bump: &'a Bump,
-    tokens: &[Lexeme<'a>],
+    tokens: &Tokens<'_, 'a>,
     at: usize,
     levels: u32,
     mode: Mode,
@@ -136,7 +136,7 @@ pub fn cond<'a>(
 #[tactic(auto, unfolding(crate::specs::Readers::cond_inside_at, crate::specs::Readers::conds_at, crate::specs::Readers::denied_at, crate::specs::Readers::test_at))]
 fn inside<'a>(
     bump: &'a Bump,
-    tokens: &[Lexeme<'a>],
+    tokens: &Tokens<'_, 'a>,
     at: usize,
     levels: u32,
     mode: Mode,
@@ -163,7 +163,7 @@ fn inside<'a>(
 #[cycle(cond)]
 fn conds<'a>(
     bump: &'a Bump,
-    tokens: &[Lexeme<'a>],
+    tokens: &Tokens<'_, 'a>,
     start: usize,
     levels: u32,
     mode: Mode,

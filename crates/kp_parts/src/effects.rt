@@ -12,7 +12,7 @@ use crate::typed_lists::variables;
 use bumpalo::Bump;
 use bumpalo::collections::into_bump_slice;
 use kp_base::Memory;
-use kp_cursor::{Class, Halt, Lexeme, close, is_left, peek};
+use kp_cursor::{Class, Halt, Tokens, close, is_left, peek};
 use kp_grammar::Symbol;
 use kp_nodes::{CondNode, EffNode, TypedNode};
 
@@ -28,7 +28,7 @@ pub fn no_effect<'a>() -> EffNode<'a>
 #[tactic(auto, unfolding(crate::specs::Readers::eff_at, crate::specs::Readers::eff_inside_at))]
 pub fn eff<'a>(
     bump: &'a Bump,
-    tokens: &[Lexeme<'a>],
+    tokens: &Tokens<'_, 'a>,
     at: usize,
     levels: u32,
 ) -> Result<(EffNode<'a>, usize), Halt>
@@ -48,7 +48,7 @@ pub fn eff<'a>(
 #[tactic(auto, unfolding(crate::specs::Readers::eff_inside_at, crate::specs::Readers::effs_at, crate::specs::Readers::when_at, crate::specs::Readers::each_at, crate::specs::Readers::atom_at))]
 fn inside<'a>(
     bump: &'a Bump,
-    tokens: &[Lexeme<'a>],
+    tokens: &Tokens<'_, 'a>,
     at: usize,
     levels: u32,
 ) -> Result<(EffNode<'a>, usize), Halt>
@@ -113,7 +113,7 @@ fn over<'a>(
 #[tactic(auto, unfolding(crate::specs::Readers::when_at, crate::specs::Readers::cond_at, crate::specs::Readers::eff_at))]
 fn when<'a>(
     bump: &'a Bump,
-    tokens: &[Lexeme<'a>],
+    tokens: &Tokens<'_, 'a>,
     at: usize,
     levels: u32,
 ) -> Result<(EffNode<'a>, usize), Halt>
@@ -130,7 +130,7 @@ fn when<'a>(
 #[tactic(auto, unfolding(crate::specs::Readers::each_at, crate::specs::Readers::typed_bracket_at, crate::specs::Readers::eff_at))]
 fn each<'a>(
     bump: &'a Bump,
-    tokens: &[Lexeme<'a>],
+    tokens: &Tokens<'_, 'a>,
     at: usize,
     levels: u32,
 ) -> Result<(EffNode<'a>, usize), Halt>
@@ -146,7 +146,7 @@ fn each<'a>(
 #[cycle(eff)]
 fn effs<'a>(
     bump: &'a Bump,
-    tokens: &[Lexeme<'a>],
+    tokens: &Tokens<'_, 'a>,
     start: usize,
     levels: u32,
 ) -> Result<(&'a [EffNode<'a>], usize), Halt>

@@ -9,7 +9,7 @@ use crate::lexeme::word_node;
 use crate::runs::add;
 use bumpalo::Bump;
 use bumpalo::collections::into_bump_slice;
-use kp_cursor::{Class, Halt, Lexeme, close, is_left, peek};
+use kp_cursor::{Class, Halt, Tokens, close, is_left, peek};
 use kp_grammar::Symbol;
 use kp_nodes::{ItemNode, LitNode};
 
@@ -17,7 +17,7 @@ use kp_nodes::{ItemNode, LitNode};
 #[tactic(auto, unfolding(crate::specs::Readers::lit_inside_at, crate::specs::Readers::atom_at))]
 fn lit_inside<'a>(
     bump: &'a Bump,
-    tokens: &[Lexeme<'a>],
+    tokens: &Tokens<'_, 'a>,
     at: usize,
     levels: u32,
 ) -> Result<(LitNode<'a>, usize), Halt>
@@ -46,7 +46,7 @@ fn lit_inside<'a>(
 #[tactic(auto, unfolding(crate::specs::Readers::lit_at, crate::specs::Readers::lit_inside_at))]
 fn lit<'a>(
     bump: &'a Bump,
-    tokens: &[Lexeme<'a>],
+    tokens: &Tokens<'_, 'a>,
     at: usize,
     levels: u32,
 ) -> Result<(LitNode<'a>, usize), Halt>
@@ -64,7 +64,7 @@ fn lit<'a>(
 // Such literals, as many as stand there.
 fn lits<'a>(
     bump: &'a Bump,
-    tokens: &[Lexeme<'a>],
+    tokens: &Tokens<'_, 'a>,
     start: usize,
     levels: u32,
 ) -> Result<(&'a [LitNode<'a>], usize), Halt>
@@ -87,7 +87,7 @@ fn lits<'a>(
 #[tactic(auto, unfolding(crate::specs::Readers::item_at, crate::specs::Readers::item_inside_at))]
 fn item<'a>(
     bump: &'a Bump,
-    tokens: &[Lexeme<'a>],
+    tokens: &Tokens<'_, 'a>,
     at: usize,
     levels: u32,
 ) -> Result<(ItemNode<'a>, usize), Halt>
@@ -107,7 +107,7 @@ fn item<'a>(
 #[tactic(auto, unfolding(crate::specs::Readers::item_inside_at, crate::specs::Readers::items_at, crate::specs::Readers::lits_at, crate::specs::Readers::atom_at))]
 fn inside<'a>(
     bump: &'a Bump,
-    tokens: &[Lexeme<'a>],
+    tokens: &Tokens<'_, 'a>,
     at: usize,
     levels: u32,
 ) -> Result<(ItemNode<'a>, usize), Halt>
@@ -128,15 +128,15 @@ fn inside<'a>(
         }
         Symbol::OneOf => {
             let (lits, at) = lits(bump, tokens, at + 1, levels)?;
-            Ok((ItemNode::OneOf(word_node(first), lits), at))
+            Ok((ItemNode::OneOf(word_node(&first), lits), at))
         }
         Symbol::Or => {
             let (lits, at) = lits(bump, tokens, at + 1, levels)?;
-            Ok((ItemNode::AnyOf(word_node(first), lits), at))
+            Ok((ItemNode::AnyOf(word_node(&first), lits), at))
         }
         Symbol::Unknown => {
             let (atom, at) = atom(bump, tokens, at + 1, levels, Class::Name)?;
-            Ok((ItemNode::Unknown(word_node(first), atom), at))
+            Ok((ItemNode::Unknown(word_node(&first), atom), at))
         }
         Symbol::Forall | Symbol::Equal => Err(Halt::Unsupported(at)),
         _ => {
@@ -150,7 +150,7 @@ fn inside<'a>(
 #[cycle(item)]
 pub fn items<'a>(
     bump: &'a Bump,
-    tokens: &[Lexeme<'a>],
+    tokens: &Tokens<'_, 'a>,
     start: usize,
     levels: u32,
 ) -> Result<(Vec<ItemNode<'a>, &'a Bump>, usize), Halt>

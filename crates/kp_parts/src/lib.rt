@@ -16,9 +16,10 @@ pub use conds::{Mode, cond, no_condition};
 pub use effects::{eff, no_effect};
 pub use init_items::items;
 pub use kp_cursor::{
-    Class, Halt, Lead, Lexeme, begins, close, follow, has, is_left, peek, skip_keywords, skip_name,
+    Class, Halt, Lead, Lexeme, Tokens, begins, close, follow, has, is_left, peek, skip_keywords,
+    skip_name,
 };
-pub use lexeme::{lexemes, word};
+pub use lexeme::{tokens_in, word};
 pub use runs::{add, append};
 pub use titles::title;
 pub use typed_lists::{typed, variables};

@@ -7,14 +7,14 @@ use crate::lexeme::{term_node, word_node};
 use bumpalo::Bump;
 use bumpalo::collections::into_bump_slice;
 use kp_base::Memory;
-use kp_cursor::{Class, Halt, Lexeme, run};
+use kp_cursor::{Class, Halt, Tokens, peek, run};
 use kp_nodes::{TermNode, WordNode};
 use std::alloc::AllocError;
 
 /// Terms, as many as stand there, and the place behind them.
 pub fn terms<'a>(
     bump: &'a Bump,
-    tokens: &[Lexeme<'a>],
+    tokens: &Tokens<'_, 'a>,
     at: usize,
     class: Class,
 ) -> Result<(&'a [TermNode<'a>], usize), Halt>
@@ -23,27 +23,34 @@ pub fn terms<'a>(
     ensures onward { IfOk result (λ x. (at ≤ x.1) × (x.1 ≤ length tokens.now)) }
 {
     let run = run(tokens, at, class);
-    Ok((keep_terms(bump, run)?, at + run.len()))
+    Ok((keep_terms(bump, &run)?, at + run.len()))
 }
 
 /// The words, in the arena.
-pub fn keep_words<'a>(bump: &'a Bump, run: &[Lexeme<'a>]) -> Result<&'a [WordNode<'a>], AllocError>
+pub fn keep_words<'a>(
+    bump: &'a Bump,
+    run: &Tokens<'_, 'a>,
+) -> Result<&'a [WordNode<'a>], AllocError>
     ensures { IfOk result (λ s. map word_view s.now ≡ map word_of run.now) }
 {
     let mut words = Vec::with_capacity(bump, run.len())?;
-    for token in run {
-        words.push(word_node(token))?;
+    let mut at = 0;
+    'each: while let Some(token) = peek(run, at) {
+        words.push(word_node(&token))?;
+        at += 1;
     }
     Ok(into_bump_slice(words))
 }
 
 // The terms, in the arena.
-fn keep_terms<'a>(bump: &'a Bump, run: &[Lexeme<'a>]) -> Result<&'a [TermNode<'a>], AllocError>
+fn keep_terms<'a>(bump: &'a Bump, run: &Tokens<'_, 'a>) -> Result<&'a [TermNode<'a>], AllocError>
     ensures { IfOk result (λ s. map term_view s.now ≡ map term_of run.now) }
 {
     let mut terms = Vec::with_capacity(bump, run.len())?;
-    for token in run {
-        terms.push(term_node(token))?;
+    let mut at = 0;
+    'each: while let Some(token) = peek(run, at) {
+        terms.push(term_node(&token))?;
+        at += 1;
     }
     Ok(into_bump_slice(terms))
 }

@@ -2,11 +2,11 @@ ghost use Rattle.std.specs.Prelude.{◌≡◌, ◌<◌, ◌≤◌, length, IfOk}
 ghost use Rattle.kp_parts.specs.Lexemes.{from};
 ghost use Rattle.kp_parts.specs.Readers.{Passes, title_inside_at, title_at};
 
-use kp_cursor::{Halt, Lead, Lexeme, close, follow, is_left, skip_name};
+use kp_cursor::{Halt, Lead, Tokens, close, follow, is_left, skip_name};
 
 // The word and a name.
 #[tactic(auto, unfolding(crate::specs::Readers::title_inside_at, kp_cursor::specs::Readers::name_at))]
-fn title_inside(tokens: &[Lexeme], at: usize, lead: Lead) -> Result<usize, Halt>
+fn title_inside(tokens: &Tokens, at: usize, lead: Lead) -> Result<usize, Halt>
     ensures reads { Passes tokens.now result (title_inside_at lead (from tokens.now at)) }
     ensures onward { IfOk result (λ n. (at < n) × (n ≤ length tokens.now)) }
 {
@@ -16,7 +16,7 @@ fn title_inside(tokens: &[Lexeme], at: usize, lead: Lead) -> Result<usize, Halt>
 
 /// The place behind a bracket with the word and a name, which isn't kept.
 #[tactic(auto, unfolding(crate::specs::Readers::title_at, crate::specs::Readers::title_inside_at))]
-pub fn title(tokens: &[Lexeme], at: usize, levels: u32, lead: Lead) -> Result<usize, Halt>
+pub fn title(tokens: &Tokens, at: usize, levels: u32, lead: Lead) -> Result<usize, Halt>
     ensures reads { Passes tokens.now result (title_at lead levels (from tokens.now at)) }
     ensures onward { IfOk result (λ n. (at < n) × (n ≤ length tokens.now)) }
 {

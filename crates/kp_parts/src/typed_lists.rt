@@ -9,14 +9,14 @@ use crate::runs::keep_words;
 use bumpalo::Bump;
 use bumpalo::collections::into_bump_slice;
 use kp_base::Memory;
-use kp_cursor::{Class, Halt, Lead, Lexeme, begins, close, follow, is_left, peek, words};
+use kp_cursor::{Class, Halt, Lead, Tokens, begins, close, follow, is_left, peek, words};
 use kp_grammar::Symbol;
 use kp_nodes::{TypedNode, WordNode};
 
 // Name+
 fn names<'a>(
     bump: &'a Bump,
-    tokens: &[Lexeme<'a>],
+    tokens: &Tokens<'_, 'a>,
     at: usize,
 ) -> Result<(&'a [WordNode<'a>], usize), Halt>
     requires { at ≤ length tokens.now }
@@ -24,14 +24,14 @@ fn names<'a>(
     ensures onward { IfOk result (λ x. (at < x.1) × (x.1 ≤ length tokens.now)) }
 {
     let run = words(tokens, at, Class::Name)?;
-    Ok((keep_words(bump, run)?, at + run.len()))
+    Ok((keep_words(bump, &run)?, at + run.len()))
 }
 
 // either Name+
 #[tactic(auto, unfolding(crate::specs::Readers::either_names_at, crate::specs::Readers::names_at))]
 fn either_names<'a>(
     bump: &'a Bump,
-    tokens: &[Lexeme<'a>],
+    tokens: &Tokens<'_, 'a>,
     at: usize,
 ) -> Result<(&'a [WordNode<'a>], usize), Halt>
     ensures reads { Gives tokens.now (λ s. map word_view s.now) result (either_names_at (from tokens.now at)) }
@@ -45,7 +45,7 @@ fn either_names<'a>(
 #[tactic(auto, unfolding(crate::specs::Readers::either_at, crate::specs::Readers::either_names_at))]
 fn either<'a>(
     bump: &'a Bump,
-    tokens: &[Lexeme<'a>],
+    tokens: &Tokens<'_, 'a>,
     at: usize,
     levels: u32,
 ) -> Result<(&'a [WordNode<'a>], usize), Halt>
@@ -64,7 +64,7 @@ fn either<'a>(
 #[tactic(auto, using(crate::proofs::Cases::kind_is), unfolding(crate::specs::Readers::either_at, crate::specs::Readers::kind_at, kp_cursor::specs::Readers::word_at))]
 fn kind<'a>(
     bump: &'a Bump,
-    tokens: &[Lexeme<'a>],
+    tokens: &Tokens<'_, 'a>,
     at: usize,
     levels: u32,
 ) -> Result<(&'a [WordNode<'a>], usize), Halt>
@@ -82,7 +82,7 @@ fn kind<'a>(
 #[tactic(auto, unfolding(crate::specs::Readers::kind_part_at, crate::specs::Readers::kind_at))]
 fn kind_part<'a>(
     bump: &'a Bump,
-    tokens: &[Lexeme<'a>],
+    tokens: &Tokens<'_, 'a>,
     at: usize,
     levels: u32,
 ) -> Result<(&'a [WordNode<'a>], usize), Halt>
@@ -102,13 +102,13 @@ fn kind_part<'a>(
 #[tactic(auto, unfolding(crate::specs::Readers::group_at, kp_cursor::specs::Readers::some_at, crate::specs::Readers::kind_part_at))]
 fn group<'t, 'a>(
     bump: &'a Bump,
-    tokens: &'t [Lexeme<'a>],
+    tokens: &Tokens<'t, 'a>,
     at: usize,
     levels: u32,
     class: Class,
-) -> Result<((&'t [Lexeme<'a>], &'a [WordNode<'a>]), usize), Halt>
+) -> Result<((Tokens<'t, 'a>, &'a [WordNode<'a>]), usize), Halt>
     requires { at ≤ length tokens.now }
-    ensures reads { Gives tokens.now (λ x. with_kinds (map word_view x.1.now) (map word_of x.0.now)) result (group_at class levels (from tokens.now at)) }
+    ensures reads { Gives tokens.now (λ x. with_kinds (map word_view x.1.now) (map word_of x.0)) result (group_at class levels (from tokens.now at)) }
     ensures onward { IfOk result (λ x. (at < x.1) × (x.1 ≤ length tokens.now)) }
 {
     let run = words(tokens, at, class)?;
@@ -119,16 +119,18 @@ fn group<'t, 'a>(
 // Adds the words of a group, each with the kinds of the group.
 fn declare<'a>(
     typed: &mut Vec<TypedNode<'a>, &'a Bump>,
-    run: &[Lexeme<'a>],
+    run: &Tokens<'_, 'a>,
     kinds: &'a [WordNode<'a>],
 ) -> Result<(), Memory>
     ensures { OnOk result (map typed_view typed.new.items ≡ map typed_view typed.old.items ++ with_kinds (map word_view kinds.now) (map word_of run.now)) }
 {
-    for token in run {
+    let mut at = 0;
+    'each: while let Some(token) = peek(run, at) {
         typed.push(TypedNode {
-            word: word_node(token),
+            word: word_node(&token),
             kinds,
         })?;
+        at += 1;
     }
     Ok(())
 }
@@ -136,7 +138,7 @@ fn declare<'a>(
 /// Groups of words of the class, each with its kinds, as many as stand there.
 pub fn typed<'a>(
     bump: &'a Bump,
-    tokens: &[Lexeme<'a>],
+    tokens: &Tokens<'_, 'a>,
     start: usize,
     levels: u32,
     class: Class,
@@ -149,7 +151,7 @@ pub fn typed<'a>(
     let mut at = start;
     'more: while begins(tokens, at, class) {
         let ((run, kinds), after) = group(bump, tokens, at, levels, class)?;
-        declare(&mut typed, run, kinds)?;
+        declare(&mut typed, &run, kinds)?;
         at = after;
     }
     Ok((typed, at))
@@ -159,7 +161,7 @@ pub fn typed<'a>(
 #[tactic(auto, unfolding(crate::specs::Readers::typed_bracket_at, crate::specs::Readers::typed_at))]
 pub fn variables<'a>(
     bump: &'a Bump,
-    tokens: &[Lexeme<'a>],
+    tokens: &Tokens<'_, 'a>,
     at: usize,
     levels: u32,
 ) -> Result<(&'a [TypedNode<'a>], usize), Halt>

@@ -6,3 +6,4 @@ pub mod PlanPlaces
 pub mod WholePlans
 pub mod Tabled
 pub mod StepsFound
+pub mod WordsNamed

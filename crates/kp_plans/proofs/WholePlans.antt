@@ -19,8 +19,7 @@ use Rattle.kp_grammar.specs.Reading.{At, stop, ReadsWhole, StopsWhole}
 use Rattle.kp_grammar.proofs.Wholes.{whole_read_once, whole_never_both, whole_stopped_once, whole_always_one}
 use Rattle.kp_cursor.specs.declared.halt.Halt.{Halt}
 use Rattle.kp_cursor.specs.declared.halt.Halt.TheVariants as halts
-use Rattle.kp_cursor.specs.declared.lexeme.Lexeme.{Lexeme}
-use Rattle.kp_cursor.specs.Lexemes.{tok, toks, from, lexed, byte_at}
+use Rattle.kp_cursor.specs.Lexemes.{from, lexed, byte_at}
 use Rattle.kp_cursor.proofs.Ascii.{all_lexed}
 use Rattle.kp_plans.specs.declared.step.PlanStep.{PlanStep}
 use Rattle.kp_plans.specs.Grammar.{plan}
@@ -34,15 +33,15 @@ seen_ascend : (text : List ℕ) (a : ℕ) (ts : List Token) (end : ℕ) → InOr
 seen_ascend text a [] end h = h
 seen_ascend text a (t ∷ ts) end h = (h.0, weaker t.from t.to (all_seen_in text ts) end (omega (arith, h.1)) (seen_ascend text t.to ts end h.2))
 
-module _ (text lower : List ℕ) (ts : List Token) (ls : List Lexeme) (e : lower ≡ str_to_ascii_lowercase text) (read : toks ls ≡ map (lexed lower) ts) where
-  seen : toks ls ≡ all_seen_in text ts
+module _ (text lower : List ℕ) (ts : List Token) (ls : List (Tok Word)) (e : lower ≡ str_to_ascii_lowercase text) (read : ls ≡ map (lexed lower) ts) where
+  seen : ls ≡ all_seen_in text ts
   seen = read ∙ all_lexed text lower ts e
 
-  pub lexemes_ascend : InOrder 0 ts (length text) → Ascends 0 (toks ls) (length text)
-  lexemes_ascend h = subst (λ (us : List (Tok Word)). Ascends 0 us (length text)) (sym seen) (seen_ascend text 0 ts (length text) h)
+  pub tokens_ascend : InOrder 0 ts (length text) → Ascends 0 ls (length text)
+  tokens_ascend h = subst (λ (us : List (Tok Word)). Ascends 0 us (length text)) (sym seen) (seen_ascend text 0 ts (length text) h)
 
   from_is : (i : ℕ) → from ls i ≡ all_seen_in text (drop i ts)
-  from_is i = sym (drop-map tok i ls) ∙ ap (drop i) seen ∙ drop-map (seen_in text) i ts
+  from_is i = ap (drop i) seen ∙ drop-map (seen_in text) i ts
 
   pub of_tokens : (r : Result (List PlanStep) Halt) → AnswersTokens text ls r → AnswersCut text ts r
   of_tokens (Ok steps) h = subst (λ (us : List (Tok Word)). ArePlanOf text us steps) seen h

@@ -11,8 +11,7 @@ use Rattle.kp_grammar.specs.Symbols.{Tok, all_seen_in}
 use Rattle.kp_grammar.specs.Reading.{At, stop, Reads, Stops, ReadsWhole, StopsWhole}
 use Rattle.kp_cursor.specs.declared.halt.Halt.{Halt}
 use Rattle.kp_cursor.specs.declared.halt.Halt.TheVariants as halts
-use Rattle.kp_cursor.specs.declared.lexeme.Lexeme.{Lexeme}
-use Rattle.kp_cursor.specs.Lexemes.{word_of, toks, from, byte_at}
+use Rattle.kp_cursor.specs.Lexemes.{word_of, from, byte_at}
 use Rattle.kp_plans.specs.declared.step.PlanStep.{PlanStep}
 use Rattle.kp_plans.specs.Grammar.{step, plan}
 use Rattle.kp_plans.specs.PlanFiles.{step_of}
@@ -23,9 +22,9 @@ Ascends byte [] end = byte ≤ end
 Ascends byte (t ∷ ts) end = (byte ≤ t.word.byte) × Ascends t.word.byte ts end
 
 -- a step with these words stands at a place, and another place is behind it
-pub record StepStands (ls : List Lexeme) (at : ℕ) (run : List Lexeme) (behind : ℕ) : Type 0 where
-  pub first : Lexeme
-  pub others : List Lexeme
+pub record StepStands (ls : List (Tok Word)) (at : ℕ) (run : List (Tok Word)) (behind : ℕ) : Type 0 where
+  pub first : Tok Word
+  pub others : List (Tok Word)
   pub are : run ≡ first ∷ others
   pub opening : Tok Word
   pub named : Tok Word
@@ -34,7 +33,7 @@ pub record StepStands (ls : List Lexeme) (at : ℕ) (run : List Lexeme) (behind 
   pub reads : Reads step (from ls at) (word_of first, map word_of others) (from ls behind)
 
 -- no step stands there; it stops at a token
-abbrev pub StepStops : List Lexeme → ℕ → Halt → Type 0
+abbrev pub StepStops : List (Tok Word) → ℕ → Halt → Type 0
 StepStops ls at halts.Memory = Unit {0}
 StepStops ls at (halts.Syntax i) = Stops step (from ls at) (stop (from ls i))
 StepStops ls at (halts.Unsupported i) = ⊥
@@ -53,10 +52,10 @@ pub record ArePlanOf (text : List ℕ) (ts : List (Tok Word)) (steps : List Plan
   pub reads : ReadsWhole plan ts tree
 
 -- of all tokens: the steps, or the token at which the grammar stops; want of memory is free
-abbrev pub AnswersTokens : List ℕ → List Lexeme → Result (List PlanStep) Halt → Type 0
-AnswersTokens text ls (Ok steps) = ArePlanOf text (toks ls) steps
+abbrev pub AnswersTokens : List ℕ → List (Tok Word) → Result (List PlanStep) Halt → Type 0
+AnswersTokens text ls (Ok steps) = ArePlanOf text ls steps
 AnswersTokens text ls (Err halts.Memory) = Unit {0}
-AnswersTokens text ls (Err (halts.Syntax i)) = StopsWhole plan (toks ls) (stop (from ls i))
+AnswersTokens text ls (Err (halts.Syntax i)) = StopsWhole plan ls (stop (from ls i))
 AnswersTokens text ls (Err (halts.Unsupported i)) = ⊥
 
 -- the same of the tokens of a text

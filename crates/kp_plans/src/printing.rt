@@ -8,8 +8,8 @@ use crate::encoding::put;
 use kp_base::{GroundName, Memory, Row, Text};
 use std::alloc::Global;
 
-// Objects, a space before each.
-fn put_objects(out: &mut Vec<u8>, objects: &[Text]) -> Result<(), Memory>
+/// Objects, a space before each.
+pub fn put_objects(out: &mut Vec<u8>, objects: &[Text]) -> Result<(), Memory>
     ensures { OnOk result (Puts out.old.items out.new.items (each (spaced name) objects.now)) }
 {
     for object in objects {

@@ -1,17 +1,16 @@
-ghost use Rattle.std.specs.Prelude.{◌≡◌, ◌<◌, ◌≤◌, ◌+◌, ◌==◌, ◌∷◌, count_by, length, map, IfOk, IfErr};
-ghost use Rattle.std.specs.Str.{str_to_ascii_lowercase};
+ghost use Rattle.std.specs.Prelude.{◌≡◌, ◌<◌, ◌≤◌, ◌+◌, ◌==◌, count_by, length, IfOk, IfErr};
 ghost use Rattle.kp_base.specs.declared.refused.Part.TheVariants as parts;
 ghost use Rattle.kp_lex.specs.Cutting.{Cut};
 ghost use Rattle.kp_lex.specs.Places.{place_of};
-ghost use Rattle.kp_cursor.specs.Lexemes.{word_of, toks};
 ghost use Rattle.kp_plans.specs.PlanFiles.{AnswersPlan};
 ghost use Rattle.kp_plans.specs.Steps.{Ascends, StepStands, StepStops, AnswersTokens, AnswersCut, IsTold};
 
 use crate::step::PlanStep;
-use kp_base::{GroundName, Memory, Part, Place, Refused, Row, Stop, Text};
-use kp_cursor::{Class, Halt, Lexeme, byte_of, close, is_left, lexemes, peek, words};
+use crate::words::name_of;
+use kp_base::{Part, Place, Refused, Row, Stop};
+use kp_cursor::{Class, Halt, Tokens, byte_of, close, is_left, lower_case, peek, words};
 use kp_lex::{Token, place, tokens};
-use std::alloc::{AllocError, Global};
+use std::alloc::Global;
 
 // How many line feeds there are.
 fn line_feeds(bytes: &[u8]) -> u32
@@ -39,10 +38,10 @@ fn place_behind(known: Place, bytes: &[u8], byte: u32) -> Place
 }
 
 // The words of a step that stands at a place, and the place behind it.
-fn step_at<'t, 'a>(tokens: &'t [Lexeme<'a>], at: usize) -> Result<(&'t [Lexeme<'a>], usize), Halt>
-    ensures found { IfOk result (λ x. StepStands tokens.now at x.0.now x.1) }
+fn step_at<'t, 'a>(tokens: &Tokens<'t, 'a>, at: usize) -> Result<(Tokens<'t, 'a>, usize), Halt>
+    ensures found { IfOk result (λ x. StepStands tokens.now at x.0 x.1) }
     ensures stopped { IfErr result (λ e. StepStops tokens.now at e) }
-    ensures onward { IfOk result (λ x. (0 < length x.0.now) × (at + 1 + length x.0.now < x.1) × (x.1 ≤ length tokens.now)) }
+    ensures onward { IfOk result (λ x. (0 < length x.0) × (at + 1 + length x.0 < x.1) × (x.1 ≤ length tokens.now)) }
 {
     if !is_left(tokens, at) {
         return Err(Halt::Syntax(at));
@@ -52,38 +51,10 @@ fn step_at<'t, 'a>(tokens: &'t [Lexeme<'a>], at: usize) -> Result<(&'t [Lexeme<'
     Ok((words, behind))
 }
 
-// The texts of some words.
-fn texts(alloc: Global, words: &[Lexeme]) -> Result<Row<Text>, Memory>
-    ensures { IfOk result (λ texts. texts ≡ map (λ w. (word_of w).text) words.now) }
-{
-    let mut texts = Row::new(alloc);
-    for word in words {
-        texts.push(Text::from_slice(alloc, word.text.as_bytes())?)?;
-    }
-    Ok(texts)
-}
-
-// The name of a step with these words.
-fn name_of(alloc: Global, words: &[Lexeme]) -> Result<GroundName, Memory>
-    requires { 0 < length words.now }
-    ensures { IfOk result (λ n. n.head ∷ n.objects ≡ map (λ w. (word_of w).text) words.now) }
-{
-    let head = Text::from_slice(alloc, words[0].text.as_bytes())?;
-    let objects = texts(alloc, &words[1..])?;
-    Ok(GroundName { head, objects })
-}
-
-// All bytes in lower case.
-fn lower_case(alloc: Global, bytes: &[u8]) -> Result<Vec<u8>, AllocError>
-    ensures { IfOk result (λ lower. lower.items ≡ str_to_ascii_lowercase bytes.now) }
-{
-    bytes.iter().map(|b| b.to_ascii_lowercase()).collect(alloc)
-}
-
 // The steps that all the tokens are.
-fn steps(alloc: Global, bytes: &[u8], tokens: &[Lexeme]) -> Result<Row<PlanStep>, Halt>
+fn steps(alloc: Global, bytes: &[u8], tokens: &Tokens) -> Result<Row<PlanStep>, Halt>
     requires short { length bytes.now ≤ 16777216 }
-    requires ascends { Ascends 0 (toks tokens.now) (length bytes.now) }
+    requires ascends { Ascends 0 tokens.now (length bytes.now) }
     ensures { AnswersTokens bytes.now tokens.now result }
 {
     let mut steps = Row::new(alloc);
@@ -91,8 +62,8 @@ fn steps(alloc: Global, bytes: &[u8], tokens: &[Lexeme]) -> Result<Row<PlanStep>
     let mut at = 0;
     'steps: while is_left(tokens, at) {
         let (words, behind) = step_at(tokens, at)?;
-        known = place_behind(known, bytes, words[0].byte);
-        let name = name_of(alloc, words)?;
+        known = place_behind(known, bytes, words.token(0).byte);
+        let name = name_of(alloc, &words)?;
         steps.push(PlanStep { name, place: known })?;
         at = behind;
     }
@@ -109,8 +80,8 @@ fn read_tokens(alloc: Global, bytes: &[u8], tokens: &[Token]) -> Result<Row<Plan
     ensures { AnswersCut bytes.now tokens.now result }
 {
     let lower = lower_case(alloc, bytes)?;
-    let lexemes = lexemes(alloc, &lower, tokens)?;
-    steps(alloc, bytes, &lexemes)
+    let seen = Tokens::new(&lower, tokens);
+    steps(alloc, bytes, &seen)
 }
 
 // What ends the call where no steps were read.

@@ -2,13 +2,12 @@
 use Rattle.std.specs.Prelude.{◌≡◌, ℕ, List, [], Result, Ok, Err}
 use Rattle.kp_grammar.specs.declared.tree.Word.{Word}
 use Rattle.kp_grammar.specs.Trees.{Given, Problem}
-use Rattle.kp_grammar.specs.Symbols.{is_left, is_define, is_problem, is_goal}
+use Rattle.kp_grammar.specs.Symbols.{Tok, is_left, is_define, is_problem, is_goal}
 use Rattle.kp_grammar.specs.Sorts.{Seen, apply, m_problem}
 use Rattle.kp_grammar.specs.Forms.{run, make, choose, ◌▸◌, ◌▹◌}
 use Rattle.kp_grammar.specs.Grammar.{title, given, given_case, has_stood, problem}
 use Rattle.kp_grammar.specs.Parsing.{Outcome, read}
 use Rattle.kp_cursor.specs.declared.halt.Halt.{Halt}
-use Rattle.kp_cursor.specs.declared.lexeme.Lexeme.{Lexeme}
 use Rattle.kp_nodes.specs.declared.node.ProblemNode.{ProblemNode}
 use Rattle.kp_parts.specs.Lexemes.{from}
 use Rattle.kp_nodes.specs.Nodes.{problem_view}
@@ -24,12 +23,12 @@ unfoldable pub givens_at : ℕ → Reader (List (Given Word))
 givens_at d = read d (run is_left given (has_stood is_goal) [])
 
 -- the problem is made of the sections that reading gives
-pub record Makes (ls : List Lexeme) (p : ProblemNode) (n : ℕ) (reading : Outcome Word (List (Given Word))) : Type 0 where
+pub record Makes (ls : List (Tok Word)) (p : ProblemNode) (n : ℕ) (reading : Outcome Word (List (Given Word))) : Type 0 where
   pub sections : List (Given Word)
   pub reads : reading ≡ Ok (sections, from ls n)
   pub made : problem_view p ≡ apply Word m_problem (tt, sections)
 
-abbrev pub GivesGivens : List Lexeme → Result (ProblemNode × ℕ) Halt → Outcome Word (List (Given Word)) → Type 0
+abbrev pub GivesGivens : List (Tok Word) → Result (ProblemNode × ℕ) Halt → Outcome Word (List (Given Word)) → Type 0
 GivesGivens ls (Ok x) reading = Makes ls x.0 x.1 reading
 GivesGivens ls (Err e) reading = Fails ls e reading
 

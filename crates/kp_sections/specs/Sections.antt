@@ -2,13 +2,12 @@
 use Rattle.std.specs.Prelude.{◌≡◌, ℕ, List, Result, Ok, Err}
 use Rattle.kp_grammar.specs.declared.tree.Word.{Word}
 use Rattle.kp_grammar.specs.Trees.{Section, Domain}
-use Rattle.kp_grammar.specs.Symbols.{is_left, is_define, is_domain}
+use Rattle.kp_grammar.specs.Symbols.{Tok, is_left, is_define, is_domain}
 use Rattle.kp_grammar.specs.Sorts.{apply, m_domain}
 use Rattle.kp_grammar.specs.Forms.{many, make, choose, ◌▸◌, ◌▹◌}
 use Rattle.kp_grammar.specs.Grammar.{section, section_case, title, domain}
 use Rattle.kp_grammar.specs.Parsing.{Outcome, read}
 use Rattle.kp_cursor.specs.declared.halt.Halt.{Halt}
-use Rattle.kp_cursor.specs.declared.lexeme.Lexeme.{Lexeme}
 use Rattle.kp_nodes.specs.declared.node.DomainNode.{DomainNode}
 use Rattle.kp_parts.specs.Lexemes.{from}
 use Rattle.kp_nodes.specs.Nodes.{domain_view}
@@ -26,12 +25,12 @@ unfoldable pub sections_at : ℕ → Reader (List (Section Word))
 sections_at d = read d (many is_left section)
 
 -- the domain is made of the sections that reading gives
-pub record Joins (ls : List Lexeme) (d : DomainNode) (n : ℕ) (reading : Outcome Word (List (Section Word))) : Type 0 where
+pub record Joins (ls : List (Tok Word)) (d : DomainNode) (n : ℕ) (reading : Outcome Word (List (Section Word))) : Type 0 where
   pub sections : List (Section Word)
   pub reads : reading ≡ Ok (sections, from ls n)
   pub joined : domain_view d ≡ apply Word m_domain (tt, sections)
 
-abbrev pub GivesSections : List Lexeme → Result (DomainNode × ℕ) Halt → Outcome Word (List (Section Word)) → Type 0
+abbrev pub GivesSections : List (Tok Word) → Result (DomainNode × ℕ) Halt → Outcome Word (List (Section Word)) → Type 0
 GivesSections ls (Ok x) reading = Joins ls x.0 x.1 reading
 GivesSections ls (Err e) reading = Fails ls e reading
 

@@ -10,7 +10,7 @@ use bumpalo::Bump;
 use kp_grammar::Symbol;
 use kp_nodes::DomainNode;
 use kp_parts::{
-    Class, Halt, Lead, Lexeme, close, follow, is_left, peek, skip_keywords, title, typed,
+    Class, Halt, Lead, Tokens, begins, close, follow, is_left, peek, skip_keywords, title, typed,
 };
 use kp_stated::{Declared, DomainPart, as_domain, keep_section};
 
@@ -18,7 +18,7 @@ use kp_stated::{Declared, DomainPart, as_domain, keep_section};
 #[tactic(auto, unfolding(crate::specs::Sections::section_inside_at, kp_cursor::specs::Readers::keywords_at, kp_parts::specs::Readers::typed_at, kp_parts::specs::Readers::preds_at, kp_parts::specs::Readers::schema_at))]
 fn section_inside<'a>(
     bump: &'a Bump,
-    tokens: &[Lexeme<'a>],
+    tokens: &Tokens<'_, 'a>,
     at: usize,
     levels: u32,
 ) -> Result<(DomainPart<'a>, usize), Halt>
@@ -64,7 +64,7 @@ fn section_inside<'a>(
 #[tactic(auto, unfolding(crate::specs::Sections::section_at, crate::specs::Sections::section_inside_at))]
 fn section<'a>(
     bump: &'a Bump,
-    tokens: &[Lexeme<'a>],
+    tokens: &Tokens<'_, 'a>,
     at: usize,
     levels: u32,
 ) -> Result<(DomainPart<'a>, usize), Halt>
@@ -79,18 +79,23 @@ fn section<'a>(
     Ok((part, at))
 }
 
+// Whether an action begins at a place.
+fn is_action(tokens: &Tokens, at: usize) -> bool {
+    begins(tokens, at, Class::Keyword)
+        && peek(tokens, at).is_some_and(|first| matches!(first.symbol, Symbol::Action))
+}
+
 // How many actions begin: as many schemas there may be. It says how much room to make, and no clause speaks of it.
-fn actions_ahead(tokens: &[Lexeme]) -> usize {
-    tokens
-        .iter()
-        .filter(|t| matches!(t.symbol, Symbol::Action))
+fn actions_ahead(tokens: &Tokens) -> usize {
+    (0..tokens.len())
+        .filter(|at| is_action(tokens, *at))
         .count()
 }
 
 // Sections, as many as stand there.
 fn sections<'a>(
     bump: &'a Bump,
-    tokens: &[Lexeme<'a>],
+    tokens: &Tokens<'_, 'a>,
     start: usize,
     levels: u32,
 ) -> Result<(DomainNode<'a>, usize), Halt>
@@ -118,7 +123,7 @@ fn sections<'a>(
 #[tactic(auto, unfolding(crate::specs::Sections::domain_inside_at, kp_parts::specs::Readers::title_at, crate::specs::Sections::sections_at))]
 fn domain_inside<'a>(
     bump: &'a Bump,
-    tokens: &[Lexeme<'a>],
+    tokens: &Tokens<'_, 'a>,
     at: usize,
     levels: u32,
 ) -> Result<(DomainNode<'a>, usize), Halt>
@@ -135,7 +140,7 @@ fn domain_inside<'a>(
 #[tactic(auto, unfolding(crate::specs::Sections::domain_at, crate::specs::Sections::domain_inside_at))]
 pub fn domain<'a>(
     bump: &'a Bump,
-    tokens: &[Lexeme<'a>],
+    tokens: &Tokens<'_, 'a>,
     at: usize,
     levels: u32,
 ) -> Result<(DomainNode<'a>, usize), Halt>

@@ -9,7 +9,7 @@ use bumpalo::Bump;
 use kp_grammar::Symbol;
 use kp_nodes::ProblemNode;
 use kp_parts::{
-    Class, Halt, Lead, Lexeme, Mode, close, cond, follow, is_left, items, peek, skip_keywords,
+    Class, Halt, Lead, Mode, Tokens, close, cond, follow, is_left, items, peek, skip_keywords,
     skip_name, title, typed,
 };
 use kp_stated::{Once, ProblemPart, Stated, as_problem, has_stood, keep_given, note};
@@ -19,7 +19,7 @@ use std::alloc::Global;
 #[tactic(auto, unfolding(crate::specs::Givens::given_inside_at, kp_cursor::specs::Readers::name_at, kp_cursor::specs::Readers::keywords_at, kp_parts::specs::Readers::typed_at, kp_parts::specs::Readers::items_at, kp_parts::specs::Readers::cond_at))]
 fn given_inside<'a>(
     bump: &'a Bump,
-    tokens: &[Lexeme<'a>],
+    tokens: &Tokens<'_, 'a>,
     at: usize,
     levels: u32,
     seen: &[Symbol],
@@ -69,7 +69,7 @@ fn given_inside<'a>(
 #[tactic(auto, unfolding(crate::specs::Givens::given_at, crate::specs::Givens::given_inside_at))]
 fn given<'a>(
     bump: &'a Bump,
-    tokens: &[Lexeme<'a>],
+    tokens: &Tokens<'_, 'a>,
     at: usize,
     levels: u32,
     seen: &[Symbol],
@@ -89,7 +89,7 @@ fn given<'a>(
 fn givens<'a>(
     bump: &'a Bump,
     alloc: Global,
-    tokens: &[Lexeme<'a>],
+    tokens: &Tokens<'_, 'a>,
     start: usize,
     levels: u32,
 ) -> Result<(ProblemNode<'a>, usize), Halt>
@@ -124,7 +124,7 @@ fn givens<'a>(
 fn problem_inside<'a>(
     bump: &'a Bump,
     alloc: Global,
-    tokens: &[Lexeme<'a>],
+    tokens: &Tokens<'_, 'a>,
     at: usize,
     levels: u32,
 ) -> Result<(ProblemNode<'a>, usize), Halt>
@@ -142,7 +142,7 @@ fn problem_inside<'a>(
 pub fn problem<'a>(
     bump: &'a Bump,
     alloc: Global,
-    tokens: &[Lexeme<'a>],
+    tokens: &Tokens<'_, 'a>,
     at: usize,
     levels: u32,
 ) -> Result<(ProblemNode<'a>, usize), Halt>

@@ -8,7 +8,7 @@ use bumpalo::collections::into_bump_slice;
 use kp_grammar::Symbol;
 use kp_nodes::{CondNode, EffNode, PredNode, SchemaNode, TypedNode};
 use kp_parts::{
-    Class, Halt, Lexeme, Mode, add, close, cond, eff, is_left, no_condition, no_effect, peek,
+    Class, Halt, Mode, Tokens, add, close, cond, eff, is_left, no_condition, no_effect, peek,
     typed, variables, word,
 };
 
@@ -16,7 +16,7 @@ use kp_parts::{
 #[tactic(auto, unfolding(kp_parts::specs::Readers::pred_inside_at, kp_cursor::specs::Readers::word_at, kp_parts::specs::Readers::typed_at))]
 fn pred_inside<'a>(
     bump: &'a Bump,
-    tokens: &[Lexeme<'a>],
+    tokens: &Tokens<'_, 'a>,
     at: usize,
     levels: u32,
 ) -> Result<(PredNode<'a>, usize), Halt>
@@ -33,7 +33,7 @@ fn pred_inside<'a>(
 #[tactic(auto, unfolding(kp_parts::specs::Readers::pred_at, kp_parts::specs::Readers::pred_inside_at))]
 fn pred<'a>(
     bump: &'a Bump,
-    tokens: &[Lexeme<'a>],
+    tokens: &Tokens<'_, 'a>,
     at: usize,
     levels: u32,
 ) -> Result<(PredNode<'a>, usize), Halt>
@@ -51,7 +51,7 @@ fn pred<'a>(
 /// Declarations of predicates, as many as stand there.
 pub fn preds<'a>(
     bump: &'a Bump,
-    tokens: &[Lexeme<'a>],
+    tokens: &Tokens<'_, 'a>,
     start: usize,
     levels: u32,
 ) -> Result<(Vec<PredNode<'a>, &'a Bump>, usize), Halt>
@@ -73,7 +73,7 @@ pub fn preds<'a>(
 #[tactic(auto, unfolding(kp_parts::specs::Readers::params_at, kp_parts::specs::Readers::typed_bracket_at))]
 fn params<'a>(
     bump: &'a Bump,
-    tokens: &[Lexeme<'a>],
+    tokens: &Tokens<'_, 'a>,
     at: usize,
     levels: u32,
 ) -> Result<(&'a [TypedNode<'a>], usize), Halt>
@@ -93,7 +93,7 @@ fn params<'a>(
 #[tactic(auto, unfolding(kp_parts::specs::Readers::precondition_at, kp_parts::specs::Readers::cond_at))]
 fn precondition<'a>(
     bump: &'a Bump,
-    tokens: &[Lexeme<'a>],
+    tokens: &Tokens<'_, 'a>,
     at: usize,
     levels: u32,
 ) -> Result<(CondNode<'a>, usize), Halt>
@@ -113,7 +113,7 @@ fn precondition<'a>(
 #[tactic(auto, unfolding(kp_parts::specs::Readers::effect_at, kp_parts::specs::Readers::eff_at))]
 fn effect<'a>(
     bump: &'a Bump,
-    tokens: &[Lexeme<'a>],
+    tokens: &Tokens<'_, 'a>,
     at: usize,
     levels: u32,
 ) -> Result<(EffNode<'a>, usize), Halt>
@@ -131,7 +131,7 @@ fn effect<'a>(
 
 // Behind the parts of an action no further one stands that is known and not supported.
 #[tactic(auto, unfolding(kp_parts::specs::Readers::parts_end_at))]
-fn parts_end(tokens: &[Lexeme], at: usize) -> Result<usize, Halt>
+fn parts_end(tokens: &Tokens, at: usize) -> Result<usize, Halt>
     requires { at ≤ length tokens.now }
     ensures reads { Passes tokens.now result (parts_end_at (from tokens.now at)) }
     ensures onward { IfOk result (λ n. (at ≤ n) × (n ≤ length tokens.now)) }
@@ -149,7 +149,7 @@ fn parts_end(tokens: &[Lexeme], at: usize) -> Result<usize, Halt>
 #[tactic(auto, unfolding(kp_parts::specs::Readers::schema_at, kp_cursor::specs::Readers::word_at, kp_parts::specs::Readers::params_at, kp_parts::specs::Readers::precondition_at, kp_parts::specs::Readers::effect_at, kp_parts::specs::Readers::parts_end_at))]
 pub fn schema<'a>(
     bump: &'a Bump,
-    tokens: &[Lexeme<'a>],
+    tokens: &Tokens<'_, 'a>,
     at: usize,
     levels: u32,
 ) -> Result<(SchemaNode<'a>, usize), Halt>

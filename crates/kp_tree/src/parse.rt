@@ -4,7 +4,6 @@ ghost use Rattle.kp_base.specs.declared.refused.Part.TheVariants as parts;
 ghost use Rattle.kp_grammar.specs.Depth.{levels};
 ghost use Rattle.kp_grammar.specs.Grammar.{domain, problem};
 ghost use Rattle.kp_tree.specs.Files.{AnswersTokens};
-ghost use Rattle.kp_parts.specs.Lexemes.{toks};
 ghost use Rattle.kp_nodes.specs.Nodes.{domain_view, problem_view};
 ghost use Rattle.kp_parts.specs.Readers.{GivesAll, whole_at};
 ghost use Rattle.kp_tree.specs.Refusals.{IsTold};
@@ -14,7 +13,7 @@ use kp_base::{Part, Refused, Row, Stop};
 use kp_cursor::byte_of;
 use kp_lex::{Token, place};
 use kp_nodes::{DomainNode, ProblemNode};
-use kp_parts::{Halt, Lexeme, lexemes, peek};
+use kp_parts::{Halt, Tokens, peek, tokens_in};
 use kp_sections::{domain, problem};
 use std::alloc::Global;
 
@@ -46,8 +45,8 @@ fn told(part: Part, bytes: &[u8], tokens: &[Token], halt: Halt) -> Stop
 
 // The domain that all the tokens are.
 #[tactic(auto, unfolding(kp_parts::specs::Readers::whole_at, kp_sections::specs::Sections::domain_at))]
-fn whole_domain<'a>(bump: &'a Bump, tokens: &[Lexeme<'a>]) -> Result<DomainNode<'a>, Halt>
-    ensures { GivesAll tokens.now domain_view result (whole_at domain (toks tokens.now)) }
+fn whole_domain<'a>(bump: &'a Bump, tokens: &Tokens<'_, 'a>) -> Result<DomainNode<'a>, Halt>
+    ensures { GivesAll tokens.now domain_view result (whole_at domain tokens.now) }
 {
     let (domain, at) = domain(bump, tokens, 0, levels())?;
     match peek(tokens, at) {
@@ -61,9 +60,9 @@ fn whole_domain<'a>(bump: &'a Bump, tokens: &[Lexeme<'a>]) -> Result<DomainNode<
 fn whole_problem<'a>(
     bump: &'a Bump,
     alloc: Global,
-    tokens: &[Lexeme<'a>],
+    tokens: &Tokens<'_, 'a>,
 ) -> Result<ProblemNode<'a>, Halt>
-    ensures { GivesAll tokens.now problem_view result (whole_at problem (toks tokens.now)) }
+    ensures { GivesAll tokens.now problem_view result (whole_at problem tokens.now) }
 {
     let (problem, at) = problem(bump, alloc, tokens, 0, levels())?;
     match peek(tokens, at) {
@@ -74,7 +73,7 @@ fn whole_problem<'a>(
 
 /// The tree of a domain file, from its bytes and its tokens.
 ///
-/// The nodes lie in the arena; `alloc` is given back before the end. The file is refused with `Syntax` or
+/// The nodes lie in the arena, and nothing is taken from `alloc`. The file is refused with `Syntax` or
 /// `Unsupported` at the first token that is wrong, or at the first bracket of the 65th level where that comes first.
 pub fn parse_domain<'a>(
     bump: &'a Bump,
@@ -86,11 +85,11 @@ pub fn parse_domain<'a>(
     requires cut { Cut 0 bytes.now tokens.now }
     ensures { AnswersTokens parts.Domain domain domain_view bytes.now tokens.now result }
 {
-    let tokens = tokens.slice();
-    let lexemes = lexemes(bump, alloc, bytes, tokens)?;
-    match whole_domain(bump, &lexemes) {
+    let spans = tokens.slice();
+    let tokens = tokens_in(bump, bytes, spans)?;
+    match whole_domain(bump, &tokens) {
         Ok(domain) => Ok(domain),
-        Err(halt) => Err(told(Part::Domain, bytes, tokens, halt)),
+        Err(halt) => Err(told(Part::Domain, bytes, spans, halt)),
     }
 }
 
@@ -108,10 +107,10 @@ pub fn parse_problem<'a>(
     requires cut { Cut 0 bytes.now tokens.now }
     ensures { AnswersTokens parts.Problem problem problem_view bytes.now tokens.now result }
 {
-    let tokens = tokens.slice();
-    let lexemes = lexemes(bump, alloc, bytes, tokens)?;
-    match whole_problem(bump, alloc, &lexemes) {
+    let spans = tokens.slice();
+    let tokens = tokens_in(bump, bytes, spans)?;
+    match whole_problem(bump, alloc, &tokens) {
         Ok(problem) => Ok(problem),
-        Err(halt) => Err(told(Part::Problem, bytes, tokens, halt)),
+        Err(halt) => Err(told(Part::Problem, bytes, spans, halt)),
     }
 }

@@ -11,8 +11,8 @@ returns-in_err-words-clause-stopped c =
 
 -- it has a number
 pub returns-in-Some-clause-found : goal.returns-in-Some-clause-found
-returns-in-Some-clause-found c = atom_found (numbers_of c.args.table.now) c.args.tokens.now c.args.at c.in_ok-words.words.now _ _ _ c.in_ok-words.ensures.found c.in_ok-number.ensures c.in-Some.is
+returns-in-Some-clause-found c = atom_found (numbers_of c.args.table.now) c.args.tokens.now c.args.at c.in_ok-words.words _ _ _ c.in_ok-words.ensures.found c.in_ok-number.ensures c.in-Some.is
 
 -- it has none
 pub returns-in-None-clause-stopped : goal.returns-in-None-clause-stopped
-returns-in-None-clause-stopped c = atom_unknown (numbers_of c.args.table.now) c.args.tokens.now c.args.at c.in_ok-words.words.now _ _ c.in_ok-words.ensures.found c.in_ok-number.ensures c.in-None.is
+returns-in-None-clause-stopped c = atom_unknown (numbers_of c.args.table.now) c.args.tokens.now c.args.at c.in_ok-words.words _ _ c.in_ok-words.ensures.found c.in_ok-number.ensures c.in-None.is

@@ -14,7 +14,7 @@ pub returns-in_err-behind-clause-stopped : goal.returns-in_err-behind-clause-sto
 returns-in_err-behind-clause-stopped c =
     let p = err_from_is_err_and c.from_residual.result c.from_residual.ensures.1 in
     let h = c.in_err-behind.ensures.stopped in
-    rw (p.1, p.2, h.0) (unclosed c.args.tokens.now c.args.at c.run-words.result.now c.if-not-is_left.ensures.opens c.if-not-begins.ensures.test c.run-words.ensures h.1)
+    rw (p.1, p.2, h.0, c.len.ensures) (unclosed c.args.tokens.now c.args.at c.run-words.result c.if-not-is_left.ensures.opens c.if-not-begins.ensures.test c.run-words.ensures.longest (rw c.len.ensures at h.1))
 
 pub returns-clause-found : goal.returns-clause-found
-returns-clause-found c = stands c.args.tokens.now c.args.at _ c.if-not-is_left.ensures.opens c.if-not-begins.ensures.test c.run-words.ensures _ c.in_ok-behind.ensures.found
+returns-clause-found c = stands c.args.tokens.now c.args.at _ c.if-not-is_left.ensures.opens c.if-not-begins.ensures.test c.run-words.ensures.longest _ (rw c.len.ensures at c.in_ok-behind.ensures.found)

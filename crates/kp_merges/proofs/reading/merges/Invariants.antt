@@ -1,5 +1,5 @@
 use Rattle.std.proofs.Common.{◌≤◌, ◌-◌, length}
-use Rattle.kp_cursor.specs.Lexemes.{toks, from}
+use Rattle.kp_cursor.specs.Lexemes.{from}
 use Rattle.kp_merges.specs.Grammar.{merge}
 use Rattle.kp_merges.specs.Numbers.{IsMerge}
 use Rattle.kp_merges.specs.Parts.{SoFar, numbers_of}
@@ -9,7 +9,7 @@ use Rattle.kp_merges.proofs.reading.merges.Given as goal
 abbrev pub invariant-merges : goal.invariant-merges
 invariant-merges l = record {
   within : l.at ≤ length l.tokens;
-  so_far : SoFar (numbers_of l.table) (λ _. 0) merge (IsMerge (numbers_of l.table)) l.merges (from l.tokens l.at) (toks l.tokens);
+  so_far : SoFar (numbers_of l.table) (λ _. 0) merge (IsMerge (numbers_of l.table)) l.merges (from l.tokens l.at) l.tokens;
 }
 
 abbrev pub decreases-merges : goal.decreases-merges

@@ -1,10 +1,10 @@
 use Rattle.std.proofs.Common.{◌≡◌, map}
-use Rattle.kp_cursor.specs.Lexemes.{toks, lexed}
+use Rattle.kp_cursor.specs.Lexemes.{lexed}
 use Rattle.kp_merges.specs.Parts.{numbers_of}
 use Rattle.kp_merges.proofs.WholeFiles.{of_tokens}
 use Rattle.kp_merges.proofs.reading.read_tokens.Goals as goal
 
 pub returns : goal.returns
 returns c =
-    let read : toks c.deref-2.result.now ≡ map (lexed c.in_ok-lower.lower.items) c.args.tokens.now = rw (c.deref-2.ensures.value, ← c.deref.ensures.value) c.in_ok-lexemes.ensures in
-    of_tokens (numbers_of c.args.table.now) c.args.bytes.now c.in_ok-lower.lower.items c.args.tokens.now c.deref-2.result.now c.in_ok-lower.ensures read c.merges.result c.merges.ensures
+    let read : c.new-seen.result ≡ map (lexed c.in_ok-lower.lower.items) c.args.tokens.now = rw (← c.deref.ensures.value) c.new-seen.ensures in
+    of_tokens (numbers_of c.args.table.now) c.args.bytes.now c.in_ok-lower.lower.items c.args.tokens.now c.new-seen.result c.in_ok-lower.ensures read c.merges.result c.merges.ensures

@@ -1,7 +1,10 @@
-use Rattle.std.proofs.Common.{◌≡◌, map, take}
+use Rattle.std.proofs.Common.{◌≡◌, ◌-◌, length, map, take}
 use Rattle.kp_parts.specs.Lexemes.{word_of}
 use Rattle.kp_nodes.specs.Nodes.{word_view}
 use Rattle.kp_parts.proofs.runs.keep_words.Given as goal
 
-abbrev pub invariant-loop-token : goal.invariant-loop-token
-invariant-loop-token l = map word_view l.words.items ≡ map word_of (take l.token-index l.run)
+abbrev pub invariant-each : goal.invariant-each
+invariant-each l = map word_view l.words.items ≡ map word_of (take l.at l.run)
+
+abbrev pub decreases-each : goal.decreases-each
+decreases-each l = length l.run - l.at

@@ -1,7 +1,10 @@
-use Rattle.std.proofs.Common.{◌≡◌, ◌++◌, map, take}
+use Rattle.std.proofs.Common.{◌≡◌, ◌++◌, ◌-◌, length, map, take}
 use Rattle.kp_nodes.specs.Nodes.{word_view, typed_view}
 use Rattle.kp_parts.proofs.Loops.{typed_of}
 use Rattle.kp_parts.proofs.typed_lists.declare.Given as goal
 
-abbrev pub invariant-loop-token : goal.invariant-loop-token
-invariant-loop-token l = map typed_view l.typed.items ≡ map typed_view l.fn.typed.items ++ map (typed_of (map word_view l.kinds)) (take l.token-index l.run)
+abbrev pub invariant-each : goal.invariant-each
+invariant-each l = map typed_view l.typed.items ≡ map typed_view l.fn.typed.items ++ map (typed_of (map word_view l.kinds)) (take l.at l.run)
+
+abbrev pub decreases-each : goal.decreases-each
+decreases-each l = length l.run - l.at

@@ -8,4 +8,4 @@ returns-in_err-run-clause-reads c =
     rw (p.1, p.2, c.in_err-run.ensures.stopped.0) (no_names_read c.args.tokens.now c.args.at c.in_err-run.ensures.stopped.1)
 
 pub returns-clause-reads : goal.returns-clause-reads
-returns-clause-reads c = names_read c.args.tokens.now c.args.at _ _ c.in_ok-run.ensures.found c.in_ok-keep_words.ensures
+returns-clause-reads c = rw c.len.ensures (names_read c.args.tokens.now c.args.at _ _ c.in_ok-run.ensures.found c.in_ok-keep_words.ensures)

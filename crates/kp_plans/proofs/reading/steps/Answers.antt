@@ -17,29 +17,31 @@ pub place_behind-known-requires-clause-onward : goal.place_behind-known-requires
 place_behind-known-requires-clause-onward c =
     let s = c.in_ok-words.ensures.found in
     let two : c.steps.at + 2 ≤ c.in_ok-words.behind = omega (arith, c.in_ok-words.ensures.onward.0, c.in_ok-words.ensures.onward.1) in
-    let h = head_stands c.args.tokens.now c.steps.at c.in_ok-words.words.now c.steps.known.byte c.in_ok-words.behind (length c.args.bytes.now) s two c.steps.invariant.ascends in
-    rw (first_byte c.in_ok-words.words.now s.first _ s.others s.are) h.onward
+    let h = head_stands c.args.tokens.now c.steps.at c.in_ok-words.words c.steps.known.byte c.in_ok-words.behind (length c.args.bytes.now) s two c.steps.invariant.ascends in
+    let byte : c.token.result.byte ≡ s.first.word.byte = first_byte c.in_ok-words.words s.first _ s.others _ s.are c.token.ensures in
+    rw byte h.onward
 
 pub place_behind-known-requires-clause-within : goal.place_behind-known-requires-clause-within
 place_behind-known-requires-clause-within c =
     let s = c.in_ok-words.ensures.found in
     let two : c.steps.at + 2 ≤ c.in_ok-words.behind = omega (arith, c.in_ok-words.ensures.onward.0, c.in_ok-words.ensures.onward.1) in
-    let h = head_stands c.args.tokens.now c.steps.at c.in_ok-words.words.now c.steps.known.byte c.in_ok-words.behind (length c.args.bytes.now) s two c.steps.invariant.ascends in
-    rw (first_byte c.in_ok-words.words.now s.first _ s.others s.are) h.within
+    let h = head_stands c.args.tokens.now c.steps.at c.in_ok-words.words c.steps.known.byte c.in_ok-words.behind (length c.args.bytes.now) s two c.steps.invariant.ascends in
+    let byte : c.token.result.byte ≡ s.first.word.byte = first_byte c.in_ok-words.words s.first _ s.others _ s.are c.token.ensures in
+    rw byte h.within
 
 pub steps-preserved : goal.steps-preserved
 steps-preserved c =
     let s = c.in_ok-words.ensures.found in
     let two : c.steps.at + 2 ≤ c.in_ok-words.behind = omega (arith, c.in_ok-words.ensures.onward.0, c.in_ok-words.ensures.onward.1) in
-    let h = head_stands c.args.tokens.now c.steps.at c.in_ok-words.words.now c.steps.known.byte c.in_ok-words.behind (length c.args.bytes.now) s two c.steps.invariant.ascends in
-    let place : c.place_behind-known.result ≡ place_of parts.Plan c.args.bytes.now s.first.byte = c.place_behind-known.ensures ∙ ap (place_of parts.Plan c.args.bytes.now) (first_byte c.in_ok-words.words.now s.first _ s.others s.are) in
-    let byte : c.place_behind-known.result.byte ≡ s.first.byte = ap (λ (p : _). p.byte) place in
+    let h = head_stands c.args.tokens.now c.steps.at c.in_ok-words.words c.steps.known.byte c.in_ok-words.behind (length c.args.bytes.now) s two c.steps.invariant.ascends in
+    let place : c.place_behind-known.result ≡ place_of parts.Plan c.args.bytes.now s.first.word.byte = c.place_behind-known.ensures ∙ ap (place_of parts.Plan c.args.bytes.now) (first_byte c.in_ok-words.words s.first _ s.others _ s.are c.token.ensures) in
+    let byte : c.place_behind-known.result.byte ≡ s.first.word.byte = ap (λ (p : _). p.byte) place in
     record {
       within = c.in_ok-words.ensures.onward.2;
       place = place ∙ ap (place_of parts.Plan c.args.bytes.now) (sym byte);
       ascends = subst (λ (n : ℕ). Ascends n (from c.args.tokens.now c.in_ok-words.behind) (length c.args.bytes.now)) (sym byte) h.ascends;
-      so_far = one_more c.args.bytes.now _ _ c.args.tokens.now c.steps.at c.in_ok-words.words.now c.in_ok-words.behind _ _ s c.steps-test.ensures.test c.in_ok-push.ensures.ok
-          (made_of c.args.bytes.now c.in_ok-words.words.now s.first s.others c.in_ok-name.name _ s.are c.in_ok-name.ensures place) c.steps.invariant.so_far;
+      so_far = one_more c.args.bytes.now _ _ c.args.tokens.now c.steps.at c.in_ok-words.words c.in_ok-words.behind _ _ s c.steps-test.ensures.test c.in_ok-push.ensures.ok
+          (made_of c.args.bytes.now c.in_ok-words.words s.first s.others c.in_ok-name.name _ s.are c.in_ok-name.ensures place) c.steps.invariant.so_far;
     }
 
 -- no token is left

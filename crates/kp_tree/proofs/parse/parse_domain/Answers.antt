@@ -2,17 +2,16 @@ use Rattle.std.proofs.Common.{◌≡◌}
 use Rattle.kp_base.specs.declared.refused.Part.TheVariants as parts
 use Rattle.kp_grammar.specs.Grammar.{domain}
 use Rattle.kp_grammar.specs.Symbols.{all_seen_in}
-use Rattle.kp_parts.specs.Lexemes.{toks}
 use Rattle.kp_nodes.specs.Nodes.{domain_view}
 use Rattle.kp_tree.proofs.Told.{read_ok, read_err}
 use Rattle.kp_tree.proofs.parse.parse_domain.Goals as goal
 
 pub returns-in-Ok : goal.returns-in-Ok
 returns-in-Ok c =
-    let seen : toks c.in_ok-lexemes.lexemes.items ≡ all_seen_in c.args.bytes.now c.args.tokens.now = rw c.slice-tokens.ensures at c.in_ok-lexemes.ensures in
-    read_ok parts.Domain domain domain_view c.args.bytes.now c.args.tokens.now c.in_ok-lexemes.lexemes.items seen c.in-Ok.domain (rw c.deref.ensures.value at c.in-Ok.ensures)
+    let seen : c.in_ok-tokens.tokens ≡ all_seen_in c.args.bytes.now c.args.tokens.now = rw c.slice-spans.ensures at c.in_ok-tokens.ensures in
+    read_ok parts.Domain domain domain_view c.args.bytes.now c.args.tokens.now c.in_ok-tokens.tokens seen c.in-Ok.domain c.in-Ok.ensures
 
-pub returns : goal.returns
-returns c =
-    let seen : toks c.in_ok-lexemes.lexemes.items ≡ all_seen_in c.args.bytes.now c.args.tokens.now = rw c.slice-tokens.ensures at c.in_ok-lexemes.ensures in
-    read_err parts.Domain domain domain_view c.args.bytes.now c.args.tokens.now c.in_ok-lexemes.lexemes.items seen c.in-Err.halt c.told.result (rw c.deref.ensures.value at c.in-Err.ensures) (rw c.slice-tokens.ensures at c.told.ensures)
+pub returns-in-Err : goal.returns-in-Err
+returns-in-Err c =
+    let seen : c.in_ok-tokens.tokens ≡ all_seen_in c.args.bytes.now c.args.tokens.now = rw c.slice-spans.ensures at c.in_ok-tokens.ensures in
+    read_err parts.Domain domain domain_view c.args.bytes.now c.args.tokens.now c.in_ok-tokens.tokens seen c.in-Err.halt c.told.result c.in-Err.ensures (rw c.slice-spans.ensures at c.told.ensures)

@@ -1,0 +1,10 @@
+use Rattle.std.proofs.Common.{◌∙◌}
+use Rattle.kp_cursor.proofs.Ascii.{all_lexed}
+use Rattle.kp_parts.proofs.lexeme.tokens_in.Goals as goal
+
+pub new-requires : goal.new-requires
+new-requires c = record { text = c.args.bytes.now; lowered = c.into_bump_slice.ensures ∙ c.in_ok-lower.ensures; cut = c.requires }
+
+-- tokens from the text in lower case are the tokens of the text
+pub returns : goal.returns
+returns c = rw (← all_lexed c.args.bytes.now c.into_bump_slice.result.now c.args.spans.now (c.into_bump_slice.ensures ∙ c.in_ok-lower.ensures)) c.new.ensures
