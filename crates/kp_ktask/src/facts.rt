@@ -5,7 +5,7 @@ ghost use Rattle.kp_task.specs.Task.{name_of, lits_from, facts_from, number, sta
 
 use crate::numbers::push_numbers;
 use kp_base::{GroundName, Memory, Row, TagRow, Text};
-use kp_plans::put_name;
+use kp_plans::put_word;
 use kp_spelling::{put, put_number};
 use std::alloc::Global;
 
@@ -33,7 +33,7 @@ fn fact_name(alloc: Global, tag: u32, positive: bool, name: &GroundName) -> Resu
 {
     let mut out = Vec::new(alloc);
     put_sign(&mut out, positive)?;
-    put_name(&mut out, name)?;
+    put_word(&mut out, name)?;
     put_tag(&mut out, tag)?;
     Ok(Text::from_slice(alloc, &out)?)
 }

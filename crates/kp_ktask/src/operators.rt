@@ -8,7 +8,7 @@ ghost use Rattle.kp_task.specs.Task.{number, support, cancellation, effects_unde
 use crate::numbers::{number, numbers};
 use kp_base::{Action, Effect, GroundName, Lit, LitSet, Memory, Merge, Row, Text};
 use kp_classic::{Conds, Op, OpEffect};
-use kp_plans::put_name;
+use kp_plans::put_word;
 use kp_spelling::{put, put_number};
 use std::alloc::Global;
 
@@ -94,7 +94,7 @@ fn operator_name(alloc: Global, name: &GroundName) -> Result<Text, Memory>
 {
     let mut out = Vec::new(alloc);
     put(&mut out, b"do_-")?;
-    put_name(&mut out, name)?;
+    put_word(&mut out, name)?;
     Ok(Text::from_slice(alloc, &out)?)
 }
 

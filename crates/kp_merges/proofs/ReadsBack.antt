@@ -38,7 +38,8 @@ use Rattle.kp_merges.specs.declared.merge.FileMerge.{FileMerge}
 use Rattle.kp_merges.specs.Grammar.{MergeTree, tag, merge, merges, text_of, name_of}
 use Rattle.kp_merges.specs.Numbers.{IsLit, IsTag, IsMerge}
 use Rattle.kp_merges.specs.MergesFiles.{IsMergesOf}
-use Rattle.kp_merges.specs.Printed.{name_put, atom_put, signed_put, lit_put, joined, tag_put, merge_line, merges_pieces, merges_text, IsAtomName, IsLitOn, IsTagOn, IsMergeOn, CanBeWritten, WrittenMergesRead}
+use Rattle.kp_spelling.specs.Spelling.{name_put, atom_put, signed_put, lit_put, joined}
+use Rattle.kp_merges.specs.Printed.{tag_put, merge_line, merges_pieces, merges_text, IsAtomName, IsLitOn, IsTagOn, IsMergeOn, CanBeWritten, WrittenMergesRead}
 use Rattle.kp_merges.proofs.Lits.{plain_reads, negated_reads}
 
 -- ---- names by number

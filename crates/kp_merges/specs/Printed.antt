@@ -1,5 +1,5 @@
 -- How the merges of a table are written, and that they read back.
-use Rattle.std.specs.Prelude.{◌<◌, ℕ, length, Bool, true, false, List, [], ◌∷◌, map, Option, Some, None, slice_get, codes}
+use Rattle.std.specs.Prelude.{◌<◌, ℕ, length, List, [], map, slice_get, codes}
 use Rattle.std.specs.List.{AllByRecursion, IsDistinct}
 use Rattle.kp_base.specs.declared.lit.Lit.{Lit}
 use Rattle.kp_base.specs.declared.ground.GroundName.{GroundName}
@@ -7,18 +7,15 @@ use Rattle.kp_base.specs.declared.ground.Merge.{Merge}
 use Rattle.kp_base.specs.declared.ground.TagRow.{TagRow}
 use Rattle.kp_base.specs.declared.ground.TagTable.{TagTable}
 use Rattle.kp_base.specs.LitSet.{IsAscending}
+use Rattle.kp_base.specs.Covering.{lits_of}
 use Rattle.kp_grammar.specs.Words.{IsName, IsHead}
-use Rattle.kp_pieces.specs.Pieces.{Piece, Put, ◌⨾◌, each, opens, closes, space, line_feed, name, spaced, spelling}
+use Rattle.kp_pieces.specs.Pieces.{Piece, Put, ◌⨾◌, each, opens, closes, line_feed, name, spaced, spelling}
+use Rattle.kp_spelling.specs.Spelling.{lit_put, joined}
 use Rattle.kp_plans.specs.Names.{same_name}
 use Rattle.kp_merges.specs.declared.merge.FileMerge.{FileMerge}
 use Rattle.kp_merges.specs.MergesFiles.{IsMergesOf}
 
 -- ---- the merges of a table, with the tags themselves in place of their numbers
-
--- the literals of a tag; none where there is no such tag
-abbrev pub lits_of : Option TagRow → List Lit
-lits_of None = []
-lits_of (Some row) = row.lits
 
 -- the tag of a number
 abbrev pub tag_of : List TagRow → ℕ → List Lit
@@ -33,29 +30,6 @@ abbrev pub merges_of : TagTable → List FileMerge
 merges_of table = map (with_tags table.tags) table.merges
 
 -- ---- their text
-
--- (HEAD OBJECT OBJECT)
-abbrev pub name_put : GroundName → Put
-name_put n = opens ⨾ name n.head ⨾ each (spaced name) n.objects ⨾ closes
-
--- an atom; () where there is none
-abbrev pub atom_put : Option GroundName → Put
-atom_put None = opens ⨾ closes
-atom_put (Some n) = name_put n
-
--- an atom, or (not ATOM)
-abbrev pub signed_put : Bool → Put → Put
-signed_put true f = f
-signed_put false f = opens ⨾ name (codes "not") ⨾ space ⨾ f ⨾ closes
-
--- a literal
-abbrev pub lit_put : List GroundName → Lit → Put
-lit_put atoms l = signed_put l.positive (atom_put (slice_get atoms l.atom.0))
-
--- one after the other, with a space between
-abbrev pub joined : {T : Type 0} → (T → Put) → List T → Put
-joined f [] rest = rest
-joined f (x ∷ xs) rest = f x (each (spaced f) xs rest)
 
 -- (LIT LIT)
 abbrev pub tag_put : List GroundName → List Lit → Put

@@ -1,76 +1,11 @@
-ghost use Rattle.std.specs.Prelude.{◌≡◌, false, map, slice_get, IfOk, OnOk};
+ghost use Rattle.std.specs.Prelude.{◌≡◌, map, IfOk, OnOk};
 ghost use Rattle.kp_pieces.specs.Pieces.{Puts, each, spaced};
 ghost use Rattle.kp_merges.specs.MergesFiles.{IsMergesOf};
-ghost use Rattle.kp_merges.specs.Printed.{name_put, atom_put, signed_put, lit_put, joined, tag_put, tag_of, with_tags, merge_line, merges_of, merges_text, CanBeWritten};
+ghost use Rattle.kp_merges.specs.Printed.{tag_put, tag_of, with_tags, merge_line, merges_of, merges_text, CanBeWritten};
 
-use kp_base::{AtomId, Ground, GroundName, Lit, Memory, Merge, Row, TagRow, TagTable};
-use kp_plans::{put, put_objects};
+use kp_base::{Ground, GroundName, Lit, Memory, Merge, Row, TagRow, TagTable};
+use kp_spelling::{put, put_joined, put_literal};
 use std::alloc::Global;
-
-// A name in brackets.
-fn put_bracketed(out: &mut Vec<u8>, name: &GroundName) -> Result<(), Memory>
-    ensures { OnOk result (Puts out.old.items out.new.items (name_put name.now)) }
-{
-    put(out, b"(")?;
-    put(out, name.head.slice())?;
-    put_objects(out, name.objects.slice())?;
-    put(out, b")")?;
-    Ok(())
-}
-
-// The atom of a number; `()` where there is none.
-fn put_atom(out: &mut Vec<u8>, atoms: &[GroundName], atom: AtomId) -> Result<(), Memory>
-    ensures { OnOk result (Puts out.old.items out.new.items (atom_put (slice_get atoms.now atom.0))) }
-{
-    match atoms.get(atom.0 as usize) {
-        Some(name) => put_bracketed(out, name),
-        None => put(out, b"()"),
-    }
-}
-
-// The negation of an atom.
-fn put_denied(out: &mut Vec<u8>, atoms: &[GroundName], atom: AtomId) -> Result<(), Memory>
-    ensures { OnOk result (Puts out.old.items out.new.items (signed_put false (atom_put (slice_get atoms.now atom.0)))) }
-{
-    put(out, b"(not ")?;
-    put_atom(out, atoms, atom)?;
-    put(out, b")")?;
-    Ok(())
-}
-
-fn put_literal(out: &mut Vec<u8>, atoms: &[GroundName], lit: Lit) -> Result<(), Memory>
-    ensures { OnOk result (Puts out.old.items out.new.items (lit_put atoms.now lit)) }
-{
-    if lit.positive {
-        put_atom(out, atoms, lit.atom)
-    } else {
-        put_denied(out, atoms, lit.atom)
-    }
-}
-
-// Literals, a space before each.
-fn put_literals(out: &mut Vec<u8>, atoms: &[GroundName], lits: &[Lit]) -> Result<(), Memory>
-    ensures { OnOk result (Puts out.old.items out.new.items (each (spaced (lit_put atoms.now)) lits.now)) }
-{
-    for lit in lits {
-        put(out, b" ")?;
-        put_literal(out, atoms, *lit)?;
-    }
-    Ok(())
-}
-
-// Literals, with a space between.
-fn put_joined(out: &mut Vec<u8>, atoms: &[GroundName], lits: &[Lit]) -> Result<(), Memory>
-    ensures { OnOk result (Puts out.old.items out.new.items (joined (lit_put atoms.now) lits.now)) }
-{
-    match lits.split_first() {
-        Some((first, others)) => {
-            put_literal(out, atoms, *first)?;
-            put_literals(out, atoms, others)
-        }
-        None => Ok(()),
-    }
-}
 
 fn put_tag(out: &mut Vec<u8>, atoms: &[GroundName], lits: &[Lit]) -> Result<(), Memory>
     ensures { OnOk result (Puts out.old.items out.new.items (tag_put atoms.now lits.now)) }

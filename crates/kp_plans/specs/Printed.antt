@@ -2,14 +2,15 @@
 use Rattle.std.specs.Prelude.{◌≡◌, ℕ, List, []}
 use Rattle.std.specs.List.{AllByRecursion}
 use Rattle.kp_base.specs.declared.ground.GroundName.{GroundName}
-use Rattle.kp_pieces.specs.Pieces.{Piece, Put, ◌⨾◌, each, opens, closes, line_feed, name, spaced, spelling}
+use Rattle.kp_pieces.specs.Pieces.{Piece, Put, ◌⨾◌, each, line_feed, spelling}
+use Rattle.kp_spelling.specs.Spelling.{name_put}
 use Rattle.kp_plans.specs.Names.{IsGroundName}
 use Rattle.kp_plans.specs.declared.step.PlanStep.{PlanStep}
 use Rattle.kp_plans.specs.PlanFiles.{names, IsPlanOf}
 
 -- (HEAD OBJECT OBJECT) on a line of its own
 abbrev pub step_line : GroundName → Put
-step_line n = opens ⨾ name n.head ⨾ each (spaced name) n.objects ⨾ closes ⨾ line_feed
+step_line n = name_put n ⨾ line_feed
 
 -- a line for each step
 abbrev pub plan_pieces : List GroundName → List Piece

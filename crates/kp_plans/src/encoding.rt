@@ -2,15 +2,8 @@ ghost use Rattle.std.specs.Prelude.{◌≡◌, ◌++◌, Some, IfOk, OnOk};
 ghost use Rattle.kp_meaning.specs.Encoding.{doubled, doubled_byte, encoded, encoded_objects, decoded, HasNoEmptyPart};
 
 use kp_base::{GroundName, Memory, Text};
+use kp_spelling::put;
 use std::alloc::Global;
-
-/// Adds bytes at the end.
-pub fn put(out: &mut Vec<u8>, bytes: &[u8]) -> Result<(), Memory>
-    ensures { OnOk result (out.new.items ≡ out.old.items ++ bytes.now) }
-{
-    out.extend_from_slice(bytes)?;
-    Ok(())
-}
 
 fn put_byte(out: &mut Vec<u8>, byte: u8) -> Result<(), Memory>
     ensures { OnOk result (out.new.items ≡ out.old.items ++ doubled_byte byte) }
@@ -43,7 +36,7 @@ fn put_objects(out: &mut Vec<u8>, objects: &[Text]) -> Result<(), Memory>
 }
 
 /// Adds the name of an atom or an action as one word.
-pub fn put_name(out: &mut Vec<u8>, name: &GroundName) -> Result<(), Memory>
+pub fn put_word(out: &mut Vec<u8>, name: &GroundName) -> Result<(), Memory>
     ensures { OnOk result (out.new.items ≡ out.old.items ++ encoded name.now) }
 {
     put_doubled(out, name.head.slice())?;
@@ -56,7 +49,7 @@ pub fn word_of(alloc: Global, name: &GroundName) -> Result<Vec<u8>, Memory>
     ensures { IfOk result (λ word. word.items ≡ encoded name.now) }
 {
     let mut word = Vec::new(alloc);
-    put_name(&mut word, name)?;
+    put_word(&mut word, name)?;
     Ok(word)
 }
 

@@ -13,10 +13,10 @@ mod table;
 mod words;
 
 pub use decoding::decode_name;
-pub use encoding::{encode_name, put, put_name};
+pub use encoding::{encode_name, put_word};
 pub use finding::find_steps;
 pub use laws::a_plan_file_has_one_answer;
-pub use printing::{plan_text, put_objects};
+pub use printing::plan_text;
 pub use reading::read_plan;
 pub use step::PlanStep;
 pub use stripping::strip;

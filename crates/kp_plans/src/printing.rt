@@ -1,32 +1,19 @@
 ghost use Rattle.std.specs.Prelude.{◌≡◌, IfOk, OnOk};
 ghost use Rattle.std.specs.List.{AllByRecursion};
-ghost use Rattle.kp_pieces.specs.Pieces.{Puts, each, spaced, name};
+ghost use Rattle.kp_pieces.specs.Pieces.{Puts, each};
 ghost use Rattle.kp_plans.specs.Names.{IsGroundName};
 ghost use Rattle.kp_plans.specs.Printed.{step_line, plan_text, IsTextOf};
 
-use crate::encoding::put;
-use kp_base::{GroundName, Memory, Row, Text};
+use kp_base::{GroundName, Memory, Row};
+use kp_spelling::{put, put_name};
 use std::alloc::Global;
-
-/// Objects, a space before each.
-pub fn put_objects(out: &mut Vec<u8>, objects: &[Text]) -> Result<(), Memory>
-    ensures { OnOk result (Puts out.old.items out.new.items (each (spaced name) objects.now)) }
-{
-    for object in objects {
-        put(out, b" ")?;
-        put(out, object.slice())?;
-    }
-    Ok(())
-}
 
 // A step on a line of its own.
 fn put_step(out: &mut Vec<u8>, step: &GroundName) -> Result<(), Memory>
     ensures { OnOk result (Puts out.old.items out.new.items (step_line step.now)) }
 {
-    put(out, b"(")?;
-    put(out, step.head.slice())?;
-    put_objects(out, step.objects.slice())?;
-    put(out, b")\n")?;
+    put_name(out, step)?;
+    put(out, b"\n")?;
     Ok(())
 }
 
