@@ -32,7 +32,7 @@ use Rattle.kp_prepared.proofs.OneStart.{comes_once}
 use Rattle.kp_inputs.proofs.Commands.{by_table_once}
 use Rattle.kp_inputs.proofs.Tasks.{task_once, task_or_within}
 use Rattle.kp_solving.specs.Operators.{acts_among}
-use Rattle.kp_solving.specs.Solving.{finds_none}
+use Rattle.kp_solving.specs.Solving.{denies}
 use Rattle.kp_bench.specs.Summary.{summary_text}
 use Rattle.kp_bench.specs.Bench.{texts_of, usual_implicates, sums_up, SumsUp, TellsBench, BenchesGround, over, searched, BenchesTrees}
 use Rattle.kp_bench.specs.Laws.{BenchesHaveOneOutcome}
@@ -72,7 +72,7 @@ told_once : (c : Bench) (g : Ground) (i : Initial) (table : TagTable) → HasMod
 told_once c g i table some (Plan ops n) o u a b =
     a.told ∙ (ap (λ (ls : List Lit). sums_up (summary_text c g table ls (length (stripped a.machine)) n)) (one_uncovered g i table a.uncovered b.uncovered a.are_uncovered b.are_uncovered)
     ∙ (ap (λ (ns : List ℕ). sums_up (summary_text c g table b.uncovered (length ns) n)) (same_actions c g i table ops n o u some a b) ∙ sym b.told))
-told_once c g i table some NoPlan o u a b = a.2 ∙ (ap (λ ls. finds_none (no_plan_text ls)) (one_uncovered g i table a.0 b.0 a.1 b.1) ∙ sym b.2)
+told_once c g i table some NoPlan o u a b = a.2 ∙ (ap (λ ls. denies (no_plan_text ls)) (one_uncovered g i table a.0 b.0 a.1 b.1) ∙ sym b.2)
 told_once c g i table some (Spent n) o u a b = a ∙ sym b
 
 ground_once : (c : Bench) (g : Ground) (i : Initial) → HasModel i → (table : TagTable) (o u : Outcome) → BenchesGround c g i table o → BenchesGround c g i table u → o ≡ u

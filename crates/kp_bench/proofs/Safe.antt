@@ -1,34 +1,21 @@
 -- The task of two texts and the table of a mode is safe.
-use Rattle.std.proofs.Common.{ℕ, List, [], sym, subst}
+use Rattle.std.proofs.Common.{[], sym, subst}
 use Rattle.kp_base.specs.declared.ground.Ground.{Ground}
 use Rattle.kp_base.specs.declared.ground.TagTable.{TagTable}
 use Rattle.kp_base.specs.declared.limits.Mode.{Mode}
 use Rattle.kp_machine.proofs.Exclusive.{never_clashes}
 use Rattle.kp_machine.proofs.Formulas.{same_models}
 use Rattle.kp_primes.specs.Held.{formula}
-use Rattle.kp_grammar.specs.declared.tree.Word.{Word}
-use Rattle.kp_grammar.specs.Trees.{Domain, Problem}
-use Rattle.kp_meaning.specs.Plans.{HasProblem}
 use Rattle.kp_task.specs.Task.{task_of}
 use Rattle.kp_ktask.specs.Translated.{FitsLimits}
 use Rattle.kp_given.specs.Translations.{ground_of, initial_of}
 use Rattle.kp_given.proofs.Tables.{tables_written}
 use Rattle.kp_words.specs.Names.{of_mode}
 use Rattle.kp_prepared.specs.declared.prepared.Prepared.{Prepared as Made}
-use Rattle.kp_prepared.specs.Texts.{HaveTrees}
 use Rattle.kp_prepared.specs.Prepared.{usual}
+use Rattle.kp_prepared.proofs.Problems.{problem_of}
 use Rattle.kp_inputs.proofs.TablesFor.{table_for}
 use Rattle.kp_bench.specs.Working.{IsPosed, IsSafe}
-
--- the problem of two texts that have these trees
-abbrev problem_of : (domain problem : List ℕ) (d : Domain Word) (p : Problem Word) → HaveTrees domain problem d p → HasProblem domain problem
-problem_of domain problem d p h = record {
-  domain = d;
-  problem = p;
-  domain_reads = record { tokens = h.domain_reads.tokens; cut = h.domain_reads.cut; reads = h.domain_reads.reads.reads };
-  problem_reads = record { tokens = h.problem_reads.tokens; cut = h.problem_reads.cut; reads = h.problem_reads.reads.reads };
-  no_fault = h.no_fault;
-}
 
 pub is_safe : (mode : Mode) (x : Made) (table : TagTable) → IsPosed mode x table → FitsLimits (task_of x.ground table) usual → IsSafe x.ground (formula x.primes) table
 is_safe mode x table posed fits =

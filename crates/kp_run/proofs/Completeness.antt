@@ -32,12 +32,10 @@ use Rattle.kp_outside.specs.Outside.{FileMap, with_bytes}
 use Rattle.kp_outcome.specs.declared.outcome.Outcome.{Outcome}
 use Rattle.kp_outcome.specs.declared.status.Status.{Status}
 use Rattle.kp_outcome.specs.declared.status.Status.TheVariants as status
-use Rattle.kp_outcome.specs.Ends.{Outside, AreHeld, with_files, CarriesOut, whole, put_failed, put_no_memory, print_failed, print_no_memory}
+use Rattle.kp_outcome.specs.Ends.{Outside, with_files, CarriesOut, whole, put_failed, put_no_memory, print_failed, print_no_memory}
 use Rattle.kp_words.specs.Names.{Translate, Lift}
-use Rattle.kp_words.specs.declared.lent.CommandRef.{CommandRef as Command}
 use Rattle.kp_words.specs.declared.lent.CommandRef.TheVariants as commands
 use Rattle.kp_words.specs.Command.{IsLift, file_of, if_named, inputs_of}
-use Rattle.kp_words.proofs.OneCommand.{one_command}
 use Rattle.kp_printed.specs.Coverage.{coverage_text}
 use Rattle.kp_prepared.specs.Prepared.{usual}
 use Rattle.kp_prepared.proofs.Counted.{is_of_atoms}
@@ -47,14 +45,16 @@ use Rattle.kp_inputs.specs.Actions.{HasActions, no_actions, with_actions}
 use Rattle.kp_inputs.proofs.OneTable.{one_table}
 use Rattle.kp_inputs.proofs.OnePlan.{one_plan, some_alike}
 use Rattle.kp_inputs.proofs.Named.{found_at}
-use Rattle.kp_run.specs.Outcomes.{prints, LiftsActions, lifts, fails, LiftsPlan, no_task, with_task, LiftsTrees, LiftsTexts, ComesTo, translated, merged, stripped, checked, lifted, IsDue, usage, of_command, solved, searched, measured, benched}
+use Rattle.kp_run.specs.Outcomes.{prints, LiftsActions, lifts, fails, LiftsPlan, no_task, with_task, LiftsTrees, LiftsTexts, IsDue}
 use Rattle.kp_run.specs.Ends.{Ends, came, read_failed, no_memory}
 use Rattle.kp_run.specs.Completeness as complete
 use Rattle.kp_run.specs.Completeness.{PrintsComplete, RanComplete, IsOfTheSame, HoldsPlan, LosesNoPlan}
 use Rattle.kp_run.proofs.Files.{last_once}
 use Rattle.kp_inputs.proofs.Tasks.{task_or_within}
 use Rattle.kp_run.proofs.CompleteText.{none_uncovered}
-use Rattle.kp_run.proofs.Soundness.{problem_of, IsDone, AreBoth, both_held, all_done, is_table, first_put, second_put}
+use Rattle.kp_prepared.proofs.Problems.{problem_of}
+use Rattle.kp_run.proofs.Comes.{due_makes}
+use Rattle.kp_run.proofs.Soundness.{IsDone, AreBoth, both_held, all_done, is_table, first_put, second_put}
 
 -- ---- the translation
 
@@ -75,11 +75,10 @@ did_translate : (words : List (Vec ℕ Global)) (t : Translate) (before after : 
 did_translate words t before after r = by r.ended
   where
     of_due : (o : Outcome) → IsDue words (Some before) o → o.status ≡ status.Done → Some after ≡ with_files (Some before) o.puts → r.text ≡ o.text → DidTranslate t before after r.text
-    of_due _ (usage none) done puts told = absurd cc
-    of_due o (of_command e texts _ so held comes) done puts told = record {
+    of_due o due done puts told = record {
       outcome = o;
       apart = r.is_translate.says.are_so.outputs_differ;
-      both = both_held before t e texts o (one_command words (commands.Translate t) e r.is_translate so) held comes;
+      both = both_held words before t o r.is_translate due;
       done = done;
       puts = puts;
       told = told;
@@ -198,26 +197,6 @@ module _ (t : Translate) (before after : FileMap) (text : List ℕ) (x : DidTran
       behind (n ∷ ns) [] e = absurd cc
       behind (n ∷ ns) (u ∷ us) e = let here : get now n ≡ Some u = cc in let rest : map (get now) ns ≡ map Some us = cc in cc (here, behind ns us rest)
 
-  of_command_is : (e : Command) (texts : List (List ℕ)) (o : Outcome) → commands.Lift c ≡ e → AreHeld (Some now) (inputs_of e) texts → ComesTo e texts o → o ≡ prints_it
-  of_command_is e texts o is held comes = go e texts is comes (some_alike texts (x.both.domain ∷ x.both.problem ∷ (x.both.merges ++ holds.text ∷ [])) (sym (subst (λ z. AreHeld (Some now) (inputs_of z) texts) (sym is) held) ∙ all_now))
-    where
-      go : (e : Command) (texts : List (List ℕ)) → commands.Lift c ≡ e → ComesTo e texts o → texts ≡ x.both.domain ∷ x.both.problem ∷ (x.both.merges ++ holds.text ∷ []) → o ≡ prints_it
-      go _ _ is (translated e v w more _ b) at = absurd cc
-      go _ _ is (merged e v w _ b) at = absurd cc
-      go _ _ is (stripped e v _ b) at = absurd cc
-      go _ _ is (checked e v w u _ b) at = absurd cc
-      go _ _ is (solved e v w more _ b) at = absurd cc
-      go _ _ is (searched e v w _ b) at = absurd cc
-      go _ _ is (measured e v w _ b) at = absurd cc
-      go _ _ is (benched e _ b) at = absurd cc
-      go _ _ is (lifted e v w more u _ b) at =
-          let command : e ≡ c = cc in
-          let first : v ≡ x.both.domain = cc in
-          let second : w ≡ x.both.problem = cc in
-          let rest : more ++ u ∷ [] ≡ x.both.merges ++ holds.text ∷ [] = cc in
-          let lasts = last_once more x.both.merges u holds.text rest in
-          of_texts o (subst (λ z. LiftsTexts c x.both.domain x.both.problem x.both.merges z o) lasts.1 (subst (λ z. LiftsTexts c x.both.domain x.both.problem z u o) lasts.0 (subst (λ z. LiftsTexts c x.both.domain z more u o) second (subst (λ z. LiftsTexts c z w more u o) first (subst (λ z. LiftsTexts z v w more u o) command b)))))
-
   lifted_to : (old new : Outside) (s : Status) → s ≡ status.Done → new.told ≡ with_bytes old.told (plan_text lift.steps) → complete.IsLiftedTo t after plan old new s
   lifted_to old new s is told = record {
     domain_out = (translation_of d p y.table).domain;
@@ -232,8 +211,16 @@ module _ (t : Translate) (before after : FileMap) (text : List ℕ) (x : DidTran
   }
 
   of_due : (words : List (Vec ℕ Global)) (o : Outcome) → IsLift words c → IsDue words (Some now) o → o ≡ prints_it
-  of_due words _ is (usage none) = absurd (none (commands.Lift c) is)
-  of_due words o is (of_command e texts _ so held comes) = of_command_is e texts o (one_command words (commands.Lift c) e is so) held comes
+  of_due words o is due =
+      let it = due_makes words (Some now) (commands.Lift c) o is due in
+      let made = it.makes in
+      let there : it.texts ≡ x.both.domain ∷ x.both.problem ∷ (x.both.merges ++ holds.text ∷ []) = some_alike it.texts (x.both.domain ∷ x.both.problem ∷ (x.both.merges ++ holds.text ∷ [])) (sym it.are_held ∙ all_now) in
+      let at : made.0 ∷ made.1 ∷ (made.2 ++ made.3 ∷ []) ≡ x.both.domain ∷ x.both.problem ∷ (x.both.merges ++ holds.text ∷ []) = sym made.4 ∙ there in
+      let first : made.0 ≡ x.both.domain = cc in
+      let second : made.1 ≡ x.both.problem = cc in
+      let rest : made.2 ++ made.3 ∷ [] ≡ x.both.merges ++ holds.text ∷ [] = cc in
+      let lasts = last_once made.2 x.both.merges made.3 holds.text rest in
+      of_texts o (subst (λ z. LiftsTexts c x.both.domain x.both.problem x.both.merges z o) lasts.1 (subst (λ z. LiftsTexts c x.both.domain x.both.problem z made.3 o) lasts.0 (subst (λ z. LiftsTexts c x.both.domain z made.2 made.3 o) second (subst (λ z. LiftsTexts c z made.1 made.2 made.3 o) first made.5))))
 
   ends_lifted : (words : List (Vec ℕ Global)) (old new : Outside) (s : Status) → Ends words old new s → IsLift words c → old.held ≡ Some now → complete.Lifts t after plan old new s
   ends_lifted words old new s (came o due carried) is held = by carried

@@ -7,6 +7,7 @@ pub mod Translations
 pub mod Checks
 pub mod Widths
 pub mod Lifts
+pub mod Comes
 pub mod Soundness
 pub mod CompleteText
 pub mod Completeness

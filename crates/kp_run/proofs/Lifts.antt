@@ -26,7 +26,9 @@ use Rattle.kp_inputs.proofs.TablesFor.{targets_are, target_within}
 use Rattle.kp_lift.specs.declared.lifting.Lifting.TheVariants as Lifting
 use Rattle.kp_lift.specs.Lifting.{IsTableOn, AnswersLifting, operator_step}
 use Rattle.kp_lift.proofs.Named.{lifted_operators_steps}
-use Rattle.kp_run.specs.Outcomes.{LiftsActions, lifts, fails, LiftsPlan, no_task, with_task, unlifted, failing_step}
+use Rattle.kp_printed.specs.Lifting.{unlifted_text}
+use Rattle.kp_solving.specs.Solving.{denies}
+use Rattle.kp_run.specs.Outcomes.{LiftsActions, lifts, fails, LiftsPlan, no_task, with_task, failing_step}
 use Rattle.kp_run.specs.Tables.{PrintsOperators}
 
 -- ---- with a table
@@ -61,6 +63,6 @@ lifted_printed g table ns ops (Ok o) inside h printed =
 lifted_printed g table ns ops (Err m) inside h printed = tt
 
 -- it is told where lifting fails
-pub unlifted_told : (g : Ground) (table : TagTable) (ns : List ℕ) (k : ℕ) (l : Lit) (r : Result Outcome Memory) → AnswersLifting g table ns (Lifting.Unlifted k l) → IfOk r (λ o. o ≡ unlifted g (failing_step (length ns) k) l) → IfOk r (LiftsActions g table ns)
+pub unlifted_told : (g : Ground) (table : TagTable) (ns : List ℕ) (k : ℕ) (l : Lit) (r : Result Outcome Memory) → AnswersLifting g table ns (Lifting.Unlifted k l) → IfOk r (λ o. o ≡ denies (unlifted_text g.atoms (failing_step (length ns) k) l)) → IfOk r (LiftsActions g table ns)
 unlifted_told g table ns k l (Ok o) h told = fails k l h.0 told
 unlifted_told g table ns k l (Err m) h told = tt

@@ -43,28 +43,27 @@ use Rattle.kp_outcome.specs.declared.status.Status.{Status}
 use Rattle.kp_outcome.specs.declared.status.Status.TheVariants as status
 use Rattle.kp_outcome.specs.Ends.{Outside, AreHeld, IsAnswer, with_files}
 use Rattle.kp_words.specs.Names.{Solve}
-use Rattle.kp_words.specs.declared.lent.CommandRef.{CommandRef as Command}
 use Rattle.kp_words.specs.declared.lent.CommandRef.TheVariants as commands
 use Rattle.kp_words.specs.Command.{IsSolve, file_of, if_named, inputs_of}
-use Rattle.kp_words.proofs.OneCommand.{one_command}
 use Rattle.kp_prepared.specs.Texts.{HaveTrees}
 use Rattle.kp_prepared.specs.Prepared.{IsPrepared, by_texts, by_trees, early, later}
 use Rattle.kp_inputs.specs.Tables.{HasTable, no_table, with_table}
 use Rattle.kp_inputs.proofs.TablesFor.{table_for}
 use Rattle.kp_inputs.proofs.OnePlan.{some_alike}
-use Rattle.kp_solving.specs.Solving.{Finds, solves, finds_none, spends, TellsSolved, SolvesGround, over, searched}
+use Rattle.kp_solving.specs.Solving.{Finds, solves, denies, spends, TellsSolved, SolvesGround, over, searched}
 use Rattle.kp_solving.proofs.Searches.{ends_true}
 use Rattle.kp_solving.proofs.Plans.{named_accepted, none_accepted}
-use Rattle.kp_run.specs.Outcomes.{SolvesTexts, ComesTo, translated, merged, stripped, checked, lifted, solved, searched as searched_classical, measured, benched, IsDue, usage, of_command}
+use Rattle.kp_run.specs.Outcomes.{SolvesTexts, IsDue}
 use Rattle.kp_run.specs.Completeness.{PrintsComplete}
 use Rattle.kp_run.specs.Ends.{Ends}
-use Rattle.kp_run.proofs.Soundness.{problem_of}
+use Rattle.kp_prepared.proofs.Problems.{problem_of}
 use Rattle.kp_meaning.specs.Faults.{HasNoFault}
 use Rattle.kp_meaning.specs.Numbering.{numbered_problem}
 use Rattle.kp_decided.proofs.Counting.{formulas_ascend}
 use Rattle.kp_given.proofs.Starts.{formulas_over_atoms, states_are_models}
 use Rattle.kp_prepared.proofs.Counted.{is_of_atoms}
 use Rattle.kp_run.specs.Solved.{GoesOn, IsPosed, its_ground, its_formula, its_task, IsWrittenPlan, with_named, IsSolved, HasNoPlan, IsSpent, SolveIsTrue}
+use Rattle.kp_run.proofs.Comes.{due_makes}
 use Rattle.kp_run.proofs.Fitting.{task_fits}
 use Rattle.kp_run.proofs.PlanLines.{actions_read, steps_read}
 use Rattle.kp_run.proofs.Whole.{IsCarriedOut, did, IsNoRefusal, not_refused}
@@ -123,22 +122,11 @@ module _ (m : FileMap) (c : Solve) (domain problem : List ℕ) (merges : List (L
   of_texts (later d p trees ready (with_table table has goes)) = of_ground d p table trees ready has goes
 
 has_searched : (words : List (Vec ℕ Global)) (m : FileMap) (c : Solve) (o : Outcome) → IsSolve words c → IsDue words (Some m) o → IsNoRefusal o → HasSearched m c o
-has_searched words m c _ is (usage none) answers = absurd (none (commands.Solve c) is)
-has_searched words m c o is (of_command e texts _ so held comes) answers = by e texts (one_command words (commands.Solve c) e is so) held comes
-  where
-    by : (e : Command) (texts : List (List ℕ)) → commands.Solve c ≡ e → AreHeld (Some m) (inputs_of e) texts → ComesTo e texts o → HasSearched m c o
-    by _ _ same held (translated d x y merges _ a) = absurd cc
-    by _ _ same held (merged d x y _ a) = absurd cc
-    by _ _ same held (stripped d x _ a) = absurd cc
-    by _ _ same held (checked d x y plan _ a) = absurd cc
-    by _ _ same held (lifted d x y merges plan _ a) = absurd cc
-    by _ _ same held (searched_classical d x y _ a) = absurd cc
-    by _ _ same held (measured d x y _ a) = absurd cc
-    by _ _ same held (benched d _ a) = absurd cc
-    by _ _ same held (solved d x y merges _ a) =
-        let it : d ≡ c = cc in
-        let there = subst (λ z. AreHeld (Some m) (inputs_of (commands.Solve z)) (x ∷ y ∷ merges)) it held in
-        of_texts m c x y merges (cc there) (cc there) (cc there) o answers (subst (λ z. SolvesTexts z x y merges o) it a)
+has_searched words m c o is due answers =
+    let it = due_makes words (Some m) (commands.Solve c) o is due in
+    let made = it.makes in
+    let there : AreHeld (Some m) (inputs_of (commands.Solve c)) (made.0 ∷ made.1 ∷ made.2) = subst (AreHeld (Some m) (inputs_of (commands.Solve c))) made.3 it.are_held in
+    of_texts m c made.0 made.1 made.2 (cc there) (cc there) (cc there) o answers made.4
 
 -- ---- what its answer says
 
@@ -199,7 +187,7 @@ module _ (m : FileMap) (c : Solve) (o : Outcome) (x : HasSearched m c o) (old ne
           let sound = translations_sound g.domain g.problem (problem_of g.domain g.problem d p g.trees) table for (never_clashes ground formula g.prepared.clash_free) written is_written in
           let one : sound.stripped ≡ plan = cc (sym sound.strips ∙ strips) in
           record { posed = x.posed; plan = plan; written = written; is_plan = subst (IsPlan g.domain g.problem) one sound.is_plan; is_written = is_written; strips = strips; told = b.text_is; told_reads = actions_read ground writable.ground (actions_of named.machine) plan named.actions_are; put = b.puts_are ∙ named_put old.held c.classical written plan; put_reads = steps_read ground table writable named.machine written named.steps_are }
-      by NoPlan finds (ls, are, is) = absurd (let b = answered (finds_none (no_plan_text ls)) is in let not_done = sym b.status_is ∙ done in cc)
+      by NoPlan finds (ls, are, is) = absurd (let b = answered (denies (no_plan_text ls)) is in let not_done = sym b.status_is ∙ done in cc)
       by (Spent n) finds is = absurd (let b = answered (spends n) is in let not_done = sym b.status_is ∙ done in cc)
 
   has_none : s ≡ status.Negative → HasNoPlan m c old new
@@ -208,7 +196,7 @@ module _ (m : FileMap) (c : Solve) (o : Outcome) (x : HasSearched m c o) (old ne
       by : (found : Found) → Finds task c.budget found → TellsSolved c.classical ground formula table found o → HasNoPlan m c old new
       by (Plan ops n) finds (written, plan, named, is) = absurd (let b = answered (solves c.classical written plan) is in let not_no = sym b.status_is ∙ negative in cc)
       by NoPlan finds (ls, are, is) =
-          let b = answered (finds_none (no_plan_text ls)) is in
+          let b = answered (denies (no_plan_text ls)) is in
           let none = ends_true task c.budget NoPlan fit finds in
           let fine = proper c.implicates d p g.trees.no_fault g.prepared in
           let exact = complete_text ground formula table ls fine are in
@@ -231,7 +219,7 @@ module _ (m : FileMap) (c : Solve) (o : Outcome) (x : HasSearched m c o) (old ne
     where
       by : (found : Found) → Finds task c.budget found → TellsSolved c.classical ground formula table found o → IsSpent m c old new
       by (Plan ops n) finds (written, plan, named, is) = absurd (let b = answered (solves c.classical written plan) is in let not_spent = sym b.status_is ∙ spent in cc)
-      by NoPlan finds (ls, are, is) = absurd (let b = answered (finds_none (no_plan_text ls)) is in let not_spent = sym b.status_is ∙ spent in cc)
+      by NoPlan finds (ls, are, is) = absurd (let b = answered (denies (no_plan_text ls)) is in let not_spent = sym b.status_is ∙ spent in cc)
       by (Spent n) finds is =
           let b = subst (λ k. IsCarriedOut (spends k) old new s) finds.expanded_are (answered (spends n) is) in
           record { posed = x.posed; ended = subst (λ k. Finds task c.budget (Spent k)) finds.expanded_are finds; more = ends_true task c.budget (Spent n) fit finds; told = b.text_is; put = b.puts_are }

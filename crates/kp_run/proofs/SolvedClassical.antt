@@ -17,20 +17,19 @@ use Rattle.kp_outcome.specs.declared.status.Status.{Status}
 use Rattle.kp_outcome.specs.declared.status.Status.TheVariants as status
 use Rattle.kp_outcome.specs.Ends.{Outside, AreHeld, IsAnswer}
 use Rattle.kp_words.specs.Names.{Classical}
-use Rattle.kp_words.specs.declared.lent.CommandRef.{CommandRef as Command}
 use Rattle.kp_words.specs.declared.lent.CommandRef.TheVariants as commands
 use Rattle.kp_words.specs.Command.{IsClassical as SaysClassical, inputs_of}
-use Rattle.kp_words.proofs.OneCommand.{one_command}
 use Rattle.kp_classical.specs.Classical.{by_texts, by_trees, early, later, task_of}
 use Rattle.kp_classical.proofs.Plans.{are_plans, are_successes}
 use Rattle.kp_printed.specs.Refusals.{nothing}
 use Rattle.kp_printed.specs.Searches.{no_plan_line}
-use Rattle.kp_solving.specs.Solving.{Finds, solves, finds_none, spends, TellsClassical}
+use Rattle.kp_solving.specs.Solving.{Finds, solves, denies, spends, TellsClassical}
 use Rattle.kp_solving.proofs.Searches.{ends_true}
-use Rattle.kp_run.specs.Outcomes.{ClassicalTexts, ComesTo, translated, merged, stripped, checked, lifted, solved, searched, measured, benched, IsDue, usage, of_command}
+use Rattle.kp_run.specs.Outcomes.{ClassicalTexts, IsDue}
 use Rattle.kp_run.specs.Ends.{Ends}
-use Rattle.kp_run.proofs.Soundness.{problem_of}
+use Rattle.kp_prepared.proofs.Problems.{problem_of}
 use Rattle.kp_run.specs.Solved.{IsHeldClassical, IsPosedClassical, IsSolvedClassical, HasNoClassicalPlan, IsSpentClassical, ClassicalIsTrue}
+use Rattle.kp_run.proofs.Comes.{due_makes}
 use Rattle.kp_run.proofs.Fitting.{classical_fit}
 use Rattle.kp_run.proofs.PlanLines.{actions_read}
 use Rattle.kp_run.proofs.Whole.{IsCarriedOut, did, IsNoRefusal, not_refused}
@@ -59,22 +58,11 @@ of_texts m c domain problem domain_held problem_held o answers (later d p trees 
 }
 
 has_searched : (words : List (Vec ℕ Global)) (m : FileMap) (c : Classical) (o : Outcome) → SaysClassical words c → IsDue words (Some m) o → IsNoRefusal o → HasSearched m c o
-has_searched words m c _ is (usage none) answers = absurd (none (commands.Classical c) is)
-has_searched words m c o is (of_command e texts _ so held comes) answers = by e texts (one_command words (commands.Classical c) e is so) held comes
-  where
-    by : (e : Command) (texts : List (List ℕ)) → commands.Classical c ≡ e → AreHeld (Some m) (inputs_of e) texts → ComesTo e texts o → HasSearched m c o
-    by _ _ same held (translated d x y merges _ a) = absurd cc
-    by _ _ same held (merged d x y _ a) = absurd cc
-    by _ _ same held (stripped d x _ a) = absurd cc
-    by _ _ same held (checked d x y plan _ a) = absurd cc
-    by _ _ same held (lifted d x y merges plan _ a) = absurd cc
-    by _ _ same held (solved d x y merges _ a) = absurd cc
-    by _ _ same held (measured d x y _ a) = absurd cc
-    by _ _ same held (benched d _ a) = absurd cc
-    by _ _ same held (searched d x y _ a) =
-        let it : d ≡ c = cc in
-        let there = subst (λ z. AreHeld (Some m) (inputs_of (commands.Classical z)) (x ∷ y ∷ [])) it held in
-        of_texts m c x y (cc there) (cc there) o answers (subst (λ z. ClassicalTexts z x y o) it a)
+has_searched words m c o is due answers =
+    let it = due_makes words (Some m) (commands.Classical c) o is due in
+    let made = it.makes in
+    let there : AreHeld (Some m) (inputs_of (commands.Classical c)) (made.0 ∷ made.1 ∷ []) = subst (AreHeld (Some m) (inputs_of (commands.Classical c))) made.2 it.are_held in
+    of_texts m c made.0 made.1 (cc there) (cc there) o answers made.3
 
 -- ---- what its answer says
 
@@ -102,7 +90,7 @@ module _ (m : FileMap) (c : Classical) (o : Outcome) (x : HasSearched m c o) (ol
           let b = answered (solves None plan plan) is in
           let succeed = (ends_true (task_of d p) c.budget (Plan ops n) fit finds).1 in
           record { posed = x.posed; plan = plan; is_plan = (are_plans g.domain g.problem d p g.trees g.classical ops plan named).0 succeed; told = b.text_is; told_reads = actions_read (ground_of d p) (grounds_written g.domain g.problem (problem_of g.domain g.problem d p g.trees)) ops plan named; put = b.puts_are }
-      by NoPlan finds is = absurd (let b = answered (finds_none no_plan_line) is in let not_done = sym b.status_is ∙ done in cc)
+      by NoPlan finds is = absurd (let b = answered (denies no_plan_line) is in let not_done = sym b.status_is ∙ done in cc)
       by (Spent n) finds is = absurd (let b = answered (spends n) is in let not_done = sym b.status_is ∙ done in cc)
 
   has_none : s ≡ status.Negative → HasNoClassicalPlan m c old new
@@ -111,7 +99,7 @@ module _ (m : FileMap) (c : Classical) (o : Outcome) (x : HasSearched m c o) (ol
       by : (found : Found) → Finds (task_of d p) c.budget found → TellsClassical (ground_of d p) found o → HasNoClassicalPlan m c old new
       by (Plan ops n) finds (plan, named, is) = absurd (let b = answered (solves None plan plan) is in let not_no = sym b.status_is ∙ negative in cc)
       by NoPlan finds is =
-          let b = answered (finds_none no_plan_line) is in
+          let b = answered (denies no_plan_line) is in
           let none = ends_true (task_of d p) c.budget NoPlan fit finds in
           record {
             posed = x.posed;
@@ -126,7 +114,7 @@ module _ (m : FileMap) (c : Classical) (o : Outcome) (x : HasSearched m c o) (ol
     where
       by : (found : Found) → Finds (task_of d p) c.budget found → TellsClassical (ground_of d p) found o → IsSpentClassical m c old new
       by (Plan ops n) finds (plan, named, is) = absurd (let b = answered (solves None plan plan) is in let not_spent = sym b.status_is ∙ spent in cc)
-      by NoPlan finds is = absurd (let b = answered (finds_none no_plan_line) is in let not_spent = sym b.status_is ∙ spent in cc)
+      by NoPlan finds is = absurd (let b = answered (denies no_plan_line) is in let not_spent = sym b.status_is ∙ spent in cc)
       by (Spent n) finds is =
           let b = subst (λ k. IsCarriedOut (spends k) old new s) finds.expanded_are (answered (spends n) is) in
           record { posed = x.posed; ended = subst (λ k. Finds (task_of d p) c.budget (Spent k)) finds.expanded_are finds; more = ends_true (task_of d p) c.budget (Spent n) fit finds; told = b.text_is; put = b.puts_are }

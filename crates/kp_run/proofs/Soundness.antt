@@ -25,6 +25,7 @@ use Rattle.kp_sound.proofs.Trees.{translations_sound}
 use Rattle.kp_prepared.specs.Texts.{HaveTrees}
 use Rattle.kp_prepared.specs.Refusing.{refuses}
 use Rattle.kp_prepared.specs.Prepared.{usual, IsPrepared, by_texts, by_trees, early, later}
+use Rattle.kp_prepared.proofs.Problems.{problem_of}
 use Rattle.kp_base.specs.declared.refused.Refused.{Refused}
 use Rattle.kp_printed.specs.Refusals.{Named, nothing}
 use Rattle.kp_outcome.specs.declared.outcome.Outcome.{Outcome}
@@ -32,15 +33,14 @@ use Rattle.kp_outcome.specs.declared.status.Status.{Status}
 use Rattle.kp_outcome.specs.declared.status.Status.TheVariants as status
 use Rattle.kp_outcome.specs.Ends.{Outside, AreHeld, with_files, whole, put_failed, put_no_memory, print_failed, print_no_memory}
 use Rattle.kp_words.specs.Names.{Translate}
-use Rattle.kp_words.specs.declared.lent.CommandRef.{CommandRef as Command}
 use Rattle.kp_words.specs.declared.lent.CommandRef.TheVariants as commands
 use Rattle.kp_words.specs.Command.{IsTranslate, inputs_of}
 use Rattle.kp_inputs.specs.Tables.{HasTable, no_table, with_table}
 use Rattle.kp_inputs.proofs.TablesFor.{table_for}
-use Rattle.kp_run.specs.Outcomes.{translates, TranslatesGround, over as when_over, done as when_done, TranslatesTrees, TranslatesTexts, ComesTo, translated, merged, stripped, checked, lifted, solved, searched, measured, benched, IsDue, usage, of_command}
+use Rattle.kp_run.specs.Outcomes.{translates, TranslatesGround, over as when_over, done as when_done, TranslatesTrees, TranslatesTexts, IsDue}
 use Rattle.kp_run.specs.Ends.{Ends, came, read_failed, no_memory}
 use Rattle.kp_run.specs.Soundness.{IsSound}
-use Rattle.kp_words.proofs.OneCommand.{one_command}
+use Rattle.kp_run.proofs.Comes.{due_makes}
 
 -- ---- what is held under two names
 
@@ -55,16 +55,6 @@ under_another m name other content apart =
     ∙ ap (λ b. cond b (Some content) (get m name)) (is_eq-slice_cmp name other ∙ false_from_ne_true _ (λ h. apart (same-true name other h)))
 
 -- ---- the result
-
--- the problem of two texts that have these trees
-abbrev pub problem_of : (domain problem : List ℕ) (d : Domain Word) (p : Problem Word) → HaveTrees domain problem d p → HasProblem domain problem
-problem_of domain problem d p h = record {
-  domain = d;
-  problem = p;
-  domain_reads = record { tokens = h.domain_reads.tokens; cut = h.domain_reads.cut; reads = h.domain_reads.reads.reads };
-  problem_reads = record { tokens = h.problem_reads.tokens; cut = h.problem_reads.cut; reads = h.problem_reads.reads.reads };
-  no_fault = h.no_fault;
-}
 
 -- what a ground problem is translated to, if that is Done
 pub record IsGroundDone (c : Translate) (g : Ground) (i : Initial) (table : TagTable) (o : Outcome) : Type 0 where
@@ -117,19 +107,12 @@ pub record AreBoth (m : FileMap) (c : Translate) (o : Outcome) : Type 0 where
   pub all_held : AreHeld (Some m) (inputs_of (commands.Translate c)) (domain ∷ problem ∷ merges)
   pub texts : TranslatesTexts c domain problem merges o
 
-pub both_held : (m : FileMap) (c : Translate) (e : Command) (texts : List (List ℕ)) (o : Outcome) → commands.Translate c ≡ e → AreHeld (Some m) (inputs_of e) texts → ComesTo e texts o → AreBoth m c o
-both_held m c _ _ o same held (translated d x y merges _ a) =
-    let it : d ≡ c = cc in
-    let there = subst (λ z. AreHeld (Some m) (inputs_of (commands.Translate z)) (x ∷ y ∷ merges)) it held in
-    record { domain = x; problem = y; merges = merges; domain_held = cc there; problem_held = cc there; all_held = there; texts = subst (λ z. TranslatesTexts z x y merges o) it a }
-both_held m c _ _ o same held (merged d x y _ a) = absurd cc
-both_held m c _ _ o same held (stripped d x _ a) = absurd cc
-both_held m c _ _ o same held (checked d x y plan _ a) = absurd cc
-both_held m c _ _ o same held (lifted d x y texts plan _ a) = absurd cc
-both_held m c _ _ o same held (solved d x y merges _ a) = absurd cc
-both_held m c _ _ o same held (searched d x y _ a) = absurd cc
-both_held m c _ _ o same held (measured d x y _ a) = absurd cc
-both_held m c _ _ o same held (benched d _ a) = absurd cc
+pub both_held : (words : List (Vec ℕ Global)) (m : FileMap) (c : Translate) (o : Outcome) → IsTranslate words c → IsDue words (Some m) o → AreBoth m c o
+both_held words m c o is due =
+    let it = due_makes words (Some m) (commands.Translate c) o is due in
+    let made = it.makes in
+    let there : AreHeld (Some m) (inputs_of (commands.Translate c)) (made.0 ∷ made.1 ∷ made.2) = subst (AreHeld (Some m) (inputs_of (commands.Translate c))) made.3 it.are_held in
+    record { domain = made.0; problem = made.1; merges = made.2; domain_held = cc there; problem_held = cc there; all_held = there; texts = made.4 }
 
 module _ (before after : FileMap) (c : Translate) (o : Outcome) (apart : c.domain_out ≢ c.problem_out) (both : AreBoth before c o) (done : o.status ≡ status.Done) (puts : Some after ≡ with_files (Some before) o.puts) where
   pub all_done : IsDone c both.domain both.problem both.merges o
@@ -178,9 +161,7 @@ module _ (before after : FileMap) (c : Translate) (o : Outcome) (apart : c.domai
 -- ---- a run that ended with Done
 
 sound_due : (words : List (Vec ℕ Global)) (before after : FileMap) (c : Translate) (o : Outcome) → IsTranslate words c → IsDue words (Some before) o → o.status ≡ status.Done → Some after ≡ with_files (Some before) o.puts → IsSound before after c
-sound_due words before after c _ is (usage none) done puts = absurd cc
-sound_due words before after c o is (of_command e texts _ so held comes) done puts =
-    sound_outcome before after c o is.says.are_so.outputs_differ (both_held before c e texts o (one_command words (commands.Translate c) e is so) held comes) done puts
+sound_due words before after c o is due done puts = sound_outcome before after c o is.says.are_so.outputs_differ (both_held words before c o is due) done puts
 
 pub sound_end : (words : List (Vec ℕ Global)) (old new : Outside) (s : Status) → Ends words old new s → (before after : FileMap) (c : Translate) → old.held ≡ Some before → new.held ≡ Some after → IsTranslate words c → s ≡ status.Done → IsSound before after c
 sound_end words old new s (came o due (whole same none held told)) before after c first last is done =

@@ -5,7 +5,6 @@ use Rattle.kp_base.specs.declared.ground.Ground.{Ground}
 use Rattle.kp_base.specs.declared.ground.GroundName.{GroundName}
 use Rattle.kp_base.specs.declared.ground.Initial.{Initial}
 use Rattle.kp_base.specs.declared.ground.TagTable.{TagTable}
-use Rattle.kp_base.specs.declared.lit.AtomId.{AtomId}
 use Rattle.kp_base.specs.declared.lit.Lit.{Lit}
 use Rattle.kp_base.specs.declared.limits.Mode.{Mode}
 use Rattle.kp_base.specs.declared.refused.Part.TheVariants as parts
@@ -52,7 +51,7 @@ use Rattle.kp_prepared.specs.Prepared.{usual, Comes}
 use Rattle.kp_classical.specs.Classical.{ComesClassical, task_of as classical_task}
 use Rattle.kp_inputs.specs.Tables.{ComesByTable}
 use Rattle.kp_inputs.specs.Actions.{ComesByPlan}
-use Rattle.kp_solving.specs.Solving.{SolvesGround, SolvesClassical}
+use Rattle.kp_solving.specs.Solving.{denies, SolvesGround, SolvesClassical}
 use Rattle.kp_bench.specs.Bench.{Benches}
 
 -- ---- outcomes
@@ -117,14 +116,10 @@ pub data StripsText (text : List ℕ) (o : Outcome) : Type 0 where
 abbrev pub failing_step : ℕ → ℕ → Option ℕ
 failing_step steps k = if k == steps then None else Some k
 
--- the answer is no, and the state from which the steps fail is printed, and where
-abbrev pub denies : Ground → List AtomId → Option ℕ → Lit → Outcome
-denies g state step l = record { status = status.Negative; puts = []; text = counterexample_text g.atoms state step l }
-
--- of so many steps: `yes` is printed, or the first initial state from which they fail, and where
+-- of so many steps: `yes` is printed; or the answer is no, and the first initial state from which they fail is printed, and where
 abbrev pub tells : Ground → ℕ → Judged → Outcome
 tells g steps Yes = prints (codes "yes\n")
-tells g steps (No state k l) = denies g state (failing_step steps k) l
+tells g steps (No state k l) = denies (counterexample_text g.atoms state (failing_step steps k) l)
 
 -- it is told of actions whether they succeed from each model
 pub record TellsJudged (g : Ground) (i : Initial) (numbers : List ℕ) (o : Outcome) : Type 0 where
@@ -142,14 +137,10 @@ ChecksTexts c domain problem plan o = Comes c.implicates domain problem (ChecksT
 
 -- ---- `lift`
 
--- the answer is no, and it is printed at which step a literal isn't known, or at the goal
-abbrev pub unlifted : Ground → Option ℕ → Lit → Outcome
-unlifted g step l = record { status = status.Negative; puts = []; text = unlifted_text g.atoms step l }
-
--- actions are lifted to this: the operators' names are printed, a line each; or where the first literal is that isn't known in its turn
+-- actions are lifted to this: the operators' names are printed, a line each; or the answer is no, and it is printed at which step a literal isn't known in its turn, or at the goal
 pub data LiftsActions (g : Ground) (table : TagTable) (numbers : List ℕ) (o : Outcome) : Type 0 where
   lifts : (steps : List Step) → IsAccepted g table steps (lift_of g table numbers) → o ≡ prints (plan_text steps) → LiftsActions g table numbers o
-  fails : (k : ℕ) (l : Lit) → UnliftedAt g table numbers k l → o ≡ unlifted g (failing_step (length numbers) k) l → LiftsActions g table numbers o
+  fails : (k : ℕ) (l : Lit) → UnliftedAt g table numbers k l → o ≡ denies (unlifted_text g.atoms (failing_step (length numbers) k) l) → LiftsActions g table numbers o
 
 -- a plan is lifted with a table to this: the refusal of the task, or of the plan; or its actions are lifted
 pub data LiftsPlan (g : Ground) (plan : List ℕ) (table : TagTable) (o : Outcome) : Type 0 where
@@ -189,7 +180,7 @@ ClassicalTexts c domain problem o = ComesClassical domain problem (ClassicalTree
 -- a report is told: the width is printed, and how each target is covered; or the answer is no, and the bound is printed, and the target that is over it
 abbrev pub tells_width : Ground → ℕ → WidthReport → Outcome
 tells_width g bound (Within rows) = prints (width_text g.atoms rows)
-tells_width g bound (Over target) = record { status = status.Negative; puts = []; text = over_text g.atoms bound target }
+tells_width g bound (Over target) = denies (over_text g.atoms bound target)
 
 -- a ground problem and its initial formula are measured to this: a refusal, or what is told of the report
 pub data MeasuresGround (bound : ℕ) (g : Ground) (i : Initial) (o : Outcome) : Type 0 where

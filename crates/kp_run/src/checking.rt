@@ -6,7 +6,9 @@ ghost use Rattle.kp_outside.specs.Outside.{IsFront, IsWithin};
 ghost use Rattle.kp_primes.specs.Held.{formula};
 ghost use Rattle.kp_prepared.specs.Prepared.{IsUsable};
 ghost use Rattle.kp_inputs.specs.Actions.{ComesByPlan};
-ghost use Rattle.kp_run.specs.Outcomes.{prints, denies, tells, TellsJudged, ChecksTexts};
+ghost use Rattle.kp_printed.specs.Counterexamples.{counterexample_text};
+ghost use Rattle.kp_solving.specs.Solving.{denies};
+ghost use Rattle.kp_run.specs.Outcomes.{prints, tells, TellsJudged, ChecksTexts};
 
 use crate::outcomes::{failing, print_text};
 use kp_base::{AtomId, Ground, Lit, Memory, Row};
@@ -34,7 +36,7 @@ fn tell_no(
     step: Option<u32>,
     literal: Lit,
 ) -> Result<Outcome, Memory>
-    ensures { IfOk result (λ o. o ≡ denies ground.now state.now step literal) }
+    ensures { IfOk result (λ o. o ≡ denies (counterexample_text ground.now.atoms state.now step literal)) }
 {
     let text = counterexample(alloc, ground.atoms.slice(), state, step, literal)?;
     Ok(Outcome {

@@ -8,6 +8,7 @@ ghost use Rattle.kp_words.specs.declared.lent.CommandRef.TheVariants as commands
 ghost use Rattle.kp_words.specs.Names.{Translate as Names, Lift as LiftNames, Solve as SolveNames, Classical as ClassicalNames, of_mode, of_file};
 ghost use Rattle.kp_words.specs.Command.{IsTranslate, IsLift, IsSolve, IsClassical, IsCommand, file_of, if_named, inputs_of};
 ghost use Rattle.kp_words.specs.Options.{IsWithin as IsOfRange};
+ghost use Rattle.kp_words.specs.Owned.{command_view};
 ghost use Rattle.kp_run.specs.Outcomes.{ComesTo, IsDue};
 ghost use Rattle.kp_run.specs.Sized.{IsSized};
 ghost use Rattle.kp_run.specs.Ends.{Ends};
@@ -30,8 +31,8 @@ use kp_inputs::Origin;
 use kp_outcome::{Outcome, Status, carry_out, read_inputs, stopped};
 use kp_outside::{Got, OutsideStop, Shelf, Sink};
 use kp_words::{
-    Bench, Check, Classical, CommandRef, Lift, Merges, Solve, SourceRef, Strip, Translate, Width,
-    WordStop, command,
+    Bench, Check, Classical, Command, CommandRef, Lift, Merges, Solve, SourceRef, Strip, Translate,
+    Width, WordStop, command,
 };
 use std::alloc::Global;
 
@@ -267,6 +268,24 @@ fn come_to<S: Shelf>(
     Ok(outcome_of(alloc, command, gots)?)
 }
 
+// The same of a command that owns its names, which is given up.
+fn come_to_owned<S: Shelf>(
+    alloc: Global,
+    command: Command,
+    shelf: &mut S,
+) -> Result<Outcome, OutsideStop>
+    requires { IsSized (command_view command) }
+    ensures comes_to { IfOk result (λ o. (texts : List (List ℕ)) × AreHeld (S.contents shelf.old) (inputs_of (command_view command)) texts × ComesTo (command_view command) texts o) }
+    ensures failed { IsErrOf result stops.Failed → GetFails (S.contents shelf.old) (inputs_of (command_view command)) (S.get_faults shelf.old) (S.get_faults shelf.new) }
+    ensures get_faults { result ≢ Err stops.Failed → (q : List ℕ) → S.get_faults shelf.new q ≡ S.get_faults shelf.old q }
+    ensures contents { S.contents shelf.new ≡ S.contents shelf.old }
+    ensures put_faults { (q : List ℕ) → S.put_faults shelf.new q ≡ S.put_faults shelf.old q }
+{
+    let outcome = come_to(alloc, &command.lend(), shelf);
+    drop(command);
+    outcome
+}
+
 // The outcome that is due. At `Err` a read failed, or memory ran out.
 fn due<S: Shelf>(alloc: Global, words: &[Vec<u8>], shelf: &mut S) -> Result<Outcome, OutsideStop>
     ensures due { IfOk result (IsDue words.now (S.contents shelf.old)) }
@@ -276,7 +295,7 @@ fn due<S: Shelf>(alloc: Global, words: &[Vec<u8>], shelf: &mut S) -> Result<Outc
     ensures put_faults { (q : List ℕ) → S.put_faults shelf.new q ≡ S.put_faults shelf.old q }
 {
     match command(alloc, words) {
-        Ok(command) => come_to(alloc, &command.lend(), shelf),
+        Ok(command) => come_to_owned(alloc, command, shelf),
         Err(WordStop::Usage) => Ok(usage_outcome(alloc)?),
         Err(WordStop::Memory) => Err(OutsideStop::Memory),
     }

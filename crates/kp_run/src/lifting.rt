@@ -1,7 +1,7 @@
 ghost use Rattle.std.specs.Prelude.{◌≡◌, ◌<◌, Some, List, ℕ, true, nat_lt, IfOk, length};
 ghost use Rattle.std.specs.List.{list_all};
 ghost use Rattle.kp_base.specs.declared.ground.Initial.{Initial as Formula};
-ghost use Rattle.kp_base.specs.Entailed.{IsTable, HaveSameModels};
+ghost use Rattle.kp_base.specs.Entailed.{HaveSameModels};
 ghost use Rattle.kp_outside.specs.Outside.{IsFront, IsWithin};
 ghost use Rattle.kp_primes.specs.Held.{formula};
 ghost use Rattle.kp_words.specs.Names.{Source};
@@ -11,7 +11,9 @@ ghost use Rattle.kp_inputs.specs.Actions.{ComesByPlan};
 ghost use Rattle.kp_task.specs.Task.{task_of};
 ghost use Rattle.kp_base.specs.Implicates.{IsOfItsAtoms};
 ghost use Rattle.kp_lift.specs.Lifting.{IsTableOn};
-ghost use Rattle.kp_run.specs.Outcomes.{LiftsActions, LiftsPlan, LiftsTexts, unlifted};
+ghost use Rattle.kp_printed.specs.Lifting.{unlifted_text};
+ghost use Rattle.kp_solving.specs.Solving.{denies};
+ghost use Rattle.kp_run.specs.Outcomes.{LiftsActions, LiftsPlan, LiftsTexts};
 ghost use Rattle.kp_run.specs.Tables.{PrintsOperators};
 
 use crate::outcomes::{failing, print_text};
@@ -35,7 +37,7 @@ fn tell_unlifted(
     step: Option<u32>,
     literal: Lit,
 ) -> Result<Outcome, Memory>
-    ensures { IfOk result (λ o. o ≡ unlifted ground.now step literal) }
+    ensures { IfOk result (λ o. o ≡ denies (unlifted_text ground.now.atoms step literal)) }
 {
     Ok(Outcome {
         status: Status::Negative,
@@ -97,6 +99,25 @@ fn lift_plan(
     }
 }
 
+// The same with the task, which is given up.
+fn lift_task(
+    alloc: Global,
+    ground: &Ground,
+    table: &TagTable,
+    task: Task,
+    plan: Got,
+) -> Result<Outcome, Memory>
+    requires within { IsWithin 16777216 plan }
+    requires ground { IsOfItsAtoms ground.now }
+    requires table { IsTableOn ground.now table.now }
+    requires task { task ≡ task_of ground.now table.now }
+    ensures { (text : List ℕ) → IsFront (Some text) 16777216 plan → IfOk result (ComesByPlan ground.now text (LiftsActions ground.now table.now)) }
+{
+    let outcome = lift_plan(alloc, ground, table, &task, plan);
+    drop(task);
+    outcome
+}
+
 // The same with a table of tags and merges, whose task may be refused.
 fn lift_with(alloc: Global, ground: &Ground, table: &TagTable, plan: Got) -> Result<Outcome, Memory>
     requires within { IsWithin 16777216 plan }
@@ -105,7 +126,7 @@ fn lift_with(alloc: Global, ground: &Ground, table: &TagTable, plan: Got) -> Res
     ensures { (text : List ℕ) → IsFront (Some text) 16777216 plan → IfOk result (LiftsPlan ground.now text table.now) }
 {
     match translate(alloc, ground, table, &Limits::usual()) {
-        Ok(task) => lift_plan(alloc, ground, table, &task, plan),
+        Ok(task) => lift_task(alloc, ground, table, task, plan),
         Err(Stop::Refused(refused)) => refuse(alloc, refused),
         Err(Stop::Memory) => Err(Memory),
     }

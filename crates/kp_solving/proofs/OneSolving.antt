@@ -27,7 +27,7 @@ use Rattle.kp_prepared.specs.Refusing.{refuses}
 use Rattle.kp_prepared.specs.Prepared.{usual}
 use Rattle.kp_inputs.proofs.OnePlan.{some_alike}
 use Rattle.kp_inputs.proofs.Tasks.{task_once, task_or_within}
-use Rattle.kp_solving.specs.Solving.{solves, finds_none, AreNamed, TellsSolved, SolvesGround, over, searched, TellsClassical, SolvesClassical}
+use Rattle.kp_solving.specs.Solving.{solves, denies, AreNamed, TellsSolved, SolvesGround, over, searched, TellsClassical, SolvesClassical}
 use Rattle.kp_solving.specs.Laws.{SolvingsHaveOneOutcome, ClassicalSolvingsHaveOneOutcome}
 use Rattle.kp_search.proofs.ByAdded.{one_end_by_added}
 
@@ -82,7 +82,7 @@ told_once : (name : Option (List ℕ)) (g : Ground) (i : Initial) (table : TagTa
 told_once name g i table (Plan ops n) o u a b =
     let same = names_once g table ops a.0 b.0 a.1 b.1 a.2 b.2 in
     a.3 ∙ (ap (λ w. solves name w a.1) same.0 ∙ (ap (solves name b.0) same.1 ∙ sym b.3))
-told_once name g i table NoPlan o u a b = a.2 ∙ (ap (λ ls. finds_none (no_plan_text ls)) (one_uncovered g i table a.0 b.0 a.1 b.1) ∙ sym b.2)
+told_once name g i table NoPlan o u a b = a.2 ∙ (ap (λ ls. denies (no_plan_text ls)) (one_uncovered g i table a.0 b.0 a.1 b.1) ∙ sym b.2)
 told_once name g i table (Spent n) o u a b = a ∙ sym b
 
 pub ground_once : SolvingsHaveOneOutcome

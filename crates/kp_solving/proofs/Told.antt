@@ -19,7 +19,7 @@ use Rattle.kp_printed.specs.Refusals.{nothing}
 use Rattle.kp_outcome.specs.declared.outcome.Outcome.{Outcome}
 use Rattle.kp_prepared.specs.Refusing.{refuses}
 use Rattle.kp_prepared.specs.Prepared.{usual}
-use Rattle.kp_solving.specs.Solving.{Finds, solves, finds_none, AreNamed, TellsSolved, TellsClassical, SolvesGround, over, searched, SolvesClassical}
+use Rattle.kp_solving.specs.Solving.{Finds, solves, denies, AreNamed, TellsSolved, TellsClassical, SolvesGround, over, searched, SolvesClassical}
 
 -- a task is refused
 pub task_refused : (name : Option (List ℕ)) (budget : ℕ) (g : Ground) (i : Initial) (table : TagTable) (x : Refused) (r : Result Outcome Memory) → RefusesTask (task_of g table) usual x → IfOk r (λ o. o ≡ refuses nothing x) → IfOk r (SolvesGround name budget g i table)
@@ -44,7 +44,7 @@ told_actions g ops n plan (Ok o) names is = (plan, names, is)
 told_actions g ops n plan (Err m) names is = tt
 
 -- that there is none
-pub told_none : (name : Option (List ℕ)) (g : Ground) (i : Initial) (table : TagTable) (ls : List Lit) (r : Result Outcome Memory) → AreUncovered g i table ls → IfOk r (λ o. o ≡ finds_none (no_plan_text ls)) → IfOk r (TellsSolved name g i table NoPlan)
+pub told_none : (name : Option (List ℕ)) (g : Ground) (i : Initial) (table : TagTable) (ls : List Lit) (r : Result Outcome Memory) → AreUncovered g i table ls → IfOk r (λ o. o ≡ denies (no_plan_text ls)) → IfOk r (TellsSolved name g i table NoPlan)
 told_none name g i table ls (Ok o) are is = (ls, are, is)
 told_none name g i table ls (Err m) are is = tt
 

@@ -39,9 +39,9 @@ Finds t budget found = HasEnd t (by_added t) budget found
 abbrev pub solves : Option (List ℕ) → List Step → List Step → Outcome
 solves name written plan = record { status = status.Done; puts = map (λ n. record { name = n; content = plan_text written }) (if_named name); text = plan_text plan }
 
--- the answer is no
-abbrev pub finds_none : List ℕ → Outcome
-finds_none text = record { status = status.Negative; puts = []; text = text }
+-- the answer is no, and a text is printed
+abbrev pub denies : List ℕ → Outcome
+denies text = record { status = status.Negative; puts = []; text = text }
 
 -- the budget is spent, so many states having been expanded
 abbrev pub spends : ℕ → Outcome
@@ -59,7 +59,7 @@ pub record AreNamed (g : Ground) (table : TagTable) (ops : List ℕ) (written pl
 -- what is told of what is found in that task: the actions of the plan, with all its steps put where a name is given; that there is none, and whether the table is complete; or that the budget is spent
 abbrev pub TellsSolved : Option (List ℕ) → Ground → Initial → TagTable → Found → Outcome → Type 0
 TellsSolved name g i table (Plan ops n) o = (written : List Step) × (plan : List Step) × AreNamed g table ops written plan × (o ≡ solves name written plan)
-TellsSolved name g i table NoPlan o = (uncovered : List Lit) × AreUncovered g i table uncovered × (o ≡ finds_none (no_plan_text uncovered))
+TellsSolved name g i table NoPlan o = (uncovered : List Lit) × AreUncovered g i table uncovered × (o ≡ denies (no_plan_text uncovered))
 TellsSolved name g i table (Spent n) o = o ≡ spends n
 
 -- a ground problem with a table is solved to this: the refusal of its task; or what is told of what the search finds
@@ -72,7 +72,7 @@ pub data SolvesGround (name : Option (List ℕ)) (budget : ℕ) (g : Ground) (i 
 -- what is told of what is found in the task of a ground problem with one initial state, whose operators are the actions
 abbrev pub TellsClassical : Ground → Found → Outcome → Type 0
 TellsClassical g (Plan ops n) o = (plan : List Step) × (map (name_at g) ops ≡ map Some plan) × (o ≡ solves None plan plan)
-TellsClassical g NoPlan o = o ≡ finds_none no_plan_line
+TellsClassical g NoPlan o = o ≡ denies no_plan_line
 TellsClassical g (Spent n) o = o ≡ spends n
 
 -- a task of a ground problem is solved to this

@@ -11,7 +11,7 @@ ghost use Rattle.kp_words.specs.Command.{if_named};
 ghost use Rattle.kp_prepared.specs.Prepared.{IsUsable};
 ghost use Rattle.kp_search.specs.declared.found.Found.TheVariants as ends;
 ghost use Rattle.kp_solving.specs.Operators.{IsInside};
-ghost use Rattle.kp_solving.specs.Solving.{solves, finds_none, spends, TellsSolved, TellsClassical, AreNamed};
+ghost use Rattle.kp_solving.specs.Solving.{solves, denies, spends, TellsSolved, TellsClassical, AreNamed};
 
 use crate::names::actions_among;
 use kp_base::{Ground, GroundName, Memory, Row, TagTable, Text};
@@ -64,7 +64,7 @@ fn tell_plan(
 
 // The answer is no.
 fn tell_none(alloc: Global, text: Row<u8>) -> Outcome
-    ensures { result ≡ finds_none text }
+    ensures { result ≡ denies text }
 {
     Outcome {
         status: Status::Negative,

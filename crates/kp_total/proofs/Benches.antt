@@ -41,14 +41,12 @@ use Rattle.kp_outcome.specs.declared.status.Status.{Status}
 use Rattle.kp_outcome.specs.declared.status.Status.TheVariants as status
 use Rattle.kp_outcome.specs.Ends.{Outside, IsAnswer}
 use Rattle.kp_words.specs.Names.{of_mode, Bench}
-use Rattle.kp_words.specs.declared.lent.CommandRef.{CommandRef as Command}
 use Rattle.kp_words.specs.declared.lent.CommandRef.TheVariants as commands
 use Rattle.kp_words.specs.Command.{IsBench}
-use Rattle.kp_words.proofs.OneCommand.{one_command}
 use Rattle.kp_prepared.specs.Prepared.{by_texts, by_trees, early, later}
 use Rattle.kp_inputs.specs.Tables.{no_table, with_table}
 use Rattle.kp_inputs.proofs.TablesFor.{table_for}
-use Rattle.kp_solving.specs.Solving.{Finds, finds_none, spends}
+use Rattle.kp_solving.specs.Solving.{Finds, denies, spends}
 use Rattle.kp_solving.proofs.Searches.{ends_true}
 use Rattle.kp_solving.proofs.Plans.{named_accepted, none_accepted}
 use Rattle.kp_solving.specs.Operators.{acts_among}
@@ -56,12 +54,13 @@ use Rattle.kp_solving.proofs.Operators.{steps_named, acts_named, are_named}
 use Rattle.kp_bench.specs.Summary.{summary_text}
 use Rattle.kp_bench.proofs.OneBench.{actions_of}
 use Rattle.kp_bench.specs.Bench.{texts_of, usual_implicates, sums_up, SumsUp, TellsBench, over, searched as by_search, Benches}
-use Rattle.kp_run.specs.Outcomes.{ComesTo, translated, merged, stripped as stripped_to, checked, lifted, solved, searched, measured, benched, IsDue, usage, of_command}
+use Rattle.kp_run.specs.Outcomes.{benched, IsDue, of_command}
 use Rattle.kp_run.specs.Ends.{Ends}
 use Rattle.kp_run.specs.Solved.{Tells}
+use Rattle.kp_run.proofs.Comes.{due_makes}
 use Rattle.kp_run.proofs.Fitting.{task_fits}
 use Rattle.kp_run.proofs.Solved.{proper, complete_text}
-use Rattle.kp_run.proofs.Soundness.{problem_of}
+use Rattle.kp_prepared.proofs.Problems.{problem_of}
 use Rattle.kp_run.proofs.Whole.{IsNoRefusal, not_refused}
 use Rattle.kp_total.specs.Follows.{IsAnsweredBy}
 use Rattle.kp_total.specs.Benching.{IsPosedBench, its_ground, its_formula, its_task, IsWrittenPlan, IsSolvedBench, HasNoBenchPlan, IsSpentBench, BenchesAreTrue, BenchesAreAnswered}
@@ -93,19 +92,7 @@ of_texts c o answers (later d p trees ready (with_table table has (by_search fou
 }
 
 has_benched : (words : List (Vec ℕ Global)) (held : Option FileMap) (c : Bench) (o : Outcome) → IsBench words c → IsDue words held o → IsNoRefusal o → HasBenched c o
-has_benched words held c _ is (usage none) answers = absurd (none (commands.Bench c) is)
-has_benched words held c o is (of_command e texts _ so _ comes) answers = by e texts (one_command words (commands.Bench c) e is so) comes
-  where
-    by : (e : Command) (texts : List (List ℕ)) → commands.Bench c ≡ e → ComesTo e texts o → HasBenched c o
-    by _ _ same (translated d x y merges _ a) = absurd cc
-    by _ _ same (merged d x y _ a) = absurd cc
-    by _ _ same (stripped_to d x _ a) = absurd cc
-    by _ _ same (checked d x y plan _ a) = absurd cc
-    by _ _ same (lifted d x y merges plan _ a) = absurd cc
-    by _ _ same (solved d x y merges _ a) = absurd cc
-    by _ _ same (searched d x y _ a) = absurd cc
-    by _ _ same (measured d x y _ a) = absurd cc
-    by _ _ same (benched d _ a) = let it : d ≡ c = cc in of_texts c o answers (subst (λ z. Benches z o) it a)
+has_benched words held c o is due answers = let it = due_makes words held (commands.Bench c) o is due in of_texts c o answers it.makes.1
 
 -- ---- what its answer says
 
@@ -188,7 +175,7 @@ module _ (c : Bench) (o : Outcome) (x : HasBenched c o) (old new : Outside) (s :
             told = subst (λ k. Tells old new (summary_text c ground table sums.uncovered k n)) (sym many) b.text_is;
             put = b.puts_are;
           }
-      by NoPlan finds (ls, are, is) = absurd (let b = answered (finds_none (no_plan_text ls)) is in let not_done = sym b.status_is ∙ done in cc)
+      by NoPlan finds (ls, are, is) = absurd (let b = answered (denies (no_plan_text ls)) is in let not_done = sym b.status_is ∙ done in cc)
       by (Spent n) finds is = absurd (let b = answered (spends n) is in let not_done = sym b.status_is ∙ done in cc)
 
   has_none : s ≡ status.Negative → HasNoBenchPlan c old new
@@ -197,7 +184,7 @@ module _ (c : Bench) (o : Outcome) (x : HasBenched c o) (old new : Outside) (s :
       by : (found : Found) → Finds task c.budget found → TellsBench c ground formula table found o → HasNoBenchPlan c old new
       by (Plan ops n) finds sums = absurd (let b = answered (sums_up (summary_text c ground table sums.uncovered (length (stripped sums.machine)) n)) sums.told in let not_no = sym b.status_is ∙ negative in cc)
       by NoPlan finds (ls, are, is) =
-          let b = answered (finds_none (no_plan_text ls)) is in
+          let b = answered (denies (no_plan_text ls)) is in
           let none = ends_true task c.budget NoPlan fit finds in
           let exact = complete_text ground formula table ls fine are in
           record {
@@ -219,7 +206,7 @@ module _ (c : Bench) (o : Outcome) (x : HasBenched c o) (old new : Outside) (s :
     where
       by : (found : Found) → Finds task c.budget found → TellsBench c ground formula table found o → IsSpentBench c old new
       by (Plan ops n) finds sums = absurd (let b = answered (sums_up (summary_text c ground table sums.uncovered (length (stripped sums.machine)) n)) sums.told in let not_spent = sym b.status_is ∙ spent in cc)
-      by NoPlan finds (ls, are, is) = absurd (let b = answered (finds_none (no_plan_text ls)) is in let not_spent = sym b.status_is ∙ spent in cc)
+      by NoPlan finds (ls, are, is) = absurd (let b = answered (denies (no_plan_text ls)) is in let not_spent = sym b.status_is ∙ spent in cc)
       by (Spent n) finds is =
           let b = subst (λ k. IsAnsweredBy (spends k) old new s) finds.expanded_are (answered (spends n) is) in
           record { posed = x.posed; ended = subst (λ k. Finds task c.budget (Spent k)) finds.expanded_are finds; more = ends_true task c.budget (Spent n) fit finds; told = b.text_is; put = b.puts_are }

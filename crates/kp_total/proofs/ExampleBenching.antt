@@ -63,7 +63,7 @@ use Rattle.kp_words.proofs.Examples.{word}
 use Rattle.kp_prepared.specs.Texts.{HaveTrees}
 use Rattle.kp_prepared.specs.Prepared.{usual, IsPrepared, later}
 use Rattle.kp_inputs.specs.Tables.{by_mode, with_table}
-use Rattle.kp_solving.specs.Solving.{Finds, finds_none}
+use Rattle.kp_solving.specs.Solving.{Finds, denies}
 use Rattle.kp_bench.specs.Bench.{Benches, searched as by_search}
 use Rattle.kp_run.specs.Outcomes.{benched, of_command}
 use Rattle.kp_run.specs.Ends.{Ends, came}
@@ -336,7 +336,7 @@ one_uncovered = record { exact = λ l. (there l, λ t. inl (only_target l t.0));
 -- ---- the run
 
 abbrev no_plan : Outcome
-no_plan = finds_none (no_plan_text (positive 0 ∷ []))
+no_plan = denies (no_plan_text (positive 0 ∷ []))
 
 benches : Benches running no_plan
 benches = later cells_tree two_tree trees prepared (with_table table (by_mode modes.K0 table (empty_tag_made cells_tree two_tree)) (by_search NoPlan (empty_tags_fit cells_tree two_tree prepared.started.small) found_none (positive 0 ∷ [], one_uncovered, refl)))

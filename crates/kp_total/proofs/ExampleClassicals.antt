@@ -33,7 +33,7 @@ use Rattle.kp_words.specs.Command.{IsClassical as SaysClassical}
 use Rattle.kp_words.proofs.Examples.{word}
 use Rattle.kp_prepared.specs.Texts.{HaveTrees}
 use Rattle.kp_classical.specs.Classical.{IsClassical, later, task_of}
-use Rattle.kp_solving.specs.Solving.{Finds, solves, finds_none, spends, TellsClassical}
+use Rattle.kp_solving.specs.Solving.{Finds, solves, denies, spends, TellsClassical}
 use Rattle.kp_printed.specs.Searches.{no_plan_line}
 use Rattle.kp_run.specs.Outcomes.{ClassicalTexts, searched, of_command}
 use Rattle.kp_run.specs.Ends.{Ends, came}
@@ -162,7 +162,7 @@ found_none : Finds keeping 10000 NoPlan
 found_none = let here = reaching keeping keeping_fits (first keeping) 1 both_cost in without_plan keeping 10000 (omega arith) refl refl refl here.0 here.1 p_lost
 
 ends_with_none : Ends (front []) (before exchange to_both) (after exchange to_both no_plan_line) status.Negative
-ends_with_none = ends (front []) 10000 is_plain exchange to_both (finds_none no_plan_line) refl (comes_to exchange to_both exchange_tree to_both_tree both_trees both_classical 10000 NoPlan (finds_none no_plan_line) found_none refl)
+ends_with_none = ends (front []) 10000 is_plain exchange to_both (denies no_plan_line) refl (comes_to exchange to_both exchange_tree to_both_tree both_trees both_classical 10000 NoPlan (denies no_plan_line) found_none refl)
 
 has_no_plan : HasNoClassicalPlan (holding exchange to_both) (solving 10000) (before exchange to_both) (after exchange to_both no_plan_line)
 has_no_plan = no_classical_plan_is_true (front []) _ _ status.Negative ends_with_none (holding exchange to_both) (solving 10000) refl is_plain refl

@@ -27,7 +27,6 @@ use Rattle.kp_meaning.specs.Names.{same}
 use Rattle.kp_meaning.specs.Numbering.{numbered_problem}
 use Rattle.kp_meaning.specs.Steps.{Step}
 use Rattle.kp_meaning.specs.Plans.{HasProblem, IsPlan}
-use Rattle.kp_meaning.proofs.Texts.{has_problem}
 use Rattle.kp_plans.specs.Grammar.{plan}
 use Rattle.kp_plans.specs.PlanFiles.{step_of, IsPlanOf}
 use Rattle.kp_given.specs.Translations.{ground_of, initial_of}
@@ -37,7 +36,7 @@ use Rattle.kp_outcome.specs.declared.outcome.Outcome.{Outcome}
 use Rattle.kp_outcome.specs.declared.status.Status.TheVariants as status
 use Rattle.kp_outcome.specs.Ends.{Outside, whole}
 use Rattle.kp_words.specs.Names.{of_mode, Lift}
-use Rattle.kp_prepared.specs.Texts.{HaveTrees}
+use Rattle.kp_prepared.proofs.Problems.{problem_of}
 use Rattle.kp_prepared.specs.Prepared.{IsStarted, later}
 use Rattle.kp_inputs.specs.Tables.{by_mode, with_table}
 use Rattle.kp_run.specs.Outcomes.{translates, done, TranslatesTexts}
@@ -46,15 +45,13 @@ use Rattle.kp_run.specs.Completeness.{RanComplete, IsOfTheSame, HoldsPlan}
 use Rattle.kp_run.proofs.Counted.{empty_tags_fit}
 use Rattle.kp_run.proofs.CompleteText.{complete_told}
 use Rattle.kp_run.proofs.EmptyTags.{empty_tag_made, nothing_uncovered}
-use Rattle.kp_run.proofs.ExampleOutcomes.{with_limit, limited, is_limited, holding, due_with, is_small, domain_reads, problem_reads, only_p, has_state, closed_q, unconditional}
+use Rattle.kp_run.proofs.ExampleOutcomes.{with_limit, limited, is_limited, holding, due_with, is_small, only_p, has_state, closed_q, unconditional}
 use Rattle.kp_run.proofs.Soundness.{at_last, under_another}
 use Rattle.kp_run.specs.Solved.{GoesOn}
 use Rattle.kp_total.specs.Commands.{HasLift}
+use Rattle.kp_total.proofs.ExampleFiles.{trees}
 
 -- ---- a translation with a limit of one prime implicate
-
-trees : HaveTrees exchange from_p_to_q exchange_tree from_p_to_q_tree
-trees = record { domain_reads = domain_reads; problem_reads = problem_reads; no_fault = record { domain = refl; problem = refl } }
 
 abbrev from_p : Initial
 from_p = initial_of exchange_tree from_p_to_q_tree
@@ -151,11 +148,10 @@ unfolding cut_from class_of symbol_of some_at next_at
 reads = record { tree = plan_words; are = refl; reads = reads_as plan plan_file (tokens plan_file) plan_words refl refl }
 
 exchange_problem : HasProblem exchange from_p_to_q
-unfolding cut_from class_of symbol_of some_at next_at
-exchange_problem = has_problem exchange from_p_to_q (record { domain_cut = refl; problem_cut = refl; domain_read = refl; problem_read = refl; domain_faults = refl; problem_faults = refl })
+exchange_problem = problem_of exchange from_p_to_q exchange_tree from_p_to_q_tree trees
 
 is_plan : IsPlan exchange from_p_to_q (a ∷ [])
-unfolding cut_from class_of symbol_of some_at next_at exchange_problem
+unfolding exchange_problem
 is_plan = record { has = exchange_problem; solves = record { instances = refl; reaches = λ s i. i.items } }
 
 first_held : get before (codes "d") ≡ Some exchange

@@ -78,7 +78,7 @@ use Rattle.kp_run.specs.Outcomes.{benched, of_command}
 use Rattle.kp_run.specs.Ends.{Ends, came}
 use Rattle.kp_run.proofs.Fitting.{task_fits}
 use Rattle.kp_run.proofs.Solved.{proper}
-use Rattle.kp_run.proofs.Soundness.{problem_of}
+use Rattle.kp_prepared.proofs.Problems.{problem_of}
 use Rattle.kp_total.specs.Benching.{IsSolvedBench}
 use Rattle.kp_total.proofs.Benches.{benches_are_true}
 use Rattle.kp_total.proofs.ExampleCourses.{leading}

@@ -40,14 +40,15 @@ use Rattle.kp_prepared.specs.Texts.{HaveTrees}
 use Rattle.kp_prepared.specs.Prepared.{IsPrepared, later}
 use Rattle.kp_inputs.specs.Tables.{HasTable, by_mode, with_table}
 use Rattle.kp_inputs.proofs.TablesFor.{table_for}
-use Rattle.kp_solving.specs.Solving.{Finds, solves, finds_none, spends, AreNamed, TellsSolved, searched}
+use Rattle.kp_solving.specs.Solving.{Finds, solves, denies, spends, AreNamed, TellsSolved, searched}
 use Rattle.kp_printed.specs.Searches.{no_plan_text}
 use Rattle.kp_run.specs.Outcomes.{SolvesTexts, solved, of_command}
 use Rattle.kp_run.specs.Ends.{Ends, came}
 use Rattle.kp_run.proofs.Counted.{empty_tags_fit}
 use Rattle.kp_run.proofs.EmptyTags.{empty_tag_made, nothing_uncovered}
 use Rattle.kp_run.proofs.ExampleOutcomes.{holding, unconditional}
-use Rattle.kp_run.proofs.Soundness.{at_last, under_another, problem_of}
+use Rattle.kp_prepared.proofs.Problems.{problem_of}
+use Rattle.kp_run.proofs.Soundness.{at_last, under_another}
 use Rattle.kp_run.specs.Solved.{IsSolved, HasNoPlan, IsSpent}
 use Rattle.kp_run.proofs.Fitting.{task_fits}
 use Rattle.kp_total.proofs.Solvings.{solved_is_a_plan, no_plan_is_true, spent_is_true}
@@ -214,7 +215,7 @@ found_none : Finds keeping 10000 NoPlan
 found_none = let here = reaching keeping keeping_fits (first keeping) 1 both_cost in without_plan keeping 10000 (omega arith) refl refl refl here.0 here.1 p_lost
 
 abbrev no_plan : Outcome
-no_plan = finds_none (no_plan_text [])
+no_plan = denies (no_plan_text [])
 
 ends_with_none : Ends plain (before exchange to_both) (after exchange to_both no_plan) status.Negative
 ends_with_none =

@@ -27,15 +27,14 @@ use Rattle.kp_outcome.specs.declared.status.Status.TheVariants as status
 use Rattle.kp_outcome.specs.Ends.{Outside, IsAnswer, AreHeld}
 use Rattle.kp_printed.specs.Refusals.{nothing}
 use Rattle.kp_words.specs.Names.{Width}
-use Rattle.kp_words.specs.declared.lent.CommandRef.{CommandRef as Command}
 use Rattle.kp_words.specs.declared.lent.CommandRef.TheVariants as commands
 use Rattle.kp_words.specs.Command.{IsWidth, inputs_of}
-use Rattle.kp_words.proofs.OneCommand.{one_command}
 use Rattle.kp_prepared.specs.Refusing.{named_in}
 use Rattle.kp_prepared.specs.Prepared.{usual, by_texts, by_trees, early, later}
-use Rattle.kp_run.specs.Outcomes.{tells_width, MeasuresTexts, no_report, with_report, ComesTo, translated, merged, stripped, checked, lifted, solved, searched, measured, benched, IsDue, usage, of_command}
+use Rattle.kp_run.specs.Outcomes.{tells_width, MeasuresTexts, no_report, with_report, measured, IsDue, of_command}
 use Rattle.kp_run.specs.Ends.{Ends}
 use Rattle.kp_run.specs.Solved.{GoesOn}
+use Rattle.kp_run.proofs.Comes.{due_makes}
 use Rattle.kp_run.proofs.Whole.{IsCarriedOut, did, IsNoRefusal, not_refused}
 use Rattle.kp_total.specs.Measuring.{WidthsAreAnswered, AreRight, IsTargeted, IsMeasured, IsTooWide, WidthsAreTrue}
 use Rattle.kp_total.proofs.Following.{ends_with}
@@ -91,22 +90,11 @@ of_texts m c domain problem first second o answers (later d p trees ready (with_
 }
 
 has_report : (words : List (Vec ℕ Global)) (m : FileMap) (c : Width) (o : Outcome) → IsWidth words c → IsDue words (Some m) o → IsNoRefusal o → HasReport m c o
-has_report words m c _ is (usage none) answers = absurd (none (commands.Width c) is)
-has_report words m c o is (of_command e texts _ so held comes) answers = by e texts (one_command words (commands.Width c) e is so) held comes
-  where
-    by : (e : Command) (texts : List (List ℕ)) → commands.Width c ≡ e → AreHeld (Some m) (inputs_of e) texts → ComesTo e texts o → HasReport m c o
-    by _ _ same held (translated d x y merges _ a) = absurd cc
-    by _ _ same held (merged d x y _ a) = absurd cc
-    by _ _ same held (stripped d x _ a) = absurd cc
-    by _ _ same held (checked d x y plan _ a) = absurd cc
-    by _ _ same held (lifted d x y merges plan _ a) = absurd cc
-    by _ _ same held (solved d x y merges _ a) = absurd cc
-    by _ _ same held (searched d x y _ a) = absurd cc
-    by _ _ same held (benched d _ a) = absurd cc
-    by _ _ same held (measured d x y _ a) =
-        let it : d ≡ c = cc in
-        let there = subst (λ z. AreHeld (Some m) (inputs_of (commands.Width z)) (x ∷ y ∷ [])) it held in
-        of_texts m c x y (cc there) (cc there) o answers (subst (λ z. MeasuresTexts z x y o) it a)
+has_report words m c o is due answers =
+    let it = due_makes words (Some m) (commands.Width c) o is due in
+    let made = it.makes in
+    let there : AreHeld (Some m) (inputs_of (commands.Width c)) (made.0 ∷ made.1 ∷ []) = subst (AreHeld (Some m) (inputs_of (commands.Width c))) made.2 it.are_held in
+    of_texts m c made.0 made.1 (cc there) (cc there) o answers made.3
 
 module _ (m : FileMap) (c : Width) (o : Outcome) (x : HasReport m c o) (old new : Outside) (s : Status) (a : IsCarriedOut o old new s) where
   abbrev ground : Ground

@@ -44,7 +44,7 @@ use Rattle.kp_inputs.specs.Actions.{with_actions}
 use Rattle.kp_inputs.proofs.Ended.{found_below, as_many_numbers}
 use Rattle.kp_run.specs.Completeness.{PrintsComplete}
 use Rattle.kp_run.proofs.CompleteText.{none_uncovered as none_told, complete_told}
-use Rattle.kp_run.proofs.Soundness.{problem_of}
+use Rattle.kp_prepared.proofs.Problems.{problem_of}
 use Rattle.kp_run.specs.Solved.{GoesOn}
 use Rattle.kp_run.proofs.Solved.{proper}
 use Rattle.kp_total.specs.Commands.{HasTranslation, TranslationsAreAnswered, CompleteIsTrue, MergesAreListed, ClashesAreAnswered, HasVerdict, ChecksAreAnswered, ChecksAreTrue, HasLift, LiftsAreAnswered, LiftsAreTrue, StripsAreAnswered}

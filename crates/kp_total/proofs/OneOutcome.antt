@@ -21,9 +21,9 @@ use Rattle.kp_classical.specs.Classical.{task_of as classical_task}
 use Rattle.kp_classical.proofs.OneStart.{comes_once as comes_classical_once}
 use Rattle.kp_solving.specs.Solving.{SolvesGround}
 use Rattle.kp_solving.proofs.OneSolving.{ground_once, classical_once as one_classical}
-use Rattle.kp_run.specs.Outcomes.{TranslatesGround, TranslatesTrees, TranslatesTexts, ListsMerges, MergesTrees, MergesTexts, StripsText, TellsJudged, ChecksTrees, ChecksTexts, LiftsPlan, LiftsTrees, LiftsTexts, SolvesTrees, SolvesTexts, ClassicalTrees, ClassicalTexts, tells_width, MeasuresGround, no_report, with_report, MeasuresTrees, MeasuresTexts, ComesTo, translated, merged, stripped, checked, lifted, solved, searched, measured, benched, usage, of_command}
-use Rattle.kp_bench.specs.Bench.{Benches}
+use Rattle.kp_run.specs.Outcomes.{TranslatesGround, TranslatesTrees, TranslatesTexts, ListsMerges, MergesTrees, MergesTexts, StripsText, TellsJudged, ChecksTrees, ChecksTexts, LiftsPlan, LiftsTrees, LiftsTexts, SolvesTrees, SolvesTexts, ClassicalTrees, ClassicalTexts, tells_width, MeasuresGround, no_report, with_report, MeasuresTrees, MeasuresTexts, ComesTo, usage, of_command}
 use Rattle.kp_bench.proofs.OneBench.{benches_once}
+use Rattle.kp_run.proofs.Comes.{MakesOf, makes_of}
 use Rattle.kp_run.proofs.Files.{last_once}
 use Rattle.kp_total.specs.Laws.{HasOneOutcome}
 use Rattle.kp_total.proofs.OneTranslation.{table_once, verdicts_once, lifts_once}
@@ -58,148 +58,52 @@ ground_measured_once bound g i o u (with_report x a e) (with_report y b f) = e �
 measured_once : (c : Width) (x y : List ℕ) (o u : Outcome) → MeasuresTexts c x y o → MeasuresTexts c x y u → o ≡ u
 measured_once c x y = comes_once c.implicates x y (MeasuresTrees c) (λ d p o u w. ground_measured_once c.bound (ground_of d p) (initial_of d p) o u)
 
-outcome_once : (c : Command) (texts : List (List ℕ)) (o u : Outcome) → ComesTo c texts o → ComesTo c texts u → o ≡ u
-outcome_once _ _ o u (translated c x y merges _ a) b = go _ _ u b refl refl
-  where
-    go : (e : Command) (texts : List (List ℕ)) (u : Outcome) → ComesTo e texts u → e ≡ commands.Translate c → texts ≡ x ∷ y ∷ merges → o ≡ u
-    go _ _ u (translated d v w more _ b) same at =
-        let command : d ≡ c = cc in
-        let first : v ≡ x = cc in
-        let second : w ≡ y = cc in
-        let others : more ≡ merges = cc in
-        texts_once c x y merges o u a (subst (λ t. TranslatesTexts c x y t u) others (subst (λ t. TranslatesTexts c x t more u) second (subst (λ t. TranslatesTexts c t w more u) first (subst (λ z. TranslatesTexts z v w more u) command b))))
-    go _ _ u (merged d v w _ b) same at = absurd cc
-    go _ _ u (stripped d v _ b) same at = absurd cc
-    go _ _ u (checked d v w t _ b) same at = absurd cc
-    go _ _ u (lifted d v w more t _ b) same at = absurd cc
-    go _ _ u (solved d v w more _ b) same at = absurd cc
-    go _ _ u (searched d v w _ b) same at = absurd cc
-    go _ _ u (measured d v w _ b) same at = absurd cc
-    go _ _ u (benched d _ b) same at = absurd cc
-outcome_once _ _ o u (merged c x y _ a) b = go _ _ u b refl refl
-  where
-    go : (e : Command) (texts : List (List ℕ)) (u : Outcome) → ComesTo e texts u → e ≡ commands.Merges c → texts ≡ x ∷ y ∷ [] → o ≡ u
-    go _ _ u (translated d v w more _ b) same at = absurd cc
-    go _ _ u (merged d v w _ b) same at =
-        let command : d ≡ c = cc in
-        let first : v ≡ x = cc in
-        let second : w ≡ y = cc in
-        listed_once c x y o u a (subst (λ t. MergesTexts c x t u) second (subst (λ t. MergesTexts c t w u) first (subst (λ z. MergesTexts z v w u) command b)))
-    go _ _ u (stripped d v _ b) same at = absurd cc
-    go _ _ u (checked d v w t _ b) same at = absurd cc
-    go _ _ u (lifted d v w more t _ b) same at = absurd cc
-    go _ _ u (solved d v w more _ b) same at = absurd cc
-    go _ _ u (searched d v w _ b) same at = absurd cc
-    go _ _ u (measured d v w _ b) same at = absurd cc
-    go _ _ u (benched d _ b) same at = absurd cc
-outcome_once _ _ o u (stripped c x _ a) b = go _ _ u b refl refl
-  where
-    go : (e : Command) (texts : List (List ℕ)) (u : Outcome) → ComesTo e texts u → e ≡ commands.Strip c → texts ≡ x ∷ [] → o ≡ u
-    go _ _ u (translated d v w more _ b) same at = absurd cc
-    go _ _ u (merged d v w _ b) same at = absurd cc
-    go _ _ u (stripped d v _ b) same at = let first : v ≡ x = cc in strips_once x o u a (subst (λ t. StripsText t u) first b)
-    go _ _ u (checked d v w t _ b) same at = absurd cc
-    go _ _ u (lifted d v w more t _ b) same at = absurd cc
-    go _ _ u (solved d v w more _ b) same at = absurd cc
-    go _ _ u (searched d v w _ b) same at = absurd cc
-    go _ _ u (measured d v w _ b) same at = absurd cc
-    go _ _ u (benched d _ b) same at = absurd cc
-outcome_once _ _ o u (checked c x y plan _ a) b = go _ _ u b refl refl
-  where
-    go : (e : Command) (texts : List (List ℕ)) (u : Outcome) → ComesTo e texts u → e ≡ commands.Check c → texts ≡ x ∷ y ∷ plan ∷ [] → o ≡ u
-    go _ _ u (translated d v w more _ b) same at = absurd cc
-    go _ _ u (merged d v w _ b) same at = absurd cc
-    go _ _ u (stripped d v _ b) same at = absurd cc
-    go _ _ u (checked d v w t _ b) same at =
-        let command : d ≡ c = cc in
-        let first : v ≡ x = cc in
-        let second : w ≡ y = cc in
-        let third : t ≡ plan = cc in
-        plans_once c x y plan o u a (subst (λ z. ChecksTexts c x y z u) third (subst (λ z. ChecksTexts c x z t u) second (subst (λ z. ChecksTexts c z w t u) first (subst (λ z. ChecksTexts z v w t u) command b))))
-    go _ _ u (lifted d v w more t _ b) same at = absurd cc
-    go _ _ u (solved d v w more _ b) same at = absurd cc
-    go _ _ u (searched d v w _ b) same at = absurd cc
-    go _ _ u (measured d v w _ b) same at = absurd cc
-    go _ _ u (benched d _ b) same at = absurd cc
-outcome_once _ _ o u (lifted c x y merges plan _ a) b = go _ _ u b refl refl
-  where
-    go : (e : Command) (texts : List (List ℕ)) (u : Outcome) → ComesTo e texts u → e ≡ commands.Lift c → texts ≡ x ∷ y ∷ (merges ++ plan ∷ []) → o ≡ u
-    go _ _ u (translated d v w more _ b) same at = absurd cc
-    go _ _ u (merged d v w _ b) same at = absurd cc
-    go _ _ u (stripped d v _ b) same at = absurd cc
-    go _ _ u (checked d v w t _ b) same at = absurd cc
-    go _ _ u (lifted d v w more t _ b) same at =
-        let command : d ≡ c = cc in
-        let first : v ≡ x = cc in
-        let second : w ≡ y = cc in
-        let rest : more ++ t ∷ [] ≡ merges ++ plan ∷ [] = cc in
-        let lasts = last_once more merges t plan rest in
-        lifted_once c x y merges plan o u a (subst (λ z. LiftsTexts c x y merges z u) lasts.1 (subst (λ z. LiftsTexts c x y z t u) lasts.0 (subst (λ z. LiftsTexts c x z more t u) second (subst (λ z. LiftsTexts c z w more t u) first (subst (λ z. LiftsTexts z v w more t u) command b)))))
-    go _ _ u (solved d v w more _ b) same at = absurd cc
-    go _ _ u (searched d v w _ b) same at = absurd cc
-    go _ _ u (measured d v w _ b) same at = absurd cc
-    go _ _ u (benched d _ b) same at = absurd cc
-outcome_once _ _ o u (solved c x y merges _ a) b = go _ _ u b refl refl
-  where
-    go : (e : Command) (texts : List (List ℕ)) (u : Outcome) → ComesTo e texts u → e ≡ commands.Solve c → texts ≡ x ∷ y ∷ merges → o ≡ u
-    go _ _ u (translated d v w more _ b) same at = absurd cc
-    go _ _ u (merged d v w _ b) same at = absurd cc
-    go _ _ u (stripped d v _ b) same at = absurd cc
-    go _ _ u (checked d v w t _ b) same at = absurd cc
-    go _ _ u (lifted d v w more t _ b) same at = absurd cc
-    go _ _ u (solved d v w more _ b) same at =
-        let command : d ≡ c = cc in
-        let first : v ≡ x = cc in
-        let second : w ≡ y = cc in
-        let others : more ≡ merges = cc in
-        solved_once c x y merges o u a (subst (λ t. SolvesTexts c x y t u) others (subst (λ t. SolvesTexts c x t more u) second (subst (λ t. SolvesTexts c t w more u) first (subst (λ z. SolvesTexts z v w more u) command b))))
-    go _ _ u (searched d v w _ b) same at = absurd cc
-    go _ _ u (measured d v w _ b) same at = absurd cc
-    go _ _ u (benched d _ b) same at = absurd cc
-outcome_once _ _ o u (searched c x y _ a) b = go _ _ u b refl refl
-  where
-    go : (e : Command) (texts : List (List ℕ)) (u : Outcome) → ComesTo e texts u → e ≡ commands.Classical c → texts ≡ x ∷ y ∷ [] → o ≡ u
-    go _ _ u (translated d v w more _ b) same at = absurd cc
-    go _ _ u (merged d v w _ b) same at = absurd cc
-    go _ _ u (stripped d v _ b) same at = absurd cc
-    go _ _ u (checked d v w t _ b) same at = absurd cc
-    go _ _ u (lifted d v w more t _ b) same at = absurd cc
-    go _ _ u (solved d v w more _ b) same at = absurd cc
-    go _ _ u (searched d v w _ b) same at =
-        let command : d ≡ c = cc in
-        let first : v ≡ x = cc in
-        let second : w ≡ y = cc in
-        classical_once c x y o u a (subst (λ t. ClassicalTexts c x t u) second (subst (λ t. ClassicalTexts c t w u) first (subst (λ z. ClassicalTexts z v w u) command b)))
-    go _ _ u (measured d v w _ b) same at = absurd cc
-    go _ _ u (benched d _ b) same at = absurd cc
-outcome_once _ _ o u (measured c x y _ a) b = go _ _ u b refl refl
-  where
-    go : (e : Command) (texts : List (List ℕ)) (u : Outcome) → ComesTo e texts u → e ≡ commands.Width c → texts ≡ x ∷ y ∷ [] → o ≡ u
-    go _ _ u (translated d v w more _ b) same at = absurd cc
-    go _ _ u (merged d v w _ b) same at = absurd cc
-    go _ _ u (stripped d v _ b) same at = absurd cc
-    go _ _ u (checked d v w t _ b) same at = absurd cc
-    go _ _ u (lifted d v w more t _ b) same at = absurd cc
-    go _ _ u (solved d v w more _ b) same at = absurd cc
-    go _ _ u (searched d v w _ b) same at = absurd cc
-    go _ _ u (measured d v w _ b) same at =
-        let command : d ≡ c = cc in
-        let first : v ≡ x = cc in
-        let second : w ≡ y = cc in
-        measured_once c x y o u a (subst (λ t. MeasuresTexts c x t u) second (subst (λ t. MeasuresTexts c t w u) first (subst (λ z. MeasuresTexts z v w u) command b)))
-    go _ _ u (benched d _ b) same at = absurd cc
-outcome_once _ _ o u (benched c _ a) b = go _ _ u b refl refl
-  where
-    go : (e : Command) (texts : List (List ℕ)) (u : Outcome) → ComesTo e texts u → e ≡ commands.Bench c → texts ≡ [] → o ≡ u
-    go _ _ u (translated d v w more _ b) same at = absurd cc
-    go _ _ u (merged d v w _ b) same at = absurd cc
-    go _ _ u (stripped d v _ b) same at = absurd cc
-    go _ _ u (checked d v w t _ b) same at = absurd cc
-    go _ _ u (lifted d v w more t _ b) same at = absurd cc
-    go _ _ u (solved d v w more _ b) same at = absurd cc
-    go _ _ u (searched d v w _ b) same at = absurd cc
-    go _ _ u (measured d v w _ b) same at = absurd cc
-    go _ _ u (benched d _ b) same at = let command : d ≡ c = cc in benches_once c o u a (subst (λ z. Benches z u) command b)
+outcome_once : (c : Command) (texts : List (List ℕ)) (o u : Outcome) → MakesOf c texts o → MakesOf c texts u → o ≡ u
+outcome_once (commands.Translate c) texts o u a b =
+    let at : b.0 ∷ b.1 ∷ b.2 ≡ a.0 ∷ a.1 ∷ a.2 = sym b.3 ∙ a.3 in
+    let first : b.0 ≡ a.0 = cc in
+    let second : b.1 ≡ a.1 = cc in
+    let others : b.2 ≡ a.2 = cc in
+    texts_once c a.0 a.1 a.2 o u a.4 (subst (λ t. TranslatesTexts c a.0 a.1 t u) others (subst (λ t. TranslatesTexts c a.0 t b.2 u) second (subst (λ t. TranslatesTexts c t b.1 b.2 u) first b.4)))
+outcome_once (commands.Merges c) texts o u a b =
+    let at : b.0 ∷ b.1 ∷ [] ≡ a.0 ∷ a.1 ∷ [] = sym b.2 ∙ a.2 in
+    let first : b.0 ≡ a.0 = cc in
+    let second : b.1 ≡ a.1 = cc in
+    listed_once c a.0 a.1 o u a.3 (subst (λ t. MergesTexts c a.0 t u) second (subst (λ t. MergesTexts c t b.1 u) first b.3))
+outcome_once (commands.Strip c) texts o u a b =
+    let at : b.0 ∷ [] ≡ a.0 ∷ [] = sym b.1 ∙ a.1 in
+    let first : b.0 ≡ a.0 = cc in
+    strips_once a.0 o u a.2 (subst (λ t. StripsText t u) first b.2)
+outcome_once (commands.Check c) texts o u a b =
+    let at : b.0 ∷ b.1 ∷ b.2 ∷ [] ≡ a.0 ∷ a.1 ∷ a.2 ∷ [] = sym b.3 ∙ a.3 in
+    let first : b.0 ≡ a.0 = cc in
+    let second : b.1 ≡ a.1 = cc in
+    let third : b.2 ≡ a.2 = cc in
+    plans_once c a.0 a.1 a.2 o u a.4 (subst (λ t. ChecksTexts c a.0 a.1 t u) third (subst (λ t. ChecksTexts c a.0 t b.2 u) second (subst (λ t. ChecksTexts c t b.1 b.2 u) first b.4)))
+outcome_once (commands.Lift c) texts o u a b =
+    let at : b.0 ∷ b.1 ∷ (b.2 ++ b.3 ∷ []) ≡ a.0 ∷ a.1 ∷ (a.2 ++ a.3 ∷ []) = sym b.4 ∙ a.4 in
+    let first : b.0 ≡ a.0 = cc in
+    let second : b.1 ≡ a.1 = cc in
+    let rest : b.2 ++ b.3 ∷ [] ≡ a.2 ++ a.3 ∷ [] = cc in
+    let lasts = last_once b.2 a.2 b.3 a.3 rest in
+    lifted_once c a.0 a.1 a.2 a.3 o u a.5 (subst (λ t. LiftsTexts c a.0 a.1 a.2 t u) lasts.1 (subst (λ t. LiftsTexts c a.0 a.1 t b.3 u) lasts.0 (subst (λ t. LiftsTexts c a.0 t b.2 b.3 u) second (subst (λ t. LiftsTexts c t b.1 b.2 b.3 u) first b.5))))
+outcome_once (commands.Solve c) texts o u a b =
+    let at : b.0 ∷ b.1 ∷ b.2 ≡ a.0 ∷ a.1 ∷ a.2 = sym b.3 ∙ a.3 in
+    let first : b.0 ≡ a.0 = cc in
+    let second : b.1 ≡ a.1 = cc in
+    let others : b.2 ≡ a.2 = cc in
+    solved_once c a.0 a.1 a.2 o u a.4 (subst (λ t. SolvesTexts c a.0 a.1 t u) others (subst (λ t. SolvesTexts c a.0 t b.2 u) second (subst (λ t. SolvesTexts c t b.1 b.2 u) first b.4)))
+outcome_once (commands.Classical c) texts o u a b =
+    let at : b.0 ∷ b.1 ∷ [] ≡ a.0 ∷ a.1 ∷ [] = sym b.2 ∙ a.2 in
+    let first : b.0 ≡ a.0 = cc in
+    let second : b.1 ≡ a.1 = cc in
+    classical_once c a.0 a.1 o u a.3 (subst (λ t. ClassicalTexts c a.0 t u) second (subst (λ t. ClassicalTexts c t b.1 u) first b.3))
+outcome_once (commands.Width c) texts o u a b =
+    let at : b.0 ∷ b.1 ∷ [] ≡ a.0 ∷ a.1 ∷ [] = sym b.2 ∙ a.2 in
+    let first : b.0 ≡ a.0 = cc in
+    let second : b.1 ≡ a.1 = cc in
+    measured_once c a.0 a.1 o u a.3 (subst (λ t. MeasuresTexts c a.0 t u) second (subst (λ t. MeasuresTexts c t b.1 u) first b.3))
+outcome_once (commands.Bench c) texts o u a b = benches_once c o u a.1 b.1
 
 -- names have one list of contents
 held_once : (m : FileMap) (names ts us : List (List ℕ)) → map (get m) names ≡ map Some ts → map (get m) names ≡ map Some us → ts ≡ us
@@ -221,4 +125,4 @@ one_outcome words held o _ (of_command c ts _ h l a) (usage b) = absurd (b c h)
 one_outcome words held o u (of_command c ts _ h l a) (of_command d us _ k m b) =
     let same = one_command words c d h k in
     let here = subst (λ x. AreHeld (Some held) (inputs_of x) ts) same l in
-    outcome_once d us o u (subst (λ t. ComesTo d t o) (held_once held (inputs_of d) ts us here m) (subst (λ x. ComesTo x ts o) same a)) b
+    outcome_once d us o u (makes_of d us o (subst (λ t. ComesTo d t o) (held_once held (inputs_of d) ts us here m) (subst (λ x. ComesTo x ts o) same a))) (makes_of d us u b)

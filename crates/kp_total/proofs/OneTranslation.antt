@@ -18,7 +18,9 @@ use Rattle.kp_prepared.specs.Prepared.{usual}
 use Rattle.kp_inputs.proofs.OnePlan.{some_alike}
 use Rattle.kp_inputs.proofs.Commands.{by_plan_once}
 use Rattle.kp_inputs.proofs.Tasks.{task_once, task_or_within}
-use Rattle.kp_run.specs.Outcomes.{translates, prints, tells, TranslatesGround, over, done, TellsJudged, LiftsActions, lifts, fails, LiftsPlan, no_task, with_task, unlifted, failing_step}
+use Rattle.kp_printed.specs.Lifting.{unlifted_text}
+use Rattle.kp_solving.specs.Solving.{denies}
+use Rattle.kp_run.specs.Outcomes.{translates, prints, tells, TranslatesGround, over, done, TellsJudged, LiftsActions, lifts, fails, LiftsPlan, no_task, with_task, failing_step}
 
 pub table_once : (c : Translate) (g : Ground) (i : Initial) (table : TagTable) (o u : Outcome) → TranslatesGround c g i table o → TranslatesGround c g i table u → o ≡ u
 table_once c g i table o u (over r a ei) (over s b ej) = ei ∙ (ap (refuses nothing) (task_once (task_of g table) usual r s a b) ∙ sym ej)
@@ -38,7 +40,7 @@ module _ (g : Ground) (table : TagTable) where
   lift_once ns o u (fails k l f is) (lifts ss h e) = absurd (let no = dont_lift g table (lift_of g table ns) k l (rw (lists_strip g table ns) f) in let yes_ = h.accepted in cc)
   lift_once ns o u (fails k l f is) (fails j m h e) =
       let same = fail_once g table ns k j l m f h in
-      is ∙ (ap (λ z. unlifted g (failing_step (length ns) z) l) same.0 ∙ (ap (unlifted g (failing_step (length ns) j)) same.1 ∙ sym e))
+      is ∙ (ap (λ z. denies (unlifted_text g.atoms (failing_step (length ns) z) l)) same.0 ∙ (ap (λ z. denies (unlifted_text g.atoms (failing_step (length ns) j) z)) same.1 ∙ sym e))
 
   pub lifts_once : (plan : List ℕ) (o u : Outcome) → LiftsPlan g plan table o → LiftsPlan g plan table u → o ≡ u
   lifts_once plan o u (no_task r a e) (no_task s b f) = e ∙ (ap (refuses nothing) (task_once (task_of g table) usual r s a b) ∙ sym f)

@@ -48,14 +48,15 @@ use Rattle.kp_inputs.proofs.Ended.{found_below}
 use Rattle.kp_inputs.proofs.Commands.{by_table_some, by_plan_some}
 use Rattle.kp_complete.proofs.Failing.{lift_or_fail}
 use Rattle.kp_sound.proofs.Lifting.{there, lift_named}
-use Rattle.kp_run.specs.Outcomes.{shows_usage, translates, TranslatesGround, over, done, TranslatesTrees, ListsMerges, MergesTrees, prints, StripsText, too_long, no_plan, no_strip, strips, tells, TellsJudged, ChecksTrees, failing_step, unlifted, LiftsActions, lifts, fails, LiftsPlan, no_task, with_task, LiftsTrees, SolvesTrees, tells_width, no_report, with_report, MeasuresTrees, ComesTo, translated, merged, checked, lifted, solved, measured, benched, usage, of_command}
+use Rattle.kp_printed.specs.Lifting.{unlifted_text}
+use Rattle.kp_solving.specs.Solving.{denies, SolvesGround, over as too_large}
+use Rattle.kp_run.specs.Outcomes.{shows_usage, translates, TranslatesGround, over, done, TranslatesTrees, ListsMerges, MergesTrees, prints, StripsText, too_long, no_plan, no_strip, strips, tells, TellsJudged, ChecksTrees, failing_step, LiftsActions, lifts, fails, LiftsPlan, no_task, with_task, LiftsTrees, SolvesTrees, tells_width, no_report, with_report, MeasuresTrees, ComesTo, translated, merged, checked, lifted, solved, measured, benched, usage, of_command}
 use Rattle.kp_run.specs.Outcomes as outcomes
 use Rattle.kp_total.specs.Laws.{CommandsHaveAnOutcome, HasSomeOutcome}
 use Rattle.kp_given.proofs.Tables.{tables_written}
 use Rattle.kp_inputs.specs.Tables.{HasTable}
 use Rattle.kp_inputs.proofs.TablesFor.{table_for}
-use Rattle.kp_solving.specs.Solving.{SolvesGround, over as too_large}
-use Rattle.kp_run.proofs.Soundness.{problem_of}
+use Rattle.kp_prepared.proofs.Problems.{problem_of}
 use Rattle.kp_total.proofs.SomeStart.{some_comes}
 use Rattle.kp_machine.proofs.Exclusive.{never_clashes}
 use Rattle.kp_bench.specs.Bench.{texts_of, usual_implicates, BenchesGround, over as too_large_to_bench, BenchesTrees}
@@ -111,7 +112,7 @@ module _ (limit : ℕ) (d : Domain Word) (p : Problem Word) (x y : List ℕ) (tr
     | inl accepted ↦
         let named = lift_named (ground_of d p) table ns inside in
         (prints (plan_text named.0), lifts named.0 (record { steps_are = named.1; accepted = accepted }) refl)
-    | inr f ↦ (unlifted (ground_of d p) (failing_step (length ns) f.0) f.1, fails f.0 f.1 f.2 refl)
+    | inr f ↦ (denies (unlifted_text (ground_of d p).atoms (failing_step (length ns) f.0) f.1), fails f.0 f.1 f.2 refl)
   ]
 
   of_plan_lifted : (plan : List ℕ) (table : TagTable) → (o : Outcome) × LiftsPlan (ground_of d p) plan table o

@@ -29,7 +29,7 @@ use Rattle.kp_prepared.specs.Refusing.{refuses}
 use Rattle.kp_prepared.specs.Prepared.{usual}
 use Rattle.kp_classical.specs.Classical.{classical, IsCertain, IsSmall, IsClassical, RefusesClassical, not_classical, too_large, no_initial_state, by_texts, by_trees, ComesClassical, early, later, task_of as classical_task}
 use Rattle.kp_classical.proofs.Plans.{have_names as actions_named}
-use Rattle.kp_solving.specs.Solving.{Finds, solves, finds_none, spends, SolvesGround, searched, SolvesClassical}
+use Rattle.kp_solving.specs.Solving.{Finds, solves, denies, spends, SolvesGround, searched, SolvesClassical}
 use Rattle.kp_search.proofs.ByAdded.{some_end_by_added}
 use Rattle.kp_solving.proofs.Searches.{ends_true}
 use Rattle.kp_solving.proofs.Operators.{have_names}
@@ -53,7 +53,7 @@ some_search name budget g i table proper fits fit = let end = some_end_by_added 
     by (Plan ops n) finds =
         let names = have_names g table ops (ends_true (task_of g table) budget (Plan ops n) fit finds).0 in
         (solves name names.0 names.1, searched (Plan ops n) fits finds (names.0, names.1, names.2, refl))
-    by NoPlan finds = let ls = coverages_decided g i table proper in (finds_none (no_plan_text ls.0), searched NoPlan fits finds (ls.0, ls.1, refl))
+    by NoPlan finds = let ls = coverages_decided g i table proper in (denies (no_plan_text ls.0), searched NoPlan fits finds (ls.0, ls.1, refl))
     by (Spent n) finds = (spends n, searched (Spent n) fits finds refl)
 
 -- ---- a run on a generated problem
@@ -69,7 +69,7 @@ some_bench c g i table proper fits fit safe = let end = some_end_by_added (task_
         let works = work g i table ops safe (ends_true (task_of g table) c.budget (Plan ops n) fit finds) in
         let o = sums_up (summary_text c g table ls.0 (length actions) n) in
         (o, by_bench (Plan ops n) fits finds (plan_told c g i table ops actions n (Ok o) refl works (ls.0, ls.1, refl)))
-    by NoPlan finds = let ls = coverages_decided g i table proper in (finds_none (no_plan_text ls.0), by_bench NoPlan fits finds (ls.0, ls.1, refl))
+    by NoPlan finds = let ls = coverages_decided g i table proper in (denies (no_plan_text ls.0), by_bench NoPlan fits finds (ls.0, ls.1, refl))
     by (Spent n) finds = (spends n, by_bench (Spent n) fits finds refl)
 
 -- ---- two classical trees
@@ -103,7 +103,7 @@ some_classical budget d p c = let end = some_end_by_added (classical_task d p) b
     by (Plan ops n) finds =
         let names = actions_named d p ops (ends_true (classical_task d p) budget (Plan ops n) (classical_fit d p c) finds).1 in
         (solves None names.0 names.0, record { found = Plan ops n; finds = finds; tells = (names.0, names.1, refl) })
-    by NoPlan finds = (finds_none no_plan_line, record { found = NoPlan; finds = finds; tells = refl })
+    by NoPlan finds = (denies no_plan_line, record { found = NoPlan; finds = finds; tells = refl })
     by (Spent n) finds = (spends n, record { found = Spent n; finds = finds; tells = refl })
 
 pub some_classical_comes : (budget : ℕ) (x y : List ℕ) → (o : Outcome) × ComesClassical x y (λ d p. SolvesClassical budget (ground_of d p) (classical_task d p)) o

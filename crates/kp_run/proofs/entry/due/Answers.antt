@@ -1,15 +1,15 @@
 use Rattle.std.proofs.Common.{Err, ap, sym, subst}
-use Rattle.kp_words.specs.Command.{IsCommand}
+use Rattle.kp_words.specs.Owned.{command_view}
 use Rattle.kp_run.specs.Outcomes.{IsDue, usage}
 use Rattle.kp_run.proofs.Files.{due_of}
 use Rattle.kp_run.proofs.entry.due.Goals as goal
 
 -- the words are a command
 pub returns-in-Ok-clause-due : goal.returns-in-Ok-clause-due
-returns-in-Ok-clause-due g c = due_of c.args.words.now (g.S.Shelf.contents c.args.shelf.now) c.lend.result c.come_to.result (subst (IsCommand c.args.words.now) (sym c.lend.ensures) c.in-Ok.ensures.ok) c.come_to.ensures.comes_to
+returns-in-Ok-clause-due g c = due_of c.args.words.now (g.S.Shelf.contents c.args.shelf.now) (command_view c.in-Ok.command) c.come_to_owned.result c.in-Ok.ensures.ok c.come_to_owned.ensures.comes_to
 
 pub returns-in-Ok-clause-failed : goal.returns-in-Ok-clause-failed
-returns-in-Ok-clause-failed g c failed = (c.lend.result, subst (IsCommand c.args.words.now) (sym c.lend.ensures) c.in-Ok.ensures.ok, c.come_to.ensures.failed failed)
+returns-in-Ok-clause-failed g c failed = (command_view c.in-Ok.command, c.in-Ok.ensures.ok, c.come_to_owned.ensures.failed failed)
 
 -- they are none
 pub returns-in_ok-usage_outcome-in-Err-Usage-clause-due : goal.returns-in_ok-usage_outcome-in-Err-Usage-clause-due

@@ -1,6 +1,8 @@
 use Rattle.std.proofs.Common.{◌≡◌, ◌∙◌, ap, subst, IfOk}
 use Rattle.kp_lift.specs.Lifting.{AnswersLifting}
-use Rattle.kp_run.specs.Outcomes.{unlifted, failing_step}
+use Rattle.kp_printed.specs.Lifting.{unlifted_text}
+use Rattle.kp_solving.specs.Solving.{denies}
+use Rattle.kp_run.specs.Outcomes.{failing_step}
 use Rattle.kp_run.specs.Tables.{PrintsOperators}
 use Rattle.kp_run.proofs.Lifts.{lifted_printed, unlifted_told}
 use Rattle.kp_run.proofs.lifting.lift_actions.Goals as goal
@@ -17,4 +19,4 @@ pub returns-in-Unlifted : goal.returns-in-Unlifted
 returns-in-Unlifted c =
     unlifted_told c.args.ground.now c.args.table.now c.args.numbers.now c.in-Unlifted.step c.in-Unlifted.literal c.tell_unlifted.result
     (subst (AnswersLifting c.args.ground.now c.args.table.now c.args.numbers.now) c.in-Unlifted.is c.in_ok-lifting.ensures.answers)
-    (subst (λ s. IfOk c.tell_unlifted.result (λ o. o ≡ unlifted c.args.ground.now s c.in-Unlifted.literal)) (c.failing.ensures ∙ ap (λ n. failing_step n c.in-Unlifted.step) c.len.ensures) c.tell_unlifted.ensures)
+    (subst (λ s. IfOk c.tell_unlifted.result (λ o. o ≡ denies (unlifted_text c.args.ground.now.atoms s c.in-Unlifted.literal))) (c.failing.ensures ∙ ap (λ n. failing_step n c.in-Unlifted.step) c.len.ensures) c.tell_unlifted.ensures)

@@ -7,7 +7,7 @@ use Rattle.kp_run.proofs.lifting.lift_with.Goals as goal
 -- the task is within the limits
 pub returns-in-Ok : goal.returns-in-Ok
 returns-in-Ok c text front =
-    task_fits c.args.ground.now text c.args.table.now c.lift_plan.result (subst (λ m. FitsLimits (task_of c.args.ground.now c.args.table.now) m) c.usual.ensures c.in-Ok.ensures.0) (c.lift_plan.ensures text front)
+    task_fits c.args.ground.now text c.args.table.now c.lift_task.result (subst (λ m. FitsLimits (task_of c.args.ground.now c.args.table.now) m) c.usual.ensures c.in-Ok.ensures.0) (c.lift_task.ensures text front)
 
 -- it isn't
 pub returns-in-Err-Refused : goal.returns-in-Err-Refused
