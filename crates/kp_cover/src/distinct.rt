@@ -1,5 +1,5 @@
 //! Tags, each once.
-ghost use Rattle.std.specs.Prelude.{◌≡◌, [], not, fold, IfOk, OnOk};
+ghost use Rattle.std.specs.Prelude.{◌≡◌, [], not, fold, length, IfOk, OnOk};
 ghost use Rattle.std.specs.List.{list_any};
 ghost use Rattle.kp_base.specs.LitSet.{same_set};
 ghost use Rattle.kp_cover.specs.Grown.{added};
@@ -9,13 +9,13 @@ use kp_base::{Lit, LitSet, Memory, Row};
 use std::alloc::Global;
 use std::marker::Model;
 
-// Tags that were seen, each once. Contracts see the list of them.
+/// Tags, each once. Contracts see the list of them, in the order in which they came.
 #[derive(Drop)]
-struct Seen {
+pub struct Tags {
     set: IndexSet<Vec<Lit>>,
 }
 
-impl Model for Seen {
+impl Model for Tags {
     ghost use Rattle.std.specs.Prelude.{List, map};
     ghost use Rattle.kp_base.specs.declared.lit.Lit.{Lit as Literal};
 
@@ -31,18 +31,25 @@ pub(crate) fn literals(alloc: Global, tag: &LitSet) -> Result<Vec<Lit>, Memory>
     Ok(tag.slice().to_vec(alloc)?)
 }
 
-impl Seen {
-    // No tags.
-    fn new(alloc: Global) -> Seen
+impl Tags {
+    /// No tags.
+    pub fn new(alloc: Global) -> Tags
         ensures { result ≡ [] }
     {
-        Seen {
+        Tags {
             set: IndexSet::new(alloc),
         }
     }
 
-    // Adds a tag, where it is new. Whether it is.
-    fn insert(&mut self, alloc: Global, tag: &LitSet) -> Result<bool, Memory>
+    /// How many there are.
+    pub fn len(&self) -> usize
+        ensures { result ≡ length self.now }
+    {
+        self.set.len()
+    }
+
+    /// Adds a tag, where it is new. Whether it is.
+    pub fn insert(&mut self, alloc: Global, tag: &LitSet) -> Result<bool, Memory>
         ensures told { IfOk result (λ new. new ≡ not (list_any (same_set tag.now) self.old)) }
         ensures value { OnOk result (self.new ≡ added self.old tag.now) }
     {
@@ -51,7 +58,7 @@ impl Seen {
 }
 
 // Puts a tag behind the others, where it wasn't seen.
-fn keep(alloc: Global, seen: &mut Seen, kept: &mut Row<LitSet>, tag: &LitSet) -> Result<(), Memory>
+fn keep(alloc: Global, seen: &mut Tags, kept: &mut Row<LitSet>, tag: &LitSet) -> Result<(), Memory>
     requires { kept.old ≡ seen.old }
     ensures seen { OnOk result (seen.new ≡ added seen.old tag.now) }
     ensures kept { OnOk result (kept.new ≡ added kept.old tag.now) }
@@ -66,7 +73,7 @@ fn keep(alloc: Global, seen: &mut Seen, kept: &mut Row<LitSet>, tag: &LitSet) ->
 pub(crate) fn distinct(alloc: Global, tags: &[LitSet]) -> Result<Row<LitSet>, Memory>
     ensures { IfOk result (λ kept. kept ≡ fold added [] tags.now) }
 {
-    let mut seen = Seen::new(alloc);
+    let mut seen = Tags::new(alloc);
     let mut kept = Row::new(alloc);
     for tag in tags {
         keep(alloc, &mut seen, &mut kept, tag)?;

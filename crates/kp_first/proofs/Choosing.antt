@@ -1,5 +1,5 @@
 -- The first model that passes, atom by atom: absent wherever some model passes without it.
-use Rattle.std.proofs.Common.{◌≡◌, ◌<◌, ◌≤◌, ◌+◌, ◌⊎◌, ℕ, zero, suc, Bool, true, false, not, ◌&&◌, ◌||◌, nat_eq, nat_lt, List, [], ◌∷◌, ◌++◌, None, refl, sym, ap, subst, ◌∙◌, inl, inr, arith, eq-eqb, ltb-true, lt-ltb}
+use Rattle.std.proofs.Common.{◌≡◌, ◌<◌, ◌≤◌, ◌+◌, ℕ, zero, suc, Bool, true, false, not, ◌&&◌, ◌||◌, nat_eq, nat_lt, List, [], ◌∷◌, ◌++◌, None, refl, sym, ap, subst, ◌∙◌, inl, inr, arith, eq-eqb, ltb-true, lt-ltb}
 use Rattle.std.proofs.lemmas.Bool.{and_parts, and_from, or_parts, or_from, or_left, or_right, false≢true, false_from_ne_true, cases_eq, cases_lt, ne_eqb}
 use Rattle.std.proofs.lemmas.List.Folds.{list_any-append}
 use Rattle.std.specs.List.{list_any, list_all}
@@ -8,11 +8,11 @@ use Rattle.kp_base.specs.declared.lit.AtomId.{AtomId}
 use Rattle.kp_base.specs.declared.ground.Initial.{Initial}
 use Rattle.kp_base.specs.Lit.{positive, negative}
 use Rattle.kp_base.specs.LitSet.{with_lit}
-use Rattle.kp_base.specs.Steps.{State, IsBounded, holds, is_model}
-use Rattle.kp_base.specs.Implicates.{are_below, IsOfAtoms}
+use Rattle.kp_base.specs.Steps.{State, holds, is_model}
+use Rattle.kp_base.specs.Implicates.{IsOfAtoms}
 use Rattle.kp_base.proofs.Lists.{all_weaker}
-use Rattle.kp_base.specs.Steps.{SameBelow, ComesBefore}
 use Rattle.kp_first.specs.Ordered.{state_of, AreRising, AreFirst}
+use Rattle.kp_first.specs.Chosen.{IsChosen}
 use Rattle.kp_first.specs.Asked.{is_wanted, IsWitness, AnswersFind}
 use Rattle.kp_first.proofs.Tags.{more_met, more_parts, more_below}
 use Rattle.kp_first.proofs.Reading.{all_same, model_same}
@@ -49,18 +49,6 @@ rising_more (p ∷ []) a r h = (ltb-true p.0 a.0 (and_parts (nat_lt p.0 a.0) tru
 rising_more (p ∷ q ∷ ps) a r h = (r.0, rising_more (q ∷ ps) a r.1 (and_parts (nat_lt p.0 a.0) (list_all (λ p. nat_lt p.0 a.0) (q ∷ ps)) h).1)
 
 -- ---- the choice
-
--- what stands after the first p atoms: a tag that says just which of them are present, a witness for it, and no model
--- that passes before it
-pub record IsChosen (n p : ℕ) (i : Initial) (passes : State → Bool) (tag found : List Lit) (present : List AtomId) : Type 0 where
-  pub below : are_below n tag ≡ true
-  pub witness : IsWitness n i passes tag found
-  pub agrees : (s : State) → list_all (holds s) tag ≡ true → SameBelow p s (state_of present)
-  pub met : (s : State) → SameBelow p s (state_of present) → list_all (holds s) tag ≡ true
-  pub bounded : (q : ℕ) → p ≤ q → state_of present q ≡ false
-  pub least : (t : State) → is_wanted i passes t ≡ true → ComesBefore t (state_of present) → ⊥
-  pub in_range : list_all (λ q. nat_lt q.0 p) present ≡ true
-  pub rising : AreRising present
 
 pub chosen_none : (n : ℕ) (i : Initial) (passes : State → Bool) (found : List Lit) → IsWitness n i passes [] found → IsChosen n 0 i passes [] found []
 chosen_none n i passes found w = record {

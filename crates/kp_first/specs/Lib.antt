@@ -1,4 +1,5 @@
 pub mod Asked
+pub mod Chosen
 pub mod Known
 pub mod Ordered
 pub mod Truths

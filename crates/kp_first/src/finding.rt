@@ -18,6 +18,14 @@ pub fn extended(alloc: Global, tag: &LitSet, lit: Lit) -> Result<LitSet, Memory>
     Ok(more)
 }
 
+// The same, where the tag itself is of no more use.
+fn with_more(mut tag: LitSet, lit: Lit) -> Result<LitSet, Memory>
+    ensures { IfOk result (λ set. set ≡ with_lit lit tag) }
+{
+    tag.insert(lit)?;
+    Ok(tag)
+}
+
 // Whether the models of a tag pass a test; `No` where it has none.
 fn judge_tag<T: Question>(
     alloc: Global,
@@ -68,7 +76,7 @@ fn find<T: Question>(
             match find(alloc, primes, question, number, without)? {
                 Some(found) => Ok(Some(found)),
                 None => {
-                    let with = extended(alloc, &tag, lit.negated())?;
+                    let with = with_more(tag, lit.negated())?;
                     let rest = find(alloc, primes, question, number, with)?;
                     Ok(rest)
                 }

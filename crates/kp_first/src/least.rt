@@ -1,10 +1,11 @@
-ghost use Rattle.std.specs.Prelude.{◌≡◌, ◌<◌, true, [], IfOk};
+ghost use Rattle.std.specs.Prelude.{◌≡◌, ◌<◌, ◌+◌, true, [], IfOk, OnOk};
 ghost use Rattle.kp_base.specs.Lit.{negative};
 ghost use Rattle.kp_base.specs.LitSet.{with_lit};
 ghost use Rattle.kp_base.specs.Implicates.{are_below};
 ghost use Rattle.kp_primes.specs.Held.{formula};
 ghost use Rattle.kp_first.specs.Asked.{is_wanted, passes_one, IsWitness, AnswersFind};
 ghost use Rattle.kp_first.specs.Ordered.{AreFirst, AnswersFirst};
+ghost use Rattle.kp_first.specs.Chosen.{IsChosen};
 
 use crate::Question;
 use crate::finding::{extended, find_any};
@@ -41,44 +42,70 @@ fn find_without<T: Question>(
     Ok(rest)
 }
 
-// The atoms of the first model that passes, where a tag is there whose models pass: each atom in turn is absent where
-// some model of what was chosen passes without it.
+// Decides the next atom: it is absent where some model of what was chosen passes without it.
+fn choose_one<T: Question>(
+    alloc: Global,
+    primes: &Primes,
+    question: &T,
+    atom: AtomId,
+    tag: &mut LitSet,
+    found: &mut LitSet,
+    present: &mut Row<AtomId>,
+) -> Result<(), Memory>
+    requires ready { T.ready question.now }
+    requires atoms { T.atoms question.now ≡ primes.now.atoms }
+    requires in_range { atom.0 < primes.now.atoms }
+    requires chosen { IsChosen primes.now.atoms atom.0 (formula primes.now) (passes_one (T.tests question.now)) tag.old found.old present.old }
+    ensures { OnOk result (IsChosen primes.now.atoms (atom.0 + 1) (formula primes.now) (passes_one (T.tests question.now)) tag.new found.new present.new) }
+{
+    match find_without(alloc, primes, question, tag, found, atom)? {
+        Some(other) => {
+            *found = other;
+            tag.insert(Lit {
+                atom,
+                positive: false,
+            })?;
+            Ok(())
+        }
+        None => {
+            tag.insert(Lit {
+                atom,
+                positive: true,
+            })?;
+            present.push(atom)?;
+            Ok(())
+        }
+    }
+}
+
+// The atoms of the first model that passes, where a tag is there whose models pass.
 fn choose<T: Question>(
     alloc: Global,
     primes: &Primes,
-    atoms: u32,
     question: &T,
     start: LitSet,
 ) -> Result<Row<AtomId>, Memory>
     requires ready { T.ready question.now }
     requires atoms { T.atoms question.now ≡ primes.now.atoms }
-    requires number { primes.now.atoms ≡ atoms }
-    requires witness { IsWitness atoms (formula primes.now) (passes_one (T.tests question.now)) [] start }
-    ensures { IfOk result (AreFirst atoms (is_wanted (formula primes.now) (passes_one (T.tests question.now)))) }
+    requires witness { IsWitness primes.now.atoms (formula primes.now) (passes_one (T.tests question.now)) [] start }
+    ensures { IfOk result (AreFirst primes.now.atoms (is_wanted (formula primes.now) (passes_one (T.tests question.now)))) }
 {
     // Taken for what its contract says of the clauses, which the loop's invariant cites.
     let clauses = primes.clauses();
+    let atoms = primes.atoms();
     let mut found = start;
     let mut tag = LitSet::new(alloc);
     let mut present = Row::new(alloc);
     for p in 0..atoms {
-        let atom = AtomId(p);
-        match find_without(alloc, primes, question, &tag, &found, atom)? {
-            Some(other) => {
-                found = other;
-                tag.insert(Lit {
-                    atom,
-                    positive: false,
-                })?;
-            }
-            None => {
-                tag.insert(Lit {
-                    atom,
-                    positive: true,
-                })?;
-                present.push(atom)?;
-            }
-        }
+        choose_one(
+            alloc,
+            primes,
+            question,
+            AtomId(p),
+            &mut tag,
+            &mut found,
+            &mut present,
+        )?;
     }
     Ok(present)
 }
@@ -96,7 +123,7 @@ pub fn first<T: Question>(
 {
     match find_any(alloc, primes, question, &LitSet::new(alloc))? {
         Some(start) => {
-            let present = choose(alloc, primes, primes.atoms(), question, start)?;
+            let present = choose(alloc, primes, question, start)?;
             Ok(Some(present))
         }
         None => Ok(None),

@@ -1,5 +1,5 @@
 //! Merges of one target, put behind others.
-ghost use Rattle.std.specs.Prelude.{◌≡◌, [], ◌∷◌, true, get_or, IfOk, OnOk};
+ghost use Rattle.std.specs.Prelude.{◌≡◌, [], ◌∷◌, true, IfOk, OnOk};
 ghost use Rattle.kp_primes.specs.Held.{formula};
 ghost use Rattle.kp_cover.specs.Covering.{pick};
 ghost use Rattle.kp_modes.specs.Modes.{AreOneForEach, AreOtherwise};
@@ -7,7 +7,7 @@ ghost use Rattle.kp_modes.specs.Added.{Adds, IsOver};
 
 use crate::atoms::assigning;
 use kp_base::{Lit, LitSet, Memory, Row};
-use kp_cover::cov;
+use kp_cover::{cov, picked};
 use kp_merges::FileMerge;
 use kp_primes::Primes;
 use std::alloc::Global;
@@ -25,27 +25,6 @@ fn add_over(
     let tags = cov(alloc, primes, clauses)?;
     merges.push(FileMerge { target, tags })?;
     Ok(())
-}
-
-// The clause at a place; the empty one where there is none.
-fn copy_at(alloc: Global, clauses: &[LitSet], place: u32) -> Result<LitSet, Memory>
-    ensures { IfOk result (λ c. c ≡ get_or clauses.now place []) }
-{
-    match clauses.get(place as usize) {
-        Some(c) => c.copy(alloc),
-        None => Ok(LitSet::new(alloc)),
-    }
-}
-
-// The clauses at some places.
-fn picked(alloc: Global, clauses: &[LitSet], places: &[u32]) -> Result<Row<LitSet>, Memory>
-    ensures { IfOk result (λ row. row ≡ pick clauses.now places.now) }
-{
-    let mut row = Row::new(alloc);
-    for place in places {
-        row.push(copy_at(alloc, clauses, *place)?)?;
-    }
-    Ok(row)
 }
 
 /// One merge over the clauses at some places.

@@ -4,7 +4,6 @@
 
 mod adding;
 mod atoms;
-mod covering;
 mod laws;
 mod modes;
 mod targets;

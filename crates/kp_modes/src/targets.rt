@@ -8,10 +8,9 @@ ghost use Rattle.kp_modes.specs.Modes.{AreMergesBy};
 ghost use Rattle.kp_modes.specs.Added.{AddsOrRefuses, IsRefusedBy, AreByRelevance, AreOfSome, IsRefusedByRelevance};
 
 use crate::adding::{add_otherwise, add_over_places};
-use crate::covering::least_cover;
 use crate::way::Way;
 use kp_base::{Lit, LitSet, Refused, Row, Stop};
-use kp_cover::{covers_are_told, is_cover};
+use kp_cover::{covers_are_told, is_cover, least_cover};
 use kp_merges::FileMerge;
 use kp_primes::Primes;
 use kp_relevance::Relevance;
@@ -35,7 +34,7 @@ fn add_searched(
 {
     covers_are_told();
     let _whole = primes.clauses();
-    match least_cover(alloc, way, primes, clauses, limit)? {
+    match least_cover(alloc, primes, clauses, 1, way.greatest, limit, way.skips)? {
         LeastSet::Found { places, .. } => {
             add_over_places(alloc, primes, clauses, &places, target, merges)?;
             Ok(())

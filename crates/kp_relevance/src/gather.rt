@@ -3,7 +3,7 @@ ghost use Rattle.std.specs.Prelude.{◌≡◌, ◌++◌, ◌∷◌, [], List, fi
 ghost use Rattle.std.specs.List.{list_any, range_with_len};
 ghost use Rattle.std.specs.List.Sorted.{IsPermutation, IsSorted};
 ghost use Rattle.kp_base.specs.declared.lit.Lit.{Lit as Literal};
-ghost use Rattle.kp_base.specs.Lit.{has};
+ghost use Rattle.kp_base.specs.Lit.{has, negated};
 ghost use Rattle.kp_base.specs.LitSet.{with_lit, lits_cmp};
 ghost use Rattle.kp_base.specs.Entailed.{IsClosure};
 ghost use Rattle.kp_primes.specs.Held.{formula};
@@ -66,7 +66,10 @@ fn known_at_start(alloc: Global, primes: &Primes) -> Result<LitSet, Memory>
     ensures { IfOk result (IsClosure primes.now.atoms (formula primes.now) []) }
 {
     let _clauses = primes.clauses();
-    match primes.closure(alloc, &LitSet::new(alloc))? {
+    let empty = LitSet::new(alloc);
+    let closed = primes.closure(alloc, &empty);
+    drop(empty);
+    match closed? {
         Some(known) => Ok(known),
         None => Ok(LitSet::new(alloc)),
     }
@@ -86,12 +89,13 @@ fn has_known(known: &LitSet, clause: &[Lit]) -> bool
     clause.iter().any(|l| known.has(*l))
 }
 
-// The set with a literal more.
-fn extended(mut set: LitSet, lit: Lit) -> Result<LitSet, Memory>
-    ensures { IfOk result (λ more. more ≡ with_lit lit set) }
+// Adds a literal and its negation.
+fn insert_both(set: &mut LitSet, lit: Lit) -> Result<(), Memory>
+    ensures { OnOk result (set.new ≡ with_lit (negated lit) (with_lit lit set.old)) }
 {
     set.insert(lit)?;
-    Ok(set)
+    set.insert(lit.negated())?;
+    Ok(())
 }
 
 /// That an atom or its negation is true, as a clause.
@@ -102,8 +106,8 @@ pub fn either_value(alloc: Global, atom: AtomId) -> Result<LitSet, Memory>
         atom,
         positive: true,
     };
-    let one = extended(LitSet::new(alloc), lit)?;
-    let both = extended(one, lit.negated())?;
+    let mut both = LitSet::new(alloc);
+    insert_both(&mut both, lit)?;
     Ok(both)
 }
 

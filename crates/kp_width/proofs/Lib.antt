@@ -4,7 +4,6 @@ pub mod Ended
 mod ExampleCovers
 pub mod Gathered
 pub mod InTurn
-pub mod Larger
 pub mod OneAnswer
 pub mod OneSearch
 pub mod Places

@@ -3,7 +3,6 @@
 //! answered.
 #![tactic(auto)]
 
-mod covering;
 mod laws;
 mod measure;
 mod problem;

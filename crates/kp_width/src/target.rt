@@ -6,12 +6,11 @@ ghost use Rattle.kp_primes.specs.Held.{formula};
 ghost use Rattle.kp_relevance.specs.Relevant.{ArePairsOf};
 ghost use Rattle.kp_width.specs.Found.{AnswersClauses, AnswersTarget};
 
-use crate::covering::least_cover;
 use crate::problem::Problem;
 use crate::report::WidthRow;
 use crate::row::row_at;
 use kp_base::{Lit, LitSet, Refused, Stop};
-use kp_cover::{covers_are_told, relevant_clauses_are_of_atoms};
+use kp_cover::{covers_are_told, least_cover, relevant_clauses_are_of_atoms};
 use kp_primes::Primes;
 use kp_sets::LeastSet;
 use std::alloc::Global;
@@ -30,7 +29,7 @@ fn row_over(
 {
     covers_are_told();
     let _whole = primes.clauses();
-    match least_cover(alloc, primes, clauses, bound, limit)? {
+    match least_cover(alloc, primes, clauses, 0, bound, limit, false)? {
         LeastSet::Found { places, .. } => {
             let row = row_at(alloc, primes, clauses, &places, target)?;
             Ok(Some(row))

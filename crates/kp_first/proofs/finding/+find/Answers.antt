@@ -24,8 +24,8 @@ find-requires-in-None g t c κs within =
     let less = falls c.in-Open.atom.0 true c.args.tag c.args.primes.now.atoms unclear.0 unclear.1 in
     (rw (c.in_ok-with-in-None.ensures, c.negated.ensures) (omega (arith, less, c.decreases)), (within, (c.requires.ready, (c.requires.atoms, (c.requires.in_range, rw (c.in_ok-with-in-None.ensures, c.negated.ensures) (more_below c.args.primes.now.atoms (positive c.in-Open.atom.0) c.args.tag c.requires.below unclear.0))))))
 
-pub returns : goal.returns
-returns g t c =
+pub returns-in_ok-rest-in-None : goal.returns-in_ok-rest-in-None
+returns-in_ok-rest-in-None g t c =
     let none = rw (c.in-None.is, c.in_ok-without-in-Open.ensures) at c.in_ok-found-in-Open.ensures in
     let rest = rw (c.in_ok-with-in-None.ensures, c.negated.ensures) at c.in_ok-rest-in-None.ensures in
     split c.args.primes.now.atoms (formula c.args.primes.now) (test_at (g.T.Question.tests c.args.question.now) c.args.number) c.in-Open.atom.0 c.args.tag c.in_ok-rest-in-None.rest none rest

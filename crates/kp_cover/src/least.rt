@@ -1,12 +1,12 @@
 //! The least set of clauses that covers.
-ghost use Rattle.std.specs.Prelude.{◌≡◌, ◌<◌, length, min, true, false, IfOk};
+ghost use Rattle.std.specs.Prelude.{◌≡◌, ◌<◌, length, min, true, IfOk};
 ghost use Rattle.std.specs.List.{list_all};
 ghost use Rattle.kp_base.specs.Implicates.{are_below};
 ghost use Rattle.kp_sets.specs.Sizes.{AnswersLeast};
 ghost use Rattle.kp_cover.specs.Tested.{tells_cover};
 
+use crate::tested::is_cover;
 use kp_base::{LitSet, Memory};
-use kp_cover::is_cover;
 use kp_primes::Primes;
 use kp_sets::{LeastSet, Test, least_set};
 use std::alloc::Global;
@@ -49,20 +49,23 @@ fn lesser(a: u32, b: u32) -> u32
     if a < b { a } else { b }
 }
 
-/// The first of the least sets of the clauses that covers them all, of sizes up to the bound; or the first size of which
-/// there are more sets than the limit. No set has more clauses than there are.
+/// The first of the least sets of the clauses that covers them all, of the sizes from a first to a last one. A size of
+/// which there are more sets than the limit is skipped, where that is said, and else ends the search. No set has more
+/// clauses than there are.
 pub fn least_cover(
     alloc: Global,
     primes: &Primes,
     clauses: &[LitSet],
-    bound: u32,
+    first: u32,
+    last: u32,
     limit: u64,
+    skips: bool,
 ) -> Result<LeastSet, Memory>
     requires { list_all (are_below primes.now.atoms) clauses.now ≡ true }
-    ensures { IfOk result (AnswersLeast (tells_cover primes.now clauses.now) (length clauses.now) limit false 0 bound) }
+    ensures { IfOk result (AnswersLeast (tells_cover primes.now clauses.now) (length clauses.now) limit skips first last) }
 {
     let n = count(clauses)?;
     let test = Covering { primes, clauses };
-    let found = least_set(alloc, &test, n, 0, lesser(bound, n), limit, false)?;
+    let found = least_set(alloc, &test, n, first, lesser(last, n), limit, skips)?;
     Ok(found)
 }

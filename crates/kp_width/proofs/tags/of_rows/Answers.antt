@@ -4,7 +4,7 @@ use Rattle.kp_base.specs.declared.lit.Lit.{Lit}
 use Rattle.kp_cover.specs.Grown.{added}
 use Rattle.kp_width.specs.Rows.{used_tags}
 use Rattle.kp_width.proofs.Gathered.{all_used}
-use Rattle.kp_width.proofs.tags.Tags.of_rows.Goals as goal
+use Rattle.kp_width.proofs.tags.of_rows.Goals as goal
 
 -- the empty tag comes first
 pub loop-row-init : goal.loop-row-init

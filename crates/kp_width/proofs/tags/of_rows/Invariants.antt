@@ -2,7 +2,7 @@ use Rattle.std.proofs.Common.{◌≡◌, drop, fold}
 use Rattle.std.specs.List.{flat_map}
 use Rattle.kp_cover.specs.Grown.{added}
 use Rattle.kp_width.specs.Rows.{used_tags}
-use Rattle.kp_width.proofs.tags.Tags.of_rows.Given as goal
+use Rattle.kp_width.proofs.tags.of_rows.Given as goal
 
 -- with the rows that are left come all
 abbrev pub invariant-loop-row : goal.invariant-loop-row
