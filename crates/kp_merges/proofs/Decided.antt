@@ -19,7 +19,7 @@ use Rattle.kp_merges.specs.Numbers.{Numbers, IsLit, IsTag, IsMerge}
 use Rattle.kp_merges.specs.Parts.{is_denied, IsAtom, Walk, Halts}
 use Rattle.kp_merges.proofs.Contexts.{halts_next, halts_later}
 use Rattle.kp_merges.proofs.Lits.{fact_halts, fact_unknown, plain_reads, negated_reads, plain_halts, negated_halts, negated_unclosed, walk_lit}
-use Rattle.kp_merges.proofs.Tagged.{tag_unopened, tag_halts, tag_unclosed, walk_tag, merge_unopened, merge_unled, target_halts, tags_halt, merge_unclosed, walk_merge}
+use Rattle.kp_merges.proofs.Tagged.{tag_unopened, tag_halts, tag_unclosed, walk_tag, merge_unopened, merge_unled, target_halts, tags_halt, body_halts, merge_unclosed, walk_merge}
 
 -- the form stands there, with a value
 pub record Stands {Y : Type 0} {b : Bool} {c : Sort} (X : Form b c) (Is : El Word c → Y → Type 0) (ts : List (Tok Word)) : Type 0 where
@@ -134,17 +134,17 @@ module _ (number : Numbers) where
   module _ (t m : Tok Word) (ts : List (Tok Word)) (left : is_left t.symbol ≡ true) (hit : hits is_merge m.symbol ≡ true) where
     module _ (s : Stands lit (IsLit number) ts) where
       merge_closed : (ls : List (List (Lit Word))) (xs : List (List Literal)) (us : List (Tok Word)) → Reads (many is_left tag) s.rest ls us → AllZip (IsTag number) ls xs → (v : Bool) → first_is is_right us ≡ v → Decided number outside merge (IsMerge number) (t ∷ m ∷ ts)
-      merge_closed ls xs us h are false e = inr (record { here = us; halts = λ d. merge_unclosed left hit s.value s.is s.reads xs are h e })
+      merge_closed ls xs us h are false e = inr (record { here = us; halts = λ d. merge_unclosed left hit (record { target = s.value; tags = xs }) (record { target = s.is; tags = are }) (r_both s.reads h) e })
       merge_closed ls xs [] h are true e = absurd (true≢false (sym e))
       merge_closed ls xs (u ∷ us) h are true e = inl (record { tree = (s.tree, ls); value = record { target = s.value; tags = xs }; rest = us; reads = r_bracket left (r_after hit (r_both s.reads h)) e; is = record { target = s.is; tags = are } })
 
       merge_tags : Decided number suc (many is_left tag) (AllZip (IsTag number)) s.rest → Decided number outside merge (IsMerge number) (t ∷ m ∷ ts)
       merge_tags (inl g) = merge_closed g.tree g.value g.rest g.reads g.is (first_is is_right g.rest) refl
-      merge_tags (inr f) = inr (record { here = f.here; halts = λ d. tags_halt left hit s.value s.is s.reads (f.halts 0) })
+      merge_tags (inr f) = inr (record { here = f.here; halts = λ d. body_halts left hit (tags_halt s.value s.is s.reads (f.halts 0)) })
 
     merge_target : Decided number suc lit (IsLit number) ts → Decided number outside merge (IsMerge number) (t ∷ m ∷ ts)
     merge_target (inl s) = merge_tags s (tags_decided s.rest)
-    merge_target (inr f) = inr (record { here = f.here; halts = λ d. target_halts left hit (f.halts 0) })
+    merge_target (inr f) = inr (record { here = f.here; halts = λ d. body_halts left hit (target_halts (f.halts 0)) })
 
   merge_led : (t : Tok Word) (ts : List (Tok Word)) → is_left t.symbol ≡ true → (v : Bool) → first_is (hits is_merge) ts ≡ v → Decided number outside merge (IsMerge number) (t ∷ ts)
   merge_led t ts left false e = inr (record { here = ts; halts = λ d. merge_unled left e })

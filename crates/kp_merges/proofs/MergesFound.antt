@@ -16,13 +16,13 @@ use Rattle.kp_cursor.specs.declared.halt.Halt.TheVariants as halts
 use Rattle.kp_cursor.specs.Lexemes.{from}
 use Rattle.kp_cursor.specs.Readers.{Opened, Closed, Led}
 use Rattle.kp_merges.specs.declared.merge.FileMerge.{FileMerge}
-use Rattle.kp_merges.specs.Grammar.{tag, merge, merges}
+use Rattle.kp_merges.specs.Grammar.{tag, merge_body, merge, merges}
 use Rattle.kp_merges.specs.Numbers.{Numbers, IsLit, IsTag, IsMerge}
 use Rattle.kp_merges.specs.MergesFiles.{IsFirstRefused}
-use Rattle.kp_merges.specs.Parts.{Walk, ReadsAt, HaltsBelow, HaltsAt, SoFar, LitsSoFar, AreMergesOf, AnswersTokens}
+use Rattle.kp_merges.specs.Parts.{Walk, ReadsAt, Adds, HaltsBelow, HaltsAt, SoFar, LitsSoFar, AreMergesOf, AnswersTokens}
 use Rattle.kp_merges.proofs.Contexts.{none_so_far, one_more, at_end, next_halts}
 use Rattle.kp_merges.proofs.Lits.{walk_lit}
-use Rattle.kp_merges.proofs.Tagged.{tag_unopened, tag_halts, tag_unclosed, merge_unopened, merge_unled, target_halts, tags_halt, merge_unclosed}
+use Rattle.kp_merges.proofs.Tagged.{tag_unopened, tag_halts, tag_unclosed, merge_unopened, merge_unled, target_halts, tags_halt, body_halts, merge_unclosed}
 use Rattle.kp_merges.proofs.Firsts.{first_is as is_first, first_behind}
 
 -- ---- repetitions
@@ -35,8 +35,8 @@ module _ {Y : Type 0} {c : Sort} (number : Numbers) (depth : ℕ → ℕ) (X : F
   next_fails ys at (halts.Unsupported i) n l h so = absurd h
 
   -- the next one stands there
-  pub next_stands : (ys now : List Y) (y : Y) (at behind : ℕ) → true ≡ first_is is_left (from ls at) → ((tree : El Word c) → Is tree y → Reads X (from ls at) tree (from ls behind) → (n : ℕ) → Walk number (depth n) (from ls at) (depth n) (from ls behind)) → ReadsAt X Is ls at y behind → now ≡ ys ++ y ∷ [] → SoFar number depth X Is ys (from ls at) (from ls start) → SoFar number depth X Is now (from ls behind) (from ls start)
-  next_stands ys now y at behind l walk r e so = one_more y (sym l) r.reads r.is (walk r.tree r.is r.reads) e so
+  pub next_stands : (ys now : List Y) (at behind : ℕ) → true ≡ first_is is_left (from ls at) → ((y : Y) (tree : El Word c) → Is tree y → Reads X (from ls at) tree (from ls behind) → (n : ℕ) → Walk number (depth n) (from ls at) (depth n) (from ls behind)) → Adds X Is ls at ys now behind → SoFar number depth X Is ys (from ls at) (from ls start) → SoFar number depth X Is now (from ls behind) (from ls start)
+  next_stands ys now at behind l walk a so = let r = a.stands in one_more a.one (sym l) r.reads r.is (walk a.one r.tree r.is r.reads) a.put so
 
   -- none stands there
   pub all_stand : (ys : List Y) (at : ℕ) → false ≡ first_is is_left (from ls at) → SoFar number depth X Is ys (from ls at) (from ls start) → ReadsAt (many is_left X) (AllZip Is) ls start ys at
@@ -55,7 +55,7 @@ module _ (number : Numbers) (ls : List (Tok Word)) (start at : ℕ) (set : List 
   lit_stands x behind now l r e = record {
     lits = so.lits ++ x ∷ [];
     set = e ∙ ap (with_lit x) so.set ∙ sym (fold-append (λ set l. with_lit l set) [] so.lits (x ∷ []));
-    so_far = next_stands number suc lit (IsLit number) ls start so.lits (so.lits ++ x ∷ []) x at behind l (λ tree is h d. walk_lit x is h) r refl so.so_far;
+    so_far = next_stands number suc lit (IsLit number) ls start so.lits (so.lits ++ x ∷ []) at behind l (λ y tree is h d. walk_lit y is h) (record { one = x; stands = r; put = refl }) so.so_far;
   }
 
   pub lits_stand : false ≡ first_is is_left (from ls at) → ReadsAt (many is_left lit) (IsTag number) ls start set at
@@ -86,6 +86,21 @@ no_tag number ls at e d = tag_unopened (sym e)
 
 -- ---- merges
 
+module _ (number : Numbers) (ls : List (Tok Word)) (at : ℕ) where
+  pub target_fails : (e : Halt) → HaltsAt number lit ls at e → HaltsBelow number 1 merge_body ls at e
+  target_fails halts.Memory h = tt
+  target_fails (halts.Syntax k) h = target_halts (h 0)
+  target_fails (halts.Unsupported k) h = h 0
+
+  module _ (x : Literal) (i : ℕ) (t : ReadsAt lit (IsLit number) ls at x i) where
+    pub tags_fail : (e : Halt) → HaltsAt number (many is_left tag) ls i e → HaltsBelow number 1 merge_body ls at e
+    tags_fail halts.Memory h = tt
+    tags_fail (halts.Syntax k) h = tags_halt x t.is t.reads (h 0)
+    tags_fail (halts.Unsupported k) h = h 0
+
+    pub body_stands : (xs : List (List Literal)) (behind : ℕ) → ReadsAt (many is_left tag) (AllZip (IsTag number)) ls i xs behind → ReadsAt merge_body (IsMerge number) ls at (record { target = x; tags = xs }) behind
+    body_stands xs behind g = record { tree = (t.tree, g.tree); reads = r_both t.reads g.reads; is = record { target = t.is; tags = g.is } }
+
 pub no_merge : (number : Numbers) (ls : List (Tok Word)) (at : ℕ) → false ≡ first_is is_left (from ls at) → HaltsBelow number 0 merge ls at (halts.Syntax at)
 no_merge number ls at e = merge_unopened (sym e)
 
@@ -94,27 +109,21 @@ module _ (number : Numbers) (ls : List (Tok Word)) (at : ℕ) (o : Opened (from 
   no_word f = rw o.is (merge_unled o.left f)
 
   module _ (i : ℕ) (w : Led leads.Merge (from ls (at + 1)) (from ls i)) where
-    pub target_fails : (e : Halt) → HaltsAt number lit ls i e → HaltsBelow number 0 merge ls at e
-    target_fails halts.Memory h = tt
-    target_fails (halts.Syntax k) h = rw (o.is, w.is) (target_halts o.left w.leads (h 0))
-    target_fails (halts.Unsupported k) h = h 0
+    pub body_fails : (e : Halt) → HaltsBelow number 1 merge_body ls i e → HaltsBelow number 0 merge ls at e
+    body_fails halts.Memory h = tt
+    body_fails (halts.Syntax k) h = rw (o.is, w.is) (body_halts o.left w.leads h)
+    body_fails (halts.Unsupported k) h = h
 
-    module _ (x : Literal) (j : ℕ) (t : ReadsAt lit (IsLit number) ls i x j) where
-      pub tags_fail : (e : Halt) → HaltsAt number (many is_left tag) ls j e → HaltsBelow number 0 merge ls at e
-      tags_fail halts.Memory h = tt
-      tags_fail (halts.Syntax k) h = rw (o.is, w.is) (tags_halt o.left w.leads x t.is t.reads (h 0))
-      tags_fail (halts.Unsupported k) h = h 0
+    module _ (x : FileMerge) (k : ℕ) (g : ReadsAt merge_body (IsMerge number) ls i x k) where
+      pub merge_open : first_is is_right (from ls k) ≡ false → HaltsBelow number 0 merge ls at (halts.Syntax k)
+      merge_open f = rw (o.is, w.is) (merge_unclosed o.left w.leads x g.is g.reads f)
 
-      module _ (xs : List (List Literal)) (k : ℕ) (g : ReadsAt (many is_left tag) (AllZip (IsTag number)) ls j xs k) where
-        pub merge_open : first_is is_right (from ls k) ≡ false → HaltsBelow number 0 merge ls at (halts.Syntax k)
-        merge_open f = rw (o.is, w.is) (merge_unclosed o.left w.leads x t.is t.reads xs g.is g.reads f)
-
-        pub merge_stands : (behind : ℕ) → Closed (from ls k) (from ls behind) → ReadsAt merge (IsMerge number) ls at (record { target = x; tags = xs }) behind
-        merge_stands behind c = record {
-          tree = (t.tree, g.tree);
-          reads = rw (o.is, w.is) (r_bracket o.left (r_after w.leads (r_both t.reads (subst (λ (ts : List (Tok Word)). Reads (many is_left tag) (from ls j) g.tree ts) c.is g.reads))) c.right);
-          is = record { target = t.is; tags = g.is };
-        }
+      pub merge_stands : (behind : ℕ) → Closed (from ls k) (from ls behind) → ReadsAt merge (IsMerge number) ls at x behind
+      merge_stands behind c = record {
+        tree = g.tree;
+        reads = rw (o.is, w.is) (r_bracket o.left (r_after w.leads (subst (λ (ts : List (Tok Word)). Reads merge_body (from ls i) g.tree ts) c.is g.reads)) c.right);
+        is = g.is;
+      }
 
 -- ---- all tokens
 

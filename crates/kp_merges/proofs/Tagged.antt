@@ -9,7 +9,7 @@ use Rattle.kp_grammar.specs.Forms.{hits, many}
 use Rattle.kp_grammar.specs.Grammar.{lit}
 use Rattle.kp_grammar.specs.Reading.{stop, Reads, r_both, r_after, r_end, r_more, r_bracket, s_before, s_unopened, s_inside, s_unclosed}
 use Rattle.kp_merges.specs.declared.merge.FileMerge.{FileMerge}
-use Rattle.kp_merges.specs.Grammar.{MergeTree, tag, merge}
+use Rattle.kp_merges.specs.Grammar.{MergeTree, tag, merge_body, merge}
 use Rattle.kp_merges.specs.Numbers.{Numbers, IsLit, IsTag, IsMerge}
 use Rattle.kp_merges.specs.Parts.{Walk, arrived, word, closes, opens, opens_inside, Halts, stopped}
 use Rattle.kp_merges.proofs.Walks.{follows, is_word, no_head, left_is_no_head, right_is_no_head}
@@ -61,19 +61,26 @@ module _ {number : Numbers} where
   over_word : {m : Tok Word} {ts : List (Tok Word)} → hits is_merge m.symbol ≡ true → Walk number 1 (m ∷ ts) 1 ts
   over_word {m = m} hit = let w = is_word is_merge m.symbol hit in word w.0 w.1 arrived
 
+  walk_body : {ts rest : List (Tok Word)} {tree : MergeTree} (x : FileMerge) → IsMerge number tree x → Reads merge_body ts tree rest → Walk number 1 ts 1 rest
+  walk_body x is (r_both g h) = follows (walk_lit x.target is.target g) (walk_tags x.tags is.tags h)
+
+  -- the target is refused
+  pub target_halts : {ts here : List (Tok Word)} → Halts number 1 lit ts here → Halts number 1 merge_body ts here
+  target_halts h = halts_first h
+
+  -- a tag is refused
+  pub tags_halt : {l : Lit Word} {ts mid here : List (Tok Word)} (x : Literal) → IsLit number l x → Reads lit ts l mid → Halts number 1 (many is_left tag) mid here → Halts number 1 merge_body ts here
+  tags_halt x is g h = halts_second g (walk_lit x is g) h
+
   module _ {t m : Tok Word} {ts : List (Tok Word)} (left : is_left t.symbol ≡ true) (hit : hits is_merge m.symbol ≡ true) where
-    pub target_halts : {here : List (Tok Word)} → Halts number 1 lit ts here → Halts number 0 merge (t ∷ m ∷ ts) here
-    target_halts h = halts_inside left (opens left arrived) (halts_after hit (over_word hit) (halts_first h))
+    pub body_halts : {here : List (Tok Word)} → Halts number 1 merge_body ts here → Halts number 0 merge (t ∷ m ∷ ts) here
+    body_halts h = halts_inside left (opens left arrived) (halts_after hit (over_word hit) h)
 
-    module _ {l : Lit Word} {mid : List (Tok Word)} (x : Literal) (is : IsLit number l x) (g : Reads lit ts l mid) where
-      pub tags_halt : {here : List (Tok Word)} → Halts number 1 (many is_left tag) mid here → Halts number 0 merge (t ∷ m ∷ ts) here
-      tags_halt h = halts_inside left (opens left arrived) (halts_after hit (over_word hit) (halts_second g (walk_lit x is g) h))
-
-      pub merge_unclosed : {ls : List (List (Lit Word))} {rest : List (Tok Word)} (xs : List (List Literal)) → AllZip (IsTag number) ls xs → Reads (many is_left tag) mid ls rest → first_is is_right rest ≡ false → Halts number 0 merge (t ∷ m ∷ ts) rest
-      merge_unclosed xs are h f = halts_unclosed left (r_after hit (r_both g h)) f (follows (opens left arrived) (follows (over_word hit) (follows (walk_lit x is g) (walk_tags xs are h))))
+    pub merge_unclosed : {tree : MergeTree} {rest : List (Tok Word)} (x : FileMerge) → IsMerge number tree x → Reads merge_body ts tree rest → first_is is_right rest ≡ false → Halts number 0 merge (t ∷ m ∷ ts) rest
+    merge_unclosed x is h f = halts_unclosed left (r_after hit h) f (follows (opens left arrived) (follows (over_word hit) (walk_body x is h)))
 
   pub walk_merge : {ts rest : List (Tok Word)} {tree : MergeTree} (x : FileMerge) → IsMerge number tree x → Reads merge ts tree rest → Walk number 0 ts 0 rest
-  walk_merge x is (r_bracket left (r_after hit (r_both g h)) right) = follows (opens left arrived) (follows (over_word hit) (follows (walk_lit x.target is.target g) (follows (walk_tags x.tags is.tags h) (closes right arrived))))
+  walk_merge x is (r_bracket left (r_after hit h) right) = follows (opens left arrived) (follows (over_word hit) (follows (walk_body x is h) (closes right arrived)))
 
   pub walk_merges : {trees : List MergeTree} {ts rest : List (Tok Word)} (xs : List FileMerge) → AllZip (IsMerge number) trees xs → Reads (many is_left merge) ts trees rest → Walk number 0 ts 0 rest
   walk_merges xs are h = walk_many (IsMerge number) 0 (λ tree x ts rest is h. walk_merge x is h) xs are h

@@ -12,9 +12,13 @@ use Rattle.kp_grammar.specs.Grammar.{lit}
 abbrev pub tag : Form true (s_list s_lit)
 tag = bracket (many is_left lit)
 
+-- lit tag*
+abbrev pub merge_body : Form true (s_pair s_lit (s_list (s_list s_lit)))
+merge_body = lit ▹ many is_left tag
+
 -- ( merge lit tag* )
 abbrev pub merge : Form true (s_pair s_lit (s_list (s_list s_lit)))
-merge = bracket (is_merge ▸ (lit ▹ many is_left tag))
+merge = bracket (is_merge ▸ merge_body)
 
 -- merge*
 abbrev pub merges : Form false (s_list (s_pair s_lit (s_list (s_list s_lit))))

@@ -87,6 +87,12 @@ pub record ReadsAt {Y : Type 0} {b : Bool} {c : Sort} (X : Form b c) (Is : El Wo
   pub reads : Reads X (from ls at) tree (from ls behind)
   pub is : Is tree y
 
+-- the same, and its value was put behind others
+pub record Adds {Y : Type 0} {b : Bool} {c : Sort} (X : Form b c) (Is : El Word c → Y → Type 0) (ls : List (Tok Word)) (at : ℕ) (old now : List Y) (behind : ℕ) : Type 0 where
+  pub one : Y
+  pub stands : ReadsAt X Is ls at one behind
+  pub put : now ≡ old ++ one ∷ []
+
 -- it doesn't stand there, and is refused first at a token; so many brackets are open before it
 abbrev pub HaltsBelow : Numbers → ℕ → {b : Bool} {c : Sort} → Form b c → List (Tok Word) → ℕ → Halt → Type 0
 HaltsBelow number d X ls at halts.Memory = Unit {0}

@@ -1,9 +1,10 @@
-ghost use Rattle.std.specs.Prelude.{◌≡◌, ◌<◌, ◌≤◌, ◌+◌, length, IfOk, IfErr};
+ghost use Rattle.std.specs.Prelude.{◌≡◌, ◌<◌, ◌≤◌, ◌+◌, false, length, IfOk, IfErr};
 ghost use Rattle.std.specs.Bool.{OnTrue};
-ghost use Rattle.kp_grammar.specs.Symbols.{first_is, is_left as is_opening, is_not};
+ghost use Rattle.kp_grammar.specs.Symbols.{first_is, is_left as is_opening, is_not, is_right};
 ghost use Rattle.kp_grammar.specs.Forms.{many};
 ghost use Rattle.kp_grammar.specs.Grammar.{lit};
 ghost use Rattle.kp_cursor.specs.Lexemes.{from};
+ghost use Rattle.kp_cursor.specs.Readers.{Closed};
 ghost use Rattle.kp_merges.specs.Grammar.{tag};
 ghost use Rattle.kp_merges.specs.Numbers.{IsLit, IsTag};
 ghost use Rattle.kp_merges.specs.Parts.{ReadsAt, HaltsAt, is_denied, numbers_of};
@@ -79,6 +80,16 @@ fn literals_at(
     Ok((set, at))
 }
 
+/// What stands in front of a closing bracket, and the place behind the bracket.
+pub fn closed<T: Drop>(tokens: &Tokens, inner: (T, usize)) -> Result<(T, usize), Halt>
+    ensures found { IfOk result (λ x. (x.0 ≡ inner.0) × Closed (from tokens.now inner.1) (from tokens.now x.1)) }
+    ensures stopped { IfErr result (λ e. (e ≡ Halt.Syntax inner.1) × (first_is is_right (from tokens.now inner.1) ≡ false)) }
+    ensures onward { IfOk result (λ x. (inner.1 < x.1) × (x.1 ≤ length tokens.now)) }
+{
+    let behind = close(tokens, inner.1)?;
+    Ok((inner.0, behind))
+}
+
 /// The tag that stands at a place, and the place behind it.
 pub fn tag_at(
     alloc: Global,
@@ -93,7 +104,7 @@ pub fn tag_at(
     if !is_left(tokens, at) {
         return Err(Halt::Syntax(at));
     }
-    let (set, at) = literals_at(alloc, table, tokens, at + 1)?;
-    let behind = close(tokens, at)?;
+    let literals = literals_at(alloc, table, tokens, at + 1)?;
+    let (set, behind) = closed(tokens, literals)?;
     Ok((set, behind))
 }

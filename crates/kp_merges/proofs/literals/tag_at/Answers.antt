@@ -7,17 +7,19 @@ pub returns-then-not-is_left-clause-stopped : goal.returns-then-not-is_left-clau
 returns-then-not-is_left-clause-stopped c = no_tag (numbers_of c.args.table.now) c.args.tokens.now c.args.at c.if-not-is_left.ensures.test
 
 -- a literal is refused
-pub returns-in_err-set-clause-stopped : goal.returns-in_err-set-clause-stopped
-returns-in_err-set-clause-stopped c =
+pub returns-in_err-literals-clause-stopped : goal.returns-in_err-literals-clause-stopped
+returns-in_err-literals-clause-stopped c =
     let p = err_from_is_err_and c.from_residual.result c.from_residual.ensures.1 in
-    rw (p.1, p.2) (tag_fails (numbers_of c.args.table.now) c.args.tokens.now c.args.at c.if-not-is_left.ensures.opens c.in_err-set.field-0.0 c.in_err-set.ensures.stopped)
+    rw (p.1, p.2) (tag_fails (numbers_of c.args.table.now) c.args.tokens.now c.args.at c.if-not-is_left.ensures.opens c.in_err-literals.field-0.0 c.in_err-literals.ensures.stopped)
 
 -- no closing bracket stands behind the literals
-pub returns-in_err-behind-clause-stopped : goal.returns-in_err-behind-clause-stopped
-returns-in_err-behind-clause-stopped c =
-    let p = err_from_is_err_and c.from_residual-in_err-behind.result c.from_residual-in_err-behind.ensures.1 in
-    let h = c.in_err-behind.ensures.stopped in
-    rw (p.1, p.2, h.0) (tag_open (numbers_of c.args.table.now) c.args.tokens.now c.args.at c.if-not-is_left.ensures.opens _ _ c.in_ok-set.ensures.found h.1)
+pub returns-in_err-set-clause-stopped : goal.returns-in_err-set-clause-stopped
+returns-in_err-set-clause-stopped c =
+    let p = err_from_is_err_and c.from_residual-in_err-set.result c.from_residual-in_err-set.ensures.1 in
+    let h = c.in_err-set.ensures.stopped in
+    rw (p.1, p.2, h.0) (tag_open (numbers_of c.args.table.now) c.args.tokens.now c.args.at c.if-not-is_left.ensures.opens _ _ c.in_ok-literals.ensures.found h.1)
 
 pub returns-clause-found : goal.returns-clause-found
-returns-clause-found c = tag_stands (numbers_of c.args.table.now) c.args.tokens.now c.args.at c.if-not-is_left.ensures.opens _ _ _ c.in_ok-set.ensures.found c.in_ok-behind.ensures.found
+returns-clause-found c =
+    let h = c.in_ok-set.ensures.found in
+    rw h.0 (tag_stands (numbers_of c.args.table.now) c.args.tokens.now c.args.at c.if-not-is_left.ensures.opens _ _ _ c.in_ok-literals.ensures.found h.1)

@@ -12,16 +12,16 @@ pub merges-init : goal.merges-init
 merges-init c = record { within = omega arith; so_far = rw c.new-merges.ensures (none_so_far _) }
 
 -- the next merge is refused
-pub returns-in_err-merge : goal.returns-in_err-merge
-returns-in_err-merge c =
+pub returns-in_err-behind : goal.returns-in_err-behind
+returns-in_err-behind c =
     let p = err_from_is_err_and c.from_residual.result c.from_residual.ensures.1 in
-    rw (p.1, p.2) (merge_fails (numbers_of c.args.table.now) c.args.tokens.now c.merges.at _ c.merges.invariant.so_far c.in_err-merge.field-0.0 c.merges-test.ensures.test c.in_err-merge.ensures.stopped)
+    rw (p.1, p.2) (merge_fails (numbers_of c.args.table.now) c.args.tokens.now c.merges.at _ c.merges.invariant.so_far c.in_err-behind.field-0.0 c.merges-test.ensures.test c.in_err-behind.ensures.stopped)
 
 pub merges-preserved : goal.merges-preserved
 merges-preserved c = record {
-  within = c.in_ok-merge.ensures.onward.1;
-  so_far = next_stands (numbers_of c.args.table.now) (λ _. 0) merge (IsMerge (numbers_of c.args.table.now)) c.args.tokens.now 0 _ _ c.in_ok-merge.merge c.merges.at c.in_ok-merge.behind c.merges-test.ensures.test (λ tree is h d. walk_merge c.in_ok-merge.merge is h)
-      c.in_ok-merge.ensures.found c.in_ok-push.ensures.ok c.merges.invariant.so_far;
+  within = c.in_ok-behind.ensures.onward.1;
+  so_far = next_stands (numbers_of c.args.table.now) (λ _. 0) merge (IsMerge (numbers_of c.args.table.now)) c.args.tokens.now 0 _ _ c.merges.at c.in_ok-behind.behind c.merges-test.ensures.test (λ y tree is h d. walk_merge y is h)
+      c.in_ok-behind.ensures.found c.merges.invariant.so_far;
 }
 
 -- no token is left

@@ -6,5 +6,5 @@ use Rattle.kp_merges.proofs.reading.read_tokens.Goals as goal
 
 pub returns : goal.returns
 returns c =
-    let read : c.new-seen.result ≡ map (lexed c.in_ok-lower.lower.items) c.args.tokens.now = rw (← c.deref.ensures.value) c.new-seen.ensures in
-    of_tokens (numbers_of c.args.table.now) c.args.bytes.now c.in_ok-lower.lower.items c.args.tokens.now c.new-seen.result c.in_ok-lower.ensures read c.merges.result c.merges.ensures
+    let read : c.new.result ≡ map (lexed c.in_ok-lower.lower.items) c.args.tokens.now = rw (← c.deref.ensures.value) c.new.ensures in
+    of_tokens (numbers_of c.args.table.now) c.args.bytes.now c.in_ok-lower.lower.items c.args.tokens.now c.new.result c.in_ok-lower.ensures read c.merges-merges.result c.merges-merges.ensures

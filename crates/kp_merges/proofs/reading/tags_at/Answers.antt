@@ -12,17 +12,17 @@ pub tags-init : goal.tags-init
 tags-init c = record { onward = omega arith; within = c.requires; so_far = rw c.new-tags.ensures (none_so_far _) }
 
 -- the next tag is refused
-pub returns-in_err-tag-clause-stopped : goal.returns-in_err-tag-clause-stopped
-returns-in_err-tag-clause-stopped c =
+pub returns-in_err-behind-clause-stopped : goal.returns-in_err-behind-clause-stopped
+returns-in_err-behind-clause-stopped c =
     let p = err_from_is_err_and c.from_residual.result c.from_residual.ensures.1 in
-    rw (p.1, p.2) (λ d. next_fails (numbers_of c.args.table.now) suc tag (IsTag (numbers_of c.args.table.now)) c.args.tokens.now c.args.start _ c.tags.at c.in_err-tag.field-0.0 d c.tags-test.ensures.test (c.in_err-tag.ensures.stopped d) c.tags.invariant.so_far)
+    rw (p.1, p.2) (λ d. next_fails (numbers_of c.args.table.now) suc tag (IsTag (numbers_of c.args.table.now)) c.args.tokens.now c.args.start _ c.tags.at c.in_err-behind.field-0.0 d c.tags-test.ensures.test (c.in_err-behind.ensures.stopped d) c.tags.invariant.so_far)
 
 pub tags-preserved : goal.tags-preserved
 tags-preserved c = record {
-  onward = omega (arith, c.tags.invariant.onward, c.in_ok-tag.ensures.onward.0);
-  within = c.in_ok-tag.ensures.onward.1;
-  so_far = next_stands (numbers_of c.args.table.now) suc tag (IsTag (numbers_of c.args.table.now)) c.args.tokens.now c.args.start _ _ c.in_ok-tag.tag c.tags.at c.in_ok-tag.behind c.tags-test.ensures.test (λ tree is h d. walk_tag c.in_ok-tag.tag is h)
-      c.in_ok-tag.ensures.found c.in_ok-push.ensures.ok c.tags.invariant.so_far;
+  onward = omega (arith, c.tags.invariant.onward, c.in_ok-behind.ensures.onward.0);
+  within = c.in_ok-behind.ensures.onward.1;
+  so_far = next_stands (numbers_of c.args.table.now) suc tag (IsTag (numbers_of c.args.table.now)) c.args.tokens.now c.args.start _ _ c.tags.at c.in_ok-behind.behind c.tags-test.ensures.test (λ y tree is h d. walk_tag y is h)
+      c.in_ok-behind.ensures.found c.tags.invariant.so_far;
 }
 
 -- no further tag stands there
