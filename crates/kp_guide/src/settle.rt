@@ -206,6 +206,25 @@ fn begin(
     rounds(alloc, index, costs, counts, waits, first)
 }
 
+// Lowers the costs until no rule lowers one, given how many needs of each rule have no cost.
+fn settle_counted(
+    alloc: Global,
+    index: &Index,
+    costs: &mut [u32],
+    counts: &mut [usize],
+) -> Result<(), Memory>
+    requires costs { are_costs costs.old ≡ true }
+    requires long { length costs.old ≡ length index.now.users.items }
+    requires counts { AreCounts index.now.rules.items (unreached costs.old) counts.old }
+    ensures lowers { OnOk result (Lowers index.now.rules.items costs.old costs.new) }
+    ensures closed { OnOk result (IsClosed index.now.rules.items costs.new) }
+{
+    let mut waits = vec![in alloc; false; index.rules.len()]?;
+    let done = begin(alloc, index, costs, counts, &mut waits);
+    drop(waits);
+    done
+}
+
 /// Lowers the costs until no rule lowers one.
 pub(crate) fn settle(alloc: Global, index: &Index, costs: &mut [u32]) -> Result<(), Memory>
     requires costs { are_costs costs.old ≡ true }
@@ -214,6 +233,7 @@ pub(crate) fn settle(alloc: Global, index: &Index, costs: &mut [u32]) -> Result<
     ensures closed { OnOk result (IsClosed index.now.rules.items costs.new) }
 {
     let mut counts = index.counts(alloc, costs)?;
-    let mut waits = vec![in alloc; false; index.rules.len()]?;
-    begin(alloc, index, costs, &mut counts, &mut waits)
+    let done = settle_counted(alloc, index, costs, &mut counts);
+    drop(counts);
+    done
 }
