@@ -34,8 +34,11 @@ facts_left atoms t tags now next all below h e =
     ∙ ap (λ u. flat_map (facts_of_atom t) atoms ++ map (name_of atoms) (facts_from u (tags - (t + 1)) ls)) (next_tag t) in
     rw e (append_assoc now (flat_map (facts_of_atom t) atoms) (map (name_of atoms) (facts_from (t + 1) (tags - (t + 1)) ls)) ∙ ap (λ ns. now ++ ns) (sym whole) ∙ h)
 
--- the same of effects
+-- what comes from a tag on is what comes under it, and then what comes from the next tag on
+pub one_tag : {A : Type 0} (f : ℕ → List A) (from : ℕ → ℕ → List A) → ((t k : ℕ) → from t (suc k) ≡ f t ++ from (suc t) k) → (t tags : ℕ) → t < tags → from t (tags - t) ≡ f t ++ from (t + 1) (tags - (t + 1))
+one_tag f from step t tags below = ap (λ k. from t k) (one_fewer t tags below) ∙ step t (tags - (t + 1)) ∙ ap (λ u. f t ++ from u (tags - (t + 1))) (next_tag t)
+
+-- so where that has come, the latter is left
 pub effects_left : {A : Type 0} (f : ℕ → List A) (from : ℕ → ℕ → List A) → ((t k : ℕ) → from t (suc k) ≡ f t ++ from (suc t) k) → (t tags : ℕ) (now next all : List A) → t < tags → now ++ from t (tags - t) ≡ all → next ≡ now ++ f t → next ++ from (t + 1) (tags - (t + 1)) ≡ all
 effects_left f from step t tags now next all below h e =
-    let whole : from t (tags - t) ≡ f t ++ from (t + 1) (tags - (t + 1)) = ap (λ k. from t k) (one_fewer t tags below) ∙ step t (tags - (t + 1)) ∙ ap (λ u. f t ++ from u (tags - (t + 1))) (next_tag t) in
-    rw e (append_assoc now (f t) (from (t + 1) (tags - (t + 1))) ∙ ap (λ ns. now ++ ns) (sym whole) ∙ h)
+    rw e (append_assoc now (f t) (from (t + 1) (tags - (t + 1))) ∙ ap (λ ns. now ++ ns) (sym (one_tag f from step t tags below)) ∙ h)

@@ -1,5 +1,5 @@
 -- What `translate` answers: the task of a ground problem and a table, or that it is larger than a limit allows.
-use Rattle.std.specs.Prelude.{◌≡◌, ◌<◌, ◌≤◌, ℕ, length, Result, Ok, Err}
+use Rattle.std.specs.Prelude.{◌≡◌, ◌<◌, ◌≤◌, ℕ, [], length, Result, Ok, Err}
 use Rattle.kp_base.specs.declared.lit.Lit.{Lit}
 use Rattle.kp_base.specs.declared.ground.Ground.{Ground}
 use Rattle.kp_base.specs.declared.ground.TagTable.{TagTable}
@@ -31,6 +31,10 @@ StopsTask t limits stops.Memory = Unit {0}
 abbrev pub AnswersTask : Ground → TagTable → Limits → Result Task Stop → Type 0
 AnswersTask g table limits (Ok t) = FitsLimits (task_of g table) limits × (t ≡ task_of g table)
 AnswersTask g table limits (Err stop) = StopsTask (task_of g table) limits stop
+
+-- a task as far as its operators
+abbrev pub without_operators : Task → Task
+without_operators t = record { facts = t.facts; init = t.init; goal = t.goal; ops = [] }
 
 -- the literal is that of the fact, under some tag, with so many atoms
 pub record IsLiteralOf (atoms fact : ℕ) (l : Lit) : Type 0 where

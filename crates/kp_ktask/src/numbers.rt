@@ -1,9 +1,10 @@
-ghost use Rattle.std.specs.Prelude.{◌≡◌, ◌<◌, ◌++◌, IfOk, OnOk};
+ghost use Rattle.std.specs.Prelude.{◌≡◌, ◌<◌, [], ◌++◌, IfOk, OnOk};
 ghost use Rattle.kp_task.specs.Task.{number, numbers};
 ghost use Rattle.kp_ktask.specs.Translated.{IsLiteralOf};
 
 use kp_base::{AtomId, Lit, Memory, Row};
 use std::alloc::Global;
+use std::mem;
 
 /// The number of a literal's fact under a tag. One that a `u32` doesn't count is want of memory.
 pub fn number(atoms: u32, tag: u32, lit: Lit) -> Result<u32, Memory>
@@ -36,6 +37,28 @@ pub fn numbers(alloc: Global, atoms: u32, tag: u32, lits: &[Lit]) -> Result<Row<
     let mut row = Row::new(alloc);
     push_numbers(&mut row, atoms, tag, lits)?;
     Ok(row)
+}
+
+fn clear(alloc: Global, row: &mut Row<u32>)
+    ensures { row.new ≡ [] }
+{
+    let mut items = mem::replace(row, Row::new(alloc)).into_vec();
+    items.clear();
+    *row = Row::from_vec(items);
+}
+
+/// Makes them the numbers of the literals' facts.
+pub fn set_numbers(
+    alloc: Global,
+    row: &mut Row<u32>,
+    atoms: u32,
+    tag: u32,
+    lits: &[Lit],
+) -> Result<(), Memory>
+    ensures { OnOk result (row.new ≡ numbers atoms tag lits.now) }
+{
+    clear(alloc, row);
+    push_numbers(row, atoms, tag, lits)
 }
 
 /// The literal whose fact has this number, under whichever tag.

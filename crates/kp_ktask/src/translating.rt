@@ -1,6 +1,6 @@
-ghost use Rattle.std.specs.Prelude.{◌≡◌, ◌++◌, length, map, IfOk, OnOk, IfErr};
-ghost use Rattle.kp_task.specs.Task.{op_of, merge_ops_from, task_of};
-ghost use Rattle.kp_ktask.specs.Translated.{FitsLimits, StopsTask, AnswersTask};
+ghost use Rattle.std.specs.Prelude.{◌≡◌, length, IfOk, OnOk, IfErr};
+ghost use Rattle.kp_task.specs.Task.{task_of};
+ghost use Rattle.kp_ktask.specs.Translated.{FitsLimits, StopsTask, AnswersTask, without_operators};
 
 use crate::facts::{fact_names, start};
 use crate::numbers::numbers;
@@ -10,8 +10,8 @@ use kp_base::{Ground, Limits, Memory, Refused, Row, Stop, TagTable};
 use kp_classic::{Conds, Op, Task};
 use std::alloc::Global;
 
-// Whether the task is within the limits.
-fn judge(ground: &Ground, table: &TagTable, limits: &Limits) -> Result<(), Stop>
+/// Whether the task is within the limits.
+pub fn judge(ground: &Ground, table: &TagTable, limits: &Limits) -> Result<(), Stop>
     ensures within { OnOk result (FitsLimits (task_of ground.now table.now) limits.now) }
     ensures refused { IfErr result (StopsTask (task_of ground.now table.now) limits.now) }
 {
@@ -24,24 +24,9 @@ fn judge(ground: &Ground, table: &TagTable, limits: &Limits) -> Result<(), Stop>
     Ok(())
 }
 
-fn operators(
-    alloc: Global,
-    ground: &Ground,
-    table: &TagTable,
-    atoms: u32,
-    tags: u32,
-) -> Result<Row<Op>, Memory>
-    ensures { IfOk result (λ row. row ≡ map (op_of atoms tags) ground.now.actions ++ merge_ops_from atoms 0 table.now.merges) }
-{
-    let mut row = Row::new(alloc);
-    push_operators(alloc, &mut row, atoms, tags, ground.actions.slice())?;
-    push_merges(alloc, &mut row, atoms, table.merges.slice())?;
-    Ok(row)
-}
-
-// More atoms or tags than a `u32` counts are want of memory.
-fn whole(alloc: Global, ground: &Ground, table: &TagTable) -> Result<Task, Memory>
-    ensures { IfOk result (λ task. task ≡ task_of ground.now table.now) }
+/// How many atoms and tags there are. More than a `u32` counts are want of memory.
+pub fn sizes(ground: &Ground, table: &TagTable) -> Result<(u32, u32), Memory>
+    ensures { IfOk result (λ sizes. (sizes.0 ≡ length ground.now.atoms) × (sizes.1 ≡ length table.now.tags)) }
 {
     let Ok(atoms) = u32::try_from(ground.atoms.len()) else {
         return Err(Memory);
@@ -49,6 +34,14 @@ fn whole(alloc: Global, ground: &Ground, table: &TagTable) -> Result<Task, Memor
     let Ok(tags) = u32::try_from(table.tags.len()) else {
         return Err(Memory);
     };
+    Ok((atoms, tags))
+}
+
+/// The task of a ground problem and a table without its operators.
+pub fn outline(alloc: Global, ground: &Ground, table: &TagTable) -> Result<Task, Memory>
+    ensures { IfOk result (λ task. task ≡ without_operators (task_of ground.now table.now)) }
+{
+    let (atoms, tags) = sizes(ground, table)?;
     let facts = fact_names(alloc, tags, ground.atoms.slice())?;
     let init = start(alloc, atoms, table.tags.slice())?;
     Ok(Task {
@@ -58,8 +51,27 @@ fn whole(alloc: Global, ground: &Ground, table: &TagTable) -> Result<Task, Memor
             yes: numbers(alloc, atoms, 0, ground.goal.slice())?,
             no: Row::new(alloc),
         },
-        ops: operators(alloc, ground, table, atoms, tags)?,
+        ops: Row::new(alloc),
     })
+}
+
+// The operators of actions, and then those of merges.
+fn operators(alloc: Global, ground: &Ground, table: &TagTable) -> Result<Row<Op>, Memory>
+    ensures { IfOk result (λ row. row ≡ (task_of ground.now table.now).ops) }
+{
+    let (atoms, tags) = sizes(ground, table)?;
+    let mut row = Row::new(alloc);
+    push_operators(alloc, &mut row, atoms, tags, ground.actions.slice())?;
+    push_merges(alloc, &mut row, atoms, table.merges.slice())?;
+    Ok(row)
+}
+
+fn whole(alloc: Global, ground: &Ground, table: &TagTable) -> Result<Task, Memory>
+    ensures { IfOk result (λ task. task ≡ task_of ground.now table.now) }
+{
+    let mut task = outline(alloc, ground, table)?;
+    task.ops = operators(alloc, ground, table)?;
+    Ok(task)
 }
 
 /// The task of a ground problem and a table of tags and merges, with names that tell its facts and operators. A task

@@ -2,6 +2,7 @@
 //! them. `specs/Translations.antt` says what they are.
 #![tactic(auto)]
 
+mod domain;
 mod report;
 mod table;
 mod translation;

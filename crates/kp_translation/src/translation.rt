@@ -1,12 +1,14 @@
 ghost use Rattle.std.specs.Prelude.{◌≡◌, IfOk};
 ghost use Rattle.kp_task.specs.Task.{task_of};
+ghost use Rattle.kp_ktask.specs.Translated.{without_operators};
 ghost use Rattle.kp_translation.specs.Translations.{translation_with, AnswersTranslation};
 
+use crate::domain::domain_text;
 use crate::report::counts_text;
 use kp_base::{Ground, Limits, Memory, Row, Stop, TagTable};
 use kp_classic::Task;
-use kp_ktask::translate;
-use kp_write::{domain_text, problem_text};
+use kp_ktask::{judge, outline};
+use kp_write::problem_text;
 use std::alloc::Global;
 
 /// The texts of a translation.
@@ -20,20 +22,20 @@ pub struct Translation {
     pub counts: Row<u8>,
 }
 
-// The texts of a ground problem with a table, whose task this is.
+// The texts of a ground problem with a table, whose task is this one but for its operators.
 fn texts(
     alloc: Global,
     ground: &Ground,
     table: &TagTable,
-    task: &Task,
+    outline: &Task,
 ) -> Result<Translation, Memory>
-    requires { task.now ≡ task_of ground.now table.now }
+    requires { outline.now ≡ without_operators (task_of ground.now table.now) }
     ensures { IfOk result (λ t. t ≡ translation_with ground.now table.now) }
 {
     Ok(Translation {
-        domain: domain_text(alloc, task)?,
-        problem: problem_text(alloc, task)?,
-        counts: counts_text(alloc, ground, table, task.facts.len())?,
+        domain: domain_text(alloc, ground, table, outline.facts.slice())?,
+        problem: problem_text(alloc, outline)?,
+        counts: counts_text(alloc, ground, table, outline.facts.len())?,
     })
 }
 
@@ -47,6 +49,7 @@ pub fn translation_with(
 ) -> Result<Translation, Stop>
     ensures { AnswersTranslation ground.now table.now limits.now result }
 {
-    let task = translate(alloc, ground, table, limits)?;
-    Ok(texts(alloc, ground, table, &task)?)
+    judge(ground, table, limits)?;
+    let outline = outline(alloc, ground, table)?;
+    Ok(texts(alloc, ground, table, &outline)?)
 }

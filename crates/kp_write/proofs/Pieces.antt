@@ -2,7 +2,7 @@
 use Rattle.std.proofs.Common.{◌≡◌, ℕ, ◌<◌, true, false, ◌&&◌, ◌==◌, List, [], ◌∷◌, ◌++◌, map, length, refl, sym, ap, ◌∙◌, append-nil, codes, arith}
 use Rattle.kp_pieces.specs.Pieces.{Piece, right, spelling, Put, each, ◌⨾◌, Puts, opens, space, line_feed, name, key, spaced}
 use Rattle.kp_write.specs.Task.{Signed, Op}
-use Rattle.kp_write.specs.Written.{fact, fact_line, signed_case, signed, guarded, when_put, precondition, effect_line, op, domain_pieces, domain_text, problem_pieces, problem_text}
+use Rattle.kp_write.specs.Written.{fact, fact_line, signed_case, signed, guarded, when_put, precondition, effect_line, op_front, op_end, op, domain_front, domain_end, domain_pieces, domain_text, problem_pieces, problem_text}
 use Rattle.kp_pieces.proofs.Putting.{wrote, each-append}
 use Rattle.kp_write.specs.Named.{fact_name, signed_fact}
 
@@ -34,15 +34,19 @@ precondition_puts a b c d facts (n ∷ ns) some e p h = record {
       ∙ ap (λ (ps : List Piece). a ++ (codes ":precondition (and" ++ spelling ps)) (all_hold facts (n ∷ ns) (right ∷ line_feed rest));
 }
 
-pub op_puts : (a b c d e f g h : List ℕ) (o : Op) → b ≡ a ++ codes "(:action " → c ≡ b ++ o.name → d ≡ c ++ codes "\n:parameters ()\n" → Puts d e (precondition o.pre) → f ≡ e ++ codes ":effect (and\n" → Puts f g (each effect_line o.effects) → h ≡ g ++ codes ")\n)\n" → Puts a h (op o)
-unfolding op
-op_puts a b c d e f g h o h1 h2 h3 h4 h5 h6 h7 = record {
+pub front_puts : (a b c d e f : List ℕ) (word : List ℕ) (pre : List (List ℕ)) → b ≡ a ++ codes "(:action " → c ≡ b ++ word → d ≡ c ++ codes "\n:parameters ()\n" → Puts d e (precondition pre) → f ≡ e ++ codes ":effect (and\n" → Puts a f (op_front word pre)
+front_puts a b c d e f word pre h1 h2 h3 h4 h5 = record {
   puts = λ rest.
-      let end : List Piece = right ∷ line_feed (right ∷ line_feed rest) in
-      let effects : List Piece = each effect_line o.effects end in
-      wrote g h (codes ")\n)\n") (spelling rest) h7 ∙ h6.puts end ∙ wrote e f (codes ":effect (and\n") (spelling effects) h5
-      ∙ h4.puts ((key (codes ":effect") ⨾ space ⨾ opens ⨾ name (codes "and") ⨾ line_feed) effects) ∙ wrote c d (codes "\n:parameters ()\n") _ h3 ∙ wrote b c o.name _ h2 ∙ wrote a b (codes "(:action ") _ h1;
+      wrote e f (codes ":effect (and\n") (spelling rest) h5
+      ∙ h4.puts ((key (codes ":effect") ⨾ space ⨾ opens ⨾ name (codes "and") ⨾ line_feed) rest) ∙ wrote c d (codes "\n:parameters ()\n") _ h3 ∙ wrote b c word _ h2 ∙ wrote a b (codes "(:action ") _ h1;
 }
+
+pub end_puts : (a b : List ℕ) → b ≡ a ++ codes ")\n)\n" → Puts a b op_end
+end_puts a b e = record { puts = λ rest. wrote a b (codes ")\n)\n") (spelling rest) e }
+
+pub op_puts : (a b c d : List ℕ) (o : Op) → Puts a b (op_front o.name o.pre) → Puts b c (each effect_line o.effects) → Puts c d op_end → Puts a d (op o)
+unfolding op
+op_puts a b c d o h1 h2 h3 = record { puts = λ rest. h3.puts rest ∙ h2.puts (op_end rest) ∙ h1.puts (each effect_line o.effects (op_end rest)) }
 
 pub fact_puts : (a b c d word : List ℕ) → b ≡ a ++ codes "(" → c ≡ b ++ word → d ≡ c ++ codes ")" → Puts a d (fact word)
 fact_puts a b c d word h i k = record { puts = λ rest. wrote c d (codes ")") (spelling rest) k ∙ wrote b c word _ i ∙ wrote a b (codes "(") _ h }
@@ -53,13 +57,23 @@ line_puts a b c f p e = record { puts = λ rest. wrote b c (codes "\n") (spellin
 pub denied_puts : (a b c d n : List ℕ) → b ≡ a ++ codes "(not " → Puts b c (fact n) → d ≡ c ++ codes ")" → Puts a d (signed_case false n)
 denied_puts a b c d n e p h = record { puts = λ rest. wrote c d (codes ")") (spelling rest) h ∙ p.puts (right ∷ rest) ∙ wrote a b (codes "(not ") (spelling (fact n (right ∷ rest))) e }
 
-pub domain_is : (a b c d e : List ℕ) (facts : List (List ℕ)) (ops : List Op) → a ≡ codes "(define (domain kplan)\n(:requirements :strips :negative-preconditions :conditional-effects)\n(:predicates\n" → Puts a b (each fact_line facts) → c ≡ b ++ codes ")\n" → Puts c d (each op ops) → e ≡ d ++ codes ")\n" → e ≡ domain_text facts ops
+pub domain_front_puts : (a b c d : List ℕ) (facts : List (List ℕ)) → b ≡ a ++ codes "(define (domain kplan)\n(:requirements :strips :negative-preconditions :conditional-effects)\n(:predicates\n" → Puts b c (each fact_line facts) → d ≡ c ++ codes ")\n" → Puts a d (domain_front facts)
+domain_front_puts a b c d facts h1 h2 h3 = record {
+  puts = λ rest.
+      let after : List Piece = right ∷ line_feed rest in
+      wrote c d (codes ")\n") (spelling rest) h3 ∙ h2.puts after
+      ∙ wrote a b (codes "(define (domain kplan)\n(:requirements :strips :negative-preconditions :conditional-effects)\n(:predicates\n") (spelling (each fact_line facts after)) h1;
+}
+
+pub domain_end_puts : (a b : List ℕ) → b ≡ a ++ codes ")\n" → Puts a b domain_end
+domain_end_puts a b e = record { puts = λ rest. wrote a b (codes ")\n") (spelling rest) e }
+
+-- what was put from nothing on is the text
+pub domain_is : (a b c d : List ℕ) (facts : List (List ℕ)) (ops : List Op) → a ≡ [] → Puts a b (domain_front facts) → Puts b c (each op ops) → Puts c d domain_end → d ≡ domain_text facts ops
 unfolding domain_pieces
-domain_is a b c d e facts ops h1 h2 h3 h4 h5 =
-    let end : List Piece = right ∷ line_feed [] in
-    let after : List Piece = right ∷ line_feed (each op ops end) in
-    sym (append-nil e) ∙ wrote d e (codes ")\n") [] h5 ∙ h4.puts end ∙ wrote b c (codes ")\n") (spelling (each op ops end)) h3 ∙ h2.puts after
-    ∙ ap (λ (l : List ℕ). l ++ spelling (each fact_line facts after)) h1
+domain_is a b c d facts ops none h1 h2 h3 =
+    let end : List Piece = domain_end [] in
+    sym (append-nil d) ∙ h3.puts [] ∙ h2.puts end ∙ h1.puts (each op ops end) ∙ ap (λ (l : List ℕ). l ++ spelling (domain_front facts (each op ops end))) none
 
 pub problem_is : (a b c d e : List ℕ) (init goal : List (List ℕ)) → a ≡ codes "(define (problem kplan)\n(:domain kplan)\n(:init\n" → Puts a b (each fact_line init) → c ≡ b ++ codes ")\n(:goal (and\n" → Puts c d (each fact_line goal) → e ≡ d ++ codes "))\n)\n" → e ≡ problem_text init goal
 unfolding problem_pieces

@@ -43,31 +43,42 @@ abbrev pub precondition : List (List ℕ) → Put
 precondition [] rest = rest
 precondition (n ∷ ns) rest = (key (codes ":precondition") ⨾ space ⨾ conjunction fact (n ∷ ns) ⨾ line_feed) rest
 
--- an operator, as an action without parameters
-unfoldable pub op : Op → Put
-op o =
-    opens ⨾ key (codes ":action") ⨾ space ⨾ name o.name ⨾ line_feed
+-- an operator as far as its effects, as an action without parameters
+abbrev pub op_front : List ℕ → List (List ℕ) → Put
+op_front word pre =
+    opens ⨾ key (codes ":action") ⨾ space ⨾ name word ⨾ line_feed
     ⨾ key (codes ":parameters") ⨾ space ⨾ opens ⨾ closes ⨾ line_feed
-    ⨾ precondition o.pre
+    ⨾ precondition pre
     ⨾ key (codes ":effect") ⨾ space ⨾ opens ⨾ name (codes "and") ⨾ line_feed
-    ⨾ each effect_line o.effects
-    ⨾ closes ⨾ line_feed
-    ⨾ closes ⨾ line_feed
+
+-- what stands behind its effects
+abbrev pub op_end : Put
+op_end = closes ⨾ line_feed ⨾ closes ⨾ line_feed
+
+-- an operator
+unfoldable pub op : Op → Put
+op o = op_front o.name o.pre ⨾ each effect_line o.effects ⨾ op_end
 
 -- (define (WHAT kplan)
 abbrev pub heading : List ℕ → Put
 heading what = opens ⨾ name (codes "define") ⨾ space ⨾ opens ⨾ name what ⨾ space ⨾ name (codes "kplan") ⨾ closes ⨾ line_feed
 
--- the domain file, from the names of the facts and the operators
-unfoldable pub domain_pieces : List (List ℕ) → List Op → List Piece
-domain_pieces facts ops =
-    (heading (codes "domain")
+-- the domain file as far as its operators, from the names of the facts
+abbrev pub domain_front : List (List ℕ) → Put
+domain_front facts =
+    heading (codes "domain")
     ⨾ opens ⨾ key (codes ":requirements") ⨾ space ⨾ key (codes ":strips") ⨾ space ⨾ key (codes ":negative-preconditions") ⨾ space ⨾ key (codes ":conditional-effects") ⨾ closes ⨾ line_feed
     ⨾ opens ⨾ key (codes ":predicates") ⨾ line_feed
     ⨾ each fact_line facts
     ⨾ closes ⨾ line_feed
-    ⨾ each op ops
-    ⨾ closes ⨾ line_feed) []
+
+-- what stands behind the operators
+abbrev pub domain_end : Put
+domain_end = closes ⨾ line_feed
+
+-- the domain file, from the names of the facts and the operators
+unfoldable pub domain_pieces : List (List ℕ) → List Op → List Piece
+domain_pieces facts ops = (domain_front facts ⨾ each op ops ⨾ domain_end) []
 
 -- the problem file, from the facts at the start and those of the goal
 unfoldable pub problem_pieces : List (List ℕ) → List (List ℕ) → List Piece

@@ -10,4 +10,5 @@ pub use laws::{
     facts_tell_apart, plans_are_runs, task_plans_are_runs, tasks_read, written_domains_read,
     written_problems_read, written_texts_have_a_problem,
 };
-pub use writing::{domain_text, problem_text};
+pub use putting::{put_effect, put_operator, put_operator_end, put_operator_front};
+pub use writing::{domain_text, problem_text, put_domain_end, put_domain_front};

@@ -1,6 +1,6 @@
 ghost use Rattle.std.specs.Prelude.{◌≡◌, ◌++◌, ◌&&◌, ◌==◌, false, length, map, OnOk};
 ghost use Rattle.kp_pieces.specs.Pieces.{each, Puts, spaced};
-ghost use Rattle.kp_write.specs.Written.{fact, fact_line, signed, guarded, when_put, effect_line, precondition, op};
+ghost use Rattle.kp_write.specs.Written.{fact, fact_line, signed, guarded, when_put, effect_line, precondition, op_front, op_end, op};
 ghost use Rattle.kp_write.specs.Named.{fact_name, signed_fact, named_conds, named_effect, named_op};
 
 use kp_base::{Memory, Text};
@@ -104,12 +104,20 @@ fn put_guarded(out: &mut Vec<u8>, facts: &[Text], effect: &OpEffect) -> Result<(
     Ok(())
 }
 
+/// Adds an effect, on a line of its own.
+pub fn put_effect(out: &mut Vec<u8>, facts: &[Text], effect: &OpEffect) -> Result<(), Memory>
+    ensures { OnOk result (Puts out.old.items out.new.items (effect_line (named_effect facts.now effect.now))) }
+{
+    put_guarded(out, facts, effect)?;
+    put(out, b"\n")?;
+    Ok(())
+}
+
 fn put_effects(out: &mut Vec<u8>, facts: &[Text], effects: &[OpEffect]) -> Result<(), Memory>
     ensures { OnOk result (Puts out.old.items out.new.items (each effect_line (map (named_effect facts.now) effects.now))) }
 {
     for effect in effects {
-        put_guarded(out, facts, effect)?;
-        put(out, b"\n")?;
+        put_effect(out, facts, effect)?;
     }
     Ok(())
 }
@@ -125,16 +133,33 @@ fn put_precondition(out: &mut Vec<u8>, facts: &[Text], pre: &Conds) -> Result<()
     Ok(())
 }
 
-fn put_operator(out: &mut Vec<u8>, facts: &[Text], operator: &Op) -> Result<(), Memory>
-    ensures { OnOk result (Puts out.old.items out.new.items (op (named_op facts.now operator.now))) }
+/// Adds an operator as far as its effects.
+pub fn put_operator_front(out: &mut Vec<u8>, facts: &[Text], operator: &Op) -> Result<(), Memory>
+    ensures { OnOk result (Puts out.old.items out.new.items (op_front operator.now.name (map (fact_name facts.now) operator.now.pre.yes))) }
 {
     put(out, b"(:action ")?;
     put(out, operator.name.slice())?;
     put(out, b"\n:parameters ()\n")?;
     put_precondition(out, facts, &operator.pre)?;
     put(out, b":effect (and\n")?;
-    put_effects(out, facts, operator.effects.slice())?;
+    Ok(())
+}
+
+/// Adds what stands behind an operator's effects.
+pub fn put_operator_end(out: &mut Vec<u8>) -> Result<(), Memory>
+    ensures { OnOk result (Puts out.old.items out.new.items op_end) }
+{
     put(out, b")\n)\n")?;
+    Ok(())
+}
+
+/// Adds an operator.
+pub fn put_operator(out: &mut Vec<u8>, facts: &[Text], operator: &Op) -> Result<(), Memory>
+    ensures { OnOk result (Puts out.old.items out.new.items (op (named_op facts.now operator.now))) }
+{
+    put_operator_front(out, facts, operator)?;
+    put_effects(out, facts, operator.effects.slice())?;
+    put_operator_end(out)?;
     Ok(())
 }
 

@@ -1,10 +1,33 @@
-ghost use Rattle.std.specs.Prelude.{◌≡◌, IfOk};
+ghost use Rattle.std.specs.Prelude.{◌≡◌, IfOk, OnOk};
+ghost use Rattle.kp_pieces.specs.Pieces.{Puts};
 ghost use Rattle.kp_write.specs.Named.{domain_of, problem_of};
+ghost use Rattle.kp_write.specs.Written.{domain_front, domain_end};
 
 use crate::putting::{put, put_lines, put_names, put_operators};
-use kp_base::{Memory, Row};
+use kp_base::{Memory, Row, Text};
 use kp_classic::Task;
 use std::alloc::Global;
+
+/// Adds the domain file as far as its operators: a predicate for each fact.
+pub fn put_domain_front(out: &mut Vec<u8>, facts: &[Text]) -> Result<(), Memory>
+    ensures { OnOk result (Puts out.old.items out.new.items (domain_front facts.now)) }
+{
+    put(
+        out,
+        b"(define (domain kplan)\n(:requirements :strips :negative-preconditions :conditional-effects)\n(:predicates\n",
+    )?;
+    put_names(out, facts)?;
+    put(out, b")\n")?;
+    Ok(())
+}
+
+/// Adds what stands behind the operators.
+pub fn put_domain_end(out: &mut Vec<u8>) -> Result<(), Memory>
+    ensures { OnOk result (Puts out.old.items out.new.items domain_end) }
+{
+    put(out, b")\n")?;
+    Ok(())
+}
 
 /// The domain file of a task: a predicate for each fact, an action for each operator. Preconditions have the facts that
 /// must hold.
@@ -12,14 +35,9 @@ pub fn domain_text(alloc: Global, task: &Task) -> Result<Row<u8>, Memory>
     ensures { IfOk result (λ bytes. bytes ≡ domain_of task.now) }
 {
     let mut out = Vec::new(alloc);
-    put(
-        &mut out,
-        b"(define (domain kplan)\n(:requirements :strips :negative-preconditions :conditional-effects)\n(:predicates\n",
-    )?;
-    put_names(&mut out, task.facts.slice())?;
-    put(&mut out, b")\n")?;
+    put_domain_front(&mut out, task.facts.slice())?;
     put_operators(&mut out, task.facts.slice(), task.ops.slice())?;
-    put(&mut out, b")\n")?;
+    put_domain_end(&mut out)?;
     Ok(Row::from_vec(out))
 }
 

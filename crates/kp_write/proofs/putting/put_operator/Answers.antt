@@ -3,7 +3,4 @@ use Rattle.kp_write.proofs.Pieces.{op_puts}
 use Rattle.kp_write.proofs.putting.put_operator.Goals as goal
 
 pub returns : goal.returns
-returns c =
-    op_puts _ _ _ _ _ _ _ _ (named_op c.args.facts.now c.args.operator.now)
-    c.in_ok-put.ensures (rw c.slice.ensures at c.in_ok-put-2.ensures) c.in_ok-put-3.ensures c.in_ok-put_precondition.ensures
-    c.in_ok-put-4.ensures (rw c.slice-2.ensures at c.in_ok-put_effects.ensures) c.in_ok-put-5.ensures
+returns c = op_puts _ _ _ _ (named_op c.args.facts.now c.args.operator.now) c.in_ok-put_operator_front.ensures (rw c.slice.ensures at c.in_ok-put_effects.ensures) c.in_ok-put_operator_end.ensures

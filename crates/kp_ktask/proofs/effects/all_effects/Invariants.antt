@@ -1,6 +1,6 @@
 use Rattle.std.proofs.Common.{◌≡◌, ◌++◌, ◌-◌}
 use Rattle.kp_task.specs.Task.{effects_from}
-use Rattle.kp_ktask.proofs.operators.all_effects.Given as goal
+use Rattle.kp_ktask.proofs.effects.all_effects.Given as goal
 
 -- with the tags that are left come all
 abbrev pub invariant-loop-tag : goal.invariant-loop-tag

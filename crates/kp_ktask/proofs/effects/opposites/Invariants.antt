@@ -2,7 +2,7 @@ use Rattle.std.proofs.Common.{◌≡◌, drop, fold, map}
 use Rattle.kp_base.specs.Lit.{negated}
 use Rattle.kp_base.specs.LitSet.{with_lit}
 use Rattle.kp_write.specs.Facts.{opposites}
-use Rattle.kp_ktask.proofs.operators.opposites.Given as goal
+use Rattle.kp_ktask.proofs.effects.opposites.Given as goal
 
 -- with the literals that are left come all
 abbrev pub invariant-loop-lit : goal.invariant-loop-lit
