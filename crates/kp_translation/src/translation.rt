@@ -22,8 +22,8 @@ pub struct Translation {
     pub counts: Row<u8>,
 }
 
-// The texts of a ground problem with a table, whose task is this one but for its operators.
-fn texts(
+// The texts of a ground problem with a table, whose task has this outline.
+fn texts_of(
     alloc: Global,
     ground: &Ground,
     table: &TagTable,
@@ -39,6 +39,13 @@ fn texts(
     })
 }
 
+fn texts(alloc: Global, ground: &Ground, table: &TagTable) -> Result<Translation, Memory>
+    ensures { IfOk result (λ t. t ≡ translation_with ground.now table.now) }
+{
+    let outline = outline(alloc, ground, table)?;
+    texts_of(alloc, ground, table, &outline)
+}
+
 /// The texts of a ground problem with a table of tags and merges.
 /// A task with more facts than the limit, or else with a greater weight, is refused.
 pub fn translation_with(
@@ -50,6 +57,5 @@ pub fn translation_with(
     ensures { AnswersTranslation ground.now table.now limits.now result }
 {
     judge(ground, table, limits)?;
-    let outline = outline(alloc, ground, table)?;
-    Ok(texts(alloc, ground, table, &outline)?)
+    Ok(texts(alloc, ground, table)?)
 }

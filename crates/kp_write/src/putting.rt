@@ -1,4 +1,4 @@
-ghost use Rattle.std.specs.Prelude.{◌≡◌, ◌++◌, ◌&&◌, ◌==◌, false, length, map, OnOk};
+ghost use Rattle.std.specs.Prelude.{◌≡◌, ◌∷◌, [], ◌++◌, ◌&&◌, ◌==◌, false, length, map, OnOk};
 ghost use Rattle.kp_pieces.specs.Pieces.{each, Puts, spaced};
 ghost use Rattle.kp_write.specs.Written.{fact, fact_line, signed, guarded, when_put, effect_line, precondition, op_front, op_end, op};
 ghost use Rattle.kp_write.specs.Named.{fact_name, signed_fact, named_conds, named_effect, named_op};
@@ -11,6 +11,13 @@ pub fn put(out: &mut Vec<u8>, bytes: &[u8]) -> Result<(), Memory>
     ensures { OnOk result (out.new.items ≡ out.old.items ++ bytes.now) }
 {
     out.extend_from_slice(bytes)?;
+    Ok(())
+}
+
+fn put_byte(out: &mut Vec<u8>, byte: u8) -> Result<(), Memory>
+    ensures { OnOk result (out.new.items ≡ out.old.items ++ byte ∷ []) }
+{
+    out.push(byte)?;
     Ok(())
 }
 
@@ -27,9 +34,9 @@ fn put_name(out: &mut Vec<u8>, facts: &[Text], number: u32) -> Result<(), Memory
 fn put_fact(out: &mut Vec<u8>, facts: &[Text], number: u32) -> Result<(), Memory>
     ensures { OnOk result (Puts out.old.items out.new.items (fact (fact_name facts.now number))) }
 {
-    put(out, b"(")?;
+    put_byte(out, b'(')?;
     put_name(out, facts, number)?;
-    put(out, b")")?;
+    put_byte(out, b')')?;
     Ok(())
 }
 
@@ -39,7 +46,7 @@ fn put_denied(out: &mut Vec<u8>, facts: &[Text], number: u32) -> Result<(), Memo
 {
     put(out, b"(not ")?;
     put_fact(out, facts, number)?;
-    put(out, b")")?;
+    put_byte(out, b')')?;
     Ok(())
 }
 
@@ -57,7 +64,7 @@ fn put_spaced(out: &mut Vec<u8>, facts: &[Text], holds: bool, numbers: &[u32]) -
     ensures { OnOk result (Puts out.old.items out.new.items (each (spaced signed) (map (signed_fact facts.now holds) numbers.now))) }
 {
     for number in numbers {
-        put(out, b" ")?;
+        put_byte(out, b' ')?;
         put_signed(out, facts, holds, *number)?;
     }
     Ok(())
@@ -69,7 +76,7 @@ pub fn put_lines(out: &mut Vec<u8>, facts: &[Text], numbers: &[u32]) -> Result<(
 {
     for number in numbers {
         put_fact(out, facts, *number)?;
-        put(out, b"\n")?;
+        put_byte(out, b'\n')?;
     }
     Ok(())
 }
@@ -83,7 +90,7 @@ fn put_when(out: &mut Vec<u8>, facts: &[Text], effect: &OpEffect) -> Result<(), 
     put_spaced(out, facts, false, effect.cond.no.slice())?;
     put(out, b") ")?;
     put_signed(out, facts, effect.adds, effect.fact)?;
-    put(out, b")")?;
+    put_byte(out, b')')?;
     Ok(())
 }
 
@@ -109,7 +116,7 @@ pub fn put_effect(out: &mut Vec<u8>, facts: &[Text], effect: &OpEffect) -> Resul
     ensures { OnOk result (Puts out.old.items out.new.items (effect_line (named_effect facts.now effect.now))) }
 {
     put_guarded(out, facts, effect)?;
-    put(out, b"\n")?;
+    put_byte(out, b'\n')?;
     Ok(())
 }
 
@@ -178,7 +185,7 @@ pub fn put_names(out: &mut Vec<u8>, names: &[Text]) -> Result<(), Memory>
     ensures { OnOk result (Puts out.old.items out.new.items (each fact_line names.now)) }
 {
     for name in names {
-        put(out, b"(")?;
+        put_byte(out, b'(')?;
         put(out, name.slice())?;
         put(out, b")\n")?;
     }

@@ -8,4 +8,4 @@ pub loop-number-preserved : goal.loop-number-preserved
 loop-number-preserved c =
     one_more _ _ _ fact_line _ _ _ _ (next_of (fact_name c.args.facts.now) c.args.numbers.now c.loop-number.number-index 0 c.loop-number-test.true)
     c.loop-number.invariant
-    (line_puts _ _ _ (fact _) c.in_ok-put_fact.ensures c.in_ok-put.ensures)
+    (line_puts _ _ _ (fact _) c.in_ok-put_fact.ensures c.in_ok-put_byte.ensures)
