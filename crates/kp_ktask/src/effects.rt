@@ -3,7 +3,7 @@ ghost use Rattle.std.specs.List.{flat_map};
 ghost use Rattle.kp_write.specs.Facts.{opposites};
 ghost use Rattle.kp_task.specs.Task.{support, cancellation, effects_under, effects_from};
 
-use crate::numbers::{number, set_numbers};
+use crate::numbers::{clear, number, set_numbers};
 use kp_base::{Effect, Lit, LitSet, Memory, Row};
 use kp_classic::{Conds, OpEffect};
 use std::alloc::Global;
@@ -31,11 +31,10 @@ pub fn set_support(
 ) -> Result<(), Memory>
     ensures { OnOk result (made.new ≡ support atoms tag effect.now) }
 {
-    set_numbers(alloc, &mut made.cond.yes, atoms, tag, effect.cond.slice())?;
-    set_numbers(alloc, &mut made.cond.no, atoms, tag, &[])?;
     made.fact = number(atoms, tag, effect.result)?;
     made.adds = true;
-    Ok(())
+    clear(alloc, &mut made.cond.no);
+    set_numbers(alloc, &mut made.cond.yes, atoms, tag, effect.cond.slice())
 }
 
 // The negations of the literals.
@@ -60,12 +59,11 @@ pub fn set_cancellation(
 ) -> Result<(), Memory>
     ensures { OnOk result (made.new ≡ cancellation atoms tag effect.now) }
 {
-    let denied = opposites(alloc, effect.cond.slice())?;
-    set_numbers(alloc, &mut made.cond.no, atoms, tag, denied.slice())?;
-    set_numbers(alloc, &mut made.cond.yes, atoms, tag, &[])?;
     made.fact = number(atoms, tag, effect.result.negated())?;
     made.adds = false;
-    Ok(())
+    clear(alloc, &mut made.cond.yes);
+    let denied = opposites(alloc, effect.cond.slice())?;
+    set_numbers(alloc, &mut made.cond.no, atoms, tag, denied.slice())
 }
 
 fn support(alloc: Global, atoms: u32, tag: u32, effect: &Effect) -> Result<OpEffect, Memory>

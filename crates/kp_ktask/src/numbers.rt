@@ -39,7 +39,8 @@ pub fn numbers(alloc: Global, atoms: u32, tag: u32, lits: &[Lit]) -> Result<Row<
     Ok(row)
 }
 
-fn clear(alloc: Global, row: &mut Row<u32>)
+/// Takes all numbers out, and keeps the room.
+pub fn clear(alloc: Global, row: &mut Row<u32>)
     ensures { row.new ≡ [] }
 {
     let mut items = mem::replace(row, Row::new(alloc)).into_vec();

@@ -1,13 +1,10 @@
 -- The pieces of the written files are fine.
-use Rattle.std.proofs.Common.{◌≡◌, ℕ, Bool, true, false, ◌&&◌, List, [], ◌∷◌, nat_eq, eqb-true, refl, sym, subst}
-use Rattle.std.proofs.lemmas.Bool.{and_parts}
+use Rattle.std.proofs.Common.{ℕ, Bool, true, false, List, [], ◌∷◌, refl}
 use Rattle.std.specs.List.{AllByRecursion}
-use Rattle.kp_lex.specs.declared.token.TokenKind.{TokenKind}
-use Rattle.kp_lex.specs.declared.token.TokenKind.TheVariants as kinds
-use Rattle.kp_lex.specs.Bytes.{is_alphanumeric, class_of, follows}
-use Rattle.kp_lex.specs.Cutting.{AllAre, IsToken, name as a_name, keyword as a_keyword, Ends}
-use Rattle.kp_grammar.specs.Words.{IsLow, IsHead}
-use Rattle.kp_pieces.specs.Pieces.{Piece, right, word, spelling, Put, each, spaced}
+use Rattle.kp_lex.specs.Bytes.{class_of, follows}
+use Rattle.kp_lex.specs.Cutting.{Ends}
+use Rattle.kp_grammar.specs.Words.{IsHead}
+use Rattle.kp_pieces.specs.Pieces.{Piece, right, spelling, Put, each, spaced}
 use Rattle.kp_write.specs.Task.{Signed, Effect, Op}
 use Rattle.kp_write.specs.Written.{fact, fact_line, signed_case, signed, conjunction, guarded, effect_line, precondition, op, domain_pieces, problem_pieces}
 use Rattle.kp_pieces.specs.Tokens.{Fine, done, lefts, rights, blanks, says}

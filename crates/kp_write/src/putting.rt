@@ -5,14 +5,7 @@ ghost use Rattle.kp_write.specs.Named.{fact_name, signed_fact, named_conds, name
 
 use kp_base::{Memory, Text};
 use kp_classic::{Conds, Op, OpEffect};
-
-/// Adds bytes at the end.
-pub fn put(out: &mut Vec<u8>, bytes: &[u8]) -> Result<(), Memory>
-    ensures { OnOk result (out.new.items ≡ out.old.items ++ bytes.now) }
-{
-    out.extend_from_slice(bytes)?;
-    Ok(())
-}
+use kp_spelling::put;
 
 fn put_byte(out: &mut Vec<u8>, byte: u8) -> Result<(), Memory>
     ensures { OnOk result (out.new.items ≡ out.old.items ++ byte ∷ []) }
