@@ -1,6 +1,7 @@
 pub mod Tables
 pub mod Closing
 pub mod Searching
+pub mod Alone
 pub mod Chains
 pub mod Exact
 pub mod Once
