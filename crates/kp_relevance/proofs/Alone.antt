@@ -1,11 +1,11 @@
 -- Rows in which no other number is marked.
 use Rattle.std.proofs.Common.{◌≡◌, ◌<◌, ◌&&◌, ℕ, Bool, true, false, List, [], Some, length, get_or, set, replicate, slice_get, sym, ap, subst, ◌∙◌, inl, inr, arith, length-set, get_or-set_same, get_or-set_other}
 use Rattle.std.proofs.lemmas.Bool.{and_parts, cases_eq, cases_lt, false≢true}
-use Rattle.std.proofs.lemmas.List.{length-map, get_or-map, length-replicate, get_or-replicate, get_or_past, set-set, set-get_or}
-use Rattle.std.proofs.lemmas.Option.{slice_get-get_or, get_or_from_slice_get}
+use Rattle.std.proofs.lemmas.List.{length-map, get_or-map, length-replicate, get_or-replicate, get_or_past}
+use Rattle.std.proofs.lemmas.Option.{slice_get-get_or}
 use Rattle.std.proofs.lemmas.Slice.Zip.{length-zip, get_or-zip}
 use Rattle.std.specs.List.{zip}
-use Rattle.kp_bits.specs.Rows.{both, IsWithin}
+use Rattle.kp_bits.specs.Rows.{both}
 use Rattle.kp_relevance.specs.Tabled.{marked, IsSquare, Linked, LeadsTo, IsFollowed, ClosesRow, AreLone}
 
 -- ---- bits
@@ -24,22 +24,11 @@ zero_at n i = elim (cases_lt i n) [
   | inr ge ↦ get_or_past (replicate n false) i false (rw (length-replicate n false) ge)
 ]
 
--- a row within one bit has no other
-pub only_one : (n k : ℕ) (row : List Bool) → length row ≡ n → IsWithin row (set (replicate n false) k true) → (i : ℕ) → get_or row i false ≡ true → k ≡ i
-only_one n k row wide within i h = elim (cases_eq i k) [
-  | inl e ↦ sym e
-  | inr ne ↦ absurd (false≢true (sym (get_or-set_other (replicate n false) k i true false ne ∙ zero_at n i) ∙ get_or_from_slice_get (set (replicate n false) k true) i true false (within.each i there)))
+pub bit_there : (row : List Bool) (i : ℕ) → get_or row i false ≡ true → slice_get row i ≡ Some true
+bit_there row i h = elim (cases_lt i (length row)) [
+  | inl lt ↦ slice_get-get_or row i false lt ∙ ap Some h
+  | inr ge ↦ absurd (false≢true (sym (get_or_past row i false ge) ∙ h))
 ]
-  where
-    there : slice_get row i ≡ Some true
-    there = elim (cases_lt i (length row)) [
-      | inl lt ↦ slice_get-get_or row i false lt ∙ ap Some h
-      | inr ge ↦ absurd (false≢true (sym (get_or_past row i false ge) ∙ h))
-    ]
-
--- the bit is cleared again
-pub cleared : (n k : ℕ) → set (set (replicate n false) k true) k false ≡ replicate n false
-cleared n k = set-set (replicate n false) k true false ∙ (ap (λ b. set (replicate n false) k b) (sym (zero_at n k)) ∙ set-get_or (replicate n false) k false)
 
 -- ---- rows
 

@@ -9,3 +9,4 @@ pub mod Ordered
 pub mod Clauses
 pub mod ExampleRelevance
 pub mod Closures
+pub mod Lonely

@@ -18,14 +18,13 @@ pub(crate) struct Spare {
 impl Spare {
     /// Rows of as many bits as there are rows.
     pub(crate) fn new(alloc: Global, rows: &[Bits], n: u32) -> Result<Spare, Memory>
-        requires many { length rows.now ≡ n }
-        requires square { IsSquare n rows.now }
+        requires { IsSquare n rows.now }
         ensures { IfOk result (λ s. AreSpare n rows.now s.lone s.row s.done) }
     {
         let mut lone = Bits::new(alloc, n)?;
-        let mut row = Bits::new(alloc, n)?;
+        note_lone_rows(rows, n, &mut lone);
+        let row = Bits::new(alloc, n)?;
         let done = Bits::new(alloc, n)?;
-        note_lone_rows(rows, n, &mut row, &mut lone);
         Ok(Spare { lone, row, done })
     }
 }

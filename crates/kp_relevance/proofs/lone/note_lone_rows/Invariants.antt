@@ -4,7 +4,6 @@ use Rattle.kp_relevance.proofs.lone.note_lone_rows.Given as goal
 
 abbrev pub invariant-loop-k : goal.invariant-loop-k
 invariant-loop-k l = record {
-  clear : l.spare ≡ l.fn.spare;
   wide : length l.lone ≡ l.n;
   lone : AreLone l.n l.rows l.lone;
 }
