@@ -1,5 +1,5 @@
 //! Rows in which no other number is marked.
-ghost use Rattle.std.specs.Prelude.{◌≡◌, ◌<◌, ◌+◌, ◌*◌, ℕ, true, false, get_or, length, replicate};
+ghost use Rattle.std.specs.Prelude.{◌≡◌, ◌<◌, ◌+◌, ◌*◌, ℕ, true, false, get_or, length};
 ghost use Rattle.std.specs.Int.{bit_at};
 ghost use Rattle.kp_relevance.specs.Tabled.{IsSquare, AreLone};
 
@@ -42,7 +42,8 @@ fn note_lone(rows: &[Bits], n: u32, k: u32, lone: &mut Bits)
 /// Notes each number in whose row no other is marked.
 pub(crate) fn note_lone_rows(rows: &[Bits], n: u32, lone: &mut Bits)
     requires square { IsSquare n rows.now }
-    requires none { lone.old ≡ replicate n false }
+    requires wide { length lone.old ≡ n }
+    requires before { AreLone n rows.now lone.old }
     ensures wide { length lone.new ≡ n }
     ensures lone { AreLone n rows.now lone.new }
 {

@@ -1,5 +1,5 @@
 //! Closing one row, by a search for what leads to what is in it.
-ghost use Rattle.std.specs.Prelude.{◌≡◌, ◌<◌, length, IfOk};
+ghost use Rattle.std.specs.Prelude.{◌≡◌, ◌<◌, Bool, List, length, IfOk};
 ghost use Rattle.kp_relevance.specs.Tabled.{unset, IsSquare, IsClosedRow, AreClosedRows, Grows, IsFollowed, IsNext, ClosesRow, AreSpare};
 
 use crate::lone::note_lone_rows;
@@ -15,17 +15,32 @@ pub(crate) struct Spare {
     done: Bits,
 }
 
+// Two rows of n bits.
+fn two_rows(alloc: Global, n: u32) -> Result<(Bits, Bits), Memory>
+    ensures { IfOk result (λ rows. (length rows.0 ≡ n) × (length rows.1 ≡ n)) }
+{
+    let row = Bits::new(alloc, n)?;
+    let done = Bits::new(alloc, n)?;
+    Ok((row, done))
+}
+
 impl Spare {
-    /// Rows of as many bits as there are rows.
-    pub(crate) fn new(alloc: Global, rows: &[Bits], n: u32) -> Result<Spare, Memory>
-        requires { IsSquare n rows.now }
-        ensures { IfOk result (λ s. AreSpare n rows.now s.lone s.row s.done) }
+    /// Rows of n bits, and no numbers yet.
+    pub(crate) fn new(alloc: Global, n: u32) -> Result<Spare, Memory>
+        ensures { IfOk result (λ s. (rows : List (List Bool)) → AreSpare n rows s.lone s.row s.done) }
     {
-        let mut lone = Bits::new(alloc, n)?;
-        note_lone_rows(rows, n, &mut lone);
-        let row = Bits::new(alloc, n)?;
-        let done = Bits::new(alloc, n)?;
+        let lone = Bits::new(alloc, n)?;
+        let (row, done) = two_rows(alloc, n)?;
         Ok(Spare { lone, row, done })
+    }
+
+    /// Notes the numbers in whose rows no other is marked.
+    pub(crate) fn note_lone(&mut self, rows: &[Bits], n: u32)
+        requires square { IsSquare n rows.now }
+        requires spare { AreSpare n rows.now self.old.lone self.old.row self.old.done }
+        ensures { AreSpare n rows.now self.new.lone self.new.row self.new.done }
+    {
+        note_lone_rows(rows, n, &mut self.lone);
     }
 }
 

@@ -62,6 +62,21 @@ fn close_rest(rows: &mut [Bits], n: u32, closed: &mut Bits, spare: &mut Spare)
     }
 }
 
+// Closes the rows, these first.
+fn close_by(alloc: Global, rows: &mut [Bits], n: u32, order: &[u32]) -> Result<(), Memory>
+    requires many { length rows.old ≡ n }
+    requires square { IsSquare n rows.old }
+    requires order { All (λ j. j < n) order.now }
+    ensures { OnOk result (Closes n n rows.old rows.new) }
+{
+    let mut spare = Spare::new(alloc, n)?;
+    let mut closed = Bits::new(alloc, n)?;
+    spare.note_lone(rows, n);
+    close_each(rows, order, &mut closed, &mut spare);
+    close_rest(rows, n, &mut closed, &mut spare);
+    Ok(())
+}
+
 /// Closes the rows: what is marked through a number is marked.
 pub(crate) fn close(alloc: Global, rows: &mut [Bits], n: u32) -> Result<(), Memory>
     requires many { length rows.old ≡ n }
@@ -69,9 +84,5 @@ pub(crate) fn close(alloc: Global, rows: &mut [Bits], n: u32) -> Result<(), Memo
     ensures { OnOk result (Closes n n rows.old rows.new) }
 {
     let order = closing_order(alloc, rows, n)?;
-    let mut spare = Spare::new(alloc, rows, n)?;
-    let mut closed = Bits::new(alloc, n)?;
-    close_each(rows, &order, &mut closed, &mut spare);
-    close_rest(rows, n, &mut closed, &mut spare);
-    Ok(())
+    close_by(alloc, rows, n, &order)
 }
