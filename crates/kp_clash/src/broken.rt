@@ -1,6 +1,7 @@
 //! Looks for a pair that doesn't stay.
-ghost use Rattle.std.specs.Prelude.{◌≡◌, ◌<◌, ◌≤◌, ◌%◌, ◌++◌, [], ◌∷◌, ℕ, true, false, length};
+ghost use Rattle.std.specs.Prelude.{◌≡◌, ◌<◌, ◌≤◌, ◌%◌, ◌++◌, ◌&&◌, [], ◌∷◌, ℕ, true, false, length};
 ghost use Rattle.std.specs.Int.{bit_at};
+ghost use Rattle.std.specs.List.{list_any};
 ghost use Rattle.kp_base.specs.declared.ground.Action.{Action as ActionOf};
 ghost use Rattle.kp_base.specs.Clashes.{are_compatible};
 ghost use Rattle.kp_base.specs.Lists.{Member};
@@ -103,6 +104,15 @@ fn adds_left(
     all_join(left, other.cond.slice()) && adds_pair(pairs, action, one, other)
 }
 
+// Whether the effects add an atom that is a pair with this one.
+fn some_adds(pairs: &Pairs, effects: &[Effect], atom: AtomId) -> bool
+    ensures { result ≡ list_any (λ e. e.result.positive && is_pair pairs.now atom.0 e.result.atom.0) effects.now }
+{
+    effects
+        .iter()
+        .any(|e| e.result.positive && pairs.has(atom, e.result.atom))
+}
+
 // The other atom of the first pair that the effect breaks together with another effect.
 fn first_together(
     pairs: &Pairs,
@@ -116,6 +126,9 @@ fn first_together(
     ensures { FindsTogether (is_pair pairs.now) action.now effect.now result }
 {
     if !may_add_pair(pairs, action, effect, &tables.added) {
+        return None;
+    }
+    if !some_adds(pairs, action.effects.slice(), effect.result.atom) {
         return None;
     }
     let left = atoms_left(pairs, action, effect);
