@@ -5,3 +5,4 @@ pub mod Best
 pub mod InOrder
 pub mod Once
 pub mod ExamplePairs
+pub mod Adding

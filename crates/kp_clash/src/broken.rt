@@ -1,18 +1,19 @@
 //! Looks for a pair that doesn't stay.
-ghost use Rattle.std.specs.Prelude.{◌≡◌, ◌<◌, ◌≤◌, ◌%◌, ◌++◌, [], ◌∷◌, ℕ, true, false, length};
+ghost use Rattle.std.specs.Prelude.{◌≡◌, ◌<◌, ◌≤◌, ◌%◌, ◌++◌, ◌&&◌, [], ◌∷◌, ℕ, true, false, length};
 ghost use Rattle.std.specs.Int.{bit_at};
+ghost use Rattle.std.specs.List.{list_any};
 ghost use Rattle.kp_base.specs.declared.ground.Action.{Action as ActionOf};
 ghost use Rattle.kp_base.specs.Clashes.{are_compatible};
 ghost use Rattle.kp_base.specs.Lists.{Member};
 ghost use Rattle.kp_pairs.specs.Paired.{is_pair};
 ghost use Rattle.kp_pairs.specs.Removed.{breaks, adds_pair, FindsAlone, FindsTogether, FindsOfEffect, FindsBroken};
-ghost use Rattle.kp_pairs.specs.Left.{AreLeft, Notes, FindsInWord};
+ghost use Rattle.kp_pairs.specs.Left.{AreLeft, AreLone, Notes, FindsInWord};
 
 use kp_base::{Action, AtomId, Effect, Ground};
 use kp_bits::has_bit;
 use kp_pairs::{
-    Pairs, Tables, WORDS, all_join, atoms_left, candidates, is_small, may_add_pair, may_fire,
-    pre_compatible, words_of,
+    Pairs, Tables, WORDS, all_join, atoms_alone, atoms_left, candidates, is_alone, is_small,
+    may_add_pair, may_fire, pre_compatible, words_of,
 };
 use kp_sweeps::{adds_pair, breaks};
 
@@ -103,6 +104,15 @@ fn adds_left(
     all_join(left, other.cond.slice()) && adds_pair(pairs, action, one, other)
 }
 
+// Whether the effects add an atom that is a pair with this one.
+fn some_adds(pairs: &Pairs, effects: &[Effect], atom: AtomId) -> bool
+    ensures { result ≡ list_any (λ e. e.result.positive && is_pair pairs.now atom.0 e.result.atom.0) effects.now }
+{
+    effects
+        .iter()
+        .any(|e| e.result.positive && pairs.has(atom, e.result.atom))
+}
+
 // The other atom of the first pair that the effect breaks together with another effect.
 fn first_together(
     pairs: &Pairs,
@@ -118,6 +128,9 @@ fn first_together(
     if !may_add_pair(pairs, action, effect, &tables.added) {
         return None;
     }
+    if !some_adds(pairs, action.effects.slice(), effect.result.atom) {
+        return None;
+    }
     let left = atoms_left(pairs, action, effect);
     for other in action.effects.slice() {
         if adds_left(pairs, action, &left, effect, other) {
@@ -130,16 +143,21 @@ fn first_together(
 // A pair that the effect breaks.
 fn of_effect(
     pairs: &Pairs,
+    alone: &[u64; WORDS],
     action: &Action,
     tables: &Tables,
     effect: &Effect,
 ) -> Option<(AtomId, AtomId)>
+    requires alone { AreLone (is_pair pairs.now) alone.now }
     requires noted { Notes tables.now action.now }
     requires of_action { Member action.now.effects effect.now }
     requires compatible { are_compatible (is_pair pairs.now) action.now.pre ≡ true }
     ensures { FindsOfEffect (is_pair pairs.now) action.now effect.now result }
 {
     if !effect.result.positive {
+        return None;
+    }
+    if is_alone(alone, effect.result.atom) {
         return None;
     }
     if !may_fire(pairs, action, effect) {
@@ -155,13 +173,19 @@ fn of_effect(
 }
 
 // A pair that an effect of the action breaks, by what is noted of the action.
-fn of_effects(pairs: &Pairs, action: &Action, tables: &Tables) -> Option<(AtomId, AtomId)>
+fn of_effects(
+    pairs: &Pairs,
+    alone: &[u64; WORDS],
+    action: &Action,
+    tables: &Tables,
+) -> Option<(AtomId, AtomId)>
+    requires alone { AreLone (is_pair pairs.now) alone.now }
     requires noted { Notes tables.now action.now }
     requires compatible { are_compatible (is_pair pairs.now) action.now.pre ≡ true }
     ensures { FindsBroken (is_pair pairs.now) (action.now ∷ []) result }
 {
     for effect in action.effects.slice() {
-        if let Some(found) = of_effect(pairs, action, tables, effect) {
+        if let Some(found) = of_effect(pairs, alone, action, tables, effect) {
             return Some(found);
         }
     }
@@ -169,18 +193,24 @@ fn of_effects(pairs: &Pairs, action: &Action, tables: &Tables) -> Option<(AtomId
 }
 
 // A pair that an effect of the action breaks.
-fn of_action(pairs: &Pairs, any: &Tables, action: &Action) -> Option<(AtomId, AtomId)>
-    requires { (a : ActionOf) → length a.effects ≤ 8 → Notes any.now a }
+fn of_action(
+    pairs: &Pairs,
+    alone: &[u64; WORDS],
+    any: &Tables,
+    action: &Action,
+) -> Option<(AtomId, AtomId)>
+    requires alone { AreLone (is_pair pairs.now) alone.now }
+    requires any { (a : ActionOf) → length a.effects ≤ 8 → Notes any.now a }
     ensures { FindsBroken (is_pair pairs.now) (action.now ∷ []) result }
 {
     if !pre_compatible(pairs, action) {
         return None;
     }
     if is_small(action) {
-        of_effects(pairs, action, any)
+        of_effects(pairs, alone, action, any)
     } else {
         let tables = Tables::of(pairs, action);
-        of_effects(pairs, action, &tables)
+        of_effects(pairs, alone, action, &tables)
     }
 }
 
@@ -189,8 +219,9 @@ pub(crate) fn broken(ground: &Ground, pairs: &Pairs) -> Option<(AtomId, AtomId)>
     ensures { FindsBroken (is_pair pairs.now) ground.now.actions result }
 {
     let any = Tables::any();
+    let alone = atoms_alone(pairs);
     for action in ground.actions.slice() {
-        if let Some(found) = of_action(pairs, &any, action) {
+        if let Some(found) = of_action(pairs, &alone, &any, action) {
             return Some(found);
         }
     }

@@ -1,12 +1,13 @@
-ghost use Rattle.std.specs.Prelude.{◌≡◌, ◌≤◌, ◌<◌, ℕ, true, Some, None, length, slice_get, IfOk, IfErr};
+ghost use Rattle.std.specs.Prelude.{◌≡◌, ◌≤◌, ◌<◌, ℕ, true, List, Some, None, length, slice_get, IfOk, IfErr};
 ghost use Rattle.std.specs.List.{position_from};
 ghost use Rattle.kp_base.specs.declared.ground.Action.{Action as ActionOf};
+ghost use Rattle.kp_base.specs.declared.ground.Effect.{Effect as EffectOf};
 ghost use Rattle.kp_base.specs.Clashes.{HasNoClash, IsFirstClash};
 ghost use Rattle.kp_clash.specs.Counted.{IsCounted};
 ghost use Rattle.kp_pairs.specs.Paired.{is_pair};
 ghost use Rattle.kp_clash.specs.Searching.{all_noted, clash_together, found_at, keep, best_from, first_from};
 
-use crate::deleted::{may_be_deleted, slots_of_deletes};
+use crate::deleted::{all_slots, deletes_some, may_be_deleted, slots_of_deletes};
 use kp_base::{Action, ClashAt, Effect, Ground};
 use kp_pairs::{Pairs, SLOTS, are_compatible};
 
@@ -80,22 +81,36 @@ fn keep(first: Option<ClashAt>, found: Option<ClashAt>) -> Option<ClashAt>
     }
 }
 
-// The first clash of an action.
-fn best(number: u32, pairs: &Pairs, action: &Action) -> Option<ClashAt>
-    requires { length action.now.effects ≤ 4294967295 }
+// The first clash of an action, where the slots of its deletes are marked.
+fn best_by(number: u32, pairs: &Pairs, action: &Action, slots: &[bool; SLOTS]) -> Option<ClashAt>
+    requires few { length action.now.effects ≤ 4294967295 }
+    requires noted { all_noted slots.now action.now.effects ≡ true }
     ensures { result ≡ best_from (is_pair pairs.now) number action.now 0 action.now.effects None }
 {
-    let slots = slots_of_deletes(action.effects.slice());
     let mut first = None;
     let mut place = 0u32;
     'effects: for effect in action.effects.slice() {
-        first = keep(
-            first,
-            found_at(number, pairs, action, &slots, place, effect),
-        );
+        first = keep(first, found_at(number, pairs, action, slots, place, effect));
         place += 1;
     }
     first
+}
+
+// The first clash of an action. One that deletes nothing has none, and for one with few effects no slots are marked.
+fn best(number: u32, pairs: &Pairs, any: &[bool; SLOTS], action: &Action) -> Option<ClashAt>
+    requires few { length action.now.effects ≤ 4294967295 }
+    requires any { (effects : List EffectOf) → all_noted any.now effects ≡ true }
+    ensures { result ≡ best_from (is_pair pairs.now) number action.now 0 action.now.effects None }
+{
+    if !deletes_some(action.effects.slice()) {
+        return None;
+    }
+    if action.effects.len() <= 8 {
+        best_by(number, pairs, action, any)
+    } else {
+        let slots = slots_of_deletes(action.effects.slice());
+        best_by(number, pairs, action, &slots)
+    }
 }
 
 // The first clash of some actions.
@@ -104,9 +119,10 @@ fn search(actions: &[Action], pairs: &Pairs) -> Option<ClashAt>
     requires few_effects { (n : ℕ) (a : ActionOf) → slice_get actions.now n ≡ Some a → length a.effects < 2147483648 }
     ensures { result ≡ first_from (is_pair pairs.now) 0 actions.now }
 {
+    let any = all_slots();
     let mut number = 0u32;
     'actions: for action in actions {
-        if let Some(clash) = best(number, pairs, action) {
+        if let Some(clash) = best(number, pairs, &any, action) {
             return Some(clash);
         }
         number += 1;

@@ -1,4 +1,6 @@
-ghost use Rattle.std.specs.Prelude.{◌≡◌, ◌%◌, true};
+ghost use Rattle.std.specs.Prelude.{◌≡◌, ◌%◌, true, not, List};
+ghost use Rattle.std.specs.List.{list_any};
+ghost use Rattle.kp_base.specs.declared.ground.Effect.{Effect as EffectOf};
 ghost use Rattle.kp_clash.specs.Searching.{KeepsMarks, is_noted, all_noted, may_be_deleted};
 
 use kp_base::{AtomId, Effect};
@@ -23,6 +25,20 @@ pub(crate) fn slots_of_deletes(effects: &[Effect]) -> [bool; SLOTS]
         note(&mut slots, effect);
     }
     slots
+}
+
+/// All slots marked, which is right for any effects.
+pub(crate) fn all_slots() -> [bool; SLOTS]
+    ensures { (effects : List EffectOf) → all_noted result effects ≡ true }
+{
+    [true; SLOTS]
+}
+
+/// Whether some effect deletes its atom.
+pub(crate) fn deletes_some(effects: &[Effect]) -> bool
+    ensures { result ≡ list_any (λ e. not e.result.positive) effects.now }
+{
+    effects.iter().any(|e| !e.result.positive)
 }
 
 /// Whether the slot of the atom is marked; if not, no effect deletes the atom.

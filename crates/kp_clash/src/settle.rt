@@ -25,7 +25,7 @@ fn remove(
     ensures fewer { length pairs.new < length pairs.old }
 {
     pairs.remove(p, q);
-    last.note(p, q);
+    last.note(pairs, p, q);
     sweep_on(ground, pairs, last, next, asking);
 }
 

@@ -3,6 +3,7 @@ pub mod Marked
 pub mod Removing
 pub mod Walks
 pub mod Starting
+pub mod Filling
 pub mod Firing
 pub mod Noted
 pub mod Excluded

@@ -70,6 +70,19 @@ delete_breaks_none pairs a e sign = record {
   together = delete_adds_none pairs a e sign;
 }
 
+-- nor does an effect whose atom no pair has
+pub alone_breaks_none : (pairs : Pairs) (a : Action) (e : Effect) → ((q : ℕ) → pairs e.result.atom.0 q ≡ false) → BreaksNone pairs a e
+alone_breaks_none pairs a e none = record {
+  alone = λ q. false_from_ne_true (breaks pairs a e q) (λ h.
+      let both = and_parts e.result.positive (pairs e.result.atom.0 q && not (keeps_apart pairs e.result.atom.0 q a e)) h in
+      false≢true (sym (none q) ∙ (and_parts (pairs e.result.atom.0 q) (not (keeps_apart pairs e.result.atom.0 q a e)) both.1).0));
+  together = false_from_ne_true (list_any (adds_pair pairs a e) a.effects) (λ h.
+      let x = any_member (adds_pair pairs a e) a.effects h in
+      let both = and_parts (e.result.positive && (x.0.result.positive && pairs e.result.atom.0 x.0.result.atom.0)) (compatible_effects pairs a e x.0) x.2 in
+      let adds = and_parts e.result.positive (x.0.result.positive && pairs e.result.atom.0 x.0.result.atom.0) both.0 in
+      false≢true (sym (none x.0.result.atom.0) ∙ (and_parts x.0.result.positive (pairs e.result.atom.0 x.0.result.atom.0) adds.1).1));
+}
+
 -- ---- atoms that are surely deleted
 
 -- at first no bit is set

@@ -83,12 +83,6 @@ marked_pair n a b p q w = record {
 abbrev pub with_below : ℕ → ℕ → Pairs
 with_below p q r s = (nat_eq r p && nat_lt s q) || (nat_eq s p && nat_lt r q)
 
-pub below_more : (p q r s : ℕ) → (with_below p q r s || pair_of p q r s) ≡ true → with_below p (q + 1) r s ≡ true
-below_more p q r s h = grind (arith, nat_tests)
-
-pub more_below : (p q r s : ℕ) → with_below p (q + 1) r s ≡ true → (with_below p q r s || pair_of p q r s) ≡ true
-more_below p q r s h = grind (arith, nat_tests)
-
 -- an atom is no pair with itself
 pub no_pair : (p q r s : ℕ) → p ≡ q → r ≢ s → pair_of p q r s ≡ true → ⊥
 no_pair p q r s e ne h = grind (arith, nat_tests)

@@ -75,6 +75,10 @@ KeepsFree pairs lits k old new = (q : ℕ) → q / 64 ≡ k → list_any (λ l. 
 abbrev pub AreLeft : Pairs → List Lit → List Lit → List ℕ → Type 0
 AreLeft pairs pre cs words = (q : ℕ) → q < 65536 → list_any (λ l. are_exclusive pairs l (positive q)) pre ≡ false → list_any (λ l. are_exclusive pairs l (positive q)) cs ≡ false → bit_in words q ≡ 1
 
+-- where the bit is set, no pair has the atom
+abbrev pub AreLone : Pairs → List ℕ → Type 0
+AreLone pairs words = (p : ℕ) → bit_in words p ≡ 1 → (q : ℕ) → pairs p q ≡ false
+
 -- the other atom of a pair that the effect breaks alone, among the 64 from 64 k on and from this atom on; or there is none
 abbrev pub FindsInWord : Pairs → Action → Effect → ℕ → ℕ → Option AtomId → Type 0
 FindsInWord pairs a e from k (Some q) = (breaks pairs a e q.0 ≡ true) × (q.0 < 4294967295)

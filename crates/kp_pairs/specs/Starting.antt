@@ -1,5 +1,5 @@
 -- The pairs that clauses deny, and how they come into a table. This file serves proofs alone.
-use Rattle.std.specs.Prelude.{◌≡◌, ◌≢◌, ◌<◌, ℕ, Bool, true, ◌||◌, List, [], ◌∷◌, nat_eq}
+use Rattle.std.specs.Prelude.{◌≡◌, ◌≢◌, ◌<◌, ℕ, Bool, true, not, ◌&&◌, ◌||◌, List, [], ◌∷◌, nat_eq, nat_lt}
 use Rattle.std.specs.List.{list_any}
 use Rattle.kp_base.specs.declared.lit.Lit.{Lit}
 use Rattle.kp_base.specs.Lit.{negative}
@@ -26,6 +26,10 @@ pair_of p q r s = are_both p q (r, s)
 -- each pair with this atom
 abbrev pub all_with : ℕ → Pairs
 all_with p r s = nat_eq r p || nat_eq s p
+
+-- each pair of this atom with one from a number on and below another
+abbrev pub between : ℕ → ℕ → ℕ → Pairs
+between p from to r s = (nat_eq r p && (not (nat_lt s from) && nat_lt s to)) || (nat_eq s p && (not (nat_lt r from) && nat_lt r to))
 
 -- the pairs of a test that are two different numbers below n were marked, and no others
 pub record IsMarkedWith (n : ℕ) (test : Pairs) (old new : List Bool) : Type 0 where

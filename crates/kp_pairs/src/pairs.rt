@@ -102,7 +102,7 @@ impl Pairs {
     }
 
     /// Which of the 64 atoms from 64 k on are pairs with the atom.
-    pub(crate) fn row_word(&self, p: AtomId, k: u32) -> u64
+    pub fn row_word(&self, p: AtomId, k: u32) -> u64
         ensures { (q : ℕ) → q / 64 ≡ k → (bit_at result (q % 64) ≡ 1) ↔ (is_pair self.now p.0 q ≡ true) }
     {
         let words = words_of(self.atoms);

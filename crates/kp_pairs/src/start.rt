@@ -1,12 +1,12 @@
 //! The pairs that no initial state has together.
-ghost use Rattle.std.specs.Prelude.{◌≡◌, ◌<◌, ◌&&◌, [], ◌∷◌, true, not, length, nat_lt};
+ghost use Rattle.std.specs.Prelude.{◌≡◌, ◌<◌, ◌≤◌, ◌+◌, ◌*◌, ◌&&◌, ℕ, [], ◌∷◌, true, not, length, nat_lt};
 ghost use Rattle.std.specs.List.{list_all};
 ghost use Rattle.kp_base.specs.Lit.{code_of};
 ghost use Rattle.kp_base.specs.LitSet.{IsAscending};
-ghost use Rattle.kp_pairs.specs.Paired.{IsSquare};
-ghost use Rattle.kp_pairs.specs.Starting.{denies, denied, pair_of, all_with, IsMarkedWith};
+ghost use Rattle.kp_pairs.specs.Paired.{IsSquare, words_of};
+ghost use Rattle.kp_pairs.specs.Starting.{denies, denied, pair_of, all_with, between, IsMarkedWith};
 
-use crate::pairs::mark;
+use crate::pairs::{mark, words_of};
 use kp_base::{Lit, LitSet};
 use kp_bits::Bits;
 
@@ -22,14 +22,54 @@ fn mark_both(atoms: u32, table: &mut Bits, p: u32, q: u32)
     }
 }
 
+// Marks the pairs of the atom with those from a number on and below another.
+fn mark_between(atoms: u32, table: &mut Bits, p: u32, from: u32, to: u32)
+    requires square { IsSquare atoms table.old }
+    requires below { p < atoms }
+    requires in_order { from ≤ to }
+    requires end { to ≤ atoms }
+    ensures { IsMarkedWith atoms (between p from to) table.old table.new }
+{
+    for q in from..to {
+        mark_both(atoms, table, p, q);
+    }
+}
+
+// Where the 64 atoms from 64 k on end, or all atoms do.
+fn end_of(atoms: u32, k: u32) -> u32
+    requires { k < 1024 }
+    ensures within { result ≤ atoms }
+    ensures at_most { result ≤ k * 64 + 64 }
+    ensures all { (q : ℕ) → q < atoms → q < k * 64 + 64 → q < result }
+{
+    if k * 64 + 64 < atoms {
+        k * 64 + 64
+    } else {
+        atoms
+    }
+}
+
+// Marks the pairs of the atom with the 64 from 64 k on, if not all of them are marked.
+fn mark_word(atoms: u32, table: &mut Bits, p: u32, k: u32)
+    requires square { IsSquare atoms table.old }
+    requires below { p < atoms }
+    requires word { k < words_of atoms }
+    requires few { k < 1024 }
+    ensures { IsMarkedWith atoms (between p (k * 64) (k * 64 + 64)) table.old table.new }
+{
+    if table.word(p * words_of(atoms) + k) != u64::MAX {
+        mark_between(atoms, table, p, k * 64, end_of(atoms, k));
+    }
+}
+
 // Marks each pair with the atom.
 fn mark_all(atoms: u32, table: &mut Bits, p: u32)
     requires square { IsSquare atoms table.old }
     requires below { p < atoms }
     ensures { IsMarkedWith atoms (all_with p) table.old table.new }
 {
-    for q in 0..atoms {
-        mark_both(atoms, table, p, q);
+    for k in 0..words_of(atoms) {
+        mark_word(atoms, table, p, k);
     }
 }
 

@@ -9,7 +9,7 @@ use crate::asked::atoms_asked;
 use crate::between::{SLOTS, spans_of};
 use crate::left::left_by_long;
 use crate::sure::atoms_deleted;
-use crate::words::WORDS;
+use crate::words::{WORDS, blocks_of};
 use kp_base::Action;
 
 /// Between which places deletes stand, by the slots of their atoms, the atoms that it asks for, those that it adds, and those that it surely deletes.
@@ -20,8 +20,10 @@ pub struct Tables {
     pub asked: [u64; WORDS],
     pub added: [u64; WORDS],
     pub sure: [u64; WORDS],
-    // The atoms that a long precondition doesn't exclude; no clause speaks of it.
+    // The atoms that a long precondition doesn't exclude, and the blocks of the atoms that the action adds; no clause
+    // speaks of them.
     pub left: [u64; WORDS],
+    pub blocks: u64,
 }
 
 impl Tables {
@@ -30,13 +32,15 @@ impl Tables {
         ensures { Notes result action.now }
     {
         let (firsts, ends) = spans_of(action.effects.slice());
+        let added = atoms_added(action.effects.slice());
         Tables {
             firsts,
             ends,
             asked: atoms_asked(action.pre.slice()),
-            added: atoms_added(action.effects.slice()),
+            added,
             sure: atoms_deleted(action),
             left: left_by_long(pairs, action.pre.slice()),
+            blocks: blocks_of(&added),
         }
     }
 
@@ -51,6 +55,7 @@ impl Tables {
             added: [u64::MAX; WORDS],
             sure: [0; WORDS],
             left: [0; WORDS],
+            blocks: u64::MAX,
         }
     }
 }

@@ -19,3 +19,14 @@ pub(crate) fn set_bit(words: &mut [u64; WORDS], atom: AtomId)
         words[k] = with_bit(words[k], atom.0 % 64);
     }
 }
+
+/// In which blocks a word has a bit: word k is of block k modulo 64, which has that bit.
+pub(crate) fn blocks_of(words: &[u64; WORDS]) -> u64 {
+    let mut blocks = 0u64;
+    for k in 0..WORDS {
+        if words[k] != 0 {
+            blocks = with_bit(blocks, k as u32 % 64);
+        }
+    }
+    blocks
+}

@@ -47,7 +47,7 @@ literal_listed n l h =
     subst (Member (literals_of n)) (lit-code l) (member_map lit_of (range_with_len 0 (2 * n)) (code_of l) (range_there 0 (2 * n) (code_of l) (omega arith) (omega (arith, lt))))
 
 -- what is marked is of the first n atoms
-marked_below : (n : ℕ) (rows : List (List Bool)) (l m : Lit) → is_marked n rows l m ≡ true → (l.atom.0 < n) × (m.atom.0 < n) × (marked rows (code_of m) (code_of l) ≡ true)
+pub marked_below : (n : ℕ) (rows : List (List Bool)) (l m : Lit) → is_marked n rows l m ≡ true → (l.atom.0 < n) × (m.atom.0 < n) × (marked rows (code_of m) (code_of l) ≡ true)
 marked_below n rows l m h =
     let x = and_parts (nat_lt l.atom.0 n) (nat_lt m.atom.0 n && marked rows (code_of m) (code_of l)) h in
     let y = and_parts (nat_lt m.atom.0 n) (marked rows (code_of m) (code_of l)) x.1 in

@@ -1,6 +1,7 @@
 pub mod Tables
 pub mod Closing
 pub mod Searching
+pub mod Alone
 pub mod Chains
 pub mod Exact
 pub mod Once
@@ -8,3 +9,4 @@ pub mod Ordered
 pub mod Clauses
 pub mod ExampleRelevance
 pub mod Closures
+pub mod Lonely

@@ -1,5 +1,5 @@
 -- Clauses as they are gathered, before they are put in order. This file serves proofs alone.
-use Rattle.std.specs.Prelude.{ℕ, Bool, not, ◌&&◌, ◌++◌, List, filter, map, length, nat_lt}
+use Rattle.std.specs.Prelude.{◌≡◌, ℕ, Bool, true, not, ◌&&◌, ◌++◌, List, filter, map, length, nat_lt}
 use Rattle.std.specs.List.{list_any, list_all, range_with_len}
 use Rattle.kp_base.specs.declared.lit.Lit.{Lit}
 use Rattle.kp_base.specs.Lit.{has}
@@ -25,3 +25,7 @@ unsettled_below pairs known target n = filter (is_unsettled pairs known target) 
 -- all of them
 abbrev pub gathered : List (Lit × Lit) → List (List Lit) → List Lit → Lit → ℕ → List (List Lit)
 gathered pairs primes known target n = filter (is_wanted pairs target) primes ++ unsettled_below pairs known target n
+
+-- no other literal is the first of a pair with the target
+abbrev pub IsLone : List (Lit × Lit) → Lit → Type 0
+IsLone pairs target = (l : Lit) → is_pair pairs l target ≡ true → l ≡ target

@@ -97,9 +97,14 @@ pub record ClosesRows (n : ℕ) (closed : List Bool) (old new : List (List Bool)
   pub closed_rows : AreClosedRows n closed new
   pub only : (j i : ℕ) → j < n → i < n → marked new j i ≡ true → Linked n (marked old) j i
 
--- rows that are written over in a search: none has no bit set
-pub record AreSpare (n : ℕ) (none row done : List Bool) : Type 0 where
-  pub clear : none ≡ replicate n false
+-- in the rows of these numbers no other number is marked
+abbrev pub AreLone : ℕ → List (List Bool) → List Bool → Type 0
+AreLone n rows lone = (m i : ℕ) → m < n → i < n → get_or lone m false ≡ true → marked rows m i ≡ true → m ≡ i
+
+-- numbers in whose rows no other is marked, and rows that are written over in a search
+pub record AreSpare (n : ℕ) (rows : List (List Bool)) (lone row done : List Bool) : Type 0 where
+  pub alone : AreLone n rows lone
+  pub wide_lone : length lone ≡ n
   pub wide : length row ≡ n
   pub wide_done : length done ≡ n
 

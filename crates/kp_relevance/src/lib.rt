@@ -6,6 +6,7 @@
 mod fill;
 mod gather;
 mod laws;
+mod lone;
 mod order;
 mod reach;
 mod relevance;

@@ -1,28 +1,46 @@
 //! Closing one row, by a search for what leads to what is in it.
-ghost use Rattle.std.specs.Prelude.{◌≡◌, ◌<◌, length, IfOk};
+ghost use Rattle.std.specs.Prelude.{◌≡◌, ◌<◌, Bool, List, length, IfOk};
 ghost use Rattle.kp_relevance.specs.Tabled.{unset, IsSquare, IsClosedRow, AreClosedRows, Grows, IsFollowed, IsNext, ClosesRow, AreSpare};
 
+use crate::lone::note_lone_rows;
 use kp_base::Memory;
 use kp_bits::Bits;
 use std::alloc::Global;
 
-/// Rows that a search writes over, and one with no bit set.
+/// Rows that a search writes over, and the numbers in whose rows no other is marked: there is nothing to follow from them.
 #[derive(Drop)]
 pub(crate) struct Spare {
-    none: Bits,
+    lone: Bits,
     row: Bits,
     done: Bits,
 }
 
+// Two rows of n bits.
+fn two_rows(alloc: Global, n: u32) -> Result<(Bits, Bits), Memory>
+    ensures { IfOk result (λ rows. (length rows.0 ≡ n) × (length rows.1 ≡ n)) }
+{
+    let row = Bits::new(alloc, n)?;
+    let done = Bits::new(alloc, n)?;
+    Ok((row, done))
+}
+
 impl Spare {
-    /// Rows of n bits.
+    /// Rows of n bits, and no numbers yet.
     pub(crate) fn new(alloc: Global, n: u32) -> Result<Spare, Memory>
-        ensures { IfOk result (λ s. AreSpare n s.none s.row s.done) }
+        ensures { IfOk result (λ s. (rows : List (List Bool)) → AreSpare n rows s.lone s.row s.done) }
     {
-        let none = Bits::new(alloc, n)?;
-        let row = Bits::new(alloc, n)?;
-        let done = Bits::new(alloc, n)?;
-        Ok(Spare { none, row, done })
+        let lone = Bits::new(alloc, n)?;
+        let (row, done) = two_rows(alloc, n)?;
+        Ok(Spare { lone, row, done })
+    }
+
+    /// Notes the numbers in whose rows no other is marked.
+    pub(crate) fn note_lone(&mut self, rows: &[Bits], n: u32)
+        requires square { IsSquare n rows.now }
+        requires spare { AreSpare n rows.now self.old.lone self.old.row self.old.done }
+        ensures { AreSpare n rows.now self.new.lone self.new.row self.new.done }
+    {
+        note_lone_rows(rows, n, &mut self.lone);
     }
 }
 
@@ -67,12 +85,13 @@ pub(crate) fn close_row(rows: &mut [Bits], j: usize, closed: &Bits, spare: &mut 
     requires wide { length closed.now ≡ length rows.old }
     requires closed { AreClosedRows (length rows.old) closed.now rows.old }
     requires row { j < length rows.old }
-    requires spare { AreSpare (length rows.old) spare.old.none spare.old.row spare.old.done }
+    requires spare { AreSpare (length rows.old) rows.old spare.old.lone spare.old.row spare.old.done }
     ensures closes { ClosesRow (length rows.old) j rows.old rows.new }
-    ensures spare { AreSpare (length rows.old) spare.new.none spare.new.row spare.new.done }
+    ensures spare { AreSpare (length rows.old) rows.new spare.new.lone spare.new.row spare.new.done }
 {
     spare.row.copy_from(&rows[j]);
-    spare.done.copy_from(&spare.none);
+    spare.done.copy_from(&spare.lone);
+    spare.done.and_with(&spare.row);
     follow_all(rows, closed, &mut spare.row, &mut spare.done);
     rows[j].copy_from(&spare.row);
 }

@@ -1,11 +1,13 @@
-ghost use Rattle.std.specs.Prelude.{◌≡◌, ◌<◌, ◌*◌, length, IfOk};
+ghost use Rattle.std.specs.Prelude.{◌≡◌, ◌<◌, ◌*◌, true, length, IfOk};
 ghost use Rattle.kp_base.specs.Implicates.{IsOfItsAtoms};
 ghost use Rattle.kp_relevance.specs.Relevant.{is_pair, ArePairsOf};
 ghost use Rattle.kp_relevance.specs.Candidates.{AnswersClausesFor};
+ghost use Rattle.kp_relevance.specs.Gathered.{IsLone};
 ghost use Rattle.kp_relevance.specs.Tabled.{is_marked, IsWide};
 
 use crate::fill::{mark_actions, mark_own};
 use crate::gather::{add_differing, add_wanted, in_order};
+use crate::lone::is_lone;
 use crate::table::{close, empty_table};
 use kp_base::{Ground, Lit, LitSet, Memory, Row};
 use kp_bits::Bits;
@@ -46,6 +48,39 @@ fn is_marked(atoms: u32, rows: &[Bits], from: Lit, to: Lit) -> bool
     }
 }
 
+// The clauses that are relevant to a literal to which no other literal is relevant: there are none.
+fn no_clauses(alloc: Global, relevance: &Relevance, primes: &Primes, target: Lit) -> Row<LitSet>
+    requires below { target.atom.0 < primes.now.atoms }
+    requires lone { IsLone relevance.now target }
+    ensures { AnswersClausesFor relevance.now primes.now target result }
+{
+    let _clauses = primes.clauses();
+    Row::new(alloc)
+}
+
+// The clauses that are relevant to a literal, out of all.
+fn gather(
+    alloc: Global,
+    relevance: &Relevance,
+    primes: &Primes,
+    target: Lit,
+) -> Result<Row<LitSet>, Memory>
+    requires { target.atom.0 < primes.now.atoms }
+    ensures { IfOk result (AnswersClausesFor relevance.now primes.now target) }
+{
+    let mut found = Row::new(alloc);
+    add_wanted(
+        alloc,
+        relevance,
+        primes.clauses().slice(),
+        target,
+        &mut found,
+    )?;
+    add_differing(alloc, relevance, primes, target, &mut found)?;
+    let clauses = in_order(found)?;
+    Ok(clauses)
+}
+
 impl Relevance {
     /// The relevance of the literals of a ground problem.
     pub fn of(alloc: Global, ground: &Ground) -> Result<Relevance, Memory>
@@ -80,10 +115,21 @@ impl Relevance {
         requires { target.atom.0 < primes.now.atoms }
         ensures { IfOk result (AnswersClausesFor self.now primes.now target) }
     {
-        let mut found = Row::new(alloc);
-        add_wanted(alloc, self, primes.clauses().slice(), target, &mut found)?;
-        add_differing(alloc, self, primes, target, &mut found)?;
-        let clauses = in_order(found)?;
-        Ok(clauses)
+        if self.is_lone(target) {
+            return Ok(no_clauses(alloc, self, primes, target));
+        }
+        gather(alloc, self, primes, target)
+    }
+
+    // Whether no other literal is relevant to this one.
+    fn is_lone(&self, target: Lit) -> bool
+        ensures { result ≡ true → IsLone self.now target }
+    {
+        target.atom.0 < self.atoms
+            && is_lone(
+                &self.rows[target.code() as usize],
+                2 * self.atoms,
+                target.code() as u32,
+            )
     }
 }

@@ -25,11 +25,11 @@ pub(crate) fn empty_table(alloc: Global, n: u32) -> Result<Vec<Bits>, Memory>
 fn close_one(rows: &mut [Bits], j: u32, closed: &mut Bits, spare: &mut Spare)
     requires row { j < length rows.old }
     requires closed { ClosesRows (length rows.old) closed.old rows.old rows.old }
-    requires spare { AreSpare (length rows.old) spare.old.none spare.old.row spare.old.done }
+    requires spare { AreSpare (length rows.old) rows.old spare.old.lone spare.old.row spare.old.done }
     ensures closes { (first : List (List Bool)) → ClosesRows (length rows.old) closed.old first rows.old → ClosesRows (length rows.old) closed.new first rows.new }
     ensures closed { get_or closed.new j false ≡ true }
     ensures kept { (i : ℕ) → get_or closed.old i false ≡ true → get_or closed.new i false ≡ true }
-    ensures spare { AreSpare (length rows.old) spare.new.none spare.new.row spare.new.done }
+    ensures spare { AreSpare (length rows.old) rows.new spare.new.lone spare.new.row spare.new.done }
 {
     if !closed.get(j) {
         close_row(rows, j as usize, closed, spare);
@@ -41,9 +41,9 @@ fn close_one(rows: &mut [Bits], j: u32, closed: &mut Bits, spare: &mut Spare)
 fn close_each(rows: &mut [Bits], order: &[u32], closed: &mut Bits, spare: &mut Spare)
     requires order { All (λ j. j < length rows.old) order.now }
     requires closed { ClosesRows (length rows.old) closed.old rows.old rows.old }
-    requires spare { AreSpare (length rows.old) spare.old.none spare.old.row spare.old.done }
+    requires spare { AreSpare (length rows.old) rows.old spare.old.lone spare.old.row spare.old.done }
     ensures closes { ClosesRows (length rows.old) closed.new rows.old rows.new }
-    ensures spare { AreSpare (length rows.old) spare.new.none spare.new.row spare.new.done }
+    ensures spare { AreSpare (length rows.old) rows.new spare.new.lone spare.new.row spare.new.done }
 {
     for j in order {
         close_one(rows, *j, closed, spare);
@@ -54,12 +54,27 @@ fn close_each(rows: &mut [Bits], order: &[u32], closed: &mut Bits, spare: &mut S
 fn close_rest(rows: &mut [Bits], n: u32, closed: &mut Bits, spare: &mut Spare)
     requires many { length rows.old ≡ n }
     requires closed { ClosesRows n closed.old rows.old rows.old }
-    requires spare { AreSpare n spare.old.none spare.old.row spare.old.done }
+    requires spare { AreSpare n rows.old spare.old.lone spare.old.row spare.old.done }
     ensures { (first : List (List Bool)) → ClosesRows n closed.old first rows.old → Closes n n first rows.new }
 {
     for j in 0..n {
         close_one(rows, j, closed, spare);
     }
+}
+
+// Closes the rows, these first.
+fn close_by(alloc: Global, rows: &mut [Bits], n: u32, order: &[u32]) -> Result<(), Memory>
+    requires many { length rows.old ≡ n }
+    requires square { IsSquare n rows.old }
+    requires order { All (λ j. j < n) order.now }
+    ensures { OnOk result (Closes n n rows.old rows.new) }
+{
+    let mut spare = Spare::new(alloc, n)?;
+    let mut closed = Bits::new(alloc, n)?;
+    spare.note_lone(rows, n);
+    close_each(rows, order, &mut closed, &mut spare);
+    close_rest(rows, n, &mut closed, &mut spare);
+    Ok(())
 }
 
 /// Closes the rows: what is marked through a number is marked.
@@ -69,9 +84,5 @@ pub(crate) fn close(alloc: Global, rows: &mut [Bits], n: u32) -> Result<(), Memo
     ensures { OnOk result (Closes n n rows.old rows.new) }
 {
     let order = closing_order(alloc, rows, n)?;
-    let mut spare = Spare::new(alloc, n)?;
-    let mut closed = Bits::new(alloc, n)?;
-    close_each(rows, &order, &mut closed, &mut spare);
-    close_rest(rows, n, &mut closed, &mut spare);
-    Ok(())
+    close_by(alloc, rows, n, &order)
 }

@@ -7,10 +7,10 @@ ghost use Rattle.kp_pairs.specs.Removed.{Shrinks};
 ghost use Rattle.kp_pairs.specs.Left.{Notes};
 
 use crate::breaking::breaks;
+use crate::outline::turns;
 use crate::touched::Touched;
 use kp_base::{Action, AtomId, Effect};
-use kp_bits::has_bit;
-use kp_pairs::{Pairs, Tables, likely, words_of};
+use kp_pairs::{Pairs, Tables, likely};
 
 // Removes the pair of the effect's atom and this one, if the effect breaks it alone.
 fn clear_at(
@@ -30,29 +30,7 @@ fn clear_at(
 {
     if breaks(pairs, action, tables, effect, q) {
         pairs.remove(effect.result.atom, q);
-        touched.note(effect.result.atom, q);
-    }
-}
-
-// The same where the atom is a candidate.
-fn clear_if(
-    pairs: &mut Pairs,
-    touched: &mut Touched,
-    action: &Action,
-    tables: &Tables,
-    effect: &Effect,
-    is_candidate: bool,
-    q: AtomId,
-)
-    requires of_action { Member action.now.effects effect.now }
-    requires noted { Notes tables.now action.now }
-    requires different { (p : ℕ) → is_pair pairs.old p p ≡ false }
-    requires adds { effect.now.result.positive ≡ true }
-    requires compatible { are_compatible (is_pair pairs.old) (action.now.pre ++ effect.now.cond) ≡ true }
-    ensures { Shrinks (action.now ∷ []) pairs.old pairs.new }
-{
-    if is_candidate {
-        clear_at(pairs, touched, action, tables, effect, q);
+        touched.note(pairs, effect.result.atom, q);
     }
 }
 
@@ -70,44 +48,44 @@ fn clear_word(
     requires different { (p : ℕ) → is_pair pairs.old p p ≡ false }
     requires adds { effect.now.result.positive ≡ true }
     requires compatible { are_compatible (is_pair pairs.old) (action.now.pre ++ effect.now.cond) ≡ true }
-    requires few { k < 1024 }
     ensures { Shrinks (action.now ∷ []) pairs.old pairs.new }
 {
-    let word = likely(pairs, action, &tables.sure, &tables.left, effect, k);
-    if word == 0 {
+    if k >= 1024 {
         return;
     }
-    for j in 0..64u32 {
-        let q = AtomId(k * 64 + j);
-        clear_if(pairs, touched, action, tables, effect, has_bit(word, j), q);
+    let mut word = likely(pairs, action, &tables.sure, &tables.left, effect, k);
+    for _ in 0..64 {
+        if word == 0 {
+            return;
+        }
+        let q = AtomId(k.wrapping_mul(64).wrapping_add(word.trailing_zeros()));
+        clear_at(pairs, touched, action, tables, effect, q);
+        word &= word.wrapping_sub(1);
     }
 }
 
-// Removes the pairs with the 64 atoms from 64 k on that the effect breaks alone, if one of them is to be looked at.
-fn clear_freed(
+// The same with the atoms of a block.
+fn clear_block(
     pairs: &mut Pairs,
-    last: &Touched,
-    next: &mut Touched,
+    touched: &mut Touched,
     action: &Action,
     tables: &Tables,
     effect: &Effect,
-    is_all: bool,
-    k: u32,
+    block: u32,
 )
     requires of_action { Member action.now.effects effect.now }
     requires noted { Notes tables.now action.now }
-    requires different { (p : ℕ) → is_pair pairs.old p p ≡ false }
     requires adds { effect.now.result.positive ≡ true }
     requires compatible { are_compatible (is_pair pairs.old) (action.now.pre ++ effect.now.cond) ≡ true }
-    requires few { k < 1024 }
     ensures { Shrinks (action.now ∷ []) pairs.old pairs.new }
 {
-    if is_all || last.frees(action.pre.slice(), effect.cond.slice(), k) {
-        clear_word(pairs, next, action, tables, effect, k);
+    for turn in 0..turns(pairs.atoms()) {
+        let k = turn.wrapping_mul(64).wrapping_add(block);
+        clear_word(pairs, touched, action, tables, effect, k);
     }
 }
 
-/// Removes the pairs that the effect breaks alone.
+/// Removes the pairs that the effect breaks alone, with those atoms that its conditions excluded before.
 pub(crate) fn clear_alone(
     pairs: &mut Pairs,
     last: &Touched,
@@ -122,8 +100,18 @@ pub(crate) fn clear_alone(
     requires compatible { are_compatible (is_pair pairs.old) (action.now.pre ++ effect.now.cond) ≡ true }
     ensures { Shrinks (action.now ∷ []) pairs.old pairs.new }
 {
-    let is_all = last.frees_all(action.pre.slice(), effect.cond.slice());
-    for k in 0..words_of(pairs.atoms()) {
-        clear_freed(pairs, last, next, action, tables, effect, is_all, k);
+    let pre = action.pre.slice();
+    let cond = effect.cond.slice();
+    let outline = &next.outline;
+    let mut blocks = outline.pairs_of(effect.result.atom)
+        & outline.left_by(pre)
+        & outline.left_by(cond)
+        & last.freed(pre, cond);
+    for _ in 0..64 {
+        if blocks == 0 {
+            return;
+        }
+        clear_block(pairs, next, action, tables, effect, blocks.trailing_zeros());
+        blocks &= blocks.wrapping_sub(1);
     }
 }

@@ -21,12 +21,16 @@ fn excludes(pairs: &Pairs, lits: &[Lit], atom: AtomId) -> bool
     lits.iter().any(|l| are_exclusive(pairs, *l, holding(atom)))
 }
 
-// Whether a literal of the precondition does.
+// Whether a literal of the precondition does. The literals of a short one are looked through at once.
 fn pre_excludes(pairs: &Pairs, action: &Action, asked: &[u64; WORDS], atom: AtomId) -> bool
     requires { all_asked asked.now action.now.pre ≡ true }
     ensures { result ≡ list_any (λ l. are_exclusive (is_pair pairs.now) l (positive atom.0)) action.now.pre }
 {
-    may_exclude(pairs, action, asked, atom) && excludes(pairs, action.pre.slice(), atom)
+    let pre = action.pre.slice();
+    if pre.len() <= 8 {
+        return excludes(pairs, pre, atom);
+    }
+    may_exclude(pairs, action, asked, atom) && excludes(pairs, pre, atom)
 }
 
 // Whether a literal excludes the atom, or a delete of it comes with the effect.

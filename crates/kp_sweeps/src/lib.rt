@@ -5,6 +5,7 @@
 mod alone;
 mod asking;
 mod breaking;
+mod outline;
 mod sweep;
 mod together;
 mod touched;

@@ -32,6 +32,9 @@ fn clear_effect(
     if !effect.result.positive {
         return;
     }
+    if !is_paired(next, effect) {
+        return;
+    }
     if !last.meets(action.pre.slice()) && !last.meets(effect.cond.slice()) {
         return;
     }
@@ -48,14 +51,16 @@ fn clear_effect(
     }
 }
 
-// Whether the action has a condition on one of these atoms.
-fn is_met(last: &Touched, action: &Action) -> bool {
-    last.meets(action.pre.slice())
-        || action
-            .effects
-            .slice()
-            .iter()
-            .any(|e| last.meets(e.cond.slice()))
+// Whether the effect adds an atom of a pair.
+fn is_paired(next: &Touched, effect: &Effect) -> bool {
+    effect.result.positive && next.outline.pairs_of(effect.result.atom) != 0
+}
+
+// Whether the action has an effect that is to be looked at.
+fn is_met(last: &Touched, next: &Touched, action: &Action) -> bool {
+    let whole = last.meets(action.pre.slice());
+    action.effects.slice().iter().any(|e| is_paired(next, e)
+        && (whole || last.meets(e.cond.slice())))
 }
 
 // Removes the pairs that an effect of the action breaks, by what is noted of the action.
@@ -105,7 +110,7 @@ fn clear_action(
     requires { (a : ActionOf) → length a.effects ≤ 8 → Notes any.now a }
     ensures { Shrinks (action.now ∷ []) pairs.old pairs.new }
 {
-    if !is_met(last, action) {
+    if !is_met(last, next, action) {
         return;
     }
     if !pre_compatible(pairs, action) {
@@ -130,6 +135,7 @@ fn sweep(
     requires { (a : ActionOf) → length a.effects ≤ 8 → Notes any.now a }
     ensures { Shrinks ground.now.actions pairs.old pairs.new }
 {
+    next.outline.follow(&last.outline);
     for action in ground.actions.slice() {
         clear_action(pairs, any, last, next, asking, action);
     }
@@ -165,6 +171,7 @@ pub fn sweep_on(
     ensures { Shrinks ground.now.actions pairs.old pairs.new }
 {
     let any = Tables::any();
+    last.outline.fill(pairs);
     for _ in 0..u32::MAX {
         if !last.is_some() {
             return;

@@ -8,9 +8,16 @@ ghost use Rattle.kp_pairs.specs.Left.{Notes};
 
 use crate::asking::Asking;
 use crate::breaking::adds_pair;
+use crate::outline::turns;
 use crate::touched::Touched;
 use kp_base::{Action, AtomId, Effect, Lit};
-use kp_pairs::{Pairs, Tables, left_by, may_add_pair, words_of};
+use kp_pairs::{Pairs, Tables, left_by};
+
+// Whether the effect may add an atom that is a pair with one that the action adds.
+fn may_add(pairs: &Pairs, touched: &Touched, tables: &Tables, effect: &Effect) -> bool {
+    let outline = &touched.outline;
+    outline.meets(pairs, effect.result.atom, &tables.added, tables.blocks)
+}
 
 // Removes the pair whose atoms the two effects may add, and tells whether there was one.
 fn clear_both(pairs: &mut Pairs, action: &Action, effect: &Effect, other: &Effect) -> bool
@@ -40,14 +47,14 @@ pub(crate) fn clear_together(
     requires compatible { are_compatible (is_pair pairs.old) (action.now.pre ++ effect.now.cond) ≡ true }
     ensures { Shrinks (action.now ∷ []) pairs.old pairs.new }
 {
-    let mut left = may_add_pair(pairs, action, effect, &tables.added);
+    let mut left = may_add(pairs, touched, tables, effect);
     for other in action.effects.slice() {
         if !left {
             return;
         }
         if clear_both(pairs, action, effect, other) {
-            touched.note(effect.result.atom, other.result.atom);
-            left = may_add_pair(pairs, action, effect, &tables.added);
+            touched.note(pairs, effect.result.atom, other.result.atom);
+            left = may_add(pairs, touched, tables, effect);
         }
     }
 }
@@ -66,7 +73,7 @@ fn clear_one(
     ensures { Shrinks (action.now ∷ []) pairs.old pairs.new }
 {
     if clear_both(pairs, action, effect, other) {
-        touched.note(effect.result.atom, other.result.atom);
+        touched.note(pairs, effect.result.atom, other.result.atom);
     }
 }
 
@@ -138,7 +145,28 @@ fn clear_asking_word(
     }
 }
 
-// The same for the atoms of which the literal's atom was a pair.
+// The same for the atoms of a block of which the literal's atom was a pair.
+fn clear_freed_block(
+    pairs: &mut Pairs,
+    last: &Touched,
+    next: &mut Touched,
+    asking: &Asking,
+    action: &Action,
+    effect: &Effect,
+    lit: &Lit,
+    block: u32,
+)
+    requires of_action { Member action.now.effects effect.now }
+    requires compatible { are_compatible (is_pair pairs.old) (action.now.pre ++ effect.now.cond) ≡ true }
+    ensures { Shrinks (action.now ∷ []) pairs.old pairs.new }
+{
+    for turn in 0..turns(pairs.atoms()) {
+        let k = turn.wrapping_mul(64).wrapping_add(block);
+        clear_asking_word(pairs, next, asking, action, effect, last.word(lit, k), k);
+    }
+}
+
+// The same for all atoms of which the literal's atom was a pair.
 fn clear_freed_by(
     pairs: &mut Pairs,
     last: &Touched,
@@ -152,9 +180,22 @@ fn clear_freed_by(
     requires compatible { are_compatible (is_pair pairs.old) (action.now.pre ++ effect.now.cond) ≡ true }
     ensures { Shrinks (action.now ∷ []) pairs.old pairs.new }
 {
-    for k in 0..words_of(pairs.atoms()) {
-        let word = last.word(lit, k);
-        clear_asking_word(pairs, next, asking, action, effect, word, k);
+    let mut blocks = last.blocks_of(lit);
+    for _ in 0..64 {
+        if blocks == 0 {
+            return;
+        }
+        clear_freed_block(
+            pairs,
+            last,
+            next,
+            asking,
+            action,
+            effect,
+            lit,
+            blocks.trailing_zeros(),
+        );
+        blocks &= blocks.wrapping_sub(1);
     }
 }
 
@@ -173,7 +214,7 @@ pub(crate) fn clear_partners(
     requires compatible { are_compatible (is_pair pairs.old) (action.now.pre ++ effect.now.cond) ≡ true }
     ensures { Shrinks (action.now ∷ []) pairs.old pairs.new }
 {
-    if !may_add_pair(pairs, action, effect, &tables.added) {
+    if !may_add(pairs, next, tables, effect) {
         return;
     }
     for lit in effect.cond.slice() {
@@ -181,7 +222,7 @@ pub(crate) fn clear_partners(
     }
 }
 
-// Removes the pairs that the effect breaks together with those that have one of the 64 atoms from 64 k on among their
+// Removes the pairs that the effect breaks together with those that have one of the atoms of a block among their
 // conditions, as long as there are such pairs.
 fn clear_left(
     pairs: &mut Pairs,
@@ -190,15 +231,20 @@ fn clear_left(
     action: &Action,
     tables: &Tables,
     effect: &Effect,
-    k: u32,
+    block: u32,
 )
     requires noted { Notes tables.now action.now }
     requires of_action { Member action.now.effects effect.now }
     requires compatible { are_compatible (is_pair pairs.old) (action.now.pre ++ effect.now.cond) ≡ true }
     ensures { Shrinks (action.now ∷ []) pairs.old pairs.new }
 {
-    let word = left_by(pairs, action, effect, k);
-    if word != 0 && may_add_pair(pairs, action, effect, &tables.added) {
+    for turn in 0..turns(pairs.atoms()) {
+        let k = turn.wrapping_mul(64).wrapping_add(block);
+        let word = if may_add(pairs, touched, tables, effect) {
+            left_by(pairs, action, effect, k)
+        } else {
+            0
+        };
         clear_asking_word(pairs, touched, asking, action, effect, word, k);
     }
 }
@@ -217,11 +263,25 @@ pub(crate) fn clear_compatible(
     requires compatible { are_compatible (is_pair pairs.old) (action.now.pre ++ effect.now.cond) ≡ true }
     ensures { Shrinks (action.now ∷ []) pairs.old pairs.new }
 {
-    if !may_add_pair(pairs, action, effect, &tables.added) {
+    if !may_add(pairs, touched, tables, effect) {
         return;
     }
     clear_list(pairs, touched, asking, action, effect, asking.first_free());
-    for k in 0..words_of(pairs.atoms()) {
-        clear_left(pairs, touched, asking, action, tables, effect, k);
+    let outline = &touched.outline;
+    let mut blocks = outline.left_by(action.pre.slice()) & outline.left_by(effect.cond.slice());
+    for _ in 0..64 {
+        if blocks == 0 {
+            return;
+        }
+        clear_left(
+            pairs,
+            touched,
+            asking,
+            action,
+            tables,
+            effect,
+            blocks.trailing_zeros(),
+        );
+        blocks &= blocks.wrapping_sub(1);
     }
 }

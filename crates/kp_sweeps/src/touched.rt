@@ -1,35 +1,44 @@
 //! Which effects are to be looked at again after pairs were removed. It decides what is looked at and when, and no
 //! clause speaks of it.
 
+use crate::outline::{Outline, block};
 use kp_base::{AtomId, Lit, Memory};
 use kp_bits::{has_bit, with_bit};
-use kp_pairs::words_of;
+use kp_pairs::{Pairs, words_of};
 use std::alloc::Global;
 
-/// Pairs that were removed; or all effects.
+/// Pairs that were removed; or all effects. And the outline of those that are left.
 #[derive(Drop)]
 pub struct Touched {
     words: usize,
     // A row of bits for each atom: with which atoms a pair of it was removed.
     rows: Vec<u64>,
-    // Whether the row of the atom has a bit.
-    atoms: Vec<bool>,
+    // In which blocks the row of the atom has bits.
+    blocks: Vec<u64>,
     is_some: bool,
     is_all: bool,
+    pub(crate) outline: Outline,
 }
 
 impl Touched {
     /// No pairs of so many atoms.
     pub fn new(alloc: Global, atoms: u32) -> Result<Touched, Memory> {
+        let outline = Outline::new(alloc, atoms)?;
+        Touched::with(alloc, atoms, outline)
+    }
+
+    // The same where there is room for an outline.
+    fn with(alloc: Global, atoms: u32, outline: Outline) -> Result<Touched, Memory> {
         let words = words_of(atoms) as usize;
         let rows = vec![in alloc; 0u64; (atoms as usize).wrapping_mul(words)]?;
-        let atoms = vec![in alloc; false; atoms as usize]?;
+        let blocks = vec![in alloc; 0u64; atoms as usize]?;
         Ok(Touched {
             words,
             rows,
-            atoms,
+            blocks,
             is_some: false,
             is_all: false,
+            outline,
         })
     }
 
@@ -56,24 +65,30 @@ impl Touched {
         if let Some(word) = self.rows.get_mut(place) {
             *word = with_bit(*word, q.0 % 64);
         }
-        if let Some(atom) = self.atoms.get_mut(p.0 as usize) {
-            *atom = true;
+        if let Some(blocks) = self.blocks.get_mut(p.0 as usize) {
+            *blocks |= block(q.0 / 64);
         }
     }
 
     /// Notes a pair that was removed.
-    pub fn note(&mut self, p: AtomId, q: AtomId) {
+    pub fn note(&mut self, pairs: &Pairs, p: AtomId, q: AtomId) {
         self.note_in(p, q);
         self.note_in(q, p);
+        self.outline.note(pairs, p, q);
         self.is_some = true;
     }
 
-    /// Whether a pair of the atom was removed.
-    pub(crate) fn has(&self, lit: &Lit) -> bool {
-        match self.atoms.get(lit.atom.0 as usize) {
-            Some(atom) => lit.positive && *atom,
-            None => false,
+    /// In which blocks there are atoms of which the literal's atom was a pair.
+    pub(crate) fn blocks_of(&self, lit: &Lit) -> u64 {
+        match self.blocks.get(lit.atom.0 as usize) {
+            Some(blocks) => { if lit.positive { *blocks } else { 0 } }
+            None => 0,
         }
+    }
+
+    // Whether a pair of the literal's atom was removed.
+    fn has(&self, lit: &Lit) -> bool {
+        self.blocks_of(lit) != 0
     }
 
     /// Which of the 64 atoms from 64 k on were a pair with the literal's atom.
@@ -104,24 +119,23 @@ impl Touched {
         self.meets(pre) || cond.iter().any(|l| self.joins_one(l, cond))
     }
 
-    // Which of the 64 atoms from 64 k on some literal excluded before.
-    fn freed_by(&self, lits: &[Lit], k: u32) -> u64 {
+    // In which blocks there are atoms that some literal excluded before.
+    fn freed_by(&self, lits: &[Lit]) -> u64 {
         let mut freed = 0u64;
         for lit in lits {
-            freed |= self.word(lit, k);
+            freed |= self.blocks_of(lit);
         }
         freed
     }
 
-    /// Whether an effect of these literals is to be looked at with each atom: it may not have fired before, or there are
-    /// too many literals to look through.
-    pub(crate) fn frees_all(&self, pre: &[Lit], cond: &[Lit]) -> bool {
-        self.is_all || pre.len() > 8 || self.is_whole(&[], cond)
-    }
-
-    /// Whether one of the 64 atoms from 64 k on was excluded before by these literals.
-    pub(crate) fn frees(&self, pre: &[Lit], cond: &[Lit], k: u32) -> bool {
-        self.freed_by(pre, k) | self.freed_by(cond, k) != 0
+    /// In which blocks there may be atoms that an effect of these literals is to be looked at with: those that a literal
+    /// excluded before, or all if it may not have fired before, or has too many literals to look through.
+    pub(crate) fn freed(&self, pre: &[Lit], cond: &[Lit]) -> u64 {
+        if self.is_all || pre.len() > 8 || self.is_whole(&[], cond) {
+            u64::MAX
+        } else {
+            self.freed_by(pre) | self.freed_by(cond)
+        }
     }
 
     fn clear_row(&mut self, p: usize) {
@@ -136,9 +150,9 @@ impl Touched {
     }
 
     fn clear_atom(&mut self, p: usize) {
-        if let Some(atom) = self.atoms.get_mut(p) {
-            if *atom {
-                *atom = false;
+        if let Some(blocks) = self.blocks.get_mut(p) {
+            if *blocks != 0 {
+                *blocks = 0;
                 self.clear_row(p);
             }
         }
@@ -146,7 +160,7 @@ impl Touched {
 
     /// Forgets all.
     pub(crate) fn clear(&mut self) {
-        for p in 0..self.atoms.len() {
+        for p in 0..self.blocks.len() {
             self.clear_atom(p);
         }
         self.is_some = false;

@@ -14,4 +14,4 @@ returns-then-not-pre_compatible c = λ p q pair.
     and_from (stays_in (is_pair c.args.pairs.now) p q c.args.action.now) true (none_stays (is_pair c.args.pairs.now) (λ u v h. pair_turned c.args.pairs.now v u ∙ h) c.args.action.now none p q pair) refl
 
 pub of_effects-requires-clause-noted : goal.of_effects-requires-clause-noted
-of_effects-requires-clause-noted c = c.requires c.args.action.now (c.is_small.ensures c.if-is_small.true)
+of_effects-requires-clause-noted c = c.requires.any c.args.action.now (c.is_small.ensures c.if-is_small.true)

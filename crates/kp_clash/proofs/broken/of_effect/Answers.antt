@@ -3,7 +3,7 @@ use Rattle.kp_pairs.specs.Paired.{is_pair}
 use Rattle.kp_pairs.specs.Removed.{FindsAlone}
 use Rattle.kp_pairs.proofs.Removing.{breaks_broken}
 use Rattle.kp_pairs.proofs.Firing.{breaks_none}
-use Rattle.kp_pairs.proofs.Noted.{delete_breaks_none}
+use Rattle.kp_pairs.proofs.Noted.{delete_breaks_none, alone_breaks_none}
 use Rattle.kp_clash.proofs.broken.of_effect.Goals as goal
 
 pub returns-in-Some : goal.returns-in-Some
@@ -16,3 +16,6 @@ returns-then-not-may_fire c = breaks_none (is_pair c.args.pairs.now) c.args.acti
 
 pub returns-then-not-effect : goal.returns-then-not-effect
 returns-then-not-effect c = delete_breaks_none (is_pair c.args.pairs.now) c.args.action.now c.args.effect.now c.if-not-effect.true
+
+pub returns-then-is_alone : goal.returns-then-is_alone
+returns-then-is_alone c = alone_breaks_none (is_pair c.args.pairs.now) c.args.action.now c.args.effect.now (c.requires.alone c.args.effect.now.result.atom.0 (c.is_alone.ensures c.if-is_alone.true))

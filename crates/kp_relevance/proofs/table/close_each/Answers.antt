@@ -14,5 +14,5 @@ loop-j-preserved c =
     let e = b.square.many in
     record {
       closes = subst (λ m. ClosesRows m c.loop-j.closed c.args.rows.now c.loop-j.rows → ClosesRows m c.close_one.new.closed c.args.rows.now c.close_one.new.rows) e (c.close_one.ensures.closes c.args.rows.now) b;
-      spare = subst (λ m. AreSpare m c.close_one.new.spare.none c.close_one.new.spare.row c.close_one.new.spare.done) e c.close_one.ensures.spare;
+      spare = subst (λ m. AreSpare m c.close_one.new.rows c.close_one.new.spare.lone c.close_one.new.spare.row c.close_one.new.spare.done) e c.close_one.ensures.spare;
     }

@@ -15,7 +15,7 @@ loop-j-preserved c =
     let e = b.square.many in
     record {
       closes = subst (λ m. ClosesRows m c.loop-j.closed c.args.rows.now c.loop-j.rows → ClosesRows m c.close_one.new.closed c.args.rows.now c.close_one.new.rows) e (c.close_one.ensures.closes c.args.rows.now) b;
-      spare = subst (λ m. AreSpare m c.close_one.new.spare.none c.close_one.new.spare.row c.close_one.new.spare.done) e c.close_one.ensures.spare;
+      spare = subst (λ m. AreSpare m c.close_one.new.rows c.close_one.new.spare.lone c.close_one.new.spare.row c.close_one.new.spare.done) e c.close_one.ensures.spare;
       closed = λ i hi. elim (cases_eq i c.loop-j.j) [
         | inl d ↦ subst (λ x. get_or c.close_one.new.closed x false ≡ true) (sym d) c.close_one.ensures.closed
         | inr ne ↦ c.close_one.ensures.kept i (c.loop-j.invariant.closed i (omega (arith, hi, ne)))

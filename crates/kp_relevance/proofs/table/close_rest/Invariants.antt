@@ -5,6 +5,6 @@ use Rattle.kp_relevance.proofs.table.close_rest.Given as goal
 abbrev pub invariant-loop-j : goal.invariant-loop-j
 invariant-loop-j l = record {
   closes : ClosesRows l.n l.closed l.fn.rows l.rows;
-  spare : AreSpare l.n l.spare.none l.spare.row l.spare.done;
+  spare : AreSpare l.n l.rows l.spare.lone l.spare.row l.spare.done;
   closed : (i : ℕ) → i < l.j → get_or l.closed i false ≡ true;
 }

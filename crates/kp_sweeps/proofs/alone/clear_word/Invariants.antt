@@ -3,5 +3,5 @@ use Rattle.kp_pairs.specs.Removed.{Shrinks}
 use Rattle.kp_sweeps.proofs.alone.clear_word.Given as goal
 
 -- what was removed so far
-abbrev pub invariant-loop-j : goal.invariant-loop-j
-invariant-loop-j l = Shrinks (l.action ∷ []) l.fn.pairs l.pairs
+abbrev pub invariant-loop : goal.invariant-loop
+invariant-loop l = Shrinks (l.action ∷ []) l.fn.pairs l.pairs

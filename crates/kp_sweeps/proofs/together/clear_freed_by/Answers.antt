@@ -4,8 +4,8 @@ use Rattle.kp_pairs.proofs.Removing.{shrinks_on}
 use Rattle.kp_base.proofs.Exclusive.{compatible_under_fewer}
 use Rattle.kp_sweeps.proofs.together.clear_freed_by.Goals as goal
 
-pub loop-k-preserved : goal.loop-k-preserved
-loop-k-preserved c = shrinks_on (c.args.action.now ∷ []) c.args.pairs.now c.loop-k.pairs c.clear_asking_word.new.pairs c.loop-k.invariant c.clear_asking_word.ensures
+pub clear_freed_block-requires-clause-compatible : goal.clear_freed_block-requires-clause-compatible
+clear_freed_block-requires-clause-compatible c = compatible_under_fewer (is_pair c.loop.pairs) (is_pair c.args.pairs.now) c.loop.invariant.part (c.args.action.now.pre ++ c.args.effect.now.cond) c.requires.compatible
 
-pub clear_asking_word-requires-clause-compatible : goal.clear_asking_word-requires-clause-compatible
-clear_asking_word-requires-clause-compatible c = compatible_under_fewer (is_pair c.loop-k.pairs) (is_pair c.args.pairs.now) c.loop-k.invariant.part (c.args.action.now.pre ++ c.args.effect.now.cond) c.requires.compatible
+pub loop-preserved : goal.loop-preserved
+loop-preserved c = shrinks_on (c.args.action.now ∷ []) c.args.pairs.now c.loop.pairs c.clear_freed_block.new.pairs c.loop.invariant c.clear_freed_block.ensures

@@ -2,11 +2,11 @@ use Rattle.std.proofs.Common.{◌≡◌, ◌∙◌, ◌++◌, List, filter, ap}
 use Rattle.kp_base.specs.declared.lit.Lit.{Lit}
 use Rattle.kp_relevance.specs.Gathered.{is_wanted, unsettled_below, gathered}
 use Rattle.kp_relevance.proofs.Clauses.{answers_clauses}
-use Rattle.kp_relevance.proofs.relevance.Relevance.clauses_for.Goals as goal
+use Rattle.kp_relevance.proofs.relevance.gather.Goals as goal
 
 pub returns : goal.returns
 returns c =
-    let pairs = c.args.self.now in
+    let pairs = c.args.relevance.now in
     let h = c.args.primes.now in
     let target = c.args.target in
     let differing = c.in_ok-add_differing.ensures in

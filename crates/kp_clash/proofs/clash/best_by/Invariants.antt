@@ -1,7 +1,7 @@
 use Rattle.std.proofs.Common.{◌≡◌, None, drop}
 use Rattle.kp_pairs.specs.Paired.{is_pair}
 use Rattle.kp_clash.specs.Searching.{best_from}
-use Rattle.kp_clash.proofs.clash.best.Given as goal
+use Rattle.kp_clash.proofs.clash.best_by.Given as goal
 
 -- the place counts the effects that were looked at, and the rest goes on from the first clash so far
 abbrev pub invariant-effects : goal.invariant-effects

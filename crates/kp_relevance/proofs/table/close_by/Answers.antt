@@ -1,7 +1,7 @@
 use Rattle.std.proofs.Common.{Bool, List, sym, subst}
 use Rattle.kp_relevance.specs.Tabled.{ClosesRows}
 use Rattle.kp_relevance.proofs.Searching.{rows_begun, rows_same}
-use Rattle.kp_relevance.proofs.table.close.Goals as goal
+use Rattle.kp_relevance.proofs.table.close_by.Goals as goal
 
 pub close_each-requires-clause-closed : goal.close_each-requires-clause-closed
 close_each-requires-clause-closed c =
