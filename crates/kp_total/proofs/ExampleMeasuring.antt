@@ -6,18 +6,16 @@ use Rattle.std.specs.Fmt.{digits}
 use Rattle.std.specs.declared.alloc.Global.{Global}
 use lib.Utf8.{encode}
 use Rattle.kp_base.specs.declared.ground.Action.{Action}
-use Rattle.kp_base.specs.declared.ground.Effect.{Effect}
 use Rattle.kp_base.specs.declared.ground.Ground.{Ground}
 use Rattle.kp_base.specs.declared.ground.Initial.{Initial}
 use Rattle.kp_base.specs.declared.lit.Lit.{Lit}
-use Rattle.kp_base.specs.Clashes.{Pairs, Clashes}
 use Rattle.kp_base.specs.Covering.{Meets, IsTarget, of_precondition, of_goal}
 use Rattle.kp_base.specs.Lists.{Member, choices, each_once}
 use Rattle.kp_base.specs.Lit.{positive, negative}
 use Rattle.kp_base.specs.LitSet.{set_of, same_set}
 use Rattle.kp_base.specs.Relevance.{IsRelevant, either_value, IsCandidate, AreClausesFor}
 use Rattle.kp_base.specs.Steps.{State, holds, is_model}
-use Rattle.kp_base.proofs.Lists.{same-refl, member_at}
+use Rattle.kp_base.proofs.Lists.{same-refl}
 use Rattle.kp_sets.specs.Subsets.{subsets, choose}
 use Rattle.kp_lex.specs.Bytes.{class_of}
 use Rattle.kp_lex.specs.Scanning.{cut_from}
@@ -59,7 +57,7 @@ use Rattle.kp_run.proofs.Soundness.{at_last, under_another}
 use Rattle.kp_run.proofs.Solved.{proper}
 use Rattle.kp_total.specs.Measuring.{IsMeasured, IsTooWide}
 use Rattle.kp_total.proofs.Measures.{widths_are_true}
-use Rattle.kp_total.proofs.ExampleFiles.{within, never_clashing, turn, turn_free, no_atom, chain, chain_tree, chain_reads}
+use Rattle.kp_total.proofs.ExampleFiles.{within, never_clashing, turn, no_atom, chain, chain_tree, chain_reads}
 
 -- ---- words
 
@@ -151,7 +149,7 @@ nothing_prepared = record {
     counted = few_primes (initial_of chain_tree to_nothing_tree) (negative 0) refl (omega arith);
     initial = has_state chain_tree to_nothing_tree nothing_trees.no_fault no_atom nothing_start;
   };
-  clash_free = never_clashing chain_tree to_nothing_tree turn_free;
+  clash_free = never_clashing chain_tree to_nothing_tree refl;
 }
 
 no_target : (l : Lit) → IsTarget (ground_of chain_tree to_nothing_tree) l → ⊥
@@ -216,19 +214,6 @@ i = initial_of ways_tree unsure_tree
 abbrev way : Action
 way = record { name = record { head = codes "a"; objects = [] }; pre = []; effects = record { cond = positive 0 ∷ []; result = positive 1 } ∷ record { cond = negative 0 ∷ []; result = positive 1 } ∷ [] }
 
--- it deletes nothing
-way_free : (pairs : Pairs) (a : Action) (atom k j : ℕ) → Member (way ∷ []) a → Clashes pairs a atom k j → ⊥
-way_free pairs a atom k j (inr none) c = absurd none
-way_free pairs a atom k j (inl same) c = by (subst (λ (x : Action). Clashes pairs x atom k j) (sym same) c)
-  where
-    adds : (e : Effect) → Member way.effects e → e.result ≡ negative atom → ⊥
-    adds e (inl m) is = false≢true (sym (ap (λ (l : Lit). l.positive) (ap (λ (x : Effect). x.result) m ∙ is)))
-    adds e (inr (inl m)) is = false≢true (sym (ap (λ (l : Lit). l.positive) (ap (λ (x : Effect). x.result) m ∙ is)))
-    adds e (inr (inr none)) is = absurd none
-
-    by : Clashes pairs way atom k j → ⊥
-    by x = adds x.deleting (member_at way.effects j x.deleting x.delete_at) x.deletes
-
 -- p alone
 unfoldable p_alone : State
 p_alone n = nat_eq n 0
@@ -248,7 +233,7 @@ ways_prepared = record {
     counted = few_primes i (negative 1) refl (omega arith);
     initial = has_state ways_tree unsure_tree ways_trees.no_fault no_atom none_start;
   };
-  clash_free = never_clashing ways_tree unsure_tree way_free;
+  clash_free = never_clashing ways_tree unsure_tree refl;
 }
 
 -- ---- it is over the bound of 0
