@@ -1,5 +1,5 @@
 -- Names such that `clap` tells the arguments apart: what computing shows of all of them, and what follows for each.
-use Rattle.std.proofs.Common.{◌≡◌, ◌+◌, ◌<◌, ℕ, Bool, true, List, [], ◌∷◌, ◌++◌, Option, Some, map, length, nat_lt, refl, sym, true≢false, arith}
+use Rattle.std.proofs.Common.{◌≡◌, ◌+◌, ◌<◌, ℕ, true, List, [], ◌∷◌, ◌++◌, Some, map, length, nat_lt, refl, sym, true≢false, arith}
 use Rattle.std.specs.List.{list_all}
 use Rattle.clap.proofs.WalkLemmas.{both}
 use Rattle.clap.specs.Walk.{Rule, arg_by_id, arg_by_index, arg_by_long}
