@@ -2,7 +2,6 @@
 use Rattle.std.proofs.Common.{◌≡◌, ◌≢◌, ◌<◌, ◌≤◌, ℕ, zero, suc, Bool, true, false, not, nat_eq, List, [], ◌∷◌, Some, None, Vec, filter, map, length, codes, inl, inr, refl, sym, ap, ◌∙◌, subst, arith}
 use Rattle.std.proofs.lemmas.Bool.{false≢true}
 use Rattle.std.specs.FinMap.{empty, get, insert}
-use Rattle.std.specs.Fmt.{digits}
 use Rattle.std.specs.declared.alloc.Global.{Global}
 use lib.Utf8.{encode}
 use Rattle.kp_base.specs.declared.ground.Action.{Action}
@@ -44,9 +43,9 @@ use Rattle.kp_outcome.specs.Ends.{Outside, whole}
 use Rattle.kp_printed.specs.Widths.{width_text, over_text}
 use Rattle.kp_words.specs.Names.{Width}
 use Rattle.kp_words.specs.declared.lent.CommandRef.TheVariants as commands
-use Rattle.kp_line.specs.Words.{nothing, a_word, apart as apart_words, word as said_word, option as said_option}
+use Rattle.kp_line.specs.Words.{nothing, a_word, word as said_word}
 use Rattle.kp_words.specs.Command.{IsWidth}
-use Rattle.kp_words.proofs.Examples.{word}
+use Rattle.kp_words.proofs.Examples.{word, is_width}
 use Rattle.kp_prepared.specs.Texts.{HaveTrees}
 use Rattle.kp_prepared.specs.Prepared.{usual, IsPrepared, later}
 use Rattle.kp_run.specs.Outcomes.{tells_width, with_report, measured, of_command}
@@ -82,21 +81,7 @@ is_plain = record {
 }
 
 abbrev with_bound : List (Vec ℕ Global)
-with_bound = front (word (codes "--bound") (omega arith) ∷ word (codes "0") (omega arith) ∷ [])
-
-is_with_bound : IsWidth with_bound (measuring 0)
-unfolding encode digits
-is_with_bound = record {
-  rest = codes "d" ∷ codes "p" ∷ codes "--bound" ∷ codes "0" ∷ [];
-  utf8 = ((codes "width", (refl, refl)), ((codes "d", (refl, refl)), ((codes "p", (refl, refl)), ((codes "--bound", (refl, refl)), ((codes "0", (refl, refl)), tt)))));
-  words_are = refl;
-  says = record {
-    places = codes "d" ∷ codes "p" ∷ [];
-    values = Some (codes "0") ∷ None ∷ [];
-    line = record { said = said_word (codes "d") ∷ said_word (codes "p") ∷ said_option (codes "bound") (codes "0") ∷ []; says = a_word _ _ _ refl (a_word _ _ _ refl (apart_words (codes "bound") (codes "0") _ _ refl refl (nothing))); places_are = refl; known = refl; once = refl; values_are = refl };
-    are_so = record { bound = Some (codes "0"); implicates = None; places_are = refl; values_are = refl; says_bound = (record { at_least = omega arith; at_most = omega arith }, refl); limit = refl };
-  };
-}
+with_bound = word (codes "width") (omega arith) ∷ word (codes "--bound") (omega arith) ∷ word (codes "0") (omega arith) ∷ word (codes "d") (omega arith) ∷ word (codes "p") (omega arith) ∷ []
 
 -- ---- a run on two files
 
@@ -306,7 +291,7 @@ is_over = by (targets_decided g)
         IsReport.over (t ∷ ts) (positive 1) are (record { earlier = []; later = ts; among = ap (λ (l : Lit). l ∷ ts) first; rows = []; are_rows = AreRows.done }) over_it
 
 ends_over : Ends with_bound (before ways unsure) (after ways unsure (over_text g.atoms 0 (positive 1))) status.Negative
-ends_over = ends with_bound 0 is_with_bound ways unsure ways_tree unsure_tree ways_trees ways_prepared (Over (positive 1)) is_over refl
+ends_over = ends with_bound 0 is_width ways unsure ways_tree unsure_tree ways_trees ways_prepared (Over (positive 1)) is_over refl
 
 is_too_wide : IsTooWide (holding ways unsure) (measuring 0) (before ways unsure) (after ways unsure (over_text g.atoms 0 (positive 1)))
-is_too_wide = (widths_are_true with_bound _ _ status.Negative ends_over (holding ways unsure) (measuring 0) refl is_with_bound).negative refl
+is_too_wide = (widths_are_true with_bound _ _ status.Negative ends_over (holding ways unsure) (measuring 0) refl is_width).negative refl
