@@ -36,6 +36,22 @@ use kp_words::{
 };
 use std::alloc::Global;
 
+// Reads a domain and a problem.
+fn read_two<S: Shelf>(
+    alloc: Global,
+    domain: &[u8],
+    problem: &[u8],
+    shelf: &mut S,
+) -> Result<Row<Got>, OutsideStop>
+    ensures read { IfOk result (AreRead (S.contents shelf.old) (domain.now ∷ problem.now ∷ [])) }
+    ensures failed { IsErrOf result stops.Failed → GetFails (S.contents shelf.old) (domain.now ∷ problem.now ∷ []) (S.get_faults shelf.old) (S.get_faults shelf.new) }
+    ensures get_faults { result ≢ Err stops.Failed → (q : List ℕ) → S.get_faults shelf.new q ≡ S.get_faults shelf.old q }
+    ensures contents { S.contents shelf.new ≡ S.contents shelf.old }
+    ensures put_faults { (q : List ℕ) → S.put_faults shelf.new q ≡ S.put_faults shelf.old q }
+{
+    read_inputs(alloc, &[domain, problem], shelf)
+}
+
 // Reads a domain, a problem and the file of merges, if there is one.
 fn read_sourced<S: Shelf>(
     alloc: Global,
@@ -52,7 +68,7 @@ fn read_sourced<S: Shelf>(
 {
     match source {
         SourceRef::File(merges) => read_inputs(alloc, &[domain, problem, merges], shelf),
-        SourceRef::Mode(_) => read_inputs(alloc, &[domain, problem], shelf),
+        SourceRef::Mode(_) => read_two(alloc, domain, problem, shelf),
     }
 }
 
@@ -91,7 +107,7 @@ fn read<S: Shelf>(
         CommandRef::Translate(named) => {
             read_sourced(alloc, named.domain, named.problem, named.source, shelf)
         }
-        CommandRef::Merges(named) => read_inputs(alloc, &[named.domain, named.problem], shelf),
+        CommandRef::Merges(named) => read_two(alloc, named.domain, named.problem, shelf),
         CommandRef::Strip(named) => read_inputs(alloc, &[named.plan], shelf),
         CommandRef::Check(named) => {
             read_inputs(alloc, &[named.domain, named.problem, named.plan], shelf)
@@ -100,8 +116,8 @@ fn read<S: Shelf>(
         CommandRef::Solve(named) => {
             read_sourced(alloc, named.domain, named.problem, named.source, shelf)
         }
-        CommandRef::Classical(named) => read_inputs(alloc, &[named.domain, named.problem], shelf),
-        CommandRef::Width(named) => read_inputs(alloc, &[named.domain, named.problem], shelf),
+        CommandRef::Classical(named) => read_two(alloc, named.domain, named.problem, shelf),
+        CommandRef::Width(named) => read_two(alloc, named.domain, named.problem, shelf),
         CommandRef::Bench(_) => read_inputs(alloc, &[], shelf),
     }
 }
