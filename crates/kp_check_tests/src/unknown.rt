@@ -1,6 +1,7 @@
-use crate::given::{Sign, add, idle, is_no, is_yes, judged};
+use crate::given::{is_no, is_yes, judged};
 use kp_base::{Ground, Memory, Stop};
 use kp_check::Judged;
+use kp_test_problems::{Sign, add, idle};
 use std::alloc::Global;
 use std::test::Fail;
 

@@ -17,7 +17,7 @@ use Rattle.kp_primes.proofs.Answered.{never_over, prefix_stops}
 use Rattle.kp_meaning.specs.declared.lifted.Item.{Item}
 use Rattle.kp_grounding.specs.declared.flat.Atom.{Atom}
 use Rattle.kp_grounding.specs.Ground.{atom_of, has_atom, numbered, numbered_set, ground_atoms}
-use Rattle.kp_init.specs.Initial.{not_both, item_clauses}
+use Rattle.kp_init.specs.Initial.{no_two, item_clauses}
 use Rattle.kp_decided.specs.Laws.{FormulasAreAscending, ImplicatesAreCounted}
 
 -- ---- the clauses of an initial formula
@@ -26,9 +26,9 @@ use Rattle.kp_decided.specs.Laws.{FormulasAreAscending, ImplicatesAreCounted}
 alone : (x c : List Lit) → IsAscending x → Member (x ∷ []) c → IsAscending c
 alone x c h m = elim m [ inl e ↦ subst IsAscending e h | inr none ↦ absurd none ]
 
-both_ascend : (ls c : List Lit) → Member (not_both ls) c → IsAscending c
+both_ascend : (ls c : List Lit) → Member (no_two ls) c → IsAscending c
 both_ascend [] c m = absurd m
-both_ascend (x ∷ xs) c m = elim (append_member (map (λ y. set_of (negated x ∷ negated y ∷ [])) xs) (not_both xs) c m) [
+both_ascend (x ∷ xs) c m = elim (append_member (map (λ y. set_of (negated x ∷ negated y ∷ [])) xs) (no_two xs) c m) [
   | inl here ↦ let y = map_member (λ y. set_of (negated x ∷ negated y ∷ [])) xs c here in subst IsAscending y.2 (set_ascends (negated x ∷ negated y.0 ∷ []))
   | inr later ↦ both_ascend xs c later
 ]

@@ -13,7 +13,7 @@ use Rattle.kp_base.proofs.Lists.{any_member, any_from, all_member, bool_same, al
 use Rattle.kp_base.proofs.Lits.{same_lit-true, same_lit-refl, holds-negated}
 use Rattle.kp_base.proofs.Once.{any-each_once}
 use Rattle.kp_base.proofs.Sets.{any-set_of}
-use Rattle.kp_init.specs.Initial.{not_both, exactly_one}
+use Rattle.kp_init.specs.Initial.{no_two, exactly_one}
 use Rattle.kp_base.proofs.Once.{all-each_once, Once, each_once_is_once}
 
 -- at most one place of the list passes
@@ -21,10 +21,10 @@ abbrev at_most_one : (Lit → Bool) → List Lit → Bool
 at_most_one k [] = true
 at_most_one k (x ∷ xs) = (not (k x) || not (list_any k xs)) && at_most_one k xs
 
-pairs_hold : (g : State) (c : List Lit) → list_all (list_any (holds g)) (not_both c) ≡ at_most_one (holds g) c
+pairs_hold : (g : State) (c : List Lit) → list_all (list_any (holds g)) (no_two c) ≡ at_most_one (holds g) c
 pairs_hold g [] = refl
 pairs_hold g (x ∷ xs) =
-    list_all-append (list_any (holds g)) (map (λ y. set_of (negated x ∷ negated y ∷ [])) xs) (not_both xs)
+    list_all-append (list_any (holds g)) (map (λ y. set_of (negated x ∷ negated y ∷ [])) xs) (no_two xs)
     ∙ rw (pairs_hold g xs) (ap (λ t. t && at_most_one (holds g) xs) (with_x xs))
   where
     pair : (y : Lit) → list_any (holds g) (set_of (negated x ∷ negated y ∷ [])) ≡ (not (holds g x) || not (holds g y))

@@ -40,7 +40,7 @@ use Rattle.kp_grounding.proofs.Atoms.{atoms_are_numbered, number_there}
 use Rattle.kp_grounding.proofs.Step.{Covered, occurs}
 use Rattle.kp_grounding.proofs.Plans.{runs_are_plans, plan_exact}
 use Rattle.kp_grounding.proofs.Names.{named_by_steps}
-use Rattle.kp_init.specs.Initial.{not_both, item_clauses}
+use Rattle.kp_init.specs.Initial.{no_two, item_clauses}
 use Rattle.kp_base.specs.Implicates.{are_below}
 use Rattle.kp_init.specs.Laws.{IsModelRun, IsNamedRun, IsInitialOver, IsPlanByModels, IsPlanByName, IsPlanOfTexts}
 use Rattle.kp_init.proofs.Models.{initial_exact, list_covered, ground_covered, closed_all}
@@ -115,12 +115,12 @@ module _ (l : Lifted) (atoms : List Atom) (numbering : IsNumbering l atoms) wher
   goal_below = set_below l.goal (λ m i. numbering.covers m (member_left l.goal (open_literals l ++ flat_map (kept_literals l) l.schemas) m i))
 
   -- clauses that say that not both hold speak of the literals' atoms
-  pairs_below : (n : ℕ) (ls : List Lit) → are_below n ls ≡ true → list_all (are_below n) (not_both ls) ≡ true
+  pairs_below : (n : ℕ) (ls : List Lit) → are_below n ls ≡ true → list_all (are_below n) (no_two ls) ≡ true
   pairs_below n [] h = refl
   pairs_below n (x ∷ xs) h =
       let parts = and_parts (below n x) (are_below n xs) h in
-      list_all-append (are_below n) (map (λ y. set_of (negated x ∷ negated y ∷ [])) xs) (not_both xs)
-      ∙ and_from (list_all (are_below n) (map (λ y. set_of (negated x ∷ negated y ∷ [])) xs)) (list_all (are_below n) (not_both xs))
+      list_all-append (are_below n) (map (λ y. set_of (negated x ∷ negated y ∷ [])) xs) (no_two xs)
+      ∙ and_from (list_all (are_below n) (map (λ y. set_of (negated x ∷ negated y ∷ [])) xs)) (list_all (are_below n) (no_two xs))
       (list_all-map (are_below n) (λ y. set_of (negated x ∷ negated y ∷ [])) xs
       ∙ all_from (λ y. are_below n (set_of (negated x ∷ negated y ∷ []))) xs (λ y m. all-set_of (below n) (negated x ∷ negated y ∷ []) ∙ and_from (below n x) (below n y && true) parts.0 (and_from (below n y) true (all_member (below n) xs y m parts.1) refl)))
       (pairs_below n xs parts.1)
@@ -133,7 +133,7 @@ module _ (l : Lifted) (atoms : List Atom) (numbering : IsNumbering l atoms) wher
       pick true is = and_from (are_below (length atoms) (numbered atoms m ∷ [])) true (and_from (below (length atoms) (numbered atoms m)) true (covered_below m (ground_covered l atoms numbering (atom_of m) is)) refl) refl
   item_below (Item.OneOf ms) at =
       let c = list_covered l atoms numbering (Item.OneOf ms) at (λ q h. ap not h) in
-      and_from (are_below (length atoms) (numbered_set atoms ms)) (list_all (are_below (length atoms)) (not_both (each_once same_lit (map (numbered atoms) ms)))) (set_below ms c)
+      and_from (are_below (length atoms) (numbered_set atoms ms)) (list_all (are_below (length atoms)) (no_two (each_once same_lit (map (numbered atoms) ms)))) (set_below ms c)
       (pairs_below (length atoms) (each_once same_lit (map (numbered atoms) ms)) (all_each_once same_lit (below (length atoms)) (map (numbered atoms) ms) (list_below ms c)))
   item_below (Item.AnyOf ms) at = and_from (are_below (length atoms) (numbered_set atoms ms)) true (set_below ms (list_covered l atoms numbering (Item.AnyOf ms) at (λ q h. ap not h))) refl
   item_below (Item.Unknown m) at = refl

@@ -14,13 +14,13 @@ use Rattle.kp_grounding.specs.declared.flat.Atom.{Atom}
 use Rattle.kp_grounding.specs.Ground.{atom_of, has_atom, ground_atoms, number_of, numbered, numbered_set}
 
 -- for each pair of literals, the first slowest: not both hold
-abbrev pub not_both : List Lit → List (List Lit)
-not_both [] = []
-not_both (x ∷ xs) = map (λ y. set_of (negated x ∷ negated y ∷ [])) xs ++ not_both xs
+abbrev pub no_two : List Lit → List (List Lit)
+no_two [] = []
+no_two (x ∷ xs) = map (λ y. set_of (negated x ∷ negated y ∷ [])) xs ++ no_two xs
 
 -- some literal holds, and of different ones no two do
 abbrev pub exactly_one : List Lit → List (List Lit)
-exactly_one ls = set_of ls ∷ not_both (each_once same_lit ls)
+exactly_one ls = set_of ls ∷ no_two (each_once same_lit ls)
 
 -- the clauses of an item; a literal whose atom isn't in the list is of a static predicate, and says nothing of the others
 abbrev pub item_clauses : List Atom → Item → List (List Lit)

@@ -2,7 +2,7 @@ ghost use Rattle.std.specs.Prelude.{◌≡◌, ◌≤◌, [], ◌∷◌, ◌++�
 ghost use Rattle.kp_base.specs.Lists.{each_once};
 ghost use Rattle.kp_base.specs.Lit.{negated, same_lit};
 ghost use Rattle.kp_base.specs.LitSet.{set_of};
-ghost use Rattle.kp_init.specs.Initial.{not_both, exactly_one};
+ghost use Rattle.kp_init.specs.Initial.{no_two, exactly_one};
 
 use indexmap::IndexSet;
 use kp_base::{Lit, LitSet, Memory, Row};
@@ -64,7 +64,7 @@ fn from(lits: &[Lit], place: usize) -> &[Lit]
 
 // Adds a clause for each pair, the first literal slowest.
 fn add_all_pairs(alloc: Global, lits: &[Lit], clauses: &mut Row<LitSet>) -> Result<(), Memory>
-    ensures { OnOk result (clauses.new ≡ clauses.old ++ not_both lits.now) }
+    ensures { OnOk result (clauses.new ≡ clauses.old ++ no_two lits.now) }
 {
     for (place, lit) in lits.iter().enumerate() {
         add_pairs(alloc, *lit, from(lits, place + 1), clauses)?;

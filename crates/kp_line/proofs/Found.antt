@@ -1,19 +1,27 @@
 -- What `clap` finds for each name.
-use Rattle.std.proofs.Common.{◌≡◌, ◌∙◌, ◌||◌, ℕ, Bool, true, false, List, [], ◌∷◌, Option, Some, refl, map, fold, cond, find, slice_get, option_and_then, true≢false}
+use Rattle.std.proofs.Common.{◌≡◌, ◌∙◌, ◌||◌, ℕ, Bool, true, false, List, [], ◌∷◌, Option, Some, refl, map, fold, cond, find, slice_get, option_and_then, true≢false, arith}
 use Rattle.std.specs.Str.{bytes_eq}
+use Rattle.std.proofs.lemmas.Bool.Decides.{nat_tests}
 use Rattle.clap.specs.Walk.{Row, first_of, nothing_held, settled, walk, walked, with_default}
 use Rattle.clap.specs.Takes.{is_given, takes}
 use Rattle.clap.specs.Simple.{matches_of}
 use Rattle.kp_line.specs.Words.{Said, word, option, is_among, differ, names, positionals, value_of}
-use Rattle.kp_line.specs.Clap.{Fits, Suits, Takes, app_of_form, built_rules, ids_of, place_of, placed, row_of_pair}
+use Rattle.kp_line.specs.Clap.{Every, Fits, HasPlaces, Knows, Suits, Takes, app_of_form, built_rules, ids_of, place_of, placed, row_of_pair}
 use Rattle.kp_line.proofs.Steps.{standing}
 use Rattle.kp_line.proofs.Walks.{Ends, Holds, walk_ends}
 use Rattle.kp_line.proofs.Passing.{loose_defaults, loose_free, loose_optional, loose_passes, walk_goes}
+use Rattle.kp_line.proofs.Fitting.{each_known, each_place}
 use Rattle.kp_line.proofs.Assigned.{can_take, placed_differ}
 
 module _ (name : List ℕ) (ids options words : List (List ℕ)) (said : List Said) (fits : Fits name ids options) (suits : Suits ids options words said) where
+  known : Every (Knows (built_rules ids options)) options
+  known = each_known (built_rules ids options) options fits.named fits.options_by_long fits.options_by_id
+
+  places : HasPlaces (built_rules ids options) 1 ids
+  places = each_place (built_rules ids options) 1 ids (let few = fits.few in grind (arith, nat_tests)) fits.places_by_index fits.places_by_id
+
   takes_all : Takes (built_rules ids options) 1 ids said
-  takes_all = can_take (built_rules ids options) options ids 1 said fits.options_known fits.has_places suits.count suits.known
+  takes_all = can_take (built_rules ids options) options ids 1 said known places suits.count suits.known
 
   at_start : Holds (built_rules ids options) nothing_held []
   at_start = record { rows = refl; passes = refl }

@@ -4,6 +4,7 @@ pub mod Turns
 pub mod Walks
 pub mod Passing
 pub mod Assigned
+pub mod Fitting
 pub mod Found
 pub mod Options
 pub mod Unique

@@ -72,16 +72,16 @@ whole (x ∷ xs) e = go (x == 61) refl e (whole xs)
     go false f g next = ap (λ (k : ℕ). take k (x ∷ xs)) (next_place x xs f) ∙ ap (λ (ys : List ℕ). x ∷ ys) (next g)
 
 -- the text of a name, and of the value behind `=`
-abbrev pub text_of : List ℕ → Option (List ℕ) → List ℕ
-text_of n None = n
-text_of n (Some v) = n ++ 61 ∷ v
+abbrev pub option_text : List ℕ → Option (List ℕ) → List ℕ
+option_text n None = n
+option_text n (Some v) = n ++ 61 ∷ v
 
-split_again : (t n : List ℕ) (v : Option (List ℕ)) → ◌≡◌ {A = List ℕ × Option (List ℕ)} (name_and_value t) (n, v) → t ≡ text_of n v
+split_again : (t n : List ℕ) (v : Option (List ℕ)) → ◌≡◌ {A = List ℕ × Option (List ℕ)} (name_and_value t) (n, v) → t ≡ option_text n v
 split_again t n v e = go (list_any is_equals t) refl v e
   where
-    go : (b : Bool) → list_any is_equals t ≡ b → (v : Option (List ℕ)) → ◌≡◌ {A = List ℕ × Option (List ℕ)} (before_first is_equals t, cond b (Some (after_first is_equals t)) None) (n, v) → t ≡ text_of n v
-    go true f v g = subst (λ (p : List ℕ × Option (List ℕ)). t ≡ text_of p.0 p.1) g (sym (rejoined t f))
-    go false f v g = subst (λ (p : List ℕ × Option (List ℕ)). t ≡ text_of p.0 p.1) g (sym (whole t f))
+    go : (b : Bool) → list_any is_equals t ≡ b → (v : Option (List ℕ)) → ◌≡◌ {A = List ℕ × Option (List ℕ)} (before_first is_equals t, cond b (Some (after_first is_equals t)) None) (n, v) → t ≡ option_text n v
+    go true f v g = subst (λ (p : List ℕ × Option (List ℕ)). t ≡ option_text p.0 p.1) g (sym (rejoined t f))
+    go false f v g = subst (λ (p : List ℕ × Option (List ℕ)). t ≡ option_text p.0 p.1) g (sym (whole t f))
 
 strip_is : (w rest : List ℕ) → strip_byte 45 w ≡ Some rest → w ≡ 45 ∷ rest
 strip_is [] rest e = absurd cc
@@ -92,18 +92,18 @@ strip_is (x ∷ xs) rest e = go (x == 45) refl e
     go false f g = absurd cc
 
 -- what is read as an option is written so
-pub long_is : (w n : List ℕ) (v : Option (List ℕ)) → long_of w ≡ Some (n, v) → w ≡ codes "--" ++ text_of n v
+pub long_is : (w n : List ℕ) (v : Option (List ℕ)) → long_of w ≡ Some (n, v) → w ≡ codes "--" ++ option_text n v
 long_is w n v e = first (strip_byte 45 w) refl e
   where
-    third : (t : List ℕ) → long_of_rest t ≡ Some (n, v) → t ≡ text_of n v
+    third : (t : List ℕ) → long_of_rest t ≡ Some (n, v) → t ≡ option_text n v
     third [] e = absurd cc
     third (x ∷ xs) e = split_again (x ∷ xs) n v (let h : ◌≡◌ {A = List ℕ × Option (List ℕ)} (name_and_value (x ∷ xs)) (n, v) = cc in h)
 
-    second : (rest : List ℕ) (o : Option (List ℕ)) → strip_byte 45 rest ≡ o → option_and_then long_of_rest o ≡ Some (n, v) → rest ≡ 45 ∷ text_of n v
+    second : (rest : List ℕ) (o : Option (List ℕ)) → strip_byte 45 rest ≡ o → option_and_then long_of_rest o ≡ Some (n, v) → rest ≡ 45 ∷ option_text n v
     second rest None f g = absurd cc
     second rest (Some t) f g = strip_is rest t f ∙ ap (λ (ys : List ℕ). 45 ∷ ys) (third t g)
 
-    first : (o : Option (List ℕ)) → strip_byte 45 w ≡ o → option_and_then long_of_rest (option_and_then (strip_byte 45) o) ≡ Some (n, v) → w ≡ 45 ∷ 45 ∷ text_of n v
+    first : (o : Option (List ℕ)) → strip_byte 45 w ≡ o → option_and_then long_of_rest (option_and_then (strip_byte 45) o) ≡ Some (n, v) → w ≡ 45 ∷ 45 ∷ option_text n v
     first None f g = absurd cc
     first (Some rest) f g = strip_is w rest f ∙ ap (λ (ys : List ℕ). 45 ∷ ys) (second rest (strip_byte 45 rest) refl g)
 

@@ -59,7 +59,7 @@ complete options _ _ seen places n (joined name v words said named plain says) k
 
 -- ---- and what is read says something that fits
 
-pub record Reads (options seen : Texts) (places : ℕ) (words : Texts) (said : List Said) (n : ℕ) : Type 0 where
+pub record Scans (options seen : Texts) (places : ℕ) (words : Texts) (said : List Said) (n : ℕ) : Type 0 where
   pub says : Says words said
   pub count : n ≡ places + length (positionals said)
   pub known : list_all (is_among options) (names said) ≡ true
@@ -67,11 +67,11 @@ pub record Reads (options seen : Texts) (places : ℕ) (words : Texts) (said : L
   pub once : differ (names said) ≡ true
 
 abbrev Idle : Texts → Texts → Type 0
-Idle options words = (seen : Texts) (places n : ℕ) → scan options (idle seen places) words ≡ Some n → (said : List Said) × Reads options seen places words said n
+Idle options words = (seen : Texts) (places n : ℕ) → scan options (idle seen places) words ≡ Some n → (said : List Said) × Scans options seen places words said n
 
 abbrev Waiting : Texts → Texts → Type 0
 Waiting options words = (seen : Texts) (places n : ℕ) → scan options (waiting seen places) words ≡ Some n
-    → (v : List ℕ) × (rest : Texts) × (words ≡ v ∷ rest) × (is_plain v ≡ true) × (said : List Said) × Reads options seen places rest said n
+    → (v : List ℕ) × (rest : Texts) × (words ≡ v ∷ rest) × (is_plain v ≡ true) × (said : List Said) × Scans options seen places rest said n
 
 named_at : (options : Texts) (name : List ℕ) → list_all is_name options ≡ true → is_among options name ≡ true → is_name name ≡ true
 named_at [] name all e = absurd (true≢false (sym e))
@@ -95,7 +95,7 @@ fresh_less seen name (m ∷ ms) e =
 
 -- one more option in front
 with_option : (options seen : Texts) (places : ℕ) (whole rest : Texts) (name v : List ℕ) (said : List Said) (n : ℕ) → is_among options name ≡ true → is_among seen name ≡ false
-    → Says whole (option name v ∷ said) → Reads options (seen ++ name ∷ []) places rest said n → Reads options seen places whole (option name v ∷ said) n
+    → Says whole (option name v ∷ said) → Scans options (seen ++ name ∷ []) places rest said n → Scans options seen places whole (option name v ∷ said) n
 with_option options seen places whole rest name v said n among new says reads =
     let less = fresh_less seen name (names said) reads.fresh in
     record {
@@ -109,12 +109,12 @@ with_option options seen places whole rest name v said n among new says reads =
 idle_option : (options : Texts) (w : List ℕ) (words : Texts) → list_all is_name options ≡ true → Idle options words → Waiting options words
     → (seen : Texts) (places n : ℕ) → (o : Option (List ℕ × Option (List ℕ))) → long_of w ≡ o
     → option_and_then (λ t. scan options t words) (after_option options (idle seen places) o) ≡ Some n
-    → (said : List Said) × Reads options seen places (w ∷ words) said n
+    → (said : List Said) × Scans options seen places (w ∷ words) said n
 idle_option options w words all idly waits seen places n None e f = absurd cc
 idle_option options w words all idly waits seen places n (Some (name, v)) e f = go (may_stand options (idle seen places) name && has_value v) refl f
   where
     value : (v : Option (List ℕ)) → long_of w ≡ Some (name, v) → has_value v ≡ true → is_among options name ≡ true → is_among seen name ≡ false
-        → scan options (with_name (idle seen places) name (is_alone v)) words ≡ Some n → (said : List Said) × Reads options seen places (w ∷ words) said n
+        → scan options (with_name (idle seen places) name (is_alone v)) words ≡ Some n → (said : List Said) × Scans options seen places (w ∷ words) said n
     value None is has among new h =
         let rest = waits (seen ++ name ∷ []) places n h in
         let words_are : w ∷ words ≡ (codes "--" ++ name) ∷ rest.0 ∷ rest.1 = rw (long_is w name None is, rest.2) refl in
@@ -128,7 +128,7 @@ idle_option options w words all idly waits seen places n (Some (name, v)) e f = 
 
     go : (b : Bool) → (may_stand options (idle seen places) name && has_value v) ≡ b
         → option_and_then (λ t. scan options t words) (cond b (Some (with_name (idle seen places) name (is_alone v))) None) ≡ Some n
-        → (said : List Said) × Reads options seen places (w ∷ words) said n
+        → (said : List Said) × Scans options seen places (w ∷ words) said n
     go false g h = absurd cc
     go true g h =
         let parts = both (may_stand options (idle seen places) name) (has_value v) g in
@@ -140,7 +140,7 @@ idle_step options w words all idly waits seen places n e = go (is_plain w) refl 
   where
     go : (b : Bool) → is_plain w ≡ b
         → option_and_then (λ t. scan options t words) (cond b (Some (idle seen (places + 1))) (after_option options (idle seen places) (long_of w))) ≡ Some n
-        → (said : List Said) × Reads options seen places (w ∷ words) said n
+        → (said : List Said) × Scans options seen places (w ∷ words) said n
     go true plain h =
         let rest = idly seen (places + 1) n h in (
           word w ∷ rest.0,
@@ -158,7 +158,7 @@ waiting_step : (options : Texts) (w : List ℕ) (words : Texts) → Idle options
 waiting_step options w words idly seen places n e = go (is_plain w) refl e
   where
     go : (b : Bool) → is_plain w ≡ b → option_and_then (λ t. scan options t words) (cond b (Some (idle seen places)) None) ≡ Some n
-        → (v : List ℕ) × (rest : Texts) × (w ∷ words ≡ v ∷ rest) × (is_plain v ≡ true) × (said : List Said) × Reads options seen places rest said n
+        → (v : List ℕ) × (rest : Texts) × (w ∷ words ≡ v ∷ rest) × (is_plain v ≡ true) × (said : List Said) × Scans options seen places rest said n
     go true plain h =
         let rest = idly seen places n h in
         (w, words, refl, plain, rest.0, rest.1)

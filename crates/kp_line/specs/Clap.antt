@@ -1,5 +1,5 @@
 -- A `clap` command of positional arguments and options, and the rows that it finds. `Fits` is asked of each command, and computing shows it; the rest serves proofs alone.
-use Rattle.std.specs.Prelude.{◌≡◌, ◌<◌, ◌+◌, ◌&&◌, Bool, not, ℕ, true, false, List, [], ◌∷◌, ◌++◌, Option, Some, None, map, codes, length, if◌then◌else◌}
+use Rattle.std.specs.Prelude.{◌≡◌, ◌<◌, ◌+◌, ◌&&◌, Bool, not, ℕ, true, false, List, [], ◌∷◌, ◌++◌, Option, Some, None, map, codes, length, nat_lt, if◌then◌else◌}
 use Rattle.clap.specs.Lexer.{long_of}
 use Rattle.std.specs.Str.{bytes_eq}
 use Rattle.clap.specs.Walk.{Rule, Row, arg_by_id, arg_by_index, arg_by_long, is_empty}
@@ -113,12 +113,25 @@ built_rules ids options = filled_from 1 (rules_of ids options)
 abbrev pub is_loose : Rule → Bool
 is_loose r = not r.required && (is_empty r.defaults && r.is_free)
 
+-- what is found for each number from k on, as many as there are names
+abbrev pub found_from : List Rule → ℕ → List (List ℕ) → List (Option Rule)
+found_from c k [] = []
+found_from c k (id ∷ ids) = arg_by_index c k ∷ found_from c (k + 1) ids
+
+-- the positional arguments of these names, the first of which has the number k
+abbrev pub places_from : ℕ → List (List ℕ) → List (Option Rule)
+places_from k [] = []
+places_from k (id ∷ ids) = Some (built_place k id) ∷ places_from (k + 1) ids
+
 -- the names are such that `clap` tells the arguments apart
 pub record Fits (name : List ℕ) (ids options : List (List ℕ)) : Type 0 where
   pub simple : is_simple (app_of_form name ids options) ≡ true
   pub loose : list_all is_loose (built_rules ids options) ≡ true
-  pub options_known : Every (Knows (built_rules ids options)) options
-  pub has_places : HasPlaces (built_rules ids options) 1 ids
+  pub options_by_long : map (arg_by_long (built_rules ids options)) options ≡ map (λ o. Some (built_option o)) options
+  pub options_by_id : map (arg_by_id (built_rules ids options)) options ≡ map (λ o. Some (built_option o)) options
+  pub places_by_index : found_from (built_rules ids options) 1 ids ≡ places_from 1 ids
+  pub places_by_id : map (arg_by_id (built_rules ids options)) ids ≡ places_from 1 ids
+  pub few : nat_lt (length ids) 99 ≡ true
   pub names_differ : differ (ids ++ options) ≡ true
   pub named : list_all is_name options ≡ true
 

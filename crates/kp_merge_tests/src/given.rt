@@ -1,40 +1,14 @@
-//! What the tests are given: a ground problem of three atoms, and sets of literals.
+//! What the tests are given: a ground problem of three atoms.
 ghost use Rattle.std.specs.Prelude.{◌≡◌, IfOk, length};
 
-use kp_base::{AtomId, Ground, GroundName, Lit, LitSet, Memory, Row, Text};
+use kp_base::{Ground, GroundName, LitSet, Memory, Row, Text};
+use kp_test_problems::name;
 use std::alloc::Global;
 
-/// A literal, by the number of its atom.
-pub(crate) type Told = (u32, bool);
-
-pub(crate) fn literal(told: Told) -> Lit {
-    Lit {
-        atom: AtomId(told.0),
-        positive: told.1,
-    }
-}
-
-pub(crate) fn set(alloc: Global, lits: &[Told]) -> Result<LitSet, Memory> {
-    let mut set = LitSet::new(alloc);
-    for lit in lits {
-        set.insert(literal(*lit))?;
-    }
-    Ok(set)
-}
-
-// A name without objects.
-fn name(alloc: Global, head: &str) -> Result<GroundName, Memory> {
-    Ok(GroundName {
-        head: Text::from_slice(alloc, head.as_bytes())?,
-        objects: Row::new(alloc),
-    })
-}
-
 // A name with one object.
-fn name_with(alloc: Global, head: &str, object: &str) -> Result<GroundName, Memory> {
+fn name_with(alloc: Global, head: &[u8], object: &[u8]) -> Result<GroundName, Memory> {
     let mut name = name(alloc, head)?;
-    name.objects
-        .push(Text::from_slice(alloc, object.as_bytes())?)?;
+    name.objects.push(Text::from_slice(alloc, object)?)?;
     Ok(name)
 }
 
@@ -43,9 +17,9 @@ pub(crate) fn three_atoms(alloc: Global) -> Result<Ground, Memory>
     ensures { IfOk result (λ ground. length ground.atoms ≡ 3) }
 {
     let mut atoms = Row::new(alloc);
-    atoms.push(name(alloc, "x1")?)?;
-    atoms.push(name(alloc, "x2")?)?;
-    atoms.push(name_with(alloc, "at", "b")?)?;
+    atoms.push(name(alloc, b"x1")?)?;
+    atoms.push(name(alloc, b"x2")?)?;
+    atoms.push(name_with(alloc, b"at", b"b")?)?;
     Ok(Ground {
         atoms,
         actions: Row::new(alloc),

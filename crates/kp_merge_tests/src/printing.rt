@@ -1,12 +1,13 @@
 //! Merges of a table as they are written.
 
-use crate::given::{Told, literal, set, three_atoms};
+use crate::given::three_atoms;
 use kp_base::{LitSet, Memory, Merge, Row, TagRow, TagTable};
 use kp_merges::merges_text;
+use kp_test_problems::{Sign, literal, set};
 use std::alloc::Global;
 
 // Tags without closures: what is known under a tag isn't written.
-fn rows(alloc: Global, tags: &[&[Told]]) -> Result<Row<TagRow>, Memory> {
+fn rows(alloc: Global, tags: &[&[Sign]]) -> Result<Row<TagRow>, Memory> {
     let mut rows = Row::new(alloc);
     for tag in tags {
         let lits = set(alloc, tag)?;
@@ -19,7 +20,7 @@ fn rows(alloc: Global, tags: &[&[Told]]) -> Result<Row<TagRow>, Memory> {
 }
 
 // One merge of these tags.
-fn one_merge(alloc: Global, target: Told, numbers: &[u32]) -> Result<Row<Merge>, Memory> {
+fn one_merge(alloc: Global, target: Sign, numbers: &[u32]) -> Result<Row<Merge>, Memory> {
     let mut tags = Row::new(alloc);
     for number in numbers {
         tags.push(*number)?;
@@ -35,8 +36,8 @@ fn one_merge(alloc: Global, target: Told, numbers: &[u32]) -> Result<Row<Merge>,
 // The table of one merge and these tags.
 fn table(
     alloc: Global,
-    tags: &[&[Told]],
-    target: Told,
+    tags: &[&[Sign]],
+    target: Sign,
     numbers: &[u32],
 ) -> Result<TagTable, Memory> {
     let tags = rows(alloc, tags)?;
@@ -45,14 +46,14 @@ fn table(
 }
 
 // The text of one merge, on three atoms.
-fn text(alloc: Global, tags: &[&[Told]], target: Told, numbers: &[u32]) -> Result<Row<u8>, Memory> {
+fn text(alloc: Global, tags: &[&[Sign]], target: Sign, numbers: &[u32]) -> Result<Row<u8>, Memory> {
     let table = table(alloc, tags, target, numbers)?;
     let ground = three_atoms(alloc)?;
     merges_text(alloc, &ground, &table)
 }
 
 // Whether one merge is written so.
-fn prints(alloc: Global, tags: &[&[Told]], target: Told, numbers: &[u32], wanted: &str) -> bool {
+fn prints(alloc: Global, tags: &[&[Sign]], target: Sign, numbers: &[u32], wanted: &str) -> bool {
     match text(alloc, tags, target, numbers) {
         Ok(text) => text.slice() == wanted.as_bytes(),
         Err(_) => false,
@@ -61,7 +62,7 @@ fn prints(alloc: Global, tags: &[&[Told]], target: Told, numbers: &[u32], wanted
 
 #[test]
 fn one_line_for_a_merge(rt: HostRuntime) {
-    let tags: [&[Told]; 4] = [&[], &[(0, true)], &[(1, true)], &[(2, true), (1, false)]];
+    let tags: [&[Sign]; 4] = [&[], &[(0, true)], &[(1, true)], &[(2, true), (1, false)]];
     for (target, numbers, wanted) in [
         (
             (0, true),

@@ -1,8 +1,9 @@
 //! Files of merges: what they say, and where they are refused.
 
-use crate::given::{Told, literal, three_atoms};
-use kp_base::{Lit, LitSet, Part, Place, Refused, Row, Stop};
+use crate::given::three_atoms;
+use kp_base::{Part, Place, Refused, Row, Stop};
 use kp_merges::{FileMerge, read_merges};
+use kp_test_problems::{Sign, are_sets, is_literal};
 use std::alloc::Global;
 
 // The merges of a file that isn't long, on three atoms.
@@ -14,29 +15,13 @@ fn read(alloc: Global, file: &str) -> Result<Row<FileMerge>, Stop> {
     read_merges(alloc, file.as_bytes(), &ground)
 }
 
-fn are(lits: &[Lit], wanted: &[Told]) -> bool {
-    lits.len() == wanted.len()
-        && lits
-            .iter()
-            .zip(wanted)
-            .all(|(lit, wanted)| *lit == literal(*wanted))
-}
-
-fn are_tags(tags: &[LitSet], wanted: &[&[Told]]) -> bool {
-    tags.len() == wanted.len()
-        && tags
-            .iter()
-            .zip(wanted)
-            .all(|(tag, wanted)| are(tag.slice(), wanted))
-}
-
 // Whether the file has one merge, with this target and these tags.
-fn is_merge(alloc: Global, file: &str, target: Told, tags: &[&[Told]]) -> bool {
+fn is_merge(alloc: Global, file: &str, target: Sign, tags: &[&[Sign]]) -> bool {
     match read(alloc, file) {
         Ok(merges) => {
             merges.len() == 1
                 && merges.slice().iter().all(|merge| {
-                    merge.target == literal(target) && are_tags(merge.tags.slice(), tags)
+                    is_literal(merge.target, target) && are_sets(merge.tags.slice(), tags)
                 })
         }
         Err(_) => false,
@@ -78,7 +63,7 @@ fn is_bad(alloc: Global, file: &str, line: u32, byte: u32) -> bool {
 
 #[test]
 fn one_merge(rt: HostRuntime) {
-    let table: [(&str, Told, &[&[Told]]); 8] = [
+    let table: [(&str, Sign, &[&[Sign]]); 8] = [
         ("(merge (x1))", (0, true), &[]),
         ("(merge (x1) ())", (0, true), &[&[]]),
         ("(MERGE (X2) ((AT B)))", (1, true), &[&[(2, true)]]),

@@ -19,7 +19,7 @@ use Rattle.kp_cursor.specs.declared.halt.Halt.TheVariants as halts
 use Rattle.kp_cursor.specs.Lexemes.{word_of, from}
 use Rattle.kp_cursor.specs.Readers.{Opened, Closed, is_of}
 use Rattle.kp_cursor.proofs.Several.{never_bracket, run_reads, taken, words_are}
-use Rattle.kp_merges.specs.Grammar.{text_of, name_of}
+use Rattle.kp_merges.specs.Grammar.{term_text, name_of}
 use Rattle.kp_merges.specs.Numbers.{Numbers, IsLit}
 use Rattle.kp_merges.specs.Parts.{FactStands, FactStops, IsNumberOf, IsAtom, is_denied, Halts, ReadsAt, HaltsAt}
 use Rattle.kp_merges.proofs.Lits.{fact_halts, fact_unknown, plain_reads, negated_reads, plain_halts, negated_halts, negated_unclosed}
@@ -48,7 +48,7 @@ record BodyStands (ls : List (Tok Word)) (at : ℕ) (run : List (Tok Word)) : Ty
 named_term : Tok Word → Term Word
 named_term l = apply Word m_name (word_of l)
 
-texts_same : (ws : List (Tok Word)) → map text_of (map named_term ws) ≡ map (λ w. (word_of w).text) ws
+texts_same : (ws : List (Tok Word)) → map term_text (map named_term ws) ≡ map (λ w. (word_of w).text) ws
 unfolding named_term
 texts_same [] = refl
 texts_same (w ∷ ws) = ap (λ (xs : List (List ℕ)). (word_of w).text ∷ xs) (texts_same ws)

@@ -35,7 +35,7 @@ use Rattle.kp_pieces.proofs.Texts.{pieces_read}
 use Rattle.kp_plans.specs.Names.{same_name, number_of}
 use Rattle.kp_plans.proofs.Lines.{name_hits, name_is}
 use Rattle.kp_merges.specs.declared.merge.FileMerge.{FileMerge}
-use Rattle.kp_merges.specs.Grammar.{MergeTree, tag, merge, merges, text_of, name_of}
+use Rattle.kp_merges.specs.Grammar.{MergeTree, tag, merge, merges, term_text, name_of}
 use Rattle.kp_merges.specs.Numbers.{IsLit, IsTag, IsMerge}
 use Rattle.kp_merges.specs.MergesFiles.{IsMergesOf}
 use Rattle.kp_spelling.specs.Spelling.{name_put, atom_put, signed_put, lit_put, joined}
@@ -208,7 +208,7 @@ bare_text (Term.variable w) = w
 abbrev bare_name : Atom (List ℕ) → GroundName
 bare_name a = record { head = a.head; objects = map bare_text a.terms }
 
-term_texts : (ts : List (Term Word)) → map text_of ts ≡ map bare_text (map (term_map word_text) ts)
+term_texts : (ts : List (Term Word)) → map term_text ts ≡ map bare_text (map (term_map word_text) ts)
 term_texts [] = refl
 term_texts (Term.name w ∷ ts) = ap (λ (xs : List (List ℕ)). w.text ∷ xs) (term_texts ts)
 term_texts (Term.variable w ∷ ts) = ap (λ (xs : List (List ℕ)). w.text ∷ xs) (term_texts ts)

@@ -29,10 +29,10 @@ abbrev pub MergeTree : Type 0
 MergeTree = Lit Word × List (List (Lit Word))
 
 -- the text of a term
-abbrev pub text_of : Term Word → List ℕ
-text_of (Term.name w) = w.text
-text_of (Term.variable w) = w.text
+abbrev pub term_text : Term Word → List ℕ
+term_text (Term.name w) = w.text
+term_text (Term.variable w) = w.text
 
 -- the name of an atom that was read
 abbrev pub name_of : Atom Word → GroundName
-name_of a = record { head = a.head.text; objects = map text_of a.terms }
+name_of a = record { head = a.head.text; objects = map term_text a.terms }

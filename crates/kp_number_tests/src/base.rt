@@ -1,5 +1,5 @@
-use crate::given::{literal, set};
 use kp_base::{Lit, LitSet, Memory, Row, Text};
+use kp_test_problems::{literal, set};
 use std::alloc::{AllocError, Global};
 use std::test::Fail;
 
@@ -42,12 +42,12 @@ fn a_set_is_ascending_without_repeats(rt: HostRuntime) -> Result<(), Fail> {
         (2, false),
     ];
     let wanted = [
-        literal(0, false),
-        literal(1, true),
-        literal(1, false),
-        literal(2, false),
-        literal(3, true),
-        literal(7, true),
+        literal((0, false)),
+        literal((1, true)),
+        literal((1, false)),
+        literal((2, false)),
+        literal((3, true)),
+        literal((7, true)),
     ];
     let set = set(rt.alloc(), &lits)?;
     let is_wanted = set.slice() == wanted.as_slice();

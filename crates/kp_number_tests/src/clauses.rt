@@ -1,23 +1,16 @@
-use crate::given::{literal, set};
 use kp_base::{AtomId, Lit, LitSet, Memory};
 use kp_clauses::{Added, Store, has_lit, resolvent, subsumes};
+use kp_test_problems::{Sign, are_literals, set};
 use std::alloc::Global;
 use std::test::Fail;
 
 // The atoms a, b and c are 0, 1 and 2.
 
-// Whether a set has just these literals, which are in order.
-fn is_set(set: &LitSet, lits: &[(u32, bool)]) -> bool {
-    set.slice().len() == lits.len()
-        && set.slice().iter().zip(lits).all(|(lit, (number, positive))| *lit
-            == literal(*number, *positive))
-}
-
 // Whether a resolvent is this one, or none where none is wanted.
-fn is_wanted(found: Option<LitSet>, wanted: Option<&[(u32, bool)]>) -> bool {
+fn is_wanted(found: Option<LitSet>, wanted: Option<&[Sign]>) -> bool {
     match found {
         Some(found) => match wanted {
-            Some(lits) => is_set(&found, lits),
+            Some(lits) => are_literals(found.slice(), lits),
             None => false,
         },
         None => wanted.is_none(),
@@ -29,7 +22,7 @@ fn is_resolvent(
     alloc: Global,
     c: &LitSet,
     d: &LitSet,
-    wanted: Option<&[(u32, bool)]>,
+    wanted: Option<&[Sign]>,
 ) -> Result<bool, Memory> {
     let a = Lit {
         atom: AtomId(0),
@@ -43,11 +36,7 @@ fn is_resolvent(
 }
 
 // Whether a or b and another clause have this resolvent on a.
-fn resolves_to(
-    alloc: Global,
-    other: &[(u32, bool)],
-    wanted: Option<&[(u32, bool)]>,
-) -> Result<bool, Memory> {
+fn resolves_to(alloc: Global, other: &[Sign], wanted: Option<&[Sign]>) -> Result<bool, Memory> {
     let either = set(alloc, &[(0, true), (1, true)])?;
     let other = set(alloc, other)?;
     is_resolvent(alloc, &either, &other, wanted)
@@ -73,7 +62,7 @@ fn tells_no_tautology(rt: HostRuntime) -> Result<(), Fail> {
 }
 
 // Whether a clause that is added is kept.
-fn is_kept(alloc: Global, store: &mut Store, lits: &[(u32, bool)]) -> Result<bool, Memory> {
+fn is_kept(alloc: Global, store: &mut Store, lits: &[Sign]) -> Result<bool, Memory> {
     let clause = set(alloc, lits)?;
     let added = store.add(clause)?;
     Ok(added == Added::Kept)
@@ -106,7 +95,7 @@ fn keeps_what_says_most(rt: HostRuntime) -> Result<(), Fail> {
     Ok(())
 }
 
-fn stored(alloc: Global, clauses: &[&[(u32, bool)]]) -> Result<Store, Memory> {
+fn stored(alloc: Global, clauses: &[&[Sign]]) -> Result<Store, Memory> {
     let mut store = Store::new(alloc);
     for lits in clauses {
         store.add(set(alloc, lits)?)?;
@@ -115,7 +104,7 @@ fn stored(alloc: Global, clauses: &[&[(u32, bool)]]) -> Result<Store, Memory> {
 }
 
 // What is needed of a clause, where these clauses are stored.
-fn needed(alloc: Global, clauses: &[&[(u32, bool)]], c: &[(u32, bool)]) -> Result<LitSet, Memory> {
+fn needed(alloc: Global, clauses: &[&[Sign]], c: &[Sign]) -> Result<LitSet, Memory> {
     let store = stored(alloc, clauses)?;
     let c = set(alloc, c)?;
     let needed = store.needed(&c);
@@ -124,12 +113,7 @@ fn needed(alloc: Global, clauses: &[&[(u32, bool)]], c: &[(u32, bool)]) -> Resul
 }
 
 // Whether just these literals of a clause are needed, where these clauses are stored.
-fn needs(
-    alloc: Global,
-    clauses: &[&[(u32, bool)]],
-    c: &[(u32, bool)],
-    wanted: &[(u32, bool)],
-) -> Result<bool, Memory> {
+fn needs(alloc: Global, clauses: &[&[Sign]], c: &[Sign], wanted: &[Sign]) -> Result<bool, Memory> {
     let needed = needed(alloc, clauses, c)?;
     let wanted = set(alloc, wanted)?;
     Ok(needed == wanted)

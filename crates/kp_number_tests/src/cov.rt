@@ -1,49 +1,12 @@
-use crate::given::{formula, set, sets};
 use kp_base::{LitSet, Memory, Row, Stop};
 use kp_cover::{cov, covers, is_cover};
-use kp_primes::{Primes, are_of_atoms, is_of_atoms};
+use kp_primes::{Primes, are_of_atoms};
+use kp_test_problems::{ONE_OF_THREE, Sign, are_sets, primes, set, sets};
 use std::alloc::Global;
 use std::test::Fail;
 
-type Sign = (u32, bool);
-
-fn primes_of(alloc: Global, clauses: &[&[Sign]]) -> Result<Primes, Stop> {
-    let initial = formula(alloc, clauses, &[])?;
-    if !is_of_atoms(&initial, 3) {
-        return Err(Stop::Memory);
-    }
-    let primes = Primes::build(alloc, &initial, 3, 1000);
-    drop(initial);
-    primes
-}
-
-const ONE_OF_THREE: [&[Sign]; 4] = [
-    &[(0, true), (1, true), (2, true)],
-    &[(0, false), (1, false)],
-    &[(0, false), (2, false)],
-    &[(1, false), (2, false)],
-];
-
-fn is_set(set: &LitSet, signs: &[Sign]) -> bool {
-    set.slice().len() == signs.len()
-        && set
-            .slice()
-            .iter()
-            .zip(signs)
-            .all(|(l, s)| l.atom.0 == s.0 && l.positive == s.1)
-}
-
-fn are_sets(sets: &Row<LitSet>, expected: &[&[Sign]]) -> bool {
-    sets.len() == expected.len()
-        && sets
-            .slice()
-            .iter()
-            .zip(expected)
-            .all(|(set, signs)| is_set(set, signs))
-}
-
 fn tags(alloc: Global, stated: &[&[Sign]], clauses: &[&[Sign]]) -> Result<Row<LitSet>, Stop> {
-    let primes = primes_of(alloc, stated)?;
+    let primes = primes(alloc, stated, &[], 3)?;
     let clauses = sets(alloc, clauses)?;
     let tags = cov(alloc, &primes, &clauses);
     drop(clauses);
@@ -53,7 +16,7 @@ fn tags(alloc: Global, stated: &[&[Sign]], clauses: &[&[Sign]]) -> Result<Row<Li
 
 fn has_tags(alloc: Global, stated: &[&[Sign]], clauses: &[&[Sign]], expected: &[&[Sign]]) -> bool {
     match &tags(alloc, stated, clauses) {
-        Ok(tags) => are_sets(tags, expected),
+        Ok(tags) => are_sets(tags.slice(), expected),
         Err(_) => false,
     }
 }
@@ -121,7 +84,7 @@ fn judged(
 }
 
 fn covers_at(alloc: Global, places: &[u32]) -> Result<bool, Stop> {
-    let primes = primes_of(alloc, &ONE_OF_THREE)?;
+    let primes = primes(alloc, &ONE_OF_THREE, &[], 3)?;
     let clauses = sets(alloc, &CELLS)?;
     let judged = judged(alloc, &primes, &clauses, places);
     drop(clauses);

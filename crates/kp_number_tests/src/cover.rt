@@ -1,24 +1,9 @@
-use crate::given::{formula, literal, set, sets};
 use kp_base::{AtomId, Initial, LitSet, Memory, Row, Stop};
 use kp_cover::{Validity, valid};
-use kp_primes::{Primes, are_of_atoms, is_of_atoms};
+use kp_primes::{Primes, are_of_atoms};
+use kp_test_problems::{ONE_OF_THREE, Sign, are_atoms, literal, primes, primes_within, set, sets};
 use std::alloc::Global;
 use std::test::Fail;
-
-fn primes_for(
-    alloc: Global,
-    clauses: &[&[(u32, bool)]],
-    closed: &[u32],
-    atoms: u32,
-) -> Result<Primes, Stop> {
-    let initial = formula(alloc, clauses, closed)?;
-    if !is_of_atoms(&initial, atoms) {
-        return Err(Stop::Memory);
-    }
-    let primes = Primes::build(alloc, &initial, atoms, 1000);
-    drop(initial);
-    primes
-}
 
 fn judged(alloc: Global, primes: &Primes, tags: &Row<LitSet>) -> Result<Validity, Memory> {
     if !are_of_atoms(tags.slice(), primes.atoms()) {
@@ -31,26 +16,17 @@ fn judged(alloc: Global, primes: &Primes, tags: &Row<LitSet>) -> Result<Validity
 fn is_first_outside(judged: &Validity, atoms: &[u32]) -> bool {
     match judged {
         Validity::Valid => false,
-        Validity::Invalid(state) => {
-            state.len() == atoms.len() && state.slice().iter().zip(atoms).all(|(a, n)| a.0 == *n)
-        }
+        Validity::Invalid(state) => are_atoms(state.slice(), atoms),
     }
 }
 
-const ONE_OF_THREE: [&[(u32, bool)]; 4] = [
-    &[(0, true), (1, true), (2, true)],
-    &[(0, false), (1, false)],
-    &[(0, false), (2, false)],
-    &[(1, false), (2, false)],
-];
-
 fn judge(
     alloc: Global,
-    clauses: &[&[(u32, bool)]],
+    clauses: &[&[Sign]],
     closed: &[u32],
-    tags: &[&[(u32, bool)]],
+    tags: &[&[Sign]],
 ) -> Result<Validity, Stop> {
-    let primes = primes_for(alloc, clauses, closed, 3)?;
+    let primes = primes(alloc, clauses, closed, 3)?;
     let tags = sets(alloc, tags)?;
     let judged = judged(alloc, &primes, &tags);
     drop(tags);
@@ -58,20 +34,15 @@ fn judge(
     Ok(judged?)
 }
 
-fn is_valid(
-    alloc: Global,
-    clauses: &[&[(u32, bool)]],
-    closed: &[u32],
-    tags: &[&[(u32, bool)]],
-) -> bool {
+fn is_valid(alloc: Global, clauses: &[&[Sign]], closed: &[u32], tags: &[&[Sign]]) -> bool {
     matches!(judge(alloc, clauses, closed, tags), Ok(Validity::Valid))
 }
 
 fn leaves(
     alloc: Global,
-    clauses: &[&[(u32, bool)]],
+    clauses: &[&[Sign]],
     closed: &[u32],
-    tags: &[&[(u32, bool)]],
+    tags: &[&[Sign]],
     first: &[u32],
 ) -> bool {
     match &judge(alloc, clauses, closed, tags) {
@@ -84,7 +55,7 @@ fn leaves(
 #[test]
 fn needs_a_tag_for_each_cell(rt: HostRuntime) -> Result<(), Fail> {
     let alloc = rt.alloc();
-    let cells: [&[(u32, bool)]; 3] = [&[(0, true)], &[(1, true)], &[(2, true)]];
+    let cells: [&[Sign]; 3] = [&[(0, true)], &[(1, true)], &[(2, true)]];
     assert!(rt; leaves(alloc, &ONE_OF_THREE, &[], &cells[..2], &[2]));
     assert!(rt; leaves(alloc, &ONE_OF_THREE, &[], &[], &[2]));
     assert!(rt; is_valid(alloc, &ONE_OF_THREE, &[], &cells));
@@ -122,7 +93,7 @@ fn pairs_of(alloc: Global, row: &mut Row<LitSet>, cells: u32) -> Result<(), Memo
 fn some_of(alloc: Global, cells: u32) -> Result<LitSet, Memory> {
     let mut some = LitSet::new(alloc);
     for i in 0..cells {
-        some.insert(literal(i, true))?;
+        some.insert(literal((i, true)))?;
     }
     Ok(some)
 }
@@ -140,10 +111,7 @@ fn primes_of(alloc: Global, clauses: Row<LitSet>, atoms: u32) -> Result<Primes, 
         clauses,
         closed: Row::new(alloc),
     };
-    if !is_of_atoms(&initial, atoms) {
-        return Err(Stop::Memory);
-    }
-    let primes = Primes::build(alloc, &initial, atoms, 1000);
+    let primes = primes_within(alloc, &initial, atoms, 1000);
     drop(initial);
     primes
 }

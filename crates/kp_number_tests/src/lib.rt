@@ -14,6 +14,4 @@ mod cov;
 #[cfg(test)]
 mod cover;
 #[cfg(test)]
-mod given;
-#[cfg(test)]
 mod primes;

@@ -1,40 +1,17 @@
-use crate::given::{formula, literal, set};
 use kp_base::{Initial, LitSet, Memory, Refused, Row, Stop};
-use kp_primes::{Primes, is_of_atoms};
+use kp_primes::Primes;
+use kp_test_problems::{ONE_OF_THREE, Sign, formula, literal, primes_within, set};
 use std::alloc::Global;
 use std::test::Fail;
 
-fn build_for(alloc: Global, initial: &Initial, limit: u32) -> Result<Primes, Stop> {
-    if !is_of_atoms(initial, 60) {
-        return Err(Stop::Memory);
-    }
-    Primes::build(alloc, initial, 60, limit)
-}
-
-fn build(
-    alloc: Global,
-    clauses: &[&[(u32, bool)]],
-    closed: &[u32],
-    limit: u32,
-) -> Result<Primes, Stop> {
+fn build(alloc: Global, clauses: &[&[Sign]], closed: &[u32], limit: u32) -> Result<Primes, Stop> {
     let initial = formula(alloc, clauses, closed)?;
-    if !is_of_atoms(&initial, 3) {
-        return Err(Stop::Memory);
-    }
-    let primes = Primes::build(alloc, &initial, 3, limit);
+    let primes = primes_within(alloc, &initial, 3, limit);
     drop(initial);
     primes
 }
 
-// Exactly one of the atoms 0, 1 and 2.
-const ONE_OF_THREE: [&[(u32, bool)]; 4] = [
-    &[(0, true), (1, true), (2, true)],
-    &[(0, false), (1, false)],
-    &[(0, false), (2, false)],
-    &[(1, false), (2, false)],
-];
-
-fn closure(alloc: Global, primes: &Primes, lits: &[(u32, bool)]) -> Result<Option<LitSet>, Memory> {
+fn closure(alloc: Global, primes: &Primes, lits: &[Sign]) -> Result<Option<LitSet>, Memory> {
     let tag = set(alloc, lits)?;
     primes.closure(alloc, &tag)
 }
@@ -42,15 +19,15 @@ fn closure(alloc: Global, primes: &Primes, lits: &[(u32, bool)]) -> Result<Optio
 fn closes_to(
     alloc: Global,
     primes: &Primes,
-    lits: &[(u32, bool)],
-    wanted: &[(u32, bool)],
+    lits: &[Sign],
+    wanted: &[Sign],
 ) -> Result<bool, Memory> {
     let wanted = set(alloc, wanted)?;
     let found = closure(alloc, primes, lits)?;
     Ok(found == Some(wanted))
 }
 
-fn has_no_closure(alloc: Global, primes: &Primes, lits: &[(u32, bool)]) -> Result<bool, Memory> {
+fn has_no_closure(alloc: Global, primes: &Primes, lits: &[Sign]) -> Result<bool, Memory> {
     let found = closure(alloc, primes, lits)?;
     Ok(found.is_none())
 }
@@ -71,7 +48,7 @@ fn closes_tags(rt: HostRuntime) -> Result<(), Fail> {
     Ok(())
 }
 
-fn is_consistent(alloc: Global, primes: &Primes, lits: &[(u32, bool)]) -> Result<bool, Memory> {
+fn is_consistent(alloc: Global, primes: &Primes, lits: &[Sign]) -> Result<bool, Memory> {
     let tag = set(alloc, lits)?;
     Ok(primes.consistent(&tag))
 }
@@ -101,7 +78,7 @@ fn prefix_over(built: Result<Primes, Stop>) -> Option<u64> {
 
 #[test]
 fn counts_the_prime_implicates(rt: HostRuntime) -> Result<(), Fail> {
-    let clauses: [&[(u32, bool)]; 2] = [&[(0, true), (1, true)], &[(0, false), (2, true)]];
+    let clauses: [&[Sign]; 2] = [&[(0, true), (1, true)], &[(0, false), (2, true)]];
     // The resolvent is a third.
     assert!(rt; prefix_over(build(rt.alloc(), &clauses, &[], 2)) == Some(2));
     assert!(rt; build(rt.alloc(), &clauses, &[], 3).is_ok());
@@ -114,17 +91,17 @@ fn has_no_state(built: Result<Primes, Stop>) -> bool {
 
 #[test]
 fn finds_no_initial_state(rt: HostRuntime) -> Result<(), Fail> {
-    let clauses: [&[(u32, bool)]; 1] = [&[(0, true), (1, true)]];
+    let clauses: [&[Sign]; 1] = [&[(0, true), (1, true)]];
     assert!(rt; has_no_state(build(rt.alloc(), &clauses, &[0, 1], 1)));
     Ok(())
 }
 
 // Where one of two atoms is closed, the other is entailed.
 fn entails_the_other(alloc: Global) -> Result<bool, Stop> {
-    let clauses: [&[(u32, bool)]; 1] = [&[(0, true), (1, true)]];
+    let clauses: [&[Sign]; 1] = [&[(0, true), (1, true)]];
     let primes = build(alloc, &clauses, &[0], 1)?;
     let tag = LitSet::new(alloc);
-    Ok(primes.entails(&tag, literal(1, true)))
+    Ok(primes.entails(&tag, literal((1, true))))
 }
 
 #[test]
@@ -157,7 +134,7 @@ fn fan(alloc: Global) -> Result<Initial, Memory> {
 #[test]
 fn stops_within_a_clause(rt: HostRuntime) -> Result<(), Fail> {
     let initial = fan(rt.alloc())?;
-    let prefix = prefix_over(build_for(rt.alloc(), &initial, 300));
+    let prefix = prefix_over(primes_within(rt.alloc(), &initial, 60, 300));
     drop(initial);
     assert!(rt; prefix == Some(57));
     Ok(())

@@ -1,27 +1,10 @@
-use crate::given::{LEFT, Sign, idle, literal, primes, relevance_of, single};
+use crate::given::relevance_of;
 use kp_base::{Ground, LitSet, Memory, Row, Stop};
 use kp_primes::Primes;
 use kp_relevance::Relevance;
+use kp_test_problems::{LEFT, ONE_OF_THREE, Sign, are_sets, idle, literal, primes, single};
 use std::alloc::Global;
 use std::test::Fail;
-
-fn is_set(set: &LitSet, expected: &[Sign]) -> bool {
-    set.slice().len() == expected.len()
-        && set
-            .slice()
-            .iter()
-            .zip(expected)
-            .all(|(l, e)| l.atom.0 == e.0 && l.positive == e.1)
-}
-
-fn are_sets(sets: &Row<LitSet>, expected: &[&[Sign]]) -> bool {
-    sets.len() == expected.len()
-        && sets
-            .slice()
-            .iter()
-            .zip(expected)
-            .all(|(set, signs)| is_set(set, signs))
-}
 
 fn found(
     alloc: Global,
@@ -45,7 +28,7 @@ fn clauses_for(
     target: Sign,
 ) -> Result<Row<LitSet>, Stop> {
     let relevance = relevance_of(alloc, ground)?;
-    let primes = primes(alloc, stated, atoms)?;
+    let primes = primes(alloc, stated, &[], atoms)?;
     let clauses = found(alloc, &relevance, &primes, target);
     drop(primes);
     drop(relevance);
@@ -54,21 +37,20 @@ fn clauses_for(
 
 fn are_found(clauses: &Result<Row<LitSet>, Stop>, expected: &[&[Sign]]) -> bool {
     match clauses {
-        Ok(clauses) => are_sets(clauses, expected),
+        Ok(clauses) => are_sets(clauses.slice(), expected),
         Err(_) => false,
     }
 }
 
-const ONE_OF_THREE: [&[Sign]; 4] = [
-    &[(0, true), (1, true), (2, true)],
-    &[(0, false), (1, false)],
-    &[(0, false), (2, false)],
-    &[(1, false), (2, false)],
-];
-
 fn has_four_for_the_first_cell(alloc: Global) -> bool {
     are_found(
-        &clauses_for(alloc, single(alloc, 3, &LEFT), &ONE_OF_THREE, 3, (0, true)),
+        &clauses_for(
+            alloc,
+            single(alloc, 3, &LEFT, &[]),
+            &ONE_OF_THREE,
+            3,
+            (0, true),
+        ),
         &[
             &[(0, true), (1, true), (2, true)],
             &[(1, true), (1, false)],
@@ -80,7 +62,13 @@ fn has_four_for_the_first_cell(alloc: Global) -> bool {
 
 fn has_one_for_the_last_cell(alloc: Global) -> bool {
     are_found(
-        &clauses_for(alloc, single(alloc, 3, &LEFT), &ONE_OF_THREE, 3, (2, true)),
+        &clauses_for(
+            alloc,
+            single(alloc, 3, &LEFT, &[]),
+            &ONE_OF_THREE,
+            3,
+            (2, true),
+        ),
         &[&[(2, true), (2, false)]],
     )
 }
@@ -102,6 +90,7 @@ fn has_the_unknown_one(alloc: Global) -> bool {
                 alloc,
                 2,
                 &[(&[(0, true)], (1, true)), (&[(0, false)], (1, true))],
+                &[],
             ),
             &[&[(1, false)]],
             2,
@@ -125,6 +114,7 @@ fn has_the_two_unknown_ones(alloc: Global) -> bool {
                     (&[(0, false), (1, true)], (2, true)),
                     (&[(0, false), (1, false)], (2, true)),
                 ],
+                &[],
             ),
             &[&[(2, false)]],
             3,
@@ -146,7 +136,7 @@ fn has_none_without_actions(alloc: Global) -> bool {
     are_found(
         &clauses_for(
             alloc,
-            idle(alloc, 3),
+            idle(alloc, 3, &[]),
             &[&[(0, true), (1, true)], &[(0, false), (2, true)]],
             3,
             (0, true),

@@ -1,6 +1,7 @@
-use crate::given::{LEFT, Sign, add, idle, literal, relevance_of, single};
+use crate::given::relevance_of;
 use kp_base::{Ground, Memory};
 use kp_relevance::Relevance;
+use kp_test_problems::{LEFT, Sign, add, idle, literal, single};
 use std::alloc::Global;
 use std::test::Fail;
 
@@ -23,7 +24,7 @@ fn asked(relevance: &Result<Relevance, Memory>, target: Sign, expected: &[Sign])
 }
 
 fn is_first_cell_reached(alloc: Global) -> bool {
-    let relevance = relevance_of(alloc, single(alloc, 3, &LEFT));
+    let relevance = relevance_of(alloc, single(alloc, 3, &LEFT, &[]));
     asked(
         &relevance,
         (0, true),
@@ -36,7 +37,7 @@ fn is_first_cell_reached(alloc: Global) -> bool {
 }
 
 fn is_last_cell_its_own(alloc: Global) -> bool {
-    let relevance = relevance_of(alloc, single(alloc, 3, &LEFT));
+    let relevance = relevance_of(alloc, single(alloc, 3, &LEFT, &[]));
     asked(&relevance, (2, true), &[(2, true), (2, false)]) && asked(&relevance, (5, true), &[])
 }
 
@@ -57,6 +58,7 @@ fn is_chained_over_a_negation(alloc: Global) -> bool {
             alloc,
             3,
             &[(&[(0, true)], (1, true)), (&[(1, false)], (2, true))],
+            &[],
         ),
     );
     asked(&relevance, (2, false), &[(2, false), (1, true), (0, true)])
@@ -71,7 +73,7 @@ fn goes_over_negations(rt: HostRuntime) -> Result<(), Fail> {
 }
 
 fn needing(alloc: Global) -> Result<Ground, Memory> {
-    let mut ground = idle(alloc, 3)?;
+    let mut ground = idle(alloc, 3, &[])?;
     add(alloc, &mut ground, &[(0, true)], &[(&[], (1, true))])?;
     add(
         alloc,
@@ -96,7 +98,7 @@ fn leaves_preconditions_out(rt: HostRuntime) -> Result<(), Fail> {
 }
 
 fn is_itself_alone(alloc: Global) -> bool {
-    let relevance = relevance_of(alloc, idle(alloc, 3));
+    let relevance = relevance_of(alloc, idle(alloc, 3, &[]));
     asked(&relevance, (0, true), &[(0, true)]) && asked(&relevance, (2, false), &[(2, false)])
 }
 
@@ -109,7 +111,7 @@ fn has_each_literal_itself(rt: HostRuntime) -> Result<(), Fail> {
 
 // Each of a hundred atoms brings the one before it.
 fn line(alloc: Global) -> Result<Ground, Memory> {
-    let mut ground = idle(alloc, 100)?;
+    let mut ground = idle(alloc, 100, &[])?;
     for p in 0..99u32 {
         add(alloc, &mut ground, &[], &[(&[(p + 1, true)], (p, true))])?;
     }

@@ -222,13 +222,13 @@ module _ (t : Translate) (before after : FileMap) (text : List ℕ) (x : DidTran
       let lasts = last_once made.2 x.both.merges made.3 holds.text rest in
       of_texts o (subst (λ z. LiftsTexts c x.both.domain x.both.problem x.both.merges z o) lasts.1 (subst (λ z. LiftsTexts c x.both.domain x.both.problem z made.3 o) lasts.0 (subst (λ z. LiftsTexts c x.both.domain z made.2 made.3 o) second (subst (λ z. LiftsTexts c z made.1 made.2 made.3 o) first made.5))))
 
-  ends_lifted : (words : List (Vec ℕ Global)) (old new : Outside) (s : Status) → Ends words old new s → IsLift words c → old.held ≡ Some now → complete.Lifts t after plan old new s
+  ends_lifted : (words : List (Vec ℕ Global)) (old new : Outside) (s : Status) → Ends words old new s → IsLift words c → old.held ≡ Some now → complete.EndsLifted t after plan old new s
   ends_lifted words old new s (came o due carried) is held = by carried
     where
       it : o ≡ prints_it
       it = of_due words o is (subst (λ m. IsDue words m o) held due)
 
-      by : CarriesOut o old new s → complete.Lifts t after plan old new s
+      by : CarriesOut o old new s → complete.EndsLifted t after plan old new s
       by (whole same_status none puts told) = inl (lifted_to old new s (same_status ∙ ap (λ (z : Outcome). z.status) it) (told ∙ ap (λ (z : Outcome). with_bytes old.told z.text) it))
       by (put_failed f e a b h j k) = inr (inr (inr e))
       by (put_no_memory f e a b h) = inr (inl e)

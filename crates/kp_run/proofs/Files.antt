@@ -125,93 +125,69 @@ pub short_origin : (source : Source) (merges : List (List ℕ)) (o : Origin) →
 short_origin _ _ _ (from_mode m) = tt
 short_origin _ _ _ (from_file name text got front) = front_within text most_bytes got front
 
+-- where what a result has on some texts is what the command comes to, so it is on texts that are equal to them
+comes_so : (command : Command) (texts us : List (List ℕ)) (P : Outcome → Type 0) (r : Result Outcome Memory) → texts ≡ us → ((o : Outcome) → P o → ComesTo command us o) → IfOk r P → IfOk r (ComesTo command texts)
+comes_so command texts us P (Ok o) e so h = subst (λ ts. ComesTo command ts o) (sym e) (so o h)
+comes_so command texts us P (Err m) e so h = tt
+
 pub sourced_translated : (c : Translate) (texts : List (List ℕ)) (s : Sourced) (r : Result Outcome Memory) → IsSourced c.source texts s
     → ((d p : List ℕ) (merges : List (List ℕ)) → IsFront (Some d) most_bytes s.domain → IsFront (Some p) most_bytes s.problem → IsOrigin c.source merges s.origin → IfOk r (TranslatesTexts c d p merges)) → IfOk r (ComesTo (commands.Translate c) texts)
 sourced_translated c texts s r t comes =
-    subst (λ us. IfOk r (ComesTo (commands.Translate c) us)) (sym t.are) (by r (comes t.domain t.problem t.merges t.domain_front t.problem_front t.origin))
-  where
-    by : (r : Result Outcome Memory) → IfOk r (TranslatesTexts c t.domain t.problem t.merges) → IfOk r (ComesTo (commands.Translate c) (t.domain ∷ t.problem ∷ t.merges))
-    by (Ok o) h = translated c t.domain t.problem t.merges o h
-    by (Err m) h = tt
+    comes_so (commands.Translate c) texts (t.domain ∷ t.problem ∷ t.merges) (TranslatesTexts c t.domain t.problem t.merges) r t.are (translated c t.domain t.problem t.merges)
+    (comes t.domain t.problem t.merges t.domain_front t.problem_front t.origin)
 
 pub sourced_solved : (c : Solve) (texts : List (List ℕ)) (s : Sourced) (r : Result Outcome Memory) → IsSourced c.source texts s
     → ((d p : List ℕ) (merges : List (List ℕ)) → IsFront (Some d) most_bytes s.domain → IsFront (Some p) most_bytes s.problem → IsOrigin c.source merges s.origin → IfOk r (SolvesTexts c d p merges)) → IfOk r (ComesTo (commands.Solve c) texts)
 sourced_solved c texts s r t comes =
-    subst (λ us. IfOk r (ComesTo (commands.Solve c) us)) (sym t.are) (by r (comes t.domain t.problem t.merges t.domain_front t.problem_front t.origin))
-  where
-    by : (r : Result Outcome Memory) → IfOk r (SolvesTexts c t.domain t.problem t.merges) → IfOk r (ComesTo (commands.Solve c) (t.domain ∷ t.problem ∷ t.merges))
-    by (Ok o) h = solved c t.domain t.problem t.merges o h
-    by (Err m) h = tt
+    comes_so (commands.Solve c) texts (t.domain ∷ t.problem ∷ t.merges) (SolvesTexts c t.domain t.problem t.merges) r t.are (solved c t.domain t.problem t.merges)
+    (comes t.domain t.problem t.merges t.domain_front t.problem_front t.origin)
+
+-- what two files come to, for any command on two files
+on_two : (command : Command) (P : List ℕ → List ℕ → Outcome → Type 0) (texts : List (List ℕ)) (gots : List Got) (a b : Got) (r : Result Outcome Memory) → AreFronts texts gots → gots ≡ a ∷ b ∷ []
+    → ((d p : List ℕ) (o : Outcome) → P d p o → ComesTo command (d ∷ p ∷ []) o)
+    → ((d p : List ℕ) → IsFront (Some d) most_bytes a → IsFront (Some p) most_bytes b → IfOk r (P d p)) → IfOk r (ComesTo command texts)
+on_two command P texts gots a b r fronts e so comes =
+    let t = two texts gots a b fronts e in
+    comes_so command texts (t.first ∷ t.second ∷ []) (P t.first t.second) r t.are (so t.first t.second) (comes t.first t.second t.first_front t.second_front)
 
 pub two_searched : (c : Classical) (texts : List (List ℕ)) (gots : List Got) (a b : Got) (r : Result Outcome Memory) → AreFronts texts gots → gots ≡ a ∷ b ∷ []
     → ((d p : List ℕ) → IsFront (Some d) most_bytes a → IsFront (Some p) most_bytes b → IfOk r (ClassicalTexts c d p)) → IfOk r (ComesTo (commands.Classical c) texts)
-two_searched c texts gots a b r fronts e comes =
-    let t = two texts gots a b fronts e in
-    subst (λ us. IfOk r (ComesTo (commands.Classical c) us)) (sym t.are) (by t.first t.second r (comes t.first t.second t.first_front t.second_front))
-  where
-    by : (d p : List ℕ) (r : Result Outcome Memory) → IfOk r (ClassicalTexts c d p) → IfOk r (ComesTo (commands.Classical c) (d ∷ p ∷ []))
-    by d p (Ok o) h = searched c d p o h
-    by d p (Err m) h = tt
+two_searched c texts gots a b r fronts e = on_two (commands.Classical c) (ClassicalTexts c) texts gots a b r fronts e (searched c)
+
+pub two_merged : (c : Merges) (texts : List (List ℕ)) (gots : List Got) (a b : Got) (r : Result Outcome Memory) → AreFronts texts gots → gots ≡ a ∷ b ∷ []
+    → ((d p : List ℕ) → IsFront (Some d) most_bytes a → IsFront (Some p) most_bytes b → IfOk r (MergesTexts c d p)) → IfOk r (ComesTo (commands.Merges c) texts)
+two_merged c texts gots a b r fronts e = on_two (commands.Merges c) (MergesTexts c) texts gots a b r fronts e (merged c)
+
+pub two_measured : (c : Width) (texts : List (List ℕ)) (gots : List Got) (a b : Got) (r : Result Outcome Memory) → AreFronts texts gots → gots ≡ a ∷ b ∷ []
+    → ((d p : List ℕ) → IsFront (Some d) most_bytes a → IsFront (Some p) most_bytes b → IfOk r (MeasuresTexts c d p)) → IfOk r (ComesTo (commands.Width c) texts)
+two_measured c texts gots a b r fronts e = on_two (commands.Width c) (MeasuresTexts c) texts gots a b r fronts e (measured c)
 
 pub mode_lifted : (c : Lift) (m : Mode) (texts : List (List ℕ)) (gots : List Got) (a b t : Got) (r : Result Outcome Memory) → c.source ≡ of_mode m → AreFronts texts gots → gots ≡ a ∷ b ∷ t ∷ []
     → ((d p : List ℕ) (merges : List (List ℕ)) (plan : List ℕ) → IsFront (Some d) most_bytes a → IsFront (Some p) most_bytes b → IsOrigin c.source merges (origins.Mode m) → IsFront (Some plan) most_bytes t → IfOk r (LiftsTexts c d p merges plan)) → IfOk r (ComesTo (commands.Lift c) texts)
 mode_lifted c m texts gots a b t r source fronts e comes =
     let h = three texts gots a b t fronts e in
-    subst (λ us. IfOk r (ComesTo (commands.Lift c) us)) (sym h.are) (by h.first h.second h.third r (comes h.first h.second [] h.third h.first_front h.second_front (subst (λ s. IsOrigin s [] (origins.Mode m)) (sym source) (from_mode m)) h.third_front))
-  where
-    by : (d p u : List ℕ) (r : Result Outcome Memory) → IfOk r (LiftsTexts c d p [] u) → IfOk r (ComesTo (commands.Lift c) (d ∷ p ∷ u ∷ []))
-    by d p u (Ok o) h = lifted c d p [] u o h
-    by d p u (Err m) h = tt
+    comes_so (commands.Lift c) texts (h.first ∷ h.second ∷ h.third ∷ []) (LiftsTexts c h.first h.second [] h.third) r h.are (lifted c h.first h.second [] h.third)
+    (comes h.first h.second [] h.third h.first_front h.second_front (subst (λ s. IsOrigin s [] (origins.Mode m)) (sym source) (from_mode m)) h.third_front)
 
 pub merged_lifted : (c : Lift) (name : List ℕ) (texts : List (List ℕ)) (gots : List Got) (a b m t : Got) (r : Result Outcome Memory) → c.source ≡ of_file name → AreFronts texts gots → gots ≡ a ∷ b ∷ m ∷ t ∷ []
     → ((d p : List ℕ) (merges : List (List ℕ)) (plan : List ℕ) → IsFront (Some d) most_bytes a → IsFront (Some p) most_bytes b → IsOrigin c.source merges (origins.Merges m) → IsFront (Some plan) most_bytes t → IfOk r (LiftsTexts c d p merges plan)) → IfOk r (ComesTo (commands.Lift c) texts)
 merged_lifted c name texts gots a b m t r source fronts e comes =
     let h = four texts gots a b m t fronts e in
-    subst (λ us. IfOk r (ComesTo (commands.Lift c) us)) (sym h.are) (by h.first h.second h.third h.fourth r (comes h.first h.second (h.third ∷ []) h.fourth h.first_front h.second_front (subst (λ s. IsOrigin s (h.third ∷ []) (origins.Merges m)) (sym source) (from_file name h.third m h.third_front)) h.fourth_front))
-  where
-    by : (d p u v : List ℕ) (r : Result Outcome Memory) → IfOk r (LiftsTexts c d p (u ∷ []) v) → IfOk r (ComesTo (commands.Lift c) (d ∷ p ∷ u ∷ v ∷ []))
-    by d p u v (Ok o) h = lifted c d p (u ∷ []) v o h
-    by d p u v (Err m) h = tt
-
-pub two_merged : (c : Merges) (texts : List (List ℕ)) (gots : List Got) (a b : Got) (r : Result Outcome Memory) → AreFronts texts gots → gots ≡ a ∷ b ∷ []
-    → ((d p : List ℕ) → IsFront (Some d) most_bytes a → IsFront (Some p) most_bytes b → IfOk r (MergesTexts c d p)) → IfOk r (ComesTo (commands.Merges c) texts)
-two_merged c texts gots a b r fronts e comes =
-    let t = two texts gots a b fronts e in
-    subst (λ us. IfOk r (ComesTo (commands.Merges c) us)) (sym t.are) (by t.first t.second r (comes t.first t.second t.first_front t.second_front))
-  where
-    by : (d p : List ℕ) (r : Result Outcome Memory) → IfOk r (MergesTexts c d p) → IfOk r (ComesTo (commands.Merges c) (d ∷ p ∷ []))
-    by d p (Ok o) h = merged c d p o h
-    by d p (Err m) h = tt
-
-pub two_measured : (c : Width) (texts : List (List ℕ)) (gots : List Got) (a b : Got) (r : Result Outcome Memory) → AreFronts texts gots → gots ≡ a ∷ b ∷ []
-    → ((d p : List ℕ) → IsFront (Some d) most_bytes a → IsFront (Some p) most_bytes b → IfOk r (MeasuresTexts c d p)) → IfOk r (ComesTo (commands.Width c) texts)
-two_measured c texts gots a b r fronts e comes =
-    let t = two texts gots a b fronts e in
-    subst (λ us. IfOk r (ComesTo (commands.Width c) us)) (sym t.are) (by t.first t.second r (comes t.first t.second t.first_front t.second_front))
-  where
-    by : (d p : List ℕ) (r : Result Outcome Memory) → IfOk r (MeasuresTexts c d p) → IfOk r (ComesTo (commands.Width c) (d ∷ p ∷ []))
-    by d p (Ok o) h = measured c d p o h
-    by d p (Err m) h = tt
+    comes_so (commands.Lift c) texts (h.first ∷ h.second ∷ h.third ∷ h.fourth ∷ []) (LiftsTexts c h.first h.second (h.third ∷ []) h.fourth) r h.are (lifted c h.first h.second (h.third ∷ []) h.fourth)
+    (comes h.first h.second (h.third ∷ []) h.fourth h.first_front h.second_front (subst (λ s. IsOrigin s (h.third ∷ []) (origins.Merges m)) (sym source) (from_file name h.third m h.third_front)) h.fourth_front)
 
 pub one_stripped : (c : Strip) (texts : List (List ℕ)) (gots : List Got) (a : Got) (r : Result Outcome Memory) → AreFronts texts gots → gots ≡ a ∷ []
     → ((t : List ℕ) → IsFront (Some t) most_bytes a → IfOk r (StripsText t)) → IfOk r (ComesTo (commands.Strip c) texts)
 one_stripped c texts gots a r fronts e comes =
     let o = one texts gots a fronts e in
-    subst (λ us. IfOk r (ComesTo (commands.Strip c) us)) (sym o.is) (by o.text r (comes o.text o.front))
-  where
-    by : (t : List ℕ) (r : Result Outcome Memory) → IfOk r (StripsText t) → IfOk r (ComesTo (commands.Strip c) (t ∷ []))
-    by t (Ok o) h = stripped c t o h
-    by t (Err m) h = tt
+    comes_so (commands.Strip c) texts (o.text ∷ []) (StripsText o.text) r o.is (stripped c o.text) (comes o.text o.front)
 
 pub three_checked : (c : Check) (texts : List (List ℕ)) (gots : List Got) (a b m : Got) (r : Result Outcome Memory) → AreFronts texts gots → gots ≡ a ∷ b ∷ m ∷ []
     → ((d p t : List ℕ) → IsFront (Some d) most_bytes a → IsFront (Some p) most_bytes b → IsFront (Some t) most_bytes m → IfOk r (ChecksTexts c d p t)) → IfOk r (ComesTo (commands.Check c) texts)
 three_checked c texts gots a b m r fronts e comes =
     let t = three texts gots a b m fronts e in
-    subst (λ us. IfOk r (ComesTo (commands.Check c) us)) (sym t.are) (by t.first t.second t.third r (comes t.first t.second t.third t.first_front t.second_front t.third_front))
-  where
-    by : (d p u : List ℕ) (r : Result Outcome Memory) → IfOk r (ChecksTexts c d p u) → IfOk r (ComesTo (commands.Check c) (d ∷ p ∷ u ∷ []))
-    by d p u (Ok o) h = checked c d p u o h
-    by d p u (Err m) h = tt
+    comes_so (commands.Check c) texts (t.first ∷ t.second ∷ t.third ∷ []) (ChecksTexts c t.first t.second t.third) r t.are (checked c t.first t.second t.third)
+    (comes t.first t.second t.third t.first_front t.second_front t.third_front)
 
 -- no file is read
 pub none_benched : (c : Bench) (texts : List (List ℕ)) (gots : List Got) (r : Result Outcome Memory) → AreFronts texts gots → length gots ≡ 0 → IfOk r (Benches c) → IfOk r (ComesTo (commands.Bench c) texts)

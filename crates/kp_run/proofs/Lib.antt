@@ -19,5 +19,6 @@ pub mod Searches
 pub mod Whole
 pub mod Fitting
 pub mod PlanLines
+pub mod BothPlans
 pub mod Solved
 pub mod SolvedClassical

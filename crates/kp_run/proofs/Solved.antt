@@ -11,12 +11,9 @@ use Rattle.kp_base.specs.declared.ground.TagTable.{TagTable}
 use Rattle.kp_base.specs.declared.refused.Refused.{Refused}
 use Rattle.kp_base.specs.Covering.{AreUncovered, IsComplete}
 use Rattle.kp_base.specs.Machine.{stripped as actions_of}
-use Rattle.kp_machine.proofs.Exclusive.{never_clashes}
 use Rattle.kp_grammar.specs.declared.tree.Word.{Word}
 use Rattle.kp_grammar.specs.Trees.{Domain, Problem}
 use Rattle.kp_meaning.specs.Steps.{Step}
-use Rattle.kp_meaning.specs.Plans.{IsPlan}
-use Rattle.kp_meaning.specs.Strip.{strip}
 use Rattle.kp_classic.specs.declared.task.Task.{Task}
 use Rattle.kp_classic.specs.Fits.{IsFit}
 use Rattle.kp_classic.specs.Steps.{start, succeeds}
@@ -28,11 +25,9 @@ use Rattle.kp_search.specs.declared.found.Found.TheVariants.{Plan, NoPlan, Spent
 use Rattle.kp_task.specs.Task.{task_of}
 use Rattle.kp_task.specs.Writable.{IsWritableTask}
 use Rattle.kp_task.proofs.Plans.{plans_are_accepted}
-use Rattle.kp_task.proofs.Strips.{steps_strip}
 use Rattle.kp_given.specs.Translations.{ground_of, initial_of}
 use Rattle.kp_given.specs.Tables.{IsTableFor}
 use Rattle.kp_given.proofs.Tables.{tables_written}
-use Rattle.kp_sound.proofs.Trees.{translations_sound}
 use Rattle.kp_sound.proofs.Lifting.{plans_lift}
 use Rattle.kp_plans.specs.Printed.{plan_text}
 use Rattle.kp_printed.specs.Refusals.{nothing}
@@ -49,10 +44,9 @@ use Rattle.kp_prepared.specs.Texts.{HaveTrees}
 use Rattle.kp_prepared.specs.Prepared.{IsPrepared, by_texts, by_trees, early, later}
 use Rattle.kp_inputs.specs.Tables.{HasTable, no_table, with_table}
 use Rattle.kp_inputs.proofs.TablesFor.{table_for}
-use Rattle.kp_inputs.proofs.OnePlan.{some_alike}
 use Rattle.kp_solving.specs.Solving.{Finds, solves, denies, spends, TellsSolved, SolvesGround, over, searched}
 use Rattle.kp_solving.proofs.Searches.{ends_true}
-use Rattle.kp_solving.proofs.Plans.{named_accepted, none_accepted}
+use Rattle.kp_solving.proofs.Plans.{none_accepted}
 use Rattle.kp_run.specs.Outcomes.{SolvesTexts, IsDue}
 use Rattle.kp_run.specs.Completeness.{PrintsComplete}
 use Rattle.kp_run.specs.Ends.{Ends}
@@ -63,6 +57,7 @@ use Rattle.kp_decided.proofs.Counting.{formulas_ascend}
 use Rattle.kp_given.proofs.Starts.{formulas_over_atoms, states_are_models}
 use Rattle.kp_prepared.proofs.Counted.{is_of_atoms}
 use Rattle.kp_run.specs.Solved.{GoesOn, IsPosed, its_ground, its_formula, its_task, IsWrittenPlan, with_named, IsSolved, HasNoPlan, IsSpent, SolveIsTrue}
+use Rattle.kp_run.proofs.BothPlans.{both_plans}
 use Rattle.kp_run.proofs.Comes.{due_makes}
 use Rattle.kp_run.proofs.Fitting.{task_fits}
 use Rattle.kp_run.proofs.PlanLines.{actions_read, steps_read}
@@ -179,14 +174,8 @@ module _ (m : FileMap) (c : Solve) (o : Outcome) (x : HasSearched m c o) (old ne
       by : (found : Found) → Finds task c.budget found → TellsSolved c.classical ground formula table found o → IsSolved m c old new
       by (Plan ops n) finds (written, plan, named, is) =
           let b = answered (solves c.classical written plan) is in
-          let accepted = named_accepted ground table writable ops written plan named (ends_true task c.budget (Plan ops n) fit finds).1 in
-          let is_written = (plans_are_accepted ground table writable written).1 accepted in
-          let names = steps_strip ground table writable written named.machine named.steps_are in
-          let same = some_alike names.names plan (sym names.are_names ∙ named.actions_are) in
-          let strips : strip written ≡ Some plan = names.strips ∙ ap Some same in
-          let sound = translations_sound g.domain g.problem (problem_of g.domain g.problem d p g.trees) table for (never_clashes ground formula g.prepared.clash_free) written is_written in
-          let one : sound.stripped ≡ plan = cc (sym sound.strips ∙ strips) in
-          record { posed = x.posed; plan = plan; written = written; is_plan = subst (IsPlan g.domain g.problem) one sound.is_plan; is_written = is_written; strips = strips; told = b.text_is; told_reads = actions_read ground writable.ground (actions_of named.machine) plan named.actions_are; put = b.puts_are ∙ named_put old.held c.classical written plan; put_reads = steps_read ground table writable named.machine written named.steps_are }
+          let both = both_plans g.domain g.problem (problem_of g.domain g.problem d p g.trees) table for g.prepared.clash_free ops written plan named (ends_true task c.budget (Plan ops n) fit finds).1 in
+          record { posed = x.posed; plan = plan; written = written; is_plan = both.is_plan; is_written = both.is_written; strips = both.strips; told = b.text_is; told_reads = actions_read ground writable.ground (actions_of named.machine) plan named.actions_are; put = b.puts_are ∙ named_put old.held c.classical written plan; put_reads = steps_read ground table writable named.machine written named.steps_are }
       by NoPlan finds (ls, are, is) = absurd (let b = answered (denies (no_plan_text ls)) is in let not_done = sym b.status_is ∙ done in cc)
       by (Spent n) finds is = absurd (let b = answered (spends n) is in let not_done = sym b.status_is ∙ done in cc)
 

@@ -70,9 +70,9 @@ pub record IsLiftedTo (t : Translate) (after : FileMap) (plan : List Step) (old 
   pub told : new.told ≡ with_bytes old.told (plan_text written)
 
 -- so it is; or memory ran out, or the outside failed
-abbrev pub Lifts : Translate → FileMap → List Step → Outside → Outside → Status → Type 0
-Lifts t after plan old new s = IsLiftedTo t after plan old new s ⊎ (s ≡ status.Memory) ⊎ (s ≡ status.ReadFault) ⊎ (s ≡ status.WriteFault)
+abbrev pub EndsLifted : Translate → FileMap → List Step → Outside → Outside → Status → Type 0
+EndsLifted t after plan old new s = IsLiftedTo t after plan old new s ⊎ (s ≡ status.Memory) ⊎ (s ≡ status.ReadFault) ⊎ (s ≡ status.WriteFault)
 
 -- Whenever a translation of the same files told `complete`, each plan of them that the plan file holds lifts.
 abbrev pub LosesNoPlan : Lift → Outside → Outside → Status → Type 0
-LosesNoPlan c old new s = (words : List (Vec ℕ Global)) (t : Translate) (before after now : FileMap) (plan : List Step) → RanComplete words t before after → old.held ≡ Some now → IsOfTheSame t before c now → HoldsPlan now c plan → Lifts t after plan old new s
+LosesNoPlan c old new s = (words : List (Vec ℕ Global)) (t : Translate) (before after now : FileMap) (plan : List Step) → RanComplete words t before after → old.held ≡ Some now → IsOfTheSame t before c now → HoldsPlan now c plan → EndsLifted t after plan old new s

@@ -5,7 +5,7 @@ ghost use Rattle.kp_outcome.specs.declared.status.Status.TheVariants as status;
 ghost use Rattle.kp_outcome.specs.Ends.{AreHeld, AreFronts, AreRead, GetFails};
 ghost use Rattle.kp_words.specs.declared.lent.CommandRef.{CommandRef as Ordered};
 ghost use Rattle.kp_words.specs.declared.lent.CommandRef.TheVariants as commands;
-ghost use Rattle.kp_words.specs.Names.{Translate as Names, Lift as LiftNames, Solve as SolveNames, Classical as ClassicalNames, of_mode, of_file};
+ghost use Rattle.kp_words.specs.Names.{Translate as Names, Lift as LiftNames, Solve as SolveNames, Classical as ClassicalNames, of_mode, of_file, source_view};
 ghost use Rattle.kp_words.specs.Command.{IsTranslate, IsLift, IsSolve, IsClassical, IsCommand, file_of, if_named, inputs_of};
 ghost use Rattle.kp_words.specs.Options.{IsWithin as IsOfRange};
 ghost use Rattle.kp_words.specs.Owned.{command_view};
@@ -36,44 +36,39 @@ use kp_words::{
 };
 use std::alloc::Global;
 
-// Reads the two or three files that a call to solve names.
-fn read_solve<S: Shelf>(
+// Reads a domain and a problem.
+fn read_two<S: Shelf>(
     alloc: Global,
-    named: &Solve<'_>,
+    domain: &[u8],
+    problem: &[u8],
     shelf: &mut S,
 ) -> Result<Row<Got>, OutsideStop>
-    ensures read { IfOk result (AreRead (S.contents shelf.old) (named.now.domain ∷ named.now.problem ∷ if_named (file_of named.now.source))) }
-    ensures failed { IsErrOf result stops.Failed → GetFails (S.contents shelf.old) (named.now.domain ∷ named.now.problem ∷ if_named (file_of named.now.source)) (S.get_faults shelf.old) (S.get_faults shelf.new) }
+    ensures read { IfOk result (AreRead (S.contents shelf.old) (domain.now ∷ problem.now ∷ [])) }
+    ensures failed { IsErrOf result stops.Failed → GetFails (S.contents shelf.old) (domain.now ∷ problem.now ∷ []) (S.get_faults shelf.old) (S.get_faults shelf.new) }
     ensures get_faults { result ≢ Err stops.Failed → (q : List ℕ) → S.get_faults shelf.new q ≡ S.get_faults shelf.old q }
     ensures contents { S.contents shelf.new ≡ S.contents shelf.old }
     ensures put_faults { (q : List ℕ) → S.put_faults shelf.new q ≡ S.put_faults shelf.old q }
 {
-    let (domain, problem) = (named.domain, named.problem);
-    match named.source {
-        SourceRef::File(merges) => read_inputs(alloc, &[domain, problem, merges], shelf),
-        SourceRef::Mode(_) => read_inputs(alloc, &[domain, problem], shelf),
-    }
+    read_inputs(alloc, &[domain, problem], shelf)
 }
 
-// Reads the two or three files that a translation names.
-fn read_translate<S: Shelf>(
+// Reads a domain, a problem and the file of merges, if there is one.
+fn read_sourced<S: Shelf>(
     alloc: Global,
-    named: &Translate<'_>,
+    domain: &[u8],
+    problem: &[u8],
+    source: SourceRef<'_>,
     shelf: &mut S,
 ) -> Result<Row<Got>, OutsideStop>
-    ensures read { IfOk result (AreRead (S.contents shelf.old) (named.now.domain ∷ named.now.problem ∷ if_named (file_of named.now.source))) }
-    ensures failed { IsErrOf result stops.Failed → GetFails (S.contents shelf.old) (named.now.domain ∷ named.now.problem ∷ if_named (file_of named.now.source)) (S.get_faults shelf.old) (S.get_faults shelf.new) }
+    ensures read { IfOk result (AreRead (S.contents shelf.old) (domain.now ∷ problem.now ∷ if_named (file_of (source_view source.entry)))) }
+    ensures failed { IsErrOf result stops.Failed → GetFails (S.contents shelf.old) (domain.now ∷ problem.now ∷ if_named (file_of (source_view source.entry))) (S.get_faults shelf.old) (S.get_faults shelf.new) }
     ensures get_faults { result ≢ Err stops.Failed → (q : List ℕ) → S.get_faults shelf.new q ≡ S.get_faults shelf.old q }
     ensures contents { S.contents shelf.new ≡ S.contents shelf.old }
     ensures put_faults { (q : List ℕ) → S.put_faults shelf.new q ≡ S.put_faults shelf.old q }
 {
-    match named.source {
-        SourceRef::File(merges) => read_inputs(
-            alloc,
-            &[named.domain, named.problem, merges],
-            shelf,
-        ),
-        SourceRef::Mode(_) => read_inputs(alloc, &[named.domain, named.problem], shelf),
+    match source {
+        SourceRef::File(merges) => read_inputs(alloc, &[domain, problem, merges], shelf),
+        SourceRef::Mode(_) => read_two(alloc, domain, problem, shelf),
     }
 }
 
@@ -109,16 +104,20 @@ fn read<S: Shelf>(
     ensures put_faults { (q : List ℕ) → S.put_faults shelf.new q ≡ S.put_faults shelf.old q }
 {
     match command {
-        CommandRef::Translate(named) => read_translate(alloc, named, shelf),
-        CommandRef::Merges(named) => read_inputs(alloc, &[named.domain, named.problem], shelf),
+        CommandRef::Translate(named) => {
+            read_sourced(alloc, named.domain, named.problem, named.source, shelf)
+        }
+        CommandRef::Merges(named) => read_two(alloc, named.domain, named.problem, shelf),
         CommandRef::Strip(named) => read_inputs(alloc, &[named.plan], shelf),
         CommandRef::Check(named) => {
             read_inputs(alloc, &[named.domain, named.problem, named.plan], shelf)
         }
         CommandRef::Lift(named) => read_lift(alloc, named, shelf),
-        CommandRef::Solve(named) => read_solve(alloc, named, shelf),
-        CommandRef::Classical(named) => read_inputs(alloc, &[named.domain, named.problem], shelf),
-        CommandRef::Width(named) => read_inputs(alloc, &[named.domain, named.problem], shelf),
+        CommandRef::Solve(named) => {
+            read_sourced(alloc, named.domain, named.problem, named.source, shelf)
+        }
+        CommandRef::Classical(named) => read_two(alloc, named.domain, named.problem, shelf),
+        CommandRef::Width(named) => read_two(alloc, named.domain, named.problem, shelf),
         CommandRef::Bench(_) => read_inputs(alloc, &[], shelf),
     }
 }

@@ -1,6 +1,7 @@
 use crate::given::accepted;
-use crate::table::{Sign, has_cells, has_merge, has_row, is_table_of_three};
-use kp_base::{AtomId, Refused, Row, Stop};
+use crate::table::{has_cells, has_merge, has_row, is_table_of_three};
+use kp_base::{Refused, Stop};
+use kp_test_problems::{Sign, are_atoms};
 use std::alloc::Global;
 use std::test::Fail;
 
@@ -45,14 +46,10 @@ fn accepts_valid_merges(rt: HostRuntime) -> Result<(), Fail> {
     Ok(())
 }
 
-fn is_state(state: &Row<AtomId>, atoms: &[u32]) -> bool {
-    state.len() == atoms.len() && state.slice().iter().zip(atoms).all(|(a, n)| a.0 == *n)
-}
-
 fn is_invalid(alloc: Global, merges: &[&[&[Sign]]], number: u32, atoms: &[u32]) -> bool {
     match &accepted(alloc, merges, 4) {
         Err(Stop::Refused(Refused::MergeInvalid { merge, state })) => {
-            *merge == number && is_state(state, atoms)
+            *merge == number && are_atoms(state.slice(), atoms)
         }
         _ => false,
     }

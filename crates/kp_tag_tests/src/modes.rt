@@ -1,7 +1,8 @@
 use crate::given::{at_most, made_of_cells, made_of_ways};
-use crate::table::{Sign, has_merge, has_row, is_table_of_three};
+use crate::table::{has_merge, has_row, is_table_of_three};
 use kp_base::{Limits, Refused, Stop, TagTable};
 use kp_tags::Mode;
+use kp_test_problems::{Sign, is_literal};
 use std::alloc::Global;
 use std::test::Fail;
 
@@ -12,7 +13,7 @@ fn is_refused_tags(made: &Result<TagTable, Stop>) -> bool {
 fn is_refused_sets(made: &Result<TagTable, Stop>, of: Sign, sets_of: u32) -> bool {
     match made {
         Err(Stop::Refused(Refused::SetsOver { target, size })) => {
-            target.atom.0 == of.0 && target.positive == of.1 && *size == sets_of
+            is_literal(*target, of) && *size == sets_of
         }
         _ => false,
     }

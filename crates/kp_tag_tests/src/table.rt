@@ -1,20 +1,10 @@
 //! What a table has: tags by number with their closures, and merges by number.
 
-use kp_base::{Lit, TagRow, TagTable};
-
-/// A literal: its atom, and whether it is positive.
-pub(crate) type Sign = (u32, bool);
-
-fn are(lits: &[Lit], expected: &[Sign]) -> bool {
-    lits.len() == expected.len()
-        && lits
-            .iter()
-            .zip(expected)
-            .all(|(l, e)| l.atom.0 == e.0 && l.positive == e.1)
-}
+use kp_base::{TagRow, TagTable};
+use kp_test_problems::{Sign, are_literals, is_literal};
 
 fn is_row(row: &TagRow, lits: &[Sign], closure: &[Sign]) -> bool {
-    are(row.lits.slice(), lits) && are(row.closure.slice(), closure)
+    are_literals(row.lits.slice(), lits) && are_literals(row.closure.slice(), closure)
 }
 
 pub(crate) fn has_row(table: &TagTable, number: usize, lits: &[Sign], closure: &[Sign]) -> bool {
@@ -27,7 +17,7 @@ pub(crate) fn has_row(table: &TagTable, number: usize, lits: &[Sign], closure: &
 /// Whether the merge of that number is of that target and has these tags.
 pub(crate) fn has_merge(table: &TagTable, number: usize, target: Sign, tags: &[u32]) -> bool {
     match table.merges.slice().get(number) {
-        Some(merge) => are(&[merge.target], &[target]) && merge.tags.slice() == tags,
+        Some(merge) => is_literal(merge.target, target) && merge.tags.slice() == tags,
         None => false,
     }
 }

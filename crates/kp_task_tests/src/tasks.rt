@@ -2,10 +2,11 @@
 ghost use Rattle.std.specs.Prelude.{◌≡◌};
 ghost use Rattle.kp_classic.specs.Fits.{are_below};
 
-use crate::given::{cells, lit, tag_for_each};
+use crate::given::{cells, tag_for_each};
 use kp_base::{Limits, Memory, Refused, Row, Stop};
 use kp_classic::{Task, is_fit, meets, run_ops};
 use kp_ktask::{literal_of, translate};
+use kp_test_problems::is_literal;
 use std::alloc::Global;
 use std::test::Fail;
 
@@ -88,7 +89,7 @@ fn two_steps_and_the_merge(rt: HostRuntime) -> Result<(), Fail> {
 // Facts 6 to 11 are of the second tag.
 #[test]
 fn literals_of_facts(rt: HostRuntime) -> Result<(), Fail> {
-    assert!(rt; literal_of(3, 0) == lit(0, true));
-    assert!(rt; literal_of(3, 11) == lit(2, false));
+    assert!(rt; is_literal(literal_of(3, 0), (0, true)));
+    assert!(rt; is_literal(literal_of(3, 11), (2, false)));
     Ok(())
 }

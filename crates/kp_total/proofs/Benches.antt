@@ -10,8 +10,7 @@ use Rattle.kp_base.specs.Machine.{stripped}
 use Rattle.kp_grammar.specs.declared.tree.Word.{Word}
 use Rattle.kp_grammar.specs.Trees.{Domain, Problem}
 use Rattle.kp_meaning.specs.Steps.{Step}
-use Rattle.kp_meaning.specs.Plans.{HasProblem, IsPlan}
-use Rattle.kp_meaning.specs.Strip.{strip}
+use Rattle.kp_meaning.specs.Plans.{HasProblem}
 use Rattle.kp_classic.specs.declared.task.Task.{Task}
 use Rattle.kp_classic.specs.Fits.{IsFit}
 use Rattle.kp_classic.specs.Steps.{start, succeeds}
@@ -24,15 +23,11 @@ use Rattle.kp_task.specs.Task.{task_of}
 use Rattle.kp_task.specs.Accepted.{name_at}
 use Rattle.kp_task.specs.Writable.{IsWritableTask}
 use Rattle.kp_task.proofs.Plans.{plans_are_accepted}
-use Rattle.kp_task.proofs.Strips.{steps_strip}
 use Rattle.kp_given.specs.Translations.{ground_of, initial_of}
 use Rattle.kp_given.specs.Tables.{IsTableFor}
 use Rattle.kp_given.proofs.Starts.{states_are_models}
 use Rattle.kp_given.proofs.Tables.{tables_written}
 use Rattle.kp_sound.proofs.Lifting.{plans_lift}
-use Rattle.kp_sound.proofs.Trees.{translations_sound}
-use Rattle.kp_machine.proofs.Exclusive.{never_clashes}
-use Rattle.kp_inputs.proofs.OnePlan.{some_alike}
 use Rattle.kp_printed.specs.Refusals.{nothing}
 use Rattle.kp_printed.specs.Searches.{no_plan_text}
 use Rattle.kp_outside.specs.Outside.{FileMap}
@@ -48,7 +43,7 @@ use Rattle.kp_inputs.specs.Tables.{no_table, with_table}
 use Rattle.kp_inputs.proofs.TablesFor.{table_for}
 use Rattle.kp_solving.specs.Solving.{Finds, denies, spends}
 use Rattle.kp_solving.proofs.Searches.{ends_true}
-use Rattle.kp_solving.proofs.Plans.{named_accepted, none_accepted}
+use Rattle.kp_solving.proofs.Plans.{none_accepted}
 use Rattle.kp_solving.specs.Operators.{acts_among}
 use Rattle.kp_solving.proofs.Operators.{steps_named, acts_named, are_named}
 use Rattle.kp_bench.specs.Summary.{summary_text}
@@ -57,6 +52,7 @@ use Rattle.kp_bench.specs.Bench.{texts_of, usual_implicates, sums_up, SumsUp, Te
 use Rattle.kp_run.specs.Outcomes.{benched, IsDue, of_command}
 use Rattle.kp_run.specs.Ends.{Ends}
 use Rattle.kp_run.specs.Solved.{Tells}
+use Rattle.kp_run.proofs.BothPlans.{both_plans}
 use Rattle.kp_run.proofs.Comes.{due_makes}
 use Rattle.kp_run.proofs.Fitting.{task_fits}
 use Rattle.kp_run.proofs.Solved.{proper, complete_text}
@@ -152,11 +148,7 @@ module _ (c : Bench) (o : Outcome) (x : HasBenched c o) (old new : Outside) (s :
           let steps = steps_named ground table ops ends.0 in
           let acts = acts_named ground ops in
           let named = are_named ground table ops steps.0 acts.0 ends.0 steps.1 acts.1 in
-          let is_written = (plans_are_accepted ground table writable steps.0).1 (named_accepted ground table writable ops steps.0 acts.0 named ends.1) in
-          let names = steps_strip ground table writable steps.0 named.machine named.steps_are in
-          let strips : strip steps.0 ≡ Some acts.0 = names.strips ∙ ap Some (some_alike names.names acts.0 (sym names.are_names ∙ named.actions_are)) in
-          let sound = translations_sound (texts_of c).domain (texts_of c).problem problem table for (never_clashes ground formula x.posed.prepared.clash_free) steps.0 is_written in
-          let one : sound.stripped ≡ acts.0 = cc (sym sound.strips ∙ strips) in
+          let both = both_plans (texts_of c).domain (texts_of c).problem problem table for x.posed.prepared.clash_free ops steps.0 acts.0 named ends.1 in
           let many = as_many ℕ Step (Option Step) (name_at ground) Some (acts_among (length ground.actions) ops) acts.0 acts.1 ∙ ap length (same ops n sums) in
           record {
             posed = x.posed;
@@ -166,9 +158,9 @@ module _ (c : Bench) (o : Outcome) (x : HasBenched c o) (old new : Outside) (s :
             written = steps.0;
             plan = acts.0;
             named = named;
-            is_written = is_written;
-            strips = strips;
-            is_plan = subst (IsPlan (texts_of c).domain (texts_of c).problem) one sound.is_plan;
+            is_written = both.is_written;
+            strips = both.strips;
+            is_plan = both.is_plan;
             uncovered = sums.uncovered;
             are_uncovered = sums.are_uncovered;
             complete = (λ none. complete_with_none ground formula table fine (subst (AreUncovered ground formula table) none sums.are_uncovered), λ whole. none_uncovered ground formula table sums.uncovered sums.are_uncovered whole);

@@ -6,13 +6,11 @@ use Rattle.std.specs.Fmt.{digits}
 use Rattle.std.specs.declared.alloc.Global.{Global}
 use lib.Utf8.{encode}
 use Rattle.kp_base.specs.declared.ground.Action.{Action}
-use Rattle.kp_base.specs.declared.ground.Effect.{Effect}
 use Rattle.kp_base.specs.declared.ground.Ground.{Ground}
 use Rattle.kp_base.specs.declared.ground.Initial.{Initial}
 use Rattle.kp_base.specs.declared.ground.TagTable.{TagTable}
 use Rattle.kp_base.specs.declared.limits.Mode.TheVariants as modes
 use Rattle.kp_base.specs.declared.lit.Lit.{Lit}
-use Rattle.kp_base.specs.Clashes.{Pairs, Clashes}
 use Rattle.kp_base.specs.Covering.{Meets, IsTarget, of_precondition, of_goal, IsCovered, AreUncovered}
 use Rattle.kp_base.specs.Implicates.{IsNeverOver}
 use Rattle.kp_base.specs.Lists.{Member}
@@ -20,7 +18,6 @@ use Rattle.kp_base.specs.Lit.{positive, negative}
 use Rattle.kp_base.specs.LitSet.{IsAscending}
 use Rattle.kp_base.specs.Relevance.{IsRelevant, either_value, IsCandidate, IsClauseFor}
 use Rattle.kp_base.specs.Steps.{State, holds, is_model}
-use Rattle.kp_base.proofs.Lists.{member_at}
 use Rattle.kp_primes.specs.Included.{all_included}
 use Rattle.kp_primes.proofs.Answered.{never_over}
 use Rattle.kp_lex.specs.Bytes.{class_of}
@@ -192,27 +189,6 @@ few_of_two h x y e up above one all = never_over h 20000 (all_included [] (take 
 abbrev pub left : Action
 left = record { name = record { head = codes "left"; objects = [] }; pre = []; effects = record { cond = positive 1 ∷ []; result = positive 0 } ∷ record { cond = positive 1 ∷ []; result = negative 1 } ∷ [] }
 
--- it adds the first cell, and deletes the second
-left_free : (pairs : Pairs) (a : Action) (atom k j : ℕ) → Member (left ∷ []) a → Clashes pairs a atom k j → ⊥
-left_free pairs a atom k j (inr never) c = absurd never
-left_free pairs a atom k j (inl same) c = apart (subst (λ (x : Action). Clashes pairs x atom k j) (sym same) c)
-  where
-    adds : (e : Effect) → Member left.effects e → e.result ≡ positive atom → 0 ≡ atom
-    adds e (inl m) is = ap (λ (l : Lit). l.atom.0) (ap (λ (x : Effect). x.result) m ∙ is)
-    adds e (inr (inl m)) is = absurd (false≢true (ap (λ (l : Lit). l.positive) (ap (λ (x : Effect). x.result) m ∙ is)))
-    adds e (inr (inr never)) is = absurd never
-
-    deletes : (e : Effect) → Member left.effects e → e.result ≡ negative atom → 1 ≡ atom
-    deletes e (inl m) is = absurd (false≢true (sym (ap (λ (l : Lit). l.positive) (ap (λ (x : Effect). x.result) m ∙ is))))
-    deletes e (inr (inl m)) is = ap (λ (l : Lit). l.atom.0) (ap (λ (x : Effect). x.result) m ∙ is)
-    deletes e (inr (inr never)) is = absurd never
-
-    apart : Clashes pairs left atom k j → ⊥
-    apart x =
-        let first_ = adds x.adding (member_at left.effects k x.adding x.add_at) x.adds in
-        let second_ = deletes x.deleting (member_at left.effects j x.deleting x.delete_at) x.deletes in
-        omega (arith, first_, second_)
-
 -- it is at the first cell
 unfoldable pub at_first : State
 at_first n = nat_eq n 0
@@ -228,7 +204,7 @@ prepared = record {
     counted = few_of_two i (positive 0 ∷ positive 1 ∷ []) (negative 0 ∷ negative 1 ∷ []) refl (omega arith, tt) (omega arith, tt) (omega arith) (omega arith);
     initial = has_state cells_tree two_tree trees.no_fault at_first first_start;
   };
-  clash_free = never_clashing cells_tree two_tree left_free;
+  clash_free = never_clashing cells_tree two_tree refl;
 }
 
 -- ---- the search

@@ -30,7 +30,7 @@ use Rattle.kp_words.specs.Names.{Classical}
 use Rattle.kp_words.specs.declared.lent.CommandRef.TheVariants as commands
 use Rattle.kp_line.specs.Words.{nothing, a_word, apart as apart_words, word as said_word, option as said_option}
 use Rattle.kp_words.specs.Command.{IsClassical as SaysClassical}
-use Rattle.kp_words.proofs.Examples.{word}
+use Rattle.kp_words.proofs.Examples.{word, is_classical as is_classical_call}
 use Rattle.kp_prepared.specs.Texts.{HaveTrees}
 use Rattle.kp_classical.specs.Classical.{IsClassical, later, task_of}
 use Rattle.kp_solving.specs.Solving.{Finds, solves, denies, spends, TellsClassical}
@@ -52,20 +52,6 @@ front more = word (codes "classical") (omega arith) ∷ word (codes "d") (omega 
 
 abbrev solving : ℕ → Classical
 solving budget = record { domain = codes "d"; problem = codes "p"; budget = budget }
-
-is_plain : SaysClassical (front []) (solving 10000)
-unfolding encode
-is_plain = record {
-  rest = codes "d" ∷ codes "p" ∷ [];
-  utf8 = ((codes "classical", (refl, refl)), ((codes "d", (refl, refl)), ((codes "p", (refl, refl)), tt)));
-  words_are = refl;
-  says = record {
-    places = codes "d" ∷ codes "p" ∷ [];
-    values = None ∷ [];
-    line = record { said = said_word (codes "d") ∷ said_word (codes "p") ∷ []; says = a_word _ _ _ refl (a_word _ _ _ refl (nothing)); places_are = refl; known = refl; once = refl; values_are = refl };
-    are_so = record { budget = None; places_are = refl; values_are = refl; says_budget = refl };
-  };
-}
 
 -- one state may be expanded
 abbrev with_budget : List (Vec ℕ Global)
@@ -133,10 +119,10 @@ abbrev the_plan : Outcome
 the_plan = solves None (a ∷ []) (a ∷ [])
 
 ends_with_plan : Ends (front []) (before exchange from_p_to_q) (after exchange from_p_to_q (codes "(a)\n")) status.Done
-ends_with_plan = ends (front []) 10000 is_plain exchange from_p_to_q the_plan refl (comes_to exchange from_p_to_q exchange_tree from_p_to_q_tree trees is_classical 10000 (Plan (0 ∷ []) 1) the_plan found_plan (a ∷ [], refl, refl))
+ends_with_plan = ends (front []) 10000 is_classical_call exchange from_p_to_q the_plan refl (comes_to exchange from_p_to_q exchange_tree from_p_to_q_tree trees is_classical 10000 (Plan (0 ∷ []) 1) the_plan found_plan (a ∷ [], refl, refl))
 
 is_solved : IsSolvedClassical (holding exchange from_p_to_q) (solving 10000) (before exchange from_p_to_q) (after exchange from_p_to_q (codes "(a)\n"))
-is_solved = classical_is_a_plan (front []) _ _ status.Done ends_with_plan (holding exchange from_p_to_q) (solving 10000) refl is_plain refl
+is_solved = classical_is_a_plan (front []) _ _ status.Done ends_with_plan (holding exchange from_p_to_q) (solving 10000) refl is_classical_call refl
 
 -- ---- from p to both: there is no plan
 
@@ -162,10 +148,10 @@ found_none : Finds keeping 10000 NoPlan
 found_none = let here = reaching keeping keeping_fits (first keeping) 1 both_cost in without_plan keeping 10000 (omega arith) refl refl refl here.0 here.1 p_lost
 
 ends_with_none : Ends (front []) (before exchange to_both) (after exchange to_both no_plan_line) status.Negative
-ends_with_none = ends (front []) 10000 is_plain exchange to_both (denies no_plan_line) refl (comes_to exchange to_both exchange_tree to_both_tree both_trees both_classical 10000 NoPlan (denies no_plan_line) found_none refl)
+ends_with_none = ends (front []) 10000 is_classical_call exchange to_both (denies no_plan_line) refl (comes_to exchange to_both exchange_tree to_both_tree both_trees both_classical 10000 NoPlan (denies no_plan_line) found_none refl)
 
 has_no_plan : HasNoClassicalPlan (holding exchange to_both) (solving 10000) (before exchange to_both) (after exchange to_both no_plan_line)
-has_no_plan = no_classical_plan_is_true (front []) _ _ status.Negative ends_with_none (holding exchange to_both) (solving 10000) refl is_plain refl
+has_no_plan = no_classical_plan_is_true (front []) _ _ status.Negative ends_with_none (holding exchange to_both) (solving 10000) refl is_classical_call refl
 
 -- ---- from nothing to q: one state may be expanded, and another waits
 

@@ -1,16 +1,17 @@
 -- Three pairs of files, computed: from p to q; from p to both, which nothing does; and from nothing to q, which takes two turns.
-use Rattle.std.proofs.Common.{◌≡◌, ◌≤◌, ℕ, true, false, List, [], ◌∷◌, length, codes, inl, inr, refl, sym, ap, ◌∙◌, subst, arith}
+use Rattle.std.proofs.Common.{◌≡◌, ◌≤◌, ◌==◌, ◌||◌, ℕ, Bool, true, false, not, List, [], ◌∷◌, length, codes, inl, inr, refl, sym, ap, ◌∙◌, subst, arith}
+use Rattle.std.specs.List.{list_all}
 use Rattle.std.proofs.lemmas.Bool.{false≢true}
+use Rattle.std.proofs.lemmas.Bool.Decides.{nat_tests}
 use Rattle.kp_base.specs.declared.limits.Limits.{Limits}
 use Rattle.kp_base.specs.declared.lit.Lit.{Lit}
 use Rattle.kp_base.specs.declared.ground.Action.{Action}
 use Rattle.kp_base.specs.declared.ground.Effect.{Effect}
-use Rattle.kp_base.specs.Lists.{Member}
 use Rattle.kp_base.specs.Lit.{positive, negative}
 use Rattle.kp_base.specs.Steps.{State, is_model}
 use Rattle.kp_base.specs.Clashes.{Pairs, Clashes}
 use Rattle.kp_base.specs.Exclusive.{IsClashFree}
-use Rattle.kp_base.proofs.Lists.{member_at}
+use Rattle.kp_base.proofs.Lists.{all_member, member_at}
 use Rattle.kp_lex.specs.Bytes.{class_of}
 use Rattle.kp_lex.specs.Scanning.{cut_from}
 use Rattle.kp_grammar.specs.Symbols.{symbol_of}
@@ -38,10 +39,26 @@ use Rattle.kp_run.proofs.ExampleOutcomes.{domain_reads, problem_reads, only_p, h
 
 -- ---- no clash
 
--- where no action clashes by whichever pairs, none does
-pub never_clashing : (d : Domain Word) (p : Problem Word) → ((pairs : Pairs) (a : Action) (atom k j : ℕ) → Member (ground_of d p).actions a → Clashes pairs a atom k j → ⊥) → IsClashFree (ground_of d p) (initial_of d p)
-never_clashing d p never = elim (clash_or_none (ground_of d p) (initial_of d p) (formulas_over_atoms d p)) [
-  | inl first ↦ absurd (let x = first.1.first.clash in never first.1.pairs x.action first.0.atom.0 first.0.add first.0.delete (member_at (ground_of d p).actions first.0.action x.action x.action_at) x.clashes)
+-- an add and a delete are of different atoms
+abbrev pub are_apart : Lit → Lit → Bool
+are_apart add delete = not add.positive || (delete.positive || not (add.atom.0 == delete.atom.0))
+
+-- so it is with all adds and deletes of an action
+abbrev pub adds_apart : Action → Bool
+adds_apart a = list_all (λ (e : Effect). list_all (λ (f : Effect). are_apart e.result f.result) a.effects) a.effects
+
+apart_is_free : (pairs : Pairs) (a : Action) (atom k j : ℕ) → adds_apart a ≡ true → Clashes pairs a atom k j → ⊥
+apart_is_free pairs a atom k j apart x =
+    let beside = all_member (λ (e : Effect). list_all (λ (f : Effect). are_apart e.result f.result) a.effects) a.effects x.adding (member_at a.effects k x.adding x.add_at) apart in
+    let here = all_member (λ (f : Effect). are_apart x.adding.result f.result) a.effects x.deleting (member_at a.effects j x.deleting x.delete_at) beside in
+    let differ : are_apart (positive atom) (negative atom) ≡ true = subst (λ l. are_apart l (negative atom) ≡ true) x.adds (subst (λ l. are_apart x.adding.result l ≡ true) x.deletes here) in
+    let same : (atom == atom) ≡ true = grind (arith, nat_tests) in
+    false≢true (sym (ap not same) ∙ differ)
+
+-- where the adds and deletes of each action are of different atoms, none clashes
+pub never_clashing : (d : Domain Word) (p : Problem Word) → list_all adds_apart (ground_of d p).actions ≡ true → IsClashFree (ground_of d p) (initial_of d p)
+never_clashing d p apart = elim (clash_or_none (ground_of d p) (initial_of d p) (formulas_over_atoms d p)) [
+  | inl first ↦ absurd (let x = first.1.first.clash in apart_is_free first.1.pairs x.action first.0.atom.0 first.0.add first.0.delete (all_member adds_apart (ground_of d p).actions x.action (member_at (ground_of d p).actions first.0.action x.action x.action_at) apart) x.clashes)
   | inr free ↦ free
 ]
 
@@ -50,32 +67,6 @@ never_clashing d p never = elim (clash_or_none (ground_of d p) (initial_of d p) 
 -- few of each
 pub within : (l : Lifted) (m : Limits) (weight atoms : ℕ) → 1 ≤ m.bindings → 1 ≤ m.actions → weight ≤ m.weight → atoms ≤ m.atoms → binding_count l ≡ 1 → length (kept_instances l) ≡ 1 → total_weight l ≡ weight → length (ground_atoms l) ≡ atoms → IsGrounded l m (by_number.ground_of l)
 within l m weight atoms a b c d e f g h = record { counts = record { bindings = omega (arith, a, e); actions = omega (arith, b, f); weight = omega (arith, c, g) }; atoms = omega (arith, d, h); ground = refl }
-
--- ---- one action that exchanges p for q
-
-abbrev swap : Action
-swap = record { name = record { head = codes "a"; objects = [] }; pre = positive 0 ∷ []; effects = record { cond = []; result = positive 1 } ∷ record { cond = []; result = negative 0 } ∷ [] }
-
--- it adds q, and deletes p
-swap_free : (pairs : Pairs) (a : Action) (atom k j : ℕ) → Member (swap ∷ []) a → Clashes pairs a atom k j → ⊥
-swap_free pairs a atom k j (inr none) c = absurd none
-swap_free pairs a atom k j (inl same) c = apart (subst (λ (x : Action). Clashes pairs x atom k j) (sym same) c)
-  where
-    adds : (e : Effect) → Member swap.effects e → e.result ≡ positive atom → 1 ≡ atom
-    adds e (inl m) is = ap (λ (l : Lit). l.atom.0) (ap (λ (x : Effect). x.result) m ∙ is)
-    adds e (inr (inl m)) is = absurd (false≢true (ap (λ (l : Lit). l.positive) (ap (λ (x : Effect). x.result) m ∙ is)))
-    adds e (inr (inr none)) is = absurd none
-
-    deletes : (e : Effect) → Member swap.effects e → e.result ≡ negative atom → 0 ≡ atom
-    deletes e (inl m) is = absurd (false≢true (sym (ap (λ (l : Lit). l.positive) (ap (λ (x : Effect). x.result) m ∙ is))))
-    deletes e (inr (inl m)) is = ap (λ (l : Lit). l.atom.0) (ap (λ (x : Effect). x.result) m ∙ is)
-    deletes e (inr (inr none)) is = absurd none
-
-    apart : Clashes pairs swap atom k j → ⊥
-    apart x =
-        let one = adds x.adding (member_at swap.effects k x.adding x.add_at) x.adds in
-        let zero_ = deletes x.deleting (member_at swap.effects j x.deleting x.delete_at) x.deletes in
-        omega (arith, one, zero_)
 
 -- ---- from p to q
 
@@ -93,7 +84,7 @@ prepared = record {
     counted = few_primes (initial_of exchange_tree from_p_to_q_tree) (positive 0) refl (omega arith);
     initial = has_state exchange_tree from_p_to_q_tree trees.no_fault only_p only_p_is;
   };
-  clash_free = never_clashing exchange_tree from_p_to_q_tree swap_free;
+  clash_free = never_clashing exchange_tree from_p_to_q_tree refl;
 }
 
 pub is_classical : IsClassical exchange_tree from_p_to_q_tree
@@ -125,7 +116,7 @@ both_prepared = record {
     counted = few_primes (initial_of exchange_tree to_both_tree) (positive 0) refl (omega arith);
     initial = has_state exchange_tree to_both_tree both_trees.no_fault only_p both_start;
   };
-  clash_free = never_clashing exchange_tree to_both_tree swap_free;
+  clash_free = never_clashing exchange_tree to_both_tree refl;
 }
 
 pub both_classical : IsClassical exchange_tree to_both_tree
@@ -167,19 +158,6 @@ chain_trees = record { domain_reads = chain_reads; problem_reads = to_q_reads; n
 abbrev pub turn : Action
 turn = record { name = record { head = codes "a"; objects = [] }; pre = []; effects = record { cond = []; result = positive 0 } ∷ record { cond = positive 0 ∷ []; result = positive 1 } ∷ [] }
 
--- it deletes nothing
-pub turn_free : (pairs : Pairs) (a : Action) (atom k j : ℕ) → Member (turn ∷ []) a → Clashes pairs a atom k j → ⊥
-turn_free pairs a atom k j (inr none) c = absurd none
-turn_free pairs a atom k j (inl same) c = by (subst (λ (x : Action). Clashes pairs x atom k j) (sym same) c)
-  where
-    adds : (e : Effect) → Member turn.effects e → e.result ≡ negative atom → ⊥
-    adds e (inl m) is = false≢true (sym (ap (λ (l : Lit). l.positive) (ap (λ (x : Effect). x.result) m ∙ is)))
-    adds e (inr (inl m)) is = false≢true (sym (ap (λ (l : Lit). l.positive) (ap (λ (x : Effect). x.result) m ∙ is)))
-    adds e (inr (inr none)) is = absurd none
-
-    by : Clashes pairs turn atom k j → ⊥
-    by x = adds x.deleting (member_at turn.effects j x.deleting x.delete_at) x.deletes
-
 unfoldable pub no_atom : State
 no_atom n = false
 
@@ -194,7 +172,7 @@ chain_prepared = record {
     counted = few_primes (initial_of chain_tree to_q_tree) (negative 0) refl (omega arith);
     initial = has_state chain_tree to_q_tree chain_trees.no_fault no_atom chain_start;
   };
-  clash_free = never_clashing chain_tree to_q_tree turn_free;
+  clash_free = never_clashing chain_tree to_q_tree refl;
 }
 
 pub chain_classical : IsClassical chain_tree to_q_tree

@@ -2,22 +2,19 @@
 use Rattle.std.proofs.Common.{◌≡◌, ◌≢◌, ◌<◌, ◌≤◌, ℕ, zero, suc, Bool, true, false, not, nat_eq, List, [], ◌∷◌, Some, None, Vec, filter, map, length, codes, inl, inr, refl, sym, ap, ◌∙◌, subst, arith}
 use Rattle.std.proofs.lemmas.Bool.{false≢true}
 use Rattle.std.specs.FinMap.{empty, get, insert}
-use Rattle.std.specs.Fmt.{digits}
 use Rattle.std.specs.declared.alloc.Global.{Global}
 use lib.Utf8.{encode}
 use Rattle.kp_base.specs.declared.ground.Action.{Action}
-use Rattle.kp_base.specs.declared.ground.Effect.{Effect}
 use Rattle.kp_base.specs.declared.ground.Ground.{Ground}
 use Rattle.kp_base.specs.declared.ground.Initial.{Initial}
 use Rattle.kp_base.specs.declared.lit.Lit.{Lit}
-use Rattle.kp_base.specs.Clashes.{Pairs, Clashes}
 use Rattle.kp_base.specs.Covering.{Meets, IsTarget, of_precondition, of_goal}
 use Rattle.kp_base.specs.Lists.{Member, choices, each_once}
 use Rattle.kp_base.specs.Lit.{positive, negative}
 use Rattle.kp_base.specs.LitSet.{set_of, same_set}
 use Rattle.kp_base.specs.Relevance.{IsRelevant, either_value, IsCandidate, AreClausesFor}
 use Rattle.kp_base.specs.Steps.{State, holds, is_model}
-use Rattle.kp_base.proofs.Lists.{same-refl, member_at}
+use Rattle.kp_base.proofs.Lists.{same-refl}
 use Rattle.kp_sets.specs.Subsets.{subsets, choose}
 use Rattle.kp_lex.specs.Bytes.{class_of}
 use Rattle.kp_lex.specs.Scanning.{cut_from}
@@ -46,9 +43,9 @@ use Rattle.kp_outcome.specs.Ends.{Outside, whole}
 use Rattle.kp_printed.specs.Widths.{width_text, over_text}
 use Rattle.kp_words.specs.Names.{Width}
 use Rattle.kp_words.specs.declared.lent.CommandRef.TheVariants as commands
-use Rattle.kp_line.specs.Words.{nothing, a_word, apart as apart_words, word as said_word, option as said_option}
+use Rattle.kp_line.specs.Words.{nothing, a_word, word as said_word}
 use Rattle.kp_words.specs.Command.{IsWidth}
-use Rattle.kp_words.proofs.Examples.{word}
+use Rattle.kp_words.proofs.Examples.{word, is_width}
 use Rattle.kp_prepared.specs.Texts.{HaveTrees}
 use Rattle.kp_prepared.specs.Prepared.{usual, IsPrepared, later}
 use Rattle.kp_run.specs.Outcomes.{tells_width, with_report, measured, of_command}
@@ -59,7 +56,7 @@ use Rattle.kp_run.proofs.Soundness.{at_last, under_another}
 use Rattle.kp_run.proofs.Solved.{proper}
 use Rattle.kp_total.specs.Measuring.{IsMeasured, IsTooWide}
 use Rattle.kp_total.proofs.Measures.{widths_are_true}
-use Rattle.kp_total.proofs.ExampleFiles.{within, never_clashing, turn, turn_free, no_atom, chain, chain_tree, chain_reads}
+use Rattle.kp_total.proofs.ExampleFiles.{within, never_clashing, turn, no_atom, chain, chain_tree, chain_reads}
 
 -- ---- words
 
@@ -84,21 +81,7 @@ is_plain = record {
 }
 
 abbrev with_bound : List (Vec ℕ Global)
-with_bound = front (word (codes "--bound") (omega arith) ∷ word (codes "0") (omega arith) ∷ [])
-
-is_with_bound : IsWidth with_bound (measuring 0)
-unfolding encode digits
-is_with_bound = record {
-  rest = codes "d" ∷ codes "p" ∷ codes "--bound" ∷ codes "0" ∷ [];
-  utf8 = ((codes "width", (refl, refl)), ((codes "d", (refl, refl)), ((codes "p", (refl, refl)), ((codes "--bound", (refl, refl)), ((codes "0", (refl, refl)), tt)))));
-  words_are = refl;
-  says = record {
-    places = codes "d" ∷ codes "p" ∷ [];
-    values = Some (codes "0") ∷ None ∷ [];
-    line = record { said = said_word (codes "d") ∷ said_word (codes "p") ∷ said_option (codes "bound") (codes "0") ∷ []; says = a_word _ _ _ refl (a_word _ _ _ refl (apart_words (codes "bound") (codes "0") _ _ refl refl (nothing))); places_are = refl; known = refl; once = refl; values_are = refl };
-    are_so = record { bound = Some (codes "0"); implicates = None; places_are = refl; values_are = refl; says_bound = (record { at_least = omega arith; at_most = omega arith }, refl); limit = refl };
-  };
-}
+with_bound = word (codes "width") (omega arith) ∷ word (codes "--bound") (omega arith) ∷ word (codes "0") (omega arith) ∷ word (codes "d") (omega arith) ∷ word (codes "p") (omega arith) ∷ []
 
 -- ---- a run on two files
 
@@ -151,7 +134,7 @@ nothing_prepared = record {
     counted = few_primes (initial_of chain_tree to_nothing_tree) (negative 0) refl (omega arith);
     initial = has_state chain_tree to_nothing_tree nothing_trees.no_fault no_atom nothing_start;
   };
-  clash_free = never_clashing chain_tree to_nothing_tree turn_free;
+  clash_free = never_clashing chain_tree to_nothing_tree refl;
 }
 
 no_target : (l : Lit) → IsTarget (ground_of chain_tree to_nothing_tree) l → ⊥
@@ -216,19 +199,6 @@ i = initial_of ways_tree unsure_tree
 abbrev way : Action
 way = record { name = record { head = codes "a"; objects = [] }; pre = []; effects = record { cond = positive 0 ∷ []; result = positive 1 } ∷ record { cond = negative 0 ∷ []; result = positive 1 } ∷ [] }
 
--- it deletes nothing
-way_free : (pairs : Pairs) (a : Action) (atom k j : ℕ) → Member (way ∷ []) a → Clashes pairs a atom k j → ⊥
-way_free pairs a atom k j (inr none) c = absurd none
-way_free pairs a atom k j (inl same) c = by (subst (λ (x : Action). Clashes pairs x atom k j) (sym same) c)
-  where
-    adds : (e : Effect) → Member way.effects e → e.result ≡ negative atom → ⊥
-    adds e (inl m) is = false≢true (sym (ap (λ (l : Lit). l.positive) (ap (λ (x : Effect). x.result) m ∙ is)))
-    adds e (inr (inl m)) is = false≢true (sym (ap (λ (l : Lit). l.positive) (ap (λ (x : Effect). x.result) m ∙ is)))
-    adds e (inr (inr none)) is = absurd none
-
-    by : Clashes pairs way atom k j → ⊥
-    by x = adds x.deleting (member_at way.effects j x.deleting x.delete_at) x.deletes
-
 -- p alone
 unfoldable p_alone : State
 p_alone n = nat_eq n 0
@@ -248,7 +218,7 @@ ways_prepared = record {
     counted = few_primes i (negative 1) refl (omega arith);
     initial = has_state ways_tree unsure_tree ways_trees.no_fault no_atom none_start;
   };
-  clash_free = never_clashing ways_tree unsure_tree way_free;
+  clash_free = never_clashing ways_tree unsure_tree refl;
 }
 
 -- ---- it is over the bound of 0
@@ -321,7 +291,7 @@ is_over = by (targets_decided g)
         IsReport.over (t ∷ ts) (positive 1) are (record { earlier = []; later = ts; among = ap (λ (l : Lit). l ∷ ts) first; rows = []; are_rows = AreRows.done }) over_it
 
 ends_over : Ends with_bound (before ways unsure) (after ways unsure (over_text g.atoms 0 (positive 1))) status.Negative
-ends_over = ends with_bound 0 is_with_bound ways unsure ways_tree unsure_tree ways_trees ways_prepared (Over (positive 1)) is_over refl
+ends_over = ends with_bound 0 is_width ways unsure ways_tree unsure_tree ways_trees ways_prepared (Over (positive 1)) is_over refl
 
 is_too_wide : IsTooWide (holding ways unsure) (measuring 0) (before ways unsure) (after ways unsure (over_text g.atoms 0 (positive 1)))
-is_too_wide = (widths_are_true with_bound _ _ status.Negative ends_over (holding ways unsure) (measuring 0) refl is_with_bound).negative refl
+is_too_wide = (widths_are_true with_bound _ _ status.Negative ends_over (holding ways unsure) (measuring 0) refl is_width).negative refl

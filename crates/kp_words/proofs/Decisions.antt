@@ -123,9 +123,9 @@ mode_decided None = inl (modes.K1, refl)
 mode_decided (Some word) = word_of_mode word
 
 -- a mode and a file of merges aren't said together
-pub not_both : (word name : List ℕ) (s : Source) → SaysSource (Some word) (Some name) s → ⊥
-not_both word name (of_mode m) h = let e = h.0 in absurd cc
-not_both word name (of_file other) h = let e = h.0 in absurd cc
+pub one_source_alone : (word name : List ℕ) (s : Source) → SaysSource (Some word) (Some name) s → ⊥
+one_source_alone word name (of_mode m) h = let e = h.0 in absurd cc
+one_source_alone word name (of_file other) h = let e = h.0 in absurd cc
 
 pub source_decided : (mode merges : Option (List ℕ)) → Decided ((s : Source) × SaysSource mode merges s)
 source_decided mode None = elim (mode_decided mode) [
@@ -137,7 +137,7 @@ source_decided mode None = elim (mode_decided mode) [
     by none (of_mode m) h = none (m, h.1)
     by none (of_file name) h = let e = h.1 in absurd cc
 source_decided None (Some name) = inl (of_file name, (refl, refl))
-source_decided (Some word) (Some name) = inr (λ h. not_both word name h.0 h.1)
+source_decided (Some word) (Some name) = inr (λ h. one_source_alone word name h.0 h.1)
 
 pub family_decided : (word : List ℕ) → Decided ((f : Family) × (word ≡ family_word f))
 family_decided word = elim (same_word word (codes "line")) [

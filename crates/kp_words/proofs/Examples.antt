@@ -126,7 +126,7 @@ is_solve = record {
 }
 
 -- a call to solve a classical problem
-is_classical : IsClassical (word (codes "classical") (omega arith) ∷ word (codes "d") (omega arith) ∷ word (codes "p") (omega arith) ∷ []) (record { domain = codes "d"; problem = codes "p"; budget = 10000 })
+pub is_classical : IsClassical (word (codes "classical") (omega arith) ∷ word (codes "d") (omega arith) ∷ word (codes "p") (omega arith) ∷ []) (record { domain = codes "d"; problem = codes "p"; budget = 10000 })
 unfolding encode digits
 is_classical = record {
   rest = codes "d" ∷ codes "p" ∷ [];
@@ -141,7 +141,7 @@ is_classical = record {
 }
 
 -- a call for the width, with a bound of 0
-is_width : IsWidth (word (codes "width") (omega arith) ∷ word (codes "--bound") (omega arith) ∷ word (codes "0") (omega arith) ∷ word (codes "d") (omega arith) ∷ word (codes "p") (omega arith) ∷ []) (record { domain = codes "d"; problem = codes "p"; bound = 0; implicates = 20000 })
+pub is_width : IsWidth (word (codes "width") (omega arith) ∷ word (codes "--bound") (omega arith) ∷ word (codes "0") (omega arith) ∷ word (codes "d") (omega arith) ∷ word (codes "p") (omega arith) ∷ []) (record { domain = codes "d"; problem = codes "p"; bound = 0; implicates = 20000 })
 unfolding encode digits
 is_width = record {
   rest = codes "--bound" ∷ codes "0" ∷ codes "d" ∷ codes "p" ∷ [];

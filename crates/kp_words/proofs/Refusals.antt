@@ -7,7 +7,7 @@ use Rattle.kp_line.proofs.Unique.{said_line, said_twice, unsaid}
 use Rattle.kp_words.specs.declared.verb.Verb.TheVariants as verbs
 use Rattle.kp_words.specs.Options.{SaysSource, SaysBound, SaysBudget}
 use Rattle.kp_words.specs.Command.{IsNoCommand}
-use Rattle.kp_words.proofs.Decisions.{not_both}
+use Rattle.kp_words.proofs.Decisions.{one_source_alone}
 use Rattle.kp_words.proofs.Verbs.{no_command}
 use Rattle.kp_words.proofs.Examples.{word}
 
@@ -111,7 +111,7 @@ mode_and_merges = no_command verbs.Lift _ (codes "d" ∷ codes "p" ∷ codes "t"
     let values = line.1 ∙ says.are_so.values_are in
     let mode : says.are_so.mode ≡ Some (codes "k1") = cc in
     let merges : says.are_so.merges ≡ Some (codes "m") = cc in
-    not_both (codes "k1") (codes "m") d.source
+    one_source_alone (codes "k1") (codes "m") d.source
     (subst (λ v. SaysSource v (Some (codes "m")) d.source) mode (subst (λ v. SaysSource says.are_so.mode v d.source) merges says.are_so.source)))
 
 -- equal names of the written files

@@ -1,7 +1,7 @@
 -- Commands by their verbs.
 use Rattle.std.proofs.Common.{◌≡◌, ◌≢◌, ◌∙◌, List, ◌∷◌, ℕ, Option, Some, MatchOption, Vec, map, length, refl, ap, sym, subst}
 use Rattle.std.specs.declared.alloc.Global.{Global}
-use Rattle.kp_words.specs.Command.{AreUtf8, IsCommand, IsNoCommand}
+use Rattle.kp_words.specs.Command.{AreUtf8, IsCall, IsCommand, IsNoCommand}
 use Rattle.kp_words.specs.Verbs.{all_verbs, verb_named, verb_word, verb_in, places_named, options_of, ReadAs, read_as, AreOf, IsSaid, SaysOf, SaysCommand, IsRead}
 use Rattle.kp_words.proofs.Calls.{no_line}
 use Rattle.kp_words.proofs.Named.{named_is, one_named}
@@ -85,27 +85,24 @@ says_none v words none d = no_line words (options_of v) (length (places_named v)
 
 -- ---- words are a command just where they are read as it
 
+is_call : (words : List (Vec ℕ Global)) (c : CommandRef) → IsCommand words c ≡ IsCall words (verb_word (verb_in c)) (λ rest. SaysCommand rest c)
+is_call words (commands.Translate c) = refl
+is_call words (commands.Merges c) = refl
+is_call words (commands.Strip c) = refl
+is_call words (commands.Check c) = refl
+is_call words (commands.Lift c) = refl
+is_call words (commands.Solve c) = refl
+is_call words (commands.Classical c) = refl
+is_call words (commands.Width c) = refl
+is_call words (commands.Bench c) = refl
+
 pub is_command : (words : List (Vec ℕ Global)) (c : CommandRef) → AreUtf8 (map (λ w. w.items) words) → IsRead (map (λ w. w.items) words) c → IsCommand words c
-is_command words (commands.Translate c) utf8 is = record { rest = is.rest; utf8 = utf8; words_are = is.words_are; says = is.says }
-is_command words (commands.Merges c) utf8 is = record { rest = is.rest; utf8 = utf8; words_are = is.words_are; says = is.says }
-is_command words (commands.Strip c) utf8 is = record { rest = is.rest; utf8 = utf8; words_are = is.words_are; says = is.says }
-is_command words (commands.Check c) utf8 is = record { rest = is.rest; utf8 = utf8; words_are = is.words_are; says = is.says }
-is_command words (commands.Lift c) utf8 is = record { rest = is.rest; utf8 = utf8; words_are = is.words_are; says = is.says }
-is_command words (commands.Solve c) utf8 is = record { rest = is.rest; utf8 = utf8; words_are = is.words_are; says = is.says }
-is_command words (commands.Classical c) utf8 is = record { rest = is.rest; utf8 = utf8; words_are = is.words_are; says = is.says }
-is_command words (commands.Width c) utf8 is = record { rest = is.rest; utf8 = utf8; words_are = is.words_are; says = is.says }
-is_command words (commands.Bench c) utf8 is = record { rest = is.rest; utf8 = utf8; words_are = is.words_are; says = is.says }
+is_command words c utf8 is = subst (λ (T : Type 0). T) (sym (is_call words c)) (record { rest = is.rest; utf8 = utf8; words_are = is.words_are; says = is.says })
 
 pub is_read : (words : List (Vec ℕ Global)) (c : CommandRef) → IsCommand words c → AreUtf8 (map (λ w. w.items) words) × IsRead (map (λ w. w.items) words) c
-is_read words (commands.Translate c) is = (is.utf8, record { rest = is.rest; words_are = is.words_are; says = is.says })
-is_read words (commands.Merges c) is = (is.utf8, record { rest = is.rest; words_are = is.words_are; says = is.says })
-is_read words (commands.Strip c) is = (is.utf8, record { rest = is.rest; words_are = is.words_are; says = is.says })
-is_read words (commands.Check c) is = (is.utf8, record { rest = is.rest; words_are = is.words_are; says = is.says })
-is_read words (commands.Lift c) is = (is.utf8, record { rest = is.rest; words_are = is.words_are; says = is.says })
-is_read words (commands.Solve c) is = (is.utf8, record { rest = is.rest; words_are = is.words_are; says = is.says })
-is_read words (commands.Classical c) is = (is.utf8, record { rest = is.rest; words_are = is.words_are; says = is.says })
-is_read words (commands.Width c) is = (is.utf8, record { rest = is.rest; words_are = is.words_are; says = is.says })
-is_read words (commands.Bench c) is = (is.utf8, record { rest = is.rest; words_are = is.words_are; says = is.says })
+is_read words c is =
+    let call = subst (λ (T : Type 0). T) (is_call words c) is in
+    (call.utf8, record { rest = call.rest; words_are = call.words_are; says = call.says })
 
 -- words whose verb has nothing of this to say are no command
 pub no_command : (v : Verb) (words : List (Vec ℕ Global)) (rest : Texts) → map (λ w. w.items) words ≡ verb_word v ∷ rest → ((d : ReadAs v) → SaysOf v rest d → ⊥) → IsNoCommand words

@@ -45,6 +45,7 @@ pub enum CommandRef<'a> {
 
 impl<'a> CommandRef<'a> {
     // The command of this verb that these positional words and values are.
+    #[tactic(auto, using(crate::proofs::Verbs::said_by))]
     fn from_line(verb: Verb, line: &Given<'a>) -> Option<CommandRef<'a>>
         requires places { length line.now.places.items ≡ length (places_named verb) }
         requires values { length line.now.values.items ≡ length (options_of verb) }
