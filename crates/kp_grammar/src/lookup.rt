@@ -10,7 +10,7 @@ use kp_lex::TokenKind;
 fn known(text: &[u8], word: &str, symbol: Symbol, other: Symbol) -> Symbol
     ensures { result ≡ (if bytes_eq text.now word.now then symbol else other) }
 {
-    if text == word.as_bytes() {
+    if text.len() == word.len() && text == word.as_bytes() {
         symbol
     } else {
         other
