@@ -56,7 +56,8 @@ fn effects_beside(
         &schema.effect,
         &mut numbering,
     )?;
-    let effects = lasting_effects(alloc, pre, numbering.slice())?;
+    let effects = numbering.into_row(alloc)?;
+    let effects = lasting_effects(alloc, pre, effects)?;
     Ok(effects)
 }
 

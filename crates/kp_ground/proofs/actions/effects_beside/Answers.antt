@@ -16,8 +16,8 @@ returns c =
     let atoms = c.args.atoms.now in
     let os = c.args.objects.now in
     let fs = flat l os (eff_view c.args.schema.now.effect) in
-    c.in_ok-effects.ensures
+    c.in_ok-effects-2.ensures
     ∙ ap (lasting c.args.pre.now)
-    (c.slice.ensures
+    (c.in_ok-effects.ensures
     ∙ (ap (λ (n : List Atom × List Effect). n.1) (c.in_ok-hand_over.ensures ∙ (ap (λ (n : List Atom × List Effect). fold more_made n fs) c.new-numbering.ensures ∙ all_made atoms [] fs))
     ∙ made_once l atoms (schema_view c.args.schema.now) os c.requires))
