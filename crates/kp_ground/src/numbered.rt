@@ -7,7 +7,7 @@ ghost use Rattle.kp_ground.specs.Made.{with_made, made_effect};
 use crate::made::Made;
 use crate::rising::Rising;
 use indexmap::IndexSet;
-use kp_atoms::Atoms;
+use kp_atoms::{Atoms, Recent};
 use kp_base::{AtomId, Effect, Lit, LitSet, Memory, Row};
 use kp_bound::{BoundLit, Sink};
 use std::alloc::Global;
@@ -18,6 +18,7 @@ use std::mem::replace;
 #[derive(Drop)]
 pub struct Numbering<'n> {
     atoms: &'n Atoms,
+    recent: Recent,
     rising: Rising,
     made: IndexSet<Made>,
 }
@@ -37,29 +38,39 @@ impl<'n> Model for Numbering<'n> {
 }
 
 // A literal by the number of its atom.
-fn by_number(atoms: &Atoms, lit: &BoundLit) -> Lit
+fn by_number(atoms: &Atoms, recent: &mut Recent, lit: &BoundLit) -> Lit
     ensures { result ≡ numbered atoms.now (lit_view lit.now) }
 {
     Lit {
-        atom: AtomId(atoms.place(lit.pred, lit.objects)),
+        atom: AtomId(atoms.place_by(recent, lit.pred, lit.objects)),
         positive: lit.positive,
     }
 }
 
 // Adds a literal by the number of its atom.
-fn add_by_number(atoms: &Atoms, lit: &BoundLit, set: &mut LitSet) -> Result<(), Memory>
+fn add_by_number(
+    atoms: &Atoms,
+    recent: &mut Recent,
+    lit: &BoundLit,
+    set: &mut LitSet,
+) -> Result<(), Memory>
     ensures { OnOk result (set.new ≡ with_lit (numbered atoms.now (lit_view lit.now)) set.old) }
 {
-    set.insert(by_number(atoms, lit))
+    set.insert(by_number(atoms, recent, lit))
 }
 
 // Literals by the numbers of their atoms, as a set.
-fn set_by_number(alloc: Global, atoms: &Atoms, lits: &[BoundLit]) -> Result<LitSet, Memory>
+fn set_by_number(
+    alloc: Global,
+    atoms: &Atoms,
+    recent: &mut Recent,
+    lits: &[BoundLit],
+) -> Result<LitSet, Memory>
     ensures { IfOk result (λ set. set ≡ set_of (map (λ l. numbered atoms.now (lit_view l)) lits.now)) }
 {
     let mut set = LitSet::new(alloc);
     for lit in lits {
-        add_by_number(atoms, lit, &mut set)?;
+        add_by_number(atoms, recent, lit, &mut set)?;
     }
     Ok(set)
 }
@@ -100,6 +111,7 @@ impl<'n> Numbering<'n> {
     {
         Numbering {
             atoms,
+            recent: Recent::new(),
             rising: Rising::new(alloc),
             made: IndexSet::new(alloc),
         }
@@ -139,8 +151,8 @@ impl<'n> Sink for Numbering<'n> {
 
     fn take(&mut self, alloc: Global, conds: &[BoundLit], made: &BoundLit) -> Result<(), Memory> {
         let effect = Effect {
-            cond: set_by_number(alloc, self.atoms, conds)?,
-            result: by_number(self.atoms, made),
+            cond: set_by_number(alloc, self.atoms, &mut self.recent, conds)?,
+            result: by_number(self.atoms, &mut self.recent, made),
         };
         self.add(alloc, effect)?;
         Ok(())
