@@ -1,6 +1,6 @@
 use Rattle.std.proofs.Common.{◌≡◌, ℕ, Bool, not, Some, length, slice_get}
 use Rattle.kp_kept.specs.Tables.{has_number}
-use Rattle.kp_kept.proofs.statics.static_marks.Given as goal
+use Rattle.kp_kept.proofs.changes.static_marks.Given as goal
 
 -- each mark so far is right
 abbrev pub invariant-loop-q : goal.invariant-loop-q
