@@ -1,6 +1,6 @@
 -- Atoms as a set keeps them: what is found, added and sorted there.
-use Rattle.std.proofs.Common.{◌≡◌, ℕ, suc, ◌+◌, Bool, true, false, List, [], ◌∷◌, length, map, get_or, refl, sym, ap, subst, ◌∙◌, arith, is_lt, Ordering, Less, Equal, Greater, nat_cmp, IsSorted, bytes_eq, Vec, Global, Some, None, position, cond, not, nat_lt}
-use Rattle.std.specs.List.{list_any, list_all, IsDistinct, position_or_len}
+use Rattle.std.proofs.Common.{◌≡◌, ℕ, zero, suc, ◌<◌, slice_get, ◌+◌, Bool, true, false, List, [], ◌∷◌, length, map, get_or, refl, sym, ap, subst, ◌∙◌, arith, is_lt, Ordering, Less, Equal, Greater, nat_cmp, IsSorted, bytes_eq, Vec, Global, Some, None, position, cond, not, nat_lt}
+use Rattle.std.specs.List.{list_any, list_all, IsDistinct, AllByRecursion, position_or_len}
 use Rattle.std.specs.Ordering.{ordering_reverse, ordering_then, is_eq}
 use Rattle.std.specs.Cmp.Lexicographic.{slice_cmp, texts_ties, nat_list_cmp_total}
 use Rattle.std.proofs.lemmas.Bool.{and_from, false≢true, ltb-false}
@@ -8,12 +8,12 @@ use Rattle.std.proofs.lemmas.Bool.Decides.{nat_tests}
 use Rattle.std.proofs.lemmas.Cmp.{same_from_slice_cmp}
 use Rattle.std.proofs.lemmas.List.Sums.{prefix_len-le-length}
 use Rattle.std.proofs.lemmas.Map.Keys.{IsDistinct-head, IsDistinct-tail}
-use Rattle.kp_base.proofs.Lists.{all_weaker, any_map, any_member, any_from, bool_same}
+use Rattle.kp_base.proofs.Lists.{all_weaker, any_map, any_member, any_from, bool_same, member_at}
 use Rattle.kp_grounding.specs.declared.flat.Atom.{Atom}
 use Rattle.kp_grounding.specs.Ground.{list_before, atom_before, same_atom, has_atom, number_of}
 use Rattle.kp_grounding.specs.Laws.{IsAscending}
 use Rattle.kp_grounding.proofs.Atoms.{transitive, same_atom-true, same_atom-refl}
-use Rattle.kp_atoms.specs.Gathered.{kept_atom}
+use Rattle.kp_atoms.specs.Gathered.{kept_atom, IsPlaced}
 
 -- ---- the order
 
@@ -71,6 +71,12 @@ key_orders j k = before_is (j.0 ∷ j.1.items) (k.0 ∷ k.1.items)
 
 -- ---- places
 
+-- what stands at a place of a list
+pub got : {K : Type 0} (ks : List K) (n : ℕ) (k : K) → n < length ks → k ≡ get_or ks n k → slice_get ks n ≡ Some k
+got [] n k lt is = absurd (omega arith)
+got (j ∷ ks) zero k lt is = ap Some (sym is)
+got (j ∷ ks) (suc n) k lt is = got ks n k (omega arith) is
+
 module _ {K : Type 0} (seen : K → Atom) where
   number_seen : (a : Atom) (ks : List K) → position_or_len (λ k. same_atom a (seen k)) ks ≡ number_of (map seen ks) a
   number_seen a [] = refl
@@ -94,3 +100,36 @@ module _ {K : Type 0} (seen : K → Atom) where
           let above = ltb-false (position_or_len (λ k. same_atom q (seen k)) ks) (length ks) t in
           let within = prefix_len-le-length (λ k. not (same_atom q (seen k))) ks in
           omega arith
+
+  -- what is the same as the key at a place has the place as its number, where keys differ
+  pub placed : (eq : K → K → Bool) → ((j k : K) → eq j k ≡ same_atom (seen j) (seen k)) → (ks : List K) (a : Atom) (n : ℕ) (k : K) → IsDistinct eq ks → slice_get ks n ≡ Some k → same_atom a (seen k) ≡ true → IsPlaced (map seen ks) n a
+  placed eq tells ks a n k d at h = record { there = there ks n at; number = number ks n d at }
+    where
+      one : a ≡ seen k
+      one = same_atom-true a (seen k) h
+
+      there : (ks : List K) (n : ℕ) → slice_get ks n ≡ Some k → has_atom (map seen ks) a ≡ true
+      there ks n at = any_map seen (same_atom a) (λ j. same_atom a (seen j)) ks (λ j. refl) ∙ any_from (λ j. same_atom a (seen j)) ks k (member_at ks n k at) h
+
+      number : (ks : List K) (n : ℕ) → IsDistinct eq ks → slice_get ks n ≡ Some k → n ≡ number_of (map seen ks) a
+      number [] n d at = cc
+      number (j ∷ ks) zero d at =
+          let same : j ≡ k = cc in
+          sym (ap (λ b. cond (not b) (1 + number_of (map seen ks) a) 0) (subst (λ x. same_atom a (seen x) ≡ true) (sym same) h))
+      number (j ∷ ks) (suc n) d at =
+          let apart : same_atom a (seen j) ≡ false = other (same_atom a (seen j)) refl in
+          let rest = number ks n (IsDistinct-tail eq j ks d) at in
+          let next : suc n ≡ 1 + number_of (map seen ks) a = omega (arith, rest) in
+          next ∙ sym (ap (λ b. cond (not b) (1 + number_of (map seen ks) a) 0) apart)
+        where
+          all_at : (ks : List K) (n : ℕ) → AllByRecursion (λ y. eq j y ≡ false) ks → slice_get ks n ≡ Some k → eq j k ≡ false
+          all_at [] n all at = cc
+          all_at (y ∷ ys) zero all at = let same : y ≡ k = cc in subst (λ x. eq j x ≡ false) same all.0
+          all_at (y ∷ ys) (suc n) all at = all_at ys n all.1 at
+
+          clash : same_atom a (seen j) ≡ true → eq j k ≡ true
+          clash e = tells j k ∙ subst (λ x. same_atom x (seen k) ≡ true) (same_atom-true a (seen j) e) h
+
+          other : (b : Bool) → same_atom a (seen j) ≡ b → same_atom a (seen j) ≡ false
+          other false e = e
+          other true e = absurd (false≢true (sym (all_at ks n (IsDistinct-head eq j ks d) at) ∙ clash e))

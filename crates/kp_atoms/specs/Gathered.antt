@@ -1,9 +1,9 @@
 -- Atoms that are gathered one by one, each once, up to one beyond a limit, and sorted.
-use Rattle.std.specs.Prelude.{◌≡◌, ℕ, List, [], ◌∷◌, ◌++◌, if◌then◌else◌, fold, length, nat_lt, Vec}
+use Rattle.std.specs.Prelude.{◌≡◌, ℕ, true, List, [], ◌∷◌, ◌++◌, if◌then◌else◌, fold, length, nat_lt, Vec}
 use Rattle.std.specs.declared.alloc.Global.{Global}
 use Rattle.kp_meaning.specs.declared.lifted.GroundLit.{GroundLit}
 use Rattle.kp_grounding.specs.declared.flat.Atom.{Atom}
-use Rattle.kp_grounding.specs.Ground.{has_atom, atom_of}
+use Rattle.kp_grounding.specs.Ground.{has_atom, atom_of, number_of}
 use Rattle.kp_grounding.specs.Laws.{IsAscending}
 
 -- an atom as a set keeps it
@@ -27,3 +27,8 @@ pub record IsSortOf (old new : List Atom) : Type 0 where
   pub same : (a : Atom) → has_atom new a ≡ has_atom old a
   pub long : length new ≡ length old
   pub ascending : IsAscending new
+
+-- the atom stands in the list, and this is its number
+pub record IsPlaced (atoms : List Atom) (n : ℕ) (a : Atom) : Type 0 where
+  pub there : has_atom atoms a ≡ true
+  pub number : n ≡ number_of atoms a

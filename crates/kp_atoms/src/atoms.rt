@@ -1,9 +1,10 @@
-ghost use Rattle.std.specs.Prelude.{◌≡◌, true, [], length, IfOk, OnOk};
+ghost use Rattle.std.specs.Prelude.{◌≡◌, true, [], length, IfOk, IfSome, OnOk};
 ghost use Rattle.kp_meaning.specs.Lifted.{ground};
 ghost use Rattle.kp_grounding.specs.Ground.{atom_of, number_of};
-ghost use Rattle.kp_atoms.specs.Gathered.{kept_atom, with_atom, with_atom_within, IsSortOf};
+ghost use Rattle.kp_atoms.specs.Gathered.{kept_atom, with_atom, with_atom_within, IsPlaced, IsSortOf};
 
 use crate::parts::Parts;
+use crate::recent::Recent;
 use indexmap::IndexSet;
 use kp_base::{Memory, Row};
 use kp_grounding::Atom;
@@ -15,6 +16,7 @@ use std::marker::Model;
 #[derive(Drop)]
 pub struct Atoms {
     set: IndexSet<(u32, Vec<u32>)>,
+    recent: Recent,
 }
 
 impl Model for Atoms {
@@ -53,6 +55,7 @@ impl Atoms {
     {
         Atoms {
             set: IndexSet::new(alloc),
+            recent: Recent::new(),
         }
     }
 
@@ -74,14 +77,57 @@ impl Atoms {
         Ok(())
     }
 
+    // Whether the atom stands at this place.
+    fn is_at(&self, place: u32, parts: &Parts) -> bool
+        ensures { result ≡ true → IsPlaced self.now place (atom_of (ground true parts.now.pred parts.now.objects.now)) }
+    {
+        match self.set.as_slice().get(place as usize) {
+            Some(key) => parts.names(key),
+            None => false,
+        }
+    }
+
+    // The place of the atom, where it is this or the next.
+    fn near(&self, place: u32, parts: &Parts) -> Option<u32>
+        ensures { IfSome result (λ n. IsPlaced self.now n (atom_of (ground true parts.now.pred parts.now.objects.now))) }
+    {
+        if self.is_at(place, parts) {
+            return Some(place);
+        }
+        let next = place.saturating_add(1);
+        if self.is_at(next, parts) {
+            return Some(next);
+        }
+        None
+    }
+
+    // Adds an atom, where it is new, which is looked for by hash.
+    fn insert_far(&mut self, alloc: Global, parts: &Parts) -> Result<(), Memory>
+        ensures { OnOk result (self.new ≡ with_atom self.old (atom_of (ground true parts.now.pred parts.now.objects.now))) }
+    {
+        match self.set.get_index_of(parts) {
+            Some(place) => {
+                self.recent.note(parts.pred, place as u32);
+                Ok(())
+            }
+            None => {
+                self.recent.note(parts.pred, self.set.len() as u32);
+                self.push(alloc, parts)
+            }
+        }
+    }
+
     // Adds an atom, where it is new.
     fn insert(&mut self, alloc: Global, parts: &Parts) -> Result<(), Memory>
         ensures { OnOk result (self.new ≡ with_atom self.old (atom_of (ground true parts.now.pred parts.now.objects.now))) }
     {
-        if self.set.contains(parts) {
-            return Ok(());
+        match self.near(self.recent.of(parts.pred), parts) {
+            Some(place) => {
+                self.recent.note(parts.pred, place);
+                Ok(())
+            }
+            None => self.insert_far(alloc, parts),
         }
-        self.push(alloc, parts)
     }
 
     /// Adds the atom of this predicate and these objects, where it is new and there are no more atoms than the limit.
@@ -123,6 +169,18 @@ impl Atoms {
             Some(number) => number as u32,
             None => self.set.len() as u32,
         }
+    }
+
+    /// The same, where the atom is looked for first at the place of an atom of its predicate that was found last.
+    pub fn place_by(&self, recent: &mut Recent, pred: u32, objects: &[u32]) -> u32
+        ensures { result ≡ number_of self.now (atom_of (ground true pred objects.now)) }
+    {
+        let place = match self.near(recent.of(pred), &Parts { pred, objects }) {
+            Some(place) => place,
+            None => self.place(pred, objects),
+        };
+        recent.note(pred, place);
+        place
     }
 
     /// The number of a literal's atom; how many atoms there are, where it is none of them.

@@ -5,7 +5,9 @@ mod atoms;
 mod gathering;
 mod numbers;
 mod parts;
+mod recent;
 
 pub use atoms::Atoms;
 pub use gathering::add_literals;
 pub use numbers::{literal, literal_set};
+pub use recent::Recent;

@@ -1,3 +1,8 @@
+ghost use Rattle.std.specs.Prelude.{◌≡◌, true};
+ghost use Rattle.kp_meaning.specs.Lifted.{ground};
+ghost use Rattle.kp_grounding.specs.Ground.{atom_of, same_atom};
+ghost use Rattle.kp_atoms.specs.Gathered.{kept_atom};
+
 use indexmap::Equivalent;
 
 /// An atom that is looked up: its predicate, and its objects where they lie.
@@ -7,6 +12,15 @@ pub struct Parts<'a> {
     pub pred: u32,
     /// The objects, in order.
     pub objects: &'a [u32],
+}
+
+impl<'a> Parts<'a> {
+    /// Whether a set keeps the atom so.
+    pub fn names(&self, key: &(u32, Vec<u32>)) -> bool
+        ensures { result ≡ same_atom (atom_of (ground true self.now.pred self.now.objects.now)) (kept_atom key.now) }
+    {
+        self.pred == key.0 && self.objects == key.1.as_slice()
+    }
 }
 
 impl<'a> Equivalent<(u32, Vec<u32>)> for &Parts<'a> {

@@ -4,13 +4,14 @@ ghost use Rattle.kp_bound.specs.Literals.{lit_view};
 use crate::literal::{BoundLit, all_owned};
 use kp_base::{Memory, Row};
 use kp_meaning::GroundLit;
+use smallvec::SmallVec;
 use std::alloc::Global;
 use std::marker::Model;
 
 /// The conditions round a place of an effect, from the outermost on.
 #[derive(Drop)]
 pub struct Conditions<'a> {
-    literals: Vec<BoundLit<'a>>,
+    literals: SmallVec<BoundLit<'a>, 4>,
 }
 
 impl<'a> Model for Conditions<'a> {
@@ -29,7 +30,7 @@ impl<'a> Conditions<'a> {
         ensures { result ≡ [] }
     {
         Conditions {
-            literals: Vec::new(alloc),
+            literals: SmallVec::new(alloc),
         }
     }
 
@@ -59,7 +60,7 @@ impl<'a> Conditions<'a> {
     pub fn slice(&self) -> &[BoundLit<'a>]
         ensures { map lit_view result.now ≡ self.now }
     {
-        &self.literals
+        self.literals.as_slice()
     }
 
     /// Copies of the literals, with objects of their own.

@@ -6,7 +6,7 @@ use kp_meaning::GroundLit;
 use std::alloc::Global;
 
 /// An atom or its negation, whose objects lie in a tree.
-#[derive(Clone, Copy, PartialEq, Eq, PartialOrd, Ord, Hash)]
+#[derive(Clone, Copy, Default, PartialEq, Eq, PartialOrd, Ord, Hash)]
 pub struct BoundLit<'a> {
     /// Whether it is the atom itself.
     pub positive: bool,

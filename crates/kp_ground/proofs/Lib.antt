@@ -7,3 +7,4 @@ pub mod InSets
 pub mod LoopSteps
 pub mod Injective
 pub mod Taken
+pub mod Ascents

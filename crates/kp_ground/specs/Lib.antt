@@ -2,3 +2,4 @@ pub mod Grounded
 pub mod Passes
 pub mod Adds
 pub mod Made
+pub mod Ascents

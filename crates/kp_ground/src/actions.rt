@@ -34,7 +34,32 @@ fn pre_by_number(
     Ok(pre)
 }
 
-// The effects of a schema with these objects, by number, that last beside this precondition.
+// The effects of a schema with these objects, by number, each once.
+fn effects_by_number(
+    bump: &mut Bump,
+    alloc: Global,
+    statics: &Statics,
+    atoms: &Atoms,
+    objects: &[u32],
+    schema: &Schema,
+) -> Result<Row<Effect>, Memory>
+    requires { IsKnown (problem_of statics.now) atoms.now (schema_view schema.now) objects.now }
+    ensures { IfOk result (λ row. row ≡ map (numbered_effect atoms.now) (flat_of (problem_of statics.now) (schema_view schema.now) objects.now).effects) }
+{
+    let mut numbering = Numbering::new(alloc, atoms);
+    hand_over(
+        bump,
+        alloc,
+        statics,
+        objects,
+        &schema.effect,
+        &mut numbering,
+    )?;
+    let row = numbering.into_row(alloc)?;
+    Ok(row)
+}
+
+// Those of them that last beside this precondition.
 fn effects_beside(
     bump: &mut Bump,
     alloc: Global,
@@ -47,17 +72,8 @@ fn effects_beside(
     requires { IsKnown (problem_of statics.now) atoms.now (schema_view schema.now) objects.now }
     ensures { IfOk result (λ row. row ≡ lasting pre.now (map (numbered_effect atoms.now) (flat_of (problem_of statics.now) (schema_view schema.now) objects.now).effects)) }
 {
-    let mut numbering = Numbering::new(alloc, atoms);
-    hand_over(
-        bump,
-        alloc,
-        statics,
-        objects,
-        &schema.effect,
-        &mut numbering,
-    )?;
-    let effects = lasting_effects(alloc, pre, numbering.slice())?;
-    Ok(effects)
+    let effects = effects_by_number(bump, alloc, statics, atoms, objects, schema)?;
+    lasting_effects(alloc, pre, effects)
 }
 
 // The action of this name of a schema with these objects.

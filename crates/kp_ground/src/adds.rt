@@ -1,9 +1,7 @@
-ghost use Rattle.std.specs.Prelude.{◌≡◌, ℕ, map, [], ◌∷◌, ◌++◌, nat_eq, option_copied, IfOk, OnOk};
+ghost use Rattle.std.specs.Prelude.{◌≡◌, ℕ, [], ◌∷◌, ◌++◌, nat_eq, option_copied, IfOk, OnOk};
 ghost use Rattle.kp_base.specs.Lists.{only_if};
 ghost use Rattle.kp_ground.specs.Adds.{adds_of, pointed, adds_at};
-ghost use Rattle.kp_ground.specs.Made.{made_effect};
 
-use crate::made::Made;
 use indexmap::IndexMap;
 use kp_base::{Effect, Memory, Row};
 use std::alloc::Global;
@@ -48,12 +46,12 @@ impl<'e> Adds<'e> {
     }
 
     /// The adds among some effects.
-    pub fn of(alloc: Global, effects: &'e [Made]) -> Result<Adds<'e>, Memory>
-        ensures { IfOk result (λ adds. (n : ℕ) → adds_at adds n ≡ adds_of (map made_effect effects.now) n) }
+    pub fn of(alloc: Global, effects: &'e [Effect]) -> Result<Adds<'e>, Memory>
+        ensures { IfOk result (λ adds. (n : ℕ) → adds_at adds n ≡ adds_of effects.now n) }
     {
         let mut adds = Adds::new(alloc);
-        for made in effects {
-            adds.note(alloc, &made.effect)?;
+        for effect in effects {
+            adds.note(alloc, effect)?;
         }
         Ok(adds)
     }

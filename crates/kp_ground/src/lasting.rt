@@ -5,10 +5,8 @@ ghost use Rattle.kp_base.specs.Steps.{has};
 ghost use Rattle.kp_base.specs.Implicates.{is_within};
 ghost use Rattle.kp_grounding.specs.Ground.{lasting};
 ghost use Rattle.kp_ground.specs.Adds.{adds_at, covered};
-ghost use Rattle.kp_ground.specs.Made.{made_effect};
 
 use crate::adds::Adds;
-use crate::made::Made;
 use kp_base::{Effect, Lit, LitSet, Memory, Row};
 use std::alloc::Global;
 
@@ -74,42 +72,34 @@ fn keep(
 }
 
 // The effects without idle deletes.
-fn without_idle(alloc: Global, pre: &LitSet, effects: &[Made]) -> Result<Row<Effect>, Memory>
-    ensures { IfOk result (λ row. row ≡ lasting pre.now (map made_effect effects.now)) }
+fn without_idle(alloc: Global, pre: &LitSet, effects: &[Effect]) -> Result<Row<Effect>, Memory>
+    ensures { IfOk result (λ row. row ≡ lasting pre.now effects.now) }
 {
     let adds = Adds::of(alloc, effects)?;
     let mut row = Row::new(alloc);
-    for made in effects {
-        keep(alloc, &adds, pre, &made.effect, &mut row)?;
+    for effect in effects {
+        keep(alloc, &adds, pre, effect, &mut row)?;
     }
     Ok(row)
 }
 
 // Whether some effect is a delete.
-fn some_delete(effects: &[Made]) -> bool
-    ensures { result ≡ list_any (λ made. not made.effect.result.positive) effects.now }
+fn some_delete(effects: &[Effect]) -> bool
+    ensures { result ≡ list_any (λ effect. not effect.result.positive) effects.now }
 {
-    effects.iter().any(|made| !made.effect.result.positive)
-}
-
-// Copies of all effects.
-fn all_copied(alloc: Global, effects: &[Made]) -> Result<Row<Effect>, Memory>
-    ensures { IfOk result (λ row. row ≡ map made_effect effects.now) }
-{
-    let mut row = Row::new(alloc);
-    for made in effects {
-        row.push(copied(alloc, &made.effect)?)?;
-    }
-    Ok(row)
+    effects.iter().any(|effect| !effect.result.positive)
 }
 
 /// The effects without idle deletes. Where there are no deletes, no table of adds is made.
-pub fn lasting_effects(alloc: Global, pre: &LitSet, effects: &[Made]) -> Result<Row<Effect>, Memory>
-    ensures { IfOk result (λ row. row ≡ lasting pre.now (map made_effect effects.now)) }
+pub fn lasting_effects(
+    alloc: Global,
+    pre: &LitSet,
+    effects: Row<Effect>,
+) -> Result<Row<Effect>, Memory>
+    ensures { IfOk result (λ row. row ≡ lasting pre.now effects) }
 {
-    if some_delete(effects) {
-        return without_idle(alloc, pre, effects);
+    if !some_delete(effects.slice()) {
+        return Ok(effects);
     }
-    let row = all_copied(alloc, effects)?;
-    Ok(row)
+    without_idle(alloc, pre, effects.slice())
 }

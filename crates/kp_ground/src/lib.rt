@@ -11,6 +11,7 @@ mod made;
 mod names;
 mod numbered;
 mod occurring;
+mod rising;
 
 pub use grounding::{GroundWithAtoms, ground, ground_with_atoms};
 pub use kp_bound::{BoundCond, BoundEff, BoundNode, bind, flatten};

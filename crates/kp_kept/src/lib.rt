@@ -4,6 +4,7 @@
 mod atom_set;
 mod bindings;
 mod changed;
+mod changes;
 mod counting;
 mod keeping;
 mod kept;

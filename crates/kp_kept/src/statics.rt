@@ -4,9 +4,8 @@ ghost use Rattle.kp_grounding.specs.Static.{is_static, initially};
 ghost use Rattle.kp_kept.specs.Tables.{has_number, has_atom};
 
 use crate::atom_set::AtomSet;
-use crate::changed::changed_predicates;
+use crate::changes::Changes;
 use crate::stated::stated_atoms;
-use indexmap::IndexSet;
 use kp_base::Memory;
 use kp_names::Lifted;
 use std::alloc::Global;
@@ -16,9 +15,9 @@ use std::alloc::Global;
 pub struct Statics<'a> {
     /// The problem.
     pub lifted: &'a Lifted,
-    changed: IndexSet<u32>,
+    changes: Changes,
     stated: AtomSet<'a>,
-    ghost changed_right: { (q : ℕ) → has_number changed.keys q ≡ not (is_static (lifted_view lifted.now) q) },
+    ghost changed_right: { (q : ℕ) → has_number changes.changed.keys q ≡ not (is_static (lifted_view lifted.now) q) },
     ghost stated_right: { (q : ℕ) (os : List ℕ) → has_atom stated q os ≡ initially (lifted_view lifted.now) q os },
 }
 
@@ -29,7 +28,7 @@ impl<'a> Statics<'a> {
     {
         Ok(Statics {
             lifted,
-            changed: changed_predicates(alloc, lifted)?,
+            changes: Changes::of(alloc, lifted)?,
             stated: stated_atoms(alloc, lifted)?,
         })
     }
@@ -38,7 +37,7 @@ impl<'a> Statics<'a> {
     pub fn is_static(&self, pred: u32) -> bool
         ensures { result ≡ is_static (lifted_view self.now.lifted.now) pred }
     {
-        !self.changed.contains(&pred)
+        !self.changes.has(pred)
     }
 
     /// Whether `:init` states an atom.

@@ -1,12 +1,11 @@
-use Rattle.std.proofs.Common.{◌≡◌, List, refl, sym, ap, ap₂, map, ◌∙◌}
+use Rattle.std.proofs.Common.{◌≡◌, ◌++◌, refl, sym, ap, ap₂, map, ◌∙◌}
 use Rattle.kp_base.specs.declared.ground.Effect.{Effect}
 use Rattle.kp_base.specs.LitSet.{set_of}
 use Rattle.kp_base.proofs.Lists.{map_map}
-use Rattle.kp_grounding.specs.declared.flat.Atom.{Atom}
 use Rattle.kp_grounding.specs.declared.flat.FlatEffect.{FlatEffect}
 use Rattle.kp_grounding.specs.Ground.{numbered, numbered_effect}
 use Rattle.kp_bound.specs.Literals.{lit_view}
-use Rattle.kp_ground.specs.Made.{with_made}
+use Rattle.kp_ground.specs.Made.{with_made, made_effect}
 use Rattle.kp_ground.proofs.numbered.NumberingSink.take.Goals as goal
 
 pub returns : goal.returns
@@ -19,5 +18,4 @@ returns c =
     (c.in_ok-set_by_number.ensures ∙ ap set_of (sym (map_map lit_view (numbered atoms) (λ l. numbered atoms (lit_view l)) c.args.conds.now (λ l. refl))))
     c.by_number.ensures
     in
-    let at : c.args.self.now.0 ≡ atoms = ap (λ (v : List Atom × List Effect). v.0) (sym c.self.view_is) in
-    c.in_ok-add.ensures ∙ ap (λ (e : Effect). (c.args.self.now.0, with_made c.args.self.now.1 e)) (same ∙ ap (λ (as' : List Atom). numbered_effect as' told) (sym at))
+    rw (← c.self.view_is) (c.in_ok-add.ensures ∙ ap (λ (e : Effect). (atoms, with_made (map made_effect c.self.inside.made.keys ++ c.self.inside.rising) e)) same)

@@ -3,11 +3,10 @@ use Rattle.kp_base.specs.declared.ground.Effect.{Effect}
 use Rattle.kp_names.specs.View.{schema_view, eff_view}
 use Rattle.kp_grounding.specs.declared.flat.Atom.{Atom}
 use Rattle.kp_grounding.specs.Flattening.{flat}
-use Rattle.kp_grounding.specs.Ground.{lasting}
 use Rattle.kp_bound.specs.Problem.{problem_of}
 use Rattle.kp_ground.proofs.Injective.{made_once}
 use Rattle.kp_ground.proofs.Taken.{more_made, all_made}
-use Rattle.kp_ground.proofs.actions.effects_beside.Goals as goal
+use Rattle.kp_ground.proofs.actions.effects_by_number.Goals as goal
 
 -- each effect comes once by number, as in the flat form
 pub returns : goal.returns
@@ -16,8 +15,6 @@ returns c =
     let atoms = c.args.atoms.now in
     let os = c.args.objects.now in
     let fs = flat l os (eff_view c.args.schema.now.effect) in
-    c.in_ok-effects.ensures
-    ∙ ap (lasting c.args.pre.now)
-    (c.slice.ensures
+    c.in_ok-row.ensures
     ∙ (ap (λ (n : List Atom × List Effect). n.1) (c.in_ok-hand_over.ensures ∙ (ap (λ (n : List Atom × List Effect). fold more_made n fs) c.new-numbering.ensures ∙ all_made atoms [] fs))
-    ∙ made_once l atoms (schema_view c.args.schema.now) os c.requires))
+    ∙ made_once l atoms (schema_view c.args.schema.now) os c.requires)

@@ -1,0 +1,14 @@
+use Rattle.std.proofs.Common.{◌∙◌, refl, sym, ap, is_some, map, true, if◌then◌else◌, Bool, ◌++◌, ◌∷◌, []}
+use Rattle.kp_base.proofs.Lists.{any_map}
+use Rattle.kp_meaning.specs.Lifted.{ground}
+use Rattle.kp_grounding.specs.Ground.{atom_of, same_atom}
+use Rattle.kp_atoms.specs.Gathered.{kept_atom}
+use Rattle.kp_atoms.proofs.atoms.Atoms.insert_far.Goals as goal
+
+-- an atom that is there doesn't come again
+pub returns-in-Some : goal.returns-in-Some
+returns-in-Some c =
+    let a = atom_of (ground true c.args.parts.now.pred c.args.parts.now.objects.now) in
+    let old = map kept_atom c.self.inside.set.keys in
+    let there = any_map kept_atom (same_atom a) (λ k. same_atom a (kept_atom k)) c.self.inside.set.keys (λ k. refl) ∙ (sym c.get_index_of.ensures.found ∙ ap is_some c.in-Some.is) in
+    rw (← c.self.view_is) (sym (ap (λ (b : Bool). if b then old else old ++ a ∷ []) there))
