@@ -96,7 +96,8 @@ fn best_by(number: u32, pairs: &Pairs, action: &Action, slots: &[bool; SLOTS]) -
     first
 }
 
-// The first clash of an action. One that deletes nothing has none, and for one with few effects no slots are marked.
+// The first clash of an action. One that deletes nothing has none; for one with few effects the slots that are all
+// marked serve.
 fn best(number: u32, pairs: &Pairs, any: &[bool; SLOTS], action: &Action) -> Option<ClashAt>
     requires few { length action.now.effects ≤ 4294967295 }
     requires any { (effects : List EffectOf) → all_noted any.now effects ≡ true }

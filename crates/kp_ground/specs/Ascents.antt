@@ -33,7 +33,7 @@ pub record IsUnder (last : ℕ → Option ℕ) (es : List Effect) (e : Effect) :
   pub there : slice_get es place ≡ Some other
   pub under : lits_cmp other.cond e.cond ≡ Less → ⊥
 
--- the table has for the code of each result the place of the last effect with it, and no effect has a greater condition
+-- the table has for the code of each result the place of an effect with it, and no effect with it has a greater condition
 pub record IsRising (last : ℕ → Option ℕ) (es : List Effect) : Type 0 where
   pub leads : (n place : ℕ) → last n ≡ Some place → LeadsTo es n place
   pub under : (e : Effect) → Member es e → IsUnder last es e

@@ -1,4 +1,4 @@
--- What `translate` answers: the task of a ground problem and a table, or that it is larger than a limit allows.
+-- What `translate` answers: the task of a ground problem and a table, or that it is larger than a limit allows; and what `outline` answers of it.
 use Rattle.std.specs.Prelude.{◌≡◌, ◌<◌, ◌≤◌, ℕ, [], length, Result, Ok, Err}
 use Rattle.kp_base.specs.declared.lit.Lit.{Lit}
 use Rattle.kp_base.specs.declared.ground.Ground.{Ground}

@@ -1,5 +1,5 @@
 -- Names such that `clap` tells the arguments apart: what computing shows of all of them, and what follows for each.
-use Rattle.std.proofs.Common.{◌≡◌, ◌+◌, ◌<◌, ℕ, true, List, [], ◌∷◌, ◌++◌, Some, map, length, nat_lt, refl, sym, true≢false, arith}
+use Rattle.std.proofs.Common.{◌≡◌, ◌+◌, ◌≤◌, ℕ, true, List, [], ◌∷◌, ◌++◌, Some, map, length, nat_lt, refl, sym, true≢false, arith}
 use Rattle.std.specs.List.{list_all}
 use Rattle.clap.proofs.WalkLemmas.{both}
 use Rattle.clap.specs.Walk.{Rule, arg_by_id, arg_by_index, arg_by_long}
@@ -12,7 +12,7 @@ use Rattle.kp_line.proofs.Options.{long_apart, long_joined}
 pub computed : {name : List ℕ} {ids options : List (List ℕ)} → is_simple (app_of_form name ids options) ≡ true → list_all is_loose (built_rules ids options) ≡ true
     → map (arg_by_long (built_rules ids options)) options ≡ map (λ o. Some (built_option o)) options → map (arg_by_id (built_rules ids options)) options ≡ map (λ o. Some (built_option o)) options
     → found_from (built_rules ids options) 1 ids ≡ places_from 1 ids → map (arg_by_id (built_rules ids options)) ids ≡ places_from 1 ids
-    → nat_lt (length ids) 99 ≡ true → differ (ids ++ options) ≡ true → list_all is_name options ≡ true → Fits name ids options
+    → nat_lt (length ids) 100 ≡ true → differ (ids ++ options) ≡ true → list_all is_name options ≡ true → Fits name ids options
 computed simple loose longs by_id by_index places few differ named =
     record { simple = simple; loose = loose; options_by_long = longs; options_by_id = by_id; places_by_index = by_index; places_by_id = places; few = few; names_differ = differ; named = named }
 
@@ -30,7 +30,7 @@ each_known c ((b ∷ rest) ∷ options) named longs ids =
       each_known c options parts.1 longs_behind ids_behind,
     )
 
-pub each_place : (c : List Rule) (k : ℕ) (ids : List (List ℕ)) → k + length ids < 100 → found_from c k ids ≡ places_from k ids → map (arg_by_id c) ids ≡ places_from k ids → HasPlaces c k ids
+pub each_place : (c : List Rule) (k : ℕ) (ids : List (List ℕ)) → k + length ids ≤ 100 → found_from c k ids ≡ places_from k ids → map (arg_by_id c) ids ≡ places_from k ids → HasPlaces c k ids
 each_place c k [] few found named = tt
 each_place c k (id ∷ ids) few found named =
     let by_index : arg_by_index c k ≡ Some (built_place k id) = cc found in

@@ -131,7 +131,7 @@ pub record Fits (name : List ℕ) (ids options : List (List ℕ)) : Type 0 where
   pub options_by_id : map (arg_by_id (built_rules ids options)) options ≡ map (λ o. Some (built_option o)) options
   pub places_by_index : found_from (built_rules ids options) 1 ids ≡ places_from 1 ids
   pub places_by_id : map (arg_by_id (built_rules ids options)) ids ≡ places_from 1 ids
-  pub few : nat_lt (length ids) 99 ≡ true
+  pub few : nat_lt (length ids) 100 ≡ true
   pub names_differ : differ (ids ++ options) ≡ true
   pub named : list_all is_name options ≡ true
 

@@ -1,4 +1,4 @@
--- Clauses as they are gathered, before they are put in order. This file serves proofs alone.
+-- Clauses as they are gathered, before they are put in order; and literals to which no other is relevant. This file serves proofs alone.
 use Rattle.std.specs.Prelude.{◌≡◌, ℕ, Bool, true, not, ◌&&◌, ◌++◌, List, filter, map, length, nat_lt}
 use Rattle.std.specs.List.{list_any, list_all, range_with_len}
 use Rattle.kp_base.specs.declared.lit.Lit.{Lit}

@@ -54,6 +54,7 @@ fn no_clauses(alloc: Global, relevance: &Relevance, primes: &Primes, target: Lit
     requires lone { IsLone relevance.now target }
     ensures { AnswersClausesFor relevance.now primes.now target result }
 {
+    // (what always holds of prime implicates is known behind a call on them)
     let _clauses = primes.clauses();
     Row::new(alloc)
 }

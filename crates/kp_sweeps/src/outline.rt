@@ -6,7 +6,7 @@ use kp_pairs::{Pairs, WORDS, words_of};
 use std::alloc::Global;
 
 /// Two words for each atom, with a bit for each block: in which blocks there are atoms that are its pairs, and in which
-/// there are others. Word k of a row is of block k modulo 64.
+/// there are others. Word k of a row is of block k modulo 64, so beyond 4,096 atoms blocks share a bit.
 #[derive(Drop)]
 pub(crate) struct Outline {
     some: Vec<u64>,
