@@ -6,7 +6,7 @@ use Rattle.kp_base.proofs.Lists.{same_member, any_from, all_member, bool_same}
 use Rattle.kp_grounding.specs.declared.flat.Atom.{Atom}
 use Rattle.kp_grounding.specs.Ground.{atom_before, same_atom, has_atom}
 use Rattle.kp_grounding.specs.Laws.{IsAscending}
-use Rattle.kp_grounding.proofs.Atoms.{irreflexive, transitive, same_atom-true, same_atom-refl}
+use Rattle.kp_grounding.proofs.Public.{atom_never_before_itself, atom_before_transitive, same_atom-true, same_atom-refl}
 
 pub has-member : (atoms : List Atom) (a : Atom) → Member atoms a → has_atom atoms a ≡ true
 has-member atoms a m = any_from (same_atom a) atoms a m (same_atom-refl a)
@@ -22,7 +22,7 @@ behind : (x : Atom) (xs : List Atom) → IsAscending (x ∷ xs) → (a : Atom) �
 behind x xs s a h = all_member (atom_before x) xs a (member-has xs a h) s.0
 
 not_again : (x : Atom) (xs : List Atom) → IsAscending (x ∷ xs) → has_atom xs x ≡ true → ⊥
-not_again x xs s h = irreflexive x (behind x xs s x h)
+not_again x xs s h = atom_never_before_itself x (behind x xs s x h)
 
 -- the first atoms of two lists of the same atoms are one
 firsts : (x y : Atom) (xs ys : List Atom) → IsAscending (x ∷ xs) → IsAscending (y ∷ ys) → has_atom (y ∷ ys) x ≡ true → has_atom (x ∷ xs) y ≡ true → x ≡ y
@@ -30,7 +30,7 @@ firsts x y xs ys s t h g = elim (or_cases (same_atom x y) (has_atom ys x) h) [
   | inl e ↦ same_atom-true x y e
   | inr e ↦ elim (or_cases (same_atom y x) (has_atom xs y) g) [
     | inl f ↦ sym (same_atom-true y x f)
-    | inr f ↦ absurd (irreflexive x (transitive x y x (behind x xs s y f) (behind y ys t x e)))
+    | inr f ↦ absurd (atom_never_before_itself x (atom_before_transitive x y x (behind x xs s y f) (behind y ys t x e)))
   ]
 ]
 

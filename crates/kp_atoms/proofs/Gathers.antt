@@ -8,7 +8,7 @@ use Rattle.kp_meaning.specs.declared.lifted.GroundLit.{GroundLit}
 use Rattle.kp_grounding.specs.declared.flat.Atom.{Atom}
 use Rattle.kp_grounding.specs.Ground.{same_atom, has_atom, atom_of}
 use Rattle.kp_base.proofs.Once.{any-added}
-use Rattle.kp_grounding.proofs.Atoms.{same_atoms}
+use Rattle.kp_grounding.proofs.Public.{same_atoms}
 use Rattle.kp_atoms.specs.Gathered.{with_atom, with_atom_within, gather}
 
 -- ---- one more atom

@@ -12,7 +12,7 @@ use Rattle.kp_base.proofs.Lists.{all_weaker, any_map, any_member, any_from, bool
 use Rattle.kp_grounding.specs.declared.flat.Atom.{Atom}
 use Rattle.kp_grounding.specs.Ground.{list_before, atom_before, same_atom, has_atom, number_of}
 use Rattle.kp_grounding.specs.Laws.{IsAscending}
-use Rattle.kp_grounding.proofs.Atoms.{transitive, same_atom-true, same_atom-refl}
+use Rattle.kp_grounding.proofs.Public.{atom_before_transitive, same_atom-true, same_atom-refl}
 use Rattle.kp_atoms.specs.Gathered.{kept_atom, IsPlaced}
 
 -- ---- the order
@@ -47,7 +47,7 @@ module _ {K : Type 0} (seen : K → Atom) (cmp : K → K → Ordering) (eq : K �
       let later : atom_before (seen j) (seen k) ≡ false = sym (orders j k) ∙ s 0 k (omega arith) (omega arith) in
       let apart : same_atom (seen k) (seen j) ≡ false = sym (tells k j) ∙ (IsDistinct-head eq k (j ∷ ks) d).0 in
       let first : atom_before (seen k) (seen j) ≡ true = one_first ((seen k).pred ∷ (seen k).objects) ((seen j).pred ∷ (seen j).objects) later apart in
-      (and_from (atom_before (seen k) (seen j)) (list_all (atom_before (seen k)) (map seen ks)) first (all_weaker (atom_before (seen j)) (atom_before (seen k)) (map seen ks) (λ a m h. transitive (seen k) (seen j) a first h) rest.0), rest)
+      (and_from (atom_before (seen k) (seen j)) (list_all (atom_before (seen k)) (map seen ks)) first (all_weaker (atom_before (seen j)) (atom_before (seen k)) (map seen ks) (λ a m h. atom_before_transitive (seen k) (seen j) a first h) rest.0), rest)
 
   -- the same keys in another order are the same atoms
   pub reordered : (ks ls : List K) → ((q : K) → list_any (eq q) ks ≡ list_any (eq q) ls) → (a : Atom) → has_atom (map seen ks) a ≡ has_atom (map seen ls) a

@@ -1,3 +1,4 @@
+pub mod Public
 pub mod Gathers
 pub mod Ascending
 pub mod Keys

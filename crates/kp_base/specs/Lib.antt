@@ -1,3 +1,4 @@
+pub mod ActionNames
 pub mod Clashes
 pub mod Covering
 pub mod Entailed

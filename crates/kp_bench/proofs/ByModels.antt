@@ -7,10 +7,10 @@ use Rattle.kp_base.specs.declared.ground.TagTable.{TagTable}
 use Rattle.kp_base.specs.Entailed.{HaveSameModels}
 use Rattle.kp_search.specs.declared.found.Found.{Found}
 use Rattle.kp_search.specs.declared.found.Found.TheVariants.{Plan, NoPlan, Spent}
-use Rattle.kp_tags.proofs.ModesByModels.{coverage_by_models}
+use Rattle.kp_tags.proofs.Public.{coverage_goes_by_models}
 use Rattle.kp_outcome.specs.declared.outcome.Outcome.{Outcome}
 use Rattle.kp_words.specs.Names.{Bench}
-use Rattle.kp_solving.proofs.ByModels.{told_by as solved_by}
+use Rattle.kp_solving.proofs.Public.{solved_is_told_by_models as solved_by}
 use Rattle.kp_bench.specs.Bench.{TellsBench, BenchesGround, over, searched}
 
 told_by : (c : Bench) (g : Ground) (i j : Initial) (table : TagTable) (o : Outcome) → HaveSameModels i j → (found : Found) → TellsBench c g i table found o → TellsBench c g j table found o
@@ -19,7 +19,7 @@ told_by c g i j table o same (Plan ops n) t = record {
   numbers = t.numbers;
   works = λ s model. t.works s (same s ∙ model);
   uncovered = t.uncovered;
-  are_uncovered = coverage_by_models g i j table t.uncovered same t.are_uncovered;
+  are_uncovered = coverage_goes_by_models g i j table t.uncovered same t.are_uncovered;
   told = t.told;
 }
 told_by c g i j table o same NoPlan t = solved_by None g i j table o same NoPlan t

@@ -1,3 +1,4 @@
+pub mod Public
 pub mod ByModels
 pub mod OneBench
 pub mod Safe

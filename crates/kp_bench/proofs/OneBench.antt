@@ -14,23 +14,22 @@ use Rattle.kp_base.specs.Steps.{State, applicable, next, succeeds}
 use Rattle.kp_grammar.specs.declared.tree.Word.{Word}
 use Rattle.kp_grammar.specs.Trees.{Domain, Problem}
 use Rattle.kp_meaning.specs.Faults.{HasNoFault}
-use Rattle.kp_cover.proofs.Answered.{one_uncovered}
+use Rattle.kp_cover.proofs.Public.{uncovered_once}
 use Rattle.kp_search.specs.declared.found.Found.{Found}
 use Rattle.kp_search.specs.declared.found.Found.TheVariants.{Plan, NoPlan, Spent}
-use Rattle.kp_search.proofs.ByAdded.{one_end_by_added}
+use Rattle.kp_search.proofs.Public.{has_one_end_by_added}
 use Rattle.kp_task.specs.Task.{task_of}
 use Rattle.kp_task.specs.Laws.{op_number}
 use Rattle.kp_given.specs.Translations.{ground_of, initial_of}
-use Rattle.kp_given.proofs.Starts.{states_are_models}
+use Rattle.kp_given.proofs.Public.{initial_states_are_models}
 use Rattle.kp_printed.specs.Refusals.{nothing}
 use Rattle.kp_printed.specs.Searches.{no_plan_text}
 use Rattle.kp_outcome.specs.declared.outcome.Outcome.{Outcome}
 use Rattle.kp_words.specs.Names.{of_mode, Bench}
 use Rattle.kp_prepared.specs.Refusing.{refuses}
 use Rattle.kp_prepared.specs.Prepared.{usual, IsPrepared, Comes, early, later}
-use Rattle.kp_prepared.proofs.OneStart.{comes_once}
-use Rattle.kp_inputs.proofs.Commands.{by_table_once}
-use Rattle.kp_inputs.proofs.Tasks.{task_once, task_or_within}
+use Rattle.kp_prepared.proofs.Public.{comes_to_one_outcome}
+use Rattle.kp_inputs.proofs.Public.{by_table_one_outcome, task_refused_once, task_refused_or_within}
 use Rattle.kp_solving.specs.Operators.{acts_among}
 use Rattle.kp_solving.specs.Solving.{denies}
 use Rattle.kp_bench.specs.Summary.{summary_text}
@@ -70,17 +69,17 @@ same_actions c g i table ops n o u some a b = actions_of c g i table ops n o som
 
 told_once : (c : Bench) (g : Ground) (i : Initial) (table : TagTable) → HasModel i → (found : Found) (o u : Outcome) → TellsBench c g i table found o → TellsBench c g i table found u → o ≡ u
 told_once c g i table some (Plan ops n) o u a b =
-    a.told ∙ (ap (λ (ls : List Lit). sums_up (summary_text c g table ls (length (stripped a.machine)) n)) (one_uncovered g i table a.uncovered b.uncovered a.are_uncovered b.are_uncovered)
+    a.told ∙ (ap (λ (ls : List Lit). sums_up (summary_text c g table ls (length (stripped a.machine)) n)) (uncovered_once g i table a.uncovered b.uncovered a.are_uncovered b.are_uncovered)
     ∙ (ap (λ (ns : List ℕ). sums_up (summary_text c g table b.uncovered (length ns) n)) (same_actions c g i table ops n o u some a b) ∙ sym b.told))
-told_once c g i table some NoPlan o u a b = a.2 ∙ (ap (λ ls. denies (no_plan_text ls)) (one_uncovered g i table a.0 b.0 a.1 b.1) ∙ sym b.2)
+told_once c g i table some NoPlan o u a b = a.2 ∙ (ap (λ ls. denies (no_plan_text ls)) (uncovered_once g i table a.0 b.0 a.1 b.1) ∙ sym b.2)
 told_once c g i table some (Spent n) o u a b = a ∙ sym b
 
 ground_once : (c : Bench) (g : Ground) (i : Initial) → HasModel i → (table : TagTable) (o u : Outcome) → BenchesGround c g i table o → BenchesGround c g i table u → o ≡ u
-ground_once c g i some table o u (over r a e) (over s b f) = e ∙ (ap (refuses nothing) (task_once (task_of g table) usual r s a b) ∙ sym f)
-ground_once c g i some table o u (over r a e) (searched found b finds tells) = absurd (task_or_within (task_of g table) usual r a b)
-ground_once c g i some table o u (searched found a finds tells) (over s b f) = absurd (task_or_within (task_of g table) usual s b a)
+ground_once c g i some table o u (over r a e) (over s b f) = e ∙ (ap (refuses nothing) (task_refused_once (task_of g table) usual r s a b) ∙ sym f)
+ground_once c g i some table o u (over r a e) (searched found b finds tells) = absurd (task_refused_or_within (task_of g table) usual r a b)
+ground_once c g i some table o u (searched found a finds tells) (over s b f) = absurd (task_refused_or_within (task_of g table) usual s b a)
 ground_once c g i some table o u (searched x a finds tells) (searched y b finds' tells') =
-    told_once c g i table some y o u (subst (λ z. TellsBench c g i table z o) (one_end_by_added (task_of g table) c.budget x y finds finds') tells) tells'
+    told_once c g i table some y o u (subst (λ z. TellsBench c g i table z o) (has_one_end_by_added (task_of g table) c.budget x y finds finds') tells) tells'
 
 -- two trees in which no name is at fault
 abbrev Fine : Bench → Domain Word → Problem Word → Outcome → Type 0
@@ -88,8 +87,8 @@ Fine c d p o = HasNoFault d p × BenchesTrees c d p o
 
 trees_once : (c : Bench) (d : Domain Word) (p : Problem Word) (o u : Outcome) → IsPrepared usual_implicates d p → Fine c d p o → Fine c d p u → o ≡ u
 trees_once c d p o u ready a b =
-    let some : HasModel (initial_of d p) = (states_are_models d p a.0).0 ready.started.initial in
-    by_table_once (ground_of d p) (initial_of d p) (of_mode c.mode) [] (BenchesGround c (ground_of d p) (initial_of d p)) (ground_once c (ground_of d p) (initial_of d p) some) o u a.1 b.1
+    let some : HasModel (initial_of d p) = (initial_states_are_models d p a.0).0 ready.started.initial in
+    by_table_one_outcome (ground_of d p) (initial_of d p) (of_mode c.mode) [] (BenchesGround c (ground_of d p) (initial_of d p)) (ground_once c (ground_of d p) (initial_of d p) some) o u a.1 b.1
 
 -- the trees of two texts are such ones
 fine : (c : Bench) (x y : List ℕ) (o : Outcome) → Comes usual_implicates x y (BenchesTrees c) o → Comes usual_implicates x y (Fine c) o
@@ -100,4 +99,4 @@ pub benches_once : BenchesHaveOneOutcome
 benches_once c o u a b =
     let x = (texts_of c).domain in
     let y = (texts_of c).problem in
-    comes_once usual_implicates x y (Fine c) (trees_once c) o u (fine c x y o a) (fine c x y u b)
+    comes_to_one_outcome usual_implicates x y (Fine c) (trees_once c) o u (fine c x y o a) (fine c x y u b)

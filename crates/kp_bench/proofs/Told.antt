@@ -20,7 +20,7 @@ use Rattle.kp_prepared.specs.Refusing.{refuses}
 use Rattle.kp_prepared.specs.Prepared.{usual}
 use Rattle.kp_solving.specs.Operators.{step_of, acts_among}
 use Rattle.kp_solving.specs.Solving.{Finds}
-use Rattle.kp_solving.proofs.Operators.{actions_are, numbers_back}
+use Rattle.kp_solving.proofs.Public.{actions_among_steps, operator_numbers_back}
 use Rattle.kp_bench.specs.Summary.{summary_text}
 use Rattle.kp_bench.specs.Bench.{sums_up, SumsUp, TellsBench, BenchesGround, over, searched}
 
@@ -50,10 +50,10 @@ summary_printed c g i table ls steps expanded o are is = (ls, are, is)
 pub plan_told : (c : Bench) (g : Ground) (i : Initial) (table : TagTable) (ops numbers : List ℕ) (expanded : ℕ) (r : Result Outcome Memory) → numbers ≡ acts_among (length g.actions) ops → IsGroundPlan g i numbers
     → IfOk r (λ o. (uncovered : List Lit) × AreUncovered g i table uncovered × (o ≡ sums_up (summary_text c g table uncovered (length numbers) expanded))) → IfOk r (SumsUp c g i table ops expanded)
 plan_told c g i table ops numbers expanded (Ok o) are works h =
-    let same : numbers ≡ stripped (map (step_of g) ops) = are ∙ sym (actions_are g ops) in
+    let same : numbers ≡ stripped (map (step_of g) ops) = are ∙ sym (actions_among_steps g ops) in
     record {
       machine = map (step_of g) ops;
-      numbers = numbers_back g ops;
+      numbers = operator_numbers_back g ops;
       works = subst (IsGroundPlan g i) same works;
       uncovered = h.0;
       are_uncovered = h.1;

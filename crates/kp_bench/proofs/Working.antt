@@ -9,11 +9,11 @@ use Rattle.kp_base.specs.declared.lit.AtomId.{AtomId}
 use Rattle.kp_base.specs.declared.lit.Lit.{Lit}
 use Rattle.kp_base.specs.Machine.{MachineStep, accepts}
 use Rattle.kp_base.specs.Steps.{is_model, IsGroundPlan}
+use Rattle.kp_base.proofs.Places.{element}
 use Rattle.kp_classic.specs.Fits.{are_below}
 use Rattle.kp_classic.specs.Steps.{start, succeeds}
-use Rattle.kp_complete.proofs.Failing.{element}
 use Rattle.kp_lift.specs.Lifting.{IsThere}
-use Rattle.kp_machine.proofs.Sound.{sound}
+use Rattle.kp_machine.proofs.Public.{accepted_lists_are_plans}
 use Rattle.kp_first.specs.Ordered.{state_of}
 use Rattle.kp_check.specs.declared.answer.Judged.TheVariants.{No}
 use Rattle.kp_check.specs.Judging.{fails, AnswersJudged}
@@ -22,8 +22,8 @@ use Rattle.kp_task.specs.ByName.{op_of, merge_op, op_at}
 use Rattle.kp_task.specs.Task.{task_of}
 use Rattle.kp_task.specs.Writable.{IsWritableTask}
 use Rattle.kp_solving.specs.Operators.{step_of, acts_among}
-use Rattle.kp_task.proofs.ByNumber.{operators_do_steps}
-use Rattle.kp_solving.proofs.Operators.{actions_are, numbers_back, there}
+use Rattle.kp_task.proofs.Public.{operators_do_machine_steps}
+use Rattle.kp_solving.proofs.Public.{actions_among_steps, operator_numbers_back, step_of_operator_is_there as there}
 use Rattle.kp_bench.specs.Working.{IsSafe, ArePlan}
 
 -- ---- the actions among operators
@@ -66,11 +66,11 @@ ops_there g table (n ∷ ops) inside =
 accepted : (g : Ground) (table : TagTable) → IsWritableTask g table → (ops : List ℕ) → ArePlan (task_of g table) ops → accepts g table (map (step_of g) ops) ≡ true
 accepted g table w ops plan =
     let os = ops_there g table ops plan.0 in
-    sym (operators_do_steps g table w (map (step_of g) ops) os.0 os.1) ∙ subst (λ ks. succeeds (task_of g table) (start (task_of g table)) ks ≡ true) (sym (numbers_back g ops)) plan.1
+    sym (operators_do_machine_steps g table w (map (step_of g) ops) os.0 os.1) ∙ subst (λ ks. succeeds (task_of g table) (start (task_of g table)) ks ≡ true) (sym (operator_numbers_back g ops)) plan.1
 
 -- so their actions work
 pub work : (g : Ground) (i : Initial) (table : TagTable) (ops : List ℕ) → IsSafe g i table → ArePlan (task_of g table) ops → IsGroundPlan g i (acts_among (length g.actions) ops)
-work g i table ops safe plan = subst (IsGroundPlan g i) (actions_are g ops) (sound g i table safe.right safe.valid safe.never_clashes (map (step_of g) ops) (accepted g table safe.writable ops plan))
+work g i table ops safe plan = subst (IsGroundPlan g i) (actions_among_steps g ops) (accepted_lists_are_plans g i table safe.right safe.valid safe.never_clashes (map (step_of g) ops) (accepted g table safe.writable ops plan))
 
 -- and no check finds a state from which they fail
 pub pass : (n : ℕ) (g : Ground) (i : Initial) (ns : List ℕ) (ps : List AtomId) (k : ℕ) (l : Lit) → IsGroundPlan g i ns → AnswersJudged n g i ns (No ps k l) → ⊥

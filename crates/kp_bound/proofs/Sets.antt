@@ -15,7 +15,7 @@ use Rattle.kp_meaning.specs.declared.lifted.GroundLit.{GroundLit}
 use Rattle.kp_meaning.specs.Lifted.{same_literal, names_literal}
 use Rattle.kp_grounding.specs.declared.flat.FlatEffect.{FlatEffect}
 use Rattle.kp_grounding.specs.Flattening.{same_literals, same_flat}
-use Rattle.kp_grounding.proofs.Step.{same_literal-true, same_literal-refl}
+use Rattle.kp_grounding.proofs.Public.{same_literal-true, same_literal-refl}
 use Rattle.kp_bound.specs.Shapes.{lit_cmp, IsSetOf}
 
 -- ---- literals

@@ -7,7 +7,7 @@ use Rattle.kp_base.proofs.Lists.{bool_same}
 use Rattle.kp_meaning.specs.Lifted.{same_literal, names_literal}
 use Rattle.kp_grounding.specs.declared.flat.FlatEffect.{FlatEffect}
 use Rattle.kp_grounding.specs.Flattening.{same_flat}
-use Rattle.kp_grounding.proofs.Step.{same_literal-true, same_literal-refl}
+use Rattle.kp_grounding.proofs.Public.{same_literal-true, same_literal-refl}
 use Rattle.kp_bound.specs.declared.shape.KeyLit.{KeyLit}
 use Rattle.kp_bound.specs.declared.shape.Shape.{Shape}
 use Rattle.kp_bound.specs.Shapes.{key_view, IsShapeOf, AreShapes, with_effect}

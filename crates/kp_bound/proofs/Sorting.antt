@@ -13,7 +13,7 @@ use Rattle.std.proofs.lemmas.List.Sorted.{Contains-permutation, IsPermutation-sy
 use Rattle.kp_base.proofs.Lists.{bool_same, any_from, any_member, any_map, contains_member, member_contains}
 use Rattle.kp_meaning.specs.declared.lifted.GroundLit.{GroundLit}
 use Rattle.kp_meaning.specs.Lifted.{ground, same_literal, names_literal}
-use Rattle.kp_grounding.proofs.Step.{same_literal-true, same_literal-refl}
+use Rattle.kp_grounding.proofs.Public.{same_literal-true, same_literal-refl}
 use Rattle.kp_bound.specs.declared.literal.BoundLit.{BoundLit}
 use Rattle.kp_bound.specs.Literals.{lit_view}
 use Rattle.kp_bound.specs.Shapes.{lit_cmp, IsSetOf}

@@ -1,4 +1,3 @@
-pub mod Problem
 pub mod Bound
 pub mod Nodes
 pub mod Laws

@@ -1,7 +1,7 @@
 ghost use Rattle.std.specs.Prelude.{◌≡◌, ◌++◌, [], OnOk};
 ghost use Rattle.kp_grounding.specs.Static.{settled, remaining};
 ghost use Rattle.kp_bound.specs.Nodes.{cond_view};
-ghost use Rattle.kp_bound.specs.Problem.{problem_of};
+ghost use Rattle.kp_names.specs.View.{lifted_view};
 
 use crate::conditions::Conditions;
 use crate::literal::BoundLit;
@@ -11,7 +11,7 @@ use kp_kept::{Statics, signed};
 
 /// Whether all static literals and all equalities of a condition are true.
 pub fn is_settled(statics: &Statics, cond: &BoundCond) -> bool
-    ensures { result ≡ settled (problem_of statics.now) [] (cond_view cond.now) }
+    ensures { result ≡ settled (lifted_view statics.now) [] (cond_view cond.now) }
 {
     match cond {
         BoundCond::All(parts) => {
@@ -43,7 +43,7 @@ pub fn add_remaining<'a>(
     cond: &BoundCond<'a>,
     conds: &mut Conditions<'a>,
 ) -> Result<(), Memory>
-    ensures { OnOk result (conds.new ≡ conds.old ++ remaining (problem_of statics.now) [] (cond_view cond.now)) }
+    ensures { OnOk result (conds.new ≡ conds.old ++ remaining (lifted_view statics.now) [] (cond_view cond.now)) }
 {
     match cond {
         BoundCond::All(parts) => {

@@ -1,6 +1,6 @@
 ghost use Rattle.std.specs.Prelude.{◌≡◌, ◌<◌, Some, length, IfOk};
 ghost use Rattle.kp_bound.specs.Bound.{flat_at};
-ghost use Rattle.kp_bound.specs.Problem.{problem_of};
+ghost use Rattle.kp_names.specs.View.{lifted_view};
 
 use crate::arena::give_up;
 use crate::binding::bind;
@@ -27,10 +27,10 @@ fn flat_in(
     schema: u32,
     objects: &Row<u32>,
 ) -> Result<Flat, Memory>
-    requires { schema < length (problem_of statics.now).schemas }
-    ensures { IfOk result (λ f. flat_at (problem_of statics.now) schema objects.now ≡ Some f) }
+    requires { schema < length (lifted_view statics.now).schemas }
+    ensures { IfOk result (λ f. flat_at (lifted_view statics.now) schema objects.now ≡ Some f) }
 {
-    let node = bind(bump, alloc, statics.lifted, schema, objects)?;
+    let node = bind(bump, alloc, statics.lifted(), schema, objects)?;
     let flat = flatten_over(alloc, statics, &node)?;
     Ok(flat)
 }
@@ -48,9 +48,9 @@ impl<'s, 'l> Flattener<'s, 'l> {
 
     /// The flat form of the schema of this number with these objects. Its tree lies in an arena that is reset afterwards.
     pub fn flat(&mut self, alloc: Global, schema: u32, objects: &Row<u32>) -> Result<Flat, Memory>
-        requires { schema < length (problem_of self.old.statics.now).schemas }
+        requires { schema < length (lifted_view self.old.statics.now).schemas }
         ensures kept { self.new.statics ≡ self.old.statics }
-        ensures flat { IfOk result (λ f. flat_at (problem_of self.old.statics.now) schema objects.now ≡ Some f) }
+        ensures flat { IfOk result (λ f. flat_at (lifted_view self.old.statics.now) schema objects.now ≡ Some f) }
     {
         let flat = flat_in(&self.bump, alloc, self.statics, schema, objects);
         self.clear(alloc);

@@ -5,7 +5,6 @@ ghost use Rattle.kp_grounding.specs.Static.{remaining};
 ghost use Rattle.kp_grounding.specs.Flattening.{flat, same_flat};
 ghost use Rattle.kp_bound.specs.Bound.{flat_tree};
 ghost use Rattle.kp_bound.specs.Nodes.{cond_view, eff_view, node_view};
-ghost use Rattle.kp_bound.specs.Problem.{problem_of};
 
 use crate::conditions::Conditions;
 use crate::effects::Effects;
@@ -25,7 +24,7 @@ pub(crate) fn precondition(
     statics: &Statics,
     pre: &BoundCond,
 ) -> Result<Row<GroundLit>, Memory>
-    ensures { IfOk result (λ row. row ≡ remaining (problem_of statics.now) [] (cond_view pre.now)) }
+    ensures { IfOk result (λ row. row ≡ remaining (lifted_view statics.now) [] (cond_view pre.now)) }
 {
     let mut conds = Conditions::new(alloc);
     add_remaining(statics, pre, &mut conds)?;
@@ -35,7 +34,7 @@ pub(crate) fn precondition(
 
 // The flat effects of an effect, each once.
 fn flat_effects(alloc: Global, statics: &Statics, eff: &BoundEff) -> Result<Row<FlatEffect>, Memory>
-    ensures { IfOk result (λ row. row ≡ each_once same_flat (flat (problem_of statics.now) [] (eff_view eff.now))) }
+    ensures { IfOk result (λ row. row ≡ each_once same_flat (flat (lifted_view statics.now) [] (eff_view eff.now))) }
 {
     let mut conds = Conditions::new(alloc);
     let mut effects = Effects::new(alloc);
@@ -49,7 +48,7 @@ pub fn flatten_over<'a>(
     statics: &Statics,
     node: &BoundNode<'a>,
 ) -> Result<Flat, Memory>
-    ensures { IfOk result (λ f. f ≡ flat_tree (problem_of statics.now) (node_view node.now)) }
+    ensures { IfOk result (λ f. f ≡ flat_tree (lifted_view statics.now) (node_view node.now)) }
 {
     let pre = precondition(alloc, statics, &node.pre)?;
     let effects = flat_effects(alloc, statics, &node.effect)?;

@@ -1,7 +1,7 @@
 ghost use Rattle.std.specs.Prelude.{◌≡◌, [], map, fold, OnOk};
 ghost use Rattle.kp_grounding.specs.Flattening.{under, flat};
 ghost use Rattle.kp_bound.specs.Nodes.{eff_view};
-ghost use Rattle.kp_bound.specs.Problem.{problem_of};
+ghost use Rattle.kp_names.specs.View.{lifted_view};
 
 use crate::conditions::Conditions;
 use crate::evaluating::{add_remaining, is_settled};
@@ -21,7 +21,7 @@ pub fn hand_bound<'a, S: Sink>(
     sink: &mut S,
 ) -> Result<(), Memory>
     ensures kept { OnOk result (conds.new ≡ conds.old) }
-    ensures taken { OnOk result (sink.new ≡ fold S.takes sink.old (map (under conds.old) (flat (problem_of statics.now) [] (eff_view eff.now)))) }
+    ensures taken { OnOk result (sink.new ≡ fold S.takes sink.old (map (under conds.old) (flat (lifted_view statics.now) [] (eff_view eff.now)))) }
 {
     match eff {
         BoundEff::All(parts) => {

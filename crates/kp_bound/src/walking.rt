@@ -8,7 +8,7 @@ ghost use Rattle.kp_names.specs.View as owned;
 ghost use Rattle.kp_grounding.specs.Static.{remaining};
 ghost use Rattle.kp_grounding.specs.Flattening.{under, flat};
 ghost use Rattle.kp_bound.specs.Nodes.{cond_view, eff_view};
-ghost use Rattle.kp_bound.specs.Problem.{problem_of};
+ghost use Rattle.kp_names.specs.View.{lifted_view};
 
 use crate::arena::give_up;
 use crate::binding::{condition, effect};
@@ -34,7 +34,7 @@ fn hand_under<'a, S: Sink>(
     body: &BoundEff<'a>,
     sink: &mut S,
 ) -> Result<(), Memory>
-    ensures { OnOk result (sink.new ≡ fold S.takes sink.old (map (under (remaining (problem_of statics.now) [] (cond_view cond.now))) (flat (problem_of statics.now) [] (eff_view body.now)))) }
+    ensures { OnOk result (sink.new ≡ fold S.takes sink.old (map (under (remaining (lifted_view statics.now) [] (cond_view cond.now))) (flat (lifted_view statics.now) [] (eff_view body.now)))) }
 {
     let mut conds = Conditions::new(alloc);
     add_remaining(statics, cond, &mut conds)?;
@@ -53,7 +53,7 @@ fn hand_when<S: Sink>(
     body: &Eff,
 ) -> Result<(), Memory>
     ensures binding { OnOk result (objects.new.items ≡ objects.old.items) }
-    ensures taken { OnOk result (sink.new ≡ fold S.takes sink.old (flat (problem_of statics.now) objects.old.items (Effect.when (owned.cond_view cond.now) (owned.eff_view body.now)))) }
+    ensures taken { OnOk result (sink.new ≡ fold S.takes sink.old (flat (lifted_view statics.now) objects.old.items (Effect.when (owned.cond_view cond.now) (owned.eff_view body.now)))) }
 {
     let guard = condition(bump, objects.as_slice(), cond)?;
     if !is_settled(statics, &guard) {
@@ -73,7 +73,7 @@ fn hand_whole<S: Sink>(
     eff: &Eff,
 ) -> Result<(), Memory>
     ensures binding { OnOk result (objects.new.items ≡ objects.old.items) }
-    ensures taken { OnOk result (sink.new ≡ fold S.takes sink.old (flat (problem_of statics.now) objects.old.items (owned.eff_view eff.now))) }
+    ensures taken { OnOk result (sink.new ≡ fold S.takes sink.old (flat (lifted_view statics.now) objects.old.items (owned.eff_view eff.now))) }
 {
     let tree = effect(bump, alloc, objects, eff)?;
     let mut conds = Conditions::new(alloc);
@@ -90,7 +90,7 @@ fn hand_tree<S: Sink>(
     eff: &Eff,
 ) -> Result<(), Memory>
     ensures binding { OnOk result (objects.new.items ≡ objects.old.items) }
-    ensures taken { OnOk result (sink.new ≡ fold S.takes sink.old (flat (problem_of statics.now) objects.old.items (owned.eff_view eff.now))) }
+    ensures taken { OnOk result (sink.new ≡ fold S.takes sink.old (flat (lifted_view statics.now) objects.old.items (owned.eff_view eff.now))) }
 {
     match eff {
         Eff::When(cond, body) => hand_when(bump, alloc, statics, objects, sink, cond, body),
@@ -108,7 +108,7 @@ fn hand_part<S: Sink>(
     eff: &Eff,
 ) -> Result<(), Memory>
     ensures binding { OnOk result (objects.new.items ≡ objects.old.items) }
-    ensures taken { OnOk result (sink.new ≡ fold S.takes sink.old (flat (problem_of statics.now) objects.old.items (owned.eff_view eff.now))) }
+    ensures taken { OnOk result (sink.new ≡ fold S.takes sink.old (flat (lifted_view statics.now) objects.old.items (owned.eff_view eff.now))) }
 {
     let done = hand_tree(bump, alloc, statics, objects, sink, eff);
     give_up(bump, alloc);
@@ -127,7 +127,7 @@ fn walk<S: Sink>(
     eff: &Eff,
 ) -> Result<(), Memory>
     ensures binding { OnOk result (objects.new.items ≡ objects.old.items) }
-    ensures taken { OnOk result (sink.new ≡ fold S.takes sink.old (flat (problem_of statics.now) objects.old.items (owned.eff_view eff.now))) }
+    ensures taken { OnOk result (sink.new ≡ fold S.takes sink.old (flat (lifted_view statics.now) objects.old.items (owned.eff_view eff.now))) }
 {
     match eff {
         Eff::All(parts) => {
@@ -155,7 +155,7 @@ fn walk_each<S: Sink>(
     eff: &Eff,
 ) -> Result<(), Memory>
     ensures binding { OnOk result (objects.new.items ≡ objects.old.items) }
-    ensures taken { OnOk result (sink.new ≡ fold S.takes sink.old (flat_map (λ os. flat (problem_of statics.now) (objects.old.items ++ os) (owned.eff_view eff.now)) (bindings ranges.now))) }
+    ensures taken { OnOk result (sink.new ≡ fold S.takes sink.old (flat_map (λ os. flat (lifted_view statics.now) (objects.old.items ++ os) (owned.eff_view eff.now)) (bindings ranges.now))) }
 {
     let total = binding_total(ranges)?;
     let mut inner = Vec::new(alloc);
@@ -178,7 +178,7 @@ fn walk_inner<S: Sink>(
     eff: &Eff,
 ) -> Result<(), Memory>
     ensures binding { OnOk result (objects.new.items ≡ objects.old.items) }
-    ensures taken { OnOk result (sink.new ≡ fold S.takes sink.old (flat (problem_of statics.now) (objects.old.items ++ inner.now) (owned.eff_view eff.now))) }
+    ensures taken { OnOk result (sink.new ≡ fold S.takes sink.old (flat (lifted_view statics.now) (objects.old.items ++ inner.now) (owned.eff_view eff.now))) }
 {
     let outer = objects.len();
     objects.extend_from_slice(inner)?;
@@ -198,7 +198,7 @@ pub fn hand_over<S: Sink>(
     eff: &Eff,
     sink: &mut S,
 ) -> Result<(), Memory>
-    ensures { OnOk result (sink.new ≡ fold S.takes sink.old (flat (problem_of statics.now) objects.now (owned.eff_view eff.now))) }
+    ensures { OnOk result (sink.new ≡ fold S.takes sink.old (flat (lifted_view statics.now) objects.now (owned.eff_view eff.now))) }
 {
     let mut binding = Vec::from_slice(alloc, objects)?;
     walk(bump, alloc, statics, &mut binding, sink, eff)
@@ -212,7 +212,7 @@ fn left_in(
     objects: &[u32],
     cond: &Cond,
 ) -> Result<Row<GroundLit>, Memory>
-    ensures { IfOk result (λ row. row ≡ remaining (problem_of statics.now) objects.now (owned.cond_view cond.now)) }
+    ensures { IfOk result (λ row. row ≡ remaining (lifted_view statics.now) objects.now (owned.cond_view cond.now)) }
 {
     let tree = condition(bump, objects, cond)?;
     let row = precondition(alloc, statics, &tree)?;
@@ -228,7 +228,7 @@ pub fn left_of(
     objects: &[u32],
     cond: &Cond,
 ) -> Result<Row<GroundLit>, Memory>
-    ensures { IfOk result (λ row. row ≡ remaining (problem_of statics.now) objects.now (owned.cond_view cond.now)) }
+    ensures { IfOk result (λ row. row ≡ remaining (lifted_view statics.now) objects.now (owned.cond_view cond.now)) }
 {
     let row = left_in(bump, alloc, statics, objects, cond);
     give_up(bump, alloc);

@@ -11,7 +11,7 @@ use Rattle.kp_first.specs.declared.truth.Truth.{Truth}
 use Rattle.kp_first.specs.declared.truth.Truth.TheVariants.{No}
 use Rattle.kp_first.specs.Asked.{Judges, is_wanted, passes_one, test_at}
 use Rattle.kp_first.specs.Truths.{IsTruth, opposite}
-use Rattle.kp_first.proofs.Truths.{opposite_is}
+use Rattle.kp_first.proofs.Public.{truth_of_not}
 use Rattle.kp_check.specs.declared.failing.At.{At}
 use Rattle.kp_check.specs.Judging.{fails}
 use Rattle.kp_check.specs.Values.{truth_at, next_values, start}
@@ -44,7 +44,7 @@ judged n known g ns ms ready k m is s met =
     let lt = ltb-true m.literal.atom.0 n (all_member (λ m. nat_lt m.literal.atom.0 n) ms m (member_at ms k m is) ready.marks) in
     let t = truth_at (later_values g (start known n) ns m.step) m.literal in
     subst (λ b. IsTruth n known b (opposite t)) (sym (at_number (is_false_at g ns) ms k m is s))
-    (opposite_is n known (holds (state_after g s (take m.step ns)) m.literal) t
+    (truth_of_not n known (holds (state_after g s (take m.step ns)) m.literal) t
     (truth_at_is n known (later_values g (start known n) ns m.step) (state_after g s (take m.step ns)) (later_fits n known g of ns m.step (start known n) s (start_fits n known s met)) m.literal lt))
 
 -- the models that pass one of the tests are those from which the steps fail

@@ -12,6 +12,7 @@ use Rattle.kp_base.specs.Steps.{State, is_model, holds, applicable, next, after,
 use Rattle.kp_base.specs.Implicates.{are_below}
 use Rattle.kp_base.proofs.Lists.{member_map, range_there}
 use Rattle.kp_base.proofs.Lits.{has-member}
+use Rattle.kp_base.proofs.Places.{none_past}
 use Rattle.kp_first.specs.declared.truth.Truth.{Truth}
 use Rattle.kp_first.specs.declared.truth.Truth.TheVariants.{Yes, No, Open}
 use Rattle.kp_first.specs.Known.{is_decided}
@@ -99,11 +100,6 @@ all_hold s (l ∷ ls) h = pick (λ e. all_hold s ls e) (holds s l) h
 parts_none : (k : ℕ) (o : Option Lit) (rest : Option At) → at_or k o rest ≡ None → (o ≡ None) × (rest ≡ None)
 parts_none k None rest h = (refl, h)
 parts_none k (Some l) rest h = cc
-
-pub none_past : {X : Type 0} (xs : List X) (m : ℕ) → m < length xs → slice_get xs m ≡ None → ⊥
-none_past [] m lt h = absurd (omega (arith, lt))
-none_past (x ∷ xs) zero lt h = cc
-none_past (x ∷ xs) (suc m) lt h = none_past xs m (omega (arith, lt)) h
 
 pub none_fails : (g : Ground) (ns : List ℕ) (s : State) (k : ℕ) → list_all (λ m. nat_lt m (length g.actions)) ns ≡ true → failure g s ns k ≡ None → succeeds g s ns ≡ true
 none_fails g [] s k inside h = all_hold s g.goal (parts_none k (first_false s g.goal) None h).0

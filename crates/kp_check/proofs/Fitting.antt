@@ -15,7 +15,7 @@ use Rattle.kp_base.proofs.Lists.{all_member}
 use Rattle.kp_first.specs.declared.truth.Truth.{Truth}
 use Rattle.kp_first.specs.declared.truth.Truth.TheVariants.{Yes, No}
 use Rattle.kp_first.specs.Truths.{IsTruth, opposite, both, either, truth_in}
-use Rattle.kp_first.proofs.Truths.{opposite_is, both_is, either_is, all_is, truth_in_is}
+use Rattle.kp_first.proofs.Public.{truth_of_not, truth_of_and, truth_of_or, truth_of_all, truth_of_literal}
 use Rattle.kp_check.specs.Values.{value_of, value_at, truth_at, all_true, with_value, start, firing, deleted, added, stepped}
 
 -- ---- lists of values
@@ -66,7 +66,7 @@ module _ (n : ℕ) (known : List Lit) where
   pub start_fits : (s : State) → list_all (holds s) known ≡ true → Fits (start known n) s
   start_fits s met = record {
     len = length_range (λ p. truth_in known (positive p)) 0 n;
-    each = λ q lt. subst (IsTruth n known (s q)) (sym (at_range (λ p. truth_in known (positive p)) 0 n q lt ∙ ap (λ p. truth_in known (positive p)) (omega arith))) (truth_in_is n known s met (positive q) lt);
+    each = λ q lt. subst (IsTruth n known (s q)) (sym (at_range (λ p. truth_in known (positive p)) 0 n q lt ∙ ap (λ p. truth_in known (positive p)) (omega arith))) (truth_of_literal n known s met (positive q) lt);
   }
 
   pub truth_at_is : (vs : List Truth) (s : State) → Fits vs s → (l : Lit) → l.atom.0 < n → IsTruth n known (holds s l) (truth_at vs l)
@@ -74,10 +74,10 @@ module _ (n : ℕ) (known : List Lit) where
     where
       pick : (b : Bool) → IsTruth n known (signed b (s l.atom.0)) (if b then value_at vs l.atom.0 else opposite (value_at vs l.atom.0))
       pick true = f.each l.atom.0 lt
-      pick false = opposite_is n known (s l.atom.0) (value_at vs l.atom.0) (f.each l.atom.0 lt)
+      pick false = truth_of_not n known (s l.atom.0) (value_at vs l.atom.0) (f.each l.atom.0 lt)
 
   pub all_true_is : (vs : List Truth) (s : State) → Fits vs s → (ls : List Lit) → are_below n ls ≡ true → IsTruth n known (list_all (holds s) ls) (all_true vs ls)
-  all_true_is vs s f ls below = all_is n known (holds s) (truth_at vs) ls (λ l m. truth_at_is vs s f l (ltb-true l.atom.0 n (all_member (λ l. nat_lt l.atom.0 n) ls l m below))) true Yes refl
+  all_true_is vs s f ls below = truth_of_all n known (holds s) (truth_at vs) ls (λ l m. truth_at_is vs s f l (ltb-true l.atom.0 n (all_member (λ l. nat_lt l.atom.0 n) ls l m below))) true Yes refl
 
   with_value_fits : (vs : List Truth) (t u : State) → Fits vs t → (p : ℕ) (v : Truth) → p < n → IsTruth n known (u p) v → ((q : ℕ) → q ≢ p → t q ≡ u q) → Fits (with_value vs p v) u
   with_value_fits vs t u f p v lt is same =
@@ -115,7 +115,7 @@ module _ (n : ℕ) (known : List Lit) where
             let lt = ltb-true p n parts.0 in
             with_value_fits vs t (λ q. t q && not ((nat_eq p q && true) && c)) f p (both (value_at vs p) (opposite (all_true old e.cond))) lt
             (subst (λ x. IsTruth n known (t p && not ((x && true) && c)) (both (value_at vs p) (opposite (all_true old e.cond)))) (sym (eq-eqb p p refl))
-            (both_is n known (t p) (not c) (value_at vs p) (opposite (all_true old e.cond)) (f.each p lt) (opposite_is n known c (all_true old e.cond) (all_true_is old s fit e.cond parts.1))))
+            (truth_of_and n known (t p) (not c) (value_at vs p) (opposite (all_true old e.cond)) (f.each p lt) (truth_of_not n known c (all_true old e.cond) (all_true_is old s fit e.cond parts.1))))
             (λ q ne. subst (λ x. t q ≡ (t q && not ((x && true) && c))) (sym (ne_eqb p q (λ e. ne (sym e)))) (sym (and_true (t q))))
 
     added_fits : (vs : List Truth) (t : State) → Fits vs t → (e : Effect) → effect_below n e ≡ true → Fits (added vs (firing old e)) (λ q. t q || (same_lit e.result (positive q) && list_all (holds s) e.cond))
@@ -138,7 +138,7 @@ module _ (n : ℕ) (known : List Lit) where
             let lt = ltb-true p n parts.0 in
             with_value_fits vs t (λ q. t q || ((nat_eq p q && true) && c)) f p (either (value_at vs p) (all_true old e.cond)) lt
             (subst (λ x. IsTruth n known (t p || ((x && true) && c)) (either (value_at vs p) (all_true old e.cond))) (sym (eq-eqb p p refl))
-            (either_is n known (t p) c (value_at vs p) (all_true old e.cond) (f.each p lt) (all_true_is old s fit e.cond parts.1)))
+            (truth_of_or n known (t p) c (value_at vs p) (all_true old e.cond) (f.each p lt) (all_true_is old s fit e.cond parts.1)))
             (λ q ne. subst (λ x. t q ≡ (t q || ((x && true) && c))) (sym (ne_eqb p q (λ e. ne (sym e)))) (sym (or_false (t q))))
 
     deletes_fit : (es : List Effect) → list_all (effect_below n) es ≡ true → (vs : List Truth) (t : State) → Fits vs t → Fits (fold deleted vs (map (firing old) es)) (λ q. t q && not (fires es (holds s) (negative q)))

@@ -1,3 +1,4 @@
+pub mod Public
 pub mod Fitting
 pub mod Grounded
 pub mod Walking

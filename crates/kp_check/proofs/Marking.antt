@@ -9,6 +9,7 @@ use Rattle.kp_base.specs.declared.ground.Ground.{Ground}
 use Rattle.kp_base.specs.declared.ground.Initial.{Initial}
 use Rattle.kp_base.specs.Steps.{State, holds, applicable, next, after, state_after, succeeds, pre_of}
 use Rattle.kp_base.specs.Implicates.{are_below}
+use Rattle.kp_base.proofs.Places.{none_past}
 use Rattle.kp_first.specs.declared.truth.Truth.{Truth}
 use Rattle.kp_first.specs.declared.truth.Truth.TheVariants.{Yes, No, Open}
 use Rattle.kp_first.specs.Truths.{IsTruth}
@@ -17,7 +18,6 @@ use Rattle.kp_check.specs.Values.{truth_at, next_values, start}
 use Rattle.kp_check.specs.Marks.{is_yes, with_open, open_marks, are_marks_below, AreInEach, AreMarks}
 use Rattle.kp_check.proofs.Fitting.{Fits, start_fits, truth_at_is}
 use Rattle.kp_check.proofs.Grounded.{IsGroundOf, action_parts, next_fits}
-use Rattle.kp_check.proofs.FailingFrom.{none_past}
 
 or_empty : (a : Bool) → (a || false) ≡ a
 or_empty true = refl

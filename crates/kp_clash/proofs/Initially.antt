@@ -17,10 +17,7 @@ use Rattle.kp_primes.specs.Held.{Held, formula, AreWhole}
 use Rattle.kp_pairs.specs.Paired.{is_pair, words_of, place_of, is_marked, IsSquare}
 use Rattle.kp_pairs.specs.Starting.{not_both, denies, denied, IsMarkedWith}
 use Rattle.kp_clash.specs.Settling.{AreNeverTogether, IsSettled}
-use Rattle.kp_pairs.proofs.Greatest.{settled_exclusive}
-use Rattle.kp_pairs.proofs.Removing.{pair_turned, inductive_kept}
-use Rattle.kp_pairs.proofs.Marked.{marked_in}
-use Rattle.kp_pairs.proofs.Starting.{in_both}
+use Rattle.kp_pairs.proofs.Public.{settled_exclusive, pair_turned, inductive_kept, marked_are_two_below, literal_of_a_denied_pair}
 
 -- ---- the start
 
@@ -55,7 +52,7 @@ none_empty h w = all_from (λ c. nat_lt 0 (length c)) h.clauses (λ c m. some c 
 denied_false : (c : List Lit) (p q : ℕ) → denies c p q ≡ true → (s : State) → list_any (holds s) c ≡ true → (s p && s q) ≡ false
 denied_false c p q d s h =
     let x = any_member (holds s) c h in
-    let y = in_both x.0 p q (all_member (has (not_both p q)) c x.0 x.1 d) in
+    let y = literal_of_a_denied_pair x.0 p q (all_member (has (not_both p q)) c x.0 x.1 d) in
     one (s p) (s q) (elim y.1 [
       | inl e ↦ inl (false_at x.0 y.0 x.2 p e)
       | inr e ↦ inr (false_at x.0 y.0 x.2 q e)
@@ -74,7 +71,7 @@ is_implicate : (i : Initial) (p q : ℕ) → ((s : State) → is_model i s ≡ t
 is_implicate i p q never = record {
   proper = false_from_ne_true (is_tautology (not_both p q)) (λ h.
       let x = any_member (λ l. has (not_both p q) (negated l)) (not_both p q) h in
-      opposed x.0 x.1 (in_both (negated x.0) p q x.2).0);
+      opposed x.0 x.1 (literal_of_a_denied_pair (negated x.0) p q x.2).0);
   holds_always = λ s model. deny (s p) (s q) (never s model);
 }
   where
@@ -93,8 +90,8 @@ is_implicate i p q never = record {
 pub never_together : (h : Held) → AreWhole h → (n : ℕ) (bits : List Bool) → IsMarkedWith n (denied h.clauses) (replicate (n * (words_of n * 64)) false) bits → (pairs : Pairs) → ((p q : ℕ) → pairs p q ≡ is_marked n bits p q) → ((p q : ℕ) → pairs p q ≡ pairs q p) → AreNeverTogether (formula h) n pairs
 never_together h w n bits m pairs same turned = record {
   are_pairs = record {
-    of_atoms = λ p q k. (marked_in n bits m.square p q (sym (same p q) ∙ k)).1;
-    different = λ p q k. (marked_in n bits m.square p q (sym (same p q) ∙ k)).0;
+    of_atoms = λ p q k. (marked_are_two_below n bits m.square p q (sym (same p q) ∙ k)).1;
+    different = λ p q k. (marked_are_two_below n bits m.square p q (sym (same p q) ∙ k)).0;
     either_order = λ p q k. turned q p ∙ k;
   };
   never = λ p q k s model.

@@ -1,3 +1,4 @@
+pub mod Public
 pub mod Deletes
 pub mod Initially
 pub mod Places

@@ -1,3 +1,4 @@
+pub mod Public
 pub mod ExampleTask
 pub mod Fitting
 pub mod OfGround

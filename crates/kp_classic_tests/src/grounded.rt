@@ -1,7 +1,7 @@
 //! The task of a ground problem.
 ghost use Rattle.std.specs.Prelude.{◌≡◌, [], ◌∷◌, ◌++◌, IfOk, OnOk};
 ghost use Rattle.kp_base.specs.LitSet.{with_lit};
-ghost use Rattle.kp_classic.proofs.ExampleTask.{nameless, swap, small, start_of_small};
+ghost use Rattle.kp_classic.proofs.Public.{nameless_action, swap_action, swap_ground, swap_start};
 
 use crate::given::row;
 use crate::runs::reaches;
@@ -37,8 +37,8 @@ fn two(alloc: Global, lit: Lit, other: Lit) -> Result<LitSet, Memory>
     Ok(set)
 }
 
-fn nameless(alloc: Global) -> GroundName
-    ensures { result ≡ nameless }
+fn nameless_action(alloc: Global) -> GroundName
+    ensures { result ≡ nameless_action }
 {
     GroundName {
         head: Text::new(alloc),
@@ -54,7 +54,7 @@ fn push_effect(effects: &mut Row<Effect>, cond: LitSet, lit: Lit) -> Result<(), 
 }
 
 fn effects(alloc: Global) -> Result<Row<Effect>, Memory>
-    ensures { IfOk result (λ row. row ≡ swap.effects) }
+    ensures { IfOk result (λ row. row ≡ swap_action.effects) }
 {
     let mut row = Row::new(alloc);
     push_effect(&mut row, LitSet::new(alloc), literal(1, true))?;
@@ -65,19 +65,19 @@ fn effects(alloc: Global) -> Result<Row<Effect>, Memory>
 
 // Where p holds and q doesn't, q comes, and p comes and goes.
 fn action(alloc: Global) -> Result<Action, Memory>
-    ensures { IfOk result (λ a. a ≡ swap) }
+    ensures { IfOk result (λ a. a ≡ swap_action) }
 {
     let pre = two(alloc, literal(0, true), literal(1, false))?;
     let effects = effects(alloc)?;
     Ok(Action {
-        name: nameless(alloc),
+        name: nameless_action(alloc),
         pre,
         effects,
     })
 }
 
 fn actions(alloc: Global) -> Result<Row<Action>, Memory>
-    ensures { IfOk result (λ row. row ≡ small.actions) }
+    ensures { IfOk result (λ row. row ≡ swap_ground.actions) }
 {
     let mut row = Row::new(alloc);
     row.push(action(alloc)?)?;
@@ -85,16 +85,16 @@ fn actions(alloc: Global) -> Result<Row<Action>, Memory>
 }
 
 fn atoms(alloc: Global) -> Result<Row<GroundName>, Memory>
-    ensures { IfOk result (λ row. row ≡ small.atoms) }
+    ensures { IfOk result (λ row. row ≡ swap_ground.atoms) }
 {
     let mut row = Row::new(alloc);
-    row.push(nameless(alloc))?;
-    row.push(nameless(alloc))?;
+    row.push(nameless_action(alloc))?;
+    row.push(nameless_action(alloc))?;
     Ok(row)
 }
 
 fn ground(alloc: Global) -> Result<Ground, Memory>
-    ensures { IfOk result (λ g. g ≡ small) }
+    ensures { IfOk result (λ g. g ≡ swap_ground) }
 {
     let actions = actions(alloc)?;
     let (atoms, goal) = (
@@ -109,7 +109,7 @@ fn ground(alloc: Global) -> Result<Ground, Memory>
 }
 
 fn clauses(alloc: Global) -> Result<Row<LitSet>, Memory>
-    ensures { IfOk result (λ row. row ≡ start_of_small.clauses) }
+    ensures { IfOk result (λ row. row ≡ swap_start.clauses) }
 {
     let mut row = Row::new(alloc);
     row.push(one(alloc, literal(0, true))?)?;
@@ -118,7 +118,7 @@ fn clauses(alloc: Global) -> Result<Row<LitSet>, Memory>
 
 // p is stated, and q closed.
 fn formula(alloc: Global) -> Result<Initial, Memory>
-    ensures { IfOk result (λ i. i ≡ start_of_small) }
+    ensures { IfOk result (λ i. i ≡ swap_start) }
 {
     let clauses = clauses(alloc)?;
     let mut closed = Row::new(alloc);
@@ -127,7 +127,7 @@ fn formula(alloc: Global) -> Result<Initial, Memory>
 }
 
 // Whether the task of the ground problem runs these operators and meets the goal.
-#[tactic(auto, using(kp_classic::proofs::ExampleTask::one_state))]
+#[tactic(auto, using(kp_classic::proofs::Public::swap_start_is_one_state))]
 fn plans(alloc: Global, steps: &[u32]) -> Result<Option<bool>, Memory> {
     let ground = ground(alloc)?;
     let initial = formula(alloc)?;

@@ -18,7 +18,7 @@ use Rattle.kp_names.specs.View.{lifted_view}
 use Rattle.kp_grounding.specs.Ground.{ground_of}
 use Rattle.kp_ground.specs.Grounded.{IsGrounded, RefusesGround}
 use Rattle.kp_init.specs.Initial.{initial_of}
-use Rattle.kp_given.proofs.Starts.{states_are_models}
+use Rattle.kp_given.proofs.Public.{initial_states_are_models}
 use Rattle.kp_printed.specs.Refusals.{nothing}
 use Rattle.kp_outcome.specs.declared.outcome.Outcome.{Outcome}
 use Rattle.kp_prepared.specs.declared.prepared.Early.{Early}
@@ -62,7 +62,7 @@ module _ (x y : List ℕ) (d : Domain Word) (p : Problem Word) (h : HaveTrees x 
   l = numbered_problem d p
 
   here_end : (o : Outcome) → IsGrounded l classical (ground_of l) → EndsHere (initial_of l) o → ClassicalEndsEarly x y o
-  here_end o w ends = by_trees d p refusals.NoInitialState h (no_initial_state certain w (λ has. ends.no_model ((states_are_models d p h.no_fault).0 has))) ends.outcome
+  here_end o w ends = by_trees d p refusals.NoInitialState h (no_initial_state certain w (λ has. ends.no_model ((initial_states_are_models d p h.no_fault).0 has))) ends.outcome
 
   trees_end : (o : Outcome) → EndsWithin l o → ClassicalEndsEarly x y o
   trees_end _ (over z a) = by_trees d p z h (too_large z certain a) refl
@@ -73,7 +73,7 @@ module _ (x y : List ℕ) (d : Domain Word) (p : Problem Word) (h : HaveTrees x 
     first = d;
     second = p;
     trees = h;
-    classical = record { certain = certain; small = goes.0; initial = (states_are_models d p h.no_fault).1 goes.1.has_model };
+    classical = record { certain = certain; small = goes.0; initial = (initial_states_are_models d p h.no_fault).1 goes.1.has_model };
     ground = goes.1.ground;
     task = goes.1.task;
   }

@@ -6,7 +6,7 @@ use Rattle.kp_base.specs.declared.refused.Refused.TheVariants as refusals
 use Rattle.kp_base.specs.Steps.{State, is_model}
 use Rattle.kp_grammar.specs.declared.tree.Word.{Word}
 use Rattle.kp_grammar.specs.Trees.{Cond, Item, Problem, no_item, more_items}
-use Rattle.kp_grammar.proofs.ExampleTexts.{word_at, atom_at, exchange_tree, from_p_to_q_tree}
+use Rattle.kp_grammar.proofs.Public.{example_word_at, example_atom_at, exchange_tree, from_p_to_q_tree}
 use Rattle.kp_meaning.specs.Faults.{HasNoFault}
 use Rattle.kp_meaning.specs.Numbered.{Lifted}
 use Rattle.kp_meaning.specs.Numbering.{numbered_problem}
@@ -17,7 +17,7 @@ use Rattle.kp_grounding.specs.Weights.{binding_count, total_weight}
 use Rattle.kp_ground.specs.Grounded.{IsGrounded}
 use Rattle.kp_classic.specs.Steps.{start, succeeds}
 use Rattle.kp_given.specs.Translations.{initial_of}
-use Rattle.kp_given.proofs.Starts.{states_are_models}
+use Rattle.kp_given.proofs.Public.{initial_states_are_models}
 use Rattle.kp_classical.specs.Classical.{classical, IsClassical, RefusesClassical, no_initial_state, task_of}
 use Rattle.kp_classical.specs.Laws.{Succeeds, HaveNames}
 
@@ -40,7 +40,7 @@ is_classical : IsClassical exchange_tree from_p_to_q_tree
 is_classical = record {
   certain = refl;
   small = is_small (numbered_problem exchange_tree from_p_to_q_tree) refl refl refl refl;
-  initial = (states_are_models exchange_tree from_p_to_q_tree no_fault).1 (record { state = only_p; model = only_p_is; all_true = refl });
+  initial = (initial_states_are_models exchange_tree from_p_to_q_tree no_fault).1 (record { state = only_p; model = only_p_is; all_true = refl });
 }
 
 -- the action reaches q, and has its name
@@ -60,7 +60,7 @@ two_fail = refl
 -- ---- p is both stated and denied
 
 abbrev both_tree : Problem Word
-both_tree = record { objects = []; init = Item.fact true (atom_at (codes "p") 40) ∷ Item.fact false (atom_at (codes "p") 49) ∷ []; goal = Cond.atom true (atom_at (codes "q") 62) }
+both_tree = record { objects = []; init = Item.fact true (example_atom_at (codes "p") 40) ∷ Item.fact false (example_atom_at (codes "p") 49) ∷ []; goal = Cond.atom true (example_atom_at (codes "q") 62) }
 
 both_named : HasNoFault exchange_tree both_tree
 both_named = record { domain = refl; problem = refl }
@@ -73,9 +73,9 @@ no_model some = never (some.state 0) some.model
     never false h = false≢true h
 
 refused : (text : List ℕ) → RefusesClassical text exchange_tree both_tree refusals.NoInitialState
-refused text = no_initial_state refl (is_small (numbered_problem exchange_tree both_tree) refl refl refl refl) (λ has. no_model ((states_are_models exchange_tree both_tree both_named).0 has))
+refused text = no_initial_state refl (is_small (numbered_problem exchange_tree both_tree) refl refl refl refl) (λ has. no_model ((initial_states_are_models exchange_tree both_tree both_named).0 has))
 
 -- ---- a `oneof` within an `and`
 
-one_is_open : first_unsure (Item.fact true (atom_at (codes "p") 40) ∷ Item.items (more_items (Item.one_of (word_at (codes "oneof") 50) []) no_item) ∷ []) ≡ Some (word_at (codes "oneof") 50)
+one_is_open : first_unsure (Item.fact true (example_atom_at (codes "p") 40) ∷ Item.items (more_items (Item.one_of (example_word_at (codes "oneof") 50) []) no_item) ∷ []) ≡ Some (example_word_at (codes "oneof") 50)
 one_is_open = refl

@@ -9,6 +9,7 @@ use Rattle.kp_base.specs.declared.lit.AtomId.{AtomId}
 use Rattle.kp_base.specs.declared.lit.Lit.{Lit}
 use Rattle.kp_base.specs.Lists.{Member, only_if}
 use Rattle.kp_base.specs.Lit.{positive, negative, has}
+use Rattle.kp_base.proofs.Parts.{all_flat_map}
 use Rattle.kp_base.proofs.Lists.{all_member, any_member, any_from, member_at, member_map, member_filter, member_flat_map}
 use Rattle.kp_base.proofs.Lits.{same_lit-refl}
 use Rattle.kp_grammar.specs.declared.tree.Word.{Word}
@@ -22,11 +23,10 @@ use Rattle.kp_meaning.specs.Numbering.{numbered_item, numbered_items, numbered_p
 use Rattle.kp_names.specs.Resolved.{or_else, unsure_item, unsure_items, first_unsure}
 use Rattle.kp_grounding.specs.declared.flat.Atom.{Atom}
 use Rattle.kp_grounding.specs.Ground.{atom_of, same_atom, has_atom, number_of, numbered, IsNumbering, ground_atoms, atom_name, ground_of}
-use Rattle.kp_grounding.proofs.Atoms.{same_atom-true, same_atom-refl, atoms_are_numbered}
+use Rattle.kp_grounding.proofs.Public.{same_atom-true, same_atom-refl, atoms_are_numbered}
 use Rattle.kp_init.specs.Initial.{item_clauses, closed_of, initial_over, initial_of}
 use Rattle.kp_classic.specs.Grounded.{is_known}
-use Rattle.kp_given.proofs.OfAtoms.{all_flat_map}
-use Rattle.kp_given.proofs.Starts.{formula_over_atoms}
+use Rattle.kp_given.proofs.Public.{formula_by_number_is_over_atoms}
 use Rattle.kp_classical.specs.Certain.{has_units, SaysAtMostOneState}
 use Rattle.kp_classical.specs.Classical.{IsCertain}
 use Rattle.kp_classical.specs.Numbered.{is_fact, HasFacts}
@@ -134,7 +134,7 @@ module _ (l : Lifted) (facts : HasFacts l) where
 
 pub says_at_most_one : (l : Lifted) → HasFacts l → SaysAtMostOneState (length (ground_of l).atoms) (initial_of l)
 says_at_most_one l facts = record {
-  of_atoms = formula_over_atoms l;
+  of_atoms = formula_by_number_is_over_atoms l;
   units = units l facts (ground_atoms l);
   each_known = λ p lt. known l facts (ground_atoms l) (atoms_are_numbered l).numbering p (subst (λ n. p < n) (length-map (ground_atoms l) (atom_name l)) lt);
 }

@@ -1,3 +1,4 @@
+pub mod Public
 pub mod Units
 pub mod Marking
 pub mod Counted

@@ -9,15 +9,15 @@ use Rattle.kp_base.specs.Steps.{IsGroundPlan}
 use Rattle.kp_grammar.specs.declared.tree.Word.{Word}
 use Rattle.kp_grammar.specs.Trees.{Domain, Problem}
 use Rattle.kp_meaning.specs.Numbering.{numbered_problem}
-use Rattle.kp_grounding.specs.Laws.{action_name}
-use Rattle.kp_init.proofs.Runs.{plan_of_texts}
+use Rattle.kp_base.specs.ActionNames.{action_name}
+use Rattle.kp_init.proofs.Public.{plan_of_texts}
 use Rattle.kp_classic.specs.Grounded.{SaysOneState, DoesTheSame}
 use Rattle.kp_classic.specs.Steps.{start}
-use Rattle.kp_classic.proofs.OfGround.{succeeds_same, task_does_the_same}
+use Rattle.kp_classic.proofs.Public.{task_succeeds_the_same, task_does_the_same}
 use Rattle.kp_given.specs.Translations.{ground_of, initial_of}
-use Rattle.kp_given.proofs.Starts.{states_are_models}
+use Rattle.kp_given.proofs.Public.{initial_states_are_models}
 use Rattle.kp_prepared.specs.Texts.{HaveTrees}
-use Rattle.kp_prepared.proofs.Problems.{problem_of, numbers_once}
+use Rattle.kp_prepared.proofs.Public.{problem_of_trees, numbers_of_names_once}
 use Rattle.kp_classical.specs.Classical.{IsClassical, task_of}
 use Rattle.kp_classical.specs.Laws.{SuccessesArePlans, SuccessesHaveNames, PlansAreSuccesses}
 use Rattle.kp_classical.proofs.Facts.{certain_facts, says_at_most_one}
@@ -29,7 +29,7 @@ use Rattle.kp_classical.proofs.Counted.{is_of_atoms}
 says_one : (domain problem : List ℕ) (d : Domain Word) (p : Problem Word) → HaveTrees domain problem d p → IsClassical d p → SaysOneState (length (ground_of d p).atoms) (initial_of d p)
 says_one domain problem d p trees c =
     let one = says_at_most_one (numbered_problem d p) (certain_facts d p c.certain) in
-    record { of_atoms = one.of_atoms; units = one.units; each_known = one.each_known; consistent = (states_are_models d p trees.no_fault).0 c.initial }
+    record { of_atoms = one.of_atoms; units = one.units; each_known = one.each_known; consistent = (initial_states_are_models d p trees.no_fault).0 c.initial }
 
 does_the_same : (domain problem : List ℕ) (d : Domain Word) (p : Problem Word) → HaveTrees domain problem d p → IsClassical d p → DoesTheSame (ground_of d p) (initial_of d p) (task_of d p)
 does_the_same domain problem d p trees c = task_does_the_same (ground_of d p) (initial_of d p) (is_of_atoms (numbered_problem d p) (ground_of d p) c.small) (says_one domain problem d p trees c)
@@ -53,21 +53,21 @@ named g (n ∷ ns) s h =
         name_of (Some b) = Some b.name
 
 pub have_names : SuccessesHaveNames
-have_names d p ns h = named (ground_of d p) ns (start (task_of d p)) (sym (succeeds_same (ground_of d p) (initial_of d p) ns (start (task_of d p))) ∙ h)
+have_names d p ns h = named (ground_of d p) ns (start (task_of d p)) (sym (task_succeeds_the_same (ground_of d p) (initial_of d p) ns (start (task_of d p))) ∙ h)
 
 -- ---- plans
 
 pub are_plans : SuccessesArePlans
 are_plans domain problem d p trees c ns steps names =
-    let model = (states_are_models d p trees.no_fault).0 c.initial in
-    let texts = plan_of_texts domain problem (problem_of domain problem d p trees) model.state model.model steps in
+    let model = (initial_states_are_models d p trees.no_fault).0 c.initial in
+    let texts = plan_of_texts domain problem (problem_of_trees domain problem d p trees) model.state model.model steps in
     let same = (does_the_same domain problem d p trees c).plans in (
       λ h. texts.1 (ns, record { names = names; plan = (same ns).0 h }),
-      λ plan. (let run = texts.0 plan in (same ns).1 (subst (IsGroundPlan (ground_of d p) (initial_of d p)) (numbers_once d p trees.no_fault steps run.0 ns run.1.names names) run.1.plan)),
+      λ plan. (let run = texts.0 plan in (same ns).1 (subst (IsGroundPlan (ground_of d p) (initial_of d p)) (numbers_of_names_once d p trees.no_fault steps run.0 ns run.1.names names) run.1.plan)),
     )
 
 pub are_successes : PlansAreSuccesses
 are_successes domain problem d p trees c steps plan =
-    let model = (states_are_models d p trees.no_fault).0 c.initial in
-    let run = (plan_of_texts domain problem (problem_of domain problem d p trees) model.state model.model steps).0 plan in
+    let model = (initial_states_are_models d p trees.no_fault).0 c.initial in
+    let run = (plan_of_texts domain problem (problem_of_trees domain problem d p trees) model.state model.model steps).0 plan in
     (run.0, run.1.names, ((does_the_same domain problem d p trees c).plans run.0).1 run.1.plan)

@@ -4,7 +4,7 @@ use Rattle.kp_grammar.specs.declared.tree.Word.{Word}
 use Rattle.kp_grammar.specs.Trees.{Domain, Problem}
 use Rattle.kp_meaning.specs.Steps.{Step}
 use Rattle.kp_meaning.specs.Plans.{IsPlan}
-use Rattle.kp_grounding.specs.Laws.{action_name}
+use Rattle.kp_base.specs.ActionNames.{action_name}
 use Rattle.kp_classic.specs.Steps.{start, succeeds}
 use Rattle.kp_given.specs.Translations.{ground_of}
 use Rattle.kp_prepared.specs.Texts.{HaveTrees}

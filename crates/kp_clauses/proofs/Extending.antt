@@ -1,6 +1,6 @@
 -- Literals that may all be false are made false by a state in which each clause is true.
 use Rattle.std.proofs.Common.{◌≡◌, ℕ, ◌<◌, Bool, true, false, not, ◌||◌, ◌⊎◌, List, ◌∷◌, refl, sym, ◌∙◌, ap, subst, inl, inr, nat_lt, zero, suc, arith, ltb-true}
-use Rattle.std.proofs.lemmas.Bool.{or_cases, or_left, or_right, false≢true, true_from_ne_false, cases_eq}
+use Rattle.std.proofs.lemmas.Bool.{or_cases, or_left, or_right, false≢true, true_from_ne_false, cases_eq, false_from_ne_true}
 use Rattle.std.specs.List.{list_any, list_all}
 use Rattle.kp_base.specs.declared.lit.Lit.{Lit}
 use Rattle.kp_base.specs.Lists.{Member}
@@ -10,7 +10,6 @@ use Rattle.kp_base.specs.Implicates.{is_within, is_tautology}
 use Rattle.kp_base.proofs.Lists.{any_from, all_from, all_member}
 use Rattle.kp_base.proofs.Lits.{has-member, member-has}
 use Rattle.kp_clauses.specs.Stored.{subsumed}
-use Rattle.kp_clauses.proofs.Logic.{not-true-case}
 use Rattle.kp_clauses.proofs.Within.{proper_more, tautology_from}
 
 -- literals that may all be false: no clause is within them, and no two are opposed
@@ -69,7 +68,7 @@ failing_false : (cs : List (List Lit)) (G : List Lit) → MayFail cs G → (l : 
 failing_false cs G may l m = sign l.atom.0 l.positive m
   where
     sign : (p : ℕ) (b : Bool) → Member G (record { atom = record { 0 = p }; positive = b }) → holds (failing G) (record { atom = record { 0 = p }; positive = b }) ≡ false
-    sign p true m = not-true-case (has G (negative p)) (λ h. false≢true (sym may.proper ∙ tautology_from G (positive p) m (member-has G (negative p) h)))
+    sign p true m = false_from_ne_true (has G (negative p)) (λ h. false≢true (sym may.proper ∙ tautology_from G (positive p) m (member-has G (negative p) h)))
     sign p false m = ap not (has-member G (negative p) m)
 
 failing_true : (cs : List (List Lit)) (G : List Lit) (n : ℕ) → MayFail cs G → ((p : ℕ) → p < n → Member G (positive p) ⊎ Member G (negative p)) → (l : Lit) → nat_lt l.atom.0 n ≡ true → has G l ≡ false → holds (failing G) l ≡ true

@@ -1,4 +1,4 @@
-pub mod Logic
+pub mod Public
 pub mod Walking
 pub mod Within
 pub mod Sets

@@ -1,10 +1,9 @@
 -- Marks of clauses by their places.
 use Rattle.std.proofs.Common.{◌≡◌, ℕ, zero, suc, false, List, [], ◌∷◌, ◌++◌, Option, Some, None, take, length, slice_get, refl, sym, ◌∙◌, subst}
-use Rattle.std.proofs.lemmas.Bool.{false≢true}
+use Rattle.std.proofs.lemmas.Bool.{false≢true, false_from_ne_true}
 use Rattle.kp_base.specs.declared.lit.Lit.{Lit}
 use Rattle.kp_base.specs.Implicates.{is_within}
 use Rattle.kp_clauses.specs.Sieved.{IsMark, AreMarked, IsUnlike, stands}
-use Rattle.kp_clauses.proofs.Logic.{not-true-case}
 use Rattle.kp_clauses.proofs.Sieving.{marks_fit}
 
 -- as many marks as there are clauses are enough
@@ -36,4 +35,4 @@ unlike_tells ws cs i c w h m u = go (slice_get cs i) refl
   where
     go : (o : Option (List Lit)) → slice_get cs i ≡ o → stands (is_within c) o ≡ false
     go None e = refl
-    go (Some d) e = not-true-case (is_within c d) (λ inside. false≢true (sym u.unlike ∙ marks_fit c d w u.other m (marked_at ws cs i d u.other h e u.there) inside))
+    go (Some d) e = false_from_ne_true (is_within c d) (λ inside. false≢true (sym u.unlike ∙ marks_fit c d w u.other m (marked_at ws cs i d u.other h e u.there) inside))

@@ -1,6 +1,6 @@
 -- What is in a resolvent.
 use Rattle.std.proofs.Common.{◌≡◌, Bool, true, false, not, ◌&&◌, if◌then◌else◌, cond, List, [], ◌∷◌, ◌++◌, fold, refl, sym, ◌∙◌, ap, subst, inl, inr}
-use Rattle.std.proofs.lemmas.Bool.{and_parts, or_cases, or_left, or_right, false≢true, cases_Bool, not-true}
+use Rattle.std.proofs.lemmas.Bool.{and_parts, or_cases, or_left, or_right, false≢true, cases_Bool, not-true, false_from_ne_true}
 use Rattle.std.proofs.lemmas.List.Sums.{fold-append}
 use Rattle.std.specs.List.{list_any}
 use Rattle.kp_base.specs.declared.lit.Lit.{Lit}
@@ -13,7 +13,6 @@ use Rattle.kp_base.proofs.Lists.{any_member, any_from, all_from, member_left, me
 use Rattle.kp_base.proofs.Lits.{has-member, member-has, same_lit-true, same_lit-refl, negated-negated, holds-negated}
 use Rattle.kp_base.proofs.Sets.{any-with_lit, any-set_of, all-set_of, set_ascends}
 use Rattle.kp_clauses.specs.Resolved.{without, resolved, with_unless, opposed_elsewhere}
-use Rattle.kp_clauses.proofs.Logic.{not-true-case}
 use Rattle.kp_clauses.proofs.Within.{within_member, within_from, tautology_from}
 
 -- ---- as it is made
@@ -39,7 +38,7 @@ resolved_steps c d l =
 without_true : (s : State) (l : Lit) (c : List Lit) → holds s l ≡ false → list_any (holds s) c ≡ true → list_any (holds s) (without l c) ≡ true
 without_true s l c off h =
     let x = any_member (holds s) c h in
-    any_from (holds s) (without l c) x.0 (member_filter (λ x. not (same_lit x l)) c x.0 x.1 (ap not (not-true-case (same_lit x.0 l) (λ e. false≢true (sym off ∙ subst (λ (y : Lit). holds s y ≡ true) (same_lit-true x.0 l e) x.2))))) x.2
+    any_from (holds s) (without l c) x.0 (member_filter (λ x. not (same_lit x l)) c x.0 x.1 (ap not (false_from_ne_true (same_lit x.0 l) (λ e. false≢true (sym off ∙ subst (λ (y : Lit). holds s y ≡ true) (same_lit-true x.0 l e) x.2))))) x.2
 
 pub both_parts : (p : Lit → Bool) (c d : List Lit) (l : Lit) (x : Lit) → Member (without l c ++ without (negated l) d) x → p x ≡ true → list_any p (resolved c d l) ≡ true
 both_parts p c d l x m h = any-set_of p (without l c ++ without (negated l) d) ∙ any_from p (without l c ++ without (negated l) d) x m h
@@ -110,7 +109,7 @@ within_left c d out l h = within_from c (l ∷ without out d) (λ x m.
 pub left_within : (c d F : List Lit) (out l : Lit) → is_within c (l ∷ F) ≡ true → is_within F d ≡ true → has F out ≡ false → same_lit l out ≡ false → is_within c (without out (with_lit l d)) ≡ true
 left_within c d F out l h inside none other = within_from c (without out (with_lit l d)) (λ x m. elim (within_member c (l ∷ F) h x m) [
   | inl same ↦ member_filter (λ y. not (same_lit y out)) (with_lit l d) x (member_with l d x (inl same)) (subst (λ (y : Lit). not (same_lit y out) ≡ true) same (ap not other))
-  | inr r ↦ member_filter (λ y. not (same_lit y out)) (with_lit l d) x (member_with l d x (inr (within_member F d inside x r))) (ap not (not-true-case (same_lit x out) (λ e. false≢true (sym none ∙ has-member F out (subst (Member F) (same_lit-true x out e) r)))))
+  | inr r ↦ member_filter (λ y. not (same_lit y out)) (with_lit l d) x (member_with l d x (inr (within_member F d inside x r))) (ap not (false_from_ne_true (same_lit x out) (λ e. false≢true (sym none ∙ has-member F out (subst (Member F) (same_lit-true x out e) r)))))
 ])
 
 pub resolved_ascending : (c d : List Lit) (l : Lit) → IsAscending (resolved c d l)
@@ -119,7 +118,7 @@ resolved_ascending c d l = set_ascends (without l c ++ without (negated l) d)
 -- ---- tautologies that need not be made
 
 not_negated : (x l : Lit) → not (same_lit x l) ≡ true → not (same_lit (negated x) (negated l)) ≡ true
-not_negated x l h = ap not (not-true-case (same_lit (negated x) (negated l)) (λ e.
+not_negated x l h = ap not (false_from_ne_true (same_lit (negated x) (negated l)) (λ e.
     let back : x ≡ l = sym (negated-negated x) ∙ (ap negated (same_lit-true (negated x) (negated l) e) ∙ negated-negated l) in
     false≢true (sym (not-true (same_lit x l) h) ∙ subst (λ (y : Lit). same_lit x y ≡ true) back (same_lit-refl x))))
 

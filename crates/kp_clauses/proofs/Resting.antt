@@ -1,6 +1,6 @@
 -- What clauses have beside another one tells of its resolvents.
 use Rattle.std.proofs.Common.{◌≡◌, Bool, true, false, not, ◌||◌, ◌⊎◌, cond, fold, sym, ◌∙◌, ap, subst, inl, inr, refl, List, [], ◌∷◌, ◌++◌}
-use Rattle.std.proofs.lemmas.Bool.{false≢true, cases_Bool}
+use Rattle.std.proofs.lemmas.Bool.{false≢true, cases_Bool, false_from_ne_true}
 use Rattle.kp_base.specs.declared.lit.Lit.{Lit}
 use Rattle.kp_base.specs.Lists.{Member}
 use Rattle.kp_base.specs.Lit.{negated, same_lit}
@@ -12,7 +12,6 @@ use Rattle.kp_base.proofs.Lits.{has-member, member-has, same_lit-true, same_lit-
 use Rattle.kp_clauses.specs.Resolved.{without, resolved}
 use Rattle.kp_clauses.specs.Rests.{with_outside, rest_of, IsRest, AreRests}
 use Rattle.kp_clauses.specs.Stored.{subsumed}
-use Rattle.kp_clauses.proofs.Logic.{not-true-case}
 use Rattle.kp_clauses.proofs.Within.{within_member, within_from}
 use Rattle.kp_clauses.proofs.Resolving.{member_with, both_parts}
 
@@ -76,5 +75,5 @@ rests_tell cs e p l rs h some =
     both : (r : List Lit) → is_within r p ≡ true → has r (negated l) ≡ false → (x : Lit) → Member (without l e) x ⊎ Member r x → Member (without l e ++ without (negated l) p) x
     both r inside free x (inl a) = member_left (without l e) (without (negated l) p) x a
     both r inside free x (inr b) =
-        let other : same_lit x (negated l) ≡ false = not-true-case (same_lit x (negated l)) (λ e. false≢true (sym free ∙ has-member r (negated l) (subst (Member r) (same_lit-true x (negated l) e) b))) in
+        let other : same_lit x (negated l) ≡ false = false_from_ne_true (same_lit x (negated l)) (λ e. false≢true (sym free ∙ has-member r (negated l) (subst (Member r) (same_lit-true x (negated l) e) b))) in
         member_right (without l e) (without (negated l) p) x (member_filter (λ y. not (same_lit y (negated l))) p x (within_member r p inside x b) (ap not other))

@@ -1,6 +1,6 @@
 -- A saturated list of clauses has a clause within each implicate.
 use Rattle.std.proofs.Common.{◌≡◌, ℕ, true, false, ◌&&◌, List, ◌∷◌, refl, sym, ◌∙◌, subst, inl, inr}
-use Rattle.std.proofs.lemmas.Bool.{and_parts, and_from, or_cases, false≢true, true_from_ne_false}
+use Rattle.std.proofs.lemmas.Bool.{and_parts, and_from, or_cases, false≢true, true_from_ne_false, false_from_ne_true}
 use Rattle.std.specs.List.{list_any, list_all}
 use Rattle.kp_base.specs.declared.lit.Lit.{Lit}
 use Rattle.kp_base.specs.Lists.{Member}
@@ -8,12 +8,11 @@ use Rattle.kp_base.specs.Lit.{positive, negative}
 use Rattle.kp_base.specs.Steps.{State, holds}
 use Rattle.kp_base.specs.Implicates.{is_within, is_tautology, formula_of, IsImplicate, IsPrime}
 use Rattle.kp_base.proofs.Lists.{any_member, any_from, all_member}
+use Rattle.kp_base.proofs.Members.{ascending_same}
 use Rattle.kp_clauses.specs.Resolved.{resolved}
 use Rattle.kp_clauses.specs.Stored.{subsumed}
 use Rattle.kp_clauses.specs.Saturated.{IsSaturated, IsSaturation, IsSaturationExact}
-use Rattle.kp_clauses.proofs.Logic.{not-true-case}
 use Rattle.kp_clauses.proofs.Within.{within_member, within_trans, has_new, tautology_within, subsumed_within}
-use Rattle.kp_clauses.proofs.Sets.{ascending_same}
 use Rattle.kp_clauses.proofs.Resolving.{resolved_within}
 use Rattle.kp_clauses.proofs.Extending.{MayJoin, fails}
 
@@ -22,7 +21,7 @@ not_both : (cs : List (List Lit)) → IsSaturated cs → MayJoin cs
 not_both cs sat F may p h k =
     let c = any_member (λ e. is_within e (positive p ∷ F)) cs h in
     let d = any_member (λ e. is_within e (negative p ∷ F)) cs k in
-    let out : (e : List Lit) → Member cs e → is_within e F ≡ false = λ e m. not-true-case (is_within e F) (λ t. false≢true (sym may.free ∙ any_from (λ e. is_within e F) cs e m t)) in
+    let out : (e : List Lit) → Member cs e → is_within e F ≡ false = λ e m. false_from_ne_true (is_within e F) (λ t. false≢true (sym may.free ∙ any_from (λ e. is_within e F) cs e m t)) in
     let r : List Lit = resolved c.0 d.0 (positive p) in
     let inside = within_member r F (resolved_within c.0 d.0 F (positive p) c.2 d.2) in
     elim (or_cases (is_tautology r) (subsumed cs r) (sat.each p c.0 d.0 c.1 d.1 (has_new c.0 F (positive p) c.2 (out c.0 c.1)) (has_new d.0 F (negative p) d.2 (out d.0 d.1)))) [

@@ -1,6 +1,6 @@
 -- What the lists of a sieve tell.
 use Rattle.std.proofs.Common.{◌≡◌, ◌≢◌, ◌<◌, ◌+◌, ◌%◌, ℕ, zero, suc, Bool, true, false, not, ◌||◌, ◌&&◌, cond, List, [], ◌∷◌, ◌++◌, Option, Some, None, refl, sym, ◌∙◌, ap, subst, inl, inr, take, length, get_or, set, slice_get, map, fold, nat_eq, max, bit_or, arith, ◌⊎◌, get_or-set_same, get_or-set_other}
-use Rattle.std.proofs.lemmas.Bool.{and_parts, and_from, or_cases, or_left, or_right, false≢true, not-true, cases_eq, eq-eqb}
+use Rattle.std.proofs.lemmas.Bool.{and_parts, and_from, or_cases, or_left, or_right, false≢true, not-true, cases_eq, eq-eqb, false_from_ne_true}
 use Rattle.std.proofs.lemmas.List.{take_more, get_or_default}
 use Rattle.std.proofs.lemmas.Nat.Bits.{bit_at_or, bit_at-lt, same_from_bits}
 use Rattle.std.proofs.Math.Bool.{and-true, or-false, not-not}
@@ -20,7 +20,6 @@ use Rattle.kp_clauses.specs.Resolved.{without, with_if, common}
 use Rattle.kp_clauses.specs.Stored.{subsumed}
 use Rattle.kp_clauses.specs.Sieved.{IsMark, key_of, keys, stands, passes, tried, lacks, common_at, narrowed, IsListed, AreListed, AreKept}
 use Rattle.kp_clauses.specs.Listed.{row}
-use Rattle.kp_clauses.proofs.Logic.{not-true-case}
 use Rattle.kp_clauses.proofs.Within.{within_member, within_from}
 
 -- ---- marks
@@ -176,11 +175,11 @@ module _ (lists : List (List Spot)) (cs : List (List Lit)) (c : List Lit) (word 
       to : lacks c x d ≡ true → is_within d (without x c) ≡ true
       to h =
           let parts = and_parts (is_within d c) (not (has d x)) h in
-          within_from d (without x c) (λ y m. member_filter (λ z. not (same_lit z x)) c y (within_member d c parts.0 y m) (ap not (not-true-case (same_lit y x) (λ e.
+          within_from d (without x c) (λ y m. member_filter (λ z. not (same_lit z x)) c y (within_member d c parts.0 y m) (ap not (false_from_ne_true (same_lit y x) (λ e.
           false≢true (sym (not-true (has d x) parts.1) ∙ has-member d x (subst (Member d) (same_lit-true y x e) m))))))
 
       from : is_within d (without x c) ≡ true → lacks c x d ≡ true
-      from h = and_from (is_within d c) (not (has d x)) (within_from d c (λ y m. (left y m).0)) (ap not (not-true-case (has d x) (λ on. false≢true (sym (not-true (same_lit x x) (left x (member-has d x on)).1) ∙ same_lit-refl x))))
+      from h = and_from (is_within d c) (not (has d x)) (within_from d c (λ y m. (left y m).0)) (ap not (false_from_ne_true (has d x) (λ on. false≢true (sym (not-true (same_lit x x) (left x (member-has d x on)).1) ∙ same_lit-refl x))))
         where
           left : (y : Lit) → Member d y → Member c y × (not (same_lit y x) ≡ true)
           left y m = filter_member (λ z. not (same_lit z x)) c y (within_member d (without x c) h y m)

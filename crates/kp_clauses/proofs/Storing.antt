@@ -1,6 +1,6 @@
 -- What a store holds after clauses were added.
 use Rattle.std.proofs.Common.{◌≡◌, Bool, true, false, not, ◌||◌, ◌⊎◌, cond, List, [], ◌∷◌, ◌++◌, refl, sym, ◌∙◌, ap, subst, inl, inr, filter, Result, Ok, Err, OnOk, OnErr}
-use Rattle.std.proofs.lemmas.Bool.{and_parts, and_from, or_cases, or_left, or_right, false≢true, not-true, cases_Bool}
+use Rattle.std.proofs.lemmas.Bool.{and_parts, and_from, or_cases, or_left, or_right, false≢true, not-true, cases_Bool, false_from_ne_true}
 use Rattle.std.proofs.lemmas.List.{append_assoc, append-nil}
 use Rattle.std.proofs.lemmas.List.Elements.{filter-append}
 use Rattle.std.specs.List.{list_any, list_all}
@@ -9,7 +9,6 @@ use Rattle.kp_base.specs.Lists.{Member}
 use Rattle.kp_base.specs.Implicates.{is_within}
 use Rattle.kp_base.proofs.Lists.{any_member, any_from, all_from, all_member, append_member, filter_member, member_filter, member_left}
 use Rattle.kp_clauses.specs.Stored.{subsumed, replaced, with_clause, with_all, are_apart}
-use Rattle.kp_clauses.proofs.Logic.{not-true-case}
 use Rattle.kp_clauses.proofs.Within.{within_trans}
 
 member_last : {X : Type 0} (xs : List X) (x : X) → Member (xs ++ x ∷ []) x
@@ -101,7 +100,7 @@ apart_last (d ∷ cs) c h far =
 pub replaced_apart : (cs : List (List Lit)) (c : List Lit) → are_apart cs ≡ true → subsumed cs c ≡ false → are_apart (replaced cs c) ≡ true
 replaced_apart cs c h is = apart_last (filter (λ d. not (is_within c d)) cs) c (apart_filter (λ d. not (is_within c d)) cs h) (λ d m.
     let f = filter_member (λ d. not (is_within c d)) cs d m in
-    (not-true (is_within c d) f.1, not-true-case (is_within d c) (λ e. false≢true (sym is ∙ any_from (λ e. is_within e c) cs d f.0 e))))
+    (not-true (is_within c d) f.1, false_from_ne_true (is_within d c) (λ e. false≢true (sym is ∙ any_from (λ e. is_within e c) cs d f.0 e))))
 
 -- whether the new one is put in, or memory is wanting
 pub put_apart : {T E : Type 0} (r : Result T E) (old new : List (List Lit)) (c : List Lit) → are_apart old ≡ true → subsumed old c ≡ false → OnOk r (new ≡ replaced old c) → OnErr r (new ≡ old) → are_apart new ≡ true
@@ -148,7 +147,7 @@ filter_all p (x ∷ xs) f = rw (f x (inl refl)) (ap (λ z. x ∷ z) (filter_all 
 -- a clause that is apart from all is put last
 one_last : (cs : List (List Lit)) (c : List Lit) → are_apart (cs ++ c ∷ []) ≡ true → with_clause cs c ≡ cs ++ c ∷ []
 one_last cs c h =
-    rw (not-true-case (subsumed cs c) (λ e. let r = any_member (λ d. is_within d c) cs e in false≢true (sym (last_far cs c r.0 h r.1).0 ∙ r.2)))
+    rw (false_from_ne_true (subsumed cs c) (λ e. let r = any_member (λ d. is_within d c) cs e in false≢true (sym (last_far cs c r.0 h r.1).0 ∙ r.2)))
     (ap (λ z. z ++ c ∷ []) (filter_all (λ d. not (is_within c d)) cs (λ d m. ap not (last_far cs c d h m).1)))
 
 -- and so are clauses that are
@@ -163,8 +162,8 @@ with_all_joined cs (d ∷ ds) h =
 pub merged_apart : (cs ds : List (List Lit)) → are_apart cs ≡ true → are_apart ds ≡ true → ((d : List Lit) → Member ds d → subsumed cs d ≡ false) → are_apart (filter (λ c. not (subsumed ds c)) cs ++ ds) ≡ true
 merged_apart cs ds h k free = joined_apart (filter (λ c. not (subsumed ds c)) cs) ds (apart_filter (λ c. not (subsumed ds c)) cs h) k (λ c d m n.
     let f = filter_member (λ c. not (subsumed ds c)) cs c m in (
-      not-true-case (is_within c d) (λ e. false≢true (sym (free d n) ∙ any_from (λ x. is_within x d) cs c f.0 e)),
-      not-true-case (is_within d c) (λ e. false≢true (sym (not-true (subsumed ds c) f.1) ∙ any_from (λ x. is_within x c) ds d n e)),
+      false_from_ne_true (is_within c d) (λ e. false≢true (sym (free d n) ∙ any_from (λ x. is_within x d) cs c f.0 e)),
+      false_from_ne_true (is_within d c) (λ e. false≢true (sym (not-true (subsumed ds c) f.1) ∙ any_from (λ x. is_within x c) ds d n e)),
     ))
 
 -- filtering by two tests is filtering by both
@@ -190,7 +189,7 @@ merged_is cs (d ∷ ds) h free =
     far e m = or_none (is_within d e) (is_within e d) (not-true (near d e) (all_member (λ e. not (near d e)) ds e m parts.0))
 
     free' : (e : List Lit) → Member ds e → subsumed (replaced cs d) e ≡ false
-    free' e m = not-true-case (subsumed (replaced cs d) e) (λ t.
+    free' e m = false_from_ne_true (subsumed (replaced cs d) e) (λ t.
         let r = any_member (λ x. is_within x e) (replaced cs d) t in
         elim (append_member (filter (λ x. not (is_within d x)) cs) (d ∷ []) r.0 r.1) [
           | inl n ↦ false≢true (sym (free e (inr m)) ∙ any_from (λ x. is_within x e) cs r.0 (filter_member (λ x. not (is_within d x)) cs r.0 n).0 r.2)
@@ -201,7 +200,7 @@ merged_is cs (d ∷ ds) h free =
         ])
 
     stays : subsumed ds d ≡ false
-    stays = not-true-case (subsumed ds d) (λ t. let r = any_member (λ x. is_within x d) ds t in false≢true (sym (far r.0 r.1).1 ∙ r.2))
+    stays = false_from_ne_true (subsumed ds d) (λ t. let r = any_member (λ x. is_within x d) ds t in false≢true (sym (far r.0 r.1).1 ∙ r.2))
 
     both : (a b : Bool) → not (a || b) ≡ not (not (not a) || not (not b))
     both true b = refl
@@ -216,7 +215,7 @@ merged_is cs (d ∷ ds) h free =
 
 -- where the new clause is within none, all stay
 pub none_held : (cs : List (List Lit)) (c : List Lit) → list_any (is_within c) cs ≡ false → replaced cs c ≡ cs ++ c ∷ []
-none_held cs c h = ap (λ z. z ++ c ∷ []) (filter_all (λ d. not (is_within c d)) cs (λ d m. ap not (not-true-case (is_within c d) (λ t. false≢true (sym h ∙ any_from (is_within c) cs d m t)))))
+none_held cs c h = ap (λ z. z ++ c ∷ []) (filter_all (λ d. not (is_within c d)) cs (λ d m. ap not (false_from_ne_true (is_within c d) (λ t. false≢true (sym h ∙ any_from (is_within c) cs d m t)))))
 
 -- one clause less is to come
 pub one_less : {X : Type 0} (xs : List X) (x : X) (rest now all : List X) → now ≡ x ∷ rest → xs ++ now ≡ all → (xs ++ x ∷ []) ++ rest ≡ all

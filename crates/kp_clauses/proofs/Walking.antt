@@ -1,6 +1,6 @@
 -- A walk over two ascending clauses tells whether the first is within the second.
 use Rattle.std.proofs.Common.{◌≡◌, ◌*◌, not, eqb-true, ◌<◌, ◌≤◌, ◌+◌, ◌-◌, ℕ, zero, suc, Bool, true, false, if◌then◌else◌, sym, ◌∙◌, ap, subst, inl, inr, refl, arith, List, [], ◌∷◌, length, drop, nat_eq}
-use Rattle.std.proofs.lemmas.Bool.{cases_order, false≢true, or_cases, or_left, or_right, eq-eqb}
+use Rattle.std.proofs.lemmas.Bool.{cases_order, false≢true, or_cases, or_left, or_right, eq-eqb, false_from_ne_true}
 use Rattle.std.proofs.lemmas.Bool.Decides.{nat_tests}
 use Rattle.kp_base.specs.declared.lit.Lit.{Lit}
 use Rattle.kp_base.specs.Lists.{Member}
@@ -14,7 +14,6 @@ use Rattle.kp_base.proofs.Lits.{member-has, negated-negated}
 use Rattle.kp_base.proofs.Lists.{any_member, bool_same}
 use Rattle.kp_clauses.proofs.Within.{tautology_from, other}
 use Rattle.kp_clauses.specs.Walked.{walked, has_pair}
-use Rattle.kp_clauses.proofs.Logic.{not-true-case}
 use Rattle.kp_clauses.proofs.Sets.{begins_outside, later, least}
 
 -- a literal before all of a clause tells nothing
@@ -22,7 +21,7 @@ pub skipped : (y : Lit) (c d : List Lit) → ((a : Lit) → Member c a → code_
 skipped y [] d f = refl
 skipped y (x ∷ c) d f =
     let lt = f x (inl refl) in
-    let other : same_lit x y ≡ false = not-true-case (same_lit x y) (λ e. let same = ap code_of (same_lit-true x y e) in omega arith) in
+    let other : same_lit x y ≡ false = false_from_ne_true (same_lit x y) (λ e. let same = ap code_of (same_lit-true x y e) in omega arith) in
     let rest = skipped y c d (λ a m. f a (inr m)) in
     rw (other, rest) refl
 

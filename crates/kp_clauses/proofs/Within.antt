@@ -1,6 +1,6 @@
 -- Clauses within clauses: members, tautologies, and one literal more.
 use Rattle.std.proofs.Common.{◌≡◌, Bool, true, false, not, List, ◌∷◌, sym, ◌∙◌, ap, subst, inl, inr}
-use Rattle.std.proofs.lemmas.Bool.{false≢true, true≢false, true_from_ne_false, cases_Bool}
+use Rattle.std.proofs.lemmas.Bool.{false≢true, true≢false, true_from_ne_false, cases_Bool, false_from_ne_true}
 use Rattle.std.specs.List.{list_any}
 use Rattle.kp_base.specs.declared.lit.Lit.{Lit}
 use Rattle.kp_base.specs.Lists.{Member}
@@ -10,7 +10,6 @@ use Rattle.kp_base.specs.Implicates.{is_within, is_tautology}
 use Rattle.kp_base.proofs.Lists.{any_member, any_from, all_from, all_member}
 use Rattle.kp_base.proofs.Lits.{has-member, member-has, negated-negated, holds-negated}
 use Rattle.kp_clauses.specs.Stored.{subsumed}
-use Rattle.kp_clauses.proofs.Logic.{not-true-case}
 
 pub within_member : (c d : List Lit) → is_within c d ≡ true → (x : Lit) → Member c x → Member d x
 within_member c d h x m = member-has d x (all_member (has d) c x m h)
@@ -39,7 +38,7 @@ tautology_from c x m n = any_from (λ l. has c (negated l)) c x m (has-member c 
 
 -- what is within a clause that is no tautology is none
 pub tautology_within : (c d : List Lit) → ((x : Lit) → Member c x → Member d x) → is_tautology d ≡ false → is_tautology c ≡ false
-tautology_within c d f h = not-true-case (is_tautology c) (λ e.
+tautology_within c d f h = false_from_ne_true (is_tautology c) (λ e.
     let r = any_member (λ l. has c (negated l)) c e in
     false≢true (sym h ∙ tautology_from d r.0 (f r.0 r.1) (f (negated r.0) (member-has c (negated r.0) r.2))))
 
@@ -61,7 +60,7 @@ other l e = sign l.positive (ap (λ (x : Lit). x.positive) e)
 
 -- one more literal makes no tautology, if its negation isn't there
 pub proper_more : (F : List Lit) (l : Lit) → is_tautology F ≡ false → has F (negated l) ≡ false → is_tautology (l ∷ F) ≡ false
-proper_more F l proper none = not-true-case (is_tautology (l ∷ F)) (λ e.
+proper_more F l proper none = false_from_ne_true (is_tautology (l ∷ F)) (λ e.
     let r = any_member (λ x. has (l ∷ F) (negated x)) (l ∷ F) e in
     bad r.0 r.1 (member-has (l ∷ F) (negated r.0) r.2))
   where

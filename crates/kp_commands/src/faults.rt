@@ -1,9 +1,8 @@
-use crate::running::{DOMAIN, PROBLEM, USAGE, shelf_of, translate_words};
+use crate::running::{DOMAIN, PROBLEM, USAGE, holds, is_so, shelf_of, translate_words};
 use kp_base::Memory;
 use kp_outside::{MemoryShelf, MemorySink};
 use kp_run::run;
 use std::alloc::Global;
-use std::test::Fail;
 
 const DOMAIN_OUT: &str = "(define (domain kplan)
 (:requirements :strips :negative-preconditions :conditional-effects)
@@ -56,14 +55,6 @@ struct Outcome {
     problem: Option<&'static str>,
 }
 
-fn holds(shelf: &MemoryShelf, name: &str, text: Option<&str>) -> bool {
-    match (shelf.held(name.as_bytes()), text) {
-        (Some(content), Some(text)) => content.slice() == text.as_bytes(),
-        (None, None) => true,
-        _ => false,
-    }
-}
-
 fn sink_of(alloc: Global, failing: &Failing) -> Result<MemorySink, Memory> {
     let mut sink = MemorySink::new(alloc)?;
     sink.fail_at(failing.sink)?;
@@ -108,26 +99,55 @@ fn comes_to(
 // The calls of the shelf are two gets and two puts, and that of the sink one write. So a fifth call of the
 // shelf and a second one of the sink never come: where one came, it would fail.
 #[test]
-fn each_call_that_fails(rt: HostRuntime) -> Result<(), Fail> {
+fn no_further_call(rt: HostRuntime) {
+    let alloc = rt.alloc();
+    let failing = Failing { shelf: 5, sink: 2 };
+    let done = Outcome {
+        number: 0,
+        printed: REPORT,
+        domain: Some(DOMAIN_OUT),
+        problem: Some(PROBLEM_OUT),
+    };
+    assert!(rt; is_so(comes_to(alloc, "op", &failing, &done)));
+    assert!(rt; is_so(comes_to(alloc, "od", &failing, &nothing(2, USAGE))));
+}
+
+// What is due where nothing is put.
+fn nothing(number: u8, printed: &'static str) -> Outcome {
+    Outcome {
+        number,
+        printed,
+        domain: None,
+        problem: None,
+    }
+}
+
+// A read that fails leaves nothing.
+#[test]
+fn each_read_that_fails(rt: HostRuntime) {
+    for shelf in [1, 2] {
+        let failing = Failing { shelf, sink: 2 };
+        assert!(rt; is_so(comes_to(rt.alloc(), "op", &failing, &nothing(5, ""))));
+    }
+}
+
+// A write that fails leaves what was put before it.
+#[test]
+fn each_write_that_fails(rt: HostRuntime) {
     let alloc = rt.alloc();
     let cases = [
-        ("op", 5, 2, 0, REPORT, Some(DOMAIN_OUT), Some(PROBLEM_OUT)),
-        ("op", 1, 2, 5, "", None, None),
-        ("op", 2, 2, 5, "", None, None),
-        ("op", 3, 2, 6, "", None, None),
-        ("op", 4, 2, 6, "", Some(DOMAIN_OUT), None),
-        ("op", 5, 1, 6, "", Some(DOMAIN_OUT), Some(PROBLEM_OUT)),
-        ("od", 5, 2, 2, USAGE, None, None),
+        (3, 2, None, None),
+        (4, 2, Some(DOMAIN_OUT), None),
+        (5, 1, Some(DOMAIN_OUT), Some(PROBLEM_OUT)),
     ];
-    for (problem_out, shelf, sink, number, printed, domain, problem) in cases {
+    for (shelf, sink, domain, problem) in cases {
         let failing = Failing { shelf, sink };
         let outcome = Outcome {
-            number,
-            printed,
+            number: 6,
+            printed: "",
             domain,
             problem,
         };
-        assert!(rt; comes_to(alloc, problem_out, &failing, &outcome)?);
+        assert!(rt; is_so(comes_to(alloc, "op", &failing, &outcome)));
     }
-    Ok(())
 }

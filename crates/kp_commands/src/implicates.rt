@@ -1,27 +1,38 @@
-use crate::running::{USAGE, ends_so};
-use std::test::Fail;
+use crate::running::{USAGE, ends_so, is_so};
+use kp_base::Memory;
+use std::alloc::Global;
+
+const DOMAIN: &str = "(define (domain g) (:predicates (a) (b) (c)))";
 
 // `a or b` and `c unless a` have a third prime implicate, `b or c`.
+const PROBLEM: &str =
+    "(define (problem g) (:domain g) (:init (or (a) (b)) (or (not (a)) (c))) (:goal (a)))";
+
+const ACCEPTED: &str = "atoms 3\nactions 0\ntags 1\nmerges 0\nfacts 6\ncomplete\n";
+
+// Whether a translation with this limit ends with this number and prints this text.
+fn limits_so(alloc: Global, limit: &str, number: u8, printed: &str) -> Result<bool, Memory> {
+    let more = ["--implicates", limit];
+    ends_so(alloc, (DOMAIN, PROBLEM), more.as_slice(), number, printed)
+}
+
+// Limits on prime implicates, and what is printed.
 #[test]
-fn limits_of_implicates(rt: HostRuntime) -> Result<(), Fail> {
-    let alloc = rt.alloc();
-    let domain = "(define (domain g) (:predicates (a) (b) (c)))";
-    let problem =
-        "(define (problem g) (:domain g) (:init (or (a) (b)) (or (not (a)) (c))) (:goal (a)))";
-    let accepted = "atoms 3\nactions 0\ntags 1\nmerges 0\nfacts 6\ncomplete\n";
+fn limits_of_implicates(rt: HostRuntime) {
     let cases = [
         ("2", 3, "refused 11 ImplicatesOver\nprefix 2\n"),
-        ("3", 0, accepted),
-        ("100000", 0, accepted),
-        ("100001", 2, USAGE),
-        ("0", 2, USAGE),
-        ("03", 2, USAGE),
-        ("+3", 2, USAGE),
-        ("", 2, USAGE),
+        ("3", 0, ACCEPTED),
+        ("100000", 0, ACCEPTED),
     ];
     for (limit, number, printed) in cases {
-        let more = ["--implicates", limit];
-        assert!(rt; ends_so(alloc, (domain, problem), more.as_slice(), number, printed)?);
+        assert!(rt; is_so(limits_so(rt.alloc(), limit, number, printed)));
     }
-    Ok(())
+}
+
+// Words that are no limit.
+#[test]
+fn no_limit_of_implicates(rt: HostRuntime) {
+    for limit in ["100001", "0", "03", "+3", ""] {
+        assert!(rt; is_so(limits_so(rt.alloc(), limit, 2, USAGE)));
+    }
 }

@@ -1,4 +1,6 @@
-use crate::running::{CELLS, DOMAIN, ONE_IS_FULL, PROBLEM, says_so};
+use crate::running::{CELLS, DOMAIN, ONE_IS_FULL, PROBLEM, is_so, says_so};
+use kp_base::Memory;
+use std::alloc::Global;
 use std::test::Fail;
 
 // Two actions of which one makes q true, whatever p is.
@@ -14,11 +16,21 @@ pub const FOUR: &str =
 pub const NOTHING_OF_BOTH: &str =
     "(define (problem e) (:domain e) (:init (unknown (p)) (unknown (r))) (:goal (g)))";
 
-// Translations by what is said behind their names, with what is printed.
+// Whether a translation in this mode ends with 0 and prints this text.
+fn translates(
+    alloc: Global,
+    texts: (&str, &str),
+    mode: &str,
+    printed: &str,
+) -> Result<bool, Memory> {
+    let said = ["translate", "d", "p", "od", "op", "--mode", mode];
+    says_so(alloc, texts, said.as_slice(), 0, printed)
+}
+
+// Translations with the merges of single clauses, and what is printed.
 #[test]
-fn modes_are_translated(rt: HostRuntime) -> Result<(), Fail> {
+fn single_clauses_are_translated(rt: HostRuntime) {
     let alloc = rt.alloc();
-    let four = "atoms 3\nactions 1\ntags 5\nmerges 1\nfacts 30\ncomplete\n";
     let cases = [
         (
             (CELLS, ONE_IS_FULL),
@@ -35,16 +47,20 @@ fn modes_are_translated(rt: HostRuntime) -> Result<(), Fail> {
             "k1",
             "atoms 3\nactions 1\ntags 5\nmerges 2\nfacts 30\nincomplete\nuncovered (g)\n",
         ),
-        ((FOUR, NOTHING_OF_BOTH), "k2", four),
-        ((FOUR, NOTHING_OF_BOTH), "k3", four),
-        ((FOUR, NOTHING_OF_BOTH), "models", four),
-        ((FOUR, NOTHING_OF_BOTH), "auto", four),
     ];
     for (texts, mode, printed) in cases {
-        let said = ["translate", "d", "p", "od", "op", "--mode", mode];
-        assert!(rt; says_so(alloc, texts, said.as_slice(), 0, printed)?);
+        assert!(rt; is_so(translates(alloc, texts, mode, printed)));
     }
-    Ok(())
+}
+
+// The modes that take two clauses for the target that needs both.
+#[test]
+fn two_clauses_are_translated(rt: HostRuntime) {
+    let alloc = rt.alloc();
+    let four = "atoms 3\nactions 1\ntags 5\nmerges 1\nfacts 30\ncomplete\n";
+    for mode in ["k2", "k3", "models", "auto"] {
+        assert!(rt; is_so(translates(alloc, (FOUR, NOTHING_OF_BOTH), mode, four)));
+    }
 }
 
 // Where no mode is said, it is k1.
@@ -57,9 +73,20 @@ fn the_usual_mode(rt: HostRuntime) -> Result<(), Fail> {
     Ok(())
 }
 
+// Whether the merges of this mode are printed so.
+fn prints_merges(
+    alloc: Global,
+    texts: (&str, &str),
+    mode: &str,
+    printed: &str,
+) -> Result<bool, Memory> {
+    let said = ["merges", "d", "p", "--mode", mode];
+    says_so(alloc, texts, said.as_slice(), 0, printed)
+}
+
 // The merges of modes, printed.
 #[test]
-fn merges_are_printed(rt: HostRuntime) -> Result<(), Fail> {
+fn merges_are_printed(rt: HostRuntime) {
     let alloc = rt.alloc();
     let cells = "(merge (x1) ((x1)) ((x2)) ((x3)))\n";
     let four = "(merge (g) ((p) (r)) ((p) (not (r))) ((not (p)) (r)) ((not (p)) (not (r))))\n";
@@ -72,12 +99,16 @@ fn merges_are_printed(rt: HostRuntime) -> Result<(), Fail> {
         ),
         ((FOUR, NOTHING_OF_BOTH), "k2", four),
         ((FOUR, NOTHING_OF_BOTH), "models", four),
-        ((CELLS, ONE_IS_FULL), "k0", ""),
-        ((DOMAIN, PROBLEM), "models", ""),
     ];
     for (texts, mode, printed) in cases {
-        let said = ["merges", "d", "p", "--mode", mode];
-        assert!(rt; says_so(alloc, texts, said.as_slice(), 0, printed)?);
+        assert!(rt; is_so(prints_merges(alloc, texts, mode, printed)));
     }
-    Ok(())
+}
+
+// Files for which a mode has no merges.
+#[test]
+fn no_merges_are_printed(rt: HostRuntime) {
+    let alloc = rt.alloc();
+    assert!(rt; is_so(prints_merges(alloc, (CELLS, ONE_IS_FULL), "k0", "")));
+    assert!(rt; is_so(prints_merges(alloc, (DOMAIN, PROBLEM), "models", "")));
 }

@@ -24,17 +24,22 @@ fn push_all(alloc: Global, words: &mut Vec<Vec<u8>>, more: &[&str]) -> Result<()
     Ok(())
 }
 
+// These words, with more behind them.
+fn words_of(alloc: Global, front: &[&str], more: &[&str]) -> Result<Vec<Vec<u8>>, Memory> {
+    let mut words = Vec::new(alloc);
+    push_all(alloc, &mut words, front)?;
+    push_all(alloc, &mut words, more)?;
+    Ok(words)
+}
+
 /// The words of a translation to `od` and this name, with these behind them.
 pub fn translate_words(
     alloc: Global,
     problem_out: &str,
     more: &[&str],
 ) -> Result<Vec<Vec<u8>>, Memory> {
-    let mut words = Vec::new(alloc);
     let front = ["translate", "d", "p", "od", problem_out, "--mode", "k0"];
-    push_all(alloc, &mut words, front.as_slice())?;
-    push_all(alloc, &mut words, more)?;
-    Ok(words)
+    words_of(alloc, front.as_slice(), more)
 }
 
 /// A shelf that holds this domain and problem.
@@ -43,6 +48,32 @@ pub fn shelf_of(alloc: Global, domain: &[u8], problem: &[u8]) -> Result<MemorySh
     shelf.hold(b"d".as_slice(), domain)?;
     shelf.hold(b"p".as_slice(), problem)?;
     Ok(shelf)
+}
+
+// A shelf that holds this domain and problem, and one more content under a name.
+fn shelf_with(
+    alloc: Global,
+    texts: (&str, &str),
+    name: &[u8],
+    content: &str,
+) -> Result<MemoryShelf, Memory> {
+    let mut shelf = shelf_of(alloc, texts.0.as_bytes(), texts.1.as_bytes())?;
+    shelf.hold(name, content.as_bytes())?;
+    Ok(shelf)
+}
+
+/// Whether the shelf holds this text under the name, or nothing where there is none.
+pub fn holds(shelf: &MemoryShelf, name: &str, text: Option<&str>) -> bool {
+    match (shelf.held(name.as_bytes()), text) {
+        (Some(content), Some(text)) => content.slice() == text.as_bytes(),
+        (None, None) => true,
+        _ => false,
+    }
+}
+
+/// Whether what was asked was answered with yes.
+pub fn is_so(answer: Result<bool, Memory>) -> bool {
+    matches!(answer, Ok(true))
 }
 
 // Whether these words end with this number and print this text.
@@ -79,8 +110,7 @@ pub fn says_so(
     number: u8,
     printed: &str,
 ) -> Result<bool, Memory> {
-    let mut words = Vec::new(alloc);
-    push_all(alloc, &mut words, said)?;
+    let words = words_of(alloc, said, &[])?;
     let mut shelf = shelf_of(alloc, texts.0.as_bytes(), texts.1.as_bytes())?;
     runs_so(alloc, &words, &mut shelf, number, printed)
 }
@@ -118,11 +148,9 @@ pub fn merges_so(
     number: u8,
     printed: &str,
 ) -> Result<bool, Memory> {
-    let mut words = Vec::new(alloc);
     let named = ["translate", "d", "p", "od", "op", "--merges", "m"];
-    push_all(alloc, &mut words, named.as_slice())?;
-    let mut shelf = shelf_of(alloc, texts.0.as_bytes(), texts.1.as_bytes())?;
-    shelf.hold(b"m".as_slice(), merges.as_bytes())?;
+    let words = words_of(alloc, named.as_slice(), &[])?;
+    let mut shelf = shelf_with(alloc, texts, b"m".as_slice(), merges)?;
     let is_so = runs_so(alloc, &words, &mut shelf, number, printed);
     drop(words);
     let is_put = shelf.held(b"od".as_slice()).is_some() && shelf.held(b"op".as_slice()).is_some();
@@ -138,10 +166,8 @@ pub fn checks_so(
     number: u8,
     printed: &str,
 ) -> Result<bool, Memory> {
-    let mut words = Vec::new(alloc);
-    push_all(alloc, &mut words, ["check", "d", "p", "t"].as_slice())?;
-    let mut shelf = shelf_of(alloc, texts.0.as_bytes(), texts.1.as_bytes())?;
-    shelf.hold(b"t".as_slice(), plan.as_bytes())?;
+    let words = words_of(alloc, ["check", "d", "p", "t"].as_slice(), &[])?;
+    let mut shelf = shelf_with(alloc, texts, b"t".as_slice(), plan)?;
     runs_so(alloc, &words, &mut shelf, number, printed)
 }
 
@@ -155,11 +181,8 @@ pub fn lifts_so(
     number: u8,
     printed: &str,
 ) -> Result<bool, Memory> {
-    let mut words = Vec::new(alloc);
-    push_all(alloc, &mut words, ["lift", "d", "p", "t"].as_slice())?;
-    push_all(alloc, &mut words, more)?;
-    let mut shelf = shelf_of(alloc, texts.0.as_bytes(), texts.1.as_bytes())?;
-    shelf.hold(b"t".as_slice(), plan.as_bytes())?;
+    let words = words_of(alloc, ["lift", "d", "p", "t"].as_slice(), more)?;
+    let mut shelf = shelf_with(alloc, texts, b"t".as_slice(), plan)?;
     shelf.hold(
         b"m".as_slice(),
         b"(merge (x1) ((x1)) ((x2)) ((x3)))".as_slice(),
@@ -174,17 +197,13 @@ pub fn solves_so(
     printed: &str,
     put: Option<&str>,
 ) -> Result<bool, Memory> {
-    let mut words = Vec::new(alloc);
     let named = ["solve", "d", "p", "--classical", "f"];
-    push_all(alloc, &mut words, named.as_slice())?;
+    let words = words_of(alloc, named.as_slice(), &[])?;
     let mut shelf = shelf_of(alloc, texts.0.as_bytes(), texts.1.as_bytes())?;
     let number = if put.is_some() { 0 } else { 1 };
     let is_so = runs_so(alloc, &words, &mut shelf, number, printed);
     drop(words);
-    let is_put = match (shelf.held(b"f".as_slice()), put) {
-        (Some(held), Some(put)) => held.slice() == put.as_bytes(),
-        (held, put) => held.is_none() && put.is_none(),
-    };
+    let is_put = holds(&shelf, "f", put);
     drop(shelf);
     Ok(is_so? && is_put)
 }

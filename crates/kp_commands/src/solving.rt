@@ -1,6 +1,8 @@
 use crate::lifting::NO_GOAL;
 use crate::modes::{EITHER, FOUR, NOTHING_OF_BOTH, NOTHING_OF_P};
-use crate::running::{CELLS, DOMAIN, ONE_IS_FULL, PROBLEM, says_so, solves_so};
+use crate::running::{CELLS, DOMAIN, ONE_IS_FULL, PROBLEM, is_so, says_so, solves_so};
+use kp_base::Memory;
+use std::alloc::Global;
 use std::test::Fail;
 
 // The goal asks for what the only action takes away.
@@ -14,7 +16,7 @@ const WRITTEN_PROBLEM: &str =
 
 // Calls to solve by what is said behind their names, with the number they end with and what they print.
 #[test]
-fn problems_are_solved(rt: HostRuntime) -> Result<(), Fail> {
+fn problems_are_solved(rt: HostRuntime) {
     let alloc = rt.alloc();
     let cases = [
         ((DOMAIN, PROBLEM), 0, "(a)\n"),
@@ -25,14 +27,25 @@ fn problems_are_solved(rt: HostRuntime) -> Result<(), Fail> {
         ((FOUR, NOTHING_OF_BOTH), 1, "no plan\nincomplete\n"),
     ];
     for (texts, number, printed) in cases {
-        assert!(rt; says_so(alloc, texts, &["solve", "d", "p"], number, printed)?);
+        assert!(rt; is_so(says_so(alloc, texts, &["solve", "d", "p"], number, printed)));
     }
-    Ok(())
+}
+
+// Whether a call to solve with this option ends with this number and prints this text.
+fn solves_with(
+    alloc: Global,
+    texts: (&str, &str),
+    option: (&str, &str),
+    number: u8,
+    printed: &str,
+) -> Result<bool, Memory> {
+    let said = ["solve", "d", "p", option.0, option.1];
+    says_so(alloc, texts, said.as_slice(), number, printed)
 }
 
 // What the options of a call to solve change.
 #[test]
-fn options_are_heeded(rt: HostRuntime) -> Result<(), Fail> {
+fn options_are_heeded(rt: HostRuntime) {
     let alloc = rt.alloc();
     let cells = (CELLS, ONE_IS_FULL);
     let cases = [
@@ -41,18 +54,9 @@ fn options_are_heeded(rt: HostRuntime) -> Result<(), Fail> {
         (cells, ("--mode", "k0"), 1, "no plan\nincomplete\n"),
         ((FOUR, NOTHING_OF_BOTH), ("--mode", "k2"), 0, "(a)\n"),
     ];
-    for (texts, said, number, printed) in cases {
-        assert!(rt;
-            says_so(
-                alloc,
-                texts,
-                &["solve", "d", "p", said.0, said.1],
-                number,
-                printed
-            )?
-        );
+    for (texts, option, number, printed) in cases {
+        assert!(rt; is_so(solves_with(alloc, texts, option, number, printed)));
     }
-    Ok(())
 }
 
 // The plan of the written files is put under a name, where there is one.

@@ -17,12 +17,12 @@ use Rattle.kp_base.specs.Relevance.{IsClauseFor}
 use Rattle.kp_base.specs.Covering.{Meets, lits_of, IsTarget, IsCovered, IsComplete}
 use Rattle.kp_base.specs.Machine.{Known, closure_of, start, may_act, after_act}
 use Rattle.kp_base.proofs.Lists.{member_at, member_map, all_member, all_from}
-use Rattle.kp_machine.proofs.Monotone.{facts_more_all}
+use Rattle.kp_base.proofs.Places.{element}
+use Rattle.kp_machine.proofs.Public.{facts_more_all}
 use Rattle.kp_complete.specs.Lifts.{after_merges}
 use Rattle.kp_complete.specs.Laws.{NoPlanIsLost}
 use Rattle.kp_complete.proofs.Merges.{after_merges_more, merge_taken}
 use Rattle.kp_complete.proofs.Lifted.{known_after, lifts_from, lifted_accepted}
-use Rattle.kp_complete.proofs.Failing.{element}
 use Rattle.kp_complete.proofs.Relevance.{pre_of_atoms, goal_of_atoms}
 use Rattle.kp_complete.proofs.Facts.{facts_next, facts_run, facts_run_push, facts_run_true}
 use Rattle.kp_complete.proofs.Covered.{covered_known}

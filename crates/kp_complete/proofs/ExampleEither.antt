@@ -21,10 +21,7 @@ use Rattle.kp_base.specs.Covering.{Meets, Covers, tags_of, IsTarget, IsCovered, 
 use Rattle.kp_base.specs.Machine.{MachineStep, accepts, stripped, one_tag_table}
 use Rattle.kp_base.proofs.Lists.{all_member, any_member}
 use Rattle.kp_base.proofs.Lits.{member-has}
-use Rattle.kp_machine.proofs.ExampleCells.{below_all}
-use Rattle.kp_machine.proofs.OneSided.{never_clashes}
-use Rattle.kp_machine.proofs.OneTag.{is_table}
-use Rattle.kp_machine.proofs.Sound.{sound}
+use Rattle.kp_machine.proofs.Public.{literals_below, one_sided_actions_never_clash, one_tag_is_a_table, accepted_lists_are_plans}
 use Rattle.kp_complete.specs.Lifts.{lifted, is_ready, UnliftedAt}
 use Rattle.kp_complete.proofs.Relevance.{relevant_of_atoms}
 use Rattle.kp_complete.proofs.Failing.{dont_lift}
@@ -155,7 +152,7 @@ by_literal P a b c d l = by l.atom.0 l.positive
 -- literals that are true wherever a tag is, and all that are
 closure_from : (lits closure : List Lit) → list_all (λ l. nat_lt l.atom.0 2) closure ≡ true → ((s : State) → is_model p_unknown s ≡ true → list_all (holds s) lits ≡ true → list_all (holds s) closure ≡ true) → ((l : Lit) → l.atom.0 < 2 → Entails p_unknown lits l → has closure l ≡ true) → IsClosure 2 p_unknown lits closure
 closure_from lits closure below there whole = record {
-  of_atoms = λ l h. below_all 2 closure below l (member-has closure l h);
+  of_atoms = λ l h. literals_below 2 closure below l (member-has closure l h);
   entailed = λ l h s model met. all_member (holds s) closure l (member-has closure l h) (there s model met);
   whole = whole;
 }
@@ -245,10 +242,10 @@ complete = record { each = λ l target. subst (IsCovered either p_unknown table)
 -- ---- no plan is lost
 
 never : NeverClashes either p_unknown
-never = never_clashes either p_unknown refl
+never = one_sided_actions_never_clash either p_unknown refl
 
 two_are_a_plan : IsGroundPlan either p_unknown (0 ∷ 1 ∷ [])
-two_are_a_plan = sound either p_unknown table right valid never (MachineStep.act 0 ∷ MachineStep.act 1 ∷ MachineStep.merge 1 ∷ []) refl
+two_are_a_plan = accepted_lists_are_plans either p_unknown table right valid never (MachineStep.act 0 ∷ MachineStep.act 1 ∷ MachineStep.merge 1 ∷ []) refl
 
 two_lift : accepts either table (lifted either table (0 ∷ 1 ∷ [])) ≡ true
 two_lift = none_lost either p_unknown table of_atoms some_model right complete (0 ∷ 1 ∷ []) two_are_a_plan
@@ -259,4 +256,4 @@ lost_without_merge = refl
 
 -- so that table isn't complete
 one_tag_is_incomplete : IsComplete either p_unknown (one_tag_table (negative 1 ∷ [])) → ⊥
-one_tag_is_incomplete whole = false≢true (none_lost either p_unknown (one_tag_table (negative 1 ∷ [])) of_atoms some_model (is_table either p_unknown (negative 1 ∷ []) empty_is_right).0 whole (0 ∷ 1 ∷ []) two_are_a_plan)
+one_tag_is_incomplete whole = false≢true (none_lost either p_unknown (one_tag_table (negative 1 ∷ [])) of_atoms some_model (one_tag_is_a_table either p_unknown (negative 1 ∷ []) empty_is_right).0 whole (0 ∷ 1 ∷ []) two_are_a_plan)

@@ -9,8 +9,7 @@ use Rattle.kp_base.specs.Steps.{State, Facts, holds, fires, after, next, state_a
 use Rattle.kp_base.specs.Machine.{facts_after}
 use Rattle.kp_base.specs.Relevance.{IsRelevant}
 use Rattle.kp_base.proofs.Lists.{member_at}
-use Rattle.kp_machine.proofs.Exact.{persists_exact}
-use Rattle.kp_machine.proofs.Monotone.{Within, facts_more}
+use Rattle.kp_machine.proofs.Public.{persists_where_none_fires_against, IsWithinFor, facts_more}
 use Rattle.kp_complete.proofs.Relevance.{relevant_links}
 
 -- the facts after an action, if there is such an action
@@ -28,7 +27,7 @@ facts_run_push g k [] n = refl
 facts_run_push g k (x ∷ ns) n = facts_run_push g (facts_next (slice_get g.actions x) k) ns n
 
 -- what is relevant to a literal before the actions decides it afterwards
-pub facts_run_more : (g : Ground) (ns : List ℕ) (k j : Facts) (m : Lit) → Within (IsRelevant g.actions) k j m → facts_run g k ns m ≡ true → facts_run g j ns m ≡ true
+pub facts_run_more : (g : Ground) (ns : List ℕ) (k j : Facts) (m : Lit) → IsWithinFor (IsRelevant g.actions) k j m → facts_run g k ns m ≡ true → facts_run g j ns m ≡ true
 facts_run_more g [] k j m within h = within m (IsRelevant.itself m) h
 facts_run_more g (n ∷ ns) k j m within h =
     facts_run_more g ns (facts_next (slice_get g.actions n) k) (facts_next (slice_get g.actions n) j) m (λ l r e. one (slice_get g.actions n) refl l r e) h
@@ -42,7 +41,7 @@ facts_run_more g (n ∷ ns) k j m within h =
 -- what is true after an action is a fact after it, where it began with what is true
 true_is_fact : (a : Action) (s : State) (l : Lit) → holds (after a s) l ≡ true → facts_after a (holds s) l ≡ true
 true_is_fact a s l h =
-    rw (persists_exact a.effects s l) (by_sign l.positive h)
+    rw (persists_where_none_fires_against a.effects s l) (by_sign l.positive h)
   where
     deleted_or_gone : (f d t : Bool) → not (f || (t && not d)) ≡ true → (d || (not t && not f)) ≡ true
     deleted_or_gone true d t h = absurd (false≢true h)

@@ -11,6 +11,7 @@ use Rattle.kp_base.specs.Lists.{Member}
 use Rattle.kp_base.specs.Steps.{asked, pre_of, IsLeastMissing}
 use Rattle.kp_base.specs.Machine.{Known, start, may_act, accepts, stripped}
 use Rattle.kp_base.proofs.Least.{not_all_facts, least_once, least_missing}
+use Rattle.kp_base.proofs.Places.{element}
 use Rattle.kp_complete.specs.Lifts.{after_merges, known_lifted_from, UnliftedAt}
 use Rattle.kp_complete.specs.Laws.{ListsLiftOrFail, FailingListsDontLift, ListsFailOnce}
 use Rattle.kp_complete.proofs.Merges.{after_merges_more}
@@ -27,13 +28,6 @@ record Fails_from (g : Ground) (table : TagTable) (k : Known) (ns : List ℕ) (j
   unknown : IsLeastMissing (known_lifted_from g table k (take j ns) 0) (asked g (slice_get ns j)) l
 
 -- ---- they lift or fail
-
--- a number below the length has its element
-pub element : {X : Type 0} (xs : List X) (n : ℕ) → n < length xs → (x : X) × (slice_get xs n ≡ Some x)
-element xs n lt = elim ((slice_get_cases xs n).1) [
-  | inl c ↦ (c.0, c.2)
-  | inr c ↦ absurd (let le = c.0 in omega (arith, le, lt))
-]
 
 -- at the first step, where its precondition isn't known
 at_first : (g : Ground) (table : TagTable) (k : Known) (n : ℕ) (ns : List ℕ) → list_all (after_merges table.merges k 0) (pre_of (slice_get g.actions n)) ≡ false → (j : ℕ) × (l : Lit) × Fails_from g table k (n ∷ ns) j l

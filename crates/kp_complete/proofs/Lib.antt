@@ -1,3 +1,4 @@
+pub mod Public
 pub mod Merges
 pub mod Lifted
 pub mod Failing

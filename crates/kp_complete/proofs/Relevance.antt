@@ -9,9 +9,9 @@ use Rattle.kp_base.specs.Lists.{Member}
 use Rattle.kp_base.specs.Implicates.{are_below, effect_below, action_below, IsOfItsAtoms}
 use Rattle.kp_base.specs.Relevance.{IsConditionOf, IsRelevant}
 use Rattle.kp_base.proofs.Lists.{all_member}
-use Rattle.kp_machine.proofs.Monotone.{Links}
+use Rattle.kp_machine.proofs.Public.{HasLinksOf}
 
-pub relevant_links : (acts : List Action) (a : Action) → Member acts a → Links (IsRelevant acts) a.effects
+pub relevant_links : (acts : List Action) (a : Action) → Member acts a → HasLinksOf (IsRelevant acts) a.effects
 relevant_links acts a in-acts = record {
   itself = λ l. IsRelevant.itself l;
   cond = λ e c in-effects in-cond. IsRelevant.condition c e.result (record { action = a; effect = e; action_in = in-acts; effect_in = in-effects; condition = in-cond; result = refl });

@@ -9,7 +9,7 @@ use Rattle.kp_base.specs.Implicates.{are_below}
 use Rattle.kp_base.proofs.Lists.{bool_same, all_member, any_alike, all_alike}
 use Rattle.kp_primes.specs.Held.{Held, formula, AreWhole}
 use Rattle.kp_primes.specs.Asked.{entailed_by}
-use Rattle.kp_primes.proofs.Questions.{entails_exact}
+use Rattle.kp_primes.proofs.Public.{entails_exact}
 use Rattle.kp_cover.specs.Tested.{meets}
 
 -- a closure has a literal of each clause where the tag entails one

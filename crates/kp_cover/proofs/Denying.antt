@@ -1,5 +1,5 @@
 -- Whether tags are valid, where they may be of any atoms, and whether a merge is.
-use Rattle.std.proofs.Common.{◌≡◌, ◌↔◌, ◌||◌, ◌++◌, ℕ, Bool, IsTrue, true, false, not, List, [], ◌∷◌, Option, Some, None, slice_get, refl, sym, ap, ◌∙◌, inl, inr}
+use Rattle.std.proofs.Common.{◌≡◌, ◌↔◌, ◌<◌, ◌||◌, ◌++◌, ℕ, zero, suc, arith, length, get_or, Bool, IsTrue, true, false, not, List, [], ◌∷◌, Option, Some, None, slice_get, refl, sym, ap, ◌∙◌, inl, inr}
 use Rattle.std.proofs.lemmas.Bool.{false≢true, and_parts, and_from, or_cases, or_left, or_right, true_from_ne_false}
 use Rattle.std.specs.List.{list_any, list_all}
 use Rattle.kp_base.specs.declared.lit.Lit.{Lit}
@@ -13,17 +13,23 @@ use Rattle.kp_base.specs.Lit.{negated}
 use Rattle.kp_base.specs.LitSet.{with_lit}
 use Rattle.kp_base.specs.Steps.{State, holds, is_model}
 use Rattle.kp_base.specs.Entailed.{tag_holds, IsValid}
-use Rattle.kp_base.proofs.Lists.{all_member, all_from}
+use Rattle.kp_base.proofs.Lists.{all_member, all_from, any_from}
 use Rattle.kp_base.proofs.Lits.{holds-negated}
 use Rattle.kp_base.proofs.Sets.{all-with_lit}
 use Rattle.kp_primes.specs.Held.{Held, formula, AreWhole}
-use Rattle.kp_primes.proofs.Questions.{consistent_exact}
+use Rattle.kp_primes.proofs.Public.{consistent_exact}
 use Rattle.kp_first.specs.Ordered.{state_of, AreFirst}
 use Rattle.kp_cover.specs.Grown.{is_fine}
 use Rattle.kp_cover.specs.Covered.{found, tags_found, all_inside, says_valid}
 use Rattle.kp_cover.specs.Valid.{satisfies_one, AreValidTags, is_outside, AnswersValid}
 use Rattle.kp_cover.specs.declared.tags.Validity.{Validity}
 use Rattle.kp_cover.specs.declared.tags.Validity.TheVariants.{Valid, Invalid}
+
+-- the element at an index is one of the list's
+pub member_here : {X : Type 0} (xs : List X) (i : ℕ) (x : X) → i < length xs → x ≡ get_or xs i x → Member xs x
+member_here [] i x lt is = absurd (omega arith)
+member_here (y ∷ xs) zero x lt is = inl (sym is)
+member_here (y ∷ xs) (suc i) x lt is = inr (member_here xs i x (omega arith) is)
 
 -- ---- tags of any atoms
 
@@ -64,6 +70,10 @@ module _ (h : Held) (whole : AreWhole h) where
     λ e s m. inside tags [] (sym is ∙ e) s m refl,
     λ valid. is ∙ found_inside tags [] ((consistent_exact h whole []).1 whole.has_model) (λ s m k. valid s m),
   )
+
+  -- one tag that can't be denied suffices
+  pub always_valid : (tags : List (List Lit)) (t : List Lit) → Member tags t → all_inside h.clauses [] (t ∷ []) ≡ true → AreValidTags (formula h) tags
+  always_valid tags t at e s m = any_from (list_all (holds s)) tags t at (elim (or_cases (list_all (holds s) t) false (inside (t ∷ []) [] e s m refl)) [ inl one ↦ one | inr none ↦ absurd (false≢true none) ])
 
 -- ---- tags of the atoms
 

@@ -12,7 +12,7 @@ use Rattle.kp_base.specs.Steps.{holds}
 use Rattle.std.proofs.lemmas.List.{map-append}
 use Rattle.kp_base.proofs.Sets.{all-with_lit, same_sets}
 use Rattle.kp_primes.specs.Held.{Held, formula, AreWhole}
-use Rattle.kp_primes.proofs.Questions.{consistent_exact}
+use Rattle.kp_primes.proofs.Public.{consistent_exact}
 use Rattle.kp_cover.specs.Grown.{is_fine, with_each, grown, all_grown, added}
 use Rattle.kp_cover.specs.Tested.{meets, all_meet}
 use Rattle.std.proofs.lemmas.List.Folds.{list_all-append}

@@ -11,7 +11,7 @@ use Rattle.kp_first.specs.declared.truth.Truth.{Truth}
 use Rattle.kp_first.specs.declared.truth.Truth.TheVariants.{Yes, No, Open}
 use Rattle.kp_first.specs.Truths.{IsTruth, opposite, both, either, truth_in}
 use Rattle.kp_first.specs.Asked.{Judges, is_wanted, passes_one, test_at}
-use Rattle.kp_first.proofs.Truths.{opposite_is, all_is, any_is, truth_in_is}
+use Rattle.kp_first.proofs.Public.{truth_of_not, truth_of_all, truth_of_any, truth_of_literal}
 use Rattle.kp_cover.specs.Valid.{satisfies_one, AreValidTags, is_outside}
 use Rattle.kp_cover.specs.Inside.{all_truth, any_truth}
 
@@ -48,10 +48,10 @@ yes_decides known any x xs ys here is =
 -- ---- the test
 
 pub judged : (n : ℕ) (known : List Lit) (tags : List (List Lit)) → list_all (are_below n) tags ≡ true → (s : State) → list_all (holds s) known ≡ true → IsTruth n known (not (satisfies_one tags s)) (opposite (any_truth known tags))
-judged n known tags below s met = opposite_is n known (satisfies_one tags s) (any_truth known tags)
-    (any_is n known (list_all (holds s)) (all_truth known) tags
-    (λ tag m. all_is n known (holds s) (truth_in known) tag
-    (λ l i. truth_in_is n known s met l (ltb-true l.atom.0 n (all_member (λ l. nat_lt l.atom.0 n) tag l i (all_member (are_below n) tags tag m below))))
+judged n known tags below s met = truth_of_not n known (satisfies_one tags s) (any_truth known tags)
+    (truth_of_any n known (list_all (holds s)) (all_truth known) tags
+    (λ tag m. truth_of_all n known (holds s) (truth_in known) tag
+    (λ l i. truth_of_literal n known s met l (ltb-true l.atom.0 n (all_member (λ l. nat_lt l.atom.0 n) tag l i (all_member (are_below n) tags tag m below))))
     true Yes refl)
     false No refl)
 

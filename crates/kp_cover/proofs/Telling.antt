@@ -10,7 +10,7 @@ use Rattle.kp_base.proofs.Once.{all-each_once}
 use Rattle.kp_base.proofs.Sets.{same_set-true}
 use Rattle.kp_primes.specs.Asked.{entailed_by}
 use Rattle.kp_primes.specs.Held.{Held, formula, AreWhole}
-use Rattle.kp_primes.proofs.Questions.{consistent_exact, entails_exact}
+use Rattle.kp_primes.proofs.Public.{consistent_exact, entails_exact}
 use Rattle.kp_cover.specs.Covering.{pick, IsCover}
 use Rattle.kp_cover.specs.Laws.{CoversAreTold}
 use Rattle.kp_cover.specs.Grown.{is_fine}

@@ -7,6 +7,7 @@
 
 mod answer;
 mod covering;
+mod deny;
 mod distinct;
 mod laws;
 mod least;

@@ -1,42 +1,17 @@
 //! Whether a merge of a table is valid.
-ghost use Rattle.std.specs.Prelude.{◌≡◌, ◌↔◌, ◌++◌, ◌≤◌, [], true, drop, length, slice_get, IsTrue, IfOk, OnOk};
+ghost use Rattle.std.specs.Prelude.{◌≡◌, ◌↔◌, ◌++◌, true, slice_get, IsTrue, IfOk, OnOk};
 ghost use Rattle.std.specs.List.{list_all};
 ghost use Rattle.kp_base.specs.Entailed.{IsValid};
 ghost use Rattle.kp_base.specs.Implicates.{are_below};
 ghost use Rattle.kp_primes.specs.Held.{formula};
-ghost use Rattle.kp_cover.specs.Covered.{found, tags_found, all_inside, says_valid};
+ghost use Rattle.kp_cover.specs.Covered.{found, tags_found, says_valid};
 ghost use Rattle.kp_cover.specs.Valid.{AreValidTags};
 
-use crate::product::with_one;
+use crate::deny::none_outside;
 use crate::tags::{Validity, valid};
 use kp_base::{LitSet, Memory, Merge, Row, TagTable};
 use kp_primes::{Primes, are_of_atoms};
 use std::alloc::Global;
-
-// Whether each initial state in which some literals are known satisfies one of the tags from a place on.
-fn all_inside(
-    alloc: Global,
-    primes: &Primes,
-    tags: &[LitSet],
-    known: &LitSet,
-    at: usize,
-) -> Result<bool, Memory>
-    requires at { at ≤ length tags.now }
-    ensures { IfOk result (λ b. b ≡ all_inside primes.now.clauses known.now (drop at tags.now)) }
-{
-    if at == tags.len() {
-        return Ok(false);
-    }
-    let lits = tags[at].slice();
-    for l in lits {
-        if let Some(more) = with_one(alloc, primes, known, l.negated())? {
-            if !all_inside(alloc, primes, tags, &more, at + 1)? {
-                return Ok(false);
-            }
-        }
-    }
-    Ok(true)
-}
 
 // Whether the answer is that tags are valid.
 fn says_valid(answer: &Validity) -> bool
@@ -46,15 +21,6 @@ fn says_valid(answer: &Validity) -> bool
         Validity::Valid => true,
         Validity::Invalid(_) => false,
     }
-}
-
-// Whether there is no consistent way to deny a literal of each tag.
-fn none_outside(alloc: Global, primes: &Primes, tags: &[LitSet]) -> Result<bool, Memory>
-    ensures { IfOk result (λ b. b ≡ all_inside primes.now.clauses [] tags.now) }
-{
-    let known = LitSet::new(alloc);
-    let inside = all_inside(alloc, primes, tags, &known, 0)?;
-    Ok(inside)
 }
 
 // Whether the answer on the tags of the atoms is that they are valid.

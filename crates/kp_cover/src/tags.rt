@@ -4,6 +4,7 @@ ghost use Rattle.kp_base.specs.Implicates.{are_below};
 ghost use Rattle.kp_primes.specs.Held.{formula};
 ghost use Rattle.kp_cover.specs.Valid.{AnswersValid};
 
+use crate::deny::are_soon_valid;
 use crate::outside::Outside;
 use kp_base::{AtomId, LitSet, Memory, Row};
 use kp_first::{first, first_goes_by_what_passes};
@@ -25,6 +26,9 @@ pub fn valid(alloc: Global, primes: &Primes, tags: &Row<LitSet>) -> Result<Valid
     requires { list_all (are_below primes.now.atoms) tags.now ≡ true }
     ensures { IfOk result (AnswersValid primes.now.atoms (formula primes.now) tags.now) }
 {
+    if are_soon_valid(alloc, primes, tags.slice())? {
+        return Ok(Validity::Valid);
+    }
     first_goes_by_what_passes();
     let outside = Outside {
         atoms: primes.atoms(),

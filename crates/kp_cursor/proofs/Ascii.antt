@@ -12,7 +12,7 @@ use Rattle.kp_lex.specs.Bytes.{class_of, follows, follows_class}
 use Rattle.kp_lex.specs.Cutting.{AllAre, IsToken, left, right, dash, equal, name, variable, keyword, Cut}
 use Rattle.kp_lex.specs.Spans.{IsTokenOf}
 use Rattle.kp_lex.specs.Words.{folded}
-use Rattle.kp_lex.proofs.Spans.{each_token}
+use Rattle.kp_lex.proofs.Public.{each_span_is_a_token}
 use Rattle.kp_grammar.specs.Symbols.{symbol_of, seen_in, all_seen_in}
 use Rattle.kp_cursor.specs.Lexemes.{lexed}
 
@@ -81,7 +81,7 @@ span_utf8 text t h = rw (lower_span text t) (IsUtf8-from_ascii (folded text t) (
 
 -- each of the tokens of a text
 token_at : (text : List ℕ) (ts : List Token) (i : ℕ) (d : Token) → Cut 0 text ts → i < length ts → IsTokenOf text (slice_index_or ts i d)
-token_at text ts i d cut less = each_token ts i (slice_index_or ts i d) cut (slice_get-get_or ts i d less)
+token_at text ts i d cut less = each_span_is_a_token ts i (slice_index_or ts i d) cut (slice_get-get_or ts i d less)
 
 pub begins_first : (text : List ℕ) (ts : List Token) (i : ℕ) (d : Token) → Cut 0 text ts → i < length ts → (slice_index_or ts i d).from ≤ (slice_index_or ts i d).to
 begins_first text ts i d cut less = omega (arith, (token_at text ts i d cut less).not_empty)

@@ -1,3 +1,4 @@
+pub mod Public
 pub mod Ascii
 pub mod Seen
 pub mod KindTests

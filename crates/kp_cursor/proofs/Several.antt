@@ -4,6 +4,7 @@ use Rattle.std.specs.List.{prefix_len, take_while}
 use Rattle.std.proofs.lemmas.List.Folds.{length-prefix_len}
 use Rattle.std.proofs.lemmas.List.Sums.{take_while-cons}
 use Rattle.std.proofs.lemmas.List.{drop-drop}
+use Rattle.kp_base.proofs.Parts.{take_while_next}
 use Rattle.kp_grammar.specs.declared.symbol.Symbol.{Symbol}
 use Rattle.kp_grammar.specs.declared.symbol.Symbol.TheVariants as symbols
 use Rattle.kp_grammar.specs.declared.tree.Word.{Word}
@@ -13,7 +14,7 @@ use Rattle.kp_grammar.specs.Forms.{hits, token, many}
 use Rattle.kp_grammar.specs.Grammar.{some}
 use Rattle.kp_grammar.specs.Reading.{stop}
 use Rattle.kp_grammar.specs.Parsing.{Outcome, read}
-use Rattle.kp_grammar.proofs.Exact.{many_step}
+use Rattle.kp_grammar.proofs.Public.{many_unfolds}
 use Rattle.kp_cursor.specs.declared.cursor.Class.{Class}
 use Rattle.kp_cursor.specs.declared.cursor.Class.TheVariants as classes
 use Rattle.kp_cursor.specs.Lexemes.{word_of, from}
@@ -38,9 +39,6 @@ never_bracket classes.Keyword symbols.Right = refl
 never_bracket classes.Keyword _ = refl
 
 -- ---- the longest run from an element that passes
-
-pub taken : {A : Type 0} (p : A → Bool) (x : A) (xs : List A) → p x ≡ true → take_while p (x ∷ xs) ≡ x ∷ take_while p xs
-taken p x xs e = take_while-cons p x xs ∙ rw e refl
 
 passed : {A : Type 0} (p : A → Bool) (x : A) (xs : List A) → p x ≡ true → drop (prefix_len p (x ∷ xs)) (x ∷ xs) ≡ drop (prefix_len p xs) xs
 passed p x xs e = let more : prefix_len p (x ∷ xs) ≡ suc (prefix_len p xs) = rw e (omega arith) in ap (λ n. drop n (x ∷ xs)) more
@@ -70,18 +68,18 @@ module _ {c : Sort} (d : ℕ) (p : Symbol → Bool) (m : Symbol → Maker s_word
   abbrev made : Tok Word → El Word c
   made l = apply Word (m l.symbol) (word_of l)
 
-  abbrev Reads : List (Tok Word) → Type 0
-  Reads ls = read d (many p (token p m)) ls ≡ Ok (map made (take_while passes ls), (drop (prefix_len passes ls) ls))
+  abbrev ReadsRun : List (Tok Word) → Type 0
+  ReadsRun ls = read d (many p (token p m)) ls ≡ Ok (map made (take_while passes ls), (drop (prefix_len passes ls) ls))
 
-  one_more : (l : Tok Word) (ls : List (Tok Word)) (v : Bool) → p l.symbol ≡ v → Reads ls → Reads (l ∷ ls)
+  one_more : (l : Tok Word) (ls : List (Tok Word)) (v : Bool) → p l.symbol ≡ v → ReadsRun ls → ReadsRun (l ∷ ls)
   one_more l ls true e h =
       let is_hit : hits p l.symbol ≡ true = hit l.symbol ∙ e in
-      let step : read d (many p (token p m)) ((l ∷ ls)) ≡ Ok (made l ∷ map made (take_while passes ls), (drop (prefix_len passes ls) ls)) = many_step d p (token p m) ((l ∷ ls)) ∙ rw (is_hit, e, h) refl in
-      step ∙ rw (taken passes l ls e, passed passes l ls e) refl
-  one_more l ls false e h = many_step d p (token p m) ((l ∷ ls)) ∙ rw e refl
+      let step : read d (many p (token p m)) ((l ∷ ls)) ≡ Ok (made l ∷ map made (take_while passes ls), (drop (prefix_len passes ls) ls)) = many_unfolds d p (token p m) ((l ∷ ls)) ∙ rw (is_hit, e, h) refl in
+      step ∙ rw (take_while_next passes l ls e, passed passes l ls e) refl
+  one_more l ls false e h = many_unfolds d p (token p m) ((l ∷ ls)) ∙ rw e refl
 
-  pub run_reads : (ls : List (Tok Word)) → Reads ls
-  run_reads [] = many_step d p (token p m) []
+  pub run_reads : (ls : List (Tok Word)) → ReadsRun ls
+  run_reads [] = many_unfolds d p (token p m) []
   run_reads (l ∷ ls) = one_more l ls (p l.symbol) refl (run_reads ls)
 
 -- ---- what stands first
@@ -104,7 +102,7 @@ unfolding some_at
 by_more c ls at run is rest_is there = go (drop at ls) refl where
   by_test : (l : Tok Word) (us : List (Tok Word)) (v : Bool) → drop at ls ≡ l ∷ us → class_test c l.symbol ≡ v → Words c ls at run
   by_test l us true e h =
-      let front : take_while (is_of c) (l ∷ us) ≡ l ∷ take_while (is_of c) us = taken (is_of c) l us h in
+      let front : take_while (is_of c) (l ∷ us) ≡ l ∷ take_while (is_of c) us = take_while_next (is_of c) l us h in
       let behind : drop (prefix_len (is_of c) (l ∷ us)) (l ∷ us) ≡ drop (prefix_len (is_of c) us) us = passed (is_of c) l us h in
       let left : (drop (prefix_len (is_of c) us) us) ≡ from ls (at + length run) = sym behind ∙ ap (λ (vs : List (Tok Word)). (drop (prefix_len (is_of c) vs) vs)) (sym e) ∙ rest_is in
       record {

@@ -35,7 +35,7 @@ impl<'t, 'a> Model for Tokens<'t, 'a> {
 }
 
 // The text of a token, from all bytes in lower case.
-fn text_of<'a>(lower: &'a [u8], token: &Token) -> &'a str
+fn word_text<'a>(lower: &'a [u8], token: &Token) -> &'a str
     requires { IsWordIn lower.now token.now }
     ensures { result.now ≡ slice_range lower.now token.now.from token.now.to }
 {
@@ -50,7 +50,7 @@ fn read_token<'a>(lower: &'a [u8], token: &Token) -> Lexeme<'a>
     requires { IsWordIn lower.now token.now }
     ensures { tok result ≡ lexed lower.now token.now }
 {
-    let text = text_of(lower, token);
+    let text = word_text(lower, token);
     Lexeme {
         text,
         byte: token.from,

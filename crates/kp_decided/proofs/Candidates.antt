@@ -8,10 +8,10 @@ use Rattle.kp_base.specs.Relevance.{AreClausesFor}
 use Rattle.kp_primes.specs.Held.{Held, formula, AreWhole}
 use Rattle.kp_relevance.specs.Relevant.{ArePairsOf}
 use Rattle.kp_relevance.specs.Gathered.{gathered}
-use Rattle.kp_relevance.proofs.Clauses.{clauses_are}
-use Rattle.kp_modes.proofs.ByModels.{clauses}
+use Rattle.kp_relevance.proofs.Public.{candidates_in_order_are_clauses_for}
+use Rattle.kp_modes.proofs.Public.{clauses_for_by_models as clauses}
 use Rattle.kp_init.specs.Closure.{closure}
-use Rattle.kp_init.proofs.Closure.{closure_exact}
+use Rattle.kp_init.proofs.Public.{closure_over_first_atoms}
 use Rattle.kp_decided.specs.Laws.{ClausesAreDecided}
 use Rattle.kp_decided.proofs.InOrder.{in_order}
 use Rattle.kp_decided.proofs.Holding.{Holding, holding}
@@ -24,7 +24,7 @@ by_held g pairs h target of_ground whole many below = go (in_order (gathered pai
     known = closure (formula h) h.atoms []
 
     go : ((ds : List (List Lit)) × IsPermutation (gathered pairs h.clauses known target h.atoms) ds × IsSorted lits_cmp ds) → (cs : List (List Lit)) × AreClausesFor g.actions h.atoms (formula h) target cs
-    go (ds, perm, order) = (ds, clauses_are h known whole (closure_exact (formula h) h.atoms whole.of_atoms [] refl).closure g pairs target of_ground many below ds perm order)
+    go (ds, perm, order) = (ds, candidates_in_order_are_clauses_for h known whole (closure_over_first_atoms (formula h) h.atoms whole.of_atoms [] refl).closure g pairs target of_ground many below ds perm order)
 
 pub clauses_decided : ClausesAreDecided
 clauses_decided g i target proper below = go (relevance_decided g proper.own_atoms) (holding (length g.atoms) i proper.over proper.ascending proper.model)

@@ -7,8 +7,7 @@ use Rattle.kp_base.specs.Exclusive.{AreExclusive, ClashesFirst, IsClashFree}
 use Rattle.kp_base.specs.Implicates.{IsOfAtoms}
 use Rattle.kp_pairs.specs.Paired.{is_pair}
 use Rattle.kp_clash.specs.Searching.{first_from}
-use Rattle.kp_clash.proofs.Initially.{left_exclusive}
-use Rattle.kp_clash.proofs.InOrder.{first_is, none_is}
+use Rattle.kp_clash.proofs.Public.{settled_pairs_are_exclusive, first_found_is_first_clash, none_found_is_no_clash}
 use Rattle.kp_decided.specs.Laws.{ClashesAreDecided}
 use Rattle.kp_decided.proofs.Together.{at_start, never_together}
 use Rattle.kp_decided.proofs.Settling.{settled}
@@ -18,7 +17,7 @@ pub exclusive_pairs : (g : Ground) (i : Initial) → IsOfAtoms (length g.atoms) 
 exclusive_pairs g i over =
     let start = at_start i (length g.atoms) over in
     let end = settled g (length start) start (omega arith) in
-    (end.0, left_exclusive g i (length g.atoms) start end.0 (never_together i (length g.atoms) over) end.1)
+    (end.0, settled_pairs_are_exclusive g i (length g.atoms) start end.0 (never_together i (length g.atoms) over) end.1)
 
 pub clash_or_none : ClashesAreDecided
 clash_or_none g i over = go (exclusive_pairs g i over)
@@ -27,5 +26,5 @@ clash_or_none g i over = go (exclusive_pairs g i over)
     go (pairs, exclusive) = by (first_from (is_pair pairs) 0 g.actions) refl
       where
         by : (o : Option ClashAt) → o ≡ first_from (is_pair pairs) 0 g.actions → ((c : ClashAt) × ClashesFirst g i c) ⊎ IsClashFree g i
-        by (Some c) is = inl (c, record { pairs = is_pair pairs; exclusive = exclusive; first = first_is (is_pair pairs) g (Some c) is })
-        by None is = inr (record { pairs = is_pair pairs; exclusive = exclusive; none = none_is (is_pair pairs) g None is })
+        by (Some c) is = inl (c, record { pairs = is_pair pairs; exclusive = exclusive; first = first_found_is_first_clash (is_pair pairs) g (Some c) is })
+        by None is = inr (record { pairs = is_pair pairs; exclusive = exclusive; none = none_found_is_no_clash (is_pair pairs) g None is })

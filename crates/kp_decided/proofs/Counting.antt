@@ -13,7 +13,7 @@ use Rattle.kp_base.proofs.Lists.{append_member, map_member, flat_member}
 use Rattle.kp_base.proofs.Sets.{set_ascends}
 use Rattle.kp_primes.specs.Included.{all_included, AreSets, passed_at}
 use Rattle.kp_primes.specs.Answers.{RefusesPrimes, too_many}
-use Rattle.kp_primes.proofs.Answered.{never_over, prefix_stops}
+use Rattle.kp_primes.proofs.Public.{counted_is_never_over, prefix_stops_the_build}
 use Rattle.kp_meaning.specs.declared.lifted.Item.{Item}
 use Rattle.kp_grounding.specs.declared.flat.Atom.{Atom}
 use Rattle.kp_grounding.specs.Ground.{atom_of, has_atom, numbered, numbered_set, ground_atoms}
@@ -83,7 +83,7 @@ module _ (i : Initial) (limit : ℕ) (sets : AreSets i.clauses) where
   ]
 
   least_over : (k : ℕ) → IsFirstOver (suc (length i.clauses)) k → IsLeastOver i limit k
-  least_over k first = go (prefix_stops i 0 limit (stops.Refused (refusals.ImplicatesOver k)) (passed_at k (let lt = first.below in record { there = omega (arith, lt); sets = taken k; over = first.over; before = first.before })))
+  least_over k first = go (prefix_stops_the_build i 0 limit (stops.Refused (refusals.ImplicatesOver k)) (passed_at k (let lt = first.below in record { there = omega (arith, lt); sets = taken k; over = first.over; before = first.before })))
     where
       go : RefusesPrimes i limit (refusals.ImplicatesOver k) → IsLeastOver i limit k
       go (too_many _ least) = least
@@ -91,7 +91,7 @@ module _ (i : Initial) (limit : ℕ) (sets : AreSets i.clauses) where
   found_or_never : ((k : ℕ) × IsLeastOver i limit k) ⊎ IsNeverOver i limit
   found_or_never = elim (searched (suc (length i.clauses))) [
     | inl found ↦ inl (found.0, least_over found.0 found.1)
-    | inr none ↦ inr (never_over i limit (all_included [] (take (length i.clauses) i.clauses)) (record { so_far = refl; sets = taken (length i.clauses); within_limit = λ j le. none j (omega (arith, le)) }))
+    | inr none ↦ inr (counted_is_never_over i limit (all_included [] (take (length i.clauses) i.clauses)) (record { so_far = refl; sets = taken (length i.clauses); within_limit = λ j le. none j (omega (arith, le)) }))
   ]
 
 pub counted : ImplicatesAreCounted

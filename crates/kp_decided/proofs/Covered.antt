@@ -21,14 +21,14 @@ use Rattle.kp_base.proofs.Lists.{any_alike, all_member, all_weaker, member_at}
 use Rattle.kp_base.proofs.Lits.{same_lit-true, same_lit-refl}
 use Rattle.kp_base.proofs.Sets.{set_ascends}
 use Rattle.kp_first.specs.Ordered.{state_of, AnswersFirst}
-use Rattle.kp_first.proofs.Reading.{all_same, model_same}
+use Rattle.kp_first.proofs.Public.{literals_read_first_atoms, models_read_first_atoms}
 use Rattle.kp_cover.specs.Targets.{AreTargets}
 use Rattle.kp_decided.specs.Laws.{AreProper, CoversAreDecided, CoveragesAreDecided, TablesWithNoneAreComplete}
 use Rattle.kp_decided.proofs.Firsts.{first_or_none}
 use Rattle.kp_decided.proofs.Either.{IsEither, both, denied, as_well, some_or_none, kept}
 use Rattle.kp_decided.proofs.Tags.{below_more, over_more, room, all_meet}
 use Rattle.kp_decided.proofs.Candidates.{clauses_decided}
-use Rattle.kp_cover.proofs.Deciding.{target_below}
+use Rattle.kp_cover.proofs.Public.{target_is_below}
 use Rattle.kp_decided.proofs.Needed.{set_member, member_set, targets_decided}
 
 -- ---- covers
@@ -76,9 +76,9 @@ module _ (n : ℕ) (i : Initial) (over : IsOfAtoms n i) (table : TagTable) where
     where
       by : Rooms n table.tags → IsEither (IsValid i table m)
       by r = go (first_or_none r.atoms (outside m) (record {
-        alike = λ s t same. ap₂ (λ a b. a && b) (model_same r.atoms s t same i (over_more n r.atoms r.more i over)) (ap not
+        alike = λ s t same. ap₂ (λ a b. a && b) (models_read_first_atoms r.atoms s t same i (over_more n r.atoms r.more i over)) (ap not
             (any_alike (λ k. tag_holds (slice_get table.tags k) s) (λ k. tag_holds (slice_get table.tags k) t) m.tags (λ k _.
-            one s t k (slice_get table.tags k) refl (λ row is. all_same r.atoms s t same row.lits (all_member (λ (x : TagRow). are_below r.atoms x.lits) table.tags row (member_at table.tags k row is) r.below)))));
+            one s t k (slice_get table.tags k) refl (λ row is. literals_read_first_atoms r.atoms s t same row.lits (all_member (λ (x : TagRow). are_below r.atoms x.lits) table.tags row (member_at table.tags k row is) r.below)))));
       }))
         where
           one : (s t : State) (k : ℕ) (o : Option TagRow) → slice_get table.tags k ≡ o → ((row : TagRow) → slice_get table.tags k ≡ Some row → list_all (holds s) row.lits ≡ list_all (holds t) row.lits) → tag_holds (slice_get table.tags k) s ≡ tag_holds (slice_get table.tags k) t
@@ -132,7 +132,7 @@ pub coverages_decided : CoveragesAreDecided
 coverages_decided g i table proper = go (targets_decided g)
   where
     go : ((ts : List Lit) × AreTargets g ts) → (ls : List Lit) × AreUncovered g i table ls
-    go (ts, are) = by (kept (λ l. IsCovered g i table l → ⊥) ts (λ l m. denied (covered g i table proper l (target_below g proper.own_atoms l ((are.exact l).0 m)))))
+    go (ts, are) = by (kept (λ l. IsCovered g i table l → ⊥) ts (λ l m. denied (covered g i table proper l (target_is_below g proper.own_atoms l ((are.exact l).0 m)))))
       where
         by : ((ks : List Lit) × ((l : Lit) → Member ks l ↔ (Member ts l × (IsCovered g i table l → ⊥)))) → (ls : List Lit) × AreUncovered g i table ls
         by (ks, left) = (
@@ -150,7 +150,7 @@ coverages_decided g i table proper = go (targets_decided g)
 
 pub complete_with_none : TablesWithNoneAreComplete
 complete_with_none g i table proper are = record {
-  each = λ l is_target. elim (covered g i table proper l (target_below g proper.own_atoms l is_target)) [
+  each = λ l is_target. elim (covered g i table proper l (target_is_below g proper.own_atoms l is_target)) [
     | inl c ↦ c
     | inr never ↦ absurd ((are.exact l).1 (is_target, never))
   ];

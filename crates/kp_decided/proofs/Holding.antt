@@ -10,8 +10,7 @@ use Rattle.kp_base.specs.Implicates.{IsOfAtoms}
 use Rattle.kp_clauses.specs.Stored.{subsumed}
 use Rattle.kp_primes.specs.Included.{all_included, unit_of, AreCounted}
 use Rattle.kp_primes.specs.Held.{Held, formula, AreWhole}
-use Rattle.kp_primes.proofs.Answered.{is_empty}
-use Rattle.kp_primes.proofs.Found.{IsFound, is_found}
+use Rattle.kp_primes.proofs.Public.{empty_clause_is_no_state, IsFound, build_is_found}
 use Rattle.kp_decided.specs.Laws.{HasAscendingClauses}
 use Rattle.kp_decided.proofs.Counting.{taken}
 use Rattle.kp_decided.proofs.InOrder.{in_order}
@@ -52,7 +51,7 @@ module _ (n : ℕ) (i : Initial) (over : IsOfAtoms n i) (sets : HasAscendingClau
   counted = record { so_far = refl; sets = taken i 0 sets (length i.clauses); within_limit = limit.1 }
 
   not_empty : (b : Bool) → subsumed all [] ≡ b → subsumed all [] ≡ false
-  not_empty true is = absurd ((is_empty i limit.0 (first (length i.clauses)) all counted refl is).no_model some)
+  not_empty true is = absurd ((empty_clause_is_no_state i limit.0 (first (length i.clauses)) all counted refl is).no_model some)
   not_empty false is = is
 
   pub holding : Holding n i
@@ -60,5 +59,5 @@ module _ (n : ℕ) (i : Initial) (over : IsOfAtoms n i) (sets : HasAscendingClau
     where
       go : ((ds : List (List Lit)) × IsPermutation all ds × IsSorted lits_cmp ds) → Holding n i
       go (ds, perm, order) =
-          let f : IsFound i limit.0 (record { atoms = n; clauses = ds }) = is_found i n limit.0 (first (length i.clauses)) all ds over counted refl (not_empty (subsumed all []) refl) perm order in
+          let f : IsFound i limit.0 (record { atoms = n; clauses = ds }) = build_is_found i n limit.0 (first (length i.clauses)) all ds over counted refl (not_empty (subsumed all []) refl) perm order in
           record { held = record { atoms = n; clauses = ds }; atoms_are = refl; same = f.holds_primes.same_models; whole = f.whole_invariant }

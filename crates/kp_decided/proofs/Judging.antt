@@ -13,15 +13,15 @@ use Rattle.kp_base.specs.Steps.{State, SameBelow, holds, IsLeastMissing, is_mode
 use Rattle.kp_base.specs.Implicates.{are_below, effect_below, IsOfAtoms}
 use Rattle.kp_base.proofs.Lists.{any_alike, all_member}
 use Rattle.kp_base.proofs.Least.{least_missing}
+use Rattle.kp_base.proofs.Places.{none_past}
 use Rattle.kp_first.specs.Asked.{is_wanted}
 use Rattle.kp_first.specs.Ordered.{state_of, AreFirst, AnswersFirst}
-use Rattle.kp_first.proofs.Reading.{all_same, model_same}
+use Rattle.kp_first.proofs.Public.{literals_read_first_atoms, models_read_first_atoms}
 use Rattle.kp_check.specs.declared.answer.Judged.{Judged}
 use Rattle.kp_check.specs.declared.answer.Judged.TheVariants.{Yes, No}
 use Rattle.kp_check.specs.Failing.{FailAt}
 use Rattle.kp_check.specs.Judging.{fails, AnswersJudged}
-use Rattle.kp_check.proofs.Grounded.{IsGroundOf, ground_of, action_parts}
-use Rattle.kp_check.proofs.FailingFrom.{none_past, all_succeed}
+use Rattle.kp_check.proofs.Public.{IsGroundOf, is_ground_of, action_is_of_first_atoms, failing_from_none_is_plan}
 use Rattle.kp_decided.specs.Laws.{VerdictsAreDecided}
 use Rattle.kp_decided.proofs.Firsts.{ReadsFirst, first_or_none}
 
@@ -31,7 +31,7 @@ module _ (n : ℕ) (s t : State) (same : SameBelow n s t) where
   fires_same : (es : List Effect) → list_all (effect_below n) es ≡ true → (l : Lit) → fires es (holds s) l ≡ fires es (holds t) l
   fires_same es below l =
       any_alike (λ e. same_lit e.result l && list_all (holds s) e.cond) (λ e. same_lit e.result l && list_all (holds t) e.cond) es
-      (λ e m. ap (λ b. same_lit e.result l && b) (all_same n s t same e.cond (and_parts (nat_lt e.result.atom.0 n) (are_below n e.cond) (all_member (effect_below n) es e m below)).1))
+      (λ e m. ap (λ b. same_lit e.result l && b) (literals_read_first_atoms n s t same e.cond (and_parts (nat_lt e.result.atom.0 n) (are_below n e.cond) (all_member (effect_below n) es e m below)).1))
 
   after_same : (a : Action) → list_all (effect_below n) a.effects ≡ true → SameBelow n (after a s) (after a t)
   after_same a below p lt =
@@ -39,17 +39,17 @@ module _ (n : ℕ) (s t : State) (same : SameBelow n s t) where
       (ap₂ (λ x y. x && y) (same p lt) (ap not (fires_same a.effects below (negative p))))
 
 run_same : (n : ℕ) (g : Ground) → IsGroundOf n g → (ns : List ℕ) (s t : State) → SameBelow n s t → succeeds g s ns ≡ succeeds g t ns
-run_same n g of [] s t same = all_same n s t same g.goal of.goal
+run_same n g of [] s t same = literals_read_first_atoms n s t same g.goal of.goal
 run_same n g of (m ∷ ns) s t same = go (slice_get g.actions m) refl (λ u v h. run_same n g of ns u v h)
   where
     go : (o : Option Action) → slice_get g.actions m ≡ o → ((u v : State) → SameBelow n u v → succeeds g u ns ≡ succeeds g v ns) → (applicable o s && succeeds g (next o s) ns) ≡ (applicable o t && succeeds g (next o t) ns)
     go None is rest = refl
     go (Some a) is rest =
-        let parts = action_parts n g of m a is in
-        ap₂ (λ x y. x && y) (all_same n s t same a.pre parts.0) (rest (after a s) (after a t) (after_same n s t same a parts.1))
+        let parts = action_is_of_first_atoms n g of m a is in
+        ap₂ (λ x y. x && y) (literals_read_first_atoms n s t same a.pre parts.0) (rest (after a s) (after a t) (after_same n s t same a parts.1))
 
 reads_fails : (n : ℕ) (g : Ground) (i : Initial) (ns : List ℕ) → IsOfAtoms n i → IsGroundOf n g → ReadsFirst n (is_wanted i (fails g ns))
-reads_fails n g i ns over of = record { alike = λ s t same. ap₂ (λ x y. x && y) (model_same n s t same i over) (ap not (run_same n g of ns s t same)) }
+reads_fails n g i ns over of = record { alike = λ s t same. ap₂ (λ x y. x && y) (models_read_first_atoms n s t same i over) (ap not (run_same n g of ns s t same)) }
 
 -- ---- where steps fail
 
@@ -103,11 +103,11 @@ off_of true h = sym h
 off_of false h = refl
 
 pub verdicts_decided : VerdictsAreDecided
-verdicts_decided n g i ns over number of inside = go (first_or_none n (is_wanted i (fails g ns)) (reads_fails n g i ns over (ground_of n g number of)))
+verdicts_decided n g i ns over number of inside = go (first_or_none n (is_wanted i (fails g ns)) (reads_fails n g i ns over (is_ground_of n g number of)))
   where
     told : (ps : List AtomId) → AreFirst n (is_wanted i (fails g ns)) ps → Failure g (state_of ps) ns → (j : Judged) × AnswersJudged n g i ns j
     told ps first f = (No ps f.step f.literal, (first, f.at))
 
     go : ((o : Option (List AtomId)) × AnswersFirst n (is_wanted i (fails g ns)) o) → (j : Judged) × AnswersJudged n g i ns j
-    go (None, none) = (Yes, all_succeed g i ns none)
+    go (None, none) = (Yes, failing_from_none_is_plan g i ns none)
     go (Some ps, first) = told ps first (failure g ns (state_of ps) inside (off_of (succeeds g (state_of ps) ns) (and_parts (is_model i (state_of ps)) (fails g ns (state_of ps)) first.0.passed).1))

@@ -1,3 +1,4 @@
+pub mod Public
 pub mod Sizes
 pub mod Counting
 pub mod Firsts

@@ -13,17 +13,16 @@ use Rattle.kp_base.specs.Relevance.{AreClausesFor, either_value}
 use Rattle.kp_base.proofs.Lists.{append_member, map_member}
 use Rattle.kp_sets.specs.Subsets.{subsets, choose}
 use Rattle.kp_cover.specs.Targets.{AreTargets}
-use Rattle.kp_cover.proofs.Taking.{one_cov}
+use Rattle.kp_cover.proofs.Public.{cov_once, target_is_below}
 use Rattle.kp_merges.specs.declared.merge.FileMerge.{FileMerge}
 use Rattle.kp_modes.specs.declared.way.Way.{Way}
 use Rattle.kp_modes.specs.Modes.{way_of, IsCovering, IsFirstCovering, IsPassed, ArePassed, IsLeastCover, IsRefusedAt, AreOneForEach, AreOtherwise, AreMergesBy, AreMergesFor, merge_of, AreMergesInTurn, AreMergesOf}
 use Rattle.kp_modes.specs.Answers.{IsTargetRefused, RefusesFirst, RefusesMode}
-use Rattle.kp_modes.proofs.Gathered.{numbers, atoms_are}
+use Rattle.kp_modes.proofs.Public.{atoms_of_clauses, atoms_of_clauses_are}
 use Rattle.kp_decided.specs.Laws.{AreProper, ModesAreDecided}
 use Rattle.kp_decided.proofs.Either.{IsEither}
 use Rattle.kp_decided.proofs.Tags.{cov, all_meet}
 use Rattle.kp_decided.proofs.Candidates.{clauses_decided}
-use Rattle.kp_cover.proofs.Deciding.{target_below}
 use Rattle.kp_decided.proofs.Needed.{targets_decided}
 
 -- a set of one size has that many elements
@@ -48,7 +47,7 @@ module _ (n : ℕ) (i : Initial) (over : IsOfAtoms n i) (cs : List (List Lit)) w
         where
           by : IsEither (AllMeet i tags cs) → IsEither (IsCovering i cs set)
           by (inl all) = inl (tags, record { are = are; cover = all })
-          by (inr never) = inr (λ r. never (subst (λ ts. AllMeet i ts cs) (one_cov i i set r.0 tags (λ s. refl) r.1.are are) r.1.cover))
+          by (inr never) = inr (λ r. never (subst (λ ts. AllMeet i ts cs) (cov_once i i set r.0 tags (λ s. refl) r.1.are are) r.1.cover))
 
   -- the first set that covers, or none covers
   abbrev FirstOrNone : List (List (List Lit)) → Type 0
@@ -126,8 +125,8 @@ module _ (n : ℕ) (i : Initial) (over : IsOfAtoms n i) (cs : List (List Lit)) w
     otherwise : (b : Bool) → (merges : List (List (List Lit))) × AreOtherwise i cs b merges
     otherwise false = let r = for_each cs in (r.0, AreOtherwise.for_each r.0 r.1)
     otherwise true =
-        let tags = cov n i over (map either_value (numbers cs)) in
-        (tags.0 ∷ [], AreOtherwise.by_models tags.0 (record { atoms = numbers cs; are_atoms = atoms_are cs; are = tags.1 }))
+        let tags = cov n i over (map either_value (atoms_of_clauses cs)) in
+        (tags.0 ∷ [], AreOtherwise.by_models tags.0 (record { atoms = atoms_of_clauses cs; are_atoms = atoms_of_clauses_are cs; are = tags.1 }))
 
     -- there are merges, or a size is refused and the empty tag doesn't cover
     abbrev ByClauses : Type 0
@@ -152,7 +151,7 @@ module _ (g : Ground) (i : Initial) (proper : AreProper g i) (way : Way) (limit 
   ForTarget target = ((merges : List (List (List Lit))) × AreMergesFor way limit g i target merges) ⊎ ((v : ℕ) × IsTargetRefused way limit g i target v)
 
   for_target : (target : Lit) → IsTarget g target → ForTarget target
-  for_target target is = go (clauses_decided g i target proper (target_below g proper.own_atoms target is))
+  for_target target is = go (clauses_decided g i target proper (target_is_below g proper.own_atoms target is))
     where
       go : ((cs : List (List Lit)) × AreClausesFor g.actions (length g.atoms) i target cs) → ForTarget target
       go (cs, are) = by (by_clauses (length g.atoms) i proper.over cs way limit)

@@ -9,7 +9,7 @@ use Rattle.kp_base.specs.Steps.{State, holds, is_model}
 use Rattle.kp_base.specs.Entailed.{IsConsistent}
 use Rattle.kp_base.specs.Implicates.{are_below, IsOfAtoms}
 use Rattle.kp_first.specs.Ordered.{state_of, AnswersFirst}
-use Rattle.kp_first.proofs.Reading.{all_same, model_same}
+use Rattle.kp_first.proofs.Public.{literals_read_first_atoms, models_read_first_atoms}
 use Rattle.kp_decided.specs.Laws.{ModelsAreDecided}
 use Rattle.kp_decided.proofs.Firsts.{ReadsFirst, first_or_none}
 
@@ -18,7 +18,7 @@ module _ (n : ℕ) (i : Initial) (over : IsOfAtoms n i) where
   meets tag s = is_model i s && list_all (holds s) tag
 
   reads_tag : (tag : List Lit) → are_below n tag ≡ true → ReadsFirst n (meets tag)
-  reads_tag tag below = record { alike = λ s t same. ap₂ (λ x y. x && y) (model_same n s t same i over) (all_same n s t same tag below) }
+  reads_tag tag below = record { alike = λ s t same. ap₂ (λ x y. x && y) (models_read_first_atoms n s t same i over) (literals_read_first_atoms n s t same tag below) }
 
   -- a tag is consistent or not
   pub consistent_or_not : (tag : List Lit) → are_below n tag ≡ true → IsConsistent i tag ⊎ (IsConsistent i tag → ⊥)

@@ -14,18 +14,18 @@ use Rattle.kp_base.specs.Steps.{State, is_model, succeeds, IsGroundPlan}
 use Rattle.kp_base.proofs.Lists.{member_at, member_right, member_map, map_member}
 use Rattle.kp_first.specs.Asked.{is_wanted}
 use Rattle.kp_first.specs.Ordered.{state_of, AreRising, AreFirst}
-use Rattle.kp_first.proofs.Unique.{first_once}
+use Rattle.kp_first.proofs.Public.{first_state_once}
 use Rattle.kp_cover.specs.Valid.{satisfies_one, is_outside}
 use Rattle.kp_check.specs.declared.answer.Judged.{Judged}
 use Rattle.kp_check.specs.declared.answer.Judged.TheVariants.{Yes, No}
 use Rattle.kp_check.specs.Failing.{FailAt}
 use Rattle.kp_check.specs.Judging.{fails, AnswersJudged}
-use Rattle.kp_check.proofs.Once.{failing_once}
+use Rattle.kp_check.proofs.Public.{steps_fail_in_one_place}
 use Rattle.kp_plans.specs.declared.step.PlanStep.{PlanStep}
 use Rattle.kp_plans.specs.Found.{IsFirstUnknown}
 use Rattle.kp_merges.specs.declared.merge.FileMerge.{FileMerge}
 use Rattle.kp_tags.specs.Answers.{AreConsistent, IsFirstInconsistent, AreAcceptable, RefusesMerge, inconsistent, invalid, AreAllAcceptable, RefusesFirst, Accepts, RefusesTable, at_fault, tags_over}
-use Rattle.kp_tags.proofs.Unique.{one_table}
+use Rattle.kp_tags.proofs.Public.{accepted_table_once}
 
 -- ---- lists of atoms
 
@@ -82,7 +82,7 @@ rising_once (p ∷ ps) (q ∷ qs) r s same =
 
 -- the first state that passes has one list of atoms
 pub first_atoms_once : (n : ℕ) (passes : State → Bool) (ps qs : List AtomId) → AreFirst n passes ps → AreFirst n passes qs → ps ≡ qs
-first_atoms_once n passes ps qs a b = rising_once ps qs a.1 b.1 (first_once n passes (state_of ps) (state_of qs) a.0 b.0)
+first_atoms_once n passes ps qs a b = rising_once ps qs a.1 b.1 (first_state_once n passes (state_of ps) (state_of qs) a.0 b.0)
 
 -- ---- merges
 
@@ -155,7 +155,7 @@ module _ (n : ℕ) (i : Initial) where
 
     -- merges have one table
     pub accepts_once : (limit : ℕ) (t u : TagTable) → Accepts n i ms limit t → Accepts n i ms limit u → t ≡ u
-    accepts_once limit t u a b = one_table n i ms t u a.is_table b.is_table
+    accepts_once limit t u a b = accepted_table_once n i ms t u a.is_table b.is_table
 
 -- ---- plans
 
@@ -172,7 +172,7 @@ verdict_once n g i ns Yes (No ps k l) plan f = absurd (plan_fails_not g i ns (st
 verdict_once n g i ns (No ps k l) Yes f plan = absurd (plan_fails_not g i ns (state_of ps) plan f.0.0.passed)
 verdict_once n g i ns (No ps k l) (No qs j m) f h =
     let atoms : ps ≡ qs = first_atoms_once n (is_wanted i (fails g ns)) ps qs f.0 h.0 in
-    let place = failing_once g (state_of qs) ns k j l m (subst (λ xs. FailAt g (state_of xs) ns k l) atoms f.1) h.1 in
+    let place = steps_fail_in_one_place g (state_of qs) ns k j l m (subst (λ xs. FailAt g (state_of xs) ns k l) atoms f.1) h.1 in
     cc (atoms, place.0, place.1)
 
 -- ---- steps

@@ -3,8 +3,7 @@ use Rattle.std.proofs.Common.{◌≡◌, ◌<◌, ◌≤◌, ◌*◌, ◌+◌, �
 use Rattle.std.proofs.lemmas.List.FromFn.{length-map-range_with_len, get_or-map-range_with_len}
 use Rattle.std.specs.List.{range_with_len}
 use Rattle.kp_relevance.specs.Tabled.{Marks, marked, IsSquare, AddsMarks, through, Closes, marks_of_all, pairs_of}
-use Rattle.kp_relevance.proofs.Closing.{closes_none, closes_more}
-use Rattle.kp_relevance.proofs.Exact.{rows_tell}
+use Rattle.kp_relevance.proofs.Public.{closes_none, closes_more, rows_tell_relevance}
 use Rattle.kp_decided.specs.Laws.{RelevanceIsDecided}
 
 -- ---- rows of a test
@@ -72,7 +71,7 @@ none_marked j i = refl
 pub relevance_decided : RelevanceIsDecided
 relevance_decided g fine = (
   pairs_of n rows,
-  rows_tell g n n size [] [] own own filled filled rows rows fine refl refl refl none_marked refl (adds_to_none size nat_eq) refl size refl (adds_to size nat_eq (marks_of_all g.actions)) refl (closes size marks size (omega arith)) refl,
+  rows_tell_relevance g n n size [] [] own own filled filled rows rows fine refl refl refl none_marked refl (adds_to_none size nat_eq) refl size refl (adds_to size nat_eq (marks_of_all g.actions)) refl (closes size marks size (omega arith)) refl,
 )
   where
     n : ℕ

@@ -9,8 +9,7 @@ use Rattle.kp_pairs.specs.Paired.{are_both, is_pair}
 use Rattle.kp_pairs.specs.Removed.{IsWithout, Shrinks}
 use Rattle.kp_pairs.specs.Settled.{stays_in, stays}
 use Rattle.kp_clash.specs.Settling.{IsSettled}
-use Rattle.kp_pairs.proofs.Greatest.{parts_of, stays_by}
-use Rattle.kp_pairs.proofs.Removing.{removes, shrinks_on}
+use Rattle.kp_pairs.proofs.Public.{stays_in_parts, stays_by_parts, broken_pair_may_go, shrinks_further}
 
 -- ---- lists
 
@@ -90,8 +89,8 @@ is_without x ps m = record {
 
 stays_turned : (g : Ground) (pairs : Pairs) (p q : ℕ) → stays g pairs p q ≡ true → stays g pairs q p ≡ true
 stays_turned g pairs p q h = all_weaker (stays_in pairs p q) (stays_in pairs q p) g.actions (λ a _ k.
-    let f = parts_of pairs p q a k in
-    stays_by pairs q p a (record { both = f.both_turned; both_turned = f.both; apart = f.apart_turned; apart_turned = f.apart })) h
+    let f = stays_in_parts pairs p q a k in
+    stays_by_parts pairs q p a (record { both = f.both_turned; both_turned = f.both; apart = f.apart_turned; apart_turned = f.apart })) h
 
 -- where each listed pair stays, each pair does
 all_settled : (g : Ground) (ps : List (ℕ × ℕ)) → ((x : ℕ × ℕ) → Member ps x → stays g (is_pair ps) x.0 x.1 ≡ true) → (p q : ℕ) → is_pair ps p q ≡ true → stays g (is_pair ps) p q ≡ true
@@ -116,7 +115,7 @@ removed : (g : Ground) (start : List (ℕ × ℕ)) (x : ℕ × ℕ) → Member s
 removed g start x m broken =
     let less = is_without x start m in record {
       left = without x.0 x.1 start;
-      shrinks = removes g.actions x.0 x.1 start (without x.0 x.1 start) (record { pair = any_from (are_both x.0 x.1) start x m (itself x); broken = broken }) less;
+      shrinks = broken_pair_may_go g.actions x.0 x.1 start (without x.0 x.1 start) (record { pair = any_from (are_both x.0 x.1) start x m (itself x); broken = broken }) less;
       fewer = less.fewer;
     }
 
@@ -136,5 +135,5 @@ settled g (suc most) start le = elim (settled_or_removed g start) [
   | inl end ↦ (start, end)
   | inr r ↦
       let rest = settled g most r.left (let lt = r.fewer in omega (arith, le, lt)) in
-      (rest.0, record { shrinks = shrinks_on g.actions start r.left rest.0 r.shrinks rest.1.shrinks; settled = rest.1.settled })
+      (rest.0, record { shrinks = shrinks_further g.actions start r.left rest.0 r.shrinks rest.1.shrinks; settled = rest.1.settled })
 ]

@@ -16,11 +16,11 @@ use Rattle.kp_base.specs.Entailed.{IsConsistent}
 use Rattle.kp_base.proofs.Lists.{any_alike, all_member, all_from, flat_member, map_member, map_map}
 use Rattle.kp_base.proofs.Once.{all_each_once}
 use Rattle.kp_first.specs.Ordered.{AreFirst, AnswersFirst}
-use Rattle.kp_first.proofs.Reading.{all_same, model_same}
+use Rattle.kp_first.proofs.Public.{literals_read_first_atoms, models_read_first_atoms}
 use Rattle.kp_cover.specs.Valid.{AreValidTags, is_outside}
-use Rattle.kp_cover.proofs.Inside.{all_inside}
+use Rattle.kp_cover.proofs.Public.{none_outside_is_valid}
 use Rattle.kp_init.specs.Closure.{closure}
-use Rattle.kp_init.proofs.Closure.{closure_exact}
+use Rattle.kp_init.proofs.Public.{closure_over_first_atoms}
 use Rattle.kp_merges.specs.declared.merge.FileMerge.{FileMerge}
 use Rattle.kp_base.specs.LitSet.{same_set}
 use Rattle.kp_tags.specs.Tables.{has_tags_of_atoms, used_tags, numbered, HasClosure, IsTableOf}
@@ -61,8 +61,8 @@ all_judged {X} Fine Fault (y ∷ ys) each = go (each y (inl refl)) (all_judged F
 module _ (n : ℕ) (i : Initial) (over : IsOfAtoms n i) where
   reads_outside : (tags : List (List Lit)) → list_all (are_below n) tags ≡ true → ReadsFirst n (is_outside i tags)
   reads_outside tags below = record {
-    alike = λ s t same. ap₂ (λ x y. x && y) (model_same n s t same i over) (ap not
-        (any_alike (list_all (holds s)) (list_all (holds t)) tags (λ tag m. all_same n s t same tag (all_member (are_below n) tags tag m below))));
+    alike = λ s t same. ap₂ (λ x y. x && y) (models_read_first_atoms n s t same i over) (ap not
+        (any_alike (list_all (holds s)) (list_all (holds t)) tags (λ tag m. literals_read_first_atoms n s t same tag (all_member (are_below n) tags tag m below))));
   }
 
   -- tags are valid, or some model is the first outside
@@ -70,7 +70,7 @@ module _ (n : ℕ) (i : Initial) (over : IsOfAtoms n i) where
   valid_or_outside tags below = go (first_or_none n (is_outside i tags) (reads_outside tags below))
     where
       go : ((o : Option (List AtomId)) × AnswersFirst n (is_outside i tags) o) → AreValidTags i tags ⊎ ((ps : List AtomId) × AreFirst n (is_outside i tags) ps)
-      go (None, none) = inl (all_inside i tags none)
+      go (None, none) = inl (none_outside_is_valid i tags none)
       go (Some ps, first) = inr (ps, first)
 
   -- ---- merges
@@ -113,7 +113,7 @@ module _ (n : ℕ) (i : Initial) (over : IsOfAtoms n i) where
     tags = map_map row_of (λ row. row.lits) (λ tag. tag) (used_tags ms) (λ tag. refl) ∙ itself (used_tags ms);
     closures = λ row m.
         let from = map_member row_of (used_tags ms) row m in
-        let exact = closure_exact i n over from.0 (all_member (are_below n) (used_tags ms) from.0 from.1 (used_below ms below)) in
+        let exact = closure_over_first_atoms i n over from.0 (all_member (are_below n) (used_tags ms) from.0 from.1 (used_below ms below)) in
         subst (HasClosure n i) from.2 (record { closure = exact.closure; ascending = exact.ascending });
     merges = refl;
   }

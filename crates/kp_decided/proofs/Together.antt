@@ -9,13 +9,14 @@ use Rattle.kp_base.specs.Steps.{State, has, is_model}
 use Rattle.kp_base.specs.Clashes.{Pairs}
 use Rattle.kp_base.specs.Entailed.{IsClosure}
 use Rattle.kp_base.specs.Implicates.{IsOfAtoms}
+use Rattle.kp_base.proofs.Members.{range_only}
 use Rattle.kp_base.proofs.Lists.{any_from, any_member, flat_member, map_member, member_filter, filter_member}
+use Rattle.kp_base.proofs.Cases.{orders}
 use Rattle.kp_init.specs.Closure.{closure}
-use Rattle.kp_init.proofs.Closure.{closure_exact, range_only}
+use Rattle.kp_init.proofs.Public.{closure_over_first_atoms}
 use Rattle.kp_pairs.specs.Paired.{are_both, is_pair, all_below}
 use Rattle.kp_clash.specs.Settling.{AreNeverTogether}
-use Rattle.kp_pairs.proofs.Removing.{pair_turned}
-use Rattle.kp_pairs.proofs.Marked.{orders, in_all}
+use Rattle.kp_pairs.proofs.Public.{pair_turned, two_below_are_among_all}
 
 -- each of the pairs has two numbers below n
 below_in : (n : ℕ) (x : ℕ × ℕ) → Member (all_below n) x → (x.0 < n) × (x.1 < n)
@@ -47,7 +48,7 @@ module _ (i : Initial) (n : ℕ) (over : IsOfAtoms n i) where
     never : (s : State) → is_model i s ≡ true → (s p && s q) ≡ false
 
   exact : (p : ℕ) → p < n → IsClosure n i (positive p ∷ []) (closure i n (positive p ∷ []))
-  exact p lt = (closure_exact i n over (positive p ∷ []) (and_from (nat_lt p n) true (lt-ltb p n lt) refl)).closure
+  exact p lt = (closure_over_first_atoms i n over (positive p ∷ []) (and_from (nat_lt p n) true (lt-ltb p n lt) refl)).closure
 
   never_by : (p q : ℕ) → p < n → denied_by p q ≡ true → (s : State) → is_model i s ≡ true → (s p && s q) ≡ false
   never_by p q lt h s model = go (s p) (s q) (λ on. not-true (s q) ((exact p lt).entailed (negative q) h s model (and_from (s p) true on refl)))
@@ -100,7 +101,7 @@ module _ (i : Initial) (n : ℕ) (over : IsOfAtoms n i) where
   pair_there : (p q : ℕ) → p < q → AreApart p q → is_pair at_start p q ≡ true
   pair_there p q lt a =
       any_from (are_both p q) at_start (p, q)
-      (member_filter in_order (all_below n) (p, q) (in_all n p q a.lower a.upper) (and_from (nat_lt p q) (denied_by p q) (lt-ltb p q lt) (by_never p q a.lower a.upper a.never)))
+      (member_filter in_order (all_below n) (p, q) (two_below_are_among_all n p q a.lower a.upper) (and_from (nat_lt p q) (denied_by p q) (lt-ltb p q lt) (by_never p q a.lower a.upper a.never)))
       (or_left (nat_eq p p && nat_eq q q) (nat_eq p q && nat_eq q p) (and_from (nat_eq p p) (nat_eq q q) (eq-eqb p p refl) (eq-eqb q q refl)))
 
   apart_pair : (p q : ℕ) → AreApart p q → is_pair at_start p q ≡ true

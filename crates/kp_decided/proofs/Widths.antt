@@ -4,9 +4,9 @@ use Rattle.kp_base.specs.declared.lit.Lit.{Lit}
 use Rattle.kp_base.specs.declared.ground.Ground.{Ground}
 use Rattle.kp_base.specs.declared.ground.Initial.{Initial}
 use Rattle.kp_cover.specs.Targets.{AreTargets}
-use Rattle.kp_cover.proofs.Deciding.{target_below}
+use Rattle.kp_cover.proofs.Public.{target_is_below}
 use Rattle.kp_width.specs.Laws.{IsKnown}
-use Rattle.kp_width.proofs.Answered.{answered}
+use Rattle.kp_width.proofs.Public.{known_problems_are_answered}
 use Rattle.kp_decided.specs.Laws.{AreProper, WidthsAreDecided}
 use Rattle.kp_decided.proofs.Tags.{cov, all_meet}
 use Rattle.kp_decided.proofs.Candidates.{clauses_decided}
@@ -17,10 +17,10 @@ known : (g : Ground) (i : Initial) → AreProper g i → ((ts : List Lit) × Are
 known g i proper (ts, are) = record {
   targets = ts;
   are_targets = are;
-  clauses = λ l m. clauses_decided g i l proper (target_below g proper.own_atoms l ((are.exact l).0 m));
+  clauses = λ l m. clauses_decided g i l proper (target_is_below g proper.own_atoms l ((are.exact l).0 m));
   tags = λ cs. cov (length g.atoms) i proper.over cs;
   meeting = λ tags cs. all_meet (length g.atoms) i proper.over tags cs;
 }
 
 pub widths_decided : WidthsAreDecided
-widths_decided limits bound g i proper = answered limits bound g i (known g i proper (targets_decided g))
+widths_decided limits bound g i proper = known_problems_are_answered limits bound g i (known g i proper (targets_decided g))

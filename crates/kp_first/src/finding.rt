@@ -1,11 +1,13 @@
-ghost use Rattle.std.specs.Prelude.{◌≡◌, ◌<◌, true, length, IfOk};
+ghost use Rattle.std.specs.Prelude.{◌≡◌, ◌<◌, true, false, length, IfOk};
+ghost use Rattle.kp_base.specs.Lit.{negative, positive};
 ghost use Rattle.kp_base.specs.LitSet.{with_lit};
 ghost use Rattle.kp_base.specs.Implicates.{are_below};
 ghost use Rattle.kp_primes.specs.Held.{formula};
+ghost use Rattle.kp_first.specs.Known.{is_decided};
 ghost use Rattle.kp_first.specs.Asked.{AnswersFind, JudgesTag, passes_one, test_at};
 
 use crate::{Question, Truth};
-use kp_base::{Lit, LitSet, Memory};
+use kp_base::{AtomId, Lit, LitSet, Memory};
 use kp_primes::Primes;
 use std::alloc::Global;
 
@@ -51,6 +53,7 @@ fn judge_tag<T: Question>(
 
 // A tag within this one all of whose models pass the test with this number, and that has one. None where no model of
 // the tag passes.
+#[cycle(find)]
 fn find<T: Question>(
     alloc: Global,
     primes: &Primes,
@@ -67,22 +70,63 @@ fn find<T: Question>(
     match judge_tag(alloc, primes, question, number, &tag)? {
         Truth::Yes => Ok(Some(tag)),
         Truth::No => Ok(None),
-        Truth::Open(atom) => {
-            let lit = Lit {
-                atom,
-                positive: false,
-            };
-            let without = extended(alloc, &tag, lit)?;
-            match find(alloc, primes, question, number, without)? {
-                Some(found) => Ok(Some(found)),
-                None => {
-                    let with = with_more(tag, lit.negated())?;
-                    let rest = find(alloc, primes, question, number, with)?;
-                    Ok(rest)
-                }
-            }
-        }
+        Truth::Open(atom) => match find_absent(alloc, primes, question, number, &tag, atom)? {
+            Some(found) => Ok(Some(found)),
+            None => find_present(alloc, primes, question, number, tag, atom),
+        },
     }
+}
+
+// The same of the tag without an atom that it leaves open.
+#[cycle(find)]
+fn find_absent<T: Question>(
+    alloc: Global,
+    primes: &Primes,
+    question: &T,
+    number: usize,
+    tag: &LitSet,
+    atom: AtomId,
+) -> Result<Option<LitSet>, Memory>
+    requires ready { T.ready question.now }
+    requires atoms { T.atoms question.now ≡ primes.now.atoms }
+    requires in_range { number < length (T.tests question.now) }
+    requires below { are_below primes.now.atoms tag.now ≡ true }
+    requires open_below { atom.0 < primes.now.atoms }
+    requires undecided { is_decided tag.now atom.0 ≡ false }
+    ensures { IfOk result (AnswersFind primes.now.atoms (formula primes.now) (test_at (T.tests question.now) number) (with_lit (negative atom.0) tag.now)) }
+{
+    let absent = Lit {
+        atom,
+        positive: false,
+    };
+    let without = extended(alloc, tag, absent)?;
+    find(alloc, primes, question, number, without)
+}
+
+// The same of the tag with an atom that it leaves open.
+#[cycle(find)]
+fn find_present<T: Question>(
+    alloc: Global,
+    primes: &Primes,
+    question: &T,
+    number: usize,
+    tag: LitSet,
+    atom: AtomId,
+) -> Result<Option<LitSet>, Memory>
+    requires ready { T.ready question.now }
+    requires atoms { T.atoms question.now ≡ primes.now.atoms }
+    requires in_range { number < length (T.tests question.now) }
+    requires below { are_below primes.now.atoms tag ≡ true }
+    requires open_below { atom.0 < primes.now.atoms }
+    requires undecided { is_decided tag atom.0 ≡ false }
+    ensures { IfOk result (AnswersFind primes.now.atoms (formula primes.now) (test_at (T.tests question.now) number) (with_lit (positive atom.0) tag)) }
+{
+    let present = Lit {
+        atom,
+        positive: true,
+    };
+    let with = with_more(tag, present)?;
+    find(alloc, primes, question, number, with)
 }
 
 /// A tag within this one all of whose models pass one of the tests, and that has one. None where no model of the tag

@@ -4,8 +4,9 @@ ghost use Rattle.std.specs.List.{range_with_len};
 ghost use Rattle.kp_gen.specs.Lines.{text};
 ghost use Rattle.kp_gen.specs.Bombs.{package_name, armed, disarmed, domain_lines, objects_lines, init_lines, goal_lines, problem_lines, bombs_texts};
 
-use crate::lines::{put, put_each};
+use crate::lines::put_each;
 use kp_base::{Memory, Row, Texts};
+use kp_spelling::put;
 use std::alloc::Global;
 
 const DOMAIN: &[u8] = b"(define (domain bombs)

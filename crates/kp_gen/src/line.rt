@@ -4,8 +4,9 @@ ghost use Rattle.std.specs.List.{range_with_len};
 ghost use Rattle.kp_gen.specs.Lines.{text};
 ghost use Rattle.kp_gen.specs.Line.{cell, at_cell, next_cell, domain_lines, objects_lines, oneof_lines, init_lines, problem_lines, line_texts};
 
-use crate::lines::{put, put_each, put_numbered};
+use crate::lines::{put_each, put_numbered};
 use kp_base::{Memory, Row, Texts};
+use kp_spelling::put;
 use std::alloc::Global;
 
 const DOMAIN: &[u8] = b"(define (domain line)

@@ -1,25 +1,9 @@
-ghost use Rattle.std.specs.Prelude.{◌≡◌, ◌++◌, ◌<◌, ◌-◌, decimal, OnOk};
+ghost use Rattle.std.specs.Prelude.{◌≡◌, ◌++◌, ◌<◌, ◌-◌, OnOk};
 ghost use Rattle.std.specs.List.{flat_map, range_with_len};
 ghost use Rattle.kp_gen.specs.Numbered.{numbered};
 
-use itoa::Buffer;
 use kp_base::Memory;
-
-// Adds bytes at the end.
-pub(crate) fn put(out: &mut Vec<u8>, bytes: &[u8]) -> Result<(), Memory>
-    ensures { OnOk result (out.new.items ≡ out.old.items ++ bytes.now) }
-{
-    out.extend_from_slice(bytes)?;
-    Ok(())
-}
-
-// Adds a number in decimal.
-fn put_number(out: &mut Vec<u8>, number: u32) -> Result<(), Memory>
-    ensures { OnOk result (out.new.items ≡ out.old.items ++ decimal number) }
-{
-    let mut buffer = Buffer::new();
-    put(out, buffer.format(number).as_bytes())
-}
+use kp_spelling::{put, put_number};
 
 // Adds a number with what stands in front of it and behind it.
 pub(crate) fn put_numbered(
@@ -31,7 +15,7 @@ pub(crate) fn put_numbered(
     ensures { OnOk result (out.new.items ≡ out.old.items ++ numbered front.now behind.now number) }
 {
     put(out, front)?;
-    put_number(out, number)?;
+    put_number(out, u64::from(number))?;
     put(out, behind)
 }
 

@@ -15,12 +15,10 @@ use Rattle.kp_meaning.specs.Types.{declared, object_lines, objects}
 use Rattle.kp_meaning.specs.Numbered.{Lifted}
 use Rattle.kp_meaning.specs.Lifted.{ground}
 use Rattle.kp_meaning.specs.Numbering.{heads, numbered_pred, numbered_problem}
-use Rattle.kp_meaning.proofs.Indexes.{Distinct, distinct_once}
-use Rattle.kp_meaning.proofs.NumberedItems.{is_valid}
-use Rattle.kp_meaning.proofs.NumberedPlans.{Clean, clean}
+use Rattle.kp_meaning.proofs.Public.{AreDistinctNames, distinct_are_distinct, is_valid_literal, HasCleanParts, clean_parts}
 use Rattle.kp_grounding.specs.declared.flat.Atom.{Atom}
 use Rattle.kp_grounding.specs.Ground.{atom_of, occurring, ground_atoms}
-use Rattle.kp_grounding.proofs.Atoms.{atoms_are_numbered}
+use Rattle.kp_grounding.proofs.Public.{atoms_are_numbered}
 use Rattle.kp_init.specs.ByName.{predicate_names, is_declared}
 use Rattle.kp_given.specs.Laws.{NamesTellGroundAtoms}
 use Rattle.kp_given.proofs.Valid.{occurring_valid}
@@ -34,7 +32,7 @@ all_apart x (y ∷ ys) h =
     let others : List Name = filter (λ y. not (same x y)) ys in
     ap (λ t. cond (not t) (y ∷ others) others) parts.0 ∙ ap (λ zs. y ∷ zs) (all_apart x ys parts.1)
 
-distinct_same : (xs : List Name) → Distinct xs → distinct xs ≡ xs
+distinct_same : (xs : List Name) → AreDistinctNames xs → distinct xs ≡ xs
 distinct_same [] once = refl
 distinct_same (x ∷ xs) once = ap (λ ys. x ∷ filter (λ y. not (same x y)) ys) (distinct_same xs once.1) ∙ ap (λ ys. x ∷ ys) (all_apart x xs once.0)
 
@@ -53,24 +51,24 @@ module _ (d : Domain Word) (p : Problem Word) where
       map_map numbered_pred (λ (q : Pred). q.name) (λ (q : trees.Pred Word). q.head.text) d.predicates (λ q. refl)
       ∙ sym (map_map (λ (q : trees.Pred Word). q.head) (λ (w : Word). w.text) (λ (q : trees.Pred Word). q.head.text) d.predicates (λ q. refl))
 
-  pub atom_valid : Clean d p → (a : Atom) → Member (ground_atoms l) a → is_valid d p (as_literal a) ≡ true
+  pub atom_valid : HasCleanParts d p → (a : Atom) → Member (ground_atoms l) a → is_valid_literal d p (as_literal a) ≡ true
   atom_valid c a m =
       let r = map_member atom_of (occurring l) a ((atoms_are_numbered l).occur a m) in
-      subst (λ x. is_valid d p (as_literal x) ≡ true) r.2 (occurring_valid d p c r.0 r.1)
+      subst (λ x. is_valid_literal d p (as_literal x) ≡ true) r.2 (occurring_valid d p c r.0 r.1)
 
   as_many : length l.predicates ≡ length (heads d)
   as_many = sym (length-map l.predicates (λ (q : Pred). q.name)) ∙ ap length heads_are
 
-  atom_declared : Clean d p → (a : Atom) → Member (ground_atoms l) a → is_declared l a ≡ true
+  atom_declared : HasCleanParts d p → (a : Atom) → Member (ground_atoms l) a → is_declared l a ≡ true
   atom_declared c a m = ap (λ n. nat_lt a.pred n && list_all (λ o. nat_lt o (length (objects d p))) a.objects) as_many ∙ atom_valid c a m
 
 -- ---- the law
 
 pub names_tell : NamesTellGroundAtoms
 names_tell d p no_fault =
-    let c = clean d p no_fault in
+    let c = clean_parts d p no_fault in
     record {
       predicates = subst (λ ns. distinct ns ≡ ns) (sym (heads_are d p)) (distinct_same (heads d) c.heads_once);
-      objects = distinct_same (objects d p) (distinct_once (declared (object_lines d p)));
+      objects = distinct_same (objects d p) (distinct_are_distinct (declared (object_lines d p)));
       declared = all_from (is_declared (numbered_problem d p)) (ground_atoms (numbered_problem d p)) (atom_declared d p c);
     }

@@ -1,3 +1,4 @@
+pub mod Public
 pub mod Starts
 pub mod Valid
 pub mod Apart

@@ -9,6 +9,7 @@ use Rattle.kp_base.specs.declared.lit.Lit.{Lit}
 use Rattle.kp_base.specs.declared.ground.Effect.{Effect}
 use Rattle.kp_base.specs.Lists.{Member}
 use Rattle.kp_base.specs.Implicates.{are_below, effect_below, action_below, IsOfItsAtoms}
+use Rattle.kp_base.proofs.Parts.{all_flat_map}
 use Rattle.kp_base.proofs.Lists.{all_member, all_from, flat_member, member_left, member_right, member_flat_map}
 use Rattle.kp_base.proofs.Once.{all_filter, all_each_once}
 use Rattle.kp_base.proofs.Sets.{all-set_of}
@@ -20,29 +21,25 @@ use Rattle.kp_grounding.specs.declared.flat.FlatEffect.{FlatEffect}
 use Rattle.kp_grounding.specs.Static.{remaining}
 use Rattle.kp_grounding.specs.Flattening.{same_flat, flat, flat_of}
 use Rattle.kp_grounding.specs.Ground.{kept_bindings, ground_atoms, atom_of, atom_name, effect_literals, instance_literals, kept_literals, open_literals, number_of, numbered, numbered_set, IsNumbering, numbered_effect, is_idle, ground_pre, ground_effects, action_of, actions_of, ground_over, ground_of}
-use Rattle.kp_grounding.proofs.Atoms.{atoms_are_numbered}
-use Rattle.kp_grounding.proofs.Step.{Covered, occurs}
+use Rattle.kp_grounding.proofs.Public.{atoms_are_numbered, IsCoveredLiteral, instance_literals_occur}
 use Rattle.kp_given.specs.Laws.{GroundProblemsAreOfTheirAtoms}
 
 abbrev pub below : ℕ → Lit → Bool
 below n l = nat_lt l.atom.0 n
 
-pub all_flat_map : {X Y : Type 0} (p : Y → Bool) (f : X → List Y) (xs : List X) → ((x : X) → Member xs x → list_all p (f x) ≡ true) → list_all p (flat_map f xs) ≡ true
-all_flat_map p f xs h = all_from p (flat_map f xs) (λ y m. let r = flat_member f xs y m in all_member p (f r.0) y r.2 (h r.0 r.1))
-
 -- ---- literals by number are of the atoms that they are numbered by
 
 module _ (l : Lifted) (atoms : List Atom) (numbering : IsNumbering l atoms) where
-  pub covered_below : (m : GroundLit) → Covered atoms m → below (length atoms) (numbered atoms m) ≡ true
+  pub covered_below : (m : GroundLit) → IsCoveredLiteral atoms m → below (length atoms) (numbered atoms m) ≡ true
   covered_below m c = lt-ltb (number_of atoms (atom_of m)) (length atoms) (slice_get_within atoms (number_of atoms (atom_of m)) (atom_of m) c)
 
-  pub list_below : (ms : List GroundLit) → ((m : GroundLit) → Member ms m → Covered atoms m) → are_below (length atoms) (map (numbered atoms) ms) ≡ true
+  pub list_below : (ms : List GroundLit) → ((m : GroundLit) → Member ms m → IsCoveredLiteral atoms m) → are_below (length atoms) (map (numbered atoms) ms) ≡ true
   list_below ms c = list_all-map (below (length atoms)) (numbered atoms) ms ∙ all_from (λ m. below (length atoms) (numbered atoms m)) ms (λ m i. covered_below m (c m i))
 
-  pub set_below : (ms : List GroundLit) → ((m : GroundLit) → Member ms m → Covered atoms m) → are_below (length atoms) (numbered_set atoms ms) ≡ true
+  pub set_below : (ms : List GroundLit) → ((m : GroundLit) → Member ms m → IsCoveredLiteral atoms m) → are_below (length atoms) (numbered_set atoms ms) ≡ true
   set_below ms c = all-set_of (below (length atoms)) (map (numbered atoms) ms) ∙ list_below ms c
 
-  covered_effect : (f : FlatEffect) → ((m : GroundLit) → Member (effect_literals f) m → Covered atoms m) → effect_below (length atoms) (numbered_effect atoms f) ≡ true
+  covered_effect : (f : FlatEffect) → ((m : GroundLit) → Member (effect_literals f) m → IsCoveredLiteral atoms m) → effect_below (length atoms) (numbered_effect atoms f) ≡ true
   covered_effect f c =
       and_from (below (length atoms) (numbered atoms f.result)) (are_below (length atoms) (numbered_set atoms f.cond))
       (covered_below f.result (c f.result (member_right f.cond (f.result ∷ []) f.result (inl refl))))
@@ -59,8 +56,8 @@ module _ (l : Lifted) (atoms : List Atom) (numbering : IsNumbering l atoms) wher
       (all_from (λ f. effect_below (length atoms) (numbered_effect atoms f)) (flat l os a.effect)
       (λ f j. covered_effect f (λ m h. covered m (member_right (remaining l os a.pre) (flat_map effect_literals (flat l os a.effect)) m (member_flat_map effect_literals (flat l os a.effect) f m j h)))))))
     where
-      covered : (m : GroundLit) → Member (instance_literals l a os) m → Covered atoms m
-      covered m j = numbering.covers m (occurs l a os at kept m j)
+      covered : (m : GroundLit) → Member (instance_literals l a os) m → IsCoveredLiteral atoms m
+      covered m j = numbering.covers m (instance_literals_occur l a os at kept m j)
 
       not_idle : Effect → Bool
       not_idle d = not (is_idle (ground_pre l atoms a os) (map (numbered_effect atoms) (flat_of l a os).effects) d)

@@ -21,7 +21,7 @@ use Rattle.kp_grounding.specs.Weights.{cond_size, conds_size, or_leaf, leaves_we
 use Rattle.kp_grounding.specs.Ground.{kept_bindings, ground_atoms, numbered, numbered_set, numbered_effect, is_idle, ground_pre, ground_effects, action_of, actions_of, ground_of}
 use Rattle.kp_task.specs.Task.{task_of}
 use Rattle.kp_task.specs.Weight.{both_weight, action_weight, weight_of}
-use Rattle.kp_task.proofs.Weights.{weight_counted}
+use Rattle.kp_task.proofs.Public.{weight_is_counted}
 use Rattle.kp_given.specs.Tables.{empty_tag, EmptyTagsAreLight}
 use Rattle.kp_given.specs.Translations as given
 
@@ -226,5 +226,5 @@ actions_light l = all_light l (ground_atoms l) l.schemas
 pub empty_tags_light : EmptyTagsAreLight
 empty_tags_light d p =
     let a = actions_light (numbered_problem d p) in
-    let b = weight_counted (given.ground_of d p) (empty_tag d p) in
+    let b = weight_is_counted (given.ground_of d p) (empty_tag d p) in
     omega (arith, a, b)

@@ -11,31 +11,29 @@ use Rattle.kp_base.proofs.Ascending.{same_members}
 use Rattle.kp_base.proofs.Lits.{same_lit-true, contains_has}
 use Rattle.kp_meaning.specs.Numbered.{Lifted}
 use Rattle.kp_meaning.specs.Numbering.{numbered_problem}
-use Rattle.kp_meaning.proofs.NumberedPlans.{initial_numbered}
+use Rattle.kp_meaning.proofs.Public.{initial_states_are_the_same_by_number}
 use Rattle.kp_grounding.specs.Ground.{ground_atoms, atom_name, seen_on}
 use Rattle.kp_grounding.specs.Ground as by_number
-use Rattle.kp_grounding.proofs.Atoms.{atoms_are_numbered}
+use Rattle.kp_grounding.proofs.Public.{atoms_are_numbered}
 use Rattle.kp_init.specs.Initial as init
 use Rattle.kp_init.specs.Laws.{AreModels}
-use Rattle.kp_init.proofs.Closure.{closure_exact}
-use Rattle.kp_init.proofs.Models.{initial_exact}
-use Rattle.kp_init.proofs.Runs.{initial_is_over}
+use Rattle.kp_init.proofs.Public.{closure_over_first_atoms, models_are_initial_states, initial_formula_is_over_ground_atoms}
 use Rattle.kp_given.specs.Translations.{ground_of, initial_of, start_of}
 use Rattle.kp_given.specs.Laws.{InitialStatesAreModels, FormulasSpeakOfGroundAtoms, ClosuresAreStarts}
 
 -- ---- initial states and models
 
 models : (l : Lifted) → AreModels l (ground_atoms l)
-models l = initial_exact l (ground_atoms l) (atoms_are_numbered l).numbering
+models l = models_are_initial_states l (ground_atoms l) (atoms_are_numbered l).numbering
 
 pub states_are_models : InitialStatesAreModels
 states_are_models d p no_fault = (
   λ has.
-      let t = (initial_numbered d p no_fault).by_number has.state has.is_initial in
+      let t = (initial_states_are_the_same_by_number d p no_fault).by_number has.state has.is_initial in
       record { state = seen_on (ground_atoms (numbered_problem d p)) t.0; model = (models (numbered_problem d p)).model t.0 t.1; all_true = refl },
   λ m.
       let t = (models (numbered_problem d p)).state m.state m.model in
-      let s = (initial_numbered d p no_fault).by_name t.0 t.1 in
+      let s = (initial_states_are_the_same_by_number d p no_fault).by_name t.0 t.1 in
       record { state = s.0; is_initial = s.1 },
 )
 
@@ -43,7 +41,7 @@ states_are_models d p no_fault = (
 
 -- of a problem by number
 pub formula_over_atoms : (l : Lifted) → IsOfAtoms (length (by_number.ground_of l).atoms) (init.initial_of l)
-formula_over_atoms l = subst (λ n. IsOfAtoms n (init.initial_of l)) (sym (length-map (ground_atoms l) (atom_name l))) (initial_is_over l (ground_atoms l) (atoms_are_numbered l).numbering)
+formula_over_atoms l = subst (λ n. IsOfAtoms n (init.initial_of l)) (sym (length-map (ground_atoms l) (atom_name l))) (initial_formula_is_over_ground_atoms l (ground_atoms l) (atoms_are_numbered l).numbering)
 
 pub formulas_over_atoms : FormulasSpeakOfGroundAtoms
 formulas_over_atoms d p = formula_over_atoms (numbered_problem d p)
@@ -62,5 +60,5 @@ one_closure n i tag xs ys h g up vp = same_members xs ys up vp (way xs ys h g) (
 pub closures_are_starts : ClosuresAreStarts
 closures_are_starts d p ls is_closure ascending =
     let n = length (ground_of d p).atoms in
-    let exact = closure_exact (initial_of d p) n (formulas_over_atoms d p) [] refl in
+    let exact = closure_over_first_atoms (initial_of d p) n (formulas_over_atoms d p) [] refl in
     one_closure n (initial_of d p) [] ls (start_of d p) is_closure exact.closure ascending exact.ascending

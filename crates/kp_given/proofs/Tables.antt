@@ -2,10 +2,10 @@
 use Rattle.std.proofs.Common.{[], length, refl, arith}
 use Rattle.std.proofs.lemmas.Option.{slice_get_within}
 use Rattle.kp_base.proofs.Lits.{has-member}
-use Rattle.kp_init.proofs.Closure.{closure_exact}
+use Rattle.kp_base.proofs.Each.{each_from, each_member}
+use Rattle.kp_init.proofs.Public.{closure_over_first_atoms}
 use Rattle.kp_write.specs.Grounds.{IsOfAtom}
-use Rattle.kp_write.proofs.Lists.{one_of_all, all_from}
-use Rattle.kp_machine.proofs.OneTag.{is_table}
+use Rattle.kp_machine.proofs.Public.{one_tag_is_a_table}
 use Rattle.kp_task.specs.Writable.{IsRowOn, IsTag, IsMergeOn}
 use Rattle.kp_given.specs.Translations.{ground_of, initial_of, start_of}
 use Rattle.kp_given.specs.Tables.{TablesCanBeWritten, EmptyTagIsTable}
@@ -21,13 +21,13 @@ tables_written domain_text problem_text x table h =
       ground = grounds_written domain_text problem_text x;
       some_tag = slice_get_within table.tags 0 first.0 first.1;
       tags_fit = h.tags_fit;
-      rows = all_from (IsRowOn atoms) table.tags (λ row m. record { closure = all_from (IsOfAtom atoms) row.closure (λ l i. (h.right.closures row m).of_atoms l (has-member row.closure l i)) });
-      merges = all_from (IsMergeOn atoms tags) table.merges (λ x m. record { target = one_of_all (λ y. IsOfAtom atoms y.target) table.merges x h.targets m; tags_are = all_from (IsTag tags) x.tags (λ t i. record { below = h.right.tags x t m i }) });
+      rows = each_from (IsRowOn atoms) table.tags (λ row m. record { closure = each_from (IsOfAtom atoms) row.closure (λ l i. (h.right.closures row m).of_atoms l (has-member row.closure l i)) });
+      merges = each_from (IsMergeOn atoms tags) table.merges (λ x m. record { target = each_member (λ y. IsOfAtom atoms y.target) table.merges x h.targets m; tags_are = each_from (IsTag tags) x.tags (λ t i. record { below = h.right.tags x t m i }) });
       merges_fit = h.merges_fit;
     }
 
 pub empty_tag_is_table : EmptyTagIsTable
 empty_tag_is_table d p =
-    let closed = (closure_exact (initial_of d p) (length (ground_of d p).atoms) (formulas_over_atoms d p) [] refl).closure in
-    let table = is_table (ground_of d p) (initial_of d p) (start_of d p) closed in
+    let closed = (closure_over_first_atoms (initial_of d p) (length (ground_of d p).atoms) (formulas_over_atoms d p) [] refl).closure in
+    let table = one_tag_is_a_table (ground_of d p) (initial_of d p) (start_of d p) closed in
     record { right = table.0; valid = table.1; targets = tt; tags_fit = omega arith; merges_fit = omega arith }

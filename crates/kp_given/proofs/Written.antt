@@ -8,11 +8,12 @@ use Rattle.kp_grammar.specs.declared.tree.Word.{Word}
 use Rattle.kp_grammar.specs.Trees as trees
 use Rattle.kp_grammar.specs.Trees.{Typed, Domain, Problem}
 use Rattle.kp_grammar.specs.Words.{IsName, IsNamed, IsNamedPred, IsNamedSchema, IsNamedDomain, IsNamedProblem}
-use Rattle.kp_grammar.proofs.NamedTrees.{domains_named, problems_named}
+use Rattle.kp_grammar.proofs.Public.{domains_named, problems_named}
 use Rattle.kp_base.specs.declared.lit.Lit.{Lit}
 use Rattle.kp_base.specs.declared.ground.GroundName.{GroundName}
 use Rattle.kp_base.specs.declared.ground.Action.{Action}
 use Rattle.kp_base.specs.Lists.{Member, each_once}
+use Rattle.kp_base.proofs.Each.{each_from, each_member, each_map}
 use Rattle.kp_base.proofs.Lists.{all_member, each_append, map_member, member_map, member_left, member_right, member_flat_map, flat_member, same-true}
 use Rattle.kp_base.proofs.Lists as lists
 use Rattle.kp_base.proofs.Lits.{has-member}
@@ -23,23 +24,17 @@ use Rattle.kp_meaning.specs.Types.{declared, object_lines, objects}
 use Rattle.kp_meaning.specs.Faults.{HasNoFault}
 use Rattle.kp_meaning.specs.Numbered.{Schema, Lifted}
 use Rattle.kp_meaning.specs.Numbering.{name_at, heads, numbered_schema, numbered_problem, AreObjects}
-use Rattle.kp_meaning.proofs.Lists.{all_same-true}
-use Rattle.kp_meaning.proofs.NumberedItems.{valid_parts, atom_eq_named}
-use Rattle.kp_meaning.proofs.NumberedPlans.{Clean, clean}
+use Rattle.kp_meaning.proofs.Public.{all_same_names-true, valid_literal_parts, atoms_equal_as_named, HasCleanParts, clean_parts}
 use Rattle.kp_grounding.specs.declared.flat.Atom.{Atom}
 use Rattle.kp_grounding.specs.declared.flat.FlatEffect.{FlatEffect}
 use Rattle.kp_grounding.specs.Static.{remaining}
 use Rattle.kp_grounding.specs.Flattening.{same_flat, flat, flat_of}
 use Rattle.kp_grounding.specs.Ground.{kept_bindings, atom_of, effect_literals, instance_literals, kept_literals, open_literals, occurring, atom_before, same_atom, ground_atoms, number_of, numbered, numbered_set, IsNumbering, numbered_effect, is_idle, ground_pre, ground_effects, object_names, atom_name, action_of, actions_of}
 use Rattle.kp_grounding.specs.Laws.{IsAscending}
-use Rattle.kp_grounding.proofs.Atoms.{irreflexive, same_atom-true, atoms_are_numbered}
-use Rattle.kp_grounding.proofs.Names.{actions_named_once}
-use Rattle.kp_grounding.proofs.Step.{occurs}
-use Rattle.kp_init.proofs.Closure.{closure_exact}
+use Rattle.kp_grounding.proofs.Public.{atom_never_before_itself, same_atom-true, atoms_are_numbered, actions_named_once, instance_literals_occur}
+use Rattle.kp_init.proofs.Public.{closure_over_first_atoms}
 use Rattle.kp_plans.specs.Names.{IsGroundName, same_name}
 use Rattle.kp_write.specs.Grounds.{IsOfAtom, AreOfAtoms, IsGroundEffect, IsGroundAction, IsWritable}
-use Rattle.kp_write.proofs.Lists.{one_of_all, all_from}
-use Rattle.kp_write.proofs.Grounds.{mapped}
 use Rattle.kp_given.specs.Translations.{ground_of, initial_of, start_of}
 use Rattle.kp_given.specs.Laws.{StartsAreOfAtoms, GroundProblemsAreWritable}
 use Rattle.kp_given.proofs.Apart.{as_literal, heads_are, atom_valid}
@@ -71,7 +66,7 @@ distinct_all P (x ∷ xs) h = (h.0, all_left P (λ y. not (same x y)) (distinct 
 same_name-true : (a b : GroundName) → same_name a b ≡ true → a ≡ b
 same_name-true a b h =
     let parts = and_parts (same a.head b.head) (all_same a.objects b.objects) h in
-    one a.head b.head a.objects b.objects (same-true a.head b.head parts.0) (all_same-true a.objects b.objects parts.1)
+    one a.head b.head a.objects b.objects (same-true a.head b.head parts.0) (all_same_names-true a.objects b.objects parts.1)
   where
     one : (x y : Name) (os us : List Name) → x ≡ y → os ≡ us → (let n : GroundName = record { head = x; objects = os } in n) ≡ record { head = y; objects = us }
     one x y os us e f = cc
@@ -91,7 +86,7 @@ once_differ : (ns : List GroundName) → StandOnce ns → IsDistinct same_name n
 unfolding IsDistinct
 once_differ [] once = tt
 once_differ (n ∷ ns) once = (
-  all_from (λ x. same_name n x ≡ false) ns (λ x m. false_from_ne_true (same_name n x) (λ h.
+  each_from (λ x. same_name n x ≡ false) ns (λ x m. false_from_ne_true (same_name n x) (λ h.
       let e = same_name-true n x h in
       let r = place_there ns x m in
       let here : 0 ≡ suc r.0 = once 0 (suc r.0) x (ap Some e) r.1 in
@@ -111,8 +106,8 @@ module _ (d : Domain Word) (p : Problem Word) (domain : IsNamedDomain d) (proble
   abbrev names : List GroundName
   names = map (atom_name l) atoms
 
-  c : Clean d p
-  c = clean d p no_fault
+  c : HasCleanParts d p
+  c = clean_parts d p no_fault
 
   numbering : IsNumbering l atoms
   numbering = (atoms_are_numbered l).numbering
@@ -121,13 +116,13 @@ module _ (d : Domain Word) (p : Problem Word) (domain : IsNamedDomain d) (proble
 
   heads_named : AllByRecursion IsName (heads d)
   heads_named =
-      mapped (λ (w : Word). IsName w.text) IsName (λ (w : Word). w.text) (λ w h. h) (map (λ (q : trees.Pred Word). q.head) d.predicates)
-      (mapped IsNamedPred (λ (w : Word). IsName w.text) (λ (q : trees.Pred Word). q.head) (λ q h. record { token = h.head.token; low = h.head.low }) d.predicates domain.predicates)
+      each_map (λ (w : Word). IsName w.text) IsName (λ (w : Word). w.text) (λ w h. h) (map (λ (q : trees.Pred Word). q.head) d.predicates)
+      (each_map IsNamedPred (λ (w : Word). IsName w.text) (λ (q : trees.Pred Word). q.head) (λ q h. record { token = h.head.token; low = h.head.low }) d.predicates domain.predicates)
 
   objects_named : AllByRecursion IsName (objects d p)
   objects_named =
       distinct_all IsName (declared (object_lines d p))
-      (mapped IsNamed IsName (λ (x : Typed Word). x.word.text) (λ x h. h.name) (object_lines d p) (each_append IsNamed d.constants p.objects domain.constants problem.objects))
+      (each_map IsNamed IsName (λ (x : Typed Word). x.word.text) (λ x h. h.name) (object_lines d p) (each_append IsNamed d.constants p.objects domain.constants problem.objects))
 
   named_objects : (os : List ℕ) → AreObjects d p os → AllByRecursion IsName (object_names l os)
   named_objects [] h = tt
@@ -139,21 +134,21 @@ module _ (d : Domain Word) (p : Problem Word) (domain : IsNamedDomain d) (proble
 
   atom_written : (a : Atom) → Member atoms a → IsGroundName (atom_name l a)
   atom_written a m =
-      let parts = valid_parts d p (as_literal a) (atom_valid d p c a m) in
+      let parts = valid_literal_parts d p (as_literal a) (atom_valid d p c a m) in
       record { head = subst (λ ns. IsName (name_at ns a.pred)) (sym (heads_are d p)) (name_there IsName (heads d) a.pred heads_named parts.0); objects = named_objects a.objects parts.1 }
 
   -- atoms with one name are one
   name_tells : (a b : Atom) → Member atoms a → Member atoms b → same_name (atom_name l a) (atom_name l b) ≡ same_atom a b
-  name_tells a b m n = ap (λ ns. same (name_at ns a.pred) (name_at ns b.pred) && all_same (object_names l a.objects) (object_names l b.objects)) (heads_are d p) ∙ sym (atom_eq_named d p c.heads_once (as_literal a) (as_literal b) (atom_valid d p c a m) (atom_valid d p c b n))
+  name_tells a b m n = ap (λ ns. same (name_at ns a.pred) (name_at ns b.pred) && all_same (object_names l a.objects) (object_names l b.objects)) (heads_are d p) ∙ sym (atoms_equal_as_named d p c.heads_once (as_literal a) (as_literal b) (atom_valid d p c a m) (atom_valid d p c b n))
 
   -- those in order have different names
   others_apart : (a : Atom) (more : List Atom) → list_all (atom_before a) more ≡ true → ((b : Atom) → Member (a ∷ more) b → Member atoms b) → AllByRecursion (λ n. same_name (atom_name l a) n ≡ false) (map (atom_name l) more)
-  others_apart a more before among = mapped (Member more) (λ n. same_name (atom_name l a) n ≡ false) (atom_name l) apart more (all_from (Member more) more (λ b m. m))
+  others_apart a more before among = each_map (Member more) (λ n. same_name (atom_name l a) n ≡ false) (atom_name l) apart more (each_from (Member more) more (λ b m. m))
     where
       apart : (b : Atom) → Member more b → same_name (atom_name l a) (atom_name l b) ≡ false
       apart b m =
           name_tells a b (among a (inl refl)) (among b (inr m))
-          ∙ false_from_ne_true (same_atom a b) (λ e. irreflexive a (subst (λ x. atom_before a x ≡ true) (sym (same_atom-true a b e)) (all_member (atom_before a) more b m before)))
+          ∙ false_from_ne_true (same_atom a b) (λ e. atom_never_before_itself a (subst (λ x. atom_before a x ≡ true) (sym (same_atom-true a b e)) (all_member (atom_before a) more b m before)))
 
   ascending_differ : (more : List Atom) → IsAscending more → ((a : Atom) → Member more a → Member atoms a) → IsDistinct same_name (map (atom_name l) more)
   unfolding IsDistinct
@@ -176,7 +171,7 @@ module _ (d : Domain Word) (p : Problem Word) (domain : IsNamedDomain d) (proble
   is_below x = nat_lt x.atom.0 (length names)
 
   of_atoms : (ms : List GroundLit) → ((m : GroundLit) → Member ms m → Member (occurring l) m) → AreOfAtoms names (numbered_set atoms ms)
-  of_atoms ms f = all_from (IsOfAtom names) (numbered_set atoms ms) (λ x i. ltb-true x.atom.0 (length names) (all_member is_below (numbered_set atoms ms) x i (all-set_of is_below (map (numbered atoms) ms) ∙ lists.all_from is_below (map (numbered atoms) ms) below)))
+  of_atoms ms f = each_from (IsOfAtom names) (numbered_set atoms ms) (λ x i. ltb-true x.atom.0 (length names) (all_member is_below (numbered_set atoms ms) x i (all-set_of is_below (map (numbered atoms) ms) ∙ lists.all_from is_below (map (numbered atoms) ms) below)))
     where
       below : (x : Lit) → Member (map (numbered atoms) ms) x → is_below x ≡ true
       below x i = let r = map_member (numbered atoms) ms x i in subst (λ y. is_below y ≡ true) r.2 (lt-ltb (number_of atoms (atom_of r.0)) (length names) (of_atom r.0 (f r.0 r.1)))
@@ -188,7 +183,7 @@ module _ (d : Domain Word) (p : Problem Word) (domain : IsNamedDomain d) (proble
     s = numbered_schema d p a
 
     there : (m : GroundLit) → Member (instance_literals l s os) m → Member (occurring l) m
-    there m i = occurs l s os (member_map (numbered_schema d p) d.schemas a at) kept m i
+    there m i = instance_literals_occur l s os (member_map (numbered_schema d p) d.schemas a at) kept m i
 
     effect_on : (f : FlatEffect) → Member (flat l os s.effect) f → IsGroundEffect names (numbered_effect atoms f)
     effect_on f i = record {
@@ -202,8 +197,8 @@ module _ (d : Domain Word) (p : Problem Word) (domain : IsNamedDomain d) (proble
     effects_on : AllByRecursion (IsGroundEffect names) (ground_effects l atoms s os)
     effects_on =
         all_left (IsGroundEffect names) (λ e. not (is_idle (ground_pre l atoms s os) (map (numbered_effect atoms) (flat_of l s os).effects) e)) (map (numbered_effect atoms) (flat_of l s os).effects)
-        (mapped (Member (flat l os s.effect)) (IsGroundEffect names) (numbered_effect atoms) effect_on (flat_of l s os).effects
-        (once_all (Member (flat l os s.effect)) (flat l os s.effect) (all_from (Member (flat l os s.effect)) (flat l os s.effect) (λ f i. i))))
+        (each_map (Member (flat l os s.effect)) (IsGroundEffect names) (numbered_effect atoms) effect_on (flat_of l s os).effects
+        (once_all (Member (flat l os s.effect)) (flat l os s.effect) (each_from (Member (flat l os s.effect)) (flat l os s.effect) (λ f i. i))))
       where
         once_all : (P : FlatEffect → Type 0) (fs : List FlatEffect) → AllByRecursion P fs → AllByRecursion P (each_once same_flat fs)
         once_all P [] h = tt
@@ -211,13 +206,13 @@ module _ (d : Domain Word) (p : Problem Word) (domain : IsNamedDomain d) (proble
 
     action_written : IsGroundAction names (action_of l atoms s os)
     action_written = record {
-      name = record { head = (one_of_all IsNamedSchema d.schemas a domain.schemas at).name; objects = named_objects os (kept_objects d p l a os kept) };
+      name = record { head = (each_member IsNamedSchema d.schemas a domain.schemas at).name; objects = named_objects os (kept_objects d p l a os kept) };
       pre = of_atoms (remaining l os s.pre) (λ m i. there m (member_left (remaining l os s.pre) (flat_map effect_literals (flat l os s.effect)) m i));
       effects = effects_on;
     }
 
   actions_written : AllByRecursion (IsGroundAction names) (ground_of d p).actions
-  actions_written = all_from (IsGroundAction names) (ground_of d p).actions (λ x m.
+  actions_written = each_from (IsGroundAction names) (ground_of d p).actions (λ x m.
       let s = flat_member (actions_of l atoms) l.schemas x m in
       let a = map_member (numbered_schema d p) d.schemas s.0 s.1 in
       let os = map_member (action_of l atoms s.0) (kept_bindings l s.0) x s.2 in
@@ -231,7 +226,7 @@ module _ (d : Domain Word) (p : Problem Word) (domain : IsNamedDomain d) (proble
 
   trees_written : IsWritable (ground_of d p)
   trees_written = record {
-    atoms = mapped (Member atoms) IsGroundName (atom_name l) atom_written atoms (all_from (Member atoms) atoms (λ a m. m));
+    atoms = each_map (Member atoms) IsGroundName (atom_name l) atom_written atoms (each_from (Member atoms) atoms (λ a m. m));
     atoms_differ = atoms_differ;
     actions = actions_written;
     actions_differ = actions_differ;
@@ -242,8 +237,8 @@ module _ (d : Domain Word) (p : Problem Word) (domain : IsNamedDomain d) (proble
 
 pub starts_of_atoms : StartsAreOfAtoms
 starts_of_atoms d p =
-    let exact = closure_exact (initial_of d p) (length (ground_of d p).atoms) (formulas_over_atoms d p) [] refl in
-    all_from (IsOfAtom (ground_of d p).atoms) (start_of d p) (λ x m. exact.closure.of_atoms x (has-member (start_of d p) x m))
+    let exact = closure_over_first_atoms (initial_of d p) (length (ground_of d p).atoms) (formulas_over_atoms d p) [] refl in
+    each_from (IsOfAtom (ground_of d p).atoms) (start_of d p) (λ x m. exact.closure.of_atoms x (has-member (start_of d p) x m))
 
 pub grounds_written : GroundProblemsAreWritable
 grounds_written domain_text problem_text x = trees_written x.domain x.problem (domains_named domain_text x.domain x.domain_reads) (problems_named problem_text x.problem x.problem_reads) x.no_fault

@@ -1,8 +1,9 @@
 -- Texts that are shown to read or to stop by computing.
 use Rattle.std.proofs.Common.{◌≡◌, ℕ, Bool, List, [], None, Result, Ok, Err, inl, inr, subst}
+use Rattle.kp_base.proofs.Cases.{some_none}
 use Rattle.kp_lex.specs.declared.token.Token.{Token}
 use Rattle.kp_lex.specs.Scanning.{cut}
-use Rattle.kp_lex.proofs.Exact.{Tells as TellsTokens, cut_tells}
+use Rattle.kp_lex.proofs.Public.{TellsCutting as TellsTokens, cut_tells}
 use Rattle.kp_grammar.specs.declared.tree.Word.{Word}
 use Rattle.kp_grammar.specs.Symbols.{Tok, all_seen_in}
 use Rattle.kp_grammar.specs.Sorts.{Sort, El}
@@ -12,7 +13,7 @@ use Rattle.kp_grammar.specs.Texts.{ReadsAs}
 use Rattle.kp_grammar.specs.Reading.{At, StopBy}
 use Rattle.kp_grammar.specs.Depth.{deep}
 use Rattle.kp_grammar.proofs.Tells.{Tells, read_tells}
-use Rattle.kp_grammar.proofs.Exact.{go_reads, some_none}
+use Rattle.kp_grammar.proofs.Exact.{go_reads}
 
 -- the tokens of a text that is cut
 abbrev pub tokens_in : Result (List Token) ℕ → List Token

@@ -1,5 +1,6 @@
 -- With enough levels reading answers what the definitions say. So a form reads in one way, or stops at one token.
 use Rattle.std.proofs.Common.{◌≡◌, ℕ, zero, suc, ◌≤◌, ◌<◌, Bool, true, false, cond as if_then, List, [], ◌∷◌, length, ◌⊎◌, inl, inr, Option, Some, None, Ok, Err, refl, sym, ap, subst, ◌∙◌, arith}
+use Rattle.kp_base.proofs.Cases.{some_none}
 use Rattle.kp_grammar.specs.declared.symbol.Symbol.{Symbol}
 use Rattle.kp_grammar.specs.Sorts.{s_seen, Seen, Sort, s_word, El, Maker, s_pair}
 use Rattle.kp_grammar.specs.Forms.{hits, Form}
@@ -197,9 +198,6 @@ not_deep_case (suc d) false false here ts k less h = h (suc d) (omega (arith, le
 pub not_deep : {W : Type 0} (ts : List (Tok W)) (d : ℕ) → length ts ≤ d → deep d ts ≡ None
 not_deep [] d le = refl
 not_deep (t ∷ ts) d le = not_deep_case d (is_left t.symbol) (is_right t.symbol) (t ∷ ts) ts (λ n. deep n ts) (omega (arith, le)) (λ n less. not_deep ts n less)
-
-pub some_none : {A : Type 0} {o : Option A} {x : A} → o ≡ Some x → o ≡ None → ⊥
-some_none e k = cc
 
 -- ---- the same, as the laws say it
 

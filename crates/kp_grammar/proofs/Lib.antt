@@ -1,8 +1,12 @@
+pub mod Public
 pub mod Tells
 pub mod Exact
+pub mod Within
 pub mod Wholes
+pub mod Onward
 pub mod Computed
 pub mod Words
+pub mod Nesting
 pub mod NamedTrees
 pub mod Examples
 pub mod ExampleTexts

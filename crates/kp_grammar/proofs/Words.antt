@@ -9,7 +9,7 @@ use Rattle.kp_lex.specs.declared.token.TokenKind.TheVariants as kinds
 use Rattle.kp_lex.specs.declared.token.Token.{Token}
 use Rattle.kp_lex.specs.Cutting.{IsToken, Cut}
 use Rattle.kp_lex.specs.Words.{folded}
-use Rattle.kp_lex.proofs.Spans.{each_token}
+use Rattle.kp_lex.proofs.Public.{each_span_is_a_token}
 use Rattle.kp_grammar.specs.declared.symbol.Symbol.{Symbol}
 use Rattle.kp_grammar.specs.declared.symbol.Symbol.TheVariants as symbols
 use Rattle.kp_grammar.specs.declared.tree.Word.{Word}
@@ -38,12 +38,12 @@ all_seen text [] h = tt
 all_seen text (t ∷ ts) h = (record { kind = t.kind; token = h zero t refl; low = low_twice _; symbol = refl }, all_seen text ts (λ i u e. h (suc i) u e))
 
 pub tokens_seen : {text : List ℕ} (ts : List Token) → Cut 0 text ts → AllByRecursion IsSeen (all_seen_in text ts)
-tokens_seen {text} ts h = all_seen text ts (λ i t e. (each_token ts i t h e).lowered)
+tokens_seen {text} ts h = all_seen text ts (λ i t e. (each_span_is_a_token ts i t h e).lowered)
 
 -- ---- which symbols are of names
 
 -- where no word of the table has such a symbol, what is looked up has none
-none_found : (p : Symbol → Bool) (es : Table) (other : Symbol) (w : List ℕ) → list_all (λ e. not (p e.1)) es ≡ true → p other ≡ false → p (look_up es other w) ≡ false
+pub none_found : (p : Symbol → Bool) (es : Table) (other : Symbol) (w : List ℕ) → list_all (λ e. not (p e.1)) es ≡ true → p other ≡ false → p (look_up es other w) ≡ false
 none_found p [] other w h o = o
 none_found p (e ∷ es) other w h o =
     let parts = and_parts (not (p e.1)) (list_all (λ e. not (p e.1)) es) h in

@@ -1,5 +1,5 @@
 -- What holds of each form: it reads given tokens in one way, or it stops at one token for one reason.
-use Rattle.std.specs.Prelude.{◌≡◌, ◌⊎◌, Bool, List}
+use Rattle.std.specs.Prelude.{◌≡◌, ◌<◌, ◌⊎◌, Bool, List, ◌++◌, length}
 use Rattle.kp_grammar.specs.declared.tree.Word.{Word}
 use Rattle.kp_grammar.specs.Symbols.{Tok}
 use Rattle.kp_grammar.specs.Sorts.{Sort, El}
@@ -21,6 +21,20 @@ NeverBoth = (b : Bool) (c : Sort) (X : Form b c) (ts rest : List (Tok Word)) (x 
 -- a tree, or else an offending token
 abbrev pub AlwaysOne : Type 0
 AlwaysOne = (b : Bool) (c : Sort) (X : Form b c) (ts : List (Tok Word)) → ((x : El Word c) × (rest : List (Tok Word)) × Reads X ts x rest) ⊎ ((at : At Word) × Stops X ts at)
+
+-- ---- what stands behind the tokens that are left
+
+-- the place, with more tokens behind it
+abbrev pub followed : {W : Type 0} → At W → List (Tok W) → At W
+followed at more = record { tokens = at.tokens ++ more; reason = at.reason }
+
+-- where a form reads and leaves a token, it reads the same with more tokens behind
+abbrev pub ReadsOnward : Type 0
+ReadsOnward = (b : Bool) (c : Sort) (X : Form b c) (ts more rest : List (Tok Word)) (x : El Word c) → 0 < length rest → Reads X ts x rest → Reads X (ts ++ more) x (rest ++ more)
+
+-- where a form stops at a token, it stops there with more tokens behind, for the same reason
+abbrev pub StopsOnward : Type 0
+StopsOnward = (b : Bool) (c : Sort) (X : Form b c) (ts more : List (Tok Word)) (at : At Word) → 0 < length at.tokens → Stops X ts at → Stops X (ts ++ more) (followed at more)
 
 -- ---- whole files: one tree or one offending token, and one of them always
 

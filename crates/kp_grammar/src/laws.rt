@@ -1,7 +1,7 @@
 //! Laws of the grammar, each proved as the contract of a function that does nothing.
 
 ghost use Rattle.kp_grammar.specs.Words.{DomainsAreNamed, ProblemsAreNamed};
-ghost use Rattle.kp_grammar.specs.Laws.{ReadsOnce, StopsOnce, NeverBoth, AlwaysOne, WholeReadsOnce, WholeStopsOnce, WholeNeverBoth, WholeAlwaysOne};
+ghost use Rattle.kp_grammar.specs.Laws.{ReadsOnce, StopsOnce, NeverBoth, AlwaysOne, ReadsOnward, StopsOnward, WholeReadsOnce, WholeStopsOnce, WholeNeverBoth, WholeAlwaysOne};
 
 /// A form reads given tokens as at most one tree, and leaves the same tokens behind it.
 #[tactic(auto, using(crate::proofs::Exact::once_read))]
@@ -24,6 +24,12 @@ pub fn no_form_reads_and_stops()
 /// A form reads or stops.
 pub fn each_form_reads_or_stops()
     ensures { AlwaysOne }
+{}
+
+/// Where a form leaves a token that it read up to, or stops at a token, what stands behind that token doesn't matter.
+pub fn what_is_left_does_not_matter()
+    ensures reads { ReadsOnward }
+    ensures stops { StopsOnward }
 {}
 
 /// The words that the tree of a file keeps as names are Names in lower case, and predicates and the heads of atoms are no reserved ones.

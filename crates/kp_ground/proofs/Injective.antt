@@ -22,7 +22,7 @@ use Rattle.kp_grounding.specs.declared.flat.FlatEffect.{FlatEffect}
 use Rattle.kp_grounding.specs.Static.{remaining}
 use Rattle.kp_grounding.specs.Flattening.{same_literals, same_flat, flat, flat_of}
 use Rattle.kp_grounding.specs.Ground.{atom_of, number_of, numbered, numbered_set, numbered_effect, effect_literals, IsNumbering}
-use Rattle.kp_grounding.proofs.Step.{same_literal-true, same_literal-refl, Covered, same_numbered, occurs}
+use Rattle.kp_grounding.proofs.Public.{same_literal-true, same_literal-refl, IsCoveredLiteral, literal_number_is_its_own, instance_literals_occur}
 use Rattle.kp_ground.specs.Made.{same_made, with_made}
 use Rattle.kp_ground.specs.Passes.{IsKnown}
 
@@ -54,17 +54,17 @@ once_behind same f alike (x ∷ xs) h =
 module _ (l : Lifted) (atoms : List Atom) (numbering : IsNumbering l atoms) where
   -- all atoms of these literals are numbered
   abbrev pub AllKnown : List GroundLit → Type 0
-  AllKnown ms = (m : GroundLit) → Member ms m → Covered atoms m
+  AllKnown ms = (m : GroundLit) → Member ms m → IsCoveredLiteral atoms m
 
   turned : (x y : GroundLit) → same_literal x y ≡ true → same_literal y x ≡ true
   turned x y h = subst (λ z. same_literal z x ≡ true) (same_literal-true x y h) (same_literal-refl x)
 
-  same_by_number : (m k : GroundLit) → Covered atoms m → Covered atoms k → same_lit (numbered atoms m) (numbered atoms k) ≡ same_literal m k
+  same_by_number : (m k : GroundLit) → IsCoveredLiteral atoms m → IsCoveredLiteral atoms k → same_lit (numbered atoms m) (numbered atoms k) ≡ same_literal m k
   same_by_number m k c d =
-      same_numbered l atoms numbering m c k.positive (number_of atoms (atom_of k)) (atom_of k) d
+      literal_number_is_its_own l atoms numbering m c k.positive (number_of atoms (atom_of k)) (atom_of k) d
       ∙ bool_same (same_literal k m) (same_literal m k) (turned k m) (turned m k)
 
-  has_by_number : (ms : List GroundLit) (m : GroundLit) → Covered atoms m → AllKnown ms → has (numbered_set atoms ms) (numbered atoms m) ≡ names_literal ms m
+  has_by_number : (ms : List GroundLit) (m : GroundLit) → IsCoveredLiteral atoms m → AllKnown ms → has (numbered_set atoms ms) (numbered atoms m) ≡ names_literal ms m
   has_by_number ms m c known =
       any-set_of (same_lit (numbered atoms m)) (map (numbered atoms) ms)
       ∙ (any_map (numbered atoms) (same_lit (numbered atoms m)) (λ k. same_lit (numbered atoms m) (numbered atoms k)) ms (λ k. refl)
@@ -122,5 +122,5 @@ pub made_once : (l : Lifted) (atoms : List Atom) (a : Schema) (os : List ℕ) �
 made_once l atoms a os known =
     once_by_one same_made same_mades (map (numbered_effect atoms) (flat l os a.effect))
     ∙ once_by_number l atoms known.numbering (flat l os a.effect) (λ f i m j.
-    known.numbering.covers m (occurs l a os known.schema known.kept m
+    known.numbering.covers m (instance_literals_occur l a os known.schema known.kept m
     (member_right (remaining l os a.pre) (flat_map effect_literals (flat l os a.effect)) m (member_flat_map effect_literals (flat l os a.effect) f m i j))))

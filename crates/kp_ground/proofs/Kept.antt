@@ -17,7 +17,7 @@ use Rattle.kp_meaning.specs.Numbered.{Schema, Lifted}
 use Rattle.kp_meaning.specs.Lifted.{Instance, schema_of}
 use Rattle.kp_grounding.specs.declared.flat.Atom.{Atom}
 use Rattle.kp_grounding.specs.Ground.{kept_bindings, kept_instances, actions_of, atom_name, numbered_set, object_names, ground_pre, ground_effects, action_of, IsNumbering, ground_over}
-use Rattle.kp_grounding.proofs.Kept.{kept_of, act, actions_are}
+use Rattle.kp_grounding.proofs.Public.{kept_instance, instance_action, actions_of_kept_instances}
 use Rattle.kp_lifted.specs.declared.lifted.Schema as owned
 use Rattle.kp_names.specs.View.{schema_view}
 use Rattle.kp_kept.specs.declared.kept.Kept.{Kept}
@@ -31,16 +31,16 @@ there_below (y ∷ ys) zero x h = omega arith
 there_below (y ∷ ys) (suc n) x h = let rest = there_below ys n x h in omega arith
 
 pub all_known : (l : Lifted) → list_all (has_schema l) (kept_instances l) ≡ true
-all_known l = all_from (has_schema l) (kept_instances l) (λ i m. let kept = kept_of l i m in lt-ltb i.schema (length l.schemas) (there_below l.schemas i.schema kept.schema kept.at))
+all_known l = all_from (has_schema l) (kept_instances l) (λ i m. let kept = kept_instance l i m in lt-ltb i.schema (length l.schemas) (there_below l.schemas i.schema kept.schema kept.at))
 
 pub actions_at : (l : Lifted) (atoms : List Atom) → flat_map (actions_of l atoms) l.schemas ≡ map (action_at l atoms) (kept_instances l)
-actions_at l atoms = actions_are l atoms ∙ same (kept_instances l)
+actions_at l atoms = actions_of_kept_instances l atoms ∙ same (kept_instances l)
   where
-    one : (o : Option Schema) (os : List ℕ) → act l atoms o os ≡ action_with l atoms o os
+    one : (o : Option Schema) (os : List ℕ) → instance_action l atoms o os ≡ action_with l atoms o os
     one None os = refl
     one (Some a) os = refl
 
-    same : (is : List Instance) → map (λ i. act l atoms (schema_of l i) i.objects) is ≡ map (action_at l atoms) is
+    same : (is : List Instance) → map (λ i. instance_action l atoms (schema_of l i) i.objects) is ≡ map (action_at l atoms) is
     same [] = refl
     same (i ∷ is) = rw (one (schema_of l i) i.objects, same is) refl
 
@@ -64,7 +64,7 @@ atoms_stop l limits stops.Memory within h = tt
 -- ---- a kept instance
 
 pub below_of : (l : Lifted) (i : Instance) → Member (kept_instances l) i → i.schema < length l.schemas
-below_of l i m = let kept = kept_of l i m in there_below l.schemas i.schema kept.schema kept.at
+below_of l i m = let kept = kept_instance l i m in there_below l.schemas i.schema kept.schema kept.at
 
 -- a schema of the program as plain data
 pub schema_seen : (ss : List owned.Schema) (n : ℕ) (s : owned.Schema) → slice_get ss n ≡ Some s → slice_get (map schema_view ss) n ≡ Some (schema_view s)
@@ -72,7 +72,7 @@ schema_seen ss n s h = slice_get-map schema_view ss n ∙ ap (option_map schema_
 
 pub known_of : (l : Lifted) (atoms : List Atom) (i : Instance) (a : Schema) → IsNumbering l atoms → Member (kept_instances l) i → schema_of l i ≡ Some a → IsKnown l atoms a i.objects
 known_of l atoms i a numbering m is =
-    let kept = kept_of l i m in
+    let kept = kept_instance l i m in
     let both : Some kept.schema ≡ Some a = sym kept.at ∙ is in
     let same : kept.schema ≡ a = cc in
     record {

@@ -1,3 +1,4 @@
+pub mod Public
 pub mod Noted
 pub mod Numbering
 pub mod Kept

@@ -9,7 +9,7 @@ use Rattle.kp_meaning.specs.Numbered.{Schema, Lifted}
 use Rattle.kp_meaning.specs.Lifted.{Instance, schema_of}
 use Rattle.kp_grounding.specs.declared.flat.Atom.{Atom}
 use Rattle.kp_grounding.specs.Ground.{kept_bindings, instance, kept_instances, atom_of, instance_literals, kept_literals, open_literals, occurring, same_atom, has_atom}
-use Rattle.kp_grounding.proofs.Kept.{kept_of, member_of}
+use Rattle.kp_grounding.proofs.Public.{kept_instance, kept_is_member}
 use Rattle.kp_ground.specs.Passes.{literals_of, literals_at, noted}
 
 -- ---- lists
@@ -51,7 +51,7 @@ module _ (p : GroundLit → Bool) where
       there : list_any at_instance (kept_instances l) ≡ true → list_any at_schema l.schemas ≡ true
       there h =
           let found = any_member at_instance (kept_instances l) h in
-          let kept = kept_of l found.0 found.1 in
+          let kept = kept_instance l found.0 found.1 in
           let passes : list_any p (instance_literals l kept.schema (found.0).objects) ≡ true = sym (of_schema l found.0 kept.schema kept.at) ∙ found.2 in
           any_from at_schema l.schemas kept.schema (member_at l.schemas (found.0).schema kept.schema kept.at)
           (any-flat_map p (instance_literals l kept.schema) (kept_bindings l kept.schema)
@@ -63,7 +63,7 @@ module _ (p : GroundLit → Bool) where
           let inner = any_member (λ os. list_any p (instance_literals l found.0 os)) (kept_bindings l found.0) (sym (any-flat_map p (instance_literals l found.0) (kept_bindings l found.0)) ∙ found.2) in
           let place = placed l.schemas found.0 found.1 in
           any_from at_instance (kept_instances l) (instance place.place inner.0)
-          (member_of l (instance place.place inner.0) (record { schema = found.0; at = place.there; among = inner.1 }))
+          (kept_is_member l (instance place.place inner.0) (record { schema = found.0; at = place.there; among = inner.1 }))
           (of_schema l (instance place.place inner.0) found.0 place.there ∙ inner.2)
 
   -- ---- all literals

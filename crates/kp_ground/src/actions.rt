@@ -2,7 +2,6 @@ ghost use Rattle.std.specs.Prelude.{◌≡◌, ◌<◌, map, length, Some, IfOk}
 ghost use Rattle.kp_base.specs.Lists.{Member};
 ghost use Rattle.kp_names.specs.View.{schema_view, lifted_view};
 ghost use Rattle.kp_kept.specs.Counts.{kept_view};
-ghost use Rattle.kp_bound.specs.Problem.{problem_of};
 ghost use Rattle.kp_grounding.specs.Flattening.{flat_of};
 ghost use Rattle.kp_grounding.specs.Ground.{numbered_effect, lasting, kept_instances, ground_pre, ground_effects, IsNumbering};
 ghost use Rattle.kp_ground.specs.Passes.{name_with, action_at, IsKnown};
@@ -27,7 +26,7 @@ fn pre_by_number(
     objects: &[u32],
     schema: &Schema,
 ) -> Result<LitSet, Memory>
-    ensures { IfOk result (λ pre. pre ≡ ground_pre (problem_of statics.now) atoms.now (schema_view schema.now) objects.now) }
+    ensures { IfOk result (λ pre. pre ≡ ground_pre (lifted_view statics.now) atoms.now (schema_view schema.now) objects.now) }
 {
     let left = left_of(bump, alloc, statics, objects, &schema.pre)?;
     let pre = literal_set(alloc, atoms, left.slice())?;
@@ -43,8 +42,8 @@ fn effects_by_number(
     objects: &[u32],
     schema: &Schema,
 ) -> Result<Row<Effect>, Memory>
-    requires { IsKnown (problem_of statics.now) atoms.now (schema_view schema.now) objects.now }
-    ensures { IfOk result (λ row. row ≡ map (numbered_effect atoms.now) (flat_of (problem_of statics.now) (schema_view schema.now) objects.now).effects) }
+    requires { IsKnown (lifted_view statics.now) atoms.now (schema_view schema.now) objects.now }
+    ensures { IfOk result (λ row. row ≡ map (numbered_effect atoms.now) (flat_of (lifted_view statics.now) (schema_view schema.now) objects.now).effects) }
 {
     let mut numbering = Numbering::new(alloc, atoms);
     hand_over(
@@ -69,8 +68,8 @@ fn effects_beside(
     objects: &[u32],
     schema: &Schema,
 ) -> Result<Row<Effect>, Memory>
-    requires { IsKnown (problem_of statics.now) atoms.now (schema_view schema.now) objects.now }
-    ensures { IfOk result (λ row. row ≡ lasting pre.now (map (numbered_effect atoms.now) (flat_of (problem_of statics.now) (schema_view schema.now) objects.now).effects)) }
+    requires { IsKnown (lifted_view statics.now) atoms.now (schema_view schema.now) objects.now }
+    ensures { IfOk result (λ row. row ≡ lasting pre.now (map (numbered_effect atoms.now) (flat_of (lifted_view statics.now) (schema_view schema.now) objects.now).effects)) }
 {
     let effects = effects_by_number(bump, alloc, statics, atoms, objects, schema)?;
     lasting_effects(alloc, pre, effects)
@@ -86,10 +85,10 @@ fn named(
     objects: &[u32],
     schema: &Schema,
 ) -> Result<Action, Memory>
-    requires { IsKnown (problem_of statics.now) atoms.now (schema_view schema.now) objects.now }
+    requires { IsKnown (lifted_view statics.now) atoms.now (schema_view schema.now) objects.now }
     ensures name { IfOk result (λ a. a.name ≡ name) }
-    ensures pre { IfOk result (λ a. a.pre ≡ ground_pre (problem_of statics.now) atoms.now (schema_view schema.now) objects.now) }
-    ensures effects { IfOk result (λ a. a.effects ≡ ground_effects (problem_of statics.now) atoms.now (schema_view schema.now) objects.now) }
+    ensures pre { IfOk result (λ a. a.pre ≡ ground_pre (lifted_view statics.now) atoms.now (schema_view schema.now) objects.now) }
+    ensures effects { IfOk result (λ a. a.effects ≡ ground_effects (lifted_view statics.now) atoms.now (schema_view schema.now) objects.now) }
 {
     let pre = pre_by_number(bump, alloc, statics, atoms, objects, schema)?;
     let effects = effects_beside(bump, alloc, statics, atoms, &pre, objects, schema)?;
@@ -116,12 +115,13 @@ fn action(
     atoms: &Atoms,
     one: &Kept,
 ) -> Result<Action, Memory>
-    requires numbering { IsNumbering (problem_of statics.now) atoms.now }
-    requires kept { Member (kept_instances (problem_of statics.now)) (kept_view one.now) }
-    ensures { IfOk result (λ a. a ≡ action_at (problem_of statics.now) atoms.now (kept_view one.now)) }
+    requires numbering { IsNumbering (lifted_view statics.now) atoms.now }
+    requires kept { Member (kept_instances (lifted_view statics.now)) (kept_view one.now) }
+    ensures { IfOk result (λ a. a ≡ action_at (lifted_view statics.now) atoms.now (kept_view one.now)) }
 {
-    let name = name_of(alloc, statics.lifted, one)?;
-    let schema = statics.lifted.schemas.at(one.schema as usize);
+    let lifted = statics.lifted();
+    let name = name_of(alloc, lifted, one)?;
+    let schema = lifted.schemas.at(one.schema as usize);
     let action = named(
         bump,
         alloc,
@@ -141,9 +141,9 @@ pub fn all_actions(
     atoms: &Atoms,
     kept: &[Kept],
 ) -> Result<Row<Action>, Memory>
-    requires numbering { IsNumbering (problem_of statics.now) atoms.now }
-    requires kept { map kept_view kept.now ≡ kept_instances (problem_of statics.now) }
-    ensures { IfOk result (λ row. row ≡ map (action_at (problem_of statics.now) atoms.now) (map kept_view kept.now)) }
+    requires numbering { IsNumbering (lifted_view statics.now) atoms.now }
+    requires kept { map kept_view kept.now ≡ kept_instances (lifted_view statics.now) }
+    ensures { IfOk result (λ row. row ≡ map (action_at (lifted_view statics.now) atoms.now) (map kept_view kept.now)) }
 {
     let mut bump = Bump::new(alloc);
     let mut row = Row::new(alloc);

@@ -2,7 +2,7 @@ ghost use Rattle.std.specs.Prelude.{◌≡◌, [], ◌∷◌, filter, OnOk};
 ghost use Rattle.std.specs.List.{flat_map};
 ghost use Rattle.kp_meaning.specs.Lifted.{item_literals};
 ghost use Rattle.kp_atoms.specs.Gathered.{gather};
-ghost use Rattle.kp_bound.specs.Problem.{problem_of};
+ghost use Rattle.kp_names.specs.View.{lifted_view};
 ghost use Rattle.kp_ground.specs.Passes.{is_open};
 
 use kp_atoms::Atoms;
@@ -19,7 +19,7 @@ fn add_open(
     atoms: &mut Atoms,
     lit: &GroundLit,
 ) -> Result<(), Memory>
-    ensures { OnOk result (atoms.new ≡ gather limit atoms.old (filter (is_open (problem_of statics.now)) (lit.now ∷ []))) }
+    ensures { OnOk result (atoms.new ≡ gather limit atoms.old (filter (is_open (lifted_view statics.now)) (lit.now ∷ []))) }
 {
     if statics.is_static(lit.pred) {
         return Ok(());
@@ -35,7 +35,7 @@ fn add_all_open(
     atoms: &mut Atoms,
     lits: &[GroundLit],
 ) -> Result<(), Memory>
-    ensures { OnOk result (atoms.new ≡ gather limit atoms.old (filter (is_open (problem_of statics.now)) lits.now)) }
+    ensures { OnOk result (atoms.new ≡ gather limit atoms.old (filter (is_open (lifted_view statics.now)) lits.now)) }
 {
     for lit in lits {
         add_open(alloc, statics, limit, atoms, lit)?;
@@ -51,7 +51,7 @@ fn add_item(
     atoms: &mut Atoms,
     item: &Item,
 ) -> Result<(), Memory>
-    ensures { OnOk result (atoms.new ≡ gather limit atoms.old (filter (is_open (problem_of statics.now)) (item_literals item.now))) }
+    ensures { OnOk result (atoms.new ≡ gather limit atoms.old (filter (is_open (lifted_view statics.now)) (item_literals item.now))) }
 {
     match item {
         Item::One(lit) | Item::Unknown(lit) => add_open(alloc, statics, limit, atoms, lit),
@@ -69,7 +69,7 @@ pub fn add_items(
     atoms: &mut Atoms,
     items: &[Item],
 ) -> Result<(), Memory>
-    ensures { OnOk result (atoms.new ≡ gather limit atoms.old (filter (is_open (problem_of statics.now)) (flat_map item_literals items.now))) }
+    ensures { OnOk result (atoms.new ≡ gather limit atoms.old (filter (is_open (lifted_view statics.now)) (flat_map item_literals items.now))) }
 {
     for item in items {
         add_item(alloc, statics, limit, atoms, item)?;

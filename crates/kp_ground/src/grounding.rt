@@ -2,7 +2,6 @@ ghost use Rattle.std.specs.Prelude.{◌≡◌, map, IfOk};
 ghost use Rattle.kp_names.specs.View.{lifted_view};
 ghost use Rattle.kp_grounding.specs.Ground.{kept_instances, ground_over, atom_name, numbered_set, IsNumbering};
 ghost use Rattle.kp_kept.specs.Counts.{kept_view};
-ghost use Rattle.kp_bound.specs.Problem.{problem_of};
 ghost use Rattle.kp_ground.specs.Grounded.{AnswersGround, AnswersWithAtoms};
 
 use crate::actions::all_actions;
@@ -51,14 +50,14 @@ fn over_atoms(
     atoms: &Atoms,
     kept: &[Kept],
 ) -> Result<GroundWithAtoms, Memory>
-    requires numbering { IsNumbering (problem_of statics.now) atoms.now }
-    requires kept { map kept_view kept.now ≡ kept_instances (problem_of statics.now) }
-    ensures ground { IfOk result (λ g. g.ground ≡ ground_over (problem_of statics.now) atoms.now) }
+    requires numbering { IsNumbering (lifted_view statics.now) atoms.now }
+    requires kept { map kept_view kept.now ≡ kept_instances (lifted_view statics.now) }
+    ensures ground { IfOk result (λ g. g.ground ≡ ground_over (lifted_view statics.now) atoms.now) }
     ensures atoms { IfOk result (λ g. g.atoms ≡ atoms.now) }
 {
     let row = atoms.row(alloc)?;
     let actions = all_actions(alloc, statics, atoms, kept)?;
-    let ground = with_actions(alloc, statics.lifted, atoms, &row, actions)?;
+    let ground = with_actions(alloc, statics.lifted(), atoms, &row, actions)?;
     Ok(GroundWithAtoms { ground, atoms: row })
 }
 
@@ -68,7 +67,7 @@ pub fn ground_with_atoms(
     statics: &Statics,
     limits: &Limits,
 ) -> Result<GroundWithAtoms, Stop>
-    ensures { AnswersWithAtoms (problem_of statics.now) limits.now result }
+    ensures { AnswersWithAtoms (lifted_view statics.now) limits.now result }
 {
     let kept = kept_instances(alloc, statics, limits)?;
     let atoms = occurring_atoms(alloc, statics, kept.slice(), limits.atoms)?;

@@ -1,10 +1,9 @@
 ghost use Rattle.std.specs.Prelude.{◌≡◌, ◌<◌, [], map, true, length, IfOk, OnOk};
 ghost use Rattle.std.specs.List.{flat_map, list_all};
-ghost use Rattle.kp_names.specs.View.{schema_view};
+ghost use Rattle.kp_names.specs.View.{schema_view, lifted_view};
 ghost use Rattle.kp_grounding.specs.Ground.{instance_literals, kept_instances};
 ghost use Rattle.kp_atoms.specs.Gathered.{gather};
 ghost use Rattle.kp_kept.specs.Counts.{kept_view};
-ghost use Rattle.kp_bound.specs.Problem.{problem_of};
 ghost use Rattle.kp_ground.specs.Passes.{has_schema, literals_at, noted, AnswersAtoms};
 
 use crate::effect_atoms::EffectAtoms;
@@ -27,7 +26,7 @@ fn add_schema(
     into: &mut EffectAtoms,
 ) -> Result<(), Memory>
     ensures limit { OnOk result (into.new.limit ≡ into.old.limit) }
-    ensures atoms { OnOk result (into.new.atoms ≡ gather into.old.limit into.old.atoms (instance_literals (problem_of statics.now) (schema_view schema.now) objects.now)) }
+    ensures atoms { OnOk result (into.new.atoms ≡ gather into.old.limit into.old.atoms (instance_literals (lifted_view statics.now) (schema_view schema.now) objects.now)) }
 {
     let pre = left_of(bump, alloc, statics, objects, &schema.pre)?;
     add_literals(alloc, into.limit, &mut into.atoms, pre.slice())?;
@@ -43,11 +42,11 @@ fn add_instance(
     one: &Kept,
     into: &mut EffectAtoms,
 ) -> Result<(), Memory>
-    requires { one.now.schema < length (problem_of statics.now).schemas }
+    requires { one.now.schema < length (lifted_view statics.now).schemas }
     ensures limit { OnOk result (into.new.limit ≡ into.old.limit) }
-    ensures atoms { OnOk result (into.new.atoms ≡ gather into.old.limit into.old.atoms (literals_at (problem_of statics.now) (kept_view one.now))) }
+    ensures atoms { OnOk result (into.new.atoms ≡ gather into.old.limit into.old.atoms (literals_at (lifted_view statics.now) (kept_view one.now))) }
 {
-    let schema = statics.lifted.schemas.at(one.schema as usize);
+    let schema = statics.lifted().schemas.at(one.schema as usize);
     add_schema(bump, alloc, statics, one.objects.slice(), schema, into)?;
     Ok(())
 }
@@ -60,8 +59,8 @@ fn add_kept(
     kept: &[Kept],
     into: &mut EffectAtoms,
 ) -> Result<(), Memory>
-    requires { list_all (has_schema (problem_of statics.now)) (map kept_view kept.now) ≡ true }
-    ensures { OnOk result (into.new.atoms ≡ gather into.old.limit into.old.atoms (flat_map (literals_at (problem_of statics.now)) (map kept_view kept.now))) }
+    requires { list_all (has_schema (lifted_view statics.now)) (map kept_view kept.now) ≡ true }
+    ensures { OnOk result (into.new.atoms ≡ gather into.old.limit into.old.atoms (flat_map (literals_at (lifted_view statics.now)) (map kept_view kept.now))) }
 {
     for one in kept {
         if into.limit < into.atoms.len() {
@@ -79,8 +78,8 @@ fn add_instances(
     kept: &[Kept],
     into: &mut EffectAtoms,
 ) -> Result<(), Memory>
-    requires { list_all (has_schema (problem_of statics.now)) (map kept_view kept.now) ≡ true }
-    ensures { OnOk result (into.new.atoms ≡ gather into.old.limit into.old.atoms (flat_map (literals_at (problem_of statics.now)) (map kept_view kept.now))) }
+    requires { list_all (has_schema (lifted_view statics.now)) (map kept_view kept.now) ≡ true }
+    ensures { OnOk result (into.new.atoms ≡ gather into.old.limit into.old.atoms (flat_map (literals_at (lifted_view statics.now)) (map kept_view kept.now))) }
 {
     let mut bump = Bump::new(alloc);
     add_kept(&mut bump, alloc, statics, kept, into)
@@ -88,10 +87,10 @@ fn add_instances(
 
 // The atoms of the goal, of `:init` without static predicates, and of the kept instances, until there are more than the limit.
 fn gathered(alloc: Global, statics: &Statics, kept: &[Kept], limit: u32) -> Result<Atoms, Memory>
-    requires { map kept_view kept.now ≡ kept_instances (problem_of statics.now) }
-    ensures { IfOk result (λ atoms. atoms ≡ gather limit [] (noted (problem_of statics.now))) }
+    requires { map kept_view kept.now ≡ kept_instances (lifted_view statics.now) }
+    ensures { IfOk result (λ atoms. atoms ≡ gather limit [] (noted (lifted_view statics.now))) }
 {
-    let lifted = statics.lifted;
+    let lifted = statics.lifted();
     let mut atoms = Atoms::new(alloc);
     add_literals(alloc, limit, &mut atoms, lifted.goal.slice())?;
     add_items(alloc, statics, limit, &mut atoms, lifted.init.slice())?;
@@ -107,8 +106,8 @@ pub fn occurring_atoms(
     kept: &[Kept],
     limit: u32,
 ) -> Result<Atoms, Stop>
-    requires { map kept_view kept.now ≡ kept_instances (problem_of statics.now) }
-    ensures { AnswersAtoms (problem_of statics.now) limit result }
+    requires { map kept_view kept.now ≡ kept_instances (lifted_view statics.now) }
+    ensures { AnswersAtoms (lifted_view statics.now) limit result }
 {
     let mut atoms = gathered(alloc, statics, kept, limit)?;
     if limit < atoms.len() {

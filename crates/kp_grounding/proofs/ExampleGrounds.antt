@@ -12,16 +12,15 @@ use Rattle.kp_grammar.specs.Parsing.{some_at, next_at}
 use Rattle.kp_meaning.specs.Names.{Name}
 use Rattle.kp_meaning.specs.Numbered.{Lifted}
 use Rattle.kp_meaning.specs.Faults.{HasNoFault}
-pub use Rattle.kp_grammar.proofs.ExampleTexts.{exchange, from_p_to_q}
+pub use Rattle.kp_grammar.proofs.Public.{exchange_text as exchange, from_p_to_q_text as from_p_to_q}
 use Rattle.kp_meaning.specs.Numbering.{numbered_problem}
-use Rattle.kp_meaning.proofs.Texts.{domain_of, problem_of}
-use Rattle.kp_meaning.proofs.ExampleCells.{cells, one_of_three}
+use Rattle.kp_meaning.proofs.Public.{domain_of_text, problem_of_text, cells_domain, one_cell_problem}
 use Rattle.kp_grounding.specs.Static.{is_static}
 use Rattle.kp_grounding.specs.Ground.{ground_of}
 use Rattle.kp_grounding.specs.Weights.{binding_count, weight, total_weight}
 
 abbrev pub lifted : List ℕ → List ℕ → Lifted
-lifted d p = numbered_problem (domain_of d) (problem_of p)
+lifted d p = numbered_problem (domain_of_text d) (problem_of_text p)
 
 abbrev pub named : Name → List Name → GroundName
 named head objects = record { head = head; objects = objects }
@@ -37,7 +36,7 @@ roads = codes "(define (domain g) (:types t u) (:predicates (road ?x ?y) (at ?x)
 abbrev pub three_towns : List ℕ
 three_towns = codes "(define (problem g) (:domain g) (:objects a b c - t) (:init (road a b) (road b c) (at a) (unknown (lit))) (:goal (and (at c) (road a b))))"
 
-pub no_fault : HasNoFault (domain_of roads) (problem_of three_towns)
+pub no_fault : HasNoFault (domain_of_text roads) (problem_of_text three_towns)
 unfolding cut_from class_of symbol_of some_at next_at
 no_fault = record { domain = refl; problem = refl }
 
@@ -121,7 +120,7 @@ ground_cells = record {
   goal = positive 0 ∷ [];
 }
 
-pub cells_are_ground : ground_of (lifted cells one_of_three) ≡ ground_cells
+pub cells_are_ground : ground_of (lifted cells_domain one_cell_problem) ≡ ground_cells
 unfolding cut_from class_of symbol_of some_at next_at
 cells_are_ground = refl
 

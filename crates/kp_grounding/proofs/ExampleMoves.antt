@@ -10,14 +10,13 @@ use Rattle.kp_base.specs.Lit.{positive, negative}
 use Rattle.kp_meaning.specs.Names.{Name}
 use Rattle.kp_meaning.specs.Lifted.{State, is_named, IsInitial, IsPlan}
 use Rattle.kp_meaning.specs.Numbering.{numbered_problem}
-use Rattle.kp_meaning.proofs.Texts.{domain_of, problem_of}
-use Rattle.kp_meaning.proofs.ExamplePlans.{moves, from_a_to_b}
-use Rattle.kp_meaning.proofs.ExampleNumbered.{move_schema, no_fault}
-pub use Rattle.kp_meaning.proofs.ExampleNumbered.{moves_by_number, numbered_moves}
+use Rattle.kp_meaning.proofs.Public.{domain_of_text, problem_of_text, moves_domain, from_a_to_b_problem, move_schema, moves_have_no_fault}
+pub use Rattle.kp_meaning.proofs.Public.{moves_by_number, moves_are_numbered as numbered_moves}
 use Rattle.kp_grounding.specs.Static.{is_static, HasStaticTruth}
 use Rattle.kp_grounding.specs.Ground.{instance, kept_bindings, kept_instances, ground_atoms, IsNumbering, ground_of}
 use Rattle.kp_grounding.specs.Weights.{binding_count, weight, total_weight}
-use Rattle.kp_grounding.specs.Laws.{IsStepOf, IsGroundRun, action_name}
+use Rattle.kp_base.specs.ActionNames.{action_name}
+use Rattle.kp_grounding.specs.Laws.{IsStepOf, IsGroundRun}
 use Rattle.kp_grounding.proofs.Atoms.{atoms_are_numbered}
 use Rattle.kp_grounding.proofs.Static.{static_at_first}
 use Rattle.kp_grounding.proofs.Step.{step_exact, kept_exact}
@@ -101,5 +100,5 @@ names : map number_and_name (0 ∷ 1 ∷ 2 ∷ 3 ∷ 4 ∷ []) ≡ Some (named (
 names = refl
 
 -- what has the name of the second action is the second action
-by_its_name : (n : ℕ) → action_name (ground_of (numbered_problem (domain_of moves) (problem_of from_a_to_b))) n ≡ Some (named (codes "move") (codes "a" ∷ codes "b" ∷ [])) → n ≡ 1
-by_its_name n h = actions_named_once (domain_of moves) (problem_of from_a_to_b) no_fault n 1 (named (codes "move") (codes "a" ∷ codes "b" ∷ [])) h (subst (λ l. action_name (ground_of l) 1 ≡ Some (named (codes "move") (codes "a" ∷ codes "b" ∷ []))) (sym numbered_moves) refl)
+by_its_name : (n : ℕ) → action_name (ground_of (numbered_problem (domain_of_text moves_domain) (problem_of_text from_a_to_b_problem))) n ≡ Some (named (codes "move") (codes "a" ∷ codes "b" ∷ [])) → n ≡ 1
+by_its_name n h = actions_named_once (domain_of_text moves_domain) (problem_of_text from_a_to_b_problem) moves_have_no_fault n 1 (named (codes "move") (codes "a" ∷ codes "b" ∷ [])) h (subst (λ l. action_name (ground_of l) 1 ≡ Some (named (codes "move") (codes "a" ∷ codes "b" ∷ []))) (sym numbered_moves) refl)

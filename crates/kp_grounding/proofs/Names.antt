@@ -17,9 +17,7 @@ use Rattle.kp_meaning.specs.Types.{names, declared, types_of, object_lines, obje
 use Rattle.kp_meaning.specs.Numbered.{Schema, Lifted}
 use Rattle.kp_meaning.specs.Lifted.{Instance, bindings, schema_of, is_instance}
 use Rattle.kp_meaning.specs.Numbering.{index_of, name_at, numbered_range, numbered_schema, numbered_problem, named_step}
-use Rattle.kp_meaning.proofs.Lists.{among_member}
-use Rattle.kp_meaning.proofs.Indexes.{Distinct, at_index, distinct_once}
-use Rattle.kp_meaning.proofs.NumberedPlans.{named_once}
+use Rattle.kp_meaning.proofs.Public.{member_is_among, AreDistinctNames, name_at_index, distinct_are_distinct, instances_are_named_once}
 use Rattle.kp_grounding.specs.Static.{settled}
 use Rattle.kp_grounding.specs.Ground.{kept_bindings, instance, kept_from, kept_instances, ground_atoms}
 use Rattle.kp_grounding.specs.Laws.{AreNamedBySteps, AreNamedOnce}
@@ -111,9 +109,9 @@ once_choices {X} (xs ∷ xss) o = go xs o.0 (once_choices xss o.1)
         let e = head_same s.0 y u.0 r.0 (u.2 ∙ sym r.2) in
         q.0 (subst (Member ys) e s.1))
 
-distinct_is_once : (xs : List Name) → Distinct xs → IsOnce xs
+distinct_is_once : (xs : List Name) → AreDistinctNames xs → IsOnce xs
 distinct_is_once [] o = tt
-distinct_is_once (x ∷ xs) o = ((λ m. both_ways (is_among xs x) o.0 (among_member xs x m)), distinct_is_once xs o.1)
+distinct_is_once (x ∷ xs) o = ((λ m. both_ways (is_among xs x) o.0 (member_is_among xs x m)), distinct_is_once xs o.1)
 
 -- ---- kept instances are each once
 
@@ -122,13 +120,13 @@ module _ (d : Domain Word) (p : Problem Word) where
   ranges_once [] = tt
   ranges_once (x ∷ xs) = (
     once_map (index_of (objects d p)) (range d p x)
-        (once_filter (λ o. list_any (is_of_type d p o) (types_of x)) (objects d p) (distinct_is_once (objects d p) (distinct_once (declared (object_lines d p)))))
-        (λ a b i j e. sym (at_index (objects d p) a (there a i)) ∙ (ap (name_at (objects d p)) e ∙ at_index (objects d p) b (there b j))),
+        (once_filter (λ o. list_any (is_of_type d p o) (types_of x)) (objects d p) (distinct_is_once (objects d p) (distinct_are_distinct (declared (object_lines d p)))))
+        (λ a b i j e. sym (name_at_index (objects d p) a (there a i)) ∙ (ap (name_at (objects d p)) e ∙ name_at_index (objects d p) b (there b j))),
     ranges_once xs,
   )
     where
       there : (a : Name) → Member (range d p x) a → is_among (objects d p) a ≡ true
-      there a i = among_member (objects d p) a (filter_member (λ o. list_any (is_of_type d p o) (types_of x)) (objects d p) a i).0
+      there a i = member_is_among (objects d p) a (filter_member (λ o. list_any (is_of_type d p o) (types_of x)) (objects d p) a i).0
 
   -- instances in a list from number k on have no smaller one
   kept_above : (l : Lifted) (k : ℕ) (more : List Schema) (i : Instance) → Member (kept_from l k more) i → k ≤ i.schema
@@ -166,7 +164,7 @@ actions_named_once d p no_fault m n x f g =
         let a : Some (named_step d p i) ≡ Some x = subst (λ o. option_map (named_step d p) o ≡ Some x) is f' in
         let b : Some (named_step d p j) ≡ Some x = subst (λ o. option_map (named_step d p) o ≡ Some x) at g' in
         let names : named_step d p i ≡ named_step d p j = unsome (named_step d p i) (named_step d p j) (a ∙ sym b) in
-        let e : i ≡ j = named_once d p no_fault i j (inst m i is) (inst n j at) names in
+        let e : i ≡ j = instances_are_named_once d p no_fault i j (inst m i is) (inst n j at) names in
         once_place (kept_instances (numbered_problem d p)) (kept_once d p (numbered_problem d p) 0 d.schemas) m n j (is ∙ ap Some e) at
       where
         unsome : (a b : GroundName) → Some a ≡ Some b → a ≡ b

@@ -5,6 +5,7 @@ use Rattle.kp_base.specs.declared.ground.GroundName.{GroundName}
 use Rattle.kp_base.specs.declared.ground.Ground.{Ground}
 use Rattle.kp_base.specs.Lists.{Member, each_once}
 use Rattle.kp_base.specs.Steps as steps
+use Rattle.kp_base.specs.ActionNames.{action_name}
 use Rattle.kp_grammar.specs.declared.tree.Word.{Word}
 use Rattle.kp_grammar.specs.Trees.{Domain, Problem}
 use Rattle.kp_meaning.specs.Faults.{HasNoFault}
@@ -84,10 +85,6 @@ abbrev pub IsPlanExact : Type 0
 IsPlanExact = (l : Lifted) (atoms : List Atom) → IsNumbering l atoms → (first : State) → IsInitial l first → (is : List Instance) → IsPlan l is ↔ ((ns : List ℕ) × IsGroundRun l atoms is ns)
 
 -- ---- names
-
--- the name of the action of this number
-abbrev pub action_name : Ground → ℕ → Option GroundName
-action_name g n = option_map (λ a. a.name) (slice_get g.actions n)
 
 -- the action of a kept instance has the name of its step, and there are no other actions
 abbrev pub AreNamedBySteps : Type 0

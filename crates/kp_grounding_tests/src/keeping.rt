@@ -85,20 +85,21 @@ fn idle_within(alloc: Global, bindings: u64, actions: u32, weight: u64) -> Resul
     kept
 }
 
+// Whether the instance of the idle action is kept within these limits.
+fn keeps_one(alloc: Global, bindings: u64, actions: u32, weight: u64) -> bool {
+    idle_within(alloc, bindings, actions, weight) == Ok(1)
+}
+
+// Whether it is refused so.
+fn refuses(alloc: Global, bindings: u64, actions: u32, weight: u64, refused: Refused) -> bool {
+    idle_within(alloc, bindings, actions, weight) == Err(Stop::Refused(refused))
+}
+
 #[test]
 fn each_limit_refuses(rt: HostRuntime) {
-    let over = |refused| Err(Stop::Refused(refused));
-    assert_eq!(rt; idle_within(rt.alloc(), 1, 1, 1), Ok(1));
-    assert_eq!(rt;
-        idle_within(rt.alloc(), 0, 1, 1),
-        over(Refused::BindingsOver)
-    );
-    assert_eq!(rt;
-        idle_within(rt.alloc(), 1, 0, 1),
-        over(Refused::ActionsOver)
-    );
-    assert_eq!(rt;
-        idle_within(rt.alloc(), 1, 1, 0),
-        over(Refused::EffectsOver)
-    );
+    let alloc = rt.alloc();
+    assert!(rt; keeps_one(alloc, 1, 1, 1));
+    assert!(rt; refuses(alloc, 0, 1, 1, Refused::BindingsOver));
+    assert!(rt; refuses(alloc, 1, 0, 1, Refused::ActionsOver));
+    assert!(rt; refuses(alloc, 1, 1, 0, Refused::EffectsOver));
 }

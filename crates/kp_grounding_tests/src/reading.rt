@@ -1,9 +1,13 @@
-ghost use Rattle.std.specs.Prelude.{IfOk};
+ghost use Rattle.std.specs.Prelude.{◌≤◌, length, IfOk};
+ghost use Rattle.kp_grammar.specs.Grammar as grammar;
+ghost use Rattle.kp_grammar.specs.Texts.{ReadsAs};
+ghost use Rattle.kp_grammar.specs.View.{domain_view};
 ghost use Rattle.kp_init.specs.ByName.{HasNamedAtoms};
 ghost use Rattle.kp_names.specs.View.{lifted_view};
 
 use kp_base::{Memory, Row, Stop, Texts};
 use kp_given::names_tell_ground_atoms;
+use kp_grammar::Domain;
 use kp_names::{Lifted, resolve};
 use kp_tree::{read_domain, read_problem};
 use std::alloc::Global;
@@ -25,6 +29,21 @@ fn texts_of(alloc: Global, domain: &str, problem: &str) -> Result<Texts, Memory>
     })
 }
 
+// The problem by number of texts whose domain is read, where they have one.
+fn resolved_with(alloc: Global, texts: &Texts, domain: &Domain) -> Result<Lifted, Stop>
+    requires domain_short { length texts.now.domain ≤ 1000 }
+    requires problem_short { length texts.now.problem ≤ 1000 }
+    requires domain_reads { ReadsAs grammar.domain texts.now.domain (domain_view domain.now) }
+    ensures { IfOk result (λ l. HasNamedAtoms (lifted_view l)) }
+{
+    let problem = read_problem(alloc, texts.problem.slice())?;
+    let resolved = resolve(alloc, texts, domain, &problem);
+    drop(problem);
+    let lifted = resolved?;
+    names_tell_ground_atoms();
+    Ok(lifted)
+}
+
 // The problem by number of texts, where they have one.
 fn resolved_of(alloc: Global, texts: &Texts) -> Result<Lifted, Stop>
     ensures { IfOk result (λ l. HasNamedAtoms (lifted_view l)) }
@@ -33,10 +52,9 @@ fn resolved_of(alloc: Global, texts: &Texts) -> Result<Lifted, Stop>
         return Err(Stop::Memory);
     }
     let domain = read_domain(alloc, texts.domain.slice())?;
-    let problem = read_problem(alloc, texts.problem.slice())?;
-    let lifted = resolve(alloc, texts, &domain, &problem)?;
-    names_tell_ground_atoms();
-    Ok(lifted)
+    let lifted = resolved_with(alloc, texts, &domain);
+    drop(domain);
+    lifted
 }
 
 /// The problem by number of two short texts, where they have one. Names tell its ground atoms apart.

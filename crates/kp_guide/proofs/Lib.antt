@@ -1,3 +1,4 @@
+pub mod Public
 pub mod Chains
 pub mod Estimates
 pub mod Existing

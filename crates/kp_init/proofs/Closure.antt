@@ -9,6 +9,7 @@ use Rattle.kp_base.specs.Lists.{Member, choices}
 use Rattle.kp_base.specs.Lit.{positive, negative, code_of}
 use Rattle.kp_base.specs.LitSet.{IsAscending}
 use Rattle.kp_base.specs.Steps.{State, holds, is_model}
+use Rattle.kp_base.proofs.Members.{range_only}
 use Rattle.kp_base.proofs.Lists.{any_alike, all_alike, all_member, filter_member, member_map, flat_member, all_from, member_flat_map, member_filter}
 pub use Rattle.kp_base.proofs.Lists.{range_there}
 use Rattle.kp_base.proofs.Lits.{has-member, member-has}
@@ -18,13 +19,6 @@ use Rattle.kp_base.specs.Steps.{SameBelow}
 use Rattle.kp_init.proofs.Runs.{below, holds_same, all_same}
 
 -- ---- the literals of the first n atoms
-
-pub range_only : (a n k : ℕ) → Member (range_with_len a n) k → k < a + n
-range_only a zero k m = absurd m
-range_only a (suc n) k m = elim m [
-  | inl e ↦ omega arith
-  | inr r ↦ let h = range_only (a + 1) n k r in omega arith
-]
 
 literal_there : (n : ℕ) (l : Lit) → l.atom.0 < n → Member (literals n) l
 literal_there n l lt = member_flat_map (λ p. positive p ∷ negative p ∷ []) (range_with_len 0 n) l.atom.0 l (range_there 0 n l.atom.0 (omega arith) (omega arith)) (pick l.positive)

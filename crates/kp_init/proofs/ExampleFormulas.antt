@@ -12,15 +12,12 @@ use Rattle.kp_grammar.specs.Parsing.{some_at, next_at}
 use Rattle.kp_meaning.specs.Lifted as lifted
 use Rattle.kp_meaning.specs.Plans as texts
 use Rattle.kp_meaning.specs.Plans.{HasProblem, Solves}
-use Rattle.kp_meaning.proofs.Texts.{domain_of, problem_of, has_problem}
-use Rattle.kp_meaning.proofs.ExamplePlans.{moves, from_a_to_b, move}
-pub use Rattle.kp_meaning.proofs.ExampleNumbered.{no_fault, plain}
-use Rattle.kp_meaning.proofs.ExampleCells.{cells, one_of_three}
+use Rattle.kp_meaning.proofs.Public.{domain_of_text, problem_of_text, computes_a_problem, moves_domain, from_a_to_b_problem, move_step, cells_domain, one_cell_problem, moves_by_number, moves_are_numbered}
+use Rattle.kp_grammar.proofs.Public.{exchange_text, from_p_to_q_text}
+pub use Rattle.kp_meaning.proofs.Public.{moves_have_no_fault as no_fault, moves_goal_is_plain as plain}
 use Rattle.kp_grounding.specs.Ground.{ground_atoms, ground_of, seen_on}
-use Rattle.kp_grounding.specs.Laws.{action_name}
-use Rattle.kp_grounding.proofs.Atoms.{atoms_are_numbered}
-use Rattle.kp_grounding.proofs.ExampleMoves.{moves_by_number, numbered_moves, ground_moves}
-use Rattle.kp_grounding.proofs.ExampleGrounds.{lifted as by_number, roads, three_towns, exchange, from_p_to_q}
+use Rattle.kp_base.specs.ActionNames.{action_name}
+use Rattle.kp_grounding.proofs.Public.{atoms_are_numbered, ground_moves, numbered_texts as by_number, roads_domain, three_towns_problem}
 use Rattle.kp_init.specs.Initial.{initial_of}
 use Rattle.kp_init.specs.Closure.{closure, IsAscendingClosure}
 use Rattle.kp_base.specs.Implicates.{IsOfAtoms}
@@ -41,7 +38,7 @@ formula_of_cells = record {
   closed = [];
 }
 
-cells_at_first : initial_of (by_number cells one_of_three) ≡ formula_of_cells
+cells_at_first : initial_of (by_number cells_domain one_cell_problem) ≡ formula_of_cells
 unfolding cut_from class_of symbol_of some_at next_at
 cells_at_first = refl
 
@@ -66,7 +63,7 @@ is_closure : IsAscendingClosure 3 formula_of_cells (positive 0 ∷ []) (positive
 is_closure = closure_exact formula_of_cells 3 cells_over (positive 0 ∷ []) refl
 
 -- the names of the cells tell them apart
-cells_named : HasNamedAtoms (by_number cells one_of_three)
+cells_named : HasNamedAtoms (by_number cells_domain one_cell_problem)
 unfolding cut_from class_of symbol_of some_at next_at
 cells_named = record { predicates = refl; objects = refl; declared = refl }
 
@@ -75,7 +72,7 @@ cells_named = record { predicates = refl; objects = refl; declared = refl }
 abbrev backwards : List ℕ
 backwards = codes "(define (problem c) (:domain cells) (:init (oneof (x3) (x1) (x3) (x2)) (or (x2) (not (x1)) (x2)) (not (x3))) (:goal (x1)))"
 
-backwards_at_first : initial_of (by_number cells backwards) ≡ record {
+backwards_at_first : initial_of (by_number cells_domain backwards) ≡ record {
   clauses =
       (positive 0 ∷ positive 1 ∷ positive 2 ∷ []) ∷ (negative 0 ∷ negative 2 ∷ []) ∷ (negative 1 ∷ negative 2 ∷ []) ∷ (negative 0 ∷ negative 1 ∷ [])
       ∷ (negative 0 ∷ positive 1 ∷ [])
@@ -90,19 +87,19 @@ backwards_at_first = refl
 abbrev no_cell : List ℕ
 no_cell = codes "(define (problem c) (:domain cells) (:init (oneof)) (:goal (x1)))"
 
-no_cell_at_first : initial_of (by_number cells no_cell) ≡ record { clauses = [] ∷ []; closed = atom 0 ∷ atom 1 ∷ atom 2 ∷ [] }
+no_cell_at_first : initial_of (by_number cells_domain no_cell) ≡ record { clauses = [] ∷ []; closed = atom 0 ∷ atom 1 ∷ atom 2 ∷ [] }
 unfolding cut_from class_of symbol_of some_at next_at
 no_cell_at_first = refl
 
 -- ---- a static atom has a clause only where the goal names it; what is unknown is neither stated nor closed
 
-roads_at_first : initial_of (by_number roads three_towns) ≡ record { clauses = (positive 0 ∷ []) ∷ (positive 1 ∷ []) ∷ []; closed = atom 2 ∷ atom 3 ∷ atom 4 ∷ atom 5 ∷ atom 6 ∷ [] }
+roads_at_first : initial_of (by_number roads_domain three_towns_problem) ≡ record { clauses = (positive 0 ∷ []) ∷ (positive 1 ∷ []) ∷ []; closed = atom 2 ∷ atom 3 ∷ atom 4 ∷ atom 5 ∷ atom 6 ∷ [] }
 unfolding cut_from class_of symbol_of some_at next_at
 roads_at_first = refl
 
 -- ---- one fact
 
-exchange_at_first : initial_of (by_number exchange from_p_to_q) ≡ record { clauses = (positive 0 ∷ []) ∷ []; closed = atom 1 ∷ [] }
+exchange_at_first : initial_of (by_number exchange_text from_p_to_q_text) ≡ record { clauses = (positive 0 ∷ []) ∷ []; closed = atom 1 ∷ [] }
 unfolding cut_from class_of symbol_of some_at next_at
 exchange_at_first = refl
 
@@ -145,21 +142,21 @@ two_actions s = pick (s 0) refl
     pick true e model = rw e refl
     pick false e model = absurd (false≢true (rw e at model))
 
-a_run : IsNamedRun (domain_of moves) (problem_of from_a_to_b) (move (codes "a") (codes "a") ∷ move (codes "a") (codes "b") ∷ []) (0 ∷ 1 ∷ [])
+a_run : IsNamedRun (domain_of_text moves_domain) (problem_of_text from_a_to_b_problem) (move_step (codes "a") (codes "a") ∷ move_step (codes "a") (codes "b") ∷ []) (0 ∷ 1 ∷ [])
 a_run = record {
-  names = subst (λ l. map (action_name (ground_of l)) (0 ∷ 1 ∷ []) ≡ map Some (move (codes "a") (codes "a") ∷ move (codes "a") (codes "b") ∷ [])) (sym numbered_moves) refl;
-  plan = subst (λ l. IsGroundPlan (ground_of l) (initial_of l) (0 ∷ 1 ∷ [])) (sym numbered_moves) two_actions;
+  names = subst (λ l. map (action_name (ground_of l)) (0 ∷ 1 ∷ []) ≡ map Some (move_step (codes "a") (codes "a") ∷ move_step (codes "a") (codes "b") ∷ [])) (sym moves_are_numbered) refl;
+  plan = subst (λ l. IsGroundPlan (ground_of l) (initial_of l) (0 ∷ 1 ∷ [])) (sym moves_are_numbered) two_actions;
 }
 
 -- so their names are a plan of the two trees
-a_plan : Solves (domain_of moves) (problem_of from_a_to_b) (move (codes "a") (codes "a") ∷ move (codes "a") (codes "b") ∷ [])
-a_plan = (plan_by_name (domain_of moves) (problem_of from_a_to_b) no_fault plain first (subst (λ l. is_model (initial_of l) first ≡ true) (sym numbered_moves) is_first) (move (codes "a") (codes "a") ∷ move (codes "a") (codes "b") ∷ [])).1 (0 ∷ 1 ∷ [], a_run)
+a_plan : Solves (domain_of_text moves_domain) (problem_of_text from_a_to_b_problem) (move_step (codes "a") (codes "a") ∷ move_step (codes "a") (codes "b") ∷ [])
+a_plan = (plan_by_name (domain_of_text moves_domain) (problem_of_text from_a_to_b_problem) no_fault plain first (subst (λ l. is_model (initial_of l) first ≡ true) (sym moves_are_numbered) is_first) (move_step (codes "a") (codes "a") ∷ move_step (codes "a") (codes "b") ∷ [])).1 (0 ∷ 1 ∷ [], a_run)
 
 -- and of the two texts
-moves_problem : HasProblem moves from_a_to_b
+moves_problem : HasProblem moves_domain from_a_to_b_problem
 unfolding cut_from class_of symbol_of some_at next_at
-moves_problem = has_problem moves from_a_to_b (record { domain_cut = refl; problem_cut = refl; domain_read = refl; problem_read = refl; domain_faults = refl; problem_faults = refl })
+moves_problem = computes_a_problem moves_domain from_a_to_b_problem (record { domain_cut = refl; problem_cut = refl; domain_read = refl; problem_read = refl; domain_faults = refl; problem_faults = refl })
 
-a_plan_of_texts : texts.IsPlan moves from_a_to_b (move (codes "a") (codes "a") ∷ move (codes "a") (codes "b") ∷ [])
+a_plan_of_texts : texts.IsPlan moves_domain from_a_to_b_problem (move_step (codes "a") (codes "a") ∷ move_step (codes "a") (codes "b") ∷ [])
 unfolding moves_problem
-a_plan_of_texts = (plan_of_texts moves from_a_to_b moves_problem first (subst (λ l. is_model (initial_of l) first ≡ true) (sym numbered_moves) is_first) (move (codes "a") (codes "a") ∷ move (codes "a") (codes "b") ∷ [])).1 (0 ∷ 1 ∷ [], a_run)
+a_plan_of_texts = (plan_of_texts moves_domain from_a_to_b_problem moves_problem first (subst (λ l. is_model (initial_of l) first ≡ true) (sym moves_are_numbered) is_first) (move_step (codes "a") (codes "a") ∷ move_step (codes "a") (codes "b") ∷ [])).1 (0 ∷ 1 ∷ [], a_run)

@@ -5,8 +5,8 @@ use Rattle.std.specs.Option.{option_or}
 use Rattle.indexmap.specs.IndexMap.{insert_entry}
 use Rattle.kp_meaning.specs.Names.{Name, same, is_among}
 use Rattle.kp_meaning.specs.Numbering.{name_at}
-use Rattle.kp_meaning.proofs.Indexes.{Distinct, among_at}
-use Rattle.kp_meaning.proofs.Lists.{same-true, same-refl}
+use Rattle.kp_meaning.proofs.Public.{AreDistinctNames, name_at_is_among}
+use Rattle.kp_base.proofs.Lists.{same-true, same-refl}
 use Rattle.kp_grounding.specs.declared.flat.Atom.{Atom}
 use Rattle.kp_grounding.specs.Ground.{same_atom, number_of, has_atom}
 use Rattle.kp_init.specs.Tables.{place_of}
@@ -89,7 +89,7 @@ module _ (atoms : List Atom) (a : Atom) where
 -- ---- numbers of names
 
 -- a name that stands once stands first where it stands
-pub name_found : (m : ℕ) (xs : List Name) → Distinct xs → (n : ℕ) → n < length xs → position_from (same (name_at xs n)) m xs ≡ Some (m + n)
+pub name_found : (m : ℕ) (xs : List Name) → AreDistinctNames xs → (n : ℕ) → n < length xs → position_from (same (name_at xs n)) m xs ≡ Some (m + n)
 name_found m [] once n h = absurd (omega (arith, h))
 name_found m (x ∷ xs) once zero h =
     let e : m ≡ m + 0 = omega arith in
@@ -97,5 +97,5 @@ name_found m (x ∷ xs) once zero h =
 name_found m (x ∷ xs) once (suc n) h = by (same (name_at xs n) x) refl (name_found (m + 1) xs once.1 n (omega (arith, h)))
   where
     by : (t : Bool) → same (name_at xs n) x ≡ t → position_from (same (name_at xs n)) (m + 1) xs ≡ Some (m + 1 + n) → (if t then Some m else position_from (same (name_at xs n)) (m + 1) xs) ≡ Some (m + suc n)
-    by true is rest = absurd (true≢false (sym (subst (λ z. is_among xs z ≡ true) (same-true (name_at xs n) x is) (among_at xs n (omega (arith, h)))) ∙ once.0))
+    by true is rest = absurd (true≢false (sym (subst (λ z. is_among xs z ≡ true) (same-true (name_at xs n) x is) (name_at_is_among xs n (omega (arith, h)))) ∙ once.0))
     by false is rest = let e : m + 1 + n ≡ m + suc n = omega arith in rest ∙ ap Some e

@@ -1,3 +1,4 @@
+pub mod Public
 pub mod Exactly
 pub mod Models
 pub mod Runs

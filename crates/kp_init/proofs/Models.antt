@@ -19,9 +19,7 @@ use Rattle.kp_meaning.specs.Lifted.{State, literal_holds, same_literal, one_hold
 use Rattle.kp_grounding.specs.declared.flat.Atom.{Atom}
 use Rattle.kp_grounding.specs.Static.{is_static, leaves_static, says, initially}
 use Rattle.kp_grounding.specs.Ground.{atom_of, same_atom, kept_literals, open_literals, number_of, numbered, numbered_set, at_atom, seen_on, IsNumbering, has_atom}
-use Rattle.kp_grounding.proofs.Static.{static_parts, static_at_first}
-use Rattle.kp_grounding.proofs.Atoms.{same_atom-true, same_atom-refl, number_there}
-use Rattle.kp_grounding.proofs.Step.{Covered, holds_numbered, same_numbered, same_literal-true, same_literal-refl}
+use Rattle.kp_grounding.proofs.Public.{static_predicate_parts, static_atoms_keep_their_truth, same_atom-true, same_atom-refl, atom_at_its_number, IsCoveredLiteral, holds_numbered, literal_number_is_its_own, same_literal-true, same_literal-refl}
 use Rattle.kp_init.specs.Initial.{exactly_one, item_clauses, closed_of, initial_over}
 use Rattle.kp_init.specs.Laws.{IsInitialExact}
 use Rattle.kp_init.proofs.Exactly.{is_only, exactly_one_holds}
@@ -30,7 +28,7 @@ module _ (l : Lifted) (atoms : List Atom) (numbering : IsNumbering l atoms) wher
   -- ---- items
 
   -- the literals of items that aren't of a static predicate are in the list
-  init_covered : (i : Item) → Member l.init i → (m : GroundLit) → Member (item_literals i) m → is_static l m.pred ≡ false → Covered atoms m
+  init_covered : (i : Item) → Member l.init i → (m : GroundLit) → Member (item_literals i) m → is_static l m.pred ≡ false → IsCoveredLiteral atoms m
   init_covered i at m in' not_static =
       numbering.covers m
       (member_right l.goal (open_literals l ++ flat_map (kept_literals l) l.schemas) m
@@ -39,15 +37,15 @@ module _ (l : Lifted) (atoms : List Atom) (numbering : IsNumbering l atoms) wher
 
   -- a predicate that stands in such an item isn't static
   not_static : (i : Item) → Member l.init i → (q : ℕ) → leaves_static q i ≡ false → is_static l q ≡ false
-  not_static i at q h = false_from_ne_true (is_static l q) (λ static. both_ways (leaves_static q i) h (all_member (leaves_static q) l.init i at (static_parts l q static).1))
+  not_static i at q h = false_from_ne_true (is_static l q) (λ static. both_ways (leaves_static q i) h (all_member (leaves_static q) l.init i at (static_predicate_parts l q static).1))
 
-  pub list_covered : (i : Item) → Member l.init i → ((q : ℕ) → list_any (λ m. nat_eq m.pred q) (item_literals i) ≡ true → leaves_static q i ≡ false) → (m : GroundLit) → Member (item_literals i) m → Covered atoms m
+  pub list_covered : (i : Item) → Member l.init i → ((q : ℕ) → list_any (λ m. nat_eq m.pred q) (item_literals i) ≡ true → leaves_static q i ≡ false) → (m : GroundLit) → Member (item_literals i) m → IsCoveredLiteral atoms m
   list_covered i at f m in' =
       init_covered i at m in' (not_static i at m.pred (f m.pred (any_from (λ (x : GroundLit). nat_eq x.pred m.pred) (item_literals i) m in' (eq-eqb m.pred m.pred refl))))
 
   -- numbers tell literals apart
-  numbered_apart : (x y : GroundLit) → Covered atoms x → Covered atoms y → same_lit (numbered atoms x) (numbered atoms y) ≡ same_literal x y
-  numbered_apart x y cx cy = same_numbered l atoms numbering x cx y.positive (number_of atoms (atom_of y)) (atom_of y) cy ∙ turned y x
+  numbered_apart : (x y : GroundLit) → IsCoveredLiteral atoms x → IsCoveredLiteral atoms y → same_lit (numbered atoms x) (numbered atoms y) ≡ same_literal x y
+  numbered_apart x y cx cy = literal_number_is_its_own l atoms numbering x cx y.positive (number_of atoms (atom_of y)) (atom_of y) cy ∙ turned y x
     where
       turned : (a b : GroundLit) → same_literal a b ≡ same_literal b a
       turned a b = bool_same (same_literal a b) (same_literal b a)
@@ -57,23 +55,23 @@ module _ (l : Lifted) (atoms : List Atom) (numbering : IsNumbering l atoms) wher
   pub ground_covered : (a : Atom) → has_atom atoms a ≡ true → slice_get atoms (number_of atoms a) ≡ Some a
   ground_covered a h =
       let r = any_member (same_atom a) atoms h in
-      number_there atoms a (subst (Member atoms) (sym (same_atom-true a r.0 r.2)) r.1)
+      atom_at_its_number atoms a (subst (Member atoms) (sym (same_atom-true a r.0 r.2)) r.1)
 
   covered_ground : (n : ℕ) (a : Atom) → slice_get atoms n ≡ Some a → has_atom atoms a ≡ true
   covered_ground n a at = any_from (same_atom a) atoms a (member_at atoms n a at) (same_atom-refl a)
 
   -- the state and the ground state say the same of the literals in the list
   abbrev SameOn : State → steps.State → Type 0
-  SameOn s g = (m : GroundLit) → Covered atoms m → steps.holds g (numbered atoms m) ≡ literal_holds s m
+  SameOn s g = (m : GroundLit) → IsCoveredLiteral atoms m → steps.holds g (numbered atoms m) ≡ literal_holds s m
 
   module _ (s : State) (g : steps.State) (same_on : SameOn s g) where
-    any_clause : (ms : List GroundLit) → ((m : GroundLit) → Member ms m → Covered atoms m) → list_any (steps.holds g) (numbered_set atoms ms) ≡ list_any (literal_holds s) ms
+    any_clause : (ms : List GroundLit) → ((m : GroundLit) → Member ms m → IsCoveredLiteral atoms m) → list_any (steps.holds g) (numbered_set atoms ms) ≡ list_any (literal_holds s) ms
     any_clause ms covered =
         any-set_of (steps.holds g) (map (numbered atoms) ms)
         ∙ (any_map (numbered atoms) (steps.holds g) (λ m. steps.holds g (numbered atoms m)) ms (λ m. refl)
         ∙ any_alike (λ m. steps.holds g (numbered atoms m)) (literal_holds s) ms (λ m i. same_on m (covered m i)))
 
-    one_clause : (ms : List GroundLit) → ((m : GroundLit) → Member ms m → Covered atoms m) → list_all (list_any (steps.holds g)) (exactly_one (map (numbered atoms) ms)) ≡ one_holds s ms
+    one_clause : (ms : List GroundLit) → ((m : GroundLit) → Member ms m → IsCoveredLiteral atoms m) → list_all (list_any (steps.holds g)) (exactly_one (map (numbered atoms) ms)) ≡ one_holds s ms
     one_clause ms covered =
         exactly_one_holds g (map (numbered atoms) ms)
         ∙ (any_map (numbered atoms) (λ x. steps.holds g x && is_only (steps.holds g) (map (numbered atoms) ms) x) (λ x. steps.holds g (numbered atoms x) && is_only (steps.holds g) (map (numbered atoms) ms) (numbered atoms x)) ms (λ x. refl)
@@ -113,7 +111,7 @@ module _ (l : Lifted) (atoms : List Atom) (numbering : IsNumbering l atoms) wher
 
   other_positive : (m : GroundLit) → Member l.init (Item.One m) → is_static l m.pred ≡ true → m.positive ≡ true
   other_positive m at static =
-      let plain = all_member (leaves_static m.pred) l.init (Item.One m) at (static_parts l m.pred static).1 in
+      let plain = all_member (leaves_static m.pred) l.init (Item.One m) at (static_predicate_parts l m.pred static).1 in
       sym (or-false m.positive) ∙ (ap (λ t. m.positive || not t) (sym (eq-eqb m.pred m.pred refl)) ∙ plain)
 
   -- what a positive literal says of its atom
@@ -162,10 +160,10 @@ module _ (l : Lifted) (atoms : List Atom) (numbering : IsNumbering l atoms) wher
       (λ m at not_ground.
       let static = other_static m at not_ground in
       let positive = other_positive m at static in
-      let true' = static_at_first l s init m.pred m.objects static ∙ item_says m at positive in
+      let true' = static_atoms_keep_their_truth l s init m.pred m.objects static ∙ item_says m at positive in
       subst (λ b. signed b (s m.pred m.objects) ≡ true) (sym positive) true')
       ∙ init.items)
-      (closed_all (λ n. not (seen_on atoms s n)) (λ a m not_named. ap not (ap (at_atom s) (number_there atoms a m) ∙ init.absent a.pred a.objects not_named)))
+      (closed_all (λ n. not (seen_on atoms s n)) (λ a m not_named. ap not (ap (at_atom s) (atom_at_its_number atoms a m) ∙ init.absent a.pred a.objects not_named)))
 
   state_of : (g : steps.State) → is_model (initial_over l atoms) g ≡ true → (s : State) × IsInitial l s × ((n : ℕ) → n < length atoms → seen_on atoms s n ≡ g n)
   state_of g h = (lift g, record { items = items; absent = λ q os n. pick (has_atom atoms (record { pred = q; objects = os })) q os refl n }, same_seen)
@@ -208,7 +206,7 @@ module _ (l : Lifted) (atoms : List Atom) (numbering : IsNumbering l atoms) wher
               let i = any_member (λ i. list_any (is_of q os) (item_literals i)) l.init named in
               let m = any_member (is_of q os) (item_literals i.0) i.2 in
               elim (cases_Bool (is_static l q)) [
-                | inl static ↦ static_at_first l s init_s q os static ∙ sym (static_at_first l t init_t q os static)
+                | inl static ↦ static_atoms_keep_their_truth l s init_s q os static ∙ sym (static_atoms_keep_their_truth l t init_t q os static)
                 | inr open' ↦
                     let parts = and_parts (nat_eq m.0.pred q) (same m.0.objects os) m.2 in
                     let e = eqb-true m.0.pred q parts.0 in

@@ -8,7 +8,7 @@ use Rattle.kp_meaning.specs.Lifted.{item_literals, is_of, is_named}
 use Rattle.kp_grounding.specs.declared.flat.Atom.{Atom}
 use Rattle.kp_grounding.specs.Ground.{atom_of, same_atom, number_of}
 use Rattle.kp_base.proofs.Once.{any-added}
-use Rattle.kp_grounding.proofs.Atoms.{same_atoms}
+use Rattle.kp_grounding.proofs.Public.{same_atoms}
 use Rattle.kp_init.specs.Tables.{Key, kept_atom, is_kept, names, closed_among}
 
 -- an atom that comes is told, and the others as before

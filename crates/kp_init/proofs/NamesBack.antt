@@ -7,14 +7,14 @@ use Rattle.std.proofs.lemmas.List.{length-map}
 use Rattle.kp_meaning.specs.Names.{Name, distinct}
 use Rattle.kp_meaning.specs.Numbered.{Lifted}
 use Rattle.kp_meaning.specs.Numbering.{name_at}
-use Rattle.kp_meaning.proofs.Indexes.{Distinct, distinct_once}
+use Rattle.kp_meaning.proofs.Public.{AreDistinctNames, distinct_are_distinct}
 use Rattle.kp_grounding.specs.declared.flat.Atom.{Atom}
 use Rattle.kp_grounding.specs.Ground.{ground_atoms, ground_of, object_names, atom_name}
 use Rattle.kp_init.specs.ByName.{predicate_names, is_declared, HasNamedAtoms, place_in, named_atom}
 use Rattle.kp_init.proofs.FirstPlaces.{name_found}
 
-once : (xs : List Name) → distinct xs ≡ xs → Distinct xs
-once xs h = subst Distinct h (distinct_once xs)
+once : (xs : List Name) → distinct xs ≡ xs → AreDistinctNames xs
+once xs h = subst AreDistinctNames h (distinct_are_distinct xs)
 
 -- a name gives its place back
 place_back : (xs : List Name) → distinct xs ≡ xs → (n : ℕ) → n < length xs → place_in xs (name_at xs n) ≡ n

@@ -28,18 +28,13 @@ use Rattle.kp_meaning.specs.Steps.{Step}
 use Rattle.kp_meaning.specs.Plans.{Solves}
 use Rattle.kp_meaning.specs.Numbering.{numbered_problem, named_step}
 use Rattle.kp_meaning.specs.NumberLaws.{is_plain_goal}
-use Rattle.kp_meaning.proofs.NumberedPlans.{plan_numbered}
-use Rattle.kp_meaning.proofs.PlainGoals.{goals_plain}
-use Rattle.kp_meaning.proofs.Texts.{solves_theirs}
+use Rattle.kp_meaning.proofs.Public.{plans_are_the_same_by_number, goals_are_plain, solves_theirs}
 use Rattle.kp_grounding.specs.declared.flat.Atom.{Atom}
 use Rattle.kp_grounding.specs.Static.{remaining}
 use Rattle.kp_grounding.specs.Flattening.{same_flat, flat, flat_of}
 use Rattle.kp_grounding.specs.Ground.{kept_bindings, kept_instances, atom_of, effect_literals, instance_literals, kept_literals, open_literals, ground_atoms, number_of, numbered, numbered_set, IsNumbering, numbered_effect, is_idle, ground_pre, ground_effects, action_of, actions_of, ground_over, ground_of, seen_on, has_atom}
-use Rattle.kp_grounding.specs.Laws.{action_name}
-use Rattle.kp_grounding.proofs.Atoms.{atoms_are_numbered, number_there}
-use Rattle.kp_grounding.proofs.Step.{Covered, occurs}
-use Rattle.kp_grounding.proofs.Plans.{runs_are_plans, plan_exact}
-use Rattle.kp_grounding.proofs.Names.{named_by_steps}
+use Rattle.kp_base.specs.ActionNames.{action_name}
+use Rattle.kp_grounding.proofs.Public.{atoms_are_numbered, atom_at_its_number, IsCoveredLiteral, instance_literals_occur, ground_runs_are_plans, plan_is_ground_run, actions_named_by_steps}
 use Rattle.kp_init.specs.Initial.{no_two, item_clauses}
 use Rattle.kp_base.specs.Implicates.{are_below}
 use Rattle.kp_init.specs.Laws.{IsModelRun, IsNamedRun, IsInitialOver, IsPlanByModels, IsPlanByName, IsPlanOfTexts}
@@ -81,13 +76,13 @@ all_flat_map p f xs h = all_from p (flat_map f xs) (λ y m. let r = flat_member 
 -- ---- the ground problem and the initial formula name no other atoms
 
 module _ (l : Lifted) (atoms : List Atom) (numbering : IsNumbering l atoms) where
-  covered_below : (m : GroundLit) → Covered atoms m → below (length atoms) (numbered atoms m) ≡ true
+  covered_below : (m : GroundLit) → IsCoveredLiteral atoms m → below (length atoms) (numbered atoms m) ≡ true
   covered_below m c = lt-ltb (number_of atoms (atom_of m)) (length atoms) (slice_get_within atoms (number_of atoms (atom_of m)) (atom_of m) c)
 
-  list_below : (ms : List GroundLit) → ((m : GroundLit) → Member ms m → Covered atoms m) → are_below (length atoms) (map (numbered atoms) ms) ≡ true
+  list_below : (ms : List GroundLit) → ((m : GroundLit) → Member ms m → IsCoveredLiteral atoms m) → are_below (length atoms) (map (numbered atoms) ms) ≡ true
   list_below ms c = list_all-map (below (length atoms)) (numbered atoms) ms ∙ all_from (λ m. below (length atoms) (numbered atoms m)) ms (λ m i. covered_below m (c m i))
 
-  set_below : (ms : List GroundLit) → ((m : GroundLit) → Member ms m → Covered atoms m) → are_below (length atoms) (numbered_set atoms ms) ≡ true
+  set_below : (ms : List GroundLit) → ((m : GroundLit) → Member ms m → IsCoveredLiteral atoms m) → are_below (length atoms) (numbered_set atoms ms) ≡ true
   set_below ms c = all-set_of (below (length atoms)) (map (numbered atoms) ms) ∙ list_below ms c
 
   kept_below : (a : Schema) (os : List ℕ) → Member l.schemas a → Member (kept_bindings l a) os → action_below (length atoms) (action_of l atoms a os) ≡ true
@@ -100,8 +95,8 @@ module _ (l : Lifted) (atoms : List Atom) (numbering : IsNumbering l atoms) wher
       (all_from (λ f. are_below (length atoms) (numbered_set atoms f.cond)) (flat l os a.effect)
       (λ f j. set_below f.cond (λ m h. covered m (member_right (remaining l os a.pre) (flat_map effect_literals (flat l os a.effect)) m (member_flat_map effect_literals (flat l os a.effect) f m j (member_left f.cond (f.result ∷ []) m h))))))))
     where
-      covered : (m : GroundLit) → Member (instance_literals l a os) m → Covered atoms m
-      covered m j = numbering.covers m (occurs l a os at kept m j)
+      covered : (m : GroundLit) → Member (instance_literals l a os) m → IsCoveredLiteral atoms m
+      covered m j = numbering.covers m (instance_literals_occur l a os at kept m j)
 
       not_idle : Effect → Bool
       not_idle d = not (is_idle (ground_pre l atoms a os) (map (numbered_effect atoms) (flat_of l a os).effects) d)
@@ -141,7 +136,7 @@ module _ (l : Lifted) (atoms : List Atom) (numbering : IsNumbering l atoms) wher
 pub initial_is_over : IsInitialOver
 initial_is_over l atoms numbering = record {
   clauses = all_flat_map (are_below (length atoms)) (item_clauses atoms) l.init (item_below l atoms numbering);
-  closed = closed_all l atoms numbering (λ n. nat_lt n (length atoms)) (λ a m not_named. lt-ltb (number_of atoms a) (length atoms) (slice_get_within atoms (number_of atoms a) a (number_there atoms a m)));
+  closed = closed_all l atoms numbering (λ n. nat_lt n (length atoms)) (λ a m not_named. lt-ltb (number_of atoms a) (length atoms) (slice_get_within atoms (number_of atoms a) a (atom_at_its_number atoms a m)));
 }
 
 -- ---- plans
@@ -149,13 +144,13 @@ initial_is_over l atoms numbering = record {
 -- kept instances whose actions succeed from each model are a plan, also where there is none
 pub model_runs_are_plans : (l : Lifted) (atoms : List Atom) → IsNumbering l atoms → (is : List Instance) (ns : List ℕ) → IsModelRun l atoms is ns → IsPlan l is
 model_runs_are_plans l atoms numbering is ns run =
-    runs_are_plans l atoms numbering is ns (record { numbers = run.numbers; reaches = λ s i. run.plan (seen_on atoms s) ((initial_exact l atoms numbering).model s i) })
+    ground_runs_are_plans l atoms numbering is ns (record { numbers = run.numbers; reaches = λ s i. run.plan (seen_on atoms s) ((initial_exact l atoms numbering).model s i) })
 
 pub plan_by_models : IsPlanByModels
 plan_by_models l atoms numbering first model is =
     let models = initial_exact l atoms numbering in
     let start = models.state first model in
-    let plans = plan_exact l atoms numbering start.0 start.1 is in (
+    let plans = plan_is_ground_run l atoms numbering start.0 start.1 is in (
       λ plan.
           let r = plans.0 plan in (
             r.0,
@@ -178,7 +173,7 @@ names_there d p (n ∷ ns) [] e = cc
 names_there d p (n ∷ ns) (i ∷ is) e =
     let at : slice_get (kept_instances (numbered_problem d p)) n ≡ Some i = cc in
     let rest : map (slice_get (kept_instances (numbered_problem d p))) ns ≡ map Some is = cc in
-    rw (named_by_steps d p n, at, names_there d p ns is rest) refl
+    rw (actions_named_by_steps d p n, at, names_there d p ns is rest) refl
 
 -- and back
 instances_there : (d : Domain Word) (p : Problem Word) (ns : List ℕ) (steps' : List Step) → map (action_name (ground_of (numbered_problem d p))) ns ≡ map Some steps' → (is : List Instance) × (map (named_step d p) is ≡ steps') × (map (slice_get (kept_instances (numbered_problem d p))) ns ≡ map Some is)
@@ -188,7 +183,7 @@ instances_there d p (n ∷ ns) [] e = cc
 instances_there d p (n ∷ ns) (i ∷ steps') e =
     let name : action_name (ground_of (numbered_problem d p)) n ≡ Some i = cc in
     let rest : map (action_name (ground_of (numbered_problem d p))) ns ≡ map Some steps' = cc in
-    go (slice_get (kept_instances (numbered_problem d p)) n) refl (sym (named_by_steps d p n) ∙ name) (instances_there d p ns steps' rest)
+    go (slice_get (kept_instances (numbered_problem d p)) n) refl (sym (actions_named_by_steps d p n) ∙ name) (instances_there d p ns steps' rest)
   where
     go : (o : Option Instance) → slice_get (kept_instances (numbered_problem d p)) n ≡ o → option_map (named_step d p) (slice_get (kept_instances (numbered_problem d p)) n) ≡ Some i → (is : List Instance) × (map (named_step d p) is ≡ steps') × (map (slice_get (kept_instances (numbered_problem d p))) ns ≡ map Some is) → (is : List Instance) × (map (named_step d p) is ≡ i ∷ steps') × (map (slice_get (kept_instances (numbered_problem d p))) (n ∷ ns) ≡ map Some is)
     go None is name r = let gone : option_map (named_step d p) None ≡ Some i = subst (λ o. option_map (named_step d p) o ≡ Some i) is name in cc
@@ -205,13 +200,13 @@ pub named_runs_are_plans : (d : Domain Word) (p : Problem Word) → HasNoFault d
 named_runs_are_plans d p no_fault plain steps' ns run =
     let l = numbered_problem d p in
     let r = instances_there d p ns steps' run.names in
-    (plan_numbered d p no_fault plain steps').1 (r.0, r.1, model_runs_are_plans l (ground_atoms l) (atoms_are_numbered l).numbering r.0 ns (record { numbers = r.2; plan = run.plan }))
+    (plans_are_the_same_by_number d p no_fault plain steps').1 (r.0, r.1, model_runs_are_plans l (ground_atoms l) (atoms_are_numbered l).numbering r.0 ns (record { numbers = r.2; plan = run.plan }))
 
 pub plan_by_name : IsPlanByName
 plan_by_name d p no_fault plain first model steps' =
     let l = numbered_problem d p in (
       λ plan.
-          let r = (plan_numbered d p no_fault plain steps').0 plan in
+          let r = (plans_are_the_same_by_number d p no_fault plain steps').0 plan in
           let g = (plan_by_models l (ground_atoms l) (atoms_are_numbered l).numbering first model r.0).0 r.2 in
           (g.0, record { names = names_there d p g.0 r.0 g.1.numbers ∙ ap (map Some) r.1; plan = g.1.plan }),
       λ g. named_runs_are_plans d p no_fault plain steps' g.0 g.1,
@@ -219,7 +214,7 @@ plan_by_name d p no_fault plain first model steps' =
 
 pub plan_of_texts : IsPlanOfTexts
 plan_of_texts domain_text problem_text x first model is =
-    let by_name = plan_by_name x.domain x.problem x.no_fault (goals_plain problem_text x.problem x.problem_reads) first model is in (
+    let by_name = plan_by_name x.domain x.problem x.no_fault (goals_are_plain problem_text x.problem x.problem_reads) first model is in (
       λ plan. by_name.0 (solves_theirs domain_text problem_text x is plan),
       λ run. record { has = x; solves = by_name.1 run },
     )

@@ -8,7 +8,7 @@ use Rattle.kp_base.specs.declared.ground.GroundName.{GroundName}
 use Rattle.kp_base.specs.declared.lit.Lit.{Lit as Literal}
 use Rattle.kp_base.specs.Implicates.{are_below}
 use Rattle.kp_base.proofs.Sets.{all-set_of}
-use Rattle.kp_lex.proofs.Spans.{at_most}
+use Rattle.kp_lex.proofs.Public.{no_more_tokens_than_bytes}
 use Rattle.kp_grammar.specs.declared.symbol.Symbol.{Symbol}
 use Rattle.kp_grammar.specs.declared.tree.Word.{Word}
 use Rattle.kp_grammar.specs.Trees.{Lit}
@@ -17,7 +17,7 @@ use Rattle.kp_grammar.specs.Sorts.{Sort, s_list, El}
 use Rattle.kp_grammar.specs.Forms.{Form, many}
 use Rattle.kp_grammar.specs.Reading.{ReadBy, r_end, r_more}
 use Rattle.kp_grammar.specs.Texts.{ReadsAs}
-use Rattle.kp_grammar.proofs.Tells.{shrinks}
+use Rattle.kp_grammar.proofs.Public.{reading_shrinks}
 use Rattle.kp_merges.specs.declared.merge.FileMerge.{FileMerge}
 use Rattle.kp_merges.specs.Grammar.{MergeTree}
 use Rattle.kp_merges.specs.Numbers.{IsLit, IsTag, IsMerge}
@@ -32,11 +32,11 @@ use Rattle.kp_write.specs.Grounds.{IsOfAtom}
 
 parts_few : {W : Type 0} {a : Sort} {p : Symbol → Bool} {X : Form true a} (ts rest : List (Tok W)) (xs : List (El W a)) → ReadBy false (s_list a) (many p X) ts xs rest → length xs + length rest ≤ length ts
 parts_few ts _ _ (r_end e) = omega arith
-parts_few ts rest _ (r_more {mid = mid} {xs = xs} e h k) = let one : length mid < length ts = shrinks h in let others = parts_few mid rest xs k in omega (arith, one, others)
+parts_few ts rest _ (r_more {mid = mid} {xs = xs} e h k) = let one : length mid < length ts = reading_shrinks h in let others = parts_few mid rest xs k in omega (arith, one, others)
 
 pub parts_in_text : {a : Sort} (p : Symbol → Bool) (X : Form true a) (text : List ℕ) (xs : List (El Word a)) → ReadsAs (many p X) text xs → length xs ≤ length text
 parts_in_text p X text xs h =
-    let tokens = at_most h.tokens h.cut in
+    let tokens = no_more_tokens_than_bytes h.tokens h.cut in
     let seen = length-map h.tokens (seen_in text) in
     let parts = parts_few (all_seen_in text h.tokens) [] xs h.reads in
     omega (arith, tokens, seen, parts)

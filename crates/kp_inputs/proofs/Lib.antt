@@ -1,3 +1,4 @@
+pub mod Public
 pub mod FileMerges
 pub mod Lengths
 pub mod Right

@@ -9,22 +9,23 @@ use Rattle.kp_grammar.specs.declared.tree.Word.{Word}
 use Rattle.kp_grammar.specs.Trees.{Domain, Problem}
 use Rattle.kp_meaning.specs.Faults.{HasNoFault}
 use Rattle.kp_meaning.specs.Names.{same, all_same}
-use Rattle.kp_meaning.proofs.Lists.{same-true, same-refl, all_same-true, all_same-refl}
-use Rattle.kp_grounding.specs.Laws.{action_name}
-use Rattle.kp_grounding.proofs.Names.{actions_named_once}
+use Rattle.kp_base.proofs.Lists.{same-true, same-refl}
+use Rattle.kp_meaning.proofs.Public.{all_same_names-true, all_same_names-refl}
+use Rattle.kp_base.specs.ActionNames.{action_name}
+use Rattle.kp_grounding.proofs.Public.{actions_named_once}
 use Rattle.kp_plans.specs.declared.step.PlanStep.{PlanStep}
 use Rattle.kp_plans.specs.PlanFiles.{names}
 use Rattle.kp_plans.specs.Names.{same_name}
 use Rattle.kp_plans.specs.Found.{action_names, action_of}
 use Rattle.kp_given.specs.Translations.{ground_of}
-pub use Rattle.kp_prepared.proofs.Problems.{numbers_once}
+pub use Rattle.kp_prepared.proofs.Public.{numbers_of_names_once as numbers_once}
 
 -- ---- the action that a step names has its name
 
 one_name : (n m : GroundName) → same_name n m ≡ true → n ≡ m
 one_name n m e =
     let p = and_parts (same n.head m.head) (all_same n.objects m.objects) e in
-    ap (λ (x : List ℕ). record { head = x; objects = n.objects }) (same-true n.head m.head p.0) ∙ ap (λ (xs : List (List ℕ)). record { head = m.head; objects = xs }) (all_same-true n.objects m.objects p.1)
+    ap (λ (x : List ℕ). record { head = x; objects = n.objects }) (same-true n.head m.head p.0) ∙ ap (λ (xs : List (List ℕ)). record { head = m.head; objects = xs }) (all_same_names-true n.objects m.objects p.1)
 
 found_name : (actions : List Action) (i k : ℕ) (n : GroundName) → position_from (same_name n) i (action_names actions) ≡ Some k → (m : ℕ) × (k ≡ i + m) × (option_map (λ (a : Action). a.name) (slice_get actions m) ≡ Some n)
 found_name [] i k n e = absurd cc
@@ -55,7 +56,7 @@ found_there [] i k n e = absurd cc
 found_there (a ∷ actions) i k n e = by (found_there actions (i + 1)) k e
   where
     itself : same_name n n ≡ true
-    itself = and_from (same n.head n.head) (all_same n.objects n.objects) (same-refl n.head) (all_same-refl n.objects)
+    itself = and_from (same n.head n.head) (all_same n.objects n.objects) (same-refl n.head) (all_same_names-refl n.objects)
 
     skipped : (b : Bool) → IsSome (position_from (same_name n) (i + 1) (action_names actions)) → IsSome (cond b (Some i) (position_from (same_name n) (i + 1) (action_names actions)))
     skipped true h = refl

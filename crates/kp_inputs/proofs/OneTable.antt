@@ -8,11 +8,11 @@ use Rattle.kp_base.specs.declared.refused.Refused.{Refused}
 use Rattle.kp_base.specs.declared.refused.Stop.TheVariants as stops
 use Rattle.kp_merges.specs.declared.merge.FileMerge.{FileMerge}
 use Rattle.kp_merges.specs.MergesFiles.{IsMergesOf}
-use Rattle.kp_merges.proofs.OneAnswer.{read_once, refused_once, never_two}
+use Rattle.kp_merges.proofs.Public.{merges_read_once, merges_refuse_once, merges_never_both}
 use Rattle.kp_tags.specs.Answers.{Accepts, RefusesTable}
 use Rattle.kp_tags.specs.Made.{IsMade, RefusesMade}
-use Rattle.kp_tags.proofs.Made.{made_once}
-use Rattle.kp_decided.proofs.Once.{tables_once, table_or_refused, accepts_once}
+use Rattle.kp_tags.proofs.Public.{made_table_once}
+use Rattle.kp_decided.proofs.Public.{table_refusal_once, table_or_refused, accepted_table_is_one}
 use Rattle.kp_printed.specs.Refusals.{Named}
 use Rattle.kp_words.specs.Names.{Source}
 use Rattle.kp_prepared.specs.Prepared.{usual}
@@ -23,25 +23,25 @@ use Rattle.kp_inputs.specs.Laws.{SourcesHaveOneTable}
 
 module _ (g : Ground) (i : Initial) (mode : Mode) where
   pub one_refusal : (r s : Refused) → RefusesMade mode usual g i r → RefusesMade mode usual g i s → r ≡ s
-  one_refusal r s a b = let e = made_once mode usual g i i (Err (stops.Refused r)) (Err (stops.Refused s)) (λ q. refl) (λ f. cc) (λ f. cc) a b in cc
+  one_refusal r s a b = let e = made_table_once mode usual g i i (Err (stops.Refused r)) (Err (stops.Refused s)) (λ q. refl) (λ f. cc) (λ f. cc) a b in cc
 
   one_made : (t v : TagTable) → IsMade mode usual g i t → IsMade mode usual g i v → t ≡ v
-  one_made t v a b = let e = made_once mode usual g i i (Ok t) (Ok v) (λ q. refl) (λ f. cc) (λ f. cc) a b in cc
+  one_made t v a b = let e = made_table_once mode usual g i i (Ok t) (Ok v) (λ q. refl) (λ f. cc) (λ f. cc) a b in cc
 
   refused_or_made : (r : Refused) (t : TagTable) → RefusesMade mode usual g i r → IsMade mode usual g i t → ⊥
-  refused_or_made r t a b = let e = made_once mode usual g i i (Err (stops.Refused r)) (Ok t) (λ q. refl) (λ f. cc) (λ f. cc) a b in cc
+  refused_or_made r t a b = let e = made_table_once mode usual g i i (Err (stops.Refused r)) (Ok t) (λ q. refl) (λ f. cc) (λ f. cc) a b in cc
 
 -- ---- with a text of merges
 
 module _ (g : Ground) (i : Initial) (text : List ℕ) where
   same_refusal : (ms ns : List FileMerge) (r s : Refused) → IsMergesOf g.atoms text ms → IsMergesOf g.atoms text ns → RefusesTable (length g.atoms) i ms usual.tags r → RefusesTable (length g.atoms) i ns usual.tags s → r ≡ s
-  same_refusal ms ns r s h k a b = tables_once (length g.atoms) i ns usual.tags r s (subst (λ z. RefusesTable (length g.atoms) i z usual.tags r) (read_once g.atoms text ms ns h k) a) b
+  same_refusal ms ns r s h k a b = table_refusal_once (length g.atoms) i ns usual.tags r s (subst (λ z. RefusesTable (length g.atoms) i z usual.tags r) (merges_read_once g.atoms text ms ns h k) a) b
 
   refused_or_accepted : (ms ns : List FileMerge) (r : Refused) (t : TagTable) → IsMergesOf g.atoms text ms → IsMergesOf g.atoms text ns → RefusesTable (length g.atoms) i ms usual.tags r → Accepts (length g.atoms) i ns usual.tags t → ⊥
-  refused_or_accepted ms ns r t h k a b = table_or_refused (length g.atoms) i ns usual.tags t r b (subst (λ z. RefusesTable (length g.atoms) i z usual.tags r) (read_once g.atoms text ms ns h k) a)
+  refused_or_accepted ms ns r t h k a b = table_or_refused (length g.atoms) i ns usual.tags t r b (subst (λ z. RefusesTable (length g.atoms) i z usual.tags r) (merges_read_once g.atoms text ms ns h k) a)
 
   same_table : (ms ns : List FileMerge) (t v : TagTable) → IsMergesOf g.atoms text ms → IsMergesOf g.atoms text ns → Accepts (length g.atoms) i ms usual.tags t → Accepts (length g.atoms) i ns usual.tags v → t ≡ v
-  same_table ms ns t v h k a b = accepts_once (length g.atoms) i ns usual.tags t v (subst (λ z. Accepts (length g.atoms) i z usual.tags t) (read_once g.atoms text ms ns h k) a) b
+  same_table ms ns t v h k a b = accepted_table_is_one (length g.atoms) i ns usual.tags t v (subst (λ z. Accepts (length g.atoms) i z usual.tags t) (merges_read_once g.atoms text ms ns h k) a) b
 
 -- ---- of a source
 
@@ -56,16 +56,16 @@ module _ (g : Ground) (i : Initial) where
   refusals_one _ _ _ _ _ s (long_file name text h) (no_merges _ _ _ k e) = absurd (omega (arith, h, k))
   refusals_one _ _ _ _ _ s (long_file name text h) (bad_merges _ _ ms _ k e f) = absurd (omega (arith, h, k))
   refusals_one _ _ _ _ r _ (no_merges name text _ h e) (long_file _ _ k) = absurd (omega (arith, h, k))
-  refusals_one _ _ _ _ r s (no_merges name text _ h e) (no_merges _ _ _ k f) = (refl, refused_once g.atoms text r s e f)
-  refusals_one _ _ _ _ r s (no_merges name text _ h e) (bad_merges _ _ ms _ k f x) = absurd (never_two g.atoms text ms r f e)
+  refusals_one _ _ _ _ r s (no_merges name text _ h e) (no_merges _ _ _ k f) = (refl, merges_refuse_once g.atoms text r s e f)
+  refusals_one _ _ _ _ r s (no_merges name text _ h e) (bad_merges _ _ ms _ k f x) = absurd (merges_never_both g.atoms text ms r f e)
   refusals_one _ _ _ _ r _ (bad_merges name text ms _ h e x) (long_file _ _ k) = absurd (omega (arith, h, k))
-  refusals_one _ _ _ _ r s (bad_merges name text ms _ h e x) (no_merges _ _ _ k f) = absurd (never_two g.atoms text ms s e f)
+  refusals_one _ _ _ _ r s (bad_merges name text ms _ h e x) (no_merges _ _ _ k f) = absurd (merges_never_both g.atoms text ms s e f)
   refusals_one _ _ _ _ r s (bad_merges name text ms _ h e x) (bad_merges _ _ ns _ k f y) = (refl, same_refusal g i text ms ns r s e f x y)
 
   never_both : (source : Source) (merges : List (List ℕ)) (t : TagTable) (a : Named) (r : Refused) → HasTable g i source merges t → RefusesSource g i source merges a r → ⊥
   never_both _ _ t _ r (by_mode mode _ h) (of_its_mode _ _ k) = refused_or_made g i mode r t k h
   never_both _ _ t _ _ (by_file name text ms _ h e x) (long_file _ _ k) = omega (arith, h, k)
-  never_both _ _ t _ r (by_file name text ms _ h e x) (no_merges _ _ _ k f) = never_two g.atoms text ms r e f
+  never_both _ _ t _ r (by_file name text ms _ h e x) (no_merges _ _ _ k f) = merges_never_both g.atoms text ms r e f
   never_both _ _ t _ r (by_file name text ms _ h e x) (bad_merges _ _ ns _ k f y) = refused_or_accepted g i text ns ms r t f e y x
 
 pub one_table : SourcesHaveOneTable

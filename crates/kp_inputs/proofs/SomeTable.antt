@@ -8,10 +8,9 @@ use Rattle.kp_base.specs.declared.limits.Mode.{Mode}
 use Rattle.kp_base.specs.declared.refused.Part.TheVariants as parts
 use Rattle.kp_base.specs.declared.refused.Refused.{Refused}
 use Rattle.kp_base.specs.declared.refused.Refused.TheVariants as refusals
-use Rattle.kp_merges.proofs.OneAnswer.{always_some}
+use Rattle.kp_merges.proofs.Public.{merges_always_one}
 use Rattle.kp_decided.specs.Laws.{AreProper}
-use Rattle.kp_decided.proofs.Tabling.{tables_decided}
-use Rattle.kp_decided.proofs.Made.{made_decided}
+use Rattle.kp_decided.proofs.Public.{tables_decided, made_decided}
 use Rattle.kp_printed.specs.Refusals.{Named, nothing}
 use Rattle.kp_outcome.specs.Ends.{most_bytes}
 use Rattle.kp_words.specs.Names.{Source, of_mode, of_file}
@@ -28,7 +27,7 @@ module _ (g : Ground) (i : Initial) (proper : AreProper g i) where
   of_text : (name text : List ℕ) → Decided (of_file name) (text ∷ [])
   of_text name text = elim (cases_lt most_bytes (length text)) [
     | inl long ↦ inr (nothing, refusals.TooLong parts.Merges, long_file name text long)
-    | inr short ↦ elim (always_some g.atoms text) [
+    | inr short ↦ elim (merges_always_one g.atoms text) [
       | inr r ↦ inr (nothing, r.0, no_merges name text r.0 short r.1)
       | inl ms ↦ elim (tables_decided (length g.atoms) i ms.0 usual.tags proper.over (tags_of_atoms g.atoms text ms.0 ms.1)) [
         | inl t ↦ inl (t.0, by_file name text ms.0 t.0 short ms.1 t.1)

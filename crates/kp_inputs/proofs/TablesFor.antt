@@ -16,18 +16,18 @@ use Rattle.kp_grammar.specs.declared.tree.Word.{Word}
 use Rattle.kp_grammar.specs.Trees.{Domain, Problem}
 use Rattle.kp_meaning.specs.Numbering.{numbered_problem}
 use Rattle.kp_merges.specs.declared.merge.FileMerge.{FileMerge}
-use Rattle.kp_cover.proofs.Deciding.{target_below}
-use Rattle.kp_modes.proofs.Good.{merges_good}
+use Rattle.kp_cover.proofs.Public.{target_is_below}
+use Rattle.kp_modes.proofs.Public.{merges_of_modes_are_good}
 use Rattle.kp_write.specs.Grounds.{IsOfAtom}
 use Rattle.kp_task.specs.Task.{task_of}
 use Rattle.kp_task.specs.Weight.{merge_weight}
-use Rattle.kp_task.proofs.Weights.{weight_counted}
+use Rattle.kp_task.proofs.Public.{weight_is_counted}
 use Rattle.kp_ktask.specs.Translated.{FitsLimits}
 use Rattle.kp_tags.specs.Tables.{used_tags, numbered}
 use Rattle.kp_given.specs.Translations.{ground_of, initial_of}
 use Rattle.kp_given.specs.Tables.{IsTableFor}
 use Rattle.kp_prepared.specs.Prepared.{usual, IsSmall}
-use Rattle.kp_prepared.proofs.Counted.{is_of_atoms}
+use Rattle.kp_prepared.proofs.Public.{usual_ground_is_of_its_atoms}
 use Rattle.kp_words.specs.Names.{Source}
 use Rattle.kp_inputs.specs.Tables.{HasTable, by_mode, by_file}
 use Rattle.kp_inputs.proofs.FileMerges.{targets_of_atoms}
@@ -51,7 +51,7 @@ each_target atoms (m ∷ ms) h = (h m (inl refl), each_target atoms ms (λ x the
 pub targets_are : (g : Ground) (i : Initial) (source : Source) (merges : List (List ℕ)) (table : TagTable) → IsOfItsAtoms g → HasTable g i source merges table → AllByRecursion (λ (m : Merge). IsOfAtom g.atoms m.target) table.merges
 targets_are g i _ _ table own (by_mode mode _ is) =
     subst (λ all. AllByRecursion (λ (m : Merge). IsOfAtom g.atoms m.target) all) (sym is.is_table.merges)
-    (same_targets g.atoms (used_tags is.merges) is.merges (each_target g.atoms is.merges (λ m there. target_below g own m.target (merges_good mode usual.sets g i is.merges own is.of_mode m there).target)))
+    (same_targets g.atoms (used_tags is.merges) is.merges (each_target g.atoms is.merges (λ m there. target_is_below g own m.target (merges_of_modes_are_good mode usual.sets g i is.merges own is.of_mode m there).target)))
 targets_are g i _ _ table own (by_file name text ms _ short read fine) =
     subst (λ all. AllByRecursion (λ (m : Merge). IsOfAtom g.atoms m.target) all) (sym fine.is_table.merges)
     (same_targets g.atoms (used_tags ms) ms (targets_of_atoms g.atoms text ms read))
@@ -67,14 +67,14 @@ tags_fit g i _ _ table (by_mode mode _ is) = let a = ap length is.is_table.tags 
 tags_fit g i _ _ table (by_file name text ms _ short read fine) = let a = ap length fine.is_table.tags in let b = length-map table.tags (λ (row : TagRow). row.lits) in let f = fine.within_limit in omega (arith, a, b, f)
 
 pub few_merges : (g : Ground) (table : TagTable) → FitsLimits (task_of g table) usual → length table.merges ≤ 16000000
-few_merges g table fits = let a = few_by_weight table.merges in let b = weight_counted g table in let f = fits.weight in omega (arith, a, b, f)
+few_merges g table fits = let a = few_by_weight table.merges in let b = weight_is_counted g table in let f = fits.weight in omega (arith, a, b, f)
 
 merges_fit : (g : Ground) (table : TagTable) → FitsLimits (task_of g table) usual → length table.merges < 2 ^ 64
 merges_fit g table fits = let few = few_merges g table fits in omega (arith, few)
 
 pub table_for : (d : Domain Word) (p : Problem Word) (source : Source) (merges : List (List ℕ)) (table : TagTable) → IsSmall d p → FitsLimits (task_of (ground_of d p) table) usual → HasTable (ground_of d p) (initial_of d p) source merges table → IsTableFor d p table
 table_for d p source merges table small fits has =
-    let own = is_of_atoms (numbered_problem d p) (ground_of d p) small in
+    let own = usual_ground_is_of_its_atoms (numbered_problem d p) (ground_of d p) small in
     let right = tables_right (ground_of d p) (initial_of d p) source merges table own has in
     record {
       right = right.0;

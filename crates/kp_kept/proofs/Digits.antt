@@ -76,9 +76,3 @@ pub last_is_known : (rs : List Range) (n left rest : ℕ) (known : List ℕ) (r 
 last_is_known rs n left rest known r o some h is at =
     let within = h.within in
     is_left_next rs n (left - 1) rest known r o (at_last rs n left rest known some h) (omega arith) is at
-
--- ---- all lists
-
-pub one_more_taken : {X : Type 0} (xs taken : List X) (i : ℕ) (x : X) → slice_get xs i ≡ Some x → taken ≡ take i xs → taken ++ x ∷ [] ≡ take (i + 1) xs
-one_more_taken xs taken i x at is =
-    ap (λ l. l ++ x ∷ []) is ∙ (ap (λ y. take i xs ++ y ∷ []) (sym (get_or_from_slice_get xs i x x at)) ∙ sym (take_more xs i x (slice_get_within xs i x at)))

@@ -1,3 +1,4 @@
+pub mod Public
 pub mod Capped
 pub mod Choices
 pub mod Digits

@@ -5,13 +5,13 @@ use Rattle.kp_base.proofs.Lists.{bool_same, any-not, any_map}
 use Rattle.kp_meaning.specs.declared.lifted.GroundLit.{GroundLit}
 use Rattle.kp_meaning.specs.declared.lifted.Item.{Item}
 use Rattle.kp_meaning.specs.Names.{same}
-use Rattle.kp_meaning.proofs.Lists.{same-sym}
+use Rattle.kp_meaning.proofs.Public.{same_name-sym}
 use Rattle.kp_lifted.specs.declared.lifted.Schema as schemas
 use Rattle.kp_lifted.specs.declared.lifted.Lifted as lifteds
 use Rattle.kp_names.specs.View.{eff_view, schema_view, lifted_view}
 use Rattle.kp_base.proofs.Once.{any-added}
 use Rattle.kp_grounding.specs.Ground.{same_atom}
-use Rattle.kp_grounding.proofs.Atoms.{same_atoms}
+use Rattle.kp_grounding.proofs.Public.{same_atoms}
 use Rattle.kp_grounding.specs.Static.{changes, leaves_static, is_static, says}
 use Rattle.kp_kept.specs.Tables.{has_atom, with_atom}
 
@@ -35,7 +35,7 @@ changed_are l q =
 -- ---- atoms
 
 atom_is : (p q : ℕ) (us os : List ℕ) → (p == q && same us os) ≡ (q == p && same os us)
-atom_is p q us os = ap₂ (λ a b. a && b) (eq-sym p q) (same-sym us os)
+atom_is p q us os = ap₂ (λ a b. a && b) (eq-sym p q) (same_name-sym us os)
 
 -- an atom that comes is told, and the others as before
 pub atom_added : (atoms : List (ℕ × List ℕ)) (p : ℕ) (us : List ℕ) (q : ℕ) (os : List ℕ) → has_atom (with_atom atoms (p, us)) q os ≡ (has_atom atoms q os || (p == q && same us os))

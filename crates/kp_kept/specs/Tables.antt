@@ -1,9 +1,10 @@
 -- What the tables of static predicates and stated atoms tell, and how kept instances are gathered. This file serves proofs alone.
-use Rattle.std.specs.Prelude.{◌≡◌, ◌+◌, ◌<◌, ◌≤◌, ◌==◌, ℕ, Bool, true, false, ◌&&◌, ◌||◌, if◌then◌else◌, List, [], ◌∷◌, ◌++◌, length, map}
+use Rattle.std.specs.Prelude.{◌≡◌, ◌+◌, ◌<◌, ◌≤◌, ◌==◌, ℕ, Bool, true, false, not, ◌&&◌, ◌||◌, if◌then◌else◌, List, [], ◌∷◌, ◌++◌, length, map}
 use Rattle.std.specs.List.{list_any}
 use Rattle.kp_meaning.specs.Names.{same}
 use Rattle.kp_meaning.specs.Numbered.{Lifted}
 use Rattle.kp_meaning.specs.Lifted.{Instance}
+use Rattle.kp_grounding.specs.Static.{is_static, initially}
 use Rattle.kp_grounding.specs.Ground.{kept_instances}
 use Rattle.kp_grounding.specs.Weights.{total_weight}
 use Rattle.kp_kept.specs.Counts.{kept_view, capped}
@@ -32,6 +33,13 @@ with_atom atoms a = if has_atom atoms a.0 a.1 then atoms else atoms ++ a ∷ []
 -- the atoms that pass the test have come
 pub record AddsAtoms (old new : List (ℕ × List ℕ)) (test : ℕ → List ℕ → Bool) : Type 0 where
   pub each : (q : ℕ) (os : List ℕ) → has_atom new q os ≡ (has_atom old q os || test q os)
+
+-- ---- both tables
+
+-- these predicates are those that aren't static, and these atoms those that `:init` states
+pub record AreTablesOf (l : Lifted) (preds : List ℕ) (atoms : List (ℕ × List ℕ)) : Type 0 where
+  pub changed : (q : ℕ) → has_number preds q ≡ not (is_static l q)
+  pub stated : (q : ℕ) (os : List ℕ) → has_atom atoms q os ≡ initially l q os
 
 -- ---- kept instances
 

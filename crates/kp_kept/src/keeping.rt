@@ -38,7 +38,7 @@ fn keep(
     kept: &mut Row<Kept>,
 ) -> Result<bool, Memory>
     requires { length kept.old ≤ most }
-    ensures { IfOk result (λ fits. Gathers most (map kept_view kept.old) (only_if (settled (lifted_view statics.now.lifted.now) objects.now (cond_view schema.now.pre)) (instance number objects.now ∷ [])) (map kept_view kept.new) fits) }
+    ensures { IfOk result (λ fits. Gathers most (map kept_view kept.old) (only_if (settled (lifted_view statics.now) objects.now (cond_view schema.now.pre)) (instance number objects.now ∷ [])) (map kept_view kept.new) fits) }
 {
     if !settled_in(statics, room, &schema.pre, objects)? {
         return Ok(true);
@@ -60,7 +60,7 @@ fn keep_all(
     kept: &mut Row<Kept>,
 ) -> Result<bool, Memory>
     requires { length kept.old ≤ most }
-    ensures { IfOk result (λ fits. Gathers most (map kept_view kept.old) (map (instance number) (kept_bindings (lifted_view statics.now.lifted.now) (schema_view schema.now))) (map kept_view kept.new) fits) }
+    ensures { IfOk result (λ fits. Gathers most (map kept_view kept.old) (map (instance number) (kept_bindings (lifted_view statics.now) (schema_view schema.now))) (map kept_view kept.new) fits) }
 {
     let params = schema.params.slice();
     let total = binding_total(params)?;
@@ -88,8 +88,8 @@ fn keep_schema(
     sum: &mut u128,
 ) -> Result<bool, Memory>
     requires { length kept.old ≤ most }
-    ensures kept { IfOk result (λ fits. Gathers most (map kept_view kept.old) (map (instance number) (kept_bindings (lifted_view statics.now.lifted.now) (schema_view schema.now))) (map kept_view kept.new) fits) }
-    ensures weight { IfOk result (λ fits. fits ≡ true → sum.new ≡ capped (sum.old + length (kept_bindings (lifted_view statics.now.lifted.now) (schema_view schema.now)) * weight (schema_view schema.now))) }
+    ensures kept { IfOk result (λ fits. Gathers most (map kept_view kept.old) (map (instance number) (kept_bindings (lifted_view statics.now) (schema_view schema.now))) (map kept_view kept.new) fits) }
+    ensures weight { IfOk result (λ fits. fits ≡ true → sum.new ≡ capped (sum.old + length (kept_bindings (lifted_view statics.now) (schema_view schema.now)) * weight (schema_view schema.now))) }
 {
     let before = kept.len();
     if !keep_all(alloc, statics, number, schema, most, kept)? {
@@ -109,12 +109,12 @@ struct Keeping {
 
 // None where there are too many.
 fn keep_schemas(alloc: Global, statics: &Statics, most: usize) -> Result<Option<Keeping>, Memory>
-    ensures { IfOk result (λ all. MatchOption all (most < length (kept_instances (lifted_view statics.now.lifted.now))) (λ k. IsKeeping (lifted_view statics.now.lifted.now) most k)) }
+    ensures { IfOk result (λ all. MatchOption all (most < length (kept_instances (lifted_view statics.now))) (λ k. IsKeeping (lifted_view statics.now) most k)) }
 {
     let mut kept = Row::new(alloc);
     let mut weight = 0u128;
     let mut number = 0u32;
-    for schema in statics.lifted.schemas.slice() {
+    for schema in statics.lifted().schemas.slice() {
         if !keep_schema(alloc, statics, number, schema, most, &mut kept, &mut weight)? {
             return Ok(None);
         }
@@ -126,11 +126,11 @@ fn keep_schemas(alloc: Global, statics: &Statics, most: usize) -> Result<Option<
 /// The kept instances, by schema and then by objects. Refused where there are more bindings, instances or
 /// weight of these than the limits say.
 pub fn kept_instances(alloc: Global, statics: &Statics, limits: &Limits) -> Result<Row<Kept>, Stop>
-    ensures kept { IfOk result (λ row. map kept_view row ≡ kept_instances (lifted_view statics.now.lifted.now)) }
-    ensures within { OnOk result (IsWithin (lifted_view statics.now.lifted.now) limits.now) }
-    ensures refused { IfErr result (StopsAtCounts (lifted_view statics.now.lifted.now) limits.now) }
+    ensures kept { IfOk result (λ row. map kept_view row ≡ kept_instances (lifted_view statics.now)) }
+    ensures within { OnOk result (IsWithin (lifted_view statics.now) limits.now) }
+    ensures refused { IfErr result (StopsAtCounts (lifted_view statics.now) limits.now) }
 {
-    if problem_bindings(statics.lifted) > u128::from(limits.bindings) {
+    if problem_bindings(statics.lifted()) > u128::from(limits.bindings) {
         return Err(Stop::Refused(Refused::BindingsOver));
     }
     let Some(all) = keep_schemas(alloc, statics, limits.actions as usize)? else {

@@ -52,7 +52,7 @@ fn literal_settled(
     terms: &[Term],
     objects: &[u32],
 ) -> Result<bool, Memory>
-    ensures { IfOk result (λ b. b ≡ settled (lifted_view statics.now.lifted.now) objects.now (numbered.Cond.atom positive pred terms.now)) }
+    ensures { IfOk result (λ b. b ≡ settled (lifted_view statics.now) objects.now (numbered.Cond.atom positive pred terms.now)) }
 {
     if !statics.is_static(pred) {
         return Ok(true);
@@ -69,7 +69,7 @@ pub fn settled_in(
     cond: &Cond,
     objects: &[u32],
 ) -> Result<bool, Memory>
-    ensures { IfOk result (λ b. b ≡ settled (lifted_view statics.now.lifted.now) objects.now (cond_view cond.now)) }
+    ensures { IfOk result (λ b. b ≡ settled (lifted_view statics.now) objects.now (cond_view cond.now)) }
 {
     match cond {
         Cond::All(parts) => {

@@ -1,3 +1,4 @@
+pub mod Public
 pub mod Rows
 pub mod Bounds
 pub mod Literals

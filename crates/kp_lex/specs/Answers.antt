@@ -6,6 +6,8 @@ use Rattle.kp_base.specs.declared.refused.Stop.TheVariants as stops
 use Rattle.kp_base.specs.declared.refused.Refused.TheVariants as refusals
 use Rattle.kp_lex.specs.declared.token.Token.{Token}
 use Rattle.kp_lex.specs.Cutting.{Cut, BadAt}
+use Rattle.kp_lex.specs.declared.cutting.Beginning.{Beginning}
+use Rattle.kp_lex.specs.Levels.{BeginsCutting}
 use Rattle.kp_lex.specs.Places.{place_of}
 
 -- the tokens are the cutting; a refusal names the place of the bad byte; want of memory is free
@@ -22,3 +24,8 @@ GivesTokens ts result = (result ≡ Ok ts) ⊎ (result ≡ Err stops.Memory)
 -- a refusal at the place of this byte, or want of memory
 abbrev pub RefusesAt : Part → List ℕ → ℕ → Result (List Token) Stop → Type 0
 RefusesAt part text i result = (result ≡ Err (stops.Refused (refusals.BadToken (place_of part text i)))) ⊎ (result ≡ Err stops.Memory)
+
+-- what is kept is the beginning of the cutting; what is refused, is refused as where all tokens are asked for
+abbrev pub IsRightWithin : Part → ℕ → List ℕ → Result Beginning Stop → Type 0
+IsRightWithin part levels text (Ok b) = BeginsCutting levels text b
+IsRightWithin part levels text (Err e) = IsRight part text (Err e)

@@ -1,5 +1,6 @@
 pub mod Bytes
 pub mod Cutting
+pub mod Levels
 pub mod Spans
 pub mod Words
 pub mod Places

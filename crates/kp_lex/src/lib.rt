@@ -9,7 +9,7 @@ mod places;
 mod token;
 mod words;
 
-pub use cutting::tokens;
+pub use cutting::{Beginning, tokens, tokens_within};
 pub use laws::{one_outcome, token_spans};
 pub use places::place;
 pub use token::{Token, TokenKind};

@@ -11,9 +11,8 @@ use Rattle.kp_base.specs.Steps.{pre_of, IsLeastMissing}
 use Rattle.kp_base.specs.Machine.{MachineStep, Known, start, may_act}
 use Rattle.kp_known.specs.Known.{Table, Says}
 use Rattle.kp_complete.specs.Lifts.{after_merges, merges_taken, lifted_from, UnliftedAt}
-use Rattle.kp_complete.proofs.Failing.{dont_lift}
-use Rattle.kp_complete.proofs.Lifted as complete
-use Rattle.kp_complete.proofs.Lifted.{lifted_accepted}
+use Rattle.kp_complete.proofs.Public.{failing_lists_dont_lift, lifted_is_accepted_where_it_lifts}
+use Rattle.kp_complete.proofs.Public as complete
 use Rattle.kp_task.specs.Laws.{op_number}
 use Rattle.kp_lift.specs.declared.lifting.Lifting.TheVariants.{Lifted, Unlifted}
 use Rattle.kp_lift.specs.declared.running.At.{At}
@@ -110,10 +109,10 @@ lifts_too g table (n ∷ ns) k h =
     and_from may (complete.lifts_from g table (complete.known_after g table k n) ns) parts.0 (lifts_too g table ns (known_after g table k n) parts.1)
 
 pub answers_lifted : (g : Ground) (table : TagTable) (ns ops : List ℕ) → EndsFrom g table (start table) ns 0 [] ops None → AnswersLifting g table ns (Lifted ops)
-answers_lifted g table ns ops ends = (ends.0, lifted_accepted g table ns (start table) (lifts_too g table ns (start table) ends.1))
+answers_lifted g table ns ops ends = (ends.0, lifted_is_accepted_where_it_lifts g table ns (start table) (lifts_too g table ns (start table) ends.1))
 
 pub answers_unlifted : (g : Ground) (table : TagTable) (ns ops : List ℕ) (at : At) → EndsFrom g table (start table) ns 0 [] ops (Some at) → AnswersLifting g table ns (Unlifted at.step at.literal)
-answers_unlifted g table ns ops at ends = (fails, λ steps is. dont_lift g table steps at.step at.literal (subst (λ ms. UnliftedAt g table ms at.step at.literal) (sym is) fails))
+answers_unlifted g table ns ops at ends = (fails, λ steps is. failing_lists_dont_lift g table steps at.step at.literal (subst (λ ms. UnliftedAt g table ms at.step at.literal) (sym is) fails))
   where
     place : ends.0 ≡ at.step
     place = let p = ends.1 in omega (arith, p)

@@ -12,7 +12,7 @@ use Rattle.kp_base.specs.Lit.{positive, negative, code_of}
 use Rattle.kp_base.specs.Implicates.{are_below, IsOfItsAtoms}
 use Rattle.kp_base.proofs.Lists.{all_member}
 use Rattle.kp_complete.specs.Lifts.{is_ready, UnliftedAt}
-use Rattle.kp_complete.proofs.Failing.{dont_lift}
+use Rattle.kp_complete.proofs.Public.{failing_lists_dont_lift}
 use Rattle.kp_task.specs.Task.{task_of}
 use Rattle.kp_lift.specs.declared.lifting.Lifting.TheVariants.{Lifted, Unlifted}
 use Rattle.kp_lift.specs.Lifting.{IsTableOn, AnswersLifting, operator_step}
@@ -81,7 +81,7 @@ fails_at_step = record { in_range = omega arith; before = before; unknown = reco
     before (suc j) lt = absurd (omega (arith, lt))
 
 fails : AnswersLifting either table (0 ∷ 2 ∷ []) (Unlifted 1 (positive 1))
-fails = (fails_at_step, λ steps is. dont_lift either table steps 1 (positive 1) (subst (λ ns. UnliftedAt either table ns 1 (positive 1)) (sym is) fails_at_step))
+fails = (fails_at_step, λ steps is. failing_lists_dont_lift either table steps 1 (positive 1) (subst (λ ns. UnliftedAt either table ns 1 (positive 1)) (sym is) fails_at_step))
 
 -- ---- by name
 

@@ -1,3 +1,4 @@
+pub mod Public
 pub mod Named
 pub mod Merges
 pub mod Ending

@@ -1,5 +1,6 @@
 ghost use Rattle.std.specs.Prelude.{◌≡◌, ◌++◌, [], map, IfOk, OnOk};
-ghost use Rattle.kp_grammar.specs.View.{typed_view, domain_view, problem_view};
+ghost use Rattle.kp_grammar.specs.View.{typed_view, atom_view, domain_view, problem_view};
+ghost use Rattle.kp_grammar.specs.Trees.{Eff as tree_effects};
 ghost use Rattle.kp_grammar.specs.View.{eff_view as tree_view, schema_view as schema_tree_view};
 ghost use Rattle.kp_meaning.specs.Numbering.{numbered_eff, numbered_schema, numbered_cond, numbered_range};
 ghost use Rattle.kp_grammar.specs.View.{cond_view as cond_tree_view};
@@ -10,7 +11,7 @@ use crate::lifted::{Cond, Eff, Schema};
 use crate::ranges::Ranges;
 use crate::terms::{condition, terms};
 use kp_base::{Memory, Row};
-use kp_grammar::{CondTree, EffTree, SchemaTree, Typed};
+use kp_grammar::{AtomTree, CondTree, EffTree, SchemaTree, Typed};
 use kp_tables::{Names, Scope};
 use std::alloc::Global;
 
@@ -22,7 +23,7 @@ fn under(
     cond: &CondTree,
     body: Eff,
 ) -> Result<Eff, Memory>
-    ensures { IfOk result (λ e. eff_view e ≡ by_number.when (numbered_cond (domain_view names.now.domain.now) (problem_view names.now.problem.now) scope.now (cond_tree_view cond.now)) (eff_view body)) }
+    ensures { IfOk result (λ e. eff_view e ≡ by_number.when (numbered_cond (domain_view names.now.domain) (problem_view names.now.problem) scope.now (cond_tree_view cond.now)) (eff_view body)) }
 {
     let body = Box::new(alloc, body)?;
     Ok(Eff::When(condition(alloc, names, scope, cond)?, body))
@@ -36,10 +37,27 @@ fn over<'a>(
     body: Eff,
 ) -> Result<Eff, Memory>
     ensures kept { ranges.new.names ≡ ranges.old.names }
-    ensures effect { IfOk result (λ e. eff_view e ≡ by_number.each (map (numbered_range (domain_view ranges.old.names.domain.now) (problem_view ranges.old.names.problem.now)) (map typed_view variables.now)) (eff_view body)) }
+    ensures effect { IfOk result (λ e. eff_view e ≡ by_number.each (map (numbered_range (domain_view ranges.old.names.domain) (problem_view ranges.old.names.problem)) (map typed_view variables.now)) (eff_view body)) }
 {
     let body = Box::new(alloc, body)?;
     Ok(Eff::Each(ranges.of_variables(alloc, variables)?, body))
+}
+
+// An atom that is added, or deleted.
+fn made(
+    alloc: Global,
+    names: &Names,
+    scope: &Scope,
+    positive: bool,
+    atom: &AtomTree,
+) -> Result<Eff, Memory>
+    ensures { IfOk result (λ e. eff_view e ≡ numbered_eff (domain_view names.now.domain) (problem_view names.now.problem) scope.now (tree_effects.makes positive (atom_view atom.now))) }
+{
+    Ok(Eff::Atom {
+        positive,
+        pred: names.predicate_number(&atom.head.text),
+        terms: terms(alloc, names, scope, atom.terms.slice())?,
+    })
 }
 
 // An effect under these variables.
@@ -51,7 +69,7 @@ fn effect<'a>(
     tree: &'a EffTree,
 ) -> Result<Eff, Memory>
     ensures kept { ranges.new.names ≡ ranges.old.names }
-    ensures effect { IfOk result (λ e. eff_view e ≡ numbered_eff (domain_view ranges.old.names.domain.now) (problem_view ranges.old.names.problem.now) scope.now (tree_view tree.now)) }
+    ensures effect { IfOk result (λ e. eff_view e ≡ numbered_eff (domain_view ranges.old.names.domain) (problem_view ranges.old.names.problem) scope.now (tree_view tree.now)) }
 {
     match tree {
         EffTree::All(parts) => Ok(Eff::All(effects(alloc, ranges, scope, parts.slice())?)),
@@ -65,11 +83,7 @@ fn effect<'a>(
             drop(inner);
             over(alloc, ranges, variables.slice(), body?)
         }
-        EffTree::Atom(positive, atom) => Ok(Eff::Atom {
-            positive: *positive,
-            pred: ranges.names.predicate_number(&atom.head.text),
-            terms: terms(alloc, &ranges.names, scope, atom.terms.slice())?,
-        }),
+        EffTree::Atom(positive, atom) => made(alloc, &ranges.names, scope, *positive, atom),
     }
 }
 
@@ -82,7 +96,7 @@ fn effects<'a>(
     trees: &'a [EffTree],
 ) -> Result<Row<Eff>, Memory>
     ensures kept { ranges.new.names ≡ ranges.old.names }
-    ensures effects { IfOk result (λ row. map eff_view row ≡ map (numbered_eff (domain_view ranges.old.names.domain.now) (problem_view ranges.old.names.problem.now) scope.now) (map tree_view trees.now)) }
+    ensures effects { IfOk result (λ row. map eff_view row ≡ map (numbered_eff (domain_view ranges.old.names.domain) (problem_view ranges.old.names.problem) scope.now) (map tree_view trees.now)) }
 {
     let mut row = Row::new(alloc);
     'trees: for tree in trees {
@@ -91,29 +105,46 @@ fn effects<'a>(
     Ok(row)
 }
 
-// The precondition and the effect of a schema, under its parameters.
+// The precondition and the effect of a schema, under these variables.
+fn forms_under<'a>(
+    alloc: Global,
+    ranges: &mut Ranges<'a>,
+    scope: &Scope<'a>,
+    tree: &'a SchemaTree,
+) -> Result<(Cond, Eff), Memory>
+    ensures kept { ranges.new.names ≡ ranges.old.names }
+    ensures pre { IfOk result (λ x. cond_view x.0 ≡ numbered_cond (domain_view ranges.old.names.domain) (problem_view ranges.old.names.problem) scope.now (cond_tree_view tree.now.pre)) }
+    ensures effect { IfOk result (λ x. eff_view x.1 ≡ numbered_eff (domain_view ranges.old.names.domain) (problem_view ranges.old.names.problem) scope.now (tree_view tree.now.effect)) }
+{
+    let pre = condition(alloc, &ranges.names, scope, &tree.pre)?;
+    let effect = effect(alloc, ranges, scope, &tree.effect)?;
+    Ok((pre, effect))
+}
+
+// The same, under its parameters.
 fn forms<'a>(
     alloc: Global,
     ranges: &mut Ranges<'a>,
     tree: &'a SchemaTree,
 ) -> Result<(Cond, Eff), Memory>
     ensures kept { ranges.new.names ≡ ranges.old.names }
-    ensures pre { IfOk result (λ x. cond_view x.0 ≡ (numbered_schema (domain_view ranges.old.names.domain.now) (problem_view ranges.old.names.problem.now) (schema_tree_view tree.now)).pre) }
-    ensures effect { IfOk result (λ x. eff_view x.1 ≡ (numbered_schema (domain_view ranges.old.names.domain.now) (problem_view ranges.old.names.problem.now) (schema_tree_view tree.now)).effect) }
+    ensures pre { IfOk result (λ x. cond_view x.0 ≡ (numbered_schema (domain_view ranges.old.names.domain) (problem_view ranges.old.names.problem) (schema_tree_view tree.now)).pre) }
+    ensures effect { IfOk result (λ x. eff_view x.1 ≡ (numbered_schema (domain_view ranges.old.names.domain) (problem_view ranges.old.names.problem) (schema_tree_view tree.now)).effect) }
 {
     let scope = Scope::new(alloc).with(alloc, tree.params.slice())?;
-    let pre = condition(alloc, &ranges.names, &scope, &tree.pre)?;
-    let effect = effect(alloc, ranges, &scope, &tree.effect)?;
-    Ok((pre, effect))
+    let forms = forms_under(alloc, ranges, &scope, tree);
+    drop(scope);
+    forms
 }
 
+// A schema by number.
 fn schema<'a>(
     alloc: Global,
     ranges: &mut Ranges<'a>,
     tree: &'a SchemaTree,
 ) -> Result<Schema, Memory>
     ensures kept { ranges.new.names ≡ ranges.old.names }
-    ensures schema { IfOk result (λ s. schema_view s ≡ numbered_schema (domain_view ranges.old.names.domain.now) (problem_view ranges.old.names.problem.now) (schema_tree_view tree.now)) }
+    ensures schema { IfOk result (λ s. schema_view s ≡ numbered_schema (domain_view ranges.old.names.domain) (problem_view ranges.old.names.problem) (schema_tree_view tree.now)) }
 {
     let name = tree.name.text.copy(alloc)?;
     let params = ranges.of_variables(alloc, tree.params.slice())?;
@@ -133,7 +164,7 @@ pub fn schemas<'a>(
     trees: &'a [SchemaTree],
 ) -> Result<Row<Schema>, Memory>
     ensures kept { ranges.new.names ≡ ranges.old.names }
-    ensures schemas { IfOk result (λ row. map schema_view row ≡ map (numbered_schema (domain_view ranges.old.names.domain.now) (problem_view ranges.old.names.problem.now)) (map schema_tree_view trees.now)) }
+    ensures schemas { IfOk result (λ row. map schema_view row ≡ map (numbered_schema (domain_view ranges.old.names.domain) (problem_view ranges.old.names.problem)) (map schema_tree_view trees.now)) }
 {
     let mut row = Row::new(alloc);
     for tree in trees {

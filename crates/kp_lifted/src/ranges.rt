@@ -17,7 +17,7 @@ pub struct Ranges<'a> {
     /// The names.
     pub names: Names<'a>,
     known: IndexMap<&'a [u8], Row<u32>>,
-    ghost known_right: { map (λ e. e.1) known.entries ≡ map (λ e. range_of (domain_view names.domain.now) (problem_view names.problem.now) (e.0.now ∷ [])) known.entries },
+    ghost known_right: { map (λ e. e.1) known.entries ≡ map (λ e. range_of (domain_view names.domain) (problem_view names.problem) (e.0.now ∷ [])) known.entries },
 }
 
 fn copied(alloc: Global, objects: &[u32]) -> Result<Row<u32>, Memory>
@@ -43,7 +43,7 @@ impl<'a> Ranges<'a> {
 
     // The objects of a type, from its declaration and those of the objects.
     fn found(&self, alloc: Global, name: &'a [u8]) -> Result<Row<u32>, Memory>
-        ensures { IfOk result (λ row. row ≡ range_of (domain_view self.now.names.domain.now) (problem_view self.now.names.problem.now) (name.now ∷ [])) }
+        ensures { IfOk result (λ row. row ≡ range_of (domain_view self.now.names.domain) (problem_view self.now.names.problem) (name.now ∷ [])) }
     {
         let below = below_type(alloc, &self.names, name)?;
         let objects = objects_of(alloc, &self.names, &below)?;
@@ -53,7 +53,7 @@ impl<'a> Ranges<'a> {
     // The objects of a type. The first time they are looked for, and later copied.
     fn of_type(&mut self, alloc: Global, name: &'a [u8]) -> Result<Row<u32>, Memory>
         ensures kept { self.new.names ≡ self.old.names }
-        ensures row { IfOk result (λ row. row ≡ range_of (domain_view self.old.names.domain.now) (problem_view self.old.names.problem.now) (name.now ∷ [])) }
+        ensures row { IfOk result (λ row. row ≡ range_of (domain_view self.old.names.domain) (problem_view self.old.names.problem) (name.now ∷ [])) }
     {
         if let Some(objects) = self.known.get(name) {
             return copied(alloc, objects.slice());
@@ -66,7 +66,7 @@ impl<'a> Ranges<'a> {
 
     // The objects of one of several types.
     fn of_types(&self, alloc: Global, words: &'a [Word]) -> Result<Row<u32>, Memory>
-        ensures { IfOk result (λ row. row ≡ range_of (domain_view self.now.names.domain.now) (problem_view self.now.names.problem.now) (names words.now)) }
+        ensures { IfOk result (λ row. row ≡ range_of (domain_view self.now.names.domain) (problem_view self.now.names.problem) (names words.now)) }
     {
         let below = below_types(alloc, &self.names, words)?;
         let objects = objects_of(alloc, &self.names, &below)?;
@@ -76,7 +76,7 @@ impl<'a> Ranges<'a> {
     // The objects of one of the types that are written behind a variable. Where none is, all objects are.
     fn of_kinds(&mut self, alloc: Global, kinds: &'a [Word]) -> Result<Row<u32>, Memory>
         ensures kept { self.new.names ≡ self.old.names }
-        ensures row { IfOk result (λ row. row ≡ range_of (domain_view self.old.names.domain.now) (problem_view self.old.names.problem.now) (or_object (names kinds.now))) }
+        ensures row { IfOk result (λ row. row ≡ range_of (domain_view self.old.names.domain) (problem_view self.old.names.problem) (or_object (names kinds.now))) }
     {
         match kinds {
             [] => Ok(self.of_type(alloc, OBJECT)?),
@@ -87,7 +87,7 @@ impl<'a> Ranges<'a> {
 
     fn of_variable(&mut self, alloc: Global, variable: &'a Typed) -> Result<Range, Memory>
         ensures kept { self.new.names ≡ self.old.names }
-        ensures range { IfOk result (λ r. r ≡ numbered_range (domain_view self.old.names.domain.now) (problem_view self.old.names.problem.now) (typed_view variable.now)) }
+        ensures range { IfOk result (λ r. r ≡ numbered_range (domain_view self.old.names.domain) (problem_view self.old.names.problem) (typed_view variable.now)) }
     {
         let objects = self.of_kinds(alloc, variable.kinds.slice())?;
         Ok(Range { objects })
@@ -100,7 +100,7 @@ impl<'a> Ranges<'a> {
         variables: &'a [Typed],
     ) -> Result<Row<Range>, Memory>
         ensures kept { self.new.names ≡ self.old.names }
-        ensures ranges { IfOk result (λ row. row ≡ map (numbered_range (domain_view self.old.names.domain.now) (problem_view self.old.names.problem.now)) (map typed_view variables.now)) }
+        ensures ranges { IfOk result (λ row. row ≡ map (numbered_range (domain_view self.old.names.domain) (problem_view self.old.names.problem)) (map typed_view variables.now)) }
     {
         let mut ranges = Row::new(alloc);
         for variable in variables {

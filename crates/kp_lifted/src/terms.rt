@@ -13,7 +13,7 @@ use std::alloc::Global;
 
 /// A term under these variables.
 pub fn term(names: &Names, scope: &Scope, tree: &TermTree) -> Term
-    ensures { result ≡ numbered_term (domain_view names.now.domain.now) (problem_view names.now.problem.now) scope.now (term_view tree.now) }
+    ensures { result ≡ numbered_term (domain_view names.now.domain) (problem_view names.now.problem) scope.now (term_view tree.now) }
 {
     match tree {
         TermTree::Name(word) => Term::Object(names.object_number(&word.text)),
@@ -28,7 +28,7 @@ pub fn terms(
     scope: &Scope,
     trees: &[TermTree],
 ) -> Result<Row<Term>, Memory>
-    ensures { IfOk result (λ row. row ≡ map (numbered_term (domain_view names.now.domain.now) (problem_view names.now.problem.now) scope.now) (map term_view trees.now)) }
+    ensures { IfOk result (λ row. row ≡ map (numbered_term (domain_view names.now.domain) (problem_view names.now.problem) scope.now) (map term_view trees.now)) }
 {
     let mut row = Row::new(alloc);
     for tree in trees {
@@ -44,7 +44,7 @@ pub fn condition(
     scope: &Scope,
     tree: &CondTree,
 ) -> Result<Cond, Memory>
-    ensures { IfOk result (λ c. cond_view c ≡ numbered_cond (domain_view names.now.domain.now) (problem_view names.now.problem.now) scope.now (tree_view tree.now)) }
+    ensures { IfOk result (λ c. cond_view c ≡ numbered_cond (domain_view names.now.domain) (problem_view names.now.problem) scope.now (tree_view tree.now)) }
 {
     match tree {
         CondTree::All(parts) => {

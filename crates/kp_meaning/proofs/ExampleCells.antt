@@ -8,7 +8,7 @@ use Rattle.kp_grammar.specs.Grammar as grammar
 use Rattle.kp_grammar.specs.Symbols.{symbol_of}
 use Rattle.kp_grammar.specs.Trees.{Atom, Cond, Conds, Eff, Effs, Lit, Item, Pred, Domain, Problem}
 use Rattle.kp_grammar.specs.Parsing.{some_at, next_at}
-use Rattle.kp_grammar.proofs.Computed.{outcome, reads_as}
+use Rattle.kp_grammar.proofs.Public.{computed_outcome, reads_by_computing}
 use Rattle.kp_meaning.specs.Names.{same}
 use Rattle.kp_meaning.specs.States.{State}
 use Rattle.kp_meaning.specs.Initial.{IsInitial}
@@ -64,11 +64,11 @@ one_of_three_tree = record {
 }
 
 -- each text is read once, by computing
-cells_outcome : outcome grammar.domain cells (tokens cells) ≡ Ok (cells_tree, [])
+cells_outcome : computed_outcome grammar.domain cells (tokens cells) ≡ Ok (cells_tree, [])
 unfolding cut_from class_of symbol_of some_at next_at
 cells_outcome = refl
 
-one_of_three_outcome : outcome grammar.problem one_of_three (tokens one_of_three) ≡ Ok (one_of_three_tree, [])
+one_of_three_outcome : computed_outcome grammar.problem one_of_three (tokens one_of_three) ≡ Ok (one_of_three_tree, [])
 unfolding cut_from class_of symbol_of some_at next_at
 one_of_three_outcome = refl
 
@@ -90,8 +90,8 @@ pub cell_problem : HasProblem cells one_of_three
 cell_problem = record {
   domain = cells_tree;
   problem = one_of_three_tree;
-  domain_reads = reads_as grammar.domain cells (tokens cells) cells_tree cells_cut cells_outcome;
-  problem_reads = reads_as grammar.problem one_of_three (tokens one_of_three) one_of_three_tree one_of_three_cut one_of_three_outcome;
+  domain_reads = reads_by_computing grammar.domain cells (tokens cells) cells_tree cells_cut cells_outcome;
+  problem_reads = reads_by_computing grammar.problem one_of_three (tokens one_of_three) one_of_three_tree one_of_three_cut one_of_three_outcome;
   no_fault = record { domain = refl; problem = refl };
 }
 

@@ -7,8 +7,7 @@ use Rattle.kp_grammar.specs.Parsing.{some_at, next_at}
 use Rattle.kp_meaning.specs.Faults.{Fault, unknown_name, declared_twice, wrong_use, domain_faults, problem_faults, byte_of, IsFirst}
 use Rattle.kp_meaning.specs.Plans.{HasProblem}
 use Rattle.kp_grammar.specs.Grammar as grammar
-use Rattle.kp_grammar.proofs.Computed.{reads_as}
-use Rattle.kp_grammar.proofs.ExampleTexts.{exchange}
+use Rattle.kp_grammar.proofs.Public.{reads_by_computing, exchange_text}
 use Rattle.kp_meaning.proofs.Texts.{tokens, domain_of, problem_of, reads_once}
 
 abbrev in_domain : List ℕ → List ℕ → List Fault
@@ -23,7 +22,7 @@ in_problem a b = problem_faults (domain_of a) (problem_of b)
 abbrev goal_y : List ℕ
 goal_y = codes "(define (problem e) (:domain d) (:init (p)) (:goal (y)))"
 
-in_goal_y : in_problem exchange goal_y ≡ unknown_name 52 ∷ []
+in_goal_y : in_problem exchange_text goal_y ≡ unknown_name 52 ∷ []
 unfolding cut_from class_of symbol_of some_at next_at
 in_goal_y = refl
 
@@ -31,7 +30,7 @@ in_goal_y = refl
 abbrev goal_p_z : List ℕ
 goal_p_z = codes "(define (problem e) (:domain d) (:init (p)) (:goal (p z)))"
 
-in_goal_p_z : in_problem exchange goal_p_z ≡ wrong_use 52 ∷ unknown_name 54 ∷ []
+in_goal_p_z : in_problem exchange_text goal_p_z ≡ wrong_use 52 ∷ unknown_name 54 ∷ []
 unfolding cut_from class_of symbol_of some_at next_at
 in_goal_p_z = refl
 
@@ -39,7 +38,7 @@ in_goal_p_z = refl
 abbrev many : List ℕ
 many = codes "(define (problem e) (:objects o - box) (:init (oneof (p) (not (r))) (and (unknown (s)))) (:goal (and (q o) (p))))"
 
-in_many : in_problem exchange many ≡ unknown_name 34 ∷ unknown_name 63 ∷ unknown_name 83 ∷ wrong_use 102 ∷ []
+in_many : in_problem exchange_text many ≡ unknown_name 34 ∷ unknown_name 63 ∷ unknown_name 83 ∷ wrong_use 102 ∷ []
 unfolding cut_from class_of symbol_of some_at next_at
 in_many = refl
 
@@ -100,7 +99,7 @@ one_space = refl
 -- ---- what has no problem
 
 -- the first of two faults
-first : IsFirst (in_problem exchange goal_p_z) (wrong_use 52)
+first : IsFirst (in_problem exchange_text goal_p_z) (wrong_use 52)
 unfolding cut_from class_of symbol_of some_at next_at
 first = record {
   among = inl refl;
@@ -111,9 +110,9 @@ first = record {
 }
 
 -- a text that reads, with a fault
-faulty : HasProblem exchange goal_y → ⊥
+faulty : HasProblem exchange_text goal_y → ⊥
 unfolding cut_from class_of symbol_of some_at next_at
 faulty x =
-    let e = reads_once grammar.domain exchange x.domain (domain_of exchange) x.domain_reads (reads_as grammar.domain exchange (tokens exchange) (domain_of exchange) refl refl) in
-    let f = reads_once grammar.problem goal_y x.problem (problem_of goal_y) x.problem_reads (reads_as grammar.problem goal_y (tokens goal_y) (problem_of goal_y) refl refl) in
+    let e = reads_once grammar.domain exchange_text x.domain (domain_of exchange_text) x.domain_reads (reads_by_computing grammar.domain exchange_text (tokens exchange_text) (domain_of exchange_text) refl refl) in
+    let f = reads_once grammar.problem goal_y x.problem (problem_of goal_y) x.problem_reads (reads_by_computing grammar.problem goal_y (tokens goal_y) (problem_of goal_y) refl refl) in
     cc (subst (λ d. problem_faults d (problem_of goal_y) ≡ []) e (subst (λ p. problem_faults x.domain p ≡ []) f x.no_fault.problem))

@@ -5,7 +5,7 @@ use Rattle.kp_lex.specs.Bytes.{class_of}
 use Rattle.kp_lex.specs.Scanning.{cut_from}
 use Rattle.kp_grammar.specs.Symbols.{symbol_of}
 use Rattle.kp_grammar.specs.Parsing.{some_at, next_at}
-use Rattle.kp_grammar.proofs.ExampleTexts.{exchange, from_p_to_q}
+use Rattle.kp_grammar.proofs.Public.{exchange_text, from_p_to_q_text}
 use Rattle.kp_grammar.specs.declared.tree.Word.{Word}
 use Rattle.kp_grammar.specs.Trees.{Problem}
 use Rattle.kp_meaning.specs.Names.{Name}
@@ -27,29 +27,29 @@ named_alone p test h os e = rw e refl
 
 -- ---- one action that exchanges p for q
 
-exchange_problem : HasProblem exchange from_p_to_q
+exchange_problem : HasProblem exchange_text from_p_to_q_text
 unfolding cut_from class_of symbol_of some_at next_at
-exchange_problem = has_problem exchange from_p_to_q (record { domain_cut = refl; problem_cut = refl; domain_read = refl; problem_read = refl; domain_faults = refl; problem_faults = refl })
+exchange_problem = has_problem exchange_text from_p_to_q_text (record { domain_cut = refl; problem_cut = refl; domain_read = refl; problem_read = refl; domain_faults = refl; problem_faults = refl })
 
 -- the action is a plan
-one_exchange : IsPlan exchange from_p_to_q (step (codes "a") [] ∷ [])
+one_exchange : IsPlan exchange_text from_p_to_q_text (step (codes "a") [] ∷ [])
 unfolding cut_from class_of symbol_of some_at next_at exchange_problem
 one_exchange = record { has = exchange_problem; solves = record { instances = refl; reaches = λ s i. i.items } }
 
 -- no step is none: q doesn't hold
-no_exchange : IsPlan exchange from_p_to_q ([]) → ⊥
+no_exchange : IsPlan exchange_text from_p_to_q_text ([]) → ⊥
 unfolding cut_from class_of symbol_of some_at next_at exchange_problem
-no_exchange plan = false≢true ((solves_theirs exchange from_p_to_q exchange_problem ([]) plan).reaches (state_of (problem_of from_p_to_q) (λ h. true)) (record { items = refl; absent = named_alone (problem_of from_p_to_q) (λ h. true) }))
+no_exchange plan = false≢true ((solves_theirs exchange_text from_p_to_q_text exchange_problem ([]) plan).reaches (state_of (problem_of from_p_to_q_text) (λ h. true)) (record { items = refl; absent = named_alone (problem_of from_p_to_q_text) (λ h. true) }))
 
 -- nor is the action twice: p doesn't hold any more
-two_exchanges : IsPlan exchange from_p_to_q (step (codes "a") [] ∷ step (codes "a") [] ∷ []) → ⊥
+two_exchanges : IsPlan exchange_text from_p_to_q_text (step (codes "a") [] ∷ step (codes "a") [] ∷ []) → ⊥
 unfolding cut_from class_of symbol_of some_at next_at exchange_problem
-two_exchanges plan = false≢true ((solves_theirs exchange from_p_to_q exchange_problem (step (codes "a") [] ∷ step (codes "a") [] ∷ []) plan).reaches (state_of (problem_of from_p_to_q) (λ h. true)) (record { items = refl; absent = named_alone (problem_of from_p_to_q) (λ h. true) }))
+two_exchanges plan = false≢true ((solves_theirs exchange_text from_p_to_q_text exchange_problem (step (codes "a") [] ∷ step (codes "a") [] ∷ []) plan).reaches (state_of (problem_of from_p_to_q_text) (λ h. true)) (record { items = refl; absent = named_alone (problem_of from_p_to_q_text) (λ h. true) }))
 
 -- nor a step that is no instance
-no_action : IsPlan exchange from_p_to_q (step (codes "b") [] ∷ []) → ⊥
+no_action : IsPlan exchange_text from_p_to_q_text (step (codes "b") [] ∷ []) → ⊥
 unfolding cut_from class_of symbol_of some_at next_at exchange_problem
-no_action plan = false≢true (solves_theirs exchange from_p_to_q exchange_problem (step (codes "b") [] ∷ []) plan).instances
+no_action plan = false≢true (solves_theirs exchange_text from_p_to_q_text exchange_problem (step (codes "b") [] ∷ []) plan).instances
 
 -- ---- a parameter for each end; the move from a place to itself adds and deletes one atom
 

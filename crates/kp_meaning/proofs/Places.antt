@@ -4,6 +4,7 @@ use Rattle.std.specs.List.{list_any, list_all}
 use Rattle.kp_grammar.specs.declared.tree.Word.{Word}
 use Rattle.kp_grammar.specs.Trees.{Typed, Term, Atom, Cond, Conds, Eff, Effs, Lit, Item, Items, Schema, Domain, Problem}
 use Rattle.kp_base.specs.Lists.{choices}
+use Rattle.kp_base.proofs.Parts.{find_map}
 use Rattle.kp_meaning.specs.Names.{Name, same, distinct}
 use Rattle.kp_meaning.specs.Types.{object, names, declared, types_of, or_object, leads, below_within, is_below, object_lines, objects, is_of_type, range}
 use Rattle.kp_meaning.specs.States.{State, Binding, unbound, bind, Literal, object_of, literal, literal_holds, holds, all_hold}
@@ -20,14 +21,6 @@ use Rattle.kp_meaning.specs.Places.{typed_map, term_map, atom_map, cond_map, con
 all_map : {X Y : Type 0} (m : X → Y) (g : Y → Bool) (h : X → Bool) (xs : List X) → ((x : X) → g (m x) ≡ h x) → list_all g (map m xs) ≡ list_all h xs
 all_map m g h [] e = refl
 all_map m g h (x ∷ xs) e = rw (e x, all_map m g h xs e) refl
-
-pub find_map : {X Y : Type 0} (m : X → Y) (g : Y → Bool) (h : X → Bool) (xs : List X) → ((x : X) → g (m x) ≡ h x) → find g (map m xs) ≡ option_map m (find h xs)
-find_map m g h [] e = refl
-find_map {X} {Y} m g h (x ∷ xs) e = rw (e x, find_map m g h xs e) (pick (h x) (find h xs))
-  where
-    pick : (t : Bool) (o : Option X) → cond t (Some (m x)) (option_map m o) ≡ option_map m (cond t (Some x) o)
-    pick true o = refl
-    pick false o = refl
 
 module _ (f : Word → Word) (keep : KeepsTexts f) where
   -- ---- types and objects

@@ -4,6 +4,7 @@ use Rattle.std.specs.List.{prefix_len, take_while}
 use Rattle.std.proofs.lemmas.List.{drop-drop}
 use Rattle.std.proofs.lemmas.Bool.{and_parts}
 use Rattle.kp_base.specs.declared.lit.AtomId.{AtomId}
+use Rattle.kp_base.proofs.Parts.{take_while_next}
 use Rattle.kp_grammar.specs.declared.symbol.Symbol.{Symbol}
 use Rattle.kp_grammar.specs.declared.tree.Word.{Word}
 use Rattle.kp_grammar.specs.Trees.{Term, Atom}
@@ -12,13 +13,13 @@ use Rattle.kp_grammar.specs.Sorts.{apply, m_name}
 use Rattle.kp_grammar.specs.Forms.{hits, token, many}
 use Rattle.kp_grammar.specs.Grammar.{fact, fact_body, lit}
 use Rattle.kp_grammar.specs.Reading.{stop, Reads, Stops, r_token, r_both, r_make, r_bracket, s_token, s_first, s_make, s_inside, s_unclosed}
-use Rattle.kp_grammar.proofs.Exact.{go_reads}
+use Rattle.kp_grammar.proofs.Public.{answered_is_read}
 use Rattle.kp_cursor.specs.declared.cursor.Class.TheVariants as classes
 use Rattle.kp_cursor.specs.declared.halt.Halt.{Halt}
 use Rattle.kp_cursor.specs.declared.halt.Halt.TheVariants as halts
 use Rattle.kp_cursor.specs.Lexemes.{word_of, from}
 use Rattle.kp_cursor.specs.Readers.{Opened, Closed, is_of}
-use Rattle.kp_cursor.proofs.Several.{never_bracket, run_reads, taken, words_are}
+use Rattle.kp_cursor.proofs.Public.{class_is_no_bracket, longest_run_reads, words_of_run}
 use Rattle.kp_merges.specs.Grammar.{term_text, name_of}
 use Rattle.kp_merges.specs.Numbers.{Numbers, IsLit}
 use Rattle.kp_merges.specs.Parts.{FactStands, FactStops, IsNumberOf, IsAtom, is_denied, Halts, ReadsAt, HaltsAt}
@@ -33,7 +34,7 @@ next_from ls at n = drop-drop n at ls
 
 no_hit : (us : List (Tok Word)) → first_is is_head us ≡ false → first_is (hits is_head) us ≡ false
 no_hit [] e = refl
-no_hit (t ∷ us) e = never_bracket classes.Head t.symbol ∙ e
+no_hit (t ∷ us) e = class_is_no_bracket classes.Head t.symbol ∙ e
 
 -- no head stands behind the bracket
 pub headless : (ls : List (Tok Word)) (at : ℕ) → Opened (from ls at) (from ls (at + 1)) → false ≡ first_is is_head (from ls (at + 1)) → Stops fact (from ls at) (stop (from ls (at + 1)))
@@ -59,7 +60,7 @@ head_is_name s h = rw h refl
 module _ (ls : List (Tok Word)) (at : ℕ) (run : List (Tok Word)) (is : run ≡ take_while (is_of classes.Name) (drop at ls)) where
   behind_run : (drop (prefix_len (is_of classes.Name) (drop at ls)) (drop at ls)) ≡ from ls (at + length run)
   behind_run =
-      let same = words_are classes.Name ls at run is (λ l. l) (Ok (map (λ l. l) (take_while (is_of classes.Name) (drop at ls)), (drop (prefix_len (is_of classes.Name) (drop at ls)) (drop at ls)))) refl in
+      let same = words_of_run classes.Name ls at run is (λ l. l) (Ok (map (λ l. l) (take_while (is_of classes.Name) (drop at ls)), (drop (prefix_len (is_of classes.Name) (drop at ls)) (drop at ls)))) refl in
       let pairs : ◌≡◌ {A = List (Tok Word) × List (Tok Word)} (map (λ l. l) (take_while (is_of classes.Name) (drop at ls)), (drop (prefix_len (is_of classes.Name) (drop at ls)) (drop at ls))) (map (λ l. l) run, from ls (at + length run)) = cc in
       ap (λ (x : List (Tok Word) × List (Tok Word)). x.1) pairs
 
@@ -68,14 +69,14 @@ module _ (ls : List (Tok Word)) (at : ℕ) (run : List (Tok Word)) (is : run ≡
   body_by l us e h =
       let p = is_of classes.Name in
       let named : is_name l.symbol ≡ true = head_is_name l.symbol h in
-      let front : run ≡ l ∷ take_while p us = is ∙ ap (take_while p) e ∙ taken p l us named in
+      let front : run ≡ l ∷ take_while p us = is ∙ ap (take_while p) e ∙ take_while_next p l us named in
       let more : prefix_len p (l ∷ us) ≡ suc (prefix_len p us) = rw named (omega arith) in
       let left : (drop (prefix_len p us) us) ≡ from ls (at + length run) =
       ap (λ (n : ℕ). drop n (l ∷ us)) (sym more) ∙ ap (λ (vs : List (Tok Word)). (drop (prefix_len p vs) vs)) (sym e) ∙ behind_run in
-      let names = go_reads 0 _ _ (many is_name (token is_name (λ _. m_name))) us (map named_term (take_while p us)) ((drop (prefix_len p us) us)) (run_reads 0 is_name (λ _. m_name) (never_bracket classes.Name) us) in
+      let names = answered_is_read 0 _ _ (many is_name (token is_name (λ _. m_name))) us (map named_term (take_while p us)) ((drop (prefix_len p us) us)) (longest_run_reads 0 is_name (λ _. m_name) (class_is_no_bracket classes.Name) us) in
       record {
         atom = record { head = word_of l; terms = map named_term (take_while p us) };
-        reads = rw (e, sym left) (r_make (r_both (r_token (never_bracket classes.Head l.symbol ∙ h)) names));
+        reads = rw (e, sym left) (r_make (r_both (r_token (class_is_no_bracket classes.Head l.symbol ∙ h)) names));
         named = ap (λ (xs : List (List ℕ)). (word_of l).text ∷ xs) (texts_same (take_while p us)) ∙ ap (map (λ w. (word_of w).text)) (sym front);
       }
 

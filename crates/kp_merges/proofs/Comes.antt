@@ -6,35 +6,12 @@ use Rattle.kp_grammar.specs.Symbols.{Tok, first_is, is_left}
 use Rattle.kp_grammar.specs.Sorts.{Sort, s_pair, El, Maker}
 use Rattle.kp_grammar.specs.Forms.{Form, hits, ◌▹◌, ◌▸◌, many, make, choose, bracket}
 use Rattle.kp_grammar.specs.Reading.{At, Reads, Stops, StopBy, r_both, r_after, r_end, r_more, r_make, r_choice, r_bracket, s_token, s_nothing, s_first, s_second, s_before, s_after, s_here, s_later, s_lacks, s_at, s_next, s_present, s_make, s_none_there, s_choice, s_loose, s_unopened, s_inside, s_unclosed, s_within}
-use Rattle.kp_grammar.proofs.Exact.{fewer, once_read, never_both}
+use Rattle.kp_grammar.proofs.Public.{stops_within, rest_is_no_longer, a_form_reads_once, form_never_both}
 use Rattle.kp_merges.specs.Parts.{Reaches}
-
--- what stops, stops within
-pub stops_within : {b : Bool} {c : Sort} {X : Form b c} {ts : List (Tok Word)} {at : At Word} → StopBy b c X ts at → length at.tokens ≤ length ts
-stops_within (s_token e) = omega arith
-stops_within s_nothing = omega arith
-stops_within (s_first h) = stops_within h
-stops_within (s_second {ts = ts} {mid = mid} h k) = omega (arith, fewer ts mid h, stops_within k)
-stops_within (s_before e) = omega arith
-stops_within (s_after e h) = omega (arith, stops_within h)
-stops_within (s_here e h) = stops_within h
-stops_within (s_later {ts = ts} {mid = mid} e h k) = omega (arith, fewer ts mid h, stops_within k)
-stops_within (s_lacks e h) = omega arith
-stops_within (s_at e h) = stops_within h
-stops_within (s_next {ts = ts} {mid = mid} e h k) = omega (arith, fewer ts mid h, stops_within k)
-stops_within (s_present e h) = stops_within h
-stops_within (s_make h) = stops_within h
-stops_within s_none_there = omega arith
-stops_within (s_choice h) = stops_within h
-stops_within (s_loose h) = stops_within h
-stops_within (s_unopened e) = omega arith
-stops_within (s_inside e h) = omega (arith, stops_within h)
-stops_within (s_unclosed {ts = ts} {rest = rest} e h k) = omega (arith, fewer ts rest h)
-stops_within (s_within h) = stops_within h
 
 -- it comes to its first token
 pub comes_first : {b : Bool} {c : Sort} {X : Form b c} (ts : List (Tok Word)) → Reaches X ts ts
-comes_first ts = record { reads = λ x rest h. fewer ts rest h; stops = λ at h. stops_within h }
+comes_first ts = record { reads = λ x rest h. rest_is_no_longer ts rest h; stops = λ at h. stops_within h }
 
 -- ---- into brackets
 
@@ -64,7 +41,7 @@ behind_token l k = record { reads = λ x rest g. after_reads l k g; stops = λ a
 -- ---- in the first of two forms, or in the second
 
 first_reads : {b d : Bool} {a c : Sort} {X : Form b a} {Y : Form d c} {ts us : List (Tok Word)} {x : El Word (s_pair a c)} {rest : List (Tok Word)} (k : Reaches X ts us) → Reads (X ▹ Y) ts x rest → length rest ≤ length us
-first_reads k (r_both {mid = mid} {rest = rest} h m) = omega (arith, fewer mid rest m, k.reads _ mid h)
+first_reads k (r_both {mid = mid} {rest = rest} h m) = omega (arith, rest_is_no_longer mid rest m, k.reads _ mid h)
 
 first_stops : {b d : Bool} {a c : Sort} {X : Form b a} {Y : Form d c} {ts us : List (Tok Word)} {at : At Word} (k : Reaches X ts us) → Stops (X ▹ Y) ts at → length at.tokens ≤ length us
 first_stops {at = at} k (s_first h) = k.stops at h
@@ -74,11 +51,11 @@ pub in_first_form : {b d : Bool} {a c : Sort} {X : Form b a} {Y : Form d c} {ts 
 in_first_form k = record { reads = λ x rest g. first_reads k g; stops = λ at g. first_stops k g }
 
 second_reads : {b d : Bool} {a c : Sort} {X : Form b a} {Y : Form d c} {ts mid us : List (Tok Word)} {x : El Word a} {y : El Word (s_pair a c)} {rest : List (Tok Word)} (h : Reads X ts x mid) (k : Reaches Y mid us) → Reads (X ▹ Y) ts y rest → length rest ≤ length us
-second_reads {b = b} {a = a} {X = X} {Y = Y} {ts = ts} {mid = mid} {x = x} h k (r_both {mid = other} {rest = rest} {x = z} {y = y} g m) = k.reads y rest (subst (λ (vs : List (Tok Word)). Reads Y vs y rest) (sym (once_read b a X ts mid other x z h g).1) m)
+second_reads {b = b} {a = a} {X = X} {Y = Y} {ts = ts} {mid = mid} {x = x} h k (r_both {mid = other} {rest = rest} {x = z} {y = y} g m) = k.reads y rest (subst (λ (vs : List (Tok Word)). Reads Y vs y rest) (sym (a_form_reads_once b a X ts mid other x z h g).1) m)
 
 second_stops : {b d : Bool} {a c : Sort} {X : Form b a} {Y : Form d c} {ts mid us : List (Tok Word)} {x : El Word a} {at : At Word} (h : Reads X ts x mid) (k : Reaches Y mid us) → Stops (X ▹ Y) ts at → length at.tokens ≤ length us
-second_stops {b = b} {a = a} {X = X} {Y = Y} {ts = ts} {mid = mid} {x = x} {at = at} h k (s_first g) = absurd (never_both b a X ts mid x at h g)
-second_stops {b = b} {a = a} {X = X} {Y = Y} {ts = ts} {mid = mid} {x = x} {at = at} h k (s_second {mid = other} {x = z} g m) = k.stops at (subst (λ (vs : List (Tok Word)). Stops Y vs at) (sym (once_read b a X ts mid other x z h g).1) m)
+second_stops {b = b} {a = a} {X = X} {Y = Y} {ts = ts} {mid = mid} {x = x} {at = at} h k (s_first g) = absurd (form_never_both b a X ts mid x at h g)
+second_stops {b = b} {a = a} {X = X} {Y = Y} {ts = ts} {mid = mid} {x = x} {at = at} h k (s_second {mid = other} {x = z} g m) = k.stops at (subst (λ (vs : List (Tok Word)). Stops Y vs at) (sym (a_form_reads_once b a X ts mid other x z h g).1) m)
 
 pub in_second_form : {b d : Bool} {a c : Sort} {X : Form b a} {Y : Form d c} {ts mid us : List (Tok Word)} {x : El Word a} (h : Reads X ts x mid) (k : Reaches Y mid us) → Reaches (X ▹ Y) ts us
 in_second_form h k = record { reads = λ x rest g. second_reads h k g; stops = λ at g. second_stops h k g }
@@ -87,7 +64,7 @@ in_second_form h k = record { reads = λ x rest g. second_reads h k g; stops = �
 
 here_reads : {c : Sort} {p : Symbol → Bool} {X : Form true c} {ts us : List (Tok Word)} {xs : List (El Word c)} {rest : List (Tok Word)} (l : first_is p ts ≡ true) (k : Reaches X ts us) → Reads (many p X) ts xs rest → length rest ≤ length us
 here_reads l k (r_end e) = absurd (true≢false (sym l ∙ e))
-here_reads l k (r_more {mid = mid} {rest = rest} e h m) = omega (arith, fewer mid rest m, k.reads _ mid h)
+here_reads l k (r_more {mid = mid} {rest = rest} e h m) = omega (arith, rest_is_no_longer mid rest m, k.reads _ mid h)
 
 here_stops : {c : Sort} {p : Symbol → Bool} {X : Form true c} {ts us : List (Tok Word)} {at : At Word} (l : first_is p ts ≡ true) (k : Reaches X ts us) → Stops (many p X) ts at → length at.tokens ≤ length us
 here_stops {at = at} l k (s_here e h) = k.stops at h
@@ -98,11 +75,11 @@ in_next l k = record { reads = λ x rest g. here_reads l k g; stops = λ at g. h
 
 later_reads : {c : Sort} {p : Symbol → Bool} {X : Form true c} {ts mid us : List (Tok Word)} {x : El Word c} {xs : List (El Word c)} {rest : List (Tok Word)} (l : first_is p ts ≡ true) (h : Reads X ts x mid) (k : Reaches (many p X) mid us) → Reads (many p X) ts xs rest → length rest ≤ length us
 later_reads l h k (r_end e) = absurd (true≢false (sym l ∙ e))
-later_reads {c = c} {p = p} {X = X} {ts = ts} {mid = mid} {x = x} l h k (r_more {mid = other} {rest = rest} {x = z} {xs = zs} e g m) = k.reads zs rest (subst (λ (vs : List (Tok Word)). Reads (many p X) vs zs rest) (sym (once_read true c X ts mid other x z h g).1) m)
+later_reads {c = c} {p = p} {X = X} {ts = ts} {mid = mid} {x = x} l h k (r_more {mid = other} {rest = rest} {x = z} {xs = zs} e g m) = k.reads zs rest (subst (λ (vs : List (Tok Word)). Reads (many p X) vs zs rest) (sym (a_form_reads_once true c X ts mid other x z h g).1) m)
 
 later_stops : {c : Sort} {p : Symbol → Bool} {X : Form true c} {ts mid us : List (Tok Word)} {x : El Word c} {at : At Word} (l : first_is p ts ≡ true) (h : Reads X ts x mid) (k : Reaches (many p X) mid us) → Stops (many p X) ts at → length at.tokens ≤ length us
-later_stops {c = c} {p = p} {X = X} {ts = ts} {mid = mid} {x = x} {at = at} l h k (s_here e g) = absurd (never_both true c X ts mid x at h g)
-later_stops {c = c} {p = p} {X = X} {ts = ts} {mid = mid} {x = x} {at = at} l h k (s_later {mid = other} {x = z} e g m) = k.stops at (subst (λ (vs : List (Tok Word)). Stops (many p X) vs at) (sym (once_read true c X ts mid other x z h g).1) m)
+later_stops {c = c} {p = p} {X = X} {ts = ts} {mid = mid} {x = x} {at = at} l h k (s_here e g) = absurd (form_never_both true c X ts mid x at h g)
+later_stops {c = c} {p = p} {X = X} {ts = ts} {mid = mid} {x = x} {at = at} l h k (s_later {mid = other} {x = z} e g m) = k.stops at (subst (λ (vs : List (Tok Word)). Stops (many p X) vs at) (sym (a_form_reads_once true c X ts mid other x z h g).1) m)
 
 pub in_later : {c : Sort} {p : Symbol → Bool} {X : Form true c} {ts mid us : List (Tok Word)} {x : El Word c} (l : first_is p ts ≡ true) (h : Reads X ts x mid) (k : Reaches (many p X) mid us) → Reaches (many p X) ts us
 in_later l h k = record { reads = λ x rest g. later_reads l h k g; stops = λ at g. later_stops l h k g }

@@ -12,8 +12,7 @@ use Rattle.kp_grammar.specs.Sorts.{Sort, El}
 use Rattle.kp_grammar.specs.Forms.{Form, hits, many}
 use Rattle.kp_grammar.specs.Grammar.{fact, lit}
 use Rattle.kp_grammar.specs.Reading.{At, Reads, Stops, r_end, r_more, r_bracket, r_after, r_both}
-use Rattle.kp_grammar.proofs.Exact.{always_one}
-use Rattle.kp_grammar.proofs.Tells.{shrinks}
+use Rattle.kp_grammar.proofs.Public.{form_reads_or_stops, reading_shrinks}
 use Rattle.kp_merges.specs.Grammar.{tag, merge, merges, name_of}
 use Rattle.kp_merges.specs.Numbers.{Numbers, IsLit, IsTag, IsMerge}
 use Rattle.kp_merges.specs.Parts.{is_denied, IsAtom, Walk, Halts}
@@ -49,7 +48,7 @@ module _ (number : Numbers) where
   by_reading ts (inr h) = inr (record { here = h.0.tokens; halts = λ d. fact_halts h.1 })
 
   fact_decided : (ts : List (Tok Word)) → Decided number suc fact (IsAtom number) ts
-  fact_decided ts = by_reading ts (always_one _ _ fact ts)
+  fact_decided ts = by_reading ts (form_reads_or_stops _ _ fact ts)
 
   -- ---- literals
 
@@ -91,7 +90,7 @@ module _ (number : Numbers) where
     ShorterDecided ts = (us : List (Tok Word)) → length us < length ts → ManyDecided us
 
     by_first : (ts : List (Tok Word)) → ShorterDecided ts → first_is is_left ts ≡ true → Decided number depth X Is ts → ManyDecided ts
-    by_first ts shorter l (inl s) = with_one ts l s (shorter s.rest (shrinks s.reads))
+    by_first ts shorter l (inl s) = with_one ts l s (shorter s.rest (reading_shrinks s.reads))
     by_first ts shorter l (inr f) = inr (record { here = f.here; halts = λ n. halts_next l (f.halts n) })
 
     by_test : (ts : List (Tok Word)) → ShorterDecided ts → (v : Bool) → first_is is_left ts ≡ v → ManyDecided ts

@@ -6,7 +6,7 @@ use Rattle.kp_base.specs.declared.lit.Lit.{Lit}
 use Rattle.kp_base.specs.declared.ground.GroundName.{GroundName}
 use Rattle.kp_lex.specs.Bytes.{class_of}
 use Rattle.kp_grammar.specs.Symbols.{symbol_of}
-use Rattle.kp_pieces.proofs.Fine.{named}
+use Rattle.kp_pieces.proofs.Public.{spelled_name_is_token}
 use Rattle.kp_merges.specs.declared.merge.FileMerge.{FileMerge}
 use Rattle.kp_merges.specs.MergesFiles.{IsMergesOf}
 use Rattle.kp_merges.specs.Printed.{CanBeWritten, IsAtomName, merges_text}
@@ -31,11 +31,11 @@ one_merge = record { target = b_is_free; tags = (p_holds ∷ b_is_free ∷ []) �
 
 p_is_name : IsAtomName p
 unfolding symbol_of class_of
-p_is_name = record { head = record { token = named (codes "p") refl; low = refl; head = refl }; objects = tt }
+p_is_name = record { head = record { token = spelled_name_is_token (codes "p") refl; low = refl; head = refl }; objects = tt }
 
 at_b_is_name : IsAtomName at_b
 unfolding symbol_of class_of
-at_b_is_name = record { head = record { token = named (codes "at") refl; low = refl; head = refl }; objects = (record { token = named (codes "b") refl; low = refl }, tt) }
+at_b_is_name = record { head = record { token = spelled_name_is_token (codes "at") refl; low = refl; head = refl }; objects = (record { token = spelled_name_is_token (codes "b") refl; low = refl }, tt) }
 
 can_be_written : CanBeWritten (p ∷ at_b ∷ []) (one_merge ∷ [])
 unfolding IsDistinct

@@ -6,7 +6,7 @@ use Rattle.kp_grammar.specs.Trees.{Atom}
 use Rattle.kp_grammar.specs.Symbols.{Tok}
 use Rattle.kp_grammar.specs.Grammar.{fact}
 use Rattle.kp_grammar.specs.Reading.{At, stop, Reads, StopsWhole, within_form, after_form}
-use Rattle.kp_grammar.proofs.Wholes.{whole_stopped_once}
+use Rattle.kp_grammar.proofs.Public.{whole_stops_once}
 use Rattle.kp_merges.specs.Grammar.{MergeTree, merges, name_of}
 use Rattle.kp_merges.specs.Numbers.{Numbers}
 use Rattle.kp_merges.specs.MergesFiles.{AtomStands, IsRefused, stops, no_ground_atom, IsFirstRefused}
@@ -24,7 +24,7 @@ module _ {number : Numbers} {all : List (Tok Word)} where
   -- the grammar stops
   module _ {at : At Word} {e : ℕ} {near : List (Tok Word)} (h : StopsWhole merges all at) (w : Walk number 0 all e near) (n : length near ≤ suc (length at.tokens)) where
     none_before_stop : (there : List (Tok Word)) → IsRefused number all there → length there ≤ length at.tokens
-    none_before_stop _ (stops other k) = let same : other ≡ at = whole_stopped_once _ _ merges all other at k h in omega (arith, ap (λ (x : At Word). length x.tokens) same)
+    none_before_stop _ (stops other k) = let same : other ≡ at = whole_stops_once _ _ merges all other at k h in omega (arith, ap (λ (x : At Word). length x.tokens) same)
     none_before_stop _ (no_ground_atom there a s none) = omega (arith, n, none_before w s none, has_bracket s.reads)
 
     pub first_by_stop : IsFirstRefused number all at.tokens

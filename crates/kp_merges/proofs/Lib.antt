@@ -1,3 +1,4 @@
+pub mod Public
 mod Comes
 mod Walks
 mod Contexts

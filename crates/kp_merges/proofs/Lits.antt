@@ -11,9 +11,9 @@ use Rattle.kp_grammar.specs.Sorts.{s_lit, s_term, El, m_lit, m_name}
 use Rattle.kp_grammar.specs.Forms.{Form, hits, token, ◌▸◌, many, make, choose, nothing}
 use Rattle.kp_grammar.specs.Grammar.{fact, fact_body, lit, lit_case}
 use Rattle.kp_grammar.specs.Reading.{At, stop, stop_by, Reads, Stops, r_token, r_both, r_after, r_end, r_more, r_make, r_choice, r_bracket, s_token, s_nothing, s_first, s_second, s_here, s_later, s_make, s_none_there, s_choice, s_unopened, s_inside, s_unclosed}
-use Rattle.kp_grammar.proofs.Exact.{once_read, once_stopped, never_both, always_one}
+use Rattle.kp_grammar.proofs.Public.{a_form_reads_once, a_form_stops_once, form_never_both, form_reads_or_stops}
 use Rattle.kp_cursor.specs.declared.cursor.Class.TheVariants as classes
-use Rattle.kp_cursor.proofs.Several.{never_bracket}
+use Rattle.kp_cursor.proofs.Public.{class_is_no_bracket}
 use Rattle.kp_merges.specs.Grammar.{name_of}
 use Rattle.kp_merges.specs.Numbers.{Numbers, IsLit}
 use Rattle.kp_merges.specs.Parts.{is_denied, Walk, arrived, word, closes, opens_inside, Reaches, Halts, stopped, unknown}
@@ -28,7 +28,7 @@ names_walk (r_more e (r_token {t = t} h) k) = let w = is_word is_name t.symbol h
 
 names_never_stop : {ts : List (Tok Word)} {at : At Word} → Stops (many is_name (token is_name (λ _. m_name))) ts at → ⊥
 names_never_stop (s_here {ts = []} e h) = true≢false (sym e)
-names_never_stop (s_here {ts = t ∷ ts} e (s_token f)) = true≢false (sym e ∙ sym (never_bracket classes.Name t.symbol) ∙ f)
+names_never_stop (s_here {ts = t ∷ ts} e (s_token f)) = true≢false (sym e ∙ sym (class_is_no_bracket classes.Name t.symbol) ∙ f)
 names_never_stop (s_later e g h) = names_never_stop h
 
 -- no atom with no number stands here
@@ -44,7 +44,7 @@ module _ {number : Numbers} {d : ℕ} where
   walk_fact {ts} {rest} {a} {n} h e = walk_inside only h where
     only : HasNumbers number ts
     only b others k none =
-        let same : a ≡ b = (once_read _ _ fact ts rest others a b h k).0 in
+        let same : a ≡ b = (a_form_reads_once _ _ fact ts rest others a b h k).0 in
         let both : Some n ≡ None = sym e ∙ ap (λ (x : Atom Word). number (name_of x)) same ∙ none in
         cc
 
@@ -56,15 +56,15 @@ module _ {number : Numbers} {d : ℕ} where
   fact_halts (s_unclosed {t = t} {ts = us} {rest = rest} l (r_make (r_both (r_token {t = h} {ts = vs} e) k)) f) =
       let w = is_word is_head h.symbol e in
       let s : Stops fact (t ∷ h ∷ vs) (stop rest) = s_unclosed l (r_make (r_both (r_token e) k)) f in
-      stopped {at = stop rest} s (opens_inside l (λ b others g none. never_both _ _ fact (t ∷ h ∷ vs) others b (stop rest) g s) (word w.0 w.1 (names_walk k))) (omega arith)
+      stopped {at = stop rest} s (opens_inside l (λ b others g none. form_never_both _ _ fact (t ∷ h ∷ vs) others b (stop rest) g s) (word w.0 w.1 (names_walk k))) (omega arith)
 
   -- an atom without a number is refused behind its bracket
   pub fact_unknown : {ts rest : List (Tok Word)} {a : Atom Word} → Reads fact ts a rest → number (name_of a) ≡ None → Halts number (suc d) fact ts (drop 1 ts)
   fact_unknown {ts} {rest} {a} h none = unknown comes arrived h none where
     comes : Reaches fact ts (drop 1 ts)
     comes = record {
-      reads = λ b others k. let same : rest ≡ others = (once_read _ _ fact ts rest others a b h k).1 in omega (arith, fact_is_long h, ap (λ (us : List (Tok Word)). length us) same);
-      stops = λ at k. absurd (never_both _ _ fact ts rest a at h k);
+      reads = λ b others k. let same : rest ≡ others = (a_form_reads_once _ _ fact ts rest others a b h k).1 in omega (arith, fact_is_long h, ap (λ (us : List (Tok Word)). length us) same);
+      stops = λ at k. absurd (form_never_both _ _ fact ts rest a at h k);
     }
 
 -- ---- literals
@@ -91,7 +91,7 @@ pub data Splits : List (Tok Word) → Lit Word → List (Tok Word) → Type 0 wh
   negated : {t n u : Tok Word} {ts rest : List (Tok Word)} {a : Atom Word} → is_left t.symbol ≡ true → is_not n.symbol ≡ true → Reads fact ts a (u ∷ rest) → is_right u.symbol ≡ true → Splits (t ∷ n ∷ ts) (record { positive = false; atom = a }) rest
 
 no_case : {ts rest : List (Tok Word)} {l : Lit Word} → Reads (nothing {b = true} {c = s_lit} not_lit) ts l rest → ⊥
-no_case {ts} {rest} {l} h = never_both _ _ (nothing {b = true} {c = s_lit} not_lit) ts rest l (stop_by not_lit ts) h s_nothing
+no_case {ts} {rest} {l} h = form_never_both _ _ (nothing {b = true} {c = s_lit} not_lit) ts rest l (stop_by not_lit ts) h s_nothing
 
 by_head : (v : Bool) {t n u : Tok Word} {ts rest : List (Tok Word)} {l : Lit Word} → is_left t.symbol ≡ true → Reads (cond v (make (m_lit true) fact_body) (nothing not_lit)) (n ∷ ts) l (u ∷ rest) → is_right u.symbol ≡ true → Splits (t ∷ n ∷ ts) l rest
 by_head true left (r_make h) right = plain (r_bracket left h right)
@@ -133,7 +133,7 @@ other_stops : {t : Tok Word} (ts : List (Tok Word)) → is_left t.symbol ≡ tru
 other_stops [] left f d = record { there = stop []; stops = s_inside left s_none_there; same = refl }
 other_stops {t} (n ∷ ts) left f d = record {
   there = stop_by not_lit (n ∷ ts);
-  stops = s_inside left (s_choice (subst (λ (X : Form true s_lit). Stops X (n ∷ ts) (stop_by not_lit (n ∷ ts))) (sym (case_of_other n.symbol (sym (never_bracket classes.Head n.symbol) ∙ f) no_not)) s_nothing));
+  stops = s_inside left (s_choice (subst (λ (X : Form true s_lit). Stops X (n ∷ ts) (stop_by not_lit (n ∷ ts))) (sym (case_of_other n.symbol (sym (class_is_no_bracket classes.Head n.symbol) ∙ f) no_not)) s_nothing));
   same = refl;
 } where
   no_not : is_not n.symbol ≡ false
@@ -158,14 +158,14 @@ module _ {ts us : List (Tok Word)} (d : is_denied ts ≡ false) (k : Reaches fac
       absurd (true≢false (sym denied ∙ ap is_denied e ∙ d))
 
   by_stop : (at : At Word) → Stops lit ts at → ((a : Atom Word) × (rest : List (Tok Word)) × Reads fact ts a rest) ⊎ ((there : At Word) × Stops fact ts there) → length at.tokens ≤ length us
-  by_stop at s (inl h) = absurd (never_both _ _ lit ts h.1 _ at (plain_reads h.2) s)
+  by_stop at s (inl h) = absurd (form_never_both _ _ lit ts h.1 _ at (plain_reads h.2) s)
   by_stop at s (inr h) =
       let too = lit_stops d h.1 in
-      let same : too.there ≡ at = once_stopped _ _ lit ts too.there at too.stops s in
+      let same : too.there ≡ at = a_form_stops_once _ _ lit ts too.there at too.stops s in
       omega (arith, k.stops h.0 h.1, ap (λ (us : List (Tok Word)). length us) (sym (ap (λ (x : At Word). x.tokens) same) ∙ too.same))
 
   comes_too : Reaches lit ts us
-  comes_too = record { reads = λ l rest h. by_split refl (lit_splits h); stops = λ at h. by_stop at h (always_one _ _ fact ts) }
+  comes_too = record { reads = λ l rest h. by_split refl (lit_splits h); stops = λ at h. by_stop at h (form_reads_or_stops _ _ fact ts) }
 
 -- ---- where literals are refused first
 

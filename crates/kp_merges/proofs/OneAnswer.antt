@@ -10,12 +10,12 @@ use Rattle.kp_base.specs.LitSet.{set_of}
 use Rattle.kp_lex.specs.declared.token.Token.{Token}
 use Rattle.kp_lex.specs.Cutting.{Cut, BadAt}
 use Rattle.kp_lex.specs.Places.{place_of}
-use Rattle.kp_lex.proofs.Outcomes.{some, never_both, one_cutting, one_bad_byte}
+use Rattle.kp_lex.proofs.Public.{cutting_or_bad_byte, never_cutting_and_bad_byte, one_cutting, one_bad_byte}
 use Rattle.kp_grammar.specs.declared.tree.Word.{Word}
 use Rattle.kp_grammar.specs.Trees.{Lit}
 use Rattle.kp_grammar.specs.Symbols.{Tok, all_seen_in}
 use Rattle.kp_grammar.specs.Reading.{Reads, ReadsWhole}
-use Rattle.kp_grammar.proofs.Wholes.{whole_read_once, whole_never_both}
+use Rattle.kp_grammar.proofs.Public.{whole_reads_once, whole_never_both}
 use Rattle.kp_cursor.specs.Lexemes.{byte_at}
 use Rattle.kp_plans.specs.Names.{number_of}
 use Rattle.kp_merges.specs.declared.merge.FileMerge.{FileMerge}
@@ -58,7 +58,7 @@ module _ (number : Numbers) where
 pub read_once : MergesReadOnce
 read_once atoms text ms others h k =
     let tokens : k.reads.tokens ≡ h.reads.tokens = one_cutting _ _ k.reads.cut h.reads.cut in
-    let trees : h.tree ≡ k.tree = whole_read_once _ _ merges (all_seen_in text h.reads.tokens) h.tree k.tree h.reads.reads (subst (λ (ts : List Token). ReadsWhole merges (all_seen_in text ts) k.tree) tokens k.reads.reads) in
+    let trees : h.tree ≡ k.tree = whole_reads_once _ _ merges (all_seen_in text h.reads.tokens) h.tree k.tree h.reads.reads (subst (λ (ts : List Token). ReadsWhole merges (all_seen_in text ts) k.tree) tokens k.reads.reads) in
     pairs_once (IsMerge (number_of atoms)) (merge_once (number_of atoms)) h.tree ms others h.are (subst (λ (trees : List MergeTree). AllZip (IsMerge (number_of atoms)) trees others) (sym trees) k.are)
 
 -- ---- one refusal
@@ -68,8 +68,8 @@ first_once {here = here} {there = there} h k = one_end (refused_ends h.refused) 
 
 pub refused_once : MergesRefuseOnce
 refused_once atoms text r s (bad_token i h) (bad_token j k) = ap (λ (n : ℕ). refusals.BadToken (place_of parts.Merges text n)) (one_bad_byte i j h k)
-refused_once atoms text r s (bad_token i h) (wrong_token ts here k p) = absurd (never_both ts i k h)
-refused_once atoms text r s (wrong_token ts here h p) (bad_token i k) = absurd (never_both ts i h k)
+refused_once atoms text r s (bad_token i h) (wrong_token ts here k p) = absurd (never_cutting_and_bad_byte ts i k h)
+refused_once atoms text r s (wrong_token ts here h p) (bad_token i k) = absurd (never_cutting_and_bad_byte ts i h k)
 refused_once atoms text r s (wrong_token ts here h p) (wrong_token us there k q) =
     ap (λ (vs : List (Tok Word)). refusals.MergeSyntax (place_of parts.Merges text (byte_at text vs)))
     (first_once p (subst (λ (vs : List Token). IsFirstRefused (number_of atoms) (all_seen_in text vs) there) (one_cutting _ _ k h) q))
@@ -81,7 +81,7 @@ none_refused number all tree ms _ h are (stops at k) = whole_never_both _ _ merg
 none_refused number all tree ms _ h are (no_ground_atom here a s none) = absurd (omega (arith, none_before (walk_merges ms are h) s none, has_bracket s.reads))
 
 pub never_two : MergesNeverBoth
-never_two atoms text ms r h (bad_token i k) = never_both h.reads.tokens i h.reads.cut k
+never_two atoms text ms r h (bad_token i k) = never_cutting_and_bad_byte h.reads.tokens i h.reads.cut k
 never_two atoms text ms r h (wrong_token ts here k p) =
     none_refused (number_of atoms) (all_seen_in text ts) h.tree ms here (subst (λ (us : List Token). ReadsWhole merges (all_seen_in text us) h.tree) (one_cutting _ _ h.reads.cut k) h.reads.reads) h.are p.refused
 
@@ -104,4 +104,4 @@ by_cutting atoms text (inl h) = by_tokens atoms text h.0 h.1 (merges_decided (nu
 by_cutting atoms text (inr h) = inr (_, bad_token h.0 h.1)
 
 pub always_some : MergesAlwaysOne
-always_some atoms text = by_cutting atoms text (some text)
+always_some atoms text = by_cutting atoms text (cutting_or_bad_byte text)

@@ -21,19 +21,17 @@ use Rattle.kp_grammar.specs.Grammar.{fact, lit}
 use Rattle.kp_grammar.specs.Reading.{Reads, r_token, r_both, r_after, r_end, r_more, r_make, r_bracket}
 use Rattle.kp_grammar.specs.Words.{IsName, IsHead}
 use Rattle.kp_cursor.specs.declared.cursor.Class.TheVariants as classes
-use Rattle.kp_cursor.proofs.Several.{never_bracket}
+use Rattle.kp_cursor.proofs.Public.{class_is_no_bracket}
+use Rattle.kp_base.proofs.Lists.{same-true, same-refl}
 use Rattle.kp_meaning.specs.Names.{same, all_same}
 use Rattle.kp_meaning.specs.Places.{term_map, atom_map, lit_map}
-use Rattle.kp_meaning.proofs.Lists.{same-true, same-refl, all_same-true, all_same-refl}
+use Rattle.kp_meaning.proofs.Public.{all_same_names-true, all_same_names-refl}
 use Rattle.kp_pieces.specs.Pieces.{Piece, right, spelling, Put, each, spaced, name, line_feed}
 use Rattle.kp_pieces.specs.Tokens.{text_of as word_text, words, Fine, done, lefts, rights, blanks, says}
 use Rattle.kp_pieces.specs.Maps.{without_places}
-use Rattle.kp_pieces.proofs.Applied.{◌$◌}
-use Rattle.kp_pieces.proofs.Fine.{Keeps, said, fine_each}
-use Rattle.kp_pieces.proofs.Reading.{Gives, many_reads}
-use Rattle.kp_pieces.proofs.Texts.{pieces_read}
+use Rattle.kp_pieces.proofs.Public.{◌$◌, KeepsFine, name_in_front_is_fine, each_keeps_fine, PiecesGive, many_pieces_read, pieces_read_as_their_words}
 use Rattle.kp_plans.specs.Names.{same_name, number_of}
-use Rattle.kp_plans.proofs.Lines.{name_hits, name_is}
+use Rattle.kp_plans.proofs.Public.{name_word_is_hit, name_word_is_name}
 use Rattle.kp_merges.specs.declared.merge.FileMerge.{FileMerge}
 use Rattle.kp_merges.specs.Grammar.{MergeTree, tag, merge, merges, term_text, name_of}
 use Rattle.kp_merges.specs.Numbers.{IsLit, IsTag, IsMerge}
@@ -45,12 +43,12 @@ use Rattle.kp_merges.proofs.Lits.{plain_reads, negated_reads}
 -- ---- names by number
 
 same_name-refl : (n : GroundName) → same_name n n ≡ true
-same_name-refl n = and_from (same n.head n.head) (all_same n.objects n.objects) (same-refl n.head) (all_same-refl n.objects)
+same_name-refl n = and_from (same n.head n.head) (all_same n.objects n.objects) (same-refl n.head) (all_same_names-refl n.objects)
 
 same_name-true : (n m : GroundName) → same_name n m ≡ true → n ≡ m
 same_name-true n m e =
     let p = and_parts (same n.head m.head) (all_same n.objects m.objects) e in
-    ap (λ (x : List ℕ). record { head = x; objects = n.objects }) (same-true n.head m.head p.0) ∙ ap (λ (xs : List (List ℕ)). record { head = m.head; objects = xs }) (all_same-true n.objects m.objects p.1)
+    ap (λ (x : List ℕ). record { head = x; objects = n.objects }) (same-true n.head m.head p.0) ∙ ap (λ (xs : List (List ℕ)). record { head = m.head; objects = xs }) (all_same_names-true n.objects m.objects p.1)
 
 -- the name of an atom by its number
 record IsNamed (atoms : List GroundName) (i : ℕ) : Type 0 where
@@ -98,15 +96,15 @@ unfolding class_of
 fine_objects [] all f = rights f
 fine_objects (o ∷ os) {rest} all f = blanks refl (says all.0.token all.0.low (ends_objects os rest) (fine_objects os all.1 f))
 
-fine_name : (n : GroundName) → IsAtomName n → Keeps (name_put n)
+fine_name : (n : GroundName) → IsAtomName n → KeepsFine (name_put n)
 fine_name n h = record { keeps = λ {rest} f. lefts $ says h.head.token h.head.low (ends_objects n.objects rest) $ fine_objects n.objects h.objects f }
 
-fine_signed : (b : Bool) (n : GroundName) → IsAtomName n → Keeps (signed_put b (name_put n))
+fine_signed : (b : Bool) (n : GroundName) → IsAtomName n → KeepsFine (signed_put b (name_put n))
 unfolding class_of
 fine_signed true n h = fine_name n h
-fine_signed false n h = record { keeps = λ f. lefts $ said refl refl refl $ blanks refl $ (fine_name n h).keeps $ rights f }
+fine_signed false n h = record { keeps = λ f. lefts $ name_in_front_is_fine refl refl refl $ blanks refl $ (fine_name n h).keeps $ rights f }
 
-fine_spaced : {T : Type 0} (f : T → Put) (x : T) → Keeps (f x) → Keeps (spaced f x)
+fine_spaced : {T : Type 0} (f : T → Put) (x : T) → KeepsFine (f x) → KeepsFine (spaced f x)
 unfolding class_of
 fine_spaced f x h = record { keeps = λ g. blanks refl (h.keeps g) }
 
@@ -114,19 +112,19 @@ module _ (atoms : List GroundName) (names : AllByRecursion IsAtomName atoms) whe
   name_at : (l : Literal) → IsLitOn atoms l → IsNamed atoms l.atom.0
   name_at l h = named atoms names l.atom.0 h.below
 
-  fine_lit : (l : Literal) → IsLitOn atoms l → Keeps (lit_put atoms l)
-  fine_lit l h = let n = name_at l h in subst (λ (o : Option GroundName). Keeps (signed_put l.positive (atom_put o))) (sym n.at) (fine_signed l.positive n.name n.good)
+  fine_lit : (l : Literal) → IsLitOn atoms l → KeepsFine (lit_put atoms l)
+  fine_lit l h = let n = name_at l h in subst (λ (o : Option GroundName). KeepsFine (signed_put l.positive (atom_put o))) (sym n.at) (fine_signed l.positive n.name n.good)
 
-  fine_joined : (ls : List Literal) → AllByRecursion (IsLitOn atoms) ls → Keeps (joined (lit_put atoms) ls)
+  fine_joined : (ls : List Literal) → AllByRecursion (IsLitOn atoms) ls → KeepsFine (joined (lit_put atoms) ls)
   fine_joined [] h = record { keeps = λ f. f }
-  fine_joined (l ∷ ls) h = record { keeps = λ f. (fine_lit l h.0).keeps $ (fine_each (spaced (lit_put atoms)) (IsLitOn atoms) (λ x p. fine_spaced (lit_put atoms) x (fine_lit x p)) ls h.1).keeps f }
+  fine_joined (l ∷ ls) h = record { keeps = λ f. (fine_lit l h.0).keeps $ (each_keeps_fine (spaced (lit_put atoms)) (IsLitOn atoms) (λ x p. fine_spaced (lit_put atoms) x (fine_lit x p)) ls h.1).keeps f }
 
-  fine_tag : (t : List Literal) → IsTagOn atoms t → Keeps (tag_put atoms t)
+  fine_tag : (t : List Literal) → IsTagOn atoms t → KeepsFine (tag_put atoms t)
   fine_tag t h = record { keeps = λ f. lefts $ (fine_joined t h.lits).keeps $ rights f }
 
-  fine_line : (m : FileMerge) → IsMergeOn atoms m → Keeps (merge_line atoms m)
+  fine_line : (m : FileMerge) → IsMergeOn atoms m → KeepsFine (merge_line atoms m)
   unfolding class_of
-  fine_line m h = record { keeps = λ f. lefts $ said refl refl refl $ blanks refl $ (fine_lit m.target h.target).keeps $ (fine_each (spaced (tag_put atoms)) (IsTagOn atoms) (λ x p. fine_spaced (tag_put atoms) x (fine_tag x p)) m.tags h.tags).keeps $ rights $ blanks refl f }
+  fine_line m h = record { keeps = λ f. lefts $ name_in_front_is_fine refl refl refl $ blanks refl $ (fine_lit m.target h.target).keeps $ (each_keeps_fine (spaced (tag_put atoms)) (IsTagOn atoms) (λ x p. fine_spaced (tag_put atoms) x (fine_tag x p)) m.tags h.tags).keeps $ rights $ blanks refl f }
 
 -- ---- they read as merges
 
@@ -145,16 +143,16 @@ abbrev merge_tree : List GroundName → FileMerge → Lit (List ℕ) × List (Li
 merge_tree atoms m = (lit_tree atoms m.target, map (map (lit_tree atoms)) m.tags)
 
 head_hits : (w : List ℕ) → IsHead w → hits is_head (symbol_of kinds.Name w) ≡ true
-head_hits w h = never_bracket classes.Head (symbol_of kinds.Name w) ∙ h.head
+head_hits w h = class_is_no_bracket classes.Head (symbol_of kinds.Name w) ∙ h.head
 
 objects_read : (os : List (List ℕ)) (rest : List Piece) → Reads (many is_name (token is_name (λ _. m_name))) (words (each (spaced name) os (right ∷ rest))) (map (λ o. Term.name o) os) (words (right ∷ rest))
 objects_read [] rest = r_end refl
-objects_read (o ∷ os) rest = r_more (name_is o) (r_token (name_hits o)) (objects_read os rest)
+objects_read (o ∷ os) rest = r_more (name_word_is_name o) (r_token (name_word_is_hit o)) (objects_read os rest)
 
-fact_reads : (n : GroundName) → IsAtomName n → Gives fact (name_put n) (atom_tree n)
+fact_reads : (n : GroundName) → IsAtomName n → PiecesGive fact (name_put n) (atom_tree n)
 fact_reads n h rest = r_bracket refl (r_make (r_both (r_token (head_hits n.head h.head)) (objects_read n.objects rest))) refl
 
-signed_reads : (b : Bool) (n : GroundName) → IsAtomName n → Gives lit (signed_put b (name_put n)) (record { positive = b; atom = atom_tree n })
+signed_reads : (b : Bool) (n : GroundName) → IsAtomName n → PiecesGive lit (signed_put b (name_put n)) (record { positive = b; atom = atom_tree n })
 unfolding symbol_of
 signed_reads true n h rest = plain_reads (fact_reads n h rest)
 signed_reads false n h rest = negated_reads refl refl (fact_reads n h (right ∷ rest)) refl
@@ -165,28 +163,28 @@ signed_begins true (Some n) rest = refl
 signed_begins false o rest = refl
 
 module _ (atoms : List GroundName) (names : AllByRecursion IsAtomName atoms) where
-  lit_reads : (l : Literal) → IsLitOn atoms l → Gives lit (lit_put atoms l) (lit_tree atoms l)
+  lit_reads : (l : Literal) → IsLitOn atoms l → PiecesGive lit (lit_put atoms l) (lit_tree atoms l)
   lit_reads l h =
       let n = name_at atoms names l h in
-      subst (λ (o : Option GroundName). Gives lit (signed_put l.positive (atom_put o)) (record { positive = l.positive; atom = tree_at o })) (sym n.at) (signed_reads l.positive n.name n.good)
+      subst (λ (o : Option GroundName). PiecesGive lit (signed_put l.positive (atom_put o)) (record { positive = l.positive; atom = tree_at o })) (sym n.at) (signed_reads l.positive n.name n.good)
 
   lits_read : (ls : List Literal) (rest : List Piece) → AllByRecursion (IsLitOn atoms) ls → Reads (many is_left lit) (words (each (spaced (lit_put atoms)) ls (right ∷ rest))) (map (lit_tree atoms) ls) (words (right ∷ rest))
-  lits_read ls rest h = many_reads is_left lit (spaced (lit_put atoms)) (lit_tree atoms) (IsLitOn atoms) (λ l p rest. lit_reads l p rest) (λ l rest. signed_begins l.positive (slice_get atoms l.atom.0) rest) ls (right ∷ rest) h refl
+  lits_read ls rest h = many_pieces_read is_left lit (spaced (lit_put atoms)) (lit_tree atoms) (IsLitOn atoms) (λ l p rest. lit_reads l p rest) (λ l rest. signed_begins l.positive (slice_get atoms l.atom.0) rest) ls (right ∷ rest) h refl
 
   joined_reads : (ls : List Literal) (rest : List Piece) → AllByRecursion (IsLitOn atoms) ls → Reads (many is_left lit) (words (joined (lit_put atoms) ls (right ∷ rest))) (map (lit_tree atoms) ls) (words (right ∷ rest))
   joined_reads [] rest h = r_end refl
   joined_reads (l ∷ ls) rest h = lits_read (l ∷ ls) rest h
 
-  tag_reads : (t : List Literal) → IsTagOn atoms t → Gives tag (tag_put atoms t) (map (lit_tree atoms) t)
+  tag_reads : (t : List Literal) → IsTagOn atoms t → PiecesGive tag (tag_put atoms t) (map (lit_tree atoms) t)
   tag_reads t h rest = r_bracket refl (joined_reads t rest h.lits) refl
 
-  merge_reads : (m : FileMerge) → IsMergeOn atoms m → Gives merge (merge_line atoms m) (merge_tree atoms m)
+  merge_reads : (m : FileMerge) → IsMergeOn atoms m → PiecesGive merge (merge_line atoms m) (merge_tree atoms m)
   unfolding symbol_of
   merge_reads m h rest =
       r_bracket refl
       (r_after refl
       (r_both (lit_reads m.target h.target (each (spaced (tag_put atoms)) m.tags (right ∷ line_feed rest)))
-      (many_reads is_left tag (spaced (tag_put atoms)) (map (lit_tree atoms)) (IsTagOn atoms) (λ t p rest. tag_reads t p rest) (λ t rest. refl) m.tags (right ∷ line_feed rest) h.tags refl)))
+      (many_pieces_read is_left tag (spaced (tag_put atoms)) (map (lit_tree atoms)) (IsTagOn atoms) (λ t p rest. tag_reads t p rest) (λ t rest. refl) m.tags (right ∷ line_feed rest) h.tags refl)))
       refl
 
 -- ---- and so the text does
@@ -250,9 +248,9 @@ module _ (atoms : List GroundName) (ms : List FileMerge) (h : CanBeWritten atoms
 
   reads_back : IsMergesOf atoms (merges_text atoms ms) ms
   reads_back =
-      let fine = (fine_each (merge_line atoms) (IsMergeOn atoms) (fine_line atoms h.names) ms h.merges).keeps done in
-      let reads = many_reads is_left merge (merge_line atoms) (merge_tree atoms) (IsMergeOn atoms) (λ m p rest. merge_reads atoms h.names m p rest) (λ m rest. refl) ms [] h.merges refl in
-      let r = pieces_read _ _ merges (merges_pieces atoms ms) (map (merge_tree atoms) ms) fine reads in
+      let fine = (each_keeps_fine (merge_line atoms) (IsMergeOn atoms) (fine_line atoms h.names) ms h.merges).keeps done in
+      let reads = many_pieces_read is_left merge (merge_line atoms) (merge_tree atoms) (IsMergeOn atoms) (λ m p rest. merge_reads atoms h.names m p rest) (λ m rest. refl) ms [] h.merges refl in
+      let r = pieces_read_as_their_words _ _ merges (merges_pieces atoms ms) (map (merge_tree atoms) ms) fine reads in
       record {
         tree = r.tree;
         are = zip_from (IsMerge (number_of atoms)) (IsMergeOn atoms) (without_places (s_pair s_lit (s_list (s_list s_lit)))) (merge_tree atoms) merge_is r.tree ms h.merges r.is;

@@ -10,9 +10,9 @@ use Rattle.kp_grammar.specs.Grammar.{fact}
 use Rattle.kp_grammar.specs.Reading.{Reads, r_token, r_both, r_make, r_bracket}
 use Rattle.std.proofs.lemmas.List.{length-append}
 use Rattle.std.proofs.lemmas.List.Sums.{sum_by-cons}
-use Rattle.kp_grammar.proofs.Exact.{fewer}
+use Rattle.kp_grammar.proofs.Public.{rest_is_no_longer}
 use Rattle.kp_cursor.specs.declared.cursor.Class.TheVariants as classes
-use Rattle.kp_cursor.proofs.Several.{never_bracket}
+use Rattle.kp_cursor.proofs.Public.{class_is_no_bracket}
 use Rattle.kp_merges.specs.Grammar.{name_of}
 use Rattle.kp_merges.specs.Numbers.{Numbers}
 use Rattle.kp_merges.specs.MergesFiles.{opened, closed}
@@ -56,14 +56,14 @@ pub fact_opens : {t : Tok Word} {ts rest : List (Tok Word)} {a : Atom Word} → 
 fact_opens (r_bracket l h r) = l
 
 pub is_a_head : (s : Symbol) → hits is_head s ≡ true → is_head s ≡ true
-is_a_head s e = sym (never_bracket classes.Head s) ∙ e
+is_a_head s e = sym (class_is_no_bracket classes.Head s) ∙ e
 
 fact_has_head : {t : Tok Word} {ts rest : List (Tok Word)} {a : Atom Word} → Reads fact (t ∷ ts) a rest → first_is is_head ts ≡ true
 fact_has_head (r_bracket l (r_make (r_both (r_token {t = n} e) k)) r) = is_a_head n.symbol e
 
 -- behind an atom there is less than behind its bracket
 pub fact_is_long : {ts rest : List (Tok Word)} {a : Atom Word} → Reads fact ts a rest → suc (length rest) ≤ length (drop 1 ts)
-fact_is_long (r_bracket {u = u} {ts = ts} {rest = rest} l h r) = omega (arith, fewer ts (u ∷ rest) h)
+fact_is_long (r_bracket {u = u} {ts = ts} {rest = rest} l h r) = omega (arith, rest_is_no_longer ts (u ∷ rest) h)
 
 pub has_bracket : {ts rest : List (Tok Word)} {a : Atom Word} → Reads fact ts a rest → length ts ≡ suc (length (drop 1 ts))
 has_bracket (r_bracket l h r) = refl

@@ -15,7 +15,7 @@ use Rattle.kp_grammar.specs.Symbols.{Tok, seen_in, all_seen_in}
 use Rattle.kp_cursor.specs.declared.halt.Halt.{Halt}
 use Rattle.kp_cursor.specs.declared.halt.Halt.TheVariants as halts
 use Rattle.kp_cursor.specs.Lexemes.{from, lexed}
-use Rattle.kp_cursor.proofs.Ascii.{all_lexed}
+use Rattle.kp_cursor.proofs.Public.{lexed_as_seen}
 use Rattle.kp_plans.specs.Names.{number_of}
 use Rattle.kp_plans.specs.Tables.{IsTableOf}
 use Rattle.kp_merges.specs.declared.merge.FileMerge.{FileMerge}
@@ -27,7 +27,7 @@ use Rattle.kp_merges.specs.Parts.{AreMergesOf, AnswersTokens, AnswersCut, IsTold
 
 module _ (number : Numbers) (text lower : List ℕ) (ts : List Token) (ls : List (Tok Word)) (e : lower ≡ str_to_ascii_lowercase text) (read : ls ≡ map (lexed lower) ts) where
   seen : ls ≡ all_seen_in text ts
-  seen = read ∙ all_lexed text lower ts e
+  seen = read ∙ lexed_as_seen text lower ts e
 
   from_is : (i : ℕ) → from ls i ≡ all_seen_in text (drop i ts)
   from_is i = ap (drop i) seen ∙ drop-map (seen_in text) i ts

@@ -17,15 +17,14 @@ use Rattle.kp_base.proofs.Lists.{all_member, all_from, any_from, append_member, 
 use Rattle.kp_base.proofs.Once.{all_each_once}
 use Rattle.kp_base.proofs.Sets.{all-set_of}
 use Rattle.kp_sets.specs.Subsets.{subsets}
-use Rattle.kp_sets.proofs.Sublists.{subset_member}
+use Rattle.kp_sets.proofs.Public.{subset_member}
 use Rattle.kp_cover.specs.Valid.{AreValidTags}
-use Rattle.kp_cover.proofs.Taking.{tags_valid, tags_consistent}
+use Rattle.kp_cover.proofs.Public.{tags_of_clauses_are_valid, tags_of_clauses_are_consistent, target_is_below}
 use Rattle.kp_merges.specs.declared.merge.FileMerge.{FileMerge}
 use Rattle.kp_modes.specs.declared.way.Way.{Way}
 use Rattle.kp_modes.specs.Assignments.{AreAssignments}
 use Rattle.kp_modes.specs.Modes.{IsFirstCovering, AreOneForEach, AreOtherwise, AreMergesBy, merge_of, AreMergesInTurn, AreMergesOf}
 use Rattle.kp_modes.specs.Laws.{IsGoodMerge, MergesOfModesAreGood}
-use Rattle.kp_cover.proofs.Deciding.{target_below}
 
 -- ---- the tags of clauses
 
@@ -49,8 +48,8 @@ choice_below n (c ∷ cs) h ls m =
 
 cov_good : (n : ℕ) (i : Initial) (cs tags : List (List Lit)) → AreFine n i cs → IsCov i cs tags → IsGood n i tags
 cov_good n i cs tags fine is = record {
-  consistent = tags_consistent i cs tags is;
-  valid = tags_valid i cs tags is fine.hold;
+  consistent = tags_of_clauses_are_consistent i cs tags is;
+  valid = tags_of_clauses_are_valid i cs tags is fine.hold;
   below =
       ap (list_all (are_below n)) is.are
       ∙ all_each_once same_set (are_below n) (filter is.test (map set_of (choices cs)))
@@ -141,7 +140,7 @@ module _ (way : Way) (limit : ℕ) (g : Ground) (i : Initial) (of : IsOfItsAtoms
     | inl a ↦
         let q = map_member (merge_of t) lists m a in
         let is = targets t (inl refl) in
-        let good = lists_good g i of t (target_below g of t is) here.clauses here.are_clauses way limit lists here.by_clauses q.0 q.1 in
+        let good = lists_good g i of t (target_is_below g of t is) here.clauses here.are_clauses way limit lists here.by_clauses q.0 q.1 in
         subst (IsGoodMerge g i) q.2 (record { target = is; consistent = good.consistent; valid = good.valid; of_atoms = good.below })
     | inr b ↦ turns_good ts ms (λ u j. targets u (inr j)) rest m b
   ]

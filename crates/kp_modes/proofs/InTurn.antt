@@ -22,7 +22,7 @@ use Rattle.kp_modes.specs.declared.way.Way.{Way}
 use Rattle.kp_modes.specs.Modes.{way_of, merge_of, AreMergesFor, AreMergesInTurn, AreMergesOf}
 use Rattle.kp_modes.specs.Answers.{RefusesFirst, RefusesMode, AnswersMode}
 use Rattle.kp_modes.proofs.Behind.{next_is}
-use Rattle.kp_cover.proofs.Deciding.{target_below}
+use Rattle.kp_cover.proofs.Public.{target_is_below}
 use Rattle.kp_modes.specs.Added.{Adds, AddsOrRefuses, AreByRelevance, IsRefusedByRelevance}
 
 -- no mode tries sets of more than three clauses
@@ -59,7 +59,7 @@ take_all (x ∷ xs) (suc k) le = ap (λ z. x ∷ z) (take_all xs k (omega (arith
 pub place_below : (g : Ground) (all ts : List Lit) (k n : ℕ) (d : Lit) → IsOfItsAtoms g → AreTargets g all → ts ≡ all → length g.atoms ≡ n → k < length ts → (get_or ts k d).atom.0 < n
 place_below g all ts k n d of are same atoms lt =
     let m = subst (λ (us : List Lit). Member us (get_or ts k d)) same (member_get ts k d lt) in
-    subst (λ (m : ℕ). (get_or ts k d).atom.0 < m) atoms (target_below g of (get_or ts k d) ((are.exact (get_or ts k d)).0 m))
+    subst (λ (m : ℕ). (get_or ts k d).atom.0 < m) atoms (target_is_below g of (get_or ts k d) ((are.exact (get_or ts k d)).0 m))
 
 module _ (way : Way) (limit : ℕ) (g : Ground) (i : Initial) where
   one-more : (ts : List Lit) (ms : List FileMerge) (t : Lit) (lists : List (List (List Lit))) → AreMergesInTurn way limit g i ts ms → AreMergesFor way limit g i t lists → AreMergesInTurn way limit g i (ts ++ t ∷ []) (ms ++ map (merge_of t) lists)

@@ -1,3 +1,4 @@
+pub mod Public
 pub mod Behind
 pub mod Below
 pub mod ByModels

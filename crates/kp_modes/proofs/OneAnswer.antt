@@ -13,9 +13,9 @@ use Rattle.kp_base.specs.Covering.{IsCov, AllMeet}
 use Rattle.kp_base.proofs.Lists.{member_map, map_member, member_contains, contains_member}
 use Rattle.kp_base.proofs.Ascending.{same_members}
 use Rattle.kp_sets.specs.Subsets.{subsets, choose}
-use Rattle.kp_relevance.proofs.Ordered.{one_clauses_for}
+use Rattle.kp_relevance.proofs.Public.{one_clauses_for}
 use Rattle.kp_cover.specs.Targets.{AreTargets}
-use Rattle.kp_cover.proofs.Taking.{one_cov}
+use Rattle.kp_cover.proofs.Public.{cov_once}
 use Rattle.kp_merges.specs.declared.merge.FileMerge.{FileMerge}
 use Rattle.kp_modes.specs.declared.way.Way.{Way}
 use Rattle.kp_modes.specs.Assignments.{AreAtomsOf}
@@ -37,7 +37,7 @@ which (suc a) (suc b) = elim (which a b) [
 -- ---- one list of tags
 
 one_tags : (i : Initial) (cs a b : List (List Lit)) → IsCov i cs a → IsCov i cs b → a ≡ b
-one_tags i cs a b = one_cov i i cs a b (λ s. refl)
+one_tags i cs a b = cov_once i i cs a b (λ s. refl)
 
 as_numbers : (ps : List ℕ) → map (λ (l : Lit). l.atom.0) (map positive ps) ≡ ps
 as_numbers [] = refl

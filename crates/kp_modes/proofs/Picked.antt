@@ -8,7 +8,7 @@ use Rattle.kp_base.specs.declared.ground.Initial.{Initial}
 use Rattle.kp_base.specs.Lists.{Member}
 use Rattle.kp_base.proofs.Lists.{map_map, map_member}
 use Rattle.kp_sets.specs.Subsets.{subsets, place_sets, first_that}
-use Rattle.kp_sets.proofs.Sublists.{first_none}
+use Rattle.kp_sets.proofs.Public.{first_none}
 use Rattle.kp_cover.specs.Covering.{pick}
 use Rattle.kp_modes.specs.Modes.{IsCovering, IsFirstCovering}
 

@@ -9,9 +9,9 @@ use Rattle.kp_base.specs.LitSet.{same_set}
 use Rattle.kp_base.specs.Covering.{AllMeet}
 use Rattle.kp_sets.specs.Subsets.{subsets, choose, place_sets}
 use Rattle.kp_sets.specs.Sizes as sizes
-use Rattle.kp_sets.proofs.Sublists.{subsets_are, first_some}
+use Rattle.kp_sets.proofs.Public.{subsets_are, first_some}
 use Rattle.kp_primes.specs.Held.{Held, formula, AreWhole}
-use Rattle.kp_primes.proofs.Questions.{consistent_exact}
+use Rattle.kp_primes.proofs.Public.{consistent_exact}
 use Rattle.kp_cover.specs.Covering.{pick}
 use Rattle.kp_cover.specs.Grown.{is_fine}
 use Rattle.kp_cover.specs.Tested.{tells_cover}

@@ -4,7 +4,7 @@ use Rattle.kp_base.specs.Lists.{Member}
 use Rattle.kp_lex.specs.declared.token.Token.{Token}
 use Rattle.kp_lex.specs.Cutting.{Cut}
 use Rattle.kp_lex.specs.Spans.{IsTokenOf}
-use Rattle.kp_lex.proofs.Spans.{each_token}
+use Rattle.kp_lex.proofs.Public.{each_span_is_a_token}
 use Rattle.kp_grammar.specs.declared.tree.Word.{Word}
 use Rattle.kp_grammar.specs.Trees.{Domain, Problem}
 use Rattle.kp_grammar.specs.Symbols.{all_seen_in}
@@ -22,7 +22,7 @@ tokens_from text (t ∷ ts) h = ((let it = h zero t refl in let some = it.not_em
 
 -- each token of a text begins within it
 tokens_early : {text : List ℕ} (ts : List Token) → Cut 0 text ts → OfTokens (Early (length text)) (all_seen_in text ts)
-tokens_early {text} ts h = tokens_from text ts (λ i t e. each_token ts i t h e)
+tokens_early {text} ts h = tokens_from text ts (λ i t e. each_span_is_a_token ts i t h e)
 
 member_early : (n : ℕ) (fs : List Fault) (f : Fault) → AreEarly n fs → Member fs f → byte_of f ≤ n
 member_early n [] f h m = absurd m

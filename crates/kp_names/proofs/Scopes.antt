@@ -12,7 +12,7 @@ use Rattle.kp_meaning.specs.Types.{declared}
 use Rattle.kp_meaning.specs.Faults.{Fault, unknown_name, declared_twice, repeated, inside, variable_faults, head_faults, predicate_of, term_faults, atom_faults, cond_faults, conds_faults, eff_faults, effs_faults, schema_faults}
 use Rattle.kp_names.specs.Noted.{noted, sooner}
 use Rattle.kp_tables.specs.Steps.{with_name}
-use Rattle.kp_tables.proofs.Gathering.{among_with, among_gathered, gathers}
+use Rattle.kp_tables.proofs.Public.{among_one_more, among_gathered, gathered_behind}
 
 -- the same names, in whichever order
 pub record Alike (xs ys : List Name) : Type 0 where
@@ -30,7 +30,7 @@ repeated_alike xs ys (w ∷ ws) h =
 
 -- a name is put behind the others, or in front of them
 repeated_with : (xs : List Name) (x : Name) (ws : List Word) → repeated (with_name xs x) ws ≡ repeated (x ∷ xs) ws
-repeated_with xs x ws = repeated_alike (with_name xs x) (x ∷ xs) ws (record { each = λ y. among_with xs x y ∙ or_comm (is_among xs y) (same y x) })
+repeated_with xs x ws = repeated_alike (with_name xs x) (x ∷ xs) ws (record { each = λ y. among_one_more xs x y ∙ or_comm (is_among xs y) (same y x) })
 
 -- one word is judged, and then the others
 pub noted_repeat : (o : Option Fault) (xs : List Name) (w : Word) (ws : List Word)
@@ -110,4 +110,4 @@ module _ (d : Domain Word) (p : Problem Word) where
 
 -- the names that were there stand first
 pub take_first : (s vs : List Name) → take (length s) (fold with_name s vs) ≡ s
-take_first s vs = ap (take (length s)) (gathers s vs) ∙ take-append_seam s (filter (λ y. not (is_among s y)) (distinct vs))
+take_first s vs = ap (take (length s)) (gathered_behind s vs) ∙ take-append_seam s (filter (λ y. not (is_among s y)) (distinct vs))

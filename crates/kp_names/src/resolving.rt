@@ -26,7 +26,14 @@ pub fn resolve(
     ensures { AnswersNames bytes.now.domain bytes.now.problem (domain_view domain.now) (problem_view problem.now) result }
 {
     let names = Names::collect(alloc, domain, problem)?;
-    judge(alloc, bytes, &names)?;
-    let lifted = by_number(alloc, bytes, names)?;
-    Ok(lifted)
+    match judge(alloc, bytes, &names) {
+        Ok(()) => {
+            let lifted = by_number(alloc, bytes, names)?;
+            Ok(lifted)
+        }
+        Err(stop) => {
+            drop(names);
+            Err(stop)
+        }
+    }
 }

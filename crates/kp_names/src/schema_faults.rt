@@ -1,4 +1,4 @@
-ghost use Rattle.std.specs.Prelude.{◌≡◌, fold, map, OnOk};
+ghost use Rattle.std.specs.Prelude.{◌≡◌, [], fold, map, OnOk};
 ghost use Rattle.std.specs.List.{flat_map};
 ghost use Rattle.kp_grammar.specs.View.{eff_view, schema_view, typed_view};
 ghost use Rattle.kp_meaning.specs.Faults.{eff_faults, schema_faults, variable_faults};
@@ -67,6 +67,23 @@ fn note_effect<'a>(
     }
 }
 
+// Notes the faults of a schema, whose parameters come into a scope of no names.
+fn note_within<'a>(
+    alloc: Global,
+    names: &Names,
+    scope: &mut NameSet<'a>,
+    schema: &'a SchemaTree,
+    first: &mut First,
+) -> Result<(), Memory>
+    requires { scope.old ≡ [] }
+    ensures { OnOk result (first.new ≡ noted first.old (schema_faults (domain_of names.now) (problem_of names.now) (schema_view schema.now))) }
+{
+    note_scope(alloc, names, scope, schema.params.slice(), first)?;
+    note_cond(names, scope, &schema.pre, first);
+    note_effect(alloc, names, scope, &schema.effect, first)?;
+    Ok(())
+}
+
 // Notes the faults of a schema.
 fn note_schema(
     alloc: Global,
@@ -77,10 +94,9 @@ fn note_schema(
     ensures { OnOk result (first.new ≡ noted first.old (schema_faults (domain_of names.now) (problem_of names.now) (schema_view schema.now))) }
 {
     let mut scope = NameSet::new(alloc);
-    note_scope(alloc, names, &mut scope, schema.params.slice(), first)?;
-    note_cond(names, &scope, &schema.pre, first);
-    note_effect(alloc, names, &mut scope, &schema.effect, first)?;
-    Ok(())
+    let noted = note_within(alloc, names, &mut scope, schema, first);
+    drop(scope);
+    noted
 }
 
 /// Notes the faults of schemas.

@@ -38,7 +38,7 @@ fn note_predicates(alloc: Global, predicates: &[PredTree], first: &mut First) ->
 pub fn note_domain(alloc: Global, names: &Names, first: &mut First) -> Result<(), Memory>
     ensures { OnOk result (first.new ≡ noted first.old (domain_faults (domain_of names.now) (problem_of names.now))) }
 {
-    let domain = names.domain;
+    let domain = names.domain();
     note_types(names, domain.constants.slice(), first);
     note_predicates(alloc, domain.predicates.slice(), first)?;
     note_twice_schemas(alloc, domain.schemas.slice(), first)?;
@@ -61,7 +61,7 @@ fn note_init(alloc: Global, names: &Names, items: &[ItemTree], first: &mut First
 pub fn note_problem(alloc: Global, names: &Names, first: &mut First)
     ensures { first.new ≡ noted first.old (problem_faults (domain_of names.now) (problem_of names.now)) }
 {
-    let problem = names.problem;
+    let problem = names.problem();
     note_types(names, problem.objects.slice(), first);
     note_init(alloc, names, problem.init.slice(), first);
     note_cond(names, &NameSet::new(alloc), &problem.goal, first);

@@ -78,7 +78,7 @@ fn a_row_keeps_what_is_pushed(rt: HostRuntime) -> Result<(), Fail> {
     Ok(())
 }
 
-fn text_of(alloc: Global, bytes: &[u8]) -> Result<Text, Memory> {
+fn text_from(alloc: Global, bytes: &[u8]) -> Result<Text, Memory> {
     let mut text = Text::new(alloc);
     for byte in bytes {
         text.push(*byte)?;
@@ -93,7 +93,7 @@ fn copies_text(alloc: Global, text: &Text) -> Result<bool, Memory> {
 
 #[test]
 fn a_text_keeps_what_is_pushed(rt: HostRuntime) -> Result<(), Fail> {
-    let text = text_of(rt.alloc(), b"p_1")?;
+    let text = text_from(rt.alloc(), b"p_1")?;
     let is_kept = text.slice() == b"p_1".as_slice() && text.len() == 3;
     let is_copied = copies_text(rt.alloc(), &text);
     drop(text);

@@ -1,3 +1,4 @@
+pub mod Public
 pub mod Fronts
 pub mod Breaking
 pub mod Earlier

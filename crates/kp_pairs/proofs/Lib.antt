@@ -1,7 +1,7 @@
+pub mod Public
 pub mod Greatest
 pub mod Marked
 pub mod Removing
-pub mod Walks
 pub mod Starting
 pub mod Filling
 pub mod Firing

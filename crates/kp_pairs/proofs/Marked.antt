@@ -7,6 +7,7 @@ use Rattle.std.proofs.Math.Nat.{mul-le-mul, mul_assoc, suc-mul}
 use Rattle.std.specs.List.{range_with_len}
 use Rattle.kp_base.specs.Lists.{Member}
 use Rattle.kp_base.proofs.Lists.{bool_same, any_from, any_member, member_map, member_flat_map, member_filter, filter_member, range_there}
+use Rattle.kp_base.proofs.Cases.{orders}
 use Rattle.kp_pairs.specs.Paired.{are_both, is_pair, words_of, place_of, is_marked, all_below, marked, IsSquare}
 
 -- ---- places
@@ -29,10 +30,6 @@ pub few : (n : ℕ) → n * (words_of n * 64) < 4294967296 → n < 65536
 few n h = ⊎_elim (λ (l : n < 65536). l) (λ ge.
     let m : 65536 * 65536 ≤ n * (words_of n * 64) = mul-le-mul {n₁ = 65536} {m₁ = 65536} {n₂ = n} {m₂ = words_of n * 64} ge (let w = (width n).0 in omega (arith, ge, w)) in
     absurd (omega (arith, m, h))) (cases_lt n 65536)
-
--- two different numbers in their order
-pub orders : (p q : ℕ) → p ≢ q → (p < q) ⊎ (q < p)
-orders p q ne = ⊎_elim (λ (l : p < q). inl l) (λ (ge : q ≤ p). inr (omega (arith, ge, ne))) (cases_lt p q)
 
 -- ---- lists
 

@@ -8,8 +8,8 @@ use Rattle.kp_grammar.specs.Sorts.{s_list, s_word}
 use Rattle.kp_grammar.specs.Grammar.{word, kind, kind_case}
 use Rattle.kp_grammar.specs.Trees.{Cond, Eff, Item}
 use Rattle.kp_grammar.specs.Parsing.{◌>>=◌, go, level, read}
-use Rattle.kp_parts.specs.declared.conds.Mode.{Mode}
-use Rattle.kp_parts.specs.declared.conds.Mode.TheVariants as modes
+use Rattle.kp_parts.specs.declared.conds.Role.{Role}
+use Rattle.kp_parts.specs.declared.conds.Role.TheVariants as roles
 use Rattle.kp_parts.specs.Readers.{terms_class, test_at, body_at, eff_inside_at, each_at, lit_inside_at, item_inside_at}
 use Rattle.kp_cursor.specs.declared.cursor.Class.TheVariants as classes
 
@@ -26,18 +26,18 @@ kind_is d (t ∷ ts) n = kind_by d t.symbol t ts refl n
 
 module _ (d : ℕ) (t : Tok Word) (ts us : List (Tok Word)) (is : ts ≡ t ∷ us) where
   -- of a test: a head and its terms
-  pub test_head : (mode : Mode) (b : Bool) → (t.symbol ≡ symbols.Equal → ⊥) → (t.symbol ≡ symbols.Or → ⊥) → (t.symbol ≡ symbols.Imply → ⊥) → (t.symbol ≡ symbols.Exists → ⊥) → (t.symbol ≡ symbols.Forall → ⊥) → (t.symbol ≡ symbols.Preference → ⊥) → test_at mode b d ts ≡ (body_at (terms_class mode) ts >>= λ x. Ok (Cond.atom b x.0, x.1))
+  pub test_head : (role : Role) (b : Bool) → (t.symbol ≡ symbols.Equal → ⊥) → (t.symbol ≡ symbols.Or → ⊥) → (t.symbol ≡ symbols.Imply → ⊥) → (t.symbol ≡ symbols.Exists → ⊥) → (t.symbol ≡ symbols.Forall → ⊥) → (t.symbol ≡ symbols.Preference → ⊥) → test_at role b d ts ≡ (body_at (terms_class role) ts >>= λ x. Ok (Cond.atom b x.0, x.1))
   unfolding test_at body_at
-  test_head mode b not_Equal not_Or not_Imply not_Exists not_Forall not_Preference = rw is (go_by mode t.symbol refl) where
-    go_by : (mode : Mode) (s : Symbol) → t.symbol ≡ s → test_at mode b d (t ∷ us) ≡ (body_at (terms_class mode) (t ∷ us) >>= λ x. Ok (Cond.atom b x.0, x.1))
+  test_head role b not_Equal not_Or not_Imply not_Exists not_Forall not_Preference = rw is (go_by role t.symbol refl) where
+    go_by : (role : Role) (s : Symbol) → t.symbol ≡ s → test_at role b d (t ∷ us) ≡ (body_at (terms_class role) (t ∷ us) >>= λ x. Ok (Cond.atom b x.0, x.1))
     go_by _ symbols.Equal e = absurd (not_Equal e)
     go_by _ symbols.Or e = absurd (not_Or e)
     go_by _ symbols.Imply e = absurd (not_Imply e)
     go_by _ symbols.Exists e = absurd (not_Exists e)
     go_by _ symbols.Forall e = absurd (not_Forall e)
     go_by _ symbols.Preference e = absurd (not_Preference e)
-    go_by modes.Condition _ e = rw e refl
-    go_by modes.Goal _ e = rw e refl
+    go_by roles.Condition _ e = rw e refl
+    go_by roles.Goal _ e = rw e refl
 
   -- of an effect
   pub eff_makes : (t.symbol ≡ symbols.Right → ⊥) → (t.symbol ≡ symbols.And → ⊥) → (t.symbol ≡ symbols.When → ⊥) → (t.symbol ≡ symbols.Forall → ⊥) → (t.symbol ≡ symbols.Not → ⊥) → (t.symbol ≡ symbols.OneOf → ⊥) → (t.symbol ≡ symbols.Or → ⊥) → (t.symbol ≡ symbols.Probabilistic → ⊥) → (t.symbol ≡ symbols.Increase → ⊥) → (t.symbol ≡ symbols.Decrease → ⊥) → (t.symbol ≡ symbols.Assign → ⊥) → (t.symbol ≡ symbols.ScaleUp → ⊥) → (t.symbol ≡ symbols.ScaleDown → ⊥) → eff_inside_at d ts ≡ (body_at classes.Term ts >>= λ x. Ok (Eff.makes true x.0, x.1))

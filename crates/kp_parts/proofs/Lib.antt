@@ -1,3 +1,4 @@
+pub mod Public
 pub mod Several
 pub mod Cases
 pub mod Loops

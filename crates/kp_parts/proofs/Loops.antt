@@ -1,6 +1,7 @@
 -- Reading any number of one form, as a loop does.
 use Rattle.std.proofs.Common.{◌≡◌, ℕ, Bool, true, false, map, List, [], ◌∷◌, ◌++◌, Ok, Err, refl, sym, ap, ◌∙◌, append_assoc, append-nil}
 use Rattle.std.specs.List.{flat_map}
+use Rattle.kp_base.proofs.Parts.{flat_map-push}
 use Rattle.kp_grammar.specs.declared.symbol.Symbol.{Symbol}
 use Rattle.kp_grammar.specs.declared.tree.Word.{Word}
 use Rattle.kp_grammar.specs.Trees.{Typed}
@@ -9,7 +10,7 @@ use Rattle.kp_grammar.specs.Sorts.{Sort, s_seen, Seen, s_pair, s_list, s_typed, 
 use Rattle.kp_grammar.specs.Forms.{Form, many, run, make}
 use Rattle.kp_grammar.specs.Reading.{stop}
 use Rattle.kp_grammar.specs.Parsing.{Outcome, ◌>>=◌, read}
-use Rattle.kp_grammar.proofs.Exact.{many_step, run_step}
+use Rattle.kp_grammar.proofs.Public.{many_unfolds, run_unfolds}
 use Rattle.kp_cursor.specs.declared.halt.Halt.{Halt}
 use Rattle.kp_cursor.specs.declared.halt.Halt.TheVariants as halts
 use Rattle.kp_parts.specs.Lexemes.{word_of}
@@ -44,17 +45,17 @@ module _ {a : Sort} (d : ℕ) (p : Symbol → Bool) (X : Form true a) where
   pub goes_on : (front : List (El Word a)) (ts : List (Tok Word)) (x : El Word a) (rest : List (Tok Word)) (total : Outcome Word (List (El Word a))) → first_is p ts ≡ true → read d X ts ≡ Ok (x, rest)
       → with_front front (all_of ts) ≡ total → with_front (front ++ x ∷ []) (all_of rest) ≡ total
   goes_on front ts x rest total here e so_far =
-      let step : all_of ts ≡ (all_of rest >>= λ xs. Ok (x ∷ xs.0, xs.1)) = many_step d p X ts ∙ rw (here, e) refl in
+      let step : all_of ts ≡ (all_of rest >>= λ xs. Ok (x ∷ xs.0, xs.1)) = many_unfolds d p X ts ∙ rw (here, e) refl in
       sym (regroup front x (all_of rest)) ∙ ap (with_front front) (sym step) ∙ so_far
 
   pub ends : (ls : List (Tok Word)) (e : Halt) (front : List (El Word a)) (ts : List (Tok Word)) (total : Outcome Word (List (El Word a))) → first_is p ts ≡ true → Fails ls e (read d X ts)
       → with_front front (all_of ts) ≡ total → Fails ls e total
   ends ls e front ts total here h so_far =
-      failed ls e (read d X ts) total (λ at k. let step : all_of ts ≡ Err at = many_step d p X ts ∙ rw (here, k) refl in sym so_far ∙ ap (with_front front) step) h
+      failed ls e (read d X ts) total (λ at k. let step : all_of ts ≡ Err at = many_unfolds d p X ts ∙ rw (here, k) refl in sym so_far ∙ ap (with_front front) step) h
 
   pub is_done : (front : List (El Word a)) (ts : List (Tok Word)) (total : Outcome Word (List (El Word a))) → first_is p ts ≡ false → with_front front (all_of ts) ≡ total → total ≡ Ok (front, ts)
   is_done front ts total gone so_far =
-      let step : all_of ts ≡ Ok ([], ts) = many_step d p X ts ∙ rw gone refl in
+      let step : all_of ts ≡ Ok ([], ts) = many_unfolds d p X ts ∙ rw gone refl in
       sym so_far ∙ ap (with_front front) step ∙ ap (λ (xs : List (El Word a)). Ok (xs, ts)) (append-nil front)
 
 -- ---- the same, where each says which may come
@@ -66,29 +67,25 @@ module _ {a : Sort} (d : ℕ) (p : Symbol → Bool) (X : Seen → Form true (s_p
   pub run_goes_on : (front : List (El Word a)) (s : Seen) (ts : List (Tok Word)) (x : Seen × El Word a) (rest : List (Tok Word)) (total : Outcome Word (List (El Word a))) → first_is p ts ≡ true → read d (X s) ts ≡ Ok (x, rest)
       → with_front front (run_of s ts) ≡ total → with_front (front ++ x.1 ∷ []) (run_of x.0 rest) ≡ total
   run_goes_on front s ts x rest total here e so_far =
-      let step : run_of s ts ≡ (run_of x.0 rest >>= λ xs. Ok (x.1 ∷ xs.0, xs.1)) = run_step d p X done s ts ∙ rw (here, e) refl in
+      let step : run_of s ts ≡ (run_of x.0 rest >>= λ xs. Ok (x.1 ∷ xs.0, xs.1)) = run_unfolds d p X done s ts ∙ rw (here, e) refl in
       sym (regroup front x.1 (run_of x.0 rest)) ∙ ap (with_front front) (sym step) ∙ so_far
 
   pub run_ends : (ls : List (Tok Word)) (e : Halt) (front : List (El Word a)) (s : Seen) (ts : List (Tok Word)) (total : Outcome Word (List (El Word a))) → first_is p ts ≡ true → Fails ls e (read d (X s) ts)
       → with_front front (run_of s ts) ≡ total → Fails ls e total
   run_ends ls e front s ts total here h so_far =
-      failed ls e (read d (X s) ts) total (λ at k. let step : run_of s ts ≡ Err at = run_step d p X done s ts ∙ rw (here, k) refl in sym so_far ∙ ap (with_front front) step) h
+      failed ls e (read d (X s) ts) total (λ at k. let step : run_of s ts ≡ Err at = run_unfolds d p X done s ts ∙ rw (here, k) refl in sym so_far ∙ ap (with_front front) step) h
 
   pub run_done : (front : List (El Word a)) (s : Seen) (ts : List (Tok Word)) (total : Outcome Word (List (El Word a))) → first_is p ts ≡ false → done s ≡ true → with_front front (run_of s ts) ≡ total → total ≡ Ok (front, ts)
   run_done front s ts total gone all so_far =
-      let step : run_of s ts ≡ Ok ([], ts) = run_step d p X done s ts ∙ rw (gone, all) refl in
+      let step : run_of s ts ≡ Ok ([], ts) = run_unfolds d p X done s ts ∙ rw (gone, all) refl in
       sym so_far ∙ ap (with_front front) step ∙ ap (λ (xs : List (El Word a)). Ok (xs, ts)) (append-nil front)
 
   pub run_lacks : (front : List (El Word a)) (s : Seen) (ts : List (Tok Word)) (total : Outcome Word (List (El Word a))) → first_is p ts ≡ false → done s ≡ false → with_front front (run_of s ts) ≡ total → total ≡ Err (stop ts)
   run_lacks front s ts total gone lacks so_far =
-      let step : run_of s ts ≡ Err (stop ts) = run_step d p X done s ts ∙ rw (gone, lacks) refl in
+      let step : run_of s ts ≡ Err (stop ts) = run_unfolds d p X done s ts ∙ rw (gone, lacks) refl in
       sym so_far ∙ ap (with_front front) step
 
 -- ---- what several hold, one behind the other
-
-pub flat_map-push : {S T : Type 0} (f : S → List T) (xs : List S) (x : S) → flat_map f (xs ++ x ∷ []) ≡ flat_map f xs ++ f x
-flat_map-push f [] x = append-nil (f x)
-flat_map-push f (y ∷ ys) x = ap (λ zs. f y ++ zs) (flat_map-push f ys x) ∙ sym (simp append_assoc)
 
 -- a word with its types
 abbrev pub typed_of : List Word → Tok Word → Typed Word

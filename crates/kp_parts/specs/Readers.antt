@@ -4,14 +4,14 @@ use Rattle.kp_grammar.specs.declared.tree.Word.{Word}
 use Rattle.kp_grammar.specs.declared.symbol.Symbol.{Symbol}
 use Rattle.kp_grammar.specs.Trees.{Typed, Term, Atom, Cond, Eff, Lit, Item, Pred, Schema}
 use Rattle.kp_grammar.specs.Symbols.{is_left, is_head, is_name, is_variable, is_either, is_dash, is_parameters, is_precondition, is_effect}
-use Rattle.kp_grammar.specs.Sorts.{Sort, El, Maker, s_word, s_term, s_list, s_typed, s_atom, s_cond, m_name, m_kinds, m_untyped, m_typed, m_atom, m_when, m_each, m_no_params, m_true, m_idle, m_pred}
+use Rattle.kp_grammar.specs.Sorts.{Sort, El, Maker, s_word, s_term, s_list, s_typed, s_atom, s_cond, m_name, m_kinds, m_untyped, m_typed, m_atom, m_when, m_each, m_no_params, m_items, m_true, m_idle, m_pred}
 use Rattle.kp_grammar.specs.Forms.{Form, token, many, make, maybe, bracket, ◌▸◌, ◌▹◌, choose, within, Named, n_cond, n_goal, n_eff, n_item}
 use Rattle.kp_grammar.specs.Grammar.{word, some, skip, term, term_maker, kind, typed, equality, test_case, goal_lit_case, rule, lit, lit_case, pred, cond, eff, parts_end_case, schema, title}
 use Rattle.kp_grammar.specs.Parsing.{read, ended, ◌>>=◌}
 use Rattle.kp_cursor.specs.declared.cursor.Class.{Class}
 use Rattle.kp_cursor.specs.declared.cursor.Class.TheVariants as classes
-use Rattle.kp_parts.specs.declared.conds.Mode.{Mode}
-use Rattle.kp_parts.specs.declared.conds.Mode.TheVariants as modes
+use Rattle.kp_parts.specs.declared.conds.Role.{Role}
+use Rattle.kp_parts.specs.declared.conds.Role.TheVariants as roles
 use Rattle.kp_cursor.specs.declared.cursor.Lead.{Lead}
 use Rattle.kp_grammar.specs.Depth.{levels}
 pub use Rattle.kp_cursor.specs.Readers.{unsupported, Fails, Gives, Passes, GivesAll, Closed, Opened, Reader, class_test, is_of, lead_test, Led, word_at, name_at, some_at, Words, keywords_at}
@@ -85,35 +85,35 @@ term_at = read 0 term
 -- ---- conditions and goals
 
 -- what the terms of an atom may be
-abbrev pub terms_class : Mode → Class
-terms_class modes.Condition = classes.Term
-terms_class modes.Goal = classes.Name
+abbrev pub terms_class : Role → Class
+terms_class roles.Condition = classes.Term
+terms_class roles.Goal = classes.Name
 
 -- the rule
-abbrev pub named_of : Mode → Named s_cond
-named_of modes.Condition = n_cond
-named_of modes.Goal = n_goal
+abbrev pub named_of : Role → Named s_cond
+named_of roles.Condition = n_cond
+named_of roles.Goal = n_goal
 
 -- a test between its brackets
-abbrev pub test_form : Mode → Bool → Symbol → Form true s_cond
-test_form modes.Condition = test_case
-test_form modes.Goal = goal_lit_case
+abbrev pub test_form : Role → Bool → Symbol → Form true s_cond
+test_form roles.Condition = test_case
+test_form roles.Goal = goal_lit_case
 
-unfoldable pub test_at : Mode → Bool → ℕ → Reader (Cond Word)
-test_at mode positive d = read d (choose (test_form mode positive))
+unfoldable pub test_at : Role → Bool → ℕ → Reader (Cond Word)
+test_at role positive d = read d (choose (test_form role positive))
 
 -- a test under a negation
-unfoldable pub denied_at : Mode → ℕ → Reader (Cond Word)
-denied_at mode d = read d (bracket (choose (test_form mode false)))
+unfoldable pub denied_at : Role → ℕ → Reader (Cond Word)
+denied_at role d = read d (bracket (choose (test_form role false)))
 
-unfoldable pub cond_at : Mode → ℕ → Reader (Cond Word)
-cond_at mode d = read d (within (named_of mode))
+unfoldable pub cond_at : Role → ℕ → Reader (Cond Word)
+cond_at role d = read d (within (named_of role))
 
-unfoldable pub cond_inside_at : Mode → ℕ → Reader (Cond Word)
-cond_inside_at mode d = read d (rule (named_of mode))
+unfoldable pub cond_inside_at : Role → ℕ → Reader (Cond Word)
+cond_inside_at role d = read d (rule (named_of role))
 
-unfoldable pub conds_at : Mode → ℕ → Reader (List (Cond Word))
-conds_at mode d = read d (many is_left (within (named_of mode)))
+unfoldable pub conds_at : Role → ℕ → Reader (List (Cond Word))
+conds_at role d = read d (many is_left (within (named_of role)))
 
 -- ---- effects
 
@@ -150,6 +150,10 @@ item_at d = read d (within n_item)
 
 unfoldable pub item_inside_at : ℕ → Reader (Item Word)
 item_inside_at d = read d (rule n_item)
+
+-- behind `and`
+unfoldable pub all_at : ℕ → Reader (Item Word)
+all_at d = read d (make m_items (many is_left (within n_item)))
 
 unfoldable pub items_at : ℕ → Reader (List (Item Word))
 items_at d = read d (many is_left (within n_item))

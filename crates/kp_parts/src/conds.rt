@@ -16,7 +16,7 @@ use kp_nodes::CondNode;
 
 /// What a condition is read as.
 #[derive(Clone, Copy, Debug, PartialEq, Eq)]
-pub enum Mode {
+pub enum Role {
     /// A condition of an action, with variables and equalities.
     Condition,
     /// A goal, of facts alone.
@@ -24,12 +24,12 @@ pub enum Mode {
 }
 
 // What the terms of an atom may be.
-fn terms_class(mode: Mode) -> Class
-    ensures { result ≡ terms_class mode }
+fn terms_class(role: Role) -> Class
+    ensures { result ≡ terms_class role }
 {
-    match mode {
-        Mode::Condition => Class::Term,
-        Mode::Goal => Class::Name,
+    match role {
+        Role::Condition => Class::Term,
+        Role::Goal => Class::Name,
     }
 }
 
@@ -46,19 +46,19 @@ fn same<'a>(
     tokens: &Tokens<'_, 'a>,
     at: usize,
     levels: u32,
-    mode: Mode,
+    role: Role,
     positive: bool,
 ) -> Result<(CondNode<'a>, usize), Halt>
     requires { first_is is_equal (from tokens.now at) ≡ true }
-    ensures reads { Gives tokens.now cond_view result (test_at mode positive levels (from tokens.now at)) }
+    ensures reads { Gives tokens.now cond_view result (test_at role positive levels (from tokens.now at)) }
     ensures onward { IfOk result (λ x. (at < x.1) × (x.1 ≤ length tokens.now)) }
 {
-    match mode {
-        Mode::Condition => {
+    match role {
+        Role::Condition => {
             let ((left, right), at) = equality(tokens, at)?;
             Ok((CondNode::Same(positive, left, right), at))
         }
-        Mode::Goal => Err(Halt::Unsupported(at)),
+        Role::Goal => Err(Halt::Unsupported(at)),
     }
 }
 
@@ -69,22 +69,22 @@ fn test<'a>(
     tokens: &Tokens<'_, 'a>,
     at: usize,
     levels: u32,
-    mode: Mode,
+    role: Role,
     positive: bool,
 ) -> Result<(CondNode<'a>, usize), Halt>
-    ensures reads { Gives tokens.now cond_view result (test_at mode positive levels (from tokens.now at)) }
+    ensures reads { Gives tokens.now cond_view result (test_at role positive levels (from tokens.now at)) }
     ensures onward { IfOk result (λ x. (at < x.1) × (x.1 ≤ length tokens.now)) }
 {
     let Some(first) = peek(tokens, at) else {
         return Err(Halt::Syntax(at));
     };
     match first.symbol {
-        Symbol::Equal => same(tokens, at, levels, mode, positive),
+        Symbol::Equal => same(tokens, at, levels, role, positive),
         Symbol::Or | Symbol::Imply | Symbol::Exists | Symbol::Forall | Symbol::Preference => {
             Err(Halt::Unsupported(at))
         }
         _ => {
-            let (atom, at) = body(bump, tokens, at, terms_class(mode))?;
+            let (atom, at) = body(bump, tokens, at, terms_class(role))?;
             Ok((CondNode::Atom(positive, atom), at))
         }
     }
@@ -97,15 +97,15 @@ fn denied<'a>(
     tokens: &Tokens<'_, 'a>,
     at: usize,
     levels: u32,
-    mode: Mode,
+    role: Role,
 ) -> Result<(CondNode<'a>, usize), Halt>
-    ensures reads { Gives tokens.now cond_view result (denied_at mode levels (from tokens.now at)) }
+    ensures reads { Gives tokens.now cond_view result (denied_at role levels (from tokens.now at)) }
     ensures onward { IfOk result (λ x. (at < x.1) × (x.1 ≤ length tokens.now)) }
 {
     if levels == 0 || !is_left(tokens, at) {
         return Err(Halt::Syntax(at));
     }
-    let (test, at) = test(bump, tokens, at + 1, levels - 1, mode, false)?;
+    let (test, at) = test(bump, tokens, at + 1, levels - 1, role, false)?;
     let at = close(tokens, at)?;
     Ok((test, at))
 }
@@ -118,15 +118,15 @@ pub fn cond<'a>(
     tokens: &Tokens<'_, 'a>,
     at: usize,
     levels: u32,
-    mode: Mode,
+    role: Role,
 ) -> Result<(CondNode<'a>, usize), Halt>
-    ensures reads { Gives tokens.now cond_view result (cond_at mode levels (from tokens.now at)) }
+    ensures reads { Gives tokens.now cond_view result (cond_at role levels (from tokens.now at)) }
     ensures onward { IfOk result (λ x. (at < x.1) × (x.1 ≤ length tokens.now)) }
 {
     if levels == 0 || !is_left(tokens, at) {
         return Err(Halt::Syntax(at));
     }
-    let (tree, at) = inside(bump, tokens, at + 1, levels - 1, mode)?;
+    let (tree, at) = inside(bump, tokens, at + 1, levels - 1, role)?;
     let at = close(tokens, at)?;
     Ok((tree, at))
 }
@@ -139,10 +139,10 @@ fn inside<'a>(
     tokens: &Tokens<'_, 'a>,
     at: usize,
     levels: u32,
-    mode: Mode,
+    role: Role,
 ) -> Result<(CondNode<'a>, usize), Halt>
     requires { at ≤ length tokens.now }
-    ensures reads { Gives tokens.now cond_view result (cond_inside_at mode levels (from tokens.now at)) }
+    ensures reads { Gives tokens.now cond_view result (cond_inside_at role levels (from tokens.now at)) }
     ensures onward { IfOk result (λ x. (at ≤ x.1) × (x.1 ≤ length tokens.now)) }
 {
     let Some(first) = peek(tokens, at) else {
@@ -151,11 +151,11 @@ fn inside<'a>(
     match first.symbol {
         Symbol::Right => Ok((no_condition(), at)),
         Symbol::And => {
-            let (parts, at) = conds(bump, tokens, at + 1, levels, mode)?;
+            let (parts, at) = conds(bump, tokens, at + 1, levels, role)?;
             Ok((CondNode::All(parts), at))
         }
-        Symbol::Not => denied(bump, tokens, at + 1, levels, mode),
-        _ => test(bump, tokens, at, levels, mode, true),
+        Symbol::Not => denied(bump, tokens, at + 1, levels, role),
+        _ => test(bump, tokens, at, levels, role, true),
     }
 }
 
@@ -166,16 +166,16 @@ fn conds<'a>(
     tokens: &Tokens<'_, 'a>,
     start: usize,
     levels: u32,
-    mode: Mode,
+    role: Role,
 ) -> Result<(&'a [CondNode<'a>], usize), Halt>
     requires { start ≤ length tokens.now }
-    ensures reads { Gives tokens.now (λ s. map cond_view s.now) result (conds_at mode levels (from tokens.now start)) }
+    ensures reads { Gives tokens.now (λ s. map cond_view s.now) result (conds_at role levels (from tokens.now start)) }
     ensures onward { IfOk result (λ x. (start ≤ x.1) × (x.1 ≤ length tokens.now)) }
 {
     let mut parts = Vec::with_capacity(bump, parts_ahead(tokens, start))?;
     let mut at = start;
     'more: while is_left(tokens, at) {
-        let (part, after) = cond(bump, tokens, at, levels, mode)?;
+        let (part, after) = cond(bump, tokens, at, levels, role)?;
         add(&mut parts, part)?;
         at = after;
     }

@@ -6,7 +6,7 @@ ghost use Rattle.kp_parts.specs.Readers.{Gives, eff_at, eff_inside_at, when_at, 
 
 use crate::ahead::parts_ahead;
 use crate::atoms::{atom, body};
-use crate::conds::{Mode, cond};
+use crate::conds::{Role, cond};
 use crate::runs::add;
 use crate::typed_lists::variables;
 use bumpalo::Bump;
@@ -120,7 +120,7 @@ fn when<'a>(
     ensures reads { Gives tokens.now eff_view result (when_at levels (from tokens.now at)) }
     ensures onward { IfOk result (λ x. (at < x.1) × (x.1 ≤ length tokens.now)) }
 {
-    let (condition, at) = cond(bump, tokens, at, levels, Mode::Condition)?;
+    let (condition, at) = cond(bump, tokens, at, levels, Role::Condition)?;
     let (body, at) = eff(bump, tokens, at, levels)?;
     Ok((under(bump, condition, body)?, at))
 }

@@ -1,7 +1,8 @@
-ghost use Rattle.std.specs.Prelude.{◌≡◌, ◌<◌, ◌≤◌, length, map, IfOk};
-ghost use Rattle.kp_parts.specs.Lexemes.{from};
+ghost use Rattle.std.specs.Prelude.{◌≡◌, ◌<◌, ◌≤◌, ◌∷◌, length, map, IfOk};
+ghost use Rattle.kp_grammar.specs.declared.symbol.Symbol.TheVariants as symbols;
+ghost use Rattle.kp_parts.specs.Lexemes.{tok, from};
 ghost use Rattle.kp_nodes.specs.Nodes.{item_view, lit_view};
-ghost use Rattle.kp_parts.specs.Readers.{Gives, lit_at, lit_inside_at, lits_at, item_at, item_inside_at, items_at};
+ghost use Rattle.kp_parts.specs.Readers.{Gives, lit_at, lit_inside_at, lits_at, item_at, item_inside_at, all_at, items_at};
 
 use crate::ahead::parts_ahead;
 use crate::atoms::{atom, body};
@@ -9,7 +10,7 @@ use crate::lexeme::word_node;
 use crate::runs::add;
 use bumpalo::Bump;
 use bumpalo::collections::into_bump_slice;
-use kp_cursor::{Class, Halt, Tokens, close, is_left, peek};
+use kp_cursor::{Class, Halt, Lexeme, Tokens, close, is_left, peek};
 use kp_grammar::Symbol;
 use kp_nodes::{ItemNode, LitNode};
 
@@ -82,6 +83,59 @@ fn lits<'a>(
     Ok((into_bump_slice(parts), at))
 }
 
+// The literals behind the word `oneof`.
+#[tactic(auto, unfolding(crate::specs::Readers::item_inside_at, crate::specs::Readers::lits_at))]
+fn one_of<'a>(
+    bump: &'a Bump,
+    tokens: &Tokens<'_, 'a>,
+    start: usize,
+    levels: u32,
+    word: &Lexeme<'a>,
+) -> Result<(ItemNode<'a>, usize), Halt>
+    requires within { start ≤ length tokens.now }
+    requires symbol { word.now.symbol ≡ symbols.OneOf }
+    ensures reads { Gives tokens.now item_view result (item_inside_at levels (tok word.now ∷ from tokens.now start)) }
+    ensures onward { IfOk result (λ x. (start ≤ x.1) × (x.1 ≤ length tokens.now)) }
+{
+    let (lits, at) = lits(bump, tokens, start, levels)?;
+    Ok((ItemNode::OneOf(word_node(word), lits), at))
+}
+
+// The literals behind the word `or`.
+#[tactic(auto, unfolding(crate::specs::Readers::item_inside_at, crate::specs::Readers::lits_at))]
+fn any_of<'a>(
+    bump: &'a Bump,
+    tokens: &Tokens<'_, 'a>,
+    start: usize,
+    levels: u32,
+    word: &Lexeme<'a>,
+) -> Result<(ItemNode<'a>, usize), Halt>
+    requires within { start ≤ length tokens.now }
+    requires symbol { word.now.symbol ≡ symbols.Or }
+    ensures reads { Gives tokens.now item_view result (item_inside_at levels (tok word.now ∷ from tokens.now start)) }
+    ensures onward { IfOk result (λ x. (start ≤ x.1) × (x.1 ≤ length tokens.now)) }
+{
+    let (lits, at) = lits(bump, tokens, start, levels)?;
+    Ok((ItemNode::AnyOf(word_node(word), lits), at))
+}
+
+// The atom behind the word `unknown`.
+#[tactic(auto, unfolding(crate::specs::Readers::item_inside_at, crate::specs::Readers::atom_at))]
+fn unknown<'a>(
+    bump: &'a Bump,
+    tokens: &Tokens<'_, 'a>,
+    start: usize,
+    levels: u32,
+    word: &Lexeme<'a>,
+) -> Result<(ItemNode<'a>, usize), Halt>
+    requires { word.now.symbol ≡ symbols.Unknown }
+    ensures reads { Gives tokens.now item_view result (item_inside_at levels (tok word.now ∷ from tokens.now start)) }
+    ensures onward { IfOk result (λ x. (start < x.1) × (x.1 ≤ length tokens.now)) }
+{
+    let (atom, at) = atom(bump, tokens, start, levels, Class::Name)?;
+    Ok((ItemNode::Unknown(word_node(word), atom), at))
+}
+
 // An item of `:init`.
 #[cycle(item)]
 #[tactic(auto, unfolding(crate::specs::Readers::item_at, crate::specs::Readers::item_inside_at))]
@@ -104,7 +158,7 @@ fn item<'a>(
 
 // What stands between its brackets.
 #[cycle(item)]
-#[tactic(auto, unfolding(crate::specs::Readers::item_inside_at, crate::specs::Readers::items_at, crate::specs::Readers::lits_at, crate::specs::Readers::atom_at))]
+#[tactic(auto, unfolding(crate::specs::Readers::item_inside_at, crate::specs::Readers::all_at, crate::specs::Readers::atom_at))]
 fn inside<'a>(
     bump: &'a Bump,
     tokens: &Tokens<'_, 'a>,
@@ -118,32 +172,37 @@ fn inside<'a>(
         return Err(Halt::Syntax(at));
     };
     match first.symbol {
-        Symbol::And => {
-            let (parts, at) = items(bump, tokens, at + 1, levels)?;
-            Ok((ItemNode::All(into_bump_slice(parts)), at))
-        }
+        Symbol::And => all(bump, tokens, at + 1, levels),
         Symbol::Not => {
             let (atom, at) = atom(bump, tokens, at + 1, levels, Class::Name)?;
             Ok((ItemNode::Lit(false, atom), at))
         }
-        Symbol::OneOf => {
-            let (lits, at) = lits(bump, tokens, at + 1, levels)?;
-            Ok((ItemNode::OneOf(word_node(&first), lits), at))
-        }
-        Symbol::Or => {
-            let (lits, at) = lits(bump, tokens, at + 1, levels)?;
-            Ok((ItemNode::AnyOf(word_node(&first), lits), at))
-        }
-        Symbol::Unknown => {
-            let (atom, at) = atom(bump, tokens, at + 1, levels, Class::Name)?;
-            Ok((ItemNode::Unknown(word_node(&first), atom), at))
-        }
+        Symbol::OneOf => one_of(bump, tokens, at + 1, levels, &first),
+        Symbol::Or => any_of(bump, tokens, at + 1, levels, &first),
+        Symbol::Unknown => unknown(bump, tokens, at + 1, levels, &first),
         Symbol::Forall | Symbol::Equal => Err(Halt::Unsupported(at)),
         _ => {
             let (atom, at) = body(bump, tokens, at, Class::Name)?;
             Ok((ItemNode::Lit(true, atom), at))
         }
     }
+}
+
+// The items behind the word `and`.
+#[cycle(item)]
+#[tactic(auto, unfolding(crate::specs::Readers::all_at, crate::specs::Readers::items_at))]
+fn all<'a>(
+    bump: &'a Bump,
+    tokens: &Tokens<'_, 'a>,
+    start: usize,
+    levels: u32,
+) -> Result<(ItemNode<'a>, usize), Halt>
+    requires { start ≤ length tokens.now }
+    ensures reads { Gives tokens.now item_view result (all_at levels (from tokens.now start)) }
+    ensures onward { IfOk result (λ x. (start ≤ x.1) × (x.1 ≤ length tokens.now)) }
+{
+    let (parts, at) = items(bump, tokens, start, levels)?;
+    Ok((ItemNode::All(into_bump_slice(parts)), at))
 }
 
 /// Items of `:init`, as many as stand there.

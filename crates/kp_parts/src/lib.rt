@@ -12,7 +12,7 @@ mod runs;
 mod titles;
 mod typed_lists;
 
-pub use conds::{Mode, cond, no_condition};
+pub use conds::{Role, cond, no_condition};
 pub use effects::{eff, no_effect};
 pub use init_items::items;
 pub use kp_cursor::{

@@ -7,7 +7,7 @@ use Rattle.kp_lex.specs.declared.token.TokenKind.TheVariants as kinds
 use Rattle.kp_lex.specs.declared.token.Token.{Token}
 use Rattle.kp_lex.specs.Bytes.{class_of, follows}
 use Rattle.kp_lex.specs.Cutting.{IsToken, left as a_left, right as a_right, dash, equal, name as a_name, variable as a_variable, keyword as a_keyword, AllAre, IsLongest, Ends, spanned, Cut, at_end, past_blank, a_token}
-use Rattle.kp_lex.proofs.Exact.{longest, front_is}
+use Rattle.kp_lex.proofs.Public.{token_is_longest, token_is_front}
 use Rattle.kp_grammar.specs.Symbols.{symbol_of, seen_in, all_seen_in}
 use Rattle.kp_grammar.specs.Words.{IsLow}
 use Rattle.kp_pieces.specs.Pieces.{Piece, spelling}
@@ -34,16 +34,16 @@ none_longer rest others (a_keyword {bs = bs} s e all) (a_keyword {bs = cs} t k e
 -- a token whose next byte doesn't go on with it is the longest that stands there
 ends_there : {k : TokenKind} (w rest : List ℕ) → IsToken k w → Ends follows rest → IsLongest w (w ++ rest)
 ends_there w rest t h =
-    let r = front_is rest t in
-    longest w (w ++ rest) r.piece (omega (arith, r.within, r.len, none_longer rest r.others t r.token h r.is))
+    let r = token_is_front rest t in
+    token_is_longest w (w ++ rest) r.piece (omega (arith, r.within, r.len, none_longer rest r.others t r.token h r.is))
 
 bracket_left : (at : ℕ) (rest : List ℕ) (ts : List Token) → Cut (at + 1) rest ts → Cut at (40 ∷ rest) (spanned kinds.Left at 1 ∷ ts)
 unfolding class_of
-bracket_left at rest ts h = a_token {w = 40 ∷ []} (a_left refl) (longest (40 ∷ []) (40 ∷ rest) refl refl) h
+bracket_left at rest ts h = a_token {w = 40 ∷ []} (a_left refl) (token_is_longest (40 ∷ []) (40 ∷ rest) refl refl) h
 
 bracket_right : (at : ℕ) (rest : List ℕ) (ts : List Token) → Cut (at + 1) rest ts → Cut at (41 ∷ rest) (spanned kinds.Right at 1 ∷ ts)
 unfolding class_of
-bracket_right at rest ts h = a_token {w = 41 ∷ []} (a_right refl) (longest (41 ∷ []) (41 ∷ rest) refl refl) h
+bracket_right at rest ts h = a_token {w = 41 ∷ []} (a_right refl) (token_is_longest (41 ∷ []) (41 ∷ rest) refl refl) h
 
 cuts : {ps : List Piece} (at : ℕ) → Fine ps → Cut at (spelling ps) (spans at ps)
 cuts at done = at_end

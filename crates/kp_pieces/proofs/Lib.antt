@@ -1,3 +1,4 @@
+pub mod Public
 pub mod Applied
 pub mod Lists
 pub mod Cuts

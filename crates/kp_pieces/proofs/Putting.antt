@@ -30,8 +30,5 @@ each-flat f g (x ∷ xs) rest = ap (each f (g x)) (each-flat f g xs rest) ∙ sy
 pub flat_puts : {T U : Type 0} (a b : List ℕ) (f : U → Put) (g : T → List U) (xs : List T) → Puts a b (each (λ x. each f (g x)) xs) → Puts a b (each f (flat_map g xs))
 flat_puts a b f g xs p = record { puts = λ rest. p.puts rest ∙ ap (λ (ps : List Piece). a ++ spelling ps) (each-flat f g xs rest) }
 
-pub next_of : {A B : Type 0} (f : A → B) (xs : List A) (i : ℕ) (d : A) → i < length xs → map f (drop i xs) ≡ f (get_or xs i d) ∷ map f (drop (i + 1) xs)
-next_of f xs i d h = rw (add-one, drop-cons xs i d h) refl
-
 pub next_at : {A : Type 0} (xs : List A) (i : ℕ) (x : A) → i < length xs → x ≡ get_or xs i x → drop i xs ≡ x ∷ drop (i + 1) xs
 next_at xs i x h e = rw (add-one, drop-cons xs i x h) (ap (λ (y : _). y ∷ drop (suc i) xs) (sym e))

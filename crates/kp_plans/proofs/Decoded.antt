@@ -3,9 +3,9 @@ use Rattle.std.proofs.Common.{◌≡◌, ℕ, Bool, true, false, List, [], ◌�
 use Rattle.kp_meaning.specs.Names.{Name}
 use Rattle.kp_base.specs.declared.ground.GroundName.{GroundName}
 use Rattle.kp_meaning.specs.Encoding.{underscore, dash, with_byte, split, decoded, doubled, encoded, encoded_objects}
-use Rattle.kp_meaning.proofs.Encoding.{encoded_decodes, decoded_is_encoding}
+use Rattle.kp_meaning.proofs.Public.{what_was_encoded_decodes, decoded_is_encoding}
 use Rattle.kp_plans.specs.declared.decoding.Parts.{Parts}
-use Rattle.kp_plans.specs.Decoding.{with_bytes, components, Reads, Breaks}
+use Rattle.kp_plans.specs.Decoding.{with_bytes, components, Decodes, Breaks}
 use Rattle.kp_plans.specs.Names.{IsNameOf}
 
 map_map : {X Y Z : Type 0} (f : X → Y) (g : Y → Z) (h : X → Z) (o : Option X) → ((x : X) → g (f x) ≡ h x) → option_map g (option_map f o) ≡ option_map h o
@@ -34,16 +34,16 @@ goes_on : (ended : List Name) (last : Name) (b : ℕ) (rest others : List ℕ) �
 goes_on ended last b rest others e =
     sym (ap (option_map (λ xs. ended ++ with_bytes last xs)) e ∙ map_map (with_byte b) (λ xs. ended ++ with_bytes last xs) (λ xs. ended ++ with_bytes (last ++ b ∷ []) xs) (split rest) (λ xs. ap (λ (ys : List Name). ended ++ ys) (with_more last b xs)))
 
-pub opens : (p q : Parts) (b : ℕ) → b ≡ underscore → p.escaped ≡ false → q.ended ≡ p.ended → q.last ≡ p.last → q.escaped ≡ true → Reads p q b
+pub opens : (p q : Parts) (b : ℕ) → b ≡ underscore → p.escaped ≡ false → q.ended ≡ p.ended → q.last ≡ p.last → q.escaped ≡ true → Decodes p q b
 opens p q b is e h k i = record { reads = λ rest. rw (is, e, h, k, i) refl }
 
-pub stands : (p q : Parts) (b : ℕ) → p.escaped ≡ false → (b == underscore) ≡ false → q.ended ≡ p.ended → q.last ≡ p.last ++ b ∷ [] → q.escaped ≡ false → Reads p q b
+pub stands : (p q : Parts) (b : ℕ) → p.escaped ≡ false → (b == underscore) ≡ false → q.ended ≡ p.ended → q.last ≡ p.last ++ b ∷ [] → q.escaped ≡ false → Decodes p q b
 stands p q b e n h k i = record { reads = λ rest. rw (e, h, k, i) (goes_on p.ended p.last b rest (b ∷ rest) (plain_byte b rest n)) }
 
-pub doubles : (p q : Parts) (b : ℕ) → b ≡ underscore → p.escaped ≡ true → q.ended ≡ p.ended → q.last ≡ p.last ++ b ∷ [] → q.escaped ≡ false → Reads p q b
+pub doubles : (p q : Parts) (b : ℕ) → b ≡ underscore → p.escaped ≡ true → q.ended ≡ p.ended → q.last ≡ p.last ++ b ∷ [] → q.escaped ≡ false → Decodes p q b
 doubles p q b is e h k i = record { reads = λ rest. rw (is, e, h, k, i, is) (goes_on p.ended p.last underscore rest (underscore ∷ underscore ∷ rest) refl) }
 
-pub ends : (p q : Parts) (b : ℕ) → b ≡ dash → p.escaped ≡ true → q.ended ≡ p.ended ++ p.last ∷ [] → q.last ≡ [] → q.escaped ≡ false → Reads p q b
+pub ends : (p q : Parts) (b : ℕ) → b ≡ dash → p.escaped ≡ true → q.ended ≡ p.ended ++ p.last ∷ [] → q.last ≡ [] → q.escaped ≡ false → Decodes p q b
 ends p q b is e h k i = record {
   reads = λ rest. rw (is, e, h, k, i)
       (sym (map_map (λ xs. [] ∷ xs) (λ xs. p.ended ++ with_bytes p.last xs) (λ xs. (p.ended ++ p.last ∷ []) ++ xs) (split rest)
@@ -73,7 +73,7 @@ starts p word e h k = rw (e, h, k) (same_option (λ xs. xs) (split word) (λ xs.
 -- a name that is read is written so, and what is no name's encoding isn't read
 pub is_name : (word : List ℕ) (o : Option GroundName) → o ≡ decoded word → IsNameOf word o
 is_name word (Some n) e = let h = decoded_is_encoding word n (sym e) in record { parts = h.0; spelled = h.1 }
-is_name word None e = λ n h. absurd (none_is_none n (e ∙ ap decoded (sym h.spelled) ∙ encoded_decodes n h.parts)) where
+is_name word None e = λ n h. absurd (none_is_none n (e ∙ ap decoded (sym h.spelled) ∙ what_was_encoded_decodes n h.parts)) where
   none_is_none : (n : GroundName) → None ≡ Some n → ⊥
   none_is_none n e = cc
 

@@ -1,3 +1,4 @@
+pub mod Public
 pub mod Decoded
 pub mod Lines
 pub mod Strips

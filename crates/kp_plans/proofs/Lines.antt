@@ -18,10 +18,7 @@ use Rattle.kp_grammar.specs.Words.{IsName}
 use Rattle.kp_pieces.specs.Pieces.{Piece, right, spelling, each, spaced, name, line_feed}
 use Rattle.kp_pieces.specs.Tokens.{words, Fine, done, lefts, rights, blanks, says}
 use Rattle.kp_pieces.specs.Maps.{without_places}
-use Rattle.kp_pieces.proofs.Applied.{◌$◌}
-use Rattle.kp_pieces.proofs.Fine.{Keeps, fine_each}
-use Rattle.kp_pieces.proofs.Reading.{Gives, many_reads}
-use Rattle.kp_pieces.proofs.Texts.{pieces_read}
+use Rattle.kp_pieces.proofs.Public.{◌$◌, KeepsFine, each_keeps_fine, PiecesGive, many_pieces_read, pieces_read_as_their_words}
 use Rattle.kp_plans.specs.Names.{IsGroundName}
 use Rattle.kp_plans.specs.Grammar.{step, plan, name_of}
 use Rattle.kp_plans.specs.PlanFiles.{names as plan_names, step_of}
@@ -39,7 +36,7 @@ unfolding class_of
 fine_objects [] all f = rights f
 fine_objects (o ∷ os) {rest} all f = blanks refl (says all.0.token all.0.low (ends_objects os rest) (fine_objects os all.1 f))
 
-fine_step : (n : GroundName) → IsGroundName n → Keeps (step_line n)
+fine_step : (n : GroundName) → IsGroundName n → KeepsFine (step_line n)
 unfolding class_of
 fine_step n h = record { keeps = λ {rest} f. lefts $ says h.head.token h.head.low (ends_objects n.objects (line_feed rest)) $ fine_objects n.objects h.objects $ blanks refl f }
 
@@ -76,11 +73,11 @@ objects_read : (os : List (List ℕ)) (rest : List Piece) → Reads (many is_nam
 objects_read [] rest = r_end refl
 objects_read (o ∷ os) rest = r_more (name_is o) (word_reads o (each (spaced name) os (right ∷ rest))) (objects_read os rest)
 
-step_reads : (n : GroundName) → Gives step (step_line n) (words_of n)
+step_reads : (n : GroundName) → PiecesGive step (step_line n) (words_of n)
 step_reads n rest = r_bracket refl (r_both (r_token (name_hits n.head)) (objects_read n.objects (line_feed rest))) refl
 
 plan_reads : (steps : List GroundName) → AllByRecursion IsGroundName steps → Reads plan (words (plan_pieces steps)) (map words_of steps) []
-plan_reads steps h = many_reads is_left step step_line words_of IsGroundName (λ n _. step_reads n) (λ n rest. refl) steps [] h refl
+plan_reads steps h = many_pieces_read is_left step step_line words_of IsGroundName (λ n _. step_reads n) (λ n rest. refl) steps [] h refl
 
 -- ---- so the text does
 
@@ -103,7 +100,7 @@ same_names text (x ∷ xs) = ap (λ ns. name_of x ∷ ns) (same_names text xs)
 
 pub printed_plans_read : PrintedPlansRead
 printed_plans_read steps h =
-    let r = pieces_read _ _ plan (plan_pieces steps) (map words_of steps) ((fine_each step_line IsGroundName fine_step steps h).keeps done) (plan_reads steps h) in
+    let r = pieces_read_as_their_words _ _ plan (plan_pieces steps) (map words_of steps) ((each_keeps_fine step_line IsGroundName fine_step steps h).keeps done) (plan_reads steps h) in
     record {
       steps = map (step_of (plan_text steps)) r.tree;
       have = same_names (plan_text steps) r.tree ∙ sym (named_tree r.tree) ∙ ap (map named) r.is ∙ named_words steps;

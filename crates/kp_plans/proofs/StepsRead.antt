@@ -10,13 +10,13 @@ use Rattle.kp_grammar.specs.Forms.{hits}
 use Rattle.kp_grammar.specs.Grammar.{some}
 use Rattle.kp_grammar.specs.Reading.{stop, Reads, Stops, StopsWhole, within_form, after_form, r_token, r_both, r_end, r_more, r_bracket, s_token, s_first, s_here, s_later, s_unopened, s_inside, s_unclosed}
 use Rattle.kp_grammar.specs.Parsing.{read}
-use Rattle.kp_grammar.proofs.Exact.{go_reads}
+use Rattle.kp_grammar.proofs.Public.{answered_is_read}
 use Rattle.kp_cursor.specs.declared.cursor.Class.TheVariants as classes
 use Rattle.kp_cursor.specs.declared.halt.Halt.{Halt}
 use Rattle.kp_cursor.specs.declared.halt.Halt.TheVariants as halts
 use Rattle.kp_cursor.specs.Lexemes.{word_of, from}
 use Rattle.kp_cursor.specs.Readers.{Opened, Closed, Words, some_at}
-use Rattle.kp_cursor.proofs.Several.{never_bracket, run_reads}
+use Rattle.kp_cursor.proofs.Public.{class_is_no_bracket, longest_run_reads}
 use Rattle.kp_plans.specs.declared.step.PlanStep.{PlanStep}
 use Rattle.kp_base.specs.declared.ground.GroundName.{GroundName}
 use Rattle.kp_base.specs.declared.refused.Place.{Place}
@@ -36,12 +36,12 @@ from_next ls i t ts e = sym (drop-drop 1 i ls) ∙ ap (drop 1) e
 some_names : (l : Tok Word) (us : List (Tok Word)) (v : Bool) → is_name l.symbol ≡ v → read 0 (some is_name) (l ∷ us) ≡ Err (stop (l ∷ us)) → is_name l.symbol ≡ false
 some_names l us false h e = h
 some_names l us true h e =
-    let is_hit : hits is_name l.symbol ≡ true = never_bracket classes.Name l.symbol ∙ h in
-    absurd (let two = rw (is_hit, run_reads 0 is_name (λ _. m_word) (never_bracket classes.Name) us) at e in cc)
+    let is_hit : hits is_name l.symbol ≡ true = class_is_no_bracket classes.Name l.symbol ∙ h in
+    absurd (let two = rw (is_hit, longest_run_reads 0 is_name (λ _. m_word) (class_is_no_bracket classes.Name) us) at e in cc)
 
 no_name : (us : List (Tok Word)) → read 0 (some is_name) us ≡ Err (stop us) → first_is (hits is_name) us ≡ false
 no_name [] e = refl
-no_name (l ∷ us) e = never_bracket classes.Name l.symbol ∙ some_names l us (is_name l.symbol) refl e
+no_name (l ∷ us) e = class_is_no_bracket classes.Name l.symbol ∙ some_names l us (is_name l.symbol) refl e
 
 -- no opening bracket stands there
 pub unopened : (ls : List (Tok Word)) (at : ℕ) → false ≡ first_is is_left (from ls at) → Stops step (from ls at) (stop (from ls at))
@@ -55,7 +55,7 @@ unnamed ls at o e = rw o.is (s_inside o.left (s_first (s_token (no_name (drop (a
 -- what is read of the names there
 named : (ls : List (Tok Word)) (at : ℕ) (run : List (Tok Word)) (w : Words classes.Name ls at run) → Reads (some is_name) (from ls at) (w.first, w.others) (from ls (at + length run))
 unfolding some_at
-named ls at run w = go_reads 0 _ _ (some is_name) (from ls at) (w.first, w.others) (from ls (at + length run)) w.reads
+named ls at run w = answered_is_read 0 _ _ (some is_name) (from ls at) (w.first, w.others) (from ls (at + length run)) w.reads
 
 -- no closing bracket stands behind them
 pub unclosed : (ls : List (Tok Word)) (at : ℕ) (run : List (Tok Word)) → Opened (from ls at) (from ls (at + 1)) → Words classes.Name ls (at + 1) run → first_is is_right (from ls (at + 1 + length run)) ≡ false → Stops step (from ls at) (stop (from ls (at + 1 + length run)))

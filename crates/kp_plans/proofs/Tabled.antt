@@ -8,7 +8,8 @@ use Rattle.indexmap.specs.IndexMap.{insert_entry}
 use Rattle.kp_base.specs.declared.ground.GroundName.{GroundName}
 use Rattle.kp_meaning.specs.Names.{same, all_same}
 use Rattle.kp_meaning.specs.Encoding.{encoded}
-use Rattle.kp_meaning.proofs.Lists.{same-true, same-refl, all_same-true, all_same-refl}
+use Rattle.kp_base.proofs.Lists.{same-true, same-refl}
+use Rattle.kp_meaning.proofs.Public.{all_same_names-true, all_same_names-refl}
 use Rattle.kp_plans.specs.Names.{same_name}
 use Rattle.kp_plans.specs.Tables.{number_under, IsTableOf}
 use Rattle.kp_plans.proofs.Decoded.{encoded_once}
@@ -78,10 +79,10 @@ same_encoded n m = by (same_name n m) refl (same (encoded n) (encoded m)) refl
     one : same_name n m ≡ true → n ≡ m
     one e =
         let p = and_parts (same n.head m.head) (all_same n.objects m.objects) e in
-        ap (λ (x : List ℕ). record { head = x; objects = n.objects }) (same-true n.head m.head p.0) ∙ ap (λ (xs : List (List ℕ)). record { head = m.head; objects = xs }) (all_same-true n.objects m.objects p.1)
+        ap (λ (x : List ℕ). record { head = x; objects = n.objects }) (same-true n.head m.head p.0) ∙ ap (λ (xs : List (List ℕ)). record { head = m.head; objects = xs }) (all_same_names-true n.objects m.objects p.1)
 
     itself : (k : GroundName) → same_name k k ≡ true
-    itself k = and_from (same k.head k.head) (all_same k.objects k.objects) (same-refl k.head) (all_same-refl k.objects)
+    itself k = and_from (same k.head k.head) (all_same k.objects k.objects) (same-refl k.head) (all_same_names-refl k.objects)
 
     by : (s : Bool) → same_name n m ≡ s → (t : Bool) → same (encoded n) (encoded m) ≡ t → t ≡ s
     by true e true h = refl

@@ -12,15 +12,15 @@ use Rattle.kp_lex.specs.Answers.{IsRight}
 use Rattle.kp_lex.specs.Cutting.{Cut, BadAt}
 use Rattle.kp_lex.specs.Places.{place_of}
 use Rattle.kp_lex.specs.Spans.{InOrder}
-use Rattle.kp_lex.proofs.Outcomes.{some, never_both, one_cutting, one_bad_byte}
+use Rattle.kp_lex.proofs.Public.{cutting_or_bad_byte, never_cutting_and_bad_byte, one_cutting, one_bad_byte}
 use Rattle.kp_grammar.specs.declared.tree.Word.{Word}
 use Rattle.kp_grammar.specs.Symbols.{Tok, seen_in, all_seen_in}
 use Rattle.kp_grammar.specs.Reading.{At, stop, ReadsWhole, StopsWhole}
-use Rattle.kp_grammar.proofs.Wholes.{whole_read_once, whole_never_both, whole_stopped_once, whole_always_one}
+use Rattle.kp_grammar.proofs.Public.{whole_reads_once, whole_never_both, whole_stops_once, whole_reads_or_stops}
 use Rattle.kp_cursor.specs.declared.halt.Halt.{Halt}
 use Rattle.kp_cursor.specs.declared.halt.Halt.TheVariants as halts
 use Rattle.kp_cursor.specs.Lexemes.{from, lexed, byte_at}
-use Rattle.kp_cursor.proofs.Ascii.{all_lexed}
+use Rattle.kp_cursor.proofs.Public.{lexed_as_seen}
 use Rattle.kp_plans.specs.declared.step.PlanStep.{PlanStep}
 use Rattle.kp_plans.specs.Grammar.{plan}
 use Rattle.kp_plans.specs.PlanFiles.{step_of, IsPlanOf, RefusesPlan, bad_token, stops, AnswersPlan, PlansReadOnce, PlansRefuseOnce, PlansNeverBoth, PlansAlwaysOne}
@@ -35,7 +35,7 @@ seen_ascend text a (t ∷ ts) end h = (h.0, weaker t.from t.to (all_seen_in text
 
 module _ (text lower : List ℕ) (ts : List Token) (ls : List (Tok Word)) (e : lower ≡ str_to_ascii_lowercase text) (read : ls ≡ map (lexed lower) ts) where
   seen : ls ≡ all_seen_in text ts
-  seen = read ∙ all_lexed text lower ts e
+  seen = read ∙ lexed_as_seen text lower ts e
 
   pub tokens_ascend : InOrder 0 ts (length text) → Ascends 0 ls (length text)
   tokens_ascend h = subst (λ (us : List (Tok Word)). Ascends 0 us (length text)) (sym seen) (seen_ascend text 0 ts (length text) h)
@@ -69,21 +69,21 @@ refused text ts (halts.Unsupported i) e cut h told = absurd h
 same_tree : (text : List ℕ) (steps others : List PlanStep) (h : IsPlanOf text steps) (k : IsPlanOf text others) → h.tree ≡ k.tree
 same_tree text steps others h k =
     let same : k.reads.tokens ≡ h.reads.tokens = one_cutting _ _ k.reads.cut h.reads.cut in
-    whole_read_once _ _ plan (all_seen_in text h.reads.tokens) h.tree k.tree h.reads.reads (subst (λ (ts : List Token). ReadsWhole plan (all_seen_in text ts) k.tree) same k.reads.reads)
+    whole_reads_once _ _ plan (all_seen_in text h.reads.tokens) h.tree k.tree h.reads.reads (subst (λ (ts : List Token). ReadsWhole plan (all_seen_in text ts) k.tree) same k.reads.reads)
 
 pub read_once : PlansReadOnce
 read_once text steps others h k = sym h.are ∙ ap (map (step_of text)) (same_tree text steps others h k) ∙ k.are
 
 pub refused_once : PlansRefuseOnce
 refused_once text r s (bad_token i h) (bad_token j k) = ap (λ (n : ℕ). refusals.BadToken (place_of parts.Plan text n)) (one_bad_byte i j h k)
-refused_once text r s (bad_token i h) (stops ts at k p) = absurd (never_both ts i k h)
-refused_once text r s (stops ts at h p) (bad_token i k) = absurd (never_both ts i h k)
+refused_once text r s (bad_token i h) (stops ts at k p) = absurd (never_cutting_and_bad_byte ts i k h)
+refused_once text r s (stops ts at h p) (bad_token i k) = absurd (never_cutting_and_bad_byte ts i h k)
 refused_once text r s (stops ts at h p) (stops us there k q) =
     ap (λ (a : At Word). refusals.PlanSyntax (place_of parts.Plan text (byte_at text a.tokens)))
-    (whole_stopped_once _ _ plan (all_seen_in text ts) at there p (subst (λ (vs : List Token). StopsWhole plan (all_seen_in text vs) there) (one_cutting _ _ k h) q))
+    (whole_stops_once _ _ plan (all_seen_in text ts) at there p (subst (λ (vs : List Token). StopsWhole plan (all_seen_in text vs) there) (one_cutting _ _ k h) q))
 
 pub never_two : PlansNeverBoth
-never_two text steps r h (bad_token i k) = never_both h.reads.tokens i h.reads.cut k
+never_two text steps r h (bad_token i k) = never_cutting_and_bad_byte h.reads.tokens i h.reads.cut k
 never_two text steps r h (stops ts at k p) =
     whole_never_both _ _ plan (all_seen_in text ts) h.tree at (subst (λ (us : List Token). ReadsWhole plan (all_seen_in text us) h.tree) (one_cutting _ _ h.reads.cut k) h.reads.reads) p
 
@@ -95,8 +95,8 @@ by_tokens text ts cut (inl h) = inl (map (step_of text) h.0, record { tree = h.0
 by_tokens text ts cut (inr h) = inr (_, stops ts h.0 cut h.1)
 
 by_cutting : (text : List ℕ) → ((ts : List Token) × Cut 0 text ts) ⊎ ((i : ℕ) × BadAt 0 text i) → HasAnswer text
-by_cutting text (inl h) = by_tokens text h.0 h.1 (whole_always_one _ _ plan (all_seen_in text h.0))
+by_cutting text (inl h) = by_tokens text h.0 h.1 (whole_reads_or_stops _ _ plan (all_seen_in text h.0))
 by_cutting text (inr h) = inr (_, bad_token h.0 h.1)
 
 pub always_some : PlansAlwaysOne
-always_some text = by_cutting text (some text)
+always_some text = by_cutting text (cutting_or_bad_byte text)

@@ -19,7 +19,7 @@ abbrev pub components : Parts → List ℕ → Option (List Name)
 components p rest = option_map (λ xs. p.ended ++ with_bytes p.last xs) (split (behind p.escaped rest))
 
 -- from before to now the byte was read
-pub record Reads (before now : Parts) (b : ℕ) : Type 0 where
+pub record Decodes (before now : Parts) (b : ℕ) : Type 0 where
   pub reads : (rest : List ℕ) → components now rest ≡ components before (b ∷ rest)
 
 -- no component goes on with the byte
@@ -28,5 +28,5 @@ pub record Breaks (before : Parts) (b : ℕ) : Type 0 where
 
 -- the byte was read, or no component goes on with it
 abbrev pub Takes : Parts → Parts → ℕ → Bool → Type 0
-Takes before now b true = Reads before now b
+Takes before now b true = Decodes before now b
 Takes before now b false = Breaks before b

@@ -14,10 +14,9 @@ use Rattle.kp_grounding.specs.Ground.{kept_instances, ground_atoms, atom_name, g
 use Rattle.kp_kept.specs.Counts.{IsWithin}
 use Rattle.kp_ground.specs.Grounded.{IsGrounded}
 use Rattle.kp_ground.specs.Passes.{action_at}
-use Rattle.kp_ground.proofs.Kept.{actions_at}
+use Rattle.kp_ground.proofs.Public.{actions_of_schemas_in_order}
 use Rattle.kp_clash.specs.Counted.{IsCounted}
-use Rattle.kp_given.proofs.Sizes.{actions_light}
-use Rattle.kp_given.proofs.OfAtoms.{by_number}
+use Rattle.kp_given.proofs.Public.{actions_light, ground_is_of_its_atoms}
 use Rattle.kp_task.specs.Weight.{both_weight, action_weight}
 use Rattle.kp_prepared.specs.Prepared.{usual}
 
@@ -35,7 +34,7 @@ effects_within (e ∷ es) = let a = sum_by-cons both_weight e es in let b = effe
 module _ (l : Lifted) (w : IsWithin l usual) where
   pub few_actions : length (ground_of l).actions ≤ 20000
   few_actions =
-      let a = ap (λ (as' : List Action). length as') (actions_at l (ground_atoms l)) in
+      let a = ap (λ (as' : List Action). length as') (actions_of_schemas_in_order l (ground_atoms l)) in
       let m = length-map (kept_instances l) (action_at l (ground_atoms l)) in
       let n = w.actions in
       omega (arith, a, m, n)
@@ -56,6 +55,6 @@ is_counted l g w = subst IsCounted (sym w.ground) (record {
 
 -- it speaks of its atoms alone
 pub is_of_atoms : (l : Lifted) (g : Ground) → IsGrounded l usual g → IsOfItsAtoms g
-is_of_atoms l g w = subst IsOfItsAtoms (sym w.ground) (by_number l
+is_of_atoms l g w = subst IsOfItsAtoms (sym w.ground) (ground_is_of_its_atoms l
     (let a = length-map (ground_atoms l) (atom_name l) in let b = w.atoms in omega (arith, a, b))
     (let n = few_actions l w.counts in omega (arith, n)))

@@ -8,7 +8,7 @@ use Rattle.kp_base.specs.declared.refused.Stop.{Stop}
 use Rattle.kp_base.specs.declared.refused.Stop.TheVariants as causes
 use Rattle.kp_base.specs.Exclusive.{ClashesFirst, IsClashFree}
 use Rattle.kp_machine.specs.Formulas.{SayTheSame}
-use Rattle.kp_machine.proofs.Formulas.{same_models}
+use Rattle.kp_machine.proofs.Public.{same_models_say_the_same as same_models}
 use Rattle.kp_grammar.specs.declared.tree.Word.{Word}
 use Rattle.kp_grammar.specs.Trees.{Domain, Problem}
 use Rattle.kp_meaning.specs.Numbered.{Lifted as Numbers}
@@ -21,7 +21,7 @@ use Rattle.kp_ground.specs.Grounded.{IsGrounded, RefusesGround}
 use Rattle.kp_init.specs.Initial.{initial_of}
 use Rattle.kp_primes.specs.Held.{Held, formula}
 use Rattle.kp_primes.specs.Answers.{HoldsPrimes, HasNoState, RefusesPrimes, too_many, no_state}
-use Rattle.kp_given.proofs.Starts.{states_are_models}
+use Rattle.kp_given.proofs.Public.{initial_states_are_models}
 use Rattle.kp_printed.specs.Refusals.{nothing}
 use Rattle.kp_outcome.specs.declared.outcome.Outcome.{Outcome}
 use Rattle.kp_prepared.specs.declared.prepared.Prepared.{Prepared as Made}
@@ -91,11 +91,11 @@ module _ (limit : ℕ) (x y : List ℕ) (d : Domain Word) (p : Problem Word) (h 
   l = numbered_problem d p
 
   started : IsGrounded l usual (ground_of l) → HasPrimes limit l → IsStarted limit d p
-  started w k = record { small = w; counted = k.never_over; initial = (states_are_models d p h.no_fault).1 k.has_model }
+  started w k = record { small = w; counted = k.never_over; initial = (initial_states_are_models d p h.no_fault).1 k.has_model }
 
   -- no model is an initial state
   without : HasNoState (initial_of l) limit → HasInitialState p → ⊥
-  without none has = none.no_model ((states_are_models d p h.no_fault).0 has)
+  without none has = none.no_model ((initial_states_are_models d p h.no_fault).0 has)
 
   trees_end : (o : Outcome) → EndsWithin limit l o → EndsEarly limit x y o
   trees_end _ (over z a) = by_trees d p _ _ h (too_large z a) refl

@@ -9,9 +9,9 @@ use Rattle.kp_base.specs.declared.ground.Ground.{Ground}
 use Rattle.kp_base.specs.declared.ground.Initial.{Initial}
 use Rattle.kp_base.specs.declared.limits.Limits.{Limits}
 use Rattle.kp_base.specs.Implicates.{prefix_of, IsLeastOver, IsNeverOver}
-use Rattle.kp_machine.proofs.Exclusive.{clash_or_free, under_one}
-use Rattle.kp_primes.proofs.Lengths.{not_more_and_at_most}
-use Rattle.kp_clash.proofs.Once.{first_once}
+use Rattle.kp_machine.proofs.Public.{no_clash_where_free, first_clash_under_any_exclusive}
+use Rattle.kp_primes.proofs.Public.{not_more_and_at_most}
+use Rattle.kp_clash.proofs.Public.{first_clash_once}
 use Rattle.kp_meaning.specs.Numbered.{Lifted}
 use Rattle.kp_meaning.specs.Numbering.{numbered_problem}
 use Rattle.kp_kept.specs.Counts.{IsWithin, RefusesCounts, bindings_over, actions_over, effects_over}
@@ -88,13 +88,13 @@ module _ (limit : ℕ) (d : Domain Word) (p : Problem Word) where
   trees_once _ _ _ _ (clash c a h) (too_large s k) = absurd (ground_or_within (numbered_problem d p) usual s _ k a.small)
   trees_once _ _ _ _ (clash c a h) (implicates_over n w b) = absurd (least_or_never (initial_of d p) limit n b a.counted)
   trees_once _ _ _ _ (clash c a h) (no_initial_state w b e) = absurd (e a.initial)
-  trees_once _ _ _ _ (clash c a h) (clash e b k) = ap (λ x. refuses (named_in (ground_of d p)) (refusals.Clash x)) (first_once h.pairs (ground_of d p) c e h.first (under_one (ground_of d p) (initial_of d p) c e h k))
+  trees_once _ _ _ _ (clash c a h) (clash e b k) = ap (λ x. refuses (named_in (ground_of d p)) (refusals.Clash x)) (first_clash_once h.pairs (ground_of d p) c e h.first (first_clash_under_any_exclusive (ground_of d p) (initial_of d p) c e h k))
 
   trees_or_prepared : (n : Named) (r : Refused) → RefusesTrees limit d p n r → IsPrepared limit d p → ⊥
   trees_or_prepared _ _ (too_large r h) k = ground_or_within (numbered_problem d p) usual r _ h k.started.small
   trees_or_prepared _ _ (implicates_over n w a) k = least_or_never (initial_of d p) limit n a k.started.counted
   trees_or_prepared _ _ (no_initial_state w a i) k = i k.started.initial
-  trees_or_prepared _ _ (clash c a h) k = clash_or_free (ground_of d p) (initial_of d p) c h k.clash_free
+  trees_or_prepared _ _ (clash c a h) k = no_clash_where_free (ground_of d p) (initial_of d p) c h k.clash_free
 
 -- ---- two texts
 

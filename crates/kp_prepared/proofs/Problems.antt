@@ -5,8 +5,8 @@ use Rattle.kp_grammar.specs.declared.tree.Word.{Word}
 use Rattle.kp_grammar.specs.Trees.{Domain, Problem}
 use Rattle.kp_meaning.specs.Faults.{HasNoFault}
 use Rattle.kp_meaning.specs.Plans.{HasProblem}
-use Rattle.kp_grounding.specs.Laws.{action_name}
-use Rattle.kp_grounding.proofs.Names.{actions_named_once}
+use Rattle.kp_base.specs.ActionNames.{action_name}
+use Rattle.kp_grounding.proofs.Public.{actions_named_once}
 use Rattle.kp_given.specs.Translations.{ground_of}
 use Rattle.kp_prepared.specs.Texts.{HaveTrees}
 

@@ -12,7 +12,7 @@ use Rattle.kp_grammar.specs.Grammar as grammar
 use Rattle.kp_grammar.specs.Sorts.{Sort, El}
 use Rattle.kp_grammar.specs.Forms.{Form}
 use Rattle.kp_grammar.specs.Trees.{Domain, Problem}
-use Rattle.kp_tree.specs.Files.{Reads, Refuses, AnswersFile}
+use Rattle.kp_tree.specs.Files.{HasTree, Refuses, AnswersFile}
 use Rattle.kp_lifted.specs.declared.lifted.Lifted.{Lifted}
 use Rattle.kp_names.specs.Resolved.{RefusesNames, AnswersNames}
 use Rattle.kp_prepared.specs.Texts.{IsProblemOf}
@@ -36,7 +36,7 @@ pub refused_names : (x y : List ℕ) (d : Domain Word) (p : Problem Word) (resul
 refused_names x y d p result r h e = subst (AnswersNames x y d p) e h
 
 -- the problem by number of the trees that were read
-pub resolved_is : (x y : List ℕ) (d : Domain Word) (p : Problem Word) (result : Result Lifted Stop) → Reads grammar.domain x d → Reads grammar.problem y p → AnswersNames x y d p result → IfOk result (IsProblemOf x y)
+pub resolved_is : (x y : List ℕ) (d : Domain Word) (p : Problem Word) (result : Result Lifted Stop) → HasTree grammar.domain x d → HasTree grammar.problem y p → AnswersNames x y d p result → IfOk result (IsProblemOf x y)
 resolved_is x y d p (Ok l) h k a = record { first = d; second = p; trees = record { domain_reads = h; problem_reads = k; no_fault = a.no_fault }; resolved = a }
 resolved_is x y d p (Err e) h k a = tt
 

@@ -6,14 +6,14 @@ use Rattle.kp_grammar.specs.declared.tree.Word.{Word}
 use Rattle.kp_grammar.specs.Trees.{Domain, Problem}
 use Rattle.kp_grammar.specs.Grammar as grammar
 use Rattle.kp_meaning.specs.Faults.{HasNoFault}
-use Rattle.kp_tree.specs.Files.{Reads, Refuses}
+use Rattle.kp_tree.specs.Files.{HasTree, Refuses}
 use Rattle.kp_lifted.specs.declared.lifted.Lifted.{Lifted}
 use Rattle.kp_names.specs.Resolved.{RefusesNames, IsResolved}
 
 -- the files have these trees, in which no name is at fault
 pub record HaveTrees (domain problem : List ℕ) (d : Domain Word) (p : Problem Word) : Type 0 where
-  pub domain_reads : Reads grammar.domain domain d
-  pub problem_reads : Reads grammar.problem problem p
+  pub domain_reads : HasTree grammar.domain domain d
+  pub problem_reads : HasTree grammar.problem problem p
   pub no_fault : HasNoFault d p
 
 -- the problem by number of two texts
@@ -26,5 +26,5 @@ pub record IsProblemOf (domain problem : List ℕ) (l : Lifted) : Type 0 where
 -- the files are refused: the domain first, then the problem, and then a name in their trees
 pub data RefusesTexts (domain problem : List ℕ) : Refused → Type 0 where
   of_domain : (r : Refused) → Refuses parts.Domain grammar.domain domain r → RefusesTexts domain problem r
-  of_problem : (d : Domain Word) (r : Refused) → Reads grammar.domain domain d → Refuses parts.Problem grammar.problem problem r → RefusesTexts domain problem r
-  of_names : (d : Domain Word) (p : Problem Word) (r : Refused) → Reads grammar.domain domain d → Reads grammar.problem problem p → RefusesNames domain problem d p r → RefusesTexts domain problem r
+  of_problem : (d : Domain Word) (r : Refused) → HasTree grammar.domain domain d → Refuses parts.Problem grammar.problem problem r → RefusesTexts domain problem r
+  of_names : (d : Domain Word) (p : Problem Word) (r : Refused) → HasTree grammar.domain domain d → HasTree grammar.problem problem p → RefusesNames domain problem d p r → RefusesTexts domain problem r

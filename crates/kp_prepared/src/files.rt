@@ -5,7 +5,7 @@ ghost use Rattle.kp_base.specs.declared.refused.Stop.TheVariants as stops;
 ghost use Rattle.kp_grammar.specs.Grammar as grammar;
 ghost use Rattle.kp_grammar.specs.View.{domain_view, problem_view};
 ghost use Rattle.kp_outside.specs.Outside.{IsFront, IsWithin};
-ghost use Rattle.kp_tree.specs.Files.{Reads, AnswersFile};
+ghost use Rattle.kp_tree.specs.Files.{HasTree, AnswersFile};
 ghost use Rattle.kp_prepared.specs.Texts.{IsProblemOf, RefusesTexts};
 
 use kp_base::{Part, Refused, Stop, Texts};
@@ -17,7 +17,7 @@ use std::alloc::Global;
 // The tree of a domain, at most 16,777,216 bytes of which were read.
 fn domain_of(alloc: Global, got: &Got) -> Result<Domain, Stop>
     requires { IsWithin 16777216 got.now }
-    ensures tree { IfOk result (λ d. Reads grammar.domain got.now.bytes (domain_view d)) }
+    ensures tree { IfOk result (λ d. HasTree grammar.domain got.now.bytes (domain_view d)) }
     ensures whole { (text : List ℕ) → IsFront (Some text) 16777216 got.now → IfOk result (λ d. got.now.bytes ≡ text) }
     ensures front { (text : List ℕ) → IsFront (Some text) 16777216 got.now → AnswersFile parts.Domain grammar.domain domain_view text result }
 {
@@ -30,7 +30,7 @@ fn domain_of(alloc: Global, got: &Got) -> Result<Domain, Stop>
 // The tree of a problem, at most 16,777,216 bytes of which were read.
 fn problem_of(alloc: Global, got: &Got) -> Result<Problem, Stop>
     requires { IsWithin 16777216 got.now }
-    ensures tree { IfOk result (λ p. Reads grammar.problem got.now.bytes (problem_view p)) }
+    ensures tree { IfOk result (λ p. HasTree grammar.problem got.now.bytes (problem_view p)) }
     ensures whole { (text : List ℕ) → IsFront (Some text) 16777216 got.now → IfOk result (λ p. got.now.bytes ≡ text) }
     ensures front { (text : List ℕ) → IsFront (Some text) 16777216 got.now → AnswersFile parts.Problem grammar.problem problem_view text result }
 {

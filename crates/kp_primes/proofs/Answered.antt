@@ -14,7 +14,7 @@ use Rattle.kp_base.specs.Steps.{State, holds, is_model}
 use Rattle.kp_base.specs.Implicates.{is_within, prefix_of, ListsPrimes, HasAtMostPrimes, IsLeastOver, IsNeverOver}
 use Rattle.kp_base.proofs.Lists.{any_member}
 use Rattle.kp_clauses.specs.Stored.{subsumed}
-use Rattle.kp_clauses.proofs.Within.{within_member}
+use Rattle.kp_clauses.proofs.Public.{within_member}
 use Rattle.kp_primes.specs.Included.{all_included, unit_of, AreSets, AreCounted, IsPassedAt, RefusesPrefix, StopsPrefix}
 use Rattle.kp_primes.specs.Answers.{HasNoState, RefusesPrimes, AnswersPrimes}
 use Rattle.kp_primes.proofs.Cover.{IsCover}

@@ -1,6 +1,6 @@
 -- The questions are answered exactly.
 use Rattle.std.proofs.Common.{◌≡◌, ◌↔◌, ℕ, Bool, true, false, not, ◌||◌, List, [], ◌∷◌, refl, sym, ◌∙◌, ap, subst, inl, inr, map, nat_lt}
-use Rattle.std.proofs.lemmas.Bool.{or_cases, or_left, or_right, false≢true, cases_Bool, true_from_ne_false}
+use Rattle.std.proofs.lemmas.Bool.{or_cases, or_left, or_right, false≢true, cases_Bool, true_from_ne_false, false_from_ne_true}
 use Rattle.std.specs.List.{list_any, list_all}
 use Rattle.kp_base.specs.declared.lit.Lit.{Lit}
 use Rattle.kp_base.specs.Lists.{Member}
@@ -10,9 +10,7 @@ use Rattle.kp_base.specs.Implicates.{is_within, is_tautology}
 use Rattle.kp_base.proofs.Lists.{any_member, any_from, all_from, all_member, member_map, map_member}
 use Rattle.kp_base.proofs.Lits.{has-member, member-has, negated-negated, holds-negated}
 use Rattle.kp_clauses.specs.Stored.{subsumed}
-use Rattle.kp_clauses.proofs.Logic.{not-true-case}
-use Rattle.kp_clauses.proofs.Within.{within_member, proper_more, tautology_from}
-use Rattle.kp_clauses.proofs.Extending.{MayJoin, fails}
+use Rattle.kp_clauses.proofs.Public.{within_member, one_more_is_no_tautology, tautology_from, MayJoin, state_makes_them_false}
 use Rattle.kp_primes.specs.Asked.{denied, denied_but, inconsistent, entailed_by}
 use Rattle.kp_primes.proofs.Cover.{IsCover}
 
@@ -31,7 +29,7 @@ not_denied s tag x met h d = opposite s x h (all_member (holds s) tag (negated x
 
 -- the negations of a tag that doesn't oppose itself are no tautology
 negations_proper : (tag : List Lit) → is_tautology tag ≡ false → is_tautology (map negated tag) ≡ false
-negations_proper tag h = not-true-case (is_tautology (map negated tag)) (λ t.
+negations_proper tag h = false_from_ne_true (is_tautology (map negated tag)) (λ t.
     let x = any_member (λ y. has (map negated tag) (negated y)) (map negated tag) t in
     let y = map_member negated tag x.0 x.1 in
     let z = map_member negated tag (negated x.0) (member-has (map negated tag) (negated x.0) x.2) in
@@ -79,14 +77,14 @@ module _ (m : State → Bool) (ps : List (List Lit)) (cover : IsCover m ps) wher
   -- where the tag is not found to be inconsistent, some state in which the clauses are true meets it
   pub met_somewhere : (n : ℕ) → list_all (λ c. list_all (λ l. nat_lt l.atom.0 n) c) ps ≡ true → (tag : List Lit) → inconsistent ps tag ≡ false → (s : State) × (list_all (list_any (holds s)) ps ≡ true) × (list_all (holds s) tag ≡ true)
   met_somewhere n range tag h =
-      let proper : is_tautology tag ≡ false = not-true-case (is_tautology tag) (λ t. false≢true (sym h ∙ or_left (is_tautology tag) (list_any (denied tag) ps) t)) in
-      let free : subsumed ps (map negated tag) ≡ false = not-true-case (subsumed ps (map negated tag)) (λ t.
+      let proper : is_tautology tag ≡ false = false_from_ne_true (is_tautology tag) (λ t. false≢true (sym h ∙ or_left (is_tautology tag) (list_any (denied tag) ps) t)) in
+      let free : subsumed ps (map negated tag) ≡ false = false_from_ne_true (subsumed ps (map negated tag)) (λ t.
       let c = any_member (λ e. is_within e (map negated tag)) ps t in
       false≢true (sym h ∙ or_right (is_tautology tag) (list_any (denied tag) ps) (any_from (denied tag) ps c.0 c.1 (denied_within tag c.0 c.2)))) in
-      let f = fails n ps range both_join (map negated tag) (record { free = free; proper = negations_proper tag proper }) in (
+      let f = state_makes_them_false n ps range both_join (map negated tag) (record { free = free; proper = negations_proper tag proper }) in (
         f.0,
         f.1.clauses_true,
-        met_from f.0 tag (not-true-case (list_any (holds f.0) (map negated tag)) (λ on.
+        met_from f.0 tag (false_from_ne_true (list_any (holds f.0) (map negated tag)) (λ on.
             let x = any_member (holds f.0) (map negated tag) on in
             false≢true (sym (f.1.all_false x.0 x.1) ∙ x.2))),
       )
@@ -123,10 +121,10 @@ module _ (m : State → Bool) (ps : List (List Lit)) (cover : IsCover m ps) wher
       back true b is _ ent = or_left (is_tautology tag || has tag l) (list_any (denied_but tag l) ps) (or_left (is_tautology tag) (has tag l) is)
       back false true _ is ent = or_left (is_tautology tag || has tag l) (list_any (denied_but tag l) ps) (or_right (is_tautology tag) (has tag l) is)
       back false false proper out ent =
-          let none : has (map negated tag) (negated l) ≡ false = not-true-case (has (map negated tag) (negated l)) (λ h.
+          let none : has (map negated tag) (negated l) ≡ false = false_from_ne_true (has (map negated tag) (negated l)) (λ h.
           let y = map_member negated tag (negated l) (member-has (map negated tag) (negated l) h) in
           false≢true (sym out ∙ has-member tag l (subst (Member tag) (sym (negated-negated y.0) ∙ (ap negated y.2 ∙ negated-negated l)) y.1))) in
-          let got = cover.covers (l ∷ map negated tag) (proper_more (map negated tag) l (negations_proper tag proper) none) (λ s sat.
+          let got = cover.covers (l ∷ map negated tag) (one_more_is_no_tautology (map negated tag) l (negations_proper tag proper) none) (λ s sat.
           true_from_ne_false (list_any (holds s) (l ∷ map negated tag)) (λ off. elim (cases_Bool (list_any (holds s) (map negated tag))) [
             | inl on ↦ false≢true (sym off ∙ or_right (holds s l) (list_any (holds s) (map negated tag)) on)
             | inr no-tag ↦ false≢true (sym off ∙ or_left (holds s l) (list_any (holds s) (map negated tag)) (ent s sat (met_from s tag no-tag)))

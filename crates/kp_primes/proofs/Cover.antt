@@ -12,9 +12,7 @@ use Rattle.kp_base.proofs.Lists.{any_member, any_from}
 use Rattle.kp_base.proofs.Lits.{member-has, negated-negated, holds-negated}
 use Rattle.kp_clauses.specs.Resolved.{resolved}
 use Rattle.kp_clauses.specs.Stored.{subsumed, with_all, are_apart}
-use Rattle.kp_clauses.proofs.Within.{within_member, within_from, proper_more, has_new, tautology_true, true_within}
-use Rattle.kp_clauses.proofs.Resolving.{resolved_true, resolved_within, resolved_ascending}
-use Rattle.kp_clauses.proofs.Storing.{with_all_member, with_all_old, with_all_new, with_all_apart}
+use Rattle.kp_clauses.proofs.Public.{within_member, within_from, one_more_is_no_tautology, has_the_one_more, tautology_true, true_where_within, resolved_true, resolved_within, resolved_ascending, with_all_member, with_all_old, with_all_new, with_all_apart}
 use Rattle.kp_primes.specs.Included.{stepped, walked, idle, included}
 use Rattle.kp_primes.proofs.Spreading.{least_parts, stepped_old, stepped_reaches, stepped_keeps}
 
@@ -63,7 +61,7 @@ pick ps d l h =
     let p = any_member (λ p. is_within p (l ∷ d)) ps h in
     elim (cases_Bool (is_within p.0 d)) [
       | inl in' ↦ inl (any_from (λ p. is_within p d) ps p.0 p.1 in')
-      | inr out ↦ inr (p.0, p.1, has_new p.0 d l p.2 out, p.2)
+      | inr out ↦ inr (p.0, p.1, has_the_one_more p.0 d l p.2 out, p.2)
     ]
 
 module _ (m : State → Bool) (ps : List (List Lit)) (cover : IsCover m ps) (c : List Lit) where
@@ -99,7 +97,7 @@ module _ (m : State → Bool) (ps : List (List Lit)) (cover : IsCover m ps) (c :
       -- a clause of the cover without the negated literal settles it
       with_prime : (e : List Lit) → Member es e → has e l ≡ true → is_within e (l ∷ d) ≡ true → has d l ≡ false → (subsumed (stepped ps l es) d || subsumed ps d) ≡ true
       with_prime e in-e has-l in-ld no-l =
-          let proper' : is_tautology (negated l ∷ d) ≡ false = proper_more d (negated l) proper (rw negated-negated no-l) in
+          let proper' : is_tautology (negated l ∷ d) ≡ false = one_more_is_no_tautology d (negated l) proper (rw negated-negated no-l) in
           let got = cover.covers (negated l ∷ d) proper' (λ s hm. elim (cases_Bool (holds s l)) [
             | inl t ↦ or_right (holds s (negated l)) (list_any (holds s) d) (on s hm t)
             | inr off ↦ or_left (holds s (negated l)) (list_any (holds s) d) (holds-negated s l ∙ ap not off)
@@ -116,7 +114,7 @@ module _ (m : State → Bool) (ps : List (List Lit)) (cover : IsCover m ps) (c :
         | inr off ↦ any_from (holds s) d (negated l) (member-has d (negated l) is) (holds-negated s l ∙ ap not off)
       ]))
       go false false no-l no-n =
-          let proper' : is_tautology (l ∷ d) ≡ false = proper_more d l proper no-n in
+          let proper' : is_tautology (l ∷ d) ≡ false = one_more_is_no_tautology d l proper no-n in
           let rest' : is_within (l ∷ rest) (l ∷ d) ≡ true = within_from (l ∷ rest) (l ∷ d) (λ x n. elim n [ inl e ↦ inl e | inr r ↦ inr (within_member rest d rest-in x r) ]) in
           elim (or_cases (subsumed es (l ∷ d)) (subsumed ps (l ∷ d)) (part.covers (l ∷ d) proper' rest' (λ s hm h. or_right (holds s l) (list_any (holds s) d) (before s hm h)))) [
             | inl a ↦ elim (pick es d l a) [
@@ -157,7 +155,7 @@ module _ (m : State → Bool) (ps : List (List Lit)) (cover : IsCover m ps) (c :
 
       go : (a b : Bool) → is_tautology c ≡ a → subsumed ps c ≡ b → IsCover (both m c) (cond (a || b) ps (with_all ps (walked ps c (c ∷ []))))
       go true b is _ = same (λ s _. tautology_true s c is)
-      go false true _ is = same (λ s hm. let e = any_member (λ e. is_within e c) ps is in true_within s e.0 c e.2 ((cover.each e.0 e.1).sound s hm))
+      go false true _ is = same (λ s hm. let e = any_member (λ e. is_within e c) ps is in true_where_within s e.0 c e.2 ((cover.each e.0 e.1).sound s hm))
       go false false proper _ =
           let part = part_walk [] c (c ∷ []) (part_start m ps c proper asc) in
           record {

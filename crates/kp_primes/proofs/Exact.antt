@@ -11,10 +11,9 @@ use Rattle.kp_base.specs.Steps.{State, holds, has, is_model}
 use Rattle.kp_base.specs.Implicates.{is_within, is_tautology, IsImplicate, IsPrime, IsOnce, ListsPrimes}
 use Rattle.kp_base.proofs.Lists.{any_member, all_member}
 use Rattle.kp_base.proofs.Lits.{has-member, member-has}
+use Rattle.kp_base.proofs.Members.{ascending_same}
 use Rattle.kp_clauses.specs.Stored.{are_apart}
-use Rattle.kp_clauses.proofs.Within.{within_member, within_trans, within_self, tautology_from}
-use Rattle.kp_clauses.proofs.Sets.{ascending_same}
-use Rattle.kp_clauses.proofs.Storing.{apart_same}
+use Rattle.kp_clauses.proofs.Public.{within_member, within_trans, within_self, tautology_from, stored_within_is_itself}
 use Rattle.kp_primes.specs.Included.{included, all_included}
 use Rattle.kp_primes.proofs.Cover.{IsCover, both, included_cover, included_apart}
 
@@ -73,7 +72,7 @@ are_primes i ps cover far = record { exact = λ c. (prime c, there c); once = on
       implicate = implicate c m;
       least = λ d imp sub.
           let e = any_member (λ e. is_within e d) ps (cover.covers d imp.proper imp.holds_always) in
-          let same = apart_same ps e.0 c far e.1 m (within_trans e.0 d c e.2 sub) in
+          let same = stored_within_is_itself ps e.0 c far e.1 m (within_trans e.0 d c e.2 sub) in
           subst (λ (y : List Lit). is_within y d ≡ true) same e.2;
     }
 

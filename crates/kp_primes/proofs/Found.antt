@@ -1,6 +1,6 @@
 -- The clauses of a build that succeeds.
 use Rattle.std.proofs.Common.{◌≡◌, ℕ, Bool, true, false, not, List, [], ◌∷◌, refl, sym, ◌∙◌, subst, inl, inr, map, length, nat_lt}
-use Rattle.std.proofs.lemmas.Bool.{and_parts, and_from, or_cases, or_left, false≢true}
+use Rattle.std.proofs.lemmas.Bool.{and_parts, and_from, or_cases, or_left, false≢true, false_from_ne_true}
 use Rattle.std.specs.List.{list_any, list_all}
 use Rattle.std.specs.List.Sorted.{IsPermutation, IsSorted}
 use Rattle.kp_base.specs.declared.lit.Lit.{Lit}
@@ -10,10 +10,10 @@ use Rattle.kp_base.specs.Lists.{Member}
 use Rattle.kp_base.specs.LitSet.{lits_cmp}
 use Rattle.kp_base.specs.Steps.{State, holds, is_model}
 use Rattle.kp_base.specs.Implicates.{is_within, is_tautology, formula_of, IsOfAtoms}
+use Rattle.kp_base.proofs.Members.{permuted_member}
 use Rattle.kp_base.proofs.Lists.{bool_same, any_from, any_member, all_member, all_from}
 use Rattle.kp_clauses.specs.Stored.{subsumed, are_apart}
-use Rattle.kp_clauses.proofs.Logic.{not-true-case}
-use Rattle.kp_clauses.proofs.Within.{tautology_true, true_within}
+use Rattle.kp_clauses.proofs.Public.{tautology_true, true_where_within}
 use Rattle.kp_primes.specs.Asked.{denied, inconsistent}
 use Rattle.kp_primes.specs.Included.{all_included, unit_of, AreCounted}
 use Rattle.kp_primes.specs.Held.{Held, AreWhole}
@@ -21,7 +21,7 @@ use Rattle.kp_primes.specs.Answers.{HoldsPrimes}
 use Rattle.kp_primes.proofs.Cover.{IsCover}
 use Rattle.kp_primes.proofs.Exact.{cover_same, all_included_apart, are_primes}
 use Rattle.kp_primes.proofs.Ranging.{all_included_passes}
-use Rattle.kp_primes.proofs.Sorting.{permuted_cover, permuted_apart, permuted_member}
+use Rattle.kp_primes.proofs.Sorting.{permuted_cover, permuted_apart}
 use Rattle.std.proofs.lemmas.List.Sorted.{list_any-IsPermutation}
 use Rattle.kp_primes.proofs.Asking.{met_somewhere, within_denied}
 use Rattle.kp_primes.proofs.Answered.{whole, whole_cover, store_is, never_over, all_sets}
@@ -39,7 +39,7 @@ implied m ps cover c follows s sat = go (is_tautology c) refl
     go true is = tautology_true s c is
     go false proper =
         let e = any_member (λ e. is_within e c) ps (cover.covers c proper follows) in
-        true_within s e.0 c e.2 (all_member (list_any (holds s)) ps e.0 e.1 sat)
+        true_where_within s e.0 c e.2 (all_member (list_any (holds s)) ps e.0 e.1 sat)
 
 models_back : (i : Initial) (ps : List (List Lit)) → IsCover (is_model i) ps → (s : State) → list_all (list_any (holds s)) ps ≡ true → is_model i s ≡ true
 models_back i ps cover s sat =
@@ -72,7 +72,7 @@ whole_passes n i of_atoms =
 
 -- without the empty clause the empty tag is not found to be inconsistent
 empty_consistent : (ps : List (List Lit)) → subsumed ps [] ≡ false → inconsistent ps [] ≡ false
-empty_consistent ps free = not-true-case (inconsistent ps []) (λ h.
+empty_consistent ps free = false_from_ne_true (inconsistent ps []) (λ h.
     let c = any_member (denied []) ps h in
     false≢true (sym free ∙ any_from (λ e. is_within e []) ps c.0 c.1 (within_denied [] c.0 c.2)))
 

@@ -1,6 +1,6 @@
 -- The new clauses don't get fewer while a clause is worked in, literal by literal.
 use Rattle.std.proofs.Common.{◌≡◌, ℕ, ◌<◌, ◌≤◌, ◌+◌, true, false, not, ◌||◌, cond, List, [], ◌∷◌, refl, sym, ◌∙◌, ap, subst, inl, inr, length, filter, drop, get_or, arith}
-use Rattle.std.proofs.lemmas.Bool.{or_left, or_right, false≢true}
+use Rattle.std.proofs.lemmas.Bool.{or_left, or_right, false≢true, false_from_ne_true}
 use Rattle.std.proofs.lemmas.List.{drop_more, length-append}
 use Rattle.kp_base.specs.declared.lit.Lit.{Lit}
 use Rattle.kp_base.specs.Lists.{Member}
@@ -12,10 +12,7 @@ use Rattle.kp_base.proofs.Lists.{any_member, any_from}
 use Rattle.kp_base.proofs.Lits.{has-member, same_lit-refl}
 use Rattle.kp_clauses.specs.Resolved.{resolved}
 use Rattle.kp_clauses.specs.Stored.{subsumed, with_all}
-use Rattle.kp_clauses.proofs.Logic.{not-true-case}
-use Rattle.kp_clauses.proofs.Within.{within_member, within_from, within_self}
-use Rattle.kp_clauses.proofs.Resolving.{within_resolved}
-use Rattle.kp_clauses.proofs.Storing.{with_all_member, with_all_new, with_all_apart, apart_same, merged_is}
+use Rattle.kp_clauses.proofs.Public.{within_member, within_from, within_self, within_resolved, with_all_member, with_all_new, with_all_apart, stored_within_is_itself, merged_is_with_all}
 use Rattle.kp_primes.specs.Included.{met_all, spread, stepped, walked, AreNew, idle}
 use Rattle.kp_base.proofs.Ascending.{tail_ascends}
 use Rattle.kp_primes.proofs.Rising.{first_once}
@@ -38,7 +35,7 @@ module _ (ps : List (List Lit)) where
     comes_of_it : (x e : List Lit) (m : Member (stepped ps l es) x) → Member es e → is_within x e ≡ true → (comes_of x m).0 ≡ e
     comes_of_it x e m in-e inside =
         let from = comes_of x m in
-        apart_same es from.0 e new.apart from.1 in-e (within_from from.0 e (λ y n. elim (within_member from.0 (l ∷ x) from.2 y n) [
+        stored_within_is_itself es from.0 e new.apart from.1 in-e (within_from from.0 e (λ y n. elim (within_member from.0 (l ∷ x) from.2 y n) [
           | inl same ↦ within_member (l ∷ rest) e (new.rest_in e in-e) y (inl same)
           | inr r ↦ within_member x e inside y r
         ]))
@@ -77,7 +74,7 @@ module _ (ps : List (List Lit)) where
       same : (x e : List Lit) → Member (with_all ps es) x → Member es e → is_within x e ≡ true → x ≡ e
       same x e m in-e h = elim (with_all_member ps es x m) [
         | inl r ↦ absurd (false≢true (sym (new.free e in-e) ∙ any_from (λ d. is_within d e) ps x r h))
-        | inr r ↦ apart_same es x e new.apart r in-e h
+        | inr r ↦ stored_within_is_itself es x e new.apart r in-e h
       ]
 
   walk_grows : (rest : List Lit) (es : List (List Lit)) → AreNew ps rest es → length es ≤ length (with_all ps (walked ps rest es))
@@ -97,7 +94,7 @@ module _ (ps : List (List Lit)) where
     rising = asc;
     apart = refl;
     rest_in = λ e m. elim m [ inl same ↦ subst (λ (y : List Lit). is_within c y ≡ true) same (within_self c) | inr bad ↦ absurd bad ];
-    free = λ e m. elim m [ inl same ↦ subst (λ (y : List Lit). subsumed ps y ≡ false) same (not-true-case (subsumed ps c) (λ h. false≢true (sym not_idle ∙ or_right (is_tautology c) (subsumed ps c) h))) | inr bad ↦ absurd bad ];
+    free = λ e m. elim m [ inl same ↦ subst (λ (y : List Lit). subsumed ps y ≡ false) same (false_from_ne_true (subsumed ps c) (λ h. false≢true (sym not_idle ∙ or_right (is_tautology c) (subsumed ps c) h))) | inr bad ↦ absurd bad ];
   }
 
 -- no prime implicate is within a clause that comes of one literal
@@ -121,7 +118,7 @@ unit_has l e m = elim m [ inl same ↦ subst (λ (x : List Lit). has x l ≡ tru
 pub fresh_over : (ps es : List (List Lit)) (l : Lit) (limit : ℕ) → ((e : List Lit) → Member es e → has e l ≡ true) → limit < length (spread ps es l es []) → limit < length (stepped ps l es)
 fresh_over ps es l limit each over =
     let fresh = spread ps es l es [] in
-    let is = ap length (merged_is es fresh (spread_apart ps es l) (spread_free ps es l each)) in
+    let is = ap length (merged_is_with_all es fresh (spread_apart ps es l) (spread_free ps es l each)) in
     let more = length-append (filter (λ e. not (subsumed fresh e)) es) fresh in
     omega arith
 

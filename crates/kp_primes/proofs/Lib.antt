@@ -1,3 +1,4 @@
+pub mod Public
 pub mod Placing
 pub mod Refusing
 pub mod Spreading
@@ -10,7 +11,7 @@ pub mod Lengths
 pub mod Growing
 pub mod Sorting
 pub mod Asking
-pub mod Below
+pub mod Denied
 pub mod Closing
 pub mod Answered
 pub mod Found

@@ -1,6 +1,6 @@
 -- The places of the clauses that have a literal, and what is resolved with the clauses there.
 use Rattle.std.proofs.Common.{◌≡◌, ◌≢◌, ◌<◌, ◌+◌, ℕ, zero, suc, Bool, true, false, ◌||◌, ◌&&◌, cond, List, [], ◌∷◌, ◌++◌, Some, refl, sym, ◌∙◌, ap, subst, inl, inr, take, length, get_or, slice_get, fold, nat_lt, arith}
-use Rattle.std.proofs.lemmas.Bool.{false≢true, cases_eq}
+use Rattle.std.proofs.lemmas.Bool.{false≢true, cases_eq, false_from_ne_true}
 use Rattle.std.proofs.lemmas.List.{take_more, append_assoc, length-take}
 use Rattle.std.proofs.lemmas.List.Folds.{list_any-append}
 use Rattle.std.specs.List.{list_any}
@@ -15,9 +15,7 @@ use Rattle.kp_base.proofs.Lits.{has-member, same_lit-true, same_lit-refl}
 use Rattle.kp_base.proofs.Ascending.{code_of-injective, tail_ascends}
 use Rattle.kp_clauses.specs.Resolved.{resolved}
 use Rattle.kp_clauses.specs.Stored.{subsumed, are_apart}
-use Rattle.kp_clauses.proofs.Logic.{not-true-case}
-use Rattle.kp_clauses.proofs.Within.{within_member}
-use Rattle.kp_clauses.proofs.Storing.{joined_apart}
+use Rattle.kp_clauses.proofs.Public.{within_member, two_lists_apart}
 use Rattle.kp_primes.proofs.Rising.{above}
 use Rattle.kp_primes.specs.Included.{grown, is_least, met, met_all}
 use Rattle.kp_clauses.specs.Listed.{row}
@@ -49,7 +47,7 @@ get_member (x ∷ xs) (suc i) d lt = inr (get_member xs i d (omega arith))
 not_before : (c : List Lit) → IsAscending c → (i : ℕ) (d : Lit) → i < length c → has (take i c) (get_or c i d) ≡ false
 not_before [] asc i d lt = absurd (omega arith)
 not_before (x ∷ c) asc zero d lt = refl
-not_before (x ∷ c) asc (suc i) d lt = rw (not-true-case (same_lit (get_or c i d) x) apart, not_before c (tail_ascends x c asc) i d (omega arith)) refl
+not_before (x ∷ c) asc (suc i) d lt = rw (false_from_ne_true (same_lit (get_or c i d) x) apart, not_before c (tail_ascends x c asc) i d (omega arith)) refl
   where
     apart : same_lit (get_or c i d) x ≡ true → ⊥
     apart e =
@@ -85,7 +83,7 @@ module _ (c : List Lit) (i : ℕ) (d : Lit) (place : ℕ) (old lists new : List 
 
       there : (l : Lit) → code_of l ≢ code_of x → row new (code_of l) ≡ row old (code_of l) ++ cond (has (take (i + 1) c) l) (place ∷ []) []
       there l ne =
-          let apart = not-true-case (same_lit l x) (λ e. ne (ap code_of (same_lit-true l x e))) in
+          let apart = false_from_ne_true (same_lit l x) (λ e. ne (ap code_of (same_lit-true l x e))) in
           others (code_of l) ne
           ∙ (h.each l ∙ ap (λ b. row old (code_of l) ++ cond b (place ∷ []) []) (sym (grown l ∙ rw apart (or_none (has (take i c) l)))))
 
@@ -130,7 +128,8 @@ module _ (ps es : List (List Lit)) (e : List Lit) (l : Lit) where
 
 -- ---- what holds a clause
 
-placed : (l : Lit) (i : ℕ) (cs : List (List Lit)) (p : List Lit) → Member cs p → has p l ≡ true → (j : ℕ) × Member (places l i cs) (i + j) × (slice_get cs j ≡ Some p)
+-- a clause that has the literal is at one of the places
+pub placed : (l : Lit) (i : ℕ) (cs : List (List Lit)) (p : List Lit) → Member cs p → has p l ≡ true → (j : ℕ) × Member (places l i cs) (i + j) × (slice_get cs j ≡ Some p)
 placed l i [] p m h = absurd m
 placed l i (c ∷ cs) p m h = elim m [
   | inl e ↦ (0, subst (λ z. Member (cond z (i ∷ places l (i + 1) cs) (places l (i + 1) cs)) (i + 0)) (sym (ap (λ (x : List Lit). has x l) e ∙ h)) (inl (omega arith)), ap Some e)
@@ -147,7 +146,7 @@ placed l i (c ∷ cs) p m h = elim m [
     later n true m = inr m
     later n false m = m
 
-from_zero : (n : ℕ) → 0 + n ≡ n
+pub from_zero : (n : ℕ) → 0 + n ≡ n
 from_zero n = omega arith
 
 -- it is one of them
@@ -162,7 +161,7 @@ rarest_member lists (x ∷ ls) l = go (nat_lt (length (row lists (code_of x))) (
 -- a clause whose holders were looked at in vain is within none
 pub not_held : (cs : List (List Lit)) (lists : List (List ℕ)) (c : List Lit) → AreHolders lists cs → held_at cs lists c (slice_get c 0) ≡ false → (p : List Lit) → Member cs p → is_within c p ≡ false
 not_held cs lists [] h none p m = absurd (false≢true (sym none))
-not_held cs lists (l ∷ c) h none p m = not-true-case (is_within (l ∷ c) p) (λ inside.
+not_held cs lists (l ∷ c) h none p m = false_from_ne_true (is_within (l ∷ c) p) (λ inside.
     let best : Lit = fold (rarer lists) l (l ∷ c) in
     let own : Member (l ∷ c) best = elim (rarest_member lists (l ∷ c) l) [ inl e ↦ inl e | inr r ↦ r ] in
     let at = placed best 0 cs p m (has-member p best (within_member (l ∷ c) p inside best own)) in
@@ -170,7 +169,7 @@ not_held cs lists (l ∷ c) h none p m = not-true-case (is_within (l ∷ c) p) (
 
 -- new clauses that none holds come behind
 pub behind_apart : (ps es : List (List Lit)) (lists : List (List ℕ)) → are_apart ps ≡ true → are_apart es ≡ true → AreHolders lists ps → ((c : List Lit) → Member es c → subsumed ps c ≡ false) → list_any (λ c. held_at ps lists c (slice_get c 0)) es ≡ false → are_apart (ps ++ es) ≡ true
-behind_apart ps es lists h k holders free off = joined_apart ps es h k (λ p e m n. (
-  not-true-case (is_within p e) (λ t. false≢true (sym (free e n) ∙ any_from (λ d. is_within d e) ps p m t)),
-  not_held ps lists e holders (not-true-case (held_at ps lists e (slice_get e 0)) (λ t. false≢true (sym off ∙ any_from (λ c. held_at ps lists c (slice_get c 0)) es e n t))) p m,
+behind_apart ps es lists h k holders free off = two_lists_apart ps es h k (λ p e m n. (
+  false_from_ne_true (is_within p e) (λ t. false≢true (sym (free e n) ∙ any_from (λ d. is_within d e) ps p m t)),
+  not_held ps lists e holders (false_from_ne_true (held_at ps lists e (slice_get e 0)) (λ t. false≢true (sym off ∙ any_from (λ c. held_at ps lists c (slice_get c 0)) es e n t))) p m,
 ))

@@ -1,15 +1,16 @@
 -- Whole lists of prime implicates answer the questions of tags exactly.
-use Rattle.std.proofs.Common.{◌≡◌, ◌↔◌, true, false, not, IsTrue, List, refl, ap}
-use Rattle.std.proofs.lemmas.Bool.{and_from, not-true}
+use Rattle.std.proofs.Common.{◌≡◌, ◌↔◌, ℕ, true, false, not, IsTrue, List, [], fold, refl, sym, subst, ap}
+use Rattle.std.proofs.lemmas.Bool.{and_from, not-true, false_from_ne_true}
 use Rattle.std.specs.List.{list_any, list_all}
 use Rattle.kp_base.specs.declared.lit.Lit.{Lit}
 use Rattle.kp_base.specs.Lists.{Member}
 use Rattle.kp_base.specs.Steps.{holds, is_model}
-use Rattle.kp_base.specs.Entailed.{Entails, IsConsistent}
+use Rattle.kp_base.specs.Entailed.{Entails, IsConsistent, IsClosure}
 use Rattle.kp_base.specs.Implicates.{IsPrime}
-use Rattle.kp_clauses.proofs.Logic.{not-true-case}
-use Rattle.kp_primes.specs.Asked.{inconsistent, entailed_by}
+use Rattle.kp_primes.specs.Asked.{inconsistent, entailed_by, with_left}
 use Rattle.kp_primes.specs.Held.{Held, formula, AreWhole}
+use Rattle.kp_primes.specs.Placed.{AreHolders, AreReady}
+use Rattle.kp_primes.proofs.Closing.{always_is}
 use Rattle.kp_primes.proofs.Cover.{IsCover}
 use Rattle.kp_primes.proofs.Asking.{met_somewhere, met_nowhere, entailed_exact}
 
@@ -25,7 +26,7 @@ own_cover h whole = record {
 
 -- a consistent tag isn't found to be inconsistent
 pub consistent_free : (h : Held) → AreWhole h → (tag : List Lit) → IsConsistent (formula h) tag → inconsistent h.clauses tag ≡ false
-consistent_free h whole tag met = not-true-case (inconsistent h.clauses tag) (λ none. met_nowhere (is_model (formula h)) h.clauses (own_cover h whole) tag none met.state met.model met.all_true)
+consistent_free h whole tag met = false_from_ne_true (inconsistent h.clauses tag) (λ none. met_nowhere (is_model (formula h)) h.clauses (own_cover h whole) tag none met.state met.model met.all_true)
 
 pub consistent_exact : (h : Held) → AreWhole h → (tag : List Lit) → IsTrue (not (inconsistent h.clauses tag)) ↔ IsConsistent (formula h) tag
 consistent_exact h whole tag = (
@@ -37,3 +38,11 @@ consistent_exact h whole tag = (
 
 pub entails_exact : (h : Held) → AreWhole h → (tag : List Lit) (l : Lit) → IsTrue (entailed_by h.clauses tag l) ↔ Entails (formula h) tag l
 entails_exact h whole tag l = entailed_exact (is_model (formula h)) h.clauses (own_cover h whole) tag l
+
+-- what stands beside whole lists
+pub ready_is : (h : Held) (lists : List (List ℕ)) (set : List Lit) → AreWhole h → AreHolders lists h.clauses → set ≡ fold (with_left []) [] h.clauses → AreReady h lists set
+ready_is h lists set whole holders is = record {
+  whole = whole;
+  holders = holders;
+  always = subst (IsClosure h.atoms (formula h) []) (sym is) (always_is h.atoms (formula h) h.clauses whole.of_atoms.clauses (consistent_free h whole [] whole.has_model) (entails_exact h whole []));
+}

@@ -8,7 +8,7 @@ use Rattle.kp_base.proofs.Lists.{all_from, all_member, append_member, filter_mem
 use Rattle.kp_base.proofs.Sets.{all-set_of}
 use Rattle.kp_clauses.specs.Resolved.{without, resolved}
 use Rattle.kp_clauses.specs.Stored.{with_all}
-use Rattle.kp_clauses.proofs.Storing.{with_all_member}
+use Rattle.kp_clauses.proofs.Public.{with_all_member}
 use Rattle.kp_primes.specs.Included.{stepped, walked, idle, included, all_included}
 use Rattle.kp_primes.proofs.Spreading.{stepped_keeps}
 

@@ -10,13 +10,10 @@ use Rattle.kp_base.specs.declared.lit.Lit.{Lit}
 use Rattle.kp_base.specs.Lists.{Member}
 use Rattle.kp_base.specs.Steps.{State}
 use Rattle.kp_base.specs.Implicates.{is_within}
+use Rattle.kp_base.proofs.Each.{each_from}
+use Rattle.kp_base.proofs.Members.{permuted_member}
 use Rattle.kp_clauses.specs.Stored.{are_apart}
-use Rattle.kp_clauses.proofs.Sets.{members_by_recursion, recursion_members}
 use Rattle.kp_primes.proofs.Cover.{IsCover}
-
--- a list in another order has the same members
-pub permuted_member : {X : Type 0} (xs ys : List X) → IsPermutation xs ys → (x : X) → Member ys x → Member xs x
-permuted_member xs ys perm = recursion_members (Member xs) ys (recursion_from_All (Member xs) ys (All-permutation (Member xs) xs ys perm (All-from_recursion (Member xs) xs (members_by_recursion (Member xs) xs (λ x m. m)))))
 
 abbrev near : List Lit → List Lit → Bool
 near c d = is_within c d || is_within d c

@@ -1,6 +1,6 @@
 -- What resolving on one literal brings in, and what it reaches.
 use Rattle.std.proofs.Common.{◌≡◌, ◌≤◌, ◌<◌, ℕ, zero, suc, Bool, true, false, not, ◌||◌, ◌&&◌, ◌⊎◌, cond, List, [], ◌∷◌, ◌++◌, refl, sym, ◌∙◌, subst, inl, inr, length, arith}
-use Rattle.std.proofs.lemmas.Bool.{and_parts, and_from, or_left, or_right, false≢true, cases_Bool}
+use Rattle.std.proofs.lemmas.Bool.{and_parts, and_from, or_left, or_right, false≢true, cases_Bool, false_from_ne_true}
 use Rattle.std.proofs.Math.Bool.{not-not}
 use Rattle.std.specs.List.{list_any}
 use Rattle.kp_base.specs.declared.lit.Lit.{Lit}
@@ -14,10 +14,7 @@ use Rattle.kp_base.proofs.Lits.{member-has, has-member, same_lit-refl, same_lit-
 use Rattle.kp_base.proofs.Sets.{any-with_lit}
 use Rattle.kp_clauses.specs.Resolved.{without, resolved}
 use Rattle.kp_clauses.specs.Stored.{subsumed, are_apart, AreNeeded}
-use Rattle.kp_clauses.proofs.Logic.{not-true-case}
-use Rattle.kp_clauses.proofs.Within.{within_member, within_from, within_trans, tautology_within, subsumed_within}
-use Rattle.kp_clauses.proofs.Resolving.{resolved_within, resolved_ascending, within_resolved, within_left, left_within}
-use Rattle.kp_clauses.proofs.Storing.{with_all_member, with_all_old, with_all_new, apart_last}
+use Rattle.kp_clauses.proofs.Public.{within_member, within_from, within_trans, tautology_within, subsumed_within, resolved_within, resolved_ascending, within_resolved, within_one_more_and_less, within_what_is_left, with_all_member, with_all_old, with_all_new, one_more_apart}
 use Rattle.kp_primes.specs.Included.{grown, is_spare, is_least, met, met_all, spread, stepped}
 use Rattle.kp_primes.proofs.Rising.{ascending_once}
 use Rattle.kp_primes.proofs.Lengths.{once_length}
@@ -134,14 +131,14 @@ module _ (ps es : List (List Lit)) (l : Lit) where
     where
       -- a literal that the clause hasn't is none of its own
       other : (k x : Lit) → has c k ≡ false → Member c x → same_lit k x ≡ false
-      other k x none m = not-true-case (same_lit k x) (λ e. false≢true (sym none ∙ has-member c k (subst (Member c) (sym (same_lit-true k x e)) m)))
+      other k x none m = false_from_ne_true (same_lit k x) (λ e. false≢true (sym none ∙ has-member c k (subst (Member c) (sym (same_lit-true k x e)) m)))
 
       spare : (x : Lit) → Member c x → has (resolved e p l) x ≡ false → is_spare ps es l c x ≡ true
       spare x m off =
           let both = within_resolved e p l in
           and_from (subsumed es (without x (with_lit l c))) (subsumed ps (without x (with_lit (negated l) c)))
-          (any_from (λ d. is_within d (without x (with_lit l c))) es e in-e (left_within e c (resolved e p l) x l both.0 inside off (other l x (least_parts ps es l c least).lacks m)))
-          (any_from (λ d. is_within d (without x (with_lit (negated l) c))) ps p in-p (left_within p c (resolved e p l) x (negated l) both.1 inside off (other (negated l) x lacks m)))
+          (any_from (λ d. is_within d (without x (with_lit l c))) es e in-e (within_what_is_left e c (resolved e p l) x l both.0 inside off (other l x (least_parts ps es l c least).lacks m)))
+          (any_from (λ d. is_within d (without x (with_lit (negated l) c))) ps p in-p (within_what_is_left p c (resolved e p l) x (negated l) both.1 inside off (other (negated l) x lacks m)))
 
   -- what is kept so far: resolvents, none within another
   record AreKept (fs : List (List Lit)) : Type 0 where
@@ -151,7 +148,7 @@ module _ (ps es : List (List Lit)) (l : Lit) where
 
   -- one with the literal's negation has a prime implicate within it
   without_negated : (e p : List Lit) → Member ps p → is_least ps es l (resolved e p l) ≡ true → has (resolved e p l) (negated l) ≡ false
-  without_negated e p in-p least = not-true-case (has (resolved e p l) (negated l)) (λ on.
+  without_negated e p in-p least = false_from_ne_true (has (resolved e p l) (negated l)) (λ on.
       false≢true (sym (least_parts ps es l (resolved e p l) least).free ∙ any_from (λ d. is_within d (resolved e p l)) ps p in-p (within_from p (resolved e p l) (λ x m. elim (within_member p (negated l ∷ resolved e p l) (within_resolved e p l).1 x m) [
         | inl same ↦ subst (Member (resolved e p l)) same (member-has (resolved e p l) (negated l) on)
         | inr r ↦ r
@@ -166,9 +163,9 @@ module _ (ps es : List (List Lit)) (l : Lit) where
     where
       go : (b : Bool) → subsumed fs (resolved e p l) ≡ b → are_apart (cond b fs (fs ++ resolved e p l ∷ [])) ≡ true
       go true _ = kept.apart
-      go false none = apart_last fs (resolved e p l) kept.apart (λ d m.
-          let out : is_within d (resolved e p l) ≡ false = not-true-case (is_within d (resolved e p l)) (λ t. false≢true (sym none ∙ any_from (λ x. is_within x (resolved e p l)) fs d m t)) in (
-            not-true-case (is_within (resolved e p l) d) (λ t. false≢true (sym out ∙ least_alone d e p (kept.least d m) (kept.lacks d m) in-e in-p t)),
+      go false none = one_more_apart fs (resolved e p l) kept.apart (λ d m.
+          let out : is_within d (resolved e p l) ≡ false = false_from_ne_true (is_within d (resolved e p l)) (λ t. false≢true (sym none ∙ any_from (λ x. is_within x (resolved e p l)) fs d m t)) in (
+            false_from_ne_true (is_within (resolved e p l) d) (λ t. false≢true (sym out ∙ least_alone d e p (kept.least d m) (kept.lacks d m) in-e in-p t)),
             out,
           ))
 
@@ -177,7 +174,7 @@ module _ (ps es : List (List Lit)) (l : Lit) where
 
   -- no new clause is within what is kept, for each has the literal
   pub spread_free : ((e : List Lit) → Member es e → has e l ≡ true) → (c : List Lit) → Member (spread ps es l es []) c → subsumed es c ≡ false
-  spread_free each = spread_keeps (λ c. subsumed es c ≡ false) (λ e p _ _ least. not-true-case (subsumed es (resolved e p l)) (λ t.
+  spread_free each = spread_keeps (λ c. subsumed es c ≡ false) (λ e p _ _ least. false_from_ne_true (subsumed es (resolved e p l)) (λ t.
       let x = any_member (λ d. is_within d (resolved e p l)) es t in
       false≢true (sym (least_parts ps es l (resolved e p l) least).lacks ∙ has-member (resolved e p l) l (within_member x.0 (resolved e p l) x.2 l (member-has x.0 l (each x.0 x.1))))))
 
@@ -248,7 +245,7 @@ module _ (ps : List (List Lit)) (l : Lit) where
         let parts = and_parts (subsumed es (without x (with_lit l c))) (subsumed ps (without x (with_lit (negated l) c))) spare in
         let e = any_member (λ b. is_within b (without x (with_lit l c))) es parts.0 in
         let p = any_member (λ b. is_within b (without x (with_lit (negated l) c))) ps parts.1 in
-        let smaller = resolved_within e.0 p.0 (without x c) l (within_left e.0 c x l e.2) (within_left p.0 c x (negated l) p.2) in
+        let smaller = resolved_within e.0 p.0 (without x c) l (within_one_more_and_less e.0 c x l e.2) (within_one_more_and_less p.0 c x (negated l) p.2) in
         let at_most = once_length (resolved e.0 p.0 l) (without x c) (ascending_once (resolved e.0 p.0 l) (resolved_ascending e.0 p.0 l)) (within_member (resolved e.0 p.0 l) (without x c) smaller) in
         let less = without_less x c in-c in
         next e.0 p.0 e.1 p.1 (omega arith) (within_trans (resolved e.0 p.0 l) (without x c) d smaller (within_from (without x c) d (λ y m. within_member c d inside y (filter_member (λ z. not (same_lit z x)) c y m).0)))

@@ -5,9 +5,11 @@ use Rattle.kp_base.specs.declared.lit.Lit.{Lit}
 use Rattle.kp_base.specs.Lit.{code_of}
 use Rattle.kp_base.specs.Steps.{has}
 use Rattle.kp_base.specs.Implicates.{is_within}
+use Rattle.kp_base.specs.Entailed.{IsClosure}
 use Rattle.kp_clauses.specs.Listed.{row}
 use Rattle.kp_clauses.specs.Sieved.{stands}
 use Rattle.kp_primes.specs.Included.{met}
+use Rattle.kp_primes.specs.Held.{Held, formula, AreWhole}
 
 -- counted from i
 abbrev pub places : Lit → ℕ → List (List Lit) → List ℕ
@@ -17,6 +19,12 @@ places l i (c ∷ cs) = cond (has c l) (i ∷ places l (i + 1) cs) (places l (i 
 -- for each literal, in the list of its code, the places of the clauses that have it
 pub record AreHolders (lists : List (List ℕ)) (cs : List (List Lit)) : Type 0 where
   pub each : (l : Lit) → row lists (code_of l) ≡ places l 0 cs
+
+-- what stands beside the prime implicates: the places of those that have a literal, and the closure of the empty tag
+pub record AreReady (h : Held) (lists : List (List ℕ)) (known : List Lit) : Type 0 where
+  pub whole : AreWhole h
+  pub holders : AreHolders lists h.clauses
+  pub always : IsClosure h.atoms (formula h) [] known
 
 -- a new clause is resolved with the prime implicate at a place
 abbrev pub met_one : List (List Lit) → List (List Lit) → List Lit → Lit → Option (List Lit) → List (List Lit) → List (List Lit)

@@ -1,14 +1,13 @@
-ghost use Rattle.std.specs.Prelude.{◌≡◌, ◌||◌, [], fold, OnOk, IfOk};
+ghost use Rattle.std.specs.Prelude.{◌≡◌, ◌||◌, fold, OnOk};
 ghost use Rattle.std.specs.List.{list_any};
-ghost use Rattle.kp_primes.specs.Asked.{denied, denied_but, inconsistent, entailed_by, first_left, with_left, with_below};
+ghost use Rattle.kp_primes.specs.Asked.{denied, denied_but, entailed_by, first_left, with_left, with_below};
 
-use crate::range::is_below;
 use kp_base::{Lit, LitSet, Memory};
 use kp_clauses::{has_lit, is_tautology};
 use std::alloc::Global;
 
-// Whether each literal's negation is in the tag.
-fn is_denied(tag: &LitSet, c: &LitSet) -> bool
+/// Whether each literal's negation is in the tag.
+pub fn is_denied(tag: &LitSet, c: &LitSet) -> bool
     ensures { result ≡ denied tag.now c.now }
 {
     c.slice().iter().all(|x| has_lit(tag, x.negated()))
@@ -23,25 +22,11 @@ fn is_denied_but(tag: &LitSet, lit: Lit, c: &LitSet) -> bool
         .all(|x| has_lit(tag, x.negated()) || *x == lit)
 }
 
-// Whether the tag denies a clause.
-fn some_denied(clauses: &[LitSet], tag: &LitSet) -> bool
-    ensures { result ≡ list_any (denied tag.now) clauses.now }
-{
-    clauses.iter().any(|c| is_denied(tag, c))
-}
-
 // Whether the tag leaves some clause nothing but the literal.
 fn some_denied_but(clauses: &[LitSet], tag: &LitSet, lit: Lit) -> bool
     ensures { result ≡ list_any (denied_but tag.now lit) clauses.now }
 {
     clauses.iter().any(|c| is_denied_but(tag, lit, c))
-}
-
-/// Whether a tag is inconsistent with prime implicates.
-pub fn is_inconsistent(clauses: &[LitSet], tag: &LitSet) -> bool
-    ensures { result ≡ inconsistent clauses.now tag.now }
-{
-    is_tautology(tag) || some_denied(clauses, tag)
 }
 
 /// Whether a tag and prime implicates entail a literal.
@@ -63,8 +48,8 @@ fn first_left(tag: &LitSet, c: &[Lit]) -> Option<Lit>
     None
 }
 
-// Adds what the tag leaves of a clause, if that is one literal.
-fn add_left(set: &mut LitSet, tag: &LitSet, c: &LitSet) -> Result<(), Memory>
+/// Adds what the tag leaves of a clause, if that is one literal.
+pub fn add_left(set: &mut LitSet, tag: &LitSet, c: &LitSet) -> Result<(), Memory>
     ensures { OnOk result (set.new ≡ with_left tag.now set.old c.now) }
 {
     match first_left(tag, c.slice()) {
@@ -88,8 +73,8 @@ pub fn add_all_left(set: &mut LitSet, clauses: &[LitSet], tag: &LitSet) -> Resul
     Ok(())
 }
 
-// Adds those literals that are of the first atoms.
-fn add_below(set: &mut LitSet, lits: &[Lit], atoms: u32) -> Result<(), Memory>
+/// Adds those literals that are of the first atoms.
+pub fn add_below(set: &mut LitSet, lits: &[Lit], atoms: u32) -> Result<(), Memory>
     ensures { OnOk result (set.new ≡ fold (with_below atoms) set.old lits.now) }
 {
     for l in lits {
@@ -98,18 +83,4 @@ fn add_below(set: &mut LitSet, lits: &[Lit], atoms: u32) -> Result<(), Memory>
         }
     }
     Ok(())
-}
-
-/// Those literals of a tag that are of the first atoms.
-pub fn all_below(alloc: Global, tag: &LitSet, atoms: u32) -> Result<LitSet, Memory>
-    ensures { IfOk result (λ set. set ≡ fold (with_below atoms) [] tag.now) }
-{
-    // Mostly these are all of them.
-    if is_below(tag, atoms) {
-        let set = tag.copy(alloc)?;
-        return Ok(set);
-    }
-    let mut set = LitSet::new(alloc);
-    add_below(&mut set, tag.slice(), atoms)?;
-    Ok(set)
 }

@@ -1,10 +1,12 @@
-ghost use Rattle.std.specs.Prelude.{◌≡◌, [], length, map, OnOk, IfOk, IfErr};
+ghost use Rattle.std.specs.Prelude.{◌≡◌, [], fold, length, map, OnOk, IfOk, IfErr};
 ghost use Rattle.std.specs.List.Sorted.{IsPermutation, IsSorted};
 ghost use Rattle.kp_base.specs.LitSet.{lits_cmp};
 ghost use Rattle.kp_clauses.specs.Stored.{subsumed};
+ghost use Rattle.kp_primes.specs.Asked.{with_left};
 ghost use Rattle.kp_primes.specs.Placed.{AreHolders};
 ghost use Rattle.kp_primes.specs.Included.{unit_of, all_included, AreCounted, StopsPrefix};
 
+use crate::ask::add_all_left;
 use crate::holders::Holders;
 use crate::include::{Entry, include, include_unit};
 use kp_base::{AtomId, Lit, LitSet, Memory, Refused, Stop};
@@ -73,4 +75,16 @@ pub fn in_order(mut clauses: Vec<LitSet>) -> Result<Vec<LitSet>, Memory>
 {
     clauses.sort()?;
     Ok(clauses)
+}
+
+/// The literals that each state satisfies in which the clauses are true.
+pub fn always(alloc: Global, clauses: &[LitSet]) -> Result<LitSet, Memory>
+    ensures { IfOk result (λ set. set ≡ fold (with_left []) [] clauses.now) }
+{
+    let none = LitSet::new(alloc);
+    let mut set = LitSet::new(alloc);
+    let added = add_all_left(&mut set, clauses, &none);
+    drop(none);
+    added?;
+    Ok(set)
 }

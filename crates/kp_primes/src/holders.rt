@@ -1,4 +1,4 @@
-ghost use Rattle.std.specs.Prelude.{◌≡◌, ◌≢◌, ◌<◌, ◌≤◌, ◌++◌, ◌∷◌, [], ℕ, cond, fold, length, take, slice_get, OnOk};
+ghost use Rattle.std.specs.Prelude.{◌≡◌, ◌≢◌, ◌<◌, ◌≤◌, ◌++◌, ◌∷◌, [], ℕ, cond, fold, length, take, slice_get, IfOk, OnOk};
 ghost use Rattle.std.specs.List.{list_any};
 ghost use Rattle.kp_base.specs.declared.lit.Lit.{Lit as Literal};
 ghost use Rattle.kp_base.specs.Lit.{code_of};
@@ -12,7 +12,7 @@ use std::alloc::Global;
 use std::marker::Model;
 
 /// For each literal the places of the clauses that have it. Contracts see the lists, by the literals' codes.
-#[derive(Drop)]
+#[derive(Debug, Drop)]
 pub struct Holders {
     alloc: Global,
     lists: Vec<Row<usize>>,
@@ -35,6 +35,15 @@ impl Holders {
             alloc,
             lists: Vec::new(alloc),
         }
+    }
+
+    /// The lists of some clauses.
+    pub fn all(alloc: Global, clauses: &[LitSet]) -> Result<Holders, Memory>
+        ensures { IfOk result (λ holders. AreHolders holders clauses.now) }
+    {
+        let mut holders = Holders::new(alloc);
+        holders.extend(clauses, 0)?;
+        Ok(holders)
     }
 
     /// The places of the clauses that have the literal.

@@ -169,6 +169,15 @@ fn put_in(
     Ok(())
 }
 
+// A store of one clause.
+fn only(alloc: Global, c: &LitSet) -> Result<Store, Memory>
+    ensures { IfOk result (λ s. s ≡ c.now ∷ []) }
+{
+    let mut news = Store::new(alloc);
+    news.add(c.copy(alloc)?)?;
+    Ok(news)
+}
+
 // Puts in a clause that brings something new.
 fn include_new(
     alloc: Global,
@@ -182,8 +191,7 @@ fn include_new(
     ensures entry { IfOk result (Enters primes.old c.now limit primes.new) }
     ensures held { OnOk result (AreHolders holders.new primes.new) }
 {
-    let mut news = Store::new(alloc);
-    news.add(c.copy(alloc)?)?;
+    let mut news = only(alloc, c)?;
     let entry = walk(alloc, primes, holders, &mut news, c.slice(), limit)?;
     match entry {
         Entry::Over => return Ok(Entry::Over),
@@ -223,15 +231,6 @@ fn unit_clause(alloc: Global, lit: Lit) -> Result<LitSet, Memory>
     let mut unit = LitSet::new(alloc);
     unit.insert(lit)?;
     Ok(unit)
-}
-
-// A store of one clause.
-fn only(alloc: Global, c: &LitSet) -> Result<Store, Memory>
-    ensures { IfOk result (λ s. s ≡ c.now ∷ []) }
-{
-    let mut news = Store::new(alloc);
-    news.add(c.copy(alloc)?)?;
-    Ok(news)
 }
 
 // What comes of the clause of one literal.

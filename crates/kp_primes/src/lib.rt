@@ -7,6 +7,7 @@ mod build;
 mod holders;
 mod include;
 mod laws;
+mod near;
 mod primes;
 mod range;
 mod resolving;

@@ -4,9 +4,10 @@ ghost use Rattle.kp_base.specs.Implicates.{IsOfAtoms};
 ghost use Rattle.kp_primes.specs.Held.{formula, AreWhole};
 ghost use Rattle.kp_primes.specs.Answers.{AnswersPrimes, AnswersClosure};
 
-use crate::ask::{add_all_left, all_below, is_entailed, is_inconsistent};
-use crate::build::{has_empty, in_order, include_all, include_closed};
+use crate::ask::{add_below, is_entailed};
+use crate::build::{always, has_empty, in_order, include_all, include_closed};
 use crate::holders::Holders;
+use crate::near::{add_left_near, is_inconsistent};
 use kp_base::{Initial, Lit, LitSet, Memory, Refused, Row, Stop};
 use kp_clauses::Store;
 use std::alloc::Global;
@@ -18,16 +19,21 @@ use std::marker::Model;
 pub struct Primes {
     atoms: u32,
     clauses: Row<LitSet>,
+    // The places of the clauses that have a literal.
+    holders: Holders,
+    // The closure of the empty tag.
+    always: LitSet,
 }
 
 impl Model for Primes {
-    ghost use Rattle.kp_primes.specs.Held.{Held, AreWhole};
+    ghost use Rattle.kp_primes.specs.Held.{Held};
+    ghost use Rattle.kp_primes.specs.Placed.{AreReady};
 
     ghost Value = { Held };
 
     ghost view = { λ p. record { atoms = p.atoms; clauses = p.clauses } };
 
-    ghost invariant = { λ p. AreWhole (record { atoms = p.atoms; clauses = p.clauses }) };
+    ghost invariant = { λ p. AreReady (record { atoms = p.atoms; clauses = p.clauses }) p.holders p.always };
 }
 
 impl Primes {
@@ -50,13 +56,27 @@ impl Primes {
             limit,
         )?;
         include_closed(alloc, &mut store, &mut holders, initial.closed.slice())?;
+        drop(holders);
         if has_empty(alloc, &store) {
             return Err(Stop::Refused(Refused::NoInitialState));
         }
-        let clauses = in_order(store.into_clauses())?;
+        let clauses = Row::from_vec(in_order(store.into_clauses())?);
+        let primes = Primes::ready(alloc, atoms, clauses)?;
+        Ok(primes)
+    }
+
+    // The clauses with what is asked of them again and again.
+    fn ready(alloc: Global, atoms: u32, clauses: Row<LitSet>) -> Result<Primes, Memory>
+        requires { AreWhole (record { atoms = atoms; clauses = clauses }) }
+        ensures { IfOk result (λ primes. primes ≡ record { atoms = atoms; clauses = clauses }) }
+    {
+        let holders = Holders::all(alloc, clauses.slice())?;
+        let always = always(alloc, clauses.slice())?;
         Ok(Primes {
             atoms,
-            clauses: Row::from_vec(clauses),
+            clauses,
+            holders,
+            always,
         })
     }
 
@@ -79,7 +99,7 @@ impl Primes {
     pub fn consistent(&self, tag: &LitSet) -> bool
         ensures { IsTrue result ↔ IsConsistent (formula self.now) tag.now }
     {
-        !is_inconsistent(self.clauses.slice(), tag)
+        !is_inconsistent(self.clauses.slice(), &self.holders, tag)
     }
 
     /// Whether each initial state that satisfies the tag satisfies the literal.
@@ -101,13 +121,15 @@ impl Primes {
         Ok(Some(set))
     }
 
-    // The literals of the atoms that a consistent tag entails: its own, and what it leaves of each clause.
+    // The literals of the atoms that a consistent tag entails: those that are always true, its own, and what it leaves
+    // of clauses.
     fn all_entailed(&self, alloc: Global, tag: &LitSet) -> Result<LitSet, Memory>
         requires { IsConsistent (formula self.now) tag.now }
         ensures { IfOk result (IsClosure self.now.atoms (formula self.now) tag.now) }
     {
-        let mut set = all_below(alloc, tag, self.atoms)?;
-        add_all_left(&mut set, self.clauses.slice(), tag)?;
+        let mut set = self.always.copy(alloc)?;
+        add_below(&mut set, tag.slice(), self.atoms)?;
+        add_left_near(&mut set, self.clauses.slice(), &self.holders, tag)?;
         Ok(set)
     }
 }

@@ -1,6 +1,6 @@
 use kp_base::{Memory, Part, Place, Refused, Stop};
 use kp_lex::TokenKind::{Dash, Equal, Keyword, Left, Name, Right, Variable};
-use kp_lex::{Token, TokenKind, is_word, place, tokens, word};
+use kp_lex::{Token, TokenKind, is_word, place, tokens, tokens_within, word};
 use std::alloc::Global;
 use std::test::Fail;
 
@@ -132,6 +132,39 @@ fn refuses_a_bad_byte(rt: HostRuntime) {
     for (text, line, byte) in table {
         assert!(rt; is_bad_at(rt.alloc(), text, line, byte), "{text:?}");
     }
+}
+
+// Whether with two levels so many tokens of a text are kept, which are those of so many bytes.
+fn is_kept(alloc: Global, text: &[u8], count: usize, to: u32) -> Result<bool, Stop> {
+    if text.len() >= 20 {
+        return Ok(false);
+    }
+    let begun = tokens_within(alloc, Part::Domain, text, 2)?;
+    Ok(begun.tokens.len() == count && begun.to == to)
+}
+
+#[test]
+fn keeps_up_to_a_deep_bracket(rt: HostRuntime) {
+    let table: [(&[u8], usize, u32); 5] = [
+        (b"((a) b) ", 6, 8),
+        (b"( ( ( a)", 3, 5),
+        (b"(()((x) ", 5, 5),
+        (b")((((", 5, 5),
+        (b"a ;(((", 1, 6),
+    ];
+    for (text, count, to) in table {
+        assert!(rt;
+            matches!(is_kept(rt.alloc(), text, count, to), Ok(true)),
+            "{text:?}"
+        );
+    }
+    let bad = is_kept(rt.alloc(), b"(((\n_", 3, 3);
+    let there = Place {
+        part: Part::Domain,
+        line: 2,
+        byte: 4,
+    };
+    assert!(rt; matches!(bad, Err(Stop::Refused(Refused::BadToken(found))) if found == there));
 }
 
 #[test]

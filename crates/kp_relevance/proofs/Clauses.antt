@@ -11,10 +11,10 @@ use Rattle.kp_base.specs.Lit.{positive, negative, negated, has}
 use Rattle.kp_base.specs.LitSet.{lits_cmp}
 use Rattle.kp_base.specs.Entailed.{Entails, IsClosure, HasOneValue}
 use Rattle.kp_base.specs.Implicates.{are_below, is_tautology, IsOnce}
+use Rattle.kp_base.proofs.Members.{permuted_member}
 use Rattle.kp_base.proofs.Lists.{all_member, all_from, any_from, any_member, member_left, member_right, append_member, member_map, map_member, member_filter, filter_member, range_there}
 use Rattle.kp_base.proofs.Lits.{has-member}
 use Rattle.kp_primes.specs.Held.{Held, AreWhole, formula}
-use Rattle.kp_primes.proofs.Sorting.{permuted_member}
 use Rattle.kp_relevance.specs.Relevant.{is_pair, ArePairsOf}
 use Rattle.kp_base.specs.Relevance.{either_value, IsCandidate, AreRelevant, IsClauseFor, AreClausesFor}
 use Rattle.kp_relevance.specs.Candidates.{AnswersClausesFor}

@@ -1,3 +1,4 @@
+pub mod Public
 pub mod Tables
 pub mod Closing
 pub mod Searching

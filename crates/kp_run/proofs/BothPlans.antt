@@ -2,21 +2,20 @@
 use Rattle.std.proofs.Common.{◌≡◌, ◌∙◌, ℕ, true, List, Some, sym, ap, subst}
 use Rattle.kp_base.specs.declared.ground.TagTable.{TagTable}
 use Rattle.kp_base.specs.Exclusive.{IsClashFree}
-use Rattle.kp_machine.proofs.Exclusive.{never_clashes}
+use Rattle.kp_base.proofs.Cases.{some_alike}
+use Rattle.kp_machine.proofs.Public.{no_clash_under_exclusive_pairs}
 use Rattle.kp_meaning.specs.Steps.{Step}
 use Rattle.kp_meaning.specs.Plans.{HasProblem, IsPlan}
 use Rattle.kp_meaning.specs.Strip.{strip}
 use Rattle.kp_classic.specs.Steps.{start, succeeds}
 use Rattle.kp_task.specs.Task.{task_of}
-use Rattle.kp_task.proofs.Plans.{plans_are_accepted}
-use Rattle.kp_task.proofs.Strips.{steps_strip}
+use Rattle.kp_task.proofs.Public.{tagged_plans_are_accepted, tagged_steps_strip}
 use Rattle.kp_given.specs.Translations.{ground_of, initial_of}
 use Rattle.kp_given.specs.Tables.{IsTableFor, translation_of}
-use Rattle.kp_given.proofs.Tables.{tables_written}
-use Rattle.kp_sound.proofs.Trees.{translations_sound}
-use Rattle.kp_inputs.proofs.OnePlan.{some_alike}
+use Rattle.kp_given.proofs.Public.{tables_can_be_written}
+use Rattle.kp_sound.proofs.Public.{translations_are_sound}
 use Rattle.kp_solving.specs.Solving.{AreNamed}
-use Rattle.kp_solving.proofs.Plans.{named_accepted}
+use Rattle.kp_solving.proofs.Public.{named_plans_are_accepted}
 
 pub record AreBothPlans (domain problem : List ℕ) (x : HasProblem domain problem) (table : TagTable) (written plan : List Step) : Type 0 where
   pub is_written : IsPlan (translation_of x.domain x.problem table).domain (translation_of x.domain x.problem table).problem written
@@ -29,10 +28,10 @@ pub both_plans : (domain problem : List ℕ) (x : HasProblem domain problem) (ta
     → succeeds (task_of (ground_of x.domain x.problem) table) (start (task_of (ground_of x.domain x.problem) table)) ops ≡ true → AreBothPlans domain problem x table written plan
 both_plans domain problem x table for free ops written plan named succeed =
     let ground = ground_of x.domain x.problem in
-    let writable = tables_written domain problem x table for in
-    let is_written = (plans_are_accepted ground table writable written).1 (named_accepted ground table writable ops written plan named succeed) in
-    let names = steps_strip ground table writable written named.machine named.steps_are in
+    let writable = tables_can_be_written domain problem x table for in
+    let is_written = (tagged_plans_are_accepted ground table writable written).1 (named_plans_are_accepted ground table writable ops written plan named succeed) in
+    let names = tagged_steps_strip ground table writable written named.machine named.steps_are in
     let strips : strip written ≡ Some plan = names.strips ∙ ap Some (some_alike names.names plan (sym names.are_names ∙ named.actions_are)) in
-    let sound = translations_sound domain problem x table for (never_clashes ground (initial_of x.domain x.problem) free) written is_written in
+    let sound = translations_are_sound domain problem x table for (no_clash_under_exclusive_pairs ground (initial_of x.domain x.problem) free) written is_written in
     let one : sound.stripped ≡ plan = cc (sym sound.strips ∙ strips) in
     record { is_written = is_written; strips = strips; is_plan = subst (IsPlan domain problem) one sound.is_plan }

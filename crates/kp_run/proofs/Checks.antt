@@ -5,7 +5,7 @@ use Rattle.kp_base.specs.declared.ground.Ground.{Ground}
 use Rattle.kp_base.specs.declared.ground.Initial.{Initial}
 use Rattle.kp_base.specs.Entailed.{HaveSameModels}
 use Rattle.kp_first.specs.Asked.{is_wanted}
-use Rattle.kp_first.proofs.Unique.{first_by_passing}
+use Rattle.kp_first.proofs.Public.{first_by_passing}
 use Rattle.kp_check.specs.declared.answer.Judged.{Judged}
 use Rattle.kp_check.specs.declared.answer.Judged.TheVariants.{Yes, No}
 use Rattle.kp_check.specs.Judging.{AnswersJudged, fails}

@@ -7,7 +7,7 @@ use Rattle.kp_outcome.specs.Ends.{AreHeld}
 use Rattle.kp_words.specs.declared.lent.CommandRef.{CommandRef as Command}
 use Rattle.kp_words.specs.declared.lent.CommandRef.TheVariants as commands
 use Rattle.kp_words.specs.Command.{IsCommand, inputs_of}
-use Rattle.kp_words.proofs.OneCommand.{one_command}
+use Rattle.kp_words.proofs.Public.{words_are_one_command}
 use Rattle.kp_bench.specs.Bench.{Benches}
 use Rattle.kp_run.specs.Outcomes.{TranslatesTexts, MergesTexts, StripsText, ChecksTexts, LiftsTexts, SolvesTexts, ClassicalTexts, MeasuresTexts, ComesTo, translated, merged, stripped, checked, lifted, solved, searched, measured, benched, IsDue, usage, of_command}
 
@@ -43,5 +43,5 @@ pub record IsDueOf (held : Option FileMap) (c : Command) (o : Outcome) : Type 0 
 pub due_makes : (words : List (Vec ℕ Global)) (held : Option FileMap) (c : Command) (o : Outcome) → IsCommand words c → IsDue words held o → IsDueOf held c o
 due_makes words held c _ is (usage none) = absurd (none c is)
 due_makes words held c o is (of_command e texts _ so there comes) =
-    let same : e ≡ c = one_command words e c so is in
+    let same : e ≡ c = words_are_one_command words e c so is in
     record { texts = texts; are_held = subst (λ z. AreHeld held (inputs_of z) texts) same there; makes = subst (λ z. MakesOf z texts o) same (makes_of e texts o comes) }

@@ -6,7 +6,7 @@ use Rattle.kp_base.specs.declared.ground.TagTable.{TagTable}
 use Rattle.kp_base.specs.declared.lit.Lit.{Lit}
 use Rattle.kp_task.specs.Task.{task_of}
 use Rattle.kp_spelling.specs.Spelling.{literal_text, number_line, IsBracketed}
-use Rattle.kp_spelling.proofs.Bracketed.{literals_are_bracketed}
+use Rattle.kp_spelling.proofs.Public.{literals_are_bracketed}
 use Rattle.kp_printed.specs.Coverage.{uncovered_lines, coverage_text}
 use Rattle.kp_translation.specs.Report.{counts_of}
 use Rattle.kp_run.specs.Completeness.{PrintsComplete}

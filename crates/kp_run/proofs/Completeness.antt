@@ -7,9 +7,10 @@ use Rattle.kp_base.specs.declared.ground.Ground.{Ground}
 use Rattle.kp_base.specs.declared.ground.Initial.{Initial}
 use Rattle.kp_base.specs.Implicates.{IsOfItsAtoms}
 use Rattle.kp_base.specs.Covering.{IsComplete, AreUncovered}
+use Rattle.kp_base.proofs.Cases.{some_alike}
+use Rattle.kp_base.proofs.Parts.{last_once}
 use Rattle.kp_complete.specs.Lifts.{lifted as lift_of, UnliftedAt}
-use Rattle.kp_complete.proofs.Lifted.{lists_strip}
-use Rattle.kp_complete.proofs.Failing.{dont_lift}
+use Rattle.kp_complete.proofs.Public.{lifted_lists_strip, failing_lists_dont_lift}
 use Rattle.kp_grammar.specs.declared.tree.Word.{Word}
 use Rattle.kp_grammar.specs.Trees.{Domain, Problem}
 use Rattle.kp_meaning.specs.Numbering.{numbered_problem}
@@ -17,17 +18,16 @@ use Rattle.kp_meaning.specs.Steps.{Step}
 use Rattle.kp_meaning.specs.Plans.{HasProblem, IsPlan}
 use Rattle.kp_meaning.specs.Strip.{strip}
 use Rattle.kp_decided.specs.Laws.{AreProper}
-use Rattle.kp_decided.proofs.Counting.{formulas_ascend}
-use Rattle.kp_decided.proofs.Covered.{complete_with_none}
+use Rattle.kp_decided.proofs.Public.{formulas_are_ascending, complete_with_none}
 use Rattle.kp_plans.specs.Printed.{plan_text}
 use Rattle.kp_task.specs.Task.{task_of}
 use Rattle.kp_task.specs.Accepted.{step_at}
 use Rattle.kp_translation.specs.Report.{counts_of}
 use Rattle.kp_given.specs.Translations.{ground_of, initial_of}
 use Rattle.kp_given.specs.Tables.{IsTableFor, translation_of}
-use Rattle.kp_given.proofs.Starts.{formulas_over_atoms, states_are_models}
+use Rattle.kp_given.proofs.Public.{formulas_speak_of_ground_atoms, initial_states_are_models}
 use Rattle.kp_sound.specs.Laws.{IsWrittenLift, Lifts}
-use Rattle.kp_sound.proofs.Lifting.{lifts_written, plans_lift}
+use Rattle.kp_sound.proofs.Public.{lifts_written, plans_lift}
 use Rattle.kp_outside.specs.Outside.{FileMap, with_bytes}
 use Rattle.kp_outcome.specs.declared.outcome.Outcome.{Outcome}
 use Rattle.kp_outcome.specs.declared.status.Status.{Status}
@@ -38,21 +38,15 @@ use Rattle.kp_words.specs.declared.lent.CommandRef.TheVariants as commands
 use Rattle.kp_words.specs.Command.{IsLift, file_of, if_named, inputs_of}
 use Rattle.kp_printed.specs.Coverage.{coverage_text}
 use Rattle.kp_prepared.specs.Prepared.{usual}
-use Rattle.kp_prepared.proofs.Counted.{is_of_atoms}
-use Rattle.kp_prepared.proofs.OneStart.{comes_later, prepared_above}
+use Rattle.kp_prepared.proofs.Public.{usual_ground_is_of_its_atoms, goes_on_with_these, prepared_under_a_greater_limit, problem_of_trees}
 use Rattle.kp_inputs.specs.Tables.{HasTable, no_table, with_table}
 use Rattle.kp_inputs.specs.Actions.{HasActions, no_actions, with_actions}
-use Rattle.kp_inputs.proofs.OneTable.{one_table}
-use Rattle.kp_inputs.proofs.OnePlan.{one_plan, some_alike}
-use Rattle.kp_inputs.proofs.Named.{found_at}
+use Rattle.kp_inputs.proofs.Public.{sources_have_one_table, plans_have_one_list, named_is_found_at, task_refused_or_within}
 use Rattle.kp_run.specs.Outcomes.{prints, LiftsActions, lifts, fails, LiftsPlan, no_task, with_task, LiftsTrees, LiftsTexts, IsDue}
 use Rattle.kp_run.specs.Ends.{Ends, came, read_failed, no_memory}
 use Rattle.kp_run.specs.Completeness as complete
 use Rattle.kp_run.specs.Completeness.{PrintsComplete, RanComplete, IsOfTheSame, HoldsPlan, LosesNoPlan}
-use Rattle.kp_run.proofs.Files.{last_once}
-use Rattle.kp_inputs.proofs.Tasks.{task_or_within}
 use Rattle.kp_run.proofs.CompleteText.{none_uncovered}
-use Rattle.kp_prepared.proofs.Problems.{problem_of}
 use Rattle.kp_run.proofs.Comes.{due_makes}
 use Rattle.kp_run.proofs.Soundness.{IsDone, AreBoth, both_held, all_done, is_table, first_put, second_put}
 
@@ -115,16 +109,16 @@ module _ (t : Translate) (before after : FileMap) (text : List ℕ) (x : DidTran
   i = initial_of d p
 
   abbrev has : HasProblem x.both.domain x.both.problem
-  has = problem_of x.both.domain x.both.problem d p y.trees
+  has = problem_of_trees x.both.domain x.both.problem d p y.trees
 
   table_is : IsTableFor d p y.table
   table_is = is_table before after t x.outcome x.apart x.both x.done x.puts
 
   own : IsOfItsAtoms g
-  own = is_of_atoms (numbered_problem d p) g y.prepared.started.small
+  own = usual_ground_is_of_its_atoms (numbered_problem d p) g y.prepared.started.small
 
   proper : AreProper g i
-  proper = record { own_atoms = own; over = formulas_over_atoms d p; ascending = formulas_ascend (numbered_problem d p); model = (states_are_models d p y.trees.no_fault).0 y.prepared.started.initial }
+  proper = record { own_atoms = own; over = formulas_speak_of_ground_atoms d p; ascending = formulas_are_ascending (numbered_problem d p); model = (initial_states_are_models d p y.trees.no_fault).0 y.prepared.started.initial }
 
   -- the table is complete
   is_complete : IsComplete g i y.table
@@ -153,7 +147,7 @@ module _ (t : Translate) (before after : FileMap) (text : List ℕ) (x : DidTran
   strips = written.strips ∙ ap Some (some_alike written.names plan (sym written.are_names ∙ lift.are_names))
 
   actions : HasActions g holds.text holds.steps lift.numbers
-  actions = record { short = holds.short; reads = holds.reads; known = found_at d p y.trees.no_fault holds.steps lift.numbers (lift.are_names ∙ ap (map Some) (sym holds.names_are)) }
+  actions = record { short = holds.short; reads = holds.reads; known = named_is_found_at d p y.trees.no_fault holds.steps lift.numbers (lift.are_names ∙ ap (map Some) (sym holds.names_are)) }
 
   abbrev prints_it : Outcome
   prints_it = prints (plan_text lift.steps)
@@ -161,22 +155,22 @@ module _ (t : Translate) (before after : FileMap) (text : List ℕ) (x : DidTran
   of_lift : (ns : List ℕ) (o : Outcome) → ns ≡ lift.numbers → LiftsActions g y.table ns o → o ≡ prints_it
   of_lift ns o e (lifts steps k is) = is ∙ ap (λ z. prints (plan_text z)) (some_alike steps lift.steps (sym (subst (λ (z : List ℕ). map (step_at g y.table) (lift_of g y.table z) ≡ map Some steps) e k.steps_are) ∙ lift.accepted.steps_are))
   of_lift ns o e (fails k l f is) =
-      absurd (false≢true (sym (dont_lift g y.table (lift_of g y.table lift.numbers) k l (subst (λ z. UnliftedAt g y.table z k l) (e ∙ sym (lists_strip g y.table lift.numbers)) f)) ∙ lift.accepted.accepted))
+      absurd (false≢true (sym (failing_lists_dont_lift g y.table (lift_of g y.table lift.numbers) k l (subst (λ z. UnliftedAt g y.table z k l) (e ∙ sym (lifted_lists_strip g y.table lift.numbers)) f)) ∙ lift.accepted.accepted))
 
   of_plan : (o : Outcome) → LiftsPlan g holds.text y.table o → o ≡ prints_it
-  of_plan o (no_task r a e) = absurd (task_or_within (task_of g y.table) usual r a y.ground.fits)
-  of_plan o (with_task fits (no_actions named r why e)) = absurd ((one_plan g holds.text).either holds.steps lift.numbers named r actions why)
-  of_plan o (with_task fits (with_actions ss ns k h)) = of_lift ns o ((one_plan g holds.text).actions ss holds.steps ns lift.numbers k actions) h
+  of_plan o (no_task r a e) = absurd (task_refused_or_within (task_of g y.table) usual r a y.ground.fits)
+  of_plan o (with_task fits (no_actions named r why e)) = absurd ((plans_have_one_list g holds.text).either holds.steps lift.numbers named r actions why)
+  of_plan o (with_task fits (with_actions ss ns k h)) = of_lift ns o ((plans_have_one_list g holds.text).actions ss holds.steps ns lift.numbers k actions) h
 
   abbrev has_table : HasTable g i c.source x.both.merges y.table
   has_table = subst (λ s. HasTable g i s x.both.merges y.table) same.source y.has_table
 
   of_trees : (o : Outcome) → LiftsTrees c x.both.merges holds.text d p o → o ≡ prints_it
-  of_trees o (no_table names r why e) = absurd ((one_table g i c.source x.both.merges).either y.table names r has_table why)
-  of_trees o (with_table v k h) = of_plan o (subst (λ z. LiftsPlan g holds.text z o) ((one_table g i c.source x.both.merges).tables v y.table k has_table) h)
+  of_trees o (no_table names r why e) = absurd ((sources_have_one_table g i c.source x.both.merges).either y.table names r has_table why)
+  of_trees o (with_table v k h) = of_plan o (subst (λ z. LiftsPlan g holds.text z o) ((sources_have_one_table g i c.source x.both.merges).tables v y.table k has_table) h)
 
   of_texts : (o : Outcome) → LiftsTexts c x.both.domain x.both.problem x.both.merges holds.text o → o ≡ prints_it
-  of_texts o h = of_trees o (comes_later c.implicates x.both.domain x.both.problem (LiftsTrees c x.both.merges holds.text) d p o y.trees (prepared_above t.implicates c.implicates d p same.implicates y.prepared) h)
+  of_texts o h = of_trees o (goes_on_with_these c.implicates x.both.domain x.both.problem (LiftsTrees c x.both.merges holds.text) d p o y.trees (prepared_under_a_greater_limit t.implicates c.implicates d p same.implicates y.prepared) h)
 
   -- the contents of the lift's names
   all_now : map (get now) (inputs_of (commands.Lift c)) ≡ map Some (x.both.domain ∷ x.both.problem ∷ (x.both.merges ++ holds.text ∷ []))

@@ -3,18 +3,17 @@ use Rattle.std.proofs.Common.{◌≡◌, ◌≤◌, ℕ, Bool, List, [], length,
 use Rattle.kp_lex.specs.declared.token.Token.{Token}
 use Rattle.kp_lex.specs.Cutting.{Cut}
 use Rattle.kp_lex.specs.Scanning.{cut}
-use Rattle.kp_lex.proofs.Exact.{Tells, cut_tells}
+use Rattle.kp_lex.proofs.Public.{TellsCutting, cut_tells}
 use Rattle.kp_grammar.specs.declared.tree.Word.{Word}
 use Rattle.kp_grammar.specs.Symbols.{all_seen_in}
 use Rattle.kp_grammar.specs.Sorts.{Sort, El}
 use Rattle.kp_grammar.specs.Forms.{Form}
 use Rattle.kp_grammar.specs.Depth.{deep}
-use Rattle.kp_grammar.proofs.Computed.{outcome}
-use Rattle.kp_grammar.proofs.Exact.{go_reads}
-use Rattle.kp_tree.specs.Files.{Reads}
+use Rattle.kp_grammar.proofs.Public.{computed_outcome, answered_is_read}
+use Rattle.kp_tree.specs.Files.{HasTree}
 
 pub is_cut : (text : List ℕ) (ts : List Token) → cut 0 text ≡ Ok ts → Cut 0 text ts
-is_cut text ts e = subst (Tells 0 text) e (cut_tells 0 text)
+is_cut text ts e = subst (TellsCutting 0 text) e (cut_tells 0 text)
 
-pub reads_file : {b : Bool} {c : Sort} (X : Form b c) (text : List ℕ) (ts : List Token) (x : El Word c) → length text ≤ 16777216 → cut 0 text ≡ Ok ts → outcome X text ts ≡ Ok (x, []) → deep 64 (all_seen_in text ts) ≡ None → Reads X text x
-reads_file {b} {c} X text ts x short e r shallow = record { short = short; tokens = ts; cut = is_cut text ts e; reads = record { reads = go_reads 8 b c X (all_seen_in text ts) x [] r; shallow = shallow } }
+pub reads_file : {b : Bool} {c : Sort} (X : Form b c) (text : List ℕ) (ts : List Token) (x : El Word c) → length text ≤ 16777216 → cut 0 text ≡ Ok ts → computed_outcome X text ts ≡ Ok (x, []) → deep 64 (all_seen_in text ts) ≡ None → HasTree X text x
+reads_file {b} {c} X text ts x short e r shallow = record { short = short; tokens = ts; cut = is_cut text ts e; reads = record { reads = answered_is_read 8 b c X (all_seen_in text ts) x [] r; shallow = shallow } }

@@ -3,15 +3,15 @@ use Rattle.std.proofs.Common.{arith}
 use Rattle.std.proofs.lemmas.List.{length-map}
 use Rattle.kp_meaning.specs.Numbering.{numbered_problem}
 use Rattle.kp_grounding.specs.Ground.{ground_atoms, atom_name}
-use Rattle.kp_task.proofs.Numbers.{facts_length}
+use Rattle.kp_task.proofs.Public.{facts_are_counted}
 use Rattle.kp_given.specs.Translations as given
 use Rattle.kp_given.specs.Tables.{empty_tag}
-use Rattle.kp_given.proofs.Sizes.{empty_tags_light}
+use Rattle.kp_given.proofs.Public.{empty_tags_are_light}
 use Rattle.kp_run.specs.Laws.{EmptyTagsFit}
 
 -- there are at most two facts for each of 4,096 atoms
 pub empty_tags_fit : EmptyTagsFit
 empty_tags_fit d p w = record {
-  facts = (let a = facts_length (given.ground_of d p) (empty_tag d p) in let b = length-map (ground_atoms (numbered_problem d p)) (atom_name (numbered_problem d p)) in let c = w.atoms in omega (arith, a, b, c));
-  weight = (let a = empty_tags_light d p in let b = w.counts.weight in omega (arith, a, b));
+  facts = (let a = facts_are_counted (given.ground_of d p) (empty_tag d p) in let b = length-map (ground_atoms (numbered_problem d p)) (atom_name (numbered_problem d p)) in let c = w.atoms in omega (arith, a, b, c));
+  weight = (let a = empty_tags_are_light d p in let b = w.counts.weight in omega (arith, a, b));
 }

@@ -17,17 +17,17 @@ use Rattle.kp_grammar.specs.Trees.{Domain, Problem}
 use Rattle.kp_modes.specs.Modes.{AreMergesOf}
 use Rattle.kp_tags.specs.Tables.{HasClosure}
 use Rattle.kp_tags.specs.Made.{IsMade}
-use Rattle.kp_init.proofs.Closure.{closure_exact}
+use Rattle.kp_init.proofs.Public.{closure_over_first_atoms}
 use Rattle.kp_given.specs.Translations.{ground_of, initial_of}
 use Rattle.kp_given.specs.Tables.{empty_tag}
-use Rattle.kp_given.proofs.Starts.{formulas_over_atoms}
+use Rattle.kp_given.proofs.Public.{formulas_speak_of_ground_atoms}
 use Rattle.kp_prepared.specs.Prepared.{usual}
 
 -- ---- the table of `k0`
 
 pub empty_tag_made : (d : Domain Word) (p : Problem Word) → IsMade modes.K0 usual (ground_of d p) (initial_of d p) (empty_tag d p)
 empty_tag_made d p =
-    let exact = closure_exact (initial_of d p) (length (ground_of d p).atoms) (formulas_over_atoms d p) [] refl in
+    let exact = closure_over_first_atoms (initial_of d p) (length (ground_of d p).atoms) (formulas_speak_of_ground_atoms d p) [] refl in
     record {
       merges = [];
       of_mode = AreMergesOf.none;

@@ -24,8 +24,8 @@ use Rattle.kp_base.specs.Steps.{State as NumberedState, is_model}
 use Rattle.kp_base.specs.Exclusive.{IsClashFree}
 use Rattle.kp_base.specs.Implicates.{IsNeverOver}
 use Rattle.kp_primes.specs.Included.{all_included}
-use Rattle.kp_primes.proofs.Answered.{never_over}
-use Rattle.kp_machine.proofs.ExamplePlain.{free}
+use Rattle.kp_primes.proofs.Public.{counted_is_never_over}
+use Rattle.kp_machine.proofs.Public.{swap_is_clash_free}
 use Rattle.kp_lex.specs.Bytes.{class_of}
 use Rattle.kp_lex.specs.Scanning.{cut_from}
 use Rattle.kp_grammar.specs.Symbols.{symbol_of}
@@ -33,13 +33,12 @@ use Rattle.kp_grammar.specs.Parsing.{some_at, next_at}
 use Rattle.kp_grammar.specs.Trees.{Domain, Problem}
 use Rattle.kp_grammar.specs.declared.tree.Word.{Word}
 use Rattle.kp_grammar.specs.Grammar as grammar
-use Rattle.kp_grammar.proofs.ExampleTexts.{exchange, exchange_tree, from_p_to_q, from_p_to_q_tree}
+use Rattle.kp_grammar.proofs.Public.{exchange_text, exchange_tree, from_p_to_q_text, from_p_to_q_tree, tokens_of_text}
 use Rattle.kp_meaning.specs.Faults as faults
 use Rattle.kp_meaning.specs.Names.{same}
 use Rattle.kp_meaning.specs.Numbered.{Lifted}
 use Rattle.kp_meaning.specs.Numbering.{numbered_problem}
-use Rattle.kp_meaning.proofs.Texts.{tokens}
-use Rattle.kp_tree.specs.Files.{Reads}
+use Rattle.kp_tree.specs.Files.{HasTree}
 use Rattle.kp_grounding.specs.Ground.{kept_instances, ground_atoms}
 use Rattle.kp_grounding.specs.Ground as by_number
 use Rattle.kp_grounding.specs.Weights.{binding_count, total_weight}
@@ -47,7 +46,7 @@ use Rattle.kp_ground.specs.Grounded.{IsGrounded}
 use Rattle.kp_meaning.specs.Initial.{HasInitialState}
 use Rattle.kp_given.specs.Translations.{ground_of, initial_of}
 use Rattle.kp_given.specs.Tables.{translation_of, empty_tag}
-use Rattle.kp_given.proofs.Starts.{states_are_models}
+use Rattle.kp_given.proofs.Public.{initial_states_are_models}
 use Rattle.kp_outside.specs.Outside.{FileMap}
 use Rattle.kp_outcome.specs.declared.outcome.Outcome.{Outcome}
 use Rattle.kp_outcome.specs.declared.status.Status.TheVariants as status
@@ -56,8 +55,7 @@ use Rattle.kp_line.specs.Words.{nothing, a_word, apart as apart_words, word as s
 use Rattle.kp_words.specs.Names.{of_mode, Translate, Bench}
 use Rattle.kp_words.specs.declared.lent.CommandRef.TheVariants as commands
 use Rattle.kp_words.specs.Command.{IsTranslate, file_of, if_named}
-use Rattle.kp_words.proofs.Examples.{no_words}
-use Rattle.kp_words.proofs.OneCommand.{one_command}
+use Rattle.kp_words.proofs.Public.{no_words_are_no_command, words_are_one_command}
 use Rattle.kp_prepared.specs.Texts.{HaveTrees}
 use Rattle.kp_prepared.specs.Prepared.{usual, IsStarted, later}
 use Rattle.kp_inputs.specs.Tables.{by_mode, with_table}
@@ -154,15 +152,15 @@ is_small l b k w a = record { counts = record { bindings = omega (arith, b); act
 -- ---- a translation
 
 -- the trees of the two files
-pub domain_reads : Reads grammar.domain exchange exchange_tree
+pub domain_reads : HasTree grammar.domain exchange_text exchange_tree
 unfolding cut_from class_of symbol_of some_at next_at
-domain_reads = reads_file grammar.domain exchange (tokens exchange) exchange_tree (omega arith) refl refl refl
+domain_reads = reads_file grammar.domain exchange_text (tokens_of_text exchange_text) exchange_tree (omega arith) refl refl refl
 
-pub problem_reads : Reads grammar.problem from_p_to_q from_p_to_q_tree
+pub problem_reads : HasTree grammar.problem from_p_to_q_text from_p_to_q_tree
 unfolding cut_from class_of symbol_of some_at next_at
-problem_reads = reads_file grammar.problem from_p_to_q (tokens from_p_to_q) from_p_to_q_tree (omega arith) refl refl refl
+problem_reads = reads_file grammar.problem from_p_to_q_text (tokens_of_text from_p_to_q_text) from_p_to_q_tree (omega arith) refl refl refl
 
-trees : HaveTrees exchange from_p_to_q exchange_tree from_p_to_q_tree
+trees : HaveTrees exchange_text from_p_to_q_text exchange_tree from_p_to_q_tree
 trees = record { domain_reads = domain_reads; problem_reads = problem_reads; no_fault = record { domain = refl; problem = refl } }
 
 -- p is stated, and q false
@@ -178,7 +176,7 @@ only_p_is = refl
 
 -- some state is initial where the formula has a model
 pub has_state : (d : Domain Word) (p : Problem Word) → faults.HasNoFault d p → (s : NumberedState) → is_model (initial_of d p) s ≡ true → HasInitialState p
-has_state d p no_fault s is = (states_are_models d p no_fault).1 (record { state = s; model = is; all_true = refl })
+has_state d p no_fault s is = (initial_states_are_models d p no_fault).1 (record { state = s; model = is; all_true = refl })
 
 -- a clause of one literal is in order, and has few prime implicates
 one_set : (cs : List (List Lit)) (x : Lit) → cs ≡ (x ∷ []) ∷ [] → (c : List Lit) → Member cs c → IsAscending c
@@ -188,7 +186,7 @@ one_set _ x e c m = go c (subst (λ cs. Member cs c) e m)
     go c m = elim m [ inl same ↦ subst IsAscending same tt | inr none ↦ absurd none ]
 
 pub few_primes : (i : Initial) (x : Lit) → i.clauses ≡ (x ∷ []) ∷ [] → length (all_included [] ((x ∷ []) ∷ [])) ≤ 1 → IsNeverOver i 20000
-few_primes i x e short = never_over i 20000 (all_included [] (take (length i.clauses) i.clauses)) (record {
+few_primes i x e short = counted_is_never_over i 20000 (all_included [] (take (length i.clauses) i.clauses)) (record {
   so_far = refl;
   sets = λ c m. one_set (take (length i.clauses) i.clauses) x (ap (λ (cs : List (List Lit)). take (length cs) cs) e) c m;
   within_limit = λ j le. subst (λ (cs : List (List Lit)). length (all_included [] (take j cs)) ≤ 20000) (sym e) (at j);
@@ -211,7 +209,7 @@ pub closed_q : (i : Initial) → i.closed ≡ record { 0 = 1 } ∷ [] → (s : N
 closed_q i closed s model = not-true (s 1) (and_parts (not (s 1)) true (subst (λ (ps : List AtomId). list_all (λ p. not (s p.0)) ps ≡ true) closed (and_parts _ _ model).1)).0
 
 no_clash : IsClashFree (ground_of exchange_tree from_p_to_q_tree) from_p
-no_clash = free from_p (closed_q from_p refl)
+no_clash = swap_is_clash_free from_p (closed_q from_p refl)
 
 -- the one action
 abbrev exchange_action : Action
@@ -236,15 +234,15 @@ the_table = empty_tag exchange_tree from_p_to_q_tree
 abbrev the_outcome : Outcome
 the_outcome = translates command (ground_of exchange_tree from_p_to_q_tree) the_table []
 
-is_done : TranslatesTexts command exchange from_p_to_q [] the_outcome
+is_done : TranslatesTexts command exchange_text from_p_to_q_text [] the_outcome
 is_done = later exchange_tree from_p_to_q_tree trees (record { started = started; clash_free = no_clash })
     (with_table the_table (by_mode modes.K0 the_table (empty_tag_made exchange_tree from_p_to_q_tree)) (done [] (empty_tags_fit exchange_tree from_p_to_q_tree started.small) (nothing_uncovered (ground_of exchange_tree from_p_to_q_tree) from_p (unconditional from_p_to_q_tree refl) the_table) refl))
 
 abbrev held : FileMap
-held = holding exchange from_p_to_q
+held = holding exchange_text from_p_to_q_text
 
 due : IsDue words (Some held) the_outcome
-due = on_files exchange from_p_to_q _ is_done
+due = on_files exchange_text from_p_to_q_text _ is_done
 
 -- what is held after it
 abbrev after : FileMap
@@ -268,7 +266,7 @@ sound = sound_end words before_it after_it status.Done ends held after command r
 -- ---- the usage
 
 usage_is_due : IsDue [] (Some held) shows_usage
-usage_is_due = usage no_words
+usage_is_due = usage no_words_are_no_command
 
 -- ---- a file that isn't held: nothing is due
 
@@ -291,5 +289,5 @@ nothing_is_due o (of_command (commands.Merges c) texts _ h held comes) = not_hel
 nothing_is_due o (of_command (commands.Solve c) texts _ h held comes) = not_held c.domain (c.problem ∷ if_named (file_of c.source)) texts held
 nothing_is_due o (of_command (commands.Classical c) texts _ h held comes) = not_held c.domain (c.problem ∷ []) texts held
 nothing_is_due o (of_command (commands.Width c) texts _ h held comes) = not_held c.domain (c.problem ∷ []) texts held
-nothing_is_due o (of_command (commands.Bench c) texts _ h at comes) = other_verb command c (one_command words (commands.Translate command) (commands.Bench c) is_command h)
+nothing_is_due o (of_command (commands.Bench c) texts _ h at comes) = other_verb command c (words_are_one_command words (commands.Translate command) (commands.Bench c) is_command h)
 nothing_is_due o (of_command (commands.Translate c) texts _ h held comes) = not_held c.domain (c.problem ∷ if_named (file_of c.source)) texts held

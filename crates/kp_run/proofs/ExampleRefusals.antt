@@ -21,9 +21,9 @@ use Rattle.kp_base.specs.Implicates.{IsLeastOver, IsNeverOver}
 use Rattle.kp_base.specs.Entailed.{HasNoModel}
 use Rattle.kp_primes.specs.Included.{all_included, passed_at}
 use Rattle.kp_primes.specs.Answers.{RefusesPrimes, too_many}
-use Rattle.kp_primes.proofs.Answered.{never_over, prefix_stops}
-use Rattle.kp_clash.proofs.InOrder.{first_is}
-use Rattle.kp_machine.proofs.ExamplePlain.{free}
+use Rattle.kp_primes.proofs.Public.{counted_is_never_over, prefix_stops_the_build}
+use Rattle.kp_clash.proofs.Public.{first_found_is_first_clash}
+use Rattle.kp_machine.proofs.Public.{swap_is_clash_free}
 use Rattle.kp_lex.specs.Bytes.{class_of}
 use Rattle.kp_lex.specs.Cutting.{at_end}
 use Rattle.kp_lex.specs.Scanning.{cut_from}
@@ -33,18 +33,17 @@ use Rattle.kp_grammar.specs.Trees.{Cond, Eff, Item, Schema, Domain, Problem, con
 use Rattle.kp_grammar.specs.declared.tree.Word.{Word}
 use Rattle.kp_grammar.specs.Grammar as grammar
 use Rattle.kp_grammar.specs.Reading.{stop, within_form, s_unopened}
-use Rattle.kp_grammar.proofs.ExampleTexts.{word_at, atom_at, pred_at, exchange, exchange_tree}
+use Rattle.kp_grammar.proofs.Public.{example_word_at, example_atom_at, example_pred_at, exchange_text, exchange_tree, tokens_of_text}
 use Rattle.kp_meaning.specs.Faults as faults
 use Rattle.kp_meaning.specs.Names.{same}
 use Rattle.kp_meaning.specs.Numbering.{numbered_problem}
-use Rattle.kp_meaning.proofs.Texts.{tokens}
-use Rattle.kp_tree.specs.Files.{Reads, offending}
+use Rattle.kp_tree.specs.Files.{HasTree, offending}
 use Rattle.kp_tree.specs.Files as files
 use Rattle.kp_names.specs.Resolved.{in_problem}
 use Rattle.kp_meaning.specs.Initial.{HasInitialState}
 use Rattle.kp_given.specs.Translations.{ground_of, initial_of}
 use Rattle.kp_given.specs.Tables.{empty_tag}
-use Rattle.kp_given.proofs.Starts.{states_are_models}
+use Rattle.kp_given.proofs.Public.{initial_states_are_models}
 use Rattle.kp_printed.specs.Refusals.{nothing, refusal_text}
 use Rattle.kp_outcome.specs.declared.outcome.Outcome.{Outcome}
 use Rattle.kp_outcome.specs.declared.status.Status.TheVariants as status
@@ -66,13 +65,13 @@ abbrev both : List ℕ
 both = codes "(define (problem e) (:domain d) (:init (p) (not (p))) (:goal (q)))\n"
 
 abbrev both_tree : Problem Word
-both_tree = record { objects = []; init = Item.fact true (atom_at (codes "p") 40) ∷ Item.fact false (atom_at (codes "p") 49) ∷ []; goal = Cond.atom true (atom_at (codes "q") 62) }
+both_tree = record { objects = []; init = Item.fact true (example_atom_at (codes "p") 40) ∷ Item.fact false (example_atom_at (codes "p") 49) ∷ []; goal = Cond.atom true (example_atom_at (codes "q") 62) }
 
-both_reads : Reads grammar.problem both both_tree
+both_reads : HasTree grammar.problem both both_tree
 unfolding cut_from class_of symbol_of some_at next_at
-both_reads = reads_file grammar.problem both (tokens both) both_tree (omega arith) refl refl refl
+both_reads = reads_file grammar.problem both (tokens_of_text both) both_tree (omega arith) refl refl refl
 
-both_trees : HaveTrees exchange both exchange_tree both_tree
+both_trees : HaveTrees exchange_text both exchange_tree both_tree
 both_trees = record { domain_reads = domain_reads; problem_reads = both_reads; no_fault = record { domain = refl; problem = refl } }
 
 no_model : HasNoModel (initial_of exchange_tree both_tree)
@@ -83,7 +82,7 @@ no_model some = never (some.state 0) some.model
     never false h = false≢true h
 
 no_state : HasInitialState both_tree → ⊥
-no_state has = no_model ((states_are_models exchange_tree both_tree both_trees.no_fault).0 has)
+no_state has = no_model ((initial_states_are_models exchange_tree both_tree both_trees.no_fault).0 has)
 
 -- p and its negation, in order
 two_sets : (c : List Lit) → Member ((positive 0 ∷ []) ∷ (negative 0 ∷ []) ∷ []) c → IsAscending c
@@ -94,7 +93,7 @@ two_sets c m = elim m [
 
 -- of none of them, of the first, and of both
 both_few : IsNeverOver (initial_of exchange_tree both_tree) 20000
-both_few = never_over (initial_of exchange_tree both_tree) 20000 (all_included [] ((positive 0 ∷ []) ∷ (negative 0 ∷ []) ∷ [])) (record { so_far = refl; sets = two_sets; within_limit = λ j le. at j })
+both_few = counted_is_never_over (initial_of exchange_tree both_tree) 20000 (all_included [] ((positive 0 ∷ []) ∷ (negative 0 ∷ []) ∷ [])) (record { so_far = refl; sets = two_sets; within_limit = λ j le. at j })
   where
     at : (j : ℕ) → length (all_included [] (take j ((positive 0 ∷ []) ∷ (negative 0 ∷ []) ∷ []))) ≤ 20000
     at zero = omega arith
@@ -105,8 +104,8 @@ both_few = never_over (initial_of exchange_tree both_tree) 20000 (all_included [
 without_state : RefusesTrees 20000 exchange_tree both_tree nothing refusals.NoInitialState
 without_state = no_initial_state (is_small (numbered_problem exchange_tree both_tree) refl refl refl refl) both_few no_state
 
-no_state_due : IsDue words (Some (holding exchange both)) (record { status = status.Refused refusals.NoInitialState; puts = []; text = codes "refused 12 NoInitialState\n" })
-no_state_due = on_files exchange both _ (early (by_trees exchange_tree both_tree nothing refusals.NoInitialState both_trees without_state refl))
+no_state_due : IsDue words (Some (holding exchange_text both)) (record { status = status.Refused refusals.NoInitialState; puts = []; text = codes "refused 12 NoInitialState\n" })
+no_state_due = on_files exchange_text both _ (early (by_trees exchange_tree both_tree nothing refusals.NoInitialState both_trees without_state refl))
 
 -- ---- refusals: a name
 
@@ -115,27 +114,27 @@ abbrev to_r : List ℕ
 to_r = codes "(define (problem e) (:domain d)\n(:init) (:goal (r)))\n"
 
 abbrev to_r_tree : Problem Word
-to_r_tree = record { objects = []; init = []; goal = Cond.atom true (atom_at (codes "r") 48) }
+to_r_tree = record { objects = []; init = []; goal = Cond.atom true (example_atom_at (codes "r") 48) }
 
-to_r_reads : Reads grammar.problem to_r to_r_tree
+to_r_reads : HasTree grammar.problem to_r to_r_tree
 unfolding cut_from class_of symbol_of some_at next_at
-to_r_reads = reads_file grammar.problem to_r (tokens to_r) to_r_tree (omega arith) refl refl refl
+to_r_reads = reads_file grammar.problem to_r (tokens_of_text to_r) to_r_tree (omega arith) refl refl refl
 
 abbrev unknown_name : Refused
 unknown_name = refusals.UnknownName (record { part = parts.Problem; line = 2; byte = 48 })
 
-unknown_name_due : IsDue words (Some (holding exchange to_r)) (record { status = status.Refused unknown_name; puts = []; text = codes "refused 5 UnknownName\nat problem line 2 byte 48\n" })
+unknown_name_due : IsDue words (Some (holding exchange_text to_r)) (record { status = status.Refused unknown_name; puts = []; text = codes "refused 5 UnknownName\nat problem line 2 byte 48\n" })
 unfolding digits
-unknown_name_due = on_files exchange to_r _ (early (by_texts unknown_name (of_names exchange_tree to_r_tree unknown_name domain_reads to_r_reads (in_problem (faults.unknown_name 48) refl refl)) refl))
+unknown_name_due = on_files exchange_text to_r _ (early (by_texts unknown_name (of_names exchange_tree to_r_tree unknown_name domain_reads to_r_reads (in_problem (faults.unknown_name 48) refl refl)) refl))
 
 -- ---- refusals: an empty problem
 
 abbrev at_once : Refused
 at_once = refusals.Syntax (record { part = parts.Problem; line = 1; byte = 0 })
 
-syntax_due : IsDue words (Some (holding exchange [])) (record { status = status.Refused at_once; puts = []; text = codes "refused 3 Syntax\nat problem line 1 byte 0\n" })
+syntax_due : IsDue words (Some (holding exchange_text [])) (record { status = status.Refused at_once; puts = []; text = codes "refused 3 Syntax\nat problem line 1 byte 0\n" })
 unfolding digits
-syntax_due = on_files exchange [] _ (early (by_texts at_once (of_problem exchange_tree at_once domain_reads (files.stops [] (stop []) (omega arith) at_end (offending (stop []) (within_form (s_unopened refl)) (λ us e. absurd cc)))) refl))
+syntax_due = on_files exchange_text [] _ (early (by_texts at_once (of_problem exchange_tree at_once domain_reads (files.stops [] (stop []) (omega arith) at_end (offending (stop []) (within_form (s_unopened refl)) (λ us e. absurd cc)))) refl))
 
 -- ---- refusals: too many prime implicates
 
@@ -144,13 +143,13 @@ abbrev p_and_q : List ℕ
 p_and_q = codes "(define (problem e) (:domain d) (:init (p) (q)) (:goal (q)))\n"
 
 abbrev p_and_q_tree : Problem Word
-p_and_q_tree = record { objects = []; init = Item.fact true (atom_at (codes "p") 40) ∷ Item.fact true (atom_at (codes "q") 44) ∷ []; goal = Cond.atom true (atom_at (codes "q") 56) }
+p_and_q_tree = record { objects = []; init = Item.fact true (example_atom_at (codes "p") 40) ∷ Item.fact true (example_atom_at (codes "q") 44) ∷ []; goal = Cond.atom true (example_atom_at (codes "q") 56) }
 
-p_and_q_reads : Reads grammar.problem p_and_q p_and_q_tree
+p_and_q_reads : HasTree grammar.problem p_and_q p_and_q_tree
 unfolding cut_from class_of symbol_of some_at next_at
-p_and_q_reads = reads_file grammar.problem p_and_q (tokens p_and_q) p_and_q_tree (omega arith) refl refl refl
+p_and_q_reads = reads_file grammar.problem p_and_q (tokens_of_text p_and_q) p_and_q_tree (omega arith) refl refl refl
 
-p_and_q_trees : HaveTrees exchange p_and_q exchange_tree p_and_q_tree
+p_and_q_trees : HaveTrees exchange_text p_and_q exchange_tree p_and_q_tree
 p_and_q_trees = record { domain_reads = domain_reads; problem_reads = p_and_q_reads; no_fault = record { domain = refl; problem = refl } }
 
 units : (c : List Lit) → Member ((positive 0 ∷ []) ∷ (positive 1 ∷ []) ∷ []) c → IsAscending c
@@ -160,7 +159,7 @@ units c m = elim m [
 ]
 
 second_is_over : IsLeastOver (initial_of exchange_tree p_and_q_tree) 1 2
-second_is_over = go (prefix_stops (initial_of exchange_tree p_and_q_tree) 2 1 (stops.Refused (refusals.ImplicatesOver 2)) (passed_at 2 (record { there = omega arith; sets = units; over = omega arith; before = at })))
+second_is_over = go (prefix_stops_the_build (initial_of exchange_tree p_and_q_tree) 2 1 (stops.Refused (refusals.ImplicatesOver 2)) (passed_at 2 (record { there = omega arith; sets = units; over = omega arith; before = at })))
   where
     at : (j : ℕ) → j < 2 → length (all_included [] (take j ((positive 0 ∷ []) ∷ (positive 1 ∷ []) ∷ []))) ≤ 1
     at zero le = omega arith
@@ -170,9 +169,9 @@ second_is_over = go (prefix_stops (initial_of exchange_tree p_and_q_tree) 2 1 (s
     go : RefusesPrimes (initial_of exchange_tree p_and_q_tree) 1 (refusals.ImplicatesOver 2) → IsLeastOver (initial_of exchange_tree p_and_q_tree) 1 2
     go (too_many _ least) = least
 
-over_due : IsDue with_limit (Some (holding exchange p_and_q)) (record { status = status.Refused (refusals.ImplicatesOver 2); puts = []; text = codes "refused 11 ImplicatesOver\nprefix 2\n" })
+over_due : IsDue with_limit (Some (holding exchange_text p_and_q)) (record { status = status.Refused (refusals.ImplicatesOver 2); puts = []; text = codes "refused 11 ImplicatesOver\nprefix 2\n" })
 unfolding digits
-over_due = due_with with_limit limited is_limited refl refl refl exchange p_and_q _ (early (by_trees exchange_tree p_and_q_tree nothing (refusals.ImplicatesOver 2) p_and_q_trees (implicates_over 2 (is_small (numbered_problem exchange_tree p_and_q_tree) refl refl refl refl) second_is_over) refl))
+over_due = due_with with_limit limited is_limited refl refl refl exchange_text p_and_q _ (early (by_trees exchange_tree p_and_q_tree nothing (refusals.ImplicatesOver 2) p_and_q_trees (implicates_over 2 (is_small (numbered_problem exchange_tree p_and_q_tree) refl refl refl refl) second_is_over) refl))
 
 -- ---- an `unknown`
 
@@ -180,17 +179,17 @@ abbrev half_known : List ℕ
 half_known = codes "(define (problem e) (:domain d) (:init (unknown (p))) (:goal (q)))\n"
 
 abbrev half_known_tree : Problem Word
-half_known_tree = record { objects = []; init = Item.unknown (word_at (codes "unknown") 40) (atom_at (codes "p") 49) ∷ []; goal = Cond.atom true (atom_at (codes "q") 62) }
+half_known_tree = record { objects = []; init = Item.unknown (example_word_at (codes "unknown") 40) (example_atom_at (codes "p") 49) ∷ []; goal = Cond.atom true (example_atom_at (codes "q") 62) }
 
-half_known_reads : Reads grammar.problem half_known half_known_tree
+half_known_reads : HasTree grammar.problem half_known half_known_tree
 unfolding cut_from class_of symbol_of some_at next_at
-half_known_reads = reads_file grammar.problem half_known (tokens half_known) half_known_tree (omega arith) refl refl refl
+half_known_reads = reads_file grammar.problem half_known (tokens_of_text half_known) half_known_tree (omega arith) refl refl refl
 
-half_known_trees : HaveTrees exchange half_known exchange_tree half_known_tree
+half_known_trees : HaveTrees exchange_text half_known exchange_tree half_known_tree
 half_known_trees = record { domain_reads = domain_reads; problem_reads = half_known_reads; no_fault = record { domain = refl; problem = refl } }
 
 half_known_few : IsNeverOver (initial_of exchange_tree half_known_tree) 20000
-half_known_few = never_over (initial_of exchange_tree half_known_tree) 20000 [] (record { so_far = refl; sets = λ c m. absurd m; within_limit = λ j le. at j })
+half_known_few = counted_is_never_over (initial_of exchange_tree half_known_tree) 20000 [] (record { so_far = refl; sets = λ c m. absurd m; within_limit = λ j le. at j })
   where
     at : (j : ℕ) → length (all_included [] (take j [])) ≤ 20000
     at zero = omega arith
@@ -213,12 +212,12 @@ half_known_table = empty_tag exchange_tree half_known_tree
 abbrev half_known_outcome : Outcome
 half_known_outcome = translates command (ground_of exchange_tree half_known_tree) half_known_table []
 
-half_known_done : TranslatesTexts command exchange half_known [] half_known_outcome
-half_known_done = later exchange_tree half_known_tree half_known_trees (record { started = half_known_started; clash_free = free (initial_of exchange_tree half_known_tree) (closed_q (initial_of exchange_tree half_known_tree) refl) })
+half_known_done : TranslatesTexts command exchange_text half_known [] half_known_outcome
+half_known_done = later exchange_tree half_known_tree half_known_trees (record { started = half_known_started; clash_free = swap_is_clash_free (initial_of exchange_tree half_known_tree) (closed_q (initial_of exchange_tree half_known_tree) refl) })
     (with_table half_known_table (by_mode modes.K0 half_known_table (empty_tag_made exchange_tree half_known_tree)) (done [] (empty_tags_fit exchange_tree half_known_tree half_known_started.small) (nothing_uncovered (ground_of exchange_tree half_known_tree) (initial_of exchange_tree half_known_tree) (unconditional half_known_tree refl) half_known_table) refl))
 
-half_known_due : IsDue words (Some (holding exchange half_known)) half_known_outcome
-half_known_due = on_files exchange half_known _ half_known_done
+half_known_due : IsDue words (Some (holding exchange_text half_known)) half_known_outcome
+half_known_due = on_files exchange_text half_known _ half_known_done
 
 -- it isn't known whether p holds, but no effect turns on it: the empty tag covers each target
 half_known_printed : half_known_outcome.text ≡ codes "atoms 2\nactions 1\ntags 1\nmerges 0\nfacts 4\ncomplete\n"
@@ -233,28 +232,28 @@ clashing = codes "(define (domain d) (:predicates (p) (q)) (:action a :effect (a
 
 abbrev clashing_schema : Schema Word
 clashing_schema = record {
-  name = word_at (codes "a") 50;
+  name = example_word_at (codes "a") 50;
   params = [];
   pre = Cond.all (conds_of []);
-  effect = Eff.both (effs_of (Eff.when (Cond.atom true (atom_at (codes "p") 72)) (Eff.makes true (atom_at (codes "q") 76)) ∷ Eff.makes false (atom_at (codes "q") 86) ∷ []));
+  effect = Eff.both (effs_of (Eff.when (Cond.atom true (example_atom_at (codes "p") 72)) (Eff.makes true (example_atom_at (codes "q") 76)) ∷ Eff.makes false (example_atom_at (codes "q") 86) ∷ []));
 }
 
 abbrev clashing_tree : Domain Word
-clashing_tree = record { kinds = []; constants = []; predicates = pred_at (codes "p") 33 ∷ pred_at (codes "q") 37 ∷ []; schemas = clashing_schema ∷ [] }
+clashing_tree = record { kinds = []; constants = []; predicates = example_pred_at (codes "p") 33 ∷ example_pred_at (codes "q") 37 ∷ []; schemas = clashing_schema ∷ [] }
 
-clashing_reads : Reads grammar.domain clashing clashing_tree
+clashing_reads : HasTree grammar.domain clashing clashing_tree
 unfolding cut_from class_of symbol_of some_at next_at
-clashing_reads = reads_file grammar.domain clashing (tokens clashing) clashing_tree (omega arith) refl refl refl
+clashing_reads = reads_file grammar.domain clashing (tokens_of_text clashing) clashing_tree (omega arith) refl refl refl
 
 abbrev from_not_p : List ℕ
 from_not_p = codes "(define (problem e) (:domain d) (:init (not (p))) (:goal (q)))\n"
 
 abbrev from_not_p_tree : Problem Word
-from_not_p_tree = record { objects = []; init = Item.fact false (atom_at (codes "p") 45) ∷ []; goal = Cond.atom true (atom_at (codes "q") 58) }
+from_not_p_tree = record { objects = []; init = Item.fact false (example_atom_at (codes "p") 45) ∷ []; goal = Cond.atom true (example_atom_at (codes "q") 58) }
 
-from_not_p_reads : Reads grammar.problem from_not_p from_not_p_tree
+from_not_p_reads : HasTree grammar.problem from_not_p from_not_p_tree
 unfolding cut_from class_of symbol_of some_at next_at
-from_not_p_reads = reads_file grammar.problem from_not_p (tokens from_not_p) from_not_p_tree (omega arith) refl refl refl
+from_not_p_reads = reads_file grammar.problem from_not_p (tokens_of_text from_not_p) from_not_p_tree (omega arith) refl refl refl
 
 clashing_trees : HaveTrees clashing from_not_p clashing_tree from_not_p_tree
 clashing_trees = record { domain_reads = clashing_reads; problem_reads = from_not_p_reads; no_fault = record { domain = refl; problem = refl } }
@@ -310,7 +309,7 @@ first_clash : ClashesFirst (ground_of clashing_tree from_not_p_tree) (initial_of
 first_clash = record {
   pairs = λ p q. false;
   exclusive = record { each = λ p q h. absurd (false≢true h); all = λ p q x. absurd (no_pair (initial_of clashing_tree from_not_p_tree) p q x) };
-  first = first_is (λ p q. false) (ground_of clashing_tree from_not_p_tree) (Some of_q) refl;
+  first = first_found_is_first_clash (λ p q. false) (ground_of clashing_tree from_not_p_tree) (Some of_q) refl;
 }
 
 clashes : RefusesTrees 20000 clashing_tree from_not_p_tree (named_in (ground_of clashing_tree from_not_p_tree)) (refusals.Clash of_q)

@@ -7,7 +7,7 @@ use Rattle.kp_outside.specs.declared.outside.OutsideStop.{OutsideStop}
 use Rattle.kp_outside.specs.Outside.{FileMap, IsFront, IsWithin}
 use Rattle.kp_outcome.specs.declared.outcome.Outcome.{Outcome}
 use Rattle.kp_outcome.specs.Ends.{most_bytes, AreHeld, AreFronts, none, also}
-use Rattle.kp_outcome.proofs.Fronts.{front_within}
+use Rattle.kp_outcome.proofs.Public.{front_is_within}
 use Rattle.kp_words.specs.Names.{Source, of_mode, of_file, Translate, Merges, Strip, Check, Lift, Solve, Classical, Width, Bench}
 use Rattle.kp_base.specs.declared.limits.Mode.{Mode}
 use Rattle.kp_inputs.specs.declared.origin.Origin.TheVariants as origins
@@ -93,20 +93,20 @@ four _ _ a b c d (also t ts g gs front more) e =
 -- ---- what is read is within the limit
 
 pub one_within : (texts : List (List ℕ)) (gots : List Got) (a : Got) → AreFronts texts gots → gots ≡ a ∷ [] → IsWithin most_bytes a
-one_within texts gots a fronts e = let o = one texts gots a fronts e in front_within o.text most_bytes a o.front
+one_within texts gots a fronts e = let o = one texts gots a fronts e in front_is_within o.text most_bytes a o.front
 
 pub both_within : (texts : List (List ℕ)) (gots : List Got) (a b : Got) → AreFronts texts gots → gots ≡ a ∷ b ∷ [] → IsWithin most_bytes a × IsWithin most_bytes b
-both_within texts gots a b fronts e = let t = two texts gots a b fronts e in (front_within t.first most_bytes a t.first_front, front_within t.second most_bytes b t.second_front)
+both_within texts gots a b fronts e = let t = two texts gots a b fronts e in (front_is_within t.first most_bytes a t.first_front, front_is_within t.second most_bytes b t.second_front)
 
 pub all_within : (texts : List (List ℕ)) (gots : List Got) (a b c : Got) → AreFronts texts gots → gots ≡ a ∷ b ∷ c ∷ [] → IsWithin most_bytes a × IsWithin most_bytes b × IsWithin most_bytes c
 all_within texts gots a b c fronts e =
     let t = three texts gots a b c fronts e in
-    (front_within t.first most_bytes a t.first_front, front_within t.second most_bytes b t.second_front, front_within t.third most_bytes c t.third_front)
+    (front_is_within t.first most_bytes a t.first_front, front_is_within t.second most_bytes b t.second_front, front_is_within t.third most_bytes c t.third_front)
 
 pub four_within : (texts : List (List ℕ)) (gots : List Got) (a b c d : Got) → AreFronts texts gots → gots ≡ a ∷ b ∷ c ∷ d ∷ [] → IsWithin most_bytes a × IsWithin most_bytes b × IsWithin most_bytes c × IsWithin most_bytes d
 four_within texts gots a b c d fronts e =
     let t = four texts gots a b c d fronts e in
-    (front_within t.first most_bytes a t.first_front, front_within t.second most_bytes b t.second_front, front_within t.third most_bytes c t.third_front, front_within t.fourth most_bytes d t.fourth_front)
+    (front_is_within t.first most_bytes a t.first_front, front_is_within t.second most_bytes b t.second_front, front_is_within t.third most_bytes c t.third_front, front_is_within t.fourth most_bytes d t.fourth_front)
 
 -- ---- what a command comes to
 
@@ -123,7 +123,7 @@ merges_sourced name texts gots a b m fronts e =
 -- what is read so is short
 pub short_origin : (source : Source) (merges : List (List ℕ)) (o : Origin) → IsOrigin source merges o → IsShort o
 short_origin _ _ _ (from_mode m) = tt
-short_origin _ _ _ (from_file name text got front) = front_within text most_bytes got front
+short_origin _ _ _ (from_file name text got front) = front_is_within text most_bytes got front
 
 -- where what a result has on some texts is what the command comes to, so it is on texts that are equal to them
 comes_so : (command : Command) (texts us : List (List ℕ)) (P : Outcome → Type 0) (r : Result Outcome Memory) → texts ≡ us → ((o : Outcome) → P o → ComesTo command us o) → IfOk r P → IfOk r (ComesTo command texts)
@@ -200,12 +200,3 @@ pub due_of : (words : List (Vec ℕ Global)) (held : Option FileMap) (c : Comman
     → IfOk r (λ o. (texts : List (List ℕ)) × AreHeld held (inputs_of c) texts × ComesTo c texts o) → IfOk r (IsDue words held)
 due_of words held c (Ok o) is comes = of_command c comes.0 o is comes.1 comes.2
 due_of words held c (Err s) is comes = tt
-
--- what stands before a last one is one, and so is the last
-pub last_once : (xs ys : List (List ℕ)) (x y : List ℕ) → xs ++ x ∷ [] ≡ ys ++ y ∷ [] → (xs ≡ ys) × (x ≡ y)
-last_once [] [] x y e = (refl, cc)
-last_once [] (v ∷ []) x y e = absurd cc
-last_once [] (v ∷ w ∷ ys) x y e = absurd cc
-last_once (v ∷ []) [] x y e = absurd cc
-last_once (v ∷ w ∷ xs) [] x y e = absurd cc
-last_once (v ∷ xs) (w ∷ ys) x y e = let first : v ≡ w = cc in let rest : xs ++ x ∷ [] ≡ ys ++ y ∷ [] = cc in let r = last_once xs ys x y rest in (cc (first, r.0), r.1)

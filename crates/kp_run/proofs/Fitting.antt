@@ -7,24 +7,24 @@ use Rattle.kp_meaning.specs.Numbering.{numbered_problem}
 use Rattle.kp_classic.specs.Fits.{IsFit}
 use Rattle.kp_task.specs.Task.{task_of}
 use Rattle.kp_task.specs.Writable.{IsWritableTask}
-use Rattle.kp_task.proofs.Named.{tasks_are_fit}
+use Rattle.kp_task.proofs.Public.{tagged_tasks_are_fit}
 use Rattle.kp_ktask.specs.Translated.{FitsLimits}
 use Rattle.kp_prepared.specs.Prepared.{usual, IsSmall}
-use Rattle.kp_prepared.proofs.Counted.{few_actions}
-use Rattle.kp_inputs.proofs.TablesFor.{few_merges}
-use Rattle.kp_classic.proofs.OfGround.{task_fits as ground_fits}
+use Rattle.kp_prepared.proofs.Public.{ground_has_few_actions}
+use Rattle.kp_inputs.proofs.Public.{table_has_few_merges}
+use Rattle.kp_classic.proofs.Public.{task_of_ground_fits as ground_fits}
 use Rattle.kp_given.specs.Translations.{ground_of, initial_of}
 use Rattle.kp_classical.specs.Classical.{IsClassical, task_of as classical_task}
-use Rattle.kp_classical.proofs.Counted.{is_of_atoms}
-use Rattle.kp_solving.proofs.Operators.{op_count}
+use Rattle.kp_classical.proofs.Public.{classical_ground_is_of_its_atoms}
+use Rattle.kp_solving.proofs.Public.{operators_are_counted}
 
 pub task_fits : (d : Domain Word) (p : Problem Word) (table : TagTable) → IsSmall d p → FitsLimits (task_of (ground_of d p) table) usual → IsWritableTask (ground_of d p) table → IsFit (task_of (ground_of d p) table)
 task_fits d p table small fits writable =
     let facts = fits.facts in
-    let ops = op_count (ground_of d p) table in
-    let merges = few_merges (ground_of d p) table fits in
-    let actions = few_actions (numbered_problem d p) small.counts in
-    tasks_are_fit (ground_of d p) table writable (omega (arith, facts)) (omega (arith, ops, merges, actions))
+    let ops = operators_are_counted (ground_of d p) table in
+    let merges = table_has_few_merges (ground_of d p) table fits in
+    let actions = ground_has_few_actions (numbered_problem d p) small.counts in
+    tagged_tasks_are_fit (ground_of d p) table writable (omega (arith, facts)) (omega (arith, ops, merges, actions))
 
 pub classical_fit : (d : Domain Word) (p : Problem Word) → IsClassical d p → IsFit (classical_task d p)
-classical_fit d p c = ground_fits (ground_of d p) (initial_of d p) (is_of_atoms (numbered_problem d p) (ground_of d p) c.small)
+classical_fit d p c = ground_fits (ground_of d p) (initial_of d p) (classical_ground_is_of_its_atoms (numbered_problem d p) (ground_of d p) c.small)

@@ -1,3 +1,4 @@
+pub mod Public
 pub mod Computed
 pub mod EmptyTags
 pub mod Strips

@@ -21,11 +21,10 @@ use Rattle.kp_prepared.specs.Refusing.{refuses}
 use Rattle.kp_prepared.specs.Prepared.{usual}
 use Rattle.kp_inputs.specs.Actions.{ComesByPlan}
 use Rattle.kp_inputs.specs.Tables.{HasTable}
-use Rattle.kp_inputs.proofs.Right.{tables_right}
-use Rattle.kp_inputs.proofs.TablesFor.{targets_are, target_within}
+use Rattle.kp_inputs.proofs.Public.{tables_are_right, table_targets_are_of_atoms, target_is_of_atoms}
 use Rattle.kp_lift.specs.declared.lifting.Lifting.TheVariants as Lifting
 use Rattle.kp_lift.specs.Lifting.{IsTableOn, AnswersLifting, operator_step}
-use Rattle.kp_lift.proofs.Named.{lifted_operators_steps}
+use Rattle.kp_lift.proofs.Public.{lifted_operators_are_steps}
 use Rattle.kp_printed.specs.Lifting.{unlifted_text}
 use Rattle.kp_solving.specs.Solving.{denies}
 use Rattle.kp_run.specs.Outcomes.{LiftsActions, lifts, fails, LiftsPlan, no_task, with_task, failing_step}
@@ -46,11 +45,11 @@ task_fits g plan table (Err m) fits h = tt
 -- the table of a source is on the atoms of the ground problem
 pub table_on : (g : Ground) (i : Initial) (source : Source) (merges : List (List ℕ)) (table : TagTable) → IsOfItsAtoms g → HasTable g i source merges table → IsTableOn g table
 table_on g i source merges table own has =
-    let right = (tables_right g i source merges table own has).0 in
+    let right = (tables_are_right g i source merges table own has).0 in
     record {
       some_tag = slice_get_within table.tags 0 right.first.0 right.first.1;
       closures = λ row there. all_from (λ l. nat_lt l.atom.0 (length g.atoms)) row.closure (λ l in-closure. lt-ltb l.atom.0 (length g.atoms) ((right.closures row there).of_atoms l (has-member row.closure l in-closure)));
-      targets = target_within g.atoms table.merges (targets_are g i source merges table own has);
+      targets = target_is_of_atoms g.atoms table.merges (table_targets_are_of_atoms g i source merges table own has);
       tags = right.tags;
     }
 
@@ -59,7 +58,7 @@ table_on g i source merges table own has =
 -- the lifted operators are printed
 pub lifted_printed : (g : Ground) (table : TagTable) (ns ops : List ℕ) (r : Result Outcome Memory) → list_all (λ n. nat_lt n (length g.actions)) ns ≡ true → AnswersLifting g table ns (Lifting.Lifted ops) → IfOk r (PrintsOperators (task_of g table) ops) → IfOk r (LiftsActions g table ns)
 lifted_printed g table ns ops (Ok o) inside h printed =
-    lifts printed.steps (record { steps_are = sym (lifted_operators_steps g table ns inside) ∙ (ap (map (operator_step (task_of g table))) (sym h.0) ∙ printed.are); accepted = h.1 }) printed.printed
+    lifts printed.steps (record { steps_are = sym (lifted_operators_are_steps g table ns inside) ∙ (ap (map (operator_step (task_of g table))) (sym h.0) ∙ printed.are); accepted = h.1 }) printed.printed
 lifted_printed g table ns ops (Err m) inside h printed = tt
 
 -- it is told where lifting fails

@@ -11,14 +11,15 @@ use Rattle.kp_base.specs.Machine.{MachineStep}
 use Rattle.kp_meaning.specs.Steps.{Step}
 use Rattle.kp_plans.specs.Names.{IsGroundName}
 use Rattle.kp_plans.specs.Printed.{plan_text, IsTextOf}
-use Rattle.kp_plans.proofs.Lines.{printed_plans_read}
+use Rattle.kp_plans.proofs.Public.{printed_plans_read}
 use Rattle.kp_write.specs.Grounds.{IsGroundAction, IsWritable}
 use Rattle.kp_write.specs.Runs.{step_of}
-use Rattle.kp_write.proofs.Encoded.{operator_is_name}
+use Rattle.kp_write.proofs.Public.{operator_is_name}
 use Rattle.kp_task.specs.ByName.{op_of, merge_op}
 use Rattle.kp_task.specs.Writable.{IsWritableTask}
-use Rattle.kp_task.specs.Accepted.{step_at, name_at}
-use Rattle.kp_task.proofs.MergeNames.{merge_is_name}
+use Rattle.kp_base.specs.ActionNames.{action_name}
+use Rattle.kp_task.specs.Accepted.{step_at}
+use Rattle.kp_task.proofs.Public.{merge_is_name}
 
 each_at : {X : Type 0} (P : X → Type 0) (xs : List X) → AllByRecursion P xs → (n : ℕ) (x : X) → slice_get xs n ≡ Some x → P x
 each_at P [] all n x at = absurd cc
@@ -34,7 +35,7 @@ all_fine f each (a ∷ names) (x ∷ xs) e = let here : f a ≡ Some x = cc in l
 
 -- ---- actions
 
-action_fine : (g : Ground) → IsWritable g → (n : ℕ) (x : GroundName) → name_at g n ≡ Some x → IsGroundName x
+action_fine : (g : Ground) → IsWritable g → (n : ℕ) (x : GroundName) → action_name g n ≡ Some x → IsGroundName x
 action_fine g w n x e = go (slice_get g.actions n) refl e
   where
     go : (o : Option Action) → slice_get g.actions n ≡ o → option_map (λ (a : Action). a.name) o ≡ Some x → IsGroundName x
@@ -42,8 +43,8 @@ action_fine g w n x e = go (slice_get g.actions n) refl e
     go (Some a) at e = let same : a.name ≡ x = cc in subst IsGroundName same (each_at (IsGroundAction g.atoms) g.actions w.actions n a at).name
 
 -- the lines of actions read as their names
-pub actions_read : (g : Ground) → IsWritable g → (ns : List ℕ) (plan : List Step) → map (name_at g) ns ≡ map Some plan → IsTextOf (plan_text plan) plan
-actions_read g w ns plan e = printed_plans_read plan (all_fine (name_at g) (action_fine g w) ns plan e)
+pub actions_read : (g : Ground) → IsWritable g → (ns : List ℕ) (plan : List Step) → map (action_name g) ns ≡ map Some plan → IsTextOf (plan_text plan) plan
+actions_read g w ns plan e = printed_plans_read plan (all_fine (action_name g) (action_fine g w) ns plan e)
 
 -- ---- steps of the machine
 

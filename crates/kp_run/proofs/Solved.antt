@@ -17,18 +17,18 @@ use Rattle.kp_meaning.specs.Steps.{Step}
 use Rattle.kp_classic.specs.declared.task.Task.{Task}
 use Rattle.kp_classic.specs.Fits.{IsFit}
 use Rattle.kp_classic.specs.Steps.{start, succeeds}
-use Rattle.kp_cover.proofs.Answered.{none_uncovered}
+use Rattle.kp_cover.proofs.Public.{none_uncovered_if_complete}
 use Rattle.kp_decided.specs.Laws.{AreProper}
-use Rattle.kp_decided.proofs.Covered.{complete_with_none}
+use Rattle.kp_decided.proofs.Public.{complete_with_none, formulas_are_ascending}
 use Rattle.kp_search.specs.declared.found.Found.{Found}
 use Rattle.kp_search.specs.declared.found.Found.TheVariants.{Plan, NoPlan, Spent}
 use Rattle.kp_task.specs.Task.{task_of}
 use Rattle.kp_task.specs.Writable.{IsWritableTask}
-use Rattle.kp_task.proofs.Plans.{plans_are_accepted}
+use Rattle.kp_task.proofs.Public.{tagged_plans_are_accepted}
 use Rattle.kp_given.specs.Translations.{ground_of, initial_of}
 use Rattle.kp_given.specs.Tables.{IsTableFor}
-use Rattle.kp_given.proofs.Tables.{tables_written}
-use Rattle.kp_sound.proofs.Lifting.{plans_lift}
+use Rattle.kp_given.proofs.Public.{tables_can_be_written, formulas_speak_of_ground_atoms, initial_states_are_models}
+use Rattle.kp_sound.proofs.Public.{plans_lift}
 use Rattle.kp_plans.specs.Printed.{plan_text}
 use Rattle.kp_printed.specs.Refusals.{nothing}
 use Rattle.kp_printed.specs.Searches.{no_plan_text}
@@ -43,19 +43,15 @@ use Rattle.kp_words.specs.Command.{IsSolve, file_of, if_named, inputs_of}
 use Rattle.kp_prepared.specs.Texts.{HaveTrees}
 use Rattle.kp_prepared.specs.Prepared.{IsPrepared, by_texts, by_trees, early, later}
 use Rattle.kp_inputs.specs.Tables.{HasTable, no_table, with_table}
-use Rattle.kp_inputs.proofs.TablesFor.{table_for}
+use Rattle.kp_inputs.proofs.Public.{table_of_source_is_for_trees}
 use Rattle.kp_solving.specs.Solving.{Finds, solves, denies, spends, TellsSolved, SolvesGround, over, searched}
-use Rattle.kp_solving.proofs.Searches.{ends_true}
-use Rattle.kp_solving.proofs.Plans.{none_accepted}
+use Rattle.kp_solving.proofs.Public.{ends_are_true, no_plan_is_accepted}
 use Rattle.kp_run.specs.Outcomes.{SolvesTexts, IsDue}
 use Rattle.kp_run.specs.Completeness.{PrintsComplete}
 use Rattle.kp_run.specs.Ends.{Ends}
-use Rattle.kp_prepared.proofs.Problems.{problem_of}
+use Rattle.kp_prepared.proofs.Public.{problem_of_trees, usual_ground_is_of_its_atoms}
 use Rattle.kp_meaning.specs.Faults.{HasNoFault}
 use Rattle.kp_meaning.specs.Numbering.{numbered_problem}
-use Rattle.kp_decided.proofs.Counting.{formulas_ascend}
-use Rattle.kp_given.proofs.Starts.{formulas_over_atoms, states_are_models}
-use Rattle.kp_prepared.proofs.Counted.{is_of_atoms}
 use Rattle.kp_run.specs.Solved.{GoesOn, IsPosed, its_ground, its_formula, its_task, IsWrittenPlan, with_named, IsSolved, HasNoPlan, IsSpent, SolveIsTrue}
 use Rattle.kp_run.proofs.BothPlans.{both_plans}
 use Rattle.kp_run.proofs.Comes.{due_makes}
@@ -67,7 +63,7 @@ use Rattle.kp_run.proofs.Whole.{IsCarriedOut, did, IsNoRefusal, not_refused}
 
 -- the ground problem of two trees with which a command goes on, and its initial formula, are in order
 pub proper : (limit : ℕ) (d : Domain Word) (p : Problem Word) → HasNoFault d p → IsPrepared limit d p → AreProper (ground_of d p) (initial_of d p)
-proper limit d p no_fault ready = record { own_atoms = is_of_atoms (numbered_problem d p) (ground_of d p) ready.started.small; over = formulas_over_atoms d p; ascending = formulas_ascend (numbered_problem d p); model = (states_are_models d p no_fault).0 ready.started.initial }
+proper limit d p no_fault ready = record { own_atoms = usual_ground_is_of_its_atoms (numbered_problem d p) (ground_of d p) ready.started.small; over = formulas_speak_of_ground_atoms d p; ascending = formulas_are_ascending (numbered_problem d p); model = (initial_states_are_models d p no_fault).0 ready.started.initial }
 
 -- ---- whether the table is complete
 
@@ -82,7 +78,7 @@ not_so p =
 
 pub complete_text : (g : Ground) (i : Initial) (table : TagTable) (ls : List Lit) → AreProper g i → AreUncovered g i table ls → PrintsComplete (no_plan_text ls) ↔ IsComplete g i table
 complete_text g i table [] proper are = ((λ printed. complete_with_none g i table proper are), (λ whole. record { front = codes "no plan"; are = refl }))
-complete_text g i table (l ∷ ls) proper are = ((λ printed. absurd (not_so printed)), (λ whole. absurd (let none = none_uncovered g i table (l ∷ ls) are whole in cc)))
+complete_text g i table (l ∷ ls) proper are = ((λ printed. absurd (not_so printed)), (λ whole. absurd (let none = none_uncovered_if_complete g i table (l ∷ ls) are whole in cc)))
 
 -- ---- what such a run came to
 
@@ -153,17 +149,17 @@ module _ (m : FileMap) (c : Solve) (o : Outcome) (x : HasSearched m c o) (old ne
   g = x.posed.given
 
   for : IsTableFor d p table
-  for = table_for d p c.source x.posed.has_task.merges table g.prepared.started.small x.posed.has_task.fits x.posed.has_task.has_table
+  for = table_of_source_is_for_trees d p c.source x.posed.has_task.merges table g.prepared.started.small x.posed.has_task.fits x.posed.has_task.has_table
 
   writable : IsWritableTask ground table
-  writable = tables_written g.domain g.problem (problem_of g.domain g.problem d p g.trees) table for
+  writable = tables_can_be_written g.domain g.problem (problem_of_trees g.domain g.problem d p g.trees) table for
 
   fit : IsFit task
   fit = task_fits d p table g.prepared.started.small x.posed.has_task.fits writable
 
   -- the machine accepts nothing that the search doesn't find, so what is written has no plan
   none_written : ((ops : List ℕ) → succeeds task (start task) ops ≡ false) → (steps : List Step) → IsWrittenPlan x.posed steps → ⊥
-  none_written none steps plan = let found = (plans_are_accepted ground table writable steps).0 plan in none_accepted ground table writable none steps found.0 found.1
+  none_written none steps plan = let found = (tagged_plans_are_accepted ground table writable steps).0 plan in no_plan_is_accepted ground table writable none steps found.0 found.1
 
   answered : (u : Outcome) → o ≡ u → IsCarriedOut u old new s
   answered u is = subst (λ z. IsCarriedOut z old new s) is a
@@ -174,7 +170,7 @@ module _ (m : FileMap) (c : Solve) (o : Outcome) (x : HasSearched m c o) (old ne
       by : (found : Found) → Finds task c.budget found → TellsSolved c.classical ground formula table found o → IsSolved m c old new
       by (Plan ops n) finds (written, plan, named, is) =
           let b = answered (solves c.classical written plan) is in
-          let both = both_plans g.domain g.problem (problem_of g.domain g.problem d p g.trees) table for g.prepared.clash_free ops written plan named (ends_true task c.budget (Plan ops n) fit finds).1 in
+          let both = both_plans g.domain g.problem (problem_of_trees g.domain g.problem d p g.trees) table for g.prepared.clash_free ops written plan named (ends_are_true task c.budget (Plan ops n) fit finds).1 in
           record { posed = x.posed; plan = plan; written = written; is_plan = both.is_plan; is_written = both.is_written; strips = both.strips; told = b.text_is; told_reads = actions_read ground writable.ground (actions_of named.machine) plan named.actions_are; put = b.puts_are ∙ named_put old.held c.classical written plan; put_reads = steps_read ground table writable named.machine written named.steps_are }
       by NoPlan finds (ls, are, is) = absurd (let b = answered (denies (no_plan_text ls)) is in let not_done = sym b.status_is ∙ done in cc)
       by (Spent n) finds is = absurd (let b = answered (spends n) is in let not_done = sym b.status_is ∙ done in cc)
@@ -186,7 +182,7 @@ module _ (m : FileMap) (c : Solve) (o : Outcome) (x : HasSearched m c o) (old ne
       by (Plan ops n) finds (written, plan, named, is) = absurd (let b = answered (solves c.classical written plan) is in let not_no = sym b.status_is ∙ negative in cc)
       by NoPlan finds (ls, are, is) =
           let b = answered (denies (no_plan_text ls)) is in
-          let none = ends_true task c.budget NoPlan fit finds in
+          let none = ends_are_true task c.budget NoPlan fit finds in
           let fine = proper c.implicates d p g.trees.no_fault g.prepared in
           let exact = complete_text ground formula table ls fine are in
           record {
@@ -196,8 +192,8 @@ module _ (m : FileMap) (c : Solve) (o : Outcome) (x : HasSearched m c o) (old ne
             none_written = none_written none;
             complete = exact;
             none_given = λ printed steps plan.
-                let lifts = plans_lift g.domain g.problem (problem_of g.domain g.problem d p g.trees) table g.prepared.started.initial fine.own_atoms for (exact.0 printed) steps plan in
-                none_accepted ground table writable none lifts.steps _ lifts.accepted;
+                let lifts = plans_lift g.domain g.problem (problem_of_trees g.domain g.problem d p g.trees) table g.prepared.started.initial fine.own_atoms for (exact.0 printed) steps plan in
+                no_plan_is_accepted ground table writable none lifts.steps _ lifts.accepted;
             told = b.text_is;
             put = b.puts_are;
           }
@@ -211,7 +207,7 @@ module _ (m : FileMap) (c : Solve) (o : Outcome) (x : HasSearched m c o) (old ne
       by NoPlan finds (ls, are, is) = absurd (let b = answered (denies (no_plan_text ls)) is in let not_spent = sym b.status_is ∙ spent in cc)
       by (Spent n) finds is =
           let b = subst (λ k. IsCarriedOut (spends k) old new s) finds.expanded_are (answered (spends n) is) in
-          record { posed = x.posed; ended = subst (λ k. Finds task c.budget (Spent k)) finds.expanded_are finds; more = ends_true task c.budget (Spent n) fit finds; told = b.text_is; put = b.puts_are }
+          record { posed = x.posed; ended = subst (λ k. Finds task c.budget (Spent k)) finds.expanded_are finds; more = ends_are_true task c.budget (Spent n) fit finds; told = b.text_is; put = b.puts_are }
 
 -- ---- what it says of a run
 

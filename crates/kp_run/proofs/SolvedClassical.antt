@@ -10,7 +10,7 @@ use Rattle.kp_classic.specs.Fits.{IsFit}
 use Rattle.kp_search.specs.declared.found.Found.{Found}
 use Rattle.kp_search.specs.declared.found.Found.TheVariants.{Plan, NoPlan, Spent}
 use Rattle.kp_given.specs.Translations.{ground_of}
-use Rattle.kp_given.proofs.Written.{grounds_written}
+use Rattle.kp_given.proofs.Public.{grounds_written}
 use Rattle.kp_outside.specs.Outside.{FileMap}
 use Rattle.kp_outcome.specs.declared.outcome.Outcome.{Outcome}
 use Rattle.kp_outcome.specs.declared.status.Status.{Status}
@@ -20,14 +20,14 @@ use Rattle.kp_words.specs.Names.{Classical}
 use Rattle.kp_words.specs.declared.lent.CommandRef.TheVariants as commands
 use Rattle.kp_words.specs.Command.{IsClassical as SaysClassical, inputs_of}
 use Rattle.kp_classical.specs.Classical.{by_texts, by_trees, early, later, task_of}
-use Rattle.kp_classical.proofs.Plans.{are_plans, are_successes}
+use Rattle.kp_classical.proofs.Public.{classical_successes_are_plans, classical_plans_are_successes}
 use Rattle.kp_printed.specs.Refusals.{nothing}
 use Rattle.kp_printed.specs.Searches.{no_plan_line}
 use Rattle.kp_solving.specs.Solving.{Finds, solves, denies, spends, TellsClassical}
-use Rattle.kp_solving.proofs.Searches.{ends_true}
+use Rattle.kp_solving.proofs.Public.{ends_are_true}
 use Rattle.kp_run.specs.Outcomes.{ClassicalTexts, IsDue}
 use Rattle.kp_run.specs.Ends.{Ends}
-use Rattle.kp_prepared.proofs.Problems.{problem_of}
+use Rattle.kp_prepared.proofs.Public.{problem_of_trees}
 use Rattle.kp_run.specs.Solved.{IsHeldClassical, IsPosedClassical, IsSolvedClassical, HasNoClassicalPlan, IsSpentClassical, ClassicalIsTrue}
 use Rattle.kp_run.proofs.Comes.{due_makes}
 use Rattle.kp_run.proofs.Fitting.{classical_fit}
@@ -88,8 +88,8 @@ module _ (m : FileMap) (c : Classical) (o : Outcome) (x : HasSearched m c o) (ol
       by : (found : Found) → Finds (task_of d p) c.budget found → TellsClassical (ground_of d p) found o → IsSolvedClassical m c old new
       by (Plan ops n) finds (plan, named, is) =
           let b = answered (solves None plan plan) is in
-          let succeed = (ends_true (task_of d p) c.budget (Plan ops n) fit finds).1 in
-          record { posed = x.posed; plan = plan; is_plan = (are_plans g.domain g.problem d p g.trees g.classical ops plan named).0 succeed; told = b.text_is; told_reads = actions_read (ground_of d p) (grounds_written g.domain g.problem (problem_of g.domain g.problem d p g.trees)) ops plan named; put = b.puts_are }
+          let succeed = (ends_are_true (task_of d p) c.budget (Plan ops n) fit finds).1 in
+          record { posed = x.posed; plan = plan; is_plan = (classical_successes_are_plans g.domain g.problem d p g.trees g.classical ops plan named).0 succeed; told = b.text_is; told_reads = actions_read (ground_of d p) (grounds_written g.domain g.problem (problem_of_trees g.domain g.problem d p g.trees)) ops plan named; put = b.puts_are }
       by NoPlan finds is = absurd (let b = answered (denies no_plan_line) is in let not_done = sym b.status_is ∙ done in cc)
       by (Spent n) finds is = absurd (let b = answered (spends n) is in let not_done = sym b.status_is ∙ done in cc)
 
@@ -100,10 +100,10 @@ module _ (m : FileMap) (c : Classical) (o : Outcome) (x : HasSearched m c o) (ol
       by (Plan ops n) finds (plan, named, is) = absurd (let b = answered (solves None plan plan) is in let not_no = sym b.status_is ∙ negative in cc)
       by NoPlan finds is =
           let b = answered (denies no_plan_line) is in
-          let none = ends_true (task_of d p) c.budget NoPlan fit finds in
+          let none = ends_are_true (task_of d p) c.budget NoPlan fit finds in
           record {
             posed = x.posed;
-            none = λ steps plan. let run = are_successes g.domain g.problem d p g.trees g.classical steps plan in false≢true (sym (none run.0) ∙ run.2);
+            none = λ steps plan. let run = classical_plans_are_successes g.domain g.problem d p g.trees g.classical steps plan in false≢true (sym (none run.0) ∙ run.2);
             told = b.text_is;
             put = b.puts_are;
           }
@@ -117,7 +117,7 @@ module _ (m : FileMap) (c : Classical) (o : Outcome) (x : HasSearched m c o) (ol
       by NoPlan finds is = absurd (let b = answered (denies no_plan_line) is in let not_spent = sym b.status_is ∙ spent in cc)
       by (Spent n) finds is =
           let b = subst (λ k. IsCarriedOut (spends k) old new s) finds.expanded_are (answered (spends n) is) in
-          record { posed = x.posed; ended = subst (λ k. Finds (task_of d p) c.budget (Spent k)) finds.expanded_are finds; more = ends_true (task_of d p) c.budget (Spent n) fit finds; told = b.text_is; put = b.puts_are }
+          record { posed = x.posed; ended = subst (λ k. Finds (task_of d p) c.budget (Spent k)) finds.expanded_are finds; more = ends_are_true (task_of d p) c.budget (Spent n) fit finds; told = b.text_is; put = b.puts_are }
 
 -- ---- what it says of a run
 

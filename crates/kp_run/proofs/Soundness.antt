@@ -16,16 +16,16 @@ use Rattle.kp_task.specs.Task.{task_of}
 use Rattle.kp_ktask.specs.Translated.{FitsLimits}
 use Rattle.kp_translation.specs.declared.translation.Translation.{Translation}
 use Rattle.kp_given.specs.Tables.{IsTableFor, translation_of}
-use Rattle.kp_machine.proofs.Exclusive.{never_clashes}
+use Rattle.kp_machine.proofs.Public.{no_clash_under_exclusive_pairs}
 use Rattle.kp_grammar.specs.declared.tree.Word.{Word}
 use Rattle.kp_grammar.specs.Trees.{Domain, Problem}
 use Rattle.kp_meaning.specs.Plans.{HasProblem}
 use Rattle.kp_given.specs.Translations.{ground_of, initial_of}
-use Rattle.kp_sound.proofs.Trees.{translations_sound}
+use Rattle.kp_sound.proofs.Public.{translations_are_sound}
 use Rattle.kp_prepared.specs.Texts.{HaveTrees}
 use Rattle.kp_prepared.specs.Refusing.{refuses}
 use Rattle.kp_prepared.specs.Prepared.{usual, IsPrepared, by_texts, by_trees, early, later}
-use Rattle.kp_prepared.proofs.Problems.{problem_of}
+use Rattle.kp_prepared.proofs.Public.{problem_of_trees}
 use Rattle.kp_base.specs.declared.refused.Refused.{Refused}
 use Rattle.kp_printed.specs.Refusals.{Named, nothing}
 use Rattle.kp_outcome.specs.declared.outcome.Outcome.{Outcome}
@@ -36,7 +36,7 @@ use Rattle.kp_words.specs.Names.{Translate}
 use Rattle.kp_words.specs.declared.lent.CommandRef.TheVariants as commands
 use Rattle.kp_words.specs.Command.{IsTranslate, inputs_of}
 use Rattle.kp_inputs.specs.Tables.{HasTable, no_table, with_table}
-use Rattle.kp_inputs.proofs.TablesFor.{table_for}
+use Rattle.kp_inputs.proofs.Public.{table_of_source_is_for_trees}
 use Rattle.kp_run.specs.Outcomes.{translates, TranslatesGround, over as when_over, done as when_done, TranslatesTrees, TranslatesTexts, IsDue}
 use Rattle.kp_run.specs.Ends.{Ends, came, read_failed, no_memory}
 use Rattle.kp_run.specs.Soundness.{IsSound}
@@ -128,10 +128,10 @@ module _ (before after : FileMap) (c : Translate) (o : Outcome) (apart : c.domai
   written = translation_of d p all_done.table
 
   pub is_table : IsTableFor d p all_done.table
-  is_table = table_for d p c.source both.merges all_done.table all_done.prepared.started.small all_done.ground.fits all_done.has_table
+  is_table = table_of_source_is_for_trees d p c.source both.merges all_done.table all_done.prepared.started.small all_done.ground.fits all_done.has_table
 
   has : HasProblem both.domain both.problem
-  has = problem_of both.domain both.problem d p all_done.trees
+  has = problem_of_trees both.domain both.problem d p all_done.trees
 
   held : after ≡ insert (insert before c.domain_out written.domain) c.problem_out written.problem
   held = let they = subst (λ (z : Outcome). Some after ≡ with_files (Some before) z.puts) all_done.ground.outcome puts in cc they
@@ -155,7 +155,7 @@ module _ (before after : FileMap) (c : Translate) (o : Outcome) (apart : c.domai
     initial_state = all_done.prepared.started.initial;
     domain_put = first_put;
     problem_put = second_put;
-    plans = translations_sound both.domain both.problem has all_done.table is_table (never_clashes (ground_of d p) (initial_of d p) all_done.prepared.clash_free);
+    plans = translations_are_sound both.domain both.problem has all_done.table is_table (no_clash_under_exclusive_pairs (ground_of d p) (initial_of d p) all_done.prepared.clash_free);
   }
 
 -- ---- a run that ended with Done

@@ -10,7 +10,7 @@ use Rattle.kp_base.specs.Covering.{AreUncovered}
 use Rattle.kp_base.specs.Entailed.{HaveSameModels}
 use Rattle.kp_task.specs.Task.{task_of}
 use Rattle.kp_ktask.specs.Translated.{FitsLimits, RefusesTask}
-use Rattle.kp_tags.proofs.ModesByModels.{coverage_by_models}
+use Rattle.kp_tags.proofs.Public.{coverage_goes_by_models}
 use Rattle.kp_printed.specs.Refusals.{nothing}
 use Rattle.kp_outcome.specs.declared.outcome.Outcome.{Outcome}
 use Rattle.kp_words.specs.Names.{Translate}
@@ -39,7 +39,7 @@ task_done c g i table (Err m) fits put = tt
 -- which targets aren't covered goes by the models
 pub ground_by : (c : Translate) (g : Ground) (i j : Initial) (table : TagTable) (o : Outcome) → HaveSameModels i j → TranslatesGround c g i table o → TranslatesGround c g j table o
 ground_by c g i j table o same (over x too is) = over x too is
-ground_by c g i j table o same (done ls fits are is) = done ls fits (coverage_by_models g i j table ls same are) is
+ground_by c g i j table o same (done ls fits are is) = done ls fits (coverage_goes_by_models g i j table ls same are) is
 
 -- so it is with what is answered
 pub grounds_by : (c : Translate) (g : Ground) (i j : Initial) (table : TagTable) (r : Result Outcome Memory) → HaveSameModels i j → IfOk r (TranslatesGround c g i table) → IfOk r (TranslatesGround c g j table)

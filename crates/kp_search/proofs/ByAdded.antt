@@ -2,14 +2,14 @@
 use Rattle.kp_classic.specs.declared.task.Task.{Task}
 use Rattle.kp_classic.specs.Fits.{IsFit}
 use Rattle.kp_classic.specs.States.{has}
-use Rattle.kp_guide.proofs.Existing.{added_exists, added_one}
+use Rattle.kp_guide.proofs.Public.{added_exists, added_is_one}
 use Rattle.kp_search.specs.Estimates.{HasEstimates, HasOneEstimate}
 use Rattle.kp_search.specs.Laws.{by_added, HasOneEndByAdded, HasSomeEndByAdded}
 use Rattle.kp_search.proofs.OneEnd.{same_end}
 use Rattle.kp_search.proofs.SomeEnd.{some_end}
 
 pub one_estimate : (t : Task) → HasOneEstimate t (by_added t)
-one_estimate t = record { one = λ s a b same p q. added_one t (has s.hold) a b p q }
+one_estimate t = record { one = λ s a b same p q. added_is_one t (has s.hold) a b p q }
 
 pub estimates : (t : Task) → IsFit t → HasEstimates t (by_added t)
 estimates t fit = record { some = λ s same. added_exists t (has s.hold) fit }

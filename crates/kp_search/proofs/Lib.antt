@@ -1,3 +1,4 @@
+pub mod Public
 pub mod ByAdded
 pub mod Ends
 pub mod Kept

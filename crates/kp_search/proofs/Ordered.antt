@@ -9,7 +9,7 @@ use Rattle.std.proofs.lemmas.Option.{slice_get_within, slice_get-get_or, get_or_
 use Rattle.kp_base.specs.Lists.{Member}
 use Rattle.kp_base.proofs.Lists.{append_member, member_at}
 use Rattle.kp_classic.specs.States.{FactSet, has, IsBefore}
-use Rattle.kp_classic.proofs.Ordered.{never_before_itself}
+use Rattle.kp_classic.proofs.Public.{state_never_before_itself}
 use Rattle.kp_search.specs.Tables.{StateList, with_state}
 use Rattle.kp_search.specs.Sorted.{StandsAt, IsOrderOf, AreBefore, IsBeforeRest, IsGap, IsWhole}
 use Rattle.kp_search.proofs.Slices.{slice_left, slice_last, slice_parts, read_at}
@@ -86,8 +86,8 @@ module _ (states : List FactSet) (order : List ℕ) (o : IsOrderOf order states)
   not_found gap s g m =
       let r = o.each s m in
       elim (cases_lt r.0 gap) [
-        | inl lt ↦ never_before_itself s (g.below r.0 s lt r.1)
-        | inr ge ↦ never_before_itself s (g.above r.0 s ge r.1)
+        | inl lt ↦ state_never_before_itself s (g.below r.0 s lt r.1)
+        | inr ge ↦ state_never_before_itself s (g.above r.0 s ge r.1)
       ]
 
   -- ---- one state more

@@ -1,10 +1,11 @@
 -- What sections declare, one section behind the other.
 use Rattle.std.proofs.Common.{◌≡◌, List, [], ◌∷◌, ◌++◌, sym, ap, ◌∙◌}
 use Rattle.std.specs.List.{flat_map}
+use Rattle.kp_base.proofs.Parts.{flat_map-push}
 use Rattle.kp_grammar.specs.declared.tree.Word.{Word}
 use Rattle.kp_grammar.specs.Trees.{Typed, Pred, Schema, Section, section_types, section_constants, section_predicates, section_schemas}
 use Rattle.kp_grammar.specs.Parsing.{Outcome}
-use Rattle.kp_parts.proofs.Loops.{with_front, flat_map-push}
+use Rattle.kp_parts.proofs.Public.{with_front}
 
 -- the sections read so far, and what they declare
 pub record Sections (kinds constants : List (Typed Word)) (preds : List (Pred Word)) (schemas : List (Schema Word)) (here total : Outcome Word (List (Section Word))) : Type 0 where

@@ -5,7 +5,7 @@ use Rattle.kp_grammar.specs.declared.tree.Word.{Word}
 use Rattle.kp_grammar.specs.Trees.{Typed, Item, Cond, Given, given_objects, given_items, goal_of}
 use Rattle.kp_grammar.specs.Parsing.{Outcome}
 use Rattle.kp_stated.specs.Parts.{goal_after, goal_or_true}
-use Rattle.kp_parts.proofs.Loops.{with_front}
+use Rattle.kp_parts.proofs.Public.{with_front}
 use Rattle.kp_sections.proofs.Joining.{kept}
 
 -- the first goal

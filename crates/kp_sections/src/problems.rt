@@ -9,7 +9,7 @@ use bumpalo::Bump;
 use kp_grammar::Symbol;
 use kp_nodes::ProblemNode;
 use kp_parts::{
-    Class, Halt, Lead, Mode, Tokens, close, cond, follow, is_left, items, peek, skip_keywords,
+    Class, Halt, Lead, Role, Tokens, close, cond, follow, is_left, items, peek, skip_keywords,
     skip_name, title, typed,
 };
 use kp_stated::{Once, ProblemPart, Stated, as_problem, has_stood, keep_given, note};
@@ -57,7 +57,7 @@ fn given_inside<'a>(
             if has_stood(seen, Once::Goal) {
                 return Err(Halt::Syntax(at));
             }
-            let (goal, at) = cond(bump, tokens, at + 1, levels, Mode::Goal)?;
+            let (goal, at) = cond(bump, tokens, at + 1, levels, Role::Goal)?;
             Ok((ProblemPart::Goal(goal), at))
         }
         Symbol::Metric | Symbol::Constraints | Symbol::Length => Err(Halt::Unsupported(at)),

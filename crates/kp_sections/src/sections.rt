@@ -8,7 +8,7 @@ use bumpalo::collections::into_bump_slice;
 use kp_grammar::Symbol;
 use kp_nodes::{CondNode, EffNode, PredNode, SchemaNode, TypedNode};
 use kp_parts::{
-    Class, Halt, Mode, Tokens, add, close, cond, eff, is_left, no_condition, no_effect, peek,
+    Class, Halt, Role, Tokens, add, close, cond, eff, is_left, no_condition, no_effect, peek,
     typed, variables, word,
 };
 
@@ -103,7 +103,7 @@ fn precondition<'a>(
 {
     match peek(tokens, at) {
         Some(first) if matches!(first.symbol, Symbol::Precondition) => {
-            cond(bump, tokens, at + 1, levels, Mode::Condition)
+            cond(bump, tokens, at + 1, levels, Role::Condition)
         }
         _ => Ok((no_condition(), at)),
     }

@@ -1,3 +1,4 @@
+pub mod Public
 pub mod Counting
 pub mod InOrder
 pub mod Searching

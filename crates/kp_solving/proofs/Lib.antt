@@ -1,3 +1,4 @@
+pub mod Public
 pub mod ByModels
 pub mod OneSolving
 pub mod Operators

@@ -9,15 +9,17 @@ use Rattle.kp_base.specs.declared.ground.Initial.{Initial}
 use Rattle.kp_base.specs.declared.ground.TagTable.{TagTable}
 use Rattle.kp_base.specs.declared.refused.Refused.{Refused}
 use Rattle.kp_base.specs.Machine.{MachineStep, stripped}
+use Rattle.kp_base.proofs.Cases.{some_alike}
 use Rattle.kp_meaning.specs.Steps.{Step}
-use Rattle.kp_cover.proofs.Answered.{one_uncovered}
+use Rattle.kp_cover.proofs.Public.{uncovered_once}
 use Rattle.kp_search.specs.declared.found.Found.{Found}
 use Rattle.kp_search.specs.declared.found.Found.TheVariants.{Plan, NoPlan, Spent}
 use Rattle.kp_write.specs.Runs.{step_of}
 use Rattle.kp_task.specs.Task.{task_of}
 use Rattle.kp_task.specs.Laws.{op_number}
 use Rattle.kp_task.specs.ByName.{op_of, merge_op}
-use Rattle.kp_task.specs.Accepted.{step_at, name_at}
+use Rattle.kp_base.specs.ActionNames.{action_name}
+use Rattle.kp_task.specs.Accepted.{step_at}
 use Rattle.kp_ktask.specs.Translated.{FitsLimits, RefusesTask, facts_over, weight_over}
 use Rattle.kp_lift.specs.Lifting.{IsThere}
 use Rattle.kp_printed.specs.Refusals.{nothing}
@@ -25,11 +27,10 @@ use Rattle.kp_printed.specs.Searches.{no_plan_text}
 use Rattle.kp_outcome.specs.declared.outcome.Outcome.{Outcome}
 use Rattle.kp_prepared.specs.Refusing.{refuses}
 use Rattle.kp_prepared.specs.Prepared.{usual}
-use Rattle.kp_inputs.proofs.OnePlan.{some_alike}
-use Rattle.kp_inputs.proofs.Tasks.{task_once, task_or_within}
+use Rattle.kp_inputs.proofs.Public.{task_refused_once, task_refused_or_within}
 use Rattle.kp_solving.specs.Solving.{solves, denies, AreNamed, TellsSolved, SolvesGround, over, searched, TellsClassical, SolvesClassical}
 use Rattle.kp_solving.specs.Laws.{SolvingsHaveOneOutcome, ClassicalSolvingsHaveOneOutcome}
-use Rattle.kp_search.proofs.ByAdded.{one_end_by_added}
+use Rattle.kp_search.proofs.Public.{has_one_end_by_added}
 
 -- ---- names
 
@@ -73,7 +74,7 @@ names_once : (g : Ground) (table : TagTable) (ops : List ℕ) (w v p q : List St
 names_once g table ops w v p q a b =
     let same = one_machine g table a.machine b.machine w v (a.numbers ∙ sym b.numbers) a.steps_are b.steps_are in (
       some_alike w v (sym a.steps_are ∙ (ap (map (step_at g table)) same ∙ b.steps_are)),
-      some_alike p q (sym a.actions_are ∙ (ap (λ ms. map (name_at g) (stripped ms)) same ∙ b.actions_are)),
+      some_alike p q (sym a.actions_are ∙ (ap (λ ms. map (action_name g) (stripped ms)) same ∙ b.actions_are)),
     )
 
 -- ---- outcomes
@@ -82,15 +83,15 @@ told_once : (name : Option (List ℕ)) (g : Ground) (i : Initial) (table : TagTa
 told_once name g i table (Plan ops n) o u a b =
     let same = names_once g table ops a.0 b.0 a.1 b.1 a.2 b.2 in
     a.3 ∙ (ap (λ w. solves name w a.1) same.0 ∙ (ap (solves name b.0) same.1 ∙ sym b.3))
-told_once name g i table NoPlan o u a b = a.2 ∙ (ap (λ ls. denies (no_plan_text ls)) (one_uncovered g i table a.0 b.0 a.1 b.1) ∙ sym b.2)
+told_once name g i table NoPlan o u a b = a.2 ∙ (ap (λ ls. denies (no_plan_text ls)) (uncovered_once g i table a.0 b.0 a.1 b.1) ∙ sym b.2)
 told_once name g i table (Spent n) o u a b = a ∙ sym b
 
 pub ground_once : SolvingsHaveOneOutcome
-ground_once name budget g i table o u (over r a e) (over s b f) = e ∙ (ap (refuses nothing) (task_once (task_of g table) usual r s a b) ∙ sym f)
-ground_once name budget g i table o u (over r a e) (searched found b finds tells) = absurd (task_or_within (task_of g table) usual r a b)
-ground_once name budget g i table o u (searched found a finds tells) (over s b f) = absurd (task_or_within (task_of g table) usual s b a)
+ground_once name budget g i table o u (over r a e) (over s b f) = e ∙ (ap (refuses nothing) (task_refused_once (task_of g table) usual r s a b) ∙ sym f)
+ground_once name budget g i table o u (over r a e) (searched found b finds tells) = absurd (task_refused_or_within (task_of g table) usual r a b)
+ground_once name budget g i table o u (searched found a finds tells) (over s b f) = absurd (task_refused_or_within (task_of g table) usual s b a)
 ground_once name budget g i table o u (searched x a finds tells) (searched y b finds' tells') =
-    told_once name g i table y o u (subst (λ z. TellsSolved name g i table z o) (one_end_by_added (task_of g table) budget x y finds finds') tells) tells'
+    told_once name g i table y o u (subst (λ z. TellsSolved name g i table z o) (has_one_end_by_added (task_of g table) budget x y finds finds') tells) tells'
 
 told_classical_once : (g : Ground) (found : Found) (o u : Outcome) → TellsClassical g found o → TellsClassical g found u → o ≡ u
 told_classical_once g (Plan ops n) o u a b = a.2 ∙ (ap (λ p. solves None p p) (some_alike a.0 b.0 (sym a.1 ∙ b.1)) ∙ sym b.2)
@@ -98,4 +99,4 @@ told_classical_once g NoPlan o u a b = a ∙ sym b
 told_classical_once g (Spent n) o u a b = a ∙ sym b
 
 pub classical_once : ClassicalSolvingsHaveOneOutcome
-classical_once budget g task o u a b = told_classical_once g b.found o u (subst (λ z. TellsClassical g z o) (one_end_by_added task budget a.found b.found a.finds b.finds) a.tells) b.tells
+classical_once budget g task o u a b = told_classical_once g b.found o u (subst (λ z. TellsClassical g z o) (has_one_end_by_added task budget a.found b.found a.finds b.finds) a.tells) b.tells

@@ -9,13 +9,14 @@ use Rattle.kp_base.specs.declared.ground.TagTable.{TagTable}
 use Rattle.kp_base.specs.declared.ground.Action.{Action}
 use Rattle.kp_base.specs.declared.ground.Merge.{Merge}
 use Rattle.kp_base.specs.Machine.{MachineStep, stripped}
-use Rattle.kp_complete.proofs.Failing.{element}
+use Rattle.kp_base.proofs.Places.{element}
 use Rattle.kp_meaning.specs.Steps.{Step}
 use Rattle.kp_task.specs.Task.{op_of, merge_ops_from, task_of}
 use Rattle.kp_task.specs.Laws.{op_number}
-use Rattle.kp_task.specs.Accepted.{step_at, name_at}
+use Rattle.kp_base.specs.ActionNames.{action_name}
+use Rattle.kp_task.specs.Accepted.{step_at}
 use Rattle.kp_lift.specs.Lifting.{operator_step, IsThere}
-use Rattle.kp_lift.proofs.Named.{operators_steps}
+use Rattle.kp_lift.proofs.Public.{operators_are_steps}
 use Rattle.kp_solving.specs.Operators.{step_of, acts_among, NameActions}
 use Rattle.kp_solving.specs.Laws.{OperatorsHaveNames}
 use Rattle.kp_solving.specs.Solving.{AreNamed}
@@ -50,7 +51,7 @@ there g table n below = go (nat_lt n (length g.actions)) refl
 
 -- and has its step by name
 pub named_so : (g : Ground) (table : TagTable) (n : ℕ) → n < length (task_of g table).ops → step_at g table (step_of g n) ≡ operator_step (task_of g table) n
-named_so g table n below = sym (operators_steps g table (step_of g n) (there g table n below)) ∙ ap (operator_step (task_of g table)) (number_back g n)
+named_so g table n below = sym (operators_are_steps g table (step_of g n) (there g table n below)) ∙ ap (operator_step (task_of g table)) (number_back g n)
 
 -- ---- lists of operators
 
@@ -79,17 +80,17 @@ are_named g table ops written plan inside steps names = record {
   machine = map (step_of g) ops;
   numbers = numbers_back g ops;
   steps_are = all_named g table ops inside ∙ steps;
-  actions_are = ap (map (name_at g)) (actions_are g ops) ∙ names;
+  actions_are = ap (map (action_name g)) (actions_are g ops) ∙ names;
 }
 
 -- one more operator's name, if it is an action
-pub names_more : (g : Ground) (old new : List GroundName) (ops rest : List ℕ) (i x : ℕ) → drop i ops ≡ x ∷ rest → map Some new ≡ map Some old ++ map (name_at g) (acts_among (length g.actions) (x ∷ []))
-    → map Some old ++ map (name_at g) (acts_among (length g.actions) (drop i ops)) ≡ map (name_at g) (acts_among (length g.actions) ops) → map Some new ++ map (name_at g) (acts_among (length g.actions) rest) ≡ map (name_at g) (acts_among (length g.actions) ops)
+pub names_more : (g : Ground) (old new : List GroundName) (ops rest : List ℕ) (i x : ℕ) → drop i ops ≡ x ∷ rest → map Some new ≡ map Some old ++ map (action_name g) (acts_among (length g.actions) (x ∷ []))
+    → map Some old ++ map (action_name g) (acts_among (length g.actions) (drop i ops)) ≡ map (action_name g) (acts_among (length g.actions) ops) → map Some new ++ map (action_name g) (acts_among (length g.actions) rest) ≡ map (action_name g) (acts_among (length g.actions) ops)
 names_more g old new ops rest i x left put so_far =
-    ap (λ z. z ++ map (name_at g) (acts_among (length g.actions) rest)) put ∙ (append_assoc (map Some old) (map (name_at g) (acts_among (length g.actions) (x ∷ []))) (map (name_at g) (acts_among (length g.actions) rest))
-    ∙ (ap (map Some old ++◌) (split (nat_lt x (length g.actions))) ∙ (ap (λ z. map Some old ++ map (name_at g) (acts_among (length g.actions) z)) (sym left) ∙ so_far)))
+    ap (λ z. z ++ map (action_name g) (acts_among (length g.actions) rest)) put ∙ (append_assoc (map Some old) (map (action_name g) (acts_among (length g.actions) (x ∷ []))) (map (action_name g) (acts_among (length g.actions) rest))
+    ∙ (ap (map Some old ++◌) (split (nat_lt x (length g.actions))) ∙ (ap (λ z. map Some old ++ map (action_name g) (acts_among (length g.actions) z)) (sym left) ∙ so_far)))
   where
-    split : (b : Bool) → map (name_at g) (if b then x ∷ [] else []) ++ map (name_at g) (acts_among (length g.actions) rest) ≡ map (name_at g) (if b then x ∷ acts_among (length g.actions) rest else acts_among (length g.actions) rest)
+    split : (b : Bool) → map (action_name g) (if b then x ∷ [] else []) ++ map (action_name g) (acts_among (length g.actions) rest) ≡ map (action_name g) (if b then x ∷ acts_among (length g.actions) rest else acts_among (length g.actions) rest)
     split true = refl
     split false = refl
 
@@ -119,8 +120,8 @@ pub acts_named : (g : Ground) (ops : List ℕ) → (plan : List Step) × NameAct
 acts_named g [] = ([], refl)
 acts_named g (n ∷ ops) = go (nat_lt n (length g.actions)) refl (acts_named g ops)
   where
-    go : (b : Bool) → nat_lt n (length g.actions) ≡ b → ((plan : List Step) × NameActions g ops plan) → (plan : List Step) × (map (name_at g) (if b then n ∷ acts_among (length g.actions) ops else acts_among (length g.actions) ops) ≡ map Some plan)
-    go true e rest = let a = element g.actions n (ltb-true n (length g.actions) e) in let here : name_at g n ≡ Some a.0.name = ap (option_map (λ (x : Action). x.name)) a.1 in (a.0.name ∷ rest.0, cc (here, rest.1))
+    go : (b : Bool) → nat_lt n (length g.actions) ≡ b → ((plan : List Step) × NameActions g ops plan) → (plan : List Step) × (map (action_name g) (if b then n ∷ acts_among (length g.actions) ops else acts_among (length g.actions) ops) ≡ map Some plan)
+    go true e rest = let a = element g.actions n (ltb-true n (length g.actions) e) in let here : action_name g n ≡ Some a.0.name = ap (option_map (λ (x : Action). x.name)) a.1 in (a.0.name ∷ rest.0, cc (here, rest.1))
     go false e rest = rest
 
 pub have_names : OperatorsHaveNames

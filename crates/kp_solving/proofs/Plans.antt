@@ -12,7 +12,7 @@ use Rattle.kp_task.specs.Task.{task_of}
 use Rattle.kp_task.specs.Laws.{op_number}
 use Rattle.kp_task.specs.ByName.{op_at}
 use Rattle.kp_task.specs.Accepted.{step_at}
-use Rattle.kp_task.proofs.ByNumber.{operators_do_steps}
+use Rattle.kp_task.proofs.Public.{operators_do_machine_steps}
 use Rattle.kp_solving.specs.Laws.{NamedPlansAreAccepted, NoPlanIsAccepted}
 
 -- steps of the machine that have names have operators
@@ -36,11 +36,11 @@ named_accepted g table w ops written plan named plans =
       named.machine,
       record {
         steps_are = named.steps_are;
-        accepted = sym (operators_do_steps g table w named.machine os.0 os.1) ∙ subst (λ ks. succeeds (task_of g table) (start (task_of g table)) ks ≡ true) (sym named.numbers) plans;
+        accepted = sym (operators_do_machine_steps g table w named.machine os.0 os.1) ∙ subst (λ ks. succeeds (task_of g table) (start (task_of g table)) ks ≡ true) (sym named.numbers) plans;
       },
     )
 
 pub none_accepted : NoPlanIsAccepted
 none_accepted g table w none steps ms accepted =
     let os = operators_of g table ms steps accepted.steps_are in
-    false≢true (sym (none (map (op_number g) ms)) ∙ (operators_do_steps g table w ms os.0 os.1 ∙ accepted.accepted))
+    false≢true (sym (none (map (op_number g) ms)) ∙ (operators_do_machine_steps g table w ms os.0 os.1 ∙ accepted.accepted))

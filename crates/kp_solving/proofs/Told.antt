@@ -8,7 +8,7 @@ use Rattle.kp_base.specs.declared.ground.Initial.{Initial}
 use Rattle.kp_base.specs.declared.ground.TagTable.{TagTable}
 use Rattle.kp_base.specs.declared.lit.Lit.{Lit}
 use Rattle.kp_base.specs.Covering.{AreUncovered}
-use Rattle.kp_task.specs.Accepted.{name_at}
+use Rattle.kp_base.specs.ActionNames.{action_name}
 use Rattle.kp_printed.specs.Searches.{no_plan_text}
 use Rattle.kp_search.specs.declared.found.Found.{Found}
 use Rattle.kp_search.specs.declared.found.Found.TheVariants.{Plan, NoPlan}
@@ -39,7 +39,7 @@ told_operators name g table ops written plan (Ok o) named is = (written, plan, n
 told_operators name g table ops written plan (Err m) named is = tt
 
 -- actions are told by name
-pub told_actions : (g : Ground) (ops : List ℕ) (n : ℕ) (plan : List GroundName) (r : Result Outcome Memory) → map (name_at g) ops ≡ map Some plan → IfOk r (λ o. o ≡ solves None [] plan) → IfOk r (TellsClassical g (Plan ops n))
+pub told_actions : (g : Ground) (ops : List ℕ) (n : ℕ) (plan : List GroundName) (r : Result Outcome Memory) → map (action_name g) ops ≡ map Some plan → IfOk r (λ o. o ≡ solves None [] plan) → IfOk r (TellsClassical g (Plan ops n))
 told_actions g ops n plan (Ok o) names is = (plan, names, is)
 told_actions g ops n plan (Err m) names is = tt
 

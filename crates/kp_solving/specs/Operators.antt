@@ -4,7 +4,7 @@ use Rattle.std.specs.List.{list_all}
 use Rattle.kp_base.specs.declared.ground.Ground.{Ground}
 use Rattle.kp_base.specs.declared.ground.GroundName.{GroundName}
 use Rattle.kp_base.specs.Machine.{MachineStep}
-use Rattle.kp_task.specs.Accepted.{name_at}
+use Rattle.kp_base.specs.ActionNames.{action_name}
 use Rattle.kp_classic.specs.declared.task.Task.{Task}
 use Rattle.kp_search.specs.declared.found.Found.{Found}
 use Rattle.kp_search.specs.declared.found.Found.TheVariants.{Plan, NoPlan, Spent}
@@ -19,7 +19,7 @@ acts_among actions ops = filter (λ n. nat_lt n actions) ops
 
 -- these are the names of the actions among operators
 abbrev pub NameActions : Ground → List ℕ → List GroundName → Type 0
-NameActions g ops names = map (name_at g) (acts_among (length g.actions) ops) ≡ map Some names
+NameActions g ops names = map (action_name g) (acts_among (length g.actions) ops) ≡ map Some names
 
 -- the operators of a plan are those of so many
 abbrev pub IsInside : ℕ → Found → Type 0

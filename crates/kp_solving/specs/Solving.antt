@@ -16,7 +16,8 @@ use Rattle.kp_search.specs.Laws.{by_added}
 use Rattle.kp_plans.specs.Printed.{plan_text}
 use Rattle.kp_task.specs.Task.{task_of}
 use Rattle.kp_task.specs.Laws.{op_number}
-use Rattle.kp_task.specs.Accepted.{step_at, name_at}
+use Rattle.kp_base.specs.ActionNames.{action_name}
+use Rattle.kp_task.specs.Accepted.{step_at}
 use Rattle.kp_ktask.specs.Translated.{FitsLimits, RefusesTask}
 use Rattle.kp_printed.specs.Refusals.{nothing}
 use Rattle.kp_printed.specs.Searches.{no_plan_line, no_plan_text, spent_text}
@@ -54,7 +55,7 @@ pub record AreNamed (g : Ground) (table : TagTable) (ops : List ℕ) (written pl
   pub machine : List MachineStep
   pub numbers : map (op_number g) machine ≡ ops
   pub steps_are : map (step_at g table) machine ≡ map Some written
-  pub actions_are : map (name_at g) (stripped machine) ≡ map Some plan
+  pub actions_are : map (action_name g) (stripped machine) ≡ map Some plan
 
 -- what is told of what is found in that task: the actions of the plan, with all its steps put where a name is given; that there is none, and whether the table is complete; or that the budget is spent
 abbrev pub TellsSolved : Option (List ℕ) → Ground → Initial → TagTable → Found → Outcome → Type 0
@@ -71,7 +72,7 @@ pub data SolvesGround (name : Option (List ℕ)) (budget : ℕ) (g : Ground) (i 
 
 -- what is told of what is found in the task of a ground problem with one initial state, whose operators are the actions
 abbrev pub TellsClassical : Ground → Found → Outcome → Type 0
-TellsClassical g (Plan ops n) o = (plan : List Step) × (map (name_at g) ops ≡ map Some plan) × (o ≡ solves None plan plan)
+TellsClassical g (Plan ops n) o = (plan : List Step) × (map (action_name g) ops ≡ map Some plan) × (o ≡ solves None plan plan)
 TellsClassical g NoPlan o = o ≡ denies no_plan_line
 TellsClassical g (Spent n) o = o ≡ spends n
 

@@ -1,7 +1,7 @@
 //! Operators by name.
 ghost use Rattle.std.specs.Prelude.{◌≡◌, ◌<◌, ◌++◌, ◌∷◌, [], true, Some, length, map, nat_lt, slice_get, IfOk, OnOk};
 ghost use Rattle.std.specs.List.{list_all};
-ghost use Rattle.kp_task.specs.Accepted.{name_at};
+ghost use Rattle.kp_base.specs.ActionNames.{action_name};
 ghost use Rattle.kp_solving.specs.Operators.{acts_among};
 
 use kp_base::{Ground, GroundName, Memory, Row, Text};
@@ -35,7 +35,7 @@ fn put_action(
     names: &mut Row<GroundName>,
 ) -> Result<(), Memory>
     requires { action < length ground.now.actions }
-    ensures { OnOk result (map Some names.new ≡ map Some names.old ++ name_at ground.now action ∷ []) }
+    ensures { OnOk result (map Some names.new ≡ map Some names.old ++ action_name ground.now action ∷ []) }
 {
     names.push(copy_name(alloc, &ground.actions.at(action as usize).name)?)
 }
@@ -47,7 +47,7 @@ fn put_if_action(
     operator: u32,
     names: &mut Row<GroundName>,
 ) -> Result<(), Memory>
-    ensures { OnOk result (map Some names.new ≡ map Some names.old ++ map (name_at ground.now) (acts_among (length ground.now.actions) (operator ∷ []))) }
+    ensures { OnOk result (map Some names.new ≡ map Some names.old ++ map (action_name ground.now) (acts_among (length ground.now.actions) (operator ∷ []))) }
 {
     if (operator as usize) < ground.actions.len() {
         put_action(alloc, ground, operator, names)?;
@@ -61,7 +61,7 @@ pub fn actions_among(
     ground: &Ground,
     operators: &[u32],
 ) -> Result<Row<GroundName>, Memory>
-    ensures { IfOk result (λ names. map (name_at ground.now) (acts_among (length ground.now.actions) operators.now) ≡ map Some names) }
+    ensures { IfOk result (λ names. map (action_name ground.now) (acts_among (length ground.now.actions) operators.now) ≡ map Some names) }
 {
     let mut names = Row::new(alloc);
     for operator in operators {

@@ -1,3 +1,4 @@
+pub mod Public
 pub mod Trees
 pub mod Lifting
 pub mod ExampleTrees

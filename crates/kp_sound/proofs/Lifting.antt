@@ -9,22 +9,20 @@ use Rattle.kp_base.specs.declared.ground.Merge.{Merge}
 use Rattle.kp_base.specs.declared.ground.TagTable.{TagTable}
 use Rattle.kp_base.specs.Machine.{MachineStep, Known, start, after_act, after_merge}
 use Rattle.kp_base.proofs.Lists.{all_member}
+use Rattle.kp_base.proofs.Places.{element}
 use Rattle.kp_complete.specs.Lifts.{adds, after_merges, merges_taken, lifted_from, lifted}
 use Rattle.kp_complete.specs.Laws.{AreActions}
-use Rattle.kp_complete.proofs.Failing.{element}
-use Rattle.kp_complete.proofs.Lifted.{lists_strip}
-use Rattle.kp_complete.proofs.Complete.{none_lost}
+use Rattle.kp_complete.proofs.Public.{lifted_lists_strip, no_plan_is_lost}
 use Rattle.kp_meaning.specs.Steps.{Step}
-use Rattle.kp_init.proofs.Runs.{plan_of_texts}
+use Rattle.kp_init.proofs.Public.{plan_of_texts}
 use Rattle.kp_write.specs.Task.{Op}
 use Rattle.kp_write.specs.Runs.{step_of}
 use Rattle.kp_task.specs.ByName.{op_of, merge_op, op_at}
-use Rattle.kp_task.specs.Accepted.{step_at, name_at}
-use Rattle.kp_task.proofs.Plans.{plans_are_accepted}
-use Rattle.kp_task.proofs.Strips.{steps_strip}
+use Rattle.kp_base.specs.ActionNames.{action_name}
+use Rattle.kp_task.specs.Accepted.{step_at}
+use Rattle.kp_task.proofs.Public.{tagged_plans_are_accepted, tagged_steps_strip}
 use Rattle.kp_given.specs.Translations.{ground_of, initial_of}
-use Rattle.kp_given.proofs.Starts.{states_are_models}
-use Rattle.kp_given.proofs.Tables.{tables_written}
+use Rattle.kp_given.proofs.Public.{initial_states_are_models, tables_can_be_written}
 use Rattle.kp_sound.specs.Laws.{LiftsAreWritten, PlansLift}
 
 -- ---- actions that are there
@@ -33,12 +31,12 @@ pub there : (g : Ground) (ns : List ℕ) → list_all (λ n. nat_lt n (length g.
 there g ns h = record { each = λ n i. ltb-true n (length g.actions) (all_member (λ m. nat_lt m (length g.actions)) ns n i h) }
 
 -- numbers that have names are those of actions
-named_there : (g : Ground) (ns : List ℕ) (names : List Step) → map (name_at g) ns ≡ map Some names → list_all (λ n. nat_lt n (length g.actions)) ns ≡ true
+named_there : (g : Ground) (ns : List ℕ) (names : List Step) → map (action_name g) ns ≡ map Some names → list_all (λ n. nat_lt n (length g.actions)) ns ≡ true
 named_there g [] names e = refl
 named_there g (n ∷ ns) [] e = absurd cc
 named_there g (n ∷ ns) (x ∷ names) e =
-    let here : name_at g n ≡ Some x = cc in
-    let rest : map (name_at g) ns ≡ map Some names = cc in
+    let here : action_name g n ≡ Some x = cc in
+    let rest : map (action_name g) ns ≡ map Some names = cc in
     and_from (nat_lt n (length g.actions)) (list_all (λ m. nat_lt m (length g.actions)) ns) (by (slice_get g.actions n) refl here) (named_there g ns names rest)
   where
     by : (o : Option Action) → slice_get g.actions n ≡ o → option_map (λ (a : Action). a.name) o ≡ Some x → nat_lt n (length g.actions) ≡ true
@@ -101,24 +99,24 @@ lift_named g table ns h = let r = lifted_named g table ns (start table) h in (r.
 pub lifts_written : LiftsAreWritten
 lifts_written domain problem x table h numbers steps accepted =
     let g = ground_of x.domain x.problem in
-    let writable = tables_written domain problem x table h in
-    let r = steps_strip g table writable steps (lifted g table numbers) accepted.steps_are in
+    let writable = tables_can_be_written domain problem x table h in
+    let r = tagged_steps_strip g table writable steps (lifted g table numbers) accepted.steps_are in
     record {
-      is_plan = (plans_are_accepted g table writable steps).1 (lifted g table numbers, accepted);
+      is_plan = (tagged_plans_are_accepted g table writable steps).1 (lifted g table numbers, accepted);
       names = r.names;
-      are_names = subst (λ (ns : List ℕ). map (name_at g) ns ≡ map Some r.names) (lists_strip g table numbers) r.are_names;
+      are_names = subst (λ (ns : List ℕ). map (action_name g) ns ≡ map Some r.names) (lifted_lists_strip g table numbers) r.are_names;
       strips = r.strips;
     }
 
 pub plans_lift : PlansLift
 plans_lift domain problem x table has of_atoms h complete plan is_plan =
     let g = ground_of x.domain x.problem in
-    let model = (states_are_models x.domain x.problem x.no_fault).0 has in
+    let model = (initial_states_are_models x.domain x.problem x.no_fault).0 has in
     let run = (plan_of_texts domain problem x model.state model.model plan).0 is_plan in
     let named = lift_named g table run.0 (named_there g run.0 plan run.1.names) in
     record {
       numbers = run.0;
       are_names = run.1.names;
       steps = named.0;
-      accepted = record { steps_are = named.1; accepted = none_lost g (initial_of x.domain x.problem) table of_atoms model h.right complete run.0 run.1.plan };
+      accepted = record { steps_are = named.1; accepted = no_plan_is_lost g (initial_of x.domain x.problem) table of_atoms model h.right complete run.0 run.1.plan };
     }

@@ -14,7 +14,8 @@ use Rattle.kp_meaning.specs.Initial.{HasInitialState}
 use Rattle.kp_meaning.specs.Strip.{strip, StripsToSolution, PlansStrip}
 use Rattle.kp_meaning.specs.NumberLaws.{is_plain_goal}
 use Rattle.kp_task.specs.Writable.{IsWritableTask}
-use Rattle.kp_task.specs.Accepted.{name_at, IsAccepted}
+use Rattle.kp_base.specs.ActionNames.{action_name}
+use Rattle.kp_task.specs.Accepted.{IsAccepted}
 use Rattle.kp_given.specs.Translations.{ground_of, initial_of}
 use Rattle.kp_given.specs.Tables.{IsTableFor, translation_of}
 
@@ -40,7 +41,7 @@ TranslationsAreSound = (domain problem : List ℕ) (x : HasProblem domain proble
 pub record IsWrittenLift (d : Domain Word) (p : Problem Word) (table : TagTable) (numbers : List ℕ) (steps : List Step) : Type 0 where
   pub is_plan : IsPlan (translation_of d p table).domain (translation_of d p table).problem steps
   pub names : List Step
-  pub are_names : map (name_at (ground_of d p)) numbers ≡ map Some names
+  pub are_names : map (action_name (ground_of d p)) numbers ≡ map Some names
   pub strips : strip steps ≡ Some names
 
 -- where two texts have a problem, and a table is one for it: so it is with actions whose lifted list the machine accepts
@@ -51,7 +52,7 @@ LiftsAreWritten = (domain problem : List ℕ) (x : HasProblem domain problem) (t
 -- a list of steps by name lifts: they are actions, and their lifted list is accepted and has these steps by name
 pub record Lifts (d : Domain Word) (p : Problem Word) (table : TagTable) (plan : List Step) : Type 0 where
   pub numbers : List ℕ
-  pub are_names : map (name_at (ground_of d p)) numbers ≡ map Some plan
+  pub are_names : map (action_name (ground_of d p)) numbers ≡ map Some plan
   pub steps : List Step
   pub accepted : IsAccepted (ground_of d p) table steps (lifted (ground_of d p) table numbers)
 

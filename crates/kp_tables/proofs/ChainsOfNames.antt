@@ -6,7 +6,8 @@ use Rattle.std.specs.Prelude.{unwrap_or, fold}
 use Rattle.std.specs.Map.{lookup}
 use Rattle.indexmap.specs.IndexMap.{insert_entry}
 use Rattle.kp_meaning.specs.Names.{Name, same}
-use Rattle.kp_meaning.proofs.Lists.{same-true, same-sym}
+use Rattle.kp_base.proofs.Lists.{same-true}
+use Rattle.kp_meaning.proofs.Public.{same_name-sym}
 use Rattle.kp_tables.specs.Steps.{under, with_name}
 use Rattle.kp_tables.specs.Chains.{pairs_of, IsChain, ends, leads, AreChained}
 use Rattle.kp_tables.specs.declared.under.Link.{Link}
@@ -46,7 +47,7 @@ module _ {K : Type 0} (now : K → Name) where
     within = λ n. subst (λ z. z ≤ length (links ++ l ∷ [])) (sym (placed es k (length links + 1) n)) (low n (same n (now k)));
     each = λ n. subst (λ z. IsChain (links ++ l ∷ []) n z (under (pairs_of (links ++ l ∷ [])) n)) (sym (placed es k (length links + 1) n))
         (subst (IsChain (links ++ l ∷ []) n (cond (same n (now k)) (length links + 1) (unwrap_or (lookup (same n) (map (λ e. (now e.0, e.1)) es)) 0))) (ap (λ ps. under ps n) (sym (pairs_more links l)))
-        (by n (same n (now k)) (same l.kind.now n) (ap (same n) is ∙ same-sym n l.kind.now) refl));
+        (by n (same n (now k)) (same l.kind.now n) (ap (same n) is ∙ same_name-sym n l.kind.now) refl));
   }
     where
       low : (n : Name) (b : Bool) → cond b (length links + 1) (unwrap_or (lookup (same n) (map (λ e. (now e.0, e.1)) es)) 0) ≤ length (links ++ l ∷ [])

@@ -9,7 +9,8 @@ use Rattle.kp_grammar.specs.Trees.{Pred, Domain}
 use Rattle.kp_meaning.specs.Names.{Name, same}
 use Rattle.kp_meaning.specs.Types.{names}
 use Rattle.kp_meaning.specs.Numbering.{index_of}
-use Rattle.kp_meaning.proofs.Lists.{same-true, same-sym}
+use Rattle.kp_base.proofs.Lists.{same-true}
+use Rattle.kp_meaning.proofs.Public.{same_name-sym}
 use Rattle.kp_tables.specs.declared.predicates.Declared.{Declared}
 use Rattle.kp_tables.specs.Tables.{Entries, entries_from, with_entry, entry_of, declared_as, declaration_of}
 
@@ -91,7 +92,7 @@ gathered_entries es (e ∷ fs) x = gathered_entries (with_entry es e) fs x ∙ o
 first_declared : (n : ℕ) (qs : List (Pred Word)) (x : Name)
     → entry_of (entries_from n qs) x ≡ option_map (declared_as (n + index_of (names (map (λ q. q.head) qs)) x)) (find (λ q. same q.head.text x) qs)
 first_declared n [] x = refl
-first_declared n (q ∷ qs) x = by (same q.head.text x) (same-sym x q.head.text) (first_declared (suc n) qs x)
+first_declared n (q ∷ qs) x = by (same q.head.text x) (same_name-sym x q.head.text) (first_declared (suc n) qs x)
   where
     rest : ℕ
     rest = index_of (names (map (λ q. q.head) qs)) x

@@ -11,9 +11,8 @@ use Rattle.kp_meaning.specs.Types.{declared}
 use Rattle.kp_meaning.specs.Names.{Name, same, is_among, distinct}
 use Rattle.kp_meaning.specs.Numbering.{index_of}
 use Rattle.kp_base.specs.Lists.{Member}
-use Rattle.kp_base.proofs.Lists.{same_member}
-use Rattle.kp_meaning.proofs.Lists.{same_names, same-sym, same-true, among_member}
-use Rattle.kp_meaning.proofs.Indexes.{index_below}
+use Rattle.kp_base.proofs.Lists.{same_member, same-true}
+use Rattle.kp_meaning.proofs.Public.{same_name_equivalence, same_name-sym, member_is_among, index_below}
 use Rattle.kp_tables.specs.Steps.{with_name}
 use Rattle.kp_tables.specs.Tables.{number_of}
 
@@ -21,11 +20,11 @@ use Rattle.kp_tables.specs.Tables.{number_of}
 
 -- what comes to some names is what isn't among them, each once
 pub gathers : (done xs : List Name) → fold with_name done xs ≡ done ++ filter (λ y. not (is_among done y)) (distinct xs)
-gathers done xs = all_added same same_names xs done
+gathers done xs = all_added same same_name_equivalence xs done
 
 -- from none on
 pub all_gathered : (xs : List Name) → fold with_name [] xs ≡ distinct xs
-all_gathered = once_by_one same same_names
+all_gathered = once_by_one same same_name_equivalence
 
 -- the objects of two lists of lines
 pub objects_gathered : (xs ys : List (Typed Word)) → fold with_name (fold with_name [] (declared xs)) (declared ys) ≡ distinct (declared (xs ++ ys))
@@ -35,7 +34,7 @@ objects_gathered xs ys =
 -- ---- which there are
 
 pub among_with : (xs : List Name) (x y : Name) → is_among (with_name xs x) y ≡ (is_among xs y || same y x)
-among_with xs x y = any-added same same_names (λ z. z) xs x y
+among_with xs x y = any-added same same_name_equivalence (λ z. z) xs x y
 
 -- a name is among those gathered where it was there or came
 pub among_gathered : (xs more : List Name) (y : Name) → is_among (fold with_name xs more) y ≡ (is_among xs y || is_among more y)
@@ -48,10 +47,10 @@ pub among_all : (xs : List Name) (y : Name) → is_among (fold with_name [] xs) 
 among_all xs y = among_gathered [] xs y
 
 pub gathered_member : (xs : List Name) (y : Name) → Member (fold with_name [] xs) y → Member xs y
-gathered_member xs y m = same_member same same-true xs y (sym (among_all xs y) ∙ among_member (fold with_name [] xs) y m)
+gathered_member xs y m = same_member same same-true xs y (sym (among_all xs y) ∙ member_is_among (fold with_name [] xs) y m)
 
 pub member_gathered : (xs : List Name) (y : Name) → Member xs y → Member (fold with_name [] xs) y
-member_gathered xs y m = same_member same same-true (fold with_name [] xs) y (among_all xs y ∙ among_member xs y m)
+member_gathered xs y m = same_member same same-true (fold with_name [] xs) y (among_all xs y ∙ member_is_among xs y m)
 
 -- a name is among the objects where some line declares it
 pub among_objects : (xs : List Name) (y : Name) → is_among (distinct xs) y ≡ is_among xs y
@@ -61,7 +60,7 @@ among_objects xs y = ap (λ l. is_among l y) (sym (all_gathered xs)) ∙ among_a
 
 place_is : {K : Type 0} (now : K → Name) (ks : List K) (x : Name) → position_or_len (λ k. same x (now k)) ks ≡ index_of (map now ks) x
 place_is now [] x = refl
-place_is now (k ∷ ks) x = by (same x (now k)) (same-sym (now k) x) (place_is now ks x)
+place_is now (k ∷ ks) x = by (same x (now k)) (same_name-sym (now k) x) (place_is now ks x)
   where
     by : (b : Bool) → same (now k) x ≡ b → position_or_len (λ k. same x (now k)) ks ≡ index_of (map now ks) x
         → cond (not b) (1 + position_or_len (λ k. same x (now k)) ks) 0 ≡ (if same (now k) x then 0 else suc (index_of (map now ks) x))
@@ -70,7 +69,7 @@ place_is now (k ∷ ks) x = by (same x (now k)) (same-sym (now k) x) (place_is n
 
 past : (xs : List Name) (x : Name) → is_among xs x ≡ false → index_of xs x ≡ length xs
 past [] x h = refl
-past (y ∷ ys) x h = by (same x y) (same-sym y x) h (past ys x)
+past (y ∷ ys) x h = by (same x y) (same_name-sym y x) h (past ys x)
   where
     by : (b : Bool) → same y x ≡ b → (b || is_among ys x) ≡ false → (is_among ys x ≡ false → index_of ys x ≡ length ys) → (if same y x then 0 else suc (index_of ys x)) ≡ suc (length ys)
     by true e h rest = absurd (true≢false h)

@@ -7,7 +7,8 @@ use Rattle.std.specs.Map.{lookup}
 use Rattle.indexmap.specs.IndexMap.{insert_entry}
 use Rattle.kp_meaning.specs.Names.{Name, same}
 use Rattle.kp_meaning.specs.Numbering.{variable_number}
-use Rattle.kp_meaning.proofs.Lists.{same-true, same-sym}
+use Rattle.kp_base.proofs.Lists.{same-true}
+use Rattle.kp_meaning.proofs.Public.{same_name-sym}
 use Rattle.kp_tables.specs.Steps.{AreInnermost}
 use Rattle.kp_tables.proofs.Entries.{found}
 
@@ -49,7 +50,7 @@ module _ {K : Type 0} (now : K → Name) where
     each = λ n.
         ap (λ o. unwrap_or o 0) (sym (found now n (insert_entry (λ i j. same (now i) (now j)) es k v)) ∙ inserted n es k v)
         ∙ (by n (same n (now k)) (ap (λ o. unwrap_or o 0) (found now n es) ∙ h.each n)
-        ∙ ap (λ b. if b then length scope else variable_number scope n) (same-sym n (now k)));
+        ∙ ap (λ b. if b then length scope else variable_number scope n) (same_name-sym n (now k)));
   }
     where
       by : (n : Name) (a : Bool) → unwrap_or (lookup (λ j. same n (now j)) es) 0 ≡ variable_number scope n

@@ -1,3 +1,4 @@
+pub mod Public
 pub mod Gathering
 pub mod Entries
 pub mod NumbersOfNames

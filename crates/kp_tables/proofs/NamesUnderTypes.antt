@@ -5,10 +5,9 @@ use Rattle.std.proofs.lemmas.Bool.{and_parts, and_from, or_cases, or_left, false
 use Rattle.kp_grammar.specs.declared.tree.Word.{Word}
 use Rattle.kp_grammar.specs.Trees.{Typed}
 use Rattle.kp_base.specs.Lists.{Member}
-use Rattle.kp_base.proofs.Lists.{map_member}
+use Rattle.kp_base.proofs.Lists.{map_member, any_member, any_from, same-true, same-refl}
 use Rattle.kp_meaning.specs.Names.{Name, same, is_among}
 use Rattle.kp_meaning.specs.Types.{names}
-use Rattle.kp_meaning.proofs.Lists.{any_member, any_from, same-true, same-refl}
 use Rattle.kp_tables.specs.Steps.{with_line_under, lines_under, under}
 
 -- the line puts the name under the type

@@ -7,7 +7,7 @@ use Rattle.kp_grammar.specs.Trees.{Pred, Domain}
 use Rattle.kp_meaning.specs.Names.{Name, same, is_among}
 use Rattle.kp_meaning.specs.Types.{names}
 use Rattle.kp_meaning.specs.Numbering.{index_of, heads}
-use Rattle.kp_meaning.proofs.Lists.{same-sym}
+use Rattle.kp_meaning.proofs.Public.{same_name-sym}
 use Rattle.kp_tables.specs.declared.predicates.Declared.{Declared}
 use Rattle.kp_tables.specs.Tables.{number_of, declared_as, declaration_of}
 
@@ -17,7 +17,7 @@ absent : (xs : List Name) (x : Name) → is_among xs x ≡ false → length xs �
 absent [] x h = refl
 absent (y ∷ ys) x h =
     let parts = or_parts (same x y) (is_among ys x) h in
-    ap suc (absent ys x parts.1) ∙ sym (ap (λ b. if b then 0 else suc (index_of ys x)) (same-sym y x ∙ parts.0))
+    ap suc (absent ys x parts.1) ∙ sym (ap (λ b. if b then 0 else suc (index_of ys x)) (same_name-sym y x ∙ parts.0))
 
 pub found_number : (xs : List Name) (x : Name) (n : ℕ) → Some n ≡ number_of xs x → n ≡ index_of xs x
 found_number xs x n = by (is_among xs x)

@@ -10,12 +10,11 @@ use Rattle.std.proofs.lemmas.Option.{slice_get_within, get_or_from_slice_get}
 use Rattle.kp_grammar.specs.declared.tree.Word.{Word}
 use Rattle.kp_grammar.specs.Trees.{Typed, Domain, Problem}
 use Rattle.kp_base.specs.Lists.{Member}
-use Rattle.kp_base.proofs.Lists.{number_at, contains_member, member_contains, member_flat_map, member_filter, same_member}
+use Rattle.kp_base.proofs.Lists.{number_at, contains_member, member_contains, member_flat_map, member_filter, same_member, any_member, any_from, bool_same, same-true, same-refl, member_map, map_member, flat_member, filter_member}
 use Rattle.kp_meaning.specs.Names.{Name, same, is_among}
 use Rattle.kp_meaning.specs.Types.{object, declared, types_of, is_below, object_lines, objects, is_of_type}
 use Rattle.kp_meaning.specs.Numbering.{index_of}
-use Rattle.kp_meaning.proofs.Lists.{any_member, any_from, bool_same, same-true, same-refl, among_member, member_map, map_member, flat_member, filter_member}
-use Rattle.kp_meaning.proofs.Indexes.{Distinct, distinct_once}
+use Rattle.kp_meaning.proofs.Public.{member_is_among, AreDistinctNames, distinct_are_distinct}
 use Rattle.kp_tables.specs.Steps.{any_among, has_type, AreBelow, under, lines_under, range_of, IsRowOf}
 use Rattle.kp_tables.proofs.Gathering.{among_objects}
 use Rattle.kp_tables.proofs.NamesUnderTypes.{put_by, puts_it}
@@ -79,7 +78,7 @@ rising_same (x ∷ xs) (y ∷ ys) r s f g = ap₂ (λ a b. a ∷ b) first (risin
 add_suc : (n i : ℕ) → n + suc i ≡ (n + 1) + i
 add_suc n i = omega arith
 
-marks_number : (p : Name → Bool) (os : List Name) → Distinct os → (n : ℕ) → marked_from n (map p os) ≡ map (λ o. n + index_of os o) (filter p os)
+marks_number : (p : Name → Bool) (os : List Name) → AreDistinctNames os → (n : ℕ) → marked_from n (map p os) ≡ map (λ o. n + index_of os o) (filter p os)
 marks_number p [] d n = refl
 marks_number p (o ∷ os) d n = by (p o) (marks_number p os d.1 (n + 1) ∙ map_alike (λ x. (n + 1) + index_of os x) (λ x. n + index_of (o ∷ os) x) (filter p os) later)
   where
@@ -91,7 +90,7 @@ marks_number p (o ∷ os) d n = by (p o) (marks_number p os d.1 (n + 1) ∙ map_
       where
         apart : (b : Bool) → same o x ≡ b → same o x ≡ false
         apart false e = e
-        apart true e = absurd (both_ways (is_among os o) d.0 (subst (λ z. is_among os z ≡ true) (sym (same-true o x e)) (among_member os x (filter_member p os x m).0)))
+        apart true e = absurd (both_ways (is_among os o) d.0 (subst (λ z. is_among os z ≡ true) (sym (same-true o x e)) (member_is_among os x (filter_member p os x m).0)))
 
     by : (b : Bool) → marked_from (n + 1) (map p os) ≡ map (λ x. n + index_of (o ∷ os) x) (filter p os) → cond b (n ∷ marked_from (n + 1) (map p os)) (marked_from (n + 1) (map p os)) ≡ map (λ x. n + index_of (o ∷ os) x) (cond b (o ∷ filter p os) (filter p os))
     by true rest = ap₂ (λ a b. a ∷ b) first rest
@@ -127,7 +126,7 @@ module _ (d : Domain Word) (p : Problem Word) (ts names : List Name) (below : Ar
   -- the objects of the types, where every type is below them
   pub all_objects : is_among names object ≡ true → (o : Name) → Member (objects d p) o → list_any (is_of_type d p o) ts ≡ true
   all_objects all o m =
-      let declared_there : Member (declared (object_lines d p)) o = same_member same same-true (declared (object_lines d p)) o (sym (among_objects (declared (object_lines d p)) o) ∙ among_member (objects d p) o m) in
+      let declared_there : Member (declared (object_lines d p)) o = same_member same same-true (declared (object_lines d p)) o (sym (among_objects (declared (object_lines d p)) o) ∙ member_is_among (objects d p) o m) in
       let x = map_member (λ (x : Typed Word). x.word.text) (object_lines d p) o declared_there in
       sym (has_either o)
       ∙ any_from (λ y. same y.word.text o && has_type names y) (object_lines d p) x.0 x.1
@@ -137,10 +136,10 @@ module _ (d : Domain Word) (p : Problem Word) (ts names : List Name) (below : Ar
   under_there : (o : Name) → Member (flat_map (under (lines_under (object_lines d p))) names) o → Member (objects d p) o × (list_any (is_of_type d p o) ts ≡ true)
   under_there o m =
       let k = flat_member (under (lines_under (object_lines d p))) names o m in
-      let x = put_by k.0 o (object_lines d p) (among_member (under (lines_under (object_lines d p)) k.0) o k.2) in
-      let reached = reached_type names x.0 k.0 (written x.0.kinds k.0 x.2) (or_left (is_among names k.0) (is_among names object) (among_member names k.0 k.1)) in
+      let x = put_by k.0 o (object_lines d p) (member_is_among (under (lines_under (object_lines d p)) k.0) o k.2) in
+      let reached = reached_type names x.0 k.0 (written x.0.kinds k.0 x.2) (or_left (is_among names k.0) (is_among names object) (member_is_among names k.0 k.1)) in
       let declared_there : Member (declared (object_lines d p)) o = subst (Member (declared (object_lines d p))) x.3 (member_map (λ (x : Typed Word). x.word.text) (object_lines d p) x.0 x.1) in (
-        same_member same same-true (objects d p) o (among_objects (declared (object_lines d p)) o ∙ among_member (declared (object_lines d p)) o declared_there),
+        same_member same same-true (objects d p) o (among_objects (declared (object_lines d p)) o ∙ member_is_among (declared (object_lines d p)) o declared_there),
         sym (has_either o)
             ∙ any_from (λ y. same y.word.text o && has_type names y) (object_lines d p) x.0 x.1 (and_from (same x.0.word.text o) (has_type names x.0) (subst (λ z. same z o ≡ true) (sym x.3) (same-refl o)) reached),
       )
@@ -181,7 +180,7 @@ module _ (d : Domain Word) (p : Problem Word) (ts names : List Name) (below : Ar
 
       marks : marked_from 0 (map q os) ≡ range_of d p ts
       marks =
-          marks_number q os (distinct_once (declared (object_lines d p))) 0
+          marks_number q os (distinct_are_distinct (declared (object_lines d p))) 0
           ∙ map_alike (λ o. 0 + index_of os o) (index_of os) (filter q os) (λ o m. omega arith)
 
   pub row_of_all : is_among names object ≡ true → (row : List ℕ) → IsRowOf (map (index_of (objects d p)) (objects d p)) row → row ≡ range_of d p ts

@@ -8,11 +8,10 @@ use Rattle.std.proofs.lemmas.Option.{none-some, slice_get_cases, slice_get_withi
 use Rattle.kp_grammar.specs.declared.tree.Word.{Word}
 use Rattle.kp_grammar.specs.Trees.{Typed}
 use Rattle.kp_base.specs.Lists.{Member}
-use Rattle.kp_base.proofs.Lists.{same_member}
+use Rattle.kp_base.proofs.Lists.{same_member, any_member, any_from, any_map, bool_same, same-true, member_at}
 use Rattle.kp_meaning.specs.Names.{Name, same, is_among, distinct}
 use Rattle.kp_meaning.specs.Types.{object, names, or_object, types_of, IsBelow, itself, root, parent, over, is_below}
-use Rattle.kp_meaning.proofs.Lists.{any_member, any_from, any_map, bool_same, same-true, member_at, among_member}
-use Rattle.kp_meaning.proofs.Types.{type_test_exact}
+use Rattle.kp_meaning.proofs.Public.{member_is_among, type_test_is_exact}
 use Rattle.kp_tables.specs.Steps.{with_name, any_among, has_type, under, lines_under, IsClosing, AreBelow}
 use Rattle.kp_tables.proofs.Gathering.{gathers, among_gathered, among_all}
 use Rattle.kp_tables.proofs.NamesUnderTypes.{put_by, puts_it}
@@ -73,7 +72,7 @@ module _ (ps : List (Name × Name)) (old : List Name) where
     front = front;
     sound = λ q a b x h. elim (or_cases (is_among ns x) (is_among (under ps n) x) (sym (among_gathered ns (under ps n) x) ∙ h)) [
       | inl e ↦ c.sound q a b x e
-      | inr e ↦ b n x (c.sound q a b n (among_member ns n (member_at ns at n here))) e
+      | inr e ↦ b n x (c.sound q a b n (member_is_among ns n (member_at ns at n here))) e
     ];
   }
     where
@@ -117,14 +116,14 @@ closed_below kinds tops ns c = record { each = λ k. bool_same (reaches ns k) (l
     below k = list_any (is_below kinds k) tops
 
     at_top : (x : Name) → is_among (fold with_name [] tops) x ≡ true → list_any (is_below kinds x) tops ≡ true
-    at_top x h = any_from (is_below kinds x) tops x (same_member same same-true tops x (sym (among_all tops x) ∙ h)) ((type_test_exact kinds x x).1 itself)
+    at_top x h = any_from (is_below kinds x) tops x (same_member same same-true tops x (sym (among_all tops x) ∙ h)) ((type_test_is_exact kinds x x).1 itself)
 
     under_it : (k x : Name) → list_any (is_below kinds k) tops ≡ true → is_among (under (lines_under kinds) k) x ≡ true → list_any (is_below kinds x) tops ≡ true
     under_it k x h u =
         let t = any_member (is_below kinds k) tops h in
         let l = put_by k x kinds u in
         let up : IsBelow kinds x k = subst (λ z. IsBelow kinds z k) l.3 (parent l.0 k l.1 (written l.0.kinds k l.2)) in
-        any_from (is_below kinds x) tops t.0 t.1 ((type_test_exact kinds x t.0).1 (over up ((type_test_exact kinds k t.0).0 t.2)))
+        any_from (is_below kinds x) tops t.0 t.1 ((type_test_is_exact kinds x t.0).1 (over up ((type_test_is_exact kinds k t.0).0 t.2)))
 
     sound : (x : Name) → is_among ns x ≡ true → list_any (is_below kinds x) tops ≡ true
     sound = c.sound below at_top under_it
@@ -134,7 +133,7 @@ closed_below kinds tops ns c = record { each = λ k. bool_same (reaches ns k) (l
       | inl e ↦ sound k e
       | inr e ↦
           let t = any_member (is_below kinds object) tops (sound object e) in
-          any_from (is_below kinds k) tops t.0 t.1 ((type_test_exact kinds k t.0).1 (over root ((type_test_exact kinds object t.0).0 t.2)))
+          any_from (is_below kinds k) tops t.0 t.1 ((type_test_is_exact kinds k t.0).1 (over root ((type_test_is_exact kinds object t.0).0 t.2)))
     ]
 
     reached : (k u : Name) → IsBelow kinds k u → reaches ns u ≡ true → reaches ns k ≡ true
@@ -155,4 +154,4 @@ closed_below kinds tops ns c = record { each = λ k. bool_same (reaches ns k) (l
     back : (k : Name) → list_any (is_below kinds k) tops ≡ true → reaches ns k ≡ true
     back k h =
         let t = any_member (is_below kinds k) tops h in
-        reached k t.0 ((type_test_exact kinds k t.0).0 t.2) (or_left (is_among ns t.0) (is_among ns object) (c.kept t.0 (among_all tops t.0 ∙ among_member tops t.0 t.1)))
+        reached k t.0 ((type_test_is_exact kinds k t.0).0 t.2) (or_left (is_among ns t.0) (is_among ns object) (c.kept t.0 (among_all tops t.0 ∙ member_is_among tops t.0 t.1)))

@@ -1,13 +1,16 @@
 -- What the tables of names compute. This file serves proofs alone.
-use Rattle.std.specs.Prelude.{ℕ, suc, List, [], ◌∷◌, ◌++◌, Option, Some, None, if◌then◌else◌, find, is_some, length}
+use Rattle.std.specs.Prelude.{◌≡◌, ◌≤◌, ℕ, suc, List, [], ◌∷◌, ◌++◌, Option, Some, None, if◌then◌else◌, find, is_some, length}
 use Rattle.std.specs.Map.{lookup}
 use Rattle.std.specs.Option.{option_map}
 use Rattle.kp_grammar.specs.declared.tree.Word.{Word}
 use Rattle.kp_grammar.specs.Trees.{Typed, Pred, Domain}
+use Rattle.kp_grammar.specs.View.{domain_view, problem_view}
 use Rattle.kp_meaning.specs.Names.{Name, same, is_among}
-use Rattle.kp_meaning.specs.Types.{names}
+use Rattle.kp_meaning.specs.Types.{names, object_lines, objects, types}
 use Rattle.kp_meaning.specs.Numbering.{index_of, heads}
 use Rattle.kp_tables.specs.declared.predicates.Declared.{Declared}
+use Rattle.kp_tables.specs.Collected.{Trees}
+use Rattle.kp_tables.specs.Steps.{lines_under}
 
 -- where a name stands first, if it stands there
 abbrev pub number_of : List Name → Name → Option ℕ
@@ -41,3 +44,12 @@ with_entry es e = if is_some (entry_of es e.0) then es else es ++ e ∷ []
 -- the number and arity of the first declaration of a predicate's name
 abbrev pub declaration_of : Domain Word → Name → Option Declared
 declaration_of d x = option_map (declared_as (index_of (heads d) x)) (find (λ q. same q.head.text x) d.predicates)
+
+-- what stands in the tables of two trees: the names of the types, the objects, the predicates, and what is declared under each type
+pub record AreNamesOf (trees : Trees) (type_names object_names : List Name) (entries : Entries) (under_types under_objects : List (Name × Name)) : Type 0 where
+  pub types_known : (name : Name) → is_among type_names name ≡ is_among (types (domain_view trees.domain)) name
+  pub objects_known : object_names ≡ objects (domain_view trees.domain) (problem_view trees.problem)
+  pub predicates_few : length trees.domain.predicates ≤ 4294967295
+  pub predicates_known : (name : Name) → entry_of entries name ≡ declaration_of (domain_view trees.domain) name
+  pub types_declared : under_types ≡ lines_under (domain_view trees.domain).kinds
+  pub objects_declared : under_objects ≡ lines_under (object_lines (domain_view trees.domain) (problem_view trees.problem))

@@ -37,7 +37,7 @@ pub fn below_type<'a>(
     known: &Names<'a>,
     top: &'a [u8],
 ) -> Result<NameSet<'a>, Memory>
-    ensures { IfOk result (λ below. AreBelow (domain_view known.now.domain.now).kinds (top.now ∷ []) below) }
+    ensures { IfOk result (λ below. AreBelow (domain_view known.now.domain).kinds (top.now ∷ []) below) }
 {
     let mut below = NameSet::new(alloc);
     below.insert(top)?;
@@ -51,7 +51,7 @@ pub fn below_types<'a>(
     known: &Names<'a>,
     tops: &'a [Word],
 ) -> Result<NameSet<'a>, Memory>
-    ensures { IfOk result (λ below. AreBelow (domain_view known.now.domain.now).kinds (names tops.now) below) }
+    ensures { IfOk result (λ below. AreBelow (domain_view known.now.domain).kinds (names tops.now) below) }
 {
     let mut below = NameSet::new(alloc);
     for top in tops {

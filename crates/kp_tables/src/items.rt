@@ -10,7 +10,7 @@ use std::alloc::Global;
 
 // The object that a term names. No variable stands in `:init` or the goal.
 fn object(names: &Names, term: &TermTree) -> u32
-    ensures { result ≡ object_number (domain_view names.now.domain.now) (problem_view names.now.problem.now) (term_view term.now) }
+    ensures { result ≡ object_number (domain_view names.now.domain) (problem_view names.now.problem) (term_view term.now) }
 {
     match term {
         TermTree::Name(word) => names.object_number(&word.text),
@@ -19,7 +19,7 @@ fn object(names: &Names, term: &TermTree) -> u32
 }
 
 fn objects(alloc: Global, names: &Names, terms: &[TermTree]) -> Result<Row<u32>, Memory>
-    ensures { IfOk result (λ row. row ≡ map (object_number (domain_view names.now.domain.now) (problem_view names.now.problem.now)) (map term_view terms.now)) }
+    ensures { IfOk result (λ row. row ≡ map (object_number (domain_view names.now.domain) (problem_view names.now.problem)) (map term_view terms.now)) }
 {
     let mut row = Row::new(alloc);
     for term in terms {
@@ -35,7 +35,7 @@ fn literal(
     positive: bool,
     atom: &AtomTree,
 ) -> Result<GroundLit, Memory>
-    ensures { IfOk result (λ l. l ≡ numbered_literal (domain_view names.now.domain.now) (problem_view names.now.problem.now) positive (atom_view atom.now)) }
+    ensures { IfOk result (λ l. l ≡ numbered_literal (domain_view names.now.domain) (problem_view names.now.problem) positive (atom_view atom.now)) }
 {
     Ok(GroundLit {
         positive,
@@ -45,7 +45,7 @@ fn literal(
 }
 
 fn literals(alloc: Global, names: &Names, trees: &[LitTree]) -> Result<Row<GroundLit>, Memory>
-    ensures { IfOk result (λ row. row ≡ map (numbered_lit (domain_view names.now.domain.now) (problem_view names.now.problem.now)) (map lit_view trees.now)) }
+    ensures { IfOk result (λ row. row ≡ map (numbered_lit (domain_view names.now.domain) (problem_view names.now.problem)) (map lit_view trees.now)) }
 {
     let mut row = Row::new(alloc);
     for tree in trees {
@@ -61,7 +61,7 @@ fn add_item(
     tree: &ItemTree,
     items: &mut Row<Item>,
 ) -> Result<(), Memory>
-    ensures { OnOk result (items.new ≡ items.old ++ numbered_item (domain_view names.now.domain.now) (problem_view names.now.problem.now) (item_view tree.now)) }
+    ensures { OnOk result (items.new ≡ items.old ++ numbered_item (domain_view names.now.domain) (problem_view names.now.problem) (item_view tree.now)) }
 {
     match tree {
         ItemTree::All(parts) => {
@@ -87,10 +87,10 @@ fn add_item(
 
 /// What `:init` states.
 pub fn initial_items(alloc: Global, names: &Names) -> Result<Row<Item>, Memory>
-    ensures { IfOk result (λ row. row ≡ flat_map (numbered_item (domain_view names.now.domain.now) (problem_view names.now.problem.now)) (problem_view names.now.problem.now).init) }
+    ensures { IfOk result (λ row. row ≡ flat_map (numbered_item (domain_view names.now.domain) (problem_view names.now.problem)) (problem_view names.now.problem).init) }
 {
     let mut items = Row::new(alloc);
-    for tree in names.problem.init.slice() {
+    for tree in names.problem().init.slice() {
         add_item(alloc, names, tree, &mut items)?;
     }
     Ok(items)
@@ -103,7 +103,7 @@ fn add_goal(
     tree: &CondTree,
     goal: &mut Row<GroundLit>,
 ) -> Result<(), Memory>
-    ensures { OnOk result (goal.new ≡ goal.old ++ numbered_goal (domain_view names.now.domain.now) (problem_view names.now.problem.now) (cond_view tree.now)) }
+    ensures { OnOk result (goal.new ≡ goal.old ++ numbered_goal (domain_view names.now.domain) (problem_view names.now.problem) (cond_view tree.now)) }
 {
     match tree {
         CondTree::All(parts) => {
@@ -119,9 +119,9 @@ fn add_goal(
 
 /// The literals of the goal.
 pub fn goal_literals(alloc: Global, names: &Names) -> Result<Row<GroundLit>, Memory>
-    ensures { IfOk result (λ row. row ≡ numbered_goal (domain_view names.now.domain.now) (problem_view names.now.problem.now) (problem_view names.now.problem.now).goal) }
+    ensures { IfOk result (λ row. row ≡ numbered_goal (domain_view names.now.domain) (problem_view names.now.problem) (problem_view names.now.problem).goal) }
 {
     let mut goal = Row::new(alloc);
-    add_goal(alloc, names, &names.problem.goal, &mut goal)?;
+    add_goal(alloc, names, &names.problem().goal, &mut goal)?;
     Ok(goal)
 }

@@ -25,7 +25,7 @@ fn names_under<'a>(alloc: Global, lines: &Under<'a>, types: &NameSet) -> Result<
 
 // The numbers of objects, ascending.
 fn numbers(alloc: Global, names: &Names, found: &NameSet) -> Result<Row<u32>, Memory>
-    ensures { IfOk result (λ row. IsRowOf (map (index_of (objects (domain_view names.now.domain.now) (problem_view names.now.problem.now))) found.now) row) }
+    ensures { IfOk result (λ row. IsRowOf (map (index_of (objects (domain_view names.now.domain) (problem_view names.now.problem))) found.now) row) }
 {
     let mut numbers = Vec::new(alloc);
     for name in found.names() {
@@ -38,7 +38,7 @@ fn numbers(alloc: Global, names: &Names, found: &NameSet) -> Result<Row<u32>, Me
 
 /// The objects of some types, given what is below these types.
 pub fn objects_of(alloc: Global, names: &Names, below: &NameSet) -> Result<Row<u32>, Memory>
-    ensures { (ts : List Name) → AreBelow (domain_view names.now.domain.now).kinds ts below.now → IfOk result (λ row. row ≡ range_of (domain_view names.now.domain.now) (problem_view names.now.problem.now) ts) }
+    ensures { (ts : List Name) → AreBelow (domain_view names.now.domain).kinds ts below.now → IfOk result (λ row. row ≡ range_of (domain_view names.now.domain) (problem_view names.now.problem) ts) }
 {
     if below.has(OBJECT) {
         let row = numbers(alloc, names, names.objects())?;

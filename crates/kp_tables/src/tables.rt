@@ -12,24 +12,30 @@ use crate::under::{Declarations, Under};
 use kp_base::{Memory, Row, Text};
 use kp_grammar::{Domain, Problem, Typed, Word};
 use std::alloc::Global;
+use std::marker::Model;
 
-/// The declared names of two trees, each with its number.
+/// The declared names of two trees, each with its number. Contracts see the trees.
 #[derive(Drop)]
 pub struct Names<'a> {
-    /// The domain.
-    pub domain: &'a Domain,
-    /// The problem.
-    pub problem: &'a Problem,
+    domain: &'a Domain,
+    problem: &'a Problem,
     type_names: NameSet<'a>,
     object_names: NameSet<'a>,
     predicate_names: Predicates<'a>,
     declarations: Declarations<'a>,
-    ghost types_known: { (name : List ℕ) → is_among type_names name ≡ is_among (types (domain_view domain.now)) name },
-    ghost objects_known: { object_names ≡ objects (domain_view domain.now) (problem_view problem.now) },
-    ghost predicates_few: { length domain.now.predicates ≤ 4294967295 },
-    ghost predicates_known: { (name : List ℕ) → entry_of predicate_names name ≡ declaration_of (domain_view domain.now) name },
-    ghost types_declared: { declarations.types ≡ lines_under (domain_view domain.now).kinds },
-    ghost objects_declared: { declarations.objects ≡ lines_under (object_lines (domain_view domain.now) (problem_view problem.now)) },
+}
+
+impl<'a> Model for Names<'a> {
+    ghost use Rattle.kp_tables.specs.Collected.{Trees, trees_code};
+    ghost use Rattle.kp_tables.specs.Tables.{AreNamesOf};
+
+    ghost Value = { Trees };
+
+    ghost coded = { trees_code };
+
+    ghost view = { λ n. record { domain = n.domain.now; problem = n.problem.now } };
+
+    ghost invariant = { λ n. AreNamesOf (record { domain = n.domain.now; problem = n.problem.now }) n.type_names n.object_names n.predicate_names n.declarations.types n.declarations.objects };
 }
 
 // Adds the names of words.
@@ -156,6 +162,20 @@ impl<'a> Names<'a> {
         })
     }
 
+    /// The domain.
+    pub fn domain(&self) -> &'a Domain
+        ensures { result.now ≡ self.now.domain }
+    {
+        self.domain
+    }
+
+    /// The problem.
+    pub fn problem(&self) -> &'a Problem
+        ensures { result.now ≡ self.now.problem }
+    {
+        self.problem
+    }
+
     /// Whether it is the name of a type.
     #[tactic(auto, unfolding(crate::specs::Collected::domain_of))]
     pub fn is_type(&self, name: &Text) -> bool
@@ -187,14 +207,14 @@ impl<'a> Names<'a> {
 
     /// The number of an object; how many there are, where the name is none.
     pub fn object_number(&self, name: &Text) -> u32
-        ensures { result ≡ index_of (objects (domain_view self.now.domain.now) (problem_view self.now.problem.now)) name.now }
+        ensures { result ≡ index_of (objects (domain_view self.now.domain) (problem_view self.now.problem)) name.now }
     {
         self.number_of(name.slice())
     }
 
     /// The same where the name isn't in a text of its own.
     pub(crate) fn number_of(&self, name: &[u8]) -> u32
-        ensures { result ≡ index_of (objects (domain_view self.now.domain.now) (problem_view self.now.problem.now)) name.now }
+        ensures { result ≡ index_of (objects (domain_view self.now.domain) (problem_view self.now.problem)) name.now }
     {
         match self.object_names.find(name) {
             Some(number) => number,
@@ -204,28 +224,28 @@ impl<'a> Names<'a> {
 
     /// The objects.
     pub(crate) fn objects(&self) -> &NameSet<'a>
-        ensures { result.now ≡ objects (domain_view self.now.domain.now) (problem_view self.now.problem.now) }
+        ensures { result.now ≡ objects (domain_view self.now.domain) (problem_view self.now.problem) }
     {
         &self.object_names
     }
 
     /// The types under each type.
     pub(crate) fn types_under(&self) -> &Under<'a>
-        ensures { result.now ≡ lines_under (domain_view self.now.domain.now).kinds }
+        ensures { result.now ≡ lines_under (domain_view self.now.domain).kinds }
     {
         &self.declarations.types
     }
 
     /// The objects under each type.
     pub(crate) fn objects_under(&self) -> &Under<'a>
-        ensures { result.now ≡ lines_under (object_lines (domain_view self.now.domain.now) (problem_view self.now.problem.now)) }
+        ensures { result.now ≡ lines_under (object_lines (domain_view self.now.domain) (problem_view self.now.problem)) }
     {
         &self.declarations.objects
     }
 
     /// The names of the objects, in order of number.
     pub fn object_texts(&self, alloc: Global) -> Result<Row<Text>, Memory>
-        ensures { IfOk result (λ row. row ≡ objects (domain_view self.now.domain.now) (problem_view self.now.problem.now)) }
+        ensures { IfOk result (λ row. row ≡ objects (domain_view self.now.domain) (problem_view self.now.problem)) }
     {
         let texts = self.object_names.texts(alloc)?;
         Ok(texts)
@@ -233,7 +253,7 @@ impl<'a> Names<'a> {
 
     /// The number of a predicate; how many declarations there are, where the name is none.
     pub fn predicate_number(&self, name: &Text) -> u32
-        ensures { result ≡ index_of (heads (domain_view self.now.domain.now)) name.now }
+        ensures { result ≡ index_of (heads (domain_view self.now.domain)) name.now }
     {
         match self.predicate_names.get(name.slice()) {
             Some(declared) => declared.number,

@@ -8,7 +8,7 @@ use Rattle.kp_base.specs.declared.refused.Refused.{Refused}
 use Rattle.kp_base.specs.declared.refused.Stop.TheVariants as stops
 use Rattle.kp_base.specs.Entailed.{IsConsistent, IsClosure, HaveSameModels}
 use Rattle.kp_first.specs.Ordered.{AreFirst}
-use Rattle.kp_first.proofs.Unique.{first_by_passing}
+use Rattle.kp_first.proofs.Public.{first_by_passing}
 use Rattle.kp_cover.specs.Valid.{satisfies_one, is_outside}
 use Rattle.kp_merges.specs.declared.merge.FileMerge.{FileMerge}
 use Rattle.kp_tags.specs.Tables.{IsTableOf}

@@ -11,7 +11,7 @@ use Rattle.kp_base.specs.Lit.{positive}
 use Rattle.kp_base.specs.LitSet.{IsAscending}
 use Rattle.kp_base.specs.Steps.{State, holds, is_model}
 use Rattle.kp_base.specs.Entailed.{IsConsistent, AreValid, IsTable}
-use Rattle.kp_machine.proofs.ExampleCells.{cells, one_of_three, table, right, valid}
+use Rattle.kp_machine.proofs.Public.{cells_ground, one_cell_is_full, cells_table, cells_table_is_right as right, cells_merges_are_valid as valid}
 use Rattle.kp_primes.specs.Held.{Held}
 use Rattle.kp_base.specs.Steps.{ComesBefore}
 use Rattle.kp_first.specs.Ordered.{state_of, AreFirst}
@@ -22,7 +22,7 @@ use Rattle.kp_tags.specs.Answers.{AreConsistent, AreAcceptable, AreAllAcceptable
 use Rattle.kp_tags.proofs.Right as tables
 
 abbrev held : Held
-held = record { atoms = 3; clauses = one_of_three.clauses }
+held = record { atoms = 3; clauses = one_cell_is_full.clauses }
 
 -- the first cell is full, or the second, or the third
 abbrev tags : List (List Lit)
@@ -37,29 +37,29 @@ file = record { target = positive 0; tags = tags } ∷ []
 abbrev alone : ℕ → State
 alone p q = nat_eq p q
 
-consistent : AreConsistent one_of_three tags
+consistent : AreConsistent one_cell_is_full tags
 consistent = record { each = each }
   where
-    each : (t : List Lit) → Member tags t → IsConsistent one_of_three t
-    each t (inl e) = subst (IsConsistent one_of_three) e (record { state = alone 0; model = refl; all_true = refl })
-    each t (inr (inl e)) = subst (IsConsistent one_of_three) e (record { state = alone 1; model = refl; all_true = refl })
-    each t (inr (inr (inl e))) = subst (IsConsistent one_of_three) e (record { state = alone 2; model = refl; all_true = refl })
+    each : (t : List Lit) → Member tags t → IsConsistent one_cell_is_full t
+    each t (inl e) = subst (IsConsistent one_cell_is_full) e (record { state = alone 0; model = refl; all_true = refl })
+    each t (inr (inl e)) = subst (IsConsistent one_cell_is_full) e (record { state = alone 1; model = refl; all_true = refl })
+    each t (inr (inr (inl e))) = subst (IsConsistent one_cell_is_full) e (record { state = alone 2; model = refl; all_true = refl })
     each t (inr (inr (inr none))) = absurd none
 
-valid_tags : AreValidTags one_of_three tags
+valid_tags : AreValidTags one_cell_is_full tags
 valid_tags s model = valid.each (record { target = positive 0; tags = 1 ∷ 2 ∷ 3 ∷ [] }) (inl refl) s model
 
-no_fault : AreAllAcceptable one_of_three file
+no_fault : AreAllAcceptable one_cell_is_full file
 no_fault = record { each = each }
   where
-    each : (m : FileMerge) → Member file m → AreAcceptable one_of_three m.tags
-    each m (inl e) = subst (λ (x : FileMerge). AreAcceptable one_of_three x.tags) e (record { consistent = consistent; valid = valid_tags })
+    each : (m : FileMerge) → Member file m → AreAcceptable one_cell_is_full m.tags
+    each m (inl e) = subst (λ (x : FileMerge). AreAcceptable one_cell_is_full x.tags) e (record { consistent = consistent; valid = valid_tags })
     each m (inr none) = absurd none
 
-is_table : IsTableOf 3 one_of_three file table
+is_table : IsTableOf 3 one_cell_is_full file cells_table
 is_table = record { tags = refl; closures = λ row m. record { closure = right.closures row m; ascending = ascends row m }; merges = refl }
   where
-    ascends : (row : TagRow) → Member table.tags row → IsAscending row.closure
+    ascends : (row : TagRow) → Member cells_table.tags row → IsAscending row.closure
     ascends row (inl e) = subst (λ (r : TagRow). IsAscending r.closure) e tt
     ascends row (inr (inl e)) = subst (λ (r : TagRow). IsAscending r.closure) e (omega arith, (omega arith, tt))
     ascends row (inr (inr (inl e))) = subst (λ (r : TagRow). IsAscending r.closure) e (omega arith, (omega arith, tt))
@@ -67,27 +67,27 @@ is_table = record { tags = refl; closures = λ row m. record { closure = right.c
     ascends row (inr (inr (inr (inr none)))) = absurd none
 
 -- four tags, the empty one included, are within four
-accepted : Accepts 3 one_of_three file 4 table
+accepted : Accepts 3 one_cell_is_full file 4 cells_table
 accepted = record { acceptable = no_fault; within_limit = omega arith; is_table = is_table }
 
 -- and so the table is right
-is_right : IsTable cells one_of_three table × AreValid one_of_three table
-is_right = tables.right cells one_of_three file table no_fault is_table
+is_right : IsTable cells_ground one_cell_is_full cells_table × AreValid one_cell_is_full cells_table
+is_right = tables.right cells_ground one_cell_is_full file cells_table no_fault is_table
 
 -- ---- refused
 
 -- but not within three
-too_many : RefusesTable 3 one_of_three file 3 refusals.TagsOver
+too_many : RefusesTable 3 one_cell_is_full file 3 refusals.TagsOver
 too_many = RefusesTable.tags_over no_fault (omega arith)
 
 -- the first and the second cell aren't both full
 abbrev both : List Lit
 both = positive 0 ∷ positive 1 ∷ []
 
-both_full : IsConsistent one_of_three both → ⊥
+both_full : IsConsistent one_cell_is_full both → ⊥
 both_full c = by c.state (c.state 0) (c.state 1) refl refl c.model c.all_true
   where
-    by : (s : State) (a b : Bool) → s 0 ≡ a → s 1 ≡ b → is_model one_of_three s ≡ true → list_all (holds s) both ≡ true → ⊥
+    by : (s : State) (a b : Bool) → s 0 ≡ a → s 1 ≡ b → is_model one_cell_is_full s ≡ true → list_all (holds s) both ≡ true → ⊥
     by s true true e f m t = false≢true (rw (e, f) at m)
     by s true false e f m t = false≢true (rw (e, f) at t)
     by s false b e f m t = false≢true (rw e at t)
@@ -95,7 +95,7 @@ both_full c = by c.state (c.state 0) (c.state 1) refl refl c.model c.all_true
 abbrev with_both : FileMerge
 with_both = record { target = positive 0; tags = (positive 2 ∷ []) ∷ both ∷ [] }
 
-second_tag_refused : RefusesTable 3 one_of_three (with_both ∷ []) 4 (refusals.TagInconsistent 0 1)
+second_tag_refused : RefusesTable 3 one_cell_is_full (with_both ∷ []) 4 (refusals.TagInconsistent 0 1)
 second_tag_refused = RefusesTable.at_fault (refusals.TagInconsistent 0 1) (record {
   number = 0;
   merge = with_both;
@@ -105,7 +105,7 @@ second_tag_refused = RefusesTable.at_fault (refusals.TagInconsistent 0 1) (recor
     tag = both;
     tag_at = refl;
     inconsistent = both_full;
-    before = record { each = λ t m. elim m [ inl e ↦ subst (IsConsistent one_of_three) e (record { state = alone 2; model = refl; all_true = refl }) | inr none ↦ absurd none ] };
+    before = record { each = λ t m. elim m [ inl e ↦ subst (IsConsistent one_cell_is_full) e (record { state = alone 2; model = refl; all_true = refl }) | inr none ↦ absurd none ] };
   });
 })
 
@@ -113,10 +113,10 @@ second_tag_refused = RefusesTable.at_fault (refusals.TagInconsistent 0 1) (recor
 abbrev two : List (List Lit)
 two = (positive 0 ∷ []) ∷ (positive 1 ∷ []) ∷ []
 
-third_outside : (t : State) → is_outside one_of_three two t ≡ true → t 2 ≡ true
-third_outside t h = by (t 0) (t 1) (t 2) refl refl refl (and_parts (is_model one_of_three t) (not (satisfies_one two t)) h)
+third_outside : (t : State) → is_outside one_cell_is_full two t ≡ true → t 2 ≡ true
+third_outside t h = by (t 0) (t 1) (t 2) refl refl refl (and_parts (is_model one_cell_is_full t) (not (satisfies_one two t)) h)
   where
-    by : (a b c : Bool) → t 0 ≡ a → t 1 ≡ b → t 2 ≡ c → (is_model one_of_three t ≡ true) × (not (satisfies_one two t) ≡ true) → t 2 ≡ true
+    by : (a b c : Bool) → t 0 ≡ a → t 1 ≡ b → t 2 ≡ c → (is_model one_cell_is_full t ≡ true) × (not (satisfies_one two t) ≡ true) → t 2 ≡ true
     by true b c e f g parts = absurd (false≢true (rw e at parts.1))
     by false true c e f g parts = absurd (false≢true (rw (e, f) at parts.1))
     by false false true e f g parts = g
@@ -131,16 +131,16 @@ its_atom p h = elim (or_cases (nat_eq 2 p) false h) [ inl e ↦ sym (eqb-true 2 
 past_three : (p : ℕ) → 3 ≤ p → state_of third_cell p ≡ false
 past_three p h = false_from_ne_true (state_of third_cell p) (λ t. let e = its_atom p t in omega arith)
 
-none_before : (t : State) → is_outside one_of_three two t ≡ true → ComesBefore t (state_of third_cell) → ⊥
+none_before : (t : State) → is_outside one_cell_is_full two t ≡ true → ComesBefore t (state_of third_cell) → ⊥
 none_before t h b = false≢true (sym b.absent ∙ (ap t (its_atom b.at b.present) ∙ third_outside t h))
 
-third_is_first : AreFirst 3 (is_outside one_of_three two) third_cell
+third_is_first : AreFirst 3 (is_outside one_cell_is_full two) third_cell
 third_is_first = (record { bounded = record { none_past = past_three }; passed = refl; first = none_before }, tt)
 
 abbrev of_two : FileMerge
 of_two = record { target = positive 0; tags = two }
 
-third_cell_refused : RefusesTable 3 one_of_three (of_two ∷ []) 4 (refusals.MergeInvalid 0 third_cell)
+third_cell_refused : RefusesTable 3 one_cell_is_full (of_two ∷ []) 4 (refusals.MergeInvalid 0 third_cell)
 third_cell_refused = RefusesTable.at_fault (refusals.MergeInvalid 0 third_cell) (record {
   number = 0;
   merge = of_two;

@@ -1,3 +1,4 @@
+pub mod Public
 pub mod Places
 pub mod Gathered
 pub mod Positions

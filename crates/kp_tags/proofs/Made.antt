@@ -21,13 +21,11 @@ use Rattle.kp_merges.specs.declared.merge.FileMerge.{FileMerge}
 use Rattle.kp_base.specs.Entailed.{HaveSameModels}
 use Rattle.kp_modes.specs.Modes.{way_of, AreMergesOf}
 use Rattle.kp_modes.specs.Answers.{AnswersMode}
-use Rattle.kp_modes.proofs.Good.{merges_good}
-use Rattle.kp_modes.proofs.OneAnswer.{one_answer}
+use Rattle.kp_modes.proofs.Public.{merges_of_modes_are_good, modes_have_one_answer, same_models_back}
 use Rattle.kp_tags.specs.Tables.{used_tags, IsTableOf}
 use Rattle.kp_tags.specs.Answers.{AreAllAcceptable, RefusesMerge, inconsistent, invalid, RefusesTable, at_fault, tags_over, AnswersTable}
 use Rattle.kp_tags.specs.Made.{IsMade, RefusesMade, AnswersMade}
 use Rattle.kp_tags.specs.Laws.{MadeTablesAreRight, IsMadeOnce}
-use Rattle.kp_modes.proofs.ByModels.{back}
 use Rattle.kp_tags.proofs.ByModels.{table_of}
 use Rattle.kp_tags.proofs.Right.{right}
 use Rattle.kp_tags.proofs.Unique.{one_table}
@@ -37,7 +35,7 @@ use Rattle.kp_tags.proofs.Unique.{one_table}
 pub all_acceptable : (mode : Mode) (limit : ℕ) (g : Ground) (i : Initial) (ms : List FileMerge) → IsOfItsAtoms g → AreMergesOf limit g i (way_of mode) ms → AreAllAcceptable i ms
 all_acceptable mode limit g i ms own are = record {
   each = λ m at.
-      let good = merges_good mode limit g i ms own are m at in
+      let good = merges_of_modes_are_good mode limit g i ms own are m at in
       record { consistent = record { each = good.consistent }; valid = good.valid };
 }
 
@@ -51,7 +49,7 @@ module _ (mode : Mode) (limits : Limits) (g : Ground) (i j : Initial) (same : Ha
   n = length g.atoms
 
   same_merges : (ms ns : List FileMerge) → AreMergesOf limits.sets g i (way_of mode) ms → AreMergesOf limits.sets g j (way_of mode) ns → ms ≡ ns
-  same_merges ms ns a b = (one_answer mode limits.sets g i j same).merges ms ns a b
+  same_merges ms ns a b = (modes_have_one_answer mode limits.sets g i j same).merges ms ns a b
 
   tables_agree : (t u : TagTable) → IsMade mode limits g i t → IsMade mode limits g j u → t ≡ u
   tables_agree t u a b =
@@ -62,19 +60,19 @@ module _ (mode : Mode) (limits : Limits) (g : Ground) (i j : Initial) (same : Ha
   within_and_over ms ns a b few many = let same_number = ap (λ (xs : List FileMerge). length (used_tags xs)) (same_merges ms ns a b) in absurd (omega (arith, same_number, few, many))
 
   not_both : (t : TagTable) (r : Refused) → IsMade mode limits g i t → RefusesMade mode limits g j r → ⊥
-  not_both t r a (RefusesMade.by_mode _ h) = (one_answer mode limits.sets g i j same).never_both a.merges r a.of_mode h
+  not_both t r a (RefusesMade.by_mode _ h) = (modes_have_one_answer mode limits.sets g i j same).never_both a.merges r a.of_mode h
   not_both t _ a (RefusesMade.tags_over ms h over) = within_and_over a.merges ms a.of_mode h a.within_limit over
 
   refusals_agree : (r s : Refused) → RefusesMade mode limits g i r → RefusesMade mode limits g j s → r ≡ s
-  refusals_agree r s (RefusesMade.by_mode _ a) (RefusesMade.by_mode _ b) = (one_answer mode limits.sets g i j same).refusals r s a b
-  refusals_agree r _ (RefusesMade.by_mode _ a) (RefusesMade.tags_over ms b over) = absurd ((one_answer mode limits.sets g j i (back i j same)).never_both ms r b a)
-  refusals_agree _ s (RefusesMade.tags_over ms a over) (RefusesMade.by_mode _ b) = absurd ((one_answer mode limits.sets g i j same).never_both ms s a b)
+  refusals_agree r s (RefusesMade.by_mode _ a) (RefusesMade.by_mode _ b) = (modes_have_one_answer mode limits.sets g i j same).refusals r s a b
+  refusals_agree r _ (RefusesMade.by_mode _ a) (RefusesMade.tags_over ms b over) = absurd ((modes_have_one_answer mode limits.sets g j i (same_models_back i j same)).never_both ms r b a)
+  refusals_agree _ s (RefusesMade.tags_over ms a over) (RefusesMade.by_mode _ b) = absurd ((modes_have_one_answer mode limits.sets g i j same).never_both ms s a b)
   refusals_agree _ _ (RefusesMade.tags_over ms a over) (RefusesMade.tags_over ns b more) = refl
 
 pub made_once : IsMadeOnce
 made_once mode limits g i j (Ok t) (Ok u) same _ _ a b = ap Ok (tables_agree mode limits g i j same t u a b)
 made_once mode limits g i j (Ok t) (Err (stops.Refused r)) same _ _ a b = absurd (not_both mode limits g i j same t r a b)
-made_once mode limits g i j (Err (stops.Refused r)) (Ok t) same _ _ a b = absurd (not_both mode limits g j i (back i j same) t r b a)
+made_once mode limits g i j (Err (stops.Refused r)) (Ok t) same _ _ a b = absurd (not_both mode limits g j i (same_models_back i j same) t r b a)
 made_once mode limits g i j (Err (stops.Refused r)) (Err (stops.Refused s)) same _ _ a b = ap (λ (x : Refused). Err (stops.Refused x)) (refusals_agree mode limits g i j same r s a b)
 made_once mode limits g i j (Err stops.Memory) s same none _ a b = absurd (none refl)
 made_once mode limits g i j (Ok t) (Err stops.Memory) same _ none a b = absurd (none refl)

@@ -6,17 +6,17 @@ use Rattle.kp_base.specs.declared.ground.Ground.{Ground}
 use Rattle.kp_base.specs.declared.ground.TagTable.{TagTable}
 use Rattle.kp_base.specs.declared.ground.Merge.{Merge}
 use Rattle.kp_base.specs.Machine.{MachineStep}
+use Rattle.kp_base.proofs.Places.{get_left, get_right}
 use Rattle.kp_write.specs.Task.{Op}
 use Rattle.kp_write.specs.Named.{named_op, named_start}
 use Rattle.kp_write.specs.Runs.{runs}
 use Rattle.kp_meaning.specs.Names.{is_among}
-use Rattle.kp_write.proofs.Numbered.{from_start}
+use Rattle.kp_write.proofs.Public.{named_run_is_success}
 use Rattle.kp_task.specs.Task.{facts_of, task_of}
 use Rattle.kp_task.specs.ByName.{names_of, goal_of, op_of, merge_op, merge_ops_from, ops_of, op_at}
 use Rattle.kp_task.specs.Writable.{IsWritableTask}
 use Rattle.kp_task.specs.Laws.{op_number, OperatorsDoSteps}
 use Rattle.kp_task.proofs.Named.{tasks_are_named, tasks_can_be_written}
-use Rattle.kp_task.proofs.Numbers.{get_left, get_right}
 use Rattle.kp_task.proofs.Runs.{AreAt, runs_accepted}
 
 -- the merge of this number, in a list of which the first has number first
@@ -55,7 +55,7 @@ module _ (g : Ground) (table : TagTable) (w : IsWritableTask g table) where
 
 pub operators_do_steps : OperatorsDoSteps
 operators_do_steps g table w ms os at =
-    sym (from_start (task_of g table) (tasks_can_be_written g table w) (map (op_number g) ms) os (all_at g table w ms os at))
+    sym (named_run_is_success (task_of g table) (tasks_can_be_written g table w) (map (op_number g) ms) os (all_at g table w ms os at))
     ∙ ap (λ goal. runs goal os (is_among (named_start (task_of g table)))) (tasks_are_named g table w).goal
     ∙ ap (λ init. runs (names_of g (goal_of g)) os (is_among init)) (tasks_are_named g table w).start
     ∙ runs_accepted g table w ms os at

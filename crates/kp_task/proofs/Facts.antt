@@ -5,15 +5,14 @@ use Rattle.std.specs.List.{AllByRecursion, IsDistinct}
 use Rattle.kp_base.specs.declared.lit.Lit.{Lit}
 use Rattle.kp_base.specs.declared.ground.GroundName.{GroundName}
 use Rattle.kp_base.specs.Lit.{same_lit}
-use Rattle.kp_base.proofs.Lists.{bool_same, member_at}
+use Rattle.kp_base.proofs.Each.{each_member}
+use Rattle.kp_base.proofs.Lists.{bool_same, member_at, same-true, same-refl}
 use Rattle.kp_base.proofs.Lits.{same_lit-true, same_lit-refl}
 use Rattle.kp_meaning.specs.Names.{same}
-use Rattle.kp_meaning.proofs.Lists.{same-true, same-refl}
 use Rattle.kp_write.specs.Facts.{sign_word, encoded_or_none, tag_word, atom_fact, fact_of}
 use Rattle.kp_plans.specs.Names.{IsGroundName, same_name}
 use Rattle.kp_write.specs.Grounds.{IsOfAtom}
-use Rattle.kp_write.proofs.Lists.{one_of_all}
-use Rattle.kp_write.proofs.Encoded.{facts_tell_apart, same_name-refl}
+use Rattle.kp_write.proofs.Public.{facts_tell_apart, same_name-refl}
 
 -- the name of an atom by its number
 pub record IsNamed (atoms : List GroundName) (i : ℕ) : Type 0 where
@@ -28,7 +27,7 @@ named (n ∷ ns) h (suc i) below = let r = named ns h.1 i (omega arith) in recor
 
 -- an atom from which all these differ is none of them
 not_later : (x : GroundName) (xs : List GroundName) → AllByRecursion (λ y. same_name x y ≡ false) xs → (j : ℕ) → slice_get xs j ≡ Some x → ⊥
-not_later x xs all j at = false≢true (sym (one_of_all (λ y. same_name x y ≡ false) xs x all (member_at xs j x at)) ∙ same_name-refl x)
+not_later x xs all j at = false≢true (sym (each_member (λ y. same_name x y ≡ false) xs x all (member_at xs j x at)) ∙ same_name-refl x)
 
 -- an atom stands in one place
 pub one_place : (atoms : List GroundName) → IsDistinct same_name atoms → (i j : ℕ) (n : GroundName) → slice_get atoms i ≡ Some n → slice_get atoms j ≡ Some n → i ≡ j

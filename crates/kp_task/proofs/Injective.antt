@@ -8,16 +8,15 @@ use Rattle.kp_base.specs.declared.ground.Ground.{Ground}
 use Rattle.kp_base.specs.declared.ground.TagTable.{TagTable}
 use Rattle.kp_base.specs.declared.ground.Merge.{Merge}
 use Rattle.kp_base.specs.Machine.{MachineStep}
-use Rattle.kp_base.proofs.Lists.{member_at}
+use Rattle.kp_base.proofs.Each.{each_member}
+use Rattle.kp_base.proofs.Lists.{member_at, same-refl}
 use Rattle.kp_meaning.specs.Names.{same}
 use Rattle.kp_meaning.specs.Steps.{Step}
 use Rattle.kp_meaning.specs.Encoding.{encoded, decoded}
-use Rattle.kp_meaning.proofs.Lists.{same-refl}
 use Rattle.kp_plans.specs.Names.{IsGroundName}
 use Rattle.kp_write.specs.Grounds.{IsGroundAction}
 use Rattle.kp_write.specs.Runs.{step_of}
-use Rattle.kp_write.proofs.Encoded.{decodes}
-use Rattle.kp_write.proofs.Lists.{one_of_all}
+use Rattle.kp_write.proofs.Public.{encoded_name_decodes}
 use Rattle.kp_task.specs.Task.{merge_word}
 use Rattle.kp_task.specs.ByName.{op_of, merge_op}
 use Rattle.kp_task.specs.Accepted.{step_at}
@@ -54,7 +53,7 @@ merge_step g table n step e = go (slice_get table.merges n) refl where
       record { less = slice_get_within table.merges n a is; head = ap (λ (s : Step). s.head) (one_of_some (step_of (merge_op g.atoms n a)) step here) }
 
 one_name : (x y : GroundName) → IsGroundName x → IsGroundName y → encoded x ≡ encoded y → x ≡ y
-one_name x y h k e = one_of_some x y (sym (decodes x h) ∙ ap decoded e ∙ decodes y k)
+one_name x y h k e = one_of_some x y (sym (encoded_name_decodes x h) ∙ ap decoded e ∙ encoded_name_decodes y k)
 
 mixed : (w : List ℕ) (m : ℕ) → codes "do_-" ++ w ≡ merge_word m → ⊥
 mixed w m e = false≢true (sym (action_no_merge w m) ∙ ap (λ v. same v (merge_word m)) e ∙ same-refl (merge_word m))
@@ -63,8 +62,8 @@ pub injective : StepsAreInjective
 injective g table w (MachineStep.act n) (MachineStep.act m) step e f =
     let x = action_step g table n step e in
     let y = action_step g table m step f in
-    let p = one_of_all (IsGroundAction g.atoms) g.actions x.action w.ground.actions (member_at g.actions n x.action x.at) in
-    let q = one_of_all (IsGroundAction g.atoms) g.actions y.action w.ground.actions (member_at g.actions m y.action y.at) in
+    let p = each_member (IsGroundAction g.atoms) g.actions x.action w.ground.actions (member_at g.actions n x.action x.at) in
+    let q = each_member (IsGroundAction g.atoms) g.actions y.action w.ground.actions (member_at g.actions m y.action y.at) in
     let one : x.action.name ≡ y.action.name = one_name x.action.name y.action.name p.name q.name (ap (drop 4) (x.head ∙ sym y.head)) in
     ap MachineStep.act (one_place (map (λ a. a.name) g.actions) w.ground.actions_differ n m x.action.name
     (slice_get-map (λ (a : Action). a.name) g.actions n ∙ ap (option_map (λ (a : Action). a.name)) x.at)

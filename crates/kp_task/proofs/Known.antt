@@ -5,12 +5,12 @@ use Rattle.kp_base.specs.declared.ground.Ground.{Ground}
 use Rattle.kp_base.specs.declared.ground.TagTable.{TagTable}
 use Rattle.kp_base.specs.declared.ground.Merge.{Merge}
 use Rattle.kp_base.specs.Machine.{MachineStep, Known, start as known_at_start, after_act, after_merge}
+use Rattle.kp_base.proofs.Each.{each_member}
 use Rattle.kp_base.proofs.Lists.{member_at}
 use Rattle.kp_meaning.specs.Names.{is_among}
 use Rattle.kp_write.specs.Task.{Op}
 use Rattle.kp_write.specs.Grounds.{IsGroundAction}
 use Rattle.kp_write.specs.Runs.{Facts, after_op}
-use Rattle.kp_write.proofs.Lists.{one_of_all}
 use Rattle.kp_task.specs.Task.{start_of}
 use Rattle.kp_task.specs.ByName.{op_of, merge_op, names_of}
 use Rattle.kp_task.specs.Writable.{IsWritableTask, IsMergeOn}
@@ -37,7 +37,7 @@ module _ (g : Ground) (table : TagTable) (w : IsWritableTask g table) where
       go here rest None is = let gone : None ≡ Some o = subst (λ (x : Option Action). option_map (op_of g.atoms (length table.tags)) x ≡ Some o) is here in absurd cc
       go here rest (Some a) is =
           let it : op_of g.atoms (length table.tags) a ≡ o = one_of_some (op_of g.atoms (length table.tags) a) o (subst (λ (x : Option Action). option_map (op_of g.atoms (length table.tags)) x ≡ Some o) is here) in
-          let can : IsGroundAction g.atoms a = one_of_all (IsGroundAction g.atoms) g.actions a w.ground.actions (member_at g.actions n a is) in
+          let can : IsGroundAction g.atoms a = each_member (IsGroundAction g.atoms) g.actions a w.ground.actions (member_at g.actions n a is) in
           subst (λ (z : Op). AgreeAll (held_after (z ∷ os) s) (known_after g table ms (after_act (Some a) k))) it
           (rest (after_op (op_of g.atoms (length table.tags) a) s) (after_act (Some a) k) (goes_on g.atoms w.ground.atoms w.ground.atoms_differ (length table.tags) w.tags_fit s k agree a can))
   follow (MachineStep.merge n ∷ ms) (o ∷ os) at s k agree =
@@ -49,7 +49,7 @@ module _ (g : Ground) (table : TagTable) (w : IsWritableTask g table) where
       go here rest None is = let gone : None ≡ Some o = subst (λ (x : Option Merge). option_map (merge_op g.atoms n) x ≡ Some o) is here in absurd cc
       go here rest (Some a) is =
           let it : merge_op g.atoms n a ≡ o = one_of_some (merge_op g.atoms n a) o (subst (λ (x : Option Merge). option_map (merge_op g.atoms n) x ≡ Some o) is here) in
-          let can : IsMergeOn g.atoms (length table.tags) a = one_of_all (IsMergeOn g.atoms (length table.tags)) table.merges a w.merges (member_at table.merges n a is) in
+          let can : IsMergeOn g.atoms (length table.tags) a = each_member (IsMergeOn g.atoms (length table.tags)) table.merges a w.merges (member_at table.merges n a is) in
           subst (λ (z : Op). AgreeAll (held_after (z ∷ os) s) (known_after g table ms (after_merge (Some a) k))) it
           (rest (after_op (merge_op g.atoms n a) s) (after_merge (Some a) k) (merge_goes_on g.atoms w.ground.atoms w.ground.atoms_differ (length table.tags) w.tags_fit s k agree n a can.target))
 

@@ -4,13 +4,13 @@ use Rattle.std.proofs.lemmas.Fmt.{decimal_is_IsNumeral, decimal_injective}
 use Rattle.kp_lex.specs.Bytes.{class_of}
 use Rattle.kp_grammar.specs.Words.{IsName}
 use Rattle.kp_meaning.specs.Names.{same}
-use Rattle.kp_meaning.proofs.Lists.{same-true}
-use Rattle.kp_write.proofs.Encoded.{name_from, joined, computed, digits}
+use Rattle.kp_base.proofs.Lists.{same-true}
+use Rattle.kp_write.proofs.Public.{plain_is_name, plain_joined, plain_by_computing, digits_are_plain}
 use Rattle.kp_task.specs.Task.{merge_word}
 
 pub merge_is_name : (m : ℕ) → m < 2 ^ 64 → IsName (merge_word m)
 unfolding class_of
-merge_is_name m fits = name_from refl (joined (codes "merge_-") (decimal m) (computed (codes "merge_-") refl) (digits (decimal m) (decimal_is_IsNumeral m fits).0.1))
+merge_is_name m fits = plain_is_name refl (plain_joined (codes "merge_-") (decimal m) (plain_by_computing (codes "merge_-") refl) (digits_are_plain (decimal m) (decimal_is_IsNumeral m fits).0.1))
 
 -- ---- different names
 

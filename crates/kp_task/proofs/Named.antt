@@ -13,6 +13,7 @@ use Rattle.kp_base.specs.declared.ground.TagRow.{TagRow}
 use Rattle.kp_base.specs.declared.ground.TagTable.{TagTable}
 use Rattle.kp_base.specs.declared.ground.Merge.{Merge}
 use Rattle.kp_base.specs.Lit.{negated}
+use Rattle.kp_base.proofs.Each.{each_map}
 use Rattle.kp_base.proofs.Lists.{each_append}
 use Rattle.kp_meaning.specs.Names.{same}
 use Rattle.kp_classic.specs.Fits.{are_below, fits_effect, fits_op}
@@ -20,9 +21,7 @@ use Rattle.kp_write.specs.Facts.{fact_of, known, opposites, support as named_sup
 use Rattle.kp_write.specs.Grounds.{IsOfAtom, AreOfAtoms, IsGroundEffect, IsGroundAction}
 use Rattle.kp_write.specs.Named.{fact_name, signed_fact, named_effect, named_op}
 use Rattle.kp_write.specs.Tasks.{IsWritableOp}
-use Rattle.kp_write.proofs.Encoded.{operator_is_name}
-use Rattle.kp_write.proofs.Grounds.{mapped, opposites_of}
-use Rattle.kp_write.proofs.Numbered.{names_are}
+use Rattle.kp_write.proofs.Public.{operator_is_name, opposites_are_of_atoms, operator_names_are}
 use Rattle.kp_task.specs.Task.{name_of, under, starts_from, facts_of, number, numbers, support, cancellation, effects_under, effects_from, op_of, merge_ops_from, task_of}
 use Rattle.kp_task.specs.ByName as byname
 use Rattle.kp_task.specs.ByName.{names_of, TasksAreNamed}
@@ -61,7 +60,7 @@ module _ (g : Ground) (table : TagTable) where
   support_named t below e h = rw (append-nil (map (signed_fact names true) (numbers n t e.cond)), signed_named true t below e.cond h.conds, fact_named t e.result below h.result) refl
 
   cancellation_named : (t : ℕ) → t < tags → (e : Effect) → IsGroundEffect g.atoms e → named_effect names (cancellation n t e) ≡ named_cancellation g.atoms t e
-  cancellation_named t below e h = rw (signed_named false t below (opposites e.cond) (opposites_of g.atoms e.cond h.conds), fact_named t (negated e.result) below h.result) refl
+  cancellation_named t below e h = rw (signed_named false t below (opposites e.cond) (opposites_are_of_atoms g.atoms e.cond h.conds), fact_named t (negated e.result) below h.result) refl
 
   effects_named : (t : ℕ) → t < tags → (es : List Effect) → AllByRecursion (IsGroundEffect g.atoms) es → map (named_effect names) (flat_map (effects_under n t) es) ≡ flat_map (byname.effects_under g.atoms t) es
   effects_named t below [] h = refl
@@ -110,7 +109,7 @@ module _ (g : Ground) (table : TagTable) where
 
   effects_below : (t : ℕ) → t < tags → (es : List Effect) → AllByRecursion (IsGroundEffect g.atoms) es → list_all (fits_effect (length names)) (flat_map (effects_under n t) es) ≡ true
   effects_below t p [] h = refl
-  effects_below t p (e ∷ es) h = rw (below t e.result p h.0.result, all_below t p e.cond h.0.conds, below t (negated e.result) p h.0.result, all_below t p (opposites e.cond) (opposites_of g.atoms e.cond h.0.conds), effects_below t p es h.1) refl
+  effects_below t p (e ∷ es) h = rw (below t e.result p h.0.result, all_below t p e.cond h.0.conds, below t (negated e.result) p h.0.result, all_below t p (opposites e.cond) (opposites_are_of_atoms g.atoms e.cond h.0.conds), effects_below t p es h.1) refl
 
   all_effects_below : (t k : ℕ) → t + k ≤ tags → (es : List Effect) → AllByRecursion (IsGroundEffect g.atoms) es → list_all (fits_effect (length names)) (effects_from n t k es) ≡ true
   all_effects_below t zero fit es h = refl
@@ -163,10 +162,10 @@ tasks_can_be_written g table w = record {
   heads = (tasks_are_tasks g table w).heads;
   facts_differ = (tasks_are_tasks g table w).facts_differ;
   operators = each_append IsWritableOp (map (op_of (length g.atoms) (length table.tags)) g.actions) (merge_ops_from (length g.atoms) 0 table.merges)
-      (mapped (IsGroundAction g.atoms) IsWritableOp (op_of (length g.atoms) (length table.tags)) (λ a h. record { name = operator_is_name a.name h.name; positive = refl }) g.actions w.ground.actions)
+      (each_map (IsGroundAction g.atoms) IsWritableOp (op_of (length g.atoms) (length table.tags)) (λ a h. record { name = operator_is_name a.name h.name; positive = refl }) g.actions w.ground.actions)
       (merges_writable g table w 0 table.merges (omega (arith, w.merges_fit)));
   operators_differ = subst (λ (ns : List (List ℕ)). IsDistinct same ns)
-      (sym (names_are (names_of g (facts_of g table)) (task_of g table).ops ∙ ap (map (λ o. o.name)) (tasks_are_named g table w).operators))
+      (sym (operator_names_are (names_of g (facts_of g table)) (task_of g table).ops ∙ ap (map (λ o. o.name)) (tasks_are_named g table w).operators))
       (tasks_are_tasks g table w).operators_differ;
   goal_positive = refl;
   start_fits = starts_below g table 0 table.tags (omega arith) w.rows;

@@ -6,19 +6,10 @@ use Rattle.kp_base.specs.declared.lit.Lit.{Lit}
 use Rattle.kp_base.specs.declared.ground.Ground.{Ground}
 use Rattle.kp_base.specs.declared.ground.TagTable.{TagTable}
 use Rattle.kp_base.specs.Lit.{code_of}
+use Rattle.kp_base.proofs.Places.{get_left, get_right}
 use Rattle.kp_task.specs.Task.{name_of, task_of, facts_of, lits_from, under, facts_from}
 use Rattle.kp_task.specs.Weight.{FactsAreCounted}
 use Rattle.kp_task.specs.Laws.{FactsAreNumbered}
-
-pub get_left : {X : Type 0} (xs ys : List X) (n : ℕ) (x : X) → slice_get xs n ≡ Some x → slice_get (xs ++ ys) n ≡ Some x
-get_left [] ys n x e = absurd cc
-get_left (z ∷ xs) ys zero x e = e
-get_left (z ∷ xs) ys (suc n) x e = get_left xs ys n x e
-
-pub get_right : {X : Type 0} (xs ys : List X) (n k : ℕ) → k ≡ length xs + n → slice_get (xs ++ ys) k ≡ slice_get ys n
-get_right [] ys n k e = let same : k ≡ n = omega (arith, e) in ap (λ m. slice_get ys m) same
-get_right (z ∷ xs) ys n zero e = absurd (omega (arith, e))
-get_right (z ∷ xs) ys n (suc k) e = get_right xs ys n k (omega (arith, e))
 
 lit_place : (i n d a k : ℕ) (b : Bool) → a ≡ i + d → d < n → k ≡ 2 * d + (if b then 0 else 1) → slice_get (lits_from i n) k ≡ Some (record { atom = record { 0 = a }; positive = b })
 lit_place i zero d a k b e less at = absurd (omega (arith, less))

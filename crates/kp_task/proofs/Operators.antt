@@ -18,10 +18,9 @@ use Rattle.kp_write.specs.Facts.{fact_of, opposites, known, support, cancellatio
 use Rattle.kp_plans.specs.Names.{IsGroundName, same_name}
 use Rattle.kp_write.specs.Grounds.{IsOfAtom, AreOfAtoms, IsGroundEffect, IsGroundAction}
 use Rattle.kp_write.specs.Runs.{Facts, is_so, is_made, after_op}
-use Rattle.kp_write.proofs.Grounds.{opposites_of}
-use Rattle.kp_write.proofs.Numbered.{made_first}
+use Rattle.kp_write.proofs.Public.{opposites_are_of_atoms, made_by_first_or_later}
 use Rattle.kp_machine.specs.Laws.{is_cancelled}
-use Rattle.kp_machine.proofs.Operators.{operators_are_exact}
+use Rattle.kp_machine.proofs.Public.{operators_are_exact}
 use Rattle.kp_task.specs.ByName.{effects_under, effects_from, op_of}
 use Rattle.kp_task.proofs.Facts.{same_fact-turned, other_fact}
 
@@ -41,10 +40,10 @@ fired s es = flat_map (λ e. only_if (list_all (is_so s) e.conds) (e.result ∷ 
 made_append : (s : Facts) (xs ys : List TaskEffect) (holds : Bool) (n : List ℕ) → is_made (fired s (xs ++ ys)) holds n ≡ (is_made (fired s xs) holds n || is_made (fired s ys) holds n)
 made_append s [] ys holds n = refl
 made_append s (x ∷ xs) ys holds n =
-    made_first (list_all (is_so s) x.conds) x.result (fired s (xs ++ ys)) holds n
+    made_by_first_or_later (list_all (is_so s) x.conds) x.result (fired s (xs ++ ys)) holds n
     ∙ ap (λ t. (list_all (is_so s) x.conds && (beq holds x.result.holds && same n x.result.fact)) || t) (made_append s xs ys holds n)
     ∙ assoc (list_all (is_so s) x.conds && (beq holds x.result.holds && same n x.result.fact)) (is_made (fired s xs) holds n) (is_made (fired s ys) holds n)
-    ∙ ap (λ t. t || is_made (fired s ys) holds n) (sym (made_first (list_all (is_so s) x.conds) x.result (fired s xs) holds n))
+    ∙ ap (λ t. t || is_made (fired s ys) holds n) (sym (made_by_first_or_later (list_all (is_so s) x.conds) x.result (fired s xs) holds n))
   where
     assoc : (a b c : Bool) → (a || (b || c)) ≡ ((a || b) || c)
     assoc true b c = refl
@@ -64,9 +63,9 @@ module _ (atoms : List GroundName) (names : AllByRecursion IsGroundName atoms) (
       ≡ ((list_all (is_so s) (support atoms t e).conds && (beq holds true && same n (fact_of atoms t e.result)))
       || ((list_all (is_so s) (cancellation atoms t e).conds && (beq holds false && same n (fact_of atoms t (negated e.result)))) || is_made (made s t es) holds n))
   made_by s t e es holds n =
-      made_first (list_all (is_so s) (support atoms t e).conds) (support atoms t e).result (only_if (list_all (is_so s) (cancellation atoms t e).conds) ((cancellation atoms t e).result ∷ []) ++ made s t es) holds n
+      made_by_first_or_later (list_all (is_so s) (support atoms t e).conds) (support atoms t e).result (only_if (list_all (is_so s) (cancellation atoms t e).conds) ((cancellation atoms t e).result ∷ []) ++ made s t es) holds n
       ∙ ap (λ x. (list_all (is_so s) (support atoms t e).conds && (beq holds true && same n (fact_of atoms t e.result))) || x)
-      (made_first (list_all (is_so s) (cancellation atoms t e).conds) (cancellation atoms t e).result (made s t es) holds n)
+      (made_by_first_or_later (list_all (is_so s) (cancellation atoms t e).conds) (cancellation atoms t e).result (made s t es) holds n)
 
   -- effects under one tag make nothing of another
   elsewhere : (s : Facts) (t u : ℕ) → t < 2 ^ 64 → u < 2 ^ 64 → (u ≡ t → ⊥) → (es : List Effect) → AllByRecursion (IsGroundEffect atoms) es → (holds : Bool) (l : Lit) → IsOfAtom atoms l → is_made (made s t es) holds (fact_of atoms u l) ≡ false
@@ -101,7 +100,7 @@ module _ (atoms : List GroundName) (names : AllByRecursion IsGroundName atoms) (
     are_unknown (l ∷ ls) h = rw (agree l h.0, are_unknown ls h.1) refl
 
     opposites_unknown : (ls : List Lit) → AreOfAtoms atoms ls → list_all (is_so s) (map (known atoms t false) (opposites ls)) ≡ list_all (λ l. not (k (negated l))) ls
-    opposites_unknown ls h = are_unknown (opposites ls) (opposites_of atoms ls h) ∙ all_opposites (λ l. not (k l)) ls
+    opposites_unknown ls h = are_unknown (opposites ls) (opposites_are_of_atoms atoms ls h) ∙ all_opposites (λ l. not (k l)) ls
 
     supported : (es : List Effect) → AllByRecursion (IsGroundEffect atoms) es → (l : Lit) → IsOfAtom atoms l → is_made (made s t es) true (fact_of atoms t l) ≡ fires es k l
     supported [] h l b = refl

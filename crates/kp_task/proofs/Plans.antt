@@ -4,8 +4,8 @@ use Rattle.kp_base.specs.declared.ground.Ground.{Ground}
 use Rattle.kp_base.specs.declared.ground.TagTable.{TagTable}
 use Rattle.kp_write.specs.Written.{domain_text, problem_text}
 use Rattle.kp_write.specs.Named.{domain_of, problem_of}
-use Rattle.kp_write.proofs.Runs.{plans_are_runs}
-use Rattle.kp_machine.proofs.Sound.{sound}
+use Rattle.kp_write.proofs.Public.{plans_of_texts_are_runs}
+use Rattle.kp_machine.proofs.Public.{accepted_lists_are_plans}
 use Rattle.kp_task.specs.Task.{facts_of, start_of, task_of}
 use Rattle.kp_task.specs.ByName.{goal_of, names_of, ops_of, domain_file, problem_file}
 use Rattle.kp_task.specs.Writable.{IsWritableTask}
@@ -24,11 +24,11 @@ problem_named g table w = ap₂ (λ init goal. problem_text init goal) (tasks_ar
 
 pub plans_are_accepted : TaggedPlansAreAccepted
 plans_are_accepted g table w steps =
-    let plans = plans_are_runs (names_of g (facts_of g table)) (ops_of g table) (names_of g (start_of table)) (names_of g (goal_of g)) (tasks_are_tasks g table w) steps in
+    let plans = plans_of_texts_are_runs (names_of g (facts_of g table)) (ops_of g table) (names_of g (start_of table)) (names_of g (goal_of g)) (tasks_are_tasks g table w) steps in
     let runs = runs_are_accepted g table w steps in
     rw (domain_named g table w, problem_named g table w) (λ p. runs.0 (plans.0 p), λ r. plans.1 (runs.1 r))
 
 pub plans_sound : TaggedPlansAreSound
 plans_sound g i table w right valid never steps plan =
     let r = (plans_are_accepted g table w steps).0 plan in
-    record { machine = r.0; stripped_to = steps_strip g table w steps r.0 r.1.steps_are; plan = sound g i table right valid never r.0 r.1.accepted }
+    record { machine = r.0; stripped_to = steps_strip g table w steps r.0 r.1.steps_are; plan = accepted_lists_are_plans g i table right valid never r.0 r.1.accepted }

@@ -7,13 +7,13 @@ use Rattle.kp_base.specs.declared.ground.TagTable.{TagTable}
 use Rattle.kp_base.specs.declared.ground.Merge.{Merge}
 use Rattle.kp_base.specs.Lists.{Member}
 use Rattle.kp_base.specs.Machine.{MachineStep, Known, start as known_at_start, may_act, may_merge, after_act, after_merge, accepts_from, accepts}
+use Rattle.kp_base.proofs.Each.{each_member}
 use Rattle.kp_base.proofs.Lists.{member_at, member_map, map_member, number_at, member_left, member_right, append_member}
 use Rattle.kp_meaning.specs.Names.{is_among}
 use Rattle.kp_meaning.specs.Steps.{Step}
 use Rattle.kp_write.specs.Task.{Op}
 use Rattle.kp_write.specs.Grounds.{IsGroundAction}
 use Rattle.kp_write.specs.Runs.{Facts, after_op, runs, step_of}
-use Rattle.kp_write.proofs.Lists.{one_of_all}
 use Rattle.kp_task.specs.Task.{start_of}
 use Rattle.kp_task.specs.ByName.{op_of, merge_op, merge_ops_from, ops_of, op_at, names_of, goal_of}
 use Rattle.kp_task.specs.Writable.{IsMergeOn, IsWritableTask}
@@ -47,7 +47,7 @@ module _ (g : Ground) (table : TagTable) (w : IsWritableTask g table) where
       go here rest None is = let gone : None ≡ Some o = subst (λ (x : Option Action). option_map (op_of g.atoms (length table.tags)) x ≡ Some o) is here in absurd cc
       go here rest (Some a) is =
           let it : op_of g.atoms (length table.tags) a ≡ o = one_of_some (op_of g.atoms (length table.tags) a) o (subst (λ (x : Option Action). option_map (op_of g.atoms (length table.tags)) x ≡ Some o) is here) in
-          let can : IsGroundAction g.atoms a = one_of_all (IsGroundAction g.atoms) g.actions a w.ground.actions (member_at g.actions n a is) in
+          let can : IsGroundAction g.atoms a = each_member (IsGroundAction g.atoms) g.actions a w.ground.actions (member_at g.actions n a is) in
           subst (λ (z : Op). runs (names_of g (goal_of g)) (z ∷ os) s ≡ (may_act (Some a) k && accepts_from g table (after_act (Some a) k) ms)) it
           (rw (facts_hold g.atoms w.ground.atoms w.ground.atoms_differ 0 (omega arith) s (k 0) (agree 0 w.some_tag) a.pre can.pre)
           (ap (λ t. list_all (k 0) a.pre && t)
@@ -61,7 +61,7 @@ module _ (g : Ground) (table : TagTable) (w : IsWritableTask g table) where
       go here rest None is = let gone : None ≡ Some o = subst (λ (x : Option Merge). option_map (merge_op g.atoms n) x ≡ Some o) is here in absurd cc
       go here rest (Some a) is =
           let it : merge_op g.atoms n a ≡ o = one_of_some (merge_op g.atoms n a) o (subst (λ (x : Option Merge). option_map (merge_op g.atoms n) x ≡ Some o) is here) in
-          let can : IsMergeOn g.atoms (length table.tags) a = one_of_all (IsMergeOn g.atoms (length table.tags)) table.merges a w.merges (member_at table.merges n a is) in
+          let can : IsMergeOn g.atoms (length table.tags) a = each_member (IsMergeOn g.atoms (length table.tags)) table.merges a w.merges (member_at table.merges n a is) in
           subst (λ (z : Op). runs (names_of g (goal_of g)) (z ∷ os) s ≡ (may_merge (Some a) k && accepts_from g table (after_merge (Some a) k) ms)) it
           (rw (target_known g.atoms w.ground.atoms w.ground.atoms_differ (length table.tags) s k agree a.target can.target a.tags can.tags_are)
           (ap (λ t. list_all (λ t. k t a.target) a.tags && t)

@@ -13,6 +13,7 @@ use Rattle.kp_base.specs.declared.ground.Ground.{Ground}
 use Rattle.kp_base.specs.declared.ground.TagTable.{TagTable}
 use Rattle.kp_base.specs.declared.ground.Merge.{Merge}
 use Rattle.kp_base.specs.Machine.{MachineStep}
+use Rattle.kp_base.proofs.Each.{each_member}
 use Rattle.kp_base.proofs.Lists.{member_at}
 use Rattle.kp_meaning.specs.Steps.{Step}
 use Rattle.kp_meaning.specs.Encoding.{encoded, decoded}
@@ -20,8 +21,7 @@ use Rattle.kp_meaning.specs.Strip.{do_front, is_digit, is_number, strip, strippe
 use Rattle.kp_write.specs.Task.{Op}
 use Rattle.kp_write.specs.Grounds.{IsGroundAction}
 use Rattle.kp_write.specs.Runs.{step_of}
-use Rattle.kp_write.proofs.Encoded.{decodes}
-use Rattle.kp_write.proofs.Lists.{one_of_all}
+use Rattle.kp_write.proofs.Public.{encoded_name_decodes}
 use Rattle.kp_task.specs.Task.{merge_word}
 use Rattle.kp_task.specs.ByName.{op_of, merge_op}
 use Rattle.kp_task.specs.Writable.{IsWritableTask}
@@ -70,8 +70,8 @@ strips g table w (MachineStep.act n ∷ ms) (o ∷ os) at =
     go rest here None is = let gone : None ≡ Some o = subst (λ (x : Option Action). option_map (op_of g.atoms (length table.tags)) x ≡ Some o) is here in absurd cc
     go rest here (Some a) is =
         let it : op_of g.atoms (length table.tags) a ≡ o = one_of_some (op_of g.atoms (length table.tags) a) o (subst (λ (x : Option Action). option_map (op_of g.atoms (length table.tags)) x ≡ Some o) is here) in
-        let can : IsGroundAction g.atoms a = one_of_all (IsGroundAction g.atoms) g.actions a w.ground.actions (member_at g.actions n a is) in
-        let whole : strip (map step_of (op_of g.atoms (length table.tags) a ∷ os)) ≡ Some (a.name ∷ rest.names) = rw (action_strips a.name (decodes a.name can.name), rest.strips) refl in
+        let can : IsGroundAction g.atoms a = each_member (IsGroundAction g.atoms) g.actions a w.ground.actions (member_at g.actions n a is) in
+        let whole : strip (map step_of (op_of g.atoms (length table.tags) a ∷ os)) ≡ Some (a.name ∷ rest.names) = rw (action_strips a.name (encoded_name_decodes a.name can.name), rest.strips) refl in
         record { names = a.name ∷ rest.names; strips = subst (λ (z : Op). strip (map step_of (z ∷ os)) ≡ Some (a.name ∷ rest.names)) it whole; are_names = rw (is, rest.are_names) refl }
 strips g table w (MachineStep.merge n ∷ ms) (o ∷ os) at =
     let here : option_map (merge_op g.atoms n) (slice_get table.merges n) ≡ Some o = cc in

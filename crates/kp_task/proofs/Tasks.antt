@@ -6,6 +6,7 @@ use Rattle.kp_base.specs.declared.lit.Lit.{Lit}
 use Rattle.kp_base.specs.declared.ground.GroundName.{GroundName}
 use Rattle.kp_base.specs.Lit.{same_lit}
 use Rattle.kp_base.specs.Lists.{Member}
+use Rattle.kp_base.proofs.Each.{each_map}
 use Rattle.kp_base.proofs.Lists.{member_map, member_left, member_right, each_append}
 use Rattle.kp_base.proofs.Lits.{same_lit-true}
 use Rattle.kp_grammar.specs.Words.{IsHead}
@@ -13,8 +14,7 @@ use Rattle.kp_meaning.specs.Names.{same}
 use Rattle.kp_write.specs.Facts.{fact_of}
 use Rattle.kp_plans.specs.Names.{IsGroundName, same_name}
 use Rattle.kp_write.specs.Grounds.{IsOfAtom, AreOfAtoms}
-use Rattle.kp_write.proofs.Encoded.{fact_is_head}
-use Rattle.kp_write.proofs.Grounds.{mapped}
+use Rattle.kp_write.proofs.Public.{fact_is_head}
 use Rattle.kp_task.specs.Task.{Fact, name_of, lits_from, under, facts_from}
 use Rattle.kp_task.proofs.Facts.{named, fact_is, same_fact, other_fact}
 
@@ -29,7 +29,7 @@ distinct_append e (x ∷ xs) ys d k h = (each_append (λ y. e x y ≡ false) xs 
 pub distinct_map : {X : Type 0} (f : X → List ℕ) (xs : List X) → IsDistinct (λ a b. same (f a) (f b)) xs → IsDistinct same (map f xs)
 unfolding IsDistinct
 distinct_map f [] d = tt
-distinct_map f (x ∷ xs) d = (mapped (λ y. same (f x) (f y) ≡ false) (λ w. same (f x) w ≡ false) f (λ y e. e) xs d.0, distinct_map f xs d.1)
+distinct_map f (x ∷ xs) d = (each_map (λ y. same (f x) (f y) ≡ false) (λ w. same (f x) w ≡ false) f (λ y e. e) xs d.0, distinct_map f xs d.1)
 
 -- ---- literals
 

@@ -11,6 +11,7 @@ use Rattle.kp_base.specs.declared.ground.TagTable.{TagTable}
 use Rattle.kp_base.specs.declared.ground.Merge.{Merge}
 use Rattle.kp_base.specs.Lit.{negated}
 use Rattle.kp_base.specs.Lists.{Member}
+use Rattle.kp_base.proofs.Each.{each_map}
 use Rattle.kp_base.proofs.Lists.{member_map, each_append}
 use Rattle.kp_grammar.specs.Words.{IsHead}
 use Rattle.kp_meaning.specs.Names.{same}
@@ -20,8 +21,7 @@ use Rattle.kp_write.specs.Facts.{fact_of, known, opposites}
 use Rattle.kp_plans.specs.Names.{IsGroundName, same_name}
 use Rattle.kp_write.specs.Grounds.{IsOfAtom, AreOfAtoms, IsGroundEffect, IsGroundAction}
 use Rattle.kp_write.specs.Problems.{AreAmong, IsEffectOn, IsOpOn}
-use Rattle.kp_write.proofs.Encoded.{operator_is_name, operators_apart}
-use Rattle.kp_write.proofs.Grounds.{mapped, opposites_of}
+use Rattle.kp_write.proofs.Public.{operator_is_name, operators_apart, opposites_are_of_atoms}
 use Rattle.kp_task.specs.Task.{name_of, lits_from, under, starts_from, facts_of, start_of}
 use Rattle.kp_task.specs.ByName.{effects_under, effects_from, op_of, merge_ops_from, ops_of, names_of, goal_of}
 use Rattle.kp_task.specs.Writable.{IsRowOn, IsTag, IsMergeOn, IsWritableTask}
@@ -37,17 +37,17 @@ module _ (g : Ground) (table : TagTable) where
       (fact_among 0 (length table.tags) t t (lits_from 0 (length g.atoms)) l (omega arith) below (lit_among 0 (length g.atoms) l.atom.0 l.atom.0 l.positive (omega arith) b))
 
   pres : (t : ℕ) → t < length table.tags → (ls : List Lit) → AreOfAtoms g.atoms ls → AreAmong (names_of g (facts_of g table)) (map (fact_of g.atoms t) ls)
-  pres t below ls h = mapped (IsOfAtom g.atoms) (Member (names_of g (facts_of g table))) (fact_of g.atoms t) (λ l b. among t below l b) ls h
+  pres t below ls h = each_map (IsOfAtom g.atoms) (Member (names_of g (facts_of g table))) (fact_of g.atoms t) (λ l b. among t below l b) ls h
 
   conds : (t : ℕ) → t < length table.tags → (b : Bool) (ls : List Lit) → AreOfAtoms g.atoms ls → AllByRecursion (λ s. Member (names_of g (facts_of g table)) s.fact) (map (known g.atoms t b) ls)
-  conds t below b ls h = mapped (IsOfAtom g.atoms) (λ s. Member (names_of g (facts_of g table)) s.fact) (known g.atoms t b) (λ l b. among t below l b) ls h
+  conds t below b ls h = each_map (IsOfAtom g.atoms) (λ s. Member (names_of g (facts_of g table)) s.fact) (known g.atoms t b) (λ l b. among t below l b) ls h
 
   effects_one : (t : ℕ) → t < length table.tags → (es : List Effect) → AllByRecursion (IsGroundEffect g.atoms) es → AllByRecursion (IsEffectOn (names_of g (facts_of g table))) (flat_map (effects_under g.atoms t) es)
   effects_one t below [] h = tt
   effects_one t below (e ∷ es) h = (
     record { conds = conds t below true e.cond h.0.conds; result = among t below e.result h.0.result },
     (
-      record { conds = conds t below false (opposites e.cond) (opposites_of g.atoms e.cond h.0.conds); result = among t below (negated e.result) h.0.result },
+      record { conds = conds t below false (opposites e.cond) (opposites_are_of_atoms g.atoms e.cond h.0.conds); result = among t below (negated e.result) h.0.result },
       effects_one t below es h.1,
     ),
   )
@@ -62,11 +62,11 @@ module _ (g : Ground) (table : TagTable) where
   starts t [] fit h = tt
   starts t (row ∷ rows) fit h =
       each_append (λ f. Member (names_of g (facts_of g table)) (name_of g.atoms f)) (under t row.closure) (starts_from (suc t) rows)
-      (mapped (IsOfAtom g.atoms) (λ f. Member (names_of g (facts_of g table)) (name_of g.atoms f)) (λ l. record { tag = t; lit = l }) (λ l b. among t (omega (arith, fit)) l b) row.closure h.0.closure)
+      (each_map (IsOfAtom g.atoms) (λ f. Member (names_of g (facts_of g table)) (name_of g.atoms f)) (λ l. record { tag = t; lit = l }) (λ l b. among t (omega (arith, fit)) l b) row.closure h.0.closure)
       (starts (suc t) rows (omega (arith, fit)) h.1)
 
   merge_pre : (l : Lit) → IsOfAtom g.atoms l → (ts : List ℕ) → AllByRecursion (IsTag (length table.tags)) ts → AreAmong (names_of g (facts_of g table)) (map (λ t. fact_of g.atoms t l) ts)
-  merge_pre l b ts h = mapped (IsTag (length table.tags)) (Member (names_of g (facts_of g table))) (λ t. fact_of g.atoms t l) (λ t is. among t is.below l b) ts h
+  merge_pre l b ts h = each_map (IsTag (length table.tags)) (Member (names_of g (facts_of g table))) (λ t. fact_of g.atoms t l) (λ t is. among t is.below l b) ts h
 
   module _ (w : IsWritableTask g table) where
     action_on : (a : Action) → IsGroundAction g.atoms a → IsOpOn (names_of g (facts_of g table)) (op_of g.atoms (length table.tags) a)
@@ -111,10 +111,10 @@ module _ (g : Ground) (table : TagTable) where
 
 pub tasks_are_tasks : TaggedTasksAreTasks
 tasks_are_tasks g table w = record {
-  heads = mapped (λ f. IsHead (name_of g.atoms f)) IsHead (name_of g.atoms) (λ f h. h) (facts_of g table) (heads g.atoms w.ground.atoms w.ground.atoms_differ 0 (length table.tags) (omega (arith, w.tags_fit)) (lits_from 0 (length g.atoms)) (lits_of g.atoms 0 (length g.atoms) (omega arith)));
+  heads = each_map (λ f. IsHead (name_of g.atoms f)) IsHead (name_of g.atoms) (λ f h. h) (facts_of g table) (heads g.atoms w.ground.atoms w.ground.atoms_differ 0 (length table.tags) (omega (arith, w.tags_fit)) (lits_from 0 (length g.atoms)) (lits_of g.atoms 0 (length g.atoms) (omega arith)));
   facts_differ = distinct_map (name_of g.atoms) (facts_of g table) (facts_differ g.atoms w.ground.atoms w.ground.atoms_differ 0 (length table.tags) (omega (arith, w.tags_fit)) (lits_from 0 (length g.atoms)) (lits_of g.atoms 0 (length g.atoms) (omega arith)) (lits_differ 0 (length g.atoms)));
-  operators = each_append (IsOpOn (names_of g (facts_of g table))) (map (op_of g.atoms (length table.tags)) g.actions) (merge_ops_from g.atoms 0 table.merges) (mapped (IsGroundAction g.atoms) (IsOpOn (names_of g (facts_of g table))) (op_of g.atoms (length table.tags)) (λ a h. action_on g table w a h) g.actions w.ground.actions) (merges_on g table w 0 table.merges (omega (arith, w.merges_fit)) w.merges);
+  operators = each_append (IsOpOn (names_of g (facts_of g table))) (map (op_of g.atoms (length table.tags)) g.actions) (merge_ops_from g.atoms 0 table.merges) (each_map (IsGroundAction g.atoms) (IsOpOn (names_of g (facts_of g table))) (op_of g.atoms (length table.tags)) (λ a h. action_on g table w a h) g.actions w.ground.actions) (merges_on g table w 0 table.merges (omega (arith, w.merges_fit)) w.merges);
   operators_differ = distinct_map (λ o. o.name) (ops_of g table) (distinct_append (λ a b. same a.name b.name) (map (op_of g.atoms (length table.tags)) g.actions) (merge_ops_from g.atoms 0 table.merges) (actions_differ g table w g.actions w.ground.actions w.ground.actions_differ) (merges_differ g table w 0 table.merges (omega (arith, w.merges_fit))) (λ o m. from_action g table w g.actions o m));
-  start_among = mapped (λ f. Member (names_of g (facts_of g table)) (name_of g.atoms f)) (Member (names_of g (facts_of g table))) (name_of g.atoms) (λ f h. h) (start_of table) (starts g table 0 table.tags (omega arith) w.rows);
-  goal_among = mapped (λ f. Member (names_of g (facts_of g table)) (name_of g.atoms f)) (Member (names_of g (facts_of g table))) (name_of g.atoms) (λ f h. h) (goal_of g) (mapped (IsOfAtom g.atoms) (λ f. Member (names_of g (facts_of g table)) (name_of g.atoms f)) (λ l. record { tag = 0; lit = l }) (λ l b. among g table 0 w.some_tag l b) g.goal w.ground.goal_of_atoms);
+  start_among = each_map (λ f. Member (names_of g (facts_of g table)) (name_of g.atoms f)) (Member (names_of g (facts_of g table))) (name_of g.atoms) (λ f h. h) (start_of table) (starts g table 0 table.tags (omega arith) w.rows);
+  goal_among = each_map (λ f. Member (names_of g (facts_of g table)) (name_of g.atoms f)) (Member (names_of g (facts_of g table))) (name_of g.atoms) (λ f h. h) (goal_of g) (each_map (IsOfAtom g.atoms) (λ f. Member (names_of g (facts_of g table)) (name_of g.atoms f)) (λ l. record { tag = 0; lit = l }) (λ l b. among g table 0 w.some_tag l b) g.goal w.ground.goal_of_atoms);
 }

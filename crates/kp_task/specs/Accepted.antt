@@ -4,6 +4,7 @@ use Rattle.kp_base.specs.declared.ground.GroundName.{GroundName}
 use Rattle.kp_base.specs.declared.ground.Ground.{Ground}
 use Rattle.kp_base.specs.declared.ground.TagTable.{TagTable}
 use Rattle.kp_base.specs.declared.ground.Initial.{Initial}
+use Rattle.kp_base.specs.ActionNames.{action_name}
 use Rattle.kp_base.specs.Steps.{IsGroundPlan}
 use Rattle.kp_base.specs.Machine.{MachineStep, accepts, stripped}
 use Rattle.kp_meaning.specs.Steps.{Step}
@@ -20,15 +21,11 @@ pub record IsAccepted (g : Ground) (table : TagTable) (steps : List Step) (ms : 
   pub steps_are : map (step_at g table) ms ≡ map Some steps
   pub accepted : accepts g table ms ≡ true
 
--- the name of an action by number
-abbrev pub name_at : Ground → ℕ → Option GroundName
-name_at g n = option_map (λ a. a.name) (slice_get g.actions n)
-
 -- the steps strip to the names of the actions of these steps of the machine
 pub record IsStrippedTo (g : Ground) (steps : List Step) (ms : List MachineStep) : Type 0 where
   pub names : List Step
   pub strips : strip steps ≡ Some names
-  pub are_names : map (name_at g) (stripped ms) ≡ map Some names
+  pub are_names : map (action_name g) (stripped ms) ≡ map Some names
 
 -- the steps strip to the names of a ground plan
 pub record StripsToGroundPlan (g : Ground) (i : Initial) (steps : List Step) : Type 0 where

@@ -14,20 +14,19 @@ use Rattle.kp_meaning.specs.Plans.{HasProblem}
 use Rattle.kp_classic.specs.declared.task.Task.{Task}
 use Rattle.kp_classic.specs.Fits.{IsFit}
 use Rattle.kp_classic.specs.Steps.{start, succeeds}
-use Rattle.kp_cover.proofs.Answered.{none_uncovered}
+use Rattle.kp_cover.proofs.Public.{none_uncovered_if_complete}
 use Rattle.kp_decided.specs.Laws.{AreProper}
-use Rattle.kp_decided.proofs.Covered.{complete_with_none}
+use Rattle.kp_decided.proofs.Public.{complete_with_none}
 use Rattle.kp_search.specs.declared.found.Found.{Found}
 use Rattle.kp_search.specs.declared.found.Found.TheVariants.{Plan, NoPlan, Spent}
 use Rattle.kp_task.specs.Task.{task_of}
-use Rattle.kp_task.specs.Accepted.{name_at}
+use Rattle.kp_base.specs.ActionNames.{action_name}
 use Rattle.kp_task.specs.Writable.{IsWritableTask}
-use Rattle.kp_task.proofs.Plans.{plans_are_accepted}
+use Rattle.kp_task.proofs.Public.{tagged_plans_are_accepted}
 use Rattle.kp_given.specs.Translations.{ground_of, initial_of}
 use Rattle.kp_given.specs.Tables.{IsTableFor}
-use Rattle.kp_given.proofs.Starts.{states_are_models}
-use Rattle.kp_given.proofs.Tables.{tables_written}
-use Rattle.kp_sound.proofs.Lifting.{plans_lift}
+use Rattle.kp_given.proofs.Public.{initial_states_are_models, tables_can_be_written}
+use Rattle.kp_sound.proofs.Public.{plans_lift}
 use Rattle.kp_printed.specs.Refusals.{nothing}
 use Rattle.kp_printed.specs.Searches.{no_plan_text}
 use Rattle.kp_outside.specs.Outside.{FileMap}
@@ -40,24 +39,18 @@ use Rattle.kp_words.specs.declared.lent.CommandRef.TheVariants as commands
 use Rattle.kp_words.specs.Command.{IsBench}
 use Rattle.kp_prepared.specs.Prepared.{by_texts, by_trees, early, later}
 use Rattle.kp_inputs.specs.Tables.{no_table, with_table}
-use Rattle.kp_inputs.proofs.TablesFor.{table_for}
+use Rattle.kp_inputs.proofs.Public.{table_of_source_is_for_trees}
 use Rattle.kp_solving.specs.Solving.{Finds, denies, spends}
-use Rattle.kp_solving.proofs.Searches.{ends_true}
-use Rattle.kp_solving.proofs.Plans.{none_accepted}
+use Rattle.kp_solving.proofs.Public.{ends_are_true, no_plan_is_accepted, steps_named, actions_among_have_names, operator_names_are_steps}
 use Rattle.kp_solving.specs.Operators.{acts_among}
-use Rattle.kp_solving.proofs.Operators.{steps_named, acts_named, are_named}
 use Rattle.kp_bench.specs.Summary.{summary_text}
-use Rattle.kp_bench.proofs.OneBench.{actions_of}
+use Rattle.kp_bench.proofs.Public.{told_actions_are_those_among}
 use Rattle.kp_bench.specs.Bench.{texts_of, usual_implicates, sums_up, SumsUp, TellsBench, over, searched as by_search, Benches}
 use Rattle.kp_run.specs.Outcomes.{benched, IsDue, of_command}
 use Rattle.kp_run.specs.Ends.{Ends}
 use Rattle.kp_run.specs.Solved.{Tells}
-use Rattle.kp_run.proofs.BothPlans.{both_plans}
-use Rattle.kp_run.proofs.Comes.{due_makes}
-use Rattle.kp_run.proofs.Fitting.{task_fits}
-use Rattle.kp_run.proofs.Solved.{proper, complete_text}
-use Rattle.kp_prepared.proofs.Problems.{problem_of}
-use Rattle.kp_run.proofs.Whole.{IsNoRefusal, not_refused}
+use Rattle.kp_run.proofs.Public.{both_plans, due_makes, task_of_trees_fits, prepared_is_proper, no_plan_text_tells_complete, IsNoRefusal, not_refused}
+use Rattle.kp_prepared.proofs.Public.{problem_of_trees}
 use Rattle.kp_total.specs.Follows.{IsAnsweredBy}
 use Rattle.kp_total.specs.Benching.{IsPosedBench, its_ground, its_formula, its_task, IsWrittenPlan, IsSolvedBench, HasNoBenchPlan, IsSpentBench, BenchesAreTrue, BenchesAreAnswered}
 use Rattle.kp_total.proofs.Following.{answers_are_whole, ends_with}
@@ -112,27 +105,27 @@ module _ (c : Bench) (o : Outcome) (x : HasBenched c o) (old new : Outside) (s :
   task = task_of ground table
 
   abbrev problem : HasProblem (texts_of c).domain (texts_of c).problem
-  problem = problem_of (texts_of c).domain (texts_of c).problem d p x.posed.trees
+  problem = problem_of_trees (texts_of c).domain (texts_of c).problem d p x.posed.trees
 
   for : IsTableFor d p table
-  for = table_for d p (of_mode c.mode) [] table x.posed.prepared.started.small x.posed.fits x.posed.has_table
+  for = table_of_source_is_for_trees d p (of_mode c.mode) [] table x.posed.prepared.started.small x.posed.fits x.posed.has_table
 
   writable : IsWritableTask ground table
-  writable = tables_written (texts_of c).domain (texts_of c).problem problem table for
+  writable = tables_can_be_written (texts_of c).domain (texts_of c).problem problem table for
 
   fit : IsFit task
-  fit = task_fits d p table x.posed.prepared.started.small x.posed.fits writable
+  fit = task_of_trees_fits d p table x.posed.prepared.started.small x.posed.fits writable
 
   fine : AreProper ground formula
-  fine = proper usual_implicates d p x.posed.trees.no_fault x.posed.prepared
+  fine = prepared_is_proper usual_implicates d p x.posed.trees.no_fault x.posed.prepared
 
   -- the machine accepts nothing that the search doesn't find, so what is written has no plan
   none_written : ((ops : List ℕ) → succeeds task (start task) ops ≡ false) → (steps : List Step) → IsWrittenPlan x.posed steps → ⊥
-  none_written none steps plan = let found = (plans_are_accepted ground table writable steps).0 plan in none_accepted ground table writable none steps found.0 found.1
+  none_written none steps plan = let found = (tagged_plans_are_accepted ground table writable steps).0 plan in no_plan_is_accepted ground table writable none steps found.0 found.1
 
   -- the actions among the operators are those that were checked
   same : (ops : List ℕ) (n : ℕ) (sums : SumsUp c ground formula table ops n o) → acts_among (length ground.actions) ops ≡ stripped sums.machine
-  same ops n sums = sym (actions_of c ground formula table ops n o ((states_are_models d p x.posed.trees.no_fault).0 x.posed.prepared.started.initial) sums)
+  same ops n sums = sym (told_actions_are_those_among c ground formula table ops n o ((initial_states_are_models d p x.posed.trees.no_fault).0 x.posed.prepared.started.initial) sums)
 
   answered : (u : Outcome) → o ≡ u → IsAnsweredBy u old new s
   answered u is = subst (λ z. IsAnsweredBy z old new s) is a
@@ -144,12 +137,12 @@ module _ (c : Bench) (o : Outcome) (x : HasBenched c o) (old new : Outside) (s :
       by (Plan ops n) finds sums =
           let actions = stripped sums.machine in
           let b = answered (sums_up (summary_text c ground table sums.uncovered (length actions) n)) sums.told in
-          let ends = ends_true task c.budget (Plan ops n) fit finds in
+          let ends = ends_are_true task c.budget (Plan ops n) fit finds in
           let steps = steps_named ground table ops ends.0 in
-          let acts = acts_named ground ops in
-          let named = are_named ground table ops steps.0 acts.0 ends.0 steps.1 acts.1 in
+          let acts = actions_among_have_names ground ops in
+          let named = operator_names_are_steps ground table ops steps.0 acts.0 ends.0 steps.1 acts.1 in
           let both = both_plans (texts_of c).domain (texts_of c).problem problem table for x.posed.prepared.clash_free ops steps.0 acts.0 named ends.1 in
-          let many = as_many ℕ Step (Option Step) (name_at ground) Some (acts_among (length ground.actions) ops) acts.0 acts.1 ∙ ap length (same ops n sums) in
+          let many = as_many ℕ Step (Option Step) (action_name ground) Some (acts_among (length ground.actions) ops) acts.0 acts.1 ∙ ap length (same ops n sums) in
           record {
             posed = x.posed;
             ops = ops;
@@ -163,7 +156,7 @@ module _ (c : Bench) (o : Outcome) (x : HasBenched c o) (old new : Outside) (s :
             is_plan = both.is_plan;
             uncovered = sums.uncovered;
             are_uncovered = sums.are_uncovered;
-            complete = (λ none. complete_with_none ground formula table fine (subst (AreUncovered ground formula table) none sums.are_uncovered), λ whole. none_uncovered ground formula table sums.uncovered sums.are_uncovered whole);
+            complete = (λ none. complete_with_none ground formula table fine (subst (AreUncovered ground formula table) none sums.are_uncovered), λ whole. none_uncovered_if_complete ground formula table sums.uncovered sums.are_uncovered whole);
             told = subst (λ k. Tells old new (summary_text c ground table sums.uncovered k n)) (sym many) b.text_is;
             put = b.puts_are;
           }
@@ -177,8 +170,8 @@ module _ (c : Bench) (o : Outcome) (x : HasBenched c o) (old new : Outside) (s :
       by (Plan ops n) finds sums = absurd (let b = answered (sums_up (summary_text c ground table sums.uncovered (length (stripped sums.machine)) n)) sums.told in let not_no = sym b.status_is ∙ negative in cc)
       by NoPlan finds (ls, are, is) =
           let b = answered (denies (no_plan_text ls)) is in
-          let none = ends_true task c.budget NoPlan fit finds in
-          let exact = complete_text ground formula table ls fine are in
+          let none = ends_are_true task c.budget NoPlan fit finds in
+          let exact = no_plan_text_tells_complete ground formula table ls fine are in
           record {
             posed = x.posed;
             uncovered = ls;
@@ -187,7 +180,7 @@ module _ (c : Bench) (o : Outcome) (x : HasBenched c o) (old new : Outside) (s :
             complete = exact;
             none_of_texts = λ printed steps plan.
                 let lifts = plans_lift (texts_of c).domain (texts_of c).problem problem table x.posed.prepared.started.initial fine.own_atoms for (exact.0 printed) steps plan in
-                none_accepted ground table writable none lifts.steps _ lifts.accepted;
+                no_plan_is_accepted ground table writable none lifts.steps _ lifts.accepted;
             told = b.text_is;
             put = b.puts_are;
           }
@@ -201,7 +194,7 @@ module _ (c : Bench) (o : Outcome) (x : HasBenched c o) (old new : Outside) (s :
       by NoPlan finds (ls, are, is) = absurd (let b = answered (denies (no_plan_text ls)) is in let not_spent = sym b.status_is ∙ spent in cc)
       by (Spent n) finds is =
           let b = subst (λ k. IsAnsweredBy (spends k) old new s) finds.expanded_are (answered (spends n) is) in
-          record { posed = x.posed; ended = subst (λ k. Finds task c.budget (Spent k)) finds.expanded_are finds; more = ends_true task c.budget (Spent n) fit finds; told = b.text_is; put = b.puts_are }
+          record { posed = x.posed; ended = subst (λ k. Finds task c.budget (Spent k)) finds.expanded_are finds; more = ends_are_true task c.budget (Spent n) fit finds; told = b.text_is; put = b.puts_are }
 
 -- ---- what it says of a run
 

@@ -13,7 +13,7 @@ use Rattle.kp_classical.specs.Classical.{later, task_of}
 use Rattle.kp_solving.specs.Solving.{SolvesClassical}
 use Rattle.kp_run.specs.Outcomes.{searched, IsDue, of_command}
 use Rattle.kp_run.specs.Solved.{IsHeldClassical}
-use Rattle.kp_run.proofs.SolvedClassical.{classical_true}
+use Rattle.kp_run.proofs.Public.{classical_is_true}
 use Rattle.kp_total.specs.Solving.{ClassicalsAreAnswered, ClassicalIsAPlan, NoClassicalPlanIsTrue, ClassicalSpentIsTrue}
 use Rattle.kp_total.proofs.Following.{ends_with}
 
@@ -26,10 +26,10 @@ classicals_are_answered words old new s ends m c d p o held is g does = ends_wit
 -- ---- the laws
 
 pub classical_is_a_plan : ClassicalIsAPlan
-classical_is_a_plan words old new s ends m c held is = (classical_true words old new s ends m c held is).done
+classical_is_a_plan words old new s ends m c held is = (classical_is_true words old new s ends m c held is).done
 
 pub no_classical_plan_is_true : NoClassicalPlanIsTrue
-no_classical_plan_is_true words old new s ends m c held is = (classical_true words old new s ends m c held is).negative
+no_classical_plan_is_true words old new s ends m c held is = (classical_is_true words old new s ends m c held is).negative
 
 pub classical_spent_is_true : ClassicalSpentIsTrue
-classical_spent_is_true words old new s ends m c held is = (classical_true words old new s ends m c held is).spent
+classical_spent_is_true words old new s ends m c held is = (classical_is_true words old new s ends m c held is).spent

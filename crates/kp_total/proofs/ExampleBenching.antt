@@ -19,7 +19,7 @@ use Rattle.kp_base.specs.LitSet.{IsAscending}
 use Rattle.kp_base.specs.Relevance.{IsRelevant, either_value, IsCandidate, IsClauseFor}
 use Rattle.kp_base.specs.Steps.{State, holds, is_model}
 use Rattle.kp_primes.specs.Included.{all_included}
-use Rattle.kp_primes.proofs.Answered.{never_over}
+use Rattle.kp_primes.proofs.Public.{counted_is_never_over}
 use Rattle.kp_lex.specs.Bytes.{class_of}
 use Rattle.kp_lex.specs.Scanning.{cut_from}
 use Rattle.kp_grammar.specs.Symbols.{symbol_of}
@@ -27,10 +27,9 @@ use Rattle.kp_grammar.specs.Parsing.{some_at, next_at}
 use Rattle.kp_grammar.specs.declared.tree.Word.{Word}
 use Rattle.kp_grammar.specs.Trees.{Typed, Term, Atom, Cond, conds_of, Eff, effs_of, Item, Schema, Domain, Problem}
 use Rattle.kp_grammar.specs.Grammar as grammar
-use Rattle.kp_grammar.proofs.ExampleTexts.{word_at}
+use Rattle.kp_grammar.proofs.Public.{example_word_at, tokens_of_text}
 use Rattle.kp_meaning.specs.Numbering.{numbered_problem}
-use Rattle.kp_meaning.proofs.Texts.{tokens}
-use Rattle.kp_tree.specs.Files.{Reads}
+use Rattle.kp_tree.specs.Files.{HasTree}
 use Rattle.kp_classic.specs.declared.task.Task.{Task}
 use Rattle.kp_classic.specs.States.{has}
 use Rattle.kp_classic.specs.Steps.{Holding}
@@ -56,7 +55,7 @@ use Rattle.kp_words.specs.declared.source.Family.TheVariants as families
 use Rattle.kp_words.specs.Names.{Bench}
 use Rattle.kp_words.specs.declared.lent.CommandRef.TheVariants as commands
 use Rattle.kp_words.specs.Command.{IsBench}
-use Rattle.kp_words.proofs.Examples.{word}
+use Rattle.kp_words.proofs.Public.{word_of_bytes as word}
 use Rattle.kp_prepared.specs.Texts.{HaveTrees}
 use Rattle.kp_prepared.specs.Prepared.{usual, IsPrepared, later}
 use Rattle.kp_inputs.specs.Tables.{by_mode, with_table}
@@ -64,10 +63,7 @@ use Rattle.kp_solving.specs.Solving.{Finds, denies}
 use Rattle.kp_bench.specs.Bench.{Benches, searched as by_search}
 use Rattle.kp_run.specs.Outcomes.{benched, of_command}
 use Rattle.kp_run.specs.Ends.{Ends, came}
-use Rattle.kp_run.proofs.Computed.{reads_file}
-use Rattle.kp_run.proofs.Counted.{empty_tags_fit}
-use Rattle.kp_run.proofs.EmptyTags.{empty_tag_made}
-use Rattle.kp_run.proofs.ExampleOutcomes.{has_state}
+use Rattle.kp_run.proofs.Public.{file_reads_by_computing, empty_tags_fit, empty_tag_made, example_has_state}
 use Rattle.kp_total.specs.Benching.{HasNoBenchPlan}
 use Rattle.kp_total.proofs.Benches.{benches_are_true}
 use Rattle.kp_total.proofs.ExampleCourses.{unreached}
@@ -101,34 +97,34 @@ abbrev cells : List ℕ
 cells = codes "(define (domain line)\n(:requirements :typing :conditional-effects)\n(:types cell)\n(:predicates (at ?c - cell) (next ?b - cell ?a - cell))\n(:action left\n:parameters ()\n:effect (forall (?b - cell ?a - cell) (when (and (at ?b) (next ?b ?a)) (and (at ?a) (not (at ?b)))))\n)\n)\n"
 
 abbrev typed : List ℕ → ℕ → ℕ → Typed Word
-typed name byte kind = record { word = word_at name byte; kinds = word_at (codes "cell") kind ∷ [] }
+typed name byte kind = record { word = example_word_at name byte; kinds = example_word_at (codes "cell") kind ∷ [] }
 
 -- an atom of variables, or of names, at its byte
 abbrev of_variables : List ℕ → ℕ → List (Term Word) → Atom Word
-of_variables head byte terms = record { head = word_at head byte; terms = terms }
+of_variables head byte terms = record { head = example_word_at head byte; terms = terms }
 
 abbrev left_schema : Schema Word
 left_schema = record {
-  name = word_at (codes "left") 146;
+  name = example_word_at (codes "left") 146;
   params = [];
   pre = Cond.all (conds_of []);
   effect = Eff.each (typed (codes "?b") 183 188 ∷ typed (codes "?a") 193 198 ∷ [])
-      (Eff.when (Cond.all (conds_of (Cond.atom true (of_variables (codes "at") 216 (Term.variable (word_at (codes "?b") 219) ∷ [])) ∷ Cond.atom true (of_variables (codes "next") 224 (Term.variable (word_at (codes "?b") 229) ∷ Term.variable (word_at (codes "?a") 232) ∷ [])) ∷ [])))
-      (Eff.both (effs_of (Eff.makes true (of_variables (codes "at") 243 (Term.variable (word_at (codes "?a") 246) ∷ [])) ∷ Eff.makes false (of_variables (codes "at") 256 (Term.variable (word_at (codes "?b") 259) ∷ [])) ∷ []))));
+      (Eff.when (Cond.all (conds_of (Cond.atom true (of_variables (codes "at") 216 (Term.variable (example_word_at (codes "?b") 219) ∷ [])) ∷ Cond.atom true (of_variables (codes "next") 224 (Term.variable (example_word_at (codes "?b") 229) ∷ Term.variable (example_word_at (codes "?a") 232) ∷ [])) ∷ [])))
+      (Eff.both (effs_of (Eff.makes true (of_variables (codes "at") 243 (Term.variable (example_word_at (codes "?a") 246) ∷ [])) ∷ Eff.makes false (of_variables (codes "at") 256 (Term.variable (example_word_at (codes "?b") 259) ∷ [])) ∷ []))));
 }
 
 abbrev pub cells_tree : Domain Word
 cells_tree = record {
-  kinds = record { word = word_at (codes "cell") 75; kinds = [] } ∷ [];
+  kinds = record { word = example_word_at (codes "cell") 75; kinds = [] } ∷ [];
   constants = [];
-  predicates = record { head = word_at (codes "at") 95; params = typed (codes "?c") 98 103 ∷ [] }
-      ∷ record { head = word_at (codes "next") 110; params = typed (codes "?b") 115 120 ∷ typed (codes "?a") 125 130 ∷ [] } ∷ [];
+  predicates = record { head = example_word_at (codes "at") 95; params = typed (codes "?c") 98 103 ∷ [] }
+      ∷ record { head = example_word_at (codes "next") 110; params = typed (codes "?b") 115 120 ∷ typed (codes "?a") 125 130 ∷ [] } ∷ [];
   schemas = left_schema ∷ [];
 }
 
-cells_read : Reads grammar.domain cells cells_tree
+cells_read : HasTree grammar.domain cells cells_tree
 unfolding cut_from class_of symbol_of some_at next_at
-cells_read = reads_file grammar.domain cells (tokens cells) cells_tree (omega arith) refl refl refl
+cells_read = file_reads_by_computing grammar.domain cells (tokens_of_text cells) cells_tree (omega arith) refl refl refl
 
 -- it is the text of the family
 are_cells : text line.domain_lines ≡ cells
@@ -140,14 +136,14 @@ two = codes "(define (problem line)\n(:domain line)\n(:objects\nc1\nc2\n- cell)\
 abbrev pub two_tree : Problem Word
 two_tree = record {
   objects = typed (codes "c1") 48 56 ∷ typed (codes "c2") 51 56 ∷ [];
-  init = Item.one_of (word_at (codes "oneof") 70) (record { positive = true; atom = of_variables (codes "at") 77 (Term.name (word_at (codes "c1") 80) ∷ []) } ∷ record { positive = true; atom = of_variables (codes "at") 85 (Term.name (word_at (codes "c2") 88) ∷ []) } ∷ [])
-      ∷ Item.fact true (of_variables (codes "next") 95 (Term.name (word_at (codes "c2") 100) ∷ Term.name (word_at (codes "c1") 103) ∷ [])) ∷ [];
-  goal = Cond.atom true (of_variables (codes "at") 117 (Term.name (word_at (codes "c1") 120) ∷ []));
+  init = Item.one_of (example_word_at (codes "oneof") 70) (record { positive = true; atom = of_variables (codes "at") 77 (Term.name (example_word_at (codes "c1") 80) ∷ []) } ∷ record { positive = true; atom = of_variables (codes "at") 85 (Term.name (example_word_at (codes "c2") 88) ∷ []) } ∷ [])
+      ∷ Item.fact true (of_variables (codes "next") 95 (Term.name (example_word_at (codes "c2") 100) ∷ Term.name (example_word_at (codes "c1") 103) ∷ [])) ∷ [];
+  goal = Cond.atom true (of_variables (codes "at") 117 (Term.name (example_word_at (codes "c1") 120) ∷ []));
 }
 
-two_read : Reads grammar.problem two two_tree
+two_read : HasTree grammar.problem two two_tree
 unfolding cut_from class_of symbol_of some_at next_at
-two_read = reads_file grammar.problem two (tokens two) two_tree (omega arith) refl refl refl
+two_read = file_reads_by_computing grammar.problem two (tokens_of_text two) two_tree (omega arith) refl refl refl
 
 -- so is this, with two cells
 are_two : text (line.problem_lines 2) ≡ two
@@ -155,7 +151,7 @@ unfolding digits
 are_two = refl
 
 pub trees : HaveTrees (text line.domain_lines) (text (line.problem_lines 2)) cells_tree two_tree
-trees = record { domain_reads = subst (λ t. Reads grammar.domain t cells_tree) (sym are_cells) cells_read; problem_reads = subst (λ t. Reads grammar.problem t two_tree) (sym are_two) two_read; no_fault = record { domain = refl; problem = refl } }
+trees = record { domain_reads = subst (λ t. HasTree grammar.domain t cells_tree) (sym are_cells) cells_read; problem_reads = subst (λ t. HasTree grammar.problem t two_tree) (sym are_two) two_read; no_fault = record { domain = refl; problem = refl } }
 
 abbrev pub g : Ground
 g = ground_of cells_tree two_tree
@@ -167,7 +163,7 @@ i = initial_of cells_tree two_tree
 
 -- two clauses in order, with few prime implicates
 few_of_two : (h : Initial) (x y : List Lit) → h.clauses ≡ x ∷ y ∷ [] → IsAscending x → IsAscending y → length (all_included [] (x ∷ [])) ≤ 4 → length (all_included [] (x ∷ y ∷ [])) ≤ 4 → IsNeverOver h 20000
-few_of_two h x y e up above one all = never_over h 20000 (all_included [] (take (length h.clauses) h.clauses)) (record {
+few_of_two h x y e up above one all = counted_is_never_over h 20000 (all_included [] (take (length h.clauses) h.clauses)) (record {
   so_far = refl;
   sets = λ c m. sets c (subst (λ cs. Member cs c) (ap (λ (cs : List (List Lit)). take (length cs) cs) e) m);
   within_limit = λ j le. subst (λ (cs : List (List Lit)). length (all_included [] (take j cs)) ≤ 20000) (sym e) (at j);
@@ -202,7 +198,7 @@ prepared = record {
   started = record {
     small = within (numbered_problem cells_tree two_tree) usual 24 2 (omega arith) (omega arith) (omega arith) (omega arith) refl refl refl refl;
     counted = few_of_two i (positive 0 ∷ positive 1 ∷ []) (negative 0 ∷ negative 1 ∷ []) refl (omega arith, tt) (omega arith, tt) (omega arith) (omega arith);
-    initial = has_state cells_tree two_tree trees.no_fault at_first first_start;
+    initial = example_has_state cells_tree two_tree trees.no_fault at_first first_start;
   };
   clash_free = never_clashing cells_tree two_tree refl;
 }

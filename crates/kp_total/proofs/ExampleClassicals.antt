@@ -9,7 +9,7 @@ use Rattle.kp_base.proofs.Lists.{same-refl}
 use Rattle.kp_base.specs.Lists.{Member}
 use Rattle.kp_grammar.specs.declared.tree.Word.{Word}
 use Rattle.kp_grammar.specs.Trees.{Domain, Problem}
-use Rattle.kp_grammar.proofs.ExampleTexts.{exchange, exchange_tree, from_p_to_q, from_p_to_q_tree}
+use Rattle.kp_grammar.proofs.Public.{exchange_text, exchange_tree, from_p_to_q_text, from_p_to_q_tree}
 use Rattle.kp_meaning.specs.Names.{same}
 use Rattle.kp_meaning.specs.Steps.{Step}
 use Rattle.kp_classic.specs.declared.task.Task.{Task}
@@ -30,17 +30,15 @@ use Rattle.kp_words.specs.Names.{Classical}
 use Rattle.kp_words.specs.declared.lent.CommandRef.TheVariants as commands
 use Rattle.kp_line.specs.Words.{nothing, a_word, apart as apart_words, word as said_word, option as said_option}
 use Rattle.kp_words.specs.Command.{IsClassical as SaysClassical}
-use Rattle.kp_words.proofs.Examples.{word, is_classical as is_classical_call}
+use Rattle.kp_words.proofs.Public.{word_of_bytes, example_is_classical as is_classical_call}
 use Rattle.kp_prepared.specs.Texts.{HaveTrees}
 use Rattle.kp_classical.specs.Classical.{IsClassical, later, task_of}
 use Rattle.kp_solving.specs.Solving.{Finds, solves, denies, spends, TellsClassical}
 use Rattle.kp_printed.specs.Searches.{no_plan_line}
 use Rattle.kp_run.specs.Outcomes.{ClassicalTexts, searched, of_command}
 use Rattle.kp_run.specs.Ends.{Ends, came}
-use Rattle.kp_run.proofs.ExampleOutcomes.{holding}
-use Rattle.kp_run.proofs.Soundness.{at_last, under_another}
+use Rattle.kp_run.proofs.Public.{example_holding, got_after_insert, got_beside_insert, classical_task_fits}
 use Rattle.kp_run.specs.Solved.{IsSolvedClassical, HasNoClassicalPlan, IsSpentClassical}
-use Rattle.kp_run.proofs.Fitting.{classical_fit}
 use Rattle.kp_total.proofs.Classicals.{classical_is_a_plan, no_classical_plan_is_true, classical_spent_is_true}
 use Rattle.kp_total.proofs.ExampleCourses.{leading, reaching, unreached, with_plan, without_plan, spent}
 use Rattle.kp_total.proofs.ExampleFiles.{trees, is_classical, to_both, to_both_tree, both_trees, both_classical, chain, chain_tree, to_q, to_q_tree, chain_trees, chain_classical}
@@ -48,14 +46,14 @@ use Rattle.kp_total.proofs.ExampleFiles.{trees, is_classical, to_both, to_both_t
 -- ---- words
 
 abbrev front : List (Vec ℕ Global) → List (Vec ℕ Global)
-front more = word (codes "classical") (omega arith) ∷ word (codes "d") (omega arith) ∷ word (codes "p") (omega arith) ∷ more
+front more = word_of_bytes (codes "classical") (omega arith) ∷ word_of_bytes (codes "d") (omega arith) ∷ word_of_bytes (codes "p") (omega arith) ∷ more
 
 abbrev solving : ℕ → Classical
 solving budget = record { domain = codes "d"; problem = codes "p"; budget = budget }
 
 -- one state may be expanded
 abbrev with_budget : List (Vec ℕ Global)
-with_budget = front (word (codes "--budget") (omega arith) ∷ word (codes "1") (omega arith) ∷ [])
+with_budget = front (word_of_bytes (codes "--budget") (omega arith) ∷ word_of_bytes (codes "1") (omega arith) ∷ [])
 
 is_with_budget : SaysClassical with_budget (solving 1)
 unfolding encode digits
@@ -78,16 +76,16 @@ apart x y h e = false≢true (sym h ∙ (sym (ap (same x) e) ∙ same-refl x))
 
 -- before a run on two files, and after it, where it tells a text
 abbrev before : List ℕ → List ℕ → Outside
-before domain problem = record { held = Some (holding domain problem); told = Some []; get_faults = λ q. 0; put_faults = λ q. 0; write_faults = 0 }
+before domain problem = record { held = Some (example_holding domain problem); told = Some []; get_faults = λ q. 0; put_faults = λ q. 0; write_faults = 0 }
 
 abbrev after : List ℕ → List ℕ → List ℕ → Outside
-after domain problem text = record { held = Some (holding domain problem); told = with_bytes (Some []) text; get_faults = λ q. 0; put_faults = λ q. 0; write_faults = 0 }
+after domain problem text = record { held = Some (example_holding domain problem); told = with_bytes (Some []) text; get_faults = λ q. 0; put_faults = λ q. 0; write_faults = 0 }
 
-domain_held : (domain problem : List ℕ) → get (holding domain problem) (codes "d") ≡ Some domain
-domain_held domain problem = under_another (insert empty (codes "d") domain) (codes "d") (codes "p") problem (apart (codes "d") (codes "p") refl) ∙ at_last empty (codes "d") domain
+domain_held : (domain problem : List ℕ) → get (example_holding domain problem) (codes "d") ≡ Some domain
+domain_held domain problem = got_beside_insert (insert empty (codes "d") domain) (codes "d") (codes "p") problem (apart (codes "d") (codes "p") refl) ∙ got_after_insert empty (codes "d") domain
 
-problem_held : (domain problem : List ℕ) → get (holding domain problem) (codes "p") ≡ Some problem
-problem_held domain problem = at_last (insert empty (codes "d") domain) (codes "p") problem
+problem_held : (domain problem : List ℕ) → get (example_holding domain problem) (codes "p") ≡ Some problem
+problem_held domain problem = got_after_insert (insert empty (codes "d") domain) (codes "p") problem
 
 ends : (ws : List (Vec ℕ Global)) (budget : ℕ) → SaysClassical ws (solving budget) → (domain problem : List ℕ) (o : Outcome) → o.puts ≡ [] → ClassicalTexts (solving budget) domain problem o → Ends ws (before domain problem) (after domain problem o.text) o.status
 ends ws budget is domain problem o no_file comes =
@@ -104,7 +102,7 @@ abbrev swapping : Task
 swapping = task_of exchange_tree from_p_to_q_tree
 
 swapping_fits : IsFit swapping
-swapping_fits = classical_fit exchange_tree from_p_to_q_tree is_classical
+swapping_fits = classical_task_fits exchange_tree from_p_to_q_tree is_classical
 
 found_plan : Finds swapping 10000 (Plan (0 ∷ []) 1)
 found_plan =
@@ -118,11 +116,11 @@ a = record { head = codes "a"; objects = [] }
 abbrev the_plan : Outcome
 the_plan = solves None (a ∷ []) (a ∷ [])
 
-ends_with_plan : Ends (front []) (before exchange from_p_to_q) (after exchange from_p_to_q (codes "(a)\n")) status.Done
-ends_with_plan = ends (front []) 10000 is_classical_call exchange from_p_to_q the_plan refl (comes_to exchange from_p_to_q exchange_tree from_p_to_q_tree trees is_classical 10000 (Plan (0 ∷ []) 1) the_plan found_plan (a ∷ [], refl, refl))
+ends_with_plan : Ends (front []) (before exchange_text from_p_to_q_text) (after exchange_text from_p_to_q_text (codes "(a)\n")) status.Done
+ends_with_plan = ends (front []) 10000 is_classical_call exchange_text from_p_to_q_text the_plan refl (comes_to exchange_text from_p_to_q_text exchange_tree from_p_to_q_tree trees is_classical 10000 (Plan (0 ∷ []) 1) the_plan found_plan (a ∷ [], refl, refl))
 
-is_solved : IsSolvedClassical (holding exchange from_p_to_q) (solving 10000) (before exchange from_p_to_q) (after exchange from_p_to_q (codes "(a)\n"))
-is_solved = classical_is_a_plan (front []) _ _ status.Done ends_with_plan (holding exchange from_p_to_q) (solving 10000) refl is_classical_call refl
+is_solved : IsSolvedClassical (example_holding exchange_text from_p_to_q_text) (solving 10000) (before exchange_text from_p_to_q_text) (after exchange_text from_p_to_q_text (codes "(a)\n"))
+is_solved = classical_is_a_plan (front []) _ _ status.Done ends_with_plan (example_holding exchange_text from_p_to_q_text) (solving 10000) refl is_classical_call refl
 
 -- ---- from p to both: there is no plan
 
@@ -130,7 +128,7 @@ abbrev keeping : Task
 keeping = task_of exchange_tree to_both_tree
 
 keeping_fits : IsFit keeping
-keeping_fits = classical_fit exchange_tree to_both_tree both_classical
+keeping_fits = classical_task_fits exchange_tree to_both_tree both_classical
 
 -- by rules both are reached, as if p didn't go
 both_cost : Costs (rules_of keeping) (has (first keeping).hold) (goal_of keeping) 1
@@ -147,11 +145,11 @@ p_lost n costs = unreached (rules_of keeping) (has (step keeping 0 (first keepin
 found_none : Finds keeping 10000 NoPlan
 found_none = let here = reaching keeping keeping_fits (first keeping) 1 both_cost in without_plan keeping 10000 (omega arith) refl refl refl here.0 here.1 p_lost
 
-ends_with_none : Ends (front []) (before exchange to_both) (after exchange to_both no_plan_line) status.Negative
-ends_with_none = ends (front []) 10000 is_classical_call exchange to_both (denies no_plan_line) refl (comes_to exchange to_both exchange_tree to_both_tree both_trees both_classical 10000 NoPlan (denies no_plan_line) found_none refl)
+ends_with_none : Ends (front []) (before exchange_text to_both) (after exchange_text to_both no_plan_line) status.Negative
+ends_with_none = ends (front []) 10000 is_classical_call exchange_text to_both (denies no_plan_line) refl (comes_to exchange_text to_both exchange_tree to_both_tree both_trees both_classical 10000 NoPlan (denies no_plan_line) found_none refl)
 
-has_no_plan : HasNoClassicalPlan (holding exchange to_both) (solving 10000) (before exchange to_both) (after exchange to_both no_plan_line)
-has_no_plan = no_classical_plan_is_true (front []) _ _ status.Negative ends_with_none (holding exchange to_both) (solving 10000) refl is_classical_call refl
+has_no_plan : HasNoClassicalPlan (example_holding exchange_text to_both) (solving 10000) (before exchange_text to_both) (after exchange_text to_both no_plan_line)
+has_no_plan = no_classical_plan_is_true (front []) _ _ status.Negative ends_with_none (example_holding exchange_text to_both) (solving 10000) refl is_classical_call refl
 
 -- ---- from nothing to q: one state may be expanded, and another waits
 
@@ -159,7 +157,7 @@ abbrev turning : Task
 turning = task_of chain_tree to_q_tree
 
 turning_fits : IsFit turning
-turning_fits = classical_fit chain_tree to_q_tree chain_classical
+turning_fits = classical_task_fits chain_tree to_q_tree chain_classical
 
 found_more : Finds turning 1 (Spent 1)
 found_more =
@@ -170,5 +168,5 @@ found_more =
 ends_spent : Ends with_budget (before chain to_q) (after chain to_q (spends 1).text) status.Spent
 ends_spent = ends with_budget 1 is_with_budget chain to_q (spends 1) refl (comes_to chain to_q chain_tree to_q_tree chain_trees chain_classical 1 (Spent 1) (spends 1) found_more refl)
 
-is_spent : IsSpentClassical (holding chain to_q) (solving 1) (before chain to_q) (after chain to_q (spends 1).text)
-is_spent = classical_spent_is_true with_budget _ _ status.Spent ends_spent (holding chain to_q) (solving 1) refl is_with_budget refl
+is_spent : IsSpentClassical (example_holding chain to_q) (solving 1) (before chain to_q) (after chain to_q (spends 1).text)
+is_spent = classical_spent_is_true with_budget _ _ status.Spent ends_spent (example_holding chain to_q) (solving 1) refl is_with_budget refl

@@ -9,8 +9,7 @@ use Rattle.kp_classic.specs.Steps.{Holding, succeeds}
 use Rattle.kp_guide.specs.declared.rule.Rule.{Rule}
 use Rattle.kp_guide.specs.Added.{rules_of, goal_of, Costs, IsAdded}
 use Rattle.kp_guide.specs.Added.Costs.{none, given, by_rule}
-use Rattle.kp_guide.proofs.Existing.{added_exists}
-use Rattle.kp_guide.proofs.Relaxed.{added_right}
+use Rattle.kp_guide.proofs.Public.{added_exists, added_is_right}
 use Rattle.kp_search.specs.Trace.{Entry, Course, first, can, step, is_goal, one_entry, entry_after, is_taken, IsNext, WasTaken, with_expanded, Enters, IsCourse, EndsWithPlan, EndsSpent, EndsWithoutPlan}
 use Rattle.kp_search.specs.Trace.Enters.{none as entered_none, dead, enter}
 use Rattle.kp_search.specs.Trace.IsCourse.{begun, spread}
@@ -25,7 +24,7 @@ module _ (t : Task) (fit : IsFit t) (s : FactSet) where
     where
       by : ((h : Option ℕ) × IsAdded t (has s.hold) h) → (h : ℕ) × by_added t s (Some h)
       by (Some h, is) = (h, is)
-      by (None, is) = absurd (added_right t (has s.hold) ks is leads)
+      by (None, is) = absurd (added_is_right t (has s.hold) ks is leads)
 
   -- so is one from which rules reach the goal
   pub reaching : (n : ℕ) → Costs (rules_of t) (has s.hold) (goal_of t) n → (h : ℕ) × by_added t s (Some h)

@@ -19,23 +19,21 @@ use Rattle.kp_grammar.specs.Parsing.{some_at, next_at}
 use Rattle.kp_grammar.specs.declared.tree.Word.{Word}
 use Rattle.kp_grammar.specs.Trees.{Cond, conds_of, Eff, effs_of, Item, Schema, Domain, Problem}
 use Rattle.kp_grammar.specs.Grammar as grammar
-use Rattle.kp_grammar.proofs.ExampleTexts.{word_at, atom_at, pred_at, exchange, exchange_tree, from_p_to_q, from_p_to_q_tree}
+use Rattle.kp_grammar.proofs.Public.{example_word_at, example_atom_at, example_pred_at, exchange_text, exchange_tree, from_p_to_q_text, from_p_to_q_tree, tokens_of_text}
 use Rattle.kp_meaning.specs.Numbered.{Lifted}
 use Rattle.kp_meaning.specs.Numbering.{numbered_problem}
-use Rattle.kp_meaning.proofs.Texts.{tokens}
 use Rattle.kp_grounding.specs.Ground.{kept_instances, ground_atoms}
 use Rattle.kp_grounding.specs.Ground as by_number
 use Rattle.kp_grounding.specs.Weights.{binding_count, total_weight}
 use Rattle.kp_ground.specs.Grounded.{IsGrounded}
-use Rattle.kp_tree.specs.Files.{Reads}
-use Rattle.kp_decided.proofs.Clashing.{clash_or_none}
+use Rattle.kp_tree.specs.Files.{HasTree}
+use Rattle.kp_decided.proofs.Public.{clash_or_none}
 use Rattle.kp_given.specs.Translations.{ground_of, initial_of}
-use Rattle.kp_given.proofs.Starts.{formulas_over_atoms}
+use Rattle.kp_given.proofs.Public.{formulas_speak_of_ground_atoms}
 use Rattle.kp_prepared.specs.Texts.{HaveTrees}
 use Rattle.kp_prepared.specs.Prepared.{usual, IsPrepared}
 use Rattle.kp_classical.specs.Classical.{classical, IsClassical}
-use Rattle.kp_run.proofs.Computed.{reads_file}
-use Rattle.kp_run.proofs.ExampleOutcomes.{domain_reads, problem_reads, only_p, has_state, few_primes}
+use Rattle.kp_run.proofs.Public.{file_reads_by_computing, exchange_reads as domain_reads, from_p_to_q_reads as problem_reads, example_only_p, example_has_state, example_few_primes}
 
 -- ---- no clash
 
@@ -57,7 +55,7 @@ apart_is_free pairs a atom k j apart x =
 
 -- where the adds and deletes of each action are of different atoms, none clashes
 pub never_clashing : (d : Domain Word) (p : Problem Word) → list_all adds_apart (ground_of d p).actions ≡ true → IsClashFree (ground_of d p) (initial_of d p)
-never_clashing d p apart = elim (clash_or_none (ground_of d p) (initial_of d p) (formulas_over_atoms d p)) [
+never_clashing d p apart = elim (clash_or_none (ground_of d p) (initial_of d p) (formulas_speak_of_ground_atoms d p)) [
   | inl first ↦ absurd (let x = first.1.first.clash in apart_is_free first.1.pairs x.action first.0.atom.0 first.0.add first.0.delete (all_member adds_apart (ground_of d p).actions x.action (member_at (ground_of d p).actions first.0.action x.action x.action_at) apart) x.clashes)
   | inr free ↦ free
 ]
@@ -70,19 +68,19 @@ within l m weight atoms a b c d e f g h = record { counts = record { bindings = 
 
 -- ---- from p to q
 
-pub trees : HaveTrees exchange from_p_to_q exchange_tree from_p_to_q_tree
+pub trees : HaveTrees exchange_text from_p_to_q_text exchange_tree from_p_to_q_tree
 trees = record { domain_reads = domain_reads; problem_reads = problem_reads; no_fault = record { domain = refl; problem = refl } }
 
-only_p_is : is_model (initial_of exchange_tree from_p_to_q_tree) only_p ≡ true
-unfolding only_p
+only_p_is : is_model (initial_of exchange_tree from_p_to_q_tree) example_only_p ≡ true
+unfolding example_only_p
 only_p_is = refl
 
 pub prepared : IsPrepared 20000 exchange_tree from_p_to_q_tree
 prepared = record {
   started = record {
     small = within (numbered_problem exchange_tree from_p_to_q_tree) usual 3 2 (omega arith) (omega arith) (omega arith) (omega arith) refl refl refl refl;
-    counted = few_primes (initial_of exchange_tree from_p_to_q_tree) (positive 0) refl (omega arith);
-    initial = has_state exchange_tree from_p_to_q_tree trees.no_fault only_p only_p_is;
+    counted = example_few_primes (initial_of exchange_tree from_p_to_q_tree) (positive 0) refl (omega arith);
+    initial = example_has_state exchange_tree from_p_to_q_tree trees.no_fault example_only_p only_p_is;
   };
   clash_free = never_clashing exchange_tree from_p_to_q_tree refl;
 }
@@ -96,25 +94,25 @@ abbrev pub to_both : List ℕ
 to_both = codes "(define (problem e) (:domain d) (:init (p)) (:goal (and (p) (q))))\n"
 
 abbrev pub to_both_tree : Problem Word
-to_both_tree = record { objects = []; init = Item.fact true (atom_at (codes "p") 40) ∷ []; goal = Cond.all (conds_of (Cond.atom true (atom_at (codes "p") 57) ∷ Cond.atom true (atom_at (codes "q") 61) ∷ [])) }
+to_both_tree = record { objects = []; init = Item.fact true (example_atom_at (codes "p") 40) ∷ []; goal = Cond.all (conds_of (Cond.atom true (example_atom_at (codes "p") 57) ∷ Cond.atom true (example_atom_at (codes "q") 61) ∷ [])) }
 
-to_both_reads : Reads grammar.problem to_both to_both_tree
+to_both_reads : HasTree grammar.problem to_both to_both_tree
 unfolding cut_from class_of symbol_of some_at next_at
-to_both_reads = reads_file grammar.problem to_both (tokens to_both) to_both_tree (omega arith) refl refl refl
+to_both_reads = file_reads_by_computing grammar.problem to_both (tokens_of_text to_both) to_both_tree (omega arith) refl refl refl
 
-pub both_trees : HaveTrees exchange to_both exchange_tree to_both_tree
+pub both_trees : HaveTrees exchange_text to_both exchange_tree to_both_tree
 both_trees = record { domain_reads = domain_reads; problem_reads = to_both_reads; no_fault = record { domain = refl; problem = refl } }
 
-both_start : is_model (initial_of exchange_tree to_both_tree) only_p ≡ true
-unfolding only_p
+both_start : is_model (initial_of exchange_tree to_both_tree) example_only_p ≡ true
+unfolding example_only_p
 both_start = refl
 
 pub both_prepared : IsPrepared 20000 exchange_tree to_both_tree
 both_prepared = record {
   started = record {
     small = within (numbered_problem exchange_tree to_both_tree) usual 3 2 (omega arith) (omega arith) (omega arith) (omega arith) refl refl refl refl;
-    counted = few_primes (initial_of exchange_tree to_both_tree) (positive 0) refl (omega arith);
-    initial = has_state exchange_tree to_both_tree both_trees.no_fault only_p both_start;
+    counted = example_few_primes (initial_of exchange_tree to_both_tree) (positive 0) refl (omega arith);
+    initial = example_has_state exchange_tree to_both_tree both_trees.no_fault example_only_p both_start;
   };
   clash_free = never_clashing exchange_tree to_both_tree refl;
 }
@@ -129,28 +127,28 @@ chain = codes "(define (domain d) (:predicates (p) (q)) (:action a :effect (and 
 
 abbrev chain_schema : Schema Word
 chain_schema = record {
-  name = word_at (codes "a") 50;
+  name = example_word_at (codes "a") 50;
   params = [];
   pre = Cond.all (conds_of []);
-  effect = Eff.both (effs_of (Eff.makes true (atom_at (codes "p") 66) ∷ Eff.when (Cond.atom true (atom_at (codes "p") 76)) (Eff.makes true (atom_at (codes "q") 80)) ∷ []));
+  effect = Eff.both (effs_of (Eff.makes true (example_atom_at (codes "p") 66) ∷ Eff.when (Cond.atom true (example_atom_at (codes "p") 76)) (Eff.makes true (example_atom_at (codes "q") 80)) ∷ []));
 }
 
 abbrev pub chain_tree : Domain Word
-chain_tree = record { kinds = []; constants = []; predicates = pred_at (codes "p") 33 ∷ pred_at (codes "q") 37 ∷ []; schemas = chain_schema ∷ [] }
+chain_tree = record { kinds = []; constants = []; predicates = example_pred_at (codes "p") 33 ∷ example_pred_at (codes "q") 37 ∷ []; schemas = chain_schema ∷ [] }
 
-pub chain_reads : Reads grammar.domain chain chain_tree
+pub chain_reads : HasTree grammar.domain chain chain_tree
 unfolding cut_from class_of symbol_of some_at next_at
-chain_reads = reads_file grammar.domain chain (tokens chain) chain_tree (omega arith) refl refl refl
+chain_reads = file_reads_by_computing grammar.domain chain (tokens_of_text chain) chain_tree (omega arith) refl refl refl
 
 abbrev pub to_q : List ℕ
 to_q = codes "(define (problem e) (:domain d) (:init (not (p))) (:goal (q)))\n"
 
 abbrev pub to_q_tree : Problem Word
-to_q_tree = record { objects = []; init = Item.fact false (atom_at (codes "p") 45) ∷ []; goal = Cond.atom true (atom_at (codes "q") 58) }
+to_q_tree = record { objects = []; init = Item.fact false (example_atom_at (codes "p") 45) ∷ []; goal = Cond.atom true (example_atom_at (codes "q") 58) }
 
-to_q_reads : Reads grammar.problem to_q to_q_tree
+to_q_reads : HasTree grammar.problem to_q to_q_tree
 unfolding cut_from class_of symbol_of some_at next_at
-to_q_reads = reads_file grammar.problem to_q (tokens to_q) to_q_tree (omega arith) refl refl refl
+to_q_reads = file_reads_by_computing grammar.problem to_q (tokens_of_text to_q) to_q_tree (omega arith) refl refl refl
 
 pub chain_trees : HaveTrees chain to_q chain_tree to_q_tree
 chain_trees = record { domain_reads = chain_reads; problem_reads = to_q_reads; no_fault = record { domain = refl; problem = refl } }
@@ -169,8 +167,8 @@ pub chain_prepared : IsPrepared 20000 chain_tree to_q_tree
 chain_prepared = record {
   started = record {
     small = within (numbered_problem chain_tree to_q_tree) usual 3 2 (omega arith) (omega arith) (omega arith) (omega arith) refl refl refl refl;
-    counted = few_primes (initial_of chain_tree to_q_tree) (negative 0) refl (omega arith);
-    initial = has_state chain_tree to_q_tree chain_trees.no_fault no_atom chain_start;
+    counted = example_few_primes (initial_of chain_tree to_q_tree) (negative 0) refl (omega arith);
+    initial = example_has_state chain_tree to_q_tree chain_trees.no_fault no_atom chain_start;
   };
   clash_free = never_clashing chain_tree to_q_tree refl;
 }

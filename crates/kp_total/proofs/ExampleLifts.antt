@@ -14,15 +14,14 @@ use Rattle.kp_base.specs.Steps.{is_model}
 use Rattle.kp_base.specs.Exclusive.{IsClashFree}
 use Rattle.kp_base.specs.Implicates.{IsNeverOver}
 use Rattle.kp_primes.specs.Included.{all_included}
-use Rattle.kp_primes.proofs.Answered.{never_over}
-use Rattle.kp_machine.proofs.ExamplePlain.{free}
+use Rattle.kp_primes.proofs.Public.{counted_is_never_over}
+use Rattle.kp_machine.proofs.Public.{swap_is_clash_free}
 use Rattle.kp_lex.specs.Bytes.{class_of}
 use Rattle.kp_lex.specs.Scanning.{cut_from}
 use Rattle.kp_grammar.specs.Symbols.{symbol_of}
 use Rattle.kp_grammar.specs.Parsing.{some_at, next_at}
 use Rattle.kp_grammar.specs.declared.tree.Word.{Word}
-use Rattle.kp_grammar.proofs.Computed.{tokens, reads_as}
-use Rattle.kp_grammar.proofs.ExampleTexts.{exchange, exchange_tree, from_p_to_q, from_p_to_q_tree}
+use Rattle.kp_grammar.proofs.Public.{tokens_of_text, reads_by_computing, exchange_text, exchange_tree, from_p_to_q_text, from_p_to_q_tree}
 use Rattle.kp_meaning.specs.Names.{same}
 use Rattle.kp_meaning.specs.Numbering.{numbered_problem}
 use Rattle.kp_meaning.specs.Steps.{Step}
@@ -36,17 +35,13 @@ use Rattle.kp_outcome.specs.declared.outcome.Outcome.{Outcome}
 use Rattle.kp_outcome.specs.declared.status.Status.TheVariants as status
 use Rattle.kp_outcome.specs.Ends.{Outside, whole}
 use Rattle.kp_words.specs.Names.{of_mode, Lift}
-use Rattle.kp_prepared.proofs.Problems.{problem_of}
+use Rattle.kp_prepared.proofs.Public.{problem_of_trees}
 use Rattle.kp_prepared.specs.Prepared.{IsStarted, later}
 use Rattle.kp_inputs.specs.Tables.{by_mode, with_table}
 use Rattle.kp_run.specs.Outcomes.{translates, done, TranslatesTexts}
 use Rattle.kp_run.specs.Ends.{Ends, came}
 use Rattle.kp_run.specs.Completeness.{RanComplete, IsOfTheSame, HoldsPlan}
-use Rattle.kp_run.proofs.Counted.{empty_tags_fit}
-use Rattle.kp_run.proofs.CompleteText.{complete_told}
-use Rattle.kp_run.proofs.EmptyTags.{empty_tag_made, nothing_uncovered}
-use Rattle.kp_run.proofs.ExampleOutcomes.{with_limit, limited, is_limited, holding, due_with, is_small, only_p, has_state, closed_q, unconditional}
-use Rattle.kp_run.proofs.Soundness.{at_last, under_another}
+use Rattle.kp_run.proofs.Public.{empty_tags_fit, complete_is_told, empty_tag_made, nothing_uncovered, example_with_limit, example_limited, example_is_limited, example_holding, example_due_with, example_is_small, example_only_p, example_has_state, example_closed_q, example_unconditional, got_after_insert, got_beside_insert}
 use Rattle.kp_run.specs.Solved.{GoesOn}
 use Rattle.kp_total.specs.Commands.{HasLift}
 use Rattle.kp_total.proofs.ExampleFiles.{trees}
@@ -56,13 +51,13 @@ use Rattle.kp_total.proofs.ExampleFiles.{trees}
 abbrev from_p : Initial
 from_p = initial_of exchange_tree from_p_to_q_tree
 
-only_p_is : is_model from_p only_p ≡ true
-unfolding only_p
+only_p_is : is_model from_p example_only_p ≡ true
+unfolding example_only_p
 only_p_is = refl
 
 -- the one clause is in order, and the only prime implicate
 one_prime : IsNeverOver from_p 1
-one_prime = never_over from_p 1 (all_included [] (take (length from_p.clauses) from_p.clauses)) (record { so_far = refl; sets = sets; within_limit = λ j le. at j })
+one_prime = counted_is_never_over from_p 1 (all_included [] (take (length from_p.clauses) from_p.clauses)) (record { so_far = refl; sets = sets; within_limit = λ j le. at j })
   where
     sets : (c : List Lit) → Member ((positive 0 ∷ []) ∷ []) c → IsAscending c
     sets c (inl e) = subst IsAscending e tt
@@ -75,26 +70,26 @@ one_prime = never_over from_p 1 (all_included [] (take (length from_p.clauses) f
 
 started : IsStarted 1 exchange_tree from_p_to_q_tree
 started = record {
-  small = is_small (numbered_problem exchange_tree from_p_to_q_tree) refl refl refl refl;
+  small = example_is_small (numbered_problem exchange_tree from_p_to_q_tree) refl refl refl refl;
   counted = one_prime;
-  initial = has_state exchange_tree from_p_to_q_tree trees.no_fault only_p only_p_is;
+  initial = example_has_state exchange_tree from_p_to_q_tree trees.no_fault example_only_p only_p_is;
 }
 
 no_clash : IsClashFree (ground_of exchange_tree from_p_to_q_tree) from_p
-no_clash = free from_p (closed_q from_p refl)
+no_clash = swap_is_clash_free from_p (example_closed_q from_p refl)
 
 abbrev table : TagTable
 table = empty_tag exchange_tree from_p_to_q_tree
 
 abbrev outcome : Outcome
-outcome = translates limited (ground_of exchange_tree from_p_to_q_tree) table []
+outcome = translates example_limited (ground_of exchange_tree from_p_to_q_tree) table []
 
-is_done : TranslatesTexts limited exchange from_p_to_q [] outcome
+is_done : TranslatesTexts example_limited exchange_text from_p_to_q_text [] outcome
 is_done = later exchange_tree from_p_to_q_tree trees (record { started = started; clash_free = no_clash })
-    (with_table table (by_mode modes.K0 table (empty_tag_made exchange_tree from_p_to_q_tree)) (done [] (empty_tags_fit exchange_tree from_p_to_q_tree started.small) (nothing_uncovered (ground_of exchange_tree from_p_to_q_tree) from_p (unconditional from_p_to_q_tree refl) table) refl))
+    (with_table table (by_mode modes.K0 table (empty_tag_made exchange_tree from_p_to_q_tree)) (done [] (empty_tags_fit exchange_tree from_p_to_q_tree started.small) (nothing_uncovered (ground_of exchange_tree from_p_to_q_tree) from_p (example_unconditional from_p_to_q_tree refl) table) refl))
 
 abbrev before : FileMap
-before = holding exchange from_p_to_q
+before = example_holding exchange_text from_p_to_q_text
 
 abbrev after : FileMap
 after = insert (insert before (codes "od") (translation_of exchange_tree from_p_to_q_tree table).domain) (codes "op") (translation_of exchange_tree from_p_to_q_tree table).problem
@@ -105,12 +100,12 @@ before_it = record { held = Some before; told = Some []; get_faults = λ q. 0; p
 abbrev after_it : Outside
 after_it = record { held = Some after; told = Some outcome.text; get_faults = λ q. 0; put_faults = λ q. 0; write_faults = 0 }
 
-ends : Ends with_limit before_it after_it status.Done
-ends = came outcome (due_with with_limit limited is_limited refl refl refl exchange from_p_to_q outcome is_done) (whole refl (record { gets = λ q. refl; puts = λ q. refl; writes = refl }) refl refl)
+ends : Ends example_with_limit before_it after_it status.Done
+ends = came outcome (example_due_with example_with_limit example_limited example_is_limited refl refl refl exchange_text from_p_to_q_text outcome is_done) (whole refl (record { gets = λ q. refl; puts = λ q. refl; writes = refl }) refl refl)
 
 -- it told `complete`
-ran : RanComplete with_limit limited before after
-ran = record { old = before_it; new = after_it; earlier = []; text = outcome.text; is_translate = is_limited; ended = ends; held_before = refl; held_after = refl; told_before = refl; told_after = refl; complete = complete_told (ground_of exchange_tree from_p_to_q_tree) table }
+ran : RanComplete example_with_limit example_limited before after
+ran = record { old = before_it; new = after_it; earlier = []; text = outcome.text; is_translate = example_is_limited; ended = ends; held_before = refl; held_after = refl; told_before = refl; told_after = refl; complete = complete_is_told (ground_of exchange_tree from_p_to_q_tree) table }
 
 -- ---- a lift of the same files
 
@@ -127,12 +122,12 @@ apart : (x y : List ℕ) → same x y ≡ false → x ≢ y
 apart x y h e = false≢true (sym h ∙ (sym (ap (same x) e) ∙ same-refl x))
 
 domain_held : get now (codes "d") ≡ get before (codes "d")
-domain_held = under_another before (codes "d") (codes "t") plan_file (apart (codes "d") (codes "t") refl)
+domain_held = got_beside_insert before (codes "d") (codes "t") plan_file (apart (codes "d") (codes "t") refl)
 
 problem_held : get now (codes "p") ≡ get before (codes "p")
-problem_held = under_another before (codes "p") (codes "t") plan_file (apart (codes "p") (codes "t") refl)
+problem_held = got_beside_insert before (codes "p") (codes "t") plan_file (apart (codes "p") (codes "t") refl)
 
-is_same : IsOfTheSame limited before command now
+is_same : IsOfTheSame example_limited before command now
 is_same = record { domain = refl; problem = refl; source = refl; implicates = omega arith; held = rw (domain_held, problem_held) refl }
 
 -- ---- its plan file
@@ -145,30 +140,30 @@ plan_words = (record { text = codes "a"; byte = 1 }, []) ∷ []
 
 reads : IsPlanOf plan_file (map (step_of plan_file) plan_words)
 unfolding cut_from class_of symbol_of some_at next_at
-reads = record { tree = plan_words; are = refl; reads = reads_as plan plan_file (tokens plan_file) plan_words refl refl }
+reads = record { tree = plan_words; are = refl; reads = reads_by_computing plan plan_file (tokens_of_text plan_file) plan_words refl refl }
 
-exchange_problem : HasProblem exchange from_p_to_q
-exchange_problem = problem_of exchange from_p_to_q exchange_tree from_p_to_q_tree trees
+exchange_problem : HasProblem exchange_text from_p_to_q_text
+exchange_problem = problem_of_trees exchange_text from_p_to_q_text exchange_tree from_p_to_q_tree trees
 
-is_plan : IsPlan exchange from_p_to_q (a ∷ [])
+is_plan : IsPlan exchange_text from_p_to_q_text (a ∷ [])
 unfolding exchange_problem
 is_plan = record { has = exchange_problem; solves = record { instances = refl; reaches = λ s i. i.items } }
 
-first_held : get before (codes "d") ≡ Some exchange
-first_held = under_another _ (codes "d") (codes "p") from_p_to_q (apart (codes "d") (codes "p") refl) ∙ at_last _ (codes "d") exchange
+first_held : get before (codes "d") ≡ Some exchange_text
+first_held = got_beside_insert _ (codes "d") (codes "p") from_p_to_q_text (apart (codes "d") (codes "p") refl) ∙ got_after_insert _ (codes "d") exchange_text
 
-second_held : get before (codes "p") ≡ Some from_p_to_q
-second_held = at_last _ (codes "p") from_p_to_q
+second_held : get before (codes "p") ≡ Some from_p_to_q_text
+second_held = got_after_insert _ (codes "p") from_p_to_q_text
 
 holds : HoldsPlan now command (a ∷ [])
 holds = record {
-  domain = exchange;
-  problem = from_p_to_q;
+  domain = exchange_text;
+  problem = from_p_to_q_text;
   text = plan_file;
   steps = map (step_of plan_file) plan_words;
   domain_held = domain_held ∙ first_held;
   problem_held = problem_held ∙ second_held;
-  plan_held = at_last before (codes "t") plan_file;
+  plan_held = got_after_insert before (codes "t") plan_file;
   short = omega arith;
   reads = reads;
   names_are = refl;
@@ -178,7 +173,7 @@ holds = record {
 -- ---- the premises of what a run of a lift comes to
 
 goes_on : GoesOn now (codes "d") (codes "p") 1 exchange_tree from_p_to_q_tree
-goes_on = record { domain = exchange; problem = from_p_to_q; domain_held = domain_held ∙ first_held; problem_held = problem_held ∙ second_held; trees = trees; prepared = record { started = started; clash_free = no_clash } }
+goes_on = record { domain = exchange_text; problem = from_p_to_q_text; domain_held = domain_held ∙ first_held; problem_held = problem_held ∙ second_held; trees = trees; prepared = record { started = started; clash_free = no_clash } }
 
 has_lift : HasLift now (of_mode modes.K0) (codes "t") exchange_tree from_p_to_q_tree table (0 ∷ [])
 has_lift = record {
@@ -186,7 +181,7 @@ has_lift = record {
   text = plan_file;
   steps = map (step_of plan_file) plan_words;
   merges_held = refl;
-  plan_held = at_last before (codes "t") plan_file;
+  plan_held = got_after_insert before (codes "t") plan_file;
   has_table = by_mode modes.K0 table (empty_tag_made exchange_tree from_p_to_q_tree);
   fits = empty_tags_fit exchange_tree from_p_to_q_tree started.small;
   has_actions = record { short = omega arith; reads = reads; known = refl };

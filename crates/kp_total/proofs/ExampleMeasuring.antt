@@ -23,19 +23,17 @@ use Rattle.kp_grammar.specs.Parsing.{some_at, next_at}
 use Rattle.kp_grammar.specs.declared.tree.Word.{Word}
 use Rattle.kp_grammar.specs.Trees.{Cond, conds_of, Eff, effs_of, Item, Schema, Domain, Problem}
 use Rattle.kp_grammar.specs.Grammar as grammar
-use Rattle.kp_grammar.proofs.ExampleTexts.{word_at, atom_at, pred_at}
+use Rattle.kp_grammar.proofs.Public.{example_word_at, example_atom_at, example_pred_at, tokens_of_text}
 use Rattle.kp_meaning.specs.Names.{same}
 use Rattle.kp_meaning.specs.Numbering.{numbered_problem}
-use Rattle.kp_meaning.proofs.Texts.{tokens}
-use Rattle.kp_tree.specs.Files.{Reads}
+use Rattle.kp_tree.specs.Files.{HasTree}
 use Rattle.kp_cover.specs.Targets.{AreTargets}
 use Rattle.kp_cover.specs.Covering.{IsCover}
 use Rattle.kp_width.specs.declared.report.WidthReport.{WidthReport}
 use Rattle.kp_width.specs.declared.report.WidthReport.TheVariants.{Within, Over}
 use Rattle.kp_width.specs.Rows.{NoneCovers, AreRows, IsOver}
 use Rattle.kp_width.specs.Answers.{IsReport}
-use Rattle.kp_decided.proofs.Candidates.{clauses_decided}
-use Rattle.kp_decided.proofs.Needed.{targets_decided}
+use Rattle.kp_decided.proofs.Public.{clauses_decided, targets_decided}
 use Rattle.kp_given.specs.Translations.{ground_of, initial_of}
 use Rattle.kp_outside.specs.Outside.{with_bytes}
 use Rattle.kp_outcome.specs.declared.status.Status.TheVariants as status
@@ -45,15 +43,12 @@ use Rattle.kp_words.specs.Names.{Width}
 use Rattle.kp_words.specs.declared.lent.CommandRef.TheVariants as commands
 use Rattle.kp_line.specs.Words.{nothing, a_word, word as said_word}
 use Rattle.kp_words.specs.Command.{IsWidth}
-use Rattle.kp_words.proofs.Examples.{word, is_width}
+use Rattle.kp_words.proofs.Public.{word_of_bytes, example_is_width}
 use Rattle.kp_prepared.specs.Texts.{HaveTrees}
 use Rattle.kp_prepared.specs.Prepared.{usual, IsPrepared, later}
 use Rattle.kp_run.specs.Outcomes.{tells_width, with_report, measured, of_command}
 use Rattle.kp_run.specs.Ends.{Ends, came}
-use Rattle.kp_run.proofs.Computed.{reads_file}
-use Rattle.kp_run.proofs.ExampleOutcomes.{holding, has_state, few_primes}
-use Rattle.kp_run.proofs.Soundness.{at_last, under_another}
-use Rattle.kp_run.proofs.Solved.{proper}
+use Rattle.kp_run.proofs.Public.{file_reads_by_computing, example_holding, example_has_state, example_few_primes, got_after_insert, got_beside_insert, prepared_is_proper}
 use Rattle.kp_total.specs.Measuring.{IsMeasured, IsTooWide}
 use Rattle.kp_total.proofs.Measures.{widths_are_true}
 use Rattle.kp_total.proofs.ExampleFiles.{within, never_clashing, turn, no_atom, chain, chain_tree, chain_reads}
@@ -61,7 +56,7 @@ use Rattle.kp_total.proofs.ExampleFiles.{within, never_clashing, turn, no_atom, 
 -- ---- words
 
 abbrev pub front : List (Vec ℕ Global) → List (Vec ℕ Global)
-front more = word (codes "width") (omega arith) ∷ word (codes "d") (omega arith) ∷ word (codes "p") (omega arith) ∷ more
+front more = word_of_bytes (codes "width") (omega arith) ∷ word_of_bytes (codes "d") (omega arith) ∷ word_of_bytes (codes "p") (omega arith) ∷ more
 
 abbrev pub measuring : ℕ → Width
 measuring bound = record { domain = codes "d"; problem = codes "p"; bound = bound; implicates = 20000 }
@@ -81,7 +76,7 @@ is_plain = record {
 }
 
 abbrev with_bound : List (Vec ℕ Global)
-with_bound = word (codes "width") (omega arith) ∷ word (codes "--bound") (omega arith) ∷ word (codes "0") (omega arith) ∷ word (codes "d") (omega arith) ∷ word (codes "p") (omega arith) ∷ []
+with_bound = word_of_bytes (codes "width") (omega arith) ∷ word_of_bytes (codes "--bound") (omega arith) ∷ word_of_bytes (codes "0") (omega arith) ∷ word_of_bytes (codes "d") (omega arith) ∷ word_of_bytes (codes "p") (omega arith) ∷ []
 
 -- ---- a run on two files
 
@@ -89,16 +84,16 @@ apart : (x y : List ℕ) → same x y ≡ false → x ≢ y
 apart x y h e = false≢true (sym h ∙ (sym (ap (same x) e) ∙ same-refl x))
 
 abbrev pub before : List ℕ → List ℕ → Outside
-before domain problem = record { held = Some (holding domain problem); told = Some []; get_faults = λ q. 0; put_faults = λ q. 0; write_faults = 0 }
+before domain problem = record { held = Some (example_holding domain problem); told = Some []; get_faults = λ q. 0; put_faults = λ q. 0; write_faults = 0 }
 
 abbrev pub after : List ℕ → List ℕ → List ℕ → Outside
-after domain problem text = record { held = Some (holding domain problem); told = with_bytes (Some []) text; get_faults = λ q. 0; put_faults = λ q. 0; write_faults = 0 }
+after domain problem text = record { held = Some (example_holding domain problem); told = with_bytes (Some []) text; get_faults = λ q. 0; put_faults = λ q. 0; write_faults = 0 }
 
-pub domain_held : (domain problem : List ℕ) → get (holding domain problem) (codes "d") ≡ Some domain
-domain_held domain problem = under_another (insert empty (codes "d") domain) (codes "d") (codes "p") problem (apart (codes "d") (codes "p") refl) ∙ at_last empty (codes "d") domain
+pub domain_held : (domain problem : List ℕ) → get (example_holding domain problem) (codes "d") ≡ Some domain
+domain_held domain problem = got_beside_insert (insert empty (codes "d") domain) (codes "d") (codes "p") problem (apart (codes "d") (codes "p") refl) ∙ got_after_insert empty (codes "d") domain
 
-pub problem_held : (domain problem : List ℕ) → get (holding domain problem) (codes "p") ≡ Some problem
-problem_held domain problem = at_last (insert empty (codes "d") domain) (codes "p") problem
+pub problem_held : (domain problem : List ℕ) → get (example_holding domain problem) (codes "p") ≡ Some problem
+problem_held domain problem = got_after_insert (insert empty (codes "d") domain) (codes "p") problem
 
 pub ends : (ws : List (Vec ℕ Global)) (bound : ℕ) → IsWidth ws (measuring bound) → (domain problem : List ℕ) (d : Domain Word) (p : Problem Word) → HaveTrees domain problem d p → IsPrepared 20000 d p
     → (report : WidthReport) → IsReport usual bound (ground_of d p) (initial_of d p) report → (tells_width (ground_of d p) bound report).puts ≡ []
@@ -114,11 +109,11 @@ abbrev to_nothing : List ℕ
 to_nothing = codes "(define (problem e) (:domain d) (:init (not (p))) (:goal (and)))\n"
 
 abbrev to_nothing_tree : Problem Word
-to_nothing_tree = record { objects = []; init = Item.fact false (atom_at (codes "p") 45) ∷ []; goal = Cond.all (conds_of []) }
+to_nothing_tree = record { objects = []; init = Item.fact false (example_atom_at (codes "p") 45) ∷ []; goal = Cond.all (conds_of []) }
 
-to_nothing_reads : Reads grammar.problem to_nothing to_nothing_tree
+to_nothing_reads : HasTree grammar.problem to_nothing to_nothing_tree
 unfolding cut_from class_of symbol_of some_at next_at
-to_nothing_reads = reads_file grammar.problem to_nothing (tokens to_nothing) to_nothing_tree (omega arith) refl refl refl
+to_nothing_reads = file_reads_by_computing grammar.problem to_nothing (tokens_of_text to_nothing) to_nothing_tree (omega arith) refl refl refl
 
 nothing_trees : HaveTrees chain to_nothing chain_tree to_nothing_tree
 nothing_trees = record { domain_reads = chain_reads; problem_reads = to_nothing_reads; no_fault = record { domain = refl; problem = refl } }
@@ -131,8 +126,8 @@ nothing_prepared : IsPrepared 20000 chain_tree to_nothing_tree
 nothing_prepared = record {
   started = record {
     small = within (numbered_problem chain_tree to_nothing_tree) usual 3 2 (omega arith) (omega arith) (omega arith) (omega arith) refl refl refl refl;
-    counted = few_primes (initial_of chain_tree to_nothing_tree) (negative 0) refl (omega arith);
-    initial = has_state chain_tree to_nothing_tree nothing_trees.no_fault no_atom nothing_start;
+    counted = example_few_primes (initial_of chain_tree to_nothing_tree) (negative 0) refl (omega arith);
+    initial = example_has_state chain_tree to_nothing_tree nothing_trees.no_fault no_atom nothing_start;
   };
   clash_free = never_clashing chain_tree to_nothing_tree refl;
 }
@@ -154,8 +149,8 @@ no_rows = IsReport.within [] [] no_targets AreRows.done (omega arith)
 ends_done : Ends (front []) (before chain to_nothing) (after chain to_nothing (width_text (ground_of chain_tree to_nothing_tree).atoms [])) status.Done
 ends_done = ends (front []) 3 is_plain chain to_nothing chain_tree to_nothing_tree nothing_trees nothing_prepared (Within []) no_rows refl
 
-is_measured : IsMeasured (holding chain to_nothing) (measuring 3) (before chain to_nothing) (after chain to_nothing (width_text (ground_of chain_tree to_nothing_tree).atoms []))
-is_measured = (widths_are_true (front []) _ _ status.Done ends_done (holding chain to_nothing) (measuring 3) refl is_plain).done refl
+is_measured : IsMeasured (example_holding chain to_nothing) (measuring 3) (before chain to_nothing) (after chain to_nothing (width_text (ground_of chain_tree to_nothing_tree).atoms []))
+is_measured = (widths_are_true (front []) _ _ status.Done ends_done (example_holding chain to_nothing) (measuring 3) refl is_plain).done refl
 
 -- ---- q comes, whether p holds or not
 
@@ -164,28 +159,28 @@ ways = codes "(define (domain d) (:predicates (p) (q)) (:action a :effect (and (
 
 abbrev ways_schema : Schema Word
 ways_schema = record {
-  name = word_at (codes "a") 50;
+  name = example_word_at (codes "a") 50;
   params = [];
   pre = Cond.all (conds_of []);
-  effect = Eff.both (effs_of (Eff.when (Cond.atom true (atom_at (codes "p") 72)) (Eff.makes true (atom_at (codes "q") 76)) ∷ Eff.when (Cond.atom false (atom_at (codes "p") 92)) (Eff.makes true (atom_at (codes "q") 97)) ∷ []));
+  effect = Eff.both (effs_of (Eff.when (Cond.atom true (example_atom_at (codes "p") 72)) (Eff.makes true (example_atom_at (codes "q") 76)) ∷ Eff.when (Cond.atom false (example_atom_at (codes "p") 92)) (Eff.makes true (example_atom_at (codes "q") 97)) ∷ []));
 }
 
 abbrev ways_tree : Domain Word
-ways_tree = record { kinds = []; constants = []; predicates = pred_at (codes "p") 33 ∷ pred_at (codes "q") 37 ∷ []; schemas = ways_schema ∷ [] }
+ways_tree = record { kinds = []; constants = []; predicates = example_pred_at (codes "p") 33 ∷ example_pred_at (codes "q") 37 ∷ []; schemas = ways_schema ∷ [] }
 
-ways_reads : Reads grammar.domain ways ways_tree
+ways_reads : HasTree grammar.domain ways ways_tree
 unfolding cut_from class_of symbol_of some_at next_at
-ways_reads = reads_file grammar.domain ways (tokens ways) ways_tree (omega arith) refl refl refl
+ways_reads = file_reads_by_computing grammar.domain ways (tokens_of_text ways) ways_tree (omega arith) refl refl refl
 
 abbrev unsure : List ℕ
 unsure = codes "(define (problem e) (:domain d) (:init (unknown (p)) (not (q))) (:goal (q)))\n"
 
 abbrev unsure_tree : Problem Word
-unsure_tree = record { objects = []; init = Item.unknown (word_at (codes "unknown") 40) (atom_at (codes "p") 49) ∷ Item.fact false (atom_at (codes "q") 59) ∷ []; goal = Cond.atom true (atom_at (codes "q") 72) }
+unsure_tree = record { objects = []; init = Item.unknown (example_word_at (codes "unknown") 40) (example_atom_at (codes "p") 49) ∷ Item.fact false (example_atom_at (codes "q") 59) ∷ []; goal = Cond.atom true (example_atom_at (codes "q") 72) }
 
-unsure_reads : Reads grammar.problem unsure unsure_tree
+unsure_reads : HasTree grammar.problem unsure unsure_tree
 unfolding cut_from class_of symbol_of some_at next_at
-unsure_reads = reads_file grammar.problem unsure (tokens unsure) unsure_tree (omega arith) refl refl refl
+unsure_reads = file_reads_by_computing grammar.problem unsure (tokens_of_text unsure) unsure_tree (omega arith) refl refl refl
 
 ways_trees : HaveTrees ways unsure ways_tree unsure_tree
 ways_trees = record { domain_reads = ways_reads; problem_reads = unsure_reads; no_fault = record { domain = refl; problem = refl } }
@@ -215,8 +210,8 @@ ways_prepared : IsPrepared 20000 ways_tree unsure_tree
 ways_prepared = record {
   started = record {
     small = within (numbered_problem ways_tree unsure_tree) usual 4 2 (omega arith) (omega arith) (omega arith) (omega arith) refl refl refl refl;
-    counted = few_primes i (negative 1) refl (omega arith);
-    initial = has_state ways_tree unsure_tree ways_trees.no_fault no_atom none_start;
+    counted = example_few_primes i (negative 1) refl (omega arith);
+    initial = example_has_state ways_tree unsure_tree ways_trees.no_fault no_atom none_start;
   };
   clash_free = never_clashing ways_tree unsure_tree refl;
 }
@@ -261,7 +256,7 @@ pub empty_tag : (test : List Lit → Bool) → test [] ≡ true → each_once sa
 empty_tag test on = rw (on) refl
 
 over_it : IsOver usual.sets 0 g i (positive 1)
-over_it = by (clauses_decided g i (positive 1) (proper 20000 ways_tree unsure_tree ways_trees.no_fault ways_prepared) (omega arith))
+over_it = by (clauses_decided g i (positive 1) (prepared_is_proper 20000 ways_tree unsure_tree ways_trees.no_fault ways_prepared) (omega arith))
   where
     by : ((cs : List (List Lit)) × AreClausesFor g.actions (length g.atoms) i (positive 1) cs) → IsOver usual.sets 0 g i (positive 1)
     by (cs, are) = record { relevant = cs; are_relevant = are; no_cover = record { few = few; none_covers = none } }
@@ -291,7 +286,7 @@ is_over = by (targets_decided g)
         IsReport.over (t ∷ ts) (positive 1) are (record { earlier = []; later = ts; among = ap (λ (l : Lit). l ∷ ts) first; rows = []; are_rows = AreRows.done }) over_it
 
 ends_over : Ends with_bound (before ways unsure) (after ways unsure (over_text g.atoms 0 (positive 1))) status.Negative
-ends_over = ends with_bound 0 is_width ways unsure ways_tree unsure_tree ways_trees ways_prepared (Over (positive 1)) is_over refl
+ends_over = ends with_bound 0 example_is_width ways unsure ways_tree unsure_tree ways_trees ways_prepared (Over (positive 1)) is_over refl
 
-is_too_wide : IsTooWide (holding ways unsure) (measuring 0) (before ways unsure) (after ways unsure (over_text g.atoms 0 (positive 1)))
-is_too_wide = (widths_are_true with_bound _ _ status.Negative ends_over (holding ways unsure) (measuring 0) refl is_width).negative refl
+is_too_wide : IsTooWide (example_holding ways unsure) (measuring 0) (before ways unsure) (after ways unsure (over_text g.atoms 0 (positive 1)))
+is_too_wide = (widths_are_true with_bound _ _ status.Negative ends_over (example_holding ways unsure) (measuring 0) refl example_is_width).negative refl

@@ -24,8 +24,8 @@ use Rattle.kp_base.specs.Relevance.{IsRelevant, either_value, IsCandidate, AreRe
 use Rattle.kp_base.specs.Steps.{State, holds, is_model}
 use Rattle.kp_base.proofs.Lists.{all_member, any_member}
 use Rattle.kp_base.proofs.Lits.{has-member, member-has}
-use Rattle.kp_machine.proofs.Exclusive.{never_clashes}
-use Rattle.kp_init.proofs.Closure.{closure_exact}
+use Rattle.kp_machine.proofs.Public.{no_clash_under_exclusive_pairs as never_clashes}
+use Rattle.kp_init.proofs.Public.{closure_over_first_atoms}
 use Rattle.kp_classic.specs.declared.task.Task.{Task}
 use Rattle.kp_classic.specs.Fits.{IsFit}
 use Rattle.kp_classic.specs.States.{FactSet, has}
@@ -45,14 +45,12 @@ use Rattle.kp_modes.specs.Assignments.{HasAtom, AreAtomsOf}
 use Rattle.kp_modes.specs.Modes.{AreMergesBy, AreMergesInTurn, AreMergesOf, AreOtherwise, merge_of}
 use Rattle.kp_tags.specs.Tables.{HasClosure}
 use Rattle.kp_tags.specs.Made.{IsMade}
-use Rattle.kp_decided.proofs.Candidates.{clauses_decided}
-use Rattle.kp_decided.proofs.Tags.{tags_decided}
+use Rattle.kp_decided.proofs.Public.{clauses_decided, tags_decided}
 use Rattle.kp_decided.specs.Laws.{AreProper, TellsOfTags}
 use Rattle.kp_task.specs.Task.{task_of}
 use Rattle.kp_ktask.specs.Translated.{FitsLimits}
 use Rattle.kp_given.specs.Tables.{IsTableFor}
-use Rattle.kp_given.proofs.Starts.{formulas_over_atoms}
-use Rattle.kp_given.proofs.Tables.{tables_written}
+use Rattle.kp_given.proofs.Public.{formulas_speak_of_ground_atoms, tables_can_be_written}
 use Rattle.kp_gen.specs.Lines.{text}
 use Rattle.kp_gen.specs.Line as line
 use Rattle.kp_outside.specs.Outside.{with_bytes}
@@ -64,21 +62,20 @@ use Rattle.kp_words.specs.declared.source.Family.TheVariants as families
 use Rattle.kp_words.specs.Names.{of_mode, Bench}
 use Rattle.kp_words.specs.declared.lent.CommandRef.TheVariants as commands
 use Rattle.kp_words.specs.Command.{IsBench}
-use Rattle.kp_words.proofs.Examples.{word}
+use Rattle.kp_words.proofs.Public.{word_of_bytes}
 use Rattle.kp_prepared.specs.Prepared.{usual, later}
 use Rattle.kp_inputs.specs.Tables.{by_mode, with_table}
-use Rattle.kp_inputs.proofs.TablesFor.{table_for}
+use Rattle.kp_inputs.proofs.Public.{table_of_source_is_for_trees}
 use Rattle.kp_solving.specs.Solving.{Finds}
-use Rattle.kp_solving.proofs.Searches.{ends_true}
+use Rattle.kp_solving.proofs.Public.{ends_are_true}
 use Rattle.kp_bench.specs.Summary.{summary_text}
 use Rattle.kp_bench.specs.Working.{IsSafe}
 use Rattle.kp_bench.specs.Bench.{sums_up, Benches, searched as by_search}
-use Rattle.kp_bench.proofs.Working.{work}
+use Rattle.kp_bench.proofs.Public.{succeeding_actions_are_plan}
 use Rattle.kp_run.specs.Outcomes.{benched, of_command}
 use Rattle.kp_run.specs.Ends.{Ends, came}
-use Rattle.kp_run.proofs.Fitting.{task_fits}
-use Rattle.kp_run.proofs.Solved.{proper}
-use Rattle.kp_prepared.proofs.Problems.{problem_of}
+use Rattle.kp_run.proofs.Public.{task_of_trees_fits, prepared_is_proper as proper}
+use Rattle.kp_prepared.proofs.Public.{problem_of_trees}
 use Rattle.kp_total.specs.Benching.{IsSolvedBench}
 use Rattle.kp_total.proofs.Benches.{benches_are_true}
 use Rattle.kp_total.proofs.ExampleCourses.{leading}
@@ -90,7 +87,7 @@ abbrev running : Bench
 running = record { family = families.Line; n = 2; mode = modes.Models; budget = 10000 }
 
 abbrev bench_words : List (Vec ℕ Global)
-bench_words = word (codes "bench") (omega arith) ∷ word (codes "line") (omega arith) ∷ word (codes "2") (omega arith) ∷ word (codes "--mode") (omega arith) ∷ word (codes "models") (omega arith) ∷ []
+bench_words = word_of_bytes (codes "bench") (omega arith) ∷ word_of_bytes (codes "line") (omega arith) ∷ word_of_bytes (codes "2") (omega arith) ∷ word_of_bytes (codes "--mode") (omega arith) ∷ word_of_bytes (codes "models") (omega arith) ∷ []
 
 is_bench : IsBench bench_words running
 unfolding encode digits
@@ -201,7 +198,7 @@ abbrev other : List Lit
 other = negative 0 ∷ positive 1 ∷ []
 
 pub told_of : TellsOfTags i
-told_of = tags_decided 2 i (formulas_over_atoms cells_tree two_tree)
+told_of = tags_decided 2 i (formulas_speak_of_ground_atoms cells_tree two_tree)
 
 abbrev pub test : List Lit → Bool
 test = told_of.test
@@ -294,9 +291,9 @@ is_made = record {
 }
   where
     closures : (row : TagRow) → Member table.tags row → HasClosure 2 i row
-    closures row (inl e) = let exact = closure_exact i 2 (formulas_over_atoms cells_tree two_tree) [] refl in subst (HasClosure 2 i) e (record { closure = exact.closure; ascending = exact.ascending })
-    closures row (inr (inl e)) = let exact = closure_exact i 2 (formulas_over_atoms cells_tree two_tree) one refl in subst (HasClosure 2 i) e (record { closure = exact.closure; ascending = exact.ascending })
-    closures row (inr (inr (inl e))) = let exact = closure_exact i 2 (formulas_over_atoms cells_tree two_tree) other refl in subst (HasClosure 2 i) e (record { closure = exact.closure; ascending = exact.ascending })
+    closures row (inl e) = let exact = closure_over_first_atoms i 2 (formulas_speak_of_ground_atoms cells_tree two_tree) [] refl in subst (HasClosure 2 i) e (record { closure = exact.closure; ascending = exact.ascending })
+    closures row (inr (inl e)) = let exact = closure_over_first_atoms i 2 (formulas_speak_of_ground_atoms cells_tree two_tree) one refl in subst (HasClosure 2 i) e (record { closure = exact.closure; ascending = exact.ascending })
+    closures row (inr (inr (inl e))) = let exact = closure_over_first_atoms i 2 (formulas_speak_of_ground_atoms cells_tree two_tree) other refl in subst (HasClosure 2 i) e (record { closure = exact.closure; ascending = exact.ascending })
     closures row (inr (inr (inr never))) = absurd never
 
 -- ---- the task
@@ -308,13 +305,13 @@ fits : FitsLimits task usual
 fits = record { facts = omega arith; weight = omega arith }
 
 for : IsTableFor cells_tree two_tree table
-for = table_for cells_tree two_tree (of_mode modes.Models) [] table prepared.started.small fits (by_mode modes.Models table is_made)
+for = table_of_source_is_for_trees cells_tree two_tree (of_mode modes.Models) [] table prepared.started.small fits (by_mode modes.Models table is_made)
 
 safe : IsSafe g i table
-safe = record { writable = tables_written (text line.domain_lines) (text (line.problem_lines 2)) (problem_of (text line.domain_lines) (text (line.problem_lines 2)) cells_tree two_tree trees) table for; right = for.right; valid = for.valid; never_clashes = never_clashes g i prepared.clash_free }
+safe = record { writable = tables_can_be_written (text line.domain_lines) (text (line.problem_lines 2)) (problem_of_trees (text line.domain_lines) (text (line.problem_lines 2)) cells_tree two_tree trees) table for; right = for.right; valid = for.valid; never_clashes = never_clashes g i prepared.clash_free }
 
 fit : IsFit task
-fit = task_fits cells_tree two_tree table prepared.started.small fits safe.writable
+fit = task_of_trees_fits cells_tree two_tree table prepared.started.small fits safe.writable
 
 -- ---- the search: the action, and then the merge
 
@@ -488,7 +485,7 @@ benches : Benches running summary
 benches = later cells_tree two_tree trees prepared (with_table table (by_mode modes.Models table is_made) (by_search (Plan (0 ∷ 1 ∷ []) 2) fits found_plan (record {
   machine = MachineStep.act 0 ∷ MachineStep.merge 0 ∷ [];
   numbers = refl;
-  works = work g i table (0 ∷ 1 ∷ []) safe (ends_true task 10000 (Plan (0 ∷ 1 ∷ []) 2) fit found_plan);
+  works = succeeding_actions_are_plan g i table (0 ∷ 1 ∷ []) safe (ends_are_true task 10000 (Plan (0 ∷ 1 ∷ []) 2) fit found_plan);
   uncovered = [];
   are_uncovered = none_left;
   told = refl;

@@ -11,7 +11,7 @@ use Rattle.kp_base.specs.Lists.{Member}
 use Rattle.kp_base.specs.Machine.{MachineStep}
 use Rattle.kp_grammar.specs.declared.tree.Word.{Word}
 use Rattle.kp_grammar.specs.Trees.{Domain, Problem}
-use Rattle.kp_grammar.proofs.ExampleTexts.{exchange, exchange_tree, from_p_to_q, from_p_to_q_tree}
+use Rattle.kp_grammar.proofs.Public.{exchange_text, exchange_tree, from_p_to_q_text, from_p_to_q_tree}
 use Rattle.kp_meaning.specs.Names.{same}
 use Rattle.kp_meaning.specs.Steps.{Step}
 use Rattle.kp_classic.specs.declared.task.Task.{Task}
@@ -26,7 +26,7 @@ use Rattle.kp_search.specs.Trace.{first, step}
 use Rattle.kp_task.specs.Task.{task_of}
 use Rattle.kp_given.specs.Translations.{ground_of, initial_of}
 use Rattle.kp_given.specs.Tables.{empty_tag}
-use Rattle.kp_given.proofs.Tables.{tables_written}
+use Rattle.kp_given.proofs.Public.{tables_can_be_written}
 use Rattle.kp_outside.specs.Outside.{with_bytes}
 use Rattle.kp_outcome.specs.declared.outcome.Outcome.{Outcome}
 use Rattle.kp_outcome.specs.declared.status.Status.TheVariants as status
@@ -35,22 +35,18 @@ use Rattle.kp_words.specs.Names.{of_mode, Solve}
 use Rattle.kp_words.specs.declared.lent.CommandRef.TheVariants as commands
 use Rattle.kp_line.specs.Words.{nothing, a_word, apart as apart_words, word as said_word, option as said_option}
 use Rattle.kp_words.specs.Command.{IsSolve}
-use Rattle.kp_words.proofs.Examples.{word}
+use Rattle.kp_words.proofs.Public.{word_of_bytes}
 use Rattle.kp_prepared.specs.Texts.{HaveTrees}
 use Rattle.kp_prepared.specs.Prepared.{IsPrepared, later}
 use Rattle.kp_inputs.specs.Tables.{HasTable, by_mode, with_table}
-use Rattle.kp_inputs.proofs.TablesFor.{table_for}
+use Rattle.kp_inputs.proofs.Public.{table_of_source_is_for_trees}
 use Rattle.kp_solving.specs.Solving.{Finds, solves, denies, spends, AreNamed, TellsSolved, searched}
 use Rattle.kp_printed.specs.Searches.{no_plan_text}
 use Rattle.kp_run.specs.Outcomes.{SolvesTexts, solved, of_command}
 use Rattle.kp_run.specs.Ends.{Ends, came}
-use Rattle.kp_run.proofs.Counted.{empty_tags_fit}
-use Rattle.kp_run.proofs.EmptyTags.{empty_tag_made, nothing_uncovered}
-use Rattle.kp_run.proofs.ExampleOutcomes.{holding, unconditional}
-use Rattle.kp_prepared.proofs.Problems.{problem_of}
-use Rattle.kp_run.proofs.Soundness.{at_last, under_another}
+use Rattle.kp_run.proofs.Public.{empty_tags_fit, empty_tag_made, nothing_uncovered, example_holding, example_unconditional, got_after_insert, got_beside_insert, task_of_trees_fits}
+use Rattle.kp_prepared.proofs.Public.{problem_of_trees}
 use Rattle.kp_run.specs.Solved.{IsSolved, HasNoPlan, IsSpent}
-use Rattle.kp_run.proofs.Fitting.{task_fits}
 use Rattle.kp_total.proofs.Solvings.{solved_is_a_plan, no_plan_is_true, spent_is_true}
 use Rattle.kp_total.proofs.ExampleCourses.{leading, reaching, unreached, with_plan, without_plan, spent}
 use Rattle.kp_total.proofs.ExampleFiles.{trees, prepared, to_both, to_both_tree, both_trees, both_prepared, chain, chain_tree, to_q, to_q_tree, chain_trees, chain_prepared}
@@ -58,7 +54,7 @@ use Rattle.kp_total.proofs.ExampleFiles.{trees, prepared, to_both, to_both_tree,
 -- ---- words
 
 abbrev front : List (Vec ℕ Global) → List (Vec ℕ Global)
-front more = word (codes "solve") (omega arith) ∷ word (codes "d") (omega arith) ∷ word (codes "p") (omega arith) ∷ word (codes "--mode") (omega arith) ∷ word (codes "k0") (omega arith) ∷ more
+front more = word_of_bytes (codes "solve") (omega arith) ∷ word_of_bytes (codes "d") (omega arith) ∷ word_of_bytes (codes "p") (omega arith) ∷ word_of_bytes (codes "--mode") (omega arith) ∷ word_of_bytes (codes "k0") (omega arith) ∷ more
 
 abbrev solving : ℕ → Option (List ℕ) → Solve
 solving budget name = record { domain = codes "d"; problem = codes "p"; source = of_mode modes.K0; implicates = 20000; budget = budget; classical = name }
@@ -82,7 +78,7 @@ is_plain = record {
 
 -- the classical plan is written to c
 abbrev with_classical : List (Vec ℕ Global)
-with_classical = front (word (codes "--classical") (omega arith) ∷ word (codes "c") (omega arith) ∷ [])
+with_classical = front (word_of_bytes (codes "--classical") (omega arith) ∷ word_of_bytes (codes "c") (omega arith) ∷ [])
 
 is_with_classical : IsSolve with_classical (solving 10000 (Some (codes "c")))
 unfolding encode
@@ -100,7 +96,7 @@ is_with_classical = record {
 
 -- one state may be expanded
 abbrev with_budget : List (Vec ℕ Global)
-with_budget = front (word (codes "--budget") (omega arith) ∷ word (codes "1") (omega arith) ∷ [])
+with_budget = front (word_of_bytes (codes "--budget") (omega arith) ∷ word_of_bytes (codes "1") (omega arith) ∷ [])
 
 is_with_budget : IsSolve with_budget (solving 1 None)
 unfolding encode digits
@@ -123,16 +119,16 @@ apart x y h e = false≢true (sym h ∙ (sym (ap (same x) e) ∙ same-refl x))
 
 -- before a run on two files, and after it, where it comes to an outcome
 abbrev before : List ℕ → List ℕ → Outside
-before domain problem = record { held = Some (holding domain problem); told = Some []; get_faults = λ q. 0; put_faults = λ q. 0; write_faults = 0 }
+before domain problem = record { held = Some (example_holding domain problem); told = Some []; get_faults = λ q. 0; put_faults = λ q. 0; write_faults = 0 }
 
 abbrev after : List ℕ → List ℕ → Outcome → Outside
-after domain problem o = record { held = with_files (Some (holding domain problem)) o.puts; told = with_bytes (Some []) o.text; get_faults = λ q. 0; put_faults = λ q. 0; write_faults = 0 }
+after domain problem o = record { held = with_files (Some (example_holding domain problem)) o.puts; told = with_bytes (Some []) o.text; get_faults = λ q. 0; put_faults = λ q. 0; write_faults = 0 }
 
-domain_held : (domain problem : List ℕ) → get (holding domain problem) (codes "d") ≡ Some domain
-domain_held domain problem = under_another (insert empty (codes "d") domain) (codes "d") (codes "p") problem (apart (codes "d") (codes "p") refl) ∙ at_last empty (codes "d") domain
+domain_held : (domain problem : List ℕ) → get (example_holding domain problem) (codes "d") ≡ Some domain
+domain_held domain problem = got_beside_insert (insert empty (codes "d") domain) (codes "d") (codes "p") problem (apart (codes "d") (codes "p") refl) ∙ got_after_insert empty (codes "d") domain
 
-problem_held : (domain problem : List ℕ) → get (holding domain problem) (codes "p") ≡ Some problem
-problem_held domain problem = at_last (insert empty (codes "d") domain) (codes "p") problem
+problem_held : (domain problem : List ℕ) → get (example_holding domain problem) (codes "p") ≡ Some problem
+problem_held domain problem = got_after_insert (insert empty (codes "d") domain) (codes "p") problem
 
 ends : (ws : List (Vec ℕ Global)) (budget : ℕ) (name : Option (List ℕ)) → IsSolve ws (solving budget name) → (domain problem : List ℕ) (o : Outcome) → SolvesTexts (solving budget name) domain problem [] o → Ends ws (before domain problem) (after domain problem o) o.status
 ends ws budget name is domain problem o comes =
@@ -147,7 +143,7 @@ module _ (domain problem : List ℕ) (d : Domain Word) (p : Problem Word) (have 
   fit : IsFit (task_of (ground_of d p) (empty_tag d p))
   fit =
       let fits = empty_tags_fit d p ready.started.small in
-      task_fits d p (empty_tag d p) ready.started.small fits (tables_written domain problem (problem_of domain problem d p have) (empty_tag d p) (table_for d p (of_mode modes.K0) [] (empty_tag d p) ready.started.small fits has_table))
+      task_of_trees_fits d p (empty_tag d p) ready.started.small fits (tables_can_be_written domain problem (problem_of_trees domain problem d p have) (empty_tag d p) (table_of_source_is_for_trees d p (of_mode modes.K0) [] (empty_tag d p) ready.started.small fits has_table))
 
   comes_to : (budget : ℕ) (name : Option (List ℕ)) (found : Found) (o : Outcome) → Finds (task_of (ground_of d p) (empty_tag d p)) budget found → TellsSolved name (ground_of d p) (initial_of d p) (empty_tag d p) found o → SolvesTexts (solving budget name) domain problem [] o
   comes_to budget name found o finds tells = later d p have ready (with_table (empty_tag d p) has_table (searched found (empty_tags_fit d p ready.started.small) finds tells))
@@ -158,7 +154,7 @@ abbrev swapping : Task
 swapping = task_of (ground_of exchange_tree from_p_to_q_tree) (empty_tag exchange_tree from_p_to_q_tree)
 
 swapping_fits : IsFit swapping
-swapping_fits = fit exchange from_p_to_q exchange_tree from_p_to_q_tree trees prepared
+swapping_fits = fit exchange_text from_p_to_q_text exchange_tree from_p_to_q_tree trees prepared
 
 found_plan : Finds swapping 10000 (Plan (0 ∷ []) 1)
 found_plan =
@@ -178,16 +174,16 @@ are_named = record { machine = MachineStep.act 0 ∷ []; numbers = refl; steps_a
 abbrev the_plan : Outcome
 the_plan = solves (Some (codes "c")) (do_a ∷ []) (a ∷ [])
 
-ends_with_plan : Ends with_classical (before exchange from_p_to_q) (after exchange from_p_to_q the_plan) status.Done
+ends_with_plan : Ends with_classical (before exchange_text from_p_to_q_text) (after exchange_text from_p_to_q_text the_plan) status.Done
 ends_with_plan =
-    ends with_classical 10000 (Some (codes "c")) is_with_classical exchange from_p_to_q the_plan
-    (comes_to exchange from_p_to_q exchange_tree from_p_to_q_tree trees prepared 10000 (Some (codes "c")) (Plan (0 ∷ []) 1) the_plan found_plan (do_a ∷ [], a ∷ [], are_named, refl))
+    ends with_classical 10000 (Some (codes "c")) is_with_classical exchange_text from_p_to_q_text the_plan
+    (comes_to exchange_text from_p_to_q_text exchange_tree from_p_to_q_tree trees prepared 10000 (Some (codes "c")) (Plan (0 ∷ []) 1) the_plan found_plan (do_a ∷ [], a ∷ [], are_named, refl))
 
-is_solved : IsSolved (holding exchange from_p_to_q) (solving 10000 (Some (codes "c"))) (before exchange from_p_to_q) (after exchange from_p_to_q the_plan)
-is_solved = solved_is_a_plan with_classical _ _ status.Done ends_with_plan (holding exchange from_p_to_q) (solving 10000 (Some (codes "c"))) refl is_with_classical refl
+is_solved : IsSolved (example_holding exchange_text from_p_to_q_text) (solving 10000 (Some (codes "c"))) (before exchange_text from_p_to_q_text) (after exchange_text from_p_to_q_text the_plan)
+is_solved = solved_is_a_plan with_classical _ _ status.Done ends_with_plan (example_holding exchange_text from_p_to_q_text) (solving 10000 (Some (codes "c"))) refl is_with_classical refl
 
 -- a line of each
-told_and_put : after exchange from_p_to_q the_plan ≡ record { held = Some (insert (holding exchange from_p_to_q) (codes "c") (codes "(do_-a)\n")); told = Some (codes "(a)\n"); get_faults = λ q. 0; put_faults = λ q. 0; write_faults = 0 }
+told_and_put : after exchange_text from_p_to_q_text the_plan ≡ record { held = Some (insert (example_holding exchange_text from_p_to_q_text) (codes "c") (codes "(do_-a)\n")); told = Some (codes "(a)\n"); get_faults = λ q. 0; put_faults = λ q. 0; write_faults = 0 }
 told_and_put = refl
 
 -- ---- from p to both: there is no plan, and the table is complete
@@ -196,7 +192,7 @@ abbrev keeping : Task
 keeping = task_of (ground_of exchange_tree to_both_tree) (empty_tag exchange_tree to_both_tree)
 
 keeping_fits : IsFit keeping
-keeping_fits = fit exchange to_both exchange_tree to_both_tree both_trees both_prepared
+keeping_fits = fit exchange_text to_both exchange_tree to_both_tree both_trees both_prepared
 
 -- by rules both are reached, as if p didn't go
 both_cost : Costs (rules_of keeping) (has (first keeping).hold) (goal_of keeping) 1
@@ -217,15 +213,15 @@ found_none = let here = reaching keeping keeping_fits (first keeping) 1 both_cos
 abbrev no_plan : Outcome
 no_plan = denies (no_plan_text [])
 
-ends_with_none : Ends plain (before exchange to_both) (after exchange to_both no_plan) status.Negative
+ends_with_none : Ends plain (before exchange_text to_both) (after exchange_text to_both no_plan) status.Negative
 ends_with_none =
-    ends plain 10000 None is_plain exchange to_both no_plan
-    (comes_to exchange to_both exchange_tree to_both_tree both_trees both_prepared 10000 None NoPlan no_plan found_none ([], nothing_uncovered (ground_of exchange_tree to_both_tree) (initial_of exchange_tree to_both_tree) (unconditional to_both_tree refl) (empty_tag exchange_tree to_both_tree), refl))
+    ends plain 10000 None is_plain exchange_text to_both no_plan
+    (comes_to exchange_text to_both exchange_tree to_both_tree both_trees both_prepared 10000 None NoPlan no_plan found_none ([], nothing_uncovered (ground_of exchange_tree to_both_tree) (initial_of exchange_tree to_both_tree) (example_unconditional to_both_tree refl) (empty_tag exchange_tree to_both_tree), refl))
 
-has_no_plan : HasNoPlan (holding exchange to_both) (solving 10000 None) (before exchange to_both) (after exchange to_both no_plan)
-has_no_plan = no_plan_is_true plain _ _ status.Negative ends_with_none (holding exchange to_both) (solving 10000 None) refl is_plain refl
+has_no_plan : HasNoPlan (example_holding exchange_text to_both) (solving 10000 None) (before exchange_text to_both) (after exchange_text to_both no_plan)
+has_no_plan = no_plan_is_true plain _ _ status.Negative ends_with_none (example_holding exchange_text to_both) (solving 10000 None) refl is_plain refl
 
-told_none : (after exchange to_both no_plan).told ≡ Some (codes "no plan\ncomplete\n")
+told_none : (after exchange_text to_both no_plan).told ≡ Some (codes "no plan\ncomplete\n")
 told_none = refl
 
 -- ---- from nothing to q: one state may be expanded, and another waits
@@ -245,5 +241,5 @@ found_more =
 ends_spent : Ends with_budget (before chain to_q) (after chain to_q (spends 1)) status.Spent
 ends_spent = ends with_budget 1 None is_with_budget chain to_q (spends 1) (comes_to chain to_q chain_tree to_q_tree chain_trees chain_prepared 1 None (Spent 1) (spends 1) found_more refl)
 
-is_spent : IsSpent (holding chain to_q) (solving 1 None) (before chain to_q) (after chain to_q (spends 1))
-is_spent = spent_is_true with_budget _ _ status.Spent ends_spent (holding chain to_q) (solving 1 None) refl is_with_budget refl
+is_spent : IsSpent (example_holding chain to_q) (solving 1 None) (before chain to_q) (after chain to_q (spends 1))
+is_spent = spent_is_true with_budget _ _ status.Spent ends_spent (example_holding chain to_q) (solving 1 None) refl is_with_budget refl

@@ -9,12 +9,12 @@ use Rattle.kp_base.specs.declared.refused.Part.TheVariants as parts
 use Rattle.kp_base.specs.declared.refused.Refused.TheVariants as refusals
 use Rattle.kp_lex.specs.Bytes.{class_of}
 use Rattle.kp_lex.specs.Scanning.{cut_from}
-use Rattle.kp_lex.proofs.Exact.{cut_tells}
+use Rattle.kp_lex.proofs.Public.{cut_tells}
 use Rattle.kp_grammar.specs.declared.tree.Word.{Word}
 use Rattle.kp_grammar.specs.Symbols.{symbol_of, all_seen_in}
 use Rattle.kp_grammar.specs.Parsing.{some_at, next_at}
 use Rattle.kp_grammar.specs.Reading.{stop, within_form}
-use Rattle.kp_grammar.proofs.Computed.{tokens, reads_as, stops}
+use Rattle.kp_grammar.proofs.Public.{tokens_of_text, reads_by_computing, stops_by_computing as stops}
 use Rattle.kp_plans.specs.declared.step.PlanStep.{PlanStep}
 use Rattle.kp_plans.specs.Grammar.{plan}
 use Rattle.kp_plans.specs.PlanFiles.{step_of, IsPlanOf, bad_token}
@@ -27,7 +27,7 @@ use Rattle.kp_words.specs.declared.lent.CommandRef.TheVariants as commands
 use Rattle.kp_line.specs.Words.{nothing, a_word, word as said_word}
 use Rattle.kp_words.specs.Command.{AreUtf8, IsStrip}
 use Rattle.kp_run.specs.Outcomes.{prints, StripsText, no_plan, no_strip, strips, stripped, IsDue, of_command}
-use Rattle.kp_run.proofs.Soundness.{at_last}
+use Rattle.kp_run.proofs.Public.{got_after_insert}
 
 -- ---- the command
 
@@ -50,7 +50,7 @@ is_strip words e = record {
 
 -- what the text of its file is stripped to is due
 due : (words : List (Vec ℕ Global)) (text : List ℕ) (o : Outcome) → map (λ w. w.items) words ≡ codes "strip" ∷ codes "t" ∷ [] → StripsText text o → IsDue words (Some (insert empty (codes "t") text)) o
-due words text o e h = of_command (commands.Strip command) (text ∷ []) o (is_strip words e) (rw (at_last empty (codes "t") text) refl) (stripped command text o h)
+due words text o e h = of_command (commands.Strip command) (text ∷ []) o (is_strip words e) (rw (got_after_insert empty (codes "t") text) refl) (stripped command text o h)
 
 abbrev word_at : List ℕ → ℕ → Word
 word_at text byte = record { text = text; byte = byte }
@@ -65,7 +65,7 @@ two_words = (word_at (codes "merge_-0") 1, []) ∷ (word_at (codes "do_-move_-a_
 
 two_are_a_plan : IsPlanOf two_steps (map (step_of two_steps) two_words)
 unfolding cut_from class_of symbol_of some_at next_at
-two_are_a_plan = record { tree = two_words; are = refl; reads = reads_as plan two_steps (tokens two_steps) two_words refl refl }
+two_are_a_plan = record { tree = two_words; are = refl; reads = reads_by_computing plan two_steps (tokens_of_text two_steps) two_words refl refl }
 
 abbrev moved : GroundName
 moved = record { head = codes "move"; objects = codes "a" ∷ codes "b" ∷ [] }
@@ -86,7 +86,7 @@ stray_words = (word_at (codes "do_-a") 1, []) ∷ (word_at (codes "left") 9, [])
 
 stray_is_a_plan : IsPlanOf stray (map (step_of stray) stray_words)
 unfolding cut_from class_of symbol_of some_at next_at
-stray_is_a_plan = record { tree = stray_words; are = refl; reads = reads_as plan stray (tokens stray) stray_words refl refl }
+stray_is_a_plan = record { tree = stray_words; are = refl; reads = reads_by_computing plan stray (tokens_of_text stray) stray_words refl refl }
 
 abbrev left : PlanStep
 left = step_of stray (word_at (codes "left") 9, [])
@@ -105,7 +105,7 @@ unclosed = codes "(do_-a"
 
 unclosed_refused : StripsText unclosed (record { status = status.Refused (refusals.PlanSyntax (record { part = parts.Plan; line = 1; byte = 6 })); puts = []; text = codes "refused 19 PlanSyntax\nat plan line 1 byte 6\n" })
 unfolding digits cut_from class_of symbol_of some_at next_at
-unclosed_refused = no_plan (refusals.PlanSyntax (record { part = parts.Plan; line = 1; byte = 6 })) (omega arith) (files.stops (tokens unclosed) (stop []) (cut_tells 0 unclosed) (within_form (stops plan (all_seen_in unclosed (tokens unclosed)) (stop []) refl refl))) refl
+unclosed_refused = no_plan (refusals.PlanSyntax (record { part = parts.Plan; line = 1; byte = 6 })) (omega arith) (files.stops (tokens_of_text unclosed) (stop []) (cut_tells 0 unclosed) (within_form (stops plan (all_seen_in unclosed (tokens_of_text unclosed)) (stop []) refl refl))) refl
 
 -- ---- a byte that begins no token
 

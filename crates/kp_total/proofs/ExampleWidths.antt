@@ -15,8 +15,8 @@ use Rattle.kp_base.specs.Relevance.{IsRelevant, either_value, IsCandidate, AreRe
 use Rattle.kp_base.specs.Steps.{State, holds, is_model}
 use Rattle.kp_base.proofs.Lists.{all_member, any_from, any_member}
 use Rattle.kp_base.proofs.Lits.{has-member}
-use Rattle.kp_clauses.proofs.Sets.{ascending_same}
-use Rattle.kp_clauses.proofs.Within.{within_member}
+use Rattle.kp_base.proofs.Members.{ascending_same}
+use Rattle.kp_clauses.proofs.Public.{within_member}
 use Rattle.kp_sets.specs.Subsets.{subsets, choose}
 use Rattle.kp_cover.specs.Covering.{IsCover}
 use Rattle.kp_width.specs.declared.report.WidthRow.{WidthRow}
@@ -24,7 +24,7 @@ use Rattle.kp_width.specs.declared.report.WidthReport.TheVariants.{Within}
 use Rattle.kp_width.specs.Rows.{NoneCovers, AreRows, IsRowOf}
 use Rattle.kp_width.specs.Answers.{IsReport}
 use Rattle.kp_width.specs.Laws.{IsRightRow}
-use Rattle.kp_width.proofs.Right.{rows_right}
+use Rattle.kp_width.proofs.Public.{rows_have_the_width}
 use Rattle.kp_gen.specs.Lines.{text}
 use Rattle.kp_gen.specs.Line as line
 use Rattle.kp_outcome.specs.declared.status.Status.TheVariants as status
@@ -33,7 +33,7 @@ use Rattle.kp_prepared.specs.Prepared.{usual}
 use Rattle.kp_run.specs.Outcomes.{tells_width}
 use Rattle.kp_run.specs.Ends.{Ends}
 use Rattle.kp_run.specs.Solved.{GoesOn}
-use Rattle.kp_run.proofs.ExampleOutcomes.{holding}
+use Rattle.kp_run.proofs.Public.{example_holding}
 use Rattle.kp_total.specs.Follows.{EndsWith}
 use Rattle.kp_total.specs.Measuring.{AreRight, IsMeasured}
 use Rattle.kp_total.proofs.Measures.{widths_are_answered, widths_are_true}
@@ -204,7 +204,7 @@ is_row = record {
     none (suc v) lt set tags m c = absurd (omega (arith, lt))
 
 is_right : IsRightRow g i (positive 0) row
-is_right = rows_right usual.sets 3 g i (positive 0) row is_row
+is_right = rows_have_the_width usual.sets 3 g i (positive 0) row is_row
 
 are_right : AreRight g i (positive 0 ∷ []) (row ∷ [])
 are_right = AreRight.more (positive 0) [] row [] refl is_right AreRight.done
@@ -229,14 +229,14 @@ after = runs.after domain problem (tells_width g 3 (Within (row ∷ []))).text
 ends : Ends (front []) before after status.Done
 ends = runs.ends (front []) 3 is_plain domain problem cells_tree two_tree trees prepared (Within (row ∷ [])) is_report refl
 
-goes_on : GoesOn (holding domain problem) (codes "d") (codes "p") 20000 cells_tree two_tree
+goes_on : GoesOn (example_holding domain problem) (codes "d") (codes "p") 20000 cells_tree two_tree
 goes_on = record { domain = domain; problem = problem; domain_held = domain_held domain problem; problem_held = problem_held domain problem; trees = trees; prepared = prepared }
 
 is_answered : EndsWith (tells_width g 3 (Within (row ∷ []))) before after status.Done
-is_answered = widths_are_answered (front []) before after status.Done ends (holding domain problem) (measuring 3) cells_tree two_tree (Within (row ∷ [])) refl is_plain goes_on is_report
+is_answered = widths_are_answered (front []) before after status.Done ends (example_holding domain problem) (measuring 3) cells_tree two_tree (Within (row ∷ [])) refl is_plain goes_on is_report
 
-is_measured : IsMeasured (holding domain problem) (measuring 3) before after
-is_measured = (widths_are_true (front []) before after status.Done ends (holding domain problem) (measuring 3) refl is_plain).done refl
+is_measured : IsMeasured (example_holding domain problem) (measuring 3) before after
+is_measured = (widths_are_true (front []) before after status.Done ends (example_holding domain problem) (measuring 3) refl is_plain).done refl
 
 -- the whole text
 told : after.told ≡ Some (codes "width 1\ntarget (at c1) width 1\nclause (at c1) (at c2)\ntag (at c1)\ntag (at c2)\n")

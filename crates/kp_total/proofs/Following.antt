@@ -40,8 +40,8 @@ use Rattle.kp_bench.specs.Bench.{texts_of, usual_implicates, TellsBench, Benches
 use Rattle.kp_run.specs.Ends.{Ends, came, read_failed, no_memory}
 use Rattle.kp_total.specs.Follows.{AnswersAreWhole, TheDueIsCarriedOut, IsAnsweredBy, TheDueIsTheAnswer, EndsWith, OnlyDonePuts, DonePutsTheOutputs, OthersPutNothing, NoCommandPutsNothing, none_put, some_put, all_put, PutsAreOfTheDue, none_told, some_told, TextsAreOfTheDue, ReadFaultsTellNothing, ReadFaultsAreTrue, WriteFaultsAreTrue, FailedGetsAreTold, FailedWritesAreTold, MissingInputsAreFaults, InputsAreReadInOrder}
 use Rattle.kp_base.specs.declared.lit.Lit.{Lit}
-use Rattle.kp_words.proofs.OneCommand.{one_command}
-use Rattle.kp_run.proofs.Answered.{outcomes_are_answers}
+use Rattle.kp_words.proofs.Public.{words_are_one_command}
+use Rattle.kp_run.proofs.Public.{outcomes_are_answers}
 use Rattle.kp_total.proofs.OneOutcome.{one_outcome}
 
 -- ---- an answer and its outcome
@@ -356,7 +356,7 @@ not_missing m name (n ∷ ns) (t ∷ ts) held (inr at) missing = let rest : map 
 -- so a run came to no outcome of the command
 none_due : (words : List (Vec ℕ Global)) (m : FileMap) (c : Command) (name : List ℕ) (o : Outcome) → IsCommand words c → Member (inputs_of c) name → get m name ≡ None → IsDue words (Some m) o → ⊥
 none_due words m c name _ is at missing (usage a) = a c is
-none_due words m c name o is at missing (of_command d texts _ so held comes) = not_missing m name (inputs_of d) texts held (subst (λ x. Member (inputs_of x) name) (one_command words c d is so) at) missing
+none_due words m c name o is at missing (of_command d texts _ so held comes) = not_missing m name (inputs_of d) texts held (subst (λ x. Member (inputs_of x) name) (words_are_one_command words c d is so) at) missing
 
 pub missing_inputs_are_faults : MissingInputsAreFaults
 missing_inputs_are_faults words old new s (came o due carried) m c name told is at missing = absurd (none_due words m c name o is at missing (subst (λ h. IsDue words h o) told due))
@@ -378,6 +378,6 @@ cut_before m (f ∷ fs) rest (x ∷ xs) (t ∷ ts) rest_too name q e held missin
 pub inputs_are_read_in_order : InputsAreReadInOrder
 inputs_are_read_in_order words old new s (came o due carried) m c front rest name told is cut missing e = absurd (none_due words m c name o is (in_order (inputs_of c) front name rest cut) missing (subst (λ h. IsDue words h o) told due))
 inputs_are_read_in_order words old new s (read_failed d so is h i j same) m c front rest name told is_command cut missing e =
-    let one = ap inputs_of (one_command words c d is_command so) in
+    let one = ap inputs_of (words_are_one_command words c d is_command so) in
     (h.name, cut_before m front rest h.front h.texts h.rest name h.name (sym cut ∙ (one ∙ h.in_order)) (subst (λ o. AreHeld o h.front h.texts) told h.are_held) missing, h.rises)
 inputs_are_read_in_order words old new s (no_memory is h same) m c front rest name told so cut missing e = absurd cc

@@ -18,8 +18,7 @@ use Rattle.kp_width.specs.declared.report.WidthReport.TheVariants.{Within, Over}
 use Rattle.kp_width.specs.Width.{HasWidth}
 use Rattle.kp_width.specs.Rows.{AreRows, greatest_width}
 use Rattle.kp_width.specs.Answers.{IsReport}
-use Rattle.kp_width.proofs.Right.{rows_right, more_than}
-use Rattle.kp_width.proofs.Widest.{reports_right}
+use Rattle.kp_width.proofs.Public.{rows_have_the_width, covers_over_are_more_than_bound, reports_have_the_width}
 use Rattle.kp_outside.specs.Outside.{FileMap}
 use Rattle.kp_outcome.specs.declared.outcome.Outcome.{Outcome}
 use Rattle.kp_outcome.specs.declared.status.Status.{Status}
@@ -34,8 +33,7 @@ use Rattle.kp_prepared.specs.Prepared.{usual, by_texts, by_trees, early, later}
 use Rattle.kp_run.specs.Outcomes.{tells_width, MeasuresTexts, no_report, with_report, measured, IsDue, of_command}
 use Rattle.kp_run.specs.Ends.{Ends}
 use Rattle.kp_run.specs.Solved.{GoesOn}
-use Rattle.kp_run.proofs.Comes.{due_makes}
-use Rattle.kp_run.proofs.Whole.{IsCarriedOut, did, IsNoRefusal, not_refused}
+use Rattle.kp_run.proofs.Public.{due_makes, IsCarriedOut, answer_is_carried_out, IsNoRefusal, not_refused}
 use Rattle.kp_total.specs.Measuring.{WidthsAreAnswered, AreRight, IsTargeted, IsMeasured, IsTooWide, WidthsAreTrue}
 use Rattle.kp_total.proofs.Following.{ends_with}
 
@@ -52,7 +50,7 @@ widths_are_answered words old new s ends m c d p report held is g reports = ends
 module _ (limit bound : ℕ) (g : Ground) (i : Initial) where
   rights : (ts : List Lit) (rows : List WidthRow) → AreRows limit bound g i ts rows → AreRight g i ts rows
   rights _ _ AreRows.done = AreRight.done
-  rights _ _ (AreRows.more t ts row rows here others) = AreRight.more t ts row rows here.same_target (rows_right limit bound g i t row here) (rights ts rows others)
+  rights _ _ (AreRows.more t ts row rows here others) = AreRight.more t ts row rows here.same_target (rows_have_the_width limit bound g i t row here) (rights ts rows others)
 
   bounded : (ts : List Lit) (rows : List WidthRow) → AreRows limit bound g i ts rows → greatest_width rows ≤ bound
   bounded _ _ AreRows.done = omega arith
@@ -61,7 +59,7 @@ module _ (limit bound : ℕ) (g : Ground) (i : Initial) where
   within : (ts : List Lit) (rows : List WidthRow) → AreRows limit bound g i ts rows → (l : Lit) → Member ts l → (width : ℕ) × HasWidth g i l width × (width ≤ bound)
   within _ _ AreRows.done l m = absurd m
   within _ _ (AreRows.more t ts row rows here others) l m = elim m [
-    | inl e ↦ (length row.clauses, subst (λ z. HasWidth g i z (length row.clauses)) e (rows_right limit bound g i t row here).width, here.least_cover.in_bound)
+    | inl e ↦ (length row.clauses, subst (λ z. HasWidth g i z (length row.clauses)) e (rows_have_the_width limit bound g i t row here).width, here.least_cover.in_bound)
     | inr k ↦ within ts rows others l k
   ]
 
@@ -117,7 +115,7 @@ module _ (m : FileMap) (c : Width) (o : Outcome) (x : HasReport m c o) (old new 
         of_targets = of_these ts are;
         rows = rows;
         right = rights usual.sets c.bound ground formula ts rows h;
-        as_wide = reports_right usual c.bound ground formula rows (IsReport.within ts rows are h few);
+        as_wide = reports_have_the_width usual c.bound ground formula rows (IsReport.within ts rows are h few);
         in_bound = bounded usual.sets c.bound ground formula ts rows h;
         told = (answered (tells_width ground c.bound (Within rows)) told).text_is;
         put = (answered (tells_width ground c.bound (Within rows)) told).puts_are;
@@ -136,7 +134,7 @@ module _ (m : FileMap) (c : Width) (o : Outcome) (x : HasReport m c o) (old new 
         later = h.later;
         among = h.among;
         within_before = within usual.sets c.bound ground formula h.earlier h.rows h.are_rows;
-        wider = more_than usual.sets c.bound ground formula t v;
+        wider = covers_over_are_more_than_bound usual.sets c.bound ground formula t v;
         told = (answered (tells_width ground c.bound (Over t)) told).text_is;
         put = (answered (tells_width ground c.bound (Over t)) told).puts_are;
       }
@@ -144,7 +142,7 @@ module _ (m : FileMap) (c : Width) (o : Outcome) (x : HasReport m c o) (old new 
 -- it came to an answer that is no refusal
 of_answer : (words : List (Vec ℕ Global)) (old new : Outside) (s : Status) → Ends words old new s → (m : FileMap) (c : Width) → old.held ≡ Some m → IsWidth words c → IsAnswer s → ((r : Refused) → s ≡ status.Refused r → ⊥) → (o : Outcome) × HasReport m c o × IsCarriedOut o old new s
 of_answer words old new s ends m c held is answer other =
-    let w = did words old new s ends m held answer in
+    let w = answer_is_carried_out words old new s ends m held answer in
     (w.outcome, has_report words m c w.outcome is w.due (λ r e. other r (w.carried_out.status_is ∙ e)), w.carried_out)
 
 pub widths_are_true : WidthsAreTrue

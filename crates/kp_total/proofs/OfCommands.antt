@@ -29,31 +29,28 @@ use Rattle.kp_base.specs.declared.lit.Lit.{Lit}
 use Rattle.kp_base.specs.declared.ground.TagTable.{TagTable}
 use Rattle.kp_base.specs.Covering.{IsComplete, AreUncovered}
 use Rattle.kp_decided.specs.Laws.{AreProper}
-use Rattle.kp_decided.proofs.Covered.{complete_with_none}
-use Rattle.kp_cover.proofs.Answered.{none_uncovered}
+use Rattle.kp_decided.proofs.Public.{complete_with_none}
+use Rattle.kp_cover.proofs.Public.{none_uncovered_if_complete}
 use Rattle.kp_complete.specs.Lifts.{lifted as lift_of, UnliftedAt}
-use Rattle.kp_complete.proofs.Lifted.{lists_strip}
-use Rattle.kp_complete.proofs.Failing.{lift_or_fail, dont_lift}
-use Rattle.kp_sound.proofs.Lifting.{there, lift_named}
+use Rattle.kp_complete.proofs.Public.{lifted_lists_strip, lists_lift_or_fail, failing_lists_dont_lift}
+use Rattle.kp_sound.proofs.Public.{numbers_below_are_actions, lifted_steps_have_names}
 use Rattle.kp_base.specs.Machine.{MachineStep, accepts, stripped as actions_of}
 use Rattle.kp_translation.specs.Report.{counts_of}
 use Rattle.kp_plans.specs.declared.step.PlanStep.{PlanStep}
 use Rattle.kp_words.specs.Command.{IsTranslate, IsCheck, IsLift, file_of, if_named, inputs_of}
 use Rattle.kp_inputs.specs.Tables.{by_mode, with_table}
 use Rattle.kp_inputs.specs.Actions.{with_actions}
-use Rattle.kp_inputs.proofs.Ended.{found_below, as_many_numbers}
+use Rattle.kp_inputs.proofs.Public.{found_numbers_are_actions, as_many_found_as_steps, table_of_source_is_for_trees}
 use Rattle.kp_run.specs.Completeness.{PrintsComplete}
-use Rattle.kp_run.proofs.CompleteText.{none_uncovered as none_told, complete_told}
-use Rattle.kp_prepared.proofs.Problems.{problem_of}
+use Rattle.kp_run.proofs.Public.{complete_text_leaves_none as none_told, complete_is_told, prepared_is_proper}
+use Rattle.kp_prepared.proofs.Public.{problem_of_trees}
 use Rattle.kp_run.specs.Solved.{GoesOn}
-use Rattle.kp_run.proofs.Solved.{proper}
 use Rattle.kp_total.specs.Commands.{HasTranslation, TranslationsAreAnswered, CompleteIsTrue, MergesAreListed, ClashesAreAnswered, HasVerdict, ChecksAreAnswered, ChecksAreTrue, HasLift, LiftsAreAnswered, LiftsAreTrue, StripsAreAnswered}
 use Rattle.kp_total.specs.Follows.{IsAnsweredBy}
 use Rattle.kp_total.proofs.Following.{answers_are_whole, ends_with}
 use Rattle.kp_total.proofs.OneOutcome.{one_outcome}
 use Rattle.kp_total.proofs.YesPlans.{yes_is_a_plan}
 use Rattle.kp_total.proofs.LiftedPlans.{lifted_plans}
-use Rattle.kp_inputs.proofs.TablesFor.{table_for}
 
 -- what the files that a translation names come to
 merges_due : (words : List (Vec ℕ Global)) (m : FileMap) (c : Translate) (domain problem : List ℕ) (merges : List (List ℕ)) (o : Outcome)
@@ -80,12 +77,12 @@ answered_by words old new s ends m o held due answer =
     subst (λ z. IsAnsweredBy z old new s) same whole.answered
 
 proper_of : (m : FileMap) (domain problem : List ℕ) (limit : ℕ) (d : Domain Word) (p : Problem Word) → GoesOn m domain problem limit d p → AreProper (ground_of d p) (initial_of d p)
-proper_of m domain problem limit d p g = proper limit d p g.trees.no_fault g.prepared
+proper_of m domain problem limit d p g = prepared_is_proper limit d p g.trees.no_fault g.prepared
 
 complete_text : (g : Ground) (i : Initial) (table : TagTable) (ls : List Lit) → AreProper g i → AreUncovered g i table ls → PrintsComplete (counts_of g table ++ coverage_text g.atoms ls) ↔ IsComplete g i table
-complete_text g i table ls proper are = (
-  λ printed. complete_with_none g i table proper (subst (AreUncovered g i table) (none_told (counts_of g table) g.atoms ls printed) are),
-  λ whole. subst (λ z. PrintsComplete (counts_of g table ++ coverage_text g.atoms z)) (sym (none_uncovered g i table ls are whole)) (complete_told g table),
+complete_text g i table ls prepared_is_proper are = (
+  λ printed. complete_with_none g i table prepared_is_proper (subst (AreUncovered g i table) (none_told (counts_of g table) g.atoms ls printed) are),
+  λ whole. subst (λ z. PrintsComplete (counts_of g table ++ coverage_text g.atoms z)) (sym (none_uncovered_if_complete g i table ls are whole)) (complete_is_told g table),
 )
 
 pub complete_is_true : CompleteIsTrue
@@ -108,7 +105,7 @@ check_due words m c d p steps j is g h =
     let o = tells (ground_of d p) (length steps) j in
     of_command (commands.Check c) (g.domain ∷ g.problem ∷ h.text ∷ []) o is (rw (g.domain_held, g.problem_held, h.held) refl)
     (checked c g.domain g.problem h.text o (later d p g.trees g.prepared (with_actions steps h.numbers h.has_actions
-    (record { judged = j; answers = h.answers; told = ap (λ n. tells (ground_of d p) n j) (sym (as_many_numbers (ground_of d p) steps h.numbers h.has_actions.known)) }))))
+    (record { judged = j; answers = h.answers; told = ap (λ n. tells (ground_of d p) n j) (sym (as_many_found_as_steps (ground_of d p) steps h.numbers h.has_actions.known)) }))))
 
 pub checks_are_answered : ChecksAreAnswered
 checks_are_answered words old new s ends m c d p steps j held is g h = ends_with words old new s ends m _ held (check_due words m c d p steps j is g h)
@@ -124,7 +121,7 @@ yes_done g steps j is = ap (λ v. (tells g steps v).status) is
 pub checks_are_true : ChecksAreTrue
 checks_are_true words old new s ends m c d p steps j held is g h answer =
     let a = answered_by words old new s ends m _ held (check_due words m c d p steps j is g h) answer in
-    let plan = yes_is_a_plan g.domain g.problem (problem_of g.domain g.problem d p g.trees) g.prepared.started.initial steps h.numbers j h.has_actions.known h.answers in
+    let plan = yes_is_a_plan g.domain g.problem (problem_of_trees g.domain g.problem d p g.trees) g.prepared.started.initial steps h.numbers j h.has_actions.known h.answers in
     ((λ d_is. plan.0 (done_yes (ground_of d p) (length steps) j (sym a.status_is ∙ d_is))), (λ is_plan. a.status_is ∙ yes_done (ground_of d p) (length steps) j (plan.1 is_plan)))
 
 -- ---- lifts
@@ -149,23 +146,23 @@ accepted_true : (words : List (Vec ℕ Global)) (old new : Outside) (s : Status)
     → (s ≡ status.Done) ↔ ((ms : List MachineStep) × (accepts (ground_of d p) table ms ≡ true) × (actions_of ms ≡ ns))
 accepted_true words old new s ends m c d p table ns held is g h answer =
     let g' = ground_of d p in
-    let inside = found_below g' h.steps ns h.has_actions.known in
-    elim (lift_or_fail g' table ns (there g' ns inside)) [
+    let inside = found_numbers_are_actions g' h.steps ns h.has_actions.known in
+    elim (lists_lift_or_fail g' table ns (numbers_below_are_actions g' ns inside)) [
       | inl accepted ↦
-          let named = lift_named g' table ns inside in
+          let named = lifted_steps_have_names g' table ns inside in
           let does = lifts named.0 (record { steps_are = named.1; accepted = accepted }) refl in
           let a = answered_by words old new s ends m _ held (lift_due words m c d p table ns _ is g h does) answer in
-          ((λ e. (lift_of g' table ns, accepted, lists_strip g' table ns)), (λ e. a.status_is))
+          ((λ e. (lift_of g' table ns, accepted, lifted_lists_strip g' table ns)), (λ e. a.status_is))
       | inr f ↦
           let does = fails f.0 f.1 f.2 refl in
           let a = answered_by words old new s ends m _ held (lift_due words m c d p table ns _ is g h does) answer in
-          ((λ e. absurd (let not_done = sym a.status_is ∙ e in cc)), (λ w. absurd (false≢true (sym (dont_lift g' table w.0 f.0 f.1 (subst (λ z. UnliftedAt g' table z f.0 f.1) (sym w.2) f.2)) ∙ w.1))))
+          ((λ e. absurd (let not_done = sym a.status_is ∙ e in cc)), (λ w. absurd (false≢true (sym (failing_lists_dont_lift g' table w.0 f.0 f.1 (subst (λ z. UnliftedAt g' table z f.0 f.1) (sym w.2) f.2)) ∙ w.1))))
     ]
 
 pub lifts_are_true : LiftsAreTrue
 lifts_are_true words old new s ends m c d p table ns held is g h answer =
-    let for = table_for d p c.source h.merges table g.prepared.started.small h.fits h.has_table in
-    let plans = lifted_plans g.domain g.problem (problem_of g.domain g.problem d p g.trees) table for h.steps ns h.has_actions.known in
+    let for = table_of_source_is_for_trees d p c.source h.merges table g.prepared.started.small h.fits h.has_table in
+    let plans = lifted_plans g.domain g.problem (problem_of_trees g.domain g.problem d p g.trees) table for h.steps ns h.has_actions.known in
     let lists = accepted_true words old new s ends m c d p table ns held is g h answer in
     ((λ e. plans.0 (lists.0 e)), (λ w. lists.1 (plans.1 w)))
 

@@ -10,7 +10,7 @@ use Rattle.kp_plans.specs.declared.step.PlanStep.{PlanStep}
 use Rattle.kp_plans.specs.PlanFiles.{names}
 use Rattle.kp_plans.specs.Printed.{plan_text}
 use Rattle.kp_plans.specs.Stripping.{IsFirstUnstripped}
-use Rattle.kp_plans.proofs.WholePlans.{read_once, refused_once, never_two}
+use Rattle.kp_plans.proofs.Public.{plans_read_once, plans_refuse_once, plans_never_both}
 use Rattle.kp_printed.specs.Refusals.{nothing}
 use Rattle.kp_prepared.specs.Refusing.{refuses}
 use Rattle.kp_run.specs.Outcomes.{prints, StripsText, too_long, no_plan, no_strip, strips}
@@ -65,20 +65,20 @@ strips_once text o u (too_long a e) (no_plan r b c f) = absurd (omega (arith, a,
 strips_once text o u (too_long a e) (no_strip ss s b c d f) = absurd (omega (arith, a, b))
 strips_once text o u (too_long a e) (strips ss as' b c d f) = absurd (omega (arith, a, b))
 strips_once text o u (no_plan r a h e) (too_long b f) = absurd (omega (arith, a, b))
-strips_once text o u (no_plan r a h e) (no_plan s b k f) = e ∙ (ap (refuses nothing) (refused_once text r s h k) ∙ sym f)
-strips_once text o u (no_plan r a h e) (no_strip ss s b k d f) = absurd (never_two text ss r k h)
-strips_once text o u (no_plan r a h e) (strips ss as' b k d f) = absurd (never_two text ss r k h)
+strips_once text o u (no_plan r a h e) (no_plan s b k f) = e ∙ (ap (refuses nothing) (plans_refuse_once text r s h k) ∙ sym f)
+strips_once text o u (no_plan r a h e) (no_strip ss s b k d f) = absurd (plans_never_both text ss r k h)
+strips_once text o u (no_plan r a h e) (strips ss as' b k d f) = absurd (plans_never_both text ss r k h)
 strips_once text o u (no_strip ss s a h n e) (too_long b f) = absurd (omega (arith, a, b))
-strips_once text o u (no_strip ss s a h n e) (no_plan r b k f) = absurd (never_two text ss r h k)
+strips_once text o u (no_strip ss s a h n e) (no_plan r b k f) = absurd (plans_never_both text ss r h k)
 strips_once text o u (no_strip ss s a h n e) (no_strip ts t b k m f) =
-    let same = read_once text ss ts h k in
+    let same = plans_read_once text ss ts h k in
     let one = one_first ts s t (subst (λ z. IsFirstUnstripped z s) same n) m in
     e ∙ (ap (λ (z : PlanStep). refuses nothing (refusals.PlanSyntax z.place)) one ∙ sym f)
-strips_once text o u (no_strip ss s a h n e) (strips ts as' b k m f) = absurd (never_stripped ts s as' (subst (λ z. IsFirstUnstripped z s) (read_once text ss ts h k) n) m)
+strips_once text o u (no_strip ss s a h n e) (strips ts as' b k m f) = absurd (never_stripped ts s as' (subst (λ z. IsFirstUnstripped z s) (plans_read_once text ss ts h k) n) m)
 strips_once text o u (strips ss as' a h n e) (too_long b f) = absurd (omega (arith, a, b))
-strips_once text o u (strips ss as' a h n e) (no_plan r b k f) = absurd (never_two text ss r h k)
-strips_once text o u (strips ss as' a h n e) (no_strip ts t b k m f) = absurd (never_stripped ts t as' m (subst (λ z. strip (names z) ≡ Some as') (read_once text ss ts h k) n))
+strips_once text o u (strips ss as' a h n e) (no_plan r b k f) = absurd (plans_never_both text ss r h k)
+strips_once text o u (strips ss as' a h n e) (no_strip ts t b k m f) = absurd (never_stripped ts t as' m (subst (λ z. strip (names z) ≡ Some as') (plans_read_once text ss ts h k) n))
 strips_once text o u (strips ss as' a h n e) (strips ts bs b k m f) =
-    let there = subst (λ z. strip (names z) ≡ Some as') (read_once text ss ts h k) n in
+    let there = subst (λ z. strip (names z) ≡ Some as') (plans_read_once text ss ts h k) n in
     let one : as' ≡ bs = cc (there, m) in
     e ∙ (ap (λ z. prints (plan_text z)) one ∙ sym f)

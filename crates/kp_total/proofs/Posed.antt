@@ -1,16 +1,16 @@
 -- What a run of `solve`, of `classical` or of `bench` is about is one pair of trees, and one table.
 use Rattle.std.proofs.Common.{◌≡◌, ℕ, List, [], refl, sym, ◌∙◌, subst}
 use Rattle.kp_base.specs.declared.ground.TagTable.{TagTable}
+use Rattle.kp_base.proofs.Cases.{some_alike}
 use Rattle.kp_grammar.specs.declared.tree.Word.{Word}
 use Rattle.kp_grammar.specs.Trees.{Domain, Problem}
 use Rattle.kp_given.specs.Translations.{ground_of, initial_of}
 use Rattle.kp_outside.specs.Outside.{FileMap}
 use Rattle.kp_words.specs.Names.{Source, of_mode}
 use Rattle.kp_prepared.specs.Texts.{HaveTrees}
-use Rattle.kp_prepared.proofs.OneText.{same_domain, same_problem}
+use Rattle.kp_prepared.proofs.Public.{texts_have_one_domain, texts_have_one_problem}
 use Rattle.kp_inputs.specs.Tables.{HasTable}
-use Rattle.kp_inputs.proofs.OneTable.{one_table}
-use Rattle.kp_inputs.proofs.OnePlan.{some_alike}
+use Rattle.kp_inputs.proofs.Public.{sources_have_one_table}
 use Rattle.kp_run.specs.Solved.{HasTask}
 use Rattle.kp_total.specs.Solving.{PosedOnce, ClassicalPosedOnce}
 use Rattle.kp_total.specs.Benching.{BenchPosedOnce}
@@ -20,13 +20,13 @@ use Rattle.kp_total.specs.Benching.{BenchPosedOnce}
 trees_once : (x y v w : List ℕ) (d e : Domain Word) (p q : Problem Word) → x ≡ v → y ≡ w → HaveTrees x y d p → HaveTrees v w e q → (d ≡ e) × (p ≡ q)
 trees_once x y v w d e p q first second h k =
     let there = subst (λ z. HaveTrees v z d p) second (subst (λ z. HaveTrees z y d p) first h) in
-    (same_domain v w d e p q there k, same_problem v w d e p q there k)
+    (texts_have_one_domain v w d e p q there k, texts_have_one_problem v w d e p q there k)
 
 table_once : (m : FileMap) (source : Source) (d e : Domain Word) (p q : Problem Word) (t v : TagTable) → d ≡ e → p ≡ q → HasTask m source d p t → HasTask m source e q v → t ≡ v
 table_once m source d e p q t v first second h k =
     let there = subst (λ z. HasTask m source e z t) second (subst (λ z. HasTask m source z p t) first h) in
     let same = some_alike there.merges k.merges (sym there.held ∙ k.held) in
-    (one_table (ground_of e q) (initial_of e q) source k.merges).tables t v (subst (λ z. HasTable (ground_of e q) (initial_of e q) source z t) same there.has_table) k.has_table
+    (sources_have_one_table (ground_of e q) (initial_of e q) source k.merges).tables t v (subst (λ z. HasTable (ground_of e q) (initial_of e q) source z t) same there.has_table) k.has_table
 
 pub posed_once : PosedOnce
 posed_once m c x y =
@@ -49,4 +49,4 @@ bench_posed_once c x y =
     mode_table_once : x.domain_tree ≡ y.domain_tree → x.problem_tree ≡ y.problem_tree → HasTable (ground_of x.domain_tree x.problem_tree) (initial_of x.domain_tree x.problem_tree) (of_mode c.mode) [] x.table → x.table ≡ y.table
     mode_table_once first second has =
         let there = subst (λ z. HasTable (ground_of y.domain_tree z) (initial_of y.domain_tree z) (of_mode c.mode) [] x.table) second (subst (λ z. HasTable (ground_of z x.problem_tree) (initial_of z x.problem_tree) (of_mode c.mode) [] x.table) first has) in
-        (one_table (ground_of y.domain_tree y.problem_tree) (initial_of y.domain_tree y.problem_tree) (of_mode c.mode) []).tables x.table y.table there y.has_table
+        (sources_have_one_table (ground_of y.domain_tree y.problem_tree) (initial_of y.domain_tree y.problem_tree) (of_mode c.mode) []).tables x.table y.table there y.has_table

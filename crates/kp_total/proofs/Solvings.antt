@@ -15,7 +15,7 @@ use Rattle.kp_inputs.specs.Tables.{with_table}
 use Rattle.kp_solving.specs.Solving.{SolvesGround}
 use Rattle.kp_run.specs.Outcomes.{solved, IsDue, of_command}
 use Rattle.kp_run.specs.Solved.{GoesOn, HasTask}
-use Rattle.kp_run.proofs.Solved.{solve_true}
+use Rattle.kp_run.proofs.Public.{solve_is_true}
 use Rattle.kp_total.specs.Solving.{SolvingsAreAnswered, SolvedIsAPlan, NoPlanIsTrue, SpentIsTrue}
 use Rattle.kp_total.proofs.Following.{ends_with}
 
@@ -31,10 +31,10 @@ solvings_are_answered words old new s ends m c d p table o held is g h does = en
 -- ---- the laws
 
 pub solved_is_a_plan : SolvedIsAPlan
-solved_is_a_plan words old new s ends m c held is = (solve_true words old new s ends m c held is).done
+solved_is_a_plan words old new s ends m c held is = (solve_is_true words old new s ends m c held is).done
 
 pub no_plan_is_true : NoPlanIsTrue
-no_plan_is_true words old new s ends m c held is = (solve_true words old new s ends m c held is).negative
+no_plan_is_true words old new s ends m c held is = (solve_is_true words old new s ends m c held is).negative
 
 pub spent_is_true : SpentIsTrue
-spent_is_true words old new s ends m c held is = (solve_true words old new s ends m c held is).spent
+spent_is_true words old new s ends m c held is = (solve_is_true words old new s ends m c held is).spent

@@ -17,51 +17,44 @@ use Rattle.kp_grammar.specs.Trees.{Domain, Problem}
 use Rattle.kp_meaning.specs.Numbering.{numbered_problem}
 use Rattle.kp_meaning.specs.Strip.{stripped, strip}
 use Rattle.kp_given.specs.Translations.{ground_of, initial_of}
-use Rattle.kp_given.proofs.Starts.{formulas_over_atoms, states_are_models}
+use Rattle.kp_given.proofs.Public.{formulas_speak_of_ground_atoms, initial_states_are_models, tables_can_be_written}
 use Rattle.kp_task.specs.Task.{task_of}
 use Rattle.kp_task.specs.Weight.{weight_of}
 use Rattle.kp_classic.specs.declared.task.Task.{Task}
 use Rattle.kp_ktask.specs.Translated.{FitsLimits, RefusesTask, facts_over, weight_over}
 use Rattle.kp_merges.specs.Printed.{merges_of, merges_text}
 use Rattle.kp_decided.specs.Laws.{AreProper}
-use Rattle.kp_decided.proofs.Counting.{formulas_ascend}
-use Rattle.kp_decided.proofs.Covered.{coverages_decided}
-use Rattle.kp_decided.proofs.Judging.{verdicts_decided}
-use Rattle.kp_decided.proofs.Widths.{widths_decided}
+use Rattle.kp_decided.proofs.Public.{formulas_are_ascending, coverages_decided, verdicts_decided, widths_decided}
 use Rattle.kp_outcome.specs.declared.outcome.Outcome.{Outcome}
 use Rattle.kp_outcome.specs.Ends.{most_bytes}
 use Rattle.kp_plans.specs.declared.step.PlanStep.{PlanStep}
 use Rattle.kp_plans.specs.PlanFiles.{names}
 use Rattle.kp_plans.specs.Printed.{plan_text}
 use Rattle.kp_plans.specs.Stripping.{IsFirstUnstripped}
-use Rattle.kp_plans.proofs.WholePlans.{always_some as plans_always_one}
+use Rattle.kp_plans.proofs.Public.{plans_always_one}
 use Rattle.kp_printed.specs.Refusals.{nothing}
 use Rattle.kp_words.specs.Names.{of_mode, Translate, Lift, Solve, Width, Bench}
 use Rattle.kp_words.specs.declared.lent.CommandRef.TheVariants as commands
 use Rattle.kp_words.specs.Command.{file_of, if_named, inputs_of}
-use Rattle.kp_words.proofs.Decided.{words_decided}
+use Rattle.kp_words.proofs.Public.{words_decided}
 use Rattle.kp_prepared.specs.Texts.{HaveTrees}
 use Rattle.kp_prepared.specs.Refusing.{refuses, named_in}
 use Rattle.kp_prepared.specs.Prepared.{usual, IsPrepared}
-use Rattle.kp_prepared.proofs.Counted.{is_of_atoms}
-use Rattle.kp_inputs.proofs.Ended.{found_below}
-use Rattle.kp_inputs.proofs.Commands.{by_table_some, by_plan_some}
-use Rattle.kp_complete.proofs.Failing.{lift_or_fail}
-use Rattle.kp_sound.proofs.Lifting.{there, lift_named}
+use Rattle.kp_prepared.proofs.Public.{usual_ground_is_of_its_atoms, problem_of_trees}
+use Rattle.kp_inputs.proofs.Public.{found_numbers_are_actions, by_table_some_outcome, by_plan_some_outcome, table_of_source_is_for_trees}
+use Rattle.kp_complete.proofs.Public.{lists_lift_or_fail}
+use Rattle.kp_sound.proofs.Public.{numbers_below_are_actions as there, lifted_steps_have_names}
 use Rattle.kp_printed.specs.Lifting.{unlifted_text}
 use Rattle.kp_solving.specs.Solving.{denies, SolvesGround, over as too_large}
 use Rattle.kp_run.specs.Outcomes.{shows_usage, translates, TranslatesGround, over, done, TranslatesTrees, ListsMerges, MergesTrees, prints, StripsText, too_long, no_plan, no_strip, strips, tells, TellsJudged, ChecksTrees, failing_step, LiftsActions, lifts, fails, LiftsPlan, no_task, with_task, LiftsTrees, SolvesTrees, tells_width, no_report, with_report, MeasuresTrees, ComesTo, translated, merged, checked, lifted, solved, measured, benched, usage, of_command}
 use Rattle.kp_run.specs.Outcomes as outcomes
 use Rattle.kp_total.specs.Laws.{CommandsHaveAnOutcome, HasSomeOutcome}
-use Rattle.kp_given.proofs.Tables.{tables_written}
 use Rattle.kp_inputs.specs.Tables.{HasTable}
-use Rattle.kp_inputs.proofs.TablesFor.{table_for}
-use Rattle.kp_prepared.proofs.Problems.{problem_of}
 use Rattle.kp_total.proofs.SomeStart.{some_comes}
-use Rattle.kp_machine.proofs.Exclusive.{never_clashes}
+use Rattle.kp_machine.proofs.Public.{no_clash_under_exclusive_pairs as never_clashes}
 use Rattle.kp_bench.specs.Bench.{texts_of, usual_implicates, BenchesGround, over as too_large_to_bench, BenchesTrees}
 use Rattle.kp_total.proofs.SomeSearch.{some_search, some_bench, some_classical_comes}
-use Rattle.kp_run.proofs.Fitting.{task_fits}
+use Rattle.kp_run.proofs.Public.{task_of_trees_fits}
 
 -- ---- tables and their tasks
 
@@ -77,10 +70,10 @@ fits_or_refused t = elim (cases_lt 262144 (length t.facts)) [
 
 module _ (limit : ℕ) (d : Domain Word) (p : Problem Word) (x y : List ℕ) (trees : HaveTrees x y d p) (ready : IsPrepared limit d p) where
   own : IsOfItsAtoms (ground_of d p)
-  own = is_of_atoms (numbered_problem d p) (ground_of d p) ready.started.small
+  own = usual_ground_is_of_its_atoms (numbered_problem d p) (ground_of d p) ready.started.small
 
   proper : AreProper (ground_of d p) (initial_of d p)
-  proper = record { own_atoms = own; over = formulas_over_atoms d p; ascending = formulas_ascend (numbered_problem d p); model = (states_are_models d p trees.no_fault).0 ready.started.initial }
+  proper = record { own_atoms = own; over = formulas_speak_of_ground_atoms d p; ascending = formulas_are_ascending (numbered_problem d p); model = (initial_states_are_models d p trees.no_fault).0 ready.started.initial }
 
   -- ---- a translation
 
@@ -93,24 +86,24 @@ module _ (limit : ℕ) (d : Domain Word) (p : Problem Word) (x y : List ℕ) (tr
   ]
 
   of_translate : (c : Translate) (merges : List (List ℕ)) → length merges ≡ length (if_named (file_of c.source)) → (o : Outcome) × TranslatesTrees c merges d p o
-  of_translate c merges many = by_table_some (ground_of d p) (initial_of d p) c.source merges (TranslatesGround c (ground_of d p) (initial_of d p)) proper many (λ t has. of_table c t)
+  of_translate c merges many = by_table_some_outcome (ground_of d p) (initial_of d p) c.source merges (TranslatesGround c (ground_of d p) (initial_of d p)) proper many (λ t has. of_table c t)
 
   of_listed : (mode : Mode) → (o : Outcome) × MergesTrees mode d p o
-  of_listed mode = by_table_some (ground_of d p) (initial_of d p) (of_mode mode) [] (ListsMerges (ground_of d p)) proper refl (λ t has. (prints (merges_text (ground_of d p).atoms (merges_of t)), refl))
+  of_listed mode = by_table_some_outcome (ground_of d p) (initial_of d p) (of_mode mode) [] (ListsMerges (ground_of d p)) proper refl (λ t has. (prints (merges_text (ground_of d p).atoms (merges_of t)), refl))
 
   -- ---- a check
 
   of_check : (plan : List ℕ) → (o : Outcome) × ChecksTrees plan d p o
-  of_check plan = by_plan_some (ground_of d p) plan (TellsJudged (ground_of d p) (initial_of d p)) (λ ss ns has.
-      let v = verdicts_decided (length (ground_of d p).atoms) (ground_of d p) (initial_of d p) ns (formulas_over_atoms d p) refl own (found_below (ground_of d p) ss ns has.known) in
+  of_check plan = by_plan_some_outcome (ground_of d p) plan (TellsJudged (ground_of d p) (initial_of d p)) (λ ss ns has.
+      let v = verdicts_decided (length (ground_of d p).atoms) (ground_of d p) (initial_of d p) ns (formulas_speak_of_ground_atoms d p) refl own (found_numbers_are_actions (ground_of d p) ss ns has.known) in
       (tells (ground_of d p) (length ns) v.0, record { judged = v.0; answers = v.1; told = refl }))
 
   -- ---- a lift
 
   of_actions : (table : TagTable) (ns : List ℕ) → list_all (λ n. nat_lt n (length (ground_of d p).actions)) ns ≡ true → (o : Outcome) × LiftsActions (ground_of d p) table ns o
-  of_actions table ns inside = elim (lift_or_fail (ground_of d p) table ns (there (ground_of d p) ns inside)) [
+  of_actions table ns inside = elim (lists_lift_or_fail (ground_of d p) table ns (there (ground_of d p) ns inside)) [
     | inl accepted ↦
-        let named = lift_named (ground_of d p) table ns inside in
+        let named = lifted_steps_have_names (ground_of d p) table ns inside in
         (prints (plan_text named.0), lifts named.0 (record { steps_are = named.1; accepted = accepted }) refl)
     | inr f ↦ (denies (unlifted_text (ground_of d p).atoms (failing_step (length ns) f.0) f.1), fails f.0 f.1 f.2 refl)
   ]
@@ -119,12 +112,12 @@ module _ (limit : ℕ) (d : Domain Word) (p : Problem Word) (x y : List ℕ) (tr
   of_plan_lifted plan table = elim (fits_or_refused (task_of (ground_of d p) table)) [
     | inr r ↦ (refuses nothing r.0, no_task r.0 r.1 refl)
     | inl fits ↦
-        let o = by_plan_some (ground_of d p) plan (LiftsActions (ground_of d p) table) (λ ss ns has. of_actions table ns (found_below (ground_of d p) ss ns has.known)) in
+        let o = by_plan_some_outcome (ground_of d p) plan (LiftsActions (ground_of d p) table) (λ ss ns has. of_actions table ns (found_numbers_are_actions (ground_of d p) ss ns has.known)) in
         (o.0, with_task fits o.1)
   ]
 
   of_lift : (c : Lift) (merges : List (List ℕ)) (plan : List ℕ) → length merges ≡ length (if_named (file_of c.source)) → (o : Outcome) × LiftsTrees c merges plan d p o
-  of_lift c merges plan many = by_table_some (ground_of d p) (initial_of d p) c.source merges (LiftsPlan (ground_of d p) plan) proper many (λ t has. of_plan_lifted plan t)
+  of_lift c merges plan many = by_table_some_outcome (ground_of d p) (initial_of d p) c.source merges (LiftsPlan (ground_of d p) plan) proper many (λ t has. of_plan_lifted plan t)
 
   -- ---- a search
 
@@ -132,12 +125,12 @@ module _ (limit : ℕ) (d : Domain Word) (p : Problem Word) (x y : List ℕ) (tr
   of_search c merges table has = elim (fits_or_refused (task_of (ground_of d p) table)) [
     | inr r ↦ (refuses nothing r.0, too_large r.0 r.1 refl)
     | inl fits ↦
-        let for = table_for d p c.source merges table ready.started.small fits has in
-        some_search c.classical c.budget (ground_of d p) (initial_of d p) table proper fits (task_fits d p table ready.started.small fits (tables_written x y (problem_of x y d p trees) table for))
+        let for = table_of_source_is_for_trees d p c.source merges table ready.started.small fits has in
+        some_search c.classical c.budget (ground_of d p) (initial_of d p) table proper fits (task_of_trees_fits d p table ready.started.small fits (tables_can_be_written x y (problem_of_trees x y d p trees) table for))
   ]
 
   of_solve : (c : Solve) (merges : List (List ℕ)) → length merges ≡ length (if_named (file_of c.source)) → (o : Outcome) × SolvesTrees c merges d p o
-  of_solve c merges many = by_table_some (ground_of d p) (initial_of d p) c.source merges (SolvesGround c.classical c.budget (ground_of d p) (initial_of d p)) proper many (λ t has. of_search c merges t has)
+  of_solve c merges many = by_table_some_outcome (ground_of d p) (initial_of d p) c.source merges (SolvesGround c.classical c.budget (ground_of d p) (initial_of d p)) proper many (λ t has. of_search c merges t has)
 
   -- ---- a width
 
@@ -153,13 +146,13 @@ module _ (limit : ℕ) (d : Domain Word) (p : Problem Word) (x y : List ℕ) (tr
   of_bench_table c table has = elim (fits_or_refused (task_of (ground_of d p) table)) [
     | inr r ↦ (refuses nothing r.0, too_large_to_bench r.0 r.1 refl)
     | inl fits ↦
-        let for = table_for d p (of_mode c.mode) [] table ready.started.small fits has in
-        let writable = tables_written x y (problem_of x y d p trees) table for in
-        some_bench c (ground_of d p) (initial_of d p) table proper fits (task_fits d p table ready.started.small fits writable) (record { writable = writable; right = for.right; valid = for.valid; never_clashes = never_clashes (ground_of d p) (initial_of d p) ready.clash_free })
+        let for = table_of_source_is_for_trees d p (of_mode c.mode) [] table ready.started.small fits has in
+        let writable = tables_can_be_written x y (problem_of_trees x y d p trees) table for in
+        some_bench c (ground_of d p) (initial_of d p) table proper fits (task_of_trees_fits d p table ready.started.small fits writable) (record { writable = writable; right = for.right; valid = for.valid; never_clashes = never_clashes (ground_of d p) (initial_of d p) ready.clash_free })
   ]
 
   of_bench : (c : Bench) → (o : Outcome) × BenchesTrees c d p o
-  of_bench c = by_table_some (ground_of d p) (initial_of d p) (of_mode c.mode) [] (BenchesGround c (ground_of d p) (initial_of d p)) proper refl (λ t has. of_bench_table c t has)
+  of_bench c = by_table_some_outcome (ground_of d p) (initial_of d p) (of_mode c.mode) [] (BenchesGround c (ground_of d p) (initial_of d p)) proper refl (λ t has. of_bench_table c t has)
 
 -- ---- a plan file
 

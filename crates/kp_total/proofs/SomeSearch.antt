@@ -13,45 +13,41 @@ use Rattle.kp_meaning.specs.Numbering.{numbered_problem}
 use Rattle.kp_names.specs.Resolved.{first_unsure, place_in}
 use Rattle.kp_classic.specs.Fits.{IsFit}
 use Rattle.kp_decided.specs.Laws.{AreProper}
-use Rattle.kp_decided.proofs.Covered.{coverages_decided}
-use Rattle.kp_decided.proofs.Modelled.{model_or_none}
-use Rattle.kp_decided.proofs.Sizes.{sizes_decided}
+use Rattle.kp_decided.proofs.Public.{coverages_decided, model_or_none, sizes_decided}
 use Rattle.kp_search.specs.declared.found.Found.{Found}
 use Rattle.kp_search.specs.declared.found.Found.TheVariants.{Plan, NoPlan, Spent}
 use Rattle.kp_task.specs.Task.{task_of}
 use Rattle.kp_ktask.specs.Translated.{FitsLimits}
 use Rattle.kp_given.specs.Translations.{ground_of, initial_of}
-use Rattle.kp_given.proofs.Starts.{states_are_models, formulas_over_atoms}
+use Rattle.kp_given.proofs.Public.{initial_states_are_models, formulas_speak_of_ground_atoms}
 use Rattle.kp_printed.specs.Refusals.{nothing}
 use Rattle.kp_printed.specs.Searches.{no_plan_line, no_plan_text}
 use Rattle.kp_outcome.specs.declared.outcome.Outcome.{Outcome}
 use Rattle.kp_prepared.specs.Refusing.{refuses}
 use Rattle.kp_prepared.specs.Prepared.{usual}
 use Rattle.kp_classical.specs.Classical.{classical, IsCertain, IsSmall, IsClassical, RefusesClassical, not_classical, too_large, no_initial_state, by_texts, by_trees, ComesClassical, early, later, task_of as classical_task}
-use Rattle.kp_classical.proofs.Plans.{have_names as actions_named}
+use Rattle.kp_classical.proofs.Public.{classical_successes_have_names as actions_named}
 use Rattle.kp_solving.specs.Solving.{Finds, solves, denies, spends, SolvesGround, searched, SolvesClassical}
-use Rattle.kp_search.proofs.ByAdded.{some_end_by_added}
-use Rattle.kp_solving.proofs.Searches.{ends_true}
-use Rattle.kp_solving.proofs.Operators.{have_names}
+use Rattle.kp_search.proofs.Public.{has_some_end_by_added}
+use Rattle.kp_solving.proofs.Public.{ends_are_true, operators_have_names}
 use Rattle.kp_solving.specs.Operators.{acts_among}
 use Rattle.kp_words.specs.Names.{Bench}
 use Rattle.kp_bench.specs.Summary.{summary_text}
 use Rattle.kp_bench.specs.Bench.{sums_up, BenchesGround, searched as by_bench}
 use Rattle.kp_bench.specs.Working.{IsSafe}
-use Rattle.kp_bench.proofs.Working.{work}
-use Rattle.kp_bench.proofs.Told.{plan_told}
-use Rattle.kp_run.proofs.Fitting.{classical_fit}
+use Rattle.kp_bench.proofs.Public.{succeeding_actions_are_plan, plan_is_told}
+use Rattle.kp_run.proofs.Public.{classical_task_fits}
 use Rattle.kp_total.proofs.SomeStart.{texts_decided}
 
 -- ---- a ground problem with a table
 
 -- the search of a task that fits comes to something that is told
 pub some_search : (name : Option (List ℕ)) (budget : ℕ) (g : Ground) (i : Initial) (table : TagTable) → AreProper g i → FitsLimits (task_of g table) usual → IsFit (task_of g table) → (o : Outcome) × SolvesGround name budget g i table o
-some_search name budget g i table proper fits fit = let end = some_end_by_added (task_of g table) budget fit in by end.0 end.1
+some_search name budget g i table proper fits fit = let end = has_some_end_by_added (task_of g table) budget fit in by end.0 end.1
   where
     by : (found : Found) → Finds (task_of g table) budget found → (o : Outcome) × SolvesGround name budget g i table o
     by (Plan ops n) finds =
-        let names = have_names g table ops (ends_true (task_of g table) budget (Plan ops n) fit finds).0 in
+        let names = operators_have_names g table ops (ends_are_true (task_of g table) budget (Plan ops n) fit finds).0 in
         (solves name names.0 names.1, searched (Plan ops n) fits finds (names.0, names.1, names.2, refl))
     by NoPlan finds = let ls = coverages_decided g i table proper in (denies (no_plan_text ls.0), searched NoPlan fits finds (ls.0, ls.1, refl))
     by (Spent n) finds = (spends n, searched (Spent n) fits finds refl)
@@ -60,15 +56,15 @@ some_search name budget g i table proper fits fit = let end = some_end_by_added 
 
 -- so does that of a task that is safe
 pub some_bench : (c : Bench) (g : Ground) (i : Initial) (table : TagTable) → AreProper g i → FitsLimits (task_of g table) usual → IsFit (task_of g table) → IsSafe g i table → (o : Outcome) × BenchesGround c g i table o
-some_bench c g i table proper fits fit safe = let end = some_end_by_added (task_of g table) c.budget fit in by end.0 end.1
+some_bench c g i table proper fits fit safe = let end = has_some_end_by_added (task_of g table) c.budget fit in by end.0 end.1
   where
     by : (found : Found) → Finds (task_of g table) c.budget found → (o : Outcome) × BenchesGround c g i table o
     by (Plan ops n) finds =
         let ls = coverages_decided g i table proper in
         let actions = acts_among (length g.actions) ops in
-        let works = work g i table ops safe (ends_true (task_of g table) c.budget (Plan ops n) fit finds) in
+        let works = succeeding_actions_are_plan g i table ops safe (ends_are_true (task_of g table) c.budget (Plan ops n) fit finds) in
         let o = sums_up (summary_text c g table ls.0 (length actions) n) in
-        (o, by_bench (Plan ops n) fits finds (plan_told c g i table ops actions n (Ok o) refl works (ls.0, ls.1, refl)))
+        (o, by_bench (Plan ops n) fits finds (plan_is_told c g i table ops actions n (Ok o) refl works (ls.0, ls.1, refl)))
     by NoPlan finds = let ls = coverages_decided g i table proper in (denies (no_plan_text ls.0), by_bench NoPlan fits finds (ls.0, ls.1, refl))
     by (Spent n) finds = (spends n, by_bench (Spent n) fits finds refl)
 
@@ -76,9 +72,9 @@ some_bench c g i table proper fits fit safe = let end = some_end_by_added (task_
 
 module _ (y : List ℕ) (d : Domain Word) (p : Problem Word) where
   of_small : HasNoFault d p → IsCertain p → IsSmall d p → ((r : Refused) × RefusesClassical y d p r) ⊎ IsClassical d p
-  of_small no_fault certain small = elim (model_or_none (length (ground_of d p).atoms) (initial_of d p) (formulas_over_atoms d p)) [
-    | inl model ↦ inr (record { certain = certain; small = small; initial = (states_are_models d p no_fault).1 model })
-    | inr none ↦ inl (refusals.NoInitialState, no_initial_state certain small (λ has. none ((states_are_models d p no_fault).0 has)))
+  of_small no_fault certain small = elim (model_or_none (length (ground_of d p).atoms) (initial_of d p) (formulas_speak_of_ground_atoms d p)) [
+    | inl model ↦ inr (record { certain = certain; small = small; initial = (initial_states_are_models d p no_fault).1 model })
+    | inr none ↦ inl (refusals.NoInitialState, no_initial_state certain small (λ has. none ((initial_states_are_models d p no_fault).0 has)))
   ]
 
   classical_decided : HasNoFault d p → ((r : Refused) × RefusesClassical y d p r) ⊎ IsClassical d p
@@ -97,11 +93,11 @@ module _ (y : List ℕ) (d : Domain Word) (p : Problem Word) where
 
 -- the search of their task comes to something that is told
 some_classical : (budget : ℕ) (d : Domain Word) (p : Problem Word) → IsClassical d p → (o : Outcome) × SolvesClassical budget (ground_of d p) (classical_task d p) o
-some_classical budget d p c = let end = some_end_by_added (classical_task d p) budget (classical_fit d p c) in by end.0 end.1
+some_classical budget d p c = let end = has_some_end_by_added (classical_task d p) budget (classical_task_fits d p c) in by end.0 end.1
   where
     by : (found : Found) → Finds (classical_task d p) budget found → (o : Outcome) × SolvesClassical budget (ground_of d p) (classical_task d p) o
     by (Plan ops n) finds =
-        let names = actions_named d p ops (ends_true (classical_task d p) budget (Plan ops n) (classical_fit d p c) finds).1 in
+        let names = actions_named d p ops (ends_are_true (classical_task d p) budget (Plan ops n) (classical_task_fits d p c) finds).1 in
         (solves None names.0 names.0, record { found = Plan ops n; finds = finds; tells = (names.0, names.1, refl) })
     by NoPlan finds = (denies no_plan_line, record { found = NoPlan; finds = finds; tells = refl })
     by (Spent n) finds = (spends n, record { found = Spent n; finds = finds; tells = refl })

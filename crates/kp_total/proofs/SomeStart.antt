@@ -8,13 +8,10 @@ use Rattle.kp_grammar.specs.Trees.{Domain, Problem}
 use Rattle.kp_grammar.specs.Grammar as grammar
 use Rattle.kp_meaning.specs.Faults.{HasNoFault}
 use Rattle.kp_meaning.specs.Numbering.{numbered_problem}
-use Rattle.kp_tree.proofs.OneAnswer.{always_some}
+use Rattle.kp_tree.proofs.Public.{files_always_one}
 use Rattle.kp_given.specs.Translations.{ground_of, initial_of}
-use Rattle.kp_given.proofs.Starts.{states_are_models, formulas_over_atoms}
-use Rattle.kp_decided.proofs.Sizes.{names_decided, sizes_decided}
-use Rattle.kp_decided.proofs.Counting.{formulas_ascend, counted}
-use Rattle.kp_decided.proofs.Modelled.{model_or_none}
-use Rattle.kp_decided.proofs.Clashing.{clash_or_none}
+use Rattle.kp_given.proofs.Public.{initial_states_are_models, formulas_speak_of_ground_atoms}
+use Rattle.kp_decided.proofs.Public.{names_decided, sizes_decided, formulas_are_ascending, implicates_are_counted as counted, model_or_none, clash_or_none}
 use Rattle.kp_printed.specs.Refusals.{Named, nothing}
 use Rattle.kp_outcome.specs.declared.outcome.Outcome.{Outcome}
 use Rattle.kp_prepared.specs.Texts.{HaveTrees, RefusesTexts, of_domain, of_problem, of_names}
@@ -29,17 +26,17 @@ AreRefused limit d p = (names : Named) × (r : Refused) × RefusesTrees limit d 
 
 module _ (limit : ℕ) (d : Domain Word) (p : Problem Word) where
   of_started : IsStarted limit d p → AreRefused limit d p ⊎ IsPrepared limit d p
-  of_started started = elim (clash_or_none (ground_of d p) (initial_of d p) (formulas_over_atoms d p)) [
+  of_started started = elim (clash_or_none (ground_of d p) (initial_of d p) (formulas_speak_of_ground_atoms d p)) [
     | inl first ↦ inl (named_in (ground_of d p), refusals.Clash first.0, clash first.0 started first.1)
     | inr free ↦ inr (record { started = started; clash_free = free })
   ]
 
   of_small : HasNoFault d p → IsSmall d p → AreRefused limit d p ⊎ IsPrepared limit d p
-  of_small no_fault small = elim (counted (initial_of d p) limit (formulas_ascend (numbered_problem d p))) [
+  of_small no_fault small = elim (counted (initial_of d p) limit (formulas_are_ascending (numbered_problem d p))) [
     | inl over ↦ inl (nothing, refusals.ImplicatesOver over.0, implicates_over over.0 small over.1)
-    | inr never ↦ elim (model_or_none (length (ground_of d p).atoms) (initial_of d p) (formulas_over_atoms d p)) [
-      | inl model ↦ of_started (record { small = small; counted = never; initial = (states_are_models d p no_fault).1 model })
-      | inr none ↦ inl (nothing, refusals.NoInitialState, no_initial_state small never (λ has. none ((states_are_models d p no_fault).0 has)))
+    | inr never ↦ elim (model_or_none (length (ground_of d p).atoms) (initial_of d p) (formulas_speak_of_ground_atoms d p)) [
+      | inl model ↦ of_started (record { small = small; counted = never; initial = (initial_states_are_models d p no_fault).1 model })
+      | inr none ↦ inl (nothing, refusals.NoInitialState, no_initial_state small never (λ has. none ((initial_states_are_models d p no_fault).0 has)))
     ]
   ]
 
@@ -53,9 +50,9 @@ module _ (limit : ℕ) (d : Domain Word) (p : Problem Word) where
 
 -- they have trees, or are refused
 pub texts_decided : (x y : List ℕ) → ((d : Domain Word) × (p : Problem Word) × HaveTrees x y d p) ⊎ ((r : Refused) × RefusesTexts x y r)
-texts_decided x y = elim (always_some parts.Domain _ _ grammar.domain x) [
+texts_decided x y = elim (files_always_one parts.Domain _ _ grammar.domain x) [
   | inr r ↦ inr (r.0, of_domain r.0 r.1)
-  | inl d ↦ elim (always_some parts.Problem _ _ grammar.problem y) [
+  | inl d ↦ elim (files_always_one parts.Problem _ _ grammar.problem y) [
     | inr r ↦ inr (r.0, of_problem d.0 r.0 d.1 r.1)
     | inl p ↦ elim (names_decided x y d.0 p.0) [
       | inr r ↦ inr (r.0, of_names d.0 p.0 r.0 d.1 p.1 r.1)

@@ -1,10 +1,10 @@
 -- Lists of pieces that are put one after the other.
 use Rattle.std.proofs.Common.{◌≡◌, ℕ, List, ◌++◌, sym, ap, ◌∙◌}
 use Rattle.kp_pieces.specs.Pieces.{Piece, spelling, Put, each, Puts}
-use Rattle.kp_pieces.proofs.Putting.{Leaves, each-append}
+use Rattle.kp_pieces.proofs.Public.{LeavesToPut, each-append}
 
 -- some of those that are todo were put
-pub some_more : {T : Type 0} (before now next : List ℕ) (f : T → Put) (xs todo more all : List T) → todo ≡ xs ++ more → Leaves before now f todo all → Puts now next (each f xs) → Leaves before next f more all
+pub some_more : {T : Type 0} (before now next : List ℕ) (f : T → Put) (xs todo more all : List T) → todo ≡ xs ++ more → LeavesToPut before now f todo all → Puts now next (each f xs) → LeavesToPut before next f more all
 some_more before now next f xs todo more all e h p = record {
   leaves = λ rest.
       p.puts (each f more rest) ∙ ap (λ (ps : List Piece). now ++ spelling ps) (sym (each-append f xs more rest))

@@ -63,7 +63,9 @@ fn put_front(
     ensures { OnOk result (Puts out.old.items out.new.items (op_front (op_of atoms 0 action.now).name (map (fact_name facts.now) (op_of atoms 0 action.now).pre.yes))) }
 {
     let front = operator(alloc, atoms, 0, action)?;
-    put_operator_front(out, facts, &front)
+    let put = put_operator_front(out, facts, &front);
+    drop(front);
+    put
 }
 
 // Adds the operator of an action.

@@ -7,29 +7,29 @@ use Rattle.kp_base.specs.declared.refused.Refused.TheVariants as refusals
 use Rattle.kp_lex.specs.declared.token.Token.{Token}
 use Rattle.kp_lex.specs.Cutting.{Cut, BadAt}
 use Rattle.kp_lex.specs.Places.{place_of}
-use Rattle.kp_lex.proofs.Outcomes.{some, never_both, one_cutting, one_bad_byte}
+use Rattle.kp_lex.proofs.Public.{cutting_or_bad_byte, never_cutting_and_bad_byte, one_cutting, one_bad_byte}
+use Rattle.kp_base.proofs.Cases.{some_none}
 use Rattle.kp_grammar.specs.declared.tree.Word.{Word}
 use Rattle.kp_grammar.specs.Symbols.{Tok, all_seen_in}
 use Rattle.kp_grammar.specs.Sorts.{Sort, El}
 use Rattle.kp_grammar.specs.Forms.{Form}
 use Rattle.kp_grammar.specs.Reading.{At, stop, ReadsWhole, StopsWhole}
 use Rattle.kp_grammar.specs.Depth.{deep}
-use Rattle.kp_grammar.proofs.Exact.{some_none}
-use Rattle.kp_grammar.proofs.Wholes.{whole_read_once, whole_stopped_once, whole_never_both, whole_always_one}
+use Rattle.kp_grammar.proofs.Public.{whole_reads_once, whole_stops_once, whole_never_both, whole_reads_or_stops}
 use Rattle.kp_grammar.specs.Depth.{levels}
-use Rattle.kp_tree.specs.Files.{most_bytes, ReadsShallow, RefusedAt, offending, too_deep, refusal_at, Reads, Refuses, too_long, bad_token, stops, FilesReadOnce, FilesRefuseOnce, FilesNeverBoth, FilesAlwaysOne}
+use Rattle.kp_tree.specs.Files.{most_bytes, ReadsShallow, RefusedAt, offending, too_deep, refusal_at, HasTree, Refuses, too_long, bad_token, stops, FilesReadOnce, FilesRefuseOnce, FilesNeverBoth, FilesAlwaysOne}
 
 -- ---- tokens
 
 module _ (b : Bool) (c : Sort) (X : Form b c) (ts : List (Tok Word)) where
   -- the form stops before a bracket is too deep, or behind it, and not both
-  refused_once : (at there : At Word) → RefusedAt X ts at → RefusedAt X ts there → at ≡ there
-  refused_once at there (offending _ h f) (offending _ k g) = whole_stopped_once b c X ts at there h k
+  pub refused_once : (at there : At Word) → RefusedAt X ts at → RefusedAt X ts there → at ≡ there
+  refused_once at there (offending _ h f) (offending _ k g) = whole_stops_once b c X ts at there h k
   refused_once at there (offending _ h f) (too_deep us e g) = absurd (omega (arith, f us e, g at h))
   refused_once at there (too_deep us e f) (offending _ k g) = absurd (omega (arith, g us e, f there k))
   refused_once at there (too_deep us e f) (too_deep vs k g) = let same : us ≡ vs = cc (e, k) in ap (λ (ws : List (Tok Word)). stop ws) same
 
-  not_refused : (x : El Word c) (at : At Word) → ReadsShallow X ts x → RefusedAt X ts at → ⊥
+  pub not_refused : (x : El Word c) (at : At Word) → ReadsShallow X ts x → RefusedAt X ts at → ⊥
   not_refused x at h (offending _ k f) = whole_never_both b c X ts x at h.reads k
   not_refused x at h (too_deep us e f) = some_none e h.shallow
 
@@ -43,7 +43,7 @@ module _ (b : Bool) (c : Sort) (X : Form b c) (ts : List (Tok Word)) where
 
   -- where the form stops, a bracket before it may be too deep
   by_order : (at : At Word) → StopsWhole X ts at → (us : List (Tok Word)) → deep levels ts ≡ Some us → (length at.tokens < length us) ⊎ (length us ≤ length at.tokens) → Answered
-  by_order at h us e (inl before) = inr (stop us, too_deep us e (λ there k. subst (λ (a : At Word). length a.tokens < length us) (whole_stopped_once b c X ts at there h k) before))
+  by_order at h us e (inl before) = inr (stop us, too_deep us e (λ there k. subst (λ (a : At Word). length a.tokens < length us) (whole_stops_once b c X ts at there h k) before))
   by_order at h us e (inr behind) = inr (at, offending at h (λ vs k. let same : us ≡ vs = cc (e, k) in subst (λ (ws : List (Tok Word)). length ws ≤ length at.tokens) same behind))
 
   by_stop : (at : At Word) → StopsWhole X ts at → (o : Option (List (Tok Word))) → deep levels ts ≡ o → Answered
@@ -55,7 +55,7 @@ module _ (b : Bool) (c : Sort) (X : Form b c) (ts : List (Tok Word)) where
   by_whole (inr h) = by_stop h.0 h.1 (deep levels ts) refl
 
   answered : Answered
-  answered = by_whole (whole_always_one b c X ts)
+  answered = by_whole (whole_reads_or_stops b c X ts)
 
 -- ---- files
 
@@ -63,7 +63,7 @@ pub read_once : FilesReadOnce
 read_once b c X text x y h k =
     let same : k.tokens ≡ h.tokens = one_cutting _ _ k.cut h.cut in
     let other : ReadsWhole X (all_seen_in text h.tokens) y = subst (λ (ts : List Token). ReadsWhole X (all_seen_in text ts) y) same k.reads.reads in
-    whole_read_once b c X (all_seen_in text h.tokens) x y h.reads.reads other
+    whole_reads_once b c X (all_seen_in text h.tokens) x y h.reads.reads other
 
 module _ (part : Part) (b : Bool) (c : Sort) (X : Form b c) (text : List ℕ) where
   refused_in : (ts us : List Token) (at there : At Word) → Cut 0 text ts → Cut 0 text us → RefusedAt X (all_seen_in text ts) at → RefusedAt X (all_seen_in text us) there → at ≡ there
@@ -75,18 +75,18 @@ module _ (part : Part) (b : Bool) (c : Sort) (X : Form b c) (text : List ℕ) wh
   refuse_once r s (too_long h) (stops ts at k _ _) = absurd (omega (arith, h, k))
   refuse_once r s (bad_token i h _) (too_long k) = absurd (omega (arith, h, k))
   refuse_once r s (bad_token i _ h) (bad_token j _ k) = ap (λ (n : ℕ). refusals.BadToken (place_of part text n)) (one_bad_byte i j h k)
-  refuse_once r s (bad_token i _ h) (stops ts at _ k _) = absurd (never_both ts i k h)
+  refuse_once r s (bad_token i _ h) (stops ts at _ k _) = absurd (never_cutting_and_bad_byte ts i k h)
   refuse_once r s (stops ts at h _ _) (too_long k) = absurd (omega (arith, h, k))
-  refuse_once r s (stops ts at _ h _) (bad_token i _ k) = absurd (never_both ts i h k)
+  refuse_once r s (stops ts at _ h _) (bad_token i _ k) = absurd (never_cutting_and_bad_byte ts i h k)
   refuse_once r s (stops ts at _ h p) (stops us there _ k q) = ap (λ (a : At Word). refusal_at part text a) (refused_in ts us at there h k p q)
 
-  pub not_both : (x : El Word c) (r : Refused) → Reads X text x → Refuses part X text r → ⊥
-  not_both x r h (too_long k) = omega (arith, h.short, k)
-  not_both x r h (bad_token i _ k) = never_both h.tokens i h.cut k
-  not_both x r h (stops ts at _ k q) = not_refused b c X (all_seen_in text ts) x at (subst (λ (us : List Token). ReadsShallow X (all_seen_in text us) x) (one_cutting _ _ h.cut k) h.reads) q
+  pub read_or_refused : (x : El Word c) (r : Refused) → HasTree X text x → Refuses part X text r → ⊥
+  read_or_refused x r h (too_long k) = omega (arith, h.short, k)
+  read_or_refused x r h (bad_token i _ k) = never_cutting_and_bad_byte h.tokens i h.cut k
+  read_or_refused x r h (stops ts at _ k q) = not_refused b c X (all_seen_in text ts) x at (subst (λ (us : List Token). ReadsShallow X (all_seen_in text us) x) (one_cutting _ _ h.cut k) h.reads) q
 
   abbrev HasAnswer : Type 0
-  HasAnswer = ((x : El Word c) × Reads X text x) ⊎ ((r : Refused) × Refuses part X text r)
+  HasAnswer = ((x : El Word c) × HasTree X text x) ⊎ ((r : Refused) × Refuses part X text r)
 
   by_tokens : length text ≤ most_bytes → (ts : List Token) → Cut 0 text ts → ((x : El Word c) × ReadsShallow X (all_seen_in text ts) x) ⊎ ((at : At Word) × RefusedAt X (all_seen_in text ts) at) → HasAnswer
   by_tokens short ts h (inl k) = inl (k.0, record { short = short; tokens = ts; cut = h; reads = k.1 })
@@ -98,7 +98,7 @@ module _ (part : Part) (b : Bool) (c : Sort) (X : Form b c) (text : List ℕ) wh
 
   by_length : (most_bytes < length text) ⊎ (length text ≤ most_bytes) → HasAnswer
   by_length (inl long) = inr (refusals.TooLong part, too_long long)
-  by_length (inr short) = by_cutting short (some text)
+  by_length (inr short) = by_cutting short (cutting_or_bad_byte text)
 
   pub has_answer : HasAnswer
   has_answer = by_length (cases_lt most_bytes (length text))
@@ -107,7 +107,7 @@ pub refused_one : FilesRefuseOnce
 refused_one part b c X text r s h k = refuse_once part b c X text r s h k
 
 pub never_two : FilesNeverBoth
-never_two part b c X text x r h k = not_both part b c X text x r h k
+never_two part b c X text x r h k = read_or_refused part b c X text x r h k
 
 pub always_some : FilesAlwaysOne
 always_some part b c X text = has_answer part b c X text

@@ -1,37 +1,23 @@
 -- What reading with 64 levels gives is the tree of the tokens, or the token at which they are refused.
-use Rattle.std.proofs.Common.{◌≡◌, ℕ, zero, suc, ◌≤◌, ◌⊎◌, inl, inr, Bool, true, false, List, [], ◌∷◌, length, Option, Some, Ok, Err, refl, sym, ap, subst, ◌∙◌, arith}
-use Rattle.kp_grammar.specs.Symbols.{Tok, is_left, is_right}
+use Rattle.std.proofs.Common.{◌≡◌, ℕ, ◌⊎◌, inl, inr, Bool, List, [], ◌∷◌, length, Option, Some, Ok, Err, refl, sym, ap, subst, ◌∙◌, arith}
+use Rattle.kp_grammar.specs.Symbols.{Tok}
 use Rattle.kp_grammar.specs.Sorts.{Sort, El}
 use Rattle.kp_grammar.specs.Forms.{Form}
 use Rattle.kp_grammar.specs.Reading.{Syntax, At, stop, ReadBy, ReadsWhole, StopsWhole, within_form, after_form}
 use Rattle.kp_grammar.specs.Parsing.{Outcome, ◌>>=◌, ended, go, level}
-use Rattle.kp_grammar.specs.Depth.{deep_case, deep}
+use Rattle.kp_grammar.specs.Depth.{deep}
 use Rattle.kp_grammar.specs.declared.tree.Word.{Word}
-use Rattle.kp_grammar.proofs.Tells.{Tells, read_tells}
-use Rattle.kp_grammar.proofs.Wholes.{whole_never_both, whole_stopped_once, whole_always_one}
+use Rattle.kp_grammar.proofs.Public.{TellsReading, reading_tells, deep_within, whole_never_both, whole_stops_once, whole_reads_or_stops}
 use Rattle.kp_grammar.specs.Depth.{levels}
 use Rattle.kp_tree.specs.Files.{ReadsShallow, RefusedAt, offending, too_deep}
 use Rattle.kp_parts.specs.Readers.{whole_at}
 use Rattle.kp_tree.proofs.First.{halts_before, stops_before, Comes}
 
--- the first bracket that is too deep stands within the tokens
-deep_within_case : {W : Type 0} (d : ℕ) (l r : Bool) (t : Tok W) (ts us : List (Tok W)) → ((n : ℕ) → deep n ts ≡ Some us → length us ≤ length ts) → deep_case d l r (t ∷ ts) (λ n. deep n ts) ≡ Some us → length us ≤ length (t ∷ ts)
-deep_within_case zero true r t ts us h e = let same : t ∷ ts ≡ us = cc in omega (arith, ap (λ (vs : List (Tok _)). length vs) same)
-deep_within_case (suc d) true r t ts us h e = omega (arith, h d e)
-deep_within_case zero false true t ts us h e = omega (arith, h 1 e)
-deep_within_case (suc d) false true t ts us h e = omega (arith, h (suc (suc d)) e)
-deep_within_case zero false false t ts us h e = omega (arith, h 0 e)
-deep_within_case (suc d) false false t ts us h e = omega (arith, h (suc d) e)
-
-deep_within : {W : Type 0} (d : ℕ) (ts us : List (Tok W)) → deep d ts ≡ Some us → length us ≤ length ts
-deep_within d [] us e = absurd cc
-deep_within d (t ∷ ts) us e = deep_within_case d (is_left t.symbol) (is_right t.symbol) t ts us (λ n. deep_within n ts us) e
-
 same_some : {A : Type 0} {o : Option A} {x y : A} → o ≡ Some x → o ≡ Some y → x ≡ y
 same_some e k = cc
 
 module _ {b : Bool} {c : Sort} (X : Form b c) (ts : List (Tok Word)) where
-  abbrev Answered : Outcome Word (El Word c) → Type 0
+  abbrev pub Answered : Outcome Word (El Word c) → Type 0
   Answered (Ok x) = ReadsShallow X ts x.0 × (x.1 ≡ [])
   Answered (Err at) = RefusedAt X ts at
 
@@ -51,7 +37,7 @@ module _ {b : Bool} {c : Sort} (X : Form b c) (ts : List (Tok Word)) where
   deep_by at opens there s (inl same) k =
       offending at (subst (λ (a : At Word). StopsWhole X ts a) same s) (λ us e. omega (arith, ap (λ (vs : List (Tok Word)). length vs) (same_some opens e)))
   deep_by at opens there s (inr less) k =
-      subst (λ (a : At Word). RefusedAt X ts a) (sym (is_stop at k)) (too_deep at.tokens opens (λ other h. omega (arith, less, ap (λ (a : At Word). length a.tokens) (whole_stopped_once b c X ts other there h s))))
+      subst (λ (a : At Word). RefusedAt X ts a) (sym (is_stop at k)) (too_deep at.tokens opens (λ other h. omega (arith, less, ap (λ (a : At Word). length a.tokens) (whole_stops_once b c X ts other there h s))))
 
   deep_first : (at : At Word) → go (level levels) b c X ts ≡ Err at → deep levels ts ≡ Some at.tokens → at.reason ≡ Syntax → ((x : El Word c) × ReadsWhole X ts x) ⊎ ((there : At Word) × StopsWhole X ts there) → RefusedAt X ts at
   deep_first at e opens k (inl h) = subst (λ (a : At Word). RefusedAt X ts a) (sym (is_stop at k)) (too_deep at.tokens opens (λ other s. absurd (whole_never_both b c X ts h.0 other h.1 s)))
@@ -61,14 +47,14 @@ module _ {b : Bool} {c : Sort} (X : Form b c) (ts : List (Tok Word)) where
   ended_so x [] h l = (record { reads = h; shallow = l }, refl)
   ended_so x (t ∷ rest) h l = stops_first (stop (t ∷ rest)) (after_form h) levels l
 
-  whole_by : (r : Outcome Word (El Word c)) → go (level levels) b c X ts ≡ r → Tells levels b c X ts r → Answered (r >>= λ x. ended x.0 x.1)
+  whole_by : (r : Outcome Word (El Word c)) → go (level levels) b c X ts ≡ r → TellsReading levels b c X ts r → Answered (r >>= λ x. ended x.0 x.1)
   whole_by (Ok x) e h = ended_so x.0 x.1 h.0 h.1
   whole_by (Err at) e (inl h) = stops_first at (within_form h.0) h.1.0 h.1.1
-  whole_by (Err at) e (inr h) = deep_first at e h.0 h.1 (whole_always_one b c X ts)
+  whole_by (Err at) e (inr h) = deep_first at e h.0 h.1 (whole_reads_or_stops b c X ts)
 
-  answered : (r : Outcome Word (El Word c)) → whole_at X ts ≡ r → Answered r
+  pub answered : (r : Outcome Word (El Word c)) → whole_at X ts ≡ r → Answered r
   unfolding whole_at
-  answered r e = subst (λ (o : Outcome Word (El Word c)). Answered o) e (whole_by (go (level levels) b c X ts) refl (read_tells levels b c X ts))
+  answered r e = subst (λ (o : Outcome Word (El Word c)). Answered o) e (whole_by (go (level levels) b c X ts) refl (reading_tells levels b c X ts))
 
   -- a tree is the one of the tokens
   pub is_read : (x : El Word c) → whole_at X ts ≡ Ok (x, []) → ReadsShallow X ts x

@@ -45,7 +45,7 @@ refusal_at part text at = refusal_for at.reason (place_of part text (byte_at tex
 -- ---- files
 
 -- the file has this tree: it isn't too long, it is cut, and its tokens are the form
-pub record Reads {b : Bool} {c : Sort} (X : Form b c) (text : List ℕ) (x : El Word c) : Type 0 where
+pub record HasTree {b : Bool} {c : Sort} (X : Form b c) (text : List ℕ) (x : El Word c) : Type 0 where
   pub short : length text ≤ most_bytes
   pub tokens : List Token
   pub cut : Cut 0 text tokens
@@ -65,9 +65,15 @@ AnswersTokens part X view text tokens (Ok tree) = ReadsShallow X (all_seen_in te
 AnswersTokens part X view text tokens (Err causes.Memory) = Unit {0}
 AnswersTokens part X view text tokens (Err (causes.Refused r)) = (at : At Word) × (RefusedAt X (all_seen_in text tokens) at × (r ≡ refusal_at part text at))
 
+-- what is refused at a token, is refused at a byte of the text or at its end
+abbrev pub IsToldWithin : List ℕ → Stop → Type 0
+IsToldWithin text (causes.Refused (refusals.Syntax place)) = place.byte ≤ length text
+IsToldWithin text (causes.Refused (refusals.Unsupported place)) = place.byte ≤ length text
+IsToldWithin text _ = Unit {0}
+
 -- of a file: its tree, or its refusal; want of memory is free
 abbrev pub AnswersFile : {T : Type 0} (part : Part) {b : Bool} {c : Sort} (X : Form b c) (view : T → El Word c) (text : List ℕ) → Result T Stop → Type 0
-AnswersFile part X view text (Ok tree) = Reads X text (view tree)
+AnswersFile part X view text (Ok tree) = HasTree X text (view tree)
 AnswersFile part X view text (Err causes.Memory) = Unit {0}
 AnswersFile part X view text (Err (causes.Refused r)) = Refuses part X text r
 
@@ -75,7 +81,7 @@ AnswersFile part X view text (Err (causes.Refused r)) = Refuses part X text r
 
 -- a file has one tree at most
 abbrev pub FilesReadOnce : Type 0
-FilesReadOnce = (b : Bool) (c : Sort) (X : Form b c) (text : List ℕ) (x y : El Word c) → Reads X text x → Reads X text y → x ≡ y
+FilesReadOnce = (b : Bool) (c : Sort) (X : Form b c) (text : List ℕ) (x y : El Word c) → HasTree X text x → HasTree X text y → x ≡ y
 
 -- a file has one refusal at most
 abbrev pub FilesRefuseOnce : Type 0
@@ -83,8 +89,8 @@ FilesRefuseOnce = (part : Part) (b : Bool) (c : Sort) (X : Form b c) (text : Lis
 
 -- a file that has a tree has no refusal
 abbrev pub FilesNeverBoth : Type 0
-FilesNeverBoth = (part : Part) (b : Bool) (c : Sort) (X : Form b c) (text : List ℕ) (x : El Word c) (r : Refused) → Reads X text x → Refuses part X text r → ⊥
+FilesNeverBoth = (part : Part) (b : Bool) (c : Sort) (X : Form b c) (text : List ℕ) (x : El Word c) (r : Refused) → HasTree X text x → Refuses part X text r → ⊥
 
 -- a file has a tree or a refusal
 abbrev pub FilesAlwaysOne : Type 0
-FilesAlwaysOne = (part : Part) (b : Bool) (c : Sort) (X : Form b c) (text : List ℕ) → ((x : El Word c) × Reads X text x) ⊎ ((r : Refused) × Refuses part X text r)
+FilesAlwaysOne = (part : Part) (b : Bool) (c : Sort) (X : Form b c) (text : List ℕ) → ((x : El Word c) × HasTree X text x) ⊎ ((r : Refused) × Refuses part X text r)

@@ -1,16 +1,24 @@
-ghost use Rattle.std.specs.Prelude.{◌≤◌, length};
+ghost use Rattle.std.specs.Prelude.{◌≡◌, ◌≤◌, length, take};
 ghost use Rattle.kp_base.specs.declared.refused.Part.TheVariants as parts;
 ghost use Rattle.kp_grammar.specs.Grammar.{domain, problem};
 ghost use Rattle.kp_grammar.specs.View.{domain_view, problem_view};
 ghost use Rattle.kp_tree.specs.Files.{AnswersFile};
 
-use crate::parse::{parse_domain, parse_problem};
+use crate::parse::{levels, parse_domain, parse_problem};
 use bumpalo::Bump;
 use kp_base::{Part, Stop};
 use kp_grammar::{Domain, Problem};
-use kp_lex::tokens;
+use kp_lex::{Beginning, tokens_within};
 use kp_nodes::{copy_domain, copy_problem};
 use std::alloc::Global;
+
+// The first bytes, so many.
+fn beginning(bytes: &[u8], to: u32) -> &[u8]
+    requires { to ≤ length bytes.now }
+    ensures { result.now ≡ take to bytes.now }
+{
+    &bytes[..to as usize]
+}
 
 /// The tree of a domain file, or its refusal at the byte where it is refused.
 ///
@@ -19,9 +27,9 @@ pub fn read_domain(alloc: Global, bytes: &[u8]) -> Result<Domain, Stop>
     requires { length bytes.now ≤ 16777216 }
     ensures { AnswersFile parts.Domain domain domain_view bytes.now result }
 {
-    let tokens = tokens(alloc, Part::Domain, bytes)?;
+    let Beginning { tokens, to } = tokens_within(alloc, Part::Domain, bytes, levels())?;
     let bump = Bump::new(alloc);
-    let node = parse_domain(&bump, alloc, bytes, &tokens)?;
+    let node = parse_domain(&bump, alloc, beginning(bytes, to), &tokens)?;
     drop(tokens);
     Ok(copy_domain(alloc, &node)?)
 }
@@ -33,9 +41,9 @@ pub fn read_problem(alloc: Global, bytes: &[u8]) -> Result<Problem, Stop>
     requires { length bytes.now ≤ 16777216 }
     ensures { AnswersFile parts.Problem problem problem_view bytes.now result }
 {
-    let tokens = tokens(alloc, Part::Problem, bytes)?;
+    let Beginning { tokens, to } = tokens_within(alloc, Part::Problem, bytes, levels())?;
     let bump = Bump::new(alloc);
-    let node = parse_problem(&bump, alloc, bytes, &tokens)?;
+    let node = parse_problem(&bump, alloc, beginning(bytes, to), &tokens)?;
     drop(tokens);
     Ok(copy_problem(alloc, &node)?)
 }

@@ -1,9 +1,9 @@
-ghost use Rattle.std.specs.Prelude.{◌≡◌, ◌≤◌, length};
+ghost use Rattle.std.specs.Prelude.{◌≡◌, ◌≤◌, length, IfErr};
 ghost use Rattle.kp_lex.specs.Cutting.{Cut};
 ghost use Rattle.kp_base.specs.declared.refused.Part.TheVariants as parts;
 ghost use Rattle.kp_grammar.specs.Depth.{levels};
 ghost use Rattle.kp_grammar.specs.Grammar.{domain, problem};
-ghost use Rattle.kp_tree.specs.Files.{AnswersTokens};
+ghost use Rattle.kp_tree.specs.Files.{AnswersTokens, IsToldWithin};
 ghost use Rattle.kp_nodes.specs.Nodes.{domain_view, problem_view};
 ghost use Rattle.kp_parts.specs.Readers.{GivesAll, whole_at};
 ghost use Rattle.kp_tree.specs.Refusals.{IsTold};
@@ -18,7 +18,7 @@ use kp_sections::{domain, problem};
 use std::alloc::Global;
 
 // So many brackets may be open at once.
-fn levels() -> u32
+pub(crate) fn levels() -> u32
     ensures { result ≡ levels }
 {
     64
@@ -28,7 +28,8 @@ fn levels() -> u32
 fn told(part: Part, bytes: &[u8], tokens: &[Token], halt: Halt) -> Stop
     requires short { length bytes.now ≤ 16777216 }
     requires cut { Cut 0 bytes.now tokens.now }
-    ensures { IsTold part bytes.now tokens.now halt result }
+    ensures told { IsTold part bytes.now tokens.now halt result }
+    ensures within { IsToldWithin bytes.now result }
 {
     match halt {
         Halt::Memory => Stop::Memory,
@@ -83,7 +84,8 @@ pub fn parse_domain<'a>(
 ) -> Result<DomainNode<'a>, Stop>
     requires short { length bytes.now ≤ 16777216 }
     requires cut { Cut 0 bytes.now tokens.now }
-    ensures { AnswersTokens parts.Domain domain domain_view bytes.now tokens.now result }
+    ensures answer { AnswersTokens parts.Domain domain domain_view bytes.now tokens.now result }
+    ensures within { IfErr result (λ e. IsToldWithin bytes.now e) }
 {
     let spans = tokens.slice();
     let tokens = tokens_in(bump, bytes, spans)?;
@@ -105,7 +107,8 @@ pub fn parse_problem<'a>(
 ) -> Result<ProblemNode<'a>, Stop>
     requires short { length bytes.now ≤ 16777216 }
     requires cut { Cut 0 bytes.now tokens.now }
-    ensures { AnswersTokens parts.Problem problem problem_view bytes.now tokens.now result }
+    ensures answer { AnswersTokens parts.Problem problem problem_view bytes.now tokens.now result }
+    ensures within { IfErr result (λ e. IsToldWithin bytes.now e) }
 {
     let spans = tokens.slice();
     let tokens = tokens_in(bump, bytes, spans)?;

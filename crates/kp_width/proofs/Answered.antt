@@ -11,7 +11,7 @@ use Rattle.kp_base.specs.Covering.{IsCov, AllMeet}
 use Rattle.kp_base.specs.Relevance.{AreClausesFor}
 use Rattle.kp_sets.specs.Subsets.{subsets, choose}
 use Rattle.kp_cover.specs.Covering.{IsCover}
-use Rattle.kp_cover.proofs.Taking.{one_cov}
+use Rattle.kp_cover.proofs.Public.{cov_once}
 use Rattle.kp_width.specs.declared.report.WidthRow.{WidthRow}
 use Rattle.kp_width.specs.declared.report.WidthReport.{WidthReport}
 use Rattle.kp_width.specs.declared.report.WidthReport.TheVariants as reports
@@ -32,7 +32,7 @@ module _ (i : Initial) (cs : List (List Lit)) (tags : (ds : List (List Lit)) →
   covering : (set : List (List Lit)) → ((ts : List (List Lit)) × IsCover i cs set ts) ⊎ ((ts : List (List Lit)) → IsCover i cs set ts → ⊥)
   covering set = let its = tags set in elim (meeting its.0 cs) [
     | inl meet ↦ inl (its.0, record { are = its.1; cover = meet })
-    | inr never ↦ inr (λ ts c. never (subst (λ (us : List (List Lit)). AllMeet i us cs) (one_cov i i set ts its.0 (λ s. refl) c.are its.1) c.cover))
+    | inr never ↦ inr (λ ts c. never (subst (λ (us : List (List Lit)). AllMeet i us cs) (cov_once i i set ts its.0 (λ s. refl) c.are its.1) c.cover))
   ]
 
   first_cover : (sets : List (List (List Lit))) → FirstOrNone sets

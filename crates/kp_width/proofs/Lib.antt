@@ -1,3 +1,4 @@
+pub mod Public
 pub mod Answered
 pub mod ByModels
 pub mod Ended

@@ -9,9 +9,9 @@ use Rattle.kp_base.specs.declared.refused.Refused.TheVariants as refusals
 use Rattle.kp_base.specs.Covering.{IsCov}
 use Rattle.kp_base.proofs.Lists.{member_contains, contains_member}
 use Rattle.kp_base.proofs.Ascending.{same_members}
-use Rattle.kp_relevance.proofs.Ordered.{one_clauses_for}
+use Rattle.kp_relevance.proofs.Public.{one_clauses_for}
 use Rattle.kp_cover.specs.Targets.{AreTargets}
-use Rattle.kp_cover.proofs.Taking.{one_cov}
+use Rattle.kp_cover.proofs.Public.{cov_once}
 use Rattle.kp_width.specs.declared.report.WidthRow.{WidthRow}
 use Rattle.kp_width.specs.declared.report.WidthReport.{WidthReport}
 use Rattle.kp_width.specs.declared.report.WidthReport.TheVariants as reports
@@ -29,7 +29,7 @@ module _ (limit bound : ℕ) (g : Ground) (i : Initial) where
       let e = one_clauses_for g.actions (length g.atoms) i t q.relevant p.relevant q.are_relevant p.are_relevant in
       let l = subst (λ (cs : List (List Lit)). IsLeastCover limit bound i cs b.clauses b.tags) e q.least_cover in
       let set = one_set i p.relevant limit bound a.clauses b.clauses a.tags b.tags p.least_cover l in
-      let tags = one_cov i i a.clauses a.tags b.tags (λ s. refl) p.least_cover.first.covers.are (subst (λ (z : List (List Lit)). IsCov i z b.tags) (sym set) l.first.covers.are) in
+      let tags = cov_once i i a.clauses a.tags b.tags (λ s. refl) p.least_cover.first.covers.are (subst (λ (z : List (List Lit)). IsCov i z b.tags) (sym set) l.first.covers.are) in
       ap (λ (u : Lit). let row : WidthRow = record { target = u; clauses = a.clauses; tags = a.tags } in row) (p.same_target ∙ sym q.same_target)
       ∙ ap₂ (λ (x y : List (List Lit)). let row : WidthRow = record { target = b.target; clauses = x; tags = y } in row) set tags
 

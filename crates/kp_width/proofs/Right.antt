@@ -9,7 +9,7 @@ use Rattle.kp_base.specs.Relevance.{AreClausesFor}
 use Rattle.kp_base.proofs.Lists.{member_right}
 use Rattle.kp_sets.specs.Subsets.{subsets}
 use Rattle.kp_sets.specs.Laws.{IsSublist}
-use Rattle.kp_relevance.proofs.Ordered.{one_clauses_for}
+use Rattle.kp_relevance.proofs.Public.{one_clauses_for}
 use Rattle.kp_cover.specs.Covering.{IsCover}
 use Rattle.kp_width.specs.declared.report.WidthRow.{WidthRow}
 use Rattle.kp_width.specs.Width.{CoversTarget}

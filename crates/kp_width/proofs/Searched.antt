@@ -10,9 +10,9 @@ use Rattle.kp_base.specs.Covering.{IsCov, AllMeet}
 use Rattle.kp_base.proofs.Lists.{map_member}
 use Rattle.kp_sets.specs.Subsets.{subsets, place_sets, first_that, choose}
 use Rattle.kp_sets.specs.Sizes as sizes
-use Rattle.kp_sets.proofs.Sublists.{subsets_are, first_none, first_some}
+use Rattle.kp_sets.proofs.Public.{subsets_are, first_none, first_some}
 use Rattle.kp_cover.specs.Covering.{pick, IsCover, TellsCovers}
-use Rattle.kp_cover.proofs.Taking.{one_cov}
+use Rattle.kp_cover.proofs.Public.{cov_once}
 use Rattle.kp_width.specs.Rows.{NoneCovers, IsFirstCover, ArePassed, IsLeastCover, HasTooManySets}
 use Rattle.kp_width.proofs.Places.{sets_at}
 
@@ -44,7 +44,7 @@ module _ (i : Initial) (cs : List (List Lit)) (p : List ℕ → Bool) (tells : T
   tags_cover : (places : List ℕ) (tags : List (List Lit)) → p places ≡ true → IsCov i (pick cs places) tags → IsCover i cs (pick cs places) tags
   tags_cover places tags passes are =
       let found = (tells places).0 passes in
-      record { are = are; cover = subst (λ (ts : List (List Lit)). AllMeet i ts cs) (one_cov i i (pick cs places) found.0 tags (λ s. refl) found.1.are are) found.1.cover }
+      record { are = are; cover = subst (λ (ts : List (List Lit)). AllMeet i ts cs) (cov_once i i (pick cs places) found.0 tags (λ s. refl) found.1.are are) found.1.cover }
 
   first_covers : (size : ℕ) (places : List ℕ) (tags : List (List Lit)) → first_that p (place_sets (length cs) size) ≡ Some places → IsCov i (pick cs places) tags → IsFirstCover i cs (subsets size cs) (pick cs places) tags
   first_covers size places tags h are =

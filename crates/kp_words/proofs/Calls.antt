@@ -1,7 +1,7 @@
 -- Words behind a verb that say nothing of a command.
 use Rattle.std.proofs.Common.{◌≡◌, ◌∙◌, List, ℕ, Option, length, subst, Result, Ok, Err, IfErr, IsErrAnd, sym, Some, MatchOption}
 use Rattle.kp_line.specs.Words.{Line}
-use Rattle.kp_line.proofs.Unique.{one_line}
+use Rattle.kp_line.proofs.Public.{words_are_one_line}
 use Rattle.kp_line.specs.declared.stop.WordStop.{WordStop}
 use Rattle.kp_words.specs.Command.{Behind}
 
@@ -19,7 +19,7 @@ no_line words options n P count none behind = none behind.places behind.values (
 -- or a line that isn't so
 pub not_so : (words options places : Texts) (values : Values) (P : Texts → Values → Type 0) → Line words places options values → (P places values → ⊥) → Behind words options P → ⊥
 not_so words options places values P line none behind =
-    let same = one_line words options behind.places places behind.values values behind.line line in
+    let same = words_are_one_line words options behind.places places behind.values values behind.line line in
     none (subst (λ us. P places us) same.1 (subst (λ qs. P qs behind.values) same.0 behind.are_so))
 
 -- what an error says is handed up
@@ -38,5 +38,5 @@ when_some o x N P h e = subst (λ p. MatchOption p N P) e h
 -- words behind a verb are one line at most
 pub same_line : (words options : Texts) (P Q : Texts → Values → Type 0) (a : Behind words options P) → Behind words options Q → Q a.places a.values
 same_line words options P Q a b =
-    let same = one_line words options b.places a.places b.values a.values b.line a.line in
+    let same = words_are_one_line words options b.places a.places b.values a.values b.line a.line in
     subst (λ us. Q a.places us) same.1 (subst (λ qs. Q qs b.values) same.0 b.are_so)

@@ -1,3 +1,4 @@
+pub mod Public
 pub mod Words
 pub mod Numbers
 pub mod Named

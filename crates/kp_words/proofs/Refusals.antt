@@ -3,7 +3,7 @@ use Rattle.std.proofs.Common.{◌≡◌, ◌≢◌, ◌∙◌, ◌<◌, ◌≤�
 use Rattle.std.specs.Fmt.{digits}
 use Rattle.std.proofs.lemmas.Fmt.{decimal_injective}
 use Rattle.kp_line.specs.Words.{word as said_word, option as said_option}
-use Rattle.kp_line.proofs.Unique.{said_line, said_twice, unsaid}
+use Rattle.kp_line.proofs.Public.{line_has_what_is_said, option_said_twice_is_no_line, words_that_say_nothing_are_no_line}
 use Rattle.kp_words.specs.declared.verb.Verb.TheVariants as verbs
 use Rattle.kp_words.specs.Options.{SaysSource, SaysBound, SaysBudget}
 use Rattle.kp_words.specs.Command.{IsNoCommand}
@@ -15,31 +15,31 @@ use Rattle.kp_words.proofs.Examples.{word}
 
 -- an option twice
 mode_twice : IsNoCommand (word (codes "translate") (omega arith) ∷ word (codes "d") (omega arith) ∷ word (codes "p") (omega arith) ∷ word (codes "od") (omega arith) ∷ word (codes "op") (omega arith) ∷ word (codes "--mode") (omega arith) ∷ word (codes "k0") (omega arith) ∷ word (codes "--mode=k0") (omega arith) ∷ [])
-mode_twice = no_command verbs.Translate _ (codes "d" ∷ codes "p" ∷ codes "od" ∷ codes "op" ∷ codes "--mode" ∷ codes "k0" ∷ codes "--mode=k0" ∷ []) refl (λ d says. said_twice (codes "d" ∷ codes "p" ∷ codes "od" ∷ codes "op" ∷ codes "--mode" ∷ codes "k0" ∷ codes "--mode=k0" ∷ []) (codes "mode" ∷ codes "merges" ∷ codes "implicates" ∷ []) says.places says.values (said_word (codes "d") ∷ said_word (codes "p") ∷ said_word (codes "od") ∷ said_word (codes "op") ∷ said_option (codes "mode") (codes "k0") ∷ said_option (codes "mode") (codes "k0") ∷ []) refl refl says.line)
+mode_twice = no_command verbs.Translate _ (codes "d" ∷ codes "p" ∷ codes "od" ∷ codes "op" ∷ codes "--mode" ∷ codes "k0" ∷ codes "--mode=k0" ∷ []) refl (λ d says. option_said_twice_is_no_line (codes "d" ∷ codes "p" ∷ codes "od" ∷ codes "op" ∷ codes "--mode" ∷ codes "k0" ∷ codes "--mode=k0" ∷ []) (codes "mode" ∷ codes "merges" ∷ codes "implicates" ∷ []) says.places says.values (said_word (codes "d") ∷ said_word (codes "p") ∷ said_word (codes "od") ∷ said_word (codes "op") ∷ said_option (codes "mode") (codes "k0") ∷ said_option (codes "mode") (codes "k0") ∷ []) refl refl says.line)
 
 -- a value that begins with a dash
 dash_value : IsNoCommand (word (codes "solve") (omega arith) ∷ word (codes "d") (omega arith) ∷ word (codes "p") (omega arith) ∷ word (codes "--classical") (omega arith) ∷ word (codes "-c") (omega arith) ∷ [])
-dash_value = no_command verbs.Solve _ (codes "d" ∷ codes "p" ∷ codes "--classical" ∷ codes "-c" ∷ []) refl (λ d says. unsaid (codes "d" ∷ codes "p" ∷ codes "--classical" ∷ codes "-c" ∷ []) (codes "mode" ∷ codes "merges" ∷ codes "implicates" ∷ codes "budget" ∷ codes "classical" ∷ []) says.places says.values refl says.line)
+dash_value = no_command verbs.Solve _ (codes "d" ∷ codes "p" ∷ codes "--classical" ∷ codes "-c" ∷ []) refl (λ d says. words_that_say_nothing_are_no_line (codes "d" ∷ codes "p" ∷ codes "--classical" ∷ codes "-c" ∷ []) (codes "mode" ∷ codes "merges" ∷ codes "implicates" ∷ codes "budget" ∷ codes "classical" ∷ []) says.places says.values refl says.line)
 
 -- also behind an equals sign
 dash_joined : IsNoCommand (word (codes "solve") (omega arith) ∷ word (codes "d") (omega arith) ∷ word (codes "p") (omega arith) ∷ word (codes "--classical=-c") (omega arith) ∷ [])
-dash_joined = no_command verbs.Solve _ (codes "d" ∷ codes "p" ∷ codes "--classical=-c" ∷ []) refl (λ d says. unsaid (codes "d" ∷ codes "p" ∷ codes "--classical=-c" ∷ []) (codes "mode" ∷ codes "merges" ∷ codes "implicates" ∷ codes "budget" ∷ codes "classical" ∷ []) says.places says.values refl says.line)
+dash_joined = no_command verbs.Solve _ (codes "d" ∷ codes "p" ∷ codes "--classical=-c" ∷ []) refl (λ d says. words_that_say_nothing_are_no_line (codes "d" ∷ codes "p" ∷ codes "--classical=-c" ∷ []) (codes "mode" ∷ codes "merges" ∷ codes "implicates" ∷ codes "budget" ∷ codes "classical" ∷ []) says.places says.values refl says.line)
 
 -- an option without a value
 no_value : IsNoCommand (word (codes "classical") (omega arith) ∷ word (codes "d") (omega arith) ∷ word (codes "p") (omega arith) ∷ word (codes "--budget") (omega arith) ∷ [])
-no_value = no_command verbs.Classical _ (codes "d" ∷ codes "p" ∷ codes "--budget" ∷ []) refl (λ d says. unsaid (codes "d" ∷ codes "p" ∷ codes "--budget" ∷ []) (codes "budget" ∷ []) says.places says.values refl says.line)
+no_value = no_command verbs.Classical _ (codes "d" ∷ codes "p" ∷ codes "--budget" ∷ []) refl (λ d says. words_that_say_nothing_are_no_line (codes "d" ∷ codes "p" ∷ codes "--budget" ∷ []) (codes "budget" ∷ []) says.places says.values refl says.line)
 
 -- two dashes alone
 two_dashes : IsNoCommand (word (codes "strip") (omega arith) ∷ word (codes "--") (omega arith) ∷ word (codes "t") (omega arith) ∷ [])
-two_dashes = no_command verbs.Strip _ (codes "--" ∷ codes "t" ∷ []) refl (λ d says. unsaid (codes "--" ∷ codes "t" ∷ []) ([]) says.places says.values refl says.line)
+two_dashes = no_command verbs.Strip _ (codes "--" ∷ codes "t" ∷ []) refl (λ d says. words_that_say_nothing_are_no_line (codes "--" ∷ codes "t" ∷ []) ([]) says.places says.values refl says.line)
 
 -- a short option
 help : IsNoCommand (word (codes "strip") (omega arith) ∷ word (codes "t") (omega arith) ∷ word (codes "-h") (omega arith) ∷ [])
-help = no_command verbs.Strip _ (codes "t" ∷ codes "-h" ∷ []) refl (λ d says. unsaid (codes "t" ∷ codes "-h" ∷ []) ([]) says.places says.values refl says.line)
+help = no_command verbs.Strip _ (codes "t" ∷ codes "-h" ∷ []) refl (λ d says. words_that_say_nothing_are_no_line (codes "t" ∷ codes "-h" ∷ []) ([]) says.places says.values refl says.line)
 
 -- an empty word
 empty_word : IsNoCommand (word (codes "strip") (omega arith) ∷ word (codes "") (omega arith) ∷ [])
-empty_word = no_command verbs.Strip _ (codes "" ∷ []) refl (λ d says. unsaid (codes "" ∷ []) ([]) says.places says.values refl says.line)
+empty_word = no_command verbs.Strip _ (codes "" ∷ []) refl (λ d says. words_that_say_nothing_are_no_line (codes "" ∷ []) ([]) says.places says.values refl says.line)
 
 -- ---- the values
 
@@ -72,7 +72,7 @@ over_is = refl
 -- a number with a leading zero
 zero_in_front : IsNoCommand (word (codes "width") (omega arith) ∷ word (codes "d") (omega arith) ∷ word (codes "p") (omega arith) ∷ word (codes "--bound") (omega arith) ∷ word (codes "03") (omega arith) ∷ [])
 zero_in_front = no_command verbs.Width _ (codes "d" ∷ codes "p" ∷ codes "--bound" ∷ codes "03" ∷ []) refl (λ d says.
-    let line = said_line (codes "d" ∷ codes "p" ∷ codes "--bound" ∷ codes "03" ∷ []) (codes "bound" ∷ codes "implicates" ∷ []) says.places says.values (said_word (codes "d") ∷ said_word (codes "p") ∷ said_option (codes "bound") (codes "03") ∷ []) refl says.line in
+    let line = line_has_what_is_said (codes "d" ∷ codes "p" ∷ codes "--bound" ∷ codes "03" ∷ []) (codes "bound" ∷ codes "implicates" ∷ []) says.places says.values (said_word (codes "d") ∷ said_word (codes "p") ∷ said_option (codes "bound") (codes "03") ∷ []) refl says.line in
     let places = line.0 ∙ says.are_so.places_are in
     let values = line.1 ∙ says.are_so.values_are in
     let bound : says.are_so.bound ≡ Some (codes "03") = cc in
@@ -82,7 +82,7 @@ zero_in_front = no_command verbs.Width _ (codes "d" ∷ codes "p" ∷ codes "--b
 -- a budget of 0
 budget_of_none : IsNoCommand (word (codes "solve") (omega arith) ∷ word (codes "d") (omega arith) ∷ word (codes "p") (omega arith) ∷ word (codes "--budget") (omega arith) ∷ word (codes "0") (omega arith) ∷ [])
 budget_of_none = no_command verbs.Solve _ (codes "d" ∷ codes "p" ∷ codes "--budget" ∷ codes "0" ∷ []) refl (λ d says.
-    let line = said_line (codes "d" ∷ codes "p" ∷ codes "--budget" ∷ codes "0" ∷ []) (codes "mode" ∷ codes "merges" ∷ codes "implicates" ∷ codes "budget" ∷ codes "classical" ∷ []) says.places says.values (said_word (codes "d") ∷ said_word (codes "p") ∷ said_option (codes "budget") (codes "0") ∷ []) refl says.line in
+    let line = line_has_what_is_said (codes "d" ∷ codes "p" ∷ codes "--budget" ∷ codes "0" ∷ []) (codes "mode" ∷ codes "merges" ∷ codes "implicates" ∷ codes "budget" ∷ codes "classical" ∷ []) says.places says.values (said_word (codes "d") ∷ said_word (codes "p") ∷ said_option (codes "budget") (codes "0") ∷ []) refl says.line in
     let places = line.0 ∙ says.are_so.places_are in
     let values = line.1 ∙ says.are_so.values_are in
     let budget : says.are_so.budget ≡ Some (codes "0") = cc in
@@ -95,7 +95,7 @@ budget_of_none = no_command verbs.Solve _ (codes "d" ∷ codes "p" ∷ codes "--
 -- a problem of 101
 too_large : IsNoCommand (word (codes "bench") (omega arith) ∷ word (codes "line") (omega arith) ∷ word (codes "101") (omega arith) ∷ [])
 too_large = no_command verbs.Bench _ (codes "line" ∷ codes "101" ∷ []) refl (λ d says.
-    let line = said_line (codes "line" ∷ codes "101" ∷ []) (codes "mode" ∷ codes "budget" ∷ []) says.places says.values (said_word (codes "line") ∷ said_word (codes "101") ∷ []) refl says.line in
+    let line = line_has_what_is_said (codes "line" ∷ codes "101" ∷ []) (codes "mode" ∷ codes "budget" ∷ []) says.places says.values (said_word (codes "line") ∷ said_word (codes "101") ∷ []) refl says.line in
     let places = line.0 ∙ says.are_so.places_are in
     let values = line.1 ∙ says.are_so.values_are in
     let size : codes "101" ≡ decimal d.n = cc in
@@ -106,7 +106,7 @@ too_large = no_command verbs.Bench _ (codes "line" ∷ codes "101" ∷ []) refl 
 -- a mode and a file of merges
 mode_and_merges : IsNoCommand (word (codes "lift") (omega arith) ∷ word (codes "d") (omega arith) ∷ word (codes "p") (omega arith) ∷ word (codes "t") (omega arith) ∷ word (codes "--mode") (omega arith) ∷ word (codes "k1") (omega arith) ∷ word (codes "--merges") (omega arith) ∷ word (codes "m") (omega arith) ∷ [])
 mode_and_merges = no_command verbs.Lift _ (codes "d" ∷ codes "p" ∷ codes "t" ∷ codes "--mode" ∷ codes "k1" ∷ codes "--merges" ∷ codes "m" ∷ []) refl (λ d says.
-    let line = said_line (codes "d" ∷ codes "p" ∷ codes "t" ∷ codes "--mode" ∷ codes "k1" ∷ codes "--merges" ∷ codes "m" ∷ []) (codes "mode" ∷ codes "merges" ∷ codes "implicates" ∷ []) says.places says.values (said_word (codes "d") ∷ said_word (codes "p") ∷ said_word (codes "t") ∷ said_option (codes "mode") (codes "k1") ∷ said_option (codes "merges") (codes "m") ∷ []) refl says.line in
+    let line = line_has_what_is_said (codes "d" ∷ codes "p" ∷ codes "t" ∷ codes "--mode" ∷ codes "k1" ∷ codes "--merges" ∷ codes "m" ∷ []) (codes "mode" ∷ codes "merges" ∷ codes "implicates" ∷ []) says.places says.values (said_word (codes "d") ∷ said_word (codes "p") ∷ said_word (codes "t") ∷ said_option (codes "mode") (codes "k1") ∷ said_option (codes "merges") (codes "m") ∷ []) refl says.line in
     let places = line.0 ∙ says.are_so.places_are in
     let values = line.1 ∙ says.are_so.values_are in
     let mode : says.are_so.mode ≡ Some (codes "k1") = cc in
@@ -117,7 +117,7 @@ mode_and_merges = no_command verbs.Lift _ (codes "d" ∷ codes "p" ∷ codes "t"
 -- equal names of the written files
 equal_outputs : IsNoCommand (word (codes "translate") (omega arith) ∷ word (codes "d") (omega arith) ∷ word (codes "p") (omega arith) ∷ word (codes "o") (omega arith) ∷ word (codes "o") (omega arith) ∷ [])
 equal_outputs = no_command verbs.Translate _ (codes "d" ∷ codes "p" ∷ codes "o" ∷ codes "o" ∷ []) refl (λ d says.
-    let line = said_line (codes "d" ∷ codes "p" ∷ codes "o" ∷ codes "o" ∷ []) (codes "mode" ∷ codes "merges" ∷ codes "implicates" ∷ []) says.places says.values (said_word (codes "d") ∷ said_word (codes "p") ∷ said_word (codes "o") ∷ said_word (codes "o") ∷ []) refl says.line in
+    let line = line_has_what_is_said (codes "d" ∷ codes "p" ∷ codes "o" ∷ codes "o" ∷ []) (codes "mode" ∷ codes "merges" ∷ codes "implicates" ∷ []) says.places says.values (said_word (codes "d") ∷ said_word (codes "p") ∷ said_word (codes "o") ∷ said_word (codes "o") ∷ []) refl says.line in
     let places = line.0 ∙ says.are_so.places_are in
     let values = line.1 ∙ says.are_so.values_are in
     says.are_so.outputs_differ (let same : d.domain_out ≡ d.problem_out = cc in same))

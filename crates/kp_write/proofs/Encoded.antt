@@ -18,8 +18,8 @@ use Rattle.kp_grammar.specs.Symbols.{symbol_of}
 use Rattle.kp_grammar.specs.Words.{IsLow, IsName, IsHead}
 use Rattle.kp_meaning.specs.Names.{same, all_same}
 use Rattle.kp_meaning.specs.Encoding.{underscore, doubled_byte, doubled, encoded_objects, encoded, decoded, is_empty}
-use Rattle.kp_meaning.proofs.Encoding.{encoded_decodes}
-use Rattle.kp_meaning.proofs.Lists.{same-true, same-refl, all_same-refl}
+use Rattle.kp_meaning.proofs.Public.{what_was_encoded_decodes, all_same_names-refl}
+use Rattle.kp_base.proofs.Lists.{same-true, same-refl}
 use Rattle.kp_write.specs.Facts.{sign_word, tag_word, atom_fact}
 use Rattle.kp_plans.specs.Names.{IsGroundName, same_name}
 use Rattle.kp_write.specs.Grounds.{FactsTellApart}
@@ -133,7 +133,7 @@ no_empty [] h = refl
 no_empty (w ∷ ws) h = rw (some_byte h.0.token) (no_empty ws h.1)
 
 pub decodes : (n : GroundName) → IsGroundName n → decoded (encoded n) ≡ Some n
-decodes n h = encoded_decodes n (no_empty (n.head ∷ n.objects) (h.head, h.objects))
+decodes n h = what_was_encoded_decodes n (no_empty (n.head ∷ n.objects) (h.head, h.objects))
 
 one_of_some : {X : Type 0} (x y : X) → Some x ≡ Some y → x ≡ y
 one_of_some x y e = cc
@@ -142,7 +142,7 @@ one_name : (x y : GroundName) → IsGroundName x → IsGroundName y → encoded 
 one_name x y h k e = one_of_some x y (sym (decodes x h) ∙ ap decoded e ∙ decodes y k)
 
 pub same_name-refl : (n : GroundName) → same_name n n ≡ true
-same_name-refl n = and_from (same n.head n.head) (all_same n.objects n.objects) (same-refl n.head) (all_same-refl n.objects)
+same_name-refl n = and_from (same n.head n.head) (all_same n.objects n.objects) (same-refl n.head) (all_same_names-refl n.objects)
 
 -- ---- the literal of a fact
 

@@ -15,7 +15,7 @@ use Rattle.kp_write.specs.Written.{op, domain_pieces, problem_pieces, domain_tex
 use Rattle.kp_lex.specs.Cutting.{IsToken}
 use Rattle.kp_write.specs.Problems.{IsEffectOn, IsTask, HasMeantProblem}
 use Rattle.kp_write.specs.Runs.{runs, step_of}
-use Rattle.kp_pieces.proofs.Fine.{named}
+use Rattle.kp_pieces.proofs.Public.{spelled_name_is_token}
 use Rattle.kp_write.proofs.Faultless.{written_texts_have_problem}
 use Rattle.kp_write.proofs.Runs.{plans_are_runs}
 
@@ -54,11 +54,11 @@ unconditional e none m = record { conds = subst (λ cs. AllByRecursion (λ s. Me
 task : IsTask facts (a ∷ []) (p ∷ not_q ∷ []) (q ∷ [])
 unfolding symbol_of class_of IsDistinct
 task = record {
-  heads = (can_be_written p (named p refl) refl refl, (can_be_written not_p (named not_p refl) refl refl, (can_be_written q (named q refl) refl refl, (can_be_written not_q (named not_q refl) refl refl, tt))));
+  heads = (can_be_written p (spelled_name_is_token p refl) refl refl, (can_be_written not_p (spelled_name_is_token not_p refl) refl refl, (can_be_written q (spelled_name_is_token q refl) refl refl, (can_be_written not_q (spelled_name_is_token not_q refl) refl refl, tt))));
   facts_differ = ((refl, (refl, (refl, tt))), ((refl, (refl, tt)), ((refl, tt), (tt, tt))));
   operators = (
     record {
-      name = record { token = named (codes "do_-a") refl; low = refl };
+      name = record { token = spelled_name_is_token (codes "do_-a") refl; low = refl };
       pre = (inl refl, tt);
       effects = (unconditional (always true q) refl (inr (inr (inl refl))), (unconditional (always false not_q) refl (inr (inr (inr (inl refl)))), (unconditional (always true not_p) refl (inr (inl refl)), (unconditional (always false p) refl (inl refl), tt))));
     },

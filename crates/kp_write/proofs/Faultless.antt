@@ -6,16 +6,17 @@ use Rattle.kp_grammar.specs.declared.tree.Word.{Word}
 use Rattle.kp_grammar.specs.Trees.{Cond, conds_of, effs_of, Pred, Domain, Problem}
 use Rattle.kp_grammar.specs.Words.{IsHead}
 use Rattle.kp_base.specs.Lists.{Member}
+use Rattle.kp_base.proofs.Each.{each_member}
+use Rattle.kp_base.proofs.Lists.{same-refl}
 use Rattle.kp_meaning.specs.Names.{Name, same, is_among}
 use Rattle.kp_meaning.specs.Faults.{repeated, twice_in, words, head_faults, atom_faults, cond_faults, conds_faults, eff_faults, effs_faults, schema_faults, item_faults, HasNoFault}
 use Rattle.kp_meaning.specs.Places.{atom_map, cond_map, conds_map, eff_map, effs_map, item_map, pred_map, schema_map, domain_map, problem_map}
-use Rattle.kp_meaning.proofs.Lists.{same-refl}
-use Rattle.kp_meaning.proofs.PlacesOfFaults.{places_mean_nothing}
+use Rattle.kp_meaning.proofs.Public.{places_mean_nothing}
 use Rattle.kp_write.specs.Task.{Signed, Effect, Op}
 use Rattle.kp_write.specs.Names.{IsEffect, IsOp, AreHeads}
 use Rattle.kp_write.specs.Trees.{atom_of, fact_holds, signed_holds, made_where, effect_of, schema_of, predicate_of, item_of, written_domain, written_problem}
 use Rattle.kp_write.specs.Problems.{AreAmong, IsEffectOn, IsOpOn, IsTask, WrittenTextsHaveProblem}
-use Rattle.kp_write.proofs.Lists.{every, one_of_all}
+use Rattle.kp_write.proofs.Lists.{every}
 use Rattle.kp_write.proofs.Placed.{at_start, placed_domain, placed_problem, moved, domain_moved, problem_moved, same_no}
 use Rattle.kp_write.proofs.Whole.{written_domains_read, written_problems_read}
 
@@ -23,7 +24,7 @@ use Rattle.kp_write.proofs.Whole.{written_domains_read, written_problems_read}
 
 module _ (facts : List (List ℕ)) (heads : AreHeads facts) where
   head_is : (n : List ℕ) → Member facts n → IsHead n
-  head_is n m = one_of_all IsHead facts n heads m
+  head_is n m = each_member IsHead facts n heads m
 
   heads_are : (ns : List (List ℕ)) → AreAmong facts ns → AreHeads ns
   heads_are ns all = every (Member facts) IsHead head_is ns all

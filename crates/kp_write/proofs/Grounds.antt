@@ -8,11 +8,6 @@ use Rattle.kp_base.specs.LitSet.{with_lit}
 use Rattle.kp_write.specs.Facts.{opposites}
 use Rattle.kp_write.specs.Grounds.{IsOfAtom, AreOfAtoms}
 
--- what holds of each element holds of what it is mapped to
-pub mapped : {A B : Type 0} (P : A → Type 0) (Q : B → Type 0) (f : A → B) → ((x : A) → P x → Q (f x)) → (xs : List A) → AllByRecursion P xs → AllByRecursion Q (map f xs)
-mapped P Q f step [] h = tt
-mapped P Q f step (x ∷ xs) h = (step x h.0, mapped P Q f step xs h.1)
-
 with_one : (P : Lit → Type 0) (l : Lit) (ls : List Lit) → P l → AllByRecursion P ls → AllByRecursion P (with_lit l ls)
 with_one P l [] p h = (p, tt)
 with_one P l (x ∷ xs) p h = go (with_one P l xs p h.1) (nat_lt (code_of l) (code_of x)) (code_of l == code_of x) where

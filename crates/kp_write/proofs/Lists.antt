@@ -15,12 +15,3 @@ flat_swap f g h k (x ∷ xs) e = map-append f (g x) (flat_map g xs) ∙ rw (e x,
 pub every : {T : Type 0} (P Q : T → Type 0) → ((x : T) → P x → Q x) → (xs : List T) → AllByRecursion P xs → AllByRecursion Q xs
 every P Q f [] all = tt
 every P Q f (x ∷ xs) all = (f x all.0, every P Q f xs all.1)
-
-pub one_of_all : {T : Type 0} (P : T → Type 0) (xs : List T) (x : T) → AllByRecursion P xs → Member xs x → P x
-one_of_all P [] x all m = absurd m
-one_of_all P (y ∷ ys) x all (inl e) = subst P e all.0
-one_of_all P (y ∷ ys) x all (inr m) = one_of_all P ys x all.1 m
-
-pub all_from : {T : Type 0} (P : T → Type 0) (xs : List T) → ((x : T) → Member xs x → P x) → AllByRecursion P xs
-all_from P [] f = tt
-all_from P (x ∷ xs) f = (f x (inl refl), all_from P xs (λ y m. f y (inr m)))

@@ -6,10 +6,10 @@ use Rattle.std.proofs.Math.Bool.{and-true}
 use Rattle.std.specs.Bool.{beq}
 use Rattle.std.specs.List.{AllByRecursion, IsDistinct, list_any, list_all, flat_map}
 use Rattle.kp_base.specs.Lists.{only_if, Member}
-use Rattle.kp_base.proofs.Lists.{bool_same, all_member, member_at, number_at, member_map}
+use Rattle.kp_base.proofs.Each.{each_member}
+use Rattle.kp_base.proofs.Lists.{bool_same, all_member, member_at, number_at, member_map, same-true, same-refl}
 use Rattle.kp_meaning.specs.Names.{same, is_among}
 use Rattle.kp_meaning.specs.Steps.{Step}
-use Rattle.kp_meaning.proofs.Lists.{same-true, same-refl}
 use Rattle.kp_classic.specs.declared.task.Conds.{Conds}
 use Rattle.kp_classic.specs.declared.task.OpEffect.{OpEffect}
 use Rattle.kp_classic.specs.declared.task.Op.{Op as NumberedOp}
@@ -21,7 +21,6 @@ use Rattle.kp_write.specs.Problems.{AreAmong, IsEffectOn, IsOpOn, IsTask}
 use Rattle.kp_write.specs.Runs.{Facts, is_so, is_made, after_op, runs, step_of}
 use Rattle.kp_write.specs.Named.{fact_name, signed_fact, named_conds, named_effect, named_op, named_ops, named_start, named_goal}
 use Rattle.kp_write.specs.Tasks.{IsWritableOp, CanBeWritten, step_at, TasksRead, TaskPlansAreRuns}
-use Rattle.kp_write.proofs.Lists.{one_of_all}
 use Rattle.kp_write.proofs.Faultless.{written_texts_have_problem}
 use Rattle.kp_write.proofs.Runs.{plans_are_runs}
 
@@ -88,7 +87,7 @@ tasks_read t w = written_texts_have_problem t.facts (named_ops t) (named_start t
 -- ---- the runs
 
 not_later : (x : List ℕ) (xs : List (List ℕ)) → AllByRecursion (λ y. same x y ≡ false) xs → (j : ℕ) → slice_get xs j ≡ Some x → ⊥
-not_later x xs all j at = false≢true (sym (one_of_all (λ y. same x y ≡ false) xs x all (member_at xs j x at)) ∙ same-refl x)
+not_later x xs all j at = false≢true (sym (each_member (λ y. same x y ≡ false) xs x all (member_at xs j x at)) ∙ same-refl x)
 
 -- a name stands in one place
 one_place : (xs : List (List ℕ)) → IsDistinct same xs → (i j : ℕ) (n : List ℕ) → slice_get xs i ≡ Some n → slice_get xs j ≡ Some n → i ≡ j
@@ -198,7 +197,7 @@ module _ (t : Task) (w : CanBeWritten t) where
       go None is here rest = let gone : None ≡ Some o = subst (λ (x : Option NumberedOp). option_map (named_op t.facts) x ≡ Some o) is here in absurd cc
       go (Some a) is here rest =
           let it : named_op t.facts a ≡ o = one_of_some (named_op t.facts a) o (subst (λ (x : Option NumberedOp). option_map (named_op t.facts) x ≡ Some o) is here) in
-          let can : IsWritableOp a = one_of_all IsWritableOp t.ops a w.operators (member_at t.ops n a is) in
+          let can : IsWritableOp a = each_member IsWritableOp t.ops a w.operators (member_at t.ops n a is) in
           let ok : fits_op (length t.facts) a ≡ true = all_member (fits_op (length t.facts)) t.ops a (member_at t.ops n a is) w.operators_fit in
           let pre = positive_met t.facts w.facts_differ s h agree a.pre can.positive (and_parts (fits (length t.facts) a.pre) (list_all (fits_effect (length t.facts)) a.effects) ok).0 in
           subst (λ (z : Op). runs (named_goal t) (z ∷ os) s ≡ (applicable (Some a) h && succeeds t (next (Some a) h) ns)) it

@@ -19,8 +19,7 @@ use Rattle.kp_write.specs.Written.{fact, fact_line, signed_case, signed, conjunc
 use Rattle.kp_pieces.specs.Tokens.{words}
 use Rattle.kp_write.specs.Names.{IsSigned, IsEffect, IsOp, AreHeads, AreOps}
 use Rattle.kp_write.specs.Trees.{atom_of, fact_holds, signed_holds, all_facts, made_where, effect_of, schema_of, predicate_of, item_of, written_domain, written_problem}
-use Rattle.kp_pieces.proofs.Applied.{◌$◌}
-use Rattle.kp_pieces.proofs.Reading.{Gives, many_reads}
+use Rattle.kp_pieces.proofs.Public.{◌$◌, PiecesGive, many_pieces_read}
 
 -- the form that a test picks, where it passes
 picked : {b : Bool} {c : Sort} (v : Bool) (X Y : Form b c) {ts rest : List (Tok (List ℕ))} {x : El (List ℕ) c} → v ≡ true → Reads X ts x rest → Reads (if_then v X Y) ts x rest
@@ -50,15 +49,15 @@ pick_cond symbols.And e r = absurd cc
 pick_cond symbols.Not e r = absurd cc
 pick_cond s e r = r_loose (pick_test true s e r)
 
-fact_reads : (n : List ℕ) → IsHead n → Gives cond (fact n) (fact_holds n)
+fact_reads : (n : List ℕ) → IsHead n → PiecesGive cond (fact n) (fact_holds n)
 fact_reads n h rest = r_within $ r_bracket refl (r_choice (pick_cond (symbol_of kinds.Name n) h.head (r_make (atom_reads n rest h)))) refl
 
-signed_case_reads : (b : Bool) (n : List ℕ) → IsHead n → Gives cond (signed_case b n) (Cond.atom b (atom_of n))
+signed_case_reads : (b : Bool) (n : List ℕ) → IsHead n → PiecesGive cond (signed_case b n) (Cond.atom b (atom_of n))
 unfolding symbol_of
 signed_case_reads true n h rest = fact_reads n h rest
 signed_case_reads false n h rest = r_within $ r_bracket refl (r_choice $ r_loose $ r_after refl $ r_bracket refl (r_choice (pick_test false (symbol_of kinds.Name n) h.head (r_make (atom_reads n (right ∷ rest) h)))) refl) refl
 
-signed_reads : (s : Signed) → IsSigned s → Gives cond (signed s) (signed_holds s)
+signed_reads : (s : Signed) → IsSigned s → PiecesGive cond (signed s) (signed_holds s)
 signed_reads s h rest = signed_case_reads s.holds s.fact h rest
 
 signed_starts : (b : Bool) (n : List ℕ) (rest : List Piece) → first_is is_left (words (signed_case b n rest)) ≡ true
@@ -66,11 +65,11 @@ signed_starts true n rest = refl
 signed_starts false n rest = refl
 
 conjunction_reads : {T : Type 0} (f : T → Put) (tree : T → Cond (List ℕ)) (P : T → Type 0)
-    → ((x : T) → P x → Gives cond (f x) (tree x)) → ((x : T) (rest : List Piece) → first_is is_left (words (f x rest)) ≡ true)
-    → (xs : List T) → AllByRecursion P xs → Gives cond (conjunction f xs) (Cond.all (conds_of (map tree xs)))
+    → ((x : T) → P x → PiecesGive cond (f x) (tree x)) → ((x : T) (rest : List Piece) → first_is is_left (words (f x rest)) ≡ true)
+    → (xs : List T) → AllByRecursion P xs → PiecesGive cond (conjunction f xs) (Cond.all (conds_of (map tree xs)))
 unfolding symbol_of
 conjunction_reads f tree P reads begun xs every rest =
-    r_within $ r_bracket refl (r_choice $ r_loose $ r_after refl $ r_make $ many_reads is_left cond (spaced f) tree P reads begun xs (right ∷ rest) every refl) refl
+    r_within $ r_bracket refl (r_choice $ r_loose $ r_after refl $ r_make $ many_pieces_read is_left cond (spaced f) tree P reads begun xs (right ∷ rest) every refl) refl
 
 -- ---- effects
 
@@ -82,12 +81,12 @@ pick_eff symbols.Forall e r = absurd cc
 pick_eff symbols.Not e r = absurd cc
 pick_eff s e r = r_loose (picked (is_head s) (make (m_makes true) atom_body) (nothing not_effect) e r)
 
-result_reads : (b : Bool) (n : List ℕ) → IsHead n → Gives eff (signed_case b n) (Eff.makes b (atom_of n))
+result_reads : (b : Bool) (n : List ℕ) → IsHead n → PiecesGive eff (signed_case b n) (Eff.makes b (atom_of n))
 unfolding symbol_of
 result_reads true n h rest = r_within $ r_bracket refl (r_choice (pick_eff (symbol_of kinds.Name n) h.head (r_make (atom_reads n rest h)))) refl
 result_reads false n h rest = r_within $ r_bracket refl (r_choice $ r_loose $ r_after refl $ r_make $ r_bracket refl (atom_reads n (right ∷ rest) h) refl) refl
 
-guarded_reads : (cs : List Signed) (s : Signed) → AllByRecursion IsSigned cs → IsSigned s → Gives eff (guarded cs s) (made_where cs s)
+guarded_reads : (cs : List Signed) (s : Signed) → AllByRecursion IsSigned cs → IsSigned s → PiecesGive eff (guarded cs s) (made_where cs s)
 unfolding symbol_of
 guarded_reads [] s every h rest = result_reads s.holds s.fact h rest
 guarded_reads (c ∷ cs) s every h rest =
@@ -128,12 +127,12 @@ unfolding symbol_of
 precondition_reads [] rest every h = r_absent h
 precondition_reads (n ∷ ns) rest every h = r_present refl $ r_after refl $ conjunction_reads fact fact_holds IsHead fact_reads (λ x r. refl) (n ∷ ns) every (line_feed rest)
 
-op_reads : (o : Op) → IsOp o → Gives section (op o) (Section.action (schema_of o))
+op_reads : (o : Op) → IsOp o → PiecesGive section (op o) (Section.action (schema_of o))
 unfolding op symbol_of
 op_reads o h rest =
     let end : List Piece = right ∷ line_feed (right ∷ line_feed rest) in
     let effects : Reads (many is_left eff) (words (each effect_line o.effects end)) (map effect_of o.effects) (words end) =
-    many_reads is_left eff effect_line effect_of IsEffect (λ e p r. guarded_reads e.conds e.result p.conds p.result (line_feed r)) (λ e r. guarded_starts e.conds e.result (line_feed r)) o.effects _ h.effects refl in
+    many_pieces_read is_left eff effect_line effect_of IsEffect (λ e p r. guarded_reads e.conds e.result p.conds p.result (line_feed r)) (λ e r. guarded_starts e.conds e.result (line_feed r)) o.effects _ h.effects refl in
     r_bracket refl (r_choice (r_after refl (r_make (r_make
     (r_both (r_token (name_hits (symbol_of kinds.Name o.name) (name_is o.name)))
     (r_both (r_present refl (r_after refl (r_bracket refl (r_make (r_end refl)) refl)))
@@ -143,7 +142,7 @@ op_reads o h rest =
 
 -- ---- the domain
 
-pred_reads : (n : List ℕ) → IsHead n → Gives pred (fact_line n) (predicate_of n)
+pred_reads : (n : List ℕ) → IsHead n → PiecesGive pred (fact_line n) (predicate_of n)
 pred_reads n h rest = r_bracket refl (r_make $ r_both (r_token (head_hits (symbol_of kinds.Name n) h.head)) (r_make (r_end refl))) refl
 
 -- the sections of operators
@@ -173,8 +172,8 @@ pub domain_reads : (facts : List (List ℕ)) (ops : List Op) → AreHeads facts 
 unfolding domain_pieces symbol_of
 domain_reads facts ops h k =
     let end : List Piece = right ∷ line_feed [] in
-    let operators : Reads (many is_left section) (words (each op ops end)) (actions ops) (words end) = many_reads is_left section op (λ o. Section.action (schema_of o)) IsOp op_reads op_starts ops _ k refl in
-    let declared : Reads (many is_left pred) (words (each fact_line facts (right ∷ line_feed (each op ops end)))) (map predicate_of facts) (words (right ∷ line_feed (each op ops end))) = many_reads is_left pred fact_line predicate_of IsHead pred_reads (λ x r. refl) facts _ h refl in
+    let operators : Reads (many is_left section) (words (each op ops end)) (actions ops) (words end) = many_pieces_read is_left section op (λ o. Section.action (schema_of o)) IsOp op_reads op_starts ops _ k refl in
+    let declared : Reads (many is_left pred) (words (each fact_line facts (right ∷ line_feed (each op ops end)))) (map predicate_of facts) (words (right ∷ line_feed (each op ops end))) = many_pieces_read is_left pred fact_line predicate_of IsHead pred_reads (λ x r. refl) facts _ h refl in
     subst (λ (x : Domain (List ℕ)). ReadsWhole domain (words (domain_pieces facts ops)) x) (domain_is facts ops)
     (r_bracket refl (r_after refl (r_make {x = (tt, sections facts ops)}
     (r_both (r_bracket refl (r_after refl (r_token refl)) refl)
@@ -192,7 +191,7 @@ pick_item symbols.Or e r = absurd cc
 pick_item symbols.Unknown e r = absurd cc
 pick_item s e r = r_loose (picked (is_head s) (make (m_fact true) fact_body) (nothing not_item) e r)
 
-item_reads : (n : List ℕ) → IsHead n → Gives item (fact_line n) (item_of n)
+item_reads : (n : List ℕ) → IsHead n → PiecesGive item (fact_line n) (item_of n)
 item_reads n h rest = r_within $ r_bracket refl (r_choice (pick_item (symbol_of kinds.Name n) h.head (r_make (ground_reads n (line_feed rest) h)))) refl
 
 pick_goal : (s : Symbol) {ts rest : List (Tok (List ℕ))} {x : Cond (List ℕ)} → is_head s ≡ true → Reads (make (m_holds true) fact_body) ts x rest → Reads (goal_case s) ts x rest
@@ -201,18 +200,18 @@ pick_goal symbols.And e r = absurd cc
 pick_goal symbols.Not e r = absurd cc
 pick_goal s e r = r_loose (picked (is_head s) (make (m_holds true) fact_body) (nothing not_goal) e r)
 
-goal_fact_reads : (n : List ℕ) → IsHead n → Gives goal_form (fact_line n) (fact_holds n)
+goal_fact_reads : (n : List ℕ) → IsHead n → PiecesGive goal_form (fact_line n) (fact_holds n)
 goal_fact_reads n h rest = r_within $ r_bracket refl (r_choice (pick_goal (symbol_of kinds.Name n) h.head (r_make (ground_reads n (line_feed rest) h)))) refl
 
 pub problem_reads : (start goal : List (List ℕ)) → AreHeads start → AreHeads goal → ReadsWhole problem (words (problem_pieces start goal)) (written_problem start goal)
 unfolding problem_pieces symbol_of
 problem_reads start goal h k =
     let end : List Piece = right ∷ right ∷ line_feed (right ∷ line_feed []) in
-    let goals : Reads (many is_left goal_form) (words (each fact_line goal end)) (map fact_holds goal) (words end) = many_reads is_left goal_form fact_line fact_holds IsHead goal_fact_reads (λ x r. refl) goal _ k refl in
+    let goals : Reads (many is_left goal_form) (words (each fact_line goal end)) (map fact_holds goal) (words end) = many_pieces_read is_left goal_form fact_line fact_holds IsHead goal_fact_reads (λ x r. refl) goal _ k refl in
     subst (λ (x : Problem (List ℕ)). ReadsWhole problem (words (problem_pieces start goal)) x) (rw (append-nil (map item_of start)) refl)
     (r_bracket refl (r_after refl (r_make {x = (tt, Given.of_domain ∷ Given.init (map item_of start) ∷ Given.goal (all_facts goal) ∷ [])}
     (r_both (r_bracket refl (r_after refl (r_token refl)) refl)
     (r_next refl (r_bracket refl (r_choice (r_after refl (r_make (r_make (r_token refl))))) refl)
-    (r_next refl (r_bracket refl (r_choice (r_after refl (r_make (r_make (many_reads is_left item fact_line item_of IsHead item_reads (λ x r. refl) start _ h refl))))) refl)
+    (r_next refl (r_bracket refl (r_choice (r_after refl (r_make (r_make (many_pieces_read is_left item fact_line item_of IsHead item_reads (λ x r. refl) start _ h refl))))) refl)
     (r_next refl (r_bracket refl (r_choice (r_after refl (r_make (r_make (r_within (r_bracket refl (r_choice (r_loose (r_after refl (r_make goals)))) refl)))))) refl)
     (r_last refl refl))))))) refl)

@@ -7,21 +7,20 @@ use Rattle.std.specs.List.{AllByRecursion, IsDistinct, list_any, list_all, flat_
 use Rattle.kp_grammar.specs.declared.tree.Word.{Word}
 use Rattle.kp_grammar.specs.Trees.{Schema, Domain, Problem, conds_of, effs_of}
 use Rattle.kp_base.specs.Lists.{only_if, Member}
+use Rattle.kp_base.proofs.Parts.{find_map}
+use Rattle.kp_base.proofs.Each.{each_from, each_member}
+use Rattle.kp_base.proofs.Lists.{any_from, any_member, same-true, same-refl}
 use Rattle.kp_meaning.specs.Names.{Name, same, all_same, is_among}
 use Rattle.kp_meaning.specs.States.{State, Binding, unbound, Literal, names_literal, all_hold}
 use Rattle.kp_meaning.specs.Steps.{Step, fires, all_fire, fits, is_instance, permits, applicable, state_by, next, after, schema_of as schema_of_step}
 use Rattle.kp_meaning.specs.Initial.{item_holds, item_literals, is_of, is_named, IsInitial}
 use Rattle.kp_meaning.specs.Places.{conds_map, eff_map, effs_map, item_map, schema_map, domain_map, problem_map}
 use Rattle.kp_meaning.specs.Plans.{succeeds, Solves}
-use Rattle.kp_meaning.proofs.Lists.{any_from, any_member, same-true, same-refl}
-use Rattle.kp_meaning.proofs.Places.{find_map}
-use Rattle.kp_meaning.proofs.PlacesOfFaults.{places_mean_nothing}
-use Rattle.kp_meaning.proofs.Texts.{solves_theirs}
+use Rattle.kp_meaning.proofs.Public.{places_mean_nothing, solves_theirs}
 use Rattle.kp_write.specs.Task.{Signed, Effect, Op}
 use Rattle.kp_write.specs.Written.{domain_text, problem_text}
 use Rattle.kp_write.specs.Trees.{fact_holds, signed_holds, made_where, effect_of, schema_of, item_of, written_domain, written_problem}
 use Rattle.kp_write.specs.Runs.{Facts, is_so, results, is_made, after_op, runs, step_of, IsRun, PlansAreRuns}
-use Rattle.kp_write.proofs.Lists.{one_of_all, all_from}
 use Rattle.kp_write.proofs.Placed.{at_start, placed_domain, placed_problem, moved, domain_moved, problem_moved, same_swap}
 use Rattle.kp_write.proofs.Faultless.{written_texts_have_problem}
 
@@ -95,7 +94,7 @@ finds : (ops : List Op) (o : Op) → IsDistinct same (map (λ x. x.name) ops) �
 unfolding IsDistinct
 finds [] o d m = absurd m
 finds (x ∷ xs) o d (inl e) = rw (ap (λ y. same y.name o.name) e ∙ same-refl o.name) (ap Some e)
-finds (x ∷ xs) o d (inr m) = rw (one_of_all (λ y. same x.name y ≡ false) (map (λ y. y.name) xs) o.name d.0 (named_member xs o m)) (finds xs o d.1 m)
+finds (x ∷ xs) o d (inr m) = rw (each_member (λ y. same x.name y ≡ false) (map (λ y. y.name) xs) o.name d.0 (named_member xs o m)) (finds xs o d.1 m)
 
 module _ (facts : List (List ℕ)) (ops : List Op) (start goal : List (List ℕ)) where
   abbrev d : Domain Word
@@ -190,7 +189,7 @@ module _ (facts : List (List ℕ)) (ops : List Op) (start goal : List (List ℕ)
 
   -- the atoms that are named
   first_state : IsInitial p (is_named p)
-  first_state = record { items = at_the_start (is_named p) (λ n. named_is n start) start (all_from (Member start) start (λ x m. m)); absent = λ h os e. e }
+  first_state = record { items = at_the_start (is_named p) (λ n. named_is n start) start (each_from (Member start) start (λ x m. m)); absent = λ h os e. e }
 
   stated : (s : State) (n : List ℕ) (ns : List (List ℕ)) → list_all (item_holds s) (map (item_map at_start) (map item_of ns)) ≡ true → Member ns n → s n [] ≡ true
   stated s n [] e m = absurd m

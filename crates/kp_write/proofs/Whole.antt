@@ -11,14 +11,13 @@ use Rattle.kp_pieces.specs.Tokens.{spans, words, Fine}
 use Rattle.kp_pieces.specs.Maps.{ReadsWithPlaces}
 use Rattle.kp_write.specs.Texts.{DomainReadsAsMeant, ProblemReadsAsMeant}
 use Rattle.kp_write.specs.Trees.{written_domain, written_problem}
-use Rattle.kp_pieces.proofs.Cuts.{pieces_are_cut}
-use Rattle.kp_pieces.proofs.Natural.{places_dont_matter}
+use Rattle.kp_pieces.proofs.Public.{pieces_are_cut, reading_goes_by_symbols}
 use Rattle.kp_write.proofs.Fine.{fine_domain, fine_problem}
 use Rattle.kp_write.proofs.Reading.{domain_reads, problem_reads}
 
 -- what the words of fine pieces read as, their text reads as
 text_reads : {b : Bool} {c : Sort} (X : Form b c) (ps : List Piece) (y : El (List ℕ) c) → Fine ps → ReadsWhole X (words ps) y → ReadsWithPlaces X (all_seen_in (spelling ps) (spans 0 ps)) y
-text_reads X ps y fine h = places_dont_matter _ _ X _ y (subst (λ (ts : List (Tok (List ℕ))). ReadsWhole X ts y) (sym (pieces_are_cut ps fine).seen) h)
+text_reads X ps y fine h = reading_goes_by_symbols _ _ X _ y (subst (λ (ts : List (Tok (List ℕ))). ReadsWhole X ts y) (sym (pieces_are_cut ps fine).seen) h)
 
 pub written_domains_read : DomainReadsAsMeant
 written_domains_read facts ops h k =

@@ -3,7 +3,7 @@ use Rattle.kp_primes.specs.Held.{formula}
 use Rattle.kp_given.specs.Translations.{initial_of}
 use Rattle.kp_words.specs.Names.{of_mode, Bench}
 use Rattle.kp_inputs.specs.Tables.{AnswersTable, HasTable, from_mode}
-use Rattle.kp_inputs.proofs.Going.{table_goes, table_ends}
+use Rattle.kp_inputs.proofs.Public.{table_goes, table_ends}
 use Rattle.kp_bench.specs.Bench.{BenchesGround}
 use Rattle.kp_bench.proofs.ByModels.{grounds_by}
 use Rattle.kp_bench.proofs.running.bench_ground.Goals as goal

@@ -3,7 +3,7 @@ use Rattle.kp_given.specs.Translations.{initial_of}
 use Rattle.kp_words.specs.Names.{of_mode}
 use Rattle.kp_prepared.specs.Prepared.{AnswersPrepared}
 use Rattle.kp_inputs.specs.Tables.{ComesByTable}
-use Rattle.kp_inputs.proofs.Going.{later_goes, early_ends}
+use Rattle.kp_inputs.proofs.Public.{prepared_goes_on, prepared_ends}
 use Rattle.kp_bench.specs.Bench.{usual_implicates, BenchesGround, BenchesTrees}
 use Rattle.kp_bench.proofs.running.bench_texts.Goals as goal
 
@@ -21,7 +21,7 @@ returns-in-Ok c =
     let p = c.args.texts.problem in
     let t = c.args.command.now in
     let w = subst (AnswersPrepared usual_implicates d p) c.in-Ok.is (c.prepare.ensures.answers d p c.front.ensures.front c.front-2.ensures.front) in
-    later_goes usual_implicates d p (BenchesTrees t) c.in-Ok.prepared w c.bench_ground.result
+    prepared_goes_on usual_implicates d p (BenchesTrees t) c.in-Ok.prepared w c.bench_ground.result
     (subst (λ g. IfOk c.bench_ground.result (ComesByTable g (initial_of w.first w.second) (of_mode t.mode) [] (BenchesGround t g (initial_of w.first w.second)))) w.ground
     (c.bench_ground.ensures (initial_of w.first w.second) w.primes.same_models))
 
@@ -30,4 +30,4 @@ pub returns-in-Err : goal.returns-in-Err
 returns-in-Err c =
     let d = c.args.texts.domain in
     let p = c.args.texts.problem in
-    early_ends usual_implicates d p (BenchesTrees c.args.command.now) c.in-Err.early c.settle.result (subst (AnswersPrepared usual_implicates d p) c.in-Err.is (c.prepare.ensures.answers d p c.front.ensures.front c.front-2.ensures.front)) c.settle.ensures
+    prepared_ends usual_implicates d p (BenchesTrees c.args.command.now) c.in-Err.early c.settle.result (subst (AnswersPrepared usual_implicates d p) c.in-Err.is (c.prepare.ensures.answers d p c.front.ensures.front c.front-2.ensures.front)) c.settle.ensures

@@ -1,8 +1,8 @@
 use Rattle.std.proofs.Common.{◌≡◌, ◌++◌, ◌∷◌, [], ◌∙◌, refl, sym, ap, map, take, arith}
 use Rattle.std.proofs.lemmas.List.{map_push}
+use Rattle.kp_base.proofs.Places.{one_more_taken}
 use Rattle.kp_meaning.specs.Lifted.{object_of, bindings}
 use Rattle.kp_names.specs.View as owned
-use Rattle.kp_kept.proofs.Digits.{one_more_taken}
 use Rattle.kp_bound.specs.Bound.{bound_eff}
 use Rattle.kp_bound.specs.Nodes.{eff_view}
 use Rattle.kp_bound.proofs.Views.{all_effs, eff_atom_bound, each_bound}

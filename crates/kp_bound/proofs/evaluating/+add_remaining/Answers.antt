@@ -5,20 +5,20 @@ use Rattle.kp_base.specs.Lists.{only_if}
 use Rattle.kp_meaning.specs.Lifted.{ground}
 use Rattle.kp_grounding.specs.Static.{remaining}
 use Rattle.kp_bound.specs.Nodes.{cond_view}
-use Rattle.kp_bound.specs.Problem.{problem_of}
+use Rattle.kp_names.specs.View.{lifted_view}
 use Rattle.kp_bound.proofs.Views.{remaining_all, remaining_atom}
 use Rattle.kp_bound.proofs.evaluating.+add_remaining.Goals as goal
 
 pub returns-after-parts : goal.returns-after-parts
 returns-after-parts t c =
-    let l = problem_of c.args.statics.now in
+    let l = lifted_view c.args.statics.now in
     let all : c.parts.conds ≡ c.args.conds.now ++ flat_map (remaining l []) (map cond_view c.in-All.parts.now) = grind (arith, common_steps, c.parts.invariant) in
     all ∙ ap (λ z. c.args.conds.now ++ z) (sym (ap (λ z. remaining l [] (cond_view z)) c.in-All.is ∙ remaining_all l c.in-All.parts))
 
 -- a static literal leaves nothing
 pub returns-then-is_static : goal.returns-then-is_static
 returns-then-is_static t c =
-    let l = problem_of c.args.statics.now in
+    let l = lifted_view c.args.statics.now in
     let static = sym c.is_static.ensures ∙ c.if-is_static.true in
     sym (ap (λ z. c.args.conds.now ++ z)
     (ap (λ z. remaining l [] (cond_view z)) c.in-Atom.is
@@ -29,7 +29,7 @@ returns-then-is_static t c =
 -- another one stays
 pub returns-else-is_static : goal.returns-else-is_static
 returns-else-is_static t c =
-    let l = problem_of c.args.statics.now in
+    let l = lifted_view c.args.statics.now in
     let static = sym c.is_static.ensures ∙ c.if-is_static.false in
     let left = ap (λ z. remaining l [] (cond_view z)) c.in-Atom.is
     ∙ (remaining_atom l c.in-Atom.positive c.in-Atom.pred c.in-Atom.terms

@@ -1,10 +1,10 @@
 use Rattle.std.proofs.Common.{◌≡◌, [], map, take, true}
 use Rattle.std.specs.List.{list_all}
 use Rattle.kp_grounding.specs.Static.{settled}
-use Rattle.kp_bound.specs.Problem.{problem_of}
+use Rattle.kp_names.specs.View.{lifted_view}
 use Rattle.kp_bound.specs.Nodes.{cond_view}
 use Rattle.kp_bound.proofs.evaluating.+is_settled.Given as goal
 
 -- the parts before this one are settled
 abbrev pub invariant-parts : goal.invariant-parts
-invariant-parts l = list_all (settled (problem_of l.statics) []) (map cond_view (take l.part-index l.part-items)) ≡ true
+invariant-parts l = list_all (settled (lifted_view l.statics) []) (map cond_view (take l.part-index l.part-items)) ≡ true

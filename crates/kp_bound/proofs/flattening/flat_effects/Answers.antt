@@ -1,7 +1,7 @@
 use Rattle.std.proofs.Common.{◌∙◌, ap, [], map}
 use Rattle.kp_grounding.specs.Flattening.{under, flat, same_flat}
 use Rattle.kp_bound.specs.Nodes.{eff_view}
-use Rattle.kp_bound.specs.Problem.{problem_of}
+use Rattle.kp_names.specs.View.{lifted_view}
 use Rattle.kp_bound.specs.Shapes.{with_effects}
 use Rattle.kp_bound.proofs.Views.{under_none}
 use Rattle.kp_base.proofs.Once.{once_by_one}
@@ -10,7 +10,7 @@ use Rattle.kp_bound.proofs.flattening.flat_effects.Goals as goal
 
 pub returns : goal.returns
 returns c =
-    let fs = flat (problem_of c.args.statics.now) [] (eff_view c.args.eff.now) in
+    let fs = flat (lifted_view c.args.statics.now) [] (eff_view c.args.eff.now) in
     c.into_row.ensures
     ∙ (c.in_ok-hand_bound.ensures.taken
     ∙ (ap (λ z. with_effects z (map (under c.new-conds.result) fs)) c.new-effects.ensures

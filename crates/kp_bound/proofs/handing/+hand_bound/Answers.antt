@@ -8,13 +8,13 @@ use Rattle.kp_grounding.specs.declared.flat.FlatEffect.{FlatEffect}
 use Rattle.kp_grounding.specs.Static.{remaining}
 use Rattle.kp_grounding.specs.Flattening.{under, flat}
 use Rattle.kp_bound.specs.Nodes.{cond_view, eff_view}
-use Rattle.kp_bound.specs.Problem.{problem_of}
+use Rattle.kp_names.specs.View.{lifted_view}
 use Rattle.kp_bound.proofs.Views.{flat_under, flat_all, flat_when, flat_atom}
 use Rattle.kp_bound.proofs.handing.+hand_bound.Goals as goal
 
 pub returns-after-parts-clause-taken : goal.returns-after-parts-clause-taken
 returns-after-parts-clause-taken g t c =
-    let l = problem_of c.args.statics.now in
+    let l = lifted_view c.args.statics.now in
     let ls = c.args.conds.now in
     let all : c.parts.sink ≡ fold g.S.Sink.takes c.args.sink.now (flat_map (flat_under l ls) (map eff_view c.in-All.parts.now)) = grind (arith, common_steps, c.parts.invariant.so_far) in
     all ∙ ap (fold g.S.Sink.takes c.args.sink.now) (sym (ap (λ z. flat_under l ls (eff_view z)) c.in-All.is ∙ flat_all l ls c.in-All.parts))
@@ -22,7 +22,7 @@ returns-after-parts-clause-taken g t c =
 -- the condition is settled, and its other literals stand round the body
 pub returns-in_ok-hand_bound-in-When-clause-taken : goal.returns-in_ok-hand_bound-in-When-clause-taken
 returns-in_ok-hand_bound-in-When-clause-taken g t c =
-    let l = problem_of c.args.statics.now in
+    let l = lifted_view c.args.statics.now in
     let ls = c.args.conds.now in
     let settles = sym c.is_settled.ensures ∙ c.if-not-is_settled.false in
     let whole = ap (λ z. flat_under l ls (eff_view z)) c.in-When.is
@@ -33,7 +33,7 @@ returns-in_ok-hand_bound-in-When-clause-taken g t c =
 
 pub returns-in-Atom-clause-taken : goal.returns-in-Atom-clause-taken
 returns-in-Atom-clause-taken g t c =
-    let l = problem_of c.args.statics.now in
+    let l = lifted_view c.args.statics.now in
     let ls = c.args.conds.now in
     let made : List GroundLit → FlatEffect = λ z. record { cond = z; result = ground c.in-Atom.positive c.in-Atom.pred c.in-Atom.terms.now } in
     let one = ap (λ z. flat_under l ls (eff_view z)) c.in-Atom.is ∙ flat_atom l ls c.in-Atom.positive c.in-Atom.pred c.in-Atom.terms in

@@ -6,14 +6,14 @@ use Rattle.kp_grounding.specs.Static.{settled, remaining}
 use Rattle.kp_grounding.specs.Flattening.{under, flat}
 use Rattle.kp_bound.specs.Bound.{bound_cond}
 use Rattle.kp_bound.specs.Nodes.{cond_view, eff_view}
-use Rattle.kp_bound.specs.Problem.{problem_of}
+use Rattle.kp_names.specs.View.{lifted_view}
 use Rattle.kp_bound.proofs.Meaning.{split_bound, flat_bound}
 use Rattle.kp_bound.proofs.walking.hand_when.Goals as goal
 
 -- a false condition leaves nothing
 pub returns-then-not-is_settled-clause-taken : goal.returns-then-not-is_settled-clause-taken
 returns-then-not-is_settled-clause-taken g c =
-    let l = problem_of c.args.statics.now in
+    let l = lifted_view c.args.statics.now in
     let b = c.args.objects.now.items in
     let cond = owned.cond_view c.args.cond.now in
     let bound : cond_view c.in_ok-guard.guard ≡ bound_cond b cond = c.in_ok-guard.ensures ∙ ap (λ z. bound_cond z cond) c.as_slice.ensures.value in
@@ -23,7 +23,7 @@ returns-then-not-is_settled-clause-taken g c =
 -- under a true one come the effects of the body, with its other literals
 pub returns-clause-taken : goal.returns-clause-taken
 returns-clause-taken g c =
-    let l = problem_of c.args.statics.now in
+    let l = lifted_view c.args.statics.now in
     let b = c.args.objects.now.items in
     let cond = owned.cond_view c.args.cond.now in
     let eff = owned.eff_view c.args.body.now in

@@ -2,9 +2,9 @@ use Rattle.std.proofs.Common.{◌≡◌, false, ◌&&◌, sym, ◌∙◌}
 use Rattle.std.specs.List.{list_any}
 use Rattle.kp_base.specs.declared.ground.Effect.{Effect}
 use Rattle.kp_base.specs.Lists.{Member}
+use Rattle.kp_base.proofs.Places.{item_member}
 use Rattle.kp_pairs.specs.Paired.{is_pair}
-use Rattle.kp_pairs.proofs.Removing.{adds_broken}
-use Rattle.kp_pairs.proofs.Walks.{item_member}
+use Rattle.kp_pairs.proofs.Public.{adds_broken}
 use Rattle.kp_clash.proofs.Adding.{adds_none}
 use Rattle.kp_clash.proofs.broken.first_together.Goals as goal
 

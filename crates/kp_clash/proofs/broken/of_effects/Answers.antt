@@ -2,11 +2,11 @@ use Rattle.std.proofs.Common.{true, refl, subst, ◌∙◌, inl, inr}
 use Rattle.std.proofs.lemmas.Bool.{and_from}
 use Rattle.kp_base.specs.declared.ground.Effect.{Effect}
 use Rattle.kp_base.specs.Lists.{Member}
+use Rattle.kp_base.proofs.Places.{item_member, taken_all, taken_more}
 use Rattle.kp_pairs.specs.Paired.{is_pair}
 use Rattle.kp_pairs.specs.Settled.{stays_in}
 use Rattle.kp_pairs.specs.Removed.{BreaksNone}
-use Rattle.kp_pairs.proofs.Removing.{pair_turned, none_stays}
-use Rattle.kp_pairs.proofs.Walks.{item_member, taken_more, taken_all}
+use Rattle.kp_pairs.proofs.Public.{pair_turned, unbroken_pairs_stay}
 use Rattle.kp_clash.proofs.broken.of_effects.Goals as goal
 
 pub of_effect-requires-clause-of_action : goal.of_effect-requires-clause-of_action
@@ -25,4 +25,4 @@ loop-effect-preserved c = λ e m.
 pub returns : goal.returns
 returns c = λ p q pair.
     let none = λ (e : Effect) (m : Member c.args.action.now.effects e). c.loop-effect.invariant e (taken_all c.args.action.now.effects c.loop-effect.effect-index e (rw c.slice-effect-items.ensures at c.loop-effect-test.false) m) in
-    and_from (stays_in (is_pair c.args.pairs.now) p q c.args.action.now) true (none_stays (is_pair c.args.pairs.now) (λ u v h. pair_turned c.args.pairs.now v u ∙ h) c.args.action.now none p q pair) refl
+    and_from (stays_in (is_pair c.args.pairs.now) p q c.args.action.now) true (unbroken_pairs_stay (is_pair c.args.pairs.now) (λ u v h. pair_turned c.args.pairs.now v u ∙ h) c.args.action.now none p q pair) refl

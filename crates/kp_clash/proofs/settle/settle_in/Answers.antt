@@ -1,5 +1,5 @@
-use Rattle.kp_pairs.proofs.Removing.{shrinks_on}
+use Rattle.kp_pairs.proofs.Public.{shrinks_further}
 use Rattle.kp_clash.proofs.settle.settle_in.Goals as goal
 
 pub rounds-preserved : goal.rounds-preserved
-rounds-preserved c = shrinks_on c.args.ground.now.actions c.args.pairs.now c.rounds.pairs c.remove.new.pairs c.rounds.invariant c.remove.ensures.shrinks
+rounds-preserved c = shrinks_further c.args.ground.now.actions c.args.pairs.now c.rounds.pairs c.remove.new.pairs c.rounds.invariant c.remove.ensures.shrinks

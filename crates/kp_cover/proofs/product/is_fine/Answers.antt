@@ -1,5 +1,5 @@
 use Rattle.kp_base.proofs.Lists.{bool_same}
-use Rattle.kp_primes.proofs.Questions.{consistent_exact}
+use Rattle.kp_primes.proofs.Public.{consistent_exact}
 use Rattle.kp_cover.proofs.product.is_fine.Goals as goal
 
 pub returns : goal.returns

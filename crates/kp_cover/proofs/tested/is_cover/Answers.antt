@@ -1,5 +1,5 @@
 use Rattle.std.proofs.Common.{◌∙◌, [], ap}
-use Rattle.kp_primes.proofs.Questions.{consistent_exact}
+use Rattle.kp_primes.proofs.Public.{consistent_exact}
 use Rattle.kp_cover.specs.Grown.{is_fine}
 use Rattle.kp_cover.proofs.tested.is_cover.Goals as goal
 

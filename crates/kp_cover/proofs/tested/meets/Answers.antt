@@ -1,5 +1,5 @@
 use Rattle.std.proofs.Common.{◌∙◌}
-use Rattle.kp_primes.proofs.Questions.{consistent_exact}
+use Rattle.kp_primes.proofs.Public.{consistent_exact}
 use Rattle.kp_cover.proofs.Closures.{meets_is}
 use Rattle.kp_cover.proofs.tested.meets.Goals as goal
 

@@ -1,4 +1,5 @@
 use Rattle.std.proofs.Common.{◌≡◌, ◌<◌, true, false, refl, ◌∙◌, arith}
+use Rattle.std.proofs.lemmas.Result.{IfOk-weaker}
 use Rattle.kp_base.specs.Lit.{negative, positive}
 use Rattle.kp_base.specs.LitSet.{with_lit}
 use Rattle.kp_primes.specs.Held.{formula}
@@ -7,25 +8,36 @@ use Rattle.kp_first.proofs.Tags.{falls, more_below}
 use Rattle.kp_first.proofs.Splitting.{found_more, split}
 use Rattle.kp_first.proofs.finding.+find.Goals as goal
 
-pub find-requires : goal.find-requires
-find-requires g t c κs within =
+-- the tag leaves the atom open
+pub find-find_absent-requires : goal.find-find_absent-requires
+find-find_absent-requires g t c κs within =
     let unclear = rw c.in-Open.is at c.in_ok-judge_tag.ensures in
-    let less = falls c.in-Open.atom.0 false c.args.tag c.args.primes.now.atoms unclear.0 unclear.1 in
-    (rw c.in_ok-without-in-Open.ensures (omega (arith, less, c.decreases)), (within, (c.requires.ready, (c.requires.atoms, (c.requires.in_range, rw c.in_ok-without-in-Open.ensures (more_below c.args.primes.now.atoms (negative c.in-Open.atom.0) c.args.tag c.requires.below unclear.0))))))
+    (omega (arith, c.decreases), (within, (c.requires.ready, (c.requires.atoms, (c.requires.in_range, (c.requires.below, (unclear.0, unclear.1)))))))
 
-pub returns-in-Some : goal.returns-in-Some
-returns-in-Some g t c =
-    let found = rw (c.in-Some.is, c.in_ok-without-in-Open.ensures) at c.in_ok-found-in-Open.ensures in
+pub find-find_present-requires : goal.find-find_present-requires
+find-find_present-requires g t c κs within =
+    let unclear = rw c.in-Open.is at c.in_ok-judge_tag.ensures in
+    (omega (arith, c.decreases), (within, (c.requires.ready, (c.requires.atoms, (c.requires.in_range, (c.requires.below, (unclear.0, unclear.1)))))))
+
+-- what is found without the atom is within the tag
+pub find-returns-in-Some : goal.find-returns-in-Some
+find-returns-in-Some g t c =
+    let found = rw c.in-Some.is at c.in_ok-found-in-Open.ensures in
     found_more c.args.primes.now.atoms (formula c.args.primes.now) (test_at (g.T.Question.tests c.args.question.now) c.args.number) (negative c.in-Open.atom.0) c.args.tag c.in-Some.found found
 
-pub find-requires-in-None : goal.find-requires-in-None
-find-requires-in-None g t c κs within =
-    let unclear = rw c.in-Open.is at c.in_ok-judge_tag.ensures in
-    let less = falls c.in-Open.atom.0 true c.args.tag c.args.primes.now.atoms unclear.0 unclear.1 in
-    (rw (c.in_ok-with-in-None.ensures, c.negated.ensures) (omega (arith, less, c.decreases)), (within, (c.requires.ready, (c.requires.atoms, (c.requires.in_range, rw (c.in_ok-with-in-None.ensures, c.negated.ensures) (more_below c.args.primes.now.atoms (positive c.in-Open.atom.0) c.args.tag c.requires.below unclear.0))))))
+-- where nothing is found without it, what is found with it decides
+pub find-returns-in-None : goal.find-returns-in-None
+find-returns-in-None g t c =
+    let none = rw c.in-None.is at c.in_ok-found-in-Open.ensures in
+    IfOk-weaker c.find_present.result _ _ (λ found rest. split c.args.primes.now.atoms (formula c.args.primes.now) (test_at (g.T.Question.tests c.args.question.now) c.args.number) c.in-Open.atom.0 c.args.tag found none rest) c.find_present.ensures
 
-pub returns-in_ok-rest-in-None : goal.returns-in_ok-rest-in-None
-returns-in_ok-rest-in-None g t c =
-    let none = rw (c.in-None.is, c.in_ok-without-in-Open.ensures) at c.in_ok-found-in-Open.ensures in
-    let rest = rw (c.in_ok-with-in-None.ensures, c.negated.ensures) at c.in_ok-rest-in-None.ensures in
-    split c.args.primes.now.atoms (formula c.args.primes.now) (test_at (g.T.Question.tests c.args.question.now) c.args.number) c.in-Open.atom.0 c.args.tag c.in_ok-rest-in-None.rest none rest
+-- fewer atoms are left
+pub find_absent-find-requires : goal.find_absent-find-requires
+find_absent-find-requires g t c κs within =
+    let less = falls c.args.atom.0 false c.args.tag.now c.args.primes.now.atoms c.requires.open_below c.requires.undecided in
+    (rw c.in_ok-without.ensures (omega (arith, less, c.decreases)), (within, (c.requires.ready, (c.requires.atoms, (c.requires.in_range, rw c.in_ok-without.ensures (more_below c.args.primes.now.atoms (negative c.args.atom.0) c.args.tag.now c.requires.below c.requires.open_below))))))
+
+pub find_present-find-requires : goal.find_present-find-requires
+find_present-find-requires g t c κs within =
+    let less = falls c.args.atom.0 true c.args.tag c.args.primes.now.atoms c.requires.open_below c.requires.undecided in
+    (rw c.in_ok-with.ensures (omega (arith, less, c.decreases)), (within, (c.requires.ready, (c.requires.atoms, (c.requires.in_range, rw c.in_ok-with.ensures (more_below c.args.primes.now.atoms (positive c.args.atom.0) c.args.tag c.requires.below c.requires.open_below))))))

@@ -1,9 +1,8 @@
 use Rattle.std.proofs.Common.{List, [], fold, ap, ◌∙◌}
 use Rattle.kp_base.specs.declared.ground.Effect.{Effect}
-use Rattle.kp_names.specs.View.{schema_view, eff_view}
+use Rattle.kp_names.specs.View.{schema_view, eff_view, lifted_view}
 use Rattle.kp_grounding.specs.declared.flat.Atom.{Atom}
 use Rattle.kp_grounding.specs.Flattening.{flat}
-use Rattle.kp_bound.specs.Problem.{problem_of}
 use Rattle.kp_ground.proofs.Injective.{made_once}
 use Rattle.kp_ground.proofs.Taken.{more_made, all_made}
 use Rattle.kp_ground.proofs.actions.effects_by_number.Goals as goal
@@ -11,7 +10,7 @@ use Rattle.kp_ground.proofs.actions.effects_by_number.Goals as goal
 -- each effect comes once by number, as in the flat form
 pub returns : goal.returns
 returns c =
-    let l = problem_of c.args.statics.now in
+    let l = lifted_view c.args.statics.now in
     let atoms = c.args.atoms.now in
     let os = c.args.objects.now in
     let fs = flat l os (eff_view c.args.schema.now.effect) in

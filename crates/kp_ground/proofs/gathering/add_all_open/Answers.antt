@@ -2,7 +2,7 @@ use Rattle.std.proofs.Common.{List, ◌+◌, drop, filter, ap, sym, ◌∙◌}
 use Rattle.kp_meaning.specs.declared.lifted.GroundLit.{GroundLit}
 use Rattle.kp_grounding.specs.declared.flat.Atom.{Atom}
 use Rattle.kp_atoms.specs.Gathered.{gather}
-use Rattle.kp_bound.specs.Problem.{problem_of}
+use Rattle.kp_names.specs.View.{lifted_view}
 use Rattle.kp_ground.specs.Passes.{is_open}
 use Rattle.kp_ground.proofs.LoopSteps.{drop_item, filter_more}
 use Rattle.kp_ground.proofs.gathering.add_all_open.Goals as goal
@@ -10,7 +10,7 @@ use Rattle.kp_ground.proofs.gathering.add_all_open.Goals as goal
 -- the literal's atom comes, and then those of the literals that are left
 pub loop-lit-preserved : goal.loop-lit-preserved
 loop-lit-preserved c =
-    let open_lit = is_open (problem_of c.args.statics.now) in
+    let open_lit = is_open (lifted_view c.args.statics.now) in
     let lits = c.args.lits.now in
     let i = c.loop-lit.lit-index in
     let m = c.lit-item.result in

@@ -1,9 +1,9 @@
 use Rattle.std.proofs.Common.{◌≡◌, drop, filter}
 use Rattle.kp_atoms.specs.Gathered.{gather}
-use Rattle.kp_bound.specs.Problem.{problem_of}
+use Rattle.kp_names.specs.View.{lifted_view}
 use Rattle.kp_ground.specs.Passes.{is_open}
 use Rattle.kp_ground.proofs.gathering.add_all_open.Given as goal
 
 -- with the literals that are left come all
 abbrev pub invariant-loop-lit : goal.invariant-loop-lit
-invariant-loop-lit l = gather l.limit l.atoms (filter (is_open (problem_of l.statics)) (drop l.lit-index l.lits)) ≡ gather l.limit l.fn.atoms (filter (is_open (problem_of l.statics)) l.lits)
+invariant-loop-lit l = gather l.limit l.atoms (filter (is_open (lifted_view l.statics)) (drop l.lit-index l.lits)) ≡ gather l.limit l.fn.atoms (filter (is_open (lifted_view l.statics)) l.lits)

@@ -1,9 +1,9 @@
 use Rattle.std.proofs.Common.{length, map, drop, sym, ◌∙◌, ◌<◌, arith}
 use Rattle.std.specs.List.{flat_map}
 use Rattle.std.proofs.lemmas.Bool.{lt-ltb}
-use Rattle.kp_atoms.proofs.Gathers.{gather_over}
+use Rattle.kp_atoms.proofs.Public.{gathers_no_more_over_limit}
 use Rattle.kp_kept.specs.Counts.{kept_view}
-use Rattle.kp_bound.specs.Problem.{problem_of}
+use Rattle.kp_names.specs.View.{lifted_view}
 use Rattle.kp_ground.specs.Passes.{literals_at}
 use Rattle.kp_ground.proofs.LoopSteps.{known_there}
 use Rattle.kp_ground.proofs.occurring.add_kept.Goals as goal
@@ -14,8 +14,8 @@ returns-then-into-len c =
     let limit = c.args.into.now.limit in
     let atoms = c.loop-one.into.atoms in
     let over : limit < length atoms = omega (arith, c.if-into-len.true, c.len.ensures, c.loop-one.invariant.limit) in
-    sym (gather_over limit atoms (flat_map (literals_at (problem_of c.args.statics.now)) (map kept_view (drop c.loop-one.one-index c.args.kept.now))) (lt-ltb limit (length atoms) over))
+    sym (gathers_no_more_over_limit limit atoms (flat_map (literals_at (lifted_view c.args.statics.now)) (map kept_view (drop c.loop-one.one-index c.args.kept.now))) (lt-ltb limit (length atoms) over))
     ∙ c.loop-one.invariant.atoms
 
 pub add_instance-requires : goal.add_instance-requires
-add_instance-requires c = known_there (problem_of c.args.statics.now) c.args.kept.now c.loop-one.one-index c.one-item.result c.loop-one-test.true c.one-item.is c.requires
+add_instance-requires c = known_there (lifted_view c.args.statics.now) c.args.kept.now c.loop-one.one-index c.one-item.result c.loop-one-test.true c.one-item.is c.requires

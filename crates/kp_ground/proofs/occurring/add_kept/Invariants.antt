@@ -2,7 +2,7 @@ use Rattle.std.proofs.Common.{◌≡◌, drop, map}
 use Rattle.std.specs.List.{flat_map}
 use Rattle.kp_atoms.specs.Gathered.{gather}
 use Rattle.kp_kept.specs.Counts.{kept_view}
-use Rattle.kp_bound.specs.Problem.{problem_of}
+use Rattle.kp_names.specs.View.{lifted_view}
 use Rattle.kp_ground.specs.Passes.{literals_at}
 use Rattle.kp_ground.proofs.occurring.add_kept.Given as goal
 
@@ -10,5 +10,5 @@ use Rattle.kp_ground.proofs.occurring.add_kept.Given as goal
 abbrev pub invariant-loop-one : goal.invariant-loop-one
 invariant-loop-one l = record {
   limit : l.into.limit ≡ l.fn.into.limit;
-  atoms : gather l.fn.into.limit l.into.atoms (flat_map (literals_at (problem_of l.statics)) (map kept_view (drop l.one-index l.kept))) ≡ gather l.fn.into.limit l.fn.into.atoms (flat_map (literals_at (problem_of l.statics)) (map kept_view l.kept));
+  atoms : gather l.fn.into.limit l.into.atoms (flat_map (literals_at (lifted_view l.statics)) (map kept_view (drop l.one-index l.kept))) ≡ gather l.fn.into.limit l.fn.into.atoms (flat_map (literals_at (lifted_view l.statics)) (map kept_view l.kept));
 }

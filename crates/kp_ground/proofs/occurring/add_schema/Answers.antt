@@ -1,27 +1,26 @@
 use Rattle.std.proofs.Common.{◌≡◌, List, sym, ap, ◌∙◌}
 use Rattle.std.specs.List.{flat_map}
 use Rattle.std.proofs.lemmas.List.Sums.{fold-append}
-use Rattle.kp_names.specs.View.{cond_view, eff_view}
+use Rattle.kp_names.specs.View.{cond_view, eff_view, lifted_view}
 use Rattle.kp_grounding.specs.declared.flat.Atom.{Atom}
 use Rattle.kp_grounding.specs.Static.{remaining}
 use Rattle.kp_grounding.specs.Flattening.{flat}
 use Rattle.kp_grounding.specs.Ground.{effect_literals}
 use Rattle.kp_atoms.specs.Gathered.{with_atom_within, gather}
-use Rattle.kp_bound.specs.Problem.{problem_of}
 use Rattle.kp_ground.specs.declared.effect_atoms.EffectAtoms.{EffectAtoms}
 use Rattle.kp_ground.proofs.Taken.{all_atoms}
 use Rattle.kp_ground.proofs.occurring.add_schema.Goals as goal
 
 pub returns-clause-limit : goal.returns-clause-limit
 returns-clause-limit c =
-    let fs = flat (problem_of c.args.statics.now) c.args.objects.now (eff_view c.args.schema.now.effect) in
+    let fs = flat (lifted_view c.args.statics.now) c.args.objects.now (eff_view c.args.schema.now.effect) in
     let mid : EffectAtoms = record { atoms = c.add_literals.new.atoms; limit = c.args.into.now.limit } in
     ap (λ (g : EffectAtoms). g.limit) (c.in_ok-hand_over.ensures ∙ all_atoms mid fs)
 
 -- the atoms of the precondition come, and then those of the effects
 pub returns-clause-atoms : goal.returns-clause-atoms
 returns-clause-atoms c =
-    let l = problem_of c.args.statics.now in
+    let l = lifted_view c.args.statics.now in
     let os = c.args.objects.now in
     let limit = c.args.into.now.limit in
     let old = c.args.into.now.atoms in

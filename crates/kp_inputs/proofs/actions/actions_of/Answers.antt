@@ -3,7 +3,7 @@ use Rattle.kp_base.specs.declared.refused.Part.TheVariants as parts
 use Rattle.kp_base.specs.declared.refused.Refused.TheVariants as refusals
 use Rattle.kp_plans.specs.PlanFiles.{IsPlanOf, AnswersPlan}
 use Rattle.kp_printed.specs.Refusals.{nothing}
-use Rattle.kp_prepared.proofs.Reading.{whole}
+use Rattle.kp_prepared.proofs.Public.{whole_content_is_read}
 use Rattle.kp_inputs.specs.Actions.{long_plan}
 use Rattle.kp_inputs.proofs.FileMerges.{few_steps}
 use Rattle.kp_inputs.proofs.Lengths.{over_length, short_length}
@@ -24,13 +24,13 @@ numbers_of-requires-clause-few c =
 -- the text is a plan
 pub returns-in-Ok-clause-answers : goal.returns-in-Ok-clause-answers
 returns-in-Ok-clause-answers c text front =
-    let its = c.slice.ensures ∙ whole 16777216 text c.args.plan.bytes c.args.plan.more front.0 front.1 c.if-plan.false in
+    let its = c.slice.ensures ∙ whole_content_is_read 16777216 text c.args.plan.bytes c.args.plan.more front.0 front.1 c.if-plan.false in
     of_steps c.args.ground.now text c.in-Ok.steps c.numbers_of.result (short_length 16777216 text c.args.plan.more refl front.1 c.if-plan.false)
     (subst (λ (bytes : List ℕ). IsPlanOf bytes c.in-Ok.steps) its c.in-Ok.ensures) c.numbers_of.ensures.answers
 
 -- it is none
 pub returns-clause-answers : goal.returns-clause-answers
 returns-clause-answers c text front =
-    let its = c.slice.ensures ∙ whole 16777216 text c.args.plan.bytes c.args.plan.more front.0 front.1 c.if-plan.false in
+    let its = c.slice.ensures ∙ whole_content_is_read 16777216 text c.args.plan.bytes c.args.plan.more front.0 front.1 c.if-plan.false in
     no_plan_file c.args.ground.now text c.in-Err.stop (short_length 16777216 text c.args.plan.more refl front.1 c.if-plan.false)
     (subst (λ (bytes : List ℕ). AnswersPlan bytes (Err c.in-Err.stop)) its c.in-Err.ensures) c.ended_by-in-Err.result c.ended_by-in-Err.ensures

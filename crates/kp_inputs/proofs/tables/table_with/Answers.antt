@@ -6,7 +6,7 @@ use Rattle.kp_primes.specs.Held.{formula}
 use Rattle.kp_merges.specs.MergesFiles.{IsMergesOf, AnswersMergesFile}
 use Rattle.kp_tags.specs.Tables.{has_tags_of_atoms}
 use Rattle.kp_printed.specs.Refusals.{nothing}
-use Rattle.kp_prepared.proofs.Reading.{whole}
+use Rattle.kp_prepared.proofs.Public.{whole_content_is_read}
 use Rattle.kp_words.specs.Names.{of_file}
 use Rattle.kp_inputs.specs.Tables.{long_file}
 use Rattle.kp_inputs.proofs.FileMerges.{tags_of_atoms}
@@ -28,7 +28,7 @@ pub returns-in-Ok : goal.returns-in-Ok
 returns-in-Ok c name text j front same =
     let g = c.args.prepared.now.ground in
     let i = formula c.args.prepared.now.primes in
-    let its = c.slice.ensures ∙ whole 16777216 text c.args.merges.bytes c.args.merges.more front.0 front.1 c.if-merges.false in
+    let its = c.slice.ensures ∙ whole_content_is_read 16777216 text c.args.merges.bytes c.args.merges.more front.0 front.1 c.if-merges.false in
     answer_by g i j (of_file name) (text ∷ []) c.table_for.result same
     (of_merges g c.args.prepared.now.primes.atoms i name text c.in-Ok.merges c.table_for.result (sym c.requires.usable.atoms)
     (short_length 16777216 text c.args.merges.more refl front.1 c.if-merges.false)
@@ -38,6 +38,6 @@ returns-in-Ok c name text j front same =
 pub returns : goal.returns
 returns c name text j front same =
     let g = c.args.prepared.now.ground in
-    let its = c.slice.ensures ∙ whole 16777216 text c.args.merges.bytes c.args.merges.more front.0 front.1 c.if-merges.false in
+    let its = c.slice.ensures ∙ whole_content_is_read 16777216 text c.args.merges.bytes c.args.merges.more front.0 front.1 c.if-merges.false in
     no_file_table g j name text c.in-Err.stop (short_length 16777216 text c.args.merges.more refl front.1 c.if-merges.false)
     (subst (λ (bytes : List ℕ). AnswersMergesFile g.atoms bytes (Err c.in-Err.stop)) its c.in-Err.ensures) c.ended_by-in-Err.result c.ended_by-in-Err.ensures

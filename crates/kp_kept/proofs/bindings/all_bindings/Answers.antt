@@ -1,6 +1,6 @@
 use Rattle.std.proofs.Common.{◌∙◌}
+use Rattle.kp_base.proofs.Places.{one_more_taken}
 use Rattle.kp_meaning.specs.Lifted.{bindings}
-use Rattle.kp_kept.proofs.Digits.{one_more_taken}
 use Rattle.kp_kept.proofs.bindings.all_bindings.Goals as goal
 
 pub loop-number-preserved : goal.loop-number-preserved

@@ -13,7 +13,7 @@ use Rattle.kp_kept.proofs.keeping.keep_all.Goals as goal
 -- this one comes, or is one too many, and the others are left
 pub returns-then-not-branch : goal.returns-then-not-branch
 returns-then-not-branch c =
-    let l = lifted_view c.args.statics.now.lifted.now in
+    let l = lifted_view c.args.statics.now in
     let a = schema_view c.args.schema.now in
     let os = c.deref.result.now in
     let old = map kept_view c.loop-place.kept in
@@ -25,7 +25,7 @@ returns-then-not-branch c =
 
 pub loop-place-preserved : goal.loop-place-preserved
 loop-place-preserved c =
-    let l = lifted_view c.args.statics.now.lifted.now in
+    let l = lifted_view c.args.statics.now in
     let a = schema_view c.args.schema.now in
     let os = c.deref.result.now in
     let old = map kept_view c.loop-place.kept in

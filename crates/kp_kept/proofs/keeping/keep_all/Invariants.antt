@@ -9,5 +9,5 @@ use Rattle.kp_kept.proofs.keeping.keep_all.Given as goal
 abbrev pub invariant-loop-place : goal.invariant-loop-place
 invariant-loop-place l = record {
   few : length l.kept ≤ l.most;
-  so_far : map kept_view l.kept ++ kept_rest (lifted_view l.statics.lifted.now) l.number (schema_view l.schema) l.place ≡ map kept_view l.fn.kept ++ map (instance l.number) (kept_bindings (lifted_view l.statics.lifted.now) (schema_view l.schema));
+  so_far : map kept_view l.kept ++ kept_rest (lifted_view l.statics) l.number (schema_view l.schema) l.place ≡ map kept_view l.fn.kept ++ map (instance l.number) (kept_bindings (lifted_view l.statics) (schema_view l.schema));
 }

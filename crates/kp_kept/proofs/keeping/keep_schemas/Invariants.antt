@@ -10,6 +10,6 @@ abbrev pub invariant-loop-schema : goal.invariant-loop-schema
 invariant-loop-schema l = record {
   few : length l.kept ≤ l.most;
   counted : l.number ≡ l.schema-index;
-  so_far : map kept_view l.kept ++ kept_from (lifted_view l.statics.lifted.now) l.number (map schema_view (drop l.schema-index l.schema-items)) ≡ kept_instances (lifted_view l.statics.lifted.now);
-  weights : l.weight ≡ capped (sum_by (λ a. length (kept_bindings (lifted_view l.statics.lifted.now) (schema_view a)) * weight (schema_view a)) (take l.schema-index l.schema-items));
+  so_far : map kept_view l.kept ++ kept_from (lifted_view l.statics) l.number (map schema_view (drop l.schema-index l.schema-items)) ≡ kept_instances (lifted_view l.statics);
+  weights : l.weight ≡ capped (sum_by (λ a. length (kept_bindings (lifted_view l.statics) (schema_view a)) * weight (schema_view a)) (take l.schema-index l.schema-items));
 }

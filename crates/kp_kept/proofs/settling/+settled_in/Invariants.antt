@@ -5,4 +5,4 @@ use Rattle.kp_kept.proofs.settling.+settled_in.Given as goal
 
 -- all are settled where those that are left are
 abbrev pub invariant-loop-part : goal.invariant-loop-part
-invariant-loop-part l = all_settled (lifted_view l.statics.lifted.now) l.objects (conds_of (map cond_view (drop l.part-index l.part-items))) ≡ all_settled (lifted_view l.statics.lifted.now) l.objects (conds_of (map cond_view l.part-items))
+invariant-loop-part l = all_settled (lifted_view l.statics) l.objects (conds_of (map cond_view (drop l.part-index l.part-items))) ≡ all_settled (lifted_view l.statics) l.objects (conds_of (map cond_view l.part-items))

@@ -6,7 +6,7 @@ use Rattle.kp_lifted.proofs.effects.+effs.Goals as goal
 
 pub effect-returns-in_ok-effects-in-All-clause-effect : goal.effect-returns-in_ok-effects-in-All-clause-effect
 effect-returns-in_ok-effects-in-All-clause-effect t c =
-    let d = domain_view c.args.ranges.now.names.domain.now in
-    let p = problem_view c.args.ranges.now.names.problem.now in
+    let d = domain_view c.args.ranges.now.names.domain in
+    let p = problem_view c.args.ranges.now.names.problem in
     all_effs d p c.args.scope.now c.in_ok-effects-in-All.field-0 c.in-All.parts (c.in_ok-effects-in-All.ensures.effects ∙ ap (λ z. map (numbered_eff d p c.args.scope.now) (map tree_view z)) c.slice.ensures)
     ∙ ap (λ z. numbered_eff d p c.args.scope.now (tree_view z)) (sym c.in-All.is)

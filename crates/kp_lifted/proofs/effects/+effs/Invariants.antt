@@ -7,5 +7,5 @@ use Rattle.kp_lifted.proofs.effects.+effs.Given as goal
 abbrev pub invariant-effects-trees : goal.invariant-effects-trees
 invariant-effects-trees l = record {
   kept : l.ranges.names ≡ l.fn.ranges.names;
-  so_far : map eff_view l.row ++ map (numbered_eff (domain_view l.fn.ranges.names.domain.now) (problem_view l.fn.ranges.names.problem.now) l.scope) (map tree_view (drop l.tree-index l.trees)) ≡ map (numbered_eff (domain_view l.fn.ranges.names.domain.now) (problem_view l.fn.ranges.names.problem.now) l.scope) (map tree_view l.trees);
+  so_far : map eff_view l.row ++ map (numbered_eff (domain_view l.fn.ranges.names.domain) (problem_view l.fn.ranges.names.problem) l.scope) (map tree_view (drop l.tree-index l.trees)) ≡ map (numbered_eff (domain_view l.fn.ranges.names.domain) (problem_view l.fn.ranges.names.problem) l.scope) (map tree_view l.trees);
 }

@@ -7,5 +7,5 @@ use Rattle.kp_lifted.proofs.effects.schemas.Given as goal
 abbrev pub invariant-loop-tree : goal.invariant-loop-tree
 invariant-loop-tree l = record {
   kept : l.ranges.names ≡ l.fn.ranges.names;
-  so_far : map schema_view l.row ++ map (numbered_schema (domain_view l.fn.ranges.names.domain.now) (problem_view l.fn.ranges.names.problem.now)) (map schema_tree_view (drop l.tree-index l.trees)) ≡ map (numbered_schema (domain_view l.fn.ranges.names.domain.now) (problem_view l.fn.ranges.names.problem.now)) (map schema_tree_view l.trees);
+  so_far : map schema_view l.row ++ map (numbered_schema (domain_view l.fn.ranges.names.domain) (problem_view l.fn.ranges.names.problem)) (map schema_tree_view (drop l.tree-index l.trees)) ≡ map (numbered_schema (domain_view l.fn.ranges.names.domain) (problem_view l.fn.ranges.names.problem)) (map schema_tree_view l.trees);
 }

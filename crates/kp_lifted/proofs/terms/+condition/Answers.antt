@@ -8,7 +8,7 @@ use Rattle.kp_lifted.proofs.terms.+condition.Goals as goal
 
 pub returns-after-loop-part : goal.returns-after-loop-part
 returns-after-loop-part t c =
-    let d = domain_view c.args.names.now.domain.now in
-    let p = problem_view c.args.names.now.problem.now in
+    let d = domain_view c.args.names.now.domain in
+    let p = problem_view c.args.names.now.problem in
     let all : map cond_view c.loop-part.row ≡ map (numbered_cond d p c.args.scope.now) (map tree_view c.in-All.parts) = grind (arith, common_steps, c.loop-part.invariant, c.slice-part-items.ensures) in
     all_conds d p c.args.scope.now c.loop-part.row c.in-All.parts all ∙ ap (λ z. numbered_cond d p c.args.scope.now (tree_view z)) (sym c.in-All.is)

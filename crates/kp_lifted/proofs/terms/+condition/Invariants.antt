@@ -5,4 +5,4 @@ use Rattle.kp_lifted.specs.View.{cond_view}
 use Rattle.kp_lifted.proofs.terms.+condition.Given as goal
 
 abbrev pub invariant-loop-part : goal.invariant-loop-part
-invariant-loop-part l = map cond_view l.row ++ map (numbered_cond (domain_view l.names.domain.now) (problem_view l.names.problem.now) l.scope) (map tree_view (drop l.part-index l.part-items)) ≡ map (numbered_cond (domain_view l.names.domain.now) (problem_view l.names.problem.now) l.scope) (map tree_view l.part-items)
+invariant-loop-part l = map cond_view l.row ++ map (numbered_cond (domain_view l.names.domain) (problem_view l.names.problem) l.scope) (map tree_view (drop l.part-index l.part-items)) ≡ map (numbered_cond (domain_view l.names.domain) (problem_view l.names.problem) l.scope) (map tree_view l.part-items)

@@ -4,4 +4,4 @@ use Rattle.kp_meaning.specs.Numbering.{numbered_term}
 use Rattle.kp_lifted.proofs.terms.terms.Given as goal
 
 abbrev pub invariant-loop-tree : goal.invariant-loop-tree
-invariant-loop-tree l = l.row ++ map (numbered_term (domain_view l.names.domain.now) (problem_view l.names.problem.now) l.scope) (map term_view (drop l.tree-index l.trees)) ≡ map (numbered_term (domain_view l.names.domain.now) (problem_view l.names.problem.now) l.scope) (map term_view l.trees)
+invariant-loop-tree l = l.row ++ map (numbered_term (domain_view l.names.domain) (problem_view l.names.problem) l.scope) (map term_view (drop l.tree-index l.trees)) ≡ map (numbered_term (domain_view l.names.domain) (problem_view l.names.problem) l.scope) (map term_view l.trees)

@@ -1,5 +1,4 @@
 use Rattle.std.proofs.Common.{Err}
-use Rattle.std.proofs.lemmas.Result.{err_from_is_err_and}
 use Rattle.kp_grammar.specs.View.{domain_view, problem_view}
 use Rattle.kp_tables.specs.Collected.{domain_of, problem_of}
 use Rattle.kp_names.specs.Noted.{JudgesBoth}
@@ -7,19 +6,17 @@ use Rattle.kp_names.proofs.FirstFault.{refused, answered}
 use Rattle.kp_names.proofs.resolving.resolve.Goals as goal
 
 -- the trees are refused
-pub returns-in_err-judge : goal.returns-in_err-judge
-returns-in_err-judge c =
+pub returns-in-Err : goal.returns-in-Err
+returns-in-Err c =
     let bytes = c.args.bytes.now in
     let names = c.in_ok-names.names in
-    let e = err_from_is_err_and c.from_residual-in_err-judge.result c.from_residual-in_err-judge.ensures.1 in
-    let stopped : JudgesBoth {T = Unit {0}} bytes.domain bytes.problem (domain_of names) (problem_of names) (Err c.in_err-judge.field-0.0) = c.in_err-judge.ensures in
-    rw (e.1, e.2)
-    (refused (Unit {0}) bytes.domain bytes.problem (domain_of names) (domain_view c.args.domain.now) (problem_of names) (problem_view c.args.problem.now) c.in_err-judge.field-0.0 c.in_ok-names.ensures.domain c.in_ok-names.ensures.problem stopped)
+    let stopped : JudgesBoth {T = Unit {0}} bytes.domain bytes.problem (domain_of names) (problem_of names) (Err c.in-Err.stop) = c.in-Err.ensures in
+    refused (Unit {0}) bytes.domain bytes.problem (domain_of names) (domain_view c.args.domain.now) (problem_of names) (problem_view c.args.problem.now) c.in-Err.stop c.in_ok-names.ensures.domain c.in_ok-names.ensures.problem stopped
 
 -- they have no fault and are numbered
-pub returns : goal.returns
+pub returns-in_ok-lifted-in-Ok : goal.returns-in_ok-lifted-in-Ok
 unfolding domain_of problem_of
-returns c =
+returns-in_ok-lifted-in-Ok c =
     let names = c.in_ok-names.names in
-    answered c.args.bytes.now.problem (domain_of names) (domain_view c.args.domain.now) (problem_of names) (problem_view c.args.problem.now) c.in_ok-lifted.lifted
-    c.in_ok-names.ensures.domain c.in_ok-names.ensures.problem c.in_ok-judge.ensures c.in_ok-lifted.ensures.numbered c.in_ok-lifted.ensures.unsure
+    answered c.args.bytes.now.problem (domain_of names) (domain_view c.args.domain.now) (problem_of names) (problem_view c.args.problem.now) c.in_ok-lifted-in-Ok.lifted
+    c.in_ok-names.ensures.domain c.in_ok-names.ensures.problem c.in-Ok.ensures c.in_ok-lifted-in-Ok.ensures.numbered c.in_ok-lifted-in-Ok.ensures.unsure

@@ -1,4 +1,4 @@
-use Rattle.kp_pairs.proofs.Walks.{item_member}
+use Rattle.kp_base.proofs.Places.{item_member}
 use Rattle.kp_pairs.proofs.Noted.{none_set}
 use Rattle.kp_pairs.proofs.sure.atoms_deleted.Goals as goal
 

@@ -13,7 +13,7 @@ pub conds-returns-in_err-part-clause-reads : goal.conds-returns-in_err-part-clau
 unfolding cond_at conds_at
 conds-returns-in_err-part-clause-reads t c =
     let p = err_from_is_err_and c.from_residual-in_err-part.result c.from_residual-in_err-part.ensures.1 in
-    rw (p.1, p.2) (ends c.args.levels is_left (within (named_of c.args.mode)) _ c.in_err-part.field-0.0 _ _ _ (sym c.is_left.ensures.test ∙ c.more-test.true) c.in_err-part.ensures.reads c.more.invariant.so_far)
+    rw (p.1, p.2) (ends c.args.levels is_left (within (named_of c.args.role)) _ c.in_err-part.field-0.0 _ _ _ (sym c.is_left.ensures.test ∙ c.more-test.true) c.in_err-part.ensures.reads c.more.invariant.so_far)
 
 pub conds-more-preserved : goal.conds-more-preserved
 unfolding cond_at conds_at
@@ -22,9 +22,9 @@ conds-more-preserved t c =
     record {
       onward = omega (arith, c.in_ok-part.ensures.onward.0);
       in_range = omega (arith, c.in_ok-part.ensures.onward.1);
-      so_far = rw e (goes_on c.args.levels is_left (within (named_of c.args.mode)) _ _ _ _ _ (sym c.is_left.ensures.test ∙ c.more-test.true) c.in_ok-part.ensures.reads c.more.invariant.so_far);
+      so_far = rw e (goes_on c.args.levels is_left (within (named_of c.args.role)) _ _ _ _ _ (sym c.is_left.ensures.test ∙ c.more-test.true) c.in_ok-part.ensures.reads c.more.invariant.so_far);
     }
 
 pub conds-returns-clause-reads : goal.conds-returns-clause-reads
 unfolding cond_at conds_at
-conds-returns-clause-reads t c = rw c.into_bump_slice.ensures (is_done c.args.levels is_left (within (named_of c.args.mode)) _ _ _ (sym c.is_left.ensures.test ∙ c.more-test.false) c.more.invariant.so_far)
+conds-returns-clause-reads t c = rw c.into_bump_slice.ensures (is_done c.args.levels is_left (within (named_of c.args.role)) _ _ _ (sym c.is_left.ensures.test ∙ c.more-test.false) c.more.invariant.so_far)

@@ -20,7 +20,7 @@ abbrev pub invariant-conds-more : goal.invariant-conds-more
 invariant-conds-more l = record {
   onward : l.start ≤ l.at;
   in_range : l.at ≤ length l.tokens;
-  so_far : with_front (map cond_view l.parts.items) (all_of l.levels is_left (within (named_of l.mode)) (from l.tokens l.at)) ≡ all_of l.levels is_left (within (named_of l.mode)) (from l.tokens l.start);
+  so_far : with_front (map cond_view l.parts.items) (all_of l.levels is_left (within (named_of l.role)) (from l.tokens l.at)) ≡ all_of l.levels is_left (within (named_of l.role)) (from l.tokens l.start);
 }
 
 abbrev pub decreases-conds-more : goal.decreases-conds-more

@@ -7,13 +7,16 @@ use Rattle.kp_parts.proofs.Loops.{all_of, with_front}
 use Rattle.kp_parts.proofs.init_items.+item.Given as goal
 
 abbrev pub decreases-item : goal.decreases-item
-decreases-item l = 3 * l.levels
+decreases-item l = 4 * l.levels
 
 abbrev pub decreases-items : goal.decreases-items
-decreases-items l = 3 * l.levels + 1
+decreases-items l = 4 * l.levels + 1
 
 abbrev pub decreases-inside : goal.decreases-inside
-decreases-inside l = 3 * l.levels + 2
+decreases-inside l = 4 * l.levels + 3
+
+abbrev pub decreases-all : goal.decreases-all
+decreases-all l = 4 * l.levels + 2
 
 abbrev pub invariant-items-more : goal.invariant-items-more
 invariant-items-more l = record {

@@ -5,7 +5,7 @@ use Rattle.kp_base.specs.Implicates.{IsOfAtoms}
 use Rattle.kp_names.specs.View.{lifted_view}
 use Rattle.kp_init.specs.Initial.{initial_over, initial_of}
 use Rattle.kp_primes.specs.Answers.{HoldsPrimes, AnswersPrimes, RefusesPrimes}
-use Rattle.kp_given.proofs.Starts.{formula_over_atoms}
+use Rattle.kp_given.proofs.Public.{formula_by_number_is_over_atoms}
 use Rattle.kp_prepared.proofs.Ended.{formula_ends}
 use Rattle.kp_prepared.proofs.preparing.on_ground.Goals as goal
 
@@ -15,7 +15,7 @@ build-requires c =
     let l = lifted_view c.args.lifted.now in
     let formula = c.in_ok-formula.ensures ∙ ap (initial_over l) (c.slice.ensures ∙ c.requires.atoms) in
     let many = c.len-atoms.ensures ∙ ap (λ (g : Ground). length g.atoms) c.requires.ground in
-    subst (λ (i : Initial). IsOfAtoms c.len-atoms.result i) (sym formula) (subst (λ (n : ℕ). IsOfAtoms n (initial_of l)) (sym many) (formula_over_atoms l))
+    subst (λ (i : Initial). IsOfAtoms c.len-atoms.result i) (sym formula) (subst (λ (n : ℕ). IsOfAtoms n (initial_of l)) (sym many) (formula_by_number_is_over_atoms l))
 
 -- it has its prime implicates
 pub returns-in-Ok-clause-answers : goal.returns-in-Ok-clause-answers

@@ -1,5 +1,5 @@
 use Rattle.std.proofs.Common.{sym, ◌∙◌}
-use Rattle.kp_clauses.proofs.Storing.{with_all_joined}
+use Rattle.kp_clauses.proofs.Public.{with_all_joined}
 use Rattle.kp_primes.proofs.Placing.{behind_apart}
 use Rattle.kp_primes.proofs.include.put_in.Goals as goal
 

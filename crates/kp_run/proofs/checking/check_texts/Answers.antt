@@ -3,7 +3,7 @@ use Rattle.kp_given.specs.Translations.{initial_of}
 use Rattle.kp_prepared.specs.Prepared.{AnswersPrepared}
 use Rattle.kp_words.specs.Names.{Check}
 use Rattle.kp_inputs.specs.Actions.{ComesByPlan}
-use Rattle.kp_inputs.proofs.Going.{later_goes, early_ends}
+use Rattle.kp_inputs.proofs.Public.{prepared_goes_on, prepared_ends}
 use Rattle.kp_run.specs.Outcomes.{ChecksTrees, TellsJudged}
 use Rattle.kp_run.proofs.checking.check_texts.Goals as goal
 
@@ -12,11 +12,11 @@ pub returns-in-Ok : goal.returns-in-Ok
 returns-in-Ok c d p t first second third =
     let n = c.args.command.now.implicates in
     let w = subst (AnswersPrepared n d p) c.in-Ok.is (subst (λ k. AnswersPrepared k d p c.prepare.result) (ap (λ (k : Check). k.implicates) c.command.view_is) (c.prepare.ensures.answers d p first second)) in
-    later_goes n d p (ChecksTrees t) c.in-Ok.prepared w c.check_plan.result
+    prepared_goes_on n d p (ChecksTrees t) c.in-Ok.prepared w c.check_plan.result
     (subst (λ g. IfOk c.check_plan.result (ComesByPlan g t (TellsJudged g (initial_of w.first w.second)))) w.ground (c.check_plan.ensures t (initial_of w.first w.second) third w.primes.same_models))
 
 -- it ends early
 pub returns-in-Err : goal.returns-in-Err
 returns-in-Err c d p t first second third =
     let n = c.args.command.now.implicates in
-    early_ends n d p (ChecksTrees t) c.in-Err.early c.settle.result (subst (AnswersPrepared n d p) c.in-Err.is (subst (λ k. AnswersPrepared k d p c.prepare.result) (ap (λ (k : Check). k.implicates) c.command.view_is) (c.prepare.ensures.answers d p first second))) c.settle.ensures
+    prepared_ends n d p (ChecksTrees t) c.in-Err.early c.settle.result (subst (AnswersPrepared n d p) c.in-Err.is (subst (λ k. AnswersPrepared k d p c.prepare.result) (ap (λ (k : Check). k.implicates) c.command.view_is) (c.prepare.ensures.answers d p first second))) c.settle.ensures

@@ -1,5 +1,5 @@
 use Rattle.std.proofs.Common.{[], ◌∷◌}
-use Rattle.kp_outcome.proofs.Fronts.{as_many}
+use Rattle.kp_outcome.proofs.Public.{as_many_read_as_named}
 use Rattle.kp_words.specs.Names.{of_file}
 use Rattle.kp_inputs.specs.Tables.{from_file}
 use Rattle.kp_run.proofs.Files.{four, four_within, merged_lifted}
@@ -7,7 +7,7 @@ use Rattle.kp_run.proofs.entry.lift_merged_gots.Goals as goal
 
 -- four files were read
 pub four_of-domain-requires : goal.four_of-domain-requires
-four_of-domain-requires c = as_many c.requires.read.0 (c.args.named.now.domain ∷ c.args.named.now.problem ∷ c.requires.read.1 ∷ c.args.named.now.plan ∷ []) c.args.gots c.requires.read.2
+four_of-domain-requires c = as_many_read_as_named c.requires.read.0 (c.args.named.now.domain ∷ c.args.named.now.problem ∷ c.requires.read.1 ∷ c.args.named.now.plan ∷ []) c.args.gots c.requires.read.2
 
 pub lift_texts-requires-clause-domain : goal.lift_texts-requires-clause-domain
 lift_texts-requires-clause-domain c = (four_within c.requires.read.2.texts c.args.gots c.four_of-domain.result.0 c.four_of-domain.result.1 c.four_of-domain.result.2 c.four_of-domain.result.3 c.requires.read.2.are_fronts c.four_of-domain.ensures).0

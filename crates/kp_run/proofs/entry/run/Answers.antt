@@ -1,5 +1,5 @@
 use Rattle.std.proofs.Common.{Err, refl, ap}
-use Rattle.kp_outcome.proofs.Earlier.{carried_from}
+use Rattle.kp_outcome.proofs.Public.{carried_out_from_earlier}
 use Rattle.kp_run.specs.Ends.{came}
 use Rattle.kp_run.proofs.Answered.{outcomes_are_answers}
 use Rattle.kp_run.proofs.Soundness.{sound_end}
@@ -14,7 +14,7 @@ carry_out-requires g c = outcomes_are_answers c.args.words.now (g.S.Shelf.conten
 
 -- the outcome is carried out
 pub returns-in-Ok-clause-ends : goal.returns-in-Ok-clause-ends
-returns-in-Ok-clause-ends g c = came c.in-Ok.outcome c.in-Ok.ensures.due (carried_from c.in-Ok.outcome _ _ _ (record { gets = c.in-Ok.ensures.get_faults (λ e. cc); puts = c.in-Ok.ensures.put_faults; writes = refl }) (record { held = c.in-Ok.ensures.contents; told = refl }) c.carry_out.result c.carry_out.ensures.ends)
+returns-in-Ok-clause-ends g c = came c.in-Ok.outcome c.in-Ok.ensures.due (carried_out_from_earlier c.in-Ok.outcome _ _ _ (record { gets = c.in-Ok.ensures.get_faults (λ e. cc); puts = c.in-Ok.ensures.put_faults; writes = refl }) (record { held = c.in-Ok.ensures.contents; told = refl }) c.carry_out.result c.carry_out.ensures.ends)
 
 pub returns-in-Ok-clause-sound : goal.returns-in-Ok-clause-sound
 returns-in-Ok-clause-sound g c = sound_end c.args.words.now _ _ c.carry_out.result (returns-in-Ok-clause-ends g c)

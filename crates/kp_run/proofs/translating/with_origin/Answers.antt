@@ -1,8 +1,7 @@
 use Rattle.std.proofs.Common.{refl, subst}
 use Rattle.kp_primes.specs.Held.{formula}
 use Rattle.kp_inputs.specs.Tables.{AnswersTable}
-use Rattle.kp_inputs.proofs.Right.{tables_right}
-use Rattle.kp_inputs.proofs.Going.{table_goes, table_ends}
+use Rattle.kp_inputs.proofs.Public.{tables_are_right, table_goes, table_ends}
 use Rattle.kp_run.specs.Outcomes.{TranslatesGround}
 use Rattle.kp_run.proofs.Translations.{grounds_by}
 use Rattle.kp_run.proofs.translating.with_origin.Goals as goal
@@ -12,7 +11,7 @@ with_table-requires-clause-table c =
     let g = c.args.prepared.now.ground in
     let i = formula c.args.prepared.now.primes in
     let o = c.requires.origin in
-    (tables_right g i o.0 o.1 c.in-Ok.table c.requires.usable.ground (subst (AnswersTable g i o.0 o.1) c.in-Ok.is (c.table_of.ensures o.0 o.1 i o.2 (λ s. refl)))).0
+    (tables_are_right g i o.0 o.1 c.in-Ok.table c.requires.usable.ground (subst (AnswersTable g i o.0 o.1) c.in-Ok.is (c.table_of.ensures o.0 o.1 i o.2 (λ s. refl)))).0
 
 -- there is a table
 pub returns-in-Ok : goal.returns-in-Ok

@@ -3,7 +3,7 @@ use Rattle.kp_grammar.specs.Symbols.{is_left}
 use Rattle.kp_grammar.specs.Grammar.{section}
 use Rattle.kp_parts.specs.Lexemes.{from}
 use Rattle.kp_nodes.specs.Nodes.{typed_view, pred_view, schema_view}
-use Rattle.kp_parts.proofs.Loops.{all_of}
+use Rattle.kp_parts.proofs.Public.{all_parts_of}
 use Rattle.kp_sections.proofs.Joining.{Sections}
 use Rattle.kp_sections.proofs.domains.sections.Given as goal
 
@@ -11,7 +11,7 @@ abbrev pub invariant-more : goal.invariant-more
 invariant-more l = record {
   onward : l.start ≤ l.at;
   in_range : l.at ≤ length l.tokens;
-  kept : Sections (map typed_view l.declared.kinds.items) (map typed_view l.declared.constants.items) (map pred_view l.declared.predicates.items) (map schema_view l.declared.schemas.items) (all_of l.levels is_left section (from l.tokens l.at)) (all_of l.levels is_left section (from l.tokens l.start));
+  kept : Sections (map typed_view l.declared.kinds.items) (map typed_view l.declared.constants.items) (map pred_view l.declared.predicates.items) (map schema_view l.declared.schemas.items) (all_parts_of l.levels is_left section (from l.tokens l.at)) (all_parts_of l.levels is_left section (from l.tokens l.start));
 }
 
 abbrev pub decreases-more : goal.decreases-more

@@ -4,7 +4,7 @@ use Rattle.kp_grammar.specs.Grammar.{given, has_stood}
 use Rattle.kp_parts.specs.Lexemes.{from}
 use Rattle.kp_nodes.specs.Nodes.{typed_view, item_view}
 use Rattle.kp_stated.specs.Parts.{goal_view}
-use Rattle.kp_parts.proofs.Loops.{run_of}
+use Rattle.kp_parts.proofs.Public.{run_parts_of}
 use Rattle.kp_sections.proofs.Stating.{Givens}
 use Rattle.kp_sections.proofs.problems.givens.Given as goal
 
@@ -12,7 +12,7 @@ abbrev pub invariant-more : goal.invariant-more
 invariant-more l = record {
   onward : l.start ≤ l.at;
   in_range : l.at ≤ length l.tokens;
-  kept : Givens (map typed_view l.stated.objects.items) (map item_view l.stated.init.items) (goal_view l.stated.goal) (run_of l.levels is_left given (has_stood is_goal) l.seen.items (from l.tokens l.at)) (run_of l.levels is_left given (has_stood is_goal) [] (from l.tokens l.start));
+  kept : Givens (map typed_view l.stated.objects.items) (map item_view l.stated.init.items) (goal_view l.stated.goal) (run_parts_of l.levels is_left given (has_stood is_goal) l.seen.items (from l.tokens l.at)) (run_parts_of l.levels is_left given (has_stood is_goal) [] (from l.tokens l.start));
 }
 
 abbrev pub decreases-more : goal.decreases-more

@@ -3,14 +3,14 @@ use Rattle.kp_grammar.specs.Symbols.{is_left}
 use Rattle.kp_grammar.specs.Grammar.{pred}
 use Rattle.kp_parts.specs.Lexemes.{from}
 use Rattle.kp_nodes.specs.Nodes.{pred_view}
-use Rattle.kp_parts.proofs.Loops.{all_of, with_front}
+use Rattle.kp_parts.proofs.Public.{all_parts_of, with_front}
 use Rattle.kp_sections.proofs.sections.preds.Given as goal
 
 abbrev pub invariant-more : goal.invariant-more
 invariant-more l = record {
   onward : l.start ≤ l.at;
   in_range : l.at ≤ length l.tokens;
-  so_far : with_front (map pred_view l.parts.items) (all_of l.levels is_left pred (from l.tokens l.at)) ≡ all_of l.levels is_left pred (from l.tokens l.start);
+  so_far : with_front (map pred_view l.parts.items) (all_parts_of l.levels is_left pred (from l.tokens l.at)) ≡ all_parts_of l.levels is_left pred (from l.tokens l.start);
 }
 
 abbrev pub decreases-more : goal.decreases-more

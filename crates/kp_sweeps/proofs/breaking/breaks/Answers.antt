@@ -1,7 +1,6 @@
 use Rattle.std.proofs.Common.{sym, ◌∙◌}
 use Rattle.kp_pairs.specs.Paired.{is_pair}
-use Rattle.kp_pairs.proofs.Removing.{pair_turned}
-use Rattle.kp_pairs.proofs.Firing.{breaks_paired, breaks_unpaired}
+use Rattle.kp_pairs.proofs.Public.{pair_turned, breaks_paired, breaks_unpaired}
 use Rattle.kp_sweeps.proofs.breaking.breaks.Goals as goal
 
 pub returns-then-has : goal.returns-then-has

@@ -1,6 +1,6 @@
-use Rattle.kp_pairs.proofs.Walks.{item_member}
 use Rattle.kp_pairs.specs.Paired.{is_pair}
 use Rattle.kp_base.proofs.Exclusive.{compatible_under_fewer}
+use Rattle.kp_base.proofs.Places.{item_member}
 use Rattle.kp_sweeps.proofs.sweep.clear_effects.Goals as goal
 
 pub clear_effect-requires-clause-of_action : goal.clear_effect-requires-clause-of_action

@@ -1,4 +1,4 @@
-use Rattle.kp_pairs.proofs.Walks.{item_member}
+use Rattle.kp_base.proofs.Places.{item_member}
 use Rattle.kp_sweeps.proofs.together.clear_place.Goals as goal
 
 pub clear_one-requires-clause-other : goal.clear_one-requires-clause-other

@@ -6,7 +6,7 @@ use Rattle.kp_tables.proofs.below.below_type.Goals as goal
 
 pub returns : goal.returns
 returns c =
-    let kinds = (domain_view c.args.known.now.domain.now).kinds in
+    let kinds = (domain_view c.args.known.now.domain).kinds in
     let top = c.args.top.now in
     let all = c.close.new.names in
     closed_below kinds (top ∷ []) all

@@ -8,7 +8,7 @@ use Rattle.kp_tables.proofs.below.below_types.Goals as goal
 
 pub returns : goal.returns
 returns c =
-    let kinds = (domain_view c.args.known.now.domain.now).kinds in
+    let kinds = (domain_view c.args.known.now.domain).kinds in
     let tops = names c.args.tops.now in
     let all = c.close.new.names in
     let start : c.loop-top.below ≡ fold with_name [] tops = grind (arith, common_steps, c.loop-top.invariant) in

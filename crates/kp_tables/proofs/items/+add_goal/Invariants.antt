@@ -6,4 +6,4 @@ use Rattle.kp_tables.proofs.items.+add_goal.Given as goal
 
 -- with what is left come all
 abbrev pub invariant-loop-part : goal.invariant-loop-part
-invariant-loop-part l = l.goal ++ numbered_goals (domain_view l.names.domain.now) (problem_view l.names.problem.now) (conds_of (map cond_view (drop l.part-index l.part-items))) ≡ l.fn.goal ++ numbered_goal (domain_view l.names.domain.now) (problem_view l.names.problem.now) (cond_view l.tree)
+invariant-loop-part l = l.goal ++ numbered_goals (domain_view l.names.domain) (problem_view l.names.problem) (conds_of (map cond_view (drop l.part-index l.part-items))) ≡ l.fn.goal ++ numbered_goal (domain_view l.names.domain) (problem_view l.names.problem) (cond_view l.tree)

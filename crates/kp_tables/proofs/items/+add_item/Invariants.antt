@@ -6,4 +6,4 @@ use Rattle.kp_tables.proofs.items.+add_item.Given as goal
 
 -- with what is left come all
 abbrev pub invariant-loop-part : goal.invariant-loop-part
-invariant-loop-part l = l.items ++ numbered_items (domain_view l.names.domain.now) (problem_view l.names.problem.now) (items_of (map item_view (drop l.part-index l.part-items))) ≡ l.fn.items ++ numbered_item (domain_view l.names.domain.now) (problem_view l.names.problem.now) (item_view l.tree)
+invariant-loop-part l = l.items ++ numbered_items (domain_view l.names.domain) (problem_view l.names.problem) (items_of (map item_view (drop l.part-index l.part-items))) ≡ l.fn.items ++ numbered_item (domain_view l.names.domain) (problem_view l.names.problem) (item_view l.tree)

@@ -4,4 +4,4 @@ use Rattle.kp_meaning.specs.Numbering.{numbered_lit}
 use Rattle.kp_tables.proofs.items.literals.Given as goal
 
 abbrev pub invariant-loop-tree : goal.invariant-loop-tree
-invariant-loop-tree l = l.row ++ map (numbered_lit (domain_view l.names.domain.now) (problem_view l.names.problem.now)) (map lit_view (drop l.tree-index l.trees)) ≡ map (numbered_lit (domain_view l.names.domain.now) (problem_view l.names.problem.now)) (map lit_view l.trees)
+invariant-loop-tree l = l.row ++ map (numbered_lit (domain_view l.names.domain) (problem_view l.names.problem)) (map lit_view (drop l.tree-index l.trees)) ≡ map (numbered_lit (domain_view l.names.domain) (problem_view l.names.problem)) (map lit_view l.trees)

@@ -12,7 +12,7 @@ use Rattle.kp_tables.proofs.objects.numbers.Goals as goal
 -- the numbers are sorted, and repeats are taken out
 pub returns : goal.returns
 returns c =
-    let os = objects (domain_view c.args.names.now.domain.now) (problem_view c.args.names.now.problem.now) in
+    let os = objects (domain_view c.args.names.now.domain) (problem_view c.args.names.now.problem) in
     let all : c.loop-name.numbers.items ≡ map (index_of os) (map (λ n. n.now) c.names-name-items.result.now) = grind (arith, common_steps, c.loop-name.invariant) in
     let is = dedup_is eqb c.sort_unstable.new.self.items c.dedup.new.self.items c.dedup.ensures.filtered in
     rw c.from_vec.ensures (rw is

@@ -6,4 +6,4 @@ use Rattle.kp_tables.proofs.objects.numbers.Given as goal
 
 -- the numbers of the names so far
 abbrev pub invariant-loop-name : goal.invariant-loop-name
-invariant-loop-name l = l.numbers.items ≡ map (index_of (objects (domain_view l.names.domain.now) (problem_view l.names.problem.now))) (map (λ n. n.now) (take l.name-index l.name-items))
+invariant-loop-name l = l.numbers.items ≡ map (index_of (objects (domain_view l.names.domain) (problem_view l.names.problem))) (map (λ n. n.now) (take l.name-index l.name-items))

@@ -10,15 +10,15 @@ use Rattle.kp_tables.proofs.objects.objects_of.Goals as goal
 -- every type is below them
 pub returns-in_ok-row : goal.returns-in_ok-row
 returns-in_ok-row c ts below =
-    let d = domain_view c.args.names.now.domain.now in
-    let p = problem_view c.args.names.now.problem.now in
+    let d = domain_view c.args.names.now.domain in
+    let p = problem_view c.args.names.now.problem in
     row_of_all d p ts c.args.below.now below (sym c.has.ensures ∙ c.if-has.true) c.in_ok-row.row
     (subst (λ os. IsRowOf (map (index_of (objects d p)) os) c.in_ok-row.row) c.objects.ensures c.in_ok-row.ensures)
 
 pub returns-in_ok-row-2 : goal.returns-in_ok-row-2
 returns-in_ok-row-2 c ts below =
-    let d = domain_view c.args.names.now.domain.now in
-    let p = problem_view c.args.names.now.problem.now in
+    let d = domain_view c.args.names.now.domain in
+    let p = problem_view c.args.names.now.problem in
     let all = flat_map (under (lines_under (object_lines d p))) c.args.below.now in
     let found : c.in_ok-found.found ≡ fold with_name [] all = c.in_ok-found.ensures ∙ ap (λ ps. fold with_name [] (flat_map (under ps) c.args.below.now)) c.objects_under.ensures in
     row_of_found d p ts c.args.below.now below (sym c.has.ensures ∙ c.if-has.false) (fold with_name [] all) c.in_ok-row-2.row (gathered_member all) (member_gathered all)

@@ -1,6 +1,6 @@
 use Rattle.std.proofs.Common.{drop, map}
 use Rattle.std.specs.List.{flat_map}
-use Rattle.kp_pieces.proofs.Putting.{Leaves}
+use Rattle.kp_pieces.proofs.Public.{LeavesToPut}
 use Rattle.kp_write.specs.Written.{effect_line}
 use Rattle.kp_write.specs.Named.{named_effect}
 use Rattle.kp_task.specs.Task.{effects_under}
@@ -8,4 +8,4 @@ use Rattle.kp_translation.proofs.domain.put_under.Given as goal
 
 abbrev pub invariant-loop-effect : goal.invariant-loop-effect
 invariant-loop-effect l =
-    Leaves l.fn.out.items l.out.items effect_line (map (named_effect l.facts) (flat_map (effects_under l.atoms l.tag) (drop l.effect-index l.effects))) (map (named_effect l.facts) (flat_map (effects_under l.atoms l.tag) l.effects))
+    LeavesToPut l.fn.out.items l.out.items effect_line (map (named_effect l.facts) (flat_map (effects_under l.atoms l.tag) (drop l.effect-index l.effects))) (map (named_effect l.facts) (flat_map (effects_under l.atoms l.tag) l.effects))

@@ -3,17 +3,22 @@ use Rattle.kp_base.specs.declared.refused.Part.TheVariants as parts
 use Rattle.kp_grammar.specs.Grammar.{domain}
 use Rattle.kp_grammar.specs.View.{domain_view}
 use Rattle.kp_nodes.specs.Nodes as nodes
-use Rattle.kp_tree.proofs.WholeFiles.{uncut, stopped}
+use Rattle.kp_tree.proofs.WholeFiles.{uncut}
+use Rattle.kp_tree.proofs.Begun.{file_refused, file_read}
 use Rattle.kp_tree.proofs.file.read_domain.Goals as goal
 
 -- no token begins at a byte
 pub returns-in_err-tokens : goal.returns-in_err-tokens
 returns-in_err-tokens c =
     let p = err_from_is_err_and c.from_residual.result c.from_residual.ensures.1 in
-    rw (p.1, p.2) (uncut parts.Domain domain c.args.bytes.now c.requires domain_view c.in_err-tokens.field-0.0 c.in_err-tokens.ensures.right)
+    rw (p.1, p.2) (uncut parts.Domain domain c.args.bytes.now c.requires domain_view c.in_err-tokens.field-0.0 c.in_err-tokens.ensures)
 
 -- a token is refused
 pub returns-in_err-node : goal.returns-in_err-node
 returns-in_err-node c =
     let p = err_from_is_err_and c.from_residual-in_err-node.result c.from_residual-in_err-node.ensures.1 in
-    rw (p.1, p.2) (stopped parts.Domain domain c.args.bytes.now c.requires _ c.in_ok-tokens.ensures.right nodes.domain_view domain_view c.in_err-node.field-0.0 c.in_err-node.ensures)
+    rw (p.1, p.2) (file_refused parts.Domain domain c.args.bytes.now c.requires c.in_ok-tokens.field-0 c.levels.result c.levels.ensures c.in_ok-tokens.ensures c.beginning.result.now c.beginning.ensures nodes.domain_view domain_view c.in_err-node.field-0.0 c.in_err-node.ensures.answer c.in_err-node.ensures.within)
+
+-- the copy is the tree that was parsed
+pub returns : goal.returns
+returns c = file_read parts.Domain domain c.args.bytes.now c.requires c.in_ok-tokens.field-0 c.levels.result c.levels.ensures c.in_ok-tokens.ensures c.beginning.result.now c.beginning.ensures _ _ c.in_ok-node.ensures.answer c.in_ok-copy_domain.ensures

@@ -1,7 +1,7 @@
 use Rattle.std.proofs.Common.{drop}
 use Rattle.kp_write.specs.Written.{fact_line}
-use Rattle.kp_pieces.proofs.Putting.{Leaves}
+use Rattle.kp_pieces.proofs.Public.{LeavesToPut}
 use Rattle.kp_write.proofs.putting.put_names.Given as goal
 
 abbrev pub invariant-loop-name : goal.invariant-loop-name
-invariant-loop-name l = Leaves l.fn.out.items l.out.items fact_line (drop l.name-index l.names) l.names
+invariant-loop-name l = LeavesToPut l.fn.out.items l.out.items fact_line (drop l.name-index l.names) l.names

@@ -9,13 +9,13 @@ use Rattle.kp_lifted.proofs.ranges.Ranges.of_type.Goals as goal
 pub returns-in-Some-clause-row : goal.returns-in-Some-clause-row
 returns-in-Some-clause-row c =
     let self = c.args.self.now in
-    let objects = λ (t : Name). range_of (domain_view self.names.domain.now) (problem_view self.names.problem.now) (t ∷ []) in
+    let objects = λ (t : Name). range_of (domain_view self.names.domain) (problem_view self.names.problem) (t ∷ []) in
     subst (λ z. IfOk c.copied.result (λ row. row ≡ z)) (c.slice.ensures ∙ found_right (λ k. k.now) objects self.known.entries c.args.name.now _ (sym c.in-Some.ensures.value) self.known_right) c.copied.ensures
 
 pub invariant_of-self : goal.invariant_of-self
 invariant_of-self c =
     let self = c.args.self.now in
-    let objects = λ (t : Name). range_of (domain_view self.names.domain.now) (problem_view self.names.problem.now) (t ∷ []) in
+    let objects = λ (t : Name). range_of (domain_view self.names.domain) (problem_view self.names.problem) (t ∷ []) in
     record {
       known_right =
           both_right (λ k. k.now) objects c.insert.result self.known.entries c.insert.new.self.entries (insert_entry (λ i j. same i.now j.now) self.known.entries c.args.name c.in_ok-objects.objects) c.insert.ensures.entries c.insert.ensures.err self.known_right

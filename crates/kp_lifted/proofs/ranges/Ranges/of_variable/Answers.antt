@@ -7,7 +7,7 @@ use Rattle.kp_lifted.proofs.ranges.Ranges.of_variable.Goals as goal
 
 pub returns-clause-range : goal.returns-clause-range
 returns-clause-range c =
-    let d = domain_view c.args.self.now.names.domain.now in
-    let p = problem_view c.args.self.now.names.problem.now in
+    let d = domain_view c.args.self.now.names.domain in
+    let p = problem_view c.args.self.now.names.problem in
     let range = λ (os : List ℕ). let r : Range = record { objects = os } in r in
     ap range (c.in_ok-objects.ensures.row ∙ ap (λ ks. range_of d p (or_object (names ks))) c.slice.ensures)

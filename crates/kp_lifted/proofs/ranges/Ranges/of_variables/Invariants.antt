@@ -6,5 +6,5 @@ use Rattle.kp_lifted.proofs.ranges.Ranges.of_variables.Given as goal
 abbrev pub invariant-loop-variable : goal.invariant-loop-variable
 invariant-loop-variable l = record {
   kept : l.self.names ≡ l.fn.self.names;
-  so_far : l.ranges ++ map (numbered_range (domain_view l.fn.self.names.domain.now) (problem_view l.fn.self.names.problem.now)) (map typed_view (drop l.variable-index l.variables)) ≡ map (numbered_range (domain_view l.fn.self.names.domain.now) (problem_view l.fn.self.names.problem.now)) (map typed_view l.variables);
+  so_far : l.ranges ++ map (numbered_range (domain_view l.fn.self.names.domain) (problem_view l.fn.self.names.problem)) (map typed_view (drop l.variable-index l.variables)) ≡ map (numbered_range (domain_view l.fn.self.names.domain) (problem_view l.fn.self.names.problem)) (map typed_view l.variables);
 }

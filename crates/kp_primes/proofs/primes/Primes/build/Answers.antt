@@ -16,12 +16,12 @@ pub returns-then-has_empty : goal.returns-then-has_empty
 returns-then-has_empty c = RefusesPrimes.no_state (is_empty c.args.initial.now c.args.limit _ _ (rw c.slice.ensures at c.in_ok-include_all.ensures.all) (rw c.slice-2.ensures at c.in_ok-include_closed.ensures) (sym c.if-has_empty.ensures))
 
 -- what stands in the store, in order
-pub invariant_of-result : goal.invariant_of-result
-invariant_of-result c =
-    rw c.from_vec.ensures
-    (is_found c.args.initial.now c.args.atoms c.args.limit _ _ _ c.requires (rw c.slice.ensures at c.in_ok-include_all.ensures.all) (rw c.slice-2.ensures at c.in_ok-include_closed.ensures) (sym c.if-has_empty.ensures) (rw c.into_clauses.ensures at c.in_ok-clauses.ensures.same) c.in_ok-clauses.ensures.order).whole_invariant
+pub ready-requires : goal.ready-requires
+ready-requires c =
+    rw c.from_vec-clauses.ensures
+    (is_found c.args.initial.now c.args.atoms c.args.limit _ _ _ c.requires (rw c.slice.ensures at c.in_ok-include_all.ensures.all) (rw c.slice-2.ensures at c.in_ok-include_closed.ensures) (sym c.if-has_empty.ensures) (rw c.into_clauses.ensures at c.in_ok-in_order.ensures.same) c.in_ok-in_order.ensures.order).whole_invariant
 
 pub returns : goal.returns
 returns c =
-    rw c.from_vec.ensures
-    (is_found c.args.initial.now c.args.atoms c.args.limit _ _ _ c.requires (rw c.slice.ensures at c.in_ok-include_all.ensures.all) (rw c.slice-2.ensures at c.in_ok-include_closed.ensures) (sym c.if-has_empty.ensures) (rw c.into_clauses.ensures at c.in_ok-clauses.ensures.same) c.in_ok-clauses.ensures.order).holds_primes
+    rw (c.in_ok-primes.ensures, c.from_vec-clauses.ensures)
+    (is_found c.args.initial.now c.args.atoms c.args.limit _ _ _ c.requires (rw c.slice.ensures at c.in_ok-include_all.ensures.all) (rw c.slice-2.ensures at c.in_ok-include_closed.ensures) (sym c.if-has_empty.ensures) (rw c.into_clauses.ensures at c.in_ok-in_order.ensures.same) c.in_ok-in_order.ensures.order).holds_primes

@@ -7,12 +7,13 @@ use Rattle.kp_tables.proofs.tables.Names.predicate_number.Goals as goal
 
 pub returns-in-Some : goal.returns-in-Some
 returns-in-Some c =
-    let self = c.args.self.now in
-    found_predicate (domain_view self.domain.now) c.args.name.now c.in-Some.declared (c.in-Some.ensures ∙ (ap (entry_of self.predicate_names) c.slice.ensures ∙ self.predicates_known c.args.name.now))
+    let self = c.self.inside in
+    rw (← c.self.view_is) (found_predicate (domain_view self.domain.now) c.args.name.now c.in-Some.declared (c.in-Some.ensures ∙ (ap (entry_of self.predicate_names) c.slice.ensures ∙ c.self.invariant.predicates_known c.args.name.now)))
 
 pub returns-in-None : goal.returns-in-None
 returns-in-None c =
-    let self = c.args.self.now in
-    c.len.ensures
+    let self = c.self.inside in
+    rw (← c.self.view_is)
+    (c.len.ensures
     ∙ (sym (length-map self.domain.now.predicates pred_view)
-    ∙ missing_predicate (domain_view self.domain.now) c.args.name.now (c.in-None.ensures ∙ (ap (entry_of self.predicate_names) c.slice.ensures ∙ self.predicates_known c.args.name.now)))
+    ∙ missing_predicate (domain_view self.domain.now) c.args.name.now (c.in-None.ensures ∙ (ap (entry_of self.predicate_names) c.slice.ensures ∙ c.self.invariant.predicates_known c.args.name.now))))

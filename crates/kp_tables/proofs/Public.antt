@@ -1,0 +1,4 @@
+-- The laws of kp_tables that proofs of other crates may cite. Each stands in the module that its line names.
+
+-- ---- Names that are gathered one by one: which there are, and where they stand.
+pub use Rattle.kp_tables.proofs.Gathering.{gathers as gathered_behind, among_with as among_one_more, among_gathered}
