@@ -1,5 +1,5 @@
 -- Whether tags are valid, where they may be of any atoms, and whether a merge is.
-use Rattle.std.proofs.Common.{◌≡◌, ◌↔◌, ◌<◌, ◌||◌, ◌++◌, ℕ, zero, suc, arith, length, get_or, Bool, IsTrue, true, false, not, List, [], ◌∷◌, Option, Some, None, slice_get, refl, sym, ap, ◌∙◌, inl, inr}
+use Rattle.std.proofs.Common.{◌≡◌, ◌↔◌, ◌||◌, ◌++◌, ℕ, Bool, IsTrue, true, false, not, List, [], ◌∷◌, Option, Some, None, slice_get, refl, sym, ap, ◌∙◌, inl, inr}
 use Rattle.std.proofs.lemmas.Bool.{false≢true, and_parts, and_from, or_cases, or_left, or_right, true_from_ne_false}
 use Rattle.std.specs.List.{list_any, list_all}
 use Rattle.kp_base.specs.declared.lit.Lit.{Lit}
@@ -9,27 +9,25 @@ use Rattle.kp_base.specs.declared.ground.TagRow.{TagRow}
 use Rattle.kp_base.specs.declared.ground.TagTable.{TagTable}
 use Rattle.kp_base.specs.declared.ground.Merge.{Merge}
 use Rattle.kp_base.specs.Lists.{Member}
-use Rattle.kp_base.specs.Lit.{negated}
-use Rattle.kp_base.specs.LitSet.{with_lit}
+use Rattle.kp_base.specs.Lit.{negated, has}
+use Rattle.kp_base.specs.LitSet.{with_lit, is_within}
 use Rattle.kp_base.specs.Steps.{State, holds, is_model}
-use Rattle.kp_base.specs.Entailed.{tag_holds, IsValid}
-use Rattle.kp_base.proofs.Lists.{all_member, all_from, any_from}
+use Rattle.kp_base.specs.Entailed.{tag_holds, IsValid, IsClosure}
+use Rattle.kp_base.proofs.Lists.{all_member, all_from, any_member, any_from}
 use Rattle.kp_base.proofs.Lits.{holds-negated}
 use Rattle.kp_base.proofs.Sets.{all-with_lit}
 use Rattle.kp_primes.specs.Held.{Held, formula, AreWhole}
 use Rattle.kp_primes.proofs.Public.{consistent_exact}
 use Rattle.kp_first.specs.Ordered.{state_of, AreFirst}
 use Rattle.kp_cover.specs.Grown.{is_fine}
-use Rattle.kp_cover.specs.Covered.{found, tags_found, all_inside, says_valid}
+use Rattle.kp_cover.specs.Covered.{found, tags_found, all_inside, IsInside, says_valid}
 use Rattle.kp_cover.specs.Valid.{satisfies_one, AreValidTags, is_outside, AnswersValid}
 use Rattle.kp_cover.specs.declared.tags.Validity.{Validity}
 use Rattle.kp_cover.specs.declared.tags.Validity.TheVariants.{Valid, Invalid}
 
--- the element at an index is one of the list's
-pub member_here : {X : Type 0} (xs : List X) (i : ℕ) (x : X) → i < length xs → x ≡ get_or xs i x → Member xs x
-member_here [] i x lt is = absurd (omega arith)
-member_here (y ∷ xs) zero x lt is = inl (sym is)
-member_here (y ∷ xs) (suc i) x lt is = inr (member_here xs i x (omega arith) is)
+-- a literal that is denied may be known to be so
+pub with_denied : (s : State) (known : List Lit) (l : Lit) → list_all (holds s) known ≡ true → holds s l ≡ false → list_all (holds s) (with_lit (negated l) known) ≡ true
+with_denied s known l k no_l = all-with_lit (holds s) (negated l) known ∙ and_from (list_all (holds s) known) (holds s (negated l)) k (holds-negated s l ∙ ap not no_l)
 
 -- ---- tags of any atoms
 
@@ -37,9 +35,6 @@ module _ (h : Held) (whole : AreWhole h) where
   -- each model in which the known literals are true satisfies one of the tags
   abbrev Inside : List Lit → List (List Lit) → Type 0
   Inside known tags = (s : State) → is_model (formula h) s ≡ true → list_all (holds s) known ≡ true → satisfies_one tags s ≡ true
-
-  with_denied : (s : State) (known : List Lit) (l : Lit) → list_all (holds s) known ≡ true → holds s l ≡ false → list_all (holds s) (with_lit (negated l) known) ≡ true
-  with_denied s known l k no_l = all-with_lit (holds s) (negated l) known ∙ and_from (list_all (holds s) known) (holds s (negated l)) k (holds-negated s l ∙ ap not no_l)
 
   pub inside : (tags : List (List Lit)) (known : List Lit) → all_inside h.clauses known tags ≡ true → Inside known tags
   inside [] known e s m k = absurd (false≢true e)
@@ -71,9 +66,15 @@ module _ (h : Held) (whole : AreWhole h) where
     λ valid. is ∙ found_inside tags [] ((consistent_exact h whole []).1 whole.has_model) (λ s m k. valid s m),
   )
 
-  -- one tag that can't be denied suffices
-  pub always_valid : (tags : List (List Lit)) (t : List Lit) → Member tags t → all_inside h.clauses [] (t ∷ []) ≡ true → AreValidTags (formula h) tags
-  always_valid tags t at e s m = any_from (list_all (holds s)) tags t at (elim (or_cases (list_all (holds s) t) false (inside (t ∷ []) [] e s m refl)) [ inl one ↦ one | inr none ↦ absurd (false≢true none) ])
+-- ---- what some literals entail
+
+-- one tag suffices all of whose literals they entail
+pub one_within : (n : ℕ) (i : Initial) (lits known : List Lit) (tags : List (List Lit)) → IsClosure n i lits known → list_any (λ t. is_within t known) tags ≡ true → IsInside i lits tags
+one_within n i lits known tags closure one = record {
+  each = λ s m k.
+      let t = any_member (λ t. is_within t known) tags one in
+      any_from (list_all (holds s)) tags t.0 t.1 (all_from (holds s) t.0 (λ l at. closure.entailed l (all_member (has known) t.0 l at t.2) s m k));
+}
 
 -- ---- tags of the atoms
 

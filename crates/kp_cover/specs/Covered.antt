@@ -1,5 +1,5 @@
 -- How it is decided which targets are covered. This file serves proofs alone.
-use Rattle.std.specs.Prelude.{◌≡◌, ◌↔◌, ◌⊎◌, ◌||◌, ◌++◌, ℕ, Bool, IsTrue, true, false, not, if◌then◌else◌, List, [], ◌∷◌, Option, Some, None, slice_get, length}
+use Rattle.std.specs.Prelude.{◌≡◌, ◌↔◌, ◌⊎◌, ◌≤◌, ◌*◌, ◌||◌, ◌++◌, ℕ, Bool, IsTrue, true, false, not, if◌then◌else◌, List, [], ◌∷◌, Option, Some, None, slice_get, length, fold}
 use Rattle.std.specs.List.{list_any, list_all, flat_map}
 use Rattle.kp_base.specs.declared.lit.Lit.{Lit}
 use Rattle.kp_base.specs.declared.ground.Ground.{Ground}
@@ -9,12 +9,14 @@ use Rattle.kp_base.specs.declared.ground.TagTable.{TagTable}
 use Rattle.kp_base.specs.declared.ground.Merge.{Merge}
 use Rattle.kp_base.specs.Lists.{Member}
 use Rattle.kp_base.specs.Lit.{negated, has}
+use Rattle.kp_base.specs.Steps.{State, holds, is_model}
 use Rattle.kp_base.specs.LitSet.{IsAscending, with_lit}
 use Rattle.kp_base.specs.Entailed.{IsValid, IsTable}
 use Rattle.kp_base.specs.Covering.{IsCovered}
 use Rattle.kp_primes.specs.Held.{Held, formula}
 use Rattle.kp_relevance.specs.Relevant.{ArePairsOf}
 use Rattle.kp_cover.specs.Grown.{is_fine}
+use Rattle.kp_cover.specs.Valid.{satisfies_one}
 use Rattle.kp_cover.specs.declared.tags.Validity.{Validity}
 use Rattle.kp_cover.specs.declared.tags.Validity.TheVariants.{Valid, Invalid}
 
@@ -43,6 +45,19 @@ all_rows_meet table cs ts = list_all (λ t. row_meets cs (slice_get table.tags t
 abbrev pub all_inside : List (List Lit) → List Lit → List (List Lit) → Bool
 all_inside ps known [] = false
 all_inside ps known (t ∷ tags) = list_all (λ l. not (is_fine ps (with_lit (negated l) known)) || all_inside ps (with_lit (negated l) known) tags) t
+
+-- each model in which some literals are true satisfies one of the tags
+pub record IsInside (i : Initial) (known : List Lit) (tags : List (List Lit)) : Type 0 where
+  pub each : (s : State) → is_model i s ≡ true → list_all (holds s) known ≡ true → satisfies_one tags s ≡ true
+
+-- how many ways there are to choose a literal of each tag
+abbrev pub ways : List (List Lit) → ℕ
+ways tags = fold (λ n t. n * length t) 1 tags
+
+-- there are few ways to choose a literal of each tag, and few tags
+pub record AreFew (tags : List (List Lit)) : Type 0 where
+  pub few_tags : length tags ≤ 1024
+  pub few_ways : ways tags ≤ 64
 
 -- the answer is that tags are valid
 abbrev pub says_valid : Validity → Bool

@@ -1,4 +1,4 @@
--- Tags that grow clause by clause. This file serves proofs alone.
+-- Tags that grow clause by clause. Beside proofs it serves the contracts that cite `added`.
 use Rattle.std.specs.Prelude.{Bool, List, [], ◌∷◌, ◌++◌, not, filter, map, if◌then◌else◌, Option, Some, None}
 use Rattle.std.specs.List.{flat_map, list_any}
 use Rattle.kp_base.specs.declared.lit.Lit.{Lit}

@@ -1,4 +1,4 @@
--- Whether all tags of a set of clauses cover: going on literal by literal. This file serves proofs alone.
+-- Whether all tags of a set of clauses cover: going on literal by literal. Beside proofs it serves the contracts that cite `tells_cover`.
 use Rattle.std.specs.Prelude.{ℕ, Bool, not, ◌||◌, List, [], ◌∷◌}
 use Rattle.std.specs.List.{list_any, list_all}
 use Rattle.kp_base.specs.declared.lit.Lit.{Lit}

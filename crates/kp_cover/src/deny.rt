@@ -1,9 +1,13 @@
-//! Whether a literal of each tag can be denied. It takes a test of consistency for each literal, and no closure.
-ghost use Rattle.std.specs.Prelude.{◌≡◌, ◌≤◌, [], ◌∷◌, drop, length, IsTrue, IfOk};
+//! Whether a literal of each tag can be denied. It takes a test of consistency for each literal, and but the closure of
+//! the empty tag.
+ghost use Rattle.std.specs.Prelude.{◌≡◌, ◌↔◌, ◌≤◌, ◌-◌, ◌^◌, [], drop, length, min, IsTrue, IfOk};
+ghost use Rattle.std.specs.List.{list_any};
+ghost use Rattle.kp_base.specs.LitSet.{is_within};
 ghost use Rattle.kp_primes.specs.Held.{formula};
-ghost use Rattle.kp_cover.specs.Covered.{all_inside};
+ghost use Rattle.kp_cover.specs.Covered.{all_inside, ways, AreFew};
 ghost use Rattle.kp_cover.specs.Valid.{AreValidTags};
 
+use crate::cases::are_told;
 use crate::product::with_one;
 use kp_base::{LitSet, Memory};
 use kp_primes::Primes;
@@ -43,44 +47,63 @@ pub(crate) fn none_outside(alloc: Global, primes: &Primes, tags: &[LitSet]) -> R
     Ok(inside)
 }
 
-// Whether no literal of the tag can be denied.
-fn is_always(alloc: Global, primes: &Primes, tag: &LitSet) -> Result<bool, Memory>
-    ensures { IfOk result (λ b. b ≡ all_inside primes.now.clauses [] (tag.now ∷ [])) }
+// Whether one of the tags has no literal but these.
+fn is_one_within(tags: &[LitSet], known: &LitSet) -> bool
+    ensures { result ≡ list_any (λ t. is_within t known.now) tags.now }
 {
-    let known = LitSet::new(alloc);
-    let lits = tag.slice();
-    for l in lits {
-        if let Some(_) = with_one(alloc, primes, &known, l.negated())? {
-            return Ok(false);
-        }
-    }
-    Ok(true)
+    tags.iter().any(|t| t.within(known))
 }
 
-// Whether no literal of one of the tags can be denied.
+// Whether one of the tags is always true.
 fn is_one_always(alloc: Global, primes: &Primes, tags: &[LitSet]) -> Result<bool, Memory>
     ensures { IfOk result (λ b. IsTrue b → AreValidTags (formula primes.now) tags.now) }
 {
-    let _whole = primes.clauses();
-    for tag in tags {
-        if is_always(alloc, primes, tag)? {
-            return Ok(true);
-        }
+    match primes.closure(alloc, &LitSet::new(alloc))? {
+        Some(always) => Ok(is_one_within(tags, &always)),
+        None => Ok(false),
     }
-    Ok(false)
 }
 
-// Whether it is worth while to try each way to choose a literal of each tag. One call stands within another for each tag.
-fn are_few_ways(tags: &[LitSet]) -> bool {
+// How many ways there are to choose a literal of each tag, as far as a `usize` counts.
+fn ways(tags: &[LitSet]) -> usize
+    ensures { result ≡ min (ways tags.now) (2 ^ 64 - 1) }
+{
     let mut ways: usize = 1;
     for tag in tags {
         ways = ways.saturating_mul(tag.slice().len());
     }
-    tags.len() <= 1024 && ways <= 64
+    ways
 }
 
-/// Whether it is soon told that each initial state satisfies one of the tags: one of them is always true, or there are
-/// few ways to deny a literal of each, and none is consistent.
+// Whether there are few ways to choose a literal of each tag, and few tags: one call stands within another for each.
+fn are_few(tags: &[LitSet]) -> bool
+    ensures { IsTrue result ↔ AreFew tags.now }
+{
+    tags.len() <= 1024 && ways(tags) <= 64
+}
+
+// Whether there is no consistent way to deny a literal of each of few tags.
+fn none_of_few_outside(alloc: Global, primes: &Primes, tags: &[LitSet]) -> Result<bool, Memory>
+    requires { AreFew tags.now }
+    ensures { IfOk result (λ b. b ≡ all_inside primes.now.clauses [] tags.now) }
+{
+    let inside = none_outside(alloc, primes, tags)?;
+    Ok(inside)
+}
+
+// Whether one of many tags is always true, or cases tell that each initial state satisfies one of them.
+fn are_many_told(alloc: Global, primes: &Primes, tags: &[LitSet]) -> Result<bool, Memory>
+    ensures { IfOk result (λ b. IsTrue b → AreValidTags (formula primes.now) tags.now) }
+{
+    if is_one_always(alloc, primes, tags)? {
+        return Ok(true);
+    }
+    let told = are_told(alloc, primes, tags)?;
+    Ok(told)
+}
+
+/// Whether it is soon told that each initial state satisfies one of the tags: there are few ways to deny a literal of
+/// each, and none is consistent; or there are many, and one of them is always true, or cases tell it.
 pub(crate) fn are_soon_valid(
     alloc: Global,
     primes: &Primes,
@@ -89,12 +112,10 @@ pub(crate) fn are_soon_valid(
     ensures { IfOk result (λ b. IsTrue b → AreValidTags (formula primes.now) tags.now) }
 {
     let _whole = primes.clauses();
-    if is_one_always(alloc, primes, tags)? {
-        return Ok(true);
+    if !are_few(tags) {
+        let told = are_many_told(alloc, primes, tags)?;
+        return Ok(told);
     }
-    if !are_few_ways(tags) {
-        return Ok(false);
-    }
-    let inside = none_outside(alloc, primes, tags)?;
+    let inside = none_of_few_outside(alloc, primes, tags)?;
     Ok(inside)
 }

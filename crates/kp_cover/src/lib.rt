@@ -6,6 +6,7 @@
 #![tactic(auto)]
 
 mod answer;
+mod cases;
 mod covering;
 mod deny;
 mod distinct;

@@ -8,8 +8,8 @@ use kp_base::{Lit, LitSet, Memory};
 use kp_first::{Question, Truth, truth_in};
 use std::alloc::Global;
 
-// Whether a tag's literals are true.
-fn all_truth(known: &LitSet, tag: &[Lit]) -> Truth
+/// Whether a tag's literals are true.
+pub(crate) fn all_truth(known: &LitSet, tag: &[Lit]) -> Truth
     ensures { result ≡ all_truth known.now tag.now }
 {
     let mut all = Truth::Yes;

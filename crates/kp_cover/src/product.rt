@@ -18,8 +18,8 @@ fn is_fine(primes: &Primes, tag: &LitSet) -> bool
     primes.consistent(tag)
 }
 
-// The tag with one literal more.
-fn extended(alloc: Global, tag: &LitSet, lit: Lit) -> Result<LitSet, Memory>
+/// The tag with one literal more.
+pub(crate) fn extended(alloc: Global, tag: &LitSet, lit: Lit) -> Result<LitSet, Memory>
     ensures { IfOk result (λ more. more ≡ with_lit lit tag.now) }
 {
     let mut more = tag.copy(alloc)?;

@@ -1,7 +1,8 @@
-use Rattle.std.proofs.Common.{◌∙◌, sym}
-use Rattle.kp_cover.proofs.Denying.{always_valid, member_here}
+use Rattle.std.proofs.Common.{◌∙◌, [], refl, sym}
+use Rattle.kp_primes.specs.Held.{formula}
+use Rattle.kp_cover.proofs.Denying.{one_within}
 use Rattle.kp_cover.proofs.deny.is_one_always.Goals as goal
 
--- this one is
-pub returns-then-branch : goal.returns-then-branch
-returns-then-branch c = λ e. always_valid c.args.primes.now c.clauses-whole.ensures.whole c.args.tags.now c.tag-item.result (member_here c.args.tags.now c.loop-tag.tag-index c.tag-item.result c.loop-tag-test.true c.tag-item.is) (sym c.in_ok-is_always.ensures ∙ c.if-branch.true)
+-- what the empty tag entails is known
+pub returns-in-Some : goal.returns-in-Some
+returns-in-Some c e s m = (one_within c.args.primes.now.atoms (formula c.args.primes.now) [] c.in-Some.always c.args.tags.now (rw (c.in-Some.is, c.new.ensures) at c.in_ok-always.ensures).1 (sym c.is_one_within.ensures ∙ e)).each s m refl
