@@ -1,3 +1,6 @@
 pub mod Views
 pub mod KnownTypes
 pub mod WholeProblem
+pub mod AlikeTable
+pub mod NotedTypes
+pub mod SameObjects

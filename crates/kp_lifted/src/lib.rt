@@ -1,6 +1,7 @@
 //! The problem by number of two trees. `specs/View.antt` says how contracts see it; each call says what it gives.
 #![tactic(auto)]
 
+mod alike;
 mod effects;
 mod lifted;
 mod numbering;

@@ -85,7 +85,7 @@ pub fn by_number(alloc: Global, bytes: &Texts, names: Names) -> Result<Lifted, M
     ensures numbered { IfOk result (λ l. lifted_view l ≡ numbered_problem (domain_view names.entry.domain) (problem_view names.entry.problem)) }
     ensures unsure { IfOk result (λ l. l.unsure ≡ unsure_place bytes.now.problem (problem_view names.entry.problem)) }
 {
-    let mut ranges = Ranges::new(alloc, names);
+    let mut ranges = Ranges::new(alloc, names)?;
     let lifted = lifted(alloc, bytes, &mut ranges);
     drop(ranges);
     lifted

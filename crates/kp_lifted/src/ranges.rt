@@ -3,7 +3,9 @@ ghost use Rattle.kp_grammar.specs.View.{typed_view, domain_view, problem_view};
 ghost use Rattle.kp_meaning.specs.Types.{names, or_object};
 ghost use Rattle.kp_meaning.specs.Numbering.{numbered_range};
 ghost use Rattle.kp_tables.specs.Steps.{range_of};
+ghost use Rattle.kp_lifted.specs.Alike.{AreAlike};
 
+use crate::alike::Alike;
 use indexmap::IndexMap;
 use kp_base::{Memory, Row};
 use kp_grammar::{Typed, Word};
@@ -11,11 +13,13 @@ use kp_meaning::Range;
 use kp_tables::{Names, OBJECT, below_type, below_types, objects_of};
 use std::alloc::Global;
 
-/// The numbers of names, and the objects of each type that was asked for.
+/// The numbers of names, and the objects of each type that was asked for, or of the type in whose place it may stand.
 #[derive(Drop)]
 pub struct Ranges<'a> {
     /// The names.
     pub names: Names<'a>,
+    alike: Alike<'a>,
+    ghost alike_right: { AreAlike (λ t. range_of (domain_view names.domain) (problem_view names.problem) (t ∷ [])) alike },
     known: IndexMap<&'a [u8], Row<u32>>,
     ghost known_right: { map (λ e. e.1) known.entries ≡ map (λ e. range_of (domain_view names.domain) (problem_view names.problem) (e.0.now ∷ [])) known.entries },
 }
@@ -32,13 +36,18 @@ fn copied(alloc: Global, objects: &[u32]) -> Result<Row<u32>, Memory>
 
 impl<'a> Ranges<'a> {
     /// No type was asked for yet.
-    pub fn new(alloc: Global, names: Names<'a>) -> Ranges<'a>
-        ensures { result.names ≡ names.entry }
+    pub fn new(alloc: Global, names: Names<'a>) -> Result<Ranges<'a>, Memory>
+        ensures { IfOk result (λ r. r.names ≡ names.entry) }
     {
-        Ranges {
+        let Ok(alike) = Alike::of(alloc, names.domain(), names.problem()) else {
+            drop(names);
+            return Err(Memory);
+        };
+        Ok(Ranges {
             names,
+            alike,
             known: IndexMap::new(alloc),
-        }
+        })
     }
 
     // The objects of a type, from its declaration and those of the objects.
@@ -51,7 +60,7 @@ impl<'a> Ranges<'a> {
     }
 
     // The objects of a type. The first time they are looked for, and later copied.
-    fn of_type(&mut self, alloc: Global, name: &'a [u8]) -> Result<Row<u32>, Memory>
+    fn kept(&mut self, alloc: Global, name: &'a [u8]) -> Result<Row<u32>, Memory>
         ensures kept { self.new.names ≡ self.old.names }
         ensures row { IfOk result (λ row. row ≡ range_of (domain_view self.old.names.domain) (problem_view self.old.names.problem) (name.now ∷ [])) }
     {
@@ -62,6 +71,16 @@ impl<'a> Ranges<'a> {
         let copy = copied(alloc, objects.slice())?;
         self.known.insert(name, objects)?;
         Ok(copy)
+    }
+
+    // The objects of a type, which are those of the last type on the way down from it.
+    fn of_type(&mut self, alloc: Global, name: &'a [u8]) -> Result<Row<u32>, Memory>
+        ensures kept { self.new.names ≡ self.old.names }
+        ensures row { IfOk result (λ row. row ≡ range_of (domain_view self.old.names.domain) (problem_view self.old.names.problem) (name.now ∷ [])) }
+    {
+        let last = self.alike.last(name)?;
+        let row = self.kept(alloc, last)?;
+        Ok(row)
     }
 
     // The objects of one of several types.
