@@ -2,6 +2,7 @@ pub mod Public
 pub mod Starts
 pub mod Valid
 pub mod Apart
+pub mod Different
 pub mod Written
 pub mod Tables
 pub mod Sizes

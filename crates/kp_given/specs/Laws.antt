@@ -1,11 +1,15 @@
 -- What is proved of the translation of two trees, and of their initial states.
 use Rattle.std.specs.Prelude.{◌≡◌, ◌↔◌, ◌<◌, ℕ, List, [], length}
 use Rattle.kp_base.specs.declared.lit.Lit.{Lit}
+use Rattle.kp_base.specs.declared.ground.GroundName.{GroundName}
+use Rattle.kp_base.specs.Lists.{Member}
 use Rattle.kp_base.specs.LitSet.{IsAscending}
 use Rattle.kp_base.specs.Entailed.{HasModel, IsClosure}
 use Rattle.kp_grammar.specs.declared.tree.Word.{Word}
 use Rattle.kp_grammar.specs.Trees.{Domain, Problem}
-use Rattle.kp_meaning.specs.Initial.{HasInitialState}
+use Rattle.kp_meaning.specs.Names.{Name}
+use Rattle.kp_meaning.specs.States.{State}
+use Rattle.kp_meaning.specs.Initial.{IsInitial, HasInitialState}
 use Rattle.kp_meaning.specs.Faults.{HasNoFault}
 use Rattle.kp_meaning.specs.Plans.{HasProblem}
 use Rattle.kp_base.specs.Implicates.{IsOfAtoms, IsOfItsAtoms}
@@ -17,6 +21,10 @@ use Rattle.kp_given.specs.Translations.{ground_of, initial_of, start_of}
 -- where no name is at fault, some state is initial exactly where the initial formula has a model
 abbrev pub InitialStatesAreModels : Type 0
 InitialStatesAreModels = (d : Domain Word) (p : Problem Word) → HasNoFault d p → HasInitialState p ↔ HasModel (initial_of d p)
+
+-- where no name is at fault, two initial states that say the same of each ground atom are the same state; so two that differ are different models
+abbrev pub DifferentStatesAreDifferentModels : Type 0
+DifferentStatesAreDifferentModels = (d : Domain Word) (p : Problem Word) → HasNoFault d p → (s t : State) → IsInitial p s → IsInitial p t → ((a : GroundName) → Member (ground_of d p).atoms a → s a.head a.objects ≡ t a.head a.objects) → (h : Name) (os : List Name) → s h os ≡ t h os
 
 -- the initial formula speaks of ground atoms alone
 abbrev pub FormulasSpeakOfGroundAtoms : Type 0

@@ -1,12 +1,17 @@
 //! Laws of what is written for two trees, each proved as the contract of a function that does nothing.
 
 ghost use Rattle.kp_given.specs.Tables.{EmptyTagIsTable, EmptyTagsAreLight, TablesCanBeWritten};
-ghost use Rattle.kp_given.specs.Laws.{ClosuresAreStarts, FormulasSpeakOfGroundAtoms, GroundProblemsAreOfTheirAtoms, GroundProblemsAreWritable, InitialStatesAreModels, NamesTellGroundAtoms, StartsAreOfAtoms};
+ghost use Rattle.kp_given.specs.Laws.{ClosuresAreStarts, DifferentStatesAreDifferentModels, FormulasSpeakOfGroundAtoms, GroundProblemsAreOfTheirAtoms, GroundProblemsAreWritable, InitialStatesAreModels, NamesTellGroundAtoms, StartsAreOfAtoms};
 
 /// Where no name is at fault, some state is initial exactly where the initial formula has a model.
 #[tactic(auto, using(crate::proofs::Starts::states_are_models))]
 pub fn initial_states_are_models()
     ensures { InitialStatesAreModels }
+{}
+
+/// Where no name is at fault, two initial states that say the same of each ground atom are the same state.
+pub fn different_states_are_different_models()
+    ensures { DifferentStatesAreDifferentModels }
 {}
 
 /// The initial formula speaks of ground atoms alone.

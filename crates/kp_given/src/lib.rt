@@ -4,7 +4,8 @@
 mod laws;
 
 pub use laws::{
-    closures_are_starts, empty_tags_are_light, formulas_speak_of_ground_atoms,
-    ground_problems_are_of_their_atoms, ground_problems_can_be_written, initial_states_are_models,
-    names_tell_ground_atoms, starts_speak_of_ground_atoms, tables_can_be_written,
+    closures_are_starts, different_states_are_different_models, empty_tags_are_light,
+    formulas_speak_of_ground_atoms, ground_problems_are_of_their_atoms,
+    ground_problems_can_be_written, initial_states_are_models, names_tell_ground_atoms,
+    starts_speak_of_ground_atoms, tables_can_be_written,
 };
