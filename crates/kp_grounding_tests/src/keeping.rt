@@ -1,5 +1,6 @@
+use crate::limits::{Limit, limit_in};
 use crate::reading::numbers;
-use kp_base::{Limits, Memory, Refused, Row, Stop, Text};
+use kp_base::{Limits, Memory, Row, Stop, Text};
 use kp_kept::{Statics, all_bindings, kept_instances};
 use kp_meaning::Range;
 use kp_names::{Cond, Eff, Lifted, Schema};
@@ -87,19 +88,19 @@ fn idle_within(alloc: Global, bindings: u64, actions: u32, weight: u64) -> Resul
 
 // Whether the instance of the idle action is kept within these limits.
 fn keeps_one(alloc: Global, bindings: u64, actions: u32, weight: u64) -> bool {
-    idle_within(alloc, bindings, actions, weight) == Ok(1)
+    matches!(idle_within(alloc, bindings, actions, weight), Ok(1))
 }
 
-// Whether it is refused so.
-fn refuses(alloc: Global, bindings: u64, actions: u32, weight: u64, refused: Refused) -> bool {
-    idle_within(alloc, bindings, actions, weight) == Err(Stop::Refused(refused))
+// Whether it is refused for this limit.
+fn refuses(alloc: Global, bindings: u64, actions: u32, weight: u64, limit: Limit) -> bool {
+    matches!(&idle_within(alloc, bindings, actions, weight), Err(Stop::Refused(found)) if limit_in(found) == Some(limit))
 }
 
 #[test]
 fn each_limit_refuses(rt: HostRuntime) {
     let alloc = rt.alloc();
     assert!(rt; keeps_one(alloc, 1, 1, 1));
-    assert!(rt; refuses(alloc, 0, 1, 1, Refused::BindingsOver));
-    assert!(rt; refuses(alloc, 1, 0, 1, Refused::ActionsOver));
-    assert!(rt; refuses(alloc, 1, 1, 0, Refused::EffectsOver));
+    assert!(rt; refuses(alloc, 0, 1, 1, Limit::Bindings));
+    assert!(rt; refuses(alloc, 1, 0, 1, Limit::Actions));
+    assert!(rt; refuses(alloc, 1, 1, 0, Limit::Weight));
 }

@@ -24,12 +24,33 @@ fn has(alloc: Global, lifted: &Lifted, limits: &Limits, atoms: usize, actions: u
     }
 }
 
-// Whether this limit is told.
-fn tells(alloc: Global, lifted: &Lifted, limits: &Limits, refused: Refused) -> bool {
-    match ground(alloc, lifted, limits) {
-        Err(Stop::Refused(found)) => found == refused,
-        _ => false,
+/// The limits of grounding.
+#[derive(Clone, Copy, Debug, PartialEq, Eq)]
+pub enum Limit {
+    /// Of bindings.
+    Bindings,
+    /// Of atoms.
+    Atoms,
+    /// Of actions.
+    Actions,
+    /// Of the actions' weight.
+    Weight,
+}
+
+/// The limit that a refusal tells.
+pub fn limit_in(refused: &Refused) -> Option<Limit> {
+    match refused {
+        Refused::BindingsOver => Some(Limit::Bindings),
+        Refused::AtomsOver => Some(Limit::Atoms),
+        Refused::ActionsOver => Some(Limit::Actions),
+        Refused::EffectsOver => Some(Limit::Weight),
+        _ => None,
     }
+}
+
+// Whether this limit is told.
+fn tells(alloc: Global, lifted: &Lifted, limits: &Limits, limit: Limit) -> bool {
+    matches!(&ground(alloc, lifted, limits), Err(Stop::Refused(found)) if limit_in(found) == Some(limit))
 }
 
 fn limits_of(bindings: u64, actions: u32, weight: u64) -> Limits {
@@ -44,19 +65,14 @@ fn limits_of(bindings: u64, actions: u32, weight: u64) -> Limits {
 // Whether the moves are grounded at each limit, and refused one below.
 fn are_limits(alloc: Global, lifted: &Lifted) -> bool {
     let cases = [
-        (3, 4, 12, Refused::BindingsOver),
-        (4, 3, 12, Refused::ActionsOver),
-        (4, 4, 11, Refused::EffectsOver),
-        (3, 3, 11, Refused::BindingsOver),
-        (4, 3, 11, Refused::ActionsOver),
+        (3, 4, 12, Limit::Bindings),
+        (4, 3, 12, Limit::Actions),
+        (4, 4, 11, Limit::Weight),
+        (3, 3, 11, Limit::Bindings),
+        (4, 3, 11, Limit::Actions),
     ];
-    for (bindings, actions, weight, refused) in cases {
-        if !tells(
-            alloc,
-            lifted,
-            &limits_of(bindings, actions, weight),
-            refused,
-        ) {
+    for (bindings, actions, weight, limit) in cases {
+        if !tells(alloc, lifted, &limits_of(bindings, actions, weight), limit) {
             return false;
         }
     }
@@ -82,7 +98,7 @@ fn limits_of_atoms(atoms: u32) -> Limits {
 
 fn is_limit_of_atoms(alloc: Global, lifted: &Lifted) -> bool {
     has(alloc, lifted, &limits_of_atoms(3), 3, 1)
-        && tells(alloc, lifted, &limits_of_atoms(2), Refused::AtomsOver)
+        && tells(alloc, lifted, &limits_of_atoms(2), Limit::Atoms)
 }
 
 // Three cells are three atoms: with a limit of two they are too many.

@@ -4,7 +4,7 @@ ghost use Rattle.kp_outcome.specs.Numbers.{number_of};
 use kp_base::Refused;
 
 /// How a command ended.
-#[derive(Debug, PartialEq, Eq, Drop)]
+#[derive(Drop)]
 pub enum Status {
     /// The command did what it is for.
     Done,

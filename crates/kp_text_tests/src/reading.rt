@@ -60,12 +60,14 @@ fn stand_at(alloc: Global, plan: &[u8], places: &[(u32, u32)]) -> bool {
     }
 }
 
-// Whether a plan file is refused so.
-fn refuses(alloc: Global, plan: &[u8], refused: &Refused) -> bool {
-    match read(alloc, plan) {
-        Err(Stop::Refused(found)) => found == *refused,
-        _ => false,
-    }
+// Whether a plan file is refused for its grammar here.
+fn refuses(alloc: Global, plan: &[u8], place: Place) -> bool {
+    matches!(read(alloc, plan), Err(Stop::Refused(Refused::PlanSyntax(found))) if found == place)
+}
+
+// Whether a plan file is refused for a byte here, which begins no token.
+fn has_bad_byte(alloc: Global, plan: &[u8], place: Place) -> bool {
+    matches!(read(alloc, plan), Err(Stop::Refused(Refused::BadToken(found))) if found == place)
 }
 
 // Files with no line feed at their end, in upper case, with comments and with other blanks.
@@ -109,8 +111,7 @@ fn offending_tokens(rt: HostRuntime) {
         ("(a)\n; (\n 1", 3, 9),
     ];
     for (plan, line, byte) in table {
-        let refused = Refused::PlanSyntax(at(line, byte));
-        assert!(rt; refuses(rt.alloc(), plan.as_bytes(), &refused), "{plan}");
+        assert!(rt; refuses(rt.alloc(), plan.as_bytes(), at(line, byte)), "{plan}");
     }
 }
 
@@ -124,7 +125,6 @@ fn bad_bytes(rt: HostRuntime) {
         ("(_a)", 1, 1),
     ];
     for (plan, line, byte) in table {
-        let refused = Refused::BadToken(at(line, byte));
-        assert!(rt; refuses(rt.alloc(), plan.as_bytes(), &refused), "{plan}");
+        assert!(rt; has_bad_byte(rt.alloc(), plan.as_bytes(), at(line, byte)), "{plan}");
     }
 }

@@ -1,7 +1,7 @@
 //! Words that are a command.
 
 use crate::words::{is, is_file, is_k0, is_k1, told};
-use kp_words::{CommandRef, Family, SourceRef, Translate};
+use kp_words::{Bench, Command, CommandRef, Family, SourceRef, Translate};
 use std::alloc::Global;
 
 // Whether a translation is of these files.
@@ -12,18 +12,31 @@ fn has_files(named: &Translate<'_>) -> bool {
         && is(named.problem_out, "OP")
 }
 
-// Whether words are the translation in the first mode, with this limit.
+// Whether merges come from the first mode.
+fn is_first(source: SourceRef<'_>) -> bool {
+    match source {
+        SourceRef::Mode(mode) => is_k0(mode),
+        SourceRef::File(_) => false,
+    }
+}
+
+// Whether it is the translation in the first mode, with this limit.
+fn is_translation(command: &Command, implicates: u32) -> bool {
+    match command.lend() {
+        CommandRef::Translate(named) => {
+            has_files(&named) && is_first(named.source) && named.implicates == implicates
+        }
+        _ => false,
+    }
+}
+
 fn translates(alloc: Global, all: &[&str], implicates: u32) -> bool {
     let Ok(command) = told(alloc, all) else {
         return false;
     };
-    let CommandRef::Translate(named) = command.lend() else {
-        return false;
-    };
-    let SourceRef::Mode(mode) = named.source else {
-        return false;
-    };
-    has_files(&named) && is_k0(mode) && named.implicates == implicates
+    let is = is_translation(&command, implicates);
+    drop(command);
+    is
 }
 
 #[test]
@@ -70,29 +83,48 @@ fn translations(rt: HostRuntime) {
     );
 }
 
-// Whether words are a lift with this file of merges.
+// Whether it is a lift with this file of merges.
+fn is_lift(command: &Command, merges: &str) -> bool {
+    match command.lend() {
+        CommandRef::Lift(named) => is_file(named.source, merges) && is(named.plan, "L"),
+        _ => false,
+    }
+}
+
 fn lifts(alloc: Global, all: &[&str], merges: &str) -> bool {
     let Ok(command) = told(alloc, all) else {
         return false;
     };
-    let CommandRef::Lift(named) = command.lend() else {
-        return false;
-    };
-    is_file(named.source, merges) && is(named.plan, "L")
+    let is = is_lift(&command, merges);
+    drop(command);
+    is
 }
 
-// Whether words are a call to solve, with this budget and this file for the classical plan.
+// Whether a name is given, and is this one.
+fn is_given(name: Option<&[u8]>, wanted: &str) -> bool {
+    match name {
+        Some(name) => is(name, wanted),
+        None => false,
+    }
+}
+
+// Whether it is a call to solve, with this budget and this file for the classical plan.
+fn is_solve(command: &Command, budget: u32, classical: &str) -> bool {
+    match command.lend() {
+        CommandRef::Solve(named) => {
+            is_given(named.classical, classical) && named.budget == budget
+        }
+        _ => false,
+    }
+}
+
 fn solves(alloc: Global, all: &[&str], budget: u32, classical: &str) -> bool {
     let Ok(command) = told(alloc, all) else {
         return false;
     };
-    let CommandRef::Solve(named) = command.lend() else {
-        return false;
-    };
-    let Some(name) = named.classical else {
-        return false;
-    };
-    is(name, classical) && named.budget == budget
+    let is = is_solve(&command, budget, classical);
+    drop(command);
+    is
 }
 
 #[test]
@@ -110,29 +142,45 @@ fn values(rt: HostRuntime) {
     );
 }
 
-// Whether words are a call for the width, with this bound.
+// Whether it is a call for the width, with this bound.
+fn is_width(command: &Command, bound: u32) -> bool {
+    match command.lend() {
+        CommandRef::Width(named) => named.bound == bound && named.implicates == 20_000,
+        _ => false,
+    }
+}
+
 fn asks_width(alloc: Global, all: &[&str], bound: u32) -> bool {
     let Ok(command) = told(alloc, all) else {
         return false;
     };
-    let CommandRef::Width(named) = command.lend() else {
-        return false;
-    };
-    named.bound == bound && named.implicates == 20_000
+    let is = is_width(&command, bound);
+    drop(command);
+    is
 }
 
-// Whether words are a run on bombs of this size, with nothing else said.
+// Whether a run is on bombs of this size, with nothing else said.
+fn is_of_bombs(asked: &Bench, n: u32) -> bool {
+    matches!(asked.family, Family::Bombs)
+        && asked.n == n
+        && is_k1(asked.mode)
+        && asked.budget == 10_000
+}
+
+fn is_bench(command: &Command, n: u32) -> bool {
+    match command.lend() {
+        CommandRef::Bench(asked) => is_of_bombs(&asked, n),
+        _ => false,
+    }
+}
+
 fn benches(alloc: Global, all: &[&str], n: u32) -> bool {
     let Ok(command) = told(alloc, all) else {
         return false;
     };
-    let CommandRef::Bench(asked) = command.lend() else {
-        return false;
-    };
-    let Family::Bombs = asked.family else {
-        return false;
-    };
-    asked.n == n && is_k1(asked.mode) && asked.budget == 10_000
+    let is = is_bench(&command, n);
+    drop(command);
+    is
 }
 
 #[test]
@@ -143,11 +191,8 @@ fn numbers(rt: HostRuntime) {
     assert!(rt; benches(alloc, &["bench", "bombs", "100"], 100));
 }
 
-// Whether words are one of the commands without a test of their own here.
-fn is_other(alloc: Global, all: &[&str]) -> bool {
-    let Ok(command) = told(alloc, all) else {
-        return false;
-    };
+// Whether it is one of the commands without a test of their own here.
+fn is_without(command: &Command) -> bool {
     match command.lend() {
         CommandRef::Strip(named) => is(named.plan, "T"),
         CommandRef::Check(named) => is(named.plan, "L"),
@@ -155,6 +200,15 @@ fn is_other(alloc: Global, all: &[&str]) -> bool {
         CommandRef::Merges(named) => is_k1(named.mode),
         _ => false,
     }
+}
+
+fn is_other(alloc: Global, all: &[&str]) -> bool {
+    let Ok(command) = told(alloc, all) else {
+        return false;
+    };
+    let is = is_without(&command);
+    drop(command);
+    is
 }
 
 #[test]
