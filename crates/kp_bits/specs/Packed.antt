@@ -1,4 +1,4 @@
--- How a row of bits lies in words. This file serves proofs alone.
+-- How a row of bits lies in words. Beside proofs it serves the contracts that cite `bit_in`.
 use Rattle.std.specs.Prelude.{◌≡◌, ◌≤◌, ◌<◌, ◌+◌, ◌*◌, ◌/◌, ◌%◌, ℕ, Bool, false, List, length, map, nat_eq, slice_index_or}
 use Rattle.std.specs.Int.{bit_at}
 use Rattle.std.specs.List.{range_with_len}

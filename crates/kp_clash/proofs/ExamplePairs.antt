@@ -71,22 +71,22 @@ each_two P a b c d e f p q h =
     go (suc (suc zero)) (suc (suc (suc q))) _ lt _ = absurd (omega (arith, lt))
 
 -- a clause that forbids both
-not_both : (x y : Bool) → (not x || (not y || false)) ≡ true → (x && y) ≡ false
-not_both true true h = absurd (false≢true h)
-not_both true false h = refl
-not_both false y h = refl
+clause_denies_both : (x y : Bool) → (not x || (not y || false)) ≡ true → (x && y) ≡ false
+clause_denies_both true true h = absurd (false≢true h)
+clause_denies_both true false h = refl
+clause_denies_both false y h = refl
 
-not_both_turned : (x y : Bool) → (not x || (not y || false)) ≡ true → (y && x) ≡ false
-not_both_turned true true h = absurd (false≢true h)
-not_both_turned true false h = refl
-not_both_turned false true h = refl
-not_both_turned false false h = refl
+clause_denies_both_turned : (x y : Bool) → (not x || (not y || false)) ≡ true → (y && x) ≡ false
+clause_denies_both_turned true true h = absurd (false≢true h)
+clause_denies_both_turned true false h = refl
+clause_denies_both_turned false true h = refl
+clause_denies_both_turned false false h = refl
 
 at_the_start : NeverAtTheStart one_of_three two_cells
 at_the_start p q pair s model = each_two (λ p q. (s p && s q) ≡ false)
-    (not_both (s 0) (s 1) first) (not_both (s 0) (s 2) second)
-    (not_both_turned (s 0) (s 1) first) (not_both (s 1) (s 2) third)
-    (not_both_turned (s 0) (s 2) second) (not_both_turned (s 1) (s 2) third) p q pair
+    (clause_denies_both (s 0) (s 1) first) (clause_denies_both (s 0) (s 2) second)
+    (clause_denies_both_turned (s 0) (s 1) first) (clause_denies_both (s 1) (s 2) third)
+    (clause_denies_both_turned (s 0) (s 2) second) (clause_denies_both_turned (s 1) (s 2) third) p q pair
   where
     clauses : (c : List Lit) → Member one_of_three.clauses c → list_any (holds s) c ≡ true
     clauses c m = all_member (list_any (holds s)) one_of_three.clauses c m (and_parts _ _ model).0

@@ -16,8 +16,8 @@ use Rattle.kp_clauses.proofs.Saturated.{saturation_exact}
 abbrev either : List Lit
 either = positive 0 ∷ positive 1 ∷ []
 
-abbrev not_both : List Lit
-not_both = negative 0 ∷ negative 1 ∷ []
+abbrev one_is_false : List Lit
+one_is_false = negative 0 ∷ negative 1 ∷ []
 
 abbrev then_third : List Lit
 then_third = negative 0 ∷ positive 2 ∷ []
@@ -27,7 +27,7 @@ first_resolvent : resolvent_on (positive 0) either then_third ≡ Some (positive
 first_resolvent = refl
 
 -- a or b, and not both: nothing
-no_resolvent : resolvent_on (positive 0) either not_both ≡ None
+no_resolvent : resolvent_on (positive 0) either one_is_false ≡ None
 no_resolvent = refl
 
 -- what holds a stored clause isn't stored, and what is held goes
@@ -37,10 +37,10 @@ stored = refl
 -- ---- exactly one of two is saturated
 
 abbrev one_of_two : List (List Lit)
-one_of_two = either ∷ not_both ∷ []
+one_of_two = either ∷ one_is_false ∷ []
 
-no_positive : (p : ℕ) → has not_both (positive p) ≡ true → ⊥
-no_positive p h = elim (member-has not_both (positive p) h) [
+no_positive : (p : ℕ) → has one_is_false (positive p) ≡ true → ⊥
+no_positive p h = elim (member-has one_is_false (positive p) h) [
   | inl e ↦ false≢true (ap (λ (x : Lit). x.positive) e)
   | inr r ↦ elim r [ inl e ↦ false≢true (ap (λ (x : Lit). x.positive) e) | inr bad ↦ bad ]
 ]
@@ -54,10 +54,10 @@ no_negative p h = elim (member-has either (negative p) h) [
 abbrev IsDone : List Lit → List Lit → ℕ → Type 0
 IsDone c d p = (is_tautology (resolved c d (positive p)) || subsumed one_of_two (resolved c d (positive p))) ≡ true
 
-only_tautologies : (p : ℕ) → has either (positive p) ≡ true → IsDone either not_both p
+only_tautologies : (p : ℕ) → has either (positive p) ≡ true → IsDone either one_is_false p
 only_tautologies p h = elim (member-has either (positive p) h) [
-  | inl e ↦ subst (IsDone either not_both) (ap (λ (x : Lit). x.atom.0) e) refl
-  | inr r ↦ elim r [ inl e ↦ subst (IsDone either not_both) (ap (λ (x : Lit). x.atom.0) e) refl | inr bad ↦ absurd bad ]
+  | inl e ↦ subst (IsDone either one_is_false) (ap (λ (x : Lit). x.atom.0) e) refl
+  | inr r ↦ elim r [ inl e ↦ subst (IsDone either one_is_false) (ap (λ (x : Lit). x.atom.0) e) refl | inr bad ↦ absurd bad ]
 ]
 
 one_of_two_saturated : IsSaturated one_of_two
@@ -78,7 +78,7 @@ one_of_two_saturated = record {
 }
 
 -- what holds of both holds of each
-each_of_two : (P : List Lit → Type 0) → P either → P not_both → (c : List Lit) → Member one_of_two c → P c
+each_of_two : (P : List Lit → Type 0) → P either → P one_is_false → (c : List Lit) → Member one_of_two c → P c
 each_of_two P h k c m = elim m [
   | inl e ↦ subst P e h
   | inr r ↦ elim r [ inl e ↦ subst P e k | inr bad ↦ absurd bad ]
@@ -93,10 +93,10 @@ saturation = record {
   reduced = λ c d in-c in-d.
       each_of_two (λ c. is_within c d ≡ true → is_within d c ≡ true)
       (each_of_two (λ d. is_within either d ≡ true → is_within d either ≡ true) (λ h. h) (λ h. absurd (false≢true h)) d in-d)
-      (each_of_two (λ d. is_within not_both d ≡ true → is_within d not_both ≡ true) (λ h. absurd (false≢true h)) (λ h. h) d in-d)
+      (each_of_two (λ d. is_within one_is_false d ≡ true → is_within d one_is_false ≡ true) (λ h. absurd (false≢true h)) (λ h. h) d in-d)
       c in-c;
 }
 
 -- so not both is a prime implicate
-not_both_is_prime : IsPrime (formula_of one_of_two) not_both
-not_both_is_prime = (saturation_exact 2 one_of_two saturation not_both).0 (inr (inl refl))
+one_is_false_is_prime : IsPrime (formula_of one_of_two) one_is_false
+one_is_false_is_prime = (saturation_exact 2 one_of_two saturation one_is_false).0 (inr (inl refl))

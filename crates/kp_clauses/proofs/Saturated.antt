@@ -17,8 +17,8 @@ use Rattle.kp_clauses.proofs.Resolving.{resolved_within}
 use Rattle.kp_clauses.proofs.Extending.{MayJoin, fails}
 
 -- where neither literal of an atom may join, a resolvent is within the list
-not_both : (cs : List (List Lit)) → IsSaturated cs → MayJoin cs
-not_both cs sat F may p h k =
+saturated_may_join : (cs : List (List Lit)) → IsSaturated cs → MayJoin cs
+saturated_may_join cs sat F may p h k =
     let c = any_member (λ e. is_within e (positive p ∷ F)) cs h in
     let d = any_member (λ e. is_within e (negative p ∷ F)) cs k in
     let out : (e : List Lit) → Member cs e → is_within e F ≡ false = λ e m. false_from_ne_true (is_within e F) (λ t. false≢true (sym may.free ∙ any_from (λ e. is_within e F) cs e m t)) in
@@ -36,7 +36,7 @@ model_true cs s h = and_from (list_all (list_any (holds s)) cs) true h refl
 -- each clause that is true wherever the list is has a clause of the list within it
 covers : (n : ℕ) (cs : List (List Lit)) → IsSaturation n cs → (c : List Lit) → IsImplicate (formula_of cs) c → subsumed cs c ≡ true
 covers n cs sat c imp = true_from_ne_false (subsumed cs c) (λ free.
-    let f = fails n cs sat.of_atoms.clauses (not_both cs sat.saturated) c (record { free = free; proper = imp.proper }) in
+    let f = fails n cs sat.of_atoms.clauses (saturated_may_join cs sat.saturated) c (record { free = free; proper = imp.proper }) in
     let x = any_member (holds f.0) c (imp.holds_always f.0 (model_true cs f.0 f.1.clauses_true)) in
     false≢true (sym (f.1.all_false x.0 x.1) ∙ x.2))
 

@@ -1,4 +1,4 @@
--- Lists of the places of clauses, by one literal of each. This file serves proofs alone.
+-- Lists of the places of clauses, by one literal of each. Beside proofs it serves the contracts that cite `IsMark`, `common_at`, `stands`.
 use Rattle.std.specs.Prelude.{◌≡◌, ◌+◌, ◌%◌, ℕ, Bool, false, not, ◌&&◌, cond, List, [], ◌∷◌, Option, None, Some, map, slice_get, nat_eq}
 use Rattle.std.specs.Int.{bit_at}
 use Rattle.std.specs.Int.RustNames.{bit_or}

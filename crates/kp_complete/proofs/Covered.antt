@@ -71,8 +71,8 @@ module _ (g : Ground) (i : Initial) (m₀ : State) (model₀ : is_model i m₀ �
       false≢true (sym o.unknown ∙ right.whole met.lit (open_below met.lit o) met.entailed)
 
   -- of no atom are both literals open
-  not_both : (p : ℕ) → Open (positive p) → Open (negative p) → ⊥
-  not_both p o q = no_candidate (either_value p) (IsCandidate.unsettled p (open_below (positive p) o) (unsettled (m₀ p) refl)) are
+  one_sign_open : (p : ℕ) → Open (positive p) → Open (negative p) → ⊥
+  one_sign_open p o q = no_candidate (either_value p) (IsCandidate.unsettled p (open_below (positive p) o) (unsettled (m₀ p) refl)) are
     where
       unsettled : (b : Bool) → m₀ p ≡ b → HasOneValue i p → ⊥
       unsettled true is one = false≢true (sym o.unknown ∙ right.whole (positive p) (open_below (positive p) o) (λ s model met. one s m₀ model model₀ ∙ is))
@@ -84,8 +84,8 @@ module _ (g : Ground) (i : Initial) (m₀ : State) (model₀ : is_model i m₀ �
       are x (inr (inr n)) = absurd n
 
   by_sign : (p : ℕ) (b : Bool) → Open (record { atom = record { 0 = p }; positive = b }) → Open (record { atom = record { 0 = p }; positive = not b }) → ⊥
-  by_sign p true o q = not_both p o q
-  by_sign p false o q = not_both p q o
+  by_sign p true o q = one_sign_open p o q
+  by_sign p false o q = one_sign_open p q o
 
   -- no prime implicate has open literals alone
   no_prime : (c : List Lit) → ((x : Lit) → Member c x → Open x) → IsPrime i c → ⊥

@@ -24,14 +24,14 @@ abbrev why : {A : Type 0} → Outcome Unnamed A → Reason
 why (Ok x) = Syntax
 why (Err at) = at.reason
 
-abbrev Reads : {b : Bool} {c : Sort} → Form b c → List Symbol → Type 0
-Reads X ss = ended (read 9 X (toks ss)) ≡ ([], true)
+abbrev IsReadWhole : {b : Bool} {c : Sort} → Form b c → List Symbol → Type 0
+IsReadWhole X ss = ended (read 9 X (toks ss)) ≡ ([], true)
 
 abbrev StopsAt : {b : Bool} {c : Sort} → Form b c → List Symbol → List Symbol → Reason → Type 0
 StopsAt X ss rest reason = (ended (read 9 X (toks ss)) ≡ (rest, false)) × (why (read 9 X (toks ss)) ≡ reason)
 
 -- (and () (not (= a ?x)) (p a))
-conjunction : Reads cond (Left ∷ And ∷ Left ∷ Right ∷ Left ∷ Not ∷ Left ∷ Equal ∷ Name ∷ Variable ∷ Right ∷ Right ∷ Left ∷ Name ∷ Name ∷ Right ∷ Right ∷ [])
+conjunction : IsReadWhole cond (Left ∷ And ∷ Left ∷ Right ∷ Left ∷ Not ∷ Left ∷ Equal ∷ Name ∷ Variable ∷ Right ∷ Right ∷ Left ∷ Name ∷ Name ∷ Right ∷ Right ∷ [])
 unfolding some_at next_at
 conjunction = refl
 
@@ -66,7 +66,7 @@ unfolding some_at next_at
 variable_in_goal = (refl, refl)
 
 -- (forall (?x - (either a b) ?y) (when (p ?x) (and (q) (not (p ?y)))))
-quantified : Reads eff (Left ∷ Forall ∷ Left ∷ Variable ∷ Dash ∷ Left ∷ Either ∷ Name ∷ Name ∷ Right ∷ Variable ∷ Right ∷ Left ∷ When ∷ Left ∷ Name ∷ Variable ∷ Right ∷ Left ∷ And ∷ Left ∷ Name ∷ Right ∷ Left ∷ Not ∷ Left ∷ Name ∷ Variable ∷ Right ∷ Right ∷ Right ∷ Right ∷ Right ∷ [])
+quantified : IsReadWhole eff (Left ∷ Forall ∷ Left ∷ Variable ∷ Dash ∷ Left ∷ Either ∷ Name ∷ Name ∷ Right ∷ Variable ∷ Right ∷ Left ∷ When ∷ Left ∷ Name ∷ Variable ∷ Right ∷ Left ∷ And ∷ Left ∷ Name ∷ Right ∷ Left ∷ Not ∷ Left ∷ Name ∷ Variable ∷ Right ∷ Right ∷ Right ∷ Right ∷ Right ∷ [])
 unfolding some_at next_at
 quantified = refl
 
@@ -85,11 +85,11 @@ unfolding some_at next_at
 empty_either = (refl, refl)
 
 -- (oneof (p a) (not (q))), (unknown (p))
-choices : Reads item (Left ∷ OneOf ∷ Left ∷ Name ∷ Name ∷ Right ∷ Left ∷ Not ∷ Left ∷ Name ∷ Right ∷ Right ∷ Right ∷ [])
+choices : IsReadWhole item (Left ∷ OneOf ∷ Left ∷ Name ∷ Name ∷ Right ∷ Left ∷ Not ∷ Left ∷ Name ∷ Right ∷ Right ∷ Right ∷ [])
 unfolding some_at next_at
 choices = refl
 
-open_fact : Reads item (Left ∷ Unknown ∷ Left ∷ Name ∷ Right ∷ Right ∷ [])
+open_fact : IsReadWhole item (Left ∷ Unknown ∷ Left ∷ Name ∷ Right ∷ Right ∷ [])
 unfolding some_at next_at
 open_fact = refl
 
@@ -121,7 +121,7 @@ unfolding some_at next_at
 vars_elsewhere = (refl, refl)
 
 -- the goal before the objects; a second goal; no goal
-any_order : Reads problem (Left ∷ Define ∷ Left ∷ Problem ∷ Name ∷ Right ∷ Left ∷ Goal ∷ Left ∷ Right ∷ Right ∷ Left ∷ Objects ∷ Name ∷ Right ∷ Right ∷ [])
+any_order : IsReadWhole problem (Left ∷ Define ∷ Left ∷ Problem ∷ Name ∷ Right ∷ Left ∷ Goal ∷ Left ∷ Right ∷ Right ∷ Left ∷ Objects ∷ Name ∷ Right ∷ Right ∷ [])
 unfolding some_at next_at
 any_order = refl
 

@@ -21,7 +21,7 @@ pub data Named : Sort → Type 0 where
   n_eff : Named s_eff
   n_item : Named s_item
 
--- The truth value says that the form takes at least a token.
+-- A form describes a text of tokens and what is made of it. The truth value says that it takes at least one token.
 -- A token that is taken by a test is never a bracket (`hits`); where a test only looks ahead it may be one.
 --   token p m      a token that passes p, made into a value by m
 --   none m         no token

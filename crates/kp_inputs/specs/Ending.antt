@@ -1,4 +1,4 @@
--- What a command comes to that ends early. This file serves proofs alone.
+-- What a command comes to that ends early. Beside proofs it serves the contracts that cite `Settles`.
 use Rattle.std.specs.Prelude.{◌≡◌, Result, Ok, Err}
 use Rattle.kp_base.specs.declared.memory.Memory.{Memory}
 use Rattle.kp_outcome.specs.declared.outcome.Outcome.{Outcome}

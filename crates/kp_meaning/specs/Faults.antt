@@ -38,7 +38,7 @@ type_faults d xs = flat_map (λ x. flat_map (unless_among (types d)) x.kinds) xs
 abbrev pub variable_faults : Domain Word → List (Typed Word) → List Fault
 variable_faults d xs = type_faults d xs ++ twice_in (words xs)
 
--- the variables round a place, where these are declared within those, the innermost first
+-- the variables that may be named where a list of variables is declared within a scope: the last declared comes first, and the scope's come behind
 abbrev pub inside : List Name → List Name → List Name
 inside [] scope = scope
 inside (v ∷ vs) scope = inside vs (v ∷ scope)

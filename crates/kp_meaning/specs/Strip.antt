@@ -38,7 +38,7 @@ is_merge_operator operator = unwrap_or (option_map is_number (past merge_front o
 abbrev pub action_of : Name → Option Step
 action_of operator = option_and_then decoded (past do_front operator)
 
--- what an operator comes to: the action's step, or nothing for a merge; no other name is an operator's
+-- what an operator comes to: no step for a merge, one for an action; a name that is neither comes to nothing at all (`None`)
 abbrev pub stripped_operator : Name → Option (List Step)
 stripped_operator operator = if is_merge_operator operator then Some [] else option_map (λ i. i ∷ []) (action_of operator)
 

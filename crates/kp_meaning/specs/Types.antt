@@ -40,7 +40,7 @@ pub data IsBelow (kinds : List (Typed Word)) : Name → Name → Type 0 where
   parent : (x : Typed Word) (p : Name) → Member kinds x → Member (types_of x) p → IsBelow kinds x.word.text p
   over : {t u v : Name} → IsBelow kinds t u → IsBelow kinds u v → IsBelow kinds t v
 
--- the line of `:types` says what the type is below: it is the type's own, or the root's
+-- from a type one goes on by its own line of `:types`, or by a line of `object`, since every type is below that
 abbrev pub leads : Typed Word → Name → Bool
 leads x t = same x.word.text t || same x.word.text object
 

@@ -102,8 +102,8 @@ module _ (i : Initial) (cs : List (List Lit)) where
       ]
     ]
 
-    not_both : (set : List (List Lit)) (size : ℕ) → IsLeastCover way limit i cs set → IsRefusedAt way limit i cs size → ⊥
-    not_both set size l m = elim (which (length set) size) [
+    cover_excludes_refusal : (set : List (List Lit)) (size : ℕ) → IsLeastCover way limit i cs set → IsRefusedAt way limit i cs size → ⊥
+    cover_excludes_refusal set size l m = elim (which (length set) size) [
       | inl lt ↦ not_passed set l (m.least (length set) l.in_range.0 lt)
       | inr r ↦ elim r [
         | inl e ↦ absurd (omega (arith, m.many, subst (λ (n : ℕ). choose (length cs) n ≤ limit) e l.few))
@@ -128,7 +128,7 @@ module _ (i : Initial) (cs : List (List Lit)) where
 
     never_refused : (x : List (List (List Lit))) (size : ℕ) → AreMergesBy way limit i cs x → (AllMeet i ([] ∷ []) cs → ⊥) → IsRefusedAt way limit i cs size → ⊥
     never_refused _ size (AreMergesBy.empty_tag p) miss r = miss p
-    never_refused _ size (AreMergesBy.least_cover set tags _ l is) miss r = not_both set size l r
+    never_refused _ size (AreMergesBy.least_cover set tags _ l is) miss r = cover_excludes_refusal set size l r
     never_refused _ size (AreMergesBy.otherwise x _ none h) miss r = not_passed_over size r (none size r.in_range.0 (omega (arith, r.in_range.1)))
 
 -- ---- targets in turn

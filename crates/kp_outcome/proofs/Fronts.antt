@@ -100,13 +100,13 @@ some_text got h = by got.more refl
     by false e = (got.bytes, (sym (take_all most_bytes got.bytes h.0), e ∙ sym (grind (arith, nat_tests, h.0))))
 
 -- what was got of a name, where it is told what is held
-text_of : (held : Option FileMap) (front : List (List ℕ)) (texts : List (List ℕ)) (name : List ℕ) (got : Got) → Gets held name most_bytes got → IsWithin most_bytes got → AreHeld held front texts
+content_of : (held : Option FileMap) (front : List (List ℕ)) (texts : List (List ℕ)) (name : List ℕ) (got : Got) → Gets held name most_bytes got → IsWithin most_bytes got → AreHeld held front texts
     → (text : List ℕ) × AreHeld held (front ++ (name ∷ [])) (texts ++ (text ∷ [])) × IsFront (Some text) most_bytes got
-text_of None front texts name got gets within held = let t = some_text got within in (t.0, counted t.0, t.1)
+content_of None front texts name got gets within held = let t = some_text got within in (t.0, counted t.0, t.1)
   where
     counted : (text : List ℕ) → length (texts ++ (text ∷ [])) ≡ length (front ++ (name ∷ []))
     counted text = length-append texts (text ∷ []) ∙ (ap (λ n. n + 1) held ∙ sym (length-append front (name ∷ [])))
-text_of (Some m) front texts name got gets within held = by (get m name) refl gets
+content_of (Some m) front texts name got gets within held = by (get m name) refl gets
   where
     by : (o : Option (List ℕ)) → get m name ≡ o → IsFront o most_bytes got → (text : List ℕ) × AreHeld (Some m) (front ++ (name ∷ [])) (texts ++ (text ∷ [])) × IsFront (Some text) most_bytes got
     by None e front_of = absurd front_of
@@ -114,7 +114,7 @@ text_of (Some m) front texts name got gets within held = by (get m name) refl ge
 
 pub read_next : (held now : Option FileMap) (names rest : List (List ℕ)) (gots : List Got) (name : List ℕ) (got : Got) → now ≡ held → Gets now name most_bytes got → IsWithin most_bytes got → AreReadTo held names (name ∷ rest) gots → AreReadTo held names rest (gots ++ (got ∷ []))
 read_next held now names rest gots name got same gets within h =
-    let t = text_of held h.front h.read.texts name got (subst (λ m. Gets m name most_bytes got) same gets) within h.read.are_held in
+    let t = content_of held h.front h.read.texts name got (subst (λ m. Gets m name most_bytes got) same gets) within h.read.are_held in
     record {
       front = h.front ++ (name ∷ []);
       in_order = h.in_order ∙ moved h.front name rest;

@@ -10,7 +10,7 @@ use Rattle.kp_outcome.specs.declared.outcome.Outcome.{Outcome}
 use Rattle.kp_outcome.specs.declared.status.Status.{Status}
 use Rattle.kp_outcome.specs.declared.status.Status.TheVariants as status
 
--- the outside at a moment: what is held and what was told, each where that is told, and the counts of failed gets and puts of each name and of failed writes
+-- the outside at a moment: what is held and what was told (`None` where a shelf or a sink doesn't tell), and the counts of failed gets and puts of each name and of failed writes
 pub record Outside : Type 0 where
   pub held : Option FileMap
   pub told : Option (List ℕ)

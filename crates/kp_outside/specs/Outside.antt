@@ -8,7 +8,7 @@ use Rattle.kp_outside.specs.declared.outside.OutsideStop.{OutsideStop}
 use Rattle.kp_outside.specs.declared.outside.OutsideStop.TheVariants.{Failed, Memory}
 use Rattle.kp_outside.specs.declared.outside.Got.{Got}
 
--- what is held: from each name, a list of bytes, to its content
+-- what a shelf holds: names with their contents, each a list of bytes and each name at most once
 abbrev pub FileMap : Type 0
 FileMap = map.FinMap (slice_cmp nat_cmp) (List ℕ)
 

@@ -141,16 +141,16 @@ module _ (pairs : Pairs) (turn : (p q : ℕ) → pairs p q ≡ pairs q p) (diffe
       → (pairs e.result.atom.0 q && not (list_any (λ l. are_exclusive pairs l (positive q)) a.pre || (list_any (λ l. are_exclusive pairs l (positive q)) e.cond || deletes_within a q (firing_with a e q)))) ≡ breaks pairs a e q
   breaks_where a e q adds fine = sym (ap₂ (λ x y. x && (pairs e.result.atom.0 q && not y)) adds kept)
     where
-      not_both : (x y z : Bool) → (not (not (x || y)) || z) ≡ (x || (y || z))
-      not_both true y z = refl
-      not_both false true z = refl
-      not_both false false z = refl
+      or_of_the_refused : (x y z : Bool) → (not (not (x || y)) || z) ≡ (x || (y || z))
+      or_of_the_refused true y z = refl
+      or_of_the_refused false true z = refl
+      or_of_the_refused false false z = refl
 
       fires : are_compatible pairs (firing_with a e q) ≡ not (list_any (λ l. are_exclusive pairs l (positive q)) a.pre || list_any (λ l. are_exclusive pairs l (positive q)) e.cond)
       fires = ap (are_compatible pairs) (sym (append_assoc a.pre e.cond (positive q ∷ []))) ∙ (compatible_with (a.pre ++ e.cond) q fine ∙ ap not (list_any-append (λ l. are_exclusive pairs l (positive q)) a.pre e.cond))
 
       kept : keeps_apart pairs e.result.atom.0 q a e ≡ (list_any (λ l. are_exclusive pairs l (positive q)) a.pre || (list_any (λ l. are_exclusive pairs l (positive q)) e.cond || deletes_within a q (firing_with a e q)))
-      kept = ap₂ (λ x y. not x || (not y || deletes_within a q (firing_with a e q))) (is_positive e adds) fires ∙ not_both (list_any (λ l. are_exclusive pairs l (positive q)) a.pre) (list_any (λ l. are_exclusive pairs l (positive q)) e.cond) (deletes_within a q (firing_with a e q))
+      kept = ap₂ (λ x y. not x || (not y || deletes_within a q (firing_with a e q))) (is_positive e adds) fires ∙ or_of_the_refused (list_any (λ l. are_exclusive pairs l (positive q)) a.pre) (list_any (λ l. are_exclusive pairs l (positive q)) e.cond) (deletes_within a q (firing_with a e q))
 
   -- the same at a pair, and where there is none
   pub breaks_paired : (a : Action) (e : Effect) (q : ℕ) → e.result.positive ≡ true → are_compatible pairs (a.pre ++ e.cond) ≡ true → pairs e.result.atom.0 q ≡ true

@@ -1,4 +1,4 @@
--- Between which places the deletes of an atom stand in an action. This file serves proofs alone.
+-- Between which places the deletes of an atom stand in an action. Beside proofs it serves the contracts that cite `AreBetween`.
 use Rattle.std.specs.Prelude.{◌≡◌, ◌≤◌, ◌<◌, ◌%◌, ℕ, true, false, List, Some, slice_get, slice_index_or}
 use Rattle.kp_base.specs.declared.ground.Effect.{Effect}
 use Rattle.kp_base.specs.Lit.{negative, same_lit}

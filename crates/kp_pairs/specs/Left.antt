@@ -1,4 +1,4 @@
--- Atoms as bits of words: those that an action adds, those that it surely deletes, those that literals leave, and some that no pair has. This file serves proofs alone.
+-- Atoms as bits of words: those that an action adds, those that it surely deletes, those that literals leave, and some that no pair has. Beside proofs it serves the contracts that cite `Notes`, `AreLeft`, `all_asked`, `all_added`, `AreLone`, `AreDeleted`, `HasBreaking`.
 use Rattle.std.specs.Prelude.{◌≡◌, ◌≤◌, ◌<◌, ◌/◌, ◌%◌, ◌⊎◌, ℕ, Bool, true, false, not, ◌||◌, List, Option, Some, None, nat_lt}
 use Rattle.std.specs.Int.{bit_at}
 use Rattle.std.specs.List.{list_all, list_any}

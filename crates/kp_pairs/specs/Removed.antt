@@ -1,4 +1,4 @@
--- What removing pairs that don't stay leaves, and when none is left to remove. This file serves proofs alone.
+-- What removing pairs that don't stay leaves, and when none is left to remove. Beside proofs it serves the contracts that cite `breaks`, `adds_pair`.
 use Rattle.std.specs.Prelude.{◌≡◌, ◌<◌, ◌≤◌, ℕ, Bool, true, false, not, ◌&&◌, List, [], ◌∷◌, length, Option, Some, None}
 use Rattle.std.specs.List.{list_any, list_all}
 use Rattle.kp_base.specs.declared.lit.AtomId.{AtomId}

@@ -1,4 +1,4 @@
--- When a pair may stay in a set of pairs, as a test. This file serves proofs alone.
+-- When a pair may stay in a set of pairs, as a test. Beside proofs it serves the contracts that cite `deletes_within`.
 use Rattle.std.specs.Prelude.{ℕ, Bool, not, ◌&&◌, ◌||◌, List}
 use Rattle.std.specs.List.{list_any, list_all}
 use Rattle.kp_base.specs.declared.lit.Lit.{Lit}

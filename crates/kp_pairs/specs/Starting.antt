@@ -1,4 +1,4 @@
--- The pairs that clauses deny, and how they come into a table. This file serves proofs alone.
+-- The pairs that clauses deny, and how they come into a table. Beside proofs it serves the contracts that cite `denied`.
 use Rattle.std.specs.Prelude.{◌≡◌, ◌≢◌, ◌<◌, ℕ, Bool, true, not, ◌&&◌, ◌||◌, List, [], ◌∷◌, nat_eq, nat_lt}
 use Rattle.std.specs.List.{list_any}
 use Rattle.kp_base.specs.declared.lit.Lit.{Lit}

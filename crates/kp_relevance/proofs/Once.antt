@@ -49,36 +49,36 @@ once_range a (suc n) = (λ m. let lo = (range_bounds (a + 1) n a m).0 in absurd 
 
 -- ---- another order
 
-abbrev same : List Lit → List Lit → Bool
-same = eq_by_cmp lits_cmp
+abbrev same_literals : List Lit → List Lit → Bool
+same_literals = eq_by_cmp lits_cmp
 
-same_flips : (c d : List Lit) → same c d ≡ same d c
-same_flips c d = bool_same (same c d) (same d c) (λ h. (equal_iff d c).1 (sym ((equal_iff c d).0 h))) (λ h. (equal_iff c d).1 (sym ((equal_iff d c).0 h)))
+same_literals_flip : (c d : List Lit) → same_literals c d ≡ same_literals d c
+same_literals_flip c d = bool_same (same_literals c d) (same_literals d c) (λ h. (equal_iff d c).1 (sym ((equal_iff c d).0 h))) (λ h. (equal_iff c d).1 (sym ((equal_iff d c).0 h)))
 
-differ_all : (c : List Lit) (cs : List (List Lit)) → (Member cs c → ⊥) → AllByRecursion (λ d. same c d ≡ false) cs
+differ_all : (c : List Lit) (cs : List (List Lit)) → (Member cs c → ⊥) → AllByRecursion (λ d. same_literals c d ≡ false) cs
 differ_all c [] h = tt
-differ_all c (d ∷ cs) h = (pick (same c d) refl, differ_all c cs (λ m. h (inr m)))
+differ_all c (d ∷ cs) h = (pick (same_literals c d) refl, differ_all c cs (λ m. h (inr m)))
   where
-    pick : (b : Bool) → same c d ≡ b → same c d ≡ false
+    pick : (b : Bool) → same_literals c d ≡ b → same_literals c d ≡ false
     pick true is = absurd (h (inl (sym ((equal_iff c d).0 is))))
     pick false is = is
 
-all_differ : (c : List Lit) (cs : List (List Lit)) → AllByRecursion (λ d. same c d ≡ false) cs → Member cs c → ⊥
+all_differ : (c : List Lit) (cs : List (List Lit)) → AllByRecursion (λ d. same_literals c d ≡ false) cs → Member cs c → ⊥
 all_differ c [] h m = m
 all_differ c (d ∷ cs) h m = elim m [
   | inl e ↦ false≢true (sym h.0 ∙ (equal_iff c d).1 (sym e))
   | inr r ↦ all_differ c cs h.1 r
 ]
 
-once_distinct : (cs : List (List Lit)) → IsOnce cs → IsDistinct same cs
+once_distinct : (cs : List (List Lit)) → IsOnce cs → IsDistinct same_literals cs
 unfolding IsDistinct
 once_distinct [] h = tt
 once_distinct (c ∷ cs) h = (differ_all c cs h.0, once_distinct cs h.1)
 
-distinct_once : (cs : List (List Lit)) → IsDistinct same cs → IsOnce cs
+distinct_once : (cs : List (List Lit)) → IsDistinct same_literals cs → IsOnce cs
 unfolding IsDistinct
 distinct_once [] h = tt
 distinct_once (c ∷ cs) h = (all_differ c cs h.0, distinct_once cs h.1)
 
 pub permuted_once : (cs ds : List (List Lit)) → IsPermutation cs ds → IsOnce cs → IsOnce ds
-permuted_once cs ds perm h = distinct_once ds (IsDistinct-IsPermutation same same_flips cs ds perm (once_distinct cs h))
+permuted_once cs ds perm h = distinct_once ds (IsDistinct-IsPermutation same_literals same_literals_flip cs ds perm (once_distinct cs h))

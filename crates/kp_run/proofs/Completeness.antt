@@ -25,7 +25,7 @@ use Rattle.kp_task.specs.Accepted.{step_at}
 use Rattle.kp_translation.specs.Report.{counts_of}
 use Rattle.kp_given.specs.Translations.{ground_of, initial_of}
 use Rattle.kp_given.specs.Tables.{IsTableFor, translation_of}
-use Rattle.kp_given.proofs.Public.{formulas_speak_of_ground_atoms, initial_states_are_models}
+use Rattle.kp_given.proofs.Public.{formulas_speak_of_ground_atoms, initial_states_are_models, tables_can_be_written}
 use Rattle.kp_sound.specs.Laws.{IsWrittenLift, Lifts}
 use Rattle.kp_sound.proofs.Public.{lifts_written, plans_lift}
 use Rattle.kp_outside.specs.Outside.{FileMap, with_bytes}
@@ -48,6 +48,7 @@ use Rattle.kp_run.specs.Completeness as complete
 use Rattle.kp_run.specs.Completeness.{PrintsComplete, RanComplete, IsOfTheSame, HoldsPlan, LosesNoPlan}
 use Rattle.kp_run.proofs.CompleteText.{none_uncovered}
 use Rattle.kp_run.proofs.Comes.{due_makes}
+use Rattle.kp_run.proofs.PlanLines.{steps_read}
 use Rattle.kp_run.proofs.Soundness.{IsDone, AreBoth, both_held, all_done, is_table, first_put, second_put}
 
 -- ---- the translation
@@ -202,6 +203,7 @@ module _ (t : Translate) (before after : FileMap) (text : List ℕ) (x : DidTran
     is_plan = written.is_plan;
     strips = strips;
     told = told;
+    told_reads = steps_read g y.table (tables_can_be_written x.both.domain x.both.problem has y.table table_is) (lift_of g y.table lift.numbers) lift.steps lift.accepted.steps_are;
   }
 
   of_due : (words : List (Vec ℕ Global)) (o : Outcome) → IsLift words c → IsDue words (Some now) o → o ≡ prints_it

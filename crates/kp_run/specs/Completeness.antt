@@ -7,7 +7,7 @@ use Rattle.kp_meaning.specs.Plans.{IsPlan}
 use Rattle.kp_meaning.specs.Strip.{strip}
 use Rattle.kp_plans.specs.declared.step.PlanStep.{PlanStep}
 use Rattle.kp_plans.specs.PlanFiles.{names, IsPlanOf}
-use Rattle.kp_plans.specs.Printed.{plan_text}
+use Rattle.kp_plans.specs.Printed.{plan_text, IsTextOf}
 use Rattle.kp_outside.specs.Outside.{FileMap, with_bytes}
 use Rattle.kp_outcome.specs.declared.status.Status.{Status}
 use Rattle.kp_outcome.specs.declared.status.Status.TheVariants as status
@@ -57,7 +57,7 @@ pub record HoldsPlan (held : FileMap) (c : Lift) (plan : List Step) : Type 0 whe
   pub names_are : names steps ≡ plan
   pub is_plan : IsPlan domain problem plan
 
--- the answer is Done, and the lines are told of a plan of the two files that the translation put, which strips to the plan
+-- The lift ended with Done, and told the lines of a plan of the two files that the translation put, which strips to the given plan. The lines read as that plan.
 pub record IsLiftedTo (t : Translate) (after : FileMap) (plan : List Step) (old new : Outside) (s : Status) : Type 0 where
   pub domain_out : List ℕ
   pub problem_out : List ℕ
@@ -68,8 +68,9 @@ pub record IsLiftedTo (t : Translate) (after : FileMap) (plan : List Step) (old 
   pub is_plan : IsPlan domain_out problem_out written
   pub strips : strip written ≡ Some plan
   pub told : new.told ≡ with_bytes old.told (plan_text written)
+  pub told_reads : IsTextOf (plan_text written) written
 
--- so it is; or memory ran out, or the outside failed
+-- the lift ended with such lines (`IsLiftedTo`); or memory ran out, or a call of the outside failed
 abbrev pub EndsLifted : Translate → FileMap → List Step → Outside → Outside → Status → Type 0
 EndsLifted t after plan old new s = IsLiftedTo t after plan old new s ⊎ (s ≡ status.Memory) ⊎ (s ≡ status.ReadFault) ⊎ (s ≡ status.WriteFault)
 

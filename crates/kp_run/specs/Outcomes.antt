@@ -97,7 +97,7 @@ ListsMerges g table o = o ≡ prints (merges_text g.atoms (merges_of table))
 abbrev pub MergesTrees : Mode → trees.Domain Word → trees.Problem Word → Outcome → Type 0
 MergesTrees mode d p o = ComesByTable (ground_of d p) (initial_of d p) (of_mode mode) [] (ListsMerges (ground_of d p)) o
 
--- two texts have
+-- two texts have these merges in a mode
 abbrev pub MergesTexts : Merges → List ℕ → List ℕ → Outcome → Type 0
 MergesTexts c domain problem o = Comes c.implicates domain problem (MergesTrees c.mode) o
 
@@ -131,7 +131,7 @@ pub record TellsJudged (g : Ground) (i : Initial) (numbers : List ℕ) (o : Outc
 abbrev pub ChecksTrees : List ℕ → trees.Domain Word → trees.Problem Word → Outcome → Type 0
 ChecksTrees plan d p o = ComesByPlan (ground_of d p) plan (TellsJudged (ground_of d p) (initial_of d p)) o
 
--- two texts and a plan are
+-- two texts and a plan are checked to this
 abbrev pub ChecksTexts : Check → List ℕ → List ℕ → List ℕ → Outcome → Type 0
 ChecksTexts c domain problem plan o = Comes c.implicates domain problem (ChecksTrees plan) o
 
@@ -147,11 +147,11 @@ pub data LiftsPlan (g : Ground) (plan : List ℕ) (table : TagTable) (o : Outcom
   no_task : (r : Refused) → RefusesTask (task_of g table) usual r → o ≡ refuses nothing r → LiftsPlan g plan table o
   with_task : FitsLimits (task_of g table) usual → ComesByPlan g plan (LiftsActions g table) o → LiftsPlan g plan table o
 
--- two trees and a plan are, with the table of the command's source, to which these texts belong
+-- two trees and a plan are lifted to this, with the table of the command's source, to which these texts belong
 abbrev pub LiftsTrees : Lift → List (List ℕ) → List ℕ → trees.Domain Word → trees.Problem Word → Outcome → Type 0
 LiftsTrees c merges plan d p o = ComesByTable (ground_of d p) (initial_of d p) c.source merges (LiftsPlan (ground_of d p) plan) o
 
--- two texts and a plan are
+-- two texts and a plan are lifted to this
 abbrev pub LiftsTexts : Lift → List ℕ → List ℕ → List (List ℕ) → List ℕ → Outcome → Type 0
 LiftsTexts c domain problem merges plan o = Comes c.implicates domain problem (LiftsTrees c merges plan) o
 
@@ -161,7 +161,7 @@ LiftsTexts c domain problem merges plan o = Comes c.implicates domain problem (L
 abbrev pub SolvesTrees : Solve → List (List ℕ) → trees.Domain Word → trees.Problem Word → Outcome → Type 0
 SolvesTrees c merges d p o = ComesByTable (ground_of d p) (initial_of d p) c.source merges (SolvesGround c.classical c.budget (ground_of d p) (initial_of d p)) o
 
--- two texts are
+-- two texts are solved to this
 abbrev pub SolvesTexts : Solve → List ℕ → List ℕ → List (List ℕ) → Outcome → Type 0
 SolvesTexts c domain problem merges o = Comes c.implicates domain problem (SolvesTrees c merges) o
 
@@ -171,7 +171,7 @@ SolvesTexts c domain problem merges o = Comes c.implicates domain problem (Solve
 abbrev pub ClassicalTrees : Classical → trees.Domain Word → trees.Problem Word → Outcome → Type 0
 ClassicalTrees c d p o = SolvesClassical c.budget (ground_of d p) (classical_task d p) o
 
--- two texts are
+-- two classical texts are solved to this
 abbrev pub ClassicalTexts : Classical → List ℕ → List ℕ → Outcome → Type 0
 ClassicalTexts c domain problem o = ComesClassical domain problem (ClassicalTrees c) o
 
@@ -187,11 +187,11 @@ pub data MeasuresGround (bound : ℕ) (g : Ground) (i : Initial) (o : Outcome) :
   no_report : (r : Refused) → RefusesWidth usual bound g i r → o ≡ refuses (named_in g) r → MeasuresGround bound g i o
   with_report : (report : WidthReport) → IsReport usual bound g i report → o ≡ tells_width g bound report → MeasuresGround bound g i o
 
--- two trees are
+-- two trees are measured to this
 abbrev pub MeasuresTrees : Width → trees.Domain Word → trees.Problem Word → Outcome → Type 0
 MeasuresTrees c d p o = MeasuresGround c.bound (ground_of d p) (initial_of d p) o
 
--- two texts are
+-- two texts are measured to this
 abbrev pub MeasuresTexts : Width → List ℕ → List ℕ → Outcome → Type 0
 MeasuresTexts c domain problem o = Comes c.implicates domain problem (MeasuresTrees c) o
 

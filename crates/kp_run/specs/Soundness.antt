@@ -7,7 +7,7 @@ use Rattle.kp_meaning.specs.Initial.{HasInitialState}
 use Rattle.kp_meaning.specs.Strip.{PlansStrip}
 use Rattle.kp_words.specs.Names.{Translate}
 
--- The contents of the two input names before the command have a problem, in which some state is initial, and each plan of the contents of the two output names after it strips to a plan of theirs.
+-- Before the command the two input names hold a domain and a problem with at least one initial state. After it the two output names hold files of which each plan strips to a plan of the input files.
 pub record IsSound (before after : FileMap) (c : Translate) : Type 0 where
   pub domain : List ℕ
   pub problem : List ℕ

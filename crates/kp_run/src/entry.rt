@@ -267,7 +267,7 @@ fn come_to<S: Shelf>(
     Ok(outcome_of(alloc, command, gots)?)
 }
 
-// The same of a command that owns its names, which is given up.
+// What a command that owns its names comes to. At `Err` a read failed, or memory ran out.
 fn come_to_owned<S: Shelf>(
     alloc: Global,
     command: Command,
@@ -314,7 +314,7 @@ pub fn run<S: Shelf, O: Sink>(
     ensures ends { Ends words.now (record { held = S.contents shelf.old; told = O.told out.old; get_faults = S.get_faults shelf.old; put_faults = S.put_faults shelf.old; write_faults = O.faults out.old }) (record { held = S.contents shelf.new; told = O.told out.new; get_faults = S.get_faults shelf.new; put_faults = S.put_faults shelf.new; write_faults = O.faults out.new }) result }
     // With Done, what was read has a problem with an initial state, and each plan of what was put strips to a plan of it.
     ensures sound { (before after : FileMap) (c : Names) → S.contents shelf.old ≡ Some before → S.contents shelf.new ≡ Some after → IsTranslate words.now c → result ≡ status.Done → IsSound before after c }
-    // Whenever a translation of the same files told `complete`, a lift finds for each plan of them a plan of what it put that strips to it.
+    // Take a run of `translate` on the same files that told `complete`. For each plan of these files, a lift tells a plan of the files that `translate` wrote, which strips to it; or memory ran out, or the outside failed.
     ensures complete { (c : LiftNames) → IsLift words.now c → LosesNoPlan c (record { held = S.contents shelf.old; told = O.told out.old; get_faults = S.get_faults shelf.old; put_faults = S.put_faults shelf.old; write_faults = O.faults out.old }) (record { held = S.contents shelf.new; told = O.told out.new; get_faults = S.get_faults shelf.new; put_faults = S.put_faults shelf.new; write_faults = O.faults out.new }) result }
     // With Done, what a call to solve told is a plan of its two files; with Negative, what `translate` writes for them has none; with Spent, there are more states than its budget says.
     ensures solve { (m : FileMap) (c : SolveNames) → S.contents shelf.old ≡ Some m → IsSolve words.now c → SolveIsTrue m c (record { held = S.contents shelf.old; told = O.told out.old; get_faults = S.get_faults shelf.old; put_faults = S.put_faults shelf.old; write_faults = O.faults out.old }) (record { held = S.contents shelf.new; told = O.told out.new; get_faults = S.get_faults shelf.new; put_faults = S.put_faults shelf.new; write_faults = O.faults out.new }) result }

@@ -1,4 +1,4 @@
--- What the functions for a problem's sections give. This file serves proofs alone.
+-- What the functions for a problem's sections give. Beside proofs it serves the contracts that cite `GivesGivens`.
 use Rattle.std.specs.Prelude.{◌≡◌, ℕ, List, [], Result, Ok, Err}
 use Rattle.kp_grammar.specs.declared.tree.Word.{Word}
 use Rattle.kp_grammar.specs.Trees.{Given, Problem}

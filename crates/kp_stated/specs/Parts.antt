@@ -1,4 +1,4 @@
--- The sections of a file as the grammar's trees have them. This file serves proofs alone.
+-- The sections of a file as the grammar's trees have them. Beside proofs it serves the contracts of the functions that keep sections.
 use Rattle.std.specs.Prelude.{◌∷◌, Bool, Option, Some, None, map}
 use Rattle.kp_grammar.specs.declared.tree.Word.{Word}
 use Rattle.kp_grammar.specs.declared.symbol.Symbol.{Symbol}

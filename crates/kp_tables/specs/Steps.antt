@@ -1,4 +1,4 @@
--- This file serves proofs alone. What the loops of the numbering do, step by step.
+-- What the loops of the numbering do, step by step. Beside proofs it serves the contracts that cite `range_of`, `with_name`.
 use Rattle.std.specs.Prelude.{◌≡◌, ◌<◌, ◌||◌, ℕ, Bool, true, List, [], ◌∷◌, ◌++◌, if◌then◌else◌, cond, fold, filter, map, take, unwrap_or, AllPairs}
 use Rattle.std.specs.List.{list_any}
 use Rattle.std.specs.Map.{lookup}

@@ -1,4 +1,4 @@
--- What the tables of names compute. This file serves proofs alone.
+-- What the tables of names compute. Beside proofs it serves the contracts that cite `declaration_of`, `number_of`.
 use Rattle.std.specs.Prelude.{◌≡◌, ◌≤◌, ℕ, suc, List, [], ◌∷◌, ◌++◌, Option, Some, None, if◌then◌else◌, find, is_some, length}
 use Rattle.std.specs.Map.{lookup}
 use Rattle.std.specs.Option.{option_map}

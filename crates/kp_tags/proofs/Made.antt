@@ -59,9 +59,9 @@ module _ (mode : Mode) (limits : Limits) (g : Ground) (i j : Initial) (same : Ha
   within_and_over : (ms ns : List FileMerge) → AreMergesOf limits.sets g i (way_of mode) ms → AreMergesOf limits.sets g j (way_of mode) ns → length (used_tags ms) ≤ limits.tags → limits.tags < length (used_tags ns) → ⊥
   within_and_over ms ns a b few many = let same_number = ap (λ (xs : List FileMerge). length (used_tags xs)) (same_merges ms ns a b) in absurd (omega (arith, same_number, few, many))
 
-  not_both : (t : TagTable) (r : Refused) → IsMade mode limits g i t → RefusesMade mode limits g j r → ⊥
-  not_both t r a (RefusesMade.by_mode _ h) = (modes_have_one_answer mode limits.sets g i j same).never_both a.merges r a.of_mode h
-  not_both t _ a (RefusesMade.tags_over ms h over) = within_and_over a.merges ms a.of_mode h a.within_limit over
+  made_excludes_refused : (t : TagTable) (r : Refused) → IsMade mode limits g i t → RefusesMade mode limits g j r → ⊥
+  made_excludes_refused t r a (RefusesMade.by_mode _ h) = (modes_have_one_answer mode limits.sets g i j same).never_both a.merges r a.of_mode h
+  made_excludes_refused t _ a (RefusesMade.tags_over ms h over) = within_and_over a.merges ms a.of_mode h a.within_limit over
 
   refusals_agree : (r s : Refused) → RefusesMade mode limits g i r → RefusesMade mode limits g j s → r ≡ s
   refusals_agree r s (RefusesMade.by_mode _ a) (RefusesMade.by_mode _ b) = (modes_have_one_answer mode limits.sets g i j same).refusals r s a b
@@ -71,8 +71,8 @@ module _ (mode : Mode) (limits : Limits) (g : Ground) (i j : Initial) (same : Ha
 
 pub made_once : IsMadeOnce
 made_once mode limits g i j (Ok t) (Ok u) same _ _ a b = ap Ok (tables_agree mode limits g i j same t u a b)
-made_once mode limits g i j (Ok t) (Err (stops.Refused r)) same _ _ a b = absurd (not_both mode limits g i j same t r a b)
-made_once mode limits g i j (Err (stops.Refused r)) (Ok t) same _ _ a b = absurd (not_both mode limits g j i (same_models_back i j same) t r b a)
+made_once mode limits g i j (Ok t) (Err (stops.Refused r)) same _ _ a b = absurd (made_excludes_refused mode limits g i j same t r a b)
+made_once mode limits g i j (Err (stops.Refused r)) (Ok t) same _ _ a b = absurd (made_excludes_refused mode limits g j i (same_models_back i j same) t r b a)
 made_once mode limits g i j (Err (stops.Refused r)) (Err (stops.Refused s)) same _ _ a b = ap (λ (x : Refused). Err (stops.Refused x)) (refusals_agree mode limits g i j same r s a b)
 made_once mode limits g i j (Err stops.Memory) s same none _ a b = absurd (none refl)
 made_once mode limits g i j (Ok t) (Err stops.Memory) same _ none a b = absurd (none refl)

@@ -90,7 +90,7 @@ pub record AreBench (places : List (List ℕ)) (values : List (Option (List ℕ)
 
 -- ---- the words behind the verb
 
--- words are a line of positional words and options, and these are so
+-- the words behind the verb are a line with these options, and its positional words and values are so
 pub record Behind (words options : List (List ℕ)) (AreSo : List (List ℕ) → List (Option (List ℕ)) → Type 0) : Type 0 where
   pub places : List (List ℕ)
   pub values : List (Option (List ℕ))
