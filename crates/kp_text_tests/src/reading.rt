@@ -111,7 +111,10 @@ fn offending_tokens(rt: HostRuntime) {
         ("(a)\n; (\n 1", 3, 9),
     ];
     for (plan, line, byte) in table {
-        assert!(rt; refuses(rt.alloc(), plan.as_bytes(), at(line, byte)), "{plan}");
+        assert!(rt;
+            refuses(rt.alloc(), plan.as_bytes(), at(line, byte)),
+            "{plan}"
+        );
     }
 }
 
@@ -125,6 +128,9 @@ fn bad_bytes(rt: HostRuntime) {
         ("(_a)", 1, 1),
     ];
     for (plan, line, byte) in table {
-        assert!(rt; has_bad_byte(rt.alloc(), plan.as_bytes(), at(line, byte)), "{plan}");
+        assert!(rt;
+            has_bad_byte(rt.alloc(), plan.as_bytes(), at(line, byte)),
+            "{plan}"
+        );
     }
 }
