@@ -1,11 +1,13 @@
-ghost use Rattle.std.specs.Prelude.{◌<◌, ◌≤◌, length, IfOk};
+ghost use Rattle.std.specs.Prelude.{◌≡◌, ◌<◌, ◌≤◌, ◌++◌, length, map, IfOk, OnOk};
+ghost use Rattle.kp_grammar.specs.Trees.{given_items, given_objects};
 ghost use Rattle.kp_parts.specs.Lexemes.{from};
-ghost use Rattle.kp_nodes.specs.Nodes.{problem_view};
+ghost use Rattle.kp_nodes.specs.Nodes.{item_view, problem_view, typed_view};
 ghost use Rattle.kp_parts.specs.Readers.{Gives};
-ghost use Rattle.kp_stated.specs.Parts.{seen_after, given_view};
+ghost use Rattle.kp_stated.specs.Parts.{seen_after, given_view, goal_after, goal_view};
 ghost use Rattle.kp_sections.specs.Givens.{GivesGivens, given_inside_at, given_at, givens_at, problem_inside_at, problem_at};
 
 use bumpalo::Bump;
+use kp_base::Memory;
 use kp_grammar::Symbol;
 use kp_nodes::ProblemNode;
 use kp_parts::{
@@ -85,6 +87,21 @@ fn given<'a>(
     Ok((part, at))
 }
 
+// Notes that a section has stood, and adds what it states.
+fn take_in<'a>(
+    stated: &mut Stated<'a>,
+    seen: &mut Vec<Symbol>,
+    part: ProblemPart<'a>,
+) -> Result<(), Memory>
+    ensures noted { OnOk result (seen.new.items ≡ seen_after part.entry seen.old.items) }
+    ensures objects { OnOk result (map typed_view stated.new.objects.items ≡ map typed_view stated.old.objects.items ++ given_objects (given_view part.entry)) }
+    ensures init { OnOk result (map item_view stated.new.init.items ≡ map item_view stated.old.init.items ++ given_items (given_view part.entry)) }
+    ensures goal { OnOk result (goal_view stated.new.goal ≡ goal_after (given_view part.entry) (goal_view stated.old.goal)) }
+{
+    note(seen, &part)?;
+    keep_given(stated, part)
+}
+
 // Sections, as many as stand there, with exactly one goal.
 fn givens<'a>(
     bump: &'a Bump,
@@ -107,8 +124,7 @@ fn givens<'a>(
     'more: while is_left(tokens, at) {
         let before = seen.as_slice();
         let (part, after) = given(bump, tokens, at, levels, before)?;
-        note(&mut seen, &part)?;
-        keep_given(&mut stated, part)?;
+        take_in(&mut stated, &mut seen, part)?;
         at = after;
     }
     let all = seen.as_slice();

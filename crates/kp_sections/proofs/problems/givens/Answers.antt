@@ -18,11 +18,11 @@ pub more-preserved : goal.more-preserved
 unfolding given_at givens_at
 more-preserved c =
     let k = c.more.invariant.kept in
-    let e = c.in_ok-keep_given.ensures in
+    let e = c.in_ok-take_in.ensures in
     record {
       onward = omega (arith, c.in_ok-part.ensures.onward.0);
       in_range = omega (arith, c.in_ok-part.ensures.onward.1);
-      kept = given_more _ _ _ _ _ k (rw c.in_ok-note.ensures (run_loop_goes_on c.args.levels is_left given (has_stood is_goal) k.front _ _ _ _ _ (sym c.is_left.ensures.test ∙ c.more-test.true) (rw c.as_slice-before.ensures.value at c.in_ok-part.ensures.reads) k.so_far)) e.objects e.init e.goal;
+      kept = given_more _ _ _ _ _ k (rw e.noted (run_loop_goes_on c.args.levels is_left given (has_stood is_goal) k.front _ _ _ _ _ (sym c.is_left.ensures.test ∙ c.more-test.true) (rw c.as_slice-before.ensures.value at c.in_ok-part.ensures.reads) k.so_far)) e.objects e.init e.goal;
     }
 
 pub returns-clause-reads : goal.returns-clause-reads
