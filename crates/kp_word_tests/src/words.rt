@@ -19,12 +19,17 @@ pub fn told(alloc: Global, all: &[&str]) -> Result<Command, WordStop> {
     command(alloc, words.as_slice())
 }
 
+// Whether no command was told, for the words' sake.
+fn is_refused(found: &Result<Command, WordStop>) -> bool {
+    matches!(found, Err(WordStop::Usage))
+}
+
 // Whether words are no command.
 pub fn is_usage(alloc: Global, all: &[&str]) -> bool {
-    match told(alloc, all) {
-        Err(WordStop::Usage) => true,
-        _ => false,
-    }
+    let found = told(alloc, all);
+    let is = is_refused(&found);
+    drop(found);
+    is
 }
 
 // Whether a name is this one.
