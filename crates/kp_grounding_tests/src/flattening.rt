@@ -39,8 +39,10 @@ fn flat_move(alloc: Global, lifted: &Lifted, objects: &Row<u32>) -> Result<Flat,
 {
     let statics = Statics::of(alloc, lifted)?;
     let mut flattener = Flattener::new(alloc, &statics);
-    let flat = flattener.flat(alloc, 0, objects)?;
-    Ok(flat)
+    let flat = flattener.flat(alloc, 0, objects);
+    drop(flattener);
+    drop(statics);
+    Ok(flat?)
 }
 
 // The same, by the two steps.
@@ -51,6 +53,22 @@ fn flat_in(bump: &Bump, alloc: Global, lifted: &Lifted, objects: &Row<u32>) -> R
     Ok(flatten(alloc, lifted, &node)?)
 }
 
+// Whether the move of these objects is flattened so.
+fn is_flat(
+    alloc: Global,
+    lifted: &Lifted,
+    objects: &[u32],
+    wanted: &[(usize, bool, u32, u32)],
+) -> Result<bool, Stop> {
+    if lifted.schemas.len() != 1 {
+        return Ok(false);
+    }
+    let objects = numbers(alloc, objects)?;
+    let flat = flat_move(alloc, lifted, &objects);
+    drop(objects);
+    Ok(tells(&flat?, wanted))
+}
+
 // Whether the move of these two objects is flattened so.
 fn moves_so(
     alloc: Global,
@@ -59,12 +77,9 @@ fn moves_so(
     wanted: &[(usize, bool, u32, u32)],
 ) -> Result<bool, Stop> {
     let lifted = resolved(alloc, MOVES, ONE_ROAD)?;
-    if lifted.schemas.len() != 1 {
-        return Ok(false);
-    }
-    let objects = numbers(alloc, &[first, second])?;
-    let flat = flat_move(alloc, &lifted, &objects)?;
-    Ok(tells(&flat, wanted))
+    let is_so = is_flat(alloc, &lifted, &[first, second], wanted);
+    drop(lifted);
+    is_so
 }
 
 // Whether the two steps give the same flat form, and the arena lets itself be reset.
