@@ -359,41 +359,15 @@ fn judge(
     }
 }
 
-// What is found in these trees of the written files.
-fn verdict(
-    alloc: Global,
-    domain: &str,
-    problem: &str,
-    written: &Domain,
-    written_problem: &Problem,
-) -> Result<Verdict, Memory> {
-    match find(alloc, written, written_problem, 4)? {
-        Some(plan) => judge(alloc, domain, problem, written, &plan),
-        None => Ok(Verdict::NoPlan),
-    }
-}
-
-// What is found in the files that the shelf holds.
-fn judged(
-    alloc: Global,
-    domain: &str,
-    problem: &str,
-    shelf: &MemoryShelf,
-) -> Result<Verdict, Memory> {
-    let Some((written, written_problem)) = read_written(alloc, shelf) else {
-        return Ok(Verdict::NoFiles);
-    };
-    let verdict = verdict(alloc, domain, problem, &written, &written_problem);
-    drop(written_problem);
-    drop(written);
-    verdict
-}
-
 fn found(alloc: Global, domain: &str, problem: &str) -> Result<Verdict, Memory> {
     let shelf = translated(alloc, domain, problem)?;
-    let verdict = judged(alloc, domain, problem, &shelf);
-    drop(shelf);
-    verdict
+    let Some((written, written_problem)) = read_written(alloc, &shelf) else {
+        return Ok(Verdict::NoFiles);
+    };
+    match find(alloc, &written, &written_problem, 4)? {
+        Some(plan) => judge(alloc, domain, problem, &written, &plan),
+        None => Ok(Verdict::NoPlan),
+    }
 }
 
 #[test]
