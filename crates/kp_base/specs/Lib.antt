@@ -1,4 +1,5 @@
 pub mod ActionNames
+pub mod Atoms
 pub mod Clashes
 pub mod Covering
 pub mod Entailed

@@ -20,6 +20,7 @@ only s {l} h = record { among = inl refl; missing = h; least = λ m in-ls off. e
 abbrev once : Ground
 once = record {
   atoms = nameless ∷ nameless ∷ [];
+  table = [];
   actions = record { name = nameless; pre = positive 0 ∷ []; effects = record { cond = []; result = positive 1 } ∷ record { cond = []; result = negative 0 } ∷ [] } ∷ [];
   goal = positive 1 ∷ [];
 }
@@ -39,6 +40,7 @@ taken_twice = record { in_range = omega arith; reached = refl; fails = only _ re
 abbrev cells : Ground
 cells = record {
   atoms = nameless ∷ nameless ∷ nameless ∷ [];
+  table = [];
   actions = record {
     name = nameless;
     pre = [];

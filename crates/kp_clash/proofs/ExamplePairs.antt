@@ -32,7 +32,7 @@ left = record {
 }
 
 abbrev cells : Ground
-cells = record { atoms = nullary (codes "x1") ∷ nullary (codes "x2") ∷ nullary (codes "x3") ∷ []; actions = left ∷ []; goal = positive 0 ∷ [] }
+cells = record { atoms = nullary (codes "x1") ∷ nullary (codes "x2") ∷ nullary (codes "x3") ∷ []; table = []; actions = left ∷ []; goal = positive 0 ∷ [] }
 
 abbrev some_cell : List Lit
 some_cell = positive 0 ∷ positive 1 ∷ positive 2 ∷ []

@@ -25,6 +25,7 @@ swap = record {
 abbrev pub small : Ground
 small = record {
   atoms = nameless ∷ nameless ∷ [];
+  table = [];
   actions = swap ∷ [];
   goal = negative 0 ∷ positive 1 ∷ [];
 }

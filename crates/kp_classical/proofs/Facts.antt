@@ -21,9 +21,10 @@ use Rattle.kp_meaning.specs.Numbered.{Lifted}
 use Rattle.kp_meaning.specs.Lifted.{item_literals, is_of, is_named}
 use Rattle.kp_meaning.specs.Numbering.{numbered_item, numbered_items, numbered_problem}
 use Rattle.kp_names.specs.Resolved.{or_else, unsure_item, unsure_items, first_unsure}
-use Rattle.kp_grounding.specs.declared.flat.Atom.{Atom}
-use Rattle.kp_grounding.specs.Ground.{atom_of, same_atom, has_atom, number_of, numbered, IsNumbering, ground_atoms, atom_name, ground_of}
-use Rattle.kp_grounding.proofs.Public.{same_atom-true, same_atom-refl, atoms_are_numbered}
+use Rattle.kp_base.specs.Atoms.{Atom, same_atom, has_atom, number_of}
+use Rattle.kp_grounding.specs.Ground.{atom_of, numbered, IsNumbering, ground_atoms, atom_name, ground_of}
+use Rattle.kp_base.proofs.AtomOrder.{same_atom-true, same_atom-refl}
+use Rattle.kp_grounding.proofs.Public.{atoms_are_numbered}
 use Rattle.kp_init.specs.Initial.{item_clauses, closed_of, initial_over, initial_of}
 use Rattle.kp_classic.specs.Grounded.{is_known}
 use Rattle.kp_given.proofs.Public.{formula_by_number_is_over_atoms}

@@ -1,6 +1,6 @@
 ghost use Rattle.std.specs.Prelude.{◌≡◌, Some, None, List, ℕ, IfOk, length};
 ghost use Rattle.kp_base.specs.Implicates.{IsOfItsAtoms};
-ghost use Rattle.kp_grounding.specs.Ground.{ground_atoms, ground_of};
+ghost use Rattle.kp_grounding.specs.Ground.{ground_of};
 ghost use Rattle.kp_init.specs.Initial.{initial_of};
 ghost use Rattle.kp_names.specs.View.{lifted_view};
 ghost use Rattle.kp_classic.specs.Fits.{IsFit};
@@ -14,9 +14,8 @@ use crate::certain::has_model;
 use crate::posed::Posed;
 use kp_base::{Ground, Initial, Limits, Refused, Stop};
 use kp_classic::task_of;
-use kp_ground::{GroundWithAtoms, ground_with_atoms};
-use kp_init::initial_over;
-use kp_kept::Statics;
+use kp_ground::ground;
+use kp_init::initial;
 use kp_names::Lifted;
 use kp_outside::Got;
 use kp_prepared::{Early, ended_by, read_files};
@@ -36,17 +35,16 @@ fn pose(alloc: Global, ground: Ground, initial: &Initial) -> Result<Posed, Early
     Ok(Posed { ground, task })
 }
 
-// The same with a ground problem whose atoms are known.
-fn on_ground(alloc: Global, lifted: &Lifted, made: GroundWithAtoms) -> Result<Posed, Early>
+// The same with a ground problem.
+fn on_ground(alloc: Global, lifted: &Lifted, made: Ground) -> Result<Posed, Early>
     requires facts { HasFacts (lifted_view lifted.now) }
-    requires ground { made.ground ≡ ground_of (lifted_view lifted.now) }
-    requires atoms { made.atoms ≡ ground_atoms (lifted_view lifted.now) }
-    requires of_atoms { IsOfItsAtoms made.ground }
+    requires ground { made ≡ ground_of (lifted_view lifted.now) }
+    requires of_atoms { IsOfItsAtoms made }
     ensures fit { IfOk result (λ x. IsFit x.task) }
     ensures answers { AnswersFormula (ground_of (lifted_view lifted.now)) (initial_of (lifted_view lifted.now)) result }
 {
-    let formula = initial_over(alloc, lifted, made.atoms.slice())?;
-    pose(alloc, made.ground, &formula)
+    let formula = initial(alloc, lifted, &made)?;
+    pose(alloc, made, &formula)
 }
 
 // The same with a problem by number: by its ground problem, or at a limit.
@@ -55,8 +53,7 @@ fn on_certain(alloc: Global, lifted: &Lifted) -> Result<Posed, Early>
     ensures fit { IfOk result (λ x. IsFit x.task) }
     ensures answers { AnswersNumbers (lifted_view lifted.now) result }
 {
-    let statics = Statics::of(alloc, lifted)?;
-    match ground_with_atoms(alloc, &statics, &Limits::classical()) {
+    match ground(alloc, lifted, &Limits::classical()) {
         Ok(made) => on_ground(alloc, lifted, made),
         Err(stop) => Err(ended_by(alloc, stop)),
     }

@@ -44,6 +44,7 @@ asking_q = record { name = nullary (codes "ask"); pre = positive 1 ∷ []; effec
 abbrev either_to : List Lit → Ground
 either_to goal = record {
   atoms = nullary (codes "p") ∷ nullary (codes "q") ∷ [];
+  table = [];
   actions = q_where (positive 0) ∷ q_where (negative 0) ∷ asking_q ∷ [];
   goal = goal;
 }

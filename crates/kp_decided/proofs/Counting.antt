@@ -15,8 +15,8 @@ use Rattle.kp_primes.specs.Included.{all_included, AreSets, passed_at}
 use Rattle.kp_primes.specs.Answers.{RefusesPrimes, too_many}
 use Rattle.kp_primes.proofs.Public.{counted_is_never_over, prefix_stops_the_build}
 use Rattle.kp_meaning.specs.declared.lifted.Item.{Item}
-use Rattle.kp_grounding.specs.declared.flat.Atom.{Atom}
-use Rattle.kp_grounding.specs.Ground.{atom_of, has_atom, numbered, numbered_set, ground_atoms}
+use Rattle.kp_base.specs.Atoms.{Atom, has_atom}
+use Rattle.kp_grounding.specs.Ground.{atom_of, numbered, numbered_set, ground_atoms}
 use Rattle.kp_init.specs.Initial.{no_two, item_clauses}
 use Rattle.kp_decided.specs.Laws.{FormulasAreAscending, ImplicatesAreCounted}
 

@@ -16,7 +16,7 @@ use Rattle.kp_meaning.specs.Numbered.{Lifted}
 use Rattle.kp_meaning.specs.Lifted.{ground}
 use Rattle.kp_meaning.specs.Numbering.{heads, numbered_pred, numbered_problem}
 use Rattle.kp_meaning.proofs.Public.{AreDistinctNames, distinct_are_distinct, is_valid_literal, HasCleanParts, clean_parts}
-use Rattle.kp_grounding.specs.declared.flat.Atom.{Atom}
+use Rattle.kp_base.specs.Atoms.{Atom}
 use Rattle.kp_grounding.specs.Ground.{atom_of, occurring, ground_atoms}
 use Rattle.kp_grounding.proofs.Public.{atoms_are_numbered}
 use Rattle.kp_init.specs.ByName.{predicate_names, is_declared}

@@ -18,7 +18,7 @@ use Rattle.kp_meaning.specs.Numbered.{Lifted}
 use Rattle.kp_meaning.specs.Lifted.{State}
 use Rattle.kp_meaning.specs.Numbering.{index_of, name_at, heads, object_number, numbered_literal, numbered_problem, named_objects, named_literal, AreObjects, Agree}
 use Rattle.kp_meaning.proofs.Public.{name_at_index, head_is_declared, atom_terms_have_no_fault, all_same_names-true, valid_literal_parts, numbered_literal_is_valid, HasCleanParts, clean_parts, initial_states_are_the_same_by_number}
-use Rattle.kp_grounding.specs.declared.flat.Atom.{Atom}
+use Rattle.kp_base.specs.Atoms.{Atom}
 use Rattle.kp_grounding.specs.Ground.{ground_atoms, atom_name, at_atom, seen_on}
 use Rattle.kp_grounding.proofs.Public.{atoms_are_numbered}
 use Rattle.kp_init.proofs.Public.{models_are_initial_states}

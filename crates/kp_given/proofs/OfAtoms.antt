@@ -16,11 +16,11 @@ use Rattle.kp_base.proofs.Sets.{all-set_of}
 use Rattle.kp_meaning.specs.declared.lifted.GroundLit.{GroundLit}
 use Rattle.kp_meaning.specs.Numbered.{Schema, Lifted}
 use Rattle.kp_meaning.specs.Numbering.{numbered_problem}
-use Rattle.kp_grounding.specs.declared.flat.Atom.{Atom}
+use Rattle.kp_base.specs.Atoms.{Atom, number_of}
 use Rattle.kp_grounding.specs.declared.flat.FlatEffect.{FlatEffect}
 use Rattle.kp_grounding.specs.Static.{remaining}
 use Rattle.kp_grounding.specs.Flattening.{same_flat, flat, flat_of}
-use Rattle.kp_grounding.specs.Ground.{kept_bindings, ground_atoms, atom_of, atom_name, effect_literals, instance_literals, kept_literals, open_literals, number_of, numbered, numbered_set, IsNumbering, numbered_effect, is_idle, ground_pre, ground_effects, action_of, actions_of, ground_over, ground_of}
+use Rattle.kp_grounding.specs.Ground.{kept_bindings, ground_atoms, atom_of, atom_name, effect_literals, instance_literals, kept_literals, open_literals, numbered, numbered_set, IsNumbering, numbered_effect, is_idle, ground_pre, ground_effects, action_of, actions_of, ground_over, ground_of}
 use Rattle.kp_grounding.proofs.Public.{atoms_are_numbered, IsCoveredLiteral, instance_literals_occur}
 use Rattle.kp_given.specs.Laws.{GroundProblemsAreOfTheirAtoms}
 

@@ -13,7 +13,7 @@ use Rattle.kp_base.specs.LitSet.{with_lit, set_of}
 use Rattle.kp_meaning.specs.Numbered.{Cond, Conds, Eff, Effs, Schema, Lifted}
 use Rattle.kp_meaning.specs.Numbering.{numbered_problem}
 use Rattle.kp_meaning.specs.Lifted.{Binding, bindings, literal}
-use Rattle.kp_grounding.specs.declared.flat.Atom.{Atom}
+use Rattle.kp_base.specs.Atoms.{Atom}
 use Rattle.kp_grounding.specs.declared.flat.FlatEffect.{FlatEffect}
 use Rattle.kp_grounding.specs.Static.{is_static, settled, remaining, all_remaining}
 use Rattle.kp_grounding.specs.Flattening.{under, flat, all_flat, same_flat}

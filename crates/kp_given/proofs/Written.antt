@@ -25,13 +25,13 @@ use Rattle.kp_meaning.specs.Faults.{HasNoFault}
 use Rattle.kp_meaning.specs.Numbered.{Schema, Lifted}
 use Rattle.kp_meaning.specs.Numbering.{name_at, heads, numbered_schema, numbered_problem, AreObjects}
 use Rattle.kp_meaning.proofs.Public.{all_same_names-true, valid_literal_parts, atoms_equal_as_named, HasCleanParts, clean_parts}
-use Rattle.kp_grounding.specs.declared.flat.Atom.{Atom}
+use Rattle.kp_base.specs.Atoms.{Atom, atom_before, same_atom, number_of, AtomsAscend}
 use Rattle.kp_grounding.specs.declared.flat.FlatEffect.{FlatEffect}
 use Rattle.kp_grounding.specs.Static.{remaining}
 use Rattle.kp_grounding.specs.Flattening.{same_flat, flat, flat_of}
-use Rattle.kp_grounding.specs.Ground.{kept_bindings, atom_of, effect_literals, instance_literals, kept_literals, open_literals, occurring, atom_before, same_atom, ground_atoms, number_of, numbered, numbered_set, IsNumbering, numbered_effect, is_idle, ground_pre, ground_effects, object_names, atom_name, action_of, actions_of}
-use Rattle.kp_grounding.specs.Laws.{IsAscending}
-use Rattle.kp_grounding.proofs.Public.{atom_never_before_itself, same_atom-true, atoms_are_numbered, actions_named_once, instance_literals_occur}
+use Rattle.kp_grounding.specs.Ground.{kept_bindings, atom_of, effect_literals, instance_literals, kept_literals, open_literals, occurring, ground_atoms, numbered, numbered_set, IsNumbering, numbered_effect, is_idle, ground_pre, ground_effects, object_names, atom_name, action_of, actions_of}
+use Rattle.kp_base.proofs.AtomOrder.{atom_never_before_itself, same_atom-true}
+use Rattle.kp_grounding.proofs.Public.{atoms_are_numbered, actions_named_once, instance_literals_occur}
 use Rattle.kp_init.proofs.Public.{closure_over_first_atoms}
 use Rattle.kp_plans.specs.Names.{IsGroundName, same_name}
 use Rattle.kp_write.specs.Grounds.{IsOfAtom, AreOfAtoms, IsGroundEffect, IsGroundAction, IsWritable}
@@ -150,7 +150,7 @@ module _ (d : Domain Word) (p : Problem Word) (domain : IsNamedDomain d) (proble
           name_tells a b (among a (inl refl)) (among b (inr m))
           ∙ false_from_ne_true (same_atom a b) (λ e. atom_never_before_itself a (subst (λ x. atom_before a x ≡ true) (sym (same_atom-true a b e)) (all_member (atom_before a) more b m before)))
 
-  ascending_differ : (more : List Atom) → IsAscending more → ((a : Atom) → Member more a → Member atoms a) → IsDistinct same_name (map (atom_name l) more)
+  ascending_differ : (more : List Atom) → AtomsAscend more → ((a : Atom) → Member more a → Member atoms a) → IsDistinct same_name (map (atom_name l) more)
   unfolding IsDistinct
   ascending_differ [] h among = tt
   ascending_differ (a ∷ more) h among = (others_apart a more h.0 among, ascending_differ more h.1 (λ b m. among b (inr m)))

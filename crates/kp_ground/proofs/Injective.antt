@@ -17,11 +17,11 @@ use Rattle.kp_base.proofs.Sets.{same_sets, same_set-true, any-set_of, set_ascend
 use Rattle.kp_meaning.specs.declared.lifted.GroundLit.{GroundLit}
 use Rattle.kp_meaning.specs.Numbered.{Schema, Lifted}
 use Rattle.kp_meaning.specs.Lifted.{same_literal, names_literal}
-use Rattle.kp_grounding.specs.declared.flat.Atom.{Atom}
+use Rattle.kp_base.specs.Atoms.{Atom, number_of}
 use Rattle.kp_grounding.specs.declared.flat.FlatEffect.{FlatEffect}
 use Rattle.kp_grounding.specs.Static.{remaining}
 use Rattle.kp_grounding.specs.Flattening.{same_literals, same_flat, flat, flat_of}
-use Rattle.kp_grounding.specs.Ground.{atom_of, number_of, numbered, numbered_set, numbered_effect, effect_literals, IsNumbering}
+use Rattle.kp_grounding.specs.Ground.{atom_of, numbered, numbered_set, numbered_effect, effect_literals, IsNumbering}
 use Rattle.kp_grounding.proofs.Public.{same_literal-true, same_literal-refl, IsCoveredLiteral, literal_number_is_its_own, instance_literals_occur}
 use Rattle.kp_ground.specs.Made.{same_made, with_made}
 use Rattle.kp_ground.specs.Passes.{IsKnown}

@@ -15,7 +15,7 @@ use Rattle.kp_base.specs.declared.ground.GroundName.{GroundName}
 use Rattle.kp_base.proofs.Lists.{all_from, member_at}
 use Rattle.kp_meaning.specs.Numbered.{Schema, Lifted}
 use Rattle.kp_meaning.specs.Lifted.{Instance, schema_of}
-use Rattle.kp_grounding.specs.declared.flat.Atom.{Atom}
+use Rattle.kp_base.specs.Atoms.{Atom}
 use Rattle.kp_grounding.specs.Ground.{kept_bindings, kept_instances, actions_of, atom_name, numbered_set, object_names, ground_pre, ground_effects, action_of, IsNumbering, ground_over}
 use Rattle.kp_grounding.proofs.Public.{kept_instance, instance_action, actions_of_kept_instances}
 use Rattle.kp_lifted.specs.declared.lifted.Schema as owned
@@ -46,7 +46,7 @@ actions_at l atoms = actions_of_kept_instances l atoms ∙ same (kept_instances 
 
 -- names, actions and goal make the ground problem
 pub ground_is : (l : Lifted) (atoms : List Atom) (names : List GroundName) (actions : List Action) (goal : List Lit) → names ≡ map (atom_name l) atoms → actions ≡ map (action_at l atoms) (kept_instances l) → goal ≡ numbered_set atoms l.goal
-    → (let g : Ground = record { atoms = names; actions = actions; goal = goal } in g) ≡ ground_over l atoms
+    → (let g : Ground = record { atoms = names; table = atoms; actions = actions; goal = goal } in g) ≡ ground_over l atoms
 ground_is l atoms names actions goal n a g =
     let same : actions ≡ flat_map (actions_of l atoms) l.schemas = a ∙ sym (actions_at l atoms) in
     cc

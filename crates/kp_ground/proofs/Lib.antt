@@ -9,3 +9,4 @@ pub mod LoopSteps
 pub mod Injective
 pub mod Taken
 pub mod Ascents
+pub mod Gathers

@@ -5,8 +5,8 @@ use Rattle.std.proofs.lemmas.Bool.{and_parts, ltb-true}
 use Rattle.std.proofs.lemmas.List.{drop_more}
 use Rattle.kp_meaning.specs.declared.lifted.GroundLit.{GroundLit}
 use Rattle.kp_meaning.specs.Numbered.{Lifted}
-use Rattle.kp_grounding.specs.declared.flat.Atom.{Atom}
-use Rattle.kp_atoms.specs.Gathered.{gather}
+use Rattle.kp_base.specs.Atoms.{Atom}
+use Rattle.kp_ground.specs.Gathered.{gather}
 use Rattle.kp_kept.specs.declared.kept.Kept.{Kept}
 use Rattle.kp_kept.specs.Counts.{kept_view}
 use Rattle.kp_ground.specs.Passes.{has_schema}

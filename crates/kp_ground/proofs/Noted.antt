@@ -7,8 +7,8 @@ use Rattle.kp_base.proofs.Lists.{any_map, any_member, any_from, bool_same, membe
 use Rattle.kp_meaning.specs.declared.lifted.GroundLit.{GroundLit}
 use Rattle.kp_meaning.specs.Numbered.{Schema, Lifted}
 use Rattle.kp_meaning.specs.Lifted.{Instance, schema_of}
-use Rattle.kp_grounding.specs.declared.flat.Atom.{Atom}
-use Rattle.kp_grounding.specs.Ground.{kept_bindings, instance, kept_instances, atom_of, instance_literals, kept_literals, open_literals, occurring, same_atom, has_atom}
+use Rattle.kp_base.specs.Atoms.{Atom, same_atom, has_atom}
+use Rattle.kp_grounding.specs.Ground.{kept_bindings, instance, kept_instances, atom_of, instance_literals, kept_literals, open_literals, occurring}
 use Rattle.kp_grounding.proofs.Public.{kept_instance, kept_is_member}
 use Rattle.kp_ground.specs.Passes.{literals_of, literals_at, noted}
 

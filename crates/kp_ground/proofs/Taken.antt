@@ -3,10 +3,10 @@ use Rattle.std.proofs.Common.{◌≡◌, List, [], ◌∷◌, map, fold, refl, s
 use Rattle.std.specs.List.{flat_map}
 use Rattle.std.proofs.lemmas.List.Sums.{fold-append}
 use Rattle.kp_base.specs.declared.ground.Effect.{Effect}
-use Rattle.kp_grounding.specs.declared.flat.Atom.{Atom}
+use Rattle.kp_base.specs.Atoms.{Atom}
 use Rattle.kp_grounding.specs.declared.flat.FlatEffect.{FlatEffect}
 use Rattle.kp_grounding.specs.Ground.{effect_literals, numbered_effect}
-use Rattle.kp_atoms.specs.Gathered.{with_atom_within, gather}
+use Rattle.kp_ground.specs.Gathered.{with_literal, gather}
 use Rattle.kp_ground.specs.declared.effect_atoms.EffectAtoms.{EffectAtoms}
 use Rattle.kp_ground.specs.Made.{with_made}
 
@@ -18,7 +18,7 @@ pub all_atoms : (g : EffectAtoms) (fs : List FlatEffect) → fold more_atoms g f
 all_atoms g [] = refl
 all_atoms g (f ∷ fs) =
     all_atoms (more_atoms g f) fs
-    ∙ ap (λ (as' : List Atom). (let h : EffectAtoms = record { atoms = as'; limit = g.limit } in h)) (sym (fold-append (with_atom_within g.limit) g.atoms (effect_literals f) (flat_map effect_literals fs)))
+    ∙ ap (λ (as' : List Atom). (let h : EffectAtoms = record { atoms = as'; limit = g.limit } in h)) (sym (fold-append (with_literal g.limit) g.atoms (effect_literals f) (flat_map effect_literals fs)))
 
 -- the effects by number with one more
 abbrev pub more_made : List Atom × List Effect → FlatEffect → List Atom × List Effect

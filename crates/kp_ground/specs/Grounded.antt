@@ -9,7 +9,6 @@ use Rattle.kp_base.specs.declared.refused.Stop.TheVariants as stops
 use Rattle.kp_meaning.specs.Numbered.{Lifted}
 use Rattle.kp_grounding.specs.Ground.{ground_atoms, ground_of}
 use Rattle.kp_kept.specs.Counts.{IsWithin, RefusesCounts}
-use Rattle.kp_ground.specs.declared.grounding.GroundWithAtoms.{GroundWithAtoms}
 
 -- the problem is refused: at its bindings, kept instances or weight, or else where it has more ground atoms than the limit
 pub data RefusesGround (l : Lifted) (limits : Limits) : Refused → Type 0 where
@@ -31,8 +30,3 @@ StopsGround l limits stops.Memory = Unit {0}
 abbrev pub AnswersGround : Lifted → Limits → Result Ground Stop → Type 0
 AnswersGround l limits (Ok g) = IsGrounded l limits g
 AnswersGround l limits (Err stop) = StopsGround l limits stop
-
--- the same with its atoms by number, in order
-abbrev pub AnswersWithAtoms : Lifted → Limits → Result GroundWithAtoms Stop → Type 0
-AnswersWithAtoms l limits (Ok g) = IsGrounded l limits g.ground × (g.atoms ≡ ground_atoms l)
-AnswersWithAtoms l limits (Err stop) = StopsGround l limits stop

@@ -3,3 +3,4 @@ pub mod Passes
 pub mod Adds
 pub mod Made
 pub mod Ascents
+pub mod Gathered

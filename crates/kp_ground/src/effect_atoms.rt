@@ -1,9 +1,8 @@
 ghost use Rattle.std.specs.Prelude.{◌≡◌, map, OnOk};
-ghost use Rattle.kp_atoms.specs.Gathered.{gather};
+ghost use Rattle.kp_ground.specs.Gathered.{gather};
 ghost use Rattle.kp_bound.specs.Literals.{lit_view};
 
-use kp_atoms::Atoms;
-use kp_base::Memory;
+use kp_base::{Atoms, Memory};
 use kp_bound::{BoundLit, Sink};
 use std::alloc::Global;
 

@@ -1,12 +1,12 @@
 ghost use Rattle.std.specs.Prelude.{◌≡◌, [], ◌∷◌, filter, OnOk};
 ghost use Rattle.std.specs.List.{flat_map};
 ghost use Rattle.kp_meaning.specs.Lifted.{item_literals};
-ghost use Rattle.kp_atoms.specs.Gathered.{gather};
+ghost use Rattle.kp_ground.specs.Gathered.{gather};
 ghost use Rattle.kp_names.specs.View.{lifted_view};
 ghost use Rattle.kp_ground.specs.Passes.{is_open};
 
-use kp_atoms::Atoms;
-use kp_base::Memory;
+use crate::literals::add_literal;
+use kp_base::{Atoms, Memory};
 use kp_kept::Statics;
 use kp_meaning::{GroundLit, Item};
 use std::alloc::Global;
@@ -24,7 +24,7 @@ fn add_open(
     if statics.is_static(lit.pred) {
         return Ok(());
     }
-    atoms.add(alloc, limit, lit)
+    add_literal(alloc, limit, atoms, lit)
 }
 
 // Adds the atoms of those literals whose predicates aren't static.

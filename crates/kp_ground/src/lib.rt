@@ -7,12 +7,13 @@ mod effect_atoms;
 mod gathering;
 mod grounding;
 mod lasting;
+mod literals;
 mod made;
 mod names;
 mod numbered;
 mod occurring;
 mod rising;
 
-pub use grounding::{GroundWithAtoms, ground, ground_with_atoms};
+pub use grounding::ground;
 pub use kp_bound::{BoundCond, BoundEff, BoundNode, bind, flatten};
-pub use kp_grounding::{Atom, Flat, FlatEffect};
+pub use kp_grounding::{Flat, FlatEffect};

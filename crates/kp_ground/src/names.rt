@@ -1,10 +1,10 @@
 ghost use Rattle.std.specs.Prelude.{◌≡◌, map, IfOk};
+ghost use Rattle.kp_base.specs.Atoms.{kept_atom};
 ghost use Rattle.kp_meaning.specs.Numbering.{name_at};
 ghost use Rattle.kp_names.specs.View.{lifted_view};
 ghost use Rattle.kp_grounding.specs.Ground.{object_names, atom_name};
 
 use kp_base::{GroundName, Memory, Row, Text};
-use kp_grounding::Atom;
 use kp_meaning::Pred;
 use kp_names::Lifted;
 use std::alloc::Global;
@@ -44,12 +44,17 @@ pub fn names_of_objects(
     Ok(row)
 }
 
-fn name_of_atom(alloc: Global, lifted: &Lifted, atom: &Atom) -> Result<GroundName, Memory>
-    ensures { IfOk result (λ name. name ≡ atom_name (lifted_view lifted.now) atom.now) }
+// The name of an atom.
+fn name_of_atom(
+    alloc: Global,
+    lifted: &Lifted,
+    key: &(u32, Vec<u32>),
+) -> Result<GroundName, Memory>
+    ensures { IfOk result (λ name. name ≡ atom_name (lifted_view lifted.now) (kept_atom key.now)) }
 {
     Ok(GroundName {
-        head: predicate_name(alloc, lifted.predicates.slice(), atom.pred)?,
-        objects: names_of_objects(alloc, lifted, atom.objects.slice())?,
+        head: predicate_name(alloc, lifted.predicates.slice(), key.0)?,
+        objects: names_of_objects(alloc, lifted, key.1.as_slice())?,
     })
 }
 
@@ -57,13 +62,13 @@ fn name_of_atom(alloc: Global, lifted: &Lifted, atom: &Atom) -> Result<GroundNam
 pub fn names_of_atoms(
     alloc: Global,
     lifted: &Lifted,
-    atoms: &[Atom],
+    keys: &[(u32, Vec<u32>)],
 ) -> Result<Row<GroundName>, Memory>
-    ensures { IfOk result (λ row. row ≡ map (atom_name (lifted_view lifted.now)) atoms.now) }
+    ensures { IfOk result (λ row. row ≡ map (atom_name (lifted_view lifted.now)) (map kept_atom keys.now)) }
 {
     let mut row = Row::new(alloc);
-    for atom in atoms {
-        row.push(name_of_atom(alloc, lifted, atom)?)?;
+    for key in keys {
+        row.push(name_of_atom(alloc, lifted, key)?)?;
     }
     Ok(row)
 }

@@ -7,8 +7,7 @@ ghost use Rattle.kp_ground.specs.Made.{with_made, made_effect};
 use crate::made::Made;
 use crate::rising::Rising;
 use indexmap::IndexSet;
-use kp_atoms::{Atoms, Recent};
-use kp_base::{AtomId, Effect, Lit, LitSet, Memory, Row};
+use kp_base::{AtomId, Atoms, Effect, Lit, LitSet, Memory, Recent, Row};
 use kp_bound::{BoundLit, Sink};
 use std::alloc::Global;
 use std::marker::Model;
@@ -26,7 +25,7 @@ pub struct Numbering<'n> {
 impl<'n> Model for Numbering<'n> {
     ghost use Rattle.std.specs.Prelude.{List, ◌++◌, map};
     ghost use Rattle.kp_base.specs.declared.ground.Effect.{Effect as ByNumber};
-    ghost use Rattle.kp_grounding.specs.declared.flat.Atom.{Atom};
+    ghost use Rattle.kp_base.specs.Atoms.{Atom};
     ghost use Rattle.kp_ground.specs.Made.{made_effect};
     ghost use Rattle.kp_ground.specs.Ascents.{AreApart};
 

@@ -2,15 +2,15 @@ ghost use Rattle.std.specs.Prelude.{◌≡◌, ◌<◌, [], map, true, length, I
 ghost use Rattle.std.specs.List.{flat_map, list_all};
 ghost use Rattle.kp_names.specs.View.{schema_view, lifted_view};
 ghost use Rattle.kp_grounding.specs.Ground.{instance_literals, kept_instances};
-ghost use Rattle.kp_atoms.specs.Gathered.{gather};
+ghost use Rattle.kp_ground.specs.Gathered.{gather};
 ghost use Rattle.kp_kept.specs.Counts.{kept_view};
 ghost use Rattle.kp_ground.specs.Passes.{has_schema, literals_at, noted, AnswersAtoms};
 
 use crate::effect_atoms::EffectAtoms;
 use crate::gathering::add_items;
+use crate::literals::add_literals;
 use bumpalo::Bump;
-use kp_atoms::{Atoms, add_literals};
-use kp_base::{Memory, Refused, Stop};
+use kp_base::{Atoms, Memory, Refused, Stop};
 use kp_bound::{hand_over, left_of};
 use kp_kept::{Kept, Statics};
 use kp_names::Schema;

@@ -1,5 +1,6 @@
 -- Ground problems computed from texts: static predicates, quantifiers, nested conditions, repeats and idle deletes.
 use Rattle.std.proofs.Common.{◌≡◌, ℕ, true, false, List, [], ◌∷◌, refl, map, codes}
+use Rattle.kp_base.specs.Atoms.{atom}
 use Rattle.kp_base.specs.declared.lit.Lit.{Lit}
 use Rattle.kp_base.specs.declared.ground.GroundName.{GroundName}
 use Rattle.kp_base.specs.declared.ground.Effect.{Effect}
@@ -54,6 +55,7 @@ ground_roads = record {
       ∷ named (codes "seen") (codes "a" ∷ []) ∷ named (codes "seen") (codes "b" ∷ []) ∷ named (codes "seen") (codes "c" ∷ [])
       ∷ named (codes "lit") []
       ∷ [];
+  table = atom 0 (0 ∷ 1 ∷ []) ∷ atom 1 (0 ∷ []) ∷ atom 1 (1 ∷ []) ∷ atom 1 (2 ∷ []) ∷ atom 2 (0 ∷ []) ∷ atom 2 (1 ∷ []) ∷ atom 2 (2 ∷ []) ∷ atom 3 [] ∷ [];
   actions =
       record { name = named (codes "go") (codes "a" ∷ codes "b" ∷ []); pre = positive 1 ∷ []; effects = effect [] (positive 2) ∷ effect [] (negative 1) ∷ effect (positive 7 ∷ []) (negative 4) ∷ effect (positive 7 ∷ []) (negative 6) ∷ [] }
       ∷ record { name = named (codes "go") (codes "b" ∷ codes "c" ∷ []); pre = positive 2 ∷ []; effects = effect [] (positive 3) ∷ effect [] (negative 2) ∷ effect (positive 7 ∷ []) (negative 4) ∷ effect (positive 7 ∷ []) (negative 5) ∷ [] }
@@ -89,6 +91,7 @@ both_unknown = codes "(define (problem i) (:domain i) (:init (unknown (p)) (unkn
 
 ground_idles : ground_of (lifted idles both_unknown) ≡ record {
   atoms = named (codes "p") [] ∷ named (codes "q") [] ∷ named (codes "r") [] ∷ named (codes "s") [] ∷ [];
+  table = atom 0 [] ∷ atom 1 [] ∷ atom 2 [] ∷ atom 3 [] ∷ [];
   actions = record { name = named (codes "b") []; pre = positive 0 ∷ []; effects = effect (positive 0 ∷ positive 1 ∷ []) (positive 2) ∷ effect (positive 1 ∷ []) (negative 3) ∷ effect (positive 2 ∷ []) (positive 3) ∷ [] } ∷ [];
   goal = positive 2 ∷ positive 3 ∷ [];
 }
@@ -105,6 +108,7 @@ nothing_known = codes "(define (problem k) (:domain k) (:init) (:goal ()))"
 
 ground_never : ground_of (lifted never nothing_known) ≡ record {
   atoms = named (codes "r") [] ∷ named (codes "t") [] ∷ [];
+  table = atom 0 [] ∷ atom 1 [] ∷ [];
   actions = record { name = named (codes "d") []; pre = []; effects = effect [] (positive 0) ∷ [] } ∷ [];
   goal = [];
 }
@@ -116,6 +120,7 @@ ground_never = refl
 abbrev pub ground_cells : Ground
 ground_cells = record {
   atoms = named (codes "x1") [] ∷ named (codes "x2") [] ∷ named (codes "x3") [] ∷ [];
+  table = atom 0 [] ∷ atom 1 [] ∷ atom 2 [] ∷ [];
   actions = record { name = named (codes "left") []; pre = []; effects = effect (positive 2 ∷ []) (positive 1) ∷ effect (positive 2 ∷ []) (negative 2) ∷ effect (positive 1 ∷ []) (positive 0) ∷ effect (positive 1 ∷ []) (negative 1) ∷ [] } ∷ [];
   goal = positive 0 ∷ [];
 }
@@ -128,6 +133,7 @@ cells_are_ground = refl
 
 exchange_is_ground : ground_of (lifted exchange from_p_to_q) ≡ record {
   atoms = named (codes "p") [] ∷ named (codes "q") [] ∷ [];
+  table = atom 0 [] ∷ atom 1 [] ∷ [];
   actions = record { name = named (codes "a") []; pre = positive 0 ∷ []; effects = effect [] (positive 1) ∷ effect [] (negative 0) ∷ [] } ∷ [];
   goal = positive 1 ∷ [];
 }

@@ -1,5 +1,6 @@
 -- The ground problem of moves between two places, computed from texts; the laws' premises can be met.
 use Rattle.std.proofs.Common.{◌≡◌, ℕ, false, List, [], ◌∷◌, Option, Some, None, refl, sym, subst, inl, inr, map, codes}
+use Rattle.kp_base.specs.Atoms.{atom}
 use Rattle.kp_base.specs.declared.lit.Lit.{Lit}
 use Rattle.kp_base.specs.declared.ground.GroundName.{GroundName}
 use Rattle.kp_base.specs.declared.ground.Effect.{Effect}
@@ -33,6 +34,7 @@ action x y pre effects = record { name = named (codes "move") (x ∷ y ∷ []); 
 abbrev pub ground_moves : Ground
 ground_moves = record {
   atoms = named (codes "at") (codes "a" ∷ []) ∷ named (codes "at") (codes "b" ∷ []) ∷ [];
+  table = atom 0 (0 ∷ []) ∷ atom 0 (1 ∷ []) ∷ [];
   actions =
       action (codes "a") (codes "a") (positive 0 ∷ []) (effect [] (positive 0) ∷ [])
       ∷ action (codes "a") (codes "b") (positive 0 ∷ []) (effect [] (negative 0) ∷ effect [] (positive 1) ∷ [])

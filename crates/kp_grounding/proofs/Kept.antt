@@ -8,7 +8,7 @@ use Rattle.kp_base.specs.Lists.{Member}
 use Rattle.kp_base.proofs.Lists.{map_map, map_member, append_member, member_map, member_left, member_right}
 use Rattle.kp_meaning.specs.Numbered.{Schema, Lifted}
 use Rattle.kp_meaning.specs.Lifted.{Instance, schema_of}
-use Rattle.kp_grounding.specs.declared.flat.Atom.{Atom}
+use Rattle.kp_base.specs.Atoms.{Atom}
 use Rattle.kp_grounding.specs.Ground.{kept_bindings, instance, kept_from, kept_instances, action_of, actions_of, ground_over}
 
 -- these schemas are those of the problem from this number on

@@ -10,7 +10,7 @@ pub use Rattle.kp_base.proofs.Lists.{number_at}
 use Rattle.kp_meaning.specs.Names.{same}
 use Rattle.kp_meaning.specs.Numbered.{Schema, Lifted}
 use Rattle.kp_meaning.specs.Lifted.{State, Instance, literal_holds, bindings, schema_of, fits, is_instance, permits, applicable, state_by, next, succeeds, IsPlan}
-use Rattle.kp_grounding.specs.declared.flat.Atom.{Atom}
+use Rattle.kp_base.specs.Atoms.{Atom}
 use Rattle.kp_grounding.specs.Static.{HasStaticTruth, settled}
 use Rattle.kp_grounding.specs.Ground.{kept_instances, kept_literals, open_literals, IsNumbering, action_of, ground_over, seen_on}
 use Rattle.kp_grounding.specs.Laws.{IsStepOf, IsGroundRun, IsPlanExact}

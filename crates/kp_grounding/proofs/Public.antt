@@ -3,7 +3,7 @@
 -- ---- Atoms of static predicates keep the truth that `:init` gives them.
 pub use Rattle.kp_grounding.proofs.Static.{static_parts as static_predicate_parts, static_at_first as static_atoms_keep_their_truth}
 -- ---- The ground atoms are those that occur, each once and in order.
-pub use Rattle.kp_grounding.proofs.Atoms.{same_atoms, irreflexive as atom_never_before_itself, transitive as atom_before_transitive, same_atom-true, same_atom-refl, number_there as atom_at_its_number, atoms_are_numbered}
+pub use Rattle.kp_grounding.proofs.Atoms.{atoms_are_numbered}
 -- ---- On the ground atoms, an action does what its instance does.
 pub use Rattle.kp_grounding.proofs.Step.{same_literal-true, same_literal-refl, holds_numbered, same_numbered as literal_number_is_its_own, occurs as instance_literals_occur}
 -- the literal's atom is in the list, at its number

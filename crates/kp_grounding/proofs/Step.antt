@@ -18,11 +18,11 @@ use Rattle.kp_meaning.specs.Names.{same}
 use Rattle.kp_meaning.specs.Numbered.{Schema, Lifted}
 use Rattle.kp_meaning.specs.Lifted as lifted
 use Rattle.kp_meaning.specs.Lifted.{State, ground, same_literal, names_literal, literal_holds, bindings, permits, state_by}
-use Rattle.kp_grounding.specs.declared.flat.Atom.{Atom}
+use Rattle.kp_base.specs.Atoms.{Atom, number_of}
 use Rattle.kp_grounding.specs.declared.flat.FlatEffect.{FlatEffect}
 use Rattle.kp_grounding.specs.Static.{settled, remaining}
 use Rattle.kp_grounding.specs.Flattening.{same_literals, same_flat, flat, flat_of, flat_fires}
-use Rattle.kp_grounding.specs.Ground.{kept_bindings, atom_of, effect_literals, instance_literals, kept_literals, open_literals, occurring, number_of, numbered, numbered_set, IsNumbering, numbered_effect, lasting, ground_pre, action_of, at_atom, seen_on}
+use Rattle.kp_grounding.specs.Ground.{kept_bindings, atom_of, effect_literals, instance_literals, kept_literals, open_literals, occurring, numbered, numbered_set, IsNumbering, numbered_effect, lasting, ground_pre, action_of, at_atom, seen_on}
 use Rattle.kp_grounding.specs.Laws.{IsOnceExact, IsStepExact, IsKeptExact}
 use Rattle.kp_grounding.proofs.Lists.{beq-true, beq-refl}
 use Rattle.kp_grounding.proofs.Flattening.{split, flat_exact}

@@ -1,23 +1,23 @@
 -- The ground problem of a problem by number: its kept instances, its atoms and their numbers, its actions and its goal.
-use Rattle.std.specs.Prelude.{◌≡◌, ◌==◌, ℕ, suc, Bool, true, false, not, ◌&&◌, ◌||◌, if◌then◌else◌, List, [], ◌∷◌, ◌++◌, Option, Some, None, nat_lt, map, filter, slice_get}
-use Rattle.std.specs.List.{list_any, flat_map, position_or_len}
+use Rattle.std.specs.Prelude.{◌≡◌, ℕ, suc, Bool, false, not, ◌&&◌, if◌then◌else◌, List, [], ◌∷◌, ◌++◌, Option, Some, None, map, filter, slice_get}
+use Rattle.std.specs.List.{list_any, flat_map}
 use Rattle.kp_base.specs.declared.lit.Lit.{Lit}
 use Rattle.kp_base.specs.declared.ground.GroundName.{GroundName}
 use Rattle.kp_base.specs.declared.ground.Effect.{Effect}
 use Rattle.kp_base.specs.declared.ground.Action.{Action}
 use Rattle.kp_base.specs.declared.ground.Ground.{Ground}
 use Rattle.kp_base.specs.Lists.{Member}
+use Rattle.kp_base.specs.Atoms.{Atom, atom_before, same_atom, number_of}
 use Rattle.kp_base.specs.Lit.{negated, same_lit}
 use Rattle.kp_base.specs.LitSet.{set_of}
 use Rattle.kp_base.specs.Steps as steps
 use Rattle.kp_base.specs.Steps.{has}
 use Rattle.kp_base.specs.Implicates.{is_within}
 use Rattle.kp_meaning.specs.declared.lifted.GroundLit.{GroundLit}
-use Rattle.kp_meaning.specs.Names.{Name, same}
+use Rattle.kp_meaning.specs.Names.{Name}
 use Rattle.kp_meaning.specs.Numbered.{Schema, Lifted}
 use Rattle.kp_meaning.specs.Lifted.{State, Binding, Instance, bindings, item_literals}
 use Rattle.kp_meaning.specs.Numbering.{name_at}
-use Rattle.kp_grounding.specs.declared.flat.Atom.{Atom}
 use Rattle.kp_grounding.specs.declared.flat.FlatEffect.{FlatEffect}
 use Rattle.kp_grounding.specs.Static.{is_static, settled, remaining}
 use Rattle.kp_grounding.specs.Flattening.{flat, flat_of}
@@ -67,24 +67,6 @@ open_literals l = filter (λ m. not (is_static l m.pred)) (flat_map item_literal
 abbrev pub occurring : Lifted → List GroundLit
 occurring l = l.goal ++ (open_literals l ++ flat_map (kept_literals l) l.schemas)
 
--- which list of objects comes first: at the first place where they differ the smaller number, and else the shorter list
-abbrev pub list_before : List ℕ → List ℕ → Bool
-list_before xs [] = false
-list_before [] (y ∷ ys) = true
-list_before (x ∷ xs) (y ∷ ys) = nat_lt x y || (x == y && list_before xs ys)
-
--- by predicate, and then by objects
-abbrev pub atom_before : Atom → Atom → Bool
-atom_before a b = nat_lt a.pred b.pred || (a.pred == b.pred && list_before a.objects b.objects)
-
--- whether two atoms are one
-abbrev pub same_atom : Atom → Atom → Bool
-same_atom a b = a.pred == b.pred && same a.objects b.objects
-
--- whether the atom stands in the list
-abbrev pub has_atom : List Atom → Atom → Bool
-has_atom atoms a = list_any (same_atom a) atoms
-
 -- an atom put into an ascending list, if it isn't there
 abbrev pub insert_atom : Atom → List Atom → List Atom
 insert_atom a [] = a ∷ []
@@ -100,10 +82,6 @@ abbrev pub ground_atoms : Lifted → List Atom
 ground_atoms l = ascending_atoms (map atom_of (occurring l))
 
 -- ---- numbers
-
--- an atom's number: its place in the list
-abbrev pub number_of : List Atom → Atom → ℕ
-number_of atoms a = position_or_len (same_atom a) atoms
 
 -- a literal by its atom's number
 abbrev pub numbered : List Atom → GroundLit → Lit
@@ -162,6 +140,7 @@ actions_of l atoms a = map (action_of l atoms a) (kept_bindings l a)
 abbrev pub ground_over : Lifted → List Atom → Ground
 ground_over l atoms = record {
   atoms = map (atom_name l) atoms;
+  table = atoms;
   actions = flat_map (actions_of l atoms) l.schemas;
   goal = numbered_set atoms l.goal;
 }

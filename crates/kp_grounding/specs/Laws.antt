@@ -4,6 +4,7 @@ use Rattle.std.specs.List.{list_all}
 use Rattle.kp_base.specs.declared.ground.GroundName.{GroundName}
 use Rattle.kp_base.specs.declared.ground.Ground.{Ground}
 use Rattle.kp_base.specs.Lists.{Member, each_once}
+use Rattle.kp_base.specs.Atoms.{Atom, AtomsAscend}
 use Rattle.kp_base.specs.Steps as steps
 use Rattle.kp_base.specs.ActionNames.{action_name}
 use Rattle.kp_grammar.specs.declared.tree.Word.{Word}
@@ -13,11 +14,10 @@ use Rattle.kp_meaning.specs.Numbered.{Cond, Eff, Schema, Lifted}
 use Rattle.kp_meaning.specs.Lifted.{State, Binding, Instance, names_literal, literal_holds, holds, fires, bindings, permits, state_by, next, IsInitial, IsPlan}
 use Rattle.kp_meaning.specs.Numbering.{numbered_problem, named_step}
 use Rattle.kp_meaning.specs.declared.lifted.GroundLit.{GroundLit}
-use Rattle.kp_grounding.specs.declared.flat.Atom.{Atom}
 use Rattle.kp_grounding.specs.declared.flat.FlatEffect.{FlatEffect}
 use Rattle.kp_grounding.specs.Static.{HasStaticTruth, settled, remaining}
 use Rattle.kp_grounding.specs.Flattening.{same_flat, flat, flat_fires}
-use Rattle.kp_grounding.specs.Ground.{kept_bindings, kept_instances, atom_of, occurring, atom_before, ground_atoms, IsNumbering, action_of, ground_over, ground_of, seen_on}
+use Rattle.kp_grounding.specs.Ground.{kept_bindings, kept_instances, atom_of, occurring, ground_atoms, IsNumbering, action_of, ground_over, ground_of, seen_on}
 
 -- ---- conditions, effects and static truth
 
@@ -43,16 +43,11 @@ IsStaticKept = (l : Lifted) (s : State) → HasStaticTruth l s → (i : Instance
 
 -- ---- atoms
 
--- each atom is before those behind it
-abbrev pub IsAscending : List Atom → Type 0
-IsAscending [] = Unit {0}
-IsAscending (a ∷ more) = (list_all (atom_before a) more ≡ true) × IsAscending more
-
 -- the atoms that occur, and no others, each once and in order
 pub record AreGroundAtoms (l : Lifted) (atoms : List Atom) : Type 0 where
   pub numbering : IsNumbering l atoms
   pub occur : (a : Atom) → Member atoms a → Member (map atom_of (occurring l)) a
-  pub ascending : IsAscending atoms
+  pub ascending : AtomsAscend atoms
 
 -- the ground atoms are these
 abbrev pub AtomsAreNumbered : Type 0

@@ -1,15 +1,6 @@
 use kp_base::Row;
 use kp_meaning::GroundLit;
 
-/// A ground atom: a predicate and its objects, by number.
-#[derive(Debug, PartialEq, Eq, Drop)]
-pub struct Atom {
-    /// The predicate.
-    pub pred: u32,
-    /// The objects, in order.
-    pub objects: Row<u32>,
-}
-
 /// An effect of an instance: where the conditions hold before a step, the result holds after it.
 #[derive(Debug, PartialEq, Eq, Drop)]
 pub struct FlatEffect {

@@ -1,6 +1,6 @@
-use kp_base::{AtomId, Initial, Lit, LitSet, Memory, Row};
-use kp_grounding::Atom;
-use kp_init::initial_over;
+use kp_base::{AtomId, Initial, Limits, Lit, LitSet, Memory, Row, Stop};
+use kp_ground::ground;
+use kp_init::initial;
 use kp_meaning::{GroundLit, Item};
 use kp_names::Lifted;
 use std::alloc::Global;
@@ -23,34 +23,30 @@ fn literals(alloc: Global, preds: &[u32]) -> Result<Row<GroundLit>, Memory> {
     Ok(row)
 }
 
-fn problem_of(alloc: Global, init: Row<Item>) -> Lifted {
+// The problem of these items and this goal.
+fn problem_of(alloc: Global, init: Row<Item>, goal: Row<GroundLit>) -> Lifted {
     Lifted {
         objects: Row::new(alloc),
         predicates: Row::new(alloc),
         schemas: Row::new(alloc),
         init,
-        goal: Row::new(alloc),
+        goal,
         unsure: None,
     }
 }
 
-// The atoms of the first predicates, so many.
-fn first_atoms(alloc: Global, count: u32) -> Result<Row<Atom>, Memory> {
-    let mut atoms = Row::new(alloc);
-    for pred in 0..count {
-        atoms.push(Atom {
-            pred,
-            objects: Row::new(alloc),
-        })?;
-    }
-    Ok(atoms)
+// The formula of a problem, with its ground problem.
+fn formula_of(alloc: Global, lifted: &Lifted) -> Result<Initial, Stop> {
+    let ground = ground(alloc, lifted, &Limits::usual())?;
+    let formula = initial(alloc, lifted, &ground)?;
+    Ok(formula)
 }
 
-// The formula of these items over the atoms of the first predicates, so many.
-fn formula(alloc: Global, init: Row<Item>, count: u32) -> Result<Initial, Memory> {
-    let lifted = problem_of(alloc, init);
-    let atoms = first_atoms(alloc, count)?;
-    initial_over(alloc, &lifted, atoms.slice())
+// The formula of these items, where the goal names these atoms, and so they are the ground atoms.
+fn formula(alloc: Global, init: Row<Item>, goal: &[u32]) -> Result<Initial, Stop> {
+    let lifted = problem_of(alloc, init, literals(alloc, goal)?);
+    let formula = formula_of(alloc, &lifted)?;
+    Ok(formula)
 }
 
 // Whether a clause is that of these atoms, each with its sign.
@@ -79,8 +75,8 @@ fn one_of_three(alloc: Global) -> Result<Row<Item>, Memory> {
     Ok(init)
 }
 
-fn is_one_of_three(alloc: Global) -> Result<bool, Memory> {
-    let formula = formula(alloc, one_of_three(alloc)?, 3)?;
+fn is_one_of_three(alloc: Global) -> Result<bool, Stop> {
+    let formula = formula(alloc, one_of_three(alloc)?, &[0, 1, 2])?;
     Ok(
         formula.closed.len() == 0
             && are_clauses(
@@ -110,8 +106,8 @@ fn three_items(alloc: Global) -> Result<Row<Item>, Memory> {
     Ok(init)
 }
 
-fn closes_the_others(alloc: Global) -> Result<bool, Memory> {
-    let formula = formula(alloc, three_items(alloc)?, 5)?;
+fn closes_the_others(alloc: Global) -> Result<bool, Stop> {
+    let formula = formula(alloc, three_items(alloc)?, &[0, 1, 2, 3, 4])?;
     Ok(
         formula.closed.slice() == [AtomId(3), AtomId(4)].as_slice()
             && are_clauses(formula.clauses.slice(), &[&[(0, true), (1, true)]]),

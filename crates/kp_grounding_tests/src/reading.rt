@@ -1,12 +1,6 @@
-ghost use Rattle.std.specs.Prelude.{◌≤◌, length, IfOk};
-ghost use Rattle.kp_grammar.specs.Grammar as grammar;
-ghost use Rattle.kp_grammar.specs.Texts.{ReadsAs};
-ghost use Rattle.kp_grammar.specs.View.{domain_view};
-ghost use Rattle.kp_init.specs.ByName.{HasNamedAtoms};
-ghost use Rattle.kp_names.specs.View.{lifted_view};
+ghost use Rattle.std.specs.Prelude.{◌≤◌, length};
 
 use kp_base::{Memory, Row, Stop, Texts};
-use kp_given::names_tell_ground_atoms;
 use kp_grammar::Domain;
 use kp_names::{Lifted, resolve};
 use kp_tree::{read_domain, read_problem};
@@ -33,20 +27,15 @@ fn texts_of(alloc: Global, domain: &str, problem: &str) -> Result<Texts, Memory>
 fn resolved_with(alloc: Global, texts: &Texts, domain: &Domain) -> Result<Lifted, Stop>
     requires domain_short { length texts.now.domain ≤ 1000 }
     requires problem_short { length texts.now.problem ≤ 1000 }
-    requires domain_reads { ReadsAs grammar.domain texts.now.domain (domain_view domain.now) }
-    ensures { IfOk result (λ l. HasNamedAtoms (lifted_view l)) }
 {
     let problem = read_problem(alloc, texts.problem.slice())?;
     let resolved = resolve(alloc, texts, domain, &problem);
     drop(problem);
-    let lifted = resolved?;
-    names_tell_ground_atoms();
-    Ok(lifted)
+    resolved
 }
 
 // The problem by number of texts, where they have one.
 fn resolved_of(alloc: Global, texts: &Texts) -> Result<Lifted, Stop>
-    ensures { IfOk result (λ l. HasNamedAtoms (lifted_view l)) }
 {
     if texts.domain.len() > 1_000 || texts.problem.len() > 1_000 {
         return Err(Stop::Memory);
@@ -57,9 +46,8 @@ fn resolved_of(alloc: Global, texts: &Texts) -> Result<Lifted, Stop>
     lifted
 }
 
-/// The problem by number of two short texts, where they have one. Names tell its ground atoms apart.
+/// The problem by number of two short texts, where they have one.
 pub fn resolved(alloc: Global, domain: &str, problem: &str) -> Result<Lifted, Stop>
-    ensures { IfOk result (λ l. HasNamedAtoms (lifted_view l)) }
 {
     let texts = texts_of(alloc, domain, problem)?;
     let lifted = resolved_of(alloc, &texts);

@@ -5,15 +5,15 @@ use Rattle.kp_base.specs.declared.lit.AtomId.{AtomId}
 use Rattle.kp_base.proofs.Lists.{any_alike}
 use Rattle.kp_meaning.specs.Numbered.{Lifted}
 use Rattle.kp_meaning.specs.Lifted.{item_literals, is_of, is_named}
-use Rattle.kp_grounding.specs.declared.flat.Atom.{Atom}
-use Rattle.kp_grounding.specs.Ground.{atom_of, same_atom, number_of}
+use Rattle.kp_base.specs.Atoms.{Atom, same_atom, number_of}
+use Rattle.kp_grounding.specs.Ground.{atom_of}
 use Rattle.kp_base.proofs.Once.{any-added}
-use Rattle.kp_grounding.proofs.Public.{same_atoms}
-use Rattle.kp_init.specs.Tables.{Key, kept_atom, is_kept, names, closed_among}
+use Rattle.kp_base.proofs.AtomOrder.{same_atoms}
+use Rattle.kp_init.specs.Tables.{Key, named_atom, is_kept, names, closed_among}
 
 -- an atom that comes is told, and the others as before
-pub one_more : (ks : List Key) (k : Key) (a : Atom) → is_kept (if is_kept ks (kept_atom k) then ks else ks ++ k ∷ []) a ≡ (is_kept ks a || same_atom a (kept_atom k))
-one_more = any-added same_atom same_atoms kept_atom
+pub one_more : (ks : List Key) (k : Key) (a : Atom) → is_kept (if is_kept ks (named_atom k) then ks else ks ++ k ∷ []) a ≡ (is_kept ks a || same_atom a (named_atom k))
+one_more = any-added same_atom same_atoms named_atom
 
 -- the atoms of all items are those that are named
 pub all_named : (l : Lifted) (a : Atom) → list_any (names a) l.init ≡ is_named l a.pred a.objects

@@ -29,12 +29,13 @@ use Rattle.kp_meaning.specs.Plans.{Solves}
 use Rattle.kp_meaning.specs.Numbering.{numbered_problem, named_step}
 use Rattle.kp_meaning.specs.NumberLaws.{is_plain_goal}
 use Rattle.kp_meaning.proofs.Public.{plans_are_the_same_by_number, goals_are_plain, solves_theirs}
-use Rattle.kp_grounding.specs.declared.flat.Atom.{Atom}
+use Rattle.kp_base.specs.Atoms.{Atom, number_of, has_atom}
 use Rattle.kp_grounding.specs.Static.{remaining}
 use Rattle.kp_grounding.specs.Flattening.{same_flat, flat, flat_of}
-use Rattle.kp_grounding.specs.Ground.{kept_bindings, kept_instances, atom_of, effect_literals, instance_literals, kept_literals, open_literals, ground_atoms, number_of, numbered, numbered_set, IsNumbering, numbered_effect, is_idle, ground_pre, ground_effects, action_of, actions_of, ground_over, ground_of, seen_on, has_atom}
+use Rattle.kp_grounding.specs.Ground.{kept_bindings, kept_instances, atom_of, effect_literals, instance_literals, kept_literals, open_literals, ground_atoms, numbered, numbered_set, IsNumbering, numbered_effect, is_idle, ground_pre, ground_effects, action_of, actions_of, ground_over, ground_of, seen_on}
 use Rattle.kp_base.specs.ActionNames.{action_name}
-use Rattle.kp_grounding.proofs.Public.{atoms_are_numbered, atom_at_its_number, IsCoveredLiteral, instance_literals_occur, ground_runs_are_plans, plan_is_ground_run, actions_named_by_steps}
+use Rattle.kp_base.proofs.AtomOrder.{atom_at_its_number}
+use Rattle.kp_grounding.proofs.Public.{atoms_are_numbered, IsCoveredLiteral, instance_literals_occur, ground_runs_are_plans, plan_is_ground_run, actions_named_by_steps}
 use Rattle.kp_init.specs.Initial.{no_two, item_clauses}
 use Rattle.kp_base.specs.Implicates.{are_below}
 use Rattle.kp_init.specs.Laws.{IsModelRun, IsNamedRun, IsInitialOver, IsPlanByModels, IsPlanByName, IsPlanOfTexts}

@@ -1,11 +1,9 @@
--- Ground problems whose atoms are told apart by their names, and the atoms that names give back.
+-- Problems by number whose ground atoms are told apart by their names.
 use Rattle.std.specs.Prelude.{◌≡◌, ℕ, Bool, true, ◌&&◌, List, map, length, nat_lt}
-use Rattle.std.specs.List.{list_all, position_from}
-use Rattle.std.specs.Option.{unwrap_or}
-use Rattle.kp_base.specs.declared.ground.GroundName.{GroundName}
-use Rattle.kp_meaning.specs.Names.{Name, same, distinct}
+use Rattle.std.specs.List.{list_all}
+use Rattle.kp_meaning.specs.Names.{Name, distinct}
 use Rattle.kp_meaning.specs.Numbered.{Lifted}
-use Rattle.kp_grounding.specs.declared.flat.Atom.{Atom}
+use Rattle.kp_base.specs.Atoms.{Atom}
 use Rattle.kp_grounding.specs.Ground.{ground_atoms}
 
 -- the names of the predicates
@@ -21,13 +19,3 @@ pub record HasNamedAtoms (l : Lifted) : Type 0 where
   pub predicates : distinct (predicate_names l) ≡ predicate_names l
   pub objects : distinct l.objects ≡ l.objects
   pub declared : list_all (is_declared l) (ground_atoms l) ≡ true
-
--- ---- names put back. What follows serves proofs alone
-
--- where a name stands first; 0 where it stands nowhere
-abbrev pub place_in : List Name → Name → ℕ
-place_in names x = unwrap_or (position_from (same x) 0 names) 0
-
--- the atom that has the name
-abbrev pub named_atom : Lifted → GroundName → Atom
-named_atom l n = record { pred = place_in (predicate_names l) n.head; objects = map (place_in l.objects) n.objects }

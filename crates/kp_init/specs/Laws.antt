@@ -12,7 +12,7 @@ use Rattle.kp_meaning.specs.Numbered.{Lifted}
 use Rattle.kp_meaning.specs.Lifted.{State, Instance, IsInitial, IsPlan}
 use Rattle.kp_meaning.specs.Numbering.{numbered_problem}
 use Rattle.kp_meaning.specs.NumberLaws.{is_plain_goal}
-use Rattle.kp_grounding.specs.declared.flat.Atom.{Atom}
+use Rattle.kp_base.specs.Atoms.{Atom}
 use Rattle.kp_grounding.specs.Ground.{IsNumbering, kept_instances, ground_over, ground_of, seen_on}
 use Rattle.kp_base.specs.ActionNames.{action_name}
 use Rattle.kp_init.specs.Initial.{initial_over, initial_of}

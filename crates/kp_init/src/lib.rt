@@ -1,4 +1,4 @@
-//! The initial formula of a ground problem, and closures under it. `specs/Initial.antt` says what `initial_over` gives, and
+//! The initial formula of a ground problem, and closures under it. `specs/Initial.antt` says what `initial` gives, and
 //! `specs/Laws.antt` that its models are the initial states.
 #![tactic(auto)]
 
@@ -7,11 +7,9 @@ mod closed;
 mod formula;
 mod laws;
 mod named;
-mod numbers;
 mod one_of;
-mod places;
 
-pub use formula::{initial, initial_over};
+pub use formula::initial;
 pub use laws::{
     closures_are_exact, initial_formulas_speak_of_ground_atoms, models_are_initial_states,
     plans_are_runs_from_models, plans_by_name_are_runs_from_models,

@@ -2,24 +2,41 @@ ghost use Rattle.std.specs.Prelude.{◌≡◌, ◌||◌, IfOk, OnOk};
 ghost use Rattle.std.specs.List.{list_any};
 ghost use Rattle.kp_meaning.specs.Lifted.{is_named};
 ghost use Rattle.kp_names.specs.View.{lifted_view};
-ghost use Rattle.kp_grounding.specs.declared.flat.Atom.{Atom as Told};
-ghost use Rattle.kp_grounding.specs.Ground.{atom_of, same_atom};
+ghost use Rattle.kp_base.specs.Atoms.{Atom as Told, same_atom};
+ghost use Rattle.kp_grounding.specs.Ground.{atom_of};
 ghost use Rattle.kp_init.specs.Tables.{is_kept, names};
 
 use indexmap::IndexSet;
 use kp_base::Memory;
-use kp_grounding::Atom;
 use kp_meaning::{GroundLit, Item};
 use kp_names::Lifted;
 use std::alloc::Global;
+use std::marker::Model;
 
-/// A problem by number, with a table of the atoms that its `:init` names.
+/// A problem by number, with a table of the atoms that its `:init` names. Contracts see the problem.
 #[derive(Drop)]
 pub struct Named<'a> {
-    /// The problem.
-    pub lifted: &'a Lifted,
+    lifted: &'a Lifted,
     atoms: IndexSet<(u32, &'a [u32])>,
-    ghost atoms_right: { (a : Told) → is_kept atoms.keys a ≡ is_named (lifted_view lifted.now) a.pred a.objects },
+}
+
+impl<'a> Model for Named<'a> {
+    ghost use Rattle.std.specs.Coded.{codes};
+    ghost use Rattle.std.specs.Prelude.{◌≡◌};
+    ghost use Rattle.kp_base.specs.Atoms.{Atom};
+    ghost use Rattle.kp_lifted.specs.declared.lifted.Lifted.{Lifted as Problem};
+    ghost use Rattle.kp_lifted.specs.contracts.lifted.Lifted as lifteds;
+    ghost use Rattle.kp_meaning.specs.Lifted.{is_named};
+    ghost use Rattle.kp_names.specs.View.{lifted_view};
+    ghost use Rattle.kp_init.specs.Tables.{is_kept};
+
+    ghost Value = { Problem };
+
+    ghost coded = { Prim.hlevel (codes, lifteds.the_row.coded) };
+
+    ghost view = { λ n. n.lifted.now };
+
+    ghost invariant = { λ n. (a : Atom) → is_kept n.atoms.keys a ≡ is_named (lifted_view n.lifted.now) a.pred a.objects };
 }
 
 fn add<'a>(atoms: &mut IndexSet<(u32, &'a [u32])>, lit: &'a GroundLit) -> Result<(), Memory>
@@ -60,7 +77,7 @@ fn named_by<'a>(alloc: Global, items: &'a [Item]) -> Result<IndexSet<(u32, &'a [
 impl<'a> Named<'a> {
     /// The table of a problem.
     pub fn of(alloc: Global, lifted: &'a Lifted) -> Result<Named<'a>, Memory>
-        ensures { IfOk result (λ named. named.lifted.now ≡ lifted.now) }
+        ensures { IfOk result (λ named. named ≡ lifted.now) }
     {
         Ok(Named {
             lifted,
@@ -68,10 +85,10 @@ impl<'a> Named<'a> {
         })
     }
 
-    /// Whether some item names an atom.
-    pub fn has(&self, atom: &Atom) -> bool
-        ensures { result ≡ is_named (lifted_view self.now.lifted.now) atom.now.pred atom.now.objects }
+    /// Whether some item names the atom of this predicate and these objects.
+    pub fn has(&self, pred: u32, objects: &[u32]) -> bool
+        ensures { result ≡ is_named (lifted_view self.now) pred objects.now }
     {
-        self.atoms.contains(&(atom.pred, atom.objects.slice()))
+        self.atoms.contains(&(pred, objects))
     }
 }

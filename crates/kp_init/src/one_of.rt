@@ -8,17 +8,6 @@ use indexmap::IndexSet;
 use kp_base::{Lit, LitSet, Memory, Row};
 use std::alloc::Global;
 
-/// The set of some literals.
-pub fn set_of(alloc: Global, lits: &[Lit]) -> Result<LitSet, Memory>
-    ensures { IfOk result (λ set. set ≡ set_of lits.now) }
-{
-    let mut set = LitSet::new(alloc);
-    for lit in lits {
-        set.insert(*lit)?;
-    }
-    Ok(set)
-}
-
 // The literals, each once, where it stands first.
 fn different(alloc: Global, lits: &[Lit]) -> Result<IndexSet<Lit>, Memory>
     ensures { IfOk result (λ set. set.keys ≡ each_once same_lit lits.now) }
@@ -76,7 +65,7 @@ fn add_all_pairs(alloc: Global, lits: &[Lit], clauses: &mut Row<LitSet>) -> Resu
 pub fn add_exactly_one(alloc: Global, lits: &[Lit], clauses: &mut Row<LitSet>) -> Result<(), Memory>
     ensures { OnOk result (clauses.new ≡ clauses.old ++ exactly_one lits.now) }
 {
-    clauses.push(set_of(alloc, lits)?)?;
+    clauses.push(LitSet::of(alloc, lits)?)?;
     let apart = different(alloc, lits)?;
     add_all_pairs(alloc, apart.as_slice(), clauses)
 }

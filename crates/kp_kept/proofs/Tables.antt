@@ -10,8 +10,8 @@ use Rattle.kp_lifted.specs.declared.lifted.Schema as schemas
 use Rattle.kp_lifted.specs.declared.lifted.Lifted as lifteds
 use Rattle.kp_names.specs.View.{eff_view, schema_view, lifted_view}
 use Rattle.kp_base.proofs.Once.{any-added}
-use Rattle.kp_grounding.specs.Ground.{same_atom}
-use Rattle.kp_grounding.proofs.Public.{same_atoms}
+use Rattle.kp_base.specs.Atoms.{same_atom}
+use Rattle.kp_base.proofs.AtomOrder.{same_atoms}
 use Rattle.kp_grounding.specs.Static.{changes, leaves_static, is_static, says}
 use Rattle.kp_kept.specs.Tables.{has_atom, with_atom}
 

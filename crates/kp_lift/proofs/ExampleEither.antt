@@ -33,6 +33,7 @@ asking_q = record { name = nullary (codes "ask"); pre = positive 1 ∷ []; effec
 abbrev either : Ground
 either = record {
   atoms = nullary (codes "p") ∷ nullary (codes "q") ∷ [];
+  table = [];
   actions = q_where (codes "one") (positive 0) ∷ q_where (codes "other") (negative 0) ∷ asking_q ∷ [];
   goal = positive 1 ∷ [];
 }

@@ -41,6 +41,7 @@ left = record {
 abbrev pub cells_to : List Lit → Ground
 cells_to goal = record {
   atoms = nullary (codes "x1") ∷ nullary (codes "x2") ∷ nullary (codes "x3") ∷ [];
+  table = [];
   actions = left ∷ [];
   goal = goal;
 }

@@ -37,6 +37,7 @@ swap = record {
 abbrev small : Ground
 small = record {
   atoms = nullary (codes "p") ∷ nullary (codes "q") ∷ [];
+  table = [];
   actions = swap ∷ [];
   goal = positive 1 ∷ [];
 }
@@ -235,7 +236,7 @@ both = record {
 
 -- q is to be false
 abbrev clashing : Ground
-clashing = record { atoms = nullary (codes "p") ∷ nullary (codes "q") ∷ []; actions = both ∷ []; goal = negative 1 ∷ [] }
+clashing = record { atoms = nullary (codes "p") ∷ nullary (codes "q") ∷ []; table = []; actions = both ∷ []; goal = negative 1 ∷ [] }
 
 both_clashes : clashes_at both only_p 1 ≡ true
 both_clashes = refl

@@ -1,7 +1,7 @@
 //! What the tests are given: a ground problem of three atoms.
 ghost use Rattle.std.specs.Prelude.{◌≡◌, IfOk, length};
 
-use kp_base::{Ground, GroundName, LitSet, Memory, Row, Text};
+use kp_base::{Atoms, Ground, GroundName, LitSet, Memory, Row, Text};
 use kp_test_problems::name;
 use std::alloc::Global;
 
@@ -22,6 +22,7 @@ pub(crate) fn three_atoms(alloc: Global) -> Result<Ground, Memory>
     atoms.push(name_with(alloc, b"at", b"b")?)?;
     Ok(Ground {
         atoms,
+        table: Atoms::new(alloc),
         actions: Row::new(alloc),
         goal: LitSet::new(alloc),
     })

@@ -5,7 +5,7 @@ ghost use Rattle.kp_base.specs.Implicates.{IsOfItsAtoms};
 ghost use Rattle.kp_base.specs.Exclusive.{IsClashFree};
 ghost use Rattle.kp_clash.specs.Counted.{IsCounted};
 ghost use Rattle.kp_meaning.specs.Numbered.{Lifted as Numbers};
-ghost use Rattle.kp_grounding.specs.Ground.{ground_atoms, ground_of};
+ghost use Rattle.kp_grounding.specs.Ground.{ground_of};
 ghost use Rattle.kp_init.specs.Initial.{initial_of};
 ghost use Rattle.kp_names.specs.View.{lifted_view};
 ghost use Rattle.kp_outside.specs.Outside.{IsFront, IsWithin};
@@ -20,9 +20,8 @@ use crate::prepared::{Early, Prepared};
 use crate::refusing::{ended_by, ended_in};
 use kp_base::{ClashAt, Ground, Limits, Refused, Stop};
 use kp_clash::{clash_test, exclusive};
-use kp_ground::{GroundWithAtoms, ground_with_atoms};
-use kp_init::initial_over;
-use kp_kept::Statics;
+use kp_ground::ground;
+use kp_init::initial;
 use kp_names::Lifted;
 use kp_outside::Got;
 use kp_primes::Primes;
@@ -63,25 +62,24 @@ fn without_clash(alloc: Global, ground: Ground, primes: Primes) -> Result<Prepar
     }
 }
 
-// The same of a ground problem whose atoms are known, with the prime implicates of its initial formula.
+// The same of a ground problem, with the prime implicates of its initial formula.
 fn on_ground(
     alloc: Global,
     implicates: u32,
     lifted: &Lifted,
-    made: GroundWithAtoms,
+    made: Ground,
 ) -> Result<Prepared, Early>
-    requires ground { made.ground ≡ ground_of (lifted_view lifted.now) }
-    requires atoms { made.atoms ≡ ground_atoms (lifted_view lifted.now) }
-    requires few { length made.ground.atoms ≤ 4096 }
-    requires counted { IsCounted made.ground }
-    requires of_atoms { IsOfItsAtoms made.ground }
+    requires ground { made ≡ ground_of (lifted_view lifted.now) }
+    requires few { length made.atoms ≤ 4096 }
+    requires counted { IsCounted made }
+    requires of_atoms { IsOfItsAtoms made }
     ensures usable { IfOk result IsUsable }
     ensures answers { AnswersGround implicates (lifted_view lifted.now) result }
 {
-    let formula = initial_over(alloc, lifted, made.atoms.slice())?;
-    let atoms = made.ground.atoms.len() as u32;
+    let formula = initial(alloc, lifted, &made)?;
+    let atoms = made.atoms.len() as u32;
     match Primes::build(alloc, &formula, atoms, implicates) {
-        Ok(primes) => without_clash(alloc, made.ground, primes),
+        Ok(primes) => without_clash(alloc, made, primes),
         Err(stop) => Err(ended_by(alloc, stop)),
     }
 }
@@ -91,8 +89,7 @@ fn on_problem(alloc: Global, implicates: u32, lifted: &Lifted) -> Result<Prepare
     ensures usable { IfOk result IsUsable }
     ensures answers { AnswersNumbers implicates (lifted_view lifted.now) result }
 {
-    let statics = Statics::of(alloc, lifted)?;
-    match ground_with_atoms(alloc, &statics, &Limits::usual()) {
+    match ground(alloc, lifted, &Limits::usual()) {
         Ok(made) => on_ground(alloc, implicates, lifted, made),
         Err(stop) => Err(ended_by(alloc, stop)),
     }

@@ -23,7 +23,7 @@ abbrev falling : Action
 falling = record { name = nameless; pre = []; effects = record { cond = positive 0 ∷ []; result = negative 0 } ∷ [] }
 
 abbrev falls : Ground
-falls = record { atoms = nameless ∷ []; actions = falling ∷ []; goal = negative 0 ∷ [] }
+falls = record { atoms = nameless ∷ []; table = []; actions = falling ∷ []; goal = negative 0 ∷ [] }
 
 of_its_atoms : IsOfItsAtoms falls
 of_its_atoms = record { few_atoms = omega arith; few_actions = omega arith; actions = refl; goal = refl }

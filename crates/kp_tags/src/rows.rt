@@ -1,5 +1,5 @@
 ghost use Rattle.std.specs.Prelude.{◌≡◌, [], map, IfOk, OnOk};
-ghost use Rattle.kp_base.specs.LitSet.{IsAscending, set_of};
+ghost use Rattle.kp_base.specs.LitSet.{IsAscending};
 ghost use Rattle.kp_base.specs.Entailed.{IsConsistent};
 ghost use Rattle.kp_primes.specs.Held.{formula};
 ghost use Rattle.kp_tags.specs.Answers.{AreConsistent};
@@ -10,24 +10,13 @@ use kp_base::{Lit, LitSet, Memory, Row, TagRow};
 use kp_primes::Primes;
 use std::alloc::Global;
 
-// The set of some literals.
-fn set_of(alloc: Global, lits: &[Lit]) -> Result<LitSet, Memory>
-    ensures { IfOk result (λ set. set ≡ set_of lits.now) }
-{
-    let mut set = LitSet::new(alloc);
-    for lit in lits {
-        set.insert(*lit)?;
-    }
-    Ok(set)
-}
-
 // A tag with its closure. A consistent tag has one.
 fn row(alloc: Global, primes: &Primes, tag: &[Lit]) -> Result<TagRow, Memory>
     requires ascending { IsAscending tag.now }
     requires consistent { IsConsistent (formula primes.now) tag.now }
     ensures { IfOk result (IsRowOf primes.now.atoms (formula primes.now) tag.now) }
 {
-    let lits = set_of(alloc, tag)?;
+    let lits = LitSet::of(alloc, tag)?;
     match primes.closure(alloc, &lits)? {
         Some(closure) => Ok(row_with(lits, closure)),
         None => Err(Memory),

@@ -1,7 +1,7 @@
 //! Ground problems, from numbers of atoms.
 
 use crate::literals::{Sign, literal, set};
-use kp_base::{Action, Effect, Ground, GroundName, Memory, Row, Text};
+use kp_base::{Action, Atoms, Effect, Ground, GroundName, Memory, Row, Text};
 use std::alloc::Global;
 
 /// The conditions of an effect, and its result.
@@ -38,6 +38,7 @@ fn without_actions(alloc: Global, atoms: Row<GroundName>, goal: &[Sign]) -> Resu
     let goal = set(alloc, goal)?;
     Ok(Ground {
         atoms,
+        table: Atoms::new(alloc),
         actions: Row::new(alloc),
         goal,
     })

@@ -1,7 +1,7 @@
 //! The actions that the steps of a plan name.
 ghost use Rattle.std.specs.Prelude.{◌≡◌, IfOk, length};
 
-use kp_base::{Action, Ground, GroundName, LitSet, Memory, Refused, Row, Stop, Text};
+use kp_base::{Action, Atoms, Ground, GroundName, LitSet, Memory, Refused, Row, Stop, Text};
 use kp_plans::{find_steps, read_plan};
 use std::alloc::Global;
 
@@ -31,6 +31,7 @@ fn two_actions(alloc: Global, first: &str, second: &str) -> Result<Ground, Memor
     actions.push(action(alloc, second)?)?;
     Ok(Ground {
         atoms: Row::new(alloc),
+        table: Atoms::new(alloc),
         actions,
         goal: LitSet::new(alloc),
     })

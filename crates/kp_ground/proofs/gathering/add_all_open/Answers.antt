@@ -1,7 +1,7 @@
 use Rattle.std.proofs.Common.{List, ◌+◌, drop, filter, ap, sym, ◌∙◌}
 use Rattle.kp_meaning.specs.declared.lifted.GroundLit.{GroundLit}
-use Rattle.kp_grounding.specs.declared.flat.Atom.{Atom}
-use Rattle.kp_atoms.specs.Gathered.{gather}
+use Rattle.kp_base.specs.Atoms.{Atom}
+use Rattle.kp_ground.specs.Gathered.{gather}
 use Rattle.kp_names.specs.View.{lifted_view}
 use Rattle.kp_ground.specs.Passes.{is_open}
 use Rattle.kp_ground.proofs.LoopSteps.{drop_item, filter_more}

@@ -1,5 +1,5 @@
 use Rattle.std.proofs.Common.{◌≡◌, drop, filter}
-use Rattle.kp_atoms.specs.Gathered.{gather}
+use Rattle.kp_ground.specs.Gathered.{gather}
 use Rattle.kp_names.specs.View.{lifted_view}
 use Rattle.kp_ground.specs.Passes.{is_open}
 use Rattle.kp_ground.proofs.gathering.add_all_open.Given as goal

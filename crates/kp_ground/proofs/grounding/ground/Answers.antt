@@ -12,4 +12,4 @@ returns-in_err-made c =
 
 -- its ground problem
 pub returns : goal.returns
-returns c = subst (λ l. IsGrounded l c.args.limits.now c.in_ok-made.made.ground) (ap lifted_view c.in_ok-statics.ensures) c.in_ok-made.ensures.0
+returns c = subst (λ l. IsGrounded l c.args.limits.now c.in_ok-made.made) (ap lifted_view c.in_ok-statics.ensures) c.in_ok-made.ensures

@@ -2,11 +2,11 @@ use Rattle.std.proofs.Common.{◌≡◌, List, sym, ap, ◌∙◌}
 use Rattle.std.specs.List.{flat_map}
 use Rattle.std.proofs.lemmas.List.Sums.{fold-append}
 use Rattle.kp_names.specs.View.{cond_view, eff_view, lifted_view}
-use Rattle.kp_grounding.specs.declared.flat.Atom.{Atom}
+use Rattle.kp_base.specs.Atoms.{Atom}
 use Rattle.kp_grounding.specs.Static.{remaining}
 use Rattle.kp_grounding.specs.Flattening.{flat}
 use Rattle.kp_grounding.specs.Ground.{effect_literals}
-use Rattle.kp_atoms.specs.Gathered.{with_atom_within, gather}
+use Rattle.kp_ground.specs.Gathered.{with_literal, gather}
 use Rattle.kp_ground.specs.declared.effect_atoms.EffectAtoms.{EffectAtoms}
 use Rattle.kp_ground.proofs.Taken.{all_atoms}
 use Rattle.kp_ground.proofs.occurring.add_schema.Goals as goal
@@ -29,4 +29,4 @@ returns-clause-atoms c =
     let first : c.add_literals.new.atoms ≡ gather limit old (remaining l os (cond_view c.args.schema.now.pre)) = c.in_ok-add_literals.ensures ∙ ap (gather limit old) (c.slice.ensures ∙ c.in_ok-pre.ensures) in
     ap (λ (g : EffectAtoms). g.atoms) (c.in_ok-hand_over.ensures ∙ all_atoms mid fs)
     ∙ (ap (λ (as' : List Atom). gather limit as' (flat_map effect_literals fs)) first
-    ∙ sym (fold-append (with_atom_within limit) old (remaining l os (cond_view c.args.schema.now.pre)) (flat_map effect_literals fs)))
+    ∙ sym (fold-append (with_literal limit) old (remaining l os (cond_view c.args.schema.now.pre)) (flat_map effect_literals fs)))

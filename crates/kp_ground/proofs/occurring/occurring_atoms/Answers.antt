@@ -1,5 +1,6 @@
 use Rattle.std.proofs.Common.{◌≤◌, [], length, refl, ap, subst, arith}
-use Rattle.kp_atoms.specs.Gathered.{gather, IsSortOf}
+use Rattle.kp_base.specs.Atoms.{IsSortOf}
+use Rattle.kp_ground.specs.Gathered.{gather}
 use Rattle.kp_names.specs.View.{lifted_view}
 use Rattle.kp_ground.specs.Passes.{noted}
 use Rattle.kp_ground.proofs.Numbering.{gathered_le, sorted_is}

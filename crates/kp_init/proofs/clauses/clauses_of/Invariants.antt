@@ -5,4 +5,4 @@ use Rattle.kp_init.proofs.clauses.clauses_of.Given as goal
 
 -- with the items that are left come all
 abbrev pub invariant-loop-item : goal.invariant-loop-item
-invariant-loop-item l = l.clauses ++ flat_map (item_clauses l.places.atoms.now) (drop l.item-index l.items) ≡ flat_map (item_clauses l.places.atoms.now) l.items
+invariant-loop-item l = l.clauses ++ flat_map (item_clauses l.atoms) (drop l.item-index l.items) ≡ flat_map (item_clauses l.atoms) l.items

@@ -1,5 +1,5 @@
 use Rattle.std.proofs.Common.{◌||◌, ap, ◌∙◌}
-use Rattle.kp_grounding.specs.Ground.{same_atom}
+use Rattle.kp_base.specs.Atoms.{same_atom}
 use Rattle.kp_init.specs.Tables.{is_kept}
 use Rattle.kp_init.proofs.NamedAtoms.{one_more}
 use Rattle.kp_init.proofs.named.add.Goals as goal

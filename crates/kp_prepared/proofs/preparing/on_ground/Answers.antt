@@ -3,7 +3,7 @@ use Rattle.kp_base.specs.declared.ground.Ground.{Ground}
 use Rattle.kp_base.specs.declared.ground.Initial.{Initial}
 use Rattle.kp_base.specs.Implicates.{IsOfAtoms}
 use Rattle.kp_names.specs.View.{lifted_view}
-use Rattle.kp_init.specs.Initial.{initial_over, initial_of}
+use Rattle.kp_init.specs.Initial.{initial_of}
 use Rattle.kp_primes.specs.Answers.{HoldsPrimes, AnswersPrimes, RefusesPrimes}
 use Rattle.kp_given.proofs.Public.{formula_by_number_is_over_atoms}
 use Rattle.kp_prepared.proofs.Ended.{formula_ends}
@@ -13,7 +13,7 @@ use Rattle.kp_prepared.proofs.preparing.on_ground.Goals as goal
 pub build-requires : goal.build-requires
 build-requires c =
     let l = lifted_view c.args.lifted.now in
-    let formula = c.in_ok-formula.ensures ∙ ap (initial_over l) (c.slice.ensures ∙ c.requires.atoms) in
+    let formula = c.in_ok-formula.ensures in
     let many = c.len-atoms.ensures ∙ ap (λ (g : Ground). length g.atoms) c.requires.ground in
     subst (λ (i : Initial). IsOfAtoms c.len-atoms.result i) (sym formula) (subst (λ (n : ℕ). IsOfAtoms n (initial_of l)) (sym many) (formula_by_number_is_over_atoms l))
 
@@ -21,7 +21,7 @@ build-requires c =
 pub returns-in-Ok-clause-answers : goal.returns-in-Ok-clause-answers
 returns-in-Ok-clause-answers c =
     let l = lifted_view c.args.lifted.now in
-    let formula = c.in_ok-formula.ensures ∙ ap (initial_over l) (c.slice.ensures ∙ c.requires.atoms) in
+    let formula = c.in_ok-formula.ensures in
     let here = subst (λ (i : Initial). HoldsPrimes i c.len-atoms.result c.args.implicates c.in-Ok.primes) formula c.in-Ok.ensures in
     c.without_clash.ensures.answers l c.args.implicates c.requires.ground (subst (λ (n : ℕ). HoldsPrimes (initial_of l) n c.args.implicates c.in-Ok.primes) c.len-atoms.ensures here)
 
@@ -29,6 +29,6 @@ returns-in-Ok-clause-answers c =
 pub returns-in-Err-clause-answers : goal.returns-in-Err-clause-answers
 returns-in-Err-clause-answers c =
     let l = lifted_view c.args.lifted.now in
-    let formula = c.in_ok-formula.ensures ∙ ap (initial_over l) (c.slice.ensures ∙ c.requires.atoms) in
+    let formula = c.in_ok-formula.ensures in
     formula_ends c.args.implicates l c.in-Err.stop c.ended_by.result
     (λ r is. subst (λ (i : Initial). RefusesPrimes i c.args.implicates r) formula (subst (λ s. AnswersPrimes c.in_ok-formula.formula c.len-atoms.result c.args.implicates (Err s)) is c.in-Err.ensures)) c.ended_by.ensures

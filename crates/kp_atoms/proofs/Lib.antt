@@ -1,4 +1,0 @@
-pub mod Public
-pub mod Gathers
-pub mod Ascending
-pub mod Keys
