@@ -1,4 +1,4 @@
--- The faults that there may be in what the grammar reads, and where they lie.
+-- Which faults there may be at the tokens of each part of a tree, and in what span of bytes they lie.
 use Rattle.std.proofs.Common.{◌≡◌, ◌⊎◌, inl, inr, ℕ, not, List, [], ◌∷◌, ◌++◌, map}
 use Rattle.std.specs.List.{flat_map}
 use Rattle.kp_grammar.specs.declared.tree.Word.{Word}

@@ -15,7 +15,7 @@ IsOneForEachToken fs = (f g : Fault) → Member fs f → Member fs g → byte_of
 abbrev pub HasOneFirst : List Fault → Type 0
 HasOneFirst fs = (f g : Fault) → IsFirst fs f → IsFirst fs g → f ≡ g
 
--- no token has two of these faults, and so there is one that comes first, if any
+-- no token has two of these faults, and so at most one comes first
 pub record TokensHaveOneFault (fs : List Fault) : Type 0 where
   pub for_each_token : IsOneForEachToken fs
   pub first : HasOneFirst fs

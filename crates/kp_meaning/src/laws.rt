@@ -73,7 +73,7 @@ pub fn goals_have_no_equality()
     ensures { GoalsArePlain }
 {}
 
-/// No token of a file has faults of two kinds, and two tokens never both come first: so the first fault is one.
+/// Two faults at one token of a file are the same. So no token has faults of two kinds, and at most one fault comes first.
 pub fn no_token_has_two_faults()
     ensures domain { DomainTokensHaveOneFault }
     ensures problem { ProblemTokensHaveOneFault }
