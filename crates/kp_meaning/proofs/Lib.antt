@@ -18,3 +18,6 @@ pub mod ExampleStates
 pub mod ExampleStrip
 pub mod ExampleNumbered
 pub mod PlainGoals
+pub mod FaultSpans
+pub mod FaultMarks
+pub mod FaultsApart

@@ -12,3 +12,4 @@ pub mod Numbered
 pub mod Lifted
 pub mod Numbering
 pub mod NumberLaws
+pub mod FaultLaws

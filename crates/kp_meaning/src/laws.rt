@@ -1,6 +1,7 @@
 //! Laws of the definitions, each proved as the contract of a function that does nothing.
 
 ghost use Rattle.kp_meaning.specs.Encoding.{EncodedDecodes, DecodedIsEncoding};
+ghost use Rattle.kp_meaning.specs.FaultLaws.{DomainTokensHaveOneFault, ProblemTokensHaveOneFault};
 ghost use Rattle.kp_meaning.specs.NumberLaws.{GoalsArePlain, IsHoldsNumbered, IsFiresNumbered, IsStepNumbered, IsInitialNumbered, IsPlanNumbered, IsNamedOnce};
 ghost use Rattle.kp_meaning.specs.Places.{PlacesMeanNothing};
 ghost use Rattle.kp_meaning.specs.Plans.{HasOneProblem};
@@ -70,4 +71,10 @@ pub fn instances_are_named_once()
 /// By the grammar no equality stands in a goal.
 pub fn goals_have_no_equality()
     ensures { GoalsArePlain }
+{}
+
+/// Two faults at one token of a file are the same. So no token has faults of two kinds, and at most one fault comes first.
+pub fn no_token_has_two_faults()
+    ensures domain { DomainTokensHaveOneFault }
+    ensures problem { ProblemTokensHaveOneFault }
 {}
