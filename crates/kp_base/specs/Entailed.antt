@@ -26,7 +26,7 @@ pub record IsConsistent (i : Initial) (lits : List Lit) : Type 0 where
 abbrev pub HasModel : Initial → Type 0
 HasModel i = IsConsistent i []
 
--- none is
+-- no state is a model
 abbrev pub HasNoModel : Initial → Type 0
 HasNoModel i = HasModel i → ⊥
 

@@ -1,10 +1,8 @@
 -- What the calls of this crate give, by the forms of `kp_grammar`. What is promised of whole files doesn't speak of it.
 use Rattle.std.specs.Prelude.{◌≡◌, ◌+◌, ℕ, length, List, [], ◌∷◌, Bool, true, Result, Ok, Err, map}
-use Rattle.kp_lex.specs.declared.token.TokenKind.{TokenKind}
-use Rattle.kp_lex.specs.declared.token.TokenKind.TheVariants as kinds
 use Rattle.kp_grammar.specs.declared.tree.Word.{Word}
 use Rattle.kp_grammar.specs.declared.symbol.Symbol.{Symbol}
-use Rattle.kp_grammar.specs.Symbols.{Tok, is_left, is_right, is_dash, is_head, is_name, is_variable, is_term, is_keyword, is_define, is_domain, is_problem, is_either, is_merge, is_equal}
+use Rattle.kp_grammar.specs.Symbols.{Tok, is_left, is_right, is_head, is_name, is_variable, is_term, is_keyword, is_define, is_domain, is_problem, is_either, is_merge, is_equal}
 use Rattle.kp_grammar.specs.Forms.{hits}
 use Rattle.kp_grammar.specs.Grammar.{word, some, skip, words_of_requirements}
 use Rattle.kp_grammar.specs.Reading.{Unsupported, At, stop}
@@ -64,16 +62,6 @@ pub record Shown (p : Symbol → Bool) (ts rest : List (Tok Word)) : Type 0 wher
   pub token : Tok Word
   pub is : ts ≡ token ∷ rest
   pub passes : p token.symbol ≡ true
-
--- a token of the kind
-abbrev pub kind_test : TokenKind → Symbol → Bool
-kind_test kinds.Left = is_left
-kind_test kinds.Right = is_right
-kind_test kinds.Dash = is_dash
-kind_test kinds.Equal = is_equal
-kind_test kinds.Name = is_name
-kind_test kinds.Variable = is_variable
-kind_test kinds.Keyword = is_keyword
 
 -- a token of the class
 abbrev pub class_test : Class → Symbol → Bool

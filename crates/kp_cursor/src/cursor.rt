@@ -1,4 +1,4 @@
-ghost use Rattle.std.specs.Prelude.{◌≡◌, ◌<◌, ◌≤◌, ◌+◌, ◌∷◌, [], false, Ok, drop, length, IfOk, IfErr, IfSome, IfNone};
+ghost use Rattle.std.specs.Prelude.{◌≡◌, ◌<◌, ◌≤◌, ◌+◌, ◌⊎◌, suc, ◌∷◌, [], false, Ok, drop, length, IfOk, IfErr, IfSome, IfNone};
 ghost use Rattle.std.specs.Bool.{OnTrue};
 ghost use Rattle.std.specs.List.{take_while};
 ghost use Rattle.kp_grammar.specs.Forms.{hits};
@@ -118,6 +118,20 @@ pub fn is_left(tokens: &Tokens, at: usize) -> bool
     ensures few { length tokens.now < 9223372036854775808 }
 {
     is_kind(tokens, at, TokenKind::Left)
+}
+
+/// The place behind an opening bracket, and the levels that are left in it.
+pub fn open(tokens: &Tokens, at: usize, levels: u32) -> Result<(usize, u32), Halt>
+    ensures found { IfOk result (λ x. Opened (from tokens.now at) (from tokens.now x.0)) }
+    ensures stopped { IfErr result (λ e. (e ≡ Halt.Syntax at) × ((levels ≡ 0) ⊎ (first_is is_left (from tokens.now at) ≡ false))) }
+    ensures onward { IfOk result (λ x. (x.0 ≡ at + 1) × (x.0 ≤ length tokens.now)) }
+    ensures deeper { IfOk result (λ x. levels ≡ suc x.1) }
+{
+    if levels == 0 || !is_left(tokens, at) {
+        Err(Halt::Syntax(at))
+    } else {
+        Ok((at + 1, levels - 1))
+    }
 }
 
 /// The place behind a closing bracket.

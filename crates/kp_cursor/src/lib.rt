@@ -10,7 +10,7 @@ mod runs;
 mod tokens;
 
 pub use bytes::{byte_of, lower_case};
-pub use cursor::{Class, Lead, begins, close, follow, has, is_left, skip_name};
+pub use cursor::{Class, Lead, begins, close, follow, has, is_left, open, skip_name};
 pub use halt::Halt;
 pub use lexeme::Lexeme;
 pub use runs::{run, skip_keywords, words};

@@ -1,9 +1,9 @@
 ghost use Rattle.std.specs.Prelude.{◌≡◌, ◌≢◌, ◌<◌, ◌≤◌, ◌+◌, ◌-◌, ◌==◌, ◌∷◌, [], length, map, drop, take, slice_range, IfSome, IfNone};
 ghost use Rattle.std.specs.Bool.{OnTrue, OnFalse};
-ghost use Rattle.kp_grammar.specs.Symbols.{first_is};
+ghost use Rattle.kp_grammar.specs.Symbols.{first_is, kind_test};
 ghost use Rattle.kp_cursor.specs.Lexemes.{tok, lexed, from, AreCutFrom};
 ghost use Rattle.kp_cursor.specs.Spans.{IsWordIn};
-ghost use Rattle.kp_cursor.specs.Readers.{Shown, kind_test};
+ghost use Rattle.kp_cursor.specs.Readers.{Shown};
 
 use crate::lexeme::Lexeme;
 use kp_grammar::symbol_of;

@@ -5,6 +5,7 @@ pub mod Within
 pub mod Wholes
 pub mod Onward
 pub mod Computed
+pub mod KindTests
 pub mod Words
 pub mod Nesting
 pub mod NamedTrees

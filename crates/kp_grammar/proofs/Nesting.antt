@@ -5,12 +5,10 @@ use Rattle.kp_lex.specs.declared.token.TokenKind.TheVariants as kinds
 use Rattle.kp_lex.specs.declared.token.Token.{Token}
 use Rattle.kp_lex.specs.Words.{folded}
 use Rattle.kp_lex.specs.Levels.{behind, levels_left, up_to, reach}
-use Rattle.kp_grammar.specs.declared.symbol.Symbol.{Symbol}
-use Rattle.kp_grammar.specs.declared.symbol.Symbol.TheVariants as symbols
 use Rattle.kp_grammar.specs.declared.tree.Word.{Word}
-use Rattle.kp_grammar.specs.Symbols.{Tok, names, keywords, refused_keywords, look_up, symbol_of, seen_in, all_seen_in, is_left, is_right}
+use Rattle.kp_grammar.specs.Symbols.{Tok, symbol_of, all_seen_in, is_left, is_right}
 use Rattle.kp_grammar.specs.Depth.{deep_case, deep}
-use Rattle.kp_grammar.proofs.Words.{none_found}
+use Rattle.kp_grammar.proofs.KindTests.{name_fails, keyword_fails}
 
 no_bracket : {W : Type 0} (d : ℕ) (l r : Bool) (here : List (Tok W)) (go : ℕ → Option (List (Tok W))) → l ≡ false → r ≡ false → deep_case d l r here go ≡ go d
 no_bracket zero l r here go e k = rw (e, k) refl
@@ -26,11 +24,8 @@ deep_by (suc d) kinds.Right w here go = refl
 deep_by d kinds.Dash w here go = no_bracket d false false here go refl refl
 deep_by d kinds.Equal w here go = no_bracket d false false here go refl refl
 deep_by d kinds.Variable w here go = no_bracket d false false here go refl refl
-deep_by d kinds.Name w here go = no_bracket d _ _ here go (none_found is_left names symbols.Name w refl refl) (none_found is_right names symbols.Name w refl refl)
-deep_by d kinds.Keyword w here go =
-    no_bracket d _ _ here go
-    (none_found is_left keywords _ w refl (none_found is_left refused_keywords symbols.Keyword w refl refl))
-    (none_found is_right keywords _ w refl (none_found is_right refused_keywords symbols.Keyword w refl refl))
+deep_by d kinds.Name w here go = no_bracket d _ _ here go (name_fails is_left w refl refl) (name_fails is_right w refl refl)
+deep_by d kinds.Keyword w here go = no_bracket d _ _ here go (keyword_fails is_left w refl refl refl) (keyword_fails is_right w refl refl refl)
 
 -- all tokens are kept, up to the text's end; or the last that is kept opens a level too many
 abbrev pub Kept : List ℕ → ℕ → List Token → Type 0

@@ -16,6 +16,8 @@ pub use Rattle.kp_grammar.proofs.Onward.{deep_within, GoesOn, goes_on}
 pub use Rattle.kp_grammar.proofs.Computed.{tokens as tokens_of_text, reads_as as reads_by_computing, stops as stops_by_computing}
 -- what is read of a text's tokens with brackets of at most eight levels
 pub use Rattle.kp_grammar.proofs.Computed.{outcome as computed_outcome}
+-- ---- What holds of every symbol that a Name may have. A token is of its own kind, and of no other.
+pub use Rattle.kp_grammar.proofs.KindTests.{name_passes, own_kind as own_kind_passes, other_kind as other_kind_fails}
 -- ---- The brackets of tokens as the cutting counts them and as the grammar does.
 pub use Rattle.kp_grammar.proofs.Nesting.{Kept, kept}
 -- ---- What each form of the grammar gives: trees whose names are names.

@@ -1,6 +1,6 @@
 -- The names in the trees of files are names.
-use Rattle.std.proofs.Common.{◌≡◌, ℕ, zero, suc, Bool, true, false, not, if◌then◌else◌, List, [], ◌∷◌, map, Some, slice_get, bytes_eq, refl, sym, ap, subst, ◌∙◌}
-use Rattle.std.specs.List.{AllByRecursion, list_all}
+use Rattle.std.proofs.Common.{◌≡◌, ℕ, zero, suc, Bool, true, List, [], ◌∷◌, map, Some, slice_get, refl, ap, subst, ◌∙◌}
+use Rattle.std.specs.List.{AllByRecursion}
 use Rattle.std.specs.Char.{to_ascii_lowercase}
 use Rattle.std.proofs.lemmas.Bool.{and_parts, both_ways}
 use Rattle.std.proofs.lemmas.Str.Ascii.{lowercase-lowercase}
@@ -11,13 +11,13 @@ use Rattle.kp_lex.specs.Cutting.{IsToken, Cut}
 use Rattle.kp_lex.specs.Words.{folded}
 use Rattle.kp_lex.proofs.Public.{each_span_is_a_token}
 use Rattle.kp_grammar.specs.declared.symbol.Symbol.{Symbol}
-use Rattle.kp_grammar.specs.declared.symbol.Symbol.TheVariants as symbols
 use Rattle.kp_grammar.specs.declared.tree.Word.{Word}
-use Rattle.kp_grammar.specs.Symbols.{Tok, Table, keywords, refused_keywords, look_up, symbol_of, all_seen_in, is_head, is_name}
+use Rattle.kp_grammar.specs.Symbols.{Tok, symbol_of, all_seen_in, is_head, is_name}
 use Rattle.kp_grammar.specs.Sorts.{Sort, s_none, s_word, s_pair, s_seen, Seen, El, Maker, apply}
 use Rattle.kp_grammar.specs.Forms.{is_no_bracket, Named, n_cond, n_goal, n_eff, n_item, Form, token, none, nothing, ◌▹◌, ◌▸◌, many, run, maybe, make, choose, loose, bracket, within}
 use Rattle.kp_grammar.specs.Grammar.{rule}
 use Rattle.kp_grammar.specs.Reading.{ReadBy, r_token, r_none, r_both, r_after, r_end, r_more, r_last, r_next, r_absent, r_present, r_make, r_choice, r_loose, r_bracket, r_within}
+use Rattle.kp_grammar.proofs.KindTests.{keyword_fails}
 use Rattle.kp_grammar.specs.Words.{IsLow, IsName, IsHead, IsNamedCond, IsNamedEff, IsNamedItem}
 
 -- ---- tokens of texts
@@ -42,26 +42,11 @@ tokens_seen {text} ts h = all_seen text ts (λ i t e. (each_span_is_a_token ts i
 
 -- ---- which symbols are of names
 
--- where no word of the table has such a symbol, what is looked up has none
-pub none_found : (p : Symbol → Bool) (es : Table) (other : Symbol) (w : List ℕ) → list_all (λ e. not (p e.1)) es ≡ true → p other ≡ false → p (look_up es other w) ≡ false
-none_found p [] other w h o = o
-none_found p (e ∷ es) other w h o =
-    let parts = and_parts (not (p e.1)) (list_all (λ e. not (p e.1)) es) h in
-    pick (bytes_eq w e.0) (fails (p e.1) parts.0) (none_found p es other w parts.1 o)
-  where
-    fails : (b : Bool) → not b ≡ true → b ≡ false
-    fails false e = refl
-    fails true e = sym e
-
-    pick : (b : Bool) → p e.1 ≡ false → p (look_up es other w) ≡ false → p (if b then e.1 else look_up es other w) ≡ false
-    pick true f g = f
-    pick false f g = g
-
 -- a token of no other kind has such a symbol
 is_a_name : (k : TokenKind) (w : List ℕ) → is_name (symbol_of k w) ≡ true → k ≡ kinds.Name
 unfolding symbol_of
 is_a_name kinds.Name w h = refl
-is_a_name kinds.Keyword w h = absurd (both_ways (is_name (symbol_of kinds.Keyword w)) (none_found is_name keywords (look_up refused_keywords symbols.Keyword w) w refl (none_found is_name refused_keywords symbols.Keyword w refl refl)) h)
+is_a_name kinds.Keyword w h = absurd (both_ways (is_name (symbol_of kinds.Keyword w)) (keyword_fails is_name w refl refl refl) h)
 is_a_name _ w h = absurd cc
 
 head_is_name : (s : Symbol) → is_head s ≡ true → is_name s ≡ true

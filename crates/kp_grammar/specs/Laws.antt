@@ -1,7 +1,9 @@
--- What holds of each form: it reads given tokens in one way, or it stops at one token for one reason.
-use Rattle.std.specs.Prelude.{◌≡◌, ◌<◌, ◌⊎◌, Bool, List, ◌++◌, length}
+-- What holds of each form: it reads given tokens in one way, or it stops at one token for one reason. And of each token: it is of its own kind.
+use Rattle.std.specs.Prelude.{◌≡◌, ◌<◌, ◌⊎◌, ℕ, Bool, true, false, List, ◌++◌, length}
+use Rattle.kp_lex.specs.declared.token.TokenKind.{TokenKind}
+use Rattle.kp_lex.specs.declared.token.TokenKind.TheVariants as kinds
 use Rattle.kp_grammar.specs.declared.tree.Word.{Word}
-use Rattle.kp_grammar.specs.Symbols.{Tok}
+use Rattle.kp_grammar.specs.Symbols.{Tok, symbol_of, is_name, is_keyword, kind_test}
 use Rattle.kp_grammar.specs.Sorts.{Sort, El}
 use Rattle.kp_grammar.specs.Forms.{Form}
 use Rattle.kp_grammar.specs.Reading.{At, Reads, Stops, ReadsWhole, StopsWhole}
@@ -53,3 +55,17 @@ WholeNeverBoth = (b : Bool) (c : Sort) (X : Form b c) (ts : List (Tok Word)) (x 
 -- a tree, or else an offending token
 abbrev pub WholeAlwaysOne : Type 0
 WholeAlwaysOne = (b : Bool) (c : Sort) (X : Form b c) (ts : List (Tok Word)) → ((x : El Word c) × ReadsWhole X ts x) ⊎ ((at : At Word) × StopsWhole X ts at)
+
+-- ---- tokens: the tests by kind leave out no word and no sign, whatever the folded text
+
+-- a Name has the symbol of a name
+abbrev pub NamesAreNames : Type 0
+NamesAreNames = (w : List ℕ) → is_name (symbol_of kinds.Name w) ≡ true
+
+-- a Keyword has the symbol of a keyword
+abbrev pub KeywordsAreKeywords : Type 0
+KeywordsAreKeywords = (w : List ℕ) → is_keyword (symbol_of kinds.Keyword w) ≡ true
+
+-- no token has the symbol of another kind than its own
+abbrev pub NoOtherKind : Type 0
+NoOtherKind = (k j : TokenKind) (w : List ℕ) → (j ≡ k → ⊥) → kind_test k (symbol_of j w) ≡ false

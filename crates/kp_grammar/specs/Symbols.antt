@@ -286,3 +286,13 @@ is_keyword symbols.Metric = true
 is_keyword symbols.Length = true
 is_keyword symbols.Keyword = true
 is_keyword _ = false
+
+-- a token of the kind
+abbrev pub kind_test : TokenKind → Symbol → Bool
+kind_test kinds.Left = is_left
+kind_test kinds.Right = is_right
+kind_test kinds.Dash = is_dash
+kind_test kinds.Equal = is_equal
+kind_test kinds.Name = is_name
+kind_test kinds.Variable = is_variable
+kind_test kinds.Keyword = is_keyword

@@ -1,7 +1,7 @@
 //! Laws of the grammar, each proved as the contract of a function that does nothing.
 
 ghost use Rattle.kp_grammar.specs.Words.{DomainsAreNamed, ProblemsAreNamed};
-ghost use Rattle.kp_grammar.specs.Laws.{ReadsOnce, StopsOnce, NeverBoth, AlwaysOne, ReadsOnward, StopsOnward, WholeReadsOnce, WholeStopsOnce, WholeNeverBoth, WholeAlwaysOne};
+ghost use Rattle.kp_grammar.specs.Laws.{ReadsOnce, StopsOnce, NeverBoth, AlwaysOne, ReadsOnward, StopsOnward, WholeReadsOnce, WholeStopsOnce, WholeNeverBoth, WholeAlwaysOne, NamesAreNames, KeywordsAreKeywords, NoOtherKind};
 
 /// A form reads given tokens as at most one tree, and leaves the same tokens behind it.
 #[tactic(auto, using(crate::proofs::Exact::once_read))]
@@ -30,6 +30,13 @@ pub fn each_form_reads_or_stops()
 pub fn what_is_left_does_not_matter()
     ensures reads { ReadsOnward }
     ensures stops { StopsOnward }
+{}
+
+/// Each Name is a name to the grammar and each Keyword a keyword, whatever its text; and no token is of another kind than its own.
+pub fn word_classes_are_complete()
+    ensures names { NamesAreNames }
+    ensures keywords { KeywordsAreKeywords }
+    ensures no_other { NoOtherKind }
 {}
 
 /// The words that the tree of a file keeps as names are Names in lower case, and predicates and the heads of atoms are no reserved ones.

@@ -10,6 +10,7 @@ mod tree;
 pub use laws::{
     a_file_reads_or_stops, a_form_reads_once, a_form_stops_once, each_form_reads_or_stops,
     names_in_trees_are_names, no_form_reads_and_stops, what_is_left_does_not_matter,
+    word_classes_are_complete,
 };
 pub use lookup::symbol_of;
 pub use symbol::Symbol;

@@ -30,11 +30,11 @@ is_number [] = false
 is_number (b ∷ []) = is_digit b
 is_number (b ∷ c ∷ bs) = not (b == 48) && list_all is_digit (b ∷ c ∷ bs)
 
--- the operator is a merge's
+-- the operator's name is that of a merge: the front of merges, and a number
 abbrev pub is_merge_operator : Name → Bool
 is_merge_operator operator = unwrap_or (option_map is_number (past merge_front operator)) false
 
--- the step whose operator this is
+-- the step that the operator of an action stands for; none where it is no such name
 abbrev pub action_of : Name → Option Step
 action_of operator = option_and_then decoded (past do_front operator)
 
@@ -42,12 +42,12 @@ action_of operator = option_and_then decoded (past do_front operator)
 abbrev pub stripped_operator : Name → Option (List Step)
 stripped_operator operator = if is_merge_operator operator then Some [] else option_map (λ i. i ∷ []) (action_of operator)
 
--- operators have no objects
+-- the same of a name with the objects behind it: operators have none, so with any it comes to nothing at all
 abbrev pub stripped : Name → List Name → Option (List Step)
 stripped operator [] = stripped_operator operator
 stripped operator (o ∷ os) = None
 
--- what a list of steps comes to, if each is an operator's
+-- what a list of steps comes to, all after one another; nothing at all unless each step is an operator's
 abbrev pub strip : List Step → Option (List Step)
 strip [] = Some []
 strip (i ∷ is) = option_and_then (λ front. option_map (λ rest. front ++ rest) (strip is)) (stripped i.head i.objects)

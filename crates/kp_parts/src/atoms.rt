@@ -6,7 +6,7 @@ ghost use Rattle.kp_parts.specs.Readers.{Gives, term_at, equality_at, body_at, a
 use crate::lexeme::{term_node, word};
 use crate::runs::terms;
 use bumpalo::Bump;
-use kp_cursor::{Class, Halt, Lead, Tokens, close, follow, has, is_left, peek};
+use kp_cursor::{Class, Halt, Lead, Tokens, close, follow, has, open, peek};
 use kp_nodes::{AtomNode, TermNode};
 
 // A name or a variable.
@@ -64,10 +64,8 @@ pub fn atom<'a>(
     ensures reads { Gives tokens.now atom_view result (atom_at class levels (from tokens.now at)) }
     ensures onward { IfOk result (λ x. (at < x.1) × (x.1 ≤ length tokens.now)) }
 {
-    if levels == 0 || !is_left(tokens, at) {
-        return Err(Halt::Syntax(at));
-    }
-    let (atom, at) = body(bump, tokens, at + 1, class)?;
+    let (at, _) = open(tokens, at, levels)?;
+    let (atom, at) = body(bump, tokens, at, class)?;
     let at = close(tokens, at)?;
     Ok((atom, at))
 }

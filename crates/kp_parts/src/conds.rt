@@ -10,7 +10,7 @@ use crate::atoms::{body, equality};
 use crate::runs::add;
 use bumpalo::Bump;
 use bumpalo::collections::into_bump_slice;
-use kp_cursor::{Class, Halt, Tokens, close, is_left, peek};
+use kp_cursor::{Class, Halt, Tokens, close, is_left, open, peek};
 use kp_grammar::Symbol;
 use kp_nodes::CondNode;
 
@@ -102,10 +102,8 @@ fn denied<'a>(
     ensures reads { Gives tokens.now cond_view result (denied_at role levels (from tokens.now at)) }
     ensures onward { IfOk result (λ x. (at < x.1) × (x.1 ≤ length tokens.now)) }
 {
-    if levels == 0 || !is_left(tokens, at) {
-        return Err(Halt::Syntax(at));
-    }
-    let (test, at) = test(bump, tokens, at + 1, levels - 1, role, false)?;
+    let (at, levels) = open(tokens, at, levels)?;
+    let (test, at) = test(bump, tokens, at, levels, role, false)?;
     let at = close(tokens, at)?;
     Ok((test, at))
 }
@@ -123,10 +121,8 @@ pub fn cond<'a>(
     ensures reads { Gives tokens.now cond_view result (cond_at role levels (from tokens.now at)) }
     ensures onward { IfOk result (λ x. (at < x.1) × (x.1 ≤ length tokens.now)) }
 {
-    if levels == 0 || !is_left(tokens, at) {
-        return Err(Halt::Syntax(at));
-    }
-    let (tree, at) = inside(bump, tokens, at + 1, levels - 1, role)?;
+    let (at, levels) = open(tokens, at, levels)?;
+    let (tree, at) = inside(bump, tokens, at, levels, role)?;
     let at = close(tokens, at)?;
     Ok((tree, at))
 }

@@ -12,7 +12,7 @@ use crate::typed_lists::variables;
 use bumpalo::Bump;
 use bumpalo::collections::into_bump_slice;
 use kp_base::Memory;
-use kp_cursor::{Class, Halt, Tokens, close, is_left, peek};
+use kp_cursor::{Class, Halt, Tokens, close, is_left, open, peek};
 use kp_grammar::Symbol;
 use kp_nodes::{CondNode, EffNode, TypedNode};
 
@@ -35,10 +35,8 @@ pub fn eff<'a>(
     ensures reads { Gives tokens.now eff_view result (eff_at levels (from tokens.now at)) }
     ensures onward { IfOk result (λ x. (at < x.1) × (x.1 ≤ length tokens.now)) }
 {
-    if levels == 0 || !is_left(tokens, at) {
-        return Err(Halt::Syntax(at));
-    }
-    let (tree, at) = inside(bump, tokens, at + 1, levels - 1)?;
+    let (at, levels) = open(tokens, at, levels)?;
+    let (tree, at) = inside(bump, tokens, at, levels)?;
     let at = close(tokens, at)?;
     Ok((tree, at))
 }

@@ -10,7 +10,7 @@ use crate::lexeme::word_node;
 use crate::runs::add;
 use bumpalo::Bump;
 use bumpalo::collections::into_bump_slice;
-use kp_cursor::{Class, Halt, Lexeme, Tokens, close, is_left, peek};
+use kp_cursor::{Class, Halt, Lexeme, Tokens, close, is_left, open, peek};
 use kp_grammar::Symbol;
 use kp_nodes::{ItemNode, LitNode};
 
@@ -54,10 +54,8 @@ fn lit<'a>(
     ensures reads { Gives tokens.now lit_view result (lit_at levels (from tokens.now at)) }
     ensures onward { IfOk result (λ x. (at < x.1) × (x.1 ≤ length tokens.now)) }
 {
-    if levels == 0 || !is_left(tokens, at) {
-        return Err(Halt::Syntax(at));
-    }
-    let (lit, at) = lit_inside(bump, tokens, at + 1, levels - 1)?;
+    let (at, levels) = open(tokens, at, levels)?;
+    let (lit, at) = lit_inside(bump, tokens, at, levels)?;
     let at = close(tokens, at)?;
     Ok((lit, at))
 }
@@ -148,10 +146,8 @@ fn item<'a>(
     ensures reads { Gives tokens.now item_view result (item_at levels (from tokens.now at)) }
     ensures onward { IfOk result (λ x. (at < x.1) × (x.1 ≤ length tokens.now)) }
 {
-    if levels == 0 || !is_left(tokens, at) {
-        return Err(Halt::Syntax(at));
-    }
-    let (tree, at) = inside(bump, tokens, at + 1, levels - 1)?;
+    let (at, levels) = open(tokens, at, levels)?;
+    let (tree, at) = inside(bump, tokens, at, levels)?;
     let at = close(tokens, at)?;
     Ok((tree, at))
 }

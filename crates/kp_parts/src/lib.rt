@@ -16,8 +16,8 @@ pub use conds::{Role, cond, no_condition};
 pub use effects::{eff, no_effect};
 pub use init_items::items;
 pub use kp_cursor::{
-    Class, Halt, Lead, Lexeme, Tokens, begins, close, follow, has, is_left, peek, skip_keywords,
-    skip_name,
+    Class, Halt, Lead, Lexeme, Tokens, begins, close, follow, has, is_left, open, peek,
+    skip_keywords, skip_name,
 };
 pub use lexeme::{tokens_in, word};
 pub use runs::{add, append};

@@ -2,7 +2,7 @@ ghost use Rattle.std.specs.Prelude.{◌≡◌, ◌<◌, ◌≤◌, length, IfOk}
 ghost use Rattle.kp_parts.specs.Lexemes.{from};
 ghost use Rattle.kp_parts.specs.Readers.{Passes, title_inside_at, title_at};
 
-use kp_cursor::{Halt, Lead, Tokens, close, follow, is_left, skip_name};
+use kp_cursor::{Halt, Lead, Tokens, close, follow, open, skip_name};
 
 // The word and a name.
 #[tactic(auto, unfolding(crate::specs::Readers::title_inside_at, kp_cursor::specs::Readers::name_at))]
@@ -20,9 +20,7 @@ pub fn title(tokens: &Tokens, at: usize, levels: u32, lead: Lead) -> Result<usiz
     ensures reads { Passes tokens.now result (title_at lead levels (from tokens.now at)) }
     ensures onward { IfOk result (λ n. (at < n) × (n ≤ length tokens.now)) }
 {
-    if levels == 0 || !is_left(tokens, at) {
-        return Err(Halt::Syntax(at));
-    }
-    let at = title_inside(tokens, at + 1, lead)?;
+    let (at, _) = open(tokens, at, levels)?;
+    let at = title_inside(tokens, at, lead)?;
     close(tokens, at)
 }

@@ -9,7 +9,7 @@ use crate::runs::keep_words;
 use bumpalo::Bump;
 use bumpalo::collections::into_bump_slice;
 use kp_base::Memory;
-use kp_cursor::{Class, Halt, Lead, Tokens, begins, close, follow, is_left, peek, words};
+use kp_cursor::{Class, Halt, Lead, Tokens, begins, close, follow, is_left, open, peek, words};
 use kp_grammar::Symbol;
 use kp_nodes::{TypedNode, WordNode};
 
@@ -52,10 +52,8 @@ fn either<'a>(
     ensures reads { Gives tokens.now (λ s. map word_view s.now) result (either_at levels (from tokens.now at)) }
     ensures onward { IfOk result (λ x. (at < x.1) × (x.1 ≤ length tokens.now)) }
 {
-    if levels == 0 || !is_left(tokens, at) {
-        return Err(Halt::Syntax(at));
-    }
-    let (kinds, at) = either_names(bump, tokens, at + 1)?;
+    let (at, _) = open(tokens, at, levels)?;
+    let (kinds, at) = either_names(bump, tokens, at)?;
     let at = close(tokens, at)?;
     Ok((kinds, at))
 }
@@ -168,10 +166,8 @@ pub fn variables<'a>(
     ensures reads { Gives tokens.now (λ s. map typed_view s.now) result (typed_bracket_at levels (from tokens.now at)) }
     ensures onward { IfOk result (λ x. (at < x.1) × (x.1 ≤ length tokens.now)) }
 {
-    if levels == 0 || !is_left(tokens, at) {
-        return Err(Halt::Syntax(at));
-    }
-    let (typed, at) = typed(bump, tokens, at + 1, levels - 1, Class::Variable)?;
+    let (at, levels) = open(tokens, at, levels)?;
+    let (typed, at) = typed(bump, tokens, at, levels, Class::Variable)?;
     let at = close(tokens, at)?;
     Ok((into_bump_slice(typed), at))
 }
