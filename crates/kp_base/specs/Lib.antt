@@ -1,6 +1,8 @@
 pub mod ActionNames
 pub mod Atoms
 pub mod Clashes
+pub mod Closure
+pub mod Counted
 pub mod Covering
 pub mod Entailed
 pub mod Exclusive

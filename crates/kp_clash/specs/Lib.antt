@@ -1,4 +1,3 @@
-pub mod Counted
 pub mod Paired
 pub mod Searching
 pub mod Settling

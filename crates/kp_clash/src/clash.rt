@@ -3,7 +3,7 @@ ghost use Rattle.std.specs.List.{position_from};
 ghost use Rattle.kp_base.specs.declared.ground.Action.{Action as ActionOf};
 ghost use Rattle.kp_base.specs.declared.ground.Effect.{Effect as EffectOf};
 ghost use Rattle.kp_base.specs.Clashes.{HasNoClash, IsFirstClash};
-ghost use Rattle.kp_clash.specs.Counted.{IsCounted};
+ghost use Rattle.kp_base.specs.Counted.{IsCounted};
 ghost use Rattle.kp_pairs.specs.Paired.{is_pair};
 ghost use Rattle.kp_clash.specs.Searching.{all_noted, clash_together, found_at, keep, best_from, first_from};
 

@@ -10,8 +10,8 @@ use Rattle.kp_relevance.specs.Relevant.{ArePairsOf}
 use Rattle.kp_relevance.specs.Gathered.{gathered}
 use Rattle.kp_relevance.proofs.Public.{candidates_in_order_are_clauses_for}
 use Rattle.kp_modes.proofs.Public.{clauses_for_by_models as clauses}
-use Rattle.kp_init.specs.Closure.{closure}
-use Rattle.kp_init.proofs.Public.{closure_over_first_atoms}
+use Rattle.kp_base.specs.Closure.{closure}
+use Rattle.kp_base.proofs.Closures.{closure_over_first_atoms}
 use Rattle.kp_decided.specs.Laws.{ClausesAreDecided}
 use Rattle.kp_decided.proofs.InOrder.{in_order}
 use Rattle.kp_decided.proofs.Holding.{Holding, holding}

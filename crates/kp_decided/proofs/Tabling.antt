@@ -19,8 +19,8 @@ use Rattle.kp_first.specs.Ordered.{AreFirst, AnswersFirst}
 use Rattle.kp_first.proofs.Public.{literals_read_first_atoms, models_read_first_atoms}
 use Rattle.kp_cover.specs.Valid.{AreValidTags, is_outside}
 use Rattle.kp_cover.proofs.Public.{none_outside_is_valid}
-use Rattle.kp_init.specs.Closure.{closure}
-use Rattle.kp_init.proofs.Public.{closure_over_first_atoms}
+use Rattle.kp_base.specs.Closure.{closure}
+use Rattle.kp_base.proofs.Closures.{closure_over_first_atoms}
 use Rattle.kp_merges.specs.declared.merge.FileMerge.{FileMerge}
 use Rattle.kp_base.specs.LitSet.{same_set}
 use Rattle.kp_tags.specs.Tables.{has_tags_of_atoms, used_tags, numbered, HasClosure, IsTableOf}

@@ -12,8 +12,8 @@ use Rattle.kp_base.specs.Implicates.{IsOfAtoms}
 use Rattle.kp_base.proofs.Members.{range_only}
 use Rattle.kp_base.proofs.Lists.{any_from, any_member, flat_member, map_member, member_filter, filter_member}
 use Rattle.kp_base.proofs.Cases.{orders}
-use Rattle.kp_init.specs.Closure.{closure}
-use Rattle.kp_init.proofs.Public.{closure_over_first_atoms}
+use Rattle.kp_base.specs.Closure.{closure}
+use Rattle.kp_base.proofs.Closures.{closure_over_first_atoms}
 use Rattle.kp_pairs.specs.Paired.{are_both, is_pair, all_below}
 use Rattle.kp_clash.specs.Settling.{AreNeverTogether}
 use Rattle.kp_pairs.proofs.Public.{pair_turned, two_below_are_among_all}

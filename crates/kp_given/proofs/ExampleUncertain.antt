@@ -9,7 +9,7 @@ use Rattle.kp_grammar.specs.Symbols.{symbol_of}
 use Rattle.kp_grammar.specs.Parsing.{some_at, next_at}
 use Rattle.kp_meaning.specs.Faults.{HasNoFault}
 use Rattle.kp_meaning.proofs.Public.{domain_of_text, problem_of_text, cells_domain, one_cell_problem}
-use Rattle.kp_init.proofs.Public.{closure_over_first_atoms}
+use Rattle.kp_base.proofs.Closures.{closure_over_first_atoms}
 use Rattle.kp_given.specs.Translations.{ground_of, initial_of, start_of}
 use Rattle.kp_meaning.specs.Initial.{HasInitialState}
 use Rattle.kp_given.proofs.Starts.{states_are_models, formulas_over_atoms, closures_are_starts}

@@ -17,7 +17,8 @@ use Rattle.kp_grounding.specs.Ground as by_number
 use Rattle.kp_grounding.proofs.Public.{atoms_are_numbered}
 use Rattle.kp_init.specs.Initial as init
 use Rattle.kp_init.specs.Laws.{AreModels}
-use Rattle.kp_init.proofs.Public.{closure_over_first_atoms, models_are_initial_states, initial_formula_is_over_ground_atoms}
+use Rattle.kp_base.proofs.Closures.{closure_over_first_atoms}
+use Rattle.kp_init.proofs.Public.{models_are_initial_states, initial_formula_is_over_ground_atoms}
 use Rattle.kp_given.specs.Translations.{ground_of, initial_of, start_of}
 use Rattle.kp_given.specs.Laws.{InitialStatesAreModels, FormulasSpeakOfGroundAtoms, ClosuresAreStarts}
 

@@ -3,7 +3,7 @@ use Rattle.std.proofs.Common.{[], length, refl, arith}
 use Rattle.std.proofs.lemmas.Option.{slice_get_within}
 use Rattle.kp_base.proofs.Lits.{has-member}
 use Rattle.kp_base.proofs.Each.{each_from, each_member}
-use Rattle.kp_init.proofs.Public.{closure_over_first_atoms}
+use Rattle.kp_base.proofs.Closures.{closure_over_first_atoms}
 use Rattle.kp_write.specs.Grounds.{IsOfAtom}
 use Rattle.kp_machine.proofs.Public.{one_tag_is_a_table}
 use Rattle.kp_task.specs.Writable.{IsRowOn, IsTag, IsMergeOn}

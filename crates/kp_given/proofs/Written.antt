@@ -32,7 +32,7 @@ use Rattle.kp_grounding.specs.Flattening.{same_flat, flat, flat_of}
 use Rattle.kp_grounding.specs.Ground.{kept_bindings, atom_of, effect_literals, instance_literals, kept_literals, open_literals, occurring, ground_atoms, numbered, numbered_set, IsNumbering, numbered_effect, is_idle, ground_pre, ground_effects, object_names, atom_name, action_of, actions_of}
 use Rattle.kp_base.proofs.AtomOrder.{atom_never_before_itself, same_atom-true}
 use Rattle.kp_grounding.proofs.Public.{atoms_are_numbered, actions_named_once, instance_literals_occur}
-use Rattle.kp_init.proofs.Public.{closure_over_first_atoms}
+use Rattle.kp_base.proofs.Closures.{closure_over_first_atoms}
 use Rattle.kp_plans.specs.Names.{IsGroundName, same_name}
 use Rattle.kp_write.specs.Grounds.{IsOfAtom, AreOfAtoms, IsGroundEffect, IsGroundAction, IsWritable}
 use Rattle.kp_given.specs.Translations.{ground_of, initial_of, start_of}

@@ -8,7 +8,7 @@ use Rattle.kp_grammar.specs.Trees.{Domain, Problem}
 use Rattle.kp_meaning.specs.Numbering.{numbered_problem}
 use Rattle.kp_grounding.specs.Ground as ground
 use Rattle.kp_init.specs.Initial as init
-use Rattle.kp_init.specs.Closure.{closure}
+use Rattle.kp_base.specs.Closure.{closure}
 
 -- the ground problem of two trees
 abbrev pub ground_of : Domain Word → Problem Word → Ground

@@ -19,13 +19,13 @@ use Rattle.kp_grounding.specs.Ground.{ground_atoms, ground_of, seen_on}
 use Rattle.kp_base.specs.ActionNames.{action_name}
 use Rattle.kp_grounding.proofs.Public.{atoms_are_numbered, ground_moves, numbered_texts as by_number, roads_domain, three_towns_problem}
 use Rattle.kp_init.specs.Initial.{initial_of}
-use Rattle.kp_init.specs.Closure.{closure, IsAscendingClosure}
+use Rattle.kp_base.specs.Closure.{closure, IsAscendingClosure}
 use Rattle.kp_base.specs.Implicates.{IsOfAtoms}
 use Rattle.kp_init.specs.ByName.{HasNamedAtoms}
 use Rattle.kp_init.specs.Laws.{AreModels, IsNamedRun}
 use Rattle.kp_init.proofs.Models.{initial_exact}
 use Rattle.kp_init.proofs.Runs.{initial_is_over, plan_by_name, plan_of_texts}
-use Rattle.kp_init.proofs.Closure.{closure_exact}
+use Rattle.kp_base.proofs.Closures.{closure_over_first_atoms}
 
 abbrev atom : ℕ → AtomId
 atom n = record { 0 = n }
@@ -60,7 +60,7 @@ cells_over : IsOfAtoms 3 formula_of_cells
 cells_over = record { clauses = refl; closed = refl }
 
 is_closure : IsAscendingClosure 3 formula_of_cells (positive 0 ∷ []) (positive 0 ∷ negative 1 ∷ negative 2 ∷ [])
-is_closure = closure_exact formula_of_cells 3 cells_over (positive 0 ∷ []) refl
+is_closure = closure_over_first_atoms formula_of_cells 3 cells_over (positive 0 ∷ []) refl
 
 -- the names of the cells tell them apart
 cells_named : HasNamedAtoms (by_number cells_domain one_cell_problem)

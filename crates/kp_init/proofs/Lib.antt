@@ -2,6 +2,5 @@ pub mod Public
 pub mod Exactly
 pub mod Models
 pub mod Runs
-pub mod Closure
 pub mod ExampleFormulas
 pub mod NamedAtoms

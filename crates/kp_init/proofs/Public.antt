@@ -4,5 +4,3 @@
 pub use Rattle.kp_init.proofs.Models.{initial_exact as models_are_initial_states}
 -- ---- Plans, and runs of actions from each model.
 pub use Rattle.kp_init.proofs.Runs.{initial_is_over as initial_formula_is_over_ground_atoms, named_runs_are_plans, plan_of_texts}
--- ---- The closure over the states of the first n atoms is the closure over all states.
-pub use Rattle.kp_init.proofs.Closure.{closure_exact as closure_over_first_atoms}

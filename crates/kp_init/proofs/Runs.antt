@@ -14,6 +14,7 @@ use Rattle.kp_base.specs.Lit.{positive, negative, negated, same_lit}
 use Rattle.kp_base.specs.LitSet.{set_of}
 use Rattle.kp_base.specs.Steps as steps
 use Rattle.kp_base.specs.Steps.{SameBelow}
+use Rattle.kp_base.proofs.Closures.{below, holds_same, all_same}
 use Rattle.kp_base.proofs.Lists.{any_alike, all_alike, all_member, member_at, flat_member, all_from, member_left, member_right, member_flat_map}
 use Rattle.kp_base.proofs.Once.{all_filter, all_each_once}
 use Rattle.kp_base.proofs.Sets.{all-set_of}
@@ -43,17 +44,8 @@ use Rattle.kp_init.proofs.Models.{initial_exact, list_covered, ground_covered, c
 
 -- ---- runs read the atoms below n alone
 
-abbrev pub below : ℕ → Lit → Bool
-below n l = nat_lt l.atom.0 n
-
 abbrev action_below : ℕ → Action → Bool
 action_below n a = are_below n a.pre && list_all (λ e. are_below n e.cond) a.effects
-
-pub holds_same : (n : ℕ) (s t : steps.State) → SameBelow n s t → (l : Lit) → below n l ≡ true → steps.holds s l ≡ steps.holds t l
-holds_same n s t same l h = ap (signed l.positive) (same l.atom.0 (ltb-true l.atom.0 n h))
-
-pub all_same : (n : ℕ) (s t : steps.State) → SameBelow n s t → (ls : List Lit) → are_below n ls ≡ true → list_all (steps.holds s) ls ≡ list_all (steps.holds t) ls
-all_same n s t same ls h = all_alike (steps.holds s) (steps.holds t) ls (λ l m. holds_same n s t same l (all_member (below n) ls l m h))
 
 fires_same : (n : ℕ) (s t : steps.State) → SameBelow n s t → (es : List Effect) → list_all (λ e. are_below n e.cond) es ≡ true → (l : Lit) → steps.fires es (steps.holds s) l ≡ steps.fires es (steps.holds t) l
 fires_same n s t same es h l =

@@ -1,5 +1,4 @@
 pub mod Initial
-pub mod Closure
 pub mod Tables
 pub mod ByName
 pub mod Laws

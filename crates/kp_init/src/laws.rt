@@ -1,7 +1,6 @@
 //! Laws of the initial formula, each proved as the contract of a function that does nothing.
 
 ghost use Rattle.kp_init.specs.Laws.{IsInitialExact, IsInitialOver, IsPlanByModels, IsPlanByName, IsPlanOfTexts};
-ghost use Rattle.kp_init.specs.Closure.{IsClosureExact};
 
 /// The models are the initial states, one for one.
 pub fn models_are_initial_states()
@@ -28,7 +27,3 @@ pub fn plans_of_texts_are_runs_from_models()
     ensures { IsPlanOfTexts }
 {}
 
-/// Where the formula and the tag speak of the first n atoms alone, the closure over their states is the tag's.
-pub fn closures_are_exact()
-    ensures { IsClosureExact }
-{}

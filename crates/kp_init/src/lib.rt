@@ -1,4 +1,4 @@
-//! The initial formula of a ground problem, and closures under it. `specs/Initial.antt` says what `initial` gives, and
+//! The initial formula of a ground problem. `specs/Initial.antt` says what `initial` gives, and
 //! `specs/Laws.antt` that its models are the initial states.
 #![tactic(auto)]
 
@@ -11,7 +11,7 @@ mod one_of;
 
 pub use formula::initial;
 pub use laws::{
-    closures_are_exact, initial_formulas_speak_of_ground_atoms, models_are_initial_states,
+    initial_formulas_speak_of_ground_atoms, models_are_initial_states,
     plans_are_runs_from_models, plans_by_name_are_runs_from_models,
     plans_of_texts_are_runs_from_models,
 };

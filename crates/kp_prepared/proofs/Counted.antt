@@ -15,7 +15,7 @@ use Rattle.kp_kept.specs.Counts.{IsWithin}
 use Rattle.kp_ground.specs.Grounded.{IsGrounded}
 use Rattle.kp_ground.specs.Passes.{action_at}
 use Rattle.kp_ground.proofs.Public.{actions_of_schemas_in_order}
-use Rattle.kp_clash.specs.Counted.{IsCounted}
+use Rattle.kp_base.specs.Counted.{IsCounted}
 use Rattle.kp_given.proofs.Public.{actions_light, ground_is_of_its_atoms}
 use Rattle.kp_task.specs.Weight.{both_weight, action_weight}
 use Rattle.kp_prepared.specs.Prepared.{usual}

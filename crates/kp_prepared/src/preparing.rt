@@ -3,7 +3,7 @@ ghost use Rattle.kp_base.specs.declared.refused.Refused.TheVariants as refusals;
 ghost use Rattle.kp_base.specs.declared.refused.Stop.TheVariants as causes;
 ghost use Rattle.kp_base.specs.Implicates.{IsOfItsAtoms};
 ghost use Rattle.kp_base.specs.Exclusive.{IsClashFree};
-ghost use Rattle.kp_clash.specs.Counted.{IsCounted};
+ghost use Rattle.kp_base.specs.Counted.{IsCounted};
 ghost use Rattle.kp_meaning.specs.Numbered.{Lifted as Numbers};
 ghost use Rattle.kp_grounding.specs.Ground.{ground_of};
 ghost use Rattle.kp_init.specs.Initial.{initial_of};

@@ -17,7 +17,7 @@ use Rattle.kp_grammar.specs.Trees.{Domain, Problem}
 use Rattle.kp_modes.specs.Modes.{AreMergesOf}
 use Rattle.kp_tags.specs.Tables.{HasClosure}
 use Rattle.kp_tags.specs.Made.{IsMade}
-use Rattle.kp_init.proofs.Public.{closure_over_first_atoms}
+use Rattle.kp_base.proofs.Closures.{closure_over_first_atoms}
 use Rattle.kp_given.specs.Translations.{ground_of, initial_of}
 use Rattle.kp_given.specs.Tables.{empty_tag}
 use Rattle.kp_given.proofs.Public.{formulas_speak_of_ground_atoms}

@@ -13,7 +13,7 @@ use Rattle.kp_meaning.specs.Plans.{HasProblem, IsPlan}
 use Rattle.kp_meaning.proofs.Public.{domain_of_text as domain_of, problem_of_text as problem_of, computes_a_problem, moves_domain, from_a_to_b_problem, move_step, moves_by_number, moves_are_numbered, moves_have_no_fault, moves_goal_is_plain}
 use Rattle.kp_grounding.specs.Ground.{ground_of}
 use Rattle.kp_init.specs.Initial.{initial_of}
-use Rattle.kp_init.specs.Closure.{closure}
+use Rattle.kp_base.specs.Closure.{closure}
 use Rattle.kp_given.specs.Translations as given
 use Rattle.kp_given.specs.Tables.{empty_tag, translation_of}
 use Rattle.kp_given.proofs.Public.{tables_can_be_written, empty_tag_is_table_for_trees}

@@ -25,7 +25,7 @@ use Rattle.kp_base.specs.Steps.{State, holds, is_model}
 use Rattle.kp_base.proofs.Lists.{all_member, any_member}
 use Rattle.kp_base.proofs.Lits.{has-member, member-has}
 use Rattle.kp_machine.proofs.Public.{no_clash_under_exclusive_pairs as never_clashes}
-use Rattle.kp_init.proofs.Public.{closure_over_first_atoms}
+use Rattle.kp_base.proofs.Closures.{closure_over_first_atoms}
 use Rattle.kp_classic.specs.declared.task.Task.{Task}
 use Rattle.kp_classic.specs.Fits.{IsFit}
 use Rattle.kp_classic.specs.States.{FactSet, has}

@@ -5,7 +5,7 @@ use Rattle.std.proofs.lemmas.Bool.{and_parts, and_from, lt-ltb, ltb-true}
 use Rattle.kp_base.specs.declared.lit.Lit.{Lit}
 use Rattle.kp_base.specs.declared.lit.AtomId.{AtomId}
 use Rattle.kp_base.specs.declared.ground.Initial.{Initial}
-use Rattle.kp_base.specs.Lists.{Member, choices}
+use Rattle.kp_base.specs.Lists.{Member, signed, choices}
 use Rattle.kp_base.specs.Lit.{positive, negative, code_of}
 use Rattle.kp_base.specs.LitSet.{IsAscending}
 use Rattle.kp_base.specs.Steps.{State, holds, is_model}
@@ -13,10 +13,20 @@ use Rattle.kp_base.proofs.Members.{range_only}
 use Rattle.kp_base.proofs.Lists.{any_alike, all_alike, all_member, filter_member, member_map, flat_member, all_from, member_flat_map, member_filter}
 pub use Rattle.kp_base.proofs.Lists.{range_there}
 use Rattle.kp_base.proofs.Lits.{has-member, member-has}
-use Rattle.kp_init.specs.Closure.{literals, state_of, states, models_of, closure, IsClosureExact}
+use Rattle.kp_base.specs.Closure.{literals, state_of, states, models_of, closure, IsClosureExact}
 use Rattle.kp_base.specs.Implicates.{are_below, IsOfAtoms}
 use Rattle.kp_base.specs.Steps.{SameBelow}
-use Rattle.kp_init.proofs.Runs.{below, holds_same, all_same}
+
+-- ---- literals of the first n atoms read these alone
+
+abbrev pub below : ℕ → Lit → Bool
+below n l = nat_lt l.atom.0 n
+
+pub holds_same : (n : ℕ) (s t : State) → SameBelow n s t → (l : Lit) → below n l ≡ true → holds s l ≡ holds t l
+holds_same n s t same l h = ap (signed l.positive) (same l.atom.0 (ltb-true l.atom.0 n h))
+
+pub all_same : (n : ℕ) (s t : State) → SameBelow n s t → (ls : List Lit) → are_below n ls ≡ true → list_all (holds s) ls ≡ list_all (holds t) ls
+all_same n s t same ls h = all_alike (holds s) (holds t) ls (λ l m. holds_same n s t same l (all_member (below n) ls l m h))
 
 -- ---- the literals of the first n atoms
 
@@ -110,8 +120,8 @@ model_same i n over s t same =
 
 -- ---- the law
 
-pub closure_exact : IsClosureExact
-closure_exact i n over tag tag_below = record {
+pub closure_over_first_atoms : IsClosureExact
+closure_over_first_atoms i n over tag tag_below = record {
   closure = record {
     of_atoms = λ l h. literal_below n l (filter_member test (literals n) l (member-has (closure i n tag) l h)).0;
     entailed = λ l h s model meets.
