@@ -8,6 +8,7 @@ pub mod Computed
 pub mod KindTests
 pub mod Words
 pub mod Nesting
+pub mod SectionWalk
 pub mod NamedTrees
 pub mod Examples
 pub mod ExampleTexts

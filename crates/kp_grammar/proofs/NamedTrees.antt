@@ -5,13 +5,14 @@ use Rattle.kp_base.proofs.Lists.{each_flat_map}
 use Rattle.kp_grammar.specs.declared.symbol.Symbol.{Symbol}
 use Rattle.kp_grammar.specs.declared.symbol.Symbol.TheVariants as symbols
 use Rattle.kp_grammar.specs.declared.tree.Word.{Word}
-use Rattle.kp_grammar.specs.Trees.{Typed, Atom, Cond, conds_of, Eff, effs_of, Item, items_of, Section, section_types, section_constants, section_predicates, section_schemas, Given, given_objects, given_items, goal_of}
+use Rattle.kp_grammar.specs.Trees.{Typed, Atom, Cond, conds_of, Eff, effs_of, Item, items_of, Section, Given}
 use Rattle.kp_grammar.specs.Unsupported.{not_part, not_cond, not_goal, not_effect, not_lit, not_item}
 use Rattle.kp_grammar.specs.Symbols.{Tok, is_head, is_name, is_variable, is_term, is_of_domain, is_init, is_goal, is_domain, is_problem}
 use Rattle.kp_grammar.specs.Sorts.{Sort, s_atom, Seen, El, Maker, apply, with_kinds, m_holds, m_makes, m_lit, m_fact}
 use Rattle.kp_grammar.specs.Forms.{Form, Named, n_cond, n_goal, n_eff, n_item, make, nothing}
 use Rattle.kp_grammar.specs.Grammar.{word, kind_case, kind, typed, term_maker, term, atom_body, fact_body, test_case, cond_case, goal_lit_case, goal_case, eff_case, lit_case, lit, item_case, rule, pred, parts_end_case, schema, words_of_requirements, section_case, title, domain, once, has_stood, given_case, problem}
 use Rattle.kp_grammar.specs.Words.{IsName, IsHead, HasNamedTypes, IsNamed, IsNamedTerm, IsNamedAtom, IsNamedCond, AreNamedConds, IsNamedEff, AreNamedEffs, IsNamedLit, IsNamedItem, AreNamedItems, IsNamedPred, IsNamedSchema, IsNamedDomain, IsNamedProblem, DomainsAreNamed, ProblemsAreNamed}
+use Rattle.kp_grammar.proofs.SectionWalk.{OfSection, of_sections, OfGiven, of_givens}
 use Rattle.kp_grammar.proofs.Words.{tokens_seen, named, headed, OfRule, Gives, g_token, g_none, g_nothing, g_both, g_after, g_many, g_run, g_maybe, g_make, g_choose, g_loose, g_bracket, g_within, given}
 
 -- ---- alternatives
@@ -172,14 +173,10 @@ schemas =
 requirements : Gives _ _ words_of_requirements Any
 requirements = g_make (g_many {P = Any} (g_token (λ t s h. tt))) (λ x h. tt)
 
-abbrev OfSection : Section Word → Type 0
-OfSection Section.requires = Unit {0}
-OfSection (Section.types xs) = AllByRecursion IsNamed xs
-OfSection (Section.constants xs) = AllByRecursion IsNamed xs
-OfSection (Section.predicates qs) = AllByRecursion IsNamedPred qs
-OfSection (Section.action s) = IsNamedSchema s
+abbrev IsNamedSection : Section Word → Type 0
+IsNamedSection = OfSection IsNamed IsNamedPred IsNamedSchema
 
-section_cases : (s : Symbol) → Gives _ _ (section_case s) OfSection
+section_cases : (s : Symbol) → Gives _ _ (section_case s) IsNamedSection
 section_cases symbols.Requirements = g_after (g_make requirements (λ x h. tt))
 section_cases symbols.Types = g_after (g_make objects (λ x h. h))
 section_cases symbols.Constants = g_after (g_make objects (λ x h. h))
@@ -190,76 +187,31 @@ section_cases _ = g_nothing
 titles : (p : Symbol → Bool) → Gives _ _ (title p) Any
 titles p = g_bracket (g_after (g_token (λ t s h. tt)))
 
-its_types : (x : Section Word) → OfSection x → AllByRecursion IsNamed (section_types x)
-its_types (Section.types xs) h = h
-its_types _ h = tt
-
-its_constants : (x : Section Word) → OfSection x → AllByRecursion IsNamed (section_constants x)
-its_constants (Section.constants xs) h = h
-its_constants _ h = tt
-
-its_predicates : (x : Section Word) → OfSection x → AllByRecursion IsNamedPred (section_predicates x)
-its_predicates (Section.predicates qs) h = h
-its_predicates _ h = tt
-
-its_schemas : (x : Section Word) → OfSection x → AllByRecursion IsNamedSchema (section_schemas x)
-its_schemas (Section.action s) h = (h, tt)
-its_schemas _ h = tt
-
 domains : Gives _ _ domain IsNamedDomain
 domains =
-    g_bracket (g_after (g_make (g_both (titles is_domain) (g_many {P = OfSection} (g_bracket (g_choose section_cases))))
-    (λ x h. record {
-      kinds = each_flat_map section_types OfSection IsNamed its_types x.1 h.1;
-      constants = each_flat_map section_constants OfSection IsNamed its_constants x.1 h.1;
-      predicates = each_flat_map section_predicates OfSection IsNamedPred its_predicates x.1 h.1;
-      schemas = each_flat_map section_schemas OfSection IsNamedSchema its_schemas x.1 h.1;
-    })))
+    g_bracket (g_after (g_make (g_both (titles is_domain) (g_many {P = IsNamedSection} (g_bracket (g_choose section_cases))))
+    (λ x h. let all = of_sections IsNamed IsNamedPred IsNamedSchema x.1 h.1 in record { kinds = all.0; constants = all.1; predicates = all.2; schemas = all.3 })))
 
 -- ---- problems
 
-abbrev OfGiven : Given Word → Type 0
-OfGiven Given.of_domain = Unit {0}
-OfGiven Given.requires = Unit {0}
-OfGiven (Given.objects xs) = AllByRecursion IsNamed xs
-OfGiven (Given.init is) = AllByRecursion IsNamedItem is
-OfGiven (Given.goal g) = IsNamedCond g
+abbrev IsNamedGiven : Given Word → Type 0
+IsNamedGiven = OfGiven IsNamed IsNamedItem IsNamedCond
 
 abbrev Second : Seen × Given Word → Type 0
-Second x = OfGiven x.1
+Second x = IsNamedGiven x.1
 
 given_cases : (seen : Seen) (s : Symbol) → Gives _ _ (given_case seen s) Second
-given_cases seen symbols.OfDomain = of_once (has_stood is_of_domain seen) (g_after (g_make {P = OfGiven} (g_make {P = Any} (g_token (λ t s h. tt)) (λ x h. tt)) (λ x h. h)))
-given_cases seen symbols.Requirements = g_after (g_make {P = OfGiven} (g_make requirements (λ x h. tt)) (λ x h. h))
-given_cases seen symbols.Objects = g_after (g_make {P = OfGiven} (g_make objects (λ x h. h)) (λ x h. h))
-given_cases seen symbols.Init = of_once (has_stood is_init seen) (g_after (g_make {P = OfGiven} (g_make (g_many (g_within {n = n_item})) (λ x h. h)) (λ x h. h)))
-given_cases seen symbols.Goal = of_once (has_stood is_goal seen) (g_after (g_make {P = OfGiven} (g_make (g_within {n = n_goal}) (λ x h. h)) (λ x h. h)))
+given_cases seen symbols.OfDomain = of_once (has_stood is_of_domain seen) (g_after (g_make {P = IsNamedGiven} (g_make {P = Any} (g_token (λ t s h. tt)) (λ x h. tt)) (λ x h. h)))
+given_cases seen symbols.Requirements = g_after (g_make {P = IsNamedGiven} (g_make requirements (λ x h. tt)) (λ x h. h))
+given_cases seen symbols.Objects = g_after (g_make {P = IsNamedGiven} (g_make objects (λ x h. h)) (λ x h. h))
+given_cases seen symbols.Init = of_once (has_stood is_init seen) (g_after (g_make {P = IsNamedGiven} (g_make (g_many (g_within {n = n_item})) (λ x h. h)) (λ x h. h)))
+given_cases seen symbols.Goal = of_once (has_stood is_goal seen) (g_after (g_make {P = IsNamedGiven} (g_make (g_within {n = n_goal}) (λ x h. h)) (λ x h. h)))
 given_cases seen _ = g_nothing
-
-its_objects : (x : Given Word) → OfGiven x → AllByRecursion IsNamed (given_objects x)
-its_objects (Given.objects xs) h = h
-its_objects _ h = tt
-
-its_items : (x : Given Word) → OfGiven x → AllByRecursion IsNamedItem (given_items x)
-its_items (Given.init is) h = h
-its_items _ h = tt
-
-its_goal : (xs : List (Given Word)) → AllByRecursion OfGiven xs → IsNamedCond (goal_of xs)
-its_goal [] h = tt
-its_goal (Given.goal g ∷ xs) h = h.0
-its_goal (Given.of_domain ∷ xs) h = its_goal xs h.1
-its_goal (Given.requires ∷ xs) h = its_goal xs h.1
-its_goal (Given.objects os ∷ xs) h = its_goal xs h.1
-its_goal (Given.init is ∷ xs) h = its_goal xs h.1
 
 problems : Gives _ _ problem IsNamedProblem
 problems =
-    g_bracket (g_after (g_make (g_both (titles is_problem) (g_run {P = OfGiven} (λ seen. g_bracket (g_choose (given_cases seen)))))
-    (λ x h. record {
-      objects = each_flat_map given_objects OfGiven IsNamed its_objects x.1 h.1;
-      init = each_flat_map given_items OfGiven IsNamedItem its_items x.1 h.1;
-      goal = its_goal x.1 h.1;
-    })))
+    g_bracket (g_after (g_make (g_both (titles is_problem) (g_run {P = IsNamedGiven} (λ seen. g_bracket (g_choose (given_cases seen)))))
+    (λ x h. let all = of_givens IsNamed IsNamedItem IsNamedCond tt x.1 h.1 in record { objects = all.0; init = all.1; goal = all.2 })))
 
 -- ---- the laws
 

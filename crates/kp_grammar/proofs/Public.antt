@@ -20,6 +20,8 @@ pub use Rattle.kp_grammar.proofs.Computed.{outcome as computed_outcome}
 pub use Rattle.kp_grammar.proofs.KindTests.{name_passes, own_kind as own_kind_passes, other_kind as other_kind_fails}
 -- ---- The brackets of tokens as the cutting counts them and as the grammar does.
 pub use Rattle.kp_grammar.proofs.Nesting.{Kept, kept}
+-- ---- What holds of each part of each section of a file holds of each part of its tree.
+pub use Rattle.kp_grammar.proofs.SectionWalk.{OfSection, of_sections, OfGiven, of_givens}
 -- ---- What each form of the grammar gives: trees whose names are names.
 pub use Rattle.kp_grammar.proofs.NamedTrees.{domains_named, problems_named}
 -- ---- examples that others go on from

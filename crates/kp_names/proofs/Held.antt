@@ -3,11 +3,12 @@ use Rattle.std.proofs.Common.{Bool, List, [], ◌∷◌, map}
 use Rattle.std.specs.List.{AllByRecursion}
 use Rattle.kp_base.proofs.Lists.{each_flat_map}
 use Rattle.kp_grammar.specs.declared.tree.Word.{Word}
-use Rattle.kp_grammar.specs.Trees.{Typed, Term, Atom, Cond, Conds, conds_of, Eff, Effs, effs_of, Lit, Item, Items, items_of, Pred, Schema, Domain, Problem, Section, section_types, section_constants, section_predicates, section_schemas, Given, given_objects, given_items, goal_of}
+use Rattle.kp_grammar.specs.Trees.{Typed, Term, Atom, Cond, Conds, conds_of, Eff, Effs, effs_of, Lit, Item, Items, items_of, Pred, Schema, Domain, Problem}
 use Rattle.kp_grammar.specs.Symbols.{Tok}
 use Rattle.kp_grammar.specs.Sorts.{Sort, s_none, s_word, s_pair, s_list, s_typed, s_term, s_atom, s_cond, s_eff, s_lit, s_item, s_pred, s_schema, s_section, s_domain, s_seen, s_given, s_problem, El, with_kinds, Maker, m_word, m_drop, m_name, m_variable, m_atom, m_untyped, m_kind, m_kinds, m_typed, m_joined, m_all, m_true, m_holds, m_same, m_both, m_idle, m_when, m_each, m_makes, m_lit, m_items, m_fact, m_one_of, m_any_of, m_unknown, m_pred, m_no_params, m_schema, m_requires, m_types, m_constants, m_predicates, m_action, m_domain, m_of_domain, m_needs, m_objects, m_init, m_goal, m_saw, m_problem, apply}
 use Rattle.kp_grammar.specs.Forms.{Form}
 use Rattle.kp_grammar.specs.Reading.{ReadBy, r_token, r_none, r_both, r_after, r_end, r_more, r_last, r_next, r_absent, r_present, r_make, r_choice, r_loose, r_bracket, r_within}
+use Rattle.kp_grammar.proofs.Public.{OfSection, of_sections, OfGiven, of_givens}
 
 -- ---- lists
 
@@ -76,20 +77,6 @@ module _ (P : Word → Type 0) where
   abbrev pub OfProblem : Problem Word → Type 0
   OfProblem p = AllByRecursion OfTyped p.objects × AllByRecursion OfItem p.init × OfCond p.goal
 
-  abbrev OfSection : Section Word → Type 0
-  OfSection Section.requires = Unit {0}
-  OfSection (Section.types xs) = AllByRecursion OfTyped xs
-  OfSection (Section.constants xs) = AllByRecursion OfTyped xs
-  OfSection (Section.predicates qs) = AllByRecursion OfPred qs
-  OfSection (Section.action a) = OfSchema a
-
-  abbrev OfGiven : Given Word → Type 0
-  OfGiven Given.of_domain = Unit {0}
-  OfGiven Given.requires = Unit {0}
-  OfGiven (Given.objects xs) = AllByRecursion OfTyped xs
-  OfGiven (Given.init is) = AllByRecursion OfItem is
-  OfGiven (Given.goal g) = OfCond g
-
   -- each word of a value of this sort has it
   abbrev pub Of : (c : Sort) → El Word c → Type 0
   Of s_none x = Unit {0}
@@ -105,10 +92,10 @@ module _ (P : Word → Type 0) where
   Of s_item x = OfItem x
   Of s_pred x = OfPred x
   Of s_schema x = OfSchema x
-  Of s_section x = OfSection x
+  Of s_section x = OfSection OfTyped OfPred OfSchema x
   Of s_domain x = OfDomain x
   Of s_seen x = Unit {0}
-  Of s_given x = OfGiven x
+  Of s_given x = OfGiven OfTyped OfItem OfCond x
   Of s_problem x = OfProblem x
 
   -- ---- what is made keeps the words
@@ -128,38 +115,6 @@ module _ (P : Word → Type 0) where
   items_held : (is : List (Item Word)) → AllByRecursion OfItem is → OfItems (items_of is)
   items_held [] h = tt
   items_held (i ∷ is) h = (h.0, items_held is h.1)
-
-  types_held : (x : Section Word) → OfSection x → AllByRecursion OfTyped (section_types x)
-  types_held (Section.types xs) h = h
-  types_held _ h = tt
-
-  constants_held : (x : Section Word) → OfSection x → AllByRecursion OfTyped (section_constants x)
-  constants_held (Section.constants xs) h = h
-  constants_held _ h = tt
-
-  predicates_held : (x : Section Word) → OfSection x → AllByRecursion OfPred (section_predicates x)
-  predicates_held (Section.predicates qs) h = h
-  predicates_held _ h = tt
-
-  schemas_held : (x : Section Word) → OfSection x → AllByRecursion OfSchema (section_schemas x)
-  schemas_held (Section.action a) h = (h, tt)
-  schemas_held _ h = tt
-
-  objects_held : (x : Given Word) → OfGiven x → AllByRecursion OfTyped (given_objects x)
-  objects_held (Given.objects xs) h = h
-  objects_held _ h = tt
-
-  init_held : (x : Given Word) → OfGiven x → AllByRecursion OfItem (given_items x)
-  init_held (Given.init is) h = h
-  init_held _ h = tt
-
-  goal_held : (xs : List (Given Word)) → AllByRecursion OfGiven xs → OfCond (goal_of xs)
-  goal_held [] h = tt
-  goal_held (Given.goal g ∷ xs) h = h.0
-  goal_held (Given.of_domain ∷ xs) h = goal_held xs h.1
-  goal_held (Given.requires ∷ xs) h = goal_held xs h.1
-  goal_held (Given.objects os ∷ xs) h = goal_held xs h.1
-  goal_held (Given.init is ∷ xs) h = goal_held xs h.1
 
   made : {a b : Sort} (m : Maker a b) (x : El Word a) → Of a x → Of b (apply Word m x)
   made m_word x h = h
@@ -195,23 +150,14 @@ module _ (P : Word → Type 0) where
   made m_constants x h = h
   made m_predicates x h = h
   made m_action x h = h
-  made m_domain x h = (
-    each_flat_map section_types OfSection OfTyped types_held x.1 h.1,
-    each_flat_map section_constants OfSection OfTyped constants_held x.1 h.1,
-    each_flat_map section_predicates OfSection OfPred predicates_held x.1 h.1,
-    each_flat_map section_schemas OfSection OfSchema schemas_held x.1 h.1,
-  )
+  made m_domain x h = of_sections OfTyped OfPred OfSchema x.1 h.1
   made m_of_domain x h = tt
   made m_needs x h = tt
   made m_objects x h = h
   made m_init x h = h
   made m_goal x h = h
   made (m_saw s) x h = (tt, h)
-  made m_problem x h = (
-    each_flat_map given_objects OfGiven OfTyped objects_held x.1 h.1,
-    each_flat_map given_items OfGiven OfItem init_held x.1 h.1,
-    goal_held x.1 h.1,
-  )
+  made m_problem x h = of_givens OfTyped OfItem OfCond tt x.1 h.1
 
   -- ---- what is read
 

@@ -81,42 +81,6 @@ fn lits<'a>(
     Ok((into_bump_slice(parts), at))
 }
 
-// The literals behind the word `oneof`.
-#[tactic(auto, unfolding(crate::specs::Readers::item_inside_at, crate::specs::Readers::lits_at))]
-fn one_of<'a>(
-    bump: &'a Bump,
-    tokens: &Tokens<'_, 'a>,
-    start: usize,
-    levels: u32,
-    word: &Lexeme<'a>,
-) -> Result<(ItemNode<'a>, usize), Halt>
-    requires within { start ≤ length tokens.now }
-    requires symbol { word.now.symbol ≡ symbols.OneOf }
-    ensures reads { Gives tokens.now item_view result (item_inside_at levels (tok word.now ∷ from tokens.now start)) }
-    ensures onward { IfOk result (λ x. (start ≤ x.1) × (x.1 ≤ length tokens.now)) }
-{
-    let (lits, at) = lits(bump, tokens, start, levels)?;
-    Ok((ItemNode::OneOf(word_node(word), lits), at))
-}
-
-// The literals behind the word `or`.
-#[tactic(auto, unfolding(crate::specs::Readers::item_inside_at, crate::specs::Readers::lits_at))]
-fn any_of<'a>(
-    bump: &'a Bump,
-    tokens: &Tokens<'_, 'a>,
-    start: usize,
-    levels: u32,
-    word: &Lexeme<'a>,
-) -> Result<(ItemNode<'a>, usize), Halt>
-    requires within { start ≤ length tokens.now }
-    requires symbol { word.now.symbol ≡ symbols.Or }
-    ensures reads { Gives tokens.now item_view result (item_inside_at levels (tok word.now ∷ from tokens.now start)) }
-    ensures onward { IfOk result (λ x. (start ≤ x.1) × (x.1 ≤ length tokens.now)) }
-{
-    let (lits, at) = lits(bump, tokens, start, levels)?;
-    Ok((ItemNode::AnyOf(word_node(word), lits), at))
-}
-
 // The atom behind the word `unknown`.
 #[tactic(auto, unfolding(crate::specs::Readers::item_inside_at, crate::specs::Readers::atom_at))]
 fn unknown<'a>(
@@ -154,7 +118,7 @@ fn item<'a>(
 
 // What stands between its brackets.
 #[cycle(item)]
-#[tactic(auto, unfolding(crate::specs::Readers::item_inside_at, crate::specs::Readers::all_at, crate::specs::Readers::atom_at))]
+#[tactic(auto, unfolding(crate::specs::Readers::item_inside_at, crate::specs::Readers::all_at, crate::specs::Readers::lits_at, crate::specs::Readers::atom_at))]
 fn inside<'a>(
     bump: &'a Bump,
     tokens: &Tokens<'_, 'a>,
@@ -173,8 +137,14 @@ fn inside<'a>(
             let (atom, at) = atom(bump, tokens, at + 1, levels, Class::Name)?;
             Ok((ItemNode::Lit(false, atom), at))
         }
-        Symbol::OneOf => one_of(bump, tokens, at + 1, levels, &first),
-        Symbol::Or => any_of(bump, tokens, at + 1, levels, &first),
+        Symbol::OneOf => {
+            let (lits, at) = lits(bump, tokens, at + 1, levels)?;
+            Ok((ItemNode::OneOf(word_node(&first), lits), at))
+        }
+        Symbol::Or => {
+            let (lits, at) = lits(bump, tokens, at + 1, levels)?;
+            Ok((ItemNode::AnyOf(word_node(&first), lits), at))
+        }
         Symbol::Unknown => unknown(bump, tokens, at + 1, levels, &first),
         Symbol::Forall | Symbol::Equal => Err(Halt::Unsupported(at)),
         _ => {

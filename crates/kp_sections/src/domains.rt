@@ -10,7 +10,8 @@ use bumpalo::Bump;
 use kp_grammar::Symbol;
 use kp_nodes::DomainNode;
 use kp_parts::{
-    Class, Halt, Lead, Tokens, begins, close, follow, is_left, peek, skip_keywords, title, typed,
+    Class, Halt, Lead, Tokens, begins, close, follow, is_left, open, peek, skip_keywords, title,
+    typed,
 };
 use kp_stated::{Declared, DomainPart, as_domain, keep_section};
 
@@ -71,10 +72,8 @@ fn section<'a>(
     ensures reads { Gives tokens.now section_view result (section_at levels (from tokens.now at)) }
     ensures onward { IfOk result (λ x. (at < x.1) × (x.1 ≤ length tokens.now)) }
 {
-    if levels == 0 || !is_left(tokens, at) {
-        return Err(Halt::Syntax(at));
-    }
-    let (part, at) = section_inside(bump, tokens, at + 1, levels - 1)?;
+    let (at, levels) = open(tokens, at, levels)?;
+    let (part, at) = section_inside(bump, tokens, at, levels)?;
     let at = close(tokens, at)?;
     Ok((part, at))
 }
@@ -147,10 +146,8 @@ pub fn domain<'a>(
     ensures reads { Gives tokens.now domain_view result (domain_at levels (from tokens.now at)) }
     ensures onward { IfOk result (λ x. (at < x.1) × (x.1 ≤ length tokens.now)) }
 {
-    if levels == 0 || !is_left(tokens, at) {
-        return Err(Halt::Syntax(at));
-    }
-    let (domain, at) = domain_inside(bump, tokens, at + 1, levels - 1)?;
+    let (at, levels) = open(tokens, at, levels)?;
+    let (domain, at) = domain_inside(bump, tokens, at, levels)?;
     let at = close(tokens, at)?;
     Ok((domain, at))
 }

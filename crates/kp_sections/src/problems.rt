@@ -11,8 +11,8 @@ use kp_base::Memory;
 use kp_grammar::Symbol;
 use kp_nodes::ProblemNode;
 use kp_parts::{
-    Class, Halt, Lead, Role, Tokens, close, cond, follow, is_left, items, peek, skip_keywords,
-    skip_name, title, typed,
+    Class, Halt, Lead, Role, Tokens, close, cond, follow, is_left, items, open, peek,
+    skip_keywords, skip_name, title, typed,
 };
 use kp_stated::{Once, ProblemPart, Stated, as_problem, has_stood, keep_given, note};
 use std::alloc::Global;
@@ -79,10 +79,8 @@ fn given<'a>(
     ensures reads { Gives tokens.now (λ g. (seen_after g seen.now, given_view g)) result (given_at seen.now levels (from tokens.now at)) }
     ensures onward { IfOk result (λ x. (at < x.1) × (x.1 ≤ length tokens.now)) }
 {
-    if levels == 0 || !is_left(tokens, at) {
-        return Err(Halt::Syntax(at));
-    }
-    let (part, at) = given_inside(bump, tokens, at + 1, levels - 1, seen)?;
+    let (at, levels) = open(tokens, at, levels)?;
+    let (part, at) = given_inside(bump, tokens, at, levels, seen)?;
     let at = close(tokens, at)?;
     Ok((part, at))
 }
@@ -165,10 +163,8 @@ pub fn problem<'a>(
     ensures reads { Gives tokens.now problem_view result (problem_at levels (from tokens.now at)) }
     ensures onward { IfOk result (λ x. (at < x.1) × (x.1 ≤ length tokens.now)) }
 {
-    if levels == 0 || !is_left(tokens, at) {
-        return Err(Halt::Syntax(at));
-    }
-    let (problem, at) = problem_inside(bump, alloc, tokens, at + 1, levels - 1)?;
+    let (at, levels) = open(tokens, at, levels)?;
+    let (problem, at) = problem_inside(bump, alloc, tokens, at, levels)?;
     let at = close(tokens, at)?;
     Ok((problem, at))
 }

@@ -8,7 +8,7 @@ use bumpalo::collections::into_bump_slice;
 use kp_grammar::Symbol;
 use kp_nodes::{CondNode, EffNode, PredNode, SchemaNode, TypedNode};
 use kp_parts::{
-    Class, Halt, Role, Tokens, add, close, cond, eff, is_left, no_condition, no_effect, peek,
+    Class, Halt, Role, Tokens, add, close, cond, eff, is_left, no_condition, no_effect, open, peek,
     typed, variables, word,
 };
 
@@ -40,10 +40,8 @@ fn pred<'a>(
     ensures reads { Gives tokens.now pred_view result (pred_at levels (from tokens.now at)) }
     ensures onward { IfOk result (λ x. (at < x.1) × (x.1 ≤ length tokens.now)) }
 {
-    if levels == 0 || !is_left(tokens, at) {
-        return Err(Halt::Syntax(at));
-    }
-    let (pred, at) = pred_inside(bump, tokens, at + 1, levels - 1)?;
+    let (at, levels) = open(tokens, at, levels)?;
+    let (pred, at) = pred_inside(bump, tokens, at, levels)?;
     let at = close(tokens, at)?;
     Ok((pred, at))
 }
