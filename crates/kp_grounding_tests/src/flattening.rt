@@ -3,7 +3,7 @@ ghost use Rattle.kp_names.specs.View.{lifted_view};
 
 use crate::reading::{numbers, resolved};
 use bumpalo::Bump;
-use kp_base::{Row, Stop};
+use kp_base::{Memory, Row, Stop};
 use kp_bound::{Flattener, bind, flatten};
 use kp_grounding::Flat;
 use kp_kept::Statics;
@@ -33,14 +33,22 @@ fn tells(flat: &Flat, wanted: &[(usize, bool, u32, u32)]) -> bool {
         })
 }
 
+// The flat form of the move with these objects, by a table.
+fn flat_by(alloc: Global, statics: &Statics, objects: &Row<u32>) -> Result<Flat, Memory>
+    requires { 0 < length (lifted_view statics.now).schemas }
+{
+    let mut flattener = Flattener::new(alloc, statics);
+    let flat = flattener.flat(alloc, 0, objects);
+    drop(flattener);
+    flat
+}
+
 // The flat form of the move with these objects.
 fn flat_move(alloc: Global, lifted: &Lifted, objects: &Row<u32>) -> Result<Flat, Stop>
     requires { 0 < length (lifted_view lifted.now).schemas }
 {
     let statics = Statics::of(alloc, lifted)?;
-    let mut flattener = Flattener::new(alloc, &statics);
-    let flat = flattener.flat(alloc, 0, objects);
-    drop(flattener);
+    let flat = flat_by(alloc, &statics, objects);
     drop(statics);
     Ok(flat?)
 }

@@ -5,14 +5,15 @@ use kp_ground::ground;
 use kp_init::initial;
 use kp_primes::{Primes, is_of_atoms};
 use std::alloc::Global;
-use std::test::Fail;
 
 // The initial formula of two short texts, where they have one.
 fn formula_of(alloc: Global, domain: &str, problem: &str) -> Result<Initial, Stop> {
     let lifted = resolved(alloc, domain, problem)?;
     let ground = ground(alloc, &lifted, &Limits::usual())?;
-    let formula = initial(alloc, &lifted, &ground)?;
-    Ok(formula)
+    let formula = initial(alloc, &lifted, &ground);
+    drop(ground);
+    drop(lifted);
+    Ok(formula?)
 }
 
 // The set of these atoms, each with its sign.
@@ -27,13 +28,25 @@ fn set_of(alloc: Global, lits: &[(u32, bool)]) -> Result<LitSet, Memory> {
     Ok(set)
 }
 
+fn sets_of(alloc: Global, sets: &[&[(u32, bool)]]) -> Result<Row<LitSet>, Memory> {
+    let mut row = Row::new(alloc);
+    for lits in sets {
+        row.push(set_of(alloc, lits)?)?;
+    }
+    Ok(row)
+}
+
 // Some of three atoms holds, and then for each two of them, that they don't both hold; none is closed.
 fn one_of_three(alloc: Global) -> Result<Initial, Memory> {
-    let mut clauses = Row::new(alloc);
-    clauses.push(set_of(alloc, &[(0, true), (1, true), (2, true)])?)?;
-    clauses.push(set_of(alloc, &[(0, false), (1, false)])?)?;
-    clauses.push(set_of(alloc, &[(0, false), (2, false)])?)?;
-    clauses.push(set_of(alloc, &[(1, false), (2, false)])?)?;
+    let clauses = sets_of(
+        alloc,
+        &[
+            &[(0, true), (1, true), (2, true)],
+            &[(0, false), (1, false)],
+            &[(0, false), (2, false)],
+            &[(1, false), (2, false)],
+        ],
+    )?;
     Ok(Initial {
         clauses,
         closed: Row::new(alloc),
@@ -78,18 +91,18 @@ fn closes_cells(alloc: Global, formula: &Initial) -> Result<bool, Stop> {
     Ok(first? && two?)
 }
 
+// Whether it is the formula of just one full cell.
+fn is_of_cells(alloc: Global, formula: &Initial) -> bool {
+    matches!(is_one_of_three(alloc, formula), Ok(true))
+        && matches!(closes_cells(alloc, formula), Ok(true))
+}
+
 // Three cells of which one is full.
 #[test]
-fn one_full_cell(rt: HostRuntime) -> Result<(), Fail> {
+fn one_full_cell(rt: HostRuntime) {
     let alloc = rt.alloc();
-    let Ok(formula) = formula_of(alloc, CELLS, ONE_IS_FULL) else {
-        assert!(rt; false, "the files have no initial formula");
-        return Ok(());
-    };
-    let is_wanted = is_one_of_three(alloc, &formula);
-    let closes = closes_cells(alloc, &formula);
+    let formula = formula_of(alloc, CELLS, ONE_IS_FULL);
+    let is_of_cells = matches!(&formula, Ok(formula) if is_of_cells(alloc, formula));
     drop(formula);
-    assert!(rt; is_wanted?);
-    assert!(rt; matches!(closes, Ok(true)));
-    Ok(())
+    assert!(rt; is_of_cells);
 }

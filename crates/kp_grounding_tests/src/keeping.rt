@@ -69,8 +69,9 @@ fn idle(alloc: Global) -> Result<Lifted, Memory> {
 // How many instances there are within limits.
 fn kept_within(alloc: Global, lifted: &Lifted, limits: &Limits) -> Result<usize, Stop> {
     let statics = Statics::of(alloc, lifted)?;
-    let kept = kept_instances(alloc, &statics, limits)?;
-    Ok(kept.len())
+    let kept = kept_instances(alloc, &statics, limits);
+    drop(statics);
+    Ok(kept?.len())
 }
 
 fn idle_within(alloc: Global, bindings: u64, actions: u32, weight: u64) -> Result<usize, Stop> {

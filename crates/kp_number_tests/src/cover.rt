@@ -153,16 +153,22 @@ fn judges_a_line_of_thirty_cells(rt: HostRuntime) -> Result<(), Fail> {
     Ok(())
 }
 
+// One tag more, of two literals.
+fn add_tag(alloc: Global, row: &mut Row<LitSet>, lits: [Sign; 2]) -> Result<(), Memory> {
+    row.push(set(alloc, &lits)?)?;
+    Ok(())
+}
+
 // For each of twenty pairs of atoms that both are true, and that neither is; and that the first atom of a pair is true
 // with the second of one of the next three pairs.
 fn pair_tags(alloc: Global) -> Result<Row<LitSet>, Memory> {
     let mut row = Row::new(alloc);
     for j in 0..20 {
-        row.push(set(alloc, &[(2 * j, true), (2 * j + 1, true)])?)?;
-        row.push(set(alloc, &[(2 * j, false), (2 * j + 1, false)])?)?;
+        add_tag(alloc, &mut row, [(2 * j, true), (2 * j + 1, true)])?;
+        add_tag(alloc, &mut row, [(2 * j, false), (2 * j + 1, false)])?;
         for d in 1..4 {
             let other = (j + d) % 20;
-            row.push(set(alloc, &[(2 * j, true), (2 * other + 1, true)])?)?;
+            add_tag(alloc, &mut row, [(2 * j, true), (2 * other + 1, true)])?;
         }
     }
     Ok(row)
