@@ -1,5 +1,5 @@
 -- A table of names with the objects of another: what is found in it, and what comes of one more entry.
-use Rattle.std.proofs.Common.{◌≡◌, ℕ, Bool, true, false, if◌then◌else◌, cond, List, [], ◌∷◌, map, Option, Some, None, unwrap_or, refl, sym, ap, ◌∙◌, true≢false}
+use Rattle.std.proofs.Common.{◌≡◌, Bool, true, false, if◌then◌else◌, cond, List, [], ◌∷◌, map, Option, Some, None, unwrap_or, refl, sym, ap, ◌∙◌, true≢false}
 use Rattle.std.specs.Map.{lookup}
 use Rattle.std.specs.Option.{option_map}
 use Rattle.indexmap.specs.IndexMap.{insert_entry}
@@ -64,7 +64,7 @@ found_then n (e ∷ es) k v = by (same k e.0) refl (found_then n es k v)
 
 -- ---- what is the same for both names of an entry
 
-module _ (f : Name → List ℕ) (es : List (Name × Name)) where
+module _ (f : Name → Bool) (es : List (Name × Name)) where
   -- one more entry for whose names it is the same
   pub alike_more : AreAlike f es → (k v : Name) → f k ≡ f v → AreAlike f (insert_entry same es k v)
   alike_more h k v e = record { each = λ n c is. by n c (same n k) refl (sym (found_then n es k v) ∙ is) }

@@ -4,3 +4,4 @@ pub mod WholeProblem
 pub mod AlikeTable
 pub mod NotedTypes
 pub mod SameObjects
+pub mod SameRanges

@@ -1,15 +1,16 @@
-ghost use Rattle.std.specs.Prelude.{◌≡◌, ◌∷◌, [], ℕ, List, fold, flat_map, map, option_map, IfOk, IfSome, OnOk, OnErr};
+ghost use Rattle.std.specs.Prelude.{◌≡◌, [], Bool, fold, flat_map, map, option_map, IfOk, IfSome, OnOk, OnErr};
 ghost use Rattle.std.specs.Map.{lookup};
 ghost use Rattle.indexmap.specs.IndexMap.{insert_entry};
 ghost use Rattle.kp_grammar.specs.View.{typed_view, domain_view, problem_view};
 ghost use Rattle.kp_meaning.specs.Names.{Name, same};
-ghost use Rattle.kp_tables.specs.Steps.{range_of};
-ghost use Rattle.kp_lifted.specs.Alike.{led, noted, downward, marking, all_noted, AreAlike};
+ghost use Rattle.kp_meaning.specs.Types.{is_of_type};
+ghost use Rattle.kp_tables.specs.Steps.{HoldTypes};
+ghost use Rattle.kp_lifted.specs.Alike.{led, noted, down, downward, marking, all_noted, AreAlike};
 
 use indexmap::IndexMap;
 use kp_base::Memory;
 use kp_grammar::{Domain, Problem, Typed};
-use kp_tables::OBJECT;
+use kp_tables::{NameSet, OBJECT};
 use std::alloc::Global;
 use std::marker::Model;
 
@@ -37,7 +38,7 @@ fn led<'a>(old: Option<&'a [u8]>, kind: &'a [u8], name: &'a [u8]) -> &'a [u8]
     }
 }
 
-// How the table is made: a type under which one type stands, and no object of its own, leads to that type.
+// How the table is made: a type under which one type with objects stands, and no object of its own, leads to that type.
 impl<'a> Alike<'a> {
     fn new(alloc: Global) -> Alike<'a>
         ensures { result ≡ [] }
@@ -70,7 +71,7 @@ impl<'a> Alike<'a> {
 
     // Notes each type of a line with the type under it.
     fn note_line(&mut self, line: &'a Typed) -> Result<(), Memory>
-        ensures { OnOk result (self.new ≡ fold noted self.old (downward (typed_view line.now))) }
+        ensures { OnOk result (self.new ≡ fold noted self.old (down (typed_view line.now))) }
     {
         for kind in line.kinds.slice() {
             self.note(kind.text.slice(), line.word.text.slice())?;
@@ -78,11 +79,21 @@ impl<'a> Alike<'a> {
         Ok(())
     }
 
-    fn note_lines(&mut self, lines: &'a [Typed]) -> Result<(), Memory>
-        ensures { OnOk result (self.new ≡ fold noted self.old (flat_map downward (map typed_view lines.now))) }
+    // The same, where the type under it may have objects.
+    fn note_inhabited(&mut self, inhabited: &NameSet, line: &'a Typed) -> Result<(), Memory>
+        ensures { OnOk result (self.new ≡ fold noted self.old (downward inhabited.now (typed_view line.now))) }
+    {
+        if inhabited.has(line.word.text.slice()) {
+            self.note_line(line)?;
+        }
+        Ok(())
+    }
+
+    fn note_lines(&mut self, inhabited: &NameSet, lines: &'a [Typed]) -> Result<(), Memory>
+        ensures { OnOk result (self.new ≡ fold noted self.old (flat_map (downward inhabited.now) (map typed_view lines.now))) }
     {
         for line in lines {
-            self.note_line(line)?;
+            self.note_inhabited(inhabited, line)?;
         }
         Ok(())
     }
@@ -106,23 +117,35 @@ impl<'a> Alike<'a> {
         Ok(())
     }
 
-    // Notes the types of two trees: `object` and those of objects with themselves, and all with those under them.
-    fn note_all(&mut self, domain: &'a Domain, problem: &'a Problem) -> Result<(), Memory>
-        ensures { OnOk result (self.new ≡ fold noted self.old (all_noted (domain_view domain.now) (problem_view problem.now))) }
+    // Notes the types of two trees: `object` and those of objects with themselves, and all with those under them that
+    // may have objects.
+    fn note_all(
+        &mut self,
+        inhabited: &NameSet,
+        domain: &'a Domain,
+        problem: &'a Problem,
+    ) -> Result<(), Memory>
+        ensures { OnOk result (self.new ≡ fold noted self.old (all_noted inhabited.now (domain_view domain.now) (problem_view problem.now))) }
     {
         self.note(OBJECT, OBJECT)?;
-        self.note_lines(domain.kinds.slice())?;
+        self.note_lines(inhabited, domain.kinds.slice())?;
         self.mark_lines(domain.constants.slice())?;
         self.mark_lines(problem.objects.slice())?;
         Ok(())
     }
 
-    /// The types of two trees that have the objects of another.
-    pub fn of(alloc: Global, domain: &'a Domain, problem: &'a Problem) -> Result<Alike<'a>, Memory>
-        ensures { IfOk result (λ a. AreAlike (λ t. range_of (domain_view domain.now) (problem_view problem.now) (t ∷ [])) a) }
+    /// The types of two trees that have the objects of another, given those that may have objects.
+    pub fn of(
+        alloc: Global,
+        inhabited: &NameSet,
+        domain: &'a Domain,
+        problem: &'a Problem,
+    ) -> Result<Alike<'a>, Memory>
+        requires { HoldTypes (domain_view domain.now) (problem_view problem.now) inhabited.now }
+        ensures { (o : Name) → IfOk result (λ a. AreAlike (is_of_type (domain_view domain.now) (problem_view problem.now) o) a) }
     {
         let mut alike = Alike::new(alloc);
-        let Ok(()) = alike.note_all(domain, problem) else {
+        let Ok(()) = alike.note_all(inhabited, domain, problem) else {
             drop(alike);
             return Err(Memory);
         };
@@ -134,8 +157,8 @@ impl<'a> Alike<'a> {
 impl<'a> Alike<'a> {
     // Two steps on from a type, if it leads on; it leads there from now on.
     fn step(&mut self, name: &'a [u8]) -> Result<Option<&'a [u8]>, Memory>
-        ensures kept { (f : Name → List ℕ) → AreAlike f self.old → AreAlike f self.new }
-        ensures alike { (f : Name → List ℕ) → AreAlike f self.old → IfOk result (λ o. IfSome o (λ n. f name.now ≡ f n.now)) }
+        ensures kept { (f : Name → Bool) → AreAlike f self.old → AreAlike f self.new }
+        ensures alike { (f : Name → Bool) → AreAlike f self.old → IfOk result (λ o. IfSome o (λ n. f name.now ≡ f n.now)) }
     {
         match self.get(name) {
             Some(next) if next != name => {
@@ -150,8 +173,8 @@ impl<'a> Alike<'a> {
     // The last type on the way from this one. Each step makes a way round shorter, so that one has an end too; it takes
     // no more steps than there are types that lead on.
     fn walked(&mut self, name: &'a [u8]) -> Result<&'a [u8], Memory>
-        ensures kept { (f : Name → List ℕ) → AreAlike f self.old → AreAlike f self.new }
-        ensures alike { (f : Name → List ℕ) → AreAlike f self.old → IfOk result (λ n. f name.now ≡ f n.now) }
+        ensures kept { (f : Name → Bool) → AreAlike f self.old → AreAlike f self.new }
+        ensures alike { (f : Name → Bool) → AreAlike f self.old → IfOk result (λ n. f name.now ≡ f n.now) }
     {
         let mut at = name;
         for _ in 0..self.leads.len() {
@@ -165,8 +188,8 @@ impl<'a> Alike<'a> {
 
     // Lets a type lead to the last one, and tells where it led before, if that was another.
     fn lead(&mut self, name: &'a [u8], last: &'a [u8]) -> Result<Option<&'a [u8]>, Memory>
-        ensures kept { (f : Name → List ℕ) → AreAlike f self.old → f name.now ≡ f last.now → AreAlike f self.new }
-        ensures alike { (f : Name → List ℕ) → AreAlike f self.old → IfOk result (λ o. IfSome o (λ n. f name.now ≡ f n.now)) }
+        ensures kept { (f : Name → Bool) → AreAlike f self.old → f name.now ≡ f last.now → AreAlike f self.new }
+        ensures alike { (f : Name → Bool) → AreAlike f self.old → IfOk result (λ o. IfSome o (λ n. f name.now ≡ f n.now)) }
     {
         match self.get(name) {
             Some(next) if next != last => {
@@ -179,7 +202,7 @@ impl<'a> Alike<'a> {
 
     // Lets the types that are met on the way lead to the last one.
     fn lead_all(&mut self, name: &'a [u8], last: &'a [u8]) -> Result<(), Memory>
-        ensures { (f : Name → List ℕ) → AreAlike f self.old → f name.now ≡ f last.now → AreAlike f self.new }
+        ensures { (f : Name → Bool) → AreAlike f self.old → f name.now ≡ f last.now → AreAlike f self.new }
     {
         let mut at = name;
         for _ in 0..self.leads.len() {
@@ -193,8 +216,8 @@ impl<'a> Alike<'a> {
 
     /// The type in whose place this one may stand. What was met on the way there leads to it from now on.
     pub fn last(&mut self, name: &'a [u8]) -> Result<&'a [u8], Memory>
-        ensures kept { (f : Name → List ℕ) → AreAlike f self.old → AreAlike f self.new }
-        ensures alike { (f : Name → List ℕ) → AreAlike f self.old → IfOk result (λ n. f name.now ≡ f n.now) }
+        ensures kept { (f : Name → Bool) → AreAlike f self.old → AreAlike f self.new }
+        ensures alike { (f : Name → Bool) → AreAlike f self.old → IfOk result (λ n. f name.now ≡ f n.now) }
     {
         let last = self.walked(name)?;
         self.lead_all(name, last)?;

@@ -1,16 +1,17 @@
-ghost use Rattle.std.specs.Prelude.{◌≡◌, ◌++◌, [], ◌∷◌, map, IfOk, OnOk};
+ghost use Rattle.std.specs.Prelude.{◌≡◌, ◌++◌, [], ◌∷◌, List, map, IfOk, IfSome, OnOk};
 ghost use Rattle.kp_grammar.specs.View.{typed_view, domain_view, problem_view};
-ghost use Rattle.kp_meaning.specs.Types.{names, or_object};
+ghost use Rattle.kp_meaning.specs.Names.{Name};
+ghost use Rattle.kp_meaning.specs.Types.{names, or_object, is_of_type};
 ghost use Rattle.kp_meaning.specs.Numbering.{numbered_range};
-ghost use Rattle.kp_tables.specs.Steps.{range_of};
-ghost use Rattle.kp_lifted.specs.Alike.{AreAlike};
+ghost use Rattle.kp_tables.specs.Steps.{range_of, HoldTypes};
+ghost use Rattle.kp_lifted.specs.Alike.{AreAlike, HaveSame};
 
 use crate::alike::Alike;
 use indexmap::IndexMap;
 use kp_base::{Memory, Row};
 use kp_grammar::{Typed, Word};
 use kp_meaning::Range;
-use kp_tables::{Names, OBJECT, below_type, below_types, objects_of};
+use kp_tables::{NameSet, Names, OBJECT, below_type, below_types, inhabited_types, objects_of};
 use std::alloc::Global;
 
 /// The numbers of names, and the objects of each type that was asked for, or of the type in whose place it may stand.
@@ -18,8 +19,10 @@ use std::alloc::Global;
 pub struct Ranges<'a> {
     /// The names.
     pub names: Names<'a>,
+    inhabited: NameSet<'a>,
+    ghost inhabited_right: { HoldTypes (domain_view names.domain) (problem_view names.problem) inhabited },
     alike: Alike<'a>,
-    ghost alike_right: { AreAlike (λ t. range_of (domain_view names.domain) (problem_view names.problem) (t ∷ [])) alike },
+    ghost alike_right: { (o : Name) → AreAlike (is_of_type (domain_view names.domain) (problem_view names.problem) o) alike },
     known: IndexMap<&'a [u8], Row<u32>>,
     ghost known_right: { map (λ e. e.1) known.entries ≡ map (λ e. range_of (domain_view names.domain) (problem_view names.problem) (e.0.now ∷ [])) known.entries },
 }
@@ -34,17 +37,42 @@ fn copied(alloc: Global, objects: &[u32]) -> Result<Row<u32>, Memory>
     Ok(row)
 }
 
+// The only name of some, where there is just one.
+fn only<'a>(names: &NameSet<'a>) -> Option<&'a [u8]>
+    ensures { IfSome result (λ n. names.now ≡ n.now ∷ []) }
+{
+    if names.len() == 1 { names.get(0) } else { None }
+}
+
 impl<'a> Ranges<'a> {
     /// No type was asked for yet.
     pub fn new(alloc: Global, names: Names<'a>) -> Result<Ranges<'a>, Memory>
         ensures { IfOk result (λ r. r.names ≡ names.entry) }
     {
-        let Ok(alike) = Alike::of(alloc, names.domain(), names.problem()) else {
+        let Ok(inhabited) = inhabited_types(alloc, names.domain(), names.problem()) else {
             drop(names);
+            return Err(Memory);
+        };
+        Ranges::with_inhabited(alloc, names, inhabited)
+    }
+
+    // The same, given the types that may have objects.
+    fn with_inhabited(
+        alloc: Global,
+        names: Names<'a>,
+        inhabited: NameSet<'a>,
+    ) -> Result<Ranges<'a>, Memory>
+        requires { HoldTypes (domain_view names.domain) (problem_view names.problem) inhabited }
+        ensures { IfOk result (λ r. r.names ≡ names.entry) }
+    {
+        let Ok(alike) = Alike::of(alloc, &inhabited, names.domain(), names.problem()) else {
+            drop(names);
+            drop(inhabited);
             return Err(Memory);
         };
         Ok(Ranges {
             names,
+            inhabited,
             alike,
             known: IndexMap::new(alloc),
         })
@@ -73,23 +101,65 @@ impl<'a> Ranges<'a> {
         Ok(copy)
     }
 
-    // The objects of a type, which are those of the last type on the way down from it.
+    // The objects of a type, which are those of the last type on the way down from it. Many types have none.
     fn of_type(&mut self, alloc: Global, name: &'a [u8]) -> Result<Row<u32>, Memory>
         ensures kept { self.new.names ≡ self.old.names }
         ensures row { IfOk result (λ row. row ≡ range_of (domain_view self.old.names.domain) (problem_view self.old.names.problem) (name.now ∷ [])) }
     {
+        if !self.inhabited.has(name) {
+            return Ok(Row::new(alloc));
+        }
         let last = self.alike.last(name)?;
         let row = self.kept(alloc, last)?;
         Ok(row)
     }
 
-    // The objects of one of several types.
-    fn of_types(&self, alloc: Global, words: &'a [Word]) -> Result<Row<u32>, Memory>
-        ensures { IfOk result (λ row. row ≡ range_of (domain_view self.now.names.domain) (problem_view self.now.names.problem) (names words.now)) }
+    // Adds the last type on the way down from one, if that may have objects.
+    fn add_last(&mut self, tops: &mut NameSet<'a>, name: &'a [u8]) -> Result<(), Memory>
+        ensures kept { self.new.names ≡ self.old.names }
+        ensures tops { (ts : List Name) → HaveSame (domain_view self.old.names.domain) (problem_view self.old.names.problem) tops.old ts → OnOk result (HaveSame (domain_view self.old.names.domain) (problem_view self.old.names.problem) tops.new (ts ++ name.now ∷ [])) }
     {
-        let below = below_types(alloc, &self.names, words)?;
+        if self.inhabited.has(name) {
+            let last = self.alike.last(name)?;
+            tops.insert(last)?;
+        }
+        Ok(())
+    }
+
+    // The last types on the ways down from some.
+    fn lasts(&mut self, alloc: Global, words: &'a [Word]) -> Result<NameSet<'a>, Memory>
+        ensures kept { self.new.names ≡ self.old.names }
+        ensures tops { IfOk result (λ tops. HaveSame (domain_view self.old.names.domain) (problem_view self.old.names.problem) tops (names words.now)) }
+    {
+        let mut tops = NameSet::new(alloc);
+        for word in words {
+            self.add_last(&mut tops, word.text.slice())?;
+        }
+        Ok(tops)
+    }
+
+    // The objects of one of several types.
+    fn of_tops(&mut self, alloc: Global, tops: NameSet<'a>) -> Result<Row<u32>, Memory>
+        ensures kept { self.new.names ≡ self.old.names }
+        ensures row { IfOk result (λ row. row ≡ range_of (domain_view self.old.names.domain) (problem_view self.old.names.problem) tops.entry) }
+    {
+        if let Some(name) = only(&tops) {
+            drop(tops);
+            return self.kept(alloc, name);
+        }
+        let below = below_types(&self.names, tops)?;
         let objects = objects_of(alloc, &self.names, &below)?;
         Ok(objects)
+    }
+
+    // The objects of one of several types, which are those of the last types on the ways down from them.
+    fn of_types(&mut self, alloc: Global, words: &'a [Word]) -> Result<Row<u32>, Memory>
+        ensures kept { self.new.names ≡ self.old.names }
+        ensures row { IfOk result (λ row. row ≡ range_of (domain_view self.old.names.domain) (problem_view self.old.names.problem) (names words.now)) }
+    {
+        let tops = self.lasts(alloc, words)?;
+        let row = self.of_tops(alloc, tops)?;
+        Ok(row)
     }
 
     // The objects of one of the types that are written behind a variable. Where none is, all objects are.

@@ -5,5 +5,6 @@ pub mod NumbersOfNames
 pub mod NamesUnderTypes
 pub mod TypesBelow
 pub mod ObjectsOfTypes
+pub mod InhabitedTypes
 pub mod InnermostVariables
 pub mod ChainsOfNames

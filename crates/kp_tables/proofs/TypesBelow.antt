@@ -13,7 +13,7 @@ use Rattle.kp_meaning.specs.Names.{Name, same, is_among, distinct}
 use Rattle.kp_meaning.specs.Types.{object, names, or_object, types_of, IsBelow, itself, root, parent, over, is_below}
 use Rattle.kp_meaning.proofs.Public.{member_is_among, type_test_is_exact}
 use Rattle.kp_tables.specs.Steps.{with_name, any_among, has_type, under, lines_under, IsClosing, AreBelow}
-use Rattle.kp_tables.proofs.Gathering.{gathers, among_gathered, among_all}
+use Rattle.kp_tables.proofs.Gathering.{gathers, among_gathered}
 use Rattle.kp_tables.proofs.NamesUnderTypes.{put_by, puts_it}
 
 -- the name is there, or `object` is
@@ -109,14 +109,14 @@ module _ (ps : List (Name × Name)) (old : List Name) where
 
 -- ---- together
 
-pub closed_below : (kinds : List (Typed Word)) (tops ns : List Name) → IsClosing (lines_under kinds) (fold with_name [] tops) (length ns) ns → AreBelow kinds tops ns
+pub closed_below : (kinds : List (Typed Word)) (tops ns : List Name) → IsClosing (lines_under kinds) tops (length ns) ns → AreBelow kinds tops ns
 closed_below kinds tops ns c = record { each = λ k. bool_same (reaches ns k) (list_any (is_below kinds k) tops) (there k) (back k) }
   where
     below : Name → Bool
     below k = list_any (is_below kinds k) tops
 
-    at_top : (x : Name) → is_among (fold with_name [] tops) x ≡ true → list_any (is_below kinds x) tops ≡ true
-    at_top x h = any_from (is_below kinds x) tops x (same_member same same-true tops x (sym (among_all tops x) ∙ h)) ((type_test_is_exact kinds x x).1 itself)
+    at_top : (x : Name) → is_among tops x ≡ true → list_any (is_below kinds x) tops ≡ true
+    at_top x h = any_from (is_below kinds x) tops x (same_member same same-true tops x h) ((type_test_is_exact kinds x x).1 itself)
 
     under_it : (k x : Name) → list_any (is_below kinds k) tops ≡ true → is_among (under (lines_under kinds) k) x ≡ true → list_any (is_below kinds x) tops ≡ true
     under_it k x h u =
@@ -154,4 +154,4 @@ closed_below kinds tops ns c = record { each = λ k. bool_same (reaches ns k) (l
     back : (k : Name) → list_any (is_below kinds k) tops ≡ true → reaches ns k ≡ true
     back k h =
         let t = any_member (is_below kinds k) tops h in
-        reached k t.0 ((type_test_is_exact kinds k t.0).0 t.2) (or_left (is_among ns t.0) (is_among ns object) (c.kept t.0 (among_all tops t.0 ∙ member_is_among tops t.0 t.1)))
+        reached k t.0 ((type_test_is_exact kinds k t.0).0 t.2) (or_left (is_among ns t.0) (is_among ns object) (c.kept t.0 (member_is_among tops t.0 t.1)))

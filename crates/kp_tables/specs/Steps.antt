@@ -1,4 +1,4 @@
--- What the loops of the numbering do, step by step. Beside proofs it serves the contracts that cite `range_of`, `with_name`.
+-- What the loops of the numbering do, step by step. Beside proofs it serves the contracts that cite `range_of`, `HoldTypes`, `with_name`.
 use Rattle.std.specs.Prelude.{◌≡◌, ◌<◌, ◌||◌, ℕ, Bool, true, List, [], ◌∷◌, ◌++◌, if◌then◌else◌, cond, fold, filter, map, take, unwrap_or, AllPairs}
 use Rattle.std.specs.List.{list_any}
 use Rattle.std.specs.Map.{lookup}
@@ -6,7 +6,7 @@ use Rattle.kp_grammar.specs.declared.tree.Word.{Word}
 use Rattle.kp_grammar.specs.Trees.{Typed, Domain, Problem}
 use Rattle.kp_base.specs.Lists.{Member}
 use Rattle.kp_meaning.specs.Names.{Name, same, is_among}
-use Rattle.kp_meaning.specs.Types.{object, objects, is_below, is_of_type}
+use Rattle.kp_meaning.specs.Types.{object, object_lines, objects, types_of, IsBelow, is_below, is_of_type}
 use Rattle.kp_meaning.specs.Numbering.{index_of, variable_number}
 
 -- ---- names
@@ -39,6 +39,14 @@ with_line_under ps x = fold (λ qs k. (k.text, x.word.text) ∷ qs) ps x.kinds
 abbrev pub lines_under : List (Typed Word) → List (Name × Name)
 lines_under xs = fold with_line_under [] xs
 
+-- pairs of a name and a type of it, with each type of a line over its name, the last first
+abbrev pub with_line_over : List (Name × Name) → Typed Word → List (Name × Name)
+with_line_over ps x = fold (λ qs k. (x.word.text, k.text) ∷ qs) ps x.kinds
+
+-- the same of all lines
+abbrev pub lines_over : List (Typed Word) → List (Name × Name)
+lines_over xs = fold with_line_over [] xs
+
 -- the names under a type
 abbrev pub under : List (Name × Name) → Name → List Name
 under [] k = []
@@ -51,6 +59,11 @@ pub record IsClosing (pairs : List (Name × Name)) (old : List Name) (at : ℕ) 
   pub sound : (q : Name → Bool) → ((x : Name) → is_among old x ≡ true → q x ≡ true) → ((k x : Name) → q k ≡ true → is_among (under pairs k) x ≡ true → q x ≡ true) → (x : Name) → is_among names x ≡ true → q x ≡ true
 
 -- ---- objects of types
+
+-- the names hold the types of all objects, and with a type all above it
+pub record HoldTypes (d : Domain Word) (p : Problem Word) (names : List Name) : Type 0 where
+  pub own : (x : Typed Word) (k : Name) → Member (object_lines d p) x → Member (types_of x) k → is_among names k ≡ true
+  pub above : (t u : Name) → IsBelow d.kinds t u → is_among names t ≡ true → is_among names u ≡ true
 
 -- the objects of one of the types, by number
 abbrev pub range_of : Domain Word → Problem Word → List Name → List ℕ

@@ -1,13 +1,11 @@
 ghost use Rattle.std.specs.Prelude.{◌≡◌, ◌+◌, ◌∷◌, [], length, IfOk, OnOk};
 ghost use Rattle.kp_grammar.specs.View.{domain_view};
-ghost use Rattle.kp_meaning.specs.Types.{names};
 ghost use Rattle.kp_tables.specs.Steps.{AreBelow, IsClosing};
 
 use crate::name_set::NameSet;
 use crate::tables::Names;
 use crate::under::Under;
 use kp_base::Memory;
-use kp_grammar::Word;
 use std::alloc::Global;
 
 /// The type above all others.
@@ -20,7 +18,7 @@ fn after(number: u32) -> Result<u32, Memory>
 }
 
 // Adds all names under these, those under them, and so on.
-fn close<'a>(lines: &Under<'a>, names: &mut NameSet<'a>) -> Result<(), Memory>
+pub(crate) fn close<'a>(lines: &Under<'a>, names: &mut NameSet<'a>) -> Result<(), Memory>
     ensures { OnOk result (IsClosing lines.now names.old (length names.new) names.new) }
 {
     let mut at = 0u32;
@@ -46,17 +44,10 @@ pub fn below_type<'a>(
 }
 
 /// The types below one of several.
-pub fn below_types<'a>(
-    alloc: Global,
-    known: &Names<'a>,
-    tops: &'a [Word],
-) -> Result<NameSet<'a>, Memory>
-    ensures { IfOk result (λ below. AreBelow (domain_view known.now.domain).kinds (names tops.now) below) }
+pub fn below_types<'a>(known: &Names<'a>, tops: NameSet<'a>) -> Result<NameSet<'a>, Memory>
+    ensures { IfOk result (λ below. AreBelow (domain_view known.now.domain).kinds tops.entry below) }
 {
-    let mut below = NameSet::new(alloc);
-    for top in tops {
-        below.insert(top.text.slice())?;
-    }
+    let mut below = tops;
     close(known.types_under(), &mut below)?;
     Ok(below)
 }

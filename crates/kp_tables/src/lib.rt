@@ -2,6 +2,7 @@
 #![tactic(auto)]
 
 mod below;
+mod inhabited;
 mod items;
 mod name_set;
 mod objects;
@@ -12,6 +13,7 @@ mod under;
 mod unsure;
 
 pub use below::{OBJECT, below_type, below_types};
+pub use inhabited::inhabited_types;
 pub use items::{goal_literals, initial_items};
 pub use name_set::NameSet;
 pub use objects::objects_of;

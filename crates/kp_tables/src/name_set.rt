@@ -63,7 +63,7 @@ impl<'a> NameSet<'a> {
     }
 
     /// The name of a number.
-    pub(crate) fn get(&self, number: u32) -> Option<&'a [u8]>
+    pub fn get(&self, number: u32) -> Option<&'a [u8]>
         ensures { option_map (λ n. n.now) result ≡ slice_get self.now number }
     {
         self.set.get_index(number as usize).copied()

@@ -38,8 +38,8 @@ impl<'a> Model for Names<'a> {
     ghost invariant = { λ n. AreNamesOf (record { domain = n.domain.now; problem = n.problem.now }) n.type_names n.object_names n.predicate_names n.declarations.types n.declarations.objects };
 }
 
-// Adds the names of words.
-fn add_words<'a>(known: &mut NameSet<'a>, words: &'a [Word]) -> Result<(), Memory>
+/// Adds the names of words.
+pub(crate) fn add_words<'a>(known: &mut NameSet<'a>, words: &'a [Word]) -> Result<(), Memory>
     ensures { OnOk result (known.new ≡ fold with_name known.old (names words.now)) }
 {
     for word in words {

@@ -1,7 +1,7 @@
 ghost use Rattle.std.specs.Prelude.{◌≡◌, ◌∷◌, ◌++◌, fold, map, IfOk, OnOk};
 ghost use Rattle.kp_grammar.specs.View.{typed_view, domain_view, problem_view};
 ghost use Rattle.kp_meaning.specs.Types.{object_lines};
-ghost use Rattle.kp_tables.specs.Steps.{with_name, with_line_under, lines_under, under};
+ghost use Rattle.kp_tables.specs.Steps.{with_name, with_line_under, with_line_over, lines_under, lines_over, under};
 ghost use Rattle.kp_tables.specs.Chains.{AreChained, pairs_of};
 
 use crate::name_set::NameSet;
@@ -88,6 +88,38 @@ fn add_lines<'a>(
     Ok(())
 }
 
+// Puts each type of a line over its name.
+fn add_line_over<'a>(
+    links: &mut Vec<Link<'a>>,
+    last: &mut IndexMap<&'a [u8], usize>,
+    line: &'a Typed,
+) -> Result<(), Memory>
+    requires { AreChained links.old.items (map (λ e. (e.0.now, e.1)) last.old.entries) }
+    ensures chained { OnOk result (AreChained links.new.items (map (λ e. (e.0.now, e.1)) last.new.entries)) }
+    ensures pairs { OnOk result (pairs_of links.new.items ≡ with_line_over (pairs_of links.old.items) (typed_view line.now)) }
+{
+    for kind in line.kinds.slice() {
+        add(links, last, line.word.text.slice(), kind.text.slice())?;
+    }
+    Ok(())
+}
+
+// The same for all lines.
+fn add_lines_over<'a>(
+    links: &mut Vec<Link<'a>>,
+    last: &mut IndexMap<&'a [u8], usize>,
+    lines: &'a [Typed],
+) -> Result<(), Memory>
+    requires { AreChained links.old.items (map (λ e. (e.0.now, e.1)) last.old.entries) }
+    ensures chained { OnOk result (AreChained links.new.items (map (λ e. (e.0.now, e.1)) last.new.entries)) }
+    ensures pairs { OnOk result (pairs_of links.new.items ≡ fold with_line_over (pairs_of links.old.items) (map typed_view lines.now)) }
+{
+    for line in lines {
+        add_line_over(links, last, line)?;
+    }
+    Ok(())
+}
+
 impl<'a> Under<'a> {
     // The names of two typed lists under the types behind them.
     fn of(alloc: Global, first: &'a [Typed], second: &'a [Typed]) -> Result<Under<'a>, Memory>
@@ -97,6 +129,16 @@ impl<'a> Under<'a> {
         let mut last = IndexMap::new(alloc);
         add_lines(&mut links, &mut last, first)?;
         add_lines(&mut links, &mut last, second)?;
+        Ok(Under { links, last })
+    }
+
+    /// The other way round: the types of a typed list, each under the names before it.
+    pub fn over(alloc: Global, lines: &'a [Typed]) -> Result<Under<'a>, Memory>
+        ensures { IfOk result (λ u. u ≡ lines_over (map typed_view lines.now)) }
+    {
+        let mut links = Vec::new(alloc);
+        let mut last = IndexMap::new(alloc);
+        add_lines_over(&mut links, &mut last, lines)?;
         Ok(Under { links, last })
     }
 

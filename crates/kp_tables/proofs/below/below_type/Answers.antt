@@ -10,5 +10,5 @@ returns c =
     let top = c.args.top.now in
     let all = c.close.new.names in
     closed_below kinds (top ∷ []) all
-    (subst (λ ps. IsClosing ps (with_name [] top) (length all) all) c.types_under.ensures
+    (subst (λ ps. IsClosing ps (top ∷ []) (length all) all) c.types_under.ensures
     (subst (λ old. IsClosing c.types_under.result.now old (length all) all) (c.in_ok-insert.ensures.names ∙ ap (λ z. with_name z top) c.new-below.ensures) c.in_ok-close.ensures))

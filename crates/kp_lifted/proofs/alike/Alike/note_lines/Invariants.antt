@@ -5,4 +5,4 @@ use Rattle.kp_lifted.proofs.alike.Alike.note_lines.Given as goal
 
 -- with the lines that are left come all
 abbrev pub invariant-loop-line : goal.invariant-loop-line
-invariant-loop-line l = fold noted l.self (flat_map downward (map typed_view (drop l.line-index l.lines))) ≡ fold noted l.fn.self (flat_map downward (map typed_view l.lines))
+invariant-loop-line l = fold noted l.self (flat_map (downward l.inhabited) (map typed_view (drop l.line-index l.lines))) ≡ fold noted l.fn.self (flat_map (downward l.inhabited) (map typed_view l.lines))
