@@ -5,7 +5,9 @@ ghost use Rattle.kp_classic.proofs.Public.{nameless_action, swap_action, swap_gr
 
 use crate::given::row;
 use crate::runs::reaches;
-use kp_base::{Action, AtomId, Atoms, Effect, Ground, GroundName, Initial, Lit, LitSet, Memory, Row, Text};
+use kp_base::{
+    Action, AtomId, Atoms, Effect, Ground, GroundName, Initial, Lit, LitSet, Memory, Row, Text,
+};
 use kp_classic::task_of;
 use std::alloc::Global;
 use std::test::Fail;

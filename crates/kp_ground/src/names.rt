@@ -45,11 +45,7 @@ pub fn names_of_objects(
 }
 
 // The name of an atom.
-fn name_of_atom(
-    alloc: Global,
-    lifted: &Lifted,
-    key: &(u32, Vec<u32>),
-) -> Result<GroundName, Memory>
+fn name_of_atom(alloc: Global, lifted: &Lifted, key: &(u32, Vec<u32>)) -> Result<GroundName, Memory>
     ensures { IfOk result (λ name. name ≡ atom_name (lifted_view lifted.now) (kept_atom key.now)) }
 {
     Ok(GroundName {

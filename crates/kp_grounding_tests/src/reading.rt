@@ -35,8 +35,7 @@ fn resolved_with(alloc: Global, texts: &Texts, domain: &Domain) -> Result<Lifted
 }
 
 // The problem by number of texts, where they have one.
-fn resolved_of(alloc: Global, texts: &Texts) -> Result<Lifted, Stop>
-{
+fn resolved_of(alloc: Global, texts: &Texts) -> Result<Lifted, Stop> {
     if texts.domain.len() > 1_000 || texts.problem.len() > 1_000 {
         return Err(Stop::Memory);
     }
@@ -47,8 +46,7 @@ fn resolved_of(alloc: Global, texts: &Texts) -> Result<Lifted, Stop>
 }
 
 /// The problem by number of two short texts, where they have one.
-pub fn resolved(alloc: Global, domain: &str, problem: &str) -> Result<Lifted, Stop>
-{
+pub fn resolved(alloc: Global, domain: &str, problem: &str) -> Result<Lifted, Stop> {
     let texts = texts_of(alloc, domain, problem)?;
     let lifted = resolved_of(alloc, &texts);
     drop(texts);

@@ -26,4 +26,3 @@ pub fn plans_by_name_are_runs_from_models()
 pub fn plans_of_texts_are_runs_from_models()
     ensures { IsPlanOfTexts }
 {}
-

@@ -11,7 +11,6 @@ mod one_of;
 
 pub use formula::initial;
 pub use laws::{
-    initial_formulas_speak_of_ground_atoms, models_are_initial_states,
-    plans_are_runs_from_models, plans_by_name_are_runs_from_models,
-    plans_of_texts_are_runs_from_models,
+    initial_formulas_speak_of_ground_atoms, models_are_initial_states, plans_are_runs_from_models,
+    plans_by_name_are_runs_from_models, plans_of_texts_are_runs_from_models,
 };
