@@ -1,5 +1,5 @@
 -- What holds of each element of a list.
-use Rattle.std.proofs.Common.{◌≡◌, List, [], ◌∷◌, map, refl, subst, inl, inr}
+use Rattle.std.proofs.Common.{List, [], ◌∷◌, map, refl, subst, inl, inr}
 use Rattle.std.specs.List.{AllByRecursion}
 use Rattle.kp_base.specs.Lists.{Member}
 

@@ -1,4 +1,4 @@
-use Rattle.std.proofs.Common.{◌∙◌, refl, sym, ap, is_some, map, true, if◌then◌else◌, Bool, ◌++◌, ◌∷◌, []}
+use Rattle.std.proofs.Common.{◌∙◌, refl, sym, ap, is_some, map, if◌then◌else◌, Bool, ◌++◌, ◌∷◌, []}
 use Rattle.kp_base.proofs.Lists.{any_map}
 use Rattle.kp_base.specs.Atoms.{atom, same_atom, kept_atom}
 use Rattle.kp_base.proofs.atoms.Atoms.insert_far.Goals as goal

@@ -1,4 +1,4 @@
-use Rattle.std.proofs.Common.{◌∙◌, sym, true}
+use Rattle.std.proofs.Common.{◌∙◌, sym}
 use Rattle.kp_base.specs.Atoms.{atom, kept_atom}
 use Rattle.kp_base.proofs.AtomKeys.{place_there, place_nowhere}
 use Rattle.kp_base.proofs.atoms.Atoms.place.Goals as goal
