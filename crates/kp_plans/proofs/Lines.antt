@@ -1,20 +1,18 @@
 -- The lines of a plan read back as its steps.
-use Rattle.std.proofs.Common.{cond as if_then, ◌≡◌, ℕ, Bool, true, false, List, [], ◌∷◌, map, bytes_eq, refl, sym, ap, ◌∙◌}
-use Rattle.std.specs.List.{AllByRecursion, list_all}
-use Rattle.std.proofs.lemmas.Bool.{and_parts}
+use Rattle.std.proofs.Common.{◌≡◌, ℕ, true, List, [], ◌∷◌, map, refl, sym, ap, ◌∙◌}
+use Rattle.std.specs.List.{AllByRecursion}
 use Rattle.kp_base.specs.declared.ground.GroundName.{GroundName}
 use Rattle.kp_lex.specs.declared.token.TokenKind.TheVariants as kinds
 use Rattle.kp_lex.specs.Bytes.{class_of, follows}
 use Rattle.kp_lex.specs.Cutting.{Ends}
-use Rattle.kp_grammar.specs.declared.symbol.Symbol.{Symbol}
-use Rattle.kp_grammar.specs.declared.symbol.Symbol.TheVariants as symbols
 use Rattle.kp_grammar.specs.declared.tree.Word.{Word}
-use Rattle.kp_grammar.specs.Symbols.{Table, names, look_up, symbol_of, is_name, is_left}
+use Rattle.kp_grammar.specs.Symbols.{symbol_of, is_name, is_left}
 use Rattle.kp_grammar.specs.Sorts.{s_word, s_pair, s_list}
 use Rattle.kp_grammar.specs.Forms.{hits, many}
 use Rattle.kp_grammar.specs.Grammar.{word}
 use Rattle.kp_grammar.specs.Reading.{Reads, r_token, r_both, r_end, r_more, r_bracket}
 use Rattle.kp_grammar.specs.Words.{IsName}
+use Rattle.kp_grammar.proofs.Public.{name_passes}
 use Rattle.kp_pieces.specs.Pieces.{Piece, right, spelling, each, spaced, name, line_feed}
 use Rattle.kp_pieces.specs.Tokens.{words, Fine, done, lefts, rights, blanks, says}
 use Rattle.kp_pieces.specs.Maps.{without_places}
@@ -42,25 +40,12 @@ fine_step n h = record { keeps = λ {rest} f. lefts $ says h.head.token h.head.l
 
 -- ---- they read as steps
 
--- every symbol of the table passes, and so does the other one
-all_found : (p : Symbol → Bool) (es : Table) (other : Symbol) (w : List ℕ) → list_all (λ e. p e.1) es ≡ true → p other ≡ true → p (look_up es other w) ≡ true
-all_found p [] other w h o = o
-all_found p (e ∷ es) other w h o =
-    let parts = and_parts (p e.1) (list_all (λ e. p e.1) es) h in
-    pick (bytes_eq w e.0) parts.0 (all_found p es other w parts.1 o)
-  where
-    pick : (b : Bool) → p e.1 ≡ true → p (look_up es other w) ≡ true → p (if_then b e.1 (look_up es other w)) ≡ true
-    pick true f g = f
-    pick false f g = g
-
 -- a name is a name to the grammar
 pub name_hits : (w : List ℕ) → hits is_name (symbol_of kinds.Name w) ≡ true
-unfolding symbol_of
-name_hits w = all_found (hits is_name) names symbols.Name w refl refl
+name_hits w = name_passes (hits is_name) w refl refl
 
 pub name_is : (w : List ℕ) → is_name (symbol_of kinds.Name w) ≡ true
-unfolding symbol_of
-name_is w = all_found is_name names symbols.Name w refl refl
+name_is w = name_passes is_name w refl refl
 
 word_reads : (w : List ℕ) (rest : List Piece) → Reads (word is_name) (words (spaced name w rest)) w (words rest)
 word_reads w rest = r_token (name_hits w)

@@ -1,18 +1,18 @@
 -- The words of the written files read as their trees.
-use Rattle.std.proofs.Common.{cond as if_then, ◌&&◌, bytes_eq, append-nil, ap, subst, ◌≡◌, ℕ, Bool, true, false, List, [], ◌∷◌, map, refl}
-use Rattle.std.proofs.lemmas.Bool.{and_parts}
+use Rattle.std.proofs.Common.{cond as if_then, append-nil, ap, subst, ◌≡◌, ℕ, Bool, true, false, List, [], ◌∷◌, map, refl}
 use Rattle.std.specs.List.{AllByRecursion, flat_map}
 use Rattle.kp_lex.specs.declared.token.TokenKind.TheVariants as kinds
 use Rattle.kp_grammar.specs.declared.symbol.Symbol.{Symbol}
 use Rattle.kp_grammar.specs.declared.symbol.Symbol.TheVariants as symbols
 use Rattle.kp_grammar.specs.Trees.{Cond, Eff, Item, Schema, Domain, Problem, Section, section_types, section_constants, section_predicates, section_schemas, Given, conds_of}
-use Rattle.kp_grammar.specs.Symbols.{Tok, Table, names, look_up, symbol_of, first_is, is_left, is_head, is_name, is_precondition}
+use Rattle.kp_grammar.specs.Symbols.{Tok, symbol_of, first_is, is_left, is_head, is_name, is_precondition}
 use Rattle.kp_grammar.specs.Unsupported.{not_cond, not_goal, not_effect, not_item}
 use Rattle.kp_grammar.specs.Sorts.{Sort, El, apply, m_true, m_holds, m_makes, m_fact, m_domain}
 use Rattle.kp_grammar.specs.Forms.{hits, Form, nothing, many, make, maybe, ◌▸◌}
 use Rattle.kp_grammar.specs.Grammar.{atom_body, fact_body, test_case, cond_case, cond, goal_case, goal as goal_form, eff_case, eff, item_case, item, pred, section, domain, problem}
 use Rattle.kp_grammar.specs.Reading.{Reads, ReadsWhole, r_token, r_none, r_both, r_after, r_end, r_more, r_last, r_next, r_absent, r_present, r_make, r_choice, r_loose, r_bracket, r_within}
 use Rattle.kp_grammar.specs.Words.{IsHead}
+use Rattle.kp_grammar.proofs.Public.{name_passes}
 use Rattle.kp_pieces.specs.Pieces.{Piece, right, Put, each, line_feed, name, spaced}
 use Rattle.kp_write.specs.Task.{Signed, Op}
 use Rattle.kp_write.specs.Written.{fact, fact_line, signed_case, signed, conjunction, guarded, effect_line, precondition, op, domain_pieces, problem_pieces}
@@ -100,27 +100,6 @@ guarded_starts (c ∷ cs) s rest = refl
 
 -- ---- operators
 
-abbrev all_names : Table → Bool
-all_names [] = true
-all_names (e ∷ es) = is_name e.1 && all_names es
-
-name_if : (b : Bool) (x y : Symbol) → is_name x ≡ true → is_name y ≡ true → is_name (if_then b x y) ≡ true
-name_if true x y h k = h
-name_if false x y h k = k
-
-name_found : (es : Table) (w : List ℕ) → all_names es ≡ true → is_name (look_up es symbols.Name w) ≡ true
-name_found [] w h = refl
-name_found (e ∷ es) w h = let k = and_parts (is_name e.1) (all_names es) h in name_if (bytes_eq w e.0) e.1 (look_up es symbols.Name w) k.0 (name_found es w k.1)
-
-name_is : (w : List ℕ) → is_name (symbol_of kinds.Name w) ≡ true
-unfolding symbol_of
-name_is w = name_found names w refl
-
-name_hits : (s : Symbol) → is_name s ≡ true → hits is_name s ≡ true
-name_hits symbols.Left e = absurd cc
-name_hits symbols.Right e = absurd cc
-name_hits _ e = e
-
 precondition_reads : (ns : List (List ℕ)) (rest : List Piece) → AreHeads ns → first_is is_precondition (words rest) ≡ false
     → Reads (maybe is_precondition m_true (is_precondition ▸ cond)) (words (precondition ns rest)) (all_facts ns) (words rest)
 unfolding symbol_of
@@ -134,7 +113,7 @@ op_reads o h rest =
     let effects : Reads (many is_left eff) (words (each effect_line o.effects end)) (map effect_of o.effects) (words end) =
     many_pieces_read is_left eff effect_line effect_of IsEffect (λ e p r. guarded_reads e.conds e.result p.conds p.result (line_feed r)) (λ e r. guarded_starts e.conds e.result (line_feed r)) o.effects _ h.effects refl in
     r_bracket refl (r_choice (r_after refl (r_make (r_make
-    (r_both (r_token (name_hits (symbol_of kinds.Name o.name) (name_is o.name)))
+    (r_both (r_token (name_passes (hits is_name) o.name refl refl))
     (r_both (r_present refl (r_after refl (r_bracket refl (r_make (r_end refl)) refl)))
     (r_both (precondition_reads o.pre _ h.pre refl)
     (r_both (r_present refl (r_after refl (r_within (r_bracket refl (r_choice (r_loose (r_after refl (r_make effects)))) refl))))
