@@ -16,7 +16,10 @@ fn limited(alloc: Global, facts: u32, task_weight: u64) -> Result<Task, Stop> {
     let mut limits = Limits::usual();
     limits.facts = facts;
     limits.task_weight = task_weight;
-    translate(alloc, &ground, &table, &limits)
+    let task = translate(alloc, &ground, &table, &limits);
+    drop(table);
+    drop(ground);
+    task
 }
 
 fn fits(alloc: Global, facts: u32, task_weight: u64) -> bool {
@@ -71,10 +74,10 @@ fn goes(alloc: Global, steps: &[u32]) -> Result<Option<bool>, Stop> {
     for step in steps {
         ops.push(*step)?;
     }
-    let reached = reaches(alloc, &task, &ops)?;
+    let reached = reaches(alloc, &task, &ops);
     drop(ops);
     drop(task);
-    Ok(reached)
+    Ok(reached?)
 }
 
 // Two steps to the left and the merge lead to the goal, one step doesn't, and the merge can't be first.

@@ -31,21 +31,30 @@ fn has(text: &Row<u8>, bytes: &[u8]) -> bool {
 fn domain_is(alloc: Global, expected: &[u8]) -> Result<bool, Stop> {
     let ground = exchange(alloc)?;
     let table = one_tag(alloc)?;
-    let text = domain(alloc, &ground, &table)?;
+    let text = domain(alloc, &ground, &table);
+    drop(table);
+    drop(ground);
+    let text = text?;
     Ok(text.slice() == expected)
 }
 
 fn problem_is(alloc: Global, expected: &[u8]) -> Result<bool, Stop> {
     let ground = exchange(alloc)?;
     let table = one_tag(alloc)?;
-    let text = problem(alloc, &ground, &table)?;
+    let text = problem(alloc, &ground, &table);
+    drop(table);
+    drop(ground);
+    let text = text?;
     Ok(text.slice() == expected)
 }
 
 fn tagged_has(alloc: Global, bytes: &[u8]) -> Result<bool, Stop> {
     let ground = cells(alloc)?;
     let table = tag_for_each(alloc)?;
-    let text = domain(alloc, &ground, &table)?;
+    let text = domain(alloc, &ground, &table);
+    drop(table);
+    drop(ground);
+    let text = text?;
     Ok(has(&text, bytes))
 }
 

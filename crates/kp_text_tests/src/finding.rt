@@ -47,7 +47,10 @@ fn found(alloc: Global, actions: (&str, &str), plan: &str) -> Result<Row<u32>, S
         return Err(Stop::Memory);
     }
     let form = two_actions(alloc, actions.0, actions.1)?;
-    find_steps(alloc, &form, &steps)
+    let found = find_steps(alloc, &form, &steps);
+    drop(form);
+    drop(steps);
+    found
 }
 
 // Whether these are the numbers.

@@ -10,8 +10,9 @@ fn stripped(alloc: Global, plan: &str) -> Result<Row<u8>, Stop> {
         return Err(Stop::Memory);
     }
     let steps = read_plan(alloc, plan.as_bytes())?;
-    let actions = strip(alloc, &steps)?;
+    let actions = strip(alloc, &steps);
     drop(steps);
+    let actions = actions?;
     Ok(plan_text(alloc, &actions)?)
 }
 
