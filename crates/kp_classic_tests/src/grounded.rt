@@ -8,7 +8,7 @@ use crate::runs::reaches;
 use kp_base::{
     Action, AtomId, Atoms, Effect, Ground, GroundName, Initial, Lit, LitSet, Memory, Row, Text,
 };
-use kp_classic::task_of;
+use kp_classic::{Task, task_of};
 use std::alloc::Global;
 use std::test::Fail;
 
@@ -127,15 +127,20 @@ fn formula(alloc: Global) -> Result<Initial, Memory>
     Ok(Initial { clauses, closed })
 }
 
-// Whether the task of the ground problem runs these operators and meets the goal.
+// The task of the ground problem.
 #[tactic(auto, using(kp_classic::proofs::Public::swap_start_is_one_state))]
-fn plans(alloc: Global, steps: &[u32]) -> Result<Option<bool>, Memory> {
+fn task(alloc: Global) -> Result<Task, Memory> {
     let ground = ground(alloc)?;
     let initial = formula(alloc)?;
     let task = task_of(alloc, &ground, &initial);
     drop(initial);
     drop(ground);
-    let task = task?;
+    task
+}
+
+// Whether it runs these operators and meets the goal.
+fn plans(alloc: Global, steps: &[u32]) -> Result<Option<bool>, Memory> {
+    let task = task(alloc)?;
     let ops = row(alloc, steps)?;
     let reached = reaches(alloc, &task, &ops);
     drop(ops);

@@ -14,16 +14,22 @@ fn word<'a>(bump: &'a Bump, text: &str, byte: u32) -> Result<WordNode<'a>, Alloc
     Ok(WordNode { text, byte })
 }
 
-// The domain of one type.
-fn typed_domain<'a>(bump: &'a Bump) -> Result<DomainNode<'a>, AllocError> {
+// The types above a room.
+fn parents<'a>(bump: &'a Bump) -> Result<&'a [WordNode<'a>], AllocError> {
     let mut parents = Vec::new(bump);
     parents.push(word(bump, "place", 35)?)?;
     parents.push(word(bump, "thing", 41)?)?;
-    let mut kinds = Vec::new(bump);
-    kinds.push(TypedNode {
+    Ok(into_bump_slice(parents))
+}
+
+// The domain of one type.
+fn typed_domain<'a>(bump: &'a Bump) -> Result<DomainNode<'a>, AllocError> {
+    let room = TypedNode {
         word: word(bump, "room", 24)?,
-        kinds: into_bump_slice(parents),
-    })?;
+        kinds: parents(bump)?,
+    };
+    let mut kinds = Vec::new(bump);
+    kinds.push(room)?;
     Ok(DomainNode {
         kinds: into_bump_slice(kinds),
         constants: &[],
@@ -32,20 +38,26 @@ fn typed_domain<'a>(bump: &'a Bump) -> Result<DomainNode<'a>, AllocError> {
     })
 }
 
-// The domain of one action, which deletes an atom where it holds.
-fn deleting_domain<'a>(bump: &'a Bump) -> Result<DomainNode<'a>, Memory> {
+// The effect that deletes an atom where it holds.
+fn deletion<'a>(bump: &'a Bump) -> Result<EffNode<'a>, Memory> {
     let atom = AtomNode {
         head: word(bump, "p", 60)?,
         terms: &[],
     };
     let body = bump.try_alloc(EffNode::Atom(false, atom))?;
-    let mut schemas = Vec::new(bump);
-    schemas.push(SchemaNode {
+    Ok(EffNode::When(CondNode::Atom(true, atom), body))
+}
+
+// The domain of one action, which does this.
+fn deleting_domain<'a>(bump: &'a Bump) -> Result<DomainNode<'a>, Memory> {
+    let action = SchemaNode {
         name: word(bump, "a", 33)?,
         params: &[],
         pre: CondNode::All(&[]),
-        effect: EffNode::When(CondNode::Atom(true, atom), body),
-    })?;
+        effect: deletion(bump)?,
+    };
+    let mut schemas = Vec::new(bump);
+    schemas.push(action)?;
     Ok(DomainNode {
         kinds: &[],
         constants: &[],
@@ -131,8 +143,8 @@ fn a_schema_is_copied(rt: HostRuntime) -> Result<(), Fail> {
     Ok(())
 }
 
-#[test]
-fn items_are_copied_in_order(rt: HostRuntime) -> Result<(), Fail> {
+// Whether the items of a problem are copied in their order.
+fn copies_items(alloc: Global) -> Result<bool, Memory> {
     let head = WordNode { text: "p", byte: 7 };
     let atom = AtomNode { head, terms: &[] };
     let literals = [LitNode {
@@ -149,9 +161,14 @@ fn items_are_copied_in_order(rt: HostRuntime) -> Result<(), Fail> {
         init: &items,
         goal: CondNode::Atom(true, atom),
     };
-    let copied = copy_problem(rt.alloc(), &node)?;
+    let copied = copy_problem(alloc, &node)?;
     let are_copied = are_stated(copied.init.slice());
     drop(copied);
-    assert!(rt; are_copied);
+    Ok(are_copied)
+}
+
+#[test]
+fn items_are_copied_in_order(rt: HostRuntime) -> Result<(), Fail> {
+    assert!(rt; copies_items(rt.alloc())?);
     Ok(())
 }

@@ -158,13 +158,24 @@ fn keeps_up_to_a_deep_bracket(rt: HostRuntime) {
             "{text:?}"
         );
     }
-    let bad = is_kept(rt.alloc(), b"(((\n_", 3, 3);
+}
+
+// Whether a text has its bad token behind a deep bracket.
+fn is_bad_behind(alloc: Global, text: &[u8], there: Place) -> bool {
+    let bad = is_kept(alloc, text, 3, 3);
+    let is_there = matches!(&bad, Err(Stop::Refused(Refused::BadToken(found))) if *found == there);
+    drop(bad);
+    is_there
+}
+
+#[test]
+fn refuses_a_bad_byte_behind_a_deep_bracket(rt: HostRuntime) {
     let there = Place {
         part: Part::Domain,
         line: 2,
         byte: 4,
     };
-    assert!(rt; matches!(bad, Err(Stop::Refused(Refused::BadToken(found))) if found == there));
+    assert!(rt; is_bad_behind(rt.alloc(), b"(((\n_", there));
 }
 
 #[test]
