@@ -13,5 +13,5 @@ returns-in_ok-push c =
     let atom = kept_atom c.args.key.now in
     let old = c.args.closed.now in
     c.in_ok-push.ensures.ok
-    ∙ (ap (λ n. old ++ (let p : AtomId = record { 0 = n } in p) ∷ []) (c.place.ensures ∙ ap (λ os. number_of atoms (record { pred = atom.pred; objects = os })) c.as_slice-2.ensures)
-    ∙ ap (λ ps. old ++ ps) (sym (one_closed l atoms atom (sym (ap (is_named l atom.pred) c.as_slice.ensures) ∙ (sym c.has.ensures ∙ c.if-not-has.true)))))
+    ∙ (ap (λ n. old ++ (let p : AtomId = record { 0 = n } in p) ∷ []) (c.place.ensures ∙ ap (λ os. number_of atoms (record { pred = atom.pred; objects = os })) c.as_slice-then-not-has.ensures.value)
+    ∙ ap (λ ps. old ++ ps) (sym (one_closed l atoms atom (sym (ap (is_named l atom.pred) c.as_slice.ensures.value) ∙ (sym c.has.ensures ∙ c.if-not-has.true)))))

@@ -6,4 +6,4 @@ use Rattle.kp_init.proofs.NamedAtoms.{all_named}
 use Rattle.kp_init.proofs.named.Named.of.Goals as goal
 
 pub invariant_of-result : goal.invariant_of-result
-invariant_of-result c = record { atoms_right = λ a. c.in_ok-named_by.ensures a ∙ (ap (list_any (names a)) c.slice.ensures ∙ all_named (lifted_view c.args.lifted.now) a) }
+invariant_of-result c a = c.in_ok-named_by.ensures a ∙ (ap (list_any (names a)) c.slice.ensures ∙ all_named (lifted_view c.args.lifted.now) a)
