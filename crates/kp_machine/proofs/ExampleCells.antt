@@ -11,6 +11,7 @@ use Rattle.kp_base.specs.declared.ground.Initial.{Initial}
 use Rattle.kp_base.specs.declared.ground.TagRow.{TagRow}
 use Rattle.kp_base.specs.declared.ground.TagTable.{TagTable}
 use Rattle.kp_base.specs.declared.ground.Merge.{Merge}
+use Rattle.kp_base.specs.Atoms.{atom}
 use Rattle.kp_base.specs.Lists.{Member}
 use Rattle.kp_base.specs.Lit.{positive, negative}
 use Rattle.kp_base.specs.Steps.{State, IsBounded, holds, has, is_model, fires, after, runs, state_after, IsGroundPlan}
@@ -41,7 +42,7 @@ left = record {
 abbrev pub cells_to : List Lit → Ground
 cells_to goal = record {
   atoms = nullary (codes "x1") ∷ nullary (codes "x2") ∷ nullary (codes "x3") ∷ [];
-  table = [];
+  table = atom 0 [] ∷ atom 1 [] ∷ atom 2 [] ∷ [];
   actions = left ∷ [];
   goal = goal;
 }
