@@ -18,8 +18,8 @@ on_ground-requires-clause-of_atoms c =
     is_of_atoms l c.in-Ok.made (subst (λ m. IsGrounded l m c.in-Ok.made) c.usual.ensures c.in-Ok.ensures)
 
 -- it is larger than a limit allows
-pub returns-clause-answers : goal.returns-clause-answers
-returns-clause-answers c =
+pub returns-in-Err-clause-answers : goal.returns-in-Err-clause-answers
+returns-in-Err-clause-answers c =
     let l = lifted_view c.args.lifted.now in
     over_ends c.args.implicates l c.in-Err.stop c.ended_by.result
     (λ r is. subst (λ m. RefusesGround l m r) c.usual.ensures (subst (λ s. StopsGround l c.usual.result s) is c.in-Err.ensures))
