@@ -72,9 +72,14 @@ fn goes_over_negations(rt: HostRuntime) -> Result<(), Fail> {
     Ok(())
 }
 
-fn needing(alloc: Global) -> Result<Ground, Memory> {
+fn needing_once(alloc: Global) -> Result<Ground, Memory> {
     let mut ground = idle(alloc, 3, &[])?;
     add(alloc, &mut ground, &[(0, true)], &[(&[], (1, true))])?;
+    Ok(ground)
+}
+
+fn needing(alloc: Global) -> Result<Ground, Memory> {
+    let mut ground = needing_once(alloc)?;
     add(
         alloc,
         &mut ground,
