@@ -29,22 +29,26 @@ fn fits(alloc: Global, facts: u32, task_weight: u64) -> bool {
     }
 }
 
+fn has_too_many_facts(alloc: Global, facts: u32, task_weight: u64) -> bool {
+    let task = limited(alloc, facts, task_weight);
+    let is_over = matches!(&task, Err(Stop::Refused(Refused::FactsOver)));
+    drop(task);
+    is_over
+}
+
+fn is_too_heavy(alloc: Global, facts: u32, task_weight: u64) -> bool {
+    let task = limited(alloc, facts, task_weight);
+    let is_over = matches!(&task, Err(Stop::Refused(Refused::WeightOver)));
+    drop(task);
+    is_over
+}
+
 // 24 facts, and a weight of 68: four for the merge, and for each of four tags two for each of eight effects.
 #[test]
 fn at_the_limits(rt: HostRuntime) -> Result<(), Fail> {
     assert!(rt; fits(rt.alloc(), 24, 68));
-    assert!(rt;
-        matches!(
-            limited(rt.alloc(), 23, 67),
-            Err(Stop::Refused(Refused::FactsOver))
-        )
-    );
-    assert!(rt;
-        matches!(
-            limited(rt.alloc(), 24, 67),
-            Err(Stop::Refused(Refused::WeightOver))
-        )
-    );
+    assert!(rt; has_too_many_facts(rt.alloc(), 23, 67));
+    assert!(rt; is_too_heavy(rt.alloc(), 24, 67));
     Ok(())
 }
 
@@ -80,12 +84,20 @@ fn goes(alloc: Global, steps: &[u32]) -> Result<Option<bool>, Stop> {
     Ok(reached?)
 }
 
+// Whether the operators come to this.
+fn come_to(alloc: Global, steps: &[u32], wanted: Option<bool>) -> bool {
+    let end = goes(alloc, steps);
+    let is_wanted = matches!(&end, Ok(found) if *found == wanted);
+    drop(end);
+    is_wanted
+}
+
 // Two steps to the left and the merge lead to the goal, one step doesn't, and the merge can't be first.
 #[test]
 fn two_steps_and_the_merge(rt: HostRuntime) -> Result<(), Fail> {
-    assert!(rt; matches!(goes(rt.alloc(), &[0, 0, 1]), Ok(Some(true))));
-    assert!(rt; matches!(goes(rt.alloc(), &[0, 0]), Ok(Some(false))));
-    assert!(rt; matches!(goes(rt.alloc(), &[1]), Ok(None)));
+    assert!(rt; come_to(rt.alloc(), &[0, 0, 1], Some(true)));
+    assert!(rt; come_to(rt.alloc(), &[0, 0], Some(false)));
+    assert!(rt; come_to(rt.alloc(), &[1], None));
     Ok(())
 }
 
