@@ -1,4 +1,7 @@
 ghost use Rattle.std.specs.Prelude.{◌≤◌, length};
+ghost use Rattle.kp_grammar.specs.Grammar as grammar;
+ghost use Rattle.kp_grammar.specs.Texts.{ReadsAs};
+ghost use Rattle.kp_grammar.specs.View.{domain_view};
 
 use kp_base::{Memory, Row, Stop, Texts};
 use kp_grammar::Domain;
@@ -27,6 +30,7 @@ fn texts_of(alloc: Global, domain: &str, problem: &str) -> Result<Texts, Memory>
 fn resolved_with(alloc: Global, texts: &Texts, domain: &Domain) -> Result<Lifted, Stop>
     requires domain_short { length texts.now.domain ≤ 1000 }
     requires problem_short { length texts.now.problem ≤ 1000 }
+    requires domain_reads { ReadsAs grammar.domain texts.now.domain (domain_view domain.now) }
 {
     let problem = read_problem(alloc, texts.problem.slice())?;
     let resolved = resolve(alloc, texts, domain, &problem);
