@@ -14,6 +14,7 @@ pub mod CompleteText
 pub mod Completeness
 pub mod Ending
 pub mod Files
+pub mod ClashFree
 pub mod ExampleOutcomes
 pub mod ExampleRefusals
 pub mod Searches
