@@ -32,5 +32,5 @@ clash_free_with_table g t i x = record {
 }
 
 -- p and q by number
-abbrev pub p_and_q : List Atom
-p_and_q = atom 0 [] ∷ atom 1 [] ∷ []
+abbrev pub two_atoms : List Atom
+two_atoms = atom 0 [] ∷ atom 1 [] ∷ []

@@ -26,7 +26,7 @@ use Rattle.kp_base.specs.Implicates.{IsNeverOver}
 use Rattle.kp_primes.specs.Included.{all_included}
 use Rattle.kp_primes.proofs.Public.{counted_is_never_over}
 use Rattle.kp_machine.proofs.Public.{swap_is_clash_free}
-use Rattle.kp_run.proofs.ClashFree.{clash_free_with_table, p_and_q}
+use Rattle.kp_run.proofs.ClashFree.{clash_free_with_table, two_atoms}
 use Rattle.kp_lex.specs.Bytes.{class_of}
 use Rattle.kp_lex.specs.Scanning.{cut_from}
 use Rattle.kp_grammar.specs.Symbols.{symbol_of}
@@ -210,7 +210,7 @@ pub closed_q : (i : Initial) → i.closed ≡ record { 0 = 1 } ∷ [] → (s : N
 closed_q i closed s model = not-true (s 1) (and_parts (not (s 1)) true (subst (λ (ps : List AtomId). list_all (λ p. not (s p.0)) ps ≡ true) closed (and_parts _ _ model).1)).0
 
 no_clash : IsClashFree (ground_of exchange_tree from_p_to_q_tree) from_p
-no_clash = clash_free_with_table _ p_and_q from_p (swap_is_clash_free from_p (closed_q from_p refl))
+no_clash = clash_free_with_table _ two_atoms from_p (swap_is_clash_free from_p (closed_q from_p refl))
 
 -- the one action
 abbrev exchange_action : Action

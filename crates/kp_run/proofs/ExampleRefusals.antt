@@ -24,7 +24,7 @@ use Rattle.kp_primes.specs.Answers.{RefusesPrimes, too_many}
 use Rattle.kp_primes.proofs.Public.{counted_is_never_over, prefix_stops_the_build}
 use Rattle.kp_clash.proofs.Public.{first_found_is_first_clash}
 use Rattle.kp_machine.proofs.Public.{swap_is_clash_free}
-use Rattle.kp_run.proofs.ClashFree.{clash_free_with_table, p_and_q}
+use Rattle.kp_run.proofs.ClashFree.{clash_free_with_table, two_atoms}
 use Rattle.kp_lex.specs.Bytes.{class_of}
 use Rattle.kp_lex.specs.Cutting.{at_end}
 use Rattle.kp_lex.specs.Scanning.{cut_from}
@@ -214,7 +214,7 @@ abbrev half_known_outcome : Outcome
 half_known_outcome = translates command (ground_of exchange_tree half_known_tree) half_known_table []
 
 half_known_done : TranslatesTexts command exchange_text half_known [] half_known_outcome
-half_known_done = later exchange_tree half_known_tree half_known_trees (record { started = half_known_started; clash_free = clash_free_with_table _ p_and_q (initial_of exchange_tree half_known_tree) (swap_is_clash_free (initial_of exchange_tree half_known_tree) (closed_q (initial_of exchange_tree half_known_tree) refl)) })
+half_known_done = later exchange_tree half_known_tree half_known_trees (record { started = half_known_started; clash_free = clash_free_with_table _ two_atoms (initial_of exchange_tree half_known_tree) (swap_is_clash_free (initial_of exchange_tree half_known_tree) (closed_q (initial_of exchange_tree half_known_tree) refl)) })
     (with_table half_known_table (by_mode modes.K0 half_known_table (empty_tag_made exchange_tree half_known_tree)) (done [] (empty_tags_fit exchange_tree half_known_tree half_known_started.small) (nothing_uncovered (ground_of exchange_tree half_known_tree) (initial_of exchange_tree half_known_tree) (unconditional half_known_tree refl) half_known_table) refl))
 
 half_known_due : IsDue words (Some (holding exchange_text half_known)) half_known_outcome

@@ -34,6 +34,6 @@ pub use Rattle.kp_run.proofs.Solved.{proper as prepared_is_proper, complete_text
 -- ---- What an answer to `classical` says of its files.
 pub use Rattle.kp_run.proofs.SolvedClassical.{classical_true as classical_is_true}
 -- ---- examples that others go on from
-pub use Rattle.kp_run.proofs.ClashFree.{clash_free_with_table, p_and_q as example_p_and_q}
+pub use Rattle.kp_run.proofs.ClashFree.{clash_free_with_table, two_atoms as example_two_atoms}
 pub use Rattle.kp_run.proofs.ExampleOutcomes.{with_limit as example_with_limit, limited as example_limited, is_limited as example_is_limited, holding as example_holding, due_with as example_due_with, is_small as example_is_small, domain_reads as exchange_reads, problem_reads as from_p_to_q_reads, has_state as example_has_state, few_primes as example_few_primes, closed_q as example_closed_q, unconditional as example_unconditional}
 unfoldable pub use Rattle.kp_run.proofs.ExampleOutcomes.{only_p as example_only_p}

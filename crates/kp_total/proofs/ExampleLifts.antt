@@ -41,7 +41,7 @@ use Rattle.kp_inputs.specs.Tables.{by_mode, with_table}
 use Rattle.kp_run.specs.Outcomes.{translates, done, TranslatesTexts}
 use Rattle.kp_run.specs.Ends.{Ends, came}
 use Rattle.kp_run.specs.Completeness.{RanComplete, IsOfTheSame, HoldsPlan}
-use Rattle.kp_run.proofs.Public.{clash_free_with_table, example_p_and_q, empty_tags_fit, complete_is_told, empty_tag_made, nothing_uncovered, example_with_limit, example_limited, example_is_limited, example_holding, example_due_with, example_is_small, example_only_p, example_has_state, example_closed_q, example_unconditional, got_after_insert, got_beside_insert}
+use Rattle.kp_run.proofs.Public.{clash_free_with_table, example_two_atoms, empty_tags_fit, complete_is_told, empty_tag_made, nothing_uncovered, example_with_limit, example_limited, example_is_limited, example_holding, example_due_with, example_is_small, example_only_p, example_has_state, example_closed_q, example_unconditional, got_after_insert, got_beside_insert}
 use Rattle.kp_run.specs.Solved.{GoesOn}
 use Rattle.kp_total.specs.Commands.{HasLift}
 use Rattle.kp_total.proofs.ExampleFiles.{trees}
@@ -76,7 +76,7 @@ started = record {
 }
 
 no_clash : IsClashFree (ground_of exchange_tree from_p_to_q_tree) from_p
-no_clash = clash_free_with_table _ example_p_and_q from_p (swap_is_clash_free from_p (example_closed_q from_p refl))
+no_clash = clash_free_with_table _ example_two_atoms from_p (swap_is_clash_free from_p (example_closed_q from_p refl))
 
 abbrev table : TagTable
 table = empty_tag exchange_tree from_p_to_q_tree
