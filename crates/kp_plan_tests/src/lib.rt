@@ -3,6 +3,4 @@
 #![tactic(auto)]
 
 #[cfg(test)]
-mod meaning;
-#[cfg(test)]
 mod plans;
