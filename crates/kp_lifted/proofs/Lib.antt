@@ -2,6 +2,5 @@ pub mod Views
 pub mod KnownTypes
 pub mod WholeProblem
 pub mod AlikeTable
-pub mod NotedTypes
 pub mod SameObjects
 pub mod SameRanges

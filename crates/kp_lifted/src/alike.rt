@@ -1,16 +1,16 @@
-ghost use Rattle.std.specs.Prelude.{◌≡◌, [], Bool, fold, flat_map, map, option_map, IfOk, IfSome, OnOk, OnErr};
+ghost use Rattle.std.specs.Prelude.{◌≡◌, [], Bool, false, fold, option_map, IfOk, IfSome, OnOk, OnErr};
+ghost use Rattle.std.specs.List.{list_any};
 ghost use Rattle.std.specs.Map.{lookup};
 ghost use Rattle.indexmap.specs.IndexMap.{insert_entry};
-ghost use Rattle.kp_grammar.specs.View.{typed_view, domain_view, problem_view};
-ghost use Rattle.kp_meaning.specs.Names.{Name, same};
+ghost use Rattle.kp_grammar.specs.View.{domain_view, problem_view};
+ghost use Rattle.kp_meaning.specs.Names.{Name, same, is_among};
 ghost use Rattle.kp_meaning.specs.Types.{is_of_type};
-ghost use Rattle.kp_tables.specs.Steps.{HoldTypes};
-ghost use Rattle.kp_lifted.specs.Alike.{led, noted, down, downward, marking, all_noted, AreAlike};
+ghost use Rattle.kp_tables.specs.Steps.{with_name, own_types, HoldTypes};
+ghost use Rattle.kp_lifted.specs.Alike.{fits, AreAlike};
 
 use indexmap::IndexMap;
 use kp_base::Memory;
-use kp_grammar::{Domain, Problem, Typed};
-use kp_tables::{NameSet, OBJECT};
+use kp_tables::{NameSet, Names, types_of_objects, types_under};
 use std::alloc::Global;
 use std::marker::Model;
 
@@ -28,17 +28,6 @@ impl<'a> Model for Alike<'a> {
     ghost view = { λ a. map (λ e. (e.0.now, e.1.now)) a.leads.entries };
 }
 
-// Where a type leads once it is noted with a name: to that, where it leads nowhere else, and else to itself.
-fn led<'a>(old: Option<&'a [u8]>, kind: &'a [u8], name: &'a [u8]) -> &'a [u8]
-    ensures { result.now ≡ led (option_map (λ n. n.now) old.entry) (kind.now, name.now) }
-{
-    match old {
-        Some(old) if old != name => kind,
-        _ => name,
-    }
-}
-
-// How the table is made: a type under which one type with objects stands, and no object of its own, leads to that type.
 impl<'a> Alike<'a> {
     fn new(alloc: Global) -> Alike<'a>
         ensures { result ≡ [] }
@@ -60,96 +49,6 @@ impl<'a> Alike<'a> {
     {
         self.leads.insert(name, other)?;
         Ok(())
-    }
-
-    fn note(&mut self, kind: &'a [u8], name: &'a [u8]) -> Result<(), Memory>
-        ensures { OnOk result (self.new ≡ noted self.old (kind.now, name.now)) }
-    {
-        let to = led(self.get(kind), kind, name);
-        self.insert(kind, to)
-    }
-
-    // Notes each type of a line with the type under it.
-    fn note_line(&mut self, line: &'a Typed) -> Result<(), Memory>
-        ensures { OnOk result (self.new ≡ fold noted self.old (down (typed_view line.now))) }
-    {
-        for kind in line.kinds.slice() {
-            self.note(kind.text.slice(), line.word.text.slice())?;
-        }
-        Ok(())
-    }
-
-    // The same, where the type under it may have objects.
-    fn note_inhabited(&mut self, inhabited: &NameSet, line: &'a Typed) -> Result<(), Memory>
-        ensures { OnOk result (self.new ≡ fold noted self.old (downward inhabited.now (typed_view line.now))) }
-    {
-        if inhabited.has(line.word.text.slice()) {
-            self.note_line(line)?;
-        }
-        Ok(())
-    }
-
-    fn note_lines(&mut self, inhabited: &NameSet, lines: &'a [Typed]) -> Result<(), Memory>
-        ensures { OnOk result (self.new ≡ fold noted self.old (flat_map (downward inhabited.now) (map typed_view lines.now))) }
-    {
-        for line in lines {
-            self.note_inhabited(inhabited, line)?;
-        }
-        Ok(())
-    }
-
-    // Notes each type of a line with itself.
-    fn mark_line(&mut self, line: &'a Typed) -> Result<(), Memory>
-        ensures { OnOk result (self.new ≡ fold noted self.old (marking (typed_view line.now))) }
-    {
-        for kind in line.kinds.slice() {
-            self.note(kind.text.slice(), kind.text.slice())?;
-        }
-        Ok(())
-    }
-
-    fn mark_lines(&mut self, lines: &'a [Typed]) -> Result<(), Memory>
-        ensures { OnOk result (self.new ≡ fold noted self.old (flat_map marking (map typed_view lines.now))) }
-    {
-        for line in lines {
-            self.mark_line(line)?;
-        }
-        Ok(())
-    }
-
-    // Notes the types of two trees: `object` and those of objects with themselves, and all with those under them that
-    // may have objects.
-    fn note_all(
-        &mut self,
-        inhabited: &NameSet,
-        domain: &'a Domain,
-        problem: &'a Problem,
-    ) -> Result<(), Memory>
-        ensures { OnOk result (self.new ≡ fold noted self.old (all_noted inhabited.now (domain_view domain.now) (problem_view problem.now))) }
-    {
-        self.note(OBJECT, OBJECT)?;
-        self.note_lines(inhabited, domain.kinds.slice())?;
-        self.mark_lines(domain.constants.slice())?;
-        self.mark_lines(problem.objects.slice())?;
-        Ok(())
-    }
-
-    /// The types of two trees that have the objects of another, given those that may have objects.
-    pub fn of(
-        alloc: Global,
-        inhabited: &NameSet,
-        domain: &'a Domain,
-        problem: &'a Problem,
-    ) -> Result<Alike<'a>, Memory>
-        requires { HoldTypes (domain_view domain.now) (problem_view problem.now) inhabited.now }
-        ensures { (o : Name) → IfOk result (λ a. AreAlike (is_of_type (domain_view domain.now) (problem_view problem.now) o) a) }
-    {
-        let mut alike = Alike::new(alloc);
-        let Ok(()) = alike.note_all(inhabited, domain, problem) else {
-            drop(alike);
-            return Err(Memory);
-        };
-        Ok(alike)
     }
 }
 
@@ -222,5 +121,120 @@ impl<'a> Alike<'a> {
         let last = self.walked(name)?;
         self.lead_all(name, last)?;
         Ok(last)
+    }
+}
+
+// Whether it is the name that was found, where one was.
+fn fits(found: Option<&[u8]>, name: &[u8]) -> bool
+    ensures { result ≡ fits (option_map (λ n. n.now) found.entry) name.now }
+{
+    match found {
+        Some(other) => other == name,
+        None => true,
+    }
+}
+
+// How the table is made: a type without an object of its own leads on, where all types under it that have objects lead
+// to the same one.
+impl<'a> Alike<'a> {
+    // The type to which some lead, leaving out those without objects. There is none where they lead to several.
+    fn common(
+        &mut self,
+        inhabited: &NameSet,
+        names: &NameSet<'a>,
+    ) -> Result<Option<&'a [u8]>, Memory>
+        ensures kept { (f : Name → Bool) → AreAlike f self.old → AreAlike f self.new }
+        ensures alike { (f : Name → Bool) → AreAlike f self.old → ((n : Name) → is_among inhabited.now n ≡ false → f n ≡ false) → IfOk result (λ o. IfSome o (λ c. list_any f names.now ≡ f c.now)) }
+    {
+        let mut found: Option<&'a [u8]> = None;
+        for name in names.names() {
+            if inhabited.has(name) {
+                let last = self.last(name)?;
+                if !fits(found, last) {
+                    return Ok(None);
+                }
+                found = Some(last);
+            }
+        }
+        Ok(found)
+    }
+
+    // Lets a type lead on, where it can, and tells whether it does so now.
+    fn settle(
+        &mut self,
+        alloc: Global,
+        names: &Names<'a>,
+        inhabited: &NameSet,
+        own: &NameSet,
+        name: &'a [u8],
+    ) -> Result<bool, Memory>
+        requires held { HoldTypes (domain_view names.now.domain) (problem_view names.now.problem) inhabited.now }
+        requires own { own.now ≡ fold with_name [] (own_types (domain_view names.now.domain) (problem_view names.now.problem)) }
+        ensures { (o : Name) → AreAlike (is_of_type (domain_view names.now.domain) (problem_view names.now.problem) o) self.old → OnOk result (AreAlike (is_of_type (domain_view names.now.domain) (problem_view names.now.problem) o) self.new) }
+    {
+        if own.has(name) || self.get(name).is_some() {
+            return Ok(false);
+        }
+        let under = types_under(alloc, names, name)?;
+        let Some(other) = self.common(inhabited, &under)? else {
+            return Ok(false);
+        };
+        self.insert(name, other)?;
+        Ok(true)
+    }
+
+    // The same of all types that may have objects, from below upward.
+    fn settle_all(
+        &mut self,
+        alloc: Global,
+        names: &Names<'a>,
+        inhabited: &NameSet<'a>,
+        own: &NameSet,
+    ) -> Result<bool, Memory>
+        requires held { HoldTypes (domain_view names.now.domain) (problem_view names.now.problem) inhabited.now }
+        requires own { own.now ≡ fold with_name [] (own_types (domain_view names.now.domain) (problem_view names.now.problem)) }
+        ensures { (o : Name) → AreAlike (is_of_type (domain_view names.now.domain) (problem_view names.now.problem) o) self.old → OnOk result (AreAlike (is_of_type (domain_view names.now.domain) (problem_view names.now.problem) o) self.new) }
+    {
+        let mut more = false;
+        for name in inhabited.names() {
+            let settled = self.settle(alloc, names, inhabited, own, name)?;
+            more = more || settled;
+        }
+        Ok(more)
+    }
+
+    // The same again, as long as types come to lead on.
+    fn settle_on(
+        &mut self,
+        alloc: Global,
+        names: &Names<'a>,
+        inhabited: &NameSet<'a>,
+        own: &NameSet,
+    ) -> Result<(), Memory>
+        requires held { HoldTypes (domain_view names.now.domain) (problem_view names.now.problem) inhabited.now }
+        requires own { own.now ≡ fold with_name [] (own_types (domain_view names.now.domain) (problem_view names.now.problem)) }
+        ensures { (o : Name) → AreAlike (is_of_type (domain_view names.now.domain) (problem_view names.now.problem) o) self.old → OnOk result (AreAlike (is_of_type (domain_view names.now.domain) (problem_view names.now.problem) o) self.new) }
+    {
+        for _ in 0..inhabited.len() {
+            if !self.settle_all(alloc, names, inhabited, own)? {
+                return Ok(());
+            }
+        }
+        Ok(())
+    }
+
+    /// The types of two trees that have the objects of another, given those that may have objects.
+    pub fn of(
+        alloc: Global,
+        names: &Names<'a>,
+        inhabited: &NameSet<'a>,
+    ) -> Result<Alike<'a>, Memory>
+        requires { HoldTypes (domain_view names.now.domain) (problem_view names.now.problem) inhabited.now }
+        ensures { (o : Name) → IfOk result (λ a. AreAlike (is_of_type (domain_view names.now.domain) (problem_view names.now.problem) o) a) }
+    {
+        let own = types_of_objects(alloc, names.domain(), names.problem())?;
+        let mut alike = Alike::new(alloc);
+        alike.settle_on(alloc, names, inhabited, &own)?;
+        Ok(alike)
     }
 }

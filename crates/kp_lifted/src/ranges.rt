@@ -65,7 +65,7 @@ impl<'a> Ranges<'a> {
         requires { HoldTypes (domain_view names.domain) (problem_view names.problem) inhabited }
         ensures { IfOk result (λ r. r.names ≡ names.entry) }
     {
-        let Ok(alike) = Alike::of(alloc, &inhabited, names.domain(), names.problem()) else {
+        let Ok(alike) = Alike::of(alloc, &names, &inhabited) else {
             drop(names);
             drop(inhabited);
             return Err(Memory);

@@ -1,12 +1,12 @@
--- What the loops of the numbering do, step by step. Beside proofs it serves the contracts that cite `range_of`, `HoldTypes`, `with_name`.
+-- What the loops of the numbering do, step by step. Beside proofs it serves the contracts that cite `range_of`, `HoldTypes`, `own_types`, `with_name`, `under`, `lines_under`.
 use Rattle.std.specs.Prelude.{◌≡◌, ◌<◌, ◌||◌, ℕ, Bool, true, List, [], ◌∷◌, ◌++◌, if◌then◌else◌, cond, fold, filter, map, take, unwrap_or, AllPairs}
-use Rattle.std.specs.List.{list_any}
+use Rattle.std.specs.List.{list_any, flat_map}
 use Rattle.std.specs.Map.{lookup}
 use Rattle.kp_grammar.specs.declared.tree.Word.{Word}
 use Rattle.kp_grammar.specs.Trees.{Typed, Domain, Problem}
 use Rattle.kp_base.specs.Lists.{Member}
 use Rattle.kp_meaning.specs.Names.{Name, same, is_among}
-use Rattle.kp_meaning.specs.Types.{object, object_lines, objects, types_of, IsBelow, is_below, is_of_type}
+use Rattle.kp_meaning.specs.Types.{object, names, object_lines, objects, types_of, IsBelow, is_below, is_of_type}
 use Rattle.kp_meaning.specs.Numbering.{index_of, variable_number}
 
 -- ---- names
@@ -59,6 +59,10 @@ pub record IsClosing (pairs : List (Name × Name)) (old : List Name) (at : ℕ) 
   pub sound : (q : Name → Bool) → ((x : Name) → is_among old x ≡ true → q x ≡ true) → ((k x : Name) → q k ≡ true → is_among (under pairs k) x ≡ true → q x ≡ true) → (x : Name) → is_among names x ≡ true → q x ≡ true
 
 -- ---- objects of types
+
+-- `object`, and the types that are written behind objects
+abbrev pub own_types : Domain Word → Problem Word → List Name
+own_types d p = object ∷ flat_map (λ x. names x.kinds) (object_lines d p)
 
 -- the names hold the types of all objects, and with a type all above it
 pub record HoldTypes (d : Domain Word) (p : Problem Word) (names : List Name) : Type 0 where

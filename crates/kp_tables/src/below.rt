@@ -1,6 +1,6 @@
-ghost use Rattle.std.specs.Prelude.{◌≡◌, ◌+◌, ◌∷◌, [], length, IfOk, OnOk};
+ghost use Rattle.std.specs.Prelude.{◌≡◌, ◌+◌, ◌∷◌, [], fold, length, IfOk, OnOk};
 ghost use Rattle.kp_grammar.specs.View.{domain_view};
-ghost use Rattle.kp_tables.specs.Steps.{AreBelow, IsClosing};
+ghost use Rattle.kp_tables.specs.Steps.{with_name, lines_under, under, AreBelow, IsClosing};
 
 use crate::name_set::NameSet;
 use crate::tables::Names;
@@ -27,6 +27,15 @@ pub(crate) fn close<'a>(lines: &Under<'a>, names: &mut NameSet<'a>) -> Result<()
         at = after(at)?;
     }
     Ok(())
+}
+
+/// The types right under a type.
+pub fn types_under<'a>(alloc: Global, known: &Names<'a>, kind: &[u8]) -> Result<NameSet<'a>, Memory>
+    ensures { IfOk result (λ found. found ≡ fold with_name [] (under (lines_under (domain_view known.now.domain).kinds) kind.now)) }
+{
+    let mut found = NameSet::new(alloc);
+    known.types_under().add_to(kind, &mut found)?;
+    Ok(found)
 }
 
 /// The types below one type.

@@ -1,8 +1,8 @@
-ghost use Rattle.std.specs.Prelude.{◌≡◌, [], ◌∷◌, fold, map, IfOk, OnOk};
+ghost use Rattle.std.specs.Prelude.{◌≡◌, [], fold, map, IfOk, OnOk};
 ghost use Rattle.std.specs.List.{flat_map};
 ghost use Rattle.kp_grammar.specs.View.{typed_view, domain_view, problem_view};
-ghost use Rattle.kp_meaning.specs.Types.{object, names, object_lines};
-ghost use Rattle.kp_tables.specs.Steps.{with_name, HoldTypes};
+ghost use Rattle.kp_meaning.specs.Types.{names};
+ghost use Rattle.kp_tables.specs.Steps.{with_name, own_types, HoldTypes};
 
 use crate::below::{OBJECT, close};
 use crate::name_set::NameSet;
@@ -22,13 +22,13 @@ fn add_kinds<'a>(found: &mut NameSet<'a>, lines: &'a [Typed]) -> Result<(), Memo
     Ok(())
 }
 
-// `object`, and the types of objects.
-fn types_of_objects<'a>(
+/// `object`, and the types that stand behind objects.
+pub fn types_of_objects<'a>(
     alloc: Global,
     domain: &'a Domain,
     problem: &'a Problem,
 ) -> Result<NameSet<'a>, Memory>
-    ensures { IfOk result (λ found. found ≡ fold with_name [] (object ∷ flat_map (λ x. names x.kinds) (object_lines (domain_view domain.now) (problem_view problem.now)))) }
+    ensures { IfOk result (λ found. found ≡ fold with_name [] (own_types (domain_view domain.now) (problem_view problem.now))) }
 {
     let mut found = NameSet::new(alloc);
     found.insert(OBJECT)?;

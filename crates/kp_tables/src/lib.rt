@@ -12,8 +12,8 @@ mod tables;
 mod under;
 mod unsure;
 
-pub use below::{OBJECT, below_type, below_types};
-pub use inhabited::inhabited_types;
+pub use below::{OBJECT, below_type, below_types, types_under};
+pub use inhabited::{inhabited_types, types_of_objects};
 pub use items::{goal_literals, initial_items};
 pub use name_set::NameSet;
 pub use objects::objects_of;

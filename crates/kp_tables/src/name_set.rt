@@ -70,7 +70,7 @@ impl<'a> NameSet<'a> {
     }
 
     /// The names, in order of number.
-    pub(crate) fn names(&self) -> &[&'a [u8]]
+    pub fn names(&self) -> &[&'a [u8]]
         ensures { map (λ n. n.now) result.now ≡ self.now }
     {
         self.set.as_slice()
