@@ -65,11 +65,12 @@ fn made(
 fn effect<'a>(
     alloc: Global,
     ranges: &mut Ranges<'a>,
-    scope: &Scope<'a>,
+    scope: &mut Scope<'a>,
     tree: &'a EffTree,
 ) -> Result<Eff, Memory>
     ensures kept { ranges.new.names ≡ ranges.old.names }
-    ensures effect { IfOk result (λ e. eff_view e ≡ numbered_eff (domain_view ranges.old.names.domain) (problem_view ranges.old.names.problem) scope.now (tree_view tree.now)) }
+    ensures scope { OnOk result (scope.new ≡ scope.old) }
+    ensures effect { IfOk result (λ e. eff_view e ≡ numbered_eff (domain_view ranges.old.names.domain) (problem_view ranges.old.names.problem) scope.old (tree_view tree.now)) }
 {
     match tree {
         EffTree::All(parts) => Ok(Eff::All(effects(alloc, ranges, scope, parts.slice())?)),
@@ -78,10 +79,10 @@ fn effect<'a>(
             under(alloc, &ranges.names, scope, cond, body)
         }
         EffTree::Each(variables, body) => {
-            let inner = scope.with(alloc, variables.slice())?;
-            let body = effect(alloc, ranges, &inner, body);
-            drop(inner);
-            over(alloc, ranges, variables.slice(), body?)
+            scope.enter(variables.slice())?;
+            let body = effect(alloc, ranges, scope, body)?;
+            scope.leave(variables.len())?;
+            over(alloc, ranges, variables.slice(), body)
         }
         EffTree::Atom(positive, atom) => made(alloc, &ranges.names, scope, *positive, atom),
     }
@@ -92,11 +93,12 @@ fn effect<'a>(
 fn effects<'a>(
     alloc: Global,
     ranges: &mut Ranges<'a>,
-    scope: &Scope<'a>,
+    scope: &mut Scope<'a>,
     trees: &'a [EffTree],
 ) -> Result<Row<Eff>, Memory>
     ensures kept { ranges.new.names ≡ ranges.old.names }
-    ensures effects { IfOk result (λ row. map eff_view row ≡ map (numbered_eff (domain_view ranges.old.names.domain) (problem_view ranges.old.names.problem) scope.now) (map tree_view trees.now)) }
+    ensures scope { OnOk result (scope.new ≡ scope.old) }
+    ensures effects { IfOk result (λ row. map eff_view row ≡ map (numbered_eff (domain_view ranges.old.names.domain) (problem_view ranges.old.names.problem) scope.old) (map tree_view trees.now)) }
 {
     let mut row = Row::new(alloc);
     'trees: for tree in trees {
@@ -109,12 +111,12 @@ fn effects<'a>(
 fn forms_under<'a>(
     alloc: Global,
     ranges: &mut Ranges<'a>,
-    scope: &Scope<'a>,
+    scope: &mut Scope<'a>,
     tree: &'a SchemaTree,
 ) -> Result<(Cond, Eff), Memory>
     ensures kept { ranges.new.names ≡ ranges.old.names }
-    ensures pre { IfOk result (λ x. cond_view x.0 ≡ numbered_cond (domain_view ranges.old.names.domain) (problem_view ranges.old.names.problem) scope.now (cond_tree_view tree.now.pre)) }
-    ensures effect { IfOk result (λ x. eff_view x.1 ≡ numbered_eff (domain_view ranges.old.names.domain) (problem_view ranges.old.names.problem) scope.now (tree_view tree.now.effect)) }
+    ensures pre { IfOk result (λ x. cond_view x.0 ≡ numbered_cond (domain_view ranges.old.names.domain) (problem_view ranges.old.names.problem) scope.old (cond_tree_view tree.now.pre)) }
+    ensures effect { IfOk result (λ x. eff_view x.1 ≡ numbered_eff (domain_view ranges.old.names.domain) (problem_view ranges.old.names.problem) scope.old (tree_view tree.now.effect)) }
 {
     let pre = condition(alloc, &ranges.names, scope, &tree.pre)?;
     let effect = effect(alloc, ranges, scope, &tree.effect)?;
@@ -131,8 +133,9 @@ fn forms<'a>(
     ensures pre { IfOk result (λ x. cond_view x.0 ≡ (numbered_schema (domain_view ranges.old.names.domain) (problem_view ranges.old.names.problem) (schema_tree_view tree.now)).pre) }
     ensures effect { IfOk result (λ x. eff_view x.1 ≡ (numbered_schema (domain_view ranges.old.names.domain) (problem_view ranges.old.names.problem) (schema_tree_view tree.now)).effect) }
 {
-    let scope = Scope::new(alloc).with(alloc, tree.params.slice())?;
-    let forms = forms_under(alloc, ranges, &scope, tree);
+    let mut scope = Scope::new(alloc);
+    scope.enter(tree.params.slice())?;
+    let forms = forms_under(alloc, ranges, &mut scope, tree);
     drop(scope);
     forms
 }

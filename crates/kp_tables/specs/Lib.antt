@@ -3,3 +3,4 @@ pub mod Tables
 pub mod Collected
 pub mod Unsure
 pub mod Chains
+pub mod Scopes

@@ -1,9 +1,8 @@
-ghost use Rattle.std.specs.Prelude.{◌≡◌, ◌≤◌, [], length, map, reverse, IfOk, OnOk};
+ghost use Rattle.std.specs.Prelude.{◌≡◌, [], ◌∷◌, drop, map, OnOk};
 ghost use Rattle.kp_grammar.specs.View.{typed_view};
 ghost use Rattle.kp_meaning.specs.Faults.{inside};
 ghost use Rattle.kp_meaning.specs.Numbering.{variable_number};
 ghost use Rattle.kp_meaning.specs.Types.{declared};
-ghost use Rattle.kp_tables.specs.Steps.{AreInnermost};
 
 use indexmap::IndexMap;
 use kp_base::Memory;
@@ -11,46 +10,31 @@ use kp_grammar::Typed;
 use std::alloc::Global;
 use std::marker::Model;
 
+// A variable, and the number that its name had outside it; 0 where none had the name.
+#[derive(Clone, Copy)]
+struct Variable<'a> {
+    name: &'a [u8],
+    before: u32,
+}
+
 /// The variables round a place. Contracts see the innermost first.
 #[derive(Drop)]
 pub struct Scope<'a> {
     // The outermost first.
-    variables: Vec<&'a [u8]>,
+    variables: Vec<Variable<'a>>,
     // Under each name the number of the innermost variable that has it.
     innermost: IndexMap<&'a [u8], u32>,
 }
 
 impl<'a> Model for Scope<'a> {
-    ghost use Rattle.std.specs.Prelude.{List, ℕ, map, reverse};
-    ghost use Rattle.kp_tables.specs.Steps.{AreInnermost};
+    ghost use Rattle.std.specs.Prelude.{List, ℕ, map};
+    ghost use Rattle.kp_tables.specs.Scopes.{inward, IsScope};
 
     ghost Value = { List (List ℕ) };
 
-    ghost view = { λ s. reverse (map (λ v. v.now) s.variables.items) };
+    ghost view = { λ s. inward s.variables.items };
 
-    ghost invariant = { λ s. AreInnermost (reverse (map (λ v. v.now) s.variables.items)) (map (λ e. (e.0.now, e.1)) s.innermost.entries) };
-}
-
-// Puts variables inside.
-fn add_inside<'a>(names: &mut Vec<&'a [u8]>, variables: &'a [Typed]) -> Result<(), Memory>
-    ensures { OnOk result (reverse (map (λ v. v.now) names.new.items) ≡ inside (declared (map typed_view variables.now)) (reverse (map (λ v. v.now) names.old.items))) }
-{
-    for variable in variables {
-        names.push(variable.word.text.slice())?;
-    }
-    Ok(())
-}
-
-// The number of the innermost variable of each name.
-fn innermost<'a>(alloc: Global, names: &[&'a [u8]]) -> Result<IndexMap<&'a [u8], u32>, Memory>
-    requires { length names.now ≤ 4294967295 }
-    ensures { IfOk result (λ m. AreInnermost (reverse (map (λ v. v.now) names.now)) (map (λ e. (e.0.now, e.1)) m.entries)) }
-{
-    let mut numbers = IndexMap::with_capacity(alloc, names.len())?;
-    for (place, name) in names.iter().enumerate() {
-        numbers.insert(*name, place as u32)?;
-    }
-    Ok(numbers)
+    ghost invariant = { λ s. IsScope s.variables.items (map (λ e. (e.0.now, e.1)) s.innermost.entries) };
 }
 
 impl<'a> Scope<'a> {
@@ -64,27 +48,54 @@ impl<'a> Scope<'a> {
         }
     }
 
-    // These variables. More than a `u32` counts are want of memory.
-    fn of(alloc: Global, variables: Vec<&'a [u8]>) -> Result<Scope<'a>, Memory>
-        ensures { IfOk result (λ s. s ≡ reverse (map (λ v. v.now) variables.entry.items)) }
+    // Puts a variable inside.
+    fn push(&mut self, name: &'a [u8]) -> Result<(), Memory>
+        ensures { OnOk result (self.new ≡ name.now ∷ self.old) }
     {
-        if variables.len() > u32::MAX as usize {
+        let place = self.variables.len();
+        let Ok(number) = u32::try_from(place) else {
             return Err(Memory);
-        }
-        let innermost = innermost(alloc, &variables)?;
-        Ok(Scope {
-            variables,
-            innermost,
-        })
+        };
+        let before = self.number(name);
+        self.variables.push(Variable { name, before })?;
+        let Ok(_) = self.innermost.insert(name, number) else {
+            self.variables.truncate(place);
+            return Err(Memory);
+        };
+        Ok(())
     }
 
-    /// The scope with these variables inside.
-    pub fn with(&self, alloc: Global, variables: &'a [Typed]) -> Result<Scope<'a>, Memory>
-        ensures { IfOk result (λ s. s ≡ inside (declared (map typed_view variables.now)) self.now) }
+    // Takes the innermost variable out, if there is one.
+    fn pop(&mut self) -> Result<(), Memory>
+        ensures { OnOk result (self.new ≡ drop 1 self.old) }
     {
-        let mut names = Vec::from_slice(alloc, &self.variables)?;
-        add_inside(&mut names, variables)?;
-        Scope::of(alloc, names)
+        let len = self.variables.len();
+        if len > 0 {
+            let last = self.variables.as_slice()[len - 1];
+            self.innermost.insert(last.name, last.before)?;
+            self.variables.truncate(len - 1);
+        }
+        Ok(())
+    }
+
+    /// Puts variables inside. More than a `u32` counts are want of memory.
+    pub fn enter(&mut self, variables: &'a [Typed]) -> Result<(), Memory>
+        ensures { OnOk result (self.new ≡ inside (declared (map typed_view variables.now)) self.old) }
+    {
+        for variable in variables {
+            self.push(variable.word.text.slice())?;
+        }
+        Ok(())
+    }
+
+    /// Takes this many variables out, the innermost first.
+    pub fn leave(&mut self, number: usize) -> Result<(), Memory>
+        ensures { OnOk result (self.new ≡ drop number self.old) }
+    {
+        for _ in 0..number {
+            self.pop()?;
+        }
+        Ok(())
     }
 
     /// The number of a variable: how many stand outside the innermost of this name. It is 0 where none has the name.
