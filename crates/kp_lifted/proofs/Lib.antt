@@ -1,4 +1,5 @@
 pub mod Views
+pub mod LeftScopes
 pub mod KnownTypes
 pub mod WholeProblem
 pub mod AlikeTable

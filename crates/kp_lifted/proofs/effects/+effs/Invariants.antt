@@ -7,5 +7,6 @@ use Rattle.kp_lifted.proofs.effects.+effs.Given as goal
 abbrev pub invariant-effects-trees : goal.invariant-effects-trees
 invariant-effects-trees l = record {
   kept : l.ranges.names ≡ l.fn.ranges.names;
-  so_far : map eff_view l.row ++ map (numbered_eff (domain_view l.fn.ranges.names.domain) (problem_view l.fn.ranges.names.problem) l.scope) (map tree_view (drop l.tree-index l.trees)) ≡ map (numbered_eff (domain_view l.fn.ranges.names.domain) (problem_view l.fn.ranges.names.problem) l.scope) (map tree_view l.trees);
+  back : l.scope ≡ l.fn.scope;
+  so_far : map eff_view l.row ++ map (numbered_eff (domain_view l.fn.ranges.names.domain) (problem_view l.fn.ranges.names.problem) l.fn.scope) (map tree_view (drop l.tree-index l.trees)) ≡ map (numbered_eff (domain_view l.fn.ranges.names.domain) (problem_view l.fn.ranges.names.problem) l.fn.scope) (map tree_view l.trees);
 }

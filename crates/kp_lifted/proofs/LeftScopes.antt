@@ -1,0 +1,22 @@
+-- Where the variables that came last are taken out, the scope is as it was.
+use Rattle.std.proofs.Common.{◌≡◌, ◌+◌, ℕ, suc, List, [], ◌∷◌, length, map, drop, Result, Ok, Err, OnOk, refl, sym, ap, ◌∙◌, arith}
+use Rattle.kp_grammar.specs.declared.tree.Typed.{Typed}
+use Rattle.kp_grammar.specs.View.{typed_view}
+use Rattle.kp_meaning.specs.Names.{Name}
+use Rattle.kp_meaning.specs.Types.{declared}
+use Rattle.kp_meaning.specs.Faults.{inside}
+use Rattle.kp_tables.proofs.InnermostVariables.{one_less}
+
+one_first : (n : ℕ) (ns : List Name) → drop (suc n) ns ≡ drop 1 (drop n ns)
+one_first n ns = let count : suc n ≡ n + 1 = omega arith in ap (λ k. drop k ns) count ∙ sym (one_less ns n)
+
+pub as_before : (xs : List Typed) (scope : List Name) → drop (length xs) (inside (declared (map typed_view xs)) scope) ≡ scope
+as_before [] scope = refl
+as_before (x ∷ xs) scope =
+    let inner = x.word.text ∷ scope in
+    one_first (length xs) (inside (declared (map typed_view xs)) inner) ∙ ap (drop 1) (as_before xs inner)
+
+-- what holds anyway holds where there is an answer
+pub on_ok : {T E : Type 0} {P : Type 0} (r : Result T E) → P → OnOk r P
+on_ok (Ok x) h = h
+on_ok (Err e) h = tt
