@@ -33,6 +33,32 @@ fn judge(
     check(alloc, ground, primes, steps)
 }
 
+// What is answered on these steps, with the prime implicates of the initial states.
+fn judged_by(
+    alloc: Global,
+    ground: &Ground,
+    primes: &Primes,
+    steps: &[u32],
+) -> Result<Judged, Memory> {
+    let steps = row_of(alloc, steps)?;
+    let judged = judge(alloc, ground, primes, &steps);
+    drop(steps);
+    judged
+}
+
+fn judged_on(
+    alloc: Global,
+    ground: &Ground,
+    atoms: u32,
+    stated: &[&[Sign]],
+    steps: &[u32],
+) -> Result<Judged, Stop> {
+    let primes = primes(alloc, stated, &[], atoms)?;
+    let judged = judged_by(alloc, ground, &primes, steps);
+    drop(primes);
+    Ok(judged?)
+}
+
 /// What is answered on these steps, where this is stated of the initial states.
 pub(crate) fn judged(
     alloc: Global,
@@ -41,13 +67,9 @@ pub(crate) fn judged(
     stated: &[&[Sign]],
     steps: &[u32],
 ) -> Result<Judged, Stop> {
-    let primes = primes(alloc, stated, &[], atoms)?;
-    let steps = row_of(alloc, steps)?;
-    let judged = judge(alloc, &ground, &primes, &steps);
-    drop(steps);
-    drop(primes);
+    let judged = judged_on(alloc, &ground, atoms, stated, steps);
     drop(ground);
-    Ok(judged?)
+    judged
 }
 
 // ---- answers

@@ -44,23 +44,27 @@ fn takes_a_step_once(rt: HostRuntime) -> Result<(), Fail> {
     Ok(())
 }
 
-// Two places: moves from each to each, which take what is at the first to the second.
-fn moves(alloc: Global) -> Result<Ground, Memory> {
-    let mut ground = idle(alloc, 2, &[(1, true)])?;
-    add(alloc, &mut ground, &[(0, true)], &[(&[], (0, true))])?;
+// Moves from each of two places to each, which take what is at the first to the second.
+fn add_moves(alloc: Global, ground: &mut Ground) -> Result<(), Memory> {
+    add(alloc, ground, &[(0, true)], &[(&[], (0, true))])?;
     add(
         alloc,
-        &mut ground,
+        ground,
         &[(0, true)],
         &[(&[], (0, false)), (&[], (1, true))],
     )?;
     add(
         alloc,
-        &mut ground,
+        ground,
         &[(1, true)],
         &[(&[], (1, false)), (&[], (0, true))],
     )?;
-    add(alloc, &mut ground, &[(1, true)], &[(&[], (1, true))])?;
+    add(alloc, ground, &[(1, true)], &[(&[], (1, true))])
+}
+
+fn moves(alloc: Global) -> Result<Ground, Memory> {
+    let mut ground = idle(alloc, 2, &[(1, true)])?;
+    add_moves(alloc, &mut ground)?;
     Ok(ground)
 }
 

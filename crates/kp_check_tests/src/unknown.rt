@@ -5,13 +5,17 @@ use kp_test_problems::{Sign, add, idle};
 use std::alloc::Global;
 use std::test::Fail;
 
-// p and q, behind some atoms and before others that no action speaks of: one step adds q where p holds, the other where
-// it doesn't.
+// One step that adds q where p holds, and one that adds it where p doesn't.
+fn add_both(alloc: Global, ground: &mut Ground, p: u32, q: u32) -> Result<(), Memory> {
+    add(alloc, ground, &[], &[(&[(p, true)], (q, true))])?;
+    add(alloc, ground, &[], &[(&[(p, false)], (q, true))])
+}
+
+// p and q, behind some atoms and before others that no action speaks of, with both steps.
 fn either_way(alloc: Global, before: u8, behind: u8) -> Result<Ground, Memory> {
     let p = u32::from(before);
     let mut ground = idle(alloc, p + 2 + u32::from(behind), &[(p + 1, true)])?;
-    add(alloc, &mut ground, &[], &[(&[(p, true)], (p + 1, true))])?;
-    add(alloc, &mut ground, &[], &[(&[(p, false)], (p + 1, true))])?;
+    add_both(alloc, &mut ground, p, p + 1)?;
     Ok(ground)
 }
 
@@ -63,23 +67,19 @@ fn wanted(alloc: Global) -> Result<Vec<Sign>, Memory> {
     Ok(signs)
 }
 
-// Pairs of atoms p and q, all p first: for each two steps, of which one adds q where p holds, the other where it
-// doesn't.
+// Pairs of atoms p and q, all p first, without steps.
+fn idle_pairs(alloc: Global) -> Result<Ground, Memory> {
+    let wanted = wanted(alloc)?;
+    let ground = idle(alloc, 2 * PAIRS, &wanted);
+    drop(wanted);
+    ground
+}
+
+// These pairs, with both steps for each.
 fn pairs(alloc: Global) -> Result<Ground, Memory> {
-    let mut ground = idle(alloc, 2 * PAIRS, &wanted(alloc)?)?;
+    let mut ground = idle_pairs(alloc)?;
     for i in 0..PAIRS {
-        add(
-            alloc,
-            &mut ground,
-            &[],
-            &[(&[(i, true)], (PAIRS + i, true))],
-        )?;
-        add(
-            alloc,
-            &mut ground,
-            &[],
-            &[(&[(i, false)], (PAIRS + i, true))],
-        )?;
+        add_both(alloc, &mut ground, i, PAIRS + i)?;
     }
     Ok(ground)
 }

@@ -1,5 +1,5 @@
 use crate::reading::resolved;
-use kp_base::{Limits, Refused, Stop};
+use kp_base::{Ground, Limits, Refused, Stop};
 use kp_ground::ground;
 use kp_names::Lifted;
 use std::alloc::Global;
@@ -48,9 +48,16 @@ pub fn limit_in(refused: &Refused) -> Option<Limit> {
     }
 }
 
+fn is_refused_for(answer: &Result<Ground, Stop>, limit: Limit) -> bool {
+    matches!(answer, Err(Stop::Refused(found)) if limit_in(found) == Some(limit))
+}
+
 // Whether this limit is told.
 fn tells(alloc: Global, lifted: &Lifted, limits: &Limits, limit: Limit) -> bool {
-    matches!(&ground(alloc, lifted, limits), Err(Stop::Refused(found)) if limit_in(found) == Some(limit))
+    let answer = ground(alloc, lifted, limits);
+    let is_told = is_refused_for(&answer, limit);
+    drop(answer);
+    is_told
 }
 
 fn limits_of(bindings: u64, actions: u32, weight: u64) -> Limits {

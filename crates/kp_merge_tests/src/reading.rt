@@ -61,12 +61,28 @@ fn is_bad(alloc: Global, file: &str, line: u32, byte: u32) -> bool {
     }
 }
 
+// Of no tag or one; in upper case, and with a comment and no blank that it could do without.
 #[test]
 fn one_merge(rt: HostRuntime) {
-    let table: [(&str, Sign, &[&[Sign]]); 8] = [
+    let table: [(&str, Sign, &[&[Sign]]); 4] = [
         ("(merge (x1))", (0, true), &[]),
         ("(merge (x1) ())", (0, true), &[&[]]),
         ("(MERGE (X2) ((AT B)))", (1, true), &[&[(2, true)]]),
+        (
+            "; a merge\n(merge(at b)((not(x1))))\n",
+            (2, true),
+            &[&[(0, false)]],
+        ),
+    ];
+    for (file, target, tags) in table {
+        assert!(rt; is_merge(rt.alloc(), file, target, tags), "{file}");
+    }
+}
+
+// A tag is a set of literals, which may exclude each other; a tag may stand twice.
+#[test]
+fn tags_of_a_merge(rt: HostRuntime) {
+    let table: [(&str, Sign, &[&[Sign]]); 4] = [
         (
             "(merge (not (x2)) ((x1)) ())",
             (1, false),
@@ -86,11 +102,6 @@ fn one_merge(rt: HostRuntime) {
             "(merge (x1) ((x2)) ((x2)))",
             (0, true),
             &[&[(1, true)], &[(1, true)]],
-        ),
-        (
-            "; a merge\n(merge(at b)((not(x1))))\n",
-            (2, true),
-            &[&[(0, false)]],
         ),
     ];
     for (file, target, tags) in table {

@@ -130,15 +130,25 @@ fn refuses_names<S: Shelf>(alloc: Global, shelf: &mut S) -> bool {
         && fails_to_put(alloc, shelf, b"\xff", b"")
 }
 
+fn keeps_files<S: Shelf>(alloc: Global, shelf: &mut S) -> Result<bool, AllocError> {
+    Ok(keeps_a_long_file(alloc, shelf)? && keeps_a_short_file(alloc, shelf))
+}
+
+fn takes_away(rt: &HostRuntime) -> bool {
+    fs::remove_file(rt, "kp_outside_file").is_ok()
+}
+
 // A real file is written, written over by less, read back, and taken away.
 #[test]
 fn files(rt: HostRuntime) -> Result<(), Fail> {
-    let alloc = rt.alloc();
     let mut shelf = FileShelf::new(&rt);
-    assert!(rt; keeps_a_long_file(alloc, &mut shelf)?);
-    assert!(rt; keeps_a_short_file(alloc, &mut shelf));
-    fs::remove_file(&rt, "kp_outside_file")?;
-    assert!(rt; refuses_names(alloc, &mut shelf));
+    let are_kept = keeps_files(rt.alloc(), &mut shelf)?;
+    let is_taken = takes_away(&rt);
+    let are_refused = refuses_names(rt.alloc(), &mut shelf);
+    drop(shelf);
+    assert!(rt; are_kept);
+    assert!(rt; is_taken);
+    assert!(rt; are_refused);
     Ok(())
 }
 

@@ -3,4 +3,6 @@
 #![tactic(auto)]
 
 #[cfg(test)]
+mod meaning;
+#[cfg(test)]
 mod plans;

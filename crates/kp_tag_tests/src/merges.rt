@@ -66,23 +66,30 @@ fn is_inconsistent(alloc: Global, merges: &[&[&[Sign]]], number: u32, place: u32
 
 const BOTH: &[Sign] = &[(0, true), (1, true)];
 
+fn tells_invalid_merges(alloc: Global) -> bool {
+    is_invalid(alloc, &[&[FIRST, SECOND]], 0, &[2]) && is_invalid(alloc, &[&[]], 0, &[2])
+}
+
+fn tells_inconsistent_tags(alloc: Global) -> bool {
+    is_inconsistent(alloc, &[&[BOTH]], 0, 0) && is_inconsistent(alloc, &[&[FIRST, BOTH]], 0, 1)
+}
+
+// The second merge has a state outside, and the tag of the third is inconsistent.
+fn tells_the_second_merge(alloc: Global) -> bool {
+    is_invalid(
+        alloc,
+        &[&[FIRST, SECOND, THIRD], &[SECOND, THIRD], &[BOTH]],
+        1,
+        &[0],
+    )
+}
+
 #[test]
 fn tells_the_first_fault(rt: HostRuntime) -> Result<(), Fail> {
     let alloc = rt.alloc();
-    assert!(rt;
-        is_invalid(alloc, &[&[FIRST, SECOND]], 0, &[2]) && is_invalid(alloc, &[&[]], 0, &[2])
-    );
-    assert!(rt;
-        is_inconsistent(alloc, &[&[BOTH]], 0, 0) && is_inconsistent(alloc, &[&[FIRST, BOTH]], 0, 1)
-    );
-    assert!(rt;
-        is_invalid(
-            alloc,
-            &[&[FIRST, SECOND, THIRD], &[SECOND, THIRD], &[BOTH]],
-            1,
-            &[0]
-        )
-    );
+    assert!(rt; tells_invalid_merges(alloc));
+    assert!(rt; tells_inconsistent_tags(alloc));
+    assert!(rt; tells_the_second_merge(alloc));
     Ok(())
 }
 
