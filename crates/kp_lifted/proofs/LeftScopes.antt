@@ -1,5 +1,5 @@
 -- Where the variables that came last are taken out, the scope is as it was.
-use Rattle.std.proofs.Common.{◌≡◌, ◌+◌, ℕ, suc, List, [], ◌∷◌, length, map, drop, Result, Ok, Err, OnOk, refl, sym, ap, ◌∙◌, arith}
+use Rattle.std.proofs.Common.{◌≡◌, ◌+◌, ℕ, suc, List, [], ◌∷◌, length, map, drop, refl, sym, ap, ◌∙◌, arith}
 use Rattle.kp_grammar.specs.declared.tree.Typed.{Typed}
 use Rattle.kp_grammar.specs.View.{typed_view}
 use Rattle.kp_meaning.specs.Names.{Name}
@@ -15,8 +15,3 @@ as_before [] scope = refl
 as_before (x ∷ xs) scope =
     let inner = x.word.text ∷ scope in
     one_first (length xs) (inside (declared (map typed_view xs)) inner) ∙ ap (drop 1) (as_before xs inner)
-
--- what holds anyway holds where there is an answer
-pub on_ok : {T E : Type 0} {P : Type 0} (r : Result T E) → P → OnOk r P
-on_ok (Ok x) h = h
-on_ok (Err e) h = tt

@@ -2,6 +2,8 @@ ghost use Rattle.std.specs.Prelude.{◌≡◌, ◌++◌, [], map, IfOk, OnOk};
 ghost use Rattle.kp_grammar.specs.View.{typed_view, atom_view, domain_view, problem_view};
 ghost use Rattle.kp_grammar.specs.Trees.{Eff as tree_effects};
 ghost use Rattle.kp_grammar.specs.View.{eff_view as tree_view, schema_view as schema_tree_view};
+ghost use Rattle.kp_meaning.specs.Faults.{inside};
+ghost use Rattle.kp_meaning.specs.Types.{declared};
 ghost use Rattle.kp_meaning.specs.Numbering.{numbered_eff, numbered_schema, numbered_cond, numbered_range};
 ghost use Rattle.kp_grammar.specs.View.{cond_view as cond_tree_view};
 ghost use Rattle.kp_meaning.specs.Numbered.{Eff as by_number};
@@ -79,13 +81,30 @@ fn effect<'a>(
             under(alloc, &ranges.names, scope, cond, body)
         }
         EffTree::Each(variables, body) => {
-            scope.enter(variables.slice())?;
-            let body = effect(alloc, ranges, scope, body)?;
-            scope.leave(variables.len())?;
+            let body = effect_inside(alloc, ranges, scope, variables.slice(), body)?;
             over(alloc, ranges, variables.slice(), body)
         }
         EffTree::Atom(positive, atom) => made(alloc, &ranges.names, scope, *positive, atom),
     }
+}
+
+// An effect under these variables, with some more inside.
+#[cycle(effs)]
+fn effect_inside<'a>(
+    alloc: Global,
+    ranges: &mut Ranges<'a>,
+    scope: &mut Scope<'a>,
+    variables: &'a [Typed],
+    tree: &'a EffTree,
+) -> Result<Eff, Memory>
+    ensures kept { ranges.new.names ≡ ranges.old.names }
+    ensures scope { OnOk result (scope.new ≡ scope.old) }
+    ensures effect { IfOk result (λ e. eff_view e ≡ numbered_eff (domain_view ranges.old.names.domain) (problem_view ranges.old.names.problem) (inside (declared (map typed_view variables.now)) scope.old) (tree_view tree.now)) }
+{
+    scope.enter(variables)?;
+    let effect = effect(alloc, ranges, scope, tree)?;
+    scope.leave(variables.len())?;
+    Ok(effect)
 }
 
 // Effects under these variables.

@@ -1,8 +1,8 @@
-use Rattle.std.proofs.Common.{◌∙◌, sym, ap, ap₂, map, drop, length}
+use Rattle.std.proofs.Common.{◌∙◌, sym, ap, map, drop, length}
 use Rattle.kp_grammar.specs.View.{eff_view as tree_view, domain_view, problem_view}
 use Rattle.kp_meaning.specs.Numbering.{numbered_eff}
 use Rattle.kp_lifted.proofs.Views.{all_effs}
-use Rattle.kp_lifted.proofs.LeftScopes.{as_before, on_ok}
+use Rattle.kp_lifted.proofs.LeftScopes.{as_before}
 use Rattle.kp_lifted.proofs.effects.+effs.Goals as goal
 
 pub effect-returns-in_ok-effects-in-All-clause-effect : goal.effect-returns-in_ok-effects-in-All-clause-effect
@@ -13,9 +13,8 @@ effect-returns-in_ok-effects-in-All-clause-effect t c =
     ∙ ap (λ z. numbered_eff d p c.args.scope.now (tree_view z)) (sym c.in-All.is)
 
 -- the variables that were entered are left
-pub effect-returns-in_ok-leave-in-Each-clause-scope : goal.effect-returns-in_ok-leave-in-Each-clause-scope
-effect-returns-in_ok-leave-in-Each-clause-scope t c =
-    on_ok c.over.result
-    (c.in_ok-leave-in-Each.ensures
-    ∙ (ap₂ drop (c.len.ensures ∙ ap length (sym c.slice-in-Each.ensures)) (c.in_ok-body-in-Each.ensures.scope ∙ c.in_ok-enter-in-Each.ensures)
-    ∙ as_before c.slice-in-Each.result.now c.args.scope.now))
+pub effect_inside-returns-clause-scope : goal.effect_inside-returns-clause-scope
+effect_inside-returns-clause-scope t c =
+    c.in_ok-leave.ensures
+    ∙ (ap (drop (length c.args.variables.now)) (c.in_ok-effect.ensures.scope ∙ c.in_ok-enter.ensures)
+    ∙ as_before c.args.variables.now c.args.scope.now)
