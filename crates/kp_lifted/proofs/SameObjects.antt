@@ -13,8 +13,7 @@ use Rattle.kp_meaning.specs.Names.{Name, same, is_among}
 use Rattle.kp_meaning.specs.Types.{object, names, or_object, types_of, IsBelow, itself, root, parent, over, is_below, object_lines, is_of_type}
 use Rattle.kp_meaning.proofs.Public.{type_test_is_exact, member_is_among}
 use Rattle.kp_tables.specs.Steps.{with_name, own_types, lines_under, under}
-use Rattle.kp_tables.proofs.Gathering.{among_all, gathered_member, member_gathered}
-use Rattle.kp_tables.proofs.NamesUnderTypes.{put_by, puts_it}
+use Rattle.kp_tables.proofs.Public.{among_all, gathered_member, member_gathered, put_by, puts_it}
 use Rattle.kp_lifted.specs.Alike.{of_found, fits}
 
 -- ---- types behind a name

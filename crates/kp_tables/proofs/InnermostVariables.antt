@@ -1,6 +1,5 @@
 -- What the entries of a scope tell once one more variable stands inside, and once one goes.
-use Rattle.std.proofs.Common.{Bor, ◌≡◌, ◌<◌, ◌+◌, ◌-◌, ◌++◌, ℕ, zero, suc, Bool, true, false, if◌then◌else◌, cond, List, [], ◌∷◌, length, map, reverse, take, drop, get_or, Option, Some, true≢false, refl, sym, ap, subst, ◌∙◌, arith}
-use Rattle.std.proofs.Math.Seq.{drop-nil}
+use Rattle.std.proofs.Common.{Bor, ◌≡◌, ◌<◌, ◌+◌, ◌-◌, ◌++◌, ℕ, Bool, true, false, if◌then◌else◌, cond, List, [], ◌∷◌, length, map, reverse, take, get_or, Option, Some, true≢false, refl, sym, ap, subst, ◌∙◌, arith}
 use Rattle.std.proofs.lemmas.Grind.{common_steps}
 use Rattle.std.proofs.lemmas.List.{take_more, take_all, reverse-append}
 use Rattle.std.specs.Prelude.{unwrap_or}
@@ -118,9 +117,3 @@ pub last_popped : (vs us : List Variable) (es : List (Bor Name × ℕ)) (n : ℕ
 last_popped vs us es n d same_list is some h =
     subst (λ z. IsScope (take (n - 1) vs) (map (λ e. (e.0.now, e.1)) (insert_entry (λ i j. same i.now j.now) es (get_or z (n - 1) d).name (get_or z (n - 1) d).before))) (sym same_list)
     (popped (take (n - 1) vs) es (get_or vs (n - 1) d) (subst (λ z. IsScope z (map (λ e. (e.0.now, e.1)) es)) (last_behind vs n d is some) h))
-
--- one more goes
-pub one_less : (xs : List Name) (i : ℕ) → drop 1 (drop i xs) ≡ drop (i + 1) xs
-one_less xs zero = refl
-one_less [] (suc i) = sym (drop-nil (suc i + 1))
-one_less (x ∷ xs) (suc i) = let count : suc (i + 1) ≡ suc i + 1 = omega arith in one_less xs i ∙ ap (λ k. drop k (x ∷ xs)) count
