@@ -183,7 +183,7 @@ impl<'a> Alike<'a> {
         Ok(true)
     }
 
-    // The same of all types that may have objects, from below upward.
+    // The same of all types that may have objects, as they were found from those of objects upward.
     fn settle_all(
         &mut self,
         alloc: Global,
@@ -203,7 +203,31 @@ impl<'a> Alike<'a> {
         Ok(more)
     }
 
-    // The same again, as long as types come to lead on.
+    // The same the other way round.
+    fn settle_back(
+        &mut self,
+        alloc: Global,
+        names: &Names<'a>,
+        inhabited: &NameSet<'a>,
+        own: &NameSet,
+    ) -> Result<bool, Memory>
+        requires held { HoldTypes (domain_view names.now.domain) (problem_view names.now.problem) inhabited.now }
+        requires own { own.now ≡ fold with_name [] (own_types (domain_view names.now.domain) (problem_view names.now.problem)) }
+        ensures { (o : Name) → AreAlike (is_of_type (domain_view names.now.domain) (problem_view names.now.problem) o) self.old → OnOk result (AreAlike (is_of_type (domain_view names.now.domain) (problem_view names.now.problem) o) self.new) }
+    {
+        let mut more = false;
+        let mut left = inhabited.len();
+        while left > 0 {
+            left -= 1;
+            if let Some(name) = inhabited.get(left) {
+                let settled = self.settle(alloc, names, inhabited, own, name)?;
+                more = more || settled;
+            }
+        }
+        Ok(more)
+    }
+
+    // The same there and back, as long as types come to lead on, and at most eight times.
     fn settle_on(
         &mut self,
         alloc: Global,
@@ -215,8 +239,10 @@ impl<'a> Alike<'a> {
         requires own { own.now ≡ fold with_name [] (own_types (domain_view names.now.domain) (problem_view names.now.problem)) }
         ensures { (o : Name) → AreAlike (is_of_type (domain_view names.now.domain) (problem_view names.now.problem) o) self.old → OnOk result (AreAlike (is_of_type (domain_view names.now.domain) (problem_view names.now.problem) o) self.new) }
     {
-        for _ in 0..inhabited.len() {
-            if !self.settle_all(alloc, names, inhabited, own)? {
+        for _ in 0..8 {
+            let there = self.settle_all(alloc, names, inhabited, own)?;
+            let back = self.settle_back(alloc, names, inhabited, own)?;
+            if !there && !back {
                 return Ok(());
             }
         }

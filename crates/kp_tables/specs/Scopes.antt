@@ -1,4 +1,4 @@
--- This file serves proofs alone. How the variables round a place are kept, with the numbers that their names had outside them.
+-- How the variables round a place are kept, with the numbers that their names had outside them. The view of `Scope` is `inward`; the rest serves proofs alone.
 use Rattle.std.specs.Prelude.{◌≡◌, ℕ, List, [], ◌∷◌, map, reverse}
 use Rattle.kp_meaning.specs.Names.{Name}
 use Rattle.kp_meaning.specs.Numbering.{variable_number}
@@ -9,7 +9,7 @@ use Rattle.kp_tables.specs.declared.scope.Variable.{Variable}
 abbrev pub names_of : List Variable → List Name
 names_of vs = map (λ v. v.name.now) vs
 
--- the same, where the innermost stands last
+-- the same in reverse: of variables that stand in the order in which they were entered, the innermost first
 abbrev pub inward : List Variable → List Name
 inward vs = names_of (reverse vs)
 

@@ -1,4 +1,4 @@
--- What the loops of the numbering do, step by step. Beside proofs it serves the contracts that cite `range_of`, `HoldTypes`, `own_types`, `with_name`, `under`, `lines_under`.
+-- What the loops of the numbering do, step by step. Beside proofs it serves the contracts that cite `AreBelow`, `range_of`, `HoldTypes`, `own_types`, `with_name`, `under`, `lines_under`.
 use Rattle.std.specs.Prelude.{◌≡◌, ◌<◌, ◌||◌, ℕ, Bool, true, List, [], ◌∷◌, ◌++◌, if◌then◌else◌, cond, fold, filter, map, take, unwrap_or, AllPairs}
 use Rattle.std.specs.List.{list_any, flat_map}
 use Rattle.std.specs.Map.{lookup}

@@ -22,7 +22,7 @@ struct Variable<'a> {
 pub struct Scope<'a> {
     // The outermost first.
     variables: Vec<Variable<'a>>,
-    // Under each name the number of the innermost variable that has it.
+    // Under each name the number of the innermost variable that has it; 0 where none has it any more.
     innermost: IndexMap<&'a [u8], u32>,
 }
 
@@ -78,7 +78,7 @@ impl<'a> Scope<'a> {
         Ok(())
     }
 
-    /// Puts variables inside. More than a `u32` counts are want of memory.
+    /// Puts variables inside. More than a `u32` counts are want of memory; then some of them may be inside.
     pub fn enter(&mut self, variables: &'a [Typed]) -> Result<(), Memory>
         ensures { OnOk result (self.new ≡ inside (declared (map typed_view variables.now)) self.old) }
     {
@@ -88,7 +88,7 @@ impl<'a> Scope<'a> {
         Ok(())
     }
 
-    /// Takes this many variables out, the innermost first.
+    /// Takes this many variables out, the innermost first. Where memory is wanting, some of them may be out.
     pub fn leave(&mut self, number: usize) -> Result<(), Memory>
         ensures { OnOk result (self.new ≡ drop number self.old) }
     {
