@@ -5,5 +5,9 @@ use Rattle.kp_lifted.specs.Alike.{AreAlike}
 use Rattle.kp_lifted.proofs.alike.Alike.settle_back.Given as goal
 
 -- objects are of both names of each entry, or of none
-abbrev pub invariant-loop : goal.invariant-loop
-invariant-loop l = (o : Name) → AreAlike (is_of_type (domain_view l.names.domain) (problem_view l.names.problem) o) l.fn.self → AreAlike (is_of_type (domain_view l.names.domain) (problem_view l.names.problem) o) l.self
+abbrev pub invariant-loop-left : goal.invariant-loop-left
+invariant-loop-left l = (o : Name) → AreAlike (is_of_type (domain_view l.names.domain) (problem_view l.names.problem) o) l.fn.self → AreAlike (is_of_type (domain_view l.names.domain) (problem_view l.names.problem) o) l.self
+
+-- so many are left
+abbrev pub decreases-loop-left : goal.decreases-loop-left
+decreases-loop-left l = l.left
