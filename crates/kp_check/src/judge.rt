@@ -11,7 +11,7 @@ use crate::failing::At;
 use crate::marks::{open_marks, truth_later};
 use crate::values::start;
 use kp_base::{AtomId, Ground, LitSet, Memory, Row};
-use kp_first::{Question, Truth, first, first_goes_by_what_passes};
+use kp_first::{Question, Seen, Truth, first, first_goes_by_what_passes};
 use kp_primes::Primes;
 use std::alloc::Global;
 
@@ -35,14 +35,21 @@ impl<'a> Question for Failing<'a> {
         self.marks.len()
     }
 
-    fn judge(&self, alloc: Global, number: usize, known: &LitSet) -> Result<Truth, Memory> {
+    // Each test looks at one literal alone, so nothing falls away.
+    fn judge(&self, alloc: Global, number: usize, known: &LitSet) -> Result<Seen<Self>, Memory> {
         match self.marks.get(number) {
             Some(mark) => {
                 let from = start(alloc, self.atoms, known)?;
                 let truth = truth_later(alloc, self.ground, self.steps, *mark, from)?;
-                Ok(truth.negated())
+                Ok(Seen {
+                    truth: truth.negated(),
+                    less: None,
+                })
             }
-            None => Ok(Truth::No),
+            None => Ok(Seen {
+                truth: Truth::No,
+                less: None,
+            }),
         }
     }
 }

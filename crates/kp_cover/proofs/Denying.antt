@@ -20,7 +20,7 @@ use Rattle.kp_primes.specs.Held.{Held, formula, AreWhole}
 use Rattle.kp_primes.proofs.Public.{consistent_exact}
 use Rattle.kp_first.specs.Ordered.{state_of, AreFirst}
 use Rattle.kp_cover.specs.Grown.{is_fine}
-use Rattle.kp_cover.specs.Covered.{found, tags_found, all_inside, IsInside, says_valid}
+use Rattle.kp_cover.specs.Covered.{found, tags_found, all_inside, says_valid}
 use Rattle.kp_cover.specs.Valid.{satisfies_one, AreValidTags, is_outside, AnswersValid}
 use Rattle.kp_cover.specs.declared.tags.Validity.{Validity}
 use Rattle.kp_cover.specs.declared.tags.Validity.TheVariants.{Valid, Invalid}
@@ -66,15 +66,13 @@ module _ (h : Held) (whole : AreWhole h) where
     λ valid. is ∙ found_inside tags [] ((consistent_exact h whole []).1 whole.has_model) (λ s m k. valid s m),
   )
 
--- ---- what some literals entail
+-- ---- what is always true
 
--- one tag suffices all of whose literals they entail
-pub one_within : (n : ℕ) (i : Initial) (lits known : List Lit) (tags : List (List Lit)) → IsClosure n i lits known → list_any (λ t. is_within t known) tags ≡ true → IsInside i lits tags
-one_within n i lits known tags closure one = record {
-  each = λ s m k.
-      let t = any_member (λ t. is_within t known) tags one in
-      any_from (list_all (holds s)) tags t.0 t.1 (all_from (holds s) t.0 (λ l at. closure.entailed l (all_member (has known) t.0 l at t.2) s m k));
-}
+-- one tag suffices all of whose literals are always true
+pub one_within : (n : ℕ) (i : Initial) (known : List Lit) (tags : List (List Lit)) → IsClosure n i [] known → list_any (λ t. is_within t known) tags ≡ true → AreValidTags i tags
+one_within n i known tags closure one s m =
+    let t = any_member (λ t. is_within t known) tags one in
+    any_from (list_all (holds s)) tags t.0 t.1 (all_from (holds s) t.0 (λ l at. closure.entailed l (all_member (has known) t.0 l at t.2) s m refl))
 
 -- ---- tags of the atoms
 

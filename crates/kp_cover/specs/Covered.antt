@@ -9,14 +9,12 @@ use Rattle.kp_base.specs.declared.ground.TagTable.{TagTable}
 use Rattle.kp_base.specs.declared.ground.Merge.{Merge}
 use Rattle.kp_base.specs.Lists.{Member}
 use Rattle.kp_base.specs.Lit.{negated, has}
-use Rattle.kp_base.specs.Steps.{State, holds, is_model}
 use Rattle.kp_base.specs.LitSet.{IsAscending, with_lit}
 use Rattle.kp_base.specs.Entailed.{IsValid, IsTable}
 use Rattle.kp_base.specs.Covering.{IsCovered}
 use Rattle.kp_primes.specs.Held.{Held, formula}
 use Rattle.kp_relevance.specs.Relevant.{ArePairsOf}
 use Rattle.kp_cover.specs.Grown.{is_fine}
-use Rattle.kp_cover.specs.Valid.{satisfies_one}
 use Rattle.kp_cover.specs.declared.tags.Validity.{Validity}
 use Rattle.kp_cover.specs.declared.tags.Validity.TheVariants.{Valid, Invalid}
 
@@ -45,10 +43,6 @@ all_rows_meet table cs ts = list_all (λ t. row_meets cs (slice_get table.tags t
 abbrev pub all_inside : List (List Lit) → List Lit → List (List Lit) → Bool
 all_inside ps known [] = false
 all_inside ps known (t ∷ tags) = list_all (λ l. not (is_fine ps (with_lit (negated l) known)) || all_inside ps (with_lit (negated l) known) tags) t
-
--- each model in which some literals are true satisfies one of the tags
-pub record IsInside (i : Initial) (known : List Lit) (tags : List (List Lit)) : Type 0 where
-  pub each : (s : State) → is_model i s ≡ true → list_all (holds s) known ≡ true → satisfies_one tags s ≡ true
 
 -- how many ways there are to choose a literal of each tag
 abbrev pub ways : List (List Lit) → ℕ

@@ -7,7 +7,6 @@ ghost use Rattle.kp_primes.specs.Held.{formula};
 ghost use Rattle.kp_cover.specs.Covered.{all_inside, ways, AreFew};
 ghost use Rattle.kp_cover.specs.Valid.{AreValidTags};
 
-use crate::cases::are_told;
 use crate::product::with_one;
 use kp_base::{LitSet, Memory};
 use kp_primes::Primes;
@@ -91,19 +90,8 @@ fn none_of_few_outside(alloc: Global, primes: &Primes, tags: &[LitSet]) -> Resul
     Ok(inside)
 }
 
-// Whether one of many tags is always true, or cases tell that each initial state satisfies one of them.
-fn are_many_told(alloc: Global, primes: &Primes, tags: &[LitSet]) -> Result<bool, Memory>
-    ensures { IfOk result (λ b. IsTrue b → AreValidTags (formula primes.now) tags.now) }
-{
-    if is_one_always(alloc, primes, tags)? {
-        return Ok(true);
-    }
-    let told = are_told(alloc, primes, tags)?;
-    Ok(told)
-}
-
 /// Whether it is soon told that each initial state satisfies one of the tags: there are few ways to deny a literal of
-/// each, and none is consistent; or there are many, and one of them is always true, or cases tell it.
+/// each, and none is consistent; or there are many, and one of the tags is always true.
 pub(crate) fn are_soon_valid(
     alloc: Global,
     primes: &Primes,
@@ -113,7 +101,7 @@ pub(crate) fn are_soon_valid(
 {
     let _whole = primes.clauses();
     if !are_few(tags) {
-        let told = are_many_told(alloc, primes, tags)?;
+        let told = is_one_always(alloc, primes, tags)?;
         return Ok(told);
     }
     let inside = none_of_few_outside(alloc, primes, tags)?;

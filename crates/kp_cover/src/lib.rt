@@ -6,12 +6,12 @@
 #![tactic(auto)]
 
 mod answer;
-mod cases;
 mod covering;
 mod deny;
 mod distinct;
 mod laws;
 mod least;
+mod left;
 mod meet;
 mod merge;
 mod needed;

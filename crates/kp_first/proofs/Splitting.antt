@@ -1,20 +1,20 @@
 -- A tag all of whose models pass, found by splitting on undecided atoms.
-use Rattle.std.proofs.Common.{◌≡◌, ◌<◌, ℕ, zero, suc, Bool, true, false, not, ◌||◌, List, [], ◌∷◌, length, arith, Option, Some, None, refl, sym, ap, ◌∙◌, inl, inr}
+use Rattle.std.proofs.Common.{◌≡◌, ◌<◌, ℕ, zero, suc, Bool, true, false, not, List, [], ◌∷◌, length, arith, Option, Some, None, refl, sym, ap, ◌∙◌}
 use Rattle.std.proofs.lemmas.Bool.{or_from, or_left, or_right, false≢true, false_from_ne_true}
-use Rattle.std.specs.List.{list_any, list_all}
+use Rattle.std.specs.List.{list_all}
 use Rattle.kp_base.specs.declared.lit.Lit.{Lit}
 use Rattle.kp_base.specs.declared.ground.Initial.{Initial}
 use Rattle.kp_base.specs.Lit.{positive, negative, has}
 use Rattle.kp_base.specs.LitSet.{with_lit}
 use Rattle.kp_base.specs.Steps.{State, holds, is_model}
-use Rattle.kp_base.specs.Entailed.{Entails, IsConsistent, IsClosure}
+use Rattle.kp_base.specs.Entailed.{IsConsistent, IsClosure}
 use Rattle.kp_base.specs.Implicates.{are_below}
 use Rattle.kp_base.proofs.Lists.{all_member, all_from}
 use Rattle.kp_base.proofs.Lits.{member-has, has-member}
 use Rattle.kp_first.specs.Known.{is_decided}
 use Rattle.kp_first.specs.declared.truth.Truth.{Truth}
 use Rattle.kp_first.specs.declared.truth.Truth.TheVariants.{Yes, No, Open}
-use Rattle.kp_first.specs.Asked.{IsWitness, AnswersFind, Judges, JudgesTag, passes_one, test_at}
+use Rattle.kp_first.specs.Asked.{IsWitness, AnswersFind, AskTheSame, AskOfModels, Judges, JudgesTag, passes_one, test_at}
 use Rattle.kp_first.proofs.Tags.{more_met, more_parts, more_below}
 
 module _ (n : ℕ) (i : Initial) (passes : State → Bool) (tag known : List Lit) (closed : IsClosure n i tag known) where
@@ -51,6 +51,13 @@ module _ (n : ℕ) (i : Initial) (passes : State → Bool) (tag known : List Lit
   judges_tag below met (Open a) unclear =
       let u = unclear met.state (closure_met met.state met.model met.all_true) in
       (u.0, open_atom a.0 u.0 u.1)
+
+  -- other tests that ask the same where the closure is true ask the same of the tag's models
+  pub same_of_models : (tests others : List (State → Bool)) → AskTheSame tests others known → AskOfModels i tests others tag
+  same_of_models tests others same = record {
+    as_many = same.as_many;
+    same = λ k s m h. same.same k s (closure_met s m h);
+  }
 
 -- a witness of the tag with one literal more is one of the tag
 pub found_more : (n : ℕ) (i : Initial) (passes : State → Bool) (l : Lit) (tag found : List Lit) → IsWitness n i passes (with_lit l tag) found → IsWitness n i passes tag found

@@ -1,5 +1,5 @@
 -- What is asked of states that are known by some of their literals.
-use Rattle.std.specs.Prelude.{◌≡◌, ◌<◌, ℕ, zero, suc, Bool, true, false, ◌&&◌, List, [], ◌∷◌, Option, Some, None}
+use Rattle.std.specs.Prelude.{◌≡◌, ◌<◌, ℕ, zero, suc, Bool, true, false, ◌&&◌, List, [], ◌∷◌, length, Option, Some, None}
 use Rattle.std.specs.List.{list_any, list_all}
 use Rattle.kp_base.specs.declared.lit.Lit.{Lit}
 use Rattle.kp_base.specs.declared.ground.Initial.{Initial}
@@ -29,6 +29,11 @@ test_at (test ∷ tests) (suc k) s = test_at tests k s
 abbrev pub Judges : ℕ → (State → Bool) → List Lit → Truth → Type 0
 Judges n passes known t = (s : State) → list_all (holds s) known ≡ true → IsTruth n known (passes s) t
 
+-- other tests are as many, and of the states in which the known literals are true each passes the same ones
+pub record AskTheSame (tests others : List (State → Bool)) (known : List Lit) : Type 0 where
+  pub as_many : length others ≡ length tests
+  pub same : (k : ℕ) (s : State) → list_all (holds s) known ≡ true → test_at others k s ≡ test_at tests k s
+
 -- ---- for proofs alone
 
 -- a tag of the first n atoms that some model satisfies, and all of whose models pass and satisfy the given one
@@ -42,6 +47,11 @@ pub record IsWitness (n : ℕ) (i : Initial) (passes : State → Bool) (tag foun
 abbrev pub AnswersFind : ℕ → Initial → (State → Bool) → List Lit → Option (List Lit) → Type 0
 AnswersFind n i passes tag None = (s : State) → is_model i s ≡ true → list_all (holds s) tag ≡ true → passes s ≡ false
 AnswersFind n i passes tag (Some found) = IsWitness n i passes tag found
+
+-- other tests are as many, and of the models of a tag each passes the same ones
+pub record AskOfModels (i : Initial) (tests others : List (State → Bool)) (tag : List Lit) : Type 0 where
+  pub as_many : length others ≡ length tests
+  pub same : (k : ℕ) (s : State) → is_model i s ≡ true → list_all (holds s) tag ≡ true → test_at others k s ≡ test_at tests k s
 
 -- a tag has models, and all of them pass; or none passes; or this atom isn't decided by it
 abbrev pub JudgesTag : ℕ → Initial → (State → Bool) → List Lit → Truth → Type 0

@@ -1,12 +1,12 @@
-ghost use Rattle.std.specs.Prelude.{◌≡◌, ◌<◌, true, false, length, IfOk};
+ghost use Rattle.std.specs.Prelude.{◌≡◌, ◌<◌, true, false, length, IfOk, IfSome};
 ghost use Rattle.kp_base.specs.Lit.{negative, positive};
 ghost use Rattle.kp_base.specs.LitSet.{with_lit};
 ghost use Rattle.kp_base.specs.Implicates.{are_below};
 ghost use Rattle.kp_primes.specs.Held.{formula};
 ghost use Rattle.kp_first.specs.Known.{is_decided};
-ghost use Rattle.kp_first.specs.Asked.{AnswersFind, JudgesTag, passes_one, test_at};
+ghost use Rattle.kp_first.specs.Asked.{AnswersFind, AskOfModels, JudgesTag, passes_one, test_at};
 
-use crate::{Question, Truth};
+use crate::{Question, Seen, Truth};
 use kp_base::{AtomId, Lit, LitSet, Memory};
 use kp_primes::Primes;
 use std::alloc::Global;
@@ -28,33 +28,39 @@ fn with_more(mut tag: LitSet, lit: Lit) -> Result<LitSet, Memory>
     Ok(tag)
 }
 
-// Whether the models of a tag pass a test; `No` where it has none.
-fn judge_tag<T: Question>(
+// What is seen of a tag's models; the test isn't passed where there are none.
+fn judge_tag<T: Question + Drop>(
     alloc: Global,
     primes: &Primes,
     question: &T,
     number: usize,
     tag: &LitSet,
-) -> Result<Truth, Memory>
+) -> Result<Seen<T>, Memory>
     requires ready { T.ready question.now }
     requires atoms { T.atoms question.now ≡ primes.now.atoms }
     requires in_range { number < length (T.tests question.now) }
     requires below { are_below primes.now.atoms tag.now ≡ true }
-    ensures { IfOk result (JudgesTag primes.now.atoms (formula primes.now) (test_at (T.tests question.now) number) tag.now) }
+    ensures truth { IfOk result (λ seen. JudgesTag primes.now.atoms (formula primes.now) (test_at (T.tests question.now) number) tag.now seen.truth) }
+    ensures same_atoms { IfOk result (λ seen. IfSome seen.less (λ less. T.atoms less ≡ primes.now.atoms)) }
+    ensures still_ready { IfOk result (λ seen. IfSome seen.less (λ less. T.ready less)) }
+    ensures same { IfOk result (λ seen. IfSome seen.less (λ less. AskOfModels (formula primes.now) (T.tests question.now) (T.tests less) tag.now)) }
 {
     match primes.closure(alloc, tag)? {
         Some(known) => {
-            let truth = question.judge(alloc, number, &known)?;
-            Ok(truth)
+            let seen = question.judge(alloc, number, &known)?;
+            Ok(seen)
         }
-        None => Ok(Truth::No),
+        None => Ok(Seen {
+            truth: Truth::No,
+            less: None,
+        }),
     }
 }
 
 // A tag within this one all of whose models pass the test with this number, and that has one. None where no model of
 // the tag passes.
 #[cycle(find)]
-fn find<T: Question>(
+fn find<T: Question + Drop>(
     alloc: Global,
     primes: &Primes,
     question: &T,
@@ -67,19 +73,48 @@ fn find<T: Question>(
     requires below { are_below primes.now.atoms tag ≡ true }
     ensures { IfOk result (AnswersFind primes.now.atoms (formula primes.now) (test_at (T.tests question.now) number) tag) }
 {
-    match judge_tag(alloc, primes, question, number, &tag)? {
+    let seen = judge_tag(alloc, primes, question, number, &tag)?;
+    match seen.truth {
         Truth::Yes => Ok(Some(tag)),
         Truth::No => Ok(None),
-        Truth::Open(atom) => match find_absent(alloc, primes, question, number, &tag, atom)? {
-            Some(found) => Ok(Some(found)),
-            None => find_present(alloc, primes, question, number, tag, atom),
-        },
+        Truth::Open(atom) => {
+            let found = match &seen.less {
+                Some(less) => find_either_way(alloc, primes, less, number, tag, atom),
+                None => find_either_way(alloc, primes, question, number, tag, atom),
+            };
+            drop(seen);
+            found
+        }
     }
 }
 
-// The same of the tag without an atom that it leaves open.
+// The same of a tag that leaves an atom open: first without it.
 #[cycle(find)]
-fn find_absent<T: Question>(
+fn find_either_way<T: Question + Drop>(
+    alloc: Global,
+    primes: &Primes,
+    question: &T,
+    number: usize,
+    tag: LitSet,
+    atom: AtomId,
+) -> Result<Option<LitSet>, Memory>
+    requires ready { T.ready question.now }
+    requires atoms { T.atoms question.now ≡ primes.now.atoms }
+    requires in_range { number < length (T.tests question.now) }
+    requires below { are_below primes.now.atoms tag ≡ true }
+    requires open_below { atom.0 < primes.now.atoms }
+    requires undecided { is_decided tag atom.0 ≡ false }
+    ensures { IfOk result (AnswersFind primes.now.atoms (formula primes.now) (test_at (T.tests question.now) number) tag) }
+{
+    match find_absent(alloc, primes, question, number, &tag, atom)? {
+        Some(found) => Ok(Some(found)),
+        None => find_present(alloc, primes, question, number, tag, atom),
+    }
+}
+
+// The same of the tag without the atom.
+#[cycle(find)]
+fn find_absent<T: Question + Drop>(
     alloc: Global,
     primes: &Primes,
     question: &T,
@@ -103,9 +138,9 @@ fn find_absent<T: Question>(
     find(alloc, primes, question, number, without)
 }
 
-// The same of the tag with an atom that it leaves open.
+// The same of the tag with the atom.
 #[cycle(find)]
-fn find_present<T: Question>(
+fn find_present<T: Question + Drop>(
     alloc: Global,
     primes: &Primes,
     question: &T,
@@ -131,7 +166,7 @@ fn find_present<T: Question>(
 
 /// A tag within this one all of whose models pass one of the tests, and that has one. None where no model of the tag
 /// passes any.
-pub fn find_any<T: Question>(
+pub fn find_any<T: Question + Drop>(
     alloc: Global,
     primes: &Primes,
     question: &T,

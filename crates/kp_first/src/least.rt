@@ -14,7 +14,7 @@ use kp_primes::Primes;
 use std::alloc::Global;
 
 // What `find_any` may answer for the tag without this atom, where a tag that it answered for the tag is there.
-fn find_without<T: Question>(
+fn find_without<T: Question + Drop>(
     alloc: Global,
     primes: &Primes,
     question: &T,
@@ -43,7 +43,7 @@ fn find_without<T: Question>(
 }
 
 // Decides the next atom: it is absent where some model of what was chosen passes without it.
-fn choose_one<T: Question>(
+fn choose_one<T: Question + Drop>(
     alloc: Global,
     primes: &Primes,
     question: &T,
@@ -79,7 +79,7 @@ fn choose_one<T: Question>(
 }
 
 // The atoms of the first model that passes, where a tag is there whose models pass.
-fn choose<T: Question>(
+fn choose<T: Question + Drop>(
     alloc: Global,
     primes: &Primes,
     question: &T,
@@ -112,7 +112,7 @@ fn choose<T: Question>(
 
 /// The first model that passes one of the tests: at the first atom in which two models differ, the one without it comes
 /// first. Its atoms, in order; none where no model passes.
-pub fn first<T: Question>(
+pub fn first<T: Question + Drop>(
     alloc: Global,
     primes: &Primes,
     question: &T,

@@ -10,5 +10,5 @@ mod truth;
 
 pub use laws::{first_goes_by_what_passes, there_is_one_first};
 pub use least::first;
-pub use question::Question;
+pub use question::{Question, Seen};
 pub use truth::{Truth, truth_in};

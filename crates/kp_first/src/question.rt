@@ -1,10 +1,19 @@
-ghost use Rattle.std.specs.Prelude.{◌≡◌, ◌<◌, ℕ, Bool, List, length, IfOk};
+ghost use Rattle.std.specs.Prelude.{◌≡◌, ◌<◌, ℕ, Bool, List, length, IfOk, IfSome};
 ghost use Rattle.kp_base.specs.Steps.{State};
-ghost use Rattle.kp_first.specs.Asked.{Judges, test_at};
+ghost use Rattle.kp_first.specs.Asked.{Judges, AskTheSame, test_at};
 
 use crate::Truth;
 use kp_base::{LitSet, Memory};
 use std::alloc::Global;
+
+/// What is seen of some states by a test.
+#[derive(Drop)]
+pub struct Seen<T> {
+    /// Whether they pass it.
+    pub truth: Truth,
+    /// The same question of them, if less of it is left to ask. It is kept as long as these states are split further.
+    pub less: Option<T>,
+}
 
 /// Which models are looked for: those that pass one of some tests. Each test may be decided where only some literals
 /// are known.
@@ -22,9 +31,12 @@ pub trait Question {
     fn count(&self) -> usize
         ensures { result ≡ length (tests self.now) };
 
-    /// Whether the states in which these literals are true pass the test with this number.
-    fn judge(&self, alloc: Global, number: usize, known: &LitSet) -> Result<Truth, Memory>
+    /// What is seen of the states in which these literals are true by the test with this number.
+    fn judge(&self, alloc: Global, number: usize, known: &LitSet) -> Result<Seen<Self>, Memory>
         requires ready { ready self.now }
         requires in_range { number < length (tests self.now) }
-        ensures { IfOk result (Judges (atoms self.now) (test_at (tests self.now) number) known.now) };
+        ensures truth { IfOk result (λ seen. Judges (atoms self.now) (test_at (tests self.now) number) known.now seen.truth) }
+        ensures same_atoms { IfOk result (λ seen. IfSome seen.less (λ less. atoms less ≡ atoms self.now)) }
+        ensures still_ready { IfOk result (λ seen. IfSome seen.less (λ less. ready less)) }
+        ensures same { IfOk result (λ seen. IfSome seen.less (λ less. AskTheSame (tests self.now) (tests less) known.now)) };
 }

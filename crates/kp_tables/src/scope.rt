@@ -1,4 +1,4 @@
-ghost use Rattle.std.specs.Prelude.{◌≡◌, [], ◌∷◌, drop, map, OnOk};
+ghost use Rattle.std.specs.Prelude.{◌≡◌, [], ◌∷◌, drop, map, OnOk, OnErr};
 ghost use Rattle.kp_grammar.specs.View.{typed_view};
 ghost use Rattle.kp_meaning.specs.Faults.{inside};
 ghost use Rattle.kp_meaning.specs.Numbering.{variable_number};
@@ -50,7 +50,8 @@ impl<'a> Scope<'a> {
 
     // Puts a variable inside.
     fn push(&mut self, name: &'a [u8]) -> Result<(), Memory>
-        ensures { OnOk result (self.new ≡ name.now ∷ self.old) }
+        ensures inside { OnOk result (self.new ≡ name.now ∷ self.old) }
+        ensures kept { OnErr result (self.new ≡ self.old) }
     {
         let place = self.variables.len();
         let Ok(number) = u32::try_from(place) else {
@@ -67,7 +68,8 @@ impl<'a> Scope<'a> {
 
     // Takes the innermost variable out, if there is one.
     fn pop(&mut self) -> Result<(), Memory>
-        ensures { OnOk result (self.new ≡ drop 1 self.old) }
+        ensures outside { OnOk result (self.new ≡ drop 1 self.old) }
+        ensures kept { OnErr result (self.new ≡ self.old) }
     {
         let len = self.variables.len();
         if len > 0 {

@@ -1,35 +1,23 @@
-use Rattle.std.proofs.Common.{◌≡◌, ◌<◌, true, false, refl, ◌∙◌, arith}
+use Rattle.std.proofs.Common.{true, false, arith}
 use Rattle.std.proofs.lemmas.Result.{IfOk-weaker}
 use Rattle.kp_base.specs.Lit.{negative, positive}
-use Rattle.kp_base.specs.LitSet.{with_lit}
 use Rattle.kp_primes.specs.Held.{formula}
 use Rattle.kp_first.specs.Asked.{test_at}
 use Rattle.kp_first.proofs.Tags.{falls, more_below}
 use Rattle.kp_first.proofs.Splitting.{found_more, split}
 use Rattle.kp_first.proofs.finding.+find.Goals as goal
 
--- the tag leaves the atom open
-pub find-find_absent-requires : goal.find-find_absent-requires
-find-find_absent-requires g t c κs within =
-    let unclear = rw c.in-Open.is at c.in_ok-judge_tag.ensures in
-    (omega (arith, c.decreases), (within, (c.requires.ready, (c.requires.atoms, (c.requires.in_range, (c.requires.below, (unclear.0, unclear.1)))))))
-
-pub find-find_present-requires : goal.find-find_present-requires
-find-find_present-requires g t c κs within =
-    let unclear = rw c.in-Open.is at c.in_ok-judge_tag.ensures in
-    (omega (arith, c.decreases), (within, (c.requires.ready, (c.requires.atoms, (c.requires.in_range, (c.requires.below, (unclear.0, unclear.1)))))))
-
 -- what is found without the atom is within the tag
-pub find-returns-in-Some : goal.find-returns-in-Some
-find-returns-in-Some g t c =
-    let found = rw c.in-Some.is at c.in_ok-found-in-Open.ensures in
-    found_more c.args.primes.now.atoms (formula c.args.primes.now) (test_at (g.T.Question.tests c.args.question.now) c.args.number) (negative c.in-Open.atom.0) c.args.tag c.in-Some.found found
+pub find_either_way-returns-in-Some : goal.find_either_way-returns-in-Some
+find_either_way-returns-in-Some g t c =
+    let found = rw c.in-Some.is at c.in_ok-found.ensures in
+    found_more c.args.primes.now.atoms (formula c.args.primes.now) (test_at (g.T.Question.tests c.args.question.now) c.args.number) (negative c.args.atom.0) c.args.tag c.in-Some.found found
 
 -- where nothing is found without it, what is found with it decides
-pub find-returns-in-None : goal.find-returns-in-None
-find-returns-in-None g t c =
-    let none = rw c.in-None.is at c.in_ok-found-in-Open.ensures in
-    IfOk-weaker c.find_present.result _ _ (λ found rest. split c.args.primes.now.atoms (formula c.args.primes.now) (test_at (g.T.Question.tests c.args.question.now) c.args.number) c.in-Open.atom.0 c.args.tag found none rest) c.find_present.ensures
+pub find_either_way-returns-in-None : goal.find_either_way-returns-in-None
+find_either_way-returns-in-None g t c =
+    let none = rw c.in-None.is at c.in_ok-found.ensures in
+    IfOk-weaker c.find_present.result _ _ (λ found rest. split c.args.primes.now.atoms (formula c.args.primes.now) (test_at (g.T.Question.tests c.args.question.now) c.args.number) c.args.atom.0 c.args.tag found none rest) c.find_present.ensures
 
 -- fewer atoms are left
 pub find_absent-find-requires : goal.find_absent-find-requires

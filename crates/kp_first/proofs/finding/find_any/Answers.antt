@@ -1,7 +1,7 @@
-use Rattle.std.proofs.Common.{◌≡◌, ◌<◌, ◌+◌, ℕ, None, subst, inl, inr, arith}
+use Rattle.std.proofs.Common.{◌≡◌, None, subst, inl, inr, arith}
 use Rattle.std.proofs.lemmas.Bool.{cases_lt}
 use Rattle.kp_primes.specs.Held.{formula}
-use Rattle.kp_first.specs.Asked.{AnswersFind, test_at, passes_one}
+use Rattle.kp_first.specs.Asked.{AnswersFind, test_at}
 use Rattle.kp_first.proofs.Splitting.{found_by, found_by_none}
 use Rattle.kp_first.proofs.finding.find_any.Goals as goal
 

@@ -1,4 +1,4 @@
-use Rattle.std.proofs.Common.{◌≡◌, ◌<◌, ℕ, None}
+use Rattle.std.proofs.Common.{◌<◌, ℕ, None}
 use Rattle.kp_primes.specs.Held.{formula}
 use Rattle.kp_first.specs.Asked.{AnswersFind, test_at}
 use Rattle.kp_first.proofs.finding.find_any.Given as goal

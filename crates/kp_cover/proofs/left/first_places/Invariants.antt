@@ -1,6 +1,6 @@
 use Rattle.std.proofs.Common.{◌≡◌}
 use Rattle.std.specs.List.{range_with_len}
-use Rattle.kp_cover.proofs.cases.first_places.Given as goal
+use Rattle.kp_cover.proofs.left.first_places.Given as goal
 
 abbrev pub invariant-loop-place : goal.invariant-loop-place
 invariant-loop-place l = l.row ≡ range_with_len 0 l.place

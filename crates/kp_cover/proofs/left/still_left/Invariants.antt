@@ -1,6 +1,6 @@
 use Rattle.std.proofs.Common.{◌≡◌, ◌++◌, drop}
-use Rattle.kp_cover.specs.Cases.{still_left}
-use Rattle.kp_cover.proofs.cases.still_left.Given as goal
+use Rattle.kp_cover.specs.Inside.{still_left}
+use Rattle.kp_cover.proofs.left.still_left.Given as goal
 
 -- with the places to come these are all
 abbrev pub invariant-loop-place : goal.invariant-loop-place
