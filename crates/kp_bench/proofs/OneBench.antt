@@ -29,7 +29,8 @@ use Rattle.kp_words.specs.Names.{of_mode, Bench}
 use Rattle.kp_prepared.specs.Refusing.{refuses}
 use Rattle.kp_prepared.specs.Prepared.{usual, IsPrepared, Comes, early, later}
 use Rattle.kp_prepared.proofs.Public.{comes_to_one_outcome}
-use Rattle.kp_inputs.proofs.Public.{by_table_one_outcome, task_refused_once, task_refused_or_within}
+use Rattle.kp_inputs.proofs.Public.{by_table_one_outcome}
+use Rattle.kp_ktask.proofs.Public.{task_refused_once, task_refused_or_within}
 use Rattle.kp_solving.specs.Operators.{acts_among}
 use Rattle.kp_solving.specs.Solving.{denies}
 use Rattle.kp_bench.specs.Summary.{summary_text}

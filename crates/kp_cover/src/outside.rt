@@ -40,7 +40,7 @@ fn more_open(number: usize, truth: Truth) -> usize {
     }
 }
 
-// Whether those of some tag at these places are; and, unless one is true, of how many it is open.
+// Whether those of some tag at these places are; and, unless they are, for how many of the tags it is open.
 fn any_truth(known: &LitSet, tags: &[LitSet], places: &[usize]) -> (Truth, usize)
     ensures { result.0 ≡ any_truth known.now tags.now places.now }
 {
@@ -58,7 +58,7 @@ fn any_truth(known: &LitSet, tags: &[LitSet], places: &[usize]) -> (Truth, usize
     (any, open)
 }
 
-/// The states that satisfy none of some tags: of those at the places that are left.
+/// The states that satisfy none of the tags at the places that are left.
 #[derive(Drop)]
 pub struct Outside<'a> {
     pub atoms: u32,

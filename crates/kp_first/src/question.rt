@@ -31,7 +31,7 @@ pub trait Question {
     fn count(&self) -> usize
         ensures { result ≡ length (tests self.now) };
 
-    /// What is seen of the states in which these literals are true by the test with this number.
+    /// Judges by the test with this number the states in which these literals are true.
     fn judge(&self, alloc: Global, number: usize, known: &LitSet) -> Result<Seen<Self>, Memory>
         requires ready { ready self.now }
         requires in_range { number < length (tests self.now) }

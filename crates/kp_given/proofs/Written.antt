@@ -24,6 +24,7 @@ use Rattle.kp_meaning.specs.Types.{declared, object_lines, objects}
 use Rattle.kp_meaning.specs.Faults.{HasNoFault}
 use Rattle.kp_meaning.specs.Numbered.{Schema, Lifted}
 use Rattle.kp_meaning.specs.Numbering.{name_at, heads, numbered_schema, numbered_problem, AreObjects}
+use Rattle.kp_meaning.specs.GroundNames.{IsGroundName, same_name}
 use Rattle.kp_meaning.proofs.Public.{all_same_names-true, valid_literal_parts, atoms_equal_as_named, HasCleanParts, clean_parts}
 use Rattle.kp_base.specs.Atoms.{Atom, atom_before, same_atom, number_of, AtomsAscend}
 use Rattle.kp_grounding.specs.declared.flat.FlatEffect.{FlatEffect}
@@ -33,7 +34,6 @@ use Rattle.kp_grounding.specs.Ground.{kept_bindings, atom_of, effect_literals, i
 use Rattle.kp_base.proofs.AtomOrder.{atom_never_before_itself, same_atom-true}
 use Rattle.kp_grounding.proofs.Public.{atoms_are_numbered, actions_named_once, instance_literals_occur}
 use Rattle.kp_base.proofs.Closures.{closure_over_first_atoms}
-use Rattle.kp_plans.specs.Names.{IsGroundName, same_name}
 use Rattle.kp_write.specs.Grounds.{IsOfAtom, AreOfAtoms, IsGroundEffect, IsGroundAction, IsWritable}
 use Rattle.kp_given.specs.Translations.{ground_of, initial_of, start_of}
 use Rattle.kp_given.specs.Laws.{StartsAreOfAtoms, GroundProblemsAreWritable}

@@ -1,4 +1,4 @@
--- What is written for two trees and a table of tags and merges.
+-- Tables of tags and merges for two trees.
 use Rattle.std.specs.Prelude.{◌<◌, ◌≤◌, ◌^◌, ◌*◌, ℕ, List, length}
 use Rattle.std.specs.List.{AllByRecursion}
 use Rattle.kp_base.specs.declared.ground.TagTable.{TagTable}
@@ -13,13 +13,7 @@ use Rattle.kp_write.specs.Grounds.{IsOfAtom}
 use Rattle.kp_task.specs.Task.{task_of}
 use Rattle.kp_task.specs.Weight.{weight_of}
 use Rattle.kp_task.specs.Writable.{IsWritableTask}
-use Rattle.kp_translation.specs.declared.translation.Translation.{Translation}
-use Rattle.kp_translation.specs.Translations.{translation_with}
 use Rattle.kp_given.specs.Translations.{ground_of, initial_of, start_of}
-
--- the two files, and what is printed
-abbrev pub translation_of : Domain Word → Problem Word → TagTable → Translation
-translation_of d p table = translation_with (ground_of d p) table
 
 -- the table of the empty tag alone, with its closure
 abbrev pub empty_tag : Domain Word → Problem Word → TagTable

@@ -1,4 +1,5 @@
 pub mod Trees
+pub mod TreeMaps
 pub mod Symbols
 pub mod Unsupported
 pub mod Sorts

@@ -18,12 +18,13 @@ use Rattle.kp_grammar.specs.Forms.{Form, many}
 use Rattle.kp_grammar.specs.Reading.{ReadBy, r_end, r_more}
 use Rattle.kp_grammar.specs.Texts.{ReadsAs}
 use Rattle.kp_grammar.proofs.Public.{reading_shrinks}
+use Rattle.kp_meaning.specs.GroundNames.{same_name}
 use Rattle.kp_merges.specs.declared.merge.FileMerge.{FileMerge}
 use Rattle.kp_merges.specs.Grammar.{MergeTree}
 use Rattle.kp_merges.specs.Numbers.{IsLit, IsTag, IsMerge}
 use Rattle.kp_merges.specs.MergesFiles.{IsMergesOf}
 use Rattle.kp_plans.specs.declared.step.PlanStep.{PlanStep}
-use Rattle.kp_plans.specs.Names.{same_name, number_of}
+use Rattle.kp_plans.specs.Names.{number_of}
 use Rattle.kp_plans.specs.PlanFiles.{step_of, IsPlanOf}
 use Rattle.kp_tags.specs.Tables.{has_tags_of_atoms}
 use Rattle.kp_write.specs.Grounds.{IsOfAtom}

@@ -11,4 +11,3 @@ pub mod Commands
 pub mod Going
 pub mod TablesFor
 pub mod Named
-pub mod Tasks

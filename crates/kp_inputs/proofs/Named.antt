@@ -9,13 +9,13 @@ use Rattle.kp_grammar.specs.declared.tree.Word.{Word}
 use Rattle.kp_grammar.specs.Trees.{Domain, Problem}
 use Rattle.kp_meaning.specs.Faults.{HasNoFault}
 use Rattle.kp_meaning.specs.Names.{same, all_same}
+use Rattle.kp_meaning.specs.GroundNames.{same_name}
 use Rattle.kp_base.proofs.Lists.{same-true, same-refl}
 use Rattle.kp_meaning.proofs.Public.{all_same_names-true, all_same_names-refl}
 use Rattle.kp_base.specs.ActionNames.{action_name}
 use Rattle.kp_grounding.proofs.Public.{actions_named_once}
 use Rattle.kp_plans.specs.declared.step.PlanStep.{PlanStep}
 use Rattle.kp_plans.specs.PlanFiles.{names}
-use Rattle.kp_plans.specs.Names.{same_name}
 use Rattle.kp_plans.specs.Found.{action_names, action_of}
 use Rattle.kp_given.specs.Translations.{ground_of}
 pub use Rattle.kp_prepared.proofs.Public.{numbers_of_names_once as numbers_once}

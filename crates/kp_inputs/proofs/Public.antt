@@ -18,5 +18,3 @@ pub use Rattle.kp_inputs.proofs.Going.{later_goes as prepared_goes_on, early_end
 pub use Rattle.kp_inputs.proofs.TablesFor.{targets_are as table_targets_are_of_atoms, target_within as target_is_of_atoms, few_merges as table_has_few_merges, table_for as table_of_source_is_for_trees}
 -- ---- The actions that the steps of a plan name.
 pub use Rattle.kp_inputs.proofs.Named.{named_actions as found_actions_are_named, all_found as named_are_all_found, found_at as named_is_found_at}
--- ---- A task is refused at one limit alone, or it is within both.
-pub use Rattle.kp_inputs.proofs.Tasks.{task_once as task_refused_once, task_or_within as task_refused_or_within}

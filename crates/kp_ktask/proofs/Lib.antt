@@ -1,4 +1,5 @@
 pub mod Public
+pub mod Refusals
 pub mod Rows
 pub mod Bounds
 pub mod Literals

@@ -3,6 +3,7 @@ use Rattle.std.proofs.Common.{◌≡◌, ℕ, zero, suc, Bool, true, false, cond
 use Rattle.std.specs.List.{list_any, list_all}
 use Rattle.kp_grammar.specs.declared.tree.Word.{Word}
 use Rattle.kp_grammar.specs.Trees.{Typed, Term, Atom, Cond, Conds, Eff, Effs, Lit, Item, Items, Schema, Domain, Problem}
+use Rattle.kp_grammar.specs.TreeMaps.{typed_map, term_map, atom_map, cond_map, conds_map, eff_map, effs_map, lit_map, item_map, items_map, schema_map, domain_map, problem_map}
 use Rattle.kp_base.specs.Lists.{choices}
 use Rattle.kp_base.proofs.Parts.{find_map}
 use Rattle.kp_meaning.specs.Names.{Name, same, distinct}
@@ -14,7 +15,7 @@ use Rattle.kp_meaning.specs.Plans.{succeeds, Solves}
 use Rattle.std.proofs.lemmas.List.{length-map, map-append}
 use Rattle.std.proofs.lemmas.List.Elements.{filter_agree}
 use Rattle.kp_meaning.proofs.Lists.{any_map, map_map, any_alike, all_alike, flat_alike}
-use Rattle.kp_meaning.specs.Places.{typed_map, term_map, atom_map, cond_map, conds_map, eff_map, effs_map, lit_map, item_map, items_map, schema_map, domain_map, problem_map, KeepsTexts}
+use Rattle.kp_meaning.specs.Places.{KeepsTexts}
 
 -- ---- lists of what was mapped
 

@@ -1,4 +1,5 @@
 pub mod Names
+pub mod GroundNames
 pub mod Types
 pub mod Faults
 pub mod States

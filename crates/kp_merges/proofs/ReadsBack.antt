@@ -20,17 +20,18 @@ use Rattle.kp_grammar.specs.Forms.{hits, token, many}
 use Rattle.kp_grammar.specs.Grammar.{fact, lit}
 use Rattle.kp_grammar.specs.Reading.{Reads, r_token, r_both, r_after, r_end, r_more, r_make, r_bracket}
 use Rattle.kp_grammar.specs.Words.{IsName, IsHead}
+use Rattle.kp_grammar.specs.TreeMaps.{term_map, atom_map, lit_map}
 use Rattle.kp_cursor.specs.declared.cursor.Class.TheVariants as classes
 use Rattle.kp_cursor.proofs.Public.{class_is_no_bracket}
 use Rattle.kp_base.proofs.Lists.{same-true, same-refl}
 use Rattle.kp_meaning.specs.Names.{same, all_same}
-use Rattle.kp_meaning.specs.Places.{term_map, atom_map, lit_map}
+use Rattle.kp_meaning.specs.GroundNames.{same_name}
 use Rattle.kp_meaning.proofs.Public.{all_same_names-true, all_same_names-refl}
 use Rattle.kp_pieces.specs.Pieces.{Piece, right, spelling, Put, each, spaced, name, line_feed}
 use Rattle.kp_pieces.specs.Tokens.{text_of as word_text, words, Fine, done, lefts, rights, blanks, says}
 use Rattle.kp_pieces.specs.Maps.{without_places}
 use Rattle.kp_pieces.proofs.Public.{◌$◌, KeepsFine, name_in_front_is_fine, each_keeps_fine, PiecesGive, many_pieces_read, pieces_read_as_their_words}
-use Rattle.kp_plans.specs.Names.{same_name, number_of}
+use Rattle.kp_plans.specs.Names.{number_of}
 use Rattle.kp_plans.proofs.Public.{name_word_is_hit, name_word_is_name}
 use Rattle.kp_merges.specs.declared.merge.FileMerge.{FileMerge}
 use Rattle.kp_merges.specs.Grammar.{MergeTree, tag, merge, merges, term_text, name_of}

@@ -9,9 +9,9 @@ use Rattle.kp_base.specs.declared.ground.TagTable.{TagTable}
 use Rattle.kp_base.specs.LitSet.{IsAscending}
 use Rattle.kp_base.specs.Covering.{lits_of}
 use Rattle.kp_grammar.specs.Words.{IsName, IsHead}
+use Rattle.kp_meaning.specs.GroundNames.{same_name}
 use Rattle.kp_pieces.specs.Pieces.{Piece, Put, ◌⨾◌, each, opens, closes, line_feed, name, spaced, spelling}
 use Rattle.kp_spelling.specs.Spelling.{lit_put, joined}
-use Rattle.kp_plans.specs.Names.{same_name}
 use Rattle.kp_merges.specs.declared.merge.FileMerge.{FileMerge}
 use Rattle.kp_merges.specs.MergesFiles.{IsMergesOf}
 

@@ -13,11 +13,11 @@ use Rattle.kp_grammar.specs.Grammar.{word}
 use Rattle.kp_grammar.specs.Reading.{Reads, r_token, r_both, r_end, r_more, r_bracket}
 use Rattle.kp_grammar.specs.Words.{IsName}
 use Rattle.kp_grammar.proofs.Public.{name_passes}
+use Rattle.kp_meaning.specs.GroundNames.{IsGroundName}
 use Rattle.kp_pieces.specs.Pieces.{Piece, right, spelling, each, spaced, name, line_feed}
 use Rattle.kp_pieces.specs.Tokens.{words, Fine, done, lefts, rights, blanks, says}
 use Rattle.kp_pieces.specs.Maps.{without_places}
 use Rattle.kp_pieces.proofs.Public.{◌$◌, KeepsFine, each_keeps_fine, PiecesGive, many_pieces_read, pieces_read_as_their_words}
-use Rattle.kp_plans.specs.Names.{IsGroundName}
 use Rattle.kp_plans.specs.Grammar.{step, plan, name_of}
 use Rattle.kp_plans.specs.PlanFiles.{names as plan_names, step_of}
 use Rattle.kp_plans.specs.Printed.{step_line, plan_pieces, plan_text, PrintedPlansRead}

@@ -1,7 +1,7 @@
 ghost use Rattle.std.specs.Prelude.{◌≡◌, IfOk, OnOk};
 ghost use Rattle.std.specs.List.{AllByRecursion};
+ghost use Rattle.kp_meaning.specs.GroundNames.{IsGroundName};
 ghost use Rattle.kp_pieces.specs.Pieces.{Puts, each};
-ghost use Rattle.kp_plans.specs.Names.{IsGroundName};
 ghost use Rattle.kp_plans.specs.Printed.{step_line, plan_text, IsTextOf};
 
 use kp_base::{GroundName, Memory, Row};

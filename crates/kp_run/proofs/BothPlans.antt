@@ -11,7 +11,8 @@ use Rattle.kp_classic.specs.Steps.{start, succeeds}
 use Rattle.kp_task.specs.Task.{task_of}
 use Rattle.kp_task.proofs.Public.{tagged_plans_are_accepted, tagged_steps_strip}
 use Rattle.kp_given.specs.Translations.{ground_of, initial_of}
-use Rattle.kp_given.specs.Tables.{IsTableFor, translation_of}
+use Rattle.kp_given.specs.Tables.{IsTableFor}
+use Rattle.kp_sound.specs.Written.{translation_of}
 use Rattle.kp_given.proofs.Public.{tables_can_be_written}
 use Rattle.kp_sound.proofs.Public.{translations_are_sound}
 use Rattle.kp_solving.specs.Solving.{AreNamed}

@@ -24,7 +24,8 @@ use Rattle.kp_task.specs.Task.{task_of}
 use Rattle.kp_task.specs.Accepted.{step_at}
 use Rattle.kp_translation.specs.Report.{counts_of}
 use Rattle.kp_given.specs.Translations.{ground_of, initial_of}
-use Rattle.kp_given.specs.Tables.{IsTableFor, translation_of}
+use Rattle.kp_given.specs.Tables.{IsTableFor}
+use Rattle.kp_sound.specs.Written.{translation_of}
 use Rattle.kp_given.proofs.Public.{formulas_speak_of_ground_atoms, initial_states_are_models, tables_can_be_written}
 use Rattle.kp_sound.specs.Laws.{IsWrittenLift, Lifts}
 use Rattle.kp_sound.proofs.Public.{lifts_written, plans_lift}
@@ -41,7 +42,8 @@ use Rattle.kp_prepared.specs.Prepared.{usual}
 use Rattle.kp_prepared.proofs.Public.{usual_ground_is_of_its_atoms, goes_on_with_these, prepared_under_a_greater_limit, problem_of_trees}
 use Rattle.kp_inputs.specs.Tables.{HasTable, no_table, with_table}
 use Rattle.kp_inputs.specs.Actions.{HasActions, no_actions, with_actions}
-use Rattle.kp_inputs.proofs.Public.{sources_have_one_table, plans_have_one_list, named_is_found_at, task_refused_or_within}
+use Rattle.kp_inputs.proofs.Public.{sources_have_one_table, plans_have_one_list, named_is_found_at}
+use Rattle.kp_ktask.proofs.Public.{task_refused_or_within}
 use Rattle.kp_run.specs.Outcomes.{prints, LiftsActions, lifts, fails, LiftsPlan, no_task, with_task, LiftsTrees, LiftsTexts, IsDue}
 use Rattle.kp_run.specs.Ends.{Ends, came, read_failed, no_memory}
 use Rattle.kp_run.specs.Completeness as complete

@@ -46,7 +46,8 @@ use Rattle.kp_grounding.specs.Weights.{binding_count, total_weight}
 use Rattle.kp_ground.specs.Grounded.{IsGrounded}
 use Rattle.kp_meaning.specs.Initial.{HasInitialState}
 use Rattle.kp_given.specs.Translations.{ground_of, initial_of}
-use Rattle.kp_given.specs.Tables.{translation_of, empty_tag}
+use Rattle.kp_given.specs.Tables.{empty_tag}
+use Rattle.kp_sound.specs.Written.{translation_of}
 use Rattle.kp_given.proofs.Public.{initial_states_are_models}
 use Rattle.kp_outside.specs.Outside.{FileMap}
 use Rattle.kp_outcome.specs.declared.outcome.Outcome.{Outcome}

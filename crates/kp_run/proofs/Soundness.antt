@@ -15,7 +15,8 @@ use Rattle.kp_base.specs.declared.ground.TagTable.{TagTable}
 use Rattle.kp_task.specs.Task.{task_of}
 use Rattle.kp_ktask.specs.Translated.{FitsLimits}
 use Rattle.kp_translation.specs.declared.translation.Translation.{Translation}
-use Rattle.kp_given.specs.Tables.{IsTableFor, translation_of}
+use Rattle.kp_given.specs.Tables.{IsTableFor}
+use Rattle.kp_sound.specs.Written.{translation_of}
 use Rattle.kp_machine.proofs.Public.{no_clash_under_exclusive_pairs}
 use Rattle.kp_grammar.specs.declared.tree.Word.{Word}
 use Rattle.kp_grammar.specs.Trees.{Domain, Problem}

@@ -18,7 +18,7 @@ use Rattle.kp_search.specs.Ends.{HasMoreStates}
 use Rattle.kp_task.specs.Task.{task_of}
 use Rattle.kp_ktask.specs.Translated.{FitsLimits}
 use Rattle.kp_given.specs.Translations.{ground_of, initial_of}
-use Rattle.kp_given.specs.Tables.{translation_of}
+use Rattle.kp_sound.specs.Written.{translation_of}
 use Rattle.kp_printed.specs.Searches.{no_plan_line, no_plan_text, spent_text}
 use Rattle.kp_outside.specs.Outside.{FileMap, with_file, with_bytes}
 use Rattle.kp_outcome.specs.declared.status.Status.{Status}

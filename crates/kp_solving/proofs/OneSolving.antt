@@ -27,7 +27,7 @@ use Rattle.kp_printed.specs.Searches.{no_plan_text}
 use Rattle.kp_outcome.specs.declared.outcome.Outcome.{Outcome}
 use Rattle.kp_prepared.specs.Refusing.{refuses}
 use Rattle.kp_prepared.specs.Prepared.{usual}
-use Rattle.kp_inputs.proofs.Public.{task_refused_once, task_refused_or_within}
+use Rattle.kp_ktask.proofs.Public.{task_refused_once, task_refused_or_within}
 use Rattle.kp_solving.specs.Solving.{solves, denies, AreNamed, TellsSolved, SolvesGround, over, searched, TellsClassical, SolvesClassical}
 use Rattle.kp_solving.specs.Laws.{SolvingsHaveOneOutcome, ClassicalSolvingsHaveOneOutcome}
 use Rattle.kp_search.proofs.Public.{has_one_end_by_added}

@@ -16,7 +16,8 @@ use Rattle.kp_meaning.specs.Plans.{HasProblem, IsPlan}
 use Rattle.kp_meaning.specs.NumberLaws.{is_plain_goal}
 use Rattle.kp_meaning.proofs.Public.{domain_of_text as domain_of, problem_of_text as problem_of, computes_a_problem, cells_domain, one_cell_problem}
 use Rattle.kp_given.specs.Translations.{ground_of, initial_of, start_of}
-use Rattle.kp_given.specs.Tables.{empty_tag, IsTableFor, translation_of}
+use Rattle.kp_given.specs.Tables.{empty_tag, IsTableFor}
+use Rattle.kp_sound.specs.Written.{translation_of}
 use Rattle.kp_given.proofs.Public.{tables_can_be_written, empty_tag_is_table_for_trees}
 use Rattle.kp_write.specs.Named as texts
 use Rattle.kp_machine.proofs.Public as machine

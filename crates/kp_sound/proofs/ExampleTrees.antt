@@ -15,7 +15,8 @@ use Rattle.kp_grounding.specs.Ground.{ground_of}
 use Rattle.kp_init.specs.Initial.{initial_of}
 use Rattle.kp_base.specs.Closure.{closure}
 use Rattle.kp_given.specs.Translations as given
-use Rattle.kp_given.specs.Tables.{empty_tag, translation_of}
+use Rattle.kp_given.specs.Tables.{empty_tag}
+use Rattle.kp_sound.specs.Written.{translation_of}
 use Rattle.kp_given.proofs.Public.{tables_can_be_written, empty_tag_is_table_for_trees}
 use Rattle.kp_write.specs.Named as texts
 use Rattle.kp_machine.proofs.Public.{one_sided_actions_never_clash}

@@ -17,7 +17,8 @@ use Rattle.kp_task.specs.Writable.{IsWritableTask}
 use Rattle.kp_base.specs.ActionNames.{action_name}
 use Rattle.kp_task.specs.Accepted.{IsAccepted}
 use Rattle.kp_given.specs.Translations.{ground_of, initial_of}
-use Rattle.kp_given.specs.Tables.{IsTableFor, translation_of}
+use Rattle.kp_given.specs.Tables.{IsTableFor}
+use Rattle.kp_sound.specs.Written.{translation_of}
 
 -- the table is one for the trees, with which their ground problem can be written, and nothing clashes
 pub record IsSafelyWritten (d : Domain Word) (p : Problem Word) (table : TagTable) : Type 0 where

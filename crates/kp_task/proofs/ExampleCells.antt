@@ -10,8 +10,8 @@ use Rattle.kp_lex.specs.Cutting.{IsToken}
 use Rattle.kp_grammar.specs.Words.{IsLow, IsName}
 use Rattle.kp_meaning.specs.Steps.{Step}
 use Rattle.kp_meaning.specs.Plans.{IsPlan}
+use Rattle.kp_meaning.specs.GroundNames.{IsGroundName}
 use Rattle.kp_pieces.specs.Pieces.{spelling, each}
-use Rattle.kp_plans.specs.Names.{IsGroundName}
 use Rattle.kp_write.specs.Written.{op, effect_line}
 use Rattle.kp_write.specs.Grounds.{IsWritable}
 use Rattle.kp_write.specs.Named.{named_op, named_effect, domain_of, problem_of}

@@ -13,7 +13,7 @@ use Rattle.kp_base.proofs.Lists.{member_at, same-refl}
 use Rattle.kp_meaning.specs.Names.{same}
 use Rattle.kp_meaning.specs.Steps.{Step}
 use Rattle.kp_meaning.specs.Encoding.{encoded, decoded}
-use Rattle.kp_plans.specs.Names.{IsGroundName}
+use Rattle.kp_meaning.specs.GroundNames.{IsGroundName}
 use Rattle.kp_write.specs.Grounds.{IsGroundAction}
 use Rattle.kp_write.specs.Runs.{step_of}
 use Rattle.kp_write.proofs.Public.{encoded_name_decodes}

@@ -13,9 +13,9 @@ use Rattle.kp_base.specs.Steps.{fires}
 use Rattle.kp_base.specs.Machine.{Known, facts_after}
 use Rattle.kp_base.proofs.Sets.{all-set_of}
 use Rattle.kp_meaning.specs.Names.{same}
+use Rattle.kp_meaning.specs.GroundNames.{IsGroundName, same_name}
 use Rattle.kp_write.specs.Task.{Signed, Effect as TaskEffect}
 use Rattle.kp_write.specs.Facts.{fact_of, opposites, known, support, cancellation}
-use Rattle.kp_plans.specs.Names.{IsGroundName, same_name}
 use Rattle.kp_write.specs.Grounds.{IsOfAtom, AreOfAtoms, IsGroundEffect, IsGroundAction}
 use Rattle.kp_write.specs.Runs.{Facts, is_so, is_made, after_op}
 use Rattle.kp_write.proofs.Public.{opposites_are_of_atoms, made_by_first_or_later}

@@ -11,8 +11,8 @@ use Rattle.kp_base.proofs.Lists.{member_map, member_left, member_right, each_app
 use Rattle.kp_base.proofs.Lits.{same_lit-true}
 use Rattle.kp_grammar.specs.Words.{IsHead}
 use Rattle.kp_meaning.specs.Names.{same}
+use Rattle.kp_meaning.specs.GroundNames.{IsGroundName, same_name}
 use Rattle.kp_write.specs.Facts.{fact_of}
-use Rattle.kp_plans.specs.Names.{IsGroundName, same_name}
 use Rattle.kp_write.specs.Grounds.{IsOfAtom, AreOfAtoms}
 use Rattle.kp_write.proofs.Public.{fact_is_head}
 use Rattle.kp_task.specs.Task.{Fact, name_of, lits_from, under, facts_from}

@@ -16,9 +16,9 @@ use Rattle.kp_base.proofs.Lists.{member_map, each_append}
 use Rattle.kp_grammar.specs.Words.{IsHead}
 use Rattle.kp_meaning.specs.Names.{same}
 use Rattle.kp_meaning.specs.Encoding.{encoded}
+use Rattle.kp_meaning.specs.GroundNames.{IsGroundName, same_name}
 use Rattle.kp_write.specs.Task.{Op}
 use Rattle.kp_write.specs.Facts.{fact_of, known, opposites}
-use Rattle.kp_plans.specs.Names.{IsGroundName, same_name}
 use Rattle.kp_write.specs.Grounds.{IsOfAtom, AreOfAtoms, IsGroundEffect, IsGroundAction}
 use Rattle.kp_write.specs.Problems.{AreAmong, IsEffectOn, IsOpOn}
 use Rattle.kp_write.proofs.Public.{operator_is_name, operators_apart, opposites_are_of_atoms}

@@ -29,7 +29,8 @@ use Rattle.kp_meaning.specs.Plans.{HasProblem, IsPlan}
 use Rattle.kp_plans.specs.Grammar.{plan}
 use Rattle.kp_plans.specs.PlanFiles.{step_of, IsPlanOf}
 use Rattle.kp_given.specs.Translations.{ground_of, initial_of}
-use Rattle.kp_given.specs.Tables.{translation_of, empty_tag}
+use Rattle.kp_given.specs.Tables.{empty_tag}
+use Rattle.kp_sound.specs.Written.{translation_of}
 use Rattle.kp_outside.specs.Outside.{FileMap}
 use Rattle.kp_outcome.specs.declared.outcome.Outcome.{Outcome}
 use Rattle.kp_outcome.specs.declared.status.Status.TheVariants as status

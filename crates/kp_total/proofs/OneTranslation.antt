@@ -15,7 +15,8 @@ use Rattle.kp_outcome.specs.declared.outcome.Outcome.{Outcome}
 use Rattle.kp_words.specs.Names.{Translate}
 use Rattle.kp_prepared.specs.Refusing.{refuses}
 use Rattle.kp_prepared.specs.Prepared.{usual}
-use Rattle.kp_inputs.proofs.Public.{by_plan_one_outcome, task_refused_once, task_refused_or_within}
+use Rattle.kp_inputs.proofs.Public.{by_plan_one_outcome}
+use Rattle.kp_ktask.proofs.Public.{task_refused_once, task_refused_or_within}
 use Rattle.kp_printed.specs.Lifting.{unlifted_text}
 use Rattle.kp_solving.specs.Solving.{denies}
 use Rattle.kp_run.specs.Outcomes.{translates, prints, tells, TranslatesGround, over, done, TellsJudged, LiftsActions, lifts, fails, LiftsPlan, no_task, with_task, failing_step}

@@ -23,7 +23,7 @@ use Rattle.kp_tags.specs.Made.{IsMade}
 use Rattle.kp_check.specs.declared.answer.Judged.{Judged}
 use Rattle.kp_check.specs.Judging.{AnswersJudged}
 use Rattle.kp_given.specs.Translations.{ground_of, initial_of}
-use Rattle.kp_given.specs.Tables.{translation_of}
+use Rattle.kp_sound.specs.Written.{translation_of}
 use Rattle.kp_outside.specs.Outside.{FileMap}
 use Rattle.kp_outcome.specs.declared.outcome.Outcome.{Outcome}
 use Rattle.kp_outcome.specs.declared.status.Status.TheVariants as status

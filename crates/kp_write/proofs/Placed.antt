@@ -3,8 +3,8 @@ use Rattle.std.proofs.Common.{◌≡◌, ℕ, zero, Bool, true, false, List, ref
 use Rattle.std.proofs.lemmas.Bool.{false≢true}
 use Rattle.kp_grammar.specs.declared.tree.Word.{Word}
 use Rattle.kp_grammar.specs.Trees.{Domain, Problem}
+use Rattle.kp_grammar.specs.TreeMaps.{domain_map, problem_map}
 use Rattle.kp_meaning.specs.Names.{Name, same}
-use Rattle.kp_meaning.specs.Places.{domain_map, problem_map}
 use Rattle.kp_base.proofs.Lists.{same-true, same-refl}
 use Rattle.kp_write.specs.Task.{Op}
 use Rattle.kp_pieces.specs.Tokens.{text_of}

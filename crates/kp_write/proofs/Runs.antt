@@ -6,6 +6,7 @@ use Rattle.std.proofs.lemmas.List.{map-append}
 use Rattle.std.specs.List.{AllByRecursion, IsDistinct, list_any, list_all, flat_map}
 use Rattle.kp_grammar.specs.declared.tree.Word.{Word}
 use Rattle.kp_grammar.specs.Trees.{Schema, Domain, Problem, conds_of, effs_of}
+use Rattle.kp_grammar.specs.TreeMaps.{conds_map, eff_map, effs_map, item_map, schema_map, domain_map, problem_map}
 use Rattle.kp_base.specs.Lists.{only_if, Member}
 use Rattle.kp_base.proofs.Parts.{find_map}
 use Rattle.kp_base.proofs.Each.{each_from, each_member}
@@ -14,7 +15,6 @@ use Rattle.kp_meaning.specs.Names.{Name, same, all_same, is_among}
 use Rattle.kp_meaning.specs.States.{State, Binding, unbound, Literal, names_literal, all_hold}
 use Rattle.kp_meaning.specs.Steps.{Step, fires, all_fire, fits, is_instance, permits, applicable, state_by, next, after, schema_of as schema_of_step}
 use Rattle.kp_meaning.specs.Initial.{item_holds, item_literals, is_of, is_named, IsInitial}
-use Rattle.kp_meaning.specs.Places.{conds_map, eff_map, effs_map, item_map, schema_map, domain_map, problem_map}
 use Rattle.kp_meaning.specs.Plans.{succeeds, Solves}
 use Rattle.kp_meaning.proofs.Public.{places_mean_nothing, solves_theirs}
 use Rattle.kp_write.specs.Task.{Signed, Effect, Op}

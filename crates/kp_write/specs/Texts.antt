@@ -4,7 +4,7 @@ use Rattle.kp_grammar.specs.declared.tree.Word.{Word}
 use Rattle.kp_grammar.specs.Trees.{Domain, Problem}
 use Rattle.kp_grammar.specs.Grammar as grammar
 use Rattle.kp_grammar.specs.Texts.{ReadsAs}
-use Rattle.kp_meaning.specs.Places.{domain_map, problem_map}
+use Rattle.kp_grammar.specs.TreeMaps.{domain_map, problem_map}
 use Rattle.kp_write.specs.Task.{Op}
 use Rattle.kp_write.specs.Written.{domain_text, problem_text}
 use Rattle.kp_pieces.specs.Tokens.{text_of}

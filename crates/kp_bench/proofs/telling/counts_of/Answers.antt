@@ -2,7 +2,7 @@ use Rattle.std.proofs.Common.{subst}
 use Rattle.kp_task.specs.Task.{task_of}
 use Rattle.kp_ktask.specs.Translated.{RefusesTask, StopsTask}
 use Rattle.kp_prepared.specs.Prepared.{usual}
-use Rattle.kp_inputs.proofs.Public.{task_refused_or_within}
+use Rattle.kp_ktask.proofs.Public.{task_refused_or_within}
 use Rattle.kp_bench.proofs.telling.counts_of.Goals as goal
 
 -- a task within the limits isn't refused
