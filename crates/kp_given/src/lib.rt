@@ -1,4 +1,4 @@
-//! What files mean that a user gives, and what is written for them. `specs/Translations.antt` says what is written.
+//! What files mean that a user gives, and which tables of tags and merges are for them. `specs/Translations.antt` has their ground problem and initial formula, `specs/Tables.antt` the tables.
 #![tactic(auto)]
 
 mod laws;

@@ -1,12 +1,12 @@
 ghost use Rattle.std.specs.Prelude.{◌≡◌, map, IfOk};
 ghost use Rattle.kp_grammar.specs.View as owned;
-ghost use Rattle.kp_nodes.specs.Nodes.{pred_view, schema_view, domain_view, problem_view};
+ghost use Rattle.kp_nodes.specs.Nodes.{pred_view, cond_view, eff_view, schema_view, domain_view, problem_view};
 
 use crate::forms::{copy_cond, copy_eff, copy_items};
 use crate::node::{DomainNode, PredNode, ProblemNode, SchemaNode};
 use crate::words::{copy_typeds, copy_word};
 use kp_base::{Memory, Row};
-use kp_grammar::{Domain, PredTree, Problem, SchemaTree};
+use kp_grammar::{CondTree, Domain, EffTree, PredTree, Problem, SchemaTree};
 use std::alloc::Global;
 
 // An equal declaration.
@@ -29,14 +29,22 @@ fn copy_preds(alloc: Global, nodes: &[PredNode]) -> Result<Row<PredTree>, Memory
     Ok(Row::from_vec(copies))
 }
 
+// An equal precondition and an equal effect.
+fn copy_body(alloc: Global, node: &SchemaNode) -> Result<(CondTree, EffTree), Memory>
+    ensures { IfOk result (λ x. (owned.cond_view x.0 ≡ cond_view node.now.pre) × (owned.eff_view x.1 ≡ eff_view node.now.effect)) }
+{
+    let pre = copy_cond(alloc, &node.pre)?;
+    let effect = copy_eff(alloc, &node.effect)?;
+    Ok((pre, effect))
+}
+
 // An equal schema.
 fn copy_schema(alloc: Global, node: &SchemaNode) -> Result<SchemaTree, Memory>
     ensures { IfOk result (λ s. owned.schema_view s ≡ schema_view node.now) }
 {
     let name = copy_word(alloc, &node.name)?;
     let params = copy_typeds(alloc, node.params)?;
-    let pre = copy_cond(alloc, &node.pre)?;
-    let effect = copy_eff(alloc, &node.effect)?;
+    let (pre, effect) = copy_body(alloc, node)?;
     Ok(SchemaTree {
         name,
         params,

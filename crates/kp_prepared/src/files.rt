@@ -40,6 +40,19 @@ fn problem_of(alloc: Global, got: &Got) -> Result<Problem, Stop>
     read_problem(alloc, got.bytes.slice())
 }
 
+// The trees of both files, at most 16,777,216 bytes of each of which were read.
+fn trees_of(alloc: Global, domain: &Got, problem: &Got) -> Result<(Domain, Problem), Stop>
+    requires domain { IsWithin 16777216 domain.now }
+    requires problem { IsWithin 16777216 problem.now }
+    ensures trees { IfOk result (λ x. HasTree grammar.domain domain.now.bytes (domain_view x.0) × HasTree grammar.problem problem.now.bytes (problem_view x.1)) }
+    ensures whole { (d p : List ℕ) → IsFront (Some d) 16777216 domain.now → IsFront (Some p) 16777216 problem.now → IfOk result (λ _. (domain.now.bytes ≡ d) × (problem.now.bytes ≡ p)) }
+    ensures refused { (d p : List ℕ) (r : Refusal) → IsFront (Some d) 16777216 domain.now → IsFront (Some p) 16777216 problem.now → result ≡ Err (stops.Refused r) → RefusesTexts d p r }
+{
+    let domain_tree = domain_of(alloc, domain)?;
+    let problem_tree = problem_of(alloc, problem)?;
+    Ok((domain_tree, problem_tree))
+}
+
 /// The problem by number of two files, at most 16,777,216 bytes of each of which were read.
 pub fn read_files(alloc: Global, domain: Got, problem: Got) -> Result<Lifted, Stop>
     requires domain { IsWithin 16777216 domain }
@@ -48,11 +61,10 @@ pub fn read_files(alloc: Global, domain: Got, problem: Got) -> Result<Lifted, St
     ensures resolved { (d p : List ℕ) → IsFront (Some d) 16777216 domain → IsFront (Some p) 16777216 problem → IfOk result (IsProblemOf d p) }
     ensures refused { (d p : List ℕ) (r : Refusal) → IsFront (Some d) 16777216 domain → IsFront (Some p) 16777216 problem → result ≡ Err (stops.Refused r) → RefusesTexts d p r }
 {
-    let domain_tree = domain_of(alloc, &domain)?;
-    let problem_tree = problem_of(alloc, &problem)?;
+    let trees = trees_of(alloc, &domain, &problem)?;
     let texts = Texts {
         domain: domain.bytes,
         problem: problem.bytes,
     };
-    resolve(alloc, &texts, &domain_tree, &problem_tree)
+    resolve(alloc, &texts, &trees.0, &trees.1)
 }

@@ -1,4 +1,4 @@
-//! The plans of the written files strip to plans of the given ones, and with a complete table each plan of the given ones lifts to one of the written. `specs/Laws.antt` says what is proved.
+//! The plans of the written files strip to plans of the given ones, and with a complete table each plan of the given ones lifts to one of the written. `specs/Written.antt` says what is written, `specs/Laws.antt` what is proved.
 #![tactic(auto)]
 
 mod laws;
