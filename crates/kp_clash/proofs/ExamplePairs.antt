@@ -14,8 +14,8 @@ use Rattle.kp_base.specs.Steps.{holds}
 use Rattle.kp_base.specs.Clashes.{Pairs, HasNoClash, IsFirstClash}
 use Rattle.kp_base.specs.Exclusive.{NeverAtTheStart, IsInductive, IsExclusive}
 use Rattle.kp_base.proofs.Lists.{all_member}
-use Rattle.kp_pairs.specs.Settled.{stays}
-use Rattle.kp_pairs.proofs.Public.{settled_inductive}
+use Rattle.kp_clash_pairs.specs.Settled.{stays}
+use Rattle.kp_clash_pairs.proofs.Public.{settled_inductive}
 use Rattle.kp_clash.proofs.InOrder.{first_is, none_is}
 
 abbrev nullary : List ℕ → GroundName

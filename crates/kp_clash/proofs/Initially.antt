@@ -14,10 +14,10 @@ use Rattle.kp_base.specs.Clashes.{Pairs}
 use Rattle.kp_base.specs.Exclusive.{ArePairs, IsPart, AreExclusive, IsInductive}
 use Rattle.kp_base.proofs.Lists.{all_member, all_from, any_member}
 use Rattle.kp_primes.specs.Held.{Held, formula, AreWhole}
-use Rattle.kp_pairs.specs.Paired.{is_pair, words_of, place_of, is_marked, IsSquare}
-use Rattle.kp_pairs.specs.Starting.{not_both, denies, denied, IsMarkedWith}
+use Rattle.kp_clash_pairs.specs.Paired.{is_pair, words_of, place_of, is_marked, IsSquare}
+use Rattle.kp_clash_pairs.specs.Starting.{not_both, denies, denied, IsMarkedWith}
 use Rattle.kp_clash.specs.Settling.{AreNeverTogether, IsSettled}
-use Rattle.kp_pairs.proofs.Public.{settled_exclusive, pair_turned, inductive_kept, marked_are_two_below, literal_of_a_denied_pair}
+use Rattle.kp_clash_pairs.proofs.Public.{settled_exclusive, pair_turned, inductive_kept, marked_are_two_below, literal_of_a_denied_pair}
 
 -- ---- the start
 

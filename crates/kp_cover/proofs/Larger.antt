@@ -3,10 +3,10 @@ use Rattle.std.proofs.Common.{◌≡◌, ◌<◌, ◌+◌, ◌++◌, ℕ, zero, 
 use Rattle.std.proofs.lemmas.Bool.{cases_lt}
 use Rattle.std.proofs.lemmas.List.FromFn.{length-range_with_len}
 use Rattle.std.specs.List.{range_with_len}
-use Rattle.kp_sets.specs.declared.sizes.LeastSet.{LeastSet}
-use Rattle.kp_sets.specs.declared.sizes.LeastSet.TheVariants.{Found, TooMany, Nothing}
-use Rattle.kp_sets.specs.Subsets.{subsets, choose, first_that}
-use Rattle.kp_sets.specs.Sizes.{IsPassed, ArePassed, AnswersLeast}
+use Rattle.kp_cover_subsets.specs.declared.sizes.LeastSet.{LeastSet}
+use Rattle.kp_cover_subsets.specs.declared.sizes.LeastSet.TheVariants.{Found, TooMany, Nothing}
+use Rattle.kp_cover_subsets.specs.Subsets.{subsets, choose, first_that}
+use Rattle.kp_cover_subsets.specs.Sizes.{IsPassed, ArePassed, AnswersLeast}
 
 no_sets : (k : ℕ) (xs : List ℕ) → length xs < k → subsets k xs ≡ []
 no_sets zero xs lt = absurd (omega (arith, lt))

@@ -2,13 +2,13 @@
 ghost use Rattle.std.specs.Prelude.{◌≡◌, ◌<◌, length, min, true, IfOk};
 ghost use Rattle.std.specs.List.{list_all};
 ghost use Rattle.kp_base.specs.Implicates.{are_below};
-ghost use Rattle.kp_sets.specs.Sizes.{AnswersLeast};
+ghost use Rattle.kp_cover_subsets.specs.Sizes.{AnswersLeast};
 ghost use Rattle.kp_cover.specs.Tested.{tells_cover};
 
 use crate::tested::is_cover;
 use kp_base::{LitSet, Memory};
+use kp_cover_subsets::{LeastSet, Test, least_set};
 use kp_primes::Primes;
-use kp_sets::{LeastSet, Test, least_set};
 use std::alloc::Global;
 
 // Whether the tags of the clauses at some places cover all the clauses.

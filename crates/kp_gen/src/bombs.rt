@@ -6,7 +6,7 @@ ghost use Rattle.kp_gen.specs.Bombs.{package_name, armed, disarmed, domain_lines
 
 use crate::lines::put_each;
 use kp_base::{Memory, Row, Texts};
-use kp_spelling::put;
+use kp_plans_spelling::put;
 use std::alloc::Global;
 
 const DOMAIN: &[u8] = b"(define (domain bombs)

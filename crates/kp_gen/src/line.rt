@@ -6,7 +6,7 @@ ghost use Rattle.kp_gen.specs.Line.{cell, at_cell, next_cell, domain_lines, obje
 
 use crate::lines::{put_each, put_numbered};
 use kp_base::{Memory, Row, Texts};
-use kp_spelling::put;
+use kp_plans_spelling::put;
 use std::alloc::Global;
 
 const DOMAIN: &[u8] = b"(define (domain line)

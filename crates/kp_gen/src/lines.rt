@@ -3,7 +3,7 @@ ghost use Rattle.std.specs.List.{flat_map, range_with_len};
 ghost use Rattle.kp_gen.specs.Numbered.{numbered};
 
 use kp_base::Memory;
-use kp_spelling::{put, put_number};
+use kp_plans_spelling::{put, put_number};
 
 // Adds a number with what stands in front of it and behind it.
 pub(crate) fn put_numbered(

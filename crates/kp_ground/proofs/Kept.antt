@@ -13,15 +13,15 @@ use Rattle.kp_base.specs.declared.refused.Stop.{Stop}
 use Rattle.kp_base.specs.declared.refused.Stop.TheVariants as stops
 use Rattle.kp_base.specs.declared.ground.GroundName.{GroundName}
 use Rattle.kp_base.proofs.Lists.{all_from, member_at}
-use Rattle.kp_meaning.specs.Numbered.{Schema, Lifted}
-use Rattle.kp_meaning.specs.Lifted.{Instance, schema_of}
+use Rattle.kp_names_meaning.specs.Numbered.{Schema, Lifted}
+use Rattle.kp_names_meaning.specs.Lifted.{Instance, schema_of}
 use Rattle.kp_base.specs.Atoms.{Atom}
-use Rattle.kp_grounding.specs.Ground.{kept_bindings, kept_instances, actions_of, atom_name, numbered_set, object_names, ground_pre, ground_effects, action_of, IsNumbering, ground_over}
-use Rattle.kp_grounding.proofs.Public.{kept_instance, instance_action, actions_of_kept_instances}
-use Rattle.kp_lifted.specs.declared.lifted.Schema as owned
+use Rattle.kp_ground_meaning.specs.Ground.{kept_bindings, kept_instances, actions_of, atom_name, numbered_set, object_names, ground_pre, ground_effects, action_of, IsNumbering, ground_over}
+use Rattle.kp_ground_meaning.proofs.Public.{kept_instance, instance_action, actions_of_kept_instances}
+use Rattle.kp_names_lifted.specs.declared.lifted.Schema as owned
 use Rattle.kp_names.specs.View.{schema_view}
-use Rattle.kp_kept.specs.declared.kept.Kept.{Kept}
-use Rattle.kp_kept.specs.Counts.{kept_view, IsWithin, StopsAtCounts}
+use Rattle.kp_ground_instances.specs.declared.kept.Kept.{Kept}
+use Rattle.kp_ground_instances.specs.Counts.{kept_view, IsWithin, StopsAtCounts}
 use Rattle.kp_ground.specs.Grounded.{RefusesGround, AnswersGround}
 use Rattle.kp_ground.specs.Passes.{has_schema, name_with, action_with, action_at, IsKnown, AnswersAtoms}
 

@@ -3,12 +3,12 @@ use Rattle.std.proofs.Common.{◌≡◌, ℕ, zero, suc, ◌+◌, ◌<◌, Bool,
 use Rattle.std.specs.List.{list_all}
 use Rattle.std.proofs.lemmas.Bool.{and_parts, ltb-true}
 use Rattle.std.proofs.lemmas.List.{drop_more}
-use Rattle.kp_meaning.specs.declared.lifted.GroundLit.{GroundLit}
-use Rattle.kp_meaning.specs.Numbered.{Lifted}
+use Rattle.kp_names_meaning.specs.declared.lifted.GroundLit.{GroundLit}
+use Rattle.kp_names_meaning.specs.Numbered.{Lifted}
 use Rattle.kp_base.specs.Atoms.{Atom}
 use Rattle.kp_ground.specs.Gathered.{gather}
-use Rattle.kp_kept.specs.declared.kept.Kept.{Kept}
-use Rattle.kp_kept.specs.Counts.{kept_view}
+use Rattle.kp_ground_instances.specs.declared.kept.Kept.{Kept}
+use Rattle.kp_ground_instances.specs.Counts.{kept_view}
 use Rattle.kp_ground.specs.Passes.{has_schema}
 
 pub filter_more : (limit : ℕ) (p : GroundLit → Bool) (atoms : List Atom) (m : GroundLit) (rest : List GroundLit) → gather limit (gather limit atoms (filter p (m ∷ []))) (filter p rest) ≡ gather limit atoms (filter p (m ∷ rest))

@@ -1,9 +1,9 @@
 ghost use Rattle.std.specs.Prelude.{◌≡◌, map, OnOk};
 ghost use Rattle.kp_ground.specs.Gathered.{gather};
-ghost use Rattle.kp_bound.specs.Literals.{lit_view};
+ghost use Rattle.kp_ground_flatten.specs.Literals.{lit_view};
 
 use kp_base::{Atoms, Memory};
-use kp_bound::{BoundLit, Sink};
+use kp_ground_flatten::{BoundLit, Sink};
 use std::alloc::Global;
 
 /// The atoms of effects that are handed over, up to one beyond a limit.
@@ -26,7 +26,7 @@ fn note_all(alloc: Global, limit: u32, atoms: &mut Atoms, lits: &[BoundLit]) -> 
 }
 
 impl Sink for EffectAtoms {
-    ghost use Rattle.kp_grounding.specs.Ground.{effect_literals};
+    ghost use Rattle.kp_ground_meaning.specs.Ground.{effect_literals};
 
     ghost takes = { λ g f. record { atoms = gather g.limit g.atoms (effect_literals f); limit = g.limit } };
 

@@ -15,5 +15,5 @@ mod occurring;
 mod rising;
 
 pub use grounding::ground;
-pub use kp_bound::{BoundCond, BoundEff, BoundNode, bind, flatten};
-pub use kp_grounding::{Flat, FlatEffect};
+pub use kp_ground_flatten::{BoundCond, BoundEff, BoundNode, bind, flatten};
+pub use kp_ground_meaning::{Flat, FlatEffect};

@@ -1,14 +1,14 @@
 ghost use Rattle.std.specs.Prelude.{◌≡◌, [], map, fold, IfOk, OnOk};
 ghost use Rattle.kp_base.specs.LitSet.{with_lit, set_of};
-ghost use Rattle.kp_grounding.specs.Ground.{numbered};
-ghost use Rattle.kp_bound.specs.Literals.{lit_view};
+ghost use Rattle.kp_ground_meaning.specs.Ground.{numbered};
+ghost use Rattle.kp_ground_flatten.specs.Literals.{lit_view};
 ghost use Rattle.kp_ground.specs.Made.{with_made, made_effect};
 
 use crate::made::Made;
 use crate::rising::Rising;
 use indexmap::IndexSet;
 use kp_base::{AtomId, Atoms, Effect, Lit, LitSet, Memory, Recent, Row};
-use kp_bound::{BoundLit, Sink};
+use kp_ground_flatten::{BoundLit, Sink};
 use std::alloc::Global;
 use std::marker::Model;
 use std::mem::replace;
@@ -144,7 +144,7 @@ impl<'n> Numbering<'n> {
 }
 
 impl<'n> Sink for Numbering<'n> {
-    ghost use Rattle.kp_grounding.specs.Ground.{numbered_effect};
+    ghost use Rattle.kp_ground_meaning.specs.Ground.{numbered_effect};
 
     ghost takes = { λ n f. (n.0, with_made n.1 (numbered_effect n.0 f)) };
 

@@ -1,9 +1,9 @@
 ghost use Rattle.std.specs.Prelude.{◌≡◌, ◌<◌, [], map, true, length, IfOk, OnOk};
 ghost use Rattle.std.specs.List.{flat_map, list_all};
 ghost use Rattle.kp_names.specs.View.{schema_view, lifted_view};
-ghost use Rattle.kp_grounding.specs.Ground.{instance_literals, kept_instances};
+ghost use Rattle.kp_ground_meaning.specs.Ground.{instance_literals, kept_instances};
 ghost use Rattle.kp_ground.specs.Gathered.{gather};
-ghost use Rattle.kp_kept.specs.Counts.{kept_view};
+ghost use Rattle.kp_ground_instances.specs.Counts.{kept_view};
 ghost use Rattle.kp_ground.specs.Passes.{has_schema, literals_at, noted, AnswersAtoms};
 
 use crate::effect_atoms::EffectAtoms;
@@ -11,8 +11,8 @@ use crate::gathering::add_items;
 use crate::literals::add_literals;
 use bumpalo::Bump;
 use kp_base::{Atoms, Memory, Refused, Stop};
-use kp_bound::{hand_over, left_of};
-use kp_kept::{Kept, Statics};
+use kp_ground_flatten::{hand_over, left_of};
+use kp_ground_instances::{Kept, Statics};
 use kp_names::Schema;
 use std::alloc::Global;
 

@@ -2,18 +2,18 @@
 use Rattle.std.specs.Prelude.{◌≡◌, ◌↔◌, ◌<◌, ℕ, true, List, Some, map, length, slice_get}
 use Rattle.kp_base.specs.Steps as steps
 use Rattle.kp_base.specs.Steps.{is_model, IsGroundPlan}
-use Rattle.kp_grammar.specs.declared.tree.Word.{Word}
-use Rattle.kp_grammar.specs.Trees.{Domain, Problem}
-use Rattle.kp_meaning.specs.Faults.{HasNoFault}
-use Rattle.kp_meaning.specs.Steps.{Step}
-use Rattle.kp_meaning.specs.Plans as plans
-use Rattle.kp_meaning.specs.Plans.{HasProblem, Solves}
-use Rattle.kp_meaning.specs.Numbered.{Lifted}
-use Rattle.kp_meaning.specs.Lifted.{State, Instance, IsInitial, IsPlan}
-use Rattle.kp_meaning.specs.Numbering.{numbered_problem}
-use Rattle.kp_meaning.specs.NumberLaws.{is_plain_goal}
+use Rattle.kp_tree_grammar.specs.declared.tree.Word.{Word}
+use Rattle.kp_tree_grammar.specs.Trees.{Domain, Problem}
+use Rattle.kp_names_meaning.specs.Faults.{HasNoFault}
+use Rattle.kp_names_meaning.specs.Steps.{Step}
+use Rattle.kp_names_meaning.specs.Plans as plans
+use Rattle.kp_names_meaning.specs.Plans.{HasProblem, Solves}
+use Rattle.kp_names_meaning.specs.Numbered.{Lifted}
+use Rattle.kp_names_meaning.specs.Lifted.{State, Instance, IsInitial, IsPlan}
+use Rattle.kp_names_meaning.specs.Numbering.{numbered_problem}
+use Rattle.kp_names_meaning.specs.NumberLaws.{is_plain_goal}
 use Rattle.kp_base.specs.Atoms.{Atom}
-use Rattle.kp_grounding.specs.Ground.{IsNumbering, kept_instances, ground_over, ground_of, seen_on}
+use Rattle.kp_ground_meaning.specs.Ground.{IsNumbering, kept_instances, ground_over, ground_of, seen_on}
 use Rattle.kp_base.specs.ActionNames.{action_name}
 use Rattle.kp_init.specs.Initial.{initial_over, initial_of}
 use Rattle.kp_base.specs.Implicates.{IsOfAtoms}

@@ -5,7 +5,7 @@ use Rattle.std.specs.List.{flat_map}
 use Rattle.kp_base.specs.declared.lit.Lit.{Lit}
 use Rattle.kp_base.specs.declared.ground.GroundName.{GroundName}
 use Rattle.kp_write.specs.Facts.{facts_of_atom}
-use Rattle.kp_task.specs.Task.{name_of, lits_from, under, facts_from}
+use Rattle.kp_law_ktask.specs.Task.{name_of, lits_from, under, facts_from}
 
 -- the names of one tag's facts are those of the atoms
 names_under : (atoms rest : List GroundName) (t i : ℕ) → ((j : ℕ) → slice_get atoms (i + j) ≡ slice_get rest j) → map (name_of atoms) (under t (lits_from i (length rest))) ≡ flat_map (facts_of_atom t) rest

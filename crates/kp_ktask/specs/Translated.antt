@@ -9,8 +9,8 @@ use Rattle.kp_base.specs.declared.refused.Refused.TheVariants as refusals
 use Rattle.kp_base.specs.declared.refused.Stop.{Stop}
 use Rattle.kp_base.specs.declared.refused.Stop.TheVariants as stops
 use Rattle.kp_classic.specs.declared.task.Task.{Task}
-use Rattle.kp_task.specs.Task.{number, task_of}
-use Rattle.kp_task.specs.Weight.{weight_of}
+use Rattle.kp_law_ktask.specs.Task.{number, task_of}
+use Rattle.kp_law_ktask.specs.Weight.{weight_of}
 
 -- a task that has more facts than the limit, or else is heavier
 pub data RefusesTask (t : Task) (limits : Limits) : Refused → Type 0 where

@@ -1,7 +1,7 @@
 ghost use Rattle.std.specs.Prelude.{◌≡◌, [], ◌++◌, IfOk, OnOk};
 ghost use Rattle.std.specs.List.{flat_map};
 ghost use Rattle.kp_write.specs.Facts.{opposites};
-ghost use Rattle.kp_task.specs.Task.{support, cancellation, effects_under, effects_from};
+ghost use Rattle.kp_law_ktask.specs.Task.{support, cancellation, effects_under, effects_from};
 
 use crate::numbers::{clear, number, set_numbers};
 use kp_base::{Effect, Lit, LitSet, Memory, Row};

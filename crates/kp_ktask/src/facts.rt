@@ -1,12 +1,12 @@
 ghost use Rattle.std.specs.Prelude.{◌≡◌, ◌++◌, length, map, IfOk, OnOk};
 ghost use Rattle.std.specs.List.{flat_map};
 ghost use Rattle.kp_write.specs.Facts.{sign_word, tag_word, atom_fact, facts_of_atom};
-ghost use Rattle.kp_task.specs.Task.{name_of, lits_from, facts_from, number, starts_from};
+ghost use Rattle.kp_law_ktask.specs.Task.{name_of, lits_from, facts_from, number, starts_from};
 
 use crate::numbers::push_numbers;
 use kp_base::{GroundName, Memory, Row, TagRow, Text};
 use kp_plans::put_word;
-use kp_spelling::{put, put_number};
+use kp_plans_spelling::{put, put_number};
 use std::alloc::Global;
 
 fn put_sign(out: &mut Vec<u8>, positive: bool) -> Result<(), Memory>

@@ -1,4 +1,4 @@
-//! The task of a ground problem and a table of tags and merges. `specs/Task.antt` of `kp_task` says what it is,
+//! The task of a ground problem and a table of tags and merges. `specs/Task.antt` of `kp_law_ktask` says what it is,
 //! `specs/Translated.antt` when it is refused.
 #![tactic(auto)]
 

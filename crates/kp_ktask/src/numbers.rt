@@ -1,5 +1,5 @@
 ghost use Rattle.std.specs.Prelude.{◌≡◌, ◌<◌, [], ◌++◌, IfOk, OnOk};
-ghost use Rattle.kp_task.specs.Task.{number, numbers};
+ghost use Rattle.kp_law_ktask.specs.Task.{number, numbers};
 ghost use Rattle.kp_ktask.specs.Translated.{IsLiteralOf};
 
 use kp_base::{AtomId, Lit, Memory, Row};

@@ -1,14 +1,14 @@
 ghost use Rattle.std.specs.Prelude.{◌≡◌, ◌∷◌, [], ◌++◌, true, map, IfOk, OnOk};
-ghost use Rattle.kp_meaning.specs.Encoding.{encoded};
-ghost use Rattle.kp_meaning.specs.Strip.{do_front};
-ghost use Rattle.kp_task.specs.Task.{number, op_of, merge_word, merge_op, merge_ops_from};
+ghost use Rattle.kp_names_meaning.specs.Encoding.{encoded};
+ghost use Rattle.kp_names_meaning.specs.Strip.{do_front};
+ghost use Rattle.kp_law_ktask.specs.Task.{number, op_of, merge_word, merge_op, merge_ops_from};
 
 use crate::effects::all_effects;
 use crate::numbers::{number, numbers};
 use kp_base::{Action, GroundName, Lit, Memory, Merge, Row, Text};
 use kp_classic::{Conds, Op, OpEffect};
 use kp_plans::put_word;
-use kp_spelling::{put, put_number};
+use kp_plans_spelling::{put, put_number};
 use std::alloc::Global;
 
 fn operator_name(alloc: Global, name: &GroundName) -> Result<Text, Memory>

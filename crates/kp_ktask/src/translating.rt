@@ -1,5 +1,5 @@
 ghost use Rattle.std.specs.Prelude.{◌≡◌, length, IfOk, OnOk, IfErr};
-ghost use Rattle.kp_task.specs.Task.{task_of};
+ghost use Rattle.kp_law_ktask.specs.Task.{task_of};
 ghost use Rattle.kp_ktask.specs.Translated.{FitsLimits, StopsTask, AnswersTask, without_operators};
 
 use crate::facts::{fact_names, start};

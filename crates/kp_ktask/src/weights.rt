@@ -1,5 +1,5 @@
 ghost use Rattle.std.specs.Prelude.{◌≡◌, ◌+◌, ◌*◌, ◌-◌, ◌^◌, min, length, sum_by};
-ghost use Rattle.kp_task.specs.Weight.{both_weight, action_weight, merge_weight, counted_weight};
+ghost use Rattle.kp_law_ktask.specs.Weight.{both_weight, action_weight, merge_weight, counted_weight};
 
 use kp_base::{Action, Effect, Ground, Merge, TagTable};
 

@@ -9,11 +9,11 @@ use Rattle.kp_base.specs.declared.ground.TagTable.{TagTable}
 use Rattle.kp_base.specs.Lists.{Member}
 use Rattle.kp_base.specs.Implicates.{are_below}
 use Rattle.kp_base.specs.Machine.{MachineStep, accepts, stripped}
-use Rattle.kp_complete.specs.Lifts.{lifted, UnliftedAt}
+use Rattle.kp_law_complete.specs.Lifts.{lifted, UnliftedAt}
 use Rattle.kp_classic.specs.declared.task.Task.{Task}
-use Rattle.kp_task.specs.Task.{task_of}
-use Rattle.kp_task.specs.Laws.{op_number}
-use Rattle.kp_task.specs.Accepted.{step_at}
+use Rattle.kp_law_ktask.specs.Task.{task_of}
+use Rattle.kp_law_ktask.specs.Laws.{op_number}
+use Rattle.kp_law_ktask.specs.Accepted.{step_at}
 use Rattle.kp_lift.specs.declared.lifting.Lifting.{Lifting}
 use Rattle.kp_lift.specs.declared.lifting.Lifting.TheVariants.{Lifted, Unlifted}
 

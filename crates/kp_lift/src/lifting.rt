@@ -1,7 +1,7 @@
 ghost use Rattle.std.specs.Prelude.{◌≡◌, ◌<◌, ◌&&◌, true, length, nat_lt, IfOk};
 ghost use Rattle.std.specs.List.{list_all};
 ghost use Rattle.kp_base.specs.Implicates.{IsOfItsAtoms};
-ghost use Rattle.kp_task.specs.Task.{task_of};
+ghost use Rattle.kp_law_ktask.specs.Task.{task_of};
 ghost use Rattle.kp_lift.specs.Lifting.{IsTableOn, AnswersLifting};
 ghost use Rattle.kp_lift.specs.Operators.{AreOperators};
 

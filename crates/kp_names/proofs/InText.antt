@@ -5,12 +5,12 @@ use Rattle.kp_lex.specs.declared.token.Token.{Token}
 use Rattle.kp_lex.specs.Cutting.{Cut}
 use Rattle.kp_lex.specs.Spans.{IsTokenOf}
 use Rattle.kp_lex.proofs.Public.{each_span_is_a_token}
-use Rattle.kp_grammar.specs.declared.tree.Word.{Word}
-use Rattle.kp_grammar.specs.Trees.{Domain, Problem}
-use Rattle.kp_grammar.specs.Symbols.{all_seen_in}
-use Rattle.kp_grammar.specs.Grammar as grammar
-use Rattle.kp_grammar.specs.Texts.{ReadsAs}
-use Rattle.kp_meaning.specs.Faults.{Fault, byte_of, domain_faults, problem_faults}
+use Rattle.kp_tree_grammar.specs.declared.tree.Word.{Word}
+use Rattle.kp_tree_grammar.specs.Trees.{Domain, Problem}
+use Rattle.kp_tree_grammar.specs.Symbols.{all_seen_in}
+use Rattle.kp_tree_grammar.specs.Grammar as grammar
+use Rattle.kp_tree_grammar.specs.Texts.{ReadsAs}
+use Rattle.kp_names_meaning.specs.Faults.{Fault, byte_of, domain_faults, problem_faults}
 use Rattle.kp_names.specs.Noted.{noted}
 use Rattle.kp_names.proofs.Held.{OfTokens, held}
 use Rattle.kp_names.proofs.Within.{Early, EarlyFault, AreEarly, domain_early, problem_early}

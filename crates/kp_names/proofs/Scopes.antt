@@ -5,14 +5,14 @@ use Rattle.std.proofs.Math.Seq.{take-append_seam}
 use Rattle.std.proofs.lemmas.List.Sums.{fold-append}
 use Rattle.kp_base.specs.Lists.{only_if}
 use Rattle.kp_base.proofs.Lists.{flat_alike}
-use Rattle.kp_grammar.specs.declared.tree.Word.{Word}
-use Rattle.kp_grammar.specs.Trees.{Typed, Term, Atom, Cond, Conds, Eff, Effs, Schema, Domain, Problem}
-use Rattle.kp_meaning.specs.Names.{Name, same, is_among, distinct}
-use Rattle.kp_meaning.specs.Types.{declared}
-use Rattle.kp_meaning.specs.Faults.{Fault, unknown_name, declared_twice, repeated, inside, variable_faults, head_faults, predicate_of, term_faults, atom_faults, cond_faults, conds_faults, eff_faults, effs_faults, schema_faults}
+use Rattle.kp_tree_grammar.specs.declared.tree.Word.{Word}
+use Rattle.kp_tree_grammar.specs.Trees.{Typed, Term, Atom, Cond, Conds, Eff, Effs, Schema, Domain, Problem}
+use Rattle.kp_names_meaning.specs.Names.{Name, same, is_among, distinct}
+use Rattle.kp_names_meaning.specs.Types.{declared}
+use Rattle.kp_names_meaning.specs.Faults.{Fault, unknown_name, declared_twice, repeated, inside, variable_faults, head_faults, predicate_of, term_faults, atom_faults, cond_faults, conds_faults, eff_faults, effs_faults, schema_faults}
 use Rattle.kp_names.specs.Noted.{noted, sooner}
-use Rattle.kp_tables.specs.Steps.{with_name}
-use Rattle.kp_tables.proofs.Public.{among_one_more, among_gathered, gathered_behind}
+use Rattle.kp_names_declared.specs.Steps.{with_name}
+use Rattle.kp_names_declared.proofs.Public.{among_one_more, among_gathered, gathered_behind}
 
 -- the same names, in whichever order
 pub record Alike (xs ys : List Name) : Type 0 where

@@ -3,9 +3,9 @@ use Rattle.std.specs.Prelude.{◌≡◌, ℕ, if◌then◌else◌, List, [], Opt
 use Rattle.kp_base.specs.declared.refused.Part.{Part}
 use Rattle.kp_base.specs.declared.refused.Stop.{Stop}
 use Rattle.kp_base.specs.declared.refused.Stop.TheVariants as stops
-use Rattle.kp_grammar.specs.declared.tree.Word.{Word}
-use Rattle.kp_grammar.specs.Trees.{Pred, Schema, Domain, Problem}
-use Rattle.kp_meaning.specs.Faults as spec
+use Rattle.kp_tree_grammar.specs.declared.tree.Word.{Word}
+use Rattle.kp_tree_grammar.specs.Trees.{Pred, Schema, Domain, Problem}
+use Rattle.kp_names_meaning.specs.Faults as spec
 use Rattle.kp_names.specs.Resolved.{first_fault, refusal_of, RefusesNames}
 use Rattle.kp_names.specs.declared.first.Fault.{Fault}
 use Rattle.kp_names.specs.declared.first.Fault.TheVariants as faults

@@ -1,18 +1,18 @@
 ghost use Rattle.std.specs.Prelude.{◌≡◌, ◌∷◌, [], Bool, not, map, OnOk};
 ghost use Rattle.std.specs.List.{flat_map};
 ghost use Rattle.kp_base.specs.Lists.{only_if};
-ghost use Rattle.kp_grammar.specs.View.{typed_view, pred_view, schema_view};
-ghost use Rattle.kp_meaning.specs.Faults.{unknown_name, declared_twice, unless_among, type_faults, twice_in, words, variable_faults};
-ghost use Rattle.kp_meaning.specs.Names.{is_among};
-ghost use Rattle.kp_meaning.specs.Types.{types};
-ghost use Rattle.kp_tables.specs.Collected.{domain_of};
+ghost use Rattle.kp_tree_grammar.specs.View.{typed_view, pred_view, schema_view};
+ghost use Rattle.kp_names_meaning.specs.Faults.{unknown_name, declared_twice, unless_among, type_faults, twice_in, words, variable_faults};
+ghost use Rattle.kp_names_meaning.specs.Names.{is_among};
+ghost use Rattle.kp_names_meaning.specs.Types.{types};
+ghost use Rattle.kp_names_declared.specs.Collected.{domain_of};
 ghost use Rattle.kp_names.specs.Noted.{noted, heads_of, names_of};
-ghost use Rattle.kp_tables.specs.Steps.{with_name};
+ghost use Rattle.kp_names_declared.specs.Steps.{with_name};
 
 use crate::first::{Fault, First};
 use kp_base::Memory;
-use kp_grammar::{PredTree, SchemaTree, Typed, Word};
-use kp_tables::{NameSet, Names};
+use kp_names_declared::{NameSet, Names};
+use kp_tree_grammar::{PredTree, SchemaTree, Typed, Word};
 use std::alloc::Global;
 
 /// Notes a word whose name is not known.

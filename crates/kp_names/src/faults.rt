@@ -1,14 +1,14 @@
 ghost use Rattle.std.specs.Prelude.{◌≡◌, ◌∷◌, ◌++◌, [], ◌==◌, not, length, map};
 ghost use Rattle.std.specs.List.{flat_map};
-ghost use Rattle.kp_grammar.specs.View.{term_view, atom_view, cond_view, lit_view, item_view};
-ghost use Rattle.kp_meaning.specs.Faults.{predicate_of, term_faults, head_faults, atom_faults, cond_faults, lit_faults, item_faults};
-ghost use Rattle.kp_tables.specs.Collected.{domain_of, problem_of};
+ghost use Rattle.kp_tree_grammar.specs.View.{term_view, atom_view, cond_view, lit_view, item_view};
+ghost use Rattle.kp_names_meaning.specs.Faults.{predicate_of, term_faults, head_faults, atom_faults, cond_faults, lit_faults, item_faults};
+ghost use Rattle.kp_names_declared.specs.Collected.{domain_of, problem_of};
 ghost use Rattle.kp_names.specs.Noted.{noted};
 
 use crate::declarations::note_unless;
 use crate::first::{Fault, First};
-use kp_grammar::{AtomTree, CondTree, ItemTree, LitTree, TermTree};
-use kp_tables::{NameSet, Names};
+use kp_names_declared::{NameSet, Names};
+use kp_tree_grammar::{AtomTree, CondTree, ItemTree, LitTree, TermTree};
 
 // Notes a term that names no object, or a variable that isn't one of the scope.
 fn note_term(names: &Names, scope: &NameSet, term: &TermTree, first: &mut First)

@@ -1,15 +1,15 @@
 ghost use Rattle.std.specs.Prelude.{◌≡◌, ◌≤◌, length, Some};
 ghost use Rattle.kp_base.specs.declared.refused.Part.TheVariants as parts;
-ghost use Rattle.kp_grammar.specs.Grammar as grammar;
-ghost use Rattle.kp_grammar.specs.Texts.{ReadsAs};
-ghost use Rattle.kp_meaning.specs.Faults.{Fault as Wrong, byte_of, domain_faults, problem_faults};
-ghost use Rattle.kp_tables.specs.Collected.{domain_of, problem_of};
+ghost use Rattle.kp_tree_grammar.specs.Grammar as grammar;
+ghost use Rattle.kp_tree_grammar.specs.Texts.{ReadsAs};
+ghost use Rattle.kp_names_meaning.specs.Faults.{Fault as Wrong, byte_of, domain_faults, problem_faults};
+ghost use Rattle.kp_names_declared.specs.Collected.{domain_of, problem_of};
 ghost use Rattle.kp_names.specs.Noted.{Refuses, Judges, JudgesBoth};
 
 use crate::first::First;
 use crate::whole::{note_domain, note_problem};
 use kp_base::{Part, Stop, Texts};
-use kp_tables::Names;
+use kp_names_declared::Names;
 use std::alloc::Global;
 
 // Refuses a file that has a fault.

@@ -1,14 +1,14 @@
 ghost use Rattle.std.specs.Prelude.{◌≤◌, length};
-ghost use Rattle.kp_grammar.specs.Grammar as grammar;
-ghost use Rattle.kp_grammar.specs.Texts.{ReadsAs};
-ghost use Rattle.kp_grammar.specs.View.{domain_view, problem_view};
+ghost use Rattle.kp_tree_grammar.specs.Grammar as grammar;
+ghost use Rattle.kp_tree_grammar.specs.Texts.{ReadsAs};
+ghost use Rattle.kp_tree_grammar.specs.View.{domain_view, problem_view};
 ghost use Rattle.kp_names.specs.Resolved.{AnswersNames};
 
 use crate::judge::judge;
 use kp_base::{Stop, Texts};
-use kp_grammar::{Domain, Problem};
-use kp_lifted::{Lifted, by_number};
-use kp_tables::Names;
+use kp_names_declared::Names;
+use kp_names_lifted::{Lifted, by_number};
+use kp_tree_grammar::{Domain, Problem};
 use std::alloc::Global;
 
 /// The problem by number of two trees, or the refusal at the first token with a fault: of the domain, or,

@@ -1,18 +1,18 @@
 ghost use Rattle.std.specs.Prelude.{◌≡◌, [], fold, map, OnOk};
 ghost use Rattle.std.specs.List.{flat_map};
-ghost use Rattle.kp_grammar.specs.View.{eff_view, schema_view, typed_view};
-ghost use Rattle.kp_meaning.specs.Faults.{eff_faults, schema_faults, variable_faults};
-ghost use Rattle.kp_meaning.specs.Types.{declared};
-ghost use Rattle.kp_tables.specs.Collected.{domain_of, problem_of};
+ghost use Rattle.kp_tree_grammar.specs.View.{eff_view, schema_view, typed_view};
+ghost use Rattle.kp_names_meaning.specs.Faults.{eff_faults, schema_faults, variable_faults};
+ghost use Rattle.kp_names_meaning.specs.Types.{declared};
+ghost use Rattle.kp_names_declared.specs.Collected.{domain_of, problem_of};
 ghost use Rattle.kp_names.specs.Noted.{noted};
-ghost use Rattle.kp_tables.specs.Steps.{with_name};
+ghost use Rattle.kp_names_declared.specs.Steps.{with_name};
 
 use crate::declarations::note_variables;
 use crate::faults::{note_atom, note_cond};
 use crate::first::First;
 use kp_base::Memory;
-use kp_grammar::{EffTree, SchemaTree, Typed};
-use kp_tables::{NameSet, Names, add_declared};
+use kp_names_declared::{NameSet, Names, add_declared};
+use kp_tree_grammar::{EffTree, SchemaTree, Typed};
 use std::alloc::Global;
 
 // Notes the faults of variables, and adds these to the scope.

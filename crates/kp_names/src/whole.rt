@@ -1,8 +1,8 @@
 ghost use Rattle.std.specs.Prelude.{◌≡◌, map, OnOk};
 ghost use Rattle.std.specs.List.{flat_map};
-ghost use Rattle.kp_grammar.specs.View.{pred_view, item_view};
-ghost use Rattle.kp_meaning.specs.Faults.{twice_in, words, predicate_faults, item_faults, domain_faults, problem_faults};
-ghost use Rattle.kp_tables.specs.Collected.{domain_of, problem_of};
+ghost use Rattle.kp_tree_grammar.specs.View.{pred_view, item_view};
+ghost use Rattle.kp_names_meaning.specs.Faults.{twice_in, words, predicate_faults, item_faults, domain_faults, problem_faults};
+ghost use Rattle.kp_names_declared.specs.Collected.{domain_of, problem_of};
 ghost use Rattle.kp_names.specs.Noted.{noted};
 
 use crate::declarations::{note_twice, note_twice_heads, note_twice_schemas, note_types};
@@ -10,8 +10,8 @@ use crate::faults::{note_cond, note_item};
 use crate::first::First;
 use crate::schema_faults::note_schemas;
 use kp_base::Memory;
-use kp_grammar::{ItemTree, PredTree};
-use kp_tables::{NameSet, Names};
+use kp_names_declared::{NameSet, Names};
+use kp_tree_grammar::{ItemTree, PredTree};
 use std::alloc::Global;
 
 // Notes parameters that stand twice in the declaration of a predicate.
@@ -34,7 +34,7 @@ fn note_predicates(alloc: Global, predicates: &[PredTree], first: &mut First) ->
 }
 
 /// Notes the faults of the domain.
-#[tactic(auto, unfolding(kp_tables::specs::Collected::domain_of))]
+#[tactic(auto, unfolding(kp_names_declared::specs::Collected::domain_of))]
 pub fn note_domain(alloc: Global, names: &Names, first: &mut First) -> Result<(), Memory>
     ensures { OnOk result (first.new ≡ noted first.old (domain_faults (domain_of names.now) (problem_of names.now))) }
 {
@@ -57,7 +57,7 @@ fn note_init(alloc: Global, names: &Names, items: &[ItemTree], first: &mut First
 }
 
 /// Notes the faults of the problem.
-#[tactic(auto, unfolding(kp_tables::specs::Collected::problem_of))]
+#[tactic(auto, unfolding(kp_names_declared::specs::Collected::problem_of))]
 pub fn note_problem(alloc: Global, names: &Names, first: &mut First)
     ensures { first.new ≡ noted first.old (problem_faults (domain_of names.now) (problem_of names.now)) }
 {

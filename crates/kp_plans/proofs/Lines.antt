@@ -5,19 +5,19 @@ use Rattle.kp_base.specs.declared.ground.GroundName.{GroundName}
 use Rattle.kp_lex.specs.declared.token.TokenKind.TheVariants as kinds
 use Rattle.kp_lex.specs.Bytes.{class_of, follows}
 use Rattle.kp_lex.specs.Cutting.{Ends}
-use Rattle.kp_grammar.specs.declared.tree.Word.{Word}
-use Rattle.kp_grammar.specs.Symbols.{symbol_of, is_name, is_left}
-use Rattle.kp_grammar.specs.Sorts.{s_word, s_pair, s_list}
-use Rattle.kp_grammar.specs.Forms.{hits, many}
-use Rattle.kp_grammar.specs.Grammar.{word}
-use Rattle.kp_grammar.specs.Reading.{Reads, r_token, r_both, r_end, r_more, r_bracket}
-use Rattle.kp_grammar.specs.Words.{IsName}
-use Rattle.kp_grammar.proofs.Public.{name_passes}
-use Rattle.kp_meaning.specs.GroundNames.{IsGroundName}
-use Rattle.kp_pieces.specs.Pieces.{Piece, right, spelling, each, spaced, name, line_feed}
-use Rattle.kp_pieces.specs.Tokens.{words, Fine, done, lefts, rights, blanks, says}
-use Rattle.kp_pieces.specs.Maps.{without_places}
-use Rattle.kp_pieces.proofs.Public.{◌$◌, KeepsFine, each_keeps_fine, PiecesGive, many_pieces_read, pieces_read_as_their_words}
+use Rattle.kp_tree_grammar.specs.declared.tree.Word.{Word}
+use Rattle.kp_tree_grammar.specs.Symbols.{symbol_of, is_name, is_left}
+use Rattle.kp_tree_grammar.specs.Sorts.{s_word, s_pair, s_list}
+use Rattle.kp_tree_grammar.specs.Forms.{hits, many}
+use Rattle.kp_tree_grammar.specs.Grammar.{word}
+use Rattle.kp_tree_grammar.specs.Reading.{Reads, r_token, r_both, r_end, r_more, r_bracket}
+use Rattle.kp_tree_grammar.specs.Words.{IsName}
+use Rattle.kp_tree_grammar.proofs.Public.{name_passes}
+use Rattle.kp_names_meaning.specs.GroundNames.{IsGroundName}
+use Rattle.kp_law_texts.specs.Pieces.{Piece, right, spelling, each, spaced, name, line_feed}
+use Rattle.kp_law_texts.specs.Tokens.{words, Fine, done, lefts, rights, blanks, says}
+use Rattle.kp_law_texts.specs.Maps.{without_places}
+use Rattle.kp_law_texts.proofs.Public.{◌$◌, KeepsFine, each_keeps_fine, PiecesGive, many_pieces_read, pieces_read_as_their_words}
 use Rattle.kp_plans.specs.Grammar.{step, plan, name_of}
 use Rattle.kp_plans.specs.PlanFiles.{names as plan_names, step_of}
 use Rattle.kp_plans.specs.Printed.{step_line, plan_pieces, plan_text, PrintedPlansRead}

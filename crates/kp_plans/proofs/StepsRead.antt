@@ -3,20 +3,20 @@ use Rattle.std.proofs.Common.{◌≡◌, ℕ, zero, suc, ◌+◌, ◌-◌, ◌�
 use Rattle.std.proofs.lemmas.List.{drop-drop, map-append}
 use Rattle.kp_base.specs.declared.refused.Part.TheVariants as parts
 use Rattle.kp_lex.specs.Places.{place_of}
-use Rattle.kp_grammar.specs.declared.tree.Word.{Word}
-use Rattle.kp_grammar.specs.Symbols.{Tok, first_is, is_left, is_right, is_name}
-use Rattle.kp_grammar.specs.Sorts.{m_word}
-use Rattle.kp_grammar.specs.Forms.{hits}
-use Rattle.kp_grammar.specs.Grammar.{some}
-use Rattle.kp_grammar.specs.Reading.{stop, Reads, Stops, StopsWhole, within_form, after_form, r_token, r_both, r_end, r_more, r_bracket, s_token, s_first, s_here, s_later, s_unopened, s_inside, s_unclosed}
-use Rattle.kp_grammar.specs.Parsing.{read}
-use Rattle.kp_grammar.proofs.Public.{answered_is_read}
-use Rattle.kp_cursor.specs.declared.cursor.Class.TheVariants as classes
-use Rattle.kp_cursor.specs.declared.halt.Halt.{Halt}
-use Rattle.kp_cursor.specs.declared.halt.Halt.TheVariants as halts
-use Rattle.kp_cursor.specs.Lexemes.{word_of, from}
-use Rattle.kp_cursor.specs.Readers.{Opened, Closed, Words, some_at}
-use Rattle.kp_cursor.proofs.Public.{class_is_no_bracket, longest_run_reads}
+use Rattle.kp_tree_grammar.specs.declared.tree.Word.{Word}
+use Rattle.kp_tree_grammar.specs.Symbols.{Tok, first_is, is_left, is_right, is_name}
+use Rattle.kp_tree_grammar.specs.Sorts.{m_word}
+use Rattle.kp_tree_grammar.specs.Forms.{hits}
+use Rattle.kp_tree_grammar.specs.Grammar.{some}
+use Rattle.kp_tree_grammar.specs.Reading.{stop, Reads, Stops, StopsWhole, within_form, after_form, r_token, r_both, r_end, r_more, r_bracket, s_token, s_first, s_here, s_later, s_unopened, s_inside, s_unclosed}
+use Rattle.kp_tree_grammar.specs.Parsing.{read}
+use Rattle.kp_tree_grammar.proofs.Public.{answered_is_read}
+use Rattle.kp_tree_cursor.specs.declared.cursor.Class.TheVariants as classes
+use Rattle.kp_tree_cursor.specs.declared.halt.Halt.{Halt}
+use Rattle.kp_tree_cursor.specs.declared.halt.Halt.TheVariants as halts
+use Rattle.kp_tree_cursor.specs.Lexemes.{word_of, from}
+use Rattle.kp_tree_cursor.specs.Readers.{Opened, Closed, Words, some_at}
+use Rattle.kp_tree_cursor.proofs.Public.{class_is_no_bracket, longest_run_reads}
 use Rattle.kp_plans.specs.declared.step.PlanStep.{PlanStep}
 use Rattle.kp_base.specs.declared.ground.GroundName.{GroundName}
 use Rattle.kp_base.specs.declared.refused.Place.{Place}

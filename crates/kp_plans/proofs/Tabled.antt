@@ -6,11 +6,11 @@ use Rattle.std.specs.Option.{option_or}
 use Rattle.std.proofs.lemmas.Bool.{and_parts, and_from}
 use Rattle.indexmap.specs.IndexMap.{insert_entry}
 use Rattle.kp_base.specs.declared.ground.GroundName.{GroundName}
-use Rattle.kp_meaning.specs.Names.{same, all_same}
-use Rattle.kp_meaning.specs.Encoding.{encoded}
-use Rattle.kp_meaning.specs.GroundNames.{same_name}
+use Rattle.kp_names_meaning.specs.Names.{same, all_same}
+use Rattle.kp_names_meaning.specs.Encoding.{encoded}
+use Rattle.kp_names_meaning.specs.GroundNames.{same_name}
 use Rattle.kp_base.proofs.Lists.{same-true, same-refl}
-use Rattle.kp_meaning.proofs.Public.{all_same_names-true, all_same_names-refl}
+use Rattle.kp_names_meaning.proofs.Public.{all_same_names-true, all_same_names-refl}
 use Rattle.kp_plans.specs.Tables.{number_under, IsTableOf}
 use Rattle.kp_plans.proofs.Decoded.{encoded_once}
 

@@ -13,14 +13,14 @@ use Rattle.kp_lex.specs.Cutting.{Cut, BadAt}
 use Rattle.kp_lex.specs.Places.{place_of}
 use Rattle.kp_lex.specs.Spans.{InOrder}
 use Rattle.kp_lex.proofs.Public.{cutting_or_bad_byte, never_cutting_and_bad_byte, one_cutting, one_bad_byte}
-use Rattle.kp_grammar.specs.declared.tree.Word.{Word}
-use Rattle.kp_grammar.specs.Symbols.{Tok, seen_in, all_seen_in}
-use Rattle.kp_grammar.specs.Reading.{At, stop, ReadsWhole, StopsWhole}
-use Rattle.kp_grammar.proofs.Public.{whole_reads_once, whole_never_both, whole_stops_once, whole_reads_or_stops}
-use Rattle.kp_cursor.specs.declared.halt.Halt.{Halt}
-use Rattle.kp_cursor.specs.declared.halt.Halt.TheVariants as halts
-use Rattle.kp_cursor.specs.Lexemes.{from, lexed, byte_at}
-use Rattle.kp_cursor.proofs.Public.{lexed_as_seen}
+use Rattle.kp_tree_grammar.specs.declared.tree.Word.{Word}
+use Rattle.kp_tree_grammar.specs.Symbols.{Tok, seen_in, all_seen_in}
+use Rattle.kp_tree_grammar.specs.Reading.{At, stop, ReadsWhole, StopsWhole}
+use Rattle.kp_tree_grammar.proofs.Public.{whole_reads_once, whole_never_both, whole_stops_once, whole_reads_or_stops}
+use Rattle.kp_tree_cursor.specs.declared.halt.Halt.{Halt}
+use Rattle.kp_tree_cursor.specs.declared.halt.Halt.TheVariants as halts
+use Rattle.kp_tree_cursor.specs.Lexemes.{from, lexed, byte_at}
+use Rattle.kp_tree_cursor.proofs.Public.{lexed_as_seen}
 use Rattle.kp_plans.specs.declared.step.PlanStep.{PlanStep}
 use Rattle.kp_plans.specs.Grammar.{plan}
 use Rattle.kp_plans.specs.PlanFiles.{step_of, IsPlanOf, RefusesPlan, bad_token, stops, AnswersPlan, PlansReadOnce, PlansRefuseOnce, PlansNeverBoth, PlansAlwaysOne}

@@ -9,11 +9,11 @@ use Rattle.kp_base.specs.declared.refused.Stop.TheVariants as causes
 use Rattle.kp_lex.specs.declared.token.Token.{Token}
 use Rattle.kp_lex.specs.Cutting.{Cut, BadAt}
 use Rattle.kp_lex.specs.Places.{place_of}
-use Rattle.kp_grammar.specs.declared.tree.Word.{Word}
-use Rattle.kp_grammar.specs.Symbols.{all_seen_in}
-use Rattle.kp_grammar.specs.Reading.{At, StopsWhole}
-use Rattle.kp_grammar.specs.Texts.{ReadsAs}
-use Rattle.kp_cursor.specs.Lexemes.{byte_at}
+use Rattle.kp_tree_grammar.specs.declared.tree.Word.{Word}
+use Rattle.kp_tree_grammar.specs.Symbols.{all_seen_in}
+use Rattle.kp_tree_grammar.specs.Reading.{At, StopsWhole}
+use Rattle.kp_tree_grammar.specs.Texts.{ReadsAs}
+use Rattle.kp_tree_cursor.specs.Lexemes.{byte_at}
 use Rattle.kp_plans.specs.declared.step.PlanStep.{PlanStep}
 use Rattle.kp_plans.specs.Grammar.{plan, name_of}
 

@@ -6,12 +6,12 @@ use Rattle.kp_base.specs.declared.refused.Stop.{Stop}
 use Rattle.kp_base.specs.declared.refused.Stop.TheVariants as causes
 use Rattle.kp_lex.specs.declared.token.Token.{Token}
 use Rattle.kp_lex.specs.Places.{place_of}
-use Rattle.kp_grammar.specs.declared.tree.Word.{Word}
-use Rattle.kp_grammar.specs.Symbols.{Tok, all_seen_in}
-use Rattle.kp_grammar.specs.Reading.{At, stop, Reads, Stops, ReadsWhole, StopsWhole}
-use Rattle.kp_cursor.specs.declared.halt.Halt.{Halt}
-use Rattle.kp_cursor.specs.declared.halt.Halt.TheVariants as halts
-use Rattle.kp_cursor.specs.Lexemes.{word_of, from, byte_at}
+use Rattle.kp_tree_grammar.specs.declared.tree.Word.{Word}
+use Rattle.kp_tree_grammar.specs.Symbols.{Tok, all_seen_in}
+use Rattle.kp_tree_grammar.specs.Reading.{At, stop, Reads, Stops, ReadsWhole, StopsWhole}
+use Rattle.kp_tree_cursor.specs.declared.halt.Halt.{Halt}
+use Rattle.kp_tree_cursor.specs.declared.halt.Halt.TheVariants as halts
+use Rattle.kp_tree_cursor.specs.Lexemes.{word_of, from, byte_at}
 use Rattle.kp_plans.specs.declared.step.PlanStep.{PlanStep}
 use Rattle.kp_plans.specs.Grammar.{step, plan}
 use Rattle.kp_plans.specs.PlanFiles.{step_of}

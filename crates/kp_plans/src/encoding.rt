@@ -1,8 +1,8 @@
 ghost use Rattle.std.specs.Prelude.{◌≡◌, ◌++◌, Some, IfOk, OnOk};
-ghost use Rattle.kp_meaning.specs.Encoding.{doubled, doubled_byte, encoded, encoded_objects, decoded, HasNoEmptyPart};
+ghost use Rattle.kp_names_meaning.specs.Encoding.{doubled, doubled_byte, encoded, encoded_objects, decoded, HasNoEmptyPart};
 
 use kp_base::{GroundName, Memory, Text};
-use kp_spelling::put;
+use kp_plans_spelling::put;
 use std::alloc::Global;
 
 fn put_byte(out: &mut Vec<u8>, byte: u8) -> Result<(), Memory>

@@ -1,11 +1,11 @@
 ghost use Rattle.std.specs.Prelude.{◌≡◌, IfOk, OnOk};
 ghost use Rattle.std.specs.List.{AllByRecursion};
-ghost use Rattle.kp_meaning.specs.GroundNames.{IsGroundName};
-ghost use Rattle.kp_pieces.specs.Pieces.{Puts, each};
+ghost use Rattle.kp_names_meaning.specs.GroundNames.{IsGroundName};
+ghost use Rattle.kp_law_texts.specs.Pieces.{Puts, each};
 ghost use Rattle.kp_plans.specs.Printed.{step_line, plan_text, IsTextOf};
 
 use kp_base::{GroundName, Memory, Row};
-use kp_spelling::{put, put_name};
+use kp_plans_spelling::{put, put_name};
 use std::alloc::Global;
 
 // A step on a line of its own.

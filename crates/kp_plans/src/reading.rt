@@ -8,8 +8,8 @@ ghost use Rattle.kp_plans.specs.Steps.{Ascends, StepStands, StepStops, AnswersTo
 use crate::step::PlanStep;
 use crate::words::name_of;
 use kp_base::{Part, Place, Refused, Row, Stop};
-use kp_cursor::{Class, Halt, Tokens, byte_of, close, is_left, lower_case, peek, words};
 use kp_lex::{Token, place, tokens};
+use kp_tree_cursor::{Class, Halt, Tokens, byte_of, close, is_left, lower_case, peek, words};
 use std::alloc::Global;
 
 // How many line feeds there are.

@@ -1,8 +1,8 @@
 ghost use Rattle.std.specs.Prelude.{◌≡◌, ◌<◌, ◌∷◌, length, map, IfOk};
-ghost use Rattle.kp_cursor.specs.Lexemes.{word_of};
+ghost use Rattle.kp_tree_cursor.specs.Lexemes.{word_of};
 
 use kp_base::{GroundName, Memory, Row, Text};
-use kp_cursor::{Tokens, peek};
+use kp_tree_cursor::{Tokens, peek};
 use std::alloc::Global;
 
 // The texts of some words.

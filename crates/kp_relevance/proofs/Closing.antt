@@ -1,4 +1,4 @@
--- Closing marks, one number after another. By it `kp_decided` has that there is a list of pairs; the code closes row by
+-- Closing marks, one number after another. By it `kp_law_decidable` has that there is a list of pairs; the code closes row by
 -- row (`Searching`).
 use Rattle.std.proofs.Common.{◌≡◌, ◌<◌, ◌&&◌, ◌+◌, ◌⊎◌, ℕ, Bool, true, List, sym, ◌∙◌, inl, inr, subst, arith}
 use Rattle.std.proofs.lemmas.Bool.{and_parts, and_from, or_cases, or_left, or_right, cases_eq}

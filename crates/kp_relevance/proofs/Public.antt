@@ -1,6 +1,6 @@
 -- The laws of kp_relevance that proofs of other crates may cite. Each stands in the module that its line names.
 
--- ---- Closing marks, one number after another. By it `kp_decided` has that there is a list of pairs; the code closes row by
+-- ---- Closing marks, one number after another. By it `kp_law_decidable` has that there is a list of pairs; the code closes row by
 pub use Rattle.kp_relevance.proofs.Closing.{closes_none, closes_more}
 -- ---- What is marked in the end is what is relevant.
 -- the rows that are made are those of the ground problem's pairs

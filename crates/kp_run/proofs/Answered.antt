@@ -3,25 +3,25 @@ use Rattle.std.proofs.Common.{◌≡◌, ℕ, List, [], Option, None, length, sy
 use Rattle.kp_base.specs.declared.ground.Ground.{Ground}
 use Rattle.kp_base.specs.declared.ground.Initial.{Initial}
 use Rattle.kp_base.specs.declared.ground.TagTable.{TagTable}
-use Rattle.kp_grammar.specs.declared.tree.Word.{Word}
-use Rattle.kp_grammar.specs.Trees.{Domain, Problem}
-use Rattle.kp_given.specs.Translations.{ground_of, initial_of}
+use Rattle.kp_tree_grammar.specs.declared.tree.Word.{Word}
+use Rattle.kp_tree_grammar.specs.Trees.{Domain, Problem}
+use Rattle.kp_law_given.specs.Translations.{ground_of, initial_of}
 use Rattle.kp_check.specs.declared.answer.Judged.{Judged}
 use Rattle.kp_check.specs.declared.answer.Judged.TheVariants.{Yes, No}
-use Rattle.kp_outcome.specs.declared.outcome.Outcome.{Outcome}
-use Rattle.kp_outcome.specs.Ends.{IsAnswer}
+use Rattle.kp_run_outcome.specs.declared.outcome.Outcome.{Outcome}
+use Rattle.kp_run_outcome.specs.Ends.{IsAnswer}
 use Rattle.kp_words.specs.Names.{Source, of_mode, Translate, Bench}
-use Rattle.kp_prepared.specs.Prepared.{by_texts, by_trees, Comes, early, later}
-use Rattle.kp_inputs.specs.Tables.{ComesByTable, no_table, with_table}
-use Rattle.kp_inputs.specs.Actions.{ComesByPlan, no_actions, with_actions}
+use Rattle.kp_run_prepare.specs.Prepared.{by_texts, by_trees, Comes, early, later}
+use Rattle.kp_run_inputs.specs.Tables.{ComesByTable, no_table, with_table}
+use Rattle.kp_run_inputs.specs.Actions.{ComesByPlan, no_actions, with_actions}
 use Rattle.kp_run.specs.Outcomes.{TranslatesGround, over, done, TranslatesTrees, MergesTrees, StripsText, too_long, no_plan, no_strip, strips, tells, ChecksTrees, LiftsActions, lifts, fails, LiftsPlan, no_task, with_task, LiftsTrees, SolvesTrees, ClassicalTrees, tells_width, MeasuresGround, no_report, with_report, MeasuresTrees, translated, merged, stripped, checked, lifted, solved, searched, measured, benched, usage, of_command}
 use Rattle.kp_width.specs.declared.report.WidthReport.{WidthReport}
 use Rattle.kp_width.specs.declared.report.WidthReport.TheVariants.{Within, Over}
 use Rattle.kp_search.specs.declared.found.Found.{Found}
 use Rattle.kp_search.specs.declared.found.Found.TheVariants.{Plan, NoPlan, Spent}
-use Rattle.kp_classical.specs.Classical.{ComesClassical, by_texts as no_texts, by_trees as no_trees, early as at_once, later as goes_on}
-use Rattle.kp_solving.specs.Solving.{TellsSolved, SolvesGround, over as too_large, searched as by_search, TellsClassical}
-use Rattle.kp_bench.specs.Bench.{texts_of, usual_implicates, TellsBench, BenchesGround, over as too_heavy, searched as by_found, BenchesTrees, Benches}
+use Rattle.kp_run_classical.specs.Classical.{ComesClassical, by_texts as no_texts, by_trees as no_trees, early as at_once, later as goes_on}
+use Rattle.kp_run_solve.specs.Solving.{TellsSolved, SolvesGround, over as too_large, searched as by_search, TellsClassical}
+use Rattle.kp_run_bench.specs.Bench.{texts_of, usual_implicates, TellsBench, BenchesGround, over as too_heavy, searched as by_found, BenchesTrees, Benches}
 use Rattle.kp_run.specs.Laws.{OutcomesAreAnswers}
 
 -- an outcome that is known

@@ -3,20 +3,20 @@ use Rattle.std.proofs.Common.{◌≡◌, ◌∙◌, ℕ, true, List, Some, sym, 
 use Rattle.kp_base.specs.declared.ground.TagTable.{TagTable}
 use Rattle.kp_base.specs.Exclusive.{IsClashFree}
 use Rattle.kp_base.proofs.Cases.{some_alike}
-use Rattle.kp_machine.proofs.Public.{no_clash_under_exclusive_pairs}
-use Rattle.kp_meaning.specs.Steps.{Step}
-use Rattle.kp_meaning.specs.Plans.{HasProblem, IsPlan}
-use Rattle.kp_meaning.specs.Strip.{strip}
+use Rattle.kp_law_machine.proofs.Public.{no_clash_under_exclusive_pairs}
+use Rattle.kp_names_meaning.specs.Steps.{Step}
+use Rattle.kp_names_meaning.specs.Plans.{HasProblem, IsPlan}
+use Rattle.kp_names_meaning.specs.Strip.{strip}
 use Rattle.kp_classic.specs.Steps.{start, succeeds}
-use Rattle.kp_task.specs.Task.{task_of}
-use Rattle.kp_task.proofs.Public.{tagged_plans_are_accepted, tagged_steps_strip}
-use Rattle.kp_given.specs.Translations.{ground_of, initial_of}
-use Rattle.kp_given.specs.Tables.{IsTableFor}
-use Rattle.kp_sound.specs.Written.{translation_of}
-use Rattle.kp_given.proofs.Public.{tables_can_be_written}
-use Rattle.kp_sound.proofs.Public.{translations_are_sound}
-use Rattle.kp_solving.specs.Solving.{AreNamed}
-use Rattle.kp_solving.proofs.Public.{named_plans_are_accepted}
+use Rattle.kp_law_ktask.specs.Task.{task_of}
+use Rattle.kp_law_ktask.proofs.Public.{tagged_plans_are_accepted, tagged_steps_strip}
+use Rattle.kp_law_given.specs.Translations.{ground_of, initial_of}
+use Rattle.kp_law_given.specs.Tables.{IsTableFor}
+use Rattle.kp_law_written.specs.Written.{translation_of}
+use Rattle.kp_law_given.proofs.Public.{tables_can_be_written}
+use Rattle.kp_law_written.proofs.Public.{translations_are_sound}
+use Rattle.kp_run_solve.specs.Solving.{AreNamed}
+use Rattle.kp_run_solve.proofs.Public.{named_plans_are_accepted}
 
 pub record AreBothPlans (domain problem : List ℕ) (x : HasProblem domain problem) (table : TagTable) (written plan : List Step) : Type 0 where
   pub is_written : IsPlan (translation_of x.domain x.problem table).domain (translation_of x.domain x.problem table).problem written

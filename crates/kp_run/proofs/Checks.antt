@@ -4,12 +4,12 @@ use Rattle.kp_base.specs.declared.memory.Memory.{Memory}
 use Rattle.kp_base.specs.declared.ground.Ground.{Ground}
 use Rattle.kp_base.specs.declared.ground.Initial.{Initial}
 use Rattle.kp_base.specs.Entailed.{HaveSameModels}
-use Rattle.kp_first.specs.Asked.{is_wanted}
-use Rattle.kp_first.proofs.Public.{first_by_passing}
+use Rattle.kp_primes_models.specs.Asked.{is_wanted}
+use Rattle.kp_primes_models.proofs.Public.{first_by_passing}
 use Rattle.kp_check.specs.declared.answer.Judged.{Judged}
 use Rattle.kp_check.specs.declared.answer.Judged.TheVariants.{Yes, No}
 use Rattle.kp_check.specs.Judging.{AnswersJudged, fails}
-use Rattle.kp_outcome.specs.declared.outcome.Outcome.{Outcome}
+use Rattle.kp_run_outcome.specs.declared.outcome.Outcome.{Outcome}
 use Rattle.kp_run.specs.Outcomes.{tells, TellsJudged}
 
 -- ---- verdicts go by models alone

@@ -2,13 +2,13 @@
 use Rattle.std.proofs.Common.{◌≡◌, ◌++◌, ℕ, List, [], ◌∷◌, Option, Vec, refl, subst}
 use Rattle.std.specs.declared.alloc.Global.{Global}
 use Rattle.kp_outside.specs.Outside.{FileMap}
-use Rattle.kp_outcome.specs.declared.outcome.Outcome.{Outcome}
-use Rattle.kp_outcome.specs.Ends.{AreHeld}
+use Rattle.kp_run_outcome.specs.declared.outcome.Outcome.{Outcome}
+use Rattle.kp_run_outcome.specs.Ends.{AreHeld}
 use Rattle.kp_words.specs.declared.lent.CommandRef.{CommandRef as Command}
 use Rattle.kp_words.specs.declared.lent.CommandRef.TheVariants as commands
 use Rattle.kp_words.specs.Command.{IsCommand, inputs_of}
 use Rattle.kp_words.proofs.Public.{words_are_one_command}
-use Rattle.kp_bench.specs.Bench.{Benches}
+use Rattle.kp_run_bench.specs.Bench.{Benches}
 use Rattle.kp_run.specs.Outcomes.{TranslatesTexts, MergesTexts, StripsText, ChecksTexts, LiftsTexts, SolvesTexts, ClassicalTexts, MeasuresTexts, ComesTo, translated, merged, stripped, checked, lifted, solved, searched, measured, benched, IsDue, usage, of_command}
 
 -- what the contents of its input files are, and what it makes of them

@@ -4,11 +4,11 @@ use Rattle.kp_base.specs.declared.ground.GroundName.{GroundName}
 use Rattle.kp_base.specs.declared.ground.Ground.{Ground}
 use Rattle.kp_base.specs.declared.ground.TagTable.{TagTable}
 use Rattle.kp_base.specs.declared.lit.Lit.{Lit}
-use Rattle.kp_task.specs.Task.{task_of}
-use Rattle.kp_spelling.specs.Spelling.{literal_text, number_line, IsBracketed}
-use Rattle.kp_spelling.proofs.Public.{literals_are_bracketed}
-use Rattle.kp_printed.specs.Coverage.{uncovered_lines, coverage_text}
-use Rattle.kp_translation.specs.Report.{counts_of}
+use Rattle.kp_law_ktask.specs.Task.{task_of}
+use Rattle.kp_plans_spelling.specs.Spelling.{literal_text, number_line, IsBracketed}
+use Rattle.kp_plans_spelling.proofs.Public.{literals_are_bracketed}
+use Rattle.kp_run_messages.specs.Coverage.{uncovered_lines, coverage_text}
+use Rattle.kp_run_translate.specs.Report.{counts_of}
 use Rattle.kp_run.specs.Completeness.{PrintsComplete}
 
 -- ---- how a text ends

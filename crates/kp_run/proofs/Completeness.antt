@@ -9,40 +9,40 @@ use Rattle.kp_base.specs.Implicates.{IsOfItsAtoms}
 use Rattle.kp_base.specs.Covering.{IsComplete, AreUncovered}
 use Rattle.kp_base.proofs.Cases.{some_alike}
 use Rattle.kp_base.proofs.Parts.{last_once}
-use Rattle.kp_complete.specs.Lifts.{lifted as lift_of, UnliftedAt}
-use Rattle.kp_complete.proofs.Public.{lifted_lists_strip, failing_lists_dont_lift}
-use Rattle.kp_grammar.specs.declared.tree.Word.{Word}
-use Rattle.kp_grammar.specs.Trees.{Domain, Problem}
-use Rattle.kp_meaning.specs.Numbering.{numbered_problem}
-use Rattle.kp_meaning.specs.Steps.{Step}
-use Rattle.kp_meaning.specs.Plans.{HasProblem, IsPlan}
-use Rattle.kp_meaning.specs.Strip.{strip}
-use Rattle.kp_decided.specs.Laws.{AreProper}
-use Rattle.kp_decided.proofs.Public.{formulas_are_ascending, complete_with_none}
+use Rattle.kp_law_complete.specs.Lifts.{lifted as lift_of, UnliftedAt}
+use Rattle.kp_law_complete.proofs.Public.{lifted_lists_strip, failing_lists_dont_lift}
+use Rattle.kp_tree_grammar.specs.declared.tree.Word.{Word}
+use Rattle.kp_tree_grammar.specs.Trees.{Domain, Problem}
+use Rattle.kp_names_meaning.specs.Numbering.{numbered_problem}
+use Rattle.kp_names_meaning.specs.Steps.{Step}
+use Rattle.kp_names_meaning.specs.Plans.{HasProblem, IsPlan}
+use Rattle.kp_names_meaning.specs.Strip.{strip}
+use Rattle.kp_law_decidable.specs.Laws.{AreProper}
+use Rattle.kp_law_decidable.proofs.Public.{formulas_are_ascending, complete_with_none}
 use Rattle.kp_plans.specs.Printed.{plan_text}
-use Rattle.kp_task.specs.Task.{task_of}
-use Rattle.kp_task.specs.Accepted.{step_at}
-use Rattle.kp_translation.specs.Report.{counts_of}
-use Rattle.kp_given.specs.Translations.{ground_of, initial_of}
-use Rattle.kp_given.specs.Tables.{IsTableFor}
-use Rattle.kp_sound.specs.Written.{translation_of}
-use Rattle.kp_given.proofs.Public.{formulas_speak_of_ground_atoms, initial_states_are_models, tables_can_be_written}
-use Rattle.kp_sound.specs.Laws.{IsWrittenLift, Lifts}
-use Rattle.kp_sound.proofs.Public.{lifts_written, plans_lift}
+use Rattle.kp_law_ktask.specs.Task.{task_of}
+use Rattle.kp_law_ktask.specs.Accepted.{step_at}
+use Rattle.kp_run_translate.specs.Report.{counts_of}
+use Rattle.kp_law_given.specs.Translations.{ground_of, initial_of}
+use Rattle.kp_law_given.specs.Tables.{IsTableFor}
+use Rattle.kp_law_written.specs.Written.{translation_of}
+use Rattle.kp_law_given.proofs.Public.{formulas_speak_of_ground_atoms, initial_states_are_models, tables_can_be_written}
+use Rattle.kp_law_written.specs.Laws.{IsWrittenLift, Lifts}
+use Rattle.kp_law_written.proofs.Public.{lifts_written, plans_lift}
 use Rattle.kp_outside.specs.Outside.{FileMap, with_bytes}
-use Rattle.kp_outcome.specs.declared.outcome.Outcome.{Outcome}
-use Rattle.kp_outcome.specs.declared.status.Status.{Status}
-use Rattle.kp_outcome.specs.declared.status.Status.TheVariants as status
-use Rattle.kp_outcome.specs.Ends.{Outside, with_files, CarriesOut, whole, put_failed, put_no_memory, print_failed, print_no_memory}
+use Rattle.kp_run_outcome.specs.declared.outcome.Outcome.{Outcome}
+use Rattle.kp_run_outcome.specs.declared.status.Status.{Status}
+use Rattle.kp_run_outcome.specs.declared.status.Status.TheVariants as status
+use Rattle.kp_run_outcome.specs.Ends.{Outside, with_files, CarriesOut, whole, put_failed, put_no_memory, print_failed, print_no_memory}
 use Rattle.kp_words.specs.Names.{Translate, Lift}
 use Rattle.kp_words.specs.declared.lent.CommandRef.TheVariants as commands
 use Rattle.kp_words.specs.Command.{IsLift, file_of, if_named, inputs_of}
-use Rattle.kp_printed.specs.Coverage.{coverage_text}
-use Rattle.kp_prepared.specs.Prepared.{usual}
-use Rattle.kp_prepared.proofs.Public.{usual_ground_is_of_its_atoms, goes_on_with_these, prepared_under_a_greater_limit, problem_of_trees}
-use Rattle.kp_inputs.specs.Tables.{HasTable, no_table, with_table}
-use Rattle.kp_inputs.specs.Actions.{HasActions, no_actions, with_actions}
-use Rattle.kp_inputs.proofs.Public.{sources_have_one_table, plans_have_one_list, named_is_found_at}
+use Rattle.kp_run_messages.specs.Coverage.{coverage_text}
+use Rattle.kp_run_prepare.specs.Prepared.{usual}
+use Rattle.kp_run_prepare.proofs.Public.{usual_ground_is_of_its_atoms, goes_on_with_these, prepared_under_a_greater_limit, problem_of_trees}
+use Rattle.kp_run_inputs.specs.Tables.{HasTable, no_table, with_table}
+use Rattle.kp_run_inputs.specs.Actions.{HasActions, no_actions, with_actions}
+use Rattle.kp_run_inputs.proofs.Public.{sources_have_one_table, plans_have_one_list, named_is_found_at}
 use Rattle.kp_ktask.proofs.Public.{task_refused_or_within}
 use Rattle.kp_run.specs.Outcomes.{prints, LiftsActions, lifts, fails, LiftsPlan, no_task, with_task, LiftsTrees, LiftsTexts, IsDue}
 use Rattle.kp_run.specs.Ends.{Ends, came, read_failed, no_memory}

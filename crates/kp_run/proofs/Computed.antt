@@ -4,12 +4,12 @@ use Rattle.kp_lex.specs.declared.token.Token.{Token}
 use Rattle.kp_lex.specs.Cutting.{Cut}
 use Rattle.kp_lex.specs.Scanning.{cut}
 use Rattle.kp_lex.proofs.Public.{TellsCutting, cut_tells}
-use Rattle.kp_grammar.specs.declared.tree.Word.{Word}
-use Rattle.kp_grammar.specs.Symbols.{all_seen_in}
-use Rattle.kp_grammar.specs.Sorts.{Sort, El}
-use Rattle.kp_grammar.specs.Forms.{Form}
-use Rattle.kp_grammar.specs.Depth.{deep}
-use Rattle.kp_grammar.proofs.Public.{computed_outcome, answered_is_read}
+use Rattle.kp_tree_grammar.specs.declared.tree.Word.{Word}
+use Rattle.kp_tree_grammar.specs.Symbols.{all_seen_in}
+use Rattle.kp_tree_grammar.specs.Sorts.{Sort, El}
+use Rattle.kp_tree_grammar.specs.Forms.{Form}
+use Rattle.kp_tree_grammar.specs.Depth.{deep}
+use Rattle.kp_tree_grammar.proofs.Public.{computed_outcome, answered_is_read}
 use Rattle.kp_tree.specs.Files.{HasTree}
 
 pub is_cut : (text : List ℕ) (ts : List Token) → cut 0 text ≡ Ok ts → Cut 0 text ts

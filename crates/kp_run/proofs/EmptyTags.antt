@@ -12,16 +12,16 @@ use Rattle.kp_base.specs.Lists.{Member}
 use Rattle.kp_base.specs.Lit.{code_of, positive, negative, negated}
 use Rattle.kp_base.specs.Relevance.{IsRelevant, IsCandidate, AreRelevant}
 use Rattle.kp_base.specs.Covering.{IsCovered, AreUncovered}
-use Rattle.kp_grammar.specs.declared.tree.Word.{Word}
-use Rattle.kp_grammar.specs.Trees.{Domain, Problem}
-use Rattle.kp_modes.specs.Modes.{AreMergesOf}
+use Rattle.kp_tree_grammar.specs.declared.tree.Word.{Word}
+use Rattle.kp_tree_grammar.specs.Trees.{Domain, Problem}
+use Rattle.kp_tags_modes.specs.Modes.{AreMergesOf}
 use Rattle.kp_tags.specs.Tables.{HasClosure}
 use Rattle.kp_tags.specs.Made.{IsMade}
 use Rattle.kp_base.proofs.Closures.{closure_over_first_atoms}
-use Rattle.kp_given.specs.Translations.{ground_of, initial_of}
-use Rattle.kp_given.specs.Tables.{empty_tag}
-use Rattle.kp_given.proofs.Public.{formulas_speak_of_ground_atoms}
-use Rattle.kp_prepared.specs.Prepared.{usual}
+use Rattle.kp_law_given.specs.Translations.{ground_of, initial_of}
+use Rattle.kp_law_given.specs.Tables.{empty_tag}
+use Rattle.kp_law_given.proofs.Public.{formulas_speak_of_ground_atoms}
+use Rattle.kp_run_prepare.specs.Prepared.{usual}
 
 -- ---- the table of `k0`
 

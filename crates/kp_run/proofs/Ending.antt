@@ -3,8 +3,8 @@ use Rattle.std.proofs.Common.{◌≡◌, ℕ, List, Vec, refl}
 use Rattle.std.specs.declared.alloc.Global.{Global}
 use Rattle.kp_outside.specs.declared.outside.OutsideStop.{OutsideStop}
 use Rattle.kp_outside.specs.declared.outside.OutsideStop.TheVariants as stops
-use Rattle.kp_outcome.specs.declared.status.Status.TheVariants as status
-use Rattle.kp_outcome.specs.Ends.{Outside, NoGetFailed, NoPutFailed, NoWriteFailed, IsUntouched, GetFails, stop_of}
+use Rattle.kp_run_outcome.specs.declared.status.Status.TheVariants as status
+use Rattle.kp_run_outcome.specs.Ends.{Outside, NoGetFailed, NoPutFailed, NoWriteFailed, IsUntouched, GetFails, stop_of}
 use Rattle.kp_words.specs.declared.lent.CommandRef.{CommandRef as Command}
 use Rattle.kp_words.specs.Command.{IsCommand, inputs_of}
 use Rattle.kp_run.specs.Ends.{Ends, read_failed, no_memory}

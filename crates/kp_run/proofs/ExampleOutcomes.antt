@@ -25,42 +25,42 @@ use Rattle.kp_base.specs.Exclusive.{IsClashFree}
 use Rattle.kp_base.specs.Implicates.{IsNeverOver}
 use Rattle.kp_primes.specs.Included.{all_included}
 use Rattle.kp_primes.proofs.Public.{counted_is_never_over}
-use Rattle.kp_machine.proofs.Public.{swap_is_clash_free}
+use Rattle.kp_law_machine.proofs.Public.{swap_is_clash_free}
 use Rattle.kp_run.proofs.ClashFree.{clash_free_with_table, two_atoms}
 use Rattle.kp_lex.specs.Bytes.{class_of}
 use Rattle.kp_lex.specs.Scanning.{cut_from}
-use Rattle.kp_grammar.specs.Symbols.{symbol_of}
-use Rattle.kp_grammar.specs.Parsing.{some_at, next_at}
-use Rattle.kp_grammar.specs.Trees.{Domain, Problem}
-use Rattle.kp_grammar.specs.declared.tree.Word.{Word}
-use Rattle.kp_grammar.specs.Grammar as grammar
-use Rattle.kp_grammar.proofs.Public.{exchange_text, exchange_tree, from_p_to_q_text, from_p_to_q_tree, tokens_of_text}
-use Rattle.kp_meaning.specs.Faults as faults
-use Rattle.kp_meaning.specs.Names.{same}
-use Rattle.kp_meaning.specs.Numbered.{Lifted}
-use Rattle.kp_meaning.specs.Numbering.{numbered_problem}
+use Rattle.kp_tree_grammar.specs.Symbols.{symbol_of}
+use Rattle.kp_tree_grammar.specs.Parsing.{some_at, next_at}
+use Rattle.kp_tree_grammar.specs.Trees.{Domain, Problem}
+use Rattle.kp_tree_grammar.specs.declared.tree.Word.{Word}
+use Rattle.kp_tree_grammar.specs.Grammar as grammar
+use Rattle.kp_tree_grammar.proofs.Public.{exchange_text, exchange_tree, from_p_to_q_text, from_p_to_q_tree, tokens_of_text}
+use Rattle.kp_names_meaning.specs.Faults as faults
+use Rattle.kp_names_meaning.specs.Names.{same}
+use Rattle.kp_names_meaning.specs.Numbered.{Lifted}
+use Rattle.kp_names_meaning.specs.Numbering.{numbered_problem}
 use Rattle.kp_tree.specs.Files.{HasTree}
-use Rattle.kp_grounding.specs.Ground.{kept_instances, ground_atoms}
-use Rattle.kp_grounding.specs.Ground as by_number
-use Rattle.kp_grounding.specs.Weights.{binding_count, total_weight}
+use Rattle.kp_ground_meaning.specs.Ground.{kept_instances, ground_atoms}
+use Rattle.kp_ground_meaning.specs.Ground as by_number
+use Rattle.kp_ground_meaning.specs.Weights.{binding_count, total_weight}
 use Rattle.kp_ground.specs.Grounded.{IsGrounded}
-use Rattle.kp_meaning.specs.Initial.{HasInitialState}
-use Rattle.kp_given.specs.Translations.{ground_of, initial_of}
-use Rattle.kp_given.specs.Tables.{empty_tag}
-use Rattle.kp_sound.specs.Written.{translation_of}
-use Rattle.kp_given.proofs.Public.{initial_states_are_models}
+use Rattle.kp_names_meaning.specs.Initial.{HasInitialState}
+use Rattle.kp_law_given.specs.Translations.{ground_of, initial_of}
+use Rattle.kp_law_given.specs.Tables.{empty_tag}
+use Rattle.kp_law_written.specs.Written.{translation_of}
+use Rattle.kp_law_given.proofs.Public.{initial_states_are_models}
 use Rattle.kp_outside.specs.Outside.{FileMap}
-use Rattle.kp_outcome.specs.declared.outcome.Outcome.{Outcome}
-use Rattle.kp_outcome.specs.declared.status.Status.TheVariants as status
-use Rattle.kp_outcome.specs.Ends.{Outside, AreHeld, whole}
-use Rattle.kp_line.specs.Words.{nothing, a_word, apart as apart_words, word as said_word, option as said_option}
+use Rattle.kp_run_outcome.specs.declared.outcome.Outcome.{Outcome}
+use Rattle.kp_run_outcome.specs.declared.status.Status.TheVariants as status
+use Rattle.kp_run_outcome.specs.Ends.{Outside, AreHeld, whole}
+use Rattle.kp_words_options.specs.Words.{nothing, a_word, apart as apart_words, word as said_word, option as said_option}
 use Rattle.kp_words.specs.Names.{of_mode, Translate, Bench}
 use Rattle.kp_words.specs.declared.lent.CommandRef.TheVariants as commands
 use Rattle.kp_words.specs.Command.{IsTranslate, file_of, if_named}
 use Rattle.kp_words.proofs.Public.{no_words_are_no_command, words_are_one_command}
-use Rattle.kp_prepared.specs.Texts.{HaveTrees}
-use Rattle.kp_prepared.specs.Prepared.{usual, IsStarted, later}
-use Rattle.kp_inputs.specs.Tables.{by_mode, with_table}
+use Rattle.kp_run_prepare.specs.Texts.{HaveTrees}
+use Rattle.kp_run_prepare.specs.Prepared.{usual, IsStarted, later}
+use Rattle.kp_run_inputs.specs.Tables.{by_mode, with_table}
 use Rattle.kp_run.specs.Outcomes.{shows_usage, translates, done, TranslatesTexts, translated, IsDue, usage, of_command}
 use Rattle.kp_run.specs.Ends.{Ends, came}
 use Rattle.kp_run.specs.Soundness.{IsSound}

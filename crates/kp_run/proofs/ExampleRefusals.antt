@@ -23,36 +23,36 @@ use Rattle.kp_primes.specs.Included.{all_included, passed_at}
 use Rattle.kp_primes.specs.Answers.{RefusesPrimes, too_many}
 use Rattle.kp_primes.proofs.Public.{counted_is_never_over, prefix_stops_the_build}
 use Rattle.kp_clash.proofs.Public.{first_found_is_first_clash}
-use Rattle.kp_machine.proofs.Public.{swap_is_clash_free}
+use Rattle.kp_law_machine.proofs.Public.{swap_is_clash_free}
 use Rattle.kp_run.proofs.ClashFree.{clash_free_with_table, two_atoms}
 use Rattle.kp_lex.specs.Bytes.{class_of}
 use Rattle.kp_lex.specs.Cutting.{at_end}
 use Rattle.kp_lex.specs.Scanning.{cut_from}
-use Rattle.kp_grammar.specs.Symbols.{symbol_of}
-use Rattle.kp_grammar.specs.Parsing.{some_at, next_at}
-use Rattle.kp_grammar.specs.Trees.{Cond, Eff, Item, Schema, Domain, Problem, conds_of, effs_of}
-use Rattle.kp_grammar.specs.declared.tree.Word.{Word}
-use Rattle.kp_grammar.specs.Grammar as grammar
-use Rattle.kp_grammar.specs.Reading.{stop, within_form, s_unopened}
-use Rattle.kp_grammar.proofs.Public.{example_word_at, example_atom_at, example_pred_at, exchange_text, exchange_tree, tokens_of_text}
-use Rattle.kp_meaning.specs.Faults as faults
-use Rattle.kp_meaning.specs.Names.{same}
-use Rattle.kp_meaning.specs.Numbering.{numbered_problem}
+use Rattle.kp_tree_grammar.specs.Symbols.{symbol_of}
+use Rattle.kp_tree_grammar.specs.Parsing.{some_at, next_at}
+use Rattle.kp_tree_grammar.specs.Trees.{Cond, Eff, Item, Schema, Domain, Problem, conds_of, effs_of}
+use Rattle.kp_tree_grammar.specs.declared.tree.Word.{Word}
+use Rattle.kp_tree_grammar.specs.Grammar as grammar
+use Rattle.kp_tree_grammar.specs.Reading.{stop, within_form, s_unopened}
+use Rattle.kp_tree_grammar.proofs.Public.{example_word_at, example_atom_at, example_pred_at, exchange_text, exchange_tree, tokens_of_text}
+use Rattle.kp_names_meaning.specs.Faults as faults
+use Rattle.kp_names_meaning.specs.Names.{same}
+use Rattle.kp_names_meaning.specs.Numbering.{numbered_problem}
 use Rattle.kp_tree.specs.Files.{HasTree, offending}
 use Rattle.kp_tree.specs.Files as files
 use Rattle.kp_names.specs.Resolved.{in_problem}
-use Rattle.kp_meaning.specs.Initial.{HasInitialState}
-use Rattle.kp_given.specs.Translations.{ground_of, initial_of}
-use Rattle.kp_given.specs.Tables.{empty_tag}
-use Rattle.kp_given.proofs.Public.{initial_states_are_models}
-use Rattle.kp_printed.specs.Refusals.{nothing, refusal_text}
-use Rattle.kp_outcome.specs.declared.outcome.Outcome.{Outcome}
-use Rattle.kp_outcome.specs.declared.status.Status.TheVariants as status
-use Rattle.kp_prepared.specs.Texts.{HaveTrees, of_problem, of_names}
-use Rattle.kp_prepared.specs.Refusing.{named_in}
-use Rattle.kp_prepared.specs.Prepared.{IsStarted, RefusesTrees, implicates_over, no_initial_state, clash, by_texts, by_trees, early, later}
+use Rattle.kp_names_meaning.specs.Initial.{HasInitialState}
+use Rattle.kp_law_given.specs.Translations.{ground_of, initial_of}
+use Rattle.kp_law_given.specs.Tables.{empty_tag}
+use Rattle.kp_law_given.proofs.Public.{initial_states_are_models}
+use Rattle.kp_run_messages.specs.Refusals.{nothing, refusal_text}
+use Rattle.kp_run_outcome.specs.declared.outcome.Outcome.{Outcome}
+use Rattle.kp_run_outcome.specs.declared.status.Status.TheVariants as status
+use Rattle.kp_run_prepare.specs.Texts.{HaveTrees, of_problem, of_names}
+use Rattle.kp_run_prepare.specs.Refusing.{named_in}
+use Rattle.kp_run_prepare.specs.Prepared.{IsStarted, RefusesTrees, implicates_over, no_initial_state, clash, by_texts, by_trees, early, later}
 use Rattle.kp_base.specs.declared.limits.Mode.TheVariants as modes
-use Rattle.kp_inputs.specs.Tables.{by_mode, with_table}
+use Rattle.kp_run_inputs.specs.Tables.{by_mode, with_table}
 use Rattle.kp_run.specs.Outcomes.{translates, done, TranslatesTexts, IsDue}
 use Rattle.kp_run.proofs.Counted.{empty_tags_fit}
 use Rattle.kp_run.proofs.Computed.{reads_file}

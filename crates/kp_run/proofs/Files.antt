@@ -5,21 +5,21 @@ use Rattle.kp_base.specs.declared.memory.Memory.{Memory}
 use Rattle.kp_outside.specs.declared.outside.Got.{Got}
 use Rattle.kp_outside.specs.declared.outside.OutsideStop.{OutsideStop}
 use Rattle.kp_outside.specs.Outside.{FileMap, IsFront, IsWithin}
-use Rattle.kp_outcome.specs.declared.outcome.Outcome.{Outcome}
-use Rattle.kp_outcome.specs.Ends.{most_bytes, AreHeld, AreFronts, none, also}
-use Rattle.kp_outcome.proofs.Public.{front_is_within}
+use Rattle.kp_run_outcome.specs.declared.outcome.Outcome.{Outcome}
+use Rattle.kp_run_outcome.specs.Ends.{most_bytes, AreHeld, AreFronts, none, also}
+use Rattle.kp_run_outcome.proofs.Public.{front_is_within}
 use Rattle.kp_words.specs.Names.{Source, of_mode, of_file, Translate, Merges, Strip, Check, Lift, Solve, Classical, Width, Bench}
 use Rattle.kp_base.specs.declared.limits.Mode.{Mode}
-use Rattle.kp_inputs.specs.declared.origin.Origin.TheVariants as origins
-use Rattle.kp_inputs.specs.declared.origin.Origin.{Origin}
-use Rattle.kp_inputs.specs.Tables.{IsOrigin, IsShort, from_mode, from_file}
+use Rattle.kp_run_inputs.specs.declared.origin.Origin.TheVariants as origins
+use Rattle.kp_run_inputs.specs.declared.origin.Origin.{Origin}
+use Rattle.kp_run_inputs.specs.Tables.{IsOrigin, IsShort, from_mode, from_file}
 use Rattle.kp_words.specs.declared.lent.CommandRef.{CommandRef as Command}
 use Rattle.kp_words.specs.declared.lent.CommandRef.TheVariants as commands
 use Rattle.kp_words.specs.Command.{IsCommand, inputs_of}
 use Rattle.kp_run.specs.declared.sourced.Sourced.{Sourced}
 use Rattle.kp_run.specs.Tables.{IsSourced}
 use Rattle.kp_run.specs.Outcomes.{TranslatesTexts, MergesTexts, StripsText, ChecksTexts, LiftsTexts, SolvesTexts, ClassicalTexts, MeasuresTexts, ComesTo, translated, merged, stripped, checked, lifted, solved, searched, measured, benched, IsDue, of_command}
-use Rattle.kp_bench.specs.Bench.{Benches}
+use Rattle.kp_run_bench.specs.Bench.{Benches}
 
 -- ---- fronts are of as many texts
 

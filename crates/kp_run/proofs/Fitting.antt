@@ -1,22 +1,22 @@
 -- The task of two trees and a table within the limits is fit to be searched, and so is that of two classical trees.
 use Rattle.std.proofs.Common.{arith}
 use Rattle.kp_base.specs.declared.ground.TagTable.{TagTable}
-use Rattle.kp_grammar.specs.declared.tree.Word.{Word}
-use Rattle.kp_grammar.specs.Trees.{Domain, Problem}
-use Rattle.kp_meaning.specs.Numbering.{numbered_problem}
+use Rattle.kp_tree_grammar.specs.declared.tree.Word.{Word}
+use Rattle.kp_tree_grammar.specs.Trees.{Domain, Problem}
+use Rattle.kp_names_meaning.specs.Numbering.{numbered_problem}
 use Rattle.kp_classic.specs.Fits.{IsFit}
-use Rattle.kp_task.specs.Task.{task_of}
-use Rattle.kp_task.specs.Writable.{IsWritableTask}
-use Rattle.kp_task.proofs.Public.{tagged_tasks_are_fit}
+use Rattle.kp_law_ktask.specs.Task.{task_of}
+use Rattle.kp_law_ktask.specs.Writable.{IsWritableTask}
+use Rattle.kp_law_ktask.proofs.Public.{tagged_tasks_are_fit}
 use Rattle.kp_ktask.specs.Translated.{FitsLimits}
-use Rattle.kp_prepared.specs.Prepared.{usual, IsSmall}
-use Rattle.kp_prepared.proofs.Public.{ground_has_few_actions}
-use Rattle.kp_inputs.proofs.Public.{table_has_few_merges}
+use Rattle.kp_run_prepare.specs.Prepared.{usual, IsSmall}
+use Rattle.kp_run_prepare.proofs.Public.{ground_has_few_actions}
+use Rattle.kp_run_inputs.proofs.Public.{table_has_few_merges}
 use Rattle.kp_classic.proofs.Public.{task_of_ground_fits as ground_fits}
-use Rattle.kp_given.specs.Translations.{ground_of, initial_of}
-use Rattle.kp_classical.specs.Classical.{IsClassical, task_of as classical_task}
-use Rattle.kp_classical.proofs.Public.{classical_ground_is_of_its_atoms}
-use Rattle.kp_solving.proofs.Public.{operators_are_counted}
+use Rattle.kp_law_given.specs.Translations.{ground_of, initial_of}
+use Rattle.kp_run_classical.specs.Classical.{IsClassical, task_of as classical_task}
+use Rattle.kp_run_classical.proofs.Public.{classical_ground_is_of_its_atoms}
+use Rattle.kp_run_solve.proofs.Public.{operators_are_counted}
 
 pub task_fits : (d : Domain Word) (p : Problem Word) (table : TagTable) → IsSmall d p → FitsLimits (task_of (ground_of d p) table) usual → IsWritableTask (ground_of d p) table → IsFit (task_of (ground_of d p) table)
 task_fits d p table small fits writable =

@@ -12,21 +12,21 @@ use Rattle.kp_base.specs.declared.refused.Refused.{Refused}
 use Rattle.kp_base.specs.Implicates.{IsOfItsAtoms}
 use Rattle.kp_base.proofs.Lists.{all_from}
 use Rattle.kp_base.proofs.Lits.{has-member}
-use Rattle.kp_task.specs.Task.{task_of}
+use Rattle.kp_law_ktask.specs.Task.{task_of}
 use Rattle.kp_ktask.specs.Translated.{FitsLimits, RefusesTask}
-use Rattle.kp_printed.specs.Refusals.{nothing}
-use Rattle.kp_outcome.specs.declared.outcome.Outcome.{Outcome}
+use Rattle.kp_run_messages.specs.Refusals.{nothing}
+use Rattle.kp_run_outcome.specs.declared.outcome.Outcome.{Outcome}
 use Rattle.kp_words.specs.Names.{Source}
-use Rattle.kp_prepared.specs.Refusing.{refuses}
-use Rattle.kp_prepared.specs.Prepared.{usual}
-use Rattle.kp_inputs.specs.Actions.{ComesByPlan}
-use Rattle.kp_inputs.specs.Tables.{HasTable}
-use Rattle.kp_inputs.proofs.Public.{tables_are_right, table_targets_are_of_atoms, target_is_of_atoms}
+use Rattle.kp_run_prepare.specs.Refusing.{refuses}
+use Rattle.kp_run_prepare.specs.Prepared.{usual}
+use Rattle.kp_run_inputs.specs.Actions.{ComesByPlan}
+use Rattle.kp_run_inputs.specs.Tables.{HasTable}
+use Rattle.kp_run_inputs.proofs.Public.{tables_are_right, table_targets_are_of_atoms, target_is_of_atoms}
 use Rattle.kp_lift.specs.declared.lifting.Lifting.TheVariants as Lifting
 use Rattle.kp_lift.specs.Lifting.{IsTableOn, AnswersLifting, operator_step}
 use Rattle.kp_lift.proofs.Public.{lifted_operators_are_steps}
-use Rattle.kp_printed.specs.Lifting.{unlifted_text}
-use Rattle.kp_solving.specs.Solving.{denies}
+use Rattle.kp_run_messages.specs.Lifting.{unlifted_text}
+use Rattle.kp_run_solve.specs.Solving.{denies}
 use Rattle.kp_run.specs.Outcomes.{LiftsActions, lifts, fails, LiftsPlan, no_task, with_task, failing_step}
 use Rattle.kp_run.specs.Tables.{PrintsOperators}
 

@@ -8,18 +8,18 @@ use Rattle.kp_base.specs.declared.ground.GroundName.{GroundName}
 use Rattle.kp_base.specs.declared.ground.Merge.{Merge}
 use Rattle.kp_base.specs.declared.ground.TagTable.{TagTable}
 use Rattle.kp_base.specs.Machine.{MachineStep}
-use Rattle.kp_meaning.specs.Steps.{Step}
-use Rattle.kp_meaning.specs.GroundNames.{IsGroundName}
+use Rattle.kp_names_meaning.specs.Steps.{Step}
+use Rattle.kp_names_meaning.specs.GroundNames.{IsGroundName}
 use Rattle.kp_plans.specs.Printed.{plan_text, IsTextOf}
 use Rattle.kp_plans.proofs.Public.{printed_plans_read}
 use Rattle.kp_write.specs.Grounds.{IsGroundAction, IsWritable}
 use Rattle.kp_write.specs.Runs.{step_of}
 use Rattle.kp_write.proofs.Public.{operator_is_name}
-use Rattle.kp_task.specs.ByName.{op_of, merge_op}
-use Rattle.kp_task.specs.Writable.{IsWritableTask}
+use Rattle.kp_law_ktask.specs.ByName.{op_of, merge_op}
+use Rattle.kp_law_ktask.specs.Writable.{IsWritableTask}
 use Rattle.kp_base.specs.ActionNames.{action_name}
-use Rattle.kp_task.specs.Accepted.{step_at}
-use Rattle.kp_task.proofs.Public.{merge_is_name}
+use Rattle.kp_law_ktask.specs.Accepted.{step_at}
+use Rattle.kp_law_ktask.proofs.Public.{merge_is_name}
 
 each_at : {X : Type 0} (P : X → Type 0) (xs : List X) → AllByRecursion P xs → (n : ℕ) (x : X) → slice_get xs n ≡ Some x → P x
 each_at P [] all n x at = absurd cc

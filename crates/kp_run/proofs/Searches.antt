@@ -5,15 +5,15 @@ use Rattle.kp_base.specs.declared.memory.Memory.{Memory}
 use Rattle.kp_base.specs.declared.ground.Ground.{Ground}
 use Rattle.kp_classic.specs.declared.task.Task.{Task}
 use Rattle.kp_classic.specs.Grounded.{op_of}
-use Rattle.kp_given.specs.Translations.{ground_of}
-use Rattle.kp_outcome.specs.declared.outcome.Outcome.{Outcome}
+use Rattle.kp_law_given.specs.Translations.{ground_of}
+use Rattle.kp_run_outcome.specs.declared.outcome.Outcome.{Outcome}
 use Rattle.kp_words.specs.Names.{Classical}
-use Rattle.kp_prepared.specs.declared.prepared.Early.{Early}
-use Rattle.kp_prepared.specs.declared.prepared.Early.TheVariants as halts
-use Rattle.kp_classical.specs.declared.posed.Posed.{Posed}
-use Rattle.kp_classical.specs.Classical.{early, later, IsPosedOf, AnswersClassical}
-use Rattle.kp_inputs.specs.Ending.{Settles}
-use Rattle.kp_solving.specs.Solving.{SolvesClassical}
+use Rattle.kp_run_prepare.specs.declared.prepared.Early.{Early}
+use Rattle.kp_run_prepare.specs.declared.prepared.Early.TheVariants as halts
+use Rattle.kp_run_classical.specs.declared.posed.Posed.{Posed}
+use Rattle.kp_run_classical.specs.Classical.{early, later, IsPosedOf, AnswersClassical}
+use Rattle.kp_run_inputs.specs.Ending.{Settles}
+use Rattle.kp_run_solve.specs.Solving.{SolvesClassical}
 use Rattle.kp_run.specs.Outcomes.{ClassicalTexts}
 
 -- the operators of a posed task are as many as the actions

@@ -11,47 +11,47 @@ use Rattle.kp_base.specs.declared.ground.TagTable.{TagTable}
 use Rattle.kp_base.specs.declared.refused.Refused.{Refused}
 use Rattle.kp_base.specs.Covering.{AreUncovered, IsComplete}
 use Rattle.kp_base.specs.Machine.{stripped as actions_of}
-use Rattle.kp_grammar.specs.declared.tree.Word.{Word}
-use Rattle.kp_grammar.specs.Trees.{Domain, Problem}
-use Rattle.kp_meaning.specs.Steps.{Step}
+use Rattle.kp_tree_grammar.specs.declared.tree.Word.{Word}
+use Rattle.kp_tree_grammar.specs.Trees.{Domain, Problem}
+use Rattle.kp_names_meaning.specs.Steps.{Step}
 use Rattle.kp_classic.specs.declared.task.Task.{Task}
 use Rattle.kp_classic.specs.Fits.{IsFit}
 use Rattle.kp_classic.specs.Steps.{start, succeeds}
 use Rattle.kp_cover.proofs.Public.{none_uncovered_if_complete}
-use Rattle.kp_decided.specs.Laws.{AreProper}
-use Rattle.kp_decided.proofs.Public.{complete_with_none, formulas_are_ascending}
+use Rattle.kp_law_decidable.specs.Laws.{AreProper}
+use Rattle.kp_law_decidable.proofs.Public.{complete_with_none, formulas_are_ascending}
 use Rattle.kp_search.specs.declared.found.Found.{Found}
 use Rattle.kp_search.specs.declared.found.Found.TheVariants.{Plan, NoPlan, Spent}
-use Rattle.kp_task.specs.Task.{task_of}
-use Rattle.kp_task.specs.Writable.{IsWritableTask}
-use Rattle.kp_task.proofs.Public.{tagged_plans_are_accepted}
-use Rattle.kp_given.specs.Translations.{ground_of, initial_of}
-use Rattle.kp_given.specs.Tables.{IsTableFor}
-use Rattle.kp_given.proofs.Public.{tables_can_be_written, formulas_speak_of_ground_atoms, initial_states_are_models}
-use Rattle.kp_sound.proofs.Public.{plans_lift}
+use Rattle.kp_law_ktask.specs.Task.{task_of}
+use Rattle.kp_law_ktask.specs.Writable.{IsWritableTask}
+use Rattle.kp_law_ktask.proofs.Public.{tagged_plans_are_accepted}
+use Rattle.kp_law_given.specs.Translations.{ground_of, initial_of}
+use Rattle.kp_law_given.specs.Tables.{IsTableFor}
+use Rattle.kp_law_given.proofs.Public.{tables_can_be_written, formulas_speak_of_ground_atoms, initial_states_are_models}
+use Rattle.kp_law_written.proofs.Public.{plans_lift}
 use Rattle.kp_plans.specs.Printed.{plan_text}
-use Rattle.kp_printed.specs.Refusals.{nothing}
-use Rattle.kp_printed.specs.Searches.{no_plan_text}
+use Rattle.kp_run_messages.specs.Refusals.{nothing}
+use Rattle.kp_run_messages.specs.Searches.{no_plan_text}
 use Rattle.kp_outside.specs.Outside.{FileMap}
-use Rattle.kp_outcome.specs.declared.outcome.Outcome.{Outcome}
-use Rattle.kp_outcome.specs.declared.status.Status.{Status}
-use Rattle.kp_outcome.specs.declared.status.Status.TheVariants as status
-use Rattle.kp_outcome.specs.Ends.{Outside, AreHeld, IsAnswer, with_files}
+use Rattle.kp_run_outcome.specs.declared.outcome.Outcome.{Outcome}
+use Rattle.kp_run_outcome.specs.declared.status.Status.{Status}
+use Rattle.kp_run_outcome.specs.declared.status.Status.TheVariants as status
+use Rattle.kp_run_outcome.specs.Ends.{Outside, AreHeld, IsAnswer, with_files}
 use Rattle.kp_words.specs.Names.{Solve}
 use Rattle.kp_words.specs.declared.lent.CommandRef.TheVariants as commands
 use Rattle.kp_words.specs.Command.{IsSolve, file_of, if_named, inputs_of}
-use Rattle.kp_prepared.specs.Texts.{HaveTrees}
-use Rattle.kp_prepared.specs.Prepared.{IsPrepared, by_texts, by_trees, early, later}
-use Rattle.kp_inputs.specs.Tables.{HasTable, no_table, with_table}
-use Rattle.kp_inputs.proofs.Public.{table_of_source_is_for_trees}
-use Rattle.kp_solving.specs.Solving.{Finds, solves, denies, spends, TellsSolved, SolvesGround, over, searched}
-use Rattle.kp_solving.proofs.Public.{ends_are_true, no_plan_is_accepted}
+use Rattle.kp_run_prepare.specs.Texts.{HaveTrees}
+use Rattle.kp_run_prepare.specs.Prepared.{IsPrepared, by_texts, by_trees, early, later}
+use Rattle.kp_run_inputs.specs.Tables.{HasTable, no_table, with_table}
+use Rattle.kp_run_inputs.proofs.Public.{table_of_source_is_for_trees}
+use Rattle.kp_run_solve.specs.Solving.{Finds, solves, denies, spends, TellsSolved, SolvesGround, over, searched}
+use Rattle.kp_run_solve.proofs.Public.{ends_are_true, no_plan_is_accepted}
 use Rattle.kp_run.specs.Outcomes.{SolvesTexts, IsDue}
 use Rattle.kp_run.specs.Completeness.{PrintsComplete}
 use Rattle.kp_run.specs.Ends.{Ends}
-use Rattle.kp_prepared.proofs.Public.{problem_of_trees, usual_ground_is_of_its_atoms}
-use Rattle.kp_meaning.specs.Faults.{HasNoFault}
-use Rattle.kp_meaning.specs.Numbering.{numbered_problem}
+use Rattle.kp_run_prepare.proofs.Public.{problem_of_trees, usual_ground_is_of_its_atoms}
+use Rattle.kp_names_meaning.specs.Faults.{HasNoFault}
+use Rattle.kp_names_meaning.specs.Numbering.{numbered_problem}
 use Rattle.kp_run.specs.Solved.{GoesOn, IsPosed, its_ground, its_formula, its_task, IsWrittenPlan, with_named, IsSolved, HasNoPlan, IsSpent, SolveIsTrue}
 use Rattle.kp_run.proofs.BothPlans.{both_plans}
 use Rattle.kp_run.proofs.Comes.{due_makes}

@@ -4,30 +4,30 @@ use Rattle.std.specs.FinMap.{get}
 use Rattle.std.specs.declared.alloc.Global.{Global}
 use Rattle.std.proofs.lemmas.Bool.{false≢true}
 use Rattle.kp_base.specs.declared.refused.Refused.{Refused}
-use Rattle.kp_grammar.specs.declared.tree.Word.{Word}
-use Rattle.kp_grammar.specs.Trees.{Domain, Problem}
+use Rattle.kp_tree_grammar.specs.declared.tree.Word.{Word}
+use Rattle.kp_tree_grammar.specs.Trees.{Domain, Problem}
 use Rattle.kp_classic.specs.Fits.{IsFit}
 use Rattle.kp_search.specs.declared.found.Found.{Found}
 use Rattle.kp_search.specs.declared.found.Found.TheVariants.{Plan, NoPlan, Spent}
-use Rattle.kp_given.specs.Translations.{ground_of}
-use Rattle.kp_given.proofs.Public.{grounds_written}
+use Rattle.kp_law_given.specs.Translations.{ground_of}
+use Rattle.kp_law_given.proofs.Public.{grounds_written}
 use Rattle.kp_outside.specs.Outside.{FileMap}
-use Rattle.kp_outcome.specs.declared.outcome.Outcome.{Outcome}
-use Rattle.kp_outcome.specs.declared.status.Status.{Status}
-use Rattle.kp_outcome.specs.declared.status.Status.TheVariants as status
-use Rattle.kp_outcome.specs.Ends.{Outside, AreHeld, IsAnswer}
+use Rattle.kp_run_outcome.specs.declared.outcome.Outcome.{Outcome}
+use Rattle.kp_run_outcome.specs.declared.status.Status.{Status}
+use Rattle.kp_run_outcome.specs.declared.status.Status.TheVariants as status
+use Rattle.kp_run_outcome.specs.Ends.{Outside, AreHeld, IsAnswer}
 use Rattle.kp_words.specs.Names.{Classical}
 use Rattle.kp_words.specs.declared.lent.CommandRef.TheVariants as commands
 use Rattle.kp_words.specs.Command.{IsClassical as SaysClassical, inputs_of}
-use Rattle.kp_classical.specs.Classical.{by_texts, by_trees, early, later, task_of}
-use Rattle.kp_classical.proofs.Public.{classical_successes_are_plans, classical_plans_are_successes}
-use Rattle.kp_printed.specs.Refusals.{nothing}
-use Rattle.kp_printed.specs.Searches.{no_plan_line}
-use Rattle.kp_solving.specs.Solving.{Finds, solves, denies, spends, TellsClassical}
-use Rattle.kp_solving.proofs.Public.{ends_are_true}
+use Rattle.kp_run_classical.specs.Classical.{by_texts, by_trees, early, later, task_of}
+use Rattle.kp_run_classical.proofs.Public.{classical_successes_are_plans, classical_plans_are_successes}
+use Rattle.kp_run_messages.specs.Refusals.{nothing}
+use Rattle.kp_run_messages.specs.Searches.{no_plan_line}
+use Rattle.kp_run_solve.specs.Solving.{Finds, solves, denies, spends, TellsClassical}
+use Rattle.kp_run_solve.proofs.Public.{ends_are_true}
 use Rattle.kp_run.specs.Outcomes.{ClassicalTexts, IsDue}
 use Rattle.kp_run.specs.Ends.{Ends}
-use Rattle.kp_prepared.proofs.Public.{problem_of_trees}
+use Rattle.kp_run_prepare.proofs.Public.{problem_of_trees}
 use Rattle.kp_run.specs.Solved.{IsHeldClassical, IsPosedClassical, IsSolvedClassical, HasNoClassicalPlan, IsSpentClassical, ClassicalIsTrue}
 use Rattle.kp_run.proofs.Comes.{due_makes}
 use Rattle.kp_run.proofs.Fitting.{classical_fit}

@@ -12,32 +12,32 @@ use Rattle.kp_base.specs.declared.ground.Initial.{Initial}
 use Rattle.kp_base.specs.declared.lit.Lit.{Lit}
 use Rattle.kp_base.specs.Covering.{AreUncovered}
 use Rattle.kp_base.specs.declared.ground.TagTable.{TagTable}
-use Rattle.kp_task.specs.Task.{task_of}
+use Rattle.kp_law_ktask.specs.Task.{task_of}
 use Rattle.kp_ktask.specs.Translated.{FitsLimits}
-use Rattle.kp_translation.specs.declared.translation.Translation.{Translation}
-use Rattle.kp_given.specs.Tables.{IsTableFor}
-use Rattle.kp_sound.specs.Written.{translation_of}
-use Rattle.kp_machine.proofs.Public.{no_clash_under_exclusive_pairs}
-use Rattle.kp_grammar.specs.declared.tree.Word.{Word}
-use Rattle.kp_grammar.specs.Trees.{Domain, Problem}
-use Rattle.kp_meaning.specs.Plans.{HasProblem}
-use Rattle.kp_given.specs.Translations.{ground_of, initial_of}
-use Rattle.kp_sound.proofs.Public.{translations_are_sound}
-use Rattle.kp_prepared.specs.Texts.{HaveTrees}
-use Rattle.kp_prepared.specs.Refusing.{refuses}
-use Rattle.kp_prepared.specs.Prepared.{usual, IsPrepared, by_texts, by_trees, early, later}
-use Rattle.kp_prepared.proofs.Public.{problem_of_trees}
+use Rattle.kp_run_translate.specs.declared.translation.Translation.{Translation}
+use Rattle.kp_law_given.specs.Tables.{IsTableFor}
+use Rattle.kp_law_written.specs.Written.{translation_of}
+use Rattle.kp_law_machine.proofs.Public.{no_clash_under_exclusive_pairs}
+use Rattle.kp_tree_grammar.specs.declared.tree.Word.{Word}
+use Rattle.kp_tree_grammar.specs.Trees.{Domain, Problem}
+use Rattle.kp_names_meaning.specs.Plans.{HasProblem}
+use Rattle.kp_law_given.specs.Translations.{ground_of, initial_of}
+use Rattle.kp_law_written.proofs.Public.{translations_are_sound}
+use Rattle.kp_run_prepare.specs.Texts.{HaveTrees}
+use Rattle.kp_run_prepare.specs.Refusing.{refuses}
+use Rattle.kp_run_prepare.specs.Prepared.{usual, IsPrepared, by_texts, by_trees, early, later}
+use Rattle.kp_run_prepare.proofs.Public.{problem_of_trees}
 use Rattle.kp_base.specs.declared.refused.Refused.{Refused}
-use Rattle.kp_printed.specs.Refusals.{Named, nothing}
-use Rattle.kp_outcome.specs.declared.outcome.Outcome.{Outcome}
-use Rattle.kp_outcome.specs.declared.status.Status.{Status}
-use Rattle.kp_outcome.specs.declared.status.Status.TheVariants as status
-use Rattle.kp_outcome.specs.Ends.{Outside, AreHeld, with_files, whole, put_failed, put_no_memory, print_failed, print_no_memory}
+use Rattle.kp_run_messages.specs.Refusals.{Named, nothing}
+use Rattle.kp_run_outcome.specs.declared.outcome.Outcome.{Outcome}
+use Rattle.kp_run_outcome.specs.declared.status.Status.{Status}
+use Rattle.kp_run_outcome.specs.declared.status.Status.TheVariants as status
+use Rattle.kp_run_outcome.specs.Ends.{Outside, AreHeld, with_files, whole, put_failed, put_no_memory, print_failed, print_no_memory}
 use Rattle.kp_words.specs.Names.{Translate}
 use Rattle.kp_words.specs.declared.lent.CommandRef.TheVariants as commands
 use Rattle.kp_words.specs.Command.{IsTranslate, inputs_of}
-use Rattle.kp_inputs.specs.Tables.{HasTable, no_table, with_table}
-use Rattle.kp_inputs.proofs.Public.{table_of_source_is_for_trees}
+use Rattle.kp_run_inputs.specs.Tables.{HasTable, no_table, with_table}
+use Rattle.kp_run_inputs.proofs.Public.{table_of_source_is_for_trees}
 use Rattle.kp_run.specs.Outcomes.{translates, TranslatesGround, over as when_over, done as when_done, TranslatesTrees, TranslatesTexts, IsDue}
 use Rattle.kp_run.specs.Ends.{Ends, came, read_failed, no_memory}
 use Rattle.kp_run.specs.Soundness.{IsSound}

@@ -6,15 +6,15 @@ use Rattle.kp_base.specs.declared.refused.Part.TheVariants as parts
 use Rattle.kp_base.specs.declared.refused.Refused.{Refused}
 use Rattle.kp_base.specs.declared.refused.Refused.TheVariants as refusals
 use Rattle.kp_base.specs.declared.refused.Stop.TheVariants as stops
-use Rattle.kp_meaning.specs.Strip.{strip}
-use Rattle.kp_outcome.specs.declared.outcome.Outcome.{Outcome}
-use Rattle.kp_outcome.specs.Ends.{most_bytes}
+use Rattle.kp_names_meaning.specs.Strip.{strip}
+use Rattle.kp_run_outcome.specs.declared.outcome.Outcome.{Outcome}
+use Rattle.kp_run_outcome.specs.Ends.{most_bytes}
 use Rattle.kp_plans.specs.declared.step.PlanStep.{PlanStep}
 use Rattle.kp_plans.specs.PlanFiles.{names, IsPlanOf, RefusesPlan}
 use Rattle.kp_plans.specs.Printed.{plan_text}
 use Rattle.kp_plans.specs.Stripping.{AnswersStrip}
-use Rattle.kp_printed.specs.Refusals.{nothing}
-use Rattle.kp_prepared.specs.Refusing.{refuses}
+use Rattle.kp_run_messages.specs.Refusals.{nothing}
+use Rattle.kp_run_prepare.specs.Refusing.{refuses}
 use Rattle.kp_run.specs.Outcomes.{prints, StripsText, too_long, no_plan, no_strip, strips}
 
 -- a step is refused

@@ -8,14 +8,14 @@ use Rattle.kp_base.specs.declared.ground.TagTable.{TagTable}
 use Rattle.kp_base.specs.declared.refused.Refused.{Refused}
 use Rattle.kp_base.specs.Covering.{AreUncovered}
 use Rattle.kp_base.specs.Entailed.{HaveSameModels}
-use Rattle.kp_task.specs.Task.{task_of}
+use Rattle.kp_law_ktask.specs.Task.{task_of}
 use Rattle.kp_ktask.specs.Translated.{FitsLimits, RefusesTask}
 use Rattle.kp_tags.proofs.Public.{coverage_goes_by_models}
-use Rattle.kp_printed.specs.Refusals.{nothing}
-use Rattle.kp_outcome.specs.declared.outcome.Outcome.{Outcome}
+use Rattle.kp_run_messages.specs.Refusals.{nothing}
+use Rattle.kp_run_outcome.specs.declared.outcome.Outcome.{Outcome}
 use Rattle.kp_words.specs.Names.{Translate}
-use Rattle.kp_prepared.specs.Refusing.{refuses}
-use Rattle.kp_prepared.specs.Prepared.{usual}
+use Rattle.kp_run_prepare.specs.Refusing.{refuses}
+use Rattle.kp_run_prepare.specs.Prepared.{usual}
 use Rattle.kp_run.specs.Outcomes.{translates, TranslatesGround, over, done}
 use Rattle.kp_run.specs.Tables.{IsPut}
 

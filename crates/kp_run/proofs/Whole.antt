@@ -2,13 +2,13 @@
 use Rattle.std.proofs.Common.{◌≡◌, ℕ, List, Some, Vec, ap, subst}
 use Rattle.std.specs.declared.alloc.Global.{Global}
 use Rattle.kp_base.specs.declared.refused.Refused.{Refused}
-use Rattle.kp_printed.specs.Refusals.{Named}
+use Rattle.kp_run_messages.specs.Refusals.{Named}
 use Rattle.kp_outside.specs.Outside.{FileMap, with_bytes}
-use Rattle.kp_outcome.specs.declared.outcome.Outcome.{Outcome}
-use Rattle.kp_outcome.specs.declared.status.Status.{Status}
-use Rattle.kp_outcome.specs.declared.status.Status.TheVariants as status
-use Rattle.kp_outcome.specs.Ends.{Outside, IsAnswer, with_files, whole, put_failed, put_no_memory, print_failed, print_no_memory}
-use Rattle.kp_prepared.specs.Refusing.{refuses}
+use Rattle.kp_run_outcome.specs.declared.outcome.Outcome.{Outcome}
+use Rattle.kp_run_outcome.specs.declared.status.Status.{Status}
+use Rattle.kp_run_outcome.specs.declared.status.Status.TheVariants as status
+use Rattle.kp_run_outcome.specs.Ends.{Outside, IsAnswer, with_files, whole, put_failed, put_no_memory, print_failed, print_no_memory}
+use Rattle.kp_run_prepare.specs.Refusing.{refuses}
 use Rattle.kp_run.specs.Outcomes.{IsDue}
 use Rattle.kp_run.specs.Ends.{Ends, came, read_failed, no_memory}
 

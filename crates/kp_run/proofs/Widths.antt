@@ -9,12 +9,12 @@ use Rattle.kp_base.specs.Entailed.{HaveSameModels}
 use Rattle.kp_width.specs.declared.report.WidthReport.{WidthReport}
 use Rattle.kp_width.specs.Answers.{IsReport, AnswersWidth}
 use Rattle.kp_width.proofs.Public.{report_by_models, refusal_by_models}
-use Rattle.kp_outcome.specs.declared.outcome.Outcome.{Outcome}
-use Rattle.kp_prepared.specs.declared.prepared.Early.{Early}
-use Rattle.kp_prepared.specs.declared.prepared.Early.TheVariants as halts
-use Rattle.kp_prepared.specs.Refusing.{named_in, EndsBy}
-use Rattle.kp_prepared.specs.Prepared.{usual}
-use Rattle.kp_inputs.specs.Ending.{Settles}
+use Rattle.kp_run_outcome.specs.declared.outcome.Outcome.{Outcome}
+use Rattle.kp_run_prepare.specs.declared.prepared.Early.{Early}
+use Rattle.kp_run_prepare.specs.declared.prepared.Early.TheVariants as halts
+use Rattle.kp_run_prepare.specs.Refusing.{named_in, EndsBy}
+use Rattle.kp_run_prepare.specs.Prepared.{usual}
+use Rattle.kp_run_inputs.specs.Ending.{Settles}
 use Rattle.kp_run.specs.Outcomes.{tells_width, MeasuresGround, no_report, with_report}
 
 module _ (bound : ℕ) (g : Ground) (i j : Initial) (same : HaveSameModels i j) where

@@ -2,16 +2,16 @@
 use Rattle.std.specs.Prelude.{◌≡◌, ◌⊎◌, ◌≤◌, ◌++◌, ℕ, List, ◌∷◌, Some, Vec, codes, length, map}
 use Rattle.std.specs.FinMap.{get}
 use Rattle.std.specs.declared.alloc.Global.{Global}
-use Rattle.kp_meaning.specs.Steps.{Step}
-use Rattle.kp_meaning.specs.Plans.{IsPlan}
-use Rattle.kp_meaning.specs.Strip.{strip}
+use Rattle.kp_names_meaning.specs.Steps.{Step}
+use Rattle.kp_names_meaning.specs.Plans.{IsPlan}
+use Rattle.kp_names_meaning.specs.Strip.{strip}
 use Rattle.kp_plans.specs.declared.step.PlanStep.{PlanStep}
 use Rattle.kp_plans.specs.PlanFiles.{names, IsPlanOf}
 use Rattle.kp_plans.specs.Printed.{plan_text, IsTextOf}
 use Rattle.kp_outside.specs.Outside.{FileMap, with_bytes}
-use Rattle.kp_outcome.specs.declared.status.Status.{Status}
-use Rattle.kp_outcome.specs.declared.status.Status.TheVariants as status
-use Rattle.kp_outcome.specs.Ends.{Outside, most_bytes}
+use Rattle.kp_run_outcome.specs.declared.status.Status.{Status}
+use Rattle.kp_run_outcome.specs.declared.status.Status.TheVariants as status
+use Rattle.kp_run_outcome.specs.Ends.{Outside, most_bytes}
 use Rattle.kp_words.specs.Names.{Translate, Lift}
 use Rattle.kp_words.specs.Command.{IsTranslate, file_of, if_named}
 use Rattle.kp_run.specs.Ends.{Ends}

@@ -1,16 +1,16 @@
 -- Laws on commands and their outcomes.
 use Rattle.std.specs.Prelude.{ℕ, List, Option, Vec}
 use Rattle.std.specs.declared.alloc.Global.{Global}
-use Rattle.kp_grammar.specs.declared.tree.Word.{Word}
-use Rattle.kp_grammar.specs.Trees.{Domain, Problem}
-use Rattle.kp_task.specs.Task.{task_of}
+use Rattle.kp_tree_grammar.specs.declared.tree.Word.{Word}
+use Rattle.kp_tree_grammar.specs.Trees.{Domain, Problem}
+use Rattle.kp_law_ktask.specs.Task.{task_of}
 use Rattle.kp_ktask.specs.Translated.{FitsLimits}
-use Rattle.kp_given.specs.Translations.{ground_of}
-use Rattle.kp_given.specs.Tables.{empty_tag}
+use Rattle.kp_law_given.specs.Translations.{ground_of}
+use Rattle.kp_law_given.specs.Tables.{empty_tag}
 use Rattle.kp_outside.specs.Outside.{FileMap}
-use Rattle.kp_outcome.specs.declared.outcome.Outcome.{Outcome}
-use Rattle.kp_outcome.specs.Ends.{IsAnswer}
-use Rattle.kp_prepared.specs.Prepared.{usual, IsSmall}
+use Rattle.kp_run_outcome.specs.declared.outcome.Outcome.{Outcome}
+use Rattle.kp_run_outcome.specs.Ends.{IsAnswer}
+use Rattle.kp_run_prepare.specs.Prepared.{usual, IsSmall}
 use Rattle.kp_run.specs.Outcomes.{IsDue}
 
 -- an outcome that is due is an answer, and no fault

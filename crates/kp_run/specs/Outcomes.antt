@@ -11,48 +11,48 @@ use Rattle.kp_base.specs.declared.refused.Part.TheVariants as parts
 use Rattle.kp_base.specs.declared.refused.Refused.{Refused}
 use Rattle.kp_base.specs.declared.refused.Refused.TheVariants as refusals
 use Rattle.kp_base.specs.Covering.{AreUncovered}
-use Rattle.kp_grammar.specs.declared.tree.Word.{Word}
-use Rattle.kp_grammar.specs.Trees as trees
-use Rattle.kp_complete.specs.Lifts.{lifted as lift_of, UnliftedAt}
-use Rattle.kp_task.specs.Task.{task_of}
-use Rattle.kp_task.specs.Accepted.{IsAccepted}
+use Rattle.kp_tree_grammar.specs.declared.tree.Word.{Word}
+use Rattle.kp_tree_grammar.specs.Trees as trees
+use Rattle.kp_law_complete.specs.Lifts.{lifted as lift_of, UnliftedAt}
+use Rattle.kp_law_ktask.specs.Task.{task_of}
+use Rattle.kp_law_ktask.specs.Accepted.{IsAccepted}
 use Rattle.kp_ktask.specs.Translated.{FitsLimits, RefusesTask}
-use Rattle.kp_translation.specs.Translations.{translation_with}
-use Rattle.kp_given.specs.Translations.{ground_of, initial_of}
-use Rattle.kp_merges.specs.Printed.{merges_of, merges_text}
+use Rattle.kp_run_translate.specs.Translations.{translation_with}
+use Rattle.kp_law_given.specs.Translations.{ground_of, initial_of}
+use Rattle.kp_tags_merges.specs.Printed.{merges_of, merges_text}
 use Rattle.kp_width.specs.declared.report.WidthReport.{WidthReport}
 use Rattle.kp_width.specs.declared.report.WidthReport.TheVariants.{Within, Over}
 use Rattle.kp_width.specs.Answers.{IsReport, RefusesWidth}
 use Rattle.kp_check.specs.declared.answer.Judged.{Judged}
 use Rattle.kp_check.specs.declared.answer.Judged.TheVariants.{Yes, No}
 use Rattle.kp_check.specs.Judging.{AnswersJudged}
-use Rattle.kp_meaning.specs.Steps.{Step}
-use Rattle.kp_meaning.specs.Strip.{strip}
+use Rattle.kp_names_meaning.specs.Steps.{Step}
+use Rattle.kp_names_meaning.specs.Strip.{strip}
 use Rattle.kp_plans.specs.declared.step.PlanStep.{PlanStep}
 use Rattle.kp_plans.specs.PlanFiles.{names, IsPlanOf, RefusesPlan}
 use Rattle.kp_plans.specs.Printed.{plan_text}
 use Rattle.kp_plans.specs.Stripping.{IsFirstUnstripped}
 use Rattle.kp_outside.specs.Outside.{FileMap}
-use Rattle.kp_printed.specs.Refusals.{nothing}
-use Rattle.kp_printed.specs.Counterexamples.{counterexample_text}
-use Rattle.kp_printed.specs.Coverage.{coverage_text}
-use Rattle.kp_printed.specs.Lifting.{unlifted_text}
-use Rattle.kp_printed.specs.Usage.{usage_text}
-use Rattle.kp_printed.specs.Widths.{width_text, over_text}
-use Rattle.kp_outcome.specs.declared.outcome.Outcome.{Outcome}
-use Rattle.kp_outcome.specs.declared.status.Status.TheVariants as status
-use Rattle.kp_outcome.specs.Ends.{AreHeld, most_bytes}
+use Rattle.kp_run_messages.specs.Refusals.{nothing}
+use Rattle.kp_run_messages.specs.Counterexamples.{counterexample_text}
+use Rattle.kp_run_messages.specs.Coverage.{coverage_text}
+use Rattle.kp_run_messages.specs.Lifting.{unlifted_text}
+use Rattle.kp_run_messages.specs.Usage.{usage_text}
+use Rattle.kp_run_messages.specs.Widths.{width_text, over_text}
+use Rattle.kp_run_outcome.specs.declared.outcome.Outcome.{Outcome}
+use Rattle.kp_run_outcome.specs.declared.status.Status.TheVariants as status
+use Rattle.kp_run_outcome.specs.Ends.{AreHeld, most_bytes}
 use Rattle.kp_words.specs.Names.{of_mode, Translate, Merges, Strip, Check, Lift, Solve, Classical, Width, Bench}
 use Rattle.kp_words.specs.declared.lent.CommandRef.{CommandRef as Command}
 use Rattle.kp_words.specs.declared.lent.CommandRef.TheVariants as commands
 use Rattle.kp_words.specs.Command.{IsCommand, IsNoCommand, inputs_of}
-use Rattle.kp_prepared.specs.Refusing.{refuses, named_in}
-use Rattle.kp_prepared.specs.Prepared.{usual, Comes}
-use Rattle.kp_classical.specs.Classical.{ComesClassical, task_of as classical_task}
-use Rattle.kp_inputs.specs.Tables.{ComesByTable}
-use Rattle.kp_inputs.specs.Actions.{ComesByPlan}
-use Rattle.kp_solving.specs.Solving.{denies, SolvesGround, SolvesClassical}
-use Rattle.kp_bench.specs.Bench.{Benches}
+use Rattle.kp_run_prepare.specs.Refusing.{refuses, named_in}
+use Rattle.kp_run_prepare.specs.Prepared.{usual, Comes}
+use Rattle.kp_run_classical.specs.Classical.{ComesClassical, task_of as classical_task}
+use Rattle.kp_run_inputs.specs.Tables.{ComesByTable}
+use Rattle.kp_run_inputs.specs.Actions.{ComesByPlan}
+use Rattle.kp_run_solve.specs.Solving.{denies, SolvesGround, SolvesClassical}
+use Rattle.kp_run_bench.specs.Bench.{Benches}
 
 -- ---- outcomes
 

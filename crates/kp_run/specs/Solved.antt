@@ -6,31 +6,31 @@ use Rattle.kp_base.specs.declared.ground.Initial.{Initial}
 use Rattle.kp_base.specs.declared.ground.TagTable.{TagTable}
 use Rattle.kp_base.specs.declared.lit.Lit.{Lit}
 use Rattle.kp_base.specs.Covering.{IsComplete, AreUncovered}
-use Rattle.kp_grammar.specs.declared.tree.Word.{Word}
-use Rattle.kp_grammar.specs.Trees.{Domain, Problem}
-use Rattle.kp_meaning.specs.Steps.{Step}
-use Rattle.kp_meaning.specs.Plans.{IsPlan}
-use Rattle.kp_meaning.specs.Strip.{strip}
+use Rattle.kp_tree_grammar.specs.declared.tree.Word.{Word}
+use Rattle.kp_tree_grammar.specs.Trees.{Domain, Problem}
+use Rattle.kp_names_meaning.specs.Steps.{Step}
+use Rattle.kp_names_meaning.specs.Plans.{IsPlan}
+use Rattle.kp_names_meaning.specs.Strip.{strip}
 use Rattle.kp_classic.specs.declared.task.Task.{Task}
 use Rattle.kp_plans.specs.Printed.{plan_text, IsTextOf}
 use Rattle.kp_search.specs.declared.found.Found.TheVariants.{Spent}
 use Rattle.kp_search.specs.Ends.{HasMoreStates}
-use Rattle.kp_task.specs.Task.{task_of}
+use Rattle.kp_law_ktask.specs.Task.{task_of}
 use Rattle.kp_ktask.specs.Translated.{FitsLimits}
-use Rattle.kp_given.specs.Translations.{ground_of, initial_of}
-use Rattle.kp_sound.specs.Written.{translation_of}
-use Rattle.kp_printed.specs.Searches.{no_plan_line, no_plan_text, spent_text}
+use Rattle.kp_law_given.specs.Translations.{ground_of, initial_of}
+use Rattle.kp_law_written.specs.Written.{translation_of}
+use Rattle.kp_run_messages.specs.Searches.{no_plan_line, no_plan_text, spent_text}
 use Rattle.kp_outside.specs.Outside.{FileMap, with_file, with_bytes}
-use Rattle.kp_outcome.specs.declared.status.Status.{Status}
-use Rattle.kp_outcome.specs.declared.status.Status.TheVariants as status
-use Rattle.kp_outcome.specs.Ends.{Outside, AreHeld}
+use Rattle.kp_run_outcome.specs.declared.status.Status.{Status}
+use Rattle.kp_run_outcome.specs.declared.status.Status.TheVariants as status
+use Rattle.kp_run_outcome.specs.Ends.{Outside, AreHeld}
 use Rattle.kp_words.specs.Names.{Source, Solve, Classical}
 use Rattle.kp_words.specs.Command.{file_of, if_named}
-use Rattle.kp_prepared.specs.Texts.{HaveTrees}
-use Rattle.kp_prepared.specs.Prepared.{usual, IsPrepared}
-use Rattle.kp_classical.specs.Classical.{IsClassical, task_of as classical_task}
-use Rattle.kp_inputs.specs.Tables.{HasTable}
-use Rattle.kp_solving.specs.Solving.{Finds}
+use Rattle.kp_run_prepare.specs.Texts.{HaveTrees}
+use Rattle.kp_run_prepare.specs.Prepared.{usual, IsPrepared}
+use Rattle.kp_run_classical.specs.Classical.{IsClassical, task_of as classical_task}
+use Rattle.kp_run_inputs.specs.Tables.{HasTable}
+use Rattle.kp_run_solve.specs.Solving.{Finds}
 use Rattle.kp_run.specs.Completeness.{PrintsComplete}
 
 -- ---- what is held, and what was told

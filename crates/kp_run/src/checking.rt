@@ -4,20 +4,20 @@ ghost use Rattle.kp_base.specs.declared.ground.Initial.{Initial as Formula};
 ghost use Rattle.kp_base.specs.Entailed.{HaveSameModels};
 ghost use Rattle.kp_outside.specs.Outside.{IsFront, IsWithin};
 ghost use Rattle.kp_primes.specs.Held.{formula};
-ghost use Rattle.kp_prepared.specs.Prepared.{IsUsable};
-ghost use Rattle.kp_inputs.specs.Actions.{ComesByPlan};
-ghost use Rattle.kp_printed.specs.Counterexamples.{counterexample_text};
-ghost use Rattle.kp_solving.specs.Solving.{denies};
+ghost use Rattle.kp_run_prepare.specs.Prepared.{IsUsable};
+ghost use Rattle.kp_run_inputs.specs.Actions.{ComesByPlan};
+ghost use Rattle.kp_run_messages.specs.Counterexamples.{counterexample_text};
+ghost use Rattle.kp_run_solve.specs.Solving.{denies};
 ghost use Rattle.kp_run.specs.Outcomes.{prints, tells, TellsJudged, ChecksTexts};
 
 use crate::outcomes::{failing, print_text};
 use kp_base::{AtomId, Ground, Lit, Memory, Row};
 use kp_check::{Judged, check};
-use kp_inputs::{actions_of, settle};
-use kp_outcome::{Outcome, Status};
 use kp_outside::Got;
-use kp_prepared::{Prepared, prepare};
-use kp_printed::counterexample;
+use kp_run_inputs::{actions_of, settle};
+use kp_run_messages::counterexample;
+use kp_run_outcome::{Outcome, Status};
+use kp_run_prepare::{Prepared, prepare};
 use kp_words::Check;
 use std::alloc::Global;
 

@@ -1,8 +1,8 @@
 ghost use Rattle.std.specs.Prelude.{◌≡◌, ◌≢◌, ℕ, List, [], ◌∷◌, ◌++◌, Option, Some, Err, IfOk, IsErrOf, length};
 ghost use Rattle.kp_outside.specs.declared.outside.OutsideStop.TheVariants as stops;
 ghost use Rattle.kp_outside.specs.Outside.{FileMap};
-ghost use Rattle.kp_outcome.specs.declared.status.Status.TheVariants as status;
-ghost use Rattle.kp_outcome.specs.Ends.{AreHeld, AreFronts, AreRead, GetFails};
+ghost use Rattle.kp_run_outcome.specs.declared.status.Status.TheVariants as status;
+ghost use Rattle.kp_run_outcome.specs.Ends.{AreHeld, AreFronts, AreRead, GetFails};
 ghost use Rattle.kp_words.specs.declared.lent.CommandRef.{CommandRef as Ordered};
 ghost use Rattle.kp_words.specs.declared.lent.CommandRef.TheVariants as commands;
 ghost use Rattle.kp_words.specs.Names.{Translate as Names, Lift as LiftNames, Solve as SolveNames, Classical as ClassicalNames, of_mode, of_file, source_view};
@@ -26,10 +26,10 @@ use crate::sourced::{four_of, one_of, taken_apart, three_of, two_of};
 use crate::stripping::strip_text;
 use crate::translating::translate_texts;
 use kp_base::{Memory, Mode, Row};
-use kp_bench::bench;
-use kp_inputs::Origin;
-use kp_outcome::{Outcome, Status, carry_out, read_inputs, stopped};
 use kp_outside::{Got, OutsideStop, Shelf, Sink};
+use kp_run_bench::bench;
+use kp_run_inputs::Origin;
+use kp_run_outcome::{Outcome, Status, carry_out, read_inputs, stopped};
 use kp_words::{
     Bench, Check, Classical, Command, CommandRef, Lift, Merges, Solve, SourceRef, Strip, Translate,
     Width, WordStop, command,

@@ -15,5 +15,5 @@ mod stripping;
 mod translating;
 
 pub use entry::run;
-pub use kp_outcome::Status;
+pub use kp_run_outcome::Status;
 pub use law::{empty_tags_fit, outcomes_are_answers};

@@ -4,17 +4,17 @@ ghost use Rattle.kp_base.specs.Entailed.{HaveSameModels};
 ghost use Rattle.kp_outside.specs.Outside.{IsFront, IsWithin};
 ghost use Rattle.kp_primes.specs.Held.{formula};
 ghost use Rattle.kp_words.specs.Names.{of_mode};
-ghost use Rattle.kp_prepared.specs.Prepared.{IsUsable};
-ghost use Rattle.kp_inputs.specs.Tables.{ComesByTable};
+ghost use Rattle.kp_run_prepare.specs.Prepared.{IsUsable};
+ghost use Rattle.kp_run_inputs.specs.Tables.{ComesByTable};
 ghost use Rattle.kp_run.specs.Outcomes.{ListsMerges, MergesTexts};
 
 use crate::outcomes::print_text;
 use kp_base::{Ground, Memory, Mode, TagTable};
-use kp_inputs::{Origin, settle, table_alone};
-use kp_merges::merges_text;
-use kp_outcome::Outcome;
 use kp_outside::Got;
-use kp_prepared::{Prepared, prepare};
+use kp_run_inputs::{Origin, settle, table_alone};
+use kp_run_outcome::Outcome;
+use kp_run_prepare::{Prepared, prepare};
+use kp_tags_merges::merges_text;
 use kp_words::Merges;
 use std::alloc::Global;
 

@@ -4,19 +4,19 @@ ghost use Rattle.kp_base.specs.Entailed.{HaveSameModels};
 ghost use Rattle.kp_outside.specs.Outside.{IsFront, IsWithin};
 ghost use Rattle.kp_primes.specs.Held.{formula};
 ghost use Rattle.kp_words.specs.Names.{Source};
-ghost use Rattle.kp_prepared.specs.Prepared.{IsUsable};
-ghost use Rattle.kp_inputs.specs.Tables.{IsOrigin, IsShort, ComesByTable};
-ghost use Rattle.kp_solving.specs.Solving.{SolvesGround};
+ghost use Rattle.kp_run_prepare.specs.Prepared.{IsUsable};
+ghost use Rattle.kp_run_inputs.specs.Tables.{IsOrigin, IsShort, ComesByTable};
+ghost use Rattle.kp_run_solve.specs.Solving.{SolvesGround};
 ghost use Rattle.kp_run.specs.Outcomes.{SolvesTexts, ClassicalTexts};
 
 use kp_base::Memory;
-use kp_classical::prepare_classical;
-use kp_inputs::{Origin, settle, table_of};
-use kp_outcome::Outcome;
 use kp_outside::Got;
-use kp_prepared::{Prepared, prepare};
 use kp_relevance::Relevance;
-use kp_solving::{solve_classical, solve_table};
+use kp_run_classical::prepare_classical;
+use kp_run_inputs::{Origin, settle, table_of};
+use kp_run_outcome::Outcome;
+use kp_run_prepare::{Prepared, prepare};
+use kp_run_solve::{solve_classical, solve_table};
 use kp_words::{Classical, Solve};
 use std::alloc::Global;
 

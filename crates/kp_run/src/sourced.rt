@@ -1,15 +1,15 @@
 //! What was read of a domain, a problem and a file of merges, taken apart.
 ghost use Rattle.std.specs.Prelude.{◌≡◌, ◌∷◌, [], ℕ, List, Option, length};
 ghost use Rattle.kp_outside.specs.Outside.{FileMap, IsWithin};
-ghost use Rattle.kp_outcome.specs.Ends.{AreFronts, AreRead};
+ghost use Rattle.kp_run_outcome.specs.Ends.{AreFronts, AreRead};
 ghost use Rattle.kp_words.specs.Names.{Source as Origins, source_view, of_mode, of_file};
 ghost use Rattle.kp_words.specs.Command.{file_of, if_named};
-ghost use Rattle.kp_inputs.specs.Tables.{IsOrigin, IsShort};
+ghost use Rattle.kp_run_inputs.specs.Tables.{IsOrigin, IsShort};
 ghost use Rattle.kp_run.specs.Tables.{IsSourced};
 
 use kp_base::{Mode, Row};
-use kp_inputs::Origin;
 use kp_outside::Got;
+use kp_run_inputs::Origin;
 use kp_words::SourceRef;
 
 /// What was read of a domain and a problem, and where the tags and merges come from.

@@ -5,10 +5,10 @@ ghost use Rattle.kp_run.specs.Outcomes.{StripsText};
 
 use crate::outcomes::print_text;
 use kp_base::{Memory, Part, Refused, Row, Stop};
-use kp_outcome::Outcome;
 use kp_outside::Got;
 use kp_plans::{PlanStep, plan_text, read_plan, strip};
-use kp_prepared::refuse;
+use kp_run_outcome::Outcome;
+use kp_run_prepare::refuse;
 use std::alloc::Global;
 
 // What the steps of a plan file come to.

@@ -14,14 +14,14 @@ use Rattle.kp_base.specs.declared.lit.AtomId.{AtomId}
 use Rattle.kp_base.specs.Lists.{Member}
 use Rattle.kp_base.specs.Steps.{is_model}
 use Rattle.kp_base.proofs.Lists.{member_at}
-use Rattle.kp_first.specs.Ordered.{state_of, AreFirst}
+use Rattle.kp_primes_models.specs.Ordered.{state_of, AreFirst}
 use Rattle.kp_cover.specs.Valid.{AreValidTags, satisfies_one, is_outside}
 use Rattle.kp_base.specs.Implicates.{IsOfItsAtoms}
-use Rattle.kp_merges.specs.declared.merge.FileMerge.{FileMerge}
+use Rattle.kp_tags_merges.specs.declared.merge.FileMerge.{FileMerge}
 use Rattle.kp_base.specs.Entailed.{HaveSameModels}
-use Rattle.kp_modes.specs.Modes.{way_of, AreMergesOf}
-use Rattle.kp_modes.specs.Answers.{AnswersMode}
-use Rattle.kp_modes.proofs.Public.{merges_of_modes_are_good, modes_have_one_answer, same_models_back}
+use Rattle.kp_tags_modes.specs.Modes.{way_of, AreMergesOf}
+use Rattle.kp_tags_modes.specs.Answers.{AnswersMode}
+use Rattle.kp_tags_modes.proofs.Public.{merges_of_modes_are_good, modes_have_one_answer, same_models_back}
 use Rattle.kp_tags.specs.Tables.{used_tags, IsTableOf}
 use Rattle.kp_tags.specs.Answers.{AreAllAcceptable, RefusesMerge, inconsistent, invalid, RefusesTable, at_fault, tags_over, AnswersTable}
 use Rattle.kp_tags.specs.Made.{IsMade, RefusesMade, AnswersMade}

@@ -7,8 +7,8 @@ use Rattle.kp_base.specs.declared.ground.TagTable.{TagTable}
 use Rattle.kp_base.specs.declared.refused.Stop.TheVariants as stops
 use Rattle.kp_base.specs.Covering.{Covers, IsCovered}
 use Rattle.kp_base.specs.Entailed.{HaveSameModels}
-use Rattle.kp_modes.specs.Modes.{way_of}
-use Rattle.kp_modes.proofs.Public.{same_models_back, candidate_by_models as candidate, merges_by_models, mode_refusal_by_models}
+use Rattle.kp_tags_modes.specs.Modes.{way_of}
+use Rattle.kp_tags_modes.proofs.Public.{same_models_back, candidate_by_models as candidate, merges_by_models, mode_refusal_by_models}
 use Rattle.kp_tags.specs.Made.{RefusesMade}
 use Rattle.kp_tags.specs.Laws.{TablesMadeGoByModels, CoverageGoesByModels}
 use Rattle.kp_tags.proofs.ByModels.{table_of}

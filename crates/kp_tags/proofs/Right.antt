@@ -13,7 +13,7 @@ use Rattle.kp_base.specs.Steps.{State, holds}
 use Rattle.kp_base.specs.Entailed.{tag_holds, IsValid, AreValid}
 use Rattle.kp_base.proofs.Lists.{any_from, any_map, any_weaker, map_member, member_flat_map}
 use Rattle.kp_base.proofs.Once.{any-each_once}
-use Rattle.kp_merges.specs.declared.merge.FileMerge.{FileMerge}
+use Rattle.kp_tags_merges.specs.declared.merge.FileMerge.{FileMerge}
 use Rattle.kp_base.specs.LitSet.{same_set}
 use Rattle.kp_tags.specs.Tables.{used_tags, number_in, numbered, IsTableOf}
 use Rattle.kp_tags.specs.Answers.{AreAllAcceptable}

@@ -10,7 +10,7 @@ use Rattle.kp_base.specs.Lists.{Member, each_once}
 use Rattle.kp_base.specs.LitSet.{IsAscending, same_set}
 use Rattle.kp_base.specs.Implicates.{are_below}
 use Rattle.kp_base.specs.Entailed.{IsClosure}
-use Rattle.kp_merges.specs.declared.merge.FileMerge.{FileMerge}
+use Rattle.kp_tags_merges.specs.declared.merge.FileMerge.{FileMerge}
 
 -- the tags of the merge are of the first n atoms
 abbrev pub has_tags_of_atoms : ℕ → FileMerge → Bool

@@ -9,8 +9,8 @@ use crate::numbers::all_numbered;
 use crate::rows::rows;
 use crate::tags::Tags;
 use kp_base::{Limits, Memory, Refused, Row, Stop, TagTable};
-use kp_merges::FileMerge;
 use kp_primes::Primes;
+use kp_tags_merges::FileMerge;
 use std::alloc::Global;
 
 // The table of some merges and their tags. No merge must be at fault.

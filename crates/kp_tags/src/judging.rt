@@ -8,8 +8,8 @@ ghost use Rattle.kp_tags.specs.Answers.{AnswersInconsistent, AnswersMerge, Answe
 use crate::tags::as_number;
 use kp_base::{LitSet, Refused, Row, Stop};
 use kp_cover::{Validity, valid};
-use kp_merges::FileMerge;
 use kp_primes::Primes;
+use kp_tags_merges::FileMerge;
 use std::alloc::Global;
 
 // Where the first inconsistent tag stands, if one is inconsistent.

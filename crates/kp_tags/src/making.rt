@@ -6,9 +6,9 @@ ghost use Rattle.kp_tags.specs.Made.{AnswersMade};
 
 use crate::accepting::table_within;
 use kp_base::{Ground, Limits, Mode, Stop, TagTable};
-use kp_modes::merges_of;
 use kp_primes::Primes;
 use kp_relevance::Relevance;
+use kp_tags_modes::merges_of;
 use std::alloc::Global;
 
 /// The table of the merges of a mode. The relevance and the prime implicates must be those of the ground problem.

@@ -14,17 +14,17 @@ use Rattle.kp_lex.specs.Spans.{InOrder}
 use Rattle.kp_lex.specs.Levels.{up_to, reach, BeginsCutting}
 use Rattle.kp_lex.proofs.Public.{spans_in_order}
 use Rattle.kp_base.proofs.Cases.{some_none}
-use Rattle.kp_grammar.specs.declared.tree.Word.{Word}
-use Rattle.kp_grammar.specs.Symbols.{Tok, symbol_of, seen_in, all_seen_in}
-use Rattle.kp_grammar.specs.Sorts.{Sort, El}
-use Rattle.kp_grammar.specs.Forms.{Form}
-use Rattle.kp_grammar.specs.Reading.{Reason, Syntax, Unsupported, At, stop}
-use Rattle.kp_grammar.specs.Parsing.{Outcome, ◌>>=◌, ended, go, level}
-use Rattle.kp_grammar.specs.Depth.{levels, deep}
-use Rattle.kp_grammar.specs.Laws.{followed}
-use Rattle.kp_grammar.proofs.Public.{GoesOn, goes_on, Kept, kept}
-use Rattle.kp_cursor.specs.Lexemes.{byte_at}
-use Rattle.kp_parts.specs.Readers.{whole_at}
+use Rattle.kp_tree_grammar.specs.declared.tree.Word.{Word}
+use Rattle.kp_tree_grammar.specs.Symbols.{Tok, symbol_of, seen_in, all_seen_in}
+use Rattle.kp_tree_grammar.specs.Sorts.{Sort, El}
+use Rattle.kp_tree_grammar.specs.Forms.{Form}
+use Rattle.kp_tree_grammar.specs.Reading.{Reason, Syntax, Unsupported, At, stop}
+use Rattle.kp_tree_grammar.specs.Parsing.{Outcome, ◌>>=◌, ended, go, level}
+use Rattle.kp_tree_grammar.specs.Depth.{levels, deep}
+use Rattle.kp_tree_grammar.specs.Laws.{followed}
+use Rattle.kp_tree_grammar.proofs.Public.{GoesOn, goes_on, Kept, kept}
+use Rattle.kp_tree_cursor.specs.Lexemes.{byte_at}
+use Rattle.kp_tree_parts.specs.Readers.{whole_at}
 use Rattle.kp_tree.specs.Files.{most_bytes, ReadsShallow, RefusedAt, offending, too_deep, refusal_for, refusal_at, HasTree, Refuses, stops, AnswersTokens, AnswersFile, IsToldWithin}
 use Rattle.kp_tree.proofs.OneAnswer.{refused_once, not_refused}
 use Rattle.kp_tree.proofs.Whole.{answered, is_refused}

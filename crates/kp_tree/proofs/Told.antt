@@ -4,16 +4,16 @@ use Rattle.std.specs.List.{drop-map}
 use Rattle.kp_base.specs.declared.refused.Part.{Part}
 use Rattle.kp_base.specs.declared.refused.Stop.{Stop}
 use Rattle.kp_lex.specs.declared.token.Token.{Token}
-use Rattle.kp_grammar.specs.declared.tree.Word.{Word}
-use Rattle.kp_grammar.specs.Symbols.{Tok, seen_in, all_seen_in}
-use Rattle.kp_grammar.specs.Sorts.{Sort, El}
-use Rattle.kp_grammar.specs.Forms.{Form}
-use Rattle.kp_grammar.specs.Reading.{At, stop}
-use Rattle.kp_cursor.specs.declared.halt.Halt.{Halt}
-use Rattle.kp_cursor.specs.declared.halt.Halt.TheVariants as halts
+use Rattle.kp_tree_grammar.specs.declared.tree.Word.{Word}
+use Rattle.kp_tree_grammar.specs.Symbols.{Tok, seen_in, all_seen_in}
+use Rattle.kp_tree_grammar.specs.Sorts.{Sort, El}
+use Rattle.kp_tree_grammar.specs.Forms.{Form}
+use Rattle.kp_tree_grammar.specs.Reading.{At, stop}
+use Rattle.kp_tree_cursor.specs.declared.halt.Halt.{Halt}
+use Rattle.kp_tree_cursor.specs.declared.halt.Halt.TheVariants as halts
 use Rattle.kp_tree.specs.Files.{RefusedAt, AnswersTokens}
-use Rattle.kp_parts.specs.Lexemes.{from}
-use Rattle.kp_parts.specs.Readers.{Fails, unsupported, whole_at}
+use Rattle.kp_tree_parts.specs.Lexemes.{from}
+use Rattle.kp_tree_parts.specs.Readers.{Fails, unsupported, whole_at}
 use Rattle.kp_tree.specs.Refusals.{IsTold}
 use Rattle.kp_tree.proofs.Whole.{is_read, is_refused}
 

@@ -5,9 +5,9 @@ use Rattle.kp_base.specs.declared.refused.Refused.TheVariants as refusals
 use Rattle.kp_base.specs.declared.refused.Stop.{Stop}
 use Rattle.kp_base.specs.declared.refused.Stop.TheVariants as causes
 use Rattle.kp_lex.specs.Answers.{IsRight}
-use Rattle.kp_grammar.specs.declared.tree.Word.{Word}
-use Rattle.kp_grammar.specs.Sorts.{Sort, El}
-use Rattle.kp_grammar.specs.Forms.{Form}
+use Rattle.kp_tree_grammar.specs.declared.tree.Word.{Word}
+use Rattle.kp_tree_grammar.specs.Sorts.{Sort, El}
+use Rattle.kp_tree_grammar.specs.Forms.{Form}
 use Rattle.kp_tree.specs.Files.{most_bytes, Refuses, bad_token, AnswersFile}
 
 module _ {b : Bool} {c : Sort} (part : Part) (X : Form b c) (text : List ℕ) (short : length text ≤ most_bytes) where

@@ -9,13 +9,13 @@ use Rattle.kp_base.specs.declared.refused.Stop.TheVariants as causes
 use Rattle.kp_lex.specs.declared.token.Token.{Token}
 use Rattle.kp_lex.specs.Cutting.{Cut, BadAt}
 use Rattle.kp_lex.specs.Places.{place_of}
-use Rattle.kp_grammar.specs.declared.tree.Word.{Word}
-use Rattle.kp_grammar.specs.Symbols.{Tok, all_seen_in}
-use Rattle.kp_grammar.specs.Sorts.{Sort, El}
-use Rattle.kp_grammar.specs.Forms.{Form}
-use Rattle.kp_grammar.specs.Reading.{Reason, Syntax, Unsupported, At, stop, ReadsWhole, StopsWhole}
-use Rattle.kp_grammar.specs.Depth.{levels, deep}
-use Rattle.kp_cursor.specs.Lexemes.{byte_at}
+use Rattle.kp_tree_grammar.specs.declared.tree.Word.{Word}
+use Rattle.kp_tree_grammar.specs.Symbols.{Tok, all_seen_in}
+use Rattle.kp_tree_grammar.specs.Sorts.{Sort, El}
+use Rattle.kp_tree_grammar.specs.Forms.{Form}
+use Rattle.kp_tree_grammar.specs.Reading.{Reason, Syntax, Unsupported, At, stop, ReadsWhole, StopsWhole}
+use Rattle.kp_tree_grammar.specs.Depth.{levels, deep}
+use Rattle.kp_tree_cursor.specs.Lexemes.{byte_at}
 
 -- the most bytes that a file may have
 abbrev pub most_bytes : ℕ

@@ -1,15 +1,15 @@
 ghost use Rattle.std.specs.Prelude.{◌≡◌, ◌≤◌, length, take};
 ghost use Rattle.kp_base.specs.declared.refused.Part.TheVariants as parts;
-ghost use Rattle.kp_grammar.specs.Grammar.{domain, problem};
-ghost use Rattle.kp_grammar.specs.View.{domain_view, problem_view};
+ghost use Rattle.kp_tree_grammar.specs.Grammar.{domain, problem};
+ghost use Rattle.kp_tree_grammar.specs.View.{domain_view, problem_view};
 ghost use Rattle.kp_tree.specs.Files.{AnswersFile};
 
 use crate::parse::{levels, parse_domain, parse_problem};
 use bumpalo::Bump;
 use kp_base::{Part, Stop};
-use kp_grammar::{Domain, Problem};
 use kp_lex::{Beginning, tokens_within};
-use kp_nodes::{copy_domain, copy_problem};
+use kp_tree_arena::{copy_domain, copy_problem};
+use kp_tree_grammar::{Domain, Problem};
 use std::alloc::Global;
 
 // The first bytes, so many.

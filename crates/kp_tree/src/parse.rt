@@ -1,20 +1,20 @@
 ghost use Rattle.std.specs.Prelude.{◌≡◌, ◌≤◌, length, IfErr};
 ghost use Rattle.kp_lex.specs.Cutting.{Cut};
 ghost use Rattle.kp_base.specs.declared.refused.Part.TheVariants as parts;
-ghost use Rattle.kp_grammar.specs.Depth.{levels};
-ghost use Rattle.kp_grammar.specs.Grammar.{domain, problem};
+ghost use Rattle.kp_tree_grammar.specs.Depth.{levels};
+ghost use Rattle.kp_tree_grammar.specs.Grammar.{domain, problem};
 ghost use Rattle.kp_tree.specs.Files.{AnswersTokens, IsToldWithin};
-ghost use Rattle.kp_nodes.specs.Nodes.{domain_view, problem_view};
-ghost use Rattle.kp_parts.specs.Readers.{GivesAll, whole_at};
+ghost use Rattle.kp_tree_arena.specs.Nodes.{domain_view, problem_view};
+ghost use Rattle.kp_tree_parts.specs.Readers.{GivesAll, whole_at};
 ghost use Rattle.kp_tree.specs.Refusals.{IsTold};
 
 use bumpalo::Bump;
 use kp_base::{Part, Refused, Row, Stop};
-use kp_cursor::byte_of;
 use kp_lex::{Token, place};
-use kp_nodes::{DomainNode, ProblemNode};
-use kp_parts::{Halt, Tokens, peek, tokens_in};
-use kp_sections::{domain, problem};
+use kp_tree_arena::{DomainNode, ProblemNode};
+use kp_tree_cursor::byte_of;
+use kp_tree_parts::{Halt, Tokens, peek, tokens_in};
+use kp_tree_sections::{domain, problem};
 use std::alloc::Global;
 
 // So many brackets may be open at once.
@@ -45,7 +45,7 @@ fn told(part: Part, bytes: &[u8], tokens: &[Token], halt: Halt) -> Stop
 }
 
 // The domain that all the tokens are.
-#[tactic(auto, unfolding(kp_parts::specs::Readers::whole_at, kp_sections::specs::Sections::domain_at))]
+#[tactic(auto, unfolding(kp_tree_parts::specs::Readers::whole_at, kp_tree_sections::specs::Sections::domain_at))]
 fn whole_domain<'a>(bump: &'a Bump, tokens: &Tokens<'_, 'a>) -> Result<DomainNode<'a>, Halt>
     ensures { GivesAll tokens.now domain_view result (whole_at domain tokens.now) }
 {
@@ -57,7 +57,7 @@ fn whole_domain<'a>(bump: &'a Bump, tokens: &Tokens<'_, 'a>) -> Result<DomainNod
 }
 
 // The problem that all the tokens are.
-#[tactic(auto, unfolding(kp_parts::specs::Readers::whole_at, kp_sections::specs::Givens::problem_at))]
+#[tactic(auto, unfolding(kp_tree_parts::specs::Readers::whole_at, kp_tree_sections::specs::Givens::problem_at))]
 fn whole_problem<'a>(
     bump: &'a Bump,
     alloc: Global,

@@ -9,7 +9,7 @@ use Rattle.kp_base.specs.declared.refused.Refused.TheVariants as refusals
 use Rattle.kp_base.specs.Lists.{Member}
 use Rattle.kp_base.specs.Covering.{IsCov, AllMeet}
 use Rattle.kp_base.specs.Relevance.{AreClausesFor}
-use Rattle.kp_sets.specs.Subsets.{subsets, choose}
+use Rattle.kp_cover_subsets.specs.Subsets.{subsets, choose}
 use Rattle.kp_cover.specs.Covering.{IsCover}
 use Rattle.kp_cover.proofs.Public.{cov_once}
 use Rattle.kp_width.specs.declared.report.WidthRow.{WidthRow}

@@ -10,7 +10,7 @@ use Rattle.kp_base.specs.Entailed.{IsConsistent, HaveSameModels}
 use Rattle.kp_base.specs.Implicates.{IsImplicate}
 use Rattle.kp_base.specs.Relevance.{IsCandidate, AreClausesFor}
 use Rattle.kp_base.specs.Covering.{IsCov}
-use Rattle.kp_sets.specs.Subsets.{subsets}
+use Rattle.kp_cover_subsets.specs.Subsets.{subsets}
 use Rattle.kp_cover.specs.Covering.{IsCover}
 use Rattle.kp_width.specs.declared.report.WidthRow.{WidthRow}
 use Rattle.kp_width.specs.declared.report.WidthReport.{WidthReport}

@@ -3,7 +3,7 @@ use Rattle.std.proofs.Common.{zero, suc, false, List, [], ◌∷◌, inl, refl, 
 use Rattle.kp_base.specs.declared.lit.Lit.{Lit}
 use Rattle.kp_base.specs.Lit.{positive, negative}
 use Rattle.kp_base.specs.Relevance.{either_value}
-use Rattle.kp_sets.specs.Sizes.{ArePassed, IsLeast, HasTooMany}
+use Rattle.kp_cover_subsets.specs.Sizes.{ArePassed, IsLeast, HasTooMany}
 use Rattle.kp_primes.specs.Held.{Held}
 use Rattle.kp_cover.specs.Tested.{tells_cover}
 

@@ -4,7 +4,7 @@ use Rattle.std.proofs.lemmas.Bool.{cases_lt}
 use Rattle.std.proofs.Math.Nat.{eq-or-lt_of_le}
 use Rattle.kp_base.specs.declared.lit.Lit.{Lit}
 use Rattle.kp_base.specs.declared.ground.Initial.{Initial}
-use Rattle.kp_sets.specs.Subsets.{subsets, choose}
+use Rattle.kp_cover_subsets.specs.Subsets.{subsets, choose}
 use Rattle.kp_cover.specs.Covering.{IsCover}
 use Rattle.kp_width.specs.Rows.{NoneCovers, IsFirstCover, ArePassed, IsLeastCover, HasNoCover, HasTooManySets}
 use Rattle.kp_width.proofs.Right.{it_is_there}

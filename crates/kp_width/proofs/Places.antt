@@ -5,9 +5,9 @@ use Rattle.std.specs.List.{range_with_len}
 use Rattle.kp_base.specs.declared.lit.Lit.{Lit}
 use Rattle.kp_base.specs.Lists.{Member}
 use Rattle.kp_base.proofs.Lists.{map_map, map_member, member_map}
-use Rattle.kp_sets.specs.Subsets.{subsets, place_sets}
-use Rattle.kp_sets.specs.Laws.{IsSublist}
-use Rattle.kp_sets.proofs.Public.{subsets_are}
+use Rattle.kp_cover_subsets.specs.Subsets.{subsets, place_sets}
+use Rattle.kp_cover_subsets.specs.Laws.{IsSublist}
+use Rattle.kp_cover_subsets.proofs.Public.{subsets_are}
 use Rattle.kp_cover.specs.Covering.{pick}
 
 -- ---- all clauses, by their places

@@ -7,8 +7,8 @@ use Rattle.kp_base.specs.declared.ground.Initial.{Initial}
 use Rattle.kp_base.specs.Lists.{Member}
 use Rattle.kp_base.specs.Relevance.{AreClausesFor}
 use Rattle.kp_base.proofs.Lists.{member_right}
-use Rattle.kp_sets.specs.Subsets.{subsets}
-use Rattle.kp_sets.specs.Laws.{IsSublist}
+use Rattle.kp_cover_subsets.specs.Subsets.{subsets}
+use Rattle.kp_cover_subsets.specs.Laws.{IsSublist}
 use Rattle.kp_relevance.proofs.Public.{one_clauses_for}
 use Rattle.kp_cover.specs.Covering.{IsCover}
 use Rattle.kp_width.specs.declared.report.WidthRow.{WidthRow}

@@ -8,9 +8,9 @@ use Rattle.kp_base.specs.declared.ground.Initial.{Initial}
 use Rattle.kp_base.specs.Lists.{Member}
 use Rattle.kp_base.specs.Covering.{IsCov, AllMeet}
 use Rattle.kp_base.proofs.Lists.{map_member}
-use Rattle.kp_sets.specs.Subsets.{subsets, place_sets, first_that, choose}
-use Rattle.kp_sets.specs.Sizes as sizes
-use Rattle.kp_sets.proofs.Public.{subsets_are, first_none, first_some}
+use Rattle.kp_cover_subsets.specs.Subsets.{subsets, place_sets, first_that, choose}
+use Rattle.kp_cover_subsets.specs.Sizes as sizes
+use Rattle.kp_cover_subsets.proofs.Public.{subsets_are, first_none, first_some}
 use Rattle.kp_cover.specs.Covering.{pick, IsCover, TellsCovers}
 use Rattle.kp_cover.proofs.Public.{cov_once}
 use Rattle.kp_width.specs.Rows.{NoneCovers, IsFirstCover, ArePassed, IsLeastCover, HasTooManySets}

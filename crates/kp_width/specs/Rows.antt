@@ -7,7 +7,7 @@ use Rattle.kp_base.specs.declared.ground.Initial.{Initial}
 use Rattle.kp_base.specs.Lists.{Member, each_once}
 use Rattle.kp_base.specs.LitSet.{same_set}
 use Rattle.kp_base.specs.Relevance.{AreClausesFor}
-use Rattle.kp_sets.specs.Subsets.{subsets, choose}
+use Rattle.kp_cover_subsets.specs.Subsets.{subsets, choose}
 use Rattle.kp_cover.specs.Covering.{IsCover}
 use Rattle.kp_width.specs.declared.report.WidthRow.{WidthRow}
 

@@ -5,7 +5,7 @@ use Rattle.kp_base.specs.declared.ground.Ground.{Ground}
 use Rattle.kp_base.specs.declared.ground.Initial.{Initial}
 use Rattle.kp_base.specs.Covering.{IsCov, Covers, IsTarget}
 use Rattle.kp_base.specs.Relevance.{AreClausesFor}
-use Rattle.kp_sets.specs.Laws.{IsSublist}
+use Rattle.kp_cover_subsets.specs.Laws.{IsSublist}
 
 -- the clauses are some of those that are relevant to the target, and their tags cover it
 pub record CoversTarget (g : Ground) (i : Initial) (target : Lit) (clauses tags : List (List Lit)) : Type 0 where

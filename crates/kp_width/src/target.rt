@@ -11,8 +11,8 @@ use crate::report::WidthRow;
 use crate::row::row_at;
 use kp_base::{Lit, LitSet, Refused, Stop};
 use kp_cover::{covers_are_told, least_cover, relevant_clauses_are_of_atoms};
+use kp_cover_subsets::LeastSet;
 use kp_primes::Primes;
-use kp_sets::LeastSet;
 use std::alloc::Global;
 
 // The row of the target to which these clauses are relevant, if some set of them that is small enough covers.

@@ -1,8 +1,8 @@
 -- Words behind a verb that say nothing of a command.
 use Rattle.std.proofs.Common.{◌≡◌, ◌∙◌, List, ℕ, Option, length, subst, Result, Ok, Err, IfErr, IsErrAnd, sym, Some, MatchOption}
-use Rattle.kp_line.specs.Words.{Line}
-use Rattle.kp_line.proofs.Public.{words_are_one_line}
-use Rattle.kp_line.specs.declared.stop.WordStop.{WordStop}
+use Rattle.kp_words_options.specs.Words.{Line}
+use Rattle.kp_words_options.proofs.Public.{words_are_one_line}
+use Rattle.kp_words_options.specs.declared.stop.WordStop.{WordStop}
 use Rattle.kp_words.specs.Command.{Behind}
 
 abbrev Texts : Type 0

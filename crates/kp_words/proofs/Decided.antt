@@ -3,8 +3,8 @@ use Rattle.std.proofs.Common.{◌≡◌, ◌≢◌, ◌∙◌, inl, inr, refl, a
 use Rattle.std.specs.List.{list_all}
 use Rattle.std.specs.Str.{is_utf8, IsUtf8}
 use Rattle.std.proofs.lemmas.Str.{IsUtf8-from_is_utf8, is_utf8-from_IsUtf8}
-use Rattle.kp_line.specs.Words.{Said, is_name, positionals, value_of}
-use Rattle.kp_line.proofs.Public.{line_decided}
+use Rattle.kp_words_options.specs.Words.{Said, is_name, positionals, value_of}
+use Rattle.kp_words_options.proofs.Public.{line_decided}
 use Rattle.kp_words.specs.Command.{AreUtf8}
 use Rattle.kp_words.specs.Laws.{WordsAreDecided}
 use Rattle.kp_words.specs.Verbs.{verb_named, verb_word, verb_in, options_of, ReadAs, read_as, AreOf, SaysOf, IsRead}

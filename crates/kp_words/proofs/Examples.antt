@@ -5,7 +5,7 @@ use denote.RawPtr.{null_ptr}
 use lib.Utf8.{encode}
 use Rattle.std.specs.Fmt.{digits}
 use Rattle.kp_base.specs.declared.limits.Mode.TheVariants as modes
-use Rattle.kp_line.specs.Words.{nothing, a_word, apart, joined, word as said_word, option as said_option}
+use Rattle.kp_words_options.specs.Words.{nothing, a_word, apart, joined, word as said_word, option as said_option}
 use Rattle.kp_words.specs.declared.source.Family.TheVariants as families
 use Rattle.kp_words.specs.Names.{of_mode, of_file}
 use Rattle.kp_words.specs.Command.{IsTranslate, IsMerges, IsStrip, IsCheck, IsLift, IsSolve, IsClassical, IsWidth, IsBench, IsNoCommand}

@@ -1,7 +1,7 @@
 -- The arguments of each verb are such that `clap` tells them apart.
 use Rattle.std.proofs.Common.{refl}
-use Rattle.kp_line.specs.Clap.{Fits}
-use Rattle.kp_line.proofs.Public.{rules_are_loose_by_computing}
+use Rattle.kp_words_options.specs.Clap.{Fits}
+use Rattle.kp_words_options.proofs.Public.{rules_are_loose_by_computing}
 use Rattle.kp_words.specs.Verbs.{verb_word, places_named, options_of}
 use Rattle.kp_words.specs.declared.verb.Verb.{Verb}
 use Rattle.kp_words.specs.declared.verb.Verb.TheVariants as verbs

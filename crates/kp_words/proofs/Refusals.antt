@@ -2,8 +2,8 @@
 use Rattle.std.proofs.Common.{◌≡◌, ◌≢◌, ◌∙◌, ◌<◌, ◌≤◌, ◌^◌, ℕ, zero, suc, List, [], ◌∷◌, Some, codes, decimal, refl, sym, subst, arith}
 use Rattle.std.specs.Fmt.{digits}
 use Rattle.std.proofs.lemmas.Fmt.{decimal_injective}
-use Rattle.kp_line.specs.Words.{word as said_word, option as said_option}
-use Rattle.kp_line.proofs.Public.{line_has_what_is_said, option_said_twice_is_no_line, words_that_say_nothing_are_no_line}
+use Rattle.kp_words_options.specs.Words.{word as said_word, option as said_option}
+use Rattle.kp_words_options.proofs.Public.{line_has_what_is_said, option_said_twice_is_no_line, words_that_say_nothing_are_no_line}
 use Rattle.kp_words.specs.declared.verb.Verb.TheVariants as verbs
 use Rattle.kp_words.specs.Options.{SaysSource, SaysBound, SaysBudget}
 use Rattle.kp_words.specs.Command.{IsNoCommand}

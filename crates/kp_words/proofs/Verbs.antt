@@ -5,7 +5,7 @@ use Rattle.kp_words.specs.Command.{AreUtf8, IsCall, IsCommand, IsNoCommand}
 use Rattle.kp_words.specs.Verbs.{all_verbs, verb_named, verb_word, verb_in, places_named, options_of, ReadAs, read_as, AreOf, IsSaid, SaysOf, SaysCommand, IsRead}
 use Rattle.kp_words.proofs.Calls.{no_line}
 use Rattle.kp_words.proofs.Named.{named_is, one_named}
-use Rattle.kp_line.specs.Words.{Line}
+use Rattle.kp_words_options.specs.Words.{Line}
 use Rattle.kp_words.specs.declared.verb.Verb.{Verb}
 use Rattle.kp_words.specs.declared.verb.Verb.TheVariants as verbs
 use Rattle.kp_words.specs.declared.lent.CommandRef.{CommandRef}

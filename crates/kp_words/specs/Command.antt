@@ -1,7 +1,7 @@
 -- Which words are a command, and which files a command reads and writes.
 use Rattle.std.specs.Prelude.{◌≡◌, ◌≢◌, List, [], ◌∷◌, ◌++◌, ℕ, Option, Some, None, map, codes, decimal, Vec, IsUtf8}
 use Rattle.std.specs.declared.alloc.Global.{Global}
-use Rattle.kp_line.specs.Words.{Line}
+use Rattle.kp_words_options.specs.Words.{Line}
 use Rattle.kp_words.specs.Names.{Source, of_mode, of_file, Translate, Merges, Strip, Check, Lift, Solve, Classical, Width, Bench}
 use Rattle.kp_words.specs.Options.{IsWithin, SaysLimit, SaysBudget, SaysBound, SaysMode, SaysSource, family_word}
 use Rattle.kp_words.specs.declared.lent.CommandRef.{CommandRef}

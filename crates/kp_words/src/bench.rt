@@ -1,5 +1,5 @@
 ghost use Rattle.std.specs.Prelude.{◌≡◌, length, MatchOption};
-ghost use Rattle.kp_line.specs.Texts.{places_of, values_of};
+ghost use Rattle.kp_words_options.specs.Texts.{places_of, values_of};
 ghost use Rattle.kp_words.specs.Names.{Bench as Names};
 ghost use Rattle.kp_words.specs.Command.{AreBench};
 ghost use Rattle.kp_words.specs.Verbs.{IsSaid};
@@ -9,7 +9,7 @@ use crate::lent::CommandRef;
 use crate::source::{Family, family_of, said_mode};
 use crate::values::{number_within, said_budget};
 use kp_base::Mode;
-use kp_line::Given;
+use kp_words_options::Given;
 use std::marker::Model;
 
 /// The words of `bench`.

@@ -1,5 +1,5 @@
 ghost use Rattle.std.specs.Prelude.{◌≡◌, length, MatchOption, IfOk};
-ghost use Rattle.kp_line.specs.Texts.{places_of, values_of};
+ghost use Rattle.kp_words_options.specs.Texts.{places_of, values_of};
 ghost use Rattle.kp_words.specs.Names.{Check as Names};
 ghost use Rattle.kp_words.specs.Command.{AreCheck};
 ghost use Rattle.kp_words.specs.Verbs.{IsSaid};
@@ -12,7 +12,7 @@ use crate::lent::CommandRef;
 use crate::owned::two_names;
 use crate::values::said_limit;
 use kp_base::{Memory, Text};
-use kp_line::Given;
+use kp_words_options::Given;
 use std::alloc::Global;
 use std::marker::Model;
 

@@ -1,5 +1,5 @@
 ghost use Rattle.std.specs.Prelude.{◌≡◌, length, MatchOption, IfOk};
-ghost use Rattle.kp_line.specs.Texts.{places_of, values_of};
+ghost use Rattle.kp_words_options.specs.Texts.{places_of, values_of};
 ghost use Rattle.kp_words.specs.Names.{Classical as Names};
 ghost use Rattle.kp_words.specs.Command.{AreClassical};
 ghost use Rattle.kp_words.specs.Verbs.{IsSaid};
@@ -12,7 +12,7 @@ use crate::lent::CommandRef;
 use crate::owned::two_names;
 use crate::values::said_budget;
 use kp_base::Memory;
-use kp_line::Given;
+use kp_words_options::Given;
 use std::alloc::Global;
 use std::marker::Model;
 

@@ -1,6 +1,6 @@
 ghost use Rattle.std.specs.Prelude.{◌≡◌, Err, IfOk, IfErr, MatchOption, map};
-ghost use Rattle.kp_line.specs.Texts.{texts};
-ghost use Rattle.kp_line.specs.declared.stop.WordStop.TheVariants.{Usage};
+ghost use Rattle.kp_words_options.specs.Texts.{texts};
+ghost use Rattle.kp_words_options.specs.declared.stop.WordStop.TheVariants.{Usage};
 ghost use Rattle.kp_words.specs.Command.{AreUtf8, IsCommand, IsNoCommand};
 ghost use Rattle.kp_words.specs.Owned.{command_view};
 ghost use Rattle.kp_words.specs.Verbs.{IsRead, IsNotRead};
@@ -9,7 +9,7 @@ use crate::commands::Command;
 use crate::lent::CommandRef;
 use crate::verb::verb_of;
 use kp_base::Memory;
-use kp_line::WordStop;
+use kp_words_options::WordStop;
 use std::alloc::Global;
 use std::str;
 

@@ -1,6 +1,6 @@
 ghost use Rattle.std.specs.Prelude.{◌≡◌, length, MatchOption, IfOk, IfErr};
-ghost use Rattle.kp_line.specs.Texts.{texts, places_of, values_of};
-ghost use Rattle.kp_line.specs.declared.stop.WordStop.TheVariants.{Usage};
+ghost use Rattle.kp_words_options.specs.Texts.{texts, places_of, values_of};
+ghost use Rattle.kp_words_options.specs.declared.stop.WordStop.TheVariants.{Usage};
 ghost use Rattle.kp_words.specs.Owned.{command_view};
 ghost use Rattle.kp_words.specs.Verbs.{verb_in, options_of, places_named, ReadAs, AreOf, IsSaid, SaysCommand};
 ghost use Rattle.kp_words.specs.declared.lent.CommandRef.{CommandRef as Commands};
@@ -17,7 +17,7 @@ use crate::translate::Translate;
 use crate::verb::Verb;
 use crate::width::Width;
 use kp_base::Memory;
-use kp_line::{Given, WordStop};
+use kp_words_options::{Given, WordStop};
 use std::alloc::Global;
 
 /// A command whose names are lent.

@@ -25,7 +25,7 @@ pub use check::Check;
 pub use classical::Classical;
 pub use commands::Command;
 pub use entry::command;
-pub use kp_line::WordStop;
+pub use kp_words_options::WordStop;
 pub use law::{words_are_decided, words_are_one_command};
 pub use lent::CommandRef;
 pub use lift::Lift;

@@ -1,5 +1,5 @@
 ghost use Rattle.std.specs.Prelude.{◌≡◌, length, MatchOption, IfOk};
-ghost use Rattle.kp_line.specs.Texts.{places_of, values_of};
+ghost use Rattle.kp_words_options.specs.Texts.{places_of, values_of};
 ghost use Rattle.kp_words.specs.Names.{Merges as Names};
 ghost use Rattle.kp_words.specs.Command.{AreMerges};
 ghost use Rattle.kp_words.specs.Verbs.{IsSaid};
@@ -13,7 +13,7 @@ use crate::owned::two_names;
 use crate::source::said_mode;
 use crate::values::said_limit;
 use kp_base::{Memory, Mode};
-use kp_line::Given;
+use kp_words_options::Given;
 use std::alloc::Global;
 use std::marker::Model;
 

@@ -1,5 +1,5 @@
 ghost use Rattle.std.specs.Prelude.{◌≡◌, length, MatchOption, IfOk};
-ghost use Rattle.kp_line.specs.Texts.{places_of, values_of};
+ghost use Rattle.kp_words_options.specs.Texts.{places_of, values_of};
 ghost use Rattle.kp_words.specs.Names.{Strip as Names};
 ghost use Rattle.kp_words.specs.Command.{AreStrip};
 ghost use Rattle.kp_words.specs.Verbs.{IsSaid};
@@ -10,7 +10,7 @@ ghost use Rattle.kp_words.specs.declared.lent.CommandRef.TheVariants as commands
 use crate::commands::Command;
 use crate::lent::CommandRef;
 use kp_base::{Memory, Text};
-use kp_line::Given;
+use kp_words_options::Given;
 use std::alloc::Global;
 use std::marker::Model;
 

@@ -1,10 +1,10 @@
 ghost use Rattle.std.specs.Prelude.{◌≡◌, ℕ, List, Option as Maybe, length, bytes_eq, IfOk, IfErr};
-ghost use Rattle.kp_line.specs.Words.{Line};
-ghost use Rattle.kp_line.specs.Texts.{texts, places_of, values_of};
-ghost use Rattle.kp_line.specs.declared.stop.WordStop.TheVariants.{Usage};
+ghost use Rattle.kp_words_options.specs.Words.{Line};
+ghost use Rattle.kp_words_options.specs.Texts.{texts, places_of, values_of};
+ghost use Rattle.kp_words_options.specs.declared.stop.WordStop.TheVariants.{Usage};
 ghost use Rattle.kp_words.specs.Verbs.{verb_word, verb_named, places_named, options_of};
 
-use kp_line::{Given, WordStop, line_of};
+use kp_words_options::{Given, WordStop, line_of};
 use std::alloc::Global;
 
 /// The first word of a command.

@@ -1,7 +1,7 @@
 -- A tree mapped twice is mapped by both maps at once.
 use Rattle.std.proofs.Common.{◌≡◌, List, map, refl, ap}
-use Rattle.kp_grammar.specs.Trees.{Typed, Term, Atom, Cond, Conds, Eff, Effs, Lit, Item, Items, Pred, Schema, Domain, Problem}
-use Rattle.kp_grammar.specs.TreeMaps.{typed_map, term_map, atom_map, cond_map, conds_map, eff_map, effs_map, lit_map, item_map, items_map, pred_map, schema_map, domain_map, problem_map}
+use Rattle.kp_tree_grammar.specs.Trees.{Typed, Term, Atom, Cond, Conds, Eff, Effs, Lit, Item, Items, Pred, Schema, Domain, Problem}
+use Rattle.kp_tree_grammar.specs.TreeMaps.{typed_map, term_map, atom_map, cond_map, conds_map, eff_map, effs_map, lit_map, item_map, items_map, pred_map, schema_map, domain_map, problem_map}
 use Rattle.kp_base.proofs.Lists.{map_map}
 
 module _ {U V W : Type 0} (f : U → V) (g : V → W) where

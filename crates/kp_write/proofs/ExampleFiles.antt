@@ -4,18 +4,18 @@ use Rattle.std.proofs.lemmas.Bool.{false≢true}
 use Rattle.std.specs.List.{AllByRecursion, IsDistinct}
 use Rattle.kp_lex.specs.Bytes.{class_of}
 use Rattle.kp_lex.specs.declared.token.TokenKind.TheVariants as kinds
-use Rattle.kp_grammar.specs.Symbols.{symbol_of, is_head}
-use Rattle.kp_grammar.specs.Words.{IsLow, IsHead}
+use Rattle.kp_tree_grammar.specs.Symbols.{symbol_of, is_head}
+use Rattle.kp_tree_grammar.specs.Words.{IsLow, IsHead}
 use Rattle.kp_base.specs.Lists.{Member}
-use Rattle.kp_meaning.specs.Names.{is_among}
-use Rattle.kp_meaning.specs.Plans.{IsPlan}
-use Rattle.kp_pieces.specs.Pieces.{spelling}
+use Rattle.kp_names_meaning.specs.Names.{is_among}
+use Rattle.kp_names_meaning.specs.Plans.{IsPlan}
+use Rattle.kp_law_texts.specs.Pieces.{spelling}
 use Rattle.kp_write.specs.Task.{Effect, Op}
 use Rattle.kp_write.specs.Written.{op, domain_pieces, problem_pieces, domain_text, problem_text}
 use Rattle.kp_lex.specs.Cutting.{IsToken}
 use Rattle.kp_write.specs.Problems.{IsEffectOn, IsTask, HasMeantProblem}
 use Rattle.kp_write.specs.Runs.{runs, step_of}
-use Rattle.kp_pieces.proofs.Public.{spelled_name_is_token}
+use Rattle.kp_law_texts.proofs.Public.{spelled_name_is_token}
 use Rattle.kp_write.proofs.Faultless.{written_texts_have_problem}
 use Rattle.kp_write.proofs.Runs.{plans_are_runs}
 

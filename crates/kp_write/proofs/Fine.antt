@@ -3,13 +3,13 @@ use Rattle.std.proofs.Common.{ℕ, Bool, true, false, List, [], ◌∷◌, refl}
 use Rattle.std.specs.List.{AllByRecursion}
 use Rattle.kp_lex.specs.Bytes.{class_of, follows}
 use Rattle.kp_lex.specs.Cutting.{Ends}
-use Rattle.kp_grammar.specs.Words.{IsHead}
-use Rattle.kp_pieces.specs.Pieces.{Piece, right, spelling, Put, each, spaced}
+use Rattle.kp_tree_grammar.specs.Words.{IsHead}
+use Rattle.kp_law_texts.specs.Pieces.{Piece, right, spelling, Put, each, spaced}
 use Rattle.kp_write.specs.Task.{Signed, Effect, Op}
 use Rattle.kp_write.specs.Written.{fact, fact_line, signed_case, signed, conjunction, guarded, effect_line, precondition, op, domain_pieces, problem_pieces}
-use Rattle.kp_pieces.specs.Tokens.{Fine, done, lefts, rights, blanks, says}
+use Rattle.kp_law_texts.specs.Tokens.{Fine, done, lefts, rights, blanks, says}
 use Rattle.kp_write.specs.Names.{IsSigned, IsEffect, IsOp, AreHeads, AreOps}
-use Rattle.kp_pieces.proofs.Public.{◌$◌, name_in_front_is_fine, keyword_in_front_is_fine, KeepsFine, each_keeps_fine}
+use Rattle.kp_law_texts.proofs.Public.{◌$◌, name_in_front_is_fine, keyword_in_front_is_fine, KeepsFine, each_keeps_fine}
 
 -- ---- the parts of the files
 

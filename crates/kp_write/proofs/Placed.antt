@@ -1,13 +1,13 @@
 -- The trees of a task with each word at the first byte. Whatever the places of the texts' trees, they mean the same as these.
 use Rattle.std.proofs.Common.{◌≡◌, ℕ, zero, Bool, true, false, List, refl, sym, ap, ◌∙◌}
 use Rattle.std.proofs.lemmas.Bool.{false≢true}
-use Rattle.kp_grammar.specs.declared.tree.Word.{Word}
-use Rattle.kp_grammar.specs.Trees.{Domain, Problem}
-use Rattle.kp_grammar.specs.TreeMaps.{domain_map, problem_map}
-use Rattle.kp_meaning.specs.Names.{Name, same}
+use Rattle.kp_tree_grammar.specs.declared.tree.Word.{Word}
+use Rattle.kp_tree_grammar.specs.Trees.{Domain, Problem}
+use Rattle.kp_tree_grammar.specs.TreeMaps.{domain_map, problem_map}
+use Rattle.kp_names_meaning.specs.Names.{Name, same}
 use Rattle.kp_base.proofs.Lists.{same-true, same-refl}
 use Rattle.kp_write.specs.Task.{Op}
-use Rattle.kp_pieces.specs.Tokens.{text_of}
+use Rattle.kp_law_texts.specs.Tokens.{text_of}
 use Rattle.kp_write.specs.Trees.{written_domain, written_problem}
 use Rattle.kp_write.proofs.Composed.{domain_twice, problem_twice}
 

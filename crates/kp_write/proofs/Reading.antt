@@ -2,24 +2,24 @@
 use Rattle.std.proofs.Common.{cond as if_then, append-nil, ap, subst, ◌≡◌, ℕ, Bool, true, false, List, [], ◌∷◌, map, refl}
 use Rattle.std.specs.List.{AllByRecursion, flat_map}
 use Rattle.kp_lex.specs.declared.token.TokenKind.TheVariants as kinds
-use Rattle.kp_grammar.specs.declared.symbol.Symbol.{Symbol}
-use Rattle.kp_grammar.specs.declared.symbol.Symbol.TheVariants as symbols
-use Rattle.kp_grammar.specs.Trees.{Cond, Eff, Item, Schema, Domain, Problem, Section, section_types, section_constants, section_predicates, section_schemas, Given, conds_of}
-use Rattle.kp_grammar.specs.Symbols.{Tok, symbol_of, first_is, is_left, is_head, is_name, is_precondition}
-use Rattle.kp_grammar.specs.Unsupported.{not_cond, not_goal, not_effect, not_item}
-use Rattle.kp_grammar.specs.Sorts.{Sort, El, apply, m_true, m_holds, m_makes, m_fact, m_domain}
-use Rattle.kp_grammar.specs.Forms.{hits, Form, nothing, many, make, maybe, ◌▸◌}
-use Rattle.kp_grammar.specs.Grammar.{atom_body, fact_body, test_case, cond_case, cond, goal_case, goal as goal_form, eff_case, eff, item_case, item, pred, section, domain, problem}
-use Rattle.kp_grammar.specs.Reading.{Reads, ReadsWhole, r_token, r_none, r_both, r_after, r_end, r_more, r_last, r_next, r_absent, r_present, r_make, r_choice, r_loose, r_bracket, r_within}
-use Rattle.kp_grammar.specs.Words.{IsHead}
-use Rattle.kp_grammar.proofs.Public.{name_passes}
-use Rattle.kp_pieces.specs.Pieces.{Piece, right, Put, each, line_feed, name, spaced}
+use Rattle.kp_tree_grammar.specs.declared.symbol.Symbol.{Symbol}
+use Rattle.kp_tree_grammar.specs.declared.symbol.Symbol.TheVariants as symbols
+use Rattle.kp_tree_grammar.specs.Trees.{Cond, Eff, Item, Schema, Domain, Problem, Section, section_types, section_constants, section_predicates, section_schemas, Given, conds_of}
+use Rattle.kp_tree_grammar.specs.Symbols.{Tok, symbol_of, first_is, is_left, is_head, is_name, is_precondition}
+use Rattle.kp_tree_grammar.specs.Unsupported.{not_cond, not_goal, not_effect, not_item}
+use Rattle.kp_tree_grammar.specs.Sorts.{Sort, El, apply, m_true, m_holds, m_makes, m_fact, m_domain}
+use Rattle.kp_tree_grammar.specs.Forms.{hits, Form, nothing, many, make, maybe, ◌▸◌}
+use Rattle.kp_tree_grammar.specs.Grammar.{atom_body, fact_body, test_case, cond_case, cond, goal_case, goal as goal_form, eff_case, eff, item_case, item, pred, section, domain, problem}
+use Rattle.kp_tree_grammar.specs.Reading.{Reads, ReadsWhole, r_token, r_none, r_both, r_after, r_end, r_more, r_last, r_next, r_absent, r_present, r_make, r_choice, r_loose, r_bracket, r_within}
+use Rattle.kp_tree_grammar.specs.Words.{IsHead}
+use Rattle.kp_tree_grammar.proofs.Public.{name_passes}
+use Rattle.kp_law_texts.specs.Pieces.{Piece, right, Put, each, line_feed, name, spaced}
 use Rattle.kp_write.specs.Task.{Signed, Op}
 use Rattle.kp_write.specs.Written.{fact, fact_line, signed_case, signed, conjunction, guarded, effect_line, precondition, op, domain_pieces, problem_pieces}
-use Rattle.kp_pieces.specs.Tokens.{words}
+use Rattle.kp_law_texts.specs.Tokens.{words}
 use Rattle.kp_write.specs.Names.{IsSigned, IsEffect, IsOp, AreHeads, AreOps}
 use Rattle.kp_write.specs.Trees.{atom_of, fact_holds, signed_holds, all_facts, made_where, effect_of, schema_of, predicate_of, item_of, written_domain, written_problem}
-use Rattle.kp_pieces.proofs.Public.{◌$◌, PiecesGive, many_pieces_read}
+use Rattle.kp_law_texts.proofs.Public.{◌$◌, PiecesGive, many_pieces_read}
 
 -- the form that a test picks, where it passes
 picked : {b : Bool} {c : Sort} (v : Bool) (X Y : Form b c) {ts rest : List (Tok (List ℕ))} {x : El (List ℕ) c} → v ≡ true → Reads X ts x rest → Reads (if_then v X Y) ts x rest

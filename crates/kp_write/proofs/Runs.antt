@@ -4,19 +4,19 @@ use Rattle.std.proofs.lemmas.Bool.{false≢true, and_parts}
 use Rattle.std.proofs.Math.Bool.{and-true, or-false}
 use Rattle.std.proofs.lemmas.List.{map-append}
 use Rattle.std.specs.List.{AllByRecursion, IsDistinct, list_any, list_all, flat_map}
-use Rattle.kp_grammar.specs.declared.tree.Word.{Word}
-use Rattle.kp_grammar.specs.Trees.{Schema, Domain, Problem, conds_of, effs_of}
-use Rattle.kp_grammar.specs.TreeMaps.{conds_map, eff_map, effs_map, item_map, schema_map, domain_map, problem_map}
+use Rattle.kp_tree_grammar.specs.declared.tree.Word.{Word}
+use Rattle.kp_tree_grammar.specs.Trees.{Schema, Domain, Problem, conds_of, effs_of}
+use Rattle.kp_tree_grammar.specs.TreeMaps.{conds_map, eff_map, effs_map, item_map, schema_map, domain_map, problem_map}
 use Rattle.kp_base.specs.Lists.{only_if, Member}
 use Rattle.kp_base.proofs.Parts.{find_map}
 use Rattle.kp_base.proofs.Each.{each_from, each_member}
 use Rattle.kp_base.proofs.Lists.{any_from, any_member, same-true, same-refl}
-use Rattle.kp_meaning.specs.Names.{Name, same, all_same, is_among}
-use Rattle.kp_meaning.specs.States.{State, Binding, unbound, Literal, names_literal, all_hold}
-use Rattle.kp_meaning.specs.Steps.{Step, fires, all_fire, fits, is_instance, permits, applicable, state_by, next, after, schema_of as schema_of_step}
-use Rattle.kp_meaning.specs.Initial.{item_holds, item_literals, is_of, is_named, IsInitial}
-use Rattle.kp_meaning.specs.Plans.{succeeds, Solves}
-use Rattle.kp_meaning.proofs.Public.{places_mean_nothing, solves_theirs}
+use Rattle.kp_names_meaning.specs.Names.{Name, same, all_same, is_among}
+use Rattle.kp_names_meaning.specs.States.{State, Binding, unbound, Literal, names_literal, all_hold}
+use Rattle.kp_names_meaning.specs.Steps.{Step, fires, all_fire, fits, is_instance, permits, applicable, state_by, next, after, schema_of as schema_of_step}
+use Rattle.kp_names_meaning.specs.Initial.{item_holds, item_literals, is_of, is_named, IsInitial}
+use Rattle.kp_names_meaning.specs.Plans.{succeeds, Solves}
+use Rattle.kp_names_meaning.proofs.Public.{places_mean_nothing, solves_theirs}
 use Rattle.kp_write.specs.Task.{Signed, Effect, Op}
 use Rattle.kp_write.specs.Written.{domain_text, problem_text}
 use Rattle.kp_write.specs.Trees.{fact_holds, signed_holds, made_where, effect_of, schema_of, item_of, written_domain, written_problem}

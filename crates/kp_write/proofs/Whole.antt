@@ -1,17 +1,17 @@
 -- The written texts read as their trees, with the places of the words.
 use Rattle.std.proofs.Common.{ℕ, Bool, List, sym, subst}
-use Rattle.kp_grammar.specs.Symbols.{Tok, all_seen_in}
-use Rattle.kp_grammar.specs.Sorts.{Sort, El}
-use Rattle.kp_grammar.specs.Forms.{Form}
-use Rattle.kp_grammar.specs.Grammar as grammar
-use Rattle.kp_grammar.specs.Reading.{ReadsWhole}
-use Rattle.kp_pieces.specs.Pieces.{Piece, spelling}
+use Rattle.kp_tree_grammar.specs.Symbols.{Tok, all_seen_in}
+use Rattle.kp_tree_grammar.specs.Sorts.{Sort, El}
+use Rattle.kp_tree_grammar.specs.Forms.{Form}
+use Rattle.kp_tree_grammar.specs.Grammar as grammar
+use Rattle.kp_tree_grammar.specs.Reading.{ReadsWhole}
+use Rattle.kp_law_texts.specs.Pieces.{Piece, spelling}
 use Rattle.kp_write.specs.Written.{domain_pieces, problem_pieces}
-use Rattle.kp_pieces.specs.Tokens.{spans, words, Fine}
-use Rattle.kp_pieces.specs.Maps.{ReadsWithPlaces}
+use Rattle.kp_law_texts.specs.Tokens.{spans, words, Fine}
+use Rattle.kp_law_texts.specs.Maps.{ReadsWithPlaces}
 use Rattle.kp_write.specs.Texts.{DomainReadsAsMeant, ProblemReadsAsMeant}
 use Rattle.kp_write.specs.Trees.{written_domain, written_problem}
-use Rattle.kp_pieces.proofs.Public.{pieces_are_cut, reading_goes_by_symbols}
+use Rattle.kp_law_texts.proofs.Public.{pieces_are_cut, reading_goes_by_symbols}
 use Rattle.kp_write.proofs.Fine.{fine_domain, fine_problem}
 use Rattle.kp_write.proofs.Reading.{domain_reads, problem_reads}
 

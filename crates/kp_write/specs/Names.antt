@@ -1,7 +1,7 @@
 -- Which facts and operators have names that can be written.
 use Rattle.std.specs.Prelude.{ℕ, List}
 use Rattle.std.specs.List.{AllByRecursion}
-use Rattle.kp_grammar.specs.Words.{IsName, IsHead}
+use Rattle.kp_tree_grammar.specs.Words.{IsName, IsHead}
 use Rattle.kp_write.specs.Task.{Signed, Effect, Op}
 
 -- a fact that can be written

@@ -1,13 +1,13 @@
 -- What the written texts read as.
 use Rattle.std.specs.Prelude.{◌≡◌, ℕ, List}
-use Rattle.kp_grammar.specs.declared.tree.Word.{Word}
-use Rattle.kp_grammar.specs.Trees.{Domain, Problem}
-use Rattle.kp_grammar.specs.Grammar as grammar
-use Rattle.kp_grammar.specs.Texts.{ReadsAs}
-use Rattle.kp_grammar.specs.TreeMaps.{domain_map, problem_map}
+use Rattle.kp_tree_grammar.specs.declared.tree.Word.{Word}
+use Rattle.kp_tree_grammar.specs.Trees.{Domain, Problem}
+use Rattle.kp_tree_grammar.specs.Grammar as grammar
+use Rattle.kp_tree_grammar.specs.Texts.{ReadsAs}
+use Rattle.kp_tree_grammar.specs.TreeMaps.{domain_map, problem_map}
 use Rattle.kp_write.specs.Task.{Op}
 use Rattle.kp_write.specs.Written.{domain_text, problem_text}
-use Rattle.kp_pieces.specs.Tokens.{text_of}
+use Rattle.kp_law_texts.specs.Tokens.{text_of}
 use Rattle.kp_write.specs.Names.{AreHeads, AreOps}
 use Rattle.kp_write.specs.Trees.{written_domain, written_problem}
 

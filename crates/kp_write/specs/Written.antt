@@ -1,6 +1,6 @@
 -- The two files of a task.
 use Rattle.std.specs.Prelude.{ℕ, List, [], ◌∷◌, Bool, true, false, codes}
-use Rattle.kp_pieces.specs.Pieces.{Piece, spelling, Put, ◌⨾◌, each, opens, closes, space, line_feed, name, key, spaced}
+use Rattle.kp_law_texts.specs.Pieces.{Piece, spelling, Put, ◌⨾◌, each, opens, closes, space, line_feed, name, key, spaced}
 use Rattle.kp_write.specs.Task.{Signed, Effect, Op}
 
 -- (NAME)

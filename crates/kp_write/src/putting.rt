@@ -1,11 +1,11 @@
 ghost use Rattle.std.specs.Prelude.{◌≡◌, ◌∷◌, [], ◌++◌, ◌&&◌, ◌==◌, false, length, map, OnOk};
-ghost use Rattle.kp_pieces.specs.Pieces.{each, Puts, spaced};
+ghost use Rattle.kp_law_texts.specs.Pieces.{each, Puts, spaced};
 ghost use Rattle.kp_write.specs.Written.{fact, fact_line, signed, guarded, when_put, effect_line, precondition, op_front, op_end, op};
 ghost use Rattle.kp_write.specs.Named.{fact_name, signed_fact, named_conds, named_effect, named_op};
 
 use kp_base::{Memory, Text};
 use kp_classic::{Conds, Op, OpEffect};
-use kp_spelling::put;
+use kp_plans_spelling::put;
 
 fn put_byte(out: &mut Vec<u8>, byte: u8) -> Result<(), Memory>
     ensures { OnOk result (out.new.items ≡ out.old.items ++ byte ∷ []) }

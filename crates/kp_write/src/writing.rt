@@ -1,12 +1,12 @@
 ghost use Rattle.std.specs.Prelude.{◌≡◌, IfOk, OnOk};
-ghost use Rattle.kp_pieces.specs.Pieces.{Puts};
+ghost use Rattle.kp_law_texts.specs.Pieces.{Puts};
 ghost use Rattle.kp_write.specs.Named.{domain_of, problem_of};
 ghost use Rattle.kp_write.specs.Written.{domain_front, domain_end};
 
 use crate::putting::{put_lines, put_names, put_operators};
 use kp_base::{Memory, Row, Text};
 use kp_classic::Task;
-use kp_spelling::put;
+use kp_plans_spelling::put;
 use std::alloc::Global;
 
 /// Adds the domain file as far as its operators: a predicate for each fact.

@@ -3,7 +3,7 @@
 
 ghost use Rattle.std.specs.Prelude.{◌≡◌};
 ghost use Rattle.std.specs.Process.{exit_status};
-ghost use Rattle.kp_outcome.specs.Numbers.{number_of};
+ghost use Rattle.kp_run_outcome.specs.Numbers.{number_of};
 
 use kp_outside::{FileShelf, OutSink};
 use kp_run::{Status, run};

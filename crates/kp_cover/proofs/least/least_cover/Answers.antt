@@ -1,5 +1,5 @@
 use Rattle.std.proofs.Common.{ℕ, subst}
-use Rattle.kp_sets.specs.Sizes.{AnswersLeast}
+use Rattle.kp_cover_subsets.specs.Sizes.{AnswersLeast}
 use Rattle.kp_cover.specs.Tested.{tells_cover}
 use Rattle.kp_cover.proofs.Larger.{further}
 use Rattle.kp_cover.proofs.least.least_cover.Goals as goal

@@ -1,6 +1,6 @@
 use Rattle.std.proofs.Common.{subst}
 use Rattle.kp_base.specs.Lists.{Member}
-use Rattle.kp_kept.specs.Counts.{kept_view}
+use Rattle.kp_ground_instances.specs.Counts.{kept_view}
 use Rattle.kp_ground.proofs.Kept.{member_there}
 use Rattle.kp_ground.proofs.actions.all_actions.Goals as goal
 

@@ -1,5 +1,5 @@
 use Rattle.std.proofs.Common.{◌≡◌, ◌++◌, drop, map}
-use Rattle.kp_kept.specs.Counts.{kept_view}
+use Rattle.kp_ground_instances.specs.Counts.{kept_view}
 use Rattle.kp_names.specs.View.{lifted_view}
 use Rattle.kp_ground.specs.Passes.{action_at}
 use Rattle.kp_ground.proofs.actions.all_actions.Given as goal

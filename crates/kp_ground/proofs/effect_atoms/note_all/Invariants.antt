@@ -1,6 +1,6 @@
 use Rattle.std.proofs.Common.{◌≡◌, map, drop}
 use Rattle.kp_ground.specs.Gathered.{gather}
-use Rattle.kp_bound.specs.Literals.{lit_view}
+use Rattle.kp_ground_flatten.specs.Literals.{lit_view}
 use Rattle.kp_ground.proofs.effect_atoms.note_all.Given as goal
 
 -- with the literals that are left come all

@@ -2,7 +2,7 @@ use Rattle.std.proofs.Common.{length, map, drop, sym, ◌∙◌, ◌<◌, arith}
 use Rattle.std.specs.List.{flat_map}
 use Rattle.std.proofs.lemmas.Bool.{lt-ltb}
 use Rattle.kp_ground.proofs.Gathers.{gathers_no_more_over_limit}
-use Rattle.kp_kept.specs.Counts.{kept_view}
+use Rattle.kp_ground_instances.specs.Counts.{kept_view}
 use Rattle.kp_names.specs.View.{lifted_view}
 use Rattle.kp_ground.specs.Passes.{literals_at}
 use Rattle.kp_ground.proofs.LoopSteps.{known_there}

@@ -1,7 +1,7 @@
 use Rattle.std.proofs.Common.{◌≡◌, drop, map}
 use Rattle.std.specs.List.{flat_map}
 use Rattle.kp_ground.specs.Gathered.{gather}
-use Rattle.kp_kept.specs.Counts.{kept_view}
+use Rattle.kp_ground_instances.specs.Counts.{kept_view}
 use Rattle.kp_names.specs.View.{lifted_view}
 use Rattle.kp_ground.specs.Passes.{literals_at}
 use Rattle.kp_ground.proofs.occurring.add_kept.Given as goal

@@ -1,6 +1,6 @@
 use Rattle.std.proofs.Common.{refl}
 use Rattle.std.specs.List.{flat_map}
-use Rattle.kp_task.specs.Task.{effects_under, effects_from}
+use Rattle.kp_law_ktask.specs.Task.{effects_under, effects_from}
 use Rattle.kp_ktask.proofs.Rows.{effects_left}
 use Rattle.kp_ktask.proofs.effects.all_effects.Goals as goal
 

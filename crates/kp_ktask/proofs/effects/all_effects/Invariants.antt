@@ -1,5 +1,5 @@
 use Rattle.std.proofs.Common.{◌≡◌, ◌++◌, ◌-◌}
-use Rattle.kp_task.specs.Task.{effects_from}
+use Rattle.kp_law_ktask.specs.Task.{effects_from}
 use Rattle.kp_ktask.proofs.effects.all_effects.Given as goal
 
 -- with the tags that are left come all

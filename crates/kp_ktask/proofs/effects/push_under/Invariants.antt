@@ -1,6 +1,6 @@
 use Rattle.std.proofs.Common.{◌≡◌, ◌++◌, drop}
 use Rattle.std.specs.List.{flat_map}
-use Rattle.kp_task.specs.Task.{effects_under}
+use Rattle.kp_law_ktask.specs.Task.{effects_under}
 use Rattle.kp_ktask.proofs.effects.push_under.Given as goal
 
 -- with the effects that are left come all

@@ -1,5 +1,5 @@
 use Rattle.std.proofs.Common.{◌≡◌, ◌++◌, ◌-◌, map, length}
-use Rattle.kp_task.specs.Task.{name_of, lits_from, facts_from}
+use Rattle.kp_law_ktask.specs.Task.{name_of, lits_from, facts_from}
 use Rattle.kp_ktask.proofs.facts.fact_names.Given as goal
 
 -- with the tags that are left come all

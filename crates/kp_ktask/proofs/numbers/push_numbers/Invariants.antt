@@ -1,5 +1,5 @@
 use Rattle.std.proofs.Common.{◌≡◌, ◌++◌, drop}
-use Rattle.kp_task.specs.Task.{numbers}
+use Rattle.kp_law_ktask.specs.Task.{numbers}
 use Rattle.kp_ktask.proofs.numbers.push_numbers.Given as goal
 
 -- with the literals that are left come all

@@ -1,5 +1,5 @@
 use Rattle.std.proofs.Common.{◌≡◌, ◌++◌, drop}
-use Rattle.kp_task.specs.Task.{merge_ops_from}
+use Rattle.kp_law_ktask.specs.Task.{merge_ops_from}
 use Rattle.kp_ktask.proofs.operators.push_merges.Given as goal
 
 -- with the merges that are left come all

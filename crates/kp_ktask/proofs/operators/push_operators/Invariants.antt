@@ -1,5 +1,5 @@
 use Rattle.std.proofs.Common.{◌≡◌, ◌++◌, drop, map}
-use Rattle.kp_task.specs.Task.{op_of}
+use Rattle.kp_law_ktask.specs.Task.{op_of}
 use Rattle.kp_ktask.proofs.operators.push_operators.Given as goal
 
 -- with the actions that are left come all

@@ -1,5 +1,5 @@
 use Rattle.std.proofs.Common.{◌≡◌, ◌++◌, drop, map}
-use Rattle.kp_task.specs.Task.{number}
+use Rattle.kp_law_ktask.specs.Task.{number}
 use Rattle.kp_ktask.proofs.operators.under_tags.Given as goal
 
 -- with the tags that are left come all

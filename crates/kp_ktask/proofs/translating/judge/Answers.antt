@@ -1,7 +1,7 @@
 use Rattle.std.proofs.Common.{◌<◌, ◌≤◌, length, arith}
-use Rattle.kp_task.specs.Task.{task_of}
-use Rattle.kp_task.specs.Weight.{weight_of}
-use Rattle.kp_task.proofs.Public.{facts_are_counted, weight_is_counted}
+use Rattle.kp_law_ktask.specs.Task.{task_of}
+use Rattle.kp_law_ktask.specs.Weight.{weight_of}
+use Rattle.kp_law_ktask.proofs.Public.{facts_are_counted, weight_is_counted}
 use Rattle.kp_ktask.specs.Translated.{facts_over, weight_over}
 use Rattle.kp_ktask.proofs.translating.judge.Goals as goal
 

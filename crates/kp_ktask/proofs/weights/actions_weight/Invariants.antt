@@ -1,5 +1,5 @@
 use Rattle.std.proofs.Common.{◌≡◌, ◌-◌, ◌^◌, min, take, sum_by}
-use Rattle.kp_task.specs.Weight.{action_weight}
+use Rattle.kp_law_ktask.specs.Weight.{action_weight}
 use Rattle.kp_ktask.proofs.weights.actions_weight.Given as goal
 
 -- the sum so far

@@ -1,5 +1,5 @@
 use Rattle.std.proofs.Common.{◌+◌, ◌*◌, length, ap, sym, ◌∙◌}
-use Rattle.kp_task.proofs.Public.{both_effects_weigh_alike}
+use Rattle.kp_law_ktask.proofs.Public.{both_effects_weigh_alike}
 use Rattle.kp_ktask.proofs.weights.both_weight.Goals as goal
 
 pub returns : goal.returns

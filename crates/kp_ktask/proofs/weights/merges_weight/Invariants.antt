@@ -1,5 +1,5 @@
 use Rattle.std.proofs.Common.{◌≡◌, ◌-◌, ◌^◌, min, take, sum_by}
-use Rattle.kp_task.specs.Weight.{merge_weight}
+use Rattle.kp_law_ktask.specs.Weight.{merge_weight}
 use Rattle.kp_ktask.proofs.weights.merges_weight.Given as goal
 
 -- the sum so far

@@ -1,8 +1,8 @@
 use Rattle.std.proofs.Common.{◌≡◌, drop, map}
-use Rattle.kp_grammar.specs.Trees.{conds_of}
-use Rattle.kp_grammar.specs.View.{cond_view}
-use Rattle.kp_meaning.specs.Faults.{cond_faults, conds_faults}
-use Rattle.kp_tables.specs.Collected.{domain_of, problem_of}
+use Rattle.kp_tree_grammar.specs.Trees.{conds_of}
+use Rattle.kp_tree_grammar.specs.View.{cond_view}
+use Rattle.kp_names_meaning.specs.Faults.{cond_faults, conds_faults}
+use Rattle.kp_names_declared.specs.Collected.{domain_of, problem_of}
 use Rattle.kp_names.specs.Noted.{noted}
 use Rattle.kp_names.proofs.faults.+note_cond.Given as goal
 

@@ -1,6 +1,6 @@
 use Rattle.std.proofs.Common.{Err}
-use Rattle.kp_grammar.specs.View.{domain_view, problem_view}
-use Rattle.kp_tables.specs.Collected.{domain_of, problem_of}
+use Rattle.kp_tree_grammar.specs.View.{domain_view, problem_view}
+use Rattle.kp_names_declared.specs.Collected.{domain_of, problem_of}
 use Rattle.kp_names.specs.Noted.{JudgesBoth}
 use Rattle.kp_names.proofs.FirstFault.{refused, answered}
 use Rattle.kp_names.proofs.resolving.resolve.Goals as goal

@@ -1,12 +1,12 @@
 use Rattle.std.proofs.Common.{◌≡◌, ◌∙◌, map, sym, ap, ap₂}
-use Rattle.kp_grammar.specs.declared.tree.Word.{Word}
-use Rattle.kp_grammar.specs.declared.tree.EffTree.TheOpen.{EffTree-F}
-use Rattle.kp_grammar.specs.declared.tree.EffTree.TheFolds.{fold-roll-EffTree}
-use Rattle.kp_grammar.specs.declared.tree.EffTree.TheVariants as effs
-use Rattle.kp_grammar.specs.View.{typed_view, eff_step, eff_view}
-use Rattle.kp_grammar.specs.Trees.{Eff}
-use Rattle.kp_meaning.specs.Faults.{eff_faults}
-use Rattle.kp_tables.specs.Collected.{domain_of, problem_of}
+use Rattle.kp_tree_grammar.specs.declared.tree.Word.{Word}
+use Rattle.kp_tree_grammar.specs.declared.tree.EffTree.TheOpen.{EffTree-F}
+use Rattle.kp_tree_grammar.specs.declared.tree.EffTree.TheFolds.{fold-roll-EffTree}
+use Rattle.kp_tree_grammar.specs.declared.tree.EffTree.TheVariants as effs
+use Rattle.kp_tree_grammar.specs.View.{typed_view, eff_step, eff_view}
+use Rattle.kp_tree_grammar.specs.Trees.{Eff}
+use Rattle.kp_names_meaning.specs.Faults.{eff_faults}
+use Rattle.kp_names_declared.specs.Collected.{domain_of, problem_of}
 use Rattle.kp_names.specs.Noted.{noted}
 use Rattle.kp_names.proofs.Scopes.{noted_each}
 use Rattle.kp_names.proofs.schema_faults.+note_effect.Goals as goal

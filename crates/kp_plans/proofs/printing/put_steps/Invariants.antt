@@ -1,5 +1,5 @@
 use Rattle.std.proofs.Common.{drop}
-use Rattle.kp_pieces.proofs.Public.{LeavesToPut}
+use Rattle.kp_law_texts.proofs.Public.{LeavesToPut}
 use Rattle.kp_plans.specs.Printed.{step_line}
 use Rattle.kp_plans.proofs.printing.put_steps.Given as goal
 

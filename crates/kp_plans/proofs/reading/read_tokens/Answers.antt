@@ -1,6 +1,6 @@
 use Rattle.std.proofs.Common.{◌≡◌, map}
 use Rattle.kp_lex.proofs.Public.{spans_in_order}
-use Rattle.kp_cursor.specs.Lexemes.{lexed}
+use Rattle.kp_tree_cursor.specs.Lexemes.{lexed}
 use Rattle.kp_plans.proofs.WholePlans.{tokens_ascend, of_tokens}
 use Rattle.kp_plans.proofs.reading.read_tokens.Goals as goal
 

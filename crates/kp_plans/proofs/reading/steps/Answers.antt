@@ -2,7 +2,7 @@ use Rattle.std.proofs.Common.{◌≡◌, ◌≤◌, ◌+◌, length, sym, subst,
 use Rattle.std.proofs.lemmas.Result.{err_from_is_err_and}
 use Rattle.kp_lex.specs.Places.{place_of}
 use Rattle.kp_base.specs.declared.refused.Part.TheVariants as parts
-use Rattle.kp_cursor.specs.Lexemes.{from}
+use Rattle.kp_tree_cursor.specs.Lexemes.{from}
 use Rattle.kp_plans.specs.Steps.{Ascends}
 use Rattle.kp_plans.proofs.StepsRead.{head_stands, first_byte, made_of, one_more, fails, all_read, more_left}
 use Rattle.kp_plans.proofs.reading.steps.Goals as goal

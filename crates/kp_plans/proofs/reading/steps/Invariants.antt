@@ -1,7 +1,7 @@
 use Rattle.std.proofs.Common.{◌≡◌, ◌≤◌, ◌-◌, length}
 use Rattle.kp_base.specs.declared.refused.Part.TheVariants as parts
 use Rattle.kp_lex.specs.Places.{place_of}
-use Rattle.kp_cursor.specs.Lexemes.{from}
+use Rattle.kp_tree_cursor.specs.Lexemes.{from}
 use Rattle.kp_plans.specs.Steps.{Ascends, StepsSoFar}
 use Rattle.kp_plans.proofs.reading.steps.Given as goal
 

@@ -1,5 +1,5 @@
 use Rattle.std.proofs.Common.{◌≡◌, rules}
-use Rattle.kp_cursor.specs.Lexemes.{tok}
+use Rattle.kp_tree_cursor.specs.Lexemes.{tok}
 use Rattle.kp_plans.proofs.WordsNamed.{named}
 use Rattle.kp_plans.proofs.words.name_of.Goals as goal
 

@@ -1,6 +1,6 @@
 use Rattle.std.proofs.Common.{◌≡◌, [], rules}
-use Rattle.kp_cursor.specs.Lexemes.{word_of}
-use Rattle.kp_cursor.proofs.Public.{seen_one_more, seen_all}
+use Rattle.kp_tree_cursor.specs.Lexemes.{word_of}
+use Rattle.kp_tree_cursor.proofs.Public.{seen_one_more, seen_all}
 use Rattle.kp_plans.proofs.words.texts.Goals as goal
 
 pub each-preserved : goal.each-preserved

@@ -1,5 +1,5 @@
 use Rattle.std.proofs.Common.{◌≡◌, ◌-◌, length, map, take}
-use Rattle.kp_cursor.specs.Lexemes.{word_of}
+use Rattle.kp_tree_cursor.specs.Lexemes.{word_of}
 use Rattle.kp_plans.proofs.words.texts.Given as goal
 
 abbrev pub invariant-each : goal.invariant-each

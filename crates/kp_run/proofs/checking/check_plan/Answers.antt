@@ -1,7 +1,7 @@
 use Rattle.std.proofs.Common.{subst}
 use Rattle.kp_primes.specs.Held.{formula}
-use Rattle.kp_inputs.specs.Actions.{AnswersActions}
-use Rattle.kp_inputs.proofs.Public.{plan_goes, plan_ends}
+use Rattle.kp_run_inputs.specs.Actions.{AnswersActions}
+use Rattle.kp_run_inputs.proofs.Public.{plan_goes, plan_ends}
 use Rattle.kp_run.specs.Outcomes.{TellsJudged}
 use Rattle.kp_run.proofs.Checks.{judged_alike}
 use Rattle.kp_run.proofs.checking.check_plan.Goals as goal

@@ -1,5 +1,5 @@
 use Rattle.std.proofs.Common.{Err, refl, ap}
-use Rattle.kp_outcome.proofs.Public.{carried_out_from_earlier}
+use Rattle.kp_run_outcome.proofs.Public.{carried_out_from_earlier}
 use Rattle.kp_run.specs.Ends.{came}
 use Rattle.kp_run.proofs.Answered.{outcomes_are_answers}
 use Rattle.kp_run.proofs.Soundness.{sound_end}

@@ -1,5 +1,5 @@
 use Rattle.std.proofs.Common.{[], ◌∷◌}
-use Rattle.kp_outcome.proofs.Public.{as_many_read_as_named}
+use Rattle.kp_run_outcome.proofs.Public.{as_many_read_as_named}
 use Rattle.kp_run.proofs.Files.{both_within, two_measured}
 use Rattle.kp_run.proofs.entry.width_gots.Goals as goal
 

@@ -1,6 +1,6 @@
 use Rattle.std.proofs.Common.{subst}
-use Rattle.kp_inputs.specs.Actions.{AnswersActions}
-use Rattle.kp_inputs.proofs.Public.{plan_goes, plan_ends}
+use Rattle.kp_run_inputs.specs.Actions.{AnswersActions}
+use Rattle.kp_run_inputs.proofs.Public.{plan_goes, plan_ends}
 use Rattle.kp_run.specs.Outcomes.{LiftsActions}
 use Rattle.kp_run.proofs.lifting.lift_plan.Goals as goal
 

@@ -1,5 +1,5 @@
 use Rattle.std.proofs.Common.{subst}
-use Rattle.kp_task.specs.Task.{task_of}
+use Rattle.kp_law_ktask.specs.Task.{task_of}
 use Rattle.kp_ktask.specs.Translated.{FitsLimits, RefusesTask, StopsTask}
 use Rattle.kp_run.proofs.Lifts.{task_fits, task_refused}
 use Rattle.kp_run.proofs.lifting.lift_with.Goals as goal

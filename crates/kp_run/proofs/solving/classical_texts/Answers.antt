@@ -1,7 +1,7 @@
 use Rattle.std.proofs.Common.{◌≡◌, length, subst, IfOk}
 use Rattle.kp_words.specs.Names.{Classical}
-use Rattle.kp_classical.specs.Classical.{AnswersClassical}
-use Rattle.kp_solving.specs.Solving.{SolvesClassical}
+use Rattle.kp_run_classical.specs.Classical.{AnswersClassical}
+use Rattle.kp_run_solve.specs.Solving.{SolvesClassical}
 use Rattle.kp_run.proofs.Searches.{classical_goes, classical_ends}
 use Rattle.kp_run.proofs.solving.classical_texts.Goals as goal
 

@@ -1,10 +1,10 @@
 use Rattle.std.proofs.Common.{refl, subst, IfOk}
 use Rattle.kp_primes.specs.Held.{formula}
-use Rattle.kp_inputs.specs.Tables.{AnswersTable}
-use Rattle.kp_inputs.proofs.Public.{tables_are_right, table_goes, table_ends}
+use Rattle.kp_run_inputs.specs.Tables.{AnswersTable}
+use Rattle.kp_run_inputs.proofs.Public.{tables_are_right, table_goes, table_ends}
 use Rattle.kp_words.specs.Names.{Solve}
-use Rattle.kp_solving.specs.Solving.{SolvesGround}
-use Rattle.kp_solving.proofs.Public.{ground_is_solved_by_models}
+use Rattle.kp_run_solve.specs.Solving.{SolvesGround}
+use Rattle.kp_run_solve.proofs.Public.{ground_is_solved_by_models}
 use Rattle.kp_run.proofs.solving.solve_by.Goals as goal
 
 pub solve_table-requires-clause-table : goal.solve_table-requires-clause-table

@@ -1,5 +1,5 @@
 use Rattle.std.proofs.Common.{[], ◌∷◌}
-use Rattle.kp_outcome.proofs.Public.{as_many_read_as_named}
+use Rattle.kp_run_outcome.proofs.Public.{as_many_read_as_named}
 use Rattle.kp_run.proofs.Files.{mode_sourced}
 use Rattle.kp_run.proofs.sourced.with_mode.Goals as goal
 

@@ -1,8 +1,8 @@
 use Rattle.std.proofs.Common.{◌∙◌, ℕ, List, Err, refl, subst}
 use Rattle.kp_base.specs.declared.refused.Stop.TheVariants as causes
 use Rattle.kp_plans.specs.PlanFiles.{IsPlanOf, AnswersPlan}
-use Rattle.kp_prepared.proofs.Public.{whole_content_is_read}
-use Rattle.kp_inputs.proofs.Public.{read_over_length, read_within_length}
+use Rattle.kp_run_prepare.proofs.Public.{whole_content_is_read}
+use Rattle.kp_run_inputs.proofs.Public.{read_over_length, read_within_length}
 use Rattle.kp_run.proofs.Strips.{refused_length, refused_plan}
 use Rattle.kp_run.proofs.stripping.strip_text.Goals as goal
 

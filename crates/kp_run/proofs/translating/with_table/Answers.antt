@@ -1,6 +1,6 @@
 use Rattle.std.proofs.Common.{subst}
 use Rattle.kp_primes.specs.Held.{formula}
-use Rattle.kp_task.specs.Task.{task_of}
+use Rattle.kp_law_ktask.specs.Task.{task_of}
 use Rattle.kp_ktask.specs.Translated.{FitsLimits, RefusesTask, StopsTask}
 use Rattle.kp_run.proofs.Translations.{task_refused, task_done}
 use Rattle.kp_run.proofs.translating.with_table.Goals as goal

@@ -1,8 +1,8 @@
 use Rattle.std.proofs.lemmas.Result.{err_from_is_err_and}
 use Rattle.kp_base.specs.declared.refused.Part.TheVariants as parts
-use Rattle.kp_grammar.specs.Grammar.{domain}
-use Rattle.kp_grammar.specs.View.{domain_view}
-use Rattle.kp_nodes.specs.Nodes as nodes
+use Rattle.kp_tree_grammar.specs.Grammar.{domain}
+use Rattle.kp_tree_grammar.specs.View.{domain_view}
+use Rattle.kp_tree_arena.specs.Nodes as nodes
 use Rattle.kp_tree.proofs.WholeFiles.{uncut}
 use Rattle.kp_tree.proofs.Begun.{file_refused, file_read}
 use Rattle.kp_tree.proofs.file.read_domain.Goals as goal

@@ -1,8 +1,8 @@
 use Rattle.std.proofs.lemmas.Result.{err_from_is_err_and}
 use Rattle.kp_base.specs.declared.refused.Part.TheVariants as parts
-use Rattle.kp_grammar.specs.Grammar.{problem}
-use Rattle.kp_grammar.specs.View.{problem_view}
-use Rattle.kp_nodes.specs.Nodes as nodes
+use Rattle.kp_tree_grammar.specs.Grammar.{problem}
+use Rattle.kp_tree_grammar.specs.View.{problem_view}
+use Rattle.kp_tree_arena.specs.Nodes as nodes
 use Rattle.kp_tree.proofs.WholeFiles.{uncut}
 use Rattle.kp_tree.proofs.Begun.{file_refused, file_read}
 use Rattle.kp_tree.proofs.file.read_problem.Goals as goal

@@ -1,8 +1,8 @@
 use Rattle.std.proofs.Common.{◌≡◌}
 use Rattle.kp_base.specs.declared.refused.Part.TheVariants as parts
-use Rattle.kp_grammar.specs.Grammar.{problem}
-use Rattle.kp_grammar.specs.Symbols.{all_seen_in}
-use Rattle.kp_nodes.specs.Nodes.{problem_view}
+use Rattle.kp_tree_grammar.specs.Grammar.{problem}
+use Rattle.kp_tree_grammar.specs.Symbols.{all_seen_in}
+use Rattle.kp_tree_arena.specs.Nodes.{problem_view}
 use Rattle.kp_tree.proofs.Told.{read_ok, read_err}
 use Rattle.kp_tree.proofs.parse.parse_problem.Goals as goal
 

@@ -1,5 +1,5 @@
 use Rattle.std.proofs.Common.{◌≡◌, ◌∙◌, map, ap, subst, sym}
-use Rattle.kp_line.specs.Texts.{texts}
+use Rattle.kp_words_options.specs.Texts.{texts}
 use Rattle.kp_words.specs.Command.{AreUtf8, IsCommand}
 use Rattle.kp_words.specs.Verbs.{IsRead}
 use Rattle.kp_words.proofs.Calls.{err_is, when_some}

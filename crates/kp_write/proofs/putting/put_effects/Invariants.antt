@@ -1,6 +1,6 @@
 use Rattle.std.proofs.Common.{drop, map}
 use Rattle.kp_write.specs.Written.{effect_line}
-use Rattle.kp_pieces.proofs.Public.{LeavesToPut}
+use Rattle.kp_law_texts.proofs.Public.{LeavesToPut}
 use Rattle.kp_write.specs.Named.{named_effect}
 use Rattle.kp_write.proofs.putting.put_effects.Given as goal
 

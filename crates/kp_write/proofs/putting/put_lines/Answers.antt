@@ -1,6 +1,6 @@
 use Rattle.kp_write.specs.Written.{fact, fact_line}
 use Rattle.kp_base.proofs.Places.{next_mapped}
-use Rattle.kp_pieces.proofs.Public.{one_more_put}
+use Rattle.kp_law_texts.proofs.Public.{one_more_put}
 use Rattle.kp_write.proofs.Pieces.{line_puts}
 use Rattle.kp_write.specs.Named.{fact_name}
 use Rattle.kp_write.proofs.putting.put_lines.Goals as goal

@@ -1,6 +1,6 @@
 use Rattle.std.proofs.Common.{drop, map}
 use Rattle.kp_write.specs.Written.{fact_line}
-use Rattle.kp_pieces.proofs.Public.{LeavesToPut}
+use Rattle.kp_law_texts.proofs.Public.{LeavesToPut}
 use Rattle.kp_write.specs.Named.{fact_name}
 use Rattle.kp_write.proofs.putting.put_lines.Given as goal
 

@@ -1,6 +1,6 @@
 use Rattle.std.proofs.Common.{drop}
 use Rattle.kp_write.specs.Written.{fact_line}
-use Rattle.kp_pieces.proofs.Public.{LeavesToPut}
+use Rattle.kp_law_texts.proofs.Public.{LeavesToPut}
 use Rattle.kp_write.proofs.putting.put_names.Given as goal
 
 abbrev pub invariant-loop-name : goal.invariant-loop-name

@@ -1,7 +1,7 @@
 use Rattle.std.proofs.Common.{drop, map}
-use Rattle.kp_pieces.specs.Pieces.{spaced}
+use Rattle.kp_law_texts.specs.Pieces.{spaced}
 use Rattle.kp_write.specs.Written.{signed}
-use Rattle.kp_pieces.proofs.Public.{LeavesToPut}
+use Rattle.kp_law_texts.proofs.Public.{LeavesToPut}
 use Rattle.kp_write.specs.Named.{signed_fact}
 use Rattle.kp_write.proofs.putting.put_spaced.Given as goal
 

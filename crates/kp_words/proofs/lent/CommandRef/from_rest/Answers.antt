@@ -1,6 +1,6 @@
 use Rattle.std.proofs.Common.{◌≡◌, MatchOption, subst}
-use Rattle.kp_line.specs.Texts.{texts, places_of, values_of}
-use Rattle.kp_line.specs.declared.stop.WordStop.TheVariants.{Usage}
+use Rattle.kp_words_options.specs.Texts.{texts, places_of, values_of}
+use Rattle.kp_words_options.specs.declared.stop.WordStop.TheVariants.{Usage}
 use Rattle.kp_words.specs.Verbs.{verb_in, options_of, ReadAs, AreOf, IsSaid, SaysCommand}
 use Rattle.kp_words.specs.declared.lent.CommandRef.{CommandRef}
 use Rattle.kp_words.proofs.Calls.{err_up, not_so}

@@ -1,8 +1,8 @@
 use Rattle.std.proofs.Common.{◌≡◌, ◌∙◌, ap, sym, subst, length, List, ℕ, Option, IfOk, IfErr}
 use Rattle.std.proofs.lemmas.List.{length-map}
-use Rattle.kp_line.specs.Words.{Line}
-use Rattle.kp_line.specs.Texts.{texts}
-use Rattle.kp_line.specs.declared.stop.WordStop.TheVariants.{Usage}
+use Rattle.kp_words_options.specs.Words.{Line}
+use Rattle.kp_words_options.specs.Texts.{texts}
+use Rattle.kp_words_options.specs.declared.stop.WordStop.TheVariants.{Usage}
 use Rattle.kp_words.specs.Verbs.{places_named, options_of}
 use Rattle.kp_words.proofs.verb.Verb.line.Goals as goal
 

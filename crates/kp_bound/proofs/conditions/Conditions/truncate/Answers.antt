@@ -1,7 +1,0 @@
-use Rattle.std.proofs.Common.{◌∙◌, sym, ap, map}
-use Rattle.std.specs.List.{take-map}
-use Rattle.kp_bound.specs.Literals.{lit_view}
-use Rattle.kp_bound.proofs.conditions.Conditions.truncate.Goals as goal
-
-pub returns : goal.returns
-returns c = rw (← c.self.view_is) (ap (map lit_view) c.truncate.ensures.items ∙ sym (take-map lit_view c.args.len c.self.inside.literals.items))

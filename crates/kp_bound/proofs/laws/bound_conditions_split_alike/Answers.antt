@@ -1,5 +1,0 @@
-use Rattle.kp_bound.proofs.Meaning.{split_bound}
-use Rattle.kp_bound.proofs.laws.bound_conditions_split_alike.Goals as goal
-
-pub returns : goal.returns
-returns c = split_bound

@@ -1,7 +1,0 @@
-use Rattle.std.proofs.Common.{◌≡◌, map, take}
-use Rattle.kp_bound.specs.Literals.{lit_view}
-use Rattle.kp_bound.proofs.literal.all_owned.Given as goal
-
--- the literals before this one are copied
-abbrev pub invariant-literals : goal.invariant-literals
-invariant-literals l = l.row.items ≡ map lit_view (take l.literal-index l.literals)

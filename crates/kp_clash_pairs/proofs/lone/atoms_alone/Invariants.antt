@@ -1,0 +1,7 @@
+use Rattle.kp_clash_pairs.specs.Paired.{is_pair}
+use Rattle.kp_clash_pairs.specs.Left.{AreLone}
+use Rattle.kp_clash_pairs.proofs.lone.atoms_alone.Given as goal
+
+-- no pair has those that are set so far
+abbrev pub invariant-loop-p : goal.invariant-loop-p
+invariant-loop-p l = AreLone (is_pair l.pairs) l.words

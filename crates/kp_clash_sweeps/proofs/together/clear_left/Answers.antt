@@ -1,0 +1,11 @@
+use Rattle.std.proofs.Common.{[], ◌∷◌, ◌++◌}
+use Rattle.kp_clash_pairs.specs.Paired.{is_pair}
+use Rattle.kp_clash_pairs.proofs.Public.{shrinks_further}
+use Rattle.kp_base.proofs.Exclusive.{compatible_under_fewer}
+use Rattle.kp_clash_sweeps.proofs.together.clear_left.Goals as goal
+
+pub clear_asking_word-requires-clause-compatible : goal.clear_asking_word-requires-clause-compatible
+clear_asking_word-requires-clause-compatible c = compatible_under_fewer (is_pair c.loop-turn.pairs) (is_pair c.args.pairs.now) c.loop-turn.invariant.part (c.args.action.now.pre ++ c.args.effect.now.cond) c.requires.compatible
+
+pub loop-turn-preserved : goal.loop-turn-preserved
+loop-turn-preserved c = shrinks_further (c.args.action.now ∷ []) c.args.pairs.now c.loop-turn.pairs c.clear_asking_word.new.pairs c.loop-turn.invariant c.clear_asking_word.ensures

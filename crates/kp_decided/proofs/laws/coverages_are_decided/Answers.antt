@@ -1,5 +1,0 @@
-use Rattle.kp_decided.proofs.Covered.{coverages_decided}
-use Rattle.kp_decided.proofs.laws.coverages_are_decided.Goals as goal
-
-pub returns : goal.returns
-returns c = coverages_decided

@@ -1,5 +1,0 @@
-use Rattle.kp_decided.proofs.Sizes.{names_decided}
-use Rattle.kp_decided.proofs.laws.names_are_decided.Goals as goal
-
-pub returns : goal.returns
-returns c = names_decided

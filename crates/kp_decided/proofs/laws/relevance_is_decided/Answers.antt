@@ -1,5 +1,0 @@
-use Rattle.kp_decided.proofs.Relevant.{relevance_decided}
-use Rattle.kp_decided.proofs.laws.relevance_is_decided.Goals as goal
-
-pub returns : goal.returns
-returns c = relevance_decided

@@ -1,5 +1,0 @@
-use Rattle.kp_decided.proofs.Sizes.{sizes_decided}
-use Rattle.kp_decided.proofs.laws.sizes_are_decided.Goals as goal
-
-pub returns : goal.returns
-returns c = sizes_decided

@@ -1,5 +1,0 @@
-use Rattle.kp_decided.proofs.Covered.{complete_with_none}
-use Rattle.kp_decided.proofs.laws.tables_with_none_are_complete.Goals as goal
-
-pub returns : goal.returns
-returns c = complete_with_none

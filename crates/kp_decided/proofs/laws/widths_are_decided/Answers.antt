@@ -1,5 +1,0 @@
-use Rattle.kp_decided.proofs.Widths.{widths_decided}
-use Rattle.kp_decided.proofs.laws.widths_are_decided.Goals as goal
-
-pub returns : goal.returns
-returns c = widths_decided

@@ -1,5 +1,0 @@
-use Rattle.kp_first.proofs.Unique.{first_by_passing}
-use Rattle.kp_first.proofs.laws.first_goes_by_what_passes.Goals as goal
-
-pub returns : goal.returns
-returns c = first_by_passing

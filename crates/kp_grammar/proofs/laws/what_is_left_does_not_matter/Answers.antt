@@ -1,5 +1,0 @@
-use Rattle.kp_grammar.proofs.Onward.{reads_onward, stops_onward}
-use Rattle.kp_grammar.proofs.laws.what_is_left_does_not_matter.Goals as goal
-
-pub returns : goal.returns
-returns c = record { reads = reads_onward; stops = stops_onward }

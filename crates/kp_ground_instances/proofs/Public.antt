@@ -1,0 +1,4 @@
+-- The laws of kp_ground_instances that proofs of other crates may cite. Each stands in the module that its line names.
+
+-- ---- Conditions and effects of the program as plain data, form by form.
+pub use Rattle.kp_ground_instances.proofs.Views.{eff_all as view_of_all, eff_when as view_of_when, eff_each as view_of_each}

@@ -1,5 +1,0 @@
-use Rattle.kp_grounding.proofs.Names.{named_by_steps}
-use Rattle.kp_grounding.proofs.laws.actions_are_named_by_steps.Goals as goal
-
-pub returns : goal.returns
-returns c = named_by_steps

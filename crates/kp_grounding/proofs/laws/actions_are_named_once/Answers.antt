@@ -1,5 +1,0 @@
-use Rattle.kp_grounding.proofs.Names.{actions_named_once}
-use Rattle.kp_grounding.proofs.laws.actions_are_named_once.Goals as goal
-
-pub returns : goal.returns
-returns c = actions_named_once

@@ -1,5 +1,0 @@
-use Rattle.kp_grounding.proofs.Atoms.{atoms_are_numbered}
-use Rattle.kp_grounding.proofs.laws.atoms_are_numbered.Goals as goal
-
-pub returns : goal.returns
-returns c = atoms_are_numbered

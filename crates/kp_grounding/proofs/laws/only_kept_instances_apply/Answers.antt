@@ -1,5 +1,0 @@
-use Rattle.kp_grounding.proofs.Step.{kept_exact}
-use Rattle.kp_grounding.proofs.laws.only_kept_instances_apply.Goals as goal
-
-pub returns : goal.returns
-returns c = kept_exact

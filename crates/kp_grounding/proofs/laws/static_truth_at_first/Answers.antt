@@ -1,5 +1,0 @@
-use Rattle.kp_grounding.proofs.Static.{static_at_first}
-use Rattle.kp_grounding.proofs.laws.static_truth_at_first.Goals as goal
-
-pub returns : goal.returns
-returns c = static_at_first

@@ -1,5 +1,0 @@
-use Rattle.kp_inputs.proofs.OnePlan.{some_plan}
-use Rattle.kp_inputs.proofs.laws.plans_are_decided.Goals as goal
-
-pub returns : goal.returns
-returns c = some_plan

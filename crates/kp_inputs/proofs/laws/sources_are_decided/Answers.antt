@@ -1,5 +1,0 @@
-use Rattle.kp_inputs.proofs.SomeTable.{some_table}
-use Rattle.kp_inputs.proofs.laws.sources_are_decided.Goals as goal
-
-pub returns : goal.returns
-returns c = some_table

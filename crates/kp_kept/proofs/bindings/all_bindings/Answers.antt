@@ -1,7 +1,0 @@
-use Rattle.std.proofs.Common.{◌∙◌}
-use Rattle.kp_base.proofs.Places.{one_more_taken}
-use Rattle.kp_meaning.specs.Lifted.{bindings}
-use Rattle.kp_kept.proofs.bindings.all_bindings.Goals as goal
-
-pub loop-number-preserved : goal.loop-number-preserved
-loop-number-preserved c = c.in_ok-push.ensures.ok ∙ one_more_taken (bindings c.args.ranges.now) c.loop-number.rows c.loop-number.number c.in_ok-binding_at.field-0 c.in_ok-binding_at.ensures c.loop-number.invariant

@@ -1,6 +1,0 @@
-use Rattle.std.proofs.Common.{◌≡◌, take}
-use Rattle.kp_meaning.specs.Lifted.{bindings}
-use Rattle.kp_kept.proofs.bindings.all_bindings.Given as goal
-
-abbrev pub invariant-loop-number : goal.invariant-loop-number
-invariant-loop-number l = l.rows ≡ take l.number (bindings l.ranges)

@@ -1,7 +1,0 @@
-use Rattle.std.proofs.Common.{◌≡◌, length, take}
-use Rattle.kp_meaning.specs.Lifted.{bindings}
-use Rattle.kp_kept.specs.Counts.{capped}
-use Rattle.kp_kept.proofs.counting.binding_number.Given as goal
-
-abbrev pub invariant-loop-range : goal.invariant-loop-range
-invariant-loop-range l = l.number ≡ capped (length (bindings (take l.range-index l.ranges)))

@@ -1,7 +1,0 @@
-use Rattle.std.proofs.Common.{◌≡◌, length, take, sum_by}
-use Rattle.kp_meaning.specs.Lifted.{bindings}
-use Rattle.kp_kept.specs.Counts.{capped}
-use Rattle.kp_kept.proofs.counting.problem_bindings.Given as goal
-
-abbrev pub invariant-loop-schema : goal.invariant-loop-schema
-invariant-loop-schema l = l.number ≡ capped (sum_by (λ a. length (bindings a.params)) (take l.schema-index l.schema-items))

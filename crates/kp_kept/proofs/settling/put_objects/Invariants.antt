@@ -1,6 +1,0 @@
-use Rattle.std.proofs.Common.{◌≡◌, ◌++◌, map, drop}
-use Rattle.kp_meaning.specs.Lifted.{object_of}
-use Rattle.kp_kept.proofs.settling.put_objects.Given as goal
-
-abbrev pub invariant-loop-term : goal.invariant-loop-term
-invariant-loop-term g l = l.room.items ++ map (object_of l.objects) (drop l.term-index l.terms) ≡ map (object_of l.objects) l.terms

@@ -1,8 +1,0 @@
-use Rattle.std.proofs.Common.{take}
-use Rattle.std.specs.List.{list_all}
-use Rattle.kp_known.specs.Known.{known}
-use Rattle.kp_known.specs.Tabled.{Tells}
-use Rattle.kp_known.proofs.met.Met.by_all.Given as goal
-
-abbrev pub invariant-loop-l : goal.invariant-loop-l
-invariant-loop-l l = Tells l.table.tags l.self (λ t. list_all (known l.table t) (take l.l-index l.lits))

@@ -1,5 +1,0 @@
-use Rattle.kp_known.specs.Tabled.{AreClear}
-use Rattle.kp_known.proofs.rows.zeros.Given as goal
-
-abbrev pub invariant-loop : goal.invariant-loop
-invariant-loop l = AreClear l.tags l.counter l.rows.items

@@ -1,0 +1,5 @@
+use Rattle.kp_law_ktask.proofs.Named.{tasks_are_fit}
+use Rattle.kp_law_ktask.proofs.laws.tagged_tasks_are_fit.Goals as goal
+
+pub returns : goal.returns
+returns c = tasks_are_fit

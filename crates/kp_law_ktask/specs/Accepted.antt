@@ -1,0 +1,34 @@
+-- The steps that the operators of a task have by name, and those of accepted lists of steps of the tagged machine.
+use Rattle.std.specs.Prelude.{◌≡◌, ℕ, true, List, Option, Some, option_map, map, slice_get}
+use Rattle.kp_base.specs.declared.ground.GroundName.{GroundName}
+use Rattle.kp_base.specs.declared.ground.Ground.{Ground}
+use Rattle.kp_base.specs.declared.ground.TagTable.{TagTable}
+use Rattle.kp_base.specs.declared.ground.Initial.{Initial}
+use Rattle.kp_base.specs.ActionNames.{action_name}
+use Rattle.kp_base.specs.Steps.{IsGroundPlan}
+use Rattle.kp_base.specs.Machine.{MachineStep, accepts, stripped}
+use Rattle.kp_names_meaning.specs.Steps.{Step}
+use Rattle.kp_names_meaning.specs.Strip.{strip}
+use Rattle.kp_write.specs.Runs.{step_of}
+use Rattle.kp_law_ktask.specs.ByName.{op_at}
+
+-- the step by name of a step of the machine: its operator, without objects
+abbrev pub step_at : Ground → TagTable → MachineStep → Option Step
+step_at g table m = option_map step_of (op_at g table m)
+
+-- the steps of the machine have these steps by name, and it accepts them
+pub record IsAccepted (g : Ground) (table : TagTable) (steps : List Step) (ms : List MachineStep) : Type 0 where
+  pub steps_are : map (step_at g table) ms ≡ map Some steps
+  pub accepted : accepts g table ms ≡ true
+
+-- the steps strip to the names of the actions of these steps of the machine
+pub record IsStrippedTo (g : Ground) (steps : List Step) (ms : List MachineStep) : Type 0 where
+  pub names : List Step
+  pub strips : strip steps ≡ Some names
+  pub are_names : map (action_name g) (stripped ms) ≡ map Some names
+
+-- the steps strip to the names of a ground plan
+pub record StripsToGroundPlan (g : Ground) (i : Initial) (steps : List Step) : Type 0 where
+  pub machine : List MachineStep
+  pub stripped_to : IsStrippedTo g steps machine
+  pub plan : IsGroundPlan g i (stripped machine)

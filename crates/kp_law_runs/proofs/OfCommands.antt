@@ -1,0 +1,171 @@
+-- What a run of each command ends with, on files with which it goes on.
+use Rattle.std.proofs.lemmas.Bool.{false≢true}
+use Rattle.std.proofs.Common.{◌↔◌, ◌≡◌, ◌++◌, ℕ, true, List, [], ◌∷◌, Some, Vec, map, length, inl, inr, refl, sym, ap, ◌∙◌, subst}
+use Rattle.std.specs.FinMap.{get}
+use Rattle.std.specs.declared.alloc.Global.{Global}
+use Rattle.kp_base.specs.declared.refused.Refused.TheVariants as refusals
+use Rattle.kp_tree_grammar.specs.declared.tree.Word.{Word}
+use Rattle.kp_tree_grammar.specs.Trees.{Domain, Problem}
+use Rattle.kp_plans.specs.Printed.{plan_text}
+use Rattle.kp_outside.specs.Outside.{FileMap}
+use Rattle.kp_run_outcome.specs.declared.outcome.Outcome.{Outcome}
+use Rattle.kp_run_outcome.specs.declared.status.Status.{Status}
+use Rattle.kp_run_outcome.specs.declared.status.Status.TheVariants as status
+use Rattle.kp_run_outcome.specs.Ends.{Outside, IsAnswer, AreHeld}
+use Rattle.kp_words.specs.Names.{Translate, Check, Lift}
+use Rattle.kp_words.specs.declared.lent.CommandRef.TheVariants as commands
+use Rattle.kp_run_prepare.specs.Refusing.{refuses, named_in}
+use Rattle.kp_run_prepare.specs.Prepared.{clash, by_trees, early, later}
+use Rattle.kp_base.specs.declared.ground.Ground.{Ground}
+use Rattle.kp_base.specs.declared.ground.Initial.{Initial}
+use Rattle.kp_check.specs.declared.answer.Judged.{Judged}
+use Rattle.kp_check.specs.declared.answer.Judged.TheVariants.{Yes, No}
+use Rattle.kp_law_given.specs.Translations.{ground_of, initial_of}
+use Rattle.kp_run.specs.Outcomes.{TranslatesTexts, translates, done, strips, prints, tells, LiftsActions, lifts, fails, with_task, translated, merged, stripped, checked, lifted, IsDue, of_command}
+use Rattle.kp_run.specs.Ends.{Ends}
+use Rattle.kp_run_messages.specs.Coverage.{coverage_text}
+use Rattle.kp_tags_merges.specs.Printed.{merges_of, merges_text}
+use Rattle.kp_base.specs.declared.lit.Lit.{Lit}
+use Rattle.kp_base.specs.declared.ground.TagTable.{TagTable}
+use Rattle.kp_base.specs.Covering.{IsComplete, AreUncovered}
+use Rattle.kp_law_decidable.specs.Laws.{AreProper}
+use Rattle.kp_law_decidable.proofs.Public.{complete_with_none}
+use Rattle.kp_cover.proofs.Public.{none_uncovered_if_complete}
+use Rattle.kp_law_complete.specs.Lifts.{lifted as lift_of, UnliftedAt}
+use Rattle.kp_law_complete.proofs.Public.{lifted_lists_strip, lists_lift_or_fail, failing_lists_dont_lift}
+use Rattle.kp_law_written.proofs.Public.{numbers_below_are_actions, lifted_steps_have_names}
+use Rattle.kp_base.specs.Machine.{MachineStep, accepts, stripped as actions_of}
+use Rattle.kp_run_translate.specs.Report.{counts_of}
+use Rattle.kp_plans.specs.declared.step.PlanStep.{PlanStep}
+use Rattle.kp_words.specs.Command.{IsTranslate, IsCheck, IsLift, file_of, if_named, inputs_of}
+use Rattle.kp_run_inputs.specs.Tables.{by_mode, with_table}
+use Rattle.kp_run_inputs.specs.Actions.{with_actions}
+use Rattle.kp_run_inputs.proofs.Public.{found_numbers_are_actions, as_many_found_as_steps, table_of_source_is_for_trees}
+use Rattle.kp_run.specs.Completeness.{PrintsComplete}
+use Rattle.kp_run.proofs.Public.{complete_text_leaves_none as none_told, complete_is_told, prepared_is_proper}
+use Rattle.kp_run_prepare.proofs.Public.{problem_of_trees}
+use Rattle.kp_run.specs.Solved.{GoesOn}
+use Rattle.kp_law_runs.specs.Commands.{HasTranslation, TranslationsAreAnswered, CompleteIsTrue, MergesAreListed, ClashesAreAnswered, HasVerdict, ChecksAreAnswered, ChecksAreTrue, HasLift, LiftsAreAnswered, LiftsAreTrue, StripsAreAnswered}
+use Rattle.kp_law_runs.specs.Follows.{IsAnsweredBy}
+use Rattle.kp_law_runs.proofs.Following.{answers_are_whole, ends_with}
+use Rattle.kp_law_runs.proofs.OneOutcome.{one_outcome}
+use Rattle.kp_law_runs.proofs.YesPlans.{yes_is_a_plan}
+use Rattle.kp_law_runs.proofs.LiftedPlans.{lifted_plans}
+
+-- what the files that a translation names come to
+merges_due : (words : List (Vec ℕ Global)) (m : FileMap) (c : Translate) (domain problem : List ℕ) (merges : List (List ℕ)) (o : Outcome)
+    → IsTranslate words c → AreHeld (Some m) (inputs_of (commands.Translate c)) (domain ∷ problem ∷ merges) → TranslatesTexts c domain problem merges o → IsDue words (Some m) o
+merges_due words m c domain problem merges o is held comes = of_command (commands.Translate c) (domain ∷ problem ∷ merges) o is held (translated c domain problem merges o comes)
+
+-- the contents of the names of a translation
+named_held : (m : FileMap) (c : Translate) (domain problem : List ℕ) (merges : List (List ℕ)) → get m c.domain ≡ Some domain → get m c.problem ≡ Some problem → AreHeld (Some m) (if_named (file_of c.source)) merges → AreHeld (Some m) (inputs_of (commands.Translate c)) (domain ∷ problem ∷ merges)
+named_held m c domain problem merges first second others = cc (first, second, others)
+
+translation_due : (words : List (Vec ℕ Global)) (m : FileMap) (c : Translate) (d : Domain Word) (p : Problem Word) (table : TagTable) (ls : List Lit) → IsTranslate words c → GoesOn m c.domain c.problem c.implicates d p → HasTranslation m c.source d p table ls → IsDue words (Some m) (translates c (ground_of d p) table ls)
+translation_due words m c d p table ls is g h =
+    merges_due words m c g.domain g.problem h.merges (translates c (ground_of d p) table ls) is (named_held m c g.domain g.problem h.merges g.domain_held g.problem_held h.held)
+    (later d p g.trees g.prepared (with_table table h.has_table (done ls h.fits h.are_uncovered refl)))
+
+pub translations_are_answered : TranslationsAreAnswered
+translations_are_answered words old new s ends m c d p table ls held is g h = ends_with words old new s ends m _ held (translation_due words m c d p table ls is g h)
+
+-- the answer of a run is that of the outcome that is due
+pub answered_by : (words : List (Vec ℕ Global)) (old new : Outside) (s : Status) → Ends words old new s → (m : FileMap) (o : Outcome) → old.held ≡ Some m → IsDue words (Some m) o → IsAnswer s → IsAnsweredBy o old new s
+answered_by words old new s ends m o held due answer =
+    let whole = answers_are_whole words old new s ends answer in
+    let same = one_outcome words m whole.outcome o (subst (λ x. IsDue words x whole.outcome) held whole.due) due in
+    subst (λ z. IsAnsweredBy z old new s) same whole.answered
+
+proper_of : (m : FileMap) (domain problem : List ℕ) (limit : ℕ) (d : Domain Word) (p : Problem Word) → GoesOn m domain problem limit d p → AreProper (ground_of d p) (initial_of d p)
+proper_of m domain problem limit d p g = prepared_is_proper limit d p g.trees.no_fault g.prepared
+
+complete_text : (g : Ground) (i : Initial) (table : TagTable) (ls : List Lit) → AreProper g i → AreUncovered g i table ls → PrintsComplete (counts_of g table ++ coverage_text g.atoms ls) ↔ IsComplete g i table
+complete_text g i table ls prepared_is_proper are = (
+  λ printed. complete_with_none g i table prepared_is_proper (subst (AreUncovered g i table) (none_told (counts_of g table) g.atoms ls printed) are),
+  λ whole. subst (λ z. PrintsComplete (counts_of g table ++ coverage_text g.atoms z)) (sym (none_uncovered_if_complete g i table ls are whole)) (complete_is_told g table),
+)
+
+pub complete_is_true : CompleteIsTrue
+complete_is_true words old new s ends m c d p table ls held is g h answer =
+    let a = answered_by words old new s ends m _ held (translation_due words m c d p table ls is g h) answer in
+    ((translates c (ground_of d p) table ls).text, a.text_is, complete_text (ground_of d p) (initial_of d p) table ls (proper_of m c.domain c.problem c.implicates d p g) h.are_uncovered)
+
+pub merges_are_listed : MergesAreListed
+merges_are_listed words old new s ends m c d p table held is g h =
+    let o = prints (merges_text (ground_of d p).atoms (merges_of table)) in
+    ends_with words old new s ends m _ held (of_command (commands.Merges c) (g.domain ∷ g.problem ∷ []) o is (rw (g.domain_held, g.problem_held) refl)
+    (merged c g.domain g.problem o (later d p g.trees g.prepared (with_table table (by_mode c.mode table h) refl))))
+
+pub clashes_are_answered : ClashesAreAnswered
+clashes_are_answered words old new s ends m c domain problem merges d p at held is all trees started clashes =
+    ends_with words old new s ends m _ held (merges_due words m c domain problem merges (refuses (named_in (ground_of d p)) (refusals.Clash at)) is all (early (by_trees d p (named_in (ground_of d p)) (refusals.Clash at) trees (clash at started clashes) refl)))
+
+check_due : (words : List (Vec ℕ Global)) (m : FileMap) (c : Check) (d : Domain Word) (p : Problem Word) (steps : List PlanStep) (j : Judged) → IsCheck words c → GoesOn m c.domain c.problem c.implicates d p → (h : HasVerdict m c.plan d p steps j) → IsDue words (Some m) (tells (ground_of d p) (length steps) j)
+check_due words m c d p steps j is g h =
+    let o = tells (ground_of d p) (length steps) j in
+    of_command (commands.Check c) (g.domain ∷ g.problem ∷ h.text ∷ []) o is (rw (g.domain_held, g.problem_held, h.held) refl)
+    (checked c g.domain g.problem h.text o (later d p g.trees g.prepared (with_actions steps h.numbers h.has_actions
+    (record { judged = j; answers = h.answers; told = ap (λ n. tells (ground_of d p) n j) (sym (as_many_found_as_steps (ground_of d p) steps h.numbers h.has_actions.known)) }))))
+
+pub checks_are_answered : ChecksAreAnswered
+checks_are_answered words old new s ends m c d p steps j held is g h = ends_with words old new s ends m _ held (check_due words m c d p steps j is g h)
+
+-- a verdict is Done exactly where it is yes
+done_yes : (g : Ground) (steps : ℕ) (j : Judged) → (tells g steps j).status ≡ status.Done → j ≡ Yes
+done_yes g steps Yes e = refl
+done_yes g steps (No ps k l) e = absurd cc
+
+yes_done : (g : Ground) (steps : ℕ) (j : Judged) → j ≡ Yes → (tells g steps j).status ≡ status.Done
+yes_done g steps j is = ap (λ v. (tells g steps v).status) is
+
+pub checks_are_true : ChecksAreTrue
+checks_are_true words old new s ends m c d p steps j held is g h answer =
+    let a = answered_by words old new s ends m _ held (check_due words m c d p steps j is g h) answer in
+    let plan = yes_is_a_plan g.domain g.problem (problem_of_trees g.domain g.problem d p g.trees) g.prepared.started.initial steps h.numbers j h.has_actions.known h.answers in
+    ((λ d_is. plan.0 (done_yes (ground_of d p) (length steps) j (sym a.status_is ∙ d_is))), (λ is_plan. a.status_is ∙ yes_done (ground_of d p) (length steps) j (plan.1 is_plan)))
+
+-- ---- lifts
+
+lift_due : (words : List (Vec ℕ Global)) (m : FileMap) (c : Lift) (d : Domain Word) (p : Problem Word) (table : TagTable) (ns : List ℕ) (o : Outcome) → IsLift words c → GoesOn m c.domain c.problem c.implicates d p → HasLift m c.source c.plan d p table ns → LiftsActions (ground_of d p) table ns o → IsDue words (Some m) o
+lift_due words m c d p table ns o is g h does =
+    of_command (commands.Lift c) (g.domain ∷ g.problem ∷ (h.merges ++ h.text ∷ [])) o is (cc (g.domain_held, g.problem_held, behind (if_named (file_of c.source)) h.merges h.merges_held))
+    (lifted c g.domain g.problem h.merges h.text o (later d p g.trees g.prepared (with_table table h.has_table (with_task h.fits (with_actions h.steps ns h.has_actions does)))))
+  where
+    behind : (names texts : List (List ℕ)) → map (get m) names ≡ map Some texts → map (get m) (names ++ c.plan ∷ []) ≡ map Some (texts ++ h.text ∷ [])
+    behind [] [] e = ap (λ z. z ∷ []) h.plan_held
+    behind [] (u ∷ us) e = absurd cc
+    behind (n ∷ ns) [] e = absurd cc
+    behind (n ∷ ns) (u ∷ us) e = let here : get m n ≡ Some u = cc in let rest : map (get m) ns ≡ map Some us = cc in cc (here, behind ns us rest)
+
+pub lifts_are_answered : LiftsAreAnswered
+lifts_are_answered words old new s ends m c d p table ns o held is g h does = ends_with words old new s ends m o held (lift_due words m c d p table ns o is g h does)
+
+-- where such a run ends with an answer, it is Done exactly where some list of steps is accepted that strips to the actions
+accepted_true : (words : List (Vec ℕ Global)) (old new : Outside) (s : Status) → Ends words old new s → (m : FileMap) (c : Lift) (d : Domain Word) (p : Problem Word) (table : TagTable) (ns : List ℕ)
+    → old.held ≡ Some m → IsLift words c → GoesOn m c.domain c.problem c.implicates d p → HasLift m c.source c.plan d p table ns → IsAnswer s
+    → (s ≡ status.Done) ↔ ((ms : List MachineStep) × (accepts (ground_of d p) table ms ≡ true) × (actions_of ms ≡ ns))
+accepted_true words old new s ends m c d p table ns held is g h answer =
+    let g' = ground_of d p in
+    let inside = found_numbers_are_actions g' h.steps ns h.has_actions.known in
+    elim (lists_lift_or_fail g' table ns (numbers_below_are_actions g' ns inside)) [
+      | inl accepted ↦
+          let named = lifted_steps_have_names g' table ns inside in
+          let does = lifts named.0 (record { steps_are = named.1; accepted = accepted }) refl in
+          let a = answered_by words old new s ends m _ held (lift_due words m c d p table ns _ is g h does) answer in
+          ((λ e. (lift_of g' table ns, accepted, lifted_lists_strip g' table ns)), (λ e. a.status_is))
+      | inr f ↦
+          let does = fails f.0 f.1 f.2 refl in
+          let a = answered_by words old new s ends m _ held (lift_due words m c d p table ns _ is g h does) answer in
+          ((λ e. absurd (let not_done = sym a.status_is ∙ e in cc)), (λ w. absurd (false≢true (sym (failing_lists_dont_lift g' table w.0 f.0 f.1 (subst (λ z. UnliftedAt g' table z f.0 f.1) (sym w.2) f.2)) ∙ w.1))))
+    ]
+
+pub lifts_are_true : LiftsAreTrue
+lifts_are_true words old new s ends m c d p table ns held is g h answer =
+    let for = table_of_source_is_for_trees d p c.source h.merges table g.prepared.started.small h.fits h.has_table in
+    let plans = lifted_plans g.domain g.problem (problem_of_trees g.domain g.problem d p g.trees) table for h.steps ns h.has_actions.known in
+    let lists = accepted_true words old new s ends m c d p table ns held is g h answer in
+    ((λ e. plans.0 (lists.0 e)), (λ w. lists.1 (plans.1 w)))
+
+pub strips_are_answered : StripsAreAnswered
+strips_are_answered words old new s ends m c text steps actions held is first short plan stripped_to =
+    ends_with words old new s ends m _ held (of_command (commands.Strip c) (text ∷ []) (prints (plan_text actions)) is (cc first) (stripped c text (prints (plan_text actions)) (strips steps actions short plan stripped_to refl)))

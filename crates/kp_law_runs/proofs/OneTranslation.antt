@@ -1,0 +1,48 @@
+-- A ground problem has one translation with a table, its plans one verdict, and one lift.
+use Rattle.std.proofs.Common.{◌≡◌, ℕ, List, length, sym, ap, ◌∙◌}
+use Rattle.kp_base.specs.declared.ground.Ground.{Ground}
+use Rattle.kp_base.specs.declared.ground.Initial.{Initial}
+use Rattle.kp_base.specs.declared.ground.TagTable.{TagTable}
+use Rattle.kp_base.proofs.Cases.{some_alike}
+use Rattle.kp_law_complete.specs.Lifts.{lifted as lift_of}
+use Rattle.kp_law_complete.proofs.Public.{failing_lists_dont_lift, lists_fail_once, lifted_lists_strip}
+use Rattle.kp_law_ktask.specs.Task.{task_of}
+use Rattle.kp_cover.proofs.Public.{uncovered_once}
+use Rattle.kp_law_decidable.proofs.Public.{verdict_once}
+use Rattle.kp_plans.specs.Printed.{plan_text}
+use Rattle.kp_run_messages.specs.Refusals.{nothing}
+use Rattle.kp_run_outcome.specs.declared.outcome.Outcome.{Outcome}
+use Rattle.kp_words.specs.Names.{Translate}
+use Rattle.kp_run_prepare.specs.Refusing.{refuses}
+use Rattle.kp_run_prepare.specs.Prepared.{usual}
+use Rattle.kp_run_inputs.proofs.Public.{by_plan_one_outcome}
+use Rattle.kp_ktask.proofs.Public.{task_refused_once, task_refused_or_within}
+use Rattle.kp_run_messages.specs.Lifting.{unlifted_text}
+use Rattle.kp_run_solve.specs.Solving.{denies}
+use Rattle.kp_run.specs.Outcomes.{translates, prints, tells, TranslatesGround, over, done, TellsJudged, LiftsActions, lifts, fails, LiftsPlan, no_task, with_task, failing_step}
+
+pub table_once : (c : Translate) (g : Ground) (i : Initial) (table : TagTable) (o u : Outcome) → TranslatesGround c g i table o → TranslatesGround c g i table u → o ≡ u
+table_once c g i table o u (over r a ei) (over s b ej) = ei ∙ (ap (refuses nothing) (task_refused_once (task_of g table) usual r s a b) ∙ sym ej)
+table_once c g i table o u (over r a ei) (done ls b are ej) = absurd (task_refused_or_within (task_of g table) usual r a b)
+table_once c g i table o u (done ls a are ei) (over s b ej) = absurd (task_refused_or_within (task_of g table) usual s b a)
+table_once c g i table o u (done ls a are ei) (done ms b also ej) = ei ∙ (ap (translates c g table) (uncovered_once g i table ls ms are also) ∙ sym ej)
+
+-- ---- plans
+
+pub verdicts_once : (g : Ground) (i : Initial) (ns : List ℕ) (o u : Outcome) → TellsJudged g i ns o → TellsJudged g i ns u → o ≡ u
+verdicts_once g i ns o u a b = a.told ∙ (ap (tells g (length ns)) (verdict_once (length g.atoms) g i ns a.judged b.judged a.answers b.answers) ∙ sym b.told)
+
+module _ (g : Ground) (table : TagTable) where
+  lift_once : (ns : List ℕ) (o u : Outcome) → LiftsActions g table ns o → LiftsActions g table ns u → o ≡ u
+  lift_once ns o u (lifts ss h e) (lifts ts k f) = e ∙ (ap (λ z. prints (plan_text z)) (some_alike ss ts (sym h.steps_are ∙ k.steps_are)) ∙ sym f)
+  lift_once ns o u (lifts ss h e) (fails k l f is) = absurd (let no = failing_lists_dont_lift g table (lift_of g table ns) k l (rw (lifted_lists_strip g table ns) f) in let yes_ = h.accepted in cc)
+  lift_once ns o u (fails k l f is) (lifts ss h e) = absurd (let no = failing_lists_dont_lift g table (lift_of g table ns) k l (rw (lifted_lists_strip g table ns) f) in let yes_ = h.accepted in cc)
+  lift_once ns o u (fails k l f is) (fails j m h e) =
+      let same = lists_fail_once g table ns k j l m f h in
+      is ∙ (ap (λ z. denies (unlifted_text g.atoms (failing_step (length ns) z) l)) same.0 ∙ (ap (λ z. denies (unlifted_text g.atoms (failing_step (length ns) j) z)) same.1 ∙ sym e))
+
+  pub lifts_once : (plan : List ℕ) (o u : Outcome) → LiftsPlan g plan table o → LiftsPlan g plan table u → o ≡ u
+  lifts_once plan o u (no_task r a e) (no_task s b f) = e ∙ (ap (refuses nothing) (task_refused_once (task_of g table) usual r s a b) ∙ sym f)
+  lifts_once plan o u (no_task r a e) (with_task b h) = absurd (task_refused_or_within (task_of g table) usual r a b)
+  lifts_once plan o u (with_task a h) (no_task s b f) = absurd (task_refused_or_within (task_of g table) usual s b a)
+  lifts_once plan o u (with_task a h) (with_task b k) = by_plan_one_outcome g plan (LiftsActions g table) lift_once o u h k

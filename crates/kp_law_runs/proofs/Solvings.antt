@@ -1,0 +1,40 @@
+-- What a run of `solve` ends with, and what that says of the files.
+use Rattle.std.proofs.Common.{ℕ, List, ◌∷◌, Some, Vec}
+use Rattle.std.specs.declared.alloc.Global.{Global}
+use Rattle.kp_base.specs.declared.ground.TagTable.{TagTable}
+use Rattle.kp_tree_grammar.specs.declared.tree.Word.{Word}
+use Rattle.kp_tree_grammar.specs.Trees.{Domain, Problem}
+use Rattle.kp_law_given.specs.Translations.{ground_of, initial_of}
+use Rattle.kp_outside.specs.Outside.{FileMap}
+use Rattle.kp_run_outcome.specs.declared.outcome.Outcome.{Outcome}
+use Rattle.kp_words.specs.Names.{Solve}
+use Rattle.kp_words.specs.declared.lent.CommandRef.TheVariants as commands
+use Rattle.kp_words.specs.Command.{IsSolve}
+use Rattle.kp_run_prepare.specs.Prepared.{later}
+use Rattle.kp_run_inputs.specs.Tables.{with_table}
+use Rattle.kp_run_solve.specs.Solving.{SolvesGround}
+use Rattle.kp_run.specs.Outcomes.{solved, IsDue, of_command}
+use Rattle.kp_run.specs.Solved.{GoesOn, HasTask}
+use Rattle.kp_run.proofs.Public.{solve_is_true}
+use Rattle.kp_law_runs.specs.Solving.{SolvingsAreAnswered, SolvedIsAPlan, NoPlanIsTrue, SpentIsTrue}
+use Rattle.kp_law_runs.proofs.Following.{ends_with}
+
+-- ---- what is due
+
+solving_due : (words : List (Vec ℕ Global)) (m : FileMap) (c : Solve) (d : Domain Word) (p : Problem Word) (table : TagTable) (o : Outcome) → IsSolve words c → GoesOn m c.domain c.problem c.implicates d p → HasTask m c.source d p table → SolvesGround c.classical c.budget (ground_of d p) (initial_of d p) table o → IsDue words (Some m) o
+solving_due words m c d p table o is g h does =
+    of_command (commands.Solve c) (g.domain ∷ g.problem ∷ h.merges) o is (cc (g.domain_held, g.problem_held, h.held)) (solved c g.domain g.problem h.merges o (later d p g.trees g.prepared (with_table table h.has_table does)))
+
+pub solvings_are_answered : SolvingsAreAnswered
+solvings_are_answered words old new s ends m c d p table o held is g h does = ends_with words old new s ends m o held (solving_due words m c d p table o is g h does)
+
+-- ---- the laws
+
+pub solved_is_a_plan : SolvedIsAPlan
+solved_is_a_plan words old new s ends m c held is = (solve_is_true words old new s ends m c held is).done
+
+pub no_plan_is_true : NoPlanIsTrue
+no_plan_is_true words old new s ends m c held is = (solve_is_true words old new s ends m c held is).negative
+
+pub spent_is_true : SpentIsTrue
+spent_is_true words old new s ends m c held is = (solve_is_true words old new s ends m c held is).spent

@@ -1,0 +1,5 @@
+use Rattle.kp_law_runs.proofs.OfCommands as following
+use Rattle.kp_law_runs.proofs.commands.clashes_are_answered.Goals as goal
+
+pub returns : goal.returns
+returns c = following.clashes_are_answered

@@ -1,0 +1,5 @@
+use Rattle.kp_law_runs.proofs.Following as following
+use Rattle.kp_law_runs.proofs.follows.texts_are_of_the_due.Goals as goal
+
+pub returns : goal.returns
+returns c = following.texts_are_of_the_due

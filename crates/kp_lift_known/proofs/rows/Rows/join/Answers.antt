@@ -1,0 +1,11 @@
+use Rattle.std.proofs.Common.{◌&&◌, ◌||◌}
+use Rattle.kp_lift_known.proofs.Tables.{row_changed, joins_row}
+use Rattle.kp_lift_known.proofs.rows.Rows.join.Goals as goal
+
+pub invariant_of-self : goal.invariant_of-self
+invariant_of-self c =
+    (row_changed (λ a b. a || b) (λ s a b. a || (s && b)) joins_row _ c.args.self.now c.self.view_is c.self.invariant c.args.lit c.requires.lit c.args.more.now c.requires.wide c.code.result c.code.ensures c.index_mut.result.now c.index_mut.ensures.value c.or_with.new.self c.or_with.ensures).0
+
+pub returns : goal.returns
+returns c =
+    (row_changed (λ a b. a || b) (λ s a b. a || (s && b)) joins_row _ c.args.self.now c.self.view_is c.self.invariant c.args.lit c.requires.lit c.args.more.now c.requires.wide c.code.result c.code.ensures c.index_mut.result.now c.index_mut.ensures.value c.or_with.new.self c.or_with.ensures).1

@@ -1,7 +1,0 @@
-use Rattle.std.proofs.Common.{◌≡◌, drop}
-use Rattle.kp_line.specs.Words.{is_among}
-use Rattle.kp_line.specs.Texts.{texts}
-use Rattle.kp_line.proofs.scan.is_among.Given as goal
-
-abbrev pub invariant-loop-one : goal.invariant-loop-one
-invariant-loop-one l = is_among (texts (drop l.one-index l.all)) l.text ≡ is_among (texts l.all) l.text

@@ -1,5 +1,0 @@
-use Rattle.kp_meaning.proofs.PlainGoals.{goals_plain}
-use Rattle.kp_meaning.proofs.laws.goals_have_no_equality.Goals as goal
-
-pub returns : goal.returns
-returns c = goals_plain

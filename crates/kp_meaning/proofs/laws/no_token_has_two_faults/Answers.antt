@@ -1,5 +1,0 @@
-use Rattle.kp_meaning.proofs.FaultsApart.{domain_tokens, problem_tokens}
-use Rattle.kp_meaning.proofs.laws.no_token_has_two_faults.Goals as goal
-
-pub returns : goal.returns
-returns c = record { domain = domain_tokens; problem = problem_tokens }

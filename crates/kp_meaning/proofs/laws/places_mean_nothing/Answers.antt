@@ -1,5 +1,0 @@
-use Rattle.kp_meaning.proofs.PlacesOfFaults.{places_mean_nothing}
-use Rattle.kp_meaning.proofs.laws.places_mean_nothing.Goals as goal
-
-pub returns : goal.returns
-returns c = places_mean_nothing

@@ -1,5 +1,0 @@
-use Rattle.kp_meaning.proofs.NumberedPlans.{plan_numbered}
-use Rattle.kp_meaning.proofs.laws.plans_are_the_same_by_number.Goals as goal
-
-pub returns : goal.returns
-returns c = plan_numbered

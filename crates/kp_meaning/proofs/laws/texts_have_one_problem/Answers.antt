@@ -1,5 +1,0 @@
-use Rattle.kp_meaning.proofs.Texts.{one_problem}
-use Rattle.kp_meaning.proofs.laws.texts_have_one_problem.Goals as goal
-
-pub returns : goal.returns
-returns c = one_problem

@@ -1,6 +1,0 @@
-use Rattle.std.proofs.Common.{◌≡◌, take}
-use Rattle.kp_modes.specs.Added.{with_atoms}
-use Rattle.kp_modes.proofs.atoms.add_atoms.Given as goal
-
-abbrev pub invariant-loop-l : goal.invariant-loop-l
-invariant-loop-l l = l.set ≡ with_atoms l.fn.set (take l.l-index l.lits)

@@ -1,5 +1,0 @@
-use Rattle.kp_modes.proofs.Good.{merges_good}
-use Rattle.kp_modes.proofs.laws.merges_of_modes_are_good.Goals as goal
-
-pub returns : goal.returns
-returns c = merges_good

@@ -1,0 +1,11 @@
+use Rattle.std.proofs.Common.{◌≡◌, Bool}
+use Rattle.kp_names_meaning.specs.Names.{Name}
+use Rattle.kp_names_lifted.specs.Alike.{AreAlike}
+use Rattle.kp_names_lifted.proofs.alike.Alike.walked.Given as goal
+
+-- what is the same for both names of each entry stays so, and is the same for the type and where the walk is
+abbrev pub invariant-loop : goal.invariant-loop
+invariant-loop l = record {
+  kept : (f : Name → Bool) → AreAlike f l.fn.self → AreAlike f l.self;
+  alike : (f : Name → Bool) → AreAlike f l.fn.self → f l.name ≡ f l.at;
+}

@@ -1,0 +1,12 @@
+use Rattle.std.proofs.Common.{◌≡◌, take}
+use Rattle.kp_tree_grammar.specs.View.{domain_view, problem_view}
+use Rattle.kp_names_meaning.specs.Types.{names}
+use Rattle.kp_names_lifted.specs.Alike.{HaveSame}
+use Rattle.kp_names_lifted.proofs.ranges.Ranges.lasts.Given as goal
+
+-- the types so far have the same objects
+abbrev pub invariant-loop-word : goal.invariant-loop-word
+invariant-loop-word l = record {
+  kept : l.self.names ≡ l.fn.self.names;
+  so_far : HaveSame (domain_view l.fn.self.names.domain) (problem_view l.fn.self.names.problem) l.tops (names (take l.word-index l.words));
+}

@@ -1,7 +1,0 @@
-use Rattle.kp_pairs.specs.Paired.{is_pair}
-use Rattle.kp_pairs.specs.Left.{AreLeft}
-use Rattle.kp_pairs.proofs.joined.atoms_left.Given as goal
-
--- no other bit was cleared
-abbrev pub invariant-loop-k : goal.invariant-loop-k
-invariant-loop-k l = AreLeft (is_pair l.pairs) l.action.pre l.effect.cond l.words

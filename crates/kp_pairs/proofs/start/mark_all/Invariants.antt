@@ -1,8 +1,0 @@
-use Rattle.std.proofs.Common.{◌*◌}
-use Rattle.kp_pairs.specs.Starting.{IsMarkedWith}
-use Rattle.kp_pairs.proofs.Starting.{with_below}
-use Rattle.kp_pairs.proofs.start.mark_all.Given as goal
-
--- the pairs with the atoms of the words so far
-abbrev pub invariant-loop-k : goal.invariant-loop-k
-invariant-loop-k l = IsMarkedWith l.atoms (with_below l.p (l.k * 64)) l.fn.table l.table

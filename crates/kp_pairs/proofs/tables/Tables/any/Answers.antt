@@ -1,5 +1,0 @@
-use Rattle.kp_pairs.proofs.Small.{any_noted}
-use Rattle.kp_pairs.proofs.tables.Tables.any.Goals as goal
-
-pub returns : goal.returns
-returns c = any_noted

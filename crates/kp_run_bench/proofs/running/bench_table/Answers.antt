@@ -1,0 +1,33 @@
+use Rattle.std.proofs.Common.{subst, IfOk}
+use Rattle.kp_primes.specs.Held.{formula}
+use Rattle.kp_law_ktask.specs.Task.{task_of}
+use Rattle.kp_ktask.specs.Translated.{FitsLimits, RefusesTask, StopsTask}
+use Rattle.kp_search.specs.declared.found.Found.{Found}
+use Rattle.kp_run_solve.specs.Solving.{Finds}
+use Rattle.kp_run_bench.specs.Bench.{TellsBench}
+use Rattle.kp_run_bench.proofs.Safe.{is_safe}
+use Rattle.kp_run_bench.proofs.Told.{task_refused, task_searched}
+use Rattle.kp_run_bench.proofs.running.bench_table.Goals as goal
+
+pub bench_task-requires-clause-safe : goal.bench_task-requires-clause-safe
+bench_task-requires-clause-safe c =
+    let g = c.args.prepared.now.ground in
+    is_safe c.args.command.now.mode c.args.prepared.now c.args.table.now c.requires.posed
+    (subst (λ m. FitsLimits (task_of g c.args.table.now) m) c.usual.ensures c.in-Ok.ensures.0)
+
+-- the task is within the limits
+pub returns-in-Ok : goal.returns-in-Ok
+returns-in-Ok c =
+    let g = c.args.prepared.now.ground in
+    let i = formula c.args.prepared.now.primes in
+    let t = c.args.command.now in
+    task_searched t g i c.args.table.now c.bench_task.result
+    (subst (λ m. FitsLimits (task_of g c.args.table.now) m) c.usual.ensures c.in-Ok.ensures.0)
+    (subst (λ k. IfOk c.bench_task.result (λ o. (found : Found) × Finds k t.budget found × TellsBench t g i c.args.table.now found o)) c.in-Ok.ensures.1 c.bench_task.ensures)
+
+-- it isn't
+pub returns-in-Err-Refused : goal.returns-in-Err-Refused
+returns-in-Err-Refused c =
+    let task = task_of c.args.prepared.now.ground c.args.table.now in
+    let stops = subst (λ s. StopsTask task c.usual.result s) c.in-Err-Refused.field-0-is c.in-Err-Refused.ensures in
+    task_refused c.args.command.now c.args.prepared.now.ground (formula c.args.prepared.now.primes) c.args.table.now c.in-Err-Refused.refused c.refuse.result (subst (λ m. RefusesTask task m c.in-Err-Refused.refused) c.usual.ensures stops) c.refuse.ensures

@@ -1,0 +1,18 @@
+-- A ground problem within the limits speaks of its atoms alone.
+use Rattle.std.proofs.Common.{List, length, sym, ap, subst, arith}
+use Rattle.std.proofs.lemmas.List.{length-map}
+use Rattle.kp_base.specs.declared.ground.Action.{Action}
+use Rattle.kp_base.specs.declared.ground.Ground.{Ground}
+use Rattle.kp_base.specs.Implicates.{IsOfItsAtoms}
+use Rattle.kp_names_meaning.specs.Numbered.{Lifted}
+use Rattle.kp_ground_meaning.specs.Ground.{kept_instances, ground_atoms, atom_name}
+use Rattle.kp_ground.specs.Grounded.{IsGrounded}
+use Rattle.kp_ground.specs.Passes.{action_at}
+use Rattle.kp_ground.proofs.Public.{actions_of_schemas_in_order}
+use Rattle.kp_law_given.proofs.Public.{ground_is_of_its_atoms}
+use Rattle.kp_run_classical.specs.Classical.{classical}
+
+pub is_of_atoms : (l : Lifted) (g : Ground) → IsGrounded l classical g → IsOfItsAtoms g
+is_of_atoms l g w = subst IsOfItsAtoms (sym w.ground) (ground_is_of_its_atoms l
+    (let a = length-map (ground_atoms l) (atom_name l) in let b = w.atoms in omega (arith, a, b))
+    (let a = ap (λ (as' : List Action). length as') (actions_of_schemas_in_order l (ground_atoms l)) in let m = length-map (kept_instances l) (action_at l (ground_atoms l)) in let n = w.counts.actions in omega (arith, a, m, n)))

@@ -1,0 +1,12 @@
+use Rattle.std.proofs.Common.{subst}
+use Rattle.kp_run_inputs.specs.Tables.{IsOrigin}
+use Rattle.kp_run_inputs.proofs.Ended.{of_mode_origin, of_file_origin}
+use Rattle.kp_run_inputs.proofs.tables.table_alone.Goals as goal
+
+-- in a mode
+pub returns-in_ok-relevance-in-Mode : goal.returns-in_ok-relevance-in-Mode
+returns-in_ok-relevance-in-Mode c source merges j origin same = of_mode_origin c.args.prepared.now.ground j c.in-Mode.mode c.table_in.result (c.table_in.ensures j same) source merges (subst (IsOrigin source merges) c.in-Mode.is origin)
+
+-- with a file of merges
+pub returns-in-Merges : goal.returns-in-Merges
+returns-in-Merges c source merges j origin same = of_file_origin c.args.prepared.now.ground j c.in-Merges.merges c.table_with.result (λ name text front. c.table_with.ensures name text j front same) source merges (subst (IsOrigin source merges) c.in-Merges.is origin)

@@ -1,5 +1,0 @@
-use Rattle.kp_sets.specs.Sizes.{ArePassed}
-use Rattle.kp_sets.proofs.sizes.least_set.Given as goal
-
-abbrev pub invariant-loop-size : goal.invariant-loop-size
-invariant-loop-size g l = ArePassed (g.T.Test.passes l.test) l.n l.limit l.skips l.first l.size

@@ -1,5 +1,0 @@
-use Rattle.kp_solving.proofs.Plans.{named_accepted}
-use Rattle.kp_solving.proofs.laws.named_plans_are_accepted.Goals as goal
-
-pub returns : goal.returns
-returns c = named_accepted

@@ -1,5 +1,0 @@
-use Rattle.kp_sound.proofs.Lifting.{lifts_written}
-use Rattle.kp_sound.proofs.laws.lifts_are_written.Goals as goal
-
-pub returns : goal.returns
-returns c = lifts_written

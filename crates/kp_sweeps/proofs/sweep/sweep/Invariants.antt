@@ -1,6 +1,0 @@
-use Rattle.kp_pairs.specs.Removed.{Shrinks}
-use Rattle.kp_sweeps.proofs.sweep.sweep.Given as goal
-
--- what was removed so far
-abbrev pub invariant-loop-action : goal.invariant-loop-action
-invariant-loop-action l = Shrinks l.ground.actions l.fn.pairs l.pairs

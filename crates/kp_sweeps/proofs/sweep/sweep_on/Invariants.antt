@@ -1,6 +1,0 @@
-use Rattle.kp_pairs.specs.Removed.{Shrinks}
-use Rattle.kp_sweeps.proofs.sweep.sweep_on.Given as goal
-
--- what was removed so far
-abbrev pub invariant-loop : goal.invariant-loop
-invariant-loop l = Shrinks l.ground.actions l.fn.pairs l.pairs

@@ -1,7 +1,0 @@
-use Rattle.std.proofs.Common.{[], ◌∷◌}
-use Rattle.kp_pairs.specs.Removed.{Shrinks}
-use Rattle.kp_sweeps.proofs.together.clear_freed_by.Given as goal
-
--- what was removed so far
-abbrev pub invariant-loop : goal.invariant-loop
-invariant-loop l = Shrinks (l.action ∷ []) l.fn.pairs l.pairs

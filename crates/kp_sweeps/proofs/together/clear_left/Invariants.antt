@@ -1,7 +1,0 @@
-use Rattle.std.proofs.Common.{[], ◌∷◌}
-use Rattle.kp_pairs.specs.Removed.{Shrinks}
-use Rattle.kp_sweeps.proofs.together.clear_left.Given as goal
-
--- what was removed so far
-abbrev pub invariant-loop-turn : goal.invariant-loop-turn
-invariant-loop-turn l = Shrinks (l.action ∷ []) l.fn.pairs l.pairs

@@ -1,7 +1,0 @@
-use Rattle.std.proofs.Common.{◌≡◌, [], map, drop, fold, flat_map}
-use Rattle.kp_tables.specs.Steps.{with_name, under}
-use Rattle.kp_tables.proofs.objects.names_under.Given as goal
-
--- with what stands under the types that are left come all
-abbrev pub invariant-loop-name : goal.invariant-loop-name
-invariant-loop-name l = fold with_name l.found (flat_map (under l.lines) (map (λ n. n.now) (drop l.name-index l.name-items))) ≡ fold with_name [] (flat_map (under l.lines) (map (λ n. n.now) l.name-items))

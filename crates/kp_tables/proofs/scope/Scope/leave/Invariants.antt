@@ -1,6 +1,0 @@
-use Rattle.std.proofs.Common.{◌≡◌, drop}
-use Rattle.kp_tables.proofs.scope.Scope.leave.Given as goal
-
--- so many are taken out
-abbrev pub invariant-loop : goal.invariant-loop
-invariant-loop l = l.self ≡ drop l.counter l.fn.self

@@ -1,9 +1,0 @@
-use Rattle.std.proofs.Common.{◌≡◌, drop, fold, map}
-use Rattle.kp_grammar.specs.View.{typed_view}
-use Rattle.kp_meaning.specs.Types.{declared}
-use Rattle.kp_tables.specs.Steps.{with_name}
-use Rattle.kp_tables.proofs.tables.add_declared.Given as goal
-
--- with the lines that are left come all
-abbrev pub invariant-loop-line : goal.invariant-loop-line
-invariant-loop-line l = fold with_name l.known (declared (map typed_view (drop l.line-index l.lines))) ≡ fold with_name l.fn.known (declared (map typed_view l.lines))

@@ -1,7 +1,0 @@
-use Rattle.std.proofs.Common.{◌≡◌, map, drop}
-use Rattle.kp_grammar.specs.View.{item_view}
-use Rattle.kp_tables.specs.Unsure.{first_unsure}
-use Rattle.kp_tables.proofs.unsure.first_unsure.Given as goal
-
-abbrev pub invariant-loop-item : goal.invariant-loop-item
-invariant-loop-item l = first_unsure (map item_view (drop l.item-index l.items)) ≡ first_unsure (map item_view l.items)

@@ -1,0 +1,38 @@
+-- The grammar of files of merges.
+use Rattle.std.specs.Prelude.{ℕ, List, map, true, false}
+use Rattle.kp_base.specs.declared.ground.GroundName.{GroundName}
+use Rattle.kp_tree_grammar.specs.declared.tree.Word.{Word}
+use Rattle.kp_tree_grammar.specs.Trees.{Term, Atom, Lit}
+use Rattle.kp_tree_grammar.specs.Symbols.{is_left, is_merge}
+use Rattle.kp_tree_grammar.specs.Sorts.{s_lit, s_pair, s_list}
+use Rattle.kp_tree_grammar.specs.Forms.{Form, ◌▹◌, ◌▸◌, many, bracket}
+use Rattle.kp_tree_grammar.specs.Grammar.{lit}
+
+-- ( lit* )
+abbrev pub tag : Form true (s_list s_lit)
+tag = bracket (many is_left lit)
+
+-- lit tag*
+abbrev pub merge_body : Form true (s_pair s_lit (s_list (s_list s_lit)))
+merge_body = lit ▹ many is_left tag
+
+-- ( merge lit tag* )
+abbrev pub merge : Form true (s_pair s_lit (s_list (s_list s_lit)))
+merge = bracket (is_merge ▸ merge_body)
+
+-- merge*
+abbrev pub merges : Form false (s_list (s_pair s_lit (s_list (s_list s_lit))))
+merges = many is_left merge
+
+-- a merge that was read: its target and its tags
+abbrev pub MergeTree : Type 0
+MergeTree = Lit Word × List (List (Lit Word))
+
+-- the text of a term
+abbrev pub term_text : Term Word → List ℕ
+term_text (Term.name w) = w.text
+term_text (Term.variable w) = w.text
+
+-- the name of an atom that was read
+abbrev pub name_of : Atom Word → GroundName
+name_of a = record { head = a.head.text; objects = map term_text a.terms }

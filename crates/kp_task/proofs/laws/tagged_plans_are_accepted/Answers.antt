@@ -1,6 +1,0 @@
-use Rattle.kp_task.proofs.Runs.{runs_are_accepted}
-use Rattle.kp_task.proofs.Plans.{plans_are_accepted}
-use Rattle.kp_task.proofs.laws.tagged_plans_are_accepted.Goals as goal
-
-pub returns : goal.returns
-returns c = record { runs = runs_are_accepted; plans = plans_are_accepted }

@@ -1,5 +1,0 @@
-use Rattle.kp_total.proofs.Following as following
-use Rattle.kp_total.proofs.follows.done_puts_the_outputs.Goals as goal
-
-pub returns : goal.returns
-returns c = following.done_puts_the_outputs

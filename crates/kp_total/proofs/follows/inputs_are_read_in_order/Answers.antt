@@ -1,5 +1,0 @@
-use Rattle.kp_total.proofs.Following as following
-use Rattle.kp_total.proofs.follows.inputs_are_read_in_order.Goals as goal
-
-pub returns : goal.returns
-returns c = following.inputs_are_read_in_order

@@ -1,5 +1,0 @@
-use Rattle.kp_total.proofs.Following as following
-use Rattle.kp_total.proofs.follows.no_command_puts_nothing.Goals as goal
-
-pub returns : goal.returns
-returns c = following.no_command_puts_nothing

@@ -1,5 +1,0 @@
-use Rattle.kp_total.proofs.Following as following
-use Rattle.kp_total.proofs.follows.only_done_puts.Goals as goal
-
-pub returns : goal.returns
-returns c = following.only_done_puts

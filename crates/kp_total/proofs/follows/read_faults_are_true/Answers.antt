@@ -1,5 +1,0 @@
-use Rattle.kp_total.proofs.Following as following
-use Rattle.kp_total.proofs.follows.read_faults_are_true.Goals as goal
-
-pub returns : goal.returns
-returns c = following.read_faults_are_true

@@ -1,5 +1,0 @@
-use Rattle.kp_total.proofs.Following as following
-use Rattle.kp_total.proofs.follows.the_due_is_the_answer.Goals as goal
-
-pub returns : goal.returns
-returns c = following.the_due_is_the_answer

@@ -1,5 +1,0 @@
-use Rattle.kp_total.proofs.YesPlans as plans
-use Rattle.kp_total.proofs.laws.unknown_steps_are_no_plan.Goals as goal
-
-pub returns : goal.returns
-returns c = plans.unknown_steps_are_no_plan

@@ -1,5 +1,0 @@
-use Rattle.kp_total.proofs.YesPlans as plans
-use Rattle.kp_total.proofs.laws.yes_is_a_plan.Goals as goal
-
-pub returns : goal.returns
-returns c = plans.yes_is_a_plan

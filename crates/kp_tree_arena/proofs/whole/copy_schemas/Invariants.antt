@@ -1,0 +1,8 @@
+use Rattle.std.proofs.Common.{◌≡◌, map, take}
+use Rattle.kp_tree_grammar.specs.View as owned
+use Rattle.kp_tree_arena.specs.Nodes.{schema_view}
+use Rattle.kp_tree_arena.proofs.whole.copy_schemas.Given as goal
+
+-- the copies are equal to the parts before this one
+abbrev pub invariant-copies : goal.invariant-copies
+invariant-copies l = map owned.schema_view l.copies.items ≡ map schema_view (take l.node-index l.nodes)
