@@ -8,14 +8,13 @@ use Rattle.kp_base.specs.declared.ground.Initial.{Initial}
 use Rattle.kp_base.specs.Lists.{Member, signed, choices}
 use Rattle.kp_base.specs.Lit.{positive, negative, code_of}
 use Rattle.kp_base.specs.LitSet.{IsAscending}
-use Rattle.kp_base.specs.Steps.{State, holds, is_model}
+use Rattle.kp_base.specs.Steps.{State, holds, is_model, SameBelow}
 use Rattle.kp_base.proofs.Members.{range_only}
 use Rattle.kp_base.proofs.Lists.{any_alike, all_alike, all_member, filter_member, member_map, flat_member, all_from, member_flat_map, member_filter}
 pub use Rattle.kp_base.proofs.Lists.{range_there}
 use Rattle.kp_base.proofs.Lits.{has-member, member-has}
 use Rattle.kp_base.specs.Closure.{literals, state_of, states, models_of, closure, IsClosureExact}
 use Rattle.kp_base.specs.Implicates.{are_below, IsOfAtoms}
-use Rattle.kp_base.specs.Steps.{SameBelow}
 
 -- ---- literals of the first n atoms read these alone
 

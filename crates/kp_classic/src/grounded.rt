@@ -1,9 +1,8 @@
 //! The task of a ground problem.
 ghost use Rattle.std.specs.Prelude.{◌≡◌, ◌<◌, [], ◌∷◌, ◌++◌, true, map, length, IfOk, OnOk};
 ghost use Rattle.std.specs.List.{list_all};
-ghost use Rattle.kp_base.specs.Implicates.{are_below};
+ghost use Rattle.kp_base.specs.Implicates.{are_below, IsOfItsAtoms};
 ghost use Rattle.kp_classic.specs.Fits.{IsFit};
-ghost use Rattle.kp_base.specs.Implicates.{IsOfItsAtoms};
 ghost use Rattle.kp_classic.specs.Grounded.{atoms_with, conds_of, effect_of, op_of, nameless, is_said, task_of, SaysOneState, DoesTheSame};
 ghost use Rattle.kp_classic.specs.States.{those};
 

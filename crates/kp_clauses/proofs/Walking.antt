@@ -9,8 +9,7 @@ use Rattle.kp_base.specs.LitSet.{IsAscending}
 use Rattle.kp_base.specs.Implicates.{is_within, is_tautology}
 use Rattle.kp_base.specs.Steps.{has}
 use Rattle.kp_base.proofs.Ascending.{code_of-injective, tail_ascends}
-use Rattle.kp_base.proofs.Lits.{same_lit-true, same_lit-refl}
-use Rattle.kp_base.proofs.Lits.{member-has, negated-negated}
+use Rattle.kp_base.proofs.Lits.{same_lit-true, same_lit-refl, member-has, negated-negated}
 use Rattle.kp_base.proofs.Lists.{any_member, bool_same}
 use Rattle.kp_clauses.proofs.Within.{tautology_from, other}
 use Rattle.kp_clauses.specs.Walked.{walked, has_pair}

@@ -11,10 +11,9 @@ use Rattle.kp_base.specs.LitSet.{set_of}
 use Rattle.kp_base.specs.Steps.{State, holds}
 use Rattle.kp_base.proofs.Lists.{any_member, any_from, all_member, bool_same, all_from}
 use Rattle.kp_base.proofs.Lits.{same_lit-true, same_lit-refl, holds-negated}
-use Rattle.kp_base.proofs.Once.{any-each_once}
+use Rattle.kp_base.proofs.Once.{any-each_once, all-each_once, Once, each_once_is_once}
 use Rattle.kp_base.proofs.Sets.{any-set_of}
 use Rattle.kp_init.specs.Initial.{no_two, exactly_one}
-use Rattle.kp_base.proofs.Once.{all-each_once, Once, each_once_is_once}
 
 -- at most one place of the list passes
 abbrev at_most_one : (Lit → Bool) → List Lit → Bool

@@ -1,10 +1,9 @@
 -- A list can be put in order.
 use Rattle.std.proofs.Common.{◌≡◌, ◌+◌, zero, suc, Bool, true, false, if◌then◌else◌, List, [], ◌∷◌, get_or, refl, subst, arith}
-use Rattle.std.specs.Cmp.{IsStrictWeakOrder}
+use Rattle.std.specs.Cmp.{IsStrictWeakOrder, on_total, nat_cmp_total}
 use Rattle.std.specs.List.Sorted.{IsPermutation, IsSortedBy, IsSorted}
 use Rattle.std.proofs.lemmas.List.Sorted.{IsPermutation-refl, IsPermutation-trans, IsPermutation-cons, IsPermutation-middle, IsPermutation-sym}
 use Rattle.std.proofs.lemmas.List.MinMax.{ranks_by}
-use Rattle.std.specs.Cmp.{on_total, nat_cmp_total}
 use Rattle.std.specs.Cmp.Lexicographic.{lists_total}
 use Rattle.kp_base.specs.declared.lit.Lit.{Lit}
 use Rattle.kp_base.specs.Lit.{code_of}

@@ -11,3 +11,12 @@ pub mod Operators
 pub mod OneTag
 pub mod ExampleCells
 pub mod ExamplePlain
+pub mod Merges
+pub mod Lifted
+pub mod Failing
+pub mod Relevance
+pub mod Facts
+pub mod Primes
+pub mod Covered
+pub mod Complete
+pub mod ExampleEither

@@ -25,3 +25,15 @@ pub use Rattle.kp_law_machine.proofs.OneTag.{is_table as one_tag_is_a_table}
 -- ---- examples that others go on from
 pub use Rattle.kp_law_machine.proofs.ExampleCells.{effect as cells_effect, left as cells_left, cells as cells_ground, one_of_three as one_cell_is_full, first as first_cell_full, second as second_cell_full, third as third_cell_full, table as cells_table, two_and_merge as cells_accepted, valid as cells_merges_are_valid, right as cells_table_is_right, below_all as literals_below, never as cells_never_clash}
 pub use Rattle.kp_law_machine.proofs.ExamplePlain.{free as swap_is_clash_free}
+-- ---- A lifted list strips to what was lifted, and is accepted where any list is that strips to the same.
+pub use Rattle.kp_law_machine.proofs.Lifted.{lists_strip as lifted_lists_strip, lifted_accepted as lifted_is_accepted_where_it_lifts, lists_best as lifted_lists_are_best}
+-- what is known after the merges and one action
+pub use Rattle.kp_law_machine.proofs.Lifted.{known_after}
+-- from this knowledge on the actions lift
+pub use Rattle.kp_law_machine.proofs.Lifted.{lifts_from}
+-- ---- Actions lift, or fail in one place with one literal.
+pub use Rattle.kp_law_machine.proofs.Failing.{lift_or_fail as lists_lift_or_fail, dont_lift as failing_lists_dont_lift, fail_once as lists_fail_once}
+-- ---- Relevance has the links of each action, and keeps to the atoms of the problem.
+pub use Rattle.kp_law_machine.proofs.Relevance.{relevant_of_atoms as relevant_is_of_the_atoms}
+-- ---- With a complete table each plan lifts.
+pub use Rattle.kp_law_machine.proofs.Complete.{none_lost as no_plan_is_lost}

@@ -1,2 +1,4 @@
 pub mod Laws
 pub mod Formulas
+pub mod Lifts
+pub mod Completeness

@@ -23,10 +23,9 @@ use Rattle.kp_law_ktask.specs.Task.{task_of}
 use Rattle.kp_base.specs.ActionNames.{action_name}
 use Rattle.kp_law_ktask.specs.Writable.{IsWritableTask}
 use Rattle.kp_law_ktask.proofs.Public.{tagged_plans_are_accepted}
-use Rattle.kp_law_given.specs.Translations.{ground_of, initial_of}
-use Rattle.kp_law_given.specs.Tables.{IsTableFor}
-use Rattle.kp_law_given.proofs.Public.{initial_states_are_models, tables_can_be_written}
-use Rattle.kp_law_written.proofs.Public.{plans_lift}
+use Rattle.kp_law_files.specs.Translations.{ground_of, initial_of}
+use Rattle.kp_law_files.specs.Tables.{IsTableFor}
+use Rattle.kp_law_files.proofs.Public.{initial_states_are_models, tables_can_be_written, plans_lift}
 use Rattle.kp_run_messages.specs.Refusals.{nothing}
 use Rattle.kp_run_messages.specs.Searches.{no_plan_text}
 use Rattle.kp_outside.specs.Outside.{FileMap}

@@ -40,8 +40,8 @@ use Rattle.kp_search.specs.declared.found.Found.TheVariants.{NoPlan}
 use Rattle.kp_search.specs.Trace.{Entry, first, nothing}
 use Rattle.kp_search.specs.Trace.IsCourse.{lost}
 use Rattle.kp_law_ktask.specs.Task.{task_of}
-use Rattle.kp_law_given.specs.Translations.{ground_of, initial_of}
-use Rattle.kp_law_given.specs.Tables.{empty_tag}
+use Rattle.kp_law_files.specs.Translations.{ground_of, initial_of}
+use Rattle.kp_law_files.specs.Tables.{empty_tag}
 use Rattle.kp_gen.specs.Lines.{text}
 use Rattle.kp_gen.specs.Line as line
 use Rattle.kp_run_messages.specs.Searches.{no_plan_text}

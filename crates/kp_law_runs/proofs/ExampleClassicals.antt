@@ -21,7 +21,7 @@ use Rattle.kp_guide.specs.Added.Costs.{none, given, by_rule}
 use Rattle.kp_search.specs.declared.found.Found.{Found}
 use Rattle.kp_search.specs.declared.found.Found.TheVariants.{Plan, NoPlan, Spent}
 use Rattle.kp_search.specs.Trace.{first, step}
-use Rattle.kp_law_given.specs.Translations.{ground_of}
+use Rattle.kp_law_files.specs.Translations.{ground_of}
 use Rattle.kp_outside.specs.Outside.{with_bytes}
 use Rattle.kp_run_outcome.specs.declared.outcome.Outcome.{Outcome}
 use Rattle.kp_run_outcome.specs.declared.status.Status.TheVariants as status

@@ -28,8 +28,8 @@ use Rattle.kp_ground_meaning.specs.Weights.{binding_count, total_weight}
 use Rattle.kp_ground.specs.Grounded.{IsGrounded}
 use Rattle.kp_tree.specs.Files.{HasTree}
 use Rattle.kp_law_decidable.proofs.Public.{clash_or_none}
-use Rattle.kp_law_given.specs.Translations.{ground_of, initial_of}
-use Rattle.kp_law_given.proofs.Public.{formulas_speak_of_ground_atoms}
+use Rattle.kp_law_files.specs.Translations.{ground_of, initial_of}
+use Rattle.kp_law_files.proofs.Public.{formulas_speak_of_ground_atoms}
 use Rattle.kp_run_prepare.specs.Texts.{HaveTrees}
 use Rattle.kp_run_prepare.specs.Prepared.{usual, IsPrepared}
 use Rattle.kp_run_classical.specs.Classical.{classical, IsClassical}

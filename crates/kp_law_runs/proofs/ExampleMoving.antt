@@ -49,8 +49,8 @@ use Rattle.kp_law_decidable.proofs.Public.{clauses_decided, tags_decided}
 use Rattle.kp_law_decidable.specs.Laws.{AreProper, TellsOfTags}
 use Rattle.kp_law_ktask.specs.Task.{task_of}
 use Rattle.kp_ktask.specs.Translated.{FitsLimits}
-use Rattle.kp_law_given.specs.Tables.{IsTableFor}
-use Rattle.kp_law_given.proofs.Public.{formulas_speak_of_ground_atoms, tables_can_be_written}
+use Rattle.kp_law_files.specs.Tables.{IsTableFor}
+use Rattle.kp_law_files.proofs.Public.{formulas_speak_of_ground_atoms, tables_can_be_written}
 use Rattle.kp_gen.specs.Lines.{text}
 use Rattle.kp_gen.specs.Line as line
 use Rattle.kp_outside.specs.Outside.{with_bytes}

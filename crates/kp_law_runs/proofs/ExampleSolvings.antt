@@ -24,9 +24,9 @@ use Rattle.kp_search.specs.declared.found.Found.{Found}
 use Rattle.kp_search.specs.declared.found.Found.TheVariants.{Plan, NoPlan, Spent}
 use Rattle.kp_search.specs.Trace.{first, step}
 use Rattle.kp_law_ktask.specs.Task.{task_of}
-use Rattle.kp_law_given.specs.Translations.{ground_of, initial_of}
-use Rattle.kp_law_given.specs.Tables.{empty_tag}
-use Rattle.kp_law_given.proofs.Public.{tables_can_be_written}
+use Rattle.kp_law_files.specs.Translations.{ground_of, initial_of}
+use Rattle.kp_law_files.specs.Tables.{empty_tag}
+use Rattle.kp_law_files.proofs.Public.{tables_can_be_written}
 use Rattle.kp_outside.specs.Outside.{with_bytes}
 use Rattle.kp_run_outcome.specs.declared.outcome.Outcome.{Outcome}
 use Rattle.kp_run_outcome.specs.declared.status.Status.TheVariants as status

@@ -3,8 +3,8 @@ use Rattle.std.proofs.Common.{◌↔◌, ◌≡◌, ℕ, true, List, Some, map, 
 use Rattle.kp_base.specs.declared.ground.TagTable.{TagTable}
 use Rattle.kp_base.specs.Machine.{MachineStep, accepts, stripped}
 use Rattle.kp_base.proofs.Cases.{some_alike}
-use Rattle.kp_law_complete.specs.Lifts.{lifted}
-use Rattle.kp_law_complete.proofs.Public.{lifted_lists_are_best}
+use Rattle.kp_law_machine.specs.Lifts.{lifted}
+use Rattle.kp_law_machine.proofs.Public.{lifted_lists_are_best}
 use Rattle.kp_run_prepare.proofs.Public.{numbers_of_names_once}
 use Rattle.kp_names_meaning.specs.Steps.{Step}
 use Rattle.kp_names_meaning.specs.Plans.{HasProblem}
@@ -12,10 +12,9 @@ use Rattle.kp_plans.specs.declared.step.PlanStep.{PlanStep}
 use Rattle.kp_plans.specs.PlanFiles.{names}
 use Rattle.kp_plans.specs.Found.{action_of}
 use Rattle.kp_law_ktask.proofs.Public.{tagged_plans_are_accepted, tagged_steps_strip}
-use Rattle.kp_law_given.specs.Translations.{ground_of}
-use Rattle.kp_law_given.specs.Tables.{IsTableFor}
-use Rattle.kp_law_given.proofs.Public.{tables_can_be_written}
-use Rattle.kp_law_written.proofs.Public.{lifted_steps_have_names, lifts_written}
+use Rattle.kp_law_files.specs.Translations.{ground_of}
+use Rattle.kp_law_files.specs.Tables.{IsTableFor}
+use Rattle.kp_law_files.proofs.Public.{tables_can_be_written, lifted_steps_have_names, lifts_written}
 use Rattle.kp_run_inputs.proofs.Public.{found_numbers_are_actions, found_actions_are_named}
 use Rattle.kp_law_runs.specs.Commands.{StripsTo}
 

@@ -16,8 +16,8 @@ use Rattle.kp_tree_grammar.specs.declared.tree.Word.{Word}
 use Rattle.kp_tree_grammar.specs.Trees.{Domain, Problem}
 use Rattle.kp_names_meaning.specs.Numbering.{numbered_problem}
 use Rattle.kp_names_meaning.specs.Strip.{stripped, strip}
-use Rattle.kp_law_given.specs.Translations.{ground_of, initial_of}
-use Rattle.kp_law_given.proofs.Public.{formulas_speak_of_ground_atoms, initial_states_are_models, tables_can_be_written}
+use Rattle.kp_law_files.specs.Translations.{ground_of, initial_of}
+use Rattle.kp_law_files.proofs.Public.{formulas_speak_of_ground_atoms, initial_states_are_models, tables_can_be_written, numbers_below_are_actions as there, lifted_steps_have_names}
 use Rattle.kp_law_ktask.specs.Task.{task_of}
 use Rattle.kp_law_ktask.specs.Weight.{weight_of}
 use Rattle.kp_classic.specs.declared.task.Task.{Task}
@@ -42,8 +42,7 @@ use Rattle.kp_run_prepare.specs.Refusing.{refuses, named_in}
 use Rattle.kp_run_prepare.specs.Prepared.{usual, IsPrepared}
 use Rattle.kp_run_prepare.proofs.Public.{usual_ground_is_of_its_atoms, problem_of_trees}
 use Rattle.kp_run_inputs.proofs.Public.{found_numbers_are_actions, by_table_some_outcome, by_plan_some_outcome, table_of_source_is_for_trees}
-use Rattle.kp_law_complete.proofs.Public.{lists_lift_or_fail}
-use Rattle.kp_law_written.proofs.Public.{numbers_below_are_actions as there, lifted_steps_have_names}
+use Rattle.kp_law_machine.proofs.Public.{lists_lift_or_fail, no_clash_under_exclusive_pairs as never_clashes}
 use Rattle.kp_run_messages.specs.Lifting.{unlifted_text}
 use Rattle.kp_run_solve.specs.Solving.{denies, SolvesGround, over as too_large}
 use Rattle.kp_run.specs.Outcomes.{shows_usage, translates, TranslatesGround, over, done, TranslatesTrees, ListsMerges, MergesTrees, prints, StripsText, too_long, no_plan, no_strip, strips, tells, TellsJudged, ChecksTrees, failing_step, LiftsActions, lifts, fails, LiftsPlan, no_task, with_task, LiftsTrees, SolvesTrees, tells_width, no_report, with_report, MeasuresTrees, ComesTo, translated, merged, checked, lifted, solved, measured, benched, usage, of_command}
@@ -51,7 +50,6 @@ use Rattle.kp_run.specs.Outcomes as outcomes
 use Rattle.kp_law_runs.specs.Laws.{CommandsHaveAnOutcome, HasSomeOutcome}
 use Rattle.kp_run_inputs.specs.Tables.{HasTable}
 use Rattle.kp_law_runs.proofs.SomeStart.{some_comes}
-use Rattle.kp_law_machine.proofs.Public.{no_clash_under_exclusive_pairs as never_clashes}
 use Rattle.kp_run_bench.specs.Bench.{texts_of, usual_implicates, BenchesGround, over as too_large_to_bench, BenchesTrees}
 use Rattle.kp_law_runs.proofs.SomeSearch.{some_search, some_bench, some_classical_comes}
 use Rattle.kp_run.proofs.Public.{task_of_trees_fits}

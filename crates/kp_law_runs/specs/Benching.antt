@@ -15,8 +15,8 @@ use Rattle.kp_search.specs.declared.found.Found.TheVariants.{Plan, Spent}
 use Rattle.kp_search.specs.Ends.{HasMoreStates}
 use Rattle.kp_law_ktask.specs.Task.{task_of}
 use Rattle.kp_ktask.specs.Translated.{FitsLimits}
-use Rattle.kp_law_given.specs.Translations.{ground_of, initial_of}
-use Rattle.kp_law_written.specs.Written.{translation_of}
+use Rattle.kp_law_files.specs.Translations.{ground_of, initial_of}
+use Rattle.kp_law_files.specs.Written.{translation_of}
 use Rattle.kp_run_messages.specs.Searches.{no_plan_text, spent_text}
 use Rattle.kp_outside.specs.Outside.{FileMap}
 use Rattle.kp_run_outcome.specs.declared.outcome.Outcome.{Outcome}

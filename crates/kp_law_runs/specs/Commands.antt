@@ -22,8 +22,8 @@ use Rattle.kp_tags_merges.specs.Printed.{merges_of, merges_text}
 use Rattle.kp_tags.specs.Made.{IsMade}
 use Rattle.kp_check.specs.declared.answer.Judged.{Judged}
 use Rattle.kp_check.specs.Judging.{AnswersJudged}
-use Rattle.kp_law_given.specs.Translations.{ground_of, initial_of}
-use Rattle.kp_law_written.specs.Written.{translation_of}
+use Rattle.kp_law_files.specs.Translations.{ground_of, initial_of}
+use Rattle.kp_law_files.specs.Written.{translation_of}
 use Rattle.kp_outside.specs.Outside.{FileMap}
 use Rattle.kp_run_outcome.specs.declared.outcome.Outcome.{Outcome}
 use Rattle.kp_run_outcome.specs.declared.status.Status.TheVariants as status

@@ -7,7 +7,7 @@ use Rattle.kp_base.specs.declared.ground.Merge.{Merge}
 use Rattle.kp_base.specs.Lists.{only_if}
 use Rattle.kp_base.specs.Machine.{MachineStep, Known, after_merge}
 use Rattle.kp_lift_known.specs.Known.{Table, Says}
-use Rattle.kp_law_complete.specs.Lifts.{adds, after_merges, merges_taken}
+use Rattle.kp_law_machine.specs.Lifts.{adds, after_merges, merges_taken}
 use Rattle.kp_law_ktask.specs.Laws.{op_number}
 use Rattle.kp_lift.specs.Running.{MergesTaken}
 

@@ -5,7 +5,7 @@ ghost use Rattle.kp_base.specs.Lists.{only_if};
 ghost use Rattle.kp_base.specs.Implicates.{IsOfItsAtoms};
 ghost use Rattle.kp_base.specs.Machine.{Known};
 ghost use Rattle.kp_lift_known.specs.Known.{IsLike, Says};
-ghost use Rattle.kp_law_complete.specs.Lifts.{adds, after_merges};
+ghost use Rattle.kp_law_machine.specs.Lifts.{adds, after_merges};
 ghost use Rattle.kp_lift.specs.Lifting.{IsTableOn};
 ghost use Rattle.kp_lift.specs.Running.{IsAbout, MergesTaken, GoalEnds};
 

@@ -1,6 +1,5 @@
 ghost use Rattle.std.specs.Prelude.{◌≡◌, ◌++◌, [], map, IfOk, OnOk};
-ghost use Rattle.kp_tree_grammar.specs.View.{term_view, atom_view, domain_view, problem_view};
-ghost use Rattle.kp_tree_grammar.specs.View.{cond_view as tree_view};
+ghost use Rattle.kp_tree_grammar.specs.View.{term_view, atom_view, domain_view, problem_view, cond_view as tree_view};
 ghost use Rattle.kp_names_meaning.specs.Numbering.{numbered_term, numbered_terms, numbered_cond};
 ghost use Rattle.kp_names_lifted.specs.View.{cond_view};
 

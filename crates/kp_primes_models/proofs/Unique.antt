@@ -2,8 +2,7 @@
 use Rattle.std.proofs.Common.{◌≡◌, ◌⊎◌, ℕ, zero, suc, Bool, true, false, List, Option, Some, None, refl, sym, subst, ◌∙◌, inl, inr, arith}
 use Rattle.std.proofs.lemmas.Bool.{cases_lt}
 use Rattle.kp_base.specs.declared.lit.AtomId.{AtomId}
-use Rattle.kp_base.specs.Steps.{State}
-use Rattle.kp_base.specs.Steps.{SameBelow, ComesBefore}
+use Rattle.kp_base.specs.Steps.{State, SameBelow, ComesBefore}
 use Rattle.kp_primes_models.specs.Ordered.{IsFirst, AnswersFirst}
 
 -- two states are the same below n, or one comes before the other

@@ -10,11 +10,10 @@ use Rattle.kp_names_meaning.specs.Strip.{strip}
 use Rattle.kp_classic.specs.Steps.{start, succeeds}
 use Rattle.kp_law_ktask.specs.Task.{task_of}
 use Rattle.kp_law_ktask.proofs.Public.{tagged_plans_are_accepted, tagged_steps_strip}
-use Rattle.kp_law_given.specs.Translations.{ground_of, initial_of}
-use Rattle.kp_law_given.specs.Tables.{IsTableFor}
-use Rattle.kp_law_written.specs.Written.{translation_of}
-use Rattle.kp_law_given.proofs.Public.{tables_can_be_written}
-use Rattle.kp_law_written.proofs.Public.{translations_are_sound}
+use Rattle.kp_law_files.specs.Translations.{ground_of, initial_of}
+use Rattle.kp_law_files.specs.Tables.{IsTableFor}
+use Rattle.kp_law_files.specs.Written.{translation_of}
+use Rattle.kp_law_files.proofs.Public.{tables_can_be_written, translations_are_sound}
 use Rattle.kp_run_solve.specs.Solving.{AreNamed}
 use Rattle.kp_run_solve.proofs.Public.{named_plans_are_accepted}
 

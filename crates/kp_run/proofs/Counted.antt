@@ -4,9 +4,9 @@ use Rattle.std.proofs.lemmas.List.{length-map}
 use Rattle.kp_names_meaning.specs.Numbering.{numbered_problem}
 use Rattle.kp_ground_meaning.specs.Ground.{ground_atoms, atom_name}
 use Rattle.kp_law_ktask.proofs.Public.{facts_are_counted}
-use Rattle.kp_law_given.specs.Translations as given
-use Rattle.kp_law_given.specs.Tables.{empty_tag}
-use Rattle.kp_law_given.proofs.Public.{empty_tags_are_light}
+use Rattle.kp_law_files.specs.Translations as given
+use Rattle.kp_law_files.specs.Tables.{empty_tag}
+use Rattle.kp_law_files.proofs.Public.{empty_tags_are_light}
 use Rattle.kp_run.specs.Laws.{EmptyTagsFit}
 
 -- there are at most two facts for each of 4,096 atoms

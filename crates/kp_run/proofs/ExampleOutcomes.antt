@@ -45,10 +45,10 @@ use Rattle.kp_ground_meaning.specs.Ground as by_number
 use Rattle.kp_ground_meaning.specs.Weights.{binding_count, total_weight}
 use Rattle.kp_ground.specs.Grounded.{IsGrounded}
 use Rattle.kp_names_meaning.specs.Initial.{HasInitialState}
-use Rattle.kp_law_given.specs.Translations.{ground_of, initial_of}
-use Rattle.kp_law_given.specs.Tables.{empty_tag}
-use Rattle.kp_law_written.specs.Written.{translation_of}
-use Rattle.kp_law_given.proofs.Public.{initial_states_are_models}
+use Rattle.kp_law_files.specs.Translations.{ground_of, initial_of}
+use Rattle.kp_law_files.specs.Tables.{empty_tag}
+use Rattle.kp_law_files.specs.Written.{translation_of}
+use Rattle.kp_law_files.proofs.Public.{initial_states_are_models}
 use Rattle.kp_outside.specs.Outside.{FileMap}
 use Rattle.kp_run_outcome.specs.declared.outcome.Outcome.{Outcome}
 use Rattle.kp_run_outcome.specs.declared.status.Status.TheVariants as status

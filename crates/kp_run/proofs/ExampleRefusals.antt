@@ -42,9 +42,9 @@ use Rattle.kp_tree.specs.Files.{HasTree, offending}
 use Rattle.kp_tree.specs.Files as files
 use Rattle.kp_names.specs.Resolved.{in_problem}
 use Rattle.kp_names_meaning.specs.Initial.{HasInitialState}
-use Rattle.kp_law_given.specs.Translations.{ground_of, initial_of}
-use Rattle.kp_law_given.specs.Tables.{empty_tag}
-use Rattle.kp_law_given.proofs.Public.{initial_states_are_models}
+use Rattle.kp_law_files.specs.Translations.{ground_of, initial_of}
+use Rattle.kp_law_files.specs.Tables.{empty_tag}
+use Rattle.kp_law_files.proofs.Public.{initial_states_are_models}
 use Rattle.kp_run_messages.specs.Refusals.{nothing, refusal_text}
 use Rattle.kp_run_outcome.specs.declared.outcome.Outcome.{Outcome}
 use Rattle.kp_run_outcome.specs.declared.status.Status.TheVariants as status

@@ -25,10 +25,9 @@ use Rattle.kp_search.specs.declared.found.Found.TheVariants.{Plan, NoPlan, Spent
 use Rattle.kp_law_ktask.specs.Task.{task_of}
 use Rattle.kp_law_ktask.specs.Writable.{IsWritableTask}
 use Rattle.kp_law_ktask.proofs.Public.{tagged_plans_are_accepted}
-use Rattle.kp_law_given.specs.Translations.{ground_of, initial_of}
-use Rattle.kp_law_given.specs.Tables.{IsTableFor}
-use Rattle.kp_law_given.proofs.Public.{tables_can_be_written, formulas_speak_of_ground_atoms, initial_states_are_models}
-use Rattle.kp_law_written.proofs.Public.{plans_lift}
+use Rattle.kp_law_files.specs.Translations.{ground_of, initial_of}
+use Rattle.kp_law_files.specs.Tables.{IsTableFor}
+use Rattle.kp_law_files.proofs.Public.{tables_can_be_written, formulas_speak_of_ground_atoms, initial_states_are_models, plans_lift}
 use Rattle.kp_plans.specs.Printed.{plan_text}
 use Rattle.kp_run_messages.specs.Refusals.{nothing}
 use Rattle.kp_run_messages.specs.Searches.{no_plan_text}

@@ -13,12 +13,12 @@ use Rattle.kp_base.specs.declared.refused.Refused.TheVariants as refusals
 use Rattle.kp_base.specs.Covering.{AreUncovered}
 use Rattle.kp_tree_grammar.specs.declared.tree.Word.{Word}
 use Rattle.kp_tree_grammar.specs.Trees as trees
-use Rattle.kp_law_complete.specs.Lifts.{lifted as lift_of, UnliftedAt}
+use Rattle.kp_law_machine.specs.Lifts.{lifted as lift_of, UnliftedAt}
 use Rattle.kp_law_ktask.specs.Task.{task_of}
 use Rattle.kp_law_ktask.specs.Accepted.{IsAccepted}
 use Rattle.kp_ktask.specs.Translated.{FitsLimits, RefusesTask}
 use Rattle.kp_run_translate.specs.Translations.{translation_with}
-use Rattle.kp_law_given.specs.Translations.{ground_of, initial_of}
+use Rattle.kp_law_files.specs.Translations.{ground_of, initial_of}
 use Rattle.kp_tags_merges.specs.Printed.{merges_of, merges_text}
 use Rattle.kp_width.specs.declared.report.WidthReport.{WidthReport}
 use Rattle.kp_width.specs.declared.report.WidthReport.TheVariants.{Within, Over}

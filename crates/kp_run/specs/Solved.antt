@@ -17,8 +17,8 @@ use Rattle.kp_search.specs.declared.found.Found.TheVariants.{Spent}
 use Rattle.kp_search.specs.Ends.{HasMoreStates}
 use Rattle.kp_law_ktask.specs.Task.{task_of}
 use Rattle.kp_ktask.specs.Translated.{FitsLimits}
-use Rattle.kp_law_given.specs.Translations.{ground_of, initial_of}
-use Rattle.kp_law_written.specs.Written.{translation_of}
+use Rattle.kp_law_files.specs.Translations.{ground_of, initial_of}
+use Rattle.kp_law_files.specs.Written.{translation_of}
 use Rattle.kp_run_messages.specs.Searches.{no_plan_line, no_plan_text, spent_text}
 use Rattle.kp_outside.specs.Outside.{FileMap, with_file, with_bytes}
 use Rattle.kp_run_outcome.specs.declared.status.Status.{Status}

@@ -10,10 +10,9 @@ use Rattle.kp_classic.specs.declared.task.Task.{Task}
 use Rattle.kp_lift.specs.Lifting.{operator_step}
 use Rattle.kp_plans.specs.Printed.{plan_text}
 use Rattle.kp_run_outcome.specs.declared.outcome.Outcome.{Outcome}
-use Rattle.kp_words.specs.Names.{Translate}
+use Rattle.kp_words.specs.Names.{Translate, Source}
 use Rattle.kp_outside.specs.Outside.{IsFront}
 use Rattle.kp_run_outcome.specs.Ends.{most_bytes}
-use Rattle.kp_words.specs.Names.{Source}
 use Rattle.kp_run_inputs.specs.Tables.{IsOrigin}
 use Rattle.kp_run.specs.declared.sourced.Sourced.{Sourced}
 use Rattle.kp_run.specs.Outcomes.{translates, prints}

@@ -7,8 +7,8 @@ use Rattle.kp_law_machine.proofs.Public.{no_clash_under_exclusive_pairs as never
 use Rattle.kp_primes.specs.Held.{formula}
 use Rattle.kp_law_ktask.specs.Task.{task_of}
 use Rattle.kp_ktask.specs.Translated.{FitsLimits}
-use Rattle.kp_law_given.specs.Translations.{ground_of, initial_of}
-use Rattle.kp_law_given.proofs.Public.{tables_can_be_written}
+use Rattle.kp_law_files.specs.Translations.{ground_of, initial_of}
+use Rattle.kp_law_files.proofs.Public.{tables_can_be_written}
 use Rattle.kp_words.specs.Names.{of_mode}
 use Rattle.kp_run_prepare.specs.declared.prepared.Prepared.{Prepared as Made}
 use Rattle.kp_run_prepare.specs.Prepared.{usual}

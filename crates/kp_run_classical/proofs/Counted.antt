@@ -9,7 +9,7 @@ use Rattle.kp_ground_meaning.specs.Ground.{kept_instances, ground_atoms, atom_na
 use Rattle.kp_ground.specs.Grounded.{IsGrounded}
 use Rattle.kp_ground.specs.Passes.{action_at}
 use Rattle.kp_ground.proofs.Public.{actions_of_schemas_in_order}
-use Rattle.kp_law_given.proofs.Public.{ground_is_of_its_atoms}
+use Rattle.kp_law_files.proofs.Public.{ground_is_of_its_atoms}
 use Rattle.kp_run_classical.specs.Classical.{classical}
 
 pub is_of_atoms : (l : Lifted) (g : Ground) → IsGrounded l classical g → IsOfItsAtoms g

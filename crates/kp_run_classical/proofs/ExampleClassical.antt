@@ -16,8 +16,8 @@ use Rattle.kp_ground_meaning.specs.Ground as by_number
 use Rattle.kp_ground_meaning.specs.Weights.{binding_count, total_weight}
 use Rattle.kp_ground.specs.Grounded.{IsGrounded}
 use Rattle.kp_classic.specs.Steps.{start, succeeds}
-use Rattle.kp_law_given.specs.Translations.{initial_of}
-use Rattle.kp_law_given.proofs.Public.{initial_states_are_models}
+use Rattle.kp_law_files.specs.Translations.{initial_of}
+use Rattle.kp_law_files.proofs.Public.{initial_states_are_models}
 use Rattle.kp_run_classical.specs.Classical.{classical, IsClassical, RefusesClassical, no_initial_state, task_of}
 use Rattle.kp_run_classical.specs.Laws.{Succeeds, HaveNames}
 

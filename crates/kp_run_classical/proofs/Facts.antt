@@ -27,7 +27,7 @@ use Rattle.kp_base.proofs.AtomOrder.{same_atom-true, same_atom-refl}
 use Rattle.kp_ground_meaning.proofs.Public.{atoms_are_numbered}
 use Rattle.kp_init.specs.Initial.{item_clauses, closed_of, initial_over, initial_of}
 use Rattle.kp_classic.specs.Grounded.{is_known}
-use Rattle.kp_law_given.proofs.Public.{formula_by_number_is_over_atoms}
+use Rattle.kp_law_files.proofs.Public.{formula_by_number_is_over_atoms}
 use Rattle.kp_run_classical.specs.Certain.{has_units, SaysAtMostOneState}
 use Rattle.kp_run_classical.specs.Classical.{IsCertain}
 use Rattle.kp_run_classical.specs.Numbered.{is_fact, HasFacts}

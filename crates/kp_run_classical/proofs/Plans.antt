@@ -14,8 +14,8 @@ use Rattle.kp_init.proofs.Public.{plan_of_texts}
 use Rattle.kp_classic.specs.Grounded.{SaysOneState, DoesTheSame}
 use Rattle.kp_classic.specs.Steps.{start}
 use Rattle.kp_classic.proofs.Public.{task_succeeds_the_same, task_does_the_same}
-use Rattle.kp_law_given.specs.Translations.{ground_of, initial_of}
-use Rattle.kp_law_given.proofs.Public.{initial_states_are_models}
+use Rattle.kp_law_files.specs.Translations.{ground_of, initial_of}
+use Rattle.kp_law_files.proofs.Public.{initial_states_are_models}
 use Rattle.kp_run_prepare.specs.Texts.{HaveTrees}
 use Rattle.kp_run_prepare.proofs.Public.{problem_of_trees, numbers_of_names_once}
 use Rattle.kp_run_classical.specs.Classical.{IsClassical, task_of}

@@ -12,9 +12,9 @@ use Rattle.kp_base.specs.declared.refused.Refused.TheVariants as refusals
 use Rattle.kp_base.specs.declared.refused.Stop.TheVariants as causes
 use Rattle.kp_base.specs.Entailed.{HaveSameModels}
 use Rattle.kp_tags_merges.specs.declared.merge.FileMerge.{FileMerge}
-use Rattle.kp_tags_merges.specs.MergesFiles.{IsMergesOf}
+use Rattle.kp_tags_merges.specs.MergesFiles.{IsMergesOf, AnswersMergesFile}
 use Rattle.kp_plans.specs.declared.step.PlanStep.{PlanStep}
-use Rattle.kp_plans.specs.PlanFiles.{names, IsPlanOf}
+use Rattle.kp_plans.specs.PlanFiles.{names, IsPlanOf, AnswersPlan}
 use Rattle.kp_plans.specs.Found.{action_names, action_of, AnswersSteps as AnswersFound}
 use Rattle.kp_run_messages.specs.Refusals.{Named, nothing}
 use Rattle.kp_run_outcome.specs.Ends.{most_bytes}
@@ -27,8 +27,6 @@ use Rattle.kp_base.specs.declared.limits.Mode.{Mode}
 use Rattle.kp_base.specs.declared.refused.Stop.{Stop}
 use Rattle.kp_tags.specs.Answers.{Accepts, RefusesTable, AnswersTable as AnswersAccepted}
 use Rattle.kp_tags.specs.Made.{AnswersMade}
-use Rattle.kp_tags_merges.specs.MergesFiles.{AnswersMergesFile}
-use Rattle.kp_plans.specs.PlanFiles.{AnswersPlan}
 use Rattle.kp_outside.specs.declared.outside.Got.{Got}
 use Rattle.kp_outside.specs.Outside.{IsFront}
 use Rattle.kp_run_inputs.specs.declared.origin.Origin.TheVariants as origins

@@ -17,7 +17,7 @@ use Rattle.kp_ground_meaning.proofs.Public.{actions_named_once}
 use Rattle.kp_plans.specs.declared.step.PlanStep.{PlanStep}
 use Rattle.kp_plans.specs.PlanFiles.{names}
 use Rattle.kp_plans.specs.Found.{action_names, action_of}
-use Rattle.kp_law_given.specs.Translations.{ground_of}
+use Rattle.kp_law_files.specs.Translations.{ground_of}
 pub use Rattle.kp_run_prepare.proofs.Public.{numbers_of_names_once as numbers_once}
 
 -- ---- the action that a step names has its name

@@ -16,7 +16,7 @@ use Rattle.kp_ground.specs.Grounded.{IsGrounded}
 use Rattle.kp_ground.specs.Passes.{action_at}
 use Rattle.kp_ground.proofs.Public.{actions_of_schemas_in_order}
 use Rattle.kp_base.specs.Counted.{IsCounted}
-use Rattle.kp_law_given.proofs.Public.{actions_light, ground_is_of_its_atoms}
+use Rattle.kp_law_files.proofs.Public.{actions_light, ground_is_of_its_atoms}
 use Rattle.kp_law_ktask.specs.Weight.{both_weight, action_weight}
 use Rattle.kp_run_prepare.specs.Prepared.{usual}
 

@@ -21,7 +21,7 @@ use Rattle.kp_ground.specs.Grounded.{IsGrounded, RefusesGround}
 use Rattle.kp_init.specs.Initial.{initial_of}
 use Rattle.kp_primes.specs.Held.{Held, formula}
 use Rattle.kp_primes.specs.Answers.{HoldsPrimes, HasNoState, RefusesPrimes, too_many, no_state}
-use Rattle.kp_law_given.proofs.Public.{initial_states_are_models}
+use Rattle.kp_law_files.proofs.Public.{initial_states_are_models}
 use Rattle.kp_run_messages.specs.Refusals.{nothing}
 use Rattle.kp_run_outcome.specs.declared.outcome.Outcome.{Outcome}
 use Rattle.kp_run_prepare.specs.declared.prepared.Prepared.{Prepared as Made}

@@ -7,7 +7,7 @@ use Rattle.kp_names_meaning.specs.Faults.{HasNoFault}
 use Rattle.kp_names_meaning.specs.Plans.{HasProblem}
 use Rattle.kp_base.specs.ActionNames.{action_name}
 use Rattle.kp_ground_meaning.proofs.Public.{actions_named_once}
-use Rattle.kp_law_given.specs.Translations.{ground_of}
+use Rattle.kp_law_files.specs.Translations.{ground_of}
 use Rattle.kp_run_prepare.specs.Texts.{HaveTrees}
 
 -- the problem of two texts that have these trees

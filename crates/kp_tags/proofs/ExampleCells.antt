@@ -9,11 +9,10 @@ use Rattle.kp_base.specs.declared.refused.Refused.TheVariants as refusals
 use Rattle.kp_base.specs.Lists.{Member}
 use Rattle.kp_base.specs.Lit.{positive}
 use Rattle.kp_base.specs.LitSet.{IsAscending}
-use Rattle.kp_base.specs.Steps.{State, holds, is_model}
+use Rattle.kp_base.specs.Steps.{State, holds, is_model, ComesBefore}
 use Rattle.kp_base.specs.Entailed.{IsConsistent, AreValid, IsTable}
 use Rattle.kp_law_machine.proofs.Public.{cells_ground, one_cell_is_full, cells_table, cells_table_is_right as right, cells_merges_are_valid as valid}
 use Rattle.kp_primes.specs.Held.{Held}
-use Rattle.kp_base.specs.Steps.{ComesBefore}
 use Rattle.kp_primes_models.specs.Ordered.{state_of, AreFirst}
 use Rattle.kp_cover.specs.Valid.{satisfies_one, AreValidTags, is_outside}
 use Rattle.kp_tags_merges.specs.declared.merge.FileMerge.{FileMerge}

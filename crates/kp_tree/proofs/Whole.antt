@@ -5,10 +5,9 @@ use Rattle.kp_tree_grammar.specs.Sorts.{Sort, El}
 use Rattle.kp_tree_grammar.specs.Forms.{Form}
 use Rattle.kp_tree_grammar.specs.Reading.{Syntax, At, stop, ReadBy, ReadsWhole, StopsWhole, within_form, after_form}
 use Rattle.kp_tree_grammar.specs.Parsing.{Outcome, ◌>>=◌, ended, go, level}
-use Rattle.kp_tree_grammar.specs.Depth.{deep}
+use Rattle.kp_tree_grammar.specs.Depth.{deep, levels}
 use Rattle.kp_tree_grammar.specs.declared.tree.Word.{Word}
 use Rattle.kp_tree_grammar.proofs.Public.{TellsReading, reading_tells, deep_within, whole_never_both, whole_stops_once, whole_reads_or_stops}
-use Rattle.kp_tree_grammar.specs.Depth.{levels}
 use Rattle.kp_tree.specs.Files.{ReadsShallow, RefusedAt, offending, too_deep}
 use Rattle.kp_tree_parts.specs.Readers.{whole_at}
 use Rattle.kp_tree.proofs.First.{halts_before, stops_before, Comes}

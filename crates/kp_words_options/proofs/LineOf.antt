@@ -1,6 +1,5 @@
 -- What `line_of` ensures, from what its calls ensure.
-use Rattle.std.proofs.Common.{◌≡◌, ◌≢◌, ◌∙◌, ℕ, true, false, List, [], ◌∷◌, Option, Some, None, refl, ap, sym, subst, map, length, is_some, true≢false, Result, Ok, Err, IfOk, IfErr, IsErrAnd}
-use Rattle.std.proofs.Common.{arith}
+use Rattle.std.proofs.Common.{◌≡◌, ◌≢◌, ◌∙◌, ℕ, true, false, List, [], ◌∷◌, Option, Some, None, refl, ap, sym, subst, map, length, is_some, true≢false, Result, Ok, Err, IfOk, IfErr, IsErrAnd, arith}
 use Rattle.std.proofs.lemmas.Grind.{common_steps}
 use Rattle.std.specs.Borrow.{Bor}
 use Rattle.std.specs.List.{list_all}

@@ -1,8 +1,7 @@
 use Rattle.kp_guide.proofs.Placing.{places_on}
 use Rattle.kp_guide.proofs.places.places_of.Goals as goal
-use Rattle.std.proofs.Common.{subst, sym}
+use Rattle.std.proofs.Common.{subst, sym, take, ◌+◌}
 use Rattle.kp_guide.specs.Placing.{ArePlaces}
-use Rattle.std.proofs.Common.{take, ◌+◌}
 
 -- the place of one more
 pub loop-fact-preserved : goal.loop-fact-preserved

@@ -3,9 +3,8 @@ use Rattle.std.proofs.lemmas.Result.{err_from_is_err_and}
 use Rattle.std.proofs.lemmas.List.{map_push}
 use Rattle.kp_tree_grammar.specs.Symbols.{is_left}
 use Rattle.kp_tree_grammar.specs.Forms.{within}
-use Rattle.kp_tree_parts.specs.Readers.{named_of}
+use Rattle.kp_tree_parts.specs.Readers.{named_of, cond_at, conds_at}
 use Rattle.kp_tree_arena.specs.Nodes.{cond_view}
-use Rattle.kp_tree_parts.specs.Readers.{cond_at, conds_at}
 use Rattle.kp_tree_parts.proofs.Loops.{goes_on, ends, is_done}
 use Rattle.kp_tree_parts.proofs.conds.+cond.Goals as goal
 

@@ -1,0 +1,15 @@
+pub mod Public
+pub mod Starts
+pub mod Valid
+pub mod Apart
+pub mod Different
+pub mod Written
+pub mod Tables
+pub mod Sizes
+pub mod OfAtoms
+pub mod ExampleUncertain
+pub mod Trees
+pub mod Lifting
+pub mod ExampleTrees
+pub mod ExampleCells
+pub mod ExampleLifts

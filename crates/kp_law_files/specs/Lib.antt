@@ -1,0 +1,5 @@
+pub mod Translations
+pub mod Given
+pub mod Tables
+pub mod Written
+pub mod Laws

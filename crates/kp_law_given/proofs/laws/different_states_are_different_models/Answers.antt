@@ -1,5 +1,0 @@
-use Rattle.kp_law_given.proofs.Different.{states_differ}
-use Rattle.kp_law_given.proofs.laws.different_states_are_different_models.Goals as goal
-
-pub returns : goal.returns
-returns c = states_differ

@@ -1,5 +1,0 @@
-use Rattle.kp_law_given.proofs.Written.{grounds_written}
-use Rattle.kp_law_given.proofs.laws.ground_problems_can_be_written.Goals as goal
-
-pub returns : goal.returns
-returns c = grounds_written

@@ -1,5 +1,0 @@
-use Rattle.kp_law_given.proofs.Tables.{tables_written, empty_tag_is_table}
-use Rattle.kp_law_given.proofs.laws.tables_can_be_written.Goals as goal
-
-pub returns : goal.returns
-returns c = record { tables = tables_written; empty_tag = empty_tag_is_table }

@@ -1,3 +1,0 @@
-pub mod Translations
-pub mod Laws
-pub mod Tables

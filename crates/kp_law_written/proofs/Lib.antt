@@ -1,6 +1,0 @@
-pub mod Public
-pub mod Trees
-pub mod Lifting
-pub mod ExampleTrees
-pub mod ExampleCells
-pub mod ExampleLifts

@@ -1,5 +1,0 @@
-use Rattle.kp_law_written.proofs.Lifting.{lifts_written}
-use Rattle.kp_law_written.proofs.laws.lifts_are_written.Goals as goal
-
-pub returns : goal.returns
-returns c = lifts_written

@@ -1,5 +1,0 @@
-use Rattle.kp_law_written.proofs.Lifting.{plans_lift}
-use Rattle.kp_law_written.proofs.laws.plans_lift.Goals as goal
-
-pub returns : goal.returns
-returns c = plans_lift
