@@ -1,5 +1,6 @@
 -- Elements of lists by their places, and the fronts of lists.
 use Rattle.std.proofs.Common.{◌≡◌, ◌⊎◌, ◌<◌, ◌≤◌, ◌+◌, ℕ, zero, suc, List, [], ◌∷◌, ◌++◌, Some, None, length, map, take, drop, get_or, slice_get, inl, inr, refl, sym, ap, ◌∙◌, add-one, drop-cons, arith}
+use Rattle.std.specs.List.{range_with_len}
 use Rattle.std.proofs.lemmas.List.{take_more}
 use Rattle.std.proofs.lemmas.Option.{slice_get_cases, slice_get_within, get_or_from_slice_get}
 use Rattle.kp_base.specs.Lists.{Member}
@@ -68,3 +69,14 @@ one_more_taken xs taken i x at is =
 -- what is to come begins with the element at the place
 pub next_mapped : {X Y : Type 0} (f : X → Y) (xs : List X) (i : ℕ) (d : X) → i < length xs → map f (drop i xs) ≡ f (get_or xs i d) ∷ map f (drop (i + 1) xs)
 next_mapped f xs i d h = rw (add-one, drop-cons xs i d h) refl
+
+-- ---- numbers from one on
+
+-- one number more
+pub range_more : (a n : ℕ) → range_with_len a (suc n) ≡ range_with_len a n ++ (a + n) ∷ []
+range_more a zero = ap (λ x. x ∷ []) (omega arith)
+range_more a (suc n) = ap (λ xs. a ∷ xs) (range_more (a + 1) n ∙ ap (λ x. range_with_len (a + 1) n ++ x ∷ []) (omega arith))
+
+-- one place more
+pub places_more : (n : ℕ) → range_with_len 0 (n + 1) ≡ range_with_len 0 n ++ n ∷ []
+places_more n = ap (range_with_len 0) (add-one n) ∙ (range_more 0 n ∙ ap (λ x. range_with_len 0 n ++ x ∷ []) (omega arith))

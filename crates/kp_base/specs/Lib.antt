@@ -6,6 +6,7 @@ pub mod Counted
 pub mod Covering
 pub mod Entailed
 pub mod Exclusive
+pub mod Files
 pub mod Implicates
 pub mod Lists
 pub mod Lit

@@ -6,6 +6,7 @@ use Rattle.std.proofs.lemmas.List.{ext_get_or, get_or-replicate, length-replicat
 use Rattle.std.proofs.lemmas.List.Elements.{filter-append}
 use Rattle.std.proofs.lemmas.Option.{slice_get-get_or}
 use Rattle.kp_base.specs.Lists.{Member, only_if}
+use Rattle.kp_base.proofs.Places.{places_more}
 use Rattle.kp_base.proofs.Lists.{bool_same, any_from, any_member, range_there, member_filter, filter_member}
 use Rattle.kp_classic.specs.States.{FactSet, has, those, state_of}
 use Rattle.kp_classic.specs.Packed.{bit, set_of}
@@ -109,9 +110,5 @@ clear_holds bits i f lt lf = elim (cases_eq f i) [
 
 -- ---- one fact more
 
-range_more : (a k : ℕ) → range_with_len a (suc k) ≡ range_with_len a k ++ (a + k) ∷ []
-range_more a zero = ap (λ x. x ∷ []) (omega arith)
-range_more a (suc k) = ap (λ xs. a ∷ xs) (range_more (a + 1) k ∙ ap (λ x. range_with_len (a + 1) k ++ x ∷ []) (omega arith))
-
 pub those_more : (k : ℕ) (p : ℕ → Bool) → those (k + 1) p ≡ those k p ++ only_if (p k) (k ∷ [])
-those_more k p = ap (λ m. those m p) (add-one k) ∙ (ap (filter p) (range_more 0 k) ∙ (filter-append p (range_with_len 0 k) ((0 + k) ∷ []) ∙ ap (λ x. those k p ++ filter p (x ∷ [])) (omega arith)))
+those_more k p = ap (filter p) (places_more k) ∙ filter-append p (range_with_len 0 k) (k ∷ [])

@@ -7,21 +7,16 @@ use Rattle.kp_base.specs.Lit.{negated, has}
 use Rattle.kp_base.specs.LitSet.{is_opposed}
 use Rattle.kp_base.specs.Steps.{State, holds}
 use Rattle.kp_base.proofs.Lists.{all_member, any_member}
+use Rattle.kp_base.proofs.Places.{places_more}
 use Rattle.kp_base.proofs.Lits.{holds-negated, member-has}
 use Rattle.kp_cover.specs.Inside.{is_left_at, still_left, satisfies_at, satisfies_one_of}
 use Rattle.kp_cover.specs.Valid.{satisfies_one}
 
 -- ---- places from 0 on
 
-range_more : (a n : ℕ) → range_with_len a (n + 1) ≡ range_with_len a n ++ (a + n) ∷ []
-range_more a zero = ap (λ k. k ∷ []) (omega arith)
-range_more a (suc n) =
-    let one : suc n + 1 ≡ suc (n + 1) = omega arith in
-    ap (range_with_len a) one ∙ ap (λ ks. a ∷ ks) (range_more (a + 1) n ∙ ap (λ k. range_with_len (a + 1) n ++ k ∷ []) (omega arith))
-
 -- one place more
 pub next_place : (n : ℕ) (row : List ℕ) → row ≡ range_with_len 0 n → row ++ n ∷ [] ≡ range_with_len 0 (n + 1)
-next_place n row e = ap (λ ks. ks ++ n ∷ []) e ∙ (ap (λ k. range_with_len 0 n ++ k ∷ []) (omega arith) ∙ sym (range_more 0 n))
+next_place n row e = ap (λ ks. ks ++ n ∷ []) e ∙ sym (places_more n)
 
 -- the tags at all places are the tags
 places_from : (s : State) (tags : List (List Lit)) (a : ℕ) (at : ℕ → Option (List Lit)) → ((k : ℕ) → k < length tags → at (a + k) ≡ slice_get tags k) → list_any (λ k. satisfies_at s (at k)) (range_with_len a (length tags)) ≡ satisfies_one tags s

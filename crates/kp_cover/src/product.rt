@@ -8,6 +8,7 @@ ghost use Rattle.kp_cover.specs.Grown.{is_fine, with_each, grown, all_grown, if_
 use crate::distinct::distinct;
 use kp_base::{Lit, LitSet, Memory, Row};
 use kp_primes::Primes;
+use kp_primes_models::extended;
 use std::alloc::Global;
 
 // Whether the tag is consistent.
@@ -16,15 +17,6 @@ fn is_fine(primes: &Primes, tag: &LitSet) -> bool
 {
     let _whole = primes.clauses();
     primes.consistent(tag)
-}
-
-/// The tag with one literal more.
-pub(crate) fn extended(alloc: Global, tag: &LitSet, lit: Lit) -> Result<LitSet, Memory>
-    ensures { IfOk result (λ more. more ≡ with_lit lit tag.now) }
-{
-    let mut more = tag.copy(alloc)?;
-    more.insert(lit)?;
-    Ok(more)
 }
 
 /// The tag with one literal more, if that is consistent.

@@ -16,12 +16,6 @@ pub struct BoundLit<'a> {
     pub objects: &'a [u32],
 }
 
-fn copied(alloc: Global, numbers: &[u32]) -> Result<Row<u32>, Memory>
-    ensures { IfOk result (λ row. row ≡ numbers.now) }
-{
-    Ok(Row::from_vec(Vec::from_slice(alloc, numbers)?))
-}
-
 /// The literal with objects of its own.
 pub fn owned(alloc: Global, literal: &BoundLit) -> Result<GroundLit, Memory>
     ensures { IfOk result (λ m. m ≡ lit_view literal.now) }
@@ -29,7 +23,7 @@ pub fn owned(alloc: Global, literal: &BoundLit) -> Result<GroundLit, Memory>
     Ok(GroundLit {
         positive: literal.positive,
         pred: literal.pred,
-        objects: copied(alloc, literal.objects)?,
+        objects: Row::from_slice(alloc, literal.objects)?,
     })
 }
 

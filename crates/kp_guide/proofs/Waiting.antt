@@ -6,6 +6,7 @@ use Rattle.std.proofs.lemmas.Option.{same_Some, slice_get_within, slice_get_read
 use Rattle.std.proofs.lemmas.List.{get_or_past, get_or-replicate, length-replicate}
 use Rattle.kp_base.specs.Lists.{Member, only_if}
 use Rattle.kp_base.proofs.Lists.{append_member, member_left, member_right, member_at, number_at, all_member, same_member, range_there}
+use Rattle.kp_base.proofs.Places.{places_more}
 use Rattle.kp_classic.specs.Fits.{are_below}
 use Rattle.kp_guide.specs.declared.rule.Rule.{Rule}
 use Rattle.kp_guide.specs.Tables.{value, joined, total, cost_by, are_costs, fits_rule, IsClosed, Lowers, Relaxes}
@@ -267,16 +268,9 @@ round_next rules n now i old costs counts waits next costs' counts' waits' next'
 
 -- ---- the first rules that wait
 
-range_more : (a k : ℕ) → range_with_len a (suc k) ≡ range_with_len a k ++ (a + k) ∷ []
-range_more a zero = ap (λ x. x ∷ []) (omega arith)
-range_more a (suc k) = ap (λ xs. a ∷ xs) (range_more (a + 1) k ∙ ap (λ x. range_with_len (a + 1) k ++ x ∷ []) (omega arith))
-
-one_number_more : (k : ℕ) → range_with_len 0 (k + 1) ≡ range_with_len 0 k ++ k ∷ []
-one_number_more k = ap (range_with_len 0) (add-one k) ∙ (range_more 0 k ∙ ap (λ x. range_with_len 0 k ++ x ∷ []) (omega arith))
-
 -- the next of all rules
 pub first_on : (counts : List ℕ) (k : ℕ) (w0 : List Bool) (x0 : List ℕ) (w : List Bool) (x : List ℕ) (w' : List Bool) (x' : List ℕ) → Waits counts (range_with_len 0 k) w0 x0 w x → Waits counts (k ∷ []) w x w' x' → Waits counts (range_with_len 0 (k + 1)) w0 x0 w' x'
-first_on counts k w0 x0 w x w' x' a b = subst (λ ks. Waits counts ks w0 x0 w' x') (sym (one_number_more k)) (waits_more counts (range_with_len 0 k) k w0 x0 w x w' x' a b)
+first_on counts k w0 x0 w x w' x' a b = subst (λ ks. Waits counts ks w0 x0 w' x') (sym (places_more k)) (waits_more counts (range_with_len 0 k) k w0 x0 w x w' x' a b)
 
 none_flagged : (n k : ℕ) → waits_at (replicate n false) k ≡ true → ⊥
 none_flagged n k h = elim (cases_lt k n) [

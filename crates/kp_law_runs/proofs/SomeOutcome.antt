@@ -26,7 +26,7 @@ use Rattle.kp_tags_merges.specs.Printed.{merges_of, merges_text}
 use Rattle.kp_law_decidable.specs.Laws.{AreProper}
 use Rattle.kp_law_decidable.proofs.Public.{formulas_are_ascending, coverages_decided, verdicts_decided, widths_decided}
 use Rattle.kp_run_outcome.specs.declared.outcome.Outcome.{Outcome}
-use Rattle.kp_run_outcome.specs.Ends.{most_bytes}
+use Rattle.kp_base.specs.Files.{most_bytes}
 use Rattle.kp_plans.specs.declared.step.PlanStep.{PlanStep}
 use Rattle.kp_plans.specs.PlanFiles.{names}
 use Rattle.kp_plans.specs.Printed.{plan_text}

@@ -27,7 +27,8 @@ use Rattle.kp_law_files.specs.Written.{translation_of}
 use Rattle.kp_outside.specs.Outside.{FileMap}
 use Rattle.kp_run_outcome.specs.declared.outcome.Outcome.{Outcome}
 use Rattle.kp_run_outcome.specs.declared.status.Status.TheVariants as status
-use Rattle.kp_run_outcome.specs.Ends.{AreHeld, IsAnswer, most_bytes}
+use Rattle.kp_base.specs.Files.{most_bytes}
+use Rattle.kp_run_outcome.specs.Ends.{AreHeld, IsAnswer}
 use Rattle.kp_words.specs.Names.{Source, Translate, Merges, Strip, Check, Lift}
 use Rattle.kp_words.specs.declared.lent.CommandRef.TheVariants as commands
 use Rattle.kp_words.specs.Command.{IsTranslate, IsMerges, IsStrip, IsCheck, IsLift, file_of, if_named, inputs_of}

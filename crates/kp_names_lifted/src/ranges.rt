@@ -29,16 +29,6 @@ pub struct Ranges<'a> {
     ghost known_right: { map (λ e. e.1) known.entries ≡ map (λ e. range_of (domain_view names.domain) (problem_view names.problem) (e.0.now ∷ [])) known.entries },
 }
 
-fn copied(alloc: Global, objects: &[u32]) -> Result<Row<u32>, Memory>
-    ensures { IfOk result (λ row. row ≡ objects.now) }
-{
-    let mut row = Row::new(alloc);
-    for object in objects {
-        row.push(*object)?;
-    }
-    Ok(row)
-}
-
 // The only name of some, where there is just one.
 fn only<'a>(names: &NameSet<'a>) -> Option<&'a [u8]>
     ensures { IfSome result (λ n. names.now ≡ n.now ∷ []) }
@@ -95,10 +85,10 @@ impl<'a> Ranges<'a> {
         ensures row { IfOk result (λ row. row ≡ range_of (domain_view self.old.names.domain) (problem_view self.old.names.problem) (name.now ∷ [])) }
     {
         if let Some(objects) = self.known.get(name) {
-            return copied(alloc, objects.slice());
+            return Row::from_slice(alloc, objects.slice());
         }
         let objects = self.found(alloc, name)?;
-        let copy = copied(alloc, objects.slice())?;
+        let copy = Row::from_slice(alloc, objects.slice())?;
         self.known.insert(name, objects)?;
         Ok(copy)
     }

@@ -6,7 +6,8 @@ use Rattle.kp_outside.specs.declared.outside.Got.{Got}
 use Rattle.kp_outside.specs.declared.outside.OutsideStop.{OutsideStop}
 use Rattle.kp_outside.specs.Outside.{FileMap, IsFront, IsWithin}
 use Rattle.kp_run_outcome.specs.declared.outcome.Outcome.{Outcome}
-use Rattle.kp_run_outcome.specs.Ends.{most_bytes, AreHeld, AreFronts, none, also}
+use Rattle.kp_base.specs.Files.{most_bytes}
+use Rattle.kp_run_outcome.specs.Ends.{AreHeld, AreFronts, none, also}
 use Rattle.kp_run_outcome.proofs.Public.{front_is_within}
 use Rattle.kp_words.specs.Names.{Source, of_mode, of_file, Translate, Merges, Strip, Check, Lift, Solve, Classical, Width, Bench}
 use Rattle.kp_base.specs.declared.limits.Mode.{Mode}

@@ -11,7 +11,8 @@ use Rattle.kp_plans.specs.Printed.{plan_text, IsTextOf}
 use Rattle.kp_outside.specs.Outside.{FileMap, with_bytes}
 use Rattle.kp_run_outcome.specs.declared.status.Status.{Status}
 use Rattle.kp_run_outcome.specs.declared.status.Status.TheVariants as status
-use Rattle.kp_run_outcome.specs.Ends.{Outside, most_bytes}
+use Rattle.kp_base.specs.Files.{most_bytes}
+use Rattle.kp_run_outcome.specs.Ends.{Outside}
 use Rattle.kp_words.specs.Names.{Translate, Lift}
 use Rattle.kp_words.specs.Command.{IsTranslate, file_of, if_named}
 use Rattle.kp_run.specs.Ends.{Ends}

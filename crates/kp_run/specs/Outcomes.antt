@@ -41,7 +41,8 @@ use Rattle.kp_run_messages.specs.Usage.{usage_text}
 use Rattle.kp_run_messages.specs.Widths.{width_text, over_text}
 use Rattle.kp_run_outcome.specs.declared.outcome.Outcome.{Outcome}
 use Rattle.kp_run_outcome.specs.declared.status.Status.TheVariants as status
-use Rattle.kp_run_outcome.specs.Ends.{AreHeld, most_bytes}
+use Rattle.kp_base.specs.Files.{most_bytes}
+use Rattle.kp_run_outcome.specs.Ends.{AreHeld}
 use Rattle.kp_words.specs.Names.{of_mode, Translate, Merges, Strip, Check, Lift, Solve, Classical, Width, Bench}
 use Rattle.kp_words.specs.declared.lent.CommandRef.{CommandRef as Command}
 use Rattle.kp_words.specs.declared.lent.CommandRef.TheVariants as commands

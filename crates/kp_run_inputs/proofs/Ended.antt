@@ -17,7 +17,7 @@ use Rattle.kp_plans.specs.declared.step.PlanStep.{PlanStep}
 use Rattle.kp_plans.specs.PlanFiles.{names, IsPlanOf, AnswersPlan}
 use Rattle.kp_plans.specs.Found.{action_names, action_of, AnswersSteps as AnswersFound}
 use Rattle.kp_run_messages.specs.Refusals.{Named, nothing}
-use Rattle.kp_run_outcome.specs.Ends.{most_bytes}
+use Rattle.kp_base.specs.Files.{most_bytes}
 use Rattle.kp_words.specs.Names.{Source, of_mode, of_file}
 use Rattle.kp_run_prepare.specs.declared.prepared.Early.{Early}
 use Rattle.kp_run_prepare.specs.declared.prepared.Early.TheVariants as halts

@@ -1,7 +1,7 @@
 -- Whether there are more bytes than may be.
 use Rattle.std.proofs.Common.{◌≡◌, ◌<◌, ◌≤◌, ℕ, List, length, Bool, true, false, nat_lt, arith}
 use Rattle.std.proofs.lemmas.Bool.Decides.{nat_tests}
-use Rattle.kp_run_outcome.specs.Ends.{most_bytes}
+use Rattle.kp_base.specs.Files.{most_bytes}
 
 -- more bytes than may be
 pub over_length : (most : ℕ) (text : List ℕ) (more : Bool) → most ≡ most_bytes → more ≡ nat_lt most (length text) → more ≡ true → most_bytes < length text

@@ -7,7 +7,7 @@ use Rattle.kp_base.specs.declared.refused.Refused.TheVariants as refusals
 use Rattle.kp_base.specs.declared.ground.Ground.{Ground}
 use Rattle.kp_base.proofs.Cases.{some_alike}
 use Rattle.kp_law_decidable.proofs.Public.{first_unknown_once, all_found_or_first_unknown, steps_decided}
-use Rattle.kp_run_outcome.specs.Ends.{most_bytes}
+use Rattle.kp_base.specs.Files.{most_bytes}
 use Rattle.kp_plans.specs.declared.step.PlanStep.{PlanStep}
 use Rattle.kp_plans.specs.PlanFiles.{names, IsPlanOf}
 use Rattle.kp_plans.specs.Found.{action_of, IsFirstUnknown}

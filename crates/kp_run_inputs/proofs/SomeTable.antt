@@ -12,7 +12,7 @@ use Rattle.kp_tags_merges.proofs.Public.{merges_always_one}
 use Rattle.kp_law_decidable.specs.Laws.{AreProper}
 use Rattle.kp_law_decidable.proofs.Public.{tables_decided, made_decided}
 use Rattle.kp_run_messages.specs.Refusals.{Named, nothing}
-use Rattle.kp_run_outcome.specs.Ends.{most_bytes}
+use Rattle.kp_base.specs.Files.{most_bytes}
 use Rattle.kp_words.specs.Names.{Source, of_mode, of_file}
 use Rattle.kp_run_prepare.specs.Refusing.{named_in}
 use Rattle.kp_run_prepare.specs.Prepared.{usual}

@@ -14,7 +14,7 @@ use Rattle.kp_tags.specs.Made.{IsMade, RefusesMade}
 use Rattle.kp_outside.specs.declared.outside.Got.{Got}
 use Rattle.kp_outside.specs.Outside.{IsFront, IsWithin}
 use Rattle.kp_run_outcome.specs.declared.outcome.Outcome.{Outcome}
-use Rattle.kp_run_outcome.specs.Ends.{most_bytes}
+use Rattle.kp_base.specs.Files.{most_bytes}
 use Rattle.kp_run_messages.specs.Refusals.{Named, nothing}
 use Rattle.kp_words.specs.Names.{Source, of_mode, of_file}
 use Rattle.kp_run_prepare.specs.declared.prepared.Early.{Early}

@@ -6,7 +6,8 @@ use Rattle.std.proofs.lemmas.Bool.Decides.{nat_tests}
 use Rattle.kp_outside.specs.declared.outside.Got.{Got}
 use Rattle.kp_outside.specs.Outside.{FileMap, Gets, IsFront, IsWithin, with_file, without_file, Rises}
 use Rattle.kp_run_outcome.specs.declared.outcome.FilePut.{FilePut}
-use Rattle.kp_run_outcome.specs.Ends.{with_files, StopsAt, most_bytes, AreHeld, AreFronts, none, also, AreRead, GetFails}
+use Rattle.kp_base.specs.Files.{most_bytes}
+use Rattle.kp_run_outcome.specs.Ends.{with_files, StopsAt, AreHeld, AreFronts, none, also, AreRead, GetFails}
 
 -- ---- lists
 

@@ -1,6 +1,7 @@
 -- How a command ends: what is held and was told afterwards, and which counts of faults rose.
 use Rattle.std.specs.Prelude.{◌≡◌, ◌≢◌, List, [], ◌∷◌, ◌++◌, ℕ, Option, Some, None, map, length}
 use Rattle.std.specs.FinMap.{get}
+use Rattle.kp_base.specs.Files.{most_bytes}
 use Rattle.kp_outside.specs.declared.outside.Got.{Got}
 use Rattle.kp_outside.specs.declared.outside.OutsideStop.{OutsideStop}
 use Rattle.kp_outside.specs.declared.outside.OutsideStop.TheVariants as stops
@@ -73,10 +74,6 @@ pub data CarriesOut (o : Outcome) (old new : Outside) (s : Status) : Type 0 wher
   print_no_memory : s ≡ status.Memory → new.held ≡ with_files old.held o.puts → AddsFront old.told new.told o.text → NothingFailed old new → o.text ≢ [] → CarriesOut o old new s
 
 -- ---- the inputs
-
--- the most bytes that are read of a file
-abbrev pub most_bytes : ℕ
-most_bytes = 16777216
 
 -- these are the contents of the names; where it isn't told what is held, there are as many
 abbrev pub AreHeld : Option FileMap → List (List ℕ) → List (List ℕ) → Type 0

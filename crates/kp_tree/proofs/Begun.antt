@@ -25,7 +25,8 @@ use Rattle.kp_tree_grammar.specs.Laws.{followed}
 use Rattle.kp_tree_grammar.proofs.Public.{GoesOn, goes_on, Kept, kept}
 use Rattle.kp_tree_cursor.specs.Lexemes.{byte_at}
 use Rattle.kp_tree_parts.specs.Readers.{whole_at}
-use Rattle.kp_tree.specs.Files.{most_bytes, ReadsShallow, RefusedAt, offending, too_deep, refusal_for, refusal_at, HasTree, Refuses, stops, AnswersTokens, AnswersFile, IsToldWithin}
+use Rattle.kp_base.specs.Files.{most_bytes}
+use Rattle.kp_tree.specs.Files.{ReadsShallow, RefusedAt, offending, too_deep, refusal_for, refusal_at, HasTree, Refuses, stops, AnswersTokens, AnswersFile, IsToldWithin}
 use Rattle.kp_tree.proofs.OneAnswer.{refused_once, not_refused}
 use Rattle.kp_tree.proofs.Whole.{answered, is_refused}
 

@@ -16,7 +16,8 @@ use Rattle.kp_tree_grammar.specs.Forms.{Form}
 use Rattle.kp_tree_grammar.specs.Reading.{At, stop, ReadsWhole, StopsWhole}
 use Rattle.kp_tree_grammar.specs.Depth.{deep, levels}
 use Rattle.kp_tree_grammar.proofs.Public.{whole_reads_once, whole_stops_once, whole_never_both, whole_reads_or_stops}
-use Rattle.kp_tree.specs.Files.{most_bytes, ReadsShallow, RefusedAt, offending, too_deep, refusal_at, HasTree, Refuses, too_long, bad_token, stops, FilesReadOnce, FilesRefuseOnce, FilesNeverBoth, FilesAlwaysOne}
+use Rattle.kp_base.specs.Files.{most_bytes}
+use Rattle.kp_tree.specs.Files.{ReadsShallow, RefusedAt, offending, too_deep, refusal_at, HasTree, Refuses, too_long, bad_token, stops, FilesReadOnce, FilesRefuseOnce, FilesNeverBoth, FilesAlwaysOne}
 
 -- ---- tokens
 

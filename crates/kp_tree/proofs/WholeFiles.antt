@@ -8,7 +8,8 @@ use Rattle.kp_lex.specs.Answers.{IsRight}
 use Rattle.kp_tree_grammar.specs.declared.tree.Word.{Word}
 use Rattle.kp_tree_grammar.specs.Sorts.{Sort, El}
 use Rattle.kp_tree_grammar.specs.Forms.{Form}
-use Rattle.kp_tree.specs.Files.{most_bytes, Refuses, bad_token, AnswersFile}
+use Rattle.kp_base.specs.Files.{most_bytes}
+use Rattle.kp_tree.specs.Files.{Refuses, bad_token, AnswersFile}
 
 module _ {b : Bool} {c : Sort} (part : Part) (X : Form b c) (text : List ℕ) (short : length text ≤ most_bytes) where
   -- a text that isn't cut is refused at its bad byte

@@ -6,6 +6,7 @@ use Rattle.kp_base.specs.declared.refused.Refused.{Refused}
 use Rattle.kp_base.specs.declared.refused.Refused.TheVariants as refusals
 use Rattle.kp_base.specs.declared.refused.Stop.{Stop}
 use Rattle.kp_base.specs.declared.refused.Stop.TheVariants as causes
+use Rattle.kp_base.specs.Files.{most_bytes}
 use Rattle.kp_lex.specs.declared.token.Token.{Token}
 use Rattle.kp_lex.specs.Cutting.{Cut, BadAt}
 use Rattle.kp_lex.specs.Places.{place_of}
@@ -16,10 +17,6 @@ use Rattle.kp_tree_grammar.specs.Forms.{Form}
 use Rattle.kp_tree_grammar.specs.Reading.{Reason, Syntax, Unsupported, At, stop, ReadsWhole, StopsWhole}
 use Rattle.kp_tree_grammar.specs.Depth.{levels, deep}
 use Rattle.kp_tree_cursor.specs.Lexemes.{byte_at}
-
--- the most bytes that a file may have
-abbrev pub most_bytes : ℕ
-most_bytes = 16777216
 
 -- ---- tokens
 

@@ -1,5 +1,5 @@
 use Rattle.std.proofs.Common.{[]}
-use Rattle.kp_run_outcome.specs.Ends.{most_bytes}
+use Rattle.kp_base.specs.Files.{most_bytes}
 use Rattle.kp_run_outcome.proofs.Public.{front_is_within}
 use Rattle.kp_words.specs.Names.{of_file}
 use Rattle.kp_run.proofs.Files.{short_origin}
