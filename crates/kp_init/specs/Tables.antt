@@ -25,8 +25,8 @@ abbrev pub is_kept : List Key → Atom → Bool
 is_kept ks a = list_any (λ k. same_atom a (named_atom k)) ks
 
 -- an item names an atom
-abbrev pub names : Atom → Item → Bool
-names a i = list_any (λ m. same_atom a (atom_of m)) (item_literals i)
+abbrev pub is_named_by : Atom → Item → Bool
+is_named_by a i = list_any (λ m. same_atom a (atom_of m)) (item_literals i)
 
 -- ---- closed atoms
 

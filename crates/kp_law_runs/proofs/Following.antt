@@ -5,7 +5,6 @@ use Rattle.std.specs.declared.alloc.Global.{Global}
 use Rattle.kp_base.specs.Lists.{Member}
 use Rattle.kp_tree_grammar.specs.declared.tree.Word.{Word}
 use Rattle.kp_tree_grammar.specs.Trees.{Domain, Problem}
-use Rattle.kp_plans.specs.PlanFiles.{names}
 use Rattle.kp_outside.specs.Outside.{FileMap, with_bytes}
 use Rattle.kp_run_outcome.specs.declared.outcome.FilePut.{FilePut}
 use Rattle.kp_run_outcome.specs.declared.outcome.Outcome.{Outcome}

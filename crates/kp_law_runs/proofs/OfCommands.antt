@@ -31,7 +31,7 @@ use Rattle.kp_base.specs.Covering.{IsComplete, AreUncovered}
 use Rattle.kp_law_decidable.specs.Laws.{AreProper}
 use Rattle.kp_law_decidable.proofs.Public.{complete_with_none}
 use Rattle.kp_cover.proofs.Public.{none_uncovered_if_complete}
-use Rattle.kp_law_machine.specs.Lifts.{lifted as lift_of, UnliftedAt}
+use Rattle.kp_law_machine.specs.Lifts.{lift_of, UnliftedAt}
 use Rattle.kp_law_machine.proofs.Public.{lifted_lists_strip, lists_lift_or_fail, failing_lists_dont_lift}
 use Rattle.kp_law_files.proofs.Public.{numbers_below_are_actions, lifted_steps_have_names}
 use Rattle.kp_base.specs.Machine.{MachineStep, accepts, stripped as actions_of}

@@ -28,7 +28,7 @@ use Rattle.kp_law_decidable.proofs.Public.{formulas_are_ascending, coverages_dec
 use Rattle.kp_run_outcome.specs.declared.outcome.Outcome.{Outcome}
 use Rattle.kp_base.specs.Files.{most_bytes}
 use Rattle.kp_plans.specs.declared.step.PlanStep.{PlanStep}
-use Rattle.kp_plans.specs.PlanFiles.{names}
+use Rattle.kp_plans.specs.PlanFiles.{step_names}
 use Rattle.kp_plans.specs.Printed.{plan_text}
 use Rattle.kp_plans.specs.Stripping.{IsFirstUnstripped}
 use Rattle.kp_plans.proofs.Public.{plans_always_one}
@@ -155,24 +155,24 @@ module _ (limit : ℕ) (d : Domain Word) (p : Problem Word) (x y : List ℕ) (tr
 -- ---- a plan file
 
 -- steps have a strip, or a first one is no operator's
-strips_or_first : (steps : List PlanStep) → ((actions : List GroundName) × (strip (names steps) ≡ Some actions)) ⊎ ((step : PlanStep) × IsFirstUnstripped steps step)
+strips_or_first : (steps : List PlanStep) → ((actions : List GroundName) × (strip (step_names steps) ≡ Some actions)) ⊎ ((step : PlanStep) × IsFirstUnstripped steps step)
 strips_or_first [] = inl ([], refl)
 strips_or_first (s ∷ ss) = go (stripped s.name.head s.name.objects) refl (strips_or_first ss)
   where
     joined : (front rest : List GroundName) (ns : List GroundName) → stripped s.name.head s.name.objects ≡ Some front → strip ns ≡ Some rest → strip (s.name ∷ ns) ≡ Some (front ++ rest)
     joined front rest ns e f = ap (option_and_then (λ front. option_map (λ rest. front ++ rest) (strip ns))) e ∙ ap (option_map (λ rest. front ++ rest)) f
 
-    some_joined : (front : List GroundName) (before : List PlanStep) → stripped s.name.head s.name.objects ≡ Some front → IsSome (strip (names before)) → IsSome (strip (names (s ∷ before)))
-    some_joined front before e some = by (strip (names before)) refl some
+    some_joined : (front : List GroundName) (before : List PlanStep) → stripped s.name.head s.name.objects ≡ Some front → IsSome (strip (step_names before)) → IsSome (strip (step_names (s ∷ before)))
+    some_joined front before e some = by (strip (step_names before)) refl some
       where
-        by : (o : Option (List GroundName)) → strip (names before) ≡ o → IsSome o → IsSome (strip (names (s ∷ before)))
-        by (Some rest) f t = subst IsSome (sym (joined front rest (names before) e f)) refl
+        by : (o : Option (List GroundName)) → strip (step_names before) ≡ o → IsSome o → IsSome (strip (step_names (s ∷ before)))
+        by (Some rest) f t = subst IsSome (sym (joined front rest (step_names before) e f)) refl
         by None f t = absurd (false≢true t)
 
-    go : (o : Option (List GroundName)) → stripped s.name.head s.name.objects ≡ o → ((actions : List GroundName) × (strip (names ss) ≡ Some actions)) ⊎ ((step : PlanStep) × IsFirstUnstripped ss step)
-        → ((actions : List GroundName) × (strip (names (s ∷ ss)) ≡ Some actions)) ⊎ ((step : PlanStep) × IsFirstUnstripped (s ∷ ss) step)
+    go : (o : Option (List GroundName)) → stripped s.name.head s.name.objects ≡ o → ((actions : List GroundName) × (strip (step_names ss) ≡ Some actions)) ⊎ ((step : PlanStep) × IsFirstUnstripped ss step)
+        → ((actions : List GroundName) × (strip (step_names (s ∷ ss)) ≡ Some actions)) ⊎ ((step : PlanStep) × IsFirstUnstripped (s ∷ ss) step)
     go None e rest = inr (s, record { before = []; after = ss; is = refl; stripped_before = refl; not_stripped = e })
-    go (Some front) e (inl rest) = inl (front ++ rest.0, joined front rest.0 (names ss) e rest.1)
+    go (Some front) e (inl rest) = inl (front ++ rest.0, joined front rest.0 (step_names ss) e rest.1)
     go (Some front) e (inr first) = inr (
       first.0,
       record {

@@ -8,7 +8,7 @@ use Rattle.kp_outside.specs.Outside.{FileMap}
 use Rattle.kp_run_outcome.specs.declared.outcome.Outcome.{Outcome}
 use Rattle.kp_run_outcome.specs.declared.status.Status.TheVariants as status
 use Rattle.kp_words.specs.Names.{Solve, Classical}
-use Rattle.kp_words.specs.Command.{IsSolve, IsClassical as SaysClassical}
+use Rattle.kp_words.specs.Command.{IsSolve, IsClassical}
 use Rattle.kp_run_classical.specs.Classical.{task_of as classical_task}
 use Rattle.kp_run_solve.specs.Solving.{SolvesGround, SolvesClassical}
 use Rattle.kp_run.specs.Solved.{GoesOn, HasTask, IsPosed, IsSolved, HasNoPlan, IsSpent, IsHeldClassical, IsPosedClassical, IsSolvedClassical, HasNoClassicalPlan, IsSpentClassical}
@@ -43,7 +43,7 @@ SpentIsTrue = OfRuns (λ words old new s. (m : FileMap) (c : Solve) → old.held
 -- a call to solve such files: the run ends with what the search comes to
 abbrev pub ClassicalsAreAnswered : Type 0
 ClassicalsAreAnswered = OfRuns (λ words old new s. (m : FileMap) (c : Classical) (d : Domain Word) (p : Problem Word) (o : Outcome)
-    → old.held ≡ Some m → SaysClassical words c → IsHeldClassical m c.domain c.problem d p → SolvesClassical c.budget (ground_of d p) (classical_task d p) o
+    → old.held ≡ Some m → IsClassical words c → IsHeldClassical m c.domain c.problem d p → SolvesClassical c.budget (ground_of d p) (classical_task d p) o
     → EndsWith o old new s)
 
 -- the trees are one
@@ -52,12 +52,12 @@ ClassicalPosedOnce = (m : FileMap) (c : Classical) (x y : IsPosedClassical m c) 
 
 -- where the shelf tells and a call to solve classical files ends with Done, it told a plan of the two files
 abbrev pub ClassicalIsAPlan : Type 0
-ClassicalIsAPlan = OfRuns (λ words old new s. (m : FileMap) (c : Classical) → old.held ≡ Some m → SaysClassical words c → s ≡ status.Done → IsSolvedClassical m c old new)
+ClassicalIsAPlan = OfRuns (λ words old new s. (m : FileMap) (c : Classical) → old.held ≡ Some m → IsClassical words c → s ≡ status.Done → IsSolvedClassical m c old new)
 
 -- where it ends with Negative, there is none
 abbrev pub NoClassicalPlanIsTrue : Type 0
-NoClassicalPlanIsTrue = OfRuns (λ words old new s. (m : FileMap) (c : Classical) → old.held ≡ Some m → SaysClassical words c → s ≡ status.Negative → HasNoClassicalPlan m c old new)
+NoClassicalPlanIsTrue = OfRuns (λ words old new s. (m : FileMap) (c : Classical) → old.held ≡ Some m → IsClassical words c → s ≡ status.Negative → HasNoClassicalPlan m c old new)
 
 -- where it ends with Spent, there are more states than the budget says
 abbrev pub ClassicalSpentIsTrue : Type 0
-ClassicalSpentIsTrue = OfRuns (λ words old new s. (m : FileMap) (c : Classical) → old.held ≡ Some m → SaysClassical words c → s ≡ status.Spent → IsSpentClassical m c old new)
+ClassicalSpentIsTrue = OfRuns (λ words old new s. (m : FileMap) (c : Classical) → old.held ≡ Some m → IsClassical words c → s ≡ status.Spent → IsSpentClassical m c old new)

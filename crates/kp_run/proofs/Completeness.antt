@@ -9,7 +9,7 @@ use Rattle.kp_base.specs.Implicates.{IsOfItsAtoms}
 use Rattle.kp_base.specs.Covering.{IsComplete, AreUncovered}
 use Rattle.kp_base.proofs.Cases.{some_alike}
 use Rattle.kp_base.proofs.Parts.{last_once}
-use Rattle.kp_law_machine.specs.Lifts.{lifted as lift_of, UnliftedAt}
+use Rattle.kp_law_machine.specs.Lifts.{lift_of, UnliftedAt}
 use Rattle.kp_law_machine.proofs.Public.{lifted_lists_strip, failing_lists_dont_lift}
 use Rattle.kp_tree_grammar.specs.declared.tree.Word.{Word}
 use Rattle.kp_tree_grammar.specs.Trees.{Domain, Problem}

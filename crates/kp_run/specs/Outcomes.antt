@@ -13,7 +13,7 @@ use Rattle.kp_base.specs.declared.refused.Refused.TheVariants as refusals
 use Rattle.kp_base.specs.Covering.{AreUncovered}
 use Rattle.kp_tree_grammar.specs.declared.tree.Word.{Word}
 use Rattle.kp_tree_grammar.specs.Trees as trees
-use Rattle.kp_law_machine.specs.Lifts.{lifted as lift_of, UnliftedAt}
+use Rattle.kp_law_machine.specs.Lifts.{lift_of, UnliftedAt}
 use Rattle.kp_law_ktask.specs.Task.{task_of}
 use Rattle.kp_law_ktask.specs.Accepted.{IsAccepted}
 use Rattle.kp_ktask.specs.Translated.{FitsLimits, RefusesTask}
@@ -29,7 +29,7 @@ use Rattle.kp_check.specs.Judging.{AnswersJudged}
 use Rattle.kp_names_meaning.specs.Steps.{Step}
 use Rattle.kp_names_meaning.specs.Strip.{strip}
 use Rattle.kp_plans.specs.declared.step.PlanStep.{PlanStep}
-use Rattle.kp_plans.specs.PlanFiles.{names, IsPlanOf, RefusesPlan}
+use Rattle.kp_plans.specs.PlanFiles.{step_names, IsPlanOf, RefusesPlan}
 use Rattle.kp_plans.specs.Printed.{plan_text}
 use Rattle.kp_plans.specs.Stripping.{IsFirstUnstripped}
 use Rattle.kp_outside.specs.Outside.{FileMap}
@@ -109,7 +109,7 @@ pub data StripsText (text : List ℕ) (o : Outcome) : Type 0 where
   too_long : most_bytes < length text → o ≡ refuses nothing (refusals.TooLong parts.Plan) → StripsText text o
   no_plan : (r : Refused) → length text ≤ most_bytes → RefusesPlan text r → o ≡ refuses nothing r → StripsText text o
   no_strip : (steps : List PlanStep) (step : PlanStep) → length text ≤ most_bytes → IsPlanOf text steps → IsFirstUnstripped steps step → o ≡ refuses nothing (refusals.PlanSyntax step.place) → StripsText text o
-  strips : (steps : List PlanStep) (actions : List GroundName) → length text ≤ most_bytes → IsPlanOf text steps → strip (names steps) ≡ Some actions → o ≡ prints (plan_text actions) → StripsText text o
+  strips : (steps : List PlanStep) (actions : List GroundName) → length text ≤ most_bytes → IsPlanOf text steps → strip (step_names steps) ≡ Some actions → o ≡ prints (plan_text actions) → StripsText text o
 
 -- ---- `check`
 

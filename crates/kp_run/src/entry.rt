@@ -7,7 +7,7 @@ ghost use Rattle.kp_words.specs.declared.lent.CommandRef.{CommandRef as Ordered}
 ghost use Rattle.kp_words.specs.declared.lent.CommandRef.TheVariants as commands;
 ghost use Rattle.kp_words.specs.Names.{Translate as Names, Lift as LiftNames, Solve as SolveNames, Classical as ClassicalNames, of_mode, of_file, source_view};
 ghost use Rattle.kp_words.specs.Command.{IsTranslate, IsLift, IsSolve, IsClassical, IsCommand, file_of, if_named, inputs_of};
-ghost use Rattle.kp_words.specs.Options.{IsWithin as IsOfRange};
+ghost use Rattle.kp_words.specs.Options.{IsOfRange};
 ghost use Rattle.kp_words.specs.Owned.{command_view};
 ghost use Rattle.kp_run.specs.Outcomes.{ComesTo, IsDue};
 ghost use Rattle.kp_run.specs.Sized.{IsSized};

@@ -18,7 +18,7 @@ use Rattle.kp_run_inputs.specs.Tables.{HasTable}
 use Rattle.kp_run_bench.specs.Bench.{usual_implicates}
 
 -- a ground problem and its prime implicates are those of two texts, and this is the table that the mode has for their trees
-pub record IsPosed (mode : Mode) (x : Made) (table : TagTable) : Type 0 where
+pub record IsPreparedWithTable (mode : Mode) (x : Made) (table : TagTable) : Type 0 where
   pub domain : List ℕ
   pub problem : List ℕ
   pub given : IsPreparedOf usual_implicates domain problem x

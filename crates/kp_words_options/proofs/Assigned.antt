@@ -5,7 +5,7 @@ use Rattle.std.specs.Str.{bytes_eq}
 use Rattle.std.proofs.lemmas.Slice.Eq.{bytes_eq-Decides}
 use Rattle.clap.proofs.WalkLemmas.{both}
 use Rattle.clap.specs.Walk.{Rule}
-use Rattle.kp_words_options.specs.Words.{Said, word, option, is_among, differ, names, positionals}
+use Rattle.kp_words_options.specs.Words.{Said, word, option, is_among, differ, option_names, positionals}
 use Rattle.kp_words_options.specs.Clap.{Every, HasPlaces, Knows, Takes, no_more, a_place, an_option, ids_of, placed}
 
 -- ---- what is said has arguments that take it
@@ -19,13 +19,13 @@ known_at c (o ∷ options) name all e = go (bytes_eq o name) refl e (known_at c 
     go false f g next = next g
 
 pub can_take : (c : List Rule) (options : List (List ℕ)) (ids : List (List ℕ)) (k : ℕ) (said : List Said) → Every (Knows c) options → HasPlaces c k ids
-    → length (positionals said) ≡ length ids → list_all (is_among options) (names said) ≡ true → Takes c k ids said
+    → length (positionals said) ≡ length ids → list_all (is_among options) (option_names said) ≡ true → Takes c k ids said
 can_take c options ids k [] known places count among = no_more c k ids
 can_take c options [] k (word w ∷ said) known places count among = absurd (omega (arith, count))
 can_take c options (id ∷ ids) k (word w ∷ said) known places count among =
     a_place c k id ids w said places.0 (can_take c options ids (k + 1) said known places.1 (omega (arith, count)) among)
 can_take c options ids k (option name value ∷ said) known places count among =
-    let parts = both (is_among options name) (list_all (is_among options) (names said)) among in
+    let parts = both (is_among options name) (list_all (is_among options) (option_names said)) among in
     an_option c k ids name value said (known_at c options name known parts.0) (can_take c options ids k said known places count parts.1)
 
 -- ---- the names of what is said differ
@@ -63,14 +63,14 @@ among_append (x ∷ xs) ys t = go (bytes_eq x t) (among_append xs ys t)
     go false e = e
 
 -- the names of pairs are among the places and the options
-placed_not : (ids : List (List ℕ)) (said : List Said) (t : List ℕ) → is_among ids t ≡ false → is_among (names said) t ≡ false → is_among (ids_of (placed ids said)) t ≡ false
+placed_not : (ids : List (List ℕ)) (said : List Said) (t : List ℕ) → is_among ids t ≡ false → is_among (option_names said) t ≡ false → is_among (ids_of (placed ids said)) t ≡ false
 placed_not ids [] t a b = refl
 placed_not [] (word w ∷ said) t a b = placed_not [] said t a b
 placed_not (id ∷ ids) (word w ∷ said) t a b =
     let parts = or_false (bytes_eq id t) (is_among ids t) a in
     rw (parts.0, placed_not ids said t parts.1 b) refl
 placed_not ids (option name value ∷ said) t a b =
-    let parts = or_false (bytes_eq name t) (is_among (names said) t) b in
+    let parts = or_false (bytes_eq name t) (is_among (option_names said) t) b in
     rw (parts.0, placed_not ids said t a parts.1) refl
 
 differ_by : (options : List (List ℕ)) (x name : List ℕ) → is_among options x ≡ false → is_among options name ≡ true → bytes_eq x name ≡ false
@@ -88,16 +88,16 @@ places_not options (x ∷ xs) name e f =
     let apart = or_false (is_among xs x) (is_among options x) (sym (among_append xs options x) ∙ is_false _ parts.0) in
     rw (differ_by options x name apart.1 f, places_not options xs name parts.1 f) refl
 
-pub placed_differ : (options ids : List (List ℕ)) (said : List Said) → differ (ids ++ options) ≡ true → AllAmong options (names said) → differ (names said) ≡ true
+pub placed_differ : (options ids : List (List ℕ)) (said : List Said) → differ (ids ++ options) ≡ true → AllAmong options (option_names said) → differ (option_names said) ≡ true
     → differ (ids_of (placed ids said)) ≡ true
 placed_differ options ids [] d among once = refl
 placed_differ options [] (word w ∷ said) d among once = placed_differ options [] said d among once
 placed_differ options (id ∷ ids) (word w ∷ said) d among once =
     let parts = both (not (is_among (ids ++ options) id)) (differ (ids ++ options)) d in
     let apart = or_false (is_among ids id) (is_among options id) (sym (among_append ids options id) ∙ is_false _ parts.0) in
-    rw (placed_not ids said id apart.0 (not_among_some options (names said) id among apart.1), placed_differ options ids said parts.1 among once) refl
+    rw (placed_not ids said id apart.0 (not_among_some options (option_names said) id among apart.1), placed_differ options ids said parts.1 among once) refl
 placed_differ options ids (option name value ∷ said) d among once =
-    let parts = both (is_among options name) (list_all (is_among options) (names said)) among in
-    let more = both (not (is_among (names said) name)) (differ (names said)) once in
+    let parts = both (is_among options name) (list_all (is_among options) (option_names said)) among in
+    let more = both (not (is_among (option_names said) name)) (differ (option_names said)) once in
     let apart : is_among ids name ≡ false = places_not options ids name d parts.0 in
     rw (placed_not ids said name apart (is_false _ more.0), placed_differ options ids said d parts.1 more.1) refl

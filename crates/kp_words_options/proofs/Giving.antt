@@ -7,7 +7,7 @@ use Rattle.clap.specs.Walk.{Rule, first_of, rows_of}
 use Rattle.clap.specs.Simple.{App, matches_of, new_rule}
 use Rattle.clap.specs.Matches.{first_value}
 use Rattle.clap.specs.declared.parser.matches.Found.{Found}
-use Rattle.kp_words_options.specs.Words.{Said, is_among, differ, names, positionals, value_of}
+use Rattle.kp_words_options.specs.Words.{Said, is_among, differ, option_names, positionals, value_of}
 use Rattle.kp_words_options.specs.Scan.{at_first, scan}
 use Rattle.kp_words_options.specs.Clap.{Fits, Gives, Suits, app_of_form, app_with, option_rule, place_of, placed, row_of_pair, with_options, with_places}
 use Rattle.kp_words_options.proofs.Rows.{is_false, other_way, same_name}
@@ -102,7 +102,7 @@ module _ (name : List ℕ) (ids options words : Texts) (fits : Fits name ids opt
     option_value o e = first_value-rows f o ∙ (ap (first_of o) found ∙ option_found ids said o (places_not options ids o fits.names_differ e))
 
     pub place_value : (id : List ℕ) → is_among ids id ≡ true → first_value f id ≡ place_of ids (positionals said) id
-    place_value id e = first_value-rows f id ∙ (ap (first_of id) found ∙ place_found ids said id (not_among_some options (names said) id suits.known (options_not ids options id fits.names_differ e)))
+    place_value id e = first_value-rows f id ∙ (ap (first_of id) found ∙ place_found ids said id (not_among_some options (option_names said) id suits.known (options_not ids options id fits.names_differ e)))
 
     pub places_given : map (first_value f) ids ≡ map Some (positionals said)
     places_given = map_same (first_value f) (place_of ids (positionals said)) ids ids place_value (all_among ids) ∙ in_order ids (positionals said) (differ_first ids options fits.names_differ) suits.count
@@ -122,4 +122,4 @@ module _ (name : List ℕ) (ids options words : Texts) (fits : Fits name ids opt
       (reads.0, record { says = reads.1.says; count = omega (arith, reads.1.count, count); known = reads.1.known; once = reads.1.once })
 
   pub scan_of : (said : List Said) → Suits ids options words said → scan options at_first words ≡ Some (length ids)
-  scan_of said suits = complete options words said [] 0 (length ids) suits.says suits.known (all_fresh (names said)) suits.once (omega (arith, suits.count))
+  scan_of said suits = complete options words said [] 0 (length ids) suits.says suits.known (all_fresh (option_names said)) suits.once (omega (arith, suits.count))

@@ -12,8 +12,8 @@ pub record State : Type 0 where
   pub places : ℕ
 
 -- the state of the reader
-abbrev pub state_of : Reader → State
-state_of r = record { seen = texts r.seen.items; waits = r.waits; places = r.places }
+abbrev pub reader_state : Reader → State
+reader_state r = record { seen = texts r.seen.items; waits = r.waits; places = r.places }
 
 -- an option may stand here
 abbrev pub may_stand : List (List ℕ) → State → List ℕ → Bool
