@@ -5,7 +5,7 @@ ghost use Rattle.kp_ground_meaning.specs.Static.{settled};
 ghost use Rattle.kp_ground_meaning.specs.Ground.{instance, kept_bindings, kept_instances};
 ghost use Rattle.kp_ground_meaning.specs.Weights.{weight};
 ghost use Rattle.kp_ground_instances.specs.Counts.{kept_view, capped, IsWithinLimits, StopsAtCounts};
-ghost use Rattle.kp_ground_instances.specs.Tables.{Gathers, IsKeeping};
+ghost use Rattle.kp_ground_instances.specs.StaticTables.{Gathers, IsKeeping};
 
 use crate::bindings::{binding_total, fill_binding};
 use crate::counting::{problem_bindings, schema_weight};

@@ -9,7 +9,7 @@ use Rattle.kp_base.specs.Atoms.{Atom, same_atom, number_of}
 use Rattle.kp_ground_meaning.specs.Ground.{atom_of}
 use Rattle.kp_base.proofs.Once.{any-added}
 use Rattle.kp_base.proofs.AtomOrder.{same_atoms}
-use Rattle.kp_init.specs.Tables.{Key, named_atom, is_kept, is_named_by, closed_among}
+use Rattle.kp_init.specs.NamedAtoms.{Key, named_atom, is_kept, is_named_by, closed_among}
 
 -- an atom that comes is told, and the others as before
 pub one_more : (ks : List Key) (k : Key) (a : Atom) → is_kept (if is_kept ks (named_atom k) then ks else ks ++ k ∷ []) a ≡ (is_kept ks a || same_atom a (named_atom k))

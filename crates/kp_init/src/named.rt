@@ -4,7 +4,7 @@ ghost use Rattle.kp_names_meaning.specs.Lifted.{is_named};
 ghost use Rattle.kp_names.specs.View.{lifted_view};
 ghost use Rattle.kp_base.specs.Atoms.{Atom as Told, same_atom};
 ghost use Rattle.kp_ground_meaning.specs.Ground.{atom_of};
-ghost use Rattle.kp_init.specs.Tables.{is_kept, is_named_by};
+ghost use Rattle.kp_init.specs.NamedAtoms.{is_kept, is_named_by};
 
 use indexmap::IndexSet;
 use kp_base::Memory;
@@ -28,7 +28,7 @@ impl<'a> Model for Named<'a> {
     ghost use Rattle.kp_names_lifted.specs.contracts.lifted.Lifted as lifteds;
     ghost use Rattle.kp_names_meaning.specs.Lifted.{is_named};
     ghost use Rattle.kp_names.specs.View.{lifted_view};
-    ghost use Rattle.kp_init.specs.Tables.{is_kept};
+    ghost use Rattle.kp_init.specs.NamedAtoms.{is_kept};
 
     ghost Value = { Problem };
 

@@ -58,7 +58,7 @@ use Rattle.kp_words.specs.Command.{IsBench}
 use Rattle.kp_words.proofs.Public.{word_of_bytes as word}
 use Rattle.kp_run_prepare.specs.Texts.{HaveTrees}
 use Rattle.kp_run_prepare.specs.Prepared.{usual, IsPrepared, later}
-use Rattle.kp_run_inputs.specs.Tables.{by_mode, with_table}
+use Rattle.kp_run_inputs.specs.SourceTables.{by_mode, with_table}
 use Rattle.kp_run_solve.specs.Solving.{Finds, denies}
 use Rattle.kp_run_bench.specs.Bench.{Benches, searched as by_search}
 use Rattle.kp_run.specs.Outcomes.{benched, of_command}

@@ -27,7 +27,7 @@ use Rattle.kp_base.specs.declared.ground.TagTable.{TagTable}
 use Rattle.kp_check.specs.declared.answer.Judged.{Judged}
 use Rattle.kp_check.specs.declared.answer.Judged.TheVariants.{Yes, No}
 use Rattle.kp_law_files.specs.Translations.{ground_of, initial_of}
-use Rattle.kp_run_inputs.specs.Tables.{ComesByTable, no_table, with_table}
+use Rattle.kp_run_inputs.specs.SourceTables.{ComesByTable, no_table, with_table}
 use Rattle.kp_run_inputs.specs.Actions.{ComesByPlan, no_actions, with_actions}
 use Rattle.kp_run.specs.Outcomes.{translates, TranslatesGround, over, done, TranslatesTrees, ListsMerges, MergesTrees, StripsText, too_long, no_plan, no_strip, strips, tells, TellsJudged, ChecksTrees, LiftsActions, lifts, fails, LiftsPlan, no_task, with_task, LiftsTrees, SolvesTrees, ClassicalTrees, tells_width, MeasuresGround, no_report, with_report, MeasuresTrees, ComesTo, translated, merged, stripped, checked, lifted, solved, searched, measured, benched, IsDue, usage, of_command}
 use Rattle.kp_names_meaning.specs.Steps.{Step}

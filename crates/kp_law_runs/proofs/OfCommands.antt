@@ -38,7 +38,7 @@ use Rattle.kp_base.specs.Machine.{MachineStep, accepts, stripped as actions_of}
 use Rattle.kp_run_translate.specs.Report.{counts_of}
 use Rattle.kp_plans.specs.declared.step.PlanStep.{PlanStep}
 use Rattle.kp_words.specs.Command.{IsTranslate, IsCheck, IsLift, file_of, if_named, inputs_of}
-use Rattle.kp_run_inputs.specs.Tables.{by_mode, with_table}
+use Rattle.kp_run_inputs.specs.SourceTables.{by_mode, with_table}
 use Rattle.kp_run_inputs.specs.Actions.{with_actions}
 use Rattle.kp_run_inputs.proofs.Public.{found_numbers_are_actions, as_many_found_as_steps, table_of_source_is_for_trees}
 use Rattle.kp_run.specs.Completeness.{PrintsComplete}

@@ -27,7 +27,7 @@ use Rattle.kp_words.specs.Names.{of_mode, Bench}
 use Rattle.kp_words.specs.Command.{IsBench}
 use Rattle.kp_run_prepare.specs.Texts.{HaveTrees}
 use Rattle.kp_run_prepare.specs.Prepared.{usual, IsPrepared}
-use Rattle.kp_run_inputs.specs.Tables.{HasTable}
+use Rattle.kp_run_inputs.specs.SourceTables.{HasTable}
 use Rattle.kp_run_solve.specs.Solving.{Finds, AreNamed}
 use Rattle.kp_run_bench.specs.Summary.{summary_text}
 use Rattle.kp_run_bench.specs.Bench.{texts_of, usual_implicates, Benches}

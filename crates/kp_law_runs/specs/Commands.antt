@@ -35,7 +35,7 @@ use Rattle.kp_words.specs.Command.{IsTranslate, IsMerges, IsStrip, IsCheck, IsLi
 use Rattle.kp_run_prepare.specs.Texts.{HaveTrees}
 use Rattle.kp_run_prepare.specs.Refusing.{refuses, named_in}
 use Rattle.kp_run_prepare.specs.Prepared.{usual, IsStarted}
-use Rattle.kp_run_inputs.specs.Tables.{HasTable}
+use Rattle.kp_run_inputs.specs.SourceTables.{HasTable}
 use Rattle.kp_run_inputs.specs.Actions.{HasActions}
 use Rattle.kp_run.specs.Outcomes.{translates, prints, tells, LiftsActions}
 use Rattle.kp_run.specs.Solved.{GoesOn, Tells}

@@ -12,7 +12,7 @@ use Rattle.kp_run_outcome.specs.declared.outcome.Outcome.{Outcome}
 use Rattle.kp_run_outcome.specs.Ends.{IsAnswer}
 use Rattle.kp_words.specs.Names.{Source, of_mode, Translate, Bench}
 use Rattle.kp_run_prepare.specs.Prepared.{by_texts, by_trees, Comes, early, later}
-use Rattle.kp_run_inputs.specs.Tables.{ComesByTable, no_table, with_table}
+use Rattle.kp_run_inputs.specs.SourceTables.{ComesByTable, no_table, with_table}
 use Rattle.kp_run_inputs.specs.Actions.{ComesByPlan, no_actions, with_actions}
 use Rattle.kp_run.specs.Outcomes.{TranslatesGround, over, done, TranslatesTrees, MergesTrees, StripsText, too_long, no_plan, no_strip, strips, tells, ChecksTrees, LiftsActions, lifts, fails, LiftsPlan, no_task, with_task, LiftsTrees, SolvesTrees, ClassicalTrees, tells_width, MeasuresGround, no_report, with_report, MeasuresTrees, translated, merged, stripped, checked, lifted, solved, searched, measured, benched, usage, of_command}
 use Rattle.kp_width.specs.declared.report.WidthReport.{WidthReport}

@@ -13,12 +13,12 @@ use Rattle.kp_words.specs.Names.{Source, of_mode, of_file, Translate, Merges, St
 use Rattle.kp_base.specs.declared.limits.Mode.{Mode}
 use Rattle.kp_run_inputs.specs.declared.origin.Origin.TheVariants as origins
 use Rattle.kp_run_inputs.specs.declared.origin.Origin.{Origin}
-use Rattle.kp_run_inputs.specs.Tables.{IsOrigin, IsShort, from_mode, from_file}
+use Rattle.kp_run_inputs.specs.SourceTables.{IsOrigin, IsShort, from_mode, from_file}
 use Rattle.kp_words.specs.declared.lent.CommandRef.{CommandRef as Command}
 use Rattle.kp_words.specs.declared.lent.CommandRef.TheVariants as commands
 use Rattle.kp_words.specs.Command.{IsCommand, inputs_of}
 use Rattle.kp_run.specs.declared.sourced.Sourced.{Sourced}
-use Rattle.kp_run.specs.Tables.{IsSourced}
+use Rattle.kp_run.specs.CommandParts.{IsSourced}
 use Rattle.kp_run.specs.Outcomes.{TranslatesTexts, MergesTexts, StripsText, ChecksTexts, LiftsTexts, SolvesTexts, ClassicalTexts, MeasuresTexts, ComesTo, translated, merged, stripped, checked, lifted, solved, searched, measured, benched, IsDue, of_command}
 use Rattle.kp_run_bench.specs.Bench.{Benches}
 

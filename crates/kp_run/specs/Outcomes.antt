@@ -50,7 +50,7 @@ use Rattle.kp_words.specs.Command.{IsCommand, IsNoCommand, inputs_of}
 use Rattle.kp_run_prepare.specs.Refusing.{refuses, named_in}
 use Rattle.kp_run_prepare.specs.Prepared.{usual, Comes}
 use Rattle.kp_run_classical.specs.Classical.{ComesClassical, task_of as classical_task}
-use Rattle.kp_run_inputs.specs.Tables.{ComesByTable}
+use Rattle.kp_run_inputs.specs.SourceTables.{ComesByTable}
 use Rattle.kp_run_inputs.specs.Actions.{ComesByPlan}
 use Rattle.kp_run_solve.specs.Solving.{denies, SolvesGround, SolvesClassical}
 use Rattle.kp_run_bench.specs.Bench.{Benches}

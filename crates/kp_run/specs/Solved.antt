@@ -29,7 +29,7 @@ use Rattle.kp_words.specs.Command.{file_of, if_named}
 use Rattle.kp_run_prepare.specs.Texts.{HaveTrees}
 use Rattle.kp_run_prepare.specs.Prepared.{usual, IsPrepared}
 use Rattle.kp_run_classical.specs.Classical.{IsClassicalProblem, task_of as classical_task}
-use Rattle.kp_run_inputs.specs.Tables.{HasTable}
+use Rattle.kp_run_inputs.specs.SourceTables.{HasTable}
 use Rattle.kp_run_solve.specs.Solving.{Finds}
 use Rattle.kp_run.specs.Completeness.{PrintsComplete}
 

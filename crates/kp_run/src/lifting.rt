@@ -6,7 +6,7 @@ ghost use Rattle.kp_outside.specs.Outside.{IsFront, IsWithin};
 ghost use Rattle.kp_primes.specs.Held.{formula};
 ghost use Rattle.kp_words.specs.Names.{Source};
 ghost use Rattle.kp_run_prepare.specs.Prepared.{IsUsable};
-ghost use Rattle.kp_run_inputs.specs.Tables.{IsOrigin, IsShort, ComesByTable};
+ghost use Rattle.kp_run_inputs.specs.SourceTables.{IsOrigin, IsShort, ComesByTable};
 ghost use Rattle.kp_run_inputs.specs.Actions.{ComesByPlan};
 ghost use Rattle.kp_law_ktask.specs.Task.{task_of};
 ghost use Rattle.kp_base.specs.Implicates.{IsOfItsAtoms};
@@ -14,7 +14,7 @@ ghost use Rattle.kp_lift.specs.Lifting.{IsTableOn};
 ghost use Rattle.kp_run_messages.specs.Lifting.{unlifted_text};
 ghost use Rattle.kp_run_solve.specs.Solving.{denies};
 ghost use Rattle.kp_run.specs.Outcomes.{LiftsActions, LiftsPlan, LiftsTexts};
-ghost use Rattle.kp_run.specs.Tables.{PrintsOperators};
+ghost use Rattle.kp_run.specs.CommandParts.{PrintsOperators};
 
 use crate::outcomes::{failing, print_text};
 use kp_base::{Ground, Limits, Lit, Memory, Row, Stop, TagTable};

@@ -5,7 +5,7 @@ ghost use Rattle.kp_outside.specs.Outside.{IsFront, IsWithin};
 ghost use Rattle.kp_primes.specs.Held.{formula};
 ghost use Rattle.kp_words.specs.Names.{of_mode};
 ghost use Rattle.kp_run_prepare.specs.Prepared.{IsUsable};
-ghost use Rattle.kp_run_inputs.specs.Tables.{ComesByTable};
+ghost use Rattle.kp_run_inputs.specs.SourceTables.{ComesByTable};
 ghost use Rattle.kp_run.specs.Outcomes.{ListsMerges, MergesTexts};
 
 use crate::outcomes::print_text;

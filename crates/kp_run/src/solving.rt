@@ -5,7 +5,7 @@ ghost use Rattle.kp_outside.specs.Outside.{IsFront, IsWithin};
 ghost use Rattle.kp_primes.specs.Held.{formula};
 ghost use Rattle.kp_words.specs.Names.{Source};
 ghost use Rattle.kp_run_prepare.specs.Prepared.{IsUsable};
-ghost use Rattle.kp_run_inputs.specs.Tables.{IsOrigin, IsShort, ComesByTable};
+ghost use Rattle.kp_run_inputs.specs.SourceTables.{IsOrigin, IsShort, ComesByTable};
 ghost use Rattle.kp_run_solve.specs.Solving.{SolvesGround};
 ghost use Rattle.kp_run.specs.Outcomes.{SolvesTexts, ClassicalTexts};
 

@@ -7,9 +7,9 @@ ghost use Rattle.kp_relevance.specs.Relevant.{ArePairsOf};
 ghost use Rattle.kp_run_translate.specs.Translations.{translation_with};
 ghost use Rattle.kp_words.specs.Names.{Source};
 ghost use Rattle.kp_run_prepare.specs.Prepared.{IsUsable};
-ghost use Rattle.kp_run_inputs.specs.Tables.{IsOrigin, IsShort, ComesByTable};
+ghost use Rattle.kp_run_inputs.specs.SourceTables.{IsOrigin, IsShort, ComesByTable};
 ghost use Rattle.kp_run.specs.Outcomes.{TranslatesGround, TranslatesTexts};
-ghost use Rattle.kp_run.specs.Tables.{IsPut};
+ghost use Rattle.kp_run.specs.CommandParts.{IsPut};
 
 use crate::outcomes::translates;
 use kp_base::{Limits, Memory, Stop, TagTable};

@@ -9,7 +9,7 @@ ghost use Rattle.kp_ktask.specs.Translated.{FitsLimits};
 ghost use Rattle.kp_words.specs.Names.{of_mode};
 ghost use Rattle.kp_words.specs.Options.{IsOfRange};
 ghost use Rattle.kp_run_prepare.specs.Prepared.{usual, Comes, IsPreparedOf, IsUsable};
-ghost use Rattle.kp_run_inputs.specs.Tables.{ComesByTable};
+ghost use Rattle.kp_run_inputs.specs.SourceTables.{ComesByTable};
 ghost use Rattle.kp_run_solve.specs.Solving.{Finds};
 ghost use Rattle.kp_run_bench.specs.Bench.{usual_implicates, TellsBench, BenchesGround, BenchesTrees, Benches};
 ghost use Rattle.kp_run_bench.specs.Working.{IsPreparedWithTable, IsSafe};

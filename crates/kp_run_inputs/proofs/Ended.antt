@@ -30,7 +30,7 @@ use Rattle.kp_tags.specs.Made.{AnswersMade}
 use Rattle.kp_outside.specs.declared.outside.Got.{Got}
 use Rattle.kp_outside.specs.Outside.{IsFront}
 use Rattle.kp_run_inputs.specs.declared.origin.Origin.TheVariants as origins
-use Rattle.kp_run_inputs.specs.Tables.{IsOrigin, from_mode, from_file, by_file, of_its_mode, no_merges, bad_merges, RefusesSource, AnswersTable, AnswersMerges}
+use Rattle.kp_run_inputs.specs.SourceTables.{IsOrigin, from_mode, from_file, by_file, of_its_mode, no_merges, bad_merges, RefusesSource, AnswersTable, AnswersMerges}
 use Rattle.kp_run_inputs.specs.Actions.{named_with, RefusesActions, no_plan, unknown_step, AnswersActions, AnswersSteps}
 use Rattle.kp_run_inputs.proofs.ByModels.{alike}
 use Rattle.kp_run_inputs.proofs.FileMerges.{number_below}

@@ -16,7 +16,7 @@ use Rattle.kp_primes.specs.Held.{Held}
 use Rattle.kp_primes_models.specs.Ordered.{state_of_atoms, AreFirst}
 use Rattle.kp_cover.specs.Valid.{satisfies_one, AreValidTags, is_outside}
 use Rattle.kp_tags_merges.specs.declared.merge.FileMerge.{FileMerge}
-use Rattle.kp_tags.specs.Tables.{IsTableOf}
+use Rattle.kp_tags.specs.MergeTables.{IsTableOf}
 use Rattle.kp_tags.specs.Answers.{AreConsistent, AreAcceptable, AreAllAcceptable, RefusesMerge, Accepts, RefusesTable}
 use Rattle.kp_tags.proofs.Right as tables
 

@@ -22,7 +22,7 @@ use Rattle.kp_base.specs.Entailed.{HaveSameModels}
 use Rattle.kp_tags_modes.specs.Modes.{way_of, AreMergesOf}
 use Rattle.kp_tags_modes.specs.Answers.{AnswersMode}
 use Rattle.kp_tags_modes.proofs.Public.{merges_of_modes_are_good, modes_have_one_answer, same_models_back}
-use Rattle.kp_tags.specs.Tables.{used_tags, IsTableOf}
+use Rattle.kp_tags.specs.MergeTables.{used_tags, IsTableOf}
 use Rattle.kp_tags.specs.Answers.{AreAllAcceptable, RefusesMerge, inconsistent, invalid, RefusesTable, at_fault, tags_over, AnswersTable}
 use Rattle.kp_tags.specs.Made.{IsMade, RefusesMade, AnswersMade}
 use Rattle.kp_tags.specs.Laws.{MadeTablesAreRight, IsMadeOnce}

@@ -22,7 +22,7 @@ use Rattle.kp_names_meaning.specs.Encoding.{encoded}
 use Rattle.kp_tree_cursor.specs.declared.halt.Halt.{Halt}
 use Rattle.kp_tree_cursor.specs.declared.halt.Halt.TheVariants as halts
 use Rattle.kp_tree_cursor.specs.Lexemes.{word_of, from, byte_at}
-use Rattle.kp_plans.specs.Tables.{number_under}
+use Rattle.kp_plans.specs.WordTables.{number_under}
 use Rattle.kp_tags_merges.specs.declared.merge.FileMerge.{FileMerge}
 use Rattle.kp_tags_merges.specs.Grammar.{MergeTree, merges, name_of_atom}
 use Rattle.kp_tags_merges.specs.Numbers.{Numbers, IsLit, IsMerge}

@@ -1,7 +1,7 @@
 use Rattle.std.proofs.Common.{◌≡◌, ◌||◌, drop}
 use Rattle.std.specs.List.{list_any}
 use Rattle.kp_base.specs.Atoms.{Atom}
-use Rattle.kp_init.specs.Tables.{is_kept, is_named_by}
+use Rattle.kp_init.specs.NamedAtoms.{is_kept, is_named_by}
 use Rattle.kp_init.proofs.named.named_by.Given as goal
 
 -- with the items that are left come all

@@ -3,7 +3,7 @@ use Rattle.kp_lift.specs.Lifting.{AnswersLifting}
 use Rattle.kp_run_messages.specs.Lifting.{unlifted_text}
 use Rattle.kp_run_solve.specs.Solving.{denies}
 use Rattle.kp_run.specs.Outcomes.{failing_step}
-use Rattle.kp_run.specs.Tables.{PrintsOperators}
+use Rattle.kp_run.specs.CommandParts.{PrintsOperators}
 use Rattle.kp_run.proofs.Lifts.{lifted_printed, unlifted_told}
 use Rattle.kp_run.proofs.lifting.lift_actions.Goals as goal
 

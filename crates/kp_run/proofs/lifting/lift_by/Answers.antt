@@ -1,6 +1,6 @@
 use Rattle.std.proofs.Common.{refl, subst}
 use Rattle.kp_primes.specs.Held.{formula}
-use Rattle.kp_run_inputs.specs.Tables.{AnswersTable}
+use Rattle.kp_run_inputs.specs.SourceTables.{AnswersTable}
 use Rattle.kp_run_inputs.proofs.Public.{table_goes, table_ends}
 use Rattle.kp_run.specs.Outcomes.{LiftsPlan}
 use Rattle.kp_run.proofs.Lifts.{table_on}

@@ -1,6 +1,6 @@
 use Rattle.std.proofs.Common.{[], subst}
 use Rattle.kp_words.specs.Names.{of_mode}
-use Rattle.kp_run_inputs.specs.Tables.{AnswersTable, from_mode}
+use Rattle.kp_run_inputs.specs.SourceTables.{AnswersTable, from_mode}
 use Rattle.kp_run_inputs.proofs.Public.{table_goes, table_ends}
 use Rattle.kp_run.specs.Outcomes.{ListsMerges}
 use Rattle.kp_run.proofs.listing.list_in.Goals as goal

@@ -1,6 +1,6 @@
 use Rattle.std.proofs.Common.{refl, subst, IfOk}
 use Rattle.kp_primes.specs.Held.{formula}
-use Rattle.kp_run_inputs.specs.Tables.{AnswersTable}
+use Rattle.kp_run_inputs.specs.SourceTables.{AnswersTable}
 use Rattle.kp_run_inputs.proofs.Public.{tables_are_right, table_goes, table_ends}
 use Rattle.kp_words.specs.Names.{Solve}
 use Rattle.kp_run_solve.specs.Solving.{SolvesGround}

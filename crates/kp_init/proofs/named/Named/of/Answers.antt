@@ -1,7 +1,7 @@
 use Rattle.std.proofs.Common.{ap, ◌∙◌}
 use Rattle.std.specs.List.{list_any}
 use Rattle.kp_names.specs.View.{lifted_view}
-use Rattle.kp_init.specs.Tables.{is_named_by}
+use Rattle.kp_init.specs.NamedAtoms.{is_named_by}
 use Rattle.kp_init.proofs.NamedAtoms.{all_named}
 use Rattle.kp_init.proofs.named.Named.of.Goals as goal
 

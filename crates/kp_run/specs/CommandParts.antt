@@ -13,7 +13,7 @@ use Rattle.kp_run_outcome.specs.declared.outcome.Outcome.{Outcome}
 use Rattle.kp_words.specs.Names.{Translate, Source}
 use Rattle.kp_outside.specs.Outside.{IsFront}
 use Rattle.kp_base.specs.Files.{most_bytes}
-use Rattle.kp_run_inputs.specs.Tables.{IsOrigin}
+use Rattle.kp_run_inputs.specs.SourceTables.{IsOrigin}
 use Rattle.kp_run.specs.declared.sourced.Sourced.{Sourced}
 use Rattle.kp_run.specs.Outcomes.{translates, prints}
 
