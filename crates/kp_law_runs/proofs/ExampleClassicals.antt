@@ -35,7 +35,7 @@ use Rattle.kp_run_prepare.specs.Texts.{HaveTrees}
 use Rattle.kp_run_classical.specs.Classical.{IsClassicalProblem, later, task_of}
 use Rattle.kp_run_solve.specs.Solving.{Finds, solves, denies, spends, TellsClassical}
 use Rattle.kp_run_messages.specs.Searches.{no_plan_line}
-use Rattle.kp_run.specs.Outcomes.{ClassicalTexts, searched, of_command}
+use Rattle.kp_run.specs.Outcomes.{ClassicalTexts, solved_classical, of_command}
 use Rattle.kp_run.specs.Ends.{Ends, came}
 use Rattle.kp_run.proofs.Public.{example_holding, got_after_insert, got_beside_insert, classical_task_fits}
 use Rattle.kp_run.specs.Solved.{IsSolvedClassical, HasNoClassicalPlan, IsSpentClassical}
@@ -89,7 +89,7 @@ problem_held domain problem = got_after_insert (insert empty (codes "d") domain)
 
 ends : (ws : List (Vec ℕ Global)) (budget : ℕ) → IsClassical ws (solving budget) → (domain problem : List ℕ) (o : Outcome) → o.puts ≡ [] → ClassicalTexts (solving budget) domain problem o → Ends ws (before domain problem) (after domain problem o.text) o.status
 ends ws budget is domain problem o no_file comes =
-    came o (of_command (commands.Classical (solving budget)) (domain ∷ problem ∷ []) o is (rw (domain_held domain problem, problem_held domain problem) refl) (searched (solving budget) domain problem o comes))
+    came o (of_command (commands.Classical (solving budget)) (domain ∷ problem ∷ []) o is (rw (domain_held domain problem, problem_held domain problem) refl) (solved_classical (solving budget) domain problem o comes))
     (whole refl (record { gets = λ q. refl; puts = λ q. refl; writes = refl }) (rw no_file refl) refl)
 
 -- what the search of their task finds is told

@@ -46,7 +46,7 @@ use Rattle.kp_words.specs.Command.{IsWidth}
 use Rattle.kp_words.proofs.Public.{word_of_bytes, example_is_width}
 use Rattle.kp_run_prepare.specs.Texts.{HaveTrees}
 use Rattle.kp_run_prepare.specs.Prepared.{usual, IsPrepared, later}
-use Rattle.kp_run.specs.Outcomes.{tells_width, with_report, measured, of_command}
+use Rattle.kp_run.specs.Outcomes.{tells_width, with_report, width_measured, of_command}
 use Rattle.kp_run.specs.Ends.{Ends, came}
 use Rattle.kp_run.proofs.Public.{file_reads_by_computing, example_holding, example_has_state, example_few_primes, got_after_insert, got_beside_insert, prepared_is_proper}
 use Rattle.kp_law_runs.specs.Measuring.{IsMeasured, IsTooWide}
@@ -100,7 +100,7 @@ pub ends : (ws : List (Vec ℕ Global)) (bound : ℕ) → IsWidth ws (measuring 
     → Ends ws (before domain problem) (after domain problem (tells_width (ground_of d p) bound report).text) (tells_width (ground_of d p) bound report).status
 ends ws bound is domain problem d p have ready report reports no_file =
     let o = tells_width (ground_of d p) bound report in
-    came o (of_command (commands.Width (measuring bound)) (domain ∷ problem ∷ []) o is (rw (domain_held domain problem, problem_held domain problem) refl) (measured (measuring bound) domain problem o (later d p have ready (with_report report reports refl))))
+    came o (of_command (commands.Width (measuring bound)) (domain ∷ problem ∷ []) o is (rw (domain_held domain problem, problem_held domain problem) refl) (width_measured (measuring bound) domain problem o (later d p have ready (with_report report reports refl))))
     (whole refl (record { gets = λ q. refl; puts = λ q. refl; writes = refl }) (rw no_file refl) refl)
 
 -- ---- nothing is wanted: there is no target

@@ -30,7 +30,7 @@ use Rattle.kp_words.specs.declared.lent.CommandRef.TheVariants as commands
 use Rattle.kp_words.specs.Command.{IsWidth, inputs_of}
 use Rattle.kp_run_prepare.specs.Refusing.{named_in}
 use Rattle.kp_run_prepare.specs.Prepared.{usual, by_texts, by_trees, early, later}
-use Rattle.kp_run.specs.Outcomes.{tells_width, MeasuresTexts, no_report, with_report, measured, IsDue, of_command}
+use Rattle.kp_run.specs.Outcomes.{tells_width, WidthTexts, no_report, with_report, width_measured, IsDue, of_command}
 use Rattle.kp_run.specs.Ends.{Ends}
 use Rattle.kp_run.specs.Solved.{GoesOn}
 use Rattle.kp_run.proofs.Public.{due_makes, IsCarriedOut, answer_is_carried_out, IsNoRefusal, not_refused}
@@ -40,7 +40,7 @@ use Rattle.kp_law_runs.proofs.Following.{ends_with}
 width_due : (words : List (Vec ℕ Global)) (m : FileMap) (c : Width) (d : Domain Word) (p : Problem Word) (report : WidthReport) → IsWidth words c → GoesOn m c.domain c.problem c.implicates d p → IsReport usual c.bound (ground_of d p) (initial_of d p) report → IsDue words (Some m) (tells_width (ground_of d p) c.bound report)
 width_due words m c d p report is g reports =
     let o = tells_width (ground_of d p) c.bound report in
-    of_command (commands.Width c) (g.domain ∷ g.problem ∷ []) o is (rw (g.domain_held, g.problem_held) refl) (measured c g.domain g.problem o (later d p g.trees g.prepared (with_report report reports refl)))
+    of_command (commands.Width c) (g.domain ∷ g.problem ∷ []) o is (rw (g.domain_held, g.problem_held) refl) (width_measured c g.domain g.problem o (later d p g.trees g.prepared (with_report report reports refl)))
 
 pub widths_are_answered : WidthsAreAnswered
 widths_are_answered words old new s ends m c d p report held is g reports = ends_with words old new s ends m _ held (width_due words m c d p report is g reports)
@@ -74,7 +74,7 @@ record HasReport (m : FileMap) (c : Width) (o : Outcome) : Type 0 where
   is_report : IsReport usual c.bound (ground_of domain_tree problem_tree) (initial_of domain_tree problem_tree) report
   told : o ≡ tells_width (ground_of domain_tree problem_tree) c.bound report
 
-of_texts : (m : FileMap) (c : Width) (domain problem : List ℕ) → get m c.domain ≡ Some domain → get m c.problem ≡ Some problem → (o : Outcome) → IsNoRefusal o → MeasuresTexts c domain problem o → HasReport m c o
+of_texts : (m : FileMap) (c : Width) (domain problem : List ℕ) → get m c.domain ≡ Some domain → get m c.problem ≡ Some problem → (o : Outcome) → IsNoRefusal o → WidthTexts c domain problem o → HasReport m c o
 of_texts m c domain problem first second o answers (early (by_texts r why is)) = absurd (not_refused o nothing r is answers)
 of_texts m c domain problem first second o answers (early (by_trees d p names r trees why is)) = absurd (not_refused o names r is answers)
 of_texts m c domain problem first second o answers (later d p trees ready (no_report r why is)) = absurd (not_refused o (named_in (ground_of d p)) r is answers)

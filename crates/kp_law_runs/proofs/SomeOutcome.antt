@@ -45,7 +45,7 @@ use Rattle.kp_run_inputs.proofs.Public.{found_numbers_are_actions, by_table_some
 use Rattle.kp_law_machine.proofs.Public.{lists_lift_or_fail, no_clash_under_exclusive_pairs as never_clashes}
 use Rattle.kp_run_messages.specs.Lifting.{unlifted_text}
 use Rattle.kp_run_solve.specs.Solving.{denies, SolvesGround, over as too_large}
-use Rattle.kp_run.specs.Outcomes.{shows_usage, translates, TranslatesGround, over, done, TranslatesTrees, ListsMerges, MergesTrees, prints, StripsText, too_long, no_plan, no_strip, strips, tells, TellsJudged, ChecksTrees, failing_step, LiftsActions, lifts, fails, LiftsPlan, no_task, with_task, LiftsTrees, SolvesTrees, tells_width, no_report, with_report, MeasuresTrees, ComesTo, translated, merged, checked, lifted, solved, measured, benched, usage, of_command}
+use Rattle.kp_run.specs.Outcomes.{shows_usage, translates, TranslatesGround, over, done, TranslatesTrees, MergesGround, MergesTrees, prints, StripsText, too_long, no_plan, no_strip, strips, tells, TellsJudged, ChecksTrees, failing_step, LiftsActions, lifts, fails, LiftsPlan, no_task, with_task, LiftsTrees, SolvesTrees, tells_width, no_report, with_report, WidthTrees, ComesTo, translated, merged, checked, lifted, solved, width_measured, benched, usage, of_command}
 use Rattle.kp_run.specs.Outcomes as outcomes
 use Rattle.kp_law_runs.specs.Laws.{CommandsHaveAnOutcome, HasSomeOutcome}
 use Rattle.kp_run_inputs.specs.SourceTables.{HasTable}
@@ -87,7 +87,7 @@ module _ (limit : ℕ) (d : Domain Word) (p : Problem Word) (x y : List ℕ) (tr
   of_translate c merges many = by_table_some_outcome (ground_of d p) (initial_of d p) c.source merges (TranslatesGround c (ground_of d p) (initial_of d p)) proper many (λ t has. of_table c t)
 
   of_listed : (mode : Mode) → (o : Outcome) × MergesTrees mode d p o
-  of_listed mode = by_table_some_outcome (ground_of d p) (initial_of d p) (of_mode mode) [] (ListsMerges (ground_of d p)) proper refl (λ t has. (prints (merges_text (ground_of d p).atoms (merges_of t)), refl))
+  of_listed mode = by_table_some_outcome (ground_of d p) (initial_of d p) (of_mode mode) [] (MergesGround (ground_of d p)) proper refl (λ t has. (prints (merges_text (ground_of d p).atoms (merges_of t)), refl))
 
   -- ---- a check
 
@@ -132,7 +132,7 @@ module _ (limit : ℕ) (d : Domain Word) (p : Problem Word) (x y : List ℕ) (tr
 
   -- ---- a width
 
-  of_width : (c : Width) → (o : Outcome) × MeasuresTrees c d p o
+  of_width : (c : Width) → (o : Outcome) × WidthTrees c d p o
   of_width c = elim (widths_decided usual c.bound (ground_of d p) (initial_of d p) proper) [
     | inl r ↦ (tells_width (ground_of d p) c.bound r.0, with_report r.0 r.1 refl)
     | inr r ↦ (refuses (named_in (ground_of d p)) r.0, no_report r.0 r.1 refl)
@@ -240,13 +240,13 @@ some_outcome (commands.Solve c) (x ∷ y ∷ merges) many =
     (t.0, solved c x y merges t.0 t.1)
 some_outcome (commands.Solve c) [] many = absurd (omega (arith, many))
 some_outcome (commands.Solve c) (x ∷ []) many = absurd (omega (arith, many))
-some_outcome (commands.Classical c) (x ∷ y ∷ []) many = let t = some_classical_comes c.budget x y in (t.0, outcomes.searched c x y t.0 t.1)
+some_outcome (commands.Classical c) (x ∷ y ∷ []) many = let t = some_classical_comes c.budget x y in (t.0, outcomes.solved_classical c x y t.0 t.1)
 some_outcome (commands.Classical c) [] many = absurd (omega (arith, many))
 some_outcome (commands.Classical c) (x ∷ []) many = absurd (omega (arith, many))
 some_outcome (commands.Classical c) (x ∷ y ∷ z ∷ zs) many = absurd (omega (arith, many))
 some_outcome (commands.Width c) (x ∷ y ∷ []) many =
-    let t = some_comes c.implicates x y (MeasuresTrees c) (λ d p trees ready. of_width c.implicates d p x y trees ready c) in
-    (t.0, measured c x y t.0 t.1)
+    let t = some_comes c.implicates x y (WidthTrees c) (λ d p trees ready. of_width c.implicates d p x y trees ready c) in
+    (t.0, width_measured c x y t.0 t.1)
 some_outcome (commands.Width c) [] many = absurd (omega (arith, many))
 some_outcome (commands.Width c) (x ∷ []) many = absurd (omega (arith, many))
 some_outcome (commands.Width c) (x ∷ y ∷ z ∷ zs) many = absurd (omega (arith, many))

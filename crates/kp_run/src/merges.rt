@@ -6,7 +6,7 @@ ghost use Rattle.kp_primes.specs.Held.{formula};
 ghost use Rattle.kp_words.specs.Names.{of_mode};
 ghost use Rattle.kp_run_prepare.specs.Prepared.{IsUsable};
 ghost use Rattle.kp_run_inputs.specs.SourceTables.{ComesByTable};
-ghost use Rattle.kp_run.specs.Outcomes.{ListsMerges, MergesTexts};
+ghost use Rattle.kp_run.specs.Outcomes.{MergesGround, MergesTexts};
 
 use crate::outcomes::print_text;
 use kp_base::{Ground, Memory, Mode, TagTable};
@@ -20,7 +20,7 @@ use std::alloc::Global;
 
 // The merges of a table are printed.
 fn list(alloc: Global, ground: &Ground, table: &TagTable) -> Result<Outcome, Memory>
-    ensures { IfOk result (ListsMerges ground.now table.now) }
+    ensures { IfOk result (MergesGround ground.now table.now) }
 {
     Ok(print_text(alloc, merges_text(alloc, ground, table)?))
 }
@@ -28,7 +28,7 @@ fn list(alloc: Global, ground: &Ground, table: &TagTable) -> Result<Outcome, Mem
 // What a ground problem without a clash has as merges in a mode.
 fn list_in(alloc: Global, prepared: &Prepared, mode: Mode) -> Result<Outcome, Memory>
     requires { IsUsable prepared.now }
-    ensures { (i : Formula) → HaveSameModels (formula prepared.now.primes) i → IfOk result (ComesByTable prepared.now.ground i (of_mode mode) [] (ListsMerges prepared.now.ground)) }
+    ensures { (i : Formula) → HaveSameModels (formula prepared.now.primes) i → IfOk result (ComesByTable prepared.now.ground i (of_mode mode) [] (MergesGround prepared.now.ground)) }
 {
     match table_alone(alloc, prepared, Origin::Mode(mode)) {
         Ok(table) => list(alloc, &prepared.ground, &table),

@@ -4,7 +4,7 @@ ghost use Rattle.kp_base.specs.Entailed.{HaveSameModels};
 ghost use Rattle.kp_outside.specs.Outside.{IsFront, IsWithin};
 ghost use Rattle.kp_primes.specs.Held.{formula};
 ghost use Rattle.kp_run_prepare.specs.Prepared.{IsUsable};
-ghost use Rattle.kp_run.specs.Outcomes.{tells_width, MeasuresGround, MeasuresTexts};
+ghost use Rattle.kp_run.specs.Outcomes.{tells_width, WidthGround, WidthTexts};
 
 use crate::outcomes::print_text;
 use kp_base::{Ground, Limits, Memory, Row};
@@ -43,7 +43,7 @@ fn tell_width(
 // How wide a ground problem without a clash is.
 fn measure(alloc: Global, prepared: &Prepared, bound: u32) -> Result<Outcome, Memory>
     requires { IsUsable prepared.now }
-    ensures { (i : Formula) → HaveSameModels (formula prepared.now.primes) i → IfOk result (MeasuresGround bound prepared.now.ground i) }
+    ensures { (i : Formula) → HaveSameModels (formula prepared.now.primes) i → IfOk result (WidthGround bound prepared.now.ground i) }
 {
     let relevance = Relevance::of(alloc, &prepared.ground)?;
     match width(
@@ -69,7 +69,7 @@ pub fn width_of_texts(
 ) -> Result<Outcome, Memory>
     requires domain { IsWithin 16777216 domain }
     requires problem { IsWithin 16777216 problem }
-    ensures { (d p : List ℕ) → IsFront (Some d) 16777216 domain → IsFront (Some p) 16777216 problem → IfOk result (MeasuresTexts command.now d p) }
+    ensures { (d p : List ℕ) → IsFront (Some d) 16777216 domain → IsFront (Some p) 16777216 problem → IfOk result (WidthTexts command.now d p) }
 {
     match prepare(alloc, command.implicates, domain, problem) {
         Ok(prepared) => measure(alloc, &prepared, command.bound),
