@@ -51,7 +51,7 @@ use Rattle.kp_run.specs.Solved.{Tells}
 use Rattle.kp_run.proofs.Public.{both_plans, due_makes, task_of_trees_fits, prepared_is_proper, no_plan_text_tells_complete, IsNoRefusal, not_refused}
 use Rattle.kp_run_prepare.proofs.Public.{problem_of_trees}
 use Rattle.kp_law_runs.specs.Follows.{IsAnsweredBy}
-use Rattle.kp_law_runs.specs.Benching.{IsPosedBench, its_ground, its_formula, its_task, IsWrittenPlan, IsSolvedBench, HasNoBenchPlan, IsSpentBench, BenchesAreTrue, BenchesAreAnswered}
+use Rattle.kp_law_runs.specs.Bench.{IsPosedBench, its_ground, its_formula, its_task, IsWrittenPlan, IsSolvedBench, HasNoBenchPlan, IsSpentBench, BenchesAreTrue, BenchesAreAnswered}
 use Rattle.kp_law_runs.proofs.Following.{answers_are_whole, ends_with}
 use Rattle.kp_law_runs.proofs.SomeOutcome.{as_many}
 

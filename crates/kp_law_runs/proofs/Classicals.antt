@@ -14,7 +14,7 @@ use Rattle.kp_run_solve.specs.Solving.{SolvesClassical}
 use Rattle.kp_run.specs.Outcomes.{solved_classical, IsDue, of_command}
 use Rattle.kp_run.specs.Solved.{IsHeldClassical}
 use Rattle.kp_run.proofs.Public.{classical_is_true}
-use Rattle.kp_law_runs.specs.Solving.{ClassicalsAreAnswered, ClassicalIsAPlan, NoClassicalPlanIsTrue, ClassicalSpentIsTrue}
+use Rattle.kp_law_runs.specs.Solve.{ClassicalsAreAnswered, ClassicalIsAPlan, NoClassicalPlanIsTrue, ClassicalSpentIsTrue}
 use Rattle.kp_law_runs.proofs.Following.{ends_with}
 
 classical_due : (words : List (Vec ℕ Global)) (m : FileMap) (c : Classical) (d : Domain Word) (p : Problem Word) (o : Outcome) → IsClassical words c → IsHeldClassical m c.domain c.problem d p → SolvesClassical c.budget (ground_of d p) (task_of d p) o → IsDue words (Some m) o

@@ -76,10 +76,10 @@ use Rattle.kp_run.specs.Outcomes.{benched, of_command}
 use Rattle.kp_run.specs.Ends.{Ends, came}
 use Rattle.kp_run.proofs.Public.{task_of_trees_fits, prepared_is_proper as proper}
 use Rattle.kp_run_prepare.proofs.Public.{problem_of_trees}
-use Rattle.kp_law_runs.specs.Benching.{IsSolvedBench}
+use Rattle.kp_law_runs.specs.Bench.{IsSolvedBench}
 use Rattle.kp_law_runs.proofs.Benches.{benches_are_true}
 use Rattle.kp_law_runs.proofs.ExampleCourses.{leading}
-use Rattle.kp_law_runs.proofs.ExampleBenching.{cells_tree, two_tree, trees, g, i, left, at_first, first_start, at_second, second_start, not_second, prepared, relevant, second_for, not_met, only_target}
+use Rattle.kp_law_runs.proofs.ExampleBenches.{cells_tree, two_tree, trees, g, i, left, at_first, first_start, at_second, second_start, not_second, prepared, relevant, second_for, not_met, only_target}
 
 -- ---- words
 

@@ -12,8 +12,8 @@ use Rattle.kp_run_prepare.proofs.Public.{texts_have_one_domain, texts_have_one_p
 use Rattle.kp_run_inputs.specs.SourceTables.{HasTable}
 use Rattle.kp_run_inputs.proofs.Public.{sources_have_one_table}
 use Rattle.kp_run.specs.Solved.{HasTask}
-use Rattle.kp_law_runs.specs.Solving.{PosedOnce, ClassicalPosedOnce}
-use Rattle.kp_law_runs.specs.Benching.{BenchPosedOnce}
+use Rattle.kp_law_runs.specs.Solve.{PosedOnce, ClassicalPosedOnce}
+use Rattle.kp_law_runs.specs.Bench.{BenchPosedOnce}
 
 -- ---- one pair of trees, and one table
 
