@@ -46,13 +46,13 @@ value_of name (word w ∷ said) = value_of name said
 value_of name (option n value ∷ said) = if bytes_eq n name then Some value else value_of name said
 
 -- the text is one of these
-abbrev pub is_among : List (List ℕ) → List ℕ → Bool
-is_among texts text = list_any (λ t. bytes_eq t text) texts
+abbrev pub has_text : List (List ℕ) → List ℕ → Bool
+has_text texts text = list_any (λ t. bytes_eq t text) texts
 
 -- no text stands twice
 abbrev pub differ : List (List ℕ) → Bool
 differ [] = true
-differ (t ∷ texts) = not (is_among texts t) && differ texts
+differ (t ∷ texts) = not (has_text texts t) && differ texts
 
 -- The words are a line of these positional words, with these values of the options that may stand: each
 -- option stands once at most, and one that is left out has no value.
@@ -60,6 +60,6 @@ pub record Line (words places options : List (List ℕ)) (values : List (Option 
   pub said : List Said
   pub says : Says words said
   pub places_are : positionals said ≡ places
-  pub known : list_all (is_among options) (option_names said) ≡ true
+  pub known : list_all (has_text options) (option_names said) ≡ true
   pub once : differ (option_names said) ≡ true
   pub values_are : map (λ name. value_of name said) options ≡ values

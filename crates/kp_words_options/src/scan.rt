@@ -1,6 +1,6 @@
 ghost use Rattle.std.specs.Prelude.{◌≡◌, ◌≤◌, ◌<◌, ◌+◌, ◌^◌, ◌&&◌, Some, None, not, length, vec_len, IfOk, option_map, true, false, Ok, nat_eq};
 ghost use Rattle.clap.specs.Lexer.{strip_byte, name_and_value, long_of};
-ghost use Rattle.kp_words_options.specs.Words.{is_plain, is_among};
+ghost use Rattle.kp_words_options.specs.Words.{is_plain, has_text};
 ghost use Rattle.kp_words_options.specs.Texts.{texts};
 ghost use Rattle.kp_words_options.specs.Scan.{State, reader_state, has_value, is_alone, may_stand, after_word, after_option, scan, at_first};
 
@@ -47,7 +47,7 @@ fn option_of(word: &str) -> Option<(&str, Option<&str>)>
 
 // Whether a text is one of these.
 pub(crate) fn is_among(all: &[&str], text: &str) -> bool
-    ensures { result ≡ is_among (texts all.now) text.now }
+    ensures { result ≡ has_text (texts all.now) text.now }
 {
     for one in all {
         if *one == text {
