@@ -19,7 +19,7 @@ use Rattle.kp_law_texts.specs.Tokens.{words, Fine, done, lefts, rights, blanks, 
 use Rattle.kp_law_texts.specs.Maps.{without_places}
 use Rattle.kp_law_texts.proofs.Public.{◌$◌, KeepsFine, each_keeps_fine, PiecesGive, many_pieces_read, pieces_read_as_their_words}
 use Rattle.kp_plans.specs.Grammar.{step, plan, step_name}
-use Rattle.kp_plans.specs.PlanFiles.{step_names as plan_names, step_of}
+use Rattle.kp_plans.specs.PlanFiles.{step_names, step_of}
 use Rattle.kp_plans.specs.Printed.{step_line, plan_pieces, plan_text, PrintedPlansRead}
 
 -- ---- the lines are fine
@@ -79,7 +79,7 @@ named_tree [] = refl
 named_tree (x ∷ xs) = ap (λ ns. step_name x ∷ ns) (named_tree xs)
 
 -- the steps of the text have the names that were made
-same_names : (text : List ℕ) (tree : List (Word × List Word)) → plan_names (map (step_of text) tree) ≡ map step_name tree
+same_names : (text : List ℕ) (tree : List (Word × List Word)) → step_names (map (step_of text) tree) ≡ map step_name tree
 same_names text [] = refl
 same_names text (x ∷ xs) = ap (λ ns. step_name x ∷ ns) (same_names text xs)
 
