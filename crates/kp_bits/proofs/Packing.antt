@@ -11,7 +11,7 @@ use Rattle.std.proofs.lemmas.Slice.Zip.{length-zip, get_or-zip}
 use Rattle.std.specs.Int.{bit_at}
 use Rattle.std.specs.List.{zip}
 use Rattle.kp_bits.specs.Packed.{bit_of, bits_of, IsPacked}
-use Rattle.kp_bits.specs.Rows.{IsWithin, DifferFirst}
+use Rattle.kp_bits.specs.Rows.{IsSubset, DifferFirst}
 
 pub length-bits_of : (n : ℕ) (ws : List ℕ) → length (bits_of n ws) ≡ n
 length-bits_of n ws = length-map-range_with_len (bit_of ws) 0 n
@@ -213,7 +213,7 @@ word_of_row n ws k w p is j l = (set_there, there_set)
 
 -- ---- within
 
-pub within_of_words : (n m : ℕ) (ws vs : List ℕ) → n ≡ m → IsPacked n ws → ((k j : ℕ) → k < length ws → j < 64 → bit_at (get_or ws k 0) j ≡ 1 → bit_at (get_or vs k 0) j ≡ 1) → IsWithin (bits_of n ws) (bits_of m vs)
+pub within_of_words : (n m : ℕ) (ws vs : List ℕ) → n ≡ m → IsPacked n ws → ((k j : ℕ) → k < length ws → j < 64 → bit_at (get_or ws k 0) j ≡ 1 → bit_at (get_or vs k 0) j ≡ 1) → IsSubset (bits_of n ws) (bits_of m vs)
 within_of_words n m ws vs same p f = record { each = λ i h. go i h (subst (λ k. i < k) (length-bits_of n ws) (slice_get_within (bits_of n ws) i true h)) }
   where
     go : (i : ℕ) → slice_get (bits_of n ws) i ≡ Some true → i < n → slice_get (bits_of m vs) i ≡ Some true
@@ -222,7 +222,7 @@ within_of_words n m ws vs same p f = record { each = λ i h. go i h (subst (λ k
         let one = f (i / 64) (i % 64) (word_there n ws i p l) (omega arith) (eqb-true _ 1 is_set) in
         slice_get-bits_of m vs i (subst (λ k. i < k) same l) ∙ ap Some (eq-eqb _ 1 one)
 
-pub words_of_within : (n m : ℕ) (ws vs : List ℕ) → n ≡ m → IsPacked n ws → IsWithin (bits_of n ws) (bits_of m vs) → (k j : ℕ) → k < length ws → j < 64 → bit_at (get_or ws k 0) j ≡ 1 → bit_at (get_or vs k 0) j ≡ 1
+pub words_of_within : (n m : ℕ) (ws vs : List ℕ) → n ≡ m → IsPacked n ws → IsSubset (bits_of n ws) (bits_of m vs) → (k j : ℕ) → k < length ws → j < 64 → bit_at (get_or ws k 0) j ≡ 1 → bit_at (get_or vs k 0) j ≡ 1
 words_of_within n m ws vs same p w k j in_range l one = ⊎_elim inside past (cases_lt (k * 64 + j) n)
   where
     is_set : bit_of ws (k * 64 + j) ≡ true

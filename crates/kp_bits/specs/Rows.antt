@@ -11,7 +11,7 @@ abbrev pub both : List Bool → List Bool → List Bool
 both xs ys = map (λ (p : Bool × Bool). p.0 && p.1) (zip xs ys)
 
 -- each position that is true in the first is true in the second
-pub record IsWithin (xs ys : List Bool) : Type 0 where
+pub record IsSubset (xs ys : List Bool) : Type 0 where
   pub each : (i : ℕ) → slice_get xs i ≡ Some true → slice_get ys i ≡ Some true
 
 -- the two differ at this position, and at none before it

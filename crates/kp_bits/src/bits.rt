@@ -1,6 +1,6 @@
 ghost use Rattle.std.specs.Prelude.{◌≡◌, ◌<◌, ◌+◌, ◌*◌, ◌↔◌, ℕ, true, false, Some, length, replicate, set, slice_get, IfOk, IfSome, IfNone, IsTrue};
 ghost use Rattle.std.specs.Int.{bit_at};
-ghost use Rattle.kp_bits.specs.Rows.{both, either, IsWithin, DifferFirst};
+ghost use Rattle.kp_bits.specs.Rows.{both, either, IsSubset, DifferFirst};
 
 use crate::words::{
     and_words, first_other_bit, has_bit, or_words, same_words, with_bit, without_bit, word_at,
@@ -89,7 +89,7 @@ impl Bits {
     /// Whether each bit that is set here is set in the other row.
     pub fn within(&self, other: &Bits) -> bool
         requires { length self.now ≡ length other.now }
-        ensures { IsTrue result ↔ IsWithin self.now other.now }
+        ensures { IsTrue result ↔ IsSubset self.now other.now }
     {
         words_within(&self.words, &other.words)
     }

@@ -6,7 +6,7 @@ use Rattle.kp_base.specs.declared.ground.GroundName.{GroundName}
 use Rattle.kp_base.specs.Lit.{positive, negative, code_of}
 use Rattle.kp_base.specs.Steps.{State, holds, succeeds, IsLeastMissing}
 use Rattle.kp_base.specs.Implicates.{IsOfItsAtoms}
-use Rattle.kp_primes_models.specs.Ordered.{state_of}
+use Rattle.kp_primes_models.specs.Ordered.{state_of_atoms}
 use Rattle.kp_check.specs.Failing.{FailAt}
 
 nameless : GroundName
@@ -29,11 +29,11 @@ once_of_atoms : IsOfItsAtoms once
 once_of_atoms = record { few_atoms = omega arith; few_actions = omega arith; actions = refl; goal = refl }
 
 -- the step is a plan where p holds
-taken_once : succeeds once (state_of (record { 0 = 0 } ∷ [])) (0 ∷ []) ≡ true
+taken_once : succeeds once (state_of_atoms (record { 0 = 0 } ∷ [])) (0 ∷ []) ≡ true
 taken_once = refl
 
 -- a second one fails at p
-taken_twice : FailAt once (state_of (record { 0 = 0 } ∷ [])) (0 ∷ 0 ∷ []) 1 (positive 0)
+taken_twice : FailAt once (state_of_atoms (record { 0 = 0 } ∷ [])) (0 ∷ 0 ∷ []) 1 (positive 0)
 taken_twice = record { in_range = omega arith; reached = refl; fails = only _ refl }
 
 -- a full cell's left one comes to be full, and it empty
@@ -50,8 +50,8 @@ cells = record {
 }
 
 -- one step to the left fails at the goal where the third cell is full, and two don't
-one_to_the_left : FailAt cells (state_of (record { 0 = 2 } ∷ [])) (0 ∷ []) 1 (positive 0)
+one_to_the_left : FailAt cells (state_of_atoms (record { 0 = 2 } ∷ [])) (0 ∷ []) 1 (positive 0)
 one_to_the_left = record { in_range = omega arith; reached = refl; fails = only _ refl }
 
-two_to_the_left : succeeds cells (state_of (record { 0 = 2 } ∷ [])) (0 ∷ 0 ∷ []) ≡ true
+two_to_the_left : succeeds cells (state_of_atoms (record { 0 = 2 } ∷ [])) (0 ∷ 0 ∷ []) ≡ true
 two_to_the_left = refl

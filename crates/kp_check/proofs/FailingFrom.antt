@@ -17,7 +17,7 @@ use Rattle.kp_primes_models.specs.declared.truth.Truth.{Truth}
 use Rattle.kp_primes_models.specs.declared.truth.Truth.TheVariants.{Yes, No, Open}
 use Rattle.kp_primes_models.specs.Known.{is_decided}
 use Rattle.kp_primes_models.specs.Truths.{IsTruth}
-use Rattle.kp_primes_models.specs.Ordered.{state_of, IsFirst}
+use Rattle.kp_primes_models.specs.Ordered.{state_of_atoms, IsFirst}
 use Rattle.kp_primes_models.specs.Asked.{is_wanted}
 use Rattle.kp_base.specs.declared.ground.Initial.{Initial}
 use Rattle.kp_check.specs.declared.failing.At.{At}
@@ -45,10 +45,10 @@ full_decides n s a lt = pick (s a) (has-member (full n s) (literal_of s a) (memb
     pick true h = or_left (has (full n s) (positive a)) (has (full n s) (negative a)) h
     pick false h = or_right (has (full n s) (positive a)) (has (full n s) (negative a)) h
 
-values_fit : (n : ℕ) (known : List Lit) (ps : List AtomId) → Fits n known (state_values n ps) (state_of ps)
+values_fit : (n : ℕ) (known : List Lit) (ps : List AtomId) → Fits n known (state_values n ps) (state_of_atoms ps)
 values_fit n known ps = record {
-  len = length_range (λ p. decided (state_of ps p)) 0 n;
-  each = λ q lt. subst (IsTruth n known (state_of ps q)) (sym (at_range (λ p. decided (state_of ps p)) 0 n q lt ∙ ap (λ p. decided (state_of ps p)) (omega arith))) (known_is (state_of ps q));
+  len = length_range (λ p. decided (state_of_atoms ps p)) 0 n;
+  each = λ q lt. subst (IsTruth n known (state_of_atoms ps q)) (sym (at_range (λ p. decided (state_of_atoms ps p)) 0 n q lt ∙ ap (λ p. decided (state_of_atoms ps p)) (omega arith))) (known_is (state_of_atoms ps q));
 }
   where
     known_is : (b : Bool) → IsTruth n known b (decided b)
@@ -84,8 +84,8 @@ module _ (n : ℕ) (known : List Lit) (all : (a : ℕ) → a < n → is_decided 
           rw (first_no_is vs s f a.pre parts.0, rest (stepped vs a.effects) (after a s) (stepped_fits n known vs s f a parts.1)) refl
 
 -- what the values of a state tell is where the steps fail from it
-pub failure_found : (n : ℕ) (g : Ground) → IsGroundOf n g → (ns : List ℕ) (ps : List AtomId) → failure_in g (state_values n ps) ns 0 ≡ failure g (state_of ps) ns 0
-failure_found n g of ns ps = failure_is n (full n (state_of ps)) (full_decides n (state_of ps)) g of ns (state_values n ps) (state_of ps) 0 (values_fit n (full n (state_of ps)) ps)
+pub failure_found : (n : ℕ) (g : Ground) → IsGroundOf n g → (ns : List ℕ) (ps : List AtomId) → failure_in g (state_values n ps) ns 0 ≡ failure g (state_of_atoms ps) ns 0
+failure_found n g of ns ps = failure_is n (full n (state_of_atoms ps)) (full_decides n (state_of_atoms ps)) g of ns (state_values n ps) (state_of_atoms ps) 0 (values_fit n (full n (state_of_atoms ps)) ps)
 
 -- ---- where they fail nowhere
 
@@ -172,10 +172,10 @@ fail_at g ns s at inside up h =
     (λ ascending. record { in_range = r.1.in_range; reached = r.1.reached; fails = first_least (state_after g s (take r.0 ns)) (asked g (slice_get ns r.0)) at.literal ascending r.1.first }) up
 
 -- a state from which they fail tells where
-pub tells_where : (n : ℕ) (g : Ground) (i : Initial) (ns : List ℕ) (ps : List AtomId) → IsGroundOf n g → list_all (λ m. nat_lt m (length g.actions)) ns ≡ true → IsFirst n (is_wanted i (fails g ns)) (state_of ps) → failure_in g (state_values n ps) ns 0 ≡ None → ⊥
+pub tells_where : (n : ℕ) (g : Ground) (i : Initial) (ns : List ℕ) (ps : List AtomId) → IsGroundOf n g → list_all (λ m. nat_lt m (length g.actions)) ns ≡ true → IsFirst n (is_wanted i (fails g ns)) (state_of_atoms ps) → failure_in g (state_values n ps) ns 0 ≡ None → ⊥
 tells_where n g i ns ps of inside first none =
-    let all = none_fails g ns (state_of ps) 0 inside (sym (failure_found n g of ns ps) ∙ none) in
-    let failed = (and_parts (is_model i (state_of ps)) (fails g ns (state_of ps)) first.passed).1 in
+    let all = none_fails g ns (state_of_atoms ps) 0 inside (sym (failure_found n g of ns ps) ∙ none) in
+    let failed = (and_parts (is_model i (state_of_atoms ps)) (fails g ns (state_of_atoms ps)) first.passed).1 in
     false≢true (sym (ap not all) ∙ failed)
 
 -- where the steps fail from no model, they are a plan

@@ -4,7 +4,7 @@ use Rattle.kp_base.specs.declared.ground.Ground.{Ground}
 use Rattle.kp_base.specs.declared.ground.Initial.{Initial}
 use Rattle.kp_base.specs.Steps.{State, succeeds, IsGroundPlan}
 use Rattle.kp_primes_models.specs.Asked.{is_wanted}
-use Rattle.kp_primes_models.specs.Ordered.{AreFirst, state_of}
+use Rattle.kp_primes_models.specs.Ordered.{AreFirst, state_of_atoms}
 use Rattle.kp_check.specs.Failing.{FailAt}
 use Rattle.kp_check.specs.declared.answer.Judged.{Judged}
 use Rattle.kp_check.specs.declared.answer.Judged.TheVariants.{Yes, No}
@@ -16,4 +16,4 @@ fails g ns s = not (succeeds g s ns)
 -- the steps are a plan; or these are the atoms of the first model from which they fail, in order, and they fail from it there
 abbrev pub AnswersJudged : ℕ → Ground → Initial → List ℕ → Judged → Type 0
 AnswersJudged n g i ns Yes = IsGroundPlan g i ns
-AnswersJudged n g i ns (No ps k l) = AreFirst n (is_wanted i (fails g ns)) ps × FailAt g (state_of ps) ns k l
+AnswersJudged n g i ns (No ps k l) = AreFirst n (is_wanted i (fails g ns)) ps × FailAt g (state_of_atoms ps) ns k l

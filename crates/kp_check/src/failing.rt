@@ -1,6 +1,6 @@
 ghost use Rattle.std.specs.Prelude.{◌≡◌, ◌<◌, length, slice_get, IfOk};
 ghost use Rattle.kp_base.specs.LitSet.{IsAscending};
-ghost use Rattle.kp_primes_models.specs.Ordered.{state_of};
+ghost use Rattle.kp_primes_models.specs.Ordered.{state_of_atoms};
 ghost use Rattle.kp_base.specs.Steps.{pre_of};
 ghost use Rattle.kp_check.specs.FailingValues.{decided, first_no, failure_in, state_values, AscendsAt};
 
@@ -33,7 +33,7 @@ fn first_no(values: &[Truth], lits: &[Lit]) -> Option<Lit>
 
 // Whether the atom is one of these.
 fn is_one(present: &[AtomId], atom: u32) -> bool
-    ensures { result ≡ state_of present.now atom }
+    ensures { result ≡ state_of_atoms present.now atom }
 {
     present.iter().any(|a| a.0 == atom)
 }

@@ -8,7 +8,7 @@ use Rattle.std.proofs.lemmas.Option.{slice_get-get_or}
 use Rattle.kp_base.specs.Lists.{Member, only_if}
 use Rattle.kp_base.proofs.Places.{places_more}
 use Rattle.kp_base.proofs.Lists.{bool_same, any_from, any_member, range_there, member_filter, filter_member}
-use Rattle.kp_classic.specs.States.{FactSet, has, those, state_of}
+use Rattle.kp_classic.specs.States.{FactSet, has, those, fact_set_of}
 use Rattle.kp_classic.specs.Packed.{bit, set_of}
 
 -- ---- the facts of a list that pass a test
@@ -50,8 +50,8 @@ those_alike n p q same = go (range_with_len 0 n) (λ f m. same f (let r = range_
     go (x ∷ xs) h = rw (h x (inl refl), go xs (λ f m. h f (inr m))) refl
 
 -- a state in which the facts hold that pass a test is the state of that test
-pub is_state : (s : FactSet) (n : ℕ) (p : ℕ → Bool) → s ≡ state_of s.facts (has s.hold) → s.facts ≡ n → ((f : ℕ) → f < n → has s.hold f ≡ p f) → s ≡ state_of n p
-is_state s n p e len each = e ∙ (ap (λ m. state_of m (has s.hold)) len ∙ ap (λ (fs : List ℕ). record { facts = n; hold = fs }) (those_alike n (has s.hold) p each))
+pub is_state : (s : FactSet) (n : ℕ) (p : ℕ → Bool) → s ≡ fact_set_of s.facts (has s.hold) → s.facts ≡ n → ((f : ℕ) → f < n → has s.hold f ≡ p f) → s ≡ fact_set_of n p
+is_state s n p e len each = e ∙ (ap (λ m. fact_set_of m (has s.hold)) len ∙ ap (λ (fs : List ℕ). record { facts = n; hold = fs }) (those_alike n (has s.hold) p each))
 
 -- ---- rows
 
@@ -59,7 +59,7 @@ pub has_bit : (bits : List Bool) (f : ℕ) → f < length bits → has (set_of b
 has_bit bits f lt = has_those (length bits) (bit bits) f lt
 
 -- the list of facts is that of its own test
-pub set_is : (bits : List Bool) → set_of bits ≡ state_of (length bits) (has (set_of bits).hold)
+pub set_is : (bits : List Bool) → set_of bits ≡ fact_set_of (length bits) (has (set_of bits).hold)
 set_is bits = ap (λ (fs : List ℕ). record { facts = length bits; hold = fs }) (those_alike (length bits) (bit bits) (has (set_of bits).hold) (λ f lt. sym (has_bit bits f lt)))
 
 pub holds_is : (bits : List Bool) (f : ℕ) (b : Bool) → f < length bits → slice_get bits f ≡ Some b → b ≡ has (set_of bits).hold f

@@ -10,21 +10,21 @@ use Rattle.kp_classic.specs.declared.task.OpEffect.{OpEffect}
 use Rattle.kp_classic.specs.declared.task.Op.{Op}
 use Rattle.kp_classic.specs.declared.task.Task.{Task}
 use Rattle.kp_classic.specs.Fits.{are_below, fits, fits_effect, IsFit}
-use Rattle.kp_classic.specs.States.{FactSet, has, state_of}
+use Rattle.kp_classic.specs.States.{FactSet, has, fact_set_of}
 use Rattle.kp_classic.specs.Runs.{outcome}
 use Rattle.kp_classic.specs.Steps.{Holding, meets, fires, after, applicable, next, start, runs, holding_after, succeeds}
 use Rattle.kp_classic.proofs.Fitting.{OpFits, op_fits}
 use Rattle.kp_classic.proofs.States.{is_state, has_those, those_alike}
 
 -- a state in which the facts hold that hold after a step
-pub stepped : (t : Task) (k : ℕ) (o : Op) (s : Holding) (new : FactSet) → slice_get t.ops k ≡ Some o → new ≡ state_of new.facts (has new.hold) → new.facts ≡ length t.facts → ((f : ℕ) → f < length t.facts → has new.hold f ≡ (fires o.effects s true f || (s f && not (fires o.effects s false f)))) → new ≡ state_of (length t.facts) (next (slice_get t.ops k) s)
-stepped t k o s new at ascends len each = is_state new (length t.facts) (after o s) ascends len each ∙ ap (λ x. state_of (length t.facts) (next x s)) (sym at)
+pub stepped : (t : Task) (k : ℕ) (o : Op) (s : Holding) (new : FactSet) → slice_get t.ops k ≡ Some o → new ≡ fact_set_of new.facts (has new.hold) → new.facts ≡ length t.facts → ((f : ℕ) → f < length t.facts → has new.hold f ≡ (fires o.effects s true f || (s f && not (fires o.effects s false f)))) → new ≡ fact_set_of (length t.facts) (next (slice_get t.ops k) s)
+stepped t k o s new at ascends len each = is_state new (length t.facts) (after o s) ascends len each ∙ ap (λ x. fact_set_of (length t.facts) (next x s)) (sym at)
 
 -- two tests agree on the first n facts
 pub record Agree (n : ℕ) (p q : Holding) : Type 0 where
   pub each : (f : ℕ) → f < n → p f ≡ q f
 
-pub agree_those : (n : ℕ) (p : Holding) → Agree n (has (state_of n p).hold) p
+pub agree_those : (n : ℕ) (p : Holding) → Agree n (has (fact_set_of n p).hold) p
 agree_those n p = record { each = has_those n p }
 
 pub agree_trans : (n : ℕ) (p q r : Holding) → Agree n p q → Agree n q r → Agree n p r
@@ -87,7 +87,7 @@ pub rests_at_first : (t : Task) (ks : List ℕ) (s : Holding) → Rests t ks s k
 rests_at_first t ks s = record { runs = refl; ends = record { each = λ f lt. refl } }
 
 -- one operator more was taken
-pub rests_more : (t : Task) → IsFit t → (k : ℕ) (ks all : List ℕ) (s first : Holding) (new : FactSet) → new ≡ state_of (length t.facts) (next (slice_get t.ops k) s) → applicable (slice_get t.ops k) s ≡ true → Rests t (k ∷ ks) s all first → Rests t ks (has new.hold) all first
+pub rests_more : (t : Task) → IsFit t → (k : ℕ) (ks all : List ℕ) (s first : Holding) (new : FactSet) → new ≡ fact_set_of (length t.facts) (next (slice_get t.ops k) s) → applicable (slice_get t.ops k) s ≡ true → Rests t (k ∷ ks) s all first → Rests t ks (has new.hold) all first
 rests_more t fit k ks all s first new is may r =
     let step = next (slice_get t.ops k) s in
     let agree = subst (λ (x : FactSet). Agree (length t.facts) (has x.hold) step) (sym is) (agree_those (length t.facts) step) in
@@ -97,16 +97,16 @@ rests_more t fit k ks all s first new is may r =
     }
 
 -- where operators lead from the state at the start
-pub outcome_is : (t : Task) → IsFit t → (ks : List ℕ) (s end : FactSet) (b : Bool) → s ≡ state_of (length t.facts) (start t) → b ≡ runs t (has s.hold) ks → (IsTrue b → end ≡ state_of (length t.facts) (holding_after t (has s.hold) ks)) → then_some b end ≡ outcome t ks
+pub outcome_is : (t : Task) → IsFit t → (ks : List ℕ) (s end : FactSet) (b : Bool) → s ≡ fact_set_of (length t.facts) (start t) → b ≡ runs t (has s.hold) ks → (IsTrue b → end ≡ fact_set_of (length t.facts) (holding_after t (has s.hold) ks)) → then_some b end ≡ outcome t ks
 outcome_is t fit ks s end b is ran ends = go b (ran ∙ runs_alike t fit ks (has s.hold) (start t) agree) ends
   where
     agree : Agree (length t.facts) (has s.hold) (start t)
     agree = subst (λ (x : FactSet). Agree (length t.facts) (has x.hold) (start t)) (sym is) (agree_those (length t.facts) (start t))
 
-    at_end : state_of (length t.facts) (holding_after t (has s.hold) ks) ≡ state_of (length t.facts) (holding_after t (start t) ks)
+    at_end : fact_set_of (length t.facts) (holding_after t (has s.hold) ks) ≡ fact_set_of (length t.facts) (holding_after t (start t) ks)
     at_end = ap (λ (fs : List ℕ). record { facts = length t.facts; hold = fs }) (those_alike (length t.facts) _ _ (holding_alike t fit ks (has s.hold) (start t) agree).each)
 
-    go : (b : Bool) → b ≡ runs t (start t) ks → (IsTrue b → end ≡ state_of (length t.facts) (holding_after t (has s.hold) ks)) → then_some b end ≡ outcome t ks
+    go : (b : Bool) → b ≡ runs t (start t) ks → (IsTrue b → end ≡ fact_set_of (length t.facts) (holding_after t (has s.hold) ks)) → then_some b end ≡ outcome t ks
     go true e f = rw (← e) (ap Some (f refl ∙ at_end))
     go false e f = rw (← e) refl
 

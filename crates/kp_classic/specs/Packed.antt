@@ -1,6 +1,6 @@
 -- A state as a row of truth values. This file serves proofs alone.
 use Rattle.std.specs.Prelude.{ℕ, Bool, false, List, length, slice_index_or}
-use Rattle.kp_classic.specs.States.{FactSet, state_of}
+use Rattle.kp_classic.specs.States.{FactSet, fact_set_of}
 
 -- whether a place of the row is true
 abbrev pub bit : List Bool → ℕ → Bool
@@ -8,4 +8,4 @@ bit bits i = slice_index_or bits i false
 
 -- the state of a row
 abbrev pub set_of : List Bool → FactSet
-set_of bits = state_of (length bits) (bit bits)
+set_of bits = fact_set_of (length bits) (bit bits)

@@ -16,8 +16,8 @@ abbrev pub those : ℕ → (ℕ → Bool) → List ℕ
 those n s = filter s (range_with_len 0 n)
 
 -- the state of n facts in which these hold
-abbrev pub state_of : ℕ → (ℕ → Bool) → FactSet
-state_of n s = record { facts = n; hold = those n s }
+abbrev pub fact_set_of : ℕ → (ℕ → Bool) → FactSet
+fact_set_of n s = record { facts = n; hold = those n s }
 
 -- at the first fact in which the two differ, the second has it
 pub record IsBefore (a b : FactSet) : Type 0 where

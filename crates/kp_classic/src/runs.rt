@@ -1,7 +1,7 @@
 //! The state at the start, and where operators lead from it.
 ghost use Rattle.std.specs.Prelude.{◌≡◌, true, length, IfOk, IsTrue};
 ghost use Rattle.kp_classic.specs.Fits.{are_below, IsFit};
-ghost use Rattle.kp_classic.specs.States.{has, state_of};
+ghost use Rattle.kp_classic.specs.States.{has, fact_set_of};
 ghost use Rattle.kp_classic.specs.Runs.{outcome};
 ghost use Rattle.kp_classic.specs.Steps as steps;
 
@@ -13,7 +13,7 @@ use std::mem;
 /// The state at the start.
 pub fn start(alloc: Global, task: &Task) -> Result<State, Memory>
     requires { IsFit task.now }
-    ensures { IfOk result (λ s. s ≡ state_of (length task.now.facts) (steps.start task.now)) }
+    ensures { IfOk result (λ s. s ≡ fact_set_of (length task.now.facts) (steps.start task.now)) }
 {
     let mut state = State::empty(alloc, task.facts.len() as u32)?;
     for fact in task.init.slice() {
@@ -31,7 +31,7 @@ fn run_on(task: &Task, ops: &[u32], state: &mut State, next: &mut State) -> bool
     requires of_task { state.old.facts ≡ length task.now.facts }
     requires next_of_task { next.old.facts ≡ length task.now.facts }
     ensures runs { result ≡ steps.runs task.now (has state.old.hold) ops.now }
-    ensures end { IsTrue result → state.new ≡ state_of (length task.now.facts) (steps.holding_after task.now (has state.old.hold) ops.now) }
+    ensures end { IsTrue result → state.new ≡ fact_set_of (length task.now.facts) (steps.holding_after task.now (has state.old.hold) ops.now) }
 {
     for op in ops {
         if !applicable(task, state, *op) {

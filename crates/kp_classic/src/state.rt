@@ -1,5 +1,5 @@
 ghost use Rattle.std.specs.Prelude.{◌≡◌, ◌<◌, ◌↔◌, ◌&&◌, ◌||◌, ℕ, false, not, nat_eq, IfOk};
-ghost use Rattle.kp_classic.specs.States.{has, state_of, IsBefore};
+ghost use Rattle.kp_classic.specs.States.{has, fact_set_of, IsBefore};
 
 use kp_base::Memory;
 use kp_bits::Bits;
@@ -35,7 +35,7 @@ impl State {
 
     /// The list of the facts that hold is ascending, and each is below the number of facts. A law; nothing runs.
     pub fn ascends(&self)
-        ensures { self.now ≡ state_of self.now.facts (has self.now.hold) }
+        ensures { self.now ≡ fact_set_of self.now.facts (has self.now.hold) }
     {
         let _bits = &self.bits;
     }

@@ -2,7 +2,7 @@
 ghost use Rattle.std.specs.Prelude.{◌≡◌, ◌<◌, ◌&&◌, ◌||◌, ℕ, true, false, not, length, nat_eq, slice_get};
 ghost use Rattle.std.specs.List.{list_all};
 ghost use Rattle.kp_classic.specs.Fits.{fits_effect, IsFit};
-ghost use Rattle.kp_classic.specs.States.{has, state_of};
+ghost use Rattle.kp_classic.specs.States.{has, fact_set_of};
 ghost use Rattle.kp_classic.specs.Steps as steps;
 
 use crate::conds::are_met;
@@ -62,7 +62,7 @@ pub fn step_into(task: &Task, state: &State, op: u32, next: &mut State)
     requires of_task { state.now.facts ≡ length task.now.facts }
     requires next_of_task { next.old.facts ≡ length task.now.facts }
     requires in_range { op < length task.now.ops }
-    ensures { next.new ≡ state_of (length task.now.facts) (steps.next (slice_get task.now.ops op) (has state.now.hold)) }
+    ensures { next.new ≡ fact_set_of (length task.now.facts) (steps.next (slice_get task.now.ops op) (has state.now.hold)) }
 {
     let effects = task.ops.at(op as usize).effects.slice();
     next.copy_from(state);

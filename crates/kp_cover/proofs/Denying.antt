@@ -18,7 +18,7 @@ use Rattle.kp_base.proofs.Lits.{holds-negated}
 use Rattle.kp_base.proofs.Sets.{all-with_lit}
 use Rattle.kp_primes.specs.Held.{Held, formula, AreWhole}
 use Rattle.kp_primes.proofs.Public.{consistent_exact}
-use Rattle.kp_primes_models.specs.Ordered.{state_of, AreFirst}
+use Rattle.kp_primes_models.specs.Ordered.{state_of_atoms, AreFirst}
 use Rattle.kp_cover.specs.Grown.{is_fine}
 use Rattle.kp_cover.specs.Covered.{found, tags_found, all_inside, says_valid}
 use Rattle.kp_cover.specs.Valid.{satisfies_one, AreValidTags, is_outside, AnswersValid}
@@ -80,8 +80,8 @@ state_outside : (n : ℕ) (i : Initial) (tags : List (List Lit)) (ps : List Atom
 state_outside n i tags ps first = (
   λ e. absurd (false≢true e),
   λ valid.
-      let parts = and_parts (is_model i (state_of ps)) (not (satisfies_one tags (state_of ps))) first.0.passed in
-      absurd (false≢true (ap not (sym (valid (state_of ps) parts.0)) ∙ parts.1)),
+      let parts = and_parts (is_model i (state_of_atoms ps)) (not (satisfies_one tags (state_of_atoms ps))) first.0.passed in
+      absurd (false≢true (ap not (sym (valid (state_of_atoms ps) parts.0)) ∙ parts.1)),
 )
 
 pub valid_is : (n : ℕ) (i : Initial) (tags : List (List Lit)) (v : Validity) (b : Bool) → AnswersValid n i tags v → b ≡ says_valid v → IsTrue b ↔ AreValidTags i tags

@@ -21,7 +21,7 @@ use Rattle.kp_ground_meaning.proofs.Public.{kept_instance, instance_action, acti
 use Rattle.kp_names_lifted.specs.declared.lifted.Schema as owned
 use Rattle.kp_names.specs.View.{schema_view}
 use Rattle.kp_ground_instances.specs.declared.kept.Kept.{Kept}
-use Rattle.kp_ground_instances.specs.Counts.{kept_view, IsWithin, StopsAtCounts}
+use Rattle.kp_ground_instances.specs.Counts.{kept_view, IsWithinLimits, StopsAtCounts}
 use Rattle.kp_ground.specs.Grounded.{RefusesGround, AnswersGround}
 use Rattle.kp_ground.specs.Passes.{has_schema, name_with, action_with, action_at, IsKnown, AnswersAtoms}
 
@@ -57,7 +57,7 @@ counts_stop l limits (stops.Refused r) h = RefusesGround.counts_over r h
 counts_stop l limits stops.Memory h = tt
 
 -- and where there are too many atoms
-pub atoms_stop : (l : Lifted) (limits : Limits) (s : Stop) → IsWithin l limits → AnswersAtoms l limits.atoms (Err s) → AnswersGround l limits (Err s)
+pub atoms_stop : (l : Lifted) (limits : Limits) (s : Stop) → IsWithinLimits l limits → AnswersAtoms l limits.atoms (Err s) → AnswersGround l limits (Err s)
 atoms_stop l limits (stops.Refused r) within h = subst (RefusesGround l limits) (sym h.0) (RefusesGround.atoms_over within h.1)
 atoms_stop l limits stops.Memory within h = tt
 

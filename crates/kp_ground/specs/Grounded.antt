@@ -8,16 +8,16 @@ use Rattle.kp_base.specs.declared.refused.Stop.{Stop}
 use Rattle.kp_base.specs.declared.refused.Stop.TheVariants as stops
 use Rattle.kp_names_meaning.specs.Numbered.{Lifted}
 use Rattle.kp_ground_meaning.specs.Ground.{ground_atoms, ground_of}
-use Rattle.kp_ground_instances.specs.Counts.{IsWithin, RefusesCounts}
+use Rattle.kp_ground_instances.specs.Counts.{IsWithinLimits, RefusesCounts}
 
 -- the problem is refused: at its bindings, kept instances or weight, or else where it has more ground atoms than the limit
 pub data RefusesGround (l : Lifted) (limits : Limits) : Refused → Type 0 where
   counts_over : (r : Refused) → RefusesCounts l limits r → RefusesGround l limits r
-  atoms_over : IsWithin l limits → limits.atoms < length (ground_atoms l) → RefusesGround l limits refusals.AtomsOver
+  atoms_over : IsWithinLimits l limits → limits.atoms < length (ground_atoms l) → RefusesGround l limits refusals.AtomsOver
 
 -- the ground problem of a problem that is within its limits
 pub record IsGrounded (l : Lifted) (limits : Limits) (g : Ground) : Type 0 where
-  pub counts : IsWithin l limits
+  pub counts : IsWithinLimits l limits
   pub atoms : length (ground_atoms l) ≤ limits.atoms
   pub ground : g ≡ ground_of l
 

@@ -13,7 +13,7 @@ use Rattle.kp_base.proofs.Once.{any-added}
 use Rattle.kp_base.specs.Atoms.{same_atom}
 use Rattle.kp_base.proofs.AtomOrder.{same_atoms}
 use Rattle.kp_ground_meaning.specs.Static.{changes, leaves_static, is_static, says}
-use Rattle.kp_ground_instances.specs.Tables.{has_atom, with_atom}
+use Rattle.kp_ground_instances.specs.StaticTables.{has_atom, with_atom}
 
 -- ---- truth values
 

@@ -20,7 +20,7 @@ abbrev pub capped : ℕ → ℕ
 capped n = min n (2 ^ 128 - 1)
 
 -- the problem has no more bindings, kept instances and weight of these than its limits say
-pub record IsWithin (l : Lifted) (limits : Limits) : Type 0 where
+pub record IsWithinLimits (l : Lifted) (limits : Limits) : Type 0 where
   pub bindings : binding_count l ≤ limits.bindings
   pub actions : length (kept_instances l) ≤ limits.actions
   pub weight : total_weight l ≤ limits.weight

@@ -1,5 +1,5 @@
 ghost use Rattle.std.specs.Prelude.{◌≡◌, [], OnOk};
-ghost use Rattle.kp_ground_instances.specs.Tables.{has_atom, with_atom};
+ghost use Rattle.kp_ground_instances.specs.StaticTables.{has_atom, with_atom};
 
 use indexmap::IndexSet;
 use kp_base::Memory;

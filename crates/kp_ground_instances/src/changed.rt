@@ -2,7 +2,7 @@ ghost use Rattle.std.specs.Prelude.{◌≡◌, ◌==◌, not, ℕ, IfOk, OnOk};
 ghost use Rattle.std.specs.List.{list_any};
 ghost use Rattle.kp_names.specs.View.{eff_view, lifted_view};
 ghost use Rattle.kp_ground_meaning.specs.Static.{changes, leaves_static, is_static};
-ghost use Rattle.kp_ground_instances.specs.Tables.{has_number, AddsNumbers};
+ghost use Rattle.kp_ground_instances.specs.StaticTables.{has_number, AddsNumbers};
 
 use indexmap::IndexSet;
 use kp_base::Memory;

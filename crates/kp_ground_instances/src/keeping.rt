@@ -4,8 +4,8 @@ ghost use Rattle.kp_names.specs.View.{cond_view, schema_view, lifted_view};
 ghost use Rattle.kp_ground_meaning.specs.Static.{settled};
 ghost use Rattle.kp_ground_meaning.specs.Ground.{instance, kept_bindings, kept_instances};
 ghost use Rattle.kp_ground_meaning.specs.Weights.{weight};
-ghost use Rattle.kp_ground_instances.specs.Counts.{kept_view, capped, IsWithin, StopsAtCounts};
-ghost use Rattle.kp_ground_instances.specs.Tables.{Gathers, IsKeeping};
+ghost use Rattle.kp_ground_instances.specs.Counts.{kept_view, capped, IsWithinLimits, StopsAtCounts};
+ghost use Rattle.kp_ground_instances.specs.StaticTables.{Gathers, IsKeeping};
 
 use crate::bindings::{binding_total, fill_binding};
 use crate::counting::{problem_bindings, schema_weight};
@@ -127,7 +127,7 @@ fn keep_schemas(alloc: Global, statics: &Statics, most: usize) -> Result<Option<
 /// weight of these than the limits say.
 pub fn kept_instances(alloc: Global, statics: &Statics, limits: &Limits) -> Result<Row<Kept>, Stop>
     ensures kept { IfOk result (λ row. map kept_view row ≡ kept_instances (lifted_view statics.now)) }
-    ensures within { OnOk result (IsWithin (lifted_view statics.now) limits.now) }
+    ensures within { OnOk result (IsWithinLimits (lifted_view statics.now) limits.now) }
     ensures refused { IfErr result (StopsAtCounts (lifted_view statics.now) limits.now) }
 {
     if problem_bindings(statics.lifted()) > u128::from(limits.bindings) {

@@ -1,7 +1,7 @@
 ghost use Rattle.std.specs.Prelude.{◌≡◌, ℕ, List, IfOk, OnOk};
 ghost use Rattle.kp_names.specs.View.{lifted_view};
 ghost use Rattle.kp_ground_meaning.specs.Static.{says, initially};
-ghost use Rattle.kp_ground_instances.specs.Tables.{has_atom, AddsAtoms};
+ghost use Rattle.kp_ground_instances.specs.StaticTables.{has_atom, AddsAtoms};
 
 use crate::atom_set::AtomSet;
 use kp_base::Memory;

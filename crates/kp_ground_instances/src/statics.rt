@@ -24,7 +24,7 @@ impl<'a> Model for Statics<'a> {
     ghost use Rattle.kp_names_lifted.specs.declared.lifted.Lifted.{Lifted as Problem};
     ghost use Rattle.kp_names_lifted.specs.contracts.lifted.Lifted as lifteds;
     ghost use Rattle.kp_names.specs.View.{lifted_view};
-    ghost use Rattle.kp_ground_instances.specs.Tables.{AreTablesOf};
+    ghost use Rattle.kp_ground_instances.specs.StaticTables.{AreTablesOf};
 
     ghost Value = { Problem };
 

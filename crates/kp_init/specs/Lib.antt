@@ -1,4 +1,4 @@
 pub mod Initial
-pub mod Tables
+pub mod NamedAtoms
 pub mod ByName
 pub mod Laws

@@ -2,7 +2,7 @@ ghost use Rattle.std.specs.Prelude.{◌≡◌, [], ◌∷◌, ◌++◌, map, IfO
 ghost use Rattle.kp_base.specs.Atoms.{kept_atom};
 ghost use Rattle.kp_names.specs.View.{lifted_view};
 ghost use Rattle.kp_init.specs.Initial.{closed_of};
-ghost use Rattle.kp_init.specs.Tables.{closed_among};
+ghost use Rattle.kp_init.specs.NamedAtoms.{closed_among};
 
 use crate::named::Named;
 use kp_base::{AtomId, Atoms, Memory, Row};

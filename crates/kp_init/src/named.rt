@@ -4,7 +4,7 @@ ghost use Rattle.kp_names_meaning.specs.Lifted.{is_named};
 ghost use Rattle.kp_names.specs.View.{lifted_view};
 ghost use Rattle.kp_base.specs.Atoms.{Atom as Told, same_atom};
 ghost use Rattle.kp_ground_meaning.specs.Ground.{atom_of};
-ghost use Rattle.kp_init.specs.Tables.{is_kept, names};
+ghost use Rattle.kp_init.specs.NamedAtoms.{is_kept, is_named_by};
 
 use indexmap::IndexSet;
 use kp_base::Memory;
@@ -28,7 +28,7 @@ impl<'a> Model for Named<'a> {
     ghost use Rattle.kp_names_lifted.specs.contracts.lifted.Lifted as lifteds;
     ghost use Rattle.kp_names_meaning.specs.Lifted.{is_named};
     ghost use Rattle.kp_names.specs.View.{lifted_view};
-    ghost use Rattle.kp_init.specs.Tables.{is_kept};
+    ghost use Rattle.kp_init.specs.NamedAtoms.{is_kept};
 
     ghost Value = { Problem };
 
@@ -56,7 +56,7 @@ fn add_all<'a>(atoms: &mut IndexSet<(u32, &'a [u32])>, lits: &'a [GroundLit]) ->
 }
 
 fn add_item<'a>(atoms: &mut IndexSet<(u32, &'a [u32])>, item: &'a Item) -> Result<(), Memory>
-    ensures { OnOk result ((a : Told) → is_kept atoms.new.keys a ≡ (is_kept atoms.old.keys a || names a item.now)) }
+    ensures { OnOk result ((a : Told) → is_kept atoms.new.keys a ≡ (is_kept atoms.old.keys a || is_named_by a item.now)) }
 {
     match item {
         Item::One(lit) | Item::Unknown(lit) => add(atoms, lit),
@@ -65,7 +65,7 @@ fn add_item<'a>(atoms: &mut IndexSet<(u32, &'a [u32])>, item: &'a Item) -> Resul
 }
 
 fn named_by<'a>(alloc: Global, items: &'a [Item]) -> Result<IndexSet<(u32, &'a [u32])>, Memory>
-    ensures { IfOk result (λ atoms. (a : Told) → is_kept atoms.keys a ≡ list_any (names a) items.now) }
+    ensures { IfOk result (λ atoms. (a : Told) → is_kept atoms.keys a ≡ list_any (is_named_by a) items.now) }
 {
     let mut atoms = IndexSet::new(alloc);
     for item in items {

@@ -1,7 +1,7 @@
 ghost use Rattle.std.specs.Prelude.{◌≡◌, ◌++◌, length, map, IfOk, OnOk};
 ghost use Rattle.std.specs.List.{flat_map};
 ghost use Rattle.kp_write.specs.Facts.{sign_word, tag_word, atom_fact, facts_of_atom};
-ghost use Rattle.kp_law_ktask.specs.Task.{name_of, lits_from, facts_from, number, starts_from};
+ghost use Rattle.kp_law_ktask.specs.Task.{name_of_fact, lits_from, facts_from, number, starts_from};
 
 use crate::numbers::push_numbers;
 use kp_base::{GroundName, Memory, Row, TagRow, Text};
@@ -56,7 +56,7 @@ fn push_facts(
 
 /// The names of all facts.
 pub fn fact_names(alloc: Global, tags: u32, atoms: &[GroundName]) -> Result<Row<Text>, Memory>
-    ensures { IfOk result (λ row. row ≡ map (name_of atoms.now) (facts_from 0 tags (lits_from 0 (length atoms.now)))) }
+    ensures { IfOk result (λ row. row ≡ map (name_of_fact atoms.now) (facts_from 0 tags (lits_from 0 (length atoms.now)))) }
 {
     let mut row = Row::new(alloc);
     for tag in 0..tags {

@@ -20,7 +20,7 @@ use Rattle.kp_base.specs.Relevance.{AreClausesFor}
 use Rattle.kp_base.proofs.Lists.{any_alike, all_member, all_weaker, member_at}
 use Rattle.kp_base.proofs.Lits.{same_lit-true, same_lit-refl}
 use Rattle.kp_base.proofs.Sets.{set_ascends}
-use Rattle.kp_primes_models.specs.Ordered.{state_of, AnswersFirst}
+use Rattle.kp_primes_models.specs.Ordered.{state_of_atoms, AnswersFirst}
 use Rattle.kp_primes_models.proofs.Public.{literals_read_first_atoms, models_read_first_atoms}
 use Rattle.kp_cover.specs.Targets.{AreTargets}
 use Rattle.kp_law_decidable.specs.Laws.{AreProper, CoversAreDecided, CoveragesAreDecided, TablesWithNoneAreComplete}
@@ -92,8 +92,8 @@ module _ (n : ℕ) (i : Initial) (over : IsOfAtoms n i) (table : TagTable) where
           go : ((o : Option (List AtomId)) × AnswersFirst r.atoms (outside m) o) → IsEither (IsValid i table m)
           go (None, none) = inl (λ s model. in_or_out s (none s) model (inside m s) refl)
           go (Some ps, first) =
-              let parts = and_parts (is_model i (state_of ps)) (not (inside m (state_of ps))) first.0.passed in
-              inr (λ all. false≢true (sym (not-true (inside m (state_of ps)) parts.1) ∙ all (state_of ps) parts.0))
+              let parts = and_parts (is_model i (state_of_atoms ps)) (not (inside m (state_of_atoms ps))) first.0.passed in
+              inr (λ all. false≢true (sym (not-true (inside m (state_of_atoms ps)) parts.1) ∙ all (state_of_atoms ps) parts.0))
 
 -- ---- covered targets
 

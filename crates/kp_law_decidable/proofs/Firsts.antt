@@ -3,7 +3,7 @@ use Rattle.std.proofs.Common.{◌≡◌, ◌<◌, ◌≤◌, ◌+◌, ℕ, zero,
 use Rattle.std.proofs.lemmas.Bool.{or_left, false≢true, cases_lt, cases_eq, cases_order, ne_eqb}
 use Rattle.kp_base.specs.declared.lit.AtomId.{AtomId}
 use Rattle.kp_base.specs.Steps.{State, SameBelow, ComesBefore}
-use Rattle.kp_primes_models.specs.Ordered.{state_of, AreRising, AnswersFirst}
+use Rattle.kp_primes_models.specs.Ordered.{state_of_atoms, AreRising, AnswersFirst}
 
 -- the test reads the first n atoms alone
 pub record ReadsFirst (n : ℕ) (test : State → Bool) : Type 0 where
@@ -33,10 +33,10 @@ put_same a b s is p = by (nat_eq p a) refl
 
 -- a state of the atoms from the a-th to the n-th that passes, and none that passes comes before it
 record IsLeast (a n : ℕ) (test : State → Bool) (ps : List AtomId) : Type 0 where
-  passed : test (state_of ps) ≡ true
-  first : (t : State) → test t ≡ true → ComesBefore t (state_of ps) → ⊥
-  none_before : (p : ℕ) → p < a → state_of ps p ≡ false
-  none_past : (p : ℕ) → n ≤ p → state_of ps p ≡ false
+  passed : test (state_of_atoms ps) ≡ true
+  first : (t : State) → test t ≡ true → ComesBefore t (state_of_atoms ps) → ⊥
+  none_before : (p : ℕ) → p < a → state_of_atoms ps p ≡ false
+  none_past : (p : ℕ) → n ≤ p → state_of_atoms ps p ≡ false
   rising : AreRising ps
 
 abbrev AnswersLeast : ℕ → ℕ → (State → Bool) → Option (List AtomId) → Type 0
@@ -65,14 +65,14 @@ module _ (a n : ℕ) (lt : a < n) (test : State → Bool) (reads : ReadsFrom a n
   -- the first state without the atom is the first
   without : (ps : List AtomId) → IsLeast (suc a) n (where_it_is false) ps → IsLeast a n test ps
   without ps l = record {
-    passed = sym (so_already false (state_of ps) (l.none_before a (omega arith))) ∙ l.passed;
+    passed = sym (so_already false (state_of_atoms ps) (l.none_before a (omega arith))) ∙ l.passed;
     first = λ t h b. l.first t (so_already false t (absent t b) ∙ h) b;
     none_before = λ p less. l.none_before p (omega (arith, less));
     none_past = l.none_past;
     rising = l.rising;
   }
     where
-      absent : (t : State) → ComesBefore t (state_of ps) → t a ≡ false
+      absent : (t : State) → ComesBefore t (state_of_atoms ps) → t a ≡ false
       absent t b = elim (cases_lt a b.at) [
         | inl later ↦ b.alike a later ∙ l.none_before a (omega arith)
         | inr earlier ↦ absurd (false≢true (sym (l.none_before b.at (omega (arith, earlier))) ∙ b.present))
@@ -83,28 +83,28 @@ module _ (a n : ℕ) (lt : a < n) (test : State → Bool) (reads : ReadsFrom a n
     abbrev atom : AtomId
     atom = record { 0 = a }
 
-    here : state_of (atom ∷ ps) a ≡ true
-    here = or_left (nat_eq a a) (state_of ps a) (eq-eqb a a refl)
+    here : state_of_atoms (atom ∷ ps) a ≡ true
+    here = or_left (nat_eq a a) (state_of_atoms ps a) (eq-eqb a a refl)
 
-    others : (p : ℕ) → (a ≡ p → ⊥) → state_of (atom ∷ ps) p ≡ state_of ps p
-    others p other = ap (λ x. x || state_of ps p) (ne_eqb a p other)
+    others : (p : ℕ) → (a ≡ p → ⊥) → state_of_atoms (atom ∷ ps) p ≡ state_of_atoms ps p
+    others p other = ap (λ x. x || state_of_atoms ps p) (ne_eqb a p other)
 
     -- no state that passes is without the atom
     never : (t : State) → test t ≡ true → t a ≡ false → ⊥
     never t h off = false≢true (sym (none t) ∙ (so_already false t off ∙ h))
 
-    rises : (qs : List AtomId) → ((p : ℕ) → p < suc a → state_of qs p ≡ false) → AreRising qs → AreRising (atom ∷ qs)
+    rises : (qs : List AtomId) → ((p : ℕ) → p < suc a → state_of_atoms qs p ≡ false) → AreRising qs → AreRising (atom ∷ qs)
     rises [] before r = tt
     rises (q ∷ qs) before r = (
       elim (cases_lt a q.0) [
         | inl less ↦ less
-        | inr le ↦ absurd (false≢true (sym (before q.0 (omega (arith, le))) ∙ or_left (nat_eq q.0 q.0) (state_of qs q.0) (eq-eqb q.0 q.0 refl)))
+        | inr le ↦ absurd (false≢true (sym (before q.0 (omega (arith, le))) ∙ or_left (nat_eq q.0 q.0) (state_of_atoms qs q.0) (eq-eqb q.0 q.0 refl)))
       ],
       r,
     )
 
     -- what comes before it comes before that of the others
-    before_rest : (t : State) (b : ComesBefore t (state_of (atom ∷ ps))) → a < b.at → ComesBefore (put a false t) (state_of ps)
+    before_rest : (t : State) (b : ComesBefore t (state_of_atoms (atom ∷ ps))) → a < b.at → ComesBefore (put a false t) (state_of_atoms ps)
     before_rest t b later = record {
       at = b.at;
       alike = λ p less. elim (cases_eq p a) [
@@ -115,7 +115,7 @@ module _ (a n : ℕ) (lt : a < n) (test : State → Bool) (reads : ReadsFrom a n
       present = sym (others b.at (λ e. absurd (omega (arith, later, e)))) ∙ b.present;
     }
 
-    first : (t : State) → test t ≡ true → ComesBefore t (state_of (atom ∷ ps)) → ⊥
+    first : (t : State) → test t ≡ true → ComesBefore t (state_of_atoms (atom ∷ ps)) → ⊥
     first t h b = elim (cases_order a b.at) [
       | inl e ↦ never t h (ap t e ∙ b.absent)
       | inr (inl later) ↦ l.first (put a false t) (passes later) (before_rest t b later)
@@ -127,7 +127,7 @@ module _ (a n : ℕ) (lt : a < n) (test : State → Bool) (reads : ReadsFrom a n
 
     with_it : IsLeast a n test (atom ∷ ps)
     with_it = record {
-      passed = sym (so_already true (state_of (atom ∷ ps)) here) ∙ ((reads_less true).alike (state_of (atom ∷ ps)) (state_of ps) (λ p le less. others p (λ e. absurd (omega (arith, le, e)))) ∙ l.passed);
+      passed = sym (so_already true (state_of_atoms (atom ∷ ps)) here) ∙ ((reads_less true).alike (state_of_atoms (atom ∷ ps)) (state_of_atoms ps) (λ p le less. others p (λ e. absurd (omega (arith, le, e)))) ∙ l.passed);
       first = first;
       none_before = λ p less. others p (λ e. absurd (omega (arith, less, e))) ∙ l.none_before p (omega (arith, less));
       none_past = λ p le. others p (λ e. absurd (omega (arith, le, lt, e))) ∙ l.none_past p le;
@@ -149,11 +149,11 @@ module _ (a n : ℕ) (lt : a < n) (test : State → Bool) (reads : ReadsFrom a n
 -- ---- all of them
 
 from_atom : (m a n : ℕ) → a + m ≡ n → (test : State → Bool) → ReadsFrom a n test → (o : Option (List AtomId)) × AnswersLeast a n test o
-from_atom zero a n e test reads = by (test (state_of [])) refl
+from_atom zero a n e test reads = by (test (state_of_atoms [])) refl
   where
-    by : (b : Bool) → test (state_of []) ≡ b → (o : Option (List AtomId)) × AnswersLeast a n test o
+    by : (b : Bool) → test (state_of_atoms []) ≡ b → (o : Option (List AtomId)) × AnswersLeast a n test o
     by true is = (Some [], record { passed = is; first = λ t h b. false≢true b.present; none_before = λ p lt. refl; none_past = λ p le. refl; rising = tt })
-    by false is = (None, λ s. reads.alike s (state_of []) (λ p le lt. absurd (omega (arith, e, le, lt))) ∙ is)
+    by false is = (None, λ s. reads.alike s (state_of_atoms []) (λ p le lt. absurd (omega (arith, e, le, lt))) ∙ is)
 from_atom (suc m) a n e test reads =
     let lt : a < n = omega (arith, e) in
     let next : suc a + m ≡ n = omega (arith, e) in

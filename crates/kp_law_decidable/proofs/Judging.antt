@@ -15,7 +15,7 @@ use Rattle.kp_base.proofs.Lists.{any_alike, all_member}
 use Rattle.kp_base.proofs.Least.{least_missing}
 use Rattle.kp_base.proofs.Places.{none_past}
 use Rattle.kp_primes_models.specs.Asked.{is_wanted}
-use Rattle.kp_primes_models.specs.Ordered.{state_of, AreFirst, AnswersFirst}
+use Rattle.kp_primes_models.specs.Ordered.{state_of_atoms, AreFirst, AnswersFirst}
 use Rattle.kp_primes_models.proofs.Public.{literals_read_first_atoms, models_read_first_atoms}
 use Rattle.kp_check.specs.declared.answer.Judged.{Judged}
 use Rattle.kp_check.specs.declared.answer.Judged.TheVariants.{Yes, No}
@@ -105,9 +105,9 @@ off_of false h = refl
 pub verdicts_decided : VerdictsAreDecided
 verdicts_decided n g i ns over number of inside = go (first_or_none n (is_wanted i (fails g ns)) (reads_fails n g i ns over (is_ground_of n g number of)))
   where
-    told : (ps : List AtomId) → AreFirst n (is_wanted i (fails g ns)) ps → Failure g (state_of ps) ns → (j : Judged) × AnswersJudged n g i ns j
+    told : (ps : List AtomId) → AreFirst n (is_wanted i (fails g ns)) ps → Failure g (state_of_atoms ps) ns → (j : Judged) × AnswersJudged n g i ns j
     told ps first f = (No ps f.step f.literal, (first, f.at))
 
     go : ((o : Option (List AtomId)) × AnswersFirst n (is_wanted i (fails g ns)) o) → (j : Judged) × AnswersJudged n g i ns j
     go (None, none) = (Yes, failing_from_none_is_plan g i ns none)
-    go (Some ps, first) = told ps first (failure g ns (state_of ps) inside (off_of (succeeds g (state_of ps) ns) (and_parts (is_model i (state_of ps)) (fails g ns (state_of ps)) first.0.passed).1))
+    go (Some ps, first) = told ps first (failure g ns (state_of_atoms ps) inside (off_of (succeeds g (state_of_atoms ps) ns) (and_parts (is_model i (state_of_atoms ps)) (fails g ns (state_of_atoms ps)) first.0.passed).1))

@@ -9,7 +9,7 @@ use Rattle.kp_base.proofs.Lists.{all_from}
 use Rattle.kp_tags_merges.specs.declared.merge.FileMerge.{FileMerge}
 use Rattle.kp_tags_modes.specs.Modes.{way_of, AreMergesOf}
 use Rattle.kp_tags_modes.proofs.Public.{merges_of_modes_are_good}
-use Rattle.kp_tags.specs.Tables.{has_tags_of_atoms}
+use Rattle.kp_tags.specs.MergeTables.{has_tags_of_atoms}
 use Rattle.kp_tags.specs.Made.{RefusesMade}
 use Rattle.kp_tags.proofs.Public.{table_or_refusal_of_mode}
 use Rattle.kp_law_decidable.specs.Laws.{AreProper, MadeTablesAreDecided}

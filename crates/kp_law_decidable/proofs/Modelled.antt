@@ -8,7 +8,7 @@ use Rattle.kp_base.specs.declared.ground.Initial.{Initial}
 use Rattle.kp_base.specs.Steps.{State, holds, is_model}
 use Rattle.kp_base.specs.Entailed.{IsConsistent}
 use Rattle.kp_base.specs.Implicates.{are_below, IsOfAtoms}
-use Rattle.kp_primes_models.specs.Ordered.{state_of, AnswersFirst}
+use Rattle.kp_primes_models.specs.Ordered.{state_of_atoms, AnswersFirst}
 use Rattle.kp_primes_models.proofs.Public.{literals_read_first_atoms, models_read_first_atoms}
 use Rattle.kp_law_decidable.specs.Laws.{ModelsAreDecided}
 use Rattle.kp_law_decidable.proofs.Firsts.{ReadsFirst, first_or_none}
@@ -27,8 +27,8 @@ module _ (n : ℕ) (i : Initial) (over : IsOfAtoms n i) where
       go : ((o : Option (List AtomId)) × AnswersFirst n (meets tag) o) → IsConsistent i tag ⊎ (IsConsistent i tag → ⊥)
       go (None, none) = inr (λ c. false≢true (sym (none c.state) ∙ and_from (is_model i c.state) (list_all (holds c.state) tag) c.model c.all_true))
       go (Some ps, first) =
-          let parts = and_parts (is_model i (state_of ps)) (list_all (holds (state_of ps)) tag) first.0.passed in
-          inl (record { state = state_of ps; model = parts.0; all_true = parts.1 })
+          let parts = and_parts (is_model i (state_of_atoms ps)) (list_all (holds (state_of_atoms ps)) tag) first.0.passed in
+          inl (record { state = state_of_atoms ps; model = parts.0; all_true = parts.1 })
 
 -- a model is what the empty tag is consistent by
 pub model_or_none : ModelsAreDecided

@@ -13,7 +13,7 @@ use Rattle.kp_base.specs.Lists.{Member}
 use Rattle.kp_base.specs.Steps.{State, is_model, succeeds, IsGroundPlan}
 use Rattle.kp_base.proofs.Lists.{member_at, member_right, member_map, map_member}
 use Rattle.kp_primes_models.specs.Asked.{is_wanted}
-use Rattle.kp_primes_models.specs.Ordered.{state_of, AreRising, AreFirst}
+use Rattle.kp_primes_models.specs.Ordered.{state_of_atoms, AreRising, AreFirst}
 use Rattle.kp_primes_models.proofs.Public.{first_state_once}
 use Rattle.kp_cover.specs.Valid.{satisfies_one, is_outside}
 use Rattle.kp_check.specs.declared.answer.Judged.{Judged}
@@ -37,25 +37,25 @@ rest_rises p [] r = tt
 rest_rises p (q ∷ ps) r = r.1
 
 -- atoms below the first of rising ones aren't among them
-none_below : (q : AtomId) (qs : List AtomId) → AreRising (q ∷ qs) → (x : ℕ) → x < q.0 → state_of (q ∷ qs) x ≡ false
+none_below : (q : AtomId) (qs : List AtomId) → AreRising (q ∷ qs) → (x : ℕ) → x < q.0 → state_of_atoms (q ∷ qs) x ≡ false
 none_below q [] r x lt = or_from (nat_eq q.0 x) false (ne_eqb q.0 x (λ e. absurd (omega (arith, e, lt)))) refl
-none_below q (p ∷ qs) r x lt = or_from (nat_eq q.0 x) (state_of (p ∷ qs) x) (ne_eqb q.0 x (λ e. absurd (omega (arith, e, lt)))) (none_below p qs r.1 x (let up = r.0 in omega (arith, up, lt)))
+none_below q (p ∷ qs) r x lt = or_from (nat_eq q.0 x) (state_of_atoms (p ∷ qs) x) (ne_eqb q.0 x (λ e. absurd (omega (arith, e, lt)))) (none_below p qs r.1 x (let up = r.0 in omega (arith, up, lt)))
 
-none_up_to : (q : AtomId) (qs : List AtomId) → AreRising (q ∷ qs) → (x : ℕ) → x ≤ q.0 → state_of qs x ≡ false
+none_up_to : (q : AtomId) (qs : List AtomId) → AreRising (q ∷ qs) → (x : ℕ) → x ≤ q.0 → state_of_atoms qs x ≡ false
 none_up_to q [] r x le = refl
 none_up_to q (p ∷ qs) r x le = none_below p qs r.1 x (let up = r.0 in omega (arith, up, le))
 
-there : (q : AtomId) (qs : List AtomId) → state_of (q ∷ qs) q.0 ≡ true
-there q qs = or_left (nat_eq q.0 q.0) (state_of qs q.0) (eq-eqb q.0 q.0 refl)
+there : (q : AtomId) (qs : List AtomId) → state_of_atoms (q ∷ qs) q.0 ≡ true
+there q qs = or_left (nat_eq q.0 q.0) (state_of_atoms qs q.0) (eq-eqb q.0 q.0 refl)
 
 -- of lists with the same state, the first atom of one isn't below that of the other
-not_below : (p q : AtomId) (ps qs : List AtomId) → AreRising (q ∷ qs) → ((x : ℕ) → state_of (p ∷ ps) x ≡ state_of (q ∷ qs) x) → p.0 < q.0 → ⊥
+not_below : (p q : AtomId) (ps qs : List AtomId) → AreRising (q ∷ qs) → ((x : ℕ) → state_of_atoms (p ∷ ps) x ≡ state_of_atoms (q ∷ qs) x) → p.0 < q.0 → ⊥
 not_below p q ps qs r same lt = false≢true (sym (none_below q qs r p.0 lt) ∙ (sym (same p.0) ∙ there p ps))
 
 -- the rest has the same state
-rest_same : (p : AtomId) (ps qs : List AtomId) → AreRising (p ∷ ps) → AreRising (p ∷ qs) → ((x : ℕ) → state_of (p ∷ ps) x ≡ state_of (p ∷ qs) x) → (x : ℕ) → state_of ps x ≡ state_of qs x
+rest_same : (p : AtomId) (ps qs : List AtomId) → AreRising (p ∷ ps) → AreRising (p ∷ qs) → ((x : ℕ) → state_of_atoms (p ∷ ps) x ≡ state_of_atoms (p ∷ qs) x) → (x : ℕ) → state_of_atoms ps x ≡ state_of_atoms qs x
 rest_same p ps qs r s same x = elim (cases_lt p.0 x) [
-  | inl lt ↦ let other = ne_eqb p.0 x (λ e. absurd (omega (arith, e, lt))) in sym (past (nat_eq p.0 x) (state_of ps x) other) ∙ (same x ∙ past (nat_eq p.0 x) (state_of qs x) other)
+  | inl lt ↦ let other = ne_eqb p.0 x (λ e. absurd (omega (arith, e, lt))) in sym (past (nat_eq p.0 x) (state_of_atoms ps x) other) ∙ (same x ∙ past (nat_eq p.0 x) (state_of_atoms qs x) other)
   | inr le ↦ none_up_to p ps r x le ∙ sym (none_up_to p qs s x le)
 ]
   where
@@ -64,7 +64,7 @@ rest_same p ps qs r s same x = elim (cases_lt p.0 x) [
     past true b e = absurd (false≢true (sym e))
 
 -- rising lists of atoms with the same state are one
-pub rising_once : (ps qs : List AtomId) → AreRising ps → AreRising qs → ((x : ℕ) → state_of ps x ≡ state_of qs x) → ps ≡ qs
+pub rising_once : (ps qs : List AtomId) → AreRising ps → AreRising qs → ((x : ℕ) → state_of_atoms ps x ≡ state_of_atoms qs x) → ps ≡ qs
 rising_once [] [] r s same = refl
 rising_once [] (q ∷ qs) r s same = absurd (false≢true (same q.0 ∙ there q qs))
 rising_once (p ∷ ps) [] r s same = absurd (false≢true (sym (same p.0) ∙ there p ps))
@@ -77,12 +77,12 @@ rising_once (p ∷ ps) (q ∷ qs) r s same =
       ]
     ]) in
     let rises : AreRising (p ∷ qs) = subst (λ z. AreRising (z ∷ qs)) (sym first) s in
-    let alike : (x : ℕ) → state_of (p ∷ ps) x ≡ state_of (p ∷ qs) x = subst (λ z. (x : ℕ) → state_of (p ∷ ps) x ≡ state_of (z ∷ qs) x) (sym first) same in
+    let alike : (x : ℕ) → state_of_atoms (p ∷ ps) x ≡ state_of_atoms (p ∷ qs) x = subst (λ z. (x : ℕ) → state_of_atoms (p ∷ ps) x ≡ state_of_atoms (z ∷ qs) x) (sym first) same in
     subst (λ z. p ∷ ps ≡ z ∷ qs) first (ap (λ (xs : List AtomId). p ∷ xs) (rising_once ps qs (rest_rises p ps r) (rest_rises p qs rises) (rest_same p ps qs r rises alike)))
 
 -- the first state that passes has one list of atoms
 pub first_atoms_once : (n : ℕ) (passes : State → Bool) (ps qs : List AtomId) → AreFirst n passes ps → AreFirst n passes qs → ps ≡ qs
-first_atoms_once n passes ps qs a b = rising_once ps qs a.1 b.1 (first_state_once n passes (state_of ps) (state_of qs) a.0 b.0)
+first_atoms_once n passes ps qs a b = rising_once ps qs a.1 b.1 (first_state_once n passes (state_of_atoms ps) (state_of_atoms qs) a.0 b.0)
 
 -- ---- merges
 
@@ -115,7 +115,7 @@ module _ (n : ℕ) (i : Initial) where
   not_acceptable : (number : ℕ) (tags : List (List Lit)) (r : Refused) → AreAcceptable i tags → RefusesMerge n i number tags r → ⊥
   not_acceptable number tags _ fine (inconsistent place f) = some_inconsistent tags place fine.consistent f
   not_acceptable number tags _ fine (invalid state all first) =
-      let s = state_of state in
+      let s = state_of_atoms state in
       let parts = and_parts (is_model i s) (not (satisfies_one tags s)) first.0.passed in
       false≢true (sym (ap not (fine.valid s parts.0)) ∙ parts.1)
 
@@ -168,11 +168,11 @@ plan_fails_not g i ns s plan wanted =
 -- steps have one verdict
 pub verdict_once : (n : ℕ) (g : Ground) (i : Initial) (ns : List ℕ) (v w : Judged) → AnswersJudged n g i ns v → AnswersJudged n g i ns w → v ≡ w
 verdict_once n g i ns Yes Yes h k = refl
-verdict_once n g i ns Yes (No ps k l) plan f = absurd (plan_fails_not g i ns (state_of ps) plan f.0.0.passed)
-verdict_once n g i ns (No ps k l) Yes f plan = absurd (plan_fails_not g i ns (state_of ps) plan f.0.0.passed)
+verdict_once n g i ns Yes (No ps k l) plan f = absurd (plan_fails_not g i ns (state_of_atoms ps) plan f.0.0.passed)
+verdict_once n g i ns (No ps k l) Yes f plan = absurd (plan_fails_not g i ns (state_of_atoms ps) plan f.0.0.passed)
 verdict_once n g i ns (No ps k l) (No qs j m) f h =
     let atoms : ps ≡ qs = first_atoms_once n (is_wanted i (fails g ns)) ps qs f.0 h.0 in
-    let place = steps_fail_in_one_place g (state_of qs) ns k j l m (subst (λ xs. FailAt g (state_of xs) ns k l) atoms f.1) h.1 in
+    let place = steps_fail_in_one_place g (state_of_atoms qs) ns k j l m (subst (λ xs. FailAt g (state_of_atoms xs) ns k l) atoms f.1) h.1 in
     cc (atoms, place.0, place.1)
 
 -- ---- steps

@@ -7,7 +7,7 @@ use Rattle.kp_names_meaning.specs.Faults.{Fault, domain_faults, problem_faults, 
 use Rattle.kp_names.specs.Resolved.{first_fault, earlier, RefusesNames, in_domain, in_problem}
 use Rattle.kp_ground_meaning.specs.Ground.{ground_atoms, ground_of, kept_instances}
 use Rattle.kp_ground_meaning.specs.Weights.{binding_count, total_weight}
-use Rattle.kp_ground_instances.specs.Counts.{IsWithin, bindings_over, actions_over, effects_over}
+use Rattle.kp_ground_instances.specs.Counts.{IsWithinLimits, bindings_over, actions_over, effects_over}
 use Rattle.kp_ground.specs.Grounded.{IsGrounded, RefusesGround, counts_over, atoms_over}
 use Rattle.kp_law_decidable.specs.Laws.{NamesAreDecided, SizesAreDecided}
 
@@ -32,7 +32,7 @@ sizes_decided l limits = elim (cases_lt limits.bindings (binding_count l)) [
   ]
 ]
   where
-    atoms : IsWithin l limits → ((r : Refused) × RefusesGround l limits r) ⊎ IsGrounded l limits (ground_of l)
+    atoms : IsWithinLimits l limits → ((r : Refused) × RefusesGround l limits r) ⊎ IsGrounded l limits (ground_of l)
     atoms within = elim (cases_lt limits.atoms (length (ground_atoms l))) [
       | inl over ↦ inl (refusals.AtomsOver, atoms_over within over)
       | inr few ↦ inr (record { counts = within; atoms = few; ground = refl })

@@ -23,7 +23,7 @@ use Rattle.kp_base.specs.Closure.{closure}
 use Rattle.kp_base.proofs.Closures.{closure_over_first_atoms}
 use Rattle.kp_tags_merges.specs.declared.merge.FileMerge.{FileMerge}
 use Rattle.kp_base.specs.LitSet.{same_set}
-use Rattle.kp_tags.specs.Tables.{has_tags_of_atoms, used_tags, numbered, HasClosure, IsTableOf}
+use Rattle.kp_tags.specs.MergeTables.{has_tags_of_atoms, used_tags, numbered, HasClosure, IsTableOf}
 use Rattle.kp_tags.specs.Answers.{AreConsistent, AreAcceptable, RefusesMerge, Accepts, RefusesTable}
 use Rattle.kp_law_decidable.specs.Laws.{TablesAreDecided}
 use Rattle.kp_law_decidable.proofs.Firsts.{ReadsFirst, first_or_none}

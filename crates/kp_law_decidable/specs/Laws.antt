@@ -34,7 +34,7 @@ use Rattle.kp_check.specs.Judging.{AnswersJudged}
 use Rattle.kp_plans.specs.declared.step.PlanStep.{PlanStep}
 use Rattle.kp_plans.specs.Found.{action_of, IsFirstUnknown}
 use Rattle.kp_tags_merges.specs.declared.merge.FileMerge.{FileMerge}
-use Rattle.kp_tags.specs.Tables.{has_tags_of_atoms}
+use Rattle.kp_tags.specs.MergeTables.{has_tags_of_atoms}
 use Rattle.kp_tags.specs.Answers.{Accepts, RefusesTable}
 use Rattle.kp_tags.specs.Made.{IsMade, RefusesMade}
 use Rattle.kp_tags_modes.specs.Modes.{way_of, AreMergesOf}

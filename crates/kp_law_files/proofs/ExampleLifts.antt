@@ -19,7 +19,7 @@ use Rattle.kp_base.specs.Machine.{accepts, start, one_tag_table}
 use Rattle.kp_base.proofs.Lists.{any_member}
 use Rattle.kp_law_machine.proofs.Public as machine
 use Rattle.kp_law_machine.proofs.Public.{accepted_lists_are_plans, relevant_is_of_the_atoms}
-use Rattle.kp_law_machine.specs.Lifts.{lifted}
+use Rattle.kp_law_machine.specs.Lifts.{lift_of}
 use Rattle.kp_names_meaning.specs.Steps.{Step}
 use Rattle.kp_names_meaning.specs.Initial.{HasInitialState}
 use Rattle.kp_names_meaning.specs.Plans.{IsPlan}
@@ -127,11 +127,11 @@ unfolding its_problem
 two_lift = plans_lift cells_domain one_cell_problem its_problem machine.cells_table some_state texts_of_atoms table_for texts_complete two_steps two_are_a_plan
 
 -- the merge goes behind the two actions
-merge_is_last : lifted machine.cells_ground machine.cells_table (0 ∷ 0 ∷ []) ≡ machine.cells_accepted
+merge_is_last : lift_of machine.cells_ground machine.cells_table (0 ∷ 0 ∷ []) ≡ machine.cells_accepted
 merge_is_last = refl
 
-lift_accepted : IsAccepted (ground_of (domain_of_text cells_domain) (problem_of_text one_cell_problem)) machine.cells_table tagged.cells_steps (lifted (ground_of (domain_of_text cells_domain) (problem_of_text one_cell_problem)) machine.cells_table (0 ∷ 0 ∷ []))
-lift_accepted = subst (λ (g : Ground). IsAccepted g machine.cells_table tagged.cells_steps (lifted g machine.cells_table (0 ∷ 0 ∷ []))) (sym its_ground) (record { steps_are = rw (decimal_digit 0 (omega arith)) refl; accepted = refl })
+lift_accepted : IsAccepted (ground_of (domain_of_text cells_domain) (problem_of_text one_cell_problem)) machine.cells_table tagged.cells_steps (lift_of (ground_of (domain_of_text cells_domain) (problem_of_text one_cell_problem)) machine.cells_table (0 ∷ 0 ∷ []))
+lift_accepted = subst (λ (g : Ground). IsAccepted g machine.cells_table tagged.cells_steps (lift_of g machine.cells_table (0 ∷ 0 ∷ []))) (sym its_ground) (record { steps_are = rw (decimal_digit 0 (omega arith)) refl; accepted = refl })
 
 -- and the three steps are a plan of what is written
 lift_written : IsWrittenLift (domain_of_text cells_domain) (problem_of_text one_cell_problem) machine.cells_table (0 ∷ 0 ∷ []) tagged.cells_steps
@@ -142,7 +142,7 @@ lift_written = lifts_written cells_domain one_cell_problem its_problem machine.c
 
 -- with the empty tag alone no list of steps lifts, so that table isn't complete
 none_lifts : (plan : List Step) → Lifts (domain_of_text cells_domain) (problem_of_text one_cell_problem) (empty_tag (domain_of_text cells_domain) (problem_of_text one_cell_problem)) plan → ⊥
-none_lifts plan l = unmet (lifted machine.cells_ground (one_tag_table []) l.numbers) (start (one_tag_table [])) (λ m. refl) there
+none_lifts plan l = unmet (lift_of machine.cells_ground (one_tag_table []) l.numbers) (start (one_tag_table [])) (λ m. refl) there
   where
-    there : accepts machine.cells_ground (one_tag_table []) (lifted machine.cells_ground (one_tag_table []) l.numbers) ≡ true
+    there : accepts machine.cells_ground (one_tag_table []) (lift_of machine.cells_ground (one_tag_table []) l.numbers) ≡ true
     there = rw (its_ground, its_start) at l.accepted.accepted

@@ -10,7 +10,7 @@ use Rattle.kp_base.specs.declared.ground.TagTable.{TagTable}
 use Rattle.kp_base.specs.Machine.{MachineStep, Known, start, after_act, after_merge}
 use Rattle.kp_base.proofs.Lists.{all_member}
 use Rattle.kp_base.proofs.Places.{element}
-use Rattle.kp_law_machine.specs.Lifts.{adds, after_merges, merges_taken, lifted_from, lifted}
+use Rattle.kp_law_machine.specs.Lifts.{adds, after_merges, merges_taken, lift_from, lift_of}
 use Rattle.kp_law_machine.specs.Completeness.{AreActions}
 use Rattle.kp_law_machine.proofs.Public.{lifted_lists_strip, no_plan_is_lost}
 use Rattle.kp_names_meaning.specs.Steps.{Step}
@@ -82,16 +82,16 @@ merges_named g table n (m ∷ ms) k rest stand h = by (λ k'. merges_named g tab
     by later false = later k
 
 -- so do lifted actions that are there
-lifted_named : (g : Ground) (table : TagTable) (ns : List ℕ) (k : Known) → list_all (λ n. nat_lt n (length g.actions)) ns ≡ true → Have_names g table (lifted_from g table k ns)
+lifted_named : (g : Ground) (table : TagTable) (ns : List ℕ) (k : Known) → list_all (λ n. nat_lt n (length g.actions)) ns ≡ true → Have_names g table (lift_from g table k ns)
 lifted_named g table [] k h = subst (Have_names g table) (append-nil (merges_taken 0 table.merges k)) (merges_named g table 0 table.merges k [] (all_stand table) (record { steps = []; are = refl }))
 lifted_named g table (n ∷ ns) k h =
     let parts = and_parts (nat_lt n (length g.actions)) (list_all (λ m. nat_lt m (length g.actions)) ns) h in
     let a = element g.actions n (ltb-true n (length g.actions) parts.0) in
     let next = after_act (slice_get g.actions n) (after_merges table.merges k) in
-    merges_named g table 0 table.merges k (MachineStep.act n ∷ lifted_from g table next ns) (all_stand table)
-    (one_more g table (MachineStep.act n) (lifted_from g table next ns) (op_of g.atoms (length table.tags) a.0) (ap (option_map (op_of g.atoms (length table.tags))) a.1) (lifted_named g table ns next parts.1))
+    merges_named g table 0 table.merges k (MachineStep.act n ∷ lift_from g table next ns) (all_stand table)
+    (one_more g table (MachineStep.act n) (lift_from g table next ns) (op_of g.atoms (length table.tags) a.0) (ap (option_map (op_of g.atoms (length table.tags))) a.1) (lifted_named g table ns next parts.1))
 
-pub lift_named : (g : Ground) (table : TagTable) (ns : List ℕ) → list_all (λ n. nat_lt n (length g.actions)) ns ≡ true → (steps : List Step) × (map (step_at g table) (lifted g table ns) ≡ map Some steps)
+pub lift_named : (g : Ground) (table : TagTable) (ns : List ℕ) → list_all (λ n. nat_lt n (length g.actions)) ns ≡ true → (steps : List Step) × (map (step_at g table) (lift_of g table ns) ≡ map Some steps)
 lift_named g table ns h = let r = lifted_named g table ns (start table) h in (r.steps, r.are)
 
 -- ---- the laws
@@ -100,9 +100,9 @@ pub lifts_written : LiftsAreWritten
 lifts_written domain problem x table h numbers steps accepted =
     let g = ground_of x.domain x.problem in
     let writable = tables_can_be_written domain problem x table h in
-    let r = tagged_steps_strip g table writable steps (lifted g table numbers) accepted.steps_are in
+    let r = tagged_steps_strip g table writable steps (lift_of g table numbers) accepted.steps_are in
     record {
-      is_plan = (tagged_plans_are_accepted g table writable steps).1 (lifted g table numbers, accepted);
+      is_plan = (tagged_plans_are_accepted g table writable steps).1 (lift_of g table numbers, accepted);
       names = r.names;
       are_names = subst (λ (ns : List ℕ). map (action_name g) ns ≡ map Some r.names) (lifted_lists_strip g table numbers) r.are_names;
       strips = r.strips;

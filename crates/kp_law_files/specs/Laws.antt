@@ -4,7 +4,7 @@ use Rattle.kp_base.specs.declared.ground.TagTable.{TagTable}
 use Rattle.kp_base.specs.Implicates.{IsOfItsAtoms}
 use Rattle.kp_base.specs.Clashes.{NeverClashes}
 use Rattle.kp_base.specs.Covering.{IsComplete}
-use Rattle.kp_law_machine.specs.Lifts.{lifted}
+use Rattle.kp_law_machine.specs.Lifts.{lift_of}
 use Rattle.kp_tree_grammar.specs.declared.tree.Word.{Word}
 use Rattle.kp_tree_grammar.specs.Trees.{Domain, Problem}
 use Rattle.kp_names_meaning.specs.Faults.{HasNoFault}
@@ -48,14 +48,14 @@ pub record IsWrittenLift (d : Domain Word) (p : Problem Word) (table : TagTable)
 -- where two texts have a problem, and a table is one for it: so it is with actions whose lifted list the machine accepts
 abbrev pub LiftsAreWritten : Type 0
 LiftsAreWritten = (domain problem : List ℕ) (x : HasProblem domain problem) (table : TagTable) → IsTableFor x.domain x.problem table → (numbers : List ℕ) (steps : List Step)
-    → IsAccepted (ground_of x.domain x.problem) table steps (lifted (ground_of x.domain x.problem) table numbers) → IsWrittenLift x.domain x.problem table numbers steps
+    → IsAccepted (ground_of x.domain x.problem) table steps (lift_of (ground_of x.domain x.problem) table numbers) → IsWrittenLift x.domain x.problem table numbers steps
 
 -- a list of steps by name lifts: they are actions, and their lifted list is accepted and has these steps by name
 pub record Lifts (d : Domain Word) (p : Problem Word) (table : TagTable) (plan : List Step) : Type 0 where
   pub numbers : List ℕ
   pub are_names : map (action_name (ground_of d p)) numbers ≡ map Some plan
   pub steps : List Step
-  pub accepted : IsAccepted (ground_of d p) table steps (lifted (ground_of d p) table numbers)
+  pub accepted : IsAccepted (ground_of d p) table steps (lift_of (ground_of d p) table numbers)
 
 -- where two texts have a problem in which some state is initial, and the table for it is complete, each plan of the texts lifts
 abbrev pub PlansLift : Type 0

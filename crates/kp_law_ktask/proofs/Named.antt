@@ -22,7 +22,7 @@ use Rattle.kp_write.specs.Grounds.{IsOfAtom, AreOfAtoms, IsGroundEffect, IsGroun
 use Rattle.kp_write.specs.Named.{fact_name, signed_fact, named_effect, named_op}
 use Rattle.kp_write.specs.Tasks.{IsWritableOp}
 use Rattle.kp_write.proofs.Public.{operator_is_name, opposites_are_of_atoms, operator_names_are}
-use Rattle.kp_law_ktask.specs.Task.{name_of, under, starts_from, facts_of, number, numbers, support, cancellation, effects_under, effects_from, op_of, merge_ops_from, task_of}
+use Rattle.kp_law_ktask.specs.Task.{name_of_fact, under, starts_from, facts_of, number, numbers, support, cancellation, effects_under, effects_from, op_of, merge_ops_from, task_of}
 use Rattle.kp_law_ktask.specs.ByName as byname
 use Rattle.kp_law_ktask.specs.ByName.{names_of, TasksAreNamed}
 use Rattle.kp_law_ktask.specs.Writable.{IsRowOn, IsTag, IsMergeOn, IsWritableTask}
@@ -43,7 +43,7 @@ module _ (g : Ground) (table : TagTable) where
 
   -- the name of a number is that of its fact
   fact_at : (t : ℕ) (l : Lit) → t < tags → IsOfAtom g.atoms l → slice_get names (number n (record { tag = t; lit = l })) ≡ Some (fact_of g.atoms t l)
-  fact_at t l below b = slice_get-map (name_of g.atoms) (facts_of g table) (number n (record { tag = t; lit = l })) ∙ ap (option_map (name_of g.atoms)) (numbered g table t l below b)
+  fact_at t l below b = slice_get-map (name_of_fact g.atoms) (facts_of g table) (number n (record { tag = t; lit = l })) ∙ ap (option_map (name_of_fact g.atoms)) (numbered g table t l below b)
 
   fact_named : (t : ℕ) (l : Lit) → t < tags → IsOfAtom g.atoms l → fact_name names (number n (record { tag = t; lit = l })) ≡ fact_of g.atoms t l
   fact_named t l below b = ap (λ o. unwrap_or o []) (fact_at t l below b)
@@ -72,14 +72,14 @@ module _ (g : Ground) (table : TagTable) where
       map-append (named_effect names) (flat_map (effects_under n t) es) (effects_from n (suc t) k es)
       ∙ rw (effects_named t (omega (arith, fit)) es h, all_effects_named (suc t) k (omega (arith, fit)) es h) refl
 
-  starts_named : (t : ℕ) (rows : List TagRow) → t + length rows ≤ tags → AllByRecursion (IsRowOn g.atoms) rows → map (fact_name names) (map (number n) (starts_from t rows)) ≡ map (name_of g.atoms) (starts_from t rows)
+  starts_named : (t : ℕ) (rows : List TagRow) → t + length rows ≤ tags → AllByRecursion (IsRowOn g.atoms) rows → map (fact_name names) (map (number n) (starts_from t rows)) ≡ map (name_of_fact g.atoms) (starts_from t rows)
   starts_named t [] fit h = refl
   starts_named t (row ∷ rows) fit h =
       ap (map (fact_name names)) (map-append (number n) (under t row.closure) (starts_from (suc t) rows))
       ∙ map-append (fact_name names) (numbers n t row.closure) (map (number n) (starts_from (suc t) rows))
-      ∙ rw (row_named row.closure h.0.closure, starts_named (suc t) rows (omega (arith, fit)) h.1) (sym (map-append (name_of g.atoms) (under t row.closure) (starts_from (suc t) rows)))
+      ∙ rw (row_named row.closure h.0.closure, starts_named (suc t) rows (omega (arith, fit)) h.1) (sym (map-append (name_of_fact g.atoms) (under t row.closure) (starts_from (suc t) rows)))
     where
-      row_named : (ls : List Lit) → AreOfAtoms g.atoms ls → map (fact_name names) (numbers n t ls) ≡ map (name_of g.atoms) (under t ls)
+      row_named : (ls : List Lit) → AreOfAtoms g.atoms ls → map (fact_name names) (numbers n t ls) ≡ map (name_of_fact g.atoms) (under t ls)
       row_named [] k = refl
       row_named (l ∷ ls) k = rw (fact_named t l (omega (arith, fit)) k.0, row_named ls k.1) refl
 
@@ -153,7 +153,7 @@ tasks_are_named g table w = record {
   goal = lits_named g table 0 w.some_tag g.goal w.ground.goal_of_atoms ∙ goal_names g.goal;
 }
   where
-    goal_names : (ls : List Lit) → map (fact_of g.atoms 0) ls ≡ map (name_of g.atoms) (under 0 ls)
+    goal_names : (ls : List Lit) → map (fact_of g.atoms 0) ls ≡ map (name_of_fact g.atoms) (under 0 ls)
     goal_names [] = refl
     goal_names (l ∷ ls) = ap (λ ns. fact_of g.atoms 0 l ∷ ns) (goal_names ls)
 

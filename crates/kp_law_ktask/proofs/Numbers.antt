@@ -7,7 +7,7 @@ use Rattle.kp_base.specs.declared.ground.Ground.{Ground}
 use Rattle.kp_base.specs.declared.ground.TagTable.{TagTable}
 use Rattle.kp_base.specs.Lit.{code_of}
 use Rattle.kp_base.proofs.Places.{get_left, get_right}
-use Rattle.kp_law_ktask.specs.Task.{name_of, task_of, facts_of, lits_from, under, facts_from}
+use Rattle.kp_law_ktask.specs.Task.{name_of_fact, task_of, facts_of, lits_from, under, facts_from}
 use Rattle.kp_law_ktask.specs.Weight.{FactsAreCounted}
 use Rattle.kp_law_ktask.specs.Laws.{FactsAreNumbered}
 
@@ -61,7 +61,7 @@ facts_from_length t (suc n) ls =
 -- how many facts there are
 pub facts_length : FactsAreCounted
 facts_length g table =
-    length-map (facts_of g table) (name_of g.atoms) ∙ facts_from_length 0 (length table.tags) (lits_from 0 (length g.atoms)) ∙ ap (λ m. length table.tags * m) (lits_length 0 (length g.atoms))
+    length-map (facts_of g table) (name_of_fact g.atoms) ∙ facts_from_length 0 (length table.tags) (lits_from 0 (length g.atoms)) ∙ ap (λ m. length table.tags * m) (lits_length 0 (length g.atoms))
 
 pub numbered : FactsAreNumbered
 numbered g table t l below b =

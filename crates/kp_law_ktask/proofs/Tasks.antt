@@ -15,7 +15,7 @@ use Rattle.kp_names_meaning.specs.GroundNames.{IsGroundName, same_name}
 use Rattle.kp_write.specs.Facts.{fact_of}
 use Rattle.kp_write.specs.Grounds.{IsOfAtom, AreOfAtoms}
 use Rattle.kp_write.proofs.Public.{fact_is_head}
-use Rattle.kp_law_ktask.specs.Task.{Fact, name_of, lits_from, under, facts_from}
+use Rattle.kp_law_ktask.specs.Task.{Fact, name_of_fact, lits_from, under, facts_from}
 use Rattle.kp_law_ktask.proofs.Facts.{named, fact_is, same_fact, other_fact}
 
 -- ---- lists
@@ -77,31 +77,31 @@ module _ (atoms : List GroundName) (names : AllByRecursion IsGroundName atoms) (
   head : (t : ℕ) → t < 2 ^ 64 → (l : Lit) → IsOfAtom atoms l → IsHead (fact_of atoms t l)
   head t fit l h = let n = named atoms names l.atom.0 h in subst (λ w. IsHead w) (sym (fact_is atoms names differ t l n.name n.at)) (fact_is_head t fit l.positive n.name n.is_name)
 
-  heads_under : (t : ℕ) → t < 2 ^ 64 → (ls : List Lit) → AreOfAtoms atoms ls → AllByRecursion (λ f. IsHead (name_of atoms f)) (under t ls)
+  heads_under : (t : ℕ) → t < 2 ^ 64 → (ls : List Lit) → AreOfAtoms atoms ls → AllByRecursion (λ f. IsHead (name_of_fact atoms f)) (under t ls)
   heads_under t fit [] h = tt
   heads_under t fit (l ∷ ls) h = (head t fit l h.0, heads_under t fit ls h.1)
 
-  pub heads : (t n : ℕ) → t + n < 2 ^ 64 → (ls : List Lit) → AreOfAtoms atoms ls → AllByRecursion (λ f. IsHead (name_of atoms f)) (facts_from t n ls)
+  pub heads : (t n : ℕ) → t + n < 2 ^ 64 → (ls : List Lit) → AreOfAtoms atoms ls → AllByRecursion (λ f. IsHead (name_of_fact atoms f)) (facts_from t n ls)
   heads t zero fit ls h = tt
-  heads t (suc n) fit ls h = each_append (λ f. IsHead (name_of atoms f)) (under t ls) (facts_from (suc t) n ls) (heads_under t (omega (arith, fit)) ls h) (heads (suc t) n (omega (arith, fit)) ls h)
+  heads t (suc n) fit ls h = each_append (λ f. IsHead (name_of_fact atoms f)) (under t ls) (facts_from (suc t) n ls) (heads_under t (omega (arith, fit)) ls h) (heads (suc t) n (omega (arith, fit)) ls h)
 
-  apart_under : (t : ℕ) → t < 2 ^ 64 → (l : Lit) → IsOfAtom atoms l → (ls : List Lit) → AreOfAtoms atoms ls → AllByRecursion (λ m. same_lit l m ≡ false) ls → AllByRecursion (λ f. same (fact_of atoms t l) (name_of atoms f) ≡ false) (under t ls)
+  apart_under : (t : ℕ) → t < 2 ^ 64 → (l : Lit) → IsOfAtom atoms l → (ls : List Lit) → AreOfAtoms atoms ls → AllByRecursion (λ m. same_lit l m ≡ false) ls → AllByRecursion (λ f. same (fact_of atoms t l) (name_of_fact atoms f) ≡ false) (under t ls)
   apart_under t fit l b [] h d = tt
   apart_under t fit l b (m ∷ ms) h d = (same_fact atoms names differ t fit l m b h.0 ∙ d.0, apart_under t fit l b ms h.1 d.1)
 
-  differ_under : (t : ℕ) → t < 2 ^ 64 → (ls : List Lit) → AreOfAtoms atoms ls → IsDistinct same_lit ls → IsDistinct (λ f g. same (name_of atoms f) (name_of atoms g)) (under t ls)
+  differ_under : (t : ℕ) → t < 2 ^ 64 → (ls : List Lit) → AreOfAtoms atoms ls → IsDistinct same_lit ls → IsDistinct (λ f g. same (name_of_fact atoms f) (name_of_fact atoms g)) (under t ls)
   unfolding IsDistinct
   differ_under t fit [] h d = tt
   differ_under t fit (l ∷ ls) h d = (apart_under t fit l h.0 ls h.1 d.0, differ_under t fit ls h.1 d.1)
 
-  others_under : (u t : ℕ) → u < 2 ^ 64 → t < 2 ^ 64 → (u ≡ t → ⊥) → (l : Lit) → IsOfAtom atoms l → (ls : List Lit) → AreOfAtoms atoms ls → AllByRecursion (λ f. same (fact_of atoms u l) (name_of atoms f) ≡ false) (under t ls)
+  others_under : (u t : ℕ) → u < 2 ^ 64 → t < 2 ^ 64 → (u ≡ t → ⊥) → (l : Lit) → IsOfAtom atoms l → (ls : List Lit) → AreOfAtoms atoms ls → AllByRecursion (λ f. same (fact_of atoms u l) (name_of_fact atoms f) ≡ false) (under t ls)
   others_under u t p q apart l b [] h = tt
   others_under u t p q apart l b (m ∷ ms) h = (other_fact atoms names differ u t p q apart l m b h.0, others_under u t p q apart l b ms h.1)
 
-  later : (u : ℕ) (l : Lit) → IsOfAtom atoms l → (t n : ℕ) → u < t → t + n < 2 ^ 64 → (ls : List Lit) → AreOfAtoms atoms ls → AllByRecursion (λ f. same (fact_of atoms u l) (name_of atoms f) ≡ false) (facts_from t n ls)
+  later : (u : ℕ) (l : Lit) → IsOfAtom atoms l → (t n : ℕ) → u < t → t + n < 2 ^ 64 → (ls : List Lit) → AreOfAtoms atoms ls → AllByRecursion (λ f. same (fact_of atoms u l) (name_of_fact atoms f) ≡ false) (facts_from t n ls)
   later u l b t zero less fit ls h = tt
   later u l b t (suc n) less fit ls h =
-      each_append (λ f. same (fact_of atoms u l) (name_of atoms f) ≡ false) (under t ls) (facts_from (suc t) n ls)
+      each_append (λ f. same (fact_of atoms u l) (name_of_fact atoms f) ≡ false) (under t ls) (facts_from (suc t) n ls)
       (others_under u t (omega (arith, less, fit)) (omega (arith, fit)) (λ e. omega (arith, less, e)) l b ls h)
       (later u l b (suc t) n (omega (arith, less)) (omega (arith, fit)) ls h)
 
@@ -110,10 +110,10 @@ module _ (atoms : List GroundName) (names : AllByRecursion IsGroundName atoms) (
   from_under t P (l ∷ ls) h step f (inl e) = subst (λ f. P f) e (step l h.0)
   from_under t P (l ∷ ls) h step f (inr m) = from_under t P ls h.1 step f m
 
-  pub facts_differ : (t n : ℕ) → t + n < 2 ^ 64 → (ls : List Lit) → AreOfAtoms atoms ls → IsDistinct same_lit ls → IsDistinct (λ f g. same (name_of atoms f) (name_of atoms g)) (facts_from t n ls)
+  pub facts_differ : (t n : ℕ) → t + n < 2 ^ 64 → (ls : List Lit) → AreOfAtoms atoms ls → IsDistinct same_lit ls → IsDistinct (λ f g. same (name_of_fact atoms f) (name_of_fact atoms g)) (facts_from t n ls)
   unfolding IsDistinct
   facts_differ t zero fit ls h d = tt
   facts_differ t (suc n) fit ls h d =
-      distinct_append (λ f g. same (name_of atoms f) (name_of atoms g)) (under t ls) (facts_from (suc t) n ls)
+      distinct_append (λ f g. same (name_of_fact atoms f) (name_of_fact atoms g)) (under t ls) (facts_from (suc t) n ls)
       (differ_under t (omega (arith, fit)) ls h d) (facts_differ (suc t) n (omega (arith, fit)) ls h d)
-      (λ f m. from_under t (λ f. AllByRecursion (λ g. same (name_of atoms f) (name_of atoms g) ≡ false) (facts_from (suc t) n ls)) ls h (λ l b. later t l b (suc t) n (omega arith) (omega (arith, fit)) ls h) f m)
+      (λ f m. from_under t (λ f. AllByRecursion (λ g. same (name_of_fact atoms f) (name_of_fact atoms g) ≡ false) (facts_from (suc t) n ls)) ls h (λ l b. later t l b (suc t) n (omega arith) (omega (arith, fit)) ls h) f m)

@@ -22,7 +22,7 @@ use Rattle.kp_write.specs.Facts.{fact_of, known, opposites}
 use Rattle.kp_write.specs.Grounds.{IsOfAtom, AreOfAtoms, IsGroundEffect, IsGroundAction}
 use Rattle.kp_write.specs.Problems.{AreAmong, IsEffectOn, IsOpOn}
 use Rattle.kp_write.proofs.Public.{operator_is_name, operators_apart, opposites_are_of_atoms}
-use Rattle.kp_law_ktask.specs.Task.{name_of, lits_from, under, starts_from, facts_of, start_of}
+use Rattle.kp_law_ktask.specs.Task.{name_of_fact, lits_from, under, starts_from, facts_of, start_of}
 use Rattle.kp_law_ktask.specs.ByName.{effects_under, effects_from, op_of, merge_ops_from, ops_of, names_of, goal_of}
 use Rattle.kp_law_ktask.specs.Writable.{IsRowOn, IsTag, IsMergeOn, IsWritableTask}
 use Rattle.kp_law_ktask.specs.Laws.{TaggedTasksAreTasks}
@@ -33,7 +33,7 @@ module _ (g : Ground) (table : TagTable) where
   -- the fact of a literal under one of the tags is one of the facts
   among : (t : ℕ) → t < length table.tags → (l : Lit) → IsOfAtom g.atoms l → Member (names_of g (facts_of g table)) (fact_of g.atoms t l)
   among t below l b =
-      member_map (name_of g.atoms) (facts_of g table) (record { tag = t; lit = l })
+      member_map (name_of_fact g.atoms) (facts_of g table) (record { tag = t; lit = l })
       (fact_among 0 (length table.tags) t t (lits_from 0 (length g.atoms)) l (omega arith) below (lit_among 0 (length g.atoms) l.atom.0 l.atom.0 l.positive (omega arith) b))
 
   pres : (t : ℕ) → t < length table.tags → (ls : List Lit) → AreOfAtoms g.atoms ls → AreAmong (names_of g (facts_of g table)) (map (fact_of g.atoms t) ls)
@@ -58,11 +58,11 @@ module _ (g : Ground) (table : TagTable) where
       each_append (IsEffectOn (names_of g (facts_of g table))) (flat_map (effects_under g.atoms t) es) (effects_from g.atoms (suc t) n es)
       (effects_one t (omega (arith, fit)) es h) (effects_all (suc t) n (omega (arith, fit)) es h)
 
-  starts : (t : ℕ) (rows : List TagRow) → t + length rows ≤ length table.tags → AllByRecursion (IsRowOn g.atoms) rows → AllByRecursion (λ f. Member (names_of g (facts_of g table)) (name_of g.atoms f)) (starts_from t rows)
+  starts : (t : ℕ) (rows : List TagRow) → t + length rows ≤ length table.tags → AllByRecursion (IsRowOn g.atoms) rows → AllByRecursion (λ f. Member (names_of g (facts_of g table)) (name_of_fact g.atoms f)) (starts_from t rows)
   starts t [] fit h = tt
   starts t (row ∷ rows) fit h =
-      each_append (λ f. Member (names_of g (facts_of g table)) (name_of g.atoms f)) (under t row.closure) (starts_from (suc t) rows)
-      (each_map (IsOfAtom g.atoms) (λ f. Member (names_of g (facts_of g table)) (name_of g.atoms f)) (λ l. record { tag = t; lit = l }) (λ l b. among t (omega (arith, fit)) l b) row.closure h.0.closure)
+      each_append (λ f. Member (names_of g (facts_of g table)) (name_of_fact g.atoms f)) (under t row.closure) (starts_from (suc t) rows)
+      (each_map (IsOfAtom g.atoms) (λ f. Member (names_of g (facts_of g table)) (name_of_fact g.atoms f)) (λ l. record { tag = t; lit = l }) (λ l b. among t (omega (arith, fit)) l b) row.closure h.0.closure)
       (starts (suc t) rows (omega (arith, fit)) h.1)
 
   merge_pre : (l : Lit) → IsOfAtom g.atoms l → (ts : List ℕ) → AllByRecursion (IsTag (length table.tags)) ts → AreAmong (names_of g (facts_of g table)) (map (λ t. fact_of g.atoms t l) ts)
@@ -111,10 +111,10 @@ module _ (g : Ground) (table : TagTable) where
 
 pub tasks_are_tasks : TaggedTasksAreTasks
 tasks_are_tasks g table w = record {
-  heads = each_map (λ f. IsHead (name_of g.atoms f)) IsHead (name_of g.atoms) (λ f h. h) (facts_of g table) (heads g.atoms w.ground.atoms w.ground.atoms_differ 0 (length table.tags) (omega (arith, w.tags_fit)) (lits_from 0 (length g.atoms)) (lits_of g.atoms 0 (length g.atoms) (omega arith)));
-  facts_differ = distinct_map (name_of g.atoms) (facts_of g table) (facts_differ g.atoms w.ground.atoms w.ground.atoms_differ 0 (length table.tags) (omega (arith, w.tags_fit)) (lits_from 0 (length g.atoms)) (lits_of g.atoms 0 (length g.atoms) (omega arith)) (lits_differ 0 (length g.atoms)));
+  heads = each_map (λ f. IsHead (name_of_fact g.atoms f)) IsHead (name_of_fact g.atoms) (λ f h. h) (facts_of g table) (heads g.atoms w.ground.atoms w.ground.atoms_differ 0 (length table.tags) (omega (arith, w.tags_fit)) (lits_from 0 (length g.atoms)) (lits_of g.atoms 0 (length g.atoms) (omega arith)));
+  facts_differ = distinct_map (name_of_fact g.atoms) (facts_of g table) (facts_differ g.atoms w.ground.atoms w.ground.atoms_differ 0 (length table.tags) (omega (arith, w.tags_fit)) (lits_from 0 (length g.atoms)) (lits_of g.atoms 0 (length g.atoms) (omega arith)) (lits_differ 0 (length g.atoms)));
   operators = each_append (IsOpOn (names_of g (facts_of g table))) (map (op_of g.atoms (length table.tags)) g.actions) (merge_ops_from g.atoms 0 table.merges) (each_map (IsGroundAction g.atoms) (IsOpOn (names_of g (facts_of g table))) (op_of g.atoms (length table.tags)) (λ a h. action_on g table w a h) g.actions w.ground.actions) (merges_on g table w 0 table.merges (omega (arith, w.merges_fit)) w.merges);
   operators_differ = distinct_map (λ o. o.name) (ops_of g table) (distinct_append (λ a b. same a.name b.name) (map (op_of g.atoms (length table.tags)) g.actions) (merge_ops_from g.atoms 0 table.merges) (actions_differ g table w g.actions w.ground.actions w.ground.actions_differ) (merges_differ g table w 0 table.merges (omega (arith, w.merges_fit))) (λ o m. from_action g table w g.actions o m));
-  start_among = each_map (λ f. Member (names_of g (facts_of g table)) (name_of g.atoms f)) (Member (names_of g (facts_of g table))) (name_of g.atoms) (λ f h. h) (start_of table) (starts g table 0 table.tags (omega arith) w.rows);
-  goal_among = each_map (λ f. Member (names_of g (facts_of g table)) (name_of g.atoms f)) (Member (names_of g (facts_of g table))) (name_of g.atoms) (λ f h. h) (goal_of g) (each_map (IsOfAtom g.atoms) (λ f. Member (names_of g (facts_of g table)) (name_of g.atoms f)) (λ l. record { tag = 0; lit = l }) (λ l b. among g table 0 w.some_tag l b) g.goal w.ground.goal_of_atoms);
+  start_among = each_map (λ f. Member (names_of g (facts_of g table)) (name_of_fact g.atoms f)) (Member (names_of g (facts_of g table))) (name_of_fact g.atoms) (λ f h. h) (start_of table) (starts g table 0 table.tags (omega arith) w.rows);
+  goal_among = each_map (λ f. Member (names_of g (facts_of g table)) (name_of_fact g.atoms f)) (Member (names_of g (facts_of g table))) (name_of_fact g.atoms) (λ f h. h) (goal_of g) (each_map (IsOfAtom g.atoms) (λ f. Member (names_of g (facts_of g table)) (name_of_fact g.atoms f)) (λ l. record { tag = 0; lit = l }) (λ l b. among g table 0 w.some_tag l b) g.goal w.ground.goal_of_atoms);
 }

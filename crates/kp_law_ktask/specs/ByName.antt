@@ -10,7 +10,7 @@ use Rattle.kp_base.specs.declared.ground.Merge.{Merge}
 use Rattle.kp_base.specs.Machine.{MachineStep}
 use Rattle.kp_names_meaning.specs.Encoding.{encoded}
 use Rattle.kp_names_meaning.specs.Strip.{do_front}
-use Rattle.kp_law_ktask.specs.Task.{Fact, name_of, under, facts_of, start_of, merge_word, task_of}
+use Rattle.kp_law_ktask.specs.Task.{Fact, name_of_fact, under, facts_of, start_of, merge_word, task_of}
 use Rattle.kp_write.specs.Task.{Op, Effect}
 use Rattle.kp_write.specs.Facts.{fact_of, known, support, cancellation}
 use Rattle.kp_write.specs.Written.{domain_text, problem_text}
@@ -23,7 +23,7 @@ goal_of g = under 0 g.goal
 
 -- the names of some facts
 abbrev pub names_of : Ground → List Fact → List (List ℕ)
-names_of g fs = map (name_of g.atoms) fs
+names_of g fs = map (name_of_fact g.atoms) fs
 
 -- ---- operators
 

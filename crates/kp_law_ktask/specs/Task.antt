@@ -26,8 +26,8 @@ pub record Fact : Type 0 where
   pub lit : Lit
 
 -- its name
-abbrev pub name_of : List GroundName → Fact → List ℕ
-name_of atoms f = fact_of atoms f.tag f.lit
+abbrev pub name_of_fact : List GroundName → Fact → List ℕ
+name_of_fact atoms f = fact_of atoms f.tag f.lit
 
 -- the literals of n atoms from number i on, by code
 abbrev pub lits_from : ℕ → ℕ → List Lit
@@ -117,7 +117,7 @@ merge_ops_from n m (x ∷ xs) = merge_op n m x ∷ merge_ops_from n (suc m) xs
 -- its facts are all facts, its operators one for each action and then one for each merge, and its goal is known under tag 0
 abbrev pub task_of : Ground → TagTable → Task
 task_of g table = record {
-  facts = map (name_of g.atoms) (facts_of g table);
+  facts = map (name_of_fact g.atoms) (facts_of g table);
   init = map (number (length g.atoms)) (start_of table);
   goal = all_of (numbers (length g.atoms) 0 g.goal);
   ops = map (op_of (length g.atoms) (length table.tags)) g.actions ++ merge_ops_from (length g.atoms) 0 table.merges;

@@ -22,7 +22,7 @@ use Rattle.kp_base.specs.Machine.{MachineStep, accepts, stripped, one_tag_table}
 use Rattle.kp_base.proofs.Lists.{all_member, any_member}
 use Rattle.kp_base.proofs.Lits.{member-has}
 use Rattle.kp_law_machine.proofs.Public.{literals_below, one_sided_actions_never_clash, one_tag_is_a_table, accepted_lists_are_plans}
-use Rattle.kp_law_machine.specs.Lifts.{lifted, is_ready, UnliftedAt}
+use Rattle.kp_law_machine.specs.Lifts.{lift_of, is_ready, UnliftedAt}
 use Rattle.kp_law_machine.proofs.Relevance.{relevant_of_atoms}
 use Rattle.kp_law_machine.proofs.Failing.{dont_lift}
 use Rattle.kp_law_machine.proofs.Complete.{none_lost}
@@ -72,14 +72,14 @@ table = record {
 -- ---- lifted lists
 
 -- the second merge goes behind the last action
-merge_is_last : lifted either table (0 ∷ 1 ∷ []) ≡ MachineStep.act 0 ∷ MachineStep.act 1 ∷ MachineStep.merge 1 ∷ []
+merge_is_last : lift_of either table (0 ∷ 1 ∷ []) ≡ MachineStep.act 0 ∷ MachineStep.act 1 ∷ MachineStep.merge 1 ∷ []
 merge_is_last = refl
 
 -- or before the action that needs it, and then no other is taken behind
-merge_is_before : lifted either table (0 ∷ 1 ∷ 2 ∷ []) ≡ MachineStep.act 0 ∷ MachineStep.act 1 ∷ MachineStep.merge 1 ∷ MachineStep.act 2 ∷ []
+merge_is_before : lift_of either table (0 ∷ 1 ∷ 2 ∷ []) ≡ MachineStep.act 0 ∷ MachineStep.act 1 ∷ MachineStep.merge 1 ∷ MachineStep.act 2 ∷ []
 merge_is_before = refl
 
-both_are_accepted : accepts either table (lifted either table (0 ∷ 1 ∷ 2 ∷ [])) ≡ true
+both_are_accepted : accepts either table (lift_of either table (0 ∷ 1 ∷ 2 ∷ [])) ≡ true
 both_are_accepted = refl
 
 -- without the merge the two steps aren't
@@ -248,11 +248,11 @@ never = one_sided_actions_never_clash either p_unknown refl
 two_are_a_plan : IsGroundPlan either p_unknown (0 ∷ 1 ∷ [])
 two_are_a_plan = accepted_lists_are_plans either p_unknown table right valid never (MachineStep.act 0 ∷ MachineStep.act 1 ∷ MachineStep.merge 1 ∷ []) refl
 
-two_lift : accepts either table (lifted either table (0 ∷ 1 ∷ [])) ≡ true
+two_lift : accepts either table (lift_of either table (0 ∷ 1 ∷ [])) ≡ true
 two_lift = none_lost either p_unknown table of_atoms some_model right complete (0 ∷ 1 ∷ []) two_are_a_plan
 
 -- with the empty tag alone the plan is lost
-lost_without_merge : accepts either (one_tag_table (negative 1 ∷ [])) (lifted either (one_tag_table (negative 1 ∷ [])) (0 ∷ 1 ∷ [])) ≡ false
+lost_without_merge : accepts either (one_tag_table (negative 1 ∷ [])) (lift_of either (one_tag_table (negative 1 ∷ [])) (0 ∷ 1 ∷ [])) ≡ false
 lost_without_merge = refl
 
 -- so that table isn't complete

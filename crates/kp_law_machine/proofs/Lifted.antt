@@ -9,7 +9,7 @@ use Rattle.kp_base.specs.declared.ground.Merge.{Merge}
 use Rattle.kp_base.specs.Machine.{MachineStep, Known, start, may_act, after_act, may_merge, after_merge, accepts_from, stripped}
 use Rattle.kp_base.proofs.Lists.{member_at, all_weaker}
 use Rattle.kp_law_machine.proofs.Public.{facts_more_all}
-use Rattle.kp_law_machine.specs.Lifts.{adds, after_merges, merges_taken, lifted_from}
+use Rattle.kp_law_machine.specs.Lifts.{adds, after_merges, merges_taken, lift_from}
 use Rattle.kp_law_machine.specs.Completeness.{LiftedListsStrip, LiftedListsAreBest}
 use Rattle.kp_law_machine.proofs.Merges.{Knows_more, may_merge_more, after_merge_grows, after_merges_more, merge_adds_nothing}
 
@@ -62,25 +62,25 @@ merges_accepted g table n (m ∷ ms) k rest stand h =
 
 -- ---- lifted lists
 
-stripped_from : (g : Ground) (table : TagTable) (ns : List ℕ) (k : Known) → stripped (lifted_from g table k ns) ≡ ns
+stripped_from : (g : Ground) (table : TagTable) (ns : List ℕ) (k : Known) → stripped (lift_from g table k ns) ≡ ns
 stripped_from g table [] k = ap stripped (sym (append-nil (merges_taken 0 table.merges k))) ∙ merges_stripped 0 table.merges k []
 stripped_from g table (n ∷ ns) k =
     let next = known_after g table k n in
-    merges_stripped 0 table.merges k (MachineStep.act n ∷ lifted_from g table next ns) ∙ ap (λ xs. n ∷ xs) (stripped_from g table ns next)
+    merges_stripped 0 table.merges k (MachineStep.act n ∷ lift_from g table next ns) ∙ ap (λ xs. n ∷ xs) (stripped_from g table ns next)
 
 pub lists_strip : LiftedListsStrip
 lists_strip g table ns = stripped_from g table ns (start table)
 
 -- where the actions lift, the lifted list is accepted
-pub lifted_accepted : (g : Ground) (table : TagTable) (ns : List ℕ) (k : Known) → lifts_from g table k ns ≡ true → accepts_from g table k (lifted_from g table k ns) ≡ true
+pub lifted_accepted : (g : Ground) (table : TagTable) (ns : List ℕ) (k : Known) → lifts_from g table k ns ≡ true → accepts_from g table k (lift_from g table k ns) ≡ true
 lifted_accepted g table [] k h =
     subst (λ (xs : List MachineStep). accepts_from g table k xs ≡ true) (append-nil (merges_taken 0 table.merges k)) (merges_accepted g table 0 table.merges k [] (all_stand table) h)
 lifted_accepted g table (n ∷ ns) k h =
     let o = slice_get g.actions n in
     let s = after_merges table.merges k in
     let parts = and_parts (may_act o s) (lifts_from g table (after_act o s) ns) h in
-    merges_accepted g table 0 table.merges k (MachineStep.act n ∷ lifted_from g table (after_act o s) ns) (all_stand table)
-    (and_from (may_act o s) (accepts_from g table (after_act o s) (lifted_from g table (after_act o s) ns)) parts.0 (lifted_accepted g table ns (after_act o s) parts.1))
+    merges_accepted g table 0 table.merges k (MachineStep.act n ∷ lift_from g table (after_act o s) ns) (all_stand table)
+    (and_from (may_act o s) (accepts_from g table (after_act o s) (lift_from g table (after_act o s) ns)) parts.0 (lifted_accepted g table ns (after_act o s) parts.1))
 
 -- ---- no list does better
 

@@ -17,7 +17,7 @@ use Rattle.kp_base.specs.Clashes.{clashes_at}
 use Rattle.kp_base.specs.Machine.{MachineStep, Known, closure_of, start, may_act, after_act, may_merge, after_merge, accepts_from, stripped}
 use Rattle.kp_base.proofs.Lists.{member_at, all_weaker, all_member, any_member}
 use Rattle.kp_base.proofs.Lits.{same_lit-true}
-use Rattle.kp_law_machine.specs.Laws.{IsSound}
+use Rattle.kp_law_machine.specs.Laws.{AcceptedListsArePlans}
 use Rattle.kp_law_machine.proofs.Exact.{exact}
 use Rattle.kp_law_machine.proofs.Monotone.{facts_more_all}
 
@@ -94,6 +94,6 @@ sound_from g i table right valid m model (MachineStep.merge n ∷ steps) k s nev
         let parts = and_parts (may_merge (Some x) k) (accepts_from g table (after_merge (Some x) k) steps) p in
         rest (after_merge (Some x) k) s never (merge_keeps table m k s x (valid.each x (member_at table.merges n x is) m model) so_far parts.0) parts.1
 
-pub sound : IsSound
+pub sound : AcceptedListsArePlans
 sound g i table right valid never steps h m model =
     sound_from g i table right valid m model steps (start table) m (λ ns a p. never.no_clash m ns a p model) (true_at_start g i table right m model) h

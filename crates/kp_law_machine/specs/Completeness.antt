@@ -10,17 +10,17 @@ use Rattle.kp_base.specs.Steps.{IsGroundPlan}
 use Rattle.kp_base.specs.Entailed.{HasModel, IsTable}
 use Rattle.kp_base.specs.Covering.{IsComplete}
 use Rattle.kp_base.specs.Machine.{MachineStep, accepts, stripped}
-use Rattle.kp_law_machine.specs.Lifts.{lifted, UnliftedAt}
+use Rattle.kp_law_machine.specs.Lifts.{lift_of, UnliftedAt}
 
 -- ---- lifted lists
 
 -- without its merges, the lifted list is what was lifted
 abbrev pub LiftedListsStrip : Type 0
-LiftedListsStrip = (g : Ground) (table : TagTable) (ns : List ℕ) → stripped (lifted g table ns) ≡ ns
+LiftedListsStrip = (g : Ground) (table : TagTable) (ns : List ℕ) → stripped (lift_of g table ns) ≡ ns
 
 -- it is accepted where any list of steps is that strips to the same
 abbrev pub LiftedListsAreBest : Type 0
-LiftedListsAreBest = (g : Ground) (table : TagTable) (steps : List MachineStep) → accepts g table steps ≡ true → accepts g table (lifted g table (stripped steps)) ≡ true
+LiftedListsAreBest = (g : Ground) (table : TagTable) (steps : List MachineStep) → accepts g table steps ≡ true → accepts g table (lift_of g table (stripped steps)) ≡ true
 
 -- each action has its number
 pub record AreActions (g : Ground) (ns : List ℕ) : Type 0 where
@@ -28,7 +28,7 @@ pub record AreActions (g : Ground) (ns : List ℕ) : Type 0 where
 
 -- actions that are there lift, or fail somewhere
 abbrev pub ListsLiftOrFail : Type 0
-ListsLiftOrFail = (g : Ground) (table : TagTable) (ns : List ℕ) → AreActions g ns → (accepts g table (lifted g table ns) ≡ true) ⊎ ((k : ℕ) × (l : Lit) × UnliftedAt g table ns k l)
+ListsLiftOrFail = (g : Ground) (table : TagTable) (ns : List ℕ) → AreActions g ns → (accepts g table (lift_of g table ns) ≡ true) ⊎ ((k : ℕ) × (l : Lit) × UnliftedAt g table ns k l)
 
 -- where they fail, no list of steps that strips to them is accepted
 abbrev pub FailingListsDontLift : Type 0
@@ -42,4 +42,4 @@ ListsFailOnce = (g : Ground) (table : TagTable) (ns : List ℕ) (k j : ℕ) (l m
 
 -- Where there is a model, and the table is right and complete, each plan of the ground problem lifts. (Palacios and Geffner, JAIR 35, 2009.)
 abbrev pub NoPlanIsLost : Type 0
-NoPlanIsLost = (g : Ground) (i : Initial) (table : TagTable) → IsOfItsAtoms g → HasModel i → IsTable g i table → IsComplete g i table → (ns : List ℕ) → IsGroundPlan g i ns → accepts g table (lifted g table ns) ≡ true
+NoPlanIsLost = (g : Ground) (i : Initial) (table : TagTable) → IsOfItsAtoms g → HasModel i → IsTable g i table → IsComplete g i table → (ns : List ℕ) → IsGroundPlan g i ns → accepts g table (lift_of g table ns) ≡ true

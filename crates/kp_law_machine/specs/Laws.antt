@@ -17,8 +17,8 @@ use Rattle.kp_base.specs.Machine.{MachineStep, facts_after, accepts, stripped, o
 -- ---- soundness
 
 -- where a table is right, its merges are valid and nothing clashes, each list that the machine accepts is, without its merges, a plan
-abbrev pub IsSound : Type 0
-IsSound = (g : Ground) (i : Initial) (table : TagTable) → IsTable g i table → AreValid i table → NeverClashes g i → (steps : List MachineStep) → accepts g table steps ≡ true → IsGroundPlan g i (stripped steps)
+abbrev pub AcceptedListsArePlans : Type 0
+AcceptedListsArePlans = (g : Ground) (i : Initial) (table : TagTable) → IsTable g i table → AreValid i table → NeverClashes g i → (steps : List MachineStep) → accepts g table steps ≡ true → IsGroundPlan g i (stripped steps)
 
 -- ---- pairs
 

@@ -36,12 +36,12 @@ abbrev pub known_lifted : Ground → TagTable → List ℕ → Known
 known_lifted g table ns = known_lifted_from g table (start table) ns
 
 -- the actions with the merges
-abbrev pub lifted_from : Ground → TagTable → Known → List ℕ → List MachineStep
-lifted_from g table k [] = merges_taken 0 table.merges k
-lifted_from g table k (n ∷ ns) = merges_taken 0 table.merges k ++ MachineStep.act n ∷ lifted_from g table (after_act (slice_get g.actions n) (after_merges table.merges k)) ns
+abbrev pub lift_from : Ground → TagTable → Known → List ℕ → List MachineStep
+lift_from g table k [] = merges_taken 0 table.merges k
+lift_from g table k (n ∷ ns) = merges_taken 0 table.merges k ++ MachineStep.act n ∷ lift_from g table (after_act (slice_get g.actions n) (after_merges table.merges k)) ns
 
-abbrev pub lifted : Ground → TagTable → List ℕ → List MachineStep
-lifted g table ns = lifted_from g table (start table) ns
+abbrev pub lift_of : Ground → TagTable → List ℕ → List MachineStep
+lift_of g table ns = lift_from g table (start table) ns
 
 -- ---- where lifting fails
 

@@ -37,7 +37,7 @@ use Rattle.kp_words.specs.Names.{of_mode, Bench}
 use Rattle.kp_words.specs.declared.lent.CommandRef.TheVariants as commands
 use Rattle.kp_words.specs.Command.{IsBench}
 use Rattle.kp_run_prepare.specs.Prepared.{by_texts, by_trees, early, later}
-use Rattle.kp_run_inputs.specs.Tables.{no_table, with_table}
+use Rattle.kp_run_inputs.specs.SourceTables.{no_table, with_table}
 use Rattle.kp_run_inputs.proofs.Public.{table_of_source_is_for_trees}
 use Rattle.kp_run_solve.specs.Solving.{Finds, denies, spends}
 use Rattle.kp_run_solve.proofs.Public.{ends_are_true, no_plan_is_accepted, steps_named, actions_among_have_names, operator_names_are_steps}
@@ -51,7 +51,7 @@ use Rattle.kp_run.specs.Solved.{Tells}
 use Rattle.kp_run.proofs.Public.{both_plans, due_makes, task_of_trees_fits, prepared_is_proper, no_plan_text_tells_complete, IsNoRefusal, not_refused}
 use Rattle.kp_run_prepare.proofs.Public.{problem_of_trees}
 use Rattle.kp_law_runs.specs.Follows.{IsAnsweredBy}
-use Rattle.kp_law_runs.specs.Benching.{IsPosedBench, its_ground, its_formula, its_task, IsWrittenPlan, IsSolvedBench, HasNoBenchPlan, IsSpentBench, BenchesAreTrue, BenchesAreAnswered}
+use Rattle.kp_law_runs.specs.Bench.{IsPosedBench, its_ground, its_formula, its_task, IsWrittenPlan, IsSolvedBench, HasNoBenchPlan, IsSpentBench, BenchesAreTrue, BenchesAreAnswered}
 use Rattle.kp_law_runs.proofs.Following.{answers_are_whole, ends_with}
 use Rattle.kp_law_runs.proofs.SomeOutcome.{as_many}
 

@@ -29,13 +29,13 @@ use Rattle.kp_run_outcome.specs.Ends.{Outside, whole}
 use Rattle.kp_words.specs.Names.{Classical}
 use Rattle.kp_words.specs.declared.lent.CommandRef.TheVariants as commands
 use Rattle.kp_words_options.specs.Words.{nothing, a_word, apart as apart_words, word as said_word, option as said_option}
-use Rattle.kp_words.specs.Command.{IsClassical as SaysClassical}
+use Rattle.kp_words.specs.Command.{IsClassical}
 use Rattle.kp_words.proofs.Public.{word_of_bytes, example_is_classical as is_classical_call}
 use Rattle.kp_run_prepare.specs.Texts.{HaveTrees}
-use Rattle.kp_run_classical.specs.Classical.{IsClassical, later, task_of}
+use Rattle.kp_run_classical.specs.Classical.{IsClassicalProblem, later, task_of}
 use Rattle.kp_run_solve.specs.Solving.{Finds, solves, denies, spends, TellsClassical}
 use Rattle.kp_run_messages.specs.Searches.{no_plan_line}
-use Rattle.kp_run.specs.Outcomes.{ClassicalTexts, searched, of_command}
+use Rattle.kp_run.specs.Outcomes.{ClassicalTexts, solved_classical, of_command}
 use Rattle.kp_run.specs.Ends.{Ends, came}
 use Rattle.kp_run.proofs.Public.{example_holding, got_after_insert, got_beside_insert, classical_task_fits}
 use Rattle.kp_run.specs.Solved.{IsSolvedClassical, HasNoClassicalPlan, IsSpentClassical}
@@ -55,7 +55,7 @@ solving budget = record { domain = codes "d"; problem = codes "p"; budget = budg
 abbrev with_budget : List (Vec ℕ Global)
 with_budget = front (word_of_bytes (codes "--budget") (omega arith) ∷ word_of_bytes (codes "1") (omega arith) ∷ [])
 
-is_with_budget : SaysClassical with_budget (solving 1)
+is_with_budget : IsClassical with_budget (solving 1)
 unfolding encode digits
 is_with_budget = record {
   rest = codes "d" ∷ codes "p" ∷ codes "--budget" ∷ codes "1" ∷ [];
@@ -87,13 +87,13 @@ domain_held domain problem = got_beside_insert (insert empty (codes "d") domain)
 problem_held : (domain problem : List ℕ) → get (example_holding domain problem) (codes "p") ≡ Some problem
 problem_held domain problem = got_after_insert (insert empty (codes "d") domain) (codes "p") problem
 
-ends : (ws : List (Vec ℕ Global)) (budget : ℕ) → SaysClassical ws (solving budget) → (domain problem : List ℕ) (o : Outcome) → o.puts ≡ [] → ClassicalTexts (solving budget) domain problem o → Ends ws (before domain problem) (after domain problem o.text) o.status
+ends : (ws : List (Vec ℕ Global)) (budget : ℕ) → IsClassical ws (solving budget) → (domain problem : List ℕ) (o : Outcome) → o.puts ≡ [] → ClassicalTexts (solving budget) domain problem o → Ends ws (before domain problem) (after domain problem o.text) o.status
 ends ws budget is domain problem o no_file comes =
-    came o (of_command (commands.Classical (solving budget)) (domain ∷ problem ∷ []) o is (rw (domain_held domain problem, problem_held domain problem) refl) (searched (solving budget) domain problem o comes))
+    came o (of_command (commands.Classical (solving budget)) (domain ∷ problem ∷ []) o is (rw (domain_held domain problem, problem_held domain problem) refl) (solved_classical (solving budget) domain problem o comes))
     (whole refl (record { gets = λ q. refl; puts = λ q. refl; writes = refl }) (rw no_file refl) refl)
 
 -- what the search of their task finds is told
-comes_to : (domain problem : List ℕ) (d : Domain Word) (p : Problem Word) → HaveTrees domain problem d p → IsClassical d p → (budget : ℕ) (found : Found) (o : Outcome) → Finds (task_of d p) budget found → TellsClassical (ground_of d p) found o → ClassicalTexts (solving budget) domain problem o
+comes_to : (domain problem : List ℕ) (d : Domain Word) (p : Problem Word) → HaveTrees domain problem d p → IsClassicalProblem d p → (budget : ℕ) (found : Found) (o : Outcome) → Finds (task_of d p) budget found → TellsClassical (ground_of d p) found o → ClassicalTexts (solving budget) domain problem o
 comes_to domain problem d p have ready budget found o finds tells = later d p have ready (record { found = found; finds = finds; tells = tells })
 
 -- ---- from p to q: the plan is told

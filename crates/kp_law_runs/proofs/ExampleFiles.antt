@@ -32,7 +32,7 @@ use Rattle.kp_law_files.specs.Translations.{ground_of, initial_of}
 use Rattle.kp_law_files.proofs.Public.{formulas_speak_of_ground_atoms}
 use Rattle.kp_run_prepare.specs.Texts.{HaveTrees}
 use Rattle.kp_run_prepare.specs.Prepared.{usual, IsPrepared}
-use Rattle.kp_run_classical.specs.Classical.{classical, IsClassical}
+use Rattle.kp_run_classical.specs.Classical.{classical, IsClassicalProblem}
 use Rattle.kp_run.proofs.Public.{file_reads_by_computing, exchange_reads as domain_reads, from_p_to_q_reads as problem_reads, example_only_p, example_has_state, example_few_primes}
 
 -- ---- no clash
@@ -85,7 +85,7 @@ prepared = record {
   clash_free = never_clashing exchange_tree from_p_to_q_tree refl;
 }
 
-pub is_classical : IsClassical exchange_tree from_p_to_q_tree
+pub is_classical : IsClassicalProblem exchange_tree from_p_to_q_tree
 is_classical = record { certain = refl; small = within (numbered_problem exchange_tree from_p_to_q_tree) classical 3 2 (omega arith) (omega arith) (omega arith) (omega arith) refl refl refl refl; initial = prepared.started.initial }
 
 -- ---- from p to both
@@ -117,7 +117,7 @@ both_prepared = record {
   clash_free = never_clashing exchange_tree to_both_tree refl;
 }
 
-pub both_classical : IsClassical exchange_tree to_both_tree
+pub both_classical : IsClassicalProblem exchange_tree to_both_tree
 both_classical = record { certain = refl; small = within (numbered_problem exchange_tree to_both_tree) classical 3 2 (omega arith) (omega arith) (omega arith) (omega arith) refl refl refl refl; initial = both_prepared.started.initial }
 
 -- ---- p comes, and where p holds q comes
@@ -173,5 +173,5 @@ chain_prepared = record {
   clash_free = never_clashing chain_tree to_q_tree refl;
 }
 
-pub chain_classical : IsClassical chain_tree to_q_tree
+pub chain_classical : IsClassicalProblem chain_tree to_q_tree
 chain_classical = record { certain = refl; small = within (numbered_problem chain_tree to_q_tree) classical 3 2 (omega arith) (omega arith) (omega arith) (omega arith) refl refl refl refl; initial = chain_prepared.started.initial }

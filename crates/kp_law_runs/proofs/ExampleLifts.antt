@@ -38,7 +38,7 @@ use Rattle.kp_run_outcome.specs.Ends.{Outside, whole}
 use Rattle.kp_words.specs.Names.{of_mode, Lift}
 use Rattle.kp_run_prepare.proofs.Public.{problem_of_trees}
 use Rattle.kp_run_prepare.specs.Prepared.{IsStarted, later}
-use Rattle.kp_run_inputs.specs.Tables.{by_mode, with_table}
+use Rattle.kp_run_inputs.specs.SourceTables.{by_mode, with_table}
 use Rattle.kp_run.specs.Outcomes.{translates, done, TranslatesTexts}
 use Rattle.kp_run.specs.Ends.{Ends, came}
 use Rattle.kp_run.specs.Completeness.{RanComplete, IsOfTheSame, HoldsPlan}

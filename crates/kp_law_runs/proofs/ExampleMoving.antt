@@ -43,7 +43,7 @@ use Rattle.kp_tags_merges.specs.declared.merge.FileMerge.{FileMerge}
 use Rattle.kp_tags_modes.specs.declared.way.Way.{Way}
 use Rattle.kp_tags_modes.specs.Assignments.{HasAtom, AreAtomsOf}
 use Rattle.kp_tags_modes.specs.Modes.{AreMergesBy, AreMergesInTurn, AreMergesOf, AreOtherwise, merge_of}
-use Rattle.kp_tags.specs.Tables.{HasClosure}
+use Rattle.kp_tags.specs.MergeTables.{HasClosure}
 use Rattle.kp_tags.specs.Made.{IsMade}
 use Rattle.kp_law_decidable.proofs.Public.{clauses_decided, tags_decided}
 use Rattle.kp_law_decidable.specs.Laws.{AreProper, TellsOfTags}
@@ -64,7 +64,7 @@ use Rattle.kp_words.specs.declared.lent.CommandRef.TheVariants as commands
 use Rattle.kp_words.specs.Command.{IsBench}
 use Rattle.kp_words.proofs.Public.{word_of_bytes}
 use Rattle.kp_run_prepare.specs.Prepared.{usual, later}
-use Rattle.kp_run_inputs.specs.Tables.{by_mode, with_table}
+use Rattle.kp_run_inputs.specs.SourceTables.{by_mode, with_table}
 use Rattle.kp_run_inputs.proofs.Public.{table_of_source_is_for_trees}
 use Rattle.kp_run_solve.specs.Solving.{Finds}
 use Rattle.kp_run_solve.proofs.Public.{ends_are_true}
@@ -76,10 +76,10 @@ use Rattle.kp_run.specs.Outcomes.{benched, of_command}
 use Rattle.kp_run.specs.Ends.{Ends, came}
 use Rattle.kp_run.proofs.Public.{task_of_trees_fits, prepared_is_proper as proper}
 use Rattle.kp_run_prepare.proofs.Public.{problem_of_trees}
-use Rattle.kp_law_runs.specs.Benching.{IsSolvedBench}
+use Rattle.kp_law_runs.specs.Bench.{IsSolvedBench}
 use Rattle.kp_law_runs.proofs.Benches.{benches_are_true}
 use Rattle.kp_law_runs.proofs.ExampleCourses.{leading}
-use Rattle.kp_law_runs.proofs.ExampleBenching.{cells_tree, two_tree, trees, g, i, left, at_first, first_start, at_second, second_start, not_second, prepared, relevant, second_for, not_met, only_target}
+use Rattle.kp_law_runs.proofs.ExampleBenches.{cells_tree, two_tree, trees, g, i, left, at_first, first_start, at_second, second_start, not_second, prepared, relevant, second_for, not_met, only_target}
 
 -- ---- words
 

@@ -38,7 +38,7 @@ use Rattle.kp_words.specs.Command.{IsSolve}
 use Rattle.kp_words.proofs.Public.{word_of_bytes}
 use Rattle.kp_run_prepare.specs.Texts.{HaveTrees}
 use Rattle.kp_run_prepare.specs.Prepared.{IsPrepared, later}
-use Rattle.kp_run_inputs.specs.Tables.{HasTable, by_mode, with_table}
+use Rattle.kp_run_inputs.specs.SourceTables.{HasTable, by_mode, with_table}
 use Rattle.kp_run_inputs.proofs.Public.{table_of_source_is_for_trees}
 use Rattle.kp_run_solve.specs.Solving.{Finds, solves, denies, spends, AreNamed, TellsSolved, searched}
 use Rattle.kp_run_messages.specs.Searches.{no_plan_text}

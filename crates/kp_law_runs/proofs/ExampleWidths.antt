@@ -35,11 +35,11 @@ use Rattle.kp_run.specs.Ends.{Ends}
 use Rattle.kp_run.specs.Solved.{GoesOn}
 use Rattle.kp_run.proofs.Public.{example_holding}
 use Rattle.kp_law_runs.specs.Follows.{EndsWith}
-use Rattle.kp_law_runs.specs.Measuring.{AreRight, IsMeasured}
-use Rattle.kp_law_runs.proofs.Measures.{widths_are_answered, widths_are_true}
-use Rattle.kp_law_runs.proofs.ExampleMeasuring.{front, measuring, is_plain, domain_held, problem_held, empty_tag}
-use Rattle.kp_law_runs.proofs.ExampleMeasuring as runs
-use Rattle.kp_law_runs.proofs.ExampleBenching.{cells_tree, two_tree, trees, g, i, left, at_first, first_start, at_second, second_start, prepared, second_for, not_met}
+use Rattle.kp_law_runs.specs.Width.{AreRight, IsWidthTold}
+use Rattle.kp_law_runs.proofs.Widths.{widths_are_answered, widths_are_true}
+use Rattle.kp_law_runs.proofs.ExampleWidthBounds.{front, measuring, is_plain, domain_held, problem_held, empty_tag}
+use Rattle.kp_law_runs.proofs.ExampleWidthBounds as runs
+use Rattle.kp_law_runs.proofs.ExampleBenches.{cells_tree, two_tree, trees, g, i, left, at_first, first_start, at_second, second_start, prepared, second_for, not_met}
 use Rattle.kp_law_runs.proofs.ExampleMoving.{either_cell, prime, below, cells_for, told_of, test, neither, not_so, some_holds, are_targets}
 
 -- ---- the relevant clauses: it is at one of the cells, and that it is at the second or isn't
@@ -235,7 +235,7 @@ goes_on = record { domain = domain; problem = problem; domain_held = domain_held
 is_answered : EndsWith (tells_width g 3 (Within (row ∷ []))) before after status.Done
 is_answered = widths_are_answered (front []) before after status.Done ends (example_holding domain problem) (measuring 3) cells_tree two_tree (Within (row ∷ [])) refl is_plain goes_on is_report
 
-is_measured : IsMeasured (example_holding domain problem) (measuring 3) before after
+is_measured : IsWidthTold (example_holding domain problem) (measuring 3) before after
 is_measured = (widths_are_true (front []) before after status.Done ends (example_holding domain problem) (measuring 3) refl is_plain).done refl
 
 -- the whole text

@@ -5,7 +5,6 @@ use Rattle.std.specs.declared.alloc.Global.{Global}
 use Rattle.kp_base.specs.Lists.{Member}
 use Rattle.kp_tree_grammar.specs.declared.tree.Word.{Word}
 use Rattle.kp_tree_grammar.specs.Trees.{Domain, Problem}
-use Rattle.kp_plans.specs.PlanFiles.{names}
 use Rattle.kp_outside.specs.Outside.{FileMap, with_bytes}
 use Rattle.kp_run_outcome.specs.declared.outcome.FilePut.{FilePut}
 use Rattle.kp_run_outcome.specs.declared.outcome.Outcome.{Outcome}
@@ -28,9 +27,9 @@ use Rattle.kp_base.specs.declared.ground.TagTable.{TagTable}
 use Rattle.kp_check.specs.declared.answer.Judged.{Judged}
 use Rattle.kp_check.specs.declared.answer.Judged.TheVariants.{Yes, No}
 use Rattle.kp_law_files.specs.Translations.{ground_of, initial_of}
-use Rattle.kp_run_inputs.specs.Tables.{ComesByTable, no_table, with_table}
+use Rattle.kp_run_inputs.specs.SourceTables.{ComesByTable, no_table, with_table}
 use Rattle.kp_run_inputs.specs.Actions.{ComesByPlan, no_actions, with_actions}
-use Rattle.kp_run.specs.Outcomes.{translates, TranslatesGround, over, done, TranslatesTrees, ListsMerges, MergesTrees, StripsText, too_long, no_plan, no_strip, strips, tells, TellsJudged, ChecksTrees, LiftsActions, lifts, fails, LiftsPlan, no_task, with_task, LiftsTrees, SolvesTrees, ClassicalTrees, tells_width, MeasuresGround, no_report, with_report, MeasuresTrees, ComesTo, translated, merged, stripped, checked, lifted, solved, searched, measured, benched, IsDue, usage, of_command}
+use Rattle.kp_run.specs.Outcomes.{translates, TranslatesGround, over, done, TranslatesTrees, MergesGround, MergesTrees, StripsText, too_long, no_plan, no_strip, strips, tells, TellsJudged, ChecksTrees, LiftsActions, lifts, fails, LiftsPlan, no_task, with_task, LiftsTrees, SolvesTrees, ClassicalTrees, tells_width, WidthGround, no_report, with_report, WidthTrees, ComesTo, translated, merged, stripped, checked, lifted, solved, solved_classical, width_measured, benched, IsDue, usage, of_command}
 use Rattle.kp_names_meaning.specs.Steps.{Step}
 use Rattle.kp_search.specs.declared.found.Found.{Found}
 use Rattle.kp_search.specs.declared.found.Found.TheVariants.{Plan, NoPlan, Spent}
@@ -189,7 +188,7 @@ comes_classical_under c x y P o under (at_once (no_texts r a is)) = refusal_unde
 comes_classical_under c x y P o under (at_once (no_trees d p r h a is)) = refusal_under (commands.Classical c) o nothing r is
 comes_classical_under c x y P o under (goes_on d p h w on) = under d p on
 
-width_under : (c : Width) (g : Ground) (i : Initial) (o : Outcome) → MeasuresGround c.bound g i o → PutsUnder (commands.Width c) o
+width_under : (c : Width) (g : Ground) (i : Initial) (o : Outcome) → WidthGround c.bound g i o → PutsUnder (commands.Width c) o
 width_under c g i o (no_report r a e) = refusal_under (commands.Width c) o (named_in g) r e
 width_under c g i o (with_report report a e) = by report e
   where
@@ -208,13 +207,13 @@ bench_under c g i table o (by_bench found a finds t) = summary_under c g i table
 
 comes_under : (c : Command) (texts : List (List ℕ)) (o : Outcome) → ComesTo c texts o → PutsUnder c o
 comes_under _ _ o (translated c x y merges _ a) = comes_of (commands.Translate c) c.implicates x y (TranslatesTrees c merges) o (λ d p. table_under (commands.Translate c) (ground_of d p) (initial_of d p) c.source merges (TranslatesGround c (ground_of d p) (initial_of d p)) o (λ table. ground_under c (ground_of d p) (initial_of d p) table o)) a
-comes_under _ _ o (merged c x y _ a) = comes_of (commands.Merges c) c.implicates x y (MergesTrees c.mode) o (λ d p. table_under (commands.Merges c) (ground_of d p) (initial_of d p) (of_mode c.mode) [] (ListsMerges (ground_of d p)) o (λ table e. under_none (commands.Merges c) o (ap (λ (z : Outcome). z.puts) e) (λ n. refl))) a
+comes_under _ _ o (merged c x y _ a) = comes_of (commands.Merges c) c.implicates x y (MergesTrees c.mode) o (λ d p. table_under (commands.Merges c) (ground_of d p) (initial_of d p) (of_mode c.mode) [] (MergesGround (ground_of d p)) o (λ table e. under_none (commands.Merges c) o (ap (λ (z : Outcome). z.puts) e) (λ n. refl))) a
 comes_under _ _ o (stripped c x _ a) = strip_under c x o a
 comes_under _ _ o (checked c x y plan _ a) = comes_of (commands.Check c) c.implicates x y (ChecksTrees plan) o (λ d p. plan_under (commands.Check c) (ground_of d p) plan (TellsJudged (ground_of d p) (initial_of d p)) o (λ ns j. judged_under c (ground_of d p) ns j.judged o j.told)) a
 comes_under _ _ o (lifted c x y merges plan _ a) = comes_of (commands.Lift c) c.implicates x y (LiftsTrees c merges plan) o (λ d p. table_under (commands.Lift c) (ground_of d p) (initial_of d p) c.source merges (LiftsPlan (ground_of d p) plan) o (λ table. lift_under c (ground_of d p) plan table o)) a
 comes_under _ _ o (solved c x y merges _ a) = comes_of (commands.Solve c) c.implicates x y (SolvesTrees c merges) o (λ d p. table_under (commands.Solve c) (ground_of d p) (initial_of d p) c.source merges (SolvesGround c.classical c.budget (ground_of d p) (initial_of d p)) o (λ table. solved_under c (ground_of d p) (initial_of d p) table o)) a
-comes_under _ _ o (searched c x y _ a) = comes_classical_under c x y (ClassicalTrees c) o (λ d p s. classical_under c (ground_of d p) o s.found s.tells) a
-comes_under _ _ o (measured c x y _ a) = comes_of (commands.Width c) c.implicates x y (MeasuresTrees c) o (λ d p. width_under c (ground_of d p) (initial_of d p) o) a
+comes_under _ _ o (solved_classical c x y _ a) = comes_classical_under c x y (ClassicalTrees c) o (λ d p s. classical_under c (ground_of d p) o s.found s.tells) a
+comes_under _ _ o (width_measured c x y _ a) = comes_of (commands.Width c) c.implicates x y (WidthTrees c) o (λ d p. width_under c (ground_of d p) (initial_of d p) o) a
 comes_under _ _ o (benched c _ a) = comes_of (commands.Bench c) usual_implicates (texts_of c).domain (texts_of c).problem (BenchesTrees c) o (λ d p. table_under (commands.Bench c) (ground_of d p) (initial_of d p) (of_mode c.mode) [] (BenchesGround c (ground_of d p) (initial_of d p)) o (λ table. bench_under c (ground_of d p) (initial_of d p) table o)) a
 
 pub done_puts_the_outputs : DonePutsTheOutputs

@@ -17,9 +17,9 @@ pub mod ExampleCourses
 pub mod ExampleFiles
 pub mod ExampleSolvings
 pub mod ExampleClassicals
-pub mod Measures
-pub mod ExampleMeasuring
+pub mod Widths
+pub mod ExampleWidthBounds
 pub mod Benches
-pub mod ExampleBenching
+pub mod ExampleBenches
 pub mod ExampleMoving
 pub mod ExampleWidths

@@ -31,14 +31,14 @@ use Rattle.kp_base.specs.Covering.{IsComplete, AreUncovered}
 use Rattle.kp_law_decidable.specs.Laws.{AreProper}
 use Rattle.kp_law_decidable.proofs.Public.{complete_with_none}
 use Rattle.kp_cover.proofs.Public.{none_uncovered_if_complete}
-use Rattle.kp_law_machine.specs.Lifts.{lifted as lift_of, UnliftedAt}
+use Rattle.kp_law_machine.specs.Lifts.{lift_of, UnliftedAt}
 use Rattle.kp_law_machine.proofs.Public.{lifted_lists_strip, lists_lift_or_fail, failing_lists_dont_lift}
 use Rattle.kp_law_files.proofs.Public.{numbers_below_are_actions, lifted_steps_have_names}
 use Rattle.kp_base.specs.Machine.{MachineStep, accepts, stripped as actions_of}
 use Rattle.kp_run_translate.specs.Report.{counts_of}
 use Rattle.kp_plans.specs.declared.step.PlanStep.{PlanStep}
 use Rattle.kp_words.specs.Command.{IsTranslate, IsCheck, IsLift, file_of, if_named, inputs_of}
-use Rattle.kp_run_inputs.specs.Tables.{by_mode, with_table}
+use Rattle.kp_run_inputs.specs.SourceTables.{by_mode, with_table}
 use Rattle.kp_run_inputs.specs.Actions.{with_actions}
 use Rattle.kp_run_inputs.proofs.Public.{found_numbers_are_actions, as_many_found_as_steps, table_of_source_is_for_trees}
 use Rattle.kp_run.specs.Completeness.{PrintsComplete}

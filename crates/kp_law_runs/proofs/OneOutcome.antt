@@ -22,7 +22,7 @@ use Rattle.kp_run_classical.specs.Classical.{task_of as classical_task}
 use Rattle.kp_run_classical.proofs.Public.{classical_comes_to_one_outcome as comes_classical_once}
 use Rattle.kp_run_solve.specs.Solving.{SolvesGround}
 use Rattle.kp_run_solve.proofs.Public.{solvings_have_one_outcome, classical_solvings_have_one_outcome as one_classical}
-use Rattle.kp_run.specs.Outcomes.{TranslatesGround, TranslatesTrees, TranslatesTexts, ListsMerges, MergesTrees, MergesTexts, StripsText, TellsJudged, ChecksTrees, ChecksTexts, LiftsPlan, LiftsTrees, LiftsTexts, SolvesTrees, SolvesTexts, ClassicalTrees, ClassicalTexts, tells_width, MeasuresGround, no_report, with_report, MeasuresTrees, MeasuresTexts, ComesTo, usage, of_command}
+use Rattle.kp_run.specs.Outcomes.{TranslatesGround, TranslatesTrees, TranslatesTexts, MergesGround, MergesTrees, MergesTexts, StripsText, TellsJudged, ChecksTrees, ChecksTexts, LiftsPlan, LiftsTrees, LiftsTexts, SolvesTrees, SolvesTexts, ClassicalTrees, ClassicalTexts, tells_width, WidthGround, no_report, with_report, WidthTrees, WidthTexts, ComesTo, usage, of_command}
 use Rattle.kp_run_bench.proofs.Public.{benches_have_one_outcome}
 use Rattle.kp_run.proofs.Public.{MakesOf, makes_of}
 use Rattle.kp_law_runs.specs.Laws.{HasOneOutcome}
@@ -35,7 +35,7 @@ texts_once : (c : Translate) (x y : List ℕ) (merges : List (List ℕ)) (o u : 
 texts_once c x y merges = comes_to_one_outcome c.implicates x y (TranslatesTrees c merges) (λ d p o u w. by_table_one_outcome (ground_of d p) (initial_of d p) c.source merges (TranslatesGround c (ground_of d p) (initial_of d p)) (table_once c (ground_of d p) (initial_of d p)) o u)
 
 listed_once : (c : Merges) (x y : List ℕ) (o u : Outcome) → MergesTexts c x y o → MergesTexts c x y u → o ≡ u
-listed_once c x y = comes_to_one_outcome c.implicates x y (MergesTrees c.mode) (λ d p o u w. by_table_one_outcome (ground_of d p) (initial_of d p) (of_mode c.mode) [] (ListsMerges (ground_of d p)) (λ t o u e f. e ∙ sym f) o u)
+listed_once c x y = comes_to_one_outcome c.implicates x y (MergesTrees c.mode) (λ d p o u w. by_table_one_outcome (ground_of d p) (initial_of d p) (of_mode c.mode) [] (MergesGround (ground_of d p)) (λ t o u e f. e ∙ sym f) o u)
 
 plans_once : (c : Check) (x y plan : List ℕ) (o u : Outcome) → ChecksTexts c x y plan o → ChecksTexts c x y plan u → o ≡ u
 plans_once c x y plan = comes_to_one_outcome c.implicates x y (ChecksTrees plan) (λ d p o u w. by_plan_one_outcome (ground_of d p) plan (TellsJudged (ground_of d p) (initial_of d p)) (verdicts_once (ground_of d p) (initial_of d p)) o u)
@@ -49,14 +49,14 @@ solved_once c x y merges = comes_to_one_outcome c.implicates x y (SolvesTrees c 
 classical_once : (c : Classical) (x y : List ℕ) (o u : Outcome) → ClassicalTexts c x y o → ClassicalTexts c x y u → o ≡ u
 classical_once c x y = comes_classical_once x y (ClassicalTrees c) (λ d p o u w. one_classical c.budget (ground_of d p) (classical_task d p) o u)
 
-ground_measured_once : (bound : ℕ) (g : Ground) (i : Initial) (o u : Outcome) → MeasuresGround bound g i o → MeasuresGround bound g i u → o ≡ u
+ground_measured_once : (bound : ℕ) (g : Ground) (i : Initial) (o u : Outcome) → WidthGround bound g i o → WidthGround bound g i u → o ≡ u
 ground_measured_once bound g i o u (no_report r a e) (no_report s b f) = e ∙ (ap (refuses (named_in g)) ((problems_have_one_width usual bound g i i (λ s. refl)).refusals r s a b) ∙ sym f)
 ground_measured_once bound g i o u (no_report r a e) (with_report x b f) = absurd ((problems_have_one_width usual bound g i i (λ s. refl)).never_both x r b a)
 ground_measured_once bound g i o u (with_report x a e) (no_report r b f) = absurd ((problems_have_one_width usual bound g i i (λ s. refl)).never_both x r a b)
 ground_measured_once bound g i o u (with_report x a e) (with_report y b f) = e ∙ (ap (tells_width g bound) ((problems_have_one_width usual bound g i i (λ s. refl)).reports x y a b) ∙ sym f)
 
-measured_once : (c : Width) (x y : List ℕ) (o u : Outcome) → MeasuresTexts c x y o → MeasuresTexts c x y u → o ≡ u
-measured_once c x y = comes_to_one_outcome c.implicates x y (MeasuresTrees c) (λ d p o u w. ground_measured_once c.bound (ground_of d p) (initial_of d p) o u)
+measured_once : (c : Width) (x y : List ℕ) (o u : Outcome) → WidthTexts c x y o → WidthTexts c x y u → o ≡ u
+measured_once c x y = comes_to_one_outcome c.implicates x y (WidthTrees c) (λ d p o u w. ground_measured_once c.bound (ground_of d p) (initial_of d p) o u)
 
 outcome_once : (c : Command) (texts : List (List ℕ)) (o u : Outcome) → MakesOf c texts o → MakesOf c texts u → o ≡ u
 outcome_once (commands.Translate c) texts o u a b =
@@ -102,7 +102,7 @@ outcome_once (commands.Width c) texts o u a b =
     let at : b.0 ∷ b.1 ∷ [] ≡ a.0 ∷ a.1 ∷ [] = sym b.2 ∙ a.2 in
     let first : b.0 ≡ a.0 = cc in
     let second : b.1 ≡ a.1 = cc in
-    measured_once c a.0 a.1 o u a.3 (subst (λ t. MeasuresTexts c a.0 t u) second (subst (λ t. MeasuresTexts c t b.1 u) first b.3))
+    measured_once c a.0 a.1 o u a.3 (subst (λ t. WidthTexts c a.0 t u) second (subst (λ t. WidthTexts c t b.1 u) first b.3))
 outcome_once (commands.Bench c) texts o u a b = benches_have_one_outcome c o u a.1 b.1
 
 -- names have one list of contents

@@ -7,7 +7,7 @@ use Rattle.kp_base.specs.declared.refused.Refused.TheVariants as refusals
 use Rattle.kp_names_meaning.specs.Strip.{stripped, strip}
 use Rattle.kp_run_outcome.specs.declared.outcome.Outcome.{Outcome}
 use Rattle.kp_plans.specs.declared.step.PlanStep.{PlanStep}
-use Rattle.kp_plans.specs.PlanFiles.{names}
+use Rattle.kp_plans.specs.PlanFiles.{step_names}
 use Rattle.kp_plans.specs.Printed.{plan_text}
 use Rattle.kp_plans.specs.Stripping.{IsFirstUnstripped}
 use Rattle.kp_plans.proofs.Public.{plans_read_once, plans_refuse_once, plans_never_both}
@@ -29,9 +29,9 @@ none_behind n ns none = by (stripped n.head n.objects) (strip ns) none
     by None p e = refl
     by (Some front) p e = ap (option_map (λ rest. front ++ rest)) e
 
-none_among : (before : List PlanStep) (s : PlanStep) (after : List PlanStep) → stripped s.name.head s.name.objects ≡ None → strip (names (before ++ (s ∷ after))) ≡ None
-none_among [] s after none = none_first s.name (names after) none
-none_among (b ∷ bs) s after none = none_behind b.name (names (bs ++ (s ∷ after))) (none_among bs s after none)
+none_among : (before : List PlanStep) (s : PlanStep) (after : List PlanStep) → stripped s.name.head s.name.objects ≡ None → strip (step_names (before ++ (s ∷ after))) ≡ None
+none_among [] s after none = none_first s.name (step_names after) none
+none_among (b ∷ bs) s after none = none_behind b.name (step_names (bs ++ (s ∷ after))) (none_among bs s after none)
 
 no_some : (o : Option (List GroundName)) → o ≡ None → IsSome o → ⊥
 no_some o e some = false≢true (sym (ap is_some e) ∙ some)
@@ -44,18 +44,18 @@ some_behind n ns some = by (strip ns) refl
     by None e = absurd (no_some (strip (n ∷ ns)) (none_behind n ns e) some)
     by (Some x) e = rw e refl
 
-first_once : (xs ys : List PlanStep) (a b : PlanStep) (us vs : List PlanStep) → xs ++ (a ∷ us) ≡ ys ++ (b ∷ vs) → IsSome (strip (names xs)) → IsSome (strip (names ys))
+first_once : (xs ys : List PlanStep) (a b : PlanStep) (us vs : List PlanStep) → xs ++ (a ∷ us) ≡ ys ++ (b ∷ vs) → IsSome (strip (step_names xs)) → IsSome (strip (step_names ys))
     → stripped a.name.head a.name.objects ≡ None → stripped b.name.head b.name.objects ≡ None → a ≡ b
 first_once [] [] a b us vs e s t n m = let same : a ≡ b = cc in same
-first_once [] (y ∷ ys) a b us vs e s t n m = absurd (let same : a ≡ y = cc in no_some (strip (names (y ∷ ys))) (none_first y.name (names ys) (subst (λ (z : PlanStep). stripped z.name.head z.name.objects ≡ None) same n)) t)
-first_once (x ∷ xs) [] a b us vs e s t n m = absurd (let same : b ≡ x = cc in no_some (strip (names (x ∷ xs))) (none_first x.name (names xs) (subst (λ (z : PlanStep). stripped z.name.head z.name.objects ≡ None) same m)) s)
-first_once (x ∷ xs) (y ∷ ys) a b us vs e s t n m = let rest : xs ++ (a ∷ us) ≡ ys ++ (b ∷ vs) = cc in first_once xs ys a b us vs rest (some_behind x.name (names xs) s) (some_behind y.name (names ys) t) n m
+first_once [] (y ∷ ys) a b us vs e s t n m = absurd (let same : a ≡ y = cc in no_some (strip (step_names (y ∷ ys))) (none_first y.name (step_names ys) (subst (λ (z : PlanStep). stripped z.name.head z.name.objects ≡ None) same n)) t)
+first_once (x ∷ xs) [] a b us vs e s t n m = absurd (let same : b ≡ x = cc in no_some (strip (step_names (x ∷ xs))) (none_first x.name (step_names xs) (subst (λ (z : PlanStep). stripped z.name.head z.name.objects ≡ None) same m)) s)
+first_once (x ∷ xs) (y ∷ ys) a b us vs e s t n m = let rest : xs ++ (a ∷ us) ≡ ys ++ (b ∷ vs) = cc in first_once xs ys a b us vs rest (some_behind x.name (step_names xs) s) (some_behind y.name (step_names ys) t) n m
 
 one_first : (steps : List PlanStep) (a b : PlanStep) → IsFirstUnstripped steps a → IsFirstUnstripped steps b → a ≡ b
 one_first steps a b h k = first_once h.before k.before a b h.after k.after (sym h.is ∙ k.is) h.stripped_before k.stripped_before h.not_stripped k.not_stripped
 
-never_stripped : (steps : List PlanStep) (s : PlanStep) (actions : List GroundName) → IsFirstUnstripped steps s → strip (names steps) ≡ Some actions → ⊥
-never_stripped steps s actions h is = absurd (let none = ap (λ ss. strip (names ss)) h.is ∙ none_among h.before s h.after h.not_stripped in cc (none, is))
+never_stripped : (steps : List PlanStep) (s : PlanStep) (actions : List GroundName) → IsFirstUnstripped steps s → strip (step_names steps) ≡ Some actions → ⊥
+never_stripped steps s actions h is = absurd (let none = ap (λ ss. strip (step_names ss)) h.is ∙ none_among h.before s h.after h.not_stripped in cc (none, is))
 
 -- ---- one outcome
 
@@ -77,8 +77,8 @@ strips_once text o u (no_strip ss s a h n e) (no_strip ts t b k m f) =
 strips_once text o u (no_strip ss s a h n e) (strips ts as' b k m f) = absurd (never_stripped ts s as' (subst (λ z. IsFirstUnstripped z s) (plans_read_once text ss ts h k) n) m)
 strips_once text o u (strips ss as' a h n e) (too_long b f) = absurd (omega (arith, a, b))
 strips_once text o u (strips ss as' a h n e) (no_plan r b k f) = absurd (plans_never_both text ss r h k)
-strips_once text o u (strips ss as' a h n e) (no_strip ts t b k m f) = absurd (never_stripped ts t as' m (subst (λ z. strip (names z) ≡ Some as') (plans_read_once text ss ts h k) n))
+strips_once text o u (strips ss as' a h n e) (no_strip ts t b k m f) = absurd (never_stripped ts t as' m (subst (λ z. strip (step_names z) ≡ Some as') (plans_read_once text ss ts h k) n))
 strips_once text o u (strips ss as' a h n e) (strips ts bs b k m f) =
-    let there = subst (λ z. strip (names z) ≡ Some as') (plans_read_once text ss ts h k) n in
+    let there = subst (λ z. strip (step_names z) ≡ Some as') (plans_read_once text ss ts h k) n in
     let one : as' ≡ bs = cc (there, m) in
     e ∙ (ap (λ z. prints (plan_text z)) one ∙ sym f)

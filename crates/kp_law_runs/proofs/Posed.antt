@@ -9,11 +9,11 @@ use Rattle.kp_outside.specs.Outside.{FileMap}
 use Rattle.kp_words.specs.Names.{Source, of_mode}
 use Rattle.kp_run_prepare.specs.Texts.{HaveTrees}
 use Rattle.kp_run_prepare.proofs.Public.{texts_have_one_domain, texts_have_one_problem}
-use Rattle.kp_run_inputs.specs.Tables.{HasTable}
+use Rattle.kp_run_inputs.specs.SourceTables.{HasTable}
 use Rattle.kp_run_inputs.proofs.Public.{sources_have_one_table}
 use Rattle.kp_run.specs.Solved.{HasTask}
-use Rattle.kp_law_runs.specs.Solving.{PosedOnce, ClassicalPosedOnce}
-use Rattle.kp_law_runs.specs.Benching.{BenchPosedOnce}
+use Rattle.kp_law_runs.specs.Solve.{PosedOnce, ClassicalPosedOnce}
+use Rattle.kp_law_runs.specs.Bench.{BenchPosedOnce}
 
 -- ---- one pair of trees, and one table
 

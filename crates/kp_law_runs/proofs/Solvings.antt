@@ -11,12 +11,12 @@ use Rattle.kp_words.specs.Names.{Solve}
 use Rattle.kp_words.specs.declared.lent.CommandRef.TheVariants as commands
 use Rattle.kp_words.specs.Command.{IsSolve}
 use Rattle.kp_run_prepare.specs.Prepared.{later}
-use Rattle.kp_run_inputs.specs.Tables.{with_table}
+use Rattle.kp_run_inputs.specs.SourceTables.{with_table}
 use Rattle.kp_run_solve.specs.Solving.{SolvesGround}
 use Rattle.kp_run.specs.Outcomes.{solved, IsDue, of_command}
 use Rattle.kp_run.specs.Solved.{GoesOn, HasTask}
 use Rattle.kp_run.proofs.Public.{solve_is_true}
-use Rattle.kp_law_runs.specs.Solving.{SolvingsAreAnswered, SolvedIsAPlan, NoPlanIsTrue, SpentIsTrue}
+use Rattle.kp_law_runs.specs.Solve.{SolvingsAreAnswered, SolvedIsAPlan, NoPlanIsTrue, SpentIsTrue}
 use Rattle.kp_law_runs.proofs.Following.{ends_with}
 
 -- ---- what is due

@@ -28,7 +28,7 @@ use Rattle.kp_law_decidable.proofs.Public.{formulas_are_ascending, coverages_dec
 use Rattle.kp_run_outcome.specs.declared.outcome.Outcome.{Outcome}
 use Rattle.kp_base.specs.Files.{most_bytes}
 use Rattle.kp_plans.specs.declared.step.PlanStep.{PlanStep}
-use Rattle.kp_plans.specs.PlanFiles.{names}
+use Rattle.kp_plans.specs.PlanFiles.{step_names}
 use Rattle.kp_plans.specs.Printed.{plan_text}
 use Rattle.kp_plans.specs.Stripping.{IsFirstUnstripped}
 use Rattle.kp_plans.proofs.Public.{plans_always_one}
@@ -45,10 +45,10 @@ use Rattle.kp_run_inputs.proofs.Public.{found_numbers_are_actions, by_table_some
 use Rattle.kp_law_machine.proofs.Public.{lists_lift_or_fail, no_clash_under_exclusive_pairs as never_clashes}
 use Rattle.kp_run_messages.specs.Lifting.{unlifted_text}
 use Rattle.kp_run_solve.specs.Solving.{denies, SolvesGround, over as too_large}
-use Rattle.kp_run.specs.Outcomes.{shows_usage, translates, TranslatesGround, over, done, TranslatesTrees, ListsMerges, MergesTrees, prints, StripsText, too_long, no_plan, no_strip, strips, tells, TellsJudged, ChecksTrees, failing_step, LiftsActions, lifts, fails, LiftsPlan, no_task, with_task, LiftsTrees, SolvesTrees, tells_width, no_report, with_report, MeasuresTrees, ComesTo, translated, merged, checked, lifted, solved, measured, benched, usage, of_command}
+use Rattle.kp_run.specs.Outcomes.{shows_usage, translates, TranslatesGround, over, done, TranslatesTrees, MergesGround, MergesTrees, prints, StripsText, too_long, no_plan, no_strip, strips, tells, TellsJudged, ChecksTrees, failing_step, LiftsActions, lifts, fails, LiftsPlan, no_task, with_task, LiftsTrees, SolvesTrees, tells_width, no_report, with_report, WidthTrees, ComesTo, translated, merged, checked, lifted, solved, width_measured, benched, usage, of_command}
 use Rattle.kp_run.specs.Outcomes as outcomes
 use Rattle.kp_law_runs.specs.Laws.{CommandsHaveAnOutcome, HasSomeOutcome}
-use Rattle.kp_run_inputs.specs.Tables.{HasTable}
+use Rattle.kp_run_inputs.specs.SourceTables.{HasTable}
 use Rattle.kp_law_runs.proofs.SomeStart.{some_comes}
 use Rattle.kp_run_bench.specs.Bench.{texts_of, usual_implicates, BenchesGround, over as too_large_to_bench, BenchesTrees}
 use Rattle.kp_law_runs.proofs.SomeSearch.{some_search, some_bench, some_classical_comes}
@@ -87,7 +87,7 @@ module _ (limit : ℕ) (d : Domain Word) (p : Problem Word) (x y : List ℕ) (tr
   of_translate c merges many = by_table_some_outcome (ground_of d p) (initial_of d p) c.source merges (TranslatesGround c (ground_of d p) (initial_of d p)) proper many (λ t has. of_table c t)
 
   of_listed : (mode : Mode) → (o : Outcome) × MergesTrees mode d p o
-  of_listed mode = by_table_some_outcome (ground_of d p) (initial_of d p) (of_mode mode) [] (ListsMerges (ground_of d p)) proper refl (λ t has. (prints (merges_text (ground_of d p).atoms (merges_of t)), refl))
+  of_listed mode = by_table_some_outcome (ground_of d p) (initial_of d p) (of_mode mode) [] (MergesGround (ground_of d p)) proper refl (λ t has. (prints (merges_text (ground_of d p).atoms (merges_of t)), refl))
 
   -- ---- a check
 
@@ -132,7 +132,7 @@ module _ (limit : ℕ) (d : Domain Word) (p : Problem Word) (x y : List ℕ) (tr
 
   -- ---- a width
 
-  of_width : (c : Width) → (o : Outcome) × MeasuresTrees c d p o
+  of_width : (c : Width) → (o : Outcome) × WidthTrees c d p o
   of_width c = elim (widths_decided usual c.bound (ground_of d p) (initial_of d p) proper) [
     | inl r ↦ (tells_width (ground_of d p) c.bound r.0, with_report r.0 r.1 refl)
     | inr r ↦ (refuses (named_in (ground_of d p)) r.0, no_report r.0 r.1 refl)
@@ -155,24 +155,24 @@ module _ (limit : ℕ) (d : Domain Word) (p : Problem Word) (x y : List ℕ) (tr
 -- ---- a plan file
 
 -- steps have a strip, or a first one is no operator's
-strips_or_first : (steps : List PlanStep) → ((actions : List GroundName) × (strip (names steps) ≡ Some actions)) ⊎ ((step : PlanStep) × IsFirstUnstripped steps step)
+strips_or_first : (steps : List PlanStep) → ((actions : List GroundName) × (strip (step_names steps) ≡ Some actions)) ⊎ ((step : PlanStep) × IsFirstUnstripped steps step)
 strips_or_first [] = inl ([], refl)
 strips_or_first (s ∷ ss) = go (stripped s.name.head s.name.objects) refl (strips_or_first ss)
   where
     joined : (front rest : List GroundName) (ns : List GroundName) → stripped s.name.head s.name.objects ≡ Some front → strip ns ≡ Some rest → strip (s.name ∷ ns) ≡ Some (front ++ rest)
     joined front rest ns e f = ap (option_and_then (λ front. option_map (λ rest. front ++ rest) (strip ns))) e ∙ ap (option_map (λ rest. front ++ rest)) f
 
-    some_joined : (front : List GroundName) (before : List PlanStep) → stripped s.name.head s.name.objects ≡ Some front → IsSome (strip (names before)) → IsSome (strip (names (s ∷ before)))
-    some_joined front before e some = by (strip (names before)) refl some
+    some_joined : (front : List GroundName) (before : List PlanStep) → stripped s.name.head s.name.objects ≡ Some front → IsSome (strip (step_names before)) → IsSome (strip (step_names (s ∷ before)))
+    some_joined front before e some = by (strip (step_names before)) refl some
       where
-        by : (o : Option (List GroundName)) → strip (names before) ≡ o → IsSome o → IsSome (strip (names (s ∷ before)))
-        by (Some rest) f t = subst IsSome (sym (joined front rest (names before) e f)) refl
+        by : (o : Option (List GroundName)) → strip (step_names before) ≡ o → IsSome o → IsSome (strip (step_names (s ∷ before)))
+        by (Some rest) f t = subst IsSome (sym (joined front rest (step_names before) e f)) refl
         by None f t = absurd (false≢true t)
 
-    go : (o : Option (List GroundName)) → stripped s.name.head s.name.objects ≡ o → ((actions : List GroundName) × (strip (names ss) ≡ Some actions)) ⊎ ((step : PlanStep) × IsFirstUnstripped ss step)
-        → ((actions : List GroundName) × (strip (names (s ∷ ss)) ≡ Some actions)) ⊎ ((step : PlanStep) × IsFirstUnstripped (s ∷ ss) step)
+    go : (o : Option (List GroundName)) → stripped s.name.head s.name.objects ≡ o → ((actions : List GroundName) × (strip (step_names ss) ≡ Some actions)) ⊎ ((step : PlanStep) × IsFirstUnstripped ss step)
+        → ((actions : List GroundName) × (strip (step_names (s ∷ ss)) ≡ Some actions)) ⊎ ((step : PlanStep) × IsFirstUnstripped (s ∷ ss) step)
     go None e rest = inr (s, record { before = []; after = ss; is = refl; stripped_before = refl; not_stripped = e })
-    go (Some front) e (inl rest) = inl (front ++ rest.0, joined front rest.0 (names ss) e rest.1)
+    go (Some front) e (inl rest) = inl (front ++ rest.0, joined front rest.0 (step_names ss) e rest.1)
     go (Some front) e (inr first) = inr (
       first.0,
       record {
@@ -240,13 +240,13 @@ some_outcome (commands.Solve c) (x ∷ y ∷ merges) many =
     (t.0, solved c x y merges t.0 t.1)
 some_outcome (commands.Solve c) [] many = absurd (omega (arith, many))
 some_outcome (commands.Solve c) (x ∷ []) many = absurd (omega (arith, many))
-some_outcome (commands.Classical c) (x ∷ y ∷ []) many = let t = some_classical_comes c.budget x y in (t.0, outcomes.searched c x y t.0 t.1)
+some_outcome (commands.Classical c) (x ∷ y ∷ []) many = let t = some_classical_comes c.budget x y in (t.0, outcomes.solved_classical c x y t.0 t.1)
 some_outcome (commands.Classical c) [] many = absurd (omega (arith, many))
 some_outcome (commands.Classical c) (x ∷ []) many = absurd (omega (arith, many))
 some_outcome (commands.Classical c) (x ∷ y ∷ z ∷ zs) many = absurd (omega (arith, many))
 some_outcome (commands.Width c) (x ∷ y ∷ []) many =
-    let t = some_comes c.implicates x y (MeasuresTrees c) (λ d p trees ready. of_width c.implicates d p x y trees ready c) in
-    (t.0, measured c x y t.0 t.1)
+    let t = some_comes c.implicates x y (WidthTrees c) (λ d p trees ready. of_width c.implicates d p x y trees ready c) in
+    (t.0, width_measured c x y t.0 t.1)
 some_outcome (commands.Width c) [] many = absurd (omega (arith, many))
 some_outcome (commands.Width c) (x ∷ []) many = absurd (omega (arith, many))
 some_outcome (commands.Width c) (x ∷ y ∷ z ∷ zs) many = absurd (omega (arith, many))

@@ -25,7 +25,7 @@ use Rattle.kp_run_messages.specs.Searches.{no_plan_line, no_plan_text}
 use Rattle.kp_run_outcome.specs.declared.outcome.Outcome.{Outcome}
 use Rattle.kp_run_prepare.specs.Refusing.{refuses}
 use Rattle.kp_run_prepare.specs.Prepared.{usual}
-use Rattle.kp_run_classical.specs.Classical.{classical, IsCertain, IsSmall, IsClassical, RefusesClassical, not_classical, too_large, no_initial_state, by_texts, by_trees, ComesClassical, early, later, task_of as classical_task}
+use Rattle.kp_run_classical.specs.Classical.{classical, IsCertain, IsSmall, IsClassicalProblem, RefusesClassical, not_classical, too_large, no_initial_state, by_texts, by_trees, ComesClassical, early, later, task_of as classical_task}
 use Rattle.kp_run_classical.proofs.Public.{classical_successes_have_names as actions_named}
 use Rattle.kp_run_solve.specs.Solving.{Finds, solves, denies, spends, SolvesGround, searched, SolvesClassical}
 use Rattle.kp_search.proofs.Public.{has_some_end_by_added}
@@ -71,19 +71,19 @@ some_bench c g i table proper fits fit safe = let end = has_some_end_by_added (t
 -- ---- two classical trees
 
 module _ (y : List ℕ) (d : Domain Word) (p : Problem Word) where
-  of_small : HasNoFault d p → IsCertain p → IsSmall d p → ((r : Refused) × RefusesClassical y d p r) ⊎ IsClassical d p
+  of_small : HasNoFault d p → IsCertain p → IsSmall d p → ((r : Refused) × RefusesClassical y d p r) ⊎ IsClassicalProblem d p
   of_small no_fault certain small = elim (model_or_none (length (ground_of d p).atoms) (initial_of d p) (formulas_speak_of_ground_atoms d p)) [
     | inl model ↦ inr (record { certain = certain; small = small; initial = (initial_states_are_models d p no_fault).1 model })
     | inr none ↦ inl (refusals.NoInitialState, no_initial_state certain small (λ has. none ((initial_states_are_models d p no_fault).0 has)))
   ]
 
-  classical_decided : HasNoFault d p → ((r : Refused) × RefusesClassical y d p r) ⊎ IsClassical d p
+  classical_decided : HasNoFault d p → ((r : Refused) × RefusesClassical y d p r) ⊎ IsClassicalProblem d p
   classical_decided no_fault = by (first_unsure p.init) refl
     where
-      by : (w : Option Word) → first_unsure p.init ≡ w → ((r : Refused) × RefusesClassical y d p r) ⊎ IsClassical d p
+      by : (w : Option Word) → first_unsure p.init ≡ w → ((r : Refused) × RefusesClassical y d p r) ⊎ IsClassicalProblem d p
       by (Some w) e = placed (place_in y (Some w)) refl
         where
-          placed : (at : Option Place) → place_in y (Some w) ≡ at → ((r : Refused) × RefusesClassical y d p r) ⊎ IsClassical d p
+          placed : (at : Option Place) → place_in y (Some w) ≡ at → ((r : Refused) × RefusesClassical y d p r) ⊎ IsClassicalProblem d p
           placed None f = absurd cc
           placed (Some at) f = inl (refusals.NotClassical at, not_classical at (ap (place_in y) e ∙ f))
       by None e = elim (sizes_decided (numbered_problem d p) classical) [
@@ -92,7 +92,7 @@ module _ (y : List ℕ) (d : Domain Word) (p : Problem Word) where
       ]
 
 -- the search of their task comes to something that is told
-some_classical : (budget : ℕ) (d : Domain Word) (p : Problem Word) → IsClassical d p → (o : Outcome) × SolvesClassical budget (ground_of d p) (classical_task d p) o
+some_classical : (budget : ℕ) (d : Domain Word) (p : Problem Word) → IsClassicalProblem d p → (o : Outcome) × SolvesClassical budget (ground_of d p) (classical_task d p) o
 some_classical budget d p c = let end = has_some_end_by_added (classical_task d p) budget (classical_task_fits d p c) in by end.0 end.1
   where
     by : (found : Found) → Finds (classical_task d p) budget found → (o : Outcome) × SolvesClassical budget (ground_of d p) (classical_task d p) o

@@ -14,7 +14,7 @@ use Rattle.kp_names_meaning.specs.Steps.{Step}
 use Rattle.kp_names_meaning.specs.Plans.{IsPlan}
 use Rattle.kp_names_meaning.specs.Strip.{strip}
 use Rattle.kp_plans.specs.declared.step.PlanStep.{PlanStep}
-use Rattle.kp_plans.specs.PlanFiles.{names, IsPlanOf}
+use Rattle.kp_plans.specs.PlanFiles.{step_names, IsPlanOf}
 use Rattle.kp_plans.specs.Printed.{plan_text}
 use Rattle.kp_law_ktask.specs.Task.{task_of}
 use Rattle.kp_ktask.specs.Translated.{FitsLimits}
@@ -35,7 +35,7 @@ use Rattle.kp_words.specs.Command.{IsTranslate, IsMerges, IsStrip, IsCheck, IsLi
 use Rattle.kp_run_prepare.specs.Texts.{HaveTrees}
 use Rattle.kp_run_prepare.specs.Refusing.{refuses, named_in}
 use Rattle.kp_run_prepare.specs.Prepared.{usual, IsStarted}
-use Rattle.kp_run_inputs.specs.Tables.{HasTable}
+use Rattle.kp_run_inputs.specs.SourceTables.{HasTable}
 use Rattle.kp_run_inputs.specs.Actions.{HasActions}
 use Rattle.kp_run.specs.Outcomes.{translates, prints, tells, LiftsActions}
 use Rattle.kp_run.specs.Solved.{GoesOn, Tells}
@@ -92,7 +92,7 @@ ChecksAreAnswered = OfRuns (λ words old new s. (m : FileMap) (c : Check) (d : D
 abbrev pub ChecksAreTrue : Type 0
 ChecksAreTrue = OfRuns (λ words old new s. (m : FileMap) (c : Check) (d : Domain Word) (p : Problem Word) (steps : List PlanStep) (j : Judged)
     → old.held ≡ Some m → IsCheck words c → (g : GoesOn m c.domain c.problem c.implicates d p) → HasVerdict m c.plan d p steps j → IsAnswer s
-    → (s ≡ status.Done) ↔ IsPlan g.domain g.problem (names steps))
+    → (s ≡ status.Done) ↔ IsPlan g.domain g.problem (step_names steps))
 
 -- under a name a plan file is held for such trees, whose steps name these actions; and the table of a source has a task within the limits
 pub record HasLift (m : FileMap) (source : Source) (plan : List ℕ) (d : Domain Word) (p : Problem Word) (table : TagTable) (numbers : List ℕ) : Type 0 where
@@ -119,10 +119,10 @@ StripsTo d p table plan = (written : List Step) × IsPlan (translation_of d p ta
 abbrev pub LiftsAreTrue : Type 0
 LiftsAreTrue = OfRuns (λ words old new s. (m : FileMap) (c : Lift) (d : Domain Word) (p : Problem Word) (table : TagTable) (numbers : List ℕ)
     → old.held ≡ Some m → IsLift words c → GoesOn m c.domain c.problem c.implicates d p → (h : HasLift m c.source c.plan d p table numbers) → IsAnswer s
-    → (s ≡ status.Done) ↔ StripsTo d p table (names h.steps))
+    → (s ≡ status.Done) ↔ StripsTo d p table (step_names h.steps))
 
 -- a held plan file that isn't too long, reads and strips: the run ends with what its steps come to
 abbrev pub StripsAreAnswered : Type 0
 StripsAreAnswered = OfRuns (λ words old new s. (m : FileMap) (c : Strip) (text : List ℕ) (steps : List PlanStep) (actions : List GroundName)
-    → old.held ≡ Some m → IsStrip words c → get m c.plan ≡ Some text → length text ≤ most_bytes → IsPlanOf text steps → strip (names steps) ≡ Some actions
+    → old.held ≡ Some m → IsStrip words c → get m c.plan ≡ Some text → length text ≤ most_bytes → IsPlanOf text steps → strip (step_names steps) ≡ Some actions
     → EndsWith (prints (plan_text actions)) old new s)

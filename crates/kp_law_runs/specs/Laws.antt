@@ -4,7 +4,7 @@ use Rattle.std.specs.declared.alloc.Global.{Global}
 use Rattle.kp_names_meaning.specs.Initial.{HasInitialState}
 use Rattle.kp_names_meaning.specs.Plans.{HasProblem, IsPlan}
 use Rattle.kp_plans.specs.declared.step.PlanStep.{PlanStep}
-use Rattle.kp_plans.specs.PlanFiles.{names}
+use Rattle.kp_plans.specs.PlanFiles.{step_names}
 use Rattle.kp_plans.specs.Found.{action_of, IsFirstUnknown}
 use Rattle.kp_check.specs.declared.answer.Judged.{Judged}
 use Rattle.kp_check.specs.declared.answer.Judged.TheVariants.{Yes}
@@ -34,9 +34,9 @@ abbrev pub YesIsAPlan : Type 0
 YesIsAPlan = (domain problem : List ℕ) (x : HasProblem domain problem) → HasInitialState x.problem → (steps : List PlanStep) (numbers : List ℕ) (j : Judged)
     → map (action_of (ground_of x.domain x.problem).actions) steps ≡ map Some numbers
     → AnswersJudged (length (ground_of x.domain x.problem).atoms) (ground_of x.domain x.problem) (initial_of x.domain x.problem) numbers j
-    → (j ≡ Yes) ↔ IsPlan domain problem (names steps)
+    → (j ≡ Yes) ↔ IsPlan domain problem (step_names steps)
 
 -- and steps of which one names no action aren't a plan
 abbrev pub UnknownStepsAreNoPlan : Type 0
 UnknownStepsAreNoPlan = (domain problem : List ℕ) (x : HasProblem domain problem) → HasInitialState x.problem → (steps : List PlanStep) (number : ℕ)
-    → IsFirstUnknown (action_of (ground_of x.domain x.problem).actions) steps number → IsPlan domain problem (names steps) → ⊥
+    → IsFirstUnknown (action_of (ground_of x.domain x.problem).actions) steps number → IsPlan domain problem (step_names steps) → ⊥

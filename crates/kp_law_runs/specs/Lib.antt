@@ -1,6 +1,6 @@
 pub mod Laws
 pub mod Follows
 pub mod Commands
-pub mod Solving
-pub mod Measuring
-pub mod Benching
+pub mod Solve
+pub mod Width
+pub mod Bench

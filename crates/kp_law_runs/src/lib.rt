@@ -1,16 +1,16 @@
 //! Laws of outcomes and runs: words have just one outcome on what is held (`specs/Laws.antt`), what
 //! follows from how a run ends (`specs/Follows.antt`), and with what a run of each command ends
-//! (`specs/Commands.antt`, `specs/Solving.antt`, `specs/Measuring.antt`, `specs/Benching.antt`).
+//! (`specs/Commands.antt`, `specs/Solve.antt`, `specs/Width.antt`, `specs/Bench.antt`).
 #![tactic(auto)]
 
-mod benching;
+mod bench;
 mod commands;
 mod follows;
 mod laws;
-mod measuring;
-mod solving;
+mod solve;
+mod width;
 
-pub use benching::{bench_posed_once, benches_are_answered, benches_are_true};
+pub use bench::{bench_posed_once, benches_are_answered, benches_are_true};
 pub use commands::{
     checks_are_answered, checks_are_true, clashes_are_answered, complete_is_true,
     lifts_are_answered, lifts_are_true, merges_are_listed, strips_are_answered,
@@ -26,9 +26,9 @@ pub use laws::{
     commands_have_an_outcome, unknown_steps_are_no_plan, words_have_one_outcome,
     words_have_some_outcome, yes_is_a_plan,
 };
-pub use measuring::{widths_are_answered, widths_are_true};
-pub use solving::{
+pub use solve::{
     classical_is_a_plan, classical_posed_once, classical_spent_is_true, classicals_are_answered,
     no_classical_plan_is_true, no_plan_is_true, posed_once, solved_is_a_plan,
     solvings_are_answered, spent_is_true,
 };
+pub use width::{widths_are_answered, widths_are_true};

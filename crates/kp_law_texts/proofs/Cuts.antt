@@ -6,7 +6,7 @@ use Rattle.kp_lex.specs.declared.token.TokenKind.{TokenKind}
 use Rattle.kp_lex.specs.declared.token.TokenKind.TheVariants as kinds
 use Rattle.kp_lex.specs.declared.token.Token.{Token}
 use Rattle.kp_lex.specs.Bytes.{class_of, follows}
-use Rattle.kp_lex.specs.Cutting.{IsToken, left as a_left, right as a_right, dash, equal, name as a_name, variable as a_variable, keyword as a_keyword, AllAre, IsLongest, Ends, spanned, Cut, at_end, past_blank, a_token}
+use Rattle.kp_lex.specs.Cutting.{IsToken, left as a_left, right as a_right, dash, equal, name as a_name, variable as a_variable, keyword as a_keyword, AllAre, IsLongest, EndsRunOf, spanned, Cut, at_end, past_blank, a_token}
 use Rattle.kp_lex.proofs.Public.{token_is_longest, token_is_front}
 use Rattle.kp_tree_grammar.specs.Symbols.{symbol_of, seen_in, all_seen_in}
 use Rattle.kp_tree_grammar.specs.Words.{IsLow}
@@ -16,13 +16,13 @@ use Rattle.kp_law_texts.specs.Tokens.{spans, words, bare, Fine, done, lefts, rig
 -- ---- the cutting
 
 -- a run that ends where the rest begins is the longest
-runs_on : (bs cs rest others : List ℕ) → AllAre follows cs → Ends follows rest → bs ++ rest ≡ cs ++ others → length cs ≤ length bs
+runs_on : (bs cs rest others : List ℕ) → AllAre follows cs → EndsRunOf follows rest → bs ++ rest ≡ cs ++ others → length cs ≤ length bs
 runs_on bs [] rest others all h e = omega arith
-runs_on [] (c ∷ cs) rest others all h e = absurd (false≢true (sym (subst (Ends follows) e h) ∙ all.0))
+runs_on [] (c ∷ cs) rest others all h e = absurd (false≢true (sym (subst (EndsRunOf follows) e h) ∙ all.0))
 runs_on (b ∷ bs) (c ∷ cs) rest others all h e = omega (arith, runs_on bs cs rest others all.1 h cc)
 
 -- no token of its kind is longer than one whose next byte doesn't go on with it
-none_longer : {k : TokenKind} {w v : List ℕ} (rest others : List ℕ) → IsToken k w → IsToken k v → Ends follows rest → w ++ rest ≡ v ++ others → length v ≤ length w
+none_longer : {k : TokenKind} {w v : List ℕ} (rest others : List ℕ) → IsToken k w → IsToken k v → EndsRunOf follows rest → w ++ rest ≡ v ++ others → length v ≤ length w
 none_longer rest others (a_left e) (a_left k) h same = omega arith
 none_longer rest others (a_right e) (a_right k) h same = omega arith
 none_longer rest others (dash e) (dash k) h same = omega arith
@@ -32,7 +32,7 @@ none_longer rest others (a_variable {bs = bs} s e all) (a_variable {bs = cs} t k
 none_longer rest others (a_keyword {bs = bs} s e all) (a_keyword {bs = cs} t k every) h same = omega (arith, runs_on bs cs rest others every h cc)
 
 -- a token whose next byte doesn't go on with it is the longest that stands there
-ends_there : {k : TokenKind} (w rest : List ℕ) → IsToken k w → Ends follows rest → IsLongest w (w ++ rest)
+ends_there : {k : TokenKind} (w rest : List ℕ) → IsToken k w → EndsRunOf follows rest → IsLongest w (w ++ rest)
 ends_there w rest t h =
     let r = token_is_front rest t in
     token_is_longest w (w ++ rest) r.piece (omega (arith, r.within, r.len, none_longer rest r.others t r.token h r.is))

@@ -5,7 +5,7 @@ use Rattle.std.specs.List.{AllByRecursion}
 use Rattle.kp_lex.specs.declared.token.TokenKind.{TokenKind}
 use Rattle.kp_lex.specs.declared.token.TokenKind.TheVariants as kinds
 use Rattle.kp_lex.specs.Bytes.{is_alphanumeric, class_of, follows}
-use Rattle.kp_lex.specs.Cutting.{AllAre, IsToken, name as a_name, keyword as a_keyword, Ends}
+use Rattle.kp_lex.specs.Cutting.{AllAre, IsToken, name as a_name, keyword as a_keyword, EndsRunOf}
 use Rattle.kp_tree_grammar.specs.Words.{IsLow}
 use Rattle.kp_law_texts.specs.Pieces.{Piece, word, spelling, Put, each}
 use Rattle.kp_law_texts.specs.Tokens.{Fine, says}
@@ -43,10 +43,10 @@ keyed (q ∷ b ∷ bs) e =
 -- ---- pieces in front of fine ones
 
 -- a word that is written out
-pub said : {w : List ℕ} {ps : List Piece} → is_spelled kinds.Name w ≡ true → IsLow w → Ends follows (spelling ps) → Fine ps → Fine (word kinds.Name w ∷ ps)
+pub said : {w : List ℕ} {ps : List Piece} → is_spelled kinds.Name w ≡ true → IsLow w → EndsRunOf follows (spelling ps) → Fine ps → Fine (word kinds.Name w ∷ ps)
 said {w} e low h f = says (named w e) low h f
 
-pub told : {w : List ℕ} {ps : List Piece} → is_spelled kinds.Keyword w ≡ true → IsLow w → Ends follows (spelling ps) → Fine ps → Fine (word kinds.Keyword w ∷ ps)
+pub told : {w : List ℕ} {ps : List Piece} → is_spelled kinds.Keyword w ≡ true → IsLow w → EndsRunOf follows (spelling ps) → Fine ps → Fine (word kinds.Keyword w ∷ ps)
 told {w} e low h f = says (keyed w e) low h f
 
 -- what is put in front of fine pieces leaves them fine

@@ -4,7 +4,7 @@ use Rattle.kp_lex.specs.declared.token.TokenKind.{TokenKind}
 use Rattle.kp_lex.specs.declared.token.TokenKind.TheVariants as kinds
 use Rattle.kp_lex.specs.declared.token.Token.{Token}
 use Rattle.kp_lex.specs.Bytes.{class_of, follows, is_blank}
-use Rattle.kp_lex.specs.Cutting.{IsToken, Ends, spanned, Cut}
+use Rattle.kp_lex.specs.Cutting.{IsToken, EndsRunOf, spanned, Cut}
 use Rattle.kp_tree_grammar.specs.declared.symbol.Symbol.TheVariants as symbols
 use Rattle.kp_tree_grammar.specs.declared.tree.Word.{Word}
 use Rattle.kp_tree_grammar.specs.Symbols.{Tok, symbol_of, all_seen_in}
@@ -33,7 +33,7 @@ pub data Fine : List Piece → Type 0 where
   lefts : {ps : List Piece} → Fine ps → Fine (left ∷ ps)
   rights : {ps : List Piece} → Fine ps → Fine (right ∷ ps)
   blanks : {b : ℕ} {ps : List Piece} → is_blank (class_of b) ≡ true → Fine ps → Fine (blank b ∷ ps)
-  says : {k : TokenKind} {w : List ℕ} {ps : List Piece} → IsToken k w → IsLow w → Ends follows (spelling ps) → Fine ps → Fine (word k w ∷ ps)
+  says : {k : TokenKind} {w : List ℕ} {ps : List Piece} → IsToken k w → IsLow w → EndsRunOf follows (spelling ps) → Fine ps → Fine (word k w ∷ ps)
 
 -- a word of a text, without its place
 abbrev pub text_of : Word → List ℕ

@@ -8,7 +8,7 @@ use Rattle.kp_lex.specs.declared.token.TokenKind.TheVariants as kinds
 use Rattle.kp_lex.specs.declared.token.Token.{Token}
 use Rattle.kp_lex.specs.declared.cutting.Beginning.{Beginning}
 use Rattle.kp_lex.specs.Bytes.{in_line}
-use Rattle.kp_lex.specs.Cutting.{IsLongest, Ends, spanned, Cut, at_end, past_blank, past_comment, a_token}
+use Rattle.kp_lex.specs.Cutting.{IsLongest, EndsRunOf, spanned, Cut, at_end, past_blank, past_comment, a_token}
 use Rattle.kp_lex.specs.Levels.{behind, levels_left, up_to, reach, BeginsCutting}
 use Rattle.kp_lex.specs.Answers.{IsRightWithin}
 use Rattle.kp_lex.specs.Scanning.{with, cut, Fails, behind_all, Begins}
@@ -98,7 +98,7 @@ enough d (t ∷ ts) le = ap (λ (us : List Token). t ∷ us) (enough_by d t ts (
 shorter : (w u v : List ℕ) → IsLongest w (w ++ (u ++ v)) → IsLongest w (w ++ u)
 shorter w u v long k x rest t is = long k x (rest ++ v) t (sym (append_assoc w u v) ∙ ap (λ (l : List ℕ). l ++ v) is ∙ append_assoc x rest v)
 
-ends_front : (u v : List ℕ) → Ends in_line (u ++ v) → Ends in_line u
+ends_front : (u v : List ℕ) → EndsRunOf in_line (u ++ v) → EndsRunOf in_line u
 ends_front [] v h = tt
 ends_front (b ∷ u) v h = h
 
@@ -131,7 +131,7 @@ split d (past_comment {at = at} {s = s} w rest {ts = ts} e a l h) =
       back = r.back;
       is = ap (λ (l : List ℕ). s ∷ l) (ap (λ (l : List ℕ). w ++ l) r.is ∙ sym (append_assoc w r.front r.back));
       len = more ∙ r.len ∙ ap (reach d ts) end;
-      begun = past_comment w r.front e a (ends_front r.front r.back (subst (λ (b : List ℕ). Ends in_line b) r.is l)) r.begun;
+      begun = past_comment w r.front e a (ends_front r.front r.back (subst (λ (b : List ℕ). EndsRunOf in_line b) r.is l)) r.begun;
     }
 split d (a_token {at = at} {k = k} {w = w} {rest = rest} {ts = ts} t long h) = go (λ n. split n h) (behind d k) refl where
   go : ((n : ℕ) → Split n (at + length w) rest ts) → (o : Option ℕ) → behind d k ≡ o → Split d at (w ++ rest) (spanned k at (length w) ∷ ts)

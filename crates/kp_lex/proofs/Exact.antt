@@ -11,7 +11,7 @@ use Rattle.kp_lex.specs.declared.piece.Piece.{Piece}
 use Rattle.kp_lex.specs.declared.piece.Piece.TheVariants as pieces
 use Rattle.kp_lex.specs.Bytes.{class_of, follows, in_line, is_blank, is_semicolon}
 use Rattle.kp_lex.specs.Pieces.{signed, piece_of}
-use Rattle.kp_lex.specs.Cutting.{AllAre, IsToken, left, right, dash, equal, name, variable, keyword, IsLongest, BeginsNone, Ends, EndsLine, spanned, Cut, at_end, past_blank, past_comment, a_token, BadAt, bad_here, bad_past_blank, bad_past_comment, bad_past_token}
+use Rattle.kp_lex.specs.Cutting.{AllAre, IsToken, left, right, dash, equal, name, variable, keyword, IsLongest, BeginsNone, EndsRunOf, EndsLine, spanned, Cut, at_end, past_blank, past_comment, a_token, BadAt, bad_here, bad_past_blank, bad_past_comment, bad_past_token}
 use Rattle.kp_lex.specs.Scanning.{with, after, cut_from, cut}
 use Rattle.kp_lex.proofs.Scan.{cut_step}
 
@@ -24,7 +24,7 @@ pub record Runs (p : ℕ → Bool) (bs : List ℕ) (n : ℕ) : Type 0 where
   pub len : length front ≡ n
   pub each : AllAre p front
   pub past : drop n bs ≡ rest
-  pub ends : Ends p rest
+  pub ends : EndsRunOf p rest
 
 run_if : (p : ℕ → Bool) (b : ℕ) (bs : List ℕ) (c : Bool) → p b ≡ c → Runs p bs (prefix_len p bs) → Runs p (b ∷ bs) (cond c (1 + prefix_len p bs) 0)
 run_if p b bs true e r = record {
@@ -213,7 +213,7 @@ comment_piece : (c : Class) (s : ℕ) (bs : List ℕ) → class_of s ≡ c → i
 comment_piece classes.Semicolon s bs e h = rw e refl
 comment_piece _ s bs e h = absurd cc
 
-pub run_is : (p : ℕ → Bool) (w rest : List ℕ) → AllAre p w → Ends p rest → prefix_len p (w ++ rest) ≡ length w
+pub run_is : (p : ℕ → Bool) (w rest : List ℕ) → AllAre p w → EndsRunOf p rest → prefix_len p (w ++ rest) ≡ length w
 run_is p [] [] h e = refl
 run_is p [] (b ∷ rest) h e = rw e refl
 run_is p (b ∷ w) rest h e = rw h.0 (omega (arith, run_is p w rest h.1 e))

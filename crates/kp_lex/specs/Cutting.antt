@@ -30,13 +30,13 @@ abbrev pub BeginsNone : List ℕ → Type 0
 BeginsNone text = (k : TokenKind) (v rest : List ℕ) → IsToken k v → text ≡ v ++ rest → ⊥
 
 -- the text is at its end, or its first byte fails the test
-abbrev pub Ends : (ℕ → Bool) → List ℕ → Type 0
-Ends p [] = Unit {0}
-Ends p (b ∷ bs) = p b ≡ false
+abbrev pub EndsRunOf : (ℕ → Bool) → List ℕ → Type 0
+EndsRunOf p [] = Unit {0}
+EndsRunOf p (b ∷ bs) = p b ≡ false
 
 -- a line feed or the text's end comes next, so a comment up to there is the longest
 abbrev pub EndsLine : List ℕ → Type 0
-EndsLine bs = Ends in_line bs
+EndsLine bs = EndsRunOf in_line bs
 
 -- the token of n bytes from a byte on
 abbrev pub spanned : TokenKind → ℕ → ℕ → Token

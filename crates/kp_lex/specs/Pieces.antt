@@ -39,13 +39,13 @@ piece_of [] = Bad
 piece_of (b ∷ bs) = piece_class (class_of b) bs
 
 -- it takes a byte at least, and no more than there are
-abbrev pub IsWithin : Piece → List ℕ → Type 0
-IsWithin (Skip n) bs = (0 < n) × (n ≤ length bs)
-IsWithin (Token k n) bs = (0 < n) × (n ≤ length bs)
-IsWithin Bad bs = Unit {0}
+abbrev pub FitsIn : Piece → List ℕ → Type 0
+FitsIn (Skip n) bs = (0 < n) × (n ≤ length bs)
+FitsIn (Token k n) bs = (0 < n) × (n ≤ length bs)
+FitsIn Bad bs = Unit {0}
 
 -- the same, with the sign counted
-abbrev pub IsWithinSigned : Piece → List ℕ → Type 0
-IsWithinSigned (Skip n) bs = ⊥
-IsWithinSigned (Token k n) bs = (0 < n) × (n ≤ length bs + 1)
-IsWithinSigned Bad bs = Unit {0}
+abbrev pub FitsInSigned : Piece → List ℕ → Type 0
+FitsInSigned (Skip n) bs = ⊥
+FitsInSigned (Token k n) bs = (0 < n) × (n ≤ length bs + 1)
+FitsInSigned Bad bs = Unit {0}

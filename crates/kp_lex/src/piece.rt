@@ -1,7 +1,7 @@
 ghost use Rattle.std.specs.Prelude.{◌≡◌, ◌<◌, ◌≤◌, length};
 ghost use Rattle.std.specs.List.{prefix_len};
 ghost use Rattle.kp_lex.specs.Bytes.{follows, in_line};
-ghost use Rattle.kp_lex.specs.Pieces.{piece_of, signed, IsWithin, IsWithinSigned};
+ghost use Rattle.kp_lex.specs.Pieces.{piece_of, signed, FitsIn, FitsInSigned};
 
 use crate::TokenKind;
 use crate::class::{Class, classify};
@@ -42,7 +42,7 @@ fn line(bytes: &[u8]) -> usize
 // A name behind a sign.
 fn signed(kind: TokenKind, rest: &[u8]) -> Piece
     ensures value { result ≡ signed kind rest.now }
-    ensures within { IsWithinSigned result rest.now }
+    ensures within { FitsInSigned result rest.now }
 {
     let Some((first, after)) = rest.split_first() else {
         return Piece::Bad;
@@ -56,7 +56,7 @@ fn signed(kind: TokenKind, rest: &[u8]) -> Piece
 
 pub(crate) fn front(bytes: &[u8]) -> Piece
     ensures value { result ≡ piece_of bytes.now }
-    ensures within { IsWithin result bytes.now }
+    ensures within { FitsIn result bytes.now }
 {
     let Some((first, rest)) = bytes.split_first() else {
         return Piece::Bad;

@@ -10,14 +10,14 @@ use Rattle.kp_base.specs.declared.ground.TagTable.{TagTable}
 use Rattle.kp_base.specs.Steps.{pre_of, IsLeastMissing}
 use Rattle.kp_base.specs.Machine.{MachineStep, Known, start, may_act}
 use Rattle.kp_lift_known.specs.Known.{Table, Says}
-use Rattle.kp_law_machine.specs.Lifts.{after_merges, merges_taken, lifted_from, UnliftedAt}
+use Rattle.kp_law_machine.specs.Lifts.{after_merges, merges_taken, lift_from, UnliftedAt}
 use Rattle.kp_law_machine.proofs.Public.{failing_lists_dont_lift, lifted_is_accepted_where_it_lifts}
 use Rattle.kp_law_machine.proofs.Public as complete
 use Rattle.kp_law_ktask.specs.Laws.{op_number}
 use Rattle.kp_lift.specs.declared.lifting.Lifting.TheVariants.{Lifted, Unlifted}
 use Rattle.kp_lift.specs.declared.running.At.{At}
 use Rattle.kp_lift.specs.Lifting.{AnswersLifting}
-use Rattle.kp_lift.specs.Running.{known_after, lifts_from, ready_from, FailsFrom, EndsFrom, StepTaken, StepEnds, GoalEnds, Ends}
+use Rattle.kp_lift.specs.Running.{known_after, lifts_from, ready_from, FailsFrom, EndsFrom, StepTaken, StepEnds, GoalEnds, ActionsEnd}
 
 -- ---- one step, from some knowledge on
 
@@ -40,14 +40,14 @@ module _ (g : Ground) (table : TagTable) (k : Known) (n : ℕ) (ns : List ℕ) w
   at_once l unknown = record { in_range = omega arith; before = λ i lt. absurd (omega (arith, lt)); unknown = unknown }
 
   -- the operators of the merges, of the action, and of what comes behind
-  operators_more : (ops so_far : List ℕ) → so_far ≡ (ops ++ map (op_number g) (merges_taken 0 table.merges k)) ++ n ∷ [] → so_far ++ map (op_number g) (lifted_from g table (known_after g table k n) ns) ≡ ops ++ map (op_number g) (lifted_from g table k (n ∷ ns))
+  operators_more : (ops so_far : List ℕ) → so_far ≡ (ops ++ map (op_number g) (merges_taken 0 table.merges k)) ++ n ∷ [] → so_far ++ map (op_number g) (lift_from g table (known_after g table k n) ns) ≡ ops ++ map (op_number g) (lift_from g table k (n ∷ ns))
   operators_more ops so_far is =
       let merges = map (op_number g) (merges_taken 0 table.merges k) in
-      let rest = map (op_number g) (lifted_from g table (known_after g table k n) ns) in
+      let rest = map (op_number g) (lift_from g table (known_after g table k n) ns) in
       ap (λ os. os ++ rest) is
       ∙ (append_assoc (ops ++ merges) (n ∷ []) rest
       ∙ (append_assoc ops merges (n ∷ rest)
-      ∙ ap (λ os. ops ++ os) (sym (map-append (op_number g) (merges_taken 0 table.merges k) (MachineStep.act n ∷ lifted_from g table (known_after g table k n) ns)))))
+      ∙ ap (λ os. ops ++ os) (sym (map-append (op_number g) (merges_taken 0 table.merges k) (MachineStep.act n ∷ lift_from g table (known_after g table k n) ns)))))
 
   -- what is answered of the steps behind is answered of all
   ends_before : (i i' : ℕ) (ops so_far done : List ℕ) (new : Table) (r : Option At) → i' ≡ suc i → StepTaken g table n k ops new so_far → EndsFrom g table (known_after g table k n) ns i' so_far done r → EndsFrom g table k (n ∷ ns) i ops done r
@@ -78,20 +78,20 @@ module _ (g : Ground) (table : TagTable) (old : Table) (ops ns : List ℕ) (i : 
   }
 
   -- or the steps fail at the next
-  pub fails_here : (n : ℕ) (rest : List ℕ) (new : Table) (now done : List ℕ) (l : Lit) → drop i ns ≡ n ∷ rest → StepEnds g table n mid so_far new now (Some l) → Ends g table old ns ops done (Some (record { step = i; literal = l }))
+  pub fails_here : (n : ℕ) (rest : List ℕ) (new : Table) (now done : List ℕ) (l : Lit) → drop i ns ≡ n ∷ rest → StepEnds g table n mid so_far new now (Some l) → ActionsEnd g table old ns ops done (Some (record { step = i; literal = l }))
   fails_here n rest new now done l left unknown k says =
       let r = h.on k says in
       let place : i ≡ i + 0 = omega arith in
       r.2 done (Some (record { step = i; literal = l })) (subst (λ (ms : List ℕ). EndsFrom g table r.0 ms i so_far done (Some (record { step = i; literal = l }))) (sym left) (0, place, at_once g table r.0 n rest l (unknown r.0 r.1)))
 
   -- the goal is reached
-  pub goal_known : (done : List ℕ) → length ns ≤ i → GoalEnds g table mid so_far done None → Ends g table old ns ops done None
+  pub goal_known : (done : List ℕ) → length ns ≤ i → GoalEnds g table mid so_far done None → ActionsEnd g table old ns ops done None
   goal_known done past known k says =
       let r = h.on k says in
       r.2 done None (subst (λ (ms : List ℕ). EndsFrom g table r.0 ms i so_far done None) (sym (drop_all i ns past)) (known r.0 r.1))
 
   -- or the steps fail at it
-  pub goal_unknown : (done : List ℕ) (l : Lit) (at : ℕ) → at ≡ i → length ns ≤ i → GoalEnds g table mid so_far done (Some l) → Ends g table old ns ops done (Some (record { step = at; literal = l }))
+  pub goal_unknown : (done : List ℕ) (l : Lit) (at : ℕ) → at ≡ i → length ns ≤ i → GoalEnds g table mid so_far done (Some l) → ActionsEnd g table old ns ops done (Some (record { step = at; literal = l }))
   goal_unknown done l at is past unknown k says =
       let r = h.on k says in
       let place : at ≡ i + 0 = omega (arith, is) in

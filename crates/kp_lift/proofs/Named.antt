@@ -13,7 +13,7 @@ use Rattle.kp_base.proofs.Lists.{each_append}
 use Rattle.kp_base.proofs.Places.{element, get_left, get_right}
 use Rattle.kp_classic.specs.declared.task.Op.{Op}
 use Rattle.kp_classic.specs.declared.task.Task.{Task}
-use Rattle.kp_law_machine.specs.Lifts.{adds, after_merges, merges_taken, lifted, lifted_from}
+use Rattle.kp_law_machine.specs.Lifts.{adds, after_merges, merges_taken, lift_of, lift_from}
 use Rattle.kp_law_ktask.specs.Task.{op_of, merge_op, merge_ops_from, task_of}
 use Rattle.kp_law_ktask.specs.Laws.{op_number}
 use Rattle.kp_law_ktask.specs.Accepted.{step_at}
@@ -59,12 +59,12 @@ merges_there g table n (m ∷ ms) k size =
     here rest true = (omega (arith, size), rest (after_merge (Some m) k))
     here rest false = rest k
 
-lifted_there : (g : Ground) (table : TagTable) (ns : List ℕ) (k : Known) → list_all (λ n. nat_lt n (length g.actions)) ns ≡ true → AllByRecursion (IsThere g table) (lifted_from g table k ns)
+lifted_there : (g : Ground) (table : TagTable) (ns : List ℕ) (k : Known) → list_all (λ n. nat_lt n (length g.actions)) ns ≡ true → AllByRecursion (IsThere g table) (lift_from g table k ns)
 lifted_there g table [] k inside = merges_there g table 0 table.merges k (omega arith)
 lifted_there g table (n ∷ ns) k inside =
     let parts = and_parts (nat_lt n (length g.actions)) (list_all (λ n. nat_lt n (length g.actions)) ns) inside in
     let next = after_act (slice_get g.actions n) (after_merges table.merges k) in
-    each_append (IsThere g table) (merges_taken 0 table.merges k) (MachineStep.act n ∷ lifted_from g table next ns)
+    each_append (IsThere g table) (merges_taken 0 table.merges k) (MachineStep.act n ∷ lift_from g table next ns)
     (merges_there g table 0 table.merges k (omega arith)) (ltb-true n (length g.actions) parts.0, lifted_there g table ns next parts.1)
 
 steps_there : (g : Ground) (table : TagTable) (ms : List MachineStep) → AllByRecursion (IsThere g table) ms → map (operator_step (task_of g table)) (map (op_number g) ms) ≡ map (step_at g table) ms
@@ -72,7 +72,7 @@ steps_there g table [] there = refl
 steps_there g table (m ∷ ms) there = rw (operators_steps g table m there.0, steps_there g table ms there.1) refl
 
 pub lifted_operators_steps : LiftedOperatorsAreSteps
-lifted_operators_steps g table ns inside = steps_there g table (lifted g table ns) (lifted_there g table ns (start table) inside)
+lifted_operators_steps g table ns inside = steps_there g table (lift_of g table ns) (lifted_there g table ns (start table) inside)
 
 -- ---- how many there are
 
@@ -97,10 +97,10 @@ numbers_below g table [] there = refl
 numbers_below g table (m ∷ ms) there = rw (lt-ltb (op_number g m) (length (task_of g table).ops) (number_below g table m there.0), numbers_below g table ms there.1) refl
 
 -- the operators of a lifted list are of the task
-pub lifted_below : (g : Ground) (table : TagTable) (ns : List ℕ) → list_all (λ n. nat_lt n (length g.actions)) ns ≡ true → list_all (λ n. nat_lt n (length (task_of g table).ops)) (map (op_number g) (lifted g table ns)) ≡ true
-lifted_below g table ns inside = numbers_below g table (lifted g table ns) (lifted_there g table ns (start table) inside)
+pub lifted_below : (g : Ground) (table : TagTable) (ns : List ℕ) → list_all (λ n. nat_lt n (length g.actions)) ns ≡ true → list_all (λ n. nat_lt n (length (task_of g table).ops)) (map (op_number g) (lift_of g table ns)) ≡ true
+lifted_below g table ns inside = numbers_below g table (lift_of g table ns) (lifted_there g table ns (start table) inside)
 
-pub operators_below : (g : Ground) (table : TagTable) (task : Task) (ns ops : List ℕ) → task ≡ task_of g table → list_all (λ n. nat_lt n (length g.actions)) ns ≡ true → ops ≡ map (op_number g) (lifted g table ns) → list_all (λ n. nat_lt n (length task.ops)) ops ≡ true
+pub operators_below : (g : Ground) (table : TagTable) (task : Task) (ns ops : List ℕ) → task ≡ task_of g table → list_all (λ n. nat_lt n (length g.actions)) ns ≡ true → ops ≡ map (op_number g) (lift_of g table ns) → list_all (λ n. nat_lt n (length task.ops)) ops ≡ true
 operators_below g table task ns ops of inside are =
     subst (λ (t : Task). list_all (λ n. nat_lt n (length t.ops)) ops ≡ true) (sym of)
     (subst (λ (os : List ℕ). list_all (λ n. nat_lt n (length (task_of g table).ops)) os ≡ true) (sym are) (lifted_below g table ns inside))

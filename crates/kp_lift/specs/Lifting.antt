@@ -9,7 +9,7 @@ use Rattle.kp_base.specs.declared.ground.TagTable.{TagTable}
 use Rattle.kp_base.specs.Lists.{Member}
 use Rattle.kp_base.specs.Implicates.{are_below}
 use Rattle.kp_base.specs.Machine.{MachineStep, accepts, stripped}
-use Rattle.kp_law_machine.specs.Lifts.{lifted, UnliftedAt}
+use Rattle.kp_law_machine.specs.Lifts.{lift_of, UnliftedAt}
 use Rattle.kp_classic.specs.declared.task.Task.{Task}
 use Rattle.kp_law_ktask.specs.Task.{task_of}
 use Rattle.kp_law_ktask.specs.Laws.{op_number}
@@ -30,7 +30,7 @@ HasNoLift g table ns = (steps : List MachineStep) → stripped steps ≡ ns → 
 
 -- the operators of the lifted list, which is accepted; or where it fails, and then no list is accepted that strips to the actions
 abbrev pub AnswersLifting : Ground → TagTable → List ℕ → Lifting → Type 0
-AnswersLifting g table ns (Lifted ops) = (ops ≡ map (op_number g) (lifted g table ns)) × (accepts g table (lifted g table ns) ≡ true)
+AnswersLifting g table ns (Lifted ops) = (ops ≡ map (op_number g) (lift_of g table ns)) × (accepts g table (lift_of g table ns) ≡ true)
 AnswersLifting g table ns (Unlifted k l) = UnliftedAt g table ns k l × HasNoLift g table ns
 
 -- ---- by name
@@ -50,4 +50,4 @@ OperatorsAreSteps = (g : Ground) (table : TagTable) (m : MachineStep) → IsTher
 
 -- the operators of a lifted list, whose actions are there, have its steps by name
 abbrev pub LiftedOperatorsAreSteps : Type 0
-LiftedOperatorsAreSteps = (g : Ground) (table : TagTable) (ns : List ℕ) → list_all (λ n. nat_lt n (length g.actions)) ns ≡ true → map (operator_step (task_of g table)) (map (op_number g) (lifted g table ns)) ≡ map (step_at g table) (lifted g table ns)
+LiftedOperatorsAreSteps = (g : Ground) (table : TagTable) (ns : List ℕ) → list_all (λ n. nat_lt n (length g.actions)) ns ≡ true → map (operator_step (task_of g table)) (map (op_number g) (lift_of g table ns)) ≡ map (step_at g table) (lift_of g table ns)

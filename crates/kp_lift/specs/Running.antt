@@ -7,7 +7,7 @@ use Rattle.kp_base.specs.declared.ground.TagTable.{TagTable}
 use Rattle.kp_base.specs.Steps.{asked, pre_of, IsLeastMissing}
 use Rattle.kp_base.specs.Machine.{Known, may_act, after_act}
 use Rattle.kp_lift_known.specs.Known.{Table, Says}
-use Rattle.kp_law_machine.specs.Lifts.{after_merges, merges_taken, known_lifted_from, lifted_from}
+use Rattle.kp_law_machine.specs.Lifts.{after_merges, merges_taken, known_lifted_from, lift_from}
 use Rattle.kp_law_ktask.specs.Laws.{op_number}
 use Rattle.kp_lift.specs.declared.running.At.{At}
 
@@ -34,7 +34,7 @@ pub record FailsFrom (g : Ground) (table : TagTable) (k : Known) (ns : List ℕ)
 
 -- the actions, the first of which is the i-th of a list, lift to more operators behind some; or they fail at a step of the list
 abbrev pub EndsFrom : Ground → TagTable → Known → List ℕ → ℕ → List ℕ → List ℕ → Option At → Type 0
-EndsFrom g table k ns i ops done None = (done ≡ ops ++ map (op_number g) (lifted_from g table k ns)) × (lifts_from g table k ns ≡ true)
+EndsFrom g table k ns i ops done None = (done ≡ ops ++ map (op_number g) (lift_from g table k ns)) × (lifts_from g table k ns ≡ true)
 EndsFrom g table k ns i ops done (Some at) = (d : ℕ) × (at.step ≡ i + d) × FailsFrom g table k ns d at.literal
 
 -- ---- what functions of the code make of a table of bits and some operators
@@ -61,8 +61,8 @@ StepEnds g table n old ops new done None = (k : Known) → Says old k → StepTa
 StepEnds g table n old ops new done (Some l) = (k : Known) → Says old k → IsLeastMissing (after_merges table.merges k 0) (pre_of (slice_get g.actions n)) l
 
 -- all steps are taken, or there is a step where a literal isn't known
-abbrev pub Ends : Ground → TagTable → Table → List ℕ → List ℕ → List ℕ → Option At → Type 0
-Ends g table old ns ops done at = (k : Known) → Says old k → EndsFrom g table k ns 0 ops done at
+abbrev pub ActionsEnd : Ground → TagTable → Table → List ℕ → List ℕ → List ℕ → Option At → Type 0
+ActionsEnd g table old ns ops done at = (k : Known) → Says old k → EndsFrom g table k ns 0 ops done at
 
 -- the last merges are taken and the goal is known, or the literal is the least of it that isn't
 abbrev pub GoalEnds : Ground → TagTable → Table → List ℕ → List ℕ → Option Lit → Type 0

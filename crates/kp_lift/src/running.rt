@@ -4,7 +4,7 @@ ghost use Rattle.std.specs.List.{list_all};
 ghost use Rattle.kp_base.specs.Implicates.{IsOfItsAtoms};
 ghost use Rattle.kp_base.specs.Machine.{start};
 ghost use Rattle.kp_lift.specs.Lifting.{IsTableOn};
-ghost use Rattle.kp_lift.specs.Running.{IsAbout, StepEnds, EndsFrom, Ends};
+ghost use Rattle.kp_lift.specs.Running.{IsAbout, StepEnds, EndsFrom, ActionsEnd};
 
 use crate::merging::{reach_goal, take_merges};
 use kp_base::{Ground, Lit, Memory, Row, TagTable};
@@ -58,7 +58,7 @@ fn take_steps(
     requires few { length ground.now.actions + length table.now.merges < 4294967296 }
     requires inside { list_all (λ n. nat_lt n (length ground.now.actions)) steps.now ≡ true }
     requires few_steps { length steps.now < 2147483648 }
-    ensures ends { IfOk result (Ends ground.now table.now knowing.old steps.now operators.old operators.new) }
+    ensures ends { IfOk result (ActionsEnd ground.now table.now knowing.old steps.now operators.old operators.new) }
 {
     for step in 0..steps.len() as u32 {
         if let Some(literal) = take_step(knowing, operators, ground, table, steps[step as usize])? {

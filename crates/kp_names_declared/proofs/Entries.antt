@@ -12,7 +12,7 @@ use Rattle.kp_names_meaning.specs.Numbering.{index_of}
 use Rattle.kp_base.proofs.Lists.{same-true}
 use Rattle.kp_names_meaning.proofs.Public.{same_name-sym}
 use Rattle.kp_names_declared.specs.declared.predicates.Declared.{Declared}
-use Rattle.kp_names_declared.specs.Tables.{Entries, entries_from, with_entry, entry_of, declared_as, declaration_of}
+use Rattle.kp_names_declared.specs.NameTables.{Entries, entries_from, with_entry, entry_of, declared_as, declaration_of}
 
 -- what is found under a reference is found under its name
 pub found : {K X : Type 0} (now : K → Name) (x : Name) (es : List (K × X)) → lookup (λ k. same x (now k)) es ≡ lookup (same x) (map (λ e. (now e.0, e.1)) es)

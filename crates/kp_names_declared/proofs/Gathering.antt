@@ -14,7 +14,7 @@ use Rattle.kp_base.specs.Lists.{Member}
 use Rattle.kp_base.proofs.Lists.{same_member, same-true}
 use Rattle.kp_names_meaning.proofs.Public.{same_name_equivalence, same_name-sym, member_is_among, index_below}
 use Rattle.kp_names_declared.specs.Steps.{with_name}
-use Rattle.kp_names_declared.specs.Tables.{number_of}
+use Rattle.kp_names_declared.specs.NameTables.{number_of}
 
 -- ---- each once
 

@@ -9,7 +9,7 @@ use Rattle.kp_names_meaning.specs.Types.{names}
 use Rattle.kp_names_meaning.specs.Numbering.{index_of, heads}
 use Rattle.kp_names_meaning.proofs.Public.{same_name-sym}
 use Rattle.kp_names_declared.specs.declared.predicates.Declared.{Declared}
-use Rattle.kp_names_declared.specs.Tables.{number_of, declared_as, declaration_of}
+use Rattle.kp_names_declared.specs.NameTables.{number_of, declared_as, declaration_of}
 
 -- ---- of a list of names
 

@@ -1,5 +1,5 @@
 pub mod Steps
-pub mod Tables
+pub mod NameTables
 pub mod Collected
 pub mod Unsure
 pub mod Chains

@@ -1,7 +1,7 @@
 ghost use Rattle.std.specs.Prelude.{◌≡◌, [], not, length, map, option_map, slice_get, take, IfOk, OnOk};
 ghost use Rattle.kp_names_meaning.specs.Names.{is_among};
 ghost use Rattle.kp_names_declared.specs.Steps.{with_name};
-ghost use Rattle.kp_names_declared.specs.Tables.{number_of};
+ghost use Rattle.kp_names_declared.specs.NameTables.{number_of};
 
 use indexmap::IndexSet;
 use kp_base::{Memory, Row, Text};

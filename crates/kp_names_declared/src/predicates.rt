@@ -1,6 +1,6 @@
 ghost use Rattle.std.specs.Prelude.{◌≡◌, ◌≤◌, [], fold, length, map, IfOk, OnOk};
 ghost use Rattle.kp_tree_grammar.specs.View.{pred_view};
-ghost use Rattle.kp_names_declared.specs.Tables.{entries_from, with_entry, entry_of};
+ghost use Rattle.kp_names_declared.specs.NameTables.{entries_from, with_entry, entry_of};
 
 use indexmap::IndexMap;
 use kp_base::Memory;

@@ -4,7 +4,7 @@ ghost use Rattle.kp_tree_grammar.specs.View.{domain_view, pred_view, problem_vie
 ghost use Rattle.kp_names_meaning.specs.Names.{is_among};
 ghost use Rattle.kp_names_meaning.specs.Types.{declared, names, object_lines, objects, types};
 ghost use Rattle.kp_names_declared.specs.Steps.{with_name, lines_under};
-ghost use Rattle.kp_names_declared.specs.Tables.{names_of_line, entries_from, entry_of, declaration_of, with_entry};
+ghost use Rattle.kp_names_declared.specs.NameTables.{names_of_line, entries_from, entry_of, declaration_of, with_entry};
 
 use crate::name_set::NameSet;
 use crate::predicates::{Declared, Predicates};
@@ -27,7 +27,7 @@ pub struct Names<'a> {
 
 impl<'a> Model for Names<'a> {
     ghost use Rattle.kp_names_declared.specs.Collected.{Trees, trees_code};
-    ghost use Rattle.kp_names_declared.specs.Tables.{AreNamesOf};
+    ghost use Rattle.kp_names_declared.specs.NameTables.{AreNamesOf};
 
     ghost Value = { Trees };
 

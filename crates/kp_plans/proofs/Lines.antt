@@ -4,7 +4,7 @@ use Rattle.std.specs.List.{AllByRecursion}
 use Rattle.kp_base.specs.declared.ground.GroundName.{GroundName}
 use Rattle.kp_lex.specs.declared.token.TokenKind.TheVariants as kinds
 use Rattle.kp_lex.specs.Bytes.{class_of, follows}
-use Rattle.kp_lex.specs.Cutting.{Ends}
+use Rattle.kp_lex.specs.Cutting.{EndsRunOf}
 use Rattle.kp_tree_grammar.specs.declared.tree.Word.{Word}
 use Rattle.kp_tree_grammar.specs.Symbols.{symbol_of, is_name, is_left}
 use Rattle.kp_tree_grammar.specs.Sorts.{s_word, s_pair, s_list}
@@ -18,13 +18,13 @@ use Rattle.kp_law_texts.specs.Pieces.{Piece, right, spelling, each, spaced, name
 use Rattle.kp_law_texts.specs.Tokens.{words, Fine, done, lefts, rights, blanks, says}
 use Rattle.kp_law_texts.specs.Maps.{without_places}
 use Rattle.kp_law_texts.proofs.Public.{◌$◌, KeepsFine, each_keeps_fine, PiecesGive, many_pieces_read, pieces_read_as_their_words}
-use Rattle.kp_plans.specs.Grammar.{step, plan, name_of}
-use Rattle.kp_plans.specs.PlanFiles.{names as plan_names, step_of}
+use Rattle.kp_plans.specs.Grammar.{step, plan, step_name}
+use Rattle.kp_plans.specs.PlanFiles.{step_names, step_of}
 use Rattle.kp_plans.specs.Printed.{step_line, plan_pieces, plan_text, PrintedPlansRead}
 
 -- ---- the lines are fine
 
-ends_objects : (os : List (List ℕ)) (rest : List Piece) → Ends follows (spelling (each (spaced name) os (right ∷ rest)))
+ends_objects : (os : List (List ℕ)) (rest : List Piece) → EndsRunOf follows (spelling (each (spaced name) os (right ∷ rest)))
 unfolding class_of
 ends_objects [] rest = refl
 ends_objects (o ∷ os) rest = refl
@@ -74,14 +74,14 @@ named_words : (steps : List GroundName) → map named (map words_of steps) ≡ s
 named_words [] = refl
 named_words (n ∷ ns) = ap (λ xs. n ∷ xs) (named_words ns)
 
-named_tree : (tree : List (Word × List Word)) → map named (without_places (s_list (s_pair s_word (s_list s_word))) tree) ≡ map name_of tree
+named_tree : (tree : List (Word × List Word)) → map named (without_places (s_list (s_pair s_word (s_list s_word))) tree) ≡ map step_name tree
 named_tree [] = refl
-named_tree (x ∷ xs) = ap (λ ns. name_of x ∷ ns) (named_tree xs)
+named_tree (x ∷ xs) = ap (λ ns. step_name x ∷ ns) (named_tree xs)
 
 -- the steps of the text have the names that were made
-same_names : (text : List ℕ) (tree : List (Word × List Word)) → plan_names (map (step_of text) tree) ≡ map name_of tree
+same_names : (text : List ℕ) (tree : List (Word × List Word)) → step_names (map (step_of text) tree) ≡ map step_name tree
 same_names text [] = refl
-same_names text (x ∷ xs) = ap (λ ns. name_of x ∷ ns) (same_names text xs)
+same_names text (x ∷ xs) = ap (λ ns. step_name x ∷ ns) (same_names text xs)
 
 pub printed_plans_read : PrintedPlansRead
 printed_plans_read steps h =

@@ -20,7 +20,7 @@ use Rattle.kp_tree_cursor.proofs.Public.{class_is_no_bracket, longest_run_reads}
 use Rattle.kp_plans.specs.declared.step.PlanStep.{PlanStep}
 use Rattle.kp_base.specs.declared.ground.GroundName.{GroundName}
 use Rattle.kp_base.specs.declared.refused.Place.{Place}
-use Rattle.kp_plans.specs.Grammar.{step, plan, name_of}
+use Rattle.kp_plans.specs.Grammar.{step, plan, step_name}
 use Rattle.kp_plans.specs.PlanFiles.{step_of}
 use Rattle.kp_plans.specs.Steps.{Ascends, StepStands, StepStops, StepsSoFar, ArePlanOf, AnswersTokens}
 
@@ -145,7 +145,7 @@ made_of text run first others name place e h k =
     let head : name.head ≡ (word_of first).text = cc in
     let behind : name.objects ≡ map (λ w. (word_of w).text) others = cc in
     ap (λ (n : GroundName). record { name = n; place = place }) (ap (λ (t : List ℕ). record { head = t; objects = name.objects }) head ∙ ap (λ (ts : List (List ℕ)). record { head = (word_of first).text; objects = ts }) (behind ∙ texts_of others))
-    ∙ ap (λ (p : Place). record { name = name_of (word_of first, map word_of others); place = p }) k
+    ∙ ap (λ (p : Place). record { name = step_name (word_of first, map word_of others); place = p }) k
 
 -- ---- all steps
 

@@ -5,7 +5,7 @@ use Rattle.std.proofs.Math.Seq.{split_at}
 use Rattle.kp_base.specs.declared.ground.GroundName.{GroundName}
 use Rattle.kp_names_meaning.specs.Strip.{stripped, strip}
 use Rattle.kp_plans.specs.declared.step.PlanStep.{PlanStep}
-use Rattle.kp_plans.specs.PlanFiles.{names}
+use Rattle.kp_plans.specs.PlanFiles.{step_names}
 use Rattle.kp_plans.specs.Stripping.{IsFirstUnstripped}
 
 -- with what comes in front
@@ -28,13 +28,13 @@ more [] i done now e h = alone (stripped i.head i.objects) done now e h
 more (j ∷ is) i done now e h = in_front (stripped j.head j.objects) (strip is) (strip (is ++ i ∷ [])) (stripped i.head i.objects) done now e h (λ rest others k l. more is i rest others k l)
 
 -- the same of the steps of a file, up to a place
-pub one_more : (steps : List PlanStep) (i : ℕ) (s : PlanStep) (done now : List GroundName) → i < length steps → s ≡ get_or steps i s → strip (names (take i steps)) ≡ Some done → option_map (λ xs. done ++ xs) (stripped s.name.head s.name.objects) ≡ Some now → strip (names (take (i + 1) steps)) ≡ Some now
+pub one_more : (steps : List PlanStep) (i : ℕ) (s : PlanStep) (done now : List GroundName) → i < length steps → s ≡ get_or steps i s → strip (step_names (take i steps)) ≡ Some done → option_map (λ xs. done ++ xs) (stripped s.name.head s.name.objects) ≡ Some now → strip (step_names (take (i + 1) steps)) ≡ Some now
 one_more steps i s done now h is e k =
     let split : take (i + 1) steps ≡ take i steps ++ s ∷ [] = take_more steps i s h ∙ ap (λ (x : PlanStep). take i steps ++ x ∷ []) (sym is) in
-    rw (split, map-append (λ (x : PlanStep). x.name) (take i steps) (s ∷ [])) (more (names (take i steps)) s.name done now e k)
+    rw (split, map-append (λ (x : PlanStep). x.name) (take i steps) (s ∷ [])) (more (step_names (take i steps)) s.name done now e k)
 
 -- a step that isn't stripped is the first such step
-pub first_one : (steps : List PlanStep) (i : ℕ) (s : PlanStep) (done : List GroundName) → i < length steps → s ≡ get_or steps i s → strip (names (take i steps)) ≡ Some done → stripped s.name.head s.name.objects ≡ None → IsFirstUnstripped steps s
+pub first_one : (steps : List PlanStep) (i : ℕ) (s : PlanStep) (done : List GroundName) → i < length steps → s ≡ get_or steps i s → strip (step_names (take i steps)) ≡ Some done → stripped s.name.head s.name.objects ≡ None → IsFirstUnstripped steps s
 first_one steps i s done h is e k = record {
   before = take i steps;
   after = drop (suc i) steps;

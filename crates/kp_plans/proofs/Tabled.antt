@@ -11,7 +11,7 @@ use Rattle.kp_names_meaning.specs.Encoding.{encoded}
 use Rattle.kp_names_meaning.specs.GroundNames.{same_name}
 use Rattle.kp_base.proofs.Lists.{same-true, same-refl}
 use Rattle.kp_names_meaning.proofs.Public.{all_same_names-true, all_same_names-refl}
-use Rattle.kp_plans.specs.Tables.{number_under, IsTableOf}
+use Rattle.kp_plans.specs.WordTables.{number_under, IsTableOf}
 use Rattle.kp_plans.proofs.Decoded.{encoded_once}
 
 -- ---- a name that is noted

@@ -16,5 +16,5 @@ abbrev pub plan : Form false (s_list (s_pair s_word (s_list s_word)))
 plan = many is_left step
 
 -- the name of a step that was read: its first word is the head, the others are objects
-abbrev pub name_of : Word × List Word → GroundName
-name_of x = record { head = x.0.text; objects = map (λ w. w.text) x.1 }
+abbrev pub step_name : Word × List Word → GroundName
+step_name x = record { head = x.0.text; objects = map (λ w. w.text) x.1 }

@@ -7,4 +7,4 @@ pub mod Printed
 pub mod Stripping
 pub mod Adding
 pub mod Found
-pub mod Tables
+pub mod WordTables

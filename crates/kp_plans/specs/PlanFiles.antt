@@ -15,15 +15,15 @@ use Rattle.kp_tree_grammar.specs.Reading.{At, StopsWhole}
 use Rattle.kp_tree_grammar.specs.Texts.{ReadsAs}
 use Rattle.kp_tree_cursor.specs.Lexemes.{byte_at}
 use Rattle.kp_plans.specs.declared.step.PlanStep.{PlanStep}
-use Rattle.kp_plans.specs.Grammar.{plan, name_of}
+use Rattle.kp_plans.specs.Grammar.{plan, step_name}
 
 -- the names of steps
-abbrev pub names : List PlanStep → List GroundName
-names steps = map (λ s. s.name) steps
+abbrev pub step_names : List PlanStep → List GroundName
+step_names steps = map (λ s. s.name) steps
 
 -- a step that was read: its name, and the place of its head
 abbrev pub step_of : List ℕ → Word × List Word → PlanStep
-step_of text x = record { name = name_of x; place = place_of parts.Plan text x.0.byte }
+step_of text x = record { name = step_name x; place = place_of parts.Plan text x.0.byte }
 
 -- the text is cut and reads as a plan, and these are its steps
 pub record IsPlanOf (text : List ℕ) (steps : List PlanStep) : Type 0 where

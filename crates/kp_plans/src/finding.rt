@@ -1,6 +1,6 @@
 ghost use Rattle.std.specs.Prelude.{◌<◌, length};
 ghost use Rattle.kp_plans.specs.Found.{AnswersSteps, action_of};
-ghost use Rattle.kp_plans.specs.Tables.{step_under};
+ghost use Rattle.kp_plans.specs.WordTables.{step_under};
 
 use crate::step::PlanStep;
 use crate::table::NameTable;

@@ -3,7 +3,7 @@ ghost use Rattle.std.specs.Option.{option_or};
 ghost use Rattle.kp_names_meaning.specs.Names.{same};
 ghost use Rattle.kp_names_meaning.specs.Encoding.{encoded};
 ghost use Rattle.kp_plans.specs.Found.{action_names};
-ghost use Rattle.kp_plans.specs.Tables.{number_under, IsTableOf};
+ghost use Rattle.kp_plans.specs.WordTables.{number_under, IsTableOf};
 
 use crate::encoding::word_of;
 use indexmap::IndexMap;

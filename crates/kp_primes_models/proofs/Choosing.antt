@@ -11,7 +11,7 @@ use Rattle.kp_base.specs.LitSet.{with_lit}
 use Rattle.kp_base.specs.Steps.{State, holds, is_model}
 use Rattle.kp_base.specs.Implicates.{IsOfAtoms}
 use Rattle.kp_base.proofs.Lists.{all_weaker}
-use Rattle.kp_primes_models.specs.Ordered.{state_of, AreRising, AreFirst}
+use Rattle.kp_primes_models.specs.Ordered.{state_of_atoms, AreRising, AreFirst}
 use Rattle.kp_primes_models.specs.Chosen.{IsChosen}
 use Rattle.kp_primes_models.specs.Asked.{is_wanted, IsWitness, AnswersFind}
 use Rattle.kp_primes_models.proofs.Tags.{more_met, more_parts, more_below}
@@ -23,25 +23,25 @@ not_true false h = refl
 
 -- ---- the state of some atoms, with one more
 
-more_of : (ps : List AtomId) (a : AtomId) (q : ℕ) → state_of (ps ++ a ∷ []) q ≡ (state_of ps q || nat_eq a.0 q)
-more_of ps a q = list_any-append (λ (x : AtomId). nat_eq x.0 q) ps (a ∷ []) ∙ ap (λ b. state_of ps q || b) (turned (nat_eq a.0 q))
+more_of : (ps : List AtomId) (a : AtomId) (q : ℕ) → state_of_atoms (ps ++ a ∷ []) q ≡ (state_of_atoms ps q || nat_eq a.0 q)
+more_of ps a q = list_any-append (λ (x : AtomId). nat_eq x.0 q) ps (a ∷ []) ∙ ap (λ b. state_of_atoms ps q || b) (turned (nat_eq a.0 q))
   where
     turned : (b : Bool) → (b || false) ≡ b
     turned true = refl
     turned false = refl
 
-same_of : (ps : List AtomId) (a : AtomId) (q : ℕ) → q < a.0 → state_of (ps ++ a ∷ []) q ≡ state_of ps q
-same_of ps a q lt = more_of ps a q ∙ (ap (λ b. state_of ps q || b) (ne_eqb a.0 q (λ e. absurd (omega (arith, e)))) ∙ turned (state_of ps q))
+same_of : (ps : List AtomId) (a : AtomId) (q : ℕ) → q < a.0 → state_of_atoms (ps ++ a ∷ []) q ≡ state_of_atoms ps q
+same_of ps a q lt = more_of ps a q ∙ (ap (λ b. state_of_atoms ps q || b) (ne_eqb a.0 q (λ e. absurd (omega (arith, e)))) ∙ turned (state_of_atoms ps q))
   where
     turned : (b : Bool) → (b || false) ≡ b
     turned true = refl
     turned false = refl
 
-there_of : (ps : List AtomId) (a : AtomId) → state_of (ps ++ a ∷ []) a.0 ≡ true
-there_of ps a = more_of ps a a.0 ∙ or_right (state_of ps a.0) (nat_eq a.0 a.0) (eq-eqb a.0 a.0 refl)
+there_of : (ps : List AtomId) (a : AtomId) → state_of_atoms (ps ++ a ∷ []) a.0 ≡ true
+there_of ps a = more_of ps a a.0 ∙ or_right (state_of_atoms ps a.0) (nat_eq a.0 a.0) (eq-eqb a.0 a.0 refl)
 
-past_of : (ps : List AtomId) (a : AtomId) (q : ℕ) → state_of ps q ≡ false → a.0 < q → state_of (ps ++ a ∷ []) q ≡ false
-past_of ps a q off lt = more_of ps a q ∙ or_from (state_of ps q) (nat_eq a.0 q) off (ne_eqb a.0 q (λ e. absurd (omega (arith, e))))
+past_of : (ps : List AtomId) (a : AtomId) (q : ℕ) → state_of_atoms ps q ≡ false → a.0 < q → state_of_atoms (ps ++ a ∷ []) q ≡ false
+past_of ps a q off lt = more_of ps a q ∙ or_from (state_of_atoms ps q) (nat_eq a.0 q) off (ne_eqb a.0 q (λ e. absurd (omega (arith, e))))
 
 rising_more : (ps : List AtomId) (a : AtomId) → AreRising ps → list_all (λ p. nat_lt p.0 a.0) ps ≡ true → AreRising (ps ++ a ∷ [])
 rising_more [] a r h = tt
@@ -84,7 +84,7 @@ module _ (n p : ℕ) (i : Initial) (passes : State → Bool) (tag found : List L
           | inl before ↦ chosen.agrees s parts.0 q before
           | inr after ↦
               let e : p ≡ q = omega arith in
-              subst (λ x. s x ≡ state_of present x) e (not_true (s p) parts.1 ∙ sym (chosen.bounded p (omega arith)))
+              subst (λ x. s x ≡ state_of_atoms present x) e (not_true (s p) parts.1 ∙ sym (chosen.bounded p (omega arith)))
         ];
     met = λ s h. more_met s (negative p) tag (chosen.met s (λ q less. h q (omega arith))) (ap not (h p (omega arith) ∙ chosen.bounded p (omega arith)));
     bounded = λ q le. chosen.bounded q (omega arith);
@@ -94,14 +94,14 @@ module _ (n p : ℕ) (i : Initial) (passes : State → Bool) (tag found : List L
   }
 
   module _ (a : AtomId) (is : a.0 ≡ p) (none : AnswersFind n i passes (with_lit (negative p) tag) None) where
-    earlier : (q : ℕ) → q < p → state_of (present ++ a ∷ []) q ≡ state_of present q
+    earlier : (q : ℕ) → q < p → state_of_atoms (present ++ a ∷ []) q ≡ state_of_atoms present q
     earlier q less = same_of present a q (omega (arith, is, less))
 
-    here : state_of (present ++ a ∷ []) p ≡ true
-    here = subst (λ x. state_of (present ++ a ∷ []) x ≡ true) is (there_of present a)
+    here : state_of_atoms (present ++ a ∷ []) p ≡ true
+    here = subst (λ x. state_of_atoms (present ++ a ∷ []) x ≡ true) is (there_of present a)
 
     -- past it none is present
-    at_most : (q : ℕ) → p ≤ q → state_of (present ++ a ∷ []) q ≡ true → q ≡ p
+    at_most : (q : ℕ) → p ≤ q → state_of_atoms (present ++ a ∷ []) q ≡ true → q ≡ p
     at_most q le on = elim (cases_lt p q) [
       | inl more ↦ absurd (false≢true (sym (past_of present a q (chosen.bounded q le) (omega (arith, is, more))) ∙ on))
       | inr less ↦ omega arith
@@ -130,7 +130,7 @@ module _ (n p : ℕ) (i : Initial) (passes : State → Bool) (tag found : List L
             | inl before ↦ chosen.agrees s parts.0 q before ∙ sym (earlier q before)
             | inr after ↦
                 let e : p ≡ q = omega arith in
-                subst (λ x. s x ≡ state_of (present ++ a ∷ []) x) e (parts.1 ∙ sym here)
+                subst (λ x. s x ≡ state_of_atoms (present ++ a ∷ []) x) e (parts.1 ∙ sym here)
           ];
       met = λ s h. more_met s (positive p) tag (chosen.met s (λ q less. h q (omega arith) ∙ earlier q less)) (h p (omega arith) ∙ here);
       bounded = λ q le. past_of present a q (chosen.bounded q (omega arith)) (omega (arith, is, le));
@@ -157,11 +157,11 @@ pub chosen_all : (n : ℕ) (i : Initial) (passes : State → Bool) (tag found : 
 chosen_all n i passes tag found present of chosen =
     let s = chosen.witness.met in
     let same = chosen.agrees s.state (chosen.witness.within s.state s.model s.all_true) in
-    let model = sym (model_same n s.state (state_of present) same i of) ∙ s.model in
-    let all = sym (all_same n s.state (state_of present) same found chosen.witness.below) ∙ s.all_true in (
+    let model = sym (model_same n s.state (state_of_atoms present) same i of) ∙ s.model in
+    let all = sym (all_same n s.state (state_of_atoms present) same found chosen.witness.below) ∙ s.all_true in (
       record {
         bounded = record { none_past = chosen.bounded };
-        passed = and_from (is_model i (state_of present)) (passes (state_of present)) model (chosen.witness.each (state_of present) model all);
+        passed = and_from (is_model i (state_of_atoms present)) (passes (state_of_atoms present)) model (chosen.witness.each (state_of_atoms present) model all);
         first = chosen.least;
       },
       chosen.rising,

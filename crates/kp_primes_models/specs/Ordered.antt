@@ -13,8 +13,8 @@ pub record IsFirst (n : ℕ) (passes : State → Bool) (s : State) : Type 0 wher
 -- ---- states by their atoms
 
 -- the state in which just these atoms are true
-abbrev pub state_of : List AtomId → State
-state_of ps p = list_any (λ a. nat_eq a.0 p) ps
+abbrev pub state_of_atoms : List AtomId → State
+state_of_atoms ps p = list_any (λ a. nat_eq a.0 p) ps
 
 -- each atom is below the next
 abbrev pub AreRising : List AtomId → Type 0
@@ -24,7 +24,7 @@ AreRising (p ∷ q ∷ ps) = (p.0 < q.0) × AreRising (q ∷ ps)
 
 -- the atoms of the first state that passes, in order
 abbrev pub AreFirst : ℕ → (State → Bool) → List AtomId → Type 0
-AreFirst n passes ps = IsFirst n passes (state_of ps) × AreRising ps
+AreFirst n passes ps = IsFirst n passes (state_of_atoms ps) × AreRising ps
 
 -- these; none where no state passes
 abbrev pub AnswersFirst : ℕ → (State → Bool) → Option (List AtomId) → Type 0

@@ -12,9 +12,9 @@ use Rattle.kp_run_outcome.specs.declared.outcome.Outcome.{Outcome}
 use Rattle.kp_run_outcome.specs.Ends.{IsAnswer}
 use Rattle.kp_words.specs.Names.{Source, of_mode, Translate, Bench}
 use Rattle.kp_run_prepare.specs.Prepared.{by_texts, by_trees, Comes, early, later}
-use Rattle.kp_run_inputs.specs.Tables.{ComesByTable, no_table, with_table}
+use Rattle.kp_run_inputs.specs.SourceTables.{ComesByTable, no_table, with_table}
 use Rattle.kp_run_inputs.specs.Actions.{ComesByPlan, no_actions, with_actions}
-use Rattle.kp_run.specs.Outcomes.{TranslatesGround, over, done, TranslatesTrees, MergesTrees, StripsText, too_long, no_plan, no_strip, strips, tells, ChecksTrees, LiftsActions, lifts, fails, LiftsPlan, no_task, with_task, LiftsTrees, SolvesTrees, ClassicalTrees, tells_width, MeasuresGround, no_report, with_report, MeasuresTrees, translated, merged, stripped, checked, lifted, solved, searched, measured, benched, usage, of_command}
+use Rattle.kp_run.specs.Outcomes.{TranslatesGround, over, done, TranslatesTrees, MergesTrees, StripsText, too_long, no_plan, no_strip, strips, tells, ChecksTrees, LiftsActions, lifts, fails, LiftsPlan, no_task, with_task, LiftsTrees, SolvesTrees, ClassicalTrees, tells_width, WidthGround, no_report, with_report, WidthTrees, translated, merged, stripped, checked, lifted, solved, solved_classical, width_measured, benched, usage, of_command}
 use Rattle.kp_width.specs.declared.report.WidthReport.{WidthReport}
 use Rattle.kp_width.specs.declared.report.WidthReport.TheVariants.{Within, Over}
 use Rattle.kp_search.specs.declared.found.Found.{Found}
@@ -77,7 +77,7 @@ classical_answer g o (Plan ops n) t = known o _ t.2 tt
 classical_answer g o NoPlan t = known o _ t tt
 classical_answer g o (Spent n) t = known o _ t tt
 
-width_answer : (bound : ℕ) (g : Ground) (i : Initial) (o : Outcome) → MeasuresGround bound g i o → IsAnswer o.status
+width_answer : (bound : ℕ) (g : Ground) (i : Initial) (o : Outcome) → WidthGround bound g i o → IsAnswer o.status
 width_answer bound g i o (no_report r a e) = known o _ e tt
 width_answer bound g i o (with_report report a e) = by report e
   where
@@ -110,6 +110,6 @@ outcomes_are_answers words held o (of_command _ _ _ is at (stripped c x _ a)) = 
 outcomes_are_answers words held o (of_command _ _ _ is at (checked c x y plan _ a)) = comes_answer c.implicates x y (ChecksTrees plan) o (λ d p. plan_answer (ground_of d p) plan _ o (λ ns j. judged_answer (ground_of d p) ns o j.judged j.told)) a
 outcomes_are_answers words held o (of_command _ _ _ is at (lifted c x y merges plan _ a)) = comes_answer c.implicates x y (LiftsTrees c merges plan) o (λ d p. table_answer (ground_of d p) (initial_of d p) c.source merges _ o (λ table. lift_answer (ground_of d p) plan table o)) a
 outcomes_are_answers words held o (of_command _ _ _ is at (solved c x y merges _ a)) = comes_answer c.implicates x y (SolvesTrees c merges) o (λ d p. table_answer (ground_of d p) (initial_of d p) c.source merges _ o (λ table. solved_answer c.classical c.budget (ground_of d p) (initial_of d p) table o)) a
-outcomes_are_answers words held o (of_command _ _ _ is at (searched c x y _ a)) = comes_classical_answer x y (ClassicalTrees c) o (λ d p s. classical_answer (ground_of d p) o s.found s.tells) a
+outcomes_are_answers words held o (of_command _ _ _ is at (solved_classical c x y _ a)) = comes_classical_answer x y (ClassicalTrees c) o (λ d p s. classical_answer (ground_of d p) o s.found s.tells) a
 outcomes_are_answers words held o (of_command _ _ _ is at (benched c _ a)) = bench_answer c o a
-outcomes_are_answers words held o (of_command _ _ _ is at (measured c x y _ a)) = comes_answer c.implicates x y (MeasuresTrees c) o (λ d p. width_answer c.bound (ground_of d p) (initial_of d p) o) a
+outcomes_are_answers words held o (of_command _ _ _ is at (width_measured c x y _ a)) = comes_answer c.implicates x y (WidthTrees c) o (λ d p. width_answer c.bound (ground_of d p) (initial_of d p) o) a

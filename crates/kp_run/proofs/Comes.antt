@@ -9,7 +9,7 @@ use Rattle.kp_words.specs.declared.lent.CommandRef.TheVariants as commands
 use Rattle.kp_words.specs.Command.{IsCommand, inputs_of}
 use Rattle.kp_words.proofs.Public.{words_are_one_command}
 use Rattle.kp_run_bench.specs.Bench.{Benches}
-use Rattle.kp_run.specs.Outcomes.{TranslatesTexts, MergesTexts, StripsText, ChecksTexts, LiftsTexts, SolvesTexts, ClassicalTexts, MeasuresTexts, ComesTo, translated, merged, stripped, checked, lifted, solved, searched, measured, benched, IsDue, usage, of_command}
+use Rattle.kp_run.specs.Outcomes.{TranslatesTexts, MergesTexts, StripsText, ChecksTexts, LiftsTexts, SolvesTexts, ClassicalTexts, WidthTexts, ComesTo, translated, merged, stripped, checked, lifted, solved, solved_classical, width_measured, benched, IsDue, usage, of_command}
 
 -- what the contents of its input files are, and what it makes of them
 abbrev pub MakesOf : Command → List (List ℕ) → Outcome → Type 0
@@ -20,7 +20,7 @@ MakesOf (commands.Check c) texts o = (x y plan : List ℕ) × (texts ≡ x ∷ y
 MakesOf (commands.Lift c) texts o = (x y : List ℕ) × (merges : List (List ℕ)) × (plan : List ℕ) × (texts ≡ x ∷ y ∷ (merges ++ plan ∷ [])) × LiftsTexts c x y merges plan o
 MakesOf (commands.Solve c) texts o = (x y : List ℕ) × (merges : List (List ℕ)) × (texts ≡ x ∷ y ∷ merges) × SolvesTexts c x y merges o
 MakesOf (commands.Classical c) texts o = (x y : List ℕ) × (texts ≡ x ∷ y ∷ []) × ClassicalTexts c x y o
-MakesOf (commands.Width c) texts o = (x y : List ℕ) × (texts ≡ x ∷ y ∷ []) × MeasuresTexts c x y o
+MakesOf (commands.Width c) texts o = (x y : List ℕ) × (texts ≡ x ∷ y ∷ []) × WidthTexts c x y o
 MakesOf (commands.Bench c) texts o = (texts ≡ []) × Benches c o
 
 pub makes_of : (c : Command) (texts : List (List ℕ)) (o : Outcome) → ComesTo c texts o → MakesOf c texts o
@@ -30,8 +30,8 @@ makes_of _ _ o (stripped c x _ a) = (x, refl, a)
 makes_of _ _ o (checked c x y plan _ a) = (x, y, plan, refl, a)
 makes_of _ _ o (lifted c x y merges plan _ a) = (x, y, merges, plan, refl, a)
 makes_of _ _ o (solved c x y merges _ a) = (x, y, merges, refl, a)
-makes_of _ _ o (searched c x y _ a) = (x, y, refl, a)
-makes_of _ _ o (measured c x y _ a) = (x, y, refl, a)
+makes_of _ _ o (solved_classical c x y _ a) = (x, y, refl, a)
+makes_of _ _ o (width_measured c x y _ a) = (x, y, refl, a)
 makes_of _ _ o (benched c _ a) = (refl, a)
 
 -- the outcome that is due of a command

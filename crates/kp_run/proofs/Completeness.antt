@@ -9,7 +9,7 @@ use Rattle.kp_base.specs.Implicates.{IsOfItsAtoms}
 use Rattle.kp_base.specs.Covering.{IsComplete, AreUncovered}
 use Rattle.kp_base.proofs.Cases.{some_alike}
 use Rattle.kp_base.proofs.Parts.{last_once}
-use Rattle.kp_law_machine.specs.Lifts.{lifted as lift_of, UnliftedAt}
+use Rattle.kp_law_machine.specs.Lifts.{lift_of, UnliftedAt}
 use Rattle.kp_law_machine.proofs.Public.{lifted_lists_strip, failing_lists_dont_lift}
 use Rattle.kp_tree_grammar.specs.declared.tree.Word.{Word}
 use Rattle.kp_tree_grammar.specs.Trees.{Domain, Problem}
@@ -39,7 +39,7 @@ use Rattle.kp_words.specs.Command.{IsLift, file_of, if_named, inputs_of}
 use Rattle.kp_run_messages.specs.Coverage.{coverage_text}
 use Rattle.kp_run_prepare.specs.Prepared.{usual}
 use Rattle.kp_run_prepare.proofs.Public.{usual_ground_is_of_its_atoms, goes_on_with_these, prepared_under_a_greater_limit, problem_of_trees}
-use Rattle.kp_run_inputs.specs.Tables.{HasTable, no_table, with_table}
+use Rattle.kp_run_inputs.specs.SourceTables.{HasTable, no_table, with_table}
 use Rattle.kp_run_inputs.specs.Actions.{HasActions, no_actions, with_actions}
 use Rattle.kp_run_inputs.proofs.Public.{sources_have_one_table, plans_have_one_list, named_is_found_at}
 use Rattle.kp_ktask.proofs.Public.{task_refused_or_within}

@@ -15,7 +15,7 @@ use Rattle.kp_base.specs.Covering.{IsCovered, AreUncovered}
 use Rattle.kp_tree_grammar.specs.declared.tree.Word.{Word}
 use Rattle.kp_tree_grammar.specs.Trees.{Domain, Problem}
 use Rattle.kp_tags_modes.specs.Modes.{AreMergesOf}
-use Rattle.kp_tags.specs.Tables.{HasClosure}
+use Rattle.kp_tags.specs.MergeTables.{HasClosure}
 use Rattle.kp_tags.specs.Made.{IsMade}
 use Rattle.kp_base.proofs.Closures.{closure_over_first_atoms}
 use Rattle.kp_law_files.specs.Translations.{ground_of, initial_of}

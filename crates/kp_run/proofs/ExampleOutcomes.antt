@@ -60,7 +60,7 @@ use Rattle.kp_words.specs.Command.{IsTranslate, file_of, if_named}
 use Rattle.kp_words.proofs.Public.{no_words_are_no_command, words_are_one_command}
 use Rattle.kp_run_prepare.specs.Texts.{HaveTrees}
 use Rattle.kp_run_prepare.specs.Prepared.{usual, IsStarted, later}
-use Rattle.kp_run_inputs.specs.Tables.{by_mode, with_table}
+use Rattle.kp_run_inputs.specs.SourceTables.{by_mode, with_table}
 use Rattle.kp_run.specs.Outcomes.{shows_usage, translates, done, TranslatesTexts, translated, IsDue, usage, of_command}
 use Rattle.kp_run.specs.Ends.{Ends, came}
 use Rattle.kp_run.specs.Soundness.{IsSound}

@@ -52,7 +52,7 @@ use Rattle.kp_run_prepare.specs.Texts.{HaveTrees, of_problem, of_names}
 use Rattle.kp_run_prepare.specs.Refusing.{named_in}
 use Rattle.kp_run_prepare.specs.Prepared.{IsStarted, RefusesTrees, implicates_over, no_initial_state, clash, by_texts, by_trees, early, later}
 use Rattle.kp_base.specs.declared.limits.Mode.TheVariants as modes
-use Rattle.kp_run_inputs.specs.Tables.{by_mode, with_table}
+use Rattle.kp_run_inputs.specs.SourceTables.{by_mode, with_table}
 use Rattle.kp_run.specs.Outcomes.{translates, done, TranslatesTexts, IsDue}
 use Rattle.kp_run.proofs.Counted.{empty_tags_fit}
 use Rattle.kp_run.proofs.Computed.{reads_file}

@@ -13,13 +13,13 @@ use Rattle.kp_words.specs.Names.{Source, of_mode, of_file, Translate, Merges, St
 use Rattle.kp_base.specs.declared.limits.Mode.{Mode}
 use Rattle.kp_run_inputs.specs.declared.origin.Origin.TheVariants as origins
 use Rattle.kp_run_inputs.specs.declared.origin.Origin.{Origin}
-use Rattle.kp_run_inputs.specs.Tables.{IsOrigin, IsShort, from_mode, from_file}
+use Rattle.kp_run_inputs.specs.SourceTables.{IsOrigin, IsShort, from_mode, from_file}
 use Rattle.kp_words.specs.declared.lent.CommandRef.{CommandRef as Command}
 use Rattle.kp_words.specs.declared.lent.CommandRef.TheVariants as commands
 use Rattle.kp_words.specs.Command.{IsCommand, inputs_of}
 use Rattle.kp_run.specs.declared.sourced.Sourced.{Sourced}
-use Rattle.kp_run.specs.Tables.{IsSourced}
-use Rattle.kp_run.specs.Outcomes.{TranslatesTexts, MergesTexts, StripsText, ChecksTexts, LiftsTexts, SolvesTexts, ClassicalTexts, MeasuresTexts, ComesTo, translated, merged, stripped, checked, lifted, solved, searched, measured, benched, IsDue, of_command}
+use Rattle.kp_run.specs.CommandParts.{IsSourced}
+use Rattle.kp_run.specs.Outcomes.{TranslatesTexts, MergesTexts, StripsText, ChecksTexts, LiftsTexts, SolvesTexts, ClassicalTexts, WidthTexts, ComesTo, translated, merged, stripped, checked, lifted, solved, solved_classical, width_measured, benched, IsDue, of_command}
 use Rattle.kp_run_bench.specs.Bench.{Benches}
 
 -- ---- fronts are of as many texts
@@ -153,15 +153,15 @@ on_two command P texts gots a b r fronts e so comes =
 
 pub two_searched : (c : Classical) (texts : List (List ℕ)) (gots : List Got) (a b : Got) (r : Result Outcome Memory) → AreFronts texts gots → gots ≡ a ∷ b ∷ []
     → ((d p : List ℕ) → IsFront (Some d) most_bytes a → IsFront (Some p) most_bytes b → IfOk r (ClassicalTexts c d p)) → IfOk r (ComesTo (commands.Classical c) texts)
-two_searched c texts gots a b r fronts e = on_two (commands.Classical c) (ClassicalTexts c) texts gots a b r fronts e (searched c)
+two_searched c texts gots a b r fronts e = on_two (commands.Classical c) (ClassicalTexts c) texts gots a b r fronts e (solved_classical c)
 
 pub two_merged : (c : Merges) (texts : List (List ℕ)) (gots : List Got) (a b : Got) (r : Result Outcome Memory) → AreFronts texts gots → gots ≡ a ∷ b ∷ []
     → ((d p : List ℕ) → IsFront (Some d) most_bytes a → IsFront (Some p) most_bytes b → IfOk r (MergesTexts c d p)) → IfOk r (ComesTo (commands.Merges c) texts)
 two_merged c texts gots a b r fronts e = on_two (commands.Merges c) (MergesTexts c) texts gots a b r fronts e (merged c)
 
 pub two_measured : (c : Width) (texts : List (List ℕ)) (gots : List Got) (a b : Got) (r : Result Outcome Memory) → AreFronts texts gots → gots ≡ a ∷ b ∷ []
-    → ((d p : List ℕ) → IsFront (Some d) most_bytes a → IsFront (Some p) most_bytes b → IfOk r (MeasuresTexts c d p)) → IfOk r (ComesTo (commands.Width c) texts)
-two_measured c texts gots a b r fronts e = on_two (commands.Width c) (MeasuresTexts c) texts gots a b r fronts e (measured c)
+    → ((d p : List ℕ) → IsFront (Some d) most_bytes a → IsFront (Some p) most_bytes b → IfOk r (WidthTexts c d p)) → IfOk r (ComesTo (commands.Width c) texts)
+two_measured c texts gots a b r fronts e = on_two (commands.Width c) (WidthTexts c) texts gots a b r fronts e (width_measured c)
 
 pub mode_lifted : (c : Lift) (m : Mode) (texts : List (List ℕ)) (gots : List Got) (a b t : Got) (r : Result Outcome Memory) → c.source ≡ of_mode m → AreFronts texts gots → gots ≡ a ∷ b ∷ t ∷ []
     → ((d p : List ℕ) (merges : List (List ℕ)) (plan : List ℕ) → IsFront (Some d) most_bytes a → IsFront (Some p) most_bytes b → IsOrigin c.source merges (origins.Mode m) → IsFront (Some plan) most_bytes t → IfOk r (LiftsTexts c d p merges plan)) → IfOk r (ComesTo (commands.Lift c) texts)

@@ -14,7 +14,7 @@ use Rattle.kp_run_prepare.proofs.Public.{ground_has_few_actions}
 use Rattle.kp_run_inputs.proofs.Public.{table_has_few_merges}
 use Rattle.kp_classic.proofs.Public.{task_of_ground_fits as ground_fits}
 use Rattle.kp_law_files.specs.Translations.{ground_of, initial_of}
-use Rattle.kp_run_classical.specs.Classical.{IsClassical, task_of as classical_task}
+use Rattle.kp_run_classical.specs.Classical.{IsClassicalProblem, task_of as classical_task}
 use Rattle.kp_run_classical.proofs.Public.{classical_ground_is_of_its_atoms}
 use Rattle.kp_run_solve.proofs.Public.{operators_are_counted}
 
@@ -26,5 +26,5 @@ task_fits d p table small fits writable =
     let actions = ground_has_few_actions (numbered_problem d p) small.counts in
     tagged_tasks_are_fit (ground_of d p) table writable (omega (arith, facts)) (omega (arith, ops, merges, actions))
 
-pub classical_fit : (d : Domain Word) (p : Problem Word) → IsClassical d p → IsFit (classical_task d p)
+pub classical_fit : (d : Domain Word) (p : Problem Word) → IsClassicalProblem d p → IsFit (classical_task d p)
 classical_fit d p c = ground_fits (ground_of d p) (initial_of d p) (classical_ground_is_of_its_atoms (numbered_problem d p) (ground_of d p) c.small)

@@ -20,7 +20,7 @@ use Rattle.kp_words.specs.Names.{Source}
 use Rattle.kp_run_prepare.specs.Refusing.{refuses}
 use Rattle.kp_run_prepare.specs.Prepared.{usual}
 use Rattle.kp_run_inputs.specs.Actions.{ComesByPlan}
-use Rattle.kp_run_inputs.specs.Tables.{HasTable}
+use Rattle.kp_run_inputs.specs.SourceTables.{HasTable}
 use Rattle.kp_run_inputs.proofs.Public.{tables_are_right, table_targets_are_of_atoms, target_is_of_atoms}
 use Rattle.kp_lift.specs.declared.lifting.Lifting.TheVariants as Lifting
 use Rattle.kp_lift.specs.Lifting.{IsTableOn, AnswersLifting, operator_step}
@@ -28,7 +28,7 @@ use Rattle.kp_lift.proofs.Public.{lifted_operators_are_steps}
 use Rattle.kp_run_messages.specs.Lifting.{unlifted_text}
 use Rattle.kp_run_solve.specs.Solving.{denies}
 use Rattle.kp_run.specs.Outcomes.{LiftsActions, lifts, fails, LiftsPlan, no_task, with_task, failing_step}
-use Rattle.kp_run.specs.Tables.{PrintsOperators}
+use Rattle.kp_run.specs.CommandParts.{PrintsOperators}
 
 -- ---- with a table
 

@@ -41,7 +41,7 @@ use Rattle.kp_words.specs.declared.lent.CommandRef.TheVariants as commands
 use Rattle.kp_words.specs.Command.{IsSolve, file_of, if_named, inputs_of}
 use Rattle.kp_run_prepare.specs.Texts.{HaveTrees}
 use Rattle.kp_run_prepare.specs.Prepared.{IsPrepared, by_texts, by_trees, early, later}
-use Rattle.kp_run_inputs.specs.Tables.{HasTable, no_table, with_table}
+use Rattle.kp_run_inputs.specs.SourceTables.{HasTable, no_table, with_table}
 use Rattle.kp_run_inputs.proofs.Public.{table_of_source_is_for_trees}
 use Rattle.kp_run_solve.specs.Solving.{Finds, solves, denies, spends, TellsSolved, SolvesGround, over, searched}
 use Rattle.kp_run_solve.proofs.Public.{ends_are_true, no_plan_is_accepted}

@@ -18,7 +18,7 @@ use Rattle.kp_run_outcome.specs.declared.status.Status.TheVariants as status
 use Rattle.kp_run_outcome.specs.Ends.{Outside, AreHeld, IsAnswer}
 use Rattle.kp_words.specs.Names.{Classical}
 use Rattle.kp_words.specs.declared.lent.CommandRef.TheVariants as commands
-use Rattle.kp_words.specs.Command.{IsClassical as SaysClassical, inputs_of}
+use Rattle.kp_words.specs.Command.{IsClassical, inputs_of}
 use Rattle.kp_run_classical.specs.Classical.{by_texts, by_trees, early, later, task_of}
 use Rattle.kp_run_classical.proofs.Public.{classical_successes_are_plans, classical_plans_are_successes}
 use Rattle.kp_run_messages.specs.Refusals.{nothing}
@@ -57,7 +57,7 @@ of_texts m c domain problem domain_held problem_held o answers (later d p trees 
   tells = goes.tells;
 }
 
-has_searched : (words : List (Vec ℕ Global)) (m : FileMap) (c : Classical) (o : Outcome) → SaysClassical words c → IsDue words (Some m) o → IsNoRefusal o → HasSearched m c o
+has_searched : (words : List (Vec ℕ Global)) (m : FileMap) (c : Classical) (o : Outcome) → IsClassical words c → IsDue words (Some m) o → IsNoRefusal o → HasSearched m c o
 has_searched words m c o is due answers =
     let it = due_makes words (Some m) (commands.Classical c) o is due in
     let made = it.makes in
@@ -122,12 +122,12 @@ module _ (m : FileMap) (c : Classical) (o : Outcome) (x : HasSearched m c o) (ol
 -- ---- what it says of a run
 
 -- it came to an answer that is no refusal
-of_answer : (words : List (Vec ℕ Global)) (old new : Outside) (s : Status) → Ends words old new s → (m : FileMap) (c : Classical) → old.held ≡ Some m → SaysClassical words c → IsAnswer s → ((r : Refused) → s ≡ status.Refused r → ⊥) → (o : Outcome) × HasSearched m c o × IsCarriedOut o old new s
+of_answer : (words : List (Vec ℕ Global)) (old new : Outside) (s : Status) → Ends words old new s → (m : FileMap) (c : Classical) → old.held ≡ Some m → IsClassical words c → IsAnswer s → ((r : Refused) → s ≡ status.Refused r → ⊥) → (o : Outcome) × HasSearched m c o × IsCarriedOut o old new s
 of_answer words old new s ends m c held is answer other =
     let w = did words old new s ends m held answer in
     (w.outcome, has_searched words m c w.outcome is w.due (λ r e. other r (w.carried_out.status_is ∙ e)), w.carried_out)
 
-pub classical_true : (words : List (Vec ℕ Global)) (old new : Outside) (s : Status) → Ends words old new s → (m : FileMap) (c : Classical) → old.held ≡ Some m → SaysClassical words c → ClassicalIsTrue m c old new s
+pub classical_true : (words : List (Vec ℕ Global)) (old new : Outside) (s : Status) → Ends words old new s → (m : FileMap) (c : Classical) → old.held ≡ Some m → IsClassical words c → ClassicalIsTrue m c old new s
 classical_true words old new s ends m c held is = record {
   done = λ done. let x = of_answer words old new s ends m c held is (subst IsAnswer (sym done) tt) (λ r e. absurd (let f = sym done ∙ e in cc)) in is_solved m c x.0 x.1 old new s x.2 done;
   negative = λ negative. let x = of_answer words old new s ends m c held is (subst IsAnswer (sym negative) tt) (λ r e. absurd (let f = sym negative ∙ e in cc)) in has_none m c x.0 x.1 old new s x.2 negative;

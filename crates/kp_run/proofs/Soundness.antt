@@ -36,7 +36,7 @@ use Rattle.kp_run_outcome.specs.Ends.{Outside, AreHeld, with_files, whole, put_f
 use Rattle.kp_words.specs.Names.{Translate}
 use Rattle.kp_words.specs.declared.lent.CommandRef.TheVariants as commands
 use Rattle.kp_words.specs.Command.{IsTranslate, inputs_of}
-use Rattle.kp_run_inputs.specs.Tables.{HasTable, no_table, with_table}
+use Rattle.kp_run_inputs.specs.SourceTables.{HasTable, no_table, with_table}
 use Rattle.kp_run_inputs.proofs.Public.{table_of_source_is_for_trees}
 use Rattle.kp_run.specs.Outcomes.{translates, TranslatesGround, over as when_over, done as when_done, TranslatesTrees, TranslatesTexts, IsDue}
 use Rattle.kp_run.specs.Ends.{Ends, came, read_failed, no_memory}

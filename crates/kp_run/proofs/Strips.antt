@@ -10,7 +10,7 @@ use Rattle.kp_names_meaning.specs.Strip.{strip}
 use Rattle.kp_run_outcome.specs.declared.outcome.Outcome.{Outcome}
 use Rattle.kp_base.specs.Files.{most_bytes}
 use Rattle.kp_plans.specs.declared.step.PlanStep.{PlanStep}
-use Rattle.kp_plans.specs.PlanFiles.{names, IsPlanOf, RefusesPlan}
+use Rattle.kp_plans.specs.PlanFiles.{step_names, IsPlanOf, RefusesPlan}
 use Rattle.kp_plans.specs.Printed.{plan_text}
 use Rattle.kp_plans.specs.Stripping.{AnswersStrip}
 use Rattle.kp_run_messages.specs.Refusals.{nothing}
@@ -33,5 +33,5 @@ refused_length text (Ok o) long is = too_long long is
 refused_length text (Err m) long is = tt
 
 -- what the steps come to is printed
-pub printed_steps : (text : List ℕ) (steps : List PlanStep) (actions : List GroundName) (o : Outcome) → length text ≤ most_bytes → IsPlanOf text steps → strip (names steps) ≡ Some actions → o ≡ prints (plan_text actions) → StripsText text o
+pub printed_steps : (text : List ℕ) (steps : List PlanStep) (actions : List GroundName) (o : Outcome) → length text ≤ most_bytes → IsPlanOf text steps → strip (step_names steps) ≡ Some actions → o ≡ prints (plan_text actions) → StripsText text o
 printed_steps text steps actions o short plan is printed = strips steps actions short plan is printed

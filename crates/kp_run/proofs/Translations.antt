@@ -17,7 +17,7 @@ use Rattle.kp_words.specs.Names.{Translate}
 use Rattle.kp_run_prepare.specs.Refusing.{refuses}
 use Rattle.kp_run_prepare.specs.Prepared.{usual}
 use Rattle.kp_run.specs.Outcomes.{translates, TranslatesGround, over, done}
-use Rattle.kp_run.specs.Tables.{IsPut}
+use Rattle.kp_run.specs.CommandParts.{IsPut}
 
 -- ---- with a table
 

@@ -6,7 +6,7 @@ use Rattle.kp_names_meaning.specs.Steps.{Step}
 use Rattle.kp_names_meaning.specs.Plans.{IsPlan}
 use Rattle.kp_names_meaning.specs.Strip.{strip}
 use Rattle.kp_plans.specs.declared.step.PlanStep.{PlanStep}
-use Rattle.kp_plans.specs.PlanFiles.{names, IsPlanOf}
+use Rattle.kp_plans.specs.PlanFiles.{step_names, IsPlanOf}
 use Rattle.kp_plans.specs.Printed.{plan_text, IsTextOf}
 use Rattle.kp_outside.specs.Outside.{FileMap, with_bytes}
 use Rattle.kp_run_outcome.specs.declared.status.Status.{Status}
@@ -55,7 +55,7 @@ pub record HoldsPlan (held : FileMap) (c : Lift) (plan : List Step) : Type 0 whe
   pub plan_held : get held c.plan ≡ Some text
   pub short : length text ≤ most_bytes
   pub reads : IsPlanOf text steps
-  pub names_are : names steps ≡ plan
+  pub names_are : step_names steps ≡ plan
   pub is_plan : IsPlan domain problem plan
 
 -- The lift ended with Done, and told the lines of a plan of the two files that the translation put, which strips to the given plan. The lines read as that plan.

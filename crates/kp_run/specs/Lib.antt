@@ -3,6 +3,6 @@ pub mod Ends
 pub mod Soundness
 pub mod Completeness
 pub mod Solved
-pub mod Tables
+pub mod CommandParts
 pub mod Sized
 pub mod Laws

@@ -13,7 +13,7 @@ use Rattle.kp_base.specs.declared.refused.Refused.TheVariants as refusals
 use Rattle.kp_base.specs.Covering.{AreUncovered}
 use Rattle.kp_tree_grammar.specs.declared.tree.Word.{Word}
 use Rattle.kp_tree_grammar.specs.Trees as trees
-use Rattle.kp_law_machine.specs.Lifts.{lifted as lift_of, UnliftedAt}
+use Rattle.kp_law_machine.specs.Lifts.{lift_of, UnliftedAt}
 use Rattle.kp_law_ktask.specs.Task.{task_of}
 use Rattle.kp_law_ktask.specs.Accepted.{IsAccepted}
 use Rattle.kp_ktask.specs.Translated.{FitsLimits, RefusesTask}
@@ -29,7 +29,7 @@ use Rattle.kp_check.specs.Judging.{AnswersJudged}
 use Rattle.kp_names_meaning.specs.Steps.{Step}
 use Rattle.kp_names_meaning.specs.Strip.{strip}
 use Rattle.kp_plans.specs.declared.step.PlanStep.{PlanStep}
-use Rattle.kp_plans.specs.PlanFiles.{names, IsPlanOf, RefusesPlan}
+use Rattle.kp_plans.specs.PlanFiles.{step_names, IsPlanOf, RefusesPlan}
 use Rattle.kp_plans.specs.Printed.{plan_text}
 use Rattle.kp_plans.specs.Stripping.{IsFirstUnstripped}
 use Rattle.kp_outside.specs.Outside.{FileMap}
@@ -50,7 +50,7 @@ use Rattle.kp_words.specs.Command.{IsCommand, IsNoCommand, inputs_of}
 use Rattle.kp_run_prepare.specs.Refusing.{refuses, named_in}
 use Rattle.kp_run_prepare.specs.Prepared.{usual, Comes}
 use Rattle.kp_run_classical.specs.Classical.{ComesClassical, task_of as classical_task}
-use Rattle.kp_run_inputs.specs.Tables.{ComesByTable}
+use Rattle.kp_run_inputs.specs.SourceTables.{ComesByTable}
 use Rattle.kp_run_inputs.specs.Actions.{ComesByPlan}
 use Rattle.kp_run_solve.specs.Solving.{denies, SolvesGround, SolvesClassical}
 use Rattle.kp_run_bench.specs.Bench.{Benches}
@@ -91,12 +91,12 @@ TranslatesTexts c domain problem merges o = Comes c.implicates domain problem (T
 -- ---- `merges`
 
 -- the merges of a table are printed
-abbrev pub ListsMerges : Ground → TagTable → Outcome → Type 0
-ListsMerges g table o = o ≡ prints (merges_text g.atoms (merges_of table))
+abbrev pub MergesGround : Ground → TagTable → Outcome → Type 0
+MergesGround g table o = o ≡ prints (merges_text g.atoms (merges_of table))
 
 -- two trees have these merges in a mode
 abbrev pub MergesTrees : Mode → trees.Domain Word → trees.Problem Word → Outcome → Type 0
-MergesTrees mode d p o = ComesByTable (ground_of d p) (initial_of d p) (of_mode mode) [] (ListsMerges (ground_of d p)) o
+MergesTrees mode d p o = ComesByTable (ground_of d p) (initial_of d p) (of_mode mode) [] (MergesGround (ground_of d p)) o
 
 -- two texts have these merges in a mode
 abbrev pub MergesTexts : Merges → List ℕ → List ℕ → Outcome → Type 0
@@ -109,7 +109,7 @@ pub data StripsText (text : List ℕ) (o : Outcome) : Type 0 where
   too_long : most_bytes < length text → o ≡ refuses nothing (refusals.TooLong parts.Plan) → StripsText text o
   no_plan : (r : Refused) → length text ≤ most_bytes → RefusesPlan text r → o ≡ refuses nothing r → StripsText text o
   no_strip : (steps : List PlanStep) (step : PlanStep) → length text ≤ most_bytes → IsPlanOf text steps → IsFirstUnstripped steps step → o ≡ refuses nothing (refusals.PlanSyntax step.place) → StripsText text o
-  strips : (steps : List PlanStep) (actions : List GroundName) → length text ≤ most_bytes → IsPlanOf text steps → strip (names steps) ≡ Some actions → o ≡ prints (plan_text actions) → StripsText text o
+  strips : (steps : List PlanStep) (actions : List GroundName) → length text ≤ most_bytes → IsPlanOf text steps → strip (step_names steps) ≡ Some actions → o ≡ prints (plan_text actions) → StripsText text o
 
 -- ---- `check`
 
@@ -184,17 +184,17 @@ tells_width g bound (Within rows) = prints (width_text g.atoms rows)
 tells_width g bound (Over target) = denies (over_text g.atoms bound target)
 
 -- a ground problem and its initial formula are measured to this: a refusal, or what is told of the report
-pub data MeasuresGround (bound : ℕ) (g : Ground) (i : Initial) (o : Outcome) : Type 0 where
-  no_report : (r : Refused) → RefusesWidth usual bound g i r → o ≡ refuses (named_in g) r → MeasuresGround bound g i o
-  with_report : (report : WidthReport) → IsReport usual bound g i report → o ≡ tells_width g bound report → MeasuresGround bound g i o
+pub data WidthGround (bound : ℕ) (g : Ground) (i : Initial) (o : Outcome) : Type 0 where
+  no_report : (r : Refused) → RefusesWidth usual bound g i r → o ≡ refuses (named_in g) r → WidthGround bound g i o
+  with_report : (report : WidthReport) → IsReport usual bound g i report → o ≡ tells_width g bound report → WidthGround bound g i o
 
 -- two trees are measured to this
-abbrev pub MeasuresTrees : Width → trees.Domain Word → trees.Problem Word → Outcome → Type 0
-MeasuresTrees c d p o = MeasuresGround c.bound (ground_of d p) (initial_of d p) o
+abbrev pub WidthTrees : Width → trees.Domain Word → trees.Problem Word → Outcome → Type 0
+WidthTrees c d p o = WidthGround c.bound (ground_of d p) (initial_of d p) o
 
 -- two texts are measured to this
-abbrev pub MeasuresTexts : Width → List ℕ → List ℕ → Outcome → Type 0
-MeasuresTexts c domain problem o = Comes c.implicates domain problem (MeasuresTrees c) o
+abbrev pub WidthTexts : Width → List ℕ → List ℕ → Outcome → Type 0
+WidthTexts c domain problem o = Comes c.implicates domain problem (WidthTrees c) o
 
 -- ---- all commands
 
@@ -206,8 +206,8 @@ pub data ComesTo : Command → List (List ℕ) → Outcome → Type 0 where
   checked : (c : Check) (domain problem plan : List ℕ) (o : Outcome) → ChecksTexts c domain problem plan o → ComesTo (commands.Check c) (domain ∷ problem ∷ plan ∷ []) o
   lifted : (c : Lift) (domain problem : List ℕ) (merges : List (List ℕ)) (plan : List ℕ) (o : Outcome) → LiftsTexts c domain problem merges plan o → ComesTo (commands.Lift c) (domain ∷ problem ∷ (merges ++ plan ∷ [])) o
   solved : (c : Solve) (domain problem : List ℕ) (merges : List (List ℕ)) (o : Outcome) → SolvesTexts c domain problem merges o → ComesTo (commands.Solve c) (domain ∷ problem ∷ merges) o
-  searched : (c : Classical) (domain problem : List ℕ) (o : Outcome) → ClassicalTexts c domain problem o → ComesTo (commands.Classical c) (domain ∷ problem ∷ []) o
-  measured : (c : Width) (domain problem : List ℕ) (o : Outcome) → MeasuresTexts c domain problem o → ComesTo (commands.Width c) (domain ∷ problem ∷ []) o
+  solved_classical : (c : Classical) (domain problem : List ℕ) (o : Outcome) → ClassicalTexts c domain problem o → ComesTo (commands.Classical c) (domain ∷ problem ∷ []) o
+  width_measured : (c : Width) (domain problem : List ℕ) (o : Outcome) → WidthTexts c domain problem o → ComesTo (commands.Width c) (domain ∷ problem ∷ []) o
   benched : (c : Bench) (o : Outcome) → Benches c o → ComesTo (commands.Bench c) [] o
 
 -- The outcome that is due: the usage where the words are no command; else what the command comes to on the contents of its input files. Where it isn't told what they hold, they may hold anything.

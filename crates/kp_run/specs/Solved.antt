@@ -28,8 +28,8 @@ use Rattle.kp_words.specs.Names.{Source, Solve, Classical}
 use Rattle.kp_words.specs.Command.{file_of, if_named}
 use Rattle.kp_run_prepare.specs.Texts.{HaveTrees}
 use Rattle.kp_run_prepare.specs.Prepared.{usual, IsPrepared}
-use Rattle.kp_run_classical.specs.Classical.{IsClassical, task_of as classical_task}
-use Rattle.kp_run_inputs.specs.Tables.{HasTable}
+use Rattle.kp_run_classical.specs.Classical.{IsClassicalProblem, task_of as classical_task}
+use Rattle.kp_run_inputs.specs.SourceTables.{HasTable}
 use Rattle.kp_run_solve.specs.Solving.{Finds}
 use Rattle.kp_run.specs.Completeness.{PrintsComplete}
 
@@ -133,7 +133,7 @@ pub record IsHeldClassical (m : FileMap) (domain_name problem_name : List ℕ) (
   pub domain_held : get m domain_name ≡ Some domain
   pub problem_held : get m problem_name ≡ Some problem
   pub trees : HaveTrees domain problem d p
-  pub classical : IsClassical d p
+  pub classical : IsClassicalProblem d p
 
 -- what a call to `classical` is about: the two files that are held, and their trees
 pub record IsPosedClassical (m : FileMap) (c : Classical) : Type 0 where

@@ -2,17 +2,18 @@
 //! outcome is due, `specs/Ends.antt` how a run ends.
 #![tactic(auto)]
 
-mod checking;
+mod check;
+mod classical;
 mod entry;
 mod law;
-mod lifting;
-mod listing;
-mod measuring;
+mod lift;
+mod merges;
 mod outcomes;
-mod solving;
+mod solve;
 mod sourced;
-mod stripping;
-mod translating;
+mod strip;
+mod translate;
+mod width;
 
 pub use entry::run;
 pub use kp_run_outcome::Status;

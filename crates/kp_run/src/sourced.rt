@@ -4,8 +4,8 @@ ghost use Rattle.kp_outside.specs.Outside.{FileMap, IsWithin};
 ghost use Rattle.kp_run_outcome.specs.Ends.{AreFronts, AreRead};
 ghost use Rattle.kp_words.specs.Names.{Source as Origins, source_view, of_mode, of_file};
 ghost use Rattle.kp_words.specs.Command.{file_of, if_named};
-ghost use Rattle.kp_run_inputs.specs.Tables.{IsOrigin, IsShort};
-ghost use Rattle.kp_run.specs.Tables.{IsSourced};
+ghost use Rattle.kp_run_inputs.specs.SourceTables.{IsOrigin, IsShort};
+ghost use Rattle.kp_run.specs.CommandParts.{IsSourced};
 
 use kp_base::{Mode, Row};
 use kp_outside::Got;

@@ -14,9 +14,9 @@ use Rattle.kp_run_prepare.specs.declared.prepared.Prepared.{Prepared as Made}
 use Rattle.kp_run_prepare.specs.Prepared.{usual}
 use Rattle.kp_run_prepare.proofs.Public.{problem_of_trees}
 use Rattle.kp_run_inputs.proofs.Public.{table_of_source_is_for_trees}
-use Rattle.kp_run_bench.specs.Working.{IsPosed, IsSafe}
+use Rattle.kp_run_bench.specs.Working.{IsPreparedWithTable, IsSafe}
 
-pub is_safe : (mode : Mode) (x : Made) (table : TagTable) → IsPosed mode x table → FitsLimits (task_of x.ground table) usual → IsSafe x.ground (formula x.primes) table
+pub is_safe : (mode : Mode) (x : Made) (table : TagTable) → IsPreparedWithTable mode x table → FitsLimits (task_of x.ground table) usual → IsSafe x.ground (formula x.primes) table
 is_safe mode x table posed fits =
     let w = posed.given in
     let g = ground_of w.first w.second in

@@ -14,7 +14,7 @@ use Rattle.kp_classic.specs.Fits.{are_below}
 use Rattle.kp_classic.specs.Steps.{start, succeeds}
 use Rattle.kp_lift.specs.Lifting.{IsThere}
 use Rattle.kp_law_machine.proofs.Public.{accepted_lists_are_plans}
-use Rattle.kp_primes_models.specs.Ordered.{state_of}
+use Rattle.kp_primes_models.specs.Ordered.{state_of_atoms}
 use Rattle.kp_check.specs.declared.answer.Judged.TheVariants.{No}
 use Rattle.kp_check.specs.Judging.{fails, AnswersJudged}
 use Rattle.kp_write.specs.Task.{Op}
@@ -75,5 +75,5 @@ work g i table ops safe plan = subst (IsGroundPlan g i) (actions_among_steps g o
 -- and no check finds a state from which they fail
 pub pass : (n : ℕ) (g : Ground) (i : Initial) (ns : List ℕ) (ps : List AtomId) (k : ℕ) (l : Lit) → IsGroundPlan g i ns → AnswersJudged n g i ns (No ps k l) → ⊥
 pass n g i ns ps k l works judged =
-    let found = and_parts (is_model i (state_of ps)) (fails g ns (state_of ps)) judged.0.0.passed in
-    false≢true (subst (λ b. not b ≡ true) (works (state_of ps) found.0) found.1)
+    let found = and_parts (is_model i (state_of_atoms ps)) (fails g ns (state_of_atoms ps)) judged.0.0.passed in
+    false≢true (subst (λ b. not b ≡ true) (works (state_of_atoms ps) found.0) found.1)

@@ -27,7 +27,7 @@ use Rattle.kp_words.specs.declared.source.Family.TheVariants as families
 use Rattle.kp_words.specs.Names.{of_mode, Bench}
 use Rattle.kp_run_prepare.specs.Refusing.{refuses}
 use Rattle.kp_run_prepare.specs.Prepared.{usual, Comes}
-use Rattle.kp_run_inputs.specs.Tables.{ComesByTable}
+use Rattle.kp_run_inputs.specs.SourceTables.{ComesByTable}
 use Rattle.kp_run_solve.specs.Solving.{Finds, TellsSolved}
 use Rattle.kp_run_bench.specs.Summary.{summary_text}
 

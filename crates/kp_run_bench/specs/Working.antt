@@ -14,11 +14,11 @@ use Rattle.kp_law_files.specs.Translations.{ground_of, initial_of}
 use Rattle.kp_words.specs.Names.{of_mode}
 use Rattle.kp_run_prepare.specs.declared.prepared.Prepared.{Prepared as Made}
 use Rattle.kp_run_prepare.specs.Prepared.{IsPreparedOf}
-use Rattle.kp_run_inputs.specs.Tables.{HasTable}
+use Rattle.kp_run_inputs.specs.SourceTables.{HasTable}
 use Rattle.kp_run_bench.specs.Bench.{usual_implicates}
 
 -- a ground problem and its prime implicates are those of two texts, and this is the table that the mode has for their trees
-pub record IsPosed (mode : Mode) (x : Made) (table : TagTable) : Type 0 where
+pub record IsPreparedWithTable (mode : Mode) (x : Made) (table : TagTable) : Type 0 where
   pub domain : List ℕ
   pub problem : List ℕ
   pub given : IsPreparedOf usual_implicates domain problem x

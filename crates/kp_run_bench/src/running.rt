@@ -7,12 +7,12 @@ ghost use Rattle.kp_search.specs.declared.found.Found.{Found};
 ghost use Rattle.kp_law_ktask.specs.Task.{task_of};
 ghost use Rattle.kp_ktask.specs.Translated.{FitsLimits};
 ghost use Rattle.kp_words.specs.Names.{of_mode};
-ghost use Rattle.kp_words.specs.Options.{IsWithin};
+ghost use Rattle.kp_words.specs.Options.{IsOfRange};
 ghost use Rattle.kp_run_prepare.specs.Prepared.{usual, Comes, IsPreparedOf, IsUsable};
-ghost use Rattle.kp_run_inputs.specs.Tables.{ComesByTable};
+ghost use Rattle.kp_run_inputs.specs.SourceTables.{ComesByTable};
 ghost use Rattle.kp_run_solve.specs.Solving.{Finds};
 ghost use Rattle.kp_run_bench.specs.Bench.{usual_implicates, TellsBench, BenchesGround, BenchesTrees, Benches};
-ghost use Rattle.kp_run_bench.specs.Working.{IsPosed, IsSafe};
+ghost use Rattle.kp_run_bench.specs.Working.{IsPreparedWithTable, IsSafe};
 
 use crate::telling::tell_found;
 use crate::texts::{front, texts_of};
@@ -57,7 +57,7 @@ fn bench_table(
 ) -> Result<Outcome, Memory>
     requires usable { IsUsable prepared.now }
     requires relevance { ArePairsOf prepared.now.ground relevance.now }
-    requires posed { IsPosed command.now.mode prepared.now table.now }
+    requires posed { IsPreparedWithTable command.now.mode prepared.now table.now }
     ensures { IfOk result (BenchesGround command.now prepared.now.ground (formula prepared.now.primes) table.now) }
 {
     match translate(alloc, &prepared.ground, table, &Limits::usual()) {
@@ -92,7 +92,7 @@ fn bench_texts(alloc: Global, command: &Words, texts: Texts) -> Result<Outcome, 
 
 /// What a run on a generated problem of a size from 2 to 100 comes to.
 pub fn bench(alloc: Global, command: &Words) -> Result<Outcome, Memory>
-    requires { IsWithin 2 100 command.now.n }
+    requires { IsOfRange 2 100 command.now.n }
     ensures { IfOk result (Benches command.now) }
 {
     let texts = texts_of(alloc, command.family, command.n)?;

@@ -1,7 +1,7 @@
 //! The texts of a generated problem, and what is read of them.
 ghost use Rattle.std.specs.Prelude.{◌≡◌, Some, IfOk};
 ghost use Rattle.kp_outside.specs.Outside.{IsFront, IsWithin};
-ghost use Rattle.kp_words.specs.Options.{IsWithin as IsOfRange};
+ghost use Rattle.kp_words.specs.Options.{IsOfRange};
 ghost use Rattle.kp_run_bench.specs.Bench.{family_texts};
 
 use kp_base::{Memory, Row, Texts};

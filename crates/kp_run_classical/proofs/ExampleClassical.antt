@@ -18,7 +18,7 @@ use Rattle.kp_ground.specs.Grounded.{IsGrounded}
 use Rattle.kp_classic.specs.Steps.{start, succeeds}
 use Rattle.kp_law_files.specs.Translations.{initial_of}
 use Rattle.kp_law_files.proofs.Public.{initial_states_are_models}
-use Rattle.kp_run_classical.specs.Classical.{classical, IsClassical, RefusesClassical, no_initial_state, task_of}
+use Rattle.kp_run_classical.specs.Classical.{classical, IsClassicalProblem, RefusesClassical, no_initial_state, task_of}
 use Rattle.kp_run_classical.specs.Laws.{Succeeds, HaveNames}
 
 is_small : (l : Lifted) → binding_count l ≡ 1 → length (kept_instances l) ≡ 1 → total_weight l ≡ 3 → length (ground_atoms l) ≡ 2 → IsGrounded l classical (by_number.ground_of l)
@@ -36,7 +36,7 @@ only_p_is : is_model (initial_of exchange_tree from_p_to_q_tree) only_p ≡ true
 unfolding only_p
 only_p_is = refl
 
-is_classical : IsClassical exchange_tree from_p_to_q_tree
+is_classical : IsClassicalProblem exchange_tree from_p_to_q_tree
 is_classical = record {
   certain = refl;
   small = is_small (numbered_problem exchange_tree from_p_to_q_tree) refl refl refl refl;

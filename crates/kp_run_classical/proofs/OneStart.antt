@@ -12,7 +12,7 @@ use Rattle.kp_run_outcome.specs.declared.outcome.Outcome.{Outcome}
 use Rattle.kp_run_prepare.specs.Texts.{HaveTrees}
 use Rattle.kp_run_prepare.specs.Refusing.{refuses}
 use Rattle.kp_run_prepare.proofs.Public.{texts_have_one_domain, texts_have_one_problem, texts_refused_once, texts_refused_or_read, ground_refused_once, ground_refused_or_within}
-use Rattle.kp_run_classical.specs.Classical.{classical, IsCertain, IsClassical, RefusesClassical, not_classical, too_large, no_initial_state, ClassicalEndsEarly, by_texts, by_trees, ComesClassical, early, later}
+use Rattle.kp_run_classical.specs.Classical.{classical, IsCertain, IsClassicalProblem, RefusesClassical, not_classical, too_large, no_initial_state, ClassicalEndsEarly, by_texts, by_trees, ComesClassical, early, later}
 
 -- ---- two trees
 
@@ -32,7 +32,7 @@ module _ (y : List ℕ) (d : Domain Word) (p : Problem Word) where
   trees_once _ _ (no_initial_state n w a) (too_large s m k) = absurd (ground_refused_or_within (numbered_problem d p) classical s _ k w)
   trees_once _ _ (no_initial_state n w a) (no_initial_state m v b) = refl
 
-  refused_or_classical : (r : Refused) → RefusesClassical y d p r → IsClassical d p → ⊥
+  refused_or_classical : (r : Refused) → RefusesClassical y d p r → IsClassicalProblem d p → ⊥
   refused_or_classical _ (not_classical at e) k = placed_or_certain at e k.certain
   refused_or_classical _ (too_large r n h) k = ground_refused_or_within (numbered_problem d p) classical r _ h k.small
   refused_or_classical _ (no_initial_state n w a) k = a k.initial
@@ -48,13 +48,13 @@ module _ (x y : List ℕ) where
       let here = subst (λ z. RefusesClassical y d' z r) (texts_have_one_problem x y d d' p p' h k) (subst (λ z. RefusesClassical y z p r) (texts_have_one_domain x y d d' p p' h k) a) in
       e ∙ (ap (refuses nothing) (trees_once y d' p' r s here b) ∙ sym f)
 
-  early_or_later : (d : Domain Word) (p : Problem Word) (o : Outcome) → ClassicalEndsEarly x y o → HaveTrees x y d p → IsClassical d p → ⊥
+  early_or_later : (d : Domain Word) (p : Problem Word) (o : Outcome) → ClassicalEndsEarly x y o → HaveTrees x y d p → IsClassicalProblem d p → ⊥
   early_or_later d p o (by_texts r a e) k w = texts_refused_or_read x y r d p a k
   early_or_later d p o (by_trees d' p' r h a e) k w =
       refused_or_classical y d p r (subst (λ z. RefusesClassical y d z r) (texts_have_one_problem x y d' d p' p h k) (subst (λ z. RefusesClassical y z p' r) (texts_have_one_domain x y d' d p' p h k) a)) w
 
   -- where a command goes on to one outcome, it comes to one
-  pub comes_once : (P : Domain Word → Problem Word → Outcome → Type 0) → ((d : Domain Word) (p : Problem Word) (o u : Outcome) → IsClassical d p → P d p o → P d p u → o ≡ u)
+  pub comes_once : (P : Domain Word → Problem Word → Outcome → Type 0) → ((d : Domain Word) (p : Problem Word) (o u : Outcome) → IsClassicalProblem d p → P d p o → P d p u → o ≡ u)
       → (o u : Outcome) → ComesClassical x y P o → ComesClassical x y P u → o ≡ u
   comes_once P once o u (early a) (early b) = early_once o u a b
   comes_once P once o u (early a) (later d p h w b) = absurd (early_or_later d p o a h w)
@@ -63,6 +63,6 @@ module _ (x y : List ℕ) where
       once d' p' o u v (subst (λ z. P d' z o) (texts_have_one_problem x y d d' p p' h k) (subst (λ z. P z p o) (texts_have_one_domain x y d d' p p' h k) a)) b
 
   -- and where it is known to go on with two trees, it goes on with these
-  pub comes_later : (P : Domain Word → Problem Word → Outcome → Type 0) (d : Domain Word) (p : Problem Word) (o : Outcome) → HaveTrees x y d p → IsClassical d p → ComesClassical x y P o → P d p o
+  pub comes_later : (P : Domain Word → Problem Word → Outcome → Type 0) (d : Domain Word) (p : Problem Word) (o : Outcome) → HaveTrees x y d p → IsClassicalProblem d p → ComesClassical x y P o → P d p o
   comes_later P d p o k w (early a) = absurd (early_or_later d p o a k w)
   comes_later P d p o k w (later e q h v a) = subst (λ z. P d z o) (texts_have_one_problem x y e d q p h k) (subst (λ z. P z q o) (texts_have_one_domain x y e d q p h k) a)

@@ -18,7 +18,7 @@ use Rattle.kp_law_files.specs.Translations.{ground_of, initial_of}
 use Rattle.kp_law_files.proofs.Public.{initial_states_are_models}
 use Rattle.kp_run_prepare.specs.Texts.{HaveTrees}
 use Rattle.kp_run_prepare.proofs.Public.{problem_of_trees, numbers_of_names_once}
-use Rattle.kp_run_classical.specs.Classical.{IsClassical, task_of}
+use Rattle.kp_run_classical.specs.Classical.{IsClassicalProblem, task_of}
 use Rattle.kp_run_classical.specs.Laws.{SuccessesArePlans, SuccessesHaveNames, PlansAreSuccesses}
 use Rattle.kp_run_classical.proofs.Facts.{certain_facts, says_at_most_one}
 use Rattle.kp_run_classical.proofs.Counted.{is_of_atoms}
@@ -26,12 +26,12 @@ use Rattle.kp_run_classical.proofs.Counted.{is_of_atoms}
 -- ---- the task
 
 -- the formula says one state
-says_one : (domain problem : List ℕ) (d : Domain Word) (p : Problem Word) → HaveTrees domain problem d p → IsClassical d p → SaysOneState (length (ground_of d p).atoms) (initial_of d p)
+says_one : (domain problem : List ℕ) (d : Domain Word) (p : Problem Word) → HaveTrees domain problem d p → IsClassicalProblem d p → SaysOneState (length (ground_of d p).atoms) (initial_of d p)
 says_one domain problem d p trees c =
     let one = says_at_most_one (numbered_problem d p) (certain_facts d p c.certain) in
     record { of_atoms = one.of_atoms; units = one.units; each_known = one.each_known; consistent = (initial_states_are_models d p trees.no_fault).0 c.initial }
 
-does_the_same : (domain problem : List ℕ) (d : Domain Word) (p : Problem Word) → HaveTrees domain problem d p → IsClassical d p → DoesTheSame (ground_of d p) (initial_of d p) (task_of d p)
+does_the_same : (domain problem : List ℕ) (d : Domain Word) (p : Problem Word) → HaveTrees domain problem d p → IsClassicalProblem d p → DoesTheSame (ground_of d p) (initial_of d p) (task_of d p)
 does_the_same domain problem d p trees c = task_does_the_same (ground_of d p) (initial_of d p) (is_of_atoms (numbered_problem d p) (ground_of d p) c.small) (says_one domain problem d p trees c)
 
 -- ---- names

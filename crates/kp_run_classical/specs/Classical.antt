@@ -36,7 +36,7 @@ abbrev pub IsCertain : Problem Word → Type 0
 IsCertain p = first_unsure p.init ≡ None
 
 -- the trees are classical: nothing leaves the initial state open, the ground problem is within the limits, and there is an initial state
-pub record IsClassical (d : Domain Word) (p : Problem Word) : Type 0 where
+pub record IsClassicalProblem (d : Domain Word) (p : Problem Word) : Type 0 where
   pub certain : IsCertain p
   pub small : IsSmall d p
   pub initial : HasInitialState p
@@ -61,7 +61,7 @@ pub data ClassicalEndsEarly (domain problem : List ℕ) (o : Outcome) : Type 0 w
 -- a command that goes on so with two classical trees comes to this on two texts: it ends early, or goes on
 pub data ComesClassical (domain problem : List ℕ) (goes_on : Domain Word → Problem Word → Outcome → Type 0) (o : Outcome) : Type 0 where
   early : ClassicalEndsEarly domain problem o → ComesClassical domain problem goes_on o
-  later : (d : Domain Word) (p : Problem Word) → HaveTrees domain problem d p → IsClassical d p → goes_on d p o → ComesClassical domain problem goes_on o
+  later : (d : Domain Word) (p : Problem Word) → HaveTrees domain problem d p → IsClassicalProblem d p → goes_on d p o → ComesClassical domain problem goes_on o
 
 -- ---- the call
 
@@ -70,7 +70,7 @@ pub record IsPosedOf (domain problem : List ℕ) (x : Posed) : Type 0 where
   pub first : Domain Word
   pub second : Problem Word
   pub trees : HaveTrees domain problem first second
-  pub classical : IsClassical first second
+  pub classical : IsClassicalProblem first second
   pub ground : x.ground ≡ ground_of first second
   pub task : x.task ≡ task_of first second
 

@@ -8,7 +8,7 @@ use Rattle.kp_base.specs.ActionNames.{action_name}
 use Rattle.kp_classic.specs.Steps.{start, succeeds}
 use Rattle.kp_law_files.specs.Translations.{ground_of}
 use Rattle.kp_run_prepare.specs.Texts.{HaveTrees}
-use Rattle.kp_run_classical.specs.Classical.{IsClassical, task_of}
+use Rattle.kp_run_classical.specs.Classical.{IsClassicalProblem, task_of}
 
 -- the operators succeed from the start of the task of two trees
 abbrev pub Succeeds : Domain Word → Problem Word → List ℕ → Type 0
@@ -20,7 +20,7 @@ HaveNames d p ns steps = map (action_name (ground_of d p)) ns ≡ map Some steps
 
 -- operators whose actions have the names of these steps succeed exactly where the steps are a plan
 abbrev pub SuccessesArePlans : Type 0
-SuccessesArePlans = (domain problem : List ℕ) (d : Domain Word) (p : Problem Word) → HaveTrees domain problem d p → IsClassical d p → (ns : List ℕ) (steps : List Step) → HaveNames d p ns steps → Succeeds d p ns ↔ IsPlan domain problem steps
+SuccessesArePlans = (domain problem : List ℕ) (d : Domain Word) (p : Problem Word) → HaveTrees domain problem d p → IsClassicalProblem d p → (ns : List ℕ) (steps : List Step) → HaveNames d p ns steps → Succeeds d p ns ↔ IsPlan domain problem steps
 
 -- operators that succeed have actions with names
 abbrev pub SuccessesHaveNames : Type 0
@@ -28,4 +28,4 @@ SuccessesHaveNames = (d : Domain Word) (p : Problem Word) (ns : List ℕ) → Su
 
 -- and the steps of a plan are the names of operators that succeed
 abbrev pub PlansAreSuccesses : Type 0
-PlansAreSuccesses = (domain problem : List ℕ) (d : Domain Word) (p : Problem Word) → HaveTrees domain problem d p → IsClassical d p → (steps : List Step) → IsPlan domain problem steps → (ns : List ℕ) × HaveNames d p ns steps × Succeeds d p ns
+PlansAreSuccesses = (domain problem : List ℕ) (d : Domain Word) (p : Problem Word) → HaveTrees domain problem d p → IsClassicalProblem d p → (steps : List Step) → IsPlan domain problem steps → (ns : List ℕ) × HaveNames d p ns steps × Succeeds d p ns

@@ -32,7 +32,7 @@ abbrev pub HasFacts : Numbers → Type 0
 HasFacts l = list_all is_fact l.init ≡ true
 
 -- the formula has a model, and this is the task
-pub record GoesOn (g : Ground) (i : Initial) (x : Posed) : Type 0 where
+pub record PosesTask (g : Ground) (i : Initial) (x : Posed) : Type 0 where
   pub has_model : HasModel i
   pub ground : x.ground ≡ g
   pub task : x.task ≡ task_of g i
@@ -43,7 +43,7 @@ pub record EndsHere (i : Initial) (o : Outcome) : Type 0 where
   pub outcome : o ≡ refuses nothing refusals.NoInitialState
 
 abbrev pub AnswersFormula : Ground → Initial → Result Posed Early → Type 0
-AnswersFormula g i (Ok x) = GoesOn g i x
+AnswersFormula g i (Ok x) = PosesTask g i x
 AnswersFormula g i (Err (early.With o)) = EndsHere i o
 AnswersFormula g i (Err early.Memory) = Unit {0}
 
@@ -53,6 +53,6 @@ pub data EndsWithin (l : Numbers) : Outcome → Type 0 where
   within : (o : Outcome) → IsGrounded l classical (ground_of l) → EndsHere (initial_of l) o → EndsWithin l o
 
 abbrev pub AnswersNumbers : Numbers → Result Posed Early → Type 0
-AnswersNumbers l (Ok x) = IsGrounded l classical (ground_of l) × GoesOn (ground_of l) (initial_of l) x
+AnswersNumbers l (Ok x) = IsGrounded l classical (ground_of l) × PosesTask (ground_of l) (initial_of l) x
 AnswersNumbers l (Err (early.With o)) = EndsWithin l o
 AnswersNumbers l (Err early.Memory) = Unit {0}

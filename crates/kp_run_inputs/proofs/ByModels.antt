@@ -10,7 +10,7 @@ use Rattle.kp_tags.proofs.Public.{tables_go_by_models, made_tables_go_by_models}
 use Rattle.kp_run_messages.specs.Refusals.{Named}
 use Rattle.kp_words.specs.Names.{Source}
 use Rattle.kp_run_prepare.specs.Prepared.{usual}
-use Rattle.kp_run_inputs.specs.Tables.{HasTable, by_mode, by_file, RefusesSource, of_its_mode, long_file, no_merges, bad_merges}
+use Rattle.kp_run_inputs.specs.SourceTables.{HasTable, by_mode, by_file, RefusesSource, of_its_mode, long_file, no_merges, bad_merges}
 use Rattle.kp_run_inputs.specs.Laws.{SourcesGoByModels}
 
 module _ (g : Ground) (i j : Initial) (same : HaveSameModels i j) where

@@ -11,7 +11,7 @@ use Rattle.kp_run_outcome.specs.declared.outcome.Outcome.{Outcome}
 use Rattle.kp_words.specs.Names.{Source}
 use Rattle.kp_words.specs.Command.{file_of, if_named}
 use Rattle.kp_run_prepare.specs.Refusing.{refuses}
-use Rattle.kp_run_inputs.specs.Tables.{HasTable, ComesByTable, no_table, with_table}
+use Rattle.kp_run_inputs.specs.SourceTables.{HasTable, ComesByTable, no_table, with_table}
 use Rattle.kp_run_inputs.specs.Actions.{HasActions, ComesByPlan, no_actions, with_actions}
 use Rattle.kp_run_inputs.proofs.OneTable.{one_table}
 use Rattle.kp_run_inputs.proofs.SomeTable.{some_table}

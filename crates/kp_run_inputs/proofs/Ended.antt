@@ -14,7 +14,7 @@ use Rattle.kp_base.specs.Entailed.{HaveSameModels}
 use Rattle.kp_tags_merges.specs.declared.merge.FileMerge.{FileMerge}
 use Rattle.kp_tags_merges.specs.MergesFiles.{IsMergesOf, AnswersMergesFile}
 use Rattle.kp_plans.specs.declared.step.PlanStep.{PlanStep}
-use Rattle.kp_plans.specs.PlanFiles.{names, IsPlanOf, AnswersPlan}
+use Rattle.kp_plans.specs.PlanFiles.{step_names, IsPlanOf, AnswersPlan}
 use Rattle.kp_plans.specs.Found.{action_names, action_of, AnswersSteps as AnswersFound}
 use Rattle.kp_run_messages.specs.Refusals.{Named, nothing}
 use Rattle.kp_base.specs.Files.{most_bytes}
@@ -30,7 +30,7 @@ use Rattle.kp_tags.specs.Made.{AnswersMade}
 use Rattle.kp_outside.specs.declared.outside.Got.{Got}
 use Rattle.kp_outside.specs.Outside.{IsFront}
 use Rattle.kp_run_inputs.specs.declared.origin.Origin.TheVariants as origins
-use Rattle.kp_run_inputs.specs.Tables.{IsOrigin, from_mode, from_file, by_file, of_its_mode, no_merges, bad_merges, RefusesSource, AnswersTable, AnswersMerges}
+use Rattle.kp_run_inputs.specs.SourceTables.{IsOrigin, from_mode, from_file, by_file, of_its_mode, no_merges, bad_merges, RefusesSource, AnswersTable, AnswersMerges}
 use Rattle.kp_run_inputs.specs.Actions.{named_with, RefusesActions, no_plan, unknown_step, AnswersActions, AnswersSteps}
 use Rattle.kp_run_inputs.proofs.ByModels.{alike}
 use Rattle.kp_run_inputs.proofs.FileMerges.{number_below}
@@ -87,7 +87,7 @@ no_plan_file g text causes.Memory short why (halts.With o) ends = absurd ends
 no_plan_file g text causes.Memory short why halts.Memory ends = tt
 
 -- a step is refused
-pub ends_at_step : (g : Ground) (steps : List PlanStep) (r : Refused) → AnswersFound (action_of g.actions) steps (Err (causes.Refused r)) → (e : Early) → EndsBy (named_with g (names steps)) (causes.Refused r) e → AnswersSteps g steps (Err e)
+pub ends_at_step : (g : Ground) (steps : List PlanStep) (r : Refused) → AnswersFound (action_of g.actions) steps (Err (causes.Refused r)) → (e : Early) → EndsBy (named_with g (step_names steps)) (causes.Refused r) e → AnswersSteps g steps (Err e)
 ends_at_step g steps (refusals.StepUnknown number) first (halts.With o) ends = (number, first, ends)
 ends_at_step g steps (refusals.StepUnknown number) first halts.Memory ends = tt
 ends_at_step g steps _ first e ends = absurd first
@@ -95,7 +95,7 @@ ends_at_step g steps _ first e ends = absurd first
 -- steps that were read name actions, or are refused
 pub of_steps : (g : Ground) (text : List ℕ) (steps : List PlanStep) (result : Result (List ℕ) Early) → length text ≤ most_bytes → IsPlanOf text steps → AnswersSteps g steps result → AnswersActions g text result
 of_steps g text steps (Ok ns) short read known = (steps, record { short = short; reads = read; known = known })
-of_steps g text steps (Err (halts.With o)) short read h = record { named = named_with g (names steps); refused = refusals.StepUnknown h.0; refuses_actions = unknown_step steps h.0 short read h.1; outcome = h.2 }
+of_steps g text steps (Err (halts.With o)) short read h = record { named = named_with g (step_names steps); refused = refusals.StepUnknown h.0; refuses_actions = unknown_step steps h.0 short read h.1; outcome = h.2 }
 of_steps g text steps (Err halts.Memory) short read h = tt
 
 -- the numbers that steps are found at are those of actions

@@ -26,7 +26,7 @@ use Rattle.kp_tags_merges.specs.MergesFiles.{IsMergesOf}
 use Rattle.kp_plans.specs.declared.step.PlanStep.{PlanStep}
 use Rattle.kp_plans.specs.Names.{number_of}
 use Rattle.kp_plans.specs.PlanFiles.{step_of, IsPlanOf}
-use Rattle.kp_tags.specs.Tables.{has_tags_of_atoms}
+use Rattle.kp_tags.specs.MergeTables.{has_tags_of_atoms}
 use Rattle.kp_write.specs.Grounds.{IsOfAtom}
 
 -- ---- parts of a repetition are as many as its tokens, at most

@@ -13,7 +13,7 @@ use Rattle.kp_run_prepare.specs.declared.prepared.Early.{Early}
 use Rattle.kp_run_prepare.specs.declared.prepared.Early.TheVariants as halts
 use Rattle.kp_run_prepare.specs.Prepared.{Comes, early, later, IsPreparedOf, AnswersPrepared}
 use Rattle.kp_run_inputs.specs.Ending.{Settles}
-use Rattle.kp_run_inputs.specs.Tables.{HasTable, ComesByTable, no_table, with_table, AnswersTable}
+use Rattle.kp_run_inputs.specs.SourceTables.{HasTable, ComesByTable, no_table, with_table, AnswersTable}
 use Rattle.kp_run_inputs.specs.Actions.{ComesByPlan, no_actions, with_actions, AnswersActions}
 
 -- ---- after the clash test

@@ -15,7 +15,7 @@ use Rattle.kp_names_meaning.proofs.Public.{all_same_names-true, all_same_names-r
 use Rattle.kp_base.specs.ActionNames.{action_name}
 use Rattle.kp_ground_meaning.proofs.Public.{actions_named_once}
 use Rattle.kp_plans.specs.declared.step.PlanStep.{PlanStep}
-use Rattle.kp_plans.specs.PlanFiles.{names}
+use Rattle.kp_plans.specs.PlanFiles.{step_names}
 use Rattle.kp_plans.specs.Found.{action_names, action_of}
 use Rattle.kp_law_files.specs.Translations.{ground_of}
 pub use Rattle.kp_run_prepare.proofs.Public.{numbers_of_names_once as numbers_once}
@@ -39,7 +39,7 @@ found_name (a ∷ actions) i k n e = by (found_name actions (i + 1) k n) (same_n
 named_action : (g : Ground) (s : PlanStep) (k : ℕ) → action_of g.actions s ≡ Some k → action_name g k ≡ Some s.name
 named_action g s k e = let h = found_name g.actions 0 k s.name e in let at = h.1 in subst (λ m. action_name g m ≡ Some s.name) (let same : h.0 ≡ k = omega (arith, at) in same) h.2
 
-pub named_actions : (g : Ground) (steps : List PlanStep) (ns : List ℕ) → map (action_of g.actions) steps ≡ map Some ns → map (action_name g) ns ≡ map Some (names steps)
+pub named_actions : (g : Ground) (steps : List PlanStep) (ns : List ℕ) → map (action_of g.actions) steps ≡ map Some ns → map (action_name g) ns ≡ map Some (step_names steps)
 named_actions g [] [] e = refl
 named_actions g [] (n ∷ ns) e = absurd cc
 named_actions g (s ∷ steps) [] e = absurd cc
@@ -68,20 +68,20 @@ found_there (a ∷ actions) i k n e = by (found_there actions (i + 1)) k e
     by later (suc m) f = skipped (same_name n a.name) (later m n f)
 
 -- where all names are those of actions, each is found
-pub all_found : (g : Ground) (before : List PlanStep) (s : PlanStep) (after : List PlanStep) (ns : List ℕ) → map (action_name g) ns ≡ map Some (names (before ++ (s ∷ after))) → IsSome (action_of g.actions s)
+pub all_found : (g : Ground) (before : List PlanStep) (s : PlanStep) (after : List PlanStep) (ns : List ℕ) → map (action_name g) ns ≡ map Some (step_names (before ++ (s ∷ after))) → IsSome (action_of g.actions s)
 all_found g [] s after [] e = absurd cc
 all_found g [] s after (n ∷ ns) e = let here : action_name g n ≡ Some s.name = cc in found_there g.actions 0 n s.name here
 all_found g (b ∷ before) s after [] e = absurd cc
-all_found g (b ∷ before) s after (n ∷ ns) e = let rest : map (action_name g) ns ≡ map Some (names (before ++ (s ∷ after))) = cc in all_found g before s after ns rest
+all_found g (b ∷ before) s after (n ∷ ns) e = let rest : map (action_name g) ns ≡ map Some (step_names (before ++ (s ∷ after))) = cc in all_found g before s after ns rest
 
 -- and at the action's number
-pub found_at : (d : Domain Word) (p : Problem Word) → HasNoFault d p → (steps : List PlanStep) (ns : List ℕ) → map (action_name (ground_of d p)) ns ≡ map Some (names steps) → map (action_of (ground_of d p).actions) steps ≡ map Some ns
+pub found_at : (d : Domain Word) (p : Problem Word) → HasNoFault d p → (steps : List PlanStep) (ns : List ℕ) → map (action_name (ground_of d p)) ns ≡ map Some (step_names steps) → map (action_of (ground_of d p).actions) steps ≡ map Some ns
 found_at d p h [] [] e = refl
 found_at d p h [] (n ∷ ns) e = absurd cc
 found_at d p h (s ∷ steps) [] e = absurd cc
 found_at d p h (s ∷ steps) (n ∷ ns) e =
     let here : action_name (ground_of d p) n ≡ Some s.name = cc in
-    let rest : map (action_name (ground_of d p)) ns ≡ map Some (names steps) = cc in
+    let rest : map (action_name (ground_of d p)) ns ≡ map Some (step_names steps) = cc in
     cc (by (action_of (ground_of d p).actions s) refl (found_there (ground_of d p).actions 0 n s.name here) here, found_at d p h steps ns rest)
   where
     by : (o : Option ℕ) → action_of (ground_of d p).actions s ≡ o → IsSome o → action_name (ground_of d p) n ≡ Some s.name → action_of (ground_of d p).actions s ≡ Some n

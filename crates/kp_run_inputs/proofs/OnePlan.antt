@@ -9,7 +9,7 @@ use Rattle.kp_base.proofs.Cases.{some_alike}
 use Rattle.kp_law_decidable.proofs.Public.{first_unknown_once, all_found_or_first_unknown, steps_decided}
 use Rattle.kp_base.specs.Files.{most_bytes}
 use Rattle.kp_plans.specs.declared.step.PlanStep.{PlanStep}
-use Rattle.kp_plans.specs.PlanFiles.{names, IsPlanOf}
+use Rattle.kp_plans.specs.PlanFiles.{step_names, IsPlanOf}
 use Rattle.kp_plans.specs.Found.{action_of, IsFirstUnknown}
 use Rattle.kp_plans.proofs.Public.{plans_read_once, plans_refuse_once, plans_never_both, plans_always_one}
 use Rattle.kp_run_messages.specs.Refusals.{Named, nothing}
@@ -35,7 +35,7 @@ module _ (g : Ground) (text : List ℕ) where
   refusals_one _ _ r _ (no_plan _ h e) (unknown_step ss n k f x) = absurd (plans_never_both text ss r f e)
   refusals_one _ _ _ _ (unknown_step ss n h e x) (long_plan k) = absurd (omega (arith, h, k))
   refusals_one _ _ _ s (unknown_step ss n h e x) (no_plan _ k f) = absurd (plans_never_both text ss s e f)
-  refusals_one _ _ _ _ (unknown_step ss n h e x) (unknown_step ts m k f y) = (ap (λ z. named_with g (names z)) (plans_read_once text ss ts e f), ap refusals.StepUnknown (same_number ss ts n m e f x y))
+  refusals_one _ _ _ _ (unknown_step ss n h e x) (unknown_step ts m k f y) = (ap (λ z. named_with g (step_names z)) (plans_read_once text ss ts e f), ap refusals.StepUnknown (same_number ss ts n m e f x y))
 
   never_both : (ss : List PlanStep) (ms : List ℕ) (a : Named) (r : Refused) → HasActions g text ss ms → RefusesActions g text a r → ⊥
   never_both ss ms _ _ h (long_plan k) = let s = h.short in omega (arith, s, k)
@@ -52,7 +52,7 @@ some_plan g text = elim (cases_lt most_bytes (length text)) [
     | inr r ↦ inr (nothing, r.0, no_plan r.0 short r.1)
     | inl steps ↦ elim (steps_decided g.actions steps.0) [
       | inl ns ↦ inl (steps.0, ns.0, record { short = short; reads = steps.1; known = ns.1 })
-      | inr n ↦ inr (named_with g (names steps.0), refusals.StepUnknown n.0, unknown_step steps.0 n.0 short steps.1 n.1)
+      | inr n ↦ inr (named_with g (step_names steps.0), refusals.StepUnknown n.0, unknown_step steps.0 n.0 short steps.1 n.1)
     ]
   ]
 ]

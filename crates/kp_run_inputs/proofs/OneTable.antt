@@ -16,7 +16,7 @@ use Rattle.kp_law_decidable.proofs.Public.{table_refusal_once, table_or_refused,
 use Rattle.kp_run_messages.specs.Refusals.{Named}
 use Rattle.kp_words.specs.Names.{Source}
 use Rattle.kp_run_prepare.specs.Prepared.{usual}
-use Rattle.kp_run_inputs.specs.Tables.{HasTable, by_mode, by_file, RefusesSource, of_its_mode, long_file, no_merges, bad_merges}
+use Rattle.kp_run_inputs.specs.SourceTables.{HasTable, by_mode, by_file, RefusesSource, of_its_mode, long_file, no_merges, bad_merges}
 use Rattle.kp_run_inputs.specs.Laws.{SourcesHaveOneTable}
 
 -- ---- in a mode

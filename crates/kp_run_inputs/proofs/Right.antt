@@ -1,7 +1,7 @@
 -- The table of a source is right, and its merges are valid.
 use Rattle.kp_tags.proofs.Public.{made_tables_are_right, accepted_tables_are_right}
 use Rattle.kp_run_prepare.specs.Prepared.{usual}
-use Rattle.kp_run_inputs.specs.Tables.{by_mode, by_file}
+use Rattle.kp_run_inputs.specs.SourceTables.{by_mode, by_file}
 use Rattle.kp_run_inputs.specs.Laws.{TablesAreRight}
 
 pub tables_right : TablesAreRight

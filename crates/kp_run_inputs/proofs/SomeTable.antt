@@ -16,7 +16,7 @@ use Rattle.kp_base.specs.Files.{most_bytes}
 use Rattle.kp_words.specs.Names.{Source, of_mode, of_file}
 use Rattle.kp_run_prepare.specs.Refusing.{named_in}
 use Rattle.kp_run_prepare.specs.Prepared.{usual}
-use Rattle.kp_run_inputs.specs.Tables.{HasTable, by_mode, by_file, RefusesSource, of_its_mode, long_file, no_merges, bad_merges}
+use Rattle.kp_run_inputs.specs.SourceTables.{HasTable, by_mode, by_file, RefusesSource, of_its_mode, long_file, no_merges, bad_merges}
 use Rattle.kp_run_inputs.specs.Laws.{SourcesAreDecided}
 use Rattle.kp_run_inputs.proofs.FileMerges.{tags_of_atoms}
 

@@ -23,13 +23,13 @@ use Rattle.kp_law_ktask.specs.Task.{task_of}
 use Rattle.kp_law_ktask.specs.Weight.{merge_weight}
 use Rattle.kp_law_ktask.proofs.Public.{weight_is_counted}
 use Rattle.kp_ktask.specs.Translated.{FitsLimits}
-use Rattle.kp_tags.specs.Tables.{used_tags, numbered}
+use Rattle.kp_tags.specs.MergeTables.{used_tags, numbered}
 use Rattle.kp_law_files.specs.Translations.{ground_of, initial_of}
 use Rattle.kp_law_files.specs.Tables.{IsTableFor}
 use Rattle.kp_run_prepare.specs.Prepared.{usual, IsSmall}
 use Rattle.kp_run_prepare.proofs.Public.{usual_ground_is_of_its_atoms}
 use Rattle.kp_words.specs.Names.{Source}
-use Rattle.kp_run_inputs.specs.Tables.{HasTable, by_mode, by_file}
+use Rattle.kp_run_inputs.specs.SourceTables.{HasTable, by_mode, by_file}
 use Rattle.kp_run_inputs.proofs.FileMerges.{targets_of_atoms}
 use Rattle.kp_run_inputs.proofs.Right.{tables_right}
 

@@ -6,7 +6,7 @@ use Rattle.kp_base.specs.declared.refused.Part.TheVariants as parts
 use Rattle.kp_base.specs.declared.refused.Refused.{Refused}
 use Rattle.kp_base.specs.declared.refused.Refused.TheVariants as refusals
 use Rattle.kp_plans.specs.declared.step.PlanStep.{PlanStep}
-use Rattle.kp_plans.specs.PlanFiles.{names, IsPlanOf, RefusesPlan}
+use Rattle.kp_plans.specs.PlanFiles.{step_names, IsPlanOf, RefusesPlan}
 use Rattle.kp_plans.specs.Found.{action_of, IsFirstUnknown}
 use Rattle.kp_run_outcome.specs.declared.outcome.Outcome.{Outcome}
 use Rattle.kp_base.specs.Files.{most_bytes}
@@ -29,7 +29,7 @@ pub record HasActions (g : Ground) (text : List ℕ) (steps : List PlanStep) (nu
 pub data RefusesActions (g : Ground) (text : List ℕ) : Named → Refused → Type 0 where
   long_plan : most_bytes < length text → RefusesActions g text nothing (refusals.TooLong parts.Plan)
   no_plan : (r : Refused) → length text ≤ most_bytes → RefusesPlan text r → RefusesActions g text nothing r
-  unknown_step : (steps : List PlanStep) (number : ℕ) → length text ≤ most_bytes → IsPlanOf text steps → IsFirstUnknown (action_of g.actions) steps number → RefusesActions g text (named_with g (names steps)) (refusals.StepUnknown number)
+  unknown_step : (steps : List PlanStep) (number : ℕ) → length text ≤ most_bytes → IsPlanOf text steps → IsFirstUnknown (action_of g.actions) steps number → RefusesActions g text (named_with g (step_names steps)) (refusals.StepUnknown number)
 
 -- a command that goes on so with the actions of a plan comes to this: a refusal, or it goes on
 pub data ComesByPlan (g : Ground) (text : List ℕ) (goes_on : List ℕ → Outcome → Type 0) (o : Outcome) : Type 0 where
@@ -56,5 +56,5 @@ AnswersActions g text (Err halts.Memory) = Unit {0}
 -- what is answered on the steps of a text
 abbrev pub AnswersSteps : Ground → List PlanStep → Result (List ℕ) Early → Type 0
 AnswersSteps g steps (Ok numbers) = map (action_of g.actions) steps ≡ map Some numbers
-AnswersSteps g steps (Err (halts.With o)) = (number : ℕ) × IsFirstUnknown (action_of g.actions) steps number × (o ≡ refuses (named_with g (names steps)) (refusals.StepUnknown number))
+AnswersSteps g steps (Err (halts.With o)) = (number : ℕ) × IsFirstUnknown (action_of g.actions) steps number × (o ≡ refuses (named_with g (step_names steps)) (refusals.StepUnknown number))
 AnswersSteps g steps (Err halts.Memory) = Unit {0}

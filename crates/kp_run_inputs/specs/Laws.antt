@@ -11,7 +11,7 @@ use Rattle.kp_law_decidable.specs.Laws.{AreProper}
 use Rattle.kp_run_messages.specs.Refusals.{Named}
 use Rattle.kp_words.specs.Names.{Source}
 use Rattle.kp_words.specs.Command.{file_of, if_named}
-use Rattle.kp_run_inputs.specs.Tables.{HasTable, RefusesSource}
+use Rattle.kp_run_inputs.specs.SourceTables.{HasTable, RefusesSource}
 use Rattle.kp_run_inputs.specs.Actions.{HasActions, RefusesActions}
 
 -- ---- tables

@@ -1,4 +1,4 @@
-pub mod Tables
+pub mod SourceTables
 pub mod Actions
 pub mod Laws
 pub mod Ending

@@ -2,7 +2,7 @@ ghost use Rattle.std.specs.Prelude.{◌≡◌, ◌<◌, Some, List, ℕ, true, n
 ghost use Rattle.std.specs.List.{list_all};
 ghost use Rattle.kp_base.specs.Implicates.{IsOfItsAtoms};
 ghost use Rattle.kp_outside.specs.Outside.{IsFront, IsWithin};
-ghost use Rattle.kp_plans.specs.PlanFiles.{names};
+ghost use Rattle.kp_plans.specs.PlanFiles.{step_names};
 ghost use Rattle.kp_base.specs.declared.refused.Stop.TheVariants as causes;
 ghost use Rattle.kp_run_prepare.specs.Refusing.{EndsBy};
 ghost use Rattle.kp_run_inputs.specs.Actions.{named_with, AnswersActions, AnswersSteps};
@@ -16,7 +16,7 @@ use std::alloc::Global;
 
 // The names of steps.
 fn names_of(alloc: Global, steps: Row<PlanStep>) -> Result<Row<GroundName>, Memory>
-    ensures { IfOk result (λ ns. ns ≡ names steps) }
+    ensures { IfOk result (λ ns. ns ≡ step_names steps) }
 {
     let mut names = Row::new(alloc);
     for step in steps.into_vec() {
@@ -27,7 +27,7 @@ fn names_of(alloc: Global, steps: Row<PlanStep>) -> Result<Row<GroundName>, Memo
 
 // A command ends since a step names no action; the refusal may name the steps.
 fn end_at_step(alloc: Global, ground: &Ground, steps: Row<PlanStep>, refused: Refused) -> Early
-    ensures { EndsBy (named_with ground.now (names steps)) (causes.Refused refused) result }
+    ensures { EndsBy (named_with ground.now (step_names steps)) (causes.Refused refused) result }
 {
     let Ok(names) = names_of(alloc, steps) else {
         return Early::Memory;

@@ -1,5 +1,5 @@
 //! What commands make of their other inputs: a table of tags and merges, from a mode or from a file of merges, and the
-//! actions of a plan file. `specs/Tables.antt` and `specs/Actions.antt` say what they are, and when a command ends
+//! actions of a plan file. `specs/SourceTables.antt` and `specs/Actions.antt` say what they are, and when a command ends
 //! before it has them.
 #![tactic(auto)]
 

@@ -11,7 +11,7 @@ use Rattle.kp_base.specs.Implicates.{IsOfItsAtoms}
 use Rattle.kp_base.proofs.Lists.{member_at}
 use Rattle.kp_names_meaning.specs.Numbered.{Lifted}
 use Rattle.kp_ground_meaning.specs.Ground.{kept_instances, ground_atoms, atom_name, ground_of}
-use Rattle.kp_ground_instances.specs.Counts.{IsWithin}
+use Rattle.kp_ground_instances.specs.Counts.{IsWithinLimits}
 use Rattle.kp_ground.specs.Grounded.{IsGrounded}
 use Rattle.kp_ground.specs.Passes.{action_at}
 use Rattle.kp_ground.proofs.Public.{actions_of_schemas_in_order}
@@ -31,7 +31,7 @@ effects_within : (es : List Effect) → length es ≤ sum_by both_weight es
 effects_within [] = omega arith
 effects_within (e ∷ es) = let a = sum_by-cons both_weight e es in let b = effects_within es in omega (arith, a, b)
 
-module _ (l : Lifted) (w : IsWithin l usual) where
+module _ (l : Lifted) (w : IsWithinLimits l usual) where
   pub few_actions : length (ground_of l).actions ≤ 20000
   few_actions =
       let a = ap (λ (as' : List Action). length as') (actions_of_schemas_in_order l (ground_atoms l)) in

@@ -30,7 +30,7 @@ use Rattle.kp_run_prepare.specs.declared.prepared.Early.TheVariants as early
 use Rattle.kp_run_prepare.specs.Texts.{HaveTrees, IsProblemOf, RefusesTexts}
 use Rattle.kp_run_prepare.specs.Refusing.{refuses, named_in, EndsBy}
 use Rattle.kp_run_prepare.specs.Prepared.{usual, IsStarted, too_large, implicates_over, no_initial_state, clash, EndsEarly, by_texts, by_trees, AnswersPrepared}
-use Rattle.kp_run_prepare.specs.Numbered.{HasPrimes, GoesOn, Ends, by_implicates, by_no_model, by_clash, AnswersGround, EndsWithin, over, within, AnswersNumbers}
+use Rattle.kp_run_prepare.specs.Numbered.{HasPrimes, PreparesGround, EndsGround, by_implicates, by_no_model, by_clash, AnswersGround, EndsWithin, over, within, AnswersNumbers}
 
 -- ---- refusals
 
@@ -53,9 +53,9 @@ within_ends limit l g (Err (early.With o)) w ends = within o (record { counts = 
 within_ends limit l g (Err early.Memory) w ends = tt
 
 -- its initial formula is refused
-formula_refused : (limit : ℕ) (l : Numbers) (r : Refused) (o : Outcome) → RefusesPrimes (initial_of l) limit r → o ≡ refuses nothing r → Ends limit l o
-formula_refused limit l _ o (too_many k least) is = subst (Ends limit l) (sym is) (by_implicates k least)
-formula_refused limit l _ o (no_state none) is = subst (Ends limit l) (sym is) (by_no_model none)
+formula_refused : (limit : ℕ) (l : Numbers) (r : Refused) (o : Outcome) → RefusesPrimes (initial_of l) limit r → o ≡ refuses nothing r → EndsGround limit l o
+formula_refused limit l _ o (too_many k least) is = subst (EndsGround limit l) (sym is) (by_implicates k least)
+formula_refused limit l _ o (no_state none) is = subst (EndsGround limit l) (sym is) (by_no_model none)
 
 pub formula_ends : (limit : ℕ) (l : Numbers) (stop : Stop) (e : Early) → ((r : Refused) → stop ≡ causes.Refused r → RefusesPrimes (initial_of l) limit r) → EndsBy nothing stop e → AnswersGround limit l (Err e)
 formula_ends limit l stop early.Memory refused ends = tt
@@ -73,11 +73,11 @@ module _ (limit : ℕ) (l : Numbers) (g : Ground) (is : g ≡ ground_of l) (h : 
   pub clash_ends : (at : ClashAt) (e : Early) → ClashesFirst g (formula h) at → EndsBy (named_in g) (causes.Refused (refusals.Clash at)) e → AnswersGround limit l (Err e)
   clash_ends at early.Memory first ends = tt
   clash_ends at (early.With o) first ends =
-      subst (Ends limit l) (sym (ends ∙ ap (λ (x : Ground). refuses (named_in x) (refusals.Clash at)) is))
+      subst (EndsGround limit l) (sym (ends ∙ ap (λ (x : Ground). refuses (named_in x) (refusals.Clash at)) is))
       (by_clash at (record { never_over = holds.never_over; has_model = holds.has_model }) (subst (λ (x : Ground). ClashesFirst x (initial_of l) at) is (by_formula.first_clash at first)))
 
   -- none does
-  pub free_goes_on : (x : Made) → x.ground ≡ g → x.primes ≡ h → IsClashFree g (formula h) → GoesOn limit l x
+  pub free_goes_on : (x : Made) → x.ground ≡ g → x.primes ≡ h → IsClashFree g (formula h) → PreparesGround limit l x
   free_goes_on x same own none = record {
     clash_free = subst (λ (y : Ground). IsClashFree y (initial_of l)) is (by_formula.clash_free none);
     ground = same ∙ is;

@@ -14,7 +14,7 @@ use Rattle.kp_primes.proofs.Public.{not_more_and_at_most}
 use Rattle.kp_clash.proofs.Public.{first_clash_once}
 use Rattle.kp_names_meaning.specs.Numbered.{Lifted}
 use Rattle.kp_names_meaning.specs.Numbering.{numbered_problem}
-use Rattle.kp_ground_instances.specs.Counts.{IsWithin, RefusesCounts, bindings_over, actions_over, effects_over}
+use Rattle.kp_ground_instances.specs.Counts.{IsWithinLimits, RefusesCounts, bindings_over, actions_over, effects_over}
 use Rattle.kp_ground.specs.Grounded.{IsGrounded, RefusesGround, counts_over, atoms_over}
 use Rattle.kp_law_files.specs.Translations.{ground_of, initial_of}
 use Rattle.kp_run_messages.specs.Refusals.{Named, nothing}
@@ -38,7 +38,7 @@ counts_once l m _ _ (effects_over a b c) (bindings_over d) = absurd (omega (arit
 counts_once l m _ _ (effects_over a b c) (actions_over d e) = absurd (omega (arith, b, e))
 counts_once l m _ _ (effects_over a b c) (effects_over d e f) = refl
 
-counts_or_within : (l : Lifted) (m : Limits) (r : Refused) → RefusesCounts l m r → IsWithin l m → ⊥
+counts_or_within : (l : Lifted) (m : Limits) (r : Refused) → RefusesCounts l m r → IsWithinLimits l m → ⊥
 counts_or_within l m _ (bindings_over a) w = let b = w.bindings in omega (arith, a, b)
 counts_or_within l m _ (actions_over a b) w = let c = w.actions in omega (arith, b, c)
 counts_or_within l m _ (effects_over a b c) w = let d = w.weight in omega (arith, c, d)

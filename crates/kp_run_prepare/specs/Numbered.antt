@@ -25,28 +25,28 @@ pub record HasPrimes (limit : ℕ) (l : Numbers) : Type 0 where
   pub has_model : HasModel (initial_of l)
 
 -- no action clashes, and these are the ground problem and the prime implicates
-pub record GoesOn (limit : ℕ) (l : Numbers) (x : Made) : Type 0 where
+pub record PreparesGround (limit : ℕ) (l : Numbers) (x : Made) : Type 0 where
   pub clash_free : IsClashFree (ground_of l) (initial_of l)
   pub ground : x.ground ≡ ground_of l
   pub primes : HoldsPrimes (initial_of l) (length (ground_of l).atoms) limit x.primes
 
 -- how a ground problem and its initial formula end a command
-pub data Ends (limit : ℕ) (l : Numbers) : Outcome → Type 0 where
-  by_implicates : (k : ℕ) → IsLeastOver (initial_of l) limit k → Ends limit l (refuses nothing (refusals.ImplicatesOver k))
-  by_no_model : HasNoState (initial_of l) limit → Ends limit l (refuses nothing refusals.NoInitialState)
-  by_clash : (at : ClashAt) → HasPrimes limit l → ClashesFirst (ground_of l) (initial_of l) at → Ends limit l (refuses (named_in (ground_of l)) (refusals.Clash at))
+pub data EndsGround (limit : ℕ) (l : Numbers) : Outcome → Type 0 where
+  by_implicates : (k : ℕ) → IsLeastOver (initial_of l) limit k → EndsGround limit l (refuses nothing (refusals.ImplicatesOver k))
+  by_no_model : HasNoState (initial_of l) limit → EndsGround limit l (refuses nothing refusals.NoInitialState)
+  by_clash : (at : ClashAt) → HasPrimes limit l → ClashesFirst (ground_of l) (initial_of l) at → EndsGround limit l (refuses (named_in (ground_of l)) (refusals.Clash at))
 
 abbrev pub AnswersGround : ℕ → Numbers → Result Made Early → Type 0
-AnswersGround limit l (Ok x) = GoesOn limit l x
-AnswersGround limit l (Err (early.With o)) = Ends limit l o
+AnswersGround limit l (Ok x) = PreparesGround limit l x
+AnswersGround limit l (Err (early.With o)) = EndsGround limit l o
 AnswersGround limit l (Err early.Memory) = Unit {0}
 
 -- how a problem by number ends a command
 pub data EndsWithin (limit : ℕ) (l : Numbers) : Outcome → Type 0 where
   over : (x : Refused) → RefusesGround l usual x → EndsWithin limit l (refuses nothing x)
-  within : (o : Outcome) → IsGrounded l usual (ground_of l) → Ends limit l o → EndsWithin limit l o
+  within : (o : Outcome) → IsGrounded l usual (ground_of l) → EndsGround limit l o → EndsWithin limit l o
 
 abbrev pub AnswersNumbers : ℕ → Numbers → Result Made Early → Type 0
-AnswersNumbers limit l (Ok x) = IsGrounded l usual (ground_of l) × GoesOn limit l x
+AnswersNumbers limit l (Ok x) = IsGrounded l usual (ground_of l) × PreparesGround limit l x
 AnswersNumbers limit l (Err (early.With o)) = EndsWithin limit l o
 AnswersNumbers limit l (Err early.Memory) = Unit {0}

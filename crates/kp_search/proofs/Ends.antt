@@ -13,7 +13,7 @@ use Rattle.kp_search.specs.declared.found.Found.{Found}
 use Rattle.kp_search.specs.declared.found.Found.TheVariants.{Plan, NoPlan, Spent}
 use Rattle.kp_search.specs.Trace.{Entry, Course, first, is_goal, WasTaken, EndsWithPlan, EndsWithoutPlan}
 use Rattle.kp_search.specs.Ends.{HasEnd, HasMoreStates, IsReached, Tells}
-use Rattle.kp_search.specs.Sound.{Expanded, IsSound}
+use Rattle.kp_search.specs.Sound.{Expanded, IsSoundCourse}
 use Rattle.kp_search.proofs.Sound.{sound, no_plan}
 use Rattle.kp_search.proofs.States.{led_plan}
 
@@ -25,7 +25,7 @@ map_at f (x ∷ xs) (suc i) y h = map_at f xs i y h
 
 -- ---- the expanded states
 
-module _ (t : Task) (may : FactSet → Option ℕ → Type 0) (budget : ℕ) (c : Course) (s : IsSound t may budget c) where
+module _ (t : Task) (may : FactSet → Option ℕ → Type 0) (budget : ℕ) (c : Course) (s : IsSoundCourse t may budget c) where
   -- an entry, and another one past the last
   abbrev entry_at : ℕ → Entry
   entry_at n = get_or c.entries n (record { state = first t; estimate = 0; ops = [] })

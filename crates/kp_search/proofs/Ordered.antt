@@ -10,7 +10,7 @@ use Rattle.kp_base.specs.Lists.{Member}
 use Rattle.kp_base.proofs.Lists.{append_member, member_at}
 use Rattle.kp_classic.specs.States.{FactSet, has, IsBefore}
 use Rattle.kp_classic.proofs.Public.{state_never_before_itself}
-use Rattle.kp_search.specs.Tables.{StateList, with_state}
+use Rattle.kp_search.specs.StateTables.{StateList, with_state}
 use Rattle.kp_search.specs.Sorted.{StandsAt, IsOrderOf, AreBefore, IsBeforeRest, IsGap, IsWhole}
 use Rattle.kp_search.proofs.Slices.{slice_left, slice_last, slice_parts, read_at}
 

@@ -10,7 +10,7 @@ use Rattle.kp_classic.specs.Steps.{start, succeeds}
 use Rattle.kp_search.specs.Trace.{Entry, Course, first, can, step, is_goal, entry_after, is_taken, Waits, IsNext, WasTaken, with_taken, with_expanded, Enters, IsCourse}
 use Rattle.kp_search.specs.Trace.Enters.{none, off, dead, enter}
 use Rattle.kp_search.specs.Trace.IsCourse.{lost, begun, passed, spread}
-use Rattle.kp_search.specs.Sound.{Entered, Expanded, IsLed, IsSound}
+use Rattle.kp_search.specs.Sound.{Entered, Expanded, IsLed, IsSoundCourse}
 use Rattle.kp_search.proofs.Slices.{slice_left, slice_last, slice_parts, slice_right, slice_split}
 use Rattle.kp_search.proofs.States.{led_first, led_on, can_within, plan_of_first, plan_of_step}
 
@@ -76,7 +76,7 @@ module _ (t : Task) (fit : IsFit t) (may : FactSet → Option ℕ → Type 0) wh
 
   -- ---- each course
 
-  passed_sound : (budget : ℕ) (c : Course) (n : ℕ) (e : Entry) → IsSound t may budget c → IsNext c n e → WasTaken c e.state → IsSound t may budget (with_taken c n)
+  passed_sound : (budget : ℕ) (c : Course) (n : ℕ) (e : Entry) → IsSoundCourse t may budget c → IsNext c n e → WasTaken c e.state → IsSoundCourse t may budget (with_taken c n)
   passed_sound budget c n e s next was = record {
     inside = λ m h. elim (or_cases (nat_eq m n) (is_taken c m) h) [
       | inl g ↦ subst (λ i. i < length c.entries) (sym (eqb-true m n g)) (slice_get_within c.entries n e next.waits.there)
@@ -98,8 +98,8 @@ module _ (t : Task) (fit : IsFit t) (may : FactSet → Option ℕ → Type 0) wh
     apart = s.apart;
   }
 
-  spread_sound : (budget : ℕ) (c : Course) (n : ℕ) (e : Entry) (new : List Entry) → IsSound t may budget c → IsNext c n e → (WasTaken c e.state → ⊥) → is_goal t e.state ≡ false
-      → length c.expanded < budget → Enters t may e (length t.ops) new → IsSound t may budget (with_expanded c n new)
+  spread_sound : (budget : ℕ) (c : Course) (n : ℕ) (e : Entry) (new : List Entry) → IsSoundCourse t may budget c → IsNext c n e → (WasTaken c e.state → ⊥) → is_goal t e.state ≡ false
+      → length c.expanded < budget → Enters t may e (length t.ops) new → IsSoundCourse t may budget (with_expanded c n new)
   spread_sound budget c n e new s next fresh plain less enters = record {
     inside = λ m h. let l = length-append c.entries new in elim (or_cases (nat_eq m n) (is_taken c m) h) [
       | inl g ↦ let i = eqb-true m n g in let w = slice_get_within c.entries n e next.waits.there in omega (arith, i, w, l)
@@ -159,7 +159,7 @@ module _ (t : Task) (fit : IsFit t) (may : FactSet → Option ℕ → Type 0) wh
       was : (k : ℕ) (x : FactSet) → Expanded c k x → e.state ≡ x → WasTaken c e.state
       was k x (m, d, a, b, f) g = record { number = m; entry = d; taken = s.expanded k m a; there = b; same = f ∙ sym g }
 
-  pub sound : (budget : ℕ) (c : Course) → IsCourse t may budget c → IsSound t may budget c
+  pub sound : (budget : ℕ) (c : Course) → IsCourse t may budget c → IsSoundCourse t may budget c
   sound budget c (lost m) = record {
     inside = λ n h. absurd (false≢true h);
     expanded = λ k m h. cc;
@@ -191,7 +191,7 @@ module _ (t : Task) (fit : IsFit t) (may : FactSet → Option ℕ → Type 0) wh
   -- ---- where no entry waits
 
   -- no expanded state leads to the goal
-  module _ (right : (s : FactSet) → s.facts ≡ length t.facts → may s None → (ks : List ℕ) → succeeds t (has s.hold) ks ≡ true → ⊥) (budget : ℕ) (c : Course) (s : IsSound t may budget c) (empty : (n : ℕ) (e : Entry) → Waits c n e → ⊥) where
+  module _ (right : (s : FactSet) → s.facts ≡ length t.facts → may s None → (ks : List ℕ) → succeeds t (has s.hold) ks ≡ true → ⊥) (budget : ℕ) (c : Course) (s : IsSoundCourse t may budget c) (empty : (n : ℕ) (e : Entry) → Waits c n e → ⊥) where
     all_taken : (n : ℕ) (e : Entry) → slice_get c.entries n ≡ Some e → is_taken c n ≡ true
     all_taken n e there = elim (cases_Bool (is_taken c n)) [
       | inl h ↦ h

@@ -6,7 +6,7 @@ use Rattle.kp_classic.specs.declared.task.Task.{Task}
 use Rattle.kp_classic.specs.declared.task.Op.{Op}
 use Rattle.kp_classic.specs.Fits.{are_below, IsFit}
 use Rattle.kp_classic.specs.Runs.{outcome}
-use Rattle.kp_classic.specs.States.{FactSet, has, state_of}
+use Rattle.kp_classic.specs.States.{FactSet, has, fact_set_of}
 use Rattle.kp_classic.specs.Steps.{Holding, meets, applicable, next, start, runs, holding_after, succeeds}
 use Rattle.kp_classic.proofs.Public.{facts_of_agreeing_tests, AgreeOnFacts, agree_those, applicable_alike, next_alike, succeeds_alike, success_is_a_run, meets_alike}
 use Rattle.kp_search.specs.Trace.{first, can, step, is_goal}
@@ -49,14 +49,14 @@ below_more n (j ∷ ks) k h lt =
 -- they run, and the state is the one at their end
 record Outcome (t : Task) (ks : List ℕ) (s : FactSet) : Type 0 where
   runs_on : runs t (start t) ks ≡ true
-  state : s ≡ state_of (length t.facts) (holding_after t (start t) ks)
+  state : s ≡ fact_set_of (length t.facts) (holding_after t (start t) ks)
   agree : AgreeOnFacts (length t.facts) (has s.hold) (holding_after t (start t) ks)
 
 outcome_is : (t : Task) (ks : List ℕ) (s : FactSet) → outcome t ks ≡ Some s → Outcome t ks s
 outcome_is t ks s e = go (runs t (start t) ks) refl e
   where
     end : FactSet
-    end = state_of (length t.facts) (holding_after t (start t) ks)
+    end = fact_set_of (length t.facts) (holding_after t (start t) ks)
 
     go : (b : Bool) → runs t (start t) ks ≡ b → (if b then Some end else None) ≡ Some s → Outcome t ks s
     go true is h =
@@ -64,7 +64,7 @@ outcome_is t ks s e = go (runs t (start t) ks) refl e
         record { runs_on = is; state = same; agree = subst (λ (x : FactSet). AgreeOnFacts (length t.facts) (has x.hold) (holding_after t (start t) ks)) (sym same) (agree_those (length t.facts) (holding_after t (start t) ks)) }
     go false is h = cc
 
-is_outcome : (t : Task) (ks : List ℕ) (s : FactSet) → runs t (start t) ks ≡ true → s ≡ state_of (length t.facts) (holding_after t (start t) ks) → outcome t ks ≡ Some s
+is_outcome : (t : Task) (ks : List ℕ) (s : FactSet) → runs t (start t) ks ≡ true → s ≡ fact_set_of (length t.facts) (holding_after t (start t) ks) → outcome t ks ≡ Some s
 is_outcome t ks s r e = rw r (ap Some (sym e))
 
 pub led_first : (t : Task) → IsLed t [] (first t)
@@ -77,7 +77,7 @@ led_on t fit ks s k l may =
     record {
       leads = is_outcome t (ks ++ k ∷ []) (step t k s)
           (runs_more t (start t) ks k ∙ and_from (runs t (start t) ks) (applicable (slice_get t.ops k) h) o.runs_on (sym (applicable_alike t fit k (has s.hold) h o.agree) ∙ may))
-          (ap (λ (fs : List ℕ). record { facts = length t.facts; hold = fs }) (facts_of_agreeing_tests (length t.facts) _ _ (next_alike t fit k (has s.hold) h o.agree).each) ∙ ap (state_of (length t.facts)) (sym (after_more t (start t) ks k)));
+          (ap (λ (fs : List ℕ). record { facts = length t.facts; hold = fs }) (facts_of_agreeing_tests (length t.facts) _ _ (next_alike t fit k (has s.hold) h o.agree).each) ∙ ap (fact_set_of (length t.facts)) (sym (after_more t (start t) ks k)));
       of_task = below_more (length t.ops) ks k l.of_task (can_within t k s may);
     }
 

@@ -7,6 +7,6 @@ pub mod Queue
 pub mod Scratch
 pub mod Sorted
 pub mod Sound
-pub mod Tables
+pub mod StateTables
 pub mod Trace
 pub mod Turns

@@ -20,7 +20,7 @@ pub record IsLed (t : Task) (ops : List ℕ) (s : FactSet) : Type 0 where
   pub of_task : are_below (length t.ops) ops ≡ true
 
 module _ (t : Task) (may : FactSet → Option ℕ → Type 0) where
-  pub record IsSound (budget : ℕ) (c : Course) : Type 0 where
+  pub record IsSoundCourse (budget : ℕ) (c : Course) : Type 0 where
     pub inside : (n : ℕ) → is_taken c n ≡ true → n < length c.entries
     pub expanded : (k m : ℕ) → slice_get c.expanded k ≡ Some m → is_taken c m ≡ true
     pub few : length c.expanded ≤ budget

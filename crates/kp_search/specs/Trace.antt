@@ -2,14 +2,14 @@
 use Rattle.std.specs.Prelude.{◌≡◌, ◌<◌, ◌≤◌, ◌⊎◌, ℕ, suc, Bool, true, false, List, [], ◌∷◌, ◌++◌, Option, Some, None, nat_eq, length, slice_get}
 use Rattle.std.specs.List.{list_any}
 use Rattle.kp_classic.specs.declared.task.Task.{Task}
-use Rattle.kp_classic.specs.States.{FactSet, has, state_of}
+use Rattle.kp_classic.specs.States.{FactSet, has, fact_set_of}
 use Rattle.kp_classic.specs.Steps.{meets, applicable, next, start}
 
 -- ---- states
 
 -- the state at the start
 abbrev pub first : Task → FactSet
-first t = state_of (length t.facts) (start t)
+first t = fact_set_of (length t.facts) (start t)
 
 -- the operator is applicable in the state
 abbrev pub can : Task → ℕ → FactSet → Bool
@@ -17,7 +17,7 @@ can t k s = applicable (slice_get t.ops k) (has s.hold)
 
 -- the state after the operator
 abbrev pub step : Task → ℕ → FactSet → FactSet
-step t k s = state_of (length t.facts) (next (slice_get t.ops k) (has s.hold))
+step t k s = fact_set_of (length t.facts) (next (slice_get t.ops k) (has s.hold))
 
 -- the state meets the goal
 abbrev pub is_goal : Task → FactSet → Bool

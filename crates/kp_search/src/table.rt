@@ -3,7 +3,7 @@ ghost use Rattle.std.specs.List.{AllByRecursion};
 ghost use Rattle.kp_base.specs.Lists.{Member};
 ghost use Rattle.kp_classic.specs.States.{FactSet};
 ghost use Rattle.kp_search.specs.Sorted.{IsGap, IsWhole};
-ghost use Rattle.kp_search.specs.Tables.{Inserts};
+ghost use Rattle.kp_search.specs.StateTables.{Inserts};
 
 use crate::sorted::place_in;
 use kp_base::Memory;
@@ -25,7 +25,7 @@ pub struct Table {
 impl Model for Table {
     ghost use Rattle.std.specs.Prelude.{length, take, vec_capacity};
     ghost use Rattle.kp_search.specs.Sorted.{IsWhole};
-    ghost use Rattle.kp_search.specs.Tables.{StateList};
+    ghost use Rattle.kp_search.specs.StateTables.{StateList};
 
     ghost Value = { StateList };
 

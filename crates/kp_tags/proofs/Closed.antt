@@ -8,7 +8,7 @@ use Rattle.kp_base.specs.LitSet.{IsAscending, set_of}
 use Rattle.kp_base.specs.Entailed.{IsClosure}
 use Rattle.kp_base.proofs.Lists.{append_member, member_at, member_map}
 use Rattle.kp_base.specs.declared.ground.Initial.{Initial}
-use Rattle.kp_tags.specs.Tables.{HasClosure}
+use Rattle.kp_tags.specs.MergeTables.{HasClosure}
 use Rattle.kp_tags.specs.Kept.{AreRows, IsRowOf}
 use Rattle.kp_tags.proofs.Gathered.{set_again}
 use Rattle.kp_tags.proofs.Places.{take_next}

@@ -13,10 +13,10 @@ use Rattle.kp_base.specs.Steps.{State, holds, is_model, ComesBefore}
 use Rattle.kp_base.specs.Entailed.{IsConsistent, AreValid, IsTable}
 use Rattle.kp_law_machine.proofs.Public.{cells_ground, one_cell_is_full, cells_table, cells_table_is_right as right, cells_merges_are_valid as valid}
 use Rattle.kp_primes.specs.Held.{Held}
-use Rattle.kp_primes_models.specs.Ordered.{state_of, AreFirst}
+use Rattle.kp_primes_models.specs.Ordered.{state_of_atoms, AreFirst}
 use Rattle.kp_cover.specs.Valid.{satisfies_one, AreValidTags, is_outside}
 use Rattle.kp_tags_merges.specs.declared.merge.FileMerge.{FileMerge}
-use Rattle.kp_tags.specs.Tables.{IsTableOf}
+use Rattle.kp_tags.specs.MergeTables.{IsTableOf}
 use Rattle.kp_tags.specs.Answers.{AreConsistent, AreAcceptable, AreAllAcceptable, RefusesMerge, Accepts, RefusesTable}
 use Rattle.kp_tags.proofs.Right as tables
 
@@ -124,13 +124,13 @@ third_outside t h = by (t 0) (t 1) (t 2) refl refl refl (and_parts (is_model one
 abbrev third_cell : List AtomId
 third_cell = record { 0 = 2 } ∷ []
 
-its_atom : (p : ℕ) → state_of third_cell p ≡ true → p ≡ 2
+its_atom : (p : ℕ) → state_of_atoms third_cell p ≡ true → p ≡ 2
 its_atom p h = elim (or_cases (nat_eq 2 p) false h) [ inl e ↦ sym (eqb-true 2 p e) | inr e ↦ absurd (false≢true e) ]
 
-past_three : (p : ℕ) → 3 ≤ p → state_of third_cell p ≡ false
-past_three p h = false_from_ne_true (state_of third_cell p) (λ t. let e = its_atom p t in omega arith)
+past_three : (p : ℕ) → 3 ≤ p → state_of_atoms third_cell p ≡ false
+past_three p h = false_from_ne_true (state_of_atoms third_cell p) (λ t. let e = its_atom p t in omega arith)
 
-none_before : (t : State) → is_outside one_cell_is_full two t ≡ true → ComesBefore t (state_of third_cell) → ⊥
+none_before : (t : State) → is_outside one_cell_is_full two t ≡ true → ComesBefore t (state_of_atoms third_cell) → ⊥
 none_before t h b = false≢true (sym b.absent ∙ (ap t (its_atom b.at b.present) ∙ third_outside t h))
 
 third_is_first : AreFirst 3 (is_outside one_cell_is_full two) third_cell

@@ -10,7 +10,7 @@ use Rattle.kp_base.specs.Entailed.{IsConsistent, HasModel}
 use Rattle.kp_base.proofs.Lists.{append_member, flat_member, filter_member}
 use Rattle.kp_tags_merges.specs.declared.merge.FileMerge.{FileMerge}
 use Rattle.kp_base.specs.LitSet.{same_set}
-use Rattle.kp_tags.specs.Tables.{used_tags}
+use Rattle.kp_tags.specs.MergeTables.{used_tags}
 use Rattle.kp_tags.specs.Answers.{AreConsistent, AreAcceptable, AreAllAcceptable, AnswersMerges, RefusesTable, AnswersTable}
 use Rattle.kp_tags.proofs.Places.{take_next}
 

@@ -14,7 +14,7 @@ use Rattle.kp_base.specs.declared.lit.AtomId.{AtomId}
 use Rattle.kp_base.specs.Lists.{Member}
 use Rattle.kp_base.specs.Steps.{is_model}
 use Rattle.kp_base.proofs.Lists.{member_at}
-use Rattle.kp_primes_models.specs.Ordered.{state_of, AreFirst}
+use Rattle.kp_primes_models.specs.Ordered.{state_of_atoms, AreFirst}
 use Rattle.kp_cover.specs.Valid.{AreValidTags, satisfies_one, is_outside}
 use Rattle.kp_base.specs.Implicates.{IsOfItsAtoms}
 use Rattle.kp_tags_merges.specs.declared.merge.FileMerge.{FileMerge}
@@ -22,7 +22,7 @@ use Rattle.kp_base.specs.Entailed.{HaveSameModels}
 use Rattle.kp_tags_modes.specs.Modes.{way_of, AreMergesOf}
 use Rattle.kp_tags_modes.specs.Answers.{AnswersMode}
 use Rattle.kp_tags_modes.proofs.Public.{merges_of_modes_are_good, modes_have_one_answer, same_models_back}
-use Rattle.kp_tags.specs.Tables.{used_tags, IsTableOf}
+use Rattle.kp_tags.specs.MergeTables.{used_tags, IsTableOf}
 use Rattle.kp_tags.specs.Answers.{AreAllAcceptable, RefusesMerge, inconsistent, invalid, RefusesTable, at_fault, tags_over, AnswersTable}
 use Rattle.kp_tags.specs.Made.{IsMade, RefusesMade, AnswersMade}
 use Rattle.kp_tags.specs.Laws.{MadeTablesAreRight, IsMadeOnce}
@@ -83,8 +83,8 @@ made_once mode limits g i j (Err (stops.Refused r)) (Err stops.Memory) same _ no
 -- where each model makes one of the tags true, no state is outside
 none_outside : (n : ℕ) (i : Initial) (tags : List (List Lit)) (state : List AtomId) → AreValidTags i tags → AreFirst n (is_outside i tags) state → ⊥
 none_outside n i tags state valid first =
-    let parts = and_parts (is_model i (state_of state)) (not (satisfies_one tags (state_of state))) first.0.passed in
-    let inside = valid (state_of state) parts.0 in
+    let parts = and_parts (is_model i (state_of_atoms state)) (not (satisfies_one tags (state_of_atoms state))) first.0.passed in
+    let inside = valid (state_of_atoms state) parts.0 in
     absurd (cc (inside, parts.1))
 
 module _ (mode : Mode) (limits : Limits) (g : Ground) (i : Initial) (ms : List FileMerge) (own : IsOfItsAtoms g) (are : AreMergesOf limits.sets g i (way_of mode) ms) where

@@ -5,7 +5,7 @@ use Rattle.std.proofs.lemmas.Bool.{ltb-false}
 use Rattle.std.proofs.lemmas.List.Sums.{prefix_len-le-length}
 use Rattle.kp_base.specs.declared.lit.Lit.{Lit}
 use Rattle.kp_base.specs.LitSet.{same_set}
-use Rattle.kp_tags.specs.Tables.{number_in}
+use Rattle.kp_tags.specs.MergeTables.{number_in}
 
 module _ {K : Type 0} (seen : K → List Lit) (t : List Lit) where
   number_seen : (ks : List K) → position_or_len (λ k. same_set t (seen k)) ks ≡ number_in (map seen ks) t

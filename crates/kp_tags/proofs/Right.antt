@@ -15,7 +15,7 @@ use Rattle.kp_base.proofs.Lists.{any_from, any_map, any_weaker, map_member, memb
 use Rattle.kp_base.proofs.Once.{any-each_once}
 use Rattle.kp_tags_merges.specs.declared.merge.FileMerge.{FileMerge}
 use Rattle.kp_base.specs.LitSet.{same_set}
-use Rattle.kp_tags.specs.Tables.{used_tags, number_in, numbered, IsTableOf}
+use Rattle.kp_tags.specs.MergeTables.{used_tags, number_in, numbered, IsTableOf}
 use Rattle.kp_tags.specs.Answers.{AreAllAcceptable}
 use Rattle.kp_tags.specs.Laws.{AcceptedTablesAreRight}
 use Rattle.kp_base.proofs.Sets.{same_sets, same_set-true}

@@ -9,7 +9,7 @@ use Rattle.kp_base.specs.LitSet.{IsAscending}
 use Rattle.kp_base.specs.Entailed.{IsClosure}
 use Rattle.kp_base.proofs.Lits.{contains_has, has_contains}
 use Rattle.kp_base.proofs.Ascending.{same_members}
-use Rattle.kp_tags.specs.Tables.{HasClosure}
+use Rattle.kp_tags.specs.MergeTables.{HasClosure}
 use Rattle.kp_tags.specs.Laws.{IsTableOnce}
 
 -- a tag has one closure

@@ -13,7 +13,7 @@ use Rattle.kp_base.specs.Entailed.{IsConsistent}
 use Rattle.kp_primes_models.specs.Ordered.{AreFirst}
 use Rattle.kp_cover.specs.Valid.{AreValidTags, is_outside}
 use Rattle.kp_tags_merges.specs.declared.merge.FileMerge.{FileMerge}
-use Rattle.kp_tags.specs.Tables.{used_tags, IsTableOf}
+use Rattle.kp_tags.specs.MergeTables.{used_tags, IsTableOf}
 
 -- ---- one merge
 

@@ -6,7 +6,7 @@ use Rattle.kp_base.specs.declared.ground.Initial.{Initial}
 use Rattle.kp_base.specs.declared.ground.TagRow.{TagRow}
 use Rattle.kp_base.specs.Lists.{Member}
 use Rattle.kp_base.specs.LitSet.{IsAscending, same_set}
-use Rattle.kp_tags.specs.Tables.{HasClosure}
+use Rattle.kp_tags.specs.MergeTables.{HasClosure}
 
 -- each is an ascending list
 pub record AreSets (tags : List (List Lit)) : Type 0 where

@@ -1,4 +1,4 @@
-pub mod Tables
+pub mod MergeTables
 pub mod Answers
 pub mod Laws
 pub mod Made

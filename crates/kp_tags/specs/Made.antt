@@ -12,7 +12,7 @@ use Rattle.kp_base.specs.declared.refused.Refused.TheVariants as refusals
 use Rattle.kp_tags_merges.specs.declared.merge.FileMerge.{FileMerge}
 use Rattle.kp_tags_modes.specs.Modes.{way_of, AreMergesOf}
 use Rattle.kp_tags_modes.specs.Answers.{RefusesMode}
-use Rattle.kp_tags.specs.Tables.{used_tags, IsTableOf}
+use Rattle.kp_tags.specs.MergeTables.{used_tags, IsTableOf}
 
 -- the table of the merges of the mode, whose tags are within the limit
 pub record IsMade (mode : Mode) (limits : Limits) (g : Ground) (i : Initial) (table : TagTable) : Type 0 where

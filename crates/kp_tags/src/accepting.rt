@@ -1,7 +1,7 @@
 ghost use Rattle.std.specs.Prelude.{◌≡◌, true, IfOk};
 ghost use Rattle.std.specs.List.{list_all};
 ghost use Rattle.kp_primes.specs.Held.{formula};
-ghost use Rattle.kp_tags.specs.Tables.{has_tags_of_atoms, used_tags, IsTableOf};
+ghost use Rattle.kp_tags.specs.MergeTables.{has_tags_of_atoms, used_tags, IsTableOf};
 ghost use Rattle.kp_tags.specs.Answers.{AnswersTable, AreAllAcceptable};
 
 use crate::judging::judge_all;

@@ -2,7 +2,7 @@ ghost use Rattle.std.specs.Prelude.{◌≡◌, true};
 ghost use Rattle.std.specs.List.{list_all};
 ghost use Rattle.kp_base.specs.Implicates.{are_below};
 ghost use Rattle.kp_primes.specs.Held.{formula};
-ghost use Rattle.kp_tags.specs.Tables.{has_tags_of_atoms};
+ghost use Rattle.kp_tags.specs.MergeTables.{has_tags_of_atoms};
 ghost use Rattle.kp_tags.specs.Answers.{AnswersInconsistent, AnswersMerge, AnswersMerges, AreConsistent};
 
 use crate::tags::as_number;

@@ -1,5 +1,5 @@
 //! Tags and merges of a translation: the table of the merges of a file, or of a mode.
-//! `IsTableOf` in `specs/Tables.antt` says which table merges have, `AnswersTable` in `specs/Answers.antt` what is answered
+//! `IsTableOf` in `specs/MergeTables.antt` says which table merges have, `AnswersTable` in `specs/Answers.antt` what is answered
 //! on those of a file, `AnswersMade` in `specs/Made.antt` what is answered in a mode.
 #![tactic(auto)]
 

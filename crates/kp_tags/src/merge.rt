@@ -1,6 +1,6 @@
 ghost use Rattle.std.specs.Prelude.{◌≡◌};
 ghost use Rattle.std.specs.List.{list_all};
-ghost use Rattle.kp_tags.specs.Tables.{has_tags_of_atoms};
+ghost use Rattle.kp_tags.specs.MergeTables.{has_tags_of_atoms};
 
 use kp_primes::are_of_atoms;
 use kp_tags_merges::FileMerge;

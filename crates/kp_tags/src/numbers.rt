@@ -1,5 +1,5 @@
 ghost use Rattle.std.specs.Prelude.{◌≡◌, ◌++◌, IfOk, OnOk, map};
-ghost use Rattle.kp_tags.specs.Tables.{number_in, numbered};
+ghost use Rattle.kp_tags.specs.MergeTables.{number_in, numbered};
 
 use crate::tags::Tags;
 use kp_base::{LitSet, Memory, Merge, Row};

@@ -1,7 +1,7 @@
 ghost use Rattle.std.specs.Prelude.{◌≡◌, [], fold, length, map, IfOk, OnOk};
 ghost use Rattle.std.specs.List.{flat_map};
 ghost use Rattle.kp_base.specs.LitSet.{IsAscending};
-ghost use Rattle.kp_tags.specs.Tables.{number_in, used_tags};
+ghost use Rattle.kp_tags.specs.MergeTables.{number_in, used_tags};
 ghost use Rattle.kp_tags.specs.Kept.{AreSets, with_tag};
 
 use indexmap::IndexSet;

@@ -20,7 +20,7 @@ use Rattle.kp_tree_cursor.specs.declared.halt.Halt.TheVariants as halts
 use Rattle.kp_tree_cursor.specs.Lexemes.{word_of, from}
 use Rattle.kp_tree_cursor.specs.Readers.{Opened, Closed, is_of}
 use Rattle.kp_tree_cursor.proofs.Public.{class_is_no_bracket, longest_run_reads, words_of_run}
-use Rattle.kp_tags_merges.specs.Grammar.{term_text, name_of}
+use Rattle.kp_tags_merges.specs.Grammar.{term_text, name_of_atom}
 use Rattle.kp_tags_merges.specs.Numbers.{Numbers, IsLit}
 use Rattle.kp_tags_merges.specs.Parts.{FactStands, FactStops, IsNumberOf, IsAtom, is_denied, Halts, ReadsAt, HaltsAt}
 use Rattle.kp_tags_merges.proofs.Lits.{fact_halts, fact_unknown, plain_reads, negated_reads, plain_halts, negated_halts, negated_unclosed}
@@ -44,7 +44,7 @@ headless ls at o e = rw o.is (s_inside o.left (s_make (s_first (s_token (no_hit 
 record BodyStands (ls : List (Tok Word)) (at : ℕ) (run : List (Tok Word)) : Type 0 where
   atom : Atom Word
   reads : Reads fact_body (from ls at) atom (from ls (at + length run))
-  named : (name_of atom).head ∷ (name_of atom).objects ≡ map (λ w. (word_of w).text) run
+  named : (name_of_atom atom).head ∷ (name_of_atom atom).objects ≡ map (λ w. (word_of w).text) run
 
 named_term : Tok Word → Term Word
 named_term l = apply Word m_name (word_of l)
@@ -109,10 +109,10 @@ atom_halts number ls at (halts.Syntax i) h = λ d. fact_halts h
 atom_halts number ls at (halts.Unsupported i) h = absurd h
 
 pub atom_found : (number : Numbers) (ls : List (Tok Word)) (at : ℕ) (run : List (Tok Word)) (behind n : ℕ) (o : Option ℕ) → FactStands ls at run behind → IsNumberOf number run o → o ≡ Some n → ReadsAt fact (IsAtom number) ls at (record { 0 = n }) behind
-atom_found number ls at run behind n o s is e = record { tree = s.atom; reads = s.reads; is = is (name_of s.atom) s.named ∙ e }
+atom_found number ls at run behind n o s is e = record { tree = s.atom; reads = s.reads; is = is (name_of_atom s.atom) s.named ∙ e }
 
 pub atom_unknown : (number : Numbers) (ls : List (Tok Word)) (at : ℕ) (run : List (Tok Word)) (behind : ℕ) (o : Option ℕ) → FactStands ls at run behind → IsNumberOf number run o → o ≡ None → HaltsAt number fact ls at (halts.Syntax (at + 1))
-atom_unknown number ls at run behind o s is e d = subst (λ (us : List (Tok Word)). Halts number (suc d) fact (from ls at) us) (next_from ls at 1) (fact_unknown s.reads (is (name_of s.atom) s.named ∙ e))
+atom_unknown number ls at run behind o s is e d = subst (λ (us : List (Tok Word)). Halts number (suc d) fact (from ls at) us) (next_from ls at 1) (fact_unknown s.reads (is (name_of_atom s.atom) s.named ∙ e))
 
 -- ---- literals
 

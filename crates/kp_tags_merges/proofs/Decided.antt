@@ -13,7 +13,7 @@ use Rattle.kp_tree_grammar.specs.Forms.{Form, hits, many}
 use Rattle.kp_tree_grammar.specs.Grammar.{fact, lit}
 use Rattle.kp_tree_grammar.specs.Reading.{At, Reads, Stops, r_end, r_more, r_bracket, r_after, r_both}
 use Rattle.kp_tree_grammar.proofs.Public.{form_reads_or_stops, reading_shrinks}
-use Rattle.kp_tags_merges.specs.Grammar.{tag, merge, merges, name_of}
+use Rattle.kp_tags_merges.specs.Grammar.{tag, merge, merges, name_of_atom}
 use Rattle.kp_tags_merges.specs.Numbers.{Numbers, IsLit, IsTag, IsMerge}
 use Rattle.kp_tags_merges.specs.Parts.{is_denied, IsAtom, Walk, Halts}
 use Rattle.kp_tags_merges.proofs.Contexts.{halts_next, halts_later}
@@ -39,12 +39,12 @@ Decided number depth X Is ts = Stands X Is ts ⊎ Fails number depth X ts
 module _ (number : Numbers) where
   -- ---- atoms
 
-  by_number : (ts rest : List (Tok Word)) (a : Atom Word) → Reads fact ts a rest → (o : Option ℕ) → number (name_of a) ≡ o → Decided number suc fact (IsAtom number) ts
+  by_number : (ts rest : List (Tok Word)) (a : Atom Word) → Reads fact ts a rest → (o : Option ℕ) → number (name_of_atom a) ≡ o → Decided number suc fact (IsAtom number) ts
   by_number ts rest a h None e = inr (record { here = drop 1 ts; halts = λ d. fact_unknown h e })
   by_number ts rest a h (Some n) e = inl (record { tree = a; value = record { 0 = n }; rest = rest; reads = h; is = e })
 
   by_reading : (ts : List (Tok Word)) → ((a : Atom Word) × (rest : List (Tok Word)) × Reads fact ts a rest) ⊎ ((at : At Word) × Stops fact ts at) → Decided number suc fact (IsAtom number) ts
-  by_reading ts (inl h) = by_number ts h.1 h.0 h.2 (number (name_of h.0)) refl
+  by_reading ts (inl h) = by_number ts h.1 h.0 h.2 (number (name_of_atom h.0)) refl
   by_reading ts (inr h) = inr (record { here = h.0.tokens; halts = λ d. fact_halts h.1 })
 
   fact_decided : (ts : List (Tok Word)) → Decided number suc fact (IsAtom number) ts

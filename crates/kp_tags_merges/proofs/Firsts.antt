@@ -7,7 +7,7 @@ use Rattle.kp_tree_grammar.specs.Symbols.{Tok}
 use Rattle.kp_tree_grammar.specs.Grammar.{fact}
 use Rattle.kp_tree_grammar.specs.Reading.{At, stop, Reads, StopsWhole, within_form, after_form}
 use Rattle.kp_tree_grammar.proofs.Public.{whole_stops_once}
-use Rattle.kp_tags_merges.specs.Grammar.{MergeTree, merges, name_of}
+use Rattle.kp_tags_merges.specs.Grammar.{MergeTree, merges, name_of_atom}
 use Rattle.kp_tags_merges.specs.Numbers.{Numbers}
 use Rattle.kp_tags_merges.specs.MergesFiles.{AtomStands, IsRefused, stops, no_ground_atom, IsFirstRefused}
 use Rattle.kp_tags_merges.specs.Parts.{Walk, Reaches, Halts, stopped, unknown}
@@ -15,7 +15,7 @@ use Rattle.kp_tags_merges.proofs.Walks.{has_bracket, passes, each_has_number}
 
 module _ {number : Numbers} {all : List (Tok Word)} where
   -- no atom without a number stands before the end of a walk
-  pub none_before : {e : ℕ} {near there : List (Tok Word)} {a : Atom Word} → Walk number 0 all e near → AtomStands all there a → number (name_of a) ≡ None → length there ≤ length near
+  pub none_before : {e : ℕ} {near there : List (Tok Word)} {a : Atom Word} → Walk number 0 all e near → AtomStands all there a → number (name_of_atom a) ≡ None → length there ≤ length near
   none_before {near = near} {there = there} {a = a} w s none = go (cases_lt (length near) (length there)) where
     go : (length near < length there) ⊎ (length there ≤ length near) → length there ≤ length near
     go (inl less) = absurd (each_has_number s.reads none w s.before s.split (omega (arith, s.inside)) less)
@@ -31,7 +31,7 @@ module _ {number : Numbers} {all : List (Tok Word)} where
     first_by_stop = record { refused = stops at h; first = none_before_stop }
 
   -- an atom has no number
-  module _ {e : ℕ} {here behind : List (Tok Word)} {a : Atom Word} (r : Reaches merges all (drop 1 here)) (w : Walk number 0 all (suc e) here) (f : Reads fact here a behind) (none : number (name_of a) ≡ None) where
+  module _ {e : ℕ} {here behind : List (Tok Word)} {a : Atom Word} (r : Reaches merges all (drop 1 here)) (w : Walk number 0 all (suc e) here) (f : Reads fact here a behind) (none : number (name_of_atom a) ≡ None) where
     no_stop_before : {at : At Word} → StopsWhole merges all at → length at.tokens ≤ length (drop 1 here)
     no_stop_before {at = at} (within_form k) = r.stops at k
     no_stop_before (after_form {t = t} {rest = rest} {x = x} k) = r.reads x (t ∷ rest) k

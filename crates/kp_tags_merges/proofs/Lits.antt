@@ -14,7 +14,7 @@ use Rattle.kp_tree_grammar.specs.Reading.{At, stop, stop_by, Reads, Stops, r_tok
 use Rattle.kp_tree_grammar.proofs.Public.{a_form_reads_once, a_form_stops_once, form_never_both, form_reads_or_stops}
 use Rattle.kp_tree_cursor.specs.declared.cursor.Class.TheVariants as classes
 use Rattle.kp_tree_cursor.proofs.Public.{class_is_no_bracket}
-use Rattle.kp_tags_merges.specs.Grammar.{name_of}
+use Rattle.kp_tags_merges.specs.Grammar.{name_of_atom}
 use Rattle.kp_tags_merges.specs.Numbers.{Numbers, IsLit}
 use Rattle.kp_tags_merges.specs.Parts.{is_denied, Walk, arrived, word, closes, opens_inside, Reaches, Halts, stopped, unknown}
 use Rattle.kp_tags_merges.proofs.Walks.{follows, is_word, is_a_head, no_head, not_is_no_head, fact_is_long}
@@ -33,19 +33,19 @@ names_never_stop (s_later e g h) = names_never_stop h
 
 -- no atom with no number stands here
 abbrev pub HasNumbers : Numbers → List (Tok Word) → Type 0
-HasNumbers number ts = (a : Atom Word) (rest : List (Tok Word)) → Reads fact ts a rest → number (name_of a) ≡ None → ⊥
+HasNumbers number ts = (a : Atom Word) (rest : List (Tok Word)) → Reads fact ts a rest → number (name_of_atom a) ≡ None → ⊥
 
 module _ {number : Numbers} {d : ℕ} where
   walk_inside : {ts rest : List (Tok Word)} {a : Atom Word} → HasNumbers number ts → Reads fact ts a rest → Walk number (suc d) ts (suc d) rest
   walk_inside n (r_bracket l (r_make (r_both (r_token {t = h} e) k)) r) = let w = is_word is_head h.symbol e in opens_inside l n (word w.0 w.1 (follows (names_walk k) (closes r arrived)))
 
   -- over an atom with a number
-  pub walk_fact : {ts rest : List (Tok Word)} {a : Atom Word} {n : ℕ} → Reads fact ts a rest → number (name_of a) ≡ Some n → Walk number (suc d) ts (suc d) rest
+  pub walk_fact : {ts rest : List (Tok Word)} {a : Atom Word} {n : ℕ} → Reads fact ts a rest → number (name_of_atom a) ≡ Some n → Walk number (suc d) ts (suc d) rest
   walk_fact {ts} {rest} {a} {n} h e = walk_inside only h where
     only : HasNumbers number ts
     only b others k none =
         let same : a ≡ b = (a_form_reads_once _ _ fact ts rest others a b h k).0 in
-        let both : Some n ≡ None = sym e ∙ ap (λ (x : Atom Word). number (name_of x)) same ∙ none in
+        let both : Some n ≡ None = sym e ∙ ap (λ (x : Atom Word). number (name_of_atom x)) same ∙ none in
         cc
 
   -- where an atom stops
@@ -59,7 +59,7 @@ module _ {number : Numbers} {d : ℕ} where
       stopped {at = stop rest} s (opens_inside l (λ b others g none. form_never_both _ _ fact (t ∷ h ∷ vs) others b (stop rest) g s) (word w.0 w.1 (names_walk k))) (omega arith)
 
   -- an atom without a number is refused behind its bracket
-  pub fact_unknown : {ts rest : List (Tok Word)} {a : Atom Word} → Reads fact ts a rest → number (name_of a) ≡ None → Halts number (suc d) fact ts (drop 1 ts)
+  pub fact_unknown : {ts rest : List (Tok Word)} {a : Atom Word} → Reads fact ts a rest → number (name_of_atom a) ≡ None → Halts number (suc d) fact ts (drop 1 ts)
   fact_unknown {ts} {rest} {a} h none = unknown comes arrived h none where
     comes : Reaches fact ts (drop 1 ts)
     comes = record {
@@ -188,7 +188,7 @@ module _ {number : Numbers} {d : ℕ} where
     negated_halts {here = here} h =
         halts_inside left over_bracket (halts_choice (subst (λ (X : Form true s_lit). Halts number (suc (suc d)) X (n ∷ ts) here) (sym (case_of_not n.symbol e)) (halts_after (hit_of_not n.symbol e) (over_not e) (halts_made h))))
 
-    pub negated_unclosed : {rest : List (Tok Word)} {a : Atom Word} {k : ℕ} → Reads fact ts a rest → number (name_of a) ≡ Some k → first_is is_right rest ≡ false → Halts number (suc d) lit (t ∷ n ∷ ts) rest
+    pub negated_unclosed : {rest : List (Tok Word)} {a : Atom Word} {k : ℕ} → Reads fact ts a rest → number (name_of_atom a) ≡ Some k → first_is is_right rest ≡ false → Halts number (suc d) lit (t ∷ n ∷ ts) rest
     negated_unclosed h is f = halts_unclosed left (inside_negated e h) f (follows over_bracket (follows (over_not e) (walk_fact h is)))
 
   -- over a literal whose atom has a number

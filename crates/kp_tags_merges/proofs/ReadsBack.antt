@@ -11,7 +11,7 @@ use Rattle.kp_base.proofs.Ascending.{same_members}
 use Rattle.kp_base.proofs.Sets.{any-set_of, set_ascends}
 use Rattle.kp_lex.specs.declared.token.TokenKind.TheVariants as kinds
 use Rattle.kp_lex.specs.Bytes.{class_of, follows}
-use Rattle.kp_lex.specs.Cutting.{Ends}
+use Rattle.kp_lex.specs.Cutting.{EndsRunOf}
 use Rattle.kp_tree_grammar.specs.declared.tree.Word.{Word}
 use Rattle.kp_tree_grammar.specs.Trees.{Term, Atom, Lit}
 use Rattle.kp_tree_grammar.specs.Symbols.{symbol_of, first_is, is_left, is_name, is_head}
@@ -34,7 +34,7 @@ use Rattle.kp_law_texts.proofs.Public.{◌$◌, KeepsFine, name_in_front_is_fine
 use Rattle.kp_plans.specs.Names.{number_of}
 use Rattle.kp_plans.proofs.Public.{name_word_is_hit, name_word_is_name}
 use Rattle.kp_tags_merges.specs.declared.merge.FileMerge.{FileMerge}
-use Rattle.kp_tags_merges.specs.Grammar.{MergeTree, tag, merge, merges, term_text, name_of}
+use Rattle.kp_tags_merges.specs.Grammar.{MergeTree, tag, merge, merges, term_text, name_of_atom}
 use Rattle.kp_tags_merges.specs.Numbers.{IsLit, IsTag, IsMerge}
 use Rattle.kp_tags_merges.specs.MergesFiles.{IsMergesOf}
 use Rattle.kp_plans_spelling.specs.Spelling.{name_put, atom_put, signed_put, lit_put, joined}
@@ -87,7 +87,7 @@ found_from (x ∷ xs) d (suc i) k n e =
 
 -- ---- the lines are fine
 
-ends_objects : (os : List (List ℕ)) (rest : List Piece) → Ends follows (spelling (each (spaced name) os (right ∷ rest)))
+ends_objects : (os : List (List ℕ)) (rest : List Piece) → EndsRunOf follows (spelling (each (spaced name) os (right ∷ rest)))
 unfolding class_of
 ends_objects [] rest = refl
 ends_objects (o ∷ os) rest = refl
@@ -216,7 +216,7 @@ tree_texts : (os : List (List ℕ)) → map bare_text (map (λ o. Term.name o) o
 tree_texts [] = refl
 tree_texts (o ∷ os) = ap (λ (xs : List (List ℕ)). o ∷ xs) (tree_texts os)
 
-name_same : (a : Atom Word) (n : GroundName) → atom_map word_text a ≡ atom_tree n → name_of a ≡ n
+name_same : (a : Atom Word) (n : GroundName) → atom_map word_text a ≡ atom_tree n → name_of_atom a ≡ n
 name_same a n e =
     ap (λ (xs : List (List ℕ)). record { head = a.head.text; objects = xs }) (term_texts a.terms)
     ∙ ap bare_name e

@@ -13,7 +13,7 @@ use Rattle.std.proofs.lemmas.List.Sums.{sum_by-cons}
 use Rattle.kp_tree_grammar.proofs.Public.{rest_is_no_longer}
 use Rattle.kp_tree_cursor.specs.declared.cursor.Class.TheVariants as classes
 use Rattle.kp_tree_cursor.proofs.Public.{class_is_no_bracket}
-use Rattle.kp_tags_merges.specs.Grammar.{name_of}
+use Rattle.kp_tags_merges.specs.Grammar.{name_of_atom}
 use Rattle.kp_tags_merges.specs.Numbers.{Numbers}
 use Rattle.kp_tags_merges.specs.MergesFiles.{opened, closed}
 use Rattle.kp_tags_merges.specs.Parts.{Walk, arrived, word, closes, opens, opens_inside}
@@ -123,7 +123,7 @@ module _ {number : Numbers} where
   passes (opens_inside {t = t} l n h) = passed_on true false l (left_is_no_right t.symbol l) (omega arith) (passes h)
 
   -- each atom on the way that stands within a bracket has a number
-  module _ {a : Atom Word} {here rest : List (Tok Word)} (f : Reads fact here a rest) (none : number (name_of a) ≡ None) where
+  module _ {a : Atom Word} {here rest : List (Tok Word)} (f : Reads fact here a rest) (none : number (name_of_atom a) ≡ None) where
     pub each_has_number : {d e : ℕ} {ts near : List (Tok Word)} → Walk number d ts e near → (before : List (Tok Word)) → ts ≡ before ++ here → closed before < d + opened before → length near < length here → ⊥
     each_has_number (arrived {ts = ts}) before e c less =
         let all : length ts ≡ length before + length here = ap (λ (us : List (Tok Word)). length us) e ∙ length-append before here in

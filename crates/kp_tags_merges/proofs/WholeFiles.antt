@@ -17,7 +17,7 @@ use Rattle.kp_tree_cursor.specs.declared.halt.Halt.TheVariants as halts
 use Rattle.kp_tree_cursor.specs.Lexemes.{from, lexed}
 use Rattle.kp_tree_cursor.proofs.Public.{lexed_as_seen}
 use Rattle.kp_plans.specs.Names.{number_of}
-use Rattle.kp_plans.specs.Tables.{IsTableOf}
+use Rattle.kp_plans.specs.WordTables.{IsTableOf}
 use Rattle.kp_tags_merges.specs.declared.merge.FileMerge.{FileMerge}
 use Rattle.kp_tags_merges.specs.Numbers.{Numbers}
 use Rattle.kp_tags_merges.specs.MergesFiles.{RefusesMerges, bad_token, wrong_token, AnswersMergesFile}

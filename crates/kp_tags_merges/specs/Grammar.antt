@@ -34,5 +34,5 @@ term_text (Term.name w) = w.text
 term_text (Term.variable w) = w.text
 
 -- the name of an atom that was read
-abbrev pub name_of : Atom Word → GroundName
-name_of a = record { head = a.head.text; objects = map term_text a.terms }
+abbrev pub name_of_atom : Atom Word → GroundName
+name_of_atom a = record { head = a.head.text; objects = map term_text a.terms }

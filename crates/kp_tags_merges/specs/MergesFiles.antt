@@ -19,7 +19,7 @@ use Rattle.kp_tree_grammar.specs.Texts.{ReadsAs}
 use Rattle.kp_tree_cursor.specs.Lexemes.{byte_at}
 use Rattle.kp_plans.specs.Names.{number_of}
 use Rattle.kp_tags_merges.specs.declared.merge.FileMerge.{FileMerge}
-use Rattle.kp_tags_merges.specs.Grammar.{MergeTree, merges, name_of}
+use Rattle.kp_tags_merges.specs.Grammar.{MergeTree, merges, name_of_atom}
 use Rattle.kp_tags_merges.specs.Numbers.{Numbers, IsMerge}
 
 -- the text is cut and reads as merges, and these are they; each atom is the first ground atom with its name
@@ -48,7 +48,7 @@ pub record AtomStands (all here : List (Tok Word)) (a : Atom Word) : Type 0 wher
 -- a token is refused: the grammar stops there, or it is the head of an atom whose name has no number
 pub data IsRefused (number : Numbers) (all : List (Tok Word)) : List (Tok Word) → Type 0 where
   stops : (at : At Word) → StopsWhole merges all at → IsRefused number all at.tokens
-  no_ground_atom : (here : List (Tok Word)) (a : Atom Word) → AtomStands all here a → number (name_of a) ≡ None → IsRefused number all (drop 1 here)
+  no_ground_atom : (here : List (Tok Word)) (a : Atom Word) → AtomStands all here a → number (name_of_atom a) ≡ None → IsRefused number all (drop 1 here)
 
 -- it is the first that is refused
 pub record IsFirstRefused (number : Numbers) (all here : List (Tok Word)) : Type 0 where

@@ -7,7 +7,7 @@ use Rattle.kp_base.specs.LitSet.{set_of}
 use Rattle.kp_tree_grammar.specs.declared.tree.Word.{Word}
 use Rattle.kp_tree_grammar.specs.Trees.{Lit}
 use Rattle.kp_tags_merges.specs.declared.merge.FileMerge.{FileMerge}
-use Rattle.kp_tags_merges.specs.Grammar.{MergeTree, name_of}
+use Rattle.kp_tags_merges.specs.Grammar.{MergeTree, name_of_atom}
 
 -- which name has which number, if it has one
 abbrev pub Numbers : Type 0
@@ -15,7 +15,7 @@ Numbers = GroundName → Option ℕ
 
 -- the literal: its atom by number, and its sign
 pub record IsLit (number : Numbers) (l : Lit Word) (x : Literal) : Type 0 where
-  pub atom : number (name_of l.atom) ≡ Some x.atom.0
+  pub atom : number (name_of_atom l.atom) ≡ Some x.atom.0
   pub sign : x.positive ≡ l.positive
 
 -- the tag: the set of its literals

@@ -22,9 +22,9 @@ use Rattle.kp_names_meaning.specs.Encoding.{encoded}
 use Rattle.kp_tree_cursor.specs.declared.halt.Halt.{Halt}
 use Rattle.kp_tree_cursor.specs.declared.halt.Halt.TheVariants as halts
 use Rattle.kp_tree_cursor.specs.Lexemes.{word_of, from, byte_at}
-use Rattle.kp_plans.specs.Tables.{number_under}
+use Rattle.kp_plans.specs.WordTables.{number_under}
 use Rattle.kp_tags_merges.specs.declared.merge.FileMerge.{FileMerge}
-use Rattle.kp_tags_merges.specs.Grammar.{MergeTree, merges, name_of}
+use Rattle.kp_tags_merges.specs.Grammar.{MergeTree, merges, name_of_atom}
 use Rattle.kp_tags_merges.specs.Numbers.{Numbers, IsLit, IsMerge}
 use Rattle.kp_tags_merges.specs.MergesFiles.{IsFirstRefused}
 
@@ -38,7 +38,7 @@ numbers_of table n = number_under table (encoded n)
 pub record FactStands (ls : List (Tok Word)) (at : ℕ) (run : List (Tok Word)) (behind : ℕ) : Type 0 where
   pub atom : Atom Word
   pub reads : Reads fact (from ls at) atom (from ls behind)
-  pub named : (name_of atom).head ∷ (name_of atom).objects ≡ map (λ w. (word_of w).text) run
+  pub named : (name_of_atom atom).head ∷ (name_of_atom atom).objects ≡ map (λ w. (word_of w).text) run
 
 -- none stands there; it stops at a token
 abbrev pub FactStops : List (Tok Word) → ℕ → Halt → Type 0
@@ -51,7 +51,7 @@ IsNumberOf number run o = (n : GroundName) → n.head ∷ n.objects ≡ map (λ 
 
 -- the atom by number
 abbrev pub IsAtom : Numbers → Atom Word → AtomId → Type 0
-IsAtom number a x = number (name_of a) ≡ Some x.0
+IsAtom number a x = number (name_of_atom a) ≡ Some x.0
 
 -- a bracket and the word `not` stand first
 abbrev pub is_denied : List (Tok Word) → Bool
@@ -67,7 +67,7 @@ pub data Walk (number : Numbers) : ℕ → List (Tok Word) → ℕ → List (Tok
   word : {d e : ℕ} {t : Tok Word} {ts us : List (Tok Word)} → is_left t.symbol ≡ false → is_right t.symbol ≡ false → Walk number d ts e us → Walk number d (t ∷ ts) e us
   closes : {d e : ℕ} {t : Tok Word} {ts us : List (Tok Word)} → is_right t.symbol ≡ true → Walk number d ts e us → Walk number (suc d) (t ∷ ts) e us
   opens : {e : ℕ} {t : Tok Word} {ts us : List (Tok Word)} → is_left t.symbol ≡ true → Walk number 1 ts e us → Walk number 0 (t ∷ ts) e us
-  opens_inside : {d e : ℕ} {t : Tok Word} {ts us : List (Tok Word)} → is_left t.symbol ≡ true → ((a : Atom Word) (rest : List (Tok Word)) → Reads fact (t ∷ ts) a rest → number (name_of a) ≡ None → ⊥) → Walk number (suc (suc d)) ts e us → Walk number (suc d) (t ∷ ts) e us
+  opens_inside : {d e : ℕ} {t : Tok Word} {ts us : List (Tok Word)} → is_left t.symbol ≡ true → ((a : Atom Word) (rest : List (Tok Word)) → Reads fact (t ∷ ts) a rest → number (name_of_atom a) ≡ None → ⊥) → Walk number (suc (suc d)) ts e us → Walk number (suc d) (t ∷ ts) e us
 
 -- whether it reads or stops, the form comes as far as these tokens
 pub record Reaches {b : Bool} {c : Sort} (X : Form b c) (ts us : List (Tok Word)) : Type 0 where
@@ -77,7 +77,7 @@ pub record Reaches {b : Bool} {c : Sort} (X : Form b c) (ts us : List (Tok Word)
 -- the form is refused first here: it stops, or it comes to an atom without a number; so many brackets are open before it
 pub data Halts (number : Numbers) (d : ℕ) {b : Bool} {c : Sort} (X : Form b c) (ts : List (Tok Word)) : List (Tok Word) → Type 0 where
   stopped : {at : At Word} {e : ℕ} {near : List (Tok Word)} → Stops X ts at → Walk number d ts e near → length near ≤ suc (length at.tokens) → Halts number d X ts at.tokens
-  unknown : {e : ℕ} {here behind : List (Tok Word)} {a : Atom Word} → Reaches X ts (drop 1 here) → Walk number d ts (suc e) here → Reads fact here a behind → number (name_of a) ≡ None → Halts number d X ts (drop 1 here)
+  unknown : {e : ℕ} {here behind : List (Tok Word)} {a : Atom Word} → Reaches X ts (drop 1 here) → Walk number d ts (suc e) here → Reads fact here a behind → number (name_of_atom a) ≡ None → Halts number d X ts (drop 1 here)
 
 -- ---- what the calls answer
 

@@ -6,7 +6,7 @@ use Rattle.kp_lex.specs.declared.token.TokenKind.{TokenKind}
 use Rattle.kp_lex.specs.declared.token.TokenKind.TheVariants as kinds
 use Rattle.kp_tree_grammar.specs.declared.symbol.Symbol.{Symbol}
 use Rattle.kp_tree_grammar.specs.declared.symbol.Symbol.TheVariants as symbols
-use Rattle.kp_tree_grammar.specs.Symbols.{Table, names, keywords, refused_keywords, look_up, symbol_of, is_left, is_right, is_dash, is_equal, is_variable, is_name, is_keyword, kind_test}
+use Rattle.kp_tree_grammar.specs.Symbols.{Table, known_words, keywords, refused_keywords, look_up, symbol_of, is_left, is_right, is_dash, is_equal, is_variable, is_name, is_keyword, kind_test}
 
 -- what holds of all symbols of a table, and of the other one, holds of what it says
 looked_up : (p : Symbol → Bool) (es : Table) (other : Symbol) (w : List ℕ) → list_all (λ e. p e.1) es ≡ true → p other ≡ true → p (look_up es other w) ≡ true
@@ -23,9 +23,9 @@ is_not p s e = go (p s) e where
   go false e = refl
 
 -- what holds of every symbol that a Name may have, and a keyword
-pub name_passes : (p : Symbol → Bool) (w : List ℕ) → list_all (λ e. p e.1) names ≡ true → p symbols.Name ≡ true → p (symbol_of kinds.Name w) ≡ true
+pub name_passes : (p : Symbol → Bool) (w : List ℕ) → list_all (λ e. p e.1) known_words ≡ true → p symbols.Name ≡ true → p (symbol_of kinds.Name w) ≡ true
 unfolding symbol_of
-name_passes p w all o = looked_up p names symbols.Name w all o
+name_passes p w all o = looked_up p known_words symbols.Name w all o
 
 pub keyword_passes : (p : Symbol → Bool) (w : List ℕ) → list_all (λ e. p e.1) keywords ≡ true → list_all (λ e. p e.1) refused_keywords ≡ true → p symbols.Keyword ≡ true → p (symbol_of kinds.Keyword w) ≡ true
 unfolding symbol_of
@@ -43,7 +43,7 @@ own_kind kinds.Name w = name_passes is_name w refl refl
 own_kind kinds.Keyword w = keyword_passes is_keyword w refl refl refl
 
 -- and what holds of none of them
-pub name_fails : (p : Symbol → Bool) (w : List ℕ) → list_all (λ e. not (p e.1)) names ≡ true → not (p symbols.Name) ≡ true → p (symbol_of kinds.Name w) ≡ false
+pub name_fails : (p : Symbol → Bool) (w : List ℕ) → list_all (λ e. not (p e.1)) known_words ≡ true → not (p symbols.Name) ≡ true → p (symbol_of kinds.Name w) ≡ false
 name_fails p w all o = is_not p (symbol_of kinds.Name w) (name_passes (λ s. not (p s)) w all o)
 
 pub keyword_fails : (p : Symbol → Bool) (w : List ℕ) → list_all (λ e. not (p e.1)) keywords ≡ true → list_all (λ e. not (p e.1)) refused_keywords ≡ true → not (p symbols.Keyword) ≡ true → p (symbol_of kinds.Keyword w) ≡ false

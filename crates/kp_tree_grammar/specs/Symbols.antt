@@ -20,8 +20,8 @@ abbrev pub Table : Type 0
 Table = List (List ℕ × Symbol)
 
 -- the names that the grammar knows
-abbrev pub names : Table
-names =
+abbrev pub known_words : Table
+known_words =
     (codes "and", symbols.And) ∷ (codes "or", symbols.Or) ∷ (codes "not", symbols.Not) ∷ (codes "imply", symbols.Imply) ∷ (codes "exists", symbols.Exists)
     ∷ (codes "forall", symbols.Forall) ∷ (codes "when", symbols.When) ∷ (codes "oneof", symbols.OneOf) ∷ (codes "unknown", symbols.Unknown)
     ∷ (codes "preference", symbols.Preference) ∷ (codes "probabilistic", symbols.Probabilistic) ∷ (codes "increase", symbols.Increase) ∷ (codes "decrease", symbols.Decrease)
@@ -54,7 +54,7 @@ symbol_of kinds.Right w = symbols.Right
 symbol_of kinds.Dash w = symbols.Dash
 symbol_of kinds.Equal w = symbols.Equal
 symbol_of kinds.Variable w = symbols.Variable
-symbol_of kinds.Name w = look_up names symbols.Name w
+symbol_of kinds.Name w = look_up known_words symbols.Name w
 symbol_of kinds.Keyword w = look_up keywords (look_up refused_keywords symbols.Keyword w) w
 
 -- a token of a text, with its folded text and its place

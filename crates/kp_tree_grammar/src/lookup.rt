@@ -1,6 +1,6 @@
 ghost use Rattle.std.specs.Prelude.{◌≡◌, if◌then◌else◌};
 ghost use Rattle.std.specs.Str.{bytes_eq};
-ghost use Rattle.kp_tree_grammar.specs.Symbols.{symbol_of, look_up, names, keywords, refused_keywords};
+ghost use Rattle.kp_tree_grammar.specs.Symbols.{symbol_of, look_up, known_words, keywords, refused_keywords};
 ghost use Rattle.kp_tree_grammar.specs.declared.symbol.Symbol.TheVariants as symbols;
 
 use crate::symbol::Symbol;
@@ -19,7 +19,7 @@ fn known(text: &[u8], word: &str, symbol: Symbol, other: Symbol) -> Symbol
 
 // The symbol of a name.
 fn name_symbol(text: &[u8]) -> Symbol
-    ensures { result ≡ look_up names symbols.Name text.now }
+    ensures { result ≡ look_up known_words symbols.Name text.now }
 {
     let symbol = Symbol::Name;
     let symbol = known(text, "merge", Symbol::Merge, symbol);

@@ -3,7 +3,7 @@ use Rattle.std.proofs.Common.{◌≡◌, ◌≢◌, ◌∙◌, inl, inr, refl, a
 use Rattle.std.specs.List.{list_all}
 use Rattle.std.specs.Str.{is_utf8, IsUtf8}
 use Rattle.std.proofs.lemmas.Str.{IsUtf8-from_is_utf8, is_utf8-from_IsUtf8}
-use Rattle.kp_words_options.specs.Words.{Said, is_name, positionals, value_of}
+use Rattle.kp_words_options.specs.Words.{Said, is_option_name, positionals, value_of}
 use Rattle.kp_words_options.proofs.Public.{line_decided}
 use Rattle.kp_words.specs.Command.{AreUtf8}
 use Rattle.kp_words.specs.Laws.{WordsAreDecided}
@@ -28,7 +28,7 @@ verb_decided word = by (verb_named word) (verb_named_is word)
     by None none = inr (λ h. none h.0 h.1)
 
 -- each option of a verb has a name
-are_names : (v : Verb) → list_all is_name (options_of v) ≡ true
+are_names : (v : Verb) → list_all is_option_name (options_of v) ≡ true
 are_names verbs.Translate = refl
 are_names verbs.Merges = refl
 are_names verbs.Strip = refl

@@ -7,7 +7,7 @@ use Rattle.kp_base.specs.declared.limits.Mode.TheVariants as modes
 use Rattle.kp_words.specs.declared.source.Family.{Family}
 use Rattle.kp_words.specs.declared.source.Family.TheVariants as families
 use Rattle.kp_words.specs.Names.{Source, of_mode, of_file}
-use Rattle.kp_words.specs.Options.{IsWithin, SaysNumber, SaysLimit, SaysBudget, SaysBound, SaysMode, SaysSource, mode_word, family_word}
+use Rattle.kp_words.specs.Options.{IsOfRange, SaysNumber, SaysLimit, SaysBudget, SaysBound, SaysMode, SaysSource, mode_word, family_word}
 
 -- ---- what is decided
 
@@ -55,17 +55,17 @@ other_word xs ys = elim (same_word xs ys) [ inl same ↦ inr (λ differ. differ 
 
 -- ---- numbers
 
-in_range : (least most n : ℕ) → Decided (IsWithin least most n)
+in_range : (least most n : ℕ) → Decided (IsOfRange least most n)
 in_range least most n = by (cases_lt n least) (cases_lt most n)
   where
-    by : (n < least) ⊎ (least ≤ n) → (most < n) ⊎ (n ≤ most) → Decided (IsWithin least most n)
+    by : (n < least) ⊎ (least ≤ n) → (most < n) ⊎ (n ≤ most) → Decided (IsOfRange least most n)
     by (inl low) high = inr (λ h. let from = h.at_least in omega (arith, low, from))
     by (inr low) (inl high) = inr (λ h. let to = h.at_most in omega (arith, high, to))
     by (inr low) (inr high) = inl (record { at_least = low; at_most = high })
 
 -- a word says a number of the range
-pub within_decided : (least most : ℕ) (word : List ℕ) → Decided ((n : ℕ) × (IsWithin least most n × (word ≡ decimal n)))
-within_decided least most word = elim (some_below (λ n. IsWithin least most n × (word ≡ decimal n)) (λ n. both (IsWithin least most n) (word ≡ decimal n) (in_range least most n) (same_word word (decimal n))) (suc most)) [
+pub within_decided : (least most : ℕ) (word : List ℕ) → Decided ((n : ℕ) × (IsOfRange least most n × (word ≡ decimal n)))
+within_decided least most word = elim (some_below (λ n. IsOfRange least most n × (word ≡ decimal n)) (λ n. both (IsOfRange least most n) (word ≡ decimal n) (in_range least most n) (same_word word (decimal n))) (suc most)) [
   | inl h ↦ inl (h.0, h.2)
   | inr none ↦ inr (λ h. let high = h.1.0.at_most in none (h.0, omega (arith, high), h.1))
 ]
@@ -83,7 +83,7 @@ budget_decided = number_decided 1 1000000 10000
 pub bound_decided : (value : Option (List ℕ)) → Decided ((n : ℕ) × SaysBound value n)
 bound_decided = number_decided 0 8 3
 
-pub size_decided : (word : List ℕ) → Decided ((n : ℕ) × (IsWithin 2 100 n × (word ≡ decimal n)))
+pub size_decided : (word : List ℕ) → Decided ((n : ℕ) × (IsOfRange 2 100 n × (word ≡ decimal n)))
 size_decided = within_decided 2 100
 
 -- ---- modes, sources and families

@@ -3,7 +3,7 @@ use Rattle.std.proofs.Common.{◌≡◌, ◌≢◌, ◌∙◌, inl, inr, refl, a
 use Rattle.kp_base.specs.declared.limits.Mode.{Mode}
 use Rattle.kp_words.specs.declared.source.Family.{Family}
 use Rattle.kp_words.specs.Names.{Source, Translate, Merges, Strip, Check, Lift, Solve, Classical, Width, Bench}
-use Rattle.kp_words.specs.Options.{IsWithin, SaysLimit, SaysBudget, SaysBound, SaysMode, SaysSource, family_word}
+use Rattle.kp_words.specs.Options.{IsOfRange, SaysLimit, SaysBudget, SaysBound, SaysMode, SaysSource, family_word}
 use Rattle.kp_words.specs.Command.{AreTranslate, AreMerges, AreStrip, AreCheck, AreLift, AreSolve, AreClassical, AreWidth, AreBench}
 use Rattle.kp_words.proofs.Decisions.{Decided, both, like, other_word, mode_decided, source_decided, limit_decided, budget_decided, bound_decided, family_decided, size_decided, one_or_not, two_or_not, three_or_not, four_or_not}
 
@@ -182,13 +182,13 @@ width_places bound implicates places = elim (two_or_not places) [
 
 -- ---- a run on a generated problem
 
-bench_parts : (mode budget : Value) (f w : List ℕ) → Decided (((g : Family) × (f ≡ family_word g)) × (((n : ℕ) × (IsWithin 2 100 n × (w ≡ decimal n))) × (((m : Mode) × SaysMode mode m) × ((n : ℕ) × SaysBudget budget n))))
+bench_parts : (mode budget : Value) (f w : List ℕ) → Decided (((g : Family) × (f ≡ family_word g)) × (((n : ℕ) × (IsOfRange 2 100 n × (w ≡ decimal n))) × (((m : Mode) × SaysMode mode m) × ((n : ℕ) × SaysBudget budget n))))
 bench_parts mode budget f w = both _ _ (family_decided f) (both _ _ (size_decided w) (both _ _ (mode_decided mode) (budget_decided budget)))
 
-bench_of : (mode budget : Value) (f w : List ℕ) (places : Texts) → places ≡ f ∷ w ∷ [] → ((g : Family) × (f ≡ family_word g)) × (((n : ℕ) × (IsWithin 2 100 n × (w ≡ decimal n))) × (((m : Mode) × SaysMode mode m) × ((n : ℕ) × SaysBudget budget n))) → (c : Bench) × AreBench places (mode ∷ budget ∷ []) c
+bench_of : (mode budget : Value) (f w : List ℕ) (places : Texts) → places ≡ f ∷ w ∷ [] → ((g : Family) × (f ≡ family_word g)) × (((n : ℕ) × (IsOfRange 2 100 n × (w ≡ decimal n))) × (((m : Mode) × SaysMode mode m) × ((n : ℕ) × SaysBudget budget n))) → (c : Bench) × AreBench places (mode ∷ budget ∷ []) c
 bench_of mode budget f w places e h = (record { family = h.0.0; n = h.1.0.0; mode = h.1.1.0.0; budget = h.1.1.1.0 }, record { mode = mode; budget = budget; places_are = e ∙ (ap (λ x. x ∷ w ∷ []) h.0.1 ∙ ap (λ x. family_word h.0.0 ∷ x ∷ []) h.1.0.1.1); values_are = refl; size = h.1.0.1.0; says_mode = h.1.1.0.1; says_budget = h.1.1.1.1 })
 
-bench_back : (mode budget : Value) (f w : List ℕ) (places : Texts) → places ≡ f ∷ w ∷ [] → (c : Bench) → AreBench places (mode ∷ budget ∷ []) c → ((g : Family) × (f ≡ family_word g)) × (((n : ℕ) × (IsWithin 2 100 n × (w ≡ decimal n))) × (((m : Mode) × SaysMode mode m) × ((n : ℕ) × SaysBudget budget n)))
+bench_back : (mode budget : Value) (f w : List ℕ) (places : Texts) → places ≡ f ∷ w ∷ [] → (c : Bench) → AreBench places (mode ∷ budget ∷ []) c → ((g : Family) × (f ≡ family_word g)) × (((n : ℕ) × (IsOfRange 2 100 n × (w ≡ decimal n))) × (((m : Mode) × SaysMode mode m) × ((n : ℕ) × SaysBudget budget n)))
 bench_back mode budget f w places e c a =
     let q = a.places_are in
     let v = a.values_are in (

@@ -6,10 +6,10 @@ use Rattle.kp_base.specs.declared.limits.Mode.TheVariants as modes
 use Rattle.kp_words.specs.declared.source.Family.{Family}
 use Rattle.kp_words.specs.declared.source.Family.TheVariants as families
 use Rattle.kp_words.specs.Names.{Source, of_mode, of_file}
-use Rattle.kp_words.specs.Options.{IsWithin, SaysNumber, SaysMode, SaysSource, mode_word, family_word}
+use Rattle.kp_words.specs.Options.{IsOfRange, SaysNumber, SaysMode, SaysSource, mode_word, family_word}
 
 -- numbers of a range that have the same decimal are equal
-pub one_within : (least most n m : ℕ) (word : List ℕ) → most < 2 ^ 32 → IsWithin least most n → word ≡ decimal n → IsWithin least most m → word ≡ decimal m → n ≡ m
+pub one_within : (least most n m : ℕ) (word : List ℕ) → most < 2 ^ 32 → IsOfRange least most n → word ≡ decimal n → IsOfRange least most m → word ≡ decimal m → n ≡ m
 one_within least most n m word high a e b f =
     let above = a.at_most in
     let over = b.at_most in

@@ -3,7 +3,7 @@ use Rattle.std.specs.Prelude.{◌≡◌, ◌≢◌, List, [], ◌∷◌, ◌++�
 use Rattle.std.specs.declared.alloc.Global.{Global}
 use Rattle.kp_words_options.specs.Words.{Line}
 use Rattle.kp_words.specs.Names.{Source, of_mode, of_file, Translate, Merges, Strip, Check, Lift, Solve, Classical, Width, Bench}
-use Rattle.kp_words.specs.Options.{IsWithin, SaysLimit, SaysBudget, SaysBound, SaysMode, SaysSource, family_word}
+use Rattle.kp_words.specs.Options.{IsOfRange, SaysLimit, SaysBudget, SaysBound, SaysMode, SaysSource, family_word}
 use Rattle.kp_words.specs.declared.lent.CommandRef.{CommandRef}
 use Rattle.kp_words.specs.declared.lent.CommandRef.TheVariants as commands
 
@@ -84,7 +84,7 @@ pub record AreBench (places : List (List ℕ)) (values : List (Option (List ℕ)
   pub budget : Option (List ℕ)
   pub places_are : places ≡ family_word c.family ∷ decimal c.n ∷ []
   pub values_are : values ≡ mode ∷ budget ∷ []
-  pub size : IsWithin 2 100 c.n
+  pub size : IsOfRange 2 100 c.n
   pub says_mode : SaysMode mode c.mode
   pub says_budget : SaysBudget budget c.budget
 

@@ -7,14 +7,14 @@ use Rattle.kp_words.specs.declared.source.Family.TheVariants as families
 use Rattle.kp_words.specs.Names.{Source, of_mode, of_file}
 
 -- a number of a range
-pub record IsWithin (least most n : ℕ) : Type 0 where
+pub record IsOfRange (least most n : ℕ) : Type 0 where
   pub at_least : least ≤ n
   pub at_most : n ≤ most
 
 -- an option says a number: its value is a number of the range in decimal; or it is left out, and the number is the usual one
 abbrev pub SaysNumber : ℕ → ℕ → ℕ → Option (List ℕ) → ℕ → Type 0
 SaysNumber least most usual None n = n ≡ usual
-SaysNumber least most usual (Some word) n = IsWithin least most n × (word ≡ decimal n)
+SaysNumber least most usual (Some word) n = IsOfRange least most n × (word ≡ decimal n)
 
 -- the limit of prime implicates: from 1 to 100,000, and usually 20,000
 abbrev pub SaysLimit : Option (List ℕ) → ℕ → Type 0

@@ -1,5 +1,5 @@
 ghost use Rattle.std.specs.Prelude.{◌≡◌, ◌≢◌, ◌<◌, ◌^◌, ◌↔◌, ℕ, decimal, option_map, IsTrue, MatchOption};
-ghost use Rattle.kp_words.specs.Options.{IsWithin, SaysNumber, SaysLimit, SaysBudget, SaysBound};
+ghost use Rattle.kp_words.specs.Options.{IsOfRange, SaysNumber, SaysLimit, SaysBudget, SaysBound};
 
 use itoa::Buffer;
 
@@ -44,14 +44,14 @@ fn number_of(word: &str) -> Option<u32>
 
 // Whether a number is of this range.
 fn is_within(least: u32, most: u32, number: u32) -> bool
-    ensures { IsTrue result ↔ IsWithin least most number }
+    ensures { IsTrue result ↔ IsOfRange least most number }
 {
     least <= number && number <= most
 }
 
 /// The number of this range that a word says.
 pub fn number_within(word: &str, least: u32, most: u32) -> Option<u32>
-    ensures { MatchOption result ((n : ℕ) → IsWithin least most n → word.now ≢ decimal n) (λ n. IsWithin least most n × (word.now ≡ decimal n)) }
+    ensures { MatchOption result ((n : ℕ) → IsOfRange least most n → word.now ≢ decimal n) (λ n. IsOfRange least most n × (word.now ≡ decimal n)) }
 {
     let number = number_of(word)?;
     if !is_within(least, most, number) {

@@ -4,7 +4,7 @@ use Rattle.std.specs.List.{list_all}
 use Rattle.clap.proofs.WalkLemmas.{both}
 use Rattle.clap.specs.Walk.{Rule, arg_by_id, arg_by_index, arg_by_long}
 use Rattle.clap.specs.Simple.{is_simple}
-use Rattle.kp_words_options.specs.Words.{differ, is_name}
+use Rattle.kp_words_options.specs.Words.{differ, is_option_name}
 use Rattle.kp_words_options.specs.Clap.{Every, Fits, HasPlaces, Knows, app_of_form, built_option, built_place, built_rules, found_from, is_loose, places_from}
 use Rattle.kp_words_options.proofs.Options.{long_apart, long_joined}
 
@@ -12,16 +12,16 @@ use Rattle.kp_words_options.proofs.Options.{long_apart, long_joined}
 pub computed : {name : List ℕ} {ids options : List (List ℕ)} → is_simple (app_of_form name ids options) ≡ true → list_all is_loose (built_rules ids options) ≡ true
     → map (arg_by_long (built_rules ids options)) options ≡ map (λ o. Some (built_option o)) options → map (arg_by_id (built_rules ids options)) options ≡ map (λ o. Some (built_option o)) options
     → found_from (built_rules ids options) 1 ids ≡ places_from 1 ids → map (arg_by_id (built_rules ids options)) ids ≡ places_from 1 ids
-    → nat_lt (length ids) 100 ≡ true → differ (ids ++ options) ≡ true → list_all is_name options ≡ true → Fits name ids options
+    → nat_lt (length ids) 100 ≡ true → differ (ids ++ options) ≡ true → list_all is_option_name options ≡ true → Fits name ids options
 computed simple loose longs by_id by_index places few differ named =
     record { simple = simple; loose = loose; options_by_long = longs; options_by_id = by_id; places_by_index = by_index; places_by_id = places; few = few; names_differ = differ; named = named }
 
-pub each_known : (c : List Rule) (options : List (List ℕ)) → list_all is_name options ≡ true → map (arg_by_long c) options ≡ map (λ o. Some (built_option o)) options
+pub each_known : (c : List Rule) (options : List (List ℕ)) → list_all is_option_name options ≡ true → map (arg_by_long c) options ≡ map (λ o. Some (built_option o)) options
     → map (arg_by_id c) options ≡ map (λ o. Some (built_option o)) options → Every (Knows c) options
 each_known c [] named longs ids = tt
 each_known c ([] ∷ options) named longs ids = absurd (true≢false (sym named))
 each_known c ((b ∷ rest) ∷ options) named longs ids =
-    let parts = both (is_name (b ∷ rest)) (list_all is_name options) named in
+    let parts = both (is_option_name (b ∷ rest)) (list_all is_option_name options) named in
     let by_long : arg_by_long c (b ∷ rest) ≡ Some (built_option (b ∷ rest)) = cc longs in
     let by_id : arg_by_id c (b ∷ rest) ≡ Some (built_option (b ∷ rest)) = cc ids in
     let longs_behind : map (arg_by_long c) options ≡ map (λ o. Some (built_option o)) options = cc longs in

@@ -5,7 +5,7 @@ use Rattle.std.proofs.lemmas.Bool.Decides.{nat_tests}
 use Rattle.clap.specs.Walk.{Row, first_of, nothing_held, settled, walk, walked, with_default}
 use Rattle.clap.specs.Takes.{is_given, takes}
 use Rattle.clap.specs.Simple.{matches_of}
-use Rattle.kp_words_options.specs.Words.{Said, word, option, is_among, differ, names, positionals, value_of}
+use Rattle.kp_words_options.specs.Words.{Said, word, option, has_text, differ, option_names, positionals, value_of}
 use Rattle.kp_words_options.specs.Clap.{Every, Fits, HasPlaces, Knows, Suits, Takes, app_of_form, built_rules, ids_of, place_of, placed, row_of_pair}
 use Rattle.kp_words_options.proofs.Steps.{standing}
 use Rattle.kp_words_options.proofs.Walks.{Ends, Holds, walk_ends}
@@ -62,22 +62,22 @@ first_either : (b : Bool) (p : List ℕ × List ℕ) (name : List ℕ) (rows : L
 first_either true p name rows other e = refl
 first_either false p name rows other e = e
 
-pub option_found : (ids : List (List ℕ)) (said : List Said) (name : List ℕ) → is_among ids name ≡ false → first_of name (map row_of_pair (placed ids said)) ≡ value_of name said
+pub option_found : (ids : List (List ℕ)) (said : List Said) (name : List ℕ) → has_text ids name ≡ false → first_of name (map row_of_pair (placed ids said)) ≡ value_of name said
 option_found ids [] name e = refl
 option_found [] (word w ∷ said) name e = option_found [] said name e
 option_found (id ∷ ids) (word w ∷ said) name e =
-    let parts = or_false (bytes_eq id name) (is_among ids name) e in
+    let parts = or_false (bytes_eq id name) (has_text ids name) e in
     rw parts.0 (option_found ids said name parts.1)
 option_found ids (option n value ∷ said) name e = first_either (bytes_eq n name) (n, value) name _ _ (option_found ids said name e)
 
-pub place_found : (ids : List (List ℕ)) (said : List Said) (id : List ℕ) → is_among (names said) id ≡ false → first_of id (map row_of_pair (placed ids said)) ≡ place_of ids (positionals said) id
+pub place_found : (ids : List (List ℕ)) (said : List Said) (id : List ℕ) → has_text (option_names said) id ≡ false → first_of id (map row_of_pair (placed ids said)) ≡ place_of ids (positionals said) id
 place_found [] [] id e = refl
 place_found (i ∷ ids) [] id e = refl
 place_found [] (word w ∷ said) id e = place_found [] said id e
 place_found (i ∷ ids) (word w ∷ said) id e = first_either (bytes_eq i id) (i, w) id _ _ (place_found ids said id e)
 place_found [] (option n value ∷ said) id e =
-    let parts = or_false (bytes_eq n id) (is_among (names said) id) e in
+    let parts = or_false (bytes_eq n id) (has_text (option_names said) id) e in
     rw parts.0 (place_found [] said id parts.1)
 place_found (i ∷ ids) (option n value ∷ said) id e =
-    let parts = or_false (bytes_eq n id) (is_among (names said) id) e in
+    let parts = or_false (bytes_eq n id) (has_text (option_names said) id) e in
     rw parts.0 (place_found (i ∷ ids) said id parts.1)

@@ -1,7 +1,7 @@
 -- Words are a line of options, or none: the test of their shape tells.
 use Rattle.std.proofs.Common.{◌≡◌, ◌∙◌, ◌⊎◌, inl, inr, refl, sym, map, ℕ, true, List, [], length, Option, Some, None, arith}
 use Rattle.std.specs.List.{list_all}
-use Rattle.kp_words_options.specs.Words.{Said, Line, is_name, names, positionals, value_of}
+use Rattle.kp_words_options.specs.Words.{Said, Line, is_option_name, option_names, positionals, value_of}
 use Rattle.kp_words_options.specs.Scan.{at_first, scan}
 use Rattle.kp_words_options.proofs.Scanned.{all_fresh, complete, sound}
 
@@ -13,9 +13,9 @@ abbrev pub SomeLine : Texts → Texts → Type 0
 SomeLine words options = (said : List Said) × Line words (positionals said) options (map (λ name. value_of name said) options)
 
 scanned : (words options : Texts) (places : Texts) (values : List (Option (List ℕ))) (line : Line words places options values) → scan options at_first words ≡ Some (length (positionals line.said))
-scanned words options places values line = complete options words line.said [] 0 (length (positionals line.said)) line.says line.known (all_fresh (names line.said)) line.once (omega arith)
+scanned words options places values line = complete options words line.said [] 0 (length (positionals line.said)) line.says line.known (all_fresh (option_names line.said)) line.once (omega arith)
 
-pub line_decided : (words options : Texts) → list_all is_name options ≡ true → SomeLine words options ⊎ ((places : Texts) (values : List (Option (List ℕ))) → Line words places options values → ⊥)
+pub line_decided : (words options : Texts) → list_all is_option_name options ≡ true → SomeLine words options ⊎ ((places : Texts) (values : List (Option (List ℕ))) → Line words places options values → ⊥)
 line_decided words options named = by (scan options at_first words) refl
   where
     by : (o : Option ℕ) → scan options at_first words ≡ o → SomeLine words options ⊎ ((places : Texts) (values : List (Option (List ℕ))) → Line words places options values → ⊥)

@@ -4,7 +4,7 @@ use Rattle.std.specs.List.{list_any, before_first, after_first, position_or_len}
 use Rattle.clap.specs.Lexer.{long_of, long_of_rest, name_and_value, strip_byte}
 use Rattle.clap.proofs.CutLemmas.{Lacks}
 use Rattle.clap.proofs.LexerLemmas.{name_and_value-at, name_and_value-without}
-use Rattle.kp_words_options.specs.Words.{is_name, is_plain}
+use Rattle.kp_words_options.specs.Words.{is_option_name, is_plain}
 
 abbrev is_equals : ℕ → Bool
 is_equals x = x == 61
@@ -25,16 +25,16 @@ lacking (x ∷ xs) e = go (x == 61) refl e (lacking xs)
     go true f g next = absurd (true≢false g)
     go false f g next = first_differs x xs f (next g)
 
-pub name_lacks : (n : List ℕ) → is_name n ≡ true → Lacks 61 n
+pub name_lacks : (n : List ℕ) → is_option_name n ≡ true → Lacks 61 n
 name_lacks [] e = absurd (true≢false (sym e))
 name_lacks (b ∷ rest) e = lacking (b ∷ rest) (is_false _ e)
 
 -- an option is read as its name, and its value where that stands behind `=`
-pub long_apart : (n : List ℕ) → is_name n ≡ true → long_of (codes "--" ++ n) ≡ Some (n, None)
+pub long_apart : (n : List ℕ) → is_option_name n ≡ true → long_of (codes "--" ++ n) ≡ Some (n, None)
 long_apart [] e = absurd (true≢false (sym e))
 long_apart (b ∷ rest) e = ap Some (name_and_value-without (b ∷ rest) (name_lacks (b ∷ rest) e))
 
-pub long_joined : (n v : List ℕ) → is_name n ≡ true → long_of (codes "--" ++ (n ++ (codes "=" ++ v))) ≡ Some (n, Some v)
+pub long_joined : (n v : List ℕ) → is_option_name n ≡ true → long_of (codes "--" ++ (n ++ (codes "=" ++ v))) ≡ Some (n, Some v)
 long_joined [] v e = absurd (true≢false (sym e))
 long_joined (b ∷ rest) v e = ap Some (name_and_value-at (b ∷ rest) v (name_lacks (b ∷ rest) e))
 

@@ -1,7 +1,7 @@
 -- Words say one thing at most, and what it is can be computed.
 use Rattle.std.proofs.Common.{◌≡◌, ◌∙◌, ℕ, false, List, [], ◌∷◌, Option, Some, None, true≢false, refl, ap, sym, option_map, map, if◌then◌else◌}
 use Rattle.clap.specs.Lexer.{long_of}
-use Rattle.kp_words_options.specs.Words.{Said, Says, Line, word, option, nothing, a_word, apart, joined, is_plain, differ, names, positionals, value_of}
+use Rattle.kp_words_options.specs.Words.{Said, Says, Line, word, option, nothing, a_word, apart, joined, is_plain, differ, option_names, positionals, value_of}
 use Rattle.kp_words_options.proofs.Options.{long_apart, long_joined}
 
 -- what an option says, by what is said behind it
@@ -39,11 +39,11 @@ pub unsaid : (words options ps : List (List ℕ)) (vs : List (Option (List ℕ))
 unsaid words options ps vs e line = let f = sym e ∙ is_said words line.said line.says in absurd cc
 
 -- nor do those that say an option twice
-pub said_twice : (words options ps : List (List ℕ)) (vs : List (Option (List ℕ))) (said : List Said) → what_is_said None words ≡ Some said → differ (names said) ≡ false → Line words ps options vs → ⊥
+pub said_twice : (words options ps : List (List ℕ)) (vs : List (Option (List ℕ))) (said : List Said) → what_is_said None words ≡ Some said → differ (option_names said) ≡ false → Line words ps options vs → ⊥
 said_twice words options ps vs said e twice line =
     let f : Some line.said ≡ Some said = sym (is_said words line.said line.says) ∙ e in
     let same : line.said ≡ said = cc in
-    true≢false (sym line.once ∙ (ap (λ s. differ (names s)) same ∙ twice))
+    true≢false (sym line.once ∙ (ap (λ s. differ (option_names s)) same ∙ twice))
 
 -- what words say is what a line of them has
 pub said_line : (words options ps : List (List ℕ)) (vs : List (Option (List ℕ))) (said : List Said) → what_is_said None words ≡ Some said → Line words ps options vs

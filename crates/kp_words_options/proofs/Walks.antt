@@ -3,7 +3,7 @@ use Rattle.std.proofs.Common.{◌≡◌, ◌+◌, ℕ, true, false, List, [], �
 use Rattle.clap.specs.Walk.{Held, Rule, Row, Walk, settled, used, walked}
 use Rattle.clap.specs.Takes.{settle_passes}
 use Rattle.clap.specs.Simple.{new_rule}
-use Rattle.kp_words_options.specs.Words.{Said, Says, nothing, a_word, apart, joined, is_among, differ}
+use Rattle.kp_words_options.specs.Words.{Said, Says, nothing, a_word, apart, joined, has_text, differ}
 use Rattle.kp_words_options.specs.Clap.{Knows, HasPlace, Takes, a_place, an_option, option_rule, built_option, placed, ids_of, row_of_pair}
 use Rattle.kp_words_options.proofs.Rows.{not_before, used_new, use_new}
 use Rattle.kp_words_options.proofs.Steps.{standing, holding, resting, word_step, joined_step, option_step, value_step}
@@ -22,7 +22,7 @@ pub record Ends (c : List Rule) (w : Walk) (ps : Pairs) : Type 0 where
   pub goes_on : w.stopped ≡ None
 
 -- a row is new, among pairs whose names differ
-pub is_new : (ps rest : Pairs) (p : List ℕ × List ℕ) → differ (ids_of (ps ++ p ∷ rest)) ≡ true → is_among (ids_of ps) p.0 ≡ false
+pub is_new : (ps rest : Pairs) (p : List ℕ × List ℕ) → differ (ids_of (ps ++ p ∷ rest)) ≡ true → has_text (ids_of ps) p.0 ≡ false
 is_new ps rest p e = not_before (ids_of ps) (ids_of rest) p.0 (subst (λ (xs : List (List ℕ)). differ xs ≡ true) (cut ps) e)
   where
     cut : (qs : Pairs) → ids_of (qs ++ p ∷ rest) ≡ ids_of qs ++ p.0 ∷ ids_of rest
@@ -34,21 +34,21 @@ pub moved : (ps rest : Pairs) (p : List ℕ × List ℕ) → (ps ++ p ∷ []) ++
 moved ps rest p = append_assoc ps (p ∷ []) rest
 
 module _ (name : List ℕ) (c : List Rule) where
-  pub held_place : (rows : List Row) (ps : Pairs) (k skip : ℕ) (id w : List ℕ) → HasPlace c k id → rows ≡ map row_of_pair ps → is_among (ids_of ps) id ≡ false
+  pub held_place : (rows : List Row) (ps : Pairs) (k skip : ℕ) (id w : List ℕ) → HasPlace c k id → rows ≡ map row_of_pair ps → has_text (ids_of ps) id ≡ false
       → Holds c (holding rows id w skip) (ps ++ (id, w) ∷ [])
   held_place rows ps k skip id w place e new = record {
     rows = rw (place.by_id, e) (used_new (record (new_rule id) { index = Some k }) ps w new);
     passes = rw (place.by_id, e) (use_new (record (new_rule id) { index = Some k }) ps w refl new);
   }
 
-  pub held_option : (rows : List Row) (ps : Pairs) (skip : ℕ) (id w : List ℕ) → Knows c id → rows ≡ map row_of_pair ps → is_among (ids_of ps) id ≡ false
+  pub held_option : (rows : List Row) (ps : Pairs) (skip : ℕ) (id w : List ℕ) → Knows c id → rows ≡ map row_of_pair ps → has_text (ids_of ps) id ≡ false
       → Holds c (holding rows id w skip) (ps ++ (id, w) ∷ [])
   held_option rows ps skip id w knows e new = record {
     rows = rw (knows.by_id, e) (used_new (option_rule id) ps w new);
     passes = rw (knows.by_id, e) (use_new (option_rule id) ps w refl new);
   }
 
-  pub held_joined : (rows : List Row) (ps : Pairs) (skip : ℕ) (id w : List ℕ) → rows ≡ map row_of_pair ps → is_among (ids_of ps) id ≡ false
+  pub held_joined : (rows : List Row) (ps : Pairs) (skip : ℕ) (id w : List ℕ) → rows ≡ map row_of_pair ps → has_text (ids_of ps) id ≡ false
       → Holds c (resting (used (built_option id) (w ∷ []) rows) skip) (ps ++ (id, w) ∷ [])
   held_joined rows ps skip id w e new = record { rows = rw e (used_new (option_rule id) ps w new); passes = refl }
 

@@ -9,7 +9,7 @@ use Rattle.clap.specs.declared.builder.value_parser.ValueParser.TheVariants as v
 use Rattle.clap.specs.declared.builder.value_parser.Reading.TheVariants as reading
 use Rattle.clap.specs.declared.parser.matches.ValueSource.TheVariants.{CommandLine}
 use Rattle.std.specs.List.{list_all}
-use Rattle.kp_words_options.specs.Words.{Said, Says, word, option, differ, is_among, is_name, names, positionals, value_of}
+use Rattle.kp_words_options.specs.Words.{Said, Says, word, option, differ, has_text, is_option_name, option_names, positionals, value_of}
 
 -- an option as it is given to the command
 abbrev pub option_rule : List ℕ → Rule
@@ -133,14 +133,14 @@ pub record Fits (name : List ℕ) (ids options : List (List ℕ)) : Type 0 where
   pub places_by_id : map (arg_by_id (built_rules ids options)) ids ≡ places_from 1 ids
   pub few : nat_lt (length ids) 100 ≡ true
   pub names_differ : differ (ids ++ options) ≡ true
-  pub named : list_all is_name options ≡ true
+  pub named : list_all is_option_name options ≡ true
 
 -- the words say this, as many positional words as there are places, and each option is the command's and stands once
 pub record Suits (ids options words : List (List ℕ)) (said : List Said) : Type 0 where
   pub says : Says words said
   pub count : length (positionals said) ≡ length ids
-  pub known : list_all (is_among options) (names said) ≡ true
-  pub once : differ (names said) ≡ true
+  pub known : list_all (has_text options) (option_names said) ≡ true
+  pub once : differ (option_names said) ≡ true
 
 -- the positional word at the place of this name
 abbrev pub place_of : List (List ℕ) → List (List ℕ) → List ℕ → Option (List ℕ)

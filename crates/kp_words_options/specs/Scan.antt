@@ -1,7 +1,7 @@
 -- For proofs alone: the words as they are read one after the other.
 use Rattle.std.specs.Prelude.{◌+◌, ◌&&◌, ◌==◌, ℕ, Bool, true, false, not, List, [], ◌∷◌, ◌++◌, length, Option, Some, None, if◌then◌else◌, option_and_then}
 use Rattle.clap.specs.Lexer.{long_of}
-use Rattle.kp_words_options.specs.Words.{is_plain, is_among}
+use Rattle.kp_words_options.specs.Words.{is_plain, has_text}
 use Rattle.kp_words_options.specs.Texts.{texts}
 use Rattle.kp_words_options.specs.declared.scan.Reader.{Reader}
 
@@ -12,12 +12,12 @@ pub record State : Type 0 where
   pub places : ℕ
 
 -- the state of the reader
-abbrev pub state_of : Reader → State
-state_of r = record { seen = texts r.seen.items; waits = r.waits; places = r.places }
+abbrev pub reader_state : Reader → State
+reader_state r = record { seen = texts r.seen.items; waits = r.waits; places = r.places }
 
 -- an option may stand here
 abbrev pub may_stand : List (List ℕ) → State → List ℕ → Bool
-may_stand options s name = is_among options name && not (is_among s.seen name)
+may_stand options s name = has_text options name && not (has_text s.seen name)
 
 -- one more option was met
 abbrev pub with_name : State → List ℕ → Bool → State

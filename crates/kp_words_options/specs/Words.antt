@@ -9,9 +9,9 @@ is_plain [] = false
 is_plain (b ∷ rest) = not (b == 45)
 
 -- the name of an option: it isn't empty and has no `=`
-abbrev pub is_name : List ℕ → Bool
-is_name [] = false
-is_name (b ∷ rest) = not (list_any (λ x. x == 61) (b ∷ rest))
+abbrev pub is_option_name : List ℕ → Bool
+is_option_name [] = false
+is_option_name (b ∷ rest) = not (list_any (λ x. x == 61) (b ∷ rest))
 
 -- a positional word, or an option with its value
 pub data Said : Type 0 where
@@ -22,9 +22,9 @@ pub data Said : Type 0 where
 pub data Says : List (List ℕ) → List Said → Type 0 where
   nothing : Says [] []
   a_word : (w : List ℕ) (words : List (List ℕ)) (said : List Said) → is_plain w ≡ true → Says words said → Says (w ∷ words) (word w ∷ said)
-  apart : (name value : List ℕ) (words : List (List ℕ)) (said : List Said) → is_name name ≡ true → is_plain value ≡ true → Says words said
+  apart : (name value : List ℕ) (words : List (List ℕ)) (said : List Said) → is_option_name name ≡ true → is_plain value ≡ true → Says words said
       → Says ((codes "--" ++ name) ∷ value ∷ words) (option name value ∷ said)
-  joined : (name value : List ℕ) (words : List (List ℕ)) (said : List Said) → is_name name ≡ true → is_plain value ≡ true → Says words said
+  joined : (name value : List ℕ) (words : List (List ℕ)) (said : List Said) → is_option_name name ≡ true → is_plain value ≡ true → Says words said
       → Says ((codes "--" ++ (name ++ (codes "=" ++ value))) ∷ words) (option name value ∷ said)
 
 -- the positional words, in order
@@ -34,10 +34,10 @@ positionals (word w ∷ said) = w ∷ positionals said
 positionals (option name value ∷ said) = positionals said
 
 -- the names of the options, in order
-abbrev pub names : List Said → List (List ℕ)
-names [] = []
-names (word w ∷ said) = names said
-names (option name value ∷ said) = name ∷ names said
+abbrev pub option_names : List Said → List (List ℕ)
+option_names [] = []
+option_names (word w ∷ said) = option_names said
+option_names (option name value ∷ said) = name ∷ option_names said
 
 -- the value of the first option of a name
 abbrev pub value_of : List ℕ → List Said → Option (List ℕ)
@@ -46,13 +46,13 @@ value_of name (word w ∷ said) = value_of name said
 value_of name (option n value ∷ said) = if bytes_eq n name then Some value else value_of name said
 
 -- the text is one of these
-abbrev pub is_among : List (List ℕ) → List ℕ → Bool
-is_among texts text = list_any (λ t. bytes_eq t text) texts
+abbrev pub has_text : List (List ℕ) → List ℕ → Bool
+has_text texts text = list_any (λ t. bytes_eq t text) texts
 
 -- no text stands twice
 abbrev pub differ : List (List ℕ) → Bool
 differ [] = true
-differ (t ∷ texts) = not (is_among texts t) && differ texts
+differ (t ∷ texts) = not (has_text texts t) && differ texts
 
 -- The words are a line of these positional words, with these values of the options that may stand: each
 -- option stands once at most, and one that is left out has no value.
@@ -60,6 +60,6 @@ pub record Line (words places options : List (List ℕ)) (values : List (Option 
   pub said : List Said
   pub says : Says words said
   pub places_are : positionals said ≡ places
-  pub known : list_all (is_among options) (names said) ≡ true
-  pub once : differ (names said) ≡ true
+  pub known : list_all (has_text options) (option_names said) ≡ true
+  pub once : differ (option_names said) ≡ true
   pub values_are : map (λ name. value_of name said) options ≡ values

@@ -1,8 +1,8 @@
 ghost use Rattle.std.specs.Prelude.{◌≡◌, ◌≤◌, ◌<◌, ◌+◌, ◌^◌, ◌&&◌, Some, None, not, length, vec_len, IfOk, option_map, true, false, Ok, nat_eq};
 ghost use Rattle.clap.specs.Lexer.{strip_byte, name_and_value, long_of};
-ghost use Rattle.kp_words_options.specs.Words.{is_plain, is_among};
+ghost use Rattle.kp_words_options.specs.Words.{is_plain, has_text};
 ghost use Rattle.kp_words_options.specs.Texts.{texts};
-ghost use Rattle.kp_words_options.specs.Scan.{State, state_of, has_value, is_alone, may_stand, after_word, after_option, scan, at_first};
+ghost use Rattle.kp_words_options.specs.Scan.{State, reader_state, has_value, is_alone, may_stand, after_word, after_option, scan, at_first};
 
 use kp_base::Memory;
 use std::alloc::Global;
@@ -47,7 +47,7 @@ fn option_of(word: &str) -> Option<(&str, Option<&str>)>
 
 // Whether a text is one of these.
 pub(crate) fn is_among(all: &[&str], text: &str) -> bool
-    ensures { result ≡ is_among (texts all.now) text.now }
+    ensures { result ≡ has_text (texts all.now) text.now }
 {
     for one in all {
         if *one == text {
@@ -79,15 +79,15 @@ fn has_value(value: Option<&str>) -> bool
 impl<'a> Reader<'a> {
     // Whether an option may stand here.
     fn may_stand(&self, options: &[&str], name: &str) -> bool
-        ensures { result ≡ may_stand (texts options.now) (state_of self.now) name.now }
+        ensures { result ≡ may_stand (texts options.now) (reader_state self.now) name.now }
     {
         is_among(options, name) && !is_among(self.seen.as_slice(), name)
     }
 
     // Reads an option. `false` says that it may not stand here.
     fn read_option(&mut self, options: &[&str], word: &'a str) -> Result<bool, Memory>
-        ensures yes { result ≡ Ok true → after_option (texts options.now) (state_of self.old) (long_of word.now) ≡ Some (state_of self.new) }
-        ensures no { result ≡ Ok false → after_option (texts options.now) (state_of self.old) (long_of word.now) ≡ None }
+        ensures yes { result ≡ Ok true → after_option (texts options.now) (reader_state self.old) (long_of word.now) ≡ Some (reader_state self.new) }
+        ensures no { result ≡ Ok false → after_option (texts options.now) (reader_state self.old) (long_of word.now) ≡ None }
         ensures places { self.new.places ≡ self.old.places }
     {
         let Some((name, value)) = option_of(word) else {
@@ -104,8 +104,8 @@ impl<'a> Reader<'a> {
     // Reads a word. `false` says that it may not stand here.
     fn read(&mut self, options: &[&str], word: &'a str) -> Result<bool, Memory>
         requires { self.old.places + 1 < 2 ^ 64 }
-        ensures yes { result ≡ Ok true → after_word (texts options.now) (state_of self.old) word.now ≡ Some (state_of self.new) }
-        ensures no { result ≡ Ok false → after_word (texts options.now) (state_of self.old) word.now ≡ None }
+        ensures yes { result ≡ Ok true → after_word (texts options.now) (reader_state self.old) word.now ≡ Some (reader_state self.new) }
+        ensures no { result ≡ Ok false → after_word (texts options.now) (reader_state self.old) word.now ≡ None }
         ensures places { self.new.places ≤ self.old.places + 1 }
     {
         if is_plain(word) {

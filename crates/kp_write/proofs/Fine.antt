@@ -2,7 +2,7 @@
 use Rattle.std.proofs.Common.{ℕ, Bool, true, false, List, [], ◌∷◌, refl}
 use Rattle.std.specs.List.{AllByRecursion}
 use Rattle.kp_lex.specs.Bytes.{class_of, follows}
-use Rattle.kp_lex.specs.Cutting.{Ends}
+use Rattle.kp_lex.specs.Cutting.{EndsRunOf}
 use Rattle.kp_tree_grammar.specs.Words.{IsHead}
 use Rattle.kp_law_texts.specs.Pieces.{Piece, right, spelling, Put, each, spaced}
 use Rattle.kp_write.specs.Task.{Signed, Effect, Op}
@@ -29,7 +29,7 @@ fine_signed_case false n h = record { keeps = λ f. lefts $ name_in_front_is_fin
 fine_signed : (s : Signed) → IsSigned s → KeepsFine (signed s)
 fine_signed s h = fine_signed_case s.holds s.fact h
 
-ends_spaced : {T : Type 0} (f : T → Put) (xs : List T) (rest : List Piece) → Ends follows (spelling (each (spaced f) xs (right ∷ rest)))
+ends_spaced : {T : Type 0} (f : T → Put) (xs : List T) (rest : List Piece) → EndsRunOf follows (spelling (each (spaced f) xs (right ∷ rest)))
 unfolding class_of
 ends_spaced f [] rest = refl
 ends_spaced f (x ∷ xs) rest = refl

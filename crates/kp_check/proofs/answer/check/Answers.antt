@@ -1,6 +1,6 @@
 use Rattle.std.proofs.Common.{sym, ◌∙◌}
 use Rattle.kp_primes.specs.Held.{formula}
-use Rattle.kp_primes_models.specs.Ordered.{state_of}
+use Rattle.kp_primes_models.specs.Ordered.{state_of_atoms}
 use Rattle.kp_check.proofs.Grounded.{ground_of}
 use Rattle.kp_check.proofs.FailingFrom.{failure_found, fail_at, tells_where, all_succeed}
 use Rattle.kp_check.proofs.answer.check.Goals as goal
@@ -12,7 +12,7 @@ returns-in-Some-2 c =
     let first = rw (c.in-Some.is, c.slice.ensures) at c.in_ok-state.ensures in
     let at = rw (c.in-Some-2.is, c.slice-3.ensures, c.in_ok-values.ensures, c.slice-2.ensures, c.atoms.ensures) at c.in_ok-at.ensures.place in
     let up = rw (c.in-Some-2.is, c.slice-3.ensures) at c.in_ok-at.ensures.ascending in
-    (first, fail_at g c.args.steps.now (state_of c.in-Some.state) c.in-Some-2.at c.requires.inside up (sym (failure_found n g (ground_of n g c.requires.number c.requires.ground) c.args.steps.now c.in-Some.state) ∙ sym at))
+    (first, fail_at g c.args.steps.now (state_of_atoms c.in-Some.state) c.in-Some-2.at c.requires.inside up (sym (failure_found n g (ground_of n g c.requires.number c.requires.ground) c.args.steps.now c.in-Some.state) ∙ sym at))
 
 pub returns-in-None : goal.returns-in-None
 returns-in-None c =

@@ -1,6 +1,6 @@
 use Rattle.std.proofs.Common.{◌≡◌, ◌==◌, ℕ, ◌||◌, drop}
 use Rattle.std.specs.List.{list_any}
-use Rattle.kp_ground_instances.specs.Tables.{has_number}
+use Rattle.kp_ground_instances.specs.StaticTables.{has_number}
 use Rattle.kp_ground_instances.proofs.changed.add_literals.Given as goal
 
 -- with the literals that are left come all

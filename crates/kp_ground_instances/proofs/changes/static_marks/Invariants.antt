@@ -1,5 +1,5 @@
 use Rattle.std.proofs.Common.{◌≡◌, ℕ, Bool, not, Some, length, slice_get}
-use Rattle.kp_ground_instances.specs.Tables.{has_number}
+use Rattle.kp_ground_instances.specs.StaticTables.{has_number}
 use Rattle.kp_ground_instances.proofs.changes.static_marks.Given as goal
 
 -- each mark so far is right

@@ -6,7 +6,7 @@ use Rattle.kp_names.specs.View.{schema_view, lifted_view}
 use Rattle.kp_ground_meaning.specs.Static.{settled}
 use Rattle.kp_ground_meaning.specs.Ground.{instance, kept_bindings}
 use Rattle.kp_ground_instances.specs.Counts.{kept_view}
-use Rattle.kp_ground_instances.specs.Tables.{Gathers}
+use Rattle.kp_ground_instances.specs.StaticTables.{Gathers}
 use Rattle.kp_ground_instances.proofs.KeptRest.{kept_rest, rest_next, still_all, too_many}
 use Rattle.kp_ground_instances.proofs.keeping.keep_all.Goals as goal
 

@@ -5,7 +5,7 @@ use Rattle.kp_names.specs.View.{lifted_view}
 use Rattle.kp_ground_meaning.specs.Ground.{kept_instances}
 use Rattle.kp_ground_meaning.specs.Weights.{binding_count, total_weight}
 use Rattle.kp_ground_instances.specs.Counts.{bindings_over, actions_over, effects_over}
-use Rattle.kp_ground_instances.specs.Tables.{IsKeeping}
+use Rattle.kp_ground_instances.specs.StaticTables.{IsKeeping}
 use Rattle.kp_ground_instances.proofs.keeping.kept_instances.Goals as goal
 
 -- one problem has one number of bindings

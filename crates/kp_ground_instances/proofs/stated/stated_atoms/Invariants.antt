@@ -1,7 +1,7 @@
 use Rattle.std.proofs.Common.{◌≡◌, ℕ, ◌||◌, List, drop}
 use Rattle.std.specs.List.{list_any}
 use Rattle.kp_ground_meaning.specs.Static.{says}
-use Rattle.kp_ground_instances.specs.Tables.{has_atom}
+use Rattle.kp_ground_instances.specs.StaticTables.{has_atom}
 use Rattle.kp_ground_instances.proofs.stated.stated_atoms.Given as goal
 
 -- with the items that are left come all

@@ -1,7 +1,7 @@
 use Rattle.std.proofs.Common.{◌≡◌, ◌++◌, map, drop}
 use Rattle.kp_base.specs.Atoms.{kept_atom}
 use Rattle.kp_names.specs.View.{lifted_view}
-use Rattle.kp_init.specs.Tables.{closed_among}
+use Rattle.kp_init.specs.NamedAtoms.{closed_among}
 use Rattle.kp_init.proofs.closed.add_all_closed.Given as goal
 
 -- with the atoms that are left come all

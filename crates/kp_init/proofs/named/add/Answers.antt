@@ -1,6 +1,6 @@
 use Rattle.std.proofs.Common.{◌||◌, ap, ◌∙◌}
 use Rattle.kp_base.specs.Atoms.{same_atom}
-use Rattle.kp_init.specs.Tables.{is_kept}
+use Rattle.kp_init.specs.NamedAtoms.{is_kept}
 use Rattle.kp_init.proofs.NamedAtoms.{one_more}
 use Rattle.kp_init.proofs.named.add.Goals as goal
 

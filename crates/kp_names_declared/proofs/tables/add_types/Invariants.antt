@@ -2,7 +2,7 @@ use Rattle.std.proofs.Common.{◌≡◌, drop, fold, map}
 use Rattle.std.specs.List.{flat_map}
 use Rattle.kp_tree_grammar.specs.View.{typed_view}
 use Rattle.kp_names_declared.specs.Steps.{with_name}
-use Rattle.kp_names_declared.specs.Tables.{names_of_line}
+use Rattle.kp_names_declared.specs.NameTables.{names_of_line}
 use Rattle.kp_names_declared.proofs.tables.add_types.Given as goal
 
 -- with the lines that are left come all

@@ -1,5 +1,5 @@
 use Rattle.std.proofs.Common.{ℕ, ◌+◌, ap, sym, ◌∙◌}
-use Rattle.kp_plans.specs.Tables.{step_under}
+use Rattle.kp_plans.specs.WordTables.{step_under}
 use Rattle.kp_plans.proofs.StepsFound.{first_one}
 use Rattle.kp_plans.proofs.finding.find_all.Goals as goal
 

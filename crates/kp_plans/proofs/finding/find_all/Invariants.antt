@@ -1,5 +1,5 @@
 use Rattle.std.proofs.Common.{◌≡◌, Some, map, take, length}
-use Rattle.kp_plans.specs.Tables.{step_under}
+use Rattle.kp_plans.specs.WordTables.{step_under}
 use Rattle.kp_plans.proofs.finding.find_all.Given as goal
 
 -- the numbers of the steps so far

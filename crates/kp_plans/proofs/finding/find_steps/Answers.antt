@@ -2,7 +2,7 @@ use Rattle.std.proofs.Common.{List, subst}
 use Rattle.kp_base.specs.declared.ground.Action.{Action}
 use Rattle.kp_plans.specs.declared.step.PlanStep.{PlanStep}
 use Rattle.kp_plans.specs.Found.{AnswersSteps, action_names, action_of}
-use Rattle.kp_plans.specs.Tables.{IsTableOf, step_under}
+use Rattle.kp_plans.specs.WordTables.{IsTableOf, step_under}
 use Rattle.kp_plans.proofs.StepsFound.{found_same}
 use Rattle.kp_plans.proofs.finding.find_steps.Goals as goal
 

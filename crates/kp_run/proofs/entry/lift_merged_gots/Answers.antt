@@ -1,7 +1,7 @@
 use Rattle.std.proofs.Common.{[], ◌∷◌}
 use Rattle.kp_run_outcome.proofs.Public.{as_many_read_as_named}
 use Rattle.kp_words.specs.Names.{of_file}
-use Rattle.kp_run_inputs.specs.Tables.{from_file}
+use Rattle.kp_run_inputs.specs.SourceTables.{from_file}
 use Rattle.kp_run.proofs.Files.{four, four_within, merged_lifted}
 use Rattle.kp_run.proofs.entry.lift_merged_gots.Goals as goal
 

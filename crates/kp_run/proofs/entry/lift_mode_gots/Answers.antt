@@ -1,6 +1,6 @@
 use Rattle.std.proofs.Common.{[], ◌∷◌}
 use Rattle.kp_run_outcome.proofs.Public.{as_many_read_as_named}
-use Rattle.kp_run_inputs.specs.Tables.{from_mode}
+use Rattle.kp_run_inputs.specs.SourceTables.{from_mode}
 use Rattle.kp_words.specs.Names.{of_mode}
 use Rattle.kp_run.proofs.Files.{all_within, mode_lifted}
 use Rattle.kp_run.proofs.entry.lift_mode_gots.Goals as goal

@@ -1,6 +1,6 @@
 use Rattle.std.proofs.Common.{ap, subst}
 use Rattle.kp_words.specs.Names.{Translate}
-use Rattle.kp_run.specs.Tables.{IsSourced}
+use Rattle.kp_run.specs.CommandParts.{IsSourced}
 use Rattle.kp_run.proofs.Files.{sourced_translated}
 use Rattle.kp_run.proofs.entry.translate_gots.Goals as goal
 

@@ -2,7 +2,7 @@ use Rattle.std.proofs.Common.{[], subst, IfOk}
 use Rattle.kp_law_files.specs.Translations.{initial_of}
 use Rattle.kp_words.specs.Names.{of_mode}
 use Rattle.kp_run_prepare.specs.Prepared.{AnswersPrepared}
-use Rattle.kp_run_inputs.specs.Tables.{ComesByTable}
+use Rattle.kp_run_inputs.specs.SourceTables.{ComesByTable}
 use Rattle.kp_run_inputs.proofs.Public.{prepared_goes_on, prepared_ends}
 use Rattle.kp_run_bench.specs.Bench.{usual_implicates, BenchesGround, BenchesTrees}
 use Rattle.kp_run_bench.proofs.running.bench_texts.Goals as goal

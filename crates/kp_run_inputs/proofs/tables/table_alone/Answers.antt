@@ -1,5 +1,5 @@
 use Rattle.std.proofs.Common.{subst}
-use Rattle.kp_run_inputs.specs.Tables.{IsOrigin}
+use Rattle.kp_run_inputs.specs.SourceTables.{IsOrigin}
 use Rattle.kp_run_inputs.proofs.Ended.{of_mode_origin, of_file_origin}
 use Rattle.kp_run_inputs.proofs.tables.table_alone.Goals as goal
 

@@ -4,11 +4,11 @@ use Rattle.kp_base.specs.declared.refused.Part.TheVariants as parts
 use Rattle.kp_base.specs.declared.refused.Refused.TheVariants as refusals
 use Rattle.kp_primes.specs.Held.{formula}
 use Rattle.kp_tags_merges.specs.MergesFiles.{IsMergesOf, AnswersMergesFile}
-use Rattle.kp_tags.specs.Tables.{has_tags_of_atoms}
+use Rattle.kp_tags.specs.MergeTables.{has_tags_of_atoms}
 use Rattle.kp_run_messages.specs.Refusals.{nothing}
 use Rattle.kp_run_prepare.proofs.Public.{whole_content_is_read}
 use Rattle.kp_words.specs.Names.{of_file}
-use Rattle.kp_run_inputs.specs.Tables.{long_file}
+use Rattle.kp_run_inputs.specs.SourceTables.{long_file}
 use Rattle.kp_run_inputs.proofs.FileMerges.{tags_of_atoms}
 use Rattle.kp_run_inputs.proofs.Lengths.{over_length, short_length}
 use Rattle.kp_run_inputs.proofs.Ended.{answer_by, ends_at_table, of_merges, no_file_table}

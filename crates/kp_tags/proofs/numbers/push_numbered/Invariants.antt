@@ -1,5 +1,5 @@
 use Rattle.std.proofs.Common.{◌≡◌, ◌++◌, map, take}
-use Rattle.kp_tags.specs.Tables.{numbered}
+use Rattle.kp_tags.specs.MergeTables.{numbered}
 use Rattle.kp_tags.proofs.numbers.push_numbered.Given as goal
 
 abbrev pub invariant-loop-merge : goal.invariant-loop-merge

@@ -1,5 +1,5 @@
 use Rattle.std.proofs.Common.{◌≡◌, ◌++◌, map, take}
-use Rattle.kp_tags.specs.Tables.{number_in}
+use Rattle.kp_tags.specs.MergeTables.{number_in}
 use Rattle.kp_tags.proofs.numbers.push_numbers.Given as goal
 
 abbrev pub invariant-loop-tag : goal.invariant-loop-tag

@@ -1,6 +1,6 @@
 use Rattle.std.proofs.Common.{◌≡◌, ◌≤◌, [], map, drop, fold}
 use Rattle.kp_tree_grammar.specs.View.{pred_view}
-use Rattle.kp_names_declared.specs.Tables.{entries_from, with_entry}
+use Rattle.kp_names_declared.specs.NameTables.{entries_from, with_entry}
 use Rattle.kp_names_declared.proofs.predicates.Predicates.of.Given as goal
 
 -- with the declarations that are left come all

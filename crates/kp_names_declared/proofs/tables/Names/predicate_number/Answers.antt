@@ -1,7 +1,7 @@
 use Rattle.std.proofs.Common.{◌∙◌, sym, ap}
 use Rattle.std.proofs.lemmas.List.{length-map}
 use Rattle.kp_tree_grammar.specs.View.{domain_view, pred_view}
-use Rattle.kp_names_declared.specs.Tables.{entry_of}
+use Rattle.kp_names_declared.specs.NameTables.{entry_of}
 use Rattle.kp_names_declared.proofs.NumbersOfNames.{found_predicate, missing_predicate}
 use Rattle.kp_names_declared.proofs.tables.Names.predicate_number.Goals as goal
 

@@ -1,5 +1,5 @@
 use Rattle.std.proofs.Common.{ap, map, ◌∙◌}
-use Rattle.kp_plans.specs.Tables.{number_under}
+use Rattle.kp_plans.specs.WordTables.{number_under}
 use Rattle.kp_plans.proofs.Tabled.{told_is}
 use Rattle.kp_plans.proofs.table.NameTable.find.Goals as goal
 

@@ -3,7 +3,7 @@ use Rattle.std.specs.List.{position_from}
 use Rattle.std.specs.Option.{option_or}
 use Rattle.kp_names_meaning.specs.Names.{same}
 use Rattle.kp_names_meaning.specs.Encoding.{encoded}
-use Rattle.kp_plans.specs.Tables.{number_under}
+use Rattle.kp_plans.specs.WordTables.{number_under}
 use Rattle.kp_plans.proofs.table.NameTable.of_atoms.Given as goal
 
 -- a word that the table doesn't tell stands first where it does among those that are left

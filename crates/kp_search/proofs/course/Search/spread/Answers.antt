@@ -1,5 +1,5 @@
 use Rattle.std.proofs.Common.{◌≡◌, ◌∙◌, ℕ, List, length, refl, subst, arith}
-use Rattle.kp_search.specs.Tables.{StateList}
+use Rattle.kp_search.specs.StateTables.{StateList}
 use Rattle.kp_search.specs.Turns.{Spreads}
 use Rattle.kp_search.proofs.Spreads.{spreads_none, spreads_more}
 use Rattle.kp_search.proofs.course.Search.spread.Goals as goal

@@ -1,5 +1,5 @@
 use Rattle.std.proofs.Common.{◌∙◌, sym, ap}
-use Rattle.kp_search.specs.Tables.{StateList}
+use Rattle.kp_search.specs.StateTables.{StateList}
 use Rattle.kp_search.proofs.Ordered.{tells_read}
 use Rattle.kp_search.proofs.table.Table.has.Goals as goal
 

@@ -2,7 +2,7 @@ use Rattle.std.proofs.Common.{◌≡◌, ◌∙◌, is_ok, length, take, refl, s
 use Rattle.std.specs.Vec.{with_items}
 use Rattle.std.proofs.lemmas.List.{with_items_is}
 use Rattle.std.proofs.lemmas.Bool.{false≢true}
-use Rattle.kp_search.specs.Tables.{StateList}
+use Rattle.kp_search.specs.StateTables.{StateList}
 use Rattle.kp_search.proofs.Ordered.{tells_read, view_put}
 use Rattle.kp_search.proofs.table.Table.insert.Goals as goal
 

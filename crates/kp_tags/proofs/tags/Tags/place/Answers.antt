@@ -1,6 +1,6 @@
 use Rattle.std.proofs.Common.{◌∙◌, ap, sym, map, Vec, Global}
 use Rattle.kp_base.specs.declared.lit.Lit.{Lit}
-use Rattle.kp_tags.specs.Tables.{number_in}
+use Rattle.kp_tags.specs.MergeTables.{number_in}
 use Rattle.kp_tags.proofs.Positions.{place_there, place_nowhere}
 use Rattle.kp_tags.proofs.tags.Tags.place.Goals as goal
 

@@ -1,7 +1,7 @@
 use Rattle.std.proofs.Common.{◌≡◌, List, fold, sym, subst, ◌∙◌}
 use Rattle.std.specs.List.{flat_map}
 use Rattle.kp_base.specs.declared.lit.Lit.{Lit}
-use Rattle.kp_tags.specs.Tables.{used_tags}
+use Rattle.kp_tags.specs.MergeTables.{used_tags}
 use Rattle.kp_tags.specs.Kept.{with_tag}
 use Rattle.kp_tags.proofs.Gathered.{all_used}
 use Rattle.kp_tags.proofs.tags.Tags.used.Goals as goal

@@ -1,5 +1,0 @@
-use Rattle.kp_law_runs.proofs.Benches as following
-use Rattle.kp_law_runs.proofs.benching.benches_are_true.Goals as goal
-
-pub returns : goal.returns
-returns c = following.benches_are_true

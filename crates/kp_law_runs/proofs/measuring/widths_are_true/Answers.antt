@@ -1,5 +1,0 @@
-use Rattle.kp_law_runs.proofs.Measures as following
-use Rattle.kp_law_runs.proofs.measuring.widths_are_true.Goals as goal
-
-pub returns : goal.returns
-returns c = following.widths_are_true

@@ -1,5 +1,0 @@
-use Rattle.kp_law_runs.proofs.Classicals as following
-use Rattle.kp_law_runs.proofs.solving.no_classical_plan_is_true.Goals as goal
-
-pub returns : goal.returns
-returns c = following.no_classical_plan_is_true

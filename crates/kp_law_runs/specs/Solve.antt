@@ -1,0 +1,63 @@
+-- What a run of `solve` or of `classical` ends with, and what that says of its files.
+use Rattle.std.specs.Prelude.{◌≡◌, Some}
+use Rattle.kp_base.specs.declared.ground.TagTable.{TagTable}
+use Rattle.kp_tree_grammar.specs.declared.tree.Word.{Word}
+use Rattle.kp_tree_grammar.specs.Trees.{Domain, Problem}
+use Rattle.kp_law_files.specs.Translations.{ground_of, initial_of}
+use Rattle.kp_outside.specs.Outside.{FileMap}
+use Rattle.kp_run_outcome.specs.declared.outcome.Outcome.{Outcome}
+use Rattle.kp_run_outcome.specs.declared.status.Status.TheVariants as status
+use Rattle.kp_words.specs.Names.{Solve, Classical}
+use Rattle.kp_words.specs.Command.{IsSolve, IsClassical}
+use Rattle.kp_run_classical.specs.Classical.{task_of as classical_task}
+use Rattle.kp_run_solve.specs.Solving.{SolvesGround, SolvesClassical}
+use Rattle.kp_run.specs.Solved.{GoesOn, HasTask, IsPosed, IsSolved, HasNoPlan, IsSpent, IsHeldClassical, IsPosedClassical, IsSolvedClassical, HasNoClassicalPlan, IsSpentClassical}
+use Rattle.kp_law_runs.specs.Follows.{OfRuns, EndsWith}
+
+-- ---- `solve`
+
+-- a call to solve on such files: the run ends with what the search comes to
+abbrev pub SolvingsAreAnswered : Type 0
+SolvingsAreAnswered = OfRuns (λ words old new s. (m : FileMap) (c : Solve) (d : Domain Word) (p : Problem Word) (table : TagTable) (o : Outcome)
+    → old.held ≡ Some m → IsSolve words c → GoesOn m c.domain c.problem c.implicates d p → HasTask m c.source d p table → SolvesGround c.classical c.budget (ground_of d p) (initial_of d p) table o
+    → EndsWith o old new s)
+
+-- the trees and the table are one, so what is said of some is said of all
+abbrev pub PosedOnce : Type 0
+PosedOnce = (m : FileMap) (c : Solve) (x y : IsPosed m c) → (x.domain_tree ≡ y.domain_tree) × (x.problem_tree ≡ y.problem_tree) × (x.table ≡ y.table)
+
+-- where the shelf tells and a call to solve ends with Done, it told a plan of the two files
+abbrev pub SolvedIsAPlan : Type 0
+SolvedIsAPlan = OfRuns (λ words old new s. (m : FileMap) (c : Solve) → old.held ≡ Some m → IsSolve words c → s ≡ status.Done → IsSolved m c old new)
+
+-- where it ends with Negative, there is none
+abbrev pub NoPlanIsTrue : Type 0
+NoPlanIsTrue = OfRuns (λ words old new s. (m : FileMap) (c : Solve) → old.held ≡ Some m → IsSolve words c → s ≡ status.Negative → HasNoPlan m c old new)
+
+-- where it ends with Spent, there are more states than the budget says
+abbrev pub SpentIsTrue : Type 0
+SpentIsTrue = OfRuns (λ words old new s. (m : FileMap) (c : Solve) → old.held ≡ Some m → IsSolve words c → s ≡ status.Spent → IsSpent m c old new)
+
+-- ---- `classical`
+
+-- a call to solve such files: the run ends with what the search comes to
+abbrev pub ClassicalsAreAnswered : Type 0
+ClassicalsAreAnswered = OfRuns (λ words old new s. (m : FileMap) (c : Classical) (d : Domain Word) (p : Problem Word) (o : Outcome)
+    → old.held ≡ Some m → IsClassical words c → IsHeldClassical m c.domain c.problem d p → SolvesClassical c.budget (ground_of d p) (classical_task d p) o
+    → EndsWith o old new s)
+
+-- the trees are one
+abbrev pub ClassicalPosedOnce : Type 0
+ClassicalPosedOnce = (m : FileMap) (c : Classical) (x y : IsPosedClassical m c) → (x.domain_tree ≡ y.domain_tree) × (x.problem_tree ≡ y.problem_tree)
+
+-- where the shelf tells and a call to solve classical files ends with Done, it told a plan of the two files
+abbrev pub ClassicalIsAPlan : Type 0
+ClassicalIsAPlan = OfRuns (λ words old new s. (m : FileMap) (c : Classical) → old.held ≡ Some m → IsClassical words c → s ≡ status.Done → IsSolvedClassical m c old new)
+
+-- where it ends with Negative, there is none
+abbrev pub NoClassicalPlanIsTrue : Type 0
+NoClassicalPlanIsTrue = OfRuns (λ words old new s. (m : FileMap) (c : Classical) → old.held ≡ Some m → IsClassical words c → s ≡ status.Negative → HasNoClassicalPlan m c old new)
+
+-- where it ends with Spent, there are more states than the budget says
+abbrev pub ClassicalSpentIsTrue : Type 0
+ClassicalSpentIsTrue = OfRuns (λ words old new s. (m : FileMap) (c : Classical) → old.held ≡ Some m → IsClassical words c → s ≡ status.Spent → IsSpentClassical m c old new)

@@ -1,0 +1,23 @@
+use Rattle.std.proofs.Common.{[], ap, subst, IfOk}
+use Rattle.kp_law_files.specs.Translations.{initial_of}
+use Rattle.kp_run_prepare.specs.Prepared.{AnswersPrepared}
+use Rattle.kp_words.specs.Names.{Merges, of_mode}
+use Rattle.kp_run_inputs.specs.SourceTables.{ComesByTable}
+use Rattle.kp_run_inputs.proofs.Public.{prepared_goes_on, prepared_ends}
+use Rattle.kp_run.specs.Outcomes.{MergesGround, MergesTrees}
+use Rattle.kp_run.proofs.merges.merges_of_texts.Goals as goal
+
+-- the command goes on
+pub returns-in-Ok : goal.returns-in-Ok
+returns-in-Ok c d p first second =
+    let n = c.args.command.now.implicates in
+    let w = subst (AnswersPrepared n d p) c.in-Ok.is (subst (λ k. AnswersPrepared k d p c.prepare.result) (ap (λ (k : Merges). k.implicates) c.command.view_is) (c.prepare.ensures.answers d p first second)) in
+    prepared_goes_on n d p (MergesTrees c.args.command.now.mode) c.in-Ok.prepared w c.list_in.result
+    (subst (λ g. IfOk c.list_in.result (ComesByTable g (initial_of w.first w.second) (of_mode c.args.command.now.mode) [] (MergesGround g))) w.ground
+    (subst (λ m. IfOk c.list_in.result (ComesByTable c.in-Ok.prepared.ground (initial_of w.first w.second) (of_mode m) [] (MergesGround c.in-Ok.prepared.ground))) (ap (λ (k : Merges). k.mode) c.command.view_is) (c.list_in.ensures (initial_of w.first w.second) w.primes.same_models)))
+
+-- it ends early
+pub returns-in-Err : goal.returns-in-Err
+returns-in-Err c d p first second =
+    let n = c.args.command.now.implicates in
+    prepared_ends n d p (MergesTrees c.args.command.now.mode) c.in-Err.early c.settle.result (subst (AnswersPrepared n d p) c.in-Err.is (subst (λ k. AnswersPrepared k d p c.prepare.result) (ap (λ (k : Merges). k.implicates) c.command.view_is) (c.prepare.ensures.answers d p first second))) c.settle.ensures

@@ -1,0 +1,30 @@
+use Rattle.std.proofs.Common.{refl, subst, IfOk}
+use Rattle.kp_primes.specs.Held.{formula}
+use Rattle.kp_run_inputs.specs.SourceTables.{AnswersTable}
+use Rattle.kp_run_inputs.proofs.Public.{tables_are_right, table_goes, table_ends}
+use Rattle.kp_words.specs.Names.{Solve}
+use Rattle.kp_run_solve.specs.Solving.{SolvesGround}
+use Rattle.kp_run_solve.proofs.Public.{ground_is_solved_by_models}
+use Rattle.kp_run.proofs.solve.solve_by.Goals as goal
+
+pub solve_table-requires-clause-table : goal.solve_table-requires-clause-table
+solve_table-requires-clause-table c =
+    let g = c.args.prepared.now.ground in
+    let i = formula c.args.prepared.now.primes in
+    let o = c.requires.origin in
+    (tables_are_right g i o.0 o.1 c.in-Ok.table c.requires.usable.ground (subst (AnswersTable g i o.0 o.1) c.in-Ok.is (c.table_of.ensures o.0 o.1 i o.2 (λ s. refl)))).0
+
+-- there is a table
+pub returns-in-Ok : goal.returns-in-Ok
+returns-in-Ok c source merges i origin same =
+    let g = c.args.prepared.now.ground in
+    table_goes g i source merges (SolvesGround c.args.command.now.classical c.args.command.now.budget g i) c.in-Ok.table c.solve_table.result
+    (subst (AnswersTable g i source merges) c.in-Ok.is (c.table_of.ensures source merges i origin same))
+    (ground_is_solved_by_models c.args.command.now.classical c.args.command.now.budget g (formula c.args.prepared.now.primes) i c.in-Ok.table c.solve_table.result same (subst (λ (k : Solve). IfOk c.solve_table.result (SolvesGround k.classical k.budget g (formula c.args.prepared.now.primes) c.in-Ok.table)) c.command.view_is c.solve_table.ensures))
+
+-- there is none
+pub returns : goal.returns
+returns c source merges i origin same =
+    let g = c.args.prepared.now.ground in
+    table_ends g i source merges (SolvesGround c.args.command.now.classical c.args.command.now.budget g i) c.in-Err.early c.settle.result
+    (subst (AnswersTable g i source merges) c.in-Err.is (c.table_of.ensures source merges i origin same)) c.settle.ensures

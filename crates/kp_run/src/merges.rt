@@ -1,0 +1,55 @@
+ghost use Rattle.std.specs.Prelude.{◌≡◌, [], Some, List, ℕ, IfOk};
+ghost use Rattle.kp_base.specs.declared.ground.Initial.{Initial as Formula};
+ghost use Rattle.kp_base.specs.Entailed.{HaveSameModels};
+ghost use Rattle.kp_outside.specs.Outside.{IsFront, IsWithin};
+ghost use Rattle.kp_primes.specs.Held.{formula};
+ghost use Rattle.kp_words.specs.Names.{of_mode};
+ghost use Rattle.kp_run_prepare.specs.Prepared.{IsUsable};
+ghost use Rattle.kp_run_inputs.specs.SourceTables.{ComesByTable};
+ghost use Rattle.kp_run.specs.Outcomes.{MergesGround, MergesTexts};
+
+use crate::outcomes::print_text;
+use kp_base::{Ground, Memory, Mode, TagTable};
+use kp_outside::Got;
+use kp_run_inputs::{Origin, settle, table_alone};
+use kp_run_outcome::Outcome;
+use kp_run_prepare::{Prepared, prepare};
+use kp_tags_merges::merges_text;
+use kp_words::Merges;
+use std::alloc::Global;
+
+// The merges of a table are printed.
+fn list(alloc: Global, ground: &Ground, table: &TagTable) -> Result<Outcome, Memory>
+    ensures { IfOk result (MergesGround ground.now table.now) }
+{
+    Ok(print_text(alloc, merges_text(alloc, ground, table)?))
+}
+
+// What a ground problem without a clash has as merges in a mode.
+fn list_in(alloc: Global, prepared: &Prepared, mode: Mode) -> Result<Outcome, Memory>
+    requires { IsUsable prepared.now }
+    ensures { (i : Formula) → HaveSameModels (formula prepared.now.primes) i → IfOk result (ComesByTable prepared.now.ground i (of_mode mode) [] (MergesGround prepared.now.ground)) }
+{
+    match table_alone(alloc, prepared, Origin::Mode(mode)) {
+        Ok(table) => list(alloc, &prepared.ground, &table),
+        Err(early) => settle(early),
+    }
+}
+
+/// What a call for merges comes to on the contents of its two files, at most 16,777,216 bytes of each of which were
+/// read.
+pub fn merges_of_texts(
+    alloc: Global,
+    command: &Merges<'_>,
+    domain: Got,
+    problem: Got,
+) -> Result<Outcome, Memory>
+    requires domain { IsWithin 16777216 domain }
+    requires problem { IsWithin 16777216 problem }
+    ensures { (d p : List ℕ) → IsFront (Some d) 16777216 domain → IsFront (Some p) 16777216 problem → IfOk result (MergesTexts command.now d p) }
+{
+    match prepare(alloc, command.implicates, domain, problem) {
+        Ok(prepared) => list_in(alloc, &prepared, command.mode),
+        Err(early) => settle(early),
+    }
+}

@@ -1,0 +1,109 @@
+ghost use Rattle.std.specs.Prelude.{◌≡◌, Some, List, ℕ, IfOk};
+ghost use Rattle.kp_base.specs.declared.ground.Initial.{Initial as Formula};
+ghost use Rattle.kp_base.specs.Entailed.{IsTable, HaveSameModels};
+ghost use Rattle.kp_outside.specs.Outside.{IsFront, IsWithin};
+ghost use Rattle.kp_primes.specs.Held.{formula};
+ghost use Rattle.kp_relevance.specs.Relevant.{ArePairsOf};
+ghost use Rattle.kp_run_translate.specs.Translations.{translation_with};
+ghost use Rattle.kp_words.specs.Names.{Source};
+ghost use Rattle.kp_run_prepare.specs.Prepared.{IsUsable};
+ghost use Rattle.kp_run_inputs.specs.SourceTables.{IsOrigin, IsShort, ComesByTable};
+ghost use Rattle.kp_run.specs.Outcomes.{TranslatesGround, TranslatesTexts};
+ghost use Rattle.kp_run.specs.CommandParts.{IsPut};
+
+use crate::outcomes::translates;
+use kp_base::{Limits, Memory, Stop, TagTable};
+use kp_cover::coverage;
+use kp_outside::Got;
+use kp_relevance::Relevance;
+use kp_run_inputs::{Origin, settle, table_of};
+use kp_run_outcome::Outcome;
+use kp_run_prepare::{Prepared, prepare, refuse};
+use kp_run_translate::{Translation, translation_with};
+use kp_words::Translate;
+use std::alloc::Global;
+
+// What a ground problem without a clash comes to with a table whose task is within the limits.
+fn with_texts(
+    alloc: Global,
+    command: &Translate<'_>,
+    prepared: &Prepared,
+    relevance: &Relevance,
+    table: &TagTable,
+    translation: Translation,
+) -> Result<Outcome, Memory>
+    requires usable { IsUsable prepared.now }
+    requires relevance { ArePairsOf prepared.now.ground relevance.now }
+    requires table { IsTable prepared.now.ground (formula prepared.now.primes) table.now }
+    requires translation { translation ≡ translation_with prepared.now.ground table.now }
+    ensures { IfOk result (IsPut command.now prepared.now.ground (formula prepared.now.primes) table.now) }
+{
+    let coverage = coverage(alloc, &prepared.ground, &prepared.primes, relevance, table)?;
+    translates(
+        alloc,
+        command,
+        &prepared.ground,
+        table,
+        translation,
+        coverage.uncovered.slice(),
+    )
+}
+
+// What a ground problem without a clash comes to with a table of tags and merges.
+fn with_table(
+    alloc: Global,
+    command: &Translate<'_>,
+    prepared: &Prepared,
+    relevance: &Relevance,
+    table: &TagTable,
+) -> Result<Outcome, Memory>
+    requires usable { IsUsable prepared.now }
+    requires relevance { ArePairsOf prepared.now.ground relevance.now }
+    requires table { IsTable prepared.now.ground (formula prepared.now.primes) table.now }
+    ensures { IfOk result (TranslatesGround command.now prepared.now.ground (formula prepared.now.primes) table.now) }
+{
+    match translation_with(alloc, &prepared.ground, table, &Limits::usual()) {
+        Ok(translation) => with_texts(alloc, command, prepared, relevance, table, translation),
+        Err(Stop::Refused(refused)) => refuse(alloc, refused),
+        Err(Stop::Memory) => Err(Memory),
+    }
+}
+
+// The same with the table of a mode or of a file of merges.
+fn with_origin(
+    alloc: Global,
+    command: &Translate<'_>,
+    prepared: &Prepared,
+    origin: Origin,
+) -> Result<Outcome, Memory>
+    requires short { IsShort origin }
+    requires usable { IsUsable prepared.now }
+    requires origin { (source : Source) × (merges : List (List ℕ)) × IsOrigin source merges origin }
+    ensures { (source : Source) (merges : List (List ℕ)) (i : Formula) → IsOrigin source merges origin → HaveSameModels (formula prepared.now.primes) i → IfOk result (ComesByTable prepared.now.ground i source merges (TranslatesGround command.now prepared.now.ground i)) }
+{
+    let relevance = Relevance::of(alloc, &prepared.ground)?;
+    match table_of(alloc, prepared, &relevance, origin) {
+        Ok(table) => with_table(alloc, command, prepared, &relevance, &table),
+        Err(early) => settle(early),
+    }
+}
+
+/// What a translation comes to on the contents of its files, at most 16,777,216 bytes of each of which were read.
+pub fn translate_texts(
+    alloc: Global,
+    command: &Translate<'_>,
+    domain: Got,
+    problem: Got,
+    origin: Origin,
+) -> Result<Outcome, Memory>
+    requires domain { IsWithin 16777216 domain }
+    requires problem { IsWithin 16777216 problem }
+    requires short { IsShort origin }
+    requires origin { (source : Source) × (merges : List (List ℕ)) × IsOrigin source merges origin }
+    ensures { (d p : List ℕ) (merges : List (List ℕ)) → IsFront (Some d) 16777216 domain → IsFront (Some p) 16777216 problem → IsOrigin command.now.source merges origin → IfOk result (TranslatesTexts command.now d p merges) }
+{
+    match prepare(alloc, command.implicates, domain, problem) {
+        Ok(prepared) => with_origin(alloc, command, &prepared, origin),
+        Err(early) => settle(early),
+    }
+}

@@ -1,0 +1,78 @@
+ghost use Rattle.std.specs.Prelude.{◌≡◌, Some, List, ℕ, IfOk};
+ghost use Rattle.kp_base.specs.declared.ground.Initial.{Initial as Formula};
+ghost use Rattle.kp_base.specs.Entailed.{HaveSameModels};
+ghost use Rattle.kp_outside.specs.Outside.{IsFront, IsWithin};
+ghost use Rattle.kp_primes.specs.Held.{formula};
+ghost use Rattle.kp_run_prepare.specs.Prepared.{IsUsable};
+ghost use Rattle.kp_run.specs.Outcomes.{tells_width, WidthGround, WidthTexts};
+
+use crate::outcomes::print_text;
+use kp_base::{Ground, Limits, Memory, Row};
+use kp_outside::Got;
+use kp_relevance::Relevance;
+use kp_run_inputs::settle;
+use kp_run_messages::{over, width_report};
+use kp_run_outcome::{Outcome, Status};
+use kp_run_prepare::{Prepared, ended_in, prepare};
+use kp_width::{WidthReport, width};
+use kp_words::Width;
+use std::alloc::Global;
+
+// The width is printed, or the target that is over the bound.
+fn tell_width(
+    alloc: Global,
+    ground: &Ground,
+    bound: u32,
+    report: &WidthReport,
+) -> Result<Outcome, Memory>
+    ensures { IfOk result (λ o. o ≡ tells_width ground.now bound report.now) }
+{
+    match report {
+        WidthReport::Within(rows) => {
+            let text = width_report(alloc, ground.atoms.slice(), rows.slice())?;
+            Ok(print_text(alloc, text))
+        }
+        WidthReport::Over(target) => Ok(Outcome {
+            status: Status::Negative,
+            puts: Row::new(alloc),
+            text: over(alloc, ground.atoms.slice(), bound, *target)?,
+        }),
+    }
+}
+
+// How wide a ground problem without a clash is.
+fn measure(alloc: Global, prepared: &Prepared, bound: u32) -> Result<Outcome, Memory>
+    requires { IsUsable prepared.now }
+    ensures { (i : Formula) → HaveSameModels (formula prepared.now.primes) i → IfOk result (WidthGround bound prepared.now.ground i) }
+{
+    let relevance = Relevance::of(alloc, &prepared.ground)?;
+    match width(
+        alloc,
+        &prepared.ground,
+        &prepared.primes,
+        &relevance,
+        bound,
+        &Limits::usual(),
+    ) {
+        Ok(report) => tell_width(alloc, &prepared.ground, bound, &report),
+        Err(stop) => settle(ended_in(alloc, &prepared.ground, stop)),
+    }
+}
+
+/// What a call for the width comes to on the contents of its two files, at most 16,777,216 bytes of each of which were
+/// read.
+pub fn width_of_texts(
+    alloc: Global,
+    command: &Width<'_>,
+    domain: Got,
+    problem: Got,
+) -> Result<Outcome, Memory>
+    requires domain { IsWithin 16777216 domain }
+    requires problem { IsWithin 16777216 problem }
+    ensures { (d p : List ℕ) → IsFront (Some d) 16777216 domain → IsFront (Some p) 16777216 problem → IfOk result (WidthTexts command.now d p) }
+{
+    match prepare(alloc, command.implicates, domain, problem) {
+        Ok(prepared) => measure(alloc, &prepared, command.bound),
+        Err(early) => settle(early),
+    }
+}
