@@ -1,8 +1,8 @@
 -- States as rows of truth values.
-use Rattle.std.proofs.Common.{◌≡◌, ◌≢◌, ◌<◌, ◌≤◌, ◌+◌, ℕ, zero, suc, Bool, true, false, not, ◌&&◌, ◌||◌, List, [], ◌∷◌, ◌++◌, Some, length, set, replicate, length-set, get_or-set_same, get_or-set_other, filter, nat_eq, slice_get, arith, add-one, refl, sym, ap, subst, ◌∙◌, inl, inr}
+use Rattle.std.proofs.Common.{◌≡◌, ◌≢◌, ◌<◌, ◌≤◌, ◌+◌, ℕ, zero, suc, Bool, true, false, not, ◌&&◌, ◌||◌, List, [], ◌∷◌, ◌++◌, Some, length, set, replicate, length-set, get_or-set_same, get_or-set_other, filter, nat_eq, slice_get, arith, refl, sym, ap, subst, ◌∙◌, inl, inr}
 use Rattle.std.specs.List.{range_with_len}
 use Rattle.std.proofs.lemmas.Bool.{eqb-true, eq-eqb, ne_eqb, cases_eq, cases_lt}
-use Rattle.std.proofs.lemmas.List.{ext_get_or, get_or-replicate, length-replicate}
+use Rattle.std.proofs.lemmas.List.{get_or-replicate, length-replicate}
 use Rattle.std.proofs.lemmas.List.Elements.{filter-append}
 use Rattle.std.proofs.lemmas.Option.{slice_get-get_or}
 use Rattle.kp_base.specs.Lists.{Member, only_if}
@@ -72,11 +72,6 @@ empty_holds bits n e f = elim (cases_lt f (length bits)) [
   | inl lt ↦ has_bit bits f lt ∙ (ap (λ b. bit b f) e ∙ get_or-replicate n f false false (subst (λ m. f < m) (ap length e ∙ length-replicate n false) lt))
   | inr ge ↦ has_past (length bits) (bit bits) f ge
 ]
-
--- rows of one length with the same facts are one
-pub same_bits : (xs ys : List Bool) → length xs ≡ length ys → set_of xs ≡ set_of ys → xs ≡ ys
-same_bits xs ys len same = ext_get_or false xs ys len (λ i lt.
-    sym (has_bit xs i lt) ∙ (ap (λ (s : FactSet). has s.hold i) same ∙ has_bit ys i (subst (λ n. i < n) len lt)))
 
 -- ---- one bit
 

@@ -1,5 +1,5 @@
 -- The first model that passes, atom by atom: absent wherever some model passes without it.
-use Rattle.std.proofs.Common.{◌≡◌, ◌<◌, ◌≤◌, ◌+◌, ℕ, Bool, true, false, not, ◌&&◌, ◌||◌, nat_eq, nat_lt, List, [], ◌∷◌, ◌++◌, None, refl, sym, ap, subst, ◌∙◌, inl, inr, arith, eq-eqb, ltb-true, lt-ltb}
+use Rattle.std.proofs.Common.{◌≡◌, ◌<◌, ◌≤◌, ◌+◌, ℕ, Bool, true, false, not, ◌||◌, nat_eq, nat_lt, List, [], ◌∷◌, ◌++◌, None, refl, sym, ap, subst, ◌∙◌, inl, inr, arith, eq-eqb, ltb-true, lt-ltb}
 use Rattle.std.proofs.lemmas.Bool.{and_parts, and_from, or_from, or_right, false≢true, cases_lt, ne_eqb}
 use Rattle.std.proofs.lemmas.List.Folds.{list_any-append}
 use Rattle.std.specs.List.{list_all}
@@ -166,11 +166,3 @@ chosen_all n i passes tag found present of chosen =
       },
       chosen.rising,
     )
-
--- where no model that satisfies the empty tag passes, none does
-pub none_at_all : (n : ℕ) (i : Initial) (passes : State → Bool) → AnswersFind n i passes [] None → (s : State) → is_wanted i passes s ≡ false
-none_at_all n i passes none s = pick (is_model i s) refl
-  where
-    pick : (b : Bool) → is_model i s ≡ b → (b && passes s) ≡ false
-    pick true is = none s is refl
-    pick false is = refl

@@ -1,5 +1,5 @@
 -- Elements of a list that grows at its end.
-use Rattle.std.proofs.Common.{◌≡◌, ◌<◌, ◌≤◌, ◌+◌, ◌⊎◌, ℕ, zero, suc, get_or, drop, List, [], ◌∷◌, ◌++◌, Some, length, slice_get, arith, refl, ap, ◌∙◌, inl, inr}
+use Rattle.std.proofs.Common.{◌≡◌, ◌<◌, ◌+◌, ◌⊎◌, ℕ, zero, suc, get_or, List, [], ◌∷◌, ◌++◌, Some, length, slice_get, arith, refl, ap, ◌∙◌, inl, inr}
 use Rattle.std.proofs.lemmas.Option.{slice_get_read}
 
 -- what a read gives
@@ -41,9 +41,3 @@ slice_split (z ∷ xs) ys (suc i) x h = elim (slice_split xs ys i x h) [
   | inl e ↦ inl e
   | inr e ↦ let n = e.1 in inr (e.0, omega (arith, n), e.2)
 ]
-
-pub drop_end : {X : Type 0} (xs : List X) (i : ℕ) → length xs ≤ i → drop i xs ≡ []
-drop_end [] zero h = refl
-drop_end [] (suc i) h = refl
-drop_end (x ∷ xs) zero h = absurd (omega (arith, h))
-drop_end (x ∷ xs) (suc i) h = drop_end xs i (omega (arith, h))

@@ -4,7 +4,7 @@ use Rattle.std.specs.List.{list_any, before_first, after_first, position_or_len}
 use Rattle.clap.specs.Lexer.{long_of, long_of_rest, name_and_value, strip_byte}
 use Rattle.clap.proofs.CutLemmas.{Lacks}
 use Rattle.clap.proofs.LexerLemmas.{name_and_value-at, name_and_value-without}
-use Rattle.kp_words_options.specs.Words.{is_name, is_plain}
+use Rattle.kp_words_options.specs.Words.{is_name}
 
 abbrev is_equals : ℕ → Bool
 is_equals x = x == 61
@@ -106,7 +106,3 @@ long_is w n v e = first (strip_byte 45 w) refl e
     first : (o : Option (List ℕ)) → strip_byte 45 w ≡ o → option_and_then long_of_rest (option_and_then (strip_byte 45) o) ≡ Some (n, v) → w ≡ 45 ∷ 45 ∷ option_text n v
     first None f g = absurd cc
     first (Some rest) f g = strip_is w rest f ∙ ap (λ (ys : List ℕ). 45 ∷ ys) (second rest (strip_byte 45 rest) refl g)
-
--- two dashes don't begin a positional word
-pub not_plain : (t : List ℕ) → is_plain (codes "--" ++ t) ≡ false
-not_plain t = refl

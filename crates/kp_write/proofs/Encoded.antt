@@ -197,10 +197,6 @@ unlike x y differ u v f = go (same u v) refl where
   go false e = e
   go true e = absurd (false≢true (sym differ ∙ subst (λ z. same_name x z ≡ true) (f (same-true u v e)) (same_name-refl x)))
 
--- the facts of different atoms differ
-pub facts_apart : (t : ℕ) → t < 2 ^ 64 → (b c : Bool) (x y : GroundName) → IsGroundName x → IsGroundName y → same_name x y ≡ false → same (atom_fact t b x) (atom_fact t c y) ≡ false
-facts_apart t fits b c x y h k differ = unlike x y differ (atom_fact t b x) (atom_fact t c y) (λ e. (facts_tell_apart t t b c x y fits fits h k e).2)
-
 -- so do the operators of different actions
 pub operators_apart : (x y : GroundName) → IsGroundName x → IsGroundName y → same_name x y ≡ false → same (codes "do_-" ++ encoded x) (codes "do_-" ++ encoded y) ≡ false
 operators_apart x y h k differ = unlike x y differ (codes "do_-" ++ encoded x) (codes "do_-" ++ encoded y) (λ e. one_name x y h k (ap (drop 4) e))
