@@ -6,11 +6,6 @@ use Rattle.std.proofs.lemmas.Option.{slice_get_read}
 pub read_at : {X : Type 0} (xs : List X) (i : ℕ) (x y : X) → i < length xs → x ≡ get_or xs i x → x ≡ y → slice_get xs i ≡ Some y
 read_at xs i x y lt e is = slice_get_read xs (length xs) i x refl lt e ∙ ap Some is
 
-pub slice_left : {X : Type 0} (xs ys : List X) (i : ℕ) (x : X) → slice_get xs i ≡ Some x → slice_get (xs ++ ys) i ≡ Some x
-slice_left [] ys i x h = cc
-slice_left (z ∷ xs) ys zero x h = h
-slice_left (z ∷ xs) ys (suc i) x h = slice_left xs ys i x h
-
 pub slice_last : {X : Type 0} (xs : List X) (x : X) → slice_get (xs ++ x ∷ []) (length xs) ≡ Some x
 slice_last [] x = refl
 slice_last (z ∷ xs) x = slice_last xs x

@@ -2,6 +2,7 @@
 use Rattle.std.proofs.Common.{◌≡◌, ◌∙◌, ◌||◌, ℕ, Bool, true, false, not, List, [], ◌∷◌, ◌++◌, Option, Some, refl, ap, ap₂, sym, map, length, arith, true≢false, append_assoc, append-nil}
 use Rattle.std.specs.List.{list_all}
 use Rattle.std.specs.Str.{bytes_eq}
+use Rattle.kp_base.proofs.Lists.{same-refl}
 use Rattle.clap.proofs.WalkLemmas.{both, first_value-rows}
 use Rattle.clap.specs.Walk.{Rule, first_of, rows_of}
 use Rattle.clap.specs.Simple.{App, matches_of, new_rule}
@@ -10,7 +11,7 @@ use Rattle.clap.specs.declared.parser.matches.Found.{Found}
 use Rattle.kp_words_options.specs.Words.{Said, is_among, differ, names, positionals, value_of}
 use Rattle.kp_words_options.specs.Scan.{at_first, scan}
 use Rattle.kp_words_options.specs.Clap.{Fits, Gives, Suits, app_of_form, app_with, option_rule, place_of, placed, row_of_pair, with_options, with_places}
-use Rattle.kp_words_options.proofs.Rows.{is_false, other_way, same_name}
+use Rattle.kp_words_options.proofs.Rows.{is_false, other_way}
 use Rattle.kp_words_options.proofs.Assigned.{among_append, not_among_some, or_false, places_not}
 use Rattle.kp_words_options.proofs.Found.{option_found, place_found, rows_are}
 use Rattle.kp_words_options.proofs.Scanned.{all_fresh, complete, sound}
@@ -46,7 +47,7 @@ in_order [] (w ∷ ws) d e = absurd (omega (arith, e))
 in_order (i ∷ ids) [] d e = absurd (omega (arith, e))
 in_order (i ∷ ids) (w ∷ ws) d e =
     let parts = both (not (is_among ids i)) (differ ids) d in
-    rw (same_name i) (ap (λ (rest : List (Option (List ℕ))). Some w ∷ rest) (other_places i w ids ws ids (is_false _ parts.0) ∙ in_order ids ws parts.1 (omega (arith, e))))
+    rw (same-refl i) (ap (λ (rest : List (Option (List ℕ))). Some w ∷ rest) (other_places i w ids ws ids (is_false _ parts.0) ∙ in_order ids ws parts.1 (omega (arith, e))))
 
 some_same : (xs ys : Texts) → map Some xs ≡ map Some ys → xs ≡ ys
 some_same [] [] e = refl
@@ -83,7 +84,7 @@ more_among x xs (y ∷ ys) e =
 
 all_among : (xs : Texts) → list_all (is_among xs) xs ≡ true
 all_among [] = refl
-all_among (x ∷ xs) = rw (same_name x, more_among x xs xs (all_among xs)) refl
+all_among (x ∷ xs) = rw (same-refl x, more_among x xs xs (all_among xs)) refl
 
 -- a place is no option
 options_not : (ids options : Texts) (id : List ℕ) → differ (ids ++ options) ≡ true → is_among ids id ≡ true → is_among options id ≡ false

@@ -73,6 +73,3 @@ used_new r ps w new =
 pub use_new : (r : Rule) (ps : List (List ℕ × List ℕ)) (w : List ℕ) → r.ignore_case ≡ false → is_among (ids_of ps) r.id ≡ false
     → use_passes false (built_rule r) (w ∷ []) (map row_of_pair ps) ≡ true
 use_new r ps w case new = rw (has_row-pairs ps r.id, new) refl
-
-pub same_name : (t : List ℕ) → bytes_eq t t ≡ true
-same_name t = (bytes_eq-Decides t t).1 refl
