@@ -10,6 +10,7 @@ use Rattle.std.specs.Char.{to_ascii_lowercase}
 use Rattle.std.specs.Int.{IsInRange}
 use Rattle.std.specs.Str.Parse.{AllDigits}
 use Rattle.std.specs.List.{AllByRecursion, list_any, list_all}
+use Rattle.std.proofs.lemmas.Option.{same_Some}
 use Rattle.kp_base.specs.declared.ground.GroundName.{GroundName}
 use Rattle.kp_lex.specs.declared.token.TokenKind.TheVariants as kinds
 use Rattle.kp_lex.specs.Bytes.{is_alphanumeric, class_of, follows, follows_class}
@@ -135,11 +136,8 @@ no_empty (w ∷ ws) h = rw (some_byte h.0.token) (no_empty ws h.1)
 pub decodes : (n : GroundName) → IsGroundName n → decoded (encoded n) ≡ Some n
 decodes n h = what_was_encoded_decodes n (no_empty (n.head ∷ n.objects) (h.head, h.objects))
 
-one_of_some : {X : Type 0} (x y : X) → Some x ≡ Some y → x ≡ y
-one_of_some x y e = cc
-
 one_name : (x y : GroundName) → IsGroundName x → IsGroundName y → encoded x ≡ encoded y → x ≡ y
-one_name x y h k e = one_of_some x y (sym (decodes x h) ∙ ap decoded e ∙ decodes y k)
+one_name x y h k e = same_Some x y (sym (decodes x h) ∙ ap decoded e ∙ decodes y k)
 
 pub same_name-refl : (n : GroundName) → same_name n n ≡ true
 same_name-refl n = and_from (same n.head n.head) (all_same n.objects n.objects) (same-refl n.head) (all_same_names-refl n.objects)
