@@ -1,5 +1,5 @@
 -- What is asked of the marks, and what is known at the start.
-use Rattle.std.proofs.Common.{◌≡◌, ℕ, zero, suc, Bool, true, false, ◌&&◌, nat_lt, List, [], ◌∷◌, take, map, Some, None, slice_get, refl, sym, ap, subst, ◌∙◌, ltb-true}
+use Rattle.std.proofs.Common.{◌≡◌, ℕ, zero, suc, Bool, true, false, ◌&&◌, nat_lt, List, [], ◌∷◌, take, map, Some, slice_get, refl, sym, ap, subst, ◌∙◌, ltb-true}
 use Rattle.kp_base.specs.declared.lit.Lit.{Lit}
 use Rattle.kp_base.specs.declared.ground.Ground.{Ground}
 use Rattle.kp_base.specs.declared.ground.Initial.{Initial}
@@ -8,7 +8,6 @@ use Rattle.kp_base.specs.Steps.{State, holds, is_model, next, state_after}
 use Rattle.kp_base.proofs.Lists.{all_member, all_from, any_map, member_at}
 use Rattle.kp_base.proofs.Lits.{has-member}
 use Rattle.kp_primes_models.specs.declared.truth.Truth.{Truth}
-use Rattle.kp_primes_models.specs.declared.truth.Truth.TheVariants.{No}
 use Rattle.kp_primes_models.specs.Asked.{Judges, is_wanted, passes_one, test_at}
 use Rattle.kp_primes_models.specs.Truths.{IsTruth, opposite}
 use Rattle.kp_primes_models.proofs.Public.{truth_of_not}
@@ -29,14 +28,6 @@ at_number : {X : Type 0} (f : X → State → Bool) (xs : List X) (k : ℕ) (x :
 at_number f [] k x is s = cc
 at_number f (y ∷ xs) zero x is s = let same : y ≡ x = cc in ap (λ z. f z s) same
 at_number f (y ∷ xs) (suc k) x is s = at_number f xs k x is s
-
-at_no_number : {X : Type 0} (f : X → State → Bool) (xs : List X) (k : ℕ) → slice_get xs k ≡ None → (s : State) → test_at (map f xs) k s ≡ false
-at_no_number f [] k is s = refl
-at_no_number f (y ∷ xs) zero is s = cc
-at_no_number f (y ∷ xs) (suc k) is s = at_no_number f xs k is s
-
-pub judged_past : (n : ℕ) (known : List Lit) (g : Ground) (ns : List ℕ) (ms : List At) (k : ℕ) → slice_get ms k ≡ None → Judges n (test_at (map (is_false_at g ns) ms) k) known No
-judged_past n known g ns ms k is s met = at_no_number (is_false_at g ns) ms k is s
 
 pub judged : (n : ℕ) (known : List Lit) (g : Ground) (ns : List ℕ) (ms : List At) → IsReady n g ms → (k : ℕ) (m : At) → slice_get ms k ≡ Some m → Judges n (test_at (map (is_false_at g ns) ms) k) known (opposite (truth_at (later_values g (start known n) ns m.step) m.literal))
 judged n known g ns ms ready k m is s met =

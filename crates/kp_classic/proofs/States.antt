@@ -1,22 +1,18 @@
 -- States as rows of truth values.
-use Rattle.std.proofs.Common.{◌≡◌, ◌≢◌, ◌<◌, ◌≤◌, ◌+◌, ℕ, zero, suc, Bool, true, false, not, ◌&&◌, ◌||◌, List, [], ◌∷◌, ◌++◌, Some, length, set, replicate, length-set, get_or-set_same, get_or-set_other, filter, nat_eq, slice_get, arith, add-one, refl, sym, ap, subst, ◌∙◌, inl, inr}
+use Rattle.std.proofs.Common.{◌≡◌, ◌≢◌, ◌<◌, ◌≤◌, ◌+◌, ℕ, Bool, true, false, not, ◌&&◌, ◌||◌, List, [], ◌∷◌, ◌++◌, Some, length, set, replicate, length-set, get_or-set_same, get_or-set_other, filter, nat_eq, slice_get, arith, refl, sym, ap, subst, ◌∙◌, inl, inr}
 use Rattle.std.specs.List.{range_with_len}
 use Rattle.std.proofs.lemmas.Bool.{eqb-true, eq-eqb, ne_eqb, cases_eq, cases_lt}
-use Rattle.std.proofs.lemmas.List.{ext_get_or, get_or-replicate, length-replicate}
+use Rattle.std.proofs.lemmas.List.{get_or-replicate, length-replicate}
 use Rattle.std.proofs.lemmas.List.Elements.{filter-append}
 use Rattle.std.proofs.lemmas.Option.{slice_get-get_or}
 use Rattle.kp_base.specs.Lists.{Member, only_if}
 use Rattle.kp_base.proofs.Places.{places_more}
 use Rattle.kp_base.proofs.Lists.{bool_same, any_from, any_member, range_there, member_filter, filter_member}
+use Rattle.kp_base.proofs.Members.{range_only}
 use Rattle.kp_classic.specs.States.{FactSet, has, those, fact_set_of}
 use Rattle.kp_classic.specs.Packed.{bit, set_of}
 
 -- ---- the facts of a list that pass a test
-
-range_below : (a k f : ℕ) → Member (range_with_len a k) f → f < a + k
-range_below a zero f m = absurd m
-range_below a (suc k) f (inl e) = omega (arith, e)
-range_below a (suc k) f (inr m) = let r = range_below (a + 1) k f m in omega (arith, r)
 
 pub has_those : (n : ℕ) (p : ℕ → Bool) (f : ℕ) → f < n → has (those n p) f ≡ p f
 has_those n p f lt = bool_same (has (those n p) f) (p f) forth back
@@ -31,7 +27,7 @@ has_those n p f lt = bool_same (has (those n p) f) (p f) forth back
 
 -- each of them is below the number
 pub those_below : (n : ℕ) (p : ℕ → Bool) (f : ℕ) → Member (those n p) f → f < n
-those_below n p f m = let lt = range_below 0 n f (filter_member p (range_with_len 0 n) f m).0 in omega (arith, lt)
+those_below n p f m = let lt = range_only 0 n f (filter_member p (range_with_len 0 n) f m).0 in omega (arith, lt)
 
 -- no fact past the number holds
 pub has_past : (n : ℕ) (p : ℕ → Bool) (f : ℕ) → n ≤ f → has (those n p) f ≡ false
@@ -43,7 +39,7 @@ has_past n p f le = none (has (those n p) f) (λ h. let r = any_member (nat_eq f
 
 -- one test in place of another
 pub those_alike : (n : ℕ) (p q : ℕ → Bool) → ((f : ℕ) → f < n → p f ≡ q f) → those n p ≡ those n q
-those_alike n p q same = go (range_with_len 0 n) (λ f m. same f (let r = range_below 0 n f m in omega (arith, r)))
+those_alike n p q same = go (range_with_len 0 n) (λ f m. same f (let r = range_only 0 n f m in omega (arith, r)))
   where
     go : (xs : List ℕ) → ((f : ℕ) → Member xs f → p f ≡ q f) → filter p xs ≡ filter q xs
     go [] h = refl
@@ -72,11 +68,6 @@ empty_holds bits n e f = elim (cases_lt f (length bits)) [
   | inl lt ↦ has_bit bits f lt ∙ (ap (λ b. bit b f) e ∙ get_or-replicate n f false false (subst (λ m. f < m) (ap length e ∙ length-replicate n false) lt))
   | inr ge ↦ has_past (length bits) (bit bits) f ge
 ]
-
--- rows of one length with the same facts are one
-pub same_bits : (xs ys : List Bool) → length xs ≡ length ys → set_of xs ≡ set_of ys → xs ≡ ys
-same_bits xs ys len same = ext_get_or false xs ys len (λ i lt.
-    sym (has_bit xs i lt) ∙ (ap (λ (s : FactSet). has s.hold i) same ∙ has_bit ys i (subst (λ n. i < n) len lt)))
 
 -- ---- one bit
 

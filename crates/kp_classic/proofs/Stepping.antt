@@ -83,9 +83,6 @@ pub record Rests (t : Task) (rest : List ℕ) (s : Holding) (all : List ℕ) (fi
   pub runs : runs t s rest ≡ runs t first all
   pub ends : Agree (length t.facts) (holding_after t s rest) (holding_after t first all)
 
-pub rests_at_first : (t : Task) (ks : List ℕ) (s : Holding) → Rests t ks s ks s
-rests_at_first t ks s = record { runs = refl; ends = record { each = λ f lt. refl } }
-
 -- one operator more was taken
 pub rests_more : (t : Task) → IsFit t → (k : ℕ) (ks all : List ℕ) (s first : Holding) (new : FactSet) → new ≡ fact_set_of (length t.facts) (next (slice_get t.ops k) s) → applicable (slice_get t.ops k) s ≡ true → Rests t (k ∷ ks) s all first → Rests t ks (has new.hold) all first
 rests_more t fit k ks all s first new is may r =

@@ -1,6 +1,6 @@
 -- What a store holds after clauses were added.
 use Rattle.std.proofs.Common.{◌≡◌, Bool, true, false, not, ◌||◌, ◌⊎◌, cond, List, [], ◌∷◌, ◌++◌, refl, sym, ◌∙◌, ap, subst, inl, inr, filter, Result, Ok, Err, OnOk, OnErr}
-use Rattle.std.proofs.lemmas.Bool.{and_parts, and_from, or_cases, or_left, or_right, false≢true, not-true, cases_Bool, false_from_ne_true}
+use Rattle.std.proofs.lemmas.Bool.{and_parts, and_from, or_cases, or_left, or_right, false≢true, not-true, cases_Bool, false_from_ne_true, or_parts}
 use Rattle.std.proofs.lemmas.List.{append_assoc, append-nil}
 use Rattle.std.proofs.lemmas.List.Elements.{filter-append}
 use Rattle.std.specs.List.{list_any, list_all}
@@ -126,17 +126,12 @@ joined_apart (c ∷ cs) ds h k far =
     ]))
     (joined_apart cs ds parts.1 k (λ x d m n. far x d (inr m) n))
 
-or_none : (a b : Bool) → (a || b) ≡ false → (a ≡ false) × (b ≡ false)
-or_none false false h = (refl, refl)
-or_none false true h = absurd (false≢true (sym h))
-or_none true b h = absurd (false≢true (sym h))
-
 last_far : (cs : List (List Lit)) (c d : List Lit) → are_apart (cs ++ c ∷ []) ≡ true → Member cs d → (is_within d c ≡ false) × (is_within c d ≡ false)
 last_far [] c d h m = absurd m
 last_far (x ∷ cs) c d h m =
     let parts = and_parts (list_all (λ e. not (near x e)) (cs ++ c ∷ [])) (are_apart (cs ++ c ∷ [])) h in
     elim m [
-      | inl e ↦ subst (λ (z : List Lit). (is_within z c ≡ false) × (is_within c z ≡ false)) e (or_none (is_within x c) (is_within c x) (not-true (near x c) (all_member (λ e. not (near x e)) (cs ++ c ∷ []) c (member_last cs c) parts.0)))
+      | inl e ↦ subst (λ (z : List Lit). (is_within z c ≡ false) × (is_within c z ≡ false)) e (or_parts (is_within x c) (is_within c x) (not-true (near x c) (all_member (λ e. not (near x e)) (cs ++ c ∷ []) c (member_last cs c) parts.0)))
       | inr r ↦ last_far cs c d parts.1 r
     ]
 
@@ -186,7 +181,7 @@ merged_is cs (d ∷ ds) h free =
     parts = and_parts (list_all (λ e. not (near d e)) ds) (are_apart ds) h
 
     far : (e : List Lit) → Member ds e → (is_within d e ≡ false) × (is_within e d ≡ false)
-    far e m = or_none (is_within d e) (is_within e d) (not-true (near d e) (all_member (λ e. not (near d e)) ds e m parts.0))
+    far e m = or_parts (is_within d e) (is_within e d) (not-true (near d e) (all_member (λ e. not (near d e)) ds e m parts.0))
 
     free' : (e : List Lit) → Member ds e → subsumed (replaced cs d) e ≡ false
     free' e m = false_from_ne_true (subsumed (replaced cs d) e) (λ t.

@@ -1,28 +1,17 @@
 -- The set of all literals of preconditions and of the goal has just the targets.
-use Rattle.std.proofs.Common.{◌≡◌, ◌++◌, List, [], ◌∷◌, fold, refl, sym, subst, ◌∙◌, inl, inr}
+use Rattle.std.proofs.Common.{◌≡◌, ◌++◌, List, [], sym, subst, ◌∙◌, inl, inr}
 use Rattle.std.specs.List.{flat_map}
 use Rattle.kp_base.specs.declared.lit.Lit.{Lit}
 use Rattle.kp_base.specs.declared.ground.Action.{Action}
 use Rattle.kp_base.specs.declared.ground.Ground.{Ground}
 use Rattle.kp_base.specs.Lists.{Member}
 use Rattle.kp_base.specs.Lit.{same_lit}
-use Rattle.kp_base.specs.LitSet.{IsAscending, with_lit, set_of}
+use Rattle.kp_base.specs.LitSet.{IsAscending, set_of}
 use Rattle.kp_base.specs.Covering.{IsTarget}
 use Rattle.kp_base.proofs.Lists.{append_member, member_left, member_right, flat_member, member_flat_map}
 use Rattle.kp_base.proofs.Lits.{has-member, member-has}
 use Rattle.kp_base.proofs.Sets.{any-set_of, set_ascends}
 use Rattle.kp_cover.specs.Targets.{AreTargets}
-
-abbrev pub with_all : List Lit → List Lit → List Lit
-with_all set ls = fold (λ s l. with_lit l s) set ls
-
-pub folded : (xs ys set : List Lit) → with_all set (xs ++ ys) ≡ with_all (with_all set xs) ys
-folded [] ys set = refl
-folded (x ∷ xs) ys set = folded xs ys (with_lit x set)
-
--- those of one action come before those of the others
-pub next_action : (a : Action) (acts : List Action) (set : List Lit) → with_all set (flat_map (λ (b : Action). b.pre) (a ∷ acts)) ≡ with_all (with_all set a.pre) (flat_map (λ (b : Action). b.pre) acts)
-next_action a acts set = folded a.pre (flat_map (λ (b : Action). b.pre) acts) set
 
 -- the preconditions, and then the goal
 abbrev pub lits_of : Ground → List Lit

@@ -1,13 +1,7 @@
 -- Elements of lists one by one, and tags that go on.
-use Rattle.std.proofs.Common.{◌≡◌, ◌<◌, ◌+◌, ◌++◌, ℕ, zero, suc, Bool, true, false, List, [], ◌∷◌, length, get_or, take, refl, sym, ap, subst, ◌∙◌, inl, inr, arith, Some, None, if◌then◌else◌}
+use Rattle.std.proofs.Common.{◌≡◌, ◌<◌, ◌+◌, ◌++◌, ℕ, zero, suc, Bool, true, false, List, [], ◌∷◌, length, get_or, take, refl, sym, ap, subst, ◌∙◌, arith, Some, None, if◌then◌else◌}
 use Rattle.kp_base.specs.declared.lit.Lit.{Lit}
-use Rattle.kp_base.specs.Lists.{Member}
 use Rattle.kp_cover.specs.Grown.{is_fine, if_fine}
-
-pub at_member : {X : Type 0} (xs : List X) (k : ℕ) (x : X) → k < length xs → x ≡ get_or xs k x → Member xs x
-at_member [] k x lt is = absurd (omega (arith, lt))
-at_member (y ∷ ys) zero x lt is = inl (sym is)
-at_member (y ∷ ys) (suc k) x lt is = inr (at_member ys k x (omega (arith, lt)) is)
 
 pub take_next : {X : Type 0} (xs : List X) (k : ℕ) (d : X) → k < length xs → take (k + 1) xs ≡ take k xs ++ get_or xs k d ∷ []
 take_next [] k d lt = absurd (omega (arith, lt))

@@ -1,12 +1,11 @@
 -- Effects of which those with one result come by ascending conditions: what is above the last of its result is new.
-use Rattle.std.proofs.Common.{◌≡◌, ℕ, zero, suc, Bool, true, false, cond, if◌then◌else◌, List, [], ◌∷◌, ◌++◌, Option, Some, None, length, slice_get, refl, sym, ap, subst, ◌∙◌, true≢false, nat_eq, eqb-true, eq-eqb, inl, inr}
+use Rattle.std.proofs.Common.{◌≡◌, ℕ, zero, suc, Bool, true, false, cond, List, [], ◌∷◌, ◌++◌, Option, Some, None, length, slice_get, refl, sym, ap, subst, ◌∙◌, true≢false, nat_eq, eqb-true, eq-eqb, inl, inr}
 use Rattle.std.specs.List.{list_any}
 use Rattle.std.specs.declared.cmp.Ordering.TheVariants.{Less, Equal, Greater}
 use Rattle.std.specs.Ordering.{is_eq, is_gt, is_lt, ordering_reverse}
 use Rattle.std.specs.Cmp.{IsTotalOrder, tied_itself, on_total, nat_cmp_total}
 use Rattle.std.specs.Cmp.Lexicographic.{lists_total}
 use Rattle.std.proofs.lemmas.Bool.{and_parts, and_from}
-use Rattle.std.proofs.lemmas.List.Sums.{fold-append}
 use Rattle.kp_base.specs.declared.ground.Effect.{Effect}
 use Rattle.kp_base.specs.Lists.{Member}
 use Rattle.kp_base.specs.Lit.{code_of, same_lit}
@@ -15,8 +14,8 @@ use Rattle.kp_base.proofs.Ascending.{code_of-injective, equal_iff}
 use Rattle.kp_base.proofs.Lists.{any_member, any_from, member_at, append_member}
 use Rattle.kp_base.proofs.Lits.{same_lit-true, same_lit-refl}
 use Rattle.kp_base.proofs.Sets.{same_set-true, same_sets}
-use Rattle.kp_ground.specs.Made.{same_made, with_made}
-use Rattle.kp_ground.specs.Ascents.{beside, beside_last, LeadsTo, IsUnder, IsRising, AreOnce}
+use Rattle.kp_ground.specs.Made.{same_made}
+use Rattle.kp_ground.specs.Ascents.{beside, beside_last, LeadsTo, IsUnder, IsRising}
 
 order : IsTotalOrder lits_cmp
 order = lists_total (on_total code_of nat_cmp_total)
@@ -118,22 +117,3 @@ module _ (last : ℕ → Option ℕ) (es : List Effect) (rising : IsRising last 
         ]
       ];
     }
-
--- a table that finds the same
-pub rising_alike : (last next : ℕ → Option ℕ) (es : List Effect) → ((n : ℕ) → next n ≡ last n) → IsRising last es → IsRising next es
-rising_alike last next es same rising = record {
-  leads = λ n place h. rising.leads n place (sym (same n) ∙ h);
-  under = λ e m. let u = rising.under e m in record { place = u.place; known = same (code_of e.result) ∙ u.known; other = u.other; there = u.there; under = u.under };
-}
-
-pub none_rising : (last : ℕ → Option ℕ) → ((n : ℕ) → last n ≡ None) → IsRising last []
-none_rising last none = record { leads = λ n place h. absurd (cc (none n, h)); under = λ e m. absurd m }
-
--- ---- each once
-
-pub once_more : (es : List Effect) (e : Effect) → AreOnce es → AreOnce (with_made es e)
-once_more es e once = by (list_any (same_made e) es) refl
-  where
-    by : (t : Bool) → list_any (same_made e) es ≡ t → AreOnce (if t then es else es ++ e ∷ [])
-    by true is = once
-    by false is = fold-append with_made [] es (e ∷ []) ∙ (ap (λ ds. with_made ds e) once ∙ ap (λ t. if t then es else es ++ e ∷ []) is)

@@ -7,6 +7,7 @@ use Rattle.std.proofs.lemmas.List.Folds.{flat_map-map}
 use Rattle.std.proofs.lemmas.Option.{slice_get-map, slice_get_within}
 use Rattle.kp_base.specs.Lists.{choices}
 use Rattle.kp_base.proofs.Lists.{flat_alike, map_map}
+use Rattle.kp_base.proofs.Places.{get_left}
 
 -- ---- one list of choices more, at the end
 
@@ -50,11 +51,6 @@ length_last xss xs = ap length (choices_last xss xs) ∙ grid_length xs (choices
 
 -- ---- which is where
 
-front : {X : Type 0} (xs ys : List X) (n : ℕ) (x : X) → slice_get xs n ≡ Some x → slice_get (xs ++ ys) n ≡ Some x
-front [] ys n x h = cc
-front (y ∷ xs) ys zero x h = h
-front (y ∷ xs) ys (suc n) x h = front xs ys n x h
-
 behind : {X : Type 0} (xs ys : List X) (n : ℕ) → slice_get (xs ++ ys) (length xs + n) ≡ slice_get ys n
 behind [] ys n = let e : 0 + n ≡ n = omega arith in ap (slice_get ys) e
 behind (x ∷ xs) ys n = let e : suc (length xs) + n ≡ suc (length xs + n) = omega arith in ap (slice_get (x ∷ (xs ++ ys))) e ∙ behind xs ys n
@@ -64,7 +60,7 @@ grid xs [] q r x h = refl
 grid xs (p ∷ ps) zero r x h =
     let e : 0 * length xs + r ≡ r = omega arith in
     ap (slice_get (longer xs p ++ flat_map (longer xs) ps)) e
-    ∙ front (longer xs p) (flat_map (longer xs) ps) r (p ++ x ∷ []) (slice_get-map (λ y. p ++ y ∷ []) xs r ∙ ap (option_map (λ y. p ++ y ∷ [])) h)
+    ∙ get_left (longer xs p) (flat_map (longer xs) ps) r (p ++ x ∷ []) (slice_get-map (λ y. p ++ y ∷ []) xs r ∙ ap (option_map (λ y. p ++ y ∷ [])) h)
 grid xs (p ∷ ps) (suc q) r x h =
     let e = length-map xs (λ y. p ++ y ∷ []) in
     let place : suc q * length xs + r ≡ length (longer xs p) + (q * length xs + r) = omega arith in

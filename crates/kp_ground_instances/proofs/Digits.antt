@@ -1,10 +1,10 @@
 -- The list of a number, made from its digits.
 use Rattle.std.proofs.Common.{◌≡◌, ℕ, zero, suc, ◌+◌, ◌-◌, ◌/◌, ◌%◌, ◌<◌, ◌≤◌, List, [], ◌∷◌, ◌++◌, length, map, take, get_or, slice_get, Option, Some, None, option_map, refl, sym, ap, subst, ◌∙◌, arith, append_assoc}
 use Rattle.std.proofs.lemmas.List.{map-append, take_more}
-use Rattle.std.proofs.lemmas.Option.{slice_get_within, get_or_from_slice_get}
 use Rattle.kp_names_meaning.specs.declared.lifted.Range.{Range}
 use Rattle.kp_names_meaning.specs.Lifted.{Binding, bindings}
 use Rattle.kp_base.specs.Lists.{choices}
+use Rattle.kp_base.proofs.Places.{none_past}
 use Rattle.kp_ground_instances.proofs.Choices.{last_digit, none_last}
 
 -- the objects of a range
@@ -21,23 +21,12 @@ pub record IsLeft (rs : List Range) (n left rest : ℕ) (known : List ℕ) : Typ
 pub one_more : (rs : List Range) (k : ℕ) (r : Range) → k < length rs → r ≡ get_or rs k r → bindings (take (k + 1) rs) ≡ choices (map objects (take k rs) ++ r.objects ∷ [])
 one_more rs k r h is = ap bindings (take_more rs k r h) ∙ (ap choices (map-append objects (take k rs) (get_or rs k r ∷ [])) ∙ ap (λ x. choices (map objects (take k rs) ++ objects x ∷ [])) (sym is))
 
-some_there : {X : Type 0} (xs : List X) (n : ℕ) → n < length xs → slice_get xs n ≡ None → ⊥
-some_there xs n h e = there (slice_get-get_or_any xs n h) e
-  where
-    slice_get-get_or_any : {X : Type 0} (xs : List X) (n : ℕ) → n < length xs → (x : X) × (slice_get xs n ≡ Some x)
-    slice_get-get_or_any [] n h = absurd (omega arith)
-    slice_get-get_or_any (x ∷ xs) zero h = (x, refl)
-    slice_get-get_or_any (x ∷ xs) (suc n) h = slice_get-get_or_any xs n (omega arith)
-
-    there : {X : Type 0} {o : Option X} → (x : X) × (o ≡ Some x) → o ≡ None → ⊥
-    there w e = let f = w.1 in cc
-
 -- the range of the next digit has objects
 has_objects : (rs : List Range) (n k rest : ℕ) (known : List ℕ) (r : Range) → n < length (bindings rs) → IsLeft rs n (k + 1) rest known → k < length rs → r ≡ get_or rs k r → 0 < length r.objects
 has_objects rs n k rest known r short h lt is = by r.objects (one_more rs k r lt is)
   where
     by : (os : List ℕ) → bindings (take (k + 1) rs) ≡ choices (map objects (take k rs) ++ os ∷ []) → 0 < length os
-    by [] e = absurd (some_there (bindings rs) n short (h.at ∙ ap (λ ls. option_map (λ p. p ++ known) (slice_get ls rest)) (e ∙ none_last (map objects (take k rs)))))
+    by [] e = absurd (none_past (bindings rs) n short (h.at ∙ ap (λ ls. option_map (λ p. p ++ known) (slice_get ls rest)) (e ∙ none_last (map objects (take k rs)))))
     by (o ∷ os) e = omega arith
 
 is_left_next : (rs : List Range) (n k rest : ℕ) (known : List ℕ) (r : Range) (o : ℕ) → IsLeft rs n (k + 1) rest known → k < length rs → r ≡ get_or rs k r → slice_get r.objects (rest % length r.objects) ≡ Some o
@@ -57,7 +46,7 @@ is_left_next rs n k rest known r o h lt is at = record {
 -- all digits are known
 pub is_left_none : (rs : List Range) (n rest : ℕ) (known : List ℕ) → n < length (bindings rs) → IsLeft rs n 0 rest known → slice_get (bindings rs) n ≡ Some known
 is_left_none rs n zero known short h = h.at
-is_left_none rs n (suc rest) known short h = absurd (some_there (bindings rs) n short h.at)
+is_left_none rs n (suc rest) known short h = absurd (none_past (bindings rs) n short h.at)
 
 -- ---- the last range that is left
 

@@ -5,6 +5,7 @@ use Rattle.std.proofs.lemmas.Bool.{and_parts, and_from, cases_eq, cases_lt, case
 use Rattle.std.proofs.lemmas.Option.{same_Some, slice_get_within, slice_get-get_or}
 use Rattle.kp_base.specs.Lists.{Member, only_if}
 use Rattle.kp_base.proofs.Lists.{all_member, member_at}
+use Rattle.kp_base.proofs.Places.{element as at_within}
 use Rattle.kp_classic.specs.Fits.{are_below}
 use Rattle.kp_guide.specs.declared.rule.Rule.{Rule}
 use Rattle.kp_guide.specs.Costs.{fits_rule}
@@ -219,11 +220,6 @@ counts_left numbers i old mid lt enough a =
 
 enough_none : (counts : List ℕ) → AreEnough [] counts
 enough_none counts = record { each = λ k. omega arith }
-
-at_within : {X : Type 0} (xs : List X) (k : ℕ) → k < length xs → (x : X) × (slice_get xs k ≡ Some x)
-at_within [] k lt = absurd (omega (arith, lt))
-at_within (x ∷ xs) zero lt = (x, refl)
-at_within (x ∷ xs) (suc k) lt = at_within xs k (omega (arith, lt))
 
 -- the rules that need a fact count it, where it passes
 pub enough_for : (rules : List Rule) (p : ℕ → Bool) (users : List (List ℕ)) (counts : List ℕ) (f : ℕ) → AreUsers rules (length rules) users → AreCounts rules p counts → p f ≡ true → AreEnough (row users f) counts

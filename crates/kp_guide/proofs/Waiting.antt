@@ -1,8 +1,8 @@
 -- Rules that wait, and what is left of that when one is tried.
-use Rattle.std.proofs.Common.{◌≡◌, ◌<◌, ◌≤◌, ◌+◌, ◌⊎◌, ℕ, zero, suc, Bool, true, false, nat_lt, nat_le, nat_eq, List, [], ◌∷◌, ◌++◌, Some, length, set, take, drop, replicate, get_or, slice_get, slice_index_or, length-set, get_or-set_same, get_or-set_other, append-nil, add-one, arith, refl, sym, ap, subst, ◌∙◌, inl, inr}
+use Rattle.std.proofs.Common.{◌≡◌, ◌<◌, ◌≤◌, ◌+◌, ◌⊎◌, ℕ, zero, suc, Bool, true, false, nat_lt, nat_le, nat_eq, List, [], ◌∷◌, ◌++◌, Some, length, set, take, drop, replicate, slice_get, slice_index_or, length-set, get_or-set_same, get_or-set_other, append-nil, arith, refl, sym, ap, subst, ◌∙◌, inl, inr}
 use Rattle.std.specs.List.{list_any, list_all, range_with_len}
 use Rattle.std.proofs.lemmas.Bool.{and_parts, cases_eq, cases_lt, cases_Bool, eqb-true, false≢true, lt-ltb, le-ltb, ltb-true, leb-true}
-use Rattle.std.proofs.lemmas.Option.{same_Some, slice_get_within, slice_get_read, slice_get-get_or}
+use Rattle.std.proofs.lemmas.Option.{same_Some, slice_get_within, slice_get-get_or}
 use Rattle.std.proofs.lemmas.List.{get_or_past, get_or-replicate, length-replicate}
 use Rattle.kp_base.specs.Lists.{Member, only_if}
 use Rattle.kp_base.proofs.Lists.{append_member, member_left, member_right, member_at, number_at, all_member, same_member, range_there}
@@ -325,10 +325,6 @@ none_waits rules costs waits a = record {
 }
 
 -- ---- what code reads
-
--- what a read gives
-pub read_at : {X : Type 0} (xs : List X) (i : ℕ) (x : X) → i < length xs → x ≡ get_or xs i x → slice_get xs i ≡ Some x
-read_at xs i x lt e = slice_get_read xs (length xs) i x refl lt e
 
 pub below_at : (n : ℕ) (xs : List ℕ) (i x : ℕ) → are_below n xs ≡ true → slice_get xs i ≡ Some x → x < n
 below_at n xs i x h at = ltb-true x n (all_member (λ y. nat_lt y n) xs x (member_at xs i x at) h)

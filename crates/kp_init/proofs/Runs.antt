@@ -1,7 +1,7 @@
 -- Plans, and runs of actions from each model.
-use Rattle.std.proofs.Common.{◌≡◌, ℕ, Bool, true, false, not, ◌&&◌, List, [], ◌∷◌, ◌++◌, Option, Some, None, refl, sym, ap, subst, map, ◌∙◌, nat_lt, ◌<◌, slice_get, length, option_map}
+use Rattle.std.proofs.Common.{◌≡◌, ℕ, Bool, true, false, not, ◌&&◌, List, [], ◌∷◌, ◌++◌, Option, Some, None, refl, sym, ap, subst, map, ◌∙◌, nat_lt, slice_get, length, option_map}
 use Rattle.std.specs.List.{list_all, flat_map}
-use Rattle.std.proofs.lemmas.Bool.{and_parts, and_from, lt-ltb, ltb-true}
+use Rattle.std.proofs.lemmas.Bool.{and_parts, and_from, lt-ltb}
 use Rattle.std.proofs.lemmas.Option.{slice_get_within}
 use Rattle.std.proofs.lemmas.List.Folds.{list_all-append, list_all-map}
 use Rattle.kp_base.specs.declared.lit.Lit.{Lit}
@@ -9,13 +9,13 @@ use Rattle.kp_base.specs.declared.ground.GroundName.{GroundName}
 use Rattle.kp_base.specs.declared.ground.Effect.{Effect}
 use Rattle.kp_base.specs.declared.ground.Action.{Action}
 use Rattle.kp_base.specs.declared.ground.Ground.{Ground}
-use Rattle.kp_base.specs.Lists.{Member, signed, each_once, only_if}
+use Rattle.kp_base.specs.Lists.{Member, each_once, only_if}
 use Rattle.kp_base.specs.Lit.{positive, negative, negated, same_lit}
 use Rattle.kp_base.specs.LitSet.{set_of}
 use Rattle.kp_base.specs.Steps as steps
 use Rattle.kp_base.specs.Steps.{SameBelow}
-use Rattle.kp_base.proofs.Closures.{below, holds_same, all_same}
-use Rattle.kp_base.proofs.Lists.{any_alike, all_alike, all_member, member_at, flat_member, all_from, member_left, member_right, member_flat_map}
+use Rattle.kp_base.proofs.Closures.{below, all_same}
+use Rattle.kp_base.proofs.Lists.{any_alike, all_member, member_at, all_from, member_left, member_right, member_flat_map}
 use Rattle.kp_base.proofs.Once.{all_filter, all_each_once}
 use Rattle.kp_base.proofs.Sets.{all-set_of}
 use Rattle.kp_tree_grammar.specs.declared.tree.Word.{Word}
@@ -39,6 +39,7 @@ use Rattle.kp_base.proofs.AtomOrder.{atom_at_its_number}
 use Rattle.kp_ground_meaning.proofs.Public.{atoms_are_numbered, IsCoveredLiteral, instance_literals_occur, ground_runs_are_plans, plan_is_ground_run, actions_named_by_steps}
 use Rattle.kp_init.specs.Initial.{no_two, item_clauses}
 use Rattle.kp_base.specs.Implicates.{are_below}
+use Rattle.kp_base.proofs.Parts.{all_flat_map}
 use Rattle.kp_init.specs.Laws.{IsModelRun, IsNamedRun, IsInitialOver, IsPlanByModels, IsPlanByName, IsPlanOfTexts}
 use Rattle.kp_init.proofs.Models.{initial_exact, list_covered, ground_covered, closed_all}
 
@@ -62,9 +63,6 @@ run_same n g acts goal s t same (k ∷ ns) =
     go (Some a) is rest =
         let parts = and_parts (are_below n a.pre) (list_all (λ e. are_below n e.cond) a.effects) (all_member (action_below n) g.actions a (member_at g.actions k a is) acts) in
         rw (all_same n s t same a.pre parts.0, rest (steps.after a s) (steps.after a t) (λ j lt. rw (fires_same n s t same a.effects parts.1 (positive j), fires_same n s t same a.effects parts.1 (negative j), same j lt) refl)) refl
-
-all_flat_map : {X Y : Type 0} (p : Y → Bool) (f : X → List Y) (xs : List X) → ((x : X) → Member xs x → list_all p (f x) ≡ true) → list_all p (flat_map f xs) ≡ true
-all_flat_map p f xs h = all_from p (flat_map f xs) (λ y m. let r = flat_member f xs y m in all_member p (f r.0) y r.2 (h r.0 r.1))
 
 -- ---- the ground problem and the initial formula name no other atoms
 

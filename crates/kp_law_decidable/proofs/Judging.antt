@@ -1,6 +1,6 @@
 -- Steps are a plan, or fail first from some model, and somewhere.
 use Rattle.std.proofs.Common.{◌≡◌, ℕ, suc, Bool, true, false, not, ◌&&◌, ◌||◌, nat_lt, List, [], ◌∷◌, Option, Some, None, length, take, slice_get, refl, sym, ap, ap₂, subst, ◌∙◌, arith, ltb-true}
-use Rattle.std.proofs.lemmas.Bool.{and_parts, and_from}
+use Rattle.std.proofs.lemmas.Bool.{and_parts, and_from, not-true}
 use Rattle.std.specs.List.{list_all}
 use Rattle.kp_base.specs.declared.lit.Lit.{Lit}
 use Rattle.kp_base.specs.declared.lit.AtomId.{AtomId}
@@ -98,10 +98,6 @@ failure g (m ∷ ns) s inside off = go (slice_get g.actions m) refl (λ t e. fai
 
 -- ---- the verdict
 
-off_of : (b : Bool) → not b ≡ true → b ≡ false
-off_of true h = sym h
-off_of false h = refl
-
 pub verdicts_decided : VerdictsAreDecided
 verdicts_decided n g i ns over number of inside = go (first_or_none n (is_wanted i (fails g ns)) (reads_fails n g i ns over (is_ground_of n g number of)))
   where
@@ -110,4 +106,4 @@ verdicts_decided n g i ns over number of inside = go (first_or_none n (is_wanted
 
     go : ((o : Option (List AtomId)) × AnswersFirst n (is_wanted i (fails g ns)) o) → (j : Judged) × AnswersJudged n g i ns j
     go (None, none) = (Yes, failing_from_none_is_plan g i ns none)
-    go (Some ps, first) = told ps first (failure g ns (state_of_atoms ps) inside (off_of (succeeds g (state_of_atoms ps) ns) (and_parts (is_model i (state_of_atoms ps)) (fails g ns (state_of_atoms ps)) first.0.passed).1))
+    go (Some ps, first) = told ps first (failure g ns (state_of_atoms ps) inside (not-true (succeeds g (state_of_atoms ps) ns) (and_parts (is_model i (state_of_atoms ps)) (fails g ns (state_of_atoms ps)) first.0.passed).1))

@@ -1,7 +1,7 @@
 -- One step by name is of one step of the machine.
 use Rattle.std.proofs.Common.{◌≡◌, ◌<◌, ℕ, List, ◌++◌, Option, Some, None, option_map, map, length, slice_get, codes, drop, refl, sym, ap, subst, ◌∙◌, arith}
 use Rattle.std.proofs.lemmas.Bool.{false≢true}
-use Rattle.std.proofs.lemmas.Option.{slice_get-map, slice_get_within}
+use Rattle.std.proofs.lemmas.Option.{slice_get-map, slice_get_within, same_Some}
 use Rattle.kp_base.specs.declared.ground.GroundName.{GroundName}
 use Rattle.kp_base.specs.declared.ground.Action.{Action}
 use Rattle.kp_base.specs.declared.ground.Ground.{Ground}
@@ -22,7 +22,6 @@ use Rattle.kp_law_ktask.specs.ByName.{op_of, merge_op}
 use Rattle.kp_law_ktask.specs.Accepted.{step_at}
 use Rattle.kp_law_ktask.specs.Laws.{StepsAreInjective}
 use Rattle.kp_law_ktask.proofs.Facts.{one_place}
-use Rattle.kp_law_ktask.proofs.Runs.{one_of_some}
 use Rattle.kp_law_ktask.proofs.MergeNames.{one_merge, action_no_merge}
 
 -- the step by name is that of the action of this number
@@ -42,7 +41,7 @@ action_step g table n step e = go (slice_get g.actions n) refl where
   go None is = let gone : None ≡ Some step = subst (λ (x : Option Action). option_map step_of (option_map (op_of g.atoms (length table.tags)) x) ≡ Some step) is e in absurd cc
   go (Some a) is =
       let here : Some (step_of (op_of g.atoms (length table.tags) a)) ≡ Some step = subst (λ (x : Option Action). option_map step_of (option_map (op_of g.atoms (length table.tags)) x) ≡ Some step) is e in
-      record { action = a; at = is; head = ap (λ (s : Step). s.head) (one_of_some (step_of (op_of g.atoms (length table.tags) a)) step here) }
+      record { action = a; at = is; head = ap (λ (s : Step). s.head) (same_Some (step_of (op_of g.atoms (length table.tags) a)) step here) }
 
 merge_step : (g : Ground) (table : TagTable) (n : ℕ) (step : Step) → step_at g table (MachineStep.merge n) ≡ Some step → IsMergeStep table n step
 merge_step g table n step e = go (slice_get table.merges n) refl where
@@ -50,10 +49,10 @@ merge_step g table n step e = go (slice_get table.merges n) refl where
   go None is = let gone : None ≡ Some step = subst (λ (x : Option Merge). option_map step_of (option_map (merge_op g.atoms n) x) ≡ Some step) is e in absurd cc
   go (Some a) is =
       let here : Some (step_of (merge_op g.atoms n a)) ≡ Some step = subst (λ (x : Option Merge). option_map step_of (option_map (merge_op g.atoms n) x) ≡ Some step) is e in
-      record { less = slice_get_within table.merges n a is; head = ap (λ (s : Step). s.head) (one_of_some (step_of (merge_op g.atoms n a)) step here) }
+      record { less = slice_get_within table.merges n a is; head = ap (λ (s : Step). s.head) (same_Some (step_of (merge_op g.atoms n a)) step here) }
 
 one_name : (x y : GroundName) → IsGroundName x → IsGroundName y → encoded x ≡ encoded y → x ≡ y
-one_name x y h k e = one_of_some x y (sym (encoded_name_decodes x h) ∙ ap decoded e ∙ encoded_name_decodes y k)
+one_name x y h k e = same_Some x y (sym (encoded_name_decodes x h) ∙ ap decoded e ∙ encoded_name_decodes y k)
 
 mixed : (w : List ℕ) (m : ℕ) → codes "do_-" ++ w ≡ merge_word m → ⊥
 mixed w m e = false≢true (sym (action_no_merge w m) ∙ ap (λ v. same v (merge_word m)) e ∙ same-refl (merge_word m))

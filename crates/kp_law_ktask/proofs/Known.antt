@@ -1,5 +1,6 @@
 -- After operators from the start, the facts that hold are what the machine knows.
 use Rattle.std.proofs.Common.{◌≡◌, List, [], ◌∷◌, Option, Some, None, option_map, length, slice_get, refl, subst, arith}
+use Rattle.std.proofs.lemmas.Option.{same_Some}
 use Rattle.kp_base.specs.declared.ground.Action.{Action}
 use Rattle.kp_base.specs.declared.ground.Ground.{Ground}
 use Rattle.kp_base.specs.declared.ground.TagTable.{TagTable}
@@ -18,7 +19,7 @@ use Rattle.kp_law_ktask.specs.Known.{held_after, known_after}
 use Rattle.kp_law_ktask.specs.Laws.{FactsAreKnown}
 use Rattle.kp_law_ktask.proofs.Operators.{AgreeBelow, goes_on}
 use Rattle.kp_law_ktask.proofs.Start.{start_has, merge_goes_on}
-use Rattle.kp_law_ktask.proofs.Runs.{AreAt, one_of_some}
+use Rattle.kp_law_ktask.proofs.Runs.{AreAt}
 
 module _ (g : Ground) (table : TagTable) (w : IsWritableTask g table) where
   abbrev AgreeAll : Facts → Known → Type 0
@@ -36,7 +37,7 @@ module _ (g : Ground) (table : TagTable) (w : IsWritableTask g table) where
       go : option_map (op_of g.atoms (length table.tags)) (slice_get g.actions n) ≡ Some o → ((s : Facts) (k : Known) → AgreeAll s k → AgreeAll (held_after os s) (known_after g table ms k)) → (x : Option Action) → slice_get g.actions n ≡ x → AgreeAll (held_after (o ∷ os) s) (known_after g table ms (after_act x k))
       go here rest None is = let gone : None ≡ Some o = subst (λ (x : Option Action). option_map (op_of g.atoms (length table.tags)) x ≡ Some o) is here in absurd cc
       go here rest (Some a) is =
-          let it : op_of g.atoms (length table.tags) a ≡ o = one_of_some (op_of g.atoms (length table.tags) a) o (subst (λ (x : Option Action). option_map (op_of g.atoms (length table.tags)) x ≡ Some o) is here) in
+          let it : op_of g.atoms (length table.tags) a ≡ o = same_Some (op_of g.atoms (length table.tags) a) o (subst (λ (x : Option Action). option_map (op_of g.atoms (length table.tags)) x ≡ Some o) is here) in
           let can : IsGroundAction g.atoms a = each_member (IsGroundAction g.atoms) g.actions a w.ground.actions (member_at g.actions n a is) in
           subst (λ (z : Op). AgreeAll (held_after (z ∷ os) s) (known_after g table ms (after_act (Some a) k))) it
           (rest (after_op (op_of g.atoms (length table.tags) a) s) (after_act (Some a) k) (goes_on g.atoms w.ground.atoms w.ground.atoms_differ (length table.tags) w.tags_fit s k agree a can))
@@ -48,7 +49,7 @@ module _ (g : Ground) (table : TagTable) (w : IsWritableTask g table) where
       go : option_map (merge_op g.atoms n) (slice_get table.merges n) ≡ Some o → ((s : Facts) (k : Known) → AgreeAll s k → AgreeAll (held_after os s) (known_after g table ms k)) → (x : Option Merge) → slice_get table.merges n ≡ x → AgreeAll (held_after (o ∷ os) s) (known_after g table ms (after_merge x k))
       go here rest None is = let gone : None ≡ Some o = subst (λ (x : Option Merge). option_map (merge_op g.atoms n) x ≡ Some o) is here in absurd cc
       go here rest (Some a) is =
-          let it : merge_op g.atoms n a ≡ o = one_of_some (merge_op g.atoms n a) o (subst (λ (x : Option Merge). option_map (merge_op g.atoms n) x ≡ Some o) is here) in
+          let it : merge_op g.atoms n a ≡ o = same_Some (merge_op g.atoms n a) o (subst (λ (x : Option Merge). option_map (merge_op g.atoms n) x ≡ Some o) is here) in
           let can : IsMergeOn g.atoms (length table.tags) a = each_member (IsMergeOn g.atoms (length table.tags)) table.merges a w.merges (member_at table.merges n a is) in
           subst (λ (z : Op). AgreeAll (held_after (z ∷ os) s) (known_after g table ms (after_merge (Some a) k))) it
           (rest (after_op (merge_op g.atoms n a) s) (after_merge (Some a) k) (merge_goes_on g.atoms w.ground.atoms w.ground.atoms_differ (length table.tags) w.tags_fit s k agree n a can.target))

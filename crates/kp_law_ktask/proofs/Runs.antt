@@ -1,6 +1,7 @@
 -- The runs of the operators are the lists that the machine accepts.
 use Rattle.std.proofs.Common.{◌≡◌, ◌+◌, inl, inr, ℕ, zero, suc, ◌&&◌, List, [], ◌∷◌, Option, Some, None, option_map, map, length, slice_get, refl, sym, ap, subst, ◌∙◌, arith}
 use Rattle.std.specs.List.{AllByRecursion, list_all}
+use Rattle.std.proofs.lemmas.Option.{same_Some}
 use Rattle.kp_base.specs.declared.ground.Action.{Action}
 use Rattle.kp_base.specs.declared.ground.Ground.{Ground}
 use Rattle.kp_base.specs.declared.ground.TagTable.{TagTable}
@@ -26,9 +27,6 @@ use Rattle.kp_law_ktask.proofs.Start.{start_has, under_hold, target_known, merge
 abbrev pub AreAt : Ground → TagTable → List MachineStep → List Op → Type 0
 AreAt g table ms os = map (op_at g table) ms ≡ map Some os
 
-pub one_of_some : {X : Type 0} (x y : X) → Some x ≡ Some y → x ≡ y
-one_of_some x y e = cc
-
 module _ (g : Ground) (table : TagTable) (w : IsWritableTask g table) where
   abbrev AgreeAll : Facts → Known → Type 0
   AgreeAll s k = AgreeBelow g.atoms w.ground.atoms w.ground.atoms_differ (length table.tags) s k
@@ -46,7 +44,7 @@ module _ (g : Ground) (table : TagTable) (w : IsWritableTask g table) where
       go : option_map (op_of g.atoms (length table.tags)) (slice_get g.actions n) ≡ Some o → ((s : Facts) (k : Known) → AgreeAll s k → runs (names_of g (goal_of g)) os s ≡ accepts_from g table k ms) → (x : Option Action) → slice_get g.actions n ≡ x → runs (names_of g (goal_of g)) (o ∷ os) s ≡ (may_act x k && accepts_from g table (after_act x k) ms)
       go here rest None is = let gone : None ≡ Some o = subst (λ (x : Option Action). option_map (op_of g.atoms (length table.tags)) x ≡ Some o) is here in absurd cc
       go here rest (Some a) is =
-          let it : op_of g.atoms (length table.tags) a ≡ o = one_of_some (op_of g.atoms (length table.tags) a) o (subst (λ (x : Option Action). option_map (op_of g.atoms (length table.tags)) x ≡ Some o) is here) in
+          let it : op_of g.atoms (length table.tags) a ≡ o = same_Some (op_of g.atoms (length table.tags) a) o (subst (λ (x : Option Action). option_map (op_of g.atoms (length table.tags)) x ≡ Some o) is here) in
           let can : IsGroundAction g.atoms a = each_member (IsGroundAction g.atoms) g.actions a w.ground.actions (member_at g.actions n a is) in
           subst (λ (z : Op). runs (names_of g (goal_of g)) (z ∷ os) s ≡ (may_act (Some a) k && accepts_from g table (after_act (Some a) k) ms)) it
           (rw (facts_hold g.atoms w.ground.atoms w.ground.atoms_differ 0 (omega arith) s (k 0) (agree 0 w.some_tag) a.pre can.pre)
@@ -60,7 +58,7 @@ module _ (g : Ground) (table : TagTable) (w : IsWritableTask g table) where
       go : option_map (merge_op g.atoms n) (slice_get table.merges n) ≡ Some o → ((s : Facts) (k : Known) → AgreeAll s k → runs (names_of g (goal_of g)) os s ≡ accepts_from g table k ms) → (x : Option Merge) → slice_get table.merges n ≡ x → runs (names_of g (goal_of g)) (o ∷ os) s ≡ (may_merge x k && accepts_from g table (after_merge x k) ms)
       go here rest None is = let gone : None ≡ Some o = subst (λ (x : Option Merge). option_map (merge_op g.atoms n) x ≡ Some o) is here in absurd cc
       go here rest (Some a) is =
-          let it : merge_op g.atoms n a ≡ o = one_of_some (merge_op g.atoms n a) o (subst (λ (x : Option Merge). option_map (merge_op g.atoms n) x ≡ Some o) is here) in
+          let it : merge_op g.atoms n a ≡ o = same_Some (merge_op g.atoms n a) o (subst (λ (x : Option Merge). option_map (merge_op g.atoms n) x ≡ Some o) is here) in
           let can : IsMergeOn g.atoms (length table.tags) a = each_member (IsMergeOn g.atoms (length table.tags)) table.merges a w.merges (member_at table.merges n a is) in
           subst (λ (z : Op). runs (names_of g (goal_of g)) (z ∷ os) s ≡ (may_merge (Some a) k && accepts_from g table (after_merge (Some a) k) ms)) it
           (rw (target_known g.atoms w.ground.atoms w.ground.atoms_differ (length table.tags) s k agree a.target can.target a.tags can.tags_are)
@@ -92,7 +90,7 @@ step_of_op g table o m =
 -- and back
 op_among_merges : (g : Ground) (first : ℕ) (xs : List Merge) (d : ℕ) (o : Op) → option_map (merge_op g.atoms (first + d)) (slice_get xs d) ≡ Some o → Member (merge_ops_from g.atoms first xs) o
 op_among_merges g first [] d o e = absurd cc
-op_among_merges g first (x ∷ xs) zero o e = let same : first ≡ first + 0 = omega arith in inl (ap (λ n. merge_op g.atoms n x) same ∙ one_of_some (merge_op g.atoms (first + 0) x) o e)
+op_among_merges g first (x ∷ xs) zero o e = let same : first ≡ first + 0 = omega arith in inl (ap (λ n. merge_op g.atoms n x) same ∙ same_Some (merge_op g.atoms (first + 0) x) o e)
 op_among_merges g first (x ∷ xs) (suc d) o e =
     let same : first + suc d ≡ suc first + d = omega arith in
     inr (op_among_merges g (suc first) xs d o (subst (λ n. option_map (merge_op g.atoms n) (slice_get xs d) ≡ Some o) same e))
@@ -102,7 +100,7 @@ op_among g table (MachineStep.act n) o e = go (slice_get g.actions n) refl e whe
   go : (x : Option Action) → slice_get g.actions n ≡ x → option_map (op_of g.atoms (length table.tags)) (slice_get g.actions n) ≡ Some o → Member (ops_of g table) o
   go None is e = let gone : None ≡ Some o = subst (λ (x : Option Action). option_map (op_of g.atoms (length table.tags)) x ≡ Some o) is e in absurd cc
   go (Some a) is e =
-      let it : op_of g.atoms (length table.tags) a ≡ o = one_of_some (op_of g.atoms (length table.tags) a) o (subst (λ (x : Option Action). option_map (op_of g.atoms (length table.tags)) x ≡ Some o) is e) in
+      let it : op_of g.atoms (length table.tags) a ≡ o = same_Some (op_of g.atoms (length table.tags) a) o (subst (λ (x : Option Action). option_map (op_of g.atoms (length table.tags)) x ≡ Some o) is e) in
       subst (λ (z : Op). Member (ops_of g table) z) it (member_left (map (op_of g.atoms (length table.tags)) g.actions) (merge_ops_from g.atoms 0 table.merges) (op_of g.atoms (length table.tags) a) (member_map (op_of g.atoms (length table.tags)) g.actions a (member_at g.actions n a is)))
 op_among g table (MachineStep.merge n) o e =
     let same : n ≡ 0 + n = omega arith in
@@ -156,7 +154,7 @@ ops_at g table (m ∷ ms) (i ∷ is) e =
     go None is' here rest = let gone : None ≡ Some i = subst (λ (o : Option Op). option_map step_of o ≡ Some i) is' here in absurd cc
     go (Some o) is' here rest =
         let there : Some (step_of o) ≡ Some i = subst (λ (o : Option Op). option_map step_of o ≡ Some i) is' here in
-        record { ops = o ∷ rest.ops; at = rw (is', rest.at) refl; steps_are = rw (one_of_some (step_of o) i there, rest.steps_are) refl }
+        record { ops = o ∷ rest.ops; at = rw (is', rest.at) refl; steps_are = rw (same_Some (step_of o) i there, rest.steps_are) refl }
 
 -- ---- the law
 

@@ -3,7 +3,7 @@ use Rattle.std.proofs.Common.{◌≡◌, ◌<◌, ◌^◌, ℕ, zero, suc, true,
 use Rattle.std.proofs.lemmas.Bool.Decides.{nat_tests}
 use Rattle.std.proofs.lemmas.Fmt.{decimal_is_IsNumeral, decimal_digit, first_decimal}
 use Rattle.std.proofs.lemmas.Str.Parse.{digit_from_value}
-use Rattle.std.proofs.lemmas.Option.{slice_get_within}
+use Rattle.std.proofs.lemmas.Option.{slice_get_within, same_Some}
 use Rattle.std.specs.Int.{IsInRange}
 use Rattle.std.specs.Str.Parse.{AllDigits}
 use Rattle.std.specs.List.{list_all}
@@ -27,7 +27,7 @@ use Rattle.kp_law_ktask.specs.ByName.{op_of, merge_op}
 use Rattle.kp_law_ktask.specs.Writable.{IsWritableTask}
 use Rattle.kp_law_ktask.specs.Accepted.{IsStrippedTo}
 use Rattle.kp_law_ktask.specs.Laws.{TaggedStepsStrip}
-use Rattle.kp_law_ktask.proofs.Runs.{AreAt, one_of_some, ops_at}
+use Rattle.kp_law_ktask.proofs.Runs.{AreAt, ops_at}
 
 -- ---- numbers
 
@@ -69,7 +69,7 @@ strips g table w (MachineStep.act n ∷ ms) (o ∷ os) at =
     go : IsStrippedTo g (map step_of os) ms → option_map (op_of g.atoms (length table.tags)) (slice_get g.actions n) ≡ Some o → (x : Option Action) → slice_get g.actions n ≡ x → IsStrippedTo g (map step_of (o ∷ os)) (MachineStep.act n ∷ ms)
     go rest here None is = let gone : None ≡ Some o = subst (λ (x : Option Action). option_map (op_of g.atoms (length table.tags)) x ≡ Some o) is here in absurd cc
     go rest here (Some a) is =
-        let it : op_of g.atoms (length table.tags) a ≡ o = one_of_some (op_of g.atoms (length table.tags) a) o (subst (λ (x : Option Action). option_map (op_of g.atoms (length table.tags)) x ≡ Some o) is here) in
+        let it : op_of g.atoms (length table.tags) a ≡ o = same_Some (op_of g.atoms (length table.tags) a) o (subst (λ (x : Option Action). option_map (op_of g.atoms (length table.tags)) x ≡ Some o) is here) in
         let can : IsGroundAction g.atoms a = each_member (IsGroundAction g.atoms) g.actions a w.ground.actions (member_at g.actions n a is) in
         let whole : strip (map step_of (op_of g.atoms (length table.tags) a ∷ os)) ≡ Some (a.name ∷ rest.names) = rw (action_strips a.name (encoded_name_decodes a.name can.name), rest.strips) refl in
         record { names = a.name ∷ rest.names; strips = subst (λ (z : Op). strip (map step_of (z ∷ os)) ≡ Some (a.name ∷ rest.names)) it whole; are_names = rw (is, rest.are_names) refl }
@@ -81,7 +81,7 @@ strips g table w (MachineStep.merge n ∷ ms) (o ∷ os) at =
     go : IsStrippedTo g (map step_of os) ms → option_map (merge_op g.atoms n) (slice_get table.merges n) ≡ Some o → (x : Option Merge) → slice_get table.merges n ≡ x → IsStrippedTo g (map step_of (o ∷ os)) (MachineStep.merge n ∷ ms)
     go rest here None is = let gone : None ≡ Some o = subst (λ (x : Option Merge). option_map (merge_op g.atoms n) x ≡ Some o) is here in absurd cc
     go rest here (Some a) is =
-        let it : merge_op g.atoms n a ≡ o = one_of_some (merge_op g.atoms n a) o (subst (λ (x : Option Merge). option_map (merge_op g.atoms n) x ≡ Some o) is here) in
+        let it : merge_op g.atoms n a ≡ o = same_Some (merge_op g.atoms n a) o (subst (λ (x : Option Merge). option_map (merge_op g.atoms n) x ≡ Some o) is here) in
         let whole : strip (map step_of (merge_op g.atoms n a ∷ os)) ≡ Some rest.names = rw (merge_strips n (numbers n (omega (arith, slice_get_within table.merges n a is, w.merges_fit))), rest.strips) refl in
         record { names = rest.names; strips = subst (λ (z : Op). strip (map step_of (z ∷ os)) ≡ Some rest.names) it whole; are_names = rest.are_names }
 

@@ -61,9 +61,6 @@ one_kept : (o : Option ℕ) (t : Token) → ◌≡◌ {A = List Token} (t ∷ le
 one_kept None t = refl
 one_kept (Some n) t = refl
 
-pub seen_none : (levels end : ℕ) → Seen levels end [] (Some levels) end []
-seen_none levels end = record { left_is = refl; kept = refl; ends = refl }
-
 pub seen_more : (levels end : ℕ) (tokens : List Token) (n : ℕ) (to : ℕ) (seen : List Token) (t : Token) → Seen levels end tokens (Some n) to seen
     → Seen levels end (tokens ++ t ∷ []) (behind n t.kind) (levels_left (behind n t.kind) t.to (λ (m : ℕ). to)) (seen ++ t ∷ [])
 seen_more levels end tokens n to seen t s =

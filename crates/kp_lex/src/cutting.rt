@@ -1,4 +1,5 @@
 ghost use Rattle.std.specs.Prelude.{◌≡◌, ℕ, ◌+◌, ◌≤◌, ◌<◌, length, drop, List, IfOk, MatchResult};
+ghost use Rattle.kp_base.specs.Files.{most_bytes};
 ghost use Rattle.kp_lex.specs.declared.token.Token.{Token};
 ghost use Rattle.kp_lex.specs.Cutting.{Cut, BadAt, spanned};
 ghost use Rattle.kp_lex.specs.Spans.{InOrder};
@@ -43,7 +44,7 @@ fn behind(left: usize, kind: TokenKind) -> Option<usize>
 
 // The token of so many bytes, from this one on.
 fn spanned(kind: TokenKind, at: usize, n: usize) -> Token
-    requires { at + n ≤ 16777216 }
+    requires { at + n ≤ most_bytes }
     ensures { result ≡ spanned kind at n }
 {
     Token {
@@ -65,7 +66,7 @@ fn end(left: Option<usize>, here: usize, to: usize) -> usize
 
 // The loop of `tokens` and `tokens_within`. Behind a bracket that opens one level too many no token is kept.
 fn cut_up_to(alloc: Global, part: Part, bytes: &[u8], levels: u32) -> Result<Beginning, Stop>
-    requires { length bytes.now ≤ 16777216 }
+    requires { length bytes.now ≤ most_bytes }
     ensures { MatchResult result (λ b. Begins levels bytes.now b) (λ e. Fails part bytes.now e (cut 0 bytes.now)) }
 {
     let mut tokens = Row::new(alloc);
@@ -96,7 +97,7 @@ fn cut_up_to(alloc: Global, part: Part, bytes: &[u8], levels: u32) -> Result<Beg
 
 // No text has so many brackets that one of them would be too deep.
 fn cut_all(alloc: Global, part: Part, bytes: &[u8]) -> Result<Row<Token>, Stop>
-    requires { length bytes.now ≤ 16777216 }
+    requires { length bytes.now ≤ most_bytes }
     ensures { MatchResult result (λ ts. cut 0 bytes.now ≡ Ok ts) (λ e. Fails part bytes.now e (cut 0 bytes.now)) }
 {
     let Beginning { tokens, to: _ } = cut_up_to(alloc, part, bytes, u32::MAX)?;
@@ -108,7 +109,7 @@ fn cut_all(alloc: Global, part: Part, bytes: &[u8]) -> Result<Row<Token>, Stop>
 /// At the first byte with which no token, blank or comment can begin, the file is refused with `BadToken` and the
 /// byte's place. No other refusal comes.
 pub fn tokens(alloc: Global, part: Part, bytes: &[u8]) -> Result<Row<Token>, Stop>
-    requires { length bytes.now ≤ 16777216 }
+    requires { length bytes.now ≤ most_bytes }
     // What is answered is so.
     ensures right { IsRight part bytes.now result }
     // A text that is cut has its tokens answered.
@@ -130,7 +131,7 @@ pub fn tokens_within(
     bytes: &[u8],
     levels: u32,
 ) -> Result<Beginning, Stop>
-    requires { length bytes.now ≤ 16777216 }
+    requires { length bytes.now ≤ most_bytes }
     ensures { IsRightWithin part levels bytes.now result }
 {
     cut_up_to(alloc, part, bytes, levels)

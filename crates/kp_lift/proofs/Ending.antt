@@ -60,10 +60,6 @@ module _ (g : Ground) (table : TagTable) (k : Known) (n : ℕ) (ns : List ℕ) w
 pub record GoesOn (g : Ground) (table : TagTable) (old : Table) (ops ns : List ℕ) (i : ℕ) (new : Table) (so_far : List ℕ) : Type 0 where
   pub on : (k : Known) → Says old k → (j : Known) × Says new j × ((done : List ℕ) (r : Option At) → EndsFrom g table j (drop i ns) i so_far done r → EndsFrom g table k ns 0 ops done r)
 
--- at the start all are left
-pub goes_begin : (g : Ground) (table : TagTable) (old : Table) (ops ns : List ℕ) → GoesOn g table old ops ns 0 old ops
-goes_begin g table old ops ns = record { on = λ k says. (k, says, λ done r ends. ends) }
-
 module _ (g : Ground) (table : TagTable) (old : Table) (ops ns : List ℕ) (i : ℕ) (mid : Table) (so_far : List ℕ) (h : GoesOn g table old ops ns i mid so_far) where
   -- a step more is taken
   pub goes_more : (i' n : ℕ) (new : Table) (now : List ℕ) → i' ≡ suc i → drop i ns ≡ n ∷ drop i' ns → StepEnds g table n mid so_far new now None → GoesOn g table old ops ns i' new now

@@ -1,5 +1,5 @@
 -- Elements of lists, and tests that all of them pass.
-use Rattle.std.proofs.Common.{◌≡◌, ◌<◌, ◌+◌, ℕ, Bool, true, List, ◌∷◌, drop, length, get_or, Some, slice_get, nat_lt, ltb-true, ap, ◌∙◌}
+use Rattle.std.proofs.Common.{◌≡◌, ◌<◌, ◌+◌, ℕ, Bool, true, List, ◌∷◌, drop, length, get_or, Some, slice_get, nat_lt, ap, ◌∙◌}
 use Rattle.std.proofs.lemmas.Bool.{and_parts, lt-ltb}
 use Rattle.std.proofs.lemmas.List.{drop_more}
 use Rattle.std.proofs.lemmas.Option.{slice_get-get_or, slice_get_within, get_or_from_slice_get}
@@ -19,10 +19,6 @@ all_at p xs n x all is = all_member p xs x (member_at xs n x is) all
 -- an element by its place
 pub item_at : {X : Type 0} (p : X → Bool) (xs : List X) (n : ℕ) (d : X) → list_all p xs ≡ true → n < length xs → p (get_or xs n d) ≡ true
 item_at p xs n d all lt = all_at p xs n (get_or xs n d) all (slice_get-get_or xs n d lt)
-
--- a number among some that are all below another
-pub number_at : (most : ℕ) (ns : List ℕ) (i d : ℕ) → list_all (λ n. nat_lt n most) ns ≡ true → i < length ns → get_or ns i d < most
-number_at most ns i d inside lt = ltb-true (get_or ns i d) most (item_at (λ n. nat_lt n most) ns i d inside lt)
 
 -- the tags of a merge are those of the table
 pub tags_below : (g : Ground) (table : TagTable) → IsTableOn g table → (n : ℕ) (m : Merge) → slice_get table.merges n ≡ Some m → list_all (λ t. nat_lt t (length table.tags)) m.tags ≡ true

@@ -1,6 +1,5 @@
 -- One merge after another: what the merges that are left make of what is known now, all make of what was known.
-use Rattle.std.proofs.Common.{◌≡◌, ◌≤◌, ◌+◌, ℕ, suc, Bool, true, false, if◌then◌else◌, List, [], ◌∷◌, ◌++◌, append-nil, append_assoc, Some, map, length, drop, refl, sym, ap, subst, ◌∙◌}
-use Rattle.std.proofs.lemmas.List.{drop_all}
+use Rattle.std.proofs.Common.{◌≡◌, ◌+◌, ℕ, suc, Bool, true, false, if◌then◌else◌, List, [], ◌∷◌, ◌++◌, append-nil, append_assoc, Some, map, length, drop, sym, ap, subst, ◌∙◌}
 use Rattle.kp_base.specs.declared.ground.Ground.{Ground}
 use Rattle.kp_base.specs.declared.ground.TagTable.{TagTable}
 use Rattle.kp_base.specs.declared.ground.Merge.{Merge}
@@ -9,15 +8,10 @@ use Rattle.kp_base.specs.Machine.{MachineStep, Known, after_merge}
 use Rattle.kp_lift_known.specs.Known.{Table, Says}
 use Rattle.kp_law_machine.specs.Lifts.{adds, after_merges, merges_taken}
 use Rattle.kp_law_ktask.specs.Laws.{op_number}
-use Rattle.kp_lift.specs.Running.{MergesTaken}
 
 -- of what is known now, the merges from number m on make what all make of what was known; and so with the operators
 pub record MergesRest (g : Ground) (table : TagTable) (old : Table) (ops : List ℕ) (m : ℕ) (new : Table) (done : List ℕ) : Type 0 where
   pub rest : (k : Known) → Says old k → (j : Known) × Says new j × (after_merges (drop m table.merges) j ≡ after_merges table.merges k) × (done ++ map (op_number g) (merges_taken m (drop m table.merges) j) ≡ ops ++ map (op_number g) (merges_taken 0 table.merges k))
-
--- at the start all are left
-pub merges_begin : (g : Ground) (table : TagTable) (old : Table) (ops : List ℕ) → MergesRest g table old ops 0 old ops
-merges_begin g table old ops = record { rest = λ k says. (k, says, refl, refl) }
 
 -- the operators of a merge that is taken or not, and of those behind it
 operators_more : (g : Ground) (m : ℕ) (x : Merge) (xs : List Merge) (k : Known) (ops done : List ℕ) → (b : Bool) → done ≡ ops ++ only_if b ((length g.actions + m) ∷ []) → done ++ map (op_number g) (merges_taken (suc m) xs (if b then after_merge (Some x) k else k)) ≡ ops ++ map (op_number g) (if b then MachineStep.merge m ∷ merges_taken (suc m) xs (after_merge (Some x) k) else merges_taken (suc m) xs k)
@@ -41,13 +35,3 @@ merges_more g table old ops m n x mid new so_far done next left known operators 
         let goes : so_far ++ map (op_number g) (merges_taken m (x ∷ drop n table.merges) r.0) ≡ ops ++ map (op_number g) (merges_taken 0 table.merges k) = subst (λ (ys : List Merge). so_far ++ map (op_number g) (merges_taken m ys r.0) ≡ ops ++ map (op_number g) (merges_taken 0 table.merges k)) left r.3 in
         let one : done ++ map (op_number g) (merges_taken (suc m) (drop n table.merges) (after_merges (x ∷ []) r.0)) ≡ so_far ++ map (op_number g) (merges_taken m (x ∷ drop n table.merges) r.0) = operators_more g m x (drop n table.merges) r.0 so_far done (adds x r.0) (operators r.0 r.1) in
         (after_merges (x ∷ []) r.0, known r.0 r.1, knows, subst (λ i. done ++ map (op_number g) (merges_taken i (drop n table.merges) (after_merges (x ∷ []) r.0)) ≡ ops ++ map (op_number g) (merges_taken 0 table.merges k)) (sym next) (one ∙ goes))
-
--- at the end none is left
-pub merges_done : (g : Ground) (table : TagTable) (old : Table) (ops : List ℕ) (m : ℕ) (new : Table) (done : List ℕ) → length table.merges ≤ m → MergesRest g table old ops m new done → MergesTaken g table old ops new done
-merges_done g table old ops m new done past h = record {
-  known = λ k says. let r = h.rest k says in subst (Says new) (subst (λ (ys : List Merge). after_merges ys r.0 ≡ after_merges table.merges k) none r.2) r.1;
-  operators = λ k says. let r = h.rest k says in sym (append-nil done) ∙ subst (λ (ys : List Merge). done ++ map (op_number g) (merges_taken m ys r.0) ≡ ops ++ map (op_number g) (merges_taken 0 table.merges k)) none r.3;
-}
-  where
-    none : drop m table.merges ≡ []
-    none = drop_all m table.merges past

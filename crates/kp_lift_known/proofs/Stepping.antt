@@ -1,6 +1,6 @@
 -- A step as rows of bits is the machine's step.
 use Rattle.std.proofs.Common.{◌≡◌, ◌<◌, ◌&&◌, ◌||◌, ℕ, Bool, true, false, not, cond, List, [], ◌∷◌, length, nat_eq, nat_lt, refl, sym, ap, ap₂, ◌∙◌, arith}
-use Rattle.std.proofs.lemmas.Bool.{and_parts, false≢true, ltb-true}
+use Rattle.std.proofs.lemmas.Bool.{and_parts, false≢true, ltb-true, or_parts}
 use Rattle.std.specs.List.{list_all}
 use Rattle.kp_base.specs.declared.lit.Lit.{Lit}
 use Rattle.kp_base.specs.declared.ground.Action.{Action}
@@ -15,10 +15,6 @@ use Rattle.kp_lift_known.specs.Known.{Table, known, IsLike, Says}
 use Rattle.kp_lift_known.specs.Tabled.{Turns, touches, IsAtRest}
 
 -- ---- what no effect touches
-
-or_parts : (a b : Bool) → (a || b) ≡ false → (a ≡ false) × (b ≡ false)
-or_parts false b h = (refl, h)
-or_parts true b h = absurd (false≢true (sym h))
 
 untouched_stays : (es : List Effect) (k : Facts) (l : Lit) → touches es l ≡ false → (fires es k l ≡ false) × (persists es k l ≡ true)
 untouched_stays [] k l h = (refl, refl)

@@ -1,4 +1,5 @@
 ghost use Rattle.std.specs.Prelude.{◌≡◌, ◌≤◌, length, None};
+ghost use Rattle.kp_base.specs.Files.{most_bytes};
 ghost use Rattle.kp_names_meaning.specs.Faults.{byte_of};
 ghost use Rattle.kp_names.specs.Noted.{fault_view, sooner};
 ghost use Rattle.kp_names.specs.Resolved.{refusal_of};
@@ -29,7 +30,7 @@ impl Fault {
 
     /// The refusal of a file that has the fault.
     pub fn refusal(self, part: Part, bytes: &[u8]) -> Refused
-        requires short { length bytes.now ≤ 16777216 }
+        requires short { length bytes.now ≤ most_bytes }
         requires within { byte_of (fault_view self) ≤ length bytes.now }
         ensures { result ≡ refusal_of part bytes.now (fault_view self) }
     {

@@ -1,5 +1,6 @@
 ghost use Rattle.std.specs.Prelude.{◌≡◌, ◌≤◌, length, Some};
 ghost use Rattle.kp_base.specs.declared.refused.Part.TheVariants as parts;
+ghost use Rattle.kp_base.specs.Files.{most_bytes};
 ghost use Rattle.kp_tree_grammar.specs.Grammar as grammar;
 ghost use Rattle.kp_tree_grammar.specs.Texts.{ReadsAs};
 ghost use Rattle.kp_names_meaning.specs.Faults.{Fault as Wrong, byte_of, domain_faults, problem_faults};
@@ -14,7 +15,7 @@ use std::alloc::Global;
 
 // Refuses a file that has a fault.
 fn refuse(first: &First, part: Part, bytes: &[u8]) -> Result<(), Stop>
-    requires short { length bytes.now ≤ 16777216 }
+    requires short { length bytes.now ≤ most_bytes }
     requires within { (fault : Wrong) → first.now ≡ Some fault → byte_of fault ≤ length bytes.now }
     ensures { Refuses part bytes.now first.now result }
 {
@@ -26,7 +27,7 @@ fn refuse(first: &First, part: Part, bytes: &[u8]) -> Result<(), Stop>
 
 // Refuses a domain that has a fault, at the first.
 fn judge_domain(alloc: Global, bytes: &[u8], names: &Names) -> Result<(), Stop>
-    requires short { length bytes.now ≤ 16777216 }
+    requires short { length bytes.now ≤ most_bytes }
     requires reads { ReadsAs grammar.domain bytes.now (domain_of names.now) }
     ensures { Judges parts.Domain bytes.now (domain_faults (domain_of names.now) (problem_of names.now)) result }
 {
@@ -37,7 +38,7 @@ fn judge_domain(alloc: Global, bytes: &[u8], names: &Names) -> Result<(), Stop>
 
 // Refuses a problem that has a fault, at the first.
 fn judge_problem(alloc: Global, bytes: &[u8], names: &Names) -> Result<(), Stop>
-    requires short { length bytes.now ≤ 16777216 }
+    requires short { length bytes.now ≤ most_bytes }
     requires reads { ReadsAs grammar.problem bytes.now (problem_of names.now) }
     ensures { Judges parts.Problem bytes.now (problem_faults (domain_of names.now) (problem_of names.now)) result }
 {
@@ -48,8 +49,8 @@ fn judge_problem(alloc: Global, bytes: &[u8], names: &Names) -> Result<(), Stop>
 
 /// Refuses two trees that have a fault, at the first of the domain, or else of the problem.
 pub fn judge(alloc: Global, bytes: &Texts, names: &Names) -> Result<(), Stop>
-    requires domain_short { length bytes.now.domain ≤ 16777216 }
-    requires problem_short { length bytes.now.problem ≤ 16777216 }
+    requires domain_short { length bytes.now.domain ≤ most_bytes }
+    requires problem_short { length bytes.now.problem ≤ most_bytes }
     requires domain_reads { ReadsAs grammar.domain bytes.now.domain (domain_of names.now) }
     requires problem_reads { ReadsAs grammar.problem bytes.now.problem (problem_of names.now) }
     ensures { JudgesBoth bytes.now.domain bytes.now.problem (domain_of names.now) (problem_of names.now) result }

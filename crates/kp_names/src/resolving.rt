@@ -1,4 +1,5 @@
 ghost use Rattle.std.specs.Prelude.{◌≤◌, length};
+ghost use Rattle.kp_base.specs.Files.{most_bytes};
 ghost use Rattle.kp_tree_grammar.specs.Grammar as grammar;
 ghost use Rattle.kp_tree_grammar.specs.Texts.{ReadsAs};
 ghost use Rattle.kp_tree_grammar.specs.View.{domain_view, problem_view};
@@ -19,8 +20,8 @@ pub fn resolve(
     domain: &Domain,
     problem: &Problem,
 ) -> Result<Lifted, Stop>
-    requires domain_short { length bytes.now.domain ≤ 16777216 }
-    requires problem_short { length bytes.now.problem ≤ 16777216 }
+    requires domain_short { length bytes.now.domain ≤ most_bytes }
+    requires problem_short { length bytes.now.problem ≤ most_bytes }
     requires domain_reads { ReadsAs grammar.domain bytes.now.domain (domain_view domain.now) }
     requires problem_reads { ReadsAs grammar.problem bytes.now.problem (problem_view problem.now) }
     ensures { AnswersNames bytes.now.domain bytes.now.problem (domain_view domain.now) (problem_view problem.now) result }

@@ -1,5 +1,5 @@
 -- One more name under a type, and the next name that is met.
-use Rattle.std.proofs.Common.{◌≡◌, ◌<◌, ◌≤◌, ◌+◌, ◌-◌, ℕ, suc, Bool, true, false, cond, List, [], ◌∷◌, ◌++◌, length, map, reverse, get_or, Some, refl, sym, ap, subst, ◌∙◌, arith}
+use Rattle.std.proofs.Common.{◌≡◌, ◌≤◌, ◌+◌, ◌-◌, ℕ, suc, Bool, true, false, cond, List, [], ◌∷◌, ◌++◌, length, map, reverse, Some, refl, sym, ap, subst, ◌∙◌, arith}
 use Rattle.std.proofs.lemmas.Grind.{common_steps}
 use Rattle.std.proofs.lemmas.List.{map-append, reverse-append}
 use Rattle.std.specs.Prelude.{unwrap_or, fold}
@@ -80,29 +80,6 @@ pub record IsMet (links : List Link) (k : Name) (at : ℕ) (names all : List Nam
   pub left : List Name
   pub chain : IsChain links k at left
   pub so_far : fold with_name names left ≡ all
-
--- the next name that is met
-pub next_met : (links : List Link) (k : Name) (at : ℕ) (names all : List Name) (d : Link) → 0 < at → IsMet links k at names all
-    → (at - 1 < length links) × ((get_or links (at - 1) d).before < at) × IsMet links k (get_or links (at - 1) d).before (with_name names (get_or links (at - 1) d).name.now) all
-next_met links k at names all d lt met = by at met.left met.chain lt met.so_far
-  where
-    by : (at : ℕ) (left : List Name) → IsChain links k at left → 0 < at → fold with_name names left ≡ all
-        → (at - 1 < length links) × ((get_or links (at - 1) d).before < at) × IsMet links k (get_or links (at - 1) d).before (with_name names (get_or links (at - 1) d).name.now) all
-    by at left ends lt h = absurd (omega (arith, lt))
-    by at left (leads i l ns within is low rest) lt h =
-        let same : get_or links i d ≡ l = grind (arith, common_steps) in
-        let one : suc i - 1 ≡ i = omega arith in
-        subst (λ j. (j < length links) × ((get_or links j d).before < suc i) × IsMet links k (get_or links j d).before (with_name names (get_or links j d).name.now) all) (sym one)
-        (subst (λ z. (i < length links) × (z.before < suc i) × IsMet links k z.before (with_name names z.name.now) all) (sym same)
-        (within, omega (arith, low), record { left = ns; chain = rest; so_far = h }))
-
--- nothing is met from the front on
-pub none_met : (links : List Link) (k : Name) (names all : List Name) → IsMet links k 0 names all → names ≡ all
-none_met links k names all met = by 0 met.left met.chain refl met.so_far
-  where
-    by : (at : ℕ) (left : List Name) → IsChain links k at left → at ≡ 0 → fold with_name names left ≡ all → names ≡ all
-    by at left ends e h = h
-    by at left (leads i l ns within is low rest) e h = absurd (omega (arith, e))
 
 -- no names at all
 pub none_chained : AreChained [] []

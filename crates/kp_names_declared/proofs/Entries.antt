@@ -23,10 +23,6 @@ found now x (e ∷ es) = ap (cond (same x (now e.0)) (Some e.1)) (found now x es
 abbrev placed : {K X : Type 0} → (K → Name) → List (K × X) → List (Name × X)
 placed now es = map (λ e. (now e.0, e.1)) es
 
-none_there : {X : Type 0} (o : Option X) → is_some o ≡ false → o ≡ None
-none_there None h = refl
-none_there (Some v) h = absurd (true≢false h)
-
 pub entered : {K X : Type 0} (now : K → Name) (es : List (K × X)) (k : K) (v : X) → is_some (lookup (λ j. same (now k) (now j)) es) ≡ false
     → placed now (insert_entry (λ i j. same (now i) (now j)) es k v) ≡ (if is_some (lookup (same (now k)) (placed now es)) then placed now es else placed now es ++ (now k, v) ∷ [])
 entered now es k v h =

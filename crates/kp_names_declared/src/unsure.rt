@@ -1,5 +1,6 @@
 ghost use Rattle.std.specs.Prelude.{◌≡◌, ◌≤◌, length, map, option_copied};
 ghost use Rattle.kp_base.specs.declared.refused.Part.TheVariants as parts;
+ghost use Rattle.kp_base.specs.Files.{most_bytes};
 ghost use Rattle.kp_tree_grammar.specs.View.{item_view, problem_view};
 ghost use Rattle.kp_lex.specs.Places.{place_of};
 ghost use Rattle.kp_names_declared.specs.Unsure.{unsure_item, first_unsure, unsure_place};
@@ -42,7 +43,7 @@ fn first_unsure(items: &[ItemTree]) -> Option<&Word>
 
 // The place of a byte of the problem; one past the end stands in the last line.
 fn place_in(problem: &[u8], byte: u32) -> Place
-    requires { length problem.now ≤ 16777216 }
+    requires { length problem.now ≤ most_bytes }
     ensures { result ≡ place_of parts.Problem problem.now byte }
 {
     let within = byte.min(problem.len() as u32);
@@ -56,7 +57,7 @@ fn place_in(problem: &[u8], byte: u32) -> Place
 
 /// The place of the first item of `:init` that leaves the initial state open.
 pub fn unsure_place(bytes: &[u8], problem: &Problem) -> Option<Place>
-    requires { length bytes.now ≤ 16777216 }
+    requires { length bytes.now ≤ most_bytes }
     ensures { result ≡ unsure_place bytes.now (problem_view problem.now) }
 {
     match first_unsure(problem.init.slice()) {

@@ -1,5 +1,6 @@
 ghost use Rattle.std.specs.Prelude.{◌≡◌, ◌≤◌, ◌++◌, [], length, map, IfOk};
 ghost use Rattle.std.specs.List.{flat_map};
+ghost use Rattle.kp_base.specs.Files.{most_bytes};
 ghost use Rattle.kp_tree_grammar.specs.View.{pred_view, domain_view, problem_view};
 ghost use Rattle.kp_names_meaning.specs.Types.{objects};
 ghost use Rattle.kp_names_meaning.specs.Numbering.{numbered_pred, numbered_item, numbered_goal, numbered_problem};
@@ -59,7 +60,7 @@ fn stated(alloc: Global, names: &Names) -> Result<(Row<Item>, Row<GroundLit>), M
 
 // The problem by number, of its names.
 fn lifted(alloc: Global, bytes: &Texts, ranges: &mut Ranges) -> Result<Lifted, Memory>
-    requires { length bytes.now.problem ≤ 16777216 }
+    requires { length bytes.now.problem ≤ most_bytes }
     ensures numbered { IfOk result (λ l. lifted_view l ≡ numbered_problem (domain_view ranges.old.names.domain) (problem_view ranges.old.names.problem)) }
     ensures unsure { IfOk result (λ l. l.unsure ≡ unsure_place bytes.now.problem (problem_view ranges.old.names.problem)) }
 {
@@ -81,7 +82,7 @@ fn lifted(alloc: Global, bytes: &Texts, ranges: &mut Ranges) -> Result<Lifted, M
 /// The problem by number of the trees whose names these are. It asks nothing of them, but is of use
 /// where they have no fault: each name that is declared nowhere gets the number after the last.
 pub fn by_number(alloc: Global, bytes: &Texts, names: Names) -> Result<Lifted, Memory>
-    requires { length bytes.now.problem ≤ 16777216 }
+    requires { length bytes.now.problem ≤ most_bytes }
     ensures numbered { IfOk result (λ l. lifted_view l ≡ numbered_problem (domain_view names.entry.domain) (problem_view names.entry.problem)) }
     ensures unsure { IfOk result (λ l. l.unsure ≡ unsure_place bytes.now.problem (problem_view names.entry.problem)) }
 {

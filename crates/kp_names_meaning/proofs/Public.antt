@@ -3,7 +3,7 @@
 -- ---- When two names are one, and a name is among others.
 pub use Rattle.kp_names_meaning.proofs.Lists.{same_names as same_name_equivalence, same-sym as same_name-sym, all_same-true as all_same_names-true, all_same-refl as all_same_names-refl, among_member as member_is_among}
 -- ---- Numbers of names: where a name stands, and names that stand once.
-pub use Rattle.kp_names_meaning.proofs.Indexes.{at_index as name_at_index, index_below, among_at as name_at_is_among, distinct_once as distinct_are_distinct}
+pub use Rattle.kp_names_meaning.proofs.Indexes.{at_index as name_at_index, index_below, distinct_once as distinct_are_distinct}
 -- no name stands twice
 pub use Rattle.kp_names_meaning.proofs.Indexes.{Distinct as AreDistinctNames}
 -- ---- Conditions and effects mean the same by number as by name.

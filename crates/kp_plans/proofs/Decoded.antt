@@ -5,7 +5,7 @@ use Rattle.kp_base.specs.declared.ground.GroundName.{GroundName}
 use Rattle.kp_names_meaning.specs.Encoding.{underscore, dash, with_byte, split, decoded, doubled, encoded, encoded_objects}
 use Rattle.kp_names_meaning.proofs.Public.{what_was_encoded_decodes, decoded_is_encoding}
 use Rattle.kp_plans.specs.declared.decoding.Parts.{Parts}
-use Rattle.kp_plans.specs.Decoding.{with_bytes, components, Decodes, Breaks}
+use Rattle.kp_plans.specs.Decoding.{with_bytes, components, Decodes}
 use Rattle.kp_plans.specs.Names.{IsNameOf}
 
 map_map : {X Y Z : Type 0} (f : X → Y) (g : Y → Z) (h : X → Z) (o : Option X) → ((x : X) → g (f x) ≡ h x) → option_map g (option_map f o) ≡ option_map h o
@@ -50,15 +50,9 @@ ends p q b is e h k i = record {
       (λ xs. ap (λ (ys : List Name). p.ended ++ ys) (with_none p.last xs) ∙ sym (append_assoc p.ended (p.last ∷ []) xs))));
 }
 
-pub fails : (p : Parts) (b : ℕ) → p.escaped ≡ true → (b == underscore) ≡ false → (b == dash) ≡ false → Breaks p b
-fails p b e n m = record { breaks = λ rest. rw (e, n, m) refl }
-
 -- at the end
 pub at_end : (p : Parts) → p.escaped ≡ false → components p [] ≡ Some (p.ended ++ p.last ∷ [])
 at_end p e = rw e (ap (λ (ys : List Name). Some (p.ended ++ ys)) (with_none p.last []))
-
-pub left_open : (p : Parts) → p.escaped ≡ true → components p [] ≡ None
-left_open p e = rw e refl
 
 -- at the start
 same_option : {X : Type 0} (f : X → X) (o : Option X) → ((x : X) → f x ≡ x) → option_map f o ≡ o

@@ -149,9 +149,6 @@ made_of text run first others name place e h k =
 
 -- ---- all steps
 
-pub none_so_far : (text : List ℕ) (all : List (Tok Word)) → StepsSoFar text [] all all
-none_so_far text all = record { front = []; are = refl; reads = λ xs rest h. h; stops = λ at h. h }
-
 pub one_more : (text : List ℕ) (steps now : List PlanStep) (ls : List (Tok Word)) (at : ℕ) (run : List (Tok Word)) (behind : ℕ) (all : List (Tok Word)) (p : PlanStep) (s : StepStands ls at run behind) → true ≡ first_is is_left (from ls at) → now ≡ steps ++ p ∷ []
     → p ≡ step_of text (word_of s.first, map word_of s.others) → StepsSoFar text steps (from ls at) all → StepsSoFar text now (from ls behind) all
 one_more text steps now ls at run behind all p s left is made so =

@@ -56,9 +56,6 @@ uncut text causes.Memory h = tt
 uncut text (causes.Refused (refusals.BadToken place)) h = subst (λ p. RefusesPlan text (refusals.BadToken p)) (sym h.1.1) (bad_token h.0 h.1.0)
 uncut text (causes.Refused _) h = absurd h
 
-pub read_all : (text : List ℕ) (ts : List Token) (steps : List PlanStep) → Cut 0 text ts → AnswersCut text ts (Ok steps) → AnswersPlan text (Ok steps)
-read_all text ts steps cut h = record { tree = h.tree; are = h.are; reads = record { tokens = ts; cut = cut; reads = h.reads } }
-
 pub refused : (text : List ℕ) (ts : List Token) (halt : Halt) (e : Stop) → Cut 0 text ts → AnswersCut text ts (Err halt) → IsTold text ts halt e → AnswersPlan text (Err e)
 refused text ts halts.Memory e cut h told = rw told tt
 refused text ts (halts.Syntax i) e cut h told = rw told (stops ts (stop (all_seen_in text (drop i ts))) cut h)

@@ -1,5 +1,6 @@
 ghost use Rattle.std.specs.Prelude.{◌≡◌, ◌<◌, ◌≤◌, ◌+◌, ◌==◌, count_by, length, IfOk, IfErr};
 ghost use Rattle.kp_base.specs.declared.refused.Part.TheVariants as parts;
+ghost use Rattle.kp_base.specs.Files.{most_bytes};
 ghost use Rattle.kp_lex.specs.Cutting.{Cut};
 ghost use Rattle.kp_lex.specs.Places.{place_of};
 ghost use Rattle.kp_plans.specs.PlanFiles.{AnswersPlan};
@@ -14,7 +15,7 @@ use std::alloc::Global;
 
 // How many line feeds there are.
 fn line_feeds(bytes: &[u8]) -> u32
-    requires { length bytes.now ≤ 16777216 }
+    requires { length bytes.now ≤ most_bytes }
     ensures value { result ≡ count_by (λ b. b == 10) bytes.now }
     ensures few { result ≤ length bytes.now }
 {
@@ -23,7 +24,7 @@ fn line_feeds(bytes: &[u8]) -> u32
 
 // The place of a byte at or behind another byte, whose place is known.
 fn place_behind(known: Place, bytes: &[u8], byte: u32) -> Place
-    requires short { length bytes.now ≤ 16777216 }
+    requires short { length bytes.now ≤ most_bytes }
     requires place { known ≡ place_of parts.Plan bytes.now known.byte }
     requires onward { known.byte ≤ byte }
     requires within { byte ≤ length bytes.now }
@@ -53,7 +54,7 @@ fn step_at<'t, 'a>(tokens: &Tokens<'t, 'a>, at: usize) -> Result<(Tokens<'t, 'a>
 
 // The steps that all the tokens are.
 fn steps(alloc: Global, bytes: &[u8], tokens: &Tokens) -> Result<Row<PlanStep>, Halt>
-    requires short { length bytes.now ≤ 16777216 }
+    requires short { length bytes.now ≤ most_bytes }
     requires ascends { Ascends 0 tokens.now (length bytes.now) }
     ensures { AnswersTokens bytes.now tokens.now result }
 {
@@ -75,7 +76,7 @@ fn steps(alloc: Global, bytes: &[u8], tokens: &Tokens) -> Result<Row<PlanStep>, 
 
 // The steps of a text that is cut into the tokens.
 fn read_tokens(alloc: Global, bytes: &[u8], tokens: &[Token]) -> Result<Row<PlanStep>, Halt>
-    requires short { length bytes.now ≤ 16777216 }
+    requires short { length bytes.now ≤ most_bytes }
     requires cut { Cut 0 bytes.now tokens.now }
     ensures { AnswersCut bytes.now tokens.now result }
 {
@@ -86,7 +87,7 @@ fn read_tokens(alloc: Global, bytes: &[u8], tokens: &[Token]) -> Result<Row<Plan
 
 // What ends the call where no steps were read.
 fn told(bytes: &[u8], tokens: &[Token], halt: Halt) -> Stop
-    requires short { length bytes.now ≤ 16777216 }
+    requires short { length bytes.now ≤ most_bytes }
     requires cut { Cut 0 bytes.now tokens.now }
     ensures { IsTold bytes.now tokens.now halt result }
 {
@@ -104,7 +105,7 @@ fn told(bytes: &[u8], tokens: &[Token], halt: Halt) -> Stop
 /// A file with a byte that begins no token is refused with `BadToken` there. Any other file that is no plan is refused
 /// with `PlanSyntax` at the first token that is wrong, or at its end. Brackets may go as deep as they like.
 pub fn read_plan(alloc: Global, bytes: &[u8]) -> Result<Row<PlanStep>, Stop>
-    requires { length bytes.now ≤ 16777216 }
+    requires { length bytes.now ≤ most_bytes }
     ensures { AnswersPlan bytes.now result }
 {
     let tokens = tokens(alloc, Part::Plan, bytes)?;

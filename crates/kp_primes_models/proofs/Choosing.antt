@@ -1,6 +1,6 @@
 -- The first model that passes, atom by atom: absent wherever some model passes without it.
-use Rattle.std.proofs.Common.{◌≡◌, ◌<◌, ◌≤◌, ◌+◌, ℕ, Bool, true, false, not, ◌&&◌, ◌||◌, nat_eq, nat_lt, List, [], ◌∷◌, ◌++◌, None, refl, sym, ap, subst, ◌∙◌, inl, inr, arith, eq-eqb, ltb-true, lt-ltb}
-use Rattle.std.proofs.lemmas.Bool.{and_parts, and_from, or_from, or_right, false≢true, cases_lt, ne_eqb}
+use Rattle.std.proofs.Common.{◌≡◌, ◌<◌, ◌≤◌, ◌+◌, ℕ, Bool, true, false, not, ◌||◌, nat_eq, nat_lt, List, [], ◌∷◌, ◌++◌, None, refl, sym, ap, subst, ◌∙◌, inl, inr, arith, eq-eqb, ltb-true, lt-ltb}
+use Rattle.std.proofs.lemmas.Bool.{and_parts, and_from, or_from, or_right, false≢true, cases_lt, ne_eqb, not-true}
 use Rattle.std.proofs.lemmas.List.Folds.{list_any-append}
 use Rattle.std.specs.List.{list_all}
 use Rattle.kp_base.specs.declared.lit.Lit.{Lit}
@@ -16,10 +16,6 @@ use Rattle.kp_primes_models.specs.Chosen.{IsChosen}
 use Rattle.kp_primes_models.specs.Asked.{is_wanted, IsWitness, AnswersFind}
 use Rattle.kp_primes_models.proofs.Tags.{more_met, more_parts, more_below}
 use Rattle.kp_primes_models.proofs.Reading.{all_same, model_same}
-
-not_true : (b : Bool) → not b ≡ true → b ≡ false
-not_true true h = sym h
-not_true false h = refl
 
 -- ---- the state of some atoms, with one more
 
@@ -84,7 +80,7 @@ module _ (n p : ℕ) (i : Initial) (passes : State → Bool) (tag found : List L
           | inl before ↦ chosen.agrees s parts.0 q before
           | inr after ↦
               let e : p ≡ q = omega arith in
-              subst (λ x. s x ≡ state_of_atoms present x) e (not_true (s p) parts.1 ∙ sym (chosen.bounded p (omega arith)))
+              subst (λ x. s x ≡ state_of_atoms present x) e (not-true (s p) parts.1 ∙ sym (chosen.bounded p (omega arith)))
         ];
     met = λ s h. more_met s (negative p) tag (chosen.met s (λ q less. h q (omega arith))) (ap not (h p (omega arith) ∙ chosen.bounded p (omega arith)));
     bounded = λ q le. chosen.bounded q (omega arith);
@@ -166,11 +162,3 @@ chosen_all n i passes tag found present of chosen =
       },
       chosen.rising,
     )
-
--- where no model that satisfies the empty tag passes, none does
-pub none_at_all : (n : ℕ) (i : Initial) (passes : State → Bool) → AnswersFind n i passes [] None → (s : State) → is_wanted i passes s ≡ false
-none_at_all n i passes none s = pick (is_model i s) refl
-  where
-    pick : (b : Bool) → is_model i s ≡ b → (b && passes s) ≡ false
-    pick true is = none s is refl
-    pick false is = refl

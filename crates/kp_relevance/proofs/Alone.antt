@@ -1,12 +1,12 @@
 -- Rows in which no other number is marked.
-use Rattle.std.proofs.Common.{◌≡◌, ◌<◌, ◌&&◌, ℕ, Bool, true, false, List, [], Some, length, get_or, set, replicate, slice_get, sym, ap, subst, ◌∙◌, inl, inr, arith, length-set, get_or-set_same, get_or-set_other}
+use Rattle.std.proofs.Common.{◌≡◌, ◌<◌, ◌&&◌, ℕ, Bool, true, false, List, [], Some, length, get_or, slice_get, sym, ap, subst, ◌∙◌, inl, inr, arith}
 use Rattle.std.proofs.lemmas.Bool.{and_parts, cases_eq, cases_lt, false≢true}
-use Rattle.std.proofs.lemmas.List.{length-map, get_or-map, length-replicate, get_or-replicate, get_or_past}
+use Rattle.std.proofs.lemmas.List.{length-map, get_or-map, get_or_past}
 use Rattle.std.proofs.lemmas.Option.{slice_get-get_or}
 use Rattle.std.proofs.lemmas.Slice.Zip.{length-zip, get_or-zip}
 use Rattle.std.specs.List.{zip}
 use Rattle.kp_bits.specs.Rows.{both}
-use Rattle.kp_relevance.specs.Tabled.{marked, IsSquare, Linked, LeadsTo, IsFollowed, ClosesRow, AreLone}
+use Rattle.kp_relevance.specs.Tabled.{marked, Linked, LeadsTo, IsFollowed, ClosesRow, AreLone}
 
 -- ---- bits
 
@@ -18,12 +18,6 @@ both_at xs ys i lt lt2 =
     get_or-map (λ (p : Bool × Bool). p.0 && p.1) (zip xs ys) i (false, false) false (omega (arith, length-zip xs ys, lt, lt2))
     ∙ ap (λ (p : Bool × Bool). p.0 && p.1) (get_or-zip xs ys i (false, false) lt lt2)
 
-zero_at : (n i : ℕ) → get_or (replicate n false) i false ≡ false
-zero_at n i = elim (cases_lt i n) [
-  | inl lt ↦ get_or-replicate n i false false lt
-  | inr ge ↦ get_or_past (replicate n false) i false (rw (length-replicate n false) ge)
-]
-
 pub bit_there : (row : List Bool) (i : ℕ) → get_or row i false ≡ true → slice_get row i ≡ Some true
 bit_there row i h = elim (cases_lt i (length row)) [
   | inl lt ↦ slice_get-get_or row i false lt ∙ ap Some h
@@ -31,15 +25,6 @@ bit_there row i h = elim (cases_lt i (length row)) [
 ]
 
 -- ---- rows
-
-pub none_lone : (n : ℕ) (rows : List (List Bool)) → AreLone n rows (replicate n false)
-none_lone n rows m i hm hi h g = absurd (false≢true (sym (zero_at n m) ∙ h))
-
-pub one_more : (n k : ℕ) (rows : List (List Bool)) (lone : List Bool) → AreLone n rows lone → ((i : ℕ) → marked rows k i ≡ true → k ≡ i) → AreLone n rows (set lone k true)
-one_more n k rows lone are here m i hm hi h g = elim (cases_eq m k) [
-  | inl e ↦ e ∙ here i (subst (λ x. marked rows x i ≡ true) e g)
-  | inr ne ↦ are m i hm hi (sym (get_or-set_other lone k m true false ne) ∙ h) g
-]
 
 -- from such a row marks lead nowhere else
 lone_links : (n : ℕ) (rows : List (List Bool)) (lone : List Bool) → AreLone n rows lone → (j i : ℕ) → Linked n (marked rows) j i → get_or lone j false ≡ true → j ≡ i

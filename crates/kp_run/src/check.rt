@@ -2,6 +2,7 @@ ghost use Rattle.std.specs.Prelude.{◌≡◌, ◌<◌, Some, List, ℕ, true, n
 ghost use Rattle.std.specs.List.{list_all};
 ghost use Rattle.kp_base.specs.declared.ground.Initial.{Initial as Formula};
 ghost use Rattle.kp_base.specs.Entailed.{HaveSameModels};
+ghost use Rattle.kp_base.specs.Files.{most_bytes};
 ghost use Rattle.kp_outside.specs.Outside.{IsFront, IsWithin};
 ghost use Rattle.kp_primes.specs.Held.{formula};
 ghost use Rattle.kp_run_prepare.specs.Prepared.{IsUsable};
@@ -73,9 +74,9 @@ fn judge(alloc: Global, prepared: &Prepared, numbers: &Row<u32>) -> Result<Outco
 
 // Whether the actions of a plan file work, of which at most 16,777,216 bytes were read; or a refusal.
 fn check_plan(alloc: Global, prepared: &Prepared, plan: Got) -> Result<Outcome, Memory>
-    requires within { IsWithin 16777216 plan }
+    requires within { IsWithin most_bytes plan }
     requires usable { IsUsable prepared.now }
-    ensures { (text : List ℕ) (i : Formula) → IsFront (Some text) 16777216 plan → HaveSameModels (formula prepared.now.primes) i → IfOk result (ComesByPlan prepared.now.ground text (TellsJudged prepared.now.ground i)) }
+    ensures { (text : List ℕ) (i : Formula) → IsFront (Some text) most_bytes plan → HaveSameModels (formula prepared.now.primes) i → IfOk result (ComesByPlan prepared.now.ground text (TellsJudged prepared.now.ground i)) }
 {
     match actions_of(alloc, &prepared.ground, plan) {
         Ok(numbers) => judge(alloc, prepared, &numbers),
@@ -91,10 +92,10 @@ pub fn check_texts(
     problem: Got,
     plan: Got,
 ) -> Result<Outcome, Memory>
-    requires domain { IsWithin 16777216 domain }
-    requires problem { IsWithin 16777216 problem }
-    requires plan { IsWithin 16777216 plan }
-    ensures { (d p t : List ℕ) → IsFront (Some d) 16777216 domain → IsFront (Some p) 16777216 problem → IsFront (Some t) 16777216 plan → IfOk result (ChecksTexts command.now d p t) }
+    requires domain { IsWithin most_bytes domain }
+    requires problem { IsWithin most_bytes problem }
+    requires plan { IsWithin most_bytes plan }
+    ensures { (d p t : List ℕ) → IsFront (Some d) most_bytes domain → IsFront (Some p) most_bytes problem → IsFront (Some t) most_bytes plan → IfOk result (ChecksTexts command.now d p t) }
 {
     match prepare(alloc, command.implicates, domain, problem) {
         Ok(prepared) => check_plan(alloc, &prepared, plan),

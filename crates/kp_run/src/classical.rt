@@ -1,4 +1,5 @@
 ghost use Rattle.std.specs.Prelude.{◌≡◌, Some, List, ℕ, IfOk};
+ghost use Rattle.kp_base.specs.Files.{most_bytes};
 ghost use Rattle.kp_outside.specs.Outside.{IsFront, IsWithin};
 ghost use Rattle.kp_run.specs.Outcomes.{ClassicalTexts};
 
@@ -18,9 +19,9 @@ pub fn classical_texts(
     domain: Got,
     problem: Got,
 ) -> Result<Outcome, Memory>
-    requires domain { IsWithin 16777216 domain }
-    requires problem { IsWithin 16777216 problem }
-    ensures { (d p : List ℕ) → IsFront (Some d) 16777216 domain → IsFront (Some p) 16777216 problem → IfOk result (ClassicalTexts command.now d p) }
+    requires domain { IsWithin most_bytes domain }
+    requires problem { IsWithin most_bytes problem }
+    ensures { (d p : List ℕ) → IsFront (Some d) most_bytes domain → IsFront (Some p) most_bytes problem → IfOk result (ClassicalTexts command.now d p) }
 {
     match prepare_classical(alloc, domain, problem) {
         Ok(posed) => solve_classical(alloc, command.budget, &posed.ground, &posed.task),

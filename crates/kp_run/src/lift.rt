@@ -10,6 +10,7 @@ ghost use Rattle.kp_run_inputs.specs.SourceTables.{IsOrigin, IsShort, ComesByTab
 ghost use Rattle.kp_run_inputs.specs.Actions.{ComesByPlan};
 ghost use Rattle.kp_law_ktask.specs.Task.{task_of};
 ghost use Rattle.kp_base.specs.Implicates.{IsOfItsAtoms};
+ghost use Rattle.kp_base.specs.Files.{most_bytes};
 ghost use Rattle.kp_lift.specs.Lifting.{IsTableOn};
 ghost use Rattle.kp_run_messages.specs.Lifting.{unlifted_text};
 ghost use Rattle.kp_run_solve.specs.Solving.{denies};
@@ -87,11 +88,11 @@ fn lift_plan(
     task: &Task,
     plan: Got,
 ) -> Result<Outcome, Memory>
-    requires within { IsWithin 16777216 plan }
+    requires within { IsWithin most_bytes plan }
     requires ground { IsOfItsAtoms ground.now }
     requires table { IsTableOn ground.now table.now }
     requires task { task.now ≡ task_of ground.now table.now }
-    ensures { (text : List ℕ) → IsFront (Some text) 16777216 plan → IfOk result (ComesByPlan ground.now text (LiftsActions ground.now table.now)) }
+    ensures { (text : List ℕ) → IsFront (Some text) most_bytes plan → IfOk result (ComesByPlan ground.now text (LiftsActions ground.now table.now)) }
 {
     match actions_of(alloc, ground, plan) {
         Ok(numbers) => lift_actions(alloc, ground, table, task, &numbers),
@@ -107,11 +108,11 @@ fn lift_task(
     task: Task,
     plan: Got,
 ) -> Result<Outcome, Memory>
-    requires within { IsWithin 16777216 plan }
+    requires within { IsWithin most_bytes plan }
     requires ground { IsOfItsAtoms ground.now }
     requires table { IsTableOn ground.now table.now }
     requires task { task ≡ task_of ground.now table.now }
-    ensures { (text : List ℕ) → IsFront (Some text) 16777216 plan → IfOk result (ComesByPlan ground.now text (LiftsActions ground.now table.now)) }
+    ensures { (text : List ℕ) → IsFront (Some text) most_bytes plan → IfOk result (ComesByPlan ground.now text (LiftsActions ground.now table.now)) }
 {
     let outcome = lift_plan(alloc, ground, table, &task, plan);
     drop(task);
@@ -120,10 +121,10 @@ fn lift_task(
 
 // The same with a table of tags and merges, whose task may be refused.
 fn lift_with(alloc: Global, ground: &Ground, table: &TagTable, plan: Got) -> Result<Outcome, Memory>
-    requires within { IsWithin 16777216 plan }
+    requires within { IsWithin most_bytes plan }
     requires ground { IsOfItsAtoms ground.now }
     requires table { IsTableOn ground.now table.now }
-    ensures { (text : List ℕ) → IsFront (Some text) 16777216 plan → IfOk result (LiftsPlan ground.now text table.now) }
+    ensures { (text : List ℕ) → IsFront (Some text) most_bytes plan → IfOk result (LiftsPlan ground.now text table.now) }
 {
     match translate(alloc, ground, table, &Limits::usual()) {
         Ok(task) => lift_task(alloc, ground, table, task, plan),
@@ -134,11 +135,11 @@ fn lift_with(alloc: Global, ground: &Ground, table: &TagTable, plan: Got) -> Res
 
 // The same with the table of a mode or of a file of merges.
 fn lift_by(alloc: Global, prepared: &Prepared, origin: Origin, plan: Got) -> Result<Outcome, Memory>
-    requires within { IsWithin 16777216 plan }
+    requires within { IsWithin most_bytes plan }
     requires short { IsShort origin }
     requires usable { IsUsable prepared.now }
     requires origin { (source : Source) × (merges : List (List ℕ)) × IsOrigin source merges origin }
-    ensures { (source : Source) (merges : List (List ℕ)) (text : List ℕ) (i : Formula) → IsOrigin source merges origin → IsFront (Some text) 16777216 plan → HaveSameModels (formula prepared.now.primes) i → IfOk result (ComesByTable prepared.now.ground i source merges (LiftsPlan prepared.now.ground text)) }
+    ensures { (source : Source) (merges : List (List ℕ)) (text : List ℕ) (i : Formula) → IsOrigin source merges origin → IsFront (Some text) most_bytes plan → HaveSameModels (formula prepared.now.primes) i → IfOk result (ComesByTable prepared.now.ground i source merges (LiftsPlan prepared.now.ground text)) }
 {
     match table_alone(alloc, prepared, origin) {
         Ok(table) => lift_with(alloc, &prepared.ground, &table, plan),
@@ -155,12 +156,12 @@ pub fn lift_texts(
     origin: Origin,
     plan: Got,
 ) -> Result<Outcome, Memory>
-    requires domain { IsWithin 16777216 domain }
-    requires problem { IsWithin 16777216 problem }
-    requires plan { IsWithin 16777216 plan }
+    requires domain { IsWithin most_bytes domain }
+    requires problem { IsWithin most_bytes problem }
+    requires plan { IsWithin most_bytes plan }
     requires short { IsShort origin }
     requires origin { (source : Source) × (merges : List (List ℕ)) × IsOrigin source merges origin }
-    ensures { (d p : List ℕ) (merges : List (List ℕ)) (t : List ℕ) → IsFront (Some d) 16777216 domain → IsFront (Some p) 16777216 problem → IsOrigin command.now.source merges origin → IsFront (Some t) 16777216 plan → IfOk result (LiftsTexts command.now d p merges t) }
+    ensures { (d p : List ℕ) (merges : List (List ℕ)) (t : List ℕ) → IsFront (Some d) most_bytes domain → IsFront (Some p) most_bytes problem → IsOrigin command.now.source merges origin → IsFront (Some t) most_bytes plan → IfOk result (LiftsTexts command.now d p merges t) }
 {
     match prepare(alloc, command.implicates, domain, problem) {
         Ok(prepared) => lift_by(alloc, &prepared, origin, plan),

@@ -1,6 +1,7 @@
 ghost use Rattle.std.specs.Prelude.{◌≡◌, Some, List, ℕ, IfOk};
 ghost use Rattle.kp_base.specs.declared.ground.Initial.{Initial as Formula};
 ghost use Rattle.kp_base.specs.Entailed.{HaveSameModels};
+ghost use Rattle.kp_base.specs.Files.{most_bytes};
 ghost use Rattle.kp_outside.specs.Outside.{IsFront, IsWithin};
 ghost use Rattle.kp_primes.specs.Held.{formula};
 ghost use Rattle.kp_words.specs.Names.{Source};
@@ -53,11 +54,11 @@ pub fn solve_texts(
     problem: Got,
     origin: Origin,
 ) -> Result<Outcome, Memory>
-    requires domain { IsWithin 16777216 domain }
-    requires problem { IsWithin 16777216 problem }
+    requires domain { IsWithin most_bytes domain }
+    requires problem { IsWithin most_bytes problem }
     requires short { IsShort origin }
     requires origin { (source : Source) × (merges : List (List ℕ)) × IsOrigin source merges origin }
-    ensures { (d p : List ℕ) (merges : List (List ℕ)) → IsFront (Some d) 16777216 domain → IsFront (Some p) 16777216 problem → IsOrigin command.now.source merges origin → IfOk result (SolvesTexts command.now d p merges) }
+    ensures { (d p : List ℕ) (merges : List (List ℕ)) → IsFront (Some d) most_bytes domain → IsFront (Some p) most_bytes problem → IsOrigin command.now.source merges origin → IfOk result (SolvesTexts command.now d p merges) }
 {
     match prepare(alloc, command.implicates, domain, problem) {
         Ok(prepared) => solve_by(alloc, command, &prepared, origin),

@@ -1,5 +1,6 @@
 //! What was read of a domain, a problem and a file of merges, taken apart.
 ghost use Rattle.std.specs.Prelude.{◌≡◌, ◌∷◌, [], ℕ, List, Option, length};
+ghost use Rattle.kp_base.specs.Files.{most_bytes};
 ghost use Rattle.kp_outside.specs.Outside.{FileMap, IsWithin};
 ghost use Rattle.kp_run_outcome.specs.Ends.{AreFronts, AreRead};
 ghost use Rattle.kp_words.specs.Names.{Source as Origins, source_view, of_mode, of_file};
@@ -98,8 +99,8 @@ fn with_merges(gots: Row<Got>) -> Sourced
 pub fn taken_apart(source: SourceRef<'_>, gots: Row<Got>) -> Sourced
     requires { (held : Option FileMap) × (domain : List ℕ) × (problem : List ℕ) × AreRead held (domain ∷ problem ∷ if_named (file_of (source_view source))) gots }
     ensures texts { (texts : List (List ℕ)) → AreFronts texts gots → IsSourced (source_view source.entry) texts result }
-    ensures domain { IsWithin 16777216 result.domain }
-    ensures problem { IsWithin 16777216 result.problem }
+    ensures domain { IsWithin most_bytes result.domain }
+    ensures problem { IsWithin most_bytes result.problem }
     ensures short { IsShort result.origin }
     ensures origin { (origin : Origins) × (merges : List (List ℕ)) × IsOrigin origin merges result.origin }
 {

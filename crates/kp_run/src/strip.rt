@@ -1,4 +1,5 @@
 ghost use Rattle.std.specs.Prelude.{◌≤◌, Some, List, ℕ, IfOk, length};
+ghost use Rattle.kp_base.specs.Files.{most_bytes};
 ghost use Rattle.kp_outside.specs.Outside.{IsFront, IsWithin};
 ghost use Rattle.kp_plans.specs.PlanFiles.{IsPlanOf};
 ghost use Rattle.kp_run.specs.Outcomes.{StripsText};
@@ -13,7 +14,7 @@ use std::alloc::Global;
 
 // What the steps of a plan file come to.
 fn strip_steps(alloc: Global, steps: &Row<PlanStep>) -> Result<Outcome, Memory>
-    ensures { (text : List ℕ) → length text ≤ 16777216 → IsPlanOf text steps.now → IfOk result (StripsText text) }
+    ensures { (text : List ℕ) → length text ≤ most_bytes → IsPlanOf text steps.now → IfOk result (StripsText text) }
 {
     match strip(alloc, steps) {
         Ok(actions) => Ok(print_text(alloc, plan_text(alloc, &actions)?)),
@@ -24,8 +25,8 @@ fn strip_steps(alloc: Global, steps: &Row<PlanStep>) -> Result<Outcome, Memory>
 
 /// What a plan file comes to, at most 16,777,216 bytes of which were read.
 pub fn strip_text(alloc: Global, got: Got) -> Result<Outcome, Memory>
-    requires { IsWithin 16777216 got }
-    ensures { (text : List ℕ) → IsFront (Some text) 16777216 got → IfOk result (StripsText text) }
+    requires { IsWithin most_bytes got }
+    ensures { (text : List ℕ) → IsFront (Some text) most_bytes got → IfOk result (StripsText text) }
 {
     if got.more {
         return refuse(alloc, Refused::TooLong(Part::Plan));

@@ -1,6 +1,7 @@
 ghost use Rattle.std.specs.Prelude.{◌≡◌, Some, List, ℕ, IfOk};
 ghost use Rattle.kp_base.specs.declared.ground.Initial.{Initial as Formula};
 ghost use Rattle.kp_base.specs.Entailed.{HaveSameModels};
+ghost use Rattle.kp_base.specs.Files.{most_bytes};
 ghost use Rattle.kp_outside.specs.Outside.{IsFront, IsWithin};
 ghost use Rattle.kp_primes.specs.Held.{formula};
 ghost use Rattle.kp_run_prepare.specs.Prepared.{IsUsable};
@@ -67,9 +68,9 @@ pub fn width_of_texts(
     domain: Got,
     problem: Got,
 ) -> Result<Outcome, Memory>
-    requires domain { IsWithin 16777216 domain }
-    requires problem { IsWithin 16777216 problem }
-    ensures { (d p : List ℕ) → IsFront (Some d) 16777216 domain → IsFront (Some p) 16777216 problem → IfOk result (WidthTexts command.now d p) }
+    requires domain { IsWithin most_bytes domain }
+    requires problem { IsWithin most_bytes problem }
+    ensures { (d p : List ℕ) → IsFront (Some d) most_bytes domain → IsFront (Some p) most_bytes problem → IfOk result (WidthTexts command.now d p) }
 {
     match prepare(alloc, command.implicates, domain, problem) {
         Ok(prepared) => measure(alloc, &prepared, command.bound),

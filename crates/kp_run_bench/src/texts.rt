@@ -1,5 +1,6 @@
 //! The texts of a generated problem, and what is read of them.
 ghost use Rattle.std.specs.Prelude.{◌≡◌, Some, IfOk};
+ghost use Rattle.kp_base.specs.Files.{most_bytes};
 ghost use Rattle.kp_outside.specs.Outside.{IsFront, IsWithin};
 ghost use Rattle.kp_words.specs.Options.{IsOfRange};
 ghost use Rattle.kp_run_bench.specs.Bench.{family_texts};
@@ -26,8 +27,8 @@ pub fn texts_of(alloc: Global, family: Family, n: u32) -> Result<Texts, Memory>
 
 /// The first 16,777,216 bytes of a text, and whether there are more.
 pub fn front(text: Row<u8>) -> Got
-    ensures within { IsWithin 16777216 result }
-    ensures front { IsFront (Some text) 16777216 result }
+    ensures within { IsWithin most_bytes result }
+    ensures front { IsFront (Some text) most_bytes result }
 {
     let mut bytes = text.into_vec();
     let more = bytes.len() > MOST;

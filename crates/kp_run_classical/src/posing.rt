@@ -1,5 +1,6 @@
 ghost use Rattle.std.specs.Prelude.{◌≡◌, Some, None, List, ℕ, IfOk, length};
 ghost use Rattle.kp_base.specs.Implicates.{IsOfItsAtoms};
+ghost use Rattle.kp_base.specs.Files.{most_bytes};
 ghost use Rattle.kp_ground_meaning.specs.Ground.{ground_of};
 ghost use Rattle.kp_init.specs.Initial.{initial_of};
 ghost use Rattle.kp_names.specs.View.{lifted_view};
@@ -74,10 +75,10 @@ fn on_problem(alloc: Global, lifted: &Lifted) -> Result<Posed, Early>
 /// The ground problem and the task of two classical files, at most 16,777,216 bytes of each of which were read; or the
 /// outcome with which a command ends early.
 pub fn prepare_classical(alloc: Global, domain: Got, problem: Got) -> Result<Posed, Early>
-    requires domain { IsWithin 16777216 domain }
-    requires problem { IsWithin 16777216 problem }
+    requires domain { IsWithin most_bytes domain }
+    requires problem { IsWithin most_bytes problem }
     ensures fit { IfOk result (λ x. IsFit x.task) }
-    ensures answers { (d p : List ℕ) → IsFront (Some d) 16777216 domain → IsFront (Some p) 16777216 problem → AnswersClassical d p result }
+    ensures answers { (d p : List ℕ) → IsFront (Some d) most_bytes domain → IsFront (Some p) most_bytes problem → AnswersClassical d p result }
 {
     match read_files(alloc, domain, problem) {
         Ok(lifted) => on_problem(alloc, &lifted),

@@ -4,6 +4,7 @@ ghost use Rattle.kp_base.specs.Implicates.{IsOfItsAtoms};
 ghost use Rattle.kp_outside.specs.Outside.{IsFront, IsWithin};
 ghost use Rattle.kp_plans.specs.PlanFiles.{step_names};
 ghost use Rattle.kp_base.specs.declared.refused.Stop.TheVariants as causes;
+ghost use Rattle.kp_base.specs.Files.{most_bytes};
 ghost use Rattle.kp_run_prepare.specs.Refusing.{EndsBy};
 ghost use Rattle.kp_run_inputs.specs.Actions.{named_with, AnswersActions, AnswersSteps};
 
@@ -62,8 +63,8 @@ fn numbers_of(alloc: Global, ground: &Ground, steps: Row<PlanStep>) -> Result<Ro
 /// which a command ends that has none.
 pub fn actions_of(alloc: Global, ground: &Ground, plan: Got) -> Result<Row<u32>, Early>
     requires ground { IsOfItsAtoms ground.now }
-    requires within { IsWithin 16777216 plan }
-    ensures answers { (text : List ℕ) → IsFront (Some text) 16777216 plan → AnswersActions ground.now text result }
+    requires within { IsWithin most_bytes plan }
+    ensures answers { (text : List ℕ) → IsFront (Some text) most_bytes plan → AnswersActions ground.now text result }
     ensures inside { IfOk result (λ ns. list_all (λ n. nat_lt n (length ground.now.actions)) ns ≡ true) }
     ensures few { IfOk result (λ ns. length ns < 2147483648) }
 {

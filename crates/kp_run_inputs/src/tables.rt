@@ -2,6 +2,7 @@ ghost use Rattle.std.specs.Prelude.{◌≡◌, ◌∷◌, ℕ, List, [], Some, t
 ghost use Rattle.std.specs.List.{list_all};
 ghost use Rattle.kp_base.specs.declared.ground.Initial.{Initial as Formula};
 ghost use Rattle.kp_base.specs.Entailed.{IsTable, AreValid, HaveSameModels};
+ghost use Rattle.kp_base.specs.Files.{most_bytes};
 ghost use Rattle.kp_outside.specs.Outside.{IsFront, IsWithin};
 ghost use Rattle.kp_primes.specs.Held.{formula};
 ghost use Rattle.kp_relevance.specs.Relevant.{ArePairsOf};
@@ -56,9 +57,9 @@ fn table_for(alloc: Global, prepared: &Prepared, merges: &Row<FileMerge>) -> Res
 
 // The table of a file of merges, of which at most 16,777,216 bytes were read.
 fn table_with(alloc: Global, prepared: &Prepared, merges: Got) -> Result<TagTable, Early>
-    requires within { IsWithin 16777216 merges }
+    requires within { IsWithin most_bytes merges }
     requires usable { IsUsable prepared.now }
-    ensures { (name text : List ℕ) (j : Formula) → IsFront (Some text) 16777216 merges → HaveSameModels (formula prepared.now.primes) j → AnswersTable prepared.now.ground j (of_file name) (text ∷ []) result }
+    ensures { (name text : List ℕ) (j : Formula) → IsFront (Some text) most_bytes merges → HaveSameModels (formula prepared.now.primes) j → AnswersTable prepared.now.ground j (of_file name) (text ∷ []) result }
 {
     if merges.more {
         return Err(ended_by(alloc, Stop::Refused(Refused::TooLong(Part::Merges))));

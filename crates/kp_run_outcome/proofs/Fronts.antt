@@ -1,13 +1,13 @@
 -- What is put and what is read while a front of a list is done.
-use Rattle.std.proofs.Common.{◌≡◌, ◌<◌, ◌≤◌, ◌+◌, ◌++◌, ℕ, Bool, true, false, nat_lt, IsTrue, subst, arith, suc, add-one, List, [], ◌∷◌, Option, Some, None, map, drop, take, min, get_or, length, refl, sym, ap, ◌∙◌, drop-cons}
+use Rattle.std.proofs.Common.{◌≡◌, ◌<◌, ◌≤◌, ◌+◌, ◌++◌, ℕ, Bool, true, false, nat_lt, subst, arith, suc, add-one, List, [], ◌∷◌, Option, Some, None, map, drop, take, get_or, length, refl, sym, ap, ◌∙◌, drop-cons}
 use Rattle.std.specs.FinMap.{get}
 use Rattle.std.proofs.lemmas.List.{take_all, take_at, length-append, length-take, length-take-le}
 use Rattle.std.proofs.lemmas.Bool.Decides.{nat_tests}
 use Rattle.kp_outside.specs.declared.outside.Got.{Got}
-use Rattle.kp_outside.specs.Outside.{FileMap, Gets, IsFront, IsWithin, with_file, without_file, Rises}
+use Rattle.kp_outside.specs.Outside.{FileMap, Gets, IsFront, IsWithin, with_file}
 use Rattle.kp_run_outcome.specs.declared.outcome.FilePut.{FilePut}
 use Rattle.kp_base.specs.Files.{most_bytes}
-use Rattle.kp_run_outcome.specs.Ends.{with_files, StopsAt, AreHeld, AreFronts, none, also, AreRead, GetFails}
+use Rattle.kp_run_outcome.specs.Ends.{with_files, AreHeld, AreFronts, none, also, AreRead}
 
 -- ---- lists
 
@@ -15,10 +15,6 @@ use Rattle.kp_run_outcome.specs.Ends.{with_files, StopsAt, AreHeld, AreFronts, n
 moved : {X : Type 0} (front : List X) (x : X) (rest : List X) → front ++ (x ∷ rest) ≡ (front ++ (x ∷ [])) ++ rest
 moved [] x rest = refl
 moved (y ∷ ys) x rest = ap (y ∷◌) (moved ys x rest)
-
-to_end : {X : Type 0} (xs : List X) → xs ++ [] ≡ xs
-to_end [] = refl
-to_end (x ∷ xs) = ap (x ∷◌) (to_end xs)
 
 -- what is left at a place begins with the item there
 pub left_at : {X : Type 0} (xs : List X) (i : ℕ) (x : X) → i < length xs → x ≡ get_or xs i x → drop i xs ≡ x ∷ drop (i + 1) xs
@@ -40,26 +36,12 @@ put_last : (held : Option FileMap) (front : List FilePut) (f : FilePut) → with
 put_last held [] f = refl
 put_last held (x ∷ xs) f = put_last (with_file held x.name x.content) xs f
 
-pub begin_puts : (old : Option FileMap) (puts : List FilePut) → ArePut old old puts puts
-begin_puts old puts = record { front = []; in_order = refl; held = refl }
-
 pub put_next : (old now new : Option FileMap) (puts rest : List FilePut) (f : FilePut) → new ≡ with_file now f.name f.content → ArePut old now puts (f ∷ rest) → ArePut old new puts rest
 put_next old now new puts rest f is h = record {
   front = h.front ++ (f ∷ []);
   in_order = h.in_order ∙ moved h.front f rest;
   held = is ∙ (ap (λ m. with_file m f.name f.content) h.held ∙ sym (put_last old h.front f));
 }
-
-pub put_stops : (old now new : Option FileMap) (puts rest : List FilePut) (f : FilePut) → without_file new f.name ≡ without_file now f.name → ArePut old now puts (f ∷ rest) → StopsAt puts old new f
-put_stops old now new puts rest f others h = record {
-  front = h.front;
-  rest = rest;
-  in_order = h.in_order;
-  others = others ∙ ap (λ m. without_file m f.name) h.held;
-}
-
-pub all_put : (old now : Option FileMap) (puts rest : List FilePut) → rest ≡ [] → ArePut old now puts rest → now ≡ with_files old puts
-all_put old now puts rest is h = h.held ∙ ap (with_files old) (sym (h.in_order ∙ (ap (h.front ++◌) is ∙ to_end h.front)))
 
 -- ---- gets
 

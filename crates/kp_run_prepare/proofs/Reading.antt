@@ -7,6 +7,7 @@ use Rattle.kp_base.specs.declared.refused.Refused.{Refused}
 use Rattle.kp_base.specs.declared.refused.Refused.TheVariants as refusals
 use Rattle.kp_base.specs.declared.refused.Stop.{Stop}
 use Rattle.kp_base.specs.declared.refused.Stop.TheVariants as causes
+use Rattle.kp_base.specs.Files.{most_bytes}
 use Rattle.kp_tree_grammar.specs.declared.tree.Word.{Word}
 use Rattle.kp_tree_grammar.specs.Grammar as grammar
 use Rattle.kp_tree_grammar.specs.Sorts.{Sort, El}
@@ -24,7 +25,7 @@ pub whole : (most : ℕ) (text bytes : List ℕ) (more : Bool) → bytes ≡ tak
 whole most text bytes more front is none = front ∙ take_all most text (grind (arith, nat_tests))
 
 -- a file of more bytes is too long, whatever it is to be
-pub too_long : (part : Part) {b : Bool} {c : Sort} (X : Form b c) (most : ℕ) (text : List ℕ) (more : Bool) → most ≡ 16777216 → more ≡ nat_lt most (length text) → more ≡ true → Refuses part X text (refusals.TooLong part)
+pub too_long : (part : Part) {b : Bool} {c : Sort} (X : Form b c) (most : ℕ) (text : List ℕ) (more : Bool) → most ≡ most_bytes → more ≡ nat_lt most (length text) → more ≡ true → Refuses part X text (refusals.TooLong part)
 too_long part X most text more m is true_ = Refuses.too_long (grind (arith, nat_tests))
 
 -- what is told of a file that is refused

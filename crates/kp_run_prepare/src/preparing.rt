@@ -4,6 +4,7 @@ ghost use Rattle.kp_base.specs.declared.refused.Stop.TheVariants as causes;
 ghost use Rattle.kp_base.specs.Implicates.{IsOfItsAtoms};
 ghost use Rattle.kp_base.specs.Exclusive.{IsClashFree};
 ghost use Rattle.kp_base.specs.Counted.{IsCounted};
+ghost use Rattle.kp_base.specs.Files.{most_bytes};
 ghost use Rattle.kp_names_meaning.specs.Numbered.{Lifted as Numbers};
 ghost use Rattle.kp_ground_meaning.specs.Ground.{ground_of};
 ghost use Rattle.kp_init.specs.Initial.{initial_of};
@@ -98,10 +99,10 @@ fn on_problem(alloc: Global, implicates: u32, lifted: &Lifted) -> Result<Prepare
 /// The ground problem and the prime implicates with which a command goes on, from the contents of its two
 /// files, at most 16,777,216 bytes of each of which were read; or the outcome with which it ends early.
 pub fn prepare(alloc: Global, implicates: u32, domain: Got, problem: Got) -> Result<Prepared, Early>
-    requires domain { IsWithin 16777216 domain }
-    requires problem { IsWithin 16777216 problem }
+    requires domain { IsWithin most_bytes domain }
+    requires problem { IsWithin most_bytes problem }
     ensures usable { IfOk result IsUsable }
-    ensures answers { (d p : List ℕ) → IsFront (Some d) 16777216 domain → IsFront (Some p) 16777216 problem → AnswersPrepared implicates d p result }
+    ensures answers { (d p : List ℕ) → IsFront (Some d) most_bytes domain → IsFront (Some p) most_bytes problem → AnswersPrepared implicates d p result }
 {
     match read_files(alloc, domain, problem) {
         Ok(lifted) => on_problem(alloc, implicates, &lifted),

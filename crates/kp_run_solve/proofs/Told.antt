@@ -6,12 +6,9 @@ use Rattle.kp_base.specs.declared.ground.Ground.{Ground}
 use Rattle.kp_base.specs.declared.ground.GroundName.{GroundName}
 use Rattle.kp_base.specs.declared.ground.Initial.{Initial}
 use Rattle.kp_base.specs.declared.ground.TagTable.{TagTable}
-use Rattle.kp_base.specs.declared.lit.Lit.{Lit}
-use Rattle.kp_base.specs.Covering.{AreUncovered}
 use Rattle.kp_base.specs.ActionNames.{action_name}
-use Rattle.kp_run_messages.specs.Searches.{no_plan_text}
 use Rattle.kp_search.specs.declared.found.Found.{Found}
-use Rattle.kp_search.specs.declared.found.Found.TheVariants.{Plan, NoPlan}
+use Rattle.kp_search.specs.declared.found.Found.TheVariants.{Plan}
 use Rattle.kp_classic.specs.declared.task.Task.{Task}
 use Rattle.kp_law_ktask.specs.Task.{task_of}
 use Rattle.kp_ktask.specs.Translated.{FitsLimits, RefusesTask}
@@ -19,7 +16,7 @@ use Rattle.kp_run_messages.specs.Refusals.{nothing}
 use Rattle.kp_run_outcome.specs.declared.outcome.Outcome.{Outcome}
 use Rattle.kp_run_prepare.specs.Refusing.{refuses}
 use Rattle.kp_run_prepare.specs.Prepared.{usual}
-use Rattle.kp_run_solve.specs.Solving.{Finds, solves, denies, AreNamed, TellsSolved, TellsClassical, SolvesGround, over, searched, SolvesClassical}
+use Rattle.kp_run_solve.specs.Solving.{Finds, solves, AreNamed, TellsSolved, TellsClassical, SolvesGround, over, searched, SolvesClassical}
 
 -- a task is refused
 pub task_refused : (name : Option (List ℕ)) (budget : ℕ) (g : Ground) (i : Initial) (table : TagTable) (x : Refused) (r : Result Outcome Memory) → RefusesTask (task_of g table) usual x → IfOk r (λ o. o ≡ refuses nothing x) → IfOk r (SolvesGround name budget g i table)
@@ -42,11 +39,6 @@ told_operators name g table ops written plan (Err m) named is = tt
 pub told_actions : (g : Ground) (ops : List ℕ) (n : ℕ) (plan : List GroundName) (r : Result Outcome Memory) → map (action_name g) ops ≡ map Some plan → IfOk r (λ o. o ≡ solves None [] plan) → IfOk r (TellsClassical g (Plan ops n))
 told_actions g ops n plan (Ok o) names is = (plan, names, is)
 told_actions g ops n plan (Err m) names is = tt
-
--- that there is none
-pub told_none : (name : Option (List ℕ)) (g : Ground) (i : Initial) (table : TagTable) (ls : List Lit) (r : Result Outcome Memory) → AreUncovered g i table ls → IfOk r (λ o. o ≡ denies (no_plan_text ls)) → IfOk r (TellsSolved name g i table NoPlan)
-told_none name g i table ls (Ok o) are is = (ls, are, is)
-told_none name g i table ls (Err m) are is = tt
 
 -- what is found in a classical task is told
 pub found_told : (budget : ℕ) (g : Ground) (task : Task) (found : Found) (r : Result Outcome Memory) → Finds task budget found → IfOk r (TellsClassical g found) → IfOk r (SolvesClassical budget g task)

@@ -4,8 +4,6 @@
 
 mod domain;
 mod report;
-mod table;
 mod translation;
 
-pub use table::empty_tag;
 pub use translation::{Translation, translation_with};

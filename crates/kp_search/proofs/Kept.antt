@@ -3,6 +3,7 @@ use Rattle.std.proofs.Common.{◌≡◌, ◌<◌, ◌+◌, ℕ, Bool, true, fals
 use Rattle.std.proofs.lemmas.Bool.{and_parts, and_from, eqb-true, eq-eqb, ne_eqb, not-true, cases_eq, false≢true, and_left, and_right}
 use Rattle.std.proofs.lemmas.Option.{slice_get_past}
 use Rattle.std.proofs.lemmas.List.{length-append}
+use Rattle.kp_base.proofs.Places.{get_left}
 use Rattle.kp_classic.specs.declared.task.Task.{Task}
 use Rattle.kp_search.specs.declared.course.Origin.{Origin}
 use Rattle.kp_search.specs.declared.course.Origin.TheVariants.{Start, Step}
@@ -11,7 +12,7 @@ use Rattle.kp_search.specs.declared.course.Search.{Search}
 use Rattle.kp_search.specs.Queue.{same_key, times}
 use Rattle.kp_search.specs.Trace.{Entry, Course, is_taken, Waits}
 use Rattle.kp_search.specs.Kept.{Adds, ComesFrom, fits_key, waits, Keeps}
-use Rattle.kp_search.proofs.Slices.{slice_left, slice_last, slice_pushed, slice_parts}
+use Rattle.kp_search.proofs.Slices.{slice_last, slice_pushed, slice_parts}
 
 one : Bool → ℕ
 one b = cond b 1 0
@@ -38,7 +39,7 @@ waits_from c n e w =
 
 more_origin : (t : Task) (c : Course) (new : Entry) (n : ℕ) (e : Entry) (o : Origin) → ComesFrom t c n e o → ComesFrom t (record { entries = c.entries ++ new ∷ []; taken = c.taken; expanded = c.expanded }) n e o
 more_origin t c new n e Start h = h
-more_origin t c new n e (Step k op) (m, d, a, b, r, q, x, y) = (m, d, a, slice_left c.entries (new ∷ []) m d b, r, q, x, y)
+more_origin t c new n e (Step k op) (m, d, a, b, r, q, x, y) = (m, d, a, get_left c.entries (new ∷ []) m d b, r, q, x, y)
 
 waits_more : (c : Course) (e : Entry) (taken_in : (n : ℕ) → is_taken c n ≡ true → n < length c.entries) (y : Key)
     → (if same_key y (record { estimate = e.estimate; number = length c.entries }) then 1 else 0) + (if waits c y then 1 else 0)
@@ -104,7 +105,7 @@ keeps_added t c s s' e o k a from = record {
     origins n d h = elim (slice_parts c.entries e n d h) [
       | inl g ↦
           let r = k.origins n d g in
-          (r.0, ap (λ xs. slice_get xs n) a.origins ∙ slice_left s.origins.items (o ∷ []) n r.0 r.1, more_origin t c e n d r.0 r.2)
+          (r.0, ap (λ xs. slice_get xs n) a.origins ∙ get_left s.origins.items (o ∷ []) n r.0 r.1, more_origin t c e n d r.0 r.2)
       | inr g ↦ (
         o,
         ap (λ xs. slice_get xs n) a.origins ∙ (ap (slice_get (s.origins.items ++ o ∷ [])) (g.0 ∙ sym k.long) ∙ slice_last s.origins.items o),

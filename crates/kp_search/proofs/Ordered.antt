@@ -8,11 +8,12 @@ use Rattle.std.proofs.lemmas.List.Edits.{get_or-insert_at, get_or-insert_below, 
 use Rattle.std.proofs.lemmas.Option.{slice_get_within, slice_get-get_or, get_or_from_slice_get, same_Some}
 use Rattle.kp_base.specs.Lists.{Member}
 use Rattle.kp_base.proofs.Lists.{append_member, member_at}
+use Rattle.kp_base.proofs.Places.{get_left}
 use Rattle.kp_classic.specs.States.{FactSet, has, IsBefore}
 use Rattle.kp_classic.proofs.Public.{state_never_before_itself}
 use Rattle.kp_search.specs.StateTables.{StateList, with_state}
 use Rattle.kp_search.specs.Sorted.{StandsAt, IsOrderOf, AreBefore, IsBeforeRest, IsGap, IsWhole}
-use Rattle.kp_search.proofs.Slices.{slice_left, slice_last, slice_parts, read_at}
+use Rattle.kp_search.proofs.Slices.{slice_last, slice_parts, read_at}
 
 before_trans : (a b c : FactSet) → IsBefore a b → IsBefore b c → IsBefore a c
 before_trans a b c p q = elim (cases_order p.fact q.fact) [
@@ -94,7 +95,7 @@ module _ (states : List FactSet) (order : List ℕ) (o : IsOrderOf order states)
 
   module _ (s : FactSet) where
     stays : (at : ℕ) (a : FactSet) → StandsAt states order at a → StandsAt (states ++ s ∷ []) order at a
-    stays at a p = record { place = p.place; there = p.there; state = slice_left states (s ∷ []) p.place a p.state }
+    stays at a p = record { place = p.place; there = p.there; state = get_left states (s ∷ []) p.place a p.state }
 
     in_old : (place : ℕ) (a : FactSet) → place < length states → slice_get (states ++ s ∷ []) place ≡ Some a → slice_get states place ≡ Some a
     in_old place a lt h = elim (slice_parts states s place a h) [
@@ -152,8 +153,8 @@ module _ (states : List FactSet) (order : List ℕ) (o : IsOrderOf order states)
         where
           moved : (at : ℕ) (a : FactSet) → StandsAt states order at a → (k : ℕ) × StandsAt (states ++ s ∷ []) grown k a
           moved at a p = elim (cases_lt at gap) [
-            | inl lt ↦ (at, record { place = p.place; there = insert_below order gap (length states) at p.place g.in_range lt p.there; state = slice_left states (s ∷ []) p.place a p.state })
-            | inr ge ↦ (at + 1, record { place = p.place; there = insert_above order gap (length states) at p.place g.in_range ge p.there; state = slice_left states (s ∷ []) p.place a p.state })
+            | inl lt ↦ (at, record { place = p.place; there = insert_below order gap (length states) at p.place g.in_range lt p.there; state = get_left states (s ∷ []) p.place a p.state })
+            | inr ge ↦ (at + 1, record { place = p.place; there = insert_above order gap (length states) at p.place g.in_range ge p.there; state = get_left states (s ∷ []) p.place a p.state })
           ]
 
   -- a search tells whether the state is one of the table

@@ -1,15 +1,10 @@
 -- Elements of a list that grows at its end.
-use Rattle.std.proofs.Common.{◌≡◌, ◌<◌, ◌≤◌, ◌+◌, ◌⊎◌, ℕ, zero, suc, get_or, drop, List, [], ◌∷◌, ◌++◌, Some, length, slice_get, arith, refl, ap, ◌∙◌, inl, inr}
+use Rattle.std.proofs.Common.{◌≡◌, ◌<◌, ◌+◌, ◌⊎◌, ℕ, zero, suc, get_or, List, [], ◌∷◌, ◌++◌, Some, length, slice_get, arith, refl, ap, ◌∙◌, inl, inr}
 use Rattle.std.proofs.lemmas.Option.{slice_get_read}
 
 -- what a read gives
 pub read_at : {X : Type 0} (xs : List X) (i : ℕ) (x y : X) → i < length xs → x ≡ get_or xs i x → x ≡ y → slice_get xs i ≡ Some y
 read_at xs i x y lt e is = slice_get_read xs (length xs) i x refl lt e ∙ ap Some is
-
-pub slice_left : {X : Type 0} (xs ys : List X) (i : ℕ) (x : X) → slice_get xs i ≡ Some x → slice_get (xs ++ ys) i ≡ Some x
-slice_left [] ys i x h = cc
-slice_left (z ∷ xs) ys zero x h = h
-slice_left (z ∷ xs) ys (suc i) x h = slice_left xs ys i x h
 
 pub slice_last : {X : Type 0} (xs : List X) (x : X) → slice_get (xs ++ x ∷ []) (length xs) ≡ Some x
 slice_last [] x = refl
@@ -41,9 +36,3 @@ slice_split (z ∷ xs) ys (suc i) x h = elim (slice_split xs ys i x h) [
   | inl e ↦ inl e
   | inr e ↦ let n = e.1 in inr (e.0, omega (arith, n), e.2)
 ]
-
-pub drop_end : {X : Type 0} (xs : List X) (i : ℕ) → length xs ≤ i → drop i xs ≡ []
-drop_end [] zero h = refl
-drop_end [] (suc i) h = refl
-drop_end (x ∷ xs) zero h = absurd (omega (arith, h))
-drop_end (x ∷ xs) (suc i) h = drop_end xs i (omega (arith, h))

@@ -3,6 +3,7 @@ use Rattle.std.proofs.Common.{◌≡◌, ◌<◌, ◌+◌, ◌⊎◌, ℕ, suc, 
 use Rattle.std.proofs.lemmas.Bool.{or_cases, or_left, or_right, eqb-true, eq-eqb, false≢true, cases_Bool, cases_eq}
 use Rattle.std.proofs.lemmas.Option.{slice_get_within, same_Some}
 use Rattle.std.proofs.lemmas.List.{length-append}
+use Rattle.kp_base.proofs.Places.{get_left}
 use Rattle.kp_classic.specs.declared.task.Task.{Task}
 use Rattle.kp_classic.specs.Fits.{IsFit}
 use Rattle.kp_classic.specs.States.{FactSet, has}
@@ -11,7 +12,7 @@ use Rattle.kp_search.specs.Trace.{Entry, Course, first, can, step, is_goal, entr
 use Rattle.kp_search.specs.Trace.Enters.{none, off, dead, enter}
 use Rattle.kp_search.specs.Trace.IsCourse.{lost, begun, passed, spread}
 use Rattle.kp_search.specs.Sound.{Entered, Expanded, IsLed, IsSoundCourse}
-use Rattle.kp_search.proofs.Slices.{slice_left, slice_last, slice_parts, slice_right, slice_split}
+use Rattle.kp_search.proofs.Slices.{slice_last, slice_parts, slice_right, slice_split}
 use Rattle.kp_search.proofs.States.{led_first, led_on, can_within, plan_of_first, plan_of_step}
 
 module _ (t : Task) (fit : IsFit t) (may : FactSet → Option ℕ → Type 0) where
@@ -45,7 +46,7 @@ module _ (t : Task) (fit : IsFit t) (may : FactSet → Option ℕ → Type 0) wh
     | inl here ↦ inr (length old, entry_after t e j v, slice_last old _, ap (λ i. step t i e.state) (sym here))
     | inr apart ↦ elim (enters_all e j old r op (below op j lt apart) c) [
       | inl g ↦ inl g
-      | inr g ↦ inr (g.0, g.1, slice_left old _ g.0 g.1 g.2, g.3)
+      | inr g ↦ inr (g.0, g.1, get_left old _ g.0 g.1 g.2, g.3)
     ]
   ]
     where
@@ -55,17 +56,17 @@ module _ (t : Task) (fit : IsFit t) (may : FactSet → Option ℕ → Type 0) wh
   -- ---- a state that is expanded stays so, and one that was entered too
 
   expanded_stays : (c : Course) (n : ℕ) (new : List Entry) (k : ℕ) (s : FactSet) → Expanded c k s → Expanded (with_expanded c n new) k s
-  expanded_stays c n new k s (m, d, a, b, e) = (m, d, slice_left c.expanded (n ∷ []) k m a, slice_left c.entries new m d b, e)
+  expanded_stays c n new k s (m, d, a, b, e) = (m, d, get_left c.expanded (n ∷ []) k m a, get_left c.entries new m d b, e)
 
   entered_stays : (c : Course) (n : ℕ) (new : List Entry) (s : FactSet) → Entered c s → Entered (with_expanded c n new) s
-  entered_stays c n new s (m, d, b, e) = (m, d, slice_left c.entries new m d b, e)
+  entered_stays c n new s (m, d, b, e) = (m, d, get_left c.entries new m d b, e)
 
   -- what is expanded then was so before, or is the new one
   expanded_was : (c : Course) (inside : (n : ℕ) → is_taken c n ≡ true → n < length c.entries) (all : (k m : ℕ) → slice_get c.expanded k ≡ Some m → is_taken c m ≡ true)
       (n : ℕ) (e : Entry) (new : List Entry) → slice_get c.entries n ≡ Some e → (k : ℕ) (s : FactSet) → Expanded (with_expanded c n new) k s → Expanded c k s ⊎ ((k ≡ length c.expanded) × (e.state ≡ s))
   expanded_was c inside all n e new there k s (m, d, a, b, f) = elim (slice_parts c.expanded n k m a) [
     | inl g ↦ inl (m, d, g, old_entry m d (inside m (all k m g)) b, f)
-    | inr g ↦ inr (g.0, ap (λ (z : Entry). z.state) (same_Some e d (sym (slice_left c.entries new n e there) ∙ (ap (slice_get (c.entries ++ new)) (sym g.1) ∙ b))) ∙ f)
+    | inr g ↦ inr (g.0, ap (λ (z : Entry). z.state) (same_Some e d (sym (get_left c.entries new n e there) ∙ (ap (slice_get (c.entries ++ new)) (sym g.1) ∙ b))) ∙ f)
   ]
     where
       old_entry : (m : ℕ) (d : Entry) → m < length c.entries → slice_get (c.entries ++ new) m ≡ Some d → slice_get c.entries m ≡ Some d

@@ -2,6 +2,7 @@
 use Rattle.std.proofs.Common.{◌≡◌, ◌<◌, ◌+◌, ℕ, suc, true, false, List, [], ◌∷◌, ◌++◌, Option, Some, None, length, slice_get, arith, refl, sym, subst}
 use Rattle.std.proofs.lemmas.List.{length-append, append_assoc}
 use Rattle.std.proofs.lemmas.Option.{slice_get_within}
+use Rattle.kp_base.proofs.Places.{get_left}
 use Rattle.kp_classic.specs.declared.task.Task.{Task}
 use Rattle.kp_search.specs.declared.course.Origin.TheVariants.{Step}
 use Rattle.kp_search.specs.declared.course.Search.{Search}
@@ -11,7 +12,7 @@ use Rattle.kp_search.specs.Trace.Enters.{none, off, dead, enter}
 use Rattle.kp_search.specs.Kept.{ComesFrom, Keeps}
 use Rattle.kp_search.specs.Turns.{Expanding, Spreads, Tries}
 use Rattle.kp_search.specs.Turns.Tries.{off as try_off, dead as try_dead, enters as try_enters}
-use Rattle.kp_search.proofs.Slices.{slice_left, slice_last}
+use Rattle.kp_search.proofs.Slices.{slice_last}
 use Rattle.kp_search.proofs.Kept.{keeps_added}
 
 module _ (t : Task) (may : FactSet → Option ℕ → Type 0) (k : ℕ) (state : FactSet) (old : Search) where
@@ -29,7 +30,7 @@ module _ (t : Task) (may : FactSet → Option ℕ → Type 0) (k : ℕ) (state :
       let long = length-append c.entries entries in
       let within = slice_get_within c.entries n e x.there in
       let from : ComesFrom t (with_expanded c n entries) (length (c.entries ++ entries)) d (Step k op) =
-      (n, e, subst (λ i. slice_get (c.expanded ++ n ∷ []) i ≡ Some n) (sym x.place) (slice_last c.expanded n), slice_left c.entries entries n e x.there, omega (arith, long, within), lt, refl, refl) in (
+      (n, e, subst (λ i. slice_get (c.expanded ++ n ∷ []) i ≡ Some n) (sym x.place) (slice_last c.expanded n), get_left c.entries entries n e x.there, omega (arith, long, within), lt, refl, refl) in (
         entries ++ d ∷ [],
         enter op entries h en (subst (λ s. can t op s ≡ true) (sym x.same) can_it) (subst (λ s. may (step t op s) (Some h)) (sym x.same) m),
         subst (λ es. Keeps t (record { entries = es; taken = n ∷ c.taken; expanded = c.expanded ++ n ∷ [] }) new) (append_assoc c.entries entries (d ∷ [])) (keeps_added t (with_expanded c n entries) mid new d (Step k op) kept adds from),

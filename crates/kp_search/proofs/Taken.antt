@@ -3,6 +3,7 @@ use Rattle.std.proofs.Common.{◌≡◌, ◌<◌, ◌≤◌, ◌+◌, ◌⊎◌,
 use Rattle.std.proofs.lemmas.Bool.{and_from, or_cases, eqb-true, eq-eqb, false≢true, and_right}
 use Rattle.std.proofs.lemmas.Option.{slice_get_within, same_Some}
 use Rattle.std.proofs.lemmas.List.{length-append, append-nil}
+use Rattle.kp_base.proofs.Places.{get_left}
 use Rattle.kp_classic.specs.declared.task.Task.{Task}
 use Rattle.kp_search.specs.declared.course.Origin.{Origin}
 use Rattle.kp_search.specs.declared.course.Origin.TheVariants.{Start, Step}
@@ -12,7 +13,7 @@ use Rattle.kp_search.specs.Queue.{same_key, times, IsBefore}
 use Rattle.kp_search.specs.Trace.{Entry, Course, is_taken, Waits, IsNext, with_taken, with_expanded}
 use Rattle.kp_search.specs.Kept.{ComesFrom, fits_key, waits, Keeps, Pops, Expands}
 use Rattle.kp_search.proofs.Keys.{key_same}
-use Rattle.kp_search.proofs.Slices.{slice_left, slice_last, slice_parts}
+use Rattle.kp_search.proofs.Slices.{slice_last, slice_parts}
 use Rattle.kp_search.proofs.Kept.{waits_is, waits_from}
 
 -- how often a key stands in the queue, by whether it waits
@@ -113,7 +114,7 @@ keeps_popped t c s s' key k p = record {
 
 expand_origin : (t : Task) (c : Course) (m n : ℕ) (e : Entry) (o : Origin) → ComesFrom t (with_taken c m) n e o → ComesFrom t (record { entries = c.entries; taken = m ∷ c.taken; expanded = c.expanded ++ m ∷ [] }) n e o
 expand_origin t c m n e Start h = h
-expand_origin t c m n e (Step k op) (j, d, a, b, r, q, x, y) = (j, d, slice_left c.expanded (m ∷ []) k j a, b, r, q, x, y)
+expand_origin t c m n e (Step k op) (j, d, a, b, r, q, x, y) = (j, d, get_left c.expanded (m ∷ []) k j a, b, r, q, x, y)
 
 pub keeps_expanded : (t : Task) (c : Course) (s s' : Search) (n : ℕ) (e : Entry) → Keeps t (with_taken c n) s → slice_get c.entries n ≡ Some e → Expands s n e.state s' → Keeps t (with_expanded c n []) s'
 keeps_expanded t c s s' n e k there x = subst (λ es. Keeps t (record { entries = es; taken = n ∷ c.taken; expanded = c.expanded ++ n ∷ [] }) s') (sym (append-nil c.entries)) (record {
@@ -124,7 +125,7 @@ keeps_expanded t c s s' n e k there x = subst (λ es. Keeps t (record { entries 
   facts = x.facts ∙ k.facts;
   tables = ap length x.states ∙ (length-append s.table.states (e.state ∷ []) ∙ (ap (λ m. m + 1) k.tables ∙ sym (length-append c.expanded (n ∷ []))));
   states = λ i m d a b. elim (slice_parts c.expanded n i m a) [
-    | inl h ↦ ap (λ xs. slice_get xs i) x.states ∙ slice_left s.table.states (e.state ∷ []) i d.state (k.states i m d h b)
+    | inl h ↦ ap (λ xs. slice_get xs i) x.states ∙ get_left s.table.states (e.state ∷ []) i d.state (k.states i m d h b)
     | inr h ↦
         let same : e ≡ d = same_Some e d (sym there ∙ (ap (slice_get c.entries) (sym h.1) ∙ b)) in
         ap (λ xs. slice_get xs i) x.states ∙ (ap (slice_get (s.table.states ++ e.state ∷ [])) (h.0 ∙ sym k.tables) ∙ (slice_last s.table.states e.state ∙ ap (λ (z : Entry). Some z.state) same))

@@ -1,5 +1,5 @@
 -- Rows of tags with their closures.
-use Rattle.std.proofs.Common.{◌≡◌, ◌+◌, ℕ, List, [], ◌∷◌, ◌++◌, Some, map, take, slice_get, refl, sym, ap, ap₂, subst, ◌∙◌, inl, inr}
+use Rattle.std.proofs.Common.{◌≡◌, ◌+◌, ℕ, List, [], ◌∷◌, ◌++◌, Some, map, take, slice_get, sym, ap, ap₂, subst, ◌∙◌, inl, inr}
 use Rattle.std.proofs.lemmas.List.{map-append}
 use Rattle.kp_base.specs.declared.lit.Lit.{Lit}
 use Rattle.kp_base.specs.declared.ground.TagRow.{TagRow}
@@ -12,9 +12,6 @@ use Rattle.kp_tags.specs.MergeTables.{HasClosure}
 use Rattle.kp_tags.specs.Kept.{AreRows, IsRowOf}
 use Rattle.kp_tags.proofs.Gathered.{set_again}
 use Rattle.kp_tags.proofs.Places.{take_next}
-
-pub no_rows : (atoms : ℕ) (i : Initial) → AreRows atoms i [] []
-no_rows atoms i = record { lits = refl; closed = λ row m. absurd m }
 
 -- with one tag more
 pub one_more : (atoms : ℕ) (i : Initial) (tags : List (List Lit)) (tag : List Lit) (rows : List TagRow) (row : TagRow) → AreRows atoms i tags rows → IsRowOf atoms i tag row → AreRows atoms i (tags ++ tag ∷ []) (rows ++ row ∷ [])

@@ -1,5 +1,5 @@
 -- Tags as a set keeps them.
-use Rattle.std.proofs.Common.{◌≡◌, Bool, true, false, if◌then◌else◌, List, [], ◌∷◌, ◌++◌, fold, map, refl, sym, ap, subst, ◌∙◌, inl, inr}
+use Rattle.std.proofs.Common.{◌≡◌, Bool, true, false, if◌then◌else◌, List, [], ◌∷◌, ◌++◌, fold, map, sym, ap, subst, ◌∙◌, inl, inr}
 use Rattle.std.specs.List.{list_any, flat_map}
 use Rattle.kp_base.specs.declared.lit.Lit.{Lit}
 use Rattle.kp_base.specs.Lists.{Member}
@@ -15,9 +15,6 @@ use Rattle.kp_tags.specs.MergeTables.{used_tags}
 use Rattle.kp_tags.specs.Kept.{AreSets, with_tag}
 
 -- ---- sets
-
-pub no_sets : AreSets []
-no_sets = record { each = λ t m. absurd m }
 
 pub sets_with : (tags : List (List Lit)) (t : List Lit) → AreSets tags → IsAscending t → AreSets (with_tag tags t)
 sets_with tags t sets s = by (list_any (same_set t) tags)
@@ -51,14 +48,6 @@ set_again ls s = same_members (set_of ls) ls (set_ascends ls) s
     (λ m h. has_contains (set_of ls) m (any-set_of (same_lit m) ls ∙ contains_has ls m h))
 
 -- ---- all tags of merges
-
-folded : (xs ys tags : List (List Lit)) → fold with_tag tags (xs ++ ys) ≡ fold with_tag (fold with_tag tags xs) ys
-folded [] ys tags = refl
-folded (x ∷ xs) ys tags = folded xs ys (with_tag tags x)
-
--- those of one merge come before those of the others
-pub next_merge : (m : FileMerge) (ms : List FileMerge) (tags : List (List Lit)) → fold with_tag tags (flat_map (λ m. m.tags) (m ∷ ms)) ≡ fold with_tag (fold with_tag tags m.tags) (flat_map (λ m. m.tags) ms)
-next_merge m ms tags = folded m.tags (flat_map (λ m. m.tags) ms) tags
 
 -- one by one they are those that are used
 pub all_used : (ms : List FileMerge) → fold with_tag (with_tag [] []) (flat_map (λ m. m.tags) ms) ≡ used_tags ms

@@ -1,10 +1,5 @@
 -- The elements of a list up to a place.
-use Rattle.std.proofs.Common.{◌≡◌, ◌+◌, ◌<◌, ℕ, zero, suc, List, [], ◌∷◌, ◌++◌, Some, take, length, get_or, slice_get, sym, ap, subst, arith}
-
-pub at_place : {X : Type 0} (xs : List X) (n : ℕ) (x : X) → n < length xs → x ≡ get_or xs n x → slice_get xs n ≡ Some x
-at_place [] n x lt e = absurd (omega arith)
-at_place (y ∷ ys) zero x lt e = ap Some (sym e)
-at_place (y ∷ ys) (suc n) x lt e = at_place ys n x (omega arith) e
+use Rattle.std.proofs.Common.{◌≡◌, ◌+◌, ℕ, zero, suc, List, [], ◌∷◌, ◌++◌, Some, take, slice_get, ap, subst, arith}
 
 take_suc : {X : Type 0} (xs : List X) (n : ℕ) (x : X) → slice_get xs n ≡ Some x → take (suc n) xs ≡ take n xs ++ x ∷ []
 take_suc [] n x h = cc

@@ -5,13 +5,9 @@ use Rattle.kp_tree_grammar.specs.declared.symbol.Symbol.{Symbol}
 use Rattle.kp_tree_grammar.specs.Symbols.{Tok, first_is, is_left}
 use Rattle.kp_tree_grammar.specs.Sorts.{Sort, s_pair, El, Maker}
 use Rattle.kp_tree_grammar.specs.Forms.{Form, hits, ◌▹◌, ◌▸◌, many, make, choose, bracket}
-use Rattle.kp_tree_grammar.specs.Reading.{At, Reads, Stops, StopBy, r_both, r_after, r_end, r_more, r_make, r_choice, r_bracket, s_token, s_nothing, s_first, s_second, s_before, s_after, s_here, s_later, s_lacks, s_at, s_next, s_present, s_make, s_none_there, s_choice, s_loose, s_unopened, s_inside, s_unclosed, s_within}
+use Rattle.kp_tree_grammar.specs.Reading.{At, Reads, Stops, r_both, r_after, r_end, r_more, r_make, r_choice, r_bracket, s_first, s_second, s_before, s_after, s_here, s_later, s_make, s_choice, s_unopened, s_inside, s_unclosed}
 use Rattle.kp_tree_grammar.proofs.Public.{stops_within, rest_is_no_longer, a_form_reads_once, form_never_both}
 use Rattle.kp_tags_merges.specs.Parts.{Reaches}
-
--- it comes to its first token
-pub comes_first : {b : Bool} {c : Sort} {X : Form b c} (ts : List (Tok Word)) → Reaches X ts ts
-comes_first ts = record { reads = λ x rest h. rest_is_no_longer ts rest h; stops = λ at h. stops_within h }
 
 -- ---- into brackets
 

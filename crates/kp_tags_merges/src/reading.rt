@@ -1,5 +1,6 @@
 ghost use Rattle.std.specs.Prelude.{◌<◌, ◌≤◌, length, IfOk, IfErr};
 ghost use Rattle.std.specs.List.{AllZip};
+ghost use Rattle.kp_base.specs.Files.{most_bytes};
 ghost use Rattle.kp_lex.specs.Cutting.{Cut};
 ghost use Rattle.kp_tree_grammar.specs.Symbols.{is_left as is_opening};
 ghost use Rattle.kp_tree_grammar.specs.Forms.{many};
@@ -159,7 +160,7 @@ fn read_on(
 
 // What ends the call where no merges were read.
 fn told(bytes: &[u8], tokens: &[Token], halt: Halt) -> Stop
-    requires short { length bytes.now ≤ 16777216 }
+    requires short { length bytes.now ≤ most_bytes }
     requires cut { Cut 0 bytes.now tokens.now }
     ensures { IsTold bytes.now tokens.now halt result }
 {
@@ -179,7 +180,7 @@ fn read_cut(
     tokens: &[Token],
     ground: &Ground,
 ) -> Result<Row<FileMerge>, Stop>
-    requires short { length bytes.now ≤ 16777216 }
+    requires short { length bytes.now ≤ most_bytes }
     requires few_atoms { length ground.now.atoms < 2147483648 }
     requires cut { Cut 0 bytes.now tokens.now }
     ensures { AnswersMergesFile ground.now.atoms bytes.now result }
@@ -196,7 +197,7 @@ fn read_cut(
 /// at the first token that is wrong: where it is no list of merges, or at the head of an atom that is no ground atom.
 /// Brackets may go as deep as they like.
 pub fn read_merges(alloc: Global, bytes: &[u8], ground: &Ground) -> Result<Row<FileMerge>, Stop>
-    requires short { length bytes.now ≤ 16777216 }
+    requires short { length bytes.now ≤ most_bytes }
     requires few_atoms { length ground.now.atoms < 2147483648 }
     ensures { AnswersMergesFile ground.now.atoms bytes.now result }
 {

@@ -1,11 +1,10 @@
 -- Targets one after the other.
-use Rattle.std.proofs.Common.{◌≡◌, ◌<◌, ◌≤◌, ◌+◌, ◌++◌, ℕ, zero, suc, true, false, List, [], ◌∷◌, Option, Some, Result, Ok, Err, map, take, drop, length, get_or, refl, sym, ap, subst, ◌∙◌, append_assoc, append-nil, inl, inr, arith}
+use Rattle.std.proofs.Common.{◌≡◌, ◌<◌, ◌≤◌, ◌+◌, ◌++◌, ℕ, zero, suc, List, [], ◌∷◌, Option, Some, Result, Ok, Err, map, take, drop, length, get_or, refl, sym, ap, subst, ◌∙◌, append_assoc, append-nil, inl, inr, arith}
 use Rattle.std.specs.Result.{IsErrAnd}
 use Rattle.kp_base.specs.declared.lit.Lit.{Lit}
 use Rattle.kp_base.specs.declared.ground.Ground.{Ground}
 use Rattle.kp_base.specs.declared.ground.Initial.{Initial}
 use Rattle.kp_base.specs.declared.limits.Mode.{Mode}
-use Rattle.kp_base.specs.declared.limits.Mode.TheVariants.{K0, K1, K2, K3, Models, Auto}
 use Rattle.kp_base.specs.declared.refused.Stop.{Stop}
 use Rattle.kp_base.specs.declared.refused.Stop.TheVariants as stops
 use Rattle.kp_base.specs.declared.refused.Refused.{Refused}
@@ -24,15 +23,6 @@ use Rattle.kp_tags_modes.specs.Answers.{RefusesFirst, RefusesMode, AnswersMode}
 use Rattle.kp_tags_modes.proofs.Behind.{next_is}
 use Rattle.kp_cover.proofs.Public.{target_is_below}
 use Rattle.kp_tags_modes.specs.Added.{Adds, AddsOrRefuses, AreByRelevance, IsRefusedByRelevance}
-
--- no mode tries sets of more than three clauses
-pub few_tried : (mode : Mode) (way : Way) → way_of mode ≡ Some way → way.greatest ≤ 3
-few_tried K0 way e = absurd (cc e)
-few_tried K1 way e = let g : record { greatest = 1; skips = false; by_models = false } ≡ way = cc e in subst (λ (w : Way). w.greatest ≤ 3) g (omega arith)
-few_tried K2 way e = let g : record { greatest = 2; skips = false; by_models = false } ≡ way = cc e in subst (λ (w : Way). w.greatest ≤ 3) g (omega arith)
-few_tried K3 way e = let g : record { greatest = 3; skips = false; by_models = false } ≡ way = cc e in subst (λ (w : Way). w.greatest ≤ 3) g (omega arith)
-few_tried Models way e = let g : record { greatest = 0; skips = true; by_models = true } ≡ way = cc e in subst (λ (w : Way). w.greatest ≤ 3) g (omega arith)
-few_tried Auto way e = let g : record { greatest = 3; skips = true; by_models = true } ≡ way = cc e in subst (λ (w : Way). w.greatest ≤ 3) g (omega arith)
 
 pub split_at : {X : Type 0} (xs : List X) (k : ℕ) (x : X) → k < length xs → x ≡ get_or xs k x → xs ≡ take k xs ++ x ∷ drop (k + 1) xs
 split_at [] k x lt is = absurd (omega (arith, lt))

@@ -1,21 +1,10 @@
 //! Texts of tasks.
 
 use crate::given::{cells, exchange, one_tag, tag_for_each};
-use kp_base::{Ground, Limits, Row, Stop, TagTable};
-use kp_ktask::translate;
-use kp_write::{domain_text, problem_text};
+use kp_base::{Limits, Row, Stop};
+use kp_run_translate::translation_with;
 use std::alloc::Global;
 use std::test::Fail;
-
-fn domain(alloc: Global, ground: &Ground, table: &TagTable) -> Result<Row<u8>, Stop> {
-    let task = translate(alloc, ground, table, &Limits::usual())?;
-    Ok(domain_text(alloc, &task)?)
-}
-
-fn problem(alloc: Global, ground: &Ground, table: &TagTable) -> Result<Row<u8>, Stop> {
-    let task = translate(alloc, ground, table, &Limits::usual())?;
-    Ok(problem_text(alloc, &task)?)
-}
 
 // Whether the bytes stand in the text somewhere.
 fn has(text: &Row<u8>, bytes: &[u8]) -> bool {
@@ -31,31 +20,31 @@ fn has(text: &Row<u8>, bytes: &[u8]) -> bool {
 fn domain_is(alloc: Global, expected: &[u8]) -> Result<bool, Stop> {
     let ground = exchange(alloc)?;
     let table = one_tag(alloc)?;
-    let text = domain(alloc, &ground, &table);
+    let texts = translation_with(alloc, &ground, &table, &Limits::usual());
     drop(table);
     drop(ground);
-    let text = text?;
-    Ok(text.slice() == expected)
+    let texts = texts?;
+    Ok(texts.domain.slice() == expected)
 }
 
 fn problem_is(alloc: Global, expected: &[u8]) -> Result<bool, Stop> {
     let ground = exchange(alloc)?;
     let table = one_tag(alloc)?;
-    let text = problem(alloc, &ground, &table);
+    let texts = translation_with(alloc, &ground, &table, &Limits::usual());
     drop(table);
     drop(ground);
-    let text = text?;
-    Ok(text.slice() == expected)
+    let texts = texts?;
+    Ok(texts.problem.slice() == expected)
 }
 
 fn tagged_has(alloc: Global, bytes: &[u8]) -> Result<bool, Stop> {
     let ground = cells(alloc)?;
     let table = tag_for_each(alloc)?;
-    let text = domain(alloc, &ground, &table);
+    let texts = translation_with(alloc, &ground, &table, &Limits::usual());
     drop(table);
     drop(ground);
-    let text = text?;
-    Ok(has(&text, bytes))
+    let texts = texts?;
+    Ok(has(&texts.domain, bytes))
 }
 
 #[test]

@@ -1,5 +1,6 @@
 ghost use Rattle.std.specs.Prelude.{◌≡◌, ◌≤◌, length, take};
 ghost use Rattle.kp_base.specs.declared.refused.Part.TheVariants as parts;
+ghost use Rattle.kp_base.specs.Files.{most_bytes};
 ghost use Rattle.kp_tree_grammar.specs.Grammar.{domain, problem};
 ghost use Rattle.kp_tree_grammar.specs.View.{domain_view, problem_view};
 ghost use Rattle.kp_tree.specs.Files.{AnswersFile};
@@ -24,7 +25,7 @@ fn beginning(bytes: &[u8], to: u32) -> &[u8]
 ///
 /// It is parsed in an arena, which is given up when the tree is copied out of it.
 pub fn read_domain(alloc: Global, bytes: &[u8]) -> Result<Domain, Stop>
-    requires { length bytes.now ≤ 16777216 }
+    requires { length bytes.now ≤ most_bytes }
     ensures { AnswersFile parts.Domain domain domain_view bytes.now result }
 {
     let Beginning { tokens, to } = tokens_within(alloc, Part::Domain, bytes, levels())?;
@@ -38,7 +39,7 @@ pub fn read_domain(alloc: Global, bytes: &[u8]) -> Result<Domain, Stop>
 ///
 /// It is parsed in an arena, which is given up when the tree is copied out of it.
 pub fn read_problem(alloc: Global, bytes: &[u8]) -> Result<Problem, Stop>
-    requires { length bytes.now ≤ 16777216 }
+    requires { length bytes.now ≤ most_bytes }
     ensures { AnswersFile parts.Problem problem problem_view bytes.now result }
 {
     let Beginning { tokens, to } = tokens_within(alloc, Part::Problem, bytes, levels())?;

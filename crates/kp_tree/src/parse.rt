@@ -1,6 +1,7 @@
 ghost use Rattle.std.specs.Prelude.{◌≡◌, ◌≤◌, length, IfErr};
 ghost use Rattle.kp_lex.specs.Cutting.{Cut};
 ghost use Rattle.kp_base.specs.declared.refused.Part.TheVariants as parts;
+ghost use Rattle.kp_base.specs.Files.{most_bytes};
 ghost use Rattle.kp_tree_grammar.specs.Depth.{levels};
 ghost use Rattle.kp_tree_grammar.specs.Grammar.{domain, problem};
 ghost use Rattle.kp_tree.specs.Files.{AnswersTokens, IsToldWithin};
@@ -26,7 +27,7 @@ pub(crate) fn levels() -> u32
 
 // What ends the call where no tree was read.
 fn told(part: Part, bytes: &[u8], tokens: &[Token], halt: Halt) -> Stop
-    requires short { length bytes.now ≤ 16777216 }
+    requires short { length bytes.now ≤ most_bytes }
     requires cut { Cut 0 bytes.now tokens.now }
     ensures told { IsTold part bytes.now tokens.now halt result }
     ensures within { IsToldWithin bytes.now result }
@@ -82,7 +83,7 @@ pub fn parse_domain<'a>(
     bytes: &[u8],
     tokens: &Row<Token>,
 ) -> Result<DomainNode<'a>, Stop>
-    requires short { length bytes.now ≤ 16777216 }
+    requires short { length bytes.now ≤ most_bytes }
     requires cut { Cut 0 bytes.now tokens.now }
     ensures answer { AnswersTokens parts.Domain domain domain_view bytes.now tokens.now result }
     ensures within { IfErr result (λ e. IsToldWithin bytes.now e) }
@@ -105,7 +106,7 @@ pub fn parse_problem<'a>(
     bytes: &[u8],
     tokens: &Row<Token>,
 ) -> Result<ProblemNode<'a>, Stop>
-    requires short { length bytes.now ≤ 16777216 }
+    requires short { length bytes.now ≤ most_bytes }
     requires cut { Cut 0 bytes.now tokens.now }
     ensures answer { AnswersTokens parts.Problem problem problem_view bytes.now tokens.now result }
     ensures within { IfErr result (λ e. IsToldWithin bytes.now e) }

@@ -1,8 +1,8 @@
 -- Tokens seen over their spans.
-use Rattle.std.proofs.Common.{◌≡◌, ℕ, ◌+◌, ◌≤◌, ◌<◌, List, [], ◌∷◌, length, map, drop, take, slice_index_or, ◌++◌, zero, suc, refl, sym, ap, ◌∙◌, append_assoc, arith}
+use Rattle.std.proofs.Common.{◌≡◌, ℕ, ◌+◌, ◌<◌, List, [], ◌∷◌, length, map, drop, take, slice_index_or, ◌++◌, zero, suc, refl, sym, ap, ◌∙◌, append_assoc, arith}
 use Rattle.std.specs.List.{All, drop-map, take-map}
 use Rattle.std.specs.Str.{str_to_ascii_lowercase}
-use Rattle.std.proofs.lemmas.List.{at_drop_more, drop_all, length-map, map-append}
+use Rattle.std.proofs.lemmas.List.{at_drop_more, length-map, map-append}
 use Rattle.std.proofs.lemmas.List.Elements.{All-nil, All-from_get_or}
 use Rattle.kp_lex.specs.declared.token.Token.{Token}
 use Rattle.kp_lex.specs.Cutting.{Cut}
@@ -31,10 +31,6 @@ pub seen_within : (lower : List ℕ) (ts : List Token) (i : ℕ) (d : Token) (no
 seen_within lower ts i d now t are less is =
     let within : i < length ts = omega (arith, less, ap (λ (us : List (Tok Word)). length us) are, length-map ts (lexed lower)) in
     ap (drop i) (sym are) ∙ drop-map (lexed lower) i ts ∙ at_drop_more (map (lexed lower)) ts i d within ∙ ap (λ u. u ∷ map (lexed lower) (drop (i + 1) ts)) (sym is) ∙ ap (λ us. t ∷ us) (sym (drop-map (lexed lower) (i + 1) ts) ∙ ap (drop (i + 1)) are)
-
--- none stands behind the last
-pub none_at : (lower : List ℕ) (ts : List Token) (i : ℕ) → length ts ≤ i → drop i (map (lexed lower) ts) ≡ []
-none_at lower ts i past = drop_all i (map (lexed lower) ts) (omega (arith, past, length-map ts (lexed lower)))
 
 -- part of them
 pub seen_part : (lower : List ℕ) (ts : List Token) (n i : ℕ) → map (lexed lower) (take n (drop i ts)) ≡ take n (drop i (map (lexed lower) ts))

@@ -2,7 +2,6 @@
 use Rattle.std.proofs.Common.{◌≡◌, ℕ, suc, ◌+◌, ◌<◌, Bool, true, false, List, [], ◌∷◌, length, map, drop, Ok, Err, refl, sym, ap, ◌∙◌, arith}
 use Rattle.std.specs.List.{prefix_len, take_while}
 use Rattle.std.proofs.lemmas.List.Folds.{length-prefix_len}
-use Rattle.std.proofs.lemmas.List.Sums.{take_while-cons}
 use Rattle.std.proofs.lemmas.List.{drop-drop}
 use Rattle.kp_base.proofs.Parts.{take_while_next}
 use Rattle.kp_tree_grammar.specs.declared.symbol.Symbol.{Symbol}
@@ -49,15 +48,8 @@ by_first_true : (c : Class) (us : List (Tok Word)) → first_is (class_test c) u
 by_first_true c [] e = absurd cc
 by_first_true c (l ∷ us) e = rw e refl
 
-none_by : (c : Class) (us : List (Tok Word)) → first_is (class_test c) us ≡ false → prefix_len (is_of c) us ≡ 0
-none_by c [] e = refl
-none_by c (l ∷ us) e = rw e refl
-
 pub one_longer : (c : Class) (ls : List (Tok Word)) (n : ℕ) → first_is (class_test c) (from ls n) ≡ true → prefix_len (is_of c) (drop n ls) ≡ 1 + prefix_len (is_of c) (drop (n + 1) ls)
 one_longer c ls n e = by_first_true c (drop n ls) e ∙ ap (λ (us : List (Tok Word)). 1 + prefix_len (is_of c) us) (drop-drop 1 n ls)
-
-pub no_longer : (c : Class) (ls : List (Tok Word)) (n : ℕ) → first_is (class_test c) (from ls n) ≡ false → prefix_len (is_of c) (drop n ls) ≡ 0
-no_longer c ls n e = none_by c (drop n ls) e
 
 -- ---- reading any number of them
 

@@ -1,5 +1,6 @@
 ghost use Rattle.std.specs.Prelude.{◌≡◌, ◌≤◌, drop, length, IfOk};
 ghost use Rattle.std.specs.Str.{str_to_ascii_lowercase};
+ghost use Rattle.kp_base.specs.Files.{most_bytes};
 ghost use Rattle.kp_lex.specs.Cutting.{Cut};
 ghost use Rattle.kp_tree_grammar.specs.Symbols.{all_seen_in};
 ghost use Rattle.kp_tree_cursor.specs.Lexemes.{byte_at};
@@ -9,7 +10,7 @@ use std::alloc::{AllocError, Allocator};
 
 /// The first byte of a token, or the end of the text where no token has the number.
 pub fn byte_of(bytes: &[u8], tokens: &[Token], number: usize) -> u32
-    requires short { length bytes.now ≤ 16777216 }
+    requires short { length bytes.now ≤ most_bytes }
     requires cut { Cut 0 bytes.now tokens.now }
     ensures value { result ≡ byte_at bytes.now (all_seen_in bytes.now (drop number tokens.now)) }
     ensures within { result ≤ length bytes.now }

@@ -3,6 +3,7 @@ use Rattle.std.proofs.Common.{◌≡◌, ◌∙◌, ◌+◌, ◌||◌, ℕ, Bool
 use Rattle.std.specs.List.{list_all}
 use Rattle.std.specs.Str.{bytes_eq}
 use Rattle.std.proofs.lemmas.Slice.Eq.{bytes_eq-Decides}
+use Rattle.std.proofs.lemmas.Bool.{or_parts, not-true}
 use Rattle.clap.proofs.WalkLemmas.{both}
 use Rattle.clap.specs.Walk.{Rule}
 use Rattle.kp_words_options.specs.Words.{Said, word, option, has_text, differ, option_names, positionals}
@@ -34,14 +35,6 @@ can_take c options ids k (option name value ∷ said) known places count among =
 abbrev pub AllAmong : List (List ℕ) → List (List ℕ) → Type 0
 AllAmong all texts = list_all (has_text all) texts ≡ true
 
-is_false : (b : Bool) → not b ≡ true → b ≡ false
-is_false true e = sym e
-is_false false e = refl
-
-pub or_false : (a b : Bool) → (a || b) ≡ false → (a ≡ false) × (b ≡ false)
-or_false true b e = absurd (true≢false e)
-or_false false b e = (refl, e)
-
 -- what is not among texts is not among some of them
 pub not_among_some : (options texts : List (List ℕ)) (id : List ℕ) → AllAmong options texts → has_text options id ≡ false → has_text texts id ≡ false
 not_among_some options [] id all e = refl
@@ -67,10 +60,10 @@ placed_not : (ids : List (List ℕ)) (said : List Said) (t : List ℕ) → has_t
 placed_not ids [] t a b = refl
 placed_not [] (word w ∷ said) t a b = placed_not [] said t a b
 placed_not (id ∷ ids) (word w ∷ said) t a b =
-    let parts = or_false (bytes_eq id t) (has_text ids t) a in
+    let parts = or_parts (bytes_eq id t) (has_text ids t) a in
     rw (parts.0, placed_not ids said t parts.1 b) refl
 placed_not ids (option name value ∷ said) t a b =
-    let parts = or_false (bytes_eq name t) (has_text (option_names said) t) b in
+    let parts = or_parts (bytes_eq name t) (has_text (option_names said) t) b in
     rw (parts.0, placed_not ids said t a parts.1) refl
 
 differ_by : (options : List (List ℕ)) (x name : List ℕ) → has_text options x ≡ false → has_text options name ≡ true → bytes_eq x name ≡ false
@@ -85,7 +78,7 @@ pub places_not : (options xs : List (List ℕ)) (name : List ℕ) → differ (xs
 places_not options [] name e f = refl
 places_not options (x ∷ xs) name e f =
     let parts = both (not (has_text (xs ++ options) x)) (differ (xs ++ options)) e in
-    let apart = or_false (has_text xs x) (has_text options x) (sym (among_append xs options x) ∙ is_false _ parts.0) in
+    let apart = or_parts (has_text xs x) (has_text options x) (sym (among_append xs options x) ∙ not-true _ parts.0) in
     rw (differ_by options x name apart.1 f, places_not options xs name parts.1 f) refl
 
 pub placed_differ : (options ids : List (List ℕ)) (said : List Said) → differ (ids ++ options) ≡ true → AllAmong options (option_names said) → differ (option_names said) ≡ true
@@ -94,10 +87,10 @@ placed_differ options ids [] d among once = refl
 placed_differ options [] (word w ∷ said) d among once = placed_differ options [] said d among once
 placed_differ options (id ∷ ids) (word w ∷ said) d among once =
     let parts = both (not (has_text (ids ++ options) id)) (differ (ids ++ options)) d in
-    let apart = or_false (has_text ids id) (has_text options id) (sym (among_append ids options id) ∙ is_false _ parts.0) in
+    let apart = or_parts (has_text ids id) (has_text options id) (sym (among_append ids options id) ∙ not-true _ parts.0) in
     rw (placed_not ids said id apart.0 (not_among_some options (option_names said) id among apart.1), placed_differ options ids said parts.1 among once) refl
 placed_differ options ids (option name value ∷ said) d among once =
     let parts = both (has_text options name) (list_all (has_text options) (option_names said)) among in
     let more = both (not (has_text (option_names said) name)) (differ (option_names said)) once in
     let apart : has_text ids name ≡ false = places_not options ids name d parts.0 in
-    rw (placed_not ids said name apart (is_false _ more.0), placed_differ options ids said d parts.1 more.1) refl
+    rw (placed_not ids said name apart (not-true _ more.0), placed_differ options ids said d parts.1 more.1) refl

@@ -1,7 +1,8 @@
 -- What `clap` finds for each name.
-use Rattle.std.proofs.Common.{◌≡◌, ◌∙◌, ◌||◌, ℕ, Bool, true, false, List, [], ◌∷◌, Option, Some, refl, map, fold, cond, find, slice_get, option_and_then, true≢false, arith}
+use Rattle.std.proofs.Common.{◌≡◌, ◌∙◌, ℕ, Bool, true, false, List, [], ◌∷◌, Option, Some, refl, map, fold, cond, find, slice_get, option_and_then, true≢false, arith}
 use Rattle.std.specs.Str.{bytes_eq}
 use Rattle.std.proofs.lemmas.Bool.Decides.{nat_tests}
+use Rattle.std.proofs.lemmas.Bool.{or_parts}
 use Rattle.clap.specs.Walk.{Row, first_of, nothing_held, settled, walk, walked, with_default}
 use Rattle.clap.specs.Takes.{is_given, takes}
 use Rattle.clap.specs.Simple.{matches_of}
@@ -50,10 +51,6 @@ module _ (name : List ℕ) (ids options words : List (List ℕ)) (said : List Sa
 
 -- ---- by name
 
-or_false : (a b : Bool) → (a || b) ≡ false → (a ≡ false) × (b ≡ false)
-or_false true b e = absurd (true≢false e)
-or_false false b e = (refl, e)
-
 -- a first pair, and the others
 abbrev first_or : Bool → List ℕ × List ℕ → List ℕ → List Row → Option (List ℕ)
 first_or b p name rows = option_and_then (λ (r : Row). slice_get r.values 0) (cond b (Some (row_of_pair p)) (find (λ r. bytes_eq r.id name) rows))
@@ -66,7 +63,7 @@ pub option_found : (ids : List (List ℕ)) (said : List Said) (name : List ℕ) 
 option_found ids [] name e = refl
 option_found [] (word w ∷ said) name e = option_found [] said name e
 option_found (id ∷ ids) (word w ∷ said) name e =
-    let parts = or_false (bytes_eq id name) (has_text ids name) e in
+    let parts = or_parts (bytes_eq id name) (has_text ids name) e in
     rw parts.0 (option_found ids said name parts.1)
 option_found ids (option n value ∷ said) name e = first_either (bytes_eq n name) (n, value) name _ _ (option_found ids said name e)
 
@@ -76,8 +73,8 @@ place_found (i ∷ ids) [] id e = refl
 place_found [] (word w ∷ said) id e = place_found [] said id e
 place_found (i ∷ ids) (word w ∷ said) id e = first_either (bytes_eq i id) (i, w) id _ _ (place_found ids said id e)
 place_found [] (option n value ∷ said) id e =
-    let parts = or_false (bytes_eq n id) (has_text (option_names said) id) e in
+    let parts = or_parts (bytes_eq n id) (has_text (option_names said) id) e in
     rw parts.0 (place_found [] said id parts.1)
 place_found (i ∷ ids) (option n value ∷ said) id e =
-    let parts = or_false (bytes_eq n id) (has_text (option_names said) id) e in
+    let parts = or_parts (bytes_eq n id) (has_text (option_names said) id) e in
     rw parts.0 (place_found (i ∷ ids) said id parts.1)

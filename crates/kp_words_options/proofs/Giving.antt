@@ -2,6 +2,8 @@
 use Rattle.std.proofs.Common.{◌≡◌, ◌∙◌, ◌||◌, ℕ, Bool, true, false, not, List, [], ◌∷◌, ◌++◌, Option, Some, refl, ap, ap₂, sym, map, length, arith, true≢false, append_assoc, append-nil}
 use Rattle.std.specs.List.{list_all}
 use Rattle.std.specs.Str.{bytes_eq}
+use Rattle.std.proofs.lemmas.Bool.{or_parts, not-true}
+use Rattle.kp_base.proofs.Lists.{same-refl}
 use Rattle.clap.proofs.WalkLemmas.{both, first_value-rows}
 use Rattle.clap.specs.Walk.{Rule, first_of, rows_of}
 use Rattle.clap.specs.Simple.{App, matches_of, new_rule}
@@ -10,8 +12,8 @@ use Rattle.clap.specs.declared.parser.matches.Found.{Found}
 use Rattle.kp_words_options.specs.Words.{Said, has_text, differ, option_names, positionals, value_of}
 use Rattle.kp_words_options.specs.Scan.{at_first, scan}
 use Rattle.kp_words_options.specs.Clap.{Fits, Gives, Suits, app_of_form, app_with, option_rule, place_of, placed, row_of_pair, with_options, with_places}
-use Rattle.kp_words_options.proofs.Rows.{is_false, other_way, same_name}
-use Rattle.kp_words_options.proofs.Assigned.{among_append, not_among_some, or_false, places_not}
+use Rattle.kp_words_options.proofs.Rows.{other_way}
+use Rattle.kp_words_options.proofs.Assigned.{among_append, not_among_some, places_not}
 use Rattle.kp_words_options.proofs.Found.{option_found, place_found, rows_are}
 use Rattle.kp_words_options.proofs.Scanned.{all_fresh, complete, sound}
 
@@ -37,7 +39,7 @@ made_is name ids options = ap (λ (a : App). with_options a options) (places_are
 other_places : (i w : List ℕ) (ids ws js : Texts) → has_text js i ≡ false → map (place_of (i ∷ ids) (w ∷ ws)) js ≡ map (place_of ids ws) js
 other_places i w ids ws [] e = refl
 other_places i w ids ws (j ∷ js) e =
-    let parts = or_false (bytes_eq j i) (has_text js i) e in
+    let parts = or_parts (bytes_eq j i) (has_text js i) e in
     rw (other_way j i parts.0) (ap (λ (rest : List (Option (List ℕ))). place_of ids ws j ∷ rest) (other_places i w ids ws js parts.1))
 
 pub in_order : (ids ws : Texts) → differ ids ≡ true → length ws ≡ length ids → map (place_of ids ws) ids ≡ map Some ws
@@ -46,7 +48,7 @@ in_order [] (w ∷ ws) d e = absurd (omega (arith, e))
 in_order (i ∷ ids) [] d e = absurd (omega (arith, e))
 in_order (i ∷ ids) (w ∷ ws) d e =
     let parts = both (not (has_text ids i)) (differ ids) d in
-    rw (same_name i) (ap (λ (rest : List (Option (List ℕ))). Some w ∷ rest) (other_places i w ids ws ids (is_false _ parts.0) ∙ in_order ids ws parts.1 (omega (arith, e))))
+    rw (same-refl i) (ap (λ (rest : List (Option (List ℕ))). Some w ∷ rest) (other_places i w ids ws ids (not-true _ parts.0) ∙ in_order ids ws parts.1 (omega (arith, e))))
 
 some_same : (xs ys : Texts) → map Some xs ≡ map Some ys → xs ≡ ys
 some_same [] [] e = refl
@@ -61,7 +63,7 @@ differ_first : (ids options : Texts) → differ (ids ++ options) ≡ true → di
 differ_first [] options e = refl
 differ_first (i ∷ ids) options e =
     let parts = both (not (has_text (ids ++ options) i)) (differ (ids ++ options)) e in
-    let apart = or_false (has_text ids i) (has_text options i) (sym (among_append ids options i) ∙ is_false _ parts.0) in
+    let apart = or_parts (has_text ids i) (has_text options i) (sym (among_append ids options i) ∙ not-true _ parts.0) in
     rw (apart.0, differ_first ids options parts.1) refl
 
 -- two functions are the same at each text of a list
@@ -83,7 +85,7 @@ more_among x xs (y ∷ ys) e =
 
 all_among : (xs : Texts) → list_all (has_text xs) xs ≡ true
 all_among [] = refl
-all_among (x ∷ xs) = rw (same_name x, more_among x xs xs (all_among xs)) refl
+all_among (x ∷ xs) = rw (same-refl x, more_among x xs xs (all_among xs)) refl
 
 -- a place is no option
 options_not : (ids options : Texts) (id : List ℕ) → differ (ids ++ options) ≡ true → has_text ids id ≡ true → has_text options id ≡ false

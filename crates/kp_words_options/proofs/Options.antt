@@ -1,17 +1,14 @@
 -- Words that begin with two dashes.
 use Rattle.std.proofs.Common.{◌≡◌, ◌∙◌, ◌+◌, ◌==◌, ◌||◌, ℕ, zero, suc, Bool, true, false, not, List, [], ◌∷◌, ◌++◌, Option, Some, None, refl, ap, sym, subst, codes, arith, eqb-true, true≢false, option_and_then, cond, take, drop, add-one, one-add}
 use Rattle.std.specs.List.{list_any, before_first, after_first, position_or_len}
+use Rattle.std.proofs.lemmas.Bool.{not-true}
 use Rattle.clap.specs.Lexer.{long_of, long_of_rest, name_and_value, strip_byte}
 use Rattle.clap.proofs.CutLemmas.{Lacks}
 use Rattle.clap.proofs.LexerLemmas.{name_and_value-at, name_and_value-without}
-use Rattle.kp_words_options.specs.Words.{is_option_name, is_plain}
+use Rattle.kp_words_options.specs.Words.{is_option_name}
 
 abbrev is_equals : ℕ → Bool
 is_equals x = x == 61
-
-is_false : (b : Bool) → not b ≡ true → b ≡ false
-is_false true e = sym e
-is_false false e = refl
 
 first_differs : (x : ℕ) (xs : List ℕ) → (x == 61) ≡ false → Lacks 61 xs → Lacks 61 (x ∷ xs)
 first_differs x xs f all zero lt same = absurd (true≢false (rw same at f))
@@ -27,7 +24,7 @@ lacking (x ∷ xs) e = go (x == 61) refl e (lacking xs)
 
 pub name_lacks : (n : List ℕ) → is_option_name n ≡ true → Lacks 61 n
 name_lacks [] e = absurd (true≢false (sym e))
-name_lacks (b ∷ rest) e = lacking (b ∷ rest) (is_false _ e)
+name_lacks (b ∷ rest) e = lacking (b ∷ rest) (not-true _ e)
 
 -- an option is read as its name, and its value where that stands behind `=`
 pub long_apart : (n : List ℕ) → is_option_name n ≡ true → long_of (codes "--" ++ n) ≡ Some (n, None)
@@ -106,7 +103,3 @@ long_is w n v e = first (strip_byte 45 w) refl e
     first : (o : Option (List ℕ)) → strip_byte 45 w ≡ o → option_and_then long_of_rest (option_and_then (strip_byte 45) o) ≡ Some (n, v) → w ≡ 45 ∷ 45 ∷ option_text n v
     first None f g = absurd cc
     first (Some rest) f g = strip_is w rest f ∙ ap (λ (ys : List ℕ). 45 ∷ ys) (second rest (strip_byte 45 rest) refl g)
-
--- two dashes don't begin a positional word
-pub not_plain : (t : List ℕ) → is_plain (codes "--" ++ t) ≡ false
-not_plain t = refl

@@ -2,16 +2,13 @@
 use Rattle.std.proofs.Common.{◌≡◌, ◌∙◌, ◌||◌, ℕ, Bool, true, false, not, List, [], ◌∷◌, ◌++◌, refl, ap, sym, map, cond, true≢false}
 use Rattle.std.specs.Str.{bytes_eq}
 use Rattle.std.proofs.lemmas.Slice.Eq.{bytes_eq-Decides}
+use Rattle.std.proofs.lemmas.Bool.{not-true}
 use Rattle.clap.proofs.WalkLemmas.{both}
 use Rattle.clap.specs.Walk.{Rule, Row, at_row, has_row, more_values, used}
 use Rattle.clap.specs.Takes.{use_passes}
 use Rattle.clap.specs.declared.parser.matches.ValueSource.TheVariants.{CommandLine}
 use Rattle.kp_words_options.specs.Words.{has_text, differ}
 use Rattle.kp_words_options.specs.Clap.{built_rule, ids_of, row_of_pair}
-
-pub is_false : (b : Bool) → not b ≡ true → b ≡ false
-is_false true e = sym e
-is_false false e = refl
 
 pub other_way : (x y : List ℕ) → bytes_eq x y ≡ false → bytes_eq y x ≡ false
 other_way x y e = go (bytes_eq y x) refl
@@ -37,7 +34,7 @@ pub not_before : (xs ys : List (List ℕ)) (x : List ℕ) → differ (xs ++ x �
 not_before [] ys x e = refl
 not_before (t ∷ xs) ys x e =
     let parts = both (not (has_text (xs ++ x ∷ ys) t)) (differ (xs ++ x ∷ ys)) e in
-    let head = other_way x t (among_at xs ys x t (is_false (has_text (xs ++ x ∷ ys) t) parts.0)) in
+    let head = other_way x t (among_at xs ys x t (not-true (has_text (xs ++ x ∷ ys) t) parts.0)) in
     rw head (not_before xs ys x parts.1)
 
 pub has_row-pairs : (ps : List (List ℕ × List ℕ)) (id : List ℕ) → has_row id (map row_of_pair ps) ≡ has_text (ids_of ps) id
@@ -73,6 +70,3 @@ used_new r ps w new =
 pub use_new : (r : Rule) (ps : List (List ℕ × List ℕ)) (w : List ℕ) → r.ignore_case ≡ false → has_text (ids_of ps) r.id ≡ false
     → use_passes false (built_rule r) (w ∷ []) (map row_of_pair ps) ≡ true
 use_new r ps w case new = rw (has_row-pairs ps r.id, new) refl
-
-pub same_name : (t : List ℕ) → bytes_eq t t ≡ true
-same_name t = (bytes_eq-Decides t t).1 refl

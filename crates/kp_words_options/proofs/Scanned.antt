@@ -3,12 +3,13 @@ use Rattle.std.proofs.Common.{◌≡◌, ◌∙◌, ◌+◌, ◌&&◌, ◌||◌,
 use Rattle.std.specs.List.{list_all}
 use Rattle.std.specs.Str.{bytes_eq}
 use Rattle.std.proofs.lemmas.Slice.Eq.{bytes_eq-Decides}
+use Rattle.std.proofs.lemmas.Bool.{or_parts, not-true}
 use Rattle.clap.specs.Lexer.{long_of}
 use Rattle.clap.proofs.WalkLemmas.{both}
 use Rattle.kp_words_options.specs.Words.{Said, Says, word, option, nothing, a_word, apart, joined, is_option_name, is_plain, has_text, differ, option_names, positionals}
 use Rattle.kp_words_options.specs.Scan.{State, after_option, has_value, is_alone, may_stand, scan, with_name}
-use Rattle.kp_words_options.proofs.Rows.{is_false, other_way}
-use Rattle.kp_words_options.proofs.Assigned.{among_append, or_false}
+use Rattle.kp_words_options.proofs.Rows.{other_way}
+use Rattle.kp_words_options.proofs.Assigned.{among_append}
 use Rattle.kp_words_options.proofs.Options.{long_apart, long_is, long_joined}
 
 abbrev Texts : Type 0
@@ -31,8 +32,8 @@ fresh_more : (seen : Texts) (name : List ℕ) (ms : Texts) → are_fresh seen ms
 fresh_more seen name [] e f = refl
 fresh_more seen name (m ∷ ms) e f =
     let parts = both (not (has_text seen m)) (are_fresh seen ms) e in
-    let more = or_false (bytes_eq m name) (has_text ms name) f in
-    let here : has_text (seen ++ name ∷ []) m ≡ false = among_append seen (name ∷ []) m ∙ same_when (has_text seen m) (bytes_eq name m) (is_false _ parts.0) (other_way m name more.0) in
+    let more = or_parts (bytes_eq m name) (has_text ms name) f in
+    let here : has_text (seen ++ name ∷ []) m ≡ false = among_append seen (name ∷ []) m ∙ same_when (has_text seen m) (bytes_eq name m) (not-true _ parts.0) (other_way m name more.0) in
     rw (here, fresh_more seen name ms parts.1 more.1) refl
 
 pub all_fresh : (ms : Texts) → are_fresh [] ms ≡ true
@@ -50,12 +51,12 @@ complete options _ _ seen places n (apart name v words said named plain says) kn
     let k = both (has_text options name) (list_all (has_text options) (option_names said)) known in
     let f = both (not (has_text seen name)) (are_fresh seen (option_names said)) fresh in
     let o = both (not (has_text (option_names said) name)) (differ (option_names said)) once in
-    rw (long_apart name named, k.0, f.0, plain) (complete options words said (seen ++ name ∷ []) places n says k.1 (fresh_more seen name (option_names said) f.1 (is_false _ o.0)) o.1 count)
+    rw (long_apart name named, k.0, f.0, plain) (complete options words said (seen ++ name ∷ []) places n says k.1 (fresh_more seen name (option_names said) f.1 (not-true _ o.0)) o.1 count)
 complete options _ _ seen places n (joined name v words said named plain says) known fresh once count =
     let k = both (has_text options name) (list_all (has_text options) (option_names said)) known in
     let f = both (not (has_text seen name)) (are_fresh seen (option_names said)) fresh in
     let o = both (not (has_text (option_names said) name)) (differ (option_names said)) once in
-    rw (long_joined name v named, k.0, f.0, plain) (complete options words said (seen ++ name ∷ []) places n says k.1 (fresh_more seen name (option_names said) f.1 (is_false _ o.0)) o.1 count)
+    rw (long_joined name v named, k.0, f.0, plain) (complete options words said (seen ++ name ∷ []) places n says k.1 (fresh_more seen name (option_names said) f.1 (not-true _ o.0)) o.1 count)
 
 -- ---- and what is read says something that fits
 
@@ -88,8 +89,8 @@ fresh_less : (seen : Texts) (name : List ℕ) (ms : Texts) → are_fresh (seen +
 fresh_less seen name [] e = (refl, refl)
 fresh_less seen name (m ∷ ms) e =
     let parts = both (not (has_text (seen ++ name ∷ []) m)) (are_fresh (seen ++ name ∷ []) ms) e in
-    let here = or_false (has_text seen m) (has_text (name ∷ []) m) (sym (among_append seen (name ∷ []) m) ∙ is_false _ parts.0) in
-    let there = or_false (bytes_eq name m) false here.1 in
+    let here = or_parts (has_text seen m) (has_text (name ∷ []) m) (sym (among_append seen (name ∷ []) m) ∙ not-true _ parts.0) in
+    let there = or_parts (bytes_eq name m) false here.1 in
     let rest = fresh_less seen name ms parts.1 in
     (rw (here.0, rest.0) refl, rw (other_way name m there.0, rest.1) refl)
 
@@ -133,7 +134,7 @@ idle_option options w words all idly waits seen places n (Some (name, v)) e f = 
     go true g h =
         let parts = both (may_stand options (idle seen places) name) (has_value v) g in
         let stands = both (has_text options name) (not (has_text seen name)) parts.0 in
-        value v e parts.1 stands.0 (is_false _ stands.1) h
+        value v e parts.1 stands.0 (not-true _ stands.1) h
 
 idle_step : (options : Texts) (w : List ℕ) (words : Texts) → list_all is_option_name options ≡ true → Idle options words → Waiting options words → Idle options (w ∷ words)
 idle_step options w words all idly waits seen places n e = go (is_plain w) refl e

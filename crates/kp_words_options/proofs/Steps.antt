@@ -1,7 +1,7 @@
 -- What one word does to a walk of `clap` that waits for nothing.
 use Rattle.std.proofs.Common.{◌≡◌, ◌+◌, ◌<◌, ◌==◌, ◌&&◌, ℕ, Bool, true, false, not, List, [], ◌∷◌, ◌++◌, Some, None, refl, sym, arith, min, codes}
 use Rattle.std.specs.Str.{bytes_eq}
-use Rattle.std.proofs.lemmas.Slice.Eq.{bytes_eq-Decides}
+use Rattle.kp_base.proofs.Lists.{same-refl}
 use Rattle.clap.specs.Lexer.{long_of, short_of, usize_max}
 use Rattle.clap.specs.Walk.{Held, Rule, Row, Walk, idle, option as waits_for, settled, used, walked}
 use Rattle.kp_words_options.specs.Words.{is_plain}
@@ -27,9 +27,6 @@ plain_short (b ∷ rest) e = rw (no_dash b e) refl
 pub plain_dashes : (w : List ℕ) → is_plain w ≡ true → bytes_eq w (codes "--") ≡ false
 plain_dashes [] e = refl
 plain_dashes (b ∷ rest) e = rw (no_dash b e) refl
-
-pub same_text : (t : List ℕ) → bytes_eq t t ≡ true
-same_text t = (bytes_eq-Decides t t).1 refl
 
 -- ---- the walk between two words
 
@@ -77,4 +74,4 @@ module _ (c : List Rule) where
       → walked c [] (awaiting rows name skip k) value ≡ standing (holding rows name value skip) k
   unfolding walked
   value_step rows skip k name value plain knows =
-      rw (plain_dashes value plain, plain_long value plain, plain_short value plain, knows.by_id, same_text name) refl
+      rw (plain_dashes value plain, plain_long value plain, plain_short value plain, knows.by_id, same-refl name) refl

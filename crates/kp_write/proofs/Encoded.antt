@@ -10,6 +10,7 @@ use Rattle.std.specs.Char.{to_ascii_lowercase}
 use Rattle.std.specs.Int.{IsInRange}
 use Rattle.std.specs.Str.Parse.{AllDigits}
 use Rattle.std.specs.List.{AllByRecursion, list_any, list_all}
+use Rattle.std.proofs.lemmas.Option.{same_Some}
 use Rattle.kp_base.specs.declared.ground.GroundName.{GroundName}
 use Rattle.kp_lex.specs.declared.token.TokenKind.TheVariants as kinds
 use Rattle.kp_lex.specs.Bytes.{is_alphanumeric, class_of, follows, follows_class}
@@ -135,11 +136,8 @@ no_empty (w ∷ ws) h = rw (some_byte h.0.token) (no_empty ws h.1)
 pub decodes : (n : GroundName) → IsGroundName n → decoded (encoded n) ≡ Some n
 decodes n h = what_was_encoded_decodes n (no_empty (n.head ∷ n.objects) (h.head, h.objects))
 
-one_of_some : {X : Type 0} (x y : X) → Some x ≡ Some y → x ≡ y
-one_of_some x y e = cc
-
 one_name : (x y : GroundName) → IsGroundName x → IsGroundName y → encoded x ≡ encoded y → x ≡ y
-one_name x y h k e = one_of_some x y (sym (decodes x h) ∙ ap decoded e ∙ decodes y k)
+one_name x y h k e = same_Some x y (sym (decodes x h) ∙ ap decoded e ∙ decodes y k)
 
 pub same_name-refl : (n : GroundName) → same_name n n ≡ true
 same_name-refl n = and_from (same n.head n.head) (all_same n.objects n.objects) (same-refl n.head) (all_same_names-refl n.objects)
@@ -196,10 +194,6 @@ unlike x y differ u v f = go (same u v) refl where
   go : (b : Bool) → same u v ≡ b → same u v ≡ false
   go false e = e
   go true e = absurd (false≢true (sym differ ∙ subst (λ z. same_name x z ≡ true) (f (same-true u v e)) (same_name-refl x)))
-
--- the facts of different atoms differ
-pub facts_apart : (t : ℕ) → t < 2 ^ 64 → (b c : Bool) (x y : GroundName) → IsGroundName x → IsGroundName y → same_name x y ≡ false → same (atom_fact t b x) (atom_fact t c y) ≡ false
-facts_apart t fits b c x y h k differ = unlike x y differ (atom_fact t b x) (atom_fact t c y) (λ e. (facts_tell_apart t t b c x y fits fits h k e).2)
 
 -- so do the operators of different actions
 pub operators_apart : (x y : GroundName) → IsGroundName x → IsGroundName y → same_name x y ≡ false → same (codes "do_-" ++ encoded x) (codes "do_-" ++ encoded y) ≡ false

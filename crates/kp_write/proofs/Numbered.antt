@@ -1,7 +1,7 @@
 -- A task by number and the same by name: they are read alike, and have the same runs.
 use Rattle.std.proofs.Common.{◌≡◌, ◌<◌, ltb-true, eqb-true, nat_eq, nat_lt, ℕ, zero, suc, Bool, true, false, not, ◌&&◌, ◌||◌, List, [], ◌∷◌, ◌++◌, map, length, slice_get, Option, Some, None, option_map, refl, sym, ap, subst, ◌∙◌, arith}
 use Rattle.std.proofs.lemmas.Bool.{false≢true, and_parts}
-use Rattle.std.proofs.lemmas.Option.{slice_get-map}
+use Rattle.std.proofs.lemmas.Option.{slice_get-map, same_Some}
 use Rattle.std.proofs.Math.Bool.{and-true}
 use Rattle.std.specs.Bool.{beq}
 use Rattle.std.specs.List.{AllByRecursion, IsDistinct, list_any, list_all, flat_map}
@@ -175,9 +175,6 @@ module _ (facts : List (List ℕ)) (differ : IsDistinct same facts) where
         let q = and_parts (fits (length facts) o.pre) (list_all (fits_effect (length facts)) o.effects) p in
         rw (makes o.effects q.1 true f below, makes o.effects q.1 false f below, agree f below) refl
 
-one_of_some : {X : Type 0} (x y : X) → Some x ≡ Some y → x ≡ y
-one_of_some x y e = cc
-
 module _ (t : Task) (w : CanBeWritten t) where
   -- these operators are those of these numbers
   abbrev pub AreAt : List ℕ → List Op → Type 0
@@ -196,7 +193,7 @@ module _ (t : Task) (w : CanBeWritten t) where
           → runs (named_goal t) (o ∷ os) s ≡ (applicable x h && succeeds t (next x h) ns)
       go None is here rest = let gone : None ≡ Some o = subst (λ (x : Option NumberedOp). option_map (named_op t.facts) x ≡ Some o) is here in absurd cc
       go (Some a) is here rest =
-          let it : named_op t.facts a ≡ o = one_of_some (named_op t.facts a) o (subst (λ (x : Option NumberedOp). option_map (named_op t.facts) x ≡ Some o) is here) in
+          let it : named_op t.facts a ≡ o = same_Some (named_op t.facts a) o (subst (λ (x : Option NumberedOp). option_map (named_op t.facts) x ≡ Some o) is here) in
           let can : IsWritableOp a = each_member IsWritableOp t.ops a w.operators (member_at t.ops n a is) in
           let ok : fits_op (length t.facts) a ≡ true = all_member (fits_op (length t.facts)) t.ops a (member_at t.ops n a is) w.operators_fit in
           let pre = positive_met t.facts w.facts_differ s h agree a.pre can.positive (and_parts (fits (length t.facts) a.pre) (list_all (fits_effect (length t.facts)) a.effects) ok).0 in
@@ -231,7 +228,7 @@ steps_at t (n ∷ ns) (o ∷ os) at =
   where
     step_is : (x : Option NumberedOp) → option_map (named_op t.facts) x ≡ Some o → option_map (λ (a : NumberedOp). record { head = a.name; objects = [] }) x ≡ Some (step_of o)
     step_is None e = absurd cc
-    step_is (Some a) e = ap (λ (z : Op). Some (step_of z)) (one_of_some (named_op t.facts a) o e)
+    step_is (Some a) e = ap (λ (z : Op). Some (step_of z)) (same_Some (named_op t.facts a) o e)
 
 record OpsAt (t : Task) (ns : List ℕ) (steps : List Step) : Type 0 where
   pub ops : List Op
@@ -256,7 +253,7 @@ ops_at t (n ∷ ns) (i ∷ is) e =
           ops = named_op t.facts a ∷ rest.ops;
           at = rw (is', rest.at) refl;
           among = (member_map (named_op t.facts) t.ops a (member_at t.ops n a is'), rest.among);
-          steps_are = rw (one_of_some (step_of (named_op t.facts a)) i there, rest.steps_are) refl;
+          steps_are = rw (same_Some (step_of (named_op t.facts a)) i there, rest.steps_are) refl;
         }
 
 pub task_plans_are_runs : TaskPlansAreRuns

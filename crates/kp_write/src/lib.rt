@@ -11,4 +11,4 @@ pub use laws::{
     written_problems_read, written_texts_have_a_problem,
 };
 pub use putting::{put_effect, put_operator, put_operator_end, put_operator_front};
-pub use writing::{domain_text, problem_text, put_domain_end, put_domain_front};
+pub use writing::{problem_text, put_domain_end, put_domain_front};

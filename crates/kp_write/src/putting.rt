@@ -163,16 +163,6 @@ pub fn put_operator(out: &mut Vec<u8>, facts: &[Text], operator: &Op) -> Result<
     Ok(())
 }
 
-/// Adds the operators.
-pub fn put_operators(out: &mut Vec<u8>, facts: &[Text], operators: &[Op]) -> Result<(), Memory>
-    ensures { OnOk result (Puts out.old.items out.new.items (each op (map (named_op facts.now) operators.now))) }
-{
-    for operator in operators {
-        put_operator(out, facts, operator)?;
-    }
-    Ok(())
-}
-
 /// Adds a line for each name.
 pub fn put_names(out: &mut Vec<u8>, names: &[Text]) -> Result<(), Memory>
     ensures { OnOk result (Puts out.old.items out.new.items (each fact_line names.now)) }

@@ -1,9 +1,9 @@
 ghost use Rattle.std.specs.Prelude.{◌≡◌, IfOk, OnOk};
 ghost use Rattle.kp_law_texts.specs.Pieces.{Puts};
-ghost use Rattle.kp_write.specs.Named.{domain_of, problem_of};
+ghost use Rattle.kp_write.specs.Named.{problem_of};
 ghost use Rattle.kp_write.specs.Written.{domain_front, domain_end};
 
-use crate::putting::{put_lines, put_names, put_operators};
+use crate::putting::{put_lines, put_names};
 use kp_base::{Memory, Row, Text};
 use kp_classic::Task;
 use kp_plans_spelling::put;
@@ -28,18 +28,6 @@ pub fn put_domain_end(out: &mut Vec<u8>) -> Result<(), Memory>
 {
     put(out, b")\n")?;
     Ok(())
-}
-
-/// The domain file of a task: a predicate for each fact, an action for each operator. Preconditions have the facts that
-/// must hold.
-pub fn domain_text(alloc: Global, task: &Task) -> Result<Row<u8>, Memory>
-    ensures { IfOk result (λ bytes. bytes ≡ domain_of task.now) }
-{
-    let mut out = Vec::new(alloc);
-    put_domain_front(&mut out, task.facts.slice())?;
-    put_operators(&mut out, task.facts.slice(), task.ops.slice())?;
-    put_domain_end(&mut out)?;
-    Ok(Row::from_vec(out))
 }
 
 /// The problem file of a task: what holds at the start, and the facts of the goal that must hold.

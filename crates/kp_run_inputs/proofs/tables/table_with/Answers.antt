@@ -2,6 +2,7 @@ use Rattle.std.proofs.Common.{◌≡◌, true, ◌∙◌, ℕ, List, [], ◌∷�
 use Rattle.std.specs.List.{list_all}
 use Rattle.kp_base.specs.declared.refused.Part.TheVariants as parts
 use Rattle.kp_base.specs.declared.refused.Refused.TheVariants as refusals
+use Rattle.kp_base.specs.Files.{most_bytes}
 use Rattle.kp_primes.specs.Held.{formula}
 use Rattle.kp_tags_merges.specs.MergesFiles.{IsMergesOf, AnswersMergesFile}
 use Rattle.kp_tags.specs.MergeTables.{has_tags_of_atoms}
@@ -18,7 +19,7 @@ use Rattle.kp_run_inputs.proofs.tables.table_with.Goals as goal
 pub returns-then-merges : goal.returns-then-merges
 returns-then-merges c name text j front same =
     ends_at_table c.args.prepared.now.ground j (of_file name) (text ∷ []) nothing (refusals.TooLong parts.Merges)
-    (long_file name text (over_length 16777216 text c.args.merges.more refl front.1 c.if-merges.true)) c.ended_by.result c.ended_by.ensures
+    (long_file name text (over_length most_bytes text c.args.merges.more refl front.1 c.if-merges.true)) c.ended_by.result c.ended_by.ensures
 
 pub table_for-requires : goal.table_for-requires
 table_for-requires c = record { of_atoms = subst (λ n. list_all (has_tags_of_atoms n) c.in-Ok.merges ≡ true) c.requires.usable.atoms (tags_of_atoms c.args.prepared.now.ground.atoms c.slice.result.now c.in-Ok.merges c.in-Ok.ensures) }
@@ -28,16 +29,16 @@ pub returns-in-Ok : goal.returns-in-Ok
 returns-in-Ok c name text j front same =
     let g = c.args.prepared.now.ground in
     let i = formula c.args.prepared.now.primes in
-    let its = c.slice.ensures ∙ whole_content_is_read 16777216 text c.args.merges.bytes c.args.merges.more front.0 front.1 c.if-merges.false in
+    let its = c.slice.ensures ∙ whole_content_is_read most_bytes text c.args.merges.bytes c.args.merges.more front.0 front.1 c.if-merges.false in
     answer_by g i j (of_file name) (text ∷ []) c.table_for.result same
     (of_merges g c.args.prepared.now.primes.atoms i name text c.in-Ok.merges c.table_for.result (sym c.requires.usable.atoms)
-    (short_length 16777216 text c.args.merges.more refl front.1 c.if-merges.false)
+    (short_length most_bytes text c.args.merges.more refl front.1 c.if-merges.false)
     (subst (λ (bytes : List ℕ). IsMergesOf g.atoms bytes c.in-Ok.merges) its c.in-Ok.ensures) c.table_for.ensures)
 
 -- it has none
 pub returns : goal.returns
 returns c name text j front same =
     let g = c.args.prepared.now.ground in
-    let its = c.slice.ensures ∙ whole_content_is_read 16777216 text c.args.merges.bytes c.args.merges.more front.0 front.1 c.if-merges.false in
-    no_file_table g j name text c.in-Err.stop (short_length 16777216 text c.args.merges.more refl front.1 c.if-merges.false)
+    let its = c.slice.ensures ∙ whole_content_is_read most_bytes text c.args.merges.bytes c.args.merges.more front.0 front.1 c.if-merges.false in
+    no_file_table g j name text c.in-Err.stop (short_length most_bytes text c.args.merges.more refl front.1 c.if-merges.false)
     (subst (λ (bytes : List ℕ). AnswersMergesFile g.atoms bytes (Err c.in-Err.stop)) its c.in-Err.ensures) c.ended_by-in-Err.result c.ended_by-in-Err.ensures

@@ -1,5 +1,6 @@
 use Rattle.std.proofs.Common.{◌∙◌, ℕ, List, refl, subst}
 use Rattle.kp_base.specs.declared.refused.Part.TheVariants as parts
+use Rattle.kp_base.specs.Files.{most_bytes}
 use Rattle.kp_tree_grammar.specs.Grammar as grammar
 use Rattle.kp_tree_grammar.specs.View.{domain_view}
 use Rattle.kp_tree.specs.Files.{AnswersFile}
@@ -8,12 +9,12 @@ use Rattle.kp_run_prepare.proofs.files.domain_of.Goals as goal
 
 -- there are more bytes than may be
 pub returns-then-got-clause-front : goal.returns-then-got-clause-front
-returns-then-got-clause-front c text front = too_long parts.Domain grammar.domain 16777216 text c.args.got.now.more refl front.1 c.if-got.true
+returns-then-got-clause-front c text front = too_long parts.Domain grammar.domain most_bytes text c.args.got.now.more refl front.1 c.if-got.true
 
 pub returns-clause-whole : goal.returns-clause-whole
-returns-clause-whole c text front = where_ok c.read_domain.result (whole 16777216 text c.args.got.now.bytes c.args.got.now.more front.0 front.1 c.if-got.false)
+returns-clause-whole c text front = where_ok c.read_domain.result (whole most_bytes text c.args.got.now.bytes c.args.got.now.more front.0 front.1 c.if-got.false)
 
 pub returns-clause-front : goal.returns-clause-front
 returns-clause-front c text front =
     let P = λ (bytes : List ℕ). AnswersFile parts.Domain grammar.domain domain_view bytes c.read_domain.result in
-    subst P (c.slice.ensures ∙ whole 16777216 text c.args.got.now.bytes c.args.got.now.more front.0 front.1 c.if-got.false) c.read_domain.ensures
+    subst P (c.slice.ensures ∙ whole most_bytes text c.args.got.now.bytes c.args.got.now.more front.0 front.1 c.if-got.false) c.read_domain.ensures
