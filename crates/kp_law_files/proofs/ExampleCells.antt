@@ -18,7 +18,7 @@ use Rattle.kp_names_meaning.proofs.Public.{domain_of_text as domain_of, problem_
 use Rattle.kp_law_files.specs.Translations.{ground_of, initial_of, start_of}
 use Rattle.kp_law_files.specs.Tables.{empty_tag, IsTableFor}
 use Rattle.kp_law_files.specs.Written.{translation_of}
-use Rattle.kp_law_files.proofs.Public.{tables_can_be_written, empty_tag_is_table_for_trees}
+use Rattle.kp_law_files.proofs.Tables.{tables_written as tables_can_be_written, empty_tag_is_table as empty_tag_is_table_for_trees}
 use Rattle.kp_write.specs.Named as texts
 use Rattle.kp_law_machine.proofs.Public as machine
 use Rattle.kp_base.specs.declared.ground.Ground.{Ground}

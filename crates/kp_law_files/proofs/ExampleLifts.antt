@@ -30,7 +30,7 @@ use Rattle.kp_law_ktask.specs.Accepted.{IsAccepted}
 use Rattle.kp_law_ktask.proofs.Public as tagged
 use Rattle.kp_law_files.specs.Translations.{ground_of, initial_of}
 use Rattle.kp_law_files.specs.Tables.{empty_tag}
-use Rattle.kp_law_files.proofs.Public.{initial_states_are_models}
+use Rattle.kp_law_files.proofs.Starts.{states_are_models as initial_states_are_models}
 use Rattle.kp_law_files.specs.Laws.{IsWrittenLift, Lifts}
 use Rattle.kp_law_files.proofs.Lifting.{lifts_written, plans_lift}
 use Rattle.kp_law_files.proofs.ExampleCells.{its_ground, its_formula, its_start, its_problem, no_fault, table_for, unmet}

@@ -17,7 +17,7 @@ use Rattle.kp_base.specs.Closure.{closure}
 use Rattle.kp_law_files.specs.Translations as given
 use Rattle.kp_law_files.specs.Tables.{empty_tag}
 use Rattle.kp_law_files.specs.Written.{translation_of}
-use Rattle.kp_law_files.proofs.Public.{tables_can_be_written, empty_tag_is_table_for_trees}
+use Rattle.kp_law_files.proofs.Tables.{tables_written as tables_can_be_written, empty_tag_is_table as empty_tag_is_table_for_trees}
 use Rattle.kp_write.specs.Named as texts
 use Rattle.kp_law_machine.proofs.Public.{one_sided_actions_never_clash}
 use Rattle.kp_base.specs.Machine.{MachineStep, one_tag_table}

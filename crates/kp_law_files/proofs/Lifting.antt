@@ -22,7 +22,8 @@ use Rattle.kp_base.specs.ActionNames.{action_name}
 use Rattle.kp_law_ktask.specs.Accepted.{step_at}
 use Rattle.kp_law_ktask.proofs.Public.{tagged_plans_are_accepted, tagged_steps_strip}
 use Rattle.kp_law_files.specs.Translations.{ground_of, initial_of}
-use Rattle.kp_law_files.proofs.Public.{initial_states_are_models, tables_can_be_written}
+use Rattle.kp_law_files.proofs.Starts.{states_are_models as initial_states_are_models}
+use Rattle.kp_law_files.proofs.Tables.{tables_written as tables_can_be_written}
 use Rattle.kp_law_files.specs.Laws.{LiftsAreWritten, PlansLift}
 
 -- ---- actions that are there

@@ -4,7 +4,7 @@ use Rattle.kp_init.proofs.Public.{named_runs_are_plans}
 use Rattle.kp_base.specs.Machine.{stripped}
 use Rattle.kp_law_ktask.proofs.Public.{tagged_plans_are_sound}
 use Rattle.kp_law_files.specs.Translations.{ground_of, initial_of}
-use Rattle.kp_law_files.proofs.Public.{tables_can_be_written}
+use Rattle.kp_law_files.proofs.Tables.{tables_written as tables_can_be_written}
 use Rattle.kp_law_files.specs.Laws.{WrittenPlansStripToSolutions, TranslationsAreSound}
 
 pub plans_solve : WrittenPlansStripToSolutions

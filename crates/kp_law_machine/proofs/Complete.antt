@@ -18,7 +18,7 @@ use Rattle.kp_base.specs.Covering.{Meets, lits_of, IsTarget, IsCovered, IsComple
 use Rattle.kp_base.specs.Machine.{Known, closure_of, start, may_act, after_act}
 use Rattle.kp_base.proofs.Lists.{member_at, member_map, all_member, all_from}
 use Rattle.kp_base.proofs.Places.{element}
-use Rattle.kp_law_machine.proofs.Public.{facts_more_all}
+use Rattle.kp_law_machine.proofs.Monotone.{facts_more_all}
 use Rattle.kp_law_machine.specs.Lifts.{after_merges}
 use Rattle.kp_law_machine.specs.Completeness.{NoPlanIsLost}
 use Rattle.kp_law_machine.proofs.Merges.{after_merges_more, merge_taken}

@@ -21,7 +21,10 @@ use Rattle.kp_base.specs.Covering.{Meets, Covers, tags_of, IsTarget, IsCovered, 
 use Rattle.kp_base.specs.Machine.{MachineStep, accepts, stripped, one_tag_table}
 use Rattle.kp_base.proofs.Lists.{all_member, any_member}
 use Rattle.kp_base.proofs.Lits.{member-has}
-use Rattle.kp_law_machine.proofs.Public.{literals_below, one_sided_actions_never_clash, one_tag_is_a_table, accepted_lists_are_plans}
+use Rattle.kp_law_machine.proofs.ExampleCells.{below_all as literals_below}
+use Rattle.kp_law_machine.proofs.OneSided.{never_clashes as one_sided_actions_never_clash}
+use Rattle.kp_law_machine.proofs.OneTag.{is_table as one_tag_is_a_table}
+use Rattle.kp_law_machine.proofs.Sound.{sound as accepted_lists_are_plans}
 use Rattle.kp_law_machine.specs.Lifts.{lift_of, is_ready, UnliftedAt}
 use Rattle.kp_law_machine.proofs.Relevance.{relevant_of_atoms}
 use Rattle.kp_law_machine.proofs.Failing.{dont_lift}

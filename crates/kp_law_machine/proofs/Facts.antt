@@ -9,7 +9,8 @@ use Rattle.kp_base.specs.Steps.{State, Facts, holds, fires, after, next, state_a
 use Rattle.kp_base.specs.Machine.{facts_after}
 use Rattle.kp_base.specs.Relevance.{IsRelevant}
 use Rattle.kp_base.proofs.Lists.{member_at}
-use Rattle.kp_law_machine.proofs.Public.{persists_where_none_fires_against, IsWithinFor, facts_more}
+use Rattle.kp_law_machine.proofs.Exact.{persists_exact as persists_where_none_fires_against}
+use Rattle.kp_law_machine.proofs.Monotone.{Within as IsWithinFor, facts_more}
 use Rattle.kp_law_machine.proofs.Relevance.{relevant_links}
 
 -- the facts after an action, if there is such an action

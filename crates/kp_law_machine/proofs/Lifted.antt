@@ -8,7 +8,7 @@ use Rattle.kp_base.specs.declared.ground.TagTable.{TagTable}
 use Rattle.kp_base.specs.declared.ground.Merge.{Merge}
 use Rattle.kp_base.specs.Machine.{MachineStep, Known, start, may_act, after_act, may_merge, after_merge, accepts_from, stripped}
 use Rattle.kp_base.proofs.Lists.{member_at, all_weaker}
-use Rattle.kp_law_machine.proofs.Public.{facts_more_all}
+use Rattle.kp_law_machine.proofs.Monotone.{facts_more_all}
 use Rattle.kp_law_machine.specs.Lifts.{adds, after_merges, merges_taken, lift_from}
 use Rattle.kp_law_machine.specs.Completeness.{LiftedListsStrip, LiftedListsAreBest}
 use Rattle.kp_law_machine.proofs.Merges.{Knows_more, may_merge_more, after_merge_grows, after_merges_more, merge_adds_nothing}
