@@ -1,6 +1,6 @@
 -- Steps that fail somewhere don't succeed, and they fail in one place.
 use Rattle.std.proofs.Common.{◌≡◌, ◌<◌, ◌≤◌, ℕ, zero, suc, Bool, true, false, ◌&&◌, List, [], ◌∷◌, length, take, Option, Some, None, slice_get, refl, sym, ap, subst, ◌∙◌, inl, inr, arith}
-use Rattle.std.proofs.lemmas.Bool.{and_parts, false≢true, cases_lt}
+use Rattle.std.proofs.lemmas.Bool.{and_parts, false≢true, cases_lt, and_right}
 use Rattle.std.specs.List.{list_all}
 use Rattle.kp_base.specs.declared.lit.Lit.{Lit}
 use Rattle.kp_base.specs.declared.ground.Action.{Action}
@@ -10,10 +10,6 @@ use Rattle.kp_base.proofs.Least.{not_all_facts, least_once}
 use Rattle.kp_base.proofs.Lists.{all_member}
 use Rattle.kp_check.specs.Failing.{FailAt, IsFailing, IsFailingOnce}
 
-then_false : (a b : Bool) → b ≡ false → (a && b) ≡ false
-then_false true b h = h
-then_false false b h = refl
-
 cannot : (o : Option Action) (s : State) (l : Lit) (b : Bool) → IsLeastMissing (holds s) (pre_of o) l → (applicable o s && b) ≡ false
 cannot None s l b f = refl
 cannot (Some a) s l b f = ap (λ x. x && b) (not_all_facts (holds s) a.pre l f)
@@ -22,7 +18,7 @@ pub fail_no : (g : Ground) (ns : List ℕ) (s : State) (k : ℕ) (l : Lit) → I
 fail_no g [] s zero l f = not_all_facts (holds s) g.goal l f
 fail_no g [] s (suc k) l f = not_all_facts (holds s) g.goal l f
 fail_no g (n ∷ ns) s zero l f = cannot (slice_get g.actions n) s l (succeeds g (next (slice_get g.actions n) s) ns) f
-fail_no g (n ∷ ns) s (suc k) l f = then_false (applicable (slice_get g.actions n) s) (succeeds g (next (slice_get g.actions n) s) ns) (fail_no g ns (next (slice_get g.actions n) s) k l f)
+fail_no g (n ∷ ns) s (suc k) l f = and_right (applicable (slice_get g.actions n) s) (succeeds g (next (slice_get g.actions n) s) ns) (fail_no g ns (next (slice_get g.actions n) s) k l f)
 
 pub failing : IsFailing
 failing g s ns k l at = fail_no g ns s k l at.fails

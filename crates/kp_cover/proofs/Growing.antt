@@ -1,5 +1,5 @@
 -- Tags that grow clause by clause are the choices of literals.
-use Rattle.std.proofs.Common.{◌≡◌, ◌&&◌, ◌||◌, ◌++◌, Bool, true, false, not, cond, if◌then◌else◌, List, [], ◌∷◌, filter, map, fold, refl, sym, ap, ◌∙◌, append_assoc, append-nil}
+use Rattle.std.proofs.Common.{◌≡◌, ◌&&◌, ◌||◌, ◌++◌, Bool, true, false, not, cond, if◌then◌else◌, List, [], ◌∷◌, filter, map, fold, refl, sym, ap, ◌∙◌, append-nil}
 use Rattle.std.proofs.lemmas.Bool.{false≢true, and_parts, and_from}
 use Rattle.std.specs.List.{flat_map, list_any, list_all}
 use Rattle.kp_base.specs.declared.lit.Lit.{Lit}
@@ -16,6 +16,7 @@ use Rattle.kp_primes.proofs.Public.{consistent_exact}
 use Rattle.kp_cover.specs.Grown.{is_fine, with_each, grown, all_grown, added}
 use Rattle.kp_cover.specs.Tested.{meets, all_meet}
 use Rattle.std.proofs.lemmas.List.Folds.{list_all-append}
+use Rattle.std.proofs.lemmas.List.Concat.{flat_map-append}
 
 -- tags that come one by one, unless they are there
 pub once_is : (tags kept : List (List Lit)) → kept ≡ fold added [] tags → kept ≡ each_once same_set tags
@@ -42,13 +43,9 @@ filter-both p (x ∷ xs) ys = go (p x) (filter-both p xs ys)
     go true e = ap (λ z. x ∷ z) e
     go false e = e
 
-flat-both : {X Y : Type 0} (f : X → List Y) (xs ys : List X) → flat_map f (xs ++ ys) ≡ flat_map f xs ++ flat_map f ys
-flat-both f [] ys = refl
-flat-both f (x ∷ xs) ys = ap (λ z. f x ++ z) (flat-both f xs ys) ∙ sym (append_assoc (f x) (flat_map f xs) (flat_map f ys))
-
 flat-flat : {X Y Z : Type 0} (f : X → List Y) (g : Y → List Z) (xs : List X) → flat_map g (flat_map f xs) ≡ flat_map (λ x. flat_map g (f x)) xs
 flat-flat f g [] = refl
-flat-flat f g (x ∷ xs) = flat-both g (f x) (flat_map f xs) ∙ ap (λ z. flat_map g (f x) ++ z) (flat-flat f g xs)
+flat-flat f g (x ∷ xs) = flat_map-append g (f x) (flat_map f xs) ∙ ap (λ z. flat_map g (f x) ++ z) (flat-flat f g xs)
 
 filter-flat : {X Y : Type 0} (p : Y → Bool) (f : X → List Y) (xs : List X) → filter p (flat_map f xs) ≡ flat_map (λ x. filter p (f x)) xs
 filter-flat p f [] = refl

@@ -1,6 +1,7 @@
 -- What is encoded is decoded, and the other way round.
 use Rattle.std.proofs.Common.{◌≡◌, ℕ, Bool, true, false, not, List, [], ◌∷◌, ◌++◌, refl, sym, ap, subst, ◌∙◌, Some, None, Option, option_map, option_and_then, if◌then◌else◌, ◌==◌, eqb-true}
 use Rattle.std.specs.List.{list_any}
+use Rattle.std.proofs.lemmas.Iterator.Adapters.{option_map_id}
 use Rattle.kp_base.specs.declared.ground.GroundName.{GroundName}
 use Rattle.kp_names_meaning.specs.Names.{Name}
 use Rattle.kp_names_meaning.specs.Encoding.{underscore, dash, doubled, encoded_objects, encoded, with_byte, split, is_empty, name_of, HasNoEmptyPart, EncodedDecodes, DecodedIsEncoding}
@@ -19,10 +20,6 @@ with_all_first : (bs : List ℕ) (xs : List Name) → with_all bs ([] ∷ xs) �
 with_all_first [] xs = refl
 with_all_first (b ∷ bs) xs = ap (with_byte b) (with_all_first bs xs)
 
-same_option : {X : Type 0} (o : Option X) → option_map (λ x. x) o ≡ o
-same_option None = refl
-same_option (Some x) = refl
-
 map_map : {X Y Z : Type 0} (f : X → Y) (g : Y → Z) (o : Option X) → option_map g (option_map f o) ≡ option_map (λ x. g (f x)) o
 map_map f g None = refl
 map_map f g (Some x) = refl
@@ -33,7 +30,7 @@ plain_byte b [] e = rw e refl
 plain_byte b (c ∷ cs) e = rw e refl
 
 split_doubled : (x : Name) (rest : List ℕ) → split (doubled x ++ rest) ≡ option_map (with_all x) (split rest)
-split_doubled [] rest = sym (same_option (split rest))
+split_doubled [] rest = sym (option_map_id (split rest))
 split_doubled (b ∷ bs) rest = pick (split_doubled bs rest) (b == underscore) refl
   where
     pick : split (doubled bs ++ rest) ≡ option_map (with_all bs) (split rest) → (t : Bool) → (b == underscore) ≡ t → split (((if t then underscore ∷ underscore ∷ [] else b ∷ []) ++ doubled bs) ++ rest) ≡ option_map (with_all (b ∷ bs)) (split rest)

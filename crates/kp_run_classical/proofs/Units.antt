@@ -2,7 +2,7 @@
 use mathlib.Core.Path.{fun_ext}
 use Rattle.std.proofs.Common.{◌≡◌, ◌↔◌, ◌∙◌, ℕ, Bool, true, false, not, ◌||◌, List, [], ◌∷◌, length, nat_eq, arith, refl, sym, ap, subst}
 use Rattle.std.specs.List.{list_any, list_all}
-use Rattle.std.proofs.lemmas.Bool.{and_parts, and_from, eqb-true, false≢true}
+use Rattle.std.proofs.lemmas.Bool.{and_parts, and_from, eqb-true, false≢true, false_from_ne_true}
 use Rattle.kp_base.specs.declared.lit.AtomId.{AtomId}
 use Rattle.kp_base.specs.declared.lit.Lit.{Lit}
 use Rattle.kp_base.specs.declared.ground.Initial.{Initial}
@@ -22,10 +22,6 @@ or_none false h = h
 or_first : (b : Bool) → b ≡ true → (b || false) ≡ true
 or_first true h = refl
 or_first false h = h
-
-false_unless : (b : Bool) → (b ≡ true → ⊥) → b ≡ false
-false_unless true h = absurd (h refl)
-false_unless false h = refl
 
 module _ (i : Initial) (units : has_units i ≡ true) (m : HasModel i) where
   parts : (list_all (list_any (on_atoms.holds m.state)) i.clauses ≡ true) × (list_all (λ p. not (m.state p.0)) i.closed ≡ true)
@@ -47,7 +43,7 @@ module _ (i : Initial) (units : has_units i ≡ true) (m : HasModel i) where
       said_holds r.0 (alone r.0 r.1) (all_member (list_any (on_atoms.holds m.state)) i.clauses r.0 r.1 parts.0) (positive p) r.2
 
   unsaid : (p : ℕ) → m.state p ≡ false → is_said i p ≡ false
-  unsaid p h = false_unless (is_said i p) (λ said. false≢true (sym h ∙ said_true p said))
+  unsaid p h = false_from_ne_true (is_said i p) (λ said. false≢true (sym h ∙ said_true p said))
 
   -- a clause of one literal holds where the said atoms do
   unit_holds : (x : Lit) (b : Bool) → x.positive ≡ b → Member i.clauses (x ∷ []) → on_atoms.holds m.state x ≡ true → on_atoms.holds (is_said i) x ≡ true

@@ -1,5 +1,5 @@
 -- Merges of one target, put behind others.
-use Rattle.std.proofs.Common.{◌≡◌, ◌<◌, ◌+◌, ◌++◌, ℕ, zero, suc, List, [], ◌∷◌, Result, Ok, Err, OnOk, map, take, length, get_or, arith, sym, ap, subst, ◌∙◌, append_assoc, append-nil}
+use Rattle.std.proofs.Common.{◌≡◌, ◌<◌, ◌+◌, ◌++◌, ℕ, zero, suc, List, [], ◌∷◌, Result, Ok, Err, map, take, length, get_or, arith, sym, ap, subst, ◌∙◌, append_assoc, append-nil}
 use Rattle.std.proofs.lemmas.List.{map-append}
 use Rattle.kp_base.specs.declared.lit.Lit.{Lit}
 use Rattle.kp_base.specs.declared.ground.Initial.{Initial}
@@ -24,10 +24,6 @@ adds_as target some more old new f a = record { lists = a.lists; right = f a.lis
 -- no merge
 pub adds_none : (target : Lit) (are : List (List (List Lit)) → Type 0) (old new : List FileMerge) → are [] → new ≡ old → Adds target are old new
 adds_none target are old new h same = record { lists = []; right = h; added = same ∙ sym (append-nil old) }
-
-pub on_ok : {X E A B : Type 0} (r : Result X E) → (A → B) → OnOk r A → OnOk r B
-on_ok (Ok x) f a = f a
-on_ok (Err e) f a = a
 
 pub refuses_as : (target : Lit) (some more : List (List (List Lit)) → Type 0) (few many : ℕ → Type 0) (old new : List FileMerge) (r : Result Unit Stop) → ((lists : List (List (List Lit))) → some lists → more lists) → ((size : ℕ) → few size → many size)
     → AddsOrRefuses target some few old new r → AddsOrRefuses target more many old new r

@@ -6,6 +6,7 @@ use Rattle.std.specs.List.{drop-map, take-map}
 use Rattle.std.proofs.lemmas.Str.{IsUtf8-from_ascii}
 use Rattle.std.proofs.lemmas.Option.{slice_get-get_or}
 use Rattle.std.proofs.lemmas.List.{length-map}
+use Rattle.std.proofs.lemmas.Str.Ascii.{IsAscii-cons}
 use Rattle.kp_lex.specs.declared.token.Token.{Token}
 use Rattle.kp_lex.specs.declared.token.TokenKind.{TokenKind}
 use Rattle.kp_lex.specs.Bytes.{class_of, follows, follows_class}
@@ -55,22 +56,18 @@ follow_below [] h i = omega arith
 follow_below (b ∷ bs) h zero = below b (λ e. no_high (ap follows_class (sym e) ∙ h.0))
 follow_below (b ∷ bs) h (suc i) = follow_below bs h.1 i
 
-on_ascii : (b : ℕ) (bs : List ℕ) → b < 128 → IsAscii bs → IsAscii (b ∷ bs)
-on_ascii b bs l h zero = l
-on_ascii b bs l h (suc i) = h i
-
 none_ascii : IsAscii []
 none_ascii i = omega arith
 
 token_ascii : {k : TokenKind} {w : List ℕ} → IsToken k w → IsAscii w
 unfolding class_of
-token_ascii (left {b = b} e) = on_ascii b [] (below b (λ same. let o = sym same ∙ e in cc)) none_ascii
-token_ascii (right {b = b} e) = on_ascii b [] (below b (λ same. let o = sym same ∙ e in cc)) none_ascii
-token_ascii (dash {b = b} e) = on_ascii b [] (below b (λ same. let o = sym same ∙ e in cc)) none_ascii
-token_ascii (equal {b = b} e) = on_ascii b [] (below b (λ same. let o = sym same ∙ e in cc)) none_ascii
-token_ascii (name {b = b} {bs = bs} e h) = on_ascii b bs (below b (λ same. let o = sym same ∙ e in cc)) (follow_below bs h)
-token_ascii (variable {q = q} {b = b} {bs = bs} s e h) = on_ascii q (b ∷ bs) (below q (λ same. let o = sym same ∙ s in cc)) (on_ascii b bs (below b (λ same. let o = sym same ∙ e in cc)) (follow_below bs h))
-token_ascii (keyword {q = q} {b = b} {bs = bs} s e h) = on_ascii q (b ∷ bs) (below q (λ same. let o = sym same ∙ s in cc)) (on_ascii b bs (below b (λ same. let o = sym same ∙ e in cc)) (follow_below bs h))
+token_ascii (left {b = b} e) = IsAscii-cons b [] (below b (λ same. let o = sym same ∙ e in cc)) none_ascii
+token_ascii (right {b = b} e) = IsAscii-cons b [] (below b (λ same. let o = sym same ∙ e in cc)) none_ascii
+token_ascii (dash {b = b} e) = IsAscii-cons b [] (below b (λ same. let o = sym same ∙ e in cc)) none_ascii
+token_ascii (equal {b = b} e) = IsAscii-cons b [] (below b (λ same. let o = sym same ∙ e in cc)) none_ascii
+token_ascii (name {b = b} {bs = bs} e h) = IsAscii-cons b bs (below b (λ same. let o = sym same ∙ e in cc)) (follow_below bs h)
+token_ascii (variable {q = q} {b = b} {bs = bs} s e h) = IsAscii-cons q (b ∷ bs) (below q (λ same. let o = sym same ∙ s in cc)) (IsAscii-cons b bs (below b (λ same. let o = sym same ∙ e in cc)) (follow_below bs h))
+token_ascii (keyword {q = q} {b = b} {bs = bs} s e h) = IsAscii-cons q (b ∷ bs) (below q (λ same. let o = sym same ∙ s in cc)) (IsAscii-cons b bs (below b (λ same. let o = sym same ∙ e in cc)) (follow_below bs h))
 
 -- what is cut from the text in lower case is the token in lower case
 pub lower_span : (text : List ℕ) (t : Token) → slice_range (str_to_ascii_lowercase text) t.from t.to ≡ folded text t
