@@ -16,3 +16,4 @@ pub mod Relevance
 pub mod Search
 pub mod Steps
 pub mod formers
+pub mod Planning

@@ -6,10 +6,8 @@ use Rattle.kp_base.specs.declared.lit.Lit.{Lit}
 use Rattle.kp_base.specs.declared.lit.AtomId.{AtomId}
 use Rattle.kp_base.specs.declared.ground.Action.{Action}
 use Rattle.kp_base.specs.declared.ground.Ground.{Ground}
-use Rattle.kp_base.specs.Lit.{positive, negative, has}
-use Rattle.kp_base.specs.LitSet.{IsAscending}
-use Rattle.kp_base.specs.Steps.{State, is_model, holds, applicable, next, after, runs, succeeds, state_after, IsGroundPlan, pre_of, asked}
-use Rattle.kp_base.specs.Implicates.{are_below}
+use Rattle.kp_base.specs.Planning.{positive, negative, IsAscending, State, is_model, holds, applicable, next, after, runs, succeeds, state_after, IsGroundPlan, pre_of, asked, are_below}
+use Rattle.kp_base.specs.Lit.{has}
 use Rattle.kp_base.proofs.Lists.{member_map, range_there}
 use Rattle.kp_base.proofs.Lits.{has-member}
 use Rattle.kp_base.proofs.Places.{none_past}

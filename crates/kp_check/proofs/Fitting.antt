@@ -7,10 +7,7 @@ use Rattle.std.specs.List.{list_all, range_with_len}
 use Rattle.kp_base.specs.declared.lit.Lit.{Lit}
 use Rattle.kp_base.specs.declared.ground.Effect.{Effect}
 use Rattle.kp_base.specs.declared.ground.Action.{Action}
-use Rattle.kp_base.specs.Lists.{signed}
-use Rattle.kp_base.specs.Lit.{positive, negative, same_lit}
-use Rattle.kp_base.specs.Steps.{State, holds, fires, after}
-use Rattle.kp_base.specs.Implicates.{are_below, effect_below}
+use Rattle.kp_base.specs.Planning.{signed, positive, negative, same_lit, State, holds, fires, after, are_below, effect_below}
 use Rattle.kp_base.proofs.Lists.{all_member}
 use Rattle.kp_primes_models.specs.declared.truth.Truth.{Truth}
 use Rattle.kp_primes_models.specs.declared.truth.Truth.TheVariants.{Yes, No}

@@ -8,11 +8,7 @@ use Rattle.kp_base.specs.declared.ground.Effect.{Effect}
 use Rattle.kp_base.specs.declared.ground.Action.{Action}
 use Rattle.kp_base.specs.declared.ground.Ground.{Ground}
 use Rattle.kp_base.specs.declared.ground.Initial.{Initial}
-use Rattle.kp_base.specs.Lists.{Member}
-use Rattle.kp_base.specs.Lit.{positive, negative}
-use Rattle.kp_base.specs.Steps.{holds}
-use Rattle.kp_base.specs.Clashes.{Pairs, HasNoClash, IsFirstClash}
-use Rattle.kp_base.specs.Exclusive.{NeverAtTheStart, IsInductive, IsExclusive}
+use Rattle.kp_base.specs.Planning.{Member, positive, negative, holds, Pairs, HasNoClash, IsFirstClash, NeverAtTheStart, IsInductive, IsExclusive}
 use Rattle.kp_base.proofs.Lists.{all_member}
 use Rattle.kp_clash_pairs.specs.Settled.{stays}
 use Rattle.kp_clash_pairs.proofs.Public.{settled_inductive}

@@ -6,12 +6,8 @@ use Rattle.std.specs.List.{list_any, list_all}
 use Rattle.kp_base.specs.declared.lit.Lit.{Lit}
 use Rattle.kp_base.specs.declared.ground.Ground.{Ground}
 use Rattle.kp_base.specs.declared.ground.Initial.{Initial}
-use Rattle.kp_base.specs.Lists.{Member}
-use Rattle.kp_base.specs.Lit.{negated}
-use Rattle.kp_base.specs.Implicates.{IsImplicate, is_tautology}
-use Rattle.kp_base.specs.Steps.{State, holds, has, is_model}
-use Rattle.kp_base.specs.Clashes.{Pairs}
-use Rattle.kp_base.specs.Exclusive.{ArePairs, IsPart, AreExclusive, IsInductive}
+use Rattle.kp_base.specs.Planning.{Member, negated, IsImplicate, is_tautology, State, holds, is_model, Pairs, ArePairs, IsPart, AreExclusive, IsInductive}
+use Rattle.kp_base.specs.Steps.{has}
 use Rattle.kp_base.proofs.Lists.{all_member, all_from, any_member}
 use Rattle.kp_primes.specs.Held.{Held, formula, AreWhole}
 use Rattle.kp_clash_pairs.specs.Paired.{is_pair, words_of, place_of, is_marked, IsSquare}

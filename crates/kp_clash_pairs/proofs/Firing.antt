@@ -7,10 +7,7 @@ use Rattle.std.specs.List.{list_any, list_all}
 use Rattle.kp_base.specs.declared.lit.Lit.{Lit}
 use Rattle.kp_base.specs.declared.ground.Effect.{Effect}
 use Rattle.kp_base.specs.declared.ground.Action.{Action}
-use Rattle.kp_base.specs.Lists.{Member}
-use Rattle.kp_base.specs.Lit.{positive, negative, negated, same_lit}
-use Rattle.kp_base.specs.Clashes.{Pairs, are_exclusive, are_compatible, compatible_effects}
-use Rattle.kp_base.specs.Exclusive.{firing_with}
+use Rattle.kp_base.specs.Planning.{Member, positive, negative, negated, same_lit, Pairs, are_exclusive, are_compatible, compatible_effects, firing_with}
 use Rattle.kp_base.proofs.Lists.{bool_same, all_member, all_from, any_from, any_member, member_left, member_right, append_member}
 use Rattle.kp_base.proofs.Lits.{same_lit-true, same_lit-negated}
 use Rattle.kp_clash_pairs.specs.Settled.{deletes_within, keeps_apart}

@@ -7,11 +7,8 @@ use Rattle.kp_base.specs.declared.ground.Effect.{Effect}
 use Rattle.kp_base.specs.declared.ground.Action.{Action}
 use Rattle.kp_base.specs.declared.ground.Ground.{Ground}
 use Rattle.kp_base.specs.declared.ground.Initial.{Initial}
-use Rattle.kp_base.specs.Lists.{Member}
-use Rattle.kp_base.specs.Lit.{positive, negative, same_lit}
+use Rattle.kp_base.specs.Planning.{Member, positive, negative, same_lit, Pairs, are_compatible, compatible_effects, ArePairs, IsPart, NeverAtTheStart, Deletes, firing_with, IsInductive, AreExclusive}
 use Rattle.kp_base.specs.Implicates.{is_within}
-use Rattle.kp_base.specs.Clashes.{Pairs, are_compatible, compatible_effects}
-use Rattle.kp_base.specs.Exclusive.{ArePairs, IsPart, NeverAtTheStart, Deletes, firing_with, IsInductive, AreExclusive}
 use Rattle.kp_base.proofs.Lists.{all_weaker, all_from, all_member, any_from, any_member}
 use Rattle.kp_base.proofs.Lits.{same_lit-true, same_lit-refl}
 use Rattle.kp_base.proofs.Exclusive.{compatible_under_fewer}

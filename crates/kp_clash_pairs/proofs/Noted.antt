@@ -10,10 +10,8 @@ use Rattle.kp_base.specs.declared.lit.Lit.{Lit}
 use Rattle.kp_base.specs.declared.ground.Effect.{Effect}
 use Rattle.kp_base.specs.declared.ground.Action.{Action}
 use Rattle.kp_base.specs.Implicates.{is_within}
-use Rattle.kp_base.specs.Lists.{Member}
-use Rattle.kp_base.specs.Lit.{positive, negative, same_lit, has}
-use Rattle.kp_base.specs.Clashes.{Pairs, are_compatible, compatible_effects}
-use Rattle.kp_base.specs.Exclusive.{firing_with}
+use Rattle.kp_base.specs.Planning.{Member, positive, negative, same_lit, Pairs, are_compatible, compatible_effects, firing_with}
+use Rattle.kp_base.specs.Lit.{has}
 use Rattle.kp_base.proofs.Lists.{all_member, all_weaker, any_weaker, any_from, any_member}
 use Rattle.kp_bits.specs.Packed.{bit_in}
 use Rattle.kp_clash_pairs.specs.Settled.{deletes_within, keeps_apart}

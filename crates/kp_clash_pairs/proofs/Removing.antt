@@ -7,10 +7,7 @@ use Rattle.kp_base.specs.declared.ground.Effect.{Effect}
 use Rattle.kp_base.specs.declared.ground.Action.{Action}
 use Rattle.kp_base.specs.declared.ground.Ground.{Ground}
 use Rattle.kp_base.specs.declared.ground.Initial.{Initial}
-use Rattle.kp_base.specs.Lists.{Member}
-use Rattle.kp_base.specs.Lit.{positive, same_lit}
-use Rattle.kp_base.specs.Clashes.{Pairs, are_compatible, compatible_effects}
-use Rattle.kp_base.specs.Exclusive.{IsPart, firing_with, IsInductive}
+use Rattle.kp_base.specs.Planning.{Member, positive, same_lit, Pairs, are_compatible, compatible_effects, IsPart, firing_with, IsInductive}
 use Rattle.kp_base.proofs.Lists.{all_member, all_from, any_from}
 use Rattle.kp_base.proofs.Lits.{same_lit-true}
 use Rattle.kp_clash_pairs.specs.Paired.{are_both, is_pair}

@@ -4,10 +4,8 @@ use Rattle.std.proofs.lemmas.Bool.{and_parts, and_from, or_cases, or_left, or_ri
 use Rattle.std.proofs.lemmas.Bool.Decides.{nat_tests}
 use Rattle.std.specs.List.{list_all}
 use Rattle.kp_base.specs.declared.lit.Lit.{Lit}
-use Rattle.kp_base.specs.Lit.{negative, same_lit, code_of}
-use Rattle.kp_base.specs.LitSet.{IsAscending}
+use Rattle.kp_base.specs.Planning.{negative, same_lit, code_of, IsAscending, Pairs}
 use Rattle.kp_base.specs.Steps.{has}
-use Rattle.kp_base.specs.Clashes.{Pairs}
 use Rattle.kp_base.proofs.Lits.{same_lit-true}
 use Rattle.kp_clash_pairs.specs.Paired.{are_both, is_marked, IsSquare, IsWritten}
 use Rattle.kp_clash_pairs.specs.Starting.{not_both, denies, pair_of, all_with, IsMarkedWith}

@@ -5,10 +5,8 @@ use Rattle.kp_base.specs.declared.lit.Lit.{Lit}
 use Rattle.kp_base.specs.declared.ground.Effect.{Effect}
 use Rattle.kp_base.specs.declared.ground.Action.{Action}
 use Rattle.kp_base.specs.declared.ground.Ground.{Ground}
-use Rattle.kp_base.specs.Lit.{positive, negative, same_lit}
+use Rattle.kp_base.specs.Planning.{positive, negative, same_lit, Pairs, are_compatible, compatible_effects, firing_with}
 use Rattle.kp_base.specs.Implicates.{is_within}
-use Rattle.kp_base.specs.Clashes.{Pairs, are_compatible, compatible_effects}
-use Rattle.kp_base.specs.Exclusive.{firing_with}
 
 -- the effects add the two atoms, and are compatible
 abbrev pub adds_both : Pairs → ℕ → ℕ → Action → Effect → Effect → Bool

@@ -2,11 +2,9 @@
 use Rattle.std.proofs.Common.{◌≡◌, true, false, ◌||◌, List, [], ◌∷◌, ℕ, Some, None, refl, sym, ap, subst, inl, inr, arith}
 use Rattle.std.proofs.lemmas.Bool.{false≢true, true≢false}
 use Rattle.kp_base.specs.declared.lit.Lit.{Lit}
-use Rattle.kp_base.specs.Lists.{Member}
-use Rattle.kp_base.specs.Lit.{positive, negative}
-use Rattle.kp_base.specs.LitSet.{IsAscending}
+use Rattle.kp_base.specs.Planning.{Member, positive, negative, IsAscending, is_tautology, formula_of, IsPrime}
 use Rattle.kp_base.specs.Steps.{has}
-use Rattle.kp_base.specs.Implicates.{is_tautology, is_within, formula_of, IsPrime}
+use Rattle.kp_base.specs.Implicates.{is_within}
 use Rattle.kp_base.proofs.Lits.{member-has}
 use Rattle.kp_clauses.specs.Resolved.{resolved, resolvent_on}
 use Rattle.kp_clauses.specs.Stored.{subsumed, with_clause}

@@ -4,11 +4,9 @@ use Rattle.std.proofs.lemmas.Bool.{and_parts, or_cases, or_left, or_right, false
 use Rattle.std.proofs.lemmas.List.Sums.{fold-append}
 use Rattle.std.specs.List.{list_any}
 use Rattle.kp_base.specs.declared.lit.Lit.{Lit}
-use Rattle.kp_base.specs.Lists.{Member}
-use Rattle.kp_base.specs.Lit.{negated, same_lit}
-use Rattle.kp_base.specs.LitSet.{IsAscending, with_lit}
-use Rattle.kp_base.specs.Steps.{State, holds, has}
-use Rattle.kp_base.specs.Implicates.{is_within, is_tautology}
+use Rattle.kp_base.specs.Planning.{Member, negated, same_lit, IsAscending, with_lit, State, holds, is_tautology}
+use Rattle.kp_base.specs.Steps.{has}
+use Rattle.kp_base.specs.Implicates.{is_within}
 use Rattle.kp_base.proofs.Lists.{any_member, any_from, all_from, member_left, member_right, append_member, filter_member, member_filter}
 use Rattle.kp_base.proofs.Lits.{has-member, member-has, same_lit-true, same_lit-refl, negated-negated, holds-negated}
 use Rattle.kp_base.proofs.Sets.{any-with_lit, any-set_of, all-set_of, set_ascends}

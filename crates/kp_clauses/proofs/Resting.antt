@@ -2,9 +2,7 @@
 use Rattle.std.proofs.Common.{◌≡◌, Bool, true, false, not, ◌||◌, ◌⊎◌, cond, fold, sym, ◌∙◌, ap, subst, inl, inr, refl, List, [], ◌∷◌, ◌++◌}
 use Rattle.std.proofs.lemmas.Bool.{false≢true, cases_Bool, false_from_ne_true}
 use Rattle.kp_base.specs.declared.lit.Lit.{Lit}
-use Rattle.kp_base.specs.Lists.{Member}
-use Rattle.kp_base.specs.Lit.{negated, same_lit}
-use Rattle.kp_base.specs.LitSet.{with_lit}
+use Rattle.kp_base.specs.Planning.{Member, negated, same_lit, with_lit}
 use Rattle.kp_base.specs.Steps.{has}
 use Rattle.kp_base.specs.Implicates.{is_within}
 use Rattle.kp_base.proofs.Lists.{any_member, any_from, member_left, member_right, append_member, member_filter}

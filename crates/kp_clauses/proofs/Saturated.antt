@@ -3,10 +3,8 @@ use Rattle.std.proofs.Common.{◌≡◌, ℕ, true, false, ◌&&◌, List, ◌�
 use Rattle.std.proofs.lemmas.Bool.{and_parts, and_from, or_cases, false≢true, true_from_ne_false, false_from_ne_true}
 use Rattle.std.specs.List.{list_any, list_all}
 use Rattle.kp_base.specs.declared.lit.Lit.{Lit}
-use Rattle.kp_base.specs.Lists.{Member}
-use Rattle.kp_base.specs.Lit.{positive, negative}
-use Rattle.kp_base.specs.Steps.{State, holds}
-use Rattle.kp_base.specs.Implicates.{is_within, is_tautology, formula_of, IsImplicate, IsPrime}
+use Rattle.kp_base.specs.Planning.{Member, positive, negative, State, holds, is_tautology, formula_of, IsImplicate, IsPrime}
+use Rattle.kp_base.specs.Implicates.{is_within}
 use Rattle.kp_base.proofs.Lists.{any_member, any_from, all_member}
 use Rattle.kp_base.proofs.Members.{ascending_same}
 use Rattle.kp_clauses.specs.Resolved.{resolved}

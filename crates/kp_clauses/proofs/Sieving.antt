@@ -7,9 +7,7 @@ use Rattle.std.proofs.Math.Bool.{and-true, or-false, not-not}
 use Rattle.std.specs.Int.{bit_at}
 use Rattle.std.specs.List.{list_any}
 use Rattle.kp_base.specs.declared.lit.Lit.{Lit}
-use Rattle.kp_base.specs.Lists.{Member}
-use Rattle.kp_base.specs.Lit.{code_of, same_lit}
-use Rattle.kp_base.specs.LitSet.{with_lit}
+use Rattle.kp_base.specs.Planning.{Member, code_of, same_lit, with_lit}
 use Rattle.kp_base.specs.Steps.{has}
 use Rattle.kp_base.specs.Implicates.{is_within}
 use Rattle.kp_base.proofs.Lists.{bool_same, any_member, any_from, member_at, number_at, member_left, member_right, append_member, member_map, map_member, filter_member, member_filter}

@@ -3,10 +3,8 @@ use Rattle.std.proofs.Common.{◌≡◌, ◌*◌, not, eqb-true, ◌<◌, ◌≤
 use Rattle.std.proofs.lemmas.Bool.{cases_order, false≢true, or_cases, or_left, or_right, eq-eqb, false_from_ne_true}
 use Rattle.std.proofs.lemmas.Bool.Decides.{nat_tests}
 use Rattle.kp_base.specs.declared.lit.Lit.{Lit}
-use Rattle.kp_base.specs.Lists.{Member}
-use Rattle.kp_base.specs.Lit.{code_of, same_lit, negated}
-use Rattle.kp_base.specs.LitSet.{IsAscending}
-use Rattle.kp_base.specs.Implicates.{is_within, is_tautology}
+use Rattle.kp_base.specs.Planning.{Member, code_of, same_lit, negated, IsAscending, is_tautology}
+use Rattle.kp_base.specs.Implicates.{is_within}
 use Rattle.kp_base.specs.Steps.{has}
 use Rattle.kp_base.proofs.Ascending.{code_of-injective, tail_ascends}
 use Rattle.kp_base.proofs.Lits.{same_lit-true, same_lit-refl, member-has, negated-negated}

@@ -3,10 +3,9 @@ use Rattle.std.proofs.Common.{◌≡◌, Bool, true, false, not, List, ◌∷◌
 use Rattle.std.proofs.lemmas.Bool.{false≢true, true≢false, true_from_ne_false, cases_Bool, false_from_ne_true}
 use Rattle.std.specs.List.{list_any}
 use Rattle.kp_base.specs.declared.lit.Lit.{Lit}
-use Rattle.kp_base.specs.Lists.{Member}
-use Rattle.kp_base.specs.Lit.{negated}
-use Rattle.kp_base.specs.Steps.{State, holds, has}
-use Rattle.kp_base.specs.Implicates.{is_within, is_tautology}
+use Rattle.kp_base.specs.Planning.{Member, negated, State, holds, is_tautology}
+use Rattle.kp_base.specs.Steps.{has}
+use Rattle.kp_base.specs.Implicates.{is_within}
 use Rattle.kp_base.proofs.Lists.{any_member, any_from, all_from, all_member}
 use Rattle.kp_base.proofs.Lits.{has-member, member-has, negated-negated, holds-negated}
 use Rattle.kp_clauses.specs.Stored.{subsumed}

@@ -2,10 +2,8 @@
 use Rattle.std.specs.Prelude.{Bool, not, ◌&&◌, List, [], ◌++◌, Option, Some, None, filter, fold, if◌then◌else◌}
 use Rattle.std.specs.List.{list_any}
 use Rattle.kp_base.specs.declared.lit.Lit.{Lit}
-use Rattle.kp_base.specs.Lit.{negated, same_lit}
-use Rattle.kp_base.specs.LitSet.{with_lit, set_of}
+use Rattle.kp_base.specs.Planning.{negated, same_lit, with_lit, set_of, is_tautology}
 use Rattle.kp_base.specs.Steps.{has}
-use Rattle.kp_base.specs.Implicates.{is_tautology}
 
 -- the clause without one literal
 abbrev pub without : Lit → List Lit → List Lit

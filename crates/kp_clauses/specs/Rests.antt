@@ -1,9 +1,7 @@
 -- What clauses have beside the literals of another one but one.
 use Rattle.std.specs.Prelude.{◌≡◌, false, not, ◌||◌, ◌++◌, cond, fold, List, []}
 use Rattle.kp_base.specs.declared.lit.Lit.{Lit}
-use Rattle.kp_base.specs.Lists.{Member}
-use Rattle.kp_base.specs.Lit.{negated, same_lit}
-use Rattle.kp_base.specs.LitSet.{with_lit}
+use Rattle.kp_base.specs.Planning.{Member, negated, same_lit, with_lit}
 use Rattle.kp_base.specs.Steps.{has}
 use Rattle.kp_clauses.specs.Resolved.{without}
 

@@ -1,11 +1,9 @@
 -- Saturated lists of clauses: resolution brings nothing new.
 use Rattle.std.specs.Prelude.{◌≡◌, ◌↔◌, ℕ, true, false, ◌||◌, List}
 use Rattle.kp_base.specs.declared.lit.Lit.{Lit}
-use Rattle.kp_base.specs.Lists.{Member}
-use Rattle.kp_base.specs.Lit.{positive, negative}
-use Rattle.kp_base.specs.LitSet.{IsAscending}
+use Rattle.kp_base.specs.Planning.{Member, positive, negative, IsAscending, is_tautology, formula_of, IsOfAtoms, IsPrime}
 use Rattle.kp_base.specs.Steps.{has}
-use Rattle.kp_base.specs.Implicates.{is_within, is_tautology, formula_of, IsOfAtoms, IsPrime}
+use Rattle.kp_base.specs.Implicates.{is_within}
 use Rattle.kp_clauses.specs.Resolved.{resolved}
 use Rattle.kp_clauses.specs.Stored.{subsumed}
 

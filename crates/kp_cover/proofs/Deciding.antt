@@ -10,13 +10,8 @@ use Rattle.kp_base.specs.declared.ground.Initial.{Initial}
 use Rattle.kp_base.specs.declared.ground.TagRow.{TagRow}
 use Rattle.kp_base.specs.declared.ground.TagTable.{TagTable}
 use Rattle.kp_base.specs.declared.ground.Merge.{Merge}
-use Rattle.kp_base.specs.Lists.{Member}
-use Rattle.kp_base.specs.Lit.{code_of, has, same_lit}
-use Rattle.kp_base.specs.LitSet.{IsAscending}
-use Rattle.kp_base.specs.Entailed.{IsClosure, IsValid}
-use Rattle.kp_base.specs.Implicates.{are_below, effect_below, action_below, IsOfItsAtoms}
-use Rattle.kp_base.specs.Relevance.{either_value, IsCandidate, IsClauseFor, AreClausesFor}
-use Rattle.kp_base.specs.Covering.{Meets, Covers, IsTarget, lits_of, tags_of, IsCovered}
+use Rattle.kp_base.specs.Planning.{Member, code_of, same_lit, IsAscending, IsClosure, IsValid, are_below, effect_below, action_below, IsOfItsAtoms, either_value, IsCandidate, IsClauseFor, AreClausesFor, Meets, Covers, IsTarget, lits_of, tags_of, IsCovered}
+use Rattle.kp_base.specs.Lit.{has}
 use Rattle.kp_base.proofs.Lists.{all_member, all_from, any_member, any_from, member_at, member_map, map_member, append_member, member_left, member_right}
 use Rattle.kp_base.proofs.Lits.{same_lit-true, same_lit-refl}
 use Rattle.kp_primes.specs.Held.{Held, formula, AreWhole}

@@ -8,11 +8,9 @@ use Rattle.kp_base.specs.declared.ground.Initial.{Initial}
 use Rattle.kp_base.specs.declared.ground.TagRow.{TagRow}
 use Rattle.kp_base.specs.declared.ground.TagTable.{TagTable}
 use Rattle.kp_base.specs.declared.ground.Merge.{Merge}
-use Rattle.kp_base.specs.Lists.{Member}
-use Rattle.kp_base.specs.Lit.{negated, has}
-use Rattle.kp_base.specs.LitSet.{with_lit, is_within}
-use Rattle.kp_base.specs.Steps.{State, holds, is_model}
-use Rattle.kp_base.specs.Entailed.{tag_holds, IsValid, IsClosure}
+use Rattle.kp_base.specs.Planning.{Member, negated, with_lit, State, holds, is_model, tag_holds, IsValid, IsClosure}
+use Rattle.kp_base.specs.Lit.{has}
+use Rattle.kp_base.specs.LitSet.{is_within}
 use Rattle.kp_base.proofs.Lists.{all_member, all_from, any_member, any_from}
 use Rattle.kp_base.proofs.Lits.{holds-negated}
 use Rattle.kp_base.proofs.Sets.{all-with_lit}

@@ -3,12 +3,9 @@ use Rattle.std.proofs.Common.{◌≡◌, ◌&&◌, ◌||◌, ◌++◌, Bool, tru
 use Rattle.std.proofs.lemmas.Bool.{false≢true, and_parts, and_from}
 use Rattle.std.specs.List.{flat_map, list_any, list_all}
 use Rattle.kp_base.specs.declared.lit.Lit.{Lit}
-use Rattle.kp_base.specs.Lists.{choices, each_once}
-use Rattle.kp_base.specs.LitSet.{with_lit, set_of, same_set}
-use Rattle.kp_base.specs.Covering.{IsCov}
+use Rattle.kp_base.specs.Planning.{choices, each_once, with_lit, set_of, same_set, IsCov, holds}
 use Rattle.kp_base.proofs.Once.{once_by_one}
 use Rattle.kp_base.proofs.Lists.{gathered, any_map, map_map, all_alike, flat_alike, flat_member, filter_member, all_from}
-use Rattle.kp_base.specs.Steps.{holds}
 use Rattle.std.proofs.lemmas.List.{map-append}
 use Rattle.kp_base.proofs.Sets.{all-with_lit, same_sets}
 use Rattle.kp_primes.specs.Held.{Held, formula, AreWhole}

@@ -4,10 +4,7 @@ use Rattle.std.specs.List.{flat_map}
 use Rattle.kp_base.specs.declared.lit.Lit.{Lit}
 use Rattle.kp_base.specs.declared.ground.Action.{Action}
 use Rattle.kp_base.specs.declared.ground.Ground.{Ground}
-use Rattle.kp_base.specs.Lists.{Member}
-use Rattle.kp_base.specs.Lit.{same_lit}
-use Rattle.kp_base.specs.LitSet.{IsAscending, set_of}
-use Rattle.kp_base.specs.Covering.{IsTarget}
+use Rattle.kp_base.specs.Planning.{Member, same_lit, IsAscending, set_of, IsTarget}
 use Rattle.kp_base.proofs.Lists.{append_member, member_left, member_right, flat_member, member_flat_map}
 use Rattle.kp_base.proofs.Lits.{has-member, member-has}
 use Rattle.kp_base.proofs.Sets.{any-set_of, set_ascends}

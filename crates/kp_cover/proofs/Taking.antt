@@ -4,13 +4,7 @@ use Rattle.std.proofs.lemmas.Bool.{and_from}
 use Rattle.std.specs.List.{list_any, list_all}
 use Rattle.kp_base.specs.declared.lit.Lit.{Lit}
 use Rattle.kp_base.specs.declared.ground.Initial.{Initial}
-use Rattle.kp_base.specs.Lists.{Member, choices, each_once}
-use Rattle.kp_base.specs.Lit.{positive, negative}
-use Rattle.kp_base.specs.LitSet.{set_of, same_set}
-use Rattle.kp_base.specs.Steps.{State, holds, is_model}
-use Rattle.kp_base.specs.Entailed.{IsConsistent}
-use Rattle.kp_base.specs.Relevance.{either_value, IsCandidate}
-use Rattle.kp_base.specs.Covering.{IsCov}
+use Rattle.kp_base.specs.Planning.{Member, choices, each_once, positive, negative, set_of, same_set, State, holds, is_model, IsConsistent, either_value, IsCandidate, IsCov}
 use Rattle.kp_base.proofs.Lists.{bool_same, all_member, all_from, any_from, any_member, member_flat_map, member_map, member_filter, filter_member}
 use Rattle.kp_base.proofs.Once.{any-each_once, all_each_once}
 use Rattle.kp_base.proofs.Sets.{all-set_of, same_set-true}

@@ -7,11 +7,8 @@ use Rattle.kp_base.specs.declared.ground.Initial.{Initial}
 use Rattle.kp_base.specs.declared.ground.TagRow.{TagRow}
 use Rattle.kp_base.specs.declared.ground.TagTable.{TagTable}
 use Rattle.kp_base.specs.declared.ground.Merge.{Merge}
-use Rattle.kp_base.specs.Lists.{Member}
-use Rattle.kp_base.specs.Lit.{negated, has}
-use Rattle.kp_base.specs.LitSet.{IsAscending, with_lit}
-use Rattle.kp_base.specs.Entailed.{IsValid, IsTable}
-use Rattle.kp_base.specs.Covering.{IsCovered}
+use Rattle.kp_base.specs.Planning.{Member, negated, IsAscending, with_lit, IsValid, IsTable, IsCovered}
+use Rattle.kp_base.specs.Lit.{has}
 use Rattle.kp_primes.specs.Held.{Held, formula}
 use Rattle.kp_relevance.specs.Relevant.{ArePairsOf}
 use Rattle.kp_cover.specs.Grown.{is_fine}

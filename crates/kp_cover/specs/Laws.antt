@@ -6,12 +6,7 @@ use Rattle.kp_base.specs.declared.ground.Action.{Action}
 use Rattle.kp_base.specs.declared.ground.Ground.{Ground}
 use Rattle.kp_base.specs.declared.ground.Initial.{Initial}
 use Rattle.kp_base.specs.declared.ground.TagTable.{TagTable}
-use Rattle.kp_base.specs.Lists.{Member}
-use Rattle.kp_base.specs.Steps.{State, is_model}
-use Rattle.kp_base.specs.Entailed.{IsConsistent}
-use Rattle.kp_base.specs.Implicates.{are_below}
-use Rattle.kp_base.specs.Relevance.{IsCandidate, AreClausesFor}
-use Rattle.kp_base.specs.Covering.{IsCov, IsComplete, AreUncovered}
+use Rattle.kp_base.specs.Planning.{Member, State, is_model, IsConsistent, are_below, IsCandidate, AreClausesFor, IsCov, IsComplete, AreUncovered}
 use Rattle.kp_primes.specs.Held.{Held, formula, AreWhole}
 use Rattle.kp_cover.specs.Coverage.{AnswersCoverage}
 use Rattle.kp_cover.specs.Covering.{TellsCovers}

@@ -6,9 +6,8 @@ use Rattle.std.specs.Cmp.{IsEquivalence, and_equiv, on_equiv}
 use Rattle.std.proofs.lemmas.Bool.{and_parts, and_from}
 use Rattle.kp_base.specs.declared.lit.Lit.{Lit}
 use Rattle.kp_base.specs.declared.ground.Effect.{Effect}
-use Rattle.kp_base.specs.Lists.{Member, each_once}
-use Rattle.kp_base.specs.Lit.{same_lit, has}
-use Rattle.kp_base.specs.LitSet.{same_set}
+use Rattle.kp_base.specs.Planning.{Member, each_once, same_lit, same_set, Atom, number_of}
+use Rattle.kp_base.specs.Lit.{has}
 use Rattle.kp_base.proofs.Ascending.{same_members}
 use Rattle.kp_base.proofs.Lists.{bool_same, any_map, any_alike, any_member, any_from, all_member, all_from, member_map, map_member, filter_member, member_left, member_right, member_flat_map}
 use Rattle.kp_base.proofs.Lits.{same_lits, contains_has, has_contains}
@@ -17,7 +16,6 @@ use Rattle.kp_base.proofs.Sets.{same_sets, same_set-true, any-set_of, set_ascend
 use Rattle.kp_names_meaning.specs.declared.lifted.GroundLit.{GroundLit}
 use Rattle.kp_names_meaning.specs.Numbered.{Schema, Lifted}
 use Rattle.kp_names_meaning.specs.Lifted.{same_literal, names_literal}
-use Rattle.kp_base.specs.Atoms.{Atom, number_of}
 use Rattle.kp_ground_meaning.specs.declared.flat.FlatEffect.{FlatEffect}
 use Rattle.kp_ground_meaning.specs.Static.{remaining}
 use Rattle.kp_ground_meaning.specs.Flattening.{same_literals, same_flat, flat, flat_of}

@@ -6,9 +6,8 @@ use Rattle.std.proofs.lemmas.List.Folds.{list_all-append}
 use Rattle.std.proofs.Math.Bool.{and-false}
 use Rattle.kp_base.specs.declared.lit.Lit.{Lit}
 use Rattle.kp_base.specs.declared.ground.Effect.{Effect}
-use Rattle.kp_base.specs.Lists.{Member}
-use Rattle.kp_base.specs.Lit.{positive, negative, negated, same_lit}
-use Rattle.kp_base.specs.Steps.{Facts, has, fires}
+use Rattle.kp_base.specs.Planning.{Member, positive, negative, negated, same_lit, Facts, fires}
+use Rattle.kp_base.specs.Steps.{has}
 use Rattle.kp_base.proofs.Lists.{any_member, any_from, any_alike, all_member, bool_same, all_from}
 use Rattle.kp_base.proofs.Lits.{same_lit-true, same_lit-refl}
 use Rattle.kp_base.specs.Implicates.{is_within}

@@ -1,13 +1,11 @@
 -- The ground problem of moves between two places, computed from texts; the laws' premises can be met.
 use Rattle.std.proofs.Common.{◌≡◌, ℕ, false, List, [], ◌∷◌, Option, Some, None, refl, sym, subst, inl, inr, map, codes}
-use Rattle.kp_base.specs.Atoms.{atom}
+use Rattle.kp_base.specs.Planning.{atom, Member, positive, negative, action_name}
 use Rattle.kp_base.specs.declared.lit.Lit.{Lit}
 use Rattle.kp_base.specs.declared.ground.GroundName.{GroundName}
 use Rattle.kp_base.specs.declared.ground.Effect.{Effect}
 use Rattle.kp_base.specs.declared.ground.Action.{Action}
 use Rattle.kp_base.specs.declared.ground.Ground.{Ground}
-use Rattle.kp_base.specs.Lists.{Member}
-use Rattle.kp_base.specs.Lit.{positive, negative}
 use Rattle.kp_names_meaning.specs.Names.{Name}
 use Rattle.kp_names_meaning.specs.Lifted.{State, is_named, IsInitial, IsPlan}
 use Rattle.kp_names_meaning.specs.Numbering.{numbered_problem}
@@ -16,7 +14,6 @@ pub use Rattle.kp_names_meaning.proofs.Public.{moves_by_number, moves_are_number
 use Rattle.kp_ground_meaning.specs.Static.{is_static, HasStaticTruth}
 use Rattle.kp_ground_meaning.specs.Ground.{instance, kept_bindings, kept_instances, ground_atoms, IsNumbering, ground_of}
 use Rattle.kp_ground_meaning.specs.Weights.{binding_count, weight, total_weight}
-use Rattle.kp_base.specs.ActionNames.{action_name}
 use Rattle.kp_ground_meaning.specs.Laws.{IsStepOf, IsGroundRun}
 use Rattle.kp_ground_meaning.proofs.Atoms.{atoms_are_numbered}
 use Rattle.kp_ground_meaning.proofs.Static.{static_at_first}

@@ -12,11 +12,8 @@ use Rattle.kp_tree_grammar.specs.declared.tree.Word.{Word}
 use Rattle.kp_tree_grammar.specs.Trees as trees
 use Rattle.kp_tree_grammar.specs.Trees.{Typed, Domain, Problem}
 use Rattle.kp_names_meaning.specs.declared.lifted.Range.{Range}
-use Rattle.kp_names_meaning.specs.Names.{Name, is_among}
-use Rattle.kp_names_meaning.specs.Types.{names, declared, types_of, object_lines, objects, is_of_type, range}
-use Rattle.kp_names_meaning.specs.Numbered.{Schema, Lifted}
-use Rattle.kp_names_meaning.specs.Lifted.{Instance, bindings, schema_of, is_instance}
-use Rattle.kp_names_meaning.specs.Numbering.{index_of, name_at, numbered_range, numbered_schema, numbered_problem, named_step}
+use Rattle.kp_names_meaning.specs.Problems.{Name, is_among, names, declared, types_of, object_lines, objects, is_of_type, range, Schema, Lifted, Instance, bindings, index_of, name_at, numbered_range, numbered_schema, numbered_problem, named_step}
+use Rattle.kp_names_meaning.specs.Lifted.{schema_of, is_instance}
 use Rattle.kp_names_meaning.proofs.Public.{member_is_among, AreDistinctNames, name_at_index, distinct_are_distinct, instances_are_named_once}
 use Rattle.kp_ground_meaning.specs.Static.{settled}
 use Rattle.kp_ground_meaning.specs.Ground.{kept_bindings, instance, kept_from, kept_instances, ground_atoms}

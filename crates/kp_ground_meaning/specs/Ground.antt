@@ -6,18 +6,13 @@ use Rattle.kp_base.specs.declared.ground.GroundName.{GroundName}
 use Rattle.kp_base.specs.declared.ground.Effect.{Effect}
 use Rattle.kp_base.specs.declared.ground.Action.{Action}
 use Rattle.kp_base.specs.declared.ground.Ground.{Ground}
-use Rattle.kp_base.specs.Lists.{Member}
-use Rattle.kp_base.specs.Atoms.{Atom, atom_before, same_atom, number_of}
-use Rattle.kp_base.specs.Lit.{negated, same_lit}
-use Rattle.kp_base.specs.LitSet.{set_of}
+use Rattle.kp_base.specs.Planning.{Member, Atom, atom_before, same_atom, number_of, negated, same_lit, set_of}
 use Rattle.kp_base.specs.Steps as steps
 use Rattle.kp_base.specs.Steps.{has}
 use Rattle.kp_base.specs.Implicates.{is_within}
 use Rattle.kp_names_meaning.specs.declared.lifted.GroundLit.{GroundLit}
-use Rattle.kp_names_meaning.specs.Names.{Name}
-use Rattle.kp_names_meaning.specs.Numbered.{Schema, Lifted}
-use Rattle.kp_names_meaning.specs.Lifted.{State, Binding, Instance, bindings, item_literals}
-use Rattle.kp_names_meaning.specs.Numbering.{name_at}
+use Rattle.kp_names_meaning.specs.Problems.{Name, Schema, Lifted, Instance, bindings, name_at}
+use Rattle.kp_names_meaning.specs.Lifted.{State, Binding, item_literals}
 use Rattle.kp_ground_meaning.specs.declared.flat.FlatEffect.{FlatEffect}
 use Rattle.kp_ground_meaning.specs.Static.{is_static, settled, remaining}
 use Rattle.kp_ground_meaning.specs.Flattening.{flat, flat_of}

@@ -9,10 +9,8 @@ use Rattle.kp_base.specs.Steps as steps
 use Rattle.kp_base.specs.ActionNames.{action_name}
 use Rattle.kp_tree_grammar.specs.declared.tree.Word.{Word}
 use Rattle.kp_tree_grammar.specs.Trees.{Domain, Problem}
-use Rattle.kp_names_meaning.specs.Faults.{HasNoFault}
-use Rattle.kp_names_meaning.specs.Numbered.{Cond, Eff, Schema, Lifted}
-use Rattle.kp_names_meaning.specs.Lifted.{State, Binding, Instance, names_literal, literal_holds, holds, fires, bindings, permits, state_by, next, IsInitial, IsPlan}
-use Rattle.kp_names_meaning.specs.Numbering.{numbered_problem, named_step}
+use Rattle.kp_names_meaning.specs.Problems.{HasNoFault, Cond, Eff, Schema, Lifted, Instance, literal_holds, holds, bindings, numbered_problem, named_step}
+use Rattle.kp_names_meaning.specs.Lifted.{State, Binding, names_literal, fires, permits, state_by, next, IsInitial, IsPlan}
 use Rattle.kp_names_meaning.specs.declared.lifted.GroundLit.{GroundLit}
 use Rattle.kp_ground_meaning.specs.declared.flat.FlatEffect.{FlatEffect}
 use Rattle.kp_ground_meaning.specs.Static.{HasStaticTruth, settled, remaining}

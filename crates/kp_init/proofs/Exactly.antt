@@ -5,10 +5,7 @@ use Rattle.std.proofs.lemmas.Bool.{and_parts, and_from, or_left, or_right, both_
 use Rattle.std.proofs.lemmas.List.Folds.{list_all-append}
 use Rattle.std.proofs.Math.Bool.{or-false}
 use Rattle.kp_base.specs.declared.lit.Lit.{Lit}
-use Rattle.kp_base.specs.Lists.{Member, each_once}
-use Rattle.kp_base.specs.Lit.{negated, same_lit}
-use Rattle.kp_base.specs.LitSet.{set_of}
-use Rattle.kp_base.specs.Steps.{State, holds}
+use Rattle.kp_base.specs.Planning.{Member, each_once, negated, same_lit, set_of, State, holds}
 use Rattle.kp_base.proofs.Lists.{any_member, any_from, all_member, bool_same, all_from}
 use Rattle.kp_base.proofs.Lits.{same_lit-true, same_lit-refl, holds-negated}
 use Rattle.kp_base.proofs.Once.{any-each_once, all-each_once, Once, each_once_is_once}

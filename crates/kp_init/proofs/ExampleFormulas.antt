@@ -3,8 +3,7 @@ use Rattle.std.proofs.Common.{◌≡◌, ◌<◌, ℕ, Bool, true, false, List, 
 use Rattle.std.proofs.lemmas.Bool.{false≢true}
 use Rattle.kp_base.specs.declared.lit.AtomId.{AtomId}
 use Rattle.kp_base.specs.declared.ground.Initial.{Initial}
-use Rattle.kp_base.specs.Lit.{positive, negative}
-use Rattle.kp_base.specs.Steps.{State, is_model, succeeds, IsGroundPlan}
+use Rattle.kp_base.specs.Planning.{positive, negative, State, is_model, succeeds, IsGroundPlan, action_name, closure, IsAscendingClosure, IsOfAtoms}
 use Rattle.kp_lex.specs.Bytes.{class_of}
 use Rattle.kp_lex.specs.Scanning.{cut_from}
 use Rattle.kp_tree_grammar.specs.Symbols.{symbol_of}
@@ -16,11 +15,8 @@ use Rattle.kp_names_meaning.proofs.Public.{domain_of_text, problem_of_text, comp
 use Rattle.kp_tree_grammar.proofs.Public.{exchange_text, from_p_to_q_text}
 pub use Rattle.kp_names_meaning.proofs.Public.{moves_have_no_fault as no_fault, moves_goal_is_plain as plain}
 use Rattle.kp_ground_meaning.specs.Ground.{ground_atoms, ground_of, seen_on}
-use Rattle.kp_base.specs.ActionNames.{action_name}
 use Rattle.kp_ground_meaning.proofs.Public.{atoms_are_numbered, ground_moves, numbered_texts as by_number, roads_domain, three_towns_problem}
 use Rattle.kp_init.specs.Initial.{initial_of}
-use Rattle.kp_base.specs.Closure.{closure, IsAscendingClosure}
-use Rattle.kp_base.specs.Implicates.{IsOfAtoms}
 use Rattle.kp_init.specs.ByName.{HasNamedAtoms}
 use Rattle.kp_init.specs.Laws.{AreModels, IsNamedRun}
 use Rattle.kp_init.proofs.Models.{initial_exact}

@@ -5,10 +5,8 @@ use Rattle.std.proofs.lemmas.Bool.{and_parts, and_from, or_left, false≢true, b
 use Rattle.std.proofs.lemmas.List.Folds.{list_all-append, list_all-map}
 use Rattle.std.proofs.Math.Bool.{or-false, and-true}
 use Rattle.kp_base.specs.declared.lit.AtomId.{AtomId}
-use Rattle.kp_base.specs.Lists.{Member, signed, only_if}
-use Rattle.kp_base.specs.Lit.{same_lit}
+use Rattle.kp_base.specs.Planning.{Member, signed, only_if, same_lit, is_model, Atom, same_atom, number_of, has_atom}
 use Rattle.kp_base.specs.Steps as steps
-use Rattle.kp_base.specs.Steps.{is_model}
 use Rattle.kp_base.proofs.Lists.{any_member, any_from, all_member, any_alike, all_alike, any_map, bool_same, member_at, filter_member, same-true, same-refl, all_from, member_left, member_right, member_flat_map, member_filter}
 use Rattle.kp_base.proofs.Sets.{any-set_of}
 use Rattle.kp_names_meaning.specs.declared.lifted.GroundLit.{GroundLit}
@@ -16,7 +14,6 @@ use Rattle.kp_names_meaning.specs.declared.lifted.Item.{Item}
 use Rattle.kp_names_meaning.specs.Names.{same}
 use Rattle.kp_names_meaning.specs.Numbered.{Lifted}
 use Rattle.kp_names_meaning.specs.Lifted.{State, literal_holds, same_literal, one_holds, item_holds, item_literals, is_of, is_named, IsInitial}
-use Rattle.kp_base.specs.Atoms.{Atom, same_atom, number_of, has_atom}
 use Rattle.kp_ground_meaning.specs.Static.{is_static, leaves_static, says, initially}
 use Rattle.kp_ground_meaning.specs.Ground.{atom_of, kept_literals, open_literals, numbered, numbered_set, at_atom, seen_on, IsNumbering}
 use Rattle.kp_base.proofs.AtomOrder.{same_atom-true, same_atom-refl, atom_at_its_number}

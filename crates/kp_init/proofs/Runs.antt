@@ -9,11 +9,8 @@ use Rattle.kp_base.specs.declared.ground.GroundName.{GroundName}
 use Rattle.kp_base.specs.declared.ground.Effect.{Effect}
 use Rattle.kp_base.specs.declared.ground.Action.{Action}
 use Rattle.kp_base.specs.declared.ground.Ground.{Ground}
-use Rattle.kp_base.specs.Lists.{Member, each_once, only_if}
-use Rattle.kp_base.specs.Lit.{positive, negative, negated, same_lit}
-use Rattle.kp_base.specs.LitSet.{set_of}
+use Rattle.kp_base.specs.Planning.{Member, each_once, only_if, positive, negative, negated, same_lit, set_of, SameBelow, Atom, number_of, has_atom, action_name, are_below}
 use Rattle.kp_base.specs.Steps as steps
-use Rattle.kp_base.specs.Steps.{SameBelow}
 use Rattle.kp_base.proofs.Closures.{below, all_same}
 use Rattle.kp_base.proofs.Lists.{any_alike, all_member, member_at, all_from, member_left, member_right, member_flat_map}
 use Rattle.kp_base.proofs.Once.{all_filter, all_each_once}
@@ -22,23 +19,15 @@ use Rattle.kp_tree_grammar.specs.declared.tree.Word.{Word}
 use Rattle.kp_tree_grammar.specs.Trees.{Domain, Problem}
 use Rattle.kp_names_meaning.specs.declared.lifted.GroundLit.{GroundLit}
 use Rattle.kp_names_meaning.specs.declared.lifted.Item.{Item}
-use Rattle.kp_names_meaning.specs.Numbered.{Schema, Lifted}
-use Rattle.kp_names_meaning.specs.Lifted.{Instance, IsPlan}
-use Rattle.kp_names_meaning.specs.Faults.{HasNoFault}
-use Rattle.kp_names_meaning.specs.Steps.{Step}
-use Rattle.kp_names_meaning.specs.Plans.{Solves}
-use Rattle.kp_names_meaning.specs.Numbering.{numbered_problem, named_step}
-use Rattle.kp_names_meaning.specs.NumberLaws.{is_plain_goal}
+use Rattle.kp_names_meaning.specs.Problems.{Schema, Lifted, Instance, HasNoFault, Step, Solves, numbered_problem, named_step, is_plain_goal}
+use Rattle.kp_names_meaning.specs.Lifted.{IsPlan}
 use Rattle.kp_names_meaning.proofs.Public.{plans_are_the_same_by_number, goals_are_plain, solves_theirs}
-use Rattle.kp_base.specs.Atoms.{Atom, number_of, has_atom}
 use Rattle.kp_ground_meaning.specs.Static.{remaining}
 use Rattle.kp_ground_meaning.specs.Flattening.{same_flat, flat, flat_of}
 use Rattle.kp_ground_meaning.specs.Ground.{kept_bindings, kept_instances, atom_of, effect_literals, instance_literals, kept_literals, open_literals, ground_atoms, numbered, numbered_set, IsNumbering, numbered_effect, is_idle, ground_pre, ground_effects, action_of, actions_of, ground_over, ground_of, seen_on}
-use Rattle.kp_base.specs.ActionNames.{action_name}
 use Rattle.kp_base.proofs.AtomOrder.{atom_at_its_number}
 use Rattle.kp_ground_meaning.proofs.Public.{atoms_are_numbered, IsCoveredLiteral, instance_literals_occur, ground_runs_are_plans, plan_is_ground_run, actions_named_by_steps}
 use Rattle.kp_init.specs.Initial.{no_two, item_clauses}
-use Rattle.kp_base.specs.Implicates.{are_below}
 use Rattle.kp_base.proofs.Parts.{all_flat_map}
 use Rattle.kp_init.specs.Laws.{IsModelRun, IsNamedRun, IsInitialOver, IsPlanByModels, IsPlanByName, IsPlanOfTexts}
 use Rattle.kp_init.proofs.Models.{initial_exact, list_covered, ground_covered, closed_all}

@@ -4,13 +4,10 @@ use Rattle.std.specs.List.{flat_map}
 use Rattle.kp_base.specs.declared.lit.Lit.{Lit}
 use Rattle.kp_base.specs.declared.lit.AtomId.{AtomId}
 use Rattle.kp_base.specs.declared.ground.Initial.{Initial}
-use Rattle.kp_base.specs.Lists.{only_if, each_once}
-use Rattle.kp_base.specs.Lit.{negated, same_lit}
-use Rattle.kp_base.specs.LitSet.{set_of}
+use Rattle.kp_base.specs.Planning.{only_if, each_once, negated, same_lit, set_of, Atom, has_atom, number_of}
 use Rattle.kp_names_meaning.specs.declared.lifted.Item.{Item}
 use Rattle.kp_names_meaning.specs.Numbered.{Lifted}
 use Rattle.kp_names_meaning.specs.Lifted.{is_named}
-use Rattle.kp_base.specs.Atoms.{Atom, has_atom, number_of}
 use Rattle.kp_ground_meaning.specs.Ground.{atom_of, ground_atoms, numbered, numbered_set}
 
 -- for each pair of literals, the first slowest: not both hold

@@ -1,22 +1,14 @@
 -- The laws of the initial formula: its models are the initial states, and plans are runs from the models.
 use Rattle.std.specs.Prelude.{◌≡◌, ◌↔◌, ◌<◌, ℕ, true, List, Some, map, length, slice_get}
 use Rattle.kp_base.specs.Steps as steps
-use Rattle.kp_base.specs.Steps.{is_model, IsGroundPlan}
+use Rattle.kp_base.specs.Planning.{is_model, IsGroundPlan, Atom, action_name, IsOfAtoms}
 use Rattle.kp_tree_grammar.specs.declared.tree.Word.{Word}
 use Rattle.kp_tree_grammar.specs.Trees.{Domain, Problem}
-use Rattle.kp_names_meaning.specs.Faults.{HasNoFault}
-use Rattle.kp_names_meaning.specs.Steps.{Step}
+use Rattle.kp_names_meaning.specs.Problems.{HasNoFault, Step, HasProblem, Solves, Lifted, Instance, numbered_problem, is_plain_goal}
 use Rattle.kp_names_meaning.specs.Plans as plans
-use Rattle.kp_names_meaning.specs.Plans.{HasProblem, Solves}
-use Rattle.kp_names_meaning.specs.Numbered.{Lifted}
-use Rattle.kp_names_meaning.specs.Lifted.{State, Instance, IsInitial, IsPlan}
-use Rattle.kp_names_meaning.specs.Numbering.{numbered_problem}
-use Rattle.kp_names_meaning.specs.NumberLaws.{is_plain_goal}
-use Rattle.kp_base.specs.Atoms.{Atom}
+use Rattle.kp_names_meaning.specs.Lifted.{State, IsInitial, IsPlan}
 use Rattle.kp_ground_meaning.specs.Ground.{IsNumbering, kept_instances, ground_over, ground_of, seen_on}
-use Rattle.kp_base.specs.ActionNames.{action_name}
 use Rattle.kp_init.specs.Initial.{initial_over, initial_of}
-use Rattle.kp_base.specs.Implicates.{IsOfAtoms}
 
 -- the initial states and the models: each initial state, seen on the ground atoms, is a model; each model is one so; no two initial states are the same model
 pub record AreModels (l : Lifted) (atoms : List Atom) : Type 0 where

@@ -5,17 +5,13 @@ use Rattle.kp_base.specs.declared.lit.Lit.{Lit}
 use Rattle.kp_base.specs.declared.ground.Initial.{Initial}
 use Rattle.kp_base.specs.declared.refused.Refused.TheVariants as refusals
 use Rattle.kp_base.specs.declared.refused.Stop.TheVariants as stops
-use Rattle.kp_base.specs.Lists.{Member, only_if, each_once}
-use Rattle.kp_base.specs.Lit.{negated, same_lit}
-use Rattle.kp_base.specs.LitSet.{IsAscending, set_of}
-use Rattle.kp_base.specs.Implicates.{IsLeastOver, IsNeverOver}
+use Rattle.kp_base.specs.Planning.{Member, only_if, each_once, negated, same_lit, IsAscending, set_of, IsLeastOver, IsNeverOver, Atom, has_atom}
 use Rattle.kp_base.proofs.Lists.{append_member, map_member, flat_member}
 use Rattle.kp_base.proofs.Sets.{set_ascends}
 use Rattle.kp_primes.specs.Included.{all_included, AreSets, passed_at}
 use Rattle.kp_primes.specs.Answers.{RefusesPrimes, too_many}
 use Rattle.kp_primes.proofs.Public.{counted_is_never_over, prefix_stops_the_build}
 use Rattle.kp_names_meaning.specs.declared.lifted.Item.{Item}
-use Rattle.kp_base.specs.Atoms.{Atom, has_atom}
 use Rattle.kp_ground_meaning.specs.Ground.{atom_of, numbered, numbered_set, ground_atoms}
 use Rattle.kp_init.specs.Initial.{no_two, item_clauses}
 use Rattle.kp_law_decidable.specs.Laws.{FormulasAreAscending, ImplicatesAreCounted}

@@ -9,14 +9,7 @@ use Rattle.kp_base.specs.declared.ground.Initial.{Initial}
 use Rattle.kp_base.specs.declared.ground.Merge.{Merge}
 use Rattle.kp_base.specs.declared.ground.TagRow.{TagRow}
 use Rattle.kp_base.specs.declared.ground.TagTable.{TagTable}
-use Rattle.kp_base.specs.Lists.{Member}
-use Rattle.kp_base.specs.Lit.{same_lit}
-use Rattle.kp_base.specs.LitSet.{set_of}
-use Rattle.kp_base.specs.Steps.{State, holds, is_model}
-use Rattle.kp_base.specs.Entailed.{tag_holds, IsValid}
-use Rattle.kp_base.specs.Covering.{AllMeet, Covers, tags_of, IsCovered, AreUncovered}
-use Rattle.kp_base.specs.Implicates.{are_below, IsOfAtoms}
-use Rattle.kp_base.specs.Relevance.{AreClausesFor}
+use Rattle.kp_base.specs.Planning.{Member, same_lit, set_of, State, holds, is_model, tag_holds, IsValid, AllMeet, Covers, tags_of, IsCovered, AreUncovered, are_below, IsOfAtoms, AreClausesFor}
 use Rattle.kp_base.proofs.Lists.{any_alike, all_member, all_weaker, member_at}
 use Rattle.kp_base.proofs.Lits.{same_lit-true, same_lit-refl}
 use Rattle.kp_base.proofs.Sets.{set_ascends}

@@ -6,10 +6,7 @@ use Rattle.kp_base.specs.declared.ground.Ground.{Ground}
 use Rattle.kp_base.specs.declared.ground.Initial.{Initial}
 use Rattle.kp_base.specs.declared.refused.Refused.{Refused}
 use Rattle.kp_base.specs.declared.refused.Refused.TheVariants as refusals
-use Rattle.kp_base.specs.Lists.{Member}
-use Rattle.kp_base.specs.Covering.{IsCov, AllMeet, IsTarget}
-use Rattle.kp_base.specs.Implicates.{IsOfAtoms}
-use Rattle.kp_base.specs.Relevance.{AreClausesFor, either_value}
+use Rattle.kp_base.specs.Planning.{Member, IsCov, AllMeet, IsTarget, IsOfAtoms, AreClausesFor, either_value}
 use Rattle.kp_base.proofs.Lists.{append_member, map_member}
 use Rattle.kp_cover_subsets.specs.Subsets.{subsets, choose}
 use Rattle.kp_cover.specs.Targets.{AreTargets}

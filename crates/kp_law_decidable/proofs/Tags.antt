@@ -4,13 +4,7 @@ use Rattle.std.proofs.lemmas.Bool.{and_parts, and_from, false≢true}
 use Rattle.std.specs.List.{list_all}
 use Rattle.kp_base.specs.declared.lit.Lit.{Lit}
 use Rattle.kp_base.specs.declared.ground.Initial.{Initial}
-use Rattle.kp_base.specs.Lists.{Member, choices, each_once}
-use Rattle.kp_base.specs.Lit.{negated}
-use Rattle.kp_base.specs.LitSet.{set_of, same_set}
-use Rattle.kp_base.specs.Steps.{State, holds, is_model}
-use Rattle.kp_base.specs.Entailed.{Entails, IsConsistent}
-use Rattle.kp_base.specs.Covering.{TellsConsistent, IsCov, Meets, AllMeet}
-use Rattle.kp_base.specs.Implicates.{are_below, IsOfAtoms}
+use Rattle.kp_base.specs.Planning.{Member, choices, each_once, negated, set_of, same_set, State, holds, is_model, Entails, IsConsistent, TellsConsistent, IsCov, Meets, AllMeet, are_below, IsOfAtoms}
 use Rattle.kp_base.proofs.Lists.{all_weaker}
 use Rattle.kp_base.proofs.Lits.{holds-negated}
 use Rattle.kp_law_decidable.specs.Laws.{TagsAreDecided}

@@ -3,16 +3,11 @@ use Rattle.std.proofs.Common.{◌≡◌, ◌≢◌, ◌<◌, inl, inr, refl, sym
 use Rattle.std.proofs.lemmas.Bool.{and_parts, and_from, or_cases, or_left, false≢true, not-true, ltb-true, lt-ltb, eqb-true, eq-eqb}
 use Rattle.std.specs.List.{range_with_len}
 use Rattle.kp_base.specs.declared.ground.Initial.{Initial}
-use Rattle.kp_base.specs.Lists.{Member}
-use Rattle.kp_base.specs.Lit.{positive, negative}
-use Rattle.kp_base.specs.Steps.{State, has, is_model}
-use Rattle.kp_base.specs.Clashes.{Pairs}
-use Rattle.kp_base.specs.Entailed.{IsClosure}
-use Rattle.kp_base.specs.Implicates.{IsOfAtoms}
+use Rattle.kp_base.specs.Planning.{Member, positive, negative, State, is_model, Pairs, IsClosure, IsOfAtoms, closure}
+use Rattle.kp_base.specs.Steps.{has}
 use Rattle.kp_base.proofs.Members.{range_only}
 use Rattle.kp_base.proofs.Lists.{any_from, any_member, flat_member, map_member, member_filter, filter_member}
 use Rattle.kp_base.proofs.Cases.{orders}
-use Rattle.kp_base.specs.Closure.{closure}
 use Rattle.kp_base.proofs.Closures.{closure_over_first_atoms}
 use Rattle.kp_clash_pairs.specs.Paired.{are_both, is_pair, all_below}
 use Rattle.kp_clash.specs.Settling.{AreNeverTogether}

@@ -10,13 +10,7 @@ use Rattle.kp_base.specs.declared.limits.Limits.{Limits}
 use Rattle.kp_base.specs.declared.limits.Mode.{Mode}
 use Rattle.kp_base.specs.declared.refused.ClashAt.{ClashAt}
 use Rattle.kp_base.specs.declared.refused.Refused.{Refused}
-use Rattle.kp_base.specs.Lists.{Member}
-use Rattle.kp_base.specs.LitSet.{IsAscending}
-use Rattle.kp_base.specs.Implicates.{IsOfAtoms, IsOfItsAtoms, IsLeastOver, IsNeverOver}
-use Rattle.kp_base.specs.Entailed.{HasModel, HasNoModel}
-use Rattle.kp_base.specs.Exclusive.{ClashesFirst, IsClashFree}
-use Rattle.kp_base.specs.Relevance.{AreClausesFor}
-use Rattle.kp_base.specs.Covering.{TellsConsistent, IsCov, AllMeet, Covers, AreUncovered, IsComplete}
+use Rattle.kp_base.specs.Planning.{Member, IsAscending, IsOfAtoms, IsOfItsAtoms, IsLeastOver, IsNeverOver, HasModel, HasNoModel, ClashesFirst, IsClashFree, AreClausesFor, TellsConsistent, IsCov, AllMeet, Covers, AreUncovered, IsComplete}
 use Rattle.kp_cover.specs.Targets.{AreTargets}
 use Rattle.kp_relevance.specs.Relevant.{ArePairsOf}
 use Rattle.kp_width.specs.declared.report.WidthReport.{WidthReport}

@@ -10,11 +10,7 @@ use Rattle.kp_base.specs.Lists.{Member}
 use Rattle.kp_base.proofs.Lists.{all_from, map_map, map_member}
 use Rattle.kp_names_meaning.specs.declared.lifted.GroundLit.{GroundLit}
 use Rattle.kp_names_meaning.specs.declared.lifted.Pred.{Pred}
-use Rattle.kp_names_meaning.specs.Names.{Name, same, is_among, distinct}
-use Rattle.kp_names_meaning.specs.Types.{declared, object_lines, objects}
-use Rattle.kp_names_meaning.specs.Numbered.{Lifted}
-use Rattle.kp_names_meaning.specs.Lifted.{ground}
-use Rattle.kp_names_meaning.specs.Numbering.{heads, numbered_pred, numbered_problem}
+use Rattle.kp_names_meaning.specs.Problems.{Name, same, is_among, distinct, declared, object_lines, objects, Lifted, ground, heads, numbered_pred, numbered_problem}
 use Rattle.kp_names_meaning.proofs.Public.{AreDistinctNames, distinct_are_distinct, is_valid_literal, HasCleanParts, clean_parts}
 use Rattle.kp_base.specs.Atoms.{Atom}
 use Rattle.kp_ground_meaning.specs.Ground.{atom_of, occurring, ground_atoms}

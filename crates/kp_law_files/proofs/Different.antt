@@ -7,16 +7,12 @@ use Rattle.kp_base.specs.Lists.{Member}
 use Rattle.kp_base.proofs.Lists.{any_member, append_empty, append_member, flat_empty, map_member, member_at, member_map, same-true}
 use Rattle.kp_tree_grammar.specs.declared.tree.Word.{Word}
 use Rattle.kp_tree_grammar.specs.Trees.{Term, Atom as AtomTree, Lit, Item, Items, Domain, Problem}
-use Rattle.kp_names_meaning.specs.Names.{Name, same, all_same}
-use Rattle.kp_names_meaning.specs.Types.{objects}
-use Rattle.kp_names_meaning.specs.Faults.{term_faults, atom_faults, lit_faults, item_faults, items_faults}
+use Rattle.kp_names_meaning.specs.Problems.{Name, same, all_same, objects, term_faults, atom_faults, lit_faults, item_faults, items_faults, Literal, unbound, by_name, items_literals, Lifted, index_of, name_at, heads, object_number, numbered_literal, numbered_problem, named_objects, named_literal, AreObjects, Agree}
 use Rattle.kp_names_meaning.specs.States as named
-use Rattle.kp_names_meaning.specs.States.{Literal, literal, unbound, object_of}
+use Rattle.kp_names_meaning.specs.States.{literal, object_of}
 use Rattle.kp_names_meaning.specs.Initial as named_initial
-use Rattle.kp_names_meaning.specs.Initial.{by_name, item_literals, items_literals, is_of, is_named}
-use Rattle.kp_names_meaning.specs.Numbered.{Lifted}
+use Rattle.kp_names_meaning.specs.Initial.{item_literals, is_of, is_named}
 use Rattle.kp_names_meaning.specs.Lifted.{State}
-use Rattle.kp_names_meaning.specs.Numbering.{index_of, name_at, heads, object_number, numbered_literal, numbered_problem, named_objects, named_literal, AreObjects, Agree}
 use Rattle.kp_names_meaning.proofs.Public.{name_at_index, head_is_declared, atom_terms_have_no_fault, all_same_names-true, valid_literal_parts, numbered_literal_is_valid, HasCleanParts, clean_parts, initial_states_are_the_same_by_number}
 use Rattle.kp_base.specs.Atoms.{Atom}
 use Rattle.kp_ground_meaning.specs.Ground.{ground_atoms, atom_name, at_atom, seen_on}

@@ -3,17 +3,13 @@ use Rattle.std.proofs.Common.{◌<◌, length, arith, ◌≡◌, zero, suc, true
 use Rattle.std.proofs.Math.Bool.{and-false}
 use Rattle.std.proofs.lemmas.Bool.{false≢true}
 use Rattle.kp_base.specs.declared.lit.Lit.{Lit}
-use Rattle.kp_base.specs.Lit.{positive, negative, same_lit}
-use Rattle.kp_base.specs.Steps.{Facts}
-use Rattle.kp_base.specs.Machine.{MachineStep, Known, start, facts_after, after_act, accepts_from, one_tag_table}
+use Rattle.kp_base.specs.Planning.{positive, negative, same_lit, Facts, MachineStep, Known, start, facts_after, after_act, accepts_from, one_tag_table, IsTable, AreValid, NeverClashes}
 use Rattle.kp_lex.specs.Bytes.{class_of}
 use Rattle.kp_lex.specs.Scanning.{cut_from}
 use Rattle.kp_tree_grammar.specs.Symbols.{symbol_of}
 use Rattle.kp_tree_grammar.specs.Parsing.{some_at, next_at}
-use Rattle.kp_names_meaning.specs.Faults.{HasNoFault}
-use Rattle.kp_names_meaning.specs.Steps.{Step}
-use Rattle.kp_names_meaning.specs.Plans.{HasProblem, IsPlan}
-use Rattle.kp_names_meaning.specs.NumberLaws.{is_plain_goal}
+use Rattle.kp_names_meaning.specs.Problems.{HasNoFault, Step, HasProblem, is_plain_goal, StripsToPlan}
+use Rattle.kp_names_meaning.specs.Plans.{IsPlan}
 use Rattle.kp_names_meaning.proofs.Public.{domain_of_text as domain_of, problem_of_text as problem_of, computes_a_problem, cells_domain, one_cell_problem}
 use Rattle.kp_law_files.specs.Translations.{ground_of, initial_of, start_of}
 use Rattle.kp_law_files.specs.Tables.{empty_tag, IsTableFor}
@@ -22,13 +18,10 @@ use Rattle.kp_law_files.proofs.Tables.{tables_written as tables_can_be_written, 
 use Rattle.kp_write.specs.Named as texts
 use Rattle.kp_law_machine.proofs.Public as machine
 use Rattle.kp_base.specs.declared.ground.Ground.{Ground}
-use Rattle.kp_base.specs.Entailed.{IsTable, AreValid}
-use Rattle.kp_base.specs.Clashes.{NeverClashes}
 use Rattle.kp_law_ktask.specs.Task.{task_of}
 use Rattle.kp_law_ktask.specs.Writable.{IsWritableTask}
 use Rattle.kp_law_ktask.proofs.Public.{tagged_plans_are_accepted}
 use Rattle.kp_law_ktask.proofs.Public as tagged
-use Rattle.kp_names_meaning.specs.Strip.{StripsToPlan}
 use Rattle.kp_law_files.specs.Laws.{IsSafelyWritten}
 use Rattle.kp_law_files.proofs.Trees.{translations_sound}
 

@@ -8,14 +8,8 @@ use Rattle.kp_base.specs.declared.ground.Ground.{Ground}
 use Rattle.kp_base.specs.declared.ground.Initial.{Initial}
 use Rattle.kp_base.specs.declared.ground.Merge.{Merge}
 use Rattle.kp_base.specs.declared.ground.TagRow.{TagRow}
-use Rattle.kp_base.specs.Lists.{Member}
-use Rattle.kp_base.specs.Lit.{positive, negative, has}
-use Rattle.kp_base.specs.Steps.{State, holds, is_model, IsGroundPlan}
-use Rattle.kp_base.specs.Entailed.{HasModel}
-use Rattle.kp_base.specs.Implicates.{IsOfItsAtoms}
-use Rattle.kp_base.specs.Relevance.{IsCandidate, IsClauseFor}
-use Rattle.kp_base.specs.Covering.{Meets, Covers, tags_of, IsTarget, IsCovered, IsComplete}
-use Rattle.kp_base.specs.Machine.{accepts, start, one_tag_table}
+use Rattle.kp_base.specs.Planning.{Member, positive, negative, State, holds, is_model, IsGroundPlan, HasModel, IsOfItsAtoms, IsCandidate, IsClauseFor, Meets, Covers, tags_of, IsTarget, IsCovered, IsComplete, accepts, start, one_tag_table, action_name}
+use Rattle.kp_base.specs.Lit.{has}
 use Rattle.kp_base.proofs.Lists.{any_member}
 use Rattle.kp_law_machine.proofs.Public as machine
 use Rattle.kp_law_machine.proofs.Public.{accepted_lists_are_plans, relevant_is_of_the_atoms}
@@ -25,7 +19,6 @@ use Rattle.kp_names_meaning.specs.Initial.{HasInitialState}
 use Rattle.kp_names_meaning.specs.Plans.{IsPlan}
 use Rattle.kp_names_meaning.proofs.Public.{domain_of_text, problem_of_text, cells_domain, one_cell_problem}
 use Rattle.kp_init.proofs.Public.{plan_of_texts}
-use Rattle.kp_base.specs.ActionNames.{action_name}
 use Rattle.kp_law_ktask.specs.Accepted.{IsAccepted}
 use Rattle.kp_law_ktask.proofs.Public as tagged
 use Rattle.kp_law_files.specs.Translations.{ground_of, initial_of}

@@ -6,10 +6,8 @@ use Rattle.kp_lex.specs.Bytes.{class_of}
 use Rattle.kp_lex.specs.Scanning.{cut_from}
 use Rattle.kp_tree_grammar.specs.Symbols.{symbol_of}
 use Rattle.kp_tree_grammar.specs.Parsing.{some_at, next_at}
-use Rattle.kp_names_meaning.specs.Steps.{Step}
-use Rattle.kp_names_meaning.specs.Strip.{do_front, strip, StripsToSolution, StripsToPlan}
-use Rattle.kp_names_meaning.specs.Numbered.{Lifted}
-use Rattle.kp_names_meaning.specs.Plans.{HasProblem, IsPlan}
+use Rattle.kp_names_meaning.specs.Problems.{Step, do_front, strip, StripsToSolution, StripsToPlan, Lifted, HasProblem, encoded}
+use Rattle.kp_names_meaning.specs.Plans.{IsPlan}
 use Rattle.kp_names_meaning.proofs.Public.{domain_of_text as domain_of, problem_of_text as problem_of, computes_a_problem, moves_domain, from_a_to_b_problem, move_step, moves_by_number, moves_are_numbered, moves_have_no_fault, moves_goal_is_plain}
 use Rattle.kp_ground_meaning.specs.Ground.{ground_of}
 use Rattle.kp_init.specs.Initial.{initial_of}
@@ -22,7 +20,6 @@ use Rattle.kp_write.specs.Named as texts
 use Rattle.kp_law_machine.proofs.Public.{one_sided_actions_never_clash}
 use Rattle.kp_base.specs.Machine.{MachineStep, one_tag_table}
 use Rattle.kp_base.specs.declared.ground.GroundName.{GroundName}
-use Rattle.kp_names_meaning.specs.Encoding.{encoded}
 use Rattle.kp_law_ktask.specs.Task.{task_of}
 use Rattle.kp_law_ktask.specs.Writable.{IsWritableTask}
 use Rattle.kp_law_ktask.specs.Accepted.{IsAccepted}

@@ -7,13 +7,10 @@ use Rattle.std.proofs.lemmas.List.Sums.{sum_by-append, sum_by-cons}
 use Rattle.std.proofs.Math.Nat.{suc-mul}
 use Rattle.kp_base.specs.declared.lit.Lit.{Lit}
 use Rattle.kp_base.specs.declared.ground.Effect.{Effect}
-use Rattle.kp_base.specs.Lists.{only_if, each_once}
-use Rattle.kp_base.specs.Lit.{code_of, negated}
-use Rattle.kp_base.specs.LitSet.{with_lit, set_of}
+use Rattle.kp_base.specs.Planning.{only_if, each_once, code_of, negated, with_lit, set_of, Atom}
 use Rattle.kp_names_meaning.specs.Numbered.{Cond, Conds, Eff, Effs, Schema, Lifted}
 use Rattle.kp_names_meaning.specs.Numbering.{numbered_problem}
 use Rattle.kp_names_meaning.specs.Lifted.{Binding, bindings, literal}
-use Rattle.kp_base.specs.Atoms.{Atom}
 use Rattle.kp_ground_meaning.specs.declared.flat.FlatEffect.{FlatEffect}
 use Rattle.kp_ground_meaning.specs.Static.{is_static, settled, remaining, all_remaining}
 use Rattle.kp_ground_meaning.specs.Flattening.{under, flat, all_flat, same_flat}

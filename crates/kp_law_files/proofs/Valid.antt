@@ -10,17 +10,10 @@ use Rattle.kp_base.specs.Lists.{Member, only_if}
 use Rattle.kp_base.proofs.Lists.{all_member, all_from, append_member, map_member, flat_member, filter_member, append_empty}
 use Rattle.kp_names_meaning.specs.declared.lifted.GroundLit.{GroundLit}
 use Rattle.kp_names_meaning.specs.declared.lifted.Item.{Item}
-use Rattle.kp_names_meaning.specs.Names.{Name}
-use Rattle.kp_names_meaning.specs.Types.{declared, objects}
-use Rattle.kp_names_meaning.specs.Faults.{inside, variable_faults, cond_faults, conds_faults, eff_faults, effs_faults, atom_faults}
+use Rattle.kp_names_meaning.specs.Problems.{Name, declared, objects, inside, variable_faults, cond_faults, conds_faults, eff_faults, effs_faults, atom_faults, unbound, bind, object_lists, parameters, Lifted, ground, bindings, index_of, heads, numbered_terms, numbered_head, numbered_cond, numbered_conds, numbered_eff, numbered_effs, numbered_schema, numbered_literal, numbered_item, numbered_goal, numbered_goals, numbered_problem, AreObjects, Matches}
 use Rattle.kp_names_meaning.specs.States as named
-use Rattle.kp_names_meaning.specs.States.{unbound, bind}
-use Rattle.kp_names_meaning.specs.Steps.{object_lists, parameters}
 use Rattle.kp_names_meaning.specs.Numbered as numbers
-use Rattle.kp_names_meaning.specs.Numbered.{Lifted}
-use Rattle.kp_names_meaning.specs.Lifted.{Binding, object_of, ground, bindings, item_literals}
-use Rattle.kp_names_meaning.specs.Numbering.{index_of, heads, numbered_terms, numbered_head, numbered_cond, numbered_conds, numbered_eff, numbered_effs, numbered_schema, numbered_literal, numbered_item, numbered_goal, numbered_goals, numbered_problem, AreObjects}
-use Rattle.kp_names_meaning.specs.NumberLaws.{Matches}
+use Rattle.kp_names_meaning.specs.Lifted.{Binding, object_of, item_literals}
 use Rattle.kp_names_meaning.proofs.Public.{index_below, terms_are_objects, head_is_declared, atom_terms_have_no_fault, matches_inside, bindings_numbered, object_list_fits, is_valid_literal, ground_is_valid, no_variables_match, numbered_literal_is_valid, item_literals_are_valid, HasCleanParts, indexes_are_objects}
 use Rattle.kp_ground_meaning.specs.declared.flat.FlatEffect.{FlatEffect}
 use Rattle.kp_ground_meaning.specs.Static.{is_static, settled, remaining, all_remaining}

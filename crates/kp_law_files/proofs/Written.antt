@@ -19,12 +19,7 @@ use Rattle.kp_base.proofs.Lists as lists
 use Rattle.kp_base.proofs.Lits.{has-member}
 use Rattle.kp_base.proofs.Sets.{all-set_of}
 use Rattle.kp_names_meaning.specs.declared.lifted.GroundLit.{GroundLit}
-use Rattle.kp_names_meaning.specs.Names.{Name, same, all_same, distinct}
-use Rattle.kp_names_meaning.specs.Types.{declared, object_lines, objects}
-use Rattle.kp_names_meaning.specs.Faults.{HasNoFault}
-use Rattle.kp_names_meaning.specs.Numbered.{Schema, Lifted}
-use Rattle.kp_names_meaning.specs.Numbering.{name_at, heads, numbered_schema, numbered_problem, AreObjects}
-use Rattle.kp_names_meaning.specs.GroundNames.{IsGroundName, same_name}
+use Rattle.kp_names_meaning.specs.Problems.{Name, same, all_same, distinct, declared, object_lines, objects, HasNoFault, Schema, Lifted, name_at, heads, numbered_schema, numbered_problem, AreObjects, IsGroundName, same_name}
 use Rattle.kp_names_meaning.proofs.Public.{all_same_names-true, valid_literal_parts, atoms_equal_as_named, HasCleanParts, clean_parts}
 use Rattle.kp_base.specs.Atoms.{Atom, atom_before, same_atom, number_of, AtomsAscend}
 use Rattle.kp_ground_meaning.specs.declared.flat.FlatEffect.{FlatEffect}

@@ -2,18 +2,12 @@
 use Rattle.std.specs.Prelude.{◌≡◌, ◌↔◌, ◌<◌, ℕ, List, [], length}
 use Rattle.kp_base.specs.declared.lit.Lit.{Lit}
 use Rattle.kp_base.specs.declared.ground.GroundName.{GroundName}
-use Rattle.kp_base.specs.Lists.{Member}
-use Rattle.kp_base.specs.LitSet.{IsAscending}
-use Rattle.kp_base.specs.Entailed.{HasModel, IsClosure}
+use Rattle.kp_base.specs.Planning.{Member, IsAscending, HasModel, IsClosure, IsOfAtoms, IsOfItsAtoms}
 use Rattle.kp_tree_grammar.specs.declared.tree.Word.{Word}
 use Rattle.kp_tree_grammar.specs.Trees.{Domain, Problem}
-use Rattle.kp_names_meaning.specs.Names.{Name}
+use Rattle.kp_names_meaning.specs.Problems.{Name, HasInitialState, HasNoFault, HasProblem, numbered_problem}
 use Rattle.kp_names_meaning.specs.States.{State}
-use Rattle.kp_names_meaning.specs.Initial.{IsInitial, HasInitialState}
-use Rattle.kp_names_meaning.specs.Faults.{HasNoFault}
-use Rattle.kp_names_meaning.specs.Plans.{HasProblem}
-use Rattle.kp_base.specs.Implicates.{IsOfAtoms, IsOfItsAtoms}
-use Rattle.kp_names_meaning.specs.Numbering.{numbered_problem}
+use Rattle.kp_names_meaning.specs.Initial.{IsInitial}
 use Rattle.kp_init.specs.ByName.{HasNamedAtoms}
 use Rattle.kp_write.specs.Grounds.{AreOfAtoms, IsWritable}
 use Rattle.kp_law_files.specs.Translations.{ground_of, initial_of, start_of}

@@ -1,20 +1,13 @@
 -- The plans of what is written for two trees, or two texts, and a table of tags and merges: they strip to plans of these, and with a complete table each plan of these is the strip of one.
 use Rattle.std.specs.Prelude.{◌≡◌, ℕ, true, List, Some, map}
 use Rattle.kp_base.specs.declared.ground.TagTable.{TagTable}
-use Rattle.kp_base.specs.Implicates.{IsOfItsAtoms}
-use Rattle.kp_base.specs.Clashes.{NeverClashes}
-use Rattle.kp_base.specs.Covering.{IsComplete}
+use Rattle.kp_base.specs.Planning.{IsOfItsAtoms, NeverClashes, IsComplete, action_name}
 use Rattle.kp_law_machine.specs.Lifts.{lift_of}
 use Rattle.kp_tree_grammar.specs.declared.tree.Word.{Word}
 use Rattle.kp_tree_grammar.specs.Trees.{Domain, Problem}
-use Rattle.kp_names_meaning.specs.Faults.{HasNoFault}
-use Rattle.kp_names_meaning.specs.Steps.{Step}
-use Rattle.kp_names_meaning.specs.Plans.{HasProblem, IsPlan}
-use Rattle.kp_names_meaning.specs.Initial.{HasInitialState}
-use Rattle.kp_names_meaning.specs.Strip.{strip, StripsToSolution, PlansStrip}
-use Rattle.kp_names_meaning.specs.NumberLaws.{is_plain_goal}
+use Rattle.kp_names_meaning.specs.Problems.{HasNoFault, Step, HasProblem, HasInitialState, strip, StripsToSolution, PlansStrip, is_plain_goal}
+use Rattle.kp_names_meaning.specs.Plans.{IsPlan}
 use Rattle.kp_law_ktask.specs.Writable.{IsWritableTask}
-use Rattle.kp_base.specs.ActionNames.{action_name}
 use Rattle.kp_law_ktask.specs.Accepted.{IsAccepted}
 use Rattle.kp_law_files.specs.Translations.{ground_of, initial_of}
 use Rattle.kp_law_files.specs.Tables.{IsTableFor}

@@ -10,10 +10,7 @@ use Rattle.kp_base.specs.declared.ground.Merge.{Merge}
 use Rattle.kp_base.specs.Machine.{MachineStep}
 use Rattle.kp_base.proofs.Each.{each_member}
 use Rattle.kp_base.proofs.Lists.{member_at, same-refl}
-use Rattle.kp_names_meaning.specs.Names.{same}
-use Rattle.kp_names_meaning.specs.Steps.{Step}
-use Rattle.kp_names_meaning.specs.Encoding.{encoded, decoded}
-use Rattle.kp_names_meaning.specs.GroundNames.{IsGroundName}
+use Rattle.kp_names_meaning.specs.Problems.{same, Step, encoded, decoded, IsGroundName}
 use Rattle.kp_write.specs.Grounds.{IsGroundAction}
 use Rattle.kp_write.specs.Runs.{step_of}
 use Rattle.kp_write.proofs.Public.{encoded_name_decodes}

@@ -6,11 +6,8 @@ use Rattle.kp_base.specs.declared.lit.Lit.{Lit}
 use Rattle.kp_base.specs.declared.ground.GroundName.{GroundName}
 use Rattle.kp_base.specs.declared.ground.Effect.{Effect}
 use Rattle.kp_base.specs.declared.ground.Action.{Action}
-use Rattle.kp_base.specs.Lit.{negated, same_lit}
-use Rattle.kp_base.specs.Lists.{only_if}
+use Rattle.kp_base.specs.Planning.{negated, same_lit, only_if, fires, Known, facts_after}
 use Rattle.kp_base.specs.Steps as steps
-use Rattle.kp_base.specs.Steps.{fires}
-use Rattle.kp_base.specs.Machine.{Known, facts_after}
 use Rattle.kp_base.proofs.Sets.{all-set_of}
 use Rattle.kp_names_meaning.specs.Names.{same}
 use Rattle.kp_names_meaning.specs.GroundNames.{IsGroundName, same_name}

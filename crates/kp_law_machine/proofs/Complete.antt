@@ -10,12 +10,7 @@ use Rattle.kp_base.specs.declared.ground.Initial.{Initial}
 use Rattle.kp_base.specs.declared.ground.TagRow.{TagRow}
 use Rattle.kp_base.specs.declared.ground.TagTable.{TagTable}
 use Rattle.kp_base.specs.Lit.{has}
-use Rattle.kp_base.specs.Steps.{State, Facts, holds, next, applicable, state_after, succeeds, is_model}
-use Rattle.kp_base.specs.Entailed.{IsTable}
-use Rattle.kp_base.specs.Implicates.{IsOfItsAtoms}
-use Rattle.kp_base.specs.Relevance.{IsClauseFor}
-use Rattle.kp_base.specs.Covering.{Meets, lits_of, IsTarget, IsCovered, IsComplete}
-use Rattle.kp_base.specs.Machine.{Known, closure_of, start, may_act, after_act}
+use Rattle.kp_base.specs.Planning.{State, Facts, holds, next, applicable, state_after, succeeds, is_model, IsTable, IsOfItsAtoms, IsClauseFor, Meets, lits_of, IsTarget, IsCovered, IsComplete, Known, closure_of, start, may_act, after_act}
 use Rattle.kp_base.proofs.Lists.{member_at, member_map, all_member, all_from}
 use Rattle.kp_base.proofs.Places.{element}
 use Rattle.kp_law_machine.proofs.Monotone.{facts_more_all}

@@ -5,13 +5,8 @@ use Rattle.std.specs.List.{list_any}
 use Rattle.kp_base.specs.declared.lit.Lit.{Lit}
 use Rattle.kp_base.specs.declared.ground.Ground.{Ground}
 use Rattle.kp_base.specs.declared.ground.Initial.{Initial}
-use Rattle.kp_base.specs.Lists.{Member}
-use Rattle.kp_base.specs.Lit.{positive, negative, negated, has}
-use Rattle.kp_base.specs.Steps.{State, holds, is_model}
-use Rattle.kp_base.specs.Entailed.{IsClosure, HasOneValue}
-use Rattle.kp_base.specs.Implicates.{is_tautology, IsPrime, IsOfItsAtoms}
-use Rattle.kp_base.specs.Relevance.{IsRelevant, IsCandidate, IsClauseFor, either_value}
-use Rattle.kp_base.specs.Covering.{Meets}
+use Rattle.kp_base.specs.Planning.{Member, positive, negative, negated, State, holds, is_model, IsClosure, HasOneValue, is_tautology, IsPrime, IsOfItsAtoms, IsRelevant, IsCandidate, IsClauseFor, either_value, Meets}
+use Rattle.kp_base.specs.Lit.{has}
 use Rattle.kp_base.proofs.Lists.{any_member, any_from}
 use Rattle.kp_base.proofs.Lits.{member-has}
 use Rattle.kp_law_machine.proofs.Facts.{facts_run, facts_run_more}

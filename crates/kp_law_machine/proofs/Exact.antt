@@ -4,10 +4,7 @@ use Rattle.std.specs.List.{list_all}
 use Rattle.kp_base.specs.declared.lit.Lit.{Lit}
 use Rattle.kp_base.specs.declared.ground.Effect.{Effect}
 use Rattle.kp_base.specs.declared.ground.Action.{Action}
-use Rattle.kp_base.specs.Lit.{negated, same_lit}
-use Rattle.kp_base.specs.Steps.{State, holds, fires, after}
-use Rattle.kp_base.specs.Clashes.{clashes_at}
-use Rattle.kp_base.specs.Machine.{persists, facts_after}
+use Rattle.kp_base.specs.Planning.{negated, same_lit, State, holds, fires, after, clashes_at, persists, facts_after}
 use Rattle.kp_base.proofs.Lists.{any-not}
 use Rattle.kp_base.proofs.Lits.{holds-negated}
 

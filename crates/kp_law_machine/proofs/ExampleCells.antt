@@ -11,13 +11,8 @@ use Rattle.kp_base.specs.declared.ground.Initial.{Initial}
 use Rattle.kp_base.specs.declared.ground.TagRow.{TagRow}
 use Rattle.kp_base.specs.declared.ground.TagTable.{TagTable}
 use Rattle.kp_base.specs.declared.ground.Merge.{Merge}
-use Rattle.kp_base.specs.Atoms.{atom}
-use Rattle.kp_base.specs.Lists.{Member}
-use Rattle.kp_base.specs.Lit.{positive, negative}
-use Rattle.kp_base.specs.Steps.{State, IsBounded, holds, has, is_model, fires, after, runs, state_after, IsGroundPlan}
-use Rattle.kp_base.specs.Entailed.{tag_holds, Entails, IsConsistent, IsClosure, IsValid, AreValid, IsTable}
-use Rattle.kp_base.specs.Clashes.{clashes_at, NeverClashes}
-use Rattle.kp_base.specs.Machine.{MachineStep, start, facts_after, after_merge, accepts, stripped}
+use Rattle.kp_base.specs.Planning.{atom, Member, positive, negative, State, IsBounded, holds, is_model, fires, after, runs, state_after, IsGroundPlan, tag_holds, Entails, IsConsistent, IsClosure, IsValid, AreValid, IsTable, clashes_at, NeverClashes, MachineStep, start, facts_after, after_merge, accepts, stripped}
+use Rattle.kp_base.specs.Steps.{has}
 use Rattle.kp_base.proofs.Lists.{all_member}
 use Rattle.kp_base.proofs.Lits.{member-has}
 use Rattle.kp_law_machine.specs.Laws.{facts_after_operator}

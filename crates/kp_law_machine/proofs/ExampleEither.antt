@@ -10,15 +10,8 @@ use Rattle.kp_base.specs.declared.ground.Initial.{Initial}
 use Rattle.kp_base.specs.declared.ground.TagRow.{TagRow}
 use Rattle.kp_base.specs.declared.ground.TagTable.{TagTable}
 use Rattle.kp_base.specs.declared.ground.Merge.{Merge}
-use Rattle.kp_base.specs.Lists.{Member}
-use Rattle.kp_base.specs.Lit.{positive, negative, code_of, has}
-use Rattle.kp_base.specs.Steps.{State, holds, IsLeastMissing, is_model, IsGroundPlan}
-use Rattle.kp_base.specs.Entailed.{Entails, HasModel, IsClosure, tag_holds, IsValid, AreValid, IsTable}
-use Rattle.kp_base.specs.Clashes.{NeverClashes}
-use Rattle.kp_base.specs.Implicates.{IsOfItsAtoms}
-use Rattle.kp_base.specs.Relevance.{IsCandidate, IsClauseFor}
-use Rattle.kp_base.specs.Covering.{Meets, Covers, tags_of, IsTarget, IsCovered, IsComplete}
-use Rattle.kp_base.specs.Machine.{MachineStep, accepts, stripped, one_tag_table}
+use Rattle.kp_base.specs.Planning.{Member, positive, negative, code_of, State, holds, IsLeastMissing, is_model, IsGroundPlan, Entails, HasModel, IsClosure, tag_holds, IsValid, AreValid, IsTable, NeverClashes, IsOfItsAtoms, IsCandidate, IsClauseFor, Meets, Covers, tags_of, IsTarget, IsCovered, IsComplete, MachineStep, accepts, stripped, one_tag_table}
+use Rattle.kp_base.specs.Lit.{has}
 use Rattle.kp_base.proofs.Lists.{all_member, any_member}
 use Rattle.kp_base.proofs.Lits.{member-has}
 use Rattle.kp_law_machine.proofs.ExampleCells.{below_all as literals_below}

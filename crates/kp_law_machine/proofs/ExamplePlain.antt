@@ -8,13 +8,8 @@ use Rattle.kp_base.specs.declared.ground.Effect.{Effect}
 use Rattle.kp_base.specs.declared.ground.Action.{Action}
 use Rattle.kp_base.specs.declared.ground.Ground.{Ground}
 use Rattle.kp_base.specs.declared.ground.Initial.{Initial}
-use Rattle.kp_base.specs.Lists.{Member}
-use Rattle.kp_base.specs.Lit.{positive, negative}
-use Rattle.kp_base.specs.Steps.{State, holds, has, is_model, IsGroundPlan}
-use Rattle.kp_base.specs.Entailed.{Entails, IsClosure}
-use Rattle.kp_base.specs.Clashes.{Pairs, NeverClashes, clashes_at, HasNoClash, Clashes}
-use Rattle.kp_base.specs.Exclusive.{ArePairs, IsInductive, Deletes, AreExclusive, firing_with, IsClashFree}
-use Rattle.kp_base.specs.Machine.{MachineStep, accepts, one_tag_table}
+use Rattle.kp_base.specs.Planning.{Member, positive, negative, State, holds, is_model, IsGroundPlan, Entails, IsClosure, Pairs, NeverClashes, clashes_at, HasNoClash, Clashes, ArePairs, IsInductive, Deletes, AreExclusive, firing_with, IsClashFree, MachineStep, accepts, one_tag_table}
+use Rattle.kp_base.specs.Steps.{has}
 use Rattle.kp_base.proofs.Lists.{all_member, member_at}
 use Rattle.kp_base.proofs.Lits.{member-has}
 use Rattle.kp_law_machine.specs.Laws.{facts_after_operator}

@@ -4,10 +4,7 @@ use Rattle.std.proofs.lemmas.Bool.{false≢true}
 use Rattle.kp_base.specs.declared.lit.Lit.{Lit}
 use Rattle.kp_base.specs.declared.ground.Action.{Action}
 use Rattle.kp_base.specs.declared.ground.Ground.{Ground}
-use Rattle.kp_base.specs.Lit.{negated}
-use Rattle.kp_base.specs.Steps.{State, Facts, holds, fires, after, next, state_after}
-use Rattle.kp_base.specs.Machine.{facts_after}
-use Rattle.kp_base.specs.Relevance.{IsRelevant}
+use Rattle.kp_base.specs.Planning.{negated, State, Facts, holds, fires, after, next, state_after, facts_after, IsRelevant}
 use Rattle.kp_base.proofs.Lists.{member_at}
 use Rattle.kp_law_machine.proofs.Exact.{persists_exact as persists_where_none_fires_against}
 use Rattle.kp_law_machine.proofs.Monotone.{Within as IsWithinFor, facts_more}

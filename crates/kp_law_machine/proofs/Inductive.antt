@@ -7,11 +7,8 @@ use Rattle.kp_base.specs.declared.ground.Effect.{Effect}
 use Rattle.kp_base.specs.declared.ground.Action.{Action}
 use Rattle.kp_base.specs.declared.ground.Ground.{Ground}
 use Rattle.kp_base.specs.declared.ground.Initial.{Initial}
-use Rattle.kp_base.specs.Lists.{Member}
-use Rattle.kp_base.specs.Lit.{positive, negative, negated, same_lit}
-use Rattle.kp_base.specs.Steps.{State, holds, has, fires, after, next, applicable, runs, state_after}
-use Rattle.kp_base.specs.Clashes.{Pairs, clashes_at, are_exclusive, are_compatible, HasNoClash}
-use Rattle.kp_base.specs.Exclusive.{IsInductive, Deletes, firing_with}
+use Rattle.kp_base.specs.Planning.{Member, positive, negative, negated, same_lit, State, holds, fires, after, next, applicable, runs, state_after, Pairs, clashes_at, are_exclusive, are_compatible, HasNoClash, IsInductive, Deletes, firing_with}
+use Rattle.kp_base.specs.Steps.{has}
 use Rattle.kp_base.proofs.Lists.{all_from, all_member, any_from, any_member, member_at, number_at}
 use Rattle.kp_base.proofs.Lits.{same_lit-true, same_lit-refl, holds-negated, member-has}
 use Rattle.kp_law_machine.specs.Laws.{InductivePairsStayApart, InductiveNeverClashes}

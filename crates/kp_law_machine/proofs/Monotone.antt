@@ -5,10 +5,7 @@ use Rattle.std.specs.List.{list_any, list_all}
 use Rattle.kp_base.specs.declared.lit.Lit.{Lit}
 use Rattle.kp_base.specs.declared.ground.Effect.{Effect}
 use Rattle.kp_base.specs.declared.ground.Action.{Action}
-use Rattle.kp_base.specs.Lists.{Member}
-use Rattle.kp_base.specs.Lit.{negated, same_lit}
-use Rattle.kp_base.specs.Steps.{Facts, fires}
-use Rattle.kp_base.specs.Machine.{persists, facts_after}
+use Rattle.kp_base.specs.Planning.{Member, negated, same_lit, Facts, fires, persists, facts_after}
 use Rattle.kp_base.proofs.Lists.{any_weaker, all_weaker}
 use Rattle.kp_base.proofs.Lits.{same_lit-true, negated-negated}
 

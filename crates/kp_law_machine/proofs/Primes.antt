@@ -4,11 +4,9 @@ use Rattle.std.proofs.lemmas.Bool.{false≢true, false_from_ne_true, true_from_n
 use Rattle.std.specs.List.{list_all}
 use Rattle.kp_base.specs.declared.lit.Lit.{Lit}
 use Rattle.kp_base.specs.declared.ground.Initial.{Initial}
-use Rattle.kp_base.specs.Lists.{Member}
-use Rattle.kp_base.specs.Lit.{negated, same_lit, has}
-use Rattle.kp_base.specs.LitSet.{set_of, is_within}
-use Rattle.kp_base.specs.Steps.{holds}
-use Rattle.kp_base.specs.Implicates.{is_tautology, IsImplicate, IsPrime}
+use Rattle.kp_base.specs.Planning.{Member, negated, same_lit, set_of, holds, is_tautology, IsImplicate, IsPrime}
+use Rattle.kp_base.specs.Lit.{has}
+use Rattle.kp_base.specs.LitSet.{is_within}
 use Rattle.kp_base.proofs.Lists.{all_member, any_member, any_from, member_filter, filter_member}
 use Rattle.kp_base.proofs.Lits.{has-member, member-has}
 use Rattle.kp_base.proofs.Sets.{any-set_of, all-set_of, set_ascends}

@@ -9,12 +9,8 @@ use Rattle.kp_base.specs.declared.ground.Initial.{Initial}
 use Rattle.kp_base.specs.declared.ground.TagRow.{TagRow}
 use Rattle.kp_base.specs.declared.ground.TagTable.{TagTable}
 use Rattle.kp_base.specs.declared.ground.Merge.{Merge}
-use Rattle.kp_base.specs.Lists.{Member}
-use Rattle.kp_base.specs.Lit.{same_lit}
-use Rattle.kp_base.specs.Steps.{State, holds, has, next, applicable, runs, state_after, succeeds, is_model}
-use Rattle.kp_base.specs.Entailed.{tag_holds, IsTable, AreValid}
-use Rattle.kp_base.specs.Clashes.{clashes_at}
-use Rattle.kp_base.specs.Machine.{MachineStep, Known, closure_of, start, may_act, after_act, may_merge, after_merge, accepts_from, stripped}
+use Rattle.kp_base.specs.Planning.{Member, same_lit, State, holds, next, applicable, runs, state_after, succeeds, is_model, tag_holds, IsTable, AreValid, clashes_at, MachineStep, Known, closure_of, start, may_act, after_act, may_merge, after_merge, accepts_from, stripped}
+use Rattle.kp_base.specs.Steps.{has}
 use Rattle.kp_base.proofs.Lists.{member_at, all_weaker, all_member, any_member}
 use Rattle.kp_base.proofs.Lits.{same_lit-true}
 use Rattle.kp_law_machine.specs.Laws.{AcceptedListsArePlans}

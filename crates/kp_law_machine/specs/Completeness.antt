@@ -4,12 +4,7 @@ use Rattle.kp_base.specs.declared.lit.Lit.{Lit}
 use Rattle.kp_base.specs.declared.ground.Ground.{Ground}
 use Rattle.kp_base.specs.declared.ground.Initial.{Initial}
 use Rattle.kp_base.specs.declared.ground.TagTable.{TagTable}
-use Rattle.kp_base.specs.Lists.{Member}
-use Rattle.kp_base.specs.Implicates.{IsOfItsAtoms}
-use Rattle.kp_base.specs.Steps.{IsGroundPlan}
-use Rattle.kp_base.specs.Entailed.{HasModel, IsTable}
-use Rattle.kp_base.specs.Covering.{IsComplete}
-use Rattle.kp_base.specs.Machine.{MachineStep, accepts, stripped}
+use Rattle.kp_base.specs.Planning.{Member, IsOfItsAtoms, IsGroundPlan, HasModel, IsTable, IsComplete, MachineStep, accepts, stripped}
 use Rattle.kp_law_machine.specs.Lifts.{lift_of, UnliftedAt}
 
 -- ---- lifted lists

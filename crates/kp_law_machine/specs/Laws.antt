@@ -7,12 +7,7 @@ use Rattle.kp_base.specs.declared.ground.Action.{Action}
 use Rattle.kp_base.specs.declared.ground.Ground.{Ground}
 use Rattle.kp_base.specs.declared.ground.Initial.{Initial}
 use Rattle.kp_base.specs.declared.ground.TagTable.{TagTable}
-use Rattle.kp_base.specs.Lit.{negated, same_lit}
-use Rattle.kp_base.specs.Steps.{State, Facts, fires, is_model, runs, state_after, IsGroundPlan}
-use Rattle.kp_base.specs.Entailed.{IsClosure, IsTable, AreValid}
-use Rattle.kp_base.specs.Clashes.{NeverClashes, Pairs, HasNoClash}
-use Rattle.kp_base.specs.Exclusive.{IsInductive, AreExclusive, IsClashFree}
-use Rattle.kp_base.specs.Machine.{MachineStep, facts_after, accepts, stripped, one_tag_table}
+use Rattle.kp_base.specs.Planning.{negated, same_lit, State, Facts, fires, is_model, runs, state_after, IsGroundPlan, IsClosure, IsTable, AreValid, NeverClashes, Pairs, HasNoClash, IsInductive, AreExclusive, IsClashFree, MachineStep, facts_after, accepts, stripped, one_tag_table}
 
 -- ---- soundness
 

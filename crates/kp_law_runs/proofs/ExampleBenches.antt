@@ -11,13 +11,7 @@ use Rattle.kp_base.specs.declared.ground.Initial.{Initial}
 use Rattle.kp_base.specs.declared.ground.TagTable.{TagTable}
 use Rattle.kp_base.specs.declared.limits.Mode.TheVariants as modes
 use Rattle.kp_base.specs.declared.lit.Lit.{Lit}
-use Rattle.kp_base.specs.Covering.{Meets, IsTarget, of_precondition, of_goal, IsCovered, AreUncovered}
-use Rattle.kp_base.specs.Implicates.{IsNeverOver}
-use Rattle.kp_base.specs.Lists.{Member}
-use Rattle.kp_base.specs.Lit.{positive, negative}
-use Rattle.kp_base.specs.LitSet.{IsAscending}
-use Rattle.kp_base.specs.Relevance.{IsRelevant, either_value, IsCandidate, IsClauseFor}
-use Rattle.kp_base.specs.Steps.{State, holds, is_model}
+use Rattle.kp_base.specs.Planning.{Meets, IsTarget, of_precondition, of_goal, IsCovered, AreUncovered, IsNeverOver, Member, positive, negative, IsAscending, IsRelevant, either_value, IsCandidate, IsClauseFor, State, holds, is_model}
 use Rattle.kp_primes.specs.Included.{all_included}
 use Rattle.kp_primes.proofs.Public.{counted_is_never_over}
 use Rattle.kp_lex.specs.Bytes.{class_of}

@@ -7,10 +7,7 @@ use Rattle.kp_base.specs.declared.limits.Limits.{Limits}
 use Rattle.kp_base.specs.declared.lit.Lit.{Lit}
 use Rattle.kp_base.specs.declared.ground.Action.{Action}
 use Rattle.kp_base.specs.declared.ground.Effect.{Effect}
-use Rattle.kp_base.specs.Lit.{positive, negative}
-use Rattle.kp_base.specs.Steps.{State, is_model}
-use Rattle.kp_base.specs.Clashes.{Pairs, Clashes}
-use Rattle.kp_base.specs.Exclusive.{IsClashFree}
+use Rattle.kp_base.specs.Planning.{positive, negative, State, is_model, Pairs, Clashes, IsClashFree}
 use Rattle.kp_base.proofs.Lists.{all_member, member_at}
 use Rattle.kp_lex.specs.Bytes.{class_of}
 use Rattle.kp_lex.specs.Scanning.{cut_from}

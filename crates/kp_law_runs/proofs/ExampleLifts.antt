@@ -7,12 +7,7 @@ use Rattle.kp_base.specs.declared.limits.Mode.TheVariants as modes
 use Rattle.kp_base.specs.declared.ground.TagTable.{TagTable}
 use Rattle.kp_base.specs.declared.ground.Initial.{Initial}
 use Rattle.kp_base.specs.declared.lit.Lit.{Lit}
-use Rattle.kp_base.specs.Lists.{Member}
-use Rattle.kp_base.specs.Lit.{positive}
-use Rattle.kp_base.specs.LitSet.{IsAscending}
-use Rattle.kp_base.specs.Steps.{is_model}
-use Rattle.kp_base.specs.Exclusive.{IsClashFree}
-use Rattle.kp_base.specs.Implicates.{IsNeverOver}
+use Rattle.kp_base.specs.Planning.{Member, positive, IsAscending, is_model, IsClashFree, IsNeverOver}
 use Rattle.kp_primes.specs.Included.{all_included}
 use Rattle.kp_primes.proofs.Public.{counted_is_never_over}
 use Rattle.kp_law_machine.proofs.Public.{swap_is_clash_free}
@@ -22,10 +17,8 @@ use Rattle.kp_tree_grammar.specs.Symbols.{symbol_of}
 use Rattle.kp_tree_grammar.specs.Parsing.{some_at, next_at}
 use Rattle.kp_tree_grammar.specs.declared.tree.Word.{Word}
 use Rattle.kp_tree_grammar.proofs.Public.{tokens_of_text, reads_by_computing, exchange_text, exchange_tree, from_p_to_q_text, from_p_to_q_tree}
-use Rattle.kp_names_meaning.specs.Names.{same}
-use Rattle.kp_names_meaning.specs.Numbering.{numbered_problem}
-use Rattle.kp_names_meaning.specs.Steps.{Step}
-use Rattle.kp_names_meaning.specs.Plans.{HasProblem, IsPlan}
+use Rattle.kp_names_meaning.specs.Problems.{same, numbered_problem, Step, HasProblem}
+use Rattle.kp_names_meaning.specs.Plans.{IsPlan}
 use Rattle.kp_plans.specs.Grammar.{plan}
 use Rattle.kp_plans.specs.PlanFiles.{step_of, IsPlanOf}
 use Rattle.kp_law_files.specs.Translations.{ground_of, initial_of}

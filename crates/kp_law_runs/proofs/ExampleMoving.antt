@@ -12,16 +12,10 @@ use Rattle.kp_base.specs.declared.ground.TagRow.{TagRow}
 use Rattle.kp_base.specs.declared.ground.TagTable.{TagTable}
 use Rattle.kp_base.specs.declared.limits.Mode.TheVariants as modes
 use Rattle.kp_base.specs.declared.lit.Lit.{Lit}
-use Rattle.kp_base.specs.Covering.{Meets, IsTarget, IsCovered, AreUncovered, IsCov, of_goal}
-use Rattle.kp_base.specs.Entailed.{IsConsistent}
-use Rattle.kp_base.specs.Implicates.{IsImplicate, IsPrime}
+use Rattle.kp_base.specs.Planning.{Meets, IsTarget, IsCovered, AreUncovered, IsCov, of_goal, IsConsistent, IsImplicate, IsPrime, Member, choices, each_once, signed, MachineStep, positive, negative, set_of, same_set, IsRelevant, either_value, IsCandidate, AreRelevant, IsClauseFor, AreClausesFor, State, holds, is_model}
 use Rattle.kp_base.specs.declared.ground.Merge.{Merge}
-use Rattle.kp_base.specs.Lists.{Member, choices, each_once, signed}
-use Rattle.kp_base.specs.Machine.{MachineStep}
-use Rattle.kp_base.specs.Lit.{positive, negative, has as has_lit}
-use Rattle.kp_base.specs.LitSet.{is_within, set_of, same_set}
-use Rattle.kp_base.specs.Relevance.{IsRelevant, either_value, IsCandidate, AreRelevant, IsClauseFor, AreClausesFor}
-use Rattle.kp_base.specs.Steps.{State, holds, is_model}
+use Rattle.kp_base.specs.Lit.{has as has_lit}
+use Rattle.kp_base.specs.LitSet.{is_within}
 use Rattle.kp_base.proofs.Lists.{all_member, any_member}
 use Rattle.kp_base.proofs.Lits.{has-member, member-has}
 use Rattle.kp_law_machine.proofs.Public.{no_clash_under_exclusive_pairs as never_clashes}

@@ -8,12 +8,7 @@ use Rattle.kp_base.specs.declared.ground.Action.{Action}
 use Rattle.kp_base.specs.declared.ground.Ground.{Ground}
 use Rattle.kp_base.specs.declared.ground.Initial.{Initial}
 use Rattle.kp_base.specs.declared.lit.Lit.{Lit}
-use Rattle.kp_base.specs.Covering.{Meets, IsTarget, of_precondition, of_goal}
-use Rattle.kp_base.specs.Lists.{Member, choices, each_once}
-use Rattle.kp_base.specs.Lit.{positive, negative}
-use Rattle.kp_base.specs.LitSet.{set_of, same_set}
-use Rattle.kp_base.specs.Relevance.{IsRelevant, either_value, IsCandidate, AreClausesFor}
-use Rattle.kp_base.specs.Steps.{State, holds, is_model}
+use Rattle.kp_base.specs.Planning.{Meets, IsTarget, of_precondition, of_goal, Member, choices, each_once, positive, negative, set_of, same_set, IsRelevant, either_value, IsCandidate, AreClausesFor, State, holds, is_model}
 use Rattle.kp_base.proofs.Lists.{same-refl}
 use Rattle.kp_cover_subsets.specs.Subsets.{subsets, choose}
 use Rattle.kp_lex.specs.Bytes.{class_of}

@@ -6,13 +6,9 @@ use Rattle.std.specs.List.Sorted.{IsSorted}
 use Rattle.kp_base.specs.declared.ground.Action.{Action}
 use Rattle.kp_base.specs.declared.ground.Effect.{Effect}
 use Rattle.kp_base.specs.declared.lit.Lit.{Lit}
-use Rattle.kp_base.specs.Covering.{Meets, AllMeet, IsCov}
-use Rattle.kp_base.specs.Implicates.{IsPrime}
-use Rattle.kp_base.specs.Lists.{Member, choices, each_once, signed}
-use Rattle.kp_base.specs.Lit.{positive, negative, negated, has as has_lit}
-use Rattle.kp_base.specs.LitSet.{is_within, lits_cmp, set_of, same_set}
-use Rattle.kp_base.specs.Relevance.{IsRelevant, either_value, IsCandidate, AreRelevant, IsClauseFor, AreClausesFor}
-use Rattle.kp_base.specs.Steps.{State, holds, is_model}
+use Rattle.kp_base.specs.Planning.{Meets, AllMeet, IsCov, IsPrime, Member, choices, each_once, signed, positive, negative, negated, lits_cmp, set_of, same_set, IsRelevant, either_value, IsCandidate, AreRelevant, IsClauseFor, AreClausesFor, State, holds, is_model}
+use Rattle.kp_base.specs.Lit.{has as has_lit}
+use Rattle.kp_base.specs.LitSet.{is_within}
 use Rattle.kp_base.proofs.Lists.{all_member, any_from, any_member}
 use Rattle.kp_base.proofs.Lits.{has-member}
 use Rattle.kp_base.proofs.Members.{ascending_same}

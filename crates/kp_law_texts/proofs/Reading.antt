@@ -2,10 +2,7 @@
 use Rattle.std.proofs.Common.{◌≡◌, ℕ, Bool, true, false, List, [], ◌∷◌, map}
 use Rattle.std.specs.List.{AllByRecursion}
 use Rattle.kp_tree_grammar.specs.declared.symbol.Symbol.{Symbol}
-use Rattle.kp_tree_grammar.specs.Symbols.{first_is}
-use Rattle.kp_tree_grammar.specs.Sorts.{Sort, El}
-use Rattle.kp_tree_grammar.specs.Forms.{Form, many}
-use Rattle.kp_tree_grammar.specs.Reading.{Reads, r_end, r_more}
+use Rattle.kp_tree_grammar.specs.Language.{first_is, Sort, El, Form, many, Reads, r_end, r_more}
 use Rattle.kp_law_texts.specs.Pieces.{Piece, Put, each}
 use Rattle.kp_law_texts.specs.Tokens.{words}
 

@@ -1,12 +1,7 @@
 -- What a form reads with another word in the place of each, and that reading doesn't depend on places.
 use Rattle.std.specs.Prelude.{◌≡◌, ℕ, List, map, Bool}
 use Rattle.kp_tree_grammar.specs.declared.tree.Word.{Word}
-use Rattle.kp_tree_grammar.specs.Trees.{Section, Given}
-use Rattle.kp_tree_grammar.specs.Symbols.{Tok}
-use Rattle.kp_tree_grammar.specs.Sorts.{Sort, s_none, s_word, s_pair, s_list, s_typed, s_term, s_atom, s_cond, s_eff, s_lit, s_item, s_pred, s_schema, s_section, s_domain, s_seen, s_given, s_problem, El}
-use Rattle.kp_tree_grammar.specs.Forms.{Form}
-use Rattle.kp_tree_grammar.specs.Reading.{ReadsWhole}
-use Rattle.kp_tree_grammar.specs.TreeMaps.{typed_map, term_map, atom_map, cond_map, eff_map, lit_map, item_map, pred_map, schema_map, domain_map, problem_map}
+use Rattle.kp_tree_grammar.specs.Language.{Section, Given, Tok, Sort, s_none, s_word, s_pair, s_list, s_typed, s_term, s_atom, s_cond, s_eff, s_lit, s_item, s_pred, s_schema, s_section, s_domain, s_seen, s_given, s_problem, El, Form, ReadsWhole, typed_map, term_map, atom_map, cond_map, eff_map, lit_map, item_map, pred_map, schema_map, domain_map, problem_map}
 use Rattle.kp_law_texts.specs.Tokens.{text_of, bare}
 
 module _ {V W : Type 0} where

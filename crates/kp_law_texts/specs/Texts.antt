@@ -1,10 +1,7 @@
 -- What pieces read as, put together.
 use Rattle.std.specs.Prelude.{◌≡◌, ℕ, List, Bool}
 use Rattle.kp_tree_grammar.specs.declared.tree.Word.{Word}
-use Rattle.kp_tree_grammar.specs.Sorts.{Sort, El}
-use Rattle.kp_tree_grammar.specs.Forms.{Form}
-use Rattle.kp_tree_grammar.specs.Reading.{ReadsWhole}
-use Rattle.kp_tree_grammar.specs.Texts.{ReadsAs}
+use Rattle.kp_tree_grammar.specs.Language.{Sort, El, Form, ReadsWhole, ReadsAs}
 use Rattle.kp_law_texts.specs.Pieces.{Piece, spelling}
 use Rattle.kp_law_texts.specs.Tokens.{words, Fine}
 use Rattle.kp_law_texts.specs.Maps.{without_places}

@@ -6,10 +6,7 @@ use Rattle.kp_base.specs.declared.lit.Lit.{Lit}
 use Rattle.kp_base.specs.declared.ground.Action.{Action}
 use Rattle.kp_base.specs.declared.ground.Merge.{Merge}
 use Rattle.kp_base.specs.declared.ground.TagTable.{TagTable}
-use Rattle.kp_base.specs.Lit.{positive, negative}
-use Rattle.kp_base.specs.LitSet.{IsAscending}
-use Rattle.kp_base.specs.Implicates.{are_below, action_below}
-use Rattle.kp_base.specs.Machine.{Known, start, after_act, may_merge, after_merge}
+use Rattle.kp_base.specs.Planning.{positive, negative, IsAscending, are_below, action_below, Known, start, after_act, may_merge, after_merge}
 use Rattle.kp_lift_known.specs.Known.{Table, known, Says, Starts}
 
 abbrev adding : Action

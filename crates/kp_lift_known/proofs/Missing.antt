@@ -4,12 +4,7 @@ use Rattle.std.proofs.lemmas.Bool.{and_parts, false≢true, ltb-true}
 use Rattle.std.proofs.lemmas.Option.{IfSome_then}
 use Rattle.std.specs.List.{list_all}
 use Rattle.kp_base.specs.declared.lit.Lit.{Lit}
-use Rattle.kp_base.specs.Lists.{Member}
-use Rattle.kp_base.specs.Lit.{code_of}
-use Rattle.kp_base.specs.LitSet.{IsAscending}
-use Rattle.kp_base.specs.Implicates.{are_below}
-use Rattle.kp_base.specs.Steps.{Facts, IsLeastMissing}
-use Rattle.kp_base.specs.Machine.{Known}
+use Rattle.kp_base.specs.Planning.{Member, code_of, IsAscending, are_below, Facts, IsLeastMissing, Known}
 use Rattle.kp_base.proofs.Ascending.{tail_ascends}
 use Rattle.kp_base.proofs.Lists.{all_alike, all_member}
 use Rattle.kp_base.proofs.Least.{least_later}

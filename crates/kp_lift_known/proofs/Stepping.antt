@@ -5,11 +5,7 @@ use Rattle.std.specs.List.{list_all}
 use Rattle.kp_base.specs.declared.lit.Lit.{Lit}
 use Rattle.kp_base.specs.declared.ground.Action.{Action}
 use Rattle.kp_base.specs.declared.ground.Effect.{Effect}
-use Rattle.kp_base.specs.Lists.{Member}
-use Rattle.kp_base.specs.Lit.{same_lit, negated}
-use Rattle.kp_base.specs.Implicates.{are_below, effect_below, action_below}
-use Rattle.kp_base.specs.Steps.{Facts, fires}
-use Rattle.kp_base.specs.Machine.{Known, persists, facts_after}
+use Rattle.kp_base.specs.Planning.{Member, same_lit, negated, are_below, effect_below, action_below, Facts, fires, Known, persists, facts_after}
 use Rattle.kp_base.proofs.Lists.{any_alike, all_alike, all_member}
 use Rattle.kp_lift_known.specs.Known.{Table, known, IsLike, Says}
 use Rattle.kp_lift_known.specs.Tabled.{Turns, touches, IsAtRest}

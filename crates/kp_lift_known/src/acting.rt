@@ -1,10 +1,7 @@
 //! The step of an action, effect by effect and 64 tags at a time.
 ghost use Rattle.std.specs.Prelude.{◌≡◌, ◌<◌, ◌&&◌, ◌||◌, not, cond, true, length, nat_eq};
 ghost use Rattle.std.specs.List.{list_any, list_all};
-ghost use Rattle.kp_base.specs.Lit.{negated, same_lit};
-ghost use Rattle.kp_base.specs.Implicates.{effect_below};
-ghost use Rattle.kp_base.specs.Steps.{fires};
-ghost use Rattle.kp_base.specs.Machine.{persists};
+ghost use Rattle.kp_base.specs.Planning.{negated, same_lit, effect_below, fires, persists};
 ghost use Rattle.kp_lift_known.specs.Known.{known, IsLike};
 ghost use Rattle.kp_lift_known.specs.Tabled.{Turns, touches};
 

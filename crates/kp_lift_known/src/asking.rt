@@ -1,10 +1,7 @@
 //! What is asked of a table: whether what a step asks for is known.
 ghost use Rattle.std.specs.Prelude.{◌≡◌, ◌<◌, ◌&&◌, not, true, Some, nat_lt, IfSome, IfNone};
 ghost use Rattle.std.specs.List.{list_all};
-ghost use Rattle.kp_base.specs.LitSet.{IsAscending};
-ghost use Rattle.kp_base.specs.Implicates.{are_below};
-ghost use Rattle.kp_base.specs.Steps.{IsLeastMissing};
-ghost use Rattle.kp_base.specs.Machine.{may_merge};
+ghost use Rattle.kp_base.specs.Planning.{IsAscending, are_below, IsLeastMissing, may_merge};
 ghost use Rattle.kp_lift_known.specs.Known.{known};
 
 use crate::rows::Rows;

@@ -1,9 +1,6 @@
 ghost use Rattle.std.specs.Prelude.{◌≡◌, ◌<◌, ◌&&◌, not, true, false, Some, length, nat_lt, IfOk, IfSome, IfNone};
 ghost use Rattle.std.specs.List.{list_all};
-ghost use Rattle.kp_base.specs.LitSet.{IsAscending};
-ghost use Rattle.kp_base.specs.Implicates.{are_below, action_below};
-ghost use Rattle.kp_base.specs.Steps.{IsLeastMissing};
-ghost use Rattle.kp_base.specs.Machine.{Known, after_act, may_merge, after_merge};
+ghost use Rattle.kp_base.specs.Planning.{IsAscending, are_below, action_below, IsLeastMissing, Known, after_act, may_merge, after_merge};
 ghost use Rattle.kp_lift_known.specs.Known.{IsLike, Says, Starts};
 
 use crate::acting::{cancel_all, support_all, take_over_all};

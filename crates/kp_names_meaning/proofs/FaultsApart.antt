@@ -5,13 +5,8 @@ use Rattle.kp_lex.specs.declared.token.Token.{Token}
 use Rattle.kp_lex.specs.Spans.{InOrder}
 use Rattle.kp_lex.proofs.Public.{spans_in_order}
 use Rattle.kp_tree_grammar.specs.declared.tree.Word.{Word}
-use Rattle.kp_tree_grammar.specs.Trees.{Term, Atom, Cond, conds_of, Eff, effs_of, Item, items_of, Pred, Schema, Domain, Problem, Section, section_constants, section_predicates, section_schemas, Given, given_objects, given_items, goal_of}
-use Rattle.kp_tree_grammar.specs.Symbols.{Tok, all_seen_in}
-use Rattle.kp_tree_grammar.specs.Sorts.{Sort, s_none, s_word, s_pair, s_list, s_typed, s_term, s_atom, s_cond, s_eff, s_lit, s_section, s_seen, s_given, El, with_kinds, Maker, m_word, m_drop, m_name, m_variable, m_atom, m_untyped, m_kind, m_kinds, m_typed, m_joined, m_all, m_true, m_holds, m_same, m_both, m_idle, m_when, m_each, m_makes, m_lit, m_items, m_fact, m_one_of, m_any_of, m_unknown, m_pred, m_no_params, m_schema, m_requires, m_types, m_constants, m_predicates, m_action, m_domain, m_of_domain, m_needs, m_objects, m_init, m_goal, m_saw, m_problem, apply}
-use Rattle.kp_tree_grammar.specs.Forms.{Form}
+use Rattle.kp_tree_grammar.specs.Language.{Term, Atom, Cond, conds_of, Eff, effs_of, Item, items_of, Pred, Schema, Domain, Problem, Section, section_constants, section_predicates, section_schemas, Given, given_objects, given_items, goal_of, Tok, all_seen_in, Sort, s_none, s_word, s_pair, s_list, s_typed, s_term, s_atom, s_cond, s_eff, s_lit, s_section, s_seen, s_given, El, with_kinds, Maker, m_word, m_drop, m_name, m_variable, m_atom, m_untyped, m_kind, m_kinds, m_typed, m_joined, m_all, m_true, m_holds, m_same, m_both, m_idle, m_when, m_each, m_makes, m_lit, m_items, m_fact, m_one_of, m_any_of, m_unknown, m_pred, m_no_params, m_schema, m_requires, m_types, m_constants, m_predicates, m_action, m_domain, m_of_domain, m_needs, m_objects, m_init, m_goal, m_saw, m_problem, apply, Form, ReadBy, r_token, r_none, r_both, r_after, r_end, r_more, r_last, r_next, r_absent, r_present, r_make, r_choice, r_loose, r_bracket, r_within, ReadsAs}
 use Rattle.kp_tree_grammar.specs.Grammar as grammar
-use Rattle.kp_tree_grammar.specs.Reading.{ReadBy, r_token, r_none, r_both, r_after, r_end, r_more, r_last, r_next, r_absent, r_present, r_make, r_choice, r_loose, r_bracket, r_within}
-use Rattle.kp_tree_grammar.specs.Texts.{ReadsAs}
 use Rattle.kp_base.specs.Lists.{Member}
 use Rattle.kp_base.proofs.Lists.{append_member}
 use Rattle.kp_names_meaning.specs.Names.{Name}

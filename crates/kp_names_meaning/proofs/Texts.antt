@@ -3,14 +3,8 @@ use Rattle.std.proofs.Common.{◌≡◌, ℕ, Bool, List, [], Ok, Err, subst}
 use Rattle.kp_lex.specs.Scanning.{cut}
 use Rattle.kp_lex.proofs.Public.{one_cutting}
 use Rattle.kp_tree_grammar.specs.declared.tree.Word.{Word}
-use Rattle.kp_tree_grammar.specs.Symbols.{all_seen_in}
-use Rattle.kp_tree_grammar.specs.Trees.{Domain, Problem, Cond, no_cond}
-use Rattle.kp_tree_grammar.specs.Sorts.{Sort, El}
-use Rattle.kp_tree_grammar.specs.Forms.{Form}
+use Rattle.kp_tree_grammar.specs.Language.{all_seen_in, Domain, Problem, Cond, no_cond, Sort, El, Form, ReadBy, Outcome, ReadsAs}
 use Rattle.kp_tree_grammar.specs.Grammar as grammar
-use Rattle.kp_tree_grammar.specs.Reading.{ReadBy}
-use Rattle.kp_tree_grammar.specs.Parsing.{Outcome}
-use Rattle.kp_tree_grammar.specs.Texts.{ReadsAs}
 use Rattle.kp_tree_grammar.proofs.Public.{a_form_reads_once, computed_outcome, reads_by_computing}
 pub use Rattle.kp_tree_grammar.proofs.Public.{tokens_of_text as tokens}
 use Rattle.kp_names_meaning.specs.Faults.{domain_faults, problem_faults}

@@ -14,3 +14,4 @@ pub mod Lifted
 pub mod Numbering
 pub mod NumberLaws
 pub mod FaultLaws
+pub mod Problems

@@ -6,12 +6,7 @@ use Rattle.kp_lex.specs.declared.token.TokenKind.TheVariants as kinds
 use Rattle.kp_lex.specs.Bytes.{class_of, follows}
 use Rattle.kp_lex.specs.Cutting.{EndsRunOf}
 use Rattle.kp_tree_grammar.specs.declared.tree.Word.{Word}
-use Rattle.kp_tree_grammar.specs.Symbols.{symbol_of, is_name, is_left}
-use Rattle.kp_tree_grammar.specs.Sorts.{s_word, s_pair, s_list}
-use Rattle.kp_tree_grammar.specs.Forms.{hits, many}
-use Rattle.kp_tree_grammar.specs.Grammar.{word}
-use Rattle.kp_tree_grammar.specs.Reading.{Reads, r_token, r_both, r_end, r_more, r_bracket}
-use Rattle.kp_tree_grammar.specs.Words.{IsName}
+use Rattle.kp_tree_grammar.specs.Language.{symbol_of, is_name, is_left, s_word, s_pair, s_list, hits, many, word, Reads, r_token, r_both, r_end, r_more, r_bracket, IsName}
 use Rattle.kp_tree_grammar.proofs.Public.{name_passes}
 use Rattle.kp_names_meaning.specs.GroundNames.{IsGroundName}
 use Rattle.kp_law_texts.specs.Pieces.{Piece, right, spelling, each, spaced, name, line_feed}

@@ -4,12 +4,7 @@ use Rattle.std.proofs.lemmas.List.{drop-drop, map-append}
 use Rattle.kp_base.specs.declared.refused.Part.TheVariants as parts
 use Rattle.kp_lex.specs.Places.{place_of}
 use Rattle.kp_tree_grammar.specs.declared.tree.Word.{Word}
-use Rattle.kp_tree_grammar.specs.Symbols.{Tok, first_is, is_left, is_right, is_name}
-use Rattle.kp_tree_grammar.specs.Sorts.{m_word}
-use Rattle.kp_tree_grammar.specs.Forms.{hits}
-use Rattle.kp_tree_grammar.specs.Grammar.{some}
-use Rattle.kp_tree_grammar.specs.Reading.{stop, Reads, Stops, StopsWhole, within_form, after_form, r_token, r_both, r_end, r_more, r_bracket, s_token, s_first, s_here, s_later, s_unopened, s_inside, s_unclosed}
-use Rattle.kp_tree_grammar.specs.Parsing.{read}
+use Rattle.kp_tree_grammar.specs.Language.{Tok, first_is, is_left, is_right, is_name, m_word, hits, some, stop, Reads, Stops, StopsWhole, within_form, after_form, r_token, r_both, r_end, r_more, r_bracket, s_token, s_first, s_here, s_later, s_unopened, s_inside, s_unclosed, read}
 use Rattle.kp_tree_grammar.proofs.Public.{answered_is_read}
 use Rattle.kp_tree_cursor.specs.declared.cursor.Class.TheVariants as classes
 use Rattle.kp_tree_cursor.specs.declared.halt.Halt.{Halt}

@@ -2,10 +2,7 @@
 use Rattle.std.specs.Prelude.{List, map, true, false}
 use Rattle.kp_base.specs.declared.ground.GroundName.{GroundName}
 use Rattle.kp_tree_grammar.specs.declared.tree.Word.{Word}
-use Rattle.kp_tree_grammar.specs.Symbols.{is_left, is_name}
-use Rattle.kp_tree_grammar.specs.Sorts.{s_word, s_pair, s_list}
-use Rattle.kp_tree_grammar.specs.Forms.{Form, many, bracket}
-use Rattle.kp_tree_grammar.specs.Grammar.{some}
+use Rattle.kp_tree_grammar.specs.Language.{is_left, is_name, s_word, s_pair, s_list, Form, many, bracket, some}
 
 -- ( Name Name* )
 abbrev pub step : Form true (s_pair s_word (s_list s_word))

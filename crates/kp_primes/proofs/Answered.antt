@@ -8,10 +8,8 @@ use Rattle.kp_base.specs.declared.ground.Initial.{Initial}
 use Rattle.kp_base.specs.declared.refused.Refused.{Refused}
 use Rattle.kp_base.specs.declared.refused.Stop.{Stop}
 use Rattle.kp_base.specs.declared.refused.Stop.TheVariants as stops
-use Rattle.kp_base.specs.Lists.{Member}
-use Rattle.kp_base.specs.LitSet.{IsAscending}
-use Rattle.kp_base.specs.Steps.{State, holds, is_model}
-use Rattle.kp_base.specs.Implicates.{is_within, prefix_of, ListsPrimes, HasAtMostPrimes, IsLeastOver, IsNeverOver}
+use Rattle.kp_base.specs.Planning.{Member, IsAscending, State, holds, is_model, prefix_of, ListsPrimes, HasAtMostPrimes, IsLeastOver, IsNeverOver}
+use Rattle.kp_base.specs.Implicates.{is_within}
 use Rattle.kp_base.proofs.Lists.{any_member}
 use Rattle.kp_clauses.specs.Stored.{subsumed}
 use Rattle.kp_clauses.proofs.Public.{within_member}

@@ -4,12 +4,8 @@ use Rattle.std.proofs.lemmas.Bool.{or_cases, or_left, or_right, or_parts, and_pa
 use Rattle.std.specs.List.{list_any, list_all}
 use Rattle.kp_base.specs.declared.lit.Lit.{Lit}
 use Rattle.kp_base.specs.declared.ground.Initial.{Initial}
-use Rattle.kp_base.specs.Lists.{Member}
-use Rattle.kp_base.specs.Lit.{negated, same_lit, code_of}
-use Rattle.kp_base.specs.LitSet.{IsAscending, with_lit}
-use Rattle.kp_base.specs.Steps.{has, holds}
-use Rattle.kp_base.specs.Entailed.{Entails, IsClosure}
-use Rattle.kp_base.specs.Implicates.{are_below, is_tautology}
+use Rattle.kp_base.specs.Planning.{Member, negated, same_lit, code_of, IsAscending, with_lit, holds, Entails, IsClosure, are_below, is_tautology}
+use Rattle.kp_base.specs.Steps.{has}
 use Rattle.kp_base.proofs.Lists.{all_member, any_member, any_from, member_at}
 use Rattle.kp_base.proofs.Lits.{same_lit-true, same_lit-refl, has-member, member-has, negated-negated}
 use Rattle.kp_base.proofs.Sets.{any-with_lit}

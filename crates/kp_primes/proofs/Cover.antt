@@ -3,11 +3,9 @@ use Rattle.std.proofs.Common.{◌≡◌, Bool, true, false, not, ◌||◌, ◌&&
 use Rattle.std.proofs.lemmas.Bool.{and_parts, and_from, or_cases, or_left, or_right, false≢true, cases_Bool}
 use Rattle.std.specs.List.{list_any}
 use Rattle.kp_base.specs.declared.lit.Lit.{Lit}
-use Rattle.kp_base.specs.Lists.{Member}
-use Rattle.kp_base.specs.Lit.{negated}
-use Rattle.kp_base.specs.LitSet.{IsAscending}
-use Rattle.kp_base.specs.Steps.{State, holds, has}
-use Rattle.kp_base.specs.Implicates.{is_within, is_tautology}
+use Rattle.kp_base.specs.Planning.{Member, negated, IsAscending, State, holds, is_tautology}
+use Rattle.kp_base.specs.Steps.{has}
+use Rattle.kp_base.specs.Implicates.{is_within}
 use Rattle.kp_base.proofs.Lists.{any_member, any_from}
 use Rattle.kp_base.proofs.Lits.{member-has, negated-negated, holds-negated}
 use Rattle.kp_clauses.specs.Resolved.{resolved}

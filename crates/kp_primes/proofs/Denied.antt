@@ -3,11 +3,8 @@ use Rattle.std.proofs.Common.{◌≡◌, ℕ, Bool, true, List, [], ◌∷◌, O
 use Rattle.std.proofs.lemmas.Bool.{and_parts, and_from, false≢true}
 use Rattle.std.specs.List.{list_any, list_all}
 use Rattle.kp_base.specs.declared.lit.Lit.{Lit}
-use Rattle.kp_base.specs.Lists.{Member}
-use Rattle.kp_base.specs.Lit.{negated, code_of}
-use Rattle.kp_base.specs.Steps.{has, holds}
-use Rattle.kp_base.specs.Entailed.{HasModel}
-use Rattle.kp_base.specs.Implicates.{formula_of}
+use Rattle.kp_base.specs.Planning.{Member, negated, code_of, holds, HasModel, formula_of}
+use Rattle.kp_base.specs.Steps.{has}
 use Rattle.kp_base.proofs.Lists.{bool_same, all_member, any_member, any_from, member_at}
 use Rattle.kp_base.proofs.Lits.{has-member, member-has, negated-negated}
 use Rattle.kp_clauses.specs.Listed.{row}

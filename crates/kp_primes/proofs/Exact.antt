@@ -4,11 +4,9 @@ use Rattle.std.proofs.lemmas.Bool.{and_parts, and_from, or_left, false≢true, n
 use Rattle.std.specs.List.{list_any, list_all}
 use Rattle.kp_base.specs.declared.lit.Lit.{Lit}
 use Rattle.kp_base.specs.declared.ground.Initial.{Initial}
-use Rattle.kp_base.specs.Lists.{Member}
-use Rattle.kp_base.specs.Lit.{positive, negative}
-use Rattle.kp_base.specs.LitSet.{IsAscending}
-use Rattle.kp_base.specs.Steps.{State, holds, has, is_model}
-use Rattle.kp_base.specs.Implicates.{is_within, is_tautology, IsImplicate, IsPrime, IsOnce, ListsPrimes}
+use Rattle.kp_base.specs.Planning.{Member, positive, negative, IsAscending, State, holds, is_model, is_tautology, IsImplicate, IsPrime, IsOnce, ListsPrimes}
+use Rattle.kp_base.specs.Steps.{has}
+use Rattle.kp_base.specs.Implicates.{is_within}
 use Rattle.kp_base.proofs.Lists.{any_member, all_member}
 use Rattle.kp_base.proofs.Lits.{has-member, member-has}
 use Rattle.kp_base.proofs.Members.{ascending_same}

@@ -6,10 +6,8 @@ use Rattle.std.specs.List.Sorted.{IsPermutation, IsSorted}
 use Rattle.kp_base.specs.declared.lit.Lit.{Lit}
 use Rattle.kp_base.specs.declared.lit.AtomId.{AtomId}
 use Rattle.kp_base.specs.declared.ground.Initial.{Initial}
-use Rattle.kp_base.specs.Lists.{Member}
-use Rattle.kp_base.specs.LitSet.{lits_cmp}
-use Rattle.kp_base.specs.Steps.{State, holds, is_model}
-use Rattle.kp_base.specs.Implicates.{is_within, is_tautology, formula_of, IsOfAtoms}
+use Rattle.kp_base.specs.Planning.{Member, lits_cmp, State, holds, is_model, is_tautology, formula_of, IsOfAtoms}
+use Rattle.kp_base.specs.Implicates.{is_within}
 use Rattle.kp_base.proofs.Members.{permuted_member}
 use Rattle.kp_base.proofs.Lists.{bool_same, any_from, any_member, all_member, all_from}
 use Rattle.kp_clauses.specs.Stored.{subsumed, are_apart}

@@ -3,11 +3,9 @@ use Rattle.std.proofs.Common.{◌≡◌, ℕ, ◌<◌, ◌≤◌, ◌+◌, true,
 use Rattle.std.proofs.lemmas.Bool.{or_left, or_right, false≢true, false_from_ne_true}
 use Rattle.std.proofs.lemmas.List.{drop_more, length-append}
 use Rattle.kp_base.specs.declared.lit.Lit.{Lit}
-use Rattle.kp_base.specs.Lists.{Member}
-use Rattle.kp_base.specs.Lit.{same_lit}
-use Rattle.kp_base.specs.LitSet.{IsAscending}
+use Rattle.kp_base.specs.Planning.{Member, same_lit, IsAscending, is_tautology}
 use Rattle.kp_base.specs.Steps.{has}
-use Rattle.kp_base.specs.Implicates.{is_within, is_tautology}
+use Rattle.kp_base.specs.Implicates.{is_within}
 use Rattle.kp_base.proofs.Lists.{any_member, any_from}
 use Rattle.kp_base.proofs.Lits.{has-member, same_lit-refl}
 use Rattle.kp_clauses.specs.Resolved.{resolved}

@@ -3,10 +3,7 @@ use Rattle.std.proofs.Common.{◌≡◌, ◌↔◌, ℕ, true, false, not, IsTru
 use Rattle.std.proofs.lemmas.Bool.{and_from, not-true, false_from_ne_true}
 use Rattle.std.specs.List.{list_any, list_all}
 use Rattle.kp_base.specs.declared.lit.Lit.{Lit}
-use Rattle.kp_base.specs.Lists.{Member}
-use Rattle.kp_base.specs.Steps.{holds, is_model}
-use Rattle.kp_base.specs.Entailed.{Entails, IsConsistent, IsClosure}
-use Rattle.kp_base.specs.Implicates.{IsPrime}
+use Rattle.kp_base.specs.Planning.{Member, holds, is_model, Entails, IsConsistent, IsClosure, IsPrime}
 use Rattle.kp_primes.specs.Asked.{inconsistent, entailed_by, with_left}
 use Rattle.kp_primes.specs.Held.{Held, formula, AreWhole}
 use Rattle.kp_primes.specs.Placed.{AreHolders, AreReady}

@@ -1,10 +1,7 @@
 -- Ascending lists of literals.
 use Rattle.std.proofs.Common.{◌<◌, List, [], ◌∷◌, inl, inr, subst, arith}
 use Rattle.kp_base.specs.declared.lit.Lit.{Lit}
-use Rattle.kp_base.specs.Lists.{Member}
-use Rattle.kp_base.specs.Lit.{code_of}
-use Rattle.kp_base.specs.LitSet.{IsAscending}
-use Rattle.kp_base.specs.Implicates.{IsOnce}
+use Rattle.kp_base.specs.Planning.{Member, code_of, IsAscending, IsOnce}
 use Rattle.kp_base.proofs.Ascending.{tail_ascends}
 
 pub above : (l : Lit) (ls : List Lit) → IsAscending (l ∷ ls) → (x : Lit) → Member ls x → code_of l < code_of x

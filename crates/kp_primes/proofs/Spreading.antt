@@ -4,11 +4,9 @@ use Rattle.std.proofs.lemmas.Bool.{and_parts, and_from, or_left, or_right, false
 use Rattle.std.proofs.Math.Bool.{not-not}
 use Rattle.std.specs.List.{list_any}
 use Rattle.kp_base.specs.declared.lit.Lit.{Lit}
-use Rattle.kp_base.specs.Lists.{Member}
-use Rattle.kp_base.specs.Lit.{negated, same_lit}
-use Rattle.kp_base.specs.LitSet.{with_lit}
+use Rattle.kp_base.specs.Planning.{Member, negated, same_lit, with_lit, is_tautology}
 use Rattle.kp_base.specs.Steps.{has}
-use Rattle.kp_base.specs.Implicates.{is_within, is_tautology}
+use Rattle.kp_base.specs.Implicates.{is_within}
 use Rattle.kp_base.proofs.Lists.{any_member, any_from, append_member, member_left, member_right, filter_member}
 use Rattle.kp_base.proofs.Lits.{member-has, has-member, same_lit-refl, same_lit-true}
 use Rattle.kp_base.proofs.Sets.{any-with_lit}

@@ -2,10 +2,8 @@
 use Rattle.std.specs.Prelude.{ℕ, Bool, false, ◌||◌, ◌&&◌, if◌then◌else◌, List, [], ◌∷◌, Option, Some, None, fold, slice_get, nat_lt}
 use Rattle.std.specs.List.{list_any, list_all}
 use Rattle.kp_base.specs.declared.lit.Lit.{Lit}
-use Rattle.kp_base.specs.Lit.{negated, code_of}
-use Rattle.kp_base.specs.LitSet.{with_lit}
+use Rattle.kp_base.specs.Planning.{negated, code_of, with_lit, is_tautology}
 use Rattle.kp_base.specs.Steps.{has}
-use Rattle.kp_base.specs.Implicates.{is_tautology}
 use Rattle.kp_clauses.specs.Listed.{row}
 use Rattle.kp_clauses.specs.Sieved.{stands}
 

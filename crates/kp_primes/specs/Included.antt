@@ -9,11 +9,9 @@ use Rattle.kp_base.specs.declared.refused.Refused.{Refused}
 use Rattle.kp_base.specs.declared.refused.Refused.TheVariants as refusals
 use Rattle.kp_primes.specs.declared.include.Entry.{Entry}
 use Rattle.kp_primes.specs.declared.include.Entry.TheVariants as entries
-use Rattle.kp_base.specs.Lists.{Member}
-use Rattle.kp_base.specs.Lit.{negated, negative}
-use Rattle.kp_base.specs.LitSet.{IsAscending, with_lit}
+use Rattle.kp_base.specs.Planning.{Member, negated, negative, IsAscending, with_lit, is_tautology}
 use Rattle.kp_base.specs.Steps.{has}
-use Rattle.kp_base.specs.Implicates.{is_within, is_tautology}
+use Rattle.kp_base.specs.Implicates.{is_within}
 use Rattle.kp_clauses.specs.Resolved.{without, resolved}
 use Rattle.kp_clauses.specs.Stored.{subsumed, with_all, are_apart}
 

@@ -2,10 +2,9 @@
 use Rattle.std.specs.Prelude.{◌≡◌, ◌+◌, ℕ, Bool, true, cond, List, [], ◌∷◌, Option, None, Some, slice_get, fold, length, nat_lt}
 use Rattle.std.specs.List.{list_any}
 use Rattle.kp_base.specs.declared.lit.Lit.{Lit}
-use Rattle.kp_base.specs.Lit.{code_of}
+use Rattle.kp_base.specs.Planning.{code_of, IsClosure}
 use Rattle.kp_base.specs.Steps.{has}
 use Rattle.kp_base.specs.Implicates.{is_within}
-use Rattle.kp_base.specs.Entailed.{IsClosure}
 use Rattle.kp_clauses.specs.Listed.{row}
 use Rattle.kp_clauses.specs.Sieved.{stands}
 use Rattle.kp_primes.specs.Included.{met}

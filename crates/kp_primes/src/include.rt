@@ -1,10 +1,7 @@
 ghost use Rattle.std.specs.Prelude.{◌≡◌, true, false, List, [], ◌∷◌, ◌++◌, OnOk, IfOk};
-ghost use Rattle.kp_base.specs.LitSet.{IsAscending};
+ghost use Rattle.kp_base.specs.Planning.{IsAscending, is_tautology, Member, negated};
 ghost use Rattle.kp_base.specs.Steps.{has};
-ghost use Rattle.kp_base.specs.Implicates.{is_tautology};
 ghost use Rattle.kp_base.specs.declared.lit.Lit.{Lit as Literal};
-ghost use Rattle.kp_base.specs.Lists.{Member};
-ghost use Rattle.kp_base.specs.Lit.{negated};
 ghost use Rattle.kp_clauses.specs.Stored.{subsumed, with_all, are_apart};
 ghost use Rattle.kp_primes.specs.Placed.{places, AreHolders};
 ghost use Rattle.kp_primes.specs.Included.{spread, walked, Spreads, Steps, AreNew, Counts, Walks, Enters, idle, included};

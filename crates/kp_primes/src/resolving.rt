@@ -2,10 +2,8 @@
 
 ghost use Rattle.std.specs.Prelude.{◌≡◌, ◌&&◌, false, not, cond, slice_get, OnOk, IfOk};
 ghost use Rattle.std.specs.List.{list_any};
-ghost use Rattle.kp_base.specs.LitSet.{with_lit};
+ghost use Rattle.kp_base.specs.Planning.{with_lit, is_tautology, negated};
 ghost use Rattle.kp_base.specs.Steps.{has};
-ghost use Rattle.kp_base.specs.Implicates.{is_tautology};
-ghost use Rattle.kp_base.specs.Lit.{negated};
 ghost use Rattle.kp_clauses.specs.Stored.{AreNeeded};
 ghost use Rattle.kp_clauses.specs.Rests.{AreRests};
 ghost use Rattle.kp_primes.specs.Placed.{places, met_one, met_at};

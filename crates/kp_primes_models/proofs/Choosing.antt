@@ -6,10 +6,7 @@ use Rattle.std.specs.List.{list_all}
 use Rattle.kp_base.specs.declared.lit.Lit.{Lit}
 use Rattle.kp_base.specs.declared.lit.AtomId.{AtomId}
 use Rattle.kp_base.specs.declared.ground.Initial.{Initial}
-use Rattle.kp_base.specs.Lit.{positive, negative}
-use Rattle.kp_base.specs.LitSet.{with_lit}
-use Rattle.kp_base.specs.Steps.{State, holds, is_model}
-use Rattle.kp_base.specs.Implicates.{IsOfAtoms}
+use Rattle.kp_base.specs.Planning.{positive, negative, with_lit, State, holds, is_model, IsOfAtoms}
 use Rattle.kp_base.proofs.Lists.{all_weaker}
 use Rattle.kp_primes_models.specs.Ordered.{state_of_atoms, AreRising, AreFirst}
 use Rattle.kp_primes_models.specs.Chosen.{IsChosen}

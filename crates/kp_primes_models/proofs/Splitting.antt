@@ -4,11 +4,8 @@ use Rattle.std.proofs.lemmas.Bool.{or_from, or_left, or_right, false≢true, fal
 use Rattle.std.specs.List.{list_all}
 use Rattle.kp_base.specs.declared.lit.Lit.{Lit}
 use Rattle.kp_base.specs.declared.ground.Initial.{Initial}
-use Rattle.kp_base.specs.Lit.{positive, negative, has}
-use Rattle.kp_base.specs.LitSet.{with_lit}
-use Rattle.kp_base.specs.Steps.{State, holds, is_model}
-use Rattle.kp_base.specs.Entailed.{IsConsistent, IsClosure}
-use Rattle.kp_base.specs.Implicates.{are_below}
+use Rattle.kp_base.specs.Planning.{positive, negative, with_lit, State, holds, is_model, IsConsistent, IsClosure, are_below}
+use Rattle.kp_base.specs.Lit.{has}
 use Rattle.kp_base.proofs.Lists.{all_member, all_from}
 use Rattle.kp_base.proofs.Lits.{member-has, has-member}
 use Rattle.kp_primes_models.specs.Known.{is_decided}

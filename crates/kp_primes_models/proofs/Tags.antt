@@ -3,10 +3,8 @@ use Rattle.std.proofs.Common.{◌≡◌, ◌<◌, ◌≤◌, nat_lt, ℕ, zero, 
 use Rattle.std.proofs.lemmas.Bool.{and_parts, and_from, or_left, or_right, or_cases, cases_eq}
 use Rattle.std.specs.List.{list_all}
 use Rattle.kp_base.specs.declared.lit.Lit.{Lit}
-use Rattle.kp_base.specs.Lit.{positive, negative, same_lit, has}
-use Rattle.kp_base.specs.LitSet.{with_lit}
-use Rattle.kp_base.specs.Steps.{State, holds}
-use Rattle.kp_base.specs.Implicates.{are_below}
+use Rattle.kp_base.specs.Planning.{positive, negative, same_lit, with_lit, State, holds, are_below}
+use Rattle.kp_base.specs.Lit.{has}
 use Rattle.kp_base.proofs.Lits.{same_lit-refl}
 use Rattle.kp_base.proofs.Sets.{any-with_lit, all-with_lit}
 use Rattle.kp_primes_models.specs.Known.{is_decided, undecided}

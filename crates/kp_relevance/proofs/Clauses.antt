@@ -6,17 +6,13 @@ use Rattle.std.specs.List.{list_any, range_with_len}
 use Rattle.std.specs.List.Sorted.{IsPermutation, IsSorted}
 use Rattle.kp_base.specs.declared.lit.Lit.{Lit}
 use Rattle.kp_base.specs.declared.ground.Ground.{Ground}
-use Rattle.kp_base.specs.Lists.{Member}
-use Rattle.kp_base.specs.Lit.{positive, negative, negated, has}
-use Rattle.kp_base.specs.LitSet.{lits_cmp}
-use Rattle.kp_base.specs.Entailed.{Entails, IsClosure, HasOneValue}
-use Rattle.kp_base.specs.Implicates.{are_below, is_tautology, IsOnce}
+use Rattle.kp_base.specs.Planning.{Member, positive, negative, negated, lits_cmp, Entails, IsClosure, HasOneValue, are_below, is_tautology, IsOnce, either_value, IsCandidate, AreRelevant, IsClauseFor, AreClausesFor}
+use Rattle.kp_base.specs.Lit.{has}
 use Rattle.kp_base.proofs.Members.{permuted_member}
 use Rattle.kp_base.proofs.Lists.{all_member, all_from, any_from, any_member, member_left, member_right, append_member, member_map, map_member, member_filter, filter_member, range_there}
 use Rattle.kp_base.proofs.Lits.{has-member}
 use Rattle.kp_primes.specs.Held.{Held, AreWhole, formula}
 use Rattle.kp_relevance.specs.Relevant.{is_pair, ArePairsOf}
-use Rattle.kp_base.specs.Relevance.{either_value, IsCandidate, AreRelevant, IsClauseFor, AreClausesFor}
 use Rattle.kp_relevance.specs.Candidates.{AnswersClausesFor}
 use Rattle.kp_relevance.specs.Gathered.{are_paired, is_wanted, is_unsettled, unsettled_below, gathered}
 use Rattle.kp_relevance.proofs.Once.{once_filter, once_append, once_map, once_range, range_bounds, permuted_once}

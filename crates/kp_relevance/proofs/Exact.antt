@@ -6,14 +6,12 @@ use Rattle.std.specs.List.{list_any, list_all, range_with_len}
 use Rattle.kp_base.specs.declared.lit.Lit.{Lit}
 use Rattle.kp_base.specs.declared.ground.Effect.{Effect}
 use Rattle.kp_base.specs.declared.ground.Action.{Action}
-use Rattle.kp_base.specs.Lists.{Member}
-use Rattle.kp_base.specs.Lit.{code_of, negated, same_lit, has}
-use Rattle.kp_base.specs.Implicates.{are_below, effect_below, action_below, IsOfItsAtoms}
+use Rattle.kp_base.specs.Planning.{Member, code_of, negated, same_lit, are_below, effect_below, action_below, IsOfItsAtoms, IsRelevant, leads, joins, IsChained}
+use Rattle.kp_base.specs.Lit.{has}
 use Rattle.kp_base.proofs.Lists.{bool_same, any_weaker, any_member, any_from, all_member, member_map, member_flat_map, member_filter, filter_member, range_there}
 use Rattle.kp_base.proofs.Lits.{same_lit-true, same_lit-refl, negated-negated, member-has, has-member}
 use Rattle.kp_base.proofs.Ascending.{code_of-injective}
 use Rattle.kp_base.specs.declared.ground.Ground.{Ground}
-use Rattle.kp_base.specs.Relevance.{IsRelevant, leads, joins, IsChained}
 use Rattle.kp_relevance.specs.Relevant.{is_pair, ArePairsOf}
 use Rattle.kp_relevance.specs.Tabled.{marked, AddsMarks, Linked, Closes, lit_of, at_both, at_pair, marks_of, marks_of_all, is_marked, literals_of, pairs_of}
 use Rattle.kp_relevance.proofs.Chains.{joins_by, joins_relevant, to_chain}

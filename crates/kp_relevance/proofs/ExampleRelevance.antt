@@ -5,13 +5,9 @@ use Rattle.kp_base.specs.declared.lit.Lit.{Lit}
 use Rattle.kp_base.specs.declared.ground.Action.{Action}
 use Rattle.kp_base.specs.declared.ground.Ground.{Ground}
 use Rattle.kp_base.specs.declared.ground.GroundName.{GroundName}
-use Rattle.kp_base.specs.Lit.{positive, negative, negated, same_lit}
-use Rattle.kp_base.specs.Lists.{Member}
-use Rattle.kp_base.specs.Entailed.{HasOneValue}
-use Rattle.kp_base.specs.Implicates.{IsOfItsAtoms, formula_of}
+use Rattle.kp_base.specs.Planning.{positive, negative, negated, same_lit, Member, HasOneValue, IsOfItsAtoms, formula_of, IsRelevant, either_value, IsCandidate, IsClauseFor}
 use Rattle.kp_base.proofs.Lists.{any_member}
 use Rattle.kp_base.proofs.Lits.{same_lit-true, same_lit-refl}
-use Rattle.kp_base.specs.Relevance.{IsRelevant, either_value, IsCandidate, IsClauseFor}
 use Rattle.kp_relevance.specs.Relevant.{is_pair, ArePairsOf}
 use Rattle.kp_relevance.specs.Laws.{KeepsTheRules}
 use Rattle.kp_relevance.proofs.Chains.{within_rules}

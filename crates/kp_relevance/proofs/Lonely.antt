@@ -4,10 +4,7 @@ use Rattle.std.proofs.lemmas.Bool.{and_parts, false_from_ne_true, false≢true}
 use Rattle.std.proofs.lemmas.List.Sorted.{IsPermutation-refl}
 use Rattle.std.specs.List.{list_any, range_with_len}
 use Rattle.kp_base.specs.declared.lit.Lit.{Lit}
-use Rattle.kp_base.specs.Lists.{Member}
-use Rattle.kp_base.specs.Lit.{code_of, positive, negative}
-use Rattle.kp_base.specs.LitSet.{IsAscending}
-use Rattle.kp_base.specs.Relevance.{either_value}
+use Rattle.kp_base.specs.Planning.{Member, code_of, positive, negative, IsAscending, either_value}
 use Rattle.kp_base.proofs.Ascending.{code_of-injective}
 use Rattle.kp_base.proofs.Lists.{any_member}
 use Rattle.kp_primes.specs.Held.{Held, AreWhole}

@@ -5,10 +5,7 @@ use Rattle.std.specs.Cmp.{IsTotalOrder, on_total, nat_cmp_total}
 use Rattle.std.specs.Cmp.Lexicographic.{lists_total}
 use Rattle.std.specs.Ordering.{ordering_reverse, is_eq}
 use Rattle.kp_base.specs.declared.lit.Lit.{Lit}
-use Rattle.kp_base.specs.Lists.{Member}
-use Rattle.kp_base.specs.Lit.{code_of}
-use Rattle.kp_base.specs.LitSet.{lits_cmp}
-use Rattle.kp_base.specs.Implicates.{IsOnce}
+use Rattle.kp_base.specs.Planning.{Member, code_of, lits_cmp, IsOnce}
 use Rattle.kp_base.proofs.Ascending.{equal_iff}
 use Rattle.kp_relevance.specs.Laws.{AreClausesForOnce}
 

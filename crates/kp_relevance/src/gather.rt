@@ -3,11 +3,9 @@ ghost use Rattle.std.specs.Prelude.{◌≡◌, ◌++◌, ◌∷◌, [], List, fi
 ghost use Rattle.std.specs.List.{list_any, range_with_len};
 ghost use Rattle.std.specs.List.Sorted.{IsPermutation, IsSorted};
 ghost use Rattle.kp_base.specs.declared.lit.Lit.{Lit as Literal};
-ghost use Rattle.kp_base.specs.Lit.{has, negated};
-ghost use Rattle.kp_base.specs.LitSet.{with_lit, lits_cmp};
-ghost use Rattle.kp_base.specs.Entailed.{IsClosure};
+ghost use Rattle.kp_base.specs.Planning.{negated, with_lit, lits_cmp, IsClosure, either_value};
+ghost use Rattle.kp_base.specs.Lit.{has};
 ghost use Rattle.kp_primes.specs.Held.{formula};
-ghost use Rattle.kp_base.specs.Relevance.{either_value};
 ghost use Rattle.kp_relevance.specs.Gathered.{are_paired, is_wanted, is_unsettled, unsettled_below};
 
 use crate::Relevance;

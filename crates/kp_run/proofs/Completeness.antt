@@ -13,10 +13,8 @@ use Rattle.kp_law_machine.specs.Lifts.{lift_of, UnliftedAt}
 use Rattle.kp_law_machine.proofs.Public.{lifted_lists_strip, failing_lists_dont_lift}
 use Rattle.kp_tree_grammar.specs.declared.tree.Word.{Word}
 use Rattle.kp_tree_grammar.specs.Trees.{Domain, Problem}
-use Rattle.kp_names_meaning.specs.Numbering.{numbered_problem}
-use Rattle.kp_names_meaning.specs.Steps.{Step}
-use Rattle.kp_names_meaning.specs.Plans.{HasProblem, IsPlan}
-use Rattle.kp_names_meaning.specs.Strip.{strip}
+use Rattle.kp_names_meaning.specs.Problems.{numbered_problem, Step, HasProblem, strip}
+use Rattle.kp_names_meaning.specs.Plans.{IsPlan}
 use Rattle.kp_law_decidable.specs.Laws.{AreProper}
 use Rattle.kp_law_decidable.proofs.Public.{formulas_are_ascending, complete_with_none}
 use Rattle.kp_plans.specs.Printed.{plan_text}

@@ -6,10 +6,7 @@ use Rattle.kp_lex.specs.Cutting.{Cut}
 use Rattle.kp_lex.specs.Scanning.{cut}
 use Rattle.kp_lex.proofs.Public.{TellsCutting, cut_tells}
 use Rattle.kp_tree_grammar.specs.declared.tree.Word.{Word}
-use Rattle.kp_tree_grammar.specs.Symbols.{all_seen_in}
-use Rattle.kp_tree_grammar.specs.Sorts.{Sort, El}
-use Rattle.kp_tree_grammar.specs.Forms.{Form}
-use Rattle.kp_tree_grammar.specs.Depth.{deep}
+use Rattle.kp_tree_grammar.specs.Language.{all_seen_in, Sort, El, Form, deep}
 use Rattle.kp_tree_grammar.proofs.Public.{computed_outcome, answered_is_read}
 use Rattle.kp_tree.specs.Files.{HasTree}
 

@@ -8,10 +8,7 @@ use Rattle.kp_base.specs.declared.ground.Ground.{Ground}
 use Rattle.kp_base.specs.declared.ground.Initial.{Initial}
 use Rattle.kp_base.specs.declared.ground.TagTable.{TagTable}
 use Rattle.kp_base.specs.declared.limits.Mode.TheVariants as modes
-use Rattle.kp_base.specs.Lists.{Member}
-use Rattle.kp_base.specs.Lit.{code_of, positive, negative, negated}
-use Rattle.kp_base.specs.Relevance.{IsRelevant, IsCandidate, AreRelevant}
-use Rattle.kp_base.specs.Covering.{IsCovered, AreUncovered}
+use Rattle.kp_base.specs.Planning.{Member, code_of, positive, negative, negated, IsRelevant, IsCandidate, AreRelevant, IsCovered, AreUncovered}
 use Rattle.kp_tree_grammar.specs.declared.tree.Word.{Word}
 use Rattle.kp_tree_grammar.specs.Trees.{Domain, Problem}
 use Rattle.kp_tags_modes.specs.Modes.{AreMergesOf}

@@ -17,12 +17,7 @@ use Rattle.kp_base.specs.declared.ground.Effect.{Effect}
 use Rattle.kp_base.specs.declared.ground.TagTable.{TagTable}
 use Rattle.kp_base.specs.declared.ground.Initial.{Initial}
 use Rattle.kp_base.specs.declared.lit.Lit.{Lit}
-use Rattle.kp_base.specs.Lists.{Member}
-use Rattle.kp_base.specs.Lit.{positive, negative}
-use Rattle.kp_base.specs.LitSet.{IsAscending}
-use Rattle.kp_base.specs.Steps.{State as NumberedState, is_model}
-use Rattle.kp_base.specs.Exclusive.{IsClashFree}
-use Rattle.kp_base.specs.Implicates.{IsNeverOver}
+use Rattle.kp_base.specs.Planning.{Member, positive, negative, IsAscending, State as NumberedState, is_model, IsClashFree, IsNeverOver}
 use Rattle.kp_primes.specs.Included.{all_included}
 use Rattle.kp_primes.proofs.Public.{counted_is_never_over}
 use Rattle.kp_law_machine.proofs.Public.{swap_is_clash_free}
@@ -36,15 +31,12 @@ use Rattle.kp_tree_grammar.specs.declared.tree.Word.{Word}
 use Rattle.kp_tree_grammar.specs.Grammar as grammar
 use Rattle.kp_tree_grammar.proofs.Public.{exchange_text, exchange_tree, from_p_to_q_text, from_p_to_q_tree, tokens_of_text}
 use Rattle.kp_names_meaning.specs.Faults as faults
-use Rattle.kp_names_meaning.specs.Names.{same}
-use Rattle.kp_names_meaning.specs.Numbered.{Lifted}
-use Rattle.kp_names_meaning.specs.Numbering.{numbered_problem}
+use Rattle.kp_names_meaning.specs.Problems.{same, Lifted, numbered_problem, HasInitialState}
 use Rattle.kp_tree.specs.Files.{HasTree}
 use Rattle.kp_ground_meaning.specs.Ground.{kept_instances, ground_atoms}
 use Rattle.kp_ground_meaning.specs.Ground as by_number
 use Rattle.kp_ground_meaning.specs.Weights.{binding_count, total_weight}
 use Rattle.kp_ground.specs.Grounded.{IsGrounded}
-use Rattle.kp_names_meaning.specs.Initial.{HasInitialState}
 use Rattle.kp_law_files.specs.Translations.{ground_of, initial_of}
 use Rattle.kp_law_files.specs.Tables.{empty_tag}
 use Rattle.kp_law_files.specs.Written.{translation_of}

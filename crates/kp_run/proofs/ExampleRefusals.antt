@@ -12,13 +12,7 @@ use Rattle.kp_base.specs.declared.refused.Stop.TheVariants as stops
 use Rattle.kp_base.specs.declared.ground.Initial.{Initial}
 use Rattle.kp_base.specs.declared.ground.TagTable.{TagTable}
 use Rattle.kp_base.specs.declared.lit.Lit.{Lit}
-use Rattle.kp_base.specs.Lists.{Member}
-use Rattle.kp_base.specs.Lit.{positive, negative}
-use Rattle.kp_base.specs.LitSet.{IsAscending}
-use Rattle.kp_base.specs.Steps.{State as NumberedState, is_model}
-use Rattle.kp_base.specs.Exclusive.{ArePairs, Deletes, IsExclusive, ClashesFirst}
-use Rattle.kp_base.specs.Implicates.{IsLeastOver, IsNeverOver}
-use Rattle.kp_base.specs.Entailed.{HasNoModel}
+use Rattle.kp_base.specs.Planning.{Member, positive, negative, IsAscending, State as NumberedState, is_model, ArePairs, Deletes, IsExclusive, ClashesFirst, IsLeastOver, IsNeverOver, HasNoModel}
 use Rattle.kp_primes.specs.Included.{all_included, passed_at}
 use Rattle.kp_primes.specs.Answers.{RefusesPrimes, too_many}
 use Rattle.kp_primes.proofs.Public.{counted_is_never_over, prefix_stops_the_build}
@@ -28,12 +22,9 @@ use Rattle.kp_run.proofs.ClashFree.{clash_free_with_table, two_atoms}
 use Rattle.kp_lex.specs.Bytes.{class_of}
 use Rattle.kp_lex.specs.Cutting.{at_end}
 use Rattle.kp_lex.specs.Scanning.{cut_from}
-use Rattle.kp_tree_grammar.specs.Symbols.{symbol_of}
-use Rattle.kp_tree_grammar.specs.Parsing.{some_at, next_at}
-use Rattle.kp_tree_grammar.specs.Trees.{Cond, Eff, Item, Schema, Domain, Problem, conds_of, effs_of}
+use Rattle.kp_tree_grammar.specs.Language.{symbol_of, some_at, next_at, Cond, Eff, Item, Schema, Domain, Problem, conds_of, effs_of, stop, within_form, s_unopened}
 use Rattle.kp_tree_grammar.specs.declared.tree.Word.{Word}
 use Rattle.kp_tree_grammar.specs.Grammar as grammar
-use Rattle.kp_tree_grammar.specs.Reading.{stop, within_form, s_unopened}
 use Rattle.kp_tree_grammar.proofs.Public.{example_word_at, example_atom_at, example_pred_at, exchange_text, exchange_tree, tokens_of_text}
 use Rattle.kp_names_meaning.specs.Faults as faults
 use Rattle.kp_names_meaning.specs.Names.{same}

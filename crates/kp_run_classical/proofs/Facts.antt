@@ -16,10 +16,8 @@ use Rattle.kp_tree_grammar.specs.declared.tree.Word.{Word}
 use Rattle.kp_tree_grammar.specs.Trees as trees
 use Rattle.kp_tree_grammar.specs.Trees.{Domain, Problem}
 use Rattle.kp_names_meaning.specs.declared.lifted.Item.{Item}
-use Rattle.kp_names_meaning.specs.Names.{same}
-use Rattle.kp_names_meaning.specs.Numbered.{Lifted}
+use Rattle.kp_names_meaning.specs.Problems.{same, Lifted, numbered_item, numbered_items, numbered_problem}
 use Rattle.kp_names_meaning.specs.Lifted.{item_literals, is_of, is_named}
-use Rattle.kp_names_meaning.specs.Numbering.{numbered_item, numbered_items, numbered_problem}
 use Rattle.kp_names.specs.Resolved.{or_else, unsure_item, unsure_items, first_unsure}
 use Rattle.kp_base.specs.Atoms.{Atom, same_atom, has_atom, number_of}
 use Rattle.kp_ground_meaning.specs.Ground.{atom_of, numbered, IsNumbering, ground_atoms, atom_name, ground_of}

@@ -11,12 +11,7 @@ use Rattle.kp_base.proofs.Sets.{all-set_of}
 use Rattle.kp_lex.proofs.Public.{no_more_tokens_than_bytes}
 use Rattle.kp_tree_grammar.specs.declared.symbol.Symbol.{Symbol}
 use Rattle.kp_tree_grammar.specs.declared.tree.Word.{Word}
-use Rattle.kp_tree_grammar.specs.Trees.{Lit}
-use Rattle.kp_tree_grammar.specs.Symbols.{Tok, seen_in, all_seen_in}
-use Rattle.kp_tree_grammar.specs.Sorts.{Sort, s_list, El}
-use Rattle.kp_tree_grammar.specs.Forms.{Form, many}
-use Rattle.kp_tree_grammar.specs.Reading.{ReadBy, r_end, r_more}
-use Rattle.kp_tree_grammar.specs.Texts.{ReadsAs}
+use Rattle.kp_tree_grammar.specs.Language.{Lit, Tok, seen_in, all_seen_in, Sort, s_list, El, Form, many, ReadBy, r_end, r_more, ReadsAs}
 use Rattle.kp_tree_grammar.proofs.Public.{reading_shrinks}
 use Rattle.kp_names_meaning.specs.GroundNames.{same_name}
 use Rattle.kp_tags_merges.specs.declared.merge.FileMerge.{FileMerge}

@@ -1,10 +1,7 @@
 ghost use Rattle.std.specs.Prelude.{◌≡◌, ◌≤◌, Some, Err, List, ℕ, IfOk, IfErr, length};
 ghost use Rattle.kp_base.specs.declared.refused.Refused.TheVariants as refusals;
 ghost use Rattle.kp_base.specs.declared.refused.Stop.TheVariants as causes;
-ghost use Rattle.kp_base.specs.Implicates.{IsOfItsAtoms};
-ghost use Rattle.kp_base.specs.Exclusive.{IsClashFree};
-ghost use Rattle.kp_base.specs.Counted.{IsCounted};
-ghost use Rattle.kp_base.specs.Files.{most_bytes};
+ghost use Rattle.kp_base.specs.Planning.{IsOfItsAtoms, IsClashFree, IsCounted, most_bytes};
 ghost use Rattle.kp_names_meaning.specs.Numbered.{Lifted as Numbers};
 ghost use Rattle.kp_ground_meaning.specs.Ground.{ground_of};
 ghost use Rattle.kp_init.specs.Initial.{initial_of};

@@ -6,11 +6,7 @@ use Rattle.kp_base.specs.declared.lit.Lit.{Lit}
 use Rattle.kp_base.specs.declared.lit.AtomId.{AtomId}
 use Rattle.kp_base.specs.declared.ground.TagRow.{TagRow}
 use Rattle.kp_base.specs.declared.refused.Refused.TheVariants as refusals
-use Rattle.kp_base.specs.Lists.{Member}
-use Rattle.kp_base.specs.Lit.{positive}
-use Rattle.kp_base.specs.LitSet.{IsAscending}
-use Rattle.kp_base.specs.Steps.{State, holds, is_model, ComesBefore}
-use Rattle.kp_base.specs.Entailed.{IsConsistent, AreValid, IsTable}
+use Rattle.kp_base.specs.Planning.{Member, positive, IsAscending, State, holds, is_model, ComesBefore, IsConsistent, AreValid, IsTable}
 use Rattle.kp_law_machine.proofs.Public.{cells_ground, one_cell_is_full, cells_table, cells_table_is_right as right, cells_merges_are_valid as valid}
 use Rattle.kp_primes.specs.Held.{Held}
 use Rattle.kp_primes_models.specs.Ordered.{state_of_atoms, AreFirst}

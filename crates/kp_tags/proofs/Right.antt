@@ -8,13 +8,10 @@ use Rattle.kp_base.specs.declared.ground.Initial.{Initial}
 use Rattle.kp_base.specs.declared.ground.TagRow.{TagRow}
 use Rattle.kp_base.specs.declared.ground.Merge.{Merge}
 use Rattle.kp_base.specs.declared.ground.TagTable.{TagTable}
-use Rattle.kp_base.specs.Lists.{Member}
-use Rattle.kp_base.specs.Steps.{State, holds}
-use Rattle.kp_base.specs.Entailed.{tag_holds, IsValid, AreValid}
+use Rattle.kp_base.specs.Planning.{Member, State, holds, tag_holds, IsValid, AreValid, same_set}
 use Rattle.kp_base.proofs.Lists.{any_from, any_map, any_weaker, map_member, member_flat_map}
 use Rattle.kp_base.proofs.Once.{any-each_once}
 use Rattle.kp_tags_merges.specs.declared.merge.FileMerge.{FileMerge}
-use Rattle.kp_base.specs.LitSet.{same_set}
 use Rattle.kp_tags.specs.MergeTables.{used_tags, number_in, numbered, IsTableOf}
 use Rattle.kp_tags.specs.Answers.{AreAllAcceptable}
 use Rattle.kp_tags.specs.Laws.{AcceptedTablesAreRight}

@@ -6,10 +6,7 @@ use Rattle.kp_base.specs.declared.ground.Initial.{Initial}
 use Rattle.kp_base.specs.declared.ground.TagRow.{TagRow}
 use Rattle.kp_base.specs.declared.ground.TagTable.{TagTable}
 use Rattle.kp_base.specs.declared.ground.Merge.{Merge}
-use Rattle.kp_base.specs.Lists.{Member, each_once}
-use Rattle.kp_base.specs.LitSet.{IsAscending, same_set}
-use Rattle.kp_base.specs.Implicates.{are_below}
-use Rattle.kp_base.specs.Entailed.{IsClosure}
+use Rattle.kp_base.specs.Planning.{Member, each_once, IsAscending, same_set, are_below, IsClosure}
 use Rattle.kp_tags_merges.specs.declared.merge.FileMerge.{FileMerge}
 
 -- the tags of the merge are of the first n atoms

@@ -7,12 +7,7 @@ use Rattle.kp_base.specs.declared.lit.AtomId.{AtomId}
 use Rattle.kp_base.proofs.Parts.{take_while_next}
 use Rattle.kp_tree_grammar.specs.declared.symbol.Symbol.{Symbol}
 use Rattle.kp_tree_grammar.specs.declared.tree.Word.{Word}
-use Rattle.kp_tree_grammar.specs.Trees.{Term, Atom}
-use Rattle.kp_tree_grammar.specs.Symbols.{Tok, first_is, is_left, is_right, is_head, is_name, is_not}
-use Rattle.kp_tree_grammar.specs.Sorts.{apply, m_name}
-use Rattle.kp_tree_grammar.specs.Forms.{hits, token, many}
-use Rattle.kp_tree_grammar.specs.Grammar.{fact, fact_body, lit}
-use Rattle.kp_tree_grammar.specs.Reading.{stop, Reads, Stops, r_token, r_both, r_make, r_bracket, s_token, s_first, s_make, s_inside, s_unclosed}
+use Rattle.kp_tree_grammar.specs.Language.{Term, Atom, Tok, first_is, is_left, is_right, is_head, is_name, is_not, apply, m_name, hits, token, many, fact, fact_body, lit, stop, Reads, Stops, r_token, r_both, r_make, r_bracket, s_token, s_first, s_make, s_inside, s_unclosed}
 use Rattle.kp_tree_grammar.proofs.Public.{answered_is_read}
 use Rattle.kp_tree_cursor.specs.declared.cursor.Class.TheVariants as classes
 use Rattle.kp_tree_cursor.specs.declared.halt.Halt.{Halt}

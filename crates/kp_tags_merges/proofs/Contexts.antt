@@ -3,10 +3,7 @@ use Rattle.std.proofs.Common.{◌≡◌, ℕ, Bool, true, false, List, [], ◌�
 use Rattle.std.specs.List.{AllZip}
 use Rattle.kp_tree_grammar.specs.declared.tree.Word.{Word}
 use Rattle.kp_tree_grammar.specs.declared.symbol.Symbol.{Symbol}
-use Rattle.kp_tree_grammar.specs.Symbols.{Tok, first_is, is_left, is_right}
-use Rattle.kp_tree_grammar.specs.Sorts.{Sort, El, Maker}
-use Rattle.kp_tree_grammar.specs.Forms.{Form, hits, ◌▹◌, ◌▸◌, many, make, choose, bracket}
-use Rattle.kp_tree_grammar.specs.Reading.{stop, Reads, r_end, r_more, s_first, s_second, s_after, s_here, s_later, s_make, s_choice, s_inside, s_unclosed}
+use Rattle.kp_tree_grammar.specs.Language.{Tok, first_is, is_left, is_right, Sort, El, Maker, Form, hits, ◌▹◌, ◌▸◌, many, make, choose, bracket, stop, Reads, r_end, r_more, s_first, s_second, s_after, s_here, s_later, s_make, s_choice, s_inside, s_unclosed}
 use Rattle.kp_tags_merges.specs.Numbers.{Numbers}
 use Rattle.kp_tags_merges.specs.Parts.{Walk, arrived, Halts, stopped, unknown, SoFar}
 use Rattle.kp_tags_merges.proofs.Comes.{into_bracket, behind_token, in_first_form, in_second_form, in_next, in_later, in_made, in_choice}

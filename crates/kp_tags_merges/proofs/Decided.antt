@@ -6,12 +6,7 @@ use Rattle.kp_base.specs.declared.lit.AtomId.{AtomId}
 use Rattle.kp_base.specs.declared.lit.Lit.{Lit as Literal}
 use Rattle.kp_base.specs.LitSet.{set_of}
 use Rattle.kp_tree_grammar.specs.declared.tree.Word.{Word}
-use Rattle.kp_tree_grammar.specs.Trees.{Atom, Lit}
-use Rattle.kp_tree_grammar.specs.Symbols.{Tok, first_is, is_left, is_right, is_merge, is_not}
-use Rattle.kp_tree_grammar.specs.Sorts.{Sort, El}
-use Rattle.kp_tree_grammar.specs.Forms.{Form, hits, many}
-use Rattle.kp_tree_grammar.specs.Grammar.{fact, lit}
-use Rattle.kp_tree_grammar.specs.Reading.{At, Reads, Stops, r_end, r_more, r_bracket, r_after, r_both}
+use Rattle.kp_tree_grammar.specs.Language.{Atom, Lit, Tok, first_is, is_left, is_right, is_merge, is_not, Sort, El, Form, hits, many, fact, lit, At, Reads, Stops, r_end, r_more, r_bracket, r_after, r_both}
 use Rattle.kp_tree_grammar.proofs.Public.{form_reads_or_stops, reading_shrinks}
 use Rattle.kp_tags_merges.specs.Grammar.{tag, merge, merges, name_of_atom}
 use Rattle.kp_tags_merges.specs.Numbers.{Numbers, IsLit, IsTag, IsMerge}

@@ -2,10 +2,7 @@
 use Rattle.std.proofs.Common.{◌≡◌, ℕ, suc, ◌≤◌, ◌<◌, ◌⊎◌, inl, inr, List, ◌∷◌, length, drop, None, ap, arith}
 use Rattle.std.proofs.lemmas.Bool.{cases_lt}
 use Rattle.kp_tree_grammar.specs.declared.tree.Word.{Word}
-use Rattle.kp_tree_grammar.specs.Trees.{Atom}
-use Rattle.kp_tree_grammar.specs.Symbols.{Tok}
-use Rattle.kp_tree_grammar.specs.Grammar.{fact}
-use Rattle.kp_tree_grammar.specs.Reading.{At, stop, Reads, StopsWhole, within_form, after_form}
+use Rattle.kp_tree_grammar.specs.Language.{Atom, Tok, fact, At, stop, Reads, StopsWhole, within_form, after_form}
 use Rattle.kp_tree_grammar.proofs.Public.{whole_stops_once}
 use Rattle.kp_tags_merges.specs.Grammar.{MergeTree, merges, name_of_atom}
 use Rattle.kp_tags_merges.specs.Numbers.{Numbers}

@@ -4,13 +4,7 @@ use Rattle.kp_base.specs.declared.lit.Lit.{Lit as Literal}
 use Rattle.kp_tree_grammar.specs.declared.tree.Word.{Word}
 use Rattle.kp_tree_grammar.specs.declared.symbol.Symbol.{Symbol}
 use Rattle.kp_tree_grammar.specs.declared.symbol.Symbol.TheVariants as symbols
-use Rattle.kp_tree_grammar.specs.Trees.{Atom, Lit}
-use Rattle.kp_tree_grammar.specs.Symbols.{Tok, first_is, is_left, is_right, is_head, is_name, is_not}
-use Rattle.kp_tree_grammar.specs.Unsupported.{not_lit}
-use Rattle.kp_tree_grammar.specs.Sorts.{s_lit, s_term, El, m_lit, m_name}
-use Rattle.kp_tree_grammar.specs.Forms.{Form, hits, token, ◌▸◌, many, make, choose, nothing}
-use Rattle.kp_tree_grammar.specs.Grammar.{fact, fact_body, lit, lit_case}
-use Rattle.kp_tree_grammar.specs.Reading.{At, stop, stop_by, Reads, Stops, r_token, r_both, r_after, r_end, r_more, r_make, r_choice, r_bracket, s_token, s_nothing, s_first, s_second, s_here, s_later, s_make, s_none_there, s_choice, s_unopened, s_inside, s_unclosed}
+use Rattle.kp_tree_grammar.specs.Language.{Atom, Lit, Tok, first_is, is_left, is_right, is_head, is_name, is_not, not_lit, s_lit, s_term, El, m_lit, m_name, Form, hits, token, ◌▸◌, many, make, choose, nothing, fact, fact_body, lit, lit_case, At, stop, stop_by, Reads, Stops, r_token, r_both, r_after, r_end, r_more, r_make, r_choice, r_bracket, s_token, s_nothing, s_first, s_second, s_here, s_later, s_make, s_none_there, s_choice, s_unopened, s_inside, s_unclosed}
 use Rattle.kp_tree_grammar.proofs.Public.{a_form_reads_once, a_form_stops_once, form_never_both, form_reads_or_stops}
 use Rattle.kp_tree_cursor.specs.declared.cursor.Class.TheVariants as classes
 use Rattle.kp_tree_cursor.proofs.Public.{class_is_no_bracket}

@@ -5,11 +5,7 @@ use Rattle.std.proofs.lemmas.List.Sums.{fold-append}
 use Rattle.kp_base.specs.declared.lit.Lit.{Lit as Literal}
 use Rattle.kp_base.specs.LitSet.{with_lit}
 use Rattle.kp_tree_grammar.specs.declared.tree.Word.{Word}
-use Rattle.kp_tree_grammar.specs.Symbols.{Tok, first_is, is_left, is_right, is_merge}
-use Rattle.kp_tree_grammar.specs.Sorts.{Sort, El}
-use Rattle.kp_tree_grammar.specs.Forms.{Form, hits, many}
-use Rattle.kp_tree_grammar.specs.Grammar.{lit}
-use Rattle.kp_tree_grammar.specs.Reading.{Reads, r_bracket, r_after, r_both}
+use Rattle.kp_tree_grammar.specs.Language.{Tok, first_is, is_left, is_right, is_merge, Sort, El, Form, hits, many, lit, Reads, r_bracket, r_after, r_both}
 use Rattle.kp_tree_cursor.specs.declared.cursor.Lead.TheVariants as leads
 use Rattle.kp_tree_cursor.specs.declared.halt.Halt.{Halt}
 use Rattle.kp_tree_cursor.specs.declared.halt.Halt.TheVariants as halts

@@ -3,11 +3,7 @@ use Rattle.std.proofs.Common.{◌≡◌, ℕ, suc, true, false, List, [], ◌∷
 use Rattle.std.specs.List.{AllZip}
 use Rattle.kp_base.specs.declared.lit.Lit.{Lit as Literal}
 use Rattle.kp_tree_grammar.specs.declared.tree.Word.{Word}
-use Rattle.kp_tree_grammar.specs.Trees.{Lit}
-use Rattle.kp_tree_grammar.specs.Symbols.{Tok, first_is, is_left, is_right, is_head, is_merge}
-use Rattle.kp_tree_grammar.specs.Forms.{hits, many}
-use Rattle.kp_tree_grammar.specs.Grammar.{lit}
-use Rattle.kp_tree_grammar.specs.Reading.{stop, Reads, r_both, r_after, r_end, r_more, r_bracket, s_before, s_unopened, s_inside, s_unclosed}
+use Rattle.kp_tree_grammar.specs.Language.{Lit, Tok, first_is, is_left, is_right, is_head, is_merge, hits, many, lit, stop, Reads, r_both, r_after, r_end, r_more, r_bracket, s_before, s_unopened, s_inside, s_unclosed}
 use Rattle.kp_tags_merges.specs.declared.merge.FileMerge.{FileMerge}
 use Rattle.kp_tags_merges.specs.Grammar.{MergeTree, tag, merge_body, merge}
 use Rattle.kp_tags_merges.specs.Numbers.{Numbers, IsLit, IsTag, IsMerge}

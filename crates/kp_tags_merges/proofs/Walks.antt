@@ -3,11 +3,7 @@ use Rattle.std.proofs.Common.{cond, ◌≡◌, ℕ, suc, ◌+◌, ◌≤◌, ◌
 use Rattle.kp_tree_grammar.specs.declared.tree.Word.{Word}
 use Rattle.kp_tree_grammar.specs.declared.symbol.Symbol.{Symbol}
 use Rattle.kp_tree_grammar.specs.declared.symbol.Symbol.TheVariants as symbols
-use Rattle.kp_tree_grammar.specs.Trees.{Atom}
-use Rattle.kp_tree_grammar.specs.Symbols.{Tok, first_is, is_left, is_right, is_head, is_not}
-use Rattle.kp_tree_grammar.specs.Forms.{hits}
-use Rattle.kp_tree_grammar.specs.Grammar.{fact}
-use Rattle.kp_tree_grammar.specs.Reading.{Reads, r_token, r_both, r_make, r_bracket}
+use Rattle.kp_tree_grammar.specs.Language.{Atom, Tok, first_is, is_left, is_right, is_head, is_not, hits, fact, Reads, r_token, r_both, r_make, r_bracket}
 use Rattle.std.proofs.lemmas.List.{length-append}
 use Rattle.std.proofs.lemmas.List.Sums.{sum_by-cons}
 use Rattle.kp_tree_grammar.proofs.Public.{rest_is_no_longer}

@@ -2,11 +2,7 @@
 use Rattle.std.specs.Prelude.{ℕ, List, map, true, false}
 use Rattle.kp_base.specs.declared.ground.GroundName.{GroundName}
 use Rattle.kp_tree_grammar.specs.declared.tree.Word.{Word}
-use Rattle.kp_tree_grammar.specs.Trees.{Term, Atom, Lit}
-use Rattle.kp_tree_grammar.specs.Symbols.{is_left, is_merge}
-use Rattle.kp_tree_grammar.specs.Sorts.{s_lit, s_pair, s_list}
-use Rattle.kp_tree_grammar.specs.Forms.{Form, ◌▹◌, ◌▸◌, many, bracket}
-use Rattle.kp_tree_grammar.specs.Grammar.{lit}
+use Rattle.kp_tree_grammar.specs.Language.{Term, Atom, Lit, is_left, is_merge, s_lit, s_pair, s_list, Form, ◌▹◌, ◌▸◌, many, bracket, lit}
 
 -- ( lit* )
 abbrev pub tag : Form true (s_list s_lit)

@@ -11,11 +11,7 @@ use Rattle.kp_lex.specs.declared.token.Token.{Token}
 use Rattle.kp_lex.specs.Cutting.{Cut, BadAt}
 use Rattle.kp_lex.specs.Places.{place_of}
 use Rattle.kp_tree_grammar.specs.declared.tree.Word.{Word}
-use Rattle.kp_tree_grammar.specs.Trees.{Atom}
-use Rattle.kp_tree_grammar.specs.Symbols.{Tok, all_seen_in, is_left, is_right}
-use Rattle.kp_tree_grammar.specs.Grammar.{fact}
-use Rattle.kp_tree_grammar.specs.Reading.{At, Reads, StopsWhole}
-use Rattle.kp_tree_grammar.specs.Texts.{ReadsAs}
+use Rattle.kp_tree_grammar.specs.Language.{Atom, Tok, all_seen_in, is_left, is_right, fact, At, Reads, StopsWhole, ReadsAs}
 use Rattle.kp_tree_cursor.specs.Lexemes.{byte_at}
 use Rattle.kp_plans.specs.Names.{number_of}
 use Rattle.kp_tags_merges.specs.declared.merge.FileMerge.{FileMerge}

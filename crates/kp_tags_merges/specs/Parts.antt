@@ -12,12 +12,7 @@ use Rattle.kp_base.specs.LitSet.{set_of}
 use Rattle.kp_lex.specs.declared.token.Token.{Token}
 use Rattle.kp_lex.specs.Places.{place_of}
 use Rattle.kp_tree_grammar.specs.declared.tree.Word.{Word}
-use Rattle.kp_tree_grammar.specs.Trees.{Atom}
-use Rattle.kp_tree_grammar.specs.Symbols.{Tok, all_seen_in, is_left, is_right, is_not}
-use Rattle.kp_tree_grammar.specs.Sorts.{Sort, El}
-use Rattle.kp_tree_grammar.specs.Forms.{Form, many}
-use Rattle.kp_tree_grammar.specs.Grammar.{fact, lit}
-use Rattle.kp_tree_grammar.specs.Reading.{At, stop, Reads, Stops, ReadsWhole}
+use Rattle.kp_tree_grammar.specs.Language.{Atom, Tok, all_seen_in, is_left, is_right, is_not, Sort, El, Form, many, fact, lit, At, stop, Reads, Stops, ReadsWhole}
 use Rattle.kp_names_meaning.specs.Encoding.{encoded}
 use Rattle.kp_tree_cursor.specs.declared.halt.Halt.{Halt}
 use Rattle.kp_tree_cursor.specs.declared.halt.Halt.TheVariants as halts

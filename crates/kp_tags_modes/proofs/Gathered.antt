@@ -3,11 +3,8 @@ use Rattle.std.proofs.Common.{◌≡◌, ◌⊎◌, ℕ, true, List, [], ◌∷�
 use Rattle.std.proofs.lemmas.Bool.{or_cases, or_left, or_right}
 use Rattle.kp_base.specs.declared.lit.Lit.{Lit}
 use Rattle.kp_base.specs.declared.ground.Initial.{Initial}
-use Rattle.kp_base.specs.Lists.{Member}
-use Rattle.kp_base.specs.Lit.{positive, has, same_lit}
-use Rattle.kp_base.specs.LitSet.{IsAscending, with_lit}
-use Rattle.kp_base.specs.Relevance.{either_value}
-use Rattle.kp_base.specs.Covering.{IsCov}
+use Rattle.kp_base.specs.Planning.{Member, positive, same_lit, IsAscending, with_lit, either_value, IsCov}
+use Rattle.kp_base.specs.Lit.{has}
 use Rattle.kp_base.proofs.Lists.{map_map, member_map, map_member}
 use Rattle.kp_base.proofs.Lits.{same_lit-true, same_lit-refl, has-member, member-has}
 use Rattle.kp_base.proofs.Sets.{any-with_lit}

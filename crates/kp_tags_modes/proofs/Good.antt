@@ -5,14 +5,7 @@ use Rattle.std.specs.List.{list_any, list_all}
 use Rattle.kp_base.specs.declared.lit.Lit.{Lit}
 use Rattle.kp_base.specs.declared.ground.Ground.{Ground}
 use Rattle.kp_base.specs.declared.ground.Initial.{Initial}
-use Rattle.kp_base.specs.Lists.{Member, choices}
-use Rattle.kp_base.specs.Lit.{positive, negative}
-use Rattle.kp_base.specs.LitSet.{set_of, same_set}
-use Rattle.kp_base.specs.Steps.{State, holds, is_model}
-use Rattle.kp_base.specs.Entailed.{IsConsistent}
-use Rattle.kp_base.specs.Implicates.{are_below, effect_below, action_below, IsOfItsAtoms}
-use Rattle.kp_base.specs.Relevance.{either_value, IsRelevant, IsCandidate, AreClausesFor}
-use Rattle.kp_base.specs.Covering.{IsCov, IsTarget}
+use Rattle.kp_base.specs.Planning.{Member, choices, positive, negative, set_of, same_set, State, holds, is_model, IsConsistent, are_below, effect_below, action_below, IsOfItsAtoms, either_value, IsRelevant, IsCandidate, AreClausesFor, IsCov, IsTarget}
 use Rattle.kp_base.proofs.Lists.{all_member, all_from, any_from, append_member, map_member, flat_member, filter_member}
 use Rattle.kp_base.proofs.Once.{all_each_once}
 use Rattle.kp_base.proofs.Sets.{all-set_of}

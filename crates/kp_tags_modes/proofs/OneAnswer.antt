@@ -6,10 +6,7 @@ use Rattle.kp_base.specs.declared.ground.Ground.{Ground}
 use Rattle.kp_base.specs.declared.ground.Initial.{Initial}
 use Rattle.kp_base.specs.declared.refused.Refused.{Refused}
 use Rattle.kp_base.specs.declared.refused.Refused.TheVariants as refusals
-use Rattle.kp_base.specs.Lists.{Member}
-use Rattle.kp_base.specs.Lit.{positive}
-use Rattle.kp_base.specs.Relevance.{either_value}
-use Rattle.kp_base.specs.Covering.{IsCov, AllMeet}
+use Rattle.kp_base.specs.Planning.{Member, positive, either_value, IsCov, AllMeet}
 use Rattle.kp_base.proofs.Lists.{member_map, map_member, member_contains, contains_member}
 use Rattle.kp_base.proofs.Ascending.{same_members}
 use Rattle.kp_cover_subsets.specs.Subsets.{subsets, choose}

@@ -1,12 +1,8 @@
 -- Tags that say of each atom of some clauses whether it is true.
 use Rattle.std.specs.Prelude.{◌≡◌, ◌↔◌, ℕ, List, map}
-use Rattle.kp_base.specs.LitSet.{IsAscending}
-use Rattle.kp_base.specs.Lit.{positive}
+use Rattle.kp_base.specs.Planning.{IsAscending, positive, Member, IsCov, either_value}
 use Rattle.kp_base.specs.declared.lit.Lit.{Lit}
 use Rattle.kp_base.specs.declared.ground.Initial.{Initial}
-use Rattle.kp_base.specs.Lists.{Member}
-use Rattle.kp_base.specs.Covering.{IsCov}
-use Rattle.kp_base.specs.Relevance.{either_value}
 
 -- a literal of a clause is of the atom
 pub record HasAtom (cs : List (List Lit)) (p : ℕ) : Type 0 where

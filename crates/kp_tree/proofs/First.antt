@@ -1,11 +1,7 @@
 -- A bracket that opens a level too many and is answered stands before the place where the form stops, unless it is that place.
 use Rattle.std.proofs.Common.{◌≡◌, ℕ, zero, suc, ◌<◌, ◌⊎◌, inl, inr, Bool, true, false, List, [], ◌∷◌, length, Ok, Err, refl, sym, ap, ◌∙◌, arith}
 use Rattle.kp_tree_grammar.specs.declared.symbol.Symbol.{Symbol}
-use Rattle.kp_tree_grammar.specs.Sorts.{s_seen, Seen, Sort, s_list, El, apply, s_pair}
-use Rattle.kp_tree_grammar.specs.Forms.{Form, many, run}
-use Rattle.kp_tree_grammar.specs.Reading.{At, stop, ReadBy, r_token, r_none, r_both, r_after, r_end, r_more, r_last, r_next, r_absent, r_present, r_make, r_choice, r_loose, r_bracket, r_within, StopBy, s_token, s_nothing, s_first, s_second, s_before, s_after, s_here, s_later, s_lacks, s_at, s_next, s_present, s_make, s_none_there, s_choice, s_loose, s_unopened, s_inside, s_unclosed, s_within}
-use Rattle.kp_tree_grammar.specs.Symbols.{Tok, first_is}
-use Rattle.kp_tree_grammar.specs.Parsing.{Outcome, ◌>>=◌, closed, go, level}
+use Rattle.kp_tree_grammar.specs.Language.{s_seen, Seen, Sort, s_list, El, apply, s_pair, Form, many, run, At, stop, ReadBy, r_token, r_none, r_both, r_after, r_end, r_more, r_last, r_next, r_absent, r_present, r_make, r_choice, r_loose, r_bracket, r_within, StopBy, s_token, s_nothing, s_first, s_second, s_before, s_after, s_here, s_later, s_lacks, s_at, s_next, s_present, s_make, s_none_there, s_choice, s_loose, s_unopened, s_inside, s_unclosed, s_within, Tok, first_is, Outcome, ◌>>=◌, closed, go, level}
 use Rattle.kp_tree_grammar.proofs.Public.{many_unfolds, run_unfolds, read_is_no_stop, rest_is_no_longer, other_token_stops, other_front_stops, no_bracket_stops, open_bracket_stops, reads_once, reads_or_stops, answered_is_read, stops_within}
 
 module _ {W : Type 0} where

@@ -10,11 +10,7 @@ use Rattle.kp_lex.specs.Places.{place_of}
 use Rattle.kp_lex.proofs.Public.{cutting_or_bad_byte, never_cutting_and_bad_byte, one_cutting, one_bad_byte}
 use Rattle.kp_base.proofs.Cases.{some_none}
 use Rattle.kp_tree_grammar.specs.declared.tree.Word.{Word}
-use Rattle.kp_tree_grammar.specs.Symbols.{Tok, all_seen_in}
-use Rattle.kp_tree_grammar.specs.Sorts.{Sort, El}
-use Rattle.kp_tree_grammar.specs.Forms.{Form}
-use Rattle.kp_tree_grammar.specs.Reading.{At, stop, ReadsWhole, StopsWhole}
-use Rattle.kp_tree_grammar.specs.Depth.{deep, levels}
+use Rattle.kp_tree_grammar.specs.Language.{Tok, all_seen_in, Sort, El, Form, At, stop, ReadsWhole, StopsWhole, deep, levels}
 use Rattle.kp_tree_grammar.proofs.Public.{whole_reads_once, whole_stops_once, whole_never_both, whole_reads_or_stops}
 use Rattle.kp_base.specs.Files.{most_bytes}
 use Rattle.kp_tree.specs.Files.{ReadsShallow, RefusedAt, offending, too_deep, refusal_at, HasTree, Refuses, too_long, bad_token, stops, FilesReadOnce, FilesRefuseOnce, FilesNeverBoth, FilesAlwaysOne}

@@ -5,10 +5,7 @@ use Rattle.kp_base.specs.declared.refused.Part.{Part}
 use Rattle.kp_base.specs.declared.refused.Stop.{Stop}
 use Rattle.kp_lex.specs.declared.token.Token.{Token}
 use Rattle.kp_tree_grammar.specs.declared.tree.Word.{Word}
-use Rattle.kp_tree_grammar.specs.Symbols.{Tok, seen_in, all_seen_in}
-use Rattle.kp_tree_grammar.specs.Sorts.{Sort, El}
-use Rattle.kp_tree_grammar.specs.Forms.{Form}
-use Rattle.kp_tree_grammar.specs.Reading.{At, stop}
+use Rattle.kp_tree_grammar.specs.Language.{Tok, seen_in, all_seen_in, Sort, El, Form, At, stop}
 use Rattle.kp_tree_cursor.specs.declared.halt.Halt.{Halt}
 use Rattle.kp_tree_cursor.specs.declared.halt.Halt.TheVariants as halts
 use Rattle.kp_tree.specs.Files.{RefusedAt, AnswersTokens}

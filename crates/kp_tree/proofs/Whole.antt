@@ -1,11 +1,6 @@
 -- What reading with 64 levels gives is the tree of the tokens, or the token at which they are refused.
 use Rattle.std.proofs.Common.{◌≡◌, ℕ, ◌⊎◌, inl, inr, Bool, List, [], ◌∷◌, length, Option, Some, Ok, Err, refl, sym, ap, subst, ◌∙◌, arith}
-use Rattle.kp_tree_grammar.specs.Symbols.{Tok}
-use Rattle.kp_tree_grammar.specs.Sorts.{Sort, El}
-use Rattle.kp_tree_grammar.specs.Forms.{Form}
-use Rattle.kp_tree_grammar.specs.Reading.{Syntax, At, stop, ReadBy, ReadsWhole, StopsWhole, within_form, after_form}
-use Rattle.kp_tree_grammar.specs.Parsing.{Outcome, ◌>>=◌, ended, go, level}
-use Rattle.kp_tree_grammar.specs.Depth.{deep, levels}
+use Rattle.kp_tree_grammar.specs.Language.{Tok, Sort, El, Form, Syntax, At, stop, ReadBy, ReadsWhole, StopsWhole, within_form, after_form, Outcome, ◌>>=◌, ended, go, level, deep, levels}
 use Rattle.kp_tree_grammar.specs.declared.tree.Word.{Word}
 use Rattle.kp_tree_grammar.proofs.Public.{TellsReading, reading_tells, deep_within, whole_never_both, whole_stops_once, whole_reads_or_stops}
 use Rattle.kp_tree.specs.Files.{ReadsShallow, RefusedAt, offending, too_deep}

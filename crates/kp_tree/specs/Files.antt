@@ -11,11 +11,7 @@ use Rattle.kp_lex.specs.declared.token.Token.{Token}
 use Rattle.kp_lex.specs.Cutting.{Cut, BadAt}
 use Rattle.kp_lex.specs.Places.{place_of}
 use Rattle.kp_tree_grammar.specs.declared.tree.Word.{Word}
-use Rattle.kp_tree_grammar.specs.Symbols.{Tok, all_seen_in}
-use Rattle.kp_tree_grammar.specs.Sorts.{Sort, El}
-use Rattle.kp_tree_grammar.specs.Forms.{Form}
-use Rattle.kp_tree_grammar.specs.Reading.{Reason, Syntax, Unsupported, At, stop, ReadsWhole, StopsWhole}
-use Rattle.kp_tree_grammar.specs.Depth.{levels, deep}
+use Rattle.kp_tree_grammar.specs.Language.{Tok, all_seen_in, Sort, El, Form, Reason, Syntax, Unsupported, At, stop, ReadsWhole, StopsWhole, levels, deep}
 use Rattle.kp_tree_cursor.specs.Lexemes.{byte_at}
 
 -- ---- tokens

@@ -7,12 +7,7 @@ use Rattle.kp_base.proofs.Parts.{take_while_next}
 use Rattle.kp_tree_grammar.specs.declared.symbol.Symbol.{Symbol}
 use Rattle.kp_tree_grammar.specs.declared.symbol.Symbol.TheVariants as symbols
 use Rattle.kp_tree_grammar.specs.declared.tree.Word.{Word}
-use Rattle.kp_tree_grammar.specs.Symbols.{Tok, first_is, is_keyword}
-use Rattle.kp_tree_grammar.specs.Sorts.{Sort, s_word, El, Maker, apply, m_word, m_drop}
-use Rattle.kp_tree_grammar.specs.Forms.{hits, token, many}
-use Rattle.kp_tree_grammar.specs.Grammar.{some}
-use Rattle.kp_tree_grammar.specs.Reading.{stop}
-use Rattle.kp_tree_grammar.specs.Parsing.{Outcome, read}
+use Rattle.kp_tree_grammar.specs.Language.{Tok, first_is, is_keyword, Sort, s_word, El, Maker, apply, m_word, m_drop, hits, token, many, some, stop, Outcome, read}
 use Rattle.kp_tree_grammar.proofs.Public.{many_unfolds}
 use Rattle.kp_tree_cursor.specs.declared.cursor.Class.{Class}
 use Rattle.kp_tree_cursor.specs.declared.cursor.Class.TheVariants as classes

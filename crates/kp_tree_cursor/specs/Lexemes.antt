@@ -4,10 +4,7 @@ use Rattle.std.specs.Str.{str_to_ascii_lowercase}
 use Rattle.kp_lex.specs.declared.token.Token.{Token}
 use Rattle.kp_lex.specs.Cutting.{Cut}
 use Rattle.kp_tree_grammar.specs.declared.tree.Word.{Word}
-use Rattle.kp_tree_grammar.specs.Trees.{Term}
-use Rattle.kp_tree_grammar.specs.Symbols.{Tok, symbol_of}
-use Rattle.kp_tree_grammar.specs.Sorts.{apply}
-use Rattle.kp_tree_grammar.specs.Grammar.{term_maker}
+use Rattle.kp_tree_grammar.specs.Language.{Term, Tok, symbol_of, apply, term_maker}
 use Rattle.kp_tree_cursor.specs.declared.lexeme.Lexeme.{Lexeme}
 
 -- a token of the program

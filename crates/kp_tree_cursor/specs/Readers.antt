@@ -2,11 +2,7 @@
 use Rattle.std.specs.Prelude.{◌≡◌, ◌+◌, ℕ, length, List, [], ◌∷◌, Bool, true, Result, Ok, Err, map}
 use Rattle.kp_tree_grammar.specs.declared.tree.Word.{Word}
 use Rattle.kp_tree_grammar.specs.declared.symbol.Symbol.{Symbol}
-use Rattle.kp_tree_grammar.specs.Symbols.{Tok, is_left, is_right, is_head, is_name, is_variable, is_term, is_keyword, is_define, is_domain, is_problem, is_either, is_merge, is_equal}
-use Rattle.kp_tree_grammar.specs.Forms.{hits}
-use Rattle.kp_tree_grammar.specs.Grammar.{word, some, skip, words_of_requirements}
-use Rattle.kp_tree_grammar.specs.Reading.{Unsupported, At, stop}
-use Rattle.kp_tree_grammar.specs.Parsing.{Outcome, read}
+use Rattle.kp_tree_grammar.specs.Language.{Tok, is_left, is_right, is_head, is_name, is_variable, is_term, is_keyword, is_define, is_domain, is_problem, is_either, is_merge, is_equal, hits, word, some, skip, words_of_requirements, Unsupported, At, stop, Outcome, read}
 use Rattle.kp_tree_cursor.specs.declared.halt.Halt.{Halt}
 use Rattle.kp_tree_cursor.specs.declared.halt.Halt.TheVariants as halts
 use Rattle.kp_tree_cursor.specs.declared.cursor.Class.{Class}

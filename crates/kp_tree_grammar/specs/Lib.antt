@@ -12,3 +12,4 @@ pub mod Parsing
 pub mod Laws
 pub mod View
 pub mod Words
+pub mod Language

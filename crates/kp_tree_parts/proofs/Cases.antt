@@ -3,11 +3,7 @@ use Rattle.std.proofs.Common.{◌≡◌, ℕ, Bool, true, false, List, [], ◌�
 use Rattle.kp_tree_grammar.specs.declared.symbol.Symbol.{Symbol}
 use Rattle.kp_tree_grammar.specs.declared.symbol.Symbol.TheVariants as symbols
 use Rattle.kp_tree_grammar.specs.declared.tree.Word.{Word}
-use Rattle.kp_tree_grammar.specs.Symbols.{Tok, first_is, is_left, is_name}
-use Rattle.kp_tree_grammar.specs.Sorts.{s_list, s_word}
-use Rattle.kp_tree_grammar.specs.Grammar.{word, kind, kind_case}
-use Rattle.kp_tree_grammar.specs.Trees.{Cond, Eff, Item}
-use Rattle.kp_tree_grammar.specs.Parsing.{◌>>=◌, go, level, read}
+use Rattle.kp_tree_grammar.specs.Language.{Tok, first_is, is_left, is_name, s_list, s_word, word, kind, kind_case, Cond, Eff, Item, ◌>>=◌, go, level, read}
 use Rattle.kp_tree_parts.specs.declared.conds.Role.{Role}
 use Rattle.kp_tree_parts.specs.declared.conds.Role.TheVariants as roles
 use Rattle.kp_tree_parts.specs.Readers.{terms_class, test_at, body_at, eff_inside_at, each_at, lit_inside_at, item_inside_at}

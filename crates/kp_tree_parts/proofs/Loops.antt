@@ -4,12 +4,7 @@ use Rattle.std.specs.List.{flat_map}
 use Rattle.kp_base.proofs.Parts.{flat_map-push}
 use Rattle.kp_tree_grammar.specs.declared.symbol.Symbol.{Symbol}
 use Rattle.kp_tree_grammar.specs.declared.tree.Word.{Word}
-use Rattle.kp_tree_grammar.specs.Trees.{Typed}
-use Rattle.kp_tree_grammar.specs.Symbols.{Tok, first_is}
-use Rattle.kp_tree_grammar.specs.Sorts.{Sort, s_seen, Seen, s_pair, s_list, s_typed, El, m_joined, with_kinds}
-use Rattle.kp_tree_grammar.specs.Forms.{Form, many, run, make}
-use Rattle.kp_tree_grammar.specs.Reading.{stop}
-use Rattle.kp_tree_grammar.specs.Parsing.{Outcome, ◌>>=◌, read}
+use Rattle.kp_tree_grammar.specs.Language.{Typed, Tok, first_is, Sort, s_seen, Seen, s_pair, s_list, s_typed, El, m_joined, with_kinds, Form, many, run, make, stop, Outcome, ◌>>=◌, read}
 use Rattle.kp_tree_grammar.proofs.Public.{many_unfolds, run_unfolds}
 use Rattle.kp_tree_cursor.specs.declared.halt.Halt.{Halt}
 use Rattle.kp_tree_cursor.specs.declared.halt.Halt.TheVariants as halts

@@ -5,12 +5,7 @@ use Rattle.kp_base.proofs.Parts.{take_while_next}
 use Rattle.kp_tree_grammar.specs.declared.symbol.Symbol.{Symbol}
 use Rattle.kp_tree_grammar.specs.declared.symbol.Symbol.TheVariants as symbols
 use Rattle.kp_tree_grammar.specs.declared.tree.Word.{Word}
-use Rattle.kp_tree_grammar.specs.Symbols.{Tok, is_name, is_head, is_variable, is_term, is_keyword}
-use Rattle.kp_tree_grammar.specs.Sorts.{apply, m_name}
-use Rattle.kp_tree_grammar.specs.Forms.{many}
-use Rattle.kp_tree_grammar.specs.Grammar.{term_maker}
-use Rattle.kp_tree_grammar.specs.Reading.{stop}
-use Rattle.kp_tree_grammar.specs.Parsing.{Outcome, ◌>>=◌, read}
+use Rattle.kp_tree_grammar.specs.Language.{Tok, is_name, is_head, is_variable, is_term, is_keyword, apply, m_name, many, term_maker, stop, Outcome, ◌>>=◌, read}
 use Rattle.kp_tree_cursor.specs.declared.cursor.Class.{Class}
 use Rattle.kp_tree_cursor.specs.declared.cursor.Class.TheVariants as classes
 use Rattle.kp_tree_cursor.specs.Lexemes.{word_of, term_of, from}

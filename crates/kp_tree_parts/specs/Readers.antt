@@ -2,18 +2,12 @@
 use Rattle.std.specs.Prelude.{ℕ, List, Bool, true, false}
 use Rattle.kp_tree_grammar.specs.declared.tree.Word.{Word}
 use Rattle.kp_tree_grammar.specs.declared.symbol.Symbol.{Symbol}
-use Rattle.kp_tree_grammar.specs.Trees.{Typed, Term, Atom, Cond, Eff, Lit, Item, Pred, Schema}
-use Rattle.kp_tree_grammar.specs.Symbols.{is_left, is_head, is_name, is_variable, is_either, is_dash, is_parameters, is_precondition, is_effect}
-use Rattle.kp_tree_grammar.specs.Sorts.{Sort, El, Maker, s_word, s_term, s_list, s_typed, s_atom, s_cond, m_name, m_kinds, m_untyped, m_typed, m_atom, m_when, m_each, m_no_params, m_items, m_true, m_idle, m_pred}
-use Rattle.kp_tree_grammar.specs.Forms.{Form, token, many, make, maybe, bracket, ◌▸◌, ◌▹◌, choose, within, Named, n_cond, n_goal, n_eff, n_item}
-use Rattle.kp_tree_grammar.specs.Grammar.{word, some, skip, term, term_maker, kind, typed, equality, test_case, goal_lit_case, rule, lit, lit_case, pred, cond, eff, parts_end_case, schema, title}
-use Rattle.kp_tree_grammar.specs.Parsing.{read, ended, ◌>>=◌}
+use Rattle.kp_tree_grammar.specs.Language.{Typed, Term, Atom, Cond, Eff, Lit, Item, Pred, Schema, is_left, is_head, is_name, is_variable, is_either, is_dash, is_parameters, is_precondition, is_effect, Sort, El, Maker, s_word, s_term, s_list, s_typed, s_atom, s_cond, m_name, m_kinds, m_untyped, m_typed, m_atom, m_when, m_each, m_no_params, m_items, m_true, m_idle, m_pred, Form, token, many, make, maybe, bracket, ◌▸◌, ◌▹◌, choose, within, Named, n_cond, n_goal, n_eff, n_item, word, some, skip, term, term_maker, kind, typed, equality, test_case, goal_lit_case, rule, lit, lit_case, pred, cond, eff, parts_end_case, schema, title, read, ended, ◌>>=◌, levels}
 use Rattle.kp_tree_cursor.specs.declared.cursor.Class.{Class}
 use Rattle.kp_tree_cursor.specs.declared.cursor.Class.TheVariants as classes
 use Rattle.kp_tree_parts.specs.declared.conds.Role.{Role}
 use Rattle.kp_tree_parts.specs.declared.conds.Role.TheVariants as roles
 use Rattle.kp_tree_cursor.specs.declared.cursor.Lead.{Lead}
-use Rattle.kp_tree_grammar.specs.Depth.{levels}
 pub use Rattle.kp_tree_cursor.specs.Readers.{unsupported, Fails, Gives, Passes, GivesAll, Closed, Opened, Reader, class_test, is_of, lead_test, Led, word_at, name_at, some_at, Words, keywords_at}
 
 -- all tokens, with none left

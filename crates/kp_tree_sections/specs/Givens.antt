@@ -1,12 +1,7 @@
 -- What the functions for a problem's sections give. Beside proofs it serves the contracts that cite `GivesGivens`.
 use Rattle.std.specs.Prelude.{◌≡◌, ℕ, List, [], Result, Ok, Err}
 use Rattle.kp_tree_grammar.specs.declared.tree.Word.{Word}
-use Rattle.kp_tree_grammar.specs.Trees.{Given, Problem}
-use Rattle.kp_tree_grammar.specs.Symbols.{Tok, is_left, is_define, is_problem, is_goal}
-use Rattle.kp_tree_grammar.specs.Sorts.{Seen, apply, m_problem}
-use Rattle.kp_tree_grammar.specs.Forms.{run, make, choose, ◌▸◌, ◌▹◌}
-use Rattle.kp_tree_grammar.specs.Grammar.{title, given, given_case, has_stood, problem}
-use Rattle.kp_tree_grammar.specs.Parsing.{Outcome, read}
+use Rattle.kp_tree_grammar.specs.Language.{Given, Problem, Tok, is_left, is_define, is_problem, is_goal, Seen, apply, m_problem, run, make, choose, ◌▸◌, ◌▹◌, title, given, given_case, has_stood, problem, Outcome, read}
 use Rattle.kp_tree_cursor.specs.declared.halt.Halt.{Halt}
 use Rattle.kp_tree_arena.specs.declared.node.ProblemNode.{ProblemNode}
 use Rattle.kp_tree_parts.specs.Lexemes.{from}

@@ -1,12 +1,7 @@
 -- What the functions for a domain's sections give. Beside proofs it serves the contracts that cite `GivesSections`.
 use Rattle.std.specs.Prelude.{◌≡◌, ℕ, List, Result, Ok, Err}
 use Rattle.kp_tree_grammar.specs.declared.tree.Word.{Word}
-use Rattle.kp_tree_grammar.specs.Trees.{Section, Domain}
-use Rattle.kp_tree_grammar.specs.Symbols.{Tok, is_left, is_define, is_domain}
-use Rattle.kp_tree_grammar.specs.Sorts.{apply, m_domain}
-use Rattle.kp_tree_grammar.specs.Forms.{many, make, choose, ◌▸◌, ◌▹◌}
-use Rattle.kp_tree_grammar.specs.Grammar.{section, section_case, title, domain}
-use Rattle.kp_tree_grammar.specs.Parsing.{Outcome, read}
+use Rattle.kp_tree_grammar.specs.Language.{Section, Domain, Tok, is_left, is_define, is_domain, apply, m_domain, many, make, choose, ◌▸◌, ◌▹◌, section, section_case, title, domain, Outcome, read}
 use Rattle.kp_tree_cursor.specs.declared.halt.Halt.{Halt}
 use Rattle.kp_tree_arena.specs.declared.node.DomainNode.{DomainNode}
 use Rattle.kp_tree_parts.specs.Lexemes.{from}

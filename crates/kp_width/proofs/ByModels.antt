@@ -6,10 +6,7 @@ use Rattle.kp_base.specs.declared.ground.Initial.{Initial}
 use Rattle.kp_base.specs.declared.ground.Action.{Action}
 use Rattle.kp_base.specs.declared.limits.Limits.{Limits}
 use Rattle.kp_base.specs.declared.refused.Refused.{Refused}
-use Rattle.kp_base.specs.Entailed.{IsConsistent, HaveSameModels}
-use Rattle.kp_base.specs.Implicates.{IsImplicate}
-use Rattle.kp_base.specs.Relevance.{IsCandidate, AreClausesFor}
-use Rattle.kp_base.specs.Covering.{IsCov}
+use Rattle.kp_base.specs.Planning.{IsConsistent, HaveSameModels, IsImplicate, IsCandidate, AreClausesFor, IsCov}
 use Rattle.kp_cover_subsets.specs.Subsets.{subsets}
 use Rattle.kp_cover.specs.Covering.{IsCover}
 use Rattle.kp_width.specs.declared.report.WidthRow.{WidthRow}

@@ -5,10 +5,7 @@ use Rattle.kp_base.specs.declared.ground.Ground.{Ground}
 use Rattle.kp_base.specs.declared.ground.Initial.{Initial}
 use Rattle.kp_base.specs.declared.limits.Limits.{Limits}
 use Rattle.kp_base.specs.declared.refused.Refused.{Refused}
-use Rattle.kp_base.specs.Lists.{Member}
-use Rattle.kp_base.specs.Entailed.{HaveSameModels}
-use Rattle.kp_base.specs.Covering.{IsCov, AllMeet}
-use Rattle.kp_base.specs.Relevance.{AreClausesFor}
+use Rattle.kp_base.specs.Planning.{Member, HaveSameModels, IsCov, AllMeet, AreClausesFor}
 use Rattle.kp_cover.specs.Targets.{AreTargets}
 use Rattle.kp_width.specs.declared.report.WidthRow.{WidthRow}
 use Rattle.kp_width.specs.declared.report.WidthReport.{WidthReport}

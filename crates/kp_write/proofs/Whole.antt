@@ -1,10 +1,7 @@
 -- The written texts read as their trees, with the places of the words.
 use Rattle.std.proofs.Common.{ℕ, Bool, List, sym, subst}
-use Rattle.kp_tree_grammar.specs.Symbols.{Tok, all_seen_in}
-use Rattle.kp_tree_grammar.specs.Sorts.{Sort, El}
-use Rattle.kp_tree_grammar.specs.Forms.{Form}
+use Rattle.kp_tree_grammar.specs.Language.{Tok, all_seen_in, Sort, El, Form, ReadsWhole}
 use Rattle.kp_tree_grammar.specs.Grammar as grammar
-use Rattle.kp_tree_grammar.specs.Reading.{ReadsWhole}
 use Rattle.kp_law_texts.specs.Pieces.{Piece, spelling}
 use Rattle.kp_write.specs.Written.{domain_pieces, problem_pieces}
 use Rattle.kp_law_texts.specs.Tokens.{spans, words, Fine}
