@@ -6,7 +6,7 @@ use Rattle.kp_guide.specs.declared.rule.Rule.{Rule}
 use Rattle.kp_classic.specs.Fits.{are_below}
 use Rattle.kp_guide.specs.Added.{Costs}
 use Rattle.kp_guide.specs.Added.Costs.{none, given, by_rule}
-use Rattle.kp_guide.specs.Costs.{value, joined, total, AreAchieved, IsClosed}
+use Rattle.kp_guide.specs.CostTables.{value, joined, total, AreAchieved, IsClosed}
 use Rattle.kp_guide.proofs.Joins.{joined_is}
 
 module _ (rules : List Rule) (holds : ℕ → Bool) (costs : List ℕ) where

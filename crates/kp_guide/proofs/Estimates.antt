@@ -18,7 +18,7 @@ use Rattle.kp_classic.specs.Steps.{Holding}
 use Rattle.kp_guide.specs.Added.{IsLeast, rule_of, rules_of_effect, rules_of_op, rules_of, goal_of}
 use Rattle.kp_guide.specs.Added.Costs.{none, given}
 use Rattle.kp_guide.specs.Relaxed.{at}
-use Rattle.kp_guide.specs.Costs.{value, total, are_costs, fits_rule, first_cost, with_fact, AreAchieved, IsClosed, AreSettled, Lowers}
+use Rattle.kp_guide.specs.CostTables.{value, total, are_costs, fits_rule, first_cost, with_fact, AreAchieved, IsClosed, AreSettled, Lowers}
 use Rattle.kp_guide.proofs.Chains.{lower, reached}
 
 -- ---- facts once

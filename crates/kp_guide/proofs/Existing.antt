@@ -10,7 +10,7 @@ use Rattle.kp_classic.specs.Fits.{IsFit}
 use Rattle.kp_classic.specs.Steps.{Holding}
 use Rattle.kp_guide.specs.declared.rule.Rule.{Rule}
 use Rattle.kp_guide.specs.Added.{IsAdded, rules_of, goal_of}
-use Rattle.kp_guide.specs.Costs.{value, total, cost_by, are_costs, fits_rule, first_cost, IsClosed, Lowers}
+use Rattle.kp_guide.specs.CostTables.{value, total, cost_by, are_costs, fits_rule, first_cost, IsClosed, Lowers}
 use Rattle.kp_guide.proofs.Relaxing.{lowers_none, lowers_on, fallen, sum_less}
 use Rattle.kp_guide.proofs.Estimates.{first_costs, settles, rules_fit, goal_fits, told_some, told_none}
 

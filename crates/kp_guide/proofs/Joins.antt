@@ -1,7 +1,7 @@
 -- Sums of costs.
 use Rattle.std.proofs.Common.{◌≡◌, ◌<◌, ◌≤◌, ◌+◌, ◌⊎◌, ℕ, Bool, true, false, ◌&&◌, if◌then◌else◌, min, nat_le, List, [], ◌∷◌, arith, refl, sym, ap, ◌∙◌, inl, inr}
 use Rattle.std.proofs.lemmas.Bool.{leb-true, leb-false}
-use Rattle.kp_guide.specs.Costs.{value, joined, total}
+use Rattle.kp_guide.specs.CostTables.{value, joined, total}
 
 -- either both are costs, or one is none and so is the sum
 pub joined_is : (a b : ℕ) → ((a ≤ 1000000000) × (b ≤ 1000000000) × (joined a b ≡ min (a + b) 1000000000)) ⊎ (((1000000000 < a) ⊎ (1000000000 < b)) × (joined a b ≡ 1000000001))

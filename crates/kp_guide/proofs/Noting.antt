@@ -8,7 +8,7 @@ use Rattle.kp_base.proofs.Lists.{all_member, member_at}
 use Rattle.kp_base.proofs.Places.{element as at_within}
 use Rattle.kp_classic.specs.Fits.{are_below}
 use Rattle.kp_guide.specs.declared.rule.Rule.{Rule}
-use Rattle.kp_guide.specs.Costs.{fits_rule}
+use Rattle.kp_guide.specs.CostTables.{fits_rule}
 use Rattle.kp_guide.specs.Waiting.{one_if, how_many, times, row, AreUsers, Notes, unreached, unreached_before, count_at, needs_of, AreCounts, AreEnough, CountsDown}
 
 -- ---- one more element of a list

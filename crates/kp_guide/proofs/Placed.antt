@@ -13,7 +13,7 @@ use Rattle.kp_guide.specs.declared.rule.Rule.{Rule}
 use Rattle.kp_guide.specs.Added.{Costs, IsLeast, IsAdded, rules_of, goal_of}
 use Rattle.kp_guide.specs.Added.Costs.{none, given, by_rule}
 use Rattle.kp_guide.specs.Relaxed.{at, read, held, AreRead, HasPlaced, IsRelaxationOf}
-use Rattle.kp_guide.specs.Costs.{fits_rule}
+use Rattle.kp_guide.specs.CostTables.{fits_rule}
 
 abbrev first_of : List ℕ → ℕ
 first_of [] = 0

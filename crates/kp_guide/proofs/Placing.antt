@@ -12,7 +12,7 @@ use Rattle.kp_classic.specs.Fits.{are_below}
 use Rattle.kp_guide.specs.declared.rule.Rule.{Rule}
 use Rattle.kp_guide.specs.Placing.{ArePlaces, AddThere, ArePlacedTo, Grows, HaveAll}
 use Rattle.kp_guide.specs.Relaxed.{at, read, AreRead, HasPlaced}
-use Rattle.kp_guide.specs.Costs.{fits_rule}
+use Rattle.kp_guide.specs.CostTables.{fits_rule}
 use Rattle.kp_guide.proofs.Noting.{taken_on}
 
 -- ---- lists that have more behind them

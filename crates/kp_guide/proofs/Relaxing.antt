@@ -9,7 +9,7 @@ use Rattle.kp_classic.specs.Steps.{Holding}
 use Rattle.kp_guide.specs.declared.rule.Rule.{Rule}
 use Rattle.kp_guide.specs.Added.{Costs}
 use Rattle.kp_guide.specs.Added.Costs.{none, by_rule}
-use Rattle.kp_guide.specs.Costs.{value, joined, total, cost_by, are_costs, fits_rule, AreAchieved, AreLow, Lowers, Relaxes}
+use Rattle.kp_guide.specs.CostTables.{value, joined, total, cost_by, are_costs, fits_rule, AreAchieved, AreLow, Lowers, Relaxes}
 use Rattle.kp_guide.proofs.Joins.{joined_is, joined_low}
 use Rattle.kp_guide.proofs.Chains.{reached}
 

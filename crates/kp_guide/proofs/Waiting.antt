@@ -9,7 +9,7 @@ use Rattle.kp_base.proofs.Lists.{append_member, member_left, member_right, membe
 use Rattle.kp_base.proofs.Places.{places_more}
 use Rattle.kp_classic.specs.Fits.{are_below}
 use Rattle.kp_guide.specs.declared.rule.Rule.{Rule}
-use Rattle.kp_guide.specs.Costs.{value, joined, total, cost_by, are_costs, fits_rule, IsClosed, Lowers, Relaxes}
+use Rattle.kp_guide.specs.CostTables.{value, joined, total, cost_by, are_costs, fits_rule, IsClosed, Lowers, Relaxes}
 use Rattle.kp_guide.specs.Waiting.{row, unreached, count_at, AreCounts, CountsDown, waits_at, AreUsers, Waits, IsReady, IsWork, Tries, Rounds}
 use Rattle.kp_guide.proofs.Joins.{joined_is}
 use Rattle.kp_guide.proofs.Noting.{taken_on, all_pushed, some_passes, user_there, counts_met, counts_alike, counts_same}

@@ -1,5 +1,5 @@
 pub mod Added
-pub mod Costs
+pub mod CostTables
 pub mod Guides
 pub mod Laws
 pub mod Placing

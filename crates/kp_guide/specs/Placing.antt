@@ -5,7 +5,7 @@ use Rattle.kp_base.specs.Lists.{Member}
 use Rattle.kp_classic.specs.Fits.{are_below}
 use Rattle.kp_classic.specs.States.{has}
 use Rattle.kp_guide.specs.declared.rule.Rule.{Rule}
-use Rattle.kp_guide.specs.Costs.{fits_rule}
+use Rattle.kp_guide.specs.CostTables.{fits_rule}
 use Rattle.kp_guide.specs.Relaxed.{at, AreRead, HasPlaced}
 use Rattle.kp_guide.specs.Waiting.{row}
 

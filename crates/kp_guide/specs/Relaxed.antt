@@ -9,7 +9,7 @@ use Rattle.kp_classic.specs.Steps.{Holding}
 use Rattle.kp_guide.specs.declared.relaxation.Relaxation.{Relaxation}
 use Rattle.kp_guide.specs.declared.rule.Rule.{Rule}
 use Rattle.kp_guide.specs.Added.{rules_of, goal_of}
-use Rattle.kp_guide.specs.Costs.{fits_rule}
+use Rattle.kp_guide.specs.CostTables.{fits_rule}
 
 -- the fact at a place
 abbrev pub at : List ℕ → ℕ → ℕ

@@ -3,7 +3,7 @@ use Rattle.std.specs.Prelude.{◌≡◌, ◌<◌, ◌≤◌, ◌+◌, ◌-◌, �
 use Rattle.kp_base.specs.Lists.{Member}
 use Rattle.kp_classic.specs.Fits.{are_below}
 use Rattle.kp_guide.specs.declared.rule.Rule.{Rule}
-use Rattle.kp_guide.specs.Costs.{value, cost_by, are_costs, Lowers}
+use Rattle.kp_guide.specs.CostTables.{value, cost_by, are_costs, Lowers}
 
 -- the rules of a fact
 abbrev pub row : List (List ℕ) → ℕ → List ℕ

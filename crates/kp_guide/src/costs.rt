@@ -2,7 +2,7 @@
 ghost use Rattle.std.specs.Prelude.{◌≡◌, ◌<◌, ◌≤◌, true, length, map, IfOk};
 ghost use Rattle.kp_classic.specs.Fits.{are_below};
 ghost use Rattle.kp_classic.specs.States.{has};
-ghost use Rattle.kp_guide.specs.Costs.{are_costs, first_cost, joined, total};
+ghost use Rattle.kp_guide.specs.CostTables.{are_costs, first_cost, joined, total};
 
 use kp_base::Memory;
 use kp_classic::State;

@@ -3,7 +3,7 @@ ghost use Rattle.std.specs.Prelude.{◌≡◌, true, length, IfOk};
 ghost use Rattle.kp_classic.specs.Fits.{are_below};
 ghost use Rattle.kp_guide.specs.Added.{IsLeast};
 ghost use Rattle.kp_guide.specs.Relaxed.{held};
-ghost use Rattle.kp_guide.specs.Costs.{AreSettled};
+ghost use Rattle.kp_guide.specs.CostTables.{AreSettled};
 
 use crate::costs::{CAP, cost_of, costs_at_first};
 use crate::relaxation::Relaxation;

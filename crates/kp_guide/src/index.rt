@@ -2,7 +2,7 @@
 ghost use Rattle.std.specs.Prelude.{◌≡◌, ◌<◌, ◌+◌, true, length, IfOk, OnOk};
 ghost use Rattle.std.specs.List.{list_all};
 ghost use Rattle.kp_classic.specs.Fits.{are_below};
-ghost use Rattle.kp_guide.specs.Costs.{fits_rule};
+ghost use Rattle.kp_guide.specs.CostTables.{fits_rule};
 ghost use Rattle.kp_guide.specs.Waiting.{AreCounts, AreEnough, AreUsers, CountsDown, Notes, needs_of, unreached, unreached_before};
 
 use crate::Rule;

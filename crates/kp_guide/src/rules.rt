@@ -2,7 +2,7 @@
 ghost use Rattle.std.specs.Prelude.{◌≡◌, ◌++◌, fold, nat_eq, IfOk, OnOk};
 ghost use Rattle.kp_base.specs.Lists.{each_once};
 ghost use Rattle.kp_guide.specs.Added.{rules_of, rules_of_effect, rules_of_op};
-ghost use Rattle.kp_guide.specs.Costs.{with_fact};
+ghost use Rattle.kp_guide.specs.CostTables.{with_fact};
 
 use crate::Rule;
 use indexmap::IndexSet;

@@ -4,7 +4,7 @@ ghost use Rattle.std.specs.Prelude.{◌≡◌, ◌<◌, [], ◌∷◌, true, fal
 ghost use Rattle.std.specs.List.{range_with_len};
 ghost use Rattle.kp_base.specs.Lists.{only_if};
 ghost use Rattle.kp_classic.specs.Fits.{are_below};
-ghost use Rattle.kp_guide.specs.Costs.{IsClosed, Lowers, Relaxes, are_costs, fits_rule};
+ghost use Rattle.kp_guide.specs.CostTables.{IsClosed, Lowers, Relaxes, are_costs, fits_rule};
 ghost use Rattle.kp_guide.specs.Waiting.{AreCounts, AreEnough, CountsDown, IsReady, IsWork, Rounds, Tries, Waits, unreached};
 
 use crate::costs::{CAP, cost_of, join};

@@ -6,7 +6,7 @@ use Rattle.std.proofs.lemmas.Option.{slice_get-get_or}
 use Rattle.kp_base.proofs.Lists.{all_member, member_at}
 use Rattle.kp_classic.specs.Fits.{are_below}
 use Rattle.kp_guide.specs.Placing.{AreAdders}
-use Rattle.kp_guide.specs.Costs.{fits_rule}
+use Rattle.kp_guide.specs.CostTables.{fits_rule}
 use Rattle.kp_guide.specs.Waiting.{row}
 use Rattle.kp_guide.proofs.Listed.{adders_on}
 use Rattle.kp_guide.proofs.adders.rows_of.Goals as goal

@@ -1,5 +1,5 @@
 use Rattle.std.proofs.Common.{◌≡◌, ◌≤◌, drop, true, length}
-use Rattle.kp_guide.specs.Costs.{joined, total}
+use Rattle.kp_guide.specs.CostTables.{joined, total}
 use Rattle.kp_classic.specs.Fits.{are_below}
 use Rattle.kp_guide.proofs.costs.cost_of.Given as goal
 

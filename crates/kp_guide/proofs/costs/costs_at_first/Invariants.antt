@@ -1,6 +1,6 @@
 use Rattle.std.proofs.Common.{◌≡◌, map, take}
 use Rattle.kp_classic.specs.States.{has}
-use Rattle.kp_guide.specs.Costs.{first_cost}
+use Rattle.kp_guide.specs.CostTables.{first_cost}
 use Rattle.kp_guide.proofs.costs.costs_at_first.Given as goal
 
 -- the costs of the facts so far

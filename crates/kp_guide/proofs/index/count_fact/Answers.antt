@@ -1,6 +1,6 @@
 use Rattle.std.proofs.Common.{◌≡◌, ◌<◌, ◌∙◌, length, sym, subst}
 use Rattle.std.proofs.lemmas.Bool.{le-ltb, lt-ltb}
-use Rattle.kp_guide.specs.Costs.{value}
+use Rattle.kp_guide.specs.CostTables.{value}
 use Rattle.kp_guide.specs.Waiting.{AreEnough, CountsDown, row, unreached_before}
 use Rattle.kp_guide.proofs.Noting.{counts_reached, counts_unreached, enough_for, itself_before, row_read}
 use Rattle.kp_guide.proofs.index.count_fact.Goals as goal

@@ -1,5 +1,5 @@
 use Rattle.std.proofs.Common.{◌≡◌, drop, fold}
-use Rattle.kp_guide.specs.Costs.{with_fact}
+use Rattle.kp_guide.specs.CostTables.{with_fact}
 use Rattle.kp_guide.proofs.rules.add_new.Given as goal
 
 abbrev pub invariant-loop-fact : goal.invariant-loop-fact

@@ -1,5 +1,5 @@
 use Rattle.std.proofs.Common.{length}
-use Rattle.kp_guide.specs.Costs.{Lowers}
+use Rattle.kp_guide.specs.CostTables.{Lowers}
 use Rattle.kp_guide.specs.Waiting.{IsReady, IsWork, weight}
 use Rattle.kp_guide.proofs.settle.rounds.Given as goal
 

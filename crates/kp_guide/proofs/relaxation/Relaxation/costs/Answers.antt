@@ -3,7 +3,7 @@ use Rattle.std.specs.Vec.{with_items}
 use Rattle.std.proofs.lemmas.List.{with_items_is}
 use Rattle.kp_classic.specs.States.{has}
 use Rattle.kp_guide.specs.Relaxed.{held}
-use Rattle.kp_guide.specs.Costs.{AreSettled, Lowers, are_costs, first_cost}
+use Rattle.kp_guide.specs.CostTables.{AreSettled, Lowers, are_costs, first_cost}
 use Rattle.kp_guide.proofs.Estimates.{first_costs, settles_placed}
 use Rattle.kp_guide.proofs.relaxation.Relaxation.costs.Goals as goal
 

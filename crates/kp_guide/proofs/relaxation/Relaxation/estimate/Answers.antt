@@ -1,7 +1,7 @@
 use Rattle.std.proofs.Common.{◌≡◌, ◌≤◌, ◌<◌, ◌∙◌, ap, sym, subst, length, Some}
 use Rattle.kp_guide.specs.Added.{IsLeast}
 use Rattle.kp_guide.specs.Relaxed.{held}
-use Rattle.kp_guide.specs.Costs.{total}
+use Rattle.kp_guide.specs.CostTables.{total}
 use Rattle.kp_guide.proofs.Estimates.{told_some, told_none}
 use Rattle.kp_guide.proofs.relaxation.Relaxation.estimate.Goals as goal
 
