@@ -8,7 +8,6 @@ ghost use Rattle.kp_cover.specs.Grown.{is_fine, with_each, grown, all_grown, if_
 use crate::distinct::distinct;
 use kp_base::{Lit, LitSet, Memory, Row};
 use kp_primes::Primes;
-use kp_primes_models::extended;
 use std::alloc::Global;
 
 // Whether the tag is consistent.
@@ -28,7 +27,7 @@ pub(crate) fn with_one(
 ) -> Result<Option<LitSet>, Memory>
     ensures { IfOk result (λ more. more ≡ if_fine primes.now.clauses (with_lit lit tag.now)) }
 {
-    let more = extended(alloc, tag, lit)?;
+    let more = tag.with(alloc, lit)?;
     if is_fine(primes, &more) {
         Ok(Some(more))
     } else {
@@ -46,7 +45,7 @@ fn grow_one(
 ) -> Result<(), Memory>
     ensures { OnOk result (tags.new ≡ tags.old ++ cond (is_fine primes.now.clauses (with_lit lit tag.now)) (with_lit lit tag.now ∷ []) []) }
 {
-    let more = extended(alloc, tag, lit)?;
+    let more = tag.with(alloc, lit)?;
     if is_fine(primes, &more) {
         tags.push(more)?;
     }

@@ -11,16 +11,7 @@ use kp_base::{AtomId, Lit, LitSet, Memory};
 use kp_primes::Primes;
 use std::alloc::Global;
 
-/// The tag with one literal more.
-pub fn extended(alloc: Global, tag: &LitSet, lit: Lit) -> Result<LitSet, Memory>
-    ensures { IfOk result (λ set. set ≡ with_lit lit tag.now) }
-{
-    let mut more = tag.copy(alloc)?;
-    more.insert(lit)?;
-    Ok(more)
-}
-
-// The same, where the tag itself is of no more use.
+// The tag with one literal more, where the tag itself is of no more use.
 fn with_more(mut tag: LitSet, lit: Lit) -> Result<LitSet, Memory>
     ensures { IfOk result (λ set. set ≡ with_lit lit tag) }
 {
@@ -134,7 +125,7 @@ fn find_absent<T: Question + Drop>(
         atom,
         positive: false,
     };
-    let without = extended(alloc, tag, absent)?;
+    let without = tag.with(alloc, absent)?;
     find(alloc, primes, question, number, without)
 }
 

@@ -8,7 +8,7 @@ ghost use Rattle.kp_primes_models.specs.Ordered.{AreFirst, AnswersFirst};
 ghost use Rattle.kp_primes_models.specs.Chosen.{IsChosen};
 
 use crate::Question;
-use crate::finding::{extended, find_any};
+use crate::finding::find_any;
 use kp_base::{AtomId, Lit, LitSet, Memory, Row};
 use kp_primes::Primes;
 use std::alloc::Global;
@@ -33,11 +33,11 @@ fn find_without<T: Question + Drop>(
         atom,
         positive: false,
     };
-    let more = extended(alloc, found, absent)?;
+    let more = found.with(alloc, absent)?;
     if primes.consistent(&more) {
         return Ok(Some(more));
     }
-    let without = extended(alloc, tag, absent)?;
+    let without = tag.with(alloc, absent)?;
     let rest = find_any(alloc, primes, question, &without)?;
     Ok(rest)
 }
