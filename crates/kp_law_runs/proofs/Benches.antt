@@ -47,11 +47,11 @@ use Rattle.kp_run_bench.proofs.Public.{told_actions_are_those_among}
 use Rattle.kp_run_bench.specs.Bench.{texts_of, usual_implicates, sums_up, SumsUp, TellsBench, over, searched as by_search, Benches}
 use Rattle.kp_run.specs.Outcomes.{benched, IsDue, of_command}
 use Rattle.kp_run.specs.Ends.{Ends}
-use Rattle.kp_run.specs.Solved.{Tells}
+use Rattle.kp_run.specs.Solved.{Tells, its_ground, its_formula, its_task, IsWrittenPlan}
 use Rattle.kp_run.proofs.Public.{both_plans, due_makes, task_of_trees_fits, prepared_is_proper, no_plan_text_tells_complete, IsNoRefusal, not_refused}
 use Rattle.kp_run_prepare.proofs.Public.{problem_of_trees}
 use Rattle.kp_law_runs.specs.Follows.{IsAnsweredBy}
-use Rattle.kp_law_runs.specs.Bench.{IsPosedBench, its_ground, its_formula, its_task, IsWrittenPlan, IsSolvedBench, HasNoBenchPlan, IsSpentBench, BenchesAreTrue, BenchesAreAnswered}
+use Rattle.kp_law_runs.specs.Bench.{IsPosedBench, IsSolvedBench, HasNoBenchPlan, IsSpentBench, BenchesAreTrue, BenchesAreAnswered}
 use Rattle.kp_law_runs.proofs.Following.{answers_are_whole, ends_with}
 use Rattle.kp_law_runs.proofs.SomeOutcome.{as_many}
 
@@ -64,8 +64,8 @@ benches_are_answered words old new s ends m c o held is does = ends_with words o
 record HasBenched (c : Bench) (o : Outcome) : Type 0 where
   posed : IsPosedBench c
   found : Found
-  finds : Finds (its_task posed) c.budget found
-  tells : TellsBench c (its_ground posed) (its_formula posed) posed.table found o
+  finds : Finds (its_task posed.about) c.budget found
+  tells : TellsBench c (its_ground posed.about) (its_formula posed.about) posed.about.table found o
 
 of_texts : (c : Bench) (o : Outcome) → IsNoRefusal o → Benches c o → HasBenched c o
 of_texts c o answers (early (by_texts r why is)) = absurd (not_refused o nothing r is answers)
@@ -73,7 +73,7 @@ of_texts c o answers (early (by_trees d p names r trees why is)) = absurd (not_r
 of_texts c o answers (later d p trees ready (no_table names r why is)) = absurd (not_refused o names r is answers)
 of_texts c o answers (later d p trees ready (with_table table has (over r why is))) = absurd (not_refused o nothing r is answers)
 of_texts c o answers (later d p trees ready (with_table table has (by_search found fits finds tells))) = record {
-  posed = record { domain_tree = d; problem_tree = p; table = table; trees = trees; prepared = ready; has_table = has; fits = fits };
+  posed = record { about = record { domain_tree = d; problem_tree = p; table = table }; trees = trees; prepared = ready; has_table = has; fits = fits };
   found = found;
   finds = finds;
   tells = tells;
@@ -86,13 +86,13 @@ has_benched words held c o is due answers = let it = due_makes words held (comma
 
 module _ (c : Bench) (o : Outcome) (x : HasBenched c o) (old new : Outside) (s : Status) (a : IsAnsweredBy o old new s) where
   abbrev d : Domain Word
-  d = x.posed.domain_tree
+  d = x.posed.about.domain_tree
 
   abbrev p : Problem Word
-  p = x.posed.problem_tree
+  p = x.posed.about.problem_tree
 
   abbrev table : TagTable
-  table = x.posed.table
+  table = x.posed.about.table
 
   abbrev ground : Ground
   ground = ground_of d p
@@ -119,7 +119,7 @@ module _ (c : Bench) (o : Outcome) (x : HasBenched c o) (old new : Outside) (s :
   fine = prepared_is_proper usual_implicates d p x.posed.trees.no_fault x.posed.prepared
 
   -- the machine accepts nothing that the search doesn't find, so what is written has no plan
-  none_written : ((ops : List ℕ) → succeeds task (start task) ops ≡ false) → (steps : List Step) → IsWrittenPlan x.posed steps → ⊥
+  none_written : ((ops : List ℕ) → succeeds task (start task) ops ≡ false) → (steps : List Step) → IsWrittenPlan x.posed.about steps → ⊥
   none_written none steps plan = let found = (tagged_plans_are_accepted ground table writable steps).0 plan in no_plan_is_accepted ground table writable none steps found.0 found.1
 
   -- the actions among the operators are those that were checked

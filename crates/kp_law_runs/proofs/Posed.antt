@@ -32,8 +32,8 @@ pub posed_once : PosedOnce
 posed_once m c x y =
     let first : x.given.domain ≡ y.given.domain = cc (sym x.given.domain_held ∙ y.given.domain_held) in
     let second : x.given.problem ≡ y.given.problem = cc (sym x.given.problem_held ∙ y.given.problem_held) in
-    let trees = trees_once _ _ _ _ x.domain_tree y.domain_tree x.problem_tree y.problem_tree first second x.given.trees y.given.trees in
-    (trees.0, trees.1, table_once m c.source x.domain_tree y.domain_tree x.problem_tree y.problem_tree x.table y.table trees.0 trees.1 x.has_task y.has_task)
+    let trees = trees_once _ _ _ _ x.about.domain_tree y.about.domain_tree x.about.problem_tree y.about.problem_tree first second x.given.trees y.given.trees in
+    (trees.0, trees.1, table_once m c.source x.about.domain_tree y.about.domain_tree x.about.problem_tree y.about.problem_tree x.about.table y.about.table trees.0 trees.1 x.has_task y.has_task)
 
 pub classical_posed_once : ClassicalPosedOnce
 classical_posed_once m c x y =
@@ -43,10 +43,10 @@ classical_posed_once m c x y =
 
 pub bench_posed_once : BenchPosedOnce
 bench_posed_once c x y =
-    let trees = trees_once _ _ _ _ x.domain_tree y.domain_tree x.problem_tree y.problem_tree refl refl x.trees y.trees in
+    let trees = trees_once _ _ _ _ x.about.domain_tree y.about.domain_tree x.about.problem_tree y.about.problem_tree refl refl x.trees y.trees in
     (trees.0, trees.1, mode_table_once trees.0 trees.1 x.has_table)
   where
-    mode_table_once : x.domain_tree ≡ y.domain_tree → x.problem_tree ≡ y.problem_tree → HasTable (ground_of x.domain_tree x.problem_tree) (initial_of x.domain_tree x.problem_tree) (of_mode c.mode) [] x.table → x.table ≡ y.table
+    mode_table_once : x.about.domain_tree ≡ y.about.domain_tree → x.about.problem_tree ≡ y.about.problem_tree → HasTable (ground_of x.about.domain_tree x.about.problem_tree) (initial_of x.about.domain_tree x.about.problem_tree) (of_mode c.mode) [] x.about.table → x.about.table ≡ y.about.table
     mode_table_once first second has =
-        let there = subst (λ z. HasTable (ground_of y.domain_tree z) (initial_of y.domain_tree z) (of_mode c.mode) [] x.table) second (subst (λ z. HasTable (ground_of z x.problem_tree) (initial_of z x.problem_tree) (of_mode c.mode) [] x.table) first has) in
-        (sources_have_one_table (ground_of y.domain_tree y.problem_tree) (initial_of y.domain_tree y.problem_tree) (of_mode c.mode) []).tables x.table y.table there y.has_table
+        let there = subst (λ z. HasTable (ground_of y.about.domain_tree z) (initial_of y.about.domain_tree z) (of_mode c.mode) [] x.about.table) second (subst (λ z. HasTable (ground_of z x.about.problem_tree) (initial_of z x.about.problem_tree) (of_mode c.mode) [] x.about.table) first has) in
+        (sources_have_one_table (ground_of y.about.domain_tree y.about.problem_tree) (initial_of y.about.domain_tree y.about.problem_tree) (of_mode c.mode) []).tables x.about.table y.about.table there y.has_table

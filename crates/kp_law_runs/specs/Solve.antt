@@ -24,7 +24,7 @@ SolvingsAreAnswered = OfRuns (λ words old new s. (m : FileMap) (c : Solve) (d :
 
 -- the trees and the table are one, so what is said of some is said of all
 abbrev pub PosedOnce : Type 0
-PosedOnce = (m : FileMap) (c : Solve) (x y : IsPosed m c) → (x.domain_tree ≡ y.domain_tree) × (x.problem_tree ≡ y.problem_tree) × (x.table ≡ y.table)
+PosedOnce = (m : FileMap) (c : Solve) (x y : IsPosed m c) → (x.about.domain_tree ≡ y.about.domain_tree) × (x.about.problem_tree ≡ y.about.problem_tree) × (x.about.table ≡ y.about.table)
 
 -- where the shelf tells and a call to solve ends with Done, it told a plan of the two files
 abbrev pub SolvedIsAPlan : Type 0

@@ -85,8 +85,8 @@ complete_text g i table (l ∷ ls) proper are = ((λ printed. absurd (not_so pri
 record HasSearched (m : FileMap) (c : Solve) (o : Outcome) : Type 0 where
   posed : IsPosed m c
   found : Found
-  finds : Finds (its_task posed) c.budget found
-  tells : TellsSolved c.classical (its_ground posed) (its_formula posed) posed.table found o
+  finds : Finds (its_task posed.about) c.budget found
+  tells : TellsSolved c.classical (its_ground posed.about) (its_formula posed.about) posed.about.table found o
 
 module _ (m : FileMap) (c : Solve) (domain problem : List ℕ) (merges : List (List ℕ)) (domain_held : get m c.domain ≡ Some domain) (problem_held : get m c.problem ≡ Some problem)
     (held : AreHeld (Some m) (if_named (file_of c.source)) merges) (o : Outcome) (answers : IsNoRefusal o) where
@@ -94,9 +94,7 @@ module _ (m : FileMap) (c : Solve) (domain problem : List ℕ) (merges : List (L
   of_ground d p table trees ready has (over r why is) = absurd (not_refused o nothing r is answers)
   of_ground d p table trees ready has (searched found fits finds tells) = record {
     posed = record {
-      domain_tree = d;
-      problem_tree = p;
-      table = table;
+      about = record { domain_tree = d; problem_tree = p; table = table };
       given = record { domain = domain; problem = problem; domain_held = domain_held; problem_held = problem_held; trees = trees; prepared = ready };
       has_task = record { merges = merges; held = held; has_table = has; fits = fits };
     };
@@ -127,13 +125,13 @@ named_put held (Some name) written plan = refl
 
 module _ (m : FileMap) (c : Solve) (o : Outcome) (x : HasSearched m c o) (old new : Outside) (s : Status) (a : IsCarriedOut o old new s) where
   abbrev d : Domain Word
-  d = x.posed.domain_tree
+  d = x.posed.about.domain_tree
 
   abbrev p : Problem Word
-  p = x.posed.problem_tree
+  p = x.posed.about.problem_tree
 
   abbrev table : TagTable
-  table = x.posed.table
+  table = x.posed.about.table
 
   abbrev ground : Ground
   ground = ground_of d p
@@ -157,7 +155,7 @@ module _ (m : FileMap) (c : Solve) (o : Outcome) (x : HasSearched m c o) (old ne
   fit = task_fits d p table g.prepared.started.small x.posed.has_task.fits writable
 
   -- the machine accepts nothing that the search doesn't find, so what is written has no plan
-  none_written : ((ops : List ℕ) → succeeds task (start task) ops ≡ false) → (steps : List Step) → IsWrittenPlan x.posed steps → ⊥
+  none_written : ((ops : List ℕ) → succeeds task (start task) ops ≡ false) → (steps : List Step) → IsWrittenPlan x.posed.about steps → ⊥
   none_written none steps plan = let found = (tagged_plans_are_accepted ground table writable steps).0 plan in no_plan_is_accepted ground table writable none steps found.0 found.1
 
   answered : (u : Outcome) → o ≡ u → IsCarriedOut u old new s

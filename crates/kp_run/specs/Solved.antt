@@ -62,29 +62,33 @@ pub record HasTask (m : FileMap) (source : Source) (d : Domain Word) (p : Proble
   pub has_table : HasTable (ground_of d p) (initial_of d p) source merges table
   pub fits : FitsLimits (task_of (ground_of d p) table) usual
 
--- what a call to solve is about: the two files that are held, and their trees, with which it goes on; and the table that its source has for them
-pub record IsPosed (m : FileMap) (c : Solve) : Type 0 where
+-- two trees, and a table of tags and merges for their ground problem
+pub record Posed : Type 0 where
   pub domain_tree : Domain Word
   pub problem_tree : Problem Word
   pub table : TagTable
-  pub given : GoesOn m c.domain c.problem c.implicates domain_tree problem_tree
-  pub has_task : HasTask m c.source domain_tree problem_tree table
 
--- the ground problem of the two files
-abbrev pub its_ground : {m : FileMap} {c : Solve} → IsPosed m c → Ground
+-- their ground problem
+abbrev pub its_ground : Posed → Ground
 its_ground x = ground_of x.domain_tree x.problem_tree
 
 -- their initial formula
-abbrev pub its_formula : {m : FileMap} {c : Solve} → IsPosed m c → Initial
+abbrev pub its_formula : Posed → Initial
 its_formula x = initial_of x.domain_tree x.problem_tree
 
 -- the task of the two files that `translate` writes for these trees and this table
-abbrev pub its_task : {m : FileMap} {c : Solve} → IsPosed m c → Task
+abbrev pub its_task : Posed → Task
 its_task x = task_of (its_ground x) x.table
 
--- the steps are a plan of the two files that it writes
-abbrev pub IsWrittenPlan : {m : FileMap} {c : Solve} → IsPosed m c → List Step → Type 0
+-- the steps are a plan of these two files
+abbrev pub IsWrittenPlan : Posed → List Step → Type 0
 IsWrittenPlan x steps = IsPlan (translation_of x.domain_tree x.problem_tree x.table).domain (translation_of x.domain_tree x.problem_tree x.table).problem steps
+
+-- what a call to solve is about: the two files that are held, and their trees, with which it goes on; and the table that its source has for them
+pub record IsPosed (m : FileMap) (c : Solve) : Type 0 where
+  pub about : Posed
+  pub given : GoesOn m c.domain c.problem c.implicates about.domain_tree about.problem_tree
+  pub has_task : HasTask m c.source about.domain_tree about.problem_tree about.table
 
 -- The lines of a plan of the two given files were told; it is the strip of a plan of the two files that `translate` writes for them, whose lines were put under the name, if one was given. Both texts read as these plans, and nothing else was told or put.
 pub record IsSolved (m : FileMap) (c : Solve) (old new : Outside) : Type 0 where
@@ -92,7 +96,7 @@ pub record IsSolved (m : FileMap) (c : Solve) (old new : Outside) : Type 0 where
   pub plan : List Step
   pub written : List Step
   pub is_plan : IsPlan posed.given.domain posed.given.problem plan
-  pub is_written : IsWrittenPlan posed written
+  pub is_written : IsWrittenPlan posed.about written
   pub strips : strip written ≡ Some plan
   pub told : Tells old new (plan_text plan)
   pub told_reads : IsTextOf (plan_text plan) plan
@@ -103,9 +107,9 @@ pub record IsSolved (m : FileMap) (c : Solve) (old new : Outside) : Type 0 where
 pub record HasNoPlan (m : FileMap) (c : Solve) (old new : Outside) : Type 0 where
   pub posed : IsPosed m c
   pub uncovered : List Lit
-  pub are_uncovered : AreUncovered (its_ground posed) (its_formula posed) posed.table uncovered
-  pub none_written : (steps : List Step) → IsWrittenPlan posed steps → ⊥
-  pub complete : PrintsComplete (no_plan_text uncovered) ↔ IsComplete (its_ground posed) (its_formula posed) posed.table
+  pub are_uncovered : AreUncovered (its_ground posed.about) (its_formula posed.about) posed.about.table uncovered
+  pub none_written : (steps : List Step) → IsWrittenPlan posed.about steps → ⊥
+  pub complete : PrintsComplete (no_plan_text uncovered) ↔ IsComplete (its_ground posed.about) (its_formula posed.about) posed.about.table
   pub none_given : PrintsComplete (no_plan_text uncovered) → (steps : List Step) → IsPlan posed.given.domain posed.given.problem steps → ⊥
   pub told : Tells old new (no_plan_text uncovered)
   pub put : new.held ≡ old.held
@@ -113,8 +117,8 @@ pub record HasNoPlan (m : FileMap) (c : Solve) (old new : Outside) : Type 0 wher
 -- The search of the task of the two files that `translate` writes expanded as many states as the budget says; so many different states that don't meet the goal can be reached there, and one more such. The budget was told, and nothing was put.
 pub record IsSpent (m : FileMap) (c : Solve) (old new : Outside) : Type 0 where
   pub posed : IsPosed m c
-  pub ended : Finds (its_task posed) c.budget (Spent c.budget)
-  pub more : HasMoreStates (its_task posed) c.budget
+  pub ended : Finds (its_task posed.about) c.budget (Spent c.budget)
+  pub more : HasMoreStates (its_task posed.about) c.budget
   pub told : Tells old new (spent_text c.budget)
   pub put : new.held ≡ old.held
 
