@@ -22,7 +22,9 @@ use Rattle.kp_run.proofs.ClashFree.{clash_free_with_table, two_atoms}
 use Rattle.kp_lex.specs.Bytes.{class_of}
 use Rattle.kp_lex.specs.Cutting.{at_end}
 use Rattle.kp_lex.specs.Scanning.{cut_from}
-use Rattle.kp_tree_grammar.specs.Language.{symbol_of, some_at, next_at, Cond, Eff, Item, Schema, Domain, Problem, conds_of, effs_of, stop, within_form, s_unopened}
+use Rattle.kp_tree_grammar.specs.Language.{Cond, Eff, Item, Schema, Domain, Problem, conds_of, effs_of, stop, within_form, s_unopened}
+use Rattle.kp_tree_grammar.specs.Symbols.{symbol_of}
+use Rattle.kp_tree_grammar.specs.Parsing.{some_at, next_at}
 use Rattle.kp_tree_grammar.specs.declared.tree.Word.{Word}
 use Rattle.kp_tree_grammar.specs.Grammar as grammar
 use Rattle.kp_tree_grammar.proofs.Public.{example_word_at, example_atom_at, example_pred_at, exchange_text, exchange_tree, tokens_of_text}

@@ -13,7 +13,8 @@ use Rattle.kp_lex.specs.declared.token.TokenKind.TheVariants as kinds
 use Rattle.kp_lex.specs.Bytes.{class_of, follows}
 use Rattle.kp_lex.specs.Cutting.{EndsRunOf}
 use Rattle.kp_tree_grammar.specs.declared.tree.Word.{Word}
-use Rattle.kp_tree_grammar.specs.Language.{Term, Atom, Lit, symbol_of, first_is, is_left, is_name, is_head, s_lit, s_list, s_pair, m_name, hits, token, many, fact, lit, Reads, r_token, r_both, r_after, r_end, r_more, r_make, r_bracket, IsName, IsHead, term_map, atom_map, lit_map}
+use Rattle.kp_tree_grammar.specs.Language.{Term, Atom, Lit, first_is, is_left, is_name, is_head, s_lit, s_list, s_pair, m_name, hits, token, many, fact, lit, Reads, r_token, r_both, r_after, r_end, r_more, r_make, r_bracket, IsName, IsHead, term_map, atom_map, lit_map}
+use Rattle.kp_tree_grammar.specs.Symbols.{symbol_of}
 use Rattle.kp_tree_cursor.specs.declared.cursor.Class.TheVariants as classes
 use Rattle.kp_tree_cursor.proofs.Public.{class_is_no_bracket}
 use Rattle.kp_base.proofs.Lists.{same-true, same-refl}

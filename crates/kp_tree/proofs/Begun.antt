@@ -15,7 +15,8 @@ use Rattle.kp_lex.specs.Levels.{up_to, reach, BeginsCutting}
 use Rattle.kp_lex.proofs.Public.{spans_in_order}
 use Rattle.kp_base.proofs.Cases.{some_none}
 use Rattle.kp_tree_grammar.specs.declared.tree.Word.{Word}
-use Rattle.kp_tree_grammar.specs.Language.{Tok, symbol_of, seen_in, all_seen_in, Sort, El, Form, Reason, Syntax, Unsupported, At, stop, Outcome, ◌>>=◌, ended, go, level, levels, deep, followed}
+use Rattle.kp_tree_grammar.specs.Language.{Tok, seen_in, all_seen_in, Sort, El, Form, Reason, Syntax, Unsupported, At, stop, Outcome, ◌>>=◌, ended, go, level, levels, deep, followed}
+use Rattle.kp_tree_grammar.specs.Symbols.{symbol_of}
 use Rattle.kp_tree_grammar.proofs.Public.{GoesOn, goes_on, Kept, kept}
 use Rattle.kp_tree_cursor.specs.Lexemes.{byte_at}
 use Rattle.kp_tree_parts.specs.Readers.{whole_at}

@@ -4,7 +4,8 @@ use Rattle.std.specs.List.{AllByRecursion, flat_map}
 use Rattle.kp_lex.specs.declared.token.TokenKind.TheVariants as kinds
 use Rattle.kp_tree_grammar.specs.declared.symbol.Symbol.{Symbol}
 use Rattle.kp_tree_grammar.specs.declared.symbol.Symbol.TheVariants as symbols
-use Rattle.kp_tree_grammar.specs.Language.{Cond, Eff, Item, Schema, Domain, Problem, Section, section_types, section_constants, section_predicates, section_schemas, Given, conds_of, Tok, symbol_of, first_is, is_left, is_head, is_name, is_precondition, not_cond, not_goal, not_effect, not_item, Sort, El, apply, m_true, m_holds, m_makes, m_fact, m_domain, hits, Form, nothing, many, make, maybe, ◌▸◌, atom_body, fact_body, test_case, cond_case, cond, goal_case, goal as goal_form, eff_case, eff, item_case, item, pred, section, domain, problem, Reads, ReadsWhole, r_token, r_none, r_both, r_after, r_end, r_more, r_last, r_next, r_absent, r_present, r_make, r_choice, r_loose, r_bracket, r_within, IsHead}
+use Rattle.kp_tree_grammar.specs.Language.{Cond, Eff, Item, Schema, Domain, Problem, Section, section_types, section_constants, section_predicates, section_schemas, Given, conds_of, Tok, first_is, is_left, is_head, is_name, is_precondition, not_cond, not_goal, not_effect, not_item, Sort, El, apply, m_true, m_holds, m_makes, m_fact, m_domain, hits, Form, nothing, many, make, maybe, ◌▸◌, atom_body, fact_body, test_case, cond_case, cond, goal_case, goal as goal_form, eff_case, eff, item_case, item, pred, section, domain, problem, Reads, ReadsWhole, r_token, r_none, r_both, r_after, r_end, r_more, r_last, r_next, r_absent, r_present, r_make, r_choice, r_loose, r_bracket, r_within, IsHead}
+use Rattle.kp_tree_grammar.specs.Symbols.{symbol_of}
 use Rattle.kp_tree_grammar.proofs.Public.{name_passes}
 use Rattle.kp_law_texts.specs.Pieces.{Piece, right, Put, each, line_feed, name, spaced}
 use Rattle.kp_write.specs.Task.{Signed, Op}

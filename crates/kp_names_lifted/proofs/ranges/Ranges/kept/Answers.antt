@@ -10,7 +10,7 @@ pub returns-in-Some-clause-row : goal.returns-in-Some-clause-row
 returns-in-Some-clause-row c =
     let self = c.args.self.now in
     let objects = λ (t : Name). range_of (domain_view self.names.domain) (problem_view self.names.problem) (t ∷ []) in
-    subst (λ z. IfOk c.copied.result (λ row. row ≡ z)) (c.slice.ensures ∙ found_right (λ k. k.now) objects self.known.entries c.args.name.now _ (sym c.in-Some.ensures.value) self.known_right) c.copied.ensures
+    subst (λ z. IfOk c.from_slice.result (λ row. row ≡ z)) (c.slice.ensures ∙ found_right (λ k. k.now) objects self.known.entries c.args.name.now _ (sym c.in-Some.ensures.value) self.known_right) c.from_slice.ensures
 
 pub invariant_of-self-clause-known_right : goal.invariant_of-self-clause-known_right
 invariant_of-self-clause-known_right c =
