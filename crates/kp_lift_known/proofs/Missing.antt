@@ -7,7 +7,6 @@ use Rattle.kp_base.specs.declared.lit.Lit.{Lit}
 use Rattle.kp_base.specs.Planning.{Member, code_of, IsAscending, are_below, Facts, IsLeastMissing, Known}
 use Rattle.kp_base.proofs.Ascending.{tail_ascends}
 use Rattle.kp_base.proofs.Lists.{all_alike, all_member}
-use Rattle.kp_base.proofs.Least.{least_later}
 use Rattle.kp_lift_known.specs.Known.{Table, known, Says}
 use Rattle.kp_lift_known.proofs.Stepping.{Agree, below_at}
 
@@ -17,6 +16,14 @@ above : (x : Lit) (ls : List Lit) → IsAscending (x ∷ ls) → (m : Lit) → M
 above x [] up m there = absurd there
 above x (y ∷ ls) up m (inl e) = subst (λ z. code_of x < code_of z) e up.0
 above x (y ∷ ls) up m (inr there) = let a = above y ls up.1 m there in let b = up.0 in omega arith
+
+-- one that is a fact stands before it
+later_least : (k : Facts) (x : Lit) (ls : List Lit) → k x ≡ true → (l : Lit) → IsLeastMissing k ls l → IsLeastMissing k (x ∷ ls) l
+later_least k x ls on l rest = record { among = inr rest.among; missing = rest.missing; least = least }
+  where
+    least : (m : Lit) → Member (x ∷ ls) m → k m ≡ false → code_of l ≤ code_of m
+    least m (inl e) no_m = absurd (false≢true (sym no_m ∙ subst (λ z. k z ≡ true) e on))
+    least m (inr later) no_m = rest.least m later no_m
 
 -- the first literal that is no fact is the least
 pub least_found : (k : Facts) (d : Lit) (ls : List Lit) (i : ℕ) → IsAscending ls → i < length ls → list_all k (take i ls) ≡ true → k (get_or ls i d) ≡ false → IsLeastMissing k ls (get_or ls i d)
@@ -28,7 +35,7 @@ least_found k d (x ∷ ls) zero up lt before off = record { among = inl refl; mi
     least m (inr later) no_m = let a = above x ls up m later in omega arith
 least_found k d (x ∷ ls) (suc i) up lt before off =
     let parts = and_parts (k x) (list_all k (take i ls)) before in
-    least_later k x ls parts.0 (get_or ls i d) (least_found k d ls i (tail_ascends x ls up) (omega (arith, lt)) parts.1 off)
+    later_least k x ls parts.0 (get_or ls i d) (least_found k d ls i (tail_ascends x ls up) (omega (arith, lt)) parts.1 off)
 
 -- ---- what a table says
 
