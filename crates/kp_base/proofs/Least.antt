@@ -48,7 +48,7 @@ least_first k x ls off all = record {
 }
 
 -- one of the rest alone
-least_later : (k : Facts) (x : Lit) (ls : List Lit) → k x ≡ true → (l : Lit) → IsLeastMissing k ls l → IsLeastMissing k (x ∷ ls) l
+pub least_later : (k : Facts) (x : Lit) (ls : List Lit) → k x ≡ true → (l : Lit) → IsLeastMissing k ls l → IsLeastMissing k (x ∷ ls) l
 least_later k x ls on l f = record {
   among = inr f.among;
   missing = f.missing;

@@ -205,6 +205,10 @@ pub map_map : {X Y Z : Type 0} (m : X → Y) (g : Y → Z) (h : X → Z) (xs : L
 map_map m g h [] e = refl
 map_map m g h (x ∷ xs) e = rw (e x, map_map m g h xs e) refl
 
+pub flat_swap : {A B C D : Type 0} (f : B → D) (g : A → List B) (h : C → List D) (k : A → C) (xs : List A) → ((x : A) → map f (g x) ≡ h (k x)) → map f (flat_map g xs) ≡ flat_map h (map k xs)
+flat_swap f g h k [] e = refl
+flat_swap f g h k (x ∷ xs) e = map-append f (g x) (flat_map g xs) ∙ rw (e x, flat_swap f g h k xs e) refl
+
 pub flat_alike : {X Y : Type 0} (f g : X → List Y) (xs : List X) → ((x : X) → Member xs x → f x ≡ g x) → flat_map f xs ≡ flat_map g xs
 flat_alike f g [] h = refl
 flat_alike f g (x ∷ xs) h = rw (h x (inl refl), flat_alike f g xs (λ y m. h y (inr m))) refl

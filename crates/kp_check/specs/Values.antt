@@ -1,13 +1,12 @@
 -- Values of atoms, which are known or open, and what an action makes of them. This file serves proofs alone.
-use Rattle.std.specs.Prelude.{ℕ, if◌then◌else◌, List, [], ◌∷◌, Option, Some, None, length, map, fold, nat_lt, slice_get, slice_set}
+use Rattle.std.specs.Prelude.{ℕ, if◌then◌else◌, List, Option, Some, None, length, map, fold, nat_lt, slice_get, slice_set}
 use Rattle.std.specs.List.{range_with_len}
 use Rattle.kp_base.specs.declared.lit.Lit.{Lit}
 use Rattle.kp_base.specs.declared.ground.Effect.{Effect}
 use Rattle.kp_base.specs.declared.ground.Action.{Action}
-use Rattle.kp_base.specs.declared.ground.Ground.{Ground}
 use Rattle.kp_base.specs.Lit.{positive}
 use Rattle.kp_primes_models.specs.declared.truth.Truth.{Truth}
-use Rattle.kp_primes_models.specs.declared.truth.Truth.TheVariants.{Yes, No, Open}
+use Rattle.kp_primes_models.specs.declared.truth.Truth.TheVariants.{Yes, No}
 use Rattle.kp_primes_models.specs.Truths.{opposite, both, either, truth_in}
 use Rattle.kp_check.specs.declared.steps.Firing.{Firing}
 

@@ -1,5 +1,5 @@
 //! Whether the numbers of a task are those of its facts.
-ghost use Rattle.std.specs.Prelude.{◌≡◌, ◌<◌, ◌↔◌, ◌&&◌, length, IsTrue};
+ghost use Rattle.std.specs.Prelude.{◌≡◌, ◌<◌, ◌↔◌, ◌&&◌, IsTrue};
 ghost use Rattle.std.specs.List.{list_all};
 ghost use Rattle.kp_classic.specs.Fits.{are_below, fits, fits_effect, fits_op, IsFit};
 

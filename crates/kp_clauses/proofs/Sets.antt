@@ -1,14 +1,12 @@
 -- Lists of literals: members, ascending lists, and first literals.
-use Rattle.std.proofs.Common.{◌≡◌, ◌<◌, ◌≤◌, ℕ, false, sym, ◌∙◌, Some, slice_get, ap, List, [], ◌∷◌, inl, inr, subst, refl, arith}
+use Rattle.std.proofs.Common.{◌≡◌, ◌<◌, ◌≤◌, ℕ, false, sym, ◌∙◌, Some, slice_get, ap, List, [], ◌∷◌, inl, inr, refl, arith}
 use Rattle.std.proofs.lemmas.Bool.{false≢true, false_from_ne_true}
-use Rattle.std.specs.List.{AllByRecursion}
 use Rattle.kp_base.specs.declared.lit.Lit.{Lit}
 use Rattle.kp_base.specs.Planning.{Member, code_of, IsAscending}
 use Rattle.kp_base.specs.Implicates.{is_within}
 use Rattle.kp_base.specs.Steps.{has}
-use Rattle.kp_base.proofs.Lists.{contains_member, member_contains, member_at}
+use Rattle.kp_base.proofs.Lists.{member_at}
 use Rattle.kp_base.proofs.Lits.{has-member}
-use Rattle.kp_base.proofs.Ascending.{same_members}
 use Rattle.kp_clauses.proofs.Within.{within_member}
 
 -- a clause with a literal that another hasn't isn't within it

@@ -1,7 +1,7 @@
 //! What clauses have beside the literals of another one. Where that is within a third clause, a resolvent of the two
 //! holds one of the clauses.
 
-ghost use Rattle.std.specs.Prelude.{◌≡◌, false, fold, IsTrue, OnOk, IfOk};
+ghost use Rattle.std.specs.Prelude.{◌≡◌, false, IsTrue, OnOk, IfOk};
 ghost use Rattle.kp_base.specs.Lists.{Member};
 ghost use Rattle.kp_base.specs.Lit.{negated};
 ghost use Rattle.kp_base.specs.Steps.{has};

@@ -69,7 +69,7 @@ judged_at n known tags ks below zero lt = λ s met. judged n known tags below s 
 judged_at n known tags ks below (suc k) lt = absurd (omega arith)
 
 -- the tags that are left ask the same
-pub left_asks : (known : List Lit) (tags : List (List Lit)) (ks : List ℕ) → AskTheSame (outside_test tags ks ∷ []) (outside_test tags (still_left known tags ks) ∷ []) known
+pub left_asks : (known : List Lit) (tags : List (List Lit)) (ks : List ℕ) → AskTheSame (λ s. list_all (holds s) known) (outside_test tags ks ∷ []) (outside_test tags (still_left known tags ks) ∷ [])
 left_asks known tags ks = record { as_many = refl; same = same }
   where
     same : (k : ℕ) (s : State) → list_all (holds s) known ≡ true → test_at (outside_test tags (still_left known tags ks) ∷ []) k s ≡ test_at (outside_test tags ks ∷ []) k s

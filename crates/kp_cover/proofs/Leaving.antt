@@ -1,5 +1,5 @@
 -- Tags by their places: those that aren't false where some literals are known.
-use Rattle.std.proofs.Common.{◌≡◌, ◌<◌, ◌∙◌, ◌+◌, ◌++◌, ◌||◌, [], ◌∷◌, ℕ, zero, suc, arith, ap, Bool, true, false, not, cond, filter, List, length, Option, Some, None, slice_get, refl, sym}
+use Rattle.std.proofs.Common.{◌≡◌, ◌<◌, ◌∙◌, ◌+◌, ◌++◌, ◌||◌, [], ◌∷◌, ℕ, suc, arith, ap, Bool, true, false, not, cond, filter, List, length, Option, Some, None, slice_get, refl, sym}
 use Rattle.std.proofs.lemmas.Bool.{false≢true, false_from_ne_true, true_from_ne_false}
 use Rattle.std.specs.List.{list_any, list_all, range_with_len}
 use Rattle.kp_base.specs.declared.lit.Lit.{Lit}

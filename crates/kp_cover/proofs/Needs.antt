@@ -1,5 +1,5 @@
 -- The set of all literals of preconditions and of the goal has just the targets.
-use Rattle.std.proofs.Common.{◌≡◌, ◌++◌, List, [], sym, subst, ◌∙◌, inl, inr}
+use Rattle.std.proofs.Common.{◌≡◌, ◌++◌, List, sym, subst, ◌∙◌, inl, inr}
 use Rattle.std.specs.List.{flat_map}
 use Rattle.kp_base.specs.declared.lit.Lit.{Lit}
 use Rattle.kp_base.specs.declared.ground.Action.{Action}

@@ -3,7 +3,7 @@
 -- ---- Whether a state that satisfies what is known is inside some tags.
 pub use Rattle.kp_cover.proofs.Inside.{all_inside as none_outside_is_valid}
 -- ---- The tags of clauses: one for each model, and the same under formulas with the same models.
-pub use Rattle.kp_cover.proofs.Taking.{tags_valid as tags_of_clauses_are_valid, tags_consistent as tags_of_clauses_are_consistent, one_cov as cov_once}
+pub use Rattle.kp_cover.proofs.Taking.{candidate_true as candidates_are_true, tags_valid as tags_of_clauses_are_valid, tags_consistent as tags_of_clauses_are_consistent, one_cov as cov_once}
 -- ---- Whether targets are covered is decided by the closures of tags and by which merges are valid.
 pub use Rattle.kp_cover.proofs.Deciding.{target_below as target_is_below, targets_below as targets_are_below}
 -- ---- A table has one answer on its coverage; relevant clauses are of the atoms; what the empty tag meets.

@@ -14,7 +14,7 @@ use Rattle.kp_cover.specs.Laws.{TagsOfCandidatesAreGood, IsCovOnce}
 -- ---- one for each model
 
 -- a model makes some literal of a candidate clause true
-candidate_true : (n : ℕ) (i : Initial) (c : List Lit) → IsCandidate n i c → (s : State) → is_model i s ≡ true → list_any (holds s) c ≡ true
+pub candidate_true : (n : ℕ) (i : Initial) (c : List Lit) → IsCandidate n i c → (s : State) → is_model i s ≡ true → list_any (holds s) c ≡ true
 candidate_true n i _ (IsCandidate.implicate c prime more) s m = prime.implicate.holds_always s m
 candidate_true n i _ (IsCandidate.unsettled p lt differ) s m = pick (s p) refl
   where

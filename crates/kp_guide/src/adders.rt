@@ -4,7 +4,7 @@ ghost use Rattle.std.specs.List.{list_all};
 ghost use Rattle.kp_classic.specs.Fits.{are_below, IsFit};
 ghost use Rattle.kp_guide.specs.Added.{rules_of};
 ghost use Rattle.kp_guide.specs.Placing.{AddThere, AreAdders, ArePlacedTo, Grows, HaveAll};
-ghost use Rattle.kp_guide.specs.Relaxed.{at, AreRead};
+ghost use Rattle.kp_guide.specs.Relaxed.{AreRead};
 ghost use Rattle.kp_guide.specs.CostTables.{fits_rule};
 ghost use Rattle.kp_guide.specs.Waiting.{row};
 

@@ -1,4 +1,4 @@
-ghost use Rattle.std.specs.Prelude.{◌≡◌, length, IfOk};
+ghost use Rattle.std.specs.Prelude.{IfOk};
 ghost use Rattle.kp_classic.specs.Fits.{IsFit};
 ghost use Rattle.kp_guide.specs.Relaxed.{IsRelaxationOf};
 

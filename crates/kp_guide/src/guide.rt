@@ -1,5 +1,5 @@
 //! The guide that keeps an estimate.
-ghost use Rattle.std.specs.Prelude.{◌≡◌, length, IfOk};
+ghost use Rattle.std.specs.Prelude.{◌≡◌};
 ghost use Rattle.kp_classic.specs.Fits.{IsFit};
 ghost use Rattle.kp_guide.specs.Guides.{MayBeAsked, MayAnswer, IsRight};
 

@@ -1,5 +1,5 @@
 -- Problems by number whose ground atoms are told apart by their names.
-use Rattle.std.specs.Prelude.{◌≡◌, ℕ, Bool, true, ◌&&◌, List, map, length, nat_lt}
+use Rattle.std.specs.Prelude.{◌≡◌, Bool, true, ◌&&◌, List, map, length, nat_lt}
 use Rattle.std.specs.List.{list_all}
 use Rattle.kp_names_meaning.specs.Names.{Name, distinct}
 use Rattle.kp_names_meaning.specs.Numbered.{Lifted}

@@ -1,10 +1,9 @@
 -- What the table of named atoms tells. This file serves proofs alone.
-use Rattle.std.specs.Prelude.{ℕ, Bool, not, List, Option, map, filter}
+use Rattle.std.specs.Prelude.{ℕ, Bool, not, List, map, filter}
 use Rattle.std.specs.List.{list_any}
 use denote.Ref.{Bor}
 use Rattle.kp_base.specs.declared.lit.AtomId.{AtomId}
 use Rattle.kp_names_meaning.specs.declared.lifted.Item.{Item}
-use Rattle.kp_names_meaning.specs.Names.{Name}
 use Rattle.kp_names_meaning.specs.Numbered.{Lifted}
 use Rattle.kp_names_meaning.specs.Lifted.{item_literals, is_named}
 use Rattle.kp_base.specs.Atoms.{Atom, same_atom, number_of}

@@ -7,7 +7,7 @@ use Rattle.kp_base.specs.Lit.{positive}
 use Rattle.kp_lex.specs.declared.token.TokenKind.TheVariants as kinds
 use Rattle.kp_lex.specs.Bytes.{class_of}
 use Rattle.kp_lex.specs.Cutting.{IsToken}
-use Rattle.kp_tree_grammar.specs.Words.{IsLow, IsName}
+use Rattle.kp_tree_grammar.specs.Words.{IsLow}
 use Rattle.kp_names_meaning.specs.Steps.{Step}
 use Rattle.kp_names_meaning.specs.Plans.{IsPlan}
 use Rattle.kp_names_meaning.specs.GroundNames.{IsGroundName}

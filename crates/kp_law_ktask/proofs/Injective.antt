@@ -2,18 +2,15 @@
 use Rattle.std.proofs.Common.{◌≡◌, ◌<◌, ℕ, List, ◌++◌, Option, Some, None, option_map, map, length, slice_get, codes, drop, refl, sym, ap, subst, ◌∙◌, arith}
 use Rattle.std.proofs.lemmas.Bool.{false≢true}
 use Rattle.std.proofs.lemmas.Option.{slice_get-map, slice_get_within, same_Some}
-use Rattle.kp_base.specs.declared.ground.GroundName.{GroundName}
 use Rattle.kp_base.specs.declared.ground.Action.{Action}
 use Rattle.kp_base.specs.declared.ground.Ground.{Ground}
 use Rattle.kp_base.specs.declared.ground.TagTable.{TagTable}
 use Rattle.kp_base.specs.declared.ground.Merge.{Merge}
 use Rattle.kp_base.specs.Machine.{MachineStep}
-use Rattle.kp_base.proofs.Each.{each_member}
-use Rattle.kp_base.proofs.Lists.{member_at, same-refl}
-use Rattle.kp_names_meaning.specs.Problems.{same, Step, encoded, decoded, IsGroundName}
-use Rattle.kp_write.specs.Grounds.{IsGroundAction}
+use Rattle.kp_base.proofs.Lists.{same-refl}
+use Rattle.kp_names_meaning.specs.Problems.{same, Step, encoded}
 use Rattle.kp_write.specs.Runs.{step_of}
-use Rattle.kp_write.proofs.Public.{encoded_name_decodes}
+use Rattle.kp_names_meaning.proofs.Public.{names_are_encoded_once}
 use Rattle.kp_law_ktask.specs.Task.{merge_word}
 use Rattle.kp_law_ktask.specs.ByName.{op_of, merge_op}
 use Rattle.kp_law_ktask.specs.Accepted.{step_at}
@@ -48,9 +45,6 @@ merge_step g table n step e = go (slice_get table.merges n) refl where
       let here : Some (step_of (merge_op g.atoms n a)) ≡ Some step = subst (λ (x : Option Merge). option_map step_of (option_map (merge_op g.atoms n) x) ≡ Some step) is e in
       record { less = slice_get_within table.merges n a is; head = ap (λ (s : Step). s.head) (same_Some (step_of (merge_op g.atoms n a)) step here) }
 
-one_name : (x y : GroundName) → IsGroundName x → IsGroundName y → encoded x ≡ encoded y → x ≡ y
-one_name x y h k e = same_Some x y (sym (encoded_name_decodes x h) ∙ ap decoded e ∙ encoded_name_decodes y k)
-
 mixed : (w : List ℕ) (m : ℕ) → codes "do_-" ++ w ≡ merge_word m → ⊥
 mixed w m e = false≢true (sym (action_no_merge w m) ∙ ap (λ v. same v (merge_word m)) e ∙ same-refl (merge_word m))
 
@@ -58,9 +52,7 @@ pub injective : StepsAreInjective
 injective g table w (MachineStep.act n) (MachineStep.act m) step e f =
     let x = action_step g table n step e in
     let y = action_step g table m step f in
-    let p = each_member (IsGroundAction g.atoms) g.actions x.action w.ground.actions (member_at g.actions n x.action x.at) in
-    let q = each_member (IsGroundAction g.atoms) g.actions y.action w.ground.actions (member_at g.actions m y.action y.at) in
-    let one : x.action.name ≡ y.action.name = one_name x.action.name y.action.name p.name q.name (ap (drop 4) (x.head ∙ sym y.head)) in
+    let one : x.action.name ≡ y.action.name = names_are_encoded_once x.action.name y.action.name (ap (drop 4) (x.head ∙ sym y.head)) in
     ap MachineStep.act (one_place (map (λ a. a.name) g.actions) w.ground.actions_differ n m x.action.name
     (slice_get-map (λ (a : Action). a.name) g.actions n ∙ ap (option_map (λ (a : Action). a.name)) x.at)
     (slice_get-map (λ (a : Action). a.name) g.actions m ∙ ap (option_map (λ (a : Action). a.name)) y.at ∙ ap Some (sym one)))

@@ -1,13 +1,11 @@
 -- The number of a fact.
-use Rattle.std.proofs.Common.{◌≡◌, ◌<◌, ◌+◌, ◌*◌, ℕ, zero, suc, Bool, true, false, if◌then◌else◌, List, [], ◌∷◌, ◌++◌, Some, option_map, length, slice_get, refl, sym, ap, subst, ◌∙◌, arith}
+use Rattle.std.proofs.Common.{◌≡◌, ◌<◌, ◌+◌, ◌*◌, ℕ, zero, suc, Bool, true, false, if◌then◌else◌, List, [], ◌∷◌, Some, option_map, length, slice_get, refl, sym, ap, subst, ◌∙◌, arith}
 use Rattle.std.proofs.lemmas.List.{length-map, length-append}
 use Rattle.std.proofs.lemmas.Option.{slice_get-map}
 use Rattle.kp_base.specs.declared.lit.Lit.{Lit}
-use Rattle.kp_base.specs.declared.ground.Ground.{Ground}
-use Rattle.kp_base.specs.declared.ground.TagTable.{TagTable}
 use Rattle.kp_base.specs.Lit.{code_of}
 use Rattle.kp_base.proofs.Places.{get_left, get_right}
-use Rattle.kp_law_ktask.specs.Task.{name_of_fact, task_of, facts_of, lits_from, under, facts_from}
+use Rattle.kp_law_ktask.specs.Task.{name_of_fact, facts_of, lits_from, under, facts_from}
 use Rattle.kp_law_ktask.specs.Weight.{FactsAreCounted}
 use Rattle.kp_law_ktask.specs.Laws.{FactsAreNumbered}
 

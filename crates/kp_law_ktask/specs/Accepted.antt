@@ -1,6 +1,5 @@
 -- The steps that the operators of a task have by name, and those of accepted lists of steps of the tagged machine.
-use Rattle.std.specs.Prelude.{◌≡◌, ℕ, true, List, Option, Some, option_map, map, slice_get}
-use Rattle.kp_base.specs.declared.ground.GroundName.{GroundName}
+use Rattle.std.specs.Prelude.{◌≡◌, true, List, Option, Some, option_map, map}
 use Rattle.kp_base.specs.declared.ground.Ground.{Ground}
 use Rattle.kp_base.specs.declared.ground.TagTable.{TagTable}
 use Rattle.kp_base.specs.declared.ground.Initial.{Initial}

@@ -6,9 +6,9 @@ use Rattle.kp_lex.specs.declared.token.TokenKind.{TokenKind}
 use Rattle.kp_lex.specs.declared.token.TokenKind.TheVariants as kinds
 use Rattle.kp_lex.specs.Bytes.{is_alphanumeric, class_of, follows}
 use Rattle.kp_lex.specs.Cutting.{AllAre, IsToken, name as a_name, keyword as a_keyword, EndsRunOf}
-use Rattle.kp_tree_grammar.specs.Words.{IsLow}
-use Rattle.kp_law_texts.specs.Pieces.{Piece, word, spelling, Put, each}
-use Rattle.kp_law_texts.specs.Tokens.{Fine, says}
+use Rattle.kp_tree_grammar.specs.Words.{IsLow, IsName}
+use Rattle.kp_law_texts.specs.Pieces.{Piece, right, word, spelling, Put, each, spaced, name}
+use Rattle.kp_law_texts.specs.Tokens.{Fine, rights, blanks, says}
 
 -- ---- words that are written out
 
@@ -57,3 +57,14 @@ pub record Keeps (f : Put) : Type 0 where
 pub fine_each : {T : Type 0} (f : T → Put) (P : T → Type 0) → ((x : T) → P x → Keeps (f x)) → (xs : List T) → AllByRecursion P xs → Keeps (each f xs)
 fine_each f P h [] all = record { keeps = λ fine. fine }
 fine_each f P h (x ∷ xs) all = record { keeps = λ fine. (h x all.0).keeps ((fine_each f P h xs all.1).keeps fine) }
+
+-- names before a bracket that closes
+pub ends_names : (ns : List (List ℕ)) (rest : List Piece) → EndsRunOf follows (spelling (each (spaced name) ns (right ∷ rest)))
+unfolding class_of
+ends_names [] rest = refl
+ends_names (n ∷ ns) rest = refl
+
+pub fine_names : (ns : List (List ℕ)) {rest : List Piece} → AllByRecursion IsName ns → Fine rest → Fine (each (spaced name) ns (right ∷ rest))
+unfolding class_of
+fine_names [] all f = rights f
+fine_names (n ∷ ns) {rest} all f = blanks refl (says all.0.token all.0.low (ends_names ns rest) (fine_names ns all.1 f))

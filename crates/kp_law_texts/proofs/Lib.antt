@@ -1,6 +1,5 @@
 pub mod Public
 pub mod Applied
-pub mod Lists
 pub mod Cuts
 pub mod Natural
 pub mod Fine

@@ -1,11 +1,11 @@
 -- A form reads whatever its words are: another word for each word, and it reads and stops the same.
 use Rattle.std.proofs.Common.{◌≡◌, ℕ, Bool, List, [], ◌∷◌, map, ◌⊎◌, inl, inr, refl, sym, ap, subst, ◌∙◌}
+use Rattle.kp_base.proofs.Lists.{flat_swap}
 use Rattle.kp_tree_grammar.specs.declared.symbol.Symbol.{Symbol}
 use Rattle.kp_tree_grammar.specs.declared.tree.Word.{Word}
 use Rattle.kp_tree_grammar.specs.Language.{Cond, Conds, conds_of, Eff, Effs, effs_of, Item, Items, items_of, Section, section_types, section_constants, section_predicates, section_schemas, Given, given_objects, given_items, goal_of, Tok, is_left, is_right, first_is, Sort, El, with_kinds, Maker, apply, m_word, m_drop, m_name, m_variable, m_atom, m_untyped, m_kind, m_kinds, m_typed, m_joined, m_all, m_true, m_holds, m_same, m_both, m_idle, m_when, m_each, m_makes, m_lit, m_items, m_fact, m_one_of, m_any_of, m_unknown, m_pred, m_no_params, m_schema, m_requires, m_types, m_constants, m_predicates, m_action, m_domain, m_of_domain, m_needs, m_objects, m_init, m_goal, m_saw, m_problem, hits, Form, At, stop_by, reason_of, ReadBy, r_token, r_none, r_both, r_after, r_end, r_more, r_last, r_next, r_absent, r_present, r_make, r_choice, r_loose, r_bracket, r_within, StopBy, s_token, s_nothing, s_first, s_second, s_before, s_after, s_here, s_later, s_lacks, s_at, s_next, s_present, s_make, s_none_there, s_choice, s_loose, s_unopened, s_inside, s_unclosed, s_within, typed_map, cond_map, conds_map, eff_map, effs_map, item_map, items_map, pred_map, schema_map}
 use Rattle.kp_tree_grammar.proofs.Public.{reads_once, reads_or_stops, form_reads_or_stops}
 use Rattle.kp_law_texts.specs.Tokens.{text_of}
-use Rattle.kp_law_texts.proofs.Lists.{flat_swap}
 use Rattle.kp_law_texts.specs.Maps.{section_map, given_map, el_map, ReadsWithPlaces, PlacesDontMatter}
 
 module _ {V W : Type 0} (f : V → W) where

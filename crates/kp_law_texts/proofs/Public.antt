@@ -7,7 +7,7 @@ pub use Rattle.kp_law_texts.proofs.Cuts.{pieces_are_cut}
 -- ---- A form reads whatever its words are: another word for each word, and it reads and stops the same.
 pub use Rattle.kp_law_texts.proofs.Natural.{places_dont_matter as reading_goes_by_symbols}
 -- ---- Pieces that are put in front of fine ones leave them fine.
-pub use Rattle.kp_law_texts.proofs.Fine.{named as spelled_name_is_token, said as name_in_front_is_fine, told as keyword_in_front_is_fine, fine_each as each_keeps_fine}
+pub use Rattle.kp_law_texts.proofs.Fine.{named as spelled_name_is_token, said as name_in_front_is_fine, told as keyword_in_front_is_fine, fine_each as each_keeps_fine, ends_names as names_before_a_bracket_end, fine_names as names_before_a_bracket_are_fine}
 -- what is put in front of fine pieces leaves them fine
 pub use Rattle.kp_law_texts.proofs.Fine.{Keeps as KeepsFine}
 -- ---- Pieces that are written one after the other.

@@ -1,4 +1,4 @@
-ghost use Rattle.std.specs.Prelude.{◌≡◌, ◌<◌, ◌≤◌, length};
+ghost use Rattle.std.specs.Prelude.{◌≡◌, ◌≤◌, length};
 ghost use Rattle.std.specs.List.{prefix_len};
 ghost use Rattle.kp_lex.specs.Bytes.{follows, in_line};
 ghost use Rattle.kp_lex.specs.Pieces.{piece_of, signed, FitsIn, FitsInSigned};

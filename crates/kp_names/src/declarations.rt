@@ -1,4 +1,4 @@
-ghost use Rattle.std.specs.Prelude.{◌≡◌, ◌∷◌, [], Bool, not, map, OnOk};
+ghost use Rattle.std.specs.Prelude.{◌≡◌, ◌∷◌, [], not, map, OnOk};
 ghost use Rattle.std.specs.List.{flat_map};
 ghost use Rattle.kp_base.specs.Lists.{only_if};
 ghost use Rattle.kp_tree_grammar.specs.View.{typed_view, pred_view, schema_view};

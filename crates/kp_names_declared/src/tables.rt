@@ -1,10 +1,10 @@
-ghost use Rattle.std.specs.Prelude.{◌≡◌, ◌≤◌, ℕ, List, [], length, map, fold, IfOk, OnOk};
+ghost use Rattle.std.specs.Prelude.{◌≡◌, ◌≤◌, [], length, map, fold, IfOk, OnOk};
 ghost use Rattle.std.specs.List.{flat_map};
 ghost use Rattle.kp_tree_grammar.specs.View.{domain_view, pred_view, problem_view, typed_view};
 ghost use Rattle.kp_names_meaning.specs.Names.{is_among};
 ghost use Rattle.kp_names_meaning.specs.Types.{declared, names, object_lines, objects, types};
 ghost use Rattle.kp_names_declared.specs.Steps.{with_name, lines_under};
-ghost use Rattle.kp_names_declared.specs.NameTables.{names_of_line, entries_from, entry_of, declaration_of, with_entry};
+ghost use Rattle.kp_names_declared.specs.NameTables.{names_of_line, entries_from, declaration_of, with_entry};
 
 use crate::name_set::NameSet;
 use crate::predicates::{Declared, Predicates};

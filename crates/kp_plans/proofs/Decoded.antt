@@ -1,9 +1,9 @@
 -- A word is read byte by byte as it is read whole.
-use Rattle.std.proofs.Common.{◌≡◌, ℕ, Bool, true, false, List, [], ◌∷◌, ◌++◌, refl, sym, ap, ◌∙◌, Some, None, Option, option_map, ◌==◌, if◌then◌else◌, eqb-true, subst, append_assoc}
+use Rattle.std.proofs.Common.{◌≡◌, ℕ, Bool, true, false, List, [], ◌∷◌, ◌++◌, refl, sym, ap, ◌∙◌, Some, None, Option, option_map, ◌==◌, append_assoc}
 use Rattle.kp_names_meaning.specs.Names.{Name}
 use Rattle.kp_base.specs.declared.ground.GroundName.{GroundName}
-use Rattle.kp_names_meaning.specs.Encoding.{underscore, dash, with_byte, split, decoded, doubled, encoded, encoded_objects}
-use Rattle.kp_names_meaning.proofs.Public.{what_was_encoded_decodes, decoded_is_encoding}
+use Rattle.kp_names_meaning.specs.Encoding.{underscore, dash, with_byte, split, decoded}
+use Rattle.kp_names_meaning.proofs.Public.{plain_byte_stands_for_itself, what_was_encoded_decodes, decoded_is_encoding}
 use Rattle.kp_plans.specs.declared.decoding.Parts.{Parts}
 use Rattle.kp_plans.specs.Decoding.{with_bytes, components, Decodes}
 use Rattle.kp_plans.specs.Names.{IsNameOf}
@@ -21,11 +21,6 @@ with_none : (bs : List ℕ) (xs : List Name) → with_bytes bs ([] ∷ xs) ≡ b
 with_none [] xs = refl
 with_none (b ∷ bs) xs = ap (with_byte b) (with_none bs xs)
 
--- a byte that is no underscore stands for itself
-plain_byte : (b : ℕ) (rest : List ℕ) → (b == underscore) ≡ false → split (b ∷ rest) ≡ option_map (with_byte b) (split rest)
-plain_byte b [] e = rw e refl
-plain_byte b (c ∷ cs) e = rw e refl
-
 -- the parts, one by one
 abbrev parts : List Name → Name → Bool → Parts
 parts ended last escaped = record { ended = ended; last = last; escaped = escaped }
@@ -38,7 +33,7 @@ pub opens : (p q : Parts) (b : ℕ) → b ≡ underscore → p.escaped ≡ false
 opens p q b is e h k i = record { reads = λ rest. rw (is, e, h, k, i) refl }
 
 pub stands : (p q : Parts) (b : ℕ) → p.escaped ≡ false → (b == underscore) ≡ false → q.ended ≡ p.ended → q.last ≡ p.last ++ b ∷ [] → q.escaped ≡ false → Decodes p q b
-stands p q b e n h k i = record { reads = λ rest. rw (e, h, k, i) (goes_on p.ended p.last b rest (b ∷ rest) (plain_byte b rest n)) }
+stands p q b e n h k i = record { reads = λ rest. rw (e, h, k, i) (goes_on p.ended p.last b rest (b ∷ rest) (plain_byte_stands_for_itself b rest n)) }
 
 pub doubles : (p q : Parts) (b : ℕ) → b ≡ underscore → p.escaped ≡ true → q.ended ≡ p.ended → q.last ≡ p.last ++ b ∷ [] → q.escaped ≡ false → Decodes p q b
 doubles p q b is e h k i = record { reads = λ rest. rw (is, e, h, k, i, is) (goes_on p.ended p.last underscore rest (underscore ∷ underscore ∷ rest) refl) }
@@ -70,30 +65,3 @@ is_name word (Some n) e = let h = decoded_is_encoding word n (sym e) in record {
 is_name word None e = λ n h. absurd (none_is_none n (e ∙ ap decoded (sym h.spelled) ∙ what_was_encoded_decodes n h.parts)) where
   none_is_none : (n : GroundName) → None ≡ Some n → ⊥
   none_is_none n e = cc
-
--- ---- two names with one encoding are one, even where parts are empty
-
-split_doubled : (x : Name) (rest : List ℕ) → split (doubled x ++ rest) ≡ option_map (with_bytes x) (split rest)
-split_doubled [] rest = sym (same_option (λ xs. xs) (split rest) (λ xs. refl))
-split_doubled (b ∷ bs) rest = pick (split_doubled bs rest) (b == underscore) refl
-  where
-    pick : split (doubled bs ++ rest) ≡ option_map (with_bytes bs) (split rest) → (t : Bool) → (b == underscore) ≡ t → split (((if t then underscore ∷ underscore ∷ [] else b ∷ []) ++ doubled bs) ++ rest) ≡ option_map (with_bytes (b ∷ bs)) (split rest)
-    pick others true e =
-        let f : b ≡ underscore = eqb-true b underscore e in
-        subst (λ z. option_map (with_byte underscore) (split (doubled bs ++ rest)) ≡ option_map (with_bytes (z ∷ bs)) (split rest)) (sym f)
-        (ap (option_map (with_byte underscore)) others ∙ map_map (with_bytes bs) (with_byte underscore) (with_bytes (underscore ∷ bs)) (split rest) (λ xs. refl))
-    pick others false e = plain_byte b (doubled bs ++ rest) e ∙ (ap (option_map (with_byte b)) others ∙ map_map (with_bytes bs) (with_byte b) (with_bytes (b ∷ bs)) (split rest) (λ xs. refl))
-
-split_part : (x : Name) (os : List Name) → split (encoded_objects os) ≡ Some ([] ∷ os) → split (doubled x ++ encoded_objects os) ≡ Some (x ∷ os)
-split_part x os h = split_doubled x (encoded_objects os) ∙ (ap (option_map (with_bytes x)) h ∙ ap Some (with_none x os))
-
-split_objects : (os : List Name) → split (encoded_objects os) ≡ Some ([] ∷ os)
-split_objects [] = refl
-split_objects (o ∷ os) = ap (option_map (λ xs. [] ∷ xs)) (split_part o os (split_objects os))
-
-pub encoded_once : (n m : GroundName) → encoded n ≡ encoded m → n ≡ m
-encoded_once n m e =
-    let parts = sym (split_part n.head n.objects (split_objects n.objects)) ∙ ap split e ∙ split_part m.head m.objects (split_objects m.objects) in
-    let head : n.head ≡ m.head = cc in
-    let objects : n.objects ≡ m.objects = cc in
-    ap (λ (x : Name). record { head = x; objects = n.objects }) head ∙ ap (λ (xs : List Name). record { head = m.head; objects = xs }) objects

@@ -3,35 +3,24 @@ use Rattle.std.proofs.Common.{◌≡◌, ℕ, true, List, [], ◌∷◌, map, re
 use Rattle.std.specs.List.{AllByRecursion}
 use Rattle.kp_base.specs.declared.ground.GroundName.{GroundName}
 use Rattle.kp_lex.specs.declared.token.TokenKind.TheVariants as kinds
-use Rattle.kp_lex.specs.Bytes.{class_of, follows}
-use Rattle.kp_lex.specs.Cutting.{EndsRunOf}
+use Rattle.kp_lex.specs.Bytes.{class_of}
 use Rattle.kp_tree_grammar.specs.declared.tree.Word.{Word}
-use Rattle.kp_tree_grammar.specs.Language.{symbol_of, is_name, is_left, s_word, s_pair, s_list, hits, many, word, Reads, r_token, r_both, r_end, r_more, r_bracket, IsName}
+use Rattle.kp_tree_grammar.specs.Language.{symbol_of, is_name, is_left, s_word, s_pair, s_list, hits, many, word, Reads, r_token, r_both, r_end, r_more, r_bracket}
 use Rattle.kp_tree_grammar.proofs.Public.{name_passes}
 use Rattle.kp_names_meaning.specs.GroundNames.{IsGroundName}
-use Rattle.kp_law_texts.specs.Pieces.{Piece, right, spelling, each, spaced, name, line_feed}
-use Rattle.kp_law_texts.specs.Tokens.{words, Fine, done, lefts, rights, blanks, says}
+use Rattle.kp_law_texts.specs.Pieces.{Piece, right, each, spaced, name, line_feed}
+use Rattle.kp_law_texts.specs.Tokens.{words, done, lefts, blanks, says}
 use Rattle.kp_law_texts.specs.Maps.{without_places}
-use Rattle.kp_law_texts.proofs.Public.{◌$◌, KeepsFine, each_keeps_fine, PiecesGive, many_pieces_read, pieces_read_as_their_words}
+use Rattle.kp_law_texts.proofs.Public.{◌$◌, KeepsFine, each_keeps_fine, names_before_a_bracket_end, names_before_a_bracket_are_fine, PiecesGive, many_pieces_read, pieces_read_as_their_words}
 use Rattle.kp_plans.specs.Grammar.{step, plan, step_name}
 use Rattle.kp_plans.specs.PlanFiles.{step_names, step_of}
 use Rattle.kp_plans.specs.Printed.{step_line, plan_pieces, plan_text, PrintedPlansRead}
 
 -- ---- the lines are fine
 
-ends_objects : (os : List (List ℕ)) (rest : List Piece) → EndsRunOf follows (spelling (each (spaced name) os (right ∷ rest)))
-unfolding class_of
-ends_objects [] rest = refl
-ends_objects (o ∷ os) rest = refl
-
-fine_objects : (os : List (List ℕ)) {rest : List Piece} → AllByRecursion IsName os → Fine rest → Fine (each (spaced name) os (right ∷ rest))
-unfolding class_of
-fine_objects [] all f = rights f
-fine_objects (o ∷ os) {rest} all f = blanks refl (says all.0.token all.0.low (ends_objects os rest) (fine_objects os all.1 f))
-
 fine_step : (n : GroundName) → IsGroundName n → KeepsFine (step_line n)
 unfolding class_of
-fine_step n h = record { keeps = λ {rest} f. lefts $ says h.head.token h.head.low (ends_objects n.objects (line_feed rest)) $ fine_objects n.objects h.objects $ blanks refl f }
+fine_step n h = record { keeps = λ {rest} f. lefts $ says h.head.token h.head.low (names_before_a_bracket_end n.objects (line_feed rest)) $ names_before_a_bracket_are_fine n.objects h.objects $ blanks refl f }
 
 -- ---- they read as steps
 

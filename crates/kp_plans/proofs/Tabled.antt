@@ -10,9 +10,8 @@ use Rattle.kp_names_meaning.specs.Names.{same, all_same}
 use Rattle.kp_names_meaning.specs.Encoding.{encoded}
 use Rattle.kp_names_meaning.specs.GroundNames.{same_name}
 use Rattle.kp_base.proofs.Lists.{same-true, same-refl}
-use Rattle.kp_names_meaning.proofs.Public.{all_same_names-true, all_same_names-refl}
+use Rattle.kp_names_meaning.proofs.Public.{all_same_names-true, all_same_names-refl, names_are_encoded_once}
 use Rattle.kp_plans.specs.WordTables.{number_under, IsTableOf}
-use Rattle.kp_plans.proofs.Decoded.{encoded_once}
 
 -- ---- a name that is noted
 
@@ -87,7 +86,7 @@ same_encoded n m = by (same_name n m) refl (same (encoded n) (encoded m)) refl
     by : (s : Bool) → same_name n m ≡ s → (t : Bool) → same (encoded n) (encoded m) ≡ t → t ≡ s
     by true e true h = refl
     by true e false h = sym h ∙ ap (λ (k : GroundName). same (encoded n) (encoded k)) (sym (one e)) ∙ same-refl (encoded n)
-    by false e true h = sym (itself n) ∙ ap (same_name n) (encoded_once n m (same-true (encoded n) (encoded m) h)) ∙ e
+    by false e true h = sym (itself n) ∙ ap (same_name n) (names_are_encoded_once n m (same-true (encoded n) (encoded m) h)) ∙ e
     by false e false h = refl
 
 numbers_same : (n : GroundName) (ms : List GroundName) (i : ℕ) → position_from (same (encoded n)) i (map encoded ms) ≡ position_from (same_name n) i ms

@@ -1,5 +1,5 @@
 ghost use Rattle.std.specs.Prelude.{◌≡◌, ◌++◌, false, OnOk, slice_get};
-ghost use Rattle.kp_law_texts.specs.Pieces.{Puts, each, spaced};
+ghost use Rattle.kp_law_texts.specs.Pieces.{Puts, each};
 ghost use Rattle.kp_plans_spelling.specs.Spelling.{atom_put, signed_put, lit_put, lits_put, joined, literal_text, literals_text};
 
 use crate::bytes::put;

@@ -1,10 +1,7 @@
 //! What a tag says of the clauses that have the negation of one of its literals. It says nothing new of any other.
-ghost use Rattle.std.specs.Prelude.{◌≡◌, slice_get, fold, OnOk};
-ghost use Rattle.std.specs.List.{list_any};
-ghost use Rattle.kp_base.specs.Lit.{code_of};
+ghost use Rattle.std.specs.Prelude.{◌≡◌, slice_get, OnOk};
 ghost use Rattle.kp_base.specs.Entailed.{HasModel};
 ghost use Rattle.kp_base.specs.Implicates.{formula_of};
-ghost use Rattle.kp_clauses.specs.Listed.{row};
 ghost use Rattle.kp_clauses.specs.Sieved.{stands};
 ghost use Rattle.kp_primes.specs.Placed.{AreHolders};
 ghost use Rattle.kp_primes.specs.Asked.{inconsistent, is_lit, leads, denied_from, some_denied_from, some_denied_near, with_left_at, with_left_from, with_left_near};

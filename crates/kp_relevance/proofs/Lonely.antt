@@ -10,7 +10,7 @@ use Rattle.kp_base.proofs.Lists.{any_member}
 use Rattle.kp_primes.specs.Held.{Held, AreWhole}
 use Rattle.kp_relevance.specs.Relevant.{is_pair}
 use Rattle.kp_relevance.specs.Candidates.{AnswersClausesFor}
-use Rattle.kp_relevance.specs.Gathered.{are_paired, is_wanted, unsettled_below, gathered, IsLone}
+use Rattle.kp_relevance.specs.Gathered.{are_paired, is_wanted, gathered, IsLone}
 use Rattle.kp_relevance.proofs.Clauses.{answers_clauses}
 use Rattle.kp_relevance.specs.Tabled.{pairs_of}
 use Rattle.kp_relevance.proofs.Exact.{marked_below, is_pair_marked}

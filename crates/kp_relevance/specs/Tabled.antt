@@ -1,5 +1,5 @@
 -- Relevance as rows of bits, one for each literal by its code. This file serves proofs alone.
-use Rattle.std.specs.Prelude.{◌≡◌, ◌≢◌, ◌*◌, ◌<◌, ◌/◌, ◌%◌, ◌||◌, ◌&&◌, ℕ, Bool, true, false, cond, List, [], filter, flat_map, map, length, get_or, nat_eq, nat_lt, replicate}
+use Rattle.std.specs.Prelude.{◌≡◌, ◌≢◌, ◌*◌, ◌<◌, ◌/◌, ◌%◌, ◌||◌, ◌&&◌, ℕ, Bool, true, false, cond, List, [], filter, flat_map, map, length, get_or, nat_eq, nat_lt}
 use Rattle.std.specs.List.{All, list_any, range_with_len, sum_by}
 use Rattle.kp_base.specs.declared.lit.Lit.{Lit}
 use Rattle.kp_base.specs.declared.ground.Action.{Action}

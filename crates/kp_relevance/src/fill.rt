@@ -1,5 +1,5 @@
 //! The marks of conditions in the rows of results.
-ghost use Rattle.std.specs.Prelude.{◌≡◌, ◌<◌, ◌*◌, ◌&&◌, true, length, nat_eq, nat_lt};
+ghost use Rattle.std.specs.Prelude.{◌≡◌, ◌<◌, ◌*◌, ◌&&◌, true, length, nat_eq};
 ghost use Rattle.std.specs.List.{list_all, list_any};
 ghost use Rattle.kp_base.specs.Lit.{code_of};
 ghost use Rattle.kp_base.specs.Implicates.{effect_below, action_below};

@@ -1,5 +1,5 @@
 -- What is read of one to four files, and what is due then.
-use Rattle.std.proofs.Common.{◌≡◌, ◌++◌, ℕ, List, [], ◌∷◌, Option, Some, Vec, Result, Ok, Err, IfOk, length, refl, sym, ap, subst, arith}
+use Rattle.std.proofs.Common.{◌≡◌, ℕ, List, [], ◌∷◌, Option, Some, Vec, Result, Ok, Err, IfOk, length, refl, sym, ap, subst, arith}
 use Rattle.std.specs.declared.alloc.Global.{Global}
 use Rattle.kp_base.specs.declared.memory.Memory.{Memory}
 use Rattle.kp_outside.specs.declared.outside.Got.{Got}

@@ -16,7 +16,7 @@ use Rattle.kp_classic.proofs.Public.{task_of_ground_fits as ground_fits}
 use Rattle.kp_law_files.specs.Translations.{ground_of, initial_of}
 use Rattle.kp_run_classical.specs.Classical.{IsClassicalProblem, task_of as classical_task}
 use Rattle.kp_run_classical.proofs.Public.{classical_ground_is_of_its_atoms}
-use Rattle.kp_run_solve.proofs.Public.{operators_are_counted}
+use Rattle.kp_lift.proofs.Public.{operators_are_counted}
 
 pub task_fits : (d : Domain Word) (p : Problem Word) (table : TagTable) → IsSmall d p → FitsLimits (task_of (ground_of d p) table) usual → IsWritableTask (ground_of d p) table → IsFit (task_of (ground_of d p) table)
 task_fits d p table small fits writable =

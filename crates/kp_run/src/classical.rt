@@ -1,4 +1,4 @@
-ghost use Rattle.std.specs.Prelude.{◌≡◌, Some, List, ℕ, IfOk};
+ghost use Rattle.std.specs.Prelude.{Some, List, ℕ, IfOk};
 ghost use Rattle.kp_base.specs.Files.{most_bytes};
 ghost use Rattle.kp_outside.specs.Outside.{IsFront, IsWithin};
 ghost use Rattle.kp_run.specs.Outcomes.{ClassicalTexts};

@@ -1,4 +1,4 @@
-ghost use Rattle.std.specs.Prelude.{◌≡◌, [], Some, List, ℕ, IfOk};
+ghost use Rattle.std.specs.Prelude.{[], Some, List, ℕ, IfOk};
 ghost use Rattle.kp_base.specs.declared.ground.Initial.{Initial as Formula};
 ghost use Rattle.kp_base.specs.Entailed.{HaveSameModels};
 ghost use Rattle.kp_base.specs.Files.{most_bytes};

@@ -1,7 +1,7 @@
-ghost use Rattle.std.specs.Prelude.{◌≡◌, ◌∷◌, ℕ, List, [], Some, true, IfOk};
+ghost use Rattle.std.specs.Prelude.{◌≡◌, ◌∷◌, ℕ, List, [], Some, true};
 ghost use Rattle.std.specs.List.{list_all};
 ghost use Rattle.kp_base.specs.declared.ground.Initial.{Initial as Formula};
-ghost use Rattle.kp_base.specs.Entailed.{IsTable, AreValid, HaveSameModels};
+ghost use Rattle.kp_base.specs.Entailed.{HaveSameModels};
 ghost use Rattle.kp_base.specs.Files.{most_bytes};
 ghost use Rattle.kp_outside.specs.Outside.{IsFront, IsWithin};
 ghost use Rattle.kp_primes.specs.Held.{formula};

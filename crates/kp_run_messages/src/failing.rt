@@ -1,4 +1,4 @@
-ghost use Rattle.std.specs.Prelude.{◌≡◌, ◌++◌, ◌<◌, Option, IfOk, IfSome, OnOk};
+ghost use Rattle.std.specs.Prelude.{◌≡◌, ◌++◌, ◌<◌, Option, IfOk, OnOk};
 ghost use Rattle.kp_run_messages.specs.Counterexamples.{failing_line, counterexample_text};
 ghost use Rattle.kp_run_messages.specs.Lifting.{unlifted_text};
 

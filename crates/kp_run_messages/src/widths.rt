@@ -1,4 +1,4 @@
-ghost use Rattle.std.specs.Prelude.{◌≡◌, ◌++◌, max, length, IfOk, OnOk};
+ghost use Rattle.std.specs.Prelude.{◌≡◌, ◌++◌, max, IfOk, OnOk};
 ghost use Rattle.kp_run_messages.specs.Widths.{set_lines, tag_lines, width_line, row_lines, rows_lines, width_text, over_text};
 ghost use Rattle.kp_width.specs.Rows.{greatest_width};
 

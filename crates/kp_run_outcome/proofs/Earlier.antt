@@ -1,6 +1,6 @@
 -- An outcome that was carried out from a moment was so from an earlier one since which nothing happened.
-use Rattle.std.proofs.Common.{◌≡◌, ℕ, List, Option, ap, sym, subst, ◌∙◌}
-use Rattle.kp_outside.specs.Outside.{FileMap, Rises, AddsFront, with_bytes}
+use Rattle.std.proofs.Common.{◌≡◌, ap, subst, ◌∙◌}
+use Rattle.kp_outside.specs.Outside.{Rises, AddsFront, with_bytes}
 use Rattle.kp_run_outcome.specs.declared.outcome.FilePut.{FilePut}
 use Rattle.kp_run_outcome.specs.declared.outcome.Outcome.{Outcome}
 use Rattle.kp_run_outcome.specs.declared.status.Status.{Status}

@@ -1,13 +1,11 @@
 -- A ground problem with a table is solved to one outcome, and so is a classical task.
-use Rattle.std.proofs.Common.{◌≡◌, ◌<◌, ◌+◌, ℕ, List, [], ◌∷◌, Option, Some, None, option_map, map, length, slice_get, refl, sym, ap, ◌∙◌, subst, arith}
+use Rattle.std.proofs.Common.{◌≡◌, ◌<◌, ℕ, List, [], ◌∷◌, Option, Some, None, option_map, map, length, slice_get, refl, sym, ap, ◌∙◌, subst, arith}
 use Rattle.std.proofs.lemmas.Option.{slice_get_within}
-use Rattle.kp_base.specs.declared.lit.Lit.{Lit}
 use Rattle.kp_base.specs.declared.ground.Action.{Action}
 use Rattle.kp_base.specs.declared.ground.Merge.{Merge}
 use Rattle.kp_base.specs.declared.ground.Ground.{Ground}
 use Rattle.kp_base.specs.declared.ground.Initial.{Initial}
 use Rattle.kp_base.specs.declared.ground.TagTable.{TagTable}
-use Rattle.kp_base.specs.declared.refused.Refused.{Refused}
 use Rattle.kp_base.specs.Machine.{MachineStep, stripped}
 use Rattle.kp_base.proofs.Cases.{some_alike}
 use Rattle.kp_names_meaning.specs.Steps.{Step}
@@ -20,7 +18,6 @@ use Rattle.kp_law_ktask.specs.Laws.{op_number}
 use Rattle.kp_law_ktask.specs.ByName.{op_of, merge_op}
 use Rattle.kp_base.specs.ActionNames.{action_name}
 use Rattle.kp_law_ktask.specs.Accepted.{step_at}
-use Rattle.kp_ktask.specs.Translated.{FitsLimits, RefusesTask, facts_over, weight_over}
 use Rattle.kp_lift.specs.Lifting.{IsThere}
 use Rattle.kp_run_messages.specs.Refusals.{nothing}
 use Rattle.kp_run_messages.specs.Searches.{no_plan_text}
@@ -28,7 +25,7 @@ use Rattle.kp_run_outcome.specs.declared.outcome.Outcome.{Outcome}
 use Rattle.kp_run_prepare.specs.Refusing.{refuses}
 use Rattle.kp_run_prepare.specs.Prepared.{usual}
 use Rattle.kp_ktask.proofs.Public.{task_refused_once, task_refused_or_within}
-use Rattle.kp_run_solve.specs.Solving.{solves, denies, AreNamed, TellsSolved, SolvesGround, over, searched, TellsClassical, SolvesClassical}
+use Rattle.kp_run_solve.specs.Solving.{solves, denies, AreNamed, TellsSolved, over, searched, TellsClassical}
 use Rattle.kp_run_solve.specs.Laws.{SolvingsHaveOneOutcome, ClassicalSolvingsHaveOneOutcome}
 use Rattle.kp_search.proofs.Public.{has_one_end_by_added}
 

@@ -1,22 +1,20 @@
 -- The operators of the task of a ground problem and a table are steps of the tagged machine.
-use Rattle.std.proofs.Common.{◌≡◌, ◌<◌, ◌≤◌, ◌+◌, ◌-◌, ℕ, suc, Bool, true, false, if◌then◌else◌, List, [], ◌∷◌, ◌++◌, Option, Some, drop, append_assoc, option_map, map, filter, slice_get, length, nat_lt, ltb-true, refl, sym, ap, ◌∙◌, subst, arith}
+use Rattle.std.proofs.Common.{◌≡◌, ◌<◌, ◌+◌, ◌-◌, ℕ, Bool, true, false, if◌then◌else◌, List, [], ◌∷◌, ◌++◌, Some, drop, append_assoc, option_map, map, length, nat_lt, ltb-true, refl, sym, ap, ◌∙◌, arith}
 use Rattle.std.specs.List.{list_all}
-use Rattle.std.proofs.lemmas.Bool.{and_parts, lt-ltb, ltb-false, le-ltb}
-use Rattle.std.proofs.lemmas.List.{length-map, length-append}
+use Rattle.std.proofs.lemmas.Bool.{and_parts, ltb-false}
 use Rattle.kp_base.specs.declared.ground.GroundName.{GroundName}
 use Rattle.kp_base.specs.declared.ground.Ground.{Ground}
 use Rattle.kp_base.specs.declared.ground.TagTable.{TagTable}
 use Rattle.kp_base.specs.declared.ground.Action.{Action}
-use Rattle.kp_base.specs.declared.ground.Merge.{Merge}
 use Rattle.kp_base.specs.Machine.{MachineStep, stripped}
 use Rattle.kp_base.proofs.Places.{element}
 use Rattle.kp_names_meaning.specs.Steps.{Step}
-use Rattle.kp_law_ktask.specs.Task.{op_of, merge_ops_from, task_of}
+use Rattle.kp_law_ktask.specs.Task.{task_of}
 use Rattle.kp_law_ktask.specs.Laws.{op_number}
 use Rattle.kp_base.specs.ActionNames.{action_name}
 use Rattle.kp_law_ktask.specs.Accepted.{step_at}
 use Rattle.kp_lift.specs.Lifting.{operator_step, IsThere}
-use Rattle.kp_lift.proofs.Public.{operators_are_steps}
+use Rattle.kp_lift.proofs.Public.{operators_are_counted, operators_are_steps}
 use Rattle.kp_run_solve.specs.Operators.{step_of, acts_among, NameActions}
 use Rattle.kp_run_solve.specs.Laws.{OperatorsHaveNames}
 use Rattle.kp_run_solve.specs.Solving.{AreNamed}
@@ -31,23 +29,13 @@ number_back g n = go (nat_lt n (length g.actions)) refl
     go true e = refl
     go false e = let past = ltb-false n (length g.actions) e in omega (arith, past)
 
--- there are as many as actions and merges
-pub merge_count : (n m : ℕ) (xs : List Merge) → length (merge_ops_from n m xs) ≡ length xs
-merge_count n m [] = refl
-merge_count n m (x ∷ xs) = ap suc (merge_count n (suc m) xs)
-
-pub op_count : (g : Ground) (table : TagTable) → length (task_of g table).ops ≡ length g.actions + length table.merges
-op_count g table =
-    length-append (map (op_of (length g.atoms) (length table.tags)) g.actions) (merge_ops_from (length g.atoms) 0 table.merges)
-    ∙ cc (length-map g.actions (op_of (length g.atoms) (length table.tags)), merge_count (length g.atoms) 0 table.merges)
-
 -- its step is there
 pub there : (g : Ground) (table : TagTable) (n : ℕ) → n < length (task_of g table).ops → IsThere g table (step_of g n)
 there g table n below = go (nat_lt n (length g.actions)) refl
   where
     go : (b : Bool) → nat_lt n (length g.actions) ≡ b → IsThere g table (if b then MachineStep.act n else MachineStep.merge (n - length g.actions))
     go true e = ltb-true n (length g.actions) e
-    go false e = let past = ltb-false n (length g.actions) e in let many = op_count g table in omega (arith, past, many, below)
+    go false e = let past = ltb-false n (length g.actions) e in let many = operators_are_counted g table in omega (arith, past, many, below)
 
 -- and has its step by name
 pub named_so : (g : Ground) (table : TagTable) (n : ℕ) → n < length (task_of g table).ops → step_at g table (step_of g n) ≡ operator_step (task_of g table) n

@@ -1,5 +1,5 @@
 -- What the end of a search says of its task is true.
-use Rattle.std.proofs.Common.{◌≡◌, ℕ, length}
+use Rattle.std.proofs.Common.{ℕ, length}
 use Rattle.kp_classic.specs.declared.task.Task.{Task}
 use Rattle.kp_classic.specs.States.{has}
 use Rattle.kp_guide.proofs.Public.{added_is_right}

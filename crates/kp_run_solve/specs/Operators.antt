@@ -5,7 +5,6 @@ use Rattle.kp_base.specs.declared.ground.Ground.{Ground}
 use Rattle.kp_base.specs.declared.ground.GroundName.{GroundName}
 use Rattle.kp_base.specs.Machine.{MachineStep}
 use Rattle.kp_base.specs.ActionNames.{action_name}
-use Rattle.kp_classic.specs.declared.task.Task.{Task}
 use Rattle.kp_search.specs.declared.found.Found.{Found}
 use Rattle.kp_search.specs.declared.found.Found.TheVariants.{Plan, NoPlan, Spent}
 

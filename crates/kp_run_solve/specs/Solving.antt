@@ -1,5 +1,5 @@
 -- What a search for a plan comes to: what it finds, and what is printed of that.
-use Rattle.std.specs.Prelude.{◌≡◌, ℕ, List, [], ◌∷◌, Option, Some, None, map, codes}
+use Rattle.std.specs.Prelude.{◌≡◌, ℕ, List, [], Option, Some, None, map}
 use Rattle.kp_base.specs.declared.ground.Ground.{Ground}
 use Rattle.kp_base.specs.declared.ground.Initial.{Initial}
 use Rattle.kp_base.specs.declared.ground.TagTable.{TagTable}
@@ -22,7 +22,6 @@ use Rattle.kp_ktask.specs.Translated.{FitsLimits, RefusesTask}
 use Rattle.kp_run_messages.specs.Refusals.{nothing}
 use Rattle.kp_run_messages.specs.Searches.{no_plan_line, no_plan_text, spent_text}
 use Rattle.kp_run_outcome.specs.declared.outcome.Outcome.{Outcome}
-use Rattle.kp_run_outcome.specs.declared.outcome.FilePut.{FilePut}
 use Rattle.kp_run_outcome.specs.declared.status.Status.TheVariants as status
 use Rattle.kp_words.specs.Command.{if_named}
 use Rattle.kp_run_prepare.specs.Refusing.{refuses}

@@ -1,6 +1,5 @@
 //! Operators by name.
-ghost use Rattle.std.specs.Prelude.{◌≡◌, ◌<◌, ◌++◌, ◌∷◌, [], true, Some, length, map, nat_lt, slice_get, IfOk, OnOk};
-ghost use Rattle.std.specs.List.{list_all};
+ghost use Rattle.std.specs.Prelude.{◌≡◌, ◌<◌, ◌++◌, ◌∷◌, [], Some, length, map, IfOk, OnOk};
 ghost use Rattle.kp_base.specs.ActionNames.{action_name};
 ghost use Rattle.kp_run_solve.specs.Operators.{acts_among};
 

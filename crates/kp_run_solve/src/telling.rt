@@ -1,7 +1,6 @@
 //! What is told of what a search finds.
 ghost use Rattle.std.specs.Prelude.{◌≡◌, true, length, map, nat_lt, option_map, IfOk};
 ghost use Rattle.std.specs.List.{list_all};
-ghost use Rattle.kp_base.specs.declared.ground.Initial.{Initial as Formula};
 ghost use Rattle.kp_base.specs.Entailed.{IsTable};
 ghost use Rattle.kp_primes.specs.Held.{formula};
 ghost use Rattle.kp_relevance.specs.Relevant.{ArePairsOf};

@@ -1,4 +1,4 @@
-ghost use Rattle.std.specs.Prelude.{◌≡◌, ◌+◌, ℕ, [], length, OnOk, IfSome, IfNone, if◌then◌else◌};
+ghost use Rattle.std.specs.Prelude.{◌≡◌, ◌+◌, [], length, OnOk, IfSome, IfNone, if◌then◌else◌};
 ghost use Rattle.kp_search.specs.Queue.{same_key, times, PopsFirst};
 
 use crate::Key;
@@ -15,7 +15,7 @@ pub struct Waiting {
 }
 
 impl Model for Waiting {
-    ghost use Rattle.std.specs.Prelude.{List, map};
+    ghost use Rattle.std.specs.Prelude.{List};
     ghost use Rattle.std.specs.BinaryHeap.{IsHeap, heap_items};
     ghost use Rattle.kp_search.specs.declared.key.Key.{Key};
     ghost use Rattle.kp_search.specs.Heaped.{later, keys_of};

@@ -1,4 +1,4 @@
-ghost use Rattle.std.specs.Prelude.{◌≡◌, [], map, IfOk, OnOk};
+ghost use Rattle.std.specs.Prelude.{◌≡◌, [], IfOk, OnOk};
 ghost use Rattle.kp_base.specs.LitSet.{IsAscending};
 ghost use Rattle.kp_base.specs.Entailed.{IsConsistent};
 ghost use Rattle.kp_primes.specs.Held.{formula};

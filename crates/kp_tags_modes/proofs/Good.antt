@@ -1,18 +1,18 @@
 -- The merges of a mode are valid, of consistent tags, and of the atoms.
-use Rattle.std.proofs.Common.{◌≡◌, ◌<◌, ◌&&◌, ℕ, Bool, true, false, not, List, [], ◌∷◌, Option, filter, map, length, nat_lt, refl, ap, subst, ◌∙◌, inl, inr}
+use Rattle.std.proofs.Common.{◌≡◌, ◌<◌, ◌&&◌, ℕ, Bool, true, List, [], ◌∷◌, Option, filter, map, length, nat_lt, refl, ap, subst, ◌∙◌, inl, inr}
 use Rattle.std.proofs.lemmas.Bool.{and_parts, and_from, lt-ltb, ltb-true}
 use Rattle.std.specs.List.{list_any, list_all}
 use Rattle.kp_base.specs.declared.lit.Lit.{Lit}
 use Rattle.kp_base.specs.declared.ground.Ground.{Ground}
 use Rattle.kp_base.specs.declared.ground.Initial.{Initial}
-use Rattle.kp_base.specs.Planning.{Member, choices, positive, negative, set_of, same_set, State, holds, is_model, IsConsistent, are_below, effect_below, action_below, IsOfItsAtoms, either_value, IsRelevant, IsCandidate, AreClausesFor, IsCov, IsTarget}
-use Rattle.kp_base.proofs.Lists.{all_member, all_from, any_from, append_member, map_member, flat_member, filter_member}
+use Rattle.kp_base.specs.Planning.{Member, choices, set_of, same_set, State, holds, is_model, IsConsistent, are_below, effect_below, action_below, IsOfItsAtoms, either_value, IsRelevant, AreClausesFor, IsCov, IsTarget}
+use Rattle.kp_base.proofs.Lists.{all_member, all_from, append_member, map_member, flat_member, filter_member}
 use Rattle.kp_base.proofs.Once.{all_each_once}
 use Rattle.kp_base.proofs.Sets.{all-set_of}
 use Rattle.kp_cover_subsets.specs.Subsets.{subsets}
 use Rattle.kp_cover_subsets.proofs.Public.{subset_member}
 use Rattle.kp_cover.specs.Valid.{AreValidTags}
-use Rattle.kp_cover.proofs.Public.{tags_of_clauses_are_valid, tags_of_clauses_are_consistent, target_is_below}
+use Rattle.kp_cover.proofs.Public.{candidates_are_true, tags_of_clauses_are_valid, tags_of_clauses_are_consistent, target_is_below}
 use Rattle.kp_tags_merges.specs.declared.merge.FileMerge.{FileMerge}
 use Rattle.kp_tags_modes.specs.declared.way.Way.{Way}
 use Rattle.kp_tags_modes.specs.Assignments.{AreAssignments}
@@ -53,17 +53,6 @@ cov_good n i cs tags fine is = record {
 
 -- ---- clauses
 
-either_true : (p : ℕ) (s : State) → list_any (holds s) (either_value p) ≡ true
-either_true p s = pick (s p) refl
-  where
-    pick : (b : Bool) → s p ≡ b → list_any (holds s) (either_value p) ≡ true
-    pick true is = any_from (holds s) (either_value p) (positive p) (inl refl) is
-    pick false is = any_from (holds s) (either_value p) (negative p) (inr (inl refl)) (ap not is)
-
-candidate_true : (n : ℕ) (i : Initial) (c : List Lit) → IsCandidate n i c → (s : State) → is_model i s ≡ true → list_any (holds s) c ≡ true
-candidate_true n i _ (IsCandidate.implicate c prime more) s m = prime.implicate.holds_always s m
-candidate_true n i _ (IsCandidate.unsettled p lt differ) s m = either_true p s
-
 -- what is relevant to a literal of the atoms is of the atoms
 relevant_below : (g : Ground) → IsOfItsAtoms g → (l m : Lit) → IsRelevant g.actions l m → m.atom.0 < length g.atoms → l.atom.0 < length g.atoms
 relevant_below g of l _ (IsRelevant.itself _) lt = lt
@@ -84,7 +73,7 @@ module _ (g : Ground) (i : Initial) (of : IsOfItsAtoms g) (target : Lit) (lt : t
 
   some_fine : (set : List (List Lit)) → ((c : List Lit) → Member set c → Member cs c) → AreFine n i set
   some_fine set sub = record {
-    hold = λ s model c m. candidate_true n i c ((are.exact c).0 (sub c m)).candidate s model;
+    hold = λ s model c m. candidates_are_true n i c ((are.exact c).0 (sub c m)).candidate s model;
     below = λ c m. clause_below c (sub c m);
   }
 

@@ -1,9 +1,8 @@
-ghost use Rattle.std.specs.Prelude.{◌≡◌, ◌<◌, ◌≤◌, ◌+◌, ◌⊎◌, suc, ◌∷◌, [], false, Ok, drop, length, IfOk, IfErr, IfSome, IfNone};
+ghost use Rattle.std.specs.Prelude.{◌≡◌, ◌<◌, ◌≤◌, ◌+◌, ◌⊎◌, suc, false, Ok, length, IfOk, IfErr};
 ghost use Rattle.std.specs.Bool.{OnTrue};
-ghost use Rattle.std.specs.List.{take_while};
 ghost use Rattle.kp_tree_grammar.specs.Forms.{hits};
 ghost use Rattle.kp_tree_grammar.specs.Symbols.{first_is, is_left, is_right};
-ghost use Rattle.kp_tree_cursor.specs.Lexemes.{tok, from};
+ghost use Rattle.kp_tree_cursor.specs.Lexemes.{from};
 ghost use Rattle.kp_tree_cursor.specs.Readers.{Passes, Closed, Opened, Led, class_test, lead_test, name_at};
 
 use crate::halt::Halt;

@@ -1,5 +1,5 @@
 -- With enough levels reading answers what the definitions say. So a form reads in one way, or stops at one token.
-use Rattle.std.proofs.Common.{◌≡◌, ℕ, zero, suc, ◌≤◌, ◌<◌, Bool, true, false, cond as if_then, List, [], ◌∷◌, length, ◌⊎◌, inl, inr, Option, Some, None, Ok, Err, refl, sym, ap, subst, ◌∙◌, arith}
+use Rattle.std.proofs.Common.{◌≡◌, ℕ, zero, suc, ◌≤◌, ◌<◌, Bool, true, false, cond as if_then, List, [], ◌∷◌, length, ◌⊎◌, inl, inr, Option, None, Ok, Err, refl, sym, ap, subst, ◌∙◌, arith}
 use Rattle.kp_base.proofs.Cases.{some_none}
 use Rattle.kp_tree_grammar.specs.declared.symbol.Symbol.{Symbol}
 use Rattle.kp_tree_grammar.specs.Sorts.{s_seen, Seen, Sort, s_word, El, Maker, s_pair}

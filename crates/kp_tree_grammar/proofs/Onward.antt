@@ -1,14 +1,14 @@
 -- What is behind the tokens that a form reads, or behind the one at which it stops, doesn't matter.
-use Rattle.std.proofs.Common.{◌≡◌, ℕ, zero, suc, ◌≤◌, ◌<◌, ◌⊎◌, inl, inr, Bool, true, false, cond as if_then, List, [], ◌∷◌, ◌++◌, length, length-append, Option, Some, None, Ok, Err, refl, sym, ap, subst, ◌∙◌, arith}
+use Rattle.std.proofs.Common.{◌≡◌, ℕ, zero, suc, ◌≤◌, ◌<◌, inl, inr, Bool, true, false, cond as if_then, List, [], ◌∷◌, ◌++◌, length, length-append, Some, Ok, Err, refl, sym, ap, subst, ◌∙◌, arith}
 use Rattle.kp_tree_grammar.specs.declared.symbol.Symbol.{Symbol}
 use Rattle.kp_tree_grammar.specs.Sorts.{s_seen, Seen, Sort, s_none, s_word, s_pair, s_list, El, Maker, apply}
-use Rattle.kp_tree_grammar.specs.Forms.{hits, Named, Form, token, none, nothing, ◌▹◌, ◌▸◌, many, run, maybe, make, choose, loose, bracket, within}
+use Rattle.kp_tree_grammar.specs.Forms.{hits, Form, token, none, nothing, ◌▹◌, ◌▸◌, many, run, maybe, make, choose, loose, bracket, within}
 use Rattle.kp_tree_grammar.specs.Grammar.{rule}
-use Rattle.kp_tree_grammar.specs.Reading.{At, stop, stop_by, Reads, Stops, ReadBy, StopBy, s_token, s_nothing, s_first, s_second, s_before, s_after, s_here, s_later, s_lacks, s_at, s_next, s_present, s_make, s_none_there, s_choice, s_loose, s_unopened, s_inside, s_unclosed, s_within}
+use Rattle.kp_tree_grammar.specs.Reading.{At, stop, stop_by, Reads, Stops}
 use Rattle.kp_tree_grammar.specs.Symbols.{Tok, is_left, is_right, first_is}
 use Rattle.kp_tree_grammar.specs.Parsing.{Outcome, ◌>>=◌, token_at, after_at, closed, bracket_at, pick_at, go, level}
 use Rattle.kp_tree_grammar.specs.Depth.{deep_case, deep}
-use Rattle.kp_tree_grammar.specs.Laws.{followed, ReadsOnward, StopsOnward}
+use Rattle.kp_tree_grammar.specs.Laws.{followed}
 use Rattle.kp_tree_grammar.proofs.Tells.{shrinks, Tells, read_tells}
 use Rattle.kp_tree_grammar.proofs.Within.{stops_within}
 use Rattle.kp_tree_grammar.proofs.Exact.{go_reads, many_step, run_step, fewer, reads_is, stops_is, not_deep}

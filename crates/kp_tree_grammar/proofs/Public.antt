@@ -18,6 +18,8 @@ pub use Rattle.kp_tree_grammar.proofs.Computed.{tokens as tokens_of_text, reads_
 pub use Rattle.kp_tree_grammar.proofs.Computed.{outcome as computed_outcome}
 -- ---- What holds of every symbol that a Name may have. A token is of its own kind, and of no other.
 pub use Rattle.kp_tree_grammar.proofs.KindTests.{name_passes, own_kind as own_kind_passes, other_kind as other_kind_fails}
+-- ---- What may be a head is a name.
+pub use Rattle.kp_tree_grammar.proofs.Words.{head_is_name as heads_are_names}
 -- ---- The brackets of tokens as the cutting counts them and as the grammar does.
 pub use Rattle.kp_tree_grammar.proofs.Nesting.{Kept, kept}
 -- ---- What holds of each part of each section of a file holds of each part of its tree.

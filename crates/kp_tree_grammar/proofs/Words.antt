@@ -49,7 +49,7 @@ is_a_name kinds.Name w h = refl
 is_a_name kinds.Keyword w h = absurd (both_ways (is_name (symbol_of kinds.Keyword w)) (keyword_fails is_name w refl refl refl) h)
 is_a_name _ w h = absurd cc
 
-head_is_name : (s : Symbol) → is_head s ≡ true → is_name s ≡ true
+pub head_is_name : (s : Symbol) → is_head s ≡ true → is_name s ≡ true
 head_is_name s h = rw h refl
 
 pub named : (t : Tok Word) → IsSeen t → is_name t.symbol ≡ true → IsName t.word.text

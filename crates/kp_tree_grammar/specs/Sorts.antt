@@ -1,5 +1,5 @@
 -- What forms give, and how trees are made of it.
-use Rattle.std.specs.Prelude.{List, [], ◌∷◌, Bool, map}
+use Rattle.std.specs.Prelude.{List, [], ◌∷◌, Bool}
 use Rattle.std.specs.List.{flat_map}
 use Rattle.kp_tree_grammar.specs.declared.symbol.Symbol.{Symbol}
 use Rattle.kp_tree_grammar.specs.Trees.{Typed, Term, name, variable, Atom, Cond, conds_of, Eff, effs_of, Lit, Item, items_of, Pred, Schema, Domain, Problem, Section, section_types, section_constants, section_predicates, section_schemas, Given, given_objects, given_items, goal_of}

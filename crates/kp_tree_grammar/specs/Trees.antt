@@ -1,5 +1,5 @@
 -- The trees of the grammar, over any type of words: with their places for files, without for written texts.
-use Rattle.std.specs.Prelude.{List, [], ◌∷◌, Bool, map}
+use Rattle.std.specs.Prelude.{List, [], ◌∷◌, Bool}
 
 -- a word with the types that are written for it
 pub record Typed (W : Type 0) : Type 0 where

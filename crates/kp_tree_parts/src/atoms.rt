@@ -1,4 +1,4 @@
-ghost use Rattle.std.specs.Prelude.{◌≡◌, ◌<◌, ◌≤◌, length, IfOk};
+ghost use Rattle.std.specs.Prelude.{◌<◌, ◌≤◌, length, IfOk};
 ghost use Rattle.kp_tree_parts.specs.Lexemes.{from};
 ghost use Rattle.kp_tree_arena.specs.Nodes.{term_view, atom_view};
 ghost use Rattle.kp_tree_parts.specs.Readers.{Gives, term_at, equality_at, body_at, atom_at};

@@ -1,4 +1,4 @@
-ghost use Rattle.std.specs.Prelude.{◌≡◌, ◌<◌, ◌≤◌, length, IfOk};
+ghost use Rattle.std.specs.Prelude.{◌<◌, ◌≤◌, length, IfOk};
 ghost use Rattle.kp_tree_parts.specs.Lexemes.{from};
 ghost use Rattle.kp_tree_parts.specs.Readers.{Passes, title_inside_at, title_at};
 

@@ -1,4 +1,4 @@
-ghost use Rattle.std.specs.Prelude.{◌≡◌, ◌<◌, ◌≤◌, ◌++◌, length, map, IfOk, OnOk};
+ghost use Rattle.std.specs.Prelude.{◌<◌, ◌≤◌, length, map, IfOk};
 ghost use Rattle.kp_tree_parts.specs.Lexemes.{from};
 ghost use Rattle.kp_tree_arena.specs.Nodes.{typed_view, cond_view, eff_view, pred_view, schema_view};
 ghost use Rattle.kp_tree_parts.specs.Readers.{Gives, Passes, pred_inside_at, pred_at, preds_at, params_at, precondition_at, effect_at, parts_end_at, schema_at};

@@ -1,5 +1,5 @@
 -- For proofs alone: the words as they are read one after the other.
-use Rattle.std.specs.Prelude.{◌+◌, ◌&&◌, ◌==◌, ℕ, Bool, true, false, not, List, [], ◌∷◌, ◌++◌, length, Option, Some, None, if◌then◌else◌, option_and_then}
+use Rattle.std.specs.Prelude.{◌+◌, ◌&&◌, ℕ, Bool, true, false, not, List, [], ◌∷◌, ◌++◌, Option, Some, None, if◌then◌else◌, option_and_then}
 use Rattle.clap.specs.Lexer.{long_of}
 use Rattle.kp_words_options.specs.Words.{is_plain, has_text}
 use Rattle.kp_words_options.specs.Texts.{texts}

@@ -1,4 +1,4 @@
-ghost use Rattle.std.specs.Prelude.{◌≡◌, ◌↔◌, IsTrue, [], List, ℕ, Option, Some, map, length, codes, IfOk, IfErr, option_map, is_some, true, false};
+ghost use Rattle.std.specs.Prelude.{◌≡◌, ◌↔◌, IsTrue, [], List, ℕ, Option, Some, map, length, IfOk, IfErr, option_map, is_some, true, false};
 ghost use Rattle.std.specs.List.{list_all};
 ghost use Rattle.clap.specs.Words.{app_of, first_value, found_of, is_simple, kind_of, matches_of, new_rule, rows_of, rule_of};
 ghost use Rattle.clap.specs.Takes.{takes};

@@ -1,8 +1,8 @@
-ghost use Rattle.std.specs.Prelude.{◌≡◌, ◌≤◌, ◌<◌, ◌+◌, ◌^◌, ◌&&◌, Some, None, not, length, vec_len, IfOk, option_map, true, false, Ok, nat_eq};
+ghost use Rattle.std.specs.Prelude.{◌≡◌, ◌≤◌, ◌<◌, ◌+◌, ◌^◌, ◌&&◌, Some, None, not, IfOk, option_map, true, false, Ok};
 ghost use Rattle.clap.specs.Lexer.{strip_byte, name_and_value, long_of};
 ghost use Rattle.kp_words_options.specs.Words.{is_plain, has_text};
 ghost use Rattle.kp_words_options.specs.Texts.{texts};
-ghost use Rattle.kp_words_options.specs.Scan.{State, reader_state, has_value, is_alone, may_stand, after_word, after_option, scan, at_first};
+ghost use Rattle.kp_words_options.specs.Scan.{reader_state, has_value, may_stand, after_word, after_option, scan, at_first};
 
 use kp_base::Memory;
 use std::alloc::Global;

@@ -1,5 +1,5 @@
 -- The names of facts and operators can be written, and tell what they are of.
-use Rattle.std.proofs.Common.{◌≡◌, ◌<◌, ◌^◌, ℕ, Bool, true, false, ◌&&◌, ◌==◌, eqb-true, if◌then◌else◌, List, [], ◌∷◌, ◌++◌, codes, decimal, length, drop, append_assoc, append-nil, Some, refl, sym, ap, subst, ◌∙◌, arith}
+use Rattle.std.proofs.Common.{◌≡◌, ◌<◌, ◌^◌, ℕ, Bool, true, false, ◌&&◌, ◌==◌, eqb-true, if◌then◌else◌, List, [], ◌∷◌, ◌++◌, codes, decimal, drop, append_assoc, append-nil, Some, refl, sym, ap, subst, ◌∙◌, arith}
 use Rattle.std.proofs.lemmas.Bool.{false≢true, and_from, and_parts}
 use Rattle.std.proofs.lemmas.Bool.Decides.{nat_tests}
 use Rattle.std.proofs.lemmas.Fmt.{decimal_is_IsNumeral, decimal_injective}
@@ -10,7 +10,6 @@ use Rattle.std.specs.Char.{to_ascii_lowercase}
 use Rattle.std.specs.Int.{IsInRange}
 use Rattle.std.specs.Str.Parse.{AllDigits}
 use Rattle.std.specs.List.{AllByRecursion, list_any, list_all}
-use Rattle.std.proofs.lemmas.Option.{same_Some}
 use Rattle.kp_base.specs.declared.ground.GroundName.{GroundName}
 use Rattle.kp_lex.specs.declared.token.TokenKind.TheVariants as kinds
 use Rattle.kp_lex.specs.Bytes.{is_alphanumeric, class_of, follows, follows_class}
@@ -20,7 +19,7 @@ use Rattle.kp_tree_grammar.specs.Words.{IsLow, IsName, IsHead}
 use Rattle.kp_names_meaning.specs.Names.{same, all_same}
 use Rattle.kp_names_meaning.specs.Encoding.{underscore, doubled_byte, doubled, encoded_objects, encoded, decoded, is_empty}
 use Rattle.kp_names_meaning.specs.GroundNames.{IsGroundName, same_name}
-use Rattle.kp_names_meaning.proofs.Public.{what_was_encoded_decodes, all_same_names-refl}
+use Rattle.kp_names_meaning.proofs.Public.{what_was_encoded_decodes, names_are_encoded_once, all_same_names-refl}
 use Rattle.kp_base.proofs.Lists.{same-true, same-refl}
 use Rattle.kp_write.specs.Facts.{sign_word, tag_word, atom_fact}
 use Rattle.kp_write.specs.Grounds.{FactsTellApart}
@@ -136,9 +135,6 @@ no_empty (w ∷ ws) h = rw (some_byte h.0.token) (no_empty ws h.1)
 pub decodes : (n : GroundName) → IsGroundName n → decoded (encoded n) ≡ Some n
 decodes n h = what_was_encoded_decodes n (no_empty (n.head ∷ n.objects) (h.head, h.objects))
 
-one_name : (x y : GroundName) → IsGroundName x → IsGroundName y → encoded x ≡ encoded y → x ≡ y
-one_name x y h k e = same_Some x y (sym (decodes x h) ∙ ap decoded e ∙ decodes y k)
-
 pub same_name-refl : (n : GroundName) → same_name n n ≡ true
 same_name-refl n = and_from (same n.head n.head) (all_same n.objects n.objects) (same-refl n.head) (all_same_names-refl n.objects)
 
@@ -151,20 +147,9 @@ undoubled (c ∷ cs) h = rw (no_underscore (digit_from_value c h.0), undoubled c
   no_underscore : IsInRange 48 57 c → (c == underscore) ≡ false
   no_underscore r = grind (arith, nat_tests)
 
-numeral : (ds : List ℕ) → 0 < length ds → AllDigits 10 ds → IsName ds
-numeral [] some h = absurd (omega arith)
-numeral (c ∷ cs) some h = name_from (alphanumeric c (digit_from_value c h.0)) (digits (c ∷ cs) h)
-
 -- the tag as one more object
 abbrev tagged : ℕ → GroundName → GroundName
 tagged t n = record { head = n.head; objects = n.objects ++ decimal t ∷ [] }
-
-one_more : (os : List (List ℕ)) (o : List ℕ) → AllByRecursion IsName os → IsName o → AllByRecursion IsName (os ++ o ∷ [])
-one_more [] o h k = (k, tt)
-one_more (x ∷ xs) o h k = (h.0, one_more xs o h.1 k)
-
-tagged_name : (t : ℕ) → t < 2 ^ 64 → (n : GroundName) → IsGroundName n → IsGroundName (tagged t n)
-tagged_name t fits n h = record { head = h.head; objects = one_more n.objects (decimal t) h.objects (numeral (decimal t) (decimal_is_IsNumeral t fits).0.0 (decimal_is_IsNumeral t fits).0.1) }
 
 tagged_objects : (t : ℕ) → t < 2 ^ 64 → (os : List (List ℕ)) → encoded_objects os ++ tag_word t ≡ encoded_objects (os ++ decimal t ∷ [])
 tagged_objects t fits [] = ap (λ ds. codes "_-" ++ ds) (sym (append-nil (doubled (decimal t)) ∙ undoubled (decimal t) (decimal_is_IsNumeral t fits).0.1))
@@ -173,18 +158,18 @@ tagged_objects t fits (o ∷ os) = ap (λ ws. codes "_-" ++ ws) (append_assoc (d
 tagged_word : (t : ℕ) → t < 2 ^ 64 → (n : GroundName) → encoded n ++ tag_word t ≡ encoded (tagged t n)
 tagged_word t fits n = append_assoc (doubled n.head) (encoded_objects n.objects) (tag_word t) ∙ ap (λ ws. doubled n.head ++ ws) (tagged_objects t fits n.objects)
 
-tag_and_name : (s t : ℕ) (x y : GroundName) → s < 2 ^ 64 → t < 2 ^ 64 → IsGroundName x → IsGroundName y → encoded x ++ tag_word s ≡ encoded y ++ tag_word t → (s ≡ t) × (x ≡ y)
-tag_and_name s t x y p q h k e =
-    let one : tagged s x ≡ tagged t y = one_name (tagged s x) (tagged t y) (tagged_name s p x h) (tagged_name t q y k) (sym (tagged_word s p x) ∙ e ∙ tagged_word t q y) in
+tag_and_name : (s t : ℕ) (x y : GroundName) → s < 2 ^ 64 → t < 2 ^ 64 → encoded x ++ tag_word s ≡ encoded y ++ tag_word t → (s ≡ t) × (x ≡ y)
+tag_and_name s t x y p q e =
+    let one : tagged s x ≡ tagged t y = names_are_encoded_once (tagged s x) (tagged t y) (sym (tagged_word s p x) ∙ e ∙ tagged_word t q y) in
     let parts = same_from_push x.objects y.objects (decimal s) (decimal t) (ap (λ n. n.objects) one) in
     let heads : x.head ≡ y.head = ap (λ n. n.head) one in
     (decimal_injective s t p q parts.1, (λ i. record { head = heads i; objects = parts.0 i }))
 
 pub facts_tell_apart : FactsTellApart
-facts_tell_apart s t true true x y p q h k e = let r = tag_and_name s t x y p q h k (ap (drop 4) e) in (r.0, refl, r.1)
+facts_tell_apart s t true true x y p q h k e = let r = tag_and_name s t x y p q (ap (drop 4) e) in (r.0, refl, r.1)
 facts_tell_apart s t true false x y p q h k e = absurd (false≢true (ap (same (atom_fact s true x)) (sym e) ∙ same-refl (atom_fact s true x)))
 facts_tell_apart s t false true x y p q h k e = absurd (false≢true (ap (same (atom_fact s false x)) (sym e) ∙ same-refl (atom_fact s false x)))
-facts_tell_apart s t false false x y p q h k e = let r = tag_and_name s t x y p q h k (ap (drop 4) e) in (r.0, refl, r.1)
+facts_tell_apart s t false false x y p q h k e = let r = tag_and_name s t x y p q (ap (drop 4) e) in (r.0, refl, r.1)
 
 -- ---- words that differ
 
@@ -197,4 +182,4 @@ unlike x y differ u v f = go (same u v) refl where
 
 -- so do the operators of different actions
 pub operators_apart : (x y : GroundName) → IsGroundName x → IsGroundName y → same_name x y ≡ false → same (codes "do_-" ++ encoded x) (codes "do_-" ++ encoded y) ≡ false
-operators_apart x y h k differ = unlike x y differ (codes "do_-" ++ encoded x) (codes "do_-" ++ encoded y) (λ e. one_name x y h k (ap (drop 4) e))
+operators_apart x y h k differ = unlike x y differ (codes "do_-" ++ encoded x) (codes "do_-" ++ encoded y) (λ e. names_are_encoded_once x y (ap (drop 4) e))

@@ -7,7 +7,7 @@ use Rattle.kp_tree_grammar.specs.Trees.{Cond, conds_of, effs_of, Pred, Domain, P
 use Rattle.kp_tree_grammar.specs.Words.{IsHead}
 use Rattle.kp_tree_grammar.specs.TreeMaps.{atom_map, cond_map, conds_map, eff_map, effs_map, item_map, pred_map, schema_map, domain_map, problem_map}
 use Rattle.kp_base.specs.Lists.{Member}
-use Rattle.kp_base.proofs.Each.{each_member}
+use Rattle.kp_base.proofs.Each.{each_member, each_weaker}
 use Rattle.kp_base.proofs.Lists.{same-refl}
 use Rattle.kp_names_meaning.specs.Names.{Name, same, is_among}
 use Rattle.kp_names_meaning.specs.Faults.{repeated, twice_in, words, head_faults, atom_faults, cond_faults, conds_faults, eff_faults, effs_faults, schema_faults, item_faults, HasNoFault}
@@ -16,7 +16,6 @@ use Rattle.kp_write.specs.Task.{Signed, Effect, Op}
 use Rattle.kp_write.specs.Names.{IsEffect, IsOp, AreHeads}
 use Rattle.kp_write.specs.Trees.{atom_of, fact_holds, signed_holds, made_where, effect_of, schema_of, predicate_of, item_of, written_domain, written_problem}
 use Rattle.kp_write.specs.Problems.{AreAmong, IsEffectOn, IsOpOn, IsTask, WrittenTextsHaveProblem}
-use Rattle.kp_write.proofs.Lists.{every}
 use Rattle.kp_write.proofs.Placed.{at_start, placed_domain, placed_problem, moved, domain_moved, problem_moved, same_no}
 use Rattle.kp_write.proofs.Whole.{written_domains_read, written_problems_read}
 
@@ -27,13 +26,13 @@ module _ (facts : List (List ℕ)) (heads : AreHeads facts) where
   head_is n m = each_member IsHead facts n heads m
 
   heads_are : (ns : List (List ℕ)) → AreAmong facts ns → AreHeads ns
-  heads_are ns all = every (Member facts) IsHead head_is ns all
+  heads_are ns all = each_weaker (Member facts) IsHead head_is ns all
 
   effect_is : (e : Effect) → IsEffectOn facts e → IsEffect e
-  effect_is e h = record { conds = every (λ s. Member facts s.fact) (λ s. IsHead s.fact) (λ s m. head_is s.fact m) e.conds h.conds; result = head_is e.result.fact h.result }
+  effect_is e h = record { conds = each_weaker (λ s. Member facts s.fact) (λ s. IsHead s.fact) (λ s m. head_is s.fact m) e.conds h.conds; result = head_is e.result.fact h.result }
 
   op_is : (o : Op) → IsOpOn facts o → IsOp o
-  op_is o h = record { name = h.name; pre = heads_are o.pre h.pre; effects = every (IsEffectOn facts) IsEffect effect_is o.effects h.effects }
+  op_is o h = record { name = h.name; pre = heads_are o.pre h.pre; effects = each_weaker (IsEffectOn facts) IsEffect effect_is o.effects h.effects }
 
 -- ---- no declaration twice
 
@@ -134,7 +133,7 @@ module _ (facts : List (List ℕ)) (ops : List Op) (start goal : List (List ℕ)
 
 pub written_texts_have_problem : WrittenTextsHaveProblem
 written_texts_have_problem facts ops start goal t =
-    let a = written_domains_read facts ops t.heads (every (IsOpOn facts) IsOp (op_is facts t.heads) ops t.operators) in
+    let a = written_domains_read facts ops t.heads (each_weaker (IsOpOn facts) IsOp (op_is facts t.heads) ops t.operators) in
     let b = written_problems_read start goal (heads_are facts t.heads start t.start_among) (heads_are facts t.heads goal t.goal_among) in
     let clean : HasNoFault (domain_map moved a.tree) (problem_map moved b.tree) = subst (λ x. HasNoFault x (problem_map moved b.tree)) (domain_moved a.tree (written_domain facts ops) a.is) (subst (λ y. HasNoFault (placed_domain facts ops) y) (problem_moved b.tree (written_problem start goal) b.is) (no_fault facts ops start goal t)) in
     record {

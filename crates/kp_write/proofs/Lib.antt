@@ -1,5 +1,4 @@
 pub mod Public
-pub mod Lists
 pub mod Fine
 pub mod Reading
 pub mod Whole

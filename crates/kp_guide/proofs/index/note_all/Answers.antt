@@ -1,4 +1,4 @@
-use Rattle.std.proofs.Common.{◌≡◌, ◌<◌, ◌∙◌, ◌∷◌, [], length, slice_index_or, sym, subst}
+use Rattle.std.proofs.Common.{◌<◌, ◌∷◌, [], length, slice_index_or, sym, subst}
 use Rattle.std.proofs.lemmas.Option.{slice_get-get_or}
 use Rattle.kp_guide.specs.Waiting.{Notes}
 use Rattle.kp_guide.proofs.Noting.{notes_on, notes_one}

@@ -1,4 +1,4 @@
-use Rattle.std.proofs.Common.{◌∙◌, Err, refl, sym, ap}
+use Rattle.std.proofs.Common.{Err, refl, ap}
 use Rattle.kp_run_outcome.proofs.Breaking.{put_stopped}
 use Rattle.kp_run_outcome.proofs.carry.carry_out.Goals as goal
 

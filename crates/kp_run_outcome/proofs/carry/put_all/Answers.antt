@@ -1,4 +1,4 @@
-use Rattle.std.proofs.Common.{◌+◌, ◌∷◌, drop, subst, ◌∙◌}
+use Rattle.std.proofs.Common.{◌+◌, drop, subst, ◌∙◌}
 use Rattle.kp_run_outcome.proofs.Fronts.{ArePut, left_at, put_next}
 use Rattle.kp_run_outcome.proofs.carry.put_all.Goals as goal
 

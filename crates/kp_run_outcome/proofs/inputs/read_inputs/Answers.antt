@@ -1,4 +1,4 @@
-use Rattle.std.proofs.Common.{◌+◌, ◌∷◌, [], drop, map, ap, subst, sym, ◌∙◌, refl}
+use Rattle.std.proofs.Common.{[], map, ap, subst, sym, ◌∙◌, refl}
 use Rattle.kp_run_outcome.proofs.Fronts.{AreReadTo, left_from, begin_gets, read_next}
 use Rattle.kp_run_outcome.proofs.inputs.read_inputs.Goals as goal
 

@@ -1,4 +1,4 @@
-use Rattle.std.proofs.Common.{◌≡◌, Some, map, sym, ap, ◌∙◌, length}
+use Rattle.std.proofs.Common.{map, sym, ap, ◌∙◌, length}
 use Rattle.kp_base.specs.ActionNames.{action_name}
 use Rattle.kp_run_solve.specs.Operators.{acts_among}
 use Rattle.kp_run_solve.proofs.Operators.{all_actions}

@@ -1,7 +1,5 @@
-use Rattle.std.proofs.Common.{◌≡◌, Some, map, option_map, length, sym, ap, ◌∙◌}
+use Rattle.std.proofs.Common.{map, option_map, length, sym, ap, ◌∙◌}
 use Rattle.kp_base.specs.ActionNames.{action_name}
-use Rattle.kp_law_ktask.specs.Task.{task_of}
-use Rattle.kp_lift.specs.Lifting.{operator_step}
 use Rattle.kp_run_solve.specs.Operators.{acts_among}
 use Rattle.kp_run_solve.proofs.Operators.{are_named}
 use Rattle.kp_run_solve.proofs.Told.{told_operators}

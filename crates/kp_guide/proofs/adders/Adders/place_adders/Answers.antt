@@ -1,9 +1,8 @@
-use Rattle.std.proofs.Common.{◌≡◌, ◌<◌, ◌∙◌, ◌∷◌, [], length, slice_index_or, sym, subst, arith, take}
+use Rattle.std.proofs.Common.{◌≡◌, ◌∙◌, slice_index_or, sym, subst, arith}
 use Rattle.std.proofs.lemmas.List.{take_all}
 use Rattle.std.proofs.lemmas.Option.{slice_get-get_or, slice_get_within}
 use Rattle.kp_base.specs.Lists.{Member}
 use Rattle.kp_base.proofs.Lists.{member_at}
-use Rattle.kp_guide.specs.Placing.{AddThere}
 use Rattle.kp_guide.specs.Waiting.{row}
 use Rattle.kp_guide.proofs.Listed.{row_adds, at_place}
 use Rattle.kp_guide.proofs.Noting.{row_read}

@@ -1,4 +1,4 @@
-use Rattle.std.proofs.Common.{◌≡◌, ◌<◌, ◌≤◌, ◌∙◌, [], length, slice_index_or, sym, ap, subst, arith}
+use Rattle.std.proofs.Common.{◌≡◌, ◌<◌, ◌∙◌, [], length, slice_index_or, sym, ap, subst, arith}
 use Rattle.kp_base.specs.Lists.{Member}
 use Rattle.kp_guide.specs.Relaxed.{at}
 use Rattle.kp_guide.specs.Waiting.{row}

@@ -1,4 +1,4 @@
-use Rattle.std.proofs.Common.{◌≡◌, ℕ, zero, Option, Some, None, Result, Ok, Err, ap, subst}
+use Rattle.std.proofs.Common.{◌≡◌, ℕ, Option, Some, None, Result, Ok, Err, ap, subst}
 use Rattle.kp_base.specs.declared.memory.Memory.{Memory}
 use Rattle.kp_classic.specs.States.{has}
 use Rattle.kp_guide.specs.Added.{IsAdded}
