@@ -7,10 +7,10 @@ use Rattle.kp_base.specs.Entailed.{IsClosure}
 use Rattle.kp_base.specs.Steps.{State, holds, is_model, next, state_after}
 use Rattle.kp_base.proofs.Lists.{all_member, all_from, any_map, member_at}
 use Rattle.kp_base.proofs.Lits.{has-member}
-use Rattle.kp_primes_models.specs.declared.truth.Truth.{Truth}
-use Rattle.kp_primes_models.specs.Asked.{Judges, is_wanted, passes_one, test_at}
-use Rattle.kp_primes_models.specs.Truths.{IsTruth, opposite}
-use Rattle.kp_primes_models.proofs.Public.{truth_of_not}
+use Rattle.kp_primes_first_model.specs.declared.truth.Truth.{Truth}
+use Rattle.kp_primes_first_model.specs.Asked.{Judges, is_wanted, passes_one, test_at}
+use Rattle.kp_primes_first_model.specs.Truths.{IsTruth, opposite}
+use Rattle.kp_primes_first_model.proofs.Public.{truth_of_not}
 use Rattle.kp_check.specs.declared.failing.At.{At}
 use Rattle.kp_check.specs.Judging.{fails}
 use Rattle.kp_check.specs.Values.{truth_at, next_values, start}

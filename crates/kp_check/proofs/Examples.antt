@@ -6,7 +6,7 @@ use Rattle.kp_base.specs.declared.ground.GroundName.{GroundName}
 use Rattle.kp_base.specs.Lit.{positive, negative, code_of}
 use Rattle.kp_base.specs.Steps.{State, holds, succeeds, IsLeastMissing}
 use Rattle.kp_base.specs.Implicates.{IsOfItsAtoms}
-use Rattle.kp_primes_models.specs.Ordered.{state_of_atoms}
+use Rattle.kp_primes_first_model.specs.Ordered.{state_of_atoms}
 use Rattle.kp_check.specs.Failing.{FailAt}
 
 nameless : GroundName

@@ -11,12 +11,12 @@ use Rattle.kp_base.specs.Lit.{has}
 use Rattle.kp_base.proofs.Lists.{member_map, range_there}
 use Rattle.kp_base.proofs.Lits.{has-member}
 use Rattle.kp_base.proofs.Places.{none_past}
-use Rattle.kp_primes_models.specs.declared.truth.Truth.{Truth}
-use Rattle.kp_primes_models.specs.declared.truth.Truth.TheVariants.{Yes, No, Open}
-use Rattle.kp_primes_models.specs.Known.{is_decided}
-use Rattle.kp_primes_models.specs.Truths.{IsTruth}
-use Rattle.kp_primes_models.specs.Ordered.{state_of_atoms, IsFirst}
-use Rattle.kp_primes_models.specs.Asked.{is_wanted}
+use Rattle.kp_primes_first_model.specs.declared.truth.Truth.{Truth}
+use Rattle.kp_primes_first_model.specs.declared.truth.Truth.TheVariants.{Yes, No, Open}
+use Rattle.kp_primes_first_model.specs.Known.{is_decided}
+use Rattle.kp_primes_first_model.specs.Truths.{IsTruth}
+use Rattle.kp_primes_first_model.specs.Ordered.{state_of_atoms, IsFirst}
+use Rattle.kp_primes_first_model.specs.Asked.{is_wanted}
 use Rattle.kp_base.specs.declared.ground.Initial.{Initial}
 use Rattle.kp_check.specs.declared.failing.At.{At}
 use Rattle.kp_check.specs.Values.{truth_at, stepped, next_values}

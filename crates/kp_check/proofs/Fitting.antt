@@ -9,10 +9,10 @@ use Rattle.kp_base.specs.declared.ground.Effect.{Effect}
 use Rattle.kp_base.specs.declared.ground.Action.{Action}
 use Rattle.kp_base.specs.Planning.{signed, positive, negative, same_lit, State, holds, fires, after, are_below, effect_below}
 use Rattle.kp_base.proofs.Lists.{all_member}
-use Rattle.kp_primes_models.specs.declared.truth.Truth.{Truth}
-use Rattle.kp_primes_models.specs.declared.truth.Truth.TheVariants.{Yes, No}
-use Rattle.kp_primes_models.specs.Truths.{IsTruth, opposite, both, either, truth_in}
-use Rattle.kp_primes_models.proofs.Public.{truth_of_not, truth_of_and, truth_of_or, truth_of_all, truth_of_literal}
+use Rattle.kp_primes_first_model.specs.declared.truth.Truth.{Truth}
+use Rattle.kp_primes_first_model.specs.declared.truth.Truth.TheVariants.{Yes, No}
+use Rattle.kp_primes_first_model.specs.Truths.{IsTruth, opposite, both, either, truth_in}
+use Rattle.kp_primes_first_model.proofs.Public.{truth_of_not, truth_of_and, truth_of_or, truth_of_all, truth_of_literal}
 use Rattle.kp_check.specs.Values.{value_of, value_at, truth_at, all_true, with_value, start, firing, deleted, added, stepped}
 
 -- ---- lists of values

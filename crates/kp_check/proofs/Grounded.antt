@@ -8,7 +8,7 @@ use Rattle.kp_base.specs.declared.ground.Ground.{Ground}
 use Rattle.kp_base.specs.Steps.{State, next}
 use Rattle.kp_base.specs.Implicates.{are_below, effect_below, action_below, IsOfItsAtoms}
 use Rattle.kp_base.proofs.Lists.{all_member, member_at}
-use Rattle.kp_primes_models.specs.declared.truth.Truth.{Truth}
+use Rattle.kp_primes_first_model.specs.declared.truth.Truth.{Truth}
 use Rattle.kp_check.specs.Values.{next_values}
 use Rattle.kp_check.proofs.Fitting.{Fits, stepped_fits}
 

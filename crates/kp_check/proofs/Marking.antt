@@ -10,9 +10,9 @@ use Rattle.kp_base.specs.declared.ground.Initial.{Initial}
 use Rattle.kp_base.specs.Steps.{State, holds, applicable, next, after, state_after, succeeds, pre_of}
 use Rattle.kp_base.specs.Implicates.{are_below}
 use Rattle.kp_base.proofs.Places.{none_past}
-use Rattle.kp_primes_models.specs.declared.truth.Truth.{Truth}
-use Rattle.kp_primes_models.specs.declared.truth.Truth.TheVariants.{Yes, No, Open}
-use Rattle.kp_primes_models.specs.Truths.{IsTruth}
+use Rattle.kp_primes_first_model.specs.declared.truth.Truth.{Truth}
+use Rattle.kp_primes_first_model.specs.declared.truth.Truth.TheVariants.{Yes, No, Open}
+use Rattle.kp_primes_first_model.specs.Truths.{IsTruth}
 use Rattle.kp_check.specs.declared.failing.At.{At}
 use Rattle.kp_check.specs.Values.{truth_at, next_values, start}
 use Rattle.kp_check.specs.Marks.{is_yes, with_open, open_marks, are_marks_below, AreInEach, AreMarks}

@@ -3,8 +3,8 @@ use Rattle.std.specs.Prelude.{ℕ, Bool, not, List}
 use Rattle.kp_base.specs.declared.ground.Ground.{Ground}
 use Rattle.kp_base.specs.declared.ground.Initial.{Initial}
 use Rattle.kp_base.specs.Steps.{State, succeeds, IsGroundPlan}
-use Rattle.kp_primes_models.specs.Asked.{is_wanted}
-use Rattle.kp_primes_models.specs.Ordered.{AreFirst, state_of_atoms}
+use Rattle.kp_primes_first_model.specs.Asked.{is_wanted}
+use Rattle.kp_primes_first_model.specs.Ordered.{AreFirst, state_of_atoms}
 use Rattle.kp_check.specs.Failing.{FailAt}
 use Rattle.kp_check.specs.declared.answer.Judged.{Judged}
 use Rattle.kp_check.specs.declared.answer.Judged.TheVariants.{Yes, No}

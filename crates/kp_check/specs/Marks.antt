@@ -6,8 +6,8 @@ use Rattle.kp_base.specs.declared.ground.Ground.{Ground}
 use Rattle.kp_base.specs.declared.ground.Initial.{Initial}
 use Rattle.kp_base.specs.Steps.{State, holds, is_model, state_after, succeeds, asked}
 use Rattle.kp_base.specs.Implicates.{IsOfItsAtoms}
-use Rattle.kp_primes_models.specs.declared.truth.Truth.{Truth}
-use Rattle.kp_primes_models.specs.declared.truth.Truth.TheVariants.{Yes, No, Open}
+use Rattle.kp_primes_first_model.specs.declared.truth.Truth.{Truth}
+use Rattle.kp_primes_first_model.specs.declared.truth.Truth.TheVariants.{Yes, No, Open}
 use Rattle.kp_check.specs.declared.failing.At.{At}
 use Rattle.kp_check.specs.Values.{truth_at, next_values}
 

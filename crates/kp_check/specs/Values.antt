@@ -5,9 +5,9 @@ use Rattle.kp_base.specs.declared.lit.Lit.{Lit}
 use Rattle.kp_base.specs.declared.ground.Effect.{Effect}
 use Rattle.kp_base.specs.declared.ground.Action.{Action}
 use Rattle.kp_base.specs.Lit.{positive}
-use Rattle.kp_primes_models.specs.declared.truth.Truth.{Truth}
-use Rattle.kp_primes_models.specs.declared.truth.Truth.TheVariants.{Yes, No}
-use Rattle.kp_primes_models.specs.Truths.{opposite, both, either, truth_in}
+use Rattle.kp_primes_first_model.specs.declared.truth.Truth.{Truth}
+use Rattle.kp_primes_first_model.specs.declared.truth.Truth.TheVariants.{Yes, No}
+use Rattle.kp_primes_first_model.specs.Truths.{opposite, both, either, truth_in}
 use Rattle.kp_check.specs.declared.steps.Firing.{Firing}
 
 abbrev pub value_of : Option Truth → Truth

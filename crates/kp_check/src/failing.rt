@@ -1,13 +1,13 @@
 ghost use Rattle.std.specs.Prelude.{◌≡◌, ◌<◌, length, slice_get, IfOk};
 ghost use Rattle.kp_base.specs.LitSet.{IsAscending};
-ghost use Rattle.kp_primes_models.specs.Ordered.{state_of_atoms};
+ghost use Rattle.kp_primes_first_model.specs.Ordered.{state_of_atoms};
 ghost use Rattle.kp_base.specs.Steps.{pre_of};
 ghost use Rattle.kp_check.specs.FailingValues.{decided, first_no, failure_in, state_values, AscendsAt};
 
 use crate::steps::Walk;
 use crate::values::truth_at;
 use kp_base::{AtomId, Ground, Lit, Memory};
-use kp_primes_models::Truth;
+use kp_primes_first_model::Truth;
 use std::alloc::Global;
 
 /// A step by its number from 0, or the goal by the number of all steps, and a literal there.

@@ -1,8 +1,8 @@
 ghost use Rattle.std.specs.Prelude.{◌≡◌, ◌<◌, true, length, map, nat_lt, IfOk};
 ghost use Rattle.std.specs.List.{list_all};
 ghost use Rattle.kp_primes.specs.Held.{formula};
-ghost use Rattle.kp_primes_models.specs.Asked.{is_wanted};
-ghost use Rattle.kp_primes_models.specs.Ordered.{AnswersFirst};
+ghost use Rattle.kp_primes_first_model.specs.Asked.{is_wanted};
+ghost use Rattle.kp_primes_first_model.specs.Ordered.{AnswersFirst};
 ghost use Rattle.kp_base.specs.Implicates.{IsOfItsAtoms};
 ghost use Rattle.kp_check.specs.Judging.{fails};
 ghost use Rattle.kp_check.specs.Marks.{is_false_at, IsReady, AreInEach, AreMarks};
@@ -12,7 +12,7 @@ use crate::marks::{open_marks, truth_later};
 use crate::values::start;
 use kp_base::{AtomId, Ground, LitSet, Memory, Row};
 use kp_primes::Primes;
-use kp_primes_models::{Question, Seen, Truth, first, first_goes_by_what_passes};
+use kp_primes_first_model::{Question, Seen, Truth, first, first_goes_by_what_passes};
 use std::alloc::Global;
 
 // The states in which one of these literals is false in its turn.

@@ -6,7 +6,7 @@ use crate::failing::{At, pre};
 use crate::steps::Walk;
 use crate::values::truth_at;
 use kp_base::{Ground, Lit, Memory};
-use kp_primes_models::Truth;
+use kp_primes_first_model::Truth;
 use std::alloc::Global;
 
 // Notes a literal at a step, unless it is true there.

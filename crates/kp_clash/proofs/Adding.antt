@@ -6,7 +6,7 @@ use Rattle.kp_base.specs.declared.ground.Effect.{Effect}
 use Rattle.kp_base.specs.declared.ground.Action.{Action}
 use Rattle.kp_base.specs.Clashes.{Pairs, compatible_effects}
 use Rattle.kp_base.proofs.Lists.{any_from, any_member}
-use Rattle.kp_clash_pairs.specs.Removed.{adds_pair}
+use Rattle.kp_clash_exclusive.specs.Removed.{adds_pair}
 
 pub adds_none : (pairs : Pairs) (a : Action) (e : Effect) → list_any (λ f. f.result.positive && pairs e.result.atom.0 f.result.atom.0) a.effects ≡ false → list_any (adds_pair pairs a e) a.effects ≡ false
 adds_none pairs a e none = false_from_ne_true (list_any (adds_pair pairs a e) a.effects) (λ h.

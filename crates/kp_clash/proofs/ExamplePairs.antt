@@ -10,8 +10,8 @@ use Rattle.kp_base.specs.declared.ground.Ground.{Ground}
 use Rattle.kp_base.specs.declared.ground.Initial.{Initial}
 use Rattle.kp_base.specs.Planning.{Member, positive, negative, holds, Pairs, HasNoClash, IsFirstClash, NeverAtTheStart, IsInductive, IsExclusive}
 use Rattle.kp_base.proofs.Lists.{all_member}
-use Rattle.kp_clash_pairs.specs.Settled.{stays}
-use Rattle.kp_clash_pairs.proofs.Public.{settled_inductive}
+use Rattle.kp_clash_exclusive.specs.Settled.{stays}
+use Rattle.kp_clash_exclusive.proofs.Public.{settled_inductive}
 use Rattle.kp_clash.proofs.InOrder.{first_is, none_is}
 
 abbrev nullary : List ℕ → GroundName

@@ -10,10 +10,10 @@ use Rattle.kp_base.specs.Planning.{Member, negated, IsImplicate, is_tautology, S
 use Rattle.kp_base.specs.Steps.{has}
 use Rattle.kp_base.proofs.Lists.{all_member, all_from, any_member}
 use Rattle.kp_primes.specs.Held.{Held, formula, AreWhole}
-use Rattle.kp_clash_pairs.specs.Paired.{is_pair, words_of, place_of, is_marked, IsSquare}
-use Rattle.kp_clash_pairs.specs.Starting.{not_both, denies, denied, IsMarkedWith}
+use Rattle.kp_clash_exclusive.specs.Paired.{is_pair, words_of, place_of, is_marked, IsSquare}
+use Rattle.kp_clash_exclusive.specs.Starting.{not_both, denies, denied, IsMarkedWith}
 use Rattle.kp_clash.specs.Settling.{AreNeverTogether, IsSettled}
-use Rattle.kp_clash_pairs.proofs.Public.{settled_exclusive, pair_turned, inductive_kept, marked_are_two_below, literal_of_a_denied_pair}
+use Rattle.kp_clash_exclusive.proofs.Public.{settled_exclusive, pair_turned, inductive_kept, marked_are_two_below, literal_of_a_denied_pair}
 
 -- ---- the start
 

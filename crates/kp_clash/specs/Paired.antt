@@ -1,2 +1,2 @@
 -- Pairs of atoms as a list.
-pub use Rattle.kp_clash_pairs.specs.Paired.{are_both, is_pair, all_below}
+pub use Rattle.kp_clash_exclusive.specs.Paired.{are_both, is_pair, all_below}

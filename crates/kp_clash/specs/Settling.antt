@@ -5,9 +5,9 @@ use Rattle.kp_base.specs.declared.ground.Initial.{Initial}
 use Rattle.kp_base.specs.Steps.{State, is_model}
 use Rattle.kp_base.specs.Clashes.{Pairs}
 use Rattle.kp_base.specs.Exclusive.{ArePairs, NeverAtTheStart}
-use Rattle.kp_clash_pairs.specs.Paired.{is_pair}
-use Rattle.kp_clash_pairs.specs.Settled.{stays}
-use Rattle.kp_clash_pairs.specs.Removed.{Shrinks}
+use Rattle.kp_clash_exclusive.specs.Paired.{is_pair}
+use Rattle.kp_clash_exclusive.specs.Settled.{stays}
+use Rattle.kp_clash_exclusive.specs.Removed.{Shrinks}
 
 -- just the pairs of atoms below this number that no initial state has together
 pub record AreNeverTogether (i : Initial) (atoms : ℕ) (pairs : Pairs) : Type 0 where

@@ -5,13 +5,13 @@ ghost use Rattle.std.specs.List.{list_any};
 ghost use Rattle.kp_base.specs.declared.ground.Action.{Action as ActionOf};
 ghost use Rattle.kp_base.specs.Clashes.{are_compatible};
 ghost use Rattle.kp_base.specs.Lists.{Member};
-ghost use Rattle.kp_clash_pairs.specs.Paired.{is_pair};
-ghost use Rattle.kp_clash_pairs.specs.Removed.{breaks, adds_pair, FindsAlone, FindsTogether, FindsOfEffect, FindsBroken};
-ghost use Rattle.kp_clash_pairs.specs.Left.{AreLeft, AreLone, Notes, FindsInWord};
+ghost use Rattle.kp_clash_exclusive.specs.Paired.{is_pair};
+ghost use Rattle.kp_clash_exclusive.specs.Removed.{breaks, adds_pair, FindsAlone, FindsTogether, FindsOfEffect, FindsBroken};
+ghost use Rattle.kp_clash_exclusive.specs.Left.{AreLeft, AreLone, Notes, FindsInWord};
 
 use kp_base::{Action, AtomId, Effect, Ground};
 use kp_bits::has_bit;
-use kp_clash_pairs::{
+use kp_clash_exclusive::{
     Pairs, Tables, WORDS, all_join, atoms_alone, atoms_left, candidates, is_alone, is_small,
     may_add_pair, may_fire, pre_compatible, words_of,
 };

@@ -4,12 +4,12 @@ ghost use Rattle.kp_base.specs.declared.ground.Action.{Action as ActionOf};
 ghost use Rattle.kp_base.specs.declared.ground.Effect.{Effect as EffectOf};
 ghost use Rattle.kp_base.specs.Clashes.{HasNoClash, IsFirstClash};
 ghost use Rattle.kp_base.specs.Counted.{IsCounted};
-ghost use Rattle.kp_clash_pairs.specs.Paired.{is_pair};
+ghost use Rattle.kp_clash_exclusive.specs.Paired.{is_pair};
 ghost use Rattle.kp_clash.specs.Searching.{all_noted, clash_together, found_at, keep, best_from, first_from};
 
 use crate::deleted::{all_slots, deletes_some, may_be_deleted, slots_of_deletes};
 use kp_base::{Action, ClashAt, Effect, Ground};
-use kp_clash_pairs::{Pairs, SLOTS, are_compatible};
+use kp_clash_exclusive::{Pairs, SLOTS, are_compatible};
 
 // Whether the effects are an add and a delete of one atom, under conditions that may hold together.
 fn clash_together(pairs: &Pairs, action: &Action, add: &Effect, delete: &Effect) -> bool

@@ -4,7 +4,7 @@ ghost use Rattle.kp_base.specs.declared.ground.Effect.{Effect as EffectOf};
 ghost use Rattle.kp_clash.specs.Searching.{KeepsMarks, is_noted, all_noted, may_be_deleted};
 
 use kp_base::{AtomId, Effect};
-use kp_clash_pairs::SLOTS;
+use kp_clash_exclusive::SLOTS;
 
 // Marks the slot of the atom of an effect that deletes it.
 fn note(slots: &mut [bool; SLOTS], effect: &Effect)

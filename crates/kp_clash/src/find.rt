@@ -1,13 +1,13 @@
 ghost use Rattle.std.specs.Prelude.{◌≡◌, length, IfOk};
 ghost use Rattle.kp_base.specs.Exclusive.{AreExclusive};
 ghost use Rattle.kp_primes.specs.Held.{formula};
-ghost use Rattle.kp_clash_pairs.specs.Paired.{is_pair};
+ghost use Rattle.kp_clash_exclusive.specs.Paired.{is_pair};
 ghost use Rattle.kp_clash.specs.Settling.{AreNeverTogether};
 
 use crate::settle::settle;
 use kp_base::{Ground, Memory};
 use kp_bits::Bits;
-use kp_clash_pairs::{Pairs, mark_clauses, table_size};
+use kp_clash_exclusive::{Pairs, mark_clauses, table_size};
 use kp_primes::Primes;
 use std::alloc::Global;
 

@@ -11,4 +11,4 @@ mod settle;
 
 pub use clash::clash_test;
 pub use find::exclusive;
-pub use kp_clash_pairs::Pairs;
+pub use kp_clash_exclusive::Pairs;

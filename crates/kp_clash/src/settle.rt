@@ -1,12 +1,12 @@
 //! Removes pairs that don't stay.
 ghost use Rattle.std.specs.Prelude.{◌<◌, length, OnOk};
-ghost use Rattle.kp_clash_pairs.specs.Paired.{is_pair};
-ghost use Rattle.kp_clash_pairs.specs.Removed.{IsBroken, Shrinks};
+ghost use Rattle.kp_clash_exclusive.specs.Paired.{is_pair};
+ghost use Rattle.kp_clash_exclusive.specs.Removed.{IsBroken, Shrinks};
 ghost use Rattle.kp_clash.specs.Settling.{IsSettled};
 
 use crate::broken::broken;
 use kp_base::{AtomId, Ground, Memory};
-use kp_clash_pairs::Pairs;
+use kp_clash_exclusive::Pairs;
 use kp_clash_sweeps::{Asking, Touched, sweep_on};
 use std::alloc::Global;
 

@@ -10,7 +10,7 @@ use Rattle.kp_base.specs.Clashes.{Pairs, are_exclusive}
 use Rattle.kp_base.proofs.Lists.{all_member, all_weaker, any_member}
 use Rattle.kp_base.proofs.Lits.{same_lit-true, same_lit-negated, has-member}
 use Rattle.kp_bits.specs.Packed.{bit_in}
-use Rattle.kp_clash_pairs.specs.Left.{KeepsBits, is_asked, all_asked}
+use Rattle.kp_clash_exclusive.specs.Left.{KeepsBits, is_asked, all_asked}
 
 stay_asked : (old new : List ℕ) (ls : List Lit) → KeepsBits old new → all_asked old ls ≡ true → all_asked new ls ≡ true
 stay_asked old new ls keeps = all_weaker (is_asked old) (is_asked new) ls (λ l _. by l.atom.0 (not l.positive) (not (nat_lt l.atom.0 65536)))

@@ -2,10 +2,10 @@
 use Rattle.std.proofs.Common.{◌≡◌, ◌<◌, ◌≤◌, ◌+◌, ◌*◌, ◌/◌, ◌%◌, ℕ, Bool, true, false, not, ◌&&◌, ◌||◌, List, Some, slice_get, nat_eq, nat_lt, inl, inr, sym, ap, subst, ◌∙◌, arith}
 use Rattle.std.proofs.lemmas.Bool.{and_parts, or_cases, or_left, ltb-true, eqb-true, false≢true, lt-ltb, cases_lt}
 use Rattle.std.proofs.lemmas.Bool.Decides.{nat_tests}
-use Rattle.kp_clash_pairs.specs.Paired.{words_of, is_marked, marked, IsSquare}
-use Rattle.kp_clash_pairs.specs.Starting.{pair_of, between, IsMarkedWith}
-use Rattle.kp_clash_pairs.proofs.Marked.{is_pair_marked, in_word}
-use Rattle.kp_clash_pairs.proofs.Starting.{with_below}
+use Rattle.kp_clash_exclusive.specs.Paired.{words_of, is_marked, marked, IsSquare}
+use Rattle.kp_clash_exclusive.specs.Starting.{pair_of, between, IsMarkedWith}
+use Rattle.kp_clash_exclusive.proofs.Marked.{is_pair_marked, in_word}
+use Rattle.kp_clash_exclusive.proofs.Starting.{with_below}
 
 pub nothing_between : (p from r s : ℕ) → between p from from r s ≡ true → ⊥
 nothing_between p from r s h = grind (arith, nat_tests)

@@ -10,10 +10,10 @@ use Rattle.kp_base.specs.declared.ground.Action.{Action}
 use Rattle.kp_base.specs.Planning.{Member, positive, negative, negated, same_lit, Pairs, are_exclusive, are_compatible, compatible_effects, firing_with}
 use Rattle.kp_base.proofs.Lists.{bool_same, all_member, all_from, any_from, any_member, member_left, member_right, append_member}
 use Rattle.kp_base.proofs.Lits.{same_lit-true, same_lit-negated}
-use Rattle.kp_clash_pairs.specs.Settled.{deletes_within, keeps_apart}
-use Rattle.kp_clash_pairs.specs.Removed.{breaks, adds_pair, BreaksNone}
-use Rattle.kp_clash_pairs.proofs.Greatest.{is_lit}
-use Rattle.kp_clash_pairs.proofs.Removing.{is_positive}
+use Rattle.kp_clash_exclusive.specs.Settled.{deletes_within, keeps_apart}
+use Rattle.kp_clash_exclusive.specs.Removed.{breaks, adds_pair, BreaksNone}
+use Rattle.kp_clash_exclusive.proofs.Greatest.{is_lit}
+use Rattle.kp_clash_exclusive.proofs.Removing.{is_positive}
 
 -- ---- literals
 

@@ -12,7 +12,7 @@ use Rattle.kp_base.specs.Implicates.{is_within}
 use Rattle.kp_base.proofs.Lists.{all_weaker, all_from, all_member, any_from, any_member}
 use Rattle.kp_base.proofs.Lits.{same_lit-true, same_lit-refl}
 use Rattle.kp_base.proofs.Exclusive.{compatible_under_fewer}
-use Rattle.kp_clash_pairs.specs.Settled.{adds_both, never_adds_both, deletes_within, keeps_apart, all_keep_apart, stays_in, stays}
+use Rattle.kp_clash_exclusive.specs.Settled.{adds_both, never_adds_both, deletes_within, keeps_apart, all_keep_apart, stays_in, stays}
 
 pub is_lit : (k l : Lit) → k ≡ l → same_lit k l ≡ true
 is_lit k l e = subst (λ (x : Lit). same_lit k x ≡ true) e (same_lit-refl k)

@@ -10,9 +10,9 @@ use Rattle.kp_base.specs.Lit.{positive}
 use Rattle.kp_base.specs.Clashes.{Pairs, are_exclusive, compatible_effects}
 use Rattle.kp_base.proofs.Lists.{bool_same, all_member, all_from, any_member, member_left, member_right}
 use Rattle.kp_bits.specs.Packed.{bit_in}
-use Rattle.kp_clash_pairs.specs.Left.{AreLeft, is_set, is_asked, all_asked}
-use Rattle.kp_clash_pairs.specs.Removed.{adds_pair}
-use Rattle.kp_clash_pairs.proofs.Small.{all_set}
+use Rattle.kp_clash_exclusive.specs.Left.{AreLeft, is_set, is_asked, all_asked}
+use Rattle.kp_clash_exclusive.specs.Removed.{adds_pair}
+use Rattle.kp_clash_exclusive.proofs.Small.{all_set}
 
 -- at first all bits are set
 pub left_first : (pairs : Pairs) (pre cs : List Lit) → AreLeft pairs pre cs (replicate 1024 18446744073709551615)

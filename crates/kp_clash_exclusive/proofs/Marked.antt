@@ -8,7 +8,7 @@ use Rattle.std.specs.List.{range_with_len}
 use Rattle.kp_base.specs.Lists.{Member}
 use Rattle.kp_base.proofs.Lists.{bool_same, any_from, any_member, member_map, member_flat_map, member_filter, filter_member, range_there}
 use Rattle.kp_base.proofs.Cases.{orders}
-use Rattle.kp_clash_pairs.specs.Paired.{are_both, is_pair, words_of, place_of, is_marked, all_below, marked, IsSquare}
+use Rattle.kp_clash_exclusive.specs.Paired.{are_both, is_pair, words_of, place_of, is_marked, all_below, marked, IsSquare}
 
 -- ---- places
 

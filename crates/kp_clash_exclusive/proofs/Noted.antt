@@ -14,10 +14,10 @@ use Rattle.kp_base.specs.Planning.{Member, positive, negative, same_lit, Pairs, 
 use Rattle.kp_base.specs.Lit.{has}
 use Rattle.kp_base.proofs.Lists.{all_member, all_weaker, any_weaker, any_from, any_member}
 use Rattle.kp_bits.specs.Packed.{bit_in}
-use Rattle.kp_clash_pairs.specs.Settled.{deletes_within, keeps_apart}
-use Rattle.kp_clash_pairs.specs.Left.{KeepsBits, is_added, all_added, AreDeleted}
-use Rattle.kp_clash_pairs.specs.Removed.{breaks, adds_pair, BreaksNone}
-use Rattle.kp_clash_pairs.proofs.Greatest.{is_lit}
+use Rattle.kp_clash_exclusive.specs.Settled.{deletes_within, keeps_apart}
+use Rattle.kp_clash_exclusive.specs.Left.{KeepsBits, is_added, all_added, AreDeleted}
+use Rattle.kp_clash_exclusive.specs.Removed.{breaks, adds_pair, BreaksNone}
+use Rattle.kp_clash_exclusive.proofs.Greatest.{is_lit}
 
 -- a bit that isn't set
 clear_bit : (b : ℕ) → b < 2 → (b ≡ 1 → ⊥) → b ≡ 0

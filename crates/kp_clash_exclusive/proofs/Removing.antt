@@ -10,10 +10,10 @@ use Rattle.kp_base.specs.declared.ground.Initial.{Initial}
 use Rattle.kp_base.specs.Planning.{Member, positive, same_lit, Pairs, are_compatible, compatible_effects, IsPart, firing_with, IsInductive}
 use Rattle.kp_base.proofs.Lists.{all_member, all_from, any_from}
 use Rattle.kp_base.proofs.Lits.{same_lit-true}
-use Rattle.kp_clash_pairs.specs.Paired.{are_both, is_pair}
-use Rattle.kp_clash_pairs.specs.Settled.{adds_both, never_adds_both, deletes_within, keeps_apart, all_keep_apart, stays_in}
-use Rattle.kp_clash_pairs.specs.Removed.{IsWithout, AreKeptBy, Shrinks, breaks, adds_pair, BreaksNone, IsBroken}
-use Rattle.kp_clash_pairs.proofs.Greatest.{is_lit, Parts, parts_of, stays_by, all_stay_more, inductive_stays}
+use Rattle.kp_clash_exclusive.specs.Paired.{are_both, is_pair}
+use Rattle.kp_clash_exclusive.specs.Settled.{adds_both, never_adds_both, deletes_within, keeps_apart, all_keep_apart, stays_in}
+use Rattle.kp_clash_exclusive.specs.Removed.{IsWithout, AreKeptBy, Shrinks, breaks, adds_pair, BreaksNone, IsBroken}
+use Rattle.kp_clash_exclusive.proofs.Greatest.{is_lit, Parts, parts_of, stays_by, all_stay_more, inductive_stays}
 
 -- ---- pairs in either order
 

@@ -8,10 +8,10 @@ use Rattle.kp_base.specs.declared.ground.Effect.{Effect}
 use Rattle.kp_base.specs.declared.ground.Action.{Action}
 use Rattle.kp_base.proofs.Lists.{all_from}
 use Rattle.kp_bits.specs.Packed.{bit_in}
-use Rattle.kp_clash_pairs.specs.Between.{AreBetween}
-use Rattle.kp_clash_pairs.specs.Left.{is_set, is_added, is_asked, AreNoted}
-use Rattle.kp_clash_pairs.proofs.Noted.{none_set}
-use Rattle.kp_clash_pairs.proofs.Spans.{get_below}
+use Rattle.kp_clash_exclusive.specs.Between.{AreBetween}
+use Rattle.kp_clash_exclusive.specs.Left.{is_set, is_added, is_asked, AreNoted}
+use Rattle.kp_clash_exclusive.proofs.Noted.{none_set}
+use Rattle.kp_clash_exclusive.proofs.Spans.{get_below}
 
 zeros : (n k : ℕ) → get_or (replicate n zero) k zero ≡ zero
 zeros n k = ⊎_elim (λ l. get_or-replicate n k zero zero l) (λ ge. get_or_past (replicate n zero) k zero (rw (length-replicate n zero) ge)) (cases_lt k n)

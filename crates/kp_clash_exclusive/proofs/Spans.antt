@@ -10,8 +10,8 @@ use Rattle.kp_base.specs.Lit.{negative, same_lit}
 use Rattle.kp_base.proofs.Lists.{any_from, any_member, number_at}
 use Rattle.kp_base.proofs.Lits.{same_lit-true}
 use Rattle.kp_base.proofs.Places.{item_member}
-use Rattle.kp_clash_pairs.specs.Between.{IsBetween, AreBetween, Falls, Rises, DeletesFrom}
-use Rattle.kp_clash_pairs.specs.Settled.{deletes_within}
+use Rattle.kp_clash_exclusive.specs.Between.{IsBetween, AreBetween, Falls, Rises, DeletesFrom}
+use Rattle.kp_clash_exclusive.specs.Settled.{deletes_within}
 
 -- with wider places still
 pub still_between : (f g e h : List ℕ) (i : ℕ) (d : Effect) → Falls f g → Rises e h → IsBetween f e i d → IsBetween g h i d

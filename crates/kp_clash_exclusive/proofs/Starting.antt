@@ -7,9 +7,9 @@ use Rattle.kp_base.specs.declared.lit.Lit.{Lit}
 use Rattle.kp_base.specs.Planning.{negative, same_lit, code_of, IsAscending, Pairs}
 use Rattle.kp_base.specs.Steps.{has}
 use Rattle.kp_base.proofs.Lits.{same_lit-true}
-use Rattle.kp_clash_pairs.specs.Paired.{are_both, is_marked, IsSquare, IsWritten}
-use Rattle.kp_clash_pairs.specs.Starting.{not_both, denies, pair_of, all_with, IsMarkedWith}
-use Rattle.kp_clash_pairs.proofs.Greatest.{is_lit}
+use Rattle.kp_clash_exclusive.specs.Paired.{are_both, is_marked, IsSquare, IsWritten}
+use Rattle.kp_clash_exclusive.specs.Starting.{not_both, denies, pair_of, all_with, IsMarkedWith}
+use Rattle.kp_clash_exclusive.proofs.Greatest.{is_lit}
 
 -- ---- what is marked, step by step
 

@@ -6,9 +6,9 @@ use Rattle.std.proofs.lemmas.List.{length-set, get_or-set_same, get_or-set_other
 use Rattle.std.proofs.lemmas.Nat.{div-mul-add, mod-mul-add}
 use Rattle.kp_base.specs.Lists.{Member}
 use Rattle.kp_base.proofs.Cases.{orders}
-use Rattle.kp_clash_pairs.specs.Paired.{are_both, is_pair, words_of, place_of, is_marked, all_below, marked, IsSquare, IsWritten}
-use Rattle.kp_clash_pairs.specs.Removed.{IsWithout}
-use Rattle.kp_clash_pairs.proofs.Marked.{place_below, inside, in_all, marked_in, is_pair_marked}
+use Rattle.kp_clash_exclusive.specs.Paired.{are_both, is_pair, words_of, place_of, is_marked, all_below, marked, IsSquare, IsWritten}
+use Rattle.kp_clash_exclusive.specs.Removed.{IsWithout}
+use Rattle.kp_clash_exclusive.proofs.Marked.{place_below, inside, in_all, marked_in, is_pair_marked}
 
 -- ---- lists of which less passes a test
 

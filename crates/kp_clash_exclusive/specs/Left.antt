@@ -9,10 +9,10 @@ use Rattle.kp_base.specs.declared.ground.Action.{Action}
 use Rattle.kp_base.specs.Lit.{positive}
 use Rattle.kp_base.specs.Clashes.{Pairs, are_exclusive}
 use Rattle.kp_bits.specs.Packed.{bit_in, bit_of}
-use Rattle.kp_clash_pairs.specs.declared.tables.Tables.{Tables}
-use Rattle.kp_clash_pairs.specs.Between.{AreBetween}
-use Rattle.kp_clash_pairs.specs.Settled.{deletes_within}
-use Rattle.kp_clash_pairs.specs.Removed.{breaks}
+use Rattle.kp_clash_exclusive.specs.declared.tables.Tables.{Tables}
+use Rattle.kp_clash_exclusive.specs.Between.{AreBetween}
+use Rattle.kp_clash_exclusive.specs.Settled.{deletes_within}
+use Rattle.kp_clash_exclusive.specs.Removed.{breaks}
 
 -- ---- atoms that are added
 

@@ -6,8 +6,8 @@ use Rattle.kp_base.specs.declared.ground.Effect.{Effect}
 use Rattle.kp_base.specs.declared.ground.Action.{Action}
 use Rattle.kp_base.specs.Clashes.{Pairs, compatible_effects}
 use Rattle.kp_base.specs.Exclusive.{IsPart}
-use Rattle.kp_clash_pairs.specs.Paired.{are_both, is_pair}
-use Rattle.kp_clash_pairs.specs.Settled.{keeps_apart, stays_in}
+use Rattle.kp_clash_exclusive.specs.Paired.{are_both, is_pair}
+use Rattle.kp_clash_exclusive.specs.Settled.{keeps_apart, stays_in}
 
 -- ---- what goes
 

@@ -5,7 +5,7 @@ use Rattle.kp_base.specs.declared.lit.Lit.{Lit}
 use Rattle.kp_base.specs.Lit.{negative}
 use Rattle.kp_base.specs.Implicates.{is_within}
 use Rattle.kp_base.specs.Clashes.{Pairs}
-use Rattle.kp_clash_pairs.specs.Paired.{are_both, is_marked, IsSquare}
+use Rattle.kp_clash_exclusive.specs.Paired.{are_both, is_marked, IsSquare}
 
 -- not both atoms are true
 abbrev pub not_both : ℕ → ℕ → List Lit

@@ -2,9 +2,9 @@
 ghost use Rattle.std.specs.Prelude.{◌≡◌, ◌<◌, ℕ, true, false};
 ghost use Rattle.std.specs.List.{list_any};
 ghost use Rattle.kp_bits.specs.Packed.{bit_in};
-ghost use Rattle.kp_clash_pairs.specs.Paired.{is_pair};
-ghost use Rattle.kp_clash_pairs.specs.Removed.{adds_pair};
-ghost use Rattle.kp_clash_pairs.specs.Left.{KeepsBits, is_added, all_added};
+ghost use Rattle.kp_clash_exclusive.specs.Paired.{is_pair};
+ghost use Rattle.kp_clash_exclusive.specs.Removed.{adds_pair};
+ghost use Rattle.kp_clash_exclusive.specs.Left.{KeepsBits, is_added, all_added};
 
 use crate::Pairs;
 use crate::pairs::words_of;

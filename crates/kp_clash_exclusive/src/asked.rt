@@ -3,8 +3,8 @@ ghost use Rattle.std.specs.Prelude.{◌≡◌, true, false};
 ghost use Rattle.std.specs.List.{list_any};
 ghost use Rattle.kp_base.specs.Clashes.{are_exclusive};
 ghost use Rattle.kp_base.specs.Lit.{positive};
-ghost use Rattle.kp_clash_pairs.specs.Paired.{is_pair};
-ghost use Rattle.kp_clash_pairs.specs.Left.{KeepsBits, is_asked, all_asked};
+ghost use Rattle.kp_clash_exclusive.specs.Paired.{is_pair};
+ghost use Rattle.kp_clash_exclusive.specs.Left.{KeepsBits, is_asked, all_asked};
 
 use crate::Pairs;
 use crate::added::meets;

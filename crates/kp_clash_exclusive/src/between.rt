@@ -1,7 +1,7 @@
 //! Between which places of an action the deletes of an atom stand.
 ghost use Rattle.std.specs.Prelude.{◌≡◌, ◌≤◌, ◌<◌, ◌++◌, slice_index_or};
-ghost use Rattle.kp_clash_pairs.specs.Between.{IsBetween, AreBetween, Falls, Rises, DeletesFrom};
-ghost use Rattle.kp_clash_pairs.specs.Settled.{deletes_within};
+ghost use Rattle.kp_clash_exclusive.specs.Between.{IsBetween, AreBetween, Falls, Rises, DeletesFrom};
+ghost use Rattle.kp_clash_exclusive.specs.Settled.{deletes_within};
 
 use crate::within::deletes_by;
 use kp_base::{Action, AtomId, Effect, Lit};

@@ -1,7 +1,7 @@
 ghost use Rattle.std.specs.Prelude.{◌≡◌, ◌++◌, not, true};
 ghost use Rattle.std.specs.List.{list_all};
 ghost use Rattle.kp_base.specs.Clashes.{are_exclusive, are_compatible};
-ghost use Rattle.kp_clash_pairs.specs.Paired.{is_pair};
+ghost use Rattle.kp_clash_exclusive.specs.Paired.{is_pair};
 
 use crate::Pairs;
 use kp_base::{Action, Effect, Lit, LitSet};

@@ -3,8 +3,8 @@ ghost use Rattle.std.specs.Prelude.{◌≡◌, ◌<◌, ◌/◌, ◌%◌, ℕ, f
 ghost use Rattle.std.specs.Int.{bit_at};
 ghost use Rattle.kp_base.specs.Clashes.{are_exclusive};
 ghost use Rattle.kp_base.specs.Lit.{positive};
-ghost use Rattle.kp_clash_pairs.specs.Paired.{is_pair};
-ghost use Rattle.kp_clash_pairs.specs.Left.{AreDeleted, HasBreaking, KeepsFree};
+ghost use Rattle.kp_clash_exclusive.specs.Paired.{is_pair};
+ghost use Rattle.kp_clash_exclusive.specs.Left.{AreDeleted, HasBreaking, KeepsFree};
 
 use crate::Pairs;
 use crate::pairs::words_of;

@@ -1,8 +1,8 @@
 //! Which atoms no pair has.
 ghost use Rattle.std.specs.Prelude.{◌≡◌, ℕ, true, false};
 ghost use Rattle.kp_bits.specs.Packed.{bit_in};
-ghost use Rattle.kp_clash_pairs.specs.Paired.{is_pair};
-ghost use Rattle.kp_clash_pairs.specs.Left.{AreLone};
+ghost use Rattle.kp_clash_exclusive.specs.Paired.{is_pair};
+ghost use Rattle.kp_clash_exclusive.specs.Left.{AreLone};
 
 use crate::Pairs;
 use crate::pairs::words_of;

@@ -1,7 +1,7 @@
 ghost use Rattle.std.specs.Prelude.{◌≡◌, ◌≢◌, ◌<◌, ◌*◌, ◌/◌, ◌%◌, ◌↔◌, ℕ, true, false, IfSome};
 ghost use Rattle.std.specs.Int.{bit_at};
-ghost use Rattle.kp_clash_pairs.specs.Paired.{is_pair, is_marked, place_of, words_of, IsSquare, IsWritten};
-ghost use Rattle.kp_clash_pairs.specs.Removed.{IsWithout};
+ghost use Rattle.kp_clash_exclusive.specs.Paired.{is_pair, is_marked, place_of, words_of, IsSquare, IsWritten};
+ghost use Rattle.kp_clash_exclusive.specs.Removed.{IsWithout};
 
 use kp_base::AtomId;
 use kp_bits::Bits;
@@ -17,7 +17,7 @@ pub struct Pairs {
 
 impl Model for Pairs {
     ghost use Rattle.std.specs.Prelude.{List, ℕ};
-    ghost use Rattle.kp_clash_pairs.specs.Paired.{marked, IsSquare};
+    ghost use Rattle.kp_clash_exclusive.specs.Paired.{marked, IsSquare};
 
     ghost Value = { List (ℕ × ℕ) };
 

@@ -3,8 +3,8 @@ ghost use Rattle.std.specs.Prelude.{◌≡◌, ◌<◌, ◌≤◌, ◌+◌, ◌*
 ghost use Rattle.std.specs.List.{list_all};
 ghost use Rattle.kp_base.specs.Lit.{code_of};
 ghost use Rattle.kp_base.specs.LitSet.{IsAscending};
-ghost use Rattle.kp_clash_pairs.specs.Paired.{IsSquare, words_of};
-ghost use Rattle.kp_clash_pairs.specs.Starting.{denies, denied, pair_of, all_with, between, IsMarkedWith};
+ghost use Rattle.kp_clash_exclusive.specs.Paired.{IsSquare, words_of};
+ghost use Rattle.kp_clash_exclusive.specs.Starting.{denies, denied, pair_of, all_with, between, IsMarkedWith};
 
 use crate::pairs::{mark, words_of};
 use kp_base::{Lit, LitSet};

@@ -2,7 +2,7 @@
 ghost use Rattle.std.specs.Prelude.{◌≡◌, ◌&&◌, not};
 ghost use Rattle.kp_base.specs.Implicates.{is_within};
 ghost use Rattle.kp_base.specs.Lists.{Member};
-ghost use Rattle.kp_clash_pairs.specs.Left.{AreDeleted};
+ghost use Rattle.kp_clash_exclusive.specs.Left.{AreDeleted};
 
 use crate::words::{WORDS, set_bit};
 use kp_base::{Action, Effect};

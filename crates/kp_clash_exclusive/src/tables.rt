@@ -1,7 +1,7 @@
 //! What is noted of an action before its effects are looked at one by one.
 ghost use Rattle.std.specs.Prelude.{◌≡◌, ◌≤◌, true, length};
 ghost use Rattle.kp_base.specs.declared.ground.Action.{Action as ActionOf};
-ghost use Rattle.kp_clash_pairs.specs.Left.{Notes};
+ghost use Rattle.kp_clash_exclusive.specs.Left.{Notes};
 
 use crate::Pairs;
 use crate::added::atoms_added;

@@ -1,6 +1,6 @@
 //! A bit for each atom below 65,536; pairs have none from there on.
 ghost use Rattle.std.specs.Prelude.{◌≡◌, true};
-ghost use Rattle.kp_clash_pairs.specs.Left.{KeepsBits, AddsBit, is_set};
+ghost use Rattle.kp_clash_exclusive.specs.Left.{KeepsBits, AddsBit, is_set};
 
 use kp_base::AtomId;
 use kp_bits::with_bit;

@@ -2,15 +2,15 @@
 ghost use Rattle.std.specs.Prelude.{◌≡◌, ◌++◌, ℕ, true, false, [], ◌∷◌};
 ghost use Rattle.kp_base.specs.Clashes.{are_compatible};
 ghost use Rattle.kp_base.specs.Lists.{Member};
-ghost use Rattle.kp_clash_pairs.specs.Paired.{is_pair};
-ghost use Rattle.kp_clash_pairs.specs.Removed.{Shrinks};
-ghost use Rattle.kp_clash_pairs.specs.Left.{Notes};
+ghost use Rattle.kp_clash_exclusive.specs.Paired.{is_pair};
+ghost use Rattle.kp_clash_exclusive.specs.Removed.{Shrinks};
+ghost use Rattle.kp_clash_exclusive.specs.Left.{Notes};
 
 use crate::breaking::breaks;
 use crate::outline::turns;
 use crate::touched::Touched;
 use kp_base::{Action, AtomId, Effect};
-use kp_clash_pairs::{Pairs, Tables, likely};
+use kp_clash_exclusive::{Pairs, Tables, likely};
 
 // Removes the pair of the effect's atom and this one, if the effect breaks it alone.
 fn clear_at(

@@ -4,13 +4,13 @@ ghost use Rattle.std.specs.List.{list_any};
 ghost use Rattle.kp_base.specs.Clashes.{are_exclusive, are_compatible};
 ghost use Rattle.kp_base.specs.Exclusive.{firing_with};
 ghost use Rattle.kp_base.specs.Lit.{positive};
-ghost use Rattle.kp_clash_pairs.specs.Paired.{is_pair};
-ghost use Rattle.kp_clash_pairs.specs.Settled.{deletes_within};
-ghost use Rattle.kp_clash_pairs.specs.Removed.{breaks, adds_pair};
-ghost use Rattle.kp_clash_pairs.specs.Left.{Notes, all_asked};
+ghost use Rattle.kp_clash_exclusive.specs.Paired.{is_pair};
+ghost use Rattle.kp_clash_exclusive.specs.Settled.{deletes_within};
+ghost use Rattle.kp_clash_exclusive.specs.Removed.{breaks, adds_pair};
+ghost use Rattle.kp_clash_exclusive.specs.Left.{Notes, all_asked};
 
 use kp_base::{Action, AtomId, Effect, Lit};
-use kp_clash_pairs::{
+use kp_clash_exclusive::{
     Pairs, Tables, WORDS, are_exclusive, deletes_noted, holding, may_exclude, stay_compatible,
 };
 

@@ -1,5 +1,5 @@
 //! Sweeps over the actions, which remove pairs that don't stay, but none of an inductive set. `Shrinks` in
-//! `kp_clash_pairs/specs/Removed.antt` says so.
+//! `kp_clash_exclusive/specs/Removed.antt` says so.
 #![tactic(auto)]
 
 mod alone;

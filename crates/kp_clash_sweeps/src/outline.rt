@@ -2,7 +2,7 @@
 
 use kp_base::{AtomId, Lit, Memory};
 use kp_bits::{are_apart, with_bit};
-use kp_clash_pairs::{Pairs, WORDS, words_of};
+use kp_clash_exclusive::{Pairs, WORDS, words_of};
 use std::alloc::Global;
 
 /// Two words for each atom, with a bit for each block: in which blocks there are atoms that are its pairs, and in which

@@ -3,16 +3,16 @@ ghost use Rattle.std.specs.Prelude.{◌≡◌, ◌≤◌, true, [], ◌∷◌, l
 ghost use Rattle.kp_base.specs.declared.ground.Action.{Action as ActionOf};
 ghost use Rattle.kp_base.specs.Clashes.{are_compatible};
 ghost use Rattle.kp_base.specs.Lists.{Member};
-ghost use Rattle.kp_clash_pairs.specs.Paired.{is_pair};
-ghost use Rattle.kp_clash_pairs.specs.Removed.{Shrinks};
-ghost use Rattle.kp_clash_pairs.specs.Left.{Notes};
+ghost use Rattle.kp_clash_exclusive.specs.Paired.{is_pair};
+ghost use Rattle.kp_clash_exclusive.specs.Removed.{Shrinks};
+ghost use Rattle.kp_clash_exclusive.specs.Left.{Notes};
 
 use crate::alone::clear_alone;
 use crate::asking::Asking;
 use crate::together::{clear_compatible, clear_partners, clear_together};
 use crate::touched::Touched;
 use kp_base::{Action, Effect, Ground};
-use kp_clash_pairs::{Pairs, Tables, is_small, may_fire, pre_compatible};
+use kp_clash_exclusive::{Pairs, Tables, is_small, may_fire, pre_compatible};
 
 // Removes the pairs that the effect breaks, where it has a condition on an atom of the last pairs that were removed.
 fn clear_effect(

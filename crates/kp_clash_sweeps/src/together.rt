@@ -2,16 +2,16 @@
 ghost use Rattle.std.specs.Prelude.{◌≡◌, ◌++◌, true, [], ◌∷◌};
 ghost use Rattle.kp_base.specs.Clashes.{are_compatible};
 ghost use Rattle.kp_base.specs.Lists.{Member};
-ghost use Rattle.kp_clash_pairs.specs.Paired.{is_pair};
-ghost use Rattle.kp_clash_pairs.specs.Removed.{Shrinks};
-ghost use Rattle.kp_clash_pairs.specs.Left.{Notes};
+ghost use Rattle.kp_clash_exclusive.specs.Paired.{is_pair};
+ghost use Rattle.kp_clash_exclusive.specs.Removed.{Shrinks};
+ghost use Rattle.kp_clash_exclusive.specs.Left.{Notes};
 
 use crate::asking::Asking;
 use crate::breaking::adds_pair;
 use crate::outline::turns;
 use crate::touched::Touched;
 use kp_base::{Action, AtomId, Effect, Lit};
-use kp_clash_pairs::{Pairs, Tables, left_by};
+use kp_clash_exclusive::{Pairs, Tables, left_by};
 
 // Whether the effect may add an atom that is a pair with one that the action adds.
 fn may_add(pairs: &Pairs, touched: &Touched, tables: &Tables, effect: &Effect) -> bool {

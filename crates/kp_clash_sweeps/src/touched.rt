@@ -4,7 +4,7 @@
 use crate::outline::{Outline, block};
 use kp_base::{AtomId, Lit, Memory};
 use kp_bits::{has_bit, with_bit};
-use kp_clash_pairs::{Pairs, words_of};
+use kp_clash_exclusive::{Pairs, words_of};
 use std::alloc::Global;
 
 /// Pairs that were removed; or all effects. And the outline of those that are left.

@@ -16,7 +16,7 @@ use Rattle.kp_base.proofs.Lits.{holds-negated}
 use Rattle.kp_base.proofs.Sets.{all-with_lit}
 use Rattle.kp_primes.specs.Held.{Held, formula, AreWhole}
 use Rattle.kp_primes.proofs.Public.{consistent_exact}
-use Rattle.kp_primes_models.specs.Ordered.{state_of_atoms, AreFirst}
+use Rattle.kp_primes_first_model.specs.Ordered.{state_of_atoms, AreFirst}
 use Rattle.kp_cover.specs.Grown.{is_fine}
 use Rattle.kp_cover.specs.Covered.{found, tags_found, all_inside, says_valid}
 use Rattle.kp_cover.specs.Valid.{satisfies_one, AreValidTags, is_outside, AnswersValid}

@@ -7,11 +7,11 @@ use Rattle.kp_base.specs.declared.ground.Initial.{Initial}
 use Rattle.kp_base.specs.Steps.{State, holds, is_model}
 use Rattle.kp_base.specs.Implicates.{are_below}
 use Rattle.kp_base.proofs.Lists.{all_member, member_at}
-use Rattle.kp_primes_models.specs.declared.truth.Truth.{Truth}
-use Rattle.kp_primes_models.specs.declared.truth.Truth.TheVariants.{Yes, No, Open}
-use Rattle.kp_primes_models.specs.Truths.{IsTruth, opposite, both, either, truth_in}
-use Rattle.kp_primes_models.specs.Asked.{Judges, AskTheSame, is_wanted, passes_one, test_at}
-use Rattle.kp_primes_models.proofs.Public.{truth_of_not, truth_of_all, truth_of_any, truth_of_literal}
+use Rattle.kp_primes_first_model.specs.declared.truth.Truth.{Truth}
+use Rattle.kp_primes_first_model.specs.declared.truth.Truth.TheVariants.{Yes, No, Open}
+use Rattle.kp_primes_first_model.specs.Truths.{IsTruth, opposite, both, either, truth_in}
+use Rattle.kp_primes_first_model.specs.Asked.{Judges, AskTheSame, is_wanted, passes_one, test_at}
+use Rattle.kp_primes_first_model.proofs.Public.{truth_of_not, truth_of_all, truth_of_any, truth_of_literal}
 use Rattle.kp_cover.specs.Valid.{satisfies_one, AreValidTags, is_outside}
 use Rattle.kp_cover.specs.Inside.{truth_at, any_truth, satisfies_at, satisfies_one_of, still_left}
 use Rattle.kp_cover.proofs.Leaving.{all_places, left_same}

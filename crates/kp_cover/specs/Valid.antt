@@ -4,7 +4,7 @@ use Rattle.std.specs.List.{list_any, list_all}
 use Rattle.kp_base.specs.declared.lit.Lit.{Lit}
 use Rattle.kp_base.specs.declared.ground.Initial.{Initial}
 use Rattle.kp_base.specs.Steps.{State, holds, is_model}
-use Rattle.kp_primes_models.specs.Ordered.{AreFirst}
+use Rattle.kp_primes_first_model.specs.Ordered.{AreFirst}
 use Rattle.kp_cover.specs.declared.tags.Validity.{Validity}
 use Rattle.kp_cover.specs.declared.tags.Validity.TheVariants.{Valid, Invalid}
 

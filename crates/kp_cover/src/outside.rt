@@ -5,7 +5,7 @@ ghost use Rattle.kp_cover.specs.Inside.{all_truth, truth_at, any_truth, satisfie
 
 use crate::left::still_left;
 use kp_base::{Lit, LitSet, Memory, Row};
-use kp_primes_models::{Question, Seen, Truth, truth_in};
+use kp_primes_first_model::{Question, Seen, Truth, truth_in};
 use std::alloc::Global;
 
 // Whether a tag's literals are true.

@@ -2,7 +2,7 @@ ghost use Rattle.std.specs.Prelude.{◌≡◌, true, IfOk};
 ghost use Rattle.std.specs.List.{list_all};
 ghost use Rattle.kp_base.specs.Implicates.{are_below};
 ghost use Rattle.kp_primes.specs.Held.{formula};
-ghost use Rattle.kp_primes_models.specs.Ordered.{AnswersFirst};
+ghost use Rattle.kp_primes_first_model.specs.Ordered.{AnswersFirst};
 ghost use Rattle.kp_cover.specs.Valid.{is_outside, AnswersValid};
 
 use crate::deny::are_soon_valid;
@@ -10,7 +10,7 @@ use crate::left::first_places;
 use crate::outside::Outside;
 use kp_base::{AtomId, LitSet, Memory, Row};
 use kp_primes::Primes;
-use kp_primes_models::{first, first_goes_by_what_passes};
+use kp_primes_first_model::{first, first_goes_by_what_passes};
 use std::alloc::Global;
 
 /// Whether each initial state satisfies one of some tags.

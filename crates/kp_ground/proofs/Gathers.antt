@@ -4,9 +4,9 @@ use Rattle.std.specs.List.{IsDistinct}
 use Rattle.std.proofs.lemmas.Bool.{or_cases, or_left, or_right, ltb-true}
 use Rattle.std.proofs.lemmas.Map.Keys.{IsDistinct-push}
 use Rattle.std.proofs.Math.Bool.{or-false, or_assoc}
-use Rattle.kp_names_meaning.specs.declared.lifted.GroundLit.{GroundLit}
+use Rattle.kp_names_semantics.specs.declared.lifted.GroundLit.{GroundLit}
 use Rattle.kp_base.specs.Atoms.{Atom, same_atom, has_atom, with_atom}
-use Rattle.kp_ground_meaning.specs.Ground.{atom_of}
+use Rattle.kp_ground_semantics.specs.Ground.{atom_of}
 use Rattle.kp_base.proofs.Once.{any-added}
 use Rattle.kp_base.proofs.AtomOrder.{same_atoms}
 use Rattle.kp_ground.specs.Gathered.{with_literal, gather}

@@ -7,7 +7,7 @@ use Rattle.kp_base.specs.declared.ground.Effect.{Effect}
 use Rattle.kp_base.specs.Lists.{only_if}
 use Rattle.kp_base.specs.Lit.{positive, same_lit}
 use Rattle.kp_base.specs.Implicates.{is_within}
-use Rattle.kp_ground_meaning.specs.Ground.{is_idle}
+use Rattle.kp_ground_semantics.specs.Ground.{is_idle}
 use Rattle.kp_ground.specs.Adds.{adds_of, covered}
 
 any-filter : {X : Type 0} (p q : X → Bool) (xs : List X) → list_any p (filter q xs) ≡ list_any (λ x. q x && p x) xs

@@ -13,14 +13,14 @@ use Rattle.kp_base.proofs.Lists.{bool_same, any_map, any_alike, any_member, any_
 use Rattle.kp_base.proofs.Lits.{same_lits, contains_has, has_contains}
 use Rattle.kp_base.proofs.Once.{once_by_one}
 use Rattle.kp_base.proofs.Sets.{same_sets, same_set-true, any-set_of, set_ascends}
-use Rattle.kp_names_meaning.specs.declared.lifted.GroundLit.{GroundLit}
-use Rattle.kp_names_meaning.specs.Numbered.{Schema, Lifted}
-use Rattle.kp_names_meaning.specs.Lifted.{same_literal, names_literal}
-use Rattle.kp_ground_meaning.specs.declared.flat.FlatEffect.{FlatEffect}
-use Rattle.kp_ground_meaning.specs.Static.{remaining}
-use Rattle.kp_ground_meaning.specs.Flattening.{same_literals, same_flat, flat, flat_of}
-use Rattle.kp_ground_meaning.specs.Ground.{atom_of, numbered, numbered_set, numbered_effect, effect_literals, IsNumbering}
-use Rattle.kp_ground_meaning.proofs.Public.{same_literal-true, same_literal-refl, IsCoveredLiteral, literal_number_is_its_own, instance_literals_occur}
+use Rattle.kp_names_semantics.specs.declared.lifted.GroundLit.{GroundLit}
+use Rattle.kp_names_semantics.specs.Numbered.{Schema, Lifted}
+use Rattle.kp_names_semantics.specs.Lifted.{same_literal, names_literal}
+use Rattle.kp_ground_semantics.specs.declared.flat.FlatEffect.{FlatEffect}
+use Rattle.kp_ground_semantics.specs.Static.{remaining}
+use Rattle.kp_ground_semantics.specs.Flattening.{same_literals, same_flat, flat, flat_of}
+use Rattle.kp_ground_semantics.specs.Ground.{atom_of, numbered, numbered_set, numbered_effect, effect_literals, IsNumbering}
+use Rattle.kp_ground_semantics.proofs.Public.{same_literal-true, same_literal-refl, IsCoveredLiteral, literal_number_is_its_own, instance_literals_occur}
 use Rattle.kp_ground.specs.Made.{same_made, with_made}
 use Rattle.kp_ground.specs.Passes.{IsKnown}
 

@@ -13,12 +13,12 @@ use Rattle.kp_base.specs.declared.refused.Stop.{Stop}
 use Rattle.kp_base.specs.declared.refused.Stop.TheVariants as stops
 use Rattle.kp_base.specs.declared.ground.GroundName.{GroundName}
 use Rattle.kp_base.proofs.Lists.{all_from, member_at}
-use Rattle.kp_names_meaning.specs.Numbered.{Schema, Lifted}
-use Rattle.kp_names_meaning.specs.Lifted.{Instance, schema_of}
+use Rattle.kp_names_semantics.specs.Numbered.{Schema, Lifted}
+use Rattle.kp_names_semantics.specs.Lifted.{Instance, schema_of}
 use Rattle.kp_base.specs.Atoms.{Atom}
-use Rattle.kp_ground_meaning.specs.Ground.{kept_bindings, kept_instances, actions_of, atom_name, numbered_set, object_names, ground_pre, ground_effects, action_of, IsNumbering, ground_over}
-use Rattle.kp_ground_meaning.proofs.Public.{kept_instance, instance_action, actions_of_kept_instances}
-use Rattle.kp_names_lifted.specs.declared.lifted.Schema as owned
+use Rattle.kp_ground_semantics.specs.Ground.{kept_bindings, kept_instances, actions_of, atom_name, numbered_set, object_names, ground_pre, ground_effects, action_of, IsNumbering, ground_over}
+use Rattle.kp_ground_semantics.proofs.Public.{kept_instance, instance_action, actions_of_kept_instances}
+use Rattle.kp_names_numbered.specs.declared.lifted.Schema as owned
 use Rattle.kp_names.specs.View.{schema_view}
 use Rattle.kp_ground_instances.specs.declared.kept.Kept.{Kept}
 use Rattle.kp_ground_instances.specs.Counts.{kept_view, IsWithinLimits, StopsAtCounts}

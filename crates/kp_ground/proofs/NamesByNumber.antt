@@ -1,7 +1,7 @@
 -- Names by number.
 use Rattle.std.proofs.Common.{◌≡◌, ℕ, zero, suc, ◌<◌, ◌≤◌, List, [], ◌∷◌, length, map, get_or, refl, sym, ap, ◌∙◌, map-id, arith}
-use Rattle.kp_names_meaning.specs.Names.{Name}
-use Rattle.kp_names_meaning.specs.Numbering.{name_at}
+use Rattle.kp_names_semantics.specs.Names.{Name}
+use Rattle.kp_names_semantics.specs.Numbering.{name_at}
 
 -- the name of what stands there
 pub name_there : {X : Type 0} (f : X → Name) (xs : List X) (n : ℕ) (x : X) → n < length xs → x ≡ get_or xs n x → name_at (map f xs) n ≡ f x

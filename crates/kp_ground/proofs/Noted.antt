@@ -4,12 +4,12 @@ use Rattle.std.specs.List.{list_any, flat_map}
 use Rattle.std.proofs.lemmas.List.Folds.{list_any-append}
 use Rattle.kp_base.specs.Lists.{Member}
 use Rattle.kp_base.proofs.Lists.{any_map, any_member, any_from, bool_same, member_at}
-use Rattle.kp_names_meaning.specs.declared.lifted.GroundLit.{GroundLit}
-use Rattle.kp_names_meaning.specs.Numbered.{Schema, Lifted}
-use Rattle.kp_names_meaning.specs.Lifted.{Instance, schema_of}
+use Rattle.kp_names_semantics.specs.declared.lifted.GroundLit.{GroundLit}
+use Rattle.kp_names_semantics.specs.Numbered.{Schema, Lifted}
+use Rattle.kp_names_semantics.specs.Lifted.{Instance, schema_of}
 use Rattle.kp_base.specs.Atoms.{Atom, same_atom, has_atom}
-use Rattle.kp_ground_meaning.specs.Ground.{kept_bindings, instance, kept_instances, atom_of, instance_literals, kept_literals, open_literals, occurring}
-use Rattle.kp_ground_meaning.proofs.Public.{kept_instance, kept_is_member}
+use Rattle.kp_ground_semantics.specs.Ground.{kept_bindings, instance, kept_instances, atom_of, instance_literals, kept_literals, open_literals, occurring}
+use Rattle.kp_ground_semantics.proofs.Public.{kept_instance, kept_is_member}
 use Rattle.kp_ground.specs.Passes.{literals_of, literals_at, noted}
 
 -- ---- lists

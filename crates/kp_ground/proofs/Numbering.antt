@@ -2,11 +2,11 @@
 use Rattle.std.proofs.Common.{◌≡◌, ℕ, ◌≤◌, true, List, [], map, length, sym, subst, ◌∙◌}
 use Rattle.std.proofs.lemmas.Map.Made.{length-le_from_is_member}
 use Rattle.kp_base.proofs.Lists.{bool_same, map_member, member_at}
-use Rattle.kp_names_meaning.specs.Numbered.{Lifted}
+use Rattle.kp_names_semantics.specs.Numbered.{Lifted}
 use Rattle.kp_base.specs.Atoms.{Atom, has_atom, number_of, IsSortOf}
-use Rattle.kp_ground_meaning.specs.Ground.{atom_of, occurring, ground_atoms}
+use Rattle.kp_ground_semantics.specs.Ground.{atom_of, occurring, ground_atoms}
 use Rattle.kp_base.proofs.AtomOrder.{same_atoms, member_has_atom, has_atom_member, ascending_atoms_same}
-use Rattle.kp_ground_meaning.proofs.Public.{atoms_are_numbered}
+use Rattle.kp_ground_semantics.proofs.Public.{atoms_are_numbered}
 use Rattle.kp_ground.specs.Gathered.{gather}
 use Rattle.kp_ground.proofs.Gathers.{no_atoms_are_distinct, gathered_are_distinct, gathered_are_no_others, gathered_are_all}
 use Rattle.kp_ground.specs.Passes.{noted}

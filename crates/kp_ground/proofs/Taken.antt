@@ -4,8 +4,8 @@ use Rattle.std.specs.List.{flat_map}
 use Rattle.std.proofs.lemmas.List.Sums.{fold-append}
 use Rattle.kp_base.specs.declared.ground.Effect.{Effect}
 use Rattle.kp_base.specs.Atoms.{Atom}
-use Rattle.kp_ground_meaning.specs.declared.flat.FlatEffect.{FlatEffect}
-use Rattle.kp_ground_meaning.specs.Ground.{effect_literals, numbered_effect}
+use Rattle.kp_ground_semantics.specs.declared.flat.FlatEffect.{FlatEffect}
+use Rattle.kp_ground_semantics.specs.Ground.{effect_literals, numbered_effect}
 use Rattle.kp_ground.specs.Gathered.{with_literal, gather}
 use Rattle.kp_ground.specs.declared.effect_atoms.EffectAtoms.{EffectAtoms}
 use Rattle.kp_ground.specs.Made.{with_made}

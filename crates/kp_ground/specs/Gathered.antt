@@ -1,8 +1,8 @@
 -- Atoms of literals, gathered one by one, each once, up to one beyond a limit.
 use Rattle.std.specs.Prelude.{ℕ, List, fold}
 use Rattle.kp_base.specs.Atoms.{Atom, with_atom_within}
-use Rattle.kp_names_meaning.specs.declared.lifted.GroundLit.{GroundLit}
-use Rattle.kp_ground_meaning.specs.Ground.{atom_of}
+use Rattle.kp_names_semantics.specs.declared.lifted.GroundLit.{GroundLit}
+use Rattle.kp_ground_semantics.specs.Ground.{atom_of}
 
 -- the atoms with that of a literal, where it is new and there are no more than the limit
 abbrev pub with_literal : ℕ → List Atom → GroundLit → List Atom

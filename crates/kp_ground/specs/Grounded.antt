@@ -6,8 +6,8 @@ use Rattle.kp_base.specs.declared.refused.Refused.{Refused}
 use Rattle.kp_base.specs.declared.refused.Refused.TheVariants as refusals
 use Rattle.kp_base.specs.declared.refused.Stop.{Stop}
 use Rattle.kp_base.specs.declared.refused.Stop.TheVariants as stops
-use Rattle.kp_names_meaning.specs.Numbered.{Lifted}
-use Rattle.kp_ground_meaning.specs.Ground.{ground_atoms, ground_of}
+use Rattle.kp_names_semantics.specs.Numbered.{Lifted}
+use Rattle.kp_ground_semantics.specs.Ground.{ground_atoms, ground_of}
 use Rattle.kp_ground_instances.specs.Counts.{IsWithinLimits, RefusesCounts}
 
 -- the problem is refused: at its bindings, kept instances or weight, or else where it has more ground atoms than the limit

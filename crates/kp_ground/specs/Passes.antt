@@ -7,12 +7,12 @@ use Rattle.kp_base.specs.declared.refused.Stop.{Stop}
 use Rattle.kp_base.specs.declared.refused.Stop.TheVariants as stops
 use Rattle.kp_base.specs.declared.ground.GroundName.{GroundName}
 use Rattle.kp_base.specs.declared.ground.Action.{Action}
-use Rattle.kp_names_meaning.specs.declared.lifted.GroundLit.{GroundLit}
-use Rattle.kp_names_meaning.specs.Numbered.{Schema, Lifted}
-use Rattle.kp_names_meaning.specs.Lifted.{Instance, schema_of}
+use Rattle.kp_names_semantics.specs.declared.lifted.GroundLit.{GroundLit}
+use Rattle.kp_names_semantics.specs.Numbered.{Schema, Lifted}
+use Rattle.kp_names_semantics.specs.Lifted.{Instance, schema_of}
 use Rattle.kp_base.specs.Atoms.{Atom}
-use Rattle.kp_ground_meaning.specs.Static.{is_static}
-use Rattle.kp_ground_meaning.specs.Ground.{kept_bindings, instance_literals, open_literals, kept_instances, ground_atoms, IsNumbering, object_names, action_of}
+use Rattle.kp_ground_semantics.specs.Static.{is_static}
+use Rattle.kp_ground_semantics.specs.Ground.{kept_bindings, instance_literals, open_literals, kept_instances, ground_atoms, IsNumbering, object_names, action_of}
 
 -- ---- instances
 

@@ -2,8 +2,8 @@ ghost use Rattle.std.specs.Prelude.{◌≡◌, ◌<◌, map, length, Some, IfOk}
 ghost use Rattle.kp_base.specs.Lists.{Member};
 ghost use Rattle.kp_names.specs.View.{schema_view, lifted_view};
 ghost use Rattle.kp_ground_instances.specs.Counts.{kept_view};
-ghost use Rattle.kp_ground_meaning.specs.Flattening.{flat_of};
-ghost use Rattle.kp_ground_meaning.specs.Ground.{numbered_effect, lasting, kept_instances, ground_pre, ground_effects, IsNumbering};
+ghost use Rattle.kp_ground_semantics.specs.Flattening.{flat_of};
+ghost use Rattle.kp_ground_semantics.specs.Ground.{numbered_effect, lasting, kept_instances, ground_pre, ground_effects, IsNumbering};
 ghost use Rattle.kp_ground.specs.Passes.{name_with, action_at, IsKnown};
 
 use crate::lasting::lasting_effects;
@@ -13,7 +13,7 @@ use bumpalo::Bump;
 use kp_base::{Action, Atoms, Effect, GroundName, LitSet, Memory, Row};
 use kp_ground_flatten::{hand_over, left_of};
 use kp_ground_instances::{Kept, Statics};
-use kp_ground_meaning::literal_set;
+use kp_ground_semantics::literal_set;
 use kp_names::{Lifted, Schema};
 use std::alloc::Global;
 

@@ -26,7 +26,7 @@ fn note_all(alloc: Global, limit: u32, atoms: &mut Atoms, lits: &[BoundLit]) -> 
 }
 
 impl Sink for EffectAtoms {
-    ghost use Rattle.kp_ground_meaning.specs.Ground.{effect_literals};
+    ghost use Rattle.kp_ground_semantics.specs.Ground.{effect_literals};
 
     ghost takes = { λ g f. record { atoms = gather g.limit g.atoms (effect_literals f); limit = g.limit } };
 

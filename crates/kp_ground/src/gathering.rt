@@ -1,6 +1,6 @@
 ghost use Rattle.std.specs.Prelude.{◌≡◌, [], ◌∷◌, filter, OnOk};
 ghost use Rattle.std.specs.List.{flat_map};
-ghost use Rattle.kp_names_meaning.specs.Lifted.{item_literals};
+ghost use Rattle.kp_names_semantics.specs.Lifted.{item_literals};
 ghost use Rattle.kp_ground.specs.Gathered.{gather};
 ghost use Rattle.kp_names.specs.View.{lifted_view};
 ghost use Rattle.kp_ground.specs.Passes.{is_open};
@@ -8,7 +8,7 @@ ghost use Rattle.kp_ground.specs.Passes.{is_open};
 use crate::literals::add_literal;
 use kp_base::{Atoms, Memory};
 use kp_ground_instances::Statics;
-use kp_names_meaning::{GroundLit, Item};
+use kp_names_semantics::{GroundLit, Item};
 use std::alloc::Global;
 
 // Adds the atom of a literal whose predicate isn't static.

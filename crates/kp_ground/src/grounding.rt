@@ -1,6 +1,6 @@
 ghost use Rattle.std.specs.Prelude.{◌≡◌, map, IfOk};
 ghost use Rattle.kp_names.specs.View.{lifted_view};
-ghost use Rattle.kp_ground_meaning.specs.Ground.{kept_instances, ground_over, atom_name, numbered_set, IsNumbering};
+ghost use Rattle.kp_ground_semantics.specs.Ground.{kept_instances, ground_over, atom_name, numbered_set, IsNumbering};
 ghost use Rattle.kp_ground_instances.specs.Counts.{kept_view};
 ghost use Rattle.kp_ground.specs.Grounded.{AnswersGround};
 
@@ -9,7 +9,7 @@ use crate::names::names_of_atoms;
 use crate::occurring::occurring_atoms;
 use kp_base::{Atoms, Ground, GroundName, Limits, LitSet, Memory, Row, Stop};
 use kp_ground_instances::{Kept, Statics, kept_instances};
-use kp_ground_meaning::literal_set;
+use kp_ground_semantics::literal_set;
 use kp_names::Lifted;
 use std::alloc::Global;
 

@@ -3,7 +3,7 @@ ghost use Rattle.std.specs.List.{list_any};
 ghost use Rattle.kp_base.specs.Lists.{only_if};
 ghost use Rattle.kp_base.specs.Steps.{has};
 ghost use Rattle.kp_base.specs.Implicates.{is_within};
-ghost use Rattle.kp_ground_meaning.specs.Ground.{lasting};
+ghost use Rattle.kp_ground_semantics.specs.Ground.{lasting};
 ghost use Rattle.kp_ground.specs.Adds.{adds_at, covered};
 
 use crate::adds::Adds;

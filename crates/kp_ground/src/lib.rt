@@ -16,4 +16,4 @@ mod rising;
 
 pub use grounding::ground;
 pub use kp_ground_flatten::{BoundCond, BoundEff, BoundNode, bind, flatten};
-pub use kp_ground_meaning::{Flat, FlatEffect};
+pub use kp_ground_semantics::{Flat, FlatEffect};

@@ -2,7 +2,7 @@ ghost use Rattle.std.specs.Prelude.{◌≡◌, OnOk};
 ghost use Rattle.kp_ground.specs.Gathered.{with_literal, gather};
 
 use kp_base::{Atoms, Memory};
-use kp_names_meaning::GroundLit;
+use kp_names_semantics::GroundLit;
 use std::alloc::Global;
 
 /// Adds the atom of a literal, where it is new and there are no more atoms than the limit.

@@ -1,12 +1,12 @@
 ghost use Rattle.std.specs.Prelude.{◌≡◌, map, IfOk};
 ghost use Rattle.kp_base.specs.Atoms.{kept_atom};
-ghost use Rattle.kp_names_meaning.specs.Numbering.{name_at};
+ghost use Rattle.kp_names_semantics.specs.Numbering.{name_at};
 ghost use Rattle.kp_names.specs.View.{lifted_view};
-ghost use Rattle.kp_ground_meaning.specs.Ground.{object_names, atom_name};
+ghost use Rattle.kp_ground_semantics.specs.Ground.{object_names, atom_name};
 
 use kp_base::{GroundName, Memory, Row, Text};
 use kp_names::Lifted;
-use kp_names_meaning::Pred;
+use kp_names_semantics::Pred;
 use std::alloc::Global;
 
 // The name of this number; none where there is none.

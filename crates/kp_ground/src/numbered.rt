@@ -1,6 +1,6 @@
 ghost use Rattle.std.specs.Prelude.{◌≡◌, [], map, fold, IfOk, OnOk};
 ghost use Rattle.kp_base.specs.LitSet.{with_lit, set_of};
-ghost use Rattle.kp_ground_meaning.specs.Ground.{numbered};
+ghost use Rattle.kp_ground_semantics.specs.Ground.{numbered};
 ghost use Rattle.kp_ground_flatten.specs.Literals.{lit_view};
 ghost use Rattle.kp_ground.specs.Made.{with_made, made_effect};
 
@@ -144,7 +144,7 @@ impl<'n> Numbering<'n> {
 }
 
 impl<'n> Sink for Numbering<'n> {
-    ghost use Rattle.kp_ground_meaning.specs.Ground.{numbered_effect};
+    ghost use Rattle.kp_ground_semantics.specs.Ground.{numbered_effect};
 
     ghost takes = { λ n f. (n.0, with_made n.1 (numbered_effect n.0 f)) };
 

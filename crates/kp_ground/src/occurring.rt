@@ -1,7 +1,7 @@
 ghost use Rattle.std.specs.Prelude.{◌≡◌, ◌<◌, [], map, true, length, IfOk, OnOk};
 ghost use Rattle.std.specs.List.{flat_map, list_all};
 ghost use Rattle.kp_names.specs.View.{schema_view, lifted_view};
-ghost use Rattle.kp_ground_meaning.specs.Ground.{instance_literals, kept_instances};
+ghost use Rattle.kp_ground_semantics.specs.Ground.{instance_literals, kept_instances};
 ghost use Rattle.kp_ground.specs.Gathered.{gather};
 ghost use Rattle.kp_ground_instances.specs.Counts.{kept_view};
 ghost use Rattle.kp_ground.specs.Passes.{has_schema, literals_at, noted, AnswersAtoms};

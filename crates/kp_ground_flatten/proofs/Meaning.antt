@@ -3,14 +3,14 @@ use Rattle.std.proofs.Common.{◌≡◌, ℕ, not, ◌||◌, List, [], ◌∷◌
 use Rattle.std.specs.List.{flat_map}
 use Rattle.kp_base.specs.Lists.{only_if}
 use Rattle.kp_base.proofs.Lists.{map_map}
-use Rattle.kp_names_meaning.specs.declared.lifted.Term.{Term}
-use Rattle.kp_names_meaning.specs.declared.lifted.GroundLit.{GroundLit}
-use Rattle.kp_names_meaning.specs.Numbered.{Cond, Conds, Eff, Effs, Schema, Lifted}
-use Rattle.kp_names_meaning.specs.Lifted.{State, Binding, object_of, ground, literal_holds, all_hold, bindings, fires, all_fire}
+use Rattle.kp_names_semantics.specs.declared.lifted.Term.{Term}
+use Rattle.kp_names_semantics.specs.declared.lifted.GroundLit.{GroundLit}
+use Rattle.kp_names_semantics.specs.Numbered.{Cond, Conds, Eff, Effs, Schema, Lifted}
+use Rattle.kp_names_semantics.specs.Lifted.{State, Binding, object_of, ground, literal_holds, all_hold, bindings, fires, all_fire}
 use Rattle.kp_names.specs.View.{effs_of}
-use Rattle.kp_ground_meaning.specs.declared.flat.FlatEffect.{FlatEffect}
-use Rattle.kp_ground_meaning.specs.Static.{is_static, initially, settled, all_settled, remaining, all_remaining}
-use Rattle.kp_ground_meaning.specs.Flattening.{flat, all_flat, flat_of}
+use Rattle.kp_ground_semantics.specs.declared.flat.FlatEffect.{FlatEffect}
+use Rattle.kp_ground_semantics.specs.Static.{is_static, initially, settled, all_settled, remaining, all_remaining}
+use Rattle.kp_ground_semantics.specs.Flattening.{flat, all_flat, flat_of}
 use Rattle.kp_ground_flatten.specs.Bound.{Tree, bound_term, bound_cond, bound_conds, bound_eff, bound_effs, bound, bound_at, flat_tree, flat_at}
 use Rattle.kp_ground_flatten.specs.Laws.{IsHoldsBound, IsFiresBound, IsSplitBound, IsFlatBound, IsFlatOfTree}
 

@@ -11,11 +11,11 @@ use Rattle.std.proofs.lemmas.Cmp.{tied_itself}
 use Rattle.std.proofs.lemmas.Map.Keys.{sorted_head, sorted_tail}
 use Rattle.kp_base.specs.Lists.{Member}
 use Rattle.kp_base.proofs.Lists.{bool_same, any_from, same_member, all_from, all_member}
-use Rattle.kp_names_meaning.specs.declared.lifted.GroundLit.{GroundLit}
-use Rattle.kp_names_meaning.specs.Lifted.{same_literal, names_literal}
-use Rattle.kp_ground_meaning.specs.declared.flat.FlatEffect.{FlatEffect}
-use Rattle.kp_ground_meaning.specs.Flattening.{same_literals, same_flat}
-use Rattle.kp_ground_meaning.proofs.Public.{same_literal-true, same_literal-refl}
+use Rattle.kp_names_semantics.specs.declared.lifted.GroundLit.{GroundLit}
+use Rattle.kp_names_semantics.specs.Lifted.{same_literal, names_literal}
+use Rattle.kp_ground_semantics.specs.declared.flat.FlatEffect.{FlatEffect}
+use Rattle.kp_ground_semantics.specs.Flattening.{same_literals, same_flat}
+use Rattle.kp_ground_semantics.proofs.Public.{same_literal-true, same_literal-refl}
 use Rattle.kp_ground_flatten.specs.Shapes.{lit_cmp, IsSetOf}
 
 -- ---- literals

@@ -4,10 +4,10 @@ use Rattle.std.specs.List.{list_any}
 use Rattle.std.specs.Cmp.Lexicographic.{pointwise}
 use Rattle.std.proofs.lemmas.Bool.{and_parts, and_from, false≢true}
 use Rattle.kp_base.proofs.Lists.{bool_same}
-use Rattle.kp_names_meaning.specs.Lifted.{same_literal, names_literal}
-use Rattle.kp_ground_meaning.specs.declared.flat.FlatEffect.{FlatEffect}
-use Rattle.kp_ground_meaning.specs.Flattening.{same_flat}
-use Rattle.kp_ground_meaning.proofs.Public.{same_literal-true, same_literal-refl}
+use Rattle.kp_names_semantics.specs.Lifted.{same_literal, names_literal}
+use Rattle.kp_ground_semantics.specs.declared.flat.FlatEffect.{FlatEffect}
+use Rattle.kp_ground_semantics.specs.Flattening.{same_flat}
+use Rattle.kp_ground_semantics.proofs.Public.{same_literal-true, same_literal-refl}
 use Rattle.kp_ground_flatten.specs.declared.shape.KeyLit.{KeyLit}
 use Rattle.kp_ground_flatten.specs.declared.shape.Shape.{Shape}
 use Rattle.kp_ground_flatten.specs.Shapes.{key_view, IsShapeOf, AreShapes, with_effect}

@@ -11,9 +11,9 @@ use Rattle.std.proofs.lemmas.Cmp.{ranked, tied_itself}
 use Rattle.std.proofs.lemmas.List.Kept.{Any-dedup, Contains-from_dedup, IsStrictlySortedBy-dedup}
 use Rattle.std.proofs.lemmas.List.Sorted.{Contains-permutation, IsPermutation-sym}
 use Rattle.kp_base.proofs.Lists.{bool_same, any_from, any_member, any_map, contains_member, member_contains}
-use Rattle.kp_names_meaning.specs.declared.lifted.GroundLit.{GroundLit}
-use Rattle.kp_names_meaning.specs.Lifted.{ground, same_literal, names_literal}
-use Rattle.kp_ground_meaning.proofs.Public.{same_literal-true, same_literal-refl}
+use Rattle.kp_names_semantics.specs.declared.lifted.GroundLit.{GroundLit}
+use Rattle.kp_names_semantics.specs.Lifted.{ground, same_literal, names_literal}
+use Rattle.kp_ground_semantics.proofs.Public.{same_literal-true, same_literal-refl}
 use Rattle.kp_ground_flatten.specs.declared.literal.BoundLit.{BoundLit}
 use Rattle.kp_ground_flatten.specs.Literals.{lit_view}
 use Rattle.kp_ground_flatten.specs.Shapes.{lit_cmp, IsSetOf}

@@ -4,24 +4,24 @@ use Rattle.std.specs.List.{list_all, flat_map}
 use Rattle.std.proofs.lemmas.List.{map-append}
 use Rattle.kp_base.specs.Lists.{signed, only_if}
 use Rattle.kp_base.proofs.Lists.{map_map}
-use Rattle.kp_names_meaning.specs.declared.lifted.Term.{Term}
-use Rattle.kp_names_meaning.specs.declared.lifted.Range.{Range}
-use Rattle.kp_names_meaning.specs.declared.lifted.GroundLit.{GroundLit}
-use Rattle.kp_names_meaning.specs.Numbered.{Cond, Conds, Eff, Effs, Lifted}
-use Rattle.kp_names_meaning.specs.Lifted.{Binding, object_of, ground, bindings}
-use Rattle.kp_names_lifted.specs.declared.lifted.Cond as owned_cond
-use Rattle.kp_names_lifted.specs.declared.lifted.Cond.TheOpen.{Cond-F}
-use Rattle.kp_names_lifted.specs.declared.lifted.Cond.TheFolds.{fold-roll-Cond}
-use Rattle.kp_names_lifted.specs.declared.lifted.Cond.TheVariants as owned_conds
-use Rattle.kp_names_lifted.specs.declared.lifted.Eff as owned_eff
-use Rattle.kp_names_lifted.specs.declared.lifted.Eff.TheOpen.{Eff-F}
-use Rattle.kp_names_lifted.specs.declared.lifted.Eff.TheFolds.{fold-roll-Eff}
-use Rattle.kp_names_lifted.specs.declared.lifted.Eff.TheVariants as owned_effs
+use Rattle.kp_names_semantics.specs.declared.lifted.Term.{Term}
+use Rattle.kp_names_semantics.specs.declared.lifted.Range.{Range}
+use Rattle.kp_names_semantics.specs.declared.lifted.GroundLit.{GroundLit}
+use Rattle.kp_names_semantics.specs.Numbered.{Cond, Conds, Eff, Effs, Lifted}
+use Rattle.kp_names_semantics.specs.Lifted.{Binding, object_of, ground, bindings}
+use Rattle.kp_names_numbered.specs.declared.lifted.Cond as owned_cond
+use Rattle.kp_names_numbered.specs.declared.lifted.Cond.TheOpen.{Cond-F}
+use Rattle.kp_names_numbered.specs.declared.lifted.Cond.TheFolds.{fold-roll-Cond}
+use Rattle.kp_names_numbered.specs.declared.lifted.Cond.TheVariants as owned_conds
+use Rattle.kp_names_numbered.specs.declared.lifted.Eff as owned_eff
+use Rattle.kp_names_numbered.specs.declared.lifted.Eff.TheOpen.{Eff-F}
+use Rattle.kp_names_numbered.specs.declared.lifted.Eff.TheFolds.{fold-roll-Eff}
+use Rattle.kp_names_numbered.specs.declared.lifted.Eff.TheVariants as owned_effs
 use Rattle.kp_names.specs.View as owned
 use Rattle.kp_names.specs.View.{conds_of, effs_of}
-use Rattle.kp_ground_meaning.specs.declared.flat.FlatEffect.{FlatEffect}
-use Rattle.kp_ground_meaning.specs.Static.{is_static, initially, settled, all_settled, remaining, all_remaining}
-use Rattle.kp_ground_meaning.specs.Flattening.{under, flat}
+use Rattle.kp_ground_semantics.specs.declared.flat.FlatEffect.{FlatEffect}
+use Rattle.kp_ground_semantics.specs.Static.{is_static, initially, settled, all_settled, remaining, all_remaining}
+use Rattle.kp_ground_semantics.specs.Flattening.{under, flat}
 use Rattle.kp_ground_flatten.specs.declared.node.BoundCond.{BoundCond}
 use Rattle.kp_ground_flatten.specs.declared.node.BoundCond.TheOpen.{BoundCond-F}
 use Rattle.kp_ground_flatten.specs.declared.node.BoundCond.TheFolds.{fold-roll-BoundCond}

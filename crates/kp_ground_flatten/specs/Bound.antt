@@ -1,13 +1,13 @@
 -- The tree of an instance: objects in place of variables, and a part for each binding of a quantifier.
 use Rattle.std.specs.Prelude.{ℕ, List, [], ◌++◌, Option, option_map, map, slice_get}
 use Rattle.kp_base.specs.Lists.{each_once}
-use Rattle.kp_names_meaning.specs.declared.lifted.Term.{Term}
-use Rattle.kp_names_meaning.specs.Numbered.{Cond, Conds, Eff, Effs, Schema, Lifted}
-use Rattle.kp_names_meaning.specs.Lifted.{Binding, object_of, bindings}
+use Rattle.kp_names_semantics.specs.declared.lifted.Term.{Term}
+use Rattle.kp_names_semantics.specs.Numbered.{Cond, Conds, Eff, Effs, Schema, Lifted}
+use Rattle.kp_names_semantics.specs.Lifted.{Binding, object_of, bindings}
 use Rattle.kp_names.specs.View.{effs_of}
-use Rattle.kp_ground_meaning.specs.declared.flat.Flat.{Flat}
-use Rattle.kp_ground_meaning.specs.Static.{remaining}
-use Rattle.kp_ground_meaning.specs.Flattening.{same_flat, flat, flat_of}
+use Rattle.kp_ground_semantics.specs.declared.flat.Flat.{Flat}
+use Rattle.kp_ground_semantics.specs.Static.{remaining}
+use Rattle.kp_ground_semantics.specs.Flattening.{same_flat, flat, flat_of}
 
 -- the object that a term stands for, as a term
 abbrev pub bound_term : Binding → Term → Term

@@ -1,9 +1,9 @@
 -- Binding changes no meaning.
 use Rattle.std.specs.Prelude.{◌≡◌, ℕ, List, []}
-use Rattle.kp_names_meaning.specs.Numbered.{Cond, Eff, Schema, Lifted}
-use Rattle.kp_names_meaning.specs.Lifted.{State, Binding, holds, fires}
-use Rattle.kp_ground_meaning.specs.Static.{settled, remaining}
-use Rattle.kp_ground_meaning.specs.Flattening.{flat, flat_of}
+use Rattle.kp_names_semantics.specs.Numbered.{Cond, Eff, Schema, Lifted}
+use Rattle.kp_names_semantics.specs.Lifted.{State, Binding, holds, fires}
+use Rattle.kp_ground_semantics.specs.Static.{settled, remaining}
+use Rattle.kp_ground_semantics.specs.Flattening.{flat, flat_of}
 use Rattle.kp_ground_flatten.specs.Bound.{bound_cond, bound_eff, bound, flat_tree}
 
 -- a bound condition holds where the condition holds under the binding

@@ -1,7 +1,7 @@
 -- The tree of an instance that lies in an arena as a tree of plain data.
 use Rattle.std.specs.Prelude.{ℕ, List, map}
-use Rattle.kp_names_meaning.specs.declared.lifted.Term.{Term}
-use Rattle.kp_names_meaning.specs.Numbered.{Cond, Eff}
+use Rattle.kp_names_semantics.specs.declared.lifted.Term.{Term}
+use Rattle.kp_names_semantics.specs.Numbered.{Cond, Eff}
 use Rattle.kp_names.specs.View.{conds_of, effs_of}
 use Rattle.kp_ground_flatten.specs.declared.node.BoundCond.{BoundCond}
 use Rattle.kp_ground_flatten.specs.declared.node.BoundCond.TheOpen.{BoundCond-F}

@@ -5,10 +5,10 @@ use Rattle.std.specs.Ordering.{bool_cmp, nat_cmp, on, then_cmp}
 use Rattle.std.specs.Cmp.Lexicographic.{slice_cmp}
 use Rattle.std.specs.List.{list_any}
 use Rattle.std.specs.List.Sorted.{IsStrictlySortedBy}
-use Rattle.kp_names_meaning.specs.declared.lifted.GroundLit.{GroundLit}
-use Rattle.kp_names_meaning.specs.Lifted.{ground, names_literal}
-use Rattle.kp_ground_meaning.specs.declared.flat.FlatEffect.{FlatEffect}
-use Rattle.kp_ground_meaning.specs.Flattening.{same_flat}
+use Rattle.kp_names_semantics.specs.declared.lifted.GroundLit.{GroundLit}
+use Rattle.kp_names_semantics.specs.Lifted.{ground, names_literal}
+use Rattle.kp_ground_semantics.specs.declared.flat.FlatEffect.{FlatEffect}
+use Rattle.kp_ground_semantics.specs.Flattening.{same_flat}
 use Rattle.kp_ground_flatten.specs.declared.shape.KeyLit.{KeyLit}
 use Rattle.kp_ground_flatten.specs.declared.shape.Shape.{Shape}
 

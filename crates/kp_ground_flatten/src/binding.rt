@@ -1,6 +1,6 @@
 ghost use Rattle.std.specs.Prelude.{◌≡◌, ◌<◌, ◌++◌, Some, length, map, IfOk, OnOk};
-ghost use Rattle.kp_names_meaning.specs.Lifted.{bindings, object_of};
-ghost use Rattle.kp_names_meaning.specs.Numbered.{Eff as Effect};
+ghost use Rattle.kp_names_semantics.specs.Lifted.{bindings, object_of};
+ghost use Rattle.kp_names_semantics.specs.Numbered.{Eff as Effect};
 ghost use Rattle.kp_names.specs.View as owned;
 ghost use Rattle.kp_names.specs.View.{lifted_view};
 ghost use Rattle.kp_ground_flatten.specs.Bound.{bound_cond, bound_eff, bound, bound_at};
@@ -12,7 +12,7 @@ use bumpalo::collections::into_bump_slice;
 use kp_base::{Memory, Row};
 use kp_ground_instances::{binding_total, fill_binding, object_of, put_objects};
 use kp_names::{Cond, Eff, Lifted, Schema};
-use kp_names_meaning::{Range, Term};
+use kp_names_semantics::{Range, Term};
 use std::alloc::Global;
 
 // The objects that terms stand for, in the arena.

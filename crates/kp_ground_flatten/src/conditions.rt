@@ -3,7 +3,7 @@ ghost use Rattle.kp_ground_flatten.specs.Literals.{lit_view};
 
 use crate::literal::{BoundLit, all_owned};
 use kp_base::{Memory, Row};
-use kp_names_meaning::GroundLit;
+use kp_names_semantics::GroundLit;
 use smallvec::SmallVec;
 use std::alloc::Global;
 use std::marker::Model;
@@ -16,7 +16,7 @@ pub struct Conditions<'a> {
 
 impl<'a> Model for Conditions<'a> {
     ghost use Rattle.std.specs.Prelude.{List, map};
-    ghost use Rattle.kp_names_meaning.specs.declared.lifted.GroundLit.{GroundLit as Literal};
+    ghost use Rattle.kp_names_semantics.specs.declared.lifted.GroundLit.{GroundLit as Literal};
     ghost use Rattle.kp_ground_flatten.specs.Literals.{lit_view};
 
     ghost Value = { List Literal };

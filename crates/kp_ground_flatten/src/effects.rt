@@ -7,7 +7,7 @@ use crate::shape::{Shape, shape_of};
 use crate::sink::Sink;
 use indexmap::IndexSet;
 use kp_base::{Memory, Row};
-use kp_ground_meaning::FlatEffect;
+use kp_ground_semantics::FlatEffect;
 use std::alloc::Global;
 use std::marker::Model;
 
@@ -20,7 +20,7 @@ pub struct Effects {
 
 impl Model for Effects {
     ghost use Rattle.std.specs.Prelude.{List};
-    ghost use Rattle.kp_ground_meaning.specs.declared.flat.FlatEffect.{FlatEffect as Effect};
+    ghost use Rattle.kp_ground_semantics.specs.declared.flat.FlatEffect.{FlatEffect as Effect};
     ghost use Rattle.kp_ground_flatten.specs.Shapes.{AreShapes};
 
     ghost Value = { List Effect };

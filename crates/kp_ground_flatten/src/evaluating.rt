@@ -1,5 +1,5 @@
 ghost use Rattle.std.specs.Prelude.{◌≡◌, ◌++◌, [], OnOk};
-ghost use Rattle.kp_ground_meaning.specs.Static.{settled, remaining};
+ghost use Rattle.kp_ground_semantics.specs.Static.{settled, remaining};
 ghost use Rattle.kp_ground_flatten.specs.Nodes.{cond_view};
 ghost use Rattle.kp_names.specs.View.{lifted_view};
 

@@ -8,7 +8,7 @@ use crate::flattening::flatten_over;
 use bumpalo::Bump;
 use kp_base::{Memory, Row};
 use kp_ground_instances::Statics;
-use kp_ground_meaning::Flat;
+use kp_ground_semantics::Flat;
 use std::alloc::Global;
 
 /// Flattens instances one after another.

@@ -1,8 +1,8 @@
 ghost use Rattle.std.specs.Prelude.{◌≡◌, [], IfOk};
 ghost use Rattle.kp_names.specs.View.{lifted_view};
 ghost use Rattle.kp_base.specs.Lists.{each_once};
-ghost use Rattle.kp_ground_meaning.specs.Static.{remaining};
-ghost use Rattle.kp_ground_meaning.specs.Flattening.{flat, same_flat};
+ghost use Rattle.kp_ground_semantics.specs.Static.{remaining};
+ghost use Rattle.kp_ground_semantics.specs.Flattening.{flat, same_flat};
 ghost use Rattle.kp_ground_flatten.specs.Bound.{flat_tree};
 ghost use Rattle.kp_ground_flatten.specs.Nodes.{cond_view, eff_view, node_view};
 
@@ -13,9 +13,9 @@ use crate::handing::hand_bound;
 use crate::node::{BoundCond, BoundEff, BoundNode};
 use kp_base::{Memory, Row};
 use kp_ground_instances::Statics;
-use kp_ground_meaning::{Flat, FlatEffect};
+use kp_ground_semantics::{Flat, FlatEffect};
 use kp_names::Lifted;
-use kp_names_meaning::GroundLit;
+use kp_names_semantics::GroundLit;
 use std::alloc::Global;
 
 /// The literals of a condition that aren't static, in text order.

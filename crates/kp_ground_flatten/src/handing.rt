@@ -1,5 +1,5 @@
 ghost use Rattle.std.specs.Prelude.{◌≡◌, [], map, fold, OnOk};
-ghost use Rattle.kp_ground_meaning.specs.Flattening.{under, flat};
+ghost use Rattle.kp_ground_semantics.specs.Flattening.{under, flat};
 ghost use Rattle.kp_ground_flatten.specs.Nodes.{eff_view};
 ghost use Rattle.kp_names.specs.View.{lifted_view};
 

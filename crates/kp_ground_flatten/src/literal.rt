@@ -2,7 +2,7 @@ ghost use Rattle.std.specs.Prelude.{◌≡◌, map, IfOk};
 ghost use Rattle.kp_ground_flatten.specs.Literals.{lit_view};
 
 use kp_base::{Memory, Row};
-use kp_names_meaning::GroundLit;
+use kp_names_semantics::GroundLit;
 use std::alloc::Global;
 
 /// An atom or its negation, whose objects lie in a tree.

@@ -1,5 +1,5 @@
 ghost use Rattle.std.specs.Prelude.{◌≡◌, map, OnOk};
-ghost use Rattle.kp_ground_meaning.specs.declared.flat.FlatEffect.{FlatEffect as Told};
+ghost use Rattle.kp_ground_semantics.specs.declared.flat.FlatEffect.{FlatEffect as Told};
 ghost use Rattle.kp_ground_flatten.specs.Literals.{lit_view};
 
 use crate::literal::BoundLit;

@@ -2,11 +2,11 @@
 
 ghost use Rattle.std.specs.Prelude.{◌≡◌, ◌++◌, [], map, fold, IfOk, OnOk};
 ghost use Rattle.std.specs.List.{flat_map};
-ghost use Rattle.kp_names_meaning.specs.Lifted.{bindings};
-ghost use Rattle.kp_names_meaning.specs.Numbered.{Eff as Effect};
+ghost use Rattle.kp_names_semantics.specs.Lifted.{bindings};
+ghost use Rattle.kp_names_semantics.specs.Numbered.{Eff as Effect};
 ghost use Rattle.kp_names.specs.View as owned;
-ghost use Rattle.kp_ground_meaning.specs.Static.{remaining};
-ghost use Rattle.kp_ground_meaning.specs.Flattening.{under, flat};
+ghost use Rattle.kp_ground_semantics.specs.Static.{remaining};
+ghost use Rattle.kp_ground_semantics.specs.Flattening.{under, flat};
 ghost use Rattle.kp_ground_flatten.specs.Nodes.{cond_view, eff_view};
 ghost use Rattle.kp_names.specs.View.{lifted_view};
 
@@ -22,7 +22,7 @@ use bumpalo::Bump;
 use kp_base::{Memory, Row};
 use kp_ground_instances::{Statics, binding_total, fill_binding};
 use kp_names::{Cond, Eff};
-use kp_names_meaning::{GroundLit, Range};
+use kp_names_semantics::{GroundLit, Range};
 use std::alloc::Global;
 
 // Hands over the flat effects of a bound effect under a bound condition, but for the static literals and equalities of

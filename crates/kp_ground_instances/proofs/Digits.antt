@@ -1,8 +1,8 @@
 -- The list of a number, made from its digits.
 use Rattle.std.proofs.Common.{◌≡◌, ℕ, zero, suc, ◌+◌, ◌-◌, ◌/◌, ◌%◌, ◌<◌, ◌≤◌, List, [], ◌∷◌, ◌++◌, length, map, take, get_or, slice_get, Option, Some, None, option_map, refl, sym, ap, subst, ◌∙◌, arith, append_assoc}
 use Rattle.std.proofs.lemmas.List.{map-append, take_more}
-use Rattle.kp_names_meaning.specs.declared.lifted.Range.{Range}
-use Rattle.kp_names_meaning.specs.Lifted.{Binding, bindings}
+use Rattle.kp_names_semantics.specs.declared.lifted.Range.{Range}
+use Rattle.kp_names_semantics.specs.Lifted.{Binding, bindings}
 use Rattle.kp_base.specs.Lists.{choices}
 use Rattle.kp_base.proofs.Places.{none_past}
 use Rattle.kp_ground_instances.proofs.Choices.{last_digit, none_last}

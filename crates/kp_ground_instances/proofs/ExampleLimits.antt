@@ -2,7 +2,7 @@
 use Rattle.std.proofs.Common.{ℕ, arith}
 use Rattle.kp_base.specs.declared.limits.Limits.{Limits}
 use Rattle.kp_base.specs.declared.refused.Refused.TheVariants as refusals
-use Rattle.kp_names_meaning.proofs.Public.{moves_by_number}
+use Rattle.kp_names_semantics.proofs.Public.{moves_by_number}
 use Rattle.kp_ground_instances.specs.Counts.{IsWithinLimits, RefusesCounts, bindings_over, actions_over, effects_over}
 
 abbrev limits : ℕ → ℕ → ℕ → Limits

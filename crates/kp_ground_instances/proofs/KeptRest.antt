@@ -3,10 +3,10 @@ use Rattle.std.proofs.Common.{◌≡◌, ℕ, ◌+◌, ◌<◌, Bool, true, fals
 use Rattle.std.proofs.lemmas.List.{drop_more}
 use Rattle.std.proofs.lemmas.Option.{slice_get_within, get_or_from_slice_get}
 use Rattle.kp_base.specs.Lists.{only_if}
-use Rattle.kp_names_meaning.specs.Numbered.{Schema, Lifted}
-use Rattle.kp_names_meaning.specs.Lifted.{Binding, Instance, bindings}
-use Rattle.kp_ground_meaning.specs.Static.{settled}
-use Rattle.kp_ground_meaning.specs.Ground.{instance}
+use Rattle.kp_names_semantics.specs.Numbered.{Schema, Lifted}
+use Rattle.kp_names_semantics.specs.Lifted.{Binding, Instance, bindings}
+use Rattle.kp_ground_semantics.specs.Static.{settled}
+use Rattle.kp_ground_semantics.specs.Ground.{instance}
 
 -- the kept instances of a schema from the binding of this number on
 abbrev pub kept_rest : Lifted → ℕ → Schema → ℕ → List Instance

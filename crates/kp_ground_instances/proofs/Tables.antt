@@ -2,17 +2,17 @@
 use Rattle.std.proofs.Common.{◌≡◌, ℕ, ◌==◌, Bool, true, false, not, ◌&&◌, ◌||◌, List, map, nat_eq, eqb-true, eq-eqb, refl, sym, ap, ap₂, ◌∙◌}
 use Rattle.std.specs.List.{list_any, list_all}
 use Rattle.kp_base.proofs.Lists.{bool_same, any-not, any_map}
-use Rattle.kp_names_meaning.specs.declared.lifted.GroundLit.{GroundLit}
-use Rattle.kp_names_meaning.specs.declared.lifted.Item.{Item}
-use Rattle.kp_names_meaning.specs.Names.{same}
-use Rattle.kp_names_meaning.proofs.Public.{same_name-sym}
-use Rattle.kp_names_lifted.specs.declared.lifted.Schema as schemas
-use Rattle.kp_names_lifted.specs.declared.lifted.Lifted as lifteds
+use Rattle.kp_names_semantics.specs.declared.lifted.GroundLit.{GroundLit}
+use Rattle.kp_names_semantics.specs.declared.lifted.Item.{Item}
+use Rattle.kp_names_semantics.specs.Names.{same}
+use Rattle.kp_names_semantics.proofs.Public.{same_name-sym}
+use Rattle.kp_names_numbered.specs.declared.lifted.Schema as schemas
+use Rattle.kp_names_numbered.specs.declared.lifted.Lifted as lifteds
 use Rattle.kp_names.specs.View.{eff_view, schema_view, lifted_view}
 use Rattle.kp_base.proofs.Once.{any-added}
 use Rattle.kp_base.specs.Atoms.{same_atom}
 use Rattle.kp_base.proofs.AtomOrder.{same_atoms}
-use Rattle.kp_ground_meaning.specs.Static.{changes, leaves_static, is_static, says}
+use Rattle.kp_ground_semantics.specs.Static.{changes, leaves_static, is_static, says}
 use Rattle.kp_ground_instances.specs.StaticTables.{has_atom, with_atom}
 
 -- ---- truth values

@@ -3,19 +3,19 @@ use Rattle.std.proofs.Common.{◌≡◌, ℕ, ◌+◌, ◌||◌, List, [], ◌�
 use Rattle.std.specs.declared.alloc.Global.{Global}
 use Rattle.std.specs.List.{list_any}
 use Rattle.std.proofs.lemmas.List.Sums.{sum_by-cons}
-use Rattle.kp_names_meaning.specs.declared.lifted.Range.{Range}
-use Rattle.kp_names_meaning.specs.Numbered.{Cond, Eff}
-use Rattle.kp_names_lifted.specs.declared.lifted.Cond as conds
-use Rattle.kp_names_lifted.specs.declared.lifted.Cond.TheOpen.{Cond-F}
-use Rattle.kp_names_lifted.specs.declared.lifted.Cond.TheFolds.{fold-roll-Cond}
-use Rattle.kp_names_lifted.specs.declared.lifted.Cond.TheVariants as cond_variants
-use Rattle.kp_names_lifted.specs.declared.lifted.Eff as effs
-use Rattle.kp_names_lifted.specs.declared.lifted.Eff.TheOpen.{Eff-F}
-use Rattle.kp_names_lifted.specs.declared.lifted.Eff.TheFolds.{fold-roll-Eff}
-use Rattle.kp_names_lifted.specs.declared.lifted.Eff.TheVariants as eff_variants
+use Rattle.kp_names_semantics.specs.declared.lifted.Range.{Range}
+use Rattle.kp_names_semantics.specs.Numbered.{Cond, Eff}
+use Rattle.kp_names_numbered.specs.declared.lifted.Cond as conds
+use Rattle.kp_names_numbered.specs.declared.lifted.Cond.TheOpen.{Cond-F}
+use Rattle.kp_names_numbered.specs.declared.lifted.Cond.TheFolds.{fold-roll-Cond}
+use Rattle.kp_names_numbered.specs.declared.lifted.Cond.TheVariants as cond_variants
+use Rattle.kp_names_numbered.specs.declared.lifted.Eff as effs
+use Rattle.kp_names_numbered.specs.declared.lifted.Eff.TheOpen.{Eff-F}
+use Rattle.kp_names_numbered.specs.declared.lifted.Eff.TheFolds.{fold-roll-Eff}
+use Rattle.kp_names_numbered.specs.declared.lifted.Eff.TheVariants as eff_variants
 use Rattle.kp_names.specs.View.{conds_of, effs_of, cond_view, cond_step, eff_view, eff_step}
-use Rattle.kp_ground_meaning.specs.Static.{changes, some_change}
-use Rattle.kp_ground_meaning.specs.Weights.{cond_size, conds_size, leaves_weight, all_leaves_weight}
+use Rattle.kp_ground_semantics.specs.Static.{changes, some_change}
+use Rattle.kp_ground_semantics.specs.Weights.{cond_size, conds_size, leaves_weight, all_leaves_weight}
 
 pub cond_all : (cs : List conds.Cond) → cond_view (cond_variants.All cs) ≡ Cond.all (conds_of (map cond_view cs))
 cond_all cs = ap cond_view (sym (cond_variants.rolls-All cs)) ∙ fold-roll-Cond Cond cond_step (Cond-F.All cs)

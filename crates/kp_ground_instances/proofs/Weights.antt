@@ -1,9 +1,9 @@
 -- Weights as far as a bound.
 use Rattle.std.proofs.Common.{◌≡◌, ℕ, ◌+◌, ◌*◌, ◌<◌, ◌≤◌, min, List, length, map, take, get_or, sym, ap, ap₂, ◌∙◌, arith}
-use Rattle.kp_names_meaning.specs.declared.lifted.Range.{Range}
-use Rattle.kp_names_meaning.specs.Numbered.{Cond, Eff, Effs}
-use Rattle.kp_names_meaning.specs.Lifted.{bindings}
-use Rattle.kp_ground_meaning.specs.Weights.{cond_size, or_leaf, leaves_weight, all_leaves_weight}
+use Rattle.kp_names_semantics.specs.declared.lifted.Range.{Range}
+use Rattle.kp_names_semantics.specs.Numbered.{Cond, Eff, Effs}
+use Rattle.kp_names_semantics.specs.Lifted.{bindings}
+use Rattle.kp_ground_semantics.specs.Weights.{cond_size, or_leaf, leaves_weight, all_leaves_weight}
 use Rattle.kp_ground_instances.proofs.Capped.{Alike, alike_refl, alike_cap, alike_add, alike_mul, alike_or_leaf, or_leaf-le, cap_mul}
 use Rattle.kp_ground_instances.proofs.Choices.{length_last}
 use Rattle.kp_ground_instances.proofs.Digits.{objects, one_more}

@@ -5,10 +5,10 @@ use Rattle.kp_base.specs.declared.refused.Refused.{Refused}
 use Rattle.kp_base.specs.declared.refused.Refused.TheVariants as refusals
 use Rattle.kp_base.specs.declared.refused.Stop.{Stop}
 use Rattle.kp_base.specs.declared.refused.Stop.TheVariants as stops
-use Rattle.kp_names_meaning.specs.Numbered.{Lifted}
-use Rattle.kp_names_meaning.specs.Lifted.{Instance}
-use Rattle.kp_ground_meaning.specs.Ground.{instance, kept_instances}
-use Rattle.kp_ground_meaning.specs.Weights.{binding_count, total_weight}
+use Rattle.kp_names_semantics.specs.Numbered.{Lifted}
+use Rattle.kp_names_semantics.specs.Lifted.{Instance}
+use Rattle.kp_ground_semantics.specs.Ground.{instance, kept_instances}
+use Rattle.kp_ground_semantics.specs.Weights.{binding_count, total_weight}
 use Rattle.kp_ground_instances.specs.declared.kept.Kept.{Kept}
 
 -- an instance of the program

@@ -1,12 +1,12 @@
 -- What the tables of static predicates and stated atoms tell, and how kept instances are gathered. This file serves proofs alone.
 use Rattle.std.specs.Prelude.{◌≡◌, ◌+◌, ◌<◌, ◌≤◌, ◌==◌, ℕ, Bool, true, false, not, ◌&&◌, ◌||◌, if◌then◌else◌, List, [], ◌∷◌, ◌++◌, length, map}
 use Rattle.std.specs.List.{list_any}
-use Rattle.kp_names_meaning.specs.Names.{same}
-use Rattle.kp_names_meaning.specs.Numbered.{Lifted}
-use Rattle.kp_names_meaning.specs.Lifted.{Instance}
-use Rattle.kp_ground_meaning.specs.Static.{is_static, initially}
-use Rattle.kp_ground_meaning.specs.Ground.{kept_instances}
-use Rattle.kp_ground_meaning.specs.Weights.{total_weight}
+use Rattle.kp_names_semantics.specs.Names.{same}
+use Rattle.kp_names_semantics.specs.Numbered.{Lifted}
+use Rattle.kp_names_semantics.specs.Lifted.{Instance}
+use Rattle.kp_ground_semantics.specs.Static.{is_static, initially}
+use Rattle.kp_ground_semantics.specs.Ground.{kept_instances}
+use Rattle.kp_ground_semantics.specs.Weights.{total_weight}
 use Rattle.kp_ground_instances.specs.Counts.{kept_view, capped}
 use Rattle.kp_ground_instances.specs.declared.keeping.Keeping.{Keeping}
 

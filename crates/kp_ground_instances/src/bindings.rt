@@ -1,9 +1,9 @@
 ghost use Rattle.std.specs.Prelude.{◌≡◌, ◌<◌, Some, length, slice_get, IfOk, OnOk};
-ghost use Rattle.kp_names_meaning.specs.Lifted.{bindings};
+ghost use Rattle.kp_names_semantics.specs.Lifted.{bindings};
 
 use crate::counting::binding_number;
 use kp_base::{Memory, Row};
-use kp_names_meaning::Range;
+use kp_names_semantics::Range;
 use std::alloc::Global;
 
 /// How many lists of objects there are for these ranges. More than a `usize` counts are want of memory.

@@ -1,13 +1,13 @@
 ghost use Rattle.std.specs.Prelude.{◌≡◌, ◌==◌, not, ℕ, IfOk, OnOk};
 ghost use Rattle.std.specs.List.{list_any};
 ghost use Rattle.kp_names.specs.View.{eff_view, lifted_view};
-ghost use Rattle.kp_ground_meaning.specs.Static.{changes, leaves_static, is_static};
+ghost use Rattle.kp_ground_semantics.specs.Static.{changes, leaves_static, is_static};
 ghost use Rattle.kp_ground_instances.specs.StaticTables.{has_number, AddsNumbers};
 
 use indexmap::IndexSet;
 use kp_base::Memory;
 use kp_names::{Eff, Lifted, Schema};
-use kp_names_meaning::{GroundLit, Item};
+use kp_names_semantics::{GroundLit, Item};
 use std::alloc::Global;
 
 fn add(preds: &mut IndexSet<u32>, pred: u32) -> Result<(), Memory>

@@ -1,6 +1,6 @@
 ghost use Rattle.std.specs.Prelude.{◌≡◌, not, ℕ, Bool, Some, slice_get, IfOk};
 ghost use Rattle.kp_names.specs.View.{lifted_view};
-ghost use Rattle.kp_ground_meaning.specs.Static.{is_static};
+ghost use Rattle.kp_ground_semantics.specs.Static.{is_static};
 ghost use Rattle.kp_ground_instances.specs.StaticTables.{has_number};
 
 use crate::changed::changed_predicates;

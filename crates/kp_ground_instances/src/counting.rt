@@ -1,11 +1,11 @@
 ghost use Rattle.std.specs.Prelude.{◌≡◌, length};
-ghost use Rattle.kp_names_meaning.specs.Lifted.{bindings};
+ghost use Rattle.kp_names_semantics.specs.Lifted.{bindings};
 ghost use Rattle.kp_names.specs.View.{cond_view, eff_view, schema_view, lifted_view};
-ghost use Rattle.kp_ground_meaning.specs.Weights.{binding_count, cond_size, or_leaf, leaves_weight, weight};
+ghost use Rattle.kp_ground_semantics.specs.Weights.{binding_count, cond_size, or_leaf, leaves_weight, weight};
 ghost use Rattle.kp_ground_instances.specs.Counts.{capped};
 
 use kp_names::{Cond, Eff, Lifted, Schema};
-use kp_names_meaning::Range;
+use kp_names_semantics::Range;
 
 /// How many lists of objects there are for these ranges.
 pub fn binding_number(ranges: &[Range]) -> u128

@@ -1,9 +1,9 @@
 ghost use Rattle.std.specs.Prelude.{◌≡◌, ◌<◌, ◌≤◌, ◌+◌, ◌*◌, ◌∷◌, [], true, map, length, IfOk, IfErr, OnOk, MatchOption};
 ghost use Rattle.kp_base.specs.Lists.{only_if};
 ghost use Rattle.kp_names.specs.View.{cond_view, schema_view, lifted_view};
-ghost use Rattle.kp_ground_meaning.specs.Static.{settled};
-ghost use Rattle.kp_ground_meaning.specs.Ground.{instance, kept_bindings, kept_instances};
-ghost use Rattle.kp_ground_meaning.specs.Weights.{weight};
+ghost use Rattle.kp_ground_semantics.specs.Static.{settled};
+ghost use Rattle.kp_ground_semantics.specs.Ground.{instance, kept_bindings, kept_instances};
+ghost use Rattle.kp_ground_semantics.specs.Weights.{weight};
 ghost use Rattle.kp_ground_instances.specs.Counts.{kept_view, capped, IsWithinLimits, StopsAtCounts};
 ghost use Rattle.kp_ground_instances.specs.StaticTables.{Gathers, IsKeeping};
 

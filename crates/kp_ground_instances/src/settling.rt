@@ -1,14 +1,14 @@
 ghost use Rattle.std.specs.Prelude.{◌≡◌, map, IfOk, OnOk};
 ghost use Rattle.kp_base.specs.Lists.{signed};
-ghost use Rattle.kp_names_meaning.specs.Lifted.{object_of};
-ghost use Rattle.kp_names_meaning.specs.Numbered as numbered;
+ghost use Rattle.kp_names_semantics.specs.Lifted.{object_of};
+ghost use Rattle.kp_names_semantics.specs.Numbered as numbered;
 ghost use Rattle.kp_names.specs.View.{cond_view, lifted_view};
-ghost use Rattle.kp_ground_meaning.specs.Static.{settled};
+ghost use Rattle.kp_ground_semantics.specs.Static.{settled};
 
 use crate::statics::Statics;
 use kp_base::Memory;
 use kp_names::Cond;
-use kp_names_meaning::Term;
+use kp_names_semantics::Term;
 use std::alloc::Allocator;
 
 /// The object that a term stands for under a list of objects for the variables.

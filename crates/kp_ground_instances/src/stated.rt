@@ -1,12 +1,12 @@
 ghost use Rattle.std.specs.Prelude.{◌≡◌, ℕ, List, IfOk, OnOk};
 ghost use Rattle.kp_names.specs.View.{lifted_view};
-ghost use Rattle.kp_ground_meaning.specs.Static.{says, initially};
+ghost use Rattle.kp_ground_semantics.specs.Static.{says, initially};
 ghost use Rattle.kp_ground_instances.specs.StaticTables.{has_atom, AddsAtoms};
 
 use crate::atom_set::AtomSet;
 use kp_base::Memory;
 use kp_names::Lifted;
-use kp_names_meaning::Item;
+use kp_names_semantics::Item;
 use std::alloc::Global;
 
 // Adds the item, where it is an atom.

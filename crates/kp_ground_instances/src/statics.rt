@@ -1,6 +1,6 @@
 ghost use Rattle.std.specs.Prelude.{◌≡◌, IfOk};
 ghost use Rattle.kp_names.specs.View.{lifted_view};
-ghost use Rattle.kp_ground_meaning.specs.Static.{is_static, initially};
+ghost use Rattle.kp_ground_semantics.specs.Static.{is_static, initially};
 
 use crate::atom_set::AtomSet;
 use crate::changes::Changes;
@@ -21,8 +21,8 @@ pub struct Statics<'a> {
 
 impl<'a> Model for Statics<'a> {
     ghost use Rattle.std.specs.Coded.{codes};
-    ghost use Rattle.kp_names_lifted.specs.declared.lifted.Lifted.{Lifted as Problem};
-    ghost use Rattle.kp_names_lifted.specs.contracts.lifted.Lifted as lifteds;
+    ghost use Rattle.kp_names_numbered.specs.declared.lifted.Lifted.{Lifted as Problem};
+    ghost use Rattle.kp_names_numbered.specs.contracts.lifted.Lifted as lifteds;
     ghost use Rattle.kp_names.specs.View.{lifted_view};
     ghost use Rattle.kp_ground_instances.specs.StaticTables.{AreTablesOf};
 

@@ -6,8 +6,8 @@ use Rattle.kp_base.specs.Lists.{Member}
 use Rattle.kp_base.specs.Atoms.{Atom, atom_before, same_atom, AtomsAscend}
 use Rattle.kp_base.proofs.Lists.{member_map, all_weaker}
 use Rattle.kp_base.proofs.AtomOrder.{atom_before_transitive, atom_before_total, same_atom-true, atom_at_its_number, number_once}
-use Rattle.kp_ground_meaning.specs.Ground.{atom_of, occurring, insert_atom, ascending_atoms, ground_atoms}
-use Rattle.kp_ground_meaning.specs.Laws.{AtomsAreNumbered}
+use Rattle.kp_ground_semantics.specs.Ground.{atom_of, occurring, insert_atom, ascending_atoms, ground_atoms}
+use Rattle.kp_ground_semantics.specs.Laws.{AtomsAreNumbered}
 
 -- ---- insertion
 

@@ -11,7 +11,7 @@ use Rattle.kp_base.specs.Steps.{has}
 use Rattle.kp_base.proofs.Lists.{any_member, any_from, any_alike, all_member, bool_same, all_from}
 use Rattle.kp_base.proofs.Lits.{same_lit-true, same_lit-refl}
 use Rattle.kp_base.specs.Implicates.{is_within}
-use Rattle.kp_ground_meaning.specs.Ground.{is_idle, lasting}
+use Rattle.kp_ground_semantics.specs.Ground.{is_idle, lasting}
 
 -- ---- idle deletes
 

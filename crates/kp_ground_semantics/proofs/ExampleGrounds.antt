@@ -10,12 +10,12 @@ use Rattle.kp_lex.specs.Bytes.{class_of}
 use Rattle.kp_lex.specs.Scanning.{cut_from}
 use Rattle.kp_tree_grammar.specs.Symbols.{symbol_of}
 use Rattle.kp_tree_grammar.specs.Parsing.{some_at, next_at}
-use Rattle.kp_names_meaning.specs.Problems.{Name, Lifted, HasNoFault, numbered_problem}
+use Rattle.kp_names_semantics.specs.Problems.{Name, Lifted, HasNoFault, numbered_problem}
 pub use Rattle.kp_tree_grammar.proofs.Public.{exchange_text as exchange, from_p_to_q_text as from_p_to_q}
-use Rattle.kp_names_meaning.proofs.Public.{domain_of_text, problem_of_text, cells_domain, one_cell_problem}
-use Rattle.kp_ground_meaning.specs.Static.{is_static}
-use Rattle.kp_ground_meaning.specs.Ground.{ground_of}
-use Rattle.kp_ground_meaning.specs.Weights.{binding_count, weight, total_weight}
+use Rattle.kp_names_semantics.proofs.Public.{domain_of_text, problem_of_text, cells_domain, one_cell_problem}
+use Rattle.kp_ground_semantics.specs.Static.{is_static}
+use Rattle.kp_ground_semantics.specs.Ground.{ground_of}
+use Rattle.kp_ground_semantics.specs.Weights.{binding_count, weight, total_weight}
 
 abbrev pub lifted : List ℕ → List ℕ → Lifted
 lifted d p = numbered_problem (domain_of_text d) (problem_of_text p)

@@ -6,21 +6,21 @@ use Rattle.kp_base.specs.declared.ground.GroundName.{GroundName}
 use Rattle.kp_base.specs.declared.ground.Effect.{Effect}
 use Rattle.kp_base.specs.declared.ground.Action.{Action}
 use Rattle.kp_base.specs.declared.ground.Ground.{Ground}
-use Rattle.kp_names_meaning.specs.Names.{Name}
-use Rattle.kp_names_meaning.specs.Lifted.{State, is_named, IsInitial, IsPlan}
-use Rattle.kp_names_meaning.specs.Numbering.{numbered_problem}
-use Rattle.kp_names_meaning.proofs.Public.{domain_of_text, problem_of_text, moves_domain, from_a_to_b_problem, move_schema, moves_have_no_fault}
-pub use Rattle.kp_names_meaning.proofs.Public.{moves_by_number, moves_are_numbered as numbered_moves}
-use Rattle.kp_ground_meaning.specs.Static.{is_static, HasStaticTruth}
-use Rattle.kp_ground_meaning.specs.Ground.{instance, kept_bindings, kept_instances, ground_atoms, IsNumbering, ground_of}
-use Rattle.kp_ground_meaning.specs.Weights.{binding_count, weight, total_weight}
-use Rattle.kp_ground_meaning.specs.Laws.{IsStepOf, IsGroundRun}
-use Rattle.kp_ground_meaning.proofs.Atoms.{atoms_are_numbered}
-use Rattle.kp_ground_meaning.proofs.Static.{static_at_first}
-use Rattle.kp_ground_meaning.proofs.Step.{step_exact, kept_exact}
-use Rattle.kp_ground_meaning.proofs.Plans.{plan_exact}
-use Rattle.kp_ground_meaning.proofs.Names.{actions_named_once}
-use Rattle.kp_ground_meaning.proofs.ExampleGrounds.{named, effect}
+use Rattle.kp_names_semantics.specs.Names.{Name}
+use Rattle.kp_names_semantics.specs.Lifted.{State, is_named, IsInitial, IsPlan}
+use Rattle.kp_names_semantics.specs.Numbering.{numbered_problem}
+use Rattle.kp_names_semantics.proofs.Public.{domain_of_text, problem_of_text, moves_domain, from_a_to_b_problem, move_schema, moves_have_no_fault}
+pub use Rattle.kp_names_semantics.proofs.Public.{moves_by_number, moves_are_numbered as numbered_moves}
+use Rattle.kp_ground_semantics.specs.Static.{is_static, HasStaticTruth}
+use Rattle.kp_ground_semantics.specs.Ground.{instance, kept_bindings, kept_instances, ground_atoms, IsNumbering, ground_of}
+use Rattle.kp_ground_semantics.specs.Weights.{binding_count, weight, total_weight}
+use Rattle.kp_ground_semantics.specs.Laws.{IsStepOf, IsGroundRun}
+use Rattle.kp_ground_semantics.proofs.Atoms.{atoms_are_numbered}
+use Rattle.kp_ground_semantics.proofs.Static.{static_at_first}
+use Rattle.kp_ground_semantics.proofs.Step.{step_exact, kept_exact}
+use Rattle.kp_ground_semantics.proofs.Plans.{plan_exact}
+use Rattle.kp_ground_semantics.proofs.Names.{actions_named_once}
+use Rattle.kp_ground_semantics.proofs.ExampleGrounds.{named, effect}
 
 -- ---- the ground problem
 

@@ -5,13 +5,13 @@ use Rattle.std.proofs.lemmas.List.Concat.{flat_map-append}
 use Rattle.std.proofs.lemmas.List.Folds.{list_all-append}
 use Rattle.std.proofs.Math.Bool.{and-true}
 use Rattle.kp_base.specs.Lists.{only_if, signed}
-use Rattle.kp_names_meaning.specs.declared.lifted.GroundLit.{GroundLit}
-use Rattle.kp_names_meaning.specs.Numbered.{Cond, Conds, Eff, Effs, Lifted}
-use Rattle.kp_names_meaning.specs.Lifted.{State, Binding, object_of, literal, literal_holds, holds, all_hold, fires, all_fire, bindings}
-use Rattle.kp_ground_meaning.specs.declared.flat.FlatEffect.{FlatEffect}
-use Rattle.kp_ground_meaning.specs.Static.{is_static, initially, HasStaticTruth, settled, all_settled, remaining, all_remaining}
-use Rattle.kp_ground_meaning.specs.Flattening.{under, flat, all_flat, flat_fires}
-use Rattle.kp_ground_meaning.specs.Laws.{IsSplit, IsFlatExact}
+use Rattle.kp_names_semantics.specs.declared.lifted.GroundLit.{GroundLit}
+use Rattle.kp_names_semantics.specs.Numbered.{Cond, Conds, Eff, Effs, Lifted}
+use Rattle.kp_names_semantics.specs.Lifted.{State, Binding, object_of, literal, literal_holds, holds, all_hold, fires, all_fire, bindings}
+use Rattle.kp_ground_semantics.specs.declared.flat.FlatEffect.{FlatEffect}
+use Rattle.kp_ground_semantics.specs.Static.{is_static, initially, HasStaticTruth, settled, all_settled, remaining, all_remaining}
+use Rattle.kp_ground_semantics.specs.Flattening.{under, flat, all_flat, flat_fires}
+use Rattle.kp_ground_semantics.specs.Laws.{IsSplit, IsFlatExact}
 
 module _ (l : Lifted) (s : State) (truth : HasStaticTruth l s) (b : Binding) where
   mutual

@@ -6,10 +6,10 @@ use Rattle.std.proofs.lemmas.Option.{slice_get-map}
 use Rattle.kp_base.specs.declared.ground.Action.{Action}
 use Rattle.kp_base.specs.Lists.{Member}
 use Rattle.kp_base.proofs.Lists.{map_map, map_member, append_member, member_map, member_left, member_right}
-use Rattle.kp_names_meaning.specs.Numbered.{Schema, Lifted}
-use Rattle.kp_names_meaning.specs.Lifted.{Instance, schema_of}
+use Rattle.kp_names_semantics.specs.Numbered.{Schema, Lifted}
+use Rattle.kp_names_semantics.specs.Lifted.{Instance, schema_of}
 use Rattle.kp_base.specs.Atoms.{Atom}
-use Rattle.kp_ground_meaning.specs.Ground.{kept_bindings, instance, kept_from, kept_instances, action_of, actions_of, ground_over}
+use Rattle.kp_ground_semantics.specs.Ground.{kept_bindings, instance, kept_from, kept_instances, action_of, actions_of, ground_over}
 
 -- these schemas are those of the problem from this number on
 abbrev From : Lifted → ℕ → List Schema → Type 0

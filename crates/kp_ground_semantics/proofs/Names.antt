@@ -11,15 +11,15 @@ use Rattle.kp_base.proofs.Lists.{member_at, map_member, append_member, flat_memb
 use Rattle.kp_tree_grammar.specs.declared.tree.Word.{Word}
 use Rattle.kp_tree_grammar.specs.Trees as trees
 use Rattle.kp_tree_grammar.specs.Trees.{Typed, Domain, Problem}
-use Rattle.kp_names_meaning.specs.declared.lifted.Range.{Range}
-use Rattle.kp_names_meaning.specs.Problems.{Name, is_among, names, declared, types_of, object_lines, objects, is_of_type, range, Schema, Lifted, Instance, bindings, index_of, name_at, numbered_range, numbered_schema, numbered_problem, named_step}
-use Rattle.kp_names_meaning.specs.Lifted.{schema_of, is_instance}
-use Rattle.kp_names_meaning.proofs.Public.{member_is_among, AreDistinctNames, name_at_index, distinct_are_distinct, instances_are_named_once}
-use Rattle.kp_ground_meaning.specs.Static.{settled}
-use Rattle.kp_ground_meaning.specs.Ground.{kept_bindings, instance, kept_from, kept_instances, ground_atoms}
-use Rattle.kp_ground_meaning.specs.Laws.{AreNamedBySteps, AreNamedOnce}
-use Rattle.kp_ground_meaning.proofs.Kept.{Kept, kept_of, act, action_at}
-use Rattle.kp_ground_meaning.proofs.Plans.{kept_is_instance}
+use Rattle.kp_names_semantics.specs.declared.lifted.Range.{Range}
+use Rattle.kp_names_semantics.specs.Problems.{Name, is_among, names, declared, types_of, object_lines, objects, is_of_type, range, Schema, Lifted, Instance, bindings, index_of, name_at, numbered_range, numbered_schema, numbered_problem, named_step}
+use Rattle.kp_names_semantics.specs.Lifted.{schema_of, is_instance}
+use Rattle.kp_names_semantics.proofs.Public.{member_is_among, AreDistinctNames, name_at_index, distinct_are_distinct, instances_are_named_once}
+use Rattle.kp_ground_semantics.specs.Static.{settled}
+use Rattle.kp_ground_semantics.specs.Ground.{kept_bindings, instance, kept_from, kept_instances, ground_atoms}
+use Rattle.kp_ground_semantics.specs.Laws.{AreNamedBySteps, AreNamedOnce}
+use Rattle.kp_ground_semantics.proofs.Kept.{Kept, kept_of, act, action_at}
+use Rattle.kp_ground_semantics.proofs.Plans.{kept_is_instance}
 
 -- ---- the action of a kept instance has the name of its step
 

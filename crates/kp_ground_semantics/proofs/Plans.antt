@@ -7,16 +7,16 @@ use Rattle.kp_base.specs.Lists.{Member}
 use Rattle.kp_base.specs.Steps as steps
 use Rattle.kp_base.proofs.Lists.{any_member, any_from, member_at, filter_member, same-true, same-refl, member_left}
 pub use Rattle.kp_base.proofs.Lists.{number_at}
-use Rattle.kp_names_meaning.specs.Names.{same}
-use Rattle.kp_names_meaning.specs.Numbered.{Schema, Lifted}
-use Rattle.kp_names_meaning.specs.Lifted.{State, Instance, literal_holds, bindings, schema_of, fits, is_instance, permits, applicable, state_by, next, succeeds, IsPlan}
+use Rattle.kp_names_semantics.specs.Names.{same}
+use Rattle.kp_names_semantics.specs.Numbered.{Schema, Lifted}
+use Rattle.kp_names_semantics.specs.Lifted.{State, Instance, literal_holds, bindings, schema_of, fits, is_instance, permits, applicable, state_by, next, succeeds, IsPlan}
 use Rattle.kp_base.specs.Atoms.{Atom}
-use Rattle.kp_ground_meaning.specs.Static.{HasStaticTruth, settled}
-use Rattle.kp_ground_meaning.specs.Ground.{kept_instances, kept_literals, open_literals, IsNumbering, action_of, ground_over, seen_on}
-use Rattle.kp_ground_meaning.specs.Laws.{IsStepOf, IsGroundRun, IsPlanExact}
-use Rattle.kp_ground_meaning.proofs.Static.{static_at_first, static_kept}
-use Rattle.kp_ground_meaning.proofs.Step.{all_numbered, step_exact, kept_exact}
-use Rattle.kp_ground_meaning.proofs.Kept.{Kept, kept_of, member_of, action_there}
+use Rattle.kp_ground_semantics.specs.Static.{HasStaticTruth, settled}
+use Rattle.kp_ground_semantics.specs.Ground.{kept_instances, kept_literals, open_literals, IsNumbering, action_of, ground_over, seen_on}
+use Rattle.kp_ground_semantics.specs.Laws.{IsStepOf, IsGroundRun, IsPlanExact}
+use Rattle.kp_ground_semantics.proofs.Static.{static_at_first, static_kept}
+use Rattle.kp_ground_semantics.proofs.Step.{all_numbered, step_exact, kept_exact}
+use Rattle.kp_ground_semantics.proofs.Kept.{Kept, kept_of, member_of, action_there}
 
 module _ (l : Lifted) (atoms : List Atom) (numbering : IsNumbering l atoms) where
   -- the action of a kept instance does what the instance does

@@ -7,13 +7,13 @@ use Rattle.std.proofs.lemmas.List.Folds.{list_any-append}
 use Rattle.std.proofs.Math.Bool.{and-true, or-false}
 use Rattle.kp_base.specs.Lists.{only_if, signed}
 use Rattle.kp_base.proofs.Lists.{any_member, any_from, any_weaker, all_member, bool_same, same-true, member_at}
-use Rattle.kp_names_meaning.specs.declared.lifted.GroundLit.{GroundLit}
-use Rattle.kp_names_meaning.specs.declared.lifted.Item.{Item}
-use Rattle.kp_names_meaning.specs.Names.{same}
-use Rattle.kp_names_meaning.specs.Numbered.{Eff, Effs, Schema, Lifted}
-use Rattle.kp_names_meaning.specs.Lifted.{State, Binding, object_of, ground, same_literal, names_literal, holds, fires, all_fire, bindings, schema_of, state_by, item_holds, item_literals, is_of, is_named}
-use Rattle.kp_ground_meaning.specs.Static.{changes, some_change, leaves_static, says, is_static, initially, HasStaticTruth}
-use Rattle.kp_ground_meaning.specs.Laws.{IsStaticAtFirst, IsStaticKept}
+use Rattle.kp_names_semantics.specs.declared.lifted.GroundLit.{GroundLit}
+use Rattle.kp_names_semantics.specs.declared.lifted.Item.{Item}
+use Rattle.kp_names_semantics.specs.Names.{same}
+use Rattle.kp_names_semantics.specs.Numbered.{Eff, Effs, Schema, Lifted}
+use Rattle.kp_names_semantics.specs.Lifted.{State, Binding, object_of, ground, same_literal, names_literal, holds, fires, all_fire, bindings, schema_of, state_by, item_holds, item_literals, is_of, is_named}
+use Rattle.kp_ground_semantics.specs.Static.{changes, some_change, leaves_static, says, is_static, initially, HasStaticTruth}
+use Rattle.kp_ground_semantics.specs.Laws.{IsStaticAtFirst, IsStaticKept}
 
 -- ---- at first
 

@@ -13,20 +13,20 @@ use Rattle.kp_base.specs.Steps as steps
 use Rattle.kp_base.proofs.Lists.{any_alike, all_alike, any_member, all_member, all_from, bool_same, same-true, same-refl, filter_member, member_left, member_right, member_flat_map, member_filter}
 use Rattle.kp_base.proofs.Once.{any-each_once}
 use Rattle.kp_base.proofs.Sets.{all-set_of}
-use Rattle.kp_names_meaning.specs.declared.lifted.GroundLit.{GroundLit}
-use Rattle.kp_names_meaning.specs.Names.{same}
-use Rattle.kp_names_meaning.specs.Numbered.{Schema, Lifted}
-use Rattle.kp_names_meaning.specs.Lifted as lifted
-use Rattle.kp_names_meaning.specs.Lifted.{State, ground, same_literal, names_literal, literal_holds, bindings, state_by}
+use Rattle.kp_names_semantics.specs.declared.lifted.GroundLit.{GroundLit}
+use Rattle.kp_names_semantics.specs.Names.{same}
+use Rattle.kp_names_semantics.specs.Numbered.{Schema, Lifted}
+use Rattle.kp_names_semantics.specs.Lifted as lifted
+use Rattle.kp_names_semantics.specs.Lifted.{State, ground, same_literal, names_literal, literal_holds, bindings, state_by}
 use Rattle.kp_base.specs.Atoms.{Atom, number_of}
-use Rattle.kp_ground_meaning.specs.declared.flat.FlatEffect.{FlatEffect}
-use Rattle.kp_ground_meaning.specs.Static.{settled, remaining}
-use Rattle.kp_ground_meaning.specs.Flattening.{same_literals, same_flat, flat, flat_of, flat_fires}
-use Rattle.kp_ground_meaning.specs.Ground.{kept_bindings, atom_of, effect_literals, instance_literals, kept_literals, open_literals, occurring, numbered, numbered_set, IsNumbering, numbered_effect, lasting, ground_pre, action_of, at_atom, seen_on}
-use Rattle.kp_ground_meaning.specs.Laws.{IsOnceExact, IsStepExact, IsKeptExact}
-use Rattle.kp_ground_meaning.proofs.Lists.{beq-true, beq-refl}
-use Rattle.kp_ground_meaning.proofs.Flattening.{split, flat_exact}
-use Rattle.kp_ground_meaning.proofs.Effects.{lasting_adds, lasting_deletes}
+use Rattle.kp_ground_semantics.specs.declared.flat.FlatEffect.{FlatEffect}
+use Rattle.kp_ground_semantics.specs.Static.{settled, remaining}
+use Rattle.kp_ground_semantics.specs.Flattening.{same_literals, same_flat, flat, flat_of, flat_fires}
+use Rattle.kp_ground_semantics.specs.Ground.{kept_bindings, atom_of, effect_literals, instance_literals, kept_literals, open_literals, occurring, numbered, numbered_set, IsNumbering, numbered_effect, lasting, ground_pre, action_of, at_atom, seen_on}
+use Rattle.kp_ground_semantics.specs.Laws.{IsOnceExact, IsStepExact, IsKeptExact}
+use Rattle.kp_ground_semantics.proofs.Lists.{beq-true, beq-refl}
+use Rattle.kp_ground_semantics.proofs.Flattening.{split, flat_exact}
+use Rattle.kp_ground_semantics.proofs.Effects.{lasting_adds, lasting_deletes}
 
 -- ---- literals by number
 

@@ -2,12 +2,12 @@
 use Rattle.std.specs.Prelude.{ℕ, Bool, ◌&&◌, List, [], ◌∷◌, ◌++◌, map}
 use Rattle.std.specs.List.{list_all, flat_map}
 use Rattle.kp_base.specs.Lists.{only_if, each_once}
-use Rattle.kp_names_meaning.specs.declared.lifted.GroundLit.{GroundLit}
-use Rattle.kp_names_meaning.specs.Numbered.{Eff, Effs, Schema, Lifted}
-use Rattle.kp_names_meaning.specs.Lifted.{State, Binding, literal, literal_holds, same_literal, names_literal, bindings}
-use Rattle.kp_ground_meaning.specs.declared.flat.FlatEffect.{FlatEffect}
-use Rattle.kp_ground_meaning.specs.declared.flat.Flat.{Flat}
-use Rattle.kp_ground_meaning.specs.Static.{settled, remaining}
+use Rattle.kp_names_semantics.specs.declared.lifted.GroundLit.{GroundLit}
+use Rattle.kp_names_semantics.specs.Numbered.{Eff, Effs, Schema, Lifted}
+use Rattle.kp_names_semantics.specs.Lifted.{State, Binding, literal, literal_holds, same_literal, names_literal, bindings}
+use Rattle.kp_ground_semantics.specs.declared.flat.FlatEffect.{FlatEffect}
+use Rattle.kp_ground_semantics.specs.declared.flat.Flat.{Flat}
+use Rattle.kp_ground_semantics.specs.Static.{settled, remaining}
 
 -- an effect under further conditions
 abbrev pub under : List GroundLit → FlatEffect → FlatEffect

@@ -10,12 +10,12 @@ use Rattle.kp_base.specs.Planning.{Member, Atom, atom_before, same_atom, number_
 use Rattle.kp_base.specs.Steps as steps
 use Rattle.kp_base.specs.Steps.{has}
 use Rattle.kp_base.specs.Implicates.{is_within}
-use Rattle.kp_names_meaning.specs.declared.lifted.GroundLit.{GroundLit}
-use Rattle.kp_names_meaning.specs.Problems.{Name, Schema, Lifted, Instance, bindings, name_at}
-use Rattle.kp_names_meaning.specs.Lifted.{State, Binding, item_literals}
-use Rattle.kp_ground_meaning.specs.declared.flat.FlatEffect.{FlatEffect}
-use Rattle.kp_ground_meaning.specs.Static.{is_static, settled, remaining}
-use Rattle.kp_ground_meaning.specs.Flattening.{flat, flat_of}
+use Rattle.kp_names_semantics.specs.declared.lifted.GroundLit.{GroundLit}
+use Rattle.kp_names_semantics.specs.Problems.{Name, Schema, Lifted, Instance, bindings, name_at}
+use Rattle.kp_names_semantics.specs.Lifted.{State, Binding, item_literals}
+use Rattle.kp_ground_semantics.specs.declared.flat.FlatEffect.{FlatEffect}
+use Rattle.kp_ground_semantics.specs.Static.{is_static, settled, remaining}
+use Rattle.kp_ground_semantics.specs.Flattening.{flat, flat_of}
 
 -- ---- kept instances
 

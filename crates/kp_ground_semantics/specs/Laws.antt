@@ -8,13 +8,13 @@ use Rattle.kp_base.specs.Steps as steps
 use Rattle.kp_base.specs.ActionNames.{action_name}
 use Rattle.kp_tree_grammar.specs.declared.tree.Word.{Word}
 use Rattle.kp_tree_grammar.specs.Trees.{Domain, Problem}
-use Rattle.kp_names_meaning.specs.Problems.{HasNoFault, Cond, Eff, Schema, Lifted, Instance, literal_holds, holds, bindings, numbered_problem, named_step}
-use Rattle.kp_names_meaning.specs.Lifted.{State, Binding, names_literal, fires, permits, state_by, next, IsInitial, IsPlan}
-use Rattle.kp_names_meaning.specs.declared.lifted.GroundLit.{GroundLit}
-use Rattle.kp_ground_meaning.specs.declared.flat.FlatEffect.{FlatEffect}
-use Rattle.kp_ground_meaning.specs.Static.{HasStaticTruth, settled, remaining}
-use Rattle.kp_ground_meaning.specs.Flattening.{same_flat, flat, flat_fires}
-use Rattle.kp_ground_meaning.specs.Ground.{kept_bindings, kept_instances, atom_of, occurring, ground_atoms, IsNumbering, action_of, ground_over, ground_of, seen_on}
+use Rattle.kp_names_semantics.specs.Problems.{HasNoFault, Cond, Eff, Schema, Lifted, Instance, literal_holds, holds, bindings, numbered_problem, named_step}
+use Rattle.kp_names_semantics.specs.Lifted.{State, Binding, names_literal, fires, permits, state_by, next, IsInitial, IsPlan}
+use Rattle.kp_names_semantics.specs.declared.lifted.GroundLit.{GroundLit}
+use Rattle.kp_ground_semantics.specs.declared.flat.FlatEffect.{FlatEffect}
+use Rattle.kp_ground_semantics.specs.Static.{HasStaticTruth, settled, remaining}
+use Rattle.kp_ground_semantics.specs.Flattening.{same_flat, flat, flat_fires}
+use Rattle.kp_ground_semantics.specs.Ground.{kept_bindings, kept_instances, atom_of, occurring, ground_atoms, IsNumbering, action_of, ground_over, ground_of, seen_on}
 
 -- ---- conditions, effects and static truth
 

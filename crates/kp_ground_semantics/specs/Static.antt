@@ -2,10 +2,10 @@
 use Rattle.std.specs.Prelude.{◌≡◌, ◌==◌, ℕ, Bool, true, false, not, ◌&&◌, ◌||◌, List, [], ◌∷◌, ◌++◌}
 use Rattle.std.specs.List.{list_any, list_all}
 use Rattle.kp_base.specs.Lists.{only_if, signed}
-use Rattle.kp_names_meaning.specs.declared.lifted.GroundLit.{GroundLit}
-use Rattle.kp_names_meaning.specs.declared.lifted.Item.{Item}
-use Rattle.kp_names_meaning.specs.Numbered.{Cond, Conds, Eff, Effs, Lifted}
-use Rattle.kp_names_meaning.specs.Lifted.{State, Binding, object_of, literal, literal_holds, item_literals, is_of}
+use Rattle.kp_names_semantics.specs.declared.lifted.GroundLit.{GroundLit}
+use Rattle.kp_names_semantics.specs.declared.lifted.Item.{Item}
+use Rattle.kp_names_semantics.specs.Numbered.{Cond, Conds, Eff, Effs, Lifted}
+use Rattle.kp_names_semantics.specs.Lifted.{State, Binding, object_of, literal, literal_holds, item_literals, is_of}
 
 -- ---- static predicates
 

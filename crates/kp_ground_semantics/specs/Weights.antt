@@ -1,8 +1,8 @@
 -- How large a problem is: the number of its bindings, and the weights of its kept instances.
 use Rattle.std.specs.Prelude.{ℕ, zero, suc, ◌+◌, ◌*◌, length, sum_by}
-use Rattle.kp_names_meaning.specs.Numbered.{Cond, Conds, Eff, Effs, Schema, Lifted}
-use Rattle.kp_names_meaning.specs.Lifted.{bindings}
-use Rattle.kp_ground_meaning.specs.Ground.{kept_bindings}
+use Rattle.kp_names_semantics.specs.Numbered.{Cond, Conds, Eff, Effs, Schema, Lifted}
+use Rattle.kp_names_semantics.specs.Lifted.{bindings}
+use Rattle.kp_ground_semantics.specs.Ground.{kept_bindings}
 
 -- the number of lists of objects for the parameters of all schemas
 abbrev pub binding_count : Lifted → ℕ

@@ -1,5 +1,5 @@
 use kp_base::Row;
-use kp_names_meaning::GroundLit;
+use kp_names_semantics::GroundLit;
 
 /// An effect of an instance: where the conditions hold before a step, the result holds after it.
 #[derive(Debug, PartialEq, Eq, Drop)]

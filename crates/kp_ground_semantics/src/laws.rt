@@ -1,6 +1,6 @@
 //! Laws of the ground problem, each proved as the contract of a function that does nothing.
 
-ghost use Rattle.kp_ground_meaning.specs.Laws.{IsSplit, IsFlatExact, IsOnceExact, IsStaticAtFirst, IsStaticKept, AtomsAreNumbered, IsStepExact, IsKeptExact, IsPlanExact, AreNamedBySteps, AreNamedOnce};
+ghost use Rattle.kp_ground_semantics.specs.Laws.{IsSplit, IsFlatExact, IsOnceExact, IsStaticAtFirst, IsStaticKept, AtomsAreNumbered, IsStepExact, IsKeptExact, IsPlanExact, AreNamedBySteps, AreNamedOnce};
 
 /// A condition holds where its static literals and equalities are true and what remains of it holds.
 #[tactic(auto, using(crate::proofs::Flattening::split))]

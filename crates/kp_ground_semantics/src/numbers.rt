@@ -1,8 +1,8 @@
 ghost use Rattle.std.specs.Prelude.{◌≡◌, IfOk};
-ghost use Rattle.kp_ground_meaning.specs.Ground.{numbered, numbered_set};
+ghost use Rattle.kp_ground_semantics.specs.Ground.{numbered, numbered_set};
 
 use kp_base::{AtomId, Atoms, Lit, LitSet, Memory};
-use kp_names_meaning::GroundLit;
+use kp_names_semantics::GroundLit;
 use std::alloc::Global;
 
 /// A literal by the number of its atom.

@@ -8,14 +8,14 @@ use Rattle.kp_lex.specs.Bytes.{class_of}
 use Rattle.kp_lex.specs.Scanning.{cut_from}
 use Rattle.kp_tree_grammar.specs.Symbols.{symbol_of}
 use Rattle.kp_tree_grammar.specs.Parsing.{some_at, next_at}
-use Rattle.kp_names_meaning.specs.Lifted as lifted
-use Rattle.kp_names_meaning.specs.Plans as texts
-use Rattle.kp_names_meaning.specs.Plans.{HasProblem, Solves}
-use Rattle.kp_names_meaning.proofs.Public.{domain_of_text, problem_of_text, computes_a_problem, moves_domain, from_a_to_b_problem, move_step, cells_domain, one_cell_problem, moves_by_number, moves_are_numbered}
+use Rattle.kp_names_semantics.specs.Lifted as lifted
+use Rattle.kp_names_semantics.specs.Plans as texts
+use Rattle.kp_names_semantics.specs.Plans.{HasProblem, Solves}
+use Rattle.kp_names_semantics.proofs.Public.{domain_of_text, problem_of_text, computes_a_problem, moves_domain, from_a_to_b_problem, move_step, cells_domain, one_cell_problem, moves_by_number, moves_are_numbered}
 use Rattle.kp_tree_grammar.proofs.Public.{exchange_text, from_p_to_q_text}
-pub use Rattle.kp_names_meaning.proofs.Public.{moves_have_no_fault as no_fault, moves_goal_is_plain as plain}
-use Rattle.kp_ground_meaning.specs.Ground.{ground_atoms, ground_of, seen_on}
-use Rattle.kp_ground_meaning.proofs.Public.{atoms_are_numbered, ground_moves, numbered_texts as by_number, roads_domain, three_towns_problem}
+pub use Rattle.kp_names_semantics.proofs.Public.{moves_have_no_fault as no_fault, moves_goal_is_plain as plain}
+use Rattle.kp_ground_semantics.specs.Ground.{ground_atoms, ground_of, seen_on}
+use Rattle.kp_ground_semantics.proofs.Public.{atoms_are_numbered, ground_moves, numbered_texts as by_number, roads_domain, three_towns_problem}
 use Rattle.kp_init.specs.Initial.{initial_of}
 use Rattle.kp_init.specs.ByName.{HasNamedAtoms}
 use Rattle.kp_init.specs.Laws.{AreModels, IsNamedRun}

@@ -9,15 +9,15 @@ use Rattle.kp_base.specs.Planning.{Member, signed, only_if, same_lit, is_model, 
 use Rattle.kp_base.specs.Steps as steps
 use Rattle.kp_base.proofs.Lists.{any_member, any_from, all_member, any_alike, all_alike, any_map, bool_same, member_at, filter_member, same-true, same-refl, all_from, member_left, member_right, member_flat_map, member_filter}
 use Rattle.kp_base.proofs.Sets.{any-set_of}
-use Rattle.kp_names_meaning.specs.declared.lifted.GroundLit.{GroundLit}
-use Rattle.kp_names_meaning.specs.declared.lifted.Item.{Item}
-use Rattle.kp_names_meaning.specs.Names.{same}
-use Rattle.kp_names_meaning.specs.Numbered.{Lifted}
-use Rattle.kp_names_meaning.specs.Lifted.{State, literal_holds, same_literal, one_holds, item_holds, item_literals, is_of, is_named, IsInitial}
-use Rattle.kp_ground_meaning.specs.Static.{is_static, leaves_static, says, initially}
-use Rattle.kp_ground_meaning.specs.Ground.{atom_of, kept_literals, open_literals, numbered, numbered_set, at_atom, seen_on, IsNumbering}
+use Rattle.kp_names_semantics.specs.declared.lifted.GroundLit.{GroundLit}
+use Rattle.kp_names_semantics.specs.declared.lifted.Item.{Item}
+use Rattle.kp_names_semantics.specs.Names.{same}
+use Rattle.kp_names_semantics.specs.Numbered.{Lifted}
+use Rattle.kp_names_semantics.specs.Lifted.{State, literal_holds, same_literal, one_holds, item_holds, item_literals, is_of, is_named, IsInitial}
+use Rattle.kp_ground_semantics.specs.Static.{is_static, leaves_static, says, initially}
+use Rattle.kp_ground_semantics.specs.Ground.{atom_of, kept_literals, open_literals, numbered, numbered_set, at_atom, seen_on, IsNumbering}
 use Rattle.kp_base.proofs.AtomOrder.{same_atom-true, same_atom-refl, atom_at_its_number}
-use Rattle.kp_ground_meaning.proofs.Public.{static_predicate_parts, static_atoms_keep_their_truth, IsCoveredLiteral, holds_numbered, literal_number_is_its_own, same_literal-true, same_literal-refl}
+use Rattle.kp_ground_semantics.proofs.Public.{static_predicate_parts, static_atoms_keep_their_truth, IsCoveredLiteral, holds_numbered, literal_number_is_its_own, same_literal-true, same_literal-refl}
 use Rattle.kp_init.specs.Initial.{exactly_one, item_clauses, closed_of, initial_over}
 use Rattle.kp_init.specs.Laws.{IsInitialExact}
 use Rattle.kp_init.proofs.Exactly.{is_only, exactly_one_holds}

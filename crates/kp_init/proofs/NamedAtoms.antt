@@ -3,10 +3,10 @@ use Rattle.std.proofs.Common.{◌≡◌, false, not, ◌||◌, if◌then◌else�
 use Rattle.std.specs.List.{list_any}
 use Rattle.kp_base.specs.declared.lit.AtomId.{AtomId}
 use Rattle.kp_base.proofs.Lists.{any_alike}
-use Rattle.kp_names_meaning.specs.Numbered.{Lifted}
-use Rattle.kp_names_meaning.specs.Lifted.{item_literals, is_of, is_named}
+use Rattle.kp_names_semantics.specs.Numbered.{Lifted}
+use Rattle.kp_names_semantics.specs.Lifted.{item_literals, is_of, is_named}
 use Rattle.kp_base.specs.Atoms.{Atom, same_atom, number_of}
-use Rattle.kp_ground_meaning.specs.Ground.{atom_of}
+use Rattle.kp_ground_semantics.specs.Ground.{atom_of}
 use Rattle.kp_base.proofs.Once.{any-added}
 use Rattle.kp_base.proofs.AtomOrder.{same_atoms}
 use Rattle.kp_init.specs.NamedAtoms.{Key, named_atom, is_kept, is_named_by, closed_among}

@@ -17,16 +17,16 @@ use Rattle.kp_base.proofs.Once.{all_filter, all_each_once}
 use Rattle.kp_base.proofs.Sets.{all-set_of}
 use Rattle.kp_tree_grammar.specs.declared.tree.Word.{Word}
 use Rattle.kp_tree_grammar.specs.Trees.{Domain, Problem}
-use Rattle.kp_names_meaning.specs.declared.lifted.GroundLit.{GroundLit}
-use Rattle.kp_names_meaning.specs.declared.lifted.Item.{Item}
-use Rattle.kp_names_meaning.specs.Problems.{Schema, Lifted, Instance, HasNoFault, Step, Solves, numbered_problem, named_step, is_plain_goal}
-use Rattle.kp_names_meaning.specs.Lifted.{IsPlan}
-use Rattle.kp_names_meaning.proofs.Public.{plans_are_the_same_by_number, goals_are_plain, solves_theirs}
-use Rattle.kp_ground_meaning.specs.Static.{remaining}
-use Rattle.kp_ground_meaning.specs.Flattening.{same_flat, flat, flat_of}
-use Rattle.kp_ground_meaning.specs.Ground.{kept_bindings, kept_instances, atom_of, effect_literals, instance_literals, kept_literals, open_literals, ground_atoms, numbered, numbered_set, IsNumbering, numbered_effect, is_idle, ground_pre, ground_effects, action_of, actions_of, ground_over, ground_of, seen_on}
+use Rattle.kp_names_semantics.specs.declared.lifted.GroundLit.{GroundLit}
+use Rattle.kp_names_semantics.specs.declared.lifted.Item.{Item}
+use Rattle.kp_names_semantics.specs.Problems.{Schema, Lifted, Instance, HasNoFault, Step, Solves, numbered_problem, named_step, is_plain_goal}
+use Rattle.kp_names_semantics.specs.Lifted.{IsPlan}
+use Rattle.kp_names_semantics.proofs.Public.{plans_are_the_same_by_number, goals_are_plain, solves_theirs}
+use Rattle.kp_ground_semantics.specs.Static.{remaining}
+use Rattle.kp_ground_semantics.specs.Flattening.{same_flat, flat, flat_of}
+use Rattle.kp_ground_semantics.specs.Ground.{kept_bindings, kept_instances, atom_of, effect_literals, instance_literals, kept_literals, open_literals, ground_atoms, numbered, numbered_set, IsNumbering, numbered_effect, is_idle, ground_pre, ground_effects, action_of, actions_of, ground_over, ground_of, seen_on}
 use Rattle.kp_base.proofs.AtomOrder.{atom_at_its_number}
-use Rattle.kp_ground_meaning.proofs.Public.{atoms_are_numbered, IsCoveredLiteral, instance_literals_occur, ground_runs_are_plans, plan_is_ground_run, actions_named_by_steps}
+use Rattle.kp_ground_semantics.proofs.Public.{atoms_are_numbered, IsCoveredLiteral, instance_literals_occur, ground_runs_are_plans, plan_is_ground_run, actions_named_by_steps}
 use Rattle.kp_init.specs.Initial.{no_two, item_clauses}
 use Rattle.kp_base.proofs.Parts.{all_flat_map}
 use Rattle.kp_init.specs.Laws.{IsModelRun, IsNamedRun, IsInitialOver, IsPlanByModels, IsPlanByName, IsPlanOfTexts}

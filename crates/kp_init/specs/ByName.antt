@@ -1,10 +1,10 @@
 -- Problems by number whose ground atoms are told apart by their names.
 use Rattle.std.specs.Prelude.{◌≡◌, Bool, true, ◌&&◌, List, map, length, nat_lt}
 use Rattle.std.specs.List.{list_all}
-use Rattle.kp_names_meaning.specs.Names.{Name, distinct}
-use Rattle.kp_names_meaning.specs.Numbered.{Lifted}
+use Rattle.kp_names_semantics.specs.Names.{Name, distinct}
+use Rattle.kp_names_semantics.specs.Numbered.{Lifted}
 use Rattle.kp_base.specs.Atoms.{Atom}
-use Rattle.kp_ground_meaning.specs.Ground.{ground_atoms}
+use Rattle.kp_ground_semantics.specs.Ground.{ground_atoms}
 
 -- the names of the predicates
 abbrev pub predicate_names : Lifted → List Name

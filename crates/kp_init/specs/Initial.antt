@@ -5,10 +5,10 @@ use Rattle.kp_base.specs.declared.lit.Lit.{Lit}
 use Rattle.kp_base.specs.declared.lit.AtomId.{AtomId}
 use Rattle.kp_base.specs.declared.ground.Initial.{Initial}
 use Rattle.kp_base.specs.Planning.{only_if, each_once, negated, same_lit, set_of, Atom, has_atom, number_of}
-use Rattle.kp_names_meaning.specs.declared.lifted.Item.{Item}
-use Rattle.kp_names_meaning.specs.Numbered.{Lifted}
-use Rattle.kp_names_meaning.specs.Lifted.{is_named}
-use Rattle.kp_ground_meaning.specs.Ground.{atom_of, ground_atoms, numbered, numbered_set}
+use Rattle.kp_names_semantics.specs.declared.lifted.Item.{Item}
+use Rattle.kp_names_semantics.specs.Numbered.{Lifted}
+use Rattle.kp_names_semantics.specs.Lifted.{is_named}
+use Rattle.kp_ground_semantics.specs.Ground.{atom_of, ground_atoms, numbered, numbered_set}
 
 -- for each pair of literals, the first slowest: not both hold
 abbrev pub no_two : List Lit → List (List Lit)

@@ -4,10 +4,10 @@ use Rattle.kp_base.specs.Steps as steps
 use Rattle.kp_base.specs.Planning.{is_model, IsGroundPlan, Atom, action_name, IsOfAtoms}
 use Rattle.kp_tree_grammar.specs.declared.tree.Word.{Word}
 use Rattle.kp_tree_grammar.specs.Trees.{Domain, Problem}
-use Rattle.kp_names_meaning.specs.Problems.{HasNoFault, Step, HasProblem, Solves, Lifted, Instance, numbered_problem, is_plain_goal}
-use Rattle.kp_names_meaning.specs.Plans as plans
-use Rattle.kp_names_meaning.specs.Lifted.{State, IsInitial, IsPlan}
-use Rattle.kp_ground_meaning.specs.Ground.{IsNumbering, kept_instances, ground_over, ground_of, seen_on}
+use Rattle.kp_names_semantics.specs.Problems.{HasNoFault, Step, HasProblem, Solves, Lifted, Instance, numbered_problem, is_plain_goal}
+use Rattle.kp_names_semantics.specs.Plans as plans
+use Rattle.kp_names_semantics.specs.Lifted.{State, IsInitial, IsPlan}
+use Rattle.kp_ground_semantics.specs.Ground.{IsNumbering, kept_instances, ground_over, ground_of, seen_on}
 use Rattle.kp_init.specs.Initial.{initial_over, initial_of}
 
 -- the initial states and the models: each initial state, seen on the ground atoms, is a model; each model is one so; no two initial states are the same model

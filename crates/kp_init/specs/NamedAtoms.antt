@@ -3,11 +3,11 @@ use Rattle.std.specs.Prelude.{ℕ, Bool, not, List, map, filter}
 use Rattle.std.specs.List.{list_any}
 use denote.Ref.{Bor}
 use Rattle.kp_base.specs.declared.lit.AtomId.{AtomId}
-use Rattle.kp_names_meaning.specs.declared.lifted.Item.{Item}
-use Rattle.kp_names_meaning.specs.Numbered.{Lifted}
-use Rattle.kp_names_meaning.specs.Lifted.{item_literals, is_named}
+use Rattle.kp_names_semantics.specs.declared.lifted.Item.{Item}
+use Rattle.kp_names_semantics.specs.Numbered.{Lifted}
+use Rattle.kp_names_semantics.specs.Lifted.{item_literals, is_named}
 use Rattle.kp_base.specs.Atoms.{Atom, same_atom, number_of}
-use Rattle.kp_ground_meaning.specs.Ground.{atom_of}
+use Rattle.kp_ground_semantics.specs.Ground.{atom_of}
 
 -- ---- named atoms
 

@@ -2,13 +2,13 @@ ghost use Rattle.std.specs.Prelude.{◌≡◌, [], ◌∷◌, ◌++◌, map, IfO
 ghost use Rattle.std.specs.List.{flat_map};
 ghost use Rattle.kp_base.specs.Atoms.{has_atom};
 ghost use Rattle.kp_base.specs.Lists.{only_if};
-ghost use Rattle.kp_ground_meaning.specs.Ground.{atom_of, numbered, numbered_set};
+ghost use Rattle.kp_ground_semantics.specs.Ground.{atom_of, numbered, numbered_set};
 ghost use Rattle.kp_init.specs.Initial.{exactly_one, item_clauses};
 
 use crate::one_of::add_exactly_one;
 use kp_base::{Atoms, Lit, LitSet, Memory, Row};
-use kp_ground_meaning::{literal, literal_set};
-use kp_names_meaning::{GroundLit, Item};
+use kp_ground_semantics::{literal, literal_set};
+use kp_names_semantics::{GroundLit, Item};
 use std::alloc::Global;
 
 // Adds the clause of a literal, where its atom is one of the ground atoms.

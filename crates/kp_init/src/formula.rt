@@ -1,6 +1,6 @@
 ghost use Rattle.std.specs.Prelude.{◌≡◌, IfOk};
 ghost use Rattle.kp_names.specs.View.{lifted_view};
-ghost use Rattle.kp_ground_meaning.specs.Ground.{ground_of};
+ghost use Rattle.kp_ground_semantics.specs.Ground.{ground_of};
 ghost use Rattle.kp_init.specs.Initial.{closed_of, initial_over, initial_of};
 
 use crate::clauses::clauses_of;

@@ -1,15 +1,15 @@
 ghost use Rattle.std.specs.Prelude.{◌≡◌, ◌||◌, IfOk, OnOk};
 ghost use Rattle.std.specs.List.{list_any};
-ghost use Rattle.kp_names_meaning.specs.Lifted.{is_named};
+ghost use Rattle.kp_names_semantics.specs.Lifted.{is_named};
 ghost use Rattle.kp_names.specs.View.{lifted_view};
 ghost use Rattle.kp_base.specs.Atoms.{Atom as Told, same_atom};
-ghost use Rattle.kp_ground_meaning.specs.Ground.{atom_of};
+ghost use Rattle.kp_ground_semantics.specs.Ground.{atom_of};
 ghost use Rattle.kp_init.specs.NamedAtoms.{is_kept, is_named_by};
 
 use indexmap::IndexSet;
 use kp_base::Memory;
 use kp_names::Lifted;
-use kp_names_meaning::{GroundLit, Item};
+use kp_names_semantics::{GroundLit, Item};
 use std::alloc::Global;
 use std::marker::Model;
 
@@ -24,9 +24,9 @@ impl<'a> Model for Named<'a> {
     ghost use Rattle.std.specs.Coded.{codes};
     ghost use Rattle.std.specs.Prelude.{◌≡◌};
     ghost use Rattle.kp_base.specs.Atoms.{Atom};
-    ghost use Rattle.kp_names_lifted.specs.declared.lifted.Lifted.{Lifted as Problem};
-    ghost use Rattle.kp_names_lifted.specs.contracts.lifted.Lifted as lifteds;
-    ghost use Rattle.kp_names_meaning.specs.Lifted.{is_named};
+    ghost use Rattle.kp_names_numbered.specs.declared.lifted.Lifted.{Lifted as Problem};
+    ghost use Rattle.kp_names_numbered.specs.contracts.lifted.Lifted as lifteds;
+    ghost use Rattle.kp_names_semantics.specs.Lifted.{is_named};
     ghost use Rattle.kp_names.specs.View.{lifted_view};
     ghost use Rattle.kp_init.specs.NamedAtoms.{is_kept};
 

@@ -1,6 +1,6 @@
 ghost use Rattle.std.specs.Prelude.{◌≡◌, ◌∷◌, [], ◌++◌, true, map, IfOk, OnOk};
-ghost use Rattle.kp_names_meaning.specs.Encoding.{encoded};
-ghost use Rattle.kp_names_meaning.specs.Strip.{do_front};
+ghost use Rattle.kp_names_semantics.specs.Encoding.{encoded};
+ghost use Rattle.kp_names_semantics.specs.Strip.{do_front};
 ghost use Rattle.kp_law_ktask.specs.Task.{number, op_of, merge_word, merge_op, merge_ops_from};
 
 use crate::effects::all_effects;

@@ -7,8 +7,8 @@ use Rattle.kp_base.specs.declared.refused.Stop.{Stop}
 use Rattle.kp_write.specs.Named.{domain_of, problem_of}
 use Rattle.kp_law_ktask.specs.Task.{task_of}
 use Rattle.kp_ktask.specs.Translated.{FitsLimits, StopsTask}
-use Rattle.kp_run_translate.specs.declared.translation.Translation.{Translation}
-use Rattle.kp_run_translate.specs.Report.{counts_of}
+use Rattle.kp_ktask_texts.specs.declared.translation.Translation.{Translation}
+use Rattle.kp_ktask_texts.specs.Report.{counts_of}
 
 -- the two texts of their task, and the counts
 abbrev pub translation_with : Ground → TagTable → Translation

@@ -1,6 +1,6 @@
 ghost use Rattle.std.specs.Prelude.{◌≡◌, length, IfOk};
 ghost use Rattle.kp_law_ktask.specs.Task.{task_of};
-ghost use Rattle.kp_run_translate.specs.Report.{counts_of};
+ghost use Rattle.kp_ktask_texts.specs.Report.{counts_of};
 
 use kp_base::{Ground, Memory, Row, TagTable};
 use kp_plans_spelling::put_count;

@@ -1,7 +1,7 @@
 ghost use Rattle.std.specs.Prelude.{◌≡◌, IfOk};
 ghost use Rattle.kp_law_ktask.specs.Task.{task_of};
 ghost use Rattle.kp_ktask.specs.Translated.{without_operators};
-ghost use Rattle.kp_run_translate.specs.Translations.{translation_with, AnswersTranslation};
+ghost use Rattle.kp_ktask_texts.specs.Translations.{translation_with, AnswersTranslation};
 
 use crate::domain::domain_text;
 use crate::report::counts_text;

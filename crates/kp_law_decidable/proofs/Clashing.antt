@@ -5,7 +5,7 @@ use Rattle.kp_base.specs.declared.ground.Initial.{Initial}
 use Rattle.kp_base.specs.declared.refused.ClashAt.{ClashAt}
 use Rattle.kp_base.specs.Exclusive.{AreExclusive, ClashesFirst, IsClashFree}
 use Rattle.kp_base.specs.Implicates.{IsOfAtoms}
-use Rattle.kp_clash_pairs.specs.Paired.{is_pair}
+use Rattle.kp_clash_exclusive.specs.Paired.{is_pair}
 use Rattle.kp_clash.specs.Searching.{first_from}
 use Rattle.kp_clash.proofs.Public.{settled_pairs_are_exclusive, first_found_is_first_clash, none_found_is_no_clash}
 use Rattle.kp_law_decidable.specs.Laws.{ClashesAreDecided}

@@ -11,8 +11,8 @@ use Rattle.kp_base.proofs.Sets.{set_ascends}
 use Rattle.kp_primes.specs.Included.{all_included, AreSets, passed_at}
 use Rattle.kp_primes.specs.Answers.{RefusesPrimes, too_many}
 use Rattle.kp_primes.proofs.Public.{counted_is_never_over, prefix_stops_the_build}
-use Rattle.kp_names_meaning.specs.declared.lifted.Item.{Item}
-use Rattle.kp_ground_meaning.specs.Ground.{atom_of, numbered, numbered_set, ground_atoms}
+use Rattle.kp_names_semantics.specs.declared.lifted.Item.{Item}
+use Rattle.kp_ground_semantics.specs.Ground.{atom_of, numbered, numbered_set, ground_atoms}
 use Rattle.kp_init.specs.Initial.{no_two, item_clauses}
 use Rattle.kp_law_decidable.specs.Laws.{FormulasAreAscending, ImplicatesAreCounted}
 

@@ -13,8 +13,8 @@ use Rattle.kp_base.specs.Planning.{Member, same_lit, set_of, State, holds, is_mo
 use Rattle.kp_base.proofs.Lists.{any_alike, all_member, all_weaker, member_at}
 use Rattle.kp_base.proofs.Lits.{same_lit-true, same_lit-refl}
 use Rattle.kp_base.proofs.Sets.{set_ascends}
-use Rattle.kp_primes_models.specs.Ordered.{state_of_atoms, AnswersFirst}
-use Rattle.kp_primes_models.proofs.Public.{literals_read_first_atoms, models_read_first_atoms}
+use Rattle.kp_primes_first_model.specs.Ordered.{state_of_atoms, AnswersFirst}
+use Rattle.kp_primes_first_model.proofs.Public.{literals_read_first_atoms, models_read_first_atoms}
 use Rattle.kp_cover.specs.Targets.{AreTargets}
 use Rattle.kp_law_decidable.specs.Laws.{AreProper, CoversAreDecided, CoveragesAreDecided, TablesWithNoneAreComplete}
 use Rattle.kp_law_decidable.proofs.Firsts.{first_or_none}

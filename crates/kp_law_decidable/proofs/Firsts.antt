@@ -3,7 +3,7 @@ use Rattle.std.proofs.Common.{◌≡◌, ◌<◌, ◌≤◌, ◌+◌, ℕ, zero,
 use Rattle.std.proofs.lemmas.Bool.{or_left, false≢true, cases_lt, cases_eq, cases_order, ne_eqb}
 use Rattle.kp_base.specs.declared.lit.AtomId.{AtomId}
 use Rattle.kp_base.specs.Steps.{State, SameBelow, ComesBefore}
-use Rattle.kp_primes_models.specs.Ordered.{state_of_atoms, AreRising, AnswersFirst}
+use Rattle.kp_primes_first_model.specs.Ordered.{state_of_atoms, AreRising, AnswersFirst}
 
 -- the test reads the first n atoms alone
 pub record ReadsFirst (n : ℕ) (test : State → Bool) : Type 0 where

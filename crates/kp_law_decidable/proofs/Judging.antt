@@ -14,9 +14,9 @@ use Rattle.kp_base.specs.Implicates.{are_below, effect_below, IsOfAtoms}
 use Rattle.kp_base.proofs.Lists.{any_alike, all_member}
 use Rattle.kp_base.proofs.Least.{least_missing}
 use Rattle.kp_base.proofs.Places.{none_past}
-use Rattle.kp_primes_models.specs.Asked.{is_wanted}
-use Rattle.kp_primes_models.specs.Ordered.{state_of_atoms, AreFirst, AnswersFirst}
-use Rattle.kp_primes_models.proofs.Public.{literals_read_first_atoms, models_read_first_atoms}
+use Rattle.kp_primes_first_model.specs.Asked.{is_wanted}
+use Rattle.kp_primes_first_model.specs.Ordered.{state_of_atoms, AreFirst, AnswersFirst}
+use Rattle.kp_primes_first_model.proofs.Public.{literals_read_first_atoms, models_read_first_atoms}
 use Rattle.kp_check.specs.declared.answer.Judged.{Judged}
 use Rattle.kp_check.specs.declared.answer.Judged.TheVariants.{Yes, No}
 use Rattle.kp_check.specs.Failing.{FailAt}

@@ -6,7 +6,7 @@ use Rattle.kp_base.specs.declared.ground.Initial.{Initial}
 use Rattle.kp_base.specs.declared.limits.Mode.{Mode}
 use Rattle.kp_base.specs.declared.refused.Stop.TheVariants as stops
 use Rattle.kp_base.proofs.Lists.{all_from}
-use Rattle.kp_tags_merges.specs.declared.merge.FileMerge.{FileMerge}
+use Rattle.kp_tags_files.specs.declared.merge.FileMerge.{FileMerge}
 use Rattle.kp_tags_modes.specs.Modes.{way_of, AreMergesOf}
 use Rattle.kp_tags_modes.proofs.Public.{merges_of_modes_are_good}
 use Rattle.kp_tags.specs.MergeTables.{has_tags_of_atoms}

@@ -11,7 +11,7 @@ use Rattle.kp_base.proofs.Lists.{append_member, map_member}
 use Rattle.kp_cover_subsets.specs.Subsets.{subsets, choose}
 use Rattle.kp_cover.specs.Targets.{AreTargets}
 use Rattle.kp_cover.proofs.Public.{cov_once, target_is_below}
-use Rattle.kp_tags_merges.specs.declared.merge.FileMerge.{FileMerge}
+use Rattle.kp_tags_files.specs.declared.merge.FileMerge.{FileMerge}
 use Rattle.kp_tags_modes.specs.declared.way.Way.{Way}
 use Rattle.kp_tags_modes.specs.Modes.{way_of, IsCovering, IsFirstCovering, IsPassed, ArePassed, IsLeastCover, IsRefusedAt, AreOneForEach, AreOtherwise, AreMergesBy, AreMergesFor, merge_of, AreMergesInTurn, AreMergesOf}
 use Rattle.kp_tags_modes.specs.Answers.{IsTargetRefused, RefusesFirst, RefusesMode}

@@ -8,8 +8,8 @@ use Rattle.kp_base.specs.declared.ground.Initial.{Initial}
 use Rattle.kp_base.specs.Steps.{State, holds, is_model}
 use Rattle.kp_base.specs.Entailed.{IsConsistent}
 use Rattle.kp_base.specs.Implicates.{are_below, IsOfAtoms}
-use Rattle.kp_primes_models.specs.Ordered.{state_of_atoms, AnswersFirst}
-use Rattle.kp_primes_models.proofs.Public.{literals_read_first_atoms, models_read_first_atoms}
+use Rattle.kp_primes_first_model.specs.Ordered.{state_of_atoms, AnswersFirst}
+use Rattle.kp_primes_first_model.proofs.Public.{literals_read_first_atoms, models_read_first_atoms}
 use Rattle.kp_law_decidable.specs.Laws.{ModelsAreDecided}
 use Rattle.kp_law_decidable.proofs.Firsts.{ReadsFirst, first_or_none}
 

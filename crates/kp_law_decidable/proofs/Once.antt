@@ -12,9 +12,9 @@ use Rattle.kp_base.specs.declared.refused.Refused.TheVariants as refusals
 use Rattle.kp_base.specs.Lists.{Member}
 use Rattle.kp_base.specs.Steps.{State, is_model, succeeds, IsGroundPlan}
 use Rattle.kp_base.proofs.Lists.{member_at, member_right, member_map, map_member}
-use Rattle.kp_primes_models.specs.Asked.{is_wanted}
-use Rattle.kp_primes_models.specs.Ordered.{state_of_atoms, AreRising, AreFirst}
-use Rattle.kp_primes_models.proofs.Public.{first_state_once}
+use Rattle.kp_primes_first_model.specs.Asked.{is_wanted}
+use Rattle.kp_primes_first_model.specs.Ordered.{state_of_atoms, AreRising, AreFirst}
+use Rattle.kp_primes_first_model.proofs.Public.{first_state_once}
 use Rattle.kp_cover.specs.Valid.{satisfies_one, is_outside}
 use Rattle.kp_check.specs.declared.answer.Judged.{Judged}
 use Rattle.kp_check.specs.declared.answer.Judged.TheVariants.{Yes, No}
@@ -23,7 +23,7 @@ use Rattle.kp_check.specs.Judging.{fails, AnswersJudged}
 use Rattle.kp_check.proofs.Public.{steps_fail_in_one_place}
 use Rattle.kp_plans.specs.declared.step.PlanStep.{PlanStep}
 use Rattle.kp_plans.specs.Found.{IsFirstUnknown}
-use Rattle.kp_tags_merges.specs.declared.merge.FileMerge.{FileMerge}
+use Rattle.kp_tags_files.specs.declared.merge.FileMerge.{FileMerge}
 use Rattle.kp_tags.specs.Answers.{AreConsistent, IsFirstInconsistent, AreAcceptable, RefusesMerge, inconsistent, invalid, AreAllAcceptable, RefusesFirst, Accepts, RefusesTable, at_fault, tags_over}
 use Rattle.kp_tags.proofs.Public.{accepted_table_once}
 

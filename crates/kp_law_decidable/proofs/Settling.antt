@@ -5,11 +5,11 @@ use Rattle.kp_base.specs.declared.ground.Ground.{Ground}
 use Rattle.kp_base.specs.Lists.{Member}
 use Rattle.kp_base.specs.Clashes.{Pairs}
 use Rattle.kp_base.proofs.Lists.{all_weaker, any_from, any_member, bool_same, member_filter, filter_member}
-use Rattle.kp_clash_pairs.specs.Paired.{are_both, is_pair}
-use Rattle.kp_clash_pairs.specs.Removed.{IsWithout, Shrinks}
-use Rattle.kp_clash_pairs.specs.Settled.{stays_in, stays}
+use Rattle.kp_clash_exclusive.specs.Paired.{are_both, is_pair}
+use Rattle.kp_clash_exclusive.specs.Removed.{IsWithout, Shrinks}
+use Rattle.kp_clash_exclusive.specs.Settled.{stays_in, stays}
 use Rattle.kp_clash.specs.Settling.{IsSettled}
-use Rattle.kp_clash_pairs.proofs.Public.{stays_in_parts, stays_by_parts, broken_pair_may_go, shrinks_further}
+use Rattle.kp_clash_exclusive.proofs.Public.{stays_in_parts, stays_by_parts, broken_pair_may_go, shrinks_further}
 
 -- ---- lists
 

@@ -3,10 +3,10 @@ use Rattle.std.proofs.Common.{◌≡◌, ◌⊎◌, inl, inr, refl, ap, List, []
 use Rattle.std.proofs.lemmas.Bool.{cases_lt}
 use Rattle.kp_base.specs.declared.refused.Refused.{Refused}
 use Rattle.kp_base.specs.declared.refused.Refused.TheVariants as refusals
-use Rattle.kp_names_meaning.specs.Faults.{Fault, domain_faults, problem_faults, HasNoFault}
+use Rattle.kp_names_semantics.specs.Faults.{Fault, domain_faults, problem_faults, HasNoFault}
 use Rattle.kp_names.specs.Resolved.{first_fault, earlier, RefusesNames, in_domain, in_problem}
-use Rattle.kp_ground_meaning.specs.Ground.{ground_atoms, ground_of, kept_instances}
-use Rattle.kp_ground_meaning.specs.Weights.{binding_count, total_weight}
+use Rattle.kp_ground_semantics.specs.Ground.{ground_atoms, ground_of, kept_instances}
+use Rattle.kp_ground_semantics.specs.Weights.{binding_count, total_weight}
 use Rattle.kp_ground_instances.specs.Counts.{IsWithinLimits, bindings_over, actions_over, effects_over}
 use Rattle.kp_ground.specs.Grounded.{IsGrounded, RefusesGround, counts_over, atoms_over}
 use Rattle.kp_law_decidable.specs.Laws.{NamesAreDecided, SizesAreDecided}

@@ -12,12 +12,12 @@ use Rattle.kp_base.specs.declared.refused.Refused.TheVariants as refusals
 use Rattle.kp_base.specs.Planning.{Member, holds, are_below, IsOfAtoms, IsConsistent, closure, same_set}
 use Rattle.kp_base.proofs.Lists.{any_alike, all_member, all_from, flat_member, map_member, map_map}
 use Rattle.kp_base.proofs.Once.{all_each_once}
-use Rattle.kp_primes_models.specs.Ordered.{AreFirst, AnswersFirst}
-use Rattle.kp_primes_models.proofs.Public.{literals_read_first_atoms, models_read_first_atoms}
+use Rattle.kp_primes_first_model.specs.Ordered.{AreFirst, AnswersFirst}
+use Rattle.kp_primes_first_model.proofs.Public.{literals_read_first_atoms, models_read_first_atoms}
 use Rattle.kp_cover.specs.Valid.{AreValidTags, is_outside}
 use Rattle.kp_cover.proofs.Public.{none_outside_is_valid}
 use Rattle.kp_base.proofs.Closures.{closure_over_first_atoms}
-use Rattle.kp_tags_merges.specs.declared.merge.FileMerge.{FileMerge}
+use Rattle.kp_tags_files.specs.declared.merge.FileMerge.{FileMerge}
 use Rattle.kp_tags.specs.MergeTables.{has_tags_of_atoms, used_tags, numbered, HasClosure, IsTableOf}
 use Rattle.kp_tags.specs.Answers.{AreConsistent, AreAcceptable, RefusesMerge, Accepts, RefusesTable}
 use Rattle.kp_law_decidable.specs.Laws.{TablesAreDecided}

@@ -9,9 +9,9 @@ use Rattle.kp_base.proofs.Members.{range_only}
 use Rattle.kp_base.proofs.Lists.{any_from, any_member, flat_member, map_member, member_filter, filter_member}
 use Rattle.kp_base.proofs.Cases.{orders}
 use Rattle.kp_base.proofs.Closures.{closure_over_first_atoms}
-use Rattle.kp_clash_pairs.specs.Paired.{are_both, is_pair, all_below}
+use Rattle.kp_clash_exclusive.specs.Paired.{are_both, is_pair, all_below}
 use Rattle.kp_clash.specs.Settling.{AreNeverTogether}
-use Rattle.kp_clash_pairs.proofs.Public.{pair_turned, two_below_are_among_all}
+use Rattle.kp_clash_exclusive.proofs.Public.{pair_turned, two_below_are_among_all}
 
 -- each of the pairs has two numbers below n
 below_in : (n : ℕ) (x : ℕ × ℕ) → Member (all_below n) x → (x.0 < n) × (x.1 < n)

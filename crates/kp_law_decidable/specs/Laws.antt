@@ -17,17 +17,17 @@ use Rattle.kp_width.specs.declared.report.WidthReport.{WidthReport}
 use Rattle.kp_width.specs.Answers.{IsReport, RefusesWidth}
 use Rattle.kp_tree_grammar.specs.declared.tree.Word.{Word}
 use Rattle.kp_tree_grammar.specs.Trees.{Domain, Problem}
-use Rattle.kp_names_meaning.specs.Faults.{HasNoFault}
-use Rattle.kp_names_meaning.specs.Numbered.{Lifted}
+use Rattle.kp_names_semantics.specs.Faults.{HasNoFault}
+use Rattle.kp_names_semantics.specs.Numbered.{Lifted}
 use Rattle.kp_names.specs.Resolved.{RefusesNames}
-use Rattle.kp_ground_meaning.specs.Ground.{ground_of}
+use Rattle.kp_ground_semantics.specs.Ground.{ground_of}
 use Rattle.kp_ground.specs.Grounded.{IsGrounded, RefusesGround}
 use Rattle.kp_init.specs.Initial.{initial_of}
 use Rattle.kp_check.specs.declared.answer.Judged.{Judged}
 use Rattle.kp_check.specs.Judging.{AnswersJudged}
 use Rattle.kp_plans.specs.declared.step.PlanStep.{PlanStep}
 use Rattle.kp_plans.specs.Found.{action_of, IsFirstUnknown}
-use Rattle.kp_tags_merges.specs.declared.merge.FileMerge.{FileMerge}
+use Rattle.kp_tags_files.specs.declared.merge.FileMerge.{FileMerge}
 use Rattle.kp_tags.specs.MergeTables.{has_tags_of_atoms}
 use Rattle.kp_tags.specs.Answers.{Accepts, RefusesTable}
 use Rattle.kp_tags.specs.Made.{IsMade, RefusesMade}

@@ -10,7 +10,7 @@ use Rattle.kp_base.proofs.Places.{get_left, get_right}
 use Rattle.kp_write.specs.Task.{Op}
 use Rattle.kp_write.specs.Named.{named_op, named_start}
 use Rattle.kp_write.specs.Runs.{runs}
-use Rattle.kp_names_meaning.specs.Names.{is_among}
+use Rattle.kp_names_semantics.specs.Names.{is_among}
 use Rattle.kp_write.proofs.Public.{named_run_is_success}
 use Rattle.kp_law_ktask.specs.Task.{facts_of, task_of}
 use Rattle.kp_law_ktask.specs.ByName.{names_of, goal_of, op_of, merge_op, merge_ops_from, ops_of, op_at}

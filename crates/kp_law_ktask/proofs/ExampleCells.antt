@@ -8,15 +8,15 @@ use Rattle.kp_lex.specs.declared.token.TokenKind.TheVariants as kinds
 use Rattle.kp_lex.specs.Bytes.{class_of}
 use Rattle.kp_lex.specs.Cutting.{IsToken}
 use Rattle.kp_tree_grammar.specs.Words.{IsLow}
-use Rattle.kp_names_meaning.specs.Steps.{Step}
-use Rattle.kp_names_meaning.specs.Plans.{IsPlan}
-use Rattle.kp_names_meaning.specs.GroundNames.{IsGroundName}
+use Rattle.kp_names_semantics.specs.Steps.{Step}
+use Rattle.kp_names_semantics.specs.Plans.{IsPlan}
+use Rattle.kp_names_semantics.specs.GroundNames.{IsGroundName}
 use Rattle.kp_law_texts.specs.Pieces.{spelling, each}
 use Rattle.kp_write.specs.Written.{op, effect_line}
 use Rattle.kp_write.specs.Grounds.{IsWritable}
 use Rattle.kp_write.specs.Named.{named_op, named_effect, domain_of, problem_of}
 use Rattle.kp_law_texts.proofs.Public.{spelled_name_is_token}
-use Rattle.kp_law_machine.proofs.Public.{cells_ground, one_cell_is_full, cells_table, cells_accepted, cells_table_is_right, cells_merges_are_valid, cells_never_clash, cells_effect}
+use Rattle.kp_law_tagged_machine.proofs.Public.{cells_ground, one_cell_is_full, cells_table, cells_accepted, cells_table_is_right, cells_merges_are_valid, cells_never_clash, cells_effect}
 use Rattle.kp_law_ktask.specs.Task.{facts_of, effects_under, merge_op, task_of}
 use Rattle.kp_law_ktask.specs.Weight.{weight_of}
 use Rattle.kp_law_ktask.specs.Writable.{IsWritableTask}

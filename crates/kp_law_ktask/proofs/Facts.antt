@@ -8,8 +8,8 @@ use Rattle.kp_base.specs.Lit.{same_lit}
 use Rattle.kp_base.proofs.Each.{each_member}
 use Rattle.kp_base.proofs.Lists.{bool_same, member_at, same-true, same-refl}
 use Rattle.kp_base.proofs.Lits.{same_lit-true, same_lit-refl}
-use Rattle.kp_names_meaning.specs.Names.{same}
-use Rattle.kp_names_meaning.specs.GroundNames.{IsGroundName, same_name}
+use Rattle.kp_names_semantics.specs.Names.{same}
+use Rattle.kp_names_semantics.specs.GroundNames.{IsGroundName, same_name}
 use Rattle.kp_write.specs.Facts.{sign_word, encoded_or_none, tag_word, atom_fact, fact_of}
 use Rattle.kp_write.specs.Grounds.{IsOfAtom}
 use Rattle.kp_write.proofs.Public.{facts_tell_apart, same_name-refl}

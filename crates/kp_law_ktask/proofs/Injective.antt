@@ -8,9 +8,9 @@ use Rattle.kp_base.specs.declared.ground.TagTable.{TagTable}
 use Rattle.kp_base.specs.declared.ground.Merge.{Merge}
 use Rattle.kp_base.specs.Machine.{MachineStep}
 use Rattle.kp_base.proofs.Lists.{same-refl}
-use Rattle.kp_names_meaning.specs.Problems.{same, Step, encoded}
+use Rattle.kp_names_semantics.specs.Problems.{same, Step, encoded}
 use Rattle.kp_write.specs.Runs.{step_of}
-use Rattle.kp_names_meaning.proofs.Public.{names_are_encoded_once}
+use Rattle.kp_names_semantics.proofs.Public.{names_are_encoded_once}
 use Rattle.kp_law_ktask.specs.Task.{merge_word}
 use Rattle.kp_law_ktask.specs.ByName.{op_of, merge_op}
 use Rattle.kp_law_ktask.specs.Accepted.{step_at}

@@ -3,7 +3,7 @@ use Rattle.std.proofs.Common.{◌≡◌, ◌<◌, ◌^◌, ℕ, Bool, true, fals
 use Rattle.std.proofs.lemmas.Fmt.{decimal_is_IsNumeral, decimal_injective}
 use Rattle.kp_lex.specs.Bytes.{class_of}
 use Rattle.kp_tree_grammar.specs.Words.{IsName}
-use Rattle.kp_names_meaning.specs.Names.{same}
+use Rattle.kp_names_semantics.specs.Names.{same}
 use Rattle.kp_base.proofs.Lists.{same-true}
 use Rattle.kp_write.proofs.Public.{plain_is_name, plain_joined, plain_by_computing, digits_are_plain}
 use Rattle.kp_law_ktask.specs.Task.{merge_word}

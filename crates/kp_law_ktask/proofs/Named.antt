@@ -15,7 +15,7 @@ use Rattle.kp_base.specs.declared.ground.Merge.{Merge}
 use Rattle.kp_base.specs.Lit.{negated}
 use Rattle.kp_base.proofs.Each.{each_map}
 use Rattle.kp_base.proofs.Lists.{each_append}
-use Rattle.kp_names_meaning.specs.Names.{same}
+use Rattle.kp_names_semantics.specs.Names.{same}
 use Rattle.kp_classic.specs.Fits.{are_below, fits_effect, fits_op}
 use Rattle.kp_write.specs.Facts.{fact_of, known, opposites, support as named_support, cancellation as named_cancellation}
 use Rattle.kp_write.specs.Grounds.{IsOfAtom, AreOfAtoms, IsGroundEffect, IsGroundAction}

@@ -9,15 +9,15 @@ use Rattle.kp_base.specs.declared.ground.Action.{Action}
 use Rattle.kp_base.specs.Planning.{negated, same_lit, only_if, fires, Known, facts_after}
 use Rattle.kp_base.specs.Steps as steps
 use Rattle.kp_base.proofs.Sets.{all-set_of}
-use Rattle.kp_names_meaning.specs.Names.{same}
-use Rattle.kp_names_meaning.specs.GroundNames.{IsGroundName, same_name}
+use Rattle.kp_names_semantics.specs.Names.{same}
+use Rattle.kp_names_semantics.specs.GroundNames.{IsGroundName, same_name}
 use Rattle.kp_write.specs.Task.{Signed, Effect as TaskEffect}
 use Rattle.kp_write.specs.Facts.{fact_of, opposites, known, support, cancellation}
 use Rattle.kp_write.specs.Grounds.{IsOfAtom, AreOfAtoms, IsGroundEffect, IsGroundAction}
 use Rattle.kp_write.specs.Runs.{Facts, is_so, is_made, after_op}
 use Rattle.kp_write.proofs.Public.{opposites_are_of_atoms, made_by_first_or_later}
-use Rattle.kp_law_machine.specs.Laws.{is_cancelled}
-use Rattle.kp_law_machine.proofs.Public.{operators_are_exact}
+use Rattle.kp_law_tagged_machine.specs.Laws.{is_cancelled}
+use Rattle.kp_law_tagged_machine.proofs.Public.{operators_are_exact}
 use Rattle.kp_law_ktask.specs.ByName.{effects_under, effects_from, op_of}
 use Rattle.kp_law_ktask.proofs.Facts.{same_fact-turned, other_fact}
 

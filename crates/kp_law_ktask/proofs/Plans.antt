@@ -5,7 +5,7 @@ use Rattle.kp_base.specs.declared.ground.TagTable.{TagTable}
 use Rattle.kp_write.specs.Written.{domain_text, problem_text}
 use Rattle.kp_write.specs.Named.{domain_of, problem_of}
 use Rattle.kp_write.proofs.Public.{plans_of_texts_are_runs}
-use Rattle.kp_law_machine.proofs.Public.{accepted_lists_are_plans}
+use Rattle.kp_law_tagged_machine.proofs.Public.{accepted_lists_are_plans}
 use Rattle.kp_law_ktask.specs.Task.{facts_of, start_of, task_of}
 use Rattle.kp_law_ktask.specs.ByName.{goal_of, names_of, ops_of, domain_file, problem_file}
 use Rattle.kp_law_ktask.specs.Writable.{IsWritableTask}

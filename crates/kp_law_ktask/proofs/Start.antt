@@ -9,8 +9,8 @@ use Rattle.kp_base.specs.declared.ground.Merge.{Merge}
 use Rattle.kp_base.specs.Lit.{same_lit}
 use Rattle.kp_base.specs.Steps.{has}
 use Rattle.kp_base.specs.Machine.{Known, closure_of, after_merge}
-use Rattle.kp_names_meaning.specs.Names.{same, is_among}
-use Rattle.kp_names_meaning.specs.GroundNames.{IsGroundName, same_name}
+use Rattle.kp_names_semantics.specs.Names.{same, is_among}
+use Rattle.kp_names_semantics.specs.GroundNames.{IsGroundName, same_name}
 use Rattle.kp_write.specs.Facts.{fact_of}
 use Rattle.kp_write.specs.Grounds.{IsOfAtom, AreOfAtoms}
 use Rattle.kp_write.specs.Runs.{Facts, after_op}

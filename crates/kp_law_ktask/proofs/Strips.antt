@@ -15,9 +15,9 @@ use Rattle.kp_base.specs.declared.ground.Merge.{Merge}
 use Rattle.kp_base.specs.Machine.{MachineStep}
 use Rattle.kp_base.proofs.Each.{each_member}
 use Rattle.kp_base.proofs.Lists.{member_at}
-use Rattle.kp_names_meaning.specs.Steps.{Step}
-use Rattle.kp_names_meaning.specs.Encoding.{encoded, decoded}
-use Rattle.kp_names_meaning.specs.Strip.{do_front, is_digit, is_number, strip, stripped_operator}
+use Rattle.kp_names_semantics.specs.Steps.{Step}
+use Rattle.kp_names_semantics.specs.Encoding.{encoded, decoded}
+use Rattle.kp_names_semantics.specs.Strip.{do_front, is_digit, is_number, strip, stripped_operator}
 use Rattle.kp_write.specs.Task.{Op}
 use Rattle.kp_write.specs.Grounds.{IsGroundAction}
 use Rattle.kp_write.specs.Runs.{step_of}

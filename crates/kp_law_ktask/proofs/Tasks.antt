@@ -10,8 +10,8 @@ use Rattle.kp_base.proofs.Each.{each_map}
 use Rattle.kp_base.proofs.Lists.{member_map, member_left, member_right, each_append}
 use Rattle.kp_base.proofs.Lits.{same_lit-true}
 use Rattle.kp_tree_grammar.specs.Words.{IsHead}
-use Rattle.kp_names_meaning.specs.Names.{same}
-use Rattle.kp_names_meaning.specs.GroundNames.{IsGroundName, same_name}
+use Rattle.kp_names_semantics.specs.Names.{same}
+use Rattle.kp_names_semantics.specs.GroundNames.{IsGroundName, same_name}
 use Rattle.kp_write.specs.Facts.{fact_of}
 use Rattle.kp_write.specs.Grounds.{IsOfAtom, AreOfAtoms}
 use Rattle.kp_write.proofs.Public.{fact_is_head}

@@ -14,9 +14,9 @@ use Rattle.kp_base.specs.Lists.{Member}
 use Rattle.kp_base.proofs.Each.{each_map}
 use Rattle.kp_base.proofs.Lists.{member_map, each_append}
 use Rattle.kp_tree_grammar.specs.Words.{IsHead}
-use Rattle.kp_names_meaning.specs.Names.{same}
-use Rattle.kp_names_meaning.specs.Encoding.{encoded}
-use Rattle.kp_names_meaning.specs.GroundNames.{IsGroundName, same_name}
+use Rattle.kp_names_semantics.specs.Names.{same}
+use Rattle.kp_names_semantics.specs.Encoding.{encoded}
+use Rattle.kp_names_semantics.specs.GroundNames.{IsGroundName, same_name}
 use Rattle.kp_write.specs.Task.{Op}
 use Rattle.kp_write.specs.Facts.{fact_of, known, opposites}
 use Rattle.kp_write.specs.Grounds.{IsOfAtom, AreOfAtoms, IsGroundEffect, IsGroundAction}

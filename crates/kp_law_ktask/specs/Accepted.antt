@@ -6,8 +6,8 @@ use Rattle.kp_base.specs.declared.ground.Initial.{Initial}
 use Rattle.kp_base.specs.ActionNames.{action_name}
 use Rattle.kp_base.specs.Steps.{IsGroundPlan}
 use Rattle.kp_base.specs.Machine.{MachineStep, accepts, stripped}
-use Rattle.kp_names_meaning.specs.Steps.{Step}
-use Rattle.kp_names_meaning.specs.Strip.{strip}
+use Rattle.kp_names_semantics.specs.Steps.{Step}
+use Rattle.kp_names_semantics.specs.Strip.{strip}
 use Rattle.kp_write.specs.Runs.{step_of}
 use Rattle.kp_law_ktask.specs.ByName.{op_at}
 

@@ -8,8 +8,8 @@ use Rattle.kp_base.specs.declared.ground.Ground.{Ground}
 use Rattle.kp_base.specs.declared.ground.TagTable.{TagTable}
 use Rattle.kp_base.specs.declared.ground.Merge.{Merge}
 use Rattle.kp_base.specs.Machine.{MachineStep}
-use Rattle.kp_names_meaning.specs.Encoding.{encoded}
-use Rattle.kp_names_meaning.specs.Strip.{do_front}
+use Rattle.kp_names_semantics.specs.Encoding.{encoded}
+use Rattle.kp_names_semantics.specs.Strip.{do_front}
 use Rattle.kp_law_ktask.specs.Task.{Fact, name_of_fact, under, facts_of, start_of, merge_word, task_of}
 use Rattle.kp_write.specs.Task.{Op, Effect}
 use Rattle.kp_write.specs.Facts.{fact_of, known, support, cancellation}

@@ -9,9 +9,9 @@ use Rattle.kp_base.specs.Clashes.{NeverClashes}
 use Rattle.kp_base.specs.Machine.{MachineStep, accepts, start as known_at_start}
 use Rattle.kp_classic.specs.Fits.{IsFit}
 use Rattle.kp_classic.specs.Steps.{start, succeeds}
-use Rattle.kp_names_meaning.specs.Names.{is_among}
-use Rattle.kp_names_meaning.specs.Steps.{Step}
-use Rattle.kp_names_meaning.specs.Plans.{IsPlan}
+use Rattle.kp_names_semantics.specs.Names.{is_among}
+use Rattle.kp_names_semantics.specs.Steps.{Step}
+use Rattle.kp_names_semantics.specs.Plans.{IsPlan}
 use Rattle.kp_write.specs.Task.{Op}
 use Rattle.kp_write.specs.Facts.{fact_of}
 use Rattle.kp_write.specs.Grounds.{IsOfAtom}

@@ -10,8 +10,8 @@ use Rattle.kp_base.specs.declared.ground.TagRow.{TagRow}
 use Rattle.kp_base.specs.declared.ground.TagTable.{TagTable}
 use Rattle.kp_base.specs.declared.ground.Merge.{Merge}
 use Rattle.kp_base.specs.Lit.{positive, negative, negated, code_of}
-use Rattle.kp_names_meaning.specs.Encoding.{encoded}
-use Rattle.kp_names_meaning.specs.Strip.{do_front, merge_front}
+use Rattle.kp_names_semantics.specs.Encoding.{encoded}
+use Rattle.kp_names_semantics.specs.Strip.{do_front, merge_front}
 use Rattle.kp_classic.specs.declared.task.Conds.{Conds}
 use Rattle.kp_classic.specs.declared.task.OpEffect.{OpEffect}
 use Rattle.kp_classic.specs.declared.task.Op.{Op}

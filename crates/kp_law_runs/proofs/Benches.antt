@@ -9,8 +9,8 @@ use Rattle.kp_base.specs.Covering.{AreUncovered}
 use Rattle.kp_base.specs.Machine.{stripped}
 use Rattle.kp_tree_grammar.specs.declared.tree.Word.{Word}
 use Rattle.kp_tree_grammar.specs.Trees.{Domain, Problem}
-use Rattle.kp_names_meaning.specs.Steps.{Step}
-use Rattle.kp_names_meaning.specs.Plans.{HasProblem}
+use Rattle.kp_names_semantics.specs.Steps.{Step}
+use Rattle.kp_names_semantics.specs.Plans.{HasProblem}
 use Rattle.kp_classic.specs.declared.task.Task.{Task}
 use Rattle.kp_classic.specs.Fits.{IsFit}
 use Rattle.kp_classic.specs.Steps.{start, succeeds}
@@ -23,9 +23,9 @@ use Rattle.kp_law_ktask.specs.Task.{task_of}
 use Rattle.kp_base.specs.ActionNames.{action_name}
 use Rattle.kp_law_ktask.specs.Writable.{IsWritableTask}
 use Rattle.kp_law_ktask.proofs.Public.{tagged_plans_are_accepted}
-use Rattle.kp_law_files.specs.Translations.{ground_of, initial_of}
-use Rattle.kp_law_files.specs.Tables.{IsTableFor}
-use Rattle.kp_law_files.proofs.Public.{initial_states_are_models, tables_can_be_written, plans_lift}
+use Rattle.kp_law_translation.specs.Translations.{ground_of, initial_of}
+use Rattle.kp_law_translation.specs.Tables.{IsTableFor}
+use Rattle.kp_law_translation.proofs.Public.{initial_states_are_models, tables_can_be_written, plans_lift}
 use Rattle.kp_run_messages.specs.Refusals.{nothing}
 use Rattle.kp_run_messages.specs.Searches.{no_plan_text}
 use Rattle.kp_outside.specs.Outside.{FileMap}

@@ -22,7 +22,7 @@ use Rattle.kp_tree_grammar.specs.declared.tree.Word.{Word}
 use Rattle.kp_tree_grammar.specs.Trees.{Typed, Term, Atom, Cond, conds_of, Eff, effs_of, Item, Schema, Domain, Problem}
 use Rattle.kp_tree_grammar.specs.Grammar as grammar
 use Rattle.kp_tree_grammar.proofs.Public.{example_word_at, tokens_of_text}
-use Rattle.kp_names_meaning.specs.Numbering.{numbered_problem}
+use Rattle.kp_names_semantics.specs.Numbering.{numbered_problem}
 use Rattle.kp_tree.specs.Files.{HasTree}
 use Rattle.kp_classic.specs.declared.task.Task.{Task}
 use Rattle.kp_classic.specs.States.{has}
@@ -34,8 +34,8 @@ use Rattle.kp_search.specs.declared.found.Found.TheVariants.{NoPlan}
 use Rattle.kp_search.specs.Trace.{Entry, first, nothing}
 use Rattle.kp_search.specs.Trace.IsCourse.{lost}
 use Rattle.kp_law_ktask.specs.Task.{task_of}
-use Rattle.kp_law_files.specs.Translations.{ground_of, initial_of}
-use Rattle.kp_law_files.specs.Tables.{empty_tag}
+use Rattle.kp_law_translation.specs.Translations.{ground_of, initial_of}
+use Rattle.kp_law_translation.specs.Tables.{empty_tag}
 use Rattle.kp_gen.specs.Lines.{text}
 use Rattle.kp_gen.specs.Line as line
 use Rattle.kp_run_messages.specs.Searches.{no_plan_text}

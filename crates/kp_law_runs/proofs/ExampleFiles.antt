@@ -17,16 +17,16 @@ use Rattle.kp_tree_grammar.specs.declared.tree.Word.{Word}
 use Rattle.kp_tree_grammar.specs.Trees.{Cond, conds_of, Eff, effs_of, Item, Schema, Domain, Problem}
 use Rattle.kp_tree_grammar.specs.Grammar as grammar
 use Rattle.kp_tree_grammar.proofs.Public.{example_word_at, example_atom_at, example_pred_at, exchange_text, exchange_tree, from_p_to_q_text, from_p_to_q_tree, tokens_of_text}
-use Rattle.kp_names_meaning.specs.Numbered.{Lifted}
-use Rattle.kp_names_meaning.specs.Numbering.{numbered_problem}
-use Rattle.kp_ground_meaning.specs.Ground.{kept_instances, ground_atoms}
-use Rattle.kp_ground_meaning.specs.Ground as by_number
-use Rattle.kp_ground_meaning.specs.Weights.{binding_count, total_weight}
+use Rattle.kp_names_semantics.specs.Numbered.{Lifted}
+use Rattle.kp_names_semantics.specs.Numbering.{numbered_problem}
+use Rattle.kp_ground_semantics.specs.Ground.{kept_instances, ground_atoms}
+use Rattle.kp_ground_semantics.specs.Ground as by_number
+use Rattle.kp_ground_semantics.specs.Weights.{binding_count, total_weight}
 use Rattle.kp_ground.specs.Grounded.{IsGrounded}
 use Rattle.kp_tree.specs.Files.{HasTree}
 use Rattle.kp_law_decidable.proofs.Public.{clash_or_none}
-use Rattle.kp_law_files.specs.Translations.{ground_of, initial_of}
-use Rattle.kp_law_files.proofs.Public.{formulas_speak_of_ground_atoms}
+use Rattle.kp_law_translation.specs.Translations.{ground_of, initial_of}
+use Rattle.kp_law_translation.proofs.Public.{formulas_speak_of_ground_atoms}
 use Rattle.kp_run_prepare.specs.Texts.{HaveTrees}
 use Rattle.kp_run_prepare.specs.Prepared.{usual, IsPrepared}
 use Rattle.kp_run_classical.specs.Classical.{classical, IsClassicalProblem}

@@ -18,7 +18,7 @@ use Rattle.kp_base.specs.Lit.{has as has_lit}
 use Rattle.kp_base.specs.LitSet.{is_within}
 use Rattle.kp_base.proofs.Lists.{all_member, any_member}
 use Rattle.kp_base.proofs.Lits.{has-member, member-has}
-use Rattle.kp_law_machine.proofs.Public.{no_clash_under_exclusive_pairs as never_clashes}
+use Rattle.kp_law_tagged_machine.proofs.Public.{no_clash_under_exclusive_pairs as never_clashes}
 use Rattle.kp_base.proofs.Closures.{closure_over_first_atoms}
 use Rattle.kp_classic.specs.declared.task.Task.{Task}
 use Rattle.kp_classic.specs.Fits.{IsFit}
@@ -33,7 +33,7 @@ use Rattle.kp_search.specs.Trace.Enters.{none as none_entered, off, enter}
 use Rattle.kp_search.specs.Trace.IsCourse.{begun, spread}
 use Rattle.kp_search.specs.Laws.{by_added}
 use Rattle.kp_cover.specs.Targets.{AreTargets}
-use Rattle.kp_tags_merges.specs.declared.merge.FileMerge.{FileMerge}
+use Rattle.kp_tags_files.specs.declared.merge.FileMerge.{FileMerge}
 use Rattle.kp_tags_modes.specs.declared.way.Way.{Way}
 use Rattle.kp_tags_modes.specs.Assignments.{HasAtom, AreAtomsOf}
 use Rattle.kp_tags_modes.specs.Modes.{AreMergesBy, AreMergesInTurn, AreMergesOf, AreOtherwise, merge_of}
@@ -43,8 +43,8 @@ use Rattle.kp_law_decidable.proofs.Public.{clauses_decided, tags_decided}
 use Rattle.kp_law_decidable.specs.Laws.{AreProper, TellsOfTags}
 use Rattle.kp_law_ktask.specs.Task.{task_of}
 use Rattle.kp_ktask.specs.Translated.{FitsLimits}
-use Rattle.kp_law_files.specs.Tables.{IsTableFor}
-use Rattle.kp_law_files.proofs.Public.{formulas_speak_of_ground_atoms, tables_can_be_written}
+use Rattle.kp_law_translation.specs.Tables.{IsTableFor}
+use Rattle.kp_law_translation.proofs.Public.{formulas_speak_of_ground_atoms, tables_can_be_written}
 use Rattle.kp_gen.specs.Lines.{text}
 use Rattle.kp_gen.specs.Line as line
 use Rattle.kp_outside.specs.Outside.{with_bytes}

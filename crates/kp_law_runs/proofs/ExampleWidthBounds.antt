@@ -19,8 +19,8 @@ use Rattle.kp_tree_grammar.specs.declared.tree.Word.{Word}
 use Rattle.kp_tree_grammar.specs.Trees.{Cond, conds_of, Eff, effs_of, Item, Schema, Domain, Problem}
 use Rattle.kp_tree_grammar.specs.Grammar as grammar
 use Rattle.kp_tree_grammar.proofs.Public.{example_word_at, example_atom_at, example_pred_at, tokens_of_text}
-use Rattle.kp_names_meaning.specs.Names.{same}
-use Rattle.kp_names_meaning.specs.Numbering.{numbered_problem}
+use Rattle.kp_names_semantics.specs.Names.{same}
+use Rattle.kp_names_semantics.specs.Numbering.{numbered_problem}
 use Rattle.kp_tree.specs.Files.{HasTree}
 use Rattle.kp_cover.specs.Targets.{AreTargets}
 use Rattle.kp_cover.specs.Covering.{IsCover}
@@ -29,7 +29,7 @@ use Rattle.kp_width.specs.declared.report.WidthReport.TheVariants.{Within, Over}
 use Rattle.kp_width.specs.Rows.{NoneCovers, AreRows, IsOver}
 use Rattle.kp_width.specs.Answers.{IsReport}
 use Rattle.kp_law_decidable.proofs.Public.{clauses_decided, targets_decided}
-use Rattle.kp_law_files.specs.Translations.{ground_of, initial_of}
+use Rattle.kp_law_translation.specs.Translations.{ground_of, initial_of}
 use Rattle.kp_outside.specs.Outside.{with_bytes}
 use Rattle.kp_run_outcome.specs.declared.status.Status.TheVariants as status
 use Rattle.kp_run_outcome.specs.Ends.{Outside, whole}

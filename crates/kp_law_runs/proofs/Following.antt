@@ -26,11 +26,11 @@ use Rattle.kp_base.specs.declared.ground.Initial.{Initial}
 use Rattle.kp_base.specs.declared.ground.TagTable.{TagTable}
 use Rattle.kp_check.specs.declared.answer.Judged.{Judged}
 use Rattle.kp_check.specs.declared.answer.Judged.TheVariants.{Yes, No}
-use Rattle.kp_law_files.specs.Translations.{ground_of, initial_of}
+use Rattle.kp_law_translation.specs.Translations.{ground_of, initial_of}
 use Rattle.kp_run_inputs.specs.SourceTables.{ComesByTable, no_table, with_table}
 use Rattle.kp_run_inputs.specs.Actions.{ComesByPlan, no_actions, with_actions}
 use Rattle.kp_run.specs.Outcomes.{translates, TranslatesGround, over, done, TranslatesTrees, MergesGround, MergesTrees, StripsText, too_long, no_plan, no_strip, strips, tells, TellsJudged, ChecksTrees, LiftsActions, lifts, fails, LiftsPlan, no_task, with_task, LiftsTrees, SolvesTrees, ClassicalTrees, tells_width, WidthGround, no_report, with_report, WidthTrees, ComesTo, translated, merged, stripped, checked, lifted, solved, solved_classical, width_measured, benched, IsDue, usage, of_command}
-use Rattle.kp_names_meaning.specs.Steps.{Step}
+use Rattle.kp_names_semantics.specs.Steps.{Step}
 use Rattle.kp_search.specs.declared.found.Found.{Found}
 use Rattle.kp_search.specs.declared.found.Found.TheVariants.{Plan, NoPlan, Spent}
 use Rattle.kp_run_classical.specs.Classical.{ComesClassical, by_texts as no_texts, by_trees as no_trees, early as at_once, later as goes_on}

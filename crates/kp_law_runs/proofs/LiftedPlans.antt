@@ -3,18 +3,18 @@ use Rattle.std.proofs.Common.{◌↔◌, ◌≡◌, ℕ, true, List, Some, map, 
 use Rattle.kp_base.specs.declared.ground.TagTable.{TagTable}
 use Rattle.kp_base.specs.Machine.{MachineStep, accepts, stripped}
 use Rattle.kp_base.proofs.Cases.{some_alike}
-use Rattle.kp_law_machine.specs.Lifts.{lift_of}
-use Rattle.kp_law_machine.proofs.Public.{lifted_lists_are_best}
+use Rattle.kp_law_tagged_machine.specs.Lifts.{lift_of}
+use Rattle.kp_law_tagged_machine.proofs.Public.{lifted_lists_are_best}
 use Rattle.kp_run_prepare.proofs.Public.{numbers_of_names_once}
-use Rattle.kp_names_meaning.specs.Steps.{Step}
-use Rattle.kp_names_meaning.specs.Plans.{HasProblem}
+use Rattle.kp_names_semantics.specs.Steps.{Step}
+use Rattle.kp_names_semantics.specs.Plans.{HasProblem}
 use Rattle.kp_plans.specs.declared.step.PlanStep.{PlanStep}
 use Rattle.kp_plans.specs.PlanFiles.{step_names}
 use Rattle.kp_plans.specs.Found.{action_of}
 use Rattle.kp_law_ktask.proofs.Public.{tagged_plans_are_accepted, tagged_steps_strip}
-use Rattle.kp_law_files.specs.Translations.{ground_of}
-use Rattle.kp_law_files.specs.Tables.{IsTableFor}
-use Rattle.kp_law_files.proofs.Public.{tables_can_be_written, lifted_steps_have_names, lifts_written}
+use Rattle.kp_law_translation.specs.Translations.{ground_of}
+use Rattle.kp_law_translation.specs.Tables.{IsTableFor}
+use Rattle.kp_law_translation.proofs.Public.{tables_can_be_written, lifted_steps_have_names, lifts_written}
 use Rattle.kp_run_inputs.proofs.Public.{found_numbers_are_actions, found_actions_are_named}
 use Rattle.kp_law_runs.specs.Commands.{StripsTo}
 

@@ -20,22 +20,22 @@ use Rattle.kp_base.specs.declared.ground.Ground.{Ground}
 use Rattle.kp_base.specs.declared.ground.Initial.{Initial}
 use Rattle.kp_check.specs.declared.answer.Judged.{Judged}
 use Rattle.kp_check.specs.declared.answer.Judged.TheVariants.{Yes, No}
-use Rattle.kp_law_files.specs.Translations.{ground_of, initial_of}
+use Rattle.kp_law_translation.specs.Translations.{ground_of, initial_of}
 use Rattle.kp_run.specs.Outcomes.{TranslatesTexts, translates, done, strips, prints, tells, LiftsActions, lifts, fails, with_task, translated, merged, stripped, checked, lifted, IsDue, of_command}
 use Rattle.kp_run.specs.Ends.{Ends}
 use Rattle.kp_run_messages.specs.Coverage.{coverage_text}
-use Rattle.kp_tags_merges.specs.Printed.{merges_of, merges_text}
+use Rattle.kp_tags_files.specs.Printed.{merges_of, merges_text}
 use Rattle.kp_base.specs.declared.lit.Lit.{Lit}
 use Rattle.kp_base.specs.declared.ground.TagTable.{TagTable}
 use Rattle.kp_base.specs.Covering.{IsComplete, AreUncovered}
 use Rattle.kp_law_decidable.specs.Laws.{AreProper}
 use Rattle.kp_law_decidable.proofs.Public.{complete_with_none}
 use Rattle.kp_cover.proofs.Public.{none_uncovered_if_complete}
-use Rattle.kp_law_machine.specs.Lifts.{lift_of, UnliftedAt}
-use Rattle.kp_law_machine.proofs.Public.{lifted_lists_strip, lists_lift_or_fail, failing_lists_dont_lift}
-use Rattle.kp_law_files.proofs.Public.{numbers_below_are_actions, lifted_steps_have_names}
+use Rattle.kp_law_tagged_machine.specs.Lifts.{lift_of, UnliftedAt}
+use Rattle.kp_law_tagged_machine.proofs.Public.{lifted_lists_strip, lists_lift_or_fail, failing_lists_dont_lift}
+use Rattle.kp_law_translation.proofs.Public.{numbers_below_are_actions, lifted_steps_have_names}
 use Rattle.kp_base.specs.Machine.{MachineStep, accepts, stripped as actions_of}
-use Rattle.kp_run_translate.specs.Report.{counts_of}
+use Rattle.kp_ktask_texts.specs.Report.{counts_of}
 use Rattle.kp_plans.specs.declared.step.PlanStep.{PlanStep}
 use Rattle.kp_words.specs.Command.{IsTranslate, IsCheck, IsLift, file_of, if_named, inputs_of}
 use Rattle.kp_run_inputs.specs.SourceTables.{by_mode, with_table}

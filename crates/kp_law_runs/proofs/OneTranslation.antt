@@ -4,8 +4,8 @@ use Rattle.kp_base.specs.declared.ground.Ground.{Ground}
 use Rattle.kp_base.specs.declared.ground.Initial.{Initial}
 use Rattle.kp_base.specs.declared.ground.TagTable.{TagTable}
 use Rattle.kp_base.proofs.Cases.{some_alike}
-use Rattle.kp_law_machine.specs.Lifts.{lift_of}
-use Rattle.kp_law_machine.proofs.Public.{failing_lists_dont_lift, lists_fail_once, lifted_lists_strip}
+use Rattle.kp_law_tagged_machine.specs.Lifts.{lift_of}
+use Rattle.kp_law_tagged_machine.proofs.Public.{failing_lists_dont_lift, lists_fail_once, lifted_lists_strip}
 use Rattle.kp_law_ktask.specs.Task.{task_of}
 use Rattle.kp_cover.proofs.Public.{uncovered_once}
 use Rattle.kp_law_decidable.proofs.Public.{verdict_once}

@@ -8,8 +8,8 @@ use Rattle.kp_base.specs.declared.refused.Refused.{Refused}
 use Rattle.kp_base.specs.declared.refused.Refused.TheVariants as refusals
 use Rattle.kp_tree_grammar.specs.declared.tree.Word.{Word}
 use Rattle.kp_tree_grammar.specs.Trees.{Domain, Problem}
-use Rattle.kp_names_meaning.specs.Faults.{HasNoFault}
-use Rattle.kp_names_meaning.specs.Numbering.{numbered_problem}
+use Rattle.kp_names_semantics.specs.Faults.{HasNoFault}
+use Rattle.kp_names_semantics.specs.Numbering.{numbered_problem}
 use Rattle.kp_names.specs.Resolved.{first_unsure, place_in}
 use Rattle.kp_classic.specs.Fits.{IsFit}
 use Rattle.kp_law_decidable.specs.Laws.{AreProper}
@@ -18,8 +18,8 @@ use Rattle.kp_search.specs.declared.found.Found.{Found}
 use Rattle.kp_search.specs.declared.found.Found.TheVariants.{Plan, NoPlan, Spent}
 use Rattle.kp_law_ktask.specs.Task.{task_of}
 use Rattle.kp_ktask.specs.Translated.{FitsLimits}
-use Rattle.kp_law_files.specs.Translations.{ground_of, initial_of}
-use Rattle.kp_law_files.proofs.Public.{initial_states_are_models, formulas_speak_of_ground_atoms}
+use Rattle.kp_law_translation.specs.Translations.{ground_of, initial_of}
+use Rattle.kp_law_translation.proofs.Public.{initial_states_are_models, formulas_speak_of_ground_atoms}
 use Rattle.kp_run_messages.specs.Refusals.{nothing}
 use Rattle.kp_run_messages.specs.Searches.{no_plan_line, no_plan_text}
 use Rattle.kp_run_outcome.specs.declared.outcome.Outcome.{Outcome}

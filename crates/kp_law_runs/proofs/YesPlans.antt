@@ -6,15 +6,15 @@ use Rattle.kp_base.specs.declared.ground.Initial.{Initial}
 use Rattle.kp_base.specs.Steps.{is_model, IsGroundPlan}
 use Rattle.kp_init.proofs.Public.{plan_of_texts}
 use Rattle.kp_run_prepare.proofs.Public.{numbers_of_names_once}
-use Rattle.kp_primes_models.specs.Ordered.{state_of_atoms}
+use Rattle.kp_primes_first_model.specs.Ordered.{state_of_atoms}
 use Rattle.kp_check.specs.declared.answer.Judged.{Judged}
 use Rattle.kp_check.specs.declared.answer.Judged.TheVariants.{Yes, No}
 use Rattle.kp_check.specs.Judging.{AnswersJudged, fails}
 use Rattle.kp_plans.specs.declared.step.PlanStep.{PlanStep}
 use Rattle.kp_plans.specs.PlanFiles.{step_names}
-use Rattle.kp_law_files.specs.Translations.{ground_of, initial_of}
+use Rattle.kp_law_translation.specs.Translations.{ground_of, initial_of}
 use Rattle.kp_run_inputs.proofs.Public.{found_actions_are_named, named_are_all_found}
-use Rattle.kp_law_files.proofs.Public.{initial_states_are_models}
+use Rattle.kp_law_translation.proofs.Public.{initial_states_are_models}
 use Rattle.kp_law_runs.specs.Laws.{YesIsAPlan, UnknownStepsAreNoPlan}
 
 -- ---- verdicts

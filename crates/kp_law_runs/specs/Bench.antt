@@ -2,9 +2,9 @@
 use Rattle.std.specs.Prelude.{◌≡◌, ◌↔◌, ℕ, List, [], Some, length}
 use Rattle.kp_base.specs.declared.lit.Lit.{Lit}
 use Rattle.kp_base.specs.Covering.{IsComplete, AreUncovered}
-use Rattle.kp_names_meaning.specs.Steps.{Step}
-use Rattle.kp_names_meaning.specs.Plans.{IsPlan}
-use Rattle.kp_names_meaning.specs.Strip.{strip}
+use Rattle.kp_names_semantics.specs.Steps.{Step}
+use Rattle.kp_names_semantics.specs.Plans.{IsPlan}
+use Rattle.kp_names_semantics.specs.Strip.{strip}
 use Rattle.kp_search.specs.declared.found.Found.TheVariants.{Plan, Spent}
 use Rattle.kp_search.specs.Ends.{HasMoreStates}
 use Rattle.kp_ktask.specs.Translated.{FitsLimits}

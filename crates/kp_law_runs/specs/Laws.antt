@@ -1,15 +1,15 @@
 -- Words have an outcome on what is held.
 use Rattle.std.specs.Prelude.{◌≡◌, ◌↔◌, ℕ, List, length, map, Some, Vec}
 use Rattle.std.specs.declared.alloc.Global.{Global}
-use Rattle.kp_names_meaning.specs.Initial.{HasInitialState}
-use Rattle.kp_names_meaning.specs.Plans.{HasProblem, IsPlan}
+use Rattle.kp_names_semantics.specs.Initial.{HasInitialState}
+use Rattle.kp_names_semantics.specs.Plans.{HasProblem, IsPlan}
 use Rattle.kp_plans.specs.declared.step.PlanStep.{PlanStep}
 use Rattle.kp_plans.specs.PlanFiles.{step_names}
 use Rattle.kp_plans.specs.Found.{action_of, IsFirstUnknown}
 use Rattle.kp_check.specs.declared.answer.Judged.{Judged}
 use Rattle.kp_check.specs.declared.answer.Judged.TheVariants.{Yes}
 use Rattle.kp_check.specs.Judging.{AnswersJudged}
-use Rattle.kp_law_files.specs.Translations.{ground_of, initial_of}
+use Rattle.kp_law_translation.specs.Translations.{ground_of, initial_of}
 use Rattle.kp_outside.specs.Outside.{FileMap}
 use Rattle.kp_run_outcome.specs.declared.outcome.Outcome.{Outcome}
 use Rattle.kp_run_outcome.specs.Ends.{AreHeld}

@@ -13,14 +13,14 @@ use Rattle.kp_base.specs.Lit.{has}
 use Rattle.kp_base.specs.Planning.{State, Facts, holds, next, applicable, state_after, succeeds, is_model, IsTable, IsOfItsAtoms, IsClauseFor, Meets, lits_of, IsTarget, IsCovered, IsComplete, Known, closure_of, start, may_act, after_act}
 use Rattle.kp_base.proofs.Lists.{member_at, member_map, all_member, all_from}
 use Rattle.kp_base.proofs.Places.{element}
-use Rattle.kp_law_machine.proofs.Monotone.{facts_more_all}
-use Rattle.kp_law_machine.specs.Lifts.{after_merges}
-use Rattle.kp_law_machine.specs.Completeness.{NoPlanIsLost}
-use Rattle.kp_law_machine.proofs.Merges.{after_merges_more, merge_taken}
-use Rattle.kp_law_machine.proofs.Lifted.{known_after, lifts_from, lifted_accepted}
-use Rattle.kp_law_machine.proofs.Relevance.{pre_of_atoms, goal_of_atoms}
-use Rattle.kp_law_machine.proofs.Facts.{facts_next, facts_run, facts_run_push, facts_run_true}
-use Rattle.kp_law_machine.proofs.Covered.{covered_known}
+use Rattle.kp_law_tagged_machine.proofs.Monotone.{facts_more_all}
+use Rattle.kp_law_tagged_machine.specs.Lifts.{after_merges}
+use Rattle.kp_law_tagged_machine.specs.Completeness.{NoPlanIsLost}
+use Rattle.kp_law_tagged_machine.proofs.Merges.{after_merges_more, merge_taken}
+use Rattle.kp_law_tagged_machine.proofs.Lifted.{known_after, lifts_from, lifted_accepted}
+use Rattle.kp_law_tagged_machine.proofs.Relevance.{pre_of_atoms, goal_of_atoms}
+use Rattle.kp_law_tagged_machine.proofs.Facts.{facts_next, facts_run, facts_run_push, facts_run_true}
+use Rattle.kp_law_tagged_machine.proofs.Covered.{covered_known}
 
 -- behind a plan's first steps the rest succeeds
 succeeds_later : (g : Ground) (s : State) (xs ys : List ℕ) → succeeds g s (xs ++ ys) ≡ true → succeeds g (state_after g s xs) ys ≡ true

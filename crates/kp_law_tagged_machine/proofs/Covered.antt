@@ -9,9 +9,9 @@ use Rattle.kp_base.specs.Planning.{Member, positive, negative, negated, State, h
 use Rattle.kp_base.specs.Lit.{has}
 use Rattle.kp_base.proofs.Lists.{any_member, any_from}
 use Rattle.kp_base.proofs.Lits.{member-has}
-use Rattle.kp_law_machine.proofs.Facts.{facts_run, facts_run_more}
-use Rattle.kp_law_machine.proofs.Primes.{some_prime}
-use Rattle.kp_law_machine.proofs.Relevance.{relevant_of_atoms}
+use Rattle.kp_law_tagged_machine.proofs.Facts.{facts_run, facts_run_more}
+use Rattle.kp_law_tagged_machine.proofs.Primes.{some_prime}
+use Rattle.kp_law_tagged_machine.proofs.Relevance.{relevant_of_atoms}
 
 -- ---- lists of literals
 

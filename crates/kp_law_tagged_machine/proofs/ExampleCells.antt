@@ -15,8 +15,8 @@ use Rattle.kp_base.specs.Planning.{atom, Member, positive, negative, State, IsBo
 use Rattle.kp_base.specs.Steps.{has}
 use Rattle.kp_base.proofs.Lists.{all_member}
 use Rattle.kp_base.proofs.Lits.{member-has}
-use Rattle.kp_law_machine.specs.Laws.{facts_after_operator}
-use Rattle.kp_law_machine.proofs.Sound.{sound}
+use Rattle.kp_law_tagged_machine.specs.Laws.{facts_after_operator}
+use Rattle.kp_law_tagged_machine.proofs.Sound.{sound}
 
 -- ---- the problem and its table
 

@@ -14,14 +14,14 @@ use Rattle.kp_base.specs.Planning.{Member, positive, negative, code_of, State, h
 use Rattle.kp_base.specs.Lit.{has}
 use Rattle.kp_base.proofs.Lists.{all_member, any_member}
 use Rattle.kp_base.proofs.Lits.{member-has}
-use Rattle.kp_law_machine.proofs.ExampleCells.{below_all as literals_below}
-use Rattle.kp_law_machine.proofs.OneSided.{never_clashes as one_sided_actions_never_clash}
-use Rattle.kp_law_machine.proofs.OneTag.{is_table as one_tag_is_a_table}
-use Rattle.kp_law_machine.proofs.Sound.{sound as accepted_lists_are_plans}
-use Rattle.kp_law_machine.specs.Lifts.{lift_of, is_ready, UnliftedAt}
-use Rattle.kp_law_machine.proofs.Relevance.{relevant_of_atoms}
-use Rattle.kp_law_machine.proofs.Failing.{dont_lift}
-use Rattle.kp_law_machine.proofs.Complete.{none_lost}
+use Rattle.kp_law_tagged_machine.proofs.ExampleCells.{below_all as literals_below}
+use Rattle.kp_law_tagged_machine.proofs.OneSided.{never_clashes as one_sided_actions_never_clash}
+use Rattle.kp_law_tagged_machine.proofs.OneTag.{is_table as one_tag_is_a_table}
+use Rattle.kp_law_tagged_machine.proofs.Sound.{sound as accepted_lists_are_plans}
+use Rattle.kp_law_tagged_machine.specs.Lifts.{lift_of, is_ready, UnliftedAt}
+use Rattle.kp_law_tagged_machine.proofs.Relevance.{relevant_of_atoms}
+use Rattle.kp_law_tagged_machine.proofs.Failing.{dont_lift}
+use Rattle.kp_law_tagged_machine.proofs.Complete.{none_lost}
 
 -- ---- the problem and its table
 

@@ -12,11 +12,11 @@ use Rattle.kp_base.specs.Planning.{Member, positive, negative, State, holds, is_
 use Rattle.kp_base.specs.Steps.{has}
 use Rattle.kp_base.proofs.Lists.{all_member, member_at}
 use Rattle.kp_base.proofs.Lits.{member-has}
-use Rattle.kp_law_machine.specs.Laws.{facts_after_operator}
-use Rattle.kp_law_machine.proofs.Sound.{sound}
-use Rattle.kp_law_machine.proofs.ExampleCells.{below_all}
-use Rattle.kp_law_machine.proofs.Exclusive.{never_clashes}
-use Rattle.kp_law_machine.proofs.OneTag.{is_table, has_no_merges}
+use Rattle.kp_law_tagged_machine.specs.Laws.{facts_after_operator}
+use Rattle.kp_law_tagged_machine.proofs.Sound.{sound}
+use Rattle.kp_law_tagged_machine.proofs.ExampleCells.{below_all}
+use Rattle.kp_law_tagged_machine.proofs.Exclusive.{never_clashes}
+use Rattle.kp_law_tagged_machine.proofs.OneTag.{is_table, has_no_merges}
 
 abbrev nullary : List ℕ → GroundName
 nullary head = record { head = head; objects = [] }

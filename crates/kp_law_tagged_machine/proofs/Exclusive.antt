@@ -8,10 +8,10 @@ use Rattle.kp_base.specs.Clashes.{Pairs, Clashes, IsClash, IsFirstClash}
 use Rattle.kp_base.specs.Exclusive.{IsPart, IsInductive, IsExclusive, AreExclusive, ClashesFirst, IsClashFree}
 use Rattle.kp_base.proofs.Lists.{bool_same}
 use Rattle.kp_base.proofs.Exclusive.{compatible_under_fewer}
-use Rattle.kp_law_machine.specs.Laws.{ClashFreeNeverClashes}
+use Rattle.kp_law_tagged_machine.specs.Laws.{ClashFreeNeverClashes}
 use Rattle.kp_base.specs.Entailed.{HaveSameModels}
-use Rattle.kp_law_machine.proofs.Inductive as inductive
-use Rattle.kp_law_machine.proofs.Union.{union_inductive}
+use Rattle.kp_law_tagged_machine.proofs.Inductive as inductive
+use Rattle.kp_law_tagged_machine.proofs.Union.{union_inductive}
 
 pub never_clashes : ClashFreeNeverClashes
 never_clashes g i free = inductive.never_clashes g i (length g.atoms) free.pairs (union_inductive g i (length g.atoms) free.pairs free.exclusive) free.none

@@ -6,9 +6,9 @@ use Rattle.kp_base.specs.declared.ground.Action.{Action}
 use Rattle.kp_base.specs.declared.ground.Ground.{Ground}
 use Rattle.kp_base.specs.Planning.{negated, State, Facts, holds, fires, after, next, state_after, facts_after, IsRelevant}
 use Rattle.kp_base.proofs.Lists.{member_at}
-use Rattle.kp_law_machine.proofs.Exact.{persists_exact as persists_where_none_fires_against}
-use Rattle.kp_law_machine.proofs.Monotone.{Within as IsWithinFor, facts_more}
-use Rattle.kp_law_machine.proofs.Relevance.{relevant_links}
+use Rattle.kp_law_tagged_machine.proofs.Exact.{persists_exact as persists_where_none_fires_against}
+use Rattle.kp_law_tagged_machine.proofs.Monotone.{Within as IsWithinFor, facts_more}
+use Rattle.kp_law_tagged_machine.proofs.Relevance.{relevant_links}
 
 -- the facts after an action, if there is such an action
 abbrev pub facts_next : Option Action → Facts → Facts

@@ -11,10 +11,10 @@ use Rattle.kp_base.specs.Steps.{asked, pre_of, IsLeastMissing}
 use Rattle.kp_base.specs.Machine.{Known, start, may_act, accepts, stripped}
 use Rattle.kp_base.proofs.Least.{not_all_facts, least_once, least_missing}
 use Rattle.kp_base.proofs.Places.{element}
-use Rattle.kp_law_machine.specs.Lifts.{after_merges, known_lifted_from, UnliftedAt}
-use Rattle.kp_law_machine.specs.Completeness.{ListsLiftOrFail, FailingListsDontLift, ListsFailOnce}
-use Rattle.kp_law_machine.proofs.Merges.{after_merges_more}
-use Rattle.kp_law_machine.proofs.Lifted.{known_after, lifts_from, lifted_accepted, best_from}
+use Rattle.kp_law_tagged_machine.specs.Lifts.{after_merges, known_lifted_from, UnliftedAt}
+use Rattle.kp_law_tagged_machine.specs.Completeness.{ListsLiftOrFail, FailingListsDontLift, ListsFailOnce}
+use Rattle.kp_law_tagged_machine.proofs.Merges.{after_merges_more}
+use Rattle.kp_law_tagged_machine.proofs.Lifted.{known_after, lifts_from, lifted_accepted, best_from}
 
 -- what is asked before the step of this number, or at the goal, is known, from some knowledge on
 abbrev ready_from : Ground → TagTable → Known → List ℕ → ℕ → Bool

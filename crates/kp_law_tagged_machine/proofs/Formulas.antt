@@ -3,8 +3,8 @@ use Rattle.std.proofs.Common.{ℕ, List, length, sym, ◌∙◌}
 use Rattle.kp_base.specs.declared.lit.Lit.{Lit}
 use Rattle.kp_base.specs.declared.ground.Initial.{Initial}
 use Rattle.kp_base.specs.Entailed.{IsClosure, HaveSameModels}
-use Rattle.kp_law_machine.specs.Formulas.{SameModelsSayTheSame}
-use Rattle.kp_law_machine.proofs.Exclusive.{by_models, first_by_models, free_by_models}
+use Rattle.kp_law_tagged_machine.specs.Formulas.{SameModelsSayTheSame}
+use Rattle.kp_law_tagged_machine.proofs.Exclusive.{by_models, first_by_models, free_by_models}
 
 closure_by_models : (i j : Initial) → HaveSameModels i j → (atoms : ℕ) (tag closure : List Lit) → IsClosure atoms i tag closure → IsClosure atoms j tag closure
 closure_by_models i j same atoms tag closure h = record {

@@ -11,7 +11,7 @@ use Rattle.kp_base.specs.Planning.{Member, positive, negative, negated, same_lit
 use Rattle.kp_base.specs.Steps.{has}
 use Rattle.kp_base.proofs.Lists.{all_from, all_member, any_from, any_member, member_at, number_at}
 use Rattle.kp_base.proofs.Lits.{same_lit-true, same_lit-refl, holds-negated, member-has}
-use Rattle.kp_law_machine.specs.Laws.{InductivePairsStayApart, InductiveNeverClashes}
+use Rattle.kp_law_tagged_machine.specs.Laws.{InductivePairsStayApart, InductiveNeverClashes}
 
 -- of no pair are both atoms true in the state
 abbrev pub AreApart : Pairs → State → Type 0

@@ -8,10 +8,10 @@ use Rattle.kp_base.specs.declared.ground.TagTable.{TagTable}
 use Rattle.kp_base.specs.declared.ground.Merge.{Merge}
 use Rattle.kp_base.specs.Machine.{MachineStep, Known, start, may_act, after_act, may_merge, after_merge, accepts_from, stripped}
 use Rattle.kp_base.proofs.Lists.{member_at, all_weaker}
-use Rattle.kp_law_machine.proofs.Monotone.{facts_more_all}
-use Rattle.kp_law_machine.specs.Lifts.{adds, after_merges, merges_taken, lift_from}
-use Rattle.kp_law_machine.specs.Completeness.{LiftedListsStrip, LiftedListsAreBest}
-use Rattle.kp_law_machine.proofs.Merges.{Knows_more, may_merge_more, after_merge_grows, after_merges_more, merge_adds_nothing}
+use Rattle.kp_law_tagged_machine.proofs.Monotone.{facts_more_all}
+use Rattle.kp_law_tagged_machine.specs.Lifts.{adds, after_merges, merges_taken, lift_from}
+use Rattle.kp_law_tagged_machine.specs.Completeness.{LiftedListsStrip, LiftedListsAreBest}
+use Rattle.kp_law_tagged_machine.proofs.Merges.{Knows_more, may_merge_more, after_merge_grows, after_merges_more, merge_adds_nothing}
 
 -- what is known after the merges and one action
 abbrev pub known_after : Ground → TagTable → Known → ℕ → Known

@@ -9,7 +9,7 @@ use Rattle.kp_base.specs.Lit.{same_lit}
 use Rattle.kp_base.specs.Machine.{Known, may_merge, after_merge}
 use Rattle.kp_base.proofs.Lists.{all_weaker, all_member, any_member, any_from}
 use Rattle.kp_base.proofs.Lits.{same_lit-true, same_lit-refl}
-use Rattle.kp_law_machine.specs.Lifts.{adds, after_merges}
+use Rattle.kp_law_tagged_machine.specs.Lifts.{adds, after_merges}
 
 -- the second knows all that the first knows
 abbrev pub Knows_more : Known → Known → Type 0

@@ -10,7 +10,7 @@ use Rattle.kp_base.specs.Steps.{State, holds, fires}
 use Rattle.kp_base.specs.Clashes.{NeverClashes, clashes_at}
 use Rattle.kp_base.proofs.Lists.{all_member}
 use Rattle.kp_base.proofs.Lits.{same_lit-refl}
-use Rattle.kp_law_machine.proofs.Inductive.{fired}
+use Rattle.kp_law_tagged_machine.proofs.Inductive.{fired}
 
 -- no effect of the action deletes what one of its effects adds
 abbrev pub is_one_sided : Action → Bool

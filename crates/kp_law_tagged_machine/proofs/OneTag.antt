@@ -7,7 +7,7 @@ use Rattle.kp_base.specs.declared.ground.TagRow.{TagRow}
 use Rattle.kp_base.specs.Lists.{Member}
 use Rattle.kp_base.specs.Entailed.{IsClosure}
 use Rattle.kp_base.specs.Machine.{MachineStep, Known, start, may_act, after_act, accepts_from, stripped, one_tag_table}
-use Rattle.kp_law_machine.specs.Laws.{OneTagIsTable, OneTagHasNoMerges}
+use Rattle.kp_law_tagged_machine.specs.Laws.{OneTagIsTable, OneTagHasNoMerges}
 
 pub is_table : OneTagIsTable
 is_table g i closure right = (

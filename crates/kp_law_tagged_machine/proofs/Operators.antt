@@ -8,7 +8,7 @@ use Rattle.kp_base.specs.Steps.{Facts, fires}
 use Rattle.kp_base.specs.Machine.{persists}
 use Rattle.kp_base.proofs.Lists.{all-not}
 use Rattle.kp_base.proofs.Lits.{same_lit-negated}
-use Rattle.kp_law_machine.specs.Laws.{is_cancelled, OperatorsAreExact}
+use Rattle.kp_law_tagged_machine.specs.Laws.{is_cancelled, OperatorsAreExact}
 
 persists_uncancelled : (es : List Effect) (k : Facts) (l : Lit) → not (is_cancelled es k l) ≡ persists es k l
 persists_uncancelled [] k l = refl

@@ -9,7 +9,7 @@ use Rattle.kp_base.specs.Lists.{Member}
 use Rattle.kp_base.specs.Implicates.{are_below, effect_below, action_below, IsOfItsAtoms}
 use Rattle.kp_base.specs.Relevance.{IsConditionOf, IsRelevant}
 use Rattle.kp_base.proofs.Lists.{all_member}
-use Rattle.kp_law_machine.proofs.Monotone.{Links as HasLinksOf}
+use Rattle.kp_law_tagged_machine.proofs.Monotone.{Links as HasLinksOf}
 
 pub relevant_links : (acts : List Action) (a : Action) → Member acts a → HasLinksOf (IsRelevant acts) a.effects
 relevant_links acts a in-acts = record {

@@ -13,9 +13,9 @@ use Rattle.kp_base.specs.Planning.{Member, same_lit, State, holds, next, applica
 use Rattle.kp_base.specs.Steps.{has}
 use Rattle.kp_base.proofs.Lists.{member_at, all_weaker, all_member, any_member}
 use Rattle.kp_base.proofs.Lits.{same_lit-true}
-use Rattle.kp_law_machine.specs.Laws.{AcceptedListsArePlans}
-use Rattle.kp_law_machine.proofs.Exact.{exact}
-use Rattle.kp_law_machine.proofs.Monotone.{facts_more_all}
+use Rattle.kp_law_tagged_machine.specs.Laws.{AcceptedListsArePlans}
+use Rattle.kp_law_tagged_machine.proofs.Exact.{exact}
+use Rattle.kp_law_tagged_machine.proofs.Monotone.{facts_more_all}
 
 -- ---- no clash from here on
 

@@ -4,7 +4,7 @@ use Rattle.std.proofs.lemmas.Bool.{false≢true, false_from_ne_true}
 use Rattle.kp_base.specs.Clashes.{are_compatible}
 use Rattle.kp_base.specs.Exclusive.{IsPart, IsExclusive, firing_with}
 use Rattle.kp_base.proofs.Exclusive.{compatible_under_fewer}
-use Rattle.kp_law_machine.specs.Laws.{ExclusivePairsAreInductive}
+use Rattle.kp_law_tagged_machine.specs.Laws.{ExclusivePairsAreInductive}
 
 pub union_inductive : ExclusivePairsAreInductive
 union_inductive g i atoms pairs are = record {

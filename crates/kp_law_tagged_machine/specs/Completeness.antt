@@ -5,7 +5,7 @@ use Rattle.kp_base.specs.declared.ground.Ground.{Ground}
 use Rattle.kp_base.specs.declared.ground.Initial.{Initial}
 use Rattle.kp_base.specs.declared.ground.TagTable.{TagTable}
 use Rattle.kp_base.specs.Planning.{Member, IsOfItsAtoms, IsGroundPlan, HasModel, IsTable, IsComplete, MachineStep, accepts, stripped}
-use Rattle.kp_law_machine.specs.Lifts.{lift_of, UnliftedAt}
+use Rattle.kp_law_tagged_machine.specs.Lifts.{lift_of, UnliftedAt}
 
 -- ---- lifted lists
 

@@ -1,6 +1,6 @@
 //! Laws of lifted lists and of complete tables, each proved as the contract of a function that does nothing.
 
-ghost use Rattle.kp_law_machine.specs.Completeness.{FailingListsDontLift, LiftedListsAreBest, LiftedListsStrip, ListsFailOnce, ListsLiftOrFail, NoPlanIsLost};
+ghost use Rattle.kp_law_tagged_machine.specs.Completeness.{FailingListsDontLift, LiftedListsAreBest, LiftedListsStrip, ListsFailOnce, ListsLiftOrFail, NoPlanIsLost};
 
 /// Without its merges, a lifted list is what was lifted.
 #[tactic(auto, using(crate::proofs::Lifted::lists_strip))]

@@ -1,7 +1,7 @@
 //! Laws of the tagged machine, each proved as the contract of a function that does nothing.
 
-ghost use Rattle.kp_law_machine.specs.Formulas.{SameModelsSayTheSame};
-ghost use Rattle.kp_law_machine.specs.Laws.{ClashFreeNeverClashes, ExclusivePairsAreInductive, InductiveNeverClashes, InductivePairsStayApart, AcceptedListsArePlans, OneTagHasNoMerges, OneTagIsTable, OperatorsAreExact};
+ghost use Rattle.kp_law_tagged_machine.specs.Formulas.{SameModelsSayTheSame};
+ghost use Rattle.kp_law_tagged_machine.specs.Laws.{ClashFreeNeverClashes, ExclusivePairsAreInductive, InductiveNeverClashes, InductivePairsStayApart, AcceptedListsArePlans, OneTagHasNoMerges, OneTagIsTable, OperatorsAreExact};
 
 /// Each list that the machine accepts is, without its merges, a plan from every model.
 #[tactic(auto, using(crate::proofs::Sound::sound))]

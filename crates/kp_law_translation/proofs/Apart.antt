@@ -8,16 +8,16 @@ use Rattle.kp_tree_grammar.specs.Trees as trees
 use Rattle.kp_tree_grammar.specs.Trees.{Domain, Problem}
 use Rattle.kp_base.specs.Lists.{Member}
 use Rattle.kp_base.proofs.Lists.{all_from, map_map, map_member}
-use Rattle.kp_names_meaning.specs.declared.lifted.GroundLit.{GroundLit}
-use Rattle.kp_names_meaning.specs.declared.lifted.Pred.{Pred}
-use Rattle.kp_names_meaning.specs.Problems.{Name, same, is_among, distinct, declared, object_lines, objects, Lifted, ground, heads, numbered_pred, numbered_problem}
-use Rattle.kp_names_meaning.proofs.Public.{AreDistinctNames, distinct_are_distinct, is_valid_literal, HasCleanParts, clean_parts}
+use Rattle.kp_names_semantics.specs.declared.lifted.GroundLit.{GroundLit}
+use Rattle.kp_names_semantics.specs.declared.lifted.Pred.{Pred}
+use Rattle.kp_names_semantics.specs.Problems.{Name, same, is_among, distinct, declared, object_lines, objects, Lifted, ground, heads, numbered_pred, numbered_problem}
+use Rattle.kp_names_semantics.proofs.Public.{AreDistinctNames, distinct_are_distinct, is_valid_literal, HasCleanParts, clean_parts}
 use Rattle.kp_base.specs.Atoms.{Atom}
-use Rattle.kp_ground_meaning.specs.Ground.{atom_of, occurring, ground_atoms}
-use Rattle.kp_ground_meaning.proofs.Public.{atoms_are_numbered}
+use Rattle.kp_ground_semantics.specs.Ground.{atom_of, occurring, ground_atoms}
+use Rattle.kp_ground_semantics.proofs.Public.{atoms_are_numbered}
 use Rattle.kp_init.specs.ByName.{predicate_names, is_declared}
-use Rattle.kp_law_files.specs.Given.{NamesTellGroundAtoms}
-use Rattle.kp_law_files.proofs.Valid.{occurring_valid}
+use Rattle.kp_law_translation.specs.Given.{NamesTellGroundAtoms}
+use Rattle.kp_law_translation.proofs.Valid.{occurring_valid}
 
 -- ---- names that stand once
 

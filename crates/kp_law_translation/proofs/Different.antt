@@ -7,20 +7,20 @@ use Rattle.kp_base.specs.Lists.{Member}
 use Rattle.kp_base.proofs.Lists.{any_member, append_empty, append_member, flat_empty, map_member, member_at, member_map, same-true}
 use Rattle.kp_tree_grammar.specs.declared.tree.Word.{Word}
 use Rattle.kp_tree_grammar.specs.Trees.{Term, Atom as AtomTree, Lit, Item, Items, Domain, Problem}
-use Rattle.kp_names_meaning.specs.Problems.{Name, same, all_same, objects, term_faults, atom_faults, lit_faults, item_faults, items_faults, Literal, unbound, by_name, items_literals, Lifted, index_of, name_at, heads, object_number, numbered_literal, numbered_problem, named_objects, named_literal, AreObjects, Agree}
-use Rattle.kp_names_meaning.specs.States as named
-use Rattle.kp_names_meaning.specs.States.{literal, object_of}
-use Rattle.kp_names_meaning.specs.Initial as named_initial
-use Rattle.kp_names_meaning.specs.Initial.{item_literals, is_of, is_named}
-use Rattle.kp_names_meaning.specs.Lifted.{State}
-use Rattle.kp_names_meaning.proofs.Public.{name_at_index, head_is_declared, atom_terms_have_no_fault, all_same_names-true, valid_literal_parts, numbered_literal_is_valid, HasCleanParts, clean_parts, initial_states_are_the_same_by_number}
+use Rattle.kp_names_semantics.specs.Problems.{Name, same, all_same, objects, term_faults, atom_faults, lit_faults, item_faults, items_faults, Literal, unbound, by_name, items_literals, Lifted, index_of, name_at, heads, object_number, numbered_literal, numbered_problem, named_objects, named_literal, AreObjects, Agree}
+use Rattle.kp_names_semantics.specs.States as named
+use Rattle.kp_names_semantics.specs.States.{literal, object_of}
+use Rattle.kp_names_semantics.specs.Initial as named_initial
+use Rattle.kp_names_semantics.specs.Initial.{item_literals, is_of, is_named}
+use Rattle.kp_names_semantics.specs.Lifted.{State}
+use Rattle.kp_names_semantics.proofs.Public.{name_at_index, head_is_declared, atom_terms_have_no_fault, all_same_names-true, valid_literal_parts, numbered_literal_is_valid, HasCleanParts, clean_parts, initial_states_are_the_same_by_number}
 use Rattle.kp_base.specs.Atoms.{Atom}
-use Rattle.kp_ground_meaning.specs.Ground.{ground_atoms, atom_name, at_atom, seen_on}
-use Rattle.kp_ground_meaning.proofs.Public.{atoms_are_numbered}
+use Rattle.kp_ground_semantics.specs.Ground.{ground_atoms, atom_name, at_atom, seen_on}
+use Rattle.kp_ground_semantics.proofs.Public.{atoms_are_numbered}
 use Rattle.kp_init.proofs.Public.{models_are_initial_states}
-use Rattle.kp_law_files.specs.Translations.{ground_of}
-use Rattle.kp_law_files.specs.Given.{DifferentStatesAreDifferentModels}
-use Rattle.kp_law_files.proofs.Apart.{as_literal, atom_valid, heads_are}
+use Rattle.kp_law_translation.specs.Translations.{ground_of}
+use Rattle.kp_law_translation.specs.Given.{DifferentStatesAreDifferentModels}
+use Rattle.kp_law_translation.proofs.Apart.{as_literal, atom_valid, heads_are}
 
 -- the name at a number is the one that was numbered, if the number stands for some name
 back_by_index : (xs : List Name) (x : Name) → index_of xs x < length xs → name_at xs (index_of xs x) ≡ x

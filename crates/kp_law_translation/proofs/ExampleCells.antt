@@ -8,22 +8,22 @@ use Rattle.kp_lex.specs.Bytes.{class_of}
 use Rattle.kp_lex.specs.Scanning.{cut_from}
 use Rattle.kp_tree_grammar.specs.Symbols.{symbol_of}
 use Rattle.kp_tree_grammar.specs.Parsing.{some_at, next_at}
-use Rattle.kp_names_meaning.specs.Problems.{HasNoFault, Step, HasProblem, is_plain_goal, StripsToPlan}
-use Rattle.kp_names_meaning.specs.Plans.{IsPlan}
-use Rattle.kp_names_meaning.proofs.Public.{domain_of_text as domain_of, problem_of_text as problem_of, computes_a_problem, cells_domain, one_cell_problem}
-use Rattle.kp_law_files.specs.Translations.{ground_of, initial_of, start_of}
-use Rattle.kp_law_files.specs.Tables.{empty_tag, IsTableFor}
-use Rattle.kp_law_files.specs.Written.{translation_of}
-use Rattle.kp_law_files.proofs.Tables.{tables_written as tables_can_be_written, empty_tag_is_table as empty_tag_is_table_for_trees}
+use Rattle.kp_names_semantics.specs.Problems.{HasNoFault, Step, HasProblem, is_plain_goal, StripsToPlan}
+use Rattle.kp_names_semantics.specs.Plans.{IsPlan}
+use Rattle.kp_names_semantics.proofs.Public.{domain_of_text as domain_of, problem_of_text as problem_of, computes_a_problem, cells_domain, one_cell_problem}
+use Rattle.kp_law_translation.specs.Translations.{ground_of, initial_of, start_of}
+use Rattle.kp_law_translation.specs.Tables.{empty_tag, IsTableFor}
+use Rattle.kp_law_translation.specs.Written.{translation_of}
+use Rattle.kp_law_translation.proofs.Tables.{tables_written as tables_can_be_written, empty_tag_is_table as empty_tag_is_table_for_trees}
 use Rattle.kp_write.specs.Named as texts
-use Rattle.kp_law_machine.proofs.Public as machine
+use Rattle.kp_law_tagged_machine.proofs.Public as machine
 use Rattle.kp_base.specs.declared.ground.Ground.{Ground}
 use Rattle.kp_law_ktask.specs.Task.{task_of}
 use Rattle.kp_law_ktask.specs.Writable.{IsWritableTask}
 use Rattle.kp_law_ktask.proofs.Public.{tagged_plans_are_accepted}
 use Rattle.kp_law_ktask.proofs.Public as tagged
-use Rattle.kp_law_files.specs.Laws.{IsSafelyWritten}
-use Rattle.kp_law_files.proofs.Trees.{translations_sound}
+use Rattle.kp_law_translation.specs.Laws.{IsSafelyWritten}
+use Rattle.kp_law_translation.proofs.Trees.{translations_sound}
 
 -- ---- what is computed from the texts
 

@@ -11,22 +11,22 @@ use Rattle.kp_base.specs.declared.ground.TagRow.{TagRow}
 use Rattle.kp_base.specs.Planning.{Member, positive, negative, State, holds, is_model, IsGroundPlan, HasModel, IsOfItsAtoms, IsCandidate, IsClauseFor, Meets, Covers, tags_of, IsTarget, IsCovered, IsComplete, accepts, start, one_tag_table, action_name}
 use Rattle.kp_base.specs.Lit.{has}
 use Rattle.kp_base.proofs.Lists.{any_member}
-use Rattle.kp_law_machine.proofs.Public as machine
-use Rattle.kp_law_machine.proofs.Public.{accepted_lists_are_plans, relevant_is_of_the_atoms}
-use Rattle.kp_law_machine.specs.Lifts.{lift_of}
-use Rattle.kp_names_meaning.specs.Steps.{Step}
-use Rattle.kp_names_meaning.specs.Initial.{HasInitialState}
-use Rattle.kp_names_meaning.specs.Plans.{IsPlan}
-use Rattle.kp_names_meaning.proofs.Public.{domain_of_text, problem_of_text, cells_domain, one_cell_problem}
+use Rattle.kp_law_tagged_machine.proofs.Public as machine
+use Rattle.kp_law_tagged_machine.proofs.Public.{accepted_lists_are_plans, relevant_is_of_the_atoms}
+use Rattle.kp_law_tagged_machine.specs.Lifts.{lift_of}
+use Rattle.kp_names_semantics.specs.Steps.{Step}
+use Rattle.kp_names_semantics.specs.Initial.{HasInitialState}
+use Rattle.kp_names_semantics.specs.Plans.{IsPlan}
+use Rattle.kp_names_semantics.proofs.Public.{domain_of_text, problem_of_text, cells_domain, one_cell_problem}
 use Rattle.kp_init.proofs.Public.{plan_of_texts}
 use Rattle.kp_law_ktask.specs.Accepted.{IsAccepted}
 use Rattle.kp_law_ktask.proofs.Public as tagged
-use Rattle.kp_law_files.specs.Translations.{ground_of, initial_of}
-use Rattle.kp_law_files.specs.Tables.{empty_tag}
-use Rattle.kp_law_files.proofs.Starts.{states_are_models as initial_states_are_models}
-use Rattle.kp_law_files.specs.Laws.{IsWrittenLift, Lifts}
-use Rattle.kp_law_files.proofs.Lifting.{lifts_written, plans_lift}
-use Rattle.kp_law_files.proofs.ExampleCells.{its_ground, its_formula, its_start, its_problem, no_fault, table_for, unmet}
+use Rattle.kp_law_translation.specs.Translations.{ground_of, initial_of}
+use Rattle.kp_law_translation.specs.Tables.{empty_tag}
+use Rattle.kp_law_translation.proofs.Starts.{states_are_models as initial_states_are_models}
+use Rattle.kp_law_translation.specs.Laws.{IsWrittenLift, Lifts}
+use Rattle.kp_law_translation.proofs.Lifting.{lifts_written, plans_lift}
+use Rattle.kp_law_translation.proofs.ExampleCells.{its_ground, its_formula, its_start, its_problem, no_fault, table_for, unmet}
 
 -- ---- the table is complete
 

@@ -6,26 +6,26 @@ use Rattle.kp_lex.specs.Bytes.{class_of}
 use Rattle.kp_lex.specs.Scanning.{cut_from}
 use Rattle.kp_tree_grammar.specs.Symbols.{symbol_of}
 use Rattle.kp_tree_grammar.specs.Parsing.{some_at, next_at}
-use Rattle.kp_names_meaning.specs.Problems.{Step, do_front, strip, StripsToSolution, StripsToPlan, Lifted, HasProblem, encoded}
-use Rattle.kp_names_meaning.specs.Plans.{IsPlan}
-use Rattle.kp_names_meaning.proofs.Public.{domain_of_text as domain_of, problem_of_text as problem_of, computes_a_problem, moves_domain, from_a_to_b_problem, move_step, moves_by_number, moves_are_numbered, moves_have_no_fault, moves_goal_is_plain}
-use Rattle.kp_ground_meaning.specs.Ground.{ground_of}
+use Rattle.kp_names_semantics.specs.Problems.{Step, do_front, strip, StripsToSolution, StripsToPlan, Lifted, HasProblem, encoded}
+use Rattle.kp_names_semantics.specs.Plans.{IsPlan}
+use Rattle.kp_names_semantics.proofs.Public.{domain_of_text as domain_of, problem_of_text as problem_of, computes_a_problem, moves_domain, from_a_to_b_problem, move_step, moves_by_number, moves_are_numbered, moves_have_no_fault, moves_goal_is_plain}
+use Rattle.kp_ground_semantics.specs.Ground.{ground_of}
 use Rattle.kp_init.specs.Initial.{initial_of}
 use Rattle.kp_base.specs.Closure.{closure}
-use Rattle.kp_law_files.specs.Translations as given
-use Rattle.kp_law_files.specs.Tables.{empty_tag}
-use Rattle.kp_law_files.specs.Written.{translation_of}
-use Rattle.kp_law_files.proofs.Tables.{tables_written as tables_can_be_written, empty_tag_is_table as empty_tag_is_table_for_trees}
+use Rattle.kp_law_translation.specs.Translations as given
+use Rattle.kp_law_translation.specs.Tables.{empty_tag}
+use Rattle.kp_law_translation.specs.Written.{translation_of}
+use Rattle.kp_law_translation.proofs.Tables.{tables_written as tables_can_be_written, empty_tag_is_table as empty_tag_is_table_for_trees}
 use Rattle.kp_write.specs.Named as texts
-use Rattle.kp_law_machine.proofs.Public.{one_sided_actions_never_clash}
+use Rattle.kp_law_tagged_machine.proofs.Public.{one_sided_actions_never_clash}
 use Rattle.kp_base.specs.Machine.{MachineStep, one_tag_table}
 use Rattle.kp_base.specs.declared.ground.GroundName.{GroundName}
 use Rattle.kp_law_ktask.specs.Task.{task_of}
 use Rattle.kp_law_ktask.specs.Writable.{IsWritableTask}
 use Rattle.kp_law_ktask.specs.Accepted.{IsAccepted}
 use Rattle.kp_law_ktask.proofs.Public.{tagged_plans_are_accepted}
-use Rattle.kp_law_files.specs.Laws.{IsSafelyWritten}
-use Rattle.kp_law_files.proofs.Trees.{plans_solve, translations_sound}
+use Rattle.kp_law_translation.specs.Laws.{IsSafelyWritten}
+use Rattle.kp_law_translation.proofs.Trees.{plans_solve, translations_sound}
 
 -- ---- the ground problem can be written
 

@@ -7,12 +7,12 @@ use Rattle.kp_lex.specs.Bytes.{class_of}
 use Rattle.kp_lex.specs.Scanning.{cut_from}
 use Rattle.kp_tree_grammar.specs.Symbols.{symbol_of}
 use Rattle.kp_tree_grammar.specs.Parsing.{some_at, next_at}
-use Rattle.kp_names_meaning.specs.Faults.{HasNoFault}
-use Rattle.kp_names_meaning.proofs.Public.{domain_of_text, problem_of_text, cells_domain, one_cell_problem}
+use Rattle.kp_names_semantics.specs.Faults.{HasNoFault}
+use Rattle.kp_names_semantics.proofs.Public.{domain_of_text, problem_of_text, cells_domain, one_cell_problem}
 use Rattle.kp_base.proofs.Closures.{closure_over_first_atoms}
-use Rattle.kp_law_files.specs.Translations.{ground_of, initial_of, start_of}
-use Rattle.kp_names_meaning.specs.Initial.{HasInitialState}
-use Rattle.kp_law_files.proofs.Starts.{states_are_models, formulas_over_atoms, closures_are_starts}
+use Rattle.kp_law_translation.specs.Translations.{ground_of, initial_of, start_of}
+use Rattle.kp_names_semantics.specs.Initial.{HasInitialState}
+use Rattle.kp_law_translation.proofs.Starts.{states_are_models, formulas_over_atoms, closures_are_starts}
 
 -- ---- a `oneof` of three
 

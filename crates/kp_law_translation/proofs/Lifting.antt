@@ -10,10 +10,10 @@ use Rattle.kp_base.specs.declared.ground.TagTable.{TagTable}
 use Rattle.kp_base.specs.Machine.{MachineStep, Known, start, after_act, after_merge}
 use Rattle.kp_base.proofs.Lists.{all_member}
 use Rattle.kp_base.proofs.Places.{element}
-use Rattle.kp_law_machine.specs.Lifts.{adds, after_merges, merges_taken, lift_from, lift_of}
-use Rattle.kp_law_machine.specs.Completeness.{AreActions}
-use Rattle.kp_law_machine.proofs.Public.{StandFrom, merges_stand_from_zero, lifted_lists_strip, no_plan_is_lost}
-use Rattle.kp_names_meaning.specs.Steps.{Step}
+use Rattle.kp_law_tagged_machine.specs.Lifts.{adds, after_merges, merges_taken, lift_from, lift_of}
+use Rattle.kp_law_tagged_machine.specs.Completeness.{AreActions}
+use Rattle.kp_law_tagged_machine.proofs.Public.{StandFrom, merges_stand_from_zero, lifted_lists_strip, no_plan_is_lost}
+use Rattle.kp_names_semantics.specs.Steps.{Step}
 use Rattle.kp_init.proofs.Public.{plan_of_texts}
 use Rattle.kp_write.specs.Task.{Op}
 use Rattle.kp_write.specs.Runs.{step_of}
@@ -21,10 +21,10 @@ use Rattle.kp_law_ktask.specs.ByName.{op_of, merge_op, op_at}
 use Rattle.kp_base.specs.ActionNames.{action_name}
 use Rattle.kp_law_ktask.specs.Accepted.{step_at}
 use Rattle.kp_law_ktask.proofs.Public.{tagged_plans_are_accepted, tagged_steps_strip}
-use Rattle.kp_law_files.specs.Translations.{ground_of, initial_of}
-use Rattle.kp_law_files.proofs.Starts.{states_are_models as initial_states_are_models}
-use Rattle.kp_law_files.proofs.Tables.{tables_written as tables_can_be_written}
-use Rattle.kp_law_files.specs.Laws.{LiftsAreWritten, PlansLift}
+use Rattle.kp_law_translation.specs.Translations.{ground_of, initial_of}
+use Rattle.kp_law_translation.proofs.Starts.{states_are_models as initial_states_are_models}
+use Rattle.kp_law_translation.proofs.Tables.{tables_written as tables_can_be_written}
+use Rattle.kp_law_translation.specs.Laws.{LiftsAreWritten, PlansLift}
 
 -- ---- actions that are there
 

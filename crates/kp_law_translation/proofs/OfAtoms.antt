@@ -13,16 +13,16 @@ use Rattle.kp_base.proofs.Parts.{all_flat_map}
 use Rattle.kp_base.proofs.Lists.{all_from, member_left, member_right, member_flat_map}
 use Rattle.kp_base.proofs.Once.{all_filter, all_each_once}
 use Rattle.kp_base.proofs.Sets.{all-set_of}
-use Rattle.kp_names_meaning.specs.declared.lifted.GroundLit.{GroundLit}
-use Rattle.kp_names_meaning.specs.Numbered.{Schema, Lifted}
-use Rattle.kp_names_meaning.specs.Numbering.{numbered_problem}
+use Rattle.kp_names_semantics.specs.declared.lifted.GroundLit.{GroundLit}
+use Rattle.kp_names_semantics.specs.Numbered.{Schema, Lifted}
+use Rattle.kp_names_semantics.specs.Numbering.{numbered_problem}
 use Rattle.kp_base.specs.Atoms.{Atom, number_of}
-use Rattle.kp_ground_meaning.specs.declared.flat.FlatEffect.{FlatEffect}
-use Rattle.kp_ground_meaning.specs.Static.{remaining}
-use Rattle.kp_ground_meaning.specs.Flattening.{same_flat, flat, flat_of}
-use Rattle.kp_ground_meaning.specs.Ground.{kept_bindings, ground_atoms, atom_of, atom_name, effect_literals, instance_literals, kept_literals, open_literals, numbered, numbered_set, IsNumbering, numbered_effect, is_idle, ground_pre, ground_effects, action_of, actions_of, ground_over, ground_of}
-use Rattle.kp_ground_meaning.proofs.Public.{atoms_are_numbered, IsCoveredLiteral, instance_literals_occur}
-use Rattle.kp_law_files.specs.Given.{GroundProblemsAreOfTheirAtoms}
+use Rattle.kp_ground_semantics.specs.declared.flat.FlatEffect.{FlatEffect}
+use Rattle.kp_ground_semantics.specs.Static.{remaining}
+use Rattle.kp_ground_semantics.specs.Flattening.{same_flat, flat, flat_of}
+use Rattle.kp_ground_semantics.specs.Ground.{kept_bindings, ground_atoms, atom_of, atom_name, effect_literals, instance_literals, kept_literals, open_literals, numbered, numbered_set, IsNumbering, numbered_effect, is_idle, ground_pre, ground_effects, action_of, actions_of, ground_over, ground_of}
+use Rattle.kp_ground_semantics.proofs.Public.{atoms_are_numbered, IsCoveredLiteral, instance_literals_occur}
+use Rattle.kp_law_translation.specs.Given.{GroundProblemsAreOfTheirAtoms}
 
 abbrev pub below : ℕ → Lit → Bool
 below n l = nat_lt l.atom.0 n

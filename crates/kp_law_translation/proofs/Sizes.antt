@@ -7,18 +7,18 @@ use Rattle.std.proofs.lemmas.List.Sums.{sum_by-append, sum_by-cons}
 use Rattle.std.proofs.Math.Nat.{suc-mul}
 use Rattle.kp_base.specs.declared.lit.Lit.{Lit}
 use Rattle.kp_base.specs.Planning.{only_if, each_once, code_of, negated, with_lit, set_of, Atom}
-use Rattle.kp_names_meaning.specs.Numbered.{Cond, Conds, Eff, Effs, Schema, Lifted}
-use Rattle.kp_names_meaning.specs.Numbering.{numbered_problem}
-use Rattle.kp_names_meaning.specs.Lifted.{Binding, bindings, literal}
-use Rattle.kp_ground_meaning.specs.declared.flat.FlatEffect.{FlatEffect}
-use Rattle.kp_ground_meaning.specs.Static.{is_static, settled, remaining, all_remaining}
-use Rattle.kp_ground_meaning.specs.Flattening.{under, flat, all_flat, same_flat}
-use Rattle.kp_ground_meaning.specs.Weights.{cond_size, conds_size, or_leaf, leaves_weight, all_leaves_weight, weight, total_weight}
-use Rattle.kp_ground_meaning.specs.Ground.{kept_bindings, ground_atoms, numbered, numbered_set, numbered_effect, is_idle, ground_pre, ground_effects, action_of, actions_of, ground_of}
+use Rattle.kp_names_semantics.specs.Numbered.{Cond, Conds, Eff, Effs, Schema, Lifted}
+use Rattle.kp_names_semantics.specs.Numbering.{numbered_problem}
+use Rattle.kp_names_semantics.specs.Lifted.{Binding, bindings, literal}
+use Rattle.kp_ground_semantics.specs.declared.flat.FlatEffect.{FlatEffect}
+use Rattle.kp_ground_semantics.specs.Static.{is_static, settled, remaining, all_remaining}
+use Rattle.kp_ground_semantics.specs.Flattening.{under, flat, all_flat, same_flat}
+use Rattle.kp_ground_semantics.specs.Weights.{cond_size, conds_size, or_leaf, leaves_weight, all_leaves_weight, weight, total_weight}
+use Rattle.kp_ground_semantics.specs.Ground.{kept_bindings, ground_atoms, numbered, numbered_set, numbered_effect, is_idle, ground_pre, ground_effects, action_of, actions_of, ground_of}
 use Rattle.kp_law_ktask.specs.Weight.{both_weight, action_weight}
 use Rattle.kp_law_ktask.proofs.Public.{weight_is_counted}
-use Rattle.kp_law_files.specs.Tables.{empty_tag, EmptyTagsAreLight}
-use Rattle.kp_law_files.specs.Translations as given
+use Rattle.kp_law_translation.specs.Tables.{empty_tag, EmptyTagsAreLight}
+use Rattle.kp_law_translation.specs.Translations as given
 
 -- ---- sums
 

@@ -9,18 +9,18 @@ use Rattle.kp_base.specs.Entailed.{IsClosure}
 use Rattle.kp_base.specs.Implicates.{IsOfAtoms}
 use Rattle.kp_base.proofs.Ascending.{same_members}
 use Rattle.kp_base.proofs.Lits.{same_lit-true, contains_has}
-use Rattle.kp_names_meaning.specs.Numbered.{Lifted}
-use Rattle.kp_names_meaning.specs.Numbering.{numbered_problem}
-use Rattle.kp_names_meaning.proofs.Public.{initial_states_are_the_same_by_number}
-use Rattle.kp_ground_meaning.specs.Ground.{ground_atoms, atom_name, seen_on}
-use Rattle.kp_ground_meaning.specs.Ground as by_number
-use Rattle.kp_ground_meaning.proofs.Public.{atoms_are_numbered}
+use Rattle.kp_names_semantics.specs.Numbered.{Lifted}
+use Rattle.kp_names_semantics.specs.Numbering.{numbered_problem}
+use Rattle.kp_names_semantics.proofs.Public.{initial_states_are_the_same_by_number}
+use Rattle.kp_ground_semantics.specs.Ground.{ground_atoms, atom_name, seen_on}
+use Rattle.kp_ground_semantics.specs.Ground as by_number
+use Rattle.kp_ground_semantics.proofs.Public.{atoms_are_numbered}
 use Rattle.kp_init.specs.Initial as init
 use Rattle.kp_init.specs.Laws.{AreModels}
 use Rattle.kp_base.proofs.Closures.{closure_over_first_atoms}
 use Rattle.kp_init.proofs.Public.{models_are_initial_states, initial_formula_is_over_ground_atoms}
-use Rattle.kp_law_files.specs.Translations.{ground_of, initial_of, start_of}
-use Rattle.kp_law_files.specs.Given.{InitialStatesAreModels, FormulasSpeakOfGroundAtoms, ClosuresAreStarts}
+use Rattle.kp_law_translation.specs.Translations.{ground_of, initial_of, start_of}
+use Rattle.kp_law_translation.specs.Given.{InitialStatesAreModels, FormulasSpeakOfGroundAtoms, ClosuresAreStarts}
 
 -- ---- initial states and models
 

@@ -1,11 +1,11 @@
 -- The plans of what is written for two trees, or two texts, and a table strip to plans of these.
-use Rattle.kp_names_meaning.proofs.Public.{goals_are_plain}
+use Rattle.kp_names_semantics.proofs.Public.{goals_are_plain}
 use Rattle.kp_init.proofs.Public.{named_runs_are_plans}
 use Rattle.kp_base.specs.Machine.{stripped}
 use Rattle.kp_law_ktask.proofs.Public.{tagged_plans_are_sound}
-use Rattle.kp_law_files.specs.Translations.{ground_of, initial_of}
-use Rattle.kp_law_files.proofs.Tables.{tables_written as tables_can_be_written}
-use Rattle.kp_law_files.specs.Laws.{WrittenPlansStripToSolutions, TranslationsAreSound}
+use Rattle.kp_law_translation.specs.Translations.{ground_of, initial_of}
+use Rattle.kp_law_translation.proofs.Tables.{tables_written as tables_can_be_written}
+use Rattle.kp_law_translation.specs.Laws.{WrittenPlansStripToSolutions, TranslationsAreSound}
 
 pub plans_solve : WrittenPlansStripToSolutions
 plans_solve d p table no_fault plain safe steps plan =

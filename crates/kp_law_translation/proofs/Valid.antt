@@ -8,17 +8,17 @@ use Rattle.kp_tree_grammar.specs.Trees as trees
 use Rattle.kp_tree_grammar.specs.Trees.{Atom, Cond, Conds, Eff, Effs, Domain, Problem}
 use Rattle.kp_base.specs.Lists.{Member, only_if}
 use Rattle.kp_base.proofs.Lists.{all_member, all_from, append_member, map_member, flat_member, filter_member, append_empty}
-use Rattle.kp_names_meaning.specs.declared.lifted.GroundLit.{GroundLit}
-use Rattle.kp_names_meaning.specs.declared.lifted.Item.{Item}
-use Rattle.kp_names_meaning.specs.Problems.{Name, declared, objects, inside, variable_faults, cond_faults, conds_faults, eff_faults, effs_faults, atom_faults, unbound, bind, object_lists, parameters, Lifted, ground, bindings, index_of, heads, numbered_terms, numbered_head, numbered_cond, numbered_conds, numbered_eff, numbered_effs, numbered_schema, numbered_literal, numbered_item, numbered_goal, numbered_goals, numbered_problem, AreObjects, Matches}
-use Rattle.kp_names_meaning.specs.States as named
-use Rattle.kp_names_meaning.specs.Numbered as numbers
-use Rattle.kp_names_meaning.specs.Lifted.{Binding, object_of, item_literals}
-use Rattle.kp_names_meaning.proofs.Public.{index_below, terms_are_objects, head_is_declared, atom_terms_have_no_fault, matches_inside, bindings_numbered, object_list_fits, is_valid_literal, ground_is_valid, no_variables_match, numbered_literal_is_valid, item_literals_are_valid, HasCleanParts, indexes_are_objects}
-use Rattle.kp_ground_meaning.specs.declared.flat.FlatEffect.{FlatEffect}
-use Rattle.kp_ground_meaning.specs.Static.{is_static, settled, remaining, all_remaining}
-use Rattle.kp_ground_meaning.specs.Flattening.{under, flat, all_flat}
-use Rattle.kp_ground_meaning.specs.Ground.{kept_bindings, effect_literals, instance_literals, kept_literals, open_literals, occurring}
+use Rattle.kp_names_semantics.specs.declared.lifted.GroundLit.{GroundLit}
+use Rattle.kp_names_semantics.specs.declared.lifted.Item.{Item}
+use Rattle.kp_names_semantics.specs.Problems.{Name, declared, objects, inside, variable_faults, cond_faults, conds_faults, eff_faults, effs_faults, atom_faults, unbound, bind, object_lists, parameters, Lifted, ground, bindings, index_of, heads, numbered_terms, numbered_head, numbered_cond, numbered_conds, numbered_eff, numbered_effs, numbered_schema, numbered_literal, numbered_item, numbered_goal, numbered_goals, numbered_problem, AreObjects, Matches}
+use Rattle.kp_names_semantics.specs.States as named
+use Rattle.kp_names_semantics.specs.Numbered as numbers
+use Rattle.kp_names_semantics.specs.Lifted.{Binding, object_of, item_literals}
+use Rattle.kp_names_semantics.proofs.Public.{index_below, terms_are_objects, head_is_declared, atom_terms_have_no_fault, matches_inside, bindings_numbered, object_list_fits, is_valid_literal, ground_is_valid, no_variables_match, numbered_literal_is_valid, item_literals_are_valid, HasCleanParts, indexes_are_objects}
+use Rattle.kp_ground_semantics.specs.declared.flat.FlatEffect.{FlatEffect}
+use Rattle.kp_ground_semantics.specs.Static.{is_static, settled, remaining, all_remaining}
+use Rattle.kp_ground_semantics.specs.Flattening.{under, flat, all_flat}
+use Rattle.kp_ground_semantics.specs.Ground.{kept_bindings, effect_literals, instance_literals, kept_literals, open_literals, occurring}
 
 module _ (d : Domain Word) (p : Problem Word) where
   -- each of the literals is of a declared predicate and of objects

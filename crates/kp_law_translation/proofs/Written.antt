@@ -18,23 +18,23 @@ use Rattle.kp_base.proofs.Lists.{all_member, each_append, map_member, member_map
 use Rattle.kp_base.proofs.Lists as lists
 use Rattle.kp_base.proofs.Lits.{has-member}
 use Rattle.kp_base.proofs.Sets.{all-set_of}
-use Rattle.kp_names_meaning.specs.declared.lifted.GroundLit.{GroundLit}
-use Rattle.kp_names_meaning.specs.Problems.{Name, same, all_same, distinct, declared, object_lines, objects, HasNoFault, Schema, Lifted, name_at, heads, numbered_schema, numbered_problem, AreObjects, IsGroundName, same_name}
-use Rattle.kp_names_meaning.proofs.Public.{all_same_names-true, valid_literal_parts, atoms_equal_as_named, HasCleanParts, clean_parts}
+use Rattle.kp_names_semantics.specs.declared.lifted.GroundLit.{GroundLit}
+use Rattle.kp_names_semantics.specs.Problems.{Name, same, all_same, distinct, declared, object_lines, objects, HasNoFault, Schema, Lifted, name_at, heads, numbered_schema, numbered_problem, AreObjects, IsGroundName, same_name}
+use Rattle.kp_names_semantics.proofs.Public.{all_same_names-true, valid_literal_parts, atoms_equal_as_named, HasCleanParts, clean_parts}
 use Rattle.kp_base.specs.Atoms.{Atom, atom_before, same_atom, number_of, AtomsAscend}
-use Rattle.kp_ground_meaning.specs.declared.flat.FlatEffect.{FlatEffect}
-use Rattle.kp_ground_meaning.specs.Static.{remaining}
-use Rattle.kp_ground_meaning.specs.Flattening.{same_flat, flat, flat_of}
-use Rattle.kp_ground_meaning.specs.Ground.{kept_bindings, atom_of, effect_literals, instance_literals, kept_literals, open_literals, occurring, ground_atoms, numbered, numbered_set, IsNumbering, numbered_effect, is_idle, ground_pre, ground_effects, object_names, atom_name, action_of, actions_of}
+use Rattle.kp_ground_semantics.specs.declared.flat.FlatEffect.{FlatEffect}
+use Rattle.kp_ground_semantics.specs.Static.{remaining}
+use Rattle.kp_ground_semantics.specs.Flattening.{same_flat, flat, flat_of}
+use Rattle.kp_ground_semantics.specs.Ground.{kept_bindings, atom_of, effect_literals, instance_literals, kept_literals, open_literals, occurring, ground_atoms, numbered, numbered_set, IsNumbering, numbered_effect, is_idle, ground_pre, ground_effects, object_names, atom_name, action_of, actions_of}
 use Rattle.kp_base.proofs.AtomOrder.{atom_never_before_itself, same_atom-true}
-use Rattle.kp_ground_meaning.proofs.Public.{atoms_are_numbered, actions_named_once, instance_literals_occur}
+use Rattle.kp_ground_semantics.proofs.Public.{atoms_are_numbered, actions_named_once, instance_literals_occur}
 use Rattle.kp_base.proofs.Closures.{closure_over_first_atoms}
 use Rattle.kp_write.specs.Grounds.{IsOfAtom, AreOfAtoms, IsGroundEffect, IsGroundAction, IsWritable}
-use Rattle.kp_law_files.specs.Translations.{ground_of, initial_of, start_of}
-use Rattle.kp_law_files.specs.Given.{StartsAreOfAtoms, GroundProblemsAreWritable}
-use Rattle.kp_law_files.proofs.Apart.{as_literal, heads_are, atom_valid}
-use Rattle.kp_law_files.proofs.Starts.{formulas_over_atoms}
-use Rattle.kp_law_files.proofs.Valid.{kept_objects}
+use Rattle.kp_law_translation.specs.Translations.{ground_of, initial_of, start_of}
+use Rattle.kp_law_translation.specs.Given.{StartsAreOfAtoms, GroundProblemsAreWritable}
+use Rattle.kp_law_translation.proofs.Apart.{as_literal, heads_are, atom_valid}
+use Rattle.kp_law_translation.proofs.Starts.{formulas_over_atoms}
+use Rattle.kp_law_translation.proofs.Valid.{kept_objects}
 
 -- ---- lists
 

@@ -5,12 +5,12 @@ use Rattle.kp_base.specs.declared.ground.GroundName.{GroundName}
 use Rattle.kp_base.specs.Planning.{Member, IsAscending, HasModel, IsClosure, IsOfAtoms, IsOfItsAtoms}
 use Rattle.kp_tree_grammar.specs.declared.tree.Word.{Word}
 use Rattle.kp_tree_grammar.specs.Trees.{Domain, Problem}
-use Rattle.kp_names_meaning.specs.Problems.{Name, HasInitialState, HasNoFault, HasProblem, numbered_problem}
-use Rattle.kp_names_meaning.specs.States.{State}
-use Rattle.kp_names_meaning.specs.Initial.{IsInitial}
+use Rattle.kp_names_semantics.specs.Problems.{Name, HasInitialState, HasNoFault, HasProblem, numbered_problem}
+use Rattle.kp_names_semantics.specs.States.{State}
+use Rattle.kp_names_semantics.specs.Initial.{IsInitial}
 use Rattle.kp_init.specs.ByName.{HasNamedAtoms}
 use Rattle.kp_write.specs.Grounds.{AreOfAtoms, IsWritable}
-use Rattle.kp_law_files.specs.Translations.{ground_of, initial_of, start_of}
+use Rattle.kp_law_translation.specs.Translations.{ground_of, initial_of, start_of}
 
 -- where no name is at fault, some state is initial exactly where the initial formula has a model
 abbrev pub InitialStatesAreModels : Type 0

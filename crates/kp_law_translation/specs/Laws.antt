@@ -2,16 +2,16 @@
 use Rattle.std.specs.Prelude.{◌≡◌, ℕ, true, List, Some, map}
 use Rattle.kp_base.specs.declared.ground.TagTable.{TagTable}
 use Rattle.kp_base.specs.Planning.{IsOfItsAtoms, NeverClashes, IsComplete, action_name}
-use Rattle.kp_law_machine.specs.Lifts.{lift_of}
+use Rattle.kp_law_tagged_machine.specs.Lifts.{lift_of}
 use Rattle.kp_tree_grammar.specs.declared.tree.Word.{Word}
 use Rattle.kp_tree_grammar.specs.Trees.{Domain, Problem}
-use Rattle.kp_names_meaning.specs.Problems.{HasNoFault, Step, HasProblem, HasInitialState, strip, StripsToSolution, PlansStrip, is_plain_goal}
-use Rattle.kp_names_meaning.specs.Plans.{IsPlan}
+use Rattle.kp_names_semantics.specs.Problems.{HasNoFault, Step, HasProblem, HasInitialState, strip, StripsToSolution, PlansStrip, is_plain_goal}
+use Rattle.kp_names_semantics.specs.Plans.{IsPlan}
 use Rattle.kp_law_ktask.specs.Writable.{IsWritableTask}
 use Rattle.kp_law_ktask.specs.Accepted.{IsAccepted}
-use Rattle.kp_law_files.specs.Translations.{ground_of, initial_of}
-use Rattle.kp_law_files.specs.Tables.{IsTableFor}
-use Rattle.kp_law_files.specs.Written.{translation_of}
+use Rattle.kp_law_translation.specs.Translations.{ground_of, initial_of}
+use Rattle.kp_law_translation.specs.Tables.{IsTableFor}
+use Rattle.kp_law_translation.specs.Written.{translation_of}
 
 -- the table is one for the trees, with which their ground problem can be written, and nothing clashes
 pub record IsSafelyWritten (d : Domain Word) (p : Problem Word) (table : TagTable) : Type 0 where

@@ -6,14 +6,14 @@ use Rattle.kp_base.specs.Entailed.{IsTable, AreValid}
 use Rattle.kp_base.specs.Machine.{one_tag_table}
 use Rattle.kp_tree_grammar.specs.declared.tree.Word.{Word}
 use Rattle.kp_tree_grammar.specs.Trees.{Domain, Problem}
-use Rattle.kp_names_meaning.specs.Plans.{HasProblem}
-use Rattle.kp_names_meaning.specs.Numbering.{numbered_problem}
-use Rattle.kp_ground_meaning.specs.Weights.{total_weight}
+use Rattle.kp_names_semantics.specs.Plans.{HasProblem}
+use Rattle.kp_names_semantics.specs.Numbering.{numbered_problem}
+use Rattle.kp_ground_semantics.specs.Weights.{total_weight}
 use Rattle.kp_write.specs.Grounds.{IsOfAtom}
 use Rattle.kp_law_ktask.specs.Task.{task_of}
 use Rattle.kp_law_ktask.specs.Weight.{weight_of}
 use Rattle.kp_law_ktask.specs.Writable.{IsWritableTask}
-use Rattle.kp_law_files.specs.Translations.{ground_of, initial_of, start_of}
+use Rattle.kp_law_translation.specs.Translations.{ground_of, initial_of, start_of}
 
 -- the table of the empty tag alone, with its closure
 abbrev pub empty_tag : Domain Word → Problem Word → TagTable

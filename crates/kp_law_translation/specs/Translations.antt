@@ -5,8 +5,8 @@ use Rattle.kp_base.specs.declared.ground.Ground.{Ground}
 use Rattle.kp_base.specs.declared.ground.Initial.{Initial}
 use Rattle.kp_tree_grammar.specs.declared.tree.Word.{Word}
 use Rattle.kp_tree_grammar.specs.Trees.{Domain, Problem}
-use Rattle.kp_names_meaning.specs.Numbering.{numbered_problem}
-use Rattle.kp_ground_meaning.specs.Ground as ground
+use Rattle.kp_names_semantics.specs.Numbering.{numbered_problem}
+use Rattle.kp_ground_semantics.specs.Ground as ground
 use Rattle.kp_init.specs.Initial as init
 use Rattle.kp_base.specs.Closure.{closure}
 

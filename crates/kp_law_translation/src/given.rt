@@ -1,7 +1,7 @@
 //! Laws of what is written for two trees, each proved as the contract of a function that does nothing.
 
-ghost use Rattle.kp_law_files.specs.Tables.{EmptyTagIsTable, EmptyTagsAreLight, TablesCanBeWritten};
-ghost use Rattle.kp_law_files.specs.Given.{ClosuresAreStarts, DifferentStatesAreDifferentModels, FormulasSpeakOfGroundAtoms, GroundProblemsAreOfTheirAtoms, GroundProblemsAreWritable, InitialStatesAreModels, NamesTellGroundAtoms, StartsAreOfAtoms};
+ghost use Rattle.kp_law_translation.specs.Tables.{EmptyTagIsTable, EmptyTagsAreLight, TablesCanBeWritten};
+ghost use Rattle.kp_law_translation.specs.Given.{ClosuresAreStarts, DifferentStatesAreDifferentModels, FormulasSpeakOfGroundAtoms, GroundProblemsAreOfTheirAtoms, GroundProblemsAreWritable, InitialStatesAreModels, NamesTellGroundAtoms, StartsAreOfAtoms};
 
 /// Where no name is at fault, some state is initial exactly where the initial formula has a model.
 #[tactic(auto, using(crate::proofs::Starts::states_are_models))]

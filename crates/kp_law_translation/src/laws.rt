@@ -1,6 +1,6 @@
 //! Laws of the plans of the written files, each proved as the contract of a function that does nothing.
 
-ghost use Rattle.kp_law_files.specs.Laws.{LiftsAreWritten, PlansLift, TranslationsAreSound, WrittenPlansStripToSolutions};
+ghost use Rattle.kp_law_translation.specs.Laws.{LiftsAreWritten, PlansLift, TranslationsAreSound, WrittenPlansStripToSolutions};
 
 /// Each plan of what is written for two trees and a table strips to a list that solves their problem, where their ground problem can be written and nothing clashes.
 #[tactic(auto, using(crate::proofs::Trees::plans_solve))]

@@ -9,10 +9,10 @@ use Rattle.kp_base.specs.declared.ground.Ground.{Ground}
 use Rattle.kp_base.specs.declared.ground.TagTable.{TagTable}
 use Rattle.kp_base.specs.Steps.{pre_of, IsLeastMissing}
 use Rattle.kp_base.specs.Machine.{MachineStep, Known, start, may_act}
-use Rattle.kp_lift_known.specs.Known.{Table, Says}
-use Rattle.kp_law_machine.specs.Lifts.{after_merges, merges_taken, lift_from, UnliftedAt}
-use Rattle.kp_law_machine.proofs.Public.{failing_lists_dont_lift, lifted_is_accepted_where_it_lifts}
-use Rattle.kp_law_machine.proofs.Public as complete
+use Rattle.kp_lift_knowledge.specs.Known.{Table, Says}
+use Rattle.kp_law_tagged_machine.specs.Lifts.{after_merges, merges_taken, lift_from, UnliftedAt}
+use Rattle.kp_law_tagged_machine.proofs.Public.{failing_lists_dont_lift, lifted_is_accepted_where_it_lifts}
+use Rattle.kp_law_tagged_machine.proofs.Public as complete
 use Rattle.kp_law_ktask.specs.Laws.{op_number}
 use Rattle.kp_lift.specs.declared.lifting.Lifting.TheVariants.{Lifted, Unlifted}
 use Rattle.kp_lift.specs.declared.running.At.{At}
@@ -96,7 +96,7 @@ module _ (g : Ground) (table : TagTable) (old : Table) (ops ns : List ℕ) (i : 
 
 -- ---- from the start
 
--- `kp_law_machine` says the same of lifting
+-- `kp_law_tagged_machine` says the same of lifting
 lifts_too : (g : Ground) (table : TagTable) (ns : List ℕ) (k : Known) → lifts_from g table k ns ≡ true → complete.lifts_from g table k ns ≡ true
 lifts_too g table [] k h = h
 lifts_too g table (n ∷ ns) k h =

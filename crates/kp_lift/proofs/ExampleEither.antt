@@ -11,8 +11,8 @@ use Rattle.kp_base.specs.declared.ground.TagTable.{TagTable}
 use Rattle.kp_base.specs.Lit.{positive, negative, code_of}
 use Rattle.kp_base.specs.Implicates.{are_below, IsOfItsAtoms}
 use Rattle.kp_base.proofs.Lists.{all_member}
-use Rattle.kp_law_machine.specs.Lifts.{is_ready, UnliftedAt}
-use Rattle.kp_law_machine.proofs.Public.{failing_lists_dont_lift}
+use Rattle.kp_law_tagged_machine.specs.Lifts.{is_ready, UnliftedAt}
+use Rattle.kp_law_tagged_machine.proofs.Public.{failing_lists_dont_lift}
 use Rattle.kp_law_ktask.specs.Task.{task_of}
 use Rattle.kp_lift.specs.declared.lifting.Lifting.TheVariants.{Lifted, Unlifted}
 use Rattle.kp_lift.specs.Lifting.{IsTableOn, AnswersLifting, operator_step}

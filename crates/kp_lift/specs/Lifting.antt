@@ -9,7 +9,7 @@ use Rattle.kp_base.specs.declared.ground.TagTable.{TagTable}
 use Rattle.kp_base.specs.Lists.{Member}
 use Rattle.kp_base.specs.Implicates.{are_below}
 use Rattle.kp_base.specs.Machine.{MachineStep, accepts, stripped}
-use Rattle.kp_law_machine.specs.Lifts.{lift_of, UnliftedAt}
+use Rattle.kp_law_tagged_machine.specs.Lifts.{lift_of, UnliftedAt}
 use Rattle.kp_classic.specs.declared.task.Task.{Task}
 use Rattle.kp_law_ktask.specs.Task.{task_of}
 use Rattle.kp_law_ktask.specs.Laws.{op_number}

@@ -1,5 +1,5 @@
 //! Lists of actions with the merges put in that they need. `specs/Lifting.antt` says what is answered, and
-//! `specs/Lifts.antt` of `kp_law_machine` what a lifted list is.
+//! `specs/Lifts.antt` of `kp_law_tagged_machine` what a lifted list is.
 #![tactic(auto)]
 
 mod laws;

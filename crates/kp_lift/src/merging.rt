@@ -4,13 +4,13 @@ ghost use Rattle.std.specs.List.{list_all};
 ghost use Rattle.kp_base.specs.Lists.{only_if};
 ghost use Rattle.kp_base.specs.Implicates.{IsOfItsAtoms};
 ghost use Rattle.kp_base.specs.Machine.{Known};
-ghost use Rattle.kp_lift_known.specs.Known.{IsLike, Says};
-ghost use Rattle.kp_law_machine.specs.Lifts.{adds, after_merges};
+ghost use Rattle.kp_lift_knowledge.specs.Known.{IsLike, Says};
+ghost use Rattle.kp_law_tagged_machine.specs.Lifts.{adds, after_merges};
 ghost use Rattle.kp_lift.specs.Lifting.{IsTableOn};
 ghost use Rattle.kp_lift.specs.Running.{IsAbout, MergesTaken, GoalEnds};
 
 use kp_base::{Ground, Lit, Memory, Merge, Row, TagTable};
-use kp_lift_known::Knowing;
+use kp_lift_knowledge::Knowing;
 
 // Takes a merge, if it is allowed and adds something, and notes its operator then.
 fn take_merge(

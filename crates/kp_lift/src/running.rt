@@ -8,7 +8,7 @@ ghost use Rattle.kp_lift.specs.Running.{IsAbout, StepEnds, EndsFrom, ActionsEnd}
 
 use crate::merging::{reach_goal, take_merges};
 use kp_base::{Ground, Lit, Memory, Row, TagTable};
-use kp_lift_known::Knowing;
+use kp_lift_knowledge::Knowing;
 use std::alloc::Global;
 
 /// A step by its number from 0, or the goal by the number of all steps, and a literal there.

@@ -6,8 +6,8 @@ use Rattle.kp_base.specs.declared.lit.Lit.{Lit}
 use Rattle.kp_base.specs.declared.ground.TagRow.{TagRow}
 use Rattle.kp_base.specs.Lit.{has}
 use Rattle.kp_base.specs.Machine.{closure_of}
-use Rattle.kp_lift_known.specs.Known.{Table, known}
-use Rattle.kp_lift_known.specs.Tabled.{Turns}
+use Rattle.kp_lift_knowledge.specs.Known.{Table, known}
+use Rattle.kp_lift_knowledge.specs.Tabled.{Turns}
 
 module _ (old mid new : Table) (tags : List TagRow) (t : ℕ) (row : TagRow) (closure : List Lit) (lt : t < length tags) (is : closure ≡ (get_or tags t row).closure) where
   abbrev closure_at : ℕ → List Lit

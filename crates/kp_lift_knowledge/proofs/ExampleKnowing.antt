@@ -7,7 +7,7 @@ use Rattle.kp_base.specs.declared.ground.Action.{Action}
 use Rattle.kp_base.specs.declared.ground.Merge.{Merge}
 use Rattle.kp_base.specs.declared.ground.TagTable.{TagTable}
 use Rattle.kp_base.specs.Planning.{positive, negative, IsAscending, are_below, action_below, Known, start, after_act, may_merge, after_merge}
-use Rattle.kp_lift_known.specs.Known.{Table, known, Says, Starts}
+use Rattle.kp_lift_knowledge.specs.Known.{Table, known, Says, Starts}
 
 abbrev adding : Action
 adding = record { name = record { head = []; objects = [] }; pre = []; effects = record { cond = negative 0 ∷ []; result = positive 0 } ∷ [] }

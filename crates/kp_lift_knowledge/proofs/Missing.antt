@@ -8,8 +8,8 @@ use Rattle.kp_base.specs.Planning.{Member, code_of, IsAscending, are_below, Fact
 use Rattle.kp_base.proofs.Ascending.{tail_ascends}
 use Rattle.kp_base.proofs.Least.{least_later}
 use Rattle.kp_base.proofs.Lists.{all_alike, all_member}
-use Rattle.kp_lift_known.specs.Known.{Table, known, Says}
-use Rattle.kp_lift_known.proofs.Stepping.{Agree, below_at}
+use Rattle.kp_lift_knowledge.specs.Known.{Table, known, Says}
+use Rattle.kp_lift_knowledge.proofs.Stepping.{Agree, below_at}
 
 -- ---- the least literal
 

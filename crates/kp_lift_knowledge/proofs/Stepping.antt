@@ -7,8 +7,8 @@ use Rattle.kp_base.specs.declared.ground.Action.{Action}
 use Rattle.kp_base.specs.declared.ground.Effect.{Effect}
 use Rattle.kp_base.specs.Planning.{Member, same_lit, negated, are_below, effect_below, action_below, Facts, fires, Known, persists, facts_after}
 use Rattle.kp_base.proofs.Lists.{any_alike, all_alike, all_member}
-use Rattle.kp_lift_known.specs.Known.{Table, known, IsLike, Says}
-use Rattle.kp_lift_known.specs.Tabled.{Turns, touches, IsAtRest}
+use Rattle.kp_lift_knowledge.specs.Known.{Table, known, IsLike, Says}
+use Rattle.kp_lift_knowledge.specs.Tabled.{Turns, touches, IsAtRest}
 
 -- ---- what no effect touches
 

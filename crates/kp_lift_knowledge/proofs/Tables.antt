@@ -8,8 +8,8 @@ use Rattle.kp_base.specs.declared.lit.Lit.{Lit}
 use Rattle.kp_base.specs.Lit.{code_of, same_lit}
 use Rattle.kp_base.proofs.Ascending.{code_of-injective}
 use Rattle.kp_base.proofs.Lits.{same_lit-true, same_lit-refl}
-use Rattle.kp_lift_known.specs.Known.{Table, known}
-use Rattle.kp_lift_known.specs.Tabled.{Tells, IsWhole, Turns}
+use Rattle.kp_lift_knowledge.specs.Known.{Table, known}
+use Rattle.kp_lift_knowledge.specs.Tabled.{Tells, IsWhole, Turns}
 
 -- ---- rows
 

@@ -4,7 +4,7 @@ use Rattle.std.specs.List.{list_any}
 use Rattle.kp_base.specs.declared.lit.Lit.{Lit}
 use Rattle.kp_base.specs.declared.ground.Effect.{Effect}
 use Rattle.kp_base.specs.Machine.{Known}
-use Rattle.kp_lift_known.specs.Known.{Table, known, IsLike, Says}
+use Rattle.kp_lift_knowledge.specs.Known.{Table, known, IsLike, Says}
 
 -- a row has a bit for each of n tags, set where the test holds
 pub record Tells (n : ℕ) (row : List Bool) (f : ℕ → Bool) : Type 0 where

@@ -2,8 +2,8 @@
 ghost use Rattle.std.specs.Prelude.{◌≡◌, ◌<◌, ◌&&◌, ◌||◌, not, cond, true, length, nat_eq};
 ghost use Rattle.std.specs.List.{list_any, list_all};
 ghost use Rattle.kp_base.specs.Planning.{negated, same_lit, effect_below, fires, persists};
-ghost use Rattle.kp_lift_known.specs.Known.{known, IsLike};
-ghost use Rattle.kp_lift_known.specs.Tabled.{Turns, touches};
+ghost use Rattle.kp_lift_knowledge.specs.Known.{known, IsLike};
+ghost use Rattle.kp_lift_knowledge.specs.Tabled.{Turns, touches};
 
 use crate::met::Met;
 use crate::rows::Rows;

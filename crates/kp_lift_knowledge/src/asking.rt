@@ -2,7 +2,7 @@
 ghost use Rattle.std.specs.Prelude.{◌≡◌, ◌<◌, ◌&&◌, not, true, Some, nat_lt, IfSome, IfNone};
 ghost use Rattle.std.specs.List.{list_all};
 ghost use Rattle.kp_base.specs.Planning.{IsAscending, are_below, IsLeastMissing, may_merge};
-ghost use Rattle.kp_lift_known.specs.Known.{known};
+ghost use Rattle.kp_lift_knowledge.specs.Known.{known};
 
 use crate::rows::Rows;
 use kp_base::{Lit, Merge};

@@ -4,8 +4,8 @@ ghost use Rattle.std.specs.List.{list_all};
 ghost use Rattle.kp_base.specs.Lit.{has};
 ghost use Rattle.kp_base.specs.Implicates.{are_below};
 ghost use Rattle.kp_base.specs.Machine.{closure_of};
-ghost use Rattle.kp_lift_known.specs.Known.{known, Starts};
-ghost use Rattle.kp_lift_known.specs.Tabled.{Turns};
+ghost use Rattle.kp_lift_knowledge.specs.Known.{known, Starts};
+ghost use Rattle.kp_lift_knowledge.specs.Tabled.{Turns};
 
 use crate::rows::Rows;
 use kp_base::{Lit, Memory, TagRow, TagTable};

@@ -1,7 +1,7 @@
 ghost use Rattle.std.specs.Prelude.{◌≡◌, ◌<◌, ◌&&◌, not, true, false, Some, length, nat_lt, IfOk, IfSome, IfNone};
 ghost use Rattle.std.specs.List.{list_all};
 ghost use Rattle.kp_base.specs.Planning.{IsAscending, are_below, action_below, IsLeastMissing, Known, after_act, may_merge, after_merge};
-ghost use Rattle.kp_lift_known.specs.Known.{IsLike, Says, Starts};
+ghost use Rattle.kp_lift_knowledge.specs.Known.{IsLike, Says, Starts};
 
 use crate::acting::{cancel_all, support_all, take_over_all};
 use crate::asking::{first_missing, merges_anew};
@@ -23,8 +23,8 @@ pub struct Knowing {
 }
 
 impl Model for Knowing {
-    ghost use Rattle.kp_lift_known.specs.Known.{Table};
-    ghost use Rattle.kp_lift_known.specs.Tabled.{IsAtRest};
+    ghost use Rattle.kp_lift_knowledge.specs.Known.{Table};
+    ghost use Rattle.kp_lift_knowledge.specs.Tabled.{IsAtRest};
 
     ghost Value = { Table };
 

@@ -3,8 +3,8 @@ ghost use Rattle.std.specs.Prelude.{◌≡◌, ◌<◌, ◌&&◌, ◌||◌, true
 ghost use Rattle.std.specs.List.{list_any, list_all};
 ghost use Rattle.kp_base.specs.Lit.{negated};
 ghost use Rattle.kp_base.specs.Implicates.{are_below};
-ghost use Rattle.kp_lift_known.specs.Known.{known};
-ghost use Rattle.kp_lift_known.specs.Tabled.{Tells};
+ghost use Rattle.kp_lift_knowledge.specs.Known.{known};
+ghost use Rattle.kp_lift_knowledge.specs.Tabled.{Tells};
 
 use crate::rows::Rows;
 use kp_base::{Lit, Memory};
@@ -23,7 +23,7 @@ pub(crate) struct Met {
 
 impl Model for Met {
     ghost use Rattle.std.specs.Prelude.{List, Bool, length};
-    ghost use Rattle.kp_lift_known.specs.Tabled.{AreEnds};
+    ghost use Rattle.kp_lift_knowledge.specs.Tabled.{AreEnds};
 
     ghost Value = { List Bool };
 

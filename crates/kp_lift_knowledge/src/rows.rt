@@ -1,8 +1,8 @@
 //! The rows of bits, one for each literal.
 ghost use Rattle.std.specs.Prelude.{◌≡◌, ◌<◌, ◌*◌, ◌&&◌, ◌||◌, not, cond, false, length, get_or, nat_eq, IfOk};
 ghost use Rattle.kp_base.specs.Lit.{same_lit};
-ghost use Rattle.kp_lift_known.specs.Known.{known, IsLike};
-ghost use Rattle.kp_lift_known.specs.Tabled.{AreClear, Tells, Turns, IsBlank};
+ghost use Rattle.kp_lift_knowledge.specs.Known.{known, IsLike};
+ghost use Rattle.kp_lift_knowledge.specs.Tabled.{AreClear, Tells, Turns, IsBlank};
 
 use kp_base::{Lit, Memory};
 use kp_bits::Bits;
@@ -19,8 +19,8 @@ pub(crate) struct Rows {
 }
 
 impl Model for Rows {
-    ghost use Rattle.kp_lift_known.specs.Known.{Table};
-    ghost use Rattle.kp_lift_known.specs.Tabled.{IsWhole};
+    ghost use Rattle.kp_lift_knowledge.specs.Known.{Table};
+    ghost use Rattle.kp_lift_knowledge.specs.Tabled.{IsWhole};
 
     ghost Value = { Table };
 

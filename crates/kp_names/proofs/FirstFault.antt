@@ -6,11 +6,11 @@ use Rattle.kp_base.specs.declared.refused.Stop.{Stop}
 use Rattle.kp_base.specs.declared.refused.Stop.TheVariants as stops
 use Rattle.kp_tree_grammar.specs.declared.tree.Word.{Word}
 use Rattle.kp_tree_grammar.specs.Trees.{Domain, Problem}
-use Rattle.kp_names_meaning.specs.Faults.{Fault, byte_of, IsFirst, HasNoFault, domain_faults, problem_faults}
+use Rattle.kp_names_semantics.specs.Faults.{Fault, byte_of, IsFirst, HasNoFault, domain_faults, problem_faults}
 use Rattle.kp_names.specs.Resolved.{earlier, first_fault, refusal_of, RefusesNames, in_domain, in_problem, unsure_place, IsResolved, AnswersNames}
-use Rattle.kp_names_meaning.specs.Numbering.{numbered_problem}
-use Rattle.kp_names_lifted.specs.declared.lifted.Lifted.{Lifted}
-use Rattle.kp_names_lifted.specs.View.{lifted_view}
+use Rattle.kp_names_semantics.specs.Numbering.{numbered_problem}
+use Rattle.kp_names_numbered.specs.declared.lifted.Lifted.{Lifted}
+use Rattle.kp_names_numbered.specs.View.{lifted_view}
 use Rattle.kp_names.specs.Noted.{noted, sooner, Refuses, Judges, JudgesBoth}
 
 -- ---- what is called the first fault is the first

@@ -10,7 +10,7 @@ use Rattle.kp_tree_grammar.specs.Trees.{Domain, Problem}
 use Rattle.kp_tree_grammar.specs.Symbols.{all_seen_in}
 use Rattle.kp_tree_grammar.specs.Grammar as grammar
 use Rattle.kp_tree_grammar.specs.Texts.{ReadsAs}
-use Rattle.kp_names_meaning.specs.Faults.{Fault, byte_of, domain_faults, problem_faults}
+use Rattle.kp_names_semantics.specs.Faults.{Fault, byte_of, domain_faults, problem_faults}
 use Rattle.kp_names.specs.Noted.{noted}
 use Rattle.kp_names.proofs.Held.{OfTokens, held}
 use Rattle.kp_names.proofs.Within.{Early, EarlyFault, AreEarly, domain_early, problem_early}

@@ -7,9 +7,9 @@ use Rattle.kp_base.specs.Lists.{only_if}
 use Rattle.kp_base.proofs.Lists.{flat_alike}
 use Rattle.kp_tree_grammar.specs.declared.tree.Word.{Word}
 use Rattle.kp_tree_grammar.specs.Trees.{Typed, Term, Atom, Cond, Conds, Eff, Effs, Schema, Domain, Problem}
-use Rattle.kp_names_meaning.specs.Names.{Name, same, is_among, distinct}
-use Rattle.kp_names_meaning.specs.Types.{declared}
-use Rattle.kp_names_meaning.specs.Faults.{Fault, unknown_name, declared_twice, repeated, inside, variable_faults, head_faults, predicate_of, term_faults, atom_faults, cond_faults, conds_faults, eff_faults, effs_faults, schema_faults}
+use Rattle.kp_names_semantics.specs.Names.{Name, same, is_among, distinct}
+use Rattle.kp_names_semantics.specs.Types.{declared}
+use Rattle.kp_names_semantics.specs.Faults.{Fault, unknown_name, declared_twice, repeated, inside, variable_faults, head_faults, predicate_of, term_faults, atom_faults, cond_faults, conds_faults, eff_faults, effs_faults, schema_faults}
 use Rattle.kp_names.specs.Noted.{noted, sooner}
 use Rattle.kp_names_declared.specs.Steps.{with_name}
 use Rattle.kp_names_declared.proofs.Public.{among_one_more, among_gathered, gathered_behind}

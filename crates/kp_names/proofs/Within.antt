@@ -5,9 +5,9 @@ use Rattle.kp_base.specs.Lists.{only_if}
 use Rattle.kp_base.proofs.Lists.{each_append, each_flat_map}
 use Rattle.kp_tree_grammar.specs.declared.tree.Word.{Word}
 use Rattle.kp_tree_grammar.specs.Trees.{Typed, Term, Atom, Cond, Conds, Eff, Effs, Lit, Item, Items, Pred, Schema, Domain, Problem}
-use Rattle.kp_names_meaning.specs.Names.{Name, is_among}
-use Rattle.kp_names_meaning.specs.Types.{declared, types, object_lines}
-use Rattle.kp_names_meaning.specs.Faults.{Fault, unknown_name, declared_twice, wrong_use, byte_of, unless_among, repeated, words, type_faults, variable_faults, inside, predicate_of, head_faults, term_faults, atom_faults, cond_faults, conds_faults, eff_faults, effs_faults, lit_faults, item_faults, items_faults, schema_faults, predicate_faults, domain_faults, problem_faults}
+use Rattle.kp_names_semantics.specs.Names.{Name, is_among}
+use Rattle.kp_names_semantics.specs.Types.{declared, types, object_lines}
+use Rattle.kp_names_semantics.specs.Faults.{Fault, unknown_name, declared_twice, wrong_use, byte_of, unless_among, repeated, words, type_faults, variable_faults, inside, predicate_of, head_faults, term_faults, atom_faults, cond_faults, conds_faults, eff_faults, effs_faults, lit_faults, item_faults, items_faults, schema_faults, predicate_faults, domain_faults, problem_faults}
 use Rattle.kp_names.proofs.Held.{all_mapped, OfTyped, OfTerm, OfAtom, OfCond, OfConds, OfEff, OfEffs, OfLit, OfItem, OfItems, OfPred, OfSchema, OfDomain, OfProblem}
 
 module _ (n : ℕ) where

@@ -5,7 +5,7 @@ use Rattle.kp_base.specs.declared.refused.Stop.{Stop}
 use Rattle.kp_base.specs.declared.refused.Stop.TheVariants as stops
 use Rattle.kp_tree_grammar.specs.declared.tree.Word.{Word}
 use Rattle.kp_tree_grammar.specs.Trees.{Pred, Schema, Domain, Problem}
-use Rattle.kp_names_meaning.specs.Faults as spec
+use Rattle.kp_names_semantics.specs.Faults as spec
 use Rattle.kp_names.specs.Resolved.{first_fault, refusal_of, RefusesNames}
 use Rattle.kp_names.specs.declared.first.Fault.{Fault}
 use Rattle.kp_names.specs.declared.first.Fault.TheVariants as faults

@@ -9,10 +9,10 @@ use Rattle.kp_base.specs.declared.refused.Stop.TheVariants as stops
 use Rattle.kp_lex.specs.Places.{place_of}
 use Rattle.kp_tree_grammar.specs.declared.tree.Word.{Word}
 use Rattle.kp_tree_grammar.specs.Trees.{Domain, Problem}
-use Rattle.kp_names_meaning.specs.Faults.{Fault, unknown_name, declared_twice, wrong_use, byte_of, domain_faults, problem_faults, HasNoFault}
-use Rattle.kp_names_meaning.specs.Numbering.{numbered_problem}
-use Rattle.kp_names_lifted.specs.declared.lifted.Lifted.{Lifted}
-use Rattle.kp_names_lifted.specs.View.{lifted_view}
+use Rattle.kp_names_semantics.specs.Faults.{Fault, unknown_name, declared_twice, wrong_use, byte_of, domain_faults, problem_faults, HasNoFault}
+use Rattle.kp_names_semantics.specs.Numbering.{numbered_problem}
+use Rattle.kp_names_numbered.specs.declared.lifted.Lifted.{Lifted}
+use Rattle.kp_names_numbered.specs.View.{lifted_view}
 pub use Rattle.kp_names_declared.specs.Unsure.{or_else, unsure_item, unsure_items, first_unsure, place_in, unsure_place}
 
 -- ---- faults

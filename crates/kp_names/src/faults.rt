@@ -1,7 +1,7 @@
 ghost use Rattle.std.specs.Prelude.{◌≡◌, [], ◌==◌, map};
 ghost use Rattle.std.specs.List.{flat_map};
 ghost use Rattle.kp_tree_grammar.specs.View.{term_view, atom_view, cond_view, lit_view, item_view};
-ghost use Rattle.kp_names_meaning.specs.Faults.{predicate_of, term_faults, head_faults, atom_faults, cond_faults, lit_faults, item_faults};
+ghost use Rattle.kp_names_semantics.specs.Faults.{predicate_of, term_faults, head_faults, atom_faults, cond_faults, lit_faults, item_faults};
 ghost use Rattle.kp_names_declared.specs.Collected.{domain_of, problem_of};
 ghost use Rattle.kp_names.specs.Noted.{noted};
 

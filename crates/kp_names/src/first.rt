@@ -1,6 +1,6 @@
 ghost use Rattle.std.specs.Prelude.{◌≡◌, ◌≤◌, length, None};
 ghost use Rattle.kp_base.specs.Files.{most_bytes};
-ghost use Rattle.kp_names_meaning.specs.Faults.{byte_of};
+ghost use Rattle.kp_names_semantics.specs.Faults.{byte_of};
 ghost use Rattle.kp_names.specs.Noted.{fault_view, sooner};
 ghost use Rattle.kp_names.specs.Resolved.{refusal_of};
 
@@ -51,7 +51,7 @@ pub struct First {
 impl Model for First {
     ghost use Rattle.std.specs.Prelude.{Option};
     ghost use Rattle.std.specs.Option.{option_map};
-    ghost use Rattle.kp_names_meaning.specs.Faults.{Fault as Wrong};
+    ghost use Rattle.kp_names_semantics.specs.Faults.{Fault as Wrong};
     ghost use Rattle.kp_names.specs.Noted.{fault_view};
 
     ghost Value = { Option Wrong };

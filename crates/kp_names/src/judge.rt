@@ -3,7 +3,7 @@ ghost use Rattle.kp_base.specs.declared.refused.Part.TheVariants as parts;
 ghost use Rattle.kp_base.specs.Files.{most_bytes};
 ghost use Rattle.kp_tree_grammar.specs.Grammar as grammar;
 ghost use Rattle.kp_tree_grammar.specs.Texts.{ReadsAs};
-ghost use Rattle.kp_names_meaning.specs.Faults.{Fault as Wrong, byte_of, domain_faults, problem_faults};
+ghost use Rattle.kp_names_semantics.specs.Faults.{Fault as Wrong, byte_of, domain_faults, problem_faults};
 ghost use Rattle.kp_names_declared.specs.Collected.{domain_of, problem_of};
 ghost use Rattle.kp_names.specs.Noted.{Refuses, Judges, JudgesBoth};
 

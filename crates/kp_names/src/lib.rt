@@ -10,6 +10,6 @@ mod resolving;
 mod schema_faults;
 mod whole;
 
-pub use kp_names_lifted::{Cond, Eff, GroundLit, Item, Lifted, Pred, Range, Schema, Term};
+pub use kp_names_numbered::{Cond, Eff, GroundLit, Item, Lifted, Pred, Range, Schema, Term};
 pub use laws::the_first_fault_is_first;
 pub use resolving::resolve;

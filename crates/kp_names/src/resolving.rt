@@ -8,7 +8,7 @@ ghost use Rattle.kp_names.specs.Resolved.{AnswersNames};
 use crate::judge::judge;
 use kp_base::{Stop, Texts};
 use kp_names_declared::Names;
-use kp_names_lifted::{Lifted, by_number};
+use kp_names_numbered::{Lifted, by_number};
 use kp_tree_grammar::{Domain, Problem};
 use std::alloc::Global;
 

@@ -1,8 +1,8 @@
 ghost use Rattle.std.specs.Prelude.{◌≡◌, [], fold, map, OnOk};
 ghost use Rattle.std.specs.List.{flat_map};
 ghost use Rattle.kp_tree_grammar.specs.View.{eff_view, schema_view, typed_view};
-ghost use Rattle.kp_names_meaning.specs.Faults.{eff_faults, schema_faults, variable_faults};
-ghost use Rattle.kp_names_meaning.specs.Types.{declared};
+ghost use Rattle.kp_names_semantics.specs.Faults.{eff_faults, schema_faults, variable_faults};
+ghost use Rattle.kp_names_semantics.specs.Types.{declared};
 ghost use Rattle.kp_names_declared.specs.Collected.{domain_of, problem_of};
 ghost use Rattle.kp_names.specs.Noted.{noted};
 ghost use Rattle.kp_names_declared.specs.Steps.{with_name};

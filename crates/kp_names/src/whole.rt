@@ -1,7 +1,7 @@
 ghost use Rattle.std.specs.Prelude.{◌≡◌, map, OnOk};
 ghost use Rattle.std.specs.List.{flat_map};
 ghost use Rattle.kp_tree_grammar.specs.View.{pred_view, item_view};
-ghost use Rattle.kp_names_meaning.specs.Faults.{twice_in, words, predicate_faults, item_faults, domain_faults, problem_faults};
+ghost use Rattle.kp_names_semantics.specs.Faults.{twice_in, words, predicate_faults, item_faults, domain_faults, problem_faults};
 ghost use Rattle.kp_names_declared.specs.Collected.{domain_of, problem_of};
 ghost use Rattle.kp_names.specs.Noted.{noted};
 

@@ -5,9 +5,9 @@ use Rattle.std.proofs.lemmas.List.{map-append, reverse-append}
 use Rattle.std.specs.Prelude.{unwrap_or, fold}
 use Rattle.std.specs.Map.{lookup}
 use Rattle.indexmap.specs.IndexMap.{insert_entry}
-use Rattle.kp_names_meaning.specs.Names.{Name, same}
+use Rattle.kp_names_semantics.specs.Names.{Name, same}
 use Rattle.kp_base.proofs.Lists.{same-true}
-use Rattle.kp_names_meaning.proofs.Public.{same_name-sym}
+use Rattle.kp_names_semantics.proofs.Public.{same_name-sym}
 use Rattle.kp_names_declared.specs.Steps.{under, with_name}
 use Rattle.kp_names_declared.specs.Chains.{pairs_of, IsChain, ends, leads, AreChained}
 use Rattle.kp_names_declared.specs.declared.under.Link.{Link}

@@ -6,11 +6,11 @@ use Rattle.std.proofs.lemmas.List.{map-append}
 use Rattle.indexmap.specs.IndexMap.{insert_entry}
 use Rattle.kp_tree_grammar.specs.declared.tree.Word.{Word}
 use Rattle.kp_tree_grammar.specs.Trees.{Pred, Domain}
-use Rattle.kp_names_meaning.specs.Names.{Name, same}
-use Rattle.kp_names_meaning.specs.Types.{names}
-use Rattle.kp_names_meaning.specs.Numbering.{index_of}
+use Rattle.kp_names_semantics.specs.Names.{Name, same}
+use Rattle.kp_names_semantics.specs.Types.{names}
+use Rattle.kp_names_semantics.specs.Numbering.{index_of}
 use Rattle.kp_base.proofs.Lists.{same-true}
-use Rattle.kp_names_meaning.proofs.Public.{same_name-sym}
+use Rattle.kp_names_semantics.proofs.Public.{same_name-sym}
 use Rattle.kp_names_declared.specs.declared.predicates.Declared.{Declared}
 use Rattle.kp_names_declared.specs.NameTables.{Entries, entries_from, with_entry, entry_of, declared_as, declaration_of}
 

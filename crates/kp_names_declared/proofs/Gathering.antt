@@ -7,12 +7,12 @@ use Rattle.std.proofs.lemmas.List.Sums.{fold-append}
 use Rattle.kp_tree_grammar.specs.declared.tree.Word.{Word}
 use Rattle.kp_tree_grammar.specs.Trees.{Typed}
 use Rattle.kp_base.proofs.Once.{any-added, all_added, once_by_one}
-use Rattle.kp_names_meaning.specs.Types.{declared}
-use Rattle.kp_names_meaning.specs.Names.{Name, same, is_among, distinct}
-use Rattle.kp_names_meaning.specs.Numbering.{index_of}
+use Rattle.kp_names_semantics.specs.Types.{declared}
+use Rattle.kp_names_semantics.specs.Names.{Name, same, is_among, distinct}
+use Rattle.kp_names_semantics.specs.Numbering.{index_of}
 use Rattle.kp_base.specs.Lists.{Member}
 use Rattle.kp_base.proofs.Lists.{same_member, same-true}
-use Rattle.kp_names_meaning.proofs.Public.{same_name_equivalence, same_name-sym, member_is_among, index_below}
+use Rattle.kp_names_semantics.proofs.Public.{same_name_equivalence, same_name-sym, member_is_among, index_below}
 use Rattle.kp_names_declared.specs.Steps.{with_name}
 use Rattle.kp_names_declared.specs.NameTables.{number_of}
 

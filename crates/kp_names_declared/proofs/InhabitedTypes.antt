@@ -7,9 +7,9 @@ use Rattle.kp_tree_grammar.specs.declared.tree.Word.{Word}
 use Rattle.kp_tree_grammar.specs.Trees.{Typed, Domain, Problem}
 use Rattle.kp_base.specs.Lists.{Member}
 use Rattle.kp_base.proofs.Lists.{member_flat_map, same-refl}
-use Rattle.kp_names_meaning.specs.Names.{Name, same, is_among}
-use Rattle.kp_names_meaning.specs.Types.{object, names, or_object, types_of, object_lines, IsBelow, itself, root, parent, over}
-use Rattle.kp_names_meaning.proofs.Public.{member_is_among}
+use Rattle.kp_names_semantics.specs.Names.{Name, same, is_among}
+use Rattle.kp_names_semantics.specs.Types.{object, names, or_object, types_of, object_lines, IsBelow, itself, root, parent, over}
+use Rattle.kp_names_semantics.proofs.Public.{member_is_among}
 use Rattle.kp_names_declared.specs.Steps.{with_name, under, with_line_over, lines_over, IsClosing, HoldTypes}
 use Rattle.kp_names_declared.proofs.Gathering.{among_all}
 

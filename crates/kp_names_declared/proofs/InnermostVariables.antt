@@ -5,10 +5,10 @@ use Rattle.std.proofs.lemmas.List.{take_more, take_all, reverse-append}
 use Rattle.std.specs.Prelude.{unwrap_or}
 use Rattle.std.specs.Map.{lookup}
 use Rattle.indexmap.specs.IndexMap.{insert_entry}
-use Rattle.kp_names_meaning.specs.Names.{Name, same}
-use Rattle.kp_names_meaning.specs.Numbering.{variable_number}
+use Rattle.kp_names_semantics.specs.Names.{Name, same}
+use Rattle.kp_names_semantics.specs.Numbering.{variable_number}
 use Rattle.kp_base.proofs.Lists.{same-true}
-use Rattle.kp_names_meaning.proofs.Public.{same_name-sym}
+use Rattle.kp_names_semantics.proofs.Public.{same_name-sym}
 use Rattle.kp_names_declared.specs.Steps.{AreInnermost}
 use Rattle.kp_names_declared.specs.Scopes.{names_of, inward, KnowOuter, outside, within, IsScope}
 use Rattle.kp_names_declared.specs.declared.scope.Variable.{Variable}

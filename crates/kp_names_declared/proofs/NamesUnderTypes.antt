@@ -6,8 +6,8 @@ use Rattle.kp_tree_grammar.specs.declared.tree.Word.{Word}
 use Rattle.kp_tree_grammar.specs.Trees.{Typed}
 use Rattle.kp_base.specs.Lists.{Member}
 use Rattle.kp_base.proofs.Lists.{map_member, any_member, any_from, same-true, same-refl}
-use Rattle.kp_names_meaning.specs.Names.{Name, same, is_among}
-use Rattle.kp_names_meaning.specs.Types.{names}
+use Rattle.kp_names_semantics.specs.Names.{Name, same, is_among}
+use Rattle.kp_names_semantics.specs.Types.{names}
 use Rattle.kp_names_declared.specs.Steps.{with_line_under, lines_under, under}
 
 -- the line puts the name under the type

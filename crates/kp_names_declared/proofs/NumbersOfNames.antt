@@ -4,10 +4,10 @@ use Rattle.std.specs.Option.{option_map}
 use Rattle.std.proofs.lemmas.Bool.{or_parts}
 use Rattle.kp_tree_grammar.specs.declared.tree.Word.{Word}
 use Rattle.kp_tree_grammar.specs.Trees.{Pred, Domain}
-use Rattle.kp_names_meaning.specs.Names.{Name, same, is_among}
-use Rattle.kp_names_meaning.specs.Types.{names}
-use Rattle.kp_names_meaning.specs.Numbering.{index_of, heads}
-use Rattle.kp_names_meaning.proofs.Public.{same_name-sym}
+use Rattle.kp_names_semantics.specs.Names.{Name, same, is_among}
+use Rattle.kp_names_semantics.specs.Types.{names}
+use Rattle.kp_names_semantics.specs.Numbering.{index_of, heads}
+use Rattle.kp_names_semantics.proofs.Public.{same_name-sym}
 use Rattle.kp_names_declared.specs.declared.predicates.Declared.{Declared}
 use Rattle.kp_names_declared.specs.NameTables.{number_of, declared_as, declaration_of}
 

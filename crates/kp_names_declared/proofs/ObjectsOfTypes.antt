@@ -11,10 +11,10 @@ use Rattle.kp_tree_grammar.specs.declared.tree.Word.{Word}
 use Rattle.kp_tree_grammar.specs.Trees.{Typed, Domain, Problem}
 use Rattle.kp_base.specs.Lists.{Member}
 use Rattle.kp_base.proofs.Lists.{number_at, contains_member, member_contains, member_flat_map, member_filter, same_member, any_member, any_from, bool_same, same-true, same-refl, member_map, map_member, flat_member, filter_member}
-use Rattle.kp_names_meaning.specs.Names.{Name, same, is_among}
-use Rattle.kp_names_meaning.specs.Types.{object, declared, types_of, is_below, object_lines, objects, is_of_type}
-use Rattle.kp_names_meaning.specs.Numbering.{index_of}
-use Rattle.kp_names_meaning.proofs.Public.{member_is_among, AreDistinctNames, distinct_are_distinct}
+use Rattle.kp_names_semantics.specs.Names.{Name, same, is_among}
+use Rattle.kp_names_semantics.specs.Types.{object, declared, types_of, is_below, object_lines, objects, is_of_type}
+use Rattle.kp_names_semantics.specs.Numbering.{index_of}
+use Rattle.kp_names_semantics.proofs.Public.{member_is_among, AreDistinctNames, distinct_are_distinct}
 use Rattle.kp_names_declared.specs.Steps.{any_among, has_type, AreBelow, under, lines_under, range_of, IsRowOf}
 use Rattle.kp_names_declared.proofs.Gathering.{among_objects}
 use Rattle.kp_names_declared.proofs.NamesUnderTypes.{put_by, puts_it}

@@ -9,9 +9,9 @@ use Rattle.kp_tree_grammar.specs.declared.tree.Word.{Word}
 use Rattle.kp_tree_grammar.specs.Trees.{Typed}
 use Rattle.kp_base.specs.Lists.{Member}
 use Rattle.kp_base.proofs.Lists.{same_member, any_member, any_from, any_map, bool_same, same-true, member_at}
-use Rattle.kp_names_meaning.specs.Names.{Name, same, is_among, distinct}
-use Rattle.kp_names_meaning.specs.Types.{object, names, or_object, types_of, IsBelow, itself, root, parent, over, is_below}
-use Rattle.kp_names_meaning.proofs.Public.{member_is_among, type_test_is_exact}
+use Rattle.kp_names_semantics.specs.Names.{Name, same, is_among, distinct}
+use Rattle.kp_names_semantics.specs.Types.{object, names, or_object, types_of, IsBelow, itself, root, parent, over, is_below}
+use Rattle.kp_names_semantics.proofs.Public.{member_is_among, type_test_is_exact}
 use Rattle.kp_names_declared.specs.Steps.{with_name, any_among, has_type, under, lines_under, IsClosing, AreBelow}
 use Rattle.kp_names_declared.proofs.Gathering.{gathers, among_gathered}
 use Rattle.kp_names_declared.proofs.NamesUnderTypes.{put_by, puts_it}

@@ -1,7 +1,7 @@
 -- This file serves proofs alone. How names under types are kept: each name leads to the one before it under the same type.
 use Rattle.std.specs.Prelude.{◌≡◌, ◌<◌, ◌≤◌, ℕ, suc, List, [], ◌∷◌, map, reverse, length, get_or, unwrap_or}
 use Rattle.std.specs.Map.{lookup}
-use Rattle.kp_names_meaning.specs.Names.{Name, same}
+use Rattle.kp_names_semantics.specs.Names.{Name, same}
 use Rattle.kp_names_declared.specs.Steps.{under}
 use Rattle.kp_names_declared.specs.declared.under.Link.{Link}
 

@@ -5,9 +5,9 @@ use Rattle.std.specs.Option.{option_map}
 use Rattle.kp_tree_grammar.specs.declared.tree.Word.{Word}
 use Rattle.kp_tree_grammar.specs.Trees.{Typed, Pred, Domain}
 use Rattle.kp_tree_grammar.specs.View.{domain_view, problem_view}
-use Rattle.kp_names_meaning.specs.Names.{Name, same, is_among}
-use Rattle.kp_names_meaning.specs.Types.{names, object_lines, objects, types}
-use Rattle.kp_names_meaning.specs.Numbering.{index_of, heads}
+use Rattle.kp_names_semantics.specs.Names.{Name, same, is_among}
+use Rattle.kp_names_semantics.specs.Types.{names, object_lines, objects, types}
+use Rattle.kp_names_semantics.specs.Numbering.{index_of, heads}
 use Rattle.kp_names_declared.specs.declared.predicates.Declared.{Declared}
 use Rattle.kp_names_declared.specs.Collected.{Trees}
 use Rattle.kp_names_declared.specs.Steps.{lines_under}

@@ -1,7 +1,7 @@
 -- How the variables round a place are kept, with the numbers that their names had outside them. The view of `Scope` is `inward`; the rest serves proofs alone.
 use Rattle.std.specs.Prelude.{◌≡◌, ℕ, List, [], ◌∷◌, map, reverse}
-use Rattle.kp_names_meaning.specs.Names.{Name}
-use Rattle.kp_names_meaning.specs.Numbering.{variable_number}
+use Rattle.kp_names_semantics.specs.Names.{Name}
+use Rattle.kp_names_semantics.specs.Numbering.{variable_number}
 use Rattle.kp_names_declared.specs.Steps.{AreInnermost}
 use Rattle.kp_names_declared.specs.declared.scope.Variable.{Variable}
 

@@ -5,9 +5,9 @@ use Rattle.std.specs.Map.{lookup}
 use Rattle.kp_tree_grammar.specs.declared.tree.Word.{Word}
 use Rattle.kp_tree_grammar.specs.Trees.{Typed, Domain, Problem}
 use Rattle.kp_base.specs.Lists.{Member}
-use Rattle.kp_names_meaning.specs.Names.{Name, same, is_among}
-use Rattle.kp_names_meaning.specs.Types.{object, names, object_lines, objects, types_of, IsBelow, is_below, is_of_type}
-use Rattle.kp_names_meaning.specs.Numbering.{index_of, variable_number}
+use Rattle.kp_names_semantics.specs.Names.{Name, same, is_among}
+use Rattle.kp_names_semantics.specs.Types.{object, names, object_lines, objects, types_of, IsBelow, is_below, is_of_type}
+use Rattle.kp_names_semantics.specs.Numbering.{index_of, variable_number}
 
 -- ---- names
 

@@ -1,7 +1,7 @@
 ghost use Rattle.std.specs.Prelude.{◌≡◌, [], fold, map, IfOk, OnOk};
 ghost use Rattle.std.specs.List.{flat_map};
 ghost use Rattle.kp_tree_grammar.specs.View.{typed_view, domain_view, problem_view};
-ghost use Rattle.kp_names_meaning.specs.Types.{names};
+ghost use Rattle.kp_names_semantics.specs.Types.{names};
 ghost use Rattle.kp_names_declared.specs.Steps.{with_name, own_types, HoldTypes};
 
 use crate::below::{OBJECT, close};

@@ -1,10 +1,10 @@
 ghost use Rattle.std.specs.Prelude.{◌≡◌, ◌++◌, map, flat_map, IfOk, OnOk};
 ghost use Rattle.kp_tree_grammar.specs.View.{term_view, atom_view, lit_view, item_view, cond_view, domain_view, problem_view};
-ghost use Rattle.kp_names_meaning.specs.Numbering.{object_number, numbered_literal, numbered_lit, numbered_item, numbered_goal};
+ghost use Rattle.kp_names_semantics.specs.Numbering.{object_number, numbered_literal, numbered_lit, numbered_item, numbered_goal};
 
 use crate::tables::Names;
 use kp_base::{Memory, Row};
-use kp_names_meaning::{GroundLit, Item};
+use kp_names_semantics::{GroundLit, Item};
 use kp_tree_grammar::{AtomTree, CondTree, ItemTree, LitTree, TermTree};
 use std::alloc::Global;
 

@@ -1,5 +1,5 @@
 ghost use Rattle.std.specs.Prelude.{◌≡◌, [], not, length, map, option_map, slice_get, take, IfOk, OnOk};
-ghost use Rattle.kp_names_meaning.specs.Names.{is_among};
+ghost use Rattle.kp_names_semantics.specs.Names.{is_among};
 ghost use Rattle.kp_names_declared.specs.Steps.{with_name};
 ghost use Rattle.kp_names_declared.specs.NameTables.{number_of};
 

@@ -1,8 +1,8 @@
 ghost use Rattle.std.specs.Prelude.{◌≡◌, [], fold, flat_map, map, List, IfOk};
 ghost use Rattle.kp_tree_grammar.specs.View.{domain_view, problem_view};
-ghost use Rattle.kp_names_meaning.specs.Names.{Name};
-ghost use Rattle.kp_names_meaning.specs.Numbering.{index_of};
-ghost use Rattle.kp_names_meaning.specs.Types.{objects};
+ghost use Rattle.kp_names_semantics.specs.Names.{Name};
+ghost use Rattle.kp_names_semantics.specs.Numbering.{index_of};
+ghost use Rattle.kp_names_semantics.specs.Types.{objects};
 ghost use Rattle.kp_names_declared.specs.Steps.{with_name, under, AreBelow, range_of, IsRowOf};
 
 use crate::below::OBJECT;

@@ -1,8 +1,8 @@
 ghost use Rattle.std.specs.Prelude.{◌≡◌, [], ◌∷◌, drop, map, OnOk, OnErr};
 ghost use Rattle.kp_tree_grammar.specs.View.{typed_view};
-ghost use Rattle.kp_names_meaning.specs.Faults.{inside};
-ghost use Rattle.kp_names_meaning.specs.Numbering.{variable_number};
-ghost use Rattle.kp_names_meaning.specs.Types.{declared};
+ghost use Rattle.kp_names_semantics.specs.Faults.{inside};
+ghost use Rattle.kp_names_semantics.specs.Numbering.{variable_number};
+ghost use Rattle.kp_names_semantics.specs.Types.{declared};
 
 use indexmap::IndexMap;
 use kp_base::Memory;

@@ -1,8 +1,8 @@
 ghost use Rattle.std.specs.Prelude.{◌≡◌, ◌≤◌, [], length, map, fold, IfOk, OnOk};
 ghost use Rattle.std.specs.List.{flat_map};
 ghost use Rattle.kp_tree_grammar.specs.View.{domain_view, pred_view, problem_view, typed_view};
-ghost use Rattle.kp_names_meaning.specs.Names.{is_among};
-ghost use Rattle.kp_names_meaning.specs.Types.{declared, names, object_lines, objects, types};
+ghost use Rattle.kp_names_semantics.specs.Names.{is_among};
+ghost use Rattle.kp_names_semantics.specs.Types.{declared, names, object_lines, objects, types};
 ghost use Rattle.kp_names_declared.specs.Steps.{with_name, lines_under};
 ghost use Rattle.kp_names_declared.specs.NameTables.{names_of_line, entries_from, declaration_of, with_entry};
 
@@ -203,7 +203,7 @@ impl<'a> Names<'a> {
 
 // Names that are none have the number after the last, so that each name has one.
 impl<'a> Names<'a> {
-    ghost use Rattle.kp_names_meaning.specs.Numbering.{index_of, heads};
+    ghost use Rattle.kp_names_semantics.specs.Numbering.{index_of, heads};
 
     /// The number of an object; how many there are, where the name is none.
     pub fn object_number(&self, name: &Text) -> u32

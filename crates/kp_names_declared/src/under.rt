@@ -1,6 +1,6 @@
 ghost use Rattle.std.specs.Prelude.{◌≡◌, ◌∷◌, ◌++◌, fold, map, IfOk, OnOk};
 ghost use Rattle.kp_tree_grammar.specs.View.{typed_view, domain_view, problem_view};
-ghost use Rattle.kp_names_meaning.specs.Types.{object_lines};
+ghost use Rattle.kp_names_semantics.specs.Types.{object_lines};
 ghost use Rattle.kp_names_declared.specs.Steps.{with_name, with_line_under, with_line_over, lines_under, lines_over, under};
 ghost use Rattle.kp_names_declared.specs.Chains.{AreChained, pairs_of};
 

@@ -4,8 +4,8 @@ use Rattle.std.specs.Map.{lookup}
 use Rattle.std.specs.Option.{option_map}
 use Rattle.indexmap.specs.IndexMap.{insert_entry}
 use Rattle.kp_base.proofs.Lists.{same-true}
-use Rattle.kp_names_meaning.specs.Names.{Name, same}
-use Rattle.kp_names_lifted.specs.Alike.{AreAlike}
+use Rattle.kp_names_semantics.specs.Names.{Name, same}
+use Rattle.kp_names_numbered.specs.Alike.{AreAlike}
 
 -- ---- references
 

@@ -3,7 +3,7 @@ use Rattle.std.proofs.Common.{◌≡◌, ◌<◌, ◌+◌, ℕ, Bool, true, fals
 use Rattle.std.specs.Map.{lookup}
 use Rattle.std.proofs.lemmas.Grind.{common_steps}
 use Rattle.indexmap.specs.IndexMap.{insert_entry}
-use Rattle.kp_names_meaning.specs.Names.{Name, same}
+use Rattle.kp_names_semantics.specs.Names.{Name, same}
 use Rattle.kp_base.proofs.Lists.{same-true}
 
 module _ {K : Type 0} (now : K → Name) (f : Name → List ℕ) where

@@ -3,9 +3,9 @@ use Rattle.std.proofs.Common.{◌≡◌, ◌+◌, ℕ, suc, List, [], ◌∷◌,
 use Rattle.std.proofs.lemmas.List.{drop-drop}
 use Rattle.kp_tree_grammar.specs.declared.tree.Typed.{Typed}
 use Rattle.kp_tree_grammar.specs.View.{typed_view}
-use Rattle.kp_names_meaning.specs.Names.{Name}
-use Rattle.kp_names_meaning.specs.Types.{declared}
-use Rattle.kp_names_meaning.specs.Faults.{inside}
+use Rattle.kp_names_semantics.specs.Names.{Name}
+use Rattle.kp_names_semantics.specs.Types.{declared}
+use Rattle.kp_names_semantics.specs.Faults.{inside}
 
 one_first : (n : ℕ) (ns : List Name) → drop (suc n) ns ≡ drop 1 (drop n ns)
 one_first n ns = let count : suc n ≡ n + 1 = omega arith in ap (λ k. drop k ns) count ∙ sym (drop-drop 1 n ns)

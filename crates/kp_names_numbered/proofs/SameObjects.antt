@@ -9,12 +9,12 @@ use Rattle.kp_tree_grammar.specs.declared.tree.Word.{Word}
 use Rattle.kp_tree_grammar.specs.Trees.{Typed, Domain, Problem}
 use Rattle.kp_base.specs.Lists.{Member}
 use Rattle.kp_base.proofs.Lists.{bool_same, any_member, any_from, same_member, same-true, member_flat_map}
-use Rattle.kp_names_meaning.specs.Names.{Name, same, is_among}
-use Rattle.kp_names_meaning.specs.Types.{object, names, or_object, types_of, IsBelow, itself, root, parent, over, is_below, object_lines, is_of_type}
-use Rattle.kp_names_meaning.proofs.Public.{type_test_is_exact, member_is_among}
+use Rattle.kp_names_semantics.specs.Names.{Name, same, is_among}
+use Rattle.kp_names_semantics.specs.Types.{object, names, or_object, types_of, IsBelow, itself, root, parent, over, is_below, object_lines, is_of_type}
+use Rattle.kp_names_semantics.proofs.Public.{type_test_is_exact, member_is_among}
 use Rattle.kp_names_declared.specs.Steps.{with_name, own_types, lines_under, under}
 use Rattle.kp_names_declared.proofs.Public.{among_all, gathered_member, member_gathered, put_by, puts_it}
-use Rattle.kp_names_lifted.specs.Alike.{of_found, fits}
+use Rattle.kp_names_numbered.specs.Alike.{of_found, fits}
 
 -- ---- types behind a name
 

@@ -9,12 +9,12 @@ use Rattle.std.proofs.lemmas.List.Folds.{list_any-append}
 use Rattle.kp_tree_grammar.specs.declared.tree.Word.{Word}
 use Rattle.kp_tree_grammar.specs.Trees.{Domain, Problem}
 use Rattle.kp_base.proofs.Lists.{any_from, any_member, same_member, same-true}
-use Rattle.kp_names_meaning.specs.Names.{Name, same, is_among}
-use Rattle.kp_names_meaning.specs.Numbering.{index_of}
-use Rattle.kp_names_meaning.specs.Types.{names, types_of, object_lines, objects, is_below, is_of_type}
-use Rattle.kp_names_meaning.proofs.Public.{type_test_is_exact}
+use Rattle.kp_names_semantics.specs.Names.{Name, same, is_among}
+use Rattle.kp_names_semantics.specs.Numbering.{index_of}
+use Rattle.kp_names_semantics.specs.Types.{names, types_of, object_lines, objects, is_below, is_of_type}
+use Rattle.kp_names_semantics.proofs.Public.{type_test_is_exact}
 use Rattle.kp_names_declared.specs.Steps.{range_of, with_name, HoldTypes}
-use Rattle.kp_names_lifted.specs.Alike.{HaveSame}
+use Rattle.kp_names_numbered.specs.Alike.{HaveSame}
 
 -- ---- lists
 

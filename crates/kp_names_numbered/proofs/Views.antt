@@ -11,18 +11,18 @@ use Rattle.kp_tree_grammar.specs.declared.tree.EffTree.TheOpen.{EffTree-F}
 use Rattle.kp_tree_grammar.specs.declared.tree.EffTree.TheFolds.{fold-roll-EffTree}
 use Rattle.kp_tree_grammar.specs.declared.tree.EffTree.TheVariants as eff_tree_variants
 use Rattle.kp_tree_grammar.specs.View.{cond_view as tree_view, cond_step as tree_step, eff_view as eff_tree_view, eff_step as eff_tree_step}
-use Rattle.kp_names_meaning.specs.Names.{Name}
-use Rattle.kp_names_meaning.specs.Numbered.{Cond, Conds, Eff, Effs}
-use Rattle.kp_names_meaning.specs.Numbering.{numbered_cond, numbered_conds, numbered_eff, numbered_effs}
-use Rattle.kp_names_lifted.specs.declared.lifted.Cond as conds
-use Rattle.kp_names_lifted.specs.declared.lifted.Cond.TheOpen.{Cond-F}
-use Rattle.kp_names_lifted.specs.declared.lifted.Cond.TheFolds.{fold-roll-Cond}
-use Rattle.kp_names_lifted.specs.declared.lifted.Cond.TheVariants as cond_variants
-use Rattle.kp_names_lifted.specs.declared.lifted.Eff as effs
-use Rattle.kp_names_lifted.specs.declared.lifted.Eff.TheOpen.{Eff-F}
-use Rattle.kp_names_lifted.specs.declared.lifted.Eff.TheFolds.{fold-roll-Eff}
-use Rattle.kp_names_lifted.specs.declared.lifted.Eff.TheVariants as eff_variants
-use Rattle.kp_names_lifted.specs.View.{conds_of, effs_of, cond_view, cond_step, eff_view, eff_step}
+use Rattle.kp_names_semantics.specs.Names.{Name}
+use Rattle.kp_names_semantics.specs.Numbered.{Cond, Conds, Eff, Effs}
+use Rattle.kp_names_semantics.specs.Numbering.{numbered_cond, numbered_conds, numbered_eff, numbered_effs}
+use Rattle.kp_names_numbered.specs.declared.lifted.Cond as conds
+use Rattle.kp_names_numbered.specs.declared.lifted.Cond.TheOpen.{Cond-F}
+use Rattle.kp_names_numbered.specs.declared.lifted.Cond.TheFolds.{fold-roll-Cond}
+use Rattle.kp_names_numbered.specs.declared.lifted.Cond.TheVariants as cond_variants
+use Rattle.kp_names_numbered.specs.declared.lifted.Eff as effs
+use Rattle.kp_names_numbered.specs.declared.lifted.Eff.TheOpen.{Eff-F}
+use Rattle.kp_names_numbered.specs.declared.lifted.Eff.TheFolds.{fold-roll-Eff}
+use Rattle.kp_names_numbered.specs.declared.lifted.Eff.TheVariants as eff_variants
+use Rattle.kp_names_numbered.specs.View.{conds_of, effs_of, cond_view, cond_step, eff_view, eff_step}
 
 module _ (d : trees.Domain Word) (p : trees.Problem Word) (scope : List Name) where
   pub conds_numbered : (cs : List (trees.Cond Word)) → numbered_conds d p scope (trees.conds_of cs) ≡ conds_of (map (numbered_cond d p scope) cs)

@@ -1,10 +1,10 @@
 -- A problem by number from its parts.
 use Rattle.std.proofs.Common.{◌≡◌, List, ◌∙◌, ap}
-use Rattle.kp_names_meaning.specs.declared.lifted.Pred.{Pred}
-use Rattle.kp_names_meaning.specs.declared.lifted.GroundLit.{GroundLit}
-use Rattle.kp_names_meaning.specs.declared.lifted.Item.{Item}
-use Rattle.kp_names_meaning.specs.Names.{Name}
-use Rattle.kp_names_meaning.specs.Numbered.{Schema, Lifted}
+use Rattle.kp_names_semantics.specs.declared.lifted.Pred.{Pred}
+use Rattle.kp_names_semantics.specs.declared.lifted.GroundLit.{GroundLit}
+use Rattle.kp_names_semantics.specs.declared.lifted.Item.{Item}
+use Rattle.kp_names_semantics.specs.Names.{Name}
+use Rattle.kp_names_semantics.specs.Numbered.{Schema, Lifted}
 
 -- the parts together
 abbrev pub made : List Name → List Pred → List Schema → List Item → List GroundLit → Lifted

@@ -4,8 +4,8 @@ use Rattle.std.specs.List.{list_any}
 use Rattle.std.specs.Map.{lookup}
 use Rattle.kp_tree_grammar.specs.declared.tree.Word.{Word}
 use Rattle.kp_tree_grammar.specs.Trees.{Domain, Problem}
-use Rattle.kp_names_meaning.specs.Names.{Name, same}
-use Rattle.kp_names_meaning.specs.Types.{is_of_type}
+use Rattle.kp_names_semantics.specs.Names.{Name, same}
+use Rattle.kp_names_semantics.specs.Types.{is_of_type}
 
 -- what is the same for both names of each entry
 pub record AreAlike (f : Name → Bool) (es : List (Name × Name)) : Type 0 where

@@ -1,14 +1,14 @@
 -- The problem by number of the program as plain data: the same numbers and names, without where they lie in memory.
 use Rattle.std.specs.Prelude.{List, [], ◌∷◌, map}
-use Rattle.kp_names_meaning.specs.Numbered.{Cond, Conds, Eff, Effs, Schema, Lifted}
-use Rattle.kp_names_lifted.specs.declared.lifted.Cond as conds
-use Rattle.kp_names_lifted.specs.declared.lifted.Cond.TheOpen.{Cond-F}
-use Rattle.kp_names_lifted.specs.declared.lifted.Cond.TheFolds.{fold-Cond}
-use Rattle.kp_names_lifted.specs.declared.lifted.Eff as effs
-use Rattle.kp_names_lifted.specs.declared.lifted.Eff.TheOpen.{Eff-F}
-use Rattle.kp_names_lifted.specs.declared.lifted.Eff.TheFolds.{fold-Eff}
-use Rattle.kp_names_lifted.specs.declared.lifted.Schema as schemas
-use Rattle.kp_names_lifted.specs.declared.lifted.Lifted as lifteds
+use Rattle.kp_names_semantics.specs.Numbered.{Cond, Conds, Eff, Effs, Schema, Lifted}
+use Rattle.kp_names_numbered.specs.declared.lifted.Cond as conds
+use Rattle.kp_names_numbered.specs.declared.lifted.Cond.TheOpen.{Cond-F}
+use Rattle.kp_names_numbered.specs.declared.lifted.Cond.TheFolds.{fold-Cond}
+use Rattle.kp_names_numbered.specs.declared.lifted.Eff as effs
+use Rattle.kp_names_numbered.specs.declared.lifted.Eff.TheOpen.{Eff-F}
+use Rattle.kp_names_numbered.specs.declared.lifted.Eff.TheFolds.{fold-Eff}
+use Rattle.kp_names_numbered.specs.declared.lifted.Schema as schemas
+use Rattle.kp_names_numbered.specs.declared.lifted.Lifted as lifteds
 
 -- ---- the parts of a conjunction, as a chain
 

@@ -3,10 +3,10 @@ ghost use Rattle.std.specs.List.{list_any};
 ghost use Rattle.std.specs.Map.{lookup};
 ghost use Rattle.indexmap.specs.IndexMap.{insert_entry};
 ghost use Rattle.kp_tree_grammar.specs.View.{domain_view, problem_view};
-ghost use Rattle.kp_names_meaning.specs.Names.{Name, same, is_among};
-ghost use Rattle.kp_names_meaning.specs.Types.{is_of_type};
+ghost use Rattle.kp_names_semantics.specs.Names.{Name, same, is_among};
+ghost use Rattle.kp_names_semantics.specs.Types.{is_of_type};
 ghost use Rattle.kp_names_declared.specs.Steps.{with_name, own_types, HoldTypes};
-ghost use Rattle.kp_names_lifted.specs.Alike.{fits, AreAlike};
+ghost use Rattle.kp_names_numbered.specs.Alike.{fits, AreAlike};
 
 use indexmap::IndexMap;
 use kp_base::Memory;

@@ -1,8 +1,8 @@
 ghost use Rattle.std.specs.Prelude.{◌≡◌, map, IfOk, OnOk};
 ghost use Rattle.kp_tree_grammar.specs.View.{typed_view, atom_view, domain_view, problem_view, eff_view as tree_view, schema_view as schema_tree_view, cond_view as cond_tree_view};
 ghost use Rattle.kp_tree_grammar.specs.Trees.{Eff as tree_effects};
-ghost use Rattle.kp_names_meaning.specs.Problems.{inside, declared, numbered_eff, numbered_schema, numbered_cond, numbered_range, Eff as by_number};
-ghost use Rattle.kp_names_lifted.specs.View.{cond_view, eff_view, schema_view};
+ghost use Rattle.kp_names_semantics.specs.Problems.{inside, declared, numbered_eff, numbered_schema, numbered_cond, numbered_range, Eff as by_number};
+ghost use Rattle.kp_names_numbered.specs.View.{cond_view, eff_view, schema_view};
 
 use crate::lifted::{Cond, Eff, Schema};
 use crate::ranges::Ranges;

@@ -8,6 +8,6 @@ mod numbering;
 mod ranges;
 mod terms;
 
-pub use kp_names_meaning::{GroundLit, Item, Pred, Range, Term};
+pub use kp_names_semantics::{GroundLit, Item, Pred, Range, Term};
 pub use lifted::{Cond, Eff, Lifted, Schema};
 pub use numbering::by_number;

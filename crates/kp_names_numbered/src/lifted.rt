@@ -1,5 +1,5 @@
 use kp_base::{Place, Row, Text};
-use kp_names_meaning::{GroundLit, Item, Pred, Range, Term};
+use kp_names_semantics::{GroundLit, Item, Pred, Range, Term};
 
 /// A condition by number.
 #[derive(Drop)]

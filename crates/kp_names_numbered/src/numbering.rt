@@ -2,17 +2,17 @@ ghost use Rattle.std.specs.Prelude.{◌≡◌, ◌≤◌, length, map, IfOk};
 ghost use Rattle.std.specs.List.{flat_map};
 ghost use Rattle.kp_base.specs.Files.{most_bytes};
 ghost use Rattle.kp_tree_grammar.specs.View.{pred_view, domain_view, problem_view};
-ghost use Rattle.kp_names_meaning.specs.Types.{objects};
-ghost use Rattle.kp_names_meaning.specs.Numbering.{numbered_pred, numbered_item, numbered_goal, numbered_problem};
+ghost use Rattle.kp_names_semantics.specs.Types.{objects};
+ghost use Rattle.kp_names_semantics.specs.Numbering.{numbered_pred, numbered_item, numbered_goal, numbered_problem};
 ghost use Rattle.kp_names_declared.specs.Unsure.{unsure_place};
-ghost use Rattle.kp_names_lifted.specs.View.{lifted_view};
+ghost use Rattle.kp_names_numbered.specs.View.{lifted_view};
 
 use crate::effects::schemas;
 use crate::lifted::Lifted;
 use crate::ranges::Ranges;
 use kp_base::{Memory, Row, Text, Texts};
 use kp_names_declared::{Names, goal_literals, initial_items, unsure_place};
-use kp_names_meaning::{GroundLit, Item, Pred};
+use kp_names_semantics::{GroundLit, Item, Pred};
 use kp_tree_grammar::PredTree;
 use std::alloc::Global;
 

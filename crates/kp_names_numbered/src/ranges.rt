@@ -1,10 +1,10 @@
 ghost use Rattle.std.specs.Prelude.{◌≡◌, ◌++◌, [], ◌∷◌, List, map, IfOk, IfSome, OnOk};
 ghost use Rattle.kp_tree_grammar.specs.View.{typed_view, domain_view, problem_view};
-ghost use Rattle.kp_names_meaning.specs.Names.{Name};
-ghost use Rattle.kp_names_meaning.specs.Types.{names, or_object, is_of_type};
-ghost use Rattle.kp_names_meaning.specs.Numbering.{numbered_range};
+ghost use Rattle.kp_names_semantics.specs.Names.{Name};
+ghost use Rattle.kp_names_semantics.specs.Types.{names, or_object, is_of_type};
+ghost use Rattle.kp_names_semantics.specs.Numbering.{numbered_range};
 ghost use Rattle.kp_names_declared.specs.Steps.{range_of, HoldTypes};
-ghost use Rattle.kp_names_lifted.specs.Alike.{AreAlike, HaveSame};
+ghost use Rattle.kp_names_numbered.specs.Alike.{AreAlike, HaveSame};
 
 use crate::alike::Alike;
 use indexmap::IndexMap;
@@ -12,7 +12,7 @@ use kp_base::{Memory, Row};
 use kp_names_declared::{
     NameSet, Names, OBJECT, below_type, below_types, inhabited_types, objects_of,
 };
-use kp_names_meaning::Range;
+use kp_names_semantics::Range;
 use kp_tree_grammar::{Typed, Word};
 use std::alloc::Global;
 

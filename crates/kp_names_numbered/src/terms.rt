@@ -1,12 +1,12 @@
 ghost use Rattle.std.specs.Prelude.{◌≡◌, map, IfOk};
 ghost use Rattle.kp_tree_grammar.specs.View.{term_view, domain_view, problem_view, cond_view as tree_view};
-ghost use Rattle.kp_names_meaning.specs.Numbering.{numbered_term, numbered_cond};
-ghost use Rattle.kp_names_lifted.specs.View.{cond_view};
+ghost use Rattle.kp_names_semantics.specs.Numbering.{numbered_term, numbered_cond};
+ghost use Rattle.kp_names_numbered.specs.View.{cond_view};
 
 use crate::lifted::Cond;
 use kp_base::{Memory, Row};
 use kp_names_declared::{Names, Scope};
-use kp_names_meaning::Term;
+use kp_names_semantics::Term;
 use kp_tree_grammar::{CondTree, TermTree};
 use std::alloc::Global;
 

@@ -3,8 +3,8 @@ use Rattle.std.proofs.Common.{◌≡◌, ℕ, Bool, true, false, not, List, [], 
 use Rattle.std.specs.List.{list_any}
 use Rattle.std.proofs.lemmas.Iterator.Adapters.{option_map_id}
 use Rattle.kp_base.specs.declared.ground.GroundName.{GroundName}
-use Rattle.kp_names_meaning.specs.Names.{Name}
-use Rattle.kp_names_meaning.specs.Encoding.{underscore, dash, doubled, encoded_objects, encoded, with_byte, split, is_empty, name_of, HasNoEmptyPart, EncodedDecodes, DecodedIsEncoding}
+use Rattle.kp_names_semantics.specs.Names.{Name}
+use Rattle.kp_names_semantics.specs.Encoding.{underscore, dash, doubled, encoded_objects, encoded, with_byte, split, is_empty, name_of, HasNoEmptyPart, EncodedDecodes, DecodedIsEncoding}
 
 abbrev name : Name → List Name → GroundName
 name x xs = record { head = x; objects = xs }

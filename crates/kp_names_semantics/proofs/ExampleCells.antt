@@ -9,12 +9,12 @@ use Rattle.kp_tree_grammar.specs.Symbols.{symbol_of}
 use Rattle.kp_tree_grammar.specs.Trees.{Atom, Cond, Conds, Eff, Effs, Lit, Item, Pred, Domain, Problem}
 use Rattle.kp_tree_grammar.specs.Parsing.{some_at, next_at}
 use Rattle.kp_tree_grammar.proofs.Public.{computed_outcome, reads_by_computing}
-use Rattle.kp_names_meaning.specs.Names.{same}
-use Rattle.kp_names_meaning.specs.States.{State}
-use Rattle.kp_names_meaning.specs.Initial.{IsInitial}
-use Rattle.kp_names_meaning.specs.Plans.{HasProblem, succeeds, IsPlan}
-use Rattle.kp_names_meaning.proofs.Texts.{tokens, domain_in, problem_in, domain_of, problem_of, solves_theirs}
-use Rattle.kp_names_meaning.proofs.ExamplePlans.{step, state_of, named_alone}
+use Rattle.kp_names_semantics.specs.Names.{same}
+use Rattle.kp_names_semantics.specs.States.{State}
+use Rattle.kp_names_semantics.specs.Initial.{IsInitial}
+use Rattle.kp_names_semantics.specs.Plans.{HasProblem, succeeds, IsPlan}
+use Rattle.kp_names_semantics.proofs.Texts.{tokens, domain_in, problem_in, domain_of, problem_of, solves_theirs}
+use Rattle.kp_names_semantics.proofs.ExamplePlans.{step, state_of, named_alone}
 
 abbrev pub cells : List ℕ
 cells = codes "(define (domain cells) (:predicates (x1) (x2) (x3)) (:action left :effect (and (when (x3) (and (x2) (not (x3)))) (when (x2) (and (x1) (not (x2)))))))"

@@ -4,11 +4,11 @@ use Rattle.kp_lex.specs.Bytes.{class_of}
 use Rattle.kp_lex.specs.Scanning.{cut_from}
 use Rattle.kp_tree_grammar.specs.Symbols.{symbol_of}
 use Rattle.kp_tree_grammar.specs.Parsing.{some_at, next_at}
-use Rattle.kp_names_meaning.specs.Faults.{Fault, unknown_name, declared_twice, wrong_use, domain_faults, problem_faults, byte_of, IsFirst}
-use Rattle.kp_names_meaning.specs.Plans.{HasProblem}
+use Rattle.kp_names_semantics.specs.Faults.{Fault, unknown_name, declared_twice, wrong_use, domain_faults, problem_faults, byte_of, IsFirst}
+use Rattle.kp_names_semantics.specs.Plans.{HasProblem}
 use Rattle.kp_tree_grammar.specs.Grammar as grammar
 use Rattle.kp_tree_grammar.proofs.Public.{reads_by_computing, exchange_text}
-use Rattle.kp_names_meaning.proofs.Texts.{tokens, domain_of, problem_of, reads_once}
+use Rattle.kp_names_semantics.proofs.Texts.{tokens, domain_of, problem_of, reads_once}
 
 abbrev in_domain : List ℕ → List ℕ → List Fault
 in_domain a b = domain_faults (domain_of a) (problem_of b)

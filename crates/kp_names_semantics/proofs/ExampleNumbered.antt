@@ -5,25 +5,25 @@ use Rattle.kp_lex.specs.Bytes.{class_of}
 use Rattle.kp_lex.specs.Scanning.{cut_from}
 use Rattle.kp_tree_grammar.specs.Symbols.{symbol_of}
 use Rattle.kp_tree_grammar.specs.Parsing.{some_at, next_at}
-use Rattle.kp_names_meaning.specs.declared.lifted.Term.{Term}
-use Rattle.kp_names_meaning.specs.declared.lifted.Range.{Range}
-use Rattle.kp_names_meaning.specs.declared.lifted.Pred.{Pred}
-use Rattle.kp_names_meaning.specs.declared.lifted.Item.{Item}
-use Rattle.kp_names_meaning.specs.Names.{Name}
-use Rattle.kp_names_meaning.specs.Faults.{HasNoFault}
-use Rattle.kp_names_meaning.specs.States.{unbound, bind}
-use Rattle.kp_names_meaning.specs.Initial as named_initial
-use Rattle.kp_names_meaning.specs.Plans.{HasProblem, Solves}
-use Rattle.kp_names_meaning.specs.Numbered.{Cond, Conds, Eff, Effs, Schema, Lifted}
-use Rattle.kp_names_meaning.specs.Lifted.{Instance, ground, is_instance, is_named, IsPlan}
-use Rattle.kp_names_meaning.specs.Numbering.{numbered_problem, named_step, Agree}
-use Rattle.kp_names_meaning.specs.NumberLaws.{Matches, is_plain_goal}
-use Rattle.kp_names_meaning.proofs.Texts.{domain_of, problem_of, has_problem}
-use Rattle.kp_names_meaning.proofs.NumberedItems.{no_variables}
-use Rattle.kp_names_meaning.proofs.Numbered.{matches_more}
-use Rattle.kp_names_meaning.proofs.NumberedPlans.{plan_numbered}
-use Rattle.kp_names_meaning.proofs.ExamplePlans.{state_of, named_alone, moves, from_a_to_b, move}
-use Rattle.kp_names_meaning.proofs.ExampleCells.{cells, one_of_three, cells_read, one_of_three_read}
+use Rattle.kp_names_semantics.specs.declared.lifted.Term.{Term}
+use Rattle.kp_names_semantics.specs.declared.lifted.Range.{Range}
+use Rattle.kp_names_semantics.specs.declared.lifted.Pred.{Pred}
+use Rattle.kp_names_semantics.specs.declared.lifted.Item.{Item}
+use Rattle.kp_names_semantics.specs.Names.{Name}
+use Rattle.kp_names_semantics.specs.Faults.{HasNoFault}
+use Rattle.kp_names_semantics.specs.States.{unbound, bind}
+use Rattle.kp_names_semantics.specs.Initial as named_initial
+use Rattle.kp_names_semantics.specs.Plans.{HasProblem, Solves}
+use Rattle.kp_names_semantics.specs.Numbered.{Cond, Conds, Eff, Effs, Schema, Lifted}
+use Rattle.kp_names_semantics.specs.Lifted.{Instance, ground, is_instance, is_named, IsPlan}
+use Rattle.kp_names_semantics.specs.Numbering.{numbered_problem, named_step, Agree}
+use Rattle.kp_names_semantics.specs.NumberLaws.{Matches, is_plain_goal}
+use Rattle.kp_names_semantics.proofs.Texts.{domain_of, problem_of, has_problem}
+use Rattle.kp_names_semantics.proofs.NumberedItems.{no_variables}
+use Rattle.kp_names_semantics.proofs.Numbered.{matches_more}
+use Rattle.kp_names_semantics.proofs.NumberedPlans.{plan_numbered}
+use Rattle.kp_names_semantics.proofs.ExamplePlans.{state_of, named_alone, moves, from_a_to_b, move}
+use Rattle.kp_names_semantics.proofs.ExampleCells.{cells, one_of_three, cells_read, one_of_three_read}
 
 abbrev parameter : ℕ → Term
 parameter n = Term.Param n

@@ -8,12 +8,12 @@ use Rattle.kp_tree_grammar.specs.Parsing.{some_at, next_at}
 use Rattle.kp_tree_grammar.proofs.Public.{exchange_text, from_p_to_q_text}
 use Rattle.kp_tree_grammar.specs.declared.tree.Word.{Word}
 use Rattle.kp_tree_grammar.specs.Trees.{Problem}
-use Rattle.kp_names_meaning.specs.Names.{Name}
-use Rattle.kp_names_meaning.specs.States.{State}
-use Rattle.kp_names_meaning.specs.Steps.{Step, is_instance}
-use Rattle.kp_names_meaning.specs.Initial.{is_named}
-use Rattle.kp_names_meaning.specs.Plans.{HasProblem, succeeds, IsPlan}
-use Rattle.kp_names_meaning.proofs.Texts.{domain_of, problem_of, has_problem, solves_theirs}
+use Rattle.kp_names_semantics.specs.Names.{Name}
+use Rattle.kp_names_semantics.specs.States.{State}
+use Rattle.kp_names_semantics.specs.Steps.{Step, is_instance}
+use Rattle.kp_names_semantics.specs.Initial.{is_named}
+use Rattle.kp_names_semantics.specs.Plans.{HasProblem, succeeds, IsPlan}
+use Rattle.kp_names_semantics.proofs.Texts.{domain_of, problem_of, has_problem, solves_theirs}
 
 abbrev pub step : List ℕ → List Name → Step
 step head objects = record { head = head; objects = objects }

@@ -6,12 +6,12 @@ use Rattle.kp_lex.specs.Bytes.{class_of}
 use Rattle.kp_lex.specs.Scanning.{cut_from}
 use Rattle.kp_tree_grammar.specs.Symbols.{symbol_of}
 use Rattle.kp_tree_grammar.specs.Parsing.{some_at, next_at}
-use Rattle.kp_names_meaning.specs.Names.{Name, is_among}
-use Rattle.kp_names_meaning.specs.States.{State}
-use Rattle.kp_names_meaning.specs.Steps.{applicable, next}
-use Rattle.kp_names_meaning.specs.Initial.{item_holds, IsInitial}
-use Rattle.kp_names_meaning.proofs.Texts.{domain_of, problem_of}
-use Rattle.kp_names_meaning.proofs.ExamplePlans.{step}
+use Rattle.kp_names_semantics.specs.Names.{Name, is_among}
+use Rattle.kp_names_semantics.specs.States.{State}
+use Rattle.kp_names_semantics.specs.Steps.{applicable, next}
+use Rattle.kp_names_semantics.specs.Initial.{item_holds, IsInitial}
+use Rattle.kp_names_semantics.proofs.Texts.{domain_of, problem_of}
+use Rattle.kp_names_semantics.proofs.ExamplePlans.{step}
 
 -- the state in which these predicates hold of each list of objects
 abbrev of : List Name → State

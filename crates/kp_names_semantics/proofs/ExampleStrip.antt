@@ -1,10 +1,10 @@
 -- Stripped lists of steps and written names, computed.
 use Rattle.std.proofs.Common.{◌≡◌, ℕ, List, [], ◌∷◌, Some, None, refl, sym, codes}
 use Rattle.std.proofs.lemmas.Bool.{false≢true}
-use Rattle.kp_names_meaning.specs.Steps.{Step}
-use Rattle.kp_names_meaning.specs.Encoding.{encoded, decoded, HasNoEmptyPart}
-use Rattle.kp_names_meaning.specs.Strip.{strip}
-use Rattle.kp_names_meaning.proofs.ExamplePlans.{step}
+use Rattle.kp_names_semantics.specs.Steps.{Step}
+use Rattle.kp_names_semantics.specs.Encoding.{encoded, decoded, HasNoEmptyPart}
+use Rattle.kp_names_semantics.specs.Strip.{strip}
+use Rattle.kp_names_semantics.proofs.ExamplePlans.{step}
 
 abbrev operator : List ℕ → Step
 operator name = step name []

@@ -4,10 +4,10 @@ use Rattle.kp_lex.specs.Bytes.{class_of}
 use Rattle.kp_lex.specs.Scanning.{cut_from}
 use Rattle.kp_tree_grammar.specs.Symbols.{symbol_of}
 use Rattle.kp_tree_grammar.specs.Parsing.{some_at, next_at}
-use Rattle.kp_names_meaning.specs.Names.{is_among}
-use Rattle.kp_names_meaning.specs.Types.{types, is_below, objects}
-use Rattle.kp_names_meaning.specs.Steps.{is_instance}
-use Rattle.kp_names_meaning.proofs.Texts.{domain_of, problem_of}
+use Rattle.kp_names_semantics.specs.Names.{is_among}
+use Rattle.kp_names_semantics.specs.Types.{types, is_below, objects}
+use Rattle.kp_names_semantics.specs.Steps.{is_instance}
+use Rattle.kp_names_semantics.proofs.Texts.{domain_of, problem_of}
 
 abbrev below : List ℕ → List ℕ → List ℕ → Bool
 below text t u = is_below (domain_of text).kinds t u

@@ -5,12 +5,12 @@ use Rattle.kp_lex.specs.Bytes.{class_of}
 use Rattle.kp_lex.specs.Scanning.{cut_from}
 use Rattle.kp_tree_grammar.specs.Symbols.{symbol_of}
 use Rattle.kp_tree_grammar.specs.Parsing.{some_at, next_at}
-use Rattle.kp_names_meaning.specs.States.{State}
-use Rattle.kp_names_meaning.specs.Initial.{IsInitial}
-use Rattle.kp_names_meaning.specs.Plans.{HasProblem, succeeds, IsPlan}
-use Rattle.kp_names_meaning.specs.Strip.{strip}
-use Rattle.kp_names_meaning.proofs.Texts.{domain_of, problem_of, has_problem, solves_theirs}
-use Rattle.kp_names_meaning.proofs.ExamplePlans.{step, state_of, named_alone}
+use Rattle.kp_names_semantics.specs.States.{State}
+use Rattle.kp_names_semantics.specs.Initial.{IsInitial}
+use Rattle.kp_names_semantics.specs.Plans.{HasProblem, succeeds, IsPlan}
+use Rattle.kp_names_semantics.specs.Strip.{strip}
+use Rattle.kp_names_semantics.proofs.Texts.{domain_of, problem_of, has_problem, solves_theirs}
+use Rattle.kp_names_semantics.proofs.ExamplePlans.{step, state_of, named_alone}
 
 abbrev written_domain : List ℕ
 written_domain = codes "(define (domain kplan)\n(:requirements :strips :negative-preconditions :conditional-effects)\n(:predicates\n(kp_-p_-0)\n(kn_-p_-0)\n(kp_-q_-0)\n(kn_-q_-0)\n)\n(:action do_-a\n:parameters ()\n:precondition (and (kp_-p_-0))\n:effect (and\n(kp_-q_-0)\n(not (kn_-q_-0))\n(kn_-p_-0)\n(not (kp_-p_-0))\n)\n)\n)\n"

@@ -6,10 +6,10 @@ use Rattle.kp_tree_grammar.specs.Trees.{Typed, Term, name, variable, Atom, Cond,
 use Rattle.kp_tree_grammar.specs.Sorts.{Sort, s_none, s_word, s_pair, s_list, s_typed, s_term, s_atom, s_cond, s_eff, s_lit, s_item, s_pred, s_schema, s_section, s_domain, s_seen, s_given, s_problem, El}
 use Rattle.kp_base.specs.Lists.{Member, only_if}
 use Rattle.kp_base.proofs.Lists.{append_member}
-use Rattle.kp_names_meaning.specs.Names.{Name, is_among}
-use Rattle.kp_names_meaning.specs.Types.{declared, types, object_lines}
-use Rattle.kp_names_meaning.specs.Faults.{Fault, unknown_name, declared_twice, unless_among, repeated, twice_in, words, type_faults, variable_faults, term_faults, atom_faults, cond_faults, conds_faults, eff_faults, effs_faults, schema_faults, lit_faults, item_faults, items_faults, predicate_faults}
-use Rattle.kp_names_meaning.proofs.FaultSpans.{Apart, joined, AnyOf, any_more, any_member, only_member}
+use Rattle.kp_names_semantics.specs.Names.{Name, is_among}
+use Rattle.kp_names_semantics.specs.Types.{declared, types, object_lines}
+use Rattle.kp_names_semantics.specs.Faults.{Fault, unknown_name, declared_twice, unless_among, repeated, twice_in, words, type_faults, variable_faults, term_faults, atom_faults, cond_faults, conds_faults, eff_faults, effs_faults, schema_faults, lit_faults, item_faults, items_faults, predicate_faults}
+use Rattle.kp_names_semantics.proofs.FaultSpans.{Apart, joined, AnyOf, any_more, any_member, only_member}
 
 -- the name that stands there is unknown
 abbrev pub Unknown : Word → Fault → Type 0

@@ -3,7 +3,7 @@ use Rattle.std.proofs.Common.{◌≡◌, ◌≤◌, ◌<◌, ◌⊎◌, inl, inr
 use Rattle.std.specs.List.{flat_map}
 use Rattle.kp_base.specs.Lists.{Member, only_if}
 use Rattle.kp_base.proofs.Lists.{append_member}
-use Rattle.kp_names_meaning.specs.Faults.{Fault, unknown_name, byte_of}
+use Rattle.kp_names_semantics.specs.Faults.{Fault, unknown_name, byte_of}
 
 -- each of these faults is at a token that begins in the span, and two at one token are one
 pub record Apart (lo hi : ℕ) (F : Fault → Type 0) : Type 0 where

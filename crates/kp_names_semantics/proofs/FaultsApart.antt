@@ -9,12 +9,12 @@ use Rattle.kp_tree_grammar.specs.Language.{Term, Atom, Cond, conds_of, Eff, effs
 use Rattle.kp_tree_grammar.specs.Grammar as grammar
 use Rattle.kp_base.specs.Lists.{Member}
 use Rattle.kp_base.proofs.Lists.{append_member}
-use Rattle.kp_names_meaning.specs.Names.{Name}
-use Rattle.kp_names_meaning.specs.Types.{declared}
-use Rattle.kp_names_meaning.specs.Faults.{Fault, unknown_name, declared_twice, wrong_use, type_faults, variable_faults, inside, term_faults, predicate_of, head_faults, cond_faults, eff_faults, item_faults, schema_faults, predicate_faults, twice_in, domain_faults, problem_faults, byte_of}
-use Rattle.kp_names_meaning.specs.FaultLaws.{IsOneForEachToken, HasOneFirst, TokensHaveOneFault, DomainTokensHaveOneFault, ProblemTokensHaveOneFault}
-use Rattle.kp_names_meaning.proofs.FaultSpans.{Apart, empty, fewer, joined, recast, AnyOf, any_spread, any_member, only_member}
-use Rattle.kp_names_meaning.proofs.FaultMarks.{Unknown, Twice, OfTyped, OfPred, OfTerm, OfAtom, OfCond, OfEff, OfItem, OfSchema, OfSection, OfGiven, in_domain, in_problem, May, Lies, apart, of_term, of_types, of_variables, of_conds, of_effs, of_items, of_lits, of_predicates, of_schemas}
+use Rattle.kp_names_semantics.specs.Names.{Name}
+use Rattle.kp_names_semantics.specs.Types.{declared}
+use Rattle.kp_names_semantics.specs.Faults.{Fault, unknown_name, declared_twice, wrong_use, type_faults, variable_faults, inside, term_faults, predicate_of, head_faults, cond_faults, eff_faults, item_faults, schema_faults, predicate_faults, twice_in, domain_faults, problem_faults, byte_of}
+use Rattle.kp_names_semantics.specs.FaultLaws.{IsOneForEachToken, HasOneFirst, TokensHaveOneFault, DomainTokensHaveOneFault, ProblemTokensHaveOneFault}
+use Rattle.kp_names_semantics.proofs.FaultSpans.{Apart, empty, fewer, joined, recast, AnyOf, any_spread, any_member, only_member}
+use Rattle.kp_names_semantics.proofs.FaultMarks.{Unknown, Twice, OfTyped, OfPred, OfTerm, OfAtom, OfCond, OfEff, OfItem, OfSchema, OfSection, OfGiven, in_domain, in_problem, May, Lies, apart, of_term, of_types, of_variables, of_conds, of_effs, of_items, of_lits, of_predicates, of_schemas}
 
 -- ---- words
 

@@ -3,12 +3,12 @@ use Rattle.std.proofs.Common.{◌≡◌, ◌<◌, ℕ, zero, suc, Bool, true, fa
 use Rattle.std.proofs.lemmas.Bool.{or_parts, or_cases, or_left, or_right, false≢true, both_ways, false_from_ne_true}
 use Rattle.kp_tree_grammar.specs.declared.tree.Word.{Word}
 use Rattle.kp_base.specs.Lists.{only_if}
-use Rattle.kp_names_meaning.specs.Names.{Name, same, is_among, distinct}
-use Rattle.kp_names_meaning.specs.Types.{names}
-use Rattle.kp_names_meaning.specs.Faults.{declared_twice, repeated}
-use Rattle.kp_names_meaning.specs.Numbering.{index_of, name_at, variable_number}
+use Rattle.kp_names_semantics.specs.Names.{Name, same, is_among, distinct}
+use Rattle.kp_names_semantics.specs.Types.{names}
+use Rattle.kp_names_semantics.specs.Faults.{declared_twice, repeated}
+use Rattle.kp_names_semantics.specs.Numbering.{index_of, name_at, variable_number}
 use Rattle.kp_base.proofs.Once.{Once, any-each_once, each_once_is_once}
-use Rattle.kp_names_meaning.proofs.Lists.{append_empty, same-true, same-refl, same-sym}
+use Rattle.kp_names_semantics.proofs.Lists.{append_empty, same-true, same-refl, same-sym}
 
 pub only_if_empty : {X : Type 0} (b : Bool) (x : X) → only_if b (x ∷ []) ≡ [] → b ≡ false
 only_if_empty true x h = cc

@@ -4,7 +4,7 @@ use Rattle.std.specs.Cmp.{IsEquivalence, nat_eq_equiv}
 use Rattle.std.specs.Cmp.Lexicographic.{lists_equiv}
 use Rattle.std.proofs.lemmas.Bool.{and_parts, and_from, false≢true}
 use Rattle.kp_base.specs.Lists.{Member}
-use Rattle.kp_names_meaning.specs.Names.{Name, same, all_same, is_among}
+use Rattle.kp_names_semantics.specs.Names.{Name, same, all_same, is_among}
 pub use Rattle.kp_base.proofs.Lists.{any_weaker, any_from, any_member, bool_same, any_map, map_map, any_alike, all_alike, flat_alike, all_member, member_at, member_map, map_member, append_member, flat_member, filter_member, append_empty, flat_empty, same-true, same-refl}
 
 pub same_names : IsEquivalence same

@@ -8,20 +8,20 @@ use Rattle.std.proofs.lemmas.List.Folds.{flat_map-map}
 use Rattle.std.proofs.lemmas.Bool.{and_parts, and_from, or_cases, or_left, or_right, both_ways, not-false, lt-ltb}
 use Rattle.kp_tree_grammar.specs.declared.tree.Word.{Word}
 use Rattle.kp_tree_grammar.specs.Trees.{Typed, Term, Atom, Cond, Conds, Eff, Effs, Pred, Domain, Problem}
-use Rattle.kp_names_meaning.specs.declared.lifted.Range.{Range}
+use Rattle.kp_names_semantics.specs.declared.lifted.Range.{Range}
 use Rattle.kp_base.specs.Lists.{Member, signed, only_if, choices}
-use Rattle.kp_names_meaning.specs.Names.{Name, same, is_among}
-use Rattle.kp_names_meaning.specs.Types.{names, declared, object_lines, objects, range, is_of_type, types_of}
-use Rattle.kp_names_meaning.specs.Faults.{unknown_name, unless_among, inside, term_faults, predicate_of, head_faults, atom_faults, cond_faults, conds_faults, eff_faults, effs_faults, variable_faults}
-use Rattle.kp_names_meaning.specs.States as named
-use Rattle.kp_names_meaning.specs.States.{bind}
-use Rattle.kp_names_meaning.specs.Steps as named_steps
-use Rattle.kp_names_meaning.specs.Steps.{object_lists}
-use Rattle.kp_names_meaning.specs.Lifted.{State, Binding, object_of, holds, all_hold, bindings, fires, all_fire}
-use Rattle.kp_names_meaning.specs.Numbering.{index_of, name_at, heads, variable_number, numbered_term, numbered_terms, numbered_head, numbered_range, numbered_cond, numbered_conds, numbered_eff, numbered_effs, named_objects, named_literal, AreObjects, Agree}
-use Rattle.kp_names_meaning.specs.NumberLaws.{Matches, IsHoldsNumbered, IsFiresNumbered}
-use Rattle.kp_names_meaning.proofs.Lists.{same-true, same-refl, same-sym, bool_same, append_empty, among_member, flat_alike, map_member, flat_member, filter_member}
-use Rattle.kp_names_meaning.proofs.Indexes.{only_if_empty, at_index, index_below, index_at, distinct_once, among_distinct, variable_below}
+use Rattle.kp_names_semantics.specs.Names.{Name, same, is_among}
+use Rattle.kp_names_semantics.specs.Types.{names, declared, object_lines, objects, range, is_of_type, types_of}
+use Rattle.kp_names_semantics.specs.Faults.{unknown_name, unless_among, inside, term_faults, predicate_of, head_faults, atom_faults, cond_faults, conds_faults, eff_faults, effs_faults, variable_faults}
+use Rattle.kp_names_semantics.specs.States as named
+use Rattle.kp_names_semantics.specs.States.{bind}
+use Rattle.kp_names_semantics.specs.Steps as named_steps
+use Rattle.kp_names_semantics.specs.Steps.{object_lists}
+use Rattle.kp_names_semantics.specs.Lifted.{State, Binding, object_of, holds, all_hold, bindings, fires, all_fire}
+use Rattle.kp_names_semantics.specs.Numbering.{index_of, name_at, heads, variable_number, numbered_term, numbered_terms, numbered_head, numbered_range, numbered_cond, numbered_conds, numbered_eff, numbered_effs, named_objects, named_literal, AreObjects, Agree}
+use Rattle.kp_names_semantics.specs.NumberLaws.{Matches, IsHoldsNumbered, IsFiresNumbered}
+use Rattle.kp_names_semantics.proofs.Lists.{same-true, same-refl, same-sym, bool_same, append_empty, among_member, flat_alike, map_member, flat_member, filter_member}
+use Rattle.kp_names_semantics.proofs.Indexes.{only_if_empty, at_index, index_below, index_at, distinct_once, among_distinct, variable_below}
 
 -- ---- heads
 

@@ -9,23 +9,23 @@ use Rattle.std.proofs.lemmas.Bool.{and_parts, and_from, false≢true, lt-ltb, lt
 use Rattle.std.proofs.Math.Bool.{and-true}
 use Rattle.kp_tree_grammar.specs.declared.tree.Word.{Word}
 use Rattle.kp_tree_grammar.specs.Trees.{Term, Atom, Cond, Conds, Eff, Effs, Lit, Item, Items, Domain, Problem}
-use Rattle.kp_names_meaning.specs.declared.lifted.GroundLit.{GroundLit}
+use Rattle.kp_names_semantics.specs.declared.lifted.GroundLit.{GroundLit}
 use Rattle.kp_base.specs.Lists.{Member, signed, only_if}
-use Rattle.kp_names_meaning.specs.Names.{Name, same, all_same}
-use Rattle.kp_names_meaning.specs.Types.{declared, objects}
-use Rattle.kp_names_meaning.specs.Faults.{inside, atom_faults, cond_faults, conds_faults, eff_faults, effs_faults, lit_faults, item_faults, items_faults, variable_faults}
-use Rattle.kp_names_meaning.specs.States as named
-use Rattle.kp_names_meaning.specs.States.{unbound, bind}
-use Rattle.kp_names_meaning.specs.Steps as named_steps
-use Rattle.kp_names_meaning.specs.Steps.{object_lists}
-use Rattle.kp_names_meaning.specs.Initial as named_initial
-use Rattle.kp_names_meaning.specs.Initial.{by_name}
-use Rattle.kp_names_meaning.specs.Lifted.{State, Binding, object_of, ground, same_literal, names_literal, literal_holds, holds, fires, all_fire, after, one_holds, item_holds, item_literals}
-use Rattle.kp_names_meaning.specs.Numbering.{index_of, name_at, heads, numbered_term, numbered_terms, numbered_head, numbered_cond, numbered_eff, numbered_effs, object_number, numbered_literal, numbered_lit, numbered_item, numbered_items, numbered_goal, numbered_goals, named_objects, named_literal, AreObjects, Agree}
-use Rattle.kp_names_meaning.specs.NumberLaws.{Matches, is_plain_goal, are_plain_goals}
-use Rattle.kp_names_meaning.proofs.Lists.{bool_same, any_map, any_alike, all_alike, all_member, append_empty, same-true, same-refl}
-use Rattle.kp_names_meaning.proofs.Indexes.{at_index, index_below, Distinct, index_at}
-use Rattle.kp_names_meaning.proofs.Numbered.{terms_below, terms_named, object_eq, among_heads, atom_terms, matches_more, bindings_numbered, object_list_good}
+use Rattle.kp_names_semantics.specs.Names.{Name, same, all_same}
+use Rattle.kp_names_semantics.specs.Types.{declared, objects}
+use Rattle.kp_names_semantics.specs.Faults.{inside, atom_faults, cond_faults, conds_faults, eff_faults, effs_faults, lit_faults, item_faults, items_faults, variable_faults}
+use Rattle.kp_names_semantics.specs.States as named
+use Rattle.kp_names_semantics.specs.States.{unbound, bind}
+use Rattle.kp_names_semantics.specs.Steps as named_steps
+use Rattle.kp_names_semantics.specs.Steps.{object_lists}
+use Rattle.kp_names_semantics.specs.Initial as named_initial
+use Rattle.kp_names_semantics.specs.Initial.{by_name}
+use Rattle.kp_names_semantics.specs.Lifted.{State, Binding, object_of, ground, same_literal, names_literal, literal_holds, holds, fires, all_fire, after, one_holds, item_holds, item_literals}
+use Rattle.kp_names_semantics.specs.Numbering.{index_of, name_at, heads, numbered_term, numbered_terms, numbered_head, numbered_cond, numbered_eff, numbered_effs, object_number, numbered_literal, numbered_lit, numbered_item, numbered_items, numbered_goal, numbered_goals, named_objects, named_literal, AreObjects, Agree}
+use Rattle.kp_names_semantics.specs.NumberLaws.{Matches, is_plain_goal, are_plain_goals}
+use Rattle.kp_names_semantics.proofs.Lists.{bool_same, any_map, any_alike, all_alike, all_member, append_empty, same-true, same-refl}
+use Rattle.kp_names_semantics.proofs.Indexes.{at_index, index_below, Distinct, index_at}
+use Rattle.kp_names_semantics.proofs.Numbered.{terms_below, terms_named, object_eq, among_heads, atom_terms, matches_more, bindings_numbered, object_list_good}
 
 module _ (d : Domain Word) (p : Problem Word) where
   -- ---- literals of declared predicates and objects

@@ -9,25 +9,25 @@ use Rattle.kp_base.specs.declared.ground.GroundName.{GroundName}
 use Rattle.kp_tree_grammar.specs.declared.tree.Word.{Word}
 use Rattle.kp_tree_grammar.specs.Trees as trees
 use Rattle.kp_tree_grammar.specs.Trees.{Domain, Problem}
-use Rattle.kp_names_meaning.specs.declared.lifted.GroundLit.{GroundLit}
+use Rattle.kp_names_semantics.specs.declared.lifted.GroundLit.{GroundLit}
 use Rattle.kp_base.specs.Lists.{Member}
-use Rattle.kp_names_meaning.specs.Names.{Name, same, all_same, is_among}
-use Rattle.kp_names_meaning.specs.Types.{names, declared, object_lines, objects}
-use Rattle.kp_names_meaning.specs.Faults.{inside, words, twice_in, type_faults, variable_faults, predicate_faults, cond_faults, eff_faults, schema_faults, item_faults, HasNoFault}
-use Rattle.kp_names_meaning.specs.States as named
-use Rattle.kp_names_meaning.specs.States.{unbound}
-use Rattle.kp_names_meaning.specs.Steps as named_steps
-use Rattle.kp_names_meaning.specs.Steps.{Step, object_lists, parameters}
-use Rattle.kp_names_meaning.specs.Initial as named_initial
-use Rattle.kp_names_meaning.specs.Plans as named_plans
-use Rattle.kp_names_meaning.specs.Plans.{Solves}
-use Rattle.kp_names_meaning.specs.Lifted.{State, Instance, ground, bindings, fires, holds, fits, is_instance, state_by, next, succeeds, item_holds, item_literals, is_of, is_named, IsInitial}
-use Rattle.kp_names_meaning.specs.Numbering.{index_of, name_at, heads, schema_names, numbered_range, numbered_cond, numbered_eff, numbered_schema, numbered_item, numbered_problem, named_objects, named_literal, named_step, AreObjects, Agree}
-use Rattle.kp_names_meaning.specs.NumberLaws.{Matches, is_plain_goal, IsSameStep, IsStepNumbered, IsInitialNumbered, IsPlanNumbered, IsNamedOnce}
-use Rattle.kp_names_meaning.proofs.Lists.{any_from, any_member, all_member, any_alike, any_map, member_at, member_map, map_member, append_empty, flat_empty, same-true, same-refl, all_same-true, all_same-refl}
-use Rattle.kp_names_meaning.proofs.Indexes.{at_index, index_below, among_at, Distinct, index_at, distinct_once, repeated_distinct}
-use Rattle.kp_names_meaning.proofs.Numbered.{cond_numbered, eff_numbered, matches_more, bindings_numbered, object_list_good}
-use Rattle.kp_names_meaning.proofs.NumberedItems.{is_valid, valid, valid_parts, no_variables, fires_valid, atom_eq_named, after_agrees, item_numbered, literals_named, literals_valid, goal_numbered}
+use Rattle.kp_names_semantics.specs.Names.{Name, same, all_same, is_among}
+use Rattle.kp_names_semantics.specs.Types.{names, declared, object_lines, objects}
+use Rattle.kp_names_semantics.specs.Faults.{inside, words, twice_in, type_faults, variable_faults, predicate_faults, cond_faults, eff_faults, schema_faults, item_faults, HasNoFault}
+use Rattle.kp_names_semantics.specs.States as named
+use Rattle.kp_names_semantics.specs.States.{unbound}
+use Rattle.kp_names_semantics.specs.Steps as named_steps
+use Rattle.kp_names_semantics.specs.Steps.{Step, object_lists, parameters}
+use Rattle.kp_names_semantics.specs.Initial as named_initial
+use Rattle.kp_names_semantics.specs.Plans as named_plans
+use Rattle.kp_names_semantics.specs.Plans.{Solves}
+use Rattle.kp_names_semantics.specs.Lifted.{State, Instance, ground, bindings, fires, holds, fits, is_instance, state_by, next, succeeds, item_holds, item_literals, is_of, is_named, IsInitial}
+use Rattle.kp_names_semantics.specs.Numbering.{index_of, name_at, heads, schema_names, numbered_range, numbered_cond, numbered_eff, numbered_schema, numbered_item, numbered_problem, named_objects, named_literal, named_step, AreObjects, Agree}
+use Rattle.kp_names_semantics.specs.NumberLaws.{Matches, is_plain_goal, IsSameStep, IsStepNumbered, IsInitialNumbered, IsPlanNumbered, IsNamedOnce}
+use Rattle.kp_names_semantics.proofs.Lists.{any_from, any_member, all_member, any_alike, any_map, member_at, member_map, map_member, append_empty, flat_empty, same-true, same-refl, all_same-true, all_same-refl}
+use Rattle.kp_names_semantics.proofs.Indexes.{at_index, index_below, among_at, Distinct, index_at, distinct_once, repeated_distinct}
+use Rattle.kp_names_semantics.proofs.Numbered.{cond_numbered, eff_numbered, matches_more, bindings_numbered, object_list_good}
+use Rattle.kp_names_semantics.proofs.NumberedItems.{is_valid, valid, valid_parts, no_variables, fires_valid, atom_eq_named, after_agrees, item_numbered, literals_named, literals_valid, goal_numbered}
 
 -- ---- schemas by name
 

@@ -6,16 +6,16 @@ use Rattle.kp_tree_grammar.specs.Trees.{Typed, Term, Atom, Cond, Conds, Eff, Eff
 use Rattle.kp_tree_grammar.specs.TreeMaps.{typed_map, term_map, atom_map, cond_map, conds_map, eff_map, effs_map, lit_map, item_map, items_map, schema_map, domain_map, problem_map}
 use Rattle.kp_base.specs.Lists.{choices}
 use Rattle.kp_base.proofs.Parts.{find_map}
-use Rattle.kp_names_meaning.specs.Names.{Name, same, distinct}
-use Rattle.kp_names_meaning.specs.Types.{object, names, declared, types_of, or_object, leads, below_within, is_below, object_lines, objects, is_of_type, range}
-use Rattle.kp_names_meaning.specs.States.{State, Binding, unbound, bind, Literal, object_of, literal, literal_holds, holds, all_hold}
-use Rattle.kp_names_meaning.specs.Steps.{Step, object_lists, fires, all_fire, after, schema_of, parameters, fits, is_instance, permits, applicable, state_by, next}
-use Rattle.kp_names_meaning.specs.Initial.{by_name, one_holds, item_holds, items_hold, item_literals, items_literals, is_of, is_named, IsInitial}
-use Rattle.kp_names_meaning.specs.Plans.{succeeds, Solves}
+use Rattle.kp_names_semantics.specs.Names.{Name, same, distinct}
+use Rattle.kp_names_semantics.specs.Types.{object, names, declared, types_of, or_object, leads, below_within, is_below, object_lines, objects, is_of_type, range}
+use Rattle.kp_names_semantics.specs.States.{State, Binding, unbound, bind, Literal, object_of, literal, literal_holds, holds, all_hold}
+use Rattle.kp_names_semantics.specs.Steps.{Step, object_lists, fires, all_fire, after, schema_of, parameters, fits, is_instance, permits, applicable, state_by, next}
+use Rattle.kp_names_semantics.specs.Initial.{by_name, one_holds, item_holds, items_hold, item_literals, items_literals, is_of, is_named, IsInitial}
+use Rattle.kp_names_semantics.specs.Plans.{succeeds, Solves}
 use Rattle.std.proofs.lemmas.List.{length-map, map-append}
 use Rattle.std.proofs.lemmas.List.Elements.{filter_agree}
-use Rattle.kp_names_meaning.proofs.Lists.{any_map, map_map, any_alike, all_alike, flat_alike}
-use Rattle.kp_names_meaning.specs.Places.{KeepsTexts}
+use Rattle.kp_names_semantics.proofs.Lists.{any_map, map_map, any_alike, all_alike, flat_alike}
+use Rattle.kp_names_semantics.specs.Places.{KeepsTexts}
 
 -- ---- lists of what was mapped
 

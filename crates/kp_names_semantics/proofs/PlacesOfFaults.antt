@@ -7,12 +7,12 @@ use Rattle.kp_tree_grammar.specs.Trees.{Typed, Term, Atom, Cond, Conds, Eff, Eff
 use Rattle.kp_tree_grammar.specs.TreeMaps.{typed_map, term_map, atom_map, cond_map, conds_map, eff_map, effs_map, lit_map, item_map, items_map, pred_map, schema_map, domain_map, problem_map}
 use Rattle.kp_base.specs.Lists.{only_if}
 use Rattle.kp_base.proofs.Parts.{find_map}
-use Rattle.kp_names_meaning.specs.Names.{Name, same, is_among}
-use Rattle.kp_names_meaning.specs.Types.{names, declared, types, object, object_lines}
-use Rattle.kp_names_meaning.specs.Faults.{Fault, unknown_name, declared_twice, wrong_use, unless_among, repeated, twice_in, words, type_faults, variable_faults, inside, term_faults, predicate_of, head_faults, atom_faults, cond_faults, conds_faults, eff_faults, effs_faults, schema_faults, lit_faults, item_faults, items_faults, predicate_faults, domain_faults, problem_faults, HasNoFault}
-use Rattle.kp_names_meaning.specs.Places.{KeepsTexts, PlacesMeanNothing}
+use Rattle.kp_names_semantics.specs.Names.{Name, same, is_among}
+use Rattle.kp_names_semantics.specs.Types.{names, declared, types, object, object_lines}
+use Rattle.kp_names_semantics.specs.Faults.{Fault, unknown_name, declared_twice, wrong_use, unless_among, repeated, twice_in, words, type_faults, variable_faults, inside, term_faults, predicate_of, head_faults, atom_faults, cond_faults, conds_faults, eff_faults, effs_faults, schema_faults, lit_faults, item_faults, items_faults, predicate_faults, domain_faults, problem_faults, HasNoFault}
+use Rattle.kp_names_semantics.specs.Places.{KeepsTexts, PlacesMeanNothing}
 use Rattle.std.proofs.lemmas.List.{length-map}
-use Rattle.kp_names_meaning.proofs.Places.{declared_kept, names_kept, lines_kept, solves_there, solves_back}
+use Rattle.kp_names_semantics.proofs.Places.{declared_kept, names_kept, lines_kept, solves_there, solves_back}
 
 -- no fault is in the list
 abbrev clean : List Fault → Bool

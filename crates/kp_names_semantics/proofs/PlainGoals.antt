@@ -7,7 +7,7 @@ use Rattle.kp_tree_grammar.specs.declared.symbol.Symbol.TheVariants as symbols
 use Rattle.kp_tree_grammar.specs.declared.tree.Word.{Word}
 use Rattle.kp_tree_grammar.specs.Language.{Cond, conds_of, Given, goal_of, Problem, Tok, is_head, is_goal, is_of_domain, is_init, Sort, s_none, s_cond, s_pair, s_seen, s_given, Seen, El, Maker, apply, m_holds, Form, n_goal, none, nothing, ◌▹◌, ◌▸◌, many, run, make, choose, loose, bracket, within, not_goal, fact_body, goal_lit_case, goal_case, rule, has_stood, once, given_case, ReadBy, r_token, r_none, r_both, r_after, r_end, r_more, r_last, r_next, r_absent, r_present, r_make, r_choice, r_loose, r_bracket, r_within}
 use Rattle.kp_tree_grammar.specs.Grammar as grammar
-use Rattle.kp_names_meaning.specs.NumberLaws.{is_plain_goal, are_plain_goals, GoalsArePlain}
+use Rattle.kp_names_semantics.specs.NumberLaws.{is_plain_goal, are_plain_goals, GoalsArePlain}
 
 -- each value that the form reads passes the test, if goals within it are plain
 data Gives : (b : Bool) (c : Sort) → Form b c → (El Word c → Bool) → Type 0 where

@@ -7,9 +7,9 @@ use Rattle.kp_tree_grammar.specs.Language.{all_seen_in, Domain, Problem, Cond, n
 use Rattle.kp_tree_grammar.specs.Grammar as grammar
 use Rattle.kp_tree_grammar.proofs.Public.{a_form_reads_once, computed_outcome, reads_by_computing}
 pub use Rattle.kp_tree_grammar.proofs.Public.{tokens_of_text as tokens}
-use Rattle.kp_names_meaning.specs.Faults.{domain_faults, problem_faults}
-use Rattle.kp_names_meaning.specs.Steps.{Step}
-use Rattle.kp_names_meaning.specs.Plans.{HasProblem, HasOneProblem, Solves, IsPlan}
+use Rattle.kp_names_semantics.specs.Faults.{domain_faults, problem_faults}
+use Rattle.kp_names_semantics.specs.Steps.{Step}
+use Rattle.kp_names_semantics.specs.Plans.{HasProblem, HasOneProblem, Solves, IsPlan}
 
 -- the trees of texts that read
 abbrev pub domain_in : Outcome Word (Domain Word) → Domain Word

@@ -5,9 +5,9 @@ use Rattle.std.proofs.lemmas.Bool.{and_parts, and_from, or_cases, or_left, or_ri
 use Rattle.kp_tree_grammar.specs.declared.tree.Word.{Word}
 use Rattle.kp_tree_grammar.specs.Trees.{Typed}
 use Rattle.kp_base.specs.Lists.{Member}
-use Rattle.kp_names_meaning.specs.Names.{Name, same}
-use Rattle.kp_names_meaning.specs.Types.{object, types_of, IsBelow, itself, root, parent, over, leads, below_within, IsTypeTestExact}
-use Rattle.kp_names_meaning.proofs.Lists.{any_member, any_from, any_weaker, same-true, same-refl}
+use Rattle.kp_names_semantics.specs.Names.{Name, same}
+use Rattle.kp_names_semantics.specs.Types.{object, types_of, IsBelow, itself, root, parent, over, leads, below_within, IsTypeTestExact}
+use Rattle.kp_names_semantics.proofs.Lists.{any_member, any_from, any_weaker, same-true, same-refl}
 
 -- ---- the relation as a chain of lines
 

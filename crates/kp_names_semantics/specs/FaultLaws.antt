@@ -5,7 +5,7 @@ use Rattle.kp_tree_grammar.specs.Trees.{Domain, Problem}
 use Rattle.kp_tree_grammar.specs.Grammar.{domain, problem}
 use Rattle.kp_tree_grammar.specs.Texts.{ReadsAs}
 use Rattle.kp_base.specs.Lists.{Member}
-use Rattle.kp_names_meaning.specs.Faults.{Fault, byte_of, domain_faults, problem_faults, IsFirst}
+use Rattle.kp_names_semantics.specs.Faults.{Fault, byte_of, domain_faults, problem_faults, IsFirst}
 
 -- two faults at one token are one and the same
 abbrev pub IsOneForEachToken : List Fault → Type 0

@@ -3,7 +3,7 @@ use Rattle.std.specs.Prelude.{Bool, ◌&&◌}
 use Rattle.std.specs.List.{AllByRecursion}
 use Rattle.kp_base.specs.declared.ground.GroundName.{GroundName}
 use Rattle.kp_tree_grammar.specs.Words.{IsName}
-use Rattle.kp_names_meaning.specs.Names.{same, all_same}
+use Rattle.kp_names_semantics.specs.Names.{same, all_same}
 
 -- the head and the objects are Names in lower case
 pub record IsGroundName (n : GroundName) : Type 0 where

@@ -3,8 +3,8 @@ use Rattle.std.specs.Prelude.{◌≡◌, Bool, true, false, not, ◌&&◌, ◌||
 use Rattle.std.specs.List.{list_any, list_all}
 use Rattle.kp_tree_grammar.specs.declared.tree.Word.{Word}
 use Rattle.kp_tree_grammar.specs.Trees.{Lit, Item, Items, Problem}
-use Rattle.kp_names_meaning.specs.Names.{Name, same, all_same}
-use Rattle.kp_names_meaning.specs.States.{State, unbound, Literal, same_literal, literal, literal_holds}
+use Rattle.kp_names_semantics.specs.Names.{Name, same, all_same}
+use Rattle.kp_names_semantics.specs.States.{State, unbound, Literal, same_literal, literal, literal_holds}
 
 -- a literal of `oneof` or `or`, by name
 abbrev pub by_name : Lit Word → Literal

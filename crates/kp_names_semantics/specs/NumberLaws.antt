@@ -4,16 +4,16 @@ use Rattle.kp_tree_grammar.specs.declared.tree.Word.{Word}
 use Rattle.kp_tree_grammar.specs.Trees.{Cond, Conds, Eff, Domain, Problem}
 use Rattle.kp_tree_grammar.specs.Grammar as grammar
 use Rattle.kp_tree_grammar.specs.Texts.{ReadsAs}
-use Rattle.kp_names_meaning.specs.Names.{Name, is_among}
-use Rattle.kp_names_meaning.specs.Types.{objects}
-use Rattle.kp_names_meaning.specs.Faults.{cond_faults, eff_faults, HasNoFault}
-use Rattle.kp_names_meaning.specs.States as named
-use Rattle.kp_names_meaning.specs.Steps as named_steps
-use Rattle.kp_names_meaning.specs.Steps.{Step}
-use Rattle.kp_names_meaning.specs.Initial as named_initial
-use Rattle.kp_names_meaning.specs.Plans.{Solves}
-use Rattle.kp_names_meaning.specs.Lifted.{State, Binding, Instance, holds, fires, is_instance, applicable, next, IsInitial, IsPlan}
-use Rattle.kp_names_meaning.specs.Numbering.{name_at, variable_number, numbered_cond, numbered_eff, numbered_problem, named_literal, named_step, Agree}
+use Rattle.kp_names_semantics.specs.Names.{Name, is_among}
+use Rattle.kp_names_semantics.specs.Types.{objects}
+use Rattle.kp_names_semantics.specs.Faults.{cond_faults, eff_faults, HasNoFault}
+use Rattle.kp_names_semantics.specs.States as named
+use Rattle.kp_names_semantics.specs.Steps as named_steps
+use Rattle.kp_names_semantics.specs.Steps.{Step}
+use Rattle.kp_names_semantics.specs.Initial as named_initial
+use Rattle.kp_names_semantics.specs.Plans.{Solves}
+use Rattle.kp_names_semantics.specs.Lifted.{State, Binding, Instance, holds, fires, is_instance, applicable, next, IsInitial, IsPlan}
+use Rattle.kp_names_semantics.specs.Numbering.{name_at, variable_number, numbered_cond, numbered_eff, numbered_problem, named_literal, named_step, Agree}
 
 -- each variable of the scope stands by number for the object for which it stands by name
 pub record Matches (d : Domain Word) (p : Problem Word) (scope : List Name) (b : named.Binding) (c : Binding) : Type 0 where

@@ -4,19 +4,19 @@ use Rattle.std.specs.List.{flat_map, list_all}
 use Rattle.kp_tree_grammar.specs.declared.tree.Word.{Word}
 use Rattle.kp_tree_grammar.specs.Trees as trees
 use Rattle.kp_tree_grammar.specs.Trees.{Typed, Domain, Problem}
-use Rattle.kp_names_meaning.specs.declared.lifted.Term.{Term}
-use Rattle.kp_names_meaning.specs.declared.lifted.Range.{Range}
-use Rattle.kp_names_meaning.specs.declared.lifted.Pred.{Pred}
-use Rattle.kp_names_meaning.specs.declared.lifted.GroundLit.{GroundLit}
-use Rattle.kp_names_meaning.specs.declared.lifted.Item.{Item}
-use Rattle.kp_names_meaning.specs.Names.{Name, same}
-use Rattle.kp_names_meaning.specs.Types.{names, declared, objects, range}
-use Rattle.kp_names_meaning.specs.Faults.{inside}
-use Rattle.kp_names_meaning.specs.States as named
-use Rattle.kp_names_meaning.specs.States.{Literal}
-use Rattle.kp_names_meaning.specs.Steps.{Step}
-use Rattle.kp_names_meaning.specs.Numbered.{Cond, Conds, Eff, Effs, Schema, Lifted}
-use Rattle.kp_names_meaning.specs.Lifted.{State, Instance, ground}
+use Rattle.kp_names_semantics.specs.declared.lifted.Term.{Term}
+use Rattle.kp_names_semantics.specs.declared.lifted.Range.{Range}
+use Rattle.kp_names_semantics.specs.declared.lifted.Pred.{Pred}
+use Rattle.kp_names_semantics.specs.declared.lifted.GroundLit.{GroundLit}
+use Rattle.kp_names_semantics.specs.declared.lifted.Item.{Item}
+use Rattle.kp_names_semantics.specs.Names.{Name, same}
+use Rattle.kp_names_semantics.specs.Types.{names, declared, objects, range}
+use Rattle.kp_names_semantics.specs.Faults.{inside}
+use Rattle.kp_names_semantics.specs.States as named
+use Rattle.kp_names_semantics.specs.States.{Literal}
+use Rattle.kp_names_semantics.specs.Steps.{Step}
+use Rattle.kp_names_semantics.specs.Numbered.{Cond, Conds, Eff, Effs, Schema, Lifted}
+use Rattle.kp_names_semantics.specs.Lifted.{State, Instance, ground}
 
 -- ---- numbers of names
 

@@ -5,10 +5,10 @@ use Rattle.kp_tree_grammar.specs.declared.tree.Word.{Word}
 use Rattle.kp_tree_grammar.specs.Trees.{Domain, Problem}
 use Rattle.kp_tree_grammar.specs.Grammar as grammar
 use Rattle.kp_tree_grammar.specs.Texts.{ReadsAs}
-use Rattle.kp_names_meaning.specs.Faults.{HasNoFault}
-use Rattle.kp_names_meaning.specs.States.{State, unbound, holds}
-use Rattle.kp_names_meaning.specs.Steps.{Step, is_instance, applicable, next}
-use Rattle.kp_names_meaning.specs.Initial.{IsInitial}
+use Rattle.kp_names_semantics.specs.Faults.{HasNoFault}
+use Rattle.kp_names_semantics.specs.States.{State, unbound, holds}
+use Rattle.kp_names_semantics.specs.Steps.{Step, is_instance, applicable, next}
+use Rattle.kp_names_semantics.specs.Initial.{IsInitial}
 
 -- Two texts have a problem: each is cut and reads by the grammar, and no token has a fault of names.
 pub record HasProblem (domain_text problem_text : List ℕ) : Type 0 where

@@ -5,7 +5,7 @@ use Rattle.std.specs.List.{list_any}
 use Rattle.kp_tree_grammar.specs.declared.tree.Word.{Word}
 use Rattle.kp_tree_grammar.specs.Trees.{Term, Atom, Cond, Conds}
 use Rattle.kp_base.specs.Lists.{signed}
-use Rattle.kp_names_meaning.specs.Names.{Name, same, all_same}
+use Rattle.kp_names_semantics.specs.Names.{Name, same, all_same}
 
 -- a state says of each predicate and each list of objects whether it holds of them
 abbrev pub State : Type 0

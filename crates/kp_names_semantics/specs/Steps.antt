@@ -5,9 +5,9 @@ use Rattle.kp_base.specs.declared.ground.GroundName.{GroundName}
 use Rattle.kp_tree_grammar.specs.declared.tree.Word.{Word}
 use Rattle.kp_tree_grammar.specs.Trees.{Typed, Eff, Effs, Schema, Domain, Problem}
 use Rattle.kp_base.specs.Lists.{choices, only_if}
-use Rattle.kp_names_meaning.specs.Names.{Name, same, all_same}
-use Rattle.kp_names_meaning.specs.Types.{declared, range}
-use Rattle.kp_names_meaning.specs.States.{State, Binding, unbound, bind, Literal, names_literal, literal, holds}
+use Rattle.kp_names_semantics.specs.Names.{Name, same, all_same}
+use Rattle.kp_names_semantics.specs.Types.{declared, range}
+use Rattle.kp_names_semantics.specs.States.{State, Binding, unbound, bind, Literal, names_literal, literal, holds}
 
 -- ---- effects
 

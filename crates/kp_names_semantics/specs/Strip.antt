@@ -3,10 +3,10 @@ use Rattle.std.specs.Prelude.{◌≡◌, ℕ, Bool, false, ◌&&◌, not, ◌==�
 use Rattle.std.specs.List.{list_all, starts_with}
 use Rattle.kp_tree_grammar.specs.declared.tree.Word.{Word}
 use Rattle.kp_tree_grammar.specs.Trees.{Domain, Problem}
-use Rattle.kp_names_meaning.specs.Names.{Name}
-use Rattle.kp_names_meaning.specs.Steps.{Step}
-use Rattle.kp_names_meaning.specs.Plans.{Solves, IsPlan}
-use Rattle.kp_names_meaning.specs.Encoding.{decoded}
+use Rattle.kp_names_semantics.specs.Names.{Name}
+use Rattle.kp_names_semantics.specs.Steps.{Step}
+use Rattle.kp_names_semantics.specs.Plans.{Solves, IsPlan}
+use Rattle.kp_names_semantics.specs.Encoding.{decoded}
 
 -- what the names of the operators of actions begin with
 abbrev pub do_front : List ℕ

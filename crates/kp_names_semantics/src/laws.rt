@@ -1,11 +1,11 @@
 //! Laws of the definitions, each proved as the contract of a function that does nothing.
 
-ghost use Rattle.kp_names_meaning.specs.Encoding.{EncodedDecodes, DecodedIsEncoding};
-ghost use Rattle.kp_names_meaning.specs.FaultLaws.{DomainTokensHaveOneFault, ProblemTokensHaveOneFault};
-ghost use Rattle.kp_names_meaning.specs.NumberLaws.{GoalsArePlain, IsHoldsNumbered, IsFiresNumbered, IsStepNumbered, IsInitialNumbered, IsPlanNumbered, IsNamedOnce};
-ghost use Rattle.kp_names_meaning.specs.Places.{PlacesMeanNothing};
-ghost use Rattle.kp_names_meaning.specs.Plans.{HasOneProblem};
-ghost use Rattle.kp_names_meaning.specs.Types.{IsTypeTestExact};
+ghost use Rattle.kp_names_semantics.specs.Encoding.{EncodedDecodes, DecodedIsEncoding};
+ghost use Rattle.kp_names_semantics.specs.FaultLaws.{DomainTokensHaveOneFault, ProblemTokensHaveOneFault};
+ghost use Rattle.kp_names_semantics.specs.NumberLaws.{GoalsArePlain, IsHoldsNumbered, IsFiresNumbered, IsStepNumbered, IsInitialNumbered, IsPlanNumbered, IsNamedOnce};
+ghost use Rattle.kp_names_semantics.specs.Places.{PlacesMeanNothing};
+ghost use Rattle.kp_names_semantics.specs.Plans.{HasOneProblem};
+ghost use Rattle.kp_names_semantics.specs.Types.{IsTypeTestExact};
 
 /// The test of types decides the relation, cycles included.
 #[tactic(auto, using(crate::proofs::Types::type_test_exact))]

@@ -1,9 +1,9 @@
 -- A word is read byte by byte as it is read whole.
 use Rattle.std.proofs.Common.{◌≡◌, ℕ, Bool, true, false, List, [], ◌∷◌, ◌++◌, refl, sym, ap, ◌∙◌, Some, None, Option, option_map, ◌==◌, append_assoc}
-use Rattle.kp_names_meaning.specs.Names.{Name}
+use Rattle.kp_names_semantics.specs.Names.{Name}
 use Rattle.kp_base.specs.declared.ground.GroundName.{GroundName}
-use Rattle.kp_names_meaning.specs.Encoding.{underscore, dash, with_byte, split, decoded}
-use Rattle.kp_names_meaning.proofs.Public.{plain_byte_stands_for_itself, what_was_encoded_decodes, decoded_is_encoding}
+use Rattle.kp_names_semantics.specs.Encoding.{underscore, dash, with_byte, split, decoded}
+use Rattle.kp_names_semantics.proofs.Public.{plain_byte_stands_for_itself, what_was_encoded_decodes, decoded_is_encoding}
 use Rattle.kp_plans.specs.declared.decoding.Parts.{Parts}
 use Rattle.kp_plans.specs.Decoding.{with_bytes, components, Decodes}
 use Rattle.kp_plans.specs.Names.{IsNameOf}

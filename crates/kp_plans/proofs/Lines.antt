@@ -7,7 +7,7 @@ use Rattle.kp_lex.specs.Bytes.{class_of}
 use Rattle.kp_tree_grammar.specs.declared.tree.Word.{Word}
 use Rattle.kp_tree_grammar.specs.Language.{symbol_of, is_name, is_left, s_word, s_pair, s_list, hits, many, word, Reads, r_token, r_both, r_end, r_more, r_bracket}
 use Rattle.kp_tree_grammar.proofs.Public.{name_passes}
-use Rattle.kp_names_meaning.specs.GroundNames.{IsGroundName}
+use Rattle.kp_names_semantics.specs.GroundNames.{IsGroundName}
 use Rattle.kp_law_texts.specs.Pieces.{Piece, right, each, spaced, name, line_feed}
 use Rattle.kp_law_texts.specs.Tokens.{words, done, lefts, blanks, says}
 use Rattle.kp_law_texts.specs.Maps.{without_places}

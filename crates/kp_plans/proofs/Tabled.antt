@@ -6,11 +6,11 @@ use Rattle.std.specs.Option.{option_or}
 use Rattle.std.proofs.lemmas.Bool.{and_parts, and_from}
 use Rattle.indexmap.specs.IndexMap.{insert_entry}
 use Rattle.kp_base.specs.declared.ground.GroundName.{GroundName}
-use Rattle.kp_names_meaning.specs.Names.{same, all_same}
-use Rattle.kp_names_meaning.specs.Encoding.{encoded}
-use Rattle.kp_names_meaning.specs.GroundNames.{same_name}
+use Rattle.kp_names_semantics.specs.Names.{same, all_same}
+use Rattle.kp_names_semantics.specs.Encoding.{encoded}
+use Rattle.kp_names_semantics.specs.GroundNames.{same_name}
 use Rattle.kp_base.proofs.Lists.{same-true, same-refl}
-use Rattle.kp_names_meaning.proofs.Public.{all_same_names-true, all_same_names-refl, names_are_encoded_once}
+use Rattle.kp_names_semantics.proofs.Public.{all_same_names-true, all_same_names-refl, names_are_encoded_once}
 use Rattle.kp_plans.specs.WordTables.{number_under, IsTableOf}
 
 -- ---- a name that is noted

@@ -1,7 +1,7 @@
 -- A word that is read from the left, byte by byte. This file serves proofs alone.
 use Rattle.std.specs.Prelude.{◌≡◌, ℕ, Bool, true, false, List, [], ◌∷◌, ◌++◌, Option, None, option_map}
-use Rattle.kp_names_meaning.specs.Names.{Name}
-use Rattle.kp_names_meaning.specs.Encoding.{underscore, with_byte, split}
+use Rattle.kp_names_semantics.specs.Names.{Name}
+use Rattle.kp_names_semantics.specs.Encoding.{underscore, with_byte, split}
 use Rattle.kp_plans.specs.declared.decoding.Parts.{Parts}
 
 -- the bytes in front of the first component

@@ -2,8 +2,8 @@
 use Rattle.std.specs.Prelude.{◌≡◌, ℕ, List, Option, Some, None}
 use Rattle.std.specs.List.{position_from}
 use Rattle.kp_base.specs.declared.ground.GroundName.{GroundName}
-use Rattle.kp_names_meaning.specs.GroundNames.{same_name}
-use Rattle.kp_names_meaning.specs.Encoding.{encoded, HasNoEmptyPart}
+use Rattle.kp_names_semantics.specs.GroundNames.{same_name}
+use Rattle.kp_names_semantics.specs.Encoding.{encoded, HasNoEmptyPart}
 
 -- the word is the encoding of the name, whose parts aren't empty
 pub record IsEncodingOf (word : List ℕ) (n : GroundName) : Type 0 where

@@ -2,7 +2,7 @@
 use Rattle.std.specs.Prelude.{◌≡◌, ℕ, List, []}
 use Rattle.std.specs.List.{AllByRecursion}
 use Rattle.kp_base.specs.declared.ground.GroundName.{GroundName}
-use Rattle.kp_names_meaning.specs.GroundNames.{IsGroundName}
+use Rattle.kp_names_semantics.specs.GroundNames.{IsGroundName}
 use Rattle.kp_law_texts.specs.Pieces.{Piece, Put, ◌⨾◌, each, line_feed, spelling}
 use Rattle.kp_plans_spelling.specs.Spelling.{name_put}
 use Rattle.kp_plans.specs.declared.step.PlanStep.{PlanStep}

@@ -2,8 +2,8 @@
 use Rattle.std.specs.Prelude.{◌≡◌, ℕ, List, Option}
 use Rattle.std.specs.Map.{lookup}
 use Rattle.kp_base.specs.declared.ground.GroundName.{GroundName}
-use Rattle.kp_names_meaning.specs.Names.{same}
-use Rattle.kp_names_meaning.specs.Encoding.{encoded}
+use Rattle.kp_names_semantics.specs.Names.{same}
+use Rattle.kp_names_semantics.specs.Encoding.{encoded}
 use Rattle.kp_plans.specs.declared.step.PlanStep.{PlanStep}
 use Rattle.kp_plans.specs.Names.{number_of}
 

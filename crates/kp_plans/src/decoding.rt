@@ -1,6 +1,6 @@
 ghost use Rattle.std.specs.Prelude.{◌≡◌, ◌++◌, ◌∷◌, [], false, IfOk, OnOk, ◌<◌, length};
 ghost use Rattle.std.specs.List.{list_any};
-ghost use Rattle.kp_names_meaning.specs.Encoding.{split, name_of, decoded, is_empty};
+ghost use Rattle.kp_names_semantics.specs.Encoding.{split, name_of, decoded, is_empty};
 ghost use Rattle.kp_plans.specs.Decoding.{components, Takes};
 ghost use Rattle.kp_plans.specs.Names.{IsNameOf};
 

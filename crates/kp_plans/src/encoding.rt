@@ -1,5 +1,5 @@
 ghost use Rattle.std.specs.Prelude.{◌≡◌, ◌++◌, Some, IfOk, OnOk};
-ghost use Rattle.kp_names_meaning.specs.Encoding.{doubled, doubled_byte, encoded, encoded_objects, decoded, HasNoEmptyPart};
+ghost use Rattle.kp_names_semantics.specs.Encoding.{doubled, doubled_byte, encoded, encoded_objects, decoded, HasNoEmptyPart};
 
 use kp_base::{GroundName, Memory, Text};
 use kp_plans_spelling::put;

@@ -1,6 +1,6 @@
 ghost use Rattle.std.specs.Prelude.{◌≡◌, IfOk, OnOk};
 ghost use Rattle.std.specs.List.{AllByRecursion};
-ghost use Rattle.kp_names_meaning.specs.GroundNames.{IsGroundName};
+ghost use Rattle.kp_names_semantics.specs.GroundNames.{IsGroundName};
 ghost use Rattle.kp_law_texts.specs.Pieces.{Puts, each};
 ghost use Rattle.kp_plans.specs.Printed.{step_line, plan_text, IsTextOf};
 

@@ -1,6 +1,6 @@
 ghost use Rattle.std.specs.Prelude.{◌≡◌, IfOk, option_map};
 ghost use Rattle.std.specs.List.{list_all};
-ghost use Rattle.kp_names_meaning.specs.Strip.{past, is_digit, is_number, is_merge_operator, action_of};
+ghost use Rattle.kp_names_semantics.specs.Strip.{past, is_digit, is_number, is_merge_operator, action_of};
 ghost use Rattle.kp_plans.specs.Adding.{Adds};
 ghost use Rattle.kp_plans.specs.Stripping.{AnswersStrip};
 

@@ -1,7 +1,7 @@
 ghost use Rattle.std.specs.Prelude.{◌≡◌, ◌<◌, [], ℕ, List, Some, None, if◌then◌else◌, length, map, IfOk, OnOk};
 ghost use Rattle.std.specs.Option.{option_or};
-ghost use Rattle.kp_names_meaning.specs.Names.{same};
-ghost use Rattle.kp_names_meaning.specs.Encoding.{encoded};
+ghost use Rattle.kp_names_semantics.specs.Names.{same};
+ghost use Rattle.kp_names_semantics.specs.Encoding.{encoded};
 ghost use Rattle.kp_plans.specs.Found.{action_names};
 ghost use Rattle.kp_plans.specs.WordTables.{number_under, IsTableOf};
 

@@ -8,11 +8,11 @@ use Rattle.kp_base.specs.declared.lit.AtomId.{AtomId}
 use Rattle.kp_base.specs.declared.ground.Initial.{Initial}
 use Rattle.kp_base.specs.Planning.{positive, negative, with_lit, State, holds, is_model, IsOfAtoms}
 use Rattle.kp_base.proofs.Lists.{all_weaker}
-use Rattle.kp_primes_models.specs.Ordered.{state_of_atoms, AreRising, AreFirst}
-use Rattle.kp_primes_models.specs.Chosen.{IsChosen}
-use Rattle.kp_primes_models.specs.Asked.{is_wanted, IsWitness, AnswersFind}
-use Rattle.kp_primes_models.proofs.Tags.{more_met, more_parts, more_below}
-use Rattle.kp_primes_models.proofs.Reading.{all_same, model_same}
+use Rattle.kp_primes_first_model.specs.Ordered.{state_of_atoms, AreRising, AreFirst}
+use Rattle.kp_primes_first_model.specs.Chosen.{IsChosen}
+use Rattle.kp_primes_first_model.specs.Asked.{is_wanted, IsWitness, AnswersFind}
+use Rattle.kp_primes_first_model.proofs.Tags.{more_met, more_parts, more_below}
+use Rattle.kp_primes_first_model.proofs.Reading.{all_same, model_same}
 
 -- ---- the state of some atoms, with one more
 

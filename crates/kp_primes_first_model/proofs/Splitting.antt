@@ -8,11 +8,11 @@ use Rattle.kp_base.specs.Planning.{positive, negative, with_lit, State, holds, i
 use Rattle.kp_base.specs.Lit.{has}
 use Rattle.kp_base.proofs.Lists.{all_member, all_from}
 use Rattle.kp_base.proofs.Lits.{member-has, has-member}
-use Rattle.kp_primes_models.specs.Known.{is_decided}
-use Rattle.kp_primes_models.specs.declared.truth.Truth.{Truth}
-use Rattle.kp_primes_models.specs.declared.truth.Truth.TheVariants.{Yes, No, Open}
-use Rattle.kp_primes_models.specs.Asked.{IsWitness, AnswersFind, AskTheSame, Judges, JudgesTag, is_wanted, passes_one, test_at}
-use Rattle.kp_primes_models.proofs.Tags.{more_met, more_parts, more_below}
+use Rattle.kp_primes_first_model.specs.Known.{is_decided}
+use Rattle.kp_primes_first_model.specs.declared.truth.Truth.{Truth}
+use Rattle.kp_primes_first_model.specs.declared.truth.Truth.TheVariants.{Yes, No, Open}
+use Rattle.kp_primes_first_model.specs.Asked.{IsWitness, AnswersFind, AskTheSame, Judges, JudgesTag, is_wanted, passes_one, test_at}
+use Rattle.kp_primes_first_model.proofs.Tags.{more_met, more_parts, more_below}
 
 module _ (n : ℕ) (i : Initial) (passes : State → Bool) (tag known : List Lit) (closed : IsClosure n i tag known) where
   -- a model of the tag makes all of the closure true

@@ -7,7 +7,7 @@ use Rattle.kp_base.specs.Planning.{positive, negative, same_lit, with_lit, State
 use Rattle.kp_base.specs.Lit.{has}
 use Rattle.kp_base.proofs.Lits.{same_lit-refl}
 use Rattle.kp_base.proofs.Sets.{any-with_lit, all-with_lit}
-use Rattle.kp_primes_models.specs.Known.{is_decided, undecided}
+use Rattle.kp_primes_first_model.specs.Known.{is_decided, undecided}
 
 -- a state satisfies the tag with one literal more where it satisfies both
 pub more_met : (s : State) (l : Lit) (tag : List Lit) → list_all (holds s) tag ≡ true → holds s l ≡ true → list_all (holds s) (with_lit l tag) ≡ true

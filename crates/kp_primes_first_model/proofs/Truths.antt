@@ -8,10 +8,10 @@ use Rattle.kp_base.specs.Lit.{positive, negative, negated, has}
 use Rattle.kp_base.specs.Steps.{State, holds}
 use Rattle.kp_base.proofs.Lists.{all_member, not_not}
 use Rattle.kp_base.proofs.Lits.{member-has, holds-negated}
-use Rattle.kp_primes_models.specs.Known.{is_decided}
-use Rattle.kp_primes_models.specs.declared.truth.Truth.{Truth}
-use Rattle.kp_primes_models.specs.declared.truth.Truth.TheVariants.{Yes, No, Open}
-use Rattle.kp_primes_models.specs.Truths.{IsTruth, opposite, both, either, truth_in}
+use Rattle.kp_primes_first_model.specs.Known.{is_decided}
+use Rattle.kp_primes_first_model.specs.declared.truth.Truth.{Truth}
+use Rattle.kp_primes_first_model.specs.declared.truth.Truth.TheVariants.{Yes, No, Open}
+use Rattle.kp_primes_first_model.specs.Truths.{IsTruth, opposite, both, either, truth_in}
 
 module _ (n : ℕ) (known : List Lit) where
   pub opposite_is : (a : Bool) (t : Truth) → IsTruth n known a t → IsTruth n known (not a) (opposite t)

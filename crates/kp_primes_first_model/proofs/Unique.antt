@@ -3,7 +3,7 @@ use Rattle.std.proofs.Common.{◌≡◌, ◌⊎◌, ℕ, zero, suc, Bool, true, 
 use Rattle.std.proofs.lemmas.Bool.{cases_lt}
 use Rattle.kp_base.specs.declared.lit.AtomId.{AtomId}
 use Rattle.kp_base.specs.Steps.{State, SameBelow, ComesBefore}
-use Rattle.kp_primes_models.specs.Ordered.{IsFirst, AnswersFirst}
+use Rattle.kp_primes_first_model.specs.Ordered.{IsFirst, AnswersFirst}
 
 -- two states are the same below n, or one comes before the other
 compared : (n : ℕ) (s t : State) → SameBelow n s t ⊎ (ComesBefore s t ⊎ ComesBefore t s)

@@ -6,10 +6,10 @@ use Rattle.kp_base.specs.declared.ground.Initial.{Initial}
 use Rattle.kp_base.specs.Steps.{State, holds, is_model}
 use Rattle.kp_base.specs.Entailed.{IsConsistent}
 use Rattle.kp_base.specs.Implicates.{are_below}
-use Rattle.kp_primes_models.specs.declared.truth.Truth.{Truth}
-use Rattle.kp_primes_models.specs.declared.truth.Truth.TheVariants.{Yes, No, Open}
-use Rattle.kp_primes_models.specs.Known.{is_decided}
-use Rattle.kp_primes_models.specs.Truths.{IsTruth}
+use Rattle.kp_primes_first_model.specs.declared.truth.Truth.{Truth}
+use Rattle.kp_primes_first_model.specs.declared.truth.Truth.TheVariants.{Yes, No, Open}
+use Rattle.kp_primes_first_model.specs.Known.{is_decided}
+use Rattle.kp_primes_first_model.specs.Truths.{IsTruth}
 
 -- the state passes one of the tests
 abbrev pub passes_one : List (State → Bool) → State → Bool

@@ -6,8 +6,8 @@ use Rattle.kp_base.specs.declared.lit.AtomId.{AtomId}
 use Rattle.kp_base.specs.declared.ground.Initial.{Initial}
 use Rattle.kp_base.specs.Steps.{State, SameBelow, ComesBefore, holds}
 use Rattle.kp_base.specs.Implicates.{are_below}
-use Rattle.kp_primes_models.specs.Asked.{is_wanted, IsWitness}
-use Rattle.kp_primes_models.specs.Ordered.{state_of_atoms, AreRising}
+use Rattle.kp_primes_first_model.specs.Asked.{is_wanted, IsWitness}
+use Rattle.kp_primes_first_model.specs.Ordered.{state_of_atoms, AreRising}
 
 -- what stands after the first p atoms: a tag that says just which of them are present, a witness for it, and no model
 -- that passes before it

@@ -5,8 +5,8 @@ ghost use Rattle.kp_base.specs.Lit.{negative, positive};
 ghost use Rattle.kp_base.specs.LitSet.{with_lit};
 ghost use Rattle.kp_base.specs.Implicates.{are_below};
 ghost use Rattle.kp_primes.specs.Held.{formula};
-ghost use Rattle.kp_primes_models.specs.Known.{is_decided};
-ghost use Rattle.kp_primes_models.specs.Asked.{AnswersFind, AskTheSame, JudgesTag, is_wanted, passes_one, test_at};
+ghost use Rattle.kp_primes_first_model.specs.Known.{is_decided};
+ghost use Rattle.kp_primes_first_model.specs.Asked.{AnswersFind, AskTheSame, JudgesTag, is_wanted, passes_one, test_at};
 
 use crate::{Question, Seen, Truth};
 use kp_base::{AtomId, Lit, LitSet, Memory};

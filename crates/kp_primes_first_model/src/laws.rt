@@ -1,6 +1,6 @@
 //! Laws of the first state, each proved as the contract of a function that does nothing.
 
-ghost use Rattle.kp_primes_models.specs.Ordered.{IsFirstOnce, IsFirstByPassing};
+ghost use Rattle.kp_primes_first_model.specs.Ordered.{IsFirstOnce, IsFirstByPassing};
 
 /// Two states that are first are the same.
 pub fn there_is_one_first()

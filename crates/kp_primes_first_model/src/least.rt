@@ -3,9 +3,9 @@ ghost use Rattle.kp_base.specs.Lit.{negative};
 ghost use Rattle.kp_base.specs.LitSet.{with_lit};
 ghost use Rattle.kp_base.specs.Implicates.{are_below};
 ghost use Rattle.kp_primes.specs.Held.{formula};
-ghost use Rattle.kp_primes_models.specs.Asked.{is_wanted, passes_one, IsWitness, AnswersFind};
-ghost use Rattle.kp_primes_models.specs.Ordered.{AreFirst, AnswersFirst};
-ghost use Rattle.kp_primes_models.specs.Chosen.{IsChosen};
+ghost use Rattle.kp_primes_first_model.specs.Asked.{is_wanted, passes_one, IsWitness, AnswersFind};
+ghost use Rattle.kp_primes_first_model.specs.Ordered.{AreFirst, AnswersFirst};
+ghost use Rattle.kp_primes_first_model.specs.Chosen.{IsChosen};
 
 use crate::Question;
 use crate::finding::find_any;

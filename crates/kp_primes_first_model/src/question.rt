@@ -1,7 +1,7 @@
 ghost use Rattle.std.specs.Prelude.{◌≡◌, ◌<◌, ℕ, Bool, List, length, IfOk, IfSome};
 ghost use Rattle.std.specs.List.{list_all};
 ghost use Rattle.kp_base.specs.Steps.{State, holds};
-ghost use Rattle.kp_primes_models.specs.Asked.{Judges, AskTheSame, test_at};
+ghost use Rattle.kp_primes_first_model.specs.Asked.{Judges, AskTheSame, test_at};
 
 use crate::Truth;
 use kp_base::{LitSet, Memory};

@@ -1,5 +1,5 @@
 ghost use Rattle.std.specs.Prelude.{◌≡◌};
-ghost use Rattle.kp_primes_models.specs.Truths.{opposite, both, either, truth_in};
+ghost use Rattle.kp_primes_first_model.specs.Truths.{opposite, both, either, truth_in};
 
 use kp_base::{AtomId, Lit, LitSet};
 

@@ -3,17 +3,17 @@ use Rattle.std.proofs.Common.{◌≡◌, ◌∙◌, ℕ, true, List, Some, sym, 
 use Rattle.kp_base.specs.declared.ground.TagTable.{TagTable}
 use Rattle.kp_base.specs.Exclusive.{IsClashFree}
 use Rattle.kp_base.proofs.Cases.{some_alike}
-use Rattle.kp_law_machine.proofs.Public.{no_clash_under_exclusive_pairs}
-use Rattle.kp_names_meaning.specs.Steps.{Step}
-use Rattle.kp_names_meaning.specs.Plans.{HasProblem, IsPlan}
-use Rattle.kp_names_meaning.specs.Strip.{strip}
+use Rattle.kp_law_tagged_machine.proofs.Public.{no_clash_under_exclusive_pairs}
+use Rattle.kp_names_semantics.specs.Steps.{Step}
+use Rattle.kp_names_semantics.specs.Plans.{HasProblem, IsPlan}
+use Rattle.kp_names_semantics.specs.Strip.{strip}
 use Rattle.kp_classic.specs.Steps.{start, succeeds}
 use Rattle.kp_law_ktask.specs.Task.{task_of}
 use Rattle.kp_law_ktask.proofs.Public.{tagged_plans_are_accepted, tagged_steps_strip}
-use Rattle.kp_law_files.specs.Translations.{ground_of, initial_of}
-use Rattle.kp_law_files.specs.Tables.{IsTableFor}
-use Rattle.kp_law_files.specs.Written.{translation_of}
-use Rattle.kp_law_files.proofs.Public.{tables_can_be_written, translations_are_sound}
+use Rattle.kp_law_translation.specs.Translations.{ground_of, initial_of}
+use Rattle.kp_law_translation.specs.Tables.{IsTableFor}
+use Rattle.kp_law_translation.specs.Written.{translation_of}
+use Rattle.kp_law_translation.proofs.Public.{tables_can_be_written, translations_are_sound}
 use Rattle.kp_run_solve.specs.Solving.{AreNamed}
 use Rattle.kp_run_solve.proofs.Public.{named_plans_are_accepted}
 

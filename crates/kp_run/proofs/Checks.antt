@@ -4,8 +4,8 @@ use Rattle.kp_base.specs.declared.memory.Memory.{Memory}
 use Rattle.kp_base.specs.declared.ground.Ground.{Ground}
 use Rattle.kp_base.specs.declared.ground.Initial.{Initial}
 use Rattle.kp_base.specs.Entailed.{HaveSameModels}
-use Rattle.kp_primes_models.specs.Asked.{is_wanted}
-use Rattle.kp_primes_models.proofs.Public.{first_by_passing}
+use Rattle.kp_primes_first_model.specs.Asked.{is_wanted}
+use Rattle.kp_primes_first_model.proofs.Public.{first_by_passing}
 use Rattle.kp_check.specs.declared.answer.Judged.{Judged}
 use Rattle.kp_check.specs.declared.answer.Judged.TheVariants.{Yes, No}
 use Rattle.kp_check.specs.Judging.{AnswersJudged, fails}

@@ -8,7 +8,7 @@ use Rattle.kp_law_ktask.specs.Task.{task_of}
 use Rattle.kp_plans_spelling.specs.Spelling.{literal_text, number_line, IsBracketed}
 use Rattle.kp_plans_spelling.proofs.Public.{literals_are_bracketed}
 use Rattle.kp_run_messages.specs.Coverage.{uncovered_lines, coverage_text}
-use Rattle.kp_run_translate.specs.Report.{counts_of}
+use Rattle.kp_ktask_texts.specs.Report.{counts_of}
 use Rattle.kp_run.specs.Completeness.{PrintsComplete}
 
 -- ---- how a text ends

@@ -9,23 +9,23 @@ use Rattle.kp_base.specs.Implicates.{IsOfItsAtoms}
 use Rattle.kp_base.specs.Covering.{IsComplete, AreUncovered}
 use Rattle.kp_base.proofs.Cases.{some_alike}
 use Rattle.kp_base.proofs.Parts.{last_once}
-use Rattle.kp_law_machine.specs.Lifts.{lift_of, UnliftedAt}
-use Rattle.kp_law_machine.proofs.Public.{lifted_lists_strip, failing_lists_dont_lift}
+use Rattle.kp_law_tagged_machine.specs.Lifts.{lift_of, UnliftedAt}
+use Rattle.kp_law_tagged_machine.proofs.Public.{lifted_lists_strip, failing_lists_dont_lift}
 use Rattle.kp_tree_grammar.specs.declared.tree.Word.{Word}
 use Rattle.kp_tree_grammar.specs.Trees.{Domain, Problem}
-use Rattle.kp_names_meaning.specs.Problems.{numbered_problem, Step, HasProblem, strip}
-use Rattle.kp_names_meaning.specs.Plans.{IsPlan}
+use Rattle.kp_names_semantics.specs.Problems.{numbered_problem, Step, HasProblem, strip}
+use Rattle.kp_names_semantics.specs.Plans.{IsPlan}
 use Rattle.kp_law_decidable.specs.Laws.{AreProper}
 use Rattle.kp_law_decidable.proofs.Public.{formulas_are_ascending, complete_with_none}
 use Rattle.kp_plans.specs.Printed.{plan_text}
 use Rattle.kp_law_ktask.specs.Task.{task_of}
 use Rattle.kp_law_ktask.specs.Accepted.{step_at}
-use Rattle.kp_run_translate.specs.Report.{counts_of}
-use Rattle.kp_law_files.specs.Translations.{ground_of, initial_of}
-use Rattle.kp_law_files.specs.Tables.{IsTableFor}
-use Rattle.kp_law_files.specs.Written.{translation_of}
-use Rattle.kp_law_files.proofs.Public.{formulas_speak_of_ground_atoms, initial_states_are_models, tables_can_be_written, lifts_written, plans_lift}
-use Rattle.kp_law_files.specs.Laws.{IsWrittenLift, Lifts}
+use Rattle.kp_ktask_texts.specs.Report.{counts_of}
+use Rattle.kp_law_translation.specs.Translations.{ground_of, initial_of}
+use Rattle.kp_law_translation.specs.Tables.{IsTableFor}
+use Rattle.kp_law_translation.specs.Written.{translation_of}
+use Rattle.kp_law_translation.proofs.Public.{formulas_speak_of_ground_atoms, initial_states_are_models, tables_can_be_written, lifts_written, plans_lift}
+use Rattle.kp_law_translation.specs.Laws.{IsWrittenLift, Lifts}
 use Rattle.kp_outside.specs.Outside.{FileMap, with_bytes}
 use Rattle.kp_run_outcome.specs.declared.outcome.Outcome.{Outcome}
 use Rattle.kp_run_outcome.specs.declared.status.Status.{Status}

@@ -1,12 +1,12 @@
 -- A ground problem within the limits has a task with the empty tag alone that is within the limits, too.
 use Rattle.std.proofs.Common.{arith}
 use Rattle.std.proofs.lemmas.List.{length-map}
-use Rattle.kp_names_meaning.specs.Numbering.{numbered_problem}
-use Rattle.kp_ground_meaning.specs.Ground.{ground_atoms, atom_name}
+use Rattle.kp_names_semantics.specs.Numbering.{numbered_problem}
+use Rattle.kp_ground_semantics.specs.Ground.{ground_atoms, atom_name}
 use Rattle.kp_law_ktask.proofs.Public.{facts_are_counted}
-use Rattle.kp_law_files.specs.Translations as given
-use Rattle.kp_law_files.specs.Tables.{empty_tag}
-use Rattle.kp_law_files.proofs.Public.{empty_tags_are_light}
+use Rattle.kp_law_translation.specs.Translations as given
+use Rattle.kp_law_translation.specs.Tables.{empty_tag}
+use Rattle.kp_law_translation.proofs.Public.{empty_tags_are_light}
 use Rattle.kp_run.specs.Laws.{EmptyTagsFit}
 
 -- there are at most two facts for each of 4,096 atoms

@@ -20,7 +20,7 @@ use Rattle.kp_base.specs.declared.lit.Lit.{Lit}
 use Rattle.kp_base.specs.Planning.{Member, positive, negative, IsAscending, State as NumberedState, is_model, IsClashFree, IsNeverOver}
 use Rattle.kp_primes.specs.Included.{all_included}
 use Rattle.kp_primes.proofs.Public.{counted_is_never_over}
-use Rattle.kp_law_machine.proofs.Public.{swap_is_clash_free}
+use Rattle.kp_law_tagged_machine.proofs.Public.{swap_is_clash_free}
 use Rattle.kp_run.proofs.ClashFree.{clash_free_with_table, two_atoms}
 use Rattle.kp_lex.specs.Bytes.{class_of}
 use Rattle.kp_lex.specs.Scanning.{cut_from}
@@ -30,17 +30,17 @@ use Rattle.kp_tree_grammar.specs.Trees.{Domain, Problem}
 use Rattle.kp_tree_grammar.specs.declared.tree.Word.{Word}
 use Rattle.kp_tree_grammar.specs.Grammar as grammar
 use Rattle.kp_tree_grammar.proofs.Public.{exchange_text, exchange_tree, from_p_to_q_text, from_p_to_q_tree, tokens_of_text}
-use Rattle.kp_names_meaning.specs.Faults as faults
-use Rattle.kp_names_meaning.specs.Problems.{same, Lifted, numbered_problem, HasInitialState}
+use Rattle.kp_names_semantics.specs.Faults as faults
+use Rattle.kp_names_semantics.specs.Problems.{same, Lifted, numbered_problem, HasInitialState}
 use Rattle.kp_tree.specs.Files.{HasTree}
-use Rattle.kp_ground_meaning.specs.Ground.{kept_instances, ground_atoms}
-use Rattle.kp_ground_meaning.specs.Ground as by_number
-use Rattle.kp_ground_meaning.specs.Weights.{binding_count, total_weight}
+use Rattle.kp_ground_semantics.specs.Ground.{kept_instances, ground_atoms}
+use Rattle.kp_ground_semantics.specs.Ground as by_number
+use Rattle.kp_ground_semantics.specs.Weights.{binding_count, total_weight}
 use Rattle.kp_ground.specs.Grounded.{IsGrounded}
-use Rattle.kp_law_files.specs.Translations.{ground_of, initial_of}
-use Rattle.kp_law_files.specs.Tables.{empty_tag}
-use Rattle.kp_law_files.specs.Written.{translation_of}
-use Rattle.kp_law_files.proofs.Public.{initial_states_are_models}
+use Rattle.kp_law_translation.specs.Translations.{ground_of, initial_of}
+use Rattle.kp_law_translation.specs.Tables.{empty_tag}
+use Rattle.kp_law_translation.specs.Written.{translation_of}
+use Rattle.kp_law_translation.proofs.Public.{initial_states_are_models}
 use Rattle.kp_outside.specs.Outside.{FileMap}
 use Rattle.kp_run_outcome.specs.declared.outcome.Outcome.{Outcome}
 use Rattle.kp_run_outcome.specs.declared.status.Status.TheVariants as status

@@ -17,7 +17,7 @@ use Rattle.kp_primes.specs.Included.{all_included, passed_at}
 use Rattle.kp_primes.specs.Answers.{RefusesPrimes, too_many}
 use Rattle.kp_primes.proofs.Public.{counted_is_never_over, prefix_stops_the_build}
 use Rattle.kp_clash.proofs.Public.{first_found_is_first_clash}
-use Rattle.kp_law_machine.proofs.Public.{swap_is_clash_free}
+use Rattle.kp_law_tagged_machine.proofs.Public.{swap_is_clash_free}
 use Rattle.kp_run.proofs.ClashFree.{clash_free_with_table, two_atoms}
 use Rattle.kp_lex.specs.Bytes.{class_of}
 use Rattle.kp_lex.specs.Cutting.{at_end}
@@ -28,16 +28,16 @@ use Rattle.kp_tree_grammar.specs.Parsing.{some_at, next_at}
 use Rattle.kp_tree_grammar.specs.declared.tree.Word.{Word}
 use Rattle.kp_tree_grammar.specs.Grammar as grammar
 use Rattle.kp_tree_grammar.proofs.Public.{example_word_at, example_atom_at, example_pred_at, exchange_text, exchange_tree, tokens_of_text}
-use Rattle.kp_names_meaning.specs.Faults as faults
-use Rattle.kp_names_meaning.specs.Names.{same}
-use Rattle.kp_names_meaning.specs.Numbering.{numbered_problem}
+use Rattle.kp_names_semantics.specs.Faults as faults
+use Rattle.kp_names_semantics.specs.Names.{same}
+use Rattle.kp_names_semantics.specs.Numbering.{numbered_problem}
 use Rattle.kp_tree.specs.Files.{HasTree, offending}
 use Rattle.kp_tree.specs.Files as files
 use Rattle.kp_names.specs.Resolved.{in_problem}
-use Rattle.kp_names_meaning.specs.Initial.{HasInitialState}
-use Rattle.kp_law_files.specs.Translations.{ground_of, initial_of}
-use Rattle.kp_law_files.specs.Tables.{empty_tag}
-use Rattle.kp_law_files.proofs.Public.{initial_states_are_models}
+use Rattle.kp_names_semantics.specs.Initial.{HasInitialState}
+use Rattle.kp_law_translation.specs.Translations.{ground_of, initial_of}
+use Rattle.kp_law_translation.specs.Tables.{empty_tag}
+use Rattle.kp_law_translation.proofs.Public.{initial_states_are_models}
 use Rattle.kp_run_messages.specs.Refusals.{nothing, refusal_text}
 use Rattle.kp_run_outcome.specs.declared.outcome.Outcome.{Outcome}
 use Rattle.kp_run_outcome.specs.declared.status.Status.TheVariants as status

@@ -3,7 +3,7 @@ use Rattle.std.proofs.Common.{arith}
 use Rattle.kp_base.specs.declared.ground.TagTable.{TagTable}
 use Rattle.kp_tree_grammar.specs.declared.tree.Word.{Word}
 use Rattle.kp_tree_grammar.specs.Trees.{Domain, Problem}
-use Rattle.kp_names_meaning.specs.Numbering.{numbered_problem}
+use Rattle.kp_names_semantics.specs.Numbering.{numbered_problem}
 use Rattle.kp_classic.specs.Fits.{IsFit}
 use Rattle.kp_law_ktask.specs.Task.{task_of}
 use Rattle.kp_law_ktask.specs.Writable.{IsWritableTask}
@@ -13,7 +13,7 @@ use Rattle.kp_run_prepare.specs.Prepared.{usual, IsSmall}
 use Rattle.kp_run_prepare.proofs.Public.{ground_has_few_actions}
 use Rattle.kp_run_inputs.proofs.Public.{table_has_few_merges}
 use Rattle.kp_classic.proofs.Public.{task_of_ground_fits as ground_fits}
-use Rattle.kp_law_files.specs.Translations.{ground_of, initial_of}
+use Rattle.kp_law_translation.specs.Translations.{ground_of, initial_of}
 use Rattle.kp_run_classical.specs.Classical.{IsClassicalProblem, task_of as classical_task}
 use Rattle.kp_run_classical.proofs.Public.{classical_ground_is_of_its_atoms}
 use Rattle.kp_lift.proofs.Public.{operators_are_counted}

@@ -8,8 +8,8 @@ use Rattle.kp_base.specs.declared.ground.GroundName.{GroundName}
 use Rattle.kp_base.specs.declared.ground.Merge.{Merge}
 use Rattle.kp_base.specs.declared.ground.TagTable.{TagTable}
 use Rattle.kp_base.specs.Machine.{MachineStep}
-use Rattle.kp_names_meaning.specs.Steps.{Step}
-use Rattle.kp_names_meaning.specs.GroundNames.{IsGroundName}
+use Rattle.kp_names_semantics.specs.Steps.{Step}
+use Rattle.kp_names_semantics.specs.GroundNames.{IsGroundName}
 use Rattle.kp_plans.specs.Printed.{plan_text, IsTextOf}
 use Rattle.kp_plans.proofs.Public.{printed_plans_read}
 use Rattle.kp_write.specs.Grounds.{IsGroundAction, IsWritable}

@@ -9,8 +9,8 @@ use Rattle.kp_tree_grammar.specs.Trees.{Domain, Problem}
 use Rattle.kp_classic.specs.Fits.{IsFit}
 use Rattle.kp_search.specs.declared.found.Found.{Found}
 use Rattle.kp_search.specs.declared.found.Found.TheVariants.{Plan, NoPlan, Spent}
-use Rattle.kp_law_files.specs.Translations.{ground_of}
-use Rattle.kp_law_files.proofs.Public.{grounds_written}
+use Rattle.kp_law_translation.specs.Translations.{ground_of}
+use Rattle.kp_law_translation.proofs.Public.{grounds_written}
 use Rattle.kp_outside.specs.Outside.{FileMap}
 use Rattle.kp_run_outcome.specs.declared.outcome.Outcome.{Outcome}
 use Rattle.kp_run_outcome.specs.declared.status.Status.{Status}

@@ -14,15 +14,15 @@ use Rattle.kp_base.specs.Covering.{AreUncovered}
 use Rattle.kp_base.specs.declared.ground.TagTable.{TagTable}
 use Rattle.kp_law_ktask.specs.Task.{task_of}
 use Rattle.kp_ktask.specs.Translated.{FitsLimits}
-use Rattle.kp_run_translate.specs.declared.translation.Translation.{Translation}
-use Rattle.kp_law_files.specs.Tables.{IsTableFor}
-use Rattle.kp_law_files.specs.Written.{translation_of}
-use Rattle.kp_law_machine.proofs.Public.{no_clash_under_exclusive_pairs}
+use Rattle.kp_ktask_texts.specs.declared.translation.Translation.{Translation}
+use Rattle.kp_law_translation.specs.Tables.{IsTableFor}
+use Rattle.kp_law_translation.specs.Written.{translation_of}
+use Rattle.kp_law_tagged_machine.proofs.Public.{no_clash_under_exclusive_pairs}
 use Rattle.kp_tree_grammar.specs.declared.tree.Word.{Word}
 use Rattle.kp_tree_grammar.specs.Trees.{Domain, Problem}
-use Rattle.kp_names_meaning.specs.Plans.{HasProblem}
-use Rattle.kp_law_files.specs.Translations.{ground_of, initial_of}
-use Rattle.kp_law_files.proofs.Public.{translations_are_sound}
+use Rattle.kp_names_semantics.specs.Plans.{HasProblem}
+use Rattle.kp_law_translation.specs.Translations.{ground_of, initial_of}
+use Rattle.kp_law_translation.proofs.Public.{translations_are_sound}
 use Rattle.kp_run_prepare.specs.Texts.{HaveTrees}
 use Rattle.kp_run_prepare.specs.Refusing.{refuses}
 use Rattle.kp_run_prepare.specs.Prepared.{usual, IsPrepared, by_texts, by_trees, early, later}

@@ -2,9 +2,9 @@
 use Rattle.std.specs.Prelude.{◌≡◌, ℕ, List, Some}
 use Rattle.std.specs.FinMap.{get}
 use Rattle.kp_outside.specs.Outside.{FileMap}
-use Rattle.kp_names_meaning.specs.Plans.{HasProblem}
-use Rattle.kp_names_meaning.specs.Initial.{HasInitialState}
-use Rattle.kp_names_meaning.specs.Strip.{PlansStrip}
+use Rattle.kp_names_semantics.specs.Plans.{HasProblem}
+use Rattle.kp_names_semantics.specs.Initial.{HasInitialState}
+use Rattle.kp_names_semantics.specs.Strip.{PlansStrip}
 use Rattle.kp_words.specs.Names.{Translate}
 
 -- Before the command the two input names hold a domain and a problem with at least one initial state. After it the two output names hold files of which each plan strips to a plan of the input files.

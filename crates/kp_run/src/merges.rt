@@ -15,7 +15,7 @@ use kp_outside::Got;
 use kp_run_inputs::{Origin, settle, table_alone};
 use kp_run_outcome::Outcome;
 use kp_run_prepare::{Prepared, prepare};
-use kp_tags_merges::merges_text;
+use kp_tags_files::merges_text;
 use kp_words::Merges;
 use std::alloc::Global;
 

@@ -1,12 +1,12 @@
 ghost use Rattle.std.specs.Prelude.{◌≡◌, ◌∷◌, [], IfOk, OnOk, ◌++◌};
 ghost use Rattle.kp_run_messages.specs.Coverage.{coverage_text};
-ghost use Rattle.kp_run_translate.specs.Translations.{translation_with};
+ghost use Rattle.kp_ktask_texts.specs.Translations.{translation_with};
 ghost use Rattle.kp_run.specs.Outcomes.{shows_usage, translates, prints, failing_step};
 
 use kp_base::{Ground, Lit, Memory, Row, TagTable, Text};
+use kp_ktask_texts::Translation;
 use kp_run_messages::{put_coverage, usage};
 use kp_run_outcome::{FilePut, Outcome, Status};
-use kp_run_translate::Translation;
 use kp_words::Translate;
 use std::alloc::Global;
 

@@ -3,12 +3,12 @@ use Rattle.std.proofs.Common.{[], sym, subst}
 use Rattle.kp_base.specs.declared.ground.Ground.{Ground}
 use Rattle.kp_base.specs.declared.ground.TagTable.{TagTable}
 use Rattle.kp_base.specs.declared.limits.Mode.{Mode}
-use Rattle.kp_law_machine.proofs.Public.{no_clash_under_exclusive_pairs as never_clashes, same_models_say_the_same as same_models}
+use Rattle.kp_law_tagged_machine.proofs.Public.{no_clash_under_exclusive_pairs as never_clashes, same_models_say_the_same as same_models}
 use Rattle.kp_primes.specs.Held.{formula}
 use Rattle.kp_law_ktask.specs.Task.{task_of}
 use Rattle.kp_ktask.specs.Translated.{FitsLimits}
-use Rattle.kp_law_files.specs.Translations.{ground_of, initial_of}
-use Rattle.kp_law_files.proofs.Public.{tables_can_be_written}
+use Rattle.kp_law_translation.specs.Translations.{ground_of, initial_of}
+use Rattle.kp_law_translation.proofs.Public.{tables_can_be_written}
 use Rattle.kp_words.specs.Names.{of_mode}
 use Rattle.kp_run_prepare.specs.declared.prepared.Prepared.{Prepared as Made}
 use Rattle.kp_run_prepare.specs.Prepared.{usual}

@@ -13,8 +13,8 @@ use Rattle.kp_base.proofs.Places.{element}
 use Rattle.kp_classic.specs.Fits.{are_below}
 use Rattle.kp_classic.specs.Steps.{start, succeeds}
 use Rattle.kp_lift.specs.Lifting.{IsThere}
-use Rattle.kp_law_machine.proofs.Public.{accepted_lists_are_plans}
-use Rattle.kp_primes_models.specs.Ordered.{state_of_atoms}
+use Rattle.kp_law_tagged_machine.proofs.Public.{accepted_lists_are_plans}
+use Rattle.kp_primes_first_model.specs.Ordered.{state_of_atoms}
 use Rattle.kp_check.specs.declared.answer.Judged.TheVariants.{No}
 use Rattle.kp_check.specs.Judging.{fails, AnswersJudged}
 use Rattle.kp_write.specs.Task.{Op}

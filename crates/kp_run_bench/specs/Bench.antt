@@ -16,7 +16,7 @@ use Rattle.kp_search.specs.declared.found.Found.TheVariants.{Plan, NoPlan, Spent
 use Rattle.kp_law_ktask.specs.Task.{task_of}
 use Rattle.kp_law_ktask.specs.Laws.{op_number}
 use Rattle.kp_ktask.specs.Translated.{FitsLimits, RefusesTask}
-use Rattle.kp_law_files.specs.Translations.{ground_of, initial_of}
+use Rattle.kp_law_translation.specs.Translations.{ground_of, initial_of}
 use Rattle.kp_gen.specs.Line.{line_texts}
 use Rattle.kp_gen.specs.Bombs.{bombs_texts}
 use Rattle.kp_run_messages.specs.Refusals.{nothing}

@@ -3,7 +3,7 @@ use Rattle.std.specs.Prelude.{ℕ, List, ◌++◌, codes}
 use Rattle.kp_base.specs.declared.ground.Ground.{Ground}
 use Rattle.kp_base.specs.declared.ground.TagTable.{TagTable}
 use Rattle.kp_base.specs.declared.lit.Lit.{Lit}
-use Rattle.kp_run_translate.specs.Translations.{translation_with}
+use Rattle.kp_ktask_texts.specs.Translations.{translation_with}
 use Rattle.kp_run_messages.specs.Coverage.{coverage_text}
 use Rattle.kp_plans_spelling.specs.Spelling.{number_line}
 use Rattle.kp_words.specs.Names.{Bench}

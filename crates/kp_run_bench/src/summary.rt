@@ -1,6 +1,6 @@
 //! The summary of a run.
 ghost use Rattle.std.specs.Prelude.{◌≡◌, ◌++◌, codes, IfOk, OnOk};
-ghost use Rattle.kp_run_translate.specs.Translations.{translation_with};
+ghost use Rattle.kp_ktask_texts.specs.Translations.{translation_with};
 ghost use Rattle.kp_words.specs.Options.{family_word};
 ghost use Rattle.kp_plans_spelling.specs.Spelling.{number_line};
 ghost use Rattle.kp_run_bench.specs.Summary.{word_line, summary_text};

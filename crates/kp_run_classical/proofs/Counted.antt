@@ -4,12 +4,12 @@ use Rattle.std.proofs.lemmas.List.{length-map}
 use Rattle.kp_base.specs.declared.ground.Action.{Action}
 use Rattle.kp_base.specs.declared.ground.Ground.{Ground}
 use Rattle.kp_base.specs.Implicates.{IsOfItsAtoms}
-use Rattle.kp_names_meaning.specs.Numbered.{Lifted}
-use Rattle.kp_ground_meaning.specs.Ground.{kept_instances, ground_atoms, atom_name}
+use Rattle.kp_names_semantics.specs.Numbered.{Lifted}
+use Rattle.kp_ground_semantics.specs.Ground.{kept_instances, ground_atoms, atom_name}
 use Rattle.kp_ground.specs.Grounded.{IsGrounded}
 use Rattle.kp_ground.specs.Passes.{action_at}
 use Rattle.kp_ground.proofs.Public.{actions_of_schemas_in_order}
-use Rattle.kp_law_files.proofs.Public.{ground_is_of_its_atoms}
+use Rattle.kp_law_translation.proofs.Public.{ground_is_of_its_atoms}
 use Rattle.kp_run_classical.specs.Classical.{classical}
 
 pub is_of_atoms : (l : Lifted) (g : Ground) → IsGrounded l classical g → IsOfItsAtoms g

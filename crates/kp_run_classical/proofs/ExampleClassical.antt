@@ -7,17 +7,17 @@ use Rattle.kp_base.specs.Steps.{State, is_model}
 use Rattle.kp_tree_grammar.specs.declared.tree.Word.{Word}
 use Rattle.kp_tree_grammar.specs.Trees.{Cond, Item, Problem, no_item, more_items}
 use Rattle.kp_tree_grammar.proofs.Public.{example_word_at, example_atom_at, exchange_tree, from_p_to_q_tree}
-use Rattle.kp_names_meaning.specs.Faults.{HasNoFault}
-use Rattle.kp_names_meaning.specs.Numbered.{Lifted}
-use Rattle.kp_names_meaning.specs.Numbering.{numbered_problem}
+use Rattle.kp_names_semantics.specs.Faults.{HasNoFault}
+use Rattle.kp_names_semantics.specs.Numbered.{Lifted}
+use Rattle.kp_names_semantics.specs.Numbering.{numbered_problem}
 use Rattle.kp_names.specs.Resolved.{first_unsure}
-use Rattle.kp_ground_meaning.specs.Ground.{kept_instances, ground_atoms}
-use Rattle.kp_ground_meaning.specs.Ground as by_number
-use Rattle.kp_ground_meaning.specs.Weights.{binding_count, total_weight}
+use Rattle.kp_ground_semantics.specs.Ground.{kept_instances, ground_atoms}
+use Rattle.kp_ground_semantics.specs.Ground as by_number
+use Rattle.kp_ground_semantics.specs.Weights.{binding_count, total_weight}
 use Rattle.kp_ground.specs.Grounded.{IsGrounded}
 use Rattle.kp_classic.specs.Steps.{start, succeeds}
-use Rattle.kp_law_files.specs.Translations.{initial_of}
-use Rattle.kp_law_files.proofs.Public.{initial_states_are_models}
+use Rattle.kp_law_translation.specs.Translations.{initial_of}
+use Rattle.kp_law_translation.proofs.Public.{initial_states_are_models}
 use Rattle.kp_run_classical.specs.Classical.{classical, IsClassicalProblem, RefusesClassical, no_initial_state, task_of}
 use Rattle.kp_run_classical.specs.Laws.{Succeeds, HaveNames}
 

@@ -15,17 +15,17 @@ use Rattle.kp_base.proofs.Lits.{same_lit-refl}
 use Rattle.kp_tree_grammar.specs.declared.tree.Word.{Word}
 use Rattle.kp_tree_grammar.specs.Trees as trees
 use Rattle.kp_tree_grammar.specs.Trees.{Domain, Problem}
-use Rattle.kp_names_meaning.specs.declared.lifted.Item.{Item}
-use Rattle.kp_names_meaning.specs.Problems.{same, Lifted, numbered_item, numbered_items, numbered_problem}
-use Rattle.kp_names_meaning.specs.Lifted.{item_literals, is_of, is_named}
+use Rattle.kp_names_semantics.specs.declared.lifted.Item.{Item}
+use Rattle.kp_names_semantics.specs.Problems.{same, Lifted, numbered_item, numbered_items, numbered_problem}
+use Rattle.kp_names_semantics.specs.Lifted.{item_literals, is_of, is_named}
 use Rattle.kp_names.specs.Resolved.{or_else, unsure_item, unsure_items, first_unsure}
 use Rattle.kp_base.specs.Atoms.{Atom, same_atom, has_atom, number_of}
-use Rattle.kp_ground_meaning.specs.Ground.{atom_of, numbered, IsNumbering, ground_atoms, atom_name, ground_of}
+use Rattle.kp_ground_semantics.specs.Ground.{atom_of, numbered, IsNumbering, ground_atoms, atom_name, ground_of}
 use Rattle.kp_base.proofs.AtomOrder.{same_atom-true, same_atom-refl}
-use Rattle.kp_ground_meaning.proofs.Public.{atoms_are_numbered}
+use Rattle.kp_ground_semantics.proofs.Public.{atoms_are_numbered}
 use Rattle.kp_init.specs.Initial.{item_clauses, closed_of, initial_over, initial_of}
 use Rattle.kp_classic.specs.Grounded.{is_known}
-use Rattle.kp_law_files.proofs.Public.{formula_by_number_is_over_atoms}
+use Rattle.kp_law_translation.proofs.Public.{formula_by_number_is_over_atoms}
 use Rattle.kp_run_classical.specs.Certain.{has_units, SaysAtMostOneState}
 use Rattle.kp_run_classical.specs.Classical.{IsCertain}
 use Rattle.kp_run_classical.specs.Numbered.{is_fact, HasFacts}

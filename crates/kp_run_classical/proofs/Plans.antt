@@ -8,14 +8,14 @@ use Rattle.kp_base.specs.Steps as on_atoms
 use Rattle.kp_base.specs.Steps.{IsGroundPlan}
 use Rattle.kp_tree_grammar.specs.declared.tree.Word.{Word}
 use Rattle.kp_tree_grammar.specs.Trees.{Domain, Problem}
-use Rattle.kp_names_meaning.specs.Numbering.{numbered_problem}
+use Rattle.kp_names_semantics.specs.Numbering.{numbered_problem}
 use Rattle.kp_base.specs.ActionNames.{action_name}
 use Rattle.kp_init.proofs.Public.{plan_of_texts}
 use Rattle.kp_classic.specs.Grounded.{SaysOneState, DoesTheSame}
 use Rattle.kp_classic.specs.Steps.{start}
 use Rattle.kp_classic.proofs.Public.{task_succeeds_the_same, task_does_the_same}
-use Rattle.kp_law_files.specs.Translations.{ground_of, initial_of}
-use Rattle.kp_law_files.proofs.Public.{initial_states_are_models}
+use Rattle.kp_law_translation.specs.Translations.{ground_of, initial_of}
+use Rattle.kp_law_translation.proofs.Public.{initial_states_are_models}
 use Rattle.kp_run_prepare.specs.Texts.{HaveTrees}
 use Rattle.kp_run_prepare.proofs.Public.{problem_of_trees, numbers_of_names_once}
 use Rattle.kp_run_classical.specs.Classical.{IsClassicalProblem, task_of}

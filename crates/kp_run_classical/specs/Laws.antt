@@ -2,11 +2,11 @@
 use Rattle.std.specs.Prelude.{◌≡◌, ◌↔◌, ℕ, List, true, Some, map}
 use Rattle.kp_tree_grammar.specs.declared.tree.Word.{Word}
 use Rattle.kp_tree_grammar.specs.Trees.{Domain, Problem}
-use Rattle.kp_names_meaning.specs.Steps.{Step}
-use Rattle.kp_names_meaning.specs.Plans.{IsPlan}
+use Rattle.kp_names_semantics.specs.Steps.{Step}
+use Rattle.kp_names_semantics.specs.Plans.{IsPlan}
 use Rattle.kp_base.specs.ActionNames.{action_name}
 use Rattle.kp_classic.specs.Steps.{start, succeeds}
-use Rattle.kp_law_files.specs.Translations.{ground_of}
+use Rattle.kp_law_translation.specs.Translations.{ground_of}
 use Rattle.kp_run_prepare.specs.Texts.{HaveTrees}
 use Rattle.kp_run_classical.specs.Classical.{IsClassicalProblem, task_of}
 

@@ -6,9 +6,9 @@ use Rattle.kp_base.specs.declared.ground.Initial.{Initial}
 use Rattle.kp_base.specs.declared.refused.Refused.{Refused}
 use Rattle.kp_base.specs.declared.refused.Refused.TheVariants as refusals
 use Rattle.kp_base.specs.Entailed.{HasModel, HasNoModel}
-use Rattle.kp_names_meaning.specs.declared.lifted.Item.{Item}
-use Rattle.kp_names_meaning.specs.Numbered.{Lifted as Numbers}
-use Rattle.kp_ground_meaning.specs.Ground.{ground_of}
+use Rattle.kp_names_semantics.specs.declared.lifted.Item.{Item}
+use Rattle.kp_names_semantics.specs.Numbered.{Lifted as Numbers}
+use Rattle.kp_ground_semantics.specs.Ground.{ground_of}
 use Rattle.kp_ground.specs.Grounded.{IsGrounded, RefusesGround}
 use Rattle.kp_init.specs.Initial.{initial_of}
 use Rattle.kp_classic.specs.Grounded.{task_of}

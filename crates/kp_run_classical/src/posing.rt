@@ -1,7 +1,7 @@
 ghost use Rattle.std.specs.Prelude.{◌≡◌, Some, None, List, ℕ, IfOk, length};
 ghost use Rattle.kp_base.specs.Implicates.{IsOfItsAtoms};
 ghost use Rattle.kp_base.specs.Files.{most_bytes};
-ghost use Rattle.kp_ground_meaning.specs.Ground.{ground_of};
+ghost use Rattle.kp_ground_semantics.specs.Ground.{ground_of};
 ghost use Rattle.kp_init.specs.Initial.{initial_of};
 ghost use Rattle.kp_names.specs.View.{lifted_view};
 ghost use Rattle.kp_classic.specs.Fits.{IsFit};

@@ -13,11 +13,11 @@ use Rattle.kp_tree_grammar.specs.declared.symbol.Symbol.{Symbol}
 use Rattle.kp_tree_grammar.specs.declared.tree.Word.{Word}
 use Rattle.kp_tree_grammar.specs.Language.{Lit, Tok, seen_in, all_seen_in, Sort, s_list, El, Form, many, ReadBy, r_end, r_more, ReadsAs}
 use Rattle.kp_tree_grammar.proofs.Public.{reading_shrinks}
-use Rattle.kp_names_meaning.specs.GroundNames.{same_name}
-use Rattle.kp_tags_merges.specs.declared.merge.FileMerge.{FileMerge}
-use Rattle.kp_tags_merges.specs.Grammar.{MergeTree}
-use Rattle.kp_tags_merges.specs.Numbers.{IsLit, IsTag, IsMerge}
-use Rattle.kp_tags_merges.specs.MergesFiles.{IsMergesOf}
+use Rattle.kp_names_semantics.specs.GroundNames.{same_name}
+use Rattle.kp_tags_files.specs.declared.merge.FileMerge.{FileMerge}
+use Rattle.kp_tags_files.specs.Grammar.{MergeTree}
+use Rattle.kp_tags_files.specs.Numbers.{IsLit, IsTag, IsMerge}
+use Rattle.kp_tags_files.specs.MergesFiles.{IsMergesOf}
 use Rattle.kp_plans.specs.declared.step.PlanStep.{PlanStep}
 use Rattle.kp_plans.specs.Names.{number_of}
 use Rattle.kp_plans.specs.PlanFiles.{step_of, IsPlanOf}

@@ -7,17 +7,17 @@ use Rattle.kp_base.specs.declared.ground.Ground.{Ground}
 use Rattle.kp_base.specs.declared.ground.GroundName.{GroundName}
 use Rattle.kp_tree_grammar.specs.declared.tree.Word.{Word}
 use Rattle.kp_tree_grammar.specs.Trees.{Domain, Problem}
-use Rattle.kp_names_meaning.specs.Faults.{HasNoFault}
-use Rattle.kp_names_meaning.specs.Names.{same, all_same}
-use Rattle.kp_names_meaning.specs.GroundNames.{same_name}
+use Rattle.kp_names_semantics.specs.Faults.{HasNoFault}
+use Rattle.kp_names_semantics.specs.Names.{same, all_same}
+use Rattle.kp_names_semantics.specs.GroundNames.{same_name}
 use Rattle.kp_base.proofs.Lists.{same-true, same-refl}
-use Rattle.kp_names_meaning.proofs.Public.{all_same_names-true, all_same_names-refl}
+use Rattle.kp_names_semantics.proofs.Public.{all_same_names-true, all_same_names-refl}
 use Rattle.kp_base.specs.ActionNames.{action_name}
-use Rattle.kp_ground_meaning.proofs.Public.{actions_named_once}
+use Rattle.kp_ground_semantics.proofs.Public.{actions_named_once}
 use Rattle.kp_plans.specs.declared.step.PlanStep.{PlanStep}
 use Rattle.kp_plans.specs.PlanFiles.{step_names}
 use Rattle.kp_plans.specs.Found.{action_names, action_of}
-use Rattle.kp_law_files.specs.Translations.{ground_of}
+use Rattle.kp_law_translation.specs.Translations.{ground_of}
 pub use Rattle.kp_run_prepare.proofs.Public.{numbers_of_names_once as numbers_once}
 
 -- ---- the action that a step names has its name

@@ -6,9 +6,9 @@ use Rattle.kp_base.specs.declared.ground.TagTable.{TagTable}
 use Rattle.kp_base.specs.declared.limits.Mode.{Mode}
 use Rattle.kp_base.specs.declared.refused.Refused.{Refused}
 use Rattle.kp_base.specs.declared.refused.Stop.TheVariants as stops
-use Rattle.kp_tags_merges.specs.declared.merge.FileMerge.{FileMerge}
-use Rattle.kp_tags_merges.specs.MergesFiles.{IsMergesOf}
-use Rattle.kp_tags_merges.proofs.Public.{merges_read_once, merges_refuse_once, merges_never_both}
+use Rattle.kp_tags_files.specs.declared.merge.FileMerge.{FileMerge}
+use Rattle.kp_tags_files.specs.MergesFiles.{IsMergesOf}
+use Rattle.kp_tags_files.proofs.Public.{merges_read_once, merges_refuse_once, merges_never_both}
 use Rattle.kp_tags.specs.Answers.{Accepts, RefusesTable}
 use Rattle.kp_tags.specs.Made.{IsMade, RefusesMade}
 use Rattle.kp_tags.proofs.Public.{made_table_once}

@@ -8,7 +8,7 @@ use Rattle.kp_base.specs.declared.limits.Mode.{Mode}
 use Rattle.kp_base.specs.declared.refused.Part.TheVariants as parts
 use Rattle.kp_base.specs.declared.refused.Refused.{Refused}
 use Rattle.kp_base.specs.declared.refused.Refused.TheVariants as refusals
-use Rattle.kp_tags_merges.proofs.Public.{merges_always_one}
+use Rattle.kp_tags_files.proofs.Public.{merges_always_one}
 use Rattle.kp_law_decidable.specs.Laws.{AreProper}
 use Rattle.kp_law_decidable.proofs.Public.{tables_decided, made_decided}
 use Rattle.kp_run_messages.specs.Refusals.{Named, nothing}

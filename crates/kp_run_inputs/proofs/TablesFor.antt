@@ -14,8 +14,8 @@ use Rattle.kp_base.specs.Lists.{Member}
 use Rattle.kp_base.specs.Implicates.{IsOfItsAtoms}
 use Rattle.kp_tree_grammar.specs.declared.tree.Word.{Word}
 use Rattle.kp_tree_grammar.specs.Trees.{Domain, Problem}
-use Rattle.kp_names_meaning.specs.Numbering.{numbered_problem}
-use Rattle.kp_tags_merges.specs.declared.merge.FileMerge.{FileMerge}
+use Rattle.kp_names_semantics.specs.Numbering.{numbered_problem}
+use Rattle.kp_tags_files.specs.declared.merge.FileMerge.{FileMerge}
 use Rattle.kp_cover.proofs.Public.{target_is_below}
 use Rattle.kp_tags_modes.proofs.Public.{merges_of_modes_are_good}
 use Rattle.kp_write.specs.Grounds.{IsOfAtom}
@@ -24,8 +24,8 @@ use Rattle.kp_law_ktask.specs.Weight.{merge_weight}
 use Rattle.kp_law_ktask.proofs.Public.{weight_is_counted}
 use Rattle.kp_ktask.specs.Translated.{FitsLimits}
 use Rattle.kp_tags.specs.MergeTables.{used_tags, numbered}
-use Rattle.kp_law_files.specs.Translations.{ground_of, initial_of}
-use Rattle.kp_law_files.specs.Tables.{IsTableFor}
+use Rattle.kp_law_translation.specs.Translations.{ground_of, initial_of}
+use Rattle.kp_law_translation.specs.Tables.{IsTableFor}
 use Rattle.kp_run_prepare.specs.Prepared.{usual, IsSmall}
 use Rattle.kp_run_prepare.proofs.Public.{usual_ground_is_of_its_atoms}
 use Rattle.kp_words.specs.Names.{Source}

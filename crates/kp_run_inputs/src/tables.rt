@@ -17,7 +17,7 @@ use kp_outside::Got;
 use kp_relevance::Relevance;
 use kp_run_prepare::{Early, Prepared, ended_by, ended_in};
 use kp_tags::{accept_merges, make};
-use kp_tags_merges::{FileMerge, read_merges};
+use kp_tags_files::{FileMerge, read_merges};
 use std::alloc::Global;
 
 // The table of a mode.

@@ -9,14 +9,14 @@ use Rattle.kp_base.specs.declared.ground.Ground.{Ground}
 use Rattle.kp_base.specs.Lists.{Member}
 use Rattle.kp_base.specs.Implicates.{IsOfItsAtoms}
 use Rattle.kp_base.proofs.Lists.{member_at}
-use Rattle.kp_names_meaning.specs.Numbered.{Lifted}
-use Rattle.kp_ground_meaning.specs.Ground.{kept_instances, ground_atoms, atom_name, ground_of}
+use Rattle.kp_names_semantics.specs.Numbered.{Lifted}
+use Rattle.kp_ground_semantics.specs.Ground.{kept_instances, ground_atoms, atom_name, ground_of}
 use Rattle.kp_ground_instances.specs.Counts.{IsWithinLimits}
 use Rattle.kp_ground.specs.Grounded.{IsGrounded}
 use Rattle.kp_ground.specs.Passes.{action_at}
 use Rattle.kp_ground.proofs.Public.{actions_of_schemas_in_order}
 use Rattle.kp_base.specs.Counted.{IsCounted}
-use Rattle.kp_law_files.proofs.Public.{actions_light, ground_is_of_its_atoms}
+use Rattle.kp_law_translation.proofs.Public.{actions_light, ground_is_of_its_atoms}
 use Rattle.kp_law_ktask.specs.Weight.{both_weight, action_weight}
 use Rattle.kp_run_prepare.specs.Prepared.{usual}
 

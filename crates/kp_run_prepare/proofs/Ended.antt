@@ -7,21 +7,21 @@ use Rattle.kp_base.specs.declared.refused.Refused.TheVariants as refusals
 use Rattle.kp_base.specs.declared.refused.Stop.{Stop}
 use Rattle.kp_base.specs.declared.refused.Stop.TheVariants as causes
 use Rattle.kp_base.specs.Exclusive.{ClashesFirst, IsClashFree}
-use Rattle.kp_law_machine.specs.Formulas.{SayTheSame}
-use Rattle.kp_law_machine.proofs.Public.{same_models_say_the_same as same_models}
+use Rattle.kp_law_tagged_machine.specs.Formulas.{SayTheSame}
+use Rattle.kp_law_tagged_machine.proofs.Public.{same_models_say_the_same as same_models}
 use Rattle.kp_tree_grammar.specs.declared.tree.Word.{Word}
 use Rattle.kp_tree_grammar.specs.Trees.{Domain, Problem}
-use Rattle.kp_names_meaning.specs.Numbered.{Lifted as Numbers}
-use Rattle.kp_names_meaning.specs.Numbering.{numbered_problem}
-use Rattle.kp_names_meaning.specs.Initial.{HasInitialState}
-use Rattle.kp_names_lifted.specs.declared.lifted.Lifted.{Lifted}
+use Rattle.kp_names_semantics.specs.Numbered.{Lifted as Numbers}
+use Rattle.kp_names_semantics.specs.Numbering.{numbered_problem}
+use Rattle.kp_names_semantics.specs.Initial.{HasInitialState}
+use Rattle.kp_names_numbered.specs.declared.lifted.Lifted.{Lifted}
 use Rattle.kp_names.specs.View.{lifted_view}
-use Rattle.kp_ground_meaning.specs.Ground.{ground_of}
+use Rattle.kp_ground_semantics.specs.Ground.{ground_of}
 use Rattle.kp_ground.specs.Grounded.{IsGrounded, RefusesGround}
 use Rattle.kp_init.specs.Initial.{initial_of}
 use Rattle.kp_primes.specs.Held.{Held, formula}
 use Rattle.kp_primes.specs.Answers.{HoldsPrimes, HasNoState, RefusesPrimes, too_many, no_state}
-use Rattle.kp_law_files.proofs.Public.{initial_states_are_models}
+use Rattle.kp_law_translation.proofs.Public.{initial_states_are_models}
 use Rattle.kp_run_messages.specs.Refusals.{nothing}
 use Rattle.kp_run_outcome.specs.declared.outcome.Outcome.{Outcome}
 use Rattle.kp_run_prepare.specs.declared.prepared.Prepared.{Prepared as Made}

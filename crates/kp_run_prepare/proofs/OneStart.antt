@@ -9,14 +9,14 @@ use Rattle.kp_base.specs.declared.ground.Ground.{Ground}
 use Rattle.kp_base.specs.declared.ground.Initial.{Initial}
 use Rattle.kp_base.specs.declared.limits.Limits.{Limits}
 use Rattle.kp_base.specs.Implicates.{prefix_of, IsLeastOver, IsNeverOver}
-use Rattle.kp_law_machine.proofs.Public.{no_clash_where_free, first_clash_under_any_exclusive}
+use Rattle.kp_law_tagged_machine.proofs.Public.{no_clash_where_free, first_clash_under_any_exclusive}
 use Rattle.kp_primes.proofs.Public.{not_more_and_at_most}
 use Rattle.kp_clash.proofs.Public.{first_clash_once}
-use Rattle.kp_names_meaning.specs.Numbered.{Lifted}
-use Rattle.kp_names_meaning.specs.Numbering.{numbered_problem}
+use Rattle.kp_names_semantics.specs.Numbered.{Lifted}
+use Rattle.kp_names_semantics.specs.Numbering.{numbered_problem}
 use Rattle.kp_ground_instances.specs.Counts.{IsWithinLimits, RefusesCounts, bindings_over, actions_over, effects_over}
 use Rattle.kp_ground.specs.Grounded.{IsGrounded, RefusesGround, counts_over, atoms_over}
-use Rattle.kp_law_files.specs.Translations.{ground_of, initial_of}
+use Rattle.kp_law_translation.specs.Translations.{ground_of, initial_of}
 use Rattle.kp_run_messages.specs.Refusals.{Named, nothing}
 use Rattle.kp_run_outcome.specs.declared.outcome.Outcome.{Outcome}
 use Rattle.kp_run_prepare.specs.Texts.{HaveTrees}

@@ -5,7 +5,7 @@ use Rattle.kp_tree_grammar.specs.Trees.{Domain, Problem}
 use Rattle.kp_tree_grammar.specs.Grammar as grammar
 use Rattle.kp_base.specs.declared.refused.Part.TheVariants as parts
 use Rattle.kp_base.specs.declared.refused.Refused.{Refused}
-use Rattle.kp_names_meaning.specs.Faults.{Fault, domain_faults, problem_faults, HasNoFault}
+use Rattle.kp_names_semantics.specs.Faults.{Fault, domain_faults, problem_faults, HasNoFault}
 use Rattle.kp_tree.proofs.Public.{files_read_once, files_refuse_once, files_never_both}
 use Rattle.kp_names.specs.Resolved.{first_fault, refusal_of, RefusesNames, in_domain, in_problem}
 use Rattle.kp_run_prepare.specs.Texts.{HaveTrees, RefusesTexts, of_domain, of_problem, of_names}

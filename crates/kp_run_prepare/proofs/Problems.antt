@@ -3,11 +3,11 @@ use Rattle.std.proofs.Common.{◌≡◌, ℕ, List, [], ◌∷◌, Some, map, re
 use Rattle.kp_base.specs.declared.ground.GroundName.{GroundName}
 use Rattle.kp_tree_grammar.specs.declared.tree.Word.{Word}
 use Rattle.kp_tree_grammar.specs.Trees.{Domain, Problem}
-use Rattle.kp_names_meaning.specs.Faults.{HasNoFault}
-use Rattle.kp_names_meaning.specs.Plans.{HasProblem}
+use Rattle.kp_names_semantics.specs.Faults.{HasNoFault}
+use Rattle.kp_names_semantics.specs.Plans.{HasProblem}
 use Rattle.kp_base.specs.ActionNames.{action_name}
-use Rattle.kp_ground_meaning.proofs.Public.{actions_named_once}
-use Rattle.kp_law_files.specs.Translations.{ground_of}
+use Rattle.kp_ground_semantics.proofs.Public.{actions_named_once}
+use Rattle.kp_law_translation.specs.Translations.{ground_of}
 use Rattle.kp_run_prepare.specs.Texts.{HaveTrees}
 
 -- the problem of two texts that have these trees

@@ -14,7 +14,7 @@ use Rattle.kp_tree_grammar.specs.Sorts.{Sort, El}
 use Rattle.kp_tree_grammar.specs.Forms.{Form}
 use Rattle.kp_tree_grammar.specs.Trees.{Domain, Problem}
 use Rattle.kp_tree.specs.Files.{HasTree, Refuses, AnswersFile}
-use Rattle.kp_names_lifted.specs.declared.lifted.Lifted.{Lifted}
+use Rattle.kp_names_numbered.specs.declared.lifted.Lifted.{Lifted}
 use Rattle.kp_names.specs.Resolved.{RefusesNames, AnswersNames}
 use Rattle.kp_run_prepare.specs.Texts.{IsProblemOf}
 

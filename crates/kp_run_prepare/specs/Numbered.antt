@@ -7,8 +7,8 @@ use Rattle.kp_base.specs.Exclusive.{ClashesFirst, IsClashFree}
 use Rattle.kp_base.specs.Entailed.{HasModel}
 use Rattle.kp_base.specs.Implicates.{IsLeastOver, IsNeverOver}
 use Rattle.kp_primes.specs.Answers.{HasNoState, HoldsPrimes}
-use Rattle.kp_names_meaning.specs.Numbered.{Lifted as Numbers}
-use Rattle.kp_ground_meaning.specs.Ground.{ground_of}
+use Rattle.kp_names_semantics.specs.Numbered.{Lifted as Numbers}
+use Rattle.kp_ground_semantics.specs.Ground.{ground_of}
 use Rattle.kp_ground.specs.Grounded.{IsGrounded, RefusesGround}
 use Rattle.kp_init.specs.Initial.{initial_of}
 use Rattle.kp_run_messages.specs.Refusals.{nothing}

@@ -8,11 +8,11 @@ use Rattle.kp_base.specs.Exclusive.{ClashesFirst, IsClashFree}
 use Rattle.kp_base.specs.Implicates.{IsOfItsAtoms, IsLeastOver, IsNeverOver}
 use Rattle.kp_tree_grammar.specs.declared.tree.Word.{Word}
 use Rattle.kp_tree_grammar.specs.Trees.{Domain, Problem}
-use Rattle.kp_names_meaning.specs.Initial.{HasInitialState}
-use Rattle.kp_names_meaning.specs.Numbering.{numbered_problem}
+use Rattle.kp_names_semantics.specs.Initial.{HasInitialState}
+use Rattle.kp_names_semantics.specs.Numbering.{numbered_problem}
 use Rattle.kp_ground.specs.Grounded.{IsGrounded, RefusesGround}
 use Rattle.kp_primes.specs.Answers.{HoldsPrimes}
-use Rattle.kp_law_files.specs.Translations.{ground_of, initial_of}
+use Rattle.kp_law_translation.specs.Translations.{ground_of, initial_of}
 use Rattle.kp_run_messages.specs.Refusals.{Named, nothing}
 use Rattle.kp_run_outcome.specs.declared.outcome.Outcome.{Outcome}
 use Rattle.kp_run_prepare.specs.declared.prepared.Prepared.{Prepared as Made}

@@ -5,9 +5,9 @@ use Rattle.kp_base.specs.declared.refused.Refused.{Refused}
 use Rattle.kp_tree_grammar.specs.declared.tree.Word.{Word}
 use Rattle.kp_tree_grammar.specs.Trees.{Domain, Problem}
 use Rattle.kp_tree_grammar.specs.Grammar as grammar
-use Rattle.kp_names_meaning.specs.Faults.{HasNoFault}
+use Rattle.kp_names_semantics.specs.Faults.{HasNoFault}
 use Rattle.kp_tree.specs.Files.{HasTree, Refuses}
-use Rattle.kp_names_lifted.specs.declared.lifted.Lifted.{Lifted}
+use Rattle.kp_names_numbered.specs.declared.lifted.Lifted.{Lifted}
 use Rattle.kp_names.specs.Resolved.{RefusesNames, IsResolved}
 
 -- the files have these trees, in which no name is at fault

@@ -2,8 +2,8 @@ ghost use Rattle.std.specs.Prelude.{◌≡◌, ◌≤◌, Some, Err, List, ℕ, 
 ghost use Rattle.kp_base.specs.declared.refused.Refused.TheVariants as refusals;
 ghost use Rattle.kp_base.specs.declared.refused.Stop.TheVariants as causes;
 ghost use Rattle.kp_base.specs.Planning.{IsOfItsAtoms, IsClashFree, IsCounted, most_bytes};
-ghost use Rattle.kp_names_meaning.specs.Numbered.{Lifted as Numbers};
-ghost use Rattle.kp_ground_meaning.specs.Ground.{ground_of};
+ghost use Rattle.kp_names_semantics.specs.Numbered.{Lifted as Numbers};
+ghost use Rattle.kp_ground_semantics.specs.Ground.{ground_of};
 ghost use Rattle.kp_init.specs.Initial.{initial_of};
 ghost use Rattle.kp_names.specs.View.{lifted_view};
 ghost use Rattle.kp_outside.specs.Outside.{IsFront, IsWithin};

@@ -8,7 +8,7 @@ use Rattle.kp_base.specs.declared.ground.TagTable.{TagTable}
 use Rattle.kp_base.specs.declared.ground.Action.{Action}
 use Rattle.kp_base.specs.Machine.{MachineStep, stripped}
 use Rattle.kp_base.proofs.Places.{element}
-use Rattle.kp_names_meaning.specs.Steps.{Step}
+use Rattle.kp_names_semantics.specs.Steps.{Step}
 use Rattle.kp_law_ktask.specs.Task.{task_of}
 use Rattle.kp_law_ktask.specs.Laws.{op_number}
 use Rattle.kp_base.specs.ActionNames.{action_name}

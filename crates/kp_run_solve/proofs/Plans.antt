@@ -5,7 +5,7 @@ use Rattle.kp_base.specs.declared.ground.Ground.{Ground}
 use Rattle.kp_base.specs.declared.ground.TagTable.{TagTable}
 use Rattle.kp_base.specs.Machine.{MachineStep}
 use Rattle.kp_classic.specs.Steps.{start, succeeds}
-use Rattle.kp_names_meaning.specs.Steps.{Step}
+use Rattle.kp_names_semantics.specs.Steps.{Step}
 use Rattle.kp_write.specs.Task.{Op}
 use Rattle.kp_write.specs.Runs.{step_of}
 use Rattle.kp_law_ktask.specs.Task.{task_of}

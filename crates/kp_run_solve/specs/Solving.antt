@@ -7,7 +7,7 @@ use Rattle.kp_base.specs.declared.lit.Lit.{Lit}
 use Rattle.kp_base.specs.declared.refused.Refused.{Refused}
 use Rattle.kp_base.specs.Covering.{AreUncovered}
 use Rattle.kp_base.specs.Machine.{MachineStep, stripped}
-use Rattle.kp_names_meaning.specs.Steps.{Step}
+use Rattle.kp_names_semantics.specs.Steps.{Step}
 use Rattle.kp_classic.specs.declared.task.Task.{Task}
 use Rattle.kp_search.specs.declared.found.Found.{Found}
 use Rattle.kp_search.specs.declared.found.Found.TheVariants.{Plan, NoPlan, Spent}

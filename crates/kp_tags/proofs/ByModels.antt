@@ -7,10 +7,10 @@ use Rattle.kp_base.specs.declared.ground.TagTable.{TagTable}
 use Rattle.kp_base.specs.declared.refused.Refused.{Refused}
 use Rattle.kp_base.specs.declared.refused.Stop.TheVariants as stops
 use Rattle.kp_base.specs.Entailed.{IsConsistent, IsClosure, HaveSameModels}
-use Rattle.kp_primes_models.specs.Ordered.{AreFirst}
-use Rattle.kp_primes_models.proofs.Public.{first_by_passing}
+use Rattle.kp_primes_first_model.specs.Ordered.{AreFirst}
+use Rattle.kp_primes_first_model.proofs.Public.{first_by_passing}
 use Rattle.kp_cover.specs.Valid.{satisfies_one, is_outside}
-use Rattle.kp_tags_merges.specs.declared.merge.FileMerge.{FileMerge}
+use Rattle.kp_tags_files.specs.declared.merge.FileMerge.{FileMerge}
 use Rattle.kp_tags.specs.MergeTables.{IsTableOf}
 use Rattle.kp_tags.specs.Answers.{AreConsistent, IsFirstInconsistent, AreAcceptable, RefusesMerge, inconsistent, invalid, AreAllAcceptable, RefusesTable, at_fault, tags_over}
 use Rattle.kp_tags.specs.Laws.{TablesGoByModels}

@@ -7,11 +7,11 @@ use Rattle.kp_base.specs.declared.lit.AtomId.{AtomId}
 use Rattle.kp_base.specs.declared.ground.TagRow.{TagRow}
 use Rattle.kp_base.specs.declared.refused.Refused.TheVariants as refusals
 use Rattle.kp_base.specs.Planning.{Member, positive, IsAscending, State, holds, is_model, ComesBefore, IsConsistent, AreValid, IsTable}
-use Rattle.kp_law_machine.proofs.Public.{cells_ground, one_cell_is_full, cells_table, cells_table_is_right as right, cells_merges_are_valid as valid}
+use Rattle.kp_law_tagged_machine.proofs.Public.{cells_ground, one_cell_is_full, cells_table, cells_table_is_right as right, cells_merges_are_valid as valid}
 use Rattle.kp_primes.specs.Held.{Held}
-use Rattle.kp_primes_models.specs.Ordered.{state_of_atoms, AreFirst}
+use Rattle.kp_primes_first_model.specs.Ordered.{state_of_atoms, AreFirst}
 use Rattle.kp_cover.specs.Valid.{satisfies_one, AreValidTags, is_outside}
-use Rattle.kp_tags_merges.specs.declared.merge.FileMerge.{FileMerge}
+use Rattle.kp_tags_files.specs.declared.merge.FileMerge.{FileMerge}
 use Rattle.kp_tags.specs.MergeTables.{IsTableOf}
 use Rattle.kp_tags.specs.Answers.{AreConsistent, AreAcceptable, AreAllAcceptable, RefusesMerge, Accepts, RefusesTable}
 use Rattle.kp_tags.proofs.Right as tables

@@ -8,7 +8,7 @@ use Rattle.kp_base.specs.declared.refused.Stop.TheVariants as stops
 use Rattle.kp_base.specs.Lists.{Member, each_once}
 use Rattle.kp_base.specs.Entailed.{IsConsistent, HasModel}
 use Rattle.kp_base.proofs.Lists.{append_member, flat_member, filter_member}
-use Rattle.kp_tags_merges.specs.declared.merge.FileMerge.{FileMerge}
+use Rattle.kp_tags_files.specs.declared.merge.FileMerge.{FileMerge}
 use Rattle.kp_base.specs.LitSet.{same_set}
 use Rattle.kp_tags.specs.MergeTables.{used_tags}
 use Rattle.kp_tags.specs.Answers.{AreConsistent, AreAcceptable, AreAllAcceptable, AnswersMerges, RefusesTable, AnswersTable}

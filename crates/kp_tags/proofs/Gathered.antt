@@ -10,7 +10,7 @@ use Rattle.kp_base.proofs.Lits.{contains_has, has_contains}
 use Rattle.kp_base.proofs.Ascending.{same_members}
 use Rattle.kp_base.proofs.Sets.{same_sets, any-set_of, set_ascends}
 use Rattle.kp_base.proofs.Once.{once_by_one}
-use Rattle.kp_tags_merges.specs.declared.merge.FileMerge.{FileMerge}
+use Rattle.kp_tags_files.specs.declared.merge.FileMerge.{FileMerge}
 use Rattle.kp_tags.specs.MergeTables.{used_tags}
 use Rattle.kp_tags.specs.Kept.{AreSets, with_tag}
 

@@ -13,9 +13,9 @@ use Rattle.kp_base.specs.declared.refused.Refused.{Refused}
 use Rattle.kp_base.specs.declared.lit.AtomId.{AtomId}
 use Rattle.kp_base.specs.Planning.{Member, is_model, IsOfItsAtoms, HaveSameModels}
 use Rattle.kp_base.proofs.Lists.{member_at}
-use Rattle.kp_primes_models.specs.Ordered.{state_of_atoms, AreFirst}
+use Rattle.kp_primes_first_model.specs.Ordered.{state_of_atoms, AreFirst}
 use Rattle.kp_cover.specs.Valid.{AreValidTags, satisfies_one, is_outside}
-use Rattle.kp_tags_merges.specs.declared.merge.FileMerge.{FileMerge}
+use Rattle.kp_tags_files.specs.declared.merge.FileMerge.{FileMerge}
 use Rattle.kp_tags_modes.specs.Modes.{way_of, AreMergesOf}
 use Rattle.kp_tags_modes.specs.Answers.{AnswersMode}
 use Rattle.kp_tags_modes.proofs.Public.{merges_of_modes_are_good, modes_have_one_answer, same_models_back}

@@ -11,7 +11,7 @@ use Rattle.kp_base.specs.declared.ground.TagTable.{TagTable}
 use Rattle.kp_base.specs.Planning.{Member, State, holds, tag_holds, IsValid, AreValid, same_set}
 use Rattle.kp_base.proofs.Lists.{any_from, any_map, any_weaker, map_member, member_flat_map}
 use Rattle.kp_base.proofs.Once.{any-each_once}
-use Rattle.kp_tags_merges.specs.declared.merge.FileMerge.{FileMerge}
+use Rattle.kp_tags_files.specs.declared.merge.FileMerge.{FileMerge}
 use Rattle.kp_tags.specs.MergeTables.{used_tags, number_in, numbered, IsTableOf}
 use Rattle.kp_tags.specs.Answers.{AreAllAcceptable}
 use Rattle.kp_tags.specs.Laws.{AcceptedTablesAreRight}

@@ -10,9 +10,9 @@ use Rattle.kp_base.specs.declared.refused.Refused.{Refused}
 use Rattle.kp_base.specs.declared.refused.Refused.TheVariants as refusals
 use Rattle.kp_base.specs.Lists.{Member}
 use Rattle.kp_base.specs.Entailed.{IsConsistent}
-use Rattle.kp_primes_models.specs.Ordered.{AreFirst}
+use Rattle.kp_primes_first_model.specs.Ordered.{AreFirst}
 use Rattle.kp_cover.specs.Valid.{AreValidTags, is_outside}
-use Rattle.kp_tags_merges.specs.declared.merge.FileMerge.{FileMerge}
+use Rattle.kp_tags_files.specs.declared.merge.FileMerge.{FileMerge}
 use Rattle.kp_tags.specs.MergeTables.{used_tags, IsTableOf}
 
 -- ---- one merge

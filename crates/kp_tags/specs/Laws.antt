@@ -11,7 +11,7 @@ use Rattle.kp_base.specs.declared.refused.Stop.TheVariants as stops
 use Rattle.kp_base.specs.Covering.{AreUncovered}
 use Rattle.kp_base.specs.Implicates.{IsOfItsAtoms}
 use Rattle.kp_base.specs.Entailed.{IsTable, AreValid, HaveSameModels}
-use Rattle.kp_tags_merges.specs.declared.merge.FileMerge.{FileMerge}
+use Rattle.kp_tags_files.specs.declared.merge.FileMerge.{FileMerge}
 use Rattle.kp_tags.specs.MergeTables.{IsTableOf}
 use Rattle.kp_tags.specs.Answers.{AreAllAcceptable, AnswersTable}
 use Rattle.kp_tags.specs.Made.{IsMade, AnswersMade}

@@ -9,7 +9,7 @@ use Rattle.kp_base.specs.declared.refused.Stop.{Stop}
 use Rattle.kp_base.specs.declared.refused.Stop.TheVariants as stops
 use Rattle.kp_base.specs.declared.refused.Refused.{Refused}
 use Rattle.kp_base.specs.declared.refused.Refused.TheVariants as refusals
-use Rattle.kp_tags_merges.specs.declared.merge.FileMerge.{FileMerge}
+use Rattle.kp_tags_files.specs.declared.merge.FileMerge.{FileMerge}
 use Rattle.kp_tags_modes.specs.Modes.{way_of, AreMergesOf}
 use Rattle.kp_tags_modes.specs.Answers.{RefusesMode}
 use Rattle.kp_tags.specs.MergeTables.{used_tags, IsTableOf}

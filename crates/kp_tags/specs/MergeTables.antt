@@ -7,7 +7,7 @@ use Rattle.kp_base.specs.declared.ground.TagRow.{TagRow}
 use Rattle.kp_base.specs.declared.ground.TagTable.{TagTable}
 use Rattle.kp_base.specs.declared.ground.Merge.{Merge}
 use Rattle.kp_base.specs.Planning.{Member, each_once, IsAscending, same_set, are_below, IsClosure}
-use Rattle.kp_tags_merges.specs.declared.merge.FileMerge.{FileMerge}
+use Rattle.kp_tags_files.specs.declared.merge.FileMerge.{FileMerge}
 
 -- the tags of the merge are of the first n atoms
 abbrev pub has_tags_of_atoms : ℕ → FileMerge → Bool

@@ -10,7 +10,7 @@ use crate::rows::rows;
 use crate::tags::Tags;
 use kp_base::{Limits, Memory, Refused, Row, Stop, TagTable};
 use kp_primes::Primes;
-use kp_tags_merges::FileMerge;
+use kp_tags_files::FileMerge;
 use std::alloc::Global;
 
 // The table of some merges and their tags. No merge must be at fault.

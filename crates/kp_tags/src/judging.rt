@@ -9,7 +9,7 @@ use crate::tags::as_number;
 use kp_base::{LitSet, Refused, Row, Stop};
 use kp_cover::{Validity, valid};
 use kp_primes::Primes;
-use kp_tags_merges::FileMerge;
+use kp_tags_files::FileMerge;
 use std::alloc::Global;
 
 // Where the first inconsistent tag stands, if one is inconsistent.

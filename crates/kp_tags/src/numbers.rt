@@ -3,7 +3,7 @@ ghost use Rattle.kp_tags.specs.MergeTables.{number_in, numbered};
 
 use crate::tags::Tags;
 use kp_base::{LitSet, Memory, Merge, Row};
-use kp_tags_merges::FileMerge;
+use kp_tags_files::FileMerge;
 use std::alloc::Global;
 
 // Puts the numbers of some tags behind others.

@@ -6,7 +6,7 @@ ghost use Rattle.kp_tags.specs.Kept.{AreSets, with_tag};
 
 use indexmap::IndexSet;
 use kp_base::{Lit, LitSet, Memory};
-use kp_tags_merges::FileMerge;
+use kp_tags_files::FileMerge;
 use std::alloc::Global;
 use std::marker::Model;
 

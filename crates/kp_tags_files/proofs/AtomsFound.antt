@@ -14,10 +14,10 @@ use Rattle.kp_tree_cursor.specs.declared.halt.Halt.TheVariants as halts
 use Rattle.kp_tree_cursor.specs.Lexemes.{word_of, from}
 use Rattle.kp_tree_cursor.specs.Readers.{Opened, Closed, is_of}
 use Rattle.kp_tree_cursor.proofs.Public.{class_is_no_bracket, longest_run_reads, words_of_run}
-use Rattle.kp_tags_merges.specs.Grammar.{term_text, name_of_atom}
-use Rattle.kp_tags_merges.specs.Numbers.{Numbers, IsLit}
-use Rattle.kp_tags_merges.specs.Parts.{FactStands, FactStops, IsNumberOf, IsAtom, is_denied, Halts, ReadsAt, HaltsAt}
-use Rattle.kp_tags_merges.proofs.Lits.{fact_halts, fact_unknown, plain_reads, negated_reads, plain_halts, negated_halts, negated_unclosed}
+use Rattle.kp_tags_files.specs.Grammar.{term_text, name_of_atom}
+use Rattle.kp_tags_files.specs.Numbers.{Numbers, IsLit}
+use Rattle.kp_tags_files.specs.Parts.{FactStands, FactStops, IsNumberOf, IsAtom, is_denied, Halts, ReadsAt, HaltsAt}
+use Rattle.kp_tags_files.proofs.Lits.{fact_halts, fact_unknown, plain_reads, negated_reads, plain_halts, negated_halts, negated_unclosed}
 
 -- ---- tokens from a place on
 

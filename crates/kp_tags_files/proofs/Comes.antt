@@ -4,7 +4,7 @@ use Rattle.kp_tree_grammar.specs.declared.tree.Word.{Word}
 use Rattle.kp_tree_grammar.specs.declared.symbol.Symbol.{Symbol}
 use Rattle.kp_tree_grammar.specs.Language.{Tok, first_is, is_left, Sort, s_pair, El, Maker, Form, hits, ◌▹◌, ◌▸◌, many, make, choose, bracket, At, Reads, Stops, r_both, r_after, r_end, r_more, r_make, r_choice, r_bracket, s_first, s_second, s_before, s_after, s_here, s_later, s_make, s_choice, s_unopened, s_inside, s_unclosed}
 use Rattle.kp_tree_grammar.proofs.Public.{stops_within, rest_is_no_longer, a_form_reads_once, form_never_both}
-use Rattle.kp_tags_merges.specs.Parts.{Reaches}
+use Rattle.kp_tags_files.specs.Parts.{Reaches}
 
 -- ---- into brackets
 

@@ -4,10 +4,10 @@ use Rattle.std.specs.List.{AllZip}
 use Rattle.kp_tree_grammar.specs.declared.tree.Word.{Word}
 use Rattle.kp_tree_grammar.specs.declared.symbol.Symbol.{Symbol}
 use Rattle.kp_tree_grammar.specs.Language.{Tok, first_is, is_left, is_right, Sort, El, Maker, Form, hits, ◌▹◌, ◌▸◌, many, make, choose, bracket, stop, Reads, r_end, r_more, s_first, s_second, s_after, s_here, s_later, s_make, s_choice, s_inside, s_unclosed}
-use Rattle.kp_tags_merges.specs.Numbers.{Numbers}
-use Rattle.kp_tags_merges.specs.Parts.{Walk, arrived, Halts, stopped, unknown, SoFar}
-use Rattle.kp_tags_merges.proofs.Comes.{into_bracket, behind_token, in_first_form, in_second_form, in_next, in_later, in_made, in_choice}
-use Rattle.kp_tags_merges.proofs.Walks.{follows, goes_on, has_bracket, fact_is_long}
+use Rattle.kp_tags_files.specs.Numbers.{Numbers}
+use Rattle.kp_tags_files.specs.Parts.{Walk, arrived, Halts, stopped, unknown, SoFar}
+use Rattle.kp_tags_files.proofs.Comes.{into_bracket, behind_token, in_first_form, in_second_form, in_next, in_later, in_made, in_choice}
+use Rattle.kp_tags_files.proofs.Walks.{follows, goes_on, has_bracket, fact_is_long}
 
 module _ {number : Numbers} {d e : ℕ} where
   module _ {b : Bool} {c : Sort} {X : Form b c} {t : Tok Word} {ts : List (Tok Word)} where

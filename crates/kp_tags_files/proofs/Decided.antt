@@ -8,12 +8,12 @@ use Rattle.kp_base.specs.LitSet.{set_of}
 use Rattle.kp_tree_grammar.specs.declared.tree.Word.{Word}
 use Rattle.kp_tree_grammar.specs.Language.{Atom, Lit, Tok, first_is, is_left, is_right, is_merge, is_not, Sort, El, Form, hits, many, fact, lit, At, Reads, Stops, r_end, r_more, r_bracket, r_after, r_both}
 use Rattle.kp_tree_grammar.proofs.Public.{form_reads_or_stops, reading_shrinks}
-use Rattle.kp_tags_merges.specs.Grammar.{tag, merge, merges, name_of_atom}
-use Rattle.kp_tags_merges.specs.Numbers.{Numbers, IsLit, IsTag, IsMerge}
-use Rattle.kp_tags_merges.specs.Parts.{is_denied, IsAtom, Walk, Halts}
-use Rattle.kp_tags_merges.proofs.Contexts.{halts_next, halts_later}
-use Rattle.kp_tags_merges.proofs.Lits.{fact_halts, fact_unknown, plain_reads, negated_reads, plain_halts, negated_halts, negated_unclosed, walk_lit}
-use Rattle.kp_tags_merges.proofs.Tagged.{tag_unopened, tag_halts, tag_unclosed, walk_tag, merge_unopened, merge_unled, target_halts, tags_halt, body_halts, merge_unclosed, walk_merge}
+use Rattle.kp_tags_files.specs.Grammar.{tag, merge, merges, name_of_atom}
+use Rattle.kp_tags_files.specs.Numbers.{Numbers, IsLit, IsTag, IsMerge}
+use Rattle.kp_tags_files.specs.Parts.{is_denied, IsAtom, Walk, Halts}
+use Rattle.kp_tags_files.proofs.Contexts.{halts_next, halts_later}
+use Rattle.kp_tags_files.proofs.Lits.{fact_halts, fact_unknown, plain_reads, negated_reads, plain_halts, negated_halts, negated_unclosed, walk_lit}
+use Rattle.kp_tags_files.proofs.Tagged.{tag_unopened, tag_halts, tag_unclosed, walk_tag, merge_unopened, merge_unled, target_halts, tags_halt, body_halts, merge_unclosed, walk_merge}
 
 -- the form stands there, with a value
 pub record Stands {Y : Type 0} {b : Bool} {c : Sort} (X : Form b c) (Is : El Word c → Y → Type 0) (ts : List (Tok Word)) : Type 0 where

@@ -2,8 +2,8 @@
 use Rattle.std.proofs.Common.{◌≡◌, ◌≤◌, Bool, List, [], ◌∷◌, ◌++◌, drop, length, refl, sym, subst, arith}
 use Rattle.kp_tree_grammar.specs.declared.tree.Word.{Word}
 use Rattle.kp_tree_grammar.specs.Language.{Tok, Sort, El, Form, At, ReadBy, r_token, r_none, r_both, r_after, r_end, r_more, r_last, r_next, r_absent, r_present, r_make, r_choice, r_loose, r_bracket, r_within, StopBy, s_token, s_nothing, s_first, s_second, s_before, s_after, s_here, s_later, s_lacks, s_at, s_next, s_present, s_make, s_none_there, s_choice, s_loose, s_unopened, s_inside, s_unclosed, s_within, StopsWhole, within_form, after_form}
-use Rattle.kp_tags_merges.specs.Numbers.{Numbers}
-use Rattle.kp_tags_merges.specs.MergesFiles.{IsRefused, stops, no_ground_atom}
+use Rattle.kp_tags_files.specs.Numbers.{Numbers}
+use Rattle.kp_tags_files.specs.MergesFiles.{IsRefused, stops, no_ground_atom}
 
 -- the tokens end with these
 pub data Ends : List (Tok Word) → List (Tok Word) → Type 0 where

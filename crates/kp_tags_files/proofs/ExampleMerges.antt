@@ -7,10 +7,10 @@ use Rattle.kp_base.specs.declared.ground.GroundName.{GroundName}
 use Rattle.kp_lex.specs.Bytes.{class_of}
 use Rattle.kp_tree_grammar.specs.Symbols.{symbol_of}
 use Rattle.kp_law_texts.proofs.Public.{spelled_name_is_token}
-use Rattle.kp_tags_merges.specs.declared.merge.FileMerge.{FileMerge}
-use Rattle.kp_tags_merges.specs.MergesFiles.{IsMergesOf}
-use Rattle.kp_tags_merges.specs.Printed.{CanBeWritten, IsAtomName, merges_text}
-use Rattle.kp_tags_merges.proofs.ReadsBack.{written_merges_read}
+use Rattle.kp_tags_files.specs.declared.merge.FileMerge.{FileMerge}
+use Rattle.kp_tags_files.specs.MergesFiles.{IsMergesOf}
+use Rattle.kp_tags_files.specs.Printed.{CanBeWritten, IsAtomName, merges_text}
+use Rattle.kp_tags_files.proofs.ReadsBack.{written_merges_read}
 
 -- two atoms
 abbrev p : GroundName

@@ -4,11 +4,11 @@ use Rattle.std.proofs.lemmas.Bool.{cases_lt}
 use Rattle.kp_tree_grammar.specs.declared.tree.Word.{Word}
 use Rattle.kp_tree_grammar.specs.Language.{Atom, Tok, fact, At, stop, Reads, StopsWhole, within_form, after_form}
 use Rattle.kp_tree_grammar.proofs.Public.{whole_stops_once}
-use Rattle.kp_tags_merges.specs.Grammar.{MergeTree, merges, name_of_atom}
-use Rattle.kp_tags_merges.specs.Numbers.{Numbers}
-use Rattle.kp_tags_merges.specs.MergesFiles.{AtomStands, IsRefused, stops, no_ground_atom, IsFirstRefused}
-use Rattle.kp_tags_merges.specs.Parts.{Walk, Reaches, Halts, stopped, unknown}
-use Rattle.kp_tags_merges.proofs.Walks.{has_bracket, passes, each_has_number}
+use Rattle.kp_tags_files.specs.Grammar.{MergeTree, merges, name_of_atom}
+use Rattle.kp_tags_files.specs.Numbers.{Numbers}
+use Rattle.kp_tags_files.specs.MergesFiles.{AtomStands, IsRefused, stops, no_ground_atom, IsFirstRefused}
+use Rattle.kp_tags_files.specs.Parts.{Walk, Reaches, Halts, stopped, unknown}
+use Rattle.kp_tags_files.proofs.Walks.{has_bracket, passes, each_has_number}
 
 module _ {number : Numbers} {all : List (Tok Word)} where
   -- no atom without a number stands before the end of a walk

@@ -8,11 +8,11 @@ use Rattle.kp_tree_grammar.specs.Language.{Atom, Lit, Tok, first_is, is_left, is
 use Rattle.kp_tree_grammar.proofs.Public.{a_form_reads_once, a_form_stops_once, form_never_both, form_reads_or_stops}
 use Rattle.kp_tree_cursor.specs.declared.cursor.Class.TheVariants as classes
 use Rattle.kp_tree_cursor.proofs.Public.{class_is_no_bracket}
-use Rattle.kp_tags_merges.specs.Grammar.{name_of_atom}
-use Rattle.kp_tags_merges.specs.Numbers.{Numbers, IsLit}
-use Rattle.kp_tags_merges.specs.Parts.{is_denied, Walk, arrived, word, closes, opens_inside, Reaches, Halts, stopped, unknown}
-use Rattle.kp_tags_merges.proofs.Walks.{follows, is_word, is_a_head, no_head, not_is_no_head, fact_is_long}
-use Rattle.kp_tags_merges.proofs.Contexts.{halts_inside, halts_unclosed, halts_after, halts_made, halts_choice}
+use Rattle.kp_tags_files.specs.Grammar.{name_of_atom}
+use Rattle.kp_tags_files.specs.Numbers.{Numbers, IsLit}
+use Rattle.kp_tags_files.specs.Parts.{is_denied, Walk, arrived, word, closes, opens_inside, Reaches, Halts, stopped, unknown}
+use Rattle.kp_tags_files.proofs.Walks.{follows, is_word, is_a_head, no_head, not_is_no_head, fact_is_long}
+use Rattle.kp_tags_files.proofs.Contexts.{halts_inside, halts_unclosed, halts_after, halts_made, halts_choice}
 
 -- ---- atoms
 

@@ -11,15 +11,15 @@ use Rattle.kp_tree_cursor.specs.declared.halt.Halt.{Halt}
 use Rattle.kp_tree_cursor.specs.declared.halt.Halt.TheVariants as halts
 use Rattle.kp_tree_cursor.specs.Lexemes.{from}
 use Rattle.kp_tree_cursor.specs.Readers.{Opened, Closed, Led}
-use Rattle.kp_tags_merges.specs.declared.merge.FileMerge.{FileMerge}
-use Rattle.kp_tags_merges.specs.Grammar.{tag, merge_body, merge, merges}
-use Rattle.kp_tags_merges.specs.Numbers.{Numbers, IsLit, IsTag, IsMerge}
-use Rattle.kp_tags_merges.specs.MergesFiles.{IsFirstRefused}
-use Rattle.kp_tags_merges.specs.Parts.{Walk, ReadsAt, Adds, HaltsBelow, HaltsAt, SoFar, LitsSoFar, AreMergesOf, AnswersTokens}
-use Rattle.kp_tags_merges.proofs.Contexts.{none_so_far, one_more, at_end, next_halts}
-use Rattle.kp_tags_merges.proofs.Lits.{walk_lit}
-use Rattle.kp_tags_merges.proofs.Tagged.{tag_unopened, tag_halts, tag_unclosed, merge_unopened, merge_unled, target_halts, tags_halt, body_halts, merge_unclosed}
-use Rattle.kp_tags_merges.proofs.Firsts.{first_is as is_first, first_behind}
+use Rattle.kp_tags_files.specs.declared.merge.FileMerge.{FileMerge}
+use Rattle.kp_tags_files.specs.Grammar.{tag, merge_body, merge, merges}
+use Rattle.kp_tags_files.specs.Numbers.{Numbers, IsLit, IsTag, IsMerge}
+use Rattle.kp_tags_files.specs.MergesFiles.{IsFirstRefused}
+use Rattle.kp_tags_files.specs.Parts.{Walk, ReadsAt, Adds, HaltsBelow, HaltsAt, SoFar, LitsSoFar, AreMergesOf, AnswersTokens}
+use Rattle.kp_tags_files.proofs.Contexts.{none_so_far, one_more, at_end, next_halts}
+use Rattle.kp_tags_files.proofs.Lits.{walk_lit}
+use Rattle.kp_tags_files.proofs.Tagged.{tag_unopened, tag_halts, tag_unclosed, merge_unopened, merge_unled, target_halts, tags_halt, body_halts, merge_unclosed}
+use Rattle.kp_tags_files.proofs.Firsts.{first_is as is_first, first_behind}
 
 -- ---- repetitions
 

@@ -18,15 +18,15 @@ use Rattle.kp_tree_grammar.specs.Reading.{Reads, ReadsWhole}
 use Rattle.kp_tree_grammar.proofs.Public.{whole_reads_once, whole_never_both}
 use Rattle.kp_tree_cursor.specs.Lexemes.{byte_at}
 use Rattle.kp_plans.specs.Names.{number_of}
-use Rattle.kp_tags_merges.specs.declared.merge.FileMerge.{FileMerge}
-use Rattle.kp_tags_merges.specs.Grammar.{MergeTree, merges}
-use Rattle.kp_tags_merges.specs.Numbers.{Numbers, IsLit, IsTag, IsMerge}
-use Rattle.kp_tags_merges.specs.MergesFiles.{IsMergesOf, IsRefused, stops, no_ground_atom, IsFirstRefused, RefusesMerges, bad_token, wrong_token, MergesReadOnce, MergesRefuseOnce, MergesNeverBoth, MergesAlwaysOne}
-use Rattle.kp_tags_merges.proofs.Walks.{has_bracket}
-use Rattle.kp_tags_merges.proofs.Tagged.{walk_merges}
-use Rattle.kp_tags_merges.proofs.Firsts.{none_before, first_is, first_behind}
-use Rattle.kp_tags_merges.proofs.Endings.{one_end, refused_ends}
-use Rattle.kp_tags_merges.proofs.Decided.{Stands, Fails, merges_decided}
+use Rattle.kp_tags_files.specs.declared.merge.FileMerge.{FileMerge}
+use Rattle.kp_tags_files.specs.Grammar.{MergeTree, merges}
+use Rattle.kp_tags_files.specs.Numbers.{Numbers, IsLit, IsTag, IsMerge}
+use Rattle.kp_tags_files.specs.MergesFiles.{IsMergesOf, IsRefused, stops, no_ground_atom, IsFirstRefused, RefusesMerges, bad_token, wrong_token, MergesReadOnce, MergesRefuseOnce, MergesNeverBoth, MergesAlwaysOne}
+use Rattle.kp_tags_files.proofs.Walks.{has_bracket}
+use Rattle.kp_tags_files.proofs.Tagged.{walk_merges}
+use Rattle.kp_tags_files.proofs.Firsts.{none_before, first_is, first_behind}
+use Rattle.kp_tags_files.proofs.Endings.{one_end, refused_ends}
+use Rattle.kp_tags_files.proofs.Decided.{Stands, Fails, merges_decided}
 
 -- ---- one list
 

@@ -17,22 +17,22 @@ use Rattle.kp_tree_grammar.specs.Symbols.{symbol_of}
 use Rattle.kp_tree_cursor.specs.declared.cursor.Class.TheVariants as classes
 use Rattle.kp_tree_cursor.proofs.Public.{class_is_no_bracket}
 use Rattle.kp_base.proofs.Lists.{same-true, same-refl}
-use Rattle.kp_names_meaning.specs.Names.{same, all_same}
-use Rattle.kp_names_meaning.specs.GroundNames.{same_name}
-use Rattle.kp_names_meaning.proofs.Public.{all_same_names-true, all_same_names-refl}
+use Rattle.kp_names_semantics.specs.Names.{same, all_same}
+use Rattle.kp_names_semantics.specs.GroundNames.{same_name}
+use Rattle.kp_names_semantics.proofs.Public.{all_same_names-true, all_same_names-refl}
 use Rattle.kp_law_texts.specs.Pieces.{Piece, right, Put, each, spaced, name, line_feed}
 use Rattle.kp_law_texts.specs.Tokens.{text_of as word_text, words, done, lefts, rights, blanks, says}
 use Rattle.kp_law_texts.specs.Maps.{without_places}
 use Rattle.kp_law_texts.proofs.Public.{◌$◌, KeepsFine, name_in_front_is_fine, each_keeps_fine, names_before_a_bracket_end, names_before_a_bracket_are_fine, PiecesGive, many_pieces_read, pieces_read_as_their_words}
 use Rattle.kp_plans.specs.Names.{number_of}
 use Rattle.kp_plans.proofs.Public.{name_word_is_hit, name_word_is_name}
-use Rattle.kp_tags_merges.specs.declared.merge.FileMerge.{FileMerge}
-use Rattle.kp_tags_merges.specs.Grammar.{MergeTree, tag, merge, merges, term_text, name_of_atom}
-use Rattle.kp_tags_merges.specs.Numbers.{IsLit, IsTag, IsMerge}
-use Rattle.kp_tags_merges.specs.MergesFiles.{IsMergesOf}
+use Rattle.kp_tags_files.specs.declared.merge.FileMerge.{FileMerge}
+use Rattle.kp_tags_files.specs.Grammar.{MergeTree, tag, merge, merges, term_text, name_of_atom}
+use Rattle.kp_tags_files.specs.Numbers.{IsLit, IsTag, IsMerge}
+use Rattle.kp_tags_files.specs.MergesFiles.{IsMergesOf}
 use Rattle.kp_plans_spelling.specs.Spelling.{name_put, atom_put, signed_put, lit_put, joined}
-use Rattle.kp_tags_merges.specs.Printed.{tag_put, merge_line, merges_pieces, merges_text, IsAtomName, IsLitOn, IsTagOn, IsMergeOn, CanBeWritten, WrittenMergesRead}
-use Rattle.kp_tags_merges.proofs.Lits.{plain_reads, negated_reads}
+use Rattle.kp_tags_files.specs.Printed.{tag_put, merge_line, merges_pieces, merges_text, IsAtomName, IsLitOn, IsTagOn, IsMergeOn, CanBeWritten, WrittenMergesRead}
+use Rattle.kp_tags_files.proofs.Lits.{plain_reads, negated_reads}
 
 -- ---- names by number
 

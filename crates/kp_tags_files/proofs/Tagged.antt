@@ -4,13 +4,13 @@ use Rattle.std.specs.List.{AllZip}
 use Rattle.kp_base.specs.declared.lit.Lit.{Lit as Literal}
 use Rattle.kp_tree_grammar.specs.declared.tree.Word.{Word}
 use Rattle.kp_tree_grammar.specs.Language.{Lit, Tok, first_is, is_left, is_right, is_head, is_merge, hits, many, lit, stop, Reads, r_both, r_after, r_end, r_more, r_bracket, s_before, s_unopened, s_inside, s_unclosed}
-use Rattle.kp_tags_merges.specs.declared.merge.FileMerge.{FileMerge}
-use Rattle.kp_tags_merges.specs.Grammar.{MergeTree, tag, merge_body, merge}
-use Rattle.kp_tags_merges.specs.Numbers.{Numbers, IsLit, IsTag, IsMerge}
-use Rattle.kp_tags_merges.specs.Parts.{Walk, arrived, word, closes, opens, opens_inside, Halts, stopped}
-use Rattle.kp_tags_merges.proofs.Walks.{follows, is_word, no_head, left_is_no_head, right_is_no_head}
-use Rattle.kp_tags_merges.proofs.Contexts.{halts_inside, halts_unclosed, halts_after, halts_first, halts_second, begins_one, walk_many}
-use Rattle.kp_tags_merges.proofs.Lits.{walk_lit}
+use Rattle.kp_tags_files.specs.declared.merge.FileMerge.{FileMerge}
+use Rattle.kp_tags_files.specs.Grammar.{MergeTree, tag, merge_body, merge}
+use Rattle.kp_tags_files.specs.Numbers.{Numbers, IsLit, IsTag, IsMerge}
+use Rattle.kp_tags_files.specs.Parts.{Walk, arrived, word, closes, opens, opens_inside, Halts, stopped}
+use Rattle.kp_tags_files.proofs.Walks.{follows, is_word, no_head, left_is_no_head, right_is_no_head}
+use Rattle.kp_tags_files.proofs.Contexts.{halts_inside, halts_unclosed, halts_after, halts_first, halts_second, begins_one, walk_many}
+use Rattle.kp_tags_files.proofs.Lits.{walk_lit}
 
 left_no_head : (ts : List (Tok Word)) → first_is is_left ts ≡ true → first_is is_head ts ≡ false
 left_no_head [] e = refl

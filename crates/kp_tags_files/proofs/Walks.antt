@@ -9,10 +9,10 @@ use Rattle.std.proofs.lemmas.List.Sums.{sum_by-cons}
 use Rattle.kp_tree_grammar.proofs.Public.{rest_is_no_longer}
 use Rattle.kp_tree_cursor.specs.declared.cursor.Class.TheVariants as classes
 use Rattle.kp_tree_cursor.proofs.Public.{class_is_no_bracket}
-use Rattle.kp_tags_merges.specs.Grammar.{name_of_atom}
-use Rattle.kp_tags_merges.specs.Numbers.{Numbers}
-use Rattle.kp_tags_merges.specs.MergesFiles.{opened, closed}
-use Rattle.kp_tags_merges.specs.Parts.{Walk, arrived, word, closes, opens, opens_inside}
+use Rattle.kp_tags_files.specs.Grammar.{name_of_atom}
+use Rattle.kp_tags_files.specs.Numbers.{Numbers}
+use Rattle.kp_tags_files.specs.MergesFiles.{opened, closed}
+use Rattle.kp_tags_files.specs.Parts.{Walk, arrived, word, closes, opens, opens_inside}
 
 -- ---- symbols
 

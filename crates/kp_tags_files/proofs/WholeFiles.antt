@@ -18,10 +18,10 @@ use Rattle.kp_tree_cursor.specs.Lexemes.{from, lexed}
 use Rattle.kp_tree_cursor.proofs.Public.{lexed_as_seen}
 use Rattle.kp_plans.specs.Names.{number_of}
 use Rattle.kp_plans.specs.WordTables.{IsTableOf}
-use Rattle.kp_tags_merges.specs.declared.merge.FileMerge.{FileMerge}
-use Rattle.kp_tags_merges.specs.Numbers.{Numbers}
-use Rattle.kp_tags_merges.specs.MergesFiles.{RefusesMerges, bad_token, wrong_token, AnswersMergesFile}
-use Rattle.kp_tags_merges.specs.Parts.{AreMergesOf, AnswersTokens, AnswersCut, IsTold, numbers_of}
+use Rattle.kp_tags_files.specs.declared.merge.FileMerge.{FileMerge}
+use Rattle.kp_tags_files.specs.Numbers.{Numbers}
+use Rattle.kp_tags_files.specs.MergesFiles.{RefusesMerges, bad_token, wrong_token, AnswersMergesFile}
+use Rattle.kp_tags_files.specs.Parts.{AreMergesOf, AnswersTokens, AnswersCut, IsTold, numbers_of}
 
 -- ---- tokens of a text
 

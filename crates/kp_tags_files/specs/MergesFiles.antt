@@ -14,9 +14,9 @@ use Rattle.kp_tree_grammar.specs.declared.tree.Word.{Word}
 use Rattle.kp_tree_grammar.specs.Language.{Atom, Tok, all_seen_in, is_left, is_right, fact, At, Reads, StopsWhole, ReadsAs}
 use Rattle.kp_tree_cursor.specs.Lexemes.{byte_at}
 use Rattle.kp_plans.specs.Names.{number_of}
-use Rattle.kp_tags_merges.specs.declared.merge.FileMerge.{FileMerge}
-use Rattle.kp_tags_merges.specs.Grammar.{MergeTree, merges, name_of_atom}
-use Rattle.kp_tags_merges.specs.Numbers.{Numbers, IsMerge}
+use Rattle.kp_tags_files.specs.declared.merge.FileMerge.{FileMerge}
+use Rattle.kp_tags_files.specs.Grammar.{MergeTree, merges, name_of_atom}
+use Rattle.kp_tags_files.specs.Numbers.{Numbers, IsMerge}
 
 -- the text is cut and reads as merges, and these are they; each atom is the first ground atom with its name
 pub record IsMergesOf (atoms : List GroundName) (text : List ℕ) (ms : List FileMerge) : Type 0 where

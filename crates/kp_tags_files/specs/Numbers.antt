@@ -6,8 +6,8 @@ use Rattle.kp_base.specs.declared.lit.Lit.{Lit as Literal}
 use Rattle.kp_base.specs.LitSet.{set_of}
 use Rattle.kp_tree_grammar.specs.declared.tree.Word.{Word}
 use Rattle.kp_tree_grammar.specs.Trees.{Lit}
-use Rattle.kp_tags_merges.specs.declared.merge.FileMerge.{FileMerge}
-use Rattle.kp_tags_merges.specs.Grammar.{MergeTree, name_of_atom}
+use Rattle.kp_tags_files.specs.declared.merge.FileMerge.{FileMerge}
+use Rattle.kp_tags_files.specs.Grammar.{MergeTree, name_of_atom}
 
 -- which name has which number, if it has one
 abbrev pub Numbers : Type 0

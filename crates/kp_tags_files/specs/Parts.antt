@@ -13,15 +13,15 @@ use Rattle.kp_lex.specs.declared.token.Token.{Token}
 use Rattle.kp_lex.specs.Places.{place_of}
 use Rattle.kp_tree_grammar.specs.declared.tree.Word.{Word}
 use Rattle.kp_tree_grammar.specs.Language.{Atom, Tok, all_seen_in, is_left, is_right, is_not, Sort, El, Form, many, fact, lit, At, stop, Reads, Stops, ReadsWhole}
-use Rattle.kp_names_meaning.specs.Encoding.{encoded}
+use Rattle.kp_names_semantics.specs.Encoding.{encoded}
 use Rattle.kp_tree_cursor.specs.declared.halt.Halt.{Halt}
 use Rattle.kp_tree_cursor.specs.declared.halt.Halt.TheVariants as halts
 use Rattle.kp_tree_cursor.specs.Lexemes.{word_of, from, byte_at}
 use Rattle.kp_plans.specs.WordTables.{number_under}
-use Rattle.kp_tags_merges.specs.declared.merge.FileMerge.{FileMerge}
-use Rattle.kp_tags_merges.specs.Grammar.{MergeTree, merges, name_of_atom}
-use Rattle.kp_tags_merges.specs.Numbers.{Numbers, IsLit, IsMerge}
-use Rattle.kp_tags_merges.specs.MergesFiles.{IsFirstRefused}
+use Rattle.kp_tags_files.specs.declared.merge.FileMerge.{FileMerge}
+use Rattle.kp_tags_files.specs.Grammar.{MergeTree, merges, name_of_atom}
+use Rattle.kp_tags_files.specs.Numbers.{Numbers, IsLit, IsMerge}
+use Rattle.kp_tags_files.specs.MergesFiles.{IsFirstRefused}
 
 -- the numbers that a table has for names
 abbrev pub numbers_of : List (List ℕ × ℕ) → Numbers

@@ -9,11 +9,11 @@ use Rattle.kp_base.specs.declared.ground.TagTable.{TagTable}
 use Rattle.kp_base.specs.LitSet.{IsAscending}
 use Rattle.kp_base.specs.Covering.{lits_of}
 use Rattle.kp_tree_grammar.specs.Words.{IsName, IsHead}
-use Rattle.kp_names_meaning.specs.GroundNames.{same_name}
+use Rattle.kp_names_semantics.specs.GroundNames.{same_name}
 use Rattle.kp_law_texts.specs.Pieces.{Piece, Put, ◌⨾◌, each, opens, closes, line_feed, name, spaced, spelling}
 use Rattle.kp_plans_spelling.specs.Spelling.{lit_put, joined}
-use Rattle.kp_tags_merges.specs.declared.merge.FileMerge.{FileMerge}
-use Rattle.kp_tags_merges.specs.MergesFiles.{IsMergesOf}
+use Rattle.kp_tags_files.specs.declared.merge.FileMerge.{FileMerge}
+use Rattle.kp_tags_files.specs.MergesFiles.{IsMergesOf}
 
 -- ---- the merges of a table, with the tags themselves in place of their numbers
 

@@ -1,6 +1,6 @@
 ghost use Rattle.std.specs.Prelude.{◌<◌, ◌≤◌, ◌+◌, length, IfOk, IfErr};
 ghost use Rattle.kp_tree_grammar.specs.Grammar.{fact};
-ghost use Rattle.kp_tags_merges.specs.Parts.{FactStands, FactStops, IsAtom, IsNumberOf, ReadsAt, HaltsAt, numbers_of};
+ghost use Rattle.kp_tags_files.specs.Parts.{FactStands, FactStops, IsAtom, IsNumberOf, ReadsAt, HaltsAt, numbers_of};
 
 use kp_base::{AtomId, Memory};
 use kp_plans::{NameTable, name_of};

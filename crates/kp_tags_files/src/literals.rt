@@ -5,9 +5,9 @@ ghost use Rattle.kp_tree_grammar.specs.Forms.{many};
 ghost use Rattle.kp_tree_grammar.specs.Grammar.{lit};
 ghost use Rattle.kp_tree_cursor.specs.Lexemes.{from};
 ghost use Rattle.kp_tree_cursor.specs.Readers.{Closed};
-ghost use Rattle.kp_tags_merges.specs.Grammar.{tag};
-ghost use Rattle.kp_tags_merges.specs.Numbers.{IsLit, IsTag};
-ghost use Rattle.kp_tags_merges.specs.Parts.{ReadsAt, HaltsAt, is_denied, numbers_of};
+ghost use Rattle.kp_tags_files.specs.Grammar.{tag};
+ghost use Rattle.kp_tags_files.specs.Numbers.{IsLit, IsTag};
+ghost use Rattle.kp_tags_files.specs.Parts.{ReadsAt, HaltsAt, is_denied, numbers_of};
 
 use crate::atoms::atom_at;
 use kp_base::{Lit, LitSet};

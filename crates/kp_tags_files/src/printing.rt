@@ -1,7 +1,7 @@
 ghost use Rattle.std.specs.Prelude.{◌≡◌, map, IfOk, OnOk};
 ghost use Rattle.kp_law_texts.specs.Pieces.{Puts, each, spaced};
-ghost use Rattle.kp_tags_merges.specs.MergesFiles.{IsMergesOf};
-ghost use Rattle.kp_tags_merges.specs.Printed.{tag_put, tag_of, with_tags, merge_line, merges_of, merges_text, CanBeWritten};
+ghost use Rattle.kp_tags_files.specs.MergesFiles.{IsMergesOf};
+ghost use Rattle.kp_tags_files.specs.Printed.{tag_put, tag_of, with_tags, merge_line, merges_of, merges_text, CanBeWritten};
 
 use kp_base::{Ground, GroundName, Lit, Memory, Merge, Row, TagRow, TagTable};
 use kp_plans_spelling::{put, put_joined, put_literal};

@@ -5,10 +5,10 @@ ghost use Rattle.kp_lex.specs.Cutting.{Cut};
 ghost use Rattle.kp_tree_grammar.specs.Symbols.{is_left as is_opening};
 ghost use Rattle.kp_tree_grammar.specs.Forms.{many};
 ghost use Rattle.kp_plans.specs.Names.{number_of};
-ghost use Rattle.kp_tags_merges.specs.Grammar.{tag, merge_body, merge};
-ghost use Rattle.kp_tags_merges.specs.Numbers.{IsTag, IsMerge};
-ghost use Rattle.kp_tags_merges.specs.MergesFiles.{AnswersMergesFile};
-ghost use Rattle.kp_tags_merges.specs.Parts.{ReadsAt, Adds, HaltsAt, HaltsBelow, AnswersTokens, AnswersCut, IsTold, numbers_of};
+ghost use Rattle.kp_tags_files.specs.Grammar.{tag, merge_body, merge};
+ghost use Rattle.kp_tags_files.specs.Numbers.{IsTag, IsMerge};
+ghost use Rattle.kp_tags_files.specs.MergesFiles.{AnswersMergesFile};
+ghost use Rattle.kp_tags_files.specs.Parts.{ReadsAt, Adds, HaltsAt, HaltsBelow, AnswersTokens, AnswersCut, IsTold, numbers_of};
 
 use crate::literals::{closed, literal_at, tag_at};
 use crate::merge::FileMerge;

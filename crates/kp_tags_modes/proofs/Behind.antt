@@ -6,7 +6,7 @@ use Rattle.kp_base.specs.declared.ground.Initial.{Initial}
 use Rattle.kp_base.specs.declared.refused.Stop.{Stop}
 use Rattle.kp_base.specs.declared.refused.Stop.TheVariants as stops
 use Rattle.kp_base.specs.Covering.{IsCov, AllMeet}
-use Rattle.kp_tags_merges.specs.declared.merge.FileMerge.{FileMerge}
+use Rattle.kp_tags_files.specs.declared.merge.FileMerge.{FileMerge}
 use Rattle.kp_tags_modes.specs.declared.way.Way.{Way}
 use Rattle.kp_tags_modes.specs.Modes.{merge_of, ArePassed, IsLeastCover, AreOneForEach, AreOtherwise, AreMergesBy}
 use Rattle.kp_tags_modes.specs.Added.{Adds, AddsOrRefuses, IsOver}

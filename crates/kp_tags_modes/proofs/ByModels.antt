@@ -6,7 +6,7 @@ use Rattle.kp_base.specs.declared.ground.Initial.{Initial}
 use Rattle.kp_base.specs.declared.ground.Action.{Action}
 use Rattle.kp_base.specs.declared.refused.Refused.{Refused}
 use Rattle.kp_base.specs.Planning.{IsConsistent, HaveSameModels, IsImplicate, IsCandidate, AreClausesFor, IsCov, AllMeet}
-use Rattle.kp_tags_merges.specs.declared.merge.FileMerge.{FileMerge}
+use Rattle.kp_tags_files.specs.declared.merge.FileMerge.{FileMerge}
 use Rattle.kp_tags_modes.specs.declared.way.Way.{Way}
 use Rattle.kp_tags_modes.specs.Modes.{IsCovering, IsFirstCovering, IsPassed, ArePassed, IsLeastCover, IsRefusedAt, AreOneForEach, AreOtherwise, AreMergesBy, AreMergesFor, AreMergesInTurn, AreMergesOf}
 use Rattle.kp_tags_modes.specs.Answers.{IsTargetRefused, RefusesFirst, RefusesMode}

@@ -13,7 +13,7 @@ use Rattle.kp_cover_subsets.specs.Subsets.{subsets}
 use Rattle.kp_cover_subsets.proofs.Public.{subset_member}
 use Rattle.kp_cover.specs.Valid.{AreValidTags}
 use Rattle.kp_cover.proofs.Public.{candidates_are_true, tags_of_clauses_are_valid, tags_of_clauses_are_consistent, target_is_below}
-use Rattle.kp_tags_merges.specs.declared.merge.FileMerge.{FileMerge}
+use Rattle.kp_tags_files.specs.declared.merge.FileMerge.{FileMerge}
 use Rattle.kp_tags_modes.specs.declared.way.Way.{Way}
 use Rattle.kp_tags_modes.specs.Assignments.{AreAssignments}
 use Rattle.kp_tags_modes.specs.Modes.{IsFirstCovering, AreOneForEach, AreOtherwise, AreMergesBy, merge_of, AreMergesInTurn, AreMergesOf}

@@ -13,7 +13,7 @@ use Rattle.kp_cover_subsets.specs.Subsets.{subsets, choose}
 use Rattle.kp_relevance.proofs.Public.{one_clauses_for}
 use Rattle.kp_cover.specs.Targets.{AreTargets}
 use Rattle.kp_cover.proofs.Public.{cov_once}
-use Rattle.kp_tags_merges.specs.declared.merge.FileMerge.{FileMerge}
+use Rattle.kp_tags_files.specs.declared.merge.FileMerge.{FileMerge}
 use Rattle.kp_tags_modes.specs.declared.way.Way.{Way}
 use Rattle.kp_tags_modes.specs.Assignments.{AreAtomsOf}
 use Rattle.kp_tags_modes.specs.Modes.{IsCovering, IsFirstCovering, IsPassed, ArePassed, IsLeastCover, IsRefusedAt, AreOneForEach, AreOtherwise, AreMergesBy, AreMergesFor, merge_of, AreMergesInTurn, AreMergesOf}

@@ -12,7 +12,7 @@ use Rattle.kp_base.specs.Covering.{IsCov, AllMeet}
 use Rattle.kp_primes.specs.Held.{Held, formula}
 use Rattle.kp_relevance.specs.Relevant.{ArePairsOf}
 use Rattle.kp_relevance.specs.Candidates.{AnswersClausesFor}
-use Rattle.kp_tags_merges.specs.declared.merge.FileMerge.{FileMerge}
+use Rattle.kp_tags_files.specs.declared.merge.FileMerge.{FileMerge}
 use Rattle.kp_tags_modes.specs.declared.way.Way.{Way}
 use Rattle.kp_tags_modes.specs.Modes.{merge_of, IsRefusedAt, AreMergesBy}
 

@@ -9,7 +9,7 @@ use Rattle.kp_base.specs.declared.limits.Mode.TheVariants.{Models, Auto}
 use Rattle.kp_base.specs.declared.refused.Refused.{Refused}
 use Rattle.kp_base.specs.Planning.{Member, IsTarget, IsConsistent, HaveSameModels, are_below, IsOfItsAtoms}
 use Rattle.kp_cover.specs.Valid.{AreValidTags}
-use Rattle.kp_tags_merges.specs.declared.merge.FileMerge.{FileMerge}
+use Rattle.kp_tags_files.specs.declared.merge.FileMerge.{FileMerge}
 use Rattle.kp_tags_modes.specs.Modes.{way_of, AreMergesOf}
 use Rattle.kp_tags_modes.specs.Answers.{RefusesMode}
 

@@ -11,7 +11,7 @@ use Rattle.kp_base.specs.Relevance.{AreClausesFor}
 use Rattle.kp_cover_subsets.specs.Subsets.{subsets, choose}
 use Rattle.kp_cover.specs.Covering.{IsCover}
 use Rattle.kp_cover.specs.Targets.{AreTargets}
-use Rattle.kp_tags_merges.specs.declared.merge.FileMerge.{FileMerge}
+use Rattle.kp_tags_files.specs.declared.merge.FileMerge.{FileMerge}
 use Rattle.kp_tags_modes.specs.declared.way.Way.{Way}
 use Rattle.kp_tags_modes.specs.Assignments.{AreAssignments}
 

@@ -9,7 +9,7 @@ use crate::atoms::assigning;
 use kp_base::{Lit, LitSet, Memory, Row};
 use kp_cover::{cov, picked};
 use kp_primes::Primes;
-use kp_tags_merges::FileMerge;
+use kp_tags_files::FileMerge;
 use std::alloc::Global;
 
 // One merge over the clauses.

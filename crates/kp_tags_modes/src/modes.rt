@@ -11,7 +11,7 @@ use kp_base::{Ground, Limits, Mode, Row, Stop};
 use kp_cover::targets;
 use kp_primes::Primes;
 use kp_relevance::Relevance;
-use kp_tags_merges::FileMerge;
+use kp_tags_files::FileMerge;
 use std::alloc::Global;
 
 /// The merges of a mode, in order of their targets: literals of preconditions and of the goal.

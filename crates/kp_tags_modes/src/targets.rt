@@ -14,7 +14,7 @@ use kp_cover::{covers_are_told, is_cover, least_cover};
 use kp_cover_subsets::LeastSet;
 use kp_primes::Primes;
 use kp_relevance::Relevance;
-use kp_tags_merges::FileMerge;
+use kp_tags_files::FileMerge;
 use std::alloc::Global;
 
 // The merges over the least set of the clauses that covers, or where there is none.

@@ -6,7 +6,7 @@ use bumpalo::Bump;
 use kp_base::{Memory, Row, Stop};
 use kp_ground_flatten::{Flattener, bind, flatten};
 use kp_ground_instances::Statics;
-use kp_ground_meaning::Flat;
+use kp_ground_semantics::Flat;
 use kp_names::Lifted;
 use std::alloc::Global;
 

@@ -2,7 +2,7 @@ use kp_base::{AtomId, Initial, Limits, Lit, LitSet, Memory, Row, Stop};
 use kp_ground::ground;
 use kp_init::initial;
 use kp_names::Lifted;
-use kp_names_meaning::{GroundLit, Item};
+use kp_names_semantics::{GroundLit, Item};
 use std::alloc::Global;
 
 // The atom of a predicate without objects, as a literal.

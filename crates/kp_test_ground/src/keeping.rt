@@ -3,7 +3,7 @@ use crate::reading::numbers;
 use kp_base::{Limits, Memory, Row, Stop, Text};
 use kp_ground_instances::{Statics, all_bindings, kept_instances};
 use kp_names::{Cond, Eff, Lifted, Schema};
-use kp_names_meaning::Range;
+use kp_names_semantics::Range;
 use std::alloc::Global;
 use std::test::Fail;
 

@@ -2,7 +2,7 @@
 
 use crate::given::{cells, exchange, one_tag, tag_for_each};
 use kp_base::{Limits, Row, Stop};
-use kp_run_translate::translation_with;
+use kp_ktask_texts::translation_with;
 use std::alloc::Global;
 use std::test::Fail;
 

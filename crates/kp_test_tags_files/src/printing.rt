@@ -2,7 +2,7 @@
 
 use crate::given::three_atoms;
 use kp_base::{LitSet, Memory, Merge, Row, TagRow, TagTable};
-use kp_tags_merges::merges_text;
+use kp_tags_files::merges_text;
 use kp_test_problems::{Sign, literal, set};
 use std::alloc::Global;
 

@@ -2,7 +2,7 @@
 
 use crate::given::three_atoms;
 use kp_base::{Part, Place, Refused, Row, Stop};
-use kp_tags_merges::{FileMerge, read_merges};
+use kp_tags_files::{FileMerge, read_merges};
 use kp_test_problems::{Sign, are_sets, is_literal};
 use std::alloc::Global;
 

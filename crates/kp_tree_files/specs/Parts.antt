@@ -8,12 +8,12 @@ use Rattle.kp_tree_grammar.specs.Symbols.{is_of_domain, is_init, is_goal}
 use Rattle.kp_tree_grammar.specs.Sorts.{Seen}
 use Rattle.kp_tree_arena.specs.declared.node.CondNode.{CondNode}
 use Rattle.kp_tree_arena.specs.Nodes.{typed_view, pred_view, schema_view, item_view, cond_view}
-use Rattle.kp_tree_collect.specs.declared.domains.DomainPart.{DomainPart}
-use Rattle.kp_tree_collect.specs.declared.domains.DomainPart.TheVariants as sections
-use Rattle.kp_tree_collect.specs.declared.problems.Once.{Once}
-use Rattle.kp_tree_collect.specs.declared.problems.Once.TheVariants as onces
-use Rattle.kp_tree_collect.specs.declared.problems.ProblemPart.{ProblemPart}
-use Rattle.kp_tree_collect.specs.declared.problems.ProblemPart.TheVariants as parts
+use Rattle.kp_tree_files.specs.declared.domains.DomainPart.{DomainPart}
+use Rattle.kp_tree_files.specs.declared.domains.DomainPart.TheVariants as sections
+use Rattle.kp_tree_files.specs.declared.problems.Once.{Once}
+use Rattle.kp_tree_files.specs.declared.problems.Once.TheVariants as onces
+use Rattle.kp_tree_files.specs.declared.problems.ProblemPart.{ProblemPart}
+use Rattle.kp_tree_files.specs.declared.problems.ProblemPart.TheVariants as parts
 
 -- a section of a domain
 abbrev pub section_view : DomainPart → Section Word

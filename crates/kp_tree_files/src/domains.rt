@@ -1,7 +1,7 @@
 ghost use Rattle.std.specs.Prelude.{◌≡◌, ◌++◌, map, OnOk};
 ghost use Rattle.kp_tree_grammar.specs.Trees.{section_types, section_constants, section_predicates, section_schemas};
 ghost use Rattle.kp_tree_arena.specs.Nodes.{typed_view, pred_view, schema_view};
-ghost use Rattle.kp_tree_collect.specs.Parts.{section_view};
+ghost use Rattle.kp_tree_files.specs.Parts.{section_view};
 
 use bumpalo::Bump;
 use bumpalo::collections::into_bump_slice;

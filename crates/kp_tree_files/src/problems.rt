@@ -2,7 +2,7 @@ ghost use Rattle.std.specs.Prelude.{◌≡◌, ◌++◌, map, OnOk};
 ghost use Rattle.kp_tree_grammar.specs.Grammar.{has_stood};
 ghost use Rattle.kp_tree_grammar.specs.Trees.{given_objects, given_items};
 ghost use Rattle.kp_tree_arena.specs.Nodes.{typed_view, item_view, cond_view};
-ghost use Rattle.kp_tree_collect.specs.Parts.{once_test, seen_after, given_view, goal_view, goal_after, goal_or_true};
+ghost use Rattle.kp_tree_files.specs.Parts.{once_test, seen_after, given_view, goal_view, goal_after, goal_or_true};
 
 use bumpalo::Bump;
 use bumpalo::collections::into_bump_slice;

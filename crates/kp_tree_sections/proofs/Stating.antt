@@ -4,7 +4,7 @@ use Rattle.std.specs.List.{flat_map}
 use Rattle.kp_tree_grammar.specs.declared.tree.Word.{Word}
 use Rattle.kp_tree_grammar.specs.Trees.{Typed, Item, Cond, Given, given_objects, given_items, goal_of}
 use Rattle.kp_tree_grammar.specs.Parsing.{Outcome}
-use Rattle.kp_tree_collect.specs.Parts.{goal_after, goal_or_true}
+use Rattle.kp_tree_files.specs.Parts.{goal_after, goal_or_true}
 use Rattle.kp_tree_parts.proofs.Public.{with_front}
 use Rattle.kp_tree_sections.proofs.Joining.{kept}
 

@@ -2,13 +2,13 @@ ghost use Rattle.std.specs.Prelude.{◌<◌, ◌≤◌, length, IfOk};
 ghost use Rattle.kp_tree_parts.specs.Lexemes.{from};
 ghost use Rattle.kp_tree_arena.specs.Nodes.{domain_view};
 ghost use Rattle.kp_tree_parts.specs.Readers.{Gives};
-ghost use Rattle.kp_tree_collect.specs.Parts.{section_view};
+ghost use Rattle.kp_tree_files.specs.Parts.{section_view};
 ghost use Rattle.kp_tree_sections.specs.Sections.{GivesSections, section_inside_at, section_at, sections_at, domain_inside_at, domain_at};
 
 use crate::sections::{preds, schema};
 use bumpalo::Bump;
 use kp_tree_arena::DomainNode;
-use kp_tree_collect::{Declared, DomainPart, as_domain, keep_section};
+use kp_tree_files::{Declared, DomainPart, as_domain, keep_section};
 use kp_tree_grammar::Symbol;
 use kp_tree_parts::{
     Class, Halt, Lead, Tokens, begins, close, follow, is_left, open, peek, skip_keywords, title,

@@ -3,13 +3,13 @@ ghost use Rattle.kp_tree_grammar.specs.Trees.{given_items, given_objects};
 ghost use Rattle.kp_tree_parts.specs.Lexemes.{from};
 ghost use Rattle.kp_tree_arena.specs.Nodes.{item_view, problem_view, typed_view};
 ghost use Rattle.kp_tree_parts.specs.Readers.{Gives};
-ghost use Rattle.kp_tree_collect.specs.Parts.{seen_after, given_view, goal_after, goal_view};
+ghost use Rattle.kp_tree_files.specs.Parts.{seen_after, given_view, goal_after, goal_view};
 ghost use Rattle.kp_tree_sections.specs.Givens.{GivesGivens, given_inside_at, given_at, givens_at, problem_inside_at, problem_at};
 
 use bumpalo::Bump;
 use kp_base::Memory;
 use kp_tree_arena::ProblemNode;
-use kp_tree_collect::{Once, ProblemPart, Stated, as_problem, has_stood, keep_given, note};
+use kp_tree_files::{Once, ProblemPart, Stated, as_problem, has_stood, keep_given, note};
 use kp_tree_grammar::Symbol;
 use kp_tree_parts::{
     Class, Halt, Lead, Role, Tokens, close, cond, follow, is_left, items, open, peek,

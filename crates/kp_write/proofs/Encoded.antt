@@ -16,10 +16,10 @@ use Rattle.kp_lex.specs.Bytes.{is_alphanumeric, class_of, follows, follows_class
 use Rattle.kp_lex.specs.Cutting.{AllAre, IsToken, name as a_name}
 use Rattle.kp_tree_grammar.specs.Symbols.{symbol_of}
 use Rattle.kp_tree_grammar.specs.Words.{IsLow, IsName, IsHead}
-use Rattle.kp_names_meaning.specs.Names.{same, all_same}
-use Rattle.kp_names_meaning.specs.Encoding.{underscore, doubled_byte, doubled, encoded_objects, encoded, decoded, is_empty}
-use Rattle.kp_names_meaning.specs.GroundNames.{IsGroundName, same_name}
-use Rattle.kp_names_meaning.proofs.Public.{what_was_encoded_decodes, names_are_encoded_once, all_same_names-refl}
+use Rattle.kp_names_semantics.specs.Names.{same, all_same}
+use Rattle.kp_names_semantics.specs.Encoding.{underscore, doubled_byte, doubled, encoded_objects, encoded, decoded, is_empty}
+use Rattle.kp_names_semantics.specs.GroundNames.{IsGroundName, same_name}
+use Rattle.kp_names_semantics.proofs.Public.{what_was_encoded_decodes, names_are_encoded_once, all_same_names-refl}
 use Rattle.kp_base.proofs.Lists.{same-true, same-refl}
 use Rattle.kp_write.specs.Facts.{sign_word, tag_word, atom_fact}
 use Rattle.kp_write.specs.Grounds.{FactsTellApart}

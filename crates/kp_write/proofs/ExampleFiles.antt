@@ -7,8 +7,8 @@ use Rattle.kp_lex.specs.declared.token.TokenKind.TheVariants as kinds
 use Rattle.kp_tree_grammar.specs.Symbols.{symbol_of, is_head}
 use Rattle.kp_tree_grammar.specs.Words.{IsLow, IsHead}
 use Rattle.kp_base.specs.Lists.{Member}
-use Rattle.kp_names_meaning.specs.Names.{is_among}
-use Rattle.kp_names_meaning.specs.Plans.{IsPlan}
+use Rattle.kp_names_semantics.specs.Names.{is_among}
+use Rattle.kp_names_semantics.specs.Plans.{IsPlan}
 use Rattle.kp_law_texts.specs.Pieces.{spelling}
 use Rattle.kp_write.specs.Task.{Effect, Op}
 use Rattle.kp_write.specs.Written.{op, domain_pieces, problem_pieces, domain_text, problem_text}

@@ -9,9 +9,9 @@ use Rattle.kp_tree_grammar.specs.TreeMaps.{atom_map, cond_map, conds_map, eff_ma
 use Rattle.kp_base.specs.Lists.{Member}
 use Rattle.kp_base.proofs.Each.{each_member, each_weaker}
 use Rattle.kp_base.proofs.Lists.{same-refl}
-use Rattle.kp_names_meaning.specs.Names.{Name, same, is_among}
-use Rattle.kp_names_meaning.specs.Faults.{repeated, twice_in, words, head_faults, atom_faults, cond_faults, conds_faults, eff_faults, effs_faults, schema_faults, item_faults, HasNoFault}
-use Rattle.kp_names_meaning.proofs.Public.{places_mean_nothing}
+use Rattle.kp_names_semantics.specs.Names.{Name, same, is_among}
+use Rattle.kp_names_semantics.specs.Faults.{repeated, twice_in, words, head_faults, atom_faults, cond_faults, conds_faults, eff_faults, effs_faults, schema_faults, item_faults, HasNoFault}
+use Rattle.kp_names_semantics.proofs.Public.{places_mean_nothing}
 use Rattle.kp_write.specs.Task.{Signed, Effect, Op}
 use Rattle.kp_write.specs.Names.{IsEffect, IsOp, AreHeads}
 use Rattle.kp_write.specs.Trees.{atom_of, fact_holds, signed_holds, made_where, effect_of, schema_of, predicate_of, item_of, written_domain, written_problem}

@@ -8,8 +8,8 @@ use Rattle.std.specs.List.{AllByRecursion, IsDistinct, list_any, list_all, flat_
 use Rattle.kp_base.specs.Lists.{only_if, Member}
 use Rattle.kp_base.proofs.Each.{each_member}
 use Rattle.kp_base.proofs.Lists.{bool_same, all_member, member_at, number_at, member_map, same-true, same-refl}
-use Rattle.kp_names_meaning.specs.Names.{same, is_among}
-use Rattle.kp_names_meaning.specs.Steps.{Step}
+use Rattle.kp_names_semantics.specs.Names.{same, is_among}
+use Rattle.kp_names_semantics.specs.Steps.{Step}
 use Rattle.kp_classic.specs.declared.task.Conds.{Conds}
 use Rattle.kp_classic.specs.declared.task.OpEffect.{OpEffect}
 use Rattle.kp_classic.specs.declared.task.Op.{Op as NumberedOp}

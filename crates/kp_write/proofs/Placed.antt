@@ -4,7 +4,7 @@ use Rattle.std.proofs.lemmas.Bool.{false≢true}
 use Rattle.kp_tree_grammar.specs.declared.tree.Word.{Word}
 use Rattle.kp_tree_grammar.specs.Trees.{Domain, Problem}
 use Rattle.kp_tree_grammar.specs.TreeMaps.{domain_map, problem_map}
-use Rattle.kp_names_meaning.specs.Names.{Name, same}
+use Rattle.kp_names_semantics.specs.Names.{Name, same}
 use Rattle.kp_base.proofs.Lists.{same-true, same-refl}
 use Rattle.kp_write.specs.Task.{Op}
 use Rattle.kp_law_texts.specs.Tokens.{text_of}

@@ -11,12 +11,12 @@ use Rattle.kp_base.specs.Lists.{only_if, Member}
 use Rattle.kp_base.proofs.Parts.{find_map}
 use Rattle.kp_base.proofs.Each.{each_from, each_member}
 use Rattle.kp_base.proofs.Lists.{any_from, any_member, same-true, same-refl}
-use Rattle.kp_names_meaning.specs.Problems.{Name, same, all_same, is_among, unbound, Literal, Step, after, Solves}
-use Rattle.kp_names_meaning.specs.States.{State, Binding, names_literal, all_hold}
-use Rattle.kp_names_meaning.specs.Steps.{fires, all_fire, fits, is_instance, permits, applicable, state_by, next, schema_of as schema_of_step}
-use Rattle.kp_names_meaning.specs.Initial.{item_holds, item_literals, is_of, is_named, IsInitial}
-use Rattle.kp_names_meaning.specs.Plans.{succeeds}
-use Rattle.kp_names_meaning.proofs.Public.{places_mean_nothing, solves_theirs}
+use Rattle.kp_names_semantics.specs.Problems.{Name, same, all_same, is_among, unbound, Literal, Step, after, Solves}
+use Rattle.kp_names_semantics.specs.States.{State, Binding, names_literal, all_hold}
+use Rattle.kp_names_semantics.specs.Steps.{fires, all_fire, fits, is_instance, permits, applicable, state_by, next, schema_of as schema_of_step}
+use Rattle.kp_names_semantics.specs.Initial.{item_holds, item_literals, is_of, is_named, IsInitial}
+use Rattle.kp_names_semantics.specs.Plans.{succeeds}
+use Rattle.kp_names_semantics.proofs.Public.{places_mean_nothing, solves_theirs}
 use Rattle.kp_write.specs.Task.{Signed, Effect, Op}
 use Rattle.kp_write.specs.Written.{domain_text, problem_text}
 use Rattle.kp_write.specs.Trees.{fact_holds, signed_holds, made_where, effect_of, schema_of, item_of, written_domain, written_problem}

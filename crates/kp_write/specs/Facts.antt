@@ -5,7 +5,7 @@ use Rattle.kp_base.specs.declared.ground.GroundName.{GroundName}
 use Rattle.kp_base.specs.declared.ground.Effect.{Effect as GroundEffect}
 use Rattle.kp_base.specs.Lit.{negated}
 use Rattle.kp_base.specs.LitSet.{set_of}
-use Rattle.kp_names_meaning.specs.Encoding.{encoded}
+use Rattle.kp_names_semantics.specs.Encoding.{encoded}
 use Rattle.kp_write.specs.Task.{Signed, Effect}
 
 -- ---- names

@@ -6,7 +6,7 @@ use Rattle.kp_base.specs.declared.ground.GroundName.{GroundName}
 use Rattle.kp_base.specs.declared.ground.Effect.{Effect}
 use Rattle.kp_base.specs.declared.ground.Action.{Action}
 use Rattle.kp_base.specs.declared.ground.Ground.{Ground}
-use Rattle.kp_names_meaning.specs.GroundNames.{IsGroundName, same_name}
+use Rattle.kp_names_semantics.specs.GroundNames.{IsGroundName, same_name}
 use Rattle.kp_write.specs.Facts.{atom_fact}
 
 -- the literal is of one of the atoms

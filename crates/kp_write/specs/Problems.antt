@@ -4,8 +4,8 @@ use Rattle.std.specs.List.{AllByRecursion, IsDistinct}
 use Rattle.kp_base.specs.Lists.{Member}
 use Rattle.kp_tree_grammar.specs.Words.{IsName}
 use Rattle.kp_tree_grammar.specs.TreeMaps.{domain_map, problem_map}
-use Rattle.kp_names_meaning.specs.Names.{same}
-use Rattle.kp_names_meaning.specs.Plans.{HasProblem}
+use Rattle.kp_names_semantics.specs.Names.{same}
+use Rattle.kp_names_semantics.specs.Plans.{HasProblem}
 use Rattle.kp_write.specs.Task.{Effect, Op}
 use Rattle.kp_write.specs.Written.{domain_text, problem_text}
 use Rattle.kp_law_texts.specs.Tokens.{text_of}

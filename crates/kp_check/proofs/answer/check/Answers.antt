@@ -1,6 +1,6 @@
 use Rattle.std.proofs.Common.{sym, ◌∙◌}
 use Rattle.kp_primes.specs.Held.{formula}
-use Rattle.kp_primes_models.specs.Ordered.{state_of_atoms}
+use Rattle.kp_primes_first_model.specs.Ordered.{state_of_atoms}
 use Rattle.kp_check.proofs.Grounded.{ground_of}
 use Rattle.kp_check.proofs.FailingFrom.{failure_found, fail_at, tells_where, all_succeed}
 use Rattle.kp_check.proofs.answer.check.Goals as goal

@@ -1,6 +1,6 @@
 use Rattle.std.proofs.Common.{◌++◌, [], ◌∷◌, sym, ap, ◌∙◌, arith}
 use Rattle.std.proofs.lemmas.List.FromFn.{map-range_with_len_more}
-use Rattle.kp_primes_models.specs.Ordered.{state_of_atoms}
+use Rattle.kp_primes_first_model.specs.Ordered.{state_of_atoms}
 use Rattle.kp_check.specs.FailingValues.{decided, state_values}
 use Rattle.kp_check.proofs.failing.state_values.Goals as goal
 

@@ -1,6 +1,6 @@
 use Rattle.std.proofs.Common.{map}
 use Rattle.kp_primes.specs.Held.{formula}
-use Rattle.kp_primes_models.specs.Asked.{is_wanted, passes_one}
+use Rattle.kp_primes_first_model.specs.Asked.{is_wanted, passes_one}
 use Rattle.kp_check.specs.Judging.{fails}
 use Rattle.kp_check.specs.Marks.{is_false_at}
 use Rattle.kp_check.proofs.Asking.{asks_failing}

@@ -1,7 +1,7 @@
 use Rattle.std.proofs.Common.{◌++◌, [], ◌∷◌, sym, ap, ◌∙◌, arith}
 use Rattle.std.proofs.lemmas.List.FromFn.{map-range_with_len_more}
 use Rattle.kp_base.specs.Lit.{positive}
-use Rattle.kp_primes_models.specs.Truths.{truth_in}
+use Rattle.kp_primes_first_model.specs.Truths.{truth_in}
 use Rattle.kp_check.specs.Values.{start}
 use Rattle.kp_check.proofs.values.start.Goals as goal
 

@@ -1,6 +1,6 @@
 use Rattle.std.proofs.Common.{sym, ◌∙◌}
-use Rattle.kp_clash_pairs.specs.Paired.{is_pair}
-use Rattle.kp_clash_pairs.proofs.Public.{excluded_effect_adds_no_pair}
+use Rattle.kp_clash_exclusive.specs.Paired.{is_pair}
+use Rattle.kp_clash_exclusive.proofs.Public.{excluded_effect_adds_no_pair}
 use Rattle.kp_clash.proofs.broken.adds_left.Goals as goal
 
 pub returns-else-all_join : goal.returns-else-all_join

@@ -1,7 +1,7 @@
 use Rattle.std.proofs.Common.{◌≡◌, ℕ, true, take}
 use Rattle.std.specs.List.{list_all}
-use Rattle.kp_clash_pairs.specs.Paired.{is_pair}
-use Rattle.kp_clash_pairs.specs.Settled.{stays_in}
+use Rattle.kp_clash_exclusive.specs.Paired.{is_pair}
+use Rattle.kp_clash_exclusive.specs.Settled.{stays_in}
 use Rattle.kp_clash.proofs.broken.broken.Given as goal
 
 -- the actions so far keep each pair apart

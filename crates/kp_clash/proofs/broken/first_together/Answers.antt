@@ -3,8 +3,8 @@ use Rattle.std.specs.List.{list_any}
 use Rattle.kp_base.specs.declared.ground.Effect.{Effect}
 use Rattle.kp_base.specs.Lists.{Member}
 use Rattle.kp_base.proofs.Places.{item_member}
-use Rattle.kp_clash_pairs.specs.Paired.{is_pair}
-use Rattle.kp_clash_pairs.proofs.Public.{adds_broken}
+use Rattle.kp_clash_exclusive.specs.Paired.{is_pair}
+use Rattle.kp_clash_exclusive.proofs.Public.{adds_broken}
 use Rattle.kp_clash.proofs.Adding.{adds_none}
 use Rattle.kp_clash.proofs.broken.first_together.Goals as goal
 

@@ -1,7 +1,7 @@
 use Rattle.std.proofs.Common.{◌≡◌, false, take}
 use Rattle.std.specs.List.{list_any}
-use Rattle.kp_clash_pairs.specs.Paired.{is_pair}
-use Rattle.kp_clash_pairs.specs.Removed.{adds_pair}
+use Rattle.kp_clash_exclusive.specs.Paired.{is_pair}
+use Rattle.kp_clash_exclusive.specs.Removed.{adds_pair}
 use Rattle.kp_clash.proofs.broken.first_together.Given as goal
 
 -- none of the effects so far

@@ -1,8 +1,8 @@
 use Rattle.std.proofs.Common.{sym, ◌∙◌, arith}
 use Rattle.std.proofs.lemmas.Bool.{false≢true, false_from_ne_true}
-use Rattle.kp_clash_pairs.specs.Paired.{is_pair}
-use Rattle.kp_clash_pairs.specs.Removed.{breaks}
-use Rattle.kp_clash_pairs.proofs.Public.{breaks_broken_pair, row_width}
+use Rattle.kp_clash_exclusive.specs.Paired.{is_pair}
+use Rattle.kp_clash_exclusive.specs.Removed.{breaks}
+use Rattle.kp_clash_exclusive.proofs.Public.{breaks_broken_pair, row_width}
 use Rattle.kp_clash.proofs.broken.next_alone.Goals as goal
 
 pub returns : goal.returns

@@ -2,9 +2,9 @@ use Rattle.std.proofs.Common.{true, refl, sym, ◌∙◌}
 use Rattle.std.proofs.lemmas.Bool.{and_from}
 use Rattle.kp_base.specs.declared.ground.Effect.{Effect}
 use Rattle.kp_base.specs.Lists.{Member}
-use Rattle.kp_clash_pairs.specs.Paired.{is_pair}
-use Rattle.kp_clash_pairs.specs.Settled.{stays_in}
-use Rattle.kp_clash_pairs.proofs.Public.{pair_turned, unbroken_pairs_stay, no_effect_breaks, incompatible_with_more}
+use Rattle.kp_clash_exclusive.specs.Paired.{is_pair}
+use Rattle.kp_clash_exclusive.specs.Settled.{stays_in}
+use Rattle.kp_clash_exclusive.proofs.Public.{pair_turned, unbroken_pairs_stay, no_effect_breaks, incompatible_with_more}
 use Rattle.kp_clash.proofs.broken.of_action.Goals as goal
 
 pub returns-then-not-pre_compatible : goal.returns-then-not-pre_compatible

@@ -1,7 +1,7 @@
 use Rattle.std.proofs.Common.{Some, sym, ◌∙◌}
-use Rattle.kp_clash_pairs.specs.Paired.{is_pair}
-use Rattle.kp_clash_pairs.specs.Removed.{FindsAlone}
-use Rattle.kp_clash_pairs.proofs.Public.{breaks_broken, no_effect_breaks, delete_breaks_no_pair, unpaired_add_breaks_no_pair}
+use Rattle.kp_clash_exclusive.specs.Paired.{is_pair}
+use Rattle.kp_clash_exclusive.specs.Removed.{FindsAlone}
+use Rattle.kp_clash_exclusive.proofs.Public.{breaks_broken, no_effect_breaks, delete_breaks_no_pair, unpaired_add_breaks_no_pair}
 use Rattle.kp_clash.proofs.broken.of_effect.Goals as goal
 
 pub returns-in-Some : goal.returns-in-Some

@@ -3,10 +3,10 @@ use Rattle.std.proofs.lemmas.Bool.{and_from}
 use Rattle.kp_base.specs.declared.ground.Effect.{Effect}
 use Rattle.kp_base.specs.Lists.{Member}
 use Rattle.kp_base.proofs.Places.{item_member, taken_all, taken_more}
-use Rattle.kp_clash_pairs.specs.Paired.{is_pair}
-use Rattle.kp_clash_pairs.specs.Settled.{stays_in}
-use Rattle.kp_clash_pairs.specs.Removed.{BreaksNone}
-use Rattle.kp_clash_pairs.proofs.Public.{pair_turned, unbroken_pairs_stay}
+use Rattle.kp_clash_exclusive.specs.Paired.{is_pair}
+use Rattle.kp_clash_exclusive.specs.Settled.{stays_in}
+use Rattle.kp_clash_exclusive.specs.Removed.{BreaksNone}
+use Rattle.kp_clash_exclusive.proofs.Public.{pair_turned, unbroken_pairs_stay}
 use Rattle.kp_clash.proofs.broken.of_effects.Goals as goal
 
 pub of_effect-requires-clause-of_action : goal.of_effect-requires-clause-of_action

@@ -1,7 +1,7 @@
 use Rattle.std.proofs.Common.{◌≡◌, false, not, sym, ◌∙◌}
 use Rattle.std.specs.List.{list_any}
 use Rattle.kp_base.specs.declared.ground.Effect.{Effect}
-use Rattle.kp_clash_pairs.specs.Paired.{is_pair}
+use Rattle.kp_clash_exclusive.specs.Paired.{is_pair}
 use Rattle.kp_clash.proofs.Deletes.{nothing_best}
 use Rattle.kp_clash.proofs.clash.best.Goals as goal
 

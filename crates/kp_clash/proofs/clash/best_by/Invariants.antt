@@ -1,5 +1,5 @@
 use Rattle.std.proofs.Common.{◌≡◌, None, drop}
-use Rattle.kp_clash_pairs.specs.Paired.{is_pair}
+use Rattle.kp_clash_exclusive.specs.Paired.{is_pair}
 use Rattle.kp_clash.specs.Searching.{best_from}
 use Rattle.kp_clash.proofs.clash.best_by.Given as goal
 

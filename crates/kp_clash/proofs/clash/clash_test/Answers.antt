@@ -1,5 +1,5 @@
 use Rattle.std.proofs.Common.{Some, None}
-use Rattle.kp_clash_pairs.specs.Paired.{is_pair}
+use Rattle.kp_clash_exclusive.specs.Paired.{is_pair}
 use Rattle.kp_clash.proofs.InOrder.{first_is, none_is}
 use Rattle.kp_clash.proofs.clash.clash_test.Goals as goal
 

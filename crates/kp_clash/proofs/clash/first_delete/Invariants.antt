@@ -1,6 +1,6 @@
 use Rattle.std.proofs.Common.{◌≡◌, drop}
 use Rattle.std.specs.List.{position_from}
-use Rattle.kp_clash_pairs.specs.Paired.{is_pair}
+use Rattle.kp_clash_exclusive.specs.Paired.{is_pair}
 use Rattle.kp_clash.specs.Searching.{clash_together}
 use Rattle.kp_clash.proofs.clash.first_delete.Given as goal
 

@@ -1,6 +1,6 @@
 use Rattle.std.proofs.Common.{◌≡◌, length, ◌∙◌}
 use Rattle.kp_primes.specs.Held.{formula}
-use Rattle.kp_clash_pairs.specs.Paired.{is_pair}
+use Rattle.kp_clash_exclusive.specs.Paired.{is_pair}
 use Rattle.kp_clash.specs.Settling.{AreNeverTogether}
 use Rattle.kp_clash.proofs.Initially.{left_exclusive}
 use Rattle.kp_clash.proofs.find.exclusive.Goals as goal

@@ -1,7 +1,7 @@
 use Rattle.std.proofs.Common.{◌≡◌, ◌*◌, false, replicate, sym, subst, List, Bool, ap, ◌∙◌}
-use Rattle.kp_clash_pairs.specs.Paired.{is_pair, words_of, IsSquare}
-use Rattle.kp_clash_pairs.specs.Starting.{denied, IsMarkedWith}
-use Rattle.kp_clash_pairs.proofs.Public.{pair_turned}
+use Rattle.kp_clash_exclusive.specs.Paired.{is_pair, words_of, IsSquare}
+use Rattle.kp_clash_exclusive.specs.Starting.{denied, IsMarkedWith}
+use Rattle.kp_clash_exclusive.proofs.Public.{pair_turned}
 use Rattle.kp_clash.proofs.Initially.{none_empty, square_at_first, never_together}
 use Rattle.kp_clash.proofs.find.never_together.Goals as goal
 

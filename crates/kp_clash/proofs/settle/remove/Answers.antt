@@ -1,5 +1,5 @@
 use Rattle.std.proofs.Common.{arith}
-use Rattle.kp_clash_pairs.proofs.Public.{shrinks_further, broken_pair_may_go}
+use Rattle.kp_clash_exclusive.proofs.Public.{shrinks_further, broken_pair_may_go}
 use Rattle.kp_clash.proofs.settle.remove.Goals as goal
 
 pub returns-clause-shrinks : goal.returns-clause-shrinks

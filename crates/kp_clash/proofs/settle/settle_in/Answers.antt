@@ -1,4 +1,4 @@
-use Rattle.kp_clash_pairs.proofs.Public.{shrinks_further}
+use Rattle.kp_clash_exclusive.proofs.Public.{shrinks_further}
 use Rattle.kp_clash.proofs.settle.settle_in.Goals as goal
 
 pub rounds-preserved : goal.rounds-preserved

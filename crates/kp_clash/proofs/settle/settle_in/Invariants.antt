@@ -1,5 +1,5 @@
 use Rattle.std.proofs.Common.{length}
-use Rattle.kp_clash_pairs.specs.Removed.{Shrinks}
+use Rattle.kp_clash_exclusive.specs.Removed.{Shrinks}
 use Rattle.kp_clash.proofs.settle.settle_in.Given as goal
 
 -- what was removed so far

@@ -1,5 +1,5 @@
-use Rattle.kp_clash_pairs.proofs.Noted.{added_more}
-use Rattle.kp_clash_pairs.proofs.added.atoms_added.Goals as goal
+use Rattle.kp_clash_exclusive.proofs.Noted.{added_more}
+use Rattle.kp_clash_exclusive.proofs.added.atoms_added.Goals as goal
 
 -- the effect's atom is there, and the others are there still
 pub loop-effect-preserved : goal.loop-effect-preserved

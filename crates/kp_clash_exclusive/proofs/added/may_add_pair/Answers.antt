@@ -1,6 +1,6 @@
-use Rattle.kp_clash_pairs.specs.Paired.{is_pair}
-use Rattle.kp_clash_pairs.proofs.Noted.{adds_none, delete_adds_none}
-use Rattle.kp_clash_pairs.proofs.added.may_add_pair.Goals as goal
+use Rattle.kp_clash_exclusive.specs.Paired.{is_pair}
+use Rattle.kp_clash_exclusive.proofs.Noted.{adds_none, delete_adds_none}
+use Rattle.kp_clash_exclusive.proofs.added.may_add_pair.Goals as goal
 
 pub returns-then-effect : goal.returns-then-effect
 returns-then-effect c = λ none. adds_none (is_pair c.args.pairs.now) c.args.added.now c.args.action.now c.args.effect.now c.requires (c.meets.ensures none)

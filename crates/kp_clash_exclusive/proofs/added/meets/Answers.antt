@@ -1,6 +1,6 @@
 use Rattle.std.proofs.Common.{arith}
-use Rattle.kp_clash_pairs.proofs.Marked.{width}
-use Rattle.kp_clash_pairs.proofs.added.meets.Goals as goal
+use Rattle.kp_clash_exclusive.proofs.Marked.{width}
+use Rattle.kp_clash_exclusive.proofs.added.meets.Goals as goal
 
 -- each atom of a pair is in one of the words
 pub returns : goal.returns

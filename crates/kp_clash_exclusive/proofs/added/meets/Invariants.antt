@@ -1,7 +1,7 @@
 use Rattle.std.proofs.Common.{◌≡◌, ◌<◌, ◌/◌, ℕ, true}
-use Rattle.kp_clash_pairs.specs.Paired.{is_pair}
+use Rattle.kp_clash_exclusive.specs.Paired.{is_pair}
 use Rattle.kp_bits.specs.Packed.{bit_in}
-use Rattle.kp_clash_pairs.proofs.added.meets.Given as goal
+use Rattle.kp_clash_exclusive.proofs.added.meets.Given as goal
 
 -- none in the words so far
 abbrev pub invariant-loop-k : goal.invariant-loop-k

@@ -1,5 +1,5 @@
-use Rattle.kp_clash_pairs.proofs.Excluded.{asked_more}
-use Rattle.kp_clash_pairs.proofs.asked.atoms_asked.Goals as goal
+use Rattle.kp_clash_exclusive.proofs.Excluded.{asked_more}
+use Rattle.kp_clash_exclusive.proofs.asked.atoms_asked.Goals as goal
 
 -- the literal's atom is there, and the others are there still
 pub loop-lit-preserved : goal.loop-lit-preserved

@@ -1,6 +1,6 @@
 use Rattle.std.proofs.Common.{◌≡◌, true, take}
-use Rattle.kp_clash_pairs.specs.Left.{all_asked}
-use Rattle.kp_clash_pairs.proofs.asked.atoms_asked.Given as goal
+use Rattle.kp_clash_exclusive.specs.Left.{all_asked}
+use Rattle.kp_clash_exclusive.proofs.asked.atoms_asked.Given as goal
 
 -- the atoms of the literals so far
 abbrev pub invariant-loop-lit : goal.invariant-loop-lit

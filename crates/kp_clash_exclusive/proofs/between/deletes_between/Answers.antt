@@ -1,9 +1,9 @@
 use Rattle.std.proofs.Common.{◌≡◌, ◌⊎◌, ◌≤◌, ◌<◌, ◌++◌, ◌&&◌, length, inl, inr, sym, ap, ◌∙◌, arith}
 use Rattle.kp_base.specs.Implicates.{is_within}
 use Rattle.kp_base.specs.Lit.{negative, same_lit}
-use Rattle.kp_clash_pairs.proofs.Spans.{none_more, deletes_at, deletes_nowhere}
-use Rattle.kp_clash_pairs.proofs.between.deletes_between.Goals as goal
-use Rattle.kp_clash_pairs.proofs.between.deletes_between.Goals.{then-to-effects, else-to-effects}
+use Rattle.kp_clash_exclusive.proofs.Spans.{none_more, deletes_at, deletes_nowhere}
+use Rattle.kp_clash_exclusive.proofs.between.deletes_between.Goals as goal
+use Rattle.kp_clash_exclusive.proofs.between.deletes_between.Goals.{then-to-effects, else-to-effects}
 
 pub loop-place-preserved : goal.loop-place-preserved
 loop-place-preserved c = none_more (λ d. same_lit d.result (negative c.args.q.0) && is_within d.cond (c.args.pre.now ++ (c.args.cond.now ++ c.args.other.now))) c.args.action.now.effects c.args.from c.loop-place.place c.index-effects-place.result (rw c.slice-effects.ensures at c.index-effects-place.is) (sym c.deletes_by.ensures ∙ c.if-deletes_by.false) c.loop-place.invariant

@@ -2,7 +2,7 @@ use Rattle.std.proofs.Common.{◌≡◌, ◌≤◌, ◌<◌, ◌++◌, ◌&&◌,
 use Rattle.kp_base.specs.declared.ground.Effect.{Effect}
 use Rattle.kp_base.specs.Implicates.{is_within}
 use Rattle.kp_base.specs.Lit.{negative, same_lit}
-use Rattle.kp_clash_pairs.proofs.between.deletes_between.Given as goal
+use Rattle.kp_clash_exclusive.proofs.between.deletes_between.Given as goal
 
 -- none so far has its condition within the literals
 abbrev pub invariant-loop-place : goal.invariant-loop-place

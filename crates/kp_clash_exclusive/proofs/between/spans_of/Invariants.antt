@@ -1,7 +1,7 @@
 use Rattle.std.proofs.Common.{◌≡◌, ◌<◌, ℕ, Some, slice_get}
 use Rattle.kp_base.specs.declared.ground.Effect.{Effect}
-use Rattle.kp_clash_pairs.specs.Between.{IsBetween}
-use Rattle.kp_clash_pairs.proofs.between.spans_of.Given as goal
+use Rattle.kp_clash_exclusive.specs.Between.{IsBetween}
+use Rattle.kp_clash_exclusive.proofs.between.spans_of.Given as goal
 
 -- the deletes so far are between their places
 abbrev pub invariant-loop-place : goal.invariant-loop-place

@@ -1,9 +1,9 @@
 use Rattle.std.proofs.Common.{◌++◌, ◌∙◌}
 use Rattle.std.proofs.lemmas.List.{append_assoc}
-use Rattle.kp_clash_pairs.specs.Paired.{is_pair}
-use Rattle.kp_clash_pairs.proofs.Removing.{pair_turned}
-use Rattle.kp_clash_pairs.proofs.Firing.{compatible_more}
-use Rattle.kp_clash_pairs.proofs.compatible.stay_compatible.Goals as goal
+use Rattle.kp_clash_exclusive.specs.Paired.{is_pair}
+use Rattle.kp_clash_exclusive.proofs.Removing.{pair_turned}
+use Rattle.kp_clash_exclusive.proofs.Firing.{compatible_more}
+use Rattle.kp_clash_exclusive.proofs.compatible.stay_compatible.Goals as goal
 
 pub returns : goal.returns
 returns c =

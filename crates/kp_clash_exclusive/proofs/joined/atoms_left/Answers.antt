@@ -1,8 +1,8 @@
 use Rattle.std.proofs.Common.{◌≡◌, ◌/◌, ◌%◌}
 use Rattle.std.specs.Int.{bit_at}
-use Rattle.kp_clash_pairs.specs.Paired.{is_pair}
-use Rattle.kp_clash_pairs.proofs.Joining.{left_first, put_word}
-use Rattle.kp_clash_pairs.proofs.joined.atoms_left.Goals as goal
+use Rattle.kp_clash_exclusive.specs.Paired.{is_pair}
+use Rattle.kp_clash_exclusive.proofs.Joining.{left_first, put_word}
+use Rattle.kp_clash_exclusive.proofs.joined.atoms_left.Goals as goal
 
 pub loop-k-init : goal.loop-k-init
 loop-k-init c = left_first (is_pair c.args.pairs.now) c.args.action.now.pre c.args.effect.now.cond

@@ -1,6 +1,6 @@
-use Rattle.kp_clash_pairs.specs.Paired.{is_pair}
-use Rattle.kp_clash_pairs.specs.Left.{AreLeft}
-use Rattle.kp_clash_pairs.proofs.joined.atoms_left.Given as goal
+use Rattle.kp_clash_exclusive.specs.Paired.{is_pair}
+use Rattle.kp_clash_exclusive.specs.Left.{AreLeft}
+use Rattle.kp_clash_exclusive.proofs.joined.atoms_left.Given as goal
 
 -- no other bit was cleared
 abbrev pub invariant-loop-k : goal.invariant-loop-k

@@ -1,6 +1,6 @@
 use Rattle.std.proofs.Common.{sym}
-use Rattle.kp_clash_pairs.proofs.Joining.{set_past, set_there}
-use Rattle.kp_clash_pairs.proofs.joined.is_left.Goals as goal
+use Rattle.kp_clash_exclusive.proofs.Joining.{set_past, set_there}
+use Rattle.kp_clash_exclusive.proofs.joined.is_left.Goals as goal
 
 pub returns-then-atom-lt65536 : goal.returns-then-atom-lt65536
 returns-then-atom-lt65536 c = set_there c.args.words.now c.args.atom.0 c.has_bit.result c.if-atom-lt65536.true c.has_bit.ensures

@@ -1,4 +1,4 @@
-use Rattle.kp_clash_pairs.proofs.joined.left_by.Goals as goal
+use Rattle.kp_clash_exclusive.proofs.joined.left_by.Goals as goal
 
 pub returns : goal.returns
 returns c = λ q e pre own.

@@ -1,6 +1,6 @@
-use Rattle.kp_clash_pairs.specs.Paired.{is_pair}
-use Rattle.kp_clash_pairs.proofs.Firing.{breaks_free}
-use Rattle.kp_clash_pairs.proofs.left.candidates.Goals as goal
+use Rattle.kp_clash_exclusive.specs.Paired.{is_pair}
+use Rattle.kp_clash_exclusive.proofs.Firing.{breaks_free}
+use Rattle.kp_clash_exclusive.proofs.left.candidates.Goals as goal
 
 pub returns : goal.returns
 returns c = λ q e h.

@@ -1,7 +1,7 @@
 use Rattle.std.proofs.Common.{take}
-use Rattle.kp_clash_pairs.specs.Paired.{is_pair}
-use Rattle.kp_clash_pairs.specs.Left.{KeepsFree}
-use Rattle.kp_clash_pairs.proofs.left.leave.Given as goal
+use Rattle.kp_clash_exclusive.specs.Paired.{is_pair}
+use Rattle.kp_clash_exclusive.specs.Left.{KeepsFree}
+use Rattle.kp_clash_exclusive.proofs.left.leave.Given as goal
 
 -- what the literals so far leave
 abbrev pub invariant-loop-lit : goal.invariant-loop-lit

@@ -1,9 +1,9 @@
 use Rattle.std.proofs.Common.{◌≡◌, ◌%◌, ℕ, subst, slice_index_or, arith}
 use Rattle.std.specs.Int.{bit_at}
-use Rattle.kp_clash_pairs.specs.Paired.{is_pair}
-use Rattle.kp_clash_pairs.proofs.Firing.{breaks_free}
-use Rattle.kp_clash_pairs.proofs.Noted.{breaks_kept}
-use Rattle.kp_clash_pairs.proofs.left.unsure.Goals as goal
+use Rattle.kp_clash_exclusive.specs.Paired.{is_pair}
+use Rattle.kp_clash_exclusive.proofs.Firing.{breaks_free}
+use Rattle.kp_clash_exclusive.proofs.Noted.{breaks_kept}
+use Rattle.kp_clash_exclusive.proofs.left.unsure.Goals as goal
 
 pub returns : goal.returns
 returns c = λ q e h.

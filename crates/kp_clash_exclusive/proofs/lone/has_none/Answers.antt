@@ -1,8 +1,8 @@
 use Rattle.std.proofs.Common.{sym, ◌∙◌, arith}
 use Rattle.std.proofs.lemmas.Bool.{false≢true, false_from_ne_true}
-use Rattle.kp_clash_pairs.specs.Paired.{is_pair}
-use Rattle.kp_clash_pairs.proofs.Marked.{width}
-use Rattle.kp_clash_pairs.proofs.lone.has_none.Goals as goal
+use Rattle.kp_clash_exclusive.specs.Paired.{is_pair}
+use Rattle.kp_clash_exclusive.proofs.Marked.{width}
+use Rattle.kp_clash_exclusive.proofs.lone.has_none.Goals as goal
 
 -- each atom of a pair is in one of the words
 pub returns : goal.returns

@@ -1,6 +1,6 @@
 use Rattle.std.proofs.Common.{◌≡◌, ◌<◌, ◌/◌, ℕ, false}
-use Rattle.kp_clash_pairs.specs.Paired.{is_pair}
-use Rattle.kp_clash_pairs.proofs.lone.has_none.Given as goal
+use Rattle.kp_clash_exclusive.specs.Paired.{is_pair}
+use Rattle.kp_clash_exclusive.proofs.lone.has_none.Given as goal
 
 -- none in the words so far
 abbrev pub invariant-loop-k : goal.invariant-loop-k

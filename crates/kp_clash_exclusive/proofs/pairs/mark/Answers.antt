@@ -1,7 +1,7 @@
 use Rattle.std.proofs.Common.{◌≡◌, Bool, true, List, set, sym, ap, ap₂, subst, ◌∙◌}
-use Rattle.kp_clash_pairs.specs.Paired.{IsWritten}
-use Rattle.kp_clash_pairs.proofs.Written.{both_set, written}
-use Rattle.kp_clash_pairs.proofs.pairs.mark.Goals as goal
+use Rattle.kp_clash_exclusive.specs.Paired.{IsWritten}
+use Rattle.kp_clash_exclusive.proofs.Written.{both_set, written}
+use Rattle.kp_clash_exclusive.proofs.pairs.mark.Goals as goal
 
 pub returns : goal.returns
 returns c =

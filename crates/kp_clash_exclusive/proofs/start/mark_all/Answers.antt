@@ -1,8 +1,8 @@
 use Rattle.std.proofs.Common.{◌+◌, ◌*◌}
-use Rattle.kp_clash_pairs.specs.Starting.{between}
-use Rattle.kp_clash_pairs.proofs.Starting.{marked_none, marked_on, with_below, below_none}
-use Rattle.kp_clash_pairs.proofs.Filling.{below_more, more_below}
-use Rattle.kp_clash_pairs.proofs.start.mark_all.Goals as goal
+use Rattle.kp_clash_exclusive.specs.Starting.{between}
+use Rattle.kp_clash_exclusive.proofs.Starting.{marked_none, marked_on, with_below, below_none}
+use Rattle.kp_clash_exclusive.proofs.Filling.{below_more, more_below}
+use Rattle.kp_clash_exclusive.proofs.start.mark_all.Goals as goal
 
 pub loop-k-init : goal.loop-k-init
 loop-k-init c = marked_none c.args.atoms (with_below c.args.p 0) c.args.table.now c.requires.square (λ r s _ h. below_none c.args.p r s h)

@@ -1,8 +1,8 @@
 use Rattle.std.proofs.Common.{◌+◌}
-use Rattle.kp_clash_pairs.specs.Starting.{pair_of, between}
-use Rattle.kp_clash_pairs.proofs.Starting.{marked_none, marked_on}
-use Rattle.kp_clash_pairs.proofs.Filling.{nothing_between, one_between, between_one}
-use Rattle.kp_clash_pairs.proofs.start.mark_between.Goals as goal
+use Rattle.kp_clash_exclusive.specs.Starting.{pair_of, between}
+use Rattle.kp_clash_exclusive.proofs.Starting.{marked_none, marked_on}
+use Rattle.kp_clash_exclusive.proofs.Filling.{nothing_between, one_between, between_one}
+use Rattle.kp_clash_exclusive.proofs.start.mark_between.Goals as goal
 
 pub loop-q-init : goal.loop-q-init
 loop-q-init c = marked_none c.args.atoms (between c.args.p c.args.from c.args.from) c.args.table.now c.requires.square (λ r s _ h. nothing_between c.args.p c.args.from r s h)

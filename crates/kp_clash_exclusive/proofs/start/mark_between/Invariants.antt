@@ -1,5 +1,5 @@
-use Rattle.kp_clash_pairs.specs.Starting.{between, IsMarkedWith}
-use Rattle.kp_clash_pairs.proofs.start.mark_between.Given as goal
+use Rattle.kp_clash_exclusive.specs.Starting.{between, IsMarkedWith}
+use Rattle.kp_clash_exclusive.proofs.start.mark_between.Given as goal
 
 -- the pairs with the atoms so far
 abbrev pub invariant-loop-q : goal.invariant-loop-q

@@ -1,6 +1,6 @@
-use Rattle.kp_clash_pairs.specs.Starting.{pair_of}
-use Rattle.kp_clash_pairs.proofs.Starting.{marked_pair, marked_none, no_pair}
-use Rattle.kp_clash_pairs.proofs.start.mark_both.Goals as goal
+use Rattle.kp_clash_exclusive.specs.Starting.{pair_of}
+use Rattle.kp_clash_exclusive.proofs.Starting.{marked_pair, marked_none, no_pair}
+use Rattle.kp_clash_exclusive.proofs.start.mark_both.Goals as goal
 
 pub returns-then-p-q : goal.returns-then-p-q
 returns-then-p-q c = marked_pair c.args.atoms c.args.table.now c.mark.new.table c.args.p c.args.q c.mark.ensures

@@ -1,6 +1,6 @@
 use Rattle.std.proofs.Common.{take}
-use Rattle.kp_clash_pairs.specs.Starting.{denied, IsMarkedWith}
-use Rattle.kp_clash_pairs.proofs.start.mark_clauses.Given as goal
+use Rattle.kp_clash_exclusive.specs.Starting.{denied, IsMarkedWith}
+use Rattle.kp_clash_exclusive.proofs.start.mark_clauses.Given as goal
 
 -- the pairs that the clauses so far deny
 abbrev pub invariant-loop-clause : goal.invariant-loop-clause

@@ -1,8 +1,8 @@
 use Rattle.std.proofs.Common.{◌≡◌, ◌&&◌, true, not, [], ◌∷◌, sym, ap₂, ◌∙◌}
 use Rattle.std.proofs.lemmas.Bool.{and_parts, false≢true, not-true}
-use Rattle.kp_clash_pairs.specs.Starting.{denies, pair_of}
-use Rattle.kp_clash_pairs.proofs.Starting.{marked_none, marked_alike, two_deny, deny_two}
-use Rattle.kp_clash_pairs.proofs.start.mark_two.Goals as goal
+use Rattle.kp_clash_exclusive.specs.Starting.{denies, pair_of}
+use Rattle.kp_clash_exclusive.proofs.Starting.{marked_none, marked_alike, two_deny, deny_two}
+use Rattle.kp_clash_exclusive.proofs.start.mark_two.Goals as goal
 
 pub returns-then-are_negative : goal.returns-then-are_negative
 returns-then-are_negative c =

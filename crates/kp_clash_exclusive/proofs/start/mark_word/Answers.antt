@@ -1,10 +1,10 @@
 use Rattle.std.proofs.Common.{◌+◌, ◌*◌, ap, ◌∙◌}
 use Rattle.std.specs.Int.{bit_at}
-use Rattle.kp_clash_pairs.specs.Starting.{between}
-use Rattle.kp_clash_pairs.proofs.Small.{ones}
-use Rattle.kp_clash_pairs.proofs.Starting.{marked_alike}
-use Rattle.kp_clash_pairs.proofs.Filling.{between_less, between_more, word_full}
-use Rattle.kp_clash_pairs.proofs.start.mark_word.Goals as goal
+use Rattle.kp_clash_exclusive.specs.Starting.{between}
+use Rattle.kp_clash_exclusive.proofs.Small.{ones}
+use Rattle.kp_clash_exclusive.proofs.Starting.{marked_alike}
+use Rattle.kp_clash_exclusive.proofs.Filling.{between_less, between_more, word_full}
+use Rattle.kp_clash_exclusive.proofs.start.mark_word.Goals as goal
 
 pub returns-then-word : goal.returns-then-word
 returns-then-word c =

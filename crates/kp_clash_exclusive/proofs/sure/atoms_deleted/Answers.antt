@@ -1,6 +1,6 @@
 use Rattle.kp_base.proofs.Places.{item_member}
-use Rattle.kp_clash_pairs.proofs.Noted.{none_set}
-use Rattle.kp_clash_pairs.proofs.sure.atoms_deleted.Goals as goal
+use Rattle.kp_clash_exclusive.proofs.Noted.{none_set}
+use Rattle.kp_clash_exclusive.proofs.sure.atoms_deleted.Goals as goal
 
 pub note-requires-clause-of_action : goal.note-requires-clause-of_action
 note-requires-clause-of_action c =

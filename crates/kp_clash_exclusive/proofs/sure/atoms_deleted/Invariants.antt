@@ -1,5 +1,5 @@
-use Rattle.kp_clash_pairs.specs.Left.{AreDeleted}
-use Rattle.kp_clash_pairs.proofs.sure.atoms_deleted.Given as goal
+use Rattle.kp_clash_exclusive.specs.Left.{AreDeleted}
+use Rattle.kp_clash_exclusive.proofs.sure.atoms_deleted.Given as goal
 
 -- the action deletes those that are set so far
 abbrev pub invariant-loop-effect : goal.invariant-loop-effect

@@ -1,7 +1,7 @@
 use Rattle.std.proofs.Common.{sym, ◌∙◌, subst, ℕ, ◌≡◌, true, inl, inr}
-use Rattle.kp_clash_pairs.specs.Settled.{deletes_within}
-use Rattle.kp_clash_pairs.proofs.Noted.{surely_deletes}
-use Rattle.kp_clash_pairs.proofs.sure.note.Goals as goal
+use Rattle.kp_clash_exclusive.specs.Settled.{deletes_within}
+use Rattle.kp_clash_exclusive.proofs.Noted.{surely_deletes}
+use Rattle.kp_clash_exclusive.proofs.sure.note.Goals as goal
 
 pub returns-then-surely_deletes : goal.returns-then-surely_deletes
 returns-then-surely_deletes c = λ q set. elim (c.set_bit.ensures.no_other q set) [

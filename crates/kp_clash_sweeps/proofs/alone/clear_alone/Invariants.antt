@@ -1,5 +1,5 @@
 use Rattle.std.proofs.Common.{[], ◌∷◌}
-use Rattle.kp_clash_pairs.specs.Removed.{Shrinks}
+use Rattle.kp_clash_exclusive.specs.Removed.{Shrinks}
 use Rattle.kp_clash_sweeps.proofs.alone.clear_alone.Given as goal
 
 -- what was removed so far

@@ -1,6 +1,6 @@
 use Rattle.std.proofs.Common.{[], ◌∷◌, sym, ◌∙◌}
-use Rattle.kp_clash_pairs.specs.Paired.{is_pair}
-use Rattle.kp_clash_pairs.proofs.Public.{breaks_broken, breaks_broken_pair, broken_pair_may_go}
+use Rattle.kp_clash_exclusive.specs.Paired.{is_pair}
+use Rattle.kp_clash_exclusive.proofs.Public.{breaks_broken, breaks_broken_pair, broken_pair_may_go}
 use Rattle.kp_clash_sweeps.proofs.alone.clear_at.Goals as goal
 
 pub remove-requires : goal.remove-requires

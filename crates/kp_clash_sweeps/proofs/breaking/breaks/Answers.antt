@@ -1,6 +1,6 @@
 use Rattle.std.proofs.Common.{sym, ◌∙◌}
-use Rattle.kp_clash_pairs.specs.Paired.{is_pair}
-use Rattle.kp_clash_pairs.proofs.Public.{pair_turned, breaks_paired, breaks_unpaired}
+use Rattle.kp_clash_exclusive.specs.Paired.{is_pair}
+use Rattle.kp_clash_exclusive.proofs.Public.{pair_turned, breaks_paired, breaks_unpaired}
 use Rattle.kp_clash_sweeps.proofs.breaking.breaks.Goals as goal
 
 pub returns-then-has : goal.returns-then-has

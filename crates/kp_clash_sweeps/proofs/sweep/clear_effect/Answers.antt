@@ -1,5 +1,5 @@
 use Rattle.std.proofs.Common.{◌++◌, sym, ◌∙◌}
-use Rattle.kp_clash_pairs.specs.Paired.{is_pair}
+use Rattle.kp_clash_exclusive.specs.Paired.{is_pair}
 use Rattle.kp_base.proofs.Exclusive.{compatible_under_fewer}
 use Rattle.kp_clash_sweeps.proofs.sweep.clear_effect.Goals as goal
 

@@ -1,4 +1,4 @@
-use Rattle.kp_clash_pairs.specs.Paired.{is_pair}
+use Rattle.kp_clash_exclusive.specs.Paired.{is_pair}
 use Rattle.kp_base.proofs.Exclusive.{compatible_under_fewer}
 use Rattle.kp_base.proofs.Places.{item_member}
 use Rattle.kp_clash_sweeps.proofs.sweep.clear_effects.Goals as goal

@@ -1,6 +1,6 @@
 use Rattle.kp_base.specs.Lists.{Member}
 use Rattle.kp_base.proofs.Places.{item_member}
-use Rattle.kp_clash_pairs.proofs.Public.{shrinks_further, shrinks_under_more_actions}
+use Rattle.kp_clash_exclusive.proofs.Public.{shrinks_further, shrinks_under_more_actions}
 use Rattle.kp_clash_sweeps.proofs.sweep.sweep.Goals as goal
 
 pub loop-action-preserved : goal.loop-action-preserved

@@ -1,4 +1,4 @@
-use Rattle.kp_clash_pairs.specs.Removed.{Shrinks}
+use Rattle.kp_clash_exclusive.specs.Removed.{Shrinks}
 use Rattle.kp_clash_sweeps.proofs.sweep.sweep.Given as goal
 
 -- what was removed so far

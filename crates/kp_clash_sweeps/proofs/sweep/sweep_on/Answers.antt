@@ -1,4 +1,4 @@
-use Rattle.kp_clash_pairs.proofs.Public.{shrinks_further}
+use Rattle.kp_clash_exclusive.proofs.Public.{shrinks_further}
 use Rattle.kp_clash_sweeps.proofs.sweep.sweep_on.Goals as goal
 
 pub loop-preserved : goal.loop-preserved

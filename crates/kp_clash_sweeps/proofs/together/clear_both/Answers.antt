@@ -1,6 +1,6 @@
 use Rattle.std.proofs.Common.{[], ◌∷◌, sym, ◌∙◌}
-use Rattle.kp_clash_pairs.specs.Paired.{is_pair}
-use Rattle.kp_clash_pairs.proofs.Public.{adds_broken, broken_pair_may_go}
+use Rattle.kp_clash_exclusive.specs.Paired.{is_pair}
+use Rattle.kp_clash_exclusive.proofs.Public.{adds_broken, broken_pair_may_go}
 use Rattle.kp_clash_sweeps.proofs.together.clear_both.Goals as goal
 
 pub returns-then-adds_pair : goal.returns-then-adds_pair

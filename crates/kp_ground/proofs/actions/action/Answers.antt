@@ -2,7 +2,7 @@ use Rattle.std.proofs.Common.{◌≡◌, ◌<◌, Some, length, slice_get, sym, 
 use Rattle.std.proofs.lemmas.List.{length-map}
 use Rattle.kp_names.specs.View.{schema_view, lifted_view}
 use Rattle.kp_ground_instances.specs.Counts.{kept_view}
-use Rattle.kp_ground_meaning.specs.Ground.{ground_pre, ground_effects}
+use Rattle.kp_ground_semantics.specs.Ground.{ground_pre, ground_effects}
 use Rattle.kp_ground.specs.Passes.{IsKnown, name_with}
 use Rattle.kp_ground.proofs.Kept.{below_of, schema_seen, known_of, action_is}
 use Rattle.kp_ground.proofs.actions.action.Goals as goal

@@ -2,7 +2,7 @@ use Rattle.std.proofs.Common.{List, [], fold, ap, ◌∙◌}
 use Rattle.kp_base.specs.declared.ground.Effect.{Effect}
 use Rattle.kp_names.specs.View.{schema_view, eff_view, lifted_view}
 use Rattle.kp_base.specs.Atoms.{Atom}
-use Rattle.kp_ground_meaning.specs.Flattening.{flat}
+use Rattle.kp_ground_semantics.specs.Flattening.{flat}
 use Rattle.kp_ground.proofs.Injective.{made_once}
 use Rattle.kp_ground.proofs.Taken.{more_made, all_made}
 use Rattle.kp_ground.proofs.actions.effects_by_number.Goals as goal

@@ -1,5 +1,5 @@
 use Rattle.std.proofs.Common.{List, ◌+◌, drop, filter, ap, sym, ◌∙◌}
-use Rattle.kp_names_meaning.specs.declared.lifted.GroundLit.{GroundLit}
+use Rattle.kp_names_semantics.specs.declared.lifted.GroundLit.{GroundLit}
 use Rattle.kp_base.specs.Atoms.{Atom}
 use Rattle.kp_ground.specs.Gathered.{gather}
 use Rattle.kp_names.specs.View.{lifted_view}

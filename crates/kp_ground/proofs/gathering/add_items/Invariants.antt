@@ -1,6 +1,6 @@
 use Rattle.std.proofs.Common.{◌≡◌, drop, filter}
 use Rattle.std.specs.List.{flat_map}
-use Rattle.kp_names_meaning.specs.Lifted.{item_literals}
+use Rattle.kp_names_semantics.specs.Lifted.{item_literals}
 use Rattle.kp_ground.specs.Gathered.{gather}
 use Rattle.kp_names.specs.View.{lifted_view}
 use Rattle.kp_ground.specs.Passes.{is_open}

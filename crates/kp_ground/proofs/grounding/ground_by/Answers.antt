@@ -1,7 +1,7 @@
 use Rattle.std.proofs.Common.{sym, ap, subst, ◌∙◌}
 use Rattle.std.proofs.lemmas.Result.{err_from_is_err_and}
-use Rattle.kp_ground_meaning.specs.Ground.{ground_over, IsNumbering}
-use Rattle.kp_ground_meaning.proofs.Public.{atoms_are_numbered}
+use Rattle.kp_ground_semantics.specs.Ground.{ground_over, IsNumbering}
+use Rattle.kp_ground_semantics.proofs.Public.{atoms_are_numbered}
 use Rattle.kp_names.specs.View.{lifted_view}
 use Rattle.kp_ground.proofs.Kept.{counts_stop, atoms_stop}
 use Rattle.kp_ground.proofs.grounding.ground_by.Goals as goal

@@ -1,5 +1,5 @@
 use Rattle.std.proofs.Common.{◌≡◌, map, ap, subst, ◌∙◌}
-use Rattle.kp_ground_meaning.specs.Ground.{atom_name, numbered_set}
+use Rattle.kp_ground_semantics.specs.Ground.{atom_name, numbered_set}
 use Rattle.kp_names.specs.View.{lifted_view}
 use Rattle.kp_ground.specs.Passes.{action_at}
 use Rattle.kp_ground.proofs.Kept.{ground_is}

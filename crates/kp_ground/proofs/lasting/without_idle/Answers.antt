@@ -1,6 +1,6 @@
 use Rattle.std.proofs.Common.{List, ◌+◌, ◌++◌, drop, not, filter, sym, ap, ◌∙◌}
 use Rattle.kp_base.specs.declared.ground.Effect.{Effect}
-use Rattle.kp_ground_meaning.specs.Ground.{is_idle}
+use Rattle.kp_ground_semantics.specs.Ground.{is_idle}
 use Rattle.kp_ground.specs.Adds.{adds_at}
 use Rattle.kp_ground.proofs.LoopSteps.{drop_item}
 use Rattle.kp_ground.proofs.Idle.{lasting_more}

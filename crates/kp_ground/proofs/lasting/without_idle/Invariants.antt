@@ -1,5 +1,5 @@
 use Rattle.std.proofs.Common.{◌≡◌, ◌++◌, not, filter, drop}
-use Rattle.kp_ground_meaning.specs.Ground.{is_idle, lasting}
+use Rattle.kp_ground_semantics.specs.Ground.{is_idle, lasting}
 use Rattle.kp_ground.proofs.lasting.without_idle.Given as goal
 
 -- with the effects that are left come all

@@ -1,5 +1,5 @@
 use Rattle.std.proofs.Common.{◌≡◌, ◌++◌, map, drop}
-use Rattle.kp_names_meaning.specs.Numbering.{name_at}
+use Rattle.kp_names_semantics.specs.Numbering.{name_at}
 use Rattle.kp_ground.proofs.names.names_of_objects.Given as goal
 
 -- with the objects that are left come all

@@ -1,6 +1,6 @@
 use Rattle.std.proofs.Common.{◌≡◌, drop, fold, map}
 use Rattle.kp_base.specs.LitSet.{with_lit, set_of}
-use Rattle.kp_ground_meaning.specs.Ground.{numbered}
+use Rattle.kp_ground_semantics.specs.Ground.{numbered}
 use Rattle.kp_ground_flatten.specs.Literals.{lit_view}
 use Rattle.kp_ground.proofs.numbered.set_by_number.Given as goal
 

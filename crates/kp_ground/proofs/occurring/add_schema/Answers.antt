@@ -3,9 +3,9 @@ use Rattle.std.specs.List.{flat_map}
 use Rattle.std.proofs.lemmas.List.Sums.{fold-append}
 use Rattle.kp_names.specs.View.{cond_view, eff_view, lifted_view}
 use Rattle.kp_base.specs.Atoms.{Atom}
-use Rattle.kp_ground_meaning.specs.Static.{remaining}
-use Rattle.kp_ground_meaning.specs.Flattening.{flat}
-use Rattle.kp_ground_meaning.specs.Ground.{effect_literals}
+use Rattle.kp_ground_semantics.specs.Static.{remaining}
+use Rattle.kp_ground_semantics.specs.Flattening.{flat}
+use Rattle.kp_ground_semantics.specs.Ground.{effect_literals}
 use Rattle.kp_ground.specs.Gathered.{with_literal, gather}
 use Rattle.kp_ground.specs.declared.effect_atoms.EffectAtoms.{EffectAtoms}
 use Rattle.kp_ground.proofs.Taken.{all_atoms}

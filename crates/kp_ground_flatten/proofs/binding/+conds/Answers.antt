@@ -1,5 +1,5 @@
 use Rattle.std.proofs.Common.{◌∙◌, sym, ap, map}
-use Rattle.kp_names_meaning.specs.Lifted.{object_of}
+use Rattle.kp_names_semantics.specs.Lifted.{object_of}
 use Rattle.kp_names.specs.View as owned
 use Rattle.kp_ground_flatten.specs.Bound.{bound_cond}
 use Rattle.kp_ground_flatten.proofs.Views.{all_conds, cond_atom_bound}

@@ -1,7 +1,7 @@
 use Rattle.std.proofs.Common.{◌≡◌, ◌++◌, ◌∷◌, [], ◌∙◌, refl, sym, ap, map, take, arith}
 use Rattle.std.proofs.lemmas.List.{map_push}
 use Rattle.kp_base.proofs.Places.{one_more_taken}
-use Rattle.kp_names_meaning.specs.Lifted.{object_of, bindings}
+use Rattle.kp_names_semantics.specs.Lifted.{object_of, bindings}
 use Rattle.kp_names.specs.View as owned
 use Rattle.kp_ground_flatten.specs.Bound.{bound_eff}
 use Rattle.kp_ground_flatten.specs.Nodes.{eff_view}

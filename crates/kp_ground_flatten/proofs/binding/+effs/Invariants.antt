@@ -1,5 +1,5 @@
 use Rattle.std.proofs.Common.{◌≡◌, ◌++◌, map, take}
-use Rattle.kp_names_meaning.specs.Lifted.{bindings}
+use Rattle.kp_names_semantics.specs.Lifted.{bindings}
 use Rattle.kp_names.specs.View as owned
 use Rattle.kp_ground_flatten.specs.Bound.{bound_eff}
 use Rattle.kp_ground_flatten.specs.Nodes.{eff_view}

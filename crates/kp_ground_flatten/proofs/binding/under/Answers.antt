@@ -1,5 +1,5 @@
 use Rattle.std.proofs.Common.{◌∙◌, ap}
-use Rattle.kp_names_meaning.specs.Numbered.{Eff}
+use Rattle.kp_names_semantics.specs.Numbered.{Eff}
 use Rattle.kp_ground_flatten.specs.Nodes.{cond_view, eff_view}
 use Rattle.kp_ground_flatten.proofs.Views.{eff_when}
 use Rattle.kp_ground_flatten.proofs.binding.under.Goals as goal

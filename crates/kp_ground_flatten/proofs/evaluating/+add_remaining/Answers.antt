@@ -2,8 +2,8 @@ use Rattle.std.proofs.Common.{◌≡◌, ◌∙◌, sym, ap, not, ◌++◌, ◌�
 use Rattle.std.proofs.lemmas.Grind.{common_steps}
 use Rattle.std.proofs.lemmas.Result.{on_ok_weaker}
 use Rattle.kp_base.specs.Lists.{only_if}
-use Rattle.kp_names_meaning.specs.Lifted.{ground}
-use Rattle.kp_ground_meaning.specs.Static.{remaining}
+use Rattle.kp_names_semantics.specs.Lifted.{ground}
+use Rattle.kp_ground_semantics.specs.Static.{remaining}
 use Rattle.kp_ground_flatten.specs.Nodes.{cond_view}
 use Rattle.kp_names.specs.View.{lifted_view}
 use Rattle.kp_ground_flatten.proofs.Views.{remaining_all, remaining_atom}

@@ -1,5 +1,5 @@
 use Rattle.std.proofs.Common.{◌≡◌, ◌++◌, [], map, take, flat_map}
-use Rattle.kp_ground_meaning.specs.Static.{remaining}
+use Rattle.kp_ground_semantics.specs.Static.{remaining}
 use Rattle.kp_names.specs.View.{lifted_view}
 use Rattle.kp_ground_flatten.specs.Nodes.{cond_view}
 use Rattle.kp_ground_flatten.proofs.evaluating.+add_remaining.Given as goal

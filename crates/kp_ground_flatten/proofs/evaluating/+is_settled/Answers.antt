@@ -3,7 +3,7 @@ use Rattle.std.specs.List.{list_all}
 use Rattle.std.proofs.lemmas.Grind.{common_steps}
 use Rattle.std.proofs.lemmas.List.Folds.{list_all-map, list_all_at}
 use Rattle.kp_base.specs.Lists.{signed}
-use Rattle.kp_ground_meaning.specs.Static.{settled, initially}
+use Rattle.kp_ground_semantics.specs.Static.{settled, initially}
 use Rattle.kp_ground_flatten.specs.Nodes.{cond_view}
 use Rattle.kp_names.specs.View.{lifted_view}
 use Rattle.kp_ground_flatten.proofs.Views.{settled_all, settled_atom}

@@ -1,6 +1,6 @@
 use Rattle.std.proofs.Common.{◌≡◌, [], map, take, true}
 use Rattle.std.specs.List.{list_all}
-use Rattle.kp_ground_meaning.specs.Static.{settled}
+use Rattle.kp_ground_semantics.specs.Static.{settled}
 use Rattle.kp_names.specs.View.{lifted_view}
 use Rattle.kp_ground_flatten.specs.Nodes.{cond_view}
 use Rattle.kp_ground_flatten.proofs.evaluating.+is_settled.Given as goal

@@ -1,5 +1,5 @@
 use Rattle.std.proofs.Common.{◌∙◌, ap, [], map}
-use Rattle.kp_ground_meaning.specs.Flattening.{under, flat, same_flat}
+use Rattle.kp_ground_semantics.specs.Flattening.{under, flat, same_flat}
 use Rattle.kp_ground_flatten.specs.Nodes.{eff_view}
 use Rattle.kp_names.specs.View.{lifted_view}
 use Rattle.kp_ground_flatten.specs.Shapes.{with_effects}

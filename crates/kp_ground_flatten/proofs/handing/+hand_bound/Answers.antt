@@ -2,11 +2,11 @@ use Rattle.std.proofs.Common.{◌≡◌, ◌∙◌, sym, ap, ◌++◌, List, [],
 use Rattle.std.proofs.lemmas.Grind.{common_steps}
 use Rattle.std.proofs.lemmas.Result.{on_ok_weaker}
 use Rattle.kp_base.specs.Lists.{only_if}
-use Rattle.kp_names_meaning.specs.declared.lifted.GroundLit.{GroundLit}
-use Rattle.kp_names_meaning.specs.Lifted.{ground}
-use Rattle.kp_ground_meaning.specs.declared.flat.FlatEffect.{FlatEffect}
-use Rattle.kp_ground_meaning.specs.Static.{remaining}
-use Rattle.kp_ground_meaning.specs.Flattening.{under, flat}
+use Rattle.kp_names_semantics.specs.declared.lifted.GroundLit.{GroundLit}
+use Rattle.kp_names_semantics.specs.Lifted.{ground}
+use Rattle.kp_ground_semantics.specs.declared.flat.FlatEffect.{FlatEffect}
+use Rattle.kp_ground_semantics.specs.Static.{remaining}
+use Rattle.kp_ground_semantics.specs.Flattening.{under, flat}
 use Rattle.kp_ground_flatten.specs.Nodes.{cond_view, eff_view}
 use Rattle.kp_names.specs.View.{lifted_view}
 use Rattle.kp_ground_flatten.proofs.Views.{flat_under, flat_all, flat_when, flat_atom}

@@ -2,9 +2,9 @@ use Rattle.std.proofs.Common.{◌≡◌, ◌∙◌, refl, sym, ap, ◌++◌, map
 use Rattle.std.proofs.lemmas.Grind.{common_steps}
 use Rattle.std.proofs.lemmas.Result.{on_ok_weaker}
 use Rattle.kp_base.proofs.Places.{one_more_taken}
-use Rattle.kp_names_meaning.specs.Lifted.{bindings}
+use Rattle.kp_names_semantics.specs.Lifted.{bindings}
 use Rattle.kp_names.specs.View.{eff_view, lifted_view}
-use Rattle.kp_ground_meaning.specs.Flattening.{flat}
+use Rattle.kp_ground_semantics.specs.Flattening.{flat}
 use Rattle.kp_ground_instances.proofs.Public.{view_of_all, view_of_each}
 use Rattle.kp_ground_flatten.proofs.Meaning.{flat_parts}
 use Rattle.kp_ground_flatten.proofs.Walks.{one_more}

@@ -1,7 +1,7 @@
 use Rattle.std.proofs.Common.{◌≡◌, ◌++◌, map, fold, take, flat_map}
-use Rattle.kp_names_meaning.specs.Lifted.{bindings}
+use Rattle.kp_names_semantics.specs.Lifted.{bindings}
 use Rattle.kp_names.specs.View.{eff_view, lifted_view}
-use Rattle.kp_ground_meaning.specs.Flattening.{flat}
+use Rattle.kp_ground_semantics.specs.Flattening.{flat}
 use Rattle.kp_ground_flatten.proofs.walking.+walks.Given as goal
 
 -- the flat effects of the parts before this one are handed over

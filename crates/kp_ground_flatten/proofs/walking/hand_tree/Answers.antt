@@ -1,8 +1,8 @@
 use Rattle.std.proofs.Common.{◌∙◌, sym, ap, fold}
 use Rattle.std.proofs.lemmas.Result.{on_ok_weaker}
-use Rattle.kp_names_meaning.specs.Numbered.{Eff}
+use Rattle.kp_names_semantics.specs.Numbered.{Eff}
 use Rattle.kp_names.specs.View.{cond_view, eff_view, lifted_view}
-use Rattle.kp_ground_meaning.specs.Flattening.{flat}
+use Rattle.kp_ground_semantics.specs.Flattening.{flat}
 use Rattle.kp_ground_instances.proofs.Public.{view_of_when}
 use Rattle.kp_ground_flatten.proofs.walking.hand_tree.Goals as goal
 

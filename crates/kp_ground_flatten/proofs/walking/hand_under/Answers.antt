@@ -1,7 +1,7 @@
 use Rattle.std.proofs.Common.{◌∙◌, ap, ◌++◌, [], map, fold}
 use Rattle.std.proofs.lemmas.Result.{on_ok_weaker}
-use Rattle.kp_ground_meaning.specs.Static.{remaining}
-use Rattle.kp_ground_meaning.specs.Flattening.{under, flat}
+use Rattle.kp_ground_semantics.specs.Static.{remaining}
+use Rattle.kp_ground_semantics.specs.Flattening.{under, flat}
 use Rattle.kp_ground_flatten.specs.Nodes.{cond_view, eff_view}
 use Rattle.kp_names.specs.View.{lifted_view}
 use Rattle.kp_ground_flatten.proofs.walking.hand_under.Goals as goal

@@ -2,8 +2,8 @@ use Rattle.std.proofs.Common.{◌≡◌, ◌∙◌, sym, ap, true, false, [], ma
 use Rattle.std.proofs.lemmas.Result.{on_ok_weaker}
 use Rattle.kp_base.specs.Lists.{only_if}
 use Rattle.kp_names.specs.View as owned
-use Rattle.kp_ground_meaning.specs.Static.{settled, remaining}
-use Rattle.kp_ground_meaning.specs.Flattening.{under, flat}
+use Rattle.kp_ground_semantics.specs.Static.{settled, remaining}
+use Rattle.kp_ground_semantics.specs.Flattening.{under, flat}
 use Rattle.kp_ground_flatten.specs.Bound.{bound_cond}
 use Rattle.kp_ground_flatten.specs.Nodes.{cond_view, eff_view}
 use Rattle.kp_names.specs.View.{lifted_view}

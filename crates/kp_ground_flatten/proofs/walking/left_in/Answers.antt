@@ -1,6 +1,6 @@
 use Rattle.std.proofs.Common.{◌∙◌, ap, []}
 use Rattle.kp_names.specs.View as owned
-use Rattle.kp_ground_meaning.specs.Static.{remaining}
+use Rattle.kp_ground_semantics.specs.Static.{remaining}
 use Rattle.kp_names.specs.View.{lifted_view}
 use Rattle.kp_ground_flatten.proofs.Meaning.{split_bound}
 use Rattle.kp_ground_flatten.proofs.walking.left_in.Goals as goal

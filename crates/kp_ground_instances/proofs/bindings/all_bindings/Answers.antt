@@ -1,6 +1,6 @@
 use Rattle.std.proofs.Common.{◌∙◌}
 use Rattle.kp_base.proofs.Places.{one_more_taken}
-use Rattle.kp_names_meaning.specs.Lifted.{bindings}
+use Rattle.kp_names_semantics.specs.Lifted.{bindings}
 use Rattle.kp_ground_instances.proofs.bindings.all_bindings.Goals as goal
 
 pub loop-number-preserved : goal.loop-number-preserved

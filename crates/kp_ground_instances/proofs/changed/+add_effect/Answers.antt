@@ -3,7 +3,7 @@ use Rattle.std.specs.List.{list_any}
 use Rattle.std.proofs.Math.Bool.{or-false}
 use Rattle.std.proofs.lemmas.List.{at_drop_all}
 use Rattle.kp_names.specs.View.{eff_view}
-use Rattle.kp_ground_meaning.specs.Static.{changes}
+use Rattle.kp_ground_semantics.specs.Static.{changes}
 use Rattle.kp_ground_instances.specs.StaticTables.{has_number}
 use Rattle.kp_ground_instances.proofs.Views.{all_change}
 use Rattle.kp_ground_instances.proofs.changed.+add_effect.Goals as goal

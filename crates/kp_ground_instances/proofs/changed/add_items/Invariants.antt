@@ -1,6 +1,6 @@
 use Rattle.std.proofs.Common.{◌≡◌, ℕ, not, ◌||◌, drop}
 use Rattle.std.specs.List.{list_any}
-use Rattle.kp_ground_meaning.specs.Static.{leaves_static}
+use Rattle.kp_ground_semantics.specs.Static.{leaves_static}
 use Rattle.kp_ground_instances.specs.StaticTables.{has_number}
 use Rattle.kp_ground_instances.proofs.changed.add_items.Given as goal
 

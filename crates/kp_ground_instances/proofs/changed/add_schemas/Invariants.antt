@@ -1,7 +1,7 @@
 use Rattle.std.proofs.Common.{◌≡◌, ℕ, ◌||◌, drop}
 use Rattle.std.specs.List.{list_any}
 use Rattle.kp_names.specs.View.{eff_view}
-use Rattle.kp_ground_meaning.specs.Static.{changes}
+use Rattle.kp_ground_semantics.specs.Static.{changes}
 use Rattle.kp_ground_instances.specs.StaticTables.{has_number}
 use Rattle.kp_ground_instances.proofs.changed.add_schemas.Given as goal
 

@@ -1,7 +1,7 @@
 use Rattle.std.proofs.Common.{◌||◌, not, ap₂, ◌∙◌}
 use Rattle.std.specs.List.{list_any}
 use Rattle.kp_names.specs.View.{eff_view}
-use Rattle.kp_ground_meaning.specs.Static.{changes, leaves_static}
+use Rattle.kp_ground_semantics.specs.Static.{changes, leaves_static}
 use Rattle.kp_ground_instances.specs.StaticTables.{has_number}
 use Rattle.kp_ground_instances.proofs.Tables.{changed_are}
 use Rattle.kp_ground_instances.proofs.changed.changed_predicates.Goals as goal

@@ -1,8 +1,8 @@
 use Rattle.std.proofs.Common.{◌≡◌, ◌≤◌, ◌-◌, ◌^◌, ap, sym, ◌∙◌, sum_by, map, length, arith}
 use Rattle.std.proofs.lemmas.List.{take_all}
-use Rattle.kp_names_meaning.specs.Lifted.{bindings}
+use Rattle.kp_names_semantics.specs.Lifted.{bindings}
 use Rattle.kp_names.specs.View.{effs_of, cond_view, eff_view}
-use Rattle.kp_ground_meaning.specs.Weights.{leaves_weight, all_leaves_weight}
+use Rattle.kp_ground_semantics.specs.Weights.{leaves_weight, all_leaves_weight}
 use Rattle.kp_ground_instances.specs.Counts.{capped}
 use Rattle.kp_ground_instances.proofs.Views.{eff_all, eff_when, eff_each, effs_sum}
 use Rattle.kp_ground_instances.proofs.Weights.{cap_or_leaf, when_leaves, each_leaves}

@@ -1,6 +1,6 @@
 use Rattle.std.proofs.Common.{◌≡◌, take, sum_by}
 use Rattle.kp_names.specs.View.{eff_view}
-use Rattle.kp_ground_meaning.specs.Weights.{leaves_weight}
+use Rattle.kp_ground_semantics.specs.Weights.{leaves_weight}
 use Rattle.kp_ground_instances.specs.Counts.{capped}
 use Rattle.kp_ground_instances.proofs.counting.+all_leaves.Given as goal
 

@@ -1,7 +1,7 @@
 use Rattle.std.proofs.Common.{ap, ◌∙◌, sum_by, arith}
 use Rattle.std.proofs.lemmas.List.{take_all}
 use Rattle.kp_names.specs.View.{cond_view}
-use Rattle.kp_ground_meaning.specs.Weights.{cond_size}
+use Rattle.kp_ground_semantics.specs.Weights.{cond_size}
 use Rattle.kp_ground_instances.specs.Counts.{capped}
 use Rattle.kp_ground_instances.proofs.Views.{all_size}
 use Rattle.kp_ground_instances.proofs.counting.+condition_size.Goals as goal

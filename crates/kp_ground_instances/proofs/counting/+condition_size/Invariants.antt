@@ -1,6 +1,6 @@
 use Rattle.std.proofs.Common.{◌≡◌, take, sum_by}
 use Rattle.kp_names.specs.View.{cond_view}
-use Rattle.kp_ground_meaning.specs.Weights.{cond_size}
+use Rattle.kp_ground_semantics.specs.Weights.{cond_size}
 use Rattle.kp_ground_instances.specs.Counts.{capped}
 use Rattle.kp_ground_instances.proofs.counting.+condition_size.Given as goal
 

@@ -1,6 +1,6 @@
 use Rattle.std.proofs.Common.{◌∙◌, ◌*◌, ◌-◌, ◌^◌, ap, length, arith}
 use Rattle.std.proofs.lemmas.List.{take_all}
-use Rattle.kp_names_meaning.specs.Lifted.{bindings}
+use Rattle.kp_names_semantics.specs.Lifted.{bindings}
 use Rattle.kp_ground_instances.specs.Counts.{capped}
 use Rattle.kp_ground_instances.proofs.Weights.{next_factor}
 use Rattle.kp_ground_instances.proofs.counting.binding_number.Goals as goal

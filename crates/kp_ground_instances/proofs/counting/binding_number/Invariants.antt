@@ -1,5 +1,5 @@
 use Rattle.std.proofs.Common.{◌≡◌, length, take}
-use Rattle.kp_names_meaning.specs.Lifted.{bindings}
+use Rattle.kp_names_semantics.specs.Lifted.{bindings}
 use Rattle.kp_ground_instances.specs.Counts.{capped}
 use Rattle.kp_ground_instances.proofs.counting.binding_number.Given as goal
 

@@ -1,10 +1,10 @@
 use Rattle.std.proofs.Common.{◌≡◌, ◌<◌, ◌+◌, ◌∷◌, ◌++◌, [], true, map, length, slice_get, Some, sym, ap, subst, ◌∙◌, arith}
 use Rattle.std.proofs.lemmas.List.{length-map}
 use Rattle.kp_base.specs.Lists.{only_if}
-use Rattle.kp_names_meaning.specs.Lifted.{bindings}
+use Rattle.kp_names_semantics.specs.Lifted.{bindings}
 use Rattle.kp_names.specs.View.{schema_view, lifted_view}
-use Rattle.kp_ground_meaning.specs.Static.{settled}
-use Rattle.kp_ground_meaning.specs.Ground.{instance, kept_bindings}
+use Rattle.kp_ground_semantics.specs.Static.{settled}
+use Rattle.kp_ground_semantics.specs.Ground.{instance, kept_bindings}
 use Rattle.kp_ground_instances.specs.Counts.{kept_view}
 use Rattle.kp_ground_instances.specs.StaticTables.{Gathers}
 use Rattle.kp_ground_instances.proofs.KeptRest.{kept_rest, rest_next, still_all, too_many}

@@ -1,6 +1,6 @@
 use Rattle.std.proofs.Common.{◌≡◌, ◌≤◌, ◌++◌, map, length}
 use Rattle.kp_names.specs.View.{schema_view, lifted_view}
-use Rattle.kp_ground_meaning.specs.Ground.{instance, kept_bindings}
+use Rattle.kp_ground_semantics.specs.Ground.{instance, kept_bindings}
 use Rattle.kp_ground_instances.specs.Counts.{kept_view}
 use Rattle.kp_ground_instances.proofs.KeptRest.{kept_rest}
 use Rattle.kp_ground_instances.proofs.keeping.keep_all.Given as goal

@@ -1,7 +1,7 @@
 use Rattle.std.proofs.Common.{◌≡◌, ◌≤◌, ◌*◌, ◌++◌, map, drop, take, length, sum_by}
 use Rattle.kp_names.specs.View.{schema_view, lifted_view}
-use Rattle.kp_ground_meaning.specs.Ground.{kept_bindings, kept_from, kept_instances}
-use Rattle.kp_ground_meaning.specs.Weights.{weight}
+use Rattle.kp_ground_semantics.specs.Ground.{kept_bindings, kept_from, kept_instances}
+use Rattle.kp_ground_semantics.specs.Weights.{weight}
 use Rattle.kp_ground_instances.specs.Counts.{kept_view, capped}
 use Rattle.kp_ground_instances.proofs.keeping.keep_schemas.Given as goal
 

@@ -1,9 +1,9 @@
 use Rattle.std.proofs.Common.{◌≡◌, ◌<◌, ◌≤◌, length, ap, arith}
 use Rattle.std.proofs.lemmas.Option.{MatchOption-at_none, MatchOption-at_some}
-use Rattle.kp_names_lifted.specs.declared.lifted.Lifted.{Lifted}
+use Rattle.kp_names_numbered.specs.declared.lifted.Lifted.{Lifted}
 use Rattle.kp_names.specs.View.{lifted_view}
-use Rattle.kp_ground_meaning.specs.Ground.{kept_instances}
-use Rattle.kp_ground_meaning.specs.Weights.{binding_count, total_weight}
+use Rattle.kp_ground_semantics.specs.Ground.{kept_instances}
+use Rattle.kp_ground_semantics.specs.Weights.{binding_count, total_weight}
 use Rattle.kp_ground_instances.specs.Counts.{bindings_over, actions_over, effects_over}
 use Rattle.kp_ground_instances.specs.StaticTables.{IsKeeping}
 use Rattle.kp_ground_instances.proofs.keeping.kept_instances.Goals as goal

@@ -1,6 +1,6 @@
 use Rattle.std.proofs.Common.{◌≡◌, map, drop}
 use Rattle.kp_names.specs.View.{conds_of, cond_view, lifted_view}
-use Rattle.kp_ground_meaning.specs.Static.{all_settled}
+use Rattle.kp_ground_semantics.specs.Static.{all_settled}
 use Rattle.kp_ground_instances.proofs.settling.+settled_in.Given as goal
 
 -- all are settled where those that are left are

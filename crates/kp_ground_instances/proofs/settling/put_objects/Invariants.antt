@@ -1,5 +1,5 @@
 use Rattle.std.proofs.Common.{◌≡◌, ◌++◌, map, drop}
-use Rattle.kp_names_meaning.specs.Lifted.{object_of}
+use Rattle.kp_names_semantics.specs.Lifted.{object_of}
 use Rattle.kp_ground_instances.proofs.settling.put_objects.Given as goal
 
 abbrev pub invariant-loop-term : goal.invariant-loop-term

@@ -1,7 +1,7 @@
 use Rattle.std.proofs.Common.{◌≡◌, ◌&&◌, ◌||◌, ◌==◌, ℕ, List, sym, ap, ◌∙◌}
 use Rattle.std.proofs.lemmas.Result.{on_ok_weaker}
-use Rattle.kp_names_meaning.specs.Names.{same}
-use Rattle.kp_ground_meaning.specs.Static.{says}
+use Rattle.kp_names_semantics.specs.Names.{same}
+use Rattle.kp_ground_semantics.specs.Static.{says}
 use Rattle.kp_ground_instances.specs.StaticTables.{has_atom}
 use Rattle.kp_ground_instances.proofs.Tables.{atom_added, says_positive}
 use Rattle.kp_ground_instances.proofs.stated.add_item.Goals as goal

@@ -1,6 +1,6 @@
 use Rattle.std.proofs.Common.{◌≡◌, ℕ, ◌||◌, List, drop}
 use Rattle.std.specs.List.{list_any}
-use Rattle.kp_ground_meaning.specs.Static.{says}
+use Rattle.kp_ground_semantics.specs.Static.{says}
 use Rattle.kp_ground_instances.specs.StaticTables.{has_atom}
 use Rattle.kp_ground_instances.proofs.stated.stated_atoms.Given as goal
 

@@ -1,5 +1,5 @@
 use Rattle.std.proofs.Common.{◌≡◌, ◌++◌, map, drop}
-use Rattle.kp_ground_meaning.specs.Ground.{numbered}
+use Rattle.kp_ground_semantics.specs.Ground.{numbered}
 use Rattle.kp_init.proofs.clauses.literals.Given as goal
 
 -- with the literals that are left come all

@@ -1,7 +1,7 @@
 use Rattle.std.proofs.Common.{[], ◌∷◌, ◌++◌, sym, ap, ◌∙◌}
 use Rattle.kp_base.specs.declared.lit.AtomId.{AtomId}
 use Rattle.kp_base.specs.Atoms.{number_of, kept_atom}
-use Rattle.kp_names_meaning.specs.Lifted.{is_named}
+use Rattle.kp_names_semantics.specs.Lifted.{is_named}
 use Rattle.kp_names.specs.View.{lifted_view}
 use Rattle.kp_init.proofs.NamedAtoms.{one_closed}
 use Rattle.kp_init.proofs.closed.add_closed.Goals as goal

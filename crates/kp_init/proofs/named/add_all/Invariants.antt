@@ -1,7 +1,7 @@
 use Rattle.std.proofs.Common.{◌≡◌, ◌||◌, drop}
 use Rattle.std.specs.List.{list_any}
 use Rattle.kp_base.specs.Atoms.{Atom, same_atom}
-use Rattle.kp_ground_meaning.specs.Ground.{atom_of}
+use Rattle.kp_ground_semantics.specs.Ground.{atom_of}
 use Rattle.kp_init.specs.NamedAtoms.{is_kept}
 use Rattle.kp_init.proofs.named.add_all.Given as goal
 

@@ -2,7 +2,7 @@ use Rattle.std.proofs.Common.{◌∙◌}
 use Rattle.kp_write.proofs.Public.{domain_put_is_its_text}
 use Rattle.kp_write.specs.Named.{named_ops}
 use Rattle.kp_law_ktask.specs.Task.{task_of}
-use Rattle.kp_run_translate.proofs.domain.domain_text.Goals as goal
+use Rattle.kp_ktask_texts.proofs.domain.domain_text.Goals as goal
 
 pub returns : goal.returns
 returns c =

@@ -1,7 +1,7 @@
 use Rattle.kp_write.specs.Named.{named_op}
 use Rattle.kp_write.proofs.Public.{operator_puts}
 use Rattle.kp_law_ktask.specs.Task.{op_of}
-use Rattle.kp_run_translate.proofs.domain.put_action.Goals as goal
+use Rattle.kp_ktask_texts.proofs.domain.put_action.Goals as goal
 
 pub returns : goal.returns
 returns c =

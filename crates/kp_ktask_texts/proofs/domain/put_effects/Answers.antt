@@ -5,8 +5,8 @@ use Rattle.kp_write.specs.Written.{effect_line}
 use Rattle.kp_write.specs.Named.{named_effect}
 use Rattle.kp_law_ktask.specs.Task.{effects_under, effects_from}
 use Rattle.kp_ktask.proofs.Public.{next_tag_first}
-use Rattle.kp_run_translate.proofs.Putting.{some_more}
-use Rattle.kp_run_translate.proofs.domain.put_effects.Goals as goal
+use Rattle.kp_ktask_texts.proofs.Putting.{some_more}
+use Rattle.kp_ktask_texts.proofs.domain.put_effects.Goals as goal
 
 -- those of the tag were put, those of the later ones are left
 pub loop-tag-preserved : goal.loop-tag-preserved

@@ -3,8 +3,8 @@ use Rattle.std.proofs.lemmas.List.{map-append}
 use Rattle.kp_write.specs.Named.{named_op}
 use Rattle.kp_write.specs.Written.{op}
 use Rattle.kp_law_ktask.specs.Task.{op_of, merge_ops_from}
-use Rattle.kp_run_translate.proofs.Putting.{both_put}
-use Rattle.kp_run_translate.proofs.domain.put_operators.Goals as goal
+use Rattle.kp_ktask_texts.proofs.Putting.{both_put}
+use Rattle.kp_ktask_texts.proofs.domain.put_operators.Goals as goal
 
 pub returns : goal.returns
 returns c =

@@ -4,7 +4,7 @@ use Rattle.kp_law_texts.proofs.Public.{LeavesToPut}
 use Rattle.kp_write.specs.Written.{effect_line}
 use Rattle.kp_write.specs.Named.{named_effect}
 use Rattle.kp_law_ktask.specs.Task.{effects_under}
-use Rattle.kp_run_translate.proofs.domain.put_under.Given as goal
+use Rattle.kp_ktask_texts.proofs.domain.put_under.Given as goal
 
 abbrev pub invariant-loop-effect : goal.invariant-loop-effect
 invariant-loop-effect l =

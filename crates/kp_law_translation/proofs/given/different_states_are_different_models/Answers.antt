@@ -1,5 +1,5 @@
-use Rattle.kp_law_files.proofs.Different.{states_differ}
-use Rattle.kp_law_files.proofs.given.different_states_are_different_models.Goals as goal
+use Rattle.kp_law_translation.proofs.Different.{states_differ}
+use Rattle.kp_law_translation.proofs.given.different_states_are_different_models.Goals as goal
 
 pub returns : goal.returns
 returns c = states_differ

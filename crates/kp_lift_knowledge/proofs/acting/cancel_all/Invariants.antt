@@ -1,8 +1,8 @@
 use Rattle.std.proofs.Common.{◌≡◌, ◌&&◌, length, take}
 use Rattle.kp_base.specs.Machine.{persists}
-use Rattle.kp_lift_known.specs.Known.{known}
-use Rattle.kp_lift_known.specs.Tabled.{Turns}
-use Rattle.kp_lift_known.proofs.acting.cancel_all.Given as goal
+use Rattle.kp_lift_knowledge.specs.Known.{known}
+use Rattle.kp_lift_knowledge.specs.Tabled.{Turns}
+use Rattle.kp_lift_knowledge.proofs.acting.cancel_all.Given as goal
 
 abbrev pub invariant-loop-e : goal.invariant-loop-e
 invariant-loop-e l = record {

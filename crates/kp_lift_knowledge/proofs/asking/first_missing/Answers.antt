@@ -1,7 +1,7 @@
 use Rattle.std.proofs.Common.{sym, ◌∙◌}
-use Rattle.kp_lift_known.specs.Known.{known}
-use Rattle.kp_lift_known.proofs.Missing.{least_found}
-use Rattle.kp_lift_known.proofs.asking.first_missing.Goals as goal
+use Rattle.kp_lift_knowledge.specs.Known.{known}
+use Rattle.kp_lift_knowledge.proofs.Missing.{least_found}
+use Rattle.kp_lift_knowledge.proofs.asking.first_missing.Goals as goal
 
 -- the literals before it are known
 pub returns-then-not-get-clause-some : goal.returns-then-not-get-clause-some

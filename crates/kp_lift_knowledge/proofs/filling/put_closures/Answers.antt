@@ -1,5 +1,5 @@
-use Rattle.kp_lift_known.proofs.Closures.{closure_noted}
-use Rattle.kp_lift_known.proofs.filling.put_closures.Goals as goal
+use Rattle.kp_lift_knowledge.proofs.Closures.{closure_noted}
+use Rattle.kp_lift_knowledge.proofs.filling.put_closures.Goals as goal
 
 -- one more closure is noted
 pub loop-t-preserved : goal.loop-t-preserved

@@ -1,6 +1,6 @@
 use Rattle.std.proofs.Common.{nat_lt}
-use Rattle.kp_lift_known.specs.Tabled.{Tells}
-use Rattle.kp_lift_known.proofs.met.ones.Given as goal
+use Rattle.kp_lift_knowledge.specs.Tabled.{Tells}
+use Rattle.kp_lift_knowledge.proofs.met.ones.Given as goal
 
 -- the bits below t are set
 abbrev pub invariant-loop-t : goal.invariant-loop-t

@@ -1,7 +1,7 @@
 use Rattle.std.proofs.Common.{◌≡◌, drop}
 use Rattle.std.specs.List.{flat_map}
-use Rattle.kp_names_meaning.specs.Faults.{unless_among}
-use Rattle.kp_names_meaning.specs.Types.{types}
+use Rattle.kp_names_semantics.specs.Faults.{unless_among}
+use Rattle.kp_names_semantics.specs.Types.{types}
 use Rattle.kp_names_declared.specs.Collected.{domain_of}
 use Rattle.kp_names.specs.Noted.{noted}
 use Rattle.kp_names.proofs.declarations.note_kinds.Given as goal

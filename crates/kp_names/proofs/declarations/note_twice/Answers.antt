@@ -2,7 +2,7 @@ use Rattle.std.proofs.Common.{◌≡◌, ◌∷◌, ◌+◌, ◌∙◌, List, ma
 use Rattle.std.proofs.lemmas.Grind.{common_steps}
 use Rattle.kp_tree_grammar.specs.declared.tree.Word.{Word}
 use Rattle.kp_tree_grammar.specs.View.{typed_view}
-use Rattle.kp_names_meaning.specs.Faults.{repeated, words}
+use Rattle.kp_names_semantics.specs.Faults.{repeated, words}
 use Rattle.kp_names.specs.Noted.{noted}
 use Rattle.kp_names.proofs.Scopes.{noted_repeat}
 use Rattle.kp_names.proofs.declarations.note_twice.Goals as goal

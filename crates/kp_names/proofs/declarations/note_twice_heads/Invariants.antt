@@ -1,6 +1,6 @@
 use Rattle.std.proofs.Common.{◌≡◌, drop, map}
 use Rattle.kp_tree_grammar.specs.View.{pred_view}
-use Rattle.kp_names_meaning.specs.Faults.{repeated, twice_in}
+use Rattle.kp_names_semantics.specs.Faults.{repeated, twice_in}
 use Rattle.kp_names.specs.Noted.{noted, heads_of}
 use Rattle.kp_names.proofs.declarations.note_twice_heads.Given as goal
 

@@ -1,6 +1,6 @@
 use Rattle.std.proofs.Common.{◌≡◌, drop, map}
 use Rattle.kp_tree_grammar.specs.View.{schema_view}
-use Rattle.kp_names_meaning.specs.Faults.{repeated, twice_in}
+use Rattle.kp_names_semantics.specs.Faults.{repeated, twice_in}
 use Rattle.kp_names.specs.Noted.{noted, names_of}
 use Rattle.kp_names.proofs.declarations.note_twice_schemas.Given as goal
 

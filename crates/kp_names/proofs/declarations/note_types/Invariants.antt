@@ -1,6 +1,6 @@
 use Rattle.std.proofs.Common.{◌≡◌, drop, map}
 use Rattle.kp_tree_grammar.specs.View.{typed_view}
-use Rattle.kp_names_meaning.specs.Faults.{type_faults}
+use Rattle.kp_names_semantics.specs.Faults.{type_faults}
 use Rattle.kp_names_declared.specs.Collected.{domain_of}
 use Rattle.kp_names.specs.Noted.{noted}
 use Rattle.kp_names.proofs.declarations.note_types.Given as goal

@@ -1,7 +1,7 @@
 use Rattle.std.proofs.Common.{◌≡◌, drop, map}
 use Rattle.kp_tree_grammar.specs.Trees.{conds_of}
 use Rattle.kp_tree_grammar.specs.View.{cond_view}
-use Rattle.kp_names_meaning.specs.Faults.{cond_faults, conds_faults}
+use Rattle.kp_names_semantics.specs.Faults.{cond_faults, conds_faults}
 use Rattle.kp_names_declared.specs.Collected.{domain_of, problem_of}
 use Rattle.kp_names.specs.Noted.{noted}
 use Rattle.kp_names.proofs.faults.+note_cond.Given as goal

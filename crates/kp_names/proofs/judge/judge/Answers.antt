@@ -1,7 +1,7 @@
 use Rattle.std.proofs.Common.{Err, refl}
 use Rattle.std.proofs.lemmas.Result.{err_from_is_err_and}
 use Rattle.kp_base.specs.declared.refused.Part.TheVariants as parts
-use Rattle.kp_names_meaning.specs.Faults.{domain_faults}
+use Rattle.kp_names_semantics.specs.Faults.{domain_faults}
 use Rattle.kp_names_declared.specs.Collected.{domain_of, problem_of}
 use Rattle.kp_names.specs.Noted.{Judges}
 use Rattle.kp_names.proofs.FirstFault.{domain_refused, problem_judged}

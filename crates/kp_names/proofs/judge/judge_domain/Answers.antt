@@ -1,6 +1,6 @@
 use Rattle.std.proofs.Common.{◌∙◌, sym, ap}
 use Rattle.kp_base.specs.declared.refused.Part.TheVariants as parts
-use Rattle.kp_names_meaning.specs.Faults.{domain_faults}
+use Rattle.kp_names_semantics.specs.Faults.{domain_faults}
 use Rattle.kp_names_declared.specs.Collected.{domain_of, problem_of}
 use Rattle.kp_names.specs.Noted.{noted}
 use Rattle.kp_names.proofs.FirstFault.{judged}

@@ -5,7 +5,7 @@ use Rattle.kp_tree_grammar.specs.declared.tree.EffTree.TheFolds.{fold-roll-EffTr
 use Rattle.kp_tree_grammar.specs.declared.tree.EffTree.TheVariants as effs
 use Rattle.kp_tree_grammar.specs.View.{typed_view, eff_step, eff_view}
 use Rattle.kp_tree_grammar.specs.Trees.{Eff}
-use Rattle.kp_names_meaning.specs.Faults.{eff_faults}
+use Rattle.kp_names_semantics.specs.Faults.{eff_faults}
 use Rattle.kp_names_declared.specs.Collected.{domain_of, problem_of}
 use Rattle.kp_names.specs.Noted.{noted}
 use Rattle.kp_names.proofs.Scopes.{noted_each}

@@ -1,7 +1,7 @@
 use Rattle.std.proofs.Common.{◌≡◌, drop, map}
 use Rattle.kp_tree_grammar.specs.Trees.{effs_of}
 use Rattle.kp_tree_grammar.specs.View.{eff_view}
-use Rattle.kp_names_meaning.specs.Faults.{eff_faults, effs_faults}
+use Rattle.kp_names_semantics.specs.Faults.{eff_faults, effs_faults}
 use Rattle.kp_names_declared.specs.Collected.{domain_of, problem_of}
 use Rattle.kp_names.specs.Noted.{noted}
 use Rattle.kp_names.proofs.schema_faults.+note_effect.Given as goal

@@ -1,6 +1,6 @@
 use Rattle.std.proofs.Common.{◌∙◌, ap₂}
 use Rattle.kp_tree_grammar.specs.View.{cond_view, eff_view, schema_view}
-use Rattle.kp_names_meaning.specs.Faults.{cond_faults, eff_faults}
+use Rattle.kp_names_semantics.specs.Faults.{cond_faults, eff_faults}
 use Rattle.kp_names_declared.specs.Collected.{domain_of, problem_of}
 use Rattle.kp_names.specs.Noted.{noted}
 use Rattle.kp_names.proofs.Scopes.{noted_schema}

@@ -1,7 +1,7 @@
 use Rattle.std.proofs.Common.{◌≡◌, drop, map}
 use Rattle.std.specs.List.{flat_map}
 use Rattle.kp_tree_grammar.specs.View.{item_view}
-use Rattle.kp_names_meaning.specs.Faults.{item_faults}
+use Rattle.kp_names_semantics.specs.Faults.{item_faults}
 use Rattle.kp_names_declared.specs.Collected.{domain_of, problem_of}
 use Rattle.kp_names.specs.Noted.{noted}
 use Rattle.kp_names.proofs.whole.note_init.Given as goal

@@ -1,7 +1,7 @@
 use Rattle.std.proofs.Common.{◌≡◌, drop, map}
 use Rattle.std.specs.List.{flat_map}
 use Rattle.kp_tree_grammar.specs.View.{pred_view}
-use Rattle.kp_names_meaning.specs.Faults.{twice_in, words}
+use Rattle.kp_names_semantics.specs.Faults.{twice_in, words}
 use Rattle.kp_names.specs.Noted.{noted}
 use Rattle.kp_names.proofs.whole.note_parameters.Given as goal
 

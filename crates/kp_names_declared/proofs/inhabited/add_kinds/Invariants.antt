@@ -1,7 +1,7 @@
 use Rattle.std.proofs.Common.{◌≡◌, drop, fold, map}
 use Rattle.std.specs.List.{flat_map}
 use Rattle.kp_tree_grammar.specs.View.{typed_view}
-use Rattle.kp_names_meaning.specs.Types.{names}
+use Rattle.kp_names_semantics.specs.Types.{names}
 use Rattle.kp_names_declared.specs.Steps.{with_name}
 use Rattle.kp_names_declared.proofs.inhabited.add_kinds.Given as goal
 

@@ -1,6 +1,6 @@
 use Rattle.std.proofs.Common.{◌∙◌, [], ◌∷◌, map, fold, flat_map, length, subst, ap}
 use Rattle.kp_tree_grammar.specs.View.{typed_view, domain_view, problem_view}
-use Rattle.kp_names_meaning.specs.Types.{object, names, object_lines}
+use Rattle.kp_names_semantics.specs.Types.{object, names, object_lines}
 use Rattle.kp_names_declared.specs.Steps.{with_name, lines_over, IsClosing}
 use Rattle.kp_names_declared.proofs.InhabitedTypes.{closed_above}
 use Rattle.kp_names_declared.proofs.inhabited.inhabited_types.Goals as goal

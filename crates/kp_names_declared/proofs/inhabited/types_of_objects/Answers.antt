@@ -1,6 +1,6 @@
 use Rattle.std.proofs.Common.{◌∙◌, [], ◌∷◌, map, fold, flat_map, ap, ap₂}
 use Rattle.kp_tree_grammar.specs.View.{typed_view, domain_view, problem_view}
-use Rattle.kp_names_meaning.specs.Types.{object, names}
+use Rattle.kp_names_semantics.specs.Types.{object, names}
 use Rattle.kp_names_declared.specs.Steps.{with_name}
 use Rattle.kp_names_declared.proofs.InhabitedTypes.{kinds_gathered}
 use Rattle.kp_names_declared.proofs.inhabited.types_of_objects.Goals as goal

@@ -1,7 +1,7 @@
 use Rattle.std.proofs.Common.{◌≡◌, ◌++◌, map, drop}
 use Rattle.kp_tree_grammar.specs.Trees.{conds_of}
 use Rattle.kp_tree_grammar.specs.View.{cond_view, domain_view, problem_view}
-use Rattle.kp_names_meaning.specs.Numbering.{numbered_goal, numbered_goals}
+use Rattle.kp_names_semantics.specs.Numbering.{numbered_goal, numbered_goals}
 use Rattle.kp_names_declared.proofs.items.+add_goal.Given as goal
 
 -- with what is left come all

@@ -1,7 +1,7 @@
 use Rattle.std.proofs.Common.{◌≡◌, ◌++◌, map, drop}
 use Rattle.kp_tree_grammar.specs.Trees.{items_of}
 use Rattle.kp_tree_grammar.specs.View.{item_view, domain_view, problem_view}
-use Rattle.kp_names_meaning.specs.Numbering.{numbered_item, numbered_items}
+use Rattle.kp_names_semantics.specs.Numbering.{numbered_item, numbered_items}
 use Rattle.kp_names_declared.proofs.items.+add_item.Given as goal
 
 -- with what is left come all

@@ -1,6 +1,6 @@
 use Rattle.std.proofs.Common.{◌≡◌, ◌++◌, map, drop, flat_map}
 use Rattle.kp_tree_grammar.specs.View.{item_view, domain_view, problem_view}
-use Rattle.kp_names_meaning.specs.Numbering.{numbered_item}
+use Rattle.kp_names_semantics.specs.Numbering.{numbered_item}
 use Rattle.kp_names_declared.proofs.items.initial_items.Given as goal
 
 abbrev pub invariant-loop-tree : goal.invariant-loop-tree

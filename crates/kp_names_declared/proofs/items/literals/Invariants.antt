@@ -1,6 +1,6 @@
 use Rattle.std.proofs.Common.{◌≡◌, ◌++◌, map, drop}
 use Rattle.kp_tree_grammar.specs.View.{lit_view, domain_view, problem_view}
-use Rattle.kp_names_meaning.specs.Numbering.{numbered_lit}
+use Rattle.kp_names_semantics.specs.Numbering.{numbered_lit}
 use Rattle.kp_names_declared.proofs.items.literals.Given as goal
 
 abbrev pub invariant-loop-tree : goal.invariant-loop-tree

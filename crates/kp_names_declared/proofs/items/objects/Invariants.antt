@@ -1,6 +1,6 @@
 use Rattle.std.proofs.Common.{◌≡◌, ◌++◌, map, drop}
 use Rattle.kp_tree_grammar.specs.View.{term_view, domain_view, problem_view}
-use Rattle.kp_names_meaning.specs.Numbering.{object_number}
+use Rattle.kp_names_semantics.specs.Numbering.{object_number}
 use Rattle.kp_names_declared.proofs.items.objects.Given as goal
 
 abbrev pub invariant-loop-term : goal.invariant-loop-term

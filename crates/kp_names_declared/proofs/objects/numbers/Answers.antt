@@ -3,8 +3,8 @@ use Rattle.std.specs.List.{dedup}
 use Rattle.std.proofs.lemmas.Grind.{common_steps}
 use Rattle.std.proofs.lemmas.List.Filters.{dedup_is}
 use Rattle.kp_tree_grammar.specs.View.{domain_view, problem_view}
-use Rattle.kp_names_meaning.specs.Numbering.{index_of}
-use Rattle.kp_names_meaning.specs.Types.{objects}
+use Rattle.kp_names_semantics.specs.Numbering.{index_of}
+use Rattle.kp_names_semantics.specs.Types.{objects}
 use Rattle.kp_names_declared.specs.Steps.{IsRowOf}
 use Rattle.kp_names_declared.proofs.ObjectsOfTypes.{sorted_row}
 use Rattle.kp_names_declared.proofs.objects.numbers.Goals as goal

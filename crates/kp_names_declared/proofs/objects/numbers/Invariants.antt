@@ -1,7 +1,7 @@
 use Rattle.std.proofs.Common.{◌≡◌, map, take}
 use Rattle.kp_tree_grammar.specs.View.{domain_view, problem_view}
-use Rattle.kp_names_meaning.specs.Numbering.{index_of}
-use Rattle.kp_names_meaning.specs.Types.{objects}
+use Rattle.kp_names_semantics.specs.Numbering.{index_of}
+use Rattle.kp_names_semantics.specs.Types.{objects}
 use Rattle.kp_names_declared.proofs.objects.numbers.Given as goal
 
 -- the numbers of the names so far

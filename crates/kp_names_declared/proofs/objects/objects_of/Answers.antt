@@ -1,7 +1,7 @@
 use Rattle.std.proofs.Common.{◌≡◌, ◌∙◌, sym, ap, [], map, fold, flat_map, subst}
 use Rattle.kp_tree_grammar.specs.View.{domain_view, problem_view}
-use Rattle.kp_names_meaning.specs.Numbering.{index_of}
-use Rattle.kp_names_meaning.specs.Types.{objects, object_lines}
+use Rattle.kp_names_semantics.specs.Numbering.{index_of}
+use Rattle.kp_names_semantics.specs.Types.{objects, object_lines}
 use Rattle.kp_names_declared.specs.Steps.{with_name, under, lines_under, IsRowOf}
 use Rattle.kp_names_declared.proofs.Gathering.{member_gathered, gathered_member}
 use Rattle.kp_names_declared.proofs.ObjectsOfTypes.{row_of_all, row_of_found}

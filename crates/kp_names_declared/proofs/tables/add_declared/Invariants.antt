@@ -1,6 +1,6 @@
 use Rattle.std.proofs.Common.{◌≡◌, drop, fold, map}
 use Rattle.kp_tree_grammar.specs.View.{typed_view}
-use Rattle.kp_names_meaning.specs.Types.{declared}
+use Rattle.kp_names_semantics.specs.Types.{declared}
 use Rattle.kp_names_declared.specs.Steps.{with_name}
 use Rattle.kp_names_declared.proofs.tables.add_declared.Given as goal
 

@@ -1,5 +1,5 @@
 use Rattle.std.proofs.Common.{◌≡◌, drop, fold}
-use Rattle.kp_names_meaning.specs.Types.{names}
+use Rattle.kp_names_semantics.specs.Types.{names}
 use Rattle.kp_names_declared.specs.Steps.{with_name}
 use Rattle.kp_names_declared.proofs.tables.add_words.Given as goal
 

@@ -1,6 +1,6 @@
 use Rattle.std.proofs.Common.{◌∙◌, [], map, fold, ap, ap₂}
 use Rattle.kp_tree_grammar.specs.View.{typed_view, domain_view, problem_view}
-use Rattle.kp_names_meaning.specs.Types.{declared}
+use Rattle.kp_names_semantics.specs.Types.{declared}
 use Rattle.kp_names_declared.specs.Steps.{with_name}
 use Rattle.kp_names_declared.proofs.Gathering.{objects_gathered}
 use Rattle.kp_names_declared.proofs.tables.objects_of.Goals as goal

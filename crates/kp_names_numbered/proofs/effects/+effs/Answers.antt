@@ -1,9 +1,9 @@
 use Rattle.std.proofs.Common.{◌∙◌, sym, ap, map, drop, length}
 use Rattle.kp_tree_grammar.specs.View.{eff_view as tree_view, domain_view, problem_view}
-use Rattle.kp_names_meaning.specs.Numbering.{numbered_eff}
-use Rattle.kp_names_lifted.proofs.Views.{all_effs}
-use Rattle.kp_names_lifted.proofs.LeftScopes.{as_before}
-use Rattle.kp_names_lifted.proofs.effects.+effs.Goals as goal
+use Rattle.kp_names_semantics.specs.Numbering.{numbered_eff}
+use Rattle.kp_names_numbered.proofs.Views.{all_effs}
+use Rattle.kp_names_numbered.proofs.LeftScopes.{as_before}
+use Rattle.kp_names_numbered.proofs.effects.+effs.Goals as goal
 
 pub effect-returns-in_ok-effects-in-All-clause-effect : goal.effect-returns-in_ok-effects-in-All-clause-effect
 effect-returns-in_ok-effects-in-All-clause-effect t c =

@@ -1,8 +1,8 @@
 use Rattle.std.proofs.Common.{◌≡◌, ◌++◌, map, drop}
 use Rattle.kp_tree_grammar.specs.View.{eff_view as tree_view, domain_view, problem_view}
-use Rattle.kp_names_meaning.specs.Numbering.{numbered_eff}
-use Rattle.kp_names_lifted.specs.View.{eff_view}
-use Rattle.kp_names_lifted.proofs.effects.+effs.Given as goal
+use Rattle.kp_names_semantics.specs.Numbering.{numbered_eff}
+use Rattle.kp_names_numbered.specs.View.{eff_view}
+use Rattle.kp_names_numbered.proofs.effects.+effs.Given as goal
 
 abbrev pub invariant-effects-trees : goal.invariant-effects-trees
 invariant-effects-trees l = record {

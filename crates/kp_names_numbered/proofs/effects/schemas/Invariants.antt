@@ -1,8 +1,8 @@
 use Rattle.std.proofs.Common.{◌≡◌, ◌++◌, map, drop}
 use Rattle.kp_tree_grammar.specs.View.{schema_view as schema_tree_view, domain_view, problem_view}
-use Rattle.kp_names_meaning.specs.Numbering.{numbered_schema}
-use Rattle.kp_names_lifted.specs.View.{schema_view}
-use Rattle.kp_names_lifted.proofs.effects.schemas.Given as goal
+use Rattle.kp_names_semantics.specs.Numbering.{numbered_schema}
+use Rattle.kp_names_numbered.specs.View.{schema_view}
+use Rattle.kp_names_numbered.proofs.effects.schemas.Given as goal
 
 abbrev pub invariant-loop-tree : goal.invariant-loop-tree
 invariant-loop-tree l = record {

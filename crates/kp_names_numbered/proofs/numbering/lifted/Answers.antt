@@ -1,9 +1,9 @@
 use Rattle.std.proofs.Common.{◌≡◌, ◌∙◌, ap, ap₂, map, flat_map}
 use Rattle.kp_tree_grammar.specs.View.{schema_view as schema_tree_view, domain_view, problem_view}
-use Rattle.kp_names_meaning.specs.Types.{objects}
-use Rattle.kp_names_meaning.specs.Numbering.{numbered_pred, numbered_schema, numbered_item, numbered_goal}
-use Rattle.kp_names_lifted.proofs.WholeProblem.{same_parts}
-use Rattle.kp_names_lifted.proofs.numbering.lifted.Goals as goal
+use Rattle.kp_names_semantics.specs.Types.{objects}
+use Rattle.kp_names_semantics.specs.Numbering.{numbered_pred, numbered_schema, numbered_item, numbered_goal}
+use Rattle.kp_names_numbered.proofs.WholeProblem.{same_parts}
+use Rattle.kp_names_numbered.proofs.numbering.lifted.Goals as goal
 
 pub returns-clause-numbered : goal.returns-clause-numbered
 returns-clause-numbered c =

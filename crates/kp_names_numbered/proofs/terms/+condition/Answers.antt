@@ -1,10 +1,10 @@
 use Rattle.std.proofs.Common.{◌≡◌, ◌∙◌, sym, ap, map, arith}
 use Rattle.std.proofs.lemmas.Grind.{common_steps}
 use Rattle.kp_tree_grammar.specs.View.{cond_view as tree_view, domain_view, problem_view}
-use Rattle.kp_names_meaning.specs.Numbering.{numbered_cond}
-use Rattle.kp_names_lifted.specs.View.{cond_view}
-use Rattle.kp_names_lifted.proofs.Views.{all_conds}
-use Rattle.kp_names_lifted.proofs.terms.+condition.Goals as goal
+use Rattle.kp_names_semantics.specs.Numbering.{numbered_cond}
+use Rattle.kp_names_numbered.specs.View.{cond_view}
+use Rattle.kp_names_numbered.proofs.Views.{all_conds}
+use Rattle.kp_names_numbered.proofs.terms.+condition.Goals as goal
 
 pub returns-after-loop-part : goal.returns-after-loop-part
 returns-after-loop-part t c =

@@ -1,5 +1,5 @@
-use Rattle.kp_names_meaning.proofs.PlainGoals.{goals_plain}
-use Rattle.kp_names_meaning.proofs.laws.goals_have_no_equality.Goals as goal
+use Rattle.kp_names_semantics.proofs.PlainGoals.{goals_plain}
+use Rattle.kp_names_semantics.proofs.laws.goals_have_no_equality.Goals as goal
 
 pub returns : goal.returns
 returns c = goals_plain

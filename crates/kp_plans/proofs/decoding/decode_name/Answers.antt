@@ -1,7 +1,7 @@
 use Rattle.std.proofs.Common.{◌≡◌, ◌∙◌, ap, IfOk, Ok, Err, Result, Option, List, ℕ}
 use Rattle.kp_base.specs.declared.ground.GroundName.{GroundName}
 use Rattle.kp_base.specs.declared.memory.Memory.{Memory}
-use Rattle.kp_names_meaning.specs.Encoding.{decoded}
+use Rattle.kp_names_semantics.specs.Encoding.{decoded}
 use Rattle.kp_plans.specs.Names.{IsNameOf}
 use Rattle.kp_plans.proofs.Decoded.{is_name}
 use Rattle.kp_plans.proofs.decoding.decode_name.Goals as goal

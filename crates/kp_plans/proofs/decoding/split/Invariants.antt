@@ -1,5 +1,5 @@
 use Rattle.std.proofs.Common.{◌≡◌, drop}
-use Rattle.kp_names_meaning.specs.Encoding.{split}
+use Rattle.kp_names_semantics.specs.Encoding.{split}
 use Rattle.kp_plans.specs.Decoding.{components}
 use Rattle.kp_plans.proofs.decoding.split.Given as goal
 

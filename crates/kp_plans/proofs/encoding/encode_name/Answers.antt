@@ -1,6 +1,6 @@
 use Rattle.std.proofs.Common.{◌≡◌, rules, ◌∙◌, ap}
-use Rattle.kp_names_meaning.specs.Encoding.{decoded, encoded}
-use Rattle.kp_names_meaning.proofs.Public.{what_was_encoded_decodes}
+use Rattle.kp_names_semantics.specs.Encoding.{decoded, encoded}
+use Rattle.kp_names_semantics.proofs.Public.{what_was_encoded_decodes}
 use Rattle.kp_plans.proofs.encoding.encode_name.Goals as goal
 
 -- what was encoded is decoded

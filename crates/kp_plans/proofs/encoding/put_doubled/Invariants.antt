@@ -1,5 +1,5 @@
 use Rattle.std.proofs.Common.{◌≡◌, ◌++◌, drop}
-use Rattle.kp_names_meaning.specs.Encoding.{doubled}
+use Rattle.kp_names_semantics.specs.Encoding.{doubled}
 use Rattle.kp_plans.proofs.encoding.put_doubled.Given as goal
 
 -- with what is left to write, it is the whole

@@ -1,5 +1,5 @@
 use Rattle.std.proofs.Common.{◌≡◌, ◌++◌, drop}
-use Rattle.kp_names_meaning.specs.Encoding.{encoded_objects}
+use Rattle.kp_names_semantics.specs.Encoding.{encoded_objects}
 use Rattle.kp_plans.proofs.encoding.put_objects.Given as goal
 
 -- with what is left to write, it is the whole

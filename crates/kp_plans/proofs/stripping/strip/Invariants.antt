@@ -1,5 +1,5 @@
 use Rattle.std.proofs.Common.{◌≡◌, Some, take}
-use Rattle.kp_names_meaning.specs.Strip.{strip}
+use Rattle.kp_names_semantics.specs.Strip.{strip}
 use Rattle.kp_plans.specs.PlanFiles.{step_names}
 use Rattle.kp_plans.proofs.stripping.strip.Given as goal
 

@@ -2,10 +2,10 @@ use Rattle.std.proofs.Common.{true, false, arith}
 use Rattle.std.proofs.lemmas.Result.{IfOk-weaker}
 use Rattle.kp_base.specs.Lit.{negative, positive}
 use Rattle.kp_primes.specs.Held.{formula}
-use Rattle.kp_primes_models.specs.Asked.{test_at}
-use Rattle.kp_primes_models.proofs.Tags.{falls, more_below}
-use Rattle.kp_primes_models.proofs.Splitting.{found_more, split}
-use Rattle.kp_primes_models.proofs.finding.+find.Goals as goal
+use Rattle.kp_primes_first_model.specs.Asked.{test_at}
+use Rattle.kp_primes_first_model.proofs.Tags.{falls, more_below}
+use Rattle.kp_primes_first_model.proofs.Splitting.{found_more, split}
+use Rattle.kp_primes_first_model.proofs.finding.+find.Goals as goal
 
 -- what is found without the atom is within the tag
 pub find_either_way-returns-in-Some : goal.find_either_way-returns-in-Some

@@ -1,6 +1,6 @@
 use Rattle.std.proofs.Common.{◌+◌, ◌*◌}
-use Rattle.kp_primes_models.specs.Known.{undecided}
-use Rattle.kp_primes_models.proofs.finding.+find.Given as goal
+use Rattle.kp_primes_first_model.specs.Known.{undecided}
+use Rattle.kp_primes_first_model.proofs.finding.+find.Given as goal
 
 -- the atoms that are still to be decided
 abbrev pub decreases-find : goal.decreases-find

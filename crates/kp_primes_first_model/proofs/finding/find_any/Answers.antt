@@ -1,9 +1,9 @@
 use Rattle.std.proofs.Common.{◌≡◌, None, subst, inl, inr, arith}
 use Rattle.std.proofs.lemmas.Bool.{cases_lt}
 use Rattle.kp_primes.specs.Held.{formula}
-use Rattle.kp_primes_models.specs.Asked.{AnswersFind, test_at}
-use Rattle.kp_primes_models.proofs.Splitting.{found_by, found_by_none}
-use Rattle.kp_primes_models.proofs.finding.find_any.Goals as goal
+use Rattle.kp_primes_first_model.specs.Asked.{AnswersFind, test_at}
+use Rattle.kp_primes_first_model.proofs.Splitting.{found_by, found_by_none}
+use Rattle.kp_primes_first_model.proofs.finding.find_any.Goals as goal
 
 -- the next test has no model of the tag either
 pub loop-number-preserved : goal.loop-number-preserved

@@ -1,8 +1,8 @@
 use Rattle.std.proofs.lemmas.Option.{IfSome_then}
 use Rattle.kp_primes.specs.Held.{formula}
-use Rattle.kp_primes_models.specs.Asked.{test_at}
-use Rattle.kp_primes_models.proofs.Splitting.{judges_tag, same_of_models}
-use Rattle.kp_primes_models.proofs.finding.judge_tag.Goals as goal
+use Rattle.kp_primes_first_model.specs.Asked.{test_at}
+use Rattle.kp_primes_first_model.proofs.Splitting.{judges_tag, same_of_models}
+use Rattle.kp_primes_first_model.proofs.finding.judge_tag.Goals as goal
 
 pub returns-in_ok-seen-in-Some-clause-truth : goal.returns-in_ok-seen-in-Some-clause-truth
 returns-in_ok-seen-in-Some-clause-truth g c =

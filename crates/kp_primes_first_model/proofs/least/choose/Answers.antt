@@ -1,8 +1,8 @@
 use Rattle.std.proofs.Common.{◌≡◌, arith}
 use Rattle.kp_primes.specs.Held.{formula}
-use Rattle.kp_primes_models.specs.Asked.{passes_one}
-use Rattle.kp_primes_models.proofs.Choosing.{chosen_none, chosen_all}
-use Rattle.kp_primes_models.proofs.least.choose.Goals as goal
+use Rattle.kp_primes_first_model.specs.Asked.{passes_one}
+use Rattle.kp_primes_first_model.proofs.Choosing.{chosen_none, chosen_all}
+use Rattle.kp_primes_first_model.proofs.least.choose.Goals as goal
 
 pub loop-p-init : goal.loop-p-init
 loop-p-init g c = rw (c.new-tag.ensures, c.new-present.ensures) (chosen_none c.args.primes.now.atoms (formula c.args.primes.now) (passes_one (g.T.Question.tests c.args.question.now)) c.args.start c.requires.witness)

@@ -1,7 +1,7 @@
 use Rattle.kp_primes.specs.Held.{formula}
-use Rattle.kp_primes_models.specs.Asked.{passes_one}
-use Rattle.kp_primes_models.specs.Chosen.{IsChosen}
-use Rattle.kp_primes_models.proofs.least.choose.Given as goal
+use Rattle.kp_primes_first_model.specs.Asked.{passes_one}
+use Rattle.kp_primes_first_model.specs.Chosen.{IsChosen}
+use Rattle.kp_primes_first_model.proofs.least.choose.Given as goal
 
 -- the atoms so far are chosen
 abbrev pub invariant-loop-p : goal.invariant-loop-p

@@ -1,8 +1,8 @@
 use Rattle.std.proofs.Common.{refl}
 use Rattle.kp_primes.specs.Held.{formula}
-use Rattle.kp_primes_models.specs.Asked.{passes_one}
-use Rattle.kp_primes_models.proofs.Choosing.{chosen_absent, chosen_present}
-use Rattle.kp_primes_models.proofs.least.choose_one.Goals as goal
+use Rattle.kp_primes_first_model.specs.Asked.{passes_one}
+use Rattle.kp_primes_first_model.proofs.Choosing.{chosen_absent, chosen_present}
+use Rattle.kp_primes_first_model.proofs.least.choose_one.Goals as goal
 
 -- some model passes without the atom
 pub returns-in_ok-insert-in-Some : goal.returns-in_ok-insert-in-Some

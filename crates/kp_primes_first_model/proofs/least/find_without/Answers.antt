@@ -1,10 +1,10 @@
 use Rattle.std.proofs.Common.{refl}
 use Rattle.kp_base.specs.Lit.{negative}
 use Rattle.kp_primes.specs.Held.{formula}
-use Rattle.kp_primes_models.specs.Asked.{passes_one}
-use Rattle.kp_primes_models.proofs.Tags.{more_below}
-use Rattle.kp_primes_models.proofs.Splitting.{witness_without}
-use Rattle.kp_primes_models.proofs.least.find_without.Goals as goal
+use Rattle.kp_primes_first_model.specs.Asked.{passes_one}
+use Rattle.kp_primes_first_model.proofs.Tags.{more_below}
+use Rattle.kp_primes_first_model.proofs.Splitting.{witness_without}
+use Rattle.kp_primes_first_model.proofs.least.find_without.Goals as goal
 
 -- a model of what was found is without the atom
 pub returns-then-consistent : goal.returns-then-consistent

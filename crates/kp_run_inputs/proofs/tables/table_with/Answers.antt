@@ -4,7 +4,7 @@ use Rattle.kp_base.specs.declared.refused.Part.TheVariants as parts
 use Rattle.kp_base.specs.declared.refused.Refused.TheVariants as refusals
 use Rattle.kp_base.specs.Files.{most_bytes}
 use Rattle.kp_primes.specs.Held.{formula}
-use Rattle.kp_tags_merges.specs.MergesFiles.{IsMergesOf, AnswersMergesFile}
+use Rattle.kp_tags_files.specs.MergesFiles.{IsMergesOf, AnswersMergesFile}
 use Rattle.kp_tags.specs.MergeTables.{has_tags_of_atoms}
 use Rattle.kp_run_messages.specs.Refusals.{nothing}
 use Rattle.kp_run_prepare.proofs.Public.{whole_content_is_read}

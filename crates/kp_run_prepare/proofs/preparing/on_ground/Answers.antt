@@ -5,7 +5,7 @@ use Rattle.kp_base.specs.Implicates.{IsOfAtoms}
 use Rattle.kp_names.specs.View.{lifted_view}
 use Rattle.kp_init.specs.Initial.{initial_of}
 use Rattle.kp_primes.specs.Answers.{HoldsPrimes, AnswersPrimes, RefusesPrimes}
-use Rattle.kp_law_files.proofs.Public.{formula_by_number_is_over_atoms}
+use Rattle.kp_law_translation.proofs.Public.{formula_by_number_is_over_atoms}
 use Rattle.kp_run_prepare.proofs.Ended.{formula_ends}
 use Rattle.kp_run_prepare.proofs.preparing.on_ground.Goals as goal
 

@@ -1,6 +1,6 @@
 use Rattle.std.proofs.Common.{List, Err, subst}
 use Rattle.kp_primes.specs.Held.{formula}
-use Rattle.kp_tags_merges.specs.declared.merge.FileMerge.{FileMerge}
+use Rattle.kp_tags_files.specs.declared.merge.FileMerge.{FileMerge}
 use Rattle.kp_tags.specs.Answers.{AnswersMerges}
 use Rattle.kp_tags.proofs.Faults.{stops_table}
 use Rattle.kp_tags.proofs.accepting.accept_merges.Goals as goal

@@ -1,7 +1,7 @@
 use Rattle.std.proofs.Common.{List, sym, subst}
 use Rattle.std.proofs.lemmas.Result.{err_from_is_err_and}
 use Rattle.kp_primes.specs.Held.{formula}
-use Rattle.kp_tags_merges.specs.declared.merge.FileMerge.{FileMerge}
+use Rattle.kp_tags_files.specs.declared.merge.FileMerge.{FileMerge}
 use Rattle.kp_tags.specs.Answers.{AreAllAcceptable, AnswersTable}
 use Rattle.kp_tags.proofs.Made.{all_acceptable, made, stops_made}
 use Rattle.kp_tags.proofs.making.make.Goals as goal

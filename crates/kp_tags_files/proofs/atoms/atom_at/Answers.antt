@@ -1,7 +1,7 @@
 use Rattle.std.proofs.lemmas.Result.{err_from_is_err_and}
-use Rattle.kp_tags_merges.specs.Parts.{numbers_of}
-use Rattle.kp_tags_merges.proofs.AtomsFound.{atom_halts, atom_found, atom_unknown}
-use Rattle.kp_tags_merges.proofs.atoms.atom_at.Goals as goal
+use Rattle.kp_tags_files.specs.Parts.{numbers_of}
+use Rattle.kp_tags_files.proofs.AtomsFound.{atom_halts, atom_found, atom_unknown}
+use Rattle.kp_tags_files.proofs.atoms.atom_at.Goals as goal
 
 -- no atom stands there
 pub returns-in_err-words-clause-stopped : goal.returns-in_err-words-clause-stopped

@@ -1,8 +1,8 @@
 use Rattle.std.proofs.Common.{sym}
 use Rattle.std.proofs.lemmas.Result.{err_from_is_err_and}
 use Rattle.kp_tree_grammar.specs.Reading.{s_unopened}
-use Rattle.kp_tags_merges.proofs.AtomsFound.{headless, unclosed, stands}
-use Rattle.kp_tags_merges.proofs.atoms.words_at.Goals as goal
+use Rattle.kp_tags_files.proofs.AtomsFound.{headless, unclosed, stands}
+use Rattle.kp_tags_files.proofs.atoms.words_at.Goals as goal
 
 pub returns-then-not-is_left-clause-stopped : goal.returns-then-not-is_left-clause-stopped
 returns-then-not-is_left-clause-stopped c = s_unopened (sym c.if-not-is_left.ensures.test)

@@ -1,5 +1,5 @@
-use Rattle.kp_tags_merges.proofs.OneAnswer.{read_once, refused_once, never_two, always_some}
-use Rattle.kp_tags_merges.proofs.laws.a_merges_file_has_one_answer.Goals as goal
+use Rattle.kp_tags_files.proofs.OneAnswer.{read_once, refused_once, never_two, always_some}
+use Rattle.kp_tags_files.proofs.laws.a_merges_file_has_one_answer.Goals as goal
 
 pub returns-clause-one_list : goal.returns-clause-one_list
 returns-clause-one_list c = read_once

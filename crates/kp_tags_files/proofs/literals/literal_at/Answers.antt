@@ -1,7 +1,7 @@
 use Rattle.std.proofs.lemmas.Result.{err_from_is_err_and}
-use Rattle.kp_tags_merges.specs.Parts.{numbers_of}
-use Rattle.kp_tags_merges.proofs.AtomsFound.{plain_found, plain_fails, negated_found, negated_fails, negated_open}
-use Rattle.kp_tags_merges.proofs.literals.literal_at.Goals as goal
+use Rattle.kp_tags_files.specs.Parts.{numbers_of}
+use Rattle.kp_tags_files.proofs.AtomsFound.{plain_found, plain_fails, negated_found, negated_fails, negated_open}
+use Rattle.kp_tags_files.proofs.literals.literal_at.Goals as goal
 
 -- no atom stands there
 pub returns-in_err-atom-clause-stopped : goal.returns-in_err-atom-clause-stopped

@@ -1,8 +1,8 @@
 use Rattle.std.proofs.Common.{arith}
 use Rattle.std.proofs.lemmas.Result.{err_from_is_err_and}
-use Rattle.kp_tags_merges.specs.Parts.{numbers_of}
-use Rattle.kp_tags_merges.proofs.MergesFound.{no_lits, lit_fails, lit_stands, lits_stand}
-use Rattle.kp_tags_merges.proofs.literals.literals_at.Goals as goal
+use Rattle.kp_tags_files.specs.Parts.{numbers_of}
+use Rattle.kp_tags_files.proofs.MergesFound.{no_lits, lit_fails, lit_stands, lits_stand}
+use Rattle.kp_tags_files.proofs.literals.literals_at.Goals as goal
 
 pub literals-init : goal.literals-init
 literals-init c = record { onward = omega arith; within = c.requires; so_far = no_lits _ _ _ c.new-set.ensures }

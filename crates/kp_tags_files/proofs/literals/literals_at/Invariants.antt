@@ -1,7 +1,7 @@
 use Rattle.std.proofs.Common.{◌≤◌, ◌-◌, length}
 use Rattle.kp_tree_cursor.specs.Lexemes.{from}
-use Rattle.kp_tags_merges.specs.Parts.{LitsSoFar, numbers_of}
-use Rattle.kp_tags_merges.proofs.literals.literals_at.Given as goal
+use Rattle.kp_tags_files.specs.Parts.{LitsSoFar, numbers_of}
+use Rattle.kp_tags_files.proofs.literals.literals_at.Given as goal
 
 -- the literals so far, and the place behind which the others stand
 abbrev pub invariant-literals : goal.invariant-literals

@@ -1,8 +1,8 @@
 use Rattle.std.proofs.Common.{◌≡◌, rules, sym, subst, List, ℕ}
-use Rattle.kp_tags_merges.specs.MergesFiles.{IsMergesOf}
-use Rattle.kp_tags_merges.specs.Printed.{merges_of, merges_text}
-use Rattle.kp_tags_merges.proofs.ReadsBack.{written_merges_read}
-use Rattle.kp_tags_merges.proofs.printing.merges_text.Goals as goal
+use Rattle.kp_tags_files.specs.MergesFiles.{IsMergesOf}
+use Rattle.kp_tags_files.specs.Printed.{merges_of, merges_text}
+use Rattle.kp_tags_files.proofs.ReadsBack.{written_merges_read}
+use Rattle.kp_tags_files.proofs.printing.merges_text.Goals as goal
 
 -- the text is what is written, and that reads so
 pub returns-clause-reads : goal.returns-clause-reads

@@ -1,7 +1,7 @@
 use Rattle.std.proofs.Common.{drop, map}
 use Rattle.kp_law_texts.proofs.Public.{LeavesToPut}
-use Rattle.kp_tags_merges.specs.Printed.{merge_line, with_tags}
-use Rattle.kp_tags_merges.proofs.printing.put_merges.Given as goal
+use Rattle.kp_tags_files.specs.Printed.{merge_line, with_tags}
+use Rattle.kp_tags_files.proofs.printing.put_merges.Given as goal
 
 -- with the merges that are left, they are all merges
 abbrev pub invariant-loop-merge : goal.invariant-loop-merge

@@ -1,9 +1,9 @@
 use Rattle.kp_law_texts.specs.Pieces.{spaced}
 use Rattle.kp_base.proofs.Places.{next_mapped}
 use Rattle.kp_law_texts.proofs.Public.{one_more_put}
-use Rattle.kp_tags_merges.specs.Printed.{tag_put, tag_of}
-use Rattle.kp_tags_merges.proofs.Spaced.{spaced_puts}
-use Rattle.kp_tags_merges.proofs.printing.put_tags.Goals as goal
+use Rattle.kp_tags_files.specs.Printed.{tag_put, tag_of}
+use Rattle.kp_tags_files.proofs.Spaced.{spaced_puts}
+use Rattle.kp_tags_files.proofs.printing.put_tags.Goals as goal
 
 pub loop-number-preserved : goal.loop-number-preserved
 loop-number-preserved c =

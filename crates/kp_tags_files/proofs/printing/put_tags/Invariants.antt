@@ -1,8 +1,8 @@
 use Rattle.std.proofs.Common.{drop, map}
 use Rattle.kp_law_texts.specs.Pieces.{spaced}
 use Rattle.kp_law_texts.proofs.Public.{LeavesToPut}
-use Rattle.kp_tags_merges.specs.Printed.{tag_put, tag_of}
-use Rattle.kp_tags_merges.proofs.printing.put_tags.Given as goal
+use Rattle.kp_tags_files.specs.Printed.{tag_put, tag_of}
+use Rattle.kp_tags_files.proofs.printing.put_tags.Given as goal
 
 -- with the tags that are left, they are all tags
 abbrev pub invariant-loop-number : goal.invariant-loop-number

@@ -1,7 +1,7 @@
 use Rattle.std.proofs.lemmas.Result.{err_from_is_err_and}
-use Rattle.kp_tags_merges.specs.Parts.{numbers_of}
-use Rattle.kp_tags_merges.proofs.MergesFound.{target_fails, tags_fail, body_stands}
-use Rattle.kp_tags_merges.proofs.reading.body_at.Goals as goal
+use Rattle.kp_tags_files.specs.Parts.{numbers_of}
+use Rattle.kp_tags_files.proofs.MergesFound.{target_fails, tags_fail, body_stands}
+use Rattle.kp_tags_files.proofs.reading.body_at.Goals as goal
 
 -- the target is refused
 pub returns-in_err-target-clause-stopped : goal.returns-in_err-target-clause-stopped

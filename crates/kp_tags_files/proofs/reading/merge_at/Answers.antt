@@ -1,7 +1,7 @@
 use Rattle.std.proofs.lemmas.Result.{err_from_is_err_and}
-use Rattle.kp_tags_merges.specs.Parts.{numbers_of}
-use Rattle.kp_tags_merges.proofs.MergesFound.{no_merge, no_word, body_fails, merge_open, merge_stands}
-use Rattle.kp_tags_merges.proofs.reading.merge_at.Goals as goal
+use Rattle.kp_tags_files.specs.Parts.{numbers_of}
+use Rattle.kp_tags_files.proofs.MergesFound.{no_merge, no_word, body_fails, merge_open, merge_stands}
+use Rattle.kp_tags_files.proofs.reading.merge_at.Goals as goal
 
 pub returns-then-not-is_left-clause-stopped : goal.returns-then-not-is_left-clause-stopped
 returns-then-not-is_left-clause-stopped c = no_merge (numbers_of c.args.table.now) c.args.tokens.now c.args.at c.if-not-is_left.ensures.test

@@ -1,12 +1,12 @@
 use Rattle.std.proofs.Common.{arith}
 use Rattle.std.proofs.lemmas.Result.{err_from_is_err_and}
-use Rattle.kp_tags_merges.specs.Grammar.{merge}
-use Rattle.kp_tags_merges.specs.Numbers.{IsMerge}
-use Rattle.kp_tags_merges.specs.Parts.{numbers_of}
-use Rattle.kp_tags_merges.proofs.Contexts.{none_so_far}
-use Rattle.kp_tags_merges.proofs.Tagged.{walk_merge}
-use Rattle.kp_tags_merges.proofs.MergesFound.{next_stands, merge_fails, more_left, none_left}
-use Rattle.kp_tags_merges.proofs.reading.merges.Goals as goal
+use Rattle.kp_tags_files.specs.Grammar.{merge}
+use Rattle.kp_tags_files.specs.Numbers.{IsMerge}
+use Rattle.kp_tags_files.specs.Parts.{numbers_of}
+use Rattle.kp_tags_files.proofs.Contexts.{none_so_far}
+use Rattle.kp_tags_files.proofs.Tagged.{walk_merge}
+use Rattle.kp_tags_files.proofs.MergesFound.{next_stands, merge_fails, more_left, none_left}
+use Rattle.kp_tags_files.proofs.reading.merges.Goals as goal
 
 pub merges-init : goal.merges-init
 merges-init c = record { within = omega arith; so_far = rw c.new-merges.ensures (none_so_far _) }

@@ -1,9 +1,9 @@
 use Rattle.std.proofs.Common.{◌≤◌, ◌-◌, length}
 use Rattle.kp_tree_cursor.specs.Lexemes.{from}
-use Rattle.kp_tags_merges.specs.Grammar.{merge}
-use Rattle.kp_tags_merges.specs.Numbers.{IsMerge}
-use Rattle.kp_tags_merges.specs.Parts.{SoFar, numbers_of}
-use Rattle.kp_tags_merges.proofs.reading.merges.Given as goal
+use Rattle.kp_tags_files.specs.Grammar.{merge}
+use Rattle.kp_tags_files.specs.Numbers.{IsMerge}
+use Rattle.kp_tags_files.specs.Parts.{SoFar, numbers_of}
+use Rattle.kp_tags_files.proofs.reading.merges.Given as goal
 
 -- the merges so far, and the place behind which the others stand
 abbrev pub invariant-merges : goal.invariant-merges

@@ -1,5 +1,5 @@
-use Rattle.kp_tags_merges.proofs.WholeFiles.{read_all, refused}
-use Rattle.kp_tags_merges.proofs.reading.read_cut.Goals as goal
+use Rattle.kp_tags_files.proofs.WholeFiles.{read_all, refused}
+use Rattle.kp_tags_files.proofs.reading.read_cut.Goals as goal
 
 -- the tokens are merges
 pub returns-in-Ok : goal.returns-in-Ok

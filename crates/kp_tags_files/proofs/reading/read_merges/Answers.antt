@@ -1,6 +1,6 @@
 use Rattle.std.proofs.lemmas.Result.{err_from_is_err_and}
-use Rattle.kp_tags_merges.proofs.WholeFiles.{uncut}
-use Rattle.kp_tags_merges.proofs.reading.read_merges.Goals as goal
+use Rattle.kp_tags_files.proofs.WholeFiles.{uncut}
+use Rattle.kp_tags_files.proofs.reading.read_merges.Goals as goal
 
 -- a byte begins no token
 pub returns-in_err-tokens : goal.returns-in_err-tokens

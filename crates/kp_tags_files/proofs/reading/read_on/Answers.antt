@@ -1,8 +1,8 @@
 use Rattle.std.proofs.Common.{List, subst}
 use Rattle.kp_base.specs.declared.ground.GroundName.{GroundName}
 use Rattle.kp_plans.specs.WordTables.{IsTableOf}
-use Rattle.kp_tags_merges.proofs.WholeFiles.{of_atoms}
-use Rattle.kp_tags_merges.proofs.reading.read_on.Goals as goal
+use Rattle.kp_tags_files.proofs.WholeFiles.{of_atoms}
+use Rattle.kp_tags_files.proofs.reading.read_on.Goals as goal
 
 pub returns : goal.returns
 returns c =

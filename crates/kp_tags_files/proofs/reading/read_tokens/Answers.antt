@@ -1,8 +1,8 @@
 use Rattle.std.proofs.Common.{◌≡◌, map}
 use Rattle.kp_tree_cursor.specs.Lexemes.{lexed}
-use Rattle.kp_tags_merges.specs.Parts.{numbers_of}
-use Rattle.kp_tags_merges.proofs.WholeFiles.{of_tokens}
-use Rattle.kp_tags_merges.proofs.reading.read_tokens.Goals as goal
+use Rattle.kp_tags_files.specs.Parts.{numbers_of}
+use Rattle.kp_tags_files.proofs.WholeFiles.{of_tokens}
+use Rattle.kp_tags_files.proofs.reading.read_tokens.Goals as goal
 
 pub returns : goal.returns
 returns c =

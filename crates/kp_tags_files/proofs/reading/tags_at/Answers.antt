@@ -1,12 +1,12 @@
 use Rattle.std.proofs.Common.{suc, arith}
 use Rattle.std.proofs.lemmas.Result.{err_from_is_err_and}
-use Rattle.kp_tags_merges.specs.Grammar.{tag}
-use Rattle.kp_tags_merges.specs.Numbers.{IsTag}
-use Rattle.kp_tags_merges.specs.Parts.{numbers_of}
-use Rattle.kp_tags_merges.proofs.Contexts.{none_so_far}
-use Rattle.kp_tags_merges.proofs.Tagged.{walk_tag}
-use Rattle.kp_tags_merges.proofs.MergesFound.{next_fails, next_stands, all_stand}
-use Rattle.kp_tags_merges.proofs.reading.tags_at.Goals as goal
+use Rattle.kp_tags_files.specs.Grammar.{tag}
+use Rattle.kp_tags_files.specs.Numbers.{IsTag}
+use Rattle.kp_tags_files.specs.Parts.{numbers_of}
+use Rattle.kp_tags_files.proofs.Contexts.{none_so_far}
+use Rattle.kp_tags_files.proofs.Tagged.{walk_tag}
+use Rattle.kp_tags_files.proofs.MergesFound.{next_fails, next_stands, all_stand}
+use Rattle.kp_tags_files.proofs.reading.tags_at.Goals as goal
 
 pub tags-init : goal.tags-init
 tags-init c = record { onward = omega arith; within = c.requires; so_far = rw c.new-tags.ensures (none_so_far _) }

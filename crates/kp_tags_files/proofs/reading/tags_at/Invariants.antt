@@ -1,9 +1,9 @@
 use Rattle.std.proofs.Common.{◌≤◌, ◌-◌, suc, length}
 use Rattle.kp_tree_cursor.specs.Lexemes.{from}
-use Rattle.kp_tags_merges.specs.Grammar.{tag}
-use Rattle.kp_tags_merges.specs.Numbers.{IsTag}
-use Rattle.kp_tags_merges.specs.Parts.{SoFar, numbers_of}
-use Rattle.kp_tags_merges.proofs.reading.tags_at.Given as goal
+use Rattle.kp_tags_files.specs.Grammar.{tag}
+use Rattle.kp_tags_files.specs.Numbers.{IsTag}
+use Rattle.kp_tags_files.specs.Parts.{SoFar, numbers_of}
+use Rattle.kp_tags_files.proofs.reading.tags_at.Given as goal
 
 -- the tags so far, and the place behind which the others stand
 abbrev pub invariant-tags : goal.invariant-tags

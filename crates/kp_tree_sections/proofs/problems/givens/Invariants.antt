@@ -3,7 +3,7 @@ use Rattle.kp_tree_grammar.specs.Symbols.{is_left, is_goal}
 use Rattle.kp_tree_grammar.specs.Grammar.{given, has_stood}
 use Rattle.kp_tree_parts.specs.Lexemes.{from}
 use Rattle.kp_tree_arena.specs.Nodes.{typed_view, item_view}
-use Rattle.kp_tree_collect.specs.Parts.{goal_view}
+use Rattle.kp_tree_files.specs.Parts.{goal_view}
 use Rattle.kp_tree_parts.proofs.Public.{run_parts_of}
 use Rattle.kp_tree_sections.proofs.Stating.{Givens}
 use Rattle.kp_tree_sections.proofs.problems.givens.Given as goal

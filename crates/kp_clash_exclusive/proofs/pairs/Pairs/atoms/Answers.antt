@@ -1,7 +1,7 @@
 use Rattle.std.proofs.Common.{refl}
 use Rattle.std.proofs.lemmas.Bool.{false_from_ne_true}
-use Rattle.kp_clash_pairs.proofs.Marked.{pair_in, few}
-use Rattle.kp_clash_pairs.proofs.pairs.Pairs.atoms.Goals as goal
+use Rattle.kp_clash_exclusive.proofs.Marked.{pair_in, few}
+use Rattle.kp_clash_exclusive.proofs.pairs.Pairs.atoms.Goals as goal
 
 pub returns-clause-below : goal.returns-clause-below
 returns-clause-below c = rw (← c.self.view_is) (λ p q h. (pair_in c.self.inside.atoms c.self.inside.table c.self.invariant p q h).2)

@@ -1,10 +1,10 @@
 use Rattle.std.proofs.Common.{◌≡◌, ◌*◌, ℕ, Bool, false, List, length, set, sym, ap, ap₂, subst, ◌∙◌}
 use Rattle.std.proofs.lemmas.List.{length-set}
-use Rattle.kp_clash_pairs.specs.Paired.{words_of, marked, IsSquare}
-use Rattle.kp_clash_pairs.specs.Removed.{IsWithout}
-use Rattle.kp_clash_pairs.proofs.Marked.{pair_in, place_below, inside}
-use Rattle.kp_clash_pairs.proofs.Written.{both_set, cleared}
-use Rattle.kp_clash_pairs.proofs.pairs.Pairs.remove.Goals as goal
+use Rattle.kp_clash_exclusive.specs.Paired.{words_of, marked, IsSquare}
+use Rattle.kp_clash_exclusive.specs.Removed.{IsWithout}
+use Rattle.kp_clash_exclusive.proofs.Marked.{pair_in, place_below, inside}
+use Rattle.kp_clash_exclusive.proofs.Written.{both_set, cleared}
+use Rattle.kp_clash_exclusive.proofs.pairs.Pairs.remove.Goals as goal
 
 pub place-requires-clause-first : goal.place-requires-clause-first
 place-requires-clause-first c = (pair_in c.self.inside.atoms c.self.inside.table c.self.invariant c.args.p.0 c.args.q.0 (rw c.self.view_is c.requires)).1

@@ -1,8 +1,8 @@
 use Rattle.std.proofs.Common.{◌<◌, ◌≤◌, ◌%◌, ℕ, subst, arith}
 use Rattle.std.proofs.lemmas.Nat.Bits.{bit_at-zero}
-use Rattle.kp_clash_pairs.proofs.Marked.{word_below, in_word, past_rows, past_words}
-use Rattle.kp_clash_pairs.proofs.pairs.Pairs.row_word.Goals as goal
-use Rattle.kp_clash_pairs.proofs.pairs.Pairs.row_word.Goals.{else-p-self-via-then-p-self+else-k-words, else-p-self-via-else-p-self}
+use Rattle.kp_clash_exclusive.proofs.Marked.{word_below, in_word, past_rows, past_words}
+use Rattle.kp_clash_exclusive.proofs.pairs.Pairs.row_word.Goals as goal
+use Rattle.kp_clash_exclusive.proofs.pairs.Pairs.row_word.Goals.{else-p-self-via-then-p-self+else-k-words, else-p-self-via-else-p-self}
 
 pub overflow_add-p : goal.overflow_add-p
 overflow_add-p c =

@@ -1,4 +1,4 @@
-use Rattle.kp_clash_pairs.proofs.tables.Tables.of.Goals as goal
+use Rattle.kp_clash_exclusive.proofs.tables.Tables.of.Goals as goal
 
 pub returns : goal.returns
 returns c = record {

@@ -2,8 +2,8 @@ use Rattle.std.proofs.Common.{◌≡◌, ◌++◌, refl, sym, ap, ap₂, map, �
 use Rattle.kp_base.specs.declared.ground.Effect.{Effect}
 use Rattle.kp_base.specs.LitSet.{set_of}
 use Rattle.kp_base.proofs.Lists.{map_map}
-use Rattle.kp_ground_meaning.specs.declared.flat.FlatEffect.{FlatEffect}
-use Rattle.kp_ground_meaning.specs.Ground.{numbered, numbered_effect}
+use Rattle.kp_ground_semantics.specs.declared.flat.FlatEffect.{FlatEffect}
+use Rattle.kp_ground_semantics.specs.Ground.{numbered, numbered_effect}
 use Rattle.kp_ground_flatten.specs.Literals.{lit_view}
 use Rattle.kp_ground.specs.Made.{with_made, made_effect}
 use Rattle.kp_ground.proofs.numbered.NumberingSink.take.Goals as goal

@@ -1,6 +1,6 @@
 use Rattle.std.proofs.Common.{◌&&◌, nat_eq, sym, refl, ◌∙◌}
 use Rattle.kp_base.proofs.Lists.{any_map}
-use Rattle.kp_names_meaning.specs.Names.{same}
+use Rattle.kp_names_semantics.specs.Names.{same}
 use Rattle.kp_ground_instances.proofs.atom_set.AtomSet.has.Goals as goal
 
 pub returns : goal.returns

@@ -1,6 +1,6 @@
 use Rattle.std.proofs.Common.{◌&&◌, nat_eq, ap, map, ◌∙◌}
 use Rattle.kp_base.proofs.Lists.{gathered}
-use Rattle.kp_names_meaning.specs.Names.{same}
+use Rattle.kp_names_semantics.specs.Names.{same}
 use Rattle.kp_ground_instances.proofs.atom_set.AtomSet.insert.Goals as goal
 
 -- the set's keys are what the atoms point from

@@ -1,5 +1,5 @@
-use Rattle.kp_lift_known.proofs.Stepping.{acted, rests}
-use Rattle.kp_lift_known.proofs.knowing.Knowing.act.Goals as goal
+use Rattle.kp_lift_knowledge.proofs.Stepping.{acted, rests}
+use Rattle.kp_lift_knowledge.proofs.knowing.Knowing.act.Goals as goal
 
 -- between steps the two tables say the same again
 pub invariant_of-self : goal.invariant_of-self

@@ -1,5 +1,5 @@
-use Rattle.kp_lift_known.proofs.Missing.{found_unknown, none_unknown}
-use Rattle.kp_lift_known.proofs.knowing.Knowing.first_unknown.Goals as goal
+use Rattle.kp_lift_knowledge.proofs.Missing.{found_unknown, none_unknown}
+use Rattle.kp_lift_knowledge.proofs.knowing.Knowing.first_unknown.Goals as goal
 
 pub returns-clause-some : goal.returns-clause-some
 returns-clause-some c k says =

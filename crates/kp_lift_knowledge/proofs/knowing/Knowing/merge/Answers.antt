@@ -1,6 +1,6 @@
 use Rattle.std.proofs.Common.{sym, ◌∙◌}
-use Rattle.kp_lift_known.proofs.Missing.{merges_alike}
-use Rattle.kp_lift_known.proofs.knowing.Knowing.merge.Goals as goal
+use Rattle.kp_lift_knowledge.proofs.Missing.{merges_alike}
+use Rattle.kp_lift_knowledge.proofs.knowing.Knowing.merge.Goals as goal
 
 pub returns-then-not-merges_anew-clause-answer : goal.returns-then-not-merges_anew-clause-answer
 returns-then-not-merges_anew-clause-answer c k says =

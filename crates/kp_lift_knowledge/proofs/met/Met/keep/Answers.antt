@@ -1,8 +1,8 @@
 use Rattle.std.proofs.Common.{◌&&◌, Bool, List, false, length, get_or, sym, ap, subst, ◌∙◌}
-use Rattle.kp_lift_known.specs.Known.{known}
-use Rattle.kp_lift_known.specs.Tabled.{Tells, AreEnds}
-use Rattle.kp_lift_known.proofs.Tables.{as_wide, tells_both}
-use Rattle.kp_lift_known.proofs.met.Met.keep.Goals as goal
+use Rattle.kp_lift_knowledge.specs.Known.{known}
+use Rattle.kp_lift_knowledge.specs.Tabled.{Tells, AreEnds}
+use Rattle.kp_lift_knowledge.proofs.Tables.{as_wide, tells_both}
+use Rattle.kp_lift_knowledge.proofs.met.Met.keep.Goals as goal
 
 pub invariant_of-self : goal.invariant_of-self
 invariant_of-self c =

@@ -1,6 +1,6 @@
 use Rattle.std.proofs.Common.{◌&&◌, ◌||◌, not}
-use Rattle.kp_lift_known.proofs.Tables.{row_changed, keeps_row}
-use Rattle.kp_lift_known.proofs.rows.Rows.keep.Goals as goal
+use Rattle.kp_lift_knowledge.proofs.Tables.{row_changed, keeps_row}
+use Rattle.kp_lift_knowledge.proofs.rows.Rows.keep.Goals as goal
 
 pub invariant_of-self : goal.invariant_of-self
 invariant_of-self c =

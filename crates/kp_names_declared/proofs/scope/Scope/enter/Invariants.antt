@@ -1,7 +1,7 @@
 use Rattle.std.proofs.Common.{◌≡◌, map, drop}
 use Rattle.kp_tree_grammar.specs.View.{typed_view}
-use Rattle.kp_names_meaning.specs.Faults.{inside}
-use Rattle.kp_names_meaning.specs.Types.{declared}
+use Rattle.kp_names_semantics.specs.Faults.{inside}
+use Rattle.kp_names_semantics.specs.Types.{declared}
 use Rattle.kp_names_declared.proofs.scope.Scope.enter.Given as goal
 
 -- with the variables that are left come all

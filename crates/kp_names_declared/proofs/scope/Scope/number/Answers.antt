@@ -1,6 +1,6 @@
 use Rattle.std.proofs.Common.{◌≡◌, ◌∙◌, Some, None, unwrap_or, ap}
 use Rattle.std.specs.Map.{lookup}
-use Rattle.kp_names_meaning.specs.Names.{same}
+use Rattle.kp_names_semantics.specs.Names.{same}
 use Rattle.kp_names_declared.proofs.Entries.{found}
 use Rattle.kp_names_declared.proofs.scope.Scope.number.Goals as goal
 

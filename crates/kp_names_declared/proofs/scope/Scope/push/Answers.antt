@@ -1,5 +1,5 @@
 use Rattle.std.proofs.Common.{◌≡◌, ◌∙◌, length, sym, ap}
-use Rattle.kp_names_meaning.specs.Numbering.{variable_number}
+use Rattle.kp_names_semantics.specs.Numbering.{variable_number}
 use Rattle.kp_names_declared.specs.declared.scope.Variable.{Variable}
 use Rattle.kp_names_declared.proofs.InnermostVariables.{pushed}
 use Rattle.kp_names_declared.proofs.scope.Scope.push.Goals as goal

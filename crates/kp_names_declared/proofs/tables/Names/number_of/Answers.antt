@@ -1,6 +1,6 @@
 use Rattle.std.proofs.Common.{◌≡◌, ◌∙◌, Some, None, length, ap}
 use Rattle.kp_tree_grammar.specs.View.{domain_view, problem_view}
-use Rattle.kp_names_meaning.specs.Types.{objects}
+use Rattle.kp_names_semantics.specs.Types.{objects}
 use Rattle.kp_names_declared.specs.NameTables.{number_of}
 use Rattle.kp_names_declared.proofs.NumbersOfNames.{found_number, missing_number}
 use Rattle.kp_names_declared.proofs.tables.Names.number_of.Goals as goal

@@ -1,7 +1,7 @@
 use Rattle.std.proofs.Common.{◌∙◌, ap}
 use Rattle.kp_tree_grammar.specs.View.{domain_view}
-use Rattle.kp_names_meaning.specs.Names.{is_among}
-use Rattle.kp_names_meaning.specs.Types.{types}
+use Rattle.kp_names_semantics.specs.Names.{is_among}
+use Rattle.kp_names_semantics.specs.Types.{types}
 use Rattle.kp_names_declared.specs.NameTables.{entry_of}
 use Rattle.kp_names_declared.proofs.Gathering.{among_all}
 use Rattle.kp_names_declared.proofs.Entries.{first_counts}

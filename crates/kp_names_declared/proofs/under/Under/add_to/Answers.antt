@@ -1,7 +1,7 @@
 use Rattle.std.proofs.Common.{◌≡◌, ◌∙◌, refl, ap, map}
 use Rattle.std.specs.Prelude.{unwrap_or}
 use Rattle.std.specs.Map.{lookup}
-use Rattle.kp_names_meaning.specs.Names.{same}
+use Rattle.kp_names_semantics.specs.Names.{same}
 use Rattle.kp_names_declared.specs.Steps.{under}
 use Rattle.kp_names_declared.specs.Chains.{pairs_of}
 use Rattle.kp_names_declared.proofs.Entries.{found}

@@ -1,9 +1,9 @@
 use Rattle.std.proofs.Common.{◌∙◌, sym, subst}
 use Rattle.std.specs.Option.{option_map}
-use Rattle.kp_names_lifted.specs.Alike.{AreAlike}
-use Rattle.kp_names_lifted.proofs.SameObjects.{one_without, one_with}
-use Rattle.kp_names_lifted.proofs.alike.Alike.common.Goals.{then-has+in_ok-last+else-not-fits, else-has}
-use Rattle.kp_names_lifted.proofs.alike.Alike.common.Goals as goal
+use Rattle.kp_names_numbered.specs.Alike.{AreAlike}
+use Rattle.kp_names_numbered.proofs.SameObjects.{one_without, one_with}
+use Rattle.kp_names_numbered.proofs.alike.Alike.common.Goals.{then-has+in_ok-last+else-not-fits, else-has}
+use Rattle.kp_names_numbered.proofs.alike.Alike.common.Goals as goal
 
 -- one more type leads where those before it lead, or has no objects
 pub loop-name-preserved : goal.loop-name-preserved

@@ -1,9 +1,9 @@
 use Rattle.std.proofs.Common.{◌≡◌, Bool, false, take, map}
 use Rattle.std.specs.List.{list_any}
 use Rattle.std.specs.Option.{option_map}
-use Rattle.kp_names_meaning.specs.Names.{Name, is_among}
-use Rattle.kp_names_lifted.specs.Alike.{of_found, AreAlike}
-use Rattle.kp_names_lifted.proofs.alike.Alike.common.Given as goal
+use Rattle.kp_names_semantics.specs.Names.{Name, is_among}
+use Rattle.kp_names_numbered.specs.Alike.{of_found, AreAlike}
+use Rattle.kp_names_numbered.proofs.alike.Alike.common.Given as goal
 
 -- what is the same for both names of each entry stays so, and is true of one of the names so far where it is true of the one that was found
 abbrev pub invariant-loop-name : goal.invariant-loop-name

@@ -1,9 +1,9 @@
 use Rattle.std.proofs.Common.{[], sym, subst}
 use Rattle.std.proofs.lemmas.Option.{none-some}
 use Rattle.kp_tree_grammar.specs.View.{domain_view, problem_view}
-use Rattle.kp_names_meaning.specs.Types.{is_of_type}
-use Rattle.kp_names_lifted.specs.Alike.{AreAlike}
-use Rattle.kp_names_lifted.proofs.alike.Alike.of.Goals as goal
+use Rattle.kp_names_semantics.specs.Types.{is_of_type}
+use Rattle.kp_names_numbered.specs.Alike.{AreAlike}
+use Rattle.kp_names_numbered.proofs.alike.Alike.of.Goals as goal
 
 -- an empty table has no entry
 pub returns : goal.returns

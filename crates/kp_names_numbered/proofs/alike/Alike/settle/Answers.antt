@@ -1,13 +1,13 @@
 use Rattle.std.proofs.Common.{◌≡◌, ◌∙◌, IfSome, sym, ap, subst}
 use Rattle.std.specs.List.{list_any}
 use Rattle.kp_tree_grammar.specs.View.{domain_view, problem_view}
-use Rattle.kp_names_meaning.specs.Names.{is_among}
-use Rattle.kp_names_meaning.specs.Types.{is_of_type}
-use Rattle.kp_names_lifted.specs.Alike.{AreAlike}
-use Rattle.kp_names_lifted.proofs.AlikeTable.{alike_more}
-use Rattle.kp_names_lifted.proofs.SameObjects.{settled}
-use Rattle.kp_names_lifted.proofs.SameRanges.{none_of_it}
-use Rattle.kp_names_lifted.proofs.alike.Alike.settle.Goals as goal
+use Rattle.kp_names_semantics.specs.Names.{is_among}
+use Rattle.kp_names_semantics.specs.Types.{is_of_type}
+use Rattle.kp_names_numbered.specs.Alike.{AreAlike}
+use Rattle.kp_names_numbered.proofs.AlikeTable.{alike_more}
+use Rattle.kp_names_numbered.proofs.SameObjects.{settled}
+use Rattle.kp_names_numbered.proofs.SameRanges.{none_of_it}
+use Rattle.kp_names_numbered.proofs.alike.Alike.settle.Goals as goal
 
 -- the objects of the type are those of the types under it, and so of the one to which these lead
 pub returns : goal.returns

@@ -1,8 +1,8 @@
 use Rattle.kp_tree_grammar.specs.View.{domain_view, problem_view}
-use Rattle.kp_names_meaning.specs.Names.{Name}
-use Rattle.kp_names_meaning.specs.Types.{is_of_type}
-use Rattle.kp_names_lifted.specs.Alike.{AreAlike}
-use Rattle.kp_names_lifted.proofs.alike.Alike.settle_back.Given as goal
+use Rattle.kp_names_semantics.specs.Names.{Name}
+use Rattle.kp_names_semantics.specs.Types.{is_of_type}
+use Rattle.kp_names_numbered.specs.Alike.{AreAlike}
+use Rattle.kp_names_numbered.proofs.alike.Alike.settle_back.Given as goal
 
 -- objects are of both names of each entry, or of none
 abbrev pub invariant-loop-left : goal.invariant-loop-left

@@ -1,9 +1,9 @@
 use Rattle.std.proofs.Common.{◌≡◌, ◌∙◌, Some, sym, ap, subst}
 use Rattle.std.specs.Map.{lookup}
-use Rattle.kp_names_meaning.specs.Names.{same}
-use Rattle.kp_names_lifted.specs.Alike.{AreAlike}
-use Rattle.kp_names_lifted.proofs.AlikeTable.{alike_more, alike_after}
-use Rattle.kp_names_lifted.proofs.alike.Alike.step.Goals as goal
+use Rattle.kp_names_semantics.specs.Names.{same}
+use Rattle.kp_names_numbered.specs.Alike.{AreAlike}
+use Rattle.kp_names_numbered.proofs.AlikeTable.{alike_more, alike_after}
+use Rattle.kp_names_numbered.proofs.alike.Alike.step.Goals as goal
 
 -- what is the same for the type and the next one is the same for the one behind that
 pub returns-in_ok-insert-in-Some-clause-alike : goal.returns-in_ok-insert-in-Some-clause-alike

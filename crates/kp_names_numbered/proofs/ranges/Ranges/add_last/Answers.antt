@@ -1,9 +1,9 @@
 use Rattle.std.proofs.Common.{◌∙◌, ◌++◌, [], ◌∷◌, sym, subst}
 use Rattle.kp_tree_grammar.specs.View.{domain_view, problem_view}
-use Rattle.kp_names_meaning.specs.Types.{is_of_type}
-use Rattle.kp_names_lifted.specs.Alike.{HaveSame}
-use Rattle.kp_names_lifted.proofs.SameRanges.{one_more, none_more, none_of_it}
-use Rattle.kp_names_lifted.proofs.ranges.Ranges.add_last.Goals as goal
+use Rattle.kp_names_semantics.specs.Types.{is_of_type}
+use Rattle.kp_names_numbered.specs.Alike.{HaveSame}
+use Rattle.kp_names_numbered.proofs.SameRanges.{one_more, none_more, none_of_it}
+use Rattle.kp_names_numbered.proofs.ranges.Ranges.add_last.Goals as goal
 
 -- the last type on the way down has the same objects
 pub returns-in_ok-insert-clause-tops : goal.returns-in_ok-insert-clause-tops

@@ -1,10 +1,10 @@
 use Rattle.std.proofs.Common.{◌≡◌, ◌∷◌, [], ◌∙◌, sym, subst, IfOk}
 use Rattle.kp_tree_grammar.specs.View.{domain_view, problem_view}
-use Rattle.kp_names_meaning.specs.Names.{Name, same}
+use Rattle.kp_names_semantics.specs.Names.{Name, same}
 use Rattle.indexmap.specs.IndexMap.{insert_entry}
 use Rattle.kp_names_declared.specs.Steps.{range_of}
-use Rattle.kp_names_lifted.proofs.KnownTypes.{found_right, insert_right, both_right}
-use Rattle.kp_names_lifted.proofs.ranges.Ranges.kept.Goals as goal
+use Rattle.kp_names_numbered.proofs.KnownTypes.{found_right, insert_right, both_right}
+use Rattle.kp_names_numbered.proofs.ranges.Ranges.kept.Goals as goal
 
 pub returns-in-Some-clause-row : goal.returns-in-Some-clause-row
 returns-in-Some-clause-row c =

@@ -1,9 +1,9 @@
 use Rattle.std.proofs.Common.{◌∙◌, ◌++◌, [], ◌∷◌, take, sym, ap, subst}
 use Rattle.kp_tree_grammar.specs.View.{domain_view, problem_view}
-use Rattle.kp_names_meaning.specs.Types.{names}
-use Rattle.kp_names_lifted.specs.Alike.{HaveSame}
-use Rattle.kp_names_lifted.proofs.SameRanges.{names_more}
-use Rattle.kp_names_lifted.proofs.ranges.Ranges.lasts.Goals as goal
+use Rattle.kp_names_semantics.specs.Types.{names}
+use Rattle.kp_names_numbered.specs.Alike.{HaveSame}
+use Rattle.kp_names_numbered.proofs.SameRanges.{names_more}
+use Rattle.kp_names_numbered.proofs.ranges.Ranges.lasts.Goals as goal
 
 -- one more type on either side
 pub loop-word-preserved : goal.loop-word-preserved

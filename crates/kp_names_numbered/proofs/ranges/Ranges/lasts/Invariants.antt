@@ -1,8 +1,8 @@
 use Rattle.std.proofs.Common.{◌≡◌, take}
 use Rattle.kp_tree_grammar.specs.View.{domain_view, problem_view}
-use Rattle.kp_names_meaning.specs.Types.{names}
-use Rattle.kp_names_lifted.specs.Alike.{HaveSame}
-use Rattle.kp_names_lifted.proofs.ranges.Ranges.lasts.Given as goal
+use Rattle.kp_names_semantics.specs.Types.{names}
+use Rattle.kp_names_numbered.specs.Alike.{HaveSame}
+use Rattle.kp_names_numbered.proofs.ranges.Ranges.lasts.Given as goal
 
 -- the types so far have the same objects
 abbrev pub invariant-loop-word : goal.invariant-loop-word

@@ -1,8 +1,8 @@
 use Rattle.std.proofs.Common.{◌∙◌, [], ◌∷◌, sym}
 use Rattle.kp_tree_grammar.specs.View.{domain_view, problem_view}
-use Rattle.kp_names_meaning.specs.Types.{is_of_type}
-use Rattle.kp_names_lifted.proofs.SameRanges.{same_range, same_one, empty_range}
-use Rattle.kp_names_lifted.proofs.ranges.Ranges.of_type.Goals as goal
+use Rattle.kp_names_semantics.specs.Types.{is_of_type}
+use Rattle.kp_names_numbered.proofs.SameRanges.{same_range, same_one, empty_range}
+use Rattle.kp_names_numbered.proofs.ranges.Ranges.of_type.Goals as goal
 
 -- no object is below it
 pub returns-then-not-has-clause-row : goal.returns-then-not-has-clause-row

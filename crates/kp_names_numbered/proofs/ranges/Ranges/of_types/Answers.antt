@@ -1,9 +1,9 @@
 use Rattle.std.proofs.Common.{◌∙◌, ap}
 use Rattle.kp_tree_grammar.specs.View.{domain_view, problem_view}
-use Rattle.kp_names_meaning.specs.Types.{names}
+use Rattle.kp_names_semantics.specs.Types.{names}
 use Rattle.kp_names_declared.specs.Steps.{range_of}
-use Rattle.kp_names_lifted.proofs.SameRanges.{same_range}
-use Rattle.kp_names_lifted.proofs.ranges.Ranges.of_types.Goals as goal
+use Rattle.kp_names_numbered.proofs.SameRanges.{same_range}
+use Rattle.kp_names_numbered.proofs.ranges.Ranges.of_types.Goals as goal
 
 -- what stands in their place has the same objects
 pub returns-clause-row : goal.returns-clause-row

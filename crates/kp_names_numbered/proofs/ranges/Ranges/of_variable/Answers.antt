@@ -1,9 +1,9 @@
 use Rattle.std.proofs.Common.{◌∙◌, ℕ, List, ap}
 use Rattle.kp_tree_grammar.specs.View.{domain_view, problem_view}
-use Rattle.kp_names_meaning.specs.declared.lifted.Range.{Range}
-use Rattle.kp_names_meaning.specs.Types.{names, or_object}
+use Rattle.kp_names_semantics.specs.declared.lifted.Range.{Range}
+use Rattle.kp_names_semantics.specs.Types.{names, or_object}
 use Rattle.kp_names_declared.specs.Steps.{range_of}
-use Rattle.kp_names_lifted.proofs.ranges.Ranges.of_variable.Goals as goal
+use Rattle.kp_names_numbered.proofs.ranges.Ranges.of_variable.Goals as goal
 
 pub returns-clause-range : goal.returns-clause-range
 returns-clause-range c =

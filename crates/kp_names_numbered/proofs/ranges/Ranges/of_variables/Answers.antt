@@ -1,8 +1,8 @@
 use Rattle.std.proofs.Common.{◌≡◌, ◌∙◌, ap}
 use Rattle.kp_tree_grammar.specs.View.{typed_view, domain_view, problem_view}
-use Rattle.kp_names_meaning.specs.Numbering.{numbered_range}
-use Rattle.kp_names_lifted.proofs.KnownTypes.{map_more}
-use Rattle.kp_names_lifted.proofs.ranges.Ranges.of_variables.Goals as goal
+use Rattle.kp_names_semantics.specs.Numbering.{numbered_range}
+use Rattle.kp_names_numbered.proofs.KnownTypes.{map_more}
+use Rattle.kp_names_numbered.proofs.ranges.Ranges.of_variables.Goals as goal
 
 pub loop-variable-preserved : goal.loop-variable-preserved
 loop-variable-preserved c =

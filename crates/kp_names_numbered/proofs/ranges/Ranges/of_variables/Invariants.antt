@@ -1,7 +1,7 @@
 use Rattle.std.proofs.Common.{◌≡◌, ◌++◌, map, drop}
 use Rattle.kp_tree_grammar.specs.View.{typed_view, domain_view, problem_view}
-use Rattle.kp_names_meaning.specs.Numbering.{numbered_range}
-use Rattle.kp_names_lifted.proofs.ranges.Ranges.of_variables.Given as goal
+use Rattle.kp_names_semantics.specs.Numbering.{numbered_range}
+use Rattle.kp_names_numbered.proofs.ranges.Ranges.of_variables.Given as goal
 
 abbrev pub invariant-loop-variable : goal.invariant-loop-variable
 invariant-loop-variable l = record {

@@ -1,6 +1,6 @@
 use Rattle.std.proofs.Common.{◌≡◌, ℕ, List, true, false, is_some, sym, subst, ◌∙◌}
 use Rattle.std.specs.Map.{lookup}
-use Rattle.kp_names_meaning.specs.Names.{same}
+use Rattle.kp_names_semantics.specs.Names.{same}
 use Rattle.kp_plans.proofs.Tabled.{noted, kept}
 use Rattle.kp_plans.proofs.table.NameTable.note.Goals as goal
 

@@ -1,8 +1,8 @@
 use Rattle.std.proofs.Common.{◌≡◌, ℕ, List, map, drop}
 use Rattle.std.specs.List.{position_from}
 use Rattle.std.specs.Option.{option_or}
-use Rattle.kp_names_meaning.specs.Names.{same}
-use Rattle.kp_names_meaning.specs.Encoding.{encoded}
+use Rattle.kp_names_semantics.specs.Names.{same}
+use Rattle.kp_names_semantics.specs.Encoding.{encoded}
 use Rattle.kp_plans.specs.Found.{action_names}
 use Rattle.kp_plans.specs.WordTables.{number_under}
 use Rattle.kp_plans.proofs.table.NameTable.of_actions.Given as goal

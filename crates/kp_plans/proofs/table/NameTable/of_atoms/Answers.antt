@@ -2,8 +2,8 @@ use Rattle.std.proofs.Common.{List, map, drop, ap}
 use Rattle.std.specs.List.{position_from}
 use Rattle.std.proofs.lemmas.List.{drop_all}
 use Rattle.kp_base.specs.declared.ground.GroundName.{GroundName}
-use Rattle.kp_names_meaning.specs.Names.{same}
-use Rattle.kp_names_meaning.specs.Encoding.{encoded}
+use Rattle.kp_names_semantics.specs.Names.{same}
+use Rattle.kp_names_semantics.specs.Encoding.{encoded}
 use Rattle.kp_plans.proofs.Tabled.{is_table}
 use Rattle.kp_plans.proofs.table.NameTable.of_atoms.Goals as goal
 
