@@ -1,5 +1,5 @@
--- The least literal that is no fact: there is one where not all are facts, and only one.
-use Rattle.std.proofs.Common.{◌≡◌, ◌≤◌, Bool, true, false, ◌&&◌, List, [], ◌∷◌, refl, sym, subst, ◌∙◌, inl, inr, arith}
+-- The least number of which something decided is so. The least literal that is no fact: there is one where not all are facts, and only one.
+use Rattle.std.proofs.Common.{◌≡◌, ◌≤◌, ◌<◌, ◌⊎◌, ℕ, zero, suc, Bool, true, false, ◌&&◌, List, [], ◌∷◌, refl, sym, subst, ◌∙◌, inl, inr, arith}
 use Rattle.std.proofs.lemmas.Bool.{false≢true, cases_lt}
 use Rattle.std.specs.List.{list_all}
 use Rattle.kp_base.specs.declared.lit.Lit.{Lit}
@@ -7,6 +7,33 @@ use Rattle.kp_base.specs.Lit.{code_of}
 use Rattle.kp_base.specs.Steps.{Facts, IsLeastMissing}
 use Rattle.kp_base.proofs.Ascending.{code_of-injective}
 use Rattle.kp_base.proofs.Lists.{all_member}
+
+-- ---- numbers
+
+-- it is so of the number, and of none below it
+pub record IsLeastSo (P : ℕ → Type 0) (k : ℕ) : Type 0 where
+  pub so : P k
+  pub none_below : (j : ℕ) → j < k → P j → ⊥
+
+module _ (P : ℕ → Type 0) (decided : (k : ℕ) → P k ⊎ (P k → ⊥)) where
+  -- of the numbers below n one is the least, or it is so of none
+  least_below : (n : ℕ) → ((k : ℕ) × (k < n) × IsLeastSo P k) ⊎ ((j : ℕ) → j < n → P j → ⊥)
+  least_below zero = inr (λ j lt. absurd (omega (arith, lt)))
+  least_below (suc n) = go (least_below n) (decided n)
+    where
+      go : ((k : ℕ) × (k < n) × IsLeastSo P k) ⊎ ((j : ℕ) → j < n → P j → ⊥) → P n ⊎ (P n → ⊥) → ((k : ℕ) × (k < suc n) × IsLeastSo P k) ⊎ ((j : ℕ) → j < suc n → P j → ⊥)
+      go (inl (k, lt, least)) here = inl (k, omega (arith, lt), least)
+      go (inr none) (inl so) = inl (n, omega arith, record { so = so; none_below = none })
+      go (inr none) (inr never) = inr (λ j lt p. elim (cases_lt j n) [ inl less ↦ none j less p | inr more ↦ let same : j ≡ n = omega (arith, lt, more) in never (subst P same p) ])
+
+  -- where it is so of n, some number up to n is the least
+  pub least_number : (n : ℕ) → P n → (k : ℕ) × (k ≤ n) × IsLeastSo P k
+  least_number n so = elim (least_below n) [
+    | inl (k, lt, least) ↦ (k, omega (arith, lt), least)
+    | inr none ↦ (n, omega arith, record { so = so; none_below = none })
+  ]
+
+-- ---- literals
 
 pub not_all_facts : (k : Facts) (ls : List Lit) (l : Lit) → IsLeastMissing k ls l → list_all k ls ≡ false
 not_all_facts k ls l f = pick (list_all k ls) refl

@@ -4,7 +4,7 @@ use Rattle.std.proofs.lemmas.Bool.{and_parts, and_from, or_cases, or_left, or_ri
 use Rattle.std.proofs.lemmas.List.{map-append}
 use Rattle.std.proofs.lemmas.Slice.Eq.{bytes_eq-Decides}
 use Rattle.std.specs.List.{AllByRecursion, list_any, list_all, flat_map, range_with_len}
-use Rattle.kp_base.specs.Lists.{Member}
+use Rattle.kp_base.specs.Lists.{Member, choices}
 
 -- ---- truth values
 
@@ -188,6 +188,17 @@ filter_member {X} p (y ∷ ys) x m = pick (filter_member p ys x) (p y) refl m
       | inr r ↦ let h = rest r in (inr h.0, h.1)
     ]
     pick rest false is m = let h = rest m in (inr h.0, h.1)
+
+-- a choice of one element of each list has an element of each
+pub choice_has : {X : Type 0} (xss : List (List X)) (ys : List X) → Member (choices xss) ys → (xs : List X) → Member xss xs → (x : X) × Member xs x × Member ys x
+choice_has [] ys m xs k = absurd k
+choice_has (zs ∷ xss) ys m xs k =
+    let q = flat_member (λ x. map (λ rest. x ∷ rest) (choices xss)) zs ys m in
+    let r = map_member (λ rest. q.0 ∷ rest) (choices xss) ys q.2 in
+    elim k [
+      | inl e ↦ (q.0, subst (λ ws. Member ws q.0) e q.1, subst (λ ws. Member ws q.0) r.2 (inl refl))
+      | inr later ↦ let h = choice_has xss r.0 r.1 xs later in (h.0, h.1, subst (λ ws. Member ws h.0) r.2 (inr h.2))
+    ]
 
 -- ---- what holds of each element
 

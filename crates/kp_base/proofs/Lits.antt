@@ -1,6 +1,6 @@
 -- Literals: equality, negation, and truth in a state.
-use Rattle.std.proofs.Common.{◌≡◌, Bool, true, false, not, ◌&&◌, List, Contains, refl, sym, ap, ap₂, eqb-true, eq-eqb, nat_eq}
-use Rattle.std.proofs.lemmas.Bool.{and_parts, and_from}
+use Rattle.std.proofs.Common.{◌≡◌, Bool, true, false, not, ◌&&◌, List, Contains, refl, sym, ap, ap₂, subst, ◌∙◌, eqb-true, eq-eqb, nat_eq}
+use Rattle.std.proofs.lemmas.Bool.{false≢true, and_parts, and_from}
 use Rattle.std.specs.Bool.{beq}
 use Rattle.std.specs.Cmp.{IsEquivalence, booleans_Decides, on_equiv, and_equiv, nat_eq_equiv, bool_eq_equiv}
 use Rattle.kp_base.specs.declared.lit.Lit.{Lit}
@@ -55,3 +55,13 @@ holds-negated s l = sign l.positive (s l.atom.0)
     sign : (b c : Bool) → signed (not b) c ≡ not (signed b c)
     sign true c = refl
     sign false c = sym (not_not c)
+
+-- two literals of one atom that are true in a state are the same
+pub same_truth : (s : State) (l m : Lit) → l.atom.0 ≡ m.atom.0 → holds s l ≡ true → holds s m ≡ true → l ≡ m
+same_truth s l m e a b = ap₂ (λ n t. let x : Lit = record { atom = record { 0 = n }; positive = t } in x) e (sign l.positive m.positive (s l.atom.0) a (subst (λ n. signed m.positive (s n) ≡ true) (sym e) b))
+  where
+    sign : (t u v : Bool) → signed t v ≡ true → signed u v ≡ true → t ≡ u
+    sign true true v _ _ = refl
+    sign false false v _ _ = refl
+    sign true false v here also = absurd (false≢true (sym (ap not here) ∙ also))
+    sign false true v here also = absurd (false≢true (sym (ap not also) ∙ here))

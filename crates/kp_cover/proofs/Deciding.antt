@@ -24,7 +24,7 @@ use Rattle.kp_cover.specs.Coverage.{AnswersCoverage}
 
 -- ---- the literals of candidate clauses
 
-own_atom : (p : ℕ) (l : Lit) → Member (either_value p) l → l.atom.0 ≡ p
+pub own_atom : (p : ℕ) (l : Lit) → Member (either_value p) l → l.atom.0 ≡ p
 own_atom p l m = elim m [
   | inl e ↦ sym (ap (λ (x : Lit). x.atom.0) e)
   | inr r ↦ elim r [ inl e ↦ sym (ap (λ (x : Lit). x.atom.0) e) | inr none ↦ absurd none ]

@@ -69,6 +69,11 @@ sublist_member _ _ IsSublist.end x m = m
 sublist_member s _ (IsSublist.skip _ xs y h) x m = inr (sublist_member s xs h x m)
 sublist_member _ _ (IsSublist.keep s xs y h) x m = elim m [ inl e ↦ inl e | inr r ↦ inr (sublist_member s xs h x r) ]
 
+-- a list is a sublist of itself
+pub sublist_itself : {X : Type 0} (xs : List X) → IsSublist xs xs
+sublist_itself [] = IsSublist.end
+sublist_itself (x ∷ xs) = IsSublist.keep xs xs x (sublist_itself xs)
+
 -- the elements of a set are those of the list
 pub subset_member : {X : Type 0} (k : ℕ) (xs s : List X) → Member (subsets k xs) s → (x : X) → Member s x → Member xs x
 subset_member k xs s m = sublist_member s xs (from-sub k xs s m).0

@@ -26,5 +26,5 @@ pub use Rattle.kp_law_decidable.proofs.Tags.{tags_decided}
 pub use Rattle.kp_law_decidable.proofs.Covered.{coverages_decided, complete_with_none}
 -- ---- Each mode has a table, or a refusal.
 pub use Rattle.kp_law_decidable.proofs.Made.{made_decided}
--- ---- Each proper problem has an answer on its width.
-pub use Rattle.kp_law_decidable.proofs.Widths.{widths_decided}
+-- ---- Each proper problem has an answer on its width, and each of its targets has a width.
+pub use Rattle.kp_law_decidable.proofs.Widths.{known as proper_is_known, widths_decided, targets_have_widths}

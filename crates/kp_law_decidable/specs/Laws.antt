@@ -10,11 +10,12 @@ use Rattle.kp_base.specs.declared.limits.Limits.{Limits}
 use Rattle.kp_base.specs.declared.limits.Mode.{Mode}
 use Rattle.kp_base.specs.declared.refused.ClashAt.{ClashAt}
 use Rattle.kp_base.specs.declared.refused.Refused.{Refused}
-use Rattle.kp_base.specs.Planning.{Member, IsAscending, IsOfAtoms, IsOfItsAtoms, IsLeastOver, IsNeverOver, HasModel, HasNoModel, ClashesFirst, IsClashFree, AreClausesFor, TellsConsistent, IsCov, AllMeet, Covers, AreUncovered, IsComplete}
+use Rattle.kp_base.specs.Planning.{Member, IsAscending, IsOfAtoms, IsOfItsAtoms, IsLeastOver, IsNeverOver, HasModel, HasNoModel, ClashesFirst, IsClashFree, AreClausesFor, TellsConsistent, IsCov, AllMeet, Covers, AreUncovered, IsComplete, IsTarget}
 use Rattle.kp_cover.specs.Targets.{AreTargets}
 use Rattle.kp_relevance.specs.Relevant.{ArePairsOf}
 use Rattle.kp_width.specs.declared.report.WidthReport.{WidthReport}
 use Rattle.kp_width.specs.Answers.{IsReport, RefusesWidth}
+use Rattle.kp_width.specs.Laws.{HasSomeWidth}
 use Rattle.kp_tree_grammar.specs.declared.tree.Word.{Word}
 use Rattle.kp_tree_grammar.specs.Trees.{Domain, Problem}
 use Rattle.kp_names_semantics.specs.Faults.{HasNoFault}
@@ -129,3 +130,7 @@ MadeTablesAreDecided = (mode : Mode) (limits : Limits) (g : Ground) (i : Initial
 -- a proper problem has a report on its width within any bound, or there is a refusal
 abbrev pub WidthsAreDecided : Type 0
 WidthsAreDecided = (limits : Limits) (bound : ℕ) (g : Ground) (i : Initial) → AreProper g i → ((report : WidthReport) × IsReport limits bound g i report) ⊎ ((r : Refused) × RefusesWidth limits bound g i r)
+
+-- each target of a proper problem has a width, of at most the number of the clauses that are relevant to it
+abbrev pub TargetsHaveWidths : Type 0
+TargetsHaveWidths = (g : Ground) (i : Initial) → AreProper g i → (target : Lit) → IsTarget g target → HasSomeWidth g i target

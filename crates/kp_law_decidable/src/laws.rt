@@ -1,6 +1,6 @@
 //! Laws of questions that have an answer, each proved as the contract of a function that does nothing.
 
-ghost use Rattle.kp_law_decidable.specs.Laws.{ClashesAreDecided, ClausesAreDecided, CoveragesAreDecided, CoversAreDecided, FormulasAreAscending, ImplicatesAreCounted, MadeTablesAreDecided, ModelsAreDecided, ModesAreDecided, NamesAreDecided, RelevanceIsDecided, SizesAreDecided, StepsAreDecided, TablesAreDecided, TablesWithNoneAreComplete, TagsAreDecided, TargetsAreDecided, VerdictsAreDecided, WidthsAreDecided};
+ghost use Rattle.kp_law_decidable.specs.Laws.{ClashesAreDecided, ClausesAreDecided, CoveragesAreDecided, CoversAreDecided, FormulasAreAscending, ImplicatesAreCounted, MadeTablesAreDecided, ModelsAreDecided, ModesAreDecided, NamesAreDecided, RelevanceIsDecided, SizesAreDecided, StepsAreDecided, TablesAreDecided, TablesWithNoneAreComplete, TagsAreDecided, TargetsAreDecided, TargetsHaveWidths, VerdictsAreDecided, WidthsAreDecided};
 
 /// No name of two trees is at fault, or the trees are refused for one.
 pub fn names_are_decided()
@@ -95,4 +95,9 @@ pub fn made_tables_are_decided()
 /// A problem has a width within a bound, a target over it, or a refusal.
 pub fn widths_are_decided()
     ensures { WidthsAreDecided }
+{}
+
+/// Each target has a width, of at most as many clauses as are relevant to it.
+pub fn targets_have_widths()
+    ensures { TargetsHaveWidths }
 {}

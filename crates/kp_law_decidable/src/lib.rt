@@ -8,5 +8,5 @@ pub use laws::{
     formulas_are_ascending, implicates_are_counted, made_tables_are_decided, models_are_decided,
     modes_are_decided, names_are_decided, relevance_is_decided, sizes_are_decided,
     steps_are_decided, tables_are_decided, tables_with_none_are_complete, tags_are_decided,
-    targets_are_decided, verdicts_are_decided, widths_are_decided,
+    targets_are_decided, targets_have_widths, verdicts_are_decided, widths_are_decided,
 };

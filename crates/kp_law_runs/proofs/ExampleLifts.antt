@@ -34,7 +34,7 @@ use Rattle.kp_run_prepare.specs.Prepared.{IsStarted, later}
 use Rattle.kp_run_inputs.specs.SourceTables.{by_mode, with_table}
 use Rattle.kp_run.specs.Outcomes.{translates, done, TranslatesTexts}
 use Rattle.kp_run.specs.Ends.{Ends, came}
-use Rattle.kp_run.specs.Completeness.{RanComplete, IsOfTheSame, HoldsPlan}
+use Rattle.kp_run.specs.Completeness.{RanComplete, one_mode, IsOfTheSame, HoldsPlan}
 use Rattle.kp_run.proofs.Public.{clash_free_with_table, example_two_atoms, empty_tags_fit, complete_is_told, empty_tag_made, nothing_uncovered, example_with_limit, example_limited, example_is_limited, example_holding, example_due_with, example_is_small, example_only_p, example_has_state, example_closed_q, example_unconditional, got_after_insert, got_beside_insert}
 use Rattle.kp_run.specs.Solved.{GoesOn}
 use Rattle.kp_law_runs.specs.Commands.{HasLift}
@@ -98,31 +98,36 @@ ends : Ends example_with_limit before_it after_it status.Done
 ends = came outcome (example_due_with example_with_limit example_limited example_is_limited refl refl refl exchange_text from_p_to_q_text outcome is_done) (whole refl (record { gets = λ q. refl; puts = λ q. refl; writes = refl }) refl refl)
 
 -- it told `complete`
-ran : RanComplete example_with_limit example_limited before after
+ran : RanComplete Ends example_with_limit example_limited before after
 ran = record { old = before_it; new = after_it; earlier = []; text = outcome.text; is_translate = example_is_limited; ended = ends; held_before = refl; held_after = refl; told_before = refl; told_after = refl; complete = complete_is_told (ground_of exchange_tree from_p_to_q_tree) table }
 
--- ---- a lift of the same files
+-- ---- a lift of the same files, of which the domain is a copy under another name
 
 abbrev command : Lift
-command = record { domain = codes "d"; problem = codes "p"; plan = codes "t"; source = of_mode modes.K0; implicates = 1 }
+command = record { domain = codes "e"; problem = codes "p"; plan = codes "t"; source = of_mode modes.K0; implicates = 1 }
 
 abbrev plan_file : List ℕ
 plan_file = codes "(a)\n"
 
 abbrev now : FileMap
-now = insert before (codes "t") plan_file
+now = insert (insert before (codes "e") exchange_text) (codes "t") plan_file
 
 apart : (x y : List ℕ) → same x y ≡ false → x ≢ y
 apart x y h e = false≢true (sym h ∙ (sym (ap (same x) e) ∙ same-refl x))
 
-domain_held : get now (codes "d") ≡ get before (codes "d")
-domain_held = got_beside_insert before (codes "d") (codes "t") plan_file (apart (codes "d") (codes "t") refl)
+first_held : get before (codes "d") ≡ Some exchange_text
+first_held = got_beside_insert _ (codes "d") (codes "p") from_p_to_q_text (apart (codes "d") (codes "p") refl) ∙ got_after_insert _ (codes "d") exchange_text
+
+domain_held : get now (codes "e") ≡ get before (codes "d")
+domain_held = got_beside_insert (insert before (codes "e") exchange_text) (codes "e") (codes "t") plan_file (apart (codes "e") (codes "t") refl) ∙ got_after_insert before (codes "e") exchange_text ∙ sym first_held
 
 problem_held : get now (codes "p") ≡ get before (codes "p")
-problem_held = got_beside_insert before (codes "p") (codes "t") plan_file (apart (codes "p") (codes "t") refl)
+problem_held =
+    got_beside_insert (insert before (codes "e") exchange_text) (codes "p") (codes "t") plan_file (apart (codes "p") (codes "t") refl)
+    ∙ got_beside_insert before (codes "p") (codes "e") exchange_text (apart (codes "p") (codes "e") refl)
 
 is_same : IsOfTheSame example_limited before command now
-is_same = record { domain = refl; problem = refl; source = refl; implicates = omega arith; held = rw (domain_held, problem_held) refl }
+is_same = record { domain = sym domain_held; problem = sym problem_held; source = one_mode modes.K0; implicates = omega arith }
 
 -- ---- its plan file
 
@@ -143,9 +148,6 @@ is_plan : IsPlan exchange_text from_p_to_q_text (a ∷ [])
 unfolding exchange_problem
 is_plan = record { has = exchange_problem; solves = record { instances = refl; reaches = λ s i. i.items } }
 
-first_held : get before (codes "d") ≡ Some exchange_text
-first_held = got_beside_insert _ (codes "d") (codes "p") from_p_to_q_text (apart (codes "d") (codes "p") refl) ∙ got_after_insert _ (codes "d") exchange_text
-
 second_held : get before (codes "p") ≡ Some from_p_to_q_text
 second_held = got_after_insert _ (codes "p") from_p_to_q_text
 
@@ -157,7 +159,7 @@ holds = record {
   steps = map (step_of plan_file) plan_words;
   domain_held = domain_held ∙ first_held;
   problem_held = problem_held ∙ second_held;
-  plan_held = got_after_insert before (codes "t") plan_file;
+  plan_held = got_after_insert (insert before (codes "e") exchange_text) (codes "t") plan_file;
   short = omega arith;
   reads = reads;
   names_are = refl;
@@ -166,7 +168,7 @@ holds = record {
 
 -- ---- the premises of what a run of a lift comes to
 
-goes_on : GoesOn now (codes "d") (codes "p") 1 exchange_tree from_p_to_q_tree
+goes_on : GoesOn now (codes "e") (codes "p") 1 exchange_tree from_p_to_q_tree
 goes_on = record { domain = exchange_text; problem = from_p_to_q_text; domain_held = domain_held ∙ first_held; problem_held = problem_held ∙ second_held; trees = trees; prepared = record { started = started; clash_free = no_clash } }
 
 has_lift : HasLift now (of_mode modes.K0) (codes "t") exchange_tree from_p_to_q_tree table (0 ∷ [])
@@ -175,7 +177,7 @@ has_lift = record {
   text = plan_file;
   steps = map (step_of plan_file) plan_words;
   merges_held = refl;
-  plan_held = got_after_insert before (codes "t") plan_file;
+  plan_held = got_after_insert (insert before (codes "e") exchange_text) (codes "t") plan_file;
   has_table = by_mode modes.K0 table (empty_tag_made exchange_tree from_p_to_q_tree);
   fits = empty_tags_fit exchange_tree from_p_to_q_tree started.small;
   has_actions = record { short = omega arith; reads = reads; known = refl };

@@ -11,6 +11,7 @@ pub mod ExampleLifts
 pub mod OfCommands
 pub mod SomeSearch
 pub mod Posed
+pub mod SomeModes
 pub mod Solvings
 pub mod Classicals
 pub mod ExampleCourses

@@ -79,7 +79,8 @@ answered_by words old new s ends m o held due answer =
 proper_of : (m : FileMap) (domain problem : List ℕ) (limit : ℕ) (d : Domain Word) (p : Problem Word) → GoesOn m domain problem limit d p → AreProper (ground_of d p) (initial_of d p)
 proper_of m domain problem limit d p g = prepared_is_proper limit d p g.trees.no_fault g.prepared
 
-complete_text : (g : Ground) (i : Initial) (table : TagTable) (ls : List Lit) → AreProper g i → AreUncovered g i table ls → PrintsComplete (counts_of g table ++ coverage_text g.atoms ls) ↔ IsComplete g i table
+-- the last line of a translation is `complete` exactly where its table is complete
+pub complete_text : (g : Ground) (i : Initial) (table : TagTable) (ls : List Lit) → AreProper g i → AreUncovered g i table ls → PrintsComplete (counts_of g table ++ coverage_text g.atoms ls) ↔ IsComplete g i table
 complete_text g i table ls prepared_is_proper are = (
   λ printed. complete_with_none g i table prepared_is_proper (subst (AreUncovered g i table) (none_told (counts_of g table) g.atoms ls printed) are),
   λ whole. subst (λ z. PrintsComplete (counts_of g table ++ coverage_text g.atoms z)) (sym (none_uncovered_if_complete g i table ls are whole)) (complete_is_told g table),

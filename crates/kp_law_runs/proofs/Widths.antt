@@ -16,9 +16,11 @@ use Rattle.kp_width.specs.declared.report.WidthRow.{WidthRow}
 use Rattle.kp_width.specs.declared.report.WidthReport.{WidthReport}
 use Rattle.kp_width.specs.declared.report.WidthReport.TheVariants.{Within, Over}
 use Rattle.kp_width.specs.Width.{HasWidth}
-use Rattle.kp_width.specs.Rows.{AreRows, greatest_width}
+use Rattle.kp_width.specs.Rows.{AreRows, IsOver, greatest_width}
 use Rattle.kp_width.specs.Answers.{IsReport}
-use Rattle.kp_width.proofs.Public.{rows_have_the_width, covers_over_are_more_than_bound, reports_have_the_width}
+use Rattle.kp_width.specs.Laws.{IsWider}
+use Rattle.kp_width.proofs.Public.{rows_have_the_width, targets_over_are_wider, reports_have_the_width}
+use Rattle.kp_law_decidable.proofs.Public.{proper_is_known}
 use Rattle.kp_outside.specs.Outside.{FileMap}
 use Rattle.kp_run_outcome.specs.declared.outcome.Outcome.{Outcome}
 use Rattle.kp_run_outcome.specs.declared.status.Status.{Status}
@@ -33,7 +35,7 @@ use Rattle.kp_run_prepare.specs.Prepared.{usual, by_texts, by_trees, early, late
 use Rattle.kp_run.specs.Outcomes.{tells_width, WidthTexts, no_report, with_report, width_measured, IsDue, of_command}
 use Rattle.kp_run.specs.Ends.{Ends}
 use Rattle.kp_run.specs.Solved.{GoesOn}
-use Rattle.kp_run.proofs.Public.{due_makes, IsCarriedOut, answer_is_carried_out, IsNoRefusal, not_refused}
+use Rattle.kp_run.proofs.Public.{due_makes, IsCarriedOut, answer_is_carried_out, IsNoRefusal, not_refused, prepared_is_proper}
 use Rattle.kp_law_runs.specs.Width.{WidthsAreAnswered, AreRight, IsTargeted, IsWidthTold, IsTooWide, WidthsAreTrue}
 use Rattle.kp_law_runs.proofs.Following.{ends_with}
 
@@ -122,6 +124,10 @@ module _ (m : FileMap) (c : Width) (o : Outcome) (x : HasReport m c o) (old new 
       }
       by _ (IsReport.over ts t are h v) told = absurd (let b = answered (tells_width ground c.bound (Over t)) told in let not_done = sym b.status_is ∙ done in cc)
 
+  -- a target over the bound has a width, which is above it
+  above : (t : Lit) → IsOver usual.sets c.bound ground formula t → IsWider c.bound ground formula t
+  above t v = targets_over_are_wider usual.sets c.bound ground formula t (proper_is_known ground formula (prepared_is_proper c.implicates x.domain_tree x.problem_tree x.goes_on.trees.no_fault x.goes_on.prepared)) v
+
   too_wide : s ≡ status.Negative → IsTooWide m c old new
   too_wide negative = by x.report x.is_report x.told
     where
@@ -134,7 +140,9 @@ module _ (m : FileMap) (c : Width) (o : Outcome) (x : HasReport m c o) (old new 
         later = h.later;
         among = h.among;
         within_before = within usual.sets c.bound ground formula h.earlier h.rows h.are_rows;
-        wider = covers_over_are_more_than_bound usual.sets c.bound ground formula t v;
+        width = (above t v).width;
+        has_width = (above t v).has_width;
+        wider = (above t v).above;
         told = (answered (tells_width ground c.bound (Over t)) told).text_is;
         put = (answered (tells_width ground c.bound (Over t)) told).puts_are;
       }

@@ -3,6 +3,7 @@ use Rattle.std.specs.Prelude.{◌≡◌, ◌↔◌, ◌≤◌, ℕ, List, ◌∷
 use Rattle.std.specs.FinMap.{get}
 use Rattle.kp_base.specs.declared.ground.GroundName.{GroundName}
 use Rattle.kp_base.specs.declared.ground.TagTable.{TagTable}
+use Rattle.kp_base.specs.declared.limits.Mode.{Mode}
 use Rattle.kp_base.specs.declared.lit.Lit.{Lit}
 use Rattle.kp_base.specs.declared.refused.ClashAt.{ClashAt}
 use Rattle.kp_base.specs.declared.refused.Refused.TheVariants as refusals
@@ -19,6 +20,7 @@ use Rattle.kp_plans.specs.Printed.{plan_text}
 use Rattle.kp_law_ktask.specs.Task.{task_of}
 use Rattle.kp_ktask.specs.Translated.{FitsLimits}
 use Rattle.kp_tags_files.specs.Printed.{merges_of, merges_text}
+use Rattle.kp_tags_modes.specs.Modes.{CoversEach}
 use Rattle.kp_tags.specs.Made.{IsMade}
 use Rattle.kp_check.specs.declared.answer.Judged.{Judged}
 use Rattle.kp_check.specs.Judging.{AnswersJudged}
@@ -29,7 +31,7 @@ use Rattle.kp_run_outcome.specs.declared.outcome.Outcome.{Outcome}
 use Rattle.kp_run_outcome.specs.declared.status.Status.TheVariants as status
 use Rattle.kp_base.specs.Files.{most_bytes}
 use Rattle.kp_run_outcome.specs.Ends.{AreHeld, IsAnswer}
-use Rattle.kp_words.specs.Names.{Source, Translate, Merges, Strip, Check, Lift}
+use Rattle.kp_words.specs.Names.{Source, of_mode, Translate, Merges, Strip, Check, Lift}
 use Rattle.kp_words.specs.declared.lent.CommandRef.TheVariants as commands
 use Rattle.kp_words.specs.Command.{IsTranslate, IsMerges, IsStrip, IsCheck, IsLift, file_of, if_named, inputs_of}
 use Rattle.kp_run_prepare.specs.Texts.{HaveTrees}
@@ -61,6 +63,10 @@ abbrev pub CompleteIsTrue : Type 0
 CompleteIsTrue = OfRuns (λ words old new s. (m : FileMap) (c : Translate) (d : Domain Word) (p : Problem Word) (table : TagTable) (uncovered : List Lit)
     → old.held ≡ Some m → IsTranslate words c → GoesOn m c.domain c.problem c.implicates d p → HasTranslation m c.source d p table uncovered → IsAnswer s
     → (text : List ℕ) × Tells old new text × (PrintsComplete text ↔ IsComplete (ground_of d p) (initial_of d p) table))
+
+-- under `--mode models`, and under `--mode auto`, a translation that ends with Done told `complete` as its last line
+abbrev pub SomeModesTellComplete : Type 0
+SomeModesTellComplete = OfRuns (λ words old new s. (c : Translate) (mode : Mode) → IsTranslate words c → c.source ≡ of_mode mode → CoversEach mode → s ≡ status.Done → (text : List ℕ) × Tells old new text × PrintsComplete text)
 
 -- merges of such files in a mode: the run ends with the merges of its table
 abbrev pub MergesAreListed : Type 0

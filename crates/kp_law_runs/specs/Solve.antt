@@ -1,16 +1,23 @@
 -- What a run of `solve` or of `classical` ends with, and what that says of its files.
-use Rattle.std.specs.Prelude.{◌≡◌, Some}
+use Rattle.std.specs.Prelude.{◌≡◌, List, Some}
 use Rattle.kp_base.specs.declared.ground.TagTable.{TagTable}
+use Rattle.kp_base.specs.declared.limits.Mode.{Mode}
 use Rattle.kp_tree_grammar.specs.declared.tree.Word.{Word}
 use Rattle.kp_tree_grammar.specs.Trees.{Domain, Problem}
+use Rattle.kp_names_semantics.specs.Steps.{Step}
+use Rattle.kp_names_semantics.specs.Plans.{IsPlan}
+use Rattle.kp_tags_modes.specs.Modes.{CoversEach}
 use Rattle.kp_law_translation.specs.Translations.{ground_of, initial_of}
+use Rattle.kp_run_messages.specs.Searches.{no_plan_text}
 use Rattle.kp_outside.specs.Outside.{FileMap}
 use Rattle.kp_run_outcome.specs.declared.outcome.Outcome.{Outcome}
 use Rattle.kp_run_outcome.specs.declared.status.Status.TheVariants as status
-use Rattle.kp_words.specs.Names.{Solve, Classical}
+use Rattle.kp_run_outcome.specs.Ends.{Outside}
+use Rattle.kp_words.specs.Names.{of_mode, Solve, Classical}
 use Rattle.kp_words.specs.Command.{IsSolve, IsClassical}
 use Rattle.kp_run_classical.specs.Classical.{task_of as classical_task}
 use Rattle.kp_run_solve.specs.Solving.{SolvesGround, SolvesClassical}
+use Rattle.kp_run.specs.Completeness.{PrintsComplete}
 use Rattle.kp_run.specs.Solved.{GoesOn, HasTask, IsPosed, IsSolved, HasNoPlan, IsSpent, IsHeldClassical, IsPosedClassical, IsSolvedClassical, HasNoClassicalPlan, IsSpentClassical}
 use Rattle.kp_law_runs.specs.Follows.{OfRuns, EndsWith}
 
@@ -33,6 +40,16 @@ SolvedIsAPlan = OfRuns (λ words old new s. (m : FileMap) (c : Solve) → old.he
 -- where it ends with Negative, there is none
 abbrev pub NoPlanIsTrue : Type 0
 NoPlanIsTrue = OfRuns (λ words old new s. (m : FileMap) (c : Solve) → old.held ≡ Some m → IsSolve words c → s ≡ status.Negative → HasNoPlan m c old new)
+
+-- the two given files have no plan: this was told, with `complete` as the last line
+pub record GivenHaveNoPlan (m : FileMap) (c : Solve) (old new : Outside) : Type 0 where
+  pub answer : HasNoPlan m c old new
+  pub complete : PrintsComplete (no_plan_text answer.uncovered)
+  pub none : (steps : List Step) → IsPlan answer.posed.given.domain answer.posed.given.problem steps → ⊥
+
+-- under `--mode models`, and under `--mode auto`, they have none where it ends with Negative
+abbrev pub NoPlanInSomeModes : Type 0
+NoPlanInSomeModes = OfRuns (λ words old new s. (m : FileMap) (c : Solve) (mode : Mode) → old.held ≡ Some m → IsSolve words c → c.source ≡ of_mode mode → CoversEach mode → s ≡ status.Negative → GivenHaveNoPlan m c old new)
 
 -- where it ends with Spent, there are more states than the budget says
 abbrev pub SpentIsTrue : Type 0

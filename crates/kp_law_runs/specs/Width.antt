@@ -1,5 +1,5 @@
 -- What a run of `width` ends with, and what that says of its files.
-use Rattle.std.specs.Prelude.{◌≡◌, ◌≤◌, ◌<◌, ◌++◌, ℕ, List, [], ◌∷◌, Some, length}
+use Rattle.std.specs.Prelude.{◌≡◌, ◌≤◌, ◌<◌, ◌++◌, ℕ, List, [], ◌∷◌, Some}
 use Rattle.kp_base.specs.declared.lit.Lit.{Lit}
 use Rattle.kp_base.specs.declared.ground.Ground.{Ground}
 use Rattle.kp_base.specs.declared.ground.Initial.{Initial}
@@ -10,7 +10,7 @@ use Rattle.kp_law_translation.specs.Translations.{ground_of, initial_of}
 use Rattle.kp_cover.specs.Targets.{AreTargets}
 use Rattle.kp_width.specs.declared.report.WidthRow.{WidthRow}
 use Rattle.kp_width.specs.declared.report.WidthReport.{WidthReport}
-use Rattle.kp_width.specs.Width.{CoversTarget, HasWidth, IsAsWide}
+use Rattle.kp_width.specs.Width.{HasWidth, IsAsWide}
 use Rattle.kp_width.specs.Rows.{greatest_width}
 use Rattle.kp_width.specs.Answers.{IsReport}
 use Rattle.kp_width.specs.Laws.{IsRightRow}
@@ -63,7 +63,7 @@ pub record IsWidthTold (m : FileMap) (c : Width) (old new : Outside) : Type 0 wh
   pub told : Tells old new (width_text (ground_in of_targets).atoms rows)
   pub put : new.held ≡ old.held
 
--- a target was told that no clauses up to the bound cover; each target before it has a width within the bound; nothing was put
+-- a target was told whose width is above the bound; each target before it has a width within the bound; nothing was put
 pub record IsTooWide (m : FileMap) (c : Width) (old new : Outside) : Type 0 where
   pub of_targets : IsTargeted m c
   pub earlier : List Lit
@@ -71,7 +71,9 @@ pub record IsTooWide (m : FileMap) (c : Width) (old new : Outside) : Type 0 wher
   pub later : List Lit
   pub among : of_targets.targets ≡ earlier ++ target ∷ later
   pub within_before : (l : Lit) → Member earlier l → (width : ℕ) × HasWidth (ground_in of_targets) (initial_in of_targets) l width × (width ≤ c.bound)
-  pub wider : (clauses tags : List (List Lit)) → CoversTarget (ground_in of_targets) (initial_in of_targets) target clauses tags → c.bound < length clauses
+  pub width : ℕ
+  pub has_width : HasWidth (ground_in of_targets) (initial_in of_targets) target width
+  pub wider : c.bound < width
   pub told : Tells old new (over_text (ground_in of_targets).atoms c.bound target)
   pub put : new.held ≡ old.held
 

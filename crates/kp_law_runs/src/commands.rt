@@ -1,6 +1,8 @@
 //! What a run of each command ends with, each law the contract of a function that does nothing.
 
-ghost use Rattle.kp_law_runs.specs.Commands.{TranslationsAreAnswered, CompleteIsTrue, MergesAreListed, ChecksAreAnswered, ChecksAreTrue, ClashesAreAnswered, StripsAreAnswered, LiftsAreAnswered, LiftsAreTrue};
+ghost use Rattle.kp_run.specs.Ends.{Ends};
+ghost use Rattle.kp_run.specs.Completeness.{StaysSolvable};
+ghost use Rattle.kp_law_runs.specs.Commands.{TranslationsAreAnswered, CompleteIsTrue, SomeModesTellComplete, MergesAreListed, ChecksAreAnswered, ChecksAreTrue, ClashesAreAnswered, StripsAreAnswered, LiftsAreAnswered, LiftsAreTrue};
 
 /// A run on files that nothing refuses, and a source that has a table, ends with their translation.
 pub fn translations_are_answered()
@@ -10,6 +12,17 @@ pub fn translations_are_answered()
 /// The last line that such a run told is `complete` exactly where the table is complete.
 pub fn complete_is_true()
     ensures { CompleteIsTrue }
+{}
+
+/// Under `--mode models` and `--mode auto` a translation that ends with Done told `complete`.
+pub fn some_modes_tell_complete()
+    ensures { SomeModesTellComplete }
+{}
+
+/// Where a translation told `complete`, each plan of the two files that it read, of any length, is the strip of a plan of
+/// the two that it put. So a solvable problem stays solvable.
+pub fn solvable_stays_solvable()
+    ensures { StaysSolvable Ends }
 {}
 
 /// A call for merges on such files ends with the merges of the mode.

@@ -13,8 +13,8 @@ mod width;
 pub use bench::{bench_posed_once, benches_are_answered, benches_are_true};
 pub use commands::{
     checks_are_answered, checks_are_true, clashes_are_answered, complete_is_true,
-    lifts_are_answered, lifts_are_true, merges_are_listed, strips_are_answered,
-    translations_are_answered,
+    lifts_are_answered, lifts_are_true, merges_are_listed, solvable_stays_solvable,
+    some_modes_tell_complete, strips_are_answered, translations_are_answered,
 };
 pub use follows::{
     answers_are_whole, done_puts_the_outputs, failed_gets_are_told, failed_writes_are_told,
@@ -28,7 +28,7 @@ pub use laws::{
 };
 pub use solve::{
     classical_is_a_plan, classical_posed_once, classical_spent_is_true, classicals_are_answered,
-    no_classical_plan_is_true, no_plan_is_true, posed_once, solved_is_a_plan,
-    solvings_are_answered, spent_is_true,
+    no_classical_plan_is_true, no_plan_in_some_modes, no_plan_is_true, posed_once,
+    solved_is_a_plan, solvings_are_answered, spent_is_true,
 };
 pub use width::{widths_are_answered, widths_are_true};

@@ -1,6 +1,6 @@
 //! What runs of `solve` and `classical` end with, each proved as the contract of a function that does nothing.
 
-ghost use Rattle.kp_law_runs.specs.Solve.{ClassicalIsAPlan, ClassicalPosedOnce, ClassicalSpentIsTrue, ClassicalsAreAnswered, NoClassicalPlanIsTrue, NoPlanIsTrue, PosedOnce, SolvedIsAPlan, SolvingsAreAnswered, SpentIsTrue};
+ghost use Rattle.kp_law_runs.specs.Solve.{ClassicalIsAPlan, ClassicalPosedOnce, ClassicalSpentIsTrue, ClassicalsAreAnswered, NoClassicalPlanIsTrue, NoPlanInSomeModes, NoPlanIsTrue, PosedOnce, SolvedIsAPlan, SolvingsAreAnswered, SpentIsTrue};
 
 /// A call to solve ends with what its search comes to.
 pub fn solvings_are_answered()
@@ -20,6 +20,11 @@ pub fn solved_is_a_plan()
 /// With Negative the written files have no plan, and where `complete` was told the given files have none.
 pub fn no_plan_is_true()
     ensures { NoPlanIsTrue }
+{}
+
+/// Under `--mode models` and `--mode auto` it told `complete` with Negative, so the given files have none.
+pub fn no_plan_in_some_modes()
+    ensures { NoPlanInSomeModes }
 {}
 
 /// With Spent more states than the budget says can be reached.

@@ -8,7 +8,7 @@ pub fn widths_are_answered()
 {}
 
 /// With Done it told the width of the problem, and clauses and tags that cover each target, as many as its width; with
-/// Negative the first target that no clauses up to the bound cover.
+/// Negative the first target whose width is above the bound.
 pub fn widths_are_true()
     ensures { WidthsAreTrue }
 {}

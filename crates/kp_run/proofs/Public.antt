@@ -19,6 +19,8 @@ pub use Rattle.kp_run.proofs.Comes.{makes_of, due_makes}
 pub use Rattle.kp_run.proofs.Comes.{MakesOf}
 -- ---- The last printed line is `complete` just where no target is uncovered.
 pub use Rattle.kp_run.proofs.CompleteText.{none_uncovered as complete_text_leaves_none, complete_told as complete_is_told}
+-- ---- Where a translation told `complete`, each plan of its files is the strip of a plan of what it put.
+pub use Rattle.kp_run.proofs.Completeness.{solvable as translations_stay_solvable}
 -- ---- A run that ends with an answer carried out the whole of an outcome that is due.
 pub use Rattle.kp_run.proofs.Whole.{IsNoRefusal, not_refused}
 -- the status is that of the outcome, its files were put, and its text was printed

@@ -154,6 +154,8 @@ module _ (before after : FileMap) (c : Translate) (o : Outcome) (apart : c.domai
     problem_held = both.problem_held;
     has_problem = has;
     initial_state = all_done.prepared.started.initial;
+    no_clash = all_done.prepared.clash_free;
+    merges = record { merges = both.merges; merges_held = (let h = both.all_held in cc); table = all_done.table; has_table = all_done.has_table; valid = is_table.valid };
     domain_put = first_put;
     problem_put = second_put;
     plans = translations_are_sound both.domain both.problem has all_done.table is_table (no_clash_under_exclusive_pairs (ground_of d p) (initial_of d p) all_done.prepared.clash_free);

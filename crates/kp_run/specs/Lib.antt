@@ -3,6 +3,7 @@ pub mod Ends
 pub mod Soundness
 pub mod Completeness
 pub mod Solved
+pub mod Clauses
 pub mod CommandParts
 pub mod Sized
 pub mod Laws

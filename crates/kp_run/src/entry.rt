@@ -1,20 +1,18 @@
-ghost use Rattle.std.specs.Prelude.{◌≡◌, ◌≢◌, ℕ, List, [], ◌∷◌, ◌++◌, Option, Some, Err, IfOk, IsErrOf};
+ghost use Rattle.std.specs.Prelude.{◌≡◌, ◌≢◌, ℕ, List, [], ◌∷◌, ◌++◌, Option, Err, IfOk, IsErrOf};
 ghost use Rattle.kp_outside.specs.declared.outside.OutsideStop.TheVariants as stops;
 ghost use Rattle.kp_outside.specs.Outside.{FileMap};
 ghost use Rattle.kp_run_outcome.specs.declared.status.Status.TheVariants as status;
-ghost use Rattle.kp_run_outcome.specs.Ends.{AreHeld, AreFronts, AreRead, GetFails};
+ghost use Rattle.kp_run_outcome.specs.Ends.{over, AreHeld, AreFronts, AreRead, GetFails};
 ghost use Rattle.kp_words.specs.declared.lent.CommandRef.{CommandRef as Ordered};
 ghost use Rattle.kp_words.specs.declared.lent.CommandRef.TheVariants as commands;
-ghost use Rattle.kp_words.specs.Names.{Translate as Names, Lift as LiftNames, Solve as SolveNames, Classical as ClassicalNames, of_mode, of_file, source_view};
-ghost use Rattle.kp_words.specs.Command.{IsTranslate, IsLift, IsSolve, IsClassical, IsCommand, file_of, if_named, inputs_of};
+ghost use Rattle.kp_words.specs.Names.{of_mode, of_file, source_view};
+ghost use Rattle.kp_words.specs.Command.{IsCommand, file_of, if_named, inputs_of};
 ghost use Rattle.kp_words.specs.Options.{IsOfRange};
 ghost use Rattle.kp_words.specs.Owned.{command_view};
 ghost use Rattle.kp_run.specs.Outcomes.{ComesTo, IsDue};
 ghost use Rattle.kp_run.specs.Sized.{IsSized};
 ghost use Rattle.kp_run.specs.Ends.{Ends};
-ghost use Rattle.kp_run.specs.Soundness.{IsSound};
-ghost use Rattle.kp_run.specs.Completeness.{LosesNoPlan};
-ghost use Rattle.kp_run.specs.Solved.{SolveIsTrue, ClassicalIsTrue};
+ghost use Rattle.kp_run.specs.Clauses.{IsSoundRun, IsCompleteRun, IsTrueSolve, IsTrueClassical};
 
 use crate::check::check_texts;
 use crate::classical::classical_texts;
@@ -312,15 +310,18 @@ pub fn run<S: Shelf, O: Sink>(
     out: &mut O,
 ) -> Status
     // The outcome that is due is carried out as far as the run comes, or a read fails, or memory runs out before.
-    ensures ends { Ends words.now (record { held = S.contents shelf.old; told = O.told out.old; get_faults = S.get_faults shelf.old; put_faults = S.put_faults shelf.old; write_faults = O.faults out.old }) (record { held = S.contents shelf.new; told = O.told out.new; get_faults = S.get_faults shelf.new; put_faults = S.put_faults shelf.new; write_faults = O.faults out.new }) result }
-    // With Done, what was read has a problem with an initial state, and each plan of what was put strips to a plan of it.
-    ensures sound { (before after : FileMap) (c : Names) → S.contents shelf.old ≡ Some before → S.contents shelf.new ≡ Some after → IsTranslate words.now c → result ≡ status.Done → IsSound before after c }
-    // Take a run of `translate` on the same files that told `complete`. For each plan of these files, a lift tells a plan of the files that `translate` wrote, which strips to it; or memory ran out, or the outside failed.
-    ensures complete { (c : LiftNames) → IsLift words.now c → LosesNoPlan c (record { held = S.contents shelf.old; told = O.told out.old; get_faults = S.get_faults shelf.old; put_faults = S.put_faults shelf.old; write_faults = O.faults out.old }) (record { held = S.contents shelf.new; told = O.told out.new; get_faults = S.get_faults shelf.new; put_faults = S.put_faults shelf.new; write_faults = O.faults out.new }) result }
-    // With Done, what a call to solve told is a plan of its two files; with Negative, what `translate` writes for them has none; with Spent, there are more states than its budget says.
-    ensures solve { (m : FileMap) (c : SolveNames) → S.contents shelf.old ≡ Some m → IsSolve words.now c → SolveIsTrue m c (record { held = S.contents shelf.old; told = O.told out.old; get_faults = S.get_faults shelf.old; put_faults = S.put_faults shelf.old; write_faults = O.faults out.old }) (record { held = S.contents shelf.new; told = O.told out.new; get_faults = S.get_faults shelf.new; put_faults = S.put_faults shelf.new; write_faults = O.faults out.new }) result }
+    ensures ends { over S.Shelf O.Sink shelf.old shelf.new out.old out.new (Ends words.now) result }
+    // With Done, what was read has a problem with an initial state, in which no action clashes, each merge of its table is
+    // valid, and each plan of what was put strips to a plan of it.
+    ensures sound { over S.Shelf O.Sink shelf.old shelf.new out.old out.new (IsSoundRun words.now) result }
+    // Take a run of `translate` on files with the same contents that told `complete`. For each plan of these files, a lift
+    // tells a plan of the files that `translate` wrote, which strips to it; or memory ran out, or the outside failed.
+    ensures complete { over S.Shelf O.Sink shelf.old shelf.new out.old out.new (IsCompleteRun Ends words.now) result }
+    // With Done, what a call to solve told is a plan of its two files; with Negative, what `translate` writes for them has
+    // none; with Spent, there are more states than its budget says.
+    ensures solve { over S.Shelf O.Sink shelf.old shelf.new out.old out.new (IsTrueSolve words.now) result }
     // And so it is of the files of `classical`.
-    ensures classical { (m : FileMap) (c : ClassicalNames) → S.contents shelf.old ≡ Some m → IsClassical words.now c → ClassicalIsTrue m c (record { held = S.contents shelf.old; told = O.told out.old; get_faults = S.get_faults shelf.old; put_faults = S.put_faults shelf.old; write_faults = O.faults out.old }) (record { held = S.contents shelf.new; told = O.told out.new; get_faults = S.get_faults shelf.new; put_faults = S.put_faults shelf.new; write_faults = O.faults out.new }) result }
+    ensures classical { over S.Shelf O.Sink shelf.old shelf.new out.old out.new (IsTrueClassical words.now) result }
 {
     match due(alloc, words, shelf) {
         Ok(outcome) => carry_out(alloc, outcome, shelf, out),

@@ -2,8 +2,8 @@
 
 -- ---- Whether there are more bytes than may be.
 pub use Rattle.kp_run_inputs.proofs.Lengths.{over_length as read_over_length, short_length as read_within_length}
--- ---- The table of a source is right, and its merges are valid.
-pub use Rattle.kp_run_inputs.proofs.Right.{tables_right as tables_are_right}
+-- ---- The table of a source is right, and its merges are valid; in some modes it is complete.
+pub use Rattle.kp_run_inputs.proofs.Right.{tables_right as tables_are_right, tables_complete as some_tables_are_complete}
 -- ---- A source has one table, or one refusal.
 pub use Rattle.kp_run_inputs.proofs.OneTable.{one_table as sources_have_one_table}
 -- ---- A plan file names one list of actions, or has one refusal.

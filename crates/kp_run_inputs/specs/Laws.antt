@@ -3,13 +3,16 @@ use Rattle.std.specs.Prelude.{◌≡◌, ◌⊎◌, ℕ, List, length}
 use Rattle.kp_base.specs.declared.ground.Ground.{Ground}
 use Rattle.kp_base.specs.declared.ground.Initial.{Initial}
 use Rattle.kp_base.specs.declared.ground.TagTable.{TagTable}
+use Rattle.kp_base.specs.declared.limits.Mode.{Mode}
 use Rattle.kp_base.specs.declared.refused.Refused.{Refused}
+use Rattle.kp_base.specs.Covering.{IsComplete}
 use Rattle.kp_base.specs.Implicates.{IsOfItsAtoms}
 use Rattle.kp_base.specs.Entailed.{HaveSameModels, IsTable, AreValid}
 use Rattle.kp_plans.specs.declared.step.PlanStep.{PlanStep}
+use Rattle.kp_tags_modes.specs.Modes.{CoversEach}
 use Rattle.kp_law_decidable.specs.Laws.{AreProper}
 use Rattle.kp_run_messages.specs.Refusals.{Named}
-use Rattle.kp_words.specs.Names.{Source}
+use Rattle.kp_words.specs.Names.{Source, of_mode}
 use Rattle.kp_words.specs.Command.{file_of, if_named}
 use Rattle.kp_run_inputs.specs.SourceTables.{HasTable, RefusesSource}
 use Rattle.kp_run_inputs.specs.Actions.{HasActions, RefusesActions}
@@ -19,6 +22,10 @@ use Rattle.kp_run_inputs.specs.Actions.{HasActions, RefusesActions}
 -- the table of a source is right, and its merges are valid
 abbrev pub TablesAreRight : Type 0
 TablesAreRight = (g : Ground) (i : Initial) (source : Source) (merges : List (List ℕ)) (table : TagTable) → IsOfItsAtoms g → HasTable g i source merges table → IsTable g i table × AreValid i table
+
+-- the table of `models`, and that of `auto`, is complete
+abbrev pub SomeTablesAreComplete : Type 0
+SomeTablesAreComplete = (g : Ground) (i : Initial) (mode : Mode) (merges : List (List ℕ)) (table : TagTable) → CoversEach mode → IsOfItsAtoms g → HasTable g i (of_mode mode) merges table → IsComplete g i table
 
 -- a source has one table, or one refusal, and never both
 pub record IsOneTable (g : Ground) (i : Initial) (source : Source) (merges : List (List ℕ)) : Type 0 where

@@ -1,11 +1,16 @@
 //! Laws of the tables of sources and of the actions of plans, each proved as the contract of a function that does nothing.
 
-ghost use Rattle.kp_run_inputs.specs.Laws.{PlansAreDecided, PlansHaveOneList, SourcesAreDecided, SourcesGoByModels, SourcesHaveOneTable, TablesAreRight};
+ghost use Rattle.kp_run_inputs.specs.Laws.{PlansAreDecided, PlansHaveOneList, SomeTablesAreComplete, SourcesAreDecided, SourcesGoByModels, SourcesHaveOneTable, TablesAreRight};
 
 /// The table of a source is right, and its merges are valid.
 #[tactic(auto, using(crate::proofs::Right::tables_right))]
 pub fn tables_are_right()
     ensures { TablesAreRight }
+{}
+
+/// The table of `models`, and that of `auto`, is complete.
+pub fn some_tables_are_complete()
+    ensures { SomeTablesAreComplete }
 {}
 
 /// A source has one table, or one refusal, and never both.

@@ -12,8 +12,8 @@ mod tables;
 pub use actions::actions_of;
 pub use ending::settle;
 pub use laws::{
-    plans_are_decided, plans_have_one_list, sources_are_decided, sources_go_by_models,
-    sources_have_one_table, tables_are_right,
+    plans_are_decided, plans_have_one_list, some_tables_are_complete, sources_are_decided,
+    sources_go_by_models, sources_have_one_table, tables_are_right,
 };
 pub use origin::Origin;
 pub use tables::{table_alone, table_of};

@@ -3,6 +3,8 @@ use Rattle.std.specs.Prelude.{◌≡◌, ◌≢◌, List, [], ◌∷◌, ◌++�
 use Rattle.std.specs.FinMap.{get}
 use Rattle.kp_base.specs.Files.{most_bytes}
 use Rattle.kp_outside.specs.declared.outside.Got.{Got}
+use Rattle.kp_outside.specs.declared.outside.Shelf.{Ghosts as Shelf}
+use Rattle.kp_outside.specs.declared.outside.Sink.{Ghosts as Sink}
 use Rattle.kp_outside.specs.declared.outside.OutsideStop.{OutsideStop}
 use Rattle.kp_outside.specs.declared.outside.OutsideStop.TheVariants as stops
 use Rattle.kp_outside.specs.Outside.{FileMap, Rises, AddsFront, IsFront, with_file, without_file, with_bytes}
@@ -18,6 +20,14 @@ pub record Outside : Type 0 where
   pub get_faults : List ℕ → ℕ
   pub put_faults : List ℕ → ℕ
   pub write_faults : ℕ
+
+-- what a shelf and a sink tell of themselves
+abbrev pub outside : {S O : Type 0} → Shelf S → Sink O → S → O → Outside
+outside s o shelf out = record { held = s.contents shelf; told = o.told out; get_faults = s.get_faults shelf; put_faults = s.put_faults shelf; write_faults = o.faults out }
+
+-- what is said of a run that ends so, said of a shelf and a sink before it and after
+abbrev pub over : {S O : Type 0} → Shelf S → Sink O → S → S → O → O → (Outside → Outside → Status → Type 0) → Status → Type 0
+over s o shelf_old shelf_new out_old out_new says status = says (outside s o shelf_old out_old) (outside s o shelf_new out_new) status
 
 -- ---- which counts stand still
 

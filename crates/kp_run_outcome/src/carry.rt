@@ -2,7 +2,7 @@ ghost use Rattle.std.specs.Prelude.{◌≡◌, ◌≢◌, ℕ, List, [], Err, On
 ghost use Rattle.kp_outside.specs.declared.outside.OutsideStop.TheVariants as stops;
 ghost use Rattle.kp_outside.specs.Outside.{Counted, Rises, AddsFront, with_bytes};
 ghost use Rattle.kp_run_outcome.specs.declared.outcome.FilePut.{FilePut as Put};
-ghost use Rattle.kp_run_outcome.specs.Ends.{IsAnswer, StopsAt, CarriesOut, with_files, stop_of};
+ghost use Rattle.kp_run_outcome.specs.Ends.{IsAnswer, StopsAt, CarriesOut, over, with_files, stop_of};
 
 use crate::outcome::{FilePut, Outcome};
 use crate::status::Status;
@@ -56,7 +56,7 @@ pub fn carry_out<S: Shelf, O: Sink>(
     out: &mut O,
 ) -> Status
     requires { IsAnswer outcome.status }
-    ensures ends { CarriesOut outcome (record { held = S.contents shelf.old; told = O.told out.old; get_faults = S.get_faults shelf.old; put_faults = S.put_faults shelf.old; write_faults = O.faults out.old }) (record { held = S.contents shelf.new; told = O.told out.new; get_faults = S.get_faults shelf.new; put_faults = S.put_faults shelf.new; write_faults = O.faults out.new }) result }
+    ensures ends { over S.Shelf O.Sink shelf.old shelf.new out.old out.new (CarriesOut outcome) result }
     ensures unprinted { outcome.text ≡ [] → out.new ≡ out.old }
 {
     match put_all(alloc, outcome.puts.slice(), shelf) {

@@ -10,3 +10,4 @@ pub mod ExampleCells
 pub mod ByModels
 pub mod ModesByModels
 pub mod Made
+pub mod Complete

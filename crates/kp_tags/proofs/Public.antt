@@ -10,3 +10,5 @@ pub use Rattle.kp_tags.proofs.ByModels.{by_models as tables_go_by_models}
 pub use Rattle.kp_tags.proofs.ModesByModels.{coverage_by_models as coverage_goes_by_models, made_by_models as made_tables_go_by_models}
 -- ---- The merges of a mode have no fault, and their table is the only one.
 pub use Rattle.kp_tags.proofs.Made.{made_right as made_tables_are_right, made_once as made_table_once, made as table_or_refusal_of_mode}
+-- ---- The tables of some modes are complete.
+pub use Rattle.kp_tags.proofs.Complete.{made_complete as made_tables_are_complete}

@@ -50,7 +50,7 @@ is_used ms m t in-ms in-m =
 
 module _ (atoms : ℕ) (i : Initial) (ms : List FileMerge) (table : TagTable) (is : IsTableOf atoms i ms table) where
   -- so they stand in the table at their numbers
-  stands : (m : FileMerge) (t : List Lit) → Member ms m → Member m.tags t → (row : TagRow) × (slice_get table.tags (number_in (used_tags ms) t) ≡ Some row) × (row.lits ≡ t)
+  pub stands : (m : FileMerge) (t : List Lit) → Member ms m → Member m.tags t → (row : TagRow) × (slice_get table.tags (number_in (used_tags ms) t) ≡ Some row) × (row.lits ≡ t)
   stands m t in-ms in-m =
       subst (λ (tags : List (List Lit)). (row : TagRow) × (slice_get table.tags (number_in tags t) ≡ Some row) × (row.lits ≡ t)) is.tags
       (at_number table.tags t (subst (λ (tags : List (List Lit)). list_any (same_set t) tags ≡ true) (sym is.tags) (is_used ms m t in-ms in-m)))

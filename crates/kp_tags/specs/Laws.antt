@@ -8,10 +8,11 @@ use Rattle.kp_base.specs.declared.limits.Limits.{Limits}
 use Rattle.kp_base.specs.declared.limits.Mode.{Mode}
 use Rattle.kp_base.specs.declared.refused.Stop.{Stop}
 use Rattle.kp_base.specs.declared.refused.Stop.TheVariants as stops
-use Rattle.kp_base.specs.Covering.{AreUncovered}
+use Rattle.kp_base.specs.Covering.{IsComplete, AreUncovered}
 use Rattle.kp_base.specs.Implicates.{IsOfItsAtoms}
 use Rattle.kp_base.specs.Entailed.{IsTable, AreValid, HaveSameModels}
 use Rattle.kp_tags_files.specs.declared.merge.FileMerge.{FileMerge}
+use Rattle.kp_tags_modes.specs.Modes.{CoversEach}
 use Rattle.kp_tags.specs.MergeTables.{IsTableOf}
 use Rattle.kp_tags.specs.Answers.{AreAllAcceptable, AnswersTable}
 use Rattle.kp_tags.specs.Made.{IsMade, AnswersMade}
@@ -33,6 +34,10 @@ TablesGoByModels = (atoms : ℕ) (i j : Initial) (ms : List FileMerge) (limit : 
 -- the table of a mode is right, and its merges are valid
 abbrev pub MadeTablesAreRight : Type 0
 MadeTablesAreRight = (mode : Mode) (limits : Limits) (g : Ground) (i : Initial) (table : TagTable) → IsOfItsAtoms g → IsMade mode limits g i table → IsTable g i table × AreValid i table
+
+-- the table of `Models`, and that of `Auto`, is complete
+abbrev pub MadeTablesAreComplete : Type 0
+MadeTablesAreComplete = (mode : Mode) (limits : Limits) (g : Ground) (i : Initial) (table : TagTable) → CoversEach mode → IsOfItsAtoms g → IsMade mode limits g i table → IsComplete g i table
 
 -- two answers in a mode are the same, also by formulas with the same models
 abbrev pub IsMadeOnce : Type 0

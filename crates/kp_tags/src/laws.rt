@@ -1,6 +1,6 @@
 //! Laws of tables of merges, each proved as the contract of a function that does nothing.
 
-ghost use Rattle.kp_tags.specs.Laws.{AcceptedTablesAreRight, CoverageGoesByModels, IsMadeOnce, IsTableOnce, MadeTablesAreRight, TablesGoByModels, TablesMadeGoByModels};
+ghost use Rattle.kp_tags.specs.Laws.{AcceptedTablesAreRight, CoverageGoesByModels, IsMadeOnce, IsTableOnce, MadeTablesAreComplete, MadeTablesAreRight, TablesGoByModels, TablesMadeGoByModels};
 
 /// Merges have one table.
 pub fn there_is_one_table()
@@ -20,6 +20,11 @@ pub fn tables_go_by_models()
 /// The table of a mode is right, and its merges are valid.
 pub fn made_tables_are_right()
     ensures { MadeTablesAreRight }
+{}
+
+/// The table of `Models`, and that of `Auto`, is complete.
+pub fn made_tables_are_complete()
+    ensures { MadeTablesAreComplete }
 {}
 
 /// A mode has one table, or one refusal.

@@ -16,8 +16,9 @@ pub use accepting::accept_merges;
 pub use kp_base::Mode;
 pub use kp_tags_files::{FileMerge, merges_text, read_merges};
 pub use laws::{
-    accepted_tables_are_right, coverage_goes_by_models, made_tables_are_right,
-    made_tables_go_by_models, tables_go_by_models, there_is_one_made_table, there_is_one_table,
+    accepted_tables_are_right, coverage_goes_by_models, made_tables_are_complete,
+    made_tables_are_right, made_tables_go_by_models, tables_go_by_models, there_is_one_made_table,
+    there_is_one_table,
 };
 pub use making::make;
 pub use merge::tags_are_of_atoms;

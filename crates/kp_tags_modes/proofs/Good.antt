@@ -12,7 +12,7 @@ use Rattle.kp_base.proofs.Sets.{all-set_of}
 use Rattle.kp_cover_subsets.specs.Subsets.{subsets}
 use Rattle.kp_cover_subsets.proofs.Public.{subset_member}
 use Rattle.kp_cover.specs.Valid.{AreValidTags}
-use Rattle.kp_cover.proofs.Public.{candidates_are_true, tags_of_clauses_are_valid, tags_of_clauses_are_consistent, target_is_below}
+use Rattle.kp_cover.proofs.Public.{either_value_is_true, candidates_are_true, tags_of_clauses_are_valid, tags_of_clauses_are_consistent, target_is_below}
 use Rattle.kp_tags_files.specs.declared.merge.FileMerge.{FileMerge}
 use Rattle.kp_tags_modes.specs.declared.way.Way.{Way}
 use Rattle.kp_tags_modes.specs.Assignments.{AreAssignments}
@@ -93,7 +93,7 @@ module _ (g : Ground) (i : Initial) (of : IsOfItsAtoms g) (target : Lit) (lt : t
 
   assignments_good : (tags : List (List Lit)) → AreAssignments i cs tags → IsGood n i tags
   assignments_good tags a = cov_good n i (map either_value a.atoms) tags (record {
-    hold = λ s model c m. let q = map_member either_value a.atoms c m in subst (λ (z : List Lit). list_any (holds s) z ≡ true) q.2 (either_true q.0 s);
+    hold = λ s model c m. let q = map_member either_value a.atoms c m in subst (λ (z : List Lit). list_any (holds s) z ≡ true) q.2 (either_value_is_true q.0 s);
     below = λ c m.
         let q = map_member either_value a.atoms c m in
         let h = (a.are_atoms.exact q.0).0 q.1 in

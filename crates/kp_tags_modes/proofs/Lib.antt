@@ -2,6 +2,7 @@ pub mod Public
 pub mod Behind
 pub mod Below
 pub mod ByModels
+pub mod Covering
 pub mod Gathered
 pub mod Good
 pub mod InTurn

@@ -6,5 +6,7 @@ pub use Rattle.kp_tags_modes.proofs.ByModels.{back as same_models_back, candidat
 pub use Rattle.kp_tags_modes.proofs.Gathered.{numbers as atoms_of_clauses, atoms_are as atoms_of_clauses_are}
 -- ---- The merges of a mode are valid, of consistent tags, and of the atoms.
 pub use Rattle.kp_tags_modes.proofs.Good.{merges_good as merges_of_modes_are_good}
+-- ---- The merges of some modes cover each target.
+pub use Rattle.kp_tags_modes.proofs.Covering.{each_covered as some_modes_cover_each}
 -- ---- A mode has one answer.
 pub use Rattle.kp_tags_modes.proofs.OneAnswer.{one_answer as modes_have_one_answer}

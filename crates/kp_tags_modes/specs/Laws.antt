@@ -1,5 +1,5 @@
 -- Laws of the merges of modes.
-use Rattle.std.specs.Prelude.{◌≡◌, ℕ, true, List, length}
+use Rattle.std.specs.Prelude.{◌≡◌, ℕ, true, List, [], ◌∷◌, length}
 use Rattle.std.specs.List.{list_all}
 use Rattle.kp_base.specs.declared.lit.Lit.{Lit}
 use Rattle.kp_base.specs.declared.ground.Ground.{Ground}
@@ -8,9 +8,10 @@ use Rattle.kp_base.specs.declared.limits.Mode.{Mode}
 use Rattle.kp_base.specs.declared.limits.Mode.TheVariants.{Models, Auto}
 use Rattle.kp_base.specs.declared.refused.Refused.{Refused}
 use Rattle.kp_base.specs.Planning.{Member, IsTarget, IsConsistent, HaveSameModels, are_below, IsOfItsAtoms}
+use Rattle.kp_base.specs.Covering.{Covers}
 use Rattle.kp_cover.specs.Valid.{AreValidTags}
 use Rattle.kp_tags_files.specs.declared.merge.FileMerge.{FileMerge}
-use Rattle.kp_tags_modes.specs.Modes.{way_of, AreMergesOf}
+use Rattle.kp_tags_modes.specs.Modes.{way_of, CoversEach, AreMergesOf}
 use Rattle.kp_tags_modes.specs.Answers.{RefusesMode}
 
 -- ---- the merges are right
@@ -25,6 +26,17 @@ pub record IsGoodMerge (g : Ground) (i : Initial) (m : FileMerge) : Type 0 where
 -- each merge of a mode is so
 abbrev pub MergesOfModesAreGood : Type 0
 MergesOfModesAreGood = (mode : Mode) (limit : ℕ) (g : Ground) (i : Initial) (ms : List FileMerge) → IsOfItsAtoms g → AreMergesOf limit g i (way_of mode) ms → (m : FileMerge) → Member ms m → IsGoodMerge g i m
+
+-- ---- which modes cover each target
+
+-- the empty tag covers the target, or the tags of one of these merges do, which is a merge of it
+pub data IsCoveredBy (g : Ground) (i : Initial) (ms : List FileMerge) (target : Lit) : Type 0 where
+  by_empty_tag : Covers g i ([] ∷ []) target → IsCoveredBy g i ms target
+  by_merge : (m : FileMerge) → Member ms m → m.target ≡ target → Covers g i m.tags target → IsCoveredBy g i ms target
+
+-- by the merges of `Models`, and by those of `Auto`, each target is so, whatever the limit
+abbrev pub SomeModesCoverEach : Type 0
+SomeModesCoverEach = (mode : Mode) (limit : ℕ) (g : Ground) (i : Initial) (ms : List FileMerge) → CoversEach mode → AreMergesOf limit g i (way_of mode) ms → (l : Lit) → IsTarget g l → IsCoveredBy g i ms l
 
 -- ---- there is one answer
 

@@ -26,6 +26,11 @@ way_of K3 = Some (record { greatest = 3; skips = false; by_models = false })
 way_of Models = Some (record { greatest = 0; skips = true; by_models = true })
 way_of Auto = Some (record { greatest = 3; skips = true; by_models = true })
 
+-- the modes that take all assignments where no set covers, so that each target is covered
+pub data CoversEach : Mode → Type 0 where
+  models : CoversEach Models
+  auto : CoversEach Auto
+
 -- ---- sets of relevant clauses
 
 -- the set of clauses covers them all: each of its tags entails a literal of each

@@ -9,5 +9,8 @@ mod modes;
 mod targets;
 mod way;
 
-pub use laws::{merges_of_modes_are_good, modes_have_one_answer, some_modes_are_never_refused};
+pub use laws::{
+    merges_of_modes_are_good, modes_have_one_answer, some_modes_are_never_refused,
+    some_modes_cover_each,
+};
 pub use modes::merges_of;

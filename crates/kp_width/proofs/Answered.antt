@@ -25,7 +25,7 @@ use Rattle.kp_width.proofs.Right.{it_is_there}
 
 module _ (i : Initial) (cs : List (List Lit)) (tags : (ds : List (List Lit)) → (ts : List (List Lit)) × IsCov i ds ts) (meeting : (ts ds : List (List Lit)) → AllMeet i ts ds ⊎ (AllMeet i ts ds → ⊥)) where
   -- the first of some sets that covers, or none does
-  abbrev FirstOrNone : List (List (List Lit)) → Type 0
+  abbrev pub FirstOrNone : List (List (List Lit)) → Type 0
   FirstOrNone sets = ((set : List (List Lit)) × (ts : List (List Lit)) × IsFirstCover i cs sets set ts) ⊎ NoneCovers i cs sets
 
   -- a set of clauses covers, or doesn't
@@ -35,7 +35,7 @@ module _ (i : Initial) (cs : List (List Lit)) (tags : (ds : List (List Lit)) →
     | inr never ↦ inr (λ ts c. never (subst (λ (us : List (List Lit)). AllMeet i us cs) (cov_once i i set ts its.0 (λ s. refl) c.are its.1) c.cover))
   ]
 
-  first_cover : (sets : List (List (List Lit))) → FirstOrNone sets
+  pub first_cover : (sets : List (List (List Lit))) → FirstOrNone sets
   first_cover [] = inr (λ set ts m c. absurd m)
   first_cover (x ∷ sets) = go (covering x) (first_cover sets)
     where

@@ -5,6 +5,7 @@ pub mod Ended
 mod ExampleCovers
 pub mod Gathered
 pub mod InTurn
+pub mod Least
 pub mod OneAnswer
 pub mod OneSearch
 pub mod Places

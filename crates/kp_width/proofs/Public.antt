@@ -2,6 +2,8 @@
 
 -- ---- Where the parts of the question are known, there is an answer.
 pub use Rattle.kp_width.proofs.Answered.{answered as known_problems_are_answered}
+-- ---- Each target has a width; that of a target over the bound is above it.
+pub use Rattle.kp_width.proofs.Least.{every_target as every_target_has_a_width, over_wider as targets_over_are_wider}
 -- ---- What is said of widths goes by the models alone.
 pub use Rattle.kp_width.proofs.ByModels.{report_by as report_by_models, refusal_by as refusal_by_models}
 -- ---- There is one answer on the width of a ground problem.

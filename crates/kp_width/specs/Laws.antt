@@ -1,11 +1,11 @@
 -- Laws of widths.
-use Rattle.std.specs.Prelude.{◌≡◌, ◌<◌, ◌⊎◌, ℕ, List, length}
+use Rattle.std.specs.Prelude.{◌≡◌, ◌≤◌, ◌<◌, ◌⊎◌, ℕ, List, length}
 use Rattle.kp_base.specs.declared.lit.Lit.{Lit}
 use Rattle.kp_base.specs.declared.ground.Ground.{Ground}
 use Rattle.kp_base.specs.declared.ground.Initial.{Initial}
 use Rattle.kp_base.specs.declared.limits.Limits.{Limits}
 use Rattle.kp_base.specs.declared.refused.Refused.{Refused}
-use Rattle.kp_base.specs.Planning.{Member, HaveSameModels, IsCov, AllMeet, AreClausesFor}
+use Rattle.kp_base.specs.Planning.{Member, HaveSameModels, IsCov, AllMeet, IsTarget, AreClausesFor}
 use Rattle.kp_cover.specs.Targets.{AreTargets}
 use Rattle.kp_width.specs.declared.report.WidthRow.{WidthRow}
 use Rattle.kp_width.specs.declared.report.WidthReport.{WidthReport}
@@ -29,9 +29,9 @@ RowsHaveTheWidth = (limit bound : ℕ) (g : Ground) (i : Initial) (target : Lit)
 abbrev pub ReportsHaveTheWidth : Type 0
 ReportsHaveTheWidth = (limits : Limits) (bound : ℕ) (g : Ground) (i : Initial) (rows : List WidthRow) → IsReport limits bound g i (reports.Within rows) → IsAsWide g i (greatest_width rows)
 
--- a target without a cover within the bound is wider than the bound
-abbrev pub TargetsOverAreWider : Type 0
-TargetsOverAreWider = (limit bound : ℕ) (g : Ground) (i : Initial) (target : Lit) (width : ℕ) → IsOver limit bound g i target → HasWidth g i target width → bound < width
+-- clauses that cover a target without a cover within the bound are more than the bound
+abbrev pub CoversOverAreMoreThanBound : Type 0
+CoversOverAreMoreThanBound = (limit bound : ℕ) (g : Ground) (i : Initial) (target : Lit) (clauses tags : List (List Lit)) → IsOver limit bound g i target → CoversTarget g i target clauses tags → bound < length clauses
 
 -- ---- there is an answer
 
@@ -43,7 +43,29 @@ pub record IsKnown (g : Ground) (i : Initial) : Type 0 where
   pub tags : (cs : List (List Lit)) → (ts : List (List Lit)) × IsCov i cs ts
   pub meeting : (ts cs : List (List Lit)) → AllMeet i ts cs ⊎ (AllMeet i ts cs → ⊥)
 
--- then there is a report, or a refusal
+-- the target has a width, and it is at most the number of the clauses that are relevant to it
+pub record HasSomeWidth (g : Ground) (i : Initial) (target : Lit) : Type 0 where
+  pub relevant : List (List Lit)
+  pub are_relevant : AreClausesFor g.actions (length g.atoms) i target relevant
+  pub width : ℕ
+  pub has_width : HasWidth g i target width
+  pub at_most : width ≤ length relevant
+
+-- then it is so of each target
+abbrev pub EveryTargetHasAWidth : Type 0
+EveryTargetHasAWidth = (g : Ground) (i : Initial) → IsKnown g i → (target : Lit) → IsTarget g target → HasSomeWidth g i target
+
+-- the target has a width, and it is above the bound
+pub record IsWider (bound : ℕ) (g : Ground) (i : Initial) (target : Lit) : Type 0 where
+  pub width : ℕ
+  pub has_width : HasWidth g i target width
+  pub above : bound < width
+
+-- it is so of a target without a cover within the bound
+abbrev pub TargetsOverAreWider : Type 0
+TargetsOverAreWider = (limit bound : ℕ) (g : Ground) (i : Initial) (target : Lit) → IsKnown g i → IsOver limit bound g i target → IsWider bound g i target
+
+-- and there is a report, or a refusal
 abbrev pub KnownProblemsAreAnswered : Type 0
 KnownProblemsAreAnswered = (limits : Limits) (bound : ℕ) (g : Ground) (i : Initial) → IsKnown g i → ((report : WidthReport) × IsReport limits bound g i report) ⊎ ((r : Refused) × RefusesWidth limits bound g i r)
 

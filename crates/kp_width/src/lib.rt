@@ -12,8 +12,8 @@ mod tags;
 mod target;
 
 pub use laws::{
-    known_problems_are_answered, problems_have_one_width, reports_have_the_width,
-    rows_have_the_width, targets_over_are_wider,
+    covers_over_are_more_than_bound, every_target_has_a_width, known_problems_are_answered,
+    problems_have_one_width, reports_have_the_width, rows_have_the_width, targets_over_are_wider,
 };
 pub use measure::width;
 pub use report::{WidthReport, WidthRow};

@@ -3,9 +3,12 @@
 
 ghost use Rattle.std.specs.Prelude.{◌≡◌};
 ghost use Rattle.std.specs.Process.{exit_status};
+ghost use Rattle.kp_run_outcome.specs.declared.status.Status.{Status as Ended};
+ghost use Rattle.kp_run_outcome.specs.Ends.{over};
 ghost use Rattle.kp_run_outcome.specs.Numbers.{number_of};
+ghost use Rattle.kp_run.specs.Ends.{Ends};
 
-use kp_outside::{FileShelf, OutSink};
+use kp_outside::{FileShelf, OutSink, Shelf, Sink};
 use kp_run::{Status, run};
 use std::alloc::{AllocError, Global};
 use std::env;
@@ -34,16 +37,27 @@ fn exit_code(status: &Status) -> ExitCode
     ExitCode::from(status.number())
 }
 
+// Carries out the command of the words on a shelf and a sink, and gives the number with which the program ends.
+fn carried<S: Shelf, O: Sink>(
+    alloc: Global,
+    words: &[Vec<u8>],
+    shelf: &mut S,
+    out: &mut O,
+) -> ExitCode
+    ensures { (s : Ended) × over S.Shelf O.Sink shelf.old shelf.new out.old out.new (Ends words.now) s × (exit_status result ≡ number_of s) }
+{
+    exit_code(&run(alloc, words, shelf, out))
+}
+
 fn main(rt: HostRuntime) -> ExitCode {
     let alloc = rt.alloc();
-    let status = match words_of(&rt, alloc) {
-        Ok(words) => run(
+    match words_of(&rt, alloc) {
+        Ok(words) => carried(
             alloc,
             &words,
             &mut FileShelf::new(&rt),
             &mut OutSink::new(&rt),
         ),
-        Err(_) => Status::Memory,
-    };
-    exit_code(&status)
+        Err(_) => exit_code(&Status::Memory),
+    }
 }

@@ -1,4 +1,4 @@
-use Rattle.kp_width.proofs.Right.{over_wider}
+use Rattle.kp_width.proofs.Least.{over_wider}
 use Rattle.kp_width.proofs.laws.targets_over_are_wider.Goals as goal
 
 pub returns : goal.returns

@@ -1,0 +1,25 @@
+-- What the clauses of `run` say, each of the words of a run, of the outside before it and after, and of the status with which it ended.
+use Rattle.std.specs.Prelude.{◌≡◌, Some}
+use Rattle.kp_outside.specs.Outside.{FileMap}
+use Rattle.kp_run_outcome.specs.declared.status.Status.TheVariants as status
+use Rattle.kp_words.specs.Names.{Translate, Lift, Solve, Classical}
+use Rattle.kp_words.specs.Command.{IsTranslate, IsLift, IsSolve, IsClassical}
+use Rattle.kp_run.specs.Soundness.{IsSound}
+use Rattle.kp_run.specs.Completeness.{Ending, LosesNoPlan}
+use Rattle.kp_run.specs.Solved.{SolveIsTrue, ClassicalIsTrue}
+
+-- a `translate` that ended with Done is sound, where the shelf tells what it holds
+abbrev pub IsSoundRun : Ending
+IsSoundRun words old new s = (before after : FileMap) (c : Translate) → old.held ≡ Some before → new.held ≡ Some after → IsTranslate words c → s ≡ status.Done → IsSound before after c
+
+-- a `lift` loses no plan of the files of a `translate` that told `complete`, where it is said so how that one ended
+abbrev pub IsCompleteRun : Ending → Ending
+IsCompleteRun ends words old new s = (c : Lift) → IsLift words c → LosesNoPlan ends c old new s
+
+-- what a `solve` says of its files is true
+abbrev pub IsTrueSolve : Ending
+IsTrueSolve words old new s = (m : FileMap) (c : Solve) → old.held ≡ Some m → IsSolve words c → SolveIsTrue m c old new s
+
+-- and what a `classical` says of its own
+abbrev pub IsTrueClassical : Ending
+IsTrueClassical words old new s = (m : FileMap) (c : Classical) → old.held ≡ Some m → IsClassical words c → ClassicalIsTrue m c old new s
