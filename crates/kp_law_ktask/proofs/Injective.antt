@@ -9,10 +9,9 @@ use Rattle.kp_base.specs.declared.ground.Merge.{Merge}
 use Rattle.kp_base.specs.Machine.{MachineStep}
 use Rattle.kp_base.proofs.Lists.{same-refl}
 use Rattle.kp_names_semantics.specs.Problems.{same, Step, encoded}
-use Rattle.kp_write.specs.Runs.{step_of}
+use Rattle.kp_write.specs.Tasks.{op_step}
 use Rattle.kp_names_semantics.proofs.Public.{names_are_encoded_once}
-use Rattle.kp_law_ktask.specs.Task.{merge_word}
-use Rattle.kp_law_ktask.specs.ByName.{op_of, merge_op}
+use Rattle.kp_law_ktask.specs.Task.{op_of, merge_op, merge_word}
 use Rattle.kp_law_ktask.specs.Accepted.{step_at}
 use Rattle.kp_law_ktask.specs.Laws.{StepsAreInjective}
 use Rattle.kp_law_ktask.proofs.Facts.{one_place}
@@ -32,18 +31,18 @@ record IsMergeStep (table : TagTable) (m : ℕ) (step : Step) : Type 0 where
 action_step : (g : Ground) (table : TagTable) (n : ℕ) (step : Step) → step_at g table (MachineStep.act n) ≡ Some step → IsAction g n step
 action_step g table n step e = go (slice_get g.actions n) refl where
   go : (x : Option Action) → slice_get g.actions n ≡ x → IsAction g n step
-  go None is = let gone : None ≡ Some step = subst (λ (x : Option Action). option_map step_of (option_map (op_of g.atoms (length table.tags)) x) ≡ Some step) is e in absurd cc
+  go None is = let gone : None ≡ Some step = subst (λ (x : Option Action). option_map op_step (option_map (op_of (length g.atoms) (length table.tags)) x) ≡ Some step) is e in absurd cc
   go (Some a) is =
-      let here : Some (step_of (op_of g.atoms (length table.tags) a)) ≡ Some step = subst (λ (x : Option Action). option_map step_of (option_map (op_of g.atoms (length table.tags)) x) ≡ Some step) is e in
-      record { action = a; at = is; head = ap (λ (s : Step). s.head) (same_Some (step_of (op_of g.atoms (length table.tags) a)) step here) }
+      let here : Some (op_step (op_of (length g.atoms) (length table.tags) a)) ≡ Some step = subst (λ (x : Option Action). option_map op_step (option_map (op_of (length g.atoms) (length table.tags)) x) ≡ Some step) is e in
+      record { action = a; at = is; head = ap (λ (s : Step). s.head) (same_Some (op_step (op_of (length g.atoms) (length table.tags) a)) step here) }
 
 merge_step : (g : Ground) (table : TagTable) (n : ℕ) (step : Step) → step_at g table (MachineStep.merge n) ≡ Some step → IsMergeStep table n step
 merge_step g table n step e = go (slice_get table.merges n) refl where
   go : (x : Option Merge) → slice_get table.merges n ≡ x → IsMergeStep table n step
-  go None is = let gone : None ≡ Some step = subst (λ (x : Option Merge). option_map step_of (option_map (merge_op g.atoms n) x) ≡ Some step) is e in absurd cc
+  go None is = let gone : None ≡ Some step = subst (λ (x : Option Merge). option_map op_step (option_map (merge_op (length g.atoms) n) x) ≡ Some step) is e in absurd cc
   go (Some a) is =
-      let here : Some (step_of (merge_op g.atoms n a)) ≡ Some step = subst (λ (x : Option Merge). option_map step_of (option_map (merge_op g.atoms n) x) ≡ Some step) is e in
-      record { less = slice_get_within table.merges n a is; head = ap (λ (s : Step). s.head) (same_Some (step_of (merge_op g.atoms n a)) step here) }
+      let here : Some (op_step (merge_op (length g.atoms) n a)) ≡ Some step = subst (λ (x : Option Merge). option_map op_step (option_map (merge_op (length g.atoms) n) x) ≡ Some step) is e in
+      record { less = slice_get_within table.merges n a is; head = ap (λ (s : Step). s.head) (same_Some (op_step (merge_op (length g.atoms) n a)) step here) }
 
 mixed : (w : List ℕ) (m : ℕ) → codes "do_-" ++ w ≡ merge_word m → ⊥
 mixed w m e = false≢true (sym (action_no_merge w m) ∙ ap (λ v. same v (merge_word m)) e ∙ same-refl (merge_word m))

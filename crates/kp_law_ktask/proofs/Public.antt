@@ -12,6 +12,8 @@ pub use Rattle.kp_law_ktask.proofs.Named.{tasks_are_fit as tagged_tasks_are_fit}
 pub use Rattle.kp_law_ktask.proofs.Weights.{weight_counted as weight_is_counted, both_alike as both_effects_weigh_alike}
 -- ---- The plans of the two texts are the lists that the machine accepts.
 pub use Rattle.kp_law_ktask.proofs.Plans.{plans_are_accepted as tagged_plans_are_accepted, plans_sound as tagged_plans_are_sound}
+-- ---- The runs of the operators are the lists that the machine accepts.
+pub use Rattle.kp_law_ktask.proofs.Runs.{named_step as machine_step_is_named}
 -- ---- The operators by number do the steps of the machine.
 pub use Rattle.kp_law_ktask.proofs.ByNumber.{operators_do_steps as operators_do_machine_steps}
 -- ---- examples that others go on from

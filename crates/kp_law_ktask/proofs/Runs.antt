@@ -15,7 +15,9 @@ use Rattle.kp_names_semantics.specs.Steps.{Step}
 use Rattle.kp_write.specs.Task.{Op}
 use Rattle.kp_write.specs.Grounds.{IsGroundAction}
 use Rattle.kp_write.specs.Runs.{Facts, after_op, runs, step_of}
+use Rattle.kp_write.specs.Tasks.{op_step}
 use Rattle.kp_law_ktask.specs.Task.{start_of}
+use Rattle.kp_law_ktask.specs.Task as numbered
 use Rattle.kp_law_ktask.specs.ByName.{op_of, merge_op, merge_ops_from, ops_of, op_at, names_of, goal_of}
 use Rattle.kp_law_ktask.specs.Writable.{IsMergeOn, IsWritableTask}
 use Rattle.kp_law_ktask.specs.Accepted.{step_at}
@@ -126,6 +128,19 @@ are_among g table (m ∷ ms) (o ∷ os) at =
     let rest : AreAt g table ms os = cc in
     (op_among g table m o here, are_among g table ms os rest)
 
+-- a step has the name of its operator, which is one by number and by name
+pub named_step : (g : Ground) (table : TagTable) (m : MachineStep) → step_at g table m ≡ option_map step_of (op_at g table m)
+named_step g table (MachineStep.act n) = by (slice_get g.actions n)
+  where
+    by : (o : Option Action) → option_map op_step (option_map (numbered.op_of (length g.atoms) (length table.tags)) o) ≡ option_map step_of (option_map (op_of g.atoms (length table.tags)) o)
+    by None = refl
+    by (Some a) = refl
+named_step g table (MachineStep.merge n) = by (slice_get table.merges n)
+  where
+    by : (o : Option Merge) → option_map op_step (option_map (numbered.merge_op (length g.atoms) n) o) ≡ option_map step_of (option_map (merge_op g.atoms n) o)
+    by None = refl
+    by (Some a) = refl
+
 -- their steps by name
 steps_at : (g : Ground) (table : TagTable) (ms : List MachineStep) (os : List Op) → AreAt g table ms os → map (step_at g table) ms ≡ map Some (map step_of os)
 steps_at g table [] [] at = refl
@@ -134,7 +149,7 @@ steps_at g table (m ∷ ms) [] at = absurd cc
 steps_at g table (m ∷ ms) (o ∷ os) at =
     let here : op_at g table m ≡ Some o = cc in
     let rest : AreAt g table ms os = cc in
-    rw (here, steps_at g table ms os rest) refl
+    cc (named_step g table m ∙ ap (option_map step_of) here, steps_at g table ms os rest)
 
 pub record OpsAt (g : Ground) (table : TagTable) (ms : List MachineStep) (steps : List Step) : Type 0 where
   pub ops : List Op
@@ -148,9 +163,9 @@ ops_at g table (m ∷ ms) [] e = absurd cc
 ops_at g table (m ∷ ms) (i ∷ is) e =
     let here : step_at g table m ≡ Some i = cc in
     let later : map (step_at g table) ms ≡ map Some is = cc in
-    go (op_at g table m) refl here (ops_at g table ms is later)
+    go (op_at g table m) refl (sym (named_step g table m) ∙ here) (ops_at g table ms is later)
   where
-    go : (o : Option Op) → op_at g table m ≡ o → step_at g table m ≡ Some i → OpsAt g table ms is → OpsAt g table (m ∷ ms) (i ∷ is)
+    go : (o : Option Op) → op_at g table m ≡ o → option_map step_of (op_at g table m) ≡ Some i → OpsAt g table ms is → OpsAt g table (m ∷ ms) (i ∷ is)
     go None is' here rest = let gone : None ≡ Some i = subst (λ (o : Option Op). option_map step_of o ≡ Some i) is' here in absurd cc
     go (Some o) is' here rest =
         let there : Some (step_of o) ≡ Some i = subst (λ (o : Option Op). option_map step_of o ≡ Some i) is' here in

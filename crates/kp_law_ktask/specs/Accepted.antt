@@ -1,5 +1,5 @@
 -- The steps that the operators of a task have by name, and those of accepted lists of steps of the tagged machine.
-use Rattle.std.specs.Prelude.{◌≡◌, true, List, Option, Some, option_map, map}
+use Rattle.std.specs.Prelude.{◌≡◌, true, List, Option, Some, option_map, map, length, slice_get}
 use Rattle.kp_base.specs.declared.ground.Ground.{Ground}
 use Rattle.kp_base.specs.declared.ground.TagTable.{TagTable}
 use Rattle.kp_base.specs.declared.ground.Initial.{Initial}
@@ -8,12 +8,18 @@ use Rattle.kp_base.specs.Steps.{IsGroundPlan}
 use Rattle.kp_base.specs.Machine.{MachineStep, accepts, stripped}
 use Rattle.kp_names_semantics.specs.Steps.{Step}
 use Rattle.kp_names_semantics.specs.Strip.{strip}
-use Rattle.kp_write.specs.Runs.{step_of}
-use Rattle.kp_law_ktask.specs.ByName.{op_at}
+use Rattle.kp_classic.specs.declared.task.Op.{Op}
+use Rattle.kp_law_ktask.specs.Task.{op_of, merge_op}
+pub use Rattle.kp_write.specs.Tasks.{op_step, operator_step}
 
--- the step by name of a step of the machine: its operator, without objects
+-- the operator of a step of the machine: that of its action, or of its merge
+abbrev pub operator_at : Ground → TagTable → MachineStep → Option Op
+operator_at g table (MachineStep.act n) = option_map (op_of (length g.atoms) (length table.tags)) (slice_get g.actions n)
+operator_at g table (MachineStep.merge m) = option_map (merge_op (length g.atoms) m) (slice_get table.merges m)
+
+-- its step by name: the name of the operator, without objects
 abbrev pub step_at : Ground → TagTable → MachineStep → Option Step
-step_at g table m = option_map step_of (op_at g table m)
+step_at g table m = option_map op_step (operator_at g table m)
 
 -- the steps of the machine have these steps by name, and it accepts them
 pub record IsAccepted (g : Ground) (table : TagTable) (steps : List Step) (ms : List MachineStep) : Type 0 where

@@ -106,7 +106,7 @@ ran = record { old = before_it; new = after_it; earlier = []; text = outcome.tex
 abbrev command : Lift
 command = record { domain = codes "e"; problem = codes "p"; plan = codes "t"; source = of_mode modes.K0; implicates = 1 }
 
-abbrev plan_file : List ℕ
+abbrev pub plan_file : List ℕ
 plan_file = codes "(a)\n"
 
 abbrev now : FileMap
@@ -131,20 +131,20 @@ is_same = record { domain = sym domain_held; problem = sym problem_held; source 
 
 -- ---- its plan file
 
-abbrev a : Step
+abbrev pub a : Step
 a = record { head = codes "a"; objects = [] }
 
-abbrev plan_words : List (Word × List Word)
+abbrev pub plan_words : List (Word × List Word)
 plan_words = (record { text = codes "a"; byte = 1 }, []) ∷ []
 
-reads : IsPlanOf plan_file (map (step_of plan_file) plan_words)
+pub reads : IsPlanOf plan_file (map (step_of plan_file) plan_words)
 unfolding cut_from class_of symbol_of some_at next_at
 reads = record { tree = plan_words; are = refl; reads = reads_by_computing plan plan_file (tokens_of_text plan_file) plan_words refl refl }
 
 exchange_problem : HasProblem exchange_text from_p_to_q_text
 exchange_problem = problem_of_trees exchange_text from_p_to_q_text exchange_tree from_p_to_q_tree trees
 
-is_plan : IsPlan exchange_text from_p_to_q_text (a ∷ [])
+pub is_plan : IsPlan exchange_text from_p_to_q_text (a ∷ [])
 unfolding exchange_problem
 is_plan = record { has = exchange_problem; solves = record { instances = refl; reaches = λ s i. i.items } }
 

@@ -118,16 +118,16 @@ apart : (x y : List ℕ) → same x y ≡ false → x ≢ y
 apart x y h e = false≢true (sym h ∙ (sym (ap (same x) e) ∙ same-refl x))
 
 -- before a run on two files, and after it, where it comes to an outcome
-abbrev before : List ℕ → List ℕ → Outside
+abbrev pub before : List ℕ → List ℕ → Outside
 before domain problem = record { held = Some (example_holding domain problem); told = Some []; get_faults = λ q. 0; put_faults = λ q. 0; write_faults = 0 }
 
-abbrev after : List ℕ → List ℕ → Outcome → Outside
+abbrev pub after : List ℕ → List ℕ → Outcome → Outside
 after domain problem o = record { held = with_files (Some (example_holding domain problem)) o.puts; told = with_bytes (Some []) o.text; get_faults = λ q. 0; put_faults = λ q. 0; write_faults = 0 }
 
-domain_held : (domain problem : List ℕ) → get (example_holding domain problem) (codes "d") ≡ Some domain
+pub domain_held : (domain problem : List ℕ) → get (example_holding domain problem) (codes "d") ≡ Some domain
 domain_held domain problem = got_beside_insert (insert empty (codes "d") domain) (codes "d") (codes "p") problem (apart (codes "d") (codes "p") refl) ∙ got_after_insert empty (codes "d") domain
 
-problem_held : (domain problem : List ℕ) → get (example_holding domain problem) (codes "p") ≡ Some problem
+pub problem_held : (domain problem : List ℕ) → get (example_holding domain problem) (codes "p") ≡ Some problem
 problem_held domain problem = got_after_insert (insert empty (codes "d") domain) (codes "p") problem
 
 ends : (ws : List (Vec ℕ Global)) (budget : ℕ) (name : Option (List ℕ)) → IsSolve ws (solving budget name) → (domain problem : List ℕ) (o : Outcome) → SolvesTexts (solving budget name) domain problem [] o → Ends ws (before domain problem) (after domain problem o) o.status
@@ -188,7 +188,7 @@ told_and_put = refl
 
 -- ---- from p to both: there is no plan, and the table is complete
 
-abbrev keeping : Task
+abbrev pub keeping : Task
 keeping = task_of (ground_of exchange_tree to_both_tree) (empty_tag exchange_tree to_both_tree)
 
 keeping_fits : IsFit keeping
@@ -207,10 +207,10 @@ p_lost n costs = unreached (rules_of keeping) (has (step keeping 0 (first keepin
     no_rule r (inr (inl m)) is = let e : 1 ≡ 0 = ap (λ (x : Rule). x.fact) m ∙ is in omega (arith, e)
     no_rule r (inr (inr never)) is = absurd never
 
-found_none : Finds keeping 10000 NoPlan
+pub found_none : Finds keeping 10000 NoPlan
 found_none = let here = reaching keeping keeping_fits (first keeping) 1 both_cost in without_plan keeping 10000 (omega arith) refl refl refl here.0 here.1 p_lost
 
-abbrev no_plan : Outcome
+abbrev pub no_plan : Outcome
 no_plan = denies (no_plan_text [])
 
 ends_with_none : Ends plain (before exchange_text to_both) (after exchange_text to_both no_plan) status.Negative

@@ -24,3 +24,4 @@ pub mod Benches
 pub mod ExampleBenches
 pub mod ExampleMoving
 pub mod ExampleWidths
+pub mod ExampleSources

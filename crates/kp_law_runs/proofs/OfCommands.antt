@@ -33,19 +33,21 @@ use Rattle.kp_law_decidable.proofs.Public.{complete_with_none}
 use Rattle.kp_cover.proofs.Public.{none_uncovered_if_complete}
 use Rattle.kp_law_tagged_machine.specs.Lifts.{lift_of, UnliftedAt}
 use Rattle.kp_law_tagged_machine.proofs.Public.{lifted_lists_strip, lists_lift_or_fail, failing_lists_dont_lift}
-use Rattle.kp_law_translation.proofs.Public.{numbers_below_are_actions, lifted_steps_have_names}
+use Rattle.kp_base.proofs.Cases.{some_alike}
+use Rattle.kp_plans.specs.PlanFiles.{step_names}
+use Rattle.kp_law_translation.proofs.Public.{numbers_below_are_actions, lifted_steps_have_names, lifts_written, tables_can_be_written}
 use Rattle.kp_base.specs.Machine.{MachineStep, accepts, stripped as actions_of}
 use Rattle.kp_ktask_texts.specs.Report.{counts_of}
 use Rattle.kp_plans.specs.declared.step.PlanStep.{PlanStep}
 use Rattle.kp_words.specs.Command.{IsTranslate, IsCheck, IsLift, file_of, if_named, inputs_of}
 use Rattle.kp_run_inputs.specs.SourceTables.{by_mode, with_table}
 use Rattle.kp_run_inputs.specs.Actions.{with_actions}
-use Rattle.kp_run_inputs.proofs.Public.{found_numbers_are_actions, as_many_found_as_steps, table_of_source_is_for_trees}
+use Rattle.kp_run_inputs.proofs.Public.{found_numbers_are_actions, found_actions_are_named, as_many_found_as_steps, table_of_source_is_for_trees}
 use Rattle.kp_run.specs.Completeness.{PrintsComplete}
-use Rattle.kp_run.proofs.Public.{complete_text_leaves_none as none_told, complete_is_told, prepared_is_proper}
+use Rattle.kp_run.proofs.Public.{complete_text_leaves_none as none_told, complete_is_told, prepared_is_proper, machine_lines_read}
 use Rattle.kp_run_prepare.proofs.Public.{problem_of_trees}
 use Rattle.kp_run.specs.Solved.{GoesOn}
-use Rattle.kp_law_runs.specs.Commands.{HasTranslation, TranslationsAreAnswered, CompleteIsTrue, MergesAreListed, ClashesAreAnswered, HasVerdict, ChecksAreAnswered, ChecksAreTrue, HasLift, LiftsAreAnswered, LiftsAreTrue, StripsAreAnswered}
+use Rattle.kp_law_runs.specs.Commands.{HasTranslation, TranslationsAreAnswered, CompleteIsTrue, MergesAreListed, ClashesAreAnswered, HasVerdict, ChecksAreAnswered, ChecksAreTrue, HasLift, LiftsAreAnswered, LiftsAreTrue, LiftedLinesStrip, StripsAreAnswered}
 use Rattle.kp_law_runs.specs.Follows.{IsAnsweredBy}
 use Rattle.kp_law_runs.proofs.Following.{answers_are_whole, ends_with}
 use Rattle.kp_law_runs.proofs.OneOutcome.{one_outcome}
@@ -166,6 +168,29 @@ lifts_are_true words old new s ends m c d p table ns held is g h answer =
     let plans = lifted_plans g.domain g.problem (problem_of_trees g.domain g.problem d p g.trees) table for h.steps ns h.has_actions.known in
     let lists = accepted_true words old new s ends m c d p table ns held is g h answer in
     ((λ e. plans.0 (lists.0 e)), (λ w. lists.1 (plans.1 w)))
+
+pub lifted_lines_strip : LiftedLinesStrip
+lifted_lines_strip words old new s ends m c d p table ns held is g h done =
+    let g' = ground_of d p in
+    let inside = found_numbers_are_actions g' h.steps ns h.has_actions.known in
+    elim (lists_lift_or_fail g' table ns (numbers_below_are_actions g' ns inside)) [
+      | inl accepted ↦
+          let named = lifted_steps_have_names g' table ns inside in
+          let a = answered_by words old new s ends m _ held (lift_due words m c d p table ns _ is g h (lifts named.0 (record { steps_are = named.1; accepted = accepted }) refl)) (subst IsAnswer (sym done) tt) in
+          let for = table_of_source_is_for_trees d p c.source h.merges table g.prepared.started.small h.fits h.has_table in
+          let x = problem_of_trees g.domain g.problem d p g.trees in
+          let r = lifts_written g.domain g.problem x table for ns named.0 (record { steps_are = named.1; accepted = accepted }) in
+          record {
+            written = named.0;
+            is_plan = r.is_plan;
+            strips = r.strips ∙ ap Some (some_alike r.names (step_names h.steps) (sym r.are_names ∙ found_actions_are_named g' h.steps ns h.has_actions.known));
+            told = a.text_is;
+            told_reads = machine_lines_read g' table (tables_can_be_written g.domain g.problem x table for) (lift_of g' table ns) named.0 named.1;
+          }
+      | inr f ↦
+          let a = answered_by words old new s ends m _ held (lift_due words m c d p table ns _ is g h (fails f.0 f.1 f.2 refl)) (subst IsAnswer (sym done) tt) in
+          absurd (let not_done = sym a.status_is ∙ done in cc)
+    ]
 
 pub strips_are_answered : StripsAreAnswered
 strips_are_answered words old new s ends m c text steps actions held is first short plan stripped_to =

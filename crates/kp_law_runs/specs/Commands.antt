@@ -16,7 +16,7 @@ use Rattle.kp_names_semantics.specs.Plans.{IsPlan}
 use Rattle.kp_names_semantics.specs.Strip.{strip}
 use Rattle.kp_plans.specs.declared.step.PlanStep.{PlanStep}
 use Rattle.kp_plans.specs.PlanFiles.{step_names, IsPlanOf}
-use Rattle.kp_plans.specs.Printed.{plan_text}
+use Rattle.kp_plans.specs.Printed.{plan_text, IsTextOf}
 use Rattle.kp_law_ktask.specs.Task.{task_of}
 use Rattle.kp_ktask.specs.Translated.{FitsLimits}
 use Rattle.kp_tags_files.specs.Printed.{merges_of, merges_text}
@@ -30,7 +30,7 @@ use Rattle.kp_outside.specs.Outside.{FileMap}
 use Rattle.kp_run_outcome.specs.declared.outcome.Outcome.{Outcome}
 use Rattle.kp_run_outcome.specs.declared.status.Status.TheVariants as status
 use Rattle.kp_base.specs.Files.{most_bytes}
-use Rattle.kp_run_outcome.specs.Ends.{AreHeld, IsAnswer}
+use Rattle.kp_run_outcome.specs.Ends.{Outside, AreHeld, IsAnswer}
 use Rattle.kp_words.specs.Names.{Source, of_mode, Translate, Merges, Strip, Check, Lift}
 use Rattle.kp_words.specs.declared.lent.CommandRef.TheVariants as commands
 use Rattle.kp_words.specs.Command.{IsTranslate, IsMerges, IsStrip, IsCheck, IsLift, file_of, if_named, inputs_of}
@@ -126,6 +126,20 @@ abbrev pub LiftsAreTrue : Type 0
 LiftsAreTrue = OfRuns (λ words old new s. (m : FileMap) (c : Lift) (d : Domain Word) (p : Problem Word) (table : TagTable) (numbers : List ℕ)
     → old.held ≡ Some m → IsLift words c → GoesOn m c.domain c.problem c.implicates d p → (h : HasLift m c.source c.plan d p table numbers) → IsAnswer s
     → (s ≡ status.Done) ↔ StripsTo d p table (step_names h.steps))
+
+-- the lines of a plan of the translation were told, which read as it, and it strips to these steps by name
+pub record IsToldLift (d : Domain Word) (p : Problem Word) (table : TagTable) (plan : List Step) (old new : Outside) : Type 0 where
+  pub written : List Step
+  pub is_plan : IsPlan (translation_of d p table).domain (translation_of d p table).problem written
+  pub strips : strip written ≡ Some plan
+  pub told : Tells old new (plan_text written)
+  pub told_reads : IsTextOf (plan_text written) written
+
+-- so it is where such a run ends with Done, whether the table is complete or not: what it told strips to the steps of the plan file
+abbrev pub LiftedLinesStrip : Type 0
+LiftedLinesStrip = OfRuns (λ words old new s. (m : FileMap) (c : Lift) (d : Domain Word) (p : Problem Word) (table : TagTable) (numbers : List ℕ)
+    → old.held ≡ Some m → IsLift words c → GoesOn m c.domain c.problem c.implicates d p → (h : HasLift m c.source c.plan d p table numbers) → s ≡ status.Done
+    → IsToldLift d p table (step_names h.steps) old new)
 
 -- a held plan file that isn't too long, reads and strips: the run ends with what its steps come to
 abbrev pub StripsAreAnswered : Type 0

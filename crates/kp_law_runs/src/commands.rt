@@ -2,7 +2,7 @@
 
 ghost use Rattle.kp_run.specs.Ends.{Ends};
 ghost use Rattle.kp_run.specs.Completeness.{StaysSolvable};
-ghost use Rattle.kp_law_runs.specs.Commands.{TranslationsAreAnswered, CompleteIsTrue, SomeModesTellComplete, MergesAreListed, ChecksAreAnswered, ChecksAreTrue, ClashesAreAnswered, StripsAreAnswered, LiftsAreAnswered, LiftsAreTrue};
+ghost use Rattle.kp_law_runs.specs.Commands.{TranslationsAreAnswered, CompleteIsTrue, SomeModesTellComplete, MergesAreListed, ChecksAreAnswered, ChecksAreTrue, ClashesAreAnswered, StripsAreAnswered, LiftsAreAnswered, LiftsAreTrue, LiftedLinesStrip};
 
 /// A run on files that nothing refuses, and a source that has a table, ends with their translation.
 pub fn translations_are_answered()
@@ -59,4 +59,10 @@ pub fn lifts_are_answered()
 /// Such a lift is Done exactly where some accepted list of steps strips to the plan's actions.
 pub fn lifts_are_true()
     ensures { LiftsAreTrue }
+{}
+
+/// The lines that such a lift told, where it ended with Done, read as a plan of the translation that strips to the given
+/// steps.
+pub fn lifted_lines_strip()
+    ensures { LiftedLinesStrip }
 {}

@@ -13,8 +13,9 @@ mod width;
 pub use bench::{bench_posed_once, benches_are_answered, benches_are_true};
 pub use commands::{
     checks_are_answered, checks_are_true, clashes_are_answered, complete_is_true,
-    lifts_are_answered, lifts_are_true, merges_are_listed, solvable_stays_solvable,
-    some_modes_tell_complete, strips_are_answered, translations_are_answered,
+    lifted_lines_strip, lifts_are_answered, lifts_are_true, merges_are_listed,
+    solvable_stays_solvable, some_modes_tell_complete, strips_are_answered,
+    translations_are_answered,
 };
 pub use follows::{
     answers_are_whole, done_puts_the_outputs, failed_gets_are_told, failed_writes_are_told,

@@ -20,7 +20,7 @@ use Rattle.kp_write.specs.Runs.{step_of}
 use Rattle.kp_law_ktask.specs.ByName.{op_of, merge_op, op_at}
 use Rattle.kp_base.specs.ActionNames.{action_name}
 use Rattle.kp_law_ktask.specs.Accepted.{step_at}
-use Rattle.kp_law_ktask.proofs.Public.{tagged_plans_are_accepted, tagged_steps_strip}
+use Rattle.kp_law_ktask.proofs.Public.{machine_step_is_named, tagged_plans_are_accepted, tagged_steps_strip}
 use Rattle.kp_law_translation.specs.Translations.{ground_of, initial_of}
 use Rattle.kp_law_translation.proofs.Starts.{states_are_models as initial_states_are_models}
 use Rattle.kp_law_translation.proofs.Tables.{tables_written as tables_can_be_written}
@@ -53,7 +53,7 @@ record Have_names (g : Ground) (table : TagTable) (ms : List MachineStep) : Type
 
 -- one more step, of this operator
 one_more : (g : Ground) (table : TagTable) (m : MachineStep) (ms : List MachineStep) (o : Op) → op_at g table m ≡ Some o → Have_names g table ms → Have_names g table (m ∷ ms)
-one_more g table m ms o is rest = record { steps = step_of o ∷ rest.steps; are = rw (is, rest.are) refl }
+one_more g table m ms o is rest = record { steps = step_of o ∷ rest.steps; are = cc (machine_step_is_named g table m ∙ ap (option_map step_of) is, rest.are) }
 
 -- those that are taken have names
 merges_named : (g : Ground) (table : TagTable) (n : ℕ) (ms : List Merge) (k : Known) (rest : List MachineStep) → StandFrom table n ms → Have_names g table rest → Have_names g table (merges_taken n ms k ++ rest)

@@ -15,7 +15,8 @@ use Rattle.kp_law_tagged_machine.specs.Lifts.{is_ready, UnliftedAt}
 use Rattle.kp_law_tagged_machine.proofs.Public.{failing_lists_dont_lift}
 use Rattle.kp_law_ktask.specs.Task.{task_of}
 use Rattle.kp_lift.specs.declared.lifting.Lifting.TheVariants.{Lifted, Unlifted}
-use Rattle.kp_lift.specs.Lifting.{IsTableOn, AnswersLifting, operator_step}
+use Rattle.kp_law_ktask.specs.Accepted.{operator_step}
+use Rattle.kp_lift.specs.Lifting.{IsTableOn, AnswersLifting}
 
 -- ---- the problem and its table
 

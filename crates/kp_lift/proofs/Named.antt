@@ -4,26 +4,20 @@ use Rattle.std.proofs.lemmas.Bool.{and_parts, lt-ltb}
 use Rattle.std.proofs.lemmas.List.{length-map, length-append}
 use Rattle.std.proofs.lemmas.Option.{slice_get-map}
 use Rattle.std.specs.List.{AllByRecursion, list_all}
-use Rattle.kp_base.specs.declared.ground.GroundName.{GroundName}
 use Rattle.kp_base.specs.declared.ground.Ground.{Ground}
 use Rattle.kp_base.specs.declared.ground.TagTable.{TagTable}
 use Rattle.kp_base.specs.declared.ground.Merge.{Merge}
 use Rattle.kp_base.specs.Machine.{MachineStep, Known, start, after_act, after_merge}
 use Rattle.kp_base.proofs.Lists.{each_append}
 use Rattle.kp_base.proofs.Places.{element, get_left, get_right}
-use Rattle.kp_classic.specs.declared.task.Op.{Op}
 use Rattle.kp_classic.specs.declared.task.Task.{Task}
 use Rattle.kp_law_tagged_machine.specs.Lifts.{adds, after_merges, merges_taken, lift_of, lift_from}
 use Rattle.kp_law_ktask.specs.Task.{op_of, merge_op, merge_ops_from, task_of}
 use Rattle.kp_law_ktask.specs.Laws.{op_number}
-use Rattle.kp_law_ktask.specs.Accepted.{step_at}
-use Rattle.kp_lift.specs.Lifting.{operator_step, IsThere, OperatorsAreSteps, LiftedOperatorsAreSteps}
+use Rattle.kp_law_ktask.specs.Accepted.{op_step, operator_step, step_at}
+use Rattle.kp_lift.specs.Lifting.{IsThere, OperatorsAreSteps, LiftedOperatorsAreSteps}
 
 -- ---- one step
-
--- the step of an operator: its name, without objects
-abbrev step_of_op : Op → GroundName
-step_of_op o = record { head = o.name; objects = [] }
 
 -- the operator of the merge of this number, in a list of which the first has number m
 merge_at : (n m : ℕ) (xs : List Merge) (d : ℕ) → slice_get (merge_ops_from n m xs) d ≡ option_map (merge_op n (m + d)) (slice_get xs d)
@@ -36,14 +30,14 @@ operators_steps g table (MachineStep.act n) lt =
     let a = element g.actions n lt in
     let op = op_of (length g.atoms) (length table.tags) in
     let there : slice_get (map op g.actions) n ≡ Some (op a.0) = slice_get-map op g.actions n ∙ ap (option_map op) a.1 in
-    ap (option_map step_of_op) (get_left (map op g.actions) (merge_ops_from (length g.atoms) 0 table.merges) n (op a.0) there)
+    ap (option_map op_step) (get_left (map op g.actions) (merge_ops_from (length g.atoms) 0 table.merges) n (op a.0) there)
     ∙ rw a.1 refl
 operators_steps g table (MachineStep.merge m) lt =
     let x = element table.merges m lt in
     let op = op_of (length g.atoms) (length table.tags) in
     let size = length-map g.actions op in
     let same : 0 + m ≡ m = omega arith in
-    ap (option_map step_of_op) (get_right (map op g.actions) (merge_ops_from (length g.atoms) 0 table.merges) m (length g.actions + m) (omega (arith, size))
+    ap (option_map op_step) (get_right (map op g.actions) (merge_ops_from (length g.atoms) 0 table.merges) m (length g.actions + m) (omega (arith, size))
     ∙ merge_at (length g.atoms) 0 table.merges m ∙ ap (λ i. option_map (merge_op (length g.atoms) i) (slice_get table.merges m)) same)
     ∙ rw x.1 refl
 

@@ -1,8 +1,7 @@
 -- What is answered on a list of actions that is lifted, and which steps its operators are by name.
-use Rattle.std.specs.Prelude.{◌≡◌, ◌<◌, ℕ, true, false, List, [], Option, option_map, map, length, nat_lt, slice_get}
+use Rattle.std.specs.Prelude.{◌≡◌, ◌<◌, ℕ, true, false, List, map, length, nat_lt}
 use Rattle.std.specs.List.{list_all}
 use Rattle.kp_base.specs.declared.ground.Ground.{Ground}
-use Rattle.kp_base.specs.declared.ground.GroundName.{GroundName}
 use Rattle.kp_base.specs.declared.ground.Merge.{Merge}
 use Rattle.kp_base.specs.declared.ground.TagRow.{TagRow}
 use Rattle.kp_base.specs.declared.ground.TagTable.{TagTable}
@@ -10,10 +9,9 @@ use Rattle.kp_base.specs.Lists.{Member}
 use Rattle.kp_base.specs.Implicates.{are_below}
 use Rattle.kp_base.specs.Machine.{MachineStep, accepts, stripped}
 use Rattle.kp_law_tagged_machine.specs.Lifts.{lift_of, UnliftedAt}
-use Rattle.kp_classic.specs.declared.task.Task.{Task}
 use Rattle.kp_law_ktask.specs.Task.{task_of}
 use Rattle.kp_law_ktask.specs.Laws.{op_number}
-use Rattle.kp_law_ktask.specs.Accepted.{step_at}
+use Rattle.kp_law_ktask.specs.Accepted.{operator_step, step_at}
 use Rattle.kp_lift.specs.declared.lifting.Lifting.{Lifting}
 use Rattle.kp_lift.specs.declared.lifting.Lifting.TheVariants.{Lifted, Unlifted}
 
@@ -34,10 +32,6 @@ AnswersLifting g table ns (Lifted ops) = (ops ≡ map (op_number g) (lift_of g t
 AnswersLifting g table ns (Unlifted k l) = UnliftedAt g table ns k l × HasNoLift g table ns
 
 -- ---- by name
-
--- the step by name of an operator of a task: its name, without objects
-abbrev pub operator_step : Task → ℕ → Option GroundName
-operator_step task n = option_map (λ o. record { head = o.name; objects = [] }) (slice_get task.ops n)
 
 -- the step of the machine is there: an action of the ground problem, or a merge of the table
 abbrev pub IsThere : Ground → TagTable → MachineStep → Type 0

@@ -1,7 +1,7 @@
 //! Operators by name.
 ghost use Rattle.std.specs.Prelude.{◌≡◌, ◌<◌, true, Some, length, map, nat_lt, IfOk};
 ghost use Rattle.std.specs.List.{list_all};
-ghost use Rattle.kp_lift.specs.Lifting.{operator_step};
+ghost use Rattle.kp_law_ktask.specs.Accepted.{operator_step};
 
 use kp_base::{GroundName, Memory, Row};
 use kp_classic::Task;

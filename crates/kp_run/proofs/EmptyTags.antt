@@ -1,5 +1,5 @@
--- The empty tag alone is the table of `k0`. Where no effect has a condition, it covers each target.
-use Rattle.std.proofs.Common.{◌≡◌, List, [], ◌∷◌, length, inl, inr, refl, sym, ap, subst, ◌∙◌, arith}
+-- The empty tag alone is the table of no merges, as `k0` has none. Where no effect has a condition, it covers each target, and is the table of each mode.
+use Rattle.std.proofs.Common.{◌≡◌, ℕ, List, [], ◌∷◌, Some, length, inl, inr, refl, sym, ap, subst, ◌∙◌, arith}
 use Rattle.std.proofs.lemmas.Bool.{false≢true}
 use Rattle.kp_base.specs.declared.lit.Lit.{Lit}
 use Rattle.kp_base.specs.declared.ground.Action.{Action}
@@ -11,8 +11,11 @@ use Rattle.kp_base.specs.declared.limits.Mode.TheVariants as modes
 use Rattle.kp_base.specs.Planning.{Member, code_of, positive, negative, negated, IsRelevant, IsCandidate, AreRelevant, IsCovered, AreUncovered}
 use Rattle.kp_tree_grammar.specs.declared.tree.Word.{Word}
 use Rattle.kp_tree_grammar.specs.Trees.{Domain, Problem}
-use Rattle.kp_tags_modes.specs.Modes.{AreMergesOf}
-use Rattle.kp_tags.specs.MergeTables.{HasClosure}
+use Rattle.kp_base.specs.declared.limits.Mode.{Mode}
+use Rattle.kp_cover.specs.Targets.{AreTargets}
+use Rattle.kp_tags_modes.specs.declared.way.Way.{Way}
+use Rattle.kp_tags_modes.specs.Modes.{way_of, AreMergesBy, AreMergesInTurn, AreMergesOf}
+use Rattle.kp_tags.specs.MergeTables.{HasClosure, IsTableOf}
 use Rattle.kp_tags.specs.Made.{IsMade}
 use Rattle.kp_base.proofs.Closures.{closure_over_first_atoms}
 use Rattle.kp_law_translation.specs.Translations.{ground_of, initial_of}
@@ -20,24 +23,22 @@ use Rattle.kp_law_translation.specs.Tables.{empty_tag}
 use Rattle.kp_law_translation.proofs.Public.{formulas_speak_of_ground_atoms}
 use Rattle.kp_run_prepare.specs.Prepared.{usual}
 
--- ---- the table of `k0`
+-- ---- the table of no merges
 
-pub empty_tag_made : (d : Domain Word) (p : Problem Word) → IsMade modes.K0 usual (ground_of d p) (initial_of d p) (empty_tag d p)
-empty_tag_made d p =
+pub table_of_none : (d : Domain Word) (p : Problem Word) → IsTableOf (length (ground_of d p).atoms) (initial_of d p) [] (empty_tag d p)
+table_of_none d p =
     let exact = closure_over_first_atoms (initial_of d p) (length (ground_of d p).atoms) (formulas_speak_of_ground_atoms d p) [] refl in
     record {
-      merges = [];
-      of_mode = AreMergesOf.none;
-      within_limit = omega arith;
-      is_table = record {
-        tags = refl;
-        closures = λ row m. elim m [
-          | inl same ↦ subst (HasClosure (length (ground_of d p).atoms) (initial_of d p)) same (record { closure = exact.closure; ascending = exact.ascending })
-          | inr none ↦ absurd none
-        ];
-        merges = refl;
-      };
+      tags = refl;
+      closures = λ row m. elim m [
+        | inl same ↦ subst (HasClosure (length (ground_of d p).atoms) (initial_of d p)) same (record { closure = exact.closure; ascending = exact.ascending })
+        | inr none ↦ absurd none
+      ];
+      merges = refl;
     }
+
+pub empty_tag_made : (d : Domain Word) (p : Problem Word) → IsMade modes.K0 usual (ground_of d p) (initial_of d p) (empty_tag d p)
+empty_tag_made d p = record { merges = []; of_mode = AreMergesOf.none; within_limit = omega arith; is_table = table_of_none d p }
 
 -- ---- no conditions
 
@@ -71,3 +72,20 @@ module _ (g : Ground) (i : Initial) (none : HaveNoConditions g.actions) where
     exact = λ l. (λ m. absurd m, λ u. absurd (u.1 (IsCovered.by_empty_tag (λ tag c m is. absurd (no_clause l c is.candidate is.relevant)))));
     ascending = tt;
   }
+
+  -- no merge is made for a target
+  none_in_turn : (way : Way) (limit : ℕ) (targets : List Lit) → AreMergesInTurn way limit g i targets []
+  none_in_turn way limit [] = AreMergesInTurn.done
+  none_in_turn way limit (target ∷ targets) =
+      AreMergesInTurn.more target targets [] []
+      (record { clauses = []; are_clauses = record { exact = λ c. (λ m. absurd m, λ is. absurd (no_clause target c is.candidate is.relevant)); once = tt; in_order = λ k d low less. absurd (omega (arith, less)) }; by_clauses = AreMergesBy.empty_tag (λ tag c m k. absurd k) })
+      (none_in_turn way limit targets)
+
+-- so it is the table of each mode
+pub empty_tag_made_in_modes : (d : Domain Word) (p : Problem Word) (mode : Mode) (way : Way) (targets : List Lit) → HaveNoConditions (ground_of d p).actions → way_of mode ≡ Some way → AreTargets (ground_of d p) targets → IsMade mode usual (ground_of d p) (initial_of d p) (empty_tag d p)
+empty_tag_made_in_modes d p mode way targets none is are = record {
+  merges = [];
+  of_mode = subst (λ w. AreMergesOf usual.sets (ground_of d p) (initial_of d p) w []) (sym is) (AreMergesOf.of_targets way targets [] are (none_in_turn (ground_of d p) (initial_of d p) none way usual.sets targets));
+  within_limit = omega arith;
+  is_table = table_of_none d p;
+}

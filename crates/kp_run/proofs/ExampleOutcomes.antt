@@ -131,7 +131,7 @@ problem_held : (domain problem : List ℕ) → get (holding domain problem) (cod
 problem_held domain problem = at_last (insert empty (codes "d") domain) (codes "p") problem
 
 -- what the two texts are translated to is due
-pub due_with : (ws : List (Vec ℕ Global)) (c : Translate) → IsTranslate ws c → c.domain ≡ codes "d" → c.problem ≡ codes "p" → c.source ≡ of_mode modes.K0 → (domain problem : List ℕ) (o : Outcome) → TranslatesTexts c domain problem [] o → IsDue ws (Some (holding domain problem)) o
+pub due_with : (ws : List (Vec ℕ Global)) (c : Translate) → IsTranslate ws c → c.domain ≡ codes "d" → c.problem ≡ codes "p" → file_of c.source ≡ None → (domain problem : List ℕ) (o : Outcome) → TranslatesTexts c domain problem [] o → IsDue ws (Some (holding domain problem)) o
 due_with ws c is first second alone domain problem o h = of_command (commands.Translate c) (domain ∷ problem ∷ []) o is (rw (first, second, alone, domain_held domain problem, problem_held domain problem) refl) (translated c domain problem [] o h)
 
 pub on_files : (domain problem : List ℕ) (o : Outcome) → TranslatesTexts command domain problem [] o → IsDue words (Some (holding domain problem)) o
@@ -206,7 +206,7 @@ no_clash : IsClashFree (ground_of exchange_tree from_p_to_q_tree) from_p
 no_clash = clash_free_with_table _ two_atoms from_p (swap_is_clash_free from_p (closed_q from_p refl))
 
 -- the one action
-abbrev exchange_action : Action
+abbrev pub exchange_action : Action
 exchange_action = record { name = record { head = codes "a"; objects = [] }; pre = positive 0 ∷ []; effects = record { cond = []; result = positive 1 } ∷ record { cond = []; result = negative 0 } ∷ [] }
 
 -- no effect has a condition

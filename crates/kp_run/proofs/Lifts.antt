@@ -23,7 +23,8 @@ use Rattle.kp_run_inputs.specs.Actions.{ComesByPlan}
 use Rattle.kp_run_inputs.specs.SourceTables.{HasTable}
 use Rattle.kp_run_inputs.proofs.Public.{tables_are_right, table_targets_are_of_atoms, target_is_of_atoms}
 use Rattle.kp_lift.specs.declared.lifting.Lifting.TheVariants as Lifting
-use Rattle.kp_lift.specs.Lifting.{IsTableOn, AnswersLifting, operator_step}
+use Rattle.kp_law_ktask.specs.Accepted.{operator_step}
+use Rattle.kp_lift.specs.Lifting.{IsTableOn, AnswersLifting}
 use Rattle.kp_lift.proofs.Public.{lifted_operators_are_steps}
 use Rattle.kp_run_messages.specs.Lifting.{unlifted_text}
 use Rattle.kp_run_solve.specs.Solving.{denies}

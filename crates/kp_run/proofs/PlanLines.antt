@@ -13,9 +13,9 @@ use Rattle.kp_names_semantics.specs.GroundNames.{IsGroundName}
 use Rattle.kp_plans.specs.Printed.{plan_text, IsTextOf}
 use Rattle.kp_plans.proofs.Public.{printed_plans_read}
 use Rattle.kp_write.specs.Grounds.{IsGroundAction, IsWritable}
-use Rattle.kp_write.specs.Runs.{step_of}
+use Rattle.kp_write.specs.Tasks.{op_step}
 use Rattle.kp_write.proofs.Public.{operator_is_name}
-use Rattle.kp_law_ktask.specs.ByName.{op_of, merge_op}
+use Rattle.kp_law_ktask.specs.Task.{op_of, merge_op}
 use Rattle.kp_law_ktask.specs.Writable.{IsWritableTask}
 use Rattle.kp_base.specs.ActionNames.{action_name}
 use Rattle.kp_law_ktask.specs.Accepted.{step_at}
@@ -51,17 +51,17 @@ actions_read g w ns plan e = printed_plans_read plan (all_fine (action_name g) (
 step_fine : (g : Ground) (table : TagTable) → IsWritableTask g table → (m : MachineStep) (x : GroundName) → step_at g table m ≡ Some x → IsGroundName x
 step_fine g table w (MachineStep.act n) x e = go (slice_get g.actions n) refl e
   where
-    go : (o : Option Action) → slice_get g.actions n ≡ o → option_map step_of (option_map (op_of g.atoms (length table.tags)) o) ≡ Some x → IsGroundName x
+    go : (o : Option Action) → slice_get g.actions n ≡ o → option_map op_step (option_map (op_of (length g.atoms) (length table.tags)) o) ≡ Some x → IsGroundName x
     go None at e = absurd cc
     go (Some a) at e =
-        let same : step_of (op_of g.atoms (length table.tags) a) ≡ x = cc in
+        let same : op_step (op_of (length g.atoms) (length table.tags) a) ≡ x = cc in
         subst IsGroundName same (record { head = operator_is_name a.name (each_at (IsGroundAction g.atoms) g.actions w.ground.actions n a at).name; objects = tt })
 step_fine g table w (MachineStep.merge m) x e = go (slice_get table.merges m) refl e
   where
-    go : (o : Option Merge) → slice_get table.merges m ≡ o → option_map step_of (option_map (merge_op g.atoms m) o) ≡ Some x → IsGroundName x
+    go : (o : Option Merge) → slice_get table.merges m ≡ o → option_map op_step (option_map (merge_op (length g.atoms) m) o) ≡ Some x → IsGroundName x
     go None at e = absurd cc
     go (Some y) at e =
-        let same : step_of (merge_op g.atoms m y) ≡ x = cc in
+        let same : op_step (merge_op (length g.atoms) m y) ≡ x = cc in
         let below = slice_get_within table.merges m y at in
         let fit = w.merges_fit in
         subst IsGroundName same (record { head = merge_is_name m (omega (arith, below, fit)); objects = tt })

@@ -7,7 +7,7 @@ use Rattle.kp_base.specs.declared.ground.TagTable.{TagTable}
 use Rattle.kp_base.specs.declared.lit.Lit.{Lit}
 use Rattle.kp_base.specs.Covering.{AreUncovered}
 use Rattle.kp_classic.specs.declared.task.Task.{Task}
-use Rattle.kp_lift.specs.Lifting.{operator_step}
+use Rattle.kp_law_ktask.specs.Accepted.{operator_step}
 use Rattle.kp_plans.specs.Printed.{plan_text}
 use Rattle.kp_run_outcome.specs.declared.outcome.Outcome.{Outcome}
 use Rattle.kp_words.specs.Names.{Translate, Source}

@@ -1,17 +1,15 @@
-ghost use Rattle.std.specs.Prelude.{◌≡◌, ◌≢◌, ℕ, List, [], ◌∷◌, ◌++◌, Option, Err, IfOk, IsErrOf};
-ghost use Rattle.kp_outside.specs.declared.outside.OutsideStop.TheVariants as stops;
+ghost use Rattle.std.specs.Prelude.{◌≡◌, ℕ, List, [], ◌∷◌, ◌++◌, Option, IfOk};
 ghost use Rattle.kp_outside.specs.Outside.{FileMap};
 ghost use Rattle.kp_run_outcome.specs.declared.status.Status.TheVariants as status;
-ghost use Rattle.kp_run_outcome.specs.Ends.{over, AreHeld, AreFronts, AreRead, GetFails};
-ghost use Rattle.kp_words.specs.declared.lent.CommandRef.{CommandRef as Ordered};
+ghost use Rattle.kp_run_outcome.specs.Ends.{over, AreHeld, AreFronts, AreRead, GetFails, OnlyReads};
 ghost use Rattle.kp_words.specs.declared.lent.CommandRef.TheVariants as commands;
 ghost use Rattle.kp_words.specs.Names.{of_mode, of_file, source_view};
-ghost use Rattle.kp_words.specs.Command.{IsCommand, file_of, if_named, inputs_of};
+ghost use Rattle.kp_words.specs.Command.{file_of, if_named, inputs_of};
 ghost use Rattle.kp_words.specs.Options.{IsOfRange};
 ghost use Rattle.kp_words.specs.Owned.{command_view};
 ghost use Rattle.kp_run.specs.Outcomes.{ComesTo, IsDue};
 ghost use Rattle.kp_run.specs.Sized.{IsSized};
-ghost use Rattle.kp_run.specs.Ends.{Ends};
+ghost use Rattle.kp_run.specs.Ends.{Ends, InputFails};
 ghost use Rattle.kp_run.specs.Clauses.{IsSoundRun, IsCompleteRun, IsTrueSolve, IsTrueClassical};
 
 use crate::check::check_texts;
@@ -43,10 +41,7 @@ fn read_two<S: Shelf>(
     shelf: &mut S,
 ) -> Result<Row<Got>, OutsideStop>
     ensures read { IfOk result (AreRead (S.contents shelf.old) (domain.now ∷ problem.now ∷ [])) }
-    ensures failed { IsErrOf result stops.Failed → GetFails (S.contents shelf.old) (domain.now ∷ problem.now ∷ []) (S.get_faults shelf.old) (S.get_faults shelf.new) }
-    ensures get_faults { result ≢ Err stops.Failed → (q : List ℕ) → S.get_faults shelf.new q ≡ S.get_faults shelf.old q }
-    ensures contents { S.contents shelf.new ≡ S.contents shelf.old }
-    ensures put_faults { (q : List ℕ) → S.put_faults shelf.new q ≡ S.put_faults shelf.old q }
+    ensures only { OnlyReads S.Shelf shelf.old shelf.new (GetFails (domain.now ∷ problem.now ∷ [])) result }
 {
     read_inputs(alloc, &[domain, problem], shelf)
 }
@@ -60,10 +55,7 @@ fn read_sourced<S: Shelf>(
     shelf: &mut S,
 ) -> Result<Row<Got>, OutsideStop>
     ensures read { IfOk result (AreRead (S.contents shelf.old) (domain.now ∷ problem.now ∷ if_named (file_of (source_view source.entry)))) }
-    ensures failed { IsErrOf result stops.Failed → GetFails (S.contents shelf.old) (domain.now ∷ problem.now ∷ if_named (file_of (source_view source.entry))) (S.get_faults shelf.old) (S.get_faults shelf.new) }
-    ensures get_faults { result ≢ Err stops.Failed → (q : List ℕ) → S.get_faults shelf.new q ≡ S.get_faults shelf.old q }
-    ensures contents { S.contents shelf.new ≡ S.contents shelf.old }
-    ensures put_faults { (q : List ℕ) → S.put_faults shelf.new q ≡ S.put_faults shelf.old q }
+    ensures only { OnlyReads S.Shelf shelf.old shelf.new (GetFails (domain.now ∷ problem.now ∷ if_named (file_of (source_view source.entry)))) result }
 {
     match source {
         SourceRef::File(merges) => read_inputs(alloc, &[domain, problem, merges], shelf),
@@ -78,10 +70,7 @@ fn read_lift<S: Shelf>(
     shelf: &mut S,
 ) -> Result<Row<Got>, OutsideStop>
     ensures read { IfOk result (AreRead (S.contents shelf.old) (named.now.domain ∷ named.now.problem ∷ (if_named (file_of named.now.source) ++ named.now.plan ∷ []))) }
-    ensures failed { IsErrOf result stops.Failed → GetFails (S.contents shelf.old) (named.now.domain ∷ named.now.problem ∷ (if_named (file_of named.now.source) ++ named.now.plan ∷ [])) (S.get_faults shelf.old) (S.get_faults shelf.new) }
-    ensures get_faults { result ≢ Err stops.Failed → (q : List ℕ) → S.get_faults shelf.new q ≡ S.get_faults shelf.old q }
-    ensures contents { S.contents shelf.new ≡ S.contents shelf.old }
-    ensures put_faults { (q : List ℕ) → S.put_faults shelf.new q ≡ S.put_faults shelf.old q }
+    ensures only { OnlyReads S.Shelf shelf.old shelf.new (GetFails (named.now.domain ∷ named.now.problem ∷ (if_named (file_of named.now.source) ++ named.now.plan ∷ []))) result }
 {
     let (domain, problem, plan) = (named.domain, named.problem, named.plan);
     match named.source {
@@ -97,10 +86,7 @@ fn read<S: Shelf>(
     shelf: &mut S,
 ) -> Result<Row<Got>, OutsideStop>
     ensures read { IfOk result (AreRead (S.contents shelf.old) (inputs_of command.now)) }
-    ensures failed { IsErrOf result stops.Failed → GetFails (S.contents shelf.old) (inputs_of command.now) (S.get_faults shelf.old) (S.get_faults shelf.new) }
-    ensures get_faults { result ≢ Err stops.Failed → (q : List ℕ) → S.get_faults shelf.new q ≡ S.get_faults shelf.old q }
-    ensures contents { S.contents shelf.new ≡ S.contents shelf.old }
-    ensures put_faults { (q : List ℕ) → S.put_faults shelf.new q ≡ S.put_faults shelf.old q }
+    ensures only { OnlyReads S.Shelf shelf.old shelf.new (GetFails (inputs_of command.now)) result }
 {
     match command {
         CommandRef::Translate(named) => {
@@ -257,10 +243,7 @@ fn come_to<S: Shelf>(
 ) -> Result<Outcome, OutsideStop>
     requires { IsSized command.now }
     ensures comes_to { IfOk result (λ o. (texts : List (List ℕ)) × AreHeld (S.contents shelf.old) (inputs_of command.now) texts × ComesTo command.now texts o) }
-    ensures failed { IsErrOf result stops.Failed → GetFails (S.contents shelf.old) (inputs_of command.now) (S.get_faults shelf.old) (S.get_faults shelf.new) }
-    ensures get_faults { result ≢ Err stops.Failed → (q : List ℕ) → S.get_faults shelf.new q ≡ S.get_faults shelf.old q }
-    ensures contents { S.contents shelf.new ≡ S.contents shelf.old }
-    ensures put_faults { (q : List ℕ) → S.put_faults shelf.new q ≡ S.put_faults shelf.old q }
+    ensures only { OnlyReads S.Shelf shelf.old shelf.new (GetFails (inputs_of command.now)) result }
 {
     let gots = read(alloc, command, shelf)?;
     Ok(outcome_of(alloc, command, gots)?)
@@ -274,10 +257,7 @@ fn come_to_owned<S: Shelf>(
 ) -> Result<Outcome, OutsideStop>
     requires { IsSized (command_view command) }
     ensures comes_to { IfOk result (λ o. (texts : List (List ℕ)) × AreHeld (S.contents shelf.old) (inputs_of (command_view command)) texts × ComesTo (command_view command) texts o) }
-    ensures failed { IsErrOf result stops.Failed → GetFails (S.contents shelf.old) (inputs_of (command_view command)) (S.get_faults shelf.old) (S.get_faults shelf.new) }
-    ensures get_faults { result ≢ Err stops.Failed → (q : List ℕ) → S.get_faults shelf.new q ≡ S.get_faults shelf.old q }
-    ensures contents { S.contents shelf.new ≡ S.contents shelf.old }
-    ensures put_faults { (q : List ℕ) → S.put_faults shelf.new q ≡ S.put_faults shelf.old q }
+    ensures only { OnlyReads S.Shelf shelf.old shelf.new (GetFails (inputs_of (command_view command))) result }
 {
     let outcome = come_to(alloc, &command.lend(), shelf);
     drop(command);
@@ -287,10 +267,7 @@ fn come_to_owned<S: Shelf>(
 // The outcome that is due. At `Err` a read failed, or memory ran out.
 fn due<S: Shelf>(alloc: Global, words: &[Vec<u8>], shelf: &mut S) -> Result<Outcome, OutsideStop>
     ensures due { IfOk result (IsDue words.now (S.contents shelf.old)) }
-    ensures failed { IsErrOf result stops.Failed → (c : Ordered) × IsCommand words.now c × GetFails (S.contents shelf.old) (inputs_of c) (S.get_faults shelf.old) (S.get_faults shelf.new) }
-    ensures get_faults { result ≢ Err stops.Failed → (q : List ℕ) → S.get_faults shelf.new q ≡ S.get_faults shelf.old q }
-    ensures contents { S.contents shelf.new ≡ S.contents shelf.old }
-    ensures put_faults { (q : List ℕ) → S.put_faults shelf.new q ≡ S.put_faults shelf.old q }
+    ensures only { OnlyReads S.Shelf shelf.old shelf.new (InputFails words.now) result }
 {
     match command(alloc, words) {
         Ok(command) => come_to_owned(alloc, command, shelf),

@@ -1,5 +1,5 @@
 -- How a command ends: what is held and was told afterwards, and which counts of faults rose.
-use Rattle.std.specs.Prelude.{◌≡◌, ◌≢◌, List, [], ◌∷◌, ◌++◌, ℕ, Option, Some, None, map, length}
+use Rattle.std.specs.Prelude.{◌≡◌, ◌≢◌, List, [], ◌∷◌, ◌++◌, ℕ, Option, Some, None, map, length, Result, Err, IsErrOf}
 use Rattle.std.specs.FinMap.{get}
 use Rattle.kp_base.specs.Files.{most_bytes}
 use Rattle.kp_outside.specs.declared.outside.Got.{Got}
@@ -102,7 +102,7 @@ pub record AreRead (held : Option FileMap) (names : List (List ℕ)) (gots : Lis
   pub are_fronts : AreFronts texts gots
 
 -- a get of one of the names failed, and those before it are held
-pub record GetFails (held : Option FileMap) (names : List (List ℕ)) (old new : List ℕ → ℕ) : Type 0 where
+pub record GetFails (names : List (List ℕ)) (held : Option FileMap) (old new : List ℕ → ℕ) : Type 0 where
   pub front : List (List ℕ)
   pub name : List ℕ
   pub rest : List (List ℕ)
@@ -110,6 +110,13 @@ pub record GetFails (held : Option FileMap) (names : List (List ℕ)) (old new :
   pub texts : List (List ℕ)
   pub are_held : AreHeld held front texts
   pub rises : Rises (old name) (new name)
+
+-- A call that only reads from a shelf: what is held stands, and so do the counts of failed puts. Where a get failed, it is told how; else the counts of failed gets stand, too.
+pub record OnlyReads {S T : Type 0} (s : Shelf S) (old new : S) (fails : Option FileMap → (List ℕ → ℕ) → (List ℕ → ℕ) → Type 0) (result : Result T OutsideStop) : Type 0 where
+  pub failed : IsErrOf result stops.Failed → fails (s.contents old) (s.get_faults old) (s.get_faults new)
+  pub get_faults : result ≢ Err stops.Failed → (q : List ℕ) → s.get_faults new q ≡ s.get_faults old q
+  pub contents : s.contents new ≡ s.contents old
+  pub put_faults : (q : List ℕ) → s.put_faults new q ≡ s.put_faults old q
 
 -- the status of a call that stopped, where a failure is this fault
 abbrev pub stop_of : OutsideStop → Status → Status

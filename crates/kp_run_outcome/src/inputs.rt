@@ -1,6 +1,5 @@
-ghost use Rattle.std.specs.Prelude.{◌≡◌, ◌≢◌, ℕ, List, map, Err, IfOk, IsErrOf};
-ghost use Rattle.kp_outside.specs.declared.outside.OutsideStop.TheVariants as stops;
-ghost use Rattle.kp_run_outcome.specs.Ends.{AreRead, GetFails};
+ghost use Rattle.std.specs.Prelude.{map, IfOk};
+ghost use Rattle.kp_run_outcome.specs.Ends.{AreRead, GetFails, OnlyReads};
 
 use kp_base::Row;
 use kp_outside::{Got, OutsideStop, Shelf};
@@ -17,10 +16,7 @@ pub fn read_inputs<S: Shelf>(
     shelf: &mut S,
 ) -> Result<Row<Got>, OutsideStop>
     ensures read { IfOk result (λ gots. AreRead (S.contents shelf.old) (map (λ n. n.now) names.now) gots) }
-    ensures failed { IsErrOf result stops.Failed → GetFails (S.contents shelf.old) (map (λ n. n.now) names.now) (S.get_faults shelf.old) (S.get_faults shelf.new) }
-    ensures get_faults { result ≢ Err stops.Failed → (q : List ℕ) → S.get_faults shelf.new q ≡ S.get_faults shelf.old q }
-    ensures contents { S.contents shelf.new ≡ S.contents shelf.old }
-    ensures put_faults { (q : List ℕ) → S.put_faults shelf.new q ≡ S.put_faults shelf.old q }
+    ensures only { OnlyReads S.Shelf shelf.old shelf.new (GetFails (map (λ n. n.now) names.now)) result }
 {
     let mut gots = Row::new(alloc);
     for name in names {

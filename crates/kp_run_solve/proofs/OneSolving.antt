@@ -12,10 +12,9 @@ use Rattle.kp_names_semantics.specs.Steps.{Step}
 use Rattle.kp_cover.proofs.Public.{uncovered_once}
 use Rattle.kp_search.specs.declared.found.Found.{Found}
 use Rattle.kp_search.specs.declared.found.Found.TheVariants.{Plan, NoPlan, Spent}
-use Rattle.kp_write.specs.Runs.{step_of}
-use Rattle.kp_law_ktask.specs.Task.{task_of}
+use Rattle.kp_write.specs.Tasks.{op_step}
+use Rattle.kp_law_ktask.specs.Task.{op_of, merge_op, task_of}
 use Rattle.kp_law_ktask.specs.Laws.{op_number}
-use Rattle.kp_law_ktask.specs.ByName.{op_of, merge_op}
 use Rattle.kp_base.specs.ActionNames.{action_name}
 use Rattle.kp_law_ktask.specs.Accepted.{step_at}
 use Rattle.kp_lift.specs.Lifting.{IsThere}
@@ -35,12 +34,12 @@ use Rattle.kp_search.proofs.Public.{has_one_end_by_added}
 there_of : (g : Ground) (table : TagTable) (m : MachineStep) (s : Step) → step_at g table m ≡ Some s → IsThere g table m
 there_of g table (MachineStep.act n) s e = by (slice_get g.actions n) refl e
   where
-    by : (o : Option Action) → slice_get g.actions n ≡ o → option_map step_of (option_map (op_of g.atoms (length table.tags)) o) ≡ Some s → n < length g.actions
+    by : (o : Option Action) → slice_get g.actions n ≡ o → option_map op_step (option_map (op_of (length g.atoms) (length table.tags)) o) ≡ Some s → n < length g.actions
     by None is f = absurd cc
     by (Some a) is f = slice_get_within g.actions n a is
 there_of g table (MachineStep.merge n) s e = by (slice_get table.merges n) refl e
   where
-    by : (o : Option Merge) → slice_get table.merges n ≡ o → option_map step_of (option_map (merge_op g.atoms n) o) ≡ Some s → n < length table.merges
+    by : (o : Option Merge) → slice_get table.merges n ≡ o → option_map op_step (option_map (merge_op (length g.atoms) n) o) ≡ Some s → n < length table.merges
     by None is f = absurd cc
     by (Some a) is f = slice_get_within table.merges n a is
 

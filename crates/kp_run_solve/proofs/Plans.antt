@@ -12,7 +12,7 @@ use Rattle.kp_law_ktask.specs.Task.{task_of}
 use Rattle.kp_law_ktask.specs.Laws.{op_number}
 use Rattle.kp_law_ktask.specs.ByName.{op_at}
 use Rattle.kp_law_ktask.specs.Accepted.{step_at}
-use Rattle.kp_law_ktask.proofs.Public.{operators_do_machine_steps}
+use Rattle.kp_law_ktask.proofs.Public.{machine_step_is_named, operators_do_machine_steps}
 use Rattle.kp_run_solve.specs.Laws.{NamedPlansAreAccepted, NoPlanIsAccepted}
 
 -- steps of the machine that have names have operators
@@ -22,7 +22,7 @@ operators_of g table (m ∷ ms) [] e = absurd cc
 operators_of g table (m ∷ ms) (s ∷ ss) e =
     let here : step_at g table m ≡ Some s = cc in
     let rest : map (step_at g table) ms ≡ map Some ss = cc in
-    let first = by (op_at g table m) refl here in
+    let first = by (op_at g table m) refl (sym (machine_step_is_named g table m) ∙ here) in
     let others = operators_of g table ms ss rest in
     (first.0 ∷ others.0, cc (first.1, others.1))
   where

@@ -20,7 +20,7 @@ use Rattle.kp_write.specs.Task.{Signed, Op}
 use Rattle.kp_write.specs.Problems.{AreAmong, IsEffectOn, IsOpOn, IsTask}
 use Rattle.kp_write.specs.Runs.{Facts, is_so, is_made, after_op, runs, step_of}
 use Rattle.kp_write.specs.Named.{fact_name, signed_fact, named_conds, named_effect, named_op, named_ops, named_start, named_goal}
-use Rattle.kp_write.specs.Tasks.{IsWritableOp, CanBeWritten, step_at, TasksRead, TaskPlansAreRuns}
+use Rattle.kp_write.specs.Tasks.{IsWritableOp, CanBeWritten, operator_step, TasksRead, TaskPlansAreRuns}
 use Rattle.kp_write.proofs.Faultless.{written_texts_have_problem}
 use Rattle.kp_write.proofs.Runs.{plans_are_runs}
 
@@ -217,7 +217,7 @@ numbers_of t (o ∷ os) all =
     let here : option_map (named_op t.facts) (slice_get t.ops first.0) ≡ Some o = sym (slice_get-map (named_op t.facts) t.ops first.0) ∙ first.1 in
     record { numbers = first.0 ∷ rest.numbers; at = rw (here, rest.at) refl }
 
-steps_at : (t : Task) (ns : List ℕ) (os : List Op) → map (λ n. option_map (named_op t.facts) (slice_get t.ops n)) ns ≡ map Some os → map (step_at t) ns ≡ map Some (map step_of os)
+steps_at : (t : Task) (ns : List ℕ) (os : List Op) → map (λ n. option_map (named_op t.facts) (slice_get t.ops n)) ns ≡ map Some os → map (operator_step t) ns ≡ map Some (map step_of os)
 steps_at t [] [] at = refl
 steps_at t [] (o ∷ os) at = absurd cc
 steps_at t (n ∷ ns) [] at = absurd cc
@@ -236,16 +236,16 @@ record OpsAt (t : Task) (ns : List ℕ) (steps : List Step) : Type 0 where
   pub among : AllByRecursion (Member (named_ops t)) ops
   pub steps_are : map step_of ops ≡ steps
 
-ops_at : (t : Task) (ns : List ℕ) (steps : List Step) → map (step_at t) ns ≡ map Some steps → OpsAt t ns steps
+ops_at : (t : Task) (ns : List ℕ) (steps : List Step) → map (operator_step t) ns ≡ map Some steps → OpsAt t ns steps
 ops_at t [] [] e = record { ops = []; at = refl; among = tt; steps_are = refl }
 ops_at t [] (i ∷ is) e = absurd cc
 ops_at t (n ∷ ns) [] e = absurd cc
 ops_at t (n ∷ ns) (i ∷ is) e =
-    let here : step_at t n ≡ Some i = cc in
-    let rest : map (step_at t) ns ≡ map Some is = cc in
+    let here : operator_step t n ≡ Some i = cc in
+    let rest : map (operator_step t) ns ≡ map Some is = cc in
     go (slice_get t.ops n) refl here (ops_at t ns is rest)
   where
-    go : (x : Option NumberedOp) → slice_get t.ops n ≡ x → step_at t n ≡ Some i → OpsAt t ns is → OpsAt t (n ∷ ns) (i ∷ is)
+    go : (x : Option NumberedOp) → slice_get t.ops n ≡ x → operator_step t n ≡ Some i → OpsAt t ns is → OpsAt t (n ∷ ns) (i ∷ is)
     go None is' here rest = let gone : None ≡ Some i = subst (λ (x : Option NumberedOp). option_map (λ (a : NumberedOp). record { head = a.name; objects = [] }) x ≡ Some i) is' here in absurd cc
     go (Some a) is' here rest =
         let there : Some (step_of (named_op t.facts a)) ≡ Some i = subst (λ (x : Option NumberedOp). option_map (λ (a : NumberedOp). record { head = a.name; objects = [] }) x ≡ Some i) is' here in

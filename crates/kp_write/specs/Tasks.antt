@@ -29,13 +29,17 @@ pub record CanBeWritten (t : Task) : Type 0 where
   pub goal_fits : fits (length t.facts) t.goal ≡ true
   pub operators_fit : list_all (fits_op (length t.facts)) t.ops ≡ true
 
--- the step of an operator by number: its name, without objects
-abbrev pub step_at : Task → ℕ → Option Step
-step_at t n = option_map (λ o. record { head = o.name; objects = [] }) (slice_get t.ops n)
+-- the step of an operator: its name, without objects
+abbrev pub op_step : Op → Step
+op_step o = record { head = o.name; objects = [] }
+
+-- that of the operator of this number
+abbrev pub operator_step : Task → ℕ → Option Step
+operator_step t n = option_map op_step (slice_get t.ops n)
 
 -- the steps are those of operators by number that are applicable in turn from the start, and meet the goal
 pub record IsRunOf (t : Task) (steps : List Step) (ns : List ℕ) : Type 0 where
-  pub steps_are : map (step_at t) ns ≡ map Some steps
+  pub steps_are : map (operator_step t) ns ≡ map Some steps
   pub succeeds : succeeds t (start t) ns ≡ true
 
 -- ---- laws

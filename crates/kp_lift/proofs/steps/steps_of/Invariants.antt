@@ -1,5 +1,5 @@
 use Rattle.std.proofs.Common.{◌≡◌, Some, map, take}
-use Rattle.kp_lift.specs.Lifting.{operator_step}
+use Rattle.kp_law_ktask.specs.Accepted.{operator_step}
 use Rattle.kp_lift.proofs.steps.steps_of.Given as goal
 
 -- the steps of the operators so far

@@ -8,8 +8,10 @@ use Rattle.kp_run.proofs.entry.due.Goals as goal
 pub returns-in-Ok-clause-due : goal.returns-in-Ok-clause-due
 returns-in-Ok-clause-due g c = due_of c.args.words.now (g.S.Shelf.contents c.args.shelf.now) (command_view c.in-Ok.command) c.come_to_owned.result c.in-Ok.ensures.ok c.come_to_owned.ensures.comes_to
 
-pub returns-in-Ok-clause-failed : goal.returns-in-Ok-clause-failed
-returns-in-Ok-clause-failed g c failed = (command_view c.in-Ok.command, c.in-Ok.ensures.ok, c.come_to_owned.ensures.failed failed)
+pub returns-in-Ok-clause-only : goal.returns-in-Ok-clause-only
+returns-in-Ok-clause-only g c =
+    let only = c.come_to_owned.ensures.only in
+    record { failed = λ is. (command_view c.in-Ok.command, c.in-Ok.ensures.ok, only.failed is); get_faults = only.get_faults; contents = only.contents; put_faults = only.put_faults }
 
 -- they are none
 pub returns-in_ok-usage_outcome-in-Err-Usage-clause-due : goal.returns-in_ok-usage_outcome-in-Err-Usage-clause-due

@@ -14,14 +14,14 @@ carry_out-requires g c = outcomes_are_answers c.args.words.now (g.S.Shelf.conten
 
 -- the outcome is carried out
 pub returns-in-Ok-clause-ends : goal.returns-in-Ok-clause-ends
-returns-in-Ok-clause-ends g c = came c.in-Ok.outcome c.in-Ok.ensures.due (carried_out_from_earlier c.in-Ok.outcome _ _ _ (record { gets = c.in-Ok.ensures.get_faults (λ e. cc); puts = c.in-Ok.ensures.put_faults; writes = refl }) (record { held = c.in-Ok.ensures.contents; told = refl }) c.carry_out.result c.carry_out.ensures.ends)
+returns-in-Ok-clause-ends g c = came c.in-Ok.outcome c.in-Ok.ensures.due (carried_out_from_earlier c.in-Ok.outcome _ _ _ (record { gets = c.in-Ok.ensures.only.get_faults (λ e. cc); puts = c.in-Ok.ensures.only.put_faults; writes = refl }) (record { held = c.in-Ok.ensures.only.contents; told = refl }) c.carry_out.result c.carry_out.ensures.ends)
 
 pub returns-in-Ok-clause-sound : goal.returns-in-Ok-clause-sound
 returns-in-Ok-clause-sound g c = sound_end c.args.words.now _ _ c.carry_out.result (returns-in-Ok-clause-ends g c)
 
 -- there is none
 pub returns-in-Err-clause-ends : goal.returns-in-Err-clause-ends
-returns-in-Err-clause-ends g c = rw c.stopped.ensures (stopped_end c.args.words.now _ _ c.in-Err.stop (λ is. c.in-Err.ensures.failed (ap Err is)) (λ is. c.in-Err.ensures.get_faults (λ e. cc (is, e))) c.in-Err.ensures.put_faults refl (record { held = c.in-Err.ensures.contents; told = refl }))
+returns-in-Err-clause-ends g c = rw c.stopped.ensures (stopped_end c.args.words.now _ _ c.in-Err.stop (λ is. c.in-Err.ensures.only.failed (ap Err is)) (λ is. c.in-Err.ensures.only.get_faults (λ e. cc (is, e))) c.in-Err.ensures.only.put_faults refl (record { held = c.in-Err.ensures.only.contents; told = refl }))
 
 pub returns-in-Ok-clause-complete : goal.returns-in-Ok-clause-complete
 returns-in-Ok-clause-complete g c command is = loses_none c.args.words.now _ _ c.carry_out.result (returns-in-Ok-clause-ends g c) command is
