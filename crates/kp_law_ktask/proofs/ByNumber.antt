@@ -15,7 +15,8 @@ use Rattle.kp_write.proofs.Public.{named_run_is_success}
 use Rattle.kp_law_ktask.specs.Task.{facts_of, task_of}
 use Rattle.kp_law_ktask.specs.ByName.{names_of, goal_of, op_of, merge_op, merge_ops_from, ops_of, op_at}
 use Rattle.kp_law_ktask.specs.Writable.{IsWritableTask}
-use Rattle.kp_law_ktask.specs.Laws.{op_number, OperatorsDoSteps}
+use Rattle.kp_law_ktask.specs.Accepted.{op_number}
+use Rattle.kp_law_ktask.specs.Laws.{OperatorsDoSteps}
 use Rattle.kp_law_ktask.proofs.Named.{tasks_are_named, tasks_can_be_written}
 use Rattle.kp_law_ktask.proofs.Runs.{AreAt, runs_accepted}
 

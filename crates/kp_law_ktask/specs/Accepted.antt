@@ -1,5 +1,5 @@
 -- The steps that the operators of a task have by name, and those of accepted lists of steps of the tagged machine.
-use Rattle.std.specs.Prelude.{◌≡◌, true, List, Option, Some, option_map, map, length, slice_get}
+use Rattle.std.specs.Prelude.{◌≡◌, ◌+◌, ℕ, true, List, Option, Some, option_map, map, length, slice_get}
 use Rattle.kp_base.specs.declared.ground.Ground.{Ground}
 use Rattle.kp_base.specs.declared.ground.TagTable.{TagTable}
 use Rattle.kp_base.specs.declared.ground.Initial.{Initial}
@@ -16,6 +16,11 @@ pub use Rattle.kp_write.specs.Tasks.{op_step, operator_step}
 abbrev pub operator_at : Ground → TagTable → MachineStep → Option Op
 operator_at g table (MachineStep.act n) = option_map (op_of (length g.atoms) (length table.tags)) (slice_get g.actions n)
 operator_at g table (MachineStep.merge m) = option_map (merge_op (length g.atoms) m) (slice_get table.merges m)
+
+-- its number: merges stand behind all actions
+abbrev pub op_number : Ground → MachineStep → ℕ
+op_number g (MachineStep.act n) = n
+op_number g (MachineStep.merge m) = length g.actions + m
 
 -- its step by name: the name of the operator, without objects
 abbrev pub step_at : Ground → TagTable → MachineStep → Option Step

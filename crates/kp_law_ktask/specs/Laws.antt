@@ -22,7 +22,7 @@ use Rattle.kp_write.specs.Tasks.{CanBeWritten}
 use Rattle.kp_law_ktask.specs.Task.{number, task_of, facts_of, start_of}
 use Rattle.kp_law_ktask.specs.ByName.{goal_of, names_of, ops_of, op_at}
 use Rattle.kp_law_ktask.specs.Writable.{IsWritableTask}
-use Rattle.kp_law_ktask.specs.Accepted.{step_at, IsAccepted, IsStrippedTo, StripsToGroundPlan}
+use Rattle.kp_law_ktask.specs.Accepted.{op_number, step_at, IsAccepted, IsStrippedTo, StripsToGroundPlan}
 use Rattle.kp_law_ktask.specs.Known.{held_after, known_after}
 
 -- ---- the task and its plans
@@ -46,11 +46,6 @@ RunsAreAccepted = (g : Ground) (table : TagTable) → IsWritableTask g table →
 -- so are the plans of its two texts
 abbrev pub TaggedPlansAreAccepted : Type 0
 TaggedPlansAreAccepted = (g : Ground) (table : TagTable) → IsWritableTask g table → (steps : List Step) → IsPlan (domain_of (task_of g table)) (problem_of (task_of g table)) steps ↔ ((ms : List MachineStep) × IsAccepted g table steps ms)
-
--- the number of the operator of a step of the machine: merges stand behind all actions
-abbrev pub op_number : Ground → MachineStep → ℕ
-op_number g (MachineStep.act n) = n
-op_number g (MachineStep.merge m) = length g.actions + m
 
 -- by number, too: the operators of steps that are there succeed from the start exactly where the machine accepts the steps
 abbrev pub OperatorsDoSteps : Type 0

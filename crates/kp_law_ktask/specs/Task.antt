@@ -58,11 +58,11 @@ start_of table = starts_from 0 table.tags
 
 -- the number of a fact, with so many atoms: the code of its literal, and as many more as there are literals under the earlier tags
 abbrev pub number : ℕ → Fact → ℕ
-number n f = f.tag * (2 * n) + code_of f.lit
+number atoms f = f.tag * (2 * atoms) + code_of f.lit
 
 -- some literals under a tag, by number
 abbrev pub numbers : ℕ → ℕ → List Lit → List ℕ
-numbers n t ls = map (number n) (under t ls)
+numbers atoms tag ls = map (number atoms) (under tag ls)
 
 -- ---- operators
 
@@ -76,24 +76,24 @@ none_of fs = record { yes = []; no = fs }
 
 -- where the conditions are known under the tag, the result becomes known
 abbrev pub support : ℕ → ℕ → Effect → OpEffect
-support n t e = record { cond = all_of (numbers n t e.cond); fact = number n (record { tag = t; lit = e.result }); adds = true }
+support atoms tag e = record { cond = all_of (numbers atoms tag e.cond); fact = number atoms (record { tag = tag; lit = e.result }); adds = true }
 
 -- where the negation of no condition is known, the negation of the result is known no longer
 abbrev pub cancellation : ℕ → ℕ → Effect → OpEffect
-cancellation n t e = record { cond = none_of (numbers n t (opposites e.cond)); fact = number n (record { tag = t; lit = negated e.result }); adds = false }
+cancellation atoms tag e = record { cond = none_of (numbers atoms tag (opposites e.cond)); fact = number atoms (record { tag = tag; lit = negated e.result }); adds = false }
 
 -- both, under a tag
 abbrev pub effects_under : ℕ → ℕ → Effect → List OpEffect
-effects_under n t e = support n t e ∷ cancellation n t e ∷ []
+effects_under atoms tag e = support atoms tag e ∷ cancellation atoms tag e ∷ []
 
 -- those of all effects, for each of so many tags from t on
 abbrev pub effects_from : ℕ → ℕ → ℕ → List Effect → List OpEffect
-effects_from n t zero es = []
-effects_from n t (suc tags) es = flat_map (effects_under n t) es ++ effects_from n (suc t) tags es
+effects_from atoms tag zero es = []
+effects_from atoms tag (suc tags) es = flat_map (effects_under atoms tag) es ++ effects_from atoms (suc tag) tags es
 
 -- the operator of an action: its precondition is known under tag 0, and its effects are those under each tag
 abbrev pub op_of : ℕ → ℕ → Action → Op
-op_of n tags a = record { name = do_front ++ encoded a.name; pre = all_of (numbers n 0 a.pre); effects = effects_from n 0 tags a.effects }
+op_of atoms tags a = record { name = do_front ++ encoded a.name; pre = all_of (numbers atoms 0 a.pre); effects = effects_from atoms 0 tags a.effects }
 
 -- the name of the operator of a merge
 abbrev pub merge_word : ℕ → List ℕ
@@ -101,16 +101,16 @@ merge_word m = merge_front ++ decimal m
 
 -- the operator of a merge of number m: where its target is known under each of its tags, it becomes known under tag 0
 abbrev pub merge_op : ℕ → ℕ → Merge → Op
-merge_op n m x = record {
+merge_op atoms m x = record {
   name = merge_word m;
-  pre = all_of (map (λ t. number n (record { tag = t; lit = x.target })) x.tags);
-  effects = record { cond = all_of []; fact = number n (record { tag = 0; lit = x.target }); adds = true } ∷ [];
+  pre = all_of (map (λ tag. number atoms (record { tag = tag; lit = x.target })) x.tags);
+  effects = record { cond = all_of []; fact = number atoms (record { tag = 0; lit = x.target }); adds = true } ∷ [];
 }
 
 -- those of some merges, the first of which has number m
 abbrev pub merge_ops_from : ℕ → ℕ → List Merge → List Op
-merge_ops_from n m [] = []
-merge_ops_from n m (x ∷ xs) = merge_op n m x ∷ merge_ops_from n (suc m) xs
+merge_ops_from atoms m [] = []
+merge_ops_from atoms m (x ∷ xs) = merge_op atoms m x ∷ merge_ops_from atoms (suc m) xs
 
 -- ---- the task
 

@@ -23,7 +23,7 @@ use Rattle.kp_law_ktask.specs.Task.{task_of}
 use Rattle.kp_base.specs.ActionNames.{action_name}
 use Rattle.kp_law_ktask.specs.Writable.{IsWritableTask}
 use Rattle.kp_law_ktask.proofs.Public.{tagged_plans_are_accepted}
-use Rattle.kp_law_translation.specs.Translations.{ground_of, initial_of}
+use Rattle.kp_law_translation.specs.OfTrees.{ground_of, initial_of}
 use Rattle.kp_law_translation.specs.Tables.{IsTableFor}
 use Rattle.kp_law_translation.proofs.Public.{initial_states_are_models, tables_can_be_written, plans_lift}
 use Rattle.kp_run_messages.specs.Refusals.{nothing}
@@ -33,18 +33,19 @@ use Rattle.kp_run_outcome.specs.declared.outcome.Outcome.{Outcome}
 use Rattle.kp_run_outcome.specs.declared.status.Status.{Status}
 use Rattle.kp_run_outcome.specs.declared.status.Status.TheVariants as status
 use Rattle.kp_run_outcome.specs.Ends.{Outside, IsAnswer}
+use Rattle.kp_run_outcome.specs.Printing.{prints, denies}
 use Rattle.kp_words.specs.Names.{of_mode, Bench}
 use Rattle.kp_words.specs.declared.lent.CommandRef.TheVariants as commands
 use Rattle.kp_words.specs.Command.{IsBench}
 use Rattle.kp_run_prepare.specs.Prepared.{by_texts, by_trees, early, later}
 use Rattle.kp_run_inputs.specs.SourceTables.{no_table, with_table}
 use Rattle.kp_run_inputs.proofs.Public.{table_of_source_is_for_trees}
-use Rattle.kp_run_solve.specs.Solving.{Finds, denies, spends}
+use Rattle.kp_run_solve.specs.Solving.{Finds, spends}
 use Rattle.kp_run_solve.proofs.Public.{ends_are_true, no_plan_is_accepted, steps_named, actions_among_have_names, operator_names_are_steps}
 use Rattle.kp_run_solve.specs.Operators.{acts_among}
 use Rattle.kp_run_bench.specs.Summary.{summary_text}
 use Rattle.kp_run_bench.proofs.Public.{told_actions_are_those_among}
-use Rattle.kp_run_bench.specs.Bench.{texts_of, usual_implicates, sums_up, SumsUp, TellsBench, over, searched as by_search, Benches}
+use Rattle.kp_run_bench.specs.Bench.{texts_of, usual_implicates, SumsUp, TellsBench, over, searched as by_search, Benches}
 use Rattle.kp_run.specs.Outcomes.{benched, IsDue, of_command}
 use Rattle.kp_run.specs.Ends.{Ends}
 use Rattle.kp_run.specs.Solved.{Tells, its_ground, its_formula, its_task, IsWrittenPlan}
@@ -135,7 +136,7 @@ module _ (c : Bench) (o : Outcome) (x : HasBenched c o) (old new : Outside) (s :
       by : (found : Found) → Finds task c.budget found → TellsBench c ground formula table found o → IsSolvedBench c old new
       by (Plan ops n) finds sums =
           let actions = stripped sums.machine in
-          let b = answered (sums_up (summary_text c ground table sums.uncovered (length actions) n)) sums.told in
+          let b = answered (prints (summary_text c ground table sums.uncovered (length actions) n)) sums.told in
           let ends = ends_are_true task c.budget (Plan ops n) fit finds in
           let steps = steps_named ground table ops ends.0 in
           let acts = actions_among_have_names ground ops in
@@ -166,7 +167,7 @@ module _ (c : Bench) (o : Outcome) (x : HasBenched c o) (old new : Outside) (s :
   has_none negative = by x.found x.finds x.tells
     where
       by : (found : Found) → Finds task c.budget found → TellsBench c ground formula table found o → HasNoBenchPlan c old new
-      by (Plan ops n) finds sums = absurd (let b = answered (sums_up (summary_text c ground table sums.uncovered (length (stripped sums.machine)) n)) sums.told in let not_no = sym b.status_is ∙ negative in cc)
+      by (Plan ops n) finds sums = absurd (let b = answered (prints (summary_text c ground table sums.uncovered (length (stripped sums.machine)) n)) sums.told in let not_no = sym b.status_is ∙ negative in cc)
       by NoPlan finds (ls, are, is) =
           let b = answered (denies (no_plan_text ls)) is in
           let none = ends_are_true task c.budget NoPlan fit finds in
@@ -189,7 +190,7 @@ module _ (c : Bench) (o : Outcome) (x : HasBenched c o) (old new : Outside) (s :
   is_spent spent = by x.found x.finds x.tells
     where
       by : (found : Found) → Finds task c.budget found → TellsBench c ground formula table found o → IsSpentBench c old new
-      by (Plan ops n) finds sums = absurd (let b = answered (sums_up (summary_text c ground table sums.uncovered (length (stripped sums.machine)) n)) sums.told in let not_spent = sym b.status_is ∙ spent in cc)
+      by (Plan ops n) finds sums = absurd (let b = answered (prints (summary_text c ground table sums.uncovered (length (stripped sums.machine)) n)) sums.told in let not_spent = sym b.status_is ∙ spent in cc)
       by NoPlan finds (ls, are, is) = absurd (let b = answered (denies (no_plan_text ls)) is in let not_spent = sym b.status_is ∙ spent in cc)
       by (Spent n) finds is =
           let b = subst (λ k. IsAnsweredBy (spends k) old new s) finds.expanded_are (answered (spends n) is) in

@@ -3,7 +3,7 @@ use Rattle.std.proofs.Common.{ℕ, List, [], ◌∷◌, Some, Vec, refl}
 use Rattle.std.specs.declared.alloc.Global.{Global}
 use Rattle.kp_tree_grammar.specs.declared.tree.Word.{Word}
 use Rattle.kp_tree_grammar.specs.Trees.{Domain, Problem}
-use Rattle.kp_law_translation.specs.Translations.{ground_of}
+use Rattle.kp_law_translation.specs.OfTrees.{ground_of}
 use Rattle.kp_outside.specs.Outside.{FileMap}
 use Rattle.kp_run_outcome.specs.declared.outcome.Outcome.{Outcome}
 use Rattle.kp_words.specs.Names.{Classical}

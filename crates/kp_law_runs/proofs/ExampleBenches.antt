@@ -34,7 +34,7 @@ use Rattle.kp_search.specs.declared.found.Found.TheVariants.{NoPlan}
 use Rattle.kp_search.specs.Trace.{Entry, first, nothing}
 use Rattle.kp_search.specs.Trace.IsCourse.{lost}
 use Rattle.kp_law_ktask.specs.Task.{task_of}
-use Rattle.kp_law_translation.specs.Translations.{ground_of, initial_of}
+use Rattle.kp_law_translation.specs.OfTrees.{ground_of, initial_of}
 use Rattle.kp_law_translation.specs.Tables.{empty_tag}
 use Rattle.kp_gen.specs.Lines.{text}
 use Rattle.kp_gen.specs.Line as line
@@ -43,6 +43,7 @@ use Rattle.kp_outside.specs.Outside.{with_bytes}
 use Rattle.kp_run_outcome.specs.declared.outcome.Outcome.{Outcome}
 use Rattle.kp_run_outcome.specs.declared.status.Status.TheVariants as status
 use Rattle.kp_run_outcome.specs.Ends.{Outside, whole}
+use Rattle.kp_run_outcome.specs.Printing.{denies}
 use Rattle.kp_words_options.specs.Words.{a_word, apart as apart_words, word as said_word, option as said_option}
 use Rattle.kp_words_options.specs.Words as line_words
 use Rattle.kp_words.specs.declared.source.Family.TheVariants as families
@@ -53,7 +54,7 @@ use Rattle.kp_words.proofs.Public.{word_of_bytes as word}
 use Rattle.kp_run_prepare.specs.Texts.{HaveTrees}
 use Rattle.kp_run_prepare.specs.Prepared.{usual, IsPrepared, later}
 use Rattle.kp_run_inputs.specs.SourceTables.{by_mode, with_table}
-use Rattle.kp_run_solve.specs.Solving.{Finds, denies}
+use Rattle.kp_run_solve.specs.Solving.{Finds}
 use Rattle.kp_run_bench.specs.Bench.{Benches, searched as by_search}
 use Rattle.kp_run.specs.Outcomes.{benched, of_command}
 use Rattle.kp_run.specs.Ends.{Ends, came}

@@ -21,11 +21,12 @@ use Rattle.kp_guide.specs.Added.Costs.{none, given, by_rule}
 use Rattle.kp_search.specs.declared.found.Found.{Found}
 use Rattle.kp_search.specs.declared.found.Found.TheVariants.{Plan, NoPlan, Spent}
 use Rattle.kp_search.specs.Trace.{first, step}
-use Rattle.kp_law_translation.specs.Translations.{ground_of}
+use Rattle.kp_law_translation.specs.OfTrees.{ground_of}
 use Rattle.kp_outside.specs.Outside.{with_bytes}
 use Rattle.kp_run_outcome.specs.declared.outcome.Outcome.{Outcome}
 use Rattle.kp_run_outcome.specs.declared.status.Status.TheVariants as status
 use Rattle.kp_run_outcome.specs.Ends.{Outside, whole}
+use Rattle.kp_run_outcome.specs.Printing.{denies}
 use Rattle.kp_words.specs.Names.{Classical}
 use Rattle.kp_words.specs.declared.lent.CommandRef.TheVariants as commands
 use Rattle.kp_words_options.specs.Words.{nothing, a_word, apart as apart_words, word as said_word, option as said_option}
@@ -33,7 +34,7 @@ use Rattle.kp_words.specs.Command.{IsClassical}
 use Rattle.kp_words.proofs.Public.{word_of_bytes, example_is_classical as is_classical_call}
 use Rattle.kp_run_prepare.specs.Texts.{HaveTrees}
 use Rattle.kp_run_classical.specs.Classical.{IsClassicalProblem, later, task_of}
-use Rattle.kp_run_solve.specs.Solving.{Finds, solves, denies, spends, TellsClassical}
+use Rattle.kp_run_solve.specs.Solving.{Finds, solves, spends, TellsClassical}
 use Rattle.kp_run_messages.specs.Searches.{no_plan_line}
 use Rattle.kp_run.specs.Outcomes.{ClassicalTexts, solved_classical, of_command}
 use Rattle.kp_run.specs.Ends.{Ends, came}

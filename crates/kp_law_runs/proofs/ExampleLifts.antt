@@ -21,7 +21,7 @@ use Rattle.kp_names_semantics.specs.Problems.{same, numbered_problem, Step, HasP
 use Rattle.kp_names_semantics.specs.Plans.{IsPlan}
 use Rattle.kp_plans.specs.Grammar.{plan}
 use Rattle.kp_plans.specs.PlanFiles.{step_of, IsPlanOf}
-use Rattle.kp_law_translation.specs.Translations.{ground_of, initial_of}
+use Rattle.kp_law_translation.specs.OfTrees.{ground_of, initial_of}
 use Rattle.kp_law_translation.specs.Tables.{empty_tag}
 use Rattle.kp_law_translation.specs.Written.{translation_of}
 use Rattle.kp_outside.specs.Outside.{FileMap}

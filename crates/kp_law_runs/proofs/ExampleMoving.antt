@@ -51,6 +51,7 @@ use Rattle.kp_outside.specs.Outside.{with_bytes}
 use Rattle.kp_run_outcome.specs.declared.outcome.Outcome.{Outcome}
 use Rattle.kp_run_outcome.specs.declared.status.Status.TheVariants as status
 use Rattle.kp_run_outcome.specs.Ends.{Outside, whole}
+use Rattle.kp_run_outcome.specs.Printing.{prints}
 use Rattle.kp_words_options.specs.Words.{nothing, a_word, apart as apart_words, word as said_word, option as said_option}
 use Rattle.kp_words.specs.declared.source.Family.TheVariants as families
 use Rattle.kp_words.specs.Names.{of_mode, Bench}
@@ -64,7 +65,7 @@ use Rattle.kp_run_solve.specs.Solving.{Finds}
 use Rattle.kp_run_solve.proofs.Public.{ends_are_true}
 use Rattle.kp_run_bench.specs.Summary.{summary_text}
 use Rattle.kp_run_bench.specs.Working.{IsSafe}
-use Rattle.kp_run_bench.specs.Bench.{sums_up, Benches, searched as by_search}
+use Rattle.kp_run_bench.specs.Bench.{Benches, searched as by_search}
 use Rattle.kp_run_bench.proofs.Public.{succeeding_actions_are_plan}
 use Rattle.kp_run.specs.Outcomes.{benched, of_command}
 use Rattle.kp_run.specs.Ends.{Ends, came}
@@ -473,7 +474,7 @@ none_left = record { exact = λ l. (λ m. absurd m, λ t. absurd (t.1 (subst (Is
 -- ---- the run
 
 abbrev summary : Outcome
-summary = sums_up (summary_text running g table [] 1 2)
+summary = prints (summary_text running g table [] 1 2)
 
 benches : Benches running summary
 benches = later cells_tree two_tree trees prepared (with_table table (by_mode modes.Models table is_made) (by_search (Plan (0 ∷ 1 ∷ []) 2) fits found_plan (record {

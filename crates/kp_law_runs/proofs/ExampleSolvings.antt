@@ -24,13 +24,14 @@ use Rattle.kp_search.specs.declared.found.Found.{Found}
 use Rattle.kp_search.specs.declared.found.Found.TheVariants.{Plan, NoPlan, Spent}
 use Rattle.kp_search.specs.Trace.{first, step}
 use Rattle.kp_law_ktask.specs.Task.{task_of}
-use Rattle.kp_law_translation.specs.Translations.{ground_of, initial_of}
+use Rattle.kp_law_translation.specs.OfTrees.{ground_of, initial_of}
 use Rattle.kp_law_translation.specs.Tables.{empty_tag}
 use Rattle.kp_law_translation.proofs.Public.{tables_can_be_written}
 use Rattle.kp_outside.specs.Outside.{with_bytes}
 use Rattle.kp_run_outcome.specs.declared.outcome.Outcome.{Outcome}
 use Rattle.kp_run_outcome.specs.declared.status.Status.TheVariants as status
 use Rattle.kp_run_outcome.specs.Ends.{Outside, with_files, whole}
+use Rattle.kp_run_outcome.specs.Printing.{denies}
 use Rattle.kp_words.specs.Names.{of_mode, Solve}
 use Rattle.kp_words.specs.declared.lent.CommandRef.TheVariants as commands
 use Rattle.kp_words_options.specs.Words.{nothing, a_word, apart as apart_words, word as said_word, option as said_option}
@@ -40,7 +41,7 @@ use Rattle.kp_run_prepare.specs.Texts.{HaveTrees}
 use Rattle.kp_run_prepare.specs.Prepared.{IsPrepared, later}
 use Rattle.kp_run_inputs.specs.SourceTables.{HasTable, by_mode, with_table}
 use Rattle.kp_run_inputs.proofs.Public.{table_of_source_is_for_trees}
-use Rattle.kp_run_solve.specs.Solving.{Finds, solves, denies, spends, AreNamed, TellsSolved, searched}
+use Rattle.kp_run_solve.specs.Solving.{Finds, solves, spends, AreNamed, TellsSolved, searched}
 use Rattle.kp_run_messages.specs.Searches.{no_plan_text}
 use Rattle.kp_run.specs.Outcomes.{SolvesTexts, solved, of_command}
 use Rattle.kp_run.specs.Ends.{Ends, came}

@@ -25,7 +25,7 @@ use Rattle.kp_tags_modes.specs.Modes.{CoversEach}
 use Rattle.kp_tags.specs.Answers.{Accepts}
 use Rattle.kp_tags.specs.Made.{IsMade}
 use Rattle.kp_search.specs.declared.found.Found.TheVariants.{NoPlan}
-use Rattle.kp_law_translation.specs.Translations.{ground_of, initial_of}
+use Rattle.kp_law_translation.specs.OfTrees.{ground_of, initial_of}
 use Rattle.kp_law_translation.specs.Tables.{empty_tag}
 use Rattle.kp_law_translation.specs.Written.{translation_of}
 use Rattle.kp_outside.specs.Outside.{FileMap}

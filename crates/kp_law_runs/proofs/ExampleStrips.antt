@@ -22,11 +22,12 @@ use Rattle.kp_plans.specs.PlanFiles as files
 use Rattle.kp_plans.specs.Stripping.{IsFirstUnstripped}
 use Rattle.kp_run_outcome.specs.declared.outcome.Outcome.{Outcome}
 use Rattle.kp_run_outcome.specs.declared.status.Status.TheVariants as status
+use Rattle.kp_run_outcome.specs.Printing.{prints}
 use Rattle.kp_words.specs.Names.{Strip}
 use Rattle.kp_words.specs.declared.lent.CommandRef.TheVariants as commands
 use Rattle.kp_words_options.specs.Words.{nothing, a_word, word as said_word}
 use Rattle.kp_words.specs.Command.{AreUtf8, IsStrip}
-use Rattle.kp_run.specs.Outcomes.{prints, StripsText, no_plan, no_strip, strips, stripped, IsDue, of_command}
+use Rattle.kp_run.specs.Outcomes.{StripsText, no_plan, no_strip, strips, stripped, IsDue, of_command}
 use Rattle.kp_run.proofs.Public.{got_after_insert}
 
 -- ---- the command

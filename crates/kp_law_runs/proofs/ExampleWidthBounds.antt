@@ -29,7 +29,7 @@ use Rattle.kp_width.specs.declared.report.WidthReport.TheVariants.{Within, Over}
 use Rattle.kp_width.specs.Rows.{NoneCovers, AreRows, IsOver}
 use Rattle.kp_width.specs.Answers.{IsReport}
 use Rattle.kp_law_decidable.proofs.Public.{clauses_decided, targets_decided}
-use Rattle.kp_law_translation.specs.Translations.{ground_of, initial_of}
+use Rattle.kp_law_translation.specs.OfTrees.{ground_of, initial_of}
 use Rattle.kp_outside.specs.Outside.{with_bytes}
 use Rattle.kp_run_outcome.specs.declared.status.Status.TheVariants as status
 use Rattle.kp_run_outcome.specs.Ends.{Outside, whole}

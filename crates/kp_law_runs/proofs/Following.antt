@@ -26,7 +26,7 @@ use Rattle.kp_base.specs.declared.ground.Initial.{Initial}
 use Rattle.kp_base.specs.declared.ground.TagTable.{TagTable}
 use Rattle.kp_check.specs.declared.answer.Judged.{Judged}
 use Rattle.kp_check.specs.declared.answer.Judged.TheVariants.{Yes, No}
-use Rattle.kp_law_translation.specs.Translations.{ground_of, initial_of}
+use Rattle.kp_law_translation.specs.OfTrees.{ground_of, initial_of}
 use Rattle.kp_run_inputs.specs.SourceTables.{ComesByTable, no_table, with_table}
 use Rattle.kp_run_inputs.specs.Actions.{ComesByPlan, no_actions, with_actions}
 use Rattle.kp_run.specs.Outcomes.{translates, TranslatesGround, over, done, TranslatesTrees, MergesGround, MergesTrees, StripsText, too_long, no_plan, no_strip, strips, tells, TellsJudged, ChecksTrees, LiftsActions, lifts, fails, LiftsPlan, no_task, with_task, LiftsTrees, SolvesTrees, ClassicalTrees, tells_width, WidthGround, no_report, with_report, WidthTrees, ComesTo, translated, merged, stripped, checked, lifted, solved, solved_classical, width_measured, benched, IsDue, usage, of_command}
@@ -51,13 +51,13 @@ answers_are_whole words old new s (came o due (put_failed f is a b g h i)) answe
 answers_are_whole words old new s (came o due (put_no_memory f is a b g)) answer = absurd (subst IsAnswer is answer)
 answers_are_whole words old new s (came o due (print_failed is a b g h i has_text)) answer = absurd (subst IsAnswer is answer)
 answers_are_whole words old new s (came o due (print_no_memory is a b g has_text)) answer = absurd (subst IsAnswer is answer)
-answers_are_whole words old new s (read_failed c is_command is a b g h) answer = absurd (subst IsAnswer is answer)
+answers_are_whole words old new s (read_failed (c, is_command, a) is b g h) answer = absurd (subst IsAnswer is answer)
 answers_are_whole words old new s (no_memory is a b) answer = absurd (subst IsAnswer is answer)
 
 pub the_due_is_carried_out : TheDueIsCarriedOut
 the_due_is_carried_out words old new s (came o due carried) m u held also =
     inl (subst (λ x. CarriesOut x old new s) (one_outcome words m o u (subst (λ h. IsDue words h o) held due) (subst (λ h. IsDue words h u) held also)) carried)
-the_due_is_carried_out words old new s (read_failed c is_command is a b g same) m u held also = inr (record { untouched = same; stopped = inl is })
+the_due_is_carried_out words old new s (read_failed (c, is_command, a) is b g same) m u held also = inr (record { untouched = same; stopped = inl is })
 the_due_is_carried_out words old new s (no_memory is a same) m u held also = inr (record { untouched = same; stopped = inr is })
 
 pub the_due_is_the_answer : TheDueIsTheAnswer
@@ -76,7 +76,7 @@ the_due_is_the_answer words old new s ends m o held due none = by ends
     by (came u also (put_no_memory f is at calm told)) = inr is
     by (came u also (print_failed is puts front rises gets more has_text)) = absurd (none.writes rises)
     by (came u also (print_no_memory is puts front calm has_text)) = inr is
-    by (read_failed c is_command is h puts writes untouched) = absurd (none.gets h.name h.rises)
+    by (read_failed (c, is_command, h) is puts writes untouched) = absurd (none.gets h.name h.rises)
     by (no_memory is calm untouched) = inr is
 
 -- a run ends with the outcome that is due
@@ -231,7 +231,7 @@ others_put_nothing words old new s (came o due (put_failed f is h i j k l)) a b 
 others_put_nothing words old new s (came o due (put_no_memory f is h i j)) a b d = absurd (d is)
 others_put_nothing words old new s (came o due (print_failed is h i j k l has_text)) a b d = absurd (b is)
 others_put_nothing words old new s (came o due (print_no_memory is h i j has_text)) a b d = absurd (d is)
-others_put_nothing words old new s (read_failed c is_command is h i j same) a b d = same.held
+others_put_nothing words old new s (read_failed (c, is_command, h) is i j same) a b d = same.held
 others_put_nothing words old new s (no_memory is h same) a b d = same.held
 
 -- what puts nothing stops at no file
@@ -255,7 +255,7 @@ no_command_puts_nothing words old new s (came o due carried) none = by o due car
     by o due (put_no_memory f is at i j) = absurd (stops_nowhere old.held new.held f o.puts (nothing o due) at)
     by o due (print_failed is held i j k l has_text) = held ∙ ap (with_files old.held) (nothing o due)
     by o due (print_no_memory is held i j has_text) = held ∙ ap (with_files old.held) (nothing o due)
-no_command_puts_nothing words old new s (read_failed c is_command is h i j same) none = same.held
+no_command_puts_nothing words old new s (read_failed (c, is_command, h) is i j same) none = same.held
 no_command_puts_nothing words old new s (no_memory is h same) none = same.held
 
 -- an answer and want of memory are no WriteFault
@@ -271,7 +271,7 @@ puts_are_of_the_due words old new s (came o due (put_failed f is at rises j k l)
 puts_are_of_the_due words old new s (came o due (put_no_memory f is at i j)) = some_put o f due at (λ e. absurd (memory_no_fault s is e))
 puts_are_of_the_due words old new s (came o due (print_failed is held i rises k l has_text)) = all_put o due held (λ e. rises)
 puts_are_of_the_due words old new s (came o due (print_no_memory is held i j has_text)) = all_put o due held (λ e. absurd (memory_no_fault s is e))
-puts_are_of_the_due words old new s (read_failed c is_command is h i j same) = none_put same.held
+puts_are_of_the_due words old new s (read_failed (c, is_command, h) is i j same) = none_put same.held
 puts_are_of_the_due words old new s (no_memory is h same) = none_put same.held
 
 -- ---- what was told
@@ -282,7 +282,7 @@ texts_are_of_the_due words old new s (came o due (put_failed f is at i j k told)
 texts_are_of_the_due words old new s (came o due (put_no_memory f is at i told)) fault = none_told told
 texts_are_of_the_due words old new s (came o due (print_failed is held front rises k l has_text)) fault = some_told o due front (λ e. rises)
 texts_are_of_the_due words old new s (came o due (print_no_memory is held front j has_text)) fault = some_told o due front (λ e. absurd (memory_no_fault s is e))
-texts_are_of_the_due words old new s (read_failed c is_command is h i j same) fault = none_told same.told
+texts_are_of_the_due words old new s (read_failed (c, is_command, h) is i j same) fault = none_told same.told
 texts_are_of_the_due words old new s (no_memory is h same) fault = none_told same.told
 
 pub read_faults_tell_nothing : ReadFaultsTellNothing
@@ -291,7 +291,7 @@ read_faults_tell_nothing words old new s (came o due (put_failed f is at i j k t
 read_faults_tell_nothing words old new s (came o due (put_no_memory f is at i told)) e = told
 read_faults_tell_nothing words old new s (came o due (print_failed is held front j k l has_text)) e = absurd cc
 read_faults_tell_nothing words old new s (came o due (print_no_memory is held front j has_text)) e = absurd cc
-read_faults_tell_nothing words old new s (read_failed c is_command is h i j same) e = same.told
+read_faults_tell_nothing words old new s (read_failed (c, is_command, h) is i j same) e = same.told
 read_faults_tell_nothing words old new s (no_memory is h same) e = same.told
 
 -- ---- faults
@@ -310,7 +310,7 @@ read_faults_are_true words old new s (came o due (put_failed f is at i j k told)
 read_faults_are_true words old new s (came o due (put_no_memory f is at i told)) e = absurd cc
 read_faults_are_true words old new s (came o due (print_failed is held front j k l has_text)) e = absurd cc
 read_faults_are_true words old new s (came o due (print_no_memory is held front j has_text)) e = absurd cc
-read_faults_are_true words old new s (read_failed c is_command is h i j same) e = (c, is_command, (h.name, in_order (inputs_of c) h.front h.name h.rest h.in_order, h.rises))
+read_faults_are_true words old new s (read_failed (c, is_command, h) is i j same) e = (c, is_command, (h.name, in_order (inputs_of c) h.front h.name h.rest h.in_order, h.rises))
 read_faults_are_true words old new s (no_memory is h same) e = absurd cc
 
 -- a put of a due outcome is of an output of the command
@@ -324,7 +324,7 @@ write_faults_are_true words old new s (came o due (put_failed f is at rises j k 
 write_faults_are_true words old new s (came o due (put_no_memory f is at i told)) e = absurd cc
 write_faults_are_true words old new s (came o due (print_failed is held front rises k l has_text)) e = inr rises
 write_faults_are_true words old new s (came o due (print_no_memory is held front j has_text)) e = absurd cc
-write_faults_are_true words old new s (read_failed c is_command is h i j same) e = absurd cc
+write_faults_are_true words old new s (read_failed (c, is_command, h) is i j same) e = absurd cc
 write_faults_are_true words old new s (no_memory is h same) e = absurd cc
 
 pub failed_gets_are_told : FailedGetsAreTold
@@ -333,7 +333,7 @@ failed_gets_are_told words old new s (came o due (put_failed f is at rises gets 
 failed_gets_are_told words old new s (came o due (put_no_memory f is at none told)) e = none.gets
 failed_gets_are_told words old new s (came o due (print_failed is held front rises gets l has_text)) e = gets
 failed_gets_are_told words old new s (came o due (print_no_memory is held front none has_text)) e = none.gets
-failed_gets_are_told words old new s (read_failed c is_command is h i j same) e = absurd (e is)
+failed_gets_are_told words old new s (read_failed (c, is_command, h) is i j same) e = absurd (e is)
 failed_gets_are_told words old new s (no_memory is none same) e = none.gets
 
 pub failed_writes_are_told : FailedWritesAreTold
@@ -342,7 +342,7 @@ failed_writes_are_told words old new s (came o due (put_failed f is at rises get
 failed_writes_are_told words old new s (came o due (put_no_memory f is at none told)) e = (none.puts, none.writes)
 failed_writes_are_told words old new s (came o due (print_failed is held front rises gets l has_text)) e = absurd (e is)
 failed_writes_are_told words old new s (came o due (print_no_memory is held front none has_text)) e = (none.puts, none.writes)
-failed_writes_are_told words old new s (read_failed c is_command is h puts writes same) e = (puts, writes)
+failed_writes_are_told words old new s (read_failed (c, is_command, h) is puts writes same) e = (puts, writes)
 failed_writes_are_told words old new s (no_memory is none same) e = (none.puts, none.writes)
 
 -- a name with a content isn't missing
@@ -359,7 +359,7 @@ none_due words m c name o is at missing (of_command d texts _ so held comes) = n
 
 pub missing_inputs_are_faults : MissingInputsAreFaults
 missing_inputs_are_faults words old new s (came o due carried) m c name told is at missing = absurd (none_due words m c name o is at missing (subst (λ h. IsDue words h o) told due))
-missing_inputs_are_faults words old new s (read_failed d is_command is h i j same) m c name told so at missing = inl is
+missing_inputs_are_faults words old new s (read_failed (d, is_command, h) is i j same) m c name told so at missing = inl is
 missing_inputs_are_faults words old new s (no_memory is h same) m c name told so at missing = inr is
 
 -- of two ways to cut a list at an item, the one whose front is held ends no later
@@ -376,7 +376,7 @@ cut_before m (f ∷ fs) rest (x ∷ xs) (t ∷ ts) rest_too name q e held missin
 
 pub inputs_are_read_in_order : InputsAreReadInOrder
 inputs_are_read_in_order words old new s (came o due carried) m c front rest name told is cut missing e = absurd (none_due words m c name o is (in_order (inputs_of c) front name rest cut) missing (subst (λ h. IsDue words h o) told due))
-inputs_are_read_in_order words old new s (read_failed d so is h i j same) m c front rest name told is_command cut missing e =
+inputs_are_read_in_order words old new s (read_failed (d, so, h) is i j same) m c front rest name told is_command cut missing e =
     let one = ap inputs_of (words_are_one_command words c d is_command so) in
     (h.name, cut_before m front rest h.front h.texts h.rest name h.name (sym cut ∙ (one ∙ h.in_order)) (subst (λ o. AreHeld o h.front h.texts) told h.are_held) missing, h.rises)
 inputs_are_read_in_order words old new s (no_memory is h same) m c front rest name told so cut missing e = absurd cc

@@ -12,6 +12,7 @@ use Rattle.kp_run_outcome.specs.declared.outcome.Outcome.{Outcome}
 use Rattle.kp_run_outcome.specs.declared.status.Status.{Status}
 use Rattle.kp_run_outcome.specs.declared.status.Status.TheVariants as status
 use Rattle.kp_run_outcome.specs.Ends.{Outside, IsAnswer, AreHeld}
+use Rattle.kp_run_outcome.specs.Printing.{prints}
 use Rattle.kp_words.specs.Names.{Translate, Check, Lift}
 use Rattle.kp_words.specs.declared.lent.CommandRef.TheVariants as commands
 use Rattle.kp_run_prepare.specs.Refusing.{refuses, named_in}
@@ -20,8 +21,8 @@ use Rattle.kp_base.specs.declared.ground.Ground.{Ground}
 use Rattle.kp_base.specs.declared.ground.Initial.{Initial}
 use Rattle.kp_check.specs.declared.answer.Judged.{Judged}
 use Rattle.kp_check.specs.declared.answer.Judged.TheVariants.{Yes, No}
-use Rattle.kp_law_translation.specs.Translations.{ground_of, initial_of}
-use Rattle.kp_run.specs.Outcomes.{TranslatesTexts, translates, done, strips, prints, tells, LiftsActions, lifts, fails, with_task, translated, merged, stripped, checked, lifted, IsDue, of_command}
+use Rattle.kp_law_translation.specs.OfTrees.{ground_of, initial_of}
+use Rattle.kp_run.specs.Outcomes.{TranslatesTexts, translates, done, strips, tells, LiftsActions, lifts, fails, with_task, translated, merged, stripped, checked, lifted, IsDue, of_command}
 use Rattle.kp_run.specs.Ends.{Ends}
 use Rattle.kp_run_messages.specs.Coverage.{coverage_text}
 use Rattle.kp_tags_files.specs.Printed.{merges_of, merges_text}

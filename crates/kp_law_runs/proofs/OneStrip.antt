@@ -6,6 +6,7 @@ use Rattle.kp_base.specs.declared.ground.GroundName.{GroundName}
 use Rattle.kp_base.specs.declared.refused.Refused.TheVariants as refusals
 use Rattle.kp_names_semantics.specs.Strip.{stripped, strip}
 use Rattle.kp_run_outcome.specs.declared.outcome.Outcome.{Outcome}
+use Rattle.kp_run_outcome.specs.Printing.{prints}
 use Rattle.kp_plans.specs.declared.step.PlanStep.{PlanStep}
 use Rattle.kp_plans.specs.PlanFiles.{step_names}
 use Rattle.kp_plans.specs.Printed.{plan_text}
@@ -13,7 +14,7 @@ use Rattle.kp_plans.specs.Stripping.{IsFirstUnstripped}
 use Rattle.kp_plans.proofs.Public.{plans_read_once, plans_refuse_once, plans_never_both}
 use Rattle.kp_run_messages.specs.Refusals.{nothing}
 use Rattle.kp_run_prepare.specs.Refusing.{refuses}
-use Rattle.kp_run.specs.Outcomes.{prints, StripsText, too_long, no_plan, no_strip, strips}
+use Rattle.kp_run.specs.Outcomes.{StripsText, too_long, no_plan, no_strip, strips}
 
 -- ---- the first step without a strip
 

@@ -18,8 +18,8 @@ use Rattle.kp_run_prepare.specs.Prepared.{usual}
 use Rattle.kp_run_inputs.proofs.Public.{by_plan_one_outcome}
 use Rattle.kp_ktask.proofs.Public.{task_refused_once, task_refused_or_within}
 use Rattle.kp_run_messages.specs.Lifting.{unlifted_text}
-use Rattle.kp_run_solve.specs.Solving.{denies}
-use Rattle.kp_run.specs.Outcomes.{translates, prints, tells, TranslatesGround, over, done, TellsJudged, LiftsActions, lifts, fails, LiftsPlan, no_task, with_task, failing_step}
+use Rattle.kp_run_outcome.specs.Printing.{prints, denies}
+use Rattle.kp_run.specs.Outcomes.{translates, tells, TranslatesGround, over, done, TellsJudged, LiftsActions, lifts, fails, LiftsPlan, no_task, with_task, failing_step}
 
 pub table_once : (c : Translate) (g : Ground) (i : Initial) (table : TagTable) (o u : Outcome) → TranslatesGround c g i table o → TranslatesGround c g i table u → o ≡ u
 table_once c g i table o u (over r a ei) (over s b ej) = ei ∙ (ap (refuses nothing) (task_refused_once (task_of g table) usual r s a b) ∙ sym ej)

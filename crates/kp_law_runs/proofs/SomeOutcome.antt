@@ -16,7 +16,7 @@ use Rattle.kp_tree_grammar.specs.declared.tree.Word.{Word}
 use Rattle.kp_tree_grammar.specs.Trees.{Domain, Problem}
 use Rattle.kp_names_semantics.specs.Numbering.{numbered_problem}
 use Rattle.kp_names_semantics.specs.Strip.{stripped, strip}
-use Rattle.kp_law_translation.specs.Translations.{ground_of, initial_of}
+use Rattle.kp_law_translation.specs.OfTrees.{ground_of, initial_of}
 use Rattle.kp_law_translation.proofs.Public.{formulas_speak_of_ground_atoms, initial_states_are_models, tables_can_be_written, numbers_below_are_actions as there, lifted_steps_have_names}
 use Rattle.kp_law_ktask.specs.Task.{task_of}
 use Rattle.kp_law_ktask.specs.Weight.{weight_of}
@@ -26,6 +26,7 @@ use Rattle.kp_tags_files.specs.Printed.{merges_of, merges_text}
 use Rattle.kp_law_decidable.specs.Laws.{AreProper}
 use Rattle.kp_law_decidable.proofs.Public.{formulas_are_ascending, coverages_decided, verdicts_decided, widths_decided}
 use Rattle.kp_run_outcome.specs.declared.outcome.Outcome.{Outcome}
+use Rattle.kp_run_outcome.specs.Printing.{prints, denies}
 use Rattle.kp_base.specs.Files.{most_bytes}
 use Rattle.kp_plans.specs.declared.step.PlanStep.{PlanStep}
 use Rattle.kp_plans.specs.PlanFiles.{step_names}
@@ -44,8 +45,8 @@ use Rattle.kp_run_prepare.proofs.Public.{usual_ground_is_of_its_atoms, problem_o
 use Rattle.kp_run_inputs.proofs.Public.{found_numbers_are_actions, by_table_some_outcome, by_plan_some_outcome, table_of_source_is_for_trees}
 use Rattle.kp_law_tagged_machine.proofs.Public.{lists_lift_or_fail, no_clash_under_exclusive_pairs as never_clashes}
 use Rattle.kp_run_messages.specs.Lifting.{unlifted_text}
-use Rattle.kp_run_solve.specs.Solving.{denies, SolvesGround, over as too_large}
-use Rattle.kp_run.specs.Outcomes.{shows_usage, translates, TranslatesGround, over, done, TranslatesTrees, MergesGround, MergesTrees, prints, StripsText, too_long, no_plan, no_strip, strips, tells, TellsJudged, ChecksTrees, failing_step, LiftsActions, lifts, fails, LiftsPlan, no_task, with_task, LiftsTrees, SolvesTrees, tells_width, no_report, with_report, WidthTrees, ComesTo, translated, merged, checked, lifted, solved, width_measured, benched, usage, of_command}
+use Rattle.kp_run_solve.specs.Solving.{SolvesGround, over as too_large}
+use Rattle.kp_run.specs.Outcomes.{shows_usage, translates, TranslatesGround, over, done, TranslatesTrees, MergesGround, MergesTrees, StripsText, too_long, no_plan, no_strip, strips, tells, TellsJudged, ChecksTrees, failing_step, LiftsActions, lifts, fails, LiftsPlan, no_task, with_task, LiftsTrees, SolvesTrees, tells_width, no_report, with_report, WidthTrees, ComesTo, translated, merged, checked, lifted, solved, width_measured, benched, usage, of_command}
 use Rattle.kp_run.specs.Outcomes as outcomes
 use Rattle.kp_law_runs.specs.Laws.{CommandsHaveAnOutcome, HasSomeOutcome}
 use Rattle.kp_run_inputs.specs.SourceTables.{HasTable}

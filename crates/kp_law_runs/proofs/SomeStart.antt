@@ -9,7 +9,7 @@ use Rattle.kp_tree_grammar.specs.Grammar as grammar
 use Rattle.kp_names_semantics.specs.Faults.{HasNoFault}
 use Rattle.kp_names_semantics.specs.Numbering.{numbered_problem}
 use Rattle.kp_tree.proofs.Public.{files_always_one}
-use Rattle.kp_law_translation.specs.Translations.{ground_of, initial_of}
+use Rattle.kp_law_translation.specs.OfTrees.{ground_of, initial_of}
 use Rattle.kp_law_translation.proofs.Public.{initial_states_are_models, formulas_speak_of_ground_atoms}
 use Rattle.kp_law_decidable.proofs.Public.{names_decided, sizes_decided, formulas_are_ascending, implicates_are_counted as counted, model_or_none, clash_or_none}
 use Rattle.kp_run_messages.specs.Refusals.{Named, nothing}

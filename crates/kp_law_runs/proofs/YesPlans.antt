@@ -12,7 +12,7 @@ use Rattle.kp_check.specs.declared.answer.Judged.TheVariants.{Yes, No}
 use Rattle.kp_check.specs.Judging.{AnswersJudged, fails}
 use Rattle.kp_plans.specs.declared.step.PlanStep.{PlanStep}
 use Rattle.kp_plans.specs.PlanFiles.{step_names}
-use Rattle.kp_law_translation.specs.Translations.{ground_of, initial_of}
+use Rattle.kp_law_translation.specs.OfTrees.{ground_of, initial_of}
 use Rattle.kp_run_inputs.proofs.Public.{found_actions_are_named, named_are_all_found}
 use Rattle.kp_law_translation.proofs.Public.{initial_states_are_models}
 use Rattle.kp_law_runs.specs.Laws.{YesIsAPlan, UnknownStepsAreNoPlan}

@@ -24,13 +24,14 @@ use Rattle.kp_tags_modes.specs.Modes.{CoversEach}
 use Rattle.kp_tags.specs.Made.{IsMade}
 use Rattle.kp_check.specs.declared.answer.Judged.{Judged}
 use Rattle.kp_check.specs.Judging.{AnswersJudged}
-use Rattle.kp_law_translation.specs.Translations.{ground_of, initial_of}
+use Rattle.kp_law_translation.specs.OfTrees.{ground_of, initial_of}
 use Rattle.kp_law_translation.specs.Written.{translation_of}
 use Rattle.kp_outside.specs.Outside.{FileMap}
 use Rattle.kp_run_outcome.specs.declared.outcome.Outcome.{Outcome}
 use Rattle.kp_run_outcome.specs.declared.status.Status.TheVariants as status
 use Rattle.kp_base.specs.Files.{most_bytes}
 use Rattle.kp_run_outcome.specs.Ends.{Outside, AreHeld, IsAnswer}
+use Rattle.kp_run_outcome.specs.Printing.{prints}
 use Rattle.kp_words.specs.Names.{Source, of_mode, Translate, Merges, Strip, Check, Lift}
 use Rattle.kp_words.specs.declared.lent.CommandRef.TheVariants as commands
 use Rattle.kp_words.specs.Command.{IsTranslate, IsMerges, IsStrip, IsCheck, IsLift, file_of, if_named, inputs_of}
@@ -39,7 +40,7 @@ use Rattle.kp_run_prepare.specs.Refusing.{refuses, named_in}
 use Rattle.kp_run_prepare.specs.Prepared.{usual, IsStarted}
 use Rattle.kp_run_inputs.specs.SourceTables.{HasTable}
 use Rattle.kp_run_inputs.specs.Actions.{HasActions}
-use Rattle.kp_run.specs.Outcomes.{translates, prints, tells, LiftsActions}
+use Rattle.kp_run.specs.Outcomes.{translates, tells, LiftsActions}
 use Rattle.kp_run.specs.Solved.{GoesOn, Tells}
 use Rattle.kp_run.specs.Completeness.{PrintsComplete}
 use Rattle.kp_law_runs.specs.Follows.{OfRuns, EndsWith}

@@ -18,7 +18,7 @@ use Rattle.kp_base.specs.Atoms.{Atom}
 use Rattle.kp_ground_semantics.specs.Ground.{ground_atoms, atom_name, at_atom, seen_on}
 use Rattle.kp_ground_semantics.proofs.Public.{atoms_are_numbered}
 use Rattle.kp_init.proofs.Public.{models_are_initial_states}
-use Rattle.kp_law_translation.specs.Translations.{ground_of}
+use Rattle.kp_law_translation.specs.OfTrees.{ground_of}
 use Rattle.kp_law_translation.specs.Given.{DifferentStatesAreDifferentModels}
 use Rattle.kp_law_translation.proofs.Apart.{as_literal, atom_valid, heads_are}
 

@@ -11,7 +11,7 @@ use Rattle.kp_tree_grammar.specs.Parsing.{some_at, next_at}
 use Rattle.kp_names_semantics.specs.Problems.{HasNoFault, Step, HasProblem, is_plain_goal, StripsToPlan}
 use Rattle.kp_names_semantics.specs.Plans.{IsPlan}
 use Rattle.kp_names_semantics.proofs.Public.{domain_of_text as domain_of, problem_of_text as problem_of, computes_a_problem, cells_domain, one_cell_problem}
-use Rattle.kp_law_translation.specs.Translations.{ground_of, initial_of, start_of}
+use Rattle.kp_law_translation.specs.OfTrees.{ground_of, initial_of, start_of}
 use Rattle.kp_law_translation.specs.Tables.{empty_tag, IsTableFor}
 use Rattle.kp_law_translation.specs.Written.{translation_of}
 use Rattle.kp_law_translation.proofs.Tables.{tables_written as tables_can_be_written, empty_tag_is_table as empty_tag_is_table_for_trees}

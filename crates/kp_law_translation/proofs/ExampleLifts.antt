@@ -21,7 +21,7 @@ use Rattle.kp_names_semantics.proofs.Public.{domain_of_text, problem_of_text, ce
 use Rattle.kp_init.proofs.Public.{plan_of_texts}
 use Rattle.kp_law_ktask.specs.Accepted.{IsAccepted}
 use Rattle.kp_law_ktask.proofs.Public as tagged
-use Rattle.kp_law_translation.specs.Translations.{ground_of, initial_of}
+use Rattle.kp_law_translation.specs.OfTrees.{ground_of, initial_of}
 use Rattle.kp_law_translation.specs.Tables.{empty_tag}
 use Rattle.kp_law_translation.proofs.Starts.{states_are_models as initial_states_are_models}
 use Rattle.kp_law_translation.specs.Laws.{IsWrittenLift, Lifts}

@@ -12,7 +12,7 @@ use Rattle.kp_names_semantics.proofs.Public.{domain_of_text as domain_of, proble
 use Rattle.kp_ground_semantics.specs.Ground.{ground_of}
 use Rattle.kp_init.specs.Initial.{initial_of}
 use Rattle.kp_base.specs.Closure.{closure}
-use Rattle.kp_law_translation.specs.Translations as given
+use Rattle.kp_law_translation.specs.OfTrees as given
 use Rattle.kp_law_translation.specs.Tables.{empty_tag}
 use Rattle.kp_law_translation.specs.Written.{translation_of}
 use Rattle.kp_law_translation.proofs.Tables.{tables_written as tables_can_be_written, empty_tag_is_table as empty_tag_is_table_for_trees}

@@ -10,7 +10,7 @@ use Rattle.kp_tree_grammar.specs.Parsing.{some_at, next_at}
 use Rattle.kp_names_semantics.specs.Faults.{HasNoFault}
 use Rattle.kp_names_semantics.proofs.Public.{domain_of_text, problem_of_text, cells_domain, one_cell_problem}
 use Rattle.kp_base.proofs.Closures.{closure_over_first_atoms}
-use Rattle.kp_law_translation.specs.Translations.{ground_of, initial_of, start_of}
+use Rattle.kp_law_translation.specs.OfTrees.{ground_of, initial_of, start_of}
 use Rattle.kp_names_semantics.specs.Initial.{HasInitialState}
 use Rattle.kp_law_translation.proofs.Starts.{states_are_models, formulas_over_atoms, closures_are_starts}
 

@@ -21,7 +21,7 @@ use Rattle.kp_law_ktask.specs.ByName.{op_of, merge_op, op_at}
 use Rattle.kp_base.specs.ActionNames.{action_name}
 use Rattle.kp_law_ktask.specs.Accepted.{step_at}
 use Rattle.kp_law_ktask.proofs.Public.{machine_step_is_named, tagged_plans_are_accepted, tagged_steps_strip}
-use Rattle.kp_law_translation.specs.Translations.{ground_of, initial_of}
+use Rattle.kp_law_translation.specs.OfTrees.{ground_of, initial_of}
 use Rattle.kp_law_translation.proofs.Starts.{states_are_models as initial_states_are_models}
 use Rattle.kp_law_translation.proofs.Tables.{tables_written as tables_can_be_written}
 use Rattle.kp_law_translation.specs.Laws.{LiftsAreWritten, PlansLift}

@@ -18,7 +18,7 @@ use Rattle.kp_ground_semantics.specs.Ground.{kept_bindings, ground_atoms, number
 use Rattle.kp_law_ktask.specs.Weight.{both_weight, action_weight}
 use Rattle.kp_law_ktask.proofs.Public.{weight_is_counted}
 use Rattle.kp_law_translation.specs.Tables.{empty_tag, EmptyTagsAreLight}
-use Rattle.kp_law_translation.specs.Translations as given
+use Rattle.kp_law_translation.specs.OfTrees as given
 
 -- ---- sums
 

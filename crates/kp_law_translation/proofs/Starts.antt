@@ -19,7 +19,7 @@ use Rattle.kp_init.specs.Initial as init
 use Rattle.kp_init.specs.Laws.{AreModels}
 use Rattle.kp_base.proofs.Closures.{closure_over_first_atoms}
 use Rattle.kp_init.proofs.Public.{models_are_initial_states, initial_formula_is_over_ground_atoms}
-use Rattle.kp_law_translation.specs.Translations.{ground_of, initial_of, start_of}
+use Rattle.kp_law_translation.specs.OfTrees.{ground_of, initial_of, start_of}
 use Rattle.kp_law_translation.specs.Given.{InitialStatesAreModels, FormulasSpeakOfGroundAtoms, ClosuresAreStarts}
 
 -- ---- initial states and models

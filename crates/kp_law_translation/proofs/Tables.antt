@@ -7,7 +7,7 @@ use Rattle.kp_base.proofs.Closures.{closure_over_first_atoms}
 use Rattle.kp_write.specs.Grounds.{IsOfAtom}
 use Rattle.kp_law_tagged_machine.proofs.Public.{one_tag_is_a_table}
 use Rattle.kp_law_ktask.specs.Writable.{IsRowOn, IsTag, IsMergeOn}
-use Rattle.kp_law_translation.specs.Translations.{ground_of, initial_of, start_of}
+use Rattle.kp_law_translation.specs.OfTrees.{ground_of, initial_of, start_of}
 use Rattle.kp_law_translation.specs.Tables.{TablesCanBeWritten, EmptyTagIsTable}
 use Rattle.kp_law_translation.proofs.Starts.{formulas_over_atoms}
 use Rattle.kp_law_translation.proofs.Written.{grounds_written}

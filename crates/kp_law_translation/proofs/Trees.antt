@@ -3,7 +3,7 @@ use Rattle.kp_names_semantics.proofs.Public.{goals_are_plain}
 use Rattle.kp_init.proofs.Public.{named_runs_are_plans}
 use Rattle.kp_base.specs.Machine.{stripped}
 use Rattle.kp_law_ktask.proofs.Public.{tagged_plans_are_sound}
-use Rattle.kp_law_translation.specs.Translations.{ground_of, initial_of}
+use Rattle.kp_law_translation.specs.OfTrees.{ground_of, initial_of}
 use Rattle.kp_law_translation.proofs.Tables.{tables_written as tables_can_be_written}
 use Rattle.kp_law_translation.specs.Laws.{WrittenPlansStripToSolutions, TranslationsAreSound}
 

@@ -30,7 +30,7 @@ use Rattle.kp_base.proofs.AtomOrder.{atom_never_before_itself, same_atom-true}
 use Rattle.kp_ground_semantics.proofs.Public.{atoms_are_numbered, actions_named_once, instance_literals_occur}
 use Rattle.kp_base.proofs.Closures.{closure_over_first_atoms}
 use Rattle.kp_write.specs.Grounds.{IsOfAtom, AreOfAtoms, IsGroundEffect, IsGroundAction, IsWritable}
-use Rattle.kp_law_translation.specs.Translations.{ground_of, initial_of, start_of}
+use Rattle.kp_law_translation.specs.OfTrees.{ground_of, initial_of, start_of}
 use Rattle.kp_law_translation.specs.Given.{StartsAreOfAtoms, GroundProblemsAreWritable}
 use Rattle.kp_law_translation.proofs.Apart.{as_literal, heads_are, atom_valid}
 use Rattle.kp_law_translation.proofs.Starts.{formulas_over_atoms}

@@ -10,7 +10,7 @@ use Rattle.kp_names_semantics.specs.States.{State}
 use Rattle.kp_names_semantics.specs.Initial.{IsInitial}
 use Rattle.kp_init.specs.ByName.{HasNamedAtoms}
 use Rattle.kp_write.specs.Grounds.{AreOfAtoms, IsWritable}
-use Rattle.kp_law_translation.specs.Translations.{ground_of, initial_of, start_of}
+use Rattle.kp_law_translation.specs.OfTrees.{ground_of, initial_of, start_of}
 
 -- where no name is at fault, some state is initial exactly where the initial formula has a model
 abbrev pub InitialStatesAreModels : Type 0

@@ -9,7 +9,7 @@ use Rattle.kp_names_semantics.specs.Problems.{HasNoFault, Step, HasProblem, HasI
 use Rattle.kp_names_semantics.specs.Plans.{IsPlan}
 use Rattle.kp_law_ktask.specs.Writable.{IsWritableTask}
 use Rattle.kp_law_ktask.specs.Accepted.{IsAccepted}
-use Rattle.kp_law_translation.specs.Translations.{ground_of, initial_of}
+use Rattle.kp_law_translation.specs.OfTrees.{ground_of, initial_of}
 use Rattle.kp_law_translation.specs.Tables.{IsTableFor}
 use Rattle.kp_law_translation.specs.Written.{translation_of}
 

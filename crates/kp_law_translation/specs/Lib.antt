@@ -1,4 +1,4 @@
-pub mod Translations
+pub mod OfTrees
 pub mod Given
 pub mod Tables
 pub mod Written

@@ -13,7 +13,7 @@ use Rattle.kp_write.specs.Grounds.{IsOfAtom}
 use Rattle.kp_law_ktask.specs.Task.{task_of}
 use Rattle.kp_law_ktask.specs.Weight.{weight_of}
 use Rattle.kp_law_ktask.specs.Writable.{IsWritableTask}
-use Rattle.kp_law_translation.specs.Translations.{ground_of, initial_of, start_of}
+use Rattle.kp_law_translation.specs.OfTrees.{ground_of, initial_of, start_of}
 
 -- the table of the empty tag alone, with its closure
 abbrev pub empty_tag : Domain Word → Problem Word → TagTable

@@ -4,7 +4,7 @@ use Rattle.kp_tree_grammar.specs.declared.tree.Word.{Word}
 use Rattle.kp_tree_grammar.specs.Trees.{Domain, Problem}
 use Rattle.kp_ktask_texts.specs.declared.translation.Translation.{Translation}
 use Rattle.kp_ktask_texts.specs.Translations.{translation_with}
-use Rattle.kp_law_translation.specs.Translations.{ground_of}
+use Rattle.kp_law_translation.specs.OfTrees.{ground_of}
 
 -- the two files, and what is printed
 abbrev pub translation_of : Domain Word → Problem Word → TagTable → Translation

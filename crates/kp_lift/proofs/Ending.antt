@@ -13,7 +13,7 @@ use Rattle.kp_lift_knowledge.specs.Known.{Table, Says}
 use Rattle.kp_law_tagged_machine.specs.Lifts.{after_merges, merges_taken, lift_from, UnliftedAt}
 use Rattle.kp_law_tagged_machine.proofs.Public.{failing_lists_dont_lift, lifted_is_accepted_where_it_lifts}
 use Rattle.kp_law_tagged_machine.proofs.Public as complete
-use Rattle.kp_law_ktask.specs.Laws.{op_number}
+use Rattle.kp_law_ktask.specs.Accepted.{op_number}
 use Rattle.kp_lift.specs.declared.lifting.Lifting.TheVariants.{Lifted, Unlifted}
 use Rattle.kp_lift.specs.declared.running.At.{At}
 use Rattle.kp_lift.specs.Lifting.{AnswersLifting}

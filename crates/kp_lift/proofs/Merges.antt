@@ -7,7 +7,7 @@ use Rattle.kp_base.specs.Lists.{only_if}
 use Rattle.kp_base.specs.Machine.{MachineStep, Known, after_merge}
 use Rattle.kp_lift_knowledge.specs.Known.{Table, Says}
 use Rattle.kp_law_tagged_machine.specs.Lifts.{adds, after_merges, merges_taken}
-use Rattle.kp_law_ktask.specs.Laws.{op_number}
+use Rattle.kp_law_ktask.specs.Accepted.{op_number}
 
 -- of what is known now, the merges from number m on make what all make of what was known; and so with the operators
 pub record MergesRest (g : Ground) (table : TagTable) (old : Table) (ops : List ℕ) (m : ℕ) (new : Table) (done : List ℕ) : Type 0 where

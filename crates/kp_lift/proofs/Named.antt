@@ -13,8 +13,7 @@ use Rattle.kp_base.proofs.Places.{element, get_left, get_right}
 use Rattle.kp_classic.specs.declared.task.Task.{Task}
 use Rattle.kp_law_tagged_machine.specs.Lifts.{adds, after_merges, merges_taken, lift_of, lift_from}
 use Rattle.kp_law_ktask.specs.Task.{op_of, merge_op, merge_ops_from, task_of}
-use Rattle.kp_law_ktask.specs.Laws.{op_number}
-use Rattle.kp_law_ktask.specs.Accepted.{op_step, operator_step, step_at}
+use Rattle.kp_law_ktask.specs.Accepted.{op_number, op_step, operator_step, step_at}
 use Rattle.kp_lift.specs.Lifting.{IsThere, OperatorsAreSteps, LiftedOperatorsAreSteps}
 
 -- ---- one step

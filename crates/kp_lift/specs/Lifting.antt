@@ -10,8 +10,7 @@ use Rattle.kp_base.specs.Implicates.{are_below}
 use Rattle.kp_base.specs.Machine.{MachineStep, accepts, stripped}
 use Rattle.kp_law_tagged_machine.specs.Lifts.{lift_of, UnliftedAt}
 use Rattle.kp_law_ktask.specs.Task.{task_of}
-use Rattle.kp_law_ktask.specs.Laws.{op_number}
-use Rattle.kp_law_ktask.specs.Accepted.{operator_step, step_at}
+use Rattle.kp_law_ktask.specs.Accepted.{op_number, operator_step, step_at}
 use Rattle.kp_lift.specs.declared.lifting.Lifting.{Lifting}
 use Rattle.kp_lift.specs.declared.lifting.Lifting.TheVariants.{Lifted, Unlifted}
 

@@ -8,7 +8,7 @@ use Rattle.kp_base.specs.Steps.{asked, pre_of, IsLeastMissing}
 use Rattle.kp_base.specs.Machine.{Known, may_act, after_act}
 use Rattle.kp_lift_knowledge.specs.Known.{Table, Says}
 use Rattle.kp_law_tagged_machine.specs.Lifts.{after_merges, merges_taken, known_lifted_from, lift_from}
-use Rattle.kp_law_ktask.specs.Laws.{op_number}
+use Rattle.kp_law_ktask.specs.Accepted.{op_number}
 use Rattle.kp_lift.specs.declared.running.At.{At}
 
 -- ---- from some knowledge on

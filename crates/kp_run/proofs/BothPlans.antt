@@ -10,7 +10,7 @@ use Rattle.kp_names_semantics.specs.Strip.{strip}
 use Rattle.kp_classic.specs.Steps.{start, succeeds}
 use Rattle.kp_law_ktask.specs.Task.{task_of}
 use Rattle.kp_law_ktask.proofs.Public.{tagged_plans_are_accepted, tagged_steps_strip}
-use Rattle.kp_law_translation.specs.Translations.{ground_of, initial_of}
+use Rattle.kp_law_translation.specs.OfTrees.{ground_of, initial_of}
 use Rattle.kp_law_translation.specs.Tables.{IsTableFor}
 use Rattle.kp_law_translation.specs.Written.{translation_of}
 use Rattle.kp_law_translation.proofs.Public.{tables_can_be_written, translations_are_sound}

@@ -23,7 +23,7 @@ use Rattle.kp_plans.specs.Printed.{plan_text}
 use Rattle.kp_law_ktask.specs.Task.{task_of}
 use Rattle.kp_law_ktask.specs.Accepted.{step_at}
 use Rattle.kp_ktask_texts.specs.Report.{counts_of}
-use Rattle.kp_law_translation.specs.Translations.{ground_of, initial_of}
+use Rattle.kp_law_translation.specs.OfTrees.{ground_of, initial_of}
 use Rattle.kp_law_translation.specs.Tables.{IsTableFor}
 use Rattle.kp_law_translation.specs.Written.{translation_of}
 use Rattle.kp_law_translation.proofs.Public.{formulas_speak_of_ground_atoms, initial_states_are_models, tables_can_be_written, lifts_written, plans_lift}
@@ -33,6 +33,7 @@ use Rattle.kp_run_outcome.specs.declared.outcome.Outcome.{Outcome}
 use Rattle.kp_run_outcome.specs.declared.status.Status.{Status}
 use Rattle.kp_run_outcome.specs.declared.status.Status.TheVariants as status
 use Rattle.kp_run_outcome.specs.Ends.{Outside, with_files, CarriesOut, whole, put_failed, put_no_memory, print_failed, print_no_memory}
+use Rattle.kp_run_outcome.specs.Printing.{prints}
 use Rattle.kp_words.specs.Names.{Source, Translate, Lift}
 use Rattle.kp_words.specs.declared.lent.CommandRef.TheVariants as commands
 use Rattle.kp_words.specs.Command.{IsLift, file_of, if_named, inputs_of}
@@ -43,7 +44,7 @@ use Rattle.kp_run_inputs.specs.SourceTables.{HasTable, by_mode, by_file, no_tabl
 use Rattle.kp_run_inputs.specs.Actions.{HasActions, no_actions, with_actions}
 use Rattle.kp_run_inputs.proofs.Public.{sources_have_one_table, plans_have_one_list, named_is_found_at}
 use Rattle.kp_ktask.proofs.Public.{task_refused_or_within}
-use Rattle.kp_run.specs.Outcomes.{prints, LiftsActions, lifts, fails, LiftsPlan, no_task, with_task, LiftsTrees, LiftsTexts, IsDue}
+use Rattle.kp_run.specs.Outcomes.{LiftsActions, lifts, fails, LiftsPlan, no_task, with_task, LiftsTrees, LiftsTexts, IsDue}
 use Rattle.kp_run.specs.Ends.{Ends, came, read_failed, no_memory}
 use Rattle.kp_run.specs.Completeness as complete
 use Rattle.kp_run.specs.Completeness.{PrintsComplete, RanComplete, AreSameSource, one_mode, one_text, IsOfTheSame, HoldsPlan, LosesNoPlan, StaysSolvable}
@@ -89,7 +90,7 @@ did_translate words t before after r = by r.ended
     by (came o due (put_no_memory f e a b g)) = absurd cc
     by (came o due (print_failed e a b g h i has_text)) = absurd cc
     by (came o due (print_no_memory e a b g has_text)) = absurd cc
-    by (read_failed d e k a b g h) = absurd cc
+    by (read_failed (d, e, a) k b g h) = absurd cc
     by (no_memory e a b) = absurd cc
 
 -- ---- the source of a lift
@@ -252,7 +253,7 @@ module _ (t : Translate) (before after : FileMap) (text : List ℕ) (x : DidTran
         by (put_no_memory f e a b h) = inr (inl e)
         by (print_failed e a b h j k has_text) = inr (inr (inr e))
         by (print_no_memory e a b h has_text) = inr (inl e)
-    ends_lifted words old new s (read_failed e so is_fault a b h j) is held = inr (inr (inl is_fault))
+    ends_lifted words old new s (read_failed (e, so, a) is_fault b h j) is held = inr (inr (inl is_fault))
     ends_lifted words old new s (no_memory e a b) is held = inr (inl e)
 
 pub loses_none : (words : List (Vec ℕ Global)) (old new : Outside) (s : Status) → Ends words old new s → (c : Lift) → IsLift words c → LosesNoPlan Ends c old new s

@@ -4,7 +4,7 @@ use Rattle.std.proofs.lemmas.List.{length-map}
 use Rattle.kp_names_semantics.specs.Numbering.{numbered_problem}
 use Rattle.kp_ground_semantics.specs.Ground.{ground_atoms, atom_name}
 use Rattle.kp_law_ktask.proofs.Public.{facts_are_counted}
-use Rattle.kp_law_translation.specs.Translations as given
+use Rattle.kp_law_translation.specs.OfTrees as given
 use Rattle.kp_law_translation.specs.Tables.{empty_tag}
 use Rattle.kp_law_translation.proofs.Public.{empty_tags_are_light}
 use Rattle.kp_run.specs.Laws.{EmptyTagsFit}

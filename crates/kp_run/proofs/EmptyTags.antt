@@ -18,7 +18,7 @@ use Rattle.kp_tags_modes.specs.Modes.{way_of, AreMergesBy, AreMergesInTurn, AreM
 use Rattle.kp_tags.specs.MergeTables.{HasClosure, IsTableOf}
 use Rattle.kp_tags.specs.Made.{IsMade}
 use Rattle.kp_base.proofs.Closures.{closure_over_first_atoms}
-use Rattle.kp_law_translation.specs.Translations.{ground_of, initial_of}
+use Rattle.kp_law_translation.specs.OfTrees.{ground_of, initial_of}
 use Rattle.kp_law_translation.specs.Tables.{empty_tag}
 use Rattle.kp_law_translation.proofs.Public.{formulas_speak_of_ground_atoms}
 use Rattle.kp_run_prepare.specs.Prepared.{usual}

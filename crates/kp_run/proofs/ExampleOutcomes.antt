@@ -37,7 +37,7 @@ use Rattle.kp_ground_semantics.specs.Ground.{kept_instances, ground_atoms}
 use Rattle.kp_ground_semantics.specs.Ground as by_number
 use Rattle.kp_ground_semantics.specs.Weights.{binding_count, total_weight}
 use Rattle.kp_ground.specs.Grounded.{IsGrounded}
-use Rattle.kp_law_translation.specs.Translations.{ground_of, initial_of}
+use Rattle.kp_law_translation.specs.OfTrees.{ground_of, initial_of}
 use Rattle.kp_law_translation.specs.Tables.{empty_tag}
 use Rattle.kp_law_translation.specs.Written.{translation_of}
 use Rattle.kp_law_translation.proofs.Public.{initial_states_are_models}

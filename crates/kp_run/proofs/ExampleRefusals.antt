@@ -35,7 +35,7 @@ use Rattle.kp_tree.specs.Files.{HasTree, offending}
 use Rattle.kp_tree.specs.Files as files
 use Rattle.kp_names.specs.Resolved.{in_problem}
 use Rattle.kp_names_semantics.specs.Initial.{HasInitialState}
-use Rattle.kp_law_translation.specs.Translations.{ground_of, initial_of}
+use Rattle.kp_law_translation.specs.OfTrees.{ground_of, initial_of}
 use Rattle.kp_law_translation.specs.Tables.{empty_tag}
 use Rattle.kp_law_translation.proofs.Public.{initial_states_are_models}
 use Rattle.kp_run_messages.specs.Refusals.{nothing, refusal_text}

@@ -13,7 +13,7 @@ use Rattle.kp_run_prepare.specs.Prepared.{usual, IsSmall}
 use Rattle.kp_run_prepare.proofs.Public.{ground_has_few_actions}
 use Rattle.kp_run_inputs.proofs.Public.{table_has_few_merges}
 use Rattle.kp_classic.proofs.Public.{task_of_ground_fits as ground_fits}
-use Rattle.kp_law_translation.specs.Translations.{ground_of, initial_of}
+use Rattle.kp_law_translation.specs.OfTrees.{ground_of, initial_of}
 use Rattle.kp_run_classical.specs.Classical.{IsClassicalProblem, task_of as classical_task}
 use Rattle.kp_run_classical.proofs.Public.{classical_ground_is_of_its_atoms}
 use Rattle.kp_lift.proofs.Public.{operators_are_counted}

@@ -27,7 +27,7 @@ use Rattle.kp_law_ktask.specs.Accepted.{operator_step}
 use Rattle.kp_lift.specs.Lifting.{IsTableOn, AnswersLifting}
 use Rattle.kp_lift.proofs.Public.{lifted_operators_are_steps}
 use Rattle.kp_run_messages.specs.Lifting.{unlifted_text}
-use Rattle.kp_run_solve.specs.Solving.{denies}
+use Rattle.kp_run_outcome.specs.Printing.{denies}
 use Rattle.kp_run.specs.Outcomes.{LiftsActions, lifts, fails, LiftsPlan, no_task, with_task, failing_step}
 use Rattle.kp_run.specs.CommandParts.{PrintsOperators}
 

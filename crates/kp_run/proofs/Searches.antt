@@ -5,7 +5,7 @@ use Rattle.kp_base.specs.declared.memory.Memory.{Memory}
 use Rattle.kp_base.specs.declared.ground.Ground.{Ground}
 use Rattle.kp_classic.specs.declared.task.Task.{Task}
 use Rattle.kp_classic.specs.Grounded.{op_of}
-use Rattle.kp_law_translation.specs.Translations.{ground_of}
+use Rattle.kp_law_translation.specs.OfTrees.{ground_of}
 use Rattle.kp_run_outcome.specs.declared.outcome.Outcome.{Outcome}
 use Rattle.kp_words.specs.Names.{Classical}
 use Rattle.kp_run_prepare.specs.declared.prepared.Early.{Early}

@@ -25,7 +25,7 @@ use Rattle.kp_search.specs.declared.found.Found.TheVariants.{Plan, NoPlan, Spent
 use Rattle.kp_law_ktask.specs.Task.{task_of}
 use Rattle.kp_law_ktask.specs.Writable.{IsWritableTask}
 use Rattle.kp_law_ktask.proofs.Public.{tagged_plans_are_accepted}
-use Rattle.kp_law_translation.specs.Translations.{ground_of, initial_of}
+use Rattle.kp_law_translation.specs.OfTrees.{ground_of, initial_of}
 use Rattle.kp_law_translation.specs.Tables.{IsTableFor}
 use Rattle.kp_law_translation.proofs.Public.{tables_can_be_written, formulas_speak_of_ground_atoms, initial_states_are_models, plans_lift}
 use Rattle.kp_plans.specs.Printed.{plan_text}
@@ -36,6 +36,7 @@ use Rattle.kp_run_outcome.specs.declared.outcome.Outcome.{Outcome}
 use Rattle.kp_run_outcome.specs.declared.status.Status.{Status}
 use Rattle.kp_run_outcome.specs.declared.status.Status.TheVariants as status
 use Rattle.kp_run_outcome.specs.Ends.{Outside, AreHeld, IsAnswer, with_files}
+use Rattle.kp_run_outcome.specs.Printing.{denies}
 use Rattle.kp_words.specs.Names.{Solve}
 use Rattle.kp_words.specs.declared.lent.CommandRef.TheVariants as commands
 use Rattle.kp_words.specs.Command.{IsSolve, file_of, if_named, inputs_of}
@@ -43,7 +44,7 @@ use Rattle.kp_run_prepare.specs.Texts.{HaveTrees}
 use Rattle.kp_run_prepare.specs.Prepared.{IsPrepared, by_texts, by_trees, early, later}
 use Rattle.kp_run_inputs.specs.SourceTables.{HasTable, no_table, with_table}
 use Rattle.kp_run_inputs.proofs.Public.{table_of_source_is_for_trees}
-use Rattle.kp_run_solve.specs.Solving.{Finds, solves, denies, spends, TellsSolved, SolvesGround, over, searched}
+use Rattle.kp_run_solve.specs.Solving.{Finds, solves, spends, TellsSolved, SolvesGround, over, searched}
 use Rattle.kp_run_solve.proofs.Public.{ends_are_true, no_plan_is_accepted}
 use Rattle.kp_run.specs.Outcomes.{SolvesTexts, IsDue}
 use Rattle.kp_run.specs.Completeness.{PrintsComplete}

@@ -9,13 +9,14 @@ use Rattle.kp_tree_grammar.specs.Trees.{Domain, Problem}
 use Rattle.kp_classic.specs.Fits.{IsFit}
 use Rattle.kp_search.specs.declared.found.Found.{Found}
 use Rattle.kp_search.specs.declared.found.Found.TheVariants.{Plan, NoPlan, Spent}
-use Rattle.kp_law_translation.specs.Translations.{ground_of}
+use Rattle.kp_law_translation.specs.OfTrees.{ground_of}
 use Rattle.kp_law_translation.proofs.Public.{grounds_written}
 use Rattle.kp_outside.specs.Outside.{FileMap}
 use Rattle.kp_run_outcome.specs.declared.outcome.Outcome.{Outcome}
 use Rattle.kp_run_outcome.specs.declared.status.Status.{Status}
 use Rattle.kp_run_outcome.specs.declared.status.Status.TheVariants as status
 use Rattle.kp_run_outcome.specs.Ends.{Outside, AreHeld, IsAnswer}
+use Rattle.kp_run_outcome.specs.Printing.{denies}
 use Rattle.kp_words.specs.Names.{Classical}
 use Rattle.kp_words.specs.declared.lent.CommandRef.TheVariants as commands
 use Rattle.kp_words.specs.Command.{IsClassical, inputs_of}
@@ -23,7 +24,7 @@ use Rattle.kp_run_classical.specs.Classical.{by_texts, by_trees, early, later, t
 use Rattle.kp_run_classical.proofs.Public.{classical_successes_are_plans, classical_plans_are_successes}
 use Rattle.kp_run_messages.specs.Refusals.{nothing}
 use Rattle.kp_run_messages.specs.Searches.{no_plan_line}
-use Rattle.kp_run_solve.specs.Solving.{Finds, solves, denies, spends, TellsClassical}
+use Rattle.kp_run_solve.specs.Solving.{Finds, solves, spends, TellsClassical}
 use Rattle.kp_run_solve.proofs.Public.{ends_are_true}
 use Rattle.kp_run.specs.Outcomes.{ClassicalTexts, IsDue}
 use Rattle.kp_run.specs.Ends.{Ends}

@@ -21,7 +21,7 @@ use Rattle.kp_law_tagged_machine.proofs.Public.{no_clash_under_exclusive_pairs}
 use Rattle.kp_tree_grammar.specs.declared.tree.Word.{Word}
 use Rattle.kp_tree_grammar.specs.Trees.{Domain, Problem}
 use Rattle.kp_names_semantics.specs.Plans.{HasProblem}
-use Rattle.kp_law_translation.specs.Translations.{ground_of, initial_of}
+use Rattle.kp_law_translation.specs.OfTrees.{ground_of, initial_of}
 use Rattle.kp_law_translation.proofs.Public.{translations_are_sound}
 use Rattle.kp_run_prepare.specs.Texts.{HaveTrees}
 use Rattle.kp_run_prepare.specs.Refusing.{refuses}
@@ -173,5 +173,5 @@ sound_end words old new s (came o due (put_failed f e a b g h i)) before after c
 sound_end words old new s (came o due (put_no_memory f e a b g)) before after c first last is done = absurd cc
 sound_end words old new s (came o due (print_failed e a b g h i has_text)) before after c first last is done = absurd cc
 sound_end words old new s (came o due (print_no_memory e a b g has_text)) before after c first last is done = absurd cc
-sound_end words old new s (read_failed d e k a b g h) before after c first last is done = absurd cc
+sound_end words old new s (read_failed (d, e, a) k b g h) before after c first last is done = absurd cc
 sound_end words old new s (no_memory e a b) before after c first last is done = absurd cc

@@ -8,6 +8,7 @@ use Rattle.kp_base.specs.declared.refused.Refused.TheVariants as refusals
 use Rattle.kp_base.specs.declared.refused.Stop.TheVariants as stops
 use Rattle.kp_names_semantics.specs.Strip.{strip}
 use Rattle.kp_run_outcome.specs.declared.outcome.Outcome.{Outcome}
+use Rattle.kp_run_outcome.specs.Printing.{prints}
 use Rattle.kp_base.specs.Files.{most_bytes}
 use Rattle.kp_plans.specs.declared.step.PlanStep.{PlanStep}
 use Rattle.kp_plans.specs.PlanFiles.{step_names, IsPlanOf, RefusesPlan}
@@ -15,7 +16,7 @@ use Rattle.kp_plans.specs.Printed.{plan_text}
 use Rattle.kp_plans.specs.Stripping.{AnswersStrip}
 use Rattle.kp_run_messages.specs.Refusals.{nothing}
 use Rattle.kp_run_prepare.specs.Refusing.{refuses}
-use Rattle.kp_run.specs.Outcomes.{prints, StripsText, too_long, no_plan, no_strip, strips}
+use Rattle.kp_run.specs.Outcomes.{StripsText, too_long, no_plan, no_strip, strips}
 
 -- a step is refused
 pub refused_step : (text : List ℕ) (steps : List PlanStep) (r : Refused) (result : Result Outcome Memory) → length text ≤ most_bytes → IsPlanOf text steps → AnswersStrip steps (Err (stops.Refused r)) → IfOk result (λ o. o ≡ refuses nothing r) → IfOk result (StripsText text)

@@ -30,7 +30,7 @@ did words old new s (came o due (put_failed f is a b g h i)) m first answer = ab
 did words old new s (came o due (put_no_memory f is a b g)) m first answer = absurd (subst IsAnswer is answer)
 did words old new s (came o due (print_failed is a b g h i has_text)) m first answer = absurd (subst IsAnswer is answer)
 did words old new s (came o due (print_no_memory is a b g has_text)) m first answer = absurd (subst IsAnswer is answer)
-did words old new s (read_failed c is_command is a b g h) m first answer = absurd (subst IsAnswer is answer)
+did words old new s (read_failed (c, is_command, a) is b g h) m first answer = absurd (subst IsAnswer is answer)
 did words old new s (no_memory is a b) m first answer = absurd (subst IsAnswer is answer)
 
 -- ---- refusals

@@ -12,14 +12,14 @@ use Rattle.kp_run.specs.Solved.{SolveIsTrue, ClassicalIsTrue}
 abbrev pub IsSoundRun : Ending
 IsSoundRun words old new s = (before after : FileMap) (c : Translate) → old.held ≡ Some before → new.held ≡ Some after → IsTranslate words c → s ≡ status.Done → IsSound before after c
 
--- a `lift` loses no plan of the files of a `translate` that told `complete`, where it is said so how that one ended
+-- a `lift` loses no plan of the files of a `translate` that told `complete`; `ends` says how that one ended, and in `run` it is `Ends`
 abbrev pub IsCompleteRun : Ending → Ending
 IsCompleteRun ends words old new s = (c : Lift) → IsLift words c → LosesNoPlan ends c old new s
 
 -- what a `solve` says of its files is true
-abbrev pub IsTrueSolve : Ending
-IsTrueSolve words old new s = (m : FileMap) (c : Solve) → old.held ≡ Some m → IsSolve words c → SolveIsTrue m c old new s
+abbrev pub IsSolveRun : Ending
+IsSolveRun words old new s = (m : FileMap) (c : Solve) → old.held ≡ Some m → IsSolve words c → SolveIsTrue m c old new s
 
 -- and what a `classical` says of its own
-abbrev pub IsTrueClassical : Ending
-IsTrueClassical words old new s = (m : FileMap) (c : Classical) → old.held ≡ Some m → IsClassical words c → ClassicalIsTrue m c old new s
+abbrev pub IsClassicalRun : Ending
+IsClassicalRun words old new s = (m : FileMap) (c : Classical) → old.held ≡ Some m → IsClassical words c → ClassicalIsTrue m c old new s

@@ -10,12 +10,13 @@ use Rattle.kp_classic.specs.declared.task.Task.{Task}
 use Rattle.kp_law_ktask.specs.Accepted.{operator_step}
 use Rattle.kp_plans.specs.Printed.{plan_text}
 use Rattle.kp_run_outcome.specs.declared.outcome.Outcome.{Outcome}
+use Rattle.kp_run_outcome.specs.Printing.{prints}
 use Rattle.kp_words.specs.Names.{Translate, Source}
 use Rattle.kp_outside.specs.Outside.{IsFront}
 use Rattle.kp_base.specs.Files.{most_bytes}
 use Rattle.kp_run_inputs.specs.SourceTables.{IsOrigin}
 use Rattle.kp_run.specs.declared.sourced.Sourced.{Sourced}
-use Rattle.kp_run.specs.Outcomes.{translates, prints}
+use Rattle.kp_run.specs.Outcomes.{translates}
 
 -- both files are put, and it is told which targets aren't covered
 pub record IsPut (c : Translate) (g : Ground) (i : Initial) (table : TagTable) (o : Outcome) : Type 0 where

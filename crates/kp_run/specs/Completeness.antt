@@ -26,7 +26,7 @@ pub record PrintsComplete (text : List ℕ) : Type 0 where
 abbrev pub Ending : Type 1
 Ending = List (Vec ℕ Global) → Outside → Outside → Status → Type 0
 
--- a translation ran and ended with Done: what was held under each name before and after is told, and so is what it told; and its last line was `complete`
+-- a translation ran and ended with Done: the shelf tells what was held before and after it, the sink what was printed, and the last printed line is `complete`
 pub record RanComplete (ends : Ending) (words : List (Vec ℕ Global)) (t : Translate) (before after : FileMap) : Type 0 where
   pub old : Outside
   pub new : Outside
@@ -83,7 +83,7 @@ pub record IsLiftedTo (t : Translate) (after : FileMap) (plan : List Step) (old 
   pub told : new.told ≡ with_bytes old.told (plan_text written)
   pub told_reads : IsTextOf (plan_text written) written
 
--- the lift ended with such lines (`IsLiftedTo`); or memory ran out, or a call of the outside failed
+-- the lift ended with such lines (`IsLiftedTo`); or with want of memory, or with a fault of reading or of writing
 abbrev pub EndsLifted : Translate → FileMap → List Step → Outside → Outside → Status → Type 0
 EndsLifted t after plan old new s = IsLiftedTo t after plan old new s ⊎ (s ≡ status.Memory) ⊎ (s ≡ status.ReadFault) ⊎ (s ≡ status.WriteFault)
 
@@ -91,7 +91,7 @@ EndsLifted t after plan old new s = IsLiftedTo t after plan old new s ⊎ (s ≡
 abbrev pub LosesNoPlan : Ending → Lift → Outside → Outside → Status → Type 0
 LosesNoPlan ends c old new s = (words : List (Vec ℕ Global)) (t : Translate) (before after now : FileMap) (plan : List Step) → RanComplete ends words t before after → old.held ≡ Some now → IsOfTheSame t before c now → HoldsPlan now c plan → EndsLifted t after plan old new s
 
--- ---- without a lift
+-- ---- a law, to which no clause leads: without a lift
 
 -- Whenever a translation told `complete`, each plan of the two files that it read, of any length, is the strip of a plan of the two that it put. So a solvable problem stays solvable.
 abbrev pub StaysSolvable : Ending → Type 0

@@ -17,5 +17,5 @@ InputFails words held old new = (c : Command) × IsCommand words c × GetFails (
 -- A run ends with a status: the outcome that is due was carried out as far as the run came; or, before that, a get of one of the input names failed, or memory ran out.
 pub data Ends (words : List (Vec ℕ Global)) (old new : Outside) (s : Status) : Type 0 where
   came : (o : Outcome) → IsDue words old.held o → CarriesOut o old new s → Ends words old new s
-  read_failed : (c : Command) → IsCommand words c → s ≡ status.ReadFault → GetFails (inputs_of c) old.held old.get_faults new.get_faults → NoPutFailed old new → NoWriteFailed old new → IsUntouched old new → Ends words old new s
+  read_failed : InputFails words old.held old.get_faults new.get_faults → s ≡ status.ReadFault → NoPutFailed old new → NoWriteFailed old new → IsUntouched old new → Ends words old new s
   no_memory : s ≡ status.Memory → NothingFailed old new → IsUntouched old new → Ends words old new s

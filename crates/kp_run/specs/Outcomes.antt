@@ -18,7 +18,7 @@ use Rattle.kp_law_ktask.specs.Task.{task_of}
 use Rattle.kp_law_ktask.specs.Accepted.{IsAccepted}
 use Rattle.kp_ktask.specs.Translated.{FitsLimits, RefusesTask}
 use Rattle.kp_ktask_texts.specs.Translations.{translation_with}
-use Rattle.kp_law_translation.specs.Translations.{ground_of, initial_of}
+use Rattle.kp_law_translation.specs.OfTrees.{ground_of, initial_of}
 use Rattle.kp_tags_files.specs.Printed.{merges_of, merges_text}
 use Rattle.kp_width.specs.declared.report.WidthReport.{WidthReport}
 use Rattle.kp_width.specs.declared.report.WidthReport.TheVariants.{Within, Over}
@@ -43,6 +43,7 @@ use Rattle.kp_run_outcome.specs.declared.outcome.Outcome.{Outcome}
 use Rattle.kp_run_outcome.specs.declared.status.Status.TheVariants as status
 use Rattle.kp_base.specs.Files.{most_bytes}
 use Rattle.kp_run_outcome.specs.Ends.{AreHeld}
+use Rattle.kp_run_outcome.specs.Printing.{prints, denies}
 use Rattle.kp_words.specs.Names.{of_mode, Translate, Merges, Strip, Check, Lift, Solve, Classical, Width, Bench}
 use Rattle.kp_words.specs.declared.lent.CommandRef.{CommandRef as Command}
 use Rattle.kp_words.specs.declared.lent.CommandRef.TheVariants as commands
@@ -52,7 +53,7 @@ use Rattle.kp_run_prepare.specs.Prepared.{usual, Comes}
 use Rattle.kp_run_classical.specs.Classical.{ComesClassical, task_of as classical_task}
 use Rattle.kp_run_inputs.specs.SourceTables.{ComesByTable}
 use Rattle.kp_run_inputs.specs.Actions.{ComesByPlan}
-use Rattle.kp_run_solve.specs.Solving.{denies, SolvesGround, SolvesClassical}
+use Rattle.kp_run_solve.specs.Solving.{SolvesGround, SolvesClassical}
 use Rattle.kp_run_bench.specs.Bench.{Benches}
 
 -- ---- outcomes
@@ -60,10 +61,6 @@ use Rattle.kp_run_bench.specs.Bench.{Benches}
 -- the usage is printed
 abbrev pub shows_usage : Outcome
 shows_usage = record { status = status.Usage; puts = []; text = usage_text }
-
--- a text is printed, and nothing is put
-abbrev pub prints : List ℕ → Outcome
-prints text = record { status = status.Done; puts = []; text = text }
 
 -- the two files of a ground problem with a table are put under the output names; the counts are printed, and whether the table is complete, with the targets that it doesn't cover
 abbrev pub translates : Translate → Ground → TagTable → List Lit → Outcome
@@ -80,7 +77,7 @@ pub data TranslatesGround (c : Translate) (g : Ground) (i : Initial) (table : Ta
   over : (r : Refused) → RefusesTask (task_of g table) usual r → o ≡ refuses nothing r → TranslatesGround c g i table o
   done : (uncovered : List Lit) → FitsLimits (task_of g table) usual → AreUncovered g i table uncovered → o ≡ translates c g table uncovered → TranslatesGround c g i table o
 
--- two trees are translated to this, with the table of the command's source, to which these texts belong
+-- two trees are translated to this, with the table of the command's source; `merges` has the text of its file of merges, if it names one
 abbrev pub TranslatesTrees : Translate → List (List ℕ) → trees.Domain Word → trees.Problem Word → Outcome → Type 0
 TranslatesTrees c merges d p o = ComesByTable (ground_of d p) (initial_of d p) c.source merges (TranslatesGround c (ground_of d p) (initial_of d p)) o
 
@@ -148,7 +145,7 @@ pub data LiftsPlan (g : Ground) (plan : List ℕ) (table : TagTable) (o : Outcom
   no_task : (r : Refused) → RefusesTask (task_of g table) usual r → o ≡ refuses nothing r → LiftsPlan g plan table o
   with_task : FitsLimits (task_of g table) usual → ComesByPlan g plan (LiftsActions g table) o → LiftsPlan g plan table o
 
--- two trees and a plan are lifted to this, with the table of the command's source, to which these texts belong
+-- two trees and a plan are lifted to this, with the table of the command's source; `merges` has the text of its file of merges, if it names one
 abbrev pub LiftsTrees : Lift → List (List ℕ) → List ℕ → trees.Domain Word → trees.Problem Word → Outcome → Type 0
 LiftsTrees c merges plan d p o = ComesByTable (ground_of d p) (initial_of d p) c.source merges (LiftsPlan (ground_of d p) plan) o
 
@@ -158,7 +155,7 @@ LiftsTexts c domain problem merges plan o = Comes c.implicates domain problem (L
 
 -- ---- `solve`
 
--- two trees are solved to this, with the table of the command's source, to which these texts belong
+-- two trees are solved to this, with the table of the command's source; `merges` has the text of its file of merges, if it names one
 abbrev pub SolvesTrees : Solve → List (List ℕ) → trees.Domain Word → trees.Problem Word → Outcome → Type 0
 SolvesTrees c merges d p o = ComesByTable (ground_of d p) (initial_of d p) c.source merges (SolvesGround c.classical c.budget (ground_of d p) (initial_of d p)) o
 

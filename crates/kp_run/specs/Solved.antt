@@ -15,10 +15,10 @@ use Rattle.kp_classic.specs.declared.task.Task.{Task}
 use Rattle.kp_plans.specs.Printed.{plan_text, IsTextOf}
 use Rattle.kp_search.specs.declared.found.Found.TheVariants.{Spent}
 use Rattle.kp_search.specs.Ends.{HasMoreStates}
+use Rattle.kp_write.specs.Named.{domain_of, problem_of}
 use Rattle.kp_law_ktask.specs.Task.{task_of}
 use Rattle.kp_ktask.specs.Translated.{FitsLimits}
-use Rattle.kp_law_translation.specs.Translations.{ground_of, initial_of}
-use Rattle.kp_law_translation.specs.Written.{translation_of}
+use Rattle.kp_law_translation.specs.OfTrees.{ground_of, initial_of}
 use Rattle.kp_run_messages.specs.Searches.{no_plan_line, no_plan_text, spent_text}
 use Rattle.kp_outside.specs.Outside.{FileMap, with_file, with_bytes}
 use Rattle.kp_run_outcome.specs.declared.status.Status.{Status}
@@ -80,9 +80,9 @@ its_formula x = initial_of x.domain_tree x.problem_tree
 abbrev pub its_task : Posed → Task
 its_task x = task_of (its_ground x) x.table
 
--- the steps are a plan of these two files
+-- the steps are a plan of these two files, its domain and its problem
 abbrev pub IsWrittenPlan : Posed → List Step → Type 0
-IsWrittenPlan x steps = IsPlan (translation_of x.domain_tree x.problem_tree x.table).domain (translation_of x.domain_tree x.problem_tree x.table).problem steps
+IsWrittenPlan x steps = IsPlan (domain_of (its_task x)) (problem_of (its_task x)) steps
 
 -- what a call to solve is about: the two files that are held, and their trees, with which it goes on; and the table that its source has for them
 pub record IsPosed (m : FileMap) (c : Solve) : Type 0 where

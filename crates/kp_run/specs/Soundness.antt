@@ -8,7 +8,7 @@ use Rattle.kp_tree_grammar.specs.Trees.{Domain, Problem}
 use Rattle.kp_names_semantics.specs.Plans.{HasProblem}
 use Rattle.kp_names_semantics.specs.Initial.{HasInitialState}
 use Rattle.kp_names_semantics.specs.Strip.{PlansStrip}
-use Rattle.kp_law_translation.specs.Translations.{ground_of, initial_of}
+use Rattle.kp_law_translation.specs.OfTrees.{ground_of, initial_of}
 use Rattle.kp_outside.specs.Outside.{FileMap}
 use Rattle.kp_run_outcome.specs.Ends.{AreHeld}
 use Rattle.kp_run_inputs.specs.SourceTables.{HasTable}

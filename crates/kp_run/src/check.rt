@@ -8,8 +8,8 @@ ghost use Rattle.kp_primes.specs.Held.{formula};
 ghost use Rattle.kp_run_prepare.specs.Prepared.{IsUsable};
 ghost use Rattle.kp_run_inputs.specs.Actions.{ComesByPlan};
 ghost use Rattle.kp_run_messages.specs.Counterexamples.{counterexample_text};
-ghost use Rattle.kp_run_solve.specs.Solving.{denies};
-ghost use Rattle.kp_run.specs.Outcomes.{prints, tells, TellsJudged, ChecksTexts};
+ghost use Rattle.kp_run_outcome.specs.Printing.{prints, denies};
+ghost use Rattle.kp_run.specs.Outcomes.{tells, TellsJudged, ChecksTexts};
 
 use crate::outcomes::{failing, print_text};
 use kp_base::{AtomId, Ground, Lit, Memory, Row};

@@ -10,7 +10,7 @@ ghost use Rattle.kp_words.specs.Owned.{command_view};
 ghost use Rattle.kp_run.specs.Outcomes.{ComesTo, IsDue};
 ghost use Rattle.kp_run.specs.Sized.{IsSized};
 ghost use Rattle.kp_run.specs.Ends.{Ends, InputFails};
-ghost use Rattle.kp_run.specs.Clauses.{IsSoundRun, IsCompleteRun, IsTrueSolve, IsTrueClassical};
+ghost use Rattle.kp_run.specs.Clauses.{IsSoundRun, IsCompleteRun, IsSolveRun, IsClassicalRun};
 
 use crate::check::check_texts;
 use crate::classical::classical_texts;
@@ -288,17 +288,19 @@ pub fn run<S: Shelf, O: Sink>(
 ) -> Status
     // The outcome that is due is carried out as far as the run comes, or a read fails, or memory runs out before.
     ensures ends { over S.Shelf O.Sink shelf.old shelf.new out.old out.new (Ends words.now) result }
-    // With Done, what was read has a problem with an initial state, in which no action clashes, each merge of its table is
-    // valid, and each plan of what was put strips to a plan of it.
+    // Of a `translate`, where the shelf tells what it holds: with Done, what was read has a problem with an initial state, in
+    // which no action clashes, each merge of its table is valid, and each plan of what was put strips to a plan of it.
     ensures sound { over S.Shelf O.Sink shelf.old shelf.new out.old out.new (IsSoundRun words.now) result }
-    // Take a run of `translate` on files with the same contents that told `complete`. For each plan of these files, a lift
-    // tells a plan of the files that `translate` wrote, which strips to it; or memory ran out, or the outside failed.
+    // Of a `lift`, where the shelf tells what it holds. Take a run of `translate` on files with the same contents, with the
+    // same mode or merges and no greater limit of prime implicates, that told `complete`; and let the plan file, within the
+    // limit of bytes, hold a plan of these files. The lift told a plan of the files that `translate` wrote, which strips to
+    // it; or memory ran out, or the outside failed.
     ensures complete { over S.Shelf O.Sink shelf.old shelf.new out.old out.new (IsCompleteRun Ends words.now) result }
-    // With Done, what a call to solve told is a plan of its two files; with Negative, what `translate` writes for them has
-    // none; with Spent, there are more states than its budget says.
-    ensures solve { over S.Shelf O.Sink shelf.old shelf.new out.old out.new (IsTrueSolve words.now) result }
+    // Of a `solve`, where the shelf tells what it holds: with Done, what was told is a plan of its two files; with Negative,
+    // what `translate` writes for them has none; with Spent, more states can be reached there than its budget says.
+    ensures solve { over S.Shelf O.Sink shelf.old shelf.new out.old out.new (IsSolveRun words.now) result }
     // And so it is of the files of `classical`.
-    ensures classical { over S.Shelf O.Sink shelf.old shelf.new out.old out.new (IsTrueClassical words.now) result }
+    ensures classical { over S.Shelf O.Sink shelf.old shelf.new out.old out.new (IsClassicalRun words.now) result }
 {
     match due(alloc, words, shelf) {
         Ok(outcome) => carry_out(alloc, outcome, shelf, out),

@@ -13,7 +13,7 @@ ghost use Rattle.kp_base.specs.Implicates.{IsOfItsAtoms};
 ghost use Rattle.kp_base.specs.Files.{most_bytes};
 ghost use Rattle.kp_lift.specs.Lifting.{IsTableOn};
 ghost use Rattle.kp_run_messages.specs.Lifting.{unlifted_text};
-ghost use Rattle.kp_run_solve.specs.Solving.{denies};
+ghost use Rattle.kp_run_outcome.specs.Printing.{denies};
 ghost use Rattle.kp_run.specs.Outcomes.{LiftsActions, LiftsPlan, LiftsTexts};
 ghost use Rattle.kp_run.specs.CommandParts.{PrintsOperators};
 

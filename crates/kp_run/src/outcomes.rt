@@ -1,7 +1,8 @@
 ghost use Rattle.std.specs.Prelude.{◌≡◌, ◌∷◌, [], IfOk, OnOk, ◌++◌};
 ghost use Rattle.kp_run_messages.specs.Coverage.{coverage_text};
 ghost use Rattle.kp_ktask_texts.specs.Translations.{translation_with};
-ghost use Rattle.kp_run.specs.Outcomes.{shows_usage, translates, prints, failing_step};
+ghost use Rattle.kp_run.specs.Outcomes.{shows_usage, translates, failing_step};
+ghost use Rattle.kp_run_outcome.specs.Printing.{prints};
 
 use kp_base::{Ground, Lit, Memory, Row, TagTable, Text};
 use kp_ktask_texts::Translation;

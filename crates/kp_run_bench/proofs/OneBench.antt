@@ -19,8 +19,8 @@ use Rattle.kp_search.specs.declared.found.Found.{Found}
 use Rattle.kp_search.specs.declared.found.Found.TheVariants.{Plan, NoPlan, Spent}
 use Rattle.kp_search.proofs.Public.{has_one_end_by_added}
 use Rattle.kp_law_ktask.specs.Task.{task_of}
-use Rattle.kp_law_ktask.specs.Laws.{op_number}
-use Rattle.kp_law_translation.specs.Translations.{ground_of, initial_of}
+use Rattle.kp_law_ktask.specs.Accepted.{op_number}
+use Rattle.kp_law_translation.specs.OfTrees.{ground_of, initial_of}
 use Rattle.kp_law_translation.proofs.Public.{initial_states_are_models}
 use Rattle.kp_run_messages.specs.Refusals.{nothing}
 use Rattle.kp_run_messages.specs.Searches.{no_plan_text}
@@ -32,9 +32,9 @@ use Rattle.kp_run_prepare.proofs.Public.{comes_to_one_outcome}
 use Rattle.kp_run_inputs.proofs.Public.{by_table_one_outcome}
 use Rattle.kp_ktask.proofs.Public.{task_refused_once, task_refused_or_within}
 use Rattle.kp_run_solve.specs.Operators.{acts_among}
-use Rattle.kp_run_solve.specs.Solving.{denies}
+use Rattle.kp_run_outcome.specs.Printing.{prints, denies}
 use Rattle.kp_run_bench.specs.Summary.{summary_text}
-use Rattle.kp_run_bench.specs.Bench.{texts_of, usual_implicates, sums_up, SumsUp, TellsBench, BenchesGround, over, searched, BenchesTrees}
+use Rattle.kp_run_bench.specs.Bench.{texts_of, usual_implicates, SumsUp, TellsBench, BenchesGround, over, searched, BenchesTrees}
 use Rattle.kp_run_bench.specs.Laws.{BenchesHaveOneOutcome}
 
 -- ---- the actions of a plan
@@ -70,8 +70,8 @@ same_actions c g i table ops n o u some a b = actions_of c g i table ops n o som
 
 told_once : (c : Bench) (g : Ground) (i : Initial) (table : TagTable) → HasModel i → (found : Found) (o u : Outcome) → TellsBench c g i table found o → TellsBench c g i table found u → o ≡ u
 told_once c g i table some (Plan ops n) o u a b =
-    a.told ∙ (ap (λ (ls : List Lit). sums_up (summary_text c g table ls (length (stripped a.machine)) n)) (uncovered_once g i table a.uncovered b.uncovered a.are_uncovered b.are_uncovered)
-    ∙ (ap (λ (ns : List ℕ). sums_up (summary_text c g table b.uncovered (length ns) n)) (same_actions c g i table ops n o u some a b) ∙ sym b.told))
+    a.told ∙ (ap (λ (ls : List Lit). prints (summary_text c g table ls (length (stripped a.machine)) n)) (uncovered_once g i table a.uncovered b.uncovered a.are_uncovered b.are_uncovered)
+    ∙ (ap (λ (ns : List ℕ). prints (summary_text c g table b.uncovered (length ns) n)) (same_actions c g i table ops n o u some a b) ∙ sym b.told))
 told_once c g i table some NoPlan o u a b = a.2 ∙ (ap (λ ls. denies (no_plan_text ls)) (uncovered_once g i table a.0 b.0 a.1 b.1) ∙ sym b.2)
 told_once c g i table some (Spent n) o u a b = a ∙ sym b
 

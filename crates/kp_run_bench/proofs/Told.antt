@@ -15,6 +15,7 @@ use Rattle.kp_law_ktask.specs.Task.{task_of}
 use Rattle.kp_ktask.specs.Translated.{FitsLimits, RefusesTask}
 use Rattle.kp_run_messages.specs.Refusals.{nothing}
 use Rattle.kp_run_outcome.specs.declared.outcome.Outcome.{Outcome}
+use Rattle.kp_run_outcome.specs.Printing.{prints}
 use Rattle.kp_words.specs.Names.{Bench}
 use Rattle.kp_run_prepare.specs.Refusing.{refuses}
 use Rattle.kp_run_prepare.specs.Prepared.{usual}
@@ -22,7 +23,7 @@ use Rattle.kp_run_solve.specs.Operators.{step_of, acts_among}
 use Rattle.kp_run_solve.specs.Solving.{Finds}
 use Rattle.kp_run_solve.proofs.Public.{actions_among_steps, operator_numbers_back}
 use Rattle.kp_run_bench.specs.Summary.{summary_text}
-use Rattle.kp_run_bench.specs.Bench.{sums_up, SumsUp, TellsBench, BenchesGround, over, searched}
+use Rattle.kp_run_bench.specs.Bench.{SumsUp, TellsBench, BenchesGround, over, searched}
 
 -- a task is refused
 pub task_refused : (c : Bench) (g : Ground) (i : Initial) (table : TagTable) (x : Refused) (r : Result Outcome Memory) → RefusesTask (task_of g table) usual x → IfOk r (λ o. o ≡ refuses nothing x) → IfOk r (BenchesGround c g i table)
@@ -42,13 +43,13 @@ found_told c g i table task budget found (Ok o) finds told = (found, finds, told
 found_told c g i table task budget found (Err m) finds told = tt
 
 -- a summary is printed
-pub summary_printed : (c : Bench) (g : Ground) (i : Initial) (table : TagTable) (ls : List Lit) (steps expanded : ℕ) (o : Outcome) → AreUncovered g i table ls → o ≡ sums_up (summary_text c g table ls steps expanded)
-    → (uncovered : List Lit) × AreUncovered g i table uncovered × (o ≡ sums_up (summary_text c g table uncovered steps expanded))
+pub summary_printed : (c : Bench) (g : Ground) (i : Initial) (table : TagTable) (ls : List Lit) (steps expanded : ℕ) (o : Outcome) → AreUncovered g i table ls → o ≡ prints (summary_text c g table ls steps expanded)
+    → (uncovered : List Lit) × AreUncovered g i table uncovered × (o ≡ prints (summary_text c g table uncovered steps expanded))
 summary_printed c g i table ls steps expanded o are is = (ls, are, is)
 
 -- it is that of a plan, of which these are the actions
 pub plan_told : (c : Bench) (g : Ground) (i : Initial) (table : TagTable) (ops numbers : List ℕ) (expanded : ℕ) (r : Result Outcome Memory) → numbers ≡ acts_among (length g.actions) ops → IsGroundPlan g i numbers
-    → IfOk r (λ o. (uncovered : List Lit) × AreUncovered g i table uncovered × (o ≡ sums_up (summary_text c g table uncovered (length numbers) expanded))) → IfOk r (SumsUp c g i table ops expanded)
+    → IfOk r (λ o. (uncovered : List Lit) × AreUncovered g i table uncovered × (o ≡ prints (summary_text c g table uncovered (length numbers) expanded))) → IfOk r (SumsUp c g i table ops expanded)
 plan_told c g i table ops numbers expanded (Ok o) are works h =
     let same : numbers ≡ stripped (map (step_of g) ops) = are ∙ sym (actions_among_steps g ops) in
     record {
@@ -57,6 +58,6 @@ plan_told c g i table ops numbers expanded (Ok o) are works h =
       works = subst (IsGroundPlan g i) same works;
       uncovered = h.0;
       are_uncovered = h.1;
-      told = h.2 ∙ ap (λ (ns : List ℕ). sums_up (summary_text c g table h.0 (length ns) expanded)) same;
+      told = h.2 ∙ ap (λ (ns : List ℕ). prints (summary_text c g table h.0 (length ns) expanded)) same;
     }
 plan_told c g i table ops numbers expanded (Err m) are works h = tt

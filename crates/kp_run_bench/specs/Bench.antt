@@ -14,14 +14,15 @@ use Rattle.kp_tree_grammar.specs.Trees.{Domain, Problem}
 use Rattle.kp_search.specs.declared.found.Found.{Found}
 use Rattle.kp_search.specs.declared.found.Found.TheVariants.{Plan, NoPlan, Spent}
 use Rattle.kp_law_ktask.specs.Task.{task_of}
-use Rattle.kp_law_ktask.specs.Laws.{op_number}
+use Rattle.kp_law_ktask.specs.Accepted.{op_number}
 use Rattle.kp_ktask.specs.Translated.{FitsLimits, RefusesTask}
-use Rattle.kp_law_translation.specs.Translations.{ground_of, initial_of}
+use Rattle.kp_law_translation.specs.OfTrees.{ground_of, initial_of}
 use Rattle.kp_gen.specs.Line.{line_texts}
 use Rattle.kp_gen.specs.Bombs.{bombs_texts}
 use Rattle.kp_run_messages.specs.Refusals.{nothing}
 use Rattle.kp_run_outcome.specs.declared.outcome.Outcome.{Outcome}
 use Rattle.kp_run_outcome.specs.declared.status.Status.TheVariants as status
+use Rattle.kp_run_outcome.specs.Printing.{prints}
 use Rattle.kp_words.specs.declared.source.Family.{Family}
 use Rattle.kp_words.specs.declared.source.Family.TheVariants as families
 use Rattle.kp_words.specs.Names.{of_mode, Bench}
@@ -48,10 +49,6 @@ usual_implicates = 20000
 
 -- ---- what is told
 
--- a summary is printed, and nothing is put
-abbrev pub sums_up : List ℕ → Outcome
-sums_up text = record { status = status.Done; puts = []; text = text }
-
 -- Of a plan that was found in the task of a ground problem and a table, given by the numbers of its operators: without its merges its actions work from each model, and the summary is printed, with the number of these actions.
 pub record SumsUp (c : Bench) (g : Ground) (i : Initial) (table : TagTable) (ops : List ℕ) (expanded : ℕ) (o : Outcome) : Type 0 where
   pub machine : List MachineStep
@@ -59,7 +56,7 @@ pub record SumsUp (c : Bench) (g : Ground) (i : Initial) (table : TagTable) (ops
   pub works : IsGroundPlan g i (stripped machine)
   pub uncovered : List Lit
   pub are_uncovered : AreUncovered g i table uncovered
-  pub told : o ≡ sums_up (summary_text c g table uncovered (length (stripped machine)) expanded)
+  pub told : o ≡ prints (summary_text c g table uncovered (length (stripped machine)) expanded)
 
 -- what is told of what is found: the summary of a plan; that there is none, and whether the table is complete; or that the budget is spent
 abbrev pub TellsBench : Bench → Ground → Initial → TagTable → Found → Outcome → Type 0

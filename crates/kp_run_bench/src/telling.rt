@@ -10,8 +10,9 @@ ghost use Rattle.kp_ktask_texts.specs.Translations.{translation_with};
 ghost use Rattle.kp_search.specs.Ends.{Tells};
 ghost use Rattle.kp_run_prepare.specs.Prepared.{usual, IsUsable};
 ghost use Rattle.kp_run_bench.specs.Summary.{summary_text};
-ghost use Rattle.kp_run_bench.specs.Bench.{sums_up, SumsUp, TellsBench};
+ghost use Rattle.kp_run_bench.specs.Bench.{SumsUp, TellsBench};
 ghost use Rattle.kp_run_bench.specs.Working.{ArePlan, IsSafe};
+ghost use Rattle.kp_run_outcome.specs.Printing.{prints};
 
 use crate::judging::{actions_among, judge};
 use crate::summary::summary;
@@ -42,7 +43,7 @@ fn counts_of(alloc: Global, ground: &Ground, table: &TagTable) -> Result<Row<u8>
 
 // A summary is printed.
 fn print_summary(alloc: Global, text: Row<u8>) -> Outcome
-    ensures { result ≡ sums_up text }
+    ensures { result ≡ prints text }
 {
     Outcome {
         status: Status::Done,
@@ -65,7 +66,7 @@ fn sum_up(
     requires relevance { ArePairsOf prepared.now.ground relevance.now }
     requires safe { IsSafe prepared.now.ground (formula prepared.now.primes) table.now }
     requires fits { FitsLimits (task_of prepared.now.ground table.now) usual }
-    ensures { IfOk result (λ o. (uncovered : List Literal) × AreUncovered prepared.now.ground (formula prepared.now.primes) table.now uncovered × (o ≡ sums_up (summary_text command.now prepared.now.ground table.now uncovered steps expanded))) }
+    ensures { IfOk result (λ o. (uncovered : List Literal) × AreUncovered prepared.now.ground (formula prepared.now.primes) table.now uncovered × (o ≡ prints (summary_text command.now prepared.now.ground table.now uncovered steps expanded))) }
 {
     let coverage = coverage(alloc, &prepared.ground, &prepared.primes, relevance, table)?;
     let counts = counts_of(alloc, &prepared.ground, table)?;

@@ -16,7 +16,7 @@ use Rattle.kp_ground_semantics.specs.Ground as by_number
 use Rattle.kp_ground_semantics.specs.Weights.{binding_count, total_weight}
 use Rattle.kp_ground.specs.Grounded.{IsGrounded}
 use Rattle.kp_classic.specs.Steps.{start, succeeds}
-use Rattle.kp_law_translation.specs.Translations.{initial_of}
+use Rattle.kp_law_translation.specs.OfTrees.{initial_of}
 use Rattle.kp_law_translation.proofs.Public.{initial_states_are_models}
 use Rattle.kp_run_classical.specs.Classical.{classical, IsClassicalProblem, RefusesClassical, no_initial_state, task_of}
 use Rattle.kp_run_classical.specs.Laws.{Succeeds, HaveNames}

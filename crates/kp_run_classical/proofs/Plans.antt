@@ -14,7 +14,7 @@ use Rattle.kp_init.proofs.Public.{plan_of_texts}
 use Rattle.kp_classic.specs.Grounded.{SaysOneState, DoesTheSame}
 use Rattle.kp_classic.specs.Steps.{start}
 use Rattle.kp_classic.proofs.Public.{task_succeeds_the_same, task_does_the_same}
-use Rattle.kp_law_translation.specs.Translations.{ground_of, initial_of}
+use Rattle.kp_law_translation.specs.OfTrees.{ground_of, initial_of}
 use Rattle.kp_law_translation.proofs.Public.{initial_states_are_models}
 use Rattle.kp_run_prepare.specs.Texts.{HaveTrees}
 use Rattle.kp_run_prepare.proofs.Public.{problem_of_trees, numbers_of_names_once}

@@ -6,7 +6,7 @@ use Rattle.kp_names_semantics.specs.Steps.{Step}
 use Rattle.kp_names_semantics.specs.Plans.{IsPlan}
 use Rattle.kp_base.specs.ActionNames.{action_name}
 use Rattle.kp_classic.specs.Steps.{start, succeeds}
-use Rattle.kp_law_translation.specs.Translations.{ground_of}
+use Rattle.kp_law_translation.specs.OfTrees.{ground_of}
 use Rattle.kp_run_prepare.specs.Texts.{HaveTrees}
 use Rattle.kp_run_classical.specs.Classical.{IsClassicalProblem, task_of}
 

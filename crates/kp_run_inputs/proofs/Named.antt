@@ -17,7 +17,7 @@ use Rattle.kp_ground_semantics.proofs.Public.{actions_named_once}
 use Rattle.kp_plans.specs.declared.step.PlanStep.{PlanStep}
 use Rattle.kp_plans.specs.PlanFiles.{step_names}
 use Rattle.kp_plans.specs.Found.{action_names, action_of}
-use Rattle.kp_law_translation.specs.Translations.{ground_of}
+use Rattle.kp_law_translation.specs.OfTrees.{ground_of}
 pub use Rattle.kp_run_prepare.proofs.Public.{numbers_of_names_once as numbers_once}
 
 -- ---- the action that a step names has its name

@@ -24,7 +24,7 @@ use Rattle.kp_law_ktask.specs.Weight.{merge_weight}
 use Rattle.kp_law_ktask.proofs.Public.{weight_is_counted}
 use Rattle.kp_ktask.specs.Translated.{FitsLimits}
 use Rattle.kp_tags.specs.MergeTables.{used_tags, numbered}
-use Rattle.kp_law_translation.specs.Translations.{ground_of, initial_of}
+use Rattle.kp_law_translation.specs.OfTrees.{ground_of, initial_of}
 use Rattle.kp_law_translation.specs.Tables.{IsTableFor}
 use Rattle.kp_run_prepare.specs.Prepared.{usual, IsSmall}
 use Rattle.kp_run_prepare.proofs.Public.{usual_ground_is_of_its_atoms}

@@ -26,7 +26,7 @@ use Rattle.kp_run_inputs.specs.declared.origin.Origin.TheVariants as origins
 
 -- ---- tables and refusals
 
--- a ground problem with its initial formula has this table: that of the mode; or that of the merges of the one text that is given
+-- a ground problem with its initial formula has this table, within the limits on tags and sets: that of the mode, where no text is given; or that of the merges of the one text that is
 pub data HasTable (g : Ground) (i : Initial) : Source → List (List ℕ) → TagTable → Type 0 where
   by_mode : (mode : Mode) (table : TagTable) → IsMade mode usual g i table → HasTable g i (of_mode mode) [] table
   by_file : (name text : List ℕ) (ms : List FileMerge) (table : TagTable) → length text ≤ most_bytes → IsMergesOf g.atoms text ms → Accepts (length g.atoms) i ms usual.tags table → HasTable g i (of_file name) (text ∷ []) table

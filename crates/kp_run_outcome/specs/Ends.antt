@@ -56,13 +56,6 @@ pub record IsUntouched (old new : Outside) : Type 0 where
 
 -- ---- an outcome
 
--- the status is an answer, and no fault
-abbrev pub IsAnswer : Status → Type 0
-IsAnswer status.ReadFault = ⊥
-IsAnswer status.WriteFault = ⊥
-IsAnswer status.Memory = ⊥
-IsAnswer _ = Unit {0}
-
 -- what is held once these files are put, in order
 abbrev pub with_files : Option FileMap → List FilePut → Option FileMap
 with_files held [] = held
@@ -90,6 +83,25 @@ abbrev pub AreHeld : Option FileMap → List (List ℕ) → List (List ℕ) → 
 AreHeld None names texts = length texts ≡ length names
 AreHeld (Some m) names texts = map (get m) names ≡ map Some texts
 
+-- a get of one of the names failed, and those before it are held
+pub record GetFails (names : List (List ℕ)) (held : Option FileMap) (old new : List ℕ → ℕ) : Type 0 where
+  pub front : List (List ℕ)
+  pub name : List ℕ
+  pub rest : List (List ℕ)
+  pub in_order : names ≡ front ++ name ∷ rest
+  pub texts : List (List ℕ)
+  pub are_held : AreHeld held front texts
+  pub rises : Rises (old name) (new name)
+
+-- ---- for contracts and laws alone
+
+-- the status is an answer, and no fault
+abbrev pub IsAnswer : Status → Type 0
+IsAnswer status.ReadFault = ⊥
+IsAnswer status.WriteFault = ⊥
+IsAnswer status.Memory = ⊥
+IsAnswer _ = Unit {0}
+
 -- what was read of files with these contents
 pub data AreFronts : List (List ℕ) → List Got → Type 0 where
   none : AreFronts [] []
@@ -100,16 +112,6 @@ pub record AreRead (held : Option FileMap) (names : List (List ℕ)) (gots : Lis
   pub texts : List (List ℕ)
   pub are_held : AreHeld held names texts
   pub are_fronts : AreFronts texts gots
-
--- a get of one of the names failed, and those before it are held
-pub record GetFails (names : List (List ℕ)) (held : Option FileMap) (old new : List ℕ → ℕ) : Type 0 where
-  pub front : List (List ℕ)
-  pub name : List ℕ
-  pub rest : List (List ℕ)
-  pub in_order : names ≡ front ++ name ∷ rest
-  pub texts : List (List ℕ)
-  pub are_held : AreHeld held front texts
-  pub rises : Rises (old name) (new name)
 
 -- A call that only reads from a shelf: what is held stands, and so do the counts of failed puts. Where a get failed, it is told how; else the counts of failed gets stand, too.
 pub record OnlyReads {S T : Type 0} (s : Shelf S) (old new : S) (fails : Option FileMap → (List ℕ → ℕ) → (List ℕ → ℕ) → Type 0) (result : Result T OutsideStop) : Type 0 where

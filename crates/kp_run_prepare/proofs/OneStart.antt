@@ -16,7 +16,7 @@ use Rattle.kp_names_semantics.specs.Numbered.{Lifted}
 use Rattle.kp_names_semantics.specs.Numbering.{numbered_problem}
 use Rattle.kp_ground_instances.specs.Counts.{IsWithinLimits, RefusesCounts, bindings_over, actions_over, effects_over}
 use Rattle.kp_ground.specs.Grounded.{IsGrounded, RefusesGround, counts_over, atoms_over}
-use Rattle.kp_law_translation.specs.Translations.{ground_of, initial_of}
+use Rattle.kp_law_translation.specs.OfTrees.{ground_of, initial_of}
 use Rattle.kp_run_messages.specs.Refusals.{Named, nothing}
 use Rattle.kp_run_outcome.specs.declared.outcome.Outcome.{Outcome}
 use Rattle.kp_run_prepare.specs.Texts.{HaveTrees}

@@ -7,7 +7,7 @@ use Rattle.kp_names_semantics.specs.Faults.{HasNoFault}
 use Rattle.kp_names_semantics.specs.Plans.{HasProblem}
 use Rattle.kp_base.specs.ActionNames.{action_name}
 use Rattle.kp_ground_semantics.proofs.Public.{actions_named_once}
-use Rattle.kp_law_translation.specs.Translations.{ground_of}
+use Rattle.kp_law_translation.specs.OfTrees.{ground_of}
 use Rattle.kp_run_prepare.specs.Texts.{HaveTrees}
 
 -- the problem of two texts that have these trees

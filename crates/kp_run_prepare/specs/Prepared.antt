@@ -12,7 +12,7 @@ use Rattle.kp_names_semantics.specs.Initial.{HasInitialState}
 use Rattle.kp_names_semantics.specs.Numbering.{numbered_problem}
 use Rattle.kp_ground.specs.Grounded.{IsGrounded, RefusesGround}
 use Rattle.kp_primes.specs.Answers.{HoldsPrimes}
-use Rattle.kp_law_translation.specs.Translations.{ground_of, initial_of}
+use Rattle.kp_law_translation.specs.OfTrees.{ground_of, initial_of}
 use Rattle.kp_run_messages.specs.Refusals.{Named, nothing}
 use Rattle.kp_run_outcome.specs.declared.outcome.Outcome.{Outcome}
 use Rattle.kp_run_prepare.specs.declared.prepared.Prepared.{Prepared as Made}
@@ -31,13 +31,13 @@ usual = record { bindings = 1000000; atoms = 4096; actions = 20000; weight = 400
 abbrev pub IsSmall : Domain Word → Problem Word → Type 0
 IsSmall d p = IsGrounded (numbered_problem d p) usual (ground_of d p)
 
--- so it is, the clauses of `:init` have no more prime implicates than the limit, and some state is initial
+-- a command starts: the ground problem is within the limits, the clauses of `:init` have no more prime implicates than the limit, and some state is initial
 pub record IsStarted (limit : ℕ) (d : Domain Word) (p : Problem Word) : Type 0 where
   pub small : IsSmall d p
   pub counted : IsNeverOver (initial_of d p) limit
   pub initial : HasInitialState p
 
--- and no action clashes: a command goes on
+-- and it goes on: no action clashes, too
 pub record IsPrepared (limit : ℕ) (d : Domain Word) (p : Problem Word) : Type 0 where
   pub started : IsStarted limit d p
   pub clash_free : IsClashFree (ground_of d p) (initial_of d p)
@@ -56,7 +56,7 @@ pub data EndsEarly (limit : ℕ) (domain problem : List ℕ) (o : Outcome) : Typ
   by_texts : (r : Refused) → RefusesTexts domain problem r → o ≡ refuses nothing r → EndsEarly limit domain problem o
   by_trees : (d : Domain Word) (p : Problem Word) (names : Named) (r : Refused) → HaveTrees domain problem d p → RefusesTrees limit d p names r → o ≡ refuses names r → EndsEarly limit domain problem o
 
--- a command that goes on so with two trees comes to this on two texts: it ends early, or goes on
+-- a command comes to this on two texts: it ends early; or it goes on with their trees, and comes to what `goes_on` says of them
 pub data Comes (limit : ℕ) (domain problem : List ℕ) (goes_on : Domain Word → Problem Word → Outcome → Type 0) (o : Outcome) : Type 0 where
   early : EndsEarly limit domain problem o → Comes limit domain problem goes_on o
   later : (d : Domain Word) (p : Problem Word) → HaveTrees domain problem d p → IsPrepared limit d p → goes_on d p o → Comes limit domain problem goes_on o

@@ -14,17 +14,17 @@ use Rattle.kp_search.specs.declared.found.Found.{Found}
 use Rattle.kp_search.specs.declared.found.Found.TheVariants.{Plan, NoPlan, Spent}
 use Rattle.kp_write.specs.Tasks.{op_step}
 use Rattle.kp_law_ktask.specs.Task.{op_of, merge_op, task_of}
-use Rattle.kp_law_ktask.specs.Laws.{op_number}
 use Rattle.kp_base.specs.ActionNames.{action_name}
-use Rattle.kp_law_ktask.specs.Accepted.{step_at}
+use Rattle.kp_law_ktask.specs.Accepted.{op_number, step_at}
 use Rattle.kp_lift.specs.Lifting.{IsThere}
 use Rattle.kp_run_messages.specs.Refusals.{nothing}
 use Rattle.kp_run_messages.specs.Searches.{no_plan_text}
 use Rattle.kp_run_outcome.specs.declared.outcome.Outcome.{Outcome}
+use Rattle.kp_run_outcome.specs.Printing.{denies}
 use Rattle.kp_run_prepare.specs.Refusing.{refuses}
 use Rattle.kp_run_prepare.specs.Prepared.{usual}
 use Rattle.kp_ktask.proofs.Public.{task_refused_once, task_refused_or_within}
-use Rattle.kp_run_solve.specs.Solving.{solves, denies, AreNamed, TellsSolved, over, searched, TellsClassical}
+use Rattle.kp_run_solve.specs.Solving.{solves, AreNamed, TellsSolved, over, searched, TellsClassical}
 use Rattle.kp_run_solve.specs.Laws.{SolvingsHaveOneOutcome, ClassicalSolvingsHaveOneOutcome}
 use Rattle.kp_search.proofs.Public.{has_one_end_by_added}
 

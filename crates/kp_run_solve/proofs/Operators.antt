@@ -10,9 +10,8 @@ use Rattle.kp_base.specs.Machine.{MachineStep, stripped}
 use Rattle.kp_base.proofs.Places.{element}
 use Rattle.kp_names_semantics.specs.Steps.{Step}
 use Rattle.kp_law_ktask.specs.Task.{task_of}
-use Rattle.kp_law_ktask.specs.Laws.{op_number}
 use Rattle.kp_base.specs.ActionNames.{action_name}
-use Rattle.kp_law_ktask.specs.Accepted.{operator_step, step_at}
+use Rattle.kp_law_ktask.specs.Accepted.{op_number, operator_step, step_at}
 use Rattle.kp_lift.specs.Lifting.{IsThere}
 use Rattle.kp_lift.proofs.Public.{operators_are_counted, operators_are_steps}
 use Rattle.kp_run_solve.specs.Operators.{step_of, acts_among, NameActions}

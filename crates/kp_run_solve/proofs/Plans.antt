@@ -9,9 +9,8 @@ use Rattle.kp_names_semantics.specs.Steps.{Step}
 use Rattle.kp_write.specs.Task.{Op}
 use Rattle.kp_write.specs.Runs.{step_of}
 use Rattle.kp_law_ktask.specs.Task.{task_of}
-use Rattle.kp_law_ktask.specs.Laws.{op_number}
 use Rattle.kp_law_ktask.specs.ByName.{op_at}
-use Rattle.kp_law_ktask.specs.Accepted.{step_at}
+use Rattle.kp_law_ktask.specs.Accepted.{op_number, step_at}
 use Rattle.kp_law_ktask.proofs.Public.{machine_step_is_named, operators_do_machine_steps}
 use Rattle.kp_run_solve.specs.Laws.{NamedPlansAreAccepted, NoPlanIsAccepted}
 

@@ -15,14 +15,14 @@ use Rattle.kp_search.specs.Ends.{HasEnd}
 use Rattle.kp_search.specs.Laws.{by_added}
 use Rattle.kp_plans.specs.Printed.{plan_text}
 use Rattle.kp_law_ktask.specs.Task.{task_of}
-use Rattle.kp_law_ktask.specs.Laws.{op_number}
 use Rattle.kp_base.specs.ActionNames.{action_name}
-use Rattle.kp_law_ktask.specs.Accepted.{step_at}
+use Rattle.kp_law_ktask.specs.Accepted.{op_number, step_at}
 use Rattle.kp_ktask.specs.Translated.{FitsLimits, RefusesTask}
 use Rattle.kp_run_messages.specs.Refusals.{nothing}
 use Rattle.kp_run_messages.specs.Searches.{no_plan_line, no_plan_text, spent_text}
 use Rattle.kp_run_outcome.specs.declared.outcome.Outcome.{Outcome}
 use Rattle.kp_run_outcome.specs.declared.status.Status.TheVariants as status
+use Rattle.kp_run_outcome.specs.Printing.{denies}
 use Rattle.kp_words.specs.Command.{if_named}
 use Rattle.kp_run_prepare.specs.Refusing.{refuses}
 use Rattle.kp_run_prepare.specs.Prepared.{usual}
@@ -38,10 +38,6 @@ Finds t budget found = HasEnd t (by_added t) budget found
 -- a plan is printed, and of the plan of the translation, if a name is given for it, the lines are put under that
 abbrev pub solves : Option (List ℕ) → List Step → List Step → Outcome
 solves name written plan = record { status = status.Done; puts = map (λ n. record { name = n; content = plan_text written }) (if_named name); text = plan_text plan }
-
--- the answer is no, and a text is printed
-abbrev pub denies : List ℕ → Outcome
-denies text = record { status = status.Negative; puts = []; text = text }
 
 -- the budget is spent, so many states having been expanded
 abbrev pub spends : ℕ → Outcome

@@ -10,7 +10,8 @@ ghost use Rattle.kp_words.specs.Command.{if_named};
 ghost use Rattle.kp_run_prepare.specs.Prepared.{IsUsable};
 ghost use Rattle.kp_search.specs.declared.found.Found.TheVariants as ends;
 ghost use Rattle.kp_run_solve.specs.Operators.{IsInside};
-ghost use Rattle.kp_run_solve.specs.Solving.{solves, denies, spends, TellsSolved, TellsClassical, AreNamed};
+ghost use Rattle.kp_run_solve.specs.Solving.{solves, spends, TellsSolved, TellsClassical, AreNamed};
+ghost use Rattle.kp_run_outcome.specs.Printing.{denies};
 
 use crate::names::actions_among;
 use kp_base::{Ground, GroundName, Memory, Row, TagTable, Text};

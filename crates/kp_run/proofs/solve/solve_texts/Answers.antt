@@ -1,5 +1,5 @@
 use Rattle.std.proofs.Common.{ap, subst, IfOk}
-use Rattle.kp_law_translation.specs.Translations.{initial_of}
+use Rattle.kp_law_translation.specs.OfTrees.{initial_of}
 use Rattle.kp_run_prepare.specs.Prepared.{AnswersPrepared}
 use Rattle.kp_words.specs.Names.{Solve}
 use Rattle.kp_run_inputs.specs.SourceTables.{ComesByTable}

@@ -1,6 +1,6 @@
 use Rattle.std.proofs.Common.{◌∙◌, Err, ap, subst}
 use Rattle.kp_plans.specs.Stripping.{AnswersStrip}
-use Rattle.kp_run.specs.Outcomes.{prints}
+use Rattle.kp_run_outcome.specs.Printing.{prints}
 use Rattle.kp_run.proofs.Strips.{refused_step, printed_steps}
 use Rattle.kp_run.proofs.strip.strip_steps.Goals as goal
 

@@ -1,6 +1,6 @@
 use Rattle.std.proofs.Common.{[], subst}
 use Rattle.kp_primes.specs.Held.{formula}
-use Rattle.kp_law_translation.specs.Translations.{initial_of}
+use Rattle.kp_law_translation.specs.OfTrees.{initial_of}
 use Rattle.kp_words.specs.Names.{of_mode, Bench}
 use Rattle.kp_run_inputs.specs.SourceTables.{AnswersTable, HasTable, from_mode}
 use Rattle.kp_run_inputs.proofs.Public.{table_goes, table_ends}

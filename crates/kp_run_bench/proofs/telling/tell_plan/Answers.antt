@@ -7,7 +7,7 @@ use Rattle.kp_primes.specs.Held.{formula}
 use Rattle.kp_check.specs.Judging.{AnswersJudged}
 use Rattle.kp_run_solve.specs.Operators.{acts_among}
 use Rattle.kp_run_bench.specs.Summary.{summary_text}
-use Rattle.kp_run_bench.specs.Bench.{sums_up}
+use Rattle.kp_run_outcome.specs.Printing.{prints}
 use Rattle.kp_run_bench.proofs.Working.{below, work, pass}
 use Rattle.kp_run_bench.proofs.Told.{plan_told}
 use Rattle.kp_run_bench.proofs.telling.tell_plan.Goals as goal
@@ -28,7 +28,7 @@ returns c =
     let ns = c.in_ok-numbers.numbers in
     plan_told t g i c.args.table.now c.args.operators.now ns c.args.expanded c.sum_up.result (c.in_ok-numbers.ensures ∙ ap (acts_among (length g.actions)) c.slice.ensures)
     (subst (AnswersJudged x.primes.atoms g i ns) c.in-Yes.is c.in_ok-judge.ensures)
-    (subst (λ n. IfOk c.sum_up.result (λ o. (uncovered : List Lit) × AreUncovered g i c.args.table.now uncovered × (o ≡ sums_up (summary_text t g c.args.table.now uncovered n c.args.expanded)))) c.len.ensures c.sum_up.ensures)
+    (subst (λ n. IfOk c.sum_up.result (λ o. (uncovered : List Lit) × AreUncovered g i c.args.table.now uncovered × (o ≡ prints (summary_text t g c.args.table.now uncovered n c.args.expanded)))) c.len.ensures c.sum_up.ensures)
 
 -- it can't say no
 pub unreachable-requires : goal.unreachable-requires
