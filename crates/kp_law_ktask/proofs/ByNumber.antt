@@ -7,7 +7,7 @@ use Rattle.kp_base.specs.declared.ground.TagTable.{TagTable}
 use Rattle.kp_base.specs.declared.ground.Merge.{Merge}
 use Rattle.kp_base.specs.Machine.{MachineStep}
 use Rattle.kp_base.proofs.Places.{get_left, get_right}
-use Rattle.kp_write.specs.Task.{Op}
+use Rattle.kp_write.specs.Operators.{Op}
 use Rattle.kp_write.specs.Named.{named_op, named_start}
 use Rattle.kp_write.specs.Runs.{runs}
 use Rattle.kp_names_semantics.specs.Names.{is_among}

@@ -9,7 +9,7 @@ use Rattle.kp_base.specs.Machine.{MachineStep, Known, start as known_at_start, a
 use Rattle.kp_base.proofs.Each.{each_member}
 use Rattle.kp_base.proofs.Lists.{member_at}
 use Rattle.kp_names_semantics.specs.Names.{is_among}
-use Rattle.kp_write.specs.Task.{Op}
+use Rattle.kp_write.specs.Operators.{Op}
 use Rattle.kp_write.specs.Grounds.{IsGroundAction}
 use Rattle.kp_write.specs.Runs.{Facts, after_op}
 use Rattle.kp_law_ktask.specs.Task.{start_of}

@@ -11,7 +11,7 @@ use Rattle.kp_base.specs.Steps as steps
 use Rattle.kp_base.proofs.Sets.{all-set_of}
 use Rattle.kp_names_semantics.specs.Names.{same}
 use Rattle.kp_names_semantics.specs.GroundNames.{IsGroundName, same_name}
-use Rattle.kp_write.specs.Task.{Signed, Effect as TaskEffect}
+use Rattle.kp_write.specs.Operators.{Signed, Effect as TaskEffect}
 use Rattle.kp_write.specs.Facts.{fact_of, opposites, known, support, cancellation}
 use Rattle.kp_write.specs.Grounds.{IsOfAtom, AreOfAtoms, IsGroundEffect, IsGroundAction}
 use Rattle.kp_write.specs.Runs.{Facts, is_so, is_made, after_op}

@@ -12,7 +12,7 @@ use Rattle.kp_base.proofs.Each.{each_member}
 use Rattle.kp_base.proofs.Lists.{member_at, member_map, map_member, number_at, member_left, member_right, append_member}
 use Rattle.kp_names_semantics.specs.Names.{is_among}
 use Rattle.kp_names_semantics.specs.Steps.{Step}
-use Rattle.kp_write.specs.Task.{Op}
+use Rattle.kp_write.specs.Operators.{Op}
 use Rattle.kp_write.specs.Grounds.{IsGroundAction}
 use Rattle.kp_write.specs.Runs.{Facts, after_op, runs, step_of}
 use Rattle.kp_write.specs.Tasks.{op_step}

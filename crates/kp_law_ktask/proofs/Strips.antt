@@ -18,7 +18,7 @@ use Rattle.kp_base.proofs.Lists.{member_at}
 use Rattle.kp_names_semantics.specs.Steps.{Step}
 use Rattle.kp_names_semantics.specs.Encoding.{encoded, decoded}
 use Rattle.kp_names_semantics.specs.Strip.{do_front, is_digit, is_number, strip, stripped_operator}
-use Rattle.kp_write.specs.Task.{Op}
+use Rattle.kp_write.specs.Operators.{Op}
 use Rattle.kp_write.specs.Grounds.{IsGroundAction}
 use Rattle.kp_write.specs.Runs.{step_of}
 use Rattle.kp_write.proofs.Public.{encoded_name_decodes}

@@ -17,7 +17,7 @@ use Rattle.kp_tree_grammar.specs.Words.{IsHead}
 use Rattle.kp_names_semantics.specs.Names.{same}
 use Rattle.kp_names_semantics.specs.Encoding.{encoded}
 use Rattle.kp_names_semantics.specs.GroundNames.{IsGroundName, same_name}
-use Rattle.kp_write.specs.Task.{Op}
+use Rattle.kp_write.specs.Operators.{Op}
 use Rattle.kp_write.specs.Facts.{fact_of, known, opposites}
 use Rattle.kp_write.specs.Grounds.{IsOfAtom, AreOfAtoms, IsGroundEffect, IsGroundAction}
 use Rattle.kp_write.specs.Problems.{AreAmong, IsEffectOn, IsOpOn}

@@ -11,7 +11,7 @@ use Rattle.kp_base.specs.Machine.{MachineStep}
 use Rattle.kp_names_semantics.specs.Encoding.{encoded}
 use Rattle.kp_names_semantics.specs.Strip.{do_front}
 use Rattle.kp_law_ktask.specs.Task.{Fact, name_of_fact, under, facts_of, start_of, merge_word, task_of}
-use Rattle.kp_write.specs.Task.{Op, Effect}
+use Rattle.kp_write.specs.Operators.{Op, Effect}
 use Rattle.kp_write.specs.Facts.{fact_of, known, support, cancellation}
 use Rattle.kp_write.specs.Written.{domain_text, problem_text}
 use Rattle.kp_write.specs.Named.{named_ops, named_start, named_goal}

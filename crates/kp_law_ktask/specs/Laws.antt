@@ -12,7 +12,7 @@ use Rattle.kp_classic.specs.Steps.{start, succeeds}
 use Rattle.kp_names_semantics.specs.Names.{is_among}
 use Rattle.kp_names_semantics.specs.Steps.{Step}
 use Rattle.kp_names_semantics.specs.Plans.{IsPlan}
-use Rattle.kp_write.specs.Task.{Op}
+use Rattle.kp_write.specs.Operators.{Op}
 use Rattle.kp_write.specs.Facts.{fact_of}
 use Rattle.kp_write.specs.Grounds.{IsOfAtom}
 use Rattle.kp_write.specs.Problems.{IsTask}

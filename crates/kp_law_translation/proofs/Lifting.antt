@@ -15,7 +15,7 @@ use Rattle.kp_law_tagged_machine.specs.Completeness.{AreActions}
 use Rattle.kp_law_tagged_machine.proofs.Public.{StandFrom, merges_stand_from_zero, lifted_lists_strip, no_plan_is_lost}
 use Rattle.kp_names_semantics.specs.Steps.{Step}
 use Rattle.kp_init.proofs.Public.{plan_of_texts}
-use Rattle.kp_write.specs.Task.{Op}
+use Rattle.kp_write.specs.Operators.{Op}
 use Rattle.kp_write.specs.Runs.{step_of}
 use Rattle.kp_law_ktask.specs.ByName.{op_of, merge_op, op_at}
 use Rattle.kp_base.specs.ActionNames.{action_name}

@@ -17,7 +17,7 @@ use Rattle.kp_law_tagged_machine.proofs.Public.{accepted_lists_are_plans}
 use Rattle.kp_primes_first_model.specs.Ordered.{state_of_atoms}
 use Rattle.kp_check.specs.declared.answer.Judged.TheVariants.{No}
 use Rattle.kp_check.specs.Judging.{fails, AnswersJudged}
-use Rattle.kp_write.specs.Task.{Op}
+use Rattle.kp_write.specs.Operators.{Op}
 use Rattle.kp_law_ktask.specs.ByName.{op_of, merge_op, op_at}
 use Rattle.kp_law_ktask.specs.Task.{task_of}
 use Rattle.kp_law_ktask.specs.Writable.{IsWritableTask}

@@ -6,7 +6,7 @@ use Rattle.kp_base.specs.declared.ground.TagTable.{TagTable}
 use Rattle.kp_base.specs.Machine.{MachineStep}
 use Rattle.kp_classic.specs.Steps.{start, succeeds}
 use Rattle.kp_names_semantics.specs.Steps.{Step}
-use Rattle.kp_write.specs.Task.{Op}
+use Rattle.kp_write.specs.Operators.{Op}
 use Rattle.kp_write.specs.Runs.{step_of}
 use Rattle.kp_law_ktask.specs.Task.{task_of}
 use Rattle.kp_law_ktask.specs.ByName.{op_at}

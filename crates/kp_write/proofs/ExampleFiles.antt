@@ -10,7 +10,7 @@ use Rattle.kp_base.specs.Lists.{Member}
 use Rattle.kp_names_semantics.specs.Names.{is_among}
 use Rattle.kp_names_semantics.specs.Plans.{IsPlan}
 use Rattle.kp_law_texts.specs.Pieces.{spelling}
-use Rattle.kp_write.specs.Task.{Effect, Op}
+use Rattle.kp_write.specs.Operators.{Effect, Op}
 use Rattle.kp_write.specs.Written.{op, domain_pieces, problem_pieces, domain_text, problem_text}
 use Rattle.kp_lex.specs.Cutting.{IsToken}
 use Rattle.kp_write.specs.Problems.{IsEffectOn, IsTask, HasMeantProblem}

@@ -12,7 +12,7 @@ use Rattle.kp_base.proofs.Lists.{same-refl}
 use Rattle.kp_names_semantics.specs.Names.{Name, same, is_among}
 use Rattle.kp_names_semantics.specs.Faults.{repeated, twice_in, words, head_faults, atom_faults, cond_faults, conds_faults, eff_faults, effs_faults, schema_faults, item_faults, HasNoFault}
 use Rattle.kp_names_semantics.proofs.Public.{places_mean_nothing}
-use Rattle.kp_write.specs.Task.{Signed, Effect, Op}
+use Rattle.kp_write.specs.Operators.{Signed, Effect, Op}
 use Rattle.kp_write.specs.Names.{IsEffect, IsOp, AreHeads}
 use Rattle.kp_write.specs.Trees.{atom_of, fact_holds, signed_holds, made_where, effect_of, schema_of, predicate_of, item_of, written_domain, written_problem}
 use Rattle.kp_write.specs.Problems.{AreAmong, IsEffectOn, IsOpOn, IsTask, WrittenTextsHaveProblem}

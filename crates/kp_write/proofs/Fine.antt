@@ -5,7 +5,7 @@ use Rattle.kp_lex.specs.Bytes.{class_of, follows}
 use Rattle.kp_lex.specs.Cutting.{EndsRunOf}
 use Rattle.kp_tree_grammar.specs.Words.{IsHead}
 use Rattle.kp_law_texts.specs.Pieces.{Piece, right, spelling, Put, each, spaced}
-use Rattle.kp_write.specs.Task.{Signed, Effect, Op}
+use Rattle.kp_write.specs.Operators.{Signed, Effect, Op}
 use Rattle.kp_write.specs.Written.{fact, fact_line, signed_case, signed, conjunction, guarded, effect_line, precondition, op, domain_pieces, problem_pieces}
 use Rattle.kp_law_texts.specs.Tokens.{Fine, done, lefts, rights, blanks, says}
 use Rattle.kp_write.specs.Names.{IsSigned, IsEffect, IsOp, AreHeads, AreOps}

@@ -16,7 +16,7 @@ use Rattle.kp_classic.specs.declared.task.Op.{Op as NumberedOp}
 use Rattle.kp_classic.specs.declared.task.Task.{Task}
 use Rattle.kp_classic.specs.Fits.{are_below, fits, fits_effect, fits_op}
 use Rattle.kp_classic.specs.Steps.{Holding, meets, fires, after, applicable, next, start, succeeds}
-use Rattle.kp_write.specs.Task.{Signed, Op}
+use Rattle.kp_write.specs.Operators.{Signed, Op}
 use Rattle.kp_write.specs.Problems.{AreAmong, IsEffectOn, IsOpOn, IsTask}
 use Rattle.kp_write.specs.Runs.{Facts, is_so, is_made, after_op, runs, step_of}
 use Rattle.kp_write.specs.Named.{fact_name, signed_fact, named_conds, named_effect, named_op, named_ops, named_start, named_goal}

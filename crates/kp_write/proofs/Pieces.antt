@@ -1,7 +1,7 @@
 -- Pieces of a task by number that are written one after the other.
 use Rattle.std.proofs.Common.{◌≡◌, ℕ, ◌<◌, true, false, ◌&&◌, ◌==◌, List, [], ◌∷◌, ◌++◌, map, length, refl, sym, ap, ◌∙◌, append-nil, codes, arith}
 use Rattle.kp_law_texts.specs.Pieces.{Piece, right, spelling, Put, each, ◌⨾◌, Puts, opens, space, line_feed, name, key, spaced}
-use Rattle.kp_write.specs.Task.{Signed, Op}
+use Rattle.kp_write.specs.Operators.{Signed, Op}
 use Rattle.kp_write.specs.Written.{fact, fact_line, signed_case, signed, guarded, when_put, precondition, effect_line, op_front, op_end, op, domain_front, domain_end, domain_pieces, domain_text, problem_pieces, problem_text}
 use Rattle.kp_law_texts.proofs.Public.{wrote_in_front, each-append}
 use Rattle.kp_write.specs.Named.{fact_name, signed_fact}

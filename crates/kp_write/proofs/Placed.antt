@@ -6,7 +6,7 @@ use Rattle.kp_tree_grammar.specs.Trees.{Domain, Problem}
 use Rattle.kp_tree_grammar.specs.TreeMaps.{domain_map, problem_map}
 use Rattle.kp_names_semantics.specs.Names.{Name, same}
 use Rattle.kp_base.proofs.Lists.{same-true, same-refl}
-use Rattle.kp_write.specs.Task.{Op}
+use Rattle.kp_write.specs.Operators.{Op}
 use Rattle.kp_law_texts.specs.Tokens.{text_of}
 use Rattle.kp_write.specs.Trees.{written_domain, written_problem}
 use Rattle.kp_write.proofs.Composed.{domain_twice, problem_twice}

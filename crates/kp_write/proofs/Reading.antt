@@ -8,7 +8,7 @@ use Rattle.kp_tree_grammar.specs.Language.{Cond, Eff, Item, Schema, Domain, Prob
 use Rattle.kp_tree_grammar.specs.Symbols.{symbol_of}
 use Rattle.kp_tree_grammar.proofs.Public.{name_passes}
 use Rattle.kp_law_texts.specs.Pieces.{Piece, right, Put, each, line_feed, name, spaced}
-use Rattle.kp_write.specs.Task.{Signed, Op}
+use Rattle.kp_write.specs.Operators.{Signed, Op}
 use Rattle.kp_write.specs.Written.{fact, fact_line, signed_case, signed, conjunction, guarded, effect_line, precondition, op, domain_pieces, problem_pieces}
 use Rattle.kp_law_texts.specs.Tokens.{words}
 use Rattle.kp_write.specs.Names.{IsSigned, IsEffect, IsOp, AreHeads, AreOps}

@@ -17,7 +17,7 @@ use Rattle.kp_names_semantics.specs.Steps.{fires, all_fire, fits, is_instance, p
 use Rattle.kp_names_semantics.specs.Initial.{item_holds, item_literals, is_of, is_named, IsInitial}
 use Rattle.kp_names_semantics.specs.Plans.{succeeds}
 use Rattle.kp_names_semantics.proofs.Public.{places_mean_nothing, solves_theirs}
-use Rattle.kp_write.specs.Task.{Signed, Effect, Op}
+use Rattle.kp_write.specs.Operators.{Signed, Effect, Op}
 use Rattle.kp_write.specs.Written.{domain_text, problem_text}
 use Rattle.kp_write.specs.Trees.{fact_holds, signed_holds, made_where, effect_of, schema_of, item_of, written_domain, written_problem}
 use Rattle.kp_write.specs.Runs.{Facts, is_so, results, is_made, after_op, runs, step_of, IsRun, PlansAreRuns}

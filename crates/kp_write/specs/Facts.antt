@@ -6,7 +6,7 @@ use Rattle.kp_base.specs.declared.ground.Effect.{Effect as GroundEffect}
 use Rattle.kp_base.specs.Lit.{negated}
 use Rattle.kp_base.specs.LitSet.{set_of}
 use Rattle.kp_names_semantics.specs.Encoding.{encoded}
-use Rattle.kp_write.specs.Task.{Signed, Effect}
+use Rattle.kp_write.specs.Operators.{Signed, Effect}
 
 -- ---- names
 
@@ -35,7 +35,7 @@ fact_of atoms t l = sign_word l.positive ++ (encoded_or_none (slice_get atoms l.
 abbrev pub facts_of_atom : ℕ → GroundName → List (List ℕ)
 facts_of_atom t n = atom_fact t true n ∷ atom_fact t false n ∷ []
 
--- ---- effects
+-- ---- effects by name, for laws alone: what is written has its effects by number, and these are their names
 
 -- the negations of some literals, as a set
 abbrev pub opposites : List Lit → List Lit

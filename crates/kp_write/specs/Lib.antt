@@ -1,4 +1,4 @@
-pub mod Task
+pub mod Operators
 pub mod Written
 pub mod Names
 pub mod Trees

@@ -4,7 +4,7 @@ use Rattle.kp_classic.specs.declared.task.Conds.{Conds}
 use Rattle.kp_classic.specs.declared.task.OpEffect.{OpEffect}
 use Rattle.kp_classic.specs.declared.task.Op.{Op as NumberedOp}
 use Rattle.kp_classic.specs.declared.task.Task.{Task}
-use Rattle.kp_write.specs.Task.{Signed, Effect, Op}
+use Rattle.kp_write.specs.Operators.{Signed, Effect, Op}
 use Rattle.kp_write.specs.Written.{domain_text, problem_text}
 
 -- the name of a fact; empty where there is no such fact

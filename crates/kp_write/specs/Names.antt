@@ -2,7 +2,7 @@
 use Rattle.std.specs.Prelude.{ℕ, List}
 use Rattle.std.specs.List.{AllByRecursion}
 use Rattle.kp_tree_grammar.specs.Words.{IsName, IsHead}
-use Rattle.kp_write.specs.Task.{Signed, Effect, Op}
+use Rattle.kp_write.specs.Operators.{Signed, Effect, Op}
 
 -- a fact that can be written
 abbrev pub IsSigned : Signed → Type 0

@@ -6,7 +6,7 @@ use Rattle.kp_tree_grammar.specs.Words.{IsName}
 use Rattle.kp_tree_grammar.specs.TreeMaps.{domain_map, problem_map}
 use Rattle.kp_names_semantics.specs.Names.{same}
 use Rattle.kp_names_semantics.specs.Plans.{HasProblem}
-use Rattle.kp_write.specs.Task.{Effect, Op}
+use Rattle.kp_write.specs.Operators.{Effect, Op}
 use Rattle.kp_write.specs.Written.{domain_text, problem_text}
 use Rattle.kp_law_texts.specs.Tokens.{text_of}
 use Rattle.kp_write.specs.Names.{AreHeads}

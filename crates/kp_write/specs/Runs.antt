@@ -6,7 +6,7 @@ use Rattle.kp_base.specs.Lists.{only_if, signed, Member}
 use Rattle.kp_names_semantics.specs.Names.{same, is_among}
 use Rattle.kp_names_semantics.specs.Steps.{Step}
 use Rattle.kp_names_semantics.specs.Plans.{IsPlan}
-use Rattle.kp_write.specs.Task.{Signed, Op}
+use Rattle.kp_write.specs.Operators.{Signed, Op}
 use Rattle.kp_write.specs.Written.{domain_text, problem_text}
 use Rattle.kp_write.specs.Problems.{IsTask}
 

@@ -5,7 +5,7 @@ use Rattle.kp_tree_grammar.specs.Trees.{Domain, Problem}
 use Rattle.kp_tree_grammar.specs.Grammar as grammar
 use Rattle.kp_tree_grammar.specs.Texts.{ReadsAs}
 use Rattle.kp_tree_grammar.specs.TreeMaps.{domain_map, problem_map}
-use Rattle.kp_write.specs.Task.{Op}
+use Rattle.kp_write.specs.Operators.{Op}
 use Rattle.kp_write.specs.Written.{domain_text, problem_text}
 use Rattle.kp_law_texts.specs.Tokens.{text_of}
 use Rattle.kp_write.specs.Names.{AreHeads, AreOps}

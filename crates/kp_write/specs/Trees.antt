@@ -1,7 +1,7 @@
 -- The trees that the written files are meant to have, without places.
 use Rattle.std.specs.Prelude.{ℕ, List, [], ◌∷◌, map, true}
 use Rattle.kp_tree_grammar.specs.Trees.{Atom, Cond, Eff, Item, Pred, Schema, Domain, Problem, conds_of, effs_of}
-use Rattle.kp_write.specs.Task.{Signed, Effect, Op}
+use Rattle.kp_write.specs.Operators.{Signed, Effect, Op}
 
 -- the atom of a fact, which has no terms
 abbrev pub atom_of : List ℕ → Atom (List ℕ)

@@ -1,7 +1,7 @@
 -- The two files of a task.
 use Rattle.std.specs.Prelude.{ℕ, List, [], ◌∷◌, Bool, true, false, codes}
 use Rattle.kp_law_texts.specs.Pieces.{Piece, spelling, Put, ◌⨾◌, each, opens, closes, space, line_feed, name, key, spaced}
-use Rattle.kp_write.specs.Task.{Signed, Effect, Op}
+use Rattle.kp_write.specs.Operators.{Signed, Effect, Op}
 
 -- (NAME)
 abbrev pub fact : List ℕ → Put

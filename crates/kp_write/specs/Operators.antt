@@ -1,4 +1,4 @@
--- A task by the names of its facts.
+-- Operators by the names of their facts.
 use Rattle.std.specs.Prelude.{ℕ, Bool, List}
 
 -- a fact that holds, or doesn't, by name
