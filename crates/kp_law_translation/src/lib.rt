@@ -1,4 +1,4 @@
-//! What two given files mean, and what is written for them with a table of tags and merges. The plans of the written files strip to plans of the given ones, and with a complete table each plan of the given ones lifts to one of the written. `specs/Translations.antt` has the given files' ground problem and initial formula, `specs/Tables.antt` the tables for them, `specs/Written.antt` what is written; `specs/Given.antt` and `specs/Laws.antt` say what is proved.
+//! What two given files mean, and what is written for them with a table of tags and merges. The plans of the written files strip to plans of the given ones, and with a complete table each plan of the given ones lifts to one of the written. `specs/OfTrees.antt` has the given files' ground problem and initial formula, `specs/Tables.antt` the tables for them, `specs/Written.antt` what is written; `specs/Given.antt` and `specs/Laws.antt` say what is proved.
 #![tactic(auto)]
 
 mod given;

@@ -21,7 +21,6 @@ use Rattle.kp_gen.specs.Line.{line_texts}
 use Rattle.kp_gen.specs.Bombs.{bombs_texts}
 use Rattle.kp_run_messages.specs.Refusals.{nothing}
 use Rattle.kp_run_outcome.specs.declared.outcome.Outcome.{Outcome}
-use Rattle.kp_run_outcome.specs.declared.status.Status.TheVariants as status
 use Rattle.kp_run_outcome.specs.Printing.{prints}
 use Rattle.kp_words.specs.declared.source.Family.{Family}
 use Rattle.kp_words.specs.declared.source.Family.TheVariants as families

@@ -20,7 +20,7 @@ use Rattle.kp_write.specs.Operators.{Signed, Op}
 use Rattle.kp_write.specs.Problems.{AreAmong, IsEffectOn, IsOpOn, IsTask}
 use Rattle.kp_write.specs.Runs.{Facts, is_so, is_made, after_op, runs, step_of}
 use Rattle.kp_write.specs.Named.{fact_name, signed_fact, named_conds, named_effect, named_op, named_ops, named_start, named_goal}
-use Rattle.kp_write.specs.Tasks.{IsWritableOp, CanBeWritten, operator_step, TasksRead, TaskPlansAreRuns}
+use Rattle.kp_write.specs.Tasks.{IsWritableOp, CanBeWritten, op_step, operator_step, TasksRead, TaskPlansAreRuns}
 use Rattle.kp_write.proofs.Faultless.{written_texts_have_problem}
 use Rattle.kp_write.proofs.Runs.{plans_are_runs}
 
@@ -226,7 +226,7 @@ steps_at t (n ∷ ns) (o ∷ os) at =
     let rest : map (λ n. option_map (named_op t.facts) (slice_get t.ops n)) ns ≡ map Some os = cc in
     rw (step_is (slice_get t.ops n) here, steps_at t ns os rest) refl
   where
-    step_is : (x : Option NumberedOp) → option_map (named_op t.facts) x ≡ Some o → option_map (λ (a : NumberedOp). record { head = a.name; objects = [] }) x ≡ Some (step_of o)
+    step_is : (x : Option NumberedOp) → option_map (named_op t.facts) x ≡ Some o → option_map op_step x ≡ Some (step_of o)
     step_is None e = absurd cc
     step_is (Some a) e = ap (λ (z : Op). Some (step_of z)) (same_Some (named_op t.facts a) o e)
 
@@ -246,9 +246,9 @@ ops_at t (n ∷ ns) (i ∷ is) e =
     go (slice_get t.ops n) refl here (ops_at t ns is rest)
   where
     go : (x : Option NumberedOp) → slice_get t.ops n ≡ x → operator_step t n ≡ Some i → OpsAt t ns is → OpsAt t (n ∷ ns) (i ∷ is)
-    go None is' here rest = let gone : None ≡ Some i = subst (λ (x : Option NumberedOp). option_map (λ (a : NumberedOp). record { head = a.name; objects = [] }) x ≡ Some i) is' here in absurd cc
+    go None is' here rest = let gone : None ≡ Some i = subst (λ (x : Option NumberedOp). option_map op_step x ≡ Some i) is' here in absurd cc
     go (Some a) is' here rest =
-        let there : Some (step_of (named_op t.facts a)) ≡ Some i = subst (λ (x : Option NumberedOp). option_map (λ (a : NumberedOp). record { head = a.name; objects = [] }) x ≡ Some i) is' here in
+        let there : Some (step_of (named_op t.facts a)) ≡ Some i = subst (λ (x : Option NumberedOp). option_map op_step x ≡ Some i) is' here in
         record {
           ops = named_op t.facts a ∷ rest.ops;
           at = rw (is', rest.at) refl;
