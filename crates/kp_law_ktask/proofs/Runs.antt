@@ -149,7 +149,8 @@ steps_at g table (m ∷ ms) [] at = absurd cc
 steps_at g table (m ∷ ms) (o ∷ os) at =
     let here : op_at g table m ≡ Some o = cc in
     let rest : AreAt g table ms os = cc in
-    cc (named_step g table m ∙ ap (option_map step_of) here, steps_at g table ms os rest)
+    let first : step_at g table m ≡ Some (step_of o) = named_step g table m ∙ ap (option_map step_of) here in
+    cc (first, steps_at g table ms os rest)
 
 pub record OpsAt (g : Ground) (table : TagTable) (ms : List MachineStep) (steps : List Step) : Type 0 where
   pub ops : List Op

@@ -53,7 +53,7 @@ record Have_names (g : Ground) (table : TagTable) (ms : List MachineStep) : Type
 
 -- one more step, of this operator
 one_more : (g : Ground) (table : TagTable) (m : MachineStep) (ms : List MachineStep) (o : Op) → op_at g table m ≡ Some o → Have_names g table ms → Have_names g table (m ∷ ms)
-one_more g table m ms o is rest = record { steps = step_of o ∷ rest.steps; are = cc (machine_step_is_named g table m ∙ ap (option_map step_of) is, rest.are) }
+one_more g table m ms o is rest = record { steps = step_of o ∷ rest.steps; are = let first : step_at g table m ≡ Some (step_of o) = machine_step_is_named g table m ∙ ap (option_map step_of) is in cc (first, rest.are) }
 
 -- those that are taken have names
 merges_named : (g : Ground) (table : TagTable) (n : ℕ) (ms : List Merge) (k : Known) (rest : List MachineStep) → StandFrom table n ms → Have_names g table rest → Have_names g table (merges_taken n ms k ++ rest)
