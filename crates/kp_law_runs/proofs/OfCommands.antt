@@ -171,13 +171,13 @@ lifts_are_true words old new s ends m c d p table ns held is g h answer =
     ((λ e. plans.0 (lists.0 e)), (λ w. lists.1 (plans.1 w)))
 
 pub lifted_lines_strip : LiftedLinesStrip
-lifted_lines_strip words old new s ends m c d p table ns held is g h done =
+lifted_lines_strip words old new s ends m c d p table ns held is g h is_done =
     let g' = ground_of d p in
     let inside = found_numbers_are_actions g' h.steps ns h.has_actions.known in
     elim (lists_lift_or_fail g' table ns (numbers_below_are_actions g' ns inside)) [
       | inl accepted ↦
           let named = lifted_steps_have_names g' table ns inside in
-          let a = answered_by words old new s ends m _ held (lift_due words m c d p table ns _ is g h (lifts named.0 (record { steps_are = named.1; accepted = accepted }) refl)) (subst IsAnswer (sym done) tt) in
+          let a = answered_by words old new s ends m _ held (lift_due words m c d p table ns _ is g h (lifts named.0 (record { steps_are = named.1; accepted = accepted }) refl)) (subst IsAnswer (sym is_done) tt) in
           let for = table_of_source_is_for_trees d p c.source h.merges table g.prepared.started.small h.fits h.has_table in
           let x = problem_of_trees g.domain g.problem d p g.trees in
           let r = lifts_written g.domain g.problem x table for ns named.0 (record { steps_are = named.1; accepted = accepted }) in
@@ -189,8 +189,8 @@ lifted_lines_strip words old new s ends m c d p table ns held is g h done =
             told_reads = machine_lines_read g' table (tables_can_be_written g.domain g.problem x table for) (lift_of g' table ns) named.0 named.1;
           }
       | inr f ↦
-          let a = answered_by words old new s ends m _ held (lift_due words m c d p table ns _ is g h (fails f.0 f.1 f.2 refl)) (subst IsAnswer (sym done) tt) in
-          absurd (let not_done = sym a.status_is ∙ done in cc)
+          let a = answered_by words old new s ends m _ held (lift_due words m c d p table ns _ is g h (fails f.0 f.1 f.2 refl)) (subst IsAnswer (sym is_done) tt) in
+          absurd (let not_done = sym a.status_is ∙ is_done in cc)
     ]
 
 pub strips_are_answered : StripsAreAnswered
