@@ -4,7 +4,7 @@ use Rattle.std.proofs.lemmas.Bool.{false≢true, cases_lt}
 use Rattle.std.specs.List.{list_all}
 use Rattle.kp_base.specs.declared.lit.Lit.{Lit}
 use Rattle.kp_base.specs.Lit.{code_of}
-use Rattle.kp_base.specs.Steps.{Facts, IsLeastMissing}
+use Rattle.kp_base.specs.Steps.{Valuation, IsLeastMissing}
 use Rattle.kp_base.proofs.Ascending.{code_of-injective}
 use Rattle.kp_base.proofs.Lists.{all_member}
 
@@ -35,18 +35,18 @@ module _ (P : ℕ → Type 0) (decided : (k : ℕ) → P k ⊎ (P k → ⊥)) wh
 
 -- ---- literals
 
-pub not_all_facts : (k : Facts) (ls : List Lit) (l : Lit) → IsLeastMissing k ls l → list_all k ls ≡ false
+pub not_all_facts : (k : Valuation) (ls : List Lit) (l : Lit) → IsLeastMissing k ls l → list_all k ls ≡ false
 not_all_facts k ls l f = pick (list_all k ls) refl
   where
     pick : (b : Bool) → list_all k ls ≡ b → b ≡ false
     pick false h = refl
     pick true h = absurd (false≢true (sym f.missing ∙ all_member k ls l f.among h))
 
-pub least_once : (k : Facts) (ls : List Lit) (l m : Lit) → IsLeastMissing k ls l → IsLeastMissing k ls m → l ≡ m
+pub least_once : (k : Valuation) (ls : List Lit) (l m : Lit) → IsLeastMissing k ls l → IsLeastMissing k ls m → l ≡ m
 least_once k ls l m a b = code_of-injective l m (let below = a.least m b.among b.missing in let above = b.least l a.among a.missing in omega arith)
 
 -- the first literal, or one of the rest
-least_of : (k : Facts) (x : Lit) (ls : List Lit) → k x ≡ false → (l : Lit) → IsLeastMissing k ls l → (m : Lit) × IsLeastMissing k (x ∷ ls) m
+least_of : (k : Valuation) (x : Lit) (ls : List Lit) → k x ≡ false → (l : Lit) → IsLeastMissing k ls l → (m : Lit) × IsLeastMissing k (x ∷ ls) m
 least_of k x ls off l f = elim (cases_lt (code_of l) (code_of x)) [
   | inl less ↦ (
     l,
@@ -67,7 +67,7 @@ least_of k x ls off l f = elim (cases_lt (code_of l) (code_of x)) [
 ]
 
 -- the first alone
-least_first : (k : Facts) (x : Lit) (ls : List Lit) → k x ≡ false → list_all k ls ≡ true → IsLeastMissing k (x ∷ ls) x
+least_first : (k : Valuation) (x : Lit) (ls : List Lit) → k x ≡ false → list_all k ls ≡ true → IsLeastMissing k (x ∷ ls) x
 least_first k x ls off all = record {
   among = inl refl;
   missing = off;
@@ -75,14 +75,14 @@ least_first k x ls off all = record {
 }
 
 -- one of the rest alone
-pub least_later : (k : Facts) (x : Lit) (ls : List Lit) → k x ≡ true → (l : Lit) → IsLeastMissing k ls l → IsLeastMissing k (x ∷ ls) l
+pub least_later : (k : Valuation) (x : Lit) (ls : List Lit) → k x ≡ true → (l : Lit) → IsLeastMissing k ls l → IsLeastMissing k (x ∷ ls) l
 least_later k x ls on l f = record {
   among = inr f.among;
   missing = f.missing;
   least = λ m there no_m. elim there [ inl e ↦ absurd (false≢true (sym no_m ∙ subst (λ z. k z ≡ true) e on)) | inr later ↦ f.least m later no_m ];
 }
 
-pub least_missing : (k : Facts) (ls : List Lit) → list_all k ls ≡ false → (l : Lit) × IsLeastMissing k ls l
+pub least_missing : (k : Valuation) (ls : List Lit) → list_all k ls ≡ false → (l : Lit) × IsLeastMissing k ls l
 least_missing k [] h = absurd (false≢true (sym h))
 least_missing k (x ∷ ls) h = by (k x) refl (list_all k ls) refl h (λ e. least_missing k ls e)
   where

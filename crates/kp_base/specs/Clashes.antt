@@ -1,4 +1,4 @@
--- Steps that add and delete one atom together, and the test of conditions that keeps them away.
+-- Actions with an add and a delete of one atom that may fire together.
 use Rattle.std.specs.Prelude.{◌≡◌, ◌≢◌, ℕ, Bool, true, false, not, ◌&&◌, ◌||◌, List, [], ◌∷◌, ◌++◌, Some, slice_get}
 use Rattle.std.specs.declared.cmp.Ordering.TheVariants.{Greater}
 use Rattle.std.specs.Ordering.{nat_cmp}
@@ -13,16 +13,6 @@ use Rattle.kp_base.specs.declared.ground.Initial.{Initial}
 use Rattle.kp_base.specs.Lists.{Member}
 use Rattle.kp_base.specs.Lit.{positive, negative, negated, same_lit}
 use Rattle.kp_base.specs.Steps.{State, holds, fires, is_model, runs, state_after}
-
--- the action adds and deletes the atom in this state
-abbrev pub clashes_at : Action → State → ℕ → Bool
-clashes_at a s p = fires a.effects (holds s) (positive p) && fires a.effects (holds s) (negative p)
-
--- after no run from a model does an applicable action add and delete one atom together
-pub record NeverClashes (g : Ground) (i : Initial) : Type 0 where
-  pub no_clash : (s : State) (ns : List ℕ) (a : Action) (p : ℕ) → is_model i s ≡ true → runs g s ns ≡ true → Member g.actions a → list_all (holds (state_after g s ns)) a.pre ≡ true → clashes_at a (state_after g s ns) p ≡ false
-
--- ---- by conditions
 
 -- which atoms are never true together
 abbrev pub Pairs : Type 0
@@ -68,3 +58,13 @@ clash_place c = c.action ∷ c.atom.0 ∷ c.add ∷ c.delete ∷ []
 pub record IsFirstClash (pairs : Pairs) (g : Ground) (c : ClashAt) : Type 0 where
   pub clash : IsClash pairs g c
   pub first : (d : ClashAt) → IsClash pairs g d → slice_cmp nat_cmp (clash_place c) (clash_place d) ≢ Greater
+
+-- ---- in states; for laws alone
+
+-- the action adds and deletes the atom in this state
+abbrev pub clashes_at : Action → State → ℕ → Bool
+clashes_at a s p = fires a.effects (holds s) (positive p) && fires a.effects (holds s) (negative p)
+
+-- after no run from a model does an applicable action add and delete one atom together
+pub record NeverClashes (g : Ground) (i : Initial) : Type 0 where
+  pub no_clash : (s : State) (ns : List ℕ) (a : Action) (p : ℕ) → is_model i s ≡ true → runs g s ns ≡ true → Member g.actions a → list_all (holds (state_after g s ns)) a.pre ≡ true → clashes_at a (state_after g s ns) p ≡ false

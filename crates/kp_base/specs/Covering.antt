@@ -1,4 +1,5 @@
 -- Tags that take one literal of each clause, when tags cover a literal, and when a table is complete. (Palacios and Geffner, JAIR 35, 2009.)
+-- A tag meets a clause. Tags cover a target where each meets each clause that is relevant to it (`Covers`; `AllMeet` where these clauses are listed). A set of clauses covers where its tags do (`IsCover` of `kp_cover`). A table covers a target (`IsCovered`).
 use Rattle.std.specs.Prelude.{◌≡◌, ◌↔◌, Bool, true, List, [], ◌∷◌, Option, Some, None, filter, map, slice_get, length}
 use Rattle.kp_base.specs.declared.lit.Lit.{Lit}
 use Rattle.kp_base.specs.declared.ground.Action.{Action}
@@ -18,8 +19,8 @@ use Rattle.kp_base.specs.Relevance.{IsClauseFor}
 abbrev pub TellsConsistent : Initial → (List Lit → Bool) → Type 0
 TellsConsistent i test = (tag : List Lit) → (test tag ≡ true) ↔ IsConsistent i tag
 
--- the sets that take one literal of each clause and are consistent, each once, the first clause slowest
-pub record IsCov (i : Initial) (clauses tags : List (List Lit)) : Type 0 where
+-- the sets that take one literal of each clause and are consistent, each once, the first clause slowest; consistency is a statement and a list is filtered by a test, so any test that tells it will do
+pub record AreTagsOfClauses (i : Initial) (clauses tags : List (List Lit)) : Type 0 where
   pub test : List Lit → Bool
   pub tells : TellsConsistent i test
   pub are : tags ≡ each_once same_set (filter test (map set_of (choices clauses)))

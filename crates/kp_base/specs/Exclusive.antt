@@ -1,4 +1,4 @@
--- Pairs of atoms that are never true together, by a condition that each step keeps.
+-- Pairs of atoms that are never true together (mutexes), by a condition that each step keeps.
 use Rattle.std.specs.Prelude.{◌≡◌, ◌≢◌, ◌<◌, ℕ, true, false, ◌&&◌, List, [], ◌∷◌, ◌++◌, length}
 use Rattle.kp_base.specs.declared.lit.Lit.{Lit}
 use Rattle.kp_base.specs.declared.ground.Effect.{Effect}
@@ -58,13 +58,13 @@ pub record AreExclusive (g : Ground) (i : Initial) (atoms : ℕ) (pairs : Pairs)
   pub each : (p q : ℕ) → pairs p q ≡ true → IsExclusive g i atoms p q
   pub all : (p q : ℕ) → IsExclusive g i atoms p q → pairs p q ≡ true
 
--- this is the first clash, where the exclusive pairs are never true together
+-- this is the first clash, conditions judged with the exclusive pairs
 pub record ClashesFirst (g : Ground) (i : Initial) (c : ClashAt) : Type 0 where
   pub pairs : Pairs
   pub exclusive : AreExclusive g i (length g.atoms) pairs
   pub first : IsFirstClash pairs g c
 
--- no action clashes, where the exclusive pairs are never true together
+-- no action clashes, its conditions judged with the exclusive pairs
 pub record IsClashFree (g : Ground) (i : Initial) : Type 0 where
   pub pairs : Pairs
   pub exclusive : AreExclusive g i (length g.atoms) pairs

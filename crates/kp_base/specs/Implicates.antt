@@ -98,7 +98,7 @@ IsLimitExact = (i : Initial) (limit : ℕ) → HasMorePrimes i limit → HasAtMo
 abbrev pub prefix_of : Initial → ℕ → Initial
 prefix_of i k = formula_of (take k i.clauses)
 
--- of the first clauses so many are the least that have more than the limit
+-- k is the least number for which the first k clauses, closed atoms left aside, have more than the limit; the program adds clauses one by one
 pub record IsLeastOver (i : Initial) (limit k : ℕ) : Type 0 where
   pub in_range : k ≤ length i.clauses
   pub more : HasMorePrimes (prefix_of i k) limit

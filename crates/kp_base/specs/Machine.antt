@@ -9,7 +9,7 @@ use Rattle.kp_base.specs.declared.ground.TagRow.{TagRow}
 use Rattle.kp_base.specs.declared.ground.TagTable.{TagTable}
 use Rattle.kp_base.specs.declared.ground.Merge.{Merge}
 use Rattle.kp_base.specs.Lit.{negated, same_lit}
-use Rattle.kp_base.specs.Steps.{Facts, has, fires}
+use Rattle.kp_base.specs.Steps.{Valuation, has, fires}
 
 -- a step of the machine: an action or a merge, by number
 pub data MachineStep : Type 0 where
@@ -18,7 +18,7 @@ pub data MachineStep : Type 0 where
 
 -- the literals that are known under each tag, by the tag's number
 abbrev pub Known : Type 0
-Known = ℕ → Facts
+Known = ℕ → Valuation
 
 -- the closure of a tag; nothing where there is no such tag
 abbrev pub closure_of : Option TagRow → List Lit
@@ -31,12 +31,12 @@ start table t = has (closure_of (slice_get table.tags t))
 
 -- ---- actions
 
--- each effect that makes the negation true has some condition whose negation is a fact
-abbrev pub persists : List Effect → Facts → Facts
+-- no effect undoes the literal: each effect with its negation as result has a condition whose negation is known
+abbrev pub persists : List Effect → Valuation → Valuation
 persists es k l = list_all (λ e. not (same_lit e.result (negated l)) || list_any (λ c. k (negated c)) e.cond) es
 
--- the facts of one tag after an action: what fires, and what was a fact and persists
-abbrev pub facts_after : Action → Facts → Facts
+-- what is known under one tag after an action: what fires, and what was known and persists
+abbrev pub facts_after : Action → Valuation → Valuation
 facts_after a k l = fires a.effects k l || (k l && persists a.effects k l)
 
 -- there is such an action, and its precondition is known under tag 0

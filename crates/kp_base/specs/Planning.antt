@@ -4,7 +4,7 @@ pub use Rattle.kp_base.specs.Atoms.{Atom, atom, atom_before, has_atom, number_of
 pub use Rattle.kp_base.specs.Clashes.{Clashes, HasNoClash, IsFirstClash, NeverClashes, Pairs, are_compatible, are_exclusive, clashes_at, compatible_effects}
 pub use Rattle.kp_base.specs.Closure.{IsAscendingClosure, closure}
 pub use Rattle.kp_base.specs.Counted.{IsCounted}
-pub use Rattle.kp_base.specs.Covering.{AllMeet, AreUncovered, Covers, IsComplete, IsCov, IsCovered, IsTarget, Meets, TellsConsistent, lits_of, of_goal, of_precondition, tags_of}
+pub use Rattle.kp_base.specs.Covering.{AllMeet, AreUncovered, Covers, IsComplete, AreTagsOfClauses, IsCovered, IsTarget, Meets, TellsConsistent, lits_of, of_goal, of_precondition, tags_of}
 pub use Rattle.kp_base.specs.Entailed.{AreValid, Entails, HasModel, HasNoModel, HasOneValue, HaveSameModels, IsClosure, IsConsistent, IsTable, IsValid, tag_holds}
 pub use Rattle.kp_base.specs.Exclusive.{AreExclusive, ArePairs, ClashesFirst, Deletes, IsClashFree, IsExclusive, IsInductive, IsPart, NeverAtTheStart, firing_with}
 pub use Rattle.kp_base.specs.Files.{most_bytes}
@@ -14,4 +14,4 @@ pub use Rattle.kp_base.specs.Lit.{code_of, negated, negative, positive, same_lit
 pub use Rattle.kp_base.specs.LitSet.{IsAscending, lits_cmp, same_set, set_of, with_lit}
 pub use Rattle.kp_base.specs.Machine.{Known, MachineStep, accepts, accepts_from, after_act, after_merge, closure_of, facts_after, may_act, may_merge, one_tag_table, persists, start, stripped}
 pub use Rattle.kp_base.specs.Relevance.{AreClausesFor, AreRelevant, IsCandidate, IsChained, IsClauseFor, IsRelevant, either_value, joins, leads}
-pub use Rattle.kp_base.specs.Steps.{ComesBefore, Facts, IsBounded, IsGroundPlan, IsLeastMissing, SameBelow, State, after, applicable, asked, fires, holds, is_model, next, pre_of, runs, state_after, succeeds}
+pub use Rattle.kp_base.specs.Steps.{ComesBefore, Valuation, IsBounded, IsGroundPlan, IsLeastMissing, SameBelow, State, after, applicable, asked, fires, holds, is_model, next, pre_of, runs, state_after, succeeds}

@@ -14,9 +14,9 @@ pub use Rattle.kp_base.specs.Lit.{has}
 abbrev pub State : Type 0
 State = ℕ → Bool
 
--- the literals that are facts: both literals of an atom may be, or neither
-abbrev pub Facts : Type 0
-Facts = Lit → Bool
+-- which literals are so, true in a state or known under a tag; of an atom both may be, or neither
+abbrev pub Valuation : Type 0
+Valuation = Lit → Bool
 
 -- no atom from this number on is true
 pub record IsBounded (atoms : ℕ) (s : State) : Type 0 where
@@ -38,11 +38,11 @@ pub record ComesBefore (s t : State) : Type 0 where
 -- ---- literals
 
 -- a literal is true in a state
-abbrev pub holds : State → Facts
+abbrev pub holds : State → Valuation
 holds s l = signed l.positive (s l.atom.0)
 
--- one of the literals that is no fact, and none of them that is no fact is less
-pub record IsLeastMissing (k : Facts) (ls : List Lit) (l : Lit) : Type 0 where
+-- the least of the literals that isn't so
+pub record IsLeastMissing (k : Valuation) (ls : List Lit) (l : Lit) : Type 0 where
   pub among : Member ls l
   pub missing : k l ≡ false
   pub least : (m : Lit) → Member ls m → k m ≡ false → code_of l ≤ code_of m
@@ -55,8 +55,8 @@ is_model i s = list_all (list_any (holds s)) i.clauses && list_all (λ p. not (s
 
 -- ---- steps
 
--- some effect with this result has its condition among the facts
-abbrev pub fires : List Effect → Facts → Facts
+-- some effect with this result has a condition all of which is so
+abbrev pub fires : List Effect → Valuation → Valuation
 fires es k l = list_any (λ e. same_lit e.result l && list_all k e.cond) es
 
 -- the state after an action: deleted atoms go, and then added ones come

@@ -14,6 +14,6 @@ abbrev pub fails : Ground → List ℕ → State → Bool
 fails g ns s = not (succeeds g s ns)
 
 -- the steps are a plan; or these are the atoms of the first model from which they fail, in order, and they fail from it there
-abbrev pub AnswersJudged : ℕ → Ground → Initial → List ℕ → Judged → Type 0
-AnswersJudged n g i ns Yes = IsGroundPlan g i ns
-AnswersJudged n g i ns (No ps k l) = AreFirst n (is_wanted i (fails g ns)) ps × FailAt g (state_of_atoms ps) ns k l
+abbrev pub IsVerdict : ℕ → Ground → Initial → List ℕ → Judged → Type 0
+IsVerdict n g i ns Yes = IsGroundPlan g i ns
+IsVerdict n g i ns (No ps k l) = AreFirst n (is_wanted i (fails g ns)) ps × FailAt g (state_of_atoms ps) ns k l

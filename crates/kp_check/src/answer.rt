@@ -2,7 +2,7 @@ ghost use Rattle.std.specs.Prelude.{◌≡◌, ◌<◌, true, length, nat_lt, If
 ghost use Rattle.std.specs.List.{list_all};
 ghost use Rattle.kp_primes.specs.Held.{formula};
 ghost use Rattle.kp_base.specs.Implicates.{IsOfItsAtoms};
-ghost use Rattle.kp_check.specs.Judging.{AnswersJudged};
+ghost use Rattle.kp_check.specs.Judging.{IsVerdict};
 
 use crate::failing::{failure_in, state_values};
 use crate::judge::first_failing;
@@ -37,7 +37,7 @@ pub fn check(
     requires ground { IsOfItsAtoms ground.now }
     requires inside { list_all (λ m. nat_lt m (length ground.now.actions)) steps.now ≡ true }
     requires few { length steps.now < 2147483648 }
-    ensures { IfOk result (AnswersJudged primes.now.atoms ground.now (formula primes.now) steps.now) }
+    ensures { IfOk result (IsVerdict primes.now.atoms ground.now (formula primes.now) steps.now) }
 {
     let Some(state) = first_failing(alloc, ground, primes, steps.slice())? else {
         return Ok(Judged::Yes);

@@ -1,5 +1,5 @@
 //! Whether a plan works from every initial state; else the first from which it fails, and where.
-//! `AnswersJudged` in `specs/Judging.antt` says what is answered.
+//! `IsVerdict` in `specs/Judging.antt` says what is answered.
 #![tactic(auto)]
 
 mod answer;

@@ -8,7 +8,7 @@ use Rattle.kp_base.specs.Lit.{positive, negative}
 use Rattle.kp_classic.specs.declared.task.Task.{Task}
 use Rattle.kp_base.specs.Implicates.{IsOfItsAtoms}
 use Rattle.kp_classic.specs.Grounded.{task_of, is_known, SaysOneState}
-use Rattle.kp_classic.specs.Runs.{outcome}
+use Rattle.kp_classic.specs.Runs.{state_at_end}
 use Rattle.kp_classic.specs.Steps.{Holding, start, succeeds}
 
 abbrev pub nameless : GroundName
@@ -79,12 +79,12 @@ step_reaches : succeeds small_task (start small_task) (0 ∷ []) ≡ true
 step_reaches = refl
 
 -- and the step leads there
-end_of_step : outcome small_task (0 ∷ []) ≡ Some (record { facts = 2; hold = 1 ∷ [] })
+end_of_step : state_at_end small_task (0 ∷ []) ≡ Some (record { facts = 2; hold = 1 ∷ [] })
 end_of_step = refl
 
 -- nothing to do doesn't reach the goal, and a second step may not be taken
 none_reaches : succeeds small_task (start small_task) [] ≡ false
 none_reaches = refl
 
-no_second : outcome small_task (0 ∷ 0 ∷ []) ≡ None
+no_second : state_at_end small_task (0 ∷ 0 ∷ []) ≡ None
 no_second = refl

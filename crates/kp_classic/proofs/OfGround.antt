@@ -20,7 +20,7 @@ use Rattle.kp_base.proofs.Lists.{bool_same, any_map, all_alike, any_alike, all_m
 use Rattle.kp_base.proofs.Lits.{same_lit-true}
 use Rattle.kp_classic.specs.Fits.{are_below as facts_below, fits, fits_effect, fits_op, IsFit}
 use Rattle.kp_classic.specs.Grounded.{atoms_with, conds_of, effect_of, op_of, nameless, is_said, task_of, SaysOneState, DoesTheSame}
-use Rattle.kp_classic.specs.States.{those}
+use Rattle.kp_classic.specs.States.{holding_among}
 use Rattle.kp_classic.specs.Steps.{Holding, meets, fires, after, applicable, next, start, succeeds}
 use Rattle.kp_classic.proofs.States.{has_those, those_below}
 use Rattle.kp_classic.proofs.Stepping.{succeeds_alike}
@@ -119,7 +119,7 @@ pub task_fits : (g : Ground) (i : Initial) → IsOfItsAtoms g → IsFit (task_of
 task_fits g i h = record {
   few_facts = rw (length-map g.atoms nameless) h.few_atoms;
   few_ops = rw (length-map g.actions op_of) h.few_actions;
-  init = rw (length-map g.atoms nameless) (all_from (λ f. nat_lt f (length g.atoms)) (those (length g.atoms) (is_said i)) (λ f m. lt-ltb f (length g.atoms) (those_below (length g.atoms) (is_said i) f m)));
+  init = rw (length-map g.atoms nameless) (all_from (λ f. nat_lt f (length g.atoms)) (holding_among (length g.atoms) (is_said i)) (λ f m. lt-ltb f (length g.atoms) (those_below (length g.atoms) (is_said i) f m)));
   goal = rw (length-map g.atoms nameless) (conds_fit (length g.atoms) g.goal h.goal);
   ops = rw (length-map g.atoms nameless) (all_from (fits_op (length g.atoms)) (map op_of g.actions) (λ o m.
       let r = map_member op_of g.actions o m in

@@ -9,36 +9,36 @@ use Rattle.kp_base.specs.Lists.{Member, only_if}
 use Rattle.kp_base.proofs.Places.{places_more}
 use Rattle.kp_base.proofs.Lists.{bool_same, any_from, any_member, range_there, member_filter, filter_member}
 use Rattle.kp_base.proofs.Members.{range_only}
-use Rattle.kp_classic.specs.States.{FactSet, has, those, fact_set_of}
+use Rattle.kp_classic.specs.States.{FactSet, has, holding_among, fact_set_of}
 use Rattle.kp_classic.specs.Packed.{bit, set_of}
 
 -- ---- the facts of a list that pass a test
 
-pub has_those : (n : ℕ) (p : ℕ → Bool) (f : ℕ) → f < n → has (those n p) f ≡ p f
-has_those n p f lt = bool_same (has (those n p) f) (p f) forth back
+pub has_those : (n : ℕ) (p : ℕ → Bool) (f : ℕ) → f < n → has (holding_among n p) f ≡ p f
+has_those n p f lt = bool_same (has (holding_among n p) f) (p f) forth back
   where
-    forth : has (those n p) f ≡ true → p f ≡ true
+    forth : has (holding_among n p) f ≡ true → p f ≡ true
     forth h =
-        let r = any_member (nat_eq f) (those n p) h in
+        let r = any_member (nat_eq f) (holding_among n p) h in
         subst (λ x. p x ≡ true) (sym (eqb-true f r.0 r.2)) (filter_member p (range_with_len 0 n) r.0 r.1).1
 
-    back : p f ≡ true → has (those n p) f ≡ true
-    back h = any_from (nat_eq f) (those n p) f (member_filter p (range_with_len 0 n) f (range_there 0 n f (omega arith) (omega (arith, lt))) h) (eq-eqb f f refl)
+    back : p f ≡ true → has (holding_among n p) f ≡ true
+    back h = any_from (nat_eq f) (holding_among n p) f (member_filter p (range_with_len 0 n) f (range_there 0 n f (omega arith) (omega (arith, lt))) h) (eq-eqb f f refl)
 
 -- each of them is below the number
-pub those_below : (n : ℕ) (p : ℕ → Bool) (f : ℕ) → Member (those n p) f → f < n
+pub those_below : (n : ℕ) (p : ℕ → Bool) (f : ℕ) → Member (holding_among n p) f → f < n
 those_below n p f m = let lt = range_only 0 n f (filter_member p (range_with_len 0 n) f m).0 in omega (arith, lt)
 
 -- no fact past the number holds
-pub has_past : (n : ℕ) (p : ℕ → Bool) (f : ℕ) → n ≤ f → has (those n p) f ≡ false
-has_past n p f le = none (has (those n p) f) (λ h. let r = any_member (nat_eq f) (those n p) h in let e = eqb-true f r.0 r.2 in let lt = those_below n p r.0 r.1 in absurd (omega (arith, e, lt, le)))
+pub has_past : (n : ℕ) (p : ℕ → Bool) (f : ℕ) → n ≤ f → has (holding_among n p) f ≡ false
+has_past n p f le = none (has (holding_among n p) f) (λ h. let r = any_member (nat_eq f) (holding_among n p) h in let e = eqb-true f r.0 r.2 in let lt = those_below n p r.0 r.1 in absurd (omega (arith, e, lt, le)))
   where
     none : (b : Bool) → (b ≡ true → ⊥) → b ≡ false
     none true h = absurd (h refl)
     none false h = refl
 
 -- one test in place of another
-pub those_alike : (n : ℕ) (p q : ℕ → Bool) → ((f : ℕ) → f < n → p f ≡ q f) → those n p ≡ those n q
+pub those_alike : (n : ℕ) (p q : ℕ → Bool) → ((f : ℕ) → f < n → p f ≡ q f) → holding_among n p ≡ holding_among n q
 those_alike n p q same = go (range_with_len 0 n) (λ f m. same f (let r = range_only 0 n f m in omega (arith, r)))
   where
     go : (xs : List ℕ) → ((f : ℕ) → Member xs f → p f ≡ q f) → filter p xs ≡ filter q xs
@@ -101,5 +101,5 @@ clear_holds bits i f lt lf = elim (cases_eq f i) [
 
 -- ---- one fact more
 
-pub those_more : (k : ℕ) (p : ℕ → Bool) → those (k + 1) p ≡ those k p ++ only_if (p k) (k ∷ [])
+pub those_more : (k : ℕ) (p : ℕ → Bool) → holding_among (k + 1) p ≡ holding_among k p ++ only_if (p k) (k ∷ [])
 those_more k p = ap (filter p) (places_more k) ∙ filter-append p (range_with_len 0 k) (k ∷ [])

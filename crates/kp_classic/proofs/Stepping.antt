@@ -11,7 +11,7 @@ use Rattle.kp_classic.specs.declared.task.Op.{Op}
 use Rattle.kp_classic.specs.declared.task.Task.{Task}
 use Rattle.kp_classic.specs.Fits.{are_below, fits, fits_effect, IsFit}
 use Rattle.kp_classic.specs.States.{FactSet, has, fact_set_of}
-use Rattle.kp_classic.specs.Runs.{outcome}
+use Rattle.kp_classic.specs.Runs.{state_at_end}
 use Rattle.kp_classic.specs.Steps.{Holding, meets, fires, after, applicable, next, start, runs, holding_after, succeeds}
 use Rattle.kp_classic.proofs.Fitting.{OpFits, op_fits}
 use Rattle.kp_classic.proofs.States.{is_state, has_those, those_alike}
@@ -94,7 +94,7 @@ rests_more t fit k ks all s first new is may r =
     }
 
 -- where operators lead from the state at the start
-pub outcome_is : (t : Task) → IsFit t → (ks : List ℕ) (s end : FactSet) (b : Bool) → s ≡ fact_set_of (length t.facts) (start t) → b ≡ runs t (has s.hold) ks → (IsTrue b → end ≡ fact_set_of (length t.facts) (holding_after t (has s.hold) ks)) → then_some b end ≡ outcome t ks
+pub outcome_is : (t : Task) → IsFit t → (ks : List ℕ) (s end : FactSet) (b : Bool) → s ≡ fact_set_of (length t.facts) (start t) → b ≡ runs t (has s.hold) ks → (IsTrue b → end ≡ fact_set_of (length t.facts) (holding_after t (has s.hold) ks)) → then_some b end ≡ state_at_end t ks
 outcome_is t fit ks s end b is ran ends = go b (ran ∙ runs_alike t fit ks (has s.hold) (start t) agree) ends
   where
     agree : Agree (length t.facts) (has s.hold) (start t)
@@ -103,7 +103,7 @@ outcome_is t fit ks s end b is ran ends = go b (ran ∙ runs_alike t fit ks (has
     at_end : fact_set_of (length t.facts) (holding_after t (has s.hold) ks) ≡ fact_set_of (length t.facts) (holding_after t (start t) ks)
     at_end = ap (λ (fs : List ℕ). record { facts = length t.facts; hold = fs }) (those_alike (length t.facts) _ _ (holding_alike t fit ks (has s.hold) (start t) agree).each)
 
-    go : (b : Bool) → b ≡ runs t (start t) ks → (IsTrue b → end ≡ fact_set_of (length t.facts) (holding_after t (has s.hold) ks)) → then_some b end ≡ outcome t ks
+    go : (b : Bool) → b ≡ runs t (start t) ks → (IsTrue b → end ≡ fact_set_of (length t.facts) (holding_after t (has s.hold) ks)) → then_some b end ≡ state_at_end t ks
     go true e f = rw (← e) (ap Some (f refl ∙ at_end))
     go false e f = rw (← e) refl
 

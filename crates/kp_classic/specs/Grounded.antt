@@ -16,7 +16,7 @@ use Rattle.kp_classic.specs.declared.task.Conds.{Conds}
 use Rattle.kp_classic.specs.declared.task.OpEffect.{OpEffect}
 use Rattle.kp_classic.specs.declared.task.Op.{Op}
 use Rattle.kp_classic.specs.declared.task.Task.{Task}
-use Rattle.kp_classic.specs.States.{those}
+use Rattle.kp_classic.specs.States.{holding_among}
 use Rattle.kp_classic.specs.Steps.{Holding, meets, applicable, next, start, succeeds}
 
 -- ---- the task
@@ -45,11 +45,11 @@ is_said i p = list_any (λ c. has c (positive p)) i.clauses
 abbrev pub nameless : GroundName → List ℕ
 nameless name = []
 
--- at the start those facts hold that clauses of one literal say
+-- at the start those facts hold that stand positive in some clause; of a formula with one state each clause is one literal
 abbrev pub task_of : Ground → Initial → Task
 task_of g i = record {
   facts = map nameless g.atoms;
-  init = those (length g.atoms) (is_said i);
+  init = holding_among (length g.atoms) (is_said i);
   goal = conds_of g.goal;
   ops = map op_of g.actions;
 }

@@ -12,12 +12,12 @@ abbrev pub has : List ℕ → ℕ → Bool
 has fs f = list_any (nat_eq f) fs
 
 -- those of the first n facts that hold, ascending
-abbrev pub those : ℕ → (ℕ → Bool) → List ℕ
-those n s = filter s (range_with_len 0 n)
+abbrev pub holding_among : ℕ → (ℕ → Bool) → List ℕ
+holding_among n s = filter s (range_with_len 0 n)
 
 -- the state of n facts in which these hold
 abbrev pub fact_set_of : ℕ → (ℕ → Bool) → FactSet
-fact_set_of n s = record { facts = n; hold = those n s }
+fact_set_of n s = record { facts = n; hold = holding_among n s }
 
 -- at the first fact in which the two differ, the second has it
 pub record IsBefore (a b : FactSet) : Type 0 where

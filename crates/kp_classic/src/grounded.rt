@@ -4,7 +4,7 @@ ghost use Rattle.std.specs.List.{list_all};
 ghost use Rattle.kp_base.specs.Implicates.{are_below, IsOfItsAtoms};
 ghost use Rattle.kp_classic.specs.Fits.{IsFit};
 ghost use Rattle.kp_classic.specs.Grounded.{atoms_with, conds_of, effect_of, op_of, nameless, is_said, task_of, SaysOneState, DoesTheSame};
-ghost use Rattle.kp_classic.specs.States.{those};
+ghost use Rattle.kp_classic.specs.States.{holding_among};
 
 use crate::said::said_facts;
 use crate::{Conds, Op, OpEffect, Task};
@@ -106,7 +106,7 @@ fn facts_of(
     requires few { length ground.now.atoms < 2147483648 }
     requires of_atoms { list_all (are_below (length ground.now.atoms)) initial.now.clauses ≡ true }
     ensures names { IfOk result (λ facts. facts.0 ≡ map nameless ground.now.atoms) }
-    ensures init { IfOk result (λ facts. facts.1 ≡ those (length ground.now.atoms) (is_said initial.now)) }
+    ensures init { IfOk result (λ facts. facts.1 ≡ holding_among (length ground.now.atoms) (is_said initial.now)) }
 {
     let names = no_names(alloc, ground.atoms.slice())?;
     let init = said_facts(alloc, ground.atoms.len() as u32, initial)?;

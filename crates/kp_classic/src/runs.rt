@@ -2,7 +2,7 @@
 ghost use Rattle.std.specs.Prelude.{◌≡◌, true, length, IfOk, IsTrue};
 ghost use Rattle.kp_classic.specs.Fits.{are_below, IsFit};
 ghost use Rattle.kp_classic.specs.States.{has, fact_set_of};
-ghost use Rattle.kp_classic.specs.Runs.{outcome};
+ghost use Rattle.kp_classic.specs.Runs.{state_at_end};
 ghost use Rattle.kp_classic.specs.Steps as steps;
 
 use crate::{State, Task, applicable, step_into};
@@ -48,7 +48,7 @@ fn run_on(task: &Task, ops: &[u32], state: &mut State, next: &mut State) -> bool
 pub fn run_ops(alloc: Global, task: &Task, ops: &Row<u32>) -> Result<Option<State>, Memory>
     requires fit { IsFit task.now }
     requires in_range { are_below (length task.now.ops) ops.now ≡ true }
-    ensures { IfOk result (λ end. end ≡ outcome task.now ops.now) }
+    ensures { IfOk result (λ end. end ≡ state_at_end task.now ops.now) }
 {
     let mut state = start(alloc, task)?;
     let mut next = State::empty(alloc, task.facts.len() as u32)?;

@@ -5,7 +5,7 @@ ghost use Rattle.kp_base.specs.Implicates.{are_below};
 ghost use Rattle.kp_base.specs.Lists.{only_if};
 ghost use Rattle.kp_base.specs.Lit.{positive, same_lit, has as has_literal};
 ghost use Rattle.kp_classic.specs.Grounded.{is_said};
-ghost use Rattle.kp_classic.specs.States.{has, those};
+ghost use Rattle.kp_classic.specs.States.{has, holding_among};
 
 use crate::State;
 use kp_base::{Initial, Lit, LitSet, Memory, Row};
@@ -58,7 +58,7 @@ fn push_held(state: &State, fact: u32, facts: &mut Row<u32>) -> Result<(), Memor
 // The facts that hold, ascending.
 fn held(alloc: Global, count: u32, state: &State) -> Result<Row<u32>, Memory>
     requires { state.now.facts ≡ count }
-    ensures { IfOk result (λ facts. facts ≡ those count (has state.now.hold)) }
+    ensures { IfOk result (λ facts. facts ≡ holding_among count (has state.now.hold)) }
 {
     let mut facts = Row::new(alloc);
     for fact in 0..count {
@@ -70,7 +70,7 @@ fn held(alloc: Global, count: u32, state: &State) -> Result<Row<u32>, Memory>
 /// Those of the first atoms that stand in a clause, ascending.
 pub(crate) fn said_facts(alloc: Global, count: u32, initial: &Initial) -> Result<Row<u32>, Memory>
     requires { list_all (are_below count) initial.now.clauses ≡ true }
-    ensures { IfOk result (λ facts. facts ≡ those count (is_said initial.now)) }
+    ensures { IfOk result (λ facts. facts ≡ holding_among count (is_said initial.now)) }
 {
     let mut state = State::empty(alloc, count)?;
     say_clauses(initial.clauses.slice(), &mut state);

@@ -3,7 +3,7 @@ use Rattle.std.proofs.Common.{◌≡◌, ◌&&◌, ◌||◌, ◌++◌, Bool, tru
 use Rattle.std.proofs.lemmas.Bool.{false≢true, and_parts, and_from}
 use Rattle.std.specs.List.{flat_map, list_any, list_all}
 use Rattle.kp_base.specs.declared.lit.Lit.{Lit}
-use Rattle.kp_base.specs.Planning.{choices, each_once, with_lit, set_of, same_set, IsCov, holds}
+use Rattle.kp_base.specs.Planning.{choices, each_once, with_lit, set_of, same_set, AreTagsOfClauses, holds}
 use Rattle.kp_base.proofs.Once.{once_by_one}
 use Rattle.kp_base.proofs.Lists.{gathered, any_map, map_map, all_alike, flat_alike, flat_member, filter_member, all_from}
 use Rattle.std.proofs.lemmas.List.{map-append}
@@ -116,7 +116,7 @@ module _ (h : Held) (whole : AreWhole h) where
       let met = (consistent_exact h whole (with_lit l tag)).0 f in
       (consistent_exact h whole tag).1 (record { state = met.state; model = met.model; all_true = (and_parts (list_all (holds met.state) tag) (holds met.state l) (sym (all-with_lit (holds met.state) l tag) ∙ met.all_true)).0 })
 
-  pub is_cov : (clauses grown tags : List (List Lit)) → grown ≡ all_grown h.clauses ([] ∷ []) clauses → tags ≡ each_once same_set grown → IsCov (formula h) clauses tags
+  pub is_cov : (clauses grown tags : List (List Lit)) → grown ≡ all_grown h.clauses ([] ∷ []) clauses → tags ≡ each_once same_set grown → AreTagsOfClauses (formula h) clauses tags
   is_cov clauses grown tags e f = record {
     test = is_fine h.clauses;
     tells = consistent_exact h whole;

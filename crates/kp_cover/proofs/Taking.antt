@@ -4,7 +4,7 @@ use Rattle.std.proofs.lemmas.Bool.{and_from}
 use Rattle.std.specs.List.{list_any, list_all}
 use Rattle.kp_base.specs.declared.lit.Lit.{Lit}
 use Rattle.kp_base.specs.declared.ground.Initial.{Initial}
-use Rattle.kp_base.specs.Planning.{Member, choices, each_once, positive, negative, same_lit, set_of, same_set, State, holds, is_model, IsConsistent, either_value, IsCandidate, IsCov, AllMeet}
+use Rattle.kp_base.specs.Planning.{Member, choices, each_once, positive, negative, same_lit, set_of, same_set, State, holds, is_model, IsConsistent, either_value, IsCandidate, AreTagsOfClauses, AllMeet}
 use Rattle.kp_base.specs.Lit.{has}
 use Rattle.kp_base.proofs.Lists.{bool_same, all_member, all_from, any_from, any_member, member_flat_map, member_map, map_member, member_filter, filter_member, choice_has}
 use Rattle.kp_base.proofs.Lits.{has-member, member-has}
@@ -45,7 +45,7 @@ taken s (c ∷ cs) h =
       all_true = and_from (holds s l.0) (list_all (holds s) r.lits) l.2 r.all_true;
     }
 
-module _ (i : Initial) (cs tags : List (List Lit)) (is : IsCov i cs tags) where
+module _ (i : Initial) (cs tags : List (List Lit)) (is : AreTagsOfClauses i cs tags) where
   abbrev fine : List (List Lit)
   fine = filter is.test (map set_of (choices cs))
 

@@ -6,7 +6,7 @@ use Rattle.kp_base.specs.declared.ground.Action.{Action}
 use Rattle.kp_base.specs.declared.ground.Ground.{Ground}
 use Rattle.kp_base.specs.declared.ground.Initial.{Initial}
 use Rattle.kp_base.specs.declared.ground.TagTable.{TagTable}
-use Rattle.kp_base.specs.Planning.{Member, State, is_model, IsConsistent, are_below, IsCandidate, AreClausesFor, IsCov, IsComplete, AreUncovered}
+use Rattle.kp_base.specs.Planning.{Member, State, is_model, IsConsistent, are_below, IsCandidate, AreClausesFor, AreTagsOfClauses, IsComplete, AreUncovered}
 use Rattle.kp_primes.specs.Held.{Held, formula, AreWhole}
 use Rattle.kp_cover.specs.Coverage.{AnswersCoverage}
 use Rattle.kp_cover.specs.Covering.{TellsCovers}
@@ -25,11 +25,11 @@ pub record AreGoodTags (i : Initial) (tags : List (List Lit)) : Type 0 where
 
 -- those of candidate clauses are
 abbrev pub TagsOfCandidatesAreGood : Type 0
-TagsOfCandidatesAreGood = (n : ℕ) (i : Initial) (cs tags : List (List Lit)) → ((c : List Lit) → Member cs c → IsCandidate n i c) → IsCov i cs tags → AreGoodTags i tags
+TagsOfCandidatesAreGood = (n : ℕ) (i : Initial) (cs tags : List (List Lit)) → ((c : List Lit) → Member cs c → IsCandidate n i c) → AreTagsOfClauses i cs tags → AreGoodTags i tags
 
 -- under formulas with the same models, clauses have the same tags
 abbrev pub IsCovOnce : Type 0
-IsCovOnce = (i j : Initial) (cs a b : List (List Lit)) → ((s : State) → is_model i s ≡ is_model j s) → IsCov i cs a → IsCov j cs b → a ≡ b
+IsCovOnce = (i j : Initial) (cs a b : List (List Lit)) → ((s : State) → is_model i s ≡ is_model j s) → AreTagsOfClauses i cs a → AreTagsOfClauses j cs b → a ≡ b
 
 -- the clauses that are relevant to a literal are of the atoms
 abbrev pub RelevantClausesAreOfAtoms : Type 0

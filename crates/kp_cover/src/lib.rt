@@ -1,6 +1,6 @@
 //! Merges and covers: whether the tags of a merge are valid, the tags of clauses, whether they cover others, and which
 //! targets the merges of a table cover.
-//! `AnswersValid` in `specs/Valid.antt` says what is answered of a merge, `IsCov` in `kp_base` which tags are those of
+//! `AnswersValid` in `specs/Valid.antt` says what is answered of a merge, `AreTagsOfClauses` in `kp_base` which tags are those of
 //! clauses, `specs/Covering.antt` when they cover, and `AnswersCoverage` in `specs/Coverage.antt` what is answered of a
 //! table.
 #![tactic(auto)]

@@ -2,7 +2,7 @@
 ghost use Rattle.std.specs.Prelude.{◌≡◌, ◌++◌, [], ◌∷◌, cond, IfOk, OnOk};
 ghost use Rattle.kp_base.specs.LitSet.{with_lit};
 ghost use Rattle.kp_primes.specs.Held.{formula};
-ghost use Rattle.kp_base.specs.Covering.{IsCov};
+ghost use Rattle.kp_base.specs.Covering.{AreTagsOfClauses};
 ghost use Rattle.kp_cover.specs.Grown.{is_fine, with_each, grown, all_grown, if_fine};
 
 use crate::distinct::distinct;
@@ -100,7 +100,7 @@ fn grow_all(alloc: Global, primes: &Primes, clauses: &[LitSet]) -> Result<Row<Li
 /// The tags that take one literal of each clause and are consistent, each once, the literals of the first clause
 /// slowest.
 pub fn cov(alloc: Global, primes: &Primes, clauses: &Row<LitSet>) -> Result<Row<LitSet>, Memory>
-    ensures { IfOk result (IsCov (formula primes.now) clauses.now) }
+    ensures { IfOk result (AreTagsOfClauses (formula primes.now) clauses.now) }
 {
     let _whole = primes.clauses();
     let tags = grow_all(alloc, primes, clauses.slice())?;

@@ -6,7 +6,7 @@ use Rattle.std.proofs.lemmas.List.Folds.{list_all-append}
 use Rattle.std.proofs.Math.Bool.{and-false}
 use Rattle.kp_base.specs.declared.lit.Lit.{Lit}
 use Rattle.kp_base.specs.declared.ground.Effect.{Effect}
-use Rattle.kp_base.specs.Planning.{Member, positive, negative, negated, same_lit, Facts, fires}
+use Rattle.kp_base.specs.Planning.{Member, positive, negative, negated, same_lit, Valuation, fires}
 use Rattle.kp_base.specs.Steps.{has}
 use Rattle.kp_base.proofs.Lists.{any_member, any_from, any_alike, all_member, bool_same, all_from}
 use Rattle.kp_base.proofs.Lits.{same_lit-true, same_lit-refl}
@@ -16,7 +16,7 @@ use Rattle.kp_ground_semantics.specs.Ground.{is_idle, lasting}
 -- ---- idle deletes
 
 -- where all of the greater list pass, so do those of the smaller one
-pub within_all : (k : Facts) (xs ys : List Lit) → is_within xs ys ≡ true → list_all k ys ≡ true → list_all k xs ≡ true
+pub within_all : (k : Valuation) (xs ys : List Lit) → is_within xs ys ≡ true → list_all k ys ≡ true → list_all k xs ≡ true
 within_all k xs ys h all =
     all_from k xs (λ x m.
     let r = any_member (same_lit x) ys (all_member (has ys) xs x m h) in
@@ -30,7 +30,7 @@ any-filter p q (e ∷ es) = pick (q e) (any-filter p q es)
     pick true rest = ap (λ t. p e || t) rest
     pick false rest = rest
 
-module _ (pre : List Lit) (es : List Effect) (k : Facts) (n : ℕ) where
+module _ (pre : List Lit) (es : List Effect) (k : Valuation) (n : ℕ) where
   -- adds stay
   pub lasting_adds : fires (lasting pre es) k (positive n) ≡ fires es k (positive n)
   lasting_adds =

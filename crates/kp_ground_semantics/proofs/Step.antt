@@ -93,7 +93,7 @@ names_fired s x (f ∷ fs) =
 abbrev AllCovered : List Atom → List FlatEffect → Type 0
 AllCovered atoms fs = (f : FlatEffect) → Member fs f → (m : GroundLit) → Member (effect_literals f) m → Covered atoms m
 
-fires_map : (atoms : List Atom) (k : steps.Facts) (x : Lit) (fs : List FlatEffect) → steps.fires (map (numbered_effect atoms) fs) k x ≡ list_any (λ f. same_lit (numbered atoms f.result) x && list_all k (numbered_set atoms f.cond)) fs
+fires_map : (atoms : List Atom) (k : steps.Valuation) (x : Lit) (fs : List FlatEffect) → steps.fires (map (numbered_effect atoms) fs) k x ≡ list_any (λ f. same_lit (numbered atoms f.result) x && list_all k (numbered_set atoms f.cond)) fs
 fires_map atoms k x [] = refl
 fires_map atoms k x (f ∷ fs) = ap (λ t. (same_lit (numbered atoms f.result) x && list_all k (numbered_set atoms f.cond)) || t) (fires_map atoms k x fs)
 
@@ -107,7 +107,7 @@ same_pass p ls ms h =
         subst (λ z. p z ≡ true) (sym (same_literal-true y found.0 found.2)) (all_member p xs found.0 found.1 all))
 
 -- repeated effects fire nothing more
-fires_once : (atoms : List Atom) (k : steps.Facts) (x : Lit) (fs : List FlatEffect) → steps.fires (map (numbered_effect atoms) (each_once same_flat fs)) k x ≡ steps.fires (map (numbered_effect atoms) fs) k x
+fires_once : (atoms : List Atom) (k : steps.Valuation) (x : Lit) (fs : List FlatEffect) → steps.fires (map (numbered_effect atoms) (each_once same_flat fs)) k x ≡ steps.fires (map (numbered_effect atoms) fs) k x
 fires_once atoms k x fs = fires_map atoms k x (each_once same_flat fs) ∙ (any-each_once same_flat fired alike fs ∙ sym (fires_map atoms k x fs))
   where
     fired : FlatEffect → Bool
@@ -141,7 +141,7 @@ fires_numbered l atoms numbering s fs covered sign n a at =
     ∙ sym (names_fired s (ground sign a.pred a.objects) fs))
 
 -- beyond the ground atoms nothing fires
-fires_none : (atoms : List Atom) (k : steps.Facts) (fs : List FlatEffect) → AllCovered atoms fs → (sign : Bool) (n : ℕ) → slice_get atoms n ≡ None → steps.fires (map (numbered_effect atoms) fs) k (lit sign n) ≡ false
+fires_none : (atoms : List Atom) (k : steps.Valuation) (fs : List FlatEffect) → AllCovered atoms fs → (sign : Bool) (n : ℕ) → slice_get atoms n ≡ None → steps.fires (map (numbered_effect atoms) fs) k (lit sign n) ≡ false
 fires_none atoms k [] covered sign n at = refl
 fires_none atoms k (f ∷ fs) covered sign n at =
     pick (same_lit (numbered atoms f.result) (lit sign n)) refl (fires_none atoms k fs (λ g i. covered g (inr i)) sign n at)

@@ -86,11 +86,6 @@ numbered atoms m = record { atom = record { 0 = number_of atoms (atom_of m) }; p
 abbrev pub numbered_set : List Atom → List GroundLit → List Lit
 numbered_set atoms ms = set_of (map (numbered atoms) ms)
 
--- the list has each of its atoms once, and each ground atom
-pub record IsNumbering (l : Lifted) (atoms : List Atom) : Type 0 where
-  pub once : (n : ℕ) (a : Atom) → slice_get atoms n ≡ Some a → number_of atoms a ≡ n
-  pub covers : (m : GroundLit) → Member (occurring l) m → slice_get atoms (number_of atoms (atom_of m)) ≡ Some (atom_of m)
-
 -- ---- effects
 
 -- an effect by number
@@ -144,7 +139,12 @@ ground_over l atoms = record {
 abbrev pub ground_of : Lifted → Ground
 ground_of l = ground_over l (ground_atoms l)
 
--- ---- states
+-- ---- for laws alone
+
+-- the list has each of its atoms once, and each ground atom
+pub record IsNumbering (l : Lifted) (atoms : List Atom) : Type 0 where
+  pub once : (n : ℕ) (a : Atom) → slice_get atoms n ≡ Some a → number_of atoms a ≡ n
+  pub covers : (m : GroundLit) → Member (occurring l) m → slice_get atoms (number_of atoms (atom_of m)) ≡ Some (atom_of m)
 
 -- whether there is such an atom and it is true
 abbrev pub at_atom : State → Option Atom → Bool

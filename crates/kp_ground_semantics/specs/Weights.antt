@@ -24,7 +24,7 @@ abbrev pub or_leaf : ℕ → ℕ → ℕ
 or_leaf leaf zero = leaf
 or_leaf leaf (suc n) = suc n
 
--- the weights of the leaves of an effect, where those that aren't under further conditions have this one; each condition adds its size, and a body counts once for each list of objects
+-- the weights of the leaves of an effect, where those that aren't under further conditions have this one; each condition adds its size, and a body counts once for each list of objects. An add or delete weighs one more than the literals and equalities round it; what is empty weighs like an add
 abbrev mutual
   pub leaves_weight : ℕ → Eff → ℕ
   leaves_weight leaf (Eff.both es) = or_leaf leaf (all_leaves_weight leaf es)

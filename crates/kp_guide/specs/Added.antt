@@ -1,4 +1,4 @@
--- The estimate `added`: what the goal's facts cost together, if nothing were deleted and no two facts shared an operator.
+-- The estimate `added` (the additive heuristic, h_add): what the goal's facts cost together, if nothing were deleted and no two facts shared an operator.
 use Rattle.std.specs.Prelude.{◌≡◌, ◌≤◌, ◌+◌, ℕ, true, min, nat_eq, List, [], ◌∷◌, ◌++◌, Option, Some, None, flat_map}
 use Rattle.kp_base.specs.Lists.{Member, each_once, only_if}
 use Rattle.kp_classic.specs.declared.task.OpEffect.{OpEffect}

@@ -20,7 +20,7 @@ use Rattle.kp_primes_first_model.proofs.Public.{literals_read_first_atoms, model
 use Rattle.kp_check.specs.declared.answer.Judged.{Judged}
 use Rattle.kp_check.specs.declared.answer.Judged.TheVariants.{Yes, No}
 use Rattle.kp_check.specs.Failing.{FailAt}
-use Rattle.kp_check.specs.Judging.{fails, AnswersJudged}
+use Rattle.kp_check.specs.Judging.{fails, IsVerdict}
 use Rattle.kp_check.proofs.Public.{IsGroundOf, is_ground_of, action_is_of_first_atoms, failing_from_none_is_plan}
 use Rattle.kp_law_decidable.specs.Laws.{VerdictsAreDecided}
 use Rattle.kp_law_decidable.proofs.Firsts.{ReadsFirst, first_or_none}
@@ -101,9 +101,9 @@ failure g (m ∷ ns) s inside off = go (slice_get g.actions m) refl (λ t e. fai
 pub verdicts_decided : VerdictsAreDecided
 verdicts_decided n g i ns over number of inside = go (first_or_none n (is_wanted i (fails g ns)) (reads_fails n g i ns over (is_ground_of n g number of)))
   where
-    told : (ps : List AtomId) → AreFirst n (is_wanted i (fails g ns)) ps → Failure g (state_of_atoms ps) ns → (j : Judged) × AnswersJudged n g i ns j
+    told : (ps : List AtomId) → AreFirst n (is_wanted i (fails g ns)) ps → Failure g (state_of_atoms ps) ns → (j : Judged) × IsVerdict n g i ns j
     told ps first f = (No ps f.step f.literal, (first, f.at))
 
-    go : ((o : Option (List AtomId)) × AnswersFirst n (is_wanted i (fails g ns)) o) → (j : Judged) × AnswersJudged n g i ns j
+    go : ((o : Option (List AtomId)) × AnswersFirst n (is_wanted i (fails g ns)) o) → (j : Judged) × IsVerdict n g i ns j
     go (None, none) = (Yes, failing_from_none_is_plan g i ns none)
     go (Some ps, first) = told ps first (failure g ns (state_of_atoms ps) inside (not-true (succeeds g (state_of_atoms ps) ns) (and_parts (is_model i (state_of_atoms ps)) (fails g ns (state_of_atoms ps)) first.0.passed).1))

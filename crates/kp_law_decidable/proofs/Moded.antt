@@ -6,7 +6,7 @@ use Rattle.kp_base.specs.declared.ground.Ground.{Ground}
 use Rattle.kp_base.specs.declared.ground.Initial.{Initial}
 use Rattle.kp_base.specs.declared.refused.Refused.{Refused}
 use Rattle.kp_base.specs.declared.refused.Refused.TheVariants as refusals
-use Rattle.kp_base.specs.Planning.{Member, IsCov, AllMeet, IsTarget, IsOfAtoms, AreClausesFor, either_value}
+use Rattle.kp_base.specs.Planning.{Member, AreTagsOfClauses, AllMeet, IsTarget, IsOfAtoms, AreClausesFor, either_value}
 use Rattle.kp_base.proofs.Lists.{append_member, map_member}
 use Rattle.kp_cover_subsets.specs.Subsets.{subsets, choose}
 use Rattle.kp_cover.specs.Targets.{AreTargets}
@@ -14,7 +14,7 @@ use Rattle.kp_cover.proofs.Public.{cov_once, target_is_below}
 use Rattle.kp_tags_files.specs.declared.merge.FileMerge.{FileMerge}
 use Rattle.kp_tags_modes.specs.declared.way.Way.{Way}
 use Rattle.kp_tags_modes.specs.Modes.{way_of, IsCovering, IsFirstCovering, IsPassed, ArePassed, IsLeastCover, IsRefusedAt, AreOneForEach, AreOtherwise, AreMergesBy, AreMergesFor, merge_of, AreMergesInTurn, AreMergesOf}
-use Rattle.kp_tags_modes.specs.Answers.{IsTargetRefused, RefusesFirst, RefusesMode}
+use Rattle.kp_tags_modes.specs.Answers.{IsTargetRefused, RefusesFirstTarget, RefusesMode}
 use Rattle.kp_tags_modes.proofs.Public.{atoms_of_clauses, atoms_of_clauses_are}
 use Rattle.kp_law_decidable.specs.Laws.{AreProper, ModesAreDecided}
 use Rattle.kp_law_decidable.proofs.Either.{IsEither}
@@ -39,7 +39,7 @@ module _ (n : ℕ) (i : Initial) (over : IsOfAtoms n i) (cs : List (List Lit)) w
   covering : (set : List (List Lit)) → IsEither (IsCovering i cs set)
   covering set = go (cov n i over set)
     where
-      go : ((tags : List (List Lit)) × IsCov i set tags) → IsEither (IsCovering i cs set)
+      go : ((tags : List (List Lit)) × AreTagsOfClauses i set tags) → IsEither (IsCovering i cs set)
       go (tags, are) = by (all_meet n i over tags cs)
         where
           by : IsEither (AllMeet i tags cs) → IsEither (IsCovering i cs set)
@@ -158,16 +158,16 @@ module _ (g : Ground) (i : Initial) (proper : AreProper g i) (way : Way) (limit 
           by (inr (v, bare, r)) = inr (v, record { clauses = cs; are_clauses = are; uncovered = bare; refused = r })
 
   abbrev InTurn : List Lit → Type 0
-  InTurn targets = ((ms : List FileMerge) × AreMergesInTurn way limit g i targets ms) ⊎ ((r : Refused) × RefusesFirst way limit g i targets r)
+  InTurn targets = ((ms : List FileMerge) × AreMergesInTurn way limit g i targets ms) ⊎ ((r : Refused) × RefusesFirstTarget way limit g i targets r)
 
   in_turn : (targets : List Lit) → ((l : Lit) → Member targets l → IsTarget g l) → InTurn targets
   in_turn [] are = inl ([], AreMergesInTurn.done)
   in_turn (t ∷ ts) are = go (for_target t (are t (inl refl))) (in_turn ts (λ l m. are l (inr m)))
     where
       go : ForTarget t → InTurn ts → InTurn (t ∷ ts)
-      go (inr (v, r)) rest = inr (refusals.SetsOver t v, RefusesFirst.here t ts v r)
+      go (inr (v, r)) rest = inr (refusals.SetsOver t v, RefusesFirstTarget.here t ts v r)
       go (inl (merges, m)) (inl (ms, rest)) = inl (map (merge_of t) merges ++ ms, AreMergesInTurn.more t ts merges ms m rest)
-      go (inl (merges, m)) (inr (r, rest)) = inr (r, RefusesFirst.later t ts merges r m rest)
+      go (inl (merges, m)) (inr (r, rest)) = inr (r, RefusesFirstTarget.later t ts merges r m rest)
 
 pub modes_decided : ModesAreDecided
 modes_decided mode limit g i proper = by (way_of mode) (targets_decided g)

@@ -19,12 +19,12 @@ use Rattle.kp_cover.specs.Valid.{satisfies_one, is_outside}
 use Rattle.kp_check.specs.declared.answer.Judged.{Judged}
 use Rattle.kp_check.specs.declared.answer.Judged.TheVariants.{Yes, No}
 use Rattle.kp_check.specs.Failing.{FailAt}
-use Rattle.kp_check.specs.Judging.{fails, AnswersJudged}
+use Rattle.kp_check.specs.Judging.{fails, IsVerdict}
 use Rattle.kp_check.proofs.Public.{steps_fail_in_one_place}
 use Rattle.kp_plans.specs.declared.step.PlanStep.{PlanStep}
 use Rattle.kp_plans.specs.Found.{IsFirstUnknown}
 use Rattle.kp_tags_files.specs.declared.merge.FileMerge.{FileMerge}
-use Rattle.kp_tags.specs.Answers.{AreConsistent, IsFirstInconsistent, AreAcceptable, RefusesMerge, inconsistent, invalid, AreAllAcceptable, RefusesFirst, Accepts, RefusesTable, at_fault, tags_over}
+use Rattle.kp_tags.specs.Answers.{AreConsistent, IsFirstInconsistent, AreAcceptable, RefusesMerge, inconsistent, invalid, AreAllAcceptable, RefusesFirstMerge, Accepts, RefusesTable, at_fault, tags_over}
 use Rattle.kp_tags.proofs.Public.{accepted_table_once}
 
 -- ---- lists of atoms
@@ -128,14 +128,14 @@ module _ (n : ℕ) (i : Initial) where
 
   module _ (ms : List FileMerge) where
     -- merges that are all acceptable have no first at fault
-    none_at_fault : (r : Refused) → AreAllAcceptable i ms → RefusesFirst n i ms r → ⊥
+    none_at_fault : (r : Refused) → AreAllAcceptable i ms → RefusesFirstMerge n i ms r → ⊥
     none_at_fault r fine f = not_acceptable f.number f.merge.tags r (fine.each f.merge (member_at ms f.number f.merge f.merge_at)) f.fault
 
-    not_before : (r q : Refused) (f : RefusesFirst n i ms r) (g : RefusesFirst n i ms q) → f.number < g.number → ⊥
+    not_before : (r q : Refused) (f : RefusesFirstMerge n i ms r) (g : RefusesFirstMerge n i ms q) → f.number < g.number → ⊥
     not_before r q f g lt = not_acceptable f.number f.merge.tags r (g.before.each f.merge (taken ms f.number g.number f.merge f.merge_at lt)) f.fault
 
     -- one fault is told of the first merge at fault
-    fault_once : (r q : Refused) → RefusesFirst n i ms r → RefusesFirst n i ms q → r ≡ q
+    fault_once : (r q : Refused) → RefusesFirstMerge n i ms r → RefusesFirstMerge n i ms q → r ≡ q
     fault_once r q f g =
         let place = one_place f.number g.number (not_before r q f g) (not_before q r g f) in
         let merge = one_value ms f.number g.number f.merge g.merge place f.merge_at g.merge_at in
@@ -166,7 +166,7 @@ plan_fails_not g i ns s plan wanted =
     false≢true (sym (ap not (plan s parts.0)) ∙ parts.1)
 
 -- steps have one verdict
-pub verdict_once : (n : ℕ) (g : Ground) (i : Initial) (ns : List ℕ) (v w : Judged) → AnswersJudged n g i ns v → AnswersJudged n g i ns w → v ≡ w
+pub verdict_once : (n : ℕ) (g : Ground) (i : Initial) (ns : List ℕ) (v w : Judged) → IsVerdict n g i ns v → IsVerdict n g i ns w → v ≡ w
 verdict_once n g i ns Yes Yes h k = refl
 verdict_once n g i ns Yes (No ps k l) plan f = absurd (plan_fails_not g i ns (state_of_atoms ps) plan f.0.0.passed)
 verdict_once n g i ns (No ps k l) Yes f plan = absurd (plan_fails_not g i ns (state_of_atoms ps) plan f.0.0.passed)

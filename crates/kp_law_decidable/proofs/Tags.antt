@@ -4,7 +4,7 @@ use Rattle.std.proofs.lemmas.Bool.{and_parts, and_from, false≢true}
 use Rattle.std.specs.List.{list_all}
 use Rattle.kp_base.specs.declared.lit.Lit.{Lit}
 use Rattle.kp_base.specs.declared.ground.Initial.{Initial}
-use Rattle.kp_base.specs.Planning.{Member, choices, each_once, negated, set_of, same_set, State, holds, is_model, Entails, IsConsistent, TellsConsistent, IsCov, Meets, AllMeet, are_below, IsOfAtoms}
+use Rattle.kp_base.specs.Planning.{Member, choices, each_once, negated, set_of, same_set, State, holds, is_model, Entails, IsConsistent, TellsConsistent, AreTagsOfClauses, Meets, AllMeet, are_below, IsOfAtoms}
 use Rattle.kp_base.proofs.Lists.{all_weaker}
 use Rattle.kp_base.proofs.Lits.{holds-negated}
 use Rattle.kp_law_decidable.specs.Laws.{TagsAreDecided}
@@ -74,7 +74,7 @@ module _ (n : ℕ) (i : Initial) (over : IsOfAtoms n i) where
   unfolding test
   tells tag = told (consistent tag)
 
-  pub cov : (clauses : List (List Lit)) → (tags : List (List Lit)) × IsCov i clauses tags
+  pub cov : (clauses : List (List Lit)) → (tags : List (List Lit)) × AreTagsOfClauses i clauses tags
   cov clauses = (each_once same_set (filter test (map set_of (choices clauses))), record { test = test; tells = tells; are = refl })
 
   pub all_meet : (tags clauses : List (List Lit)) → IsEither (AllMeet i tags clauses)

@@ -10,7 +10,7 @@ use Rattle.kp_base.specs.declared.limits.Limits.{Limits}
 use Rattle.kp_base.specs.declared.limits.Mode.{Mode}
 use Rattle.kp_base.specs.declared.refused.ClashAt.{ClashAt}
 use Rattle.kp_base.specs.declared.refused.Refused.{Refused}
-use Rattle.kp_base.specs.Planning.{Member, IsAscending, IsOfAtoms, IsOfItsAtoms, IsLeastOver, IsNeverOver, HasModel, HasNoModel, ClashesFirst, IsClashFree, AreClausesFor, TellsConsistent, IsCov, AllMeet, Covers, AreUncovered, IsComplete, IsTarget}
+use Rattle.kp_base.specs.Planning.{Member, IsAscending, IsOfAtoms, IsOfItsAtoms, IsLeastOver, IsNeverOver, HasModel, HasNoModel, ClashesFirst, IsClashFree, AreClausesFor, TellsConsistent, AreTagsOfClauses, AllMeet, Covers, AreUncovered, IsComplete, IsTarget}
 use Rattle.kp_cover.specs.Targets.{AreTargets}
 use Rattle.kp_relevance.specs.Relevant.{ArePairsOf}
 use Rattle.kp_width.specs.declared.report.WidthReport.{WidthReport}
@@ -25,7 +25,7 @@ use Rattle.kp_ground_semantics.specs.Ground.{ground_of}
 use Rattle.kp_ground.specs.Grounded.{IsGrounded, RefusesGround}
 use Rattle.kp_init.specs.Initial.{initial_of}
 use Rattle.kp_check.specs.declared.answer.Judged.{Judged}
-use Rattle.kp_check.specs.Judging.{AnswersJudged}
+use Rattle.kp_check.specs.Judging.{IsVerdict}
 use Rattle.kp_plans.specs.declared.step.PlanStep.{PlanStep}
 use Rattle.kp_plans.specs.Found.{action_of, IsFirstUnknown}
 use Rattle.kp_tags_files.specs.declared.merge.FileMerge.{FileMerge}
@@ -69,7 +69,7 @@ TablesAreDecided = (atoms : ℕ) (i : Initial) (ms : List FileMerge) (limit : �
 
 -- where the formula and the ground problem speak of ground atoms alone, the numbers of actions have a verdict
 abbrev pub VerdictsAreDecided : Type 0
-VerdictsAreDecided = (atoms : ℕ) (g : Ground) (i : Initial) (ns : List ℕ) → IsOfAtoms atoms i → length g.atoms ≡ atoms → IsOfItsAtoms g → list_all (λ m. nat_lt m (length g.actions)) ns ≡ true → (j : Judged) × AnswersJudged atoms g i ns j
+VerdictsAreDecided = (atoms : ℕ) (g : Ground) (i : Initial) (ns : List ℕ) → IsOfAtoms atoms i → length g.atoms ≡ atoms → IsOfItsAtoms g → list_all (λ m. nat_lt m (length g.actions)) ns ≡ true → (j : Judged) × IsVerdict atoms g i ns j
 
 -- each step names an action, or some step is the first that names none
 abbrev pub StepsAreDecided : Type 0
@@ -100,7 +100,7 @@ TargetsAreDecided = (g : Ground) → (ls : List Lit) × AreTargets g ls
 pub record TellsOfTags (i : Initial) : Type 0 where
   pub test : List Lit → Bool
   pub tells : TellsConsistent i test
-  pub tags : (clauses : List (List Lit)) → (tags : List (List Lit)) × IsCov i clauses tags
+  pub tags : (clauses : List (List Lit)) → (tags : List (List Lit)) × AreTagsOfClauses i clauses tags
   pub meeting : (tags clauses : List (List Lit)) → AllMeet i tags clauses ⊎ (AllMeet i tags clauses → ⊥)
 
 -- it is so of a formula over finitely many atoms

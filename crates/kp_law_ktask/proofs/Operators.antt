@@ -48,7 +48,7 @@ made_append s (x ∷ xs) ys holds n =
 
 module _ (atoms : List GroundName) (names : AllByRecursion IsGroundName atoms) (differ : IsDistinct same_name atoms) where
   -- the fact of each literal of an atom under the tag holds where the machine knows the literal
-  abbrev pub Agree : ℕ → Facts → steps.Facts → Type 0
+  abbrev pub Agree : ℕ → Facts → steps.Valuation → Type 0
   Agree t s k = (l : Lit) → IsOfAtom atoms l → s (fact_of atoms t l) ≡ k l
 
   -- what the effects of an action make under one tag
@@ -83,7 +83,7 @@ module _ (atoms : List GroundName) (names : AllByRecursion IsGroundName atoms) (
       bools false b true false = refl
       bools false b false d = refl
 
-  module _ (t : ℕ) (fits : t < 2 ^ 64) (s : Facts) (k : steps.Facts) (agree : Agree t s k) where
+  module _ (t : ℕ) (fits : t < 2 ^ 64) (s : Facts) (k : steps.Valuation) (agree : Agree t s k) where
     pub facts_hold : (ls : List Lit) → AreOfAtoms atoms ls → list_all s (map (fact_of atoms t) ls) ≡ list_all k ls
     facts_hold [] h = refl
     facts_hold (l ∷ ls) h = rw (agree l h.0, facts_hold ls h.1) refl

@@ -34,9 +34,9 @@ use Rattle.kp_run_outcome.specs.declared.status.Status.{Status}
 use Rattle.kp_run_outcome.specs.declared.status.Status.TheVariants as status
 use Rattle.kp_run_outcome.specs.Ends.{Outside, IsAnswer}
 use Rattle.kp_run_outcome.specs.Printing.{prints, denies}
-use Rattle.kp_words.specs.Names.{of_mode, Bench}
-use Rattle.kp_words.specs.declared.lent.CommandRef.TheVariants as commands
-use Rattle.kp_words.specs.Command.{IsBench}
+use Rattle.kp_words.specs.Asked.{of_mode, Asked}
+use Rattle.kp_words.specs.declared.verb.Verb.TheVariants as verbs
+use Rattle.kp_words.specs.Command.{IsCall}
 use Rattle.kp_run_prepare.specs.Prepared.{by_texts, by_trees, early, later}
 use Rattle.kp_run_inputs.specs.SourceTables.{no_table, with_table}
 use Rattle.kp_run_inputs.proofs.Public.{table_of_source_is_for_trees}
@@ -46,10 +46,10 @@ use Rattle.kp_run_solve.specs.Operators.{acts_among}
 use Rattle.kp_run_bench.specs.Summary.{summary_text}
 use Rattle.kp_run_bench.proofs.Public.{told_actions_are_those_among}
 use Rattle.kp_run_bench.specs.Bench.{texts_of, usual_implicates, SumsUp, TellsBench, over, searched as by_search, Benches}
-use Rattle.kp_run.specs.Outcomes.{benched, IsDue, of_command}
+use Rattle.kp_run.specs.Outcomes.{IsDue}
 use Rattle.kp_run.specs.Ends.{Ends}
 use Rattle.kp_run.specs.Solved.{Tells, its_ground, its_formula, its_task, IsWrittenPlan}
-use Rattle.kp_run.proofs.Public.{both_plans, due_makes, task_of_trees_fits, prepared_is_proper, no_plan_text_tells_complete, IsNoRefusal, not_refused}
+use Rattle.kp_run.proofs.Public.{both_plans, due_makes, task_of_trees_fits, prepared_is_proper, no_plan_text_tells_complete, IsNoRefusal, not_refused, due_by}
 use Rattle.kp_run_prepare.proofs.Public.{problem_of_trees}
 use Rattle.kp_law_runs.specs.Follows.{IsAnsweredBy}
 use Rattle.kp_law_runs.specs.Bench.{IsPosedBench, IsSolvedBench, HasNoBenchPlan, IsSpentBench, BenchesAreTrue, BenchesAreAnswered}
@@ -57,18 +57,18 @@ use Rattle.kp_law_runs.proofs.Following.{answers_are_whole, ends_with}
 use Rattle.kp_law_runs.proofs.SomeOutcome.{as_many}
 
 pub benches_are_answered : BenchesAreAnswered
-benches_are_answered words old new s ends m c o held is does = ends_with words old new s ends m o held (of_command (commands.Bench c) [] o is refl (benched c o does))
+benches_are_answered words old new s ends m c o held is does = ends_with words old new s ends m o held (due_by verbs.Bench c (record { domain = []; problem = []; merges = []; plan = []; written = [] }) o is (record { domain = refl; problem = refl; merges = refl; plan = refl; written = refl }) does)
 
 -- ---- what such a run came to
 
 -- what it was about, and what its search found
-record HasBenched (c : Bench) (o : Outcome) : Type 0 where
+record HasBenched (c : Asked) (o : Outcome) : Type 0 where
   posed : IsPosedBench c
   found : Found
   finds : Finds (its_task posed.about) c.budget found
   tells : TellsBench c (its_ground posed.about) (its_formula posed.about) posed.about.table found o
 
-of_texts : (c : Bench) (o : Outcome) → IsNoRefusal o → Benches c o → HasBenched c o
+of_texts : (c : Asked) (o : Outcome) → IsNoRefusal o → Benches c o → HasBenched c o
 of_texts c o answers (early (by_texts r why is)) = absurd (not_refused o nothing r is answers)
 of_texts c o answers (early (by_trees d p names r trees why is)) = absurd (not_refused o names r is answers)
 of_texts c o answers (later d p trees ready (no_table names r why is)) = absurd (not_refused o names r is answers)
@@ -80,12 +80,12 @@ of_texts c o answers (later d p trees ready (with_table table has (by_search fou
   tells = tells;
 }
 
-has_benched : (words : List (Vec ℕ Global)) (held : Option FileMap) (c : Bench) (o : Outcome) → IsBench words c → IsDue words held o → IsNoRefusal o → HasBenched c o
-has_benched words held c o is due answers = let it = due_makes words held (commands.Bench c) o is due in of_texts c o answers it.makes.1
+has_benched : (words : List (Vec ℕ Global)) (held : Option FileMap) (c : Asked) (o : Outcome) → IsCall verbs.Bench words c → IsDue words held o → IsNoRefusal o → HasBenched c o
+has_benched words held c o is due answers = let it = due_makes words held verbs.Bench c o is due in of_texts c o answers it.makes
 
 -- ---- what its answer says
 
-module _ (c : Bench) (o : Outcome) (x : HasBenched c o) (old new : Outside) (s : Status) (a : IsAnsweredBy o old new s) where
+module _ (c : Asked) (o : Outcome) (x : HasBenched c o) (old new : Outside) (s : Status) (a : IsAnsweredBy o old new s) where
   abbrev d : Domain Word
   d = x.posed.about.domain_tree
 
@@ -199,7 +199,7 @@ module _ (c : Bench) (o : Outcome) (x : HasBenched c o) (old new : Outside) (s :
 -- ---- what it says of a run
 
 -- it came to an answer that is no refusal
-of_answer : (words : List (Vec ℕ Global)) (old new : Outside) (s : Status) → Ends words old new s → (c : Bench) → IsBench words c → IsAnswer s → ((r : Refused) → s ≡ status.Refused r → ⊥) → (o : Outcome) × HasBenched c o × IsAnsweredBy o old new s
+of_answer : (words : List (Vec ℕ Global)) (old new : Outside) (s : Status) → Ends words old new s → (c : Asked) → IsCall verbs.Bench words c → IsAnswer s → ((r : Refused) → s ≡ status.Refused r → ⊥) → (o : Outcome) × HasBenched c o × IsAnsweredBy o old new s
 of_answer words old new s ends c is answer other =
     let w = answers_are_whole words old new s ends answer in
     (w.outcome, has_benched words old.held c w.outcome is w.due (λ r e. other r (w.answered.status_is ∙ e)), w.answered)

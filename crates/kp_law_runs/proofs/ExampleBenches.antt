@@ -47,18 +47,18 @@ use Rattle.kp_run_outcome.specs.Printing.{denies}
 use Rattle.kp_words_options.specs.Words.{a_word, apart as apart_words, word as said_word, option as said_option}
 use Rattle.kp_words_options.specs.Words as line_words
 use Rattle.kp_words.specs.declared.source.Family.TheVariants as families
-use Rattle.kp_words.specs.Names.{Bench}
-use Rattle.kp_words.specs.declared.lent.CommandRef.TheVariants as commands
-use Rattle.kp_words.specs.Command.{IsBench}
+use Rattle.kp_words.specs.Asked.{Asked}
+use Rattle.kp_words.specs.declared.verb.Verb.TheVariants as verbs
+use Rattle.kp_words.specs.Command.{IsCall}
 use Rattle.kp_words.proofs.Public.{word_of_bytes as word}
+use Rattle.kp_words.specs.Owned.{bare}
 use Rattle.kp_run_prepare.specs.Texts.{HaveTrees}
 use Rattle.kp_run_prepare.specs.Prepared.{usual, IsPrepared, later}
 use Rattle.kp_run_inputs.specs.SourceTables.{by_mode, with_table}
 use Rattle.kp_run_solve.specs.Solving.{Finds}
 use Rattle.kp_run_bench.specs.Bench.{Benches, searched as by_search}
-use Rattle.kp_run.specs.Outcomes.{benched, of_command}
 use Rattle.kp_run.specs.Ends.{Ends, came}
-use Rattle.kp_run.proofs.Public.{file_reads_by_computing, empty_tags_fit, empty_tag_made, example_has_state}
+use Rattle.kp_run.proofs.Public.{file_reads_by_computing, empty_tags_fit, empty_tag_made, example_has_state, due_by}
 use Rattle.kp_law_runs.specs.Bench.{HasNoBenchPlan}
 use Rattle.kp_law_runs.proofs.Benches.{benches_are_true}
 use Rattle.kp_law_runs.proofs.ExampleCourses.{unreached}
@@ -66,24 +66,32 @@ use Rattle.kp_law_runs.proofs.ExampleFiles.{within, never_clashing}
 
 -- ---- words
 
-abbrev running : Bench
-running = record { family = families.Line; n = 2; mode = modes.K0; budget = 10000 }
+abbrev running : Asked
+running = record (bare verbs.Bench) { family = families.Line; size = 2; mode = modes.K0; budget = 10000 }
 
 abbrev bench_words : List (Vec ℕ Global)
 bench_words = word (codes "bench") (omega arith) ∷ word (codes "line") (omega arith) ∷ word (codes "2") (omega arith) ∷ word (codes "--mode") (omega arith) ∷ word (codes "k0") (omega arith) ∷ []
 
-is_bench : IsBench bench_words running
+is_bench : IsCall verbs.Bench bench_words running
 unfolding encode digits
 is_bench = record {
-  rest = codes "line" ∷ codes "2" ∷ codes "--mode" ∷ codes "k0" ∷ [];
-  utf8 = ((codes "bench", (refl, refl)), ((codes "line", (refl, refl)), ((codes "2", (refl, refl)), ((codes "--mode", (refl, refl)), ((codes "k0", (refl, refl)), tt)))));
-  words_are = refl;
-  says = record {
-    places = codes "line" ∷ codes "2" ∷ [];
-    values = Some (codes "k0") ∷ None ∷ [];
-    line = record { said = said_word (codes "line") ∷ said_word (codes "2") ∷ said_option (codes "mode") (codes "k0") ∷ []; says = a_word _ _ _ refl (a_word _ _ _ refl (apart_words (codes "mode") (codes "k0") _ _ refl refl line_words.nothing)); places_are = refl; known = refl; once = refl; values_are = refl };
-    are_so = record { mode = Some (codes "k0"); budget = None; places_are = refl; values_are = refl; size = record { at_least = omega arith; at_most = omega arith }; says_mode = refl; says_budget = refl };
+  is_command = record {
+    utf8 = ((codes "bench", (refl, refl)), ((codes "line", (refl, refl)), ((codes "2", (refl, refl)), ((codes "--mode", (refl, refl)), ((codes "k0", (refl, refl)), tt)))));
+    are_words = record {
+      rest = codes "line" ∷ codes "2" ∷ codes "--mode" ∷ codes "k0" ∷ [];
+      are = refl;
+      behind = record {
+        places = codes "line" ∷ codes "2" ∷ [];
+        values = Some (codes "k0") ∷ None ∷ [];
+        line = record { said = said_word (codes "line") ∷ said_word (codes "2") ∷ said_option (codes "mode") (codes "k0") ∷ []; says = a_word _ _ _ refl (a_word _ _ _ refl (apart_words (codes "mode") (codes "k0") _ _ refl refl line_words.nothing)); places_are = refl; known = refl; once = refl; values_are = refl };
+        are_of = record {
+          as_many = refl;
+          are_asked = record { domain = refl; problem = refl; plan = refl; written = refl; domain_out = refl; problem_out = refl; outputs_differ = tt; family = refl; size = (record { at_least = omega arith; at_most = omega arith }, refl); mode = refl; merges = refl; one_source = tt; implicates = refl; budget = refl; bound = refl; classical = refl };
+        };
+      };
+    };
   };
+  of_verb = refl;
 }
 
 -- ---- two texts
@@ -315,7 +323,7 @@ abbrev after : Outside
 after = record { held = Some empty; told = with_bytes (Some []) no_plan.text; get_faults = λ q. 0; put_faults = λ q. 0; write_faults = 0 }
 
 ends : Ends bench_words before after status.Negative
-ends = came no_plan (of_command (commands.Bench running) [] no_plan is_bench refl (benched running no_plan benches)) (whole refl (record { gets = λ q. refl; puts = λ q. refl; writes = refl }) refl refl)
+ends = came no_plan (due_by verbs.Bench running (record { domain = []; problem = []; merges = []; plan = []; written = [] }) no_plan is_bench (record { domain = refl; problem = refl; merges = refl; plan = refl; written = refl }) benches) (whole refl (record { gets = λ q. refl; puts = λ q. refl; writes = refl }) refl refl)
 
 has_none : HasNoBenchPlan running before after
 has_none = (benches_are_true bench_words before after status.Negative ends running is_bench).negative refl

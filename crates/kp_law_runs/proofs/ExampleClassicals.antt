@@ -27,18 +27,19 @@ use Rattle.kp_run_outcome.specs.declared.outcome.Outcome.{Outcome}
 use Rattle.kp_run_outcome.specs.declared.status.Status.TheVariants as status
 use Rattle.kp_run_outcome.specs.Ends.{Outside, whole}
 use Rattle.kp_run_outcome.specs.Printing.{denies}
-use Rattle.kp_words.specs.Names.{Classical}
-use Rattle.kp_words.specs.declared.lent.CommandRef.TheVariants as commands
+use Rattle.kp_words.specs.Asked.{Asked}
+use Rattle.kp_words.specs.declared.verb.Verb.TheVariants as verbs
 use Rattle.kp_words_options.specs.Words.{nothing, a_word, apart as apart_words, word as said_word, option as said_option}
-use Rattle.kp_words.specs.Command.{IsClassical}
+use Rattle.kp_words.specs.Command.{IsCall}
 use Rattle.kp_words.proofs.Public.{word_of_bytes, example_is_classical as is_classical_call}
+use Rattle.kp_words.specs.Owned.{bare}
 use Rattle.kp_run_prepare.specs.Texts.{HaveTrees}
 use Rattle.kp_run_classical.specs.Classical.{IsClassicalProblem, later, task_of}
 use Rattle.kp_run_solve.specs.Solving.{Finds, solves, spends, TellsClassical}
 use Rattle.kp_run_messages.specs.Searches.{no_plan_line}
-use Rattle.kp_run.specs.Outcomes.{ClassicalTexts, solved_classical, of_command}
+use Rattle.kp_run.specs.Classical.{ClassicalTexts}
 use Rattle.kp_run.specs.Ends.{Ends, came}
-use Rattle.kp_run.proofs.Public.{example_holding, got_after_insert, got_beside_insert, classical_task_fits}
+use Rattle.kp_run.proofs.Public.{example_holding, got_after_insert, got_beside_insert, classical_task_fits, due_by}
 use Rattle.kp_run.specs.Solved.{IsSolvedClassical, HasNoClassicalPlan, IsSpentClassical}
 use Rattle.kp_law_runs.proofs.Classicals.{classical_is_a_plan, no_classical_plan_is_true, classical_spent_is_true}
 use Rattle.kp_law_runs.proofs.ExampleCourses.{leading, reaching, unreached, with_plan, without_plan, spent}
@@ -49,25 +50,33 @@ use Rattle.kp_law_runs.proofs.ExampleFiles.{trees, is_classical, to_both, to_bot
 abbrev front : List (Vec ℕ Global) → List (Vec ℕ Global)
 front more = word_of_bytes (codes "classical") (omega arith) ∷ word_of_bytes (codes "d") (omega arith) ∷ word_of_bytes (codes "p") (omega arith) ∷ more
 
-abbrev solving : ℕ → Classical
-solving budget = record { domain = codes "d"; problem = codes "p"; budget = budget }
+abbrev solving : ℕ → Asked
+solving budget = record (bare verbs.Classical) { domain = codes "d"; problem = codes "p"; budget = budget }
 
 -- one state may be expanded
 abbrev with_budget : List (Vec ℕ Global)
 with_budget = front (word_of_bytes (codes "--budget") (omega arith) ∷ word_of_bytes (codes "1") (omega arith) ∷ [])
 
-is_with_budget : IsClassical with_budget (solving 1)
+is_with_budget : IsCall verbs.Classical with_budget (solving 1)
 unfolding encode digits
 is_with_budget = record {
-  rest = codes "d" ∷ codes "p" ∷ codes "--budget" ∷ codes "1" ∷ [];
-  utf8 = ((codes "classical", (refl, refl)), ((codes "d", (refl, refl)), ((codes "p", (refl, refl)), ((codes "--budget", (refl, refl)), ((codes "1", (refl, refl)), tt)))));
-  words_are = refl;
-  says = record {
-    places = codes "d" ∷ codes "p" ∷ [];
-    values = Some (codes "1") ∷ [];
-    line = record { said = said_word (codes "d") ∷ said_word (codes "p") ∷ said_option (codes "budget") (codes "1") ∷ []; says = a_word _ _ _ refl (a_word _ _ _ refl (apart_words (codes "budget") (codes "1") _ _ refl refl (nothing))); places_are = refl; known = refl; once = refl; values_are = refl };
-    are_so = record { budget = Some (codes "1"); places_are = refl; values_are = refl; says_budget = (record { at_least = omega arith; at_most = omega arith }, refl) };
+  is_command = record {
+    utf8 = ((codes "classical", (refl, refl)), ((codes "d", (refl, refl)), ((codes "p", (refl, refl)), ((codes "--budget", (refl, refl)), ((codes "1", (refl, refl)), tt)))));
+    are_words = record {
+      rest = codes "d" ∷ codes "p" ∷ codes "--budget" ∷ codes "1" ∷ [];
+      are = refl;
+      behind = record {
+        places = codes "d" ∷ codes "p" ∷ [];
+        values = Some (codes "1") ∷ [];
+        line = record { said = said_word (codes "d") ∷ said_word (codes "p") ∷ said_option (codes "budget") (codes "1") ∷ []; says = a_word _ _ _ refl (a_word _ _ _ refl (apart_words (codes "budget") (codes "1") _ _ refl refl (nothing))); places_are = refl; known = refl; once = refl; values_are = refl };
+        are_of = record {
+          as_many = refl;
+          are_asked = record { domain = refl; problem = refl; plan = refl; written = refl; domain_out = refl; problem_out = refl; outputs_differ = tt; family = refl; size = refl; mode = refl; merges = refl; one_source = tt; implicates = refl; budget = (record { at_least = omega arith; at_most = omega arith }, refl); bound = refl; classical = refl };
+        };
+      };
+    };
   };
+  of_verb = refl;
 }
 
 -- ---- two files
@@ -88,9 +97,9 @@ domain_held domain problem = got_beside_insert (insert empty (codes "d") domain)
 problem_held : (domain problem : List ℕ) → get (example_holding domain problem) (codes "p") ≡ Some problem
 problem_held domain problem = got_after_insert (insert empty (codes "d") domain) (codes "p") problem
 
-ends : (ws : List (Vec ℕ Global)) (budget : ℕ) → IsClassical ws (solving budget) → (domain problem : List ℕ) (o : Outcome) → o.puts ≡ [] → ClassicalTexts (solving budget) domain problem o → Ends ws (before domain problem) (after domain problem o.text) o.status
+ends : (ws : List (Vec ℕ Global)) (budget : ℕ) → IsCall verbs.Classical ws (solving budget) → (domain problem : List ℕ) (o : Outcome) → o.puts ≡ [] → ClassicalTexts (solving budget) domain problem o → Ends ws (before domain problem) (after domain problem o.text) o.status
 ends ws budget is domain problem o no_file comes =
-    came o (of_command (commands.Classical (solving budget)) (domain ∷ problem ∷ []) o is (rw (domain_held domain problem, problem_held domain problem) refl) (solved_classical (solving budget) domain problem o comes))
+    came o (due_by verbs.Classical (solving budget) (record { domain = domain; problem = problem; merges = []; plan = []; written = [] }) o is (record { domain = domain_held domain problem; problem = problem_held domain problem; merges = refl; plan = refl; written = refl }) comes)
     (whole refl (record { gets = λ q. refl; puts = λ q. refl; writes = refl }) (rw no_file refl) refl)
 
 -- what the search of their task finds is told

@@ -13,7 +13,7 @@ use Rattle.kp_guide.proofs.Public.{added_exists, added_is_right}
 use Rattle.kp_search.specs.Trace.{Entry, Course, first, can, step, is_goal, one_entry, entry_after, is_taken, IsNext, WasTaken, with_expanded, Enters, IsCourse, EndsWithPlan, EndsSpent, EndsWithoutPlan}
 use Rattle.kp_search.specs.Trace.Enters.{none as entered_none, dead, enter}
 use Rattle.kp_search.specs.Trace.IsCourse.{begun, spread}
-use Rattle.kp_search.specs.Laws.{by_added}
+use Rattle.kp_search.specs.Ends.{by_added}
 
 -- ---- estimates
 

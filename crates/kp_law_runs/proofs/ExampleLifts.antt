@@ -20,7 +20,7 @@ use Rattle.kp_tree_grammar.proofs.Public.{tokens_of_text, reads_by_computing, ex
 use Rattle.kp_names_semantics.specs.Problems.{same, numbered_problem, Step, HasProblem}
 use Rattle.kp_names_semantics.specs.Plans.{IsPlan}
 use Rattle.kp_plans.specs.Grammar.{plan}
-use Rattle.kp_plans.specs.PlanFiles.{step_of, IsPlanOf}
+use Rattle.kp_plans.specs.PlanFiles.{step_of, IsPlanFile}
 use Rattle.kp_law_translation.specs.OfTrees.{ground_of, initial_of}
 use Rattle.kp_law_translation.specs.Tables.{empty_tag}
 use Rattle.kp_law_translation.specs.Written.{translation_of}
@@ -28,11 +28,13 @@ use Rattle.kp_outside.specs.Outside.{FileMap}
 use Rattle.kp_run_outcome.specs.declared.outcome.Outcome.{Outcome}
 use Rattle.kp_run_outcome.specs.declared.status.Status.TheVariants as status
 use Rattle.kp_run_outcome.specs.Ends.{Outside, whole}
-use Rattle.kp_words.specs.Names.{of_mode, Lift}
+use Rattle.kp_words.specs.Asked.{of_mode, Asked}
+use Rattle.kp_words.specs.Owned.{bare}
+use Rattle.kp_words.specs.declared.verb.Verb.TheVariants as verbs
 use Rattle.kp_run_prepare.proofs.Public.{problem_of_trees}
 use Rattle.kp_run_prepare.specs.Prepared.{IsStarted, later}
 use Rattle.kp_run_inputs.specs.SourceTables.{by_mode, with_table}
-use Rattle.kp_run.specs.Outcomes.{translates, done, TranslatesTexts}
+use Rattle.kp_run.specs.Translate.{translates, done, TranslatesTexts}
 use Rattle.kp_run.specs.Ends.{Ends, came}
 use Rattle.kp_run.specs.Completeness.{RanComplete, one_mode, IsOfTheSame, HoldsPlan}
 use Rattle.kp_run.proofs.Public.{clash_free_with_table, example_two_atoms, empty_tags_fit, complete_is_told, empty_tag_made, nothing_uncovered, example_with_limit, example_limited, example_is_limited, example_holding, example_due_with, example_is_small, example_only_p, example_has_state, example_closed_q, example_unconditional, got_after_insert, got_beside_insert}
@@ -103,8 +105,8 @@ ran = record { old = before_it; new = after_it; earlier = []; text = outcome.tex
 
 -- ---- a lift of the same files, of which the domain is a copy under another name
 
-abbrev command : Lift
-command = record { domain = codes "e"; problem = codes "p"; plan = codes "t"; source = of_mode modes.K0; implicates = 1 }
+abbrev command : Asked
+command = record (bare verbs.Lift) { domain = codes "e"; problem = codes "p"; plan = codes "t"; mode = modes.K0; implicates = 1 }
 
 abbrev pub plan_file : List ℕ
 plan_file = codes "(a)\n"
@@ -137,7 +139,7 @@ a = record { head = codes "a"; objects = [] }
 abbrev pub plan_words : List (Word × List Word)
 plan_words = (record { text = codes "a"; byte = 1 }, []) ∷ []
 
-pub reads : IsPlanOf plan_file (map (step_of plan_file) plan_words)
+pub reads : IsPlanFile plan_file (map (step_of plan_file) plan_words)
 unfolding cut_from class_of symbol_of some_at next_at
 reads = record { tree = plan_words; are = refl; reads = reads_by_computing plan plan_file (tokens_of_text plan_file) plan_words refl refl }
 

@@ -12,7 +12,7 @@ use Rattle.kp_base.specs.declared.ground.TagRow.{TagRow}
 use Rattle.kp_base.specs.declared.ground.TagTable.{TagTable}
 use Rattle.kp_base.specs.declared.limits.Mode.TheVariants as modes
 use Rattle.kp_base.specs.declared.lit.Lit.{Lit}
-use Rattle.kp_base.specs.Planning.{Meets, IsTarget, IsCovered, AreUncovered, IsCov, of_goal, IsConsistent, IsImplicate, IsPrime, Member, choices, each_once, signed, MachineStep, positive, negative, set_of, same_set, IsRelevant, either_value, IsCandidate, AreRelevant, IsClauseFor, AreClausesFor, State, holds, is_model}
+use Rattle.kp_base.specs.Planning.{Meets, IsTarget, IsCovered, AreUncovered, AreTagsOfClauses, of_goal, IsConsistent, IsImplicate, IsPrime, Member, choices, each_once, signed, MachineStep, positive, negative, set_of, same_set, IsRelevant, either_value, IsCandidate, AreRelevant, IsClauseFor, AreClausesFor, State, holds, is_model}
 use Rattle.kp_base.specs.declared.ground.Merge.{Merge}
 use Rattle.kp_base.specs.Lit.{has as has_lit}
 use Rattle.kp_base.specs.LitSet.{is_within}
@@ -31,7 +31,7 @@ use Rattle.kp_search.specs.declared.found.Found.TheVariants.{Plan}
 use Rattle.kp_search.specs.Trace.{Entry, Course, first, step, one_entry, entry_after, is_taken, IsNext, WasTaken, with_expanded, IsCourse}
 use Rattle.kp_search.specs.Trace.Enters.{none as none_entered, off, enter}
 use Rattle.kp_search.specs.Trace.IsCourse.{begun, spread}
-use Rattle.kp_search.specs.Laws.{by_added}
+use Rattle.kp_search.specs.Ends.{by_added}
 use Rattle.kp_cover.specs.Targets.{AreTargets}
 use Rattle.kp_tags_files.specs.declared.merge.FileMerge.{FileMerge}
 use Rattle.kp_tags_modes.specs.declared.way.Way.{Way}
@@ -54,10 +54,11 @@ use Rattle.kp_run_outcome.specs.Ends.{Outside, whole}
 use Rattle.kp_run_outcome.specs.Printing.{prints}
 use Rattle.kp_words_options.specs.Words.{nothing, a_word, apart as apart_words, word as said_word, option as said_option}
 use Rattle.kp_words.specs.declared.source.Family.TheVariants as families
-use Rattle.kp_words.specs.Names.{of_mode, Bench}
-use Rattle.kp_words.specs.declared.lent.CommandRef.TheVariants as commands
-use Rattle.kp_words.specs.Command.{IsBench}
+use Rattle.kp_words.specs.Asked.{of_mode, Asked}
+use Rattle.kp_words.specs.declared.verb.Verb.TheVariants as verbs
+use Rattle.kp_words.specs.Command.{IsCall}
 use Rattle.kp_words.proofs.Public.{word_of_bytes}
+use Rattle.kp_words.specs.Owned.{bare}
 use Rattle.kp_run_prepare.specs.Prepared.{usual, later}
 use Rattle.kp_run_inputs.specs.SourceTables.{by_mode, with_table}
 use Rattle.kp_run_inputs.proofs.Public.{table_of_source_is_for_trees}
@@ -67,9 +68,8 @@ use Rattle.kp_run_bench.specs.Summary.{summary_text}
 use Rattle.kp_run_bench.specs.Working.{IsSafe}
 use Rattle.kp_run_bench.specs.Bench.{Benches, searched as by_search}
 use Rattle.kp_run_bench.proofs.Public.{succeeding_actions_are_plan}
-use Rattle.kp_run.specs.Outcomes.{benched, of_command}
 use Rattle.kp_run.specs.Ends.{Ends, came}
-use Rattle.kp_run.proofs.Public.{task_of_trees_fits, prepared_is_proper as proper}
+use Rattle.kp_run.proofs.Public.{task_of_trees_fits, prepared_is_proper as proper, due_by}
 use Rattle.kp_run_prepare.proofs.Public.{problem_of_trees}
 use Rattle.kp_law_runs.specs.Bench.{IsSolvedBench}
 use Rattle.kp_law_runs.proofs.Benches.{benches_are_true}
@@ -78,24 +78,32 @@ use Rattle.kp_law_runs.proofs.ExampleBenches.{cells_tree, two_tree, trees, g, i,
 
 -- ---- words
 
-abbrev running : Bench
-running = record { family = families.Line; n = 2; mode = modes.Models; budget = 10000 }
+abbrev running : Asked
+running = record (bare verbs.Bench) { family = families.Line; size = 2; mode = modes.Models; budget = 10000 }
 
 abbrev bench_words : List (Vec ℕ Global)
 bench_words = word_of_bytes (codes "bench") (omega arith) ∷ word_of_bytes (codes "line") (omega arith) ∷ word_of_bytes (codes "2") (omega arith) ∷ word_of_bytes (codes "--mode") (omega arith) ∷ word_of_bytes (codes "models") (omega arith) ∷ []
 
-is_bench : IsBench bench_words running
+is_bench : IsCall verbs.Bench bench_words running
 unfolding encode digits
 is_bench = record {
-  rest = codes "line" ∷ codes "2" ∷ codes "--mode" ∷ codes "models" ∷ [];
-  utf8 = ((codes "bench", (refl, refl)), ((codes "line", (refl, refl)), ((codes "2", (refl, refl)), ((codes "--mode", (refl, refl)), ((codes "models", (refl, refl)), tt)))));
-  words_are = refl;
-  says = record {
-    places = codes "line" ∷ codes "2" ∷ [];
-    values = Some (codes "models") ∷ None ∷ [];
-    line = record { said = said_word (codes "line") ∷ said_word (codes "2") ∷ said_option (codes "mode") (codes "models") ∷ []; says = a_word _ _ _ refl (a_word _ _ _ refl (apart_words (codes "mode") (codes "models") _ _ refl refl nothing)); places_are = refl; known = refl; once = refl; values_are = refl };
-    are_so = record { mode = Some (codes "models"); budget = None; places_are = refl; values_are = refl; size = record { at_least = omega arith; at_most = omega arith }; says_mode = refl; says_budget = refl };
+  is_command = record {
+    utf8 = ((codes "bench", (refl, refl)), ((codes "line", (refl, refl)), ((codes "2", (refl, refl)), ((codes "--mode", (refl, refl)), ((codes "models", (refl, refl)), tt)))));
+    are_words = record {
+      rest = codes "line" ∷ codes "2" ∷ codes "--mode" ∷ codes "models" ∷ [];
+      are = refl;
+      behind = record {
+        places = codes "line" ∷ codes "2" ∷ [];
+        values = Some (codes "models") ∷ None ∷ [];
+        line = record { said = said_word (codes "line") ∷ said_word (codes "2") ∷ said_option (codes "mode") (codes "models") ∷ []; says = a_word _ _ _ refl (a_word _ _ _ refl (apart_words (codes "mode") (codes "models") _ _ refl refl nothing)); places_are = refl; known = refl; once = refl; values_are = refl };
+        are_of = record {
+          as_many = refl;
+          are_asked = record { domain = refl; problem = refl; plan = refl; written = refl; domain_out = refl; problem_out = refl; outputs_differ = tt; family = refl; size = (record { at_least = omega arith; at_most = omega arith }, refl); mode = refl; merges = refl; one_source = tt; implicates = refl; budget = refl; bound = refl; classical = refl };
+        };
+      };
+    };
   };
+  of_verb = refl;
 }
 
 -- ---- the atoms of the relevant clauses
@@ -242,7 +250,7 @@ none_fails = false_from_ne_true (test neither) (λ passes. by ((told_of.tells ne
         of_one l (inr (inl e)) h = not_so c.state 1 (subst (λ z. holds c.state z ≡ true) (sym e) h) (all_member (holds c.state) neither (negative 1) (inr (inl refl)) c.all_true)
         of_one l (inr (inr never)) h = absurd never
 
-are_cov : IsCov i (either_value 0 ∷ either_value 1 ∷ []) (one ∷ other ∷ [])
+are_cov : AreTagsOfClauses i (either_value 0 ∷ either_value 1 ∷ []) (one ∷ other ∷ [])
 are_cov = record { test = test; tells = told_of.tells; are = these test one_passes other_passes both_fail none_fails }
   where
     these : (test : List Lit → Bool) → test one ≡ true → test other ≡ true → test both ≡ false → test neither ≡ false → (one ∷ other ∷ []) ≡ each_once same_set (filter test (map set_of (choices (either_value 0 ∷ either_value 1 ∷ []))))
@@ -493,7 +501,7 @@ abbrev after : Outside
 after = record { held = Some empty; told = with_bytes (Some []) summary.text; get_faults = λ q. 0; put_faults = λ q. 0; write_faults = 0 }
 
 ends : Ends bench_words before after status.Done
-ends = came summary (of_command (commands.Bench running) [] summary is_bench refl (benched running summary benches)) (whole refl (record { gets = λ q. refl; puts = λ q. refl; writes = refl }) refl refl)
+ends = came summary (due_by verbs.Bench running (record { domain = []; problem = []; merges = []; plan = []; written = [] }) summary is_bench (record { domain = refl; problem = refl; merges = refl; plan = refl; written = refl }) benches) (whole refl (record { gets = λ q. refl; puts = λ q. refl; writes = refl }) refl refl)
 
 is_solved : IsSolvedBench running before after
 is_solved = (benches_are_true bench_words before after status.Done ends running is_bench).done refl

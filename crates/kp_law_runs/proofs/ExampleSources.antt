@@ -33,18 +33,20 @@ use Rattle.kp_run_outcome.specs.declared.outcome.Outcome.{Outcome}
 use Rattle.kp_run_outcome.specs.declared.status.Status.TheVariants as status
 use Rattle.kp_run_outcome.specs.Ends.{Outside, whole}
 use Rattle.kp_words_options.specs.Words.{nothing, a_word, apart as apart_words, word as said_word, option as said_option}
-use Rattle.kp_words.specs.Names.{of_mode, of_file, Translate, Lift, Solve}
-use Rattle.kp_words.specs.declared.lent.CommandRef.TheVariants as commands
-use Rattle.kp_words.specs.Command.{IsTranslate, IsSolve}
-use Rattle.kp_words.proofs.Public.{word_of_bytes}
+use Rattle.kp_words.specs.Asked.{Asked}
+use Rattle.kp_words.specs.declared.verb.Verb.TheVariants as verbs
+use Rattle.kp_words.specs.Command.{IsCall}
+use Rattle.kp_words.proofs.Public.{word_of_bytes, example_two_apart}
+use Rattle.kp_words.specs.Owned.{bare}
 use Rattle.kp_run_prepare.specs.Prepared.{usual, later}
 use Rattle.kp_run_inputs.specs.SourceTables.{by_mode, by_file, with_table}
 use Rattle.kp_run_solve.specs.Solving.{searched}
-use Rattle.kp_run.specs.Outcomes.{translates, done, TranslatesTexts, SolvesTexts, translated, solved, of_command}
+use Rattle.kp_run.specs.Translate.{translates, done, TranslatesTexts}
+use Rattle.kp_run.specs.Solve.{SolvesTexts}
 use Rattle.kp_run.specs.Ends.{Ends, came}
 use Rattle.kp_run.specs.Completeness.{PrintsComplete, RanComplete, one_text, IsOfTheSame, HoldsPlan}
 use Rattle.kp_run.specs.Solved.{Tells}
-use Rattle.kp_run.proofs.Public.{empty_tags_fit, table_of_none, empty_tag_made_in_modes, nothing_uncovered, complete_is_told, example_exchange_action, example_holding, example_due_with, example_unconditional, got_after_insert, got_beside_insert}
+use Rattle.kp_run.proofs.Public.{empty_tags_fit, table_of_none, empty_tag_made_in_modes, nothing_uncovered, complete_is_told, example_exchange_action, example_holding, example_due_with, example_unconditional, got_after_insert, got_beside_insert, due_by}
 use Rattle.kp_law_runs.specs.Solve.{GivenHaveNoPlan}
 use Rattle.kp_law_runs.proofs.SomeModes.{some_modes_tell_complete, no_plan_in_some_modes}
 use Rattle.kp_law_runs.proofs.ExampleFiles.{trees, prepared, to_both, to_both_tree, both_trees, both_prepared}
@@ -100,21 +102,29 @@ front more = word_of_bytes (codes "translate") (omega arith) ∷ word_of_bytes (
 abbrev in_models : List (Vec ℕ Global)
 in_models = front (word_of_bytes (codes "--mode") (omega arith) ∷ word_of_bytes (codes "models") (omega arith) ∷ [])
 
-abbrev by_models : Translate
-by_models = record { domain = codes "d"; problem = codes "p"; domain_out = codes "od"; problem_out = codes "op"; source = of_mode modes.Models; implicates = 20000 }
+abbrev by_models : Asked
+by_models = record (bare verbs.Translate) { domain = codes "d"; problem = codes "p"; domain_out = codes "od"; problem_out = codes "op"; mode = modes.Models; implicates = 20000 }
 
-is_in_models : IsTranslate in_models by_models
+is_in_models : IsCall verbs.Translate in_models by_models
 unfolding encode
 is_in_models = record {
-  rest = codes "d" ∷ codes "p" ∷ codes "od" ∷ codes "op" ∷ codes "--mode" ∷ codes "models" ∷ [];
-  utf8 = ((codes "translate", (refl, refl)), ((codes "d", (refl, refl)), ((codes "p", (refl, refl)), ((codes "od", (refl, refl)), ((codes "op", (refl, refl)), ((codes "--mode", (refl, refl)), ((codes "models", (refl, refl)), tt)))))));
-  words_are = refl;
-  says = record {
-    places = codes "d" ∷ codes "p" ∷ codes "od" ∷ codes "op" ∷ [];
-    values = Some (codes "models") ∷ None ∷ None ∷ [];
-    line = record { said = said_word (codes "d") ∷ said_word (codes "p") ∷ said_word (codes "od") ∷ said_word (codes "op") ∷ said_option (codes "mode") (codes "models") ∷ []; says = a_word _ _ _ refl (a_word _ _ _ refl (a_word _ _ _ refl (a_word _ _ _ refl (apart_words (codes "mode") (codes "models") _ _ refl refl (nothing))))); places_are = refl; known = refl; once = refl; values_are = refl };
-    are_so = record { mode = Some (codes "models"); merges = None; implicates = None; places_are = refl; values_are = refl; outputs_differ = apart (codes "od") (codes "op") refl; source = (refl, refl); limit = refl };
+  is_command = record {
+    utf8 = ((codes "translate", (refl, refl)), ((codes "d", (refl, refl)), ((codes "p", (refl, refl)), ((codes "od", (refl, refl)), ((codes "op", (refl, refl)), ((codes "--mode", (refl, refl)), ((codes "models", (refl, refl)), tt)))))));
+    are_words = record {
+      rest = codes "d" ∷ codes "p" ∷ codes "od" ∷ codes "op" ∷ codes "--mode" ∷ codes "models" ∷ [];
+      are = refl;
+      behind = record {
+        places = codes "d" ∷ codes "p" ∷ codes "od" ∷ codes "op" ∷ [];
+        values = Some (codes "models") ∷ None ∷ None ∷ [];
+        line = record { said = said_word (codes "d") ∷ said_word (codes "p") ∷ said_word (codes "od") ∷ said_word (codes "op") ∷ said_option (codes "mode") (codes "models") ∷ []; says = a_word _ _ _ refl (a_word _ _ _ refl (a_word _ _ _ refl (a_word _ _ _ refl (apart_words (codes "mode") (codes "models") _ _ refl refl (nothing))))); places_are = refl; known = refl; once = refl; values_are = refl };
+        are_of = record {
+          as_many = refl;
+          are_asked = record { domain = refl; problem = refl; plan = refl; written = refl; domain_out = refl; problem_out = refl; outputs_differ = example_two_apart (codes "od") (codes "op") refl; family = refl; size = refl; mode = refl; merges = refl; one_source = tt; implicates = refl; budget = refl; bound = refl; classical = refl };
+        };
+      };
+    };
   };
+  of_verb = refl;
 }
 
 -- what both translations come to: their output names are the same
@@ -148,21 +158,29 @@ complete_told = some_modes_tell_complete in_models (from held) (to held) status.
 abbrev solve_in_models : List (Vec ℕ Global)
 solve_in_models = word_of_bytes (codes "solve") (omega arith) ∷ word_of_bytes (codes "d") (omega arith) ∷ word_of_bytes (codes "p") (omega arith) ∷ word_of_bytes (codes "--mode") (omega arith) ∷ word_of_bytes (codes "models") (omega arith) ∷ []
 
-abbrev solving : Solve
-solving = record { domain = codes "d"; problem = codes "p"; source = of_mode modes.Models; implicates = 20000; budget = 10000; classical = None }
+abbrev solving : Asked
+solving = record (bare verbs.Solve) { domain = codes "d"; problem = codes "p"; mode = modes.Models; implicates = 20000; budget = 10000; classical = None }
 
-is_solve : IsSolve solve_in_models solving
+is_solve : IsCall verbs.Solve solve_in_models solving
 unfolding encode
 is_solve = record {
-  rest = codes "d" ∷ codes "p" ∷ codes "--mode" ∷ codes "models" ∷ [];
-  utf8 = ((codes "solve", (refl, refl)), ((codes "d", (refl, refl)), ((codes "p", (refl, refl)), ((codes "--mode", (refl, refl)), ((codes "models", (refl, refl)), tt)))));
-  words_are = refl;
-  says = record {
-    places = codes "d" ∷ codes "p" ∷ [];
-    values = Some (codes "models") ∷ None ∷ None ∷ None ∷ None ∷ [];
-    line = record { said = said_word (codes "d") ∷ said_word (codes "p") ∷ said_option (codes "mode") (codes "models") ∷ []; says = a_word _ _ _ refl (a_word _ _ _ refl (apart_words (codes "mode") (codes "models") _ _ refl refl (nothing))); places_are = refl; known = refl; once = refl; values_are = refl };
-    are_so = record { mode = Some (codes "models"); merges = None; implicates = None; budget = None; places_are = refl; values_are = refl; source = (refl, refl); limit = refl; says_budget = refl };
+  is_command = record {
+    utf8 = ((codes "solve", (refl, refl)), ((codes "d", (refl, refl)), ((codes "p", (refl, refl)), ((codes "--mode", (refl, refl)), ((codes "models", (refl, refl)), tt)))));
+    are_words = record {
+      rest = codes "d" ∷ codes "p" ∷ codes "--mode" ∷ codes "models" ∷ [];
+      are = refl;
+      behind = record {
+        places = codes "d" ∷ codes "p" ∷ [];
+        values = Some (codes "models") ∷ None ∷ None ∷ None ∷ None ∷ [];
+        line = record { said = said_word (codes "d") ∷ said_word (codes "p") ∷ said_option (codes "mode") (codes "models") ∷ []; says = a_word _ _ _ refl (a_word _ _ _ refl (apart_words (codes "mode") (codes "models") _ _ refl refl (nothing))); places_are = refl; known = refl; once = refl; values_are = refl };
+        are_of = record {
+          as_many = refl;
+          are_asked = record { domain = refl; problem = refl; plan = refl; written = refl; domain_out = refl; problem_out = refl; outputs_differ = tt; family = refl; size = refl; mode = refl; merges = refl; one_source = tt; implicates = refl; budget = refl; bound = refl; classical = refl };
+        };
+      };
+    };
   };
+  of_verb = refl;
 }
 
 comes_to_none : SolvesTexts solving exchange_text to_both [] no_plan
@@ -171,7 +189,7 @@ comes_to_none = later exchange_tree to_both_tree both_trees both_prepared (with_
 
 ends_with_none : Ends solve_in_models (solving_from exchange_text to_both) (solving_to exchange_text to_both no_plan) status.Negative
 ends_with_none =
-    came no_plan (of_command (commands.Solve solving) (exchange_text ∷ to_both ∷ []) no_plan is_solve (rw (domain_held exchange_text to_both, problem_held exchange_text to_both) refl) (solved solving exchange_text to_both [] no_plan comes_to_none))
+    came no_plan (due_by verbs.Solve solving (record { domain = exchange_text; problem = to_both; merges = []; plan = []; written = [] }) no_plan is_solve (record { domain = domain_held exchange_text to_both; problem = problem_held exchange_text to_both; merges = refl; plan = refl; written = refl }) comes_to_none)
     (whole refl (record { gets = λ q. refl; puts = λ q. refl; writes = refl }) refl refl)
 
 none_given : GivenHaveNoPlan (example_holding exchange_text to_both) solving (solving_from exchange_text to_both) (solving_to exchange_text to_both no_plan)
@@ -182,21 +200,29 @@ none_given = no_plan_in_some_modes solve_in_models _ _ status.Negative ends_with
 abbrev with_merges : List (Vec ℕ Global)
 with_merges = front (word_of_bytes (codes "--merges") (omega arith) ∷ word_of_bytes (codes "m") (omega arith) ∷ [])
 
-abbrev by_merges : Translate
-by_merges = record { domain = codes "d"; problem = codes "p"; domain_out = codes "od"; problem_out = codes "op"; source = of_file (codes "m"); implicates = 20000 }
+abbrev by_merges : Asked
+by_merges = record (bare verbs.Translate) { domain = codes "d"; problem = codes "p"; domain_out = codes "od"; problem_out = codes "op"; merges = Some (codes "m"); implicates = 20000 }
 
-is_with_merges : IsTranslate with_merges by_merges
+is_with_merges : IsCall verbs.Translate with_merges by_merges
 unfolding encode
 is_with_merges = record {
-  rest = codes "d" ∷ codes "p" ∷ codes "od" ∷ codes "op" ∷ codes "--merges" ∷ codes "m" ∷ [];
-  utf8 = ((codes "translate", (refl, refl)), ((codes "d", (refl, refl)), ((codes "p", (refl, refl)), ((codes "od", (refl, refl)), ((codes "op", (refl, refl)), ((codes "--merges", (refl, refl)), ((codes "m", (refl, refl)), tt)))))));
-  words_are = refl;
-  says = record {
-    places = codes "d" ∷ codes "p" ∷ codes "od" ∷ codes "op" ∷ [];
-    values = None ∷ Some (codes "m") ∷ None ∷ [];
-    line = record { said = said_word (codes "d") ∷ said_word (codes "p") ∷ said_word (codes "od") ∷ said_word (codes "op") ∷ said_option (codes "merges") (codes "m") ∷ []; says = a_word _ _ _ refl (a_word _ _ _ refl (a_word _ _ _ refl (a_word _ _ _ refl (apart_words (codes "merges") (codes "m") _ _ refl refl (nothing))))); places_are = refl; known = refl; once = refl; values_are = refl };
-    are_so = record { mode = None; merges = Some (codes "m"); implicates = None; places_are = refl; values_are = refl; outputs_differ = apart (codes "od") (codes "op") refl; source = (refl, refl); limit = refl };
+  is_command = record {
+    utf8 = ((codes "translate", (refl, refl)), ((codes "d", (refl, refl)), ((codes "p", (refl, refl)), ((codes "od", (refl, refl)), ((codes "op", (refl, refl)), ((codes "--merges", (refl, refl)), ((codes "m", (refl, refl)), tt)))))));
+    are_words = record {
+      rest = codes "d" ∷ codes "p" ∷ codes "od" ∷ codes "op" ∷ codes "--merges" ∷ codes "m" ∷ [];
+      are = refl;
+      behind = record {
+        places = codes "d" ∷ codes "p" ∷ codes "od" ∷ codes "op" ∷ [];
+        values = None ∷ Some (codes "m") ∷ None ∷ [];
+        line = record { said = said_word (codes "d") ∷ said_word (codes "p") ∷ said_word (codes "od") ∷ said_word (codes "op") ∷ said_option (codes "merges") (codes "m") ∷ []; says = a_word _ _ _ refl (a_word _ _ _ refl (a_word _ _ _ refl (a_word _ _ _ refl (apart_words (codes "merges") (codes "m") _ _ refl refl (nothing))))); places_are = refl; known = refl; once = refl; values_are = refl };
+        are_of = record {
+          as_many = refl;
+          are_asked = record { domain = refl; problem = refl; plan = refl; written = refl; domain_out = refl; problem_out = refl; outputs_differ = example_two_apart (codes "od") (codes "op") refl; family = refl; size = refl; mode = refl; merges = refl; one_source = tt; implicates = refl; budget = refl; bound = refl; classical = refl };
+        };
+      };
+    };
   };
+  of_verb = refl;
 }
 
 -- the file of merges has a line feed alone
@@ -227,14 +253,14 @@ merges_held = got_after_insert held (codes "m") merges_file
 
 ends_with_merges : Ends with_merges (from before) (to before) status.Done
 ends_with_merges =
-    came outcome (of_command (commands.Translate by_merges) (exchange_text ∷ from_p_to_q_text ∷ merges_file ∷ []) outcome is_with_merges (rw (first_held, second_held, merges_held) refl) (translated by_merges exchange_text from_p_to_q_text (merges_file ∷ []) outcome comes_by_merges))
+    came outcome (due_by verbs.Translate by_merges (record { domain = exchange_text; problem = from_p_to_q_text; merges = (merges_file ∷ []); plan = []; written = [] }) outcome is_with_merges (record { domain = first_held; problem = second_held; merges = ap (λ x. x ∷ []) merges_held; plan = refl; written = refl }) comes_by_merges)
     (whole refl (record { gets = λ q. refl; puts = λ q. refl; writes = refl }) refl refl)
 
 ran : RanComplete Ends with_merges by_merges before (with_outputs before)
 ran = record { old = from before; new = to before; earlier = []; text = outcome.text; is_translate = is_with_merges; ended = ends_with_merges; held_before = refl; held_after = refl; told_before = refl; told_after = refl; complete = complete_is_told (ground_of exchange_tree from_p_to_q_tree) table }
 
-abbrev command : Lift
-command = record { domain = codes "d"; problem = codes "p"; plan = codes "t"; source = of_file (codes "n"); implicates = 20000 }
+abbrev command : Asked
+command = record (bare verbs.Lift) { domain = codes "d"; problem = codes "p"; plan = codes "t"; merges = Some (codes "n"); implicates = 20000 }
 
 abbrev now : FileMap
 now = insert (insert before (codes "n") merges_file) (codes "t") plan_file

@@ -17,41 +17,53 @@ use Rattle.kp_tree_grammar.specs.Reading.{stop, within_form}
 use Rattle.kp_tree_grammar.proofs.Public.{tokens_of_text, reads_by_computing, stops_by_computing as stops}
 use Rattle.kp_plans.specs.declared.step.PlanStep.{PlanStep}
 use Rattle.kp_plans.specs.Grammar.{plan}
-use Rattle.kp_plans.specs.PlanFiles.{step_of, IsPlanOf, bad_token}
+use Rattle.kp_plans.specs.PlanFiles.{step_of, IsPlanFile, bad_token}
 use Rattle.kp_plans.specs.PlanFiles as files
 use Rattle.kp_plans.specs.Stripping.{IsFirstUnstripped}
 use Rattle.kp_run_outcome.specs.declared.outcome.Outcome.{Outcome}
 use Rattle.kp_run_outcome.specs.declared.status.Status.TheVariants as status
 use Rattle.kp_run_outcome.specs.Printing.{prints}
-use Rattle.kp_words.specs.Names.{Strip}
-use Rattle.kp_words.specs.declared.lent.CommandRef.TheVariants as commands
+use Rattle.kp_words.specs.Asked.{Asked}
+use Rattle.kp_words.specs.declared.verb.Verb.TheVariants as verbs
 use Rattle.kp_words_options.specs.Words.{nothing, a_word, word as said_word}
-use Rattle.kp_words.specs.Command.{AreUtf8, IsStrip}
-use Rattle.kp_run.specs.Outcomes.{StripsText, no_plan, no_strip, strips, stripped, IsDue, of_command}
-use Rattle.kp_run.proofs.Public.{got_after_insert}
+use Rattle.kp_words.specs.Command.{IsCall, AreUtf8}
+use Rattle.kp_words.specs.Owned.{bare}
+use Rattle.kp_run.specs.Strip.{StripsText, no_plan, no_strip, strips}
+use Rattle.kp_run.specs.Outcomes.{IsDue}
+use Rattle.kp_run.proofs.Public.{got_after_insert, due_by}
 
 -- ---- the command
 
-abbrev command : Strip
-command = record { plan = codes "t" }
+abbrev command : Asked
+command = record (bare verbs.Strip) { written = codes "t" }
 
-is_strip : (words : List (Vec ℕ Global)) → map (λ w. w.items) words ≡ codes "strip" ∷ codes "t" ∷ [] → IsStrip words command
+is_strip : (words : List (Vec ℕ Global)) → map (λ w. w.items) words ≡ codes "strip" ∷ codes "t" ∷ [] → IsCall verbs.Strip words command
 unfolding encode
 is_strip words e = record {
-  rest = codes "t" ∷ [];
-  utf8 = subst AreUtf8 (sym e) ((codes "strip", (refl, refl)), ((codes "t", (refl, refl)), tt));
-  words_are = e;
-  says = record {
-    places = codes "t" ∷ [];
-    values = [];
-    line = record { said = said_word (codes "t") ∷ []; says = a_word _ _ _ refl (nothing); places_are = refl; known = refl; once = refl; values_are = refl };
-    are_so = record { places_are = refl };
+  is_command = record {
+    utf8 = subst AreUtf8 (sym e) ((codes "strip", (refl, refl)), ((codes "t", (refl, refl)), tt));
+    are_words = record {
+      rest = codes "t" ∷ [];
+      are = e;
+      behind = record {
+        places = codes "t" ∷ [];
+        values = [];
+        line = record { said = said_word (codes "t") ∷ []; says = a_word _ _ _ refl (nothing); places_are = refl; known = refl; once = refl; values_are = refl };
+        are_of = record {
+          as_many = refl;
+          are_asked = record { domain = refl; problem = refl; plan = refl; written = refl; domain_out = refl; problem_out = refl; outputs_differ = tt; family = refl; size = refl; mode = refl; merges = refl; one_source = tt; implicates = refl; budget = refl; bound = refl; classical = refl };
+        };
+      };
+    };
   };
+  of_verb = refl;
 }
 
 -- what the text of its file is stripped to is due
 due : (words : List (Vec ℕ Global)) (text : List ℕ) (o : Outcome) → map (λ w. w.items) words ≡ codes "strip" ∷ codes "t" ∷ [] → StripsText text o → IsDue words (Some (insert empty (codes "t") text)) o
-due words text o e h = of_command (commands.Strip command) (text ∷ []) o (is_strip words e) (rw (got_after_insert empty (codes "t") text) refl) (stripped command text o h)
+due words text o e h =
+    due_by verbs.Strip command (record { domain = []; problem = []; merges = []; plan = []; written = text }) o (is_strip words e)
+    (record { domain = refl; problem = refl; merges = refl; plan = refl; written = got_after_insert empty (codes "t") text }) h
 
 abbrev word_at : List ℕ → ℕ → Word
 word_at text byte = record { text = text; byte = byte }
@@ -64,7 +76,7 @@ two_steps = codes "(merge_-0)\n(do_-move_-a_-b)\n"
 abbrev two_words : List (Word × List Word)
 two_words = (word_at (codes "merge_-0") 1, []) ∷ (word_at (codes "do_-move_-a_-b") 12, []) ∷ []
 
-two_are_a_plan : IsPlanOf two_steps (map (step_of two_steps) two_words)
+two_are_a_plan : IsPlanFile two_steps (map (step_of two_steps) two_words)
 unfolding cut_from class_of symbol_of some_at next_at
 two_are_a_plan = record { tree = two_words; are = refl; reads = reads_by_computing plan two_steps (tokens_of_text two_steps) two_words refl refl }
 
@@ -85,7 +97,7 @@ stray = codes "(do_-a)\n(left)\n"
 abbrev stray_words : List (Word × List Word)
 stray_words = (word_at (codes "do_-a") 1, []) ∷ (word_at (codes "left") 9, []) ∷ []
 
-stray_is_a_plan : IsPlanOf stray (map (step_of stray) stray_words)
+stray_is_a_plan : IsPlanFile stray (map (step_of stray) stray_words)
 unfolding cut_from class_of symbol_of some_at next_at
 stray_is_a_plan = record { tree = stray_words; are = refl; reads = reads_by_computing plan stray (tokens_of_text stray) stray_words refl refl }
 

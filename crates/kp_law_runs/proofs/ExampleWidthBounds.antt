@@ -34,16 +34,17 @@ use Rattle.kp_outside.specs.Outside.{with_bytes}
 use Rattle.kp_run_outcome.specs.declared.status.Status.TheVariants as status
 use Rattle.kp_run_outcome.specs.Ends.{Outside, whole}
 use Rattle.kp_run_messages.specs.Widths.{width_text, over_text}
-use Rattle.kp_words.specs.Names.{Width}
-use Rattle.kp_words.specs.declared.lent.CommandRef.TheVariants as commands
+use Rattle.kp_words.specs.Asked.{Asked}
+use Rattle.kp_words.specs.declared.verb.Verb.TheVariants as verbs
 use Rattle.kp_words_options.specs.Words.{nothing, a_word, word as said_word}
-use Rattle.kp_words.specs.Command.{IsWidth}
+use Rattle.kp_words.specs.Command.{IsCall}
 use Rattle.kp_words.proofs.Public.{word_of_bytes, example_is_width}
+use Rattle.kp_words.specs.Owned.{bare}
 use Rattle.kp_run_prepare.specs.Texts.{HaveTrees}
 use Rattle.kp_run_prepare.specs.Prepared.{usual, IsPrepared, later}
-use Rattle.kp_run.specs.Outcomes.{tells_width, with_report, width_measured, of_command}
+use Rattle.kp_run.specs.Width.{tells_width, with_report}
 use Rattle.kp_run.specs.Ends.{Ends, came}
-use Rattle.kp_run.proofs.Public.{file_reads_by_computing, example_holding, example_has_state, example_few_primes, got_after_insert, got_beside_insert, prepared_is_proper}
+use Rattle.kp_run.proofs.Public.{file_reads_by_computing, example_holding, example_has_state, example_few_primes, got_after_insert, got_beside_insert, prepared_is_proper, due_by}
 use Rattle.kp_law_runs.specs.Width.{IsWidthTold, IsTooWide}
 use Rattle.kp_law_runs.proofs.Widths.{widths_are_true}
 use Rattle.kp_law_runs.proofs.ExampleFiles.{within, never_clashing, turn, no_atom, chain, chain_tree, chain_reads}
@@ -53,21 +54,29 @@ use Rattle.kp_law_runs.proofs.ExampleFiles.{within, never_clashing, turn, no_ato
 abbrev pub front : List (Vec ℕ Global) → List (Vec ℕ Global)
 front more = word_of_bytes (codes "width") (omega arith) ∷ word_of_bytes (codes "d") (omega arith) ∷ word_of_bytes (codes "p") (omega arith) ∷ more
 
-abbrev pub measuring : ℕ → Width
-measuring bound = record { domain = codes "d"; problem = codes "p"; bound = bound; implicates = 20000 }
+abbrev pub measuring : ℕ → Asked
+measuring bound = record (bare verbs.Width) { domain = codes "d"; problem = codes "p"; bound = bound; implicates = 20000 }
 
-pub is_plain : IsWidth (front []) (measuring 3)
+pub is_plain : IsCall verbs.Width (front []) (measuring 3)
 unfolding encode
 is_plain = record {
-  rest = codes "d" ∷ codes "p" ∷ [];
-  utf8 = ((codes "width", (refl, refl)), ((codes "d", (refl, refl)), ((codes "p", (refl, refl)), tt)));
-  words_are = refl;
-  says = record {
-    places = codes "d" ∷ codes "p" ∷ [];
-    values = None ∷ None ∷ [];
-    line = record { said = said_word (codes "d") ∷ said_word (codes "p") ∷ []; says = a_word _ _ _ refl (a_word _ _ _ refl (nothing)); places_are = refl; known = refl; once = refl; values_are = refl };
-    are_so = record { bound = None; implicates = None; places_are = refl; values_are = refl; says_bound = refl; limit = refl };
+  is_command = record {
+    utf8 = ((codes "width", (refl, refl)), ((codes "d", (refl, refl)), ((codes "p", (refl, refl)), tt)));
+    are_words = record {
+      rest = codes "d" ∷ codes "p" ∷ [];
+      are = refl;
+      behind = record {
+        places = codes "d" ∷ codes "p" ∷ [];
+        values = None ∷ None ∷ [];
+        line = record { said = said_word (codes "d") ∷ said_word (codes "p") ∷ []; says = a_word _ _ _ refl (a_word _ _ _ refl (nothing)); places_are = refl; known = refl; once = refl; values_are = refl };
+        are_of = record {
+          as_many = refl;
+          are_asked = record { domain = refl; problem = refl; plan = refl; written = refl; domain_out = refl; problem_out = refl; outputs_differ = tt; family = refl; size = refl; mode = refl; merges = refl; one_source = tt; implicates = refl; budget = refl; bound = refl; classical = refl };
+        };
+      };
+    };
   };
+  of_verb = refl;
 }
 
 abbrev with_bound : List (Vec ℕ Global)
@@ -90,12 +99,12 @@ domain_held domain problem = got_beside_insert (insert empty (codes "d") domain)
 pub problem_held : (domain problem : List ℕ) → get (example_holding domain problem) (codes "p") ≡ Some problem
 problem_held domain problem = got_after_insert (insert empty (codes "d") domain) (codes "p") problem
 
-pub ends : (ws : List (Vec ℕ Global)) (bound : ℕ) → IsWidth ws (measuring bound) → (domain problem : List ℕ) (d : Domain Word) (p : Problem Word) → HaveTrees domain problem d p → IsPrepared 20000 d p
+pub ends : (ws : List (Vec ℕ Global)) (bound : ℕ) → IsCall verbs.Width ws (measuring bound) → (domain problem : List ℕ) (d : Domain Word) (p : Problem Word) → HaveTrees domain problem d p → IsPrepared 20000 d p
     → (report : WidthReport) → IsReport usual bound (ground_of d p) (initial_of d p) report → (tells_width (ground_of d p) bound report).puts ≡ []
     → Ends ws (before domain problem) (after domain problem (tells_width (ground_of d p) bound report).text) (tells_width (ground_of d p) bound report).status
 ends ws bound is domain problem d p have ready report reports no_file =
     let o = tells_width (ground_of d p) bound report in
-    came o (of_command (commands.Width (measuring bound)) (domain ∷ problem ∷ []) o is (rw (domain_held domain problem, problem_held domain problem) refl) (width_measured (measuring bound) domain problem o (later d p have ready (with_report report reports refl))))
+    came o (due_by verbs.Width (measuring bound) (record { domain = domain; problem = problem; merges = []; plan = []; written = [] }) o is (record { domain = domain_held domain problem; problem = problem_held domain problem; merges = refl; plan = refl; written = refl }) (later d p have ready (with_report report reports refl)))
     (whole refl (record { gets = λ q. refl; puts = λ q. refl; writes = refl }) (rw no_file refl) refl)
 
 -- ---- nothing is wanted: there is no target

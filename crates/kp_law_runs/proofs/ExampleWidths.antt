@@ -6,7 +6,7 @@ use Rattle.std.specs.List.Sorted.{IsSorted}
 use Rattle.kp_base.specs.declared.ground.Action.{Action}
 use Rattle.kp_base.specs.declared.ground.Effect.{Effect}
 use Rattle.kp_base.specs.declared.lit.Lit.{Lit}
-use Rattle.kp_base.specs.Planning.{Meets, AllMeet, IsCov, IsPrime, Member, choices, each_once, signed, positive, negative, negated, lits_cmp, set_of, same_set, IsRelevant, either_value, IsCandidate, AreRelevant, IsClauseFor, AreClausesFor, State, holds, is_model}
+use Rattle.kp_base.specs.Planning.{Meets, AllMeet, AreTagsOfClauses, IsPrime, Member, choices, each_once, signed, positive, negative, negated, lits_cmp, set_of, same_set, IsRelevant, either_value, IsCandidate, AreRelevant, IsClauseFor, AreClausesFor, State, holds, is_model}
 use Rattle.kp_base.specs.Lit.{has as has_lit}
 use Rattle.kp_base.specs.LitSet.{is_within}
 use Rattle.kp_base.proofs.Lists.{all_member, any_from, any_member}
@@ -26,7 +26,7 @@ use Rattle.kp_gen.specs.Line as line
 use Rattle.kp_run_outcome.specs.declared.status.Status.TheVariants as status
 use Rattle.kp_run_outcome.specs.Ends.{Outside}
 use Rattle.kp_run_prepare.specs.Prepared.{usual}
-use Rattle.kp_run.specs.Outcomes.{tells_width}
+use Rattle.kp_run.specs.Width.{tells_width}
 use Rattle.kp_run.specs.Ends.{Ends}
 use Rattle.kp_run.specs.Solved.{GoesOn}
 use Rattle.kp_run.proofs.Public.{example_holding}
@@ -139,7 +139,7 @@ second_passes : test (positive 1 ∷ []) ≡ true
 unfolding at_second
 second_passes = (told_of.tells (positive 1 ∷ [])).1 (record { state = at_second; model = second_start; all_true = refl })
 
-are_tags : IsCov i row.clauses row.tags
+are_tags : AreTagsOfClauses i row.clauses row.tags
 are_tags = record { test = test; tells = told_of.tells; are = these test first_passes second_passes }
   where
     these : (test : List Lit → Bool) → test (positive 0 ∷ []) ≡ true → test (positive 1 ∷ []) ≡ true → row.tags ≡ each_once same_set (filter test (map set_of (choices row.clauses)))

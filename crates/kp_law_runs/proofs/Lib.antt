@@ -1,5 +1,9 @@
 pub mod OneTranslation
 pub mod OneStrip
+pub mod OnceEach
+pub mod SomeEach
+pub mod UnderEach
+pub mod ByVerb
 pub mod OneOutcome
 pub mod SomeStart
 pub mod SomeOutcome

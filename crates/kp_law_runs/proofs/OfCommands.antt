@@ -1,6 +1,6 @@
 -- What a run of each command ends with, on files with which it goes on.
 use Rattle.std.proofs.lemmas.Bool.{false≢true}
-use Rattle.std.proofs.Common.{◌↔◌, ◌≡◌, ◌++◌, ℕ, true, List, [], ◌∷◌, Some, Vec, map, length, inl, inr, refl, sym, ap, ◌∙◌, subst}
+use Rattle.std.proofs.Common.{◌↔◌, ◌≡◌, ◌++◌, ℕ, true, List, [], Some, Vec, length, inl, inr, refl, sym, ap, ◌∙◌, subst}
 use Rattle.std.specs.FinMap.{get}
 use Rattle.std.specs.declared.alloc.Global.{Global}
 use Rattle.kp_base.specs.declared.refused.Refused.TheVariants as refusals
@@ -13,8 +13,8 @@ use Rattle.kp_run_outcome.specs.declared.status.Status.{Status}
 use Rattle.kp_run_outcome.specs.declared.status.Status.TheVariants as status
 use Rattle.kp_run_outcome.specs.Ends.{Outside, IsAnswer, AreHeld}
 use Rattle.kp_run_outcome.specs.Printing.{prints}
-use Rattle.kp_words.specs.Names.{Translate, Check, Lift}
-use Rattle.kp_words.specs.declared.lent.CommandRef.TheVariants as commands
+use Rattle.kp_words.specs.Asked.{Asked, source_of}
+use Rattle.kp_words.specs.declared.verb.Verb.TheVariants as verbs
 use Rattle.kp_run_prepare.specs.Refusing.{refuses, named_in}
 use Rattle.kp_run_prepare.specs.Prepared.{clash, by_trees, early, later}
 use Rattle.kp_base.specs.declared.ground.Ground.{Ground}
@@ -22,7 +22,11 @@ use Rattle.kp_base.specs.declared.ground.Initial.{Initial}
 use Rattle.kp_check.specs.declared.answer.Judged.{Judged}
 use Rattle.kp_check.specs.declared.answer.Judged.TheVariants.{Yes, No}
 use Rattle.kp_law_translation.specs.OfTrees.{ground_of, initial_of}
-use Rattle.kp_run.specs.Outcomes.{TranslatesTexts, translates, done, strips, tells, LiftsActions, lifts, fails, with_task, translated, merged, stripped, checked, lifted, IsDue, of_command}
+use Rattle.kp_run.specs.Translate.{TranslatesTexts, translates, done}
+use Rattle.kp_run.specs.Strip.{strips}
+use Rattle.kp_run.specs.Lift.{LiftsActions, lifts, fails, with_task}
+use Rattle.kp_run.specs.Check.{tells}
+use Rattle.kp_run.specs.Outcomes.{IsDue}
 use Rattle.kp_run.specs.Ends.{Ends}
 use Rattle.kp_run_messages.specs.Coverage.{coverage_text}
 use Rattle.kp_tags_files.specs.Printed.{merges_of, merges_text}
@@ -40,12 +44,12 @@ use Rattle.kp_law_translation.proofs.Public.{numbers_below_are_actions, lifted_s
 use Rattle.kp_base.specs.Machine.{MachineStep, accepts, stripped as actions_of}
 use Rattle.kp_ktask_texts.specs.Report.{counts_of}
 use Rattle.kp_plans.specs.declared.step.PlanStep.{PlanStep}
-use Rattle.kp_words.specs.Command.{IsTranslate, IsCheck, IsLift, file_of, if_named, inputs_of}
+use Rattle.kp_words.specs.Command.{IsCall, file_of, if_named}
 use Rattle.kp_run_inputs.specs.SourceTables.{by_mode, with_table}
 use Rattle.kp_run_inputs.specs.Actions.{with_actions}
 use Rattle.kp_run_inputs.proofs.Public.{found_numbers_are_actions, found_actions_are_named, as_many_found_as_steps, table_of_source_is_for_trees}
 use Rattle.kp_run.specs.Completeness.{PrintsComplete}
-use Rattle.kp_run.proofs.Public.{complete_text_leaves_none as none_told, complete_is_told, prepared_is_proper, machine_lines_read}
+use Rattle.kp_run.proofs.Public.{complete_text_leaves_none as none_told, complete_is_told, prepared_is_proper, machine_lines_read, due_by}
 use Rattle.kp_run_prepare.proofs.Public.{problem_of_trees}
 use Rattle.kp_run.specs.Solved.{GoesOn}
 use Rattle.kp_law_runs.specs.Commands.{HasTranslation, TranslationsAreAnswered, CompleteIsTrue, MergesAreListed, ClashesAreAnswered, HasVerdict, ChecksAreAnswered, ChecksAreTrue, HasLift, LiftsAreAnswered, LiftsAreTrue, LiftedLinesStrip, StripsAreAnswered}
@@ -56,17 +60,15 @@ use Rattle.kp_law_runs.proofs.YesPlans.{yes_is_a_plan}
 use Rattle.kp_law_runs.proofs.LiftedPlans.{lifted_plans}
 
 -- what the files that a translation names come to
-merges_due : (words : List (Vec ℕ Global)) (m : FileMap) (c : Translate) (domain problem : List ℕ) (merges : List (List ℕ)) (o : Outcome)
-    → IsTranslate words c → AreHeld (Some m) (inputs_of (commands.Translate c)) (domain ∷ problem ∷ merges) → TranslatesTexts c domain problem merges o → IsDue words (Some m) o
-merges_due words m c domain problem merges o is held comes = of_command (commands.Translate c) (domain ∷ problem ∷ merges) o is held (translated c domain problem merges o comes)
+merges_due : (words : List (Vec ℕ Global)) (m : FileMap) (c : Asked) (domain problem : List ℕ) (merges : List (List ℕ)) (o : Outcome)
+    → IsCall verbs.Translate words c → get m c.domain ≡ Some domain → get m c.problem ≡ Some problem → AreHeld (Some m) (if_named (file_of (source_of c))) merges → TranslatesTexts c domain problem merges o → IsDue words (Some m) o
+merges_due words m c domain problem merges o is first second others comes =
+    due_by verbs.Translate c (record { domain = domain; problem = problem; merges = merges; plan = []; written = [] }) o is
+    (record { domain = first; problem = second; merges = others; plan = refl; written = refl }) comes
 
--- the contents of the names of a translation
-named_held : (m : FileMap) (c : Translate) (domain problem : List ℕ) (merges : List (List ℕ)) → get m c.domain ≡ Some domain → get m c.problem ≡ Some problem → AreHeld (Some m) (if_named (file_of c.source)) merges → AreHeld (Some m) (inputs_of (commands.Translate c)) (domain ∷ problem ∷ merges)
-named_held m c domain problem merges first second others = cc (first, second, others)
-
-translation_due : (words : List (Vec ℕ Global)) (m : FileMap) (c : Translate) (d : Domain Word) (p : Problem Word) (table : TagTable) (ls : List Lit) → IsTranslate words c → GoesOn m c.domain c.problem c.implicates d p → HasTranslation m c.source d p table ls → IsDue words (Some m) (translates c (ground_of d p) table ls)
+translation_due : (words : List (Vec ℕ Global)) (m : FileMap) (c : Asked) (d : Domain Word) (p : Problem Word) (table : TagTable) (ls : List Lit) → IsCall verbs.Translate words c → GoesOn m c.domain c.problem c.implicates d p → HasTranslation m (source_of c) d p table ls → IsDue words (Some m) (translates c (ground_of d p) table ls)
 translation_due words m c d p table ls is g h =
-    merges_due words m c g.domain g.problem h.merges (translates c (ground_of d p) table ls) is (named_held m c g.domain g.problem h.merges g.domain_held g.problem_held h.held)
+    merges_due words m c g.domain g.problem h.merges (translates c (ground_of d p) table ls) is g.domain_held g.problem_held h.held
     (later d p g.trees g.prepared (with_table table h.has_table (done ls h.fits h.are_uncovered refl)))
 
 pub translations_are_answered : TranslationsAreAnswered
@@ -97,19 +99,19 @@ complete_is_true words old new s ends m c d p table ls held is g h answer =
 pub merges_are_listed : MergesAreListed
 merges_are_listed words old new s ends m c d p table held is g h =
     let o = prints (merges_text (ground_of d p).atoms (merges_of table)) in
-    ends_with words old new s ends m _ held (of_command (commands.Merges c) (g.domain ∷ g.problem ∷ []) o is (rw (g.domain_held, g.problem_held) refl)
-    (merged c g.domain g.problem o (later d p g.trees g.prepared (with_table table (by_mode c.mode table h) refl))))
+    ends_with words old new s ends m _ held (due_by verbs.Merges c (record { domain = g.domain; problem = g.problem; merges = []; plan = []; written = [] }) o is (record { domain = g.domain_held; problem = g.problem_held; merges = refl; plan = refl; written = refl })
+    (later d p g.trees g.prepared (with_table table (by_mode c.mode table h) refl)))
 
 pub clashes_are_answered : ClashesAreAnswered
-clashes_are_answered words old new s ends m c domain problem merges d p at held is all trees started clashes =
-    ends_with words old new s ends m _ held (merges_due words m c domain problem merges (refuses (named_in (ground_of d p)) (refusals.Clash at)) is all (early (by_trees d p (named_in (ground_of d p)) (refusals.Clash at) trees (clash at started clashes) refl)))
+clashes_are_answered words old new s ends m c domain problem merges d p at held is first second others trees started clashes =
+    ends_with words old new s ends m _ held (merges_due words m c domain problem merges (refuses (named_in (ground_of d p)) (refusals.Clash at)) is first second others (early (by_trees d p (named_in (ground_of d p)) (refusals.Clash at) trees (clash at started clashes) refl)))
 
-check_due : (words : List (Vec ℕ Global)) (m : FileMap) (c : Check) (d : Domain Word) (p : Problem Word) (steps : List PlanStep) (j : Judged) → IsCheck words c → GoesOn m c.domain c.problem c.implicates d p → (h : HasVerdict m c.plan d p steps j) → IsDue words (Some m) (tells (ground_of d p) (length steps) j)
+check_due : (words : List (Vec ℕ Global)) (m : FileMap) (c : Asked) (d : Domain Word) (p : Problem Word) (steps : List PlanStep) (j : Judged) → IsCall verbs.Check words c → GoesOn m c.domain c.problem c.implicates d p → (h : HasVerdict m c.plan d p steps j) → IsDue words (Some m) (tells (ground_of d p) (length steps) j)
 check_due words m c d p steps j is g h =
     let o = tells (ground_of d p) (length steps) j in
-    of_command (commands.Check c) (g.domain ∷ g.problem ∷ h.text ∷ []) o is (rw (g.domain_held, g.problem_held, h.held) refl)
-    (checked c g.domain g.problem h.text o (later d p g.trees g.prepared (with_actions steps h.numbers h.has_actions
-    (record { judged = j; answers = h.answers; told = ap (λ n. tells (ground_of d p) n j) (sym (as_many_found_as_steps (ground_of d p) steps h.numbers h.has_actions.known)) }))))
+    due_by verbs.Check c (record { domain = g.domain; problem = g.problem; merges = []; plan = h.text; written = [] }) o is (record { domain = g.domain_held; problem = g.problem_held; merges = refl; plan = h.held; written = refl })
+    (later d p g.trees g.prepared (with_actions steps h.numbers h.has_actions
+    (record { judged = j; answers = h.answers; told = ap (λ n. tells (ground_of d p) n j) (sym (as_many_found_as_steps (ground_of d p) steps h.numbers h.has_actions.known)) })))
 
 pub checks_are_answered : ChecksAreAnswered
 checks_are_answered words old new s ends m c d p steps j held is g h = ends_with words old new s ends m _ held (check_due words m c d p steps j is g h)
@@ -130,23 +132,17 @@ checks_are_true words old new s ends m c d p steps j held is g h answer =
 
 -- ---- lifts
 
-lift_due : (words : List (Vec ℕ Global)) (m : FileMap) (c : Lift) (d : Domain Word) (p : Problem Word) (table : TagTable) (ns : List ℕ) (o : Outcome) → IsLift words c → GoesOn m c.domain c.problem c.implicates d p → HasLift m c.source c.plan d p table ns → LiftsActions (ground_of d p) table ns o → IsDue words (Some m) o
+lift_due : (words : List (Vec ℕ Global)) (m : FileMap) (c : Asked) (d : Domain Word) (p : Problem Word) (table : TagTable) (ns : List ℕ) (o : Outcome) → IsCall verbs.Lift words c → GoesOn m c.domain c.problem c.implicates d p → HasLift m (source_of c) c.plan d p table ns → LiftsActions (ground_of d p) table ns o → IsDue words (Some m) o
 lift_due words m c d p table ns o is g h does =
-    of_command (commands.Lift c) (g.domain ∷ g.problem ∷ (h.merges ++ h.text ∷ [])) o is (cc (g.domain_held, g.problem_held, behind (if_named (file_of c.source)) h.merges h.merges_held))
-    (lifted c g.domain g.problem h.merges h.text o (later d p g.trees g.prepared (with_table table h.has_table (with_task h.fits (with_actions h.steps ns h.has_actions does)))))
-  where
-    behind : (names texts : List (List ℕ)) → map (get m) names ≡ map Some texts → map (get m) (names ++ c.plan ∷ []) ≡ map Some (texts ++ h.text ∷ [])
-    behind [] [] e = ap (λ z. z ∷ []) h.plan_held
-    behind [] (u ∷ us) e = absurd cc
-    behind (n ∷ ns) [] e = absurd cc
-    behind (n ∷ ns) (u ∷ us) e = let here : get m n ≡ Some u = cc in let rest : map (get m) ns ≡ map Some us = cc in cc (here, behind ns us rest)
+    due_by verbs.Lift c (record { domain = g.domain; problem = g.problem; merges = h.merges; plan = h.text; written = [] }) o is (record { domain = g.domain_held; problem = g.problem_held; merges = h.merges_held; plan = h.plan_held; written = refl })
+    (later d p g.trees g.prepared (with_table table h.has_table (with_task h.fits (with_actions h.steps ns h.has_actions does))))
 
 pub lifts_are_answered : LiftsAreAnswered
 lifts_are_answered words old new s ends m c d p table ns o held is g h does = ends_with words old new s ends m o held (lift_due words m c d p table ns o is g h does)
 
 -- where such a run ends with an answer, it is Done exactly where some list of steps is accepted that strips to the actions
-accepted_true : (words : List (Vec ℕ Global)) (old new : Outside) (s : Status) → Ends words old new s → (m : FileMap) (c : Lift) (d : Domain Word) (p : Problem Word) (table : TagTable) (ns : List ℕ)
-    → old.held ≡ Some m → IsLift words c → GoesOn m c.domain c.problem c.implicates d p → HasLift m c.source c.plan d p table ns → IsAnswer s
+accepted_true : (words : List (Vec ℕ Global)) (old new : Outside) (s : Status) → Ends words old new s → (m : FileMap) (c : Asked) (d : Domain Word) (p : Problem Word) (table : TagTable) (ns : List ℕ)
+    → old.held ≡ Some m → IsCall verbs.Lift words c → GoesOn m c.domain c.problem c.implicates d p → HasLift m (source_of c) c.plan d p table ns → IsAnswer s
     → (s ≡ status.Done) ↔ ((ms : List MachineStep) × (accepts (ground_of d p) table ms ≡ true) × (actions_of ms ≡ ns))
 accepted_true words old new s ends m c d p table ns held is g h answer =
     let g' = ground_of d p in
@@ -165,7 +161,7 @@ accepted_true words old new s ends m c d p table ns held is g h answer =
 
 pub lifts_are_true : LiftsAreTrue
 lifts_are_true words old new s ends m c d p table ns held is g h answer =
-    let for = table_of_source_is_for_trees d p c.source h.merges table g.prepared.started.small h.fits h.has_table in
+    let for = table_of_source_is_for_trees d p (source_of c) h.merges table g.prepared.started.small h.fits h.has_table in
     let plans = lifted_plans g.domain g.problem (problem_of_trees g.domain g.problem d p g.trees) table for h.steps ns h.has_actions.known in
     let lists = accepted_true words old new s ends m c d p table ns held is g h answer in
     ((λ e. plans.0 (lists.0 e)), (λ w. lists.1 (plans.1 w)))
@@ -178,7 +174,7 @@ lifted_lines_strip words old new s ends m c d p table ns held is g h is_done =
       | inl accepted ↦
           let named = lifted_steps_have_names g' table ns inside in
           let a = answered_by words old new s ends m _ held (lift_due words m c d p table ns _ is g h (lifts named.0 (record { steps_are = named.1; accepted = accepted }) refl)) (subst IsAnswer (sym is_done) tt) in
-          let for = table_of_source_is_for_trees d p c.source h.merges table g.prepared.started.small h.fits h.has_table in
+          let for = table_of_source_is_for_trees d p (source_of c) h.merges table g.prepared.started.small h.fits h.has_table in
           let x = problem_of_trees g.domain g.problem d p g.trees in
           let r = lifts_written g.domain g.problem x table for ns named.0 (record { steps_are = named.1; accepted = accepted }) in
           record {
@@ -195,4 +191,4 @@ lifted_lines_strip words old new s ends m c d p table ns held is g h is_done =
 
 pub strips_are_answered : StripsAreAnswered
 strips_are_answered words old new s ends m c text steps actions held is first short plan stripped_to =
-    ends_with words old new s ends m _ held (of_command (commands.Strip c) (text ∷ []) (prints (plan_text actions)) is (cc first) (stripped c text (prints (plan_text actions)) (strips steps actions short plan stripped_to refl)))
+    ends_with words old new s ends m _ held (due_by verbs.Strip c (record { domain = []; problem = []; merges = []; plan = []; written = text }) (prints (plan_text actions)) is (record { domain = refl; problem = refl; merges = refl; plan = refl; written = first }) (strips steps actions short plan stripped_to refl))

@@ -14,7 +14,7 @@ use Rattle.kp_plans.specs.Stripping.{IsFirstUnstripped}
 use Rattle.kp_plans.proofs.Public.{plans_read_once, plans_refuse_once, plans_never_both}
 use Rattle.kp_run_messages.specs.Refusals.{nothing}
 use Rattle.kp_run_prepare.specs.Refusing.{refuses}
-use Rattle.kp_run.specs.Outcomes.{StripsText, too_long, no_plan, no_strip, strips}
+use Rattle.kp_run.specs.Strip.{StripsText, too_long, no_plan, no_strip, strips}
 
 -- ---- the first step without a strip
 

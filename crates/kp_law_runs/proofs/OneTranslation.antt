@@ -12,16 +12,18 @@ use Rattle.kp_law_decidable.proofs.Public.{verdict_once}
 use Rattle.kp_plans.specs.Printed.{plan_text}
 use Rattle.kp_run_messages.specs.Refusals.{nothing}
 use Rattle.kp_run_outcome.specs.declared.outcome.Outcome.{Outcome}
-use Rattle.kp_words.specs.Names.{Translate}
+use Rattle.kp_words.specs.Asked.{Asked}
 use Rattle.kp_run_prepare.specs.Refusing.{refuses}
 use Rattle.kp_run_prepare.specs.Prepared.{usual}
 use Rattle.kp_run_inputs.proofs.Public.{by_plan_one_outcome}
 use Rattle.kp_ktask.proofs.Public.{task_refused_once, task_refused_or_within}
 use Rattle.kp_run_messages.specs.Lifting.{unlifted_text}
 use Rattle.kp_run_outcome.specs.Printing.{prints, denies}
-use Rattle.kp_run.specs.Outcomes.{translates, tells, TranslatesGround, over, done, TellsJudged, LiftsActions, lifts, fails, LiftsPlan, no_task, with_task, failing_step}
+use Rattle.kp_run.specs.Translate.{translates, TranslatesGround, over, done}
+use Rattle.kp_run.specs.Lift.{LiftsActions, lifts, fails, LiftsPlan, no_task, with_task}
+use Rattle.kp_run.specs.Check.{tells, TellsJudged, failing_step}
 
-pub table_once : (c : Translate) (g : Ground) (i : Initial) (table : TagTable) (o u : Outcome) → TranslatesGround c g i table o → TranslatesGround c g i table u → o ≡ u
+pub table_once : (c : Asked) (g : Ground) (i : Initial) (table : TagTable) (o u : Outcome) → TranslatesGround c g i table o → TranslatesGround c g i table u → o ≡ u
 table_once c g i table o u (over r a ei) (over s b ej) = ei ∙ (ap (refuses nothing) (task_refused_once (task_of g table) usual r s a b) ∙ sym ej)
 table_once c g i table o u (over r a ei) (done ls b are ej) = absurd (task_refused_or_within (task_of g table) usual r a b)
 table_once c g i table o u (done ls a are ei) (over s b ej) = absurd (task_refused_or_within (task_of g table) usual s b a)

@@ -6,7 +6,7 @@ use Rattle.kp_tree_grammar.specs.declared.tree.Word.{Word}
 use Rattle.kp_tree_grammar.specs.Trees.{Domain, Problem}
 use Rattle.kp_law_translation.specs.OfTrees.{ground_of, initial_of}
 use Rattle.kp_outside.specs.Outside.{FileMap}
-use Rattle.kp_words.specs.Names.{Source, of_mode}
+use Rattle.kp_words.specs.Asked.{Source, of_mode, source_of}
 use Rattle.kp_run_prepare.specs.Texts.{HaveTrees}
 use Rattle.kp_run_prepare.proofs.Public.{texts_have_one_domain, texts_have_one_problem}
 use Rattle.kp_run_inputs.specs.SourceTables.{HasTable}
@@ -33,7 +33,7 @@ posed_once m c x y =
     let first : x.given.domain ≡ y.given.domain = cc (sym x.given.domain_held ∙ y.given.domain_held) in
     let second : x.given.problem ≡ y.given.problem = cc (sym x.given.problem_held ∙ y.given.problem_held) in
     let trees = trees_once _ _ _ _ x.about.domain_tree y.about.domain_tree x.about.problem_tree y.about.problem_tree first second x.given.trees y.given.trees in
-    (trees.0, trees.1, table_once m c.source x.about.domain_tree y.about.domain_tree x.about.problem_tree y.about.problem_tree x.about.table y.about.table trees.0 trees.1 x.has_task y.has_task)
+    (trees.0, trees.1, table_once m (source_of c) x.about.domain_tree y.about.domain_tree x.about.problem_tree y.about.problem_tree x.about.table y.about.table trees.0 trees.1 x.has_task y.has_task)
 
 pub classical_posed_once : ClassicalPosedOnce
 classical_posed_once m c x y =

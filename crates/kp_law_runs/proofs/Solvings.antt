@@ -1,5 +1,5 @@
 -- What a run of `solve` ends with, and what that says of the files.
-use Rattle.std.proofs.Common.{ℕ, List, ◌∷◌, Some, Vec}
+use Rattle.std.proofs.Common.{ℕ, List, [], Some, Vec, refl}
 use Rattle.std.specs.declared.alloc.Global.{Global}
 use Rattle.kp_base.specs.declared.ground.TagTable.{TagTable}
 use Rattle.kp_tree_grammar.specs.declared.tree.Word.{Word}
@@ -7,23 +7,23 @@ use Rattle.kp_tree_grammar.specs.Trees.{Domain, Problem}
 use Rattle.kp_law_translation.specs.OfTrees.{ground_of, initial_of}
 use Rattle.kp_outside.specs.Outside.{FileMap}
 use Rattle.kp_run_outcome.specs.declared.outcome.Outcome.{Outcome}
-use Rattle.kp_words.specs.Names.{Solve}
-use Rattle.kp_words.specs.declared.lent.CommandRef.TheVariants as commands
-use Rattle.kp_words.specs.Command.{IsSolve}
+use Rattle.kp_words.specs.Asked.{Asked, source_of}
+use Rattle.kp_words.specs.declared.verb.Verb.TheVariants as verbs
+use Rattle.kp_words.specs.Command.{IsCall}
 use Rattle.kp_run_prepare.specs.Prepared.{later}
 use Rattle.kp_run_inputs.specs.SourceTables.{with_table}
 use Rattle.kp_run_solve.specs.Solving.{SolvesGround}
-use Rattle.kp_run.specs.Outcomes.{solved, IsDue, of_command}
+use Rattle.kp_run.specs.Outcomes.{IsDue}
 use Rattle.kp_run.specs.Solved.{GoesOn, HasTask}
-use Rattle.kp_run.proofs.Public.{solve_is_true}
+use Rattle.kp_run.proofs.Public.{solve_is_true, due_by}
 use Rattle.kp_law_runs.specs.Solve.{SolvingsAreAnswered, SolvedIsAPlan, NoPlanIsTrue, SpentIsTrue}
 use Rattle.kp_law_runs.proofs.Following.{ends_with}
 
 -- ---- what is due
 
-solving_due : (words : List (Vec ℕ Global)) (m : FileMap) (c : Solve) (d : Domain Word) (p : Problem Word) (table : TagTable) (o : Outcome) → IsSolve words c → GoesOn m c.domain c.problem c.implicates d p → HasTask m c.source d p table → SolvesGround c.classical c.budget (ground_of d p) (initial_of d p) table o → IsDue words (Some m) o
+solving_due : (words : List (Vec ℕ Global)) (m : FileMap) (c : Asked) (d : Domain Word) (p : Problem Word) (table : TagTable) (o : Outcome) → IsCall verbs.Solve words c → GoesOn m c.domain c.problem c.implicates d p → HasTask m (source_of c) d p table → SolvesGround c.classical c.budget (ground_of d p) (initial_of d p) table o → IsDue words (Some m) o
 solving_due words m c d p table o is g h does =
-    of_command (commands.Solve c) (g.domain ∷ g.problem ∷ h.merges) o is (cc (g.domain_held, g.problem_held, h.held)) (solved c g.domain g.problem h.merges o (later d p g.trees g.prepared (with_table table h.has_table does)))
+    due_by verbs.Solve c (record { domain = g.domain; problem = g.problem; merges = h.merges; plan = []; written = [] }) o is (record { domain = g.domain_held; problem = g.problem_held; merges = h.held; plan = refl; written = refl }) (later d p g.trees g.prepared (with_table table h.has_table does))
 
 pub solvings_are_answered : SolvingsAreAnswered
 solvings_are_answered words old new s ends m c d p table o held is g h does = ends_with words old new s ends m o held (solving_due words m c d p table o is g h does)

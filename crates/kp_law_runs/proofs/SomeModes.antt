@@ -11,12 +11,12 @@ use Rattle.kp_run_outcome.specs.declared.outcome.Outcome.{Outcome}
 use Rattle.kp_run_outcome.specs.declared.status.Status.TheVariants as status
 use Rattle.kp_run_outcome.specs.Ends.{IsAnswer}
 use Rattle.kp_run_messages.specs.Refusals.{nothing}
-use Rattle.kp_words.specs.Names.{of_mode, Translate}
-use Rattle.kp_words.specs.declared.lent.CommandRef.TheVariants as commands
+use Rattle.kp_words.specs.Asked.{of_mode, Asked, source_of}
+use Rattle.kp_words.specs.declared.verb.Verb.TheVariants as verbs
 use Rattle.kp_run_prepare.specs.Prepared.{by_texts, by_trees, early, later}
 use Rattle.kp_run_inputs.specs.SourceTables.{HasTable, no_table, with_table}
 use Rattle.kp_run_inputs.proofs.Public.{some_tables_are_complete}
-use Rattle.kp_run.specs.Outcomes.{TranslatesGround, over, done, TranslatesTexts}
+use Rattle.kp_run.specs.Translate.{TranslatesGround, over, done, TranslatesTexts}
 use Rattle.kp_run.specs.Completeness.{PrintsComplete}
 use Rattle.kp_run.specs.Solved.{its_ground, its_formula}
 use Rattle.kp_run.proofs.Public.{due_makes, IsNoRefusal, not_refused, prepared_is_proper, solve_is_true}
@@ -27,8 +27,8 @@ use Rattle.kp_law_runs.proofs.OfCommands.{complete_text}
 
 -- ---- `translate`
 
-module _ (c : Translate) (mode : Mode) (source : c.source ≡ of_mode mode) (each : CoversEach mode) (o : Outcome) (answers : IsNoRefusal o) where
-  ground_told : (d : Domain Word) (p : Problem Word) (merges : List (List ℕ)) (table : TagTable) → AreProper (ground_of d p) (initial_of d p) → HasTable (ground_of d p) (initial_of d p) c.source merges table → TranslatesGround c (ground_of d p) (initial_of d p) table o → PrintsComplete o.text
+module _ (c : Asked) (mode : Mode) (source : (source_of c) ≡ of_mode mode) (each : CoversEach mode) (o : Outcome) (answers : IsNoRefusal o) where
+  ground_told : (d : Domain Word) (p : Problem Word) (merges : List (List ℕ)) (table : TagTable) → AreProper (ground_of d p) (initial_of d p) → HasTable (ground_of d p) (initial_of d p) (source_of c) merges table → TranslatesGround c (ground_of d p) (initial_of d p) table o → PrintsComplete o.text
   ground_told d p merges table proper has (over r why is) = absurd (not_refused o nothing r is answers)
   ground_told d p merges table proper has (done ls fits are is) =
       let own_table = subst (λ s. HasTable (ground_of d p) (initial_of d p) s merges table) source has in
@@ -44,8 +44,8 @@ module _ (c : Translate) (mode : Mode) (source : c.source ≡ of_mode mode) (eac
 pub some_modes_tell_complete : SomeModesTellComplete
 some_modes_tell_complete words old new s ends c mode is source each is_done =
     let a = answers_are_whole words old new s ends (subst IsAnswer (sym is_done) tt) in
-    let made = (due_makes words old.held (commands.Translate c) a.outcome is a.due).makes in
-    (a.outcome.text, a.answered.text_is, texts_told c mode source each a.outcome (λ r e. absurd (let f : status.Done ≡ status.Refused r = sym is_done ∙ (a.answered.status_is ∙ e) in cc)) made.0 made.1 made.2 made.4)
+    let it = due_makes words old.held verbs.Translate c a.outcome is a.due in
+    (a.outcome.text, a.answered.text_is, texts_told c mode source each a.outcome (λ r e. absurd (let f : status.Done ≡ status.Refused r = sym is_done ∙ (a.answered.status_is ∙ e) in cc)) it.contents.domain it.contents.problem it.contents.merges it.makes)
 
 -- ---- `solve`
 

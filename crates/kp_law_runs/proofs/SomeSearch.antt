@@ -32,7 +32,7 @@ use Rattle.kp_run_solve.specs.Solving.{Finds, solves, spends, SolvesGround, sear
 use Rattle.kp_search.proofs.Public.{has_some_end_by_added}
 use Rattle.kp_run_solve.proofs.Public.{ends_are_true, operators_have_names}
 use Rattle.kp_run_solve.specs.Operators.{acts_among}
-use Rattle.kp_words.specs.Names.{Bench}
+use Rattle.kp_words.specs.Asked.{Asked}
 use Rattle.kp_run_bench.specs.Summary.{summary_text}
 use Rattle.kp_run_bench.specs.Bench.{BenchesGround, searched as by_bench}
 use Rattle.kp_run_bench.specs.Working.{IsSafe}
@@ -56,7 +56,7 @@ some_search name budget g i table proper fits fit = let end = has_some_end_by_ad
 -- ---- a run on a generated problem
 
 -- so does that of a task that is safe
-pub some_bench : (c : Bench) (g : Ground) (i : Initial) (table : TagTable) → AreProper g i → FitsLimits (task_of g table) usual → IsFit (task_of g table) → IsSafe g i table → (o : Outcome) × BenchesGround c g i table o
+pub some_bench : (c : Asked) (g : Ground) (i : Initial) (table : TagTable) → AreProper g i → FitsLimits (task_of g table) usual → IsFit (task_of g table) → IsSafe g i table → (o : Outcome) × BenchesGround c g i table o
 some_bench c g i table proper fits fit safe = let end = has_some_end_by_added (task_of g table) c.budget fit in by end.0 end.1
   where
     by : (found : Found) → Finds (task_of g table) c.budget found → (o : Outcome) × BenchesGround c g i table o

@@ -12,7 +12,7 @@ use Rattle.kp_tree.proofs.Public.{files_always_one}
 use Rattle.kp_law_translation.specs.OfTrees.{ground_of, initial_of}
 use Rattle.kp_law_translation.proofs.Public.{initial_states_are_models, formulas_speak_of_ground_atoms}
 use Rattle.kp_law_decidable.proofs.Public.{names_decided, sizes_decided, formulas_are_ascending, implicates_are_counted as counted, model_or_none, clash_or_none}
-use Rattle.kp_run_messages.specs.Refusals.{Named, nothing}
+use Rattle.kp_run_messages.specs.Refusals.{Nameable, nothing}
 use Rattle.kp_run_outcome.specs.declared.outcome.Outcome.{Outcome}
 use Rattle.kp_run_prepare.specs.Texts.{HaveTrees, RefusesTexts, of_domain, of_problem, of_names}
 use Rattle.kp_run_prepare.specs.Refusing.{refuses, named_in}
@@ -22,7 +22,7 @@ use Rattle.kp_run_prepare.specs.Prepared.{usual, IsSmall, IsStarted, IsPrepared,
 
 -- they are refused, with what the refusal may name
 abbrev AreRefused : ℕ → Domain Word → Problem Word → Type 0
-AreRefused limit d p = (names : Named) × (r : Refused) × RefusesTrees limit d p names r
+AreRefused limit d p = (names : Nameable) × (r : Refused) × RefusesTrees limit d p names r
 
 module _ (limit : ℕ) (d : Domain Word) (p : Problem Word) where
   of_started : IsStarted limit d p → AreRefused limit d p ⊎ IsPrepared limit d p

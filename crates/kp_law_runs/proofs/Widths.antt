@@ -1,5 +1,5 @@
 -- What a run of `width` ends with, and what that says of its files.
-use Rattle.std.proofs.Common.{◌≡◌, ◌≤◌, ℕ, List, [], ◌∷◌, Some, Vec, length, inl, inr, refl, sym, ◌∙◌, subst, arith}
+use Rattle.std.proofs.Common.{◌≡◌, ◌≤◌, ℕ, List, [], Some, Vec, length, inl, inr, refl, sym, ◌∙◌, subst, arith}
 use Rattle.std.proofs.Math.Nat.{max-le}
 use Rattle.std.specs.FinMap.{get}
 use Rattle.std.specs.declared.alloc.Global.{Global}
@@ -25,24 +25,25 @@ use Rattle.kp_outside.specs.Outside.{FileMap}
 use Rattle.kp_run_outcome.specs.declared.outcome.Outcome.{Outcome}
 use Rattle.kp_run_outcome.specs.declared.status.Status.{Status}
 use Rattle.kp_run_outcome.specs.declared.status.Status.TheVariants as status
-use Rattle.kp_run_outcome.specs.Ends.{Outside, IsAnswer, AreHeld}
+use Rattle.kp_run_outcome.specs.Ends.{Outside, IsAnswer}
 use Rattle.kp_run_messages.specs.Refusals.{nothing}
-use Rattle.kp_words.specs.Names.{Width}
-use Rattle.kp_words.specs.declared.lent.CommandRef.TheVariants as commands
-use Rattle.kp_words.specs.Command.{IsWidth, inputs_of}
+use Rattle.kp_words.specs.Asked.{Asked}
+use Rattle.kp_words.specs.declared.verb.Verb.TheVariants as verbs
+use Rattle.kp_words.specs.Command.{IsCall}
 use Rattle.kp_run_prepare.specs.Refusing.{named_in}
 use Rattle.kp_run_prepare.specs.Prepared.{usual, by_texts, by_trees, early, later}
-use Rattle.kp_run.specs.Outcomes.{tells_width, WidthTexts, no_report, with_report, width_measured, IsDue, of_command}
+use Rattle.kp_run.specs.Width.{tells_width, WidthTexts, no_report, with_report}
+use Rattle.kp_run.specs.Outcomes.{IsDue}
 use Rattle.kp_run.specs.Ends.{Ends}
 use Rattle.kp_run.specs.Solved.{GoesOn}
-use Rattle.kp_run.proofs.Public.{due_makes, IsCarriedOut, answer_is_carried_out, IsNoRefusal, not_refused, prepared_is_proper}
+use Rattle.kp_run.proofs.Public.{due_makes, IsCarriedOut, answer_is_carried_out, IsNoRefusal, not_refused, prepared_is_proper, due_by}
 use Rattle.kp_law_runs.specs.Width.{WidthsAreAnswered, AreRight, IsTargeted, IsWidthTold, IsTooWide, WidthsAreTrue}
 use Rattle.kp_law_runs.proofs.Following.{ends_with}
 
-width_due : (words : List (Vec ℕ Global)) (m : FileMap) (c : Width) (d : Domain Word) (p : Problem Word) (report : WidthReport) → IsWidth words c → GoesOn m c.domain c.problem c.implicates d p → IsReport usual c.bound (ground_of d p) (initial_of d p) report → IsDue words (Some m) (tells_width (ground_of d p) c.bound report)
+width_due : (words : List (Vec ℕ Global)) (m : FileMap) (c : Asked) (d : Domain Word) (p : Problem Word) (report : WidthReport) → IsCall verbs.Width words c → GoesOn m c.domain c.problem c.implicates d p → IsReport usual c.bound (ground_of d p) (initial_of d p) report → IsDue words (Some m) (tells_width (ground_of d p) c.bound report)
 width_due words m c d p report is g reports =
     let o = tells_width (ground_of d p) c.bound report in
-    of_command (commands.Width c) (g.domain ∷ g.problem ∷ []) o is (rw (g.domain_held, g.problem_held) refl) (width_measured c g.domain g.problem o (later d p g.trees g.prepared (with_report report reports refl)))
+    due_by verbs.Width c (record { domain = g.domain; problem = g.problem; merges = []; plan = []; written = [] }) o is (record { domain = g.domain_held; problem = g.problem_held; merges = refl; plan = refl; written = refl }) (later d p g.trees g.prepared (with_report report reports refl))
 
 pub widths_are_answered : WidthsAreAnswered
 widths_are_answered words old new s ends m c d p report held is g reports = ends_with words old new s ends m _ held (width_due words m c d p report is g reports)
@@ -68,7 +69,7 @@ module _ (limit bound : ℕ) (g : Ground) (i : Initial) where
 -- ---- what was told
 
 -- what a run was about, and its report
-record HasReport (m : FileMap) (c : Width) (o : Outcome) : Type 0 where
+record HasReport (m : FileMap) (c : Asked) (o : Outcome) : Type 0 where
   domain_tree : Domain Word
   problem_tree : Problem Word
   goes_on : GoesOn m c.domain c.problem c.implicates domain_tree problem_tree
@@ -76,7 +77,7 @@ record HasReport (m : FileMap) (c : Width) (o : Outcome) : Type 0 where
   is_report : IsReport usual c.bound (ground_of domain_tree problem_tree) (initial_of domain_tree problem_tree) report
   told : o ≡ tells_width (ground_of domain_tree problem_tree) c.bound report
 
-of_texts : (m : FileMap) (c : Width) (domain problem : List ℕ) → get m c.domain ≡ Some domain → get m c.problem ≡ Some problem → (o : Outcome) → IsNoRefusal o → WidthTexts c domain problem o → HasReport m c o
+of_texts : (m : FileMap) (c : Asked) (domain problem : List ℕ) → get m c.domain ≡ Some domain → get m c.problem ≡ Some problem → (o : Outcome) → IsNoRefusal o → WidthTexts c domain problem o → HasReport m c o
 of_texts m c domain problem first second o answers (early (by_texts r why is)) = absurd (not_refused o nothing r is answers)
 of_texts m c domain problem first second o answers (early (by_trees d p names r trees why is)) = absurd (not_refused o names r is answers)
 of_texts m c domain problem first second o answers (later d p trees ready (no_report r why is)) = absurd (not_refused o (named_in (ground_of d p)) r is answers)
@@ -89,14 +90,12 @@ of_texts m c domain problem first second o answers (later d p trees ready (with_
   told = is;
 }
 
-has_report : (words : List (Vec ℕ Global)) (m : FileMap) (c : Width) (o : Outcome) → IsWidth words c → IsDue words (Some m) o → IsNoRefusal o → HasReport m c o
+has_report : (words : List (Vec ℕ Global)) (m : FileMap) (c : Asked) (o : Outcome) → IsCall verbs.Width words c → IsDue words (Some m) o → IsNoRefusal o → HasReport m c o
 has_report words m c o is due answers =
-    let it = due_makes words (Some m) (commands.Width c) o is due in
-    let made = it.makes in
-    let there : AreHeld (Some m) (inputs_of (commands.Width c)) (made.0 ∷ made.1 ∷ []) = subst (AreHeld (Some m) (inputs_of (commands.Width c))) made.2 it.are_held in
-    of_texts m c made.0 made.1 (cc there) (cc there) o answers made.3
+    let it = due_makes words (Some m) verbs.Width c o is due in
+    of_texts m c it.contents.domain it.contents.problem it.are.domain it.are.problem o answers it.makes
 
-module _ (m : FileMap) (c : Width) (o : Outcome) (x : HasReport m c o) (old new : Outside) (s : Status) (a : IsCarriedOut o old new s) where
+module _ (m : FileMap) (c : Asked) (o : Outcome) (x : HasReport m c o) (old new : Outside) (s : Status) (a : IsCarriedOut o old new s) where
   abbrev ground : Ground
   ground = ground_of x.domain_tree x.problem_tree
 
@@ -148,7 +147,7 @@ module _ (m : FileMap) (c : Width) (o : Outcome) (x : HasReport m c o) (old new 
       }
 
 -- it came to an answer that is no refusal
-of_answer : (words : List (Vec ℕ Global)) (old new : Outside) (s : Status) → Ends words old new s → (m : FileMap) (c : Width) → old.held ≡ Some m → IsWidth words c → IsAnswer s → ((r : Refused) → s ≡ status.Refused r → ⊥) → (o : Outcome) × HasReport m c o × IsCarriedOut o old new s
+of_answer : (words : List (Vec ℕ Global)) (old new : Outside) (s : Status) → Ends words old new s → (m : FileMap) (c : Asked) → old.held ≡ Some m → IsCall verbs.Width words c → IsAnswer s → ((r : Refused) → s ≡ status.Refused r → ⊥) → (o : Outcome) × HasReport m c o × IsCarriedOut o old new s
 of_answer words old new s ends m c held is answer other =
     let w = answer_is_carried_out words old new s ends m held answer in
     (w.outcome, has_report words m c w.outcome is w.due (λ r e. other r (w.carried_out.status_is ∙ e)), w.carried_out)

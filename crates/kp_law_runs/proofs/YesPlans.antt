@@ -9,7 +9,7 @@ use Rattle.kp_run_prepare.proofs.Public.{numbers_of_names_once}
 use Rattle.kp_primes_first_model.specs.Ordered.{state_of_atoms}
 use Rattle.kp_check.specs.declared.answer.Judged.{Judged}
 use Rattle.kp_check.specs.declared.answer.Judged.TheVariants.{Yes, No}
-use Rattle.kp_check.specs.Judging.{AnswersJudged, fails}
+use Rattle.kp_check.specs.Judging.{IsVerdict, fails}
 use Rattle.kp_plans.specs.declared.step.PlanStep.{PlanStep}
 use Rattle.kp_plans.specs.PlanFiles.{step_names}
 use Rattle.kp_law_translation.specs.OfTrees.{ground_of, initial_of}
@@ -20,14 +20,14 @@ use Rattle.kp_law_runs.specs.Laws.{YesIsAPlan, UnknownStepsAreNoPlan}
 -- ---- verdicts
 
 -- where the steps are a plan from each model, no model fails
-yes_of : (n : ℕ) (g : Ground) (i : Initial) (ns : List ℕ) (j : Judged) → AnswersJudged n g i ns j → IsGroundPlan g i ns → j ≡ Yes
+yes_of : (n : ℕ) (g : Ground) (i : Initial) (ns : List ℕ) (j : Judged) → IsVerdict n g i ns j → IsGroundPlan g i ns → j ≡ Yes
 yes_of n g i ns Yes answers plan = refl
 yes_of n g i ns (No ps k l) answers plan =
     let parts = and_parts (is_model i (state_of_atoms ps)) (fails g ns (state_of_atoms ps)) answers.0.0.passed in
     absurd (false≢true (sym (ap not (plan (state_of_atoms ps) parts.0)) ∙ parts.1))
 
-plan_of : (n : ℕ) (g : Ground) (i : Initial) (ns : List ℕ) (j : Judged) → AnswersJudged n g i ns j → j ≡ Yes → IsGroundPlan g i ns
-plan_of n g i ns j answers is = subst (AnswersJudged n g i ns) is answers
+plan_of : (n : ℕ) (g : Ground) (i : Initial) (ns : List ℕ) (j : Judged) → IsVerdict n g i ns j → j ≡ Yes → IsGroundPlan g i ns
+plan_of n g i ns j answers is = subst (IsVerdict n g i ns) is answers
 
 pub yes_is_a_plan : YesIsAPlan
 yes_is_a_plan domain problem x has steps numbers j known answers =

@@ -14,8 +14,9 @@ use Rattle.kp_run_outcome.specs.declared.outcome.Outcome.{Outcome}
 use Rattle.kp_run_outcome.specs.declared.status.Status.{Status}
 use Rattle.kp_run_outcome.specs.declared.status.Status.TheVariants as status
 use Rattle.kp_run_outcome.specs.Ends.{Outside}
-use Rattle.kp_words.specs.Names.{of_mode, Bench}
-use Rattle.kp_words.specs.Command.{IsBench}
+use Rattle.kp_words.specs.Asked.{of_mode, Asked}
+use Rattle.kp_words.specs.Command.{IsCall}
+use Rattle.kp_words.specs.declared.verb.Verb.TheVariants as verbs
 use Rattle.kp_run_prepare.specs.Texts.{HaveTrees}
 use Rattle.kp_run_prepare.specs.Prepared.{usual, IsPrepared}
 use Rattle.kp_run_inputs.specs.SourceTables.{HasTable}
@@ -29,7 +30,7 @@ use Rattle.kp_law_runs.specs.Follows.{OfRuns, EndsWith}
 -- ---- the problem
 
 -- what a run is about: the trees of the two texts of its family and size, with which it goes on; and the table of its mode, whose task is within the limits
-pub record IsPosedBench (c : Bench) : Type 0 where
+pub record IsPosedBench (c : Asked) : Type 0 where
   pub about : Posed
   pub trees : HaveTrees (texts_of c).domain (texts_of c).problem about.domain_tree about.problem_tree
   pub prepared : IsPrepared usual_implicates about.domain_tree about.problem_tree
@@ -39,7 +40,7 @@ pub record IsPosedBench (c : Bench) : Type 0 where
 -- ---- what an answer says
 
 -- The search of that task found a plan. Its operators have names that are a plan of the two files that `translate` writes, and its strip is a plan of the two texts. The summary was told, with the number of its steps, and the number of states that the search expanded; `complete` stands in it where no target is uncovered, exactly where the table is complete. Nothing was put.
-pub record IsSolvedBench (c : Bench) (old new : Outside) : Type 0 where
+pub record IsSolvedBench (c : Asked) (old new : Outside) : Type 0 where
   pub posed : IsPosedBench c
   pub ops : List ℕ
   pub expanded : ℕ
@@ -57,7 +58,7 @@ pub record IsSolvedBench (c : Bench) (old new : Outside) : Type 0 where
   pub put : new.held ≡ old.held
 
 -- The two files that `translate` writes have no plan. This was told, with `complete` as the last line exactly where the table is complete; and then the two texts have no plan either. Nothing was put.
-pub record HasNoBenchPlan (c : Bench) (old new : Outside) : Type 0 where
+pub record HasNoBenchPlan (c : Asked) (old new : Outside) : Type 0 where
   pub posed : IsPosedBench c
   pub uncovered : List Lit
   pub are_uncovered : AreUncovered (its_ground posed.about) (its_formula posed.about) posed.about.table uncovered
@@ -68,7 +69,7 @@ pub record HasNoBenchPlan (c : Bench) (old new : Outside) : Type 0 where
   pub put : new.held ≡ old.held
 
 -- The search expanded as many states as the budget says; so many different states that don't meet the goal can be reached, and one more such. The budget was told, and nothing was put.
-pub record IsSpentBench (c : Bench) (old new : Outside) : Type 0 where
+pub record IsSpentBench (c : Asked) (old new : Outside) : Type 0 where
   pub posed : IsPosedBench c
   pub ended : Finds (its_task posed.about) c.budget (Spent c.budget)
   pub more : HasMoreStates (its_task posed.about) c.budget
@@ -76,7 +77,7 @@ pub record IsSpentBench (c : Bench) (old new : Outside) : Type 0 where
   pub put : new.held ≡ old.held
 
 -- a plan with Done, that there is none with Negative, and more states than the budget says with Spent
-pub record BenchIsTrue (c : Bench) (old new : Outside) (s : Status) : Type 0 where
+pub record BenchIsTrue (c : Asked) (old new : Outside) (s : Status) : Type 0 where
   pub done : s ≡ status.Done → IsSolvedBench c old new
   pub negative : s ≡ status.Negative → HasNoBenchPlan c old new
   pub spent : s ≡ status.Spent → IsSpentBench c old new
@@ -85,12 +86,12 @@ pub record BenchIsTrue (c : Bench) (old new : Outside) (s : Status) : Type 0 whe
 
 -- so it is of each run, whatever the shelf holds
 abbrev pub BenchesAreTrue : Type 0
-BenchesAreTrue = OfRuns (λ words old new s. (c : Bench) → IsBench words c → BenchIsTrue c old new s)
+BenchesAreTrue = OfRuns (λ words old new s. (c : Asked) → IsCall verbs.Bench words c → BenchIsTrue c old new s)
 
 -- where the shelf tells, the run ends with what the two texts come to
 abbrev pub BenchesAreAnswered : Type 0
-BenchesAreAnswered = OfRuns (λ words old new s. (m : FileMap) (c : Bench) (o : Outcome) → old.held ≡ Some m → IsBench words c → Benches c o → EndsWith o old new s)
+BenchesAreAnswered = OfRuns (λ words old new s. (m : FileMap) (c : Asked) (o : Outcome) → old.held ≡ Some m → IsCall verbs.Bench words c → Benches c o → EndsWith o old new s)
 
 -- the trees and the table are one, so what is said of some is said of all
 abbrev pub BenchPosedOnce : Type 0
-BenchPosedOnce = (c : Bench) (x y : IsPosedBench c) → (x.about.domain_tree ≡ y.about.domain_tree) × (x.about.problem_tree ≡ y.about.problem_tree) × (x.about.table ≡ y.about.table)
+BenchPosedOnce = (c : Asked) (x y : IsPosedBench c) → (x.about.domain_tree ≡ y.about.domain_tree) × (x.about.problem_tree ≡ y.about.problem_tree) × (x.about.table ≡ y.about.table)

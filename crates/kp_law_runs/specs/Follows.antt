@@ -9,8 +9,9 @@ use Rattle.kp_run_outcome.specs.declared.outcome.Outcome.{Outcome}
 use Rattle.kp_run_outcome.specs.declared.status.Status.{Status}
 use Rattle.kp_run_outcome.specs.declared.status.Status.TheVariants as status
 use Rattle.kp_run_outcome.specs.Ends.{Outside, NoGetFailed, NoPutFailed, NoWriteFailed, IsUntouched, IsAnswer, with_files, StopsAt, CarriesOut}
-use Rattle.kp_words.specs.declared.lent.CommandRef.{CommandRef as Command}
 use Rattle.kp_words.specs.Command.{IsCommand, IsNoCommand, inputs_of, outputs_of}
+use Rattle.kp_words.specs.Asked.{Asked}
+use Rattle.kp_run.specs.Contents.{Contents}
 use Rattle.kp_run.specs.Outcomes.{ComesTo, IsDue}
 use Rattle.kp_run.specs.Ends.{Ends}
 
@@ -66,7 +67,7 @@ OnlyDonePuts = (words : List (Vec ℕ Global)) (held : Option FileMap) (o : Outc
 
 -- of a command, an outcome with the status Done puts a file under each output name, in order
 abbrev pub DonePutsTheOutputs : Type 0
-DonePutsTheOutputs = (c : Command) (texts : List (List ℕ)) (o : Outcome) → ComesTo c texts o → o.status ≡ status.Done → map (λ f. f.name) o.puts ≡ outputs_of c
+DonePutsTheOutputs = (c : Asked) (t : Contents) (o : Outcome) → ComesTo c t o → o.status ≡ status.Done → map (λ f. f.name) o.puts ≡ outputs_of c
 
 -- ---- what is held, and what was told
 
@@ -105,11 +106,11 @@ ReadFaultsTellNothing = OfRuns (λ words old new s. s ≡ status.ReadFault → n
 
 -- ReadFault only where a get of an input of the command failed
 abbrev pub ReadFaultsAreTrue : Type 0
-ReadFaultsAreTrue = OfRuns (λ words old new s. s ≡ status.ReadFault → (c : Command) × IsCommand words c × ((name : List ℕ) × Member (inputs_of c) name × Rises (old.get_faults name) (new.get_faults name)))
+ReadFaultsAreTrue = OfRuns (λ words old new s. s ≡ status.ReadFault → (c : Asked) × IsCommand words c × ((name : List ℕ) × Member (inputs_of c) name × Rises (old.get_faults name) (new.get_faults name)))
 
 -- WriteFault only where a put of an output of the command failed, or a write
 abbrev pub WriteFaultsAreTrue : Type 0
-WriteFaultsAreTrue = OfRuns (λ words old new s. s ≡ status.WriteFault → ((c : Command) × IsCommand words c × ((name : List ℕ) × Member (outputs_of c) name × Rises (old.put_faults name) (new.put_faults name))) ⊎ Rises old.write_faults new.write_faults)
+WriteFaultsAreTrue = OfRuns (λ words old new s. s ≡ status.WriteFault → ((c : Asked) × IsCommand words c × ((name : List ℕ) × Member (outputs_of c) name × Rises (old.put_faults name) (new.put_faults name))) ⊎ Rises old.write_faults new.write_faults)
 
 -- where a get failed, ReadFault is told
 abbrev pub FailedGetsAreTold : Type 0
@@ -121,9 +122,9 @@ FailedWritesAreTold = OfRuns (λ words old new s. s ≢ status.WriteFault → No
 
 -- an input that isn't held gives ReadFault or want of memory
 abbrev pub MissingInputsAreFaults : Type 0
-MissingInputsAreFaults = OfRuns (λ words old new s. (m : FileMap) (c : Command) (name : List ℕ) → old.held ≡ Some m → IsCommand words c → Member (inputs_of c) name → get m name ≡ None → (s ≡ status.ReadFault) ⊎ (s ≡ status.Memory))
+MissingInputsAreFaults = OfRuns (λ words old new s. (m : FileMap) (c : Asked) (name : List ℕ) → old.held ≡ Some m → IsCommand words c → Member (inputs_of c) name → get m name ≡ None → (s ≡ status.ReadFault) ⊎ (s ≡ status.Memory))
 
 -- inputs are read in order: with ReadFault, a get failed of the first that isn't held, or of one before it
 abbrev pub InputsAreReadInOrder : Type 0
-InputsAreReadInOrder = OfRuns (λ words old new s. (m : FileMap) (c : Command) (front rest : List (List ℕ)) (name : List ℕ) → old.held ≡ Some m → IsCommand words c → inputs_of c ≡ front ++ name ∷ rest → get m name ≡ None → s ≡ status.ReadFault
+InputsAreReadInOrder = OfRuns (λ words old new s. (m : FileMap) (c : Asked) (front rest : List (List ℕ)) (name : List ℕ) → old.held ≡ Some m → IsCommand words c → inputs_of c ≡ front ++ name ∷ rest → get m name ≡ None → s ≡ status.ReadFault
     → (q : List ℕ) × Member (front ++ name ∷ []) q × Rises (old.get_faults q) (new.get_faults q))

@@ -8,22 +8,22 @@ use Rattle.kp_plans.specs.PlanFiles.{step_names}
 use Rattle.kp_plans.specs.Found.{action_of, IsFirstUnknown}
 use Rattle.kp_check.specs.declared.answer.Judged.{Judged}
 use Rattle.kp_check.specs.declared.answer.Judged.TheVariants.{Yes}
-use Rattle.kp_check.specs.Judging.{AnswersJudged}
+use Rattle.kp_check.specs.Judging.{IsVerdict}
 use Rattle.kp_law_translation.specs.OfTrees.{ground_of, initial_of}
 use Rattle.kp_outside.specs.Outside.{FileMap}
 use Rattle.kp_run_outcome.specs.declared.outcome.Outcome.{Outcome}
-use Rattle.kp_run_outcome.specs.Ends.{AreHeld}
-use Rattle.kp_words.specs.declared.lent.CommandRef.{CommandRef as Command}
-use Rattle.kp_words.specs.Command.{IsCommand, inputs_of}
+use Rattle.kp_words.specs.Command.{IsCommand, merges_by}
+use Rattle.kp_words.specs.Asked.{Asked}
+use Rattle.kp_run.specs.Contents.{Contents, AreContents}
 use Rattle.kp_run.specs.Outcomes.{ComesTo, IsDue}
 
--- a command comes to an outcome on any contents, as many as it has inputs
+-- a command comes to an outcome on any contents, with as many of merges as it reads
 abbrev pub CommandsHaveAnOutcome : Type 0
-CommandsHaveAnOutcome = (c : Command) (texts : List (List ℕ)) → length texts ≡ length (inputs_of c) → (o : Outcome) × ComesTo c texts o
+CommandsHaveAnOutcome = (c : Asked) (t : Contents) → length t.merges ≡ length (merges_by c.verb c) → (o : Outcome) × ComesTo c t o
 
 -- words have an outcome on what is held, if, where they are a command, its input files are held
 abbrev pub HasSomeOutcome : Type 0
-HasSomeOutcome = (words : List (Vec ℕ Global)) (held : FileMap) → ((c : Command) → IsCommand words c → (texts : List (List ℕ)) × AreHeld (Some held) (inputs_of c) texts) → (o : Outcome) × IsDue words (Some held) o
+HasSomeOutcome = (words : List (Vec ℕ Global)) (held : FileMap) → ((c : Asked) → IsCommand words c → (t : Contents) × AreContents (Some held) c.verb c t) → (o : Outcome) × IsDue words (Some held) o
 
 -- words have at most one outcome on what is held
 abbrev pub HasOneOutcome : Type 0
@@ -33,7 +33,7 @@ HasOneOutcome = (words : List (Vec ℕ Global)) (held : FileMap) (o p : Outcome)
 abbrev pub YesIsAPlan : Type 0
 YesIsAPlan = (domain problem : List ℕ) (x : HasProblem domain problem) → HasInitialState x.problem → (steps : List PlanStep) (numbers : List ℕ) (j : Judged)
     → map (action_of (ground_of x.domain x.problem).actions) steps ≡ map Some numbers
-    → AnswersJudged (length (ground_of x.domain x.problem).atoms) (ground_of x.domain x.problem) (initial_of x.domain x.problem) numbers j
+    → IsVerdict (length (ground_of x.domain x.problem).atoms) (ground_of x.domain x.problem) (initial_of x.domain x.problem) numbers j
     → (j ≡ Yes) ↔ IsPlan domain problem (step_names steps)
 
 -- and steps of which one names no action aren't a plan

@@ -19,17 +19,18 @@ use Rattle.kp_run_outcome.specs.Ends.{Outside}
 use Rattle.kp_run_outcome.specs.declared.status.Status.{Status}
 use Rattle.kp_run_outcome.specs.declared.status.Status.TheVariants as status
 use Rattle.kp_run_messages.specs.Widths.{width_text, over_text}
-use Rattle.kp_words.specs.Names.{Width}
-use Rattle.kp_words.specs.Command.{IsWidth}
+use Rattle.kp_words.specs.Asked.{Asked}
+use Rattle.kp_words.specs.Command.{IsCall}
+use Rattle.kp_words.specs.declared.verb.Verb.TheVariants as verbs
 use Rattle.kp_run_prepare.specs.Prepared.{usual}
-use Rattle.kp_run.specs.Outcomes.{tells_width}
+use Rattle.kp_run.specs.Width.{tells_width}
 use Rattle.kp_run.specs.Solved.{GoesOn, Tells}
 use Rattle.kp_law_runs.specs.Follows.{OfRuns, EndsWith}
 
 -- a call for the width of such files, of which this is the report: the run ends with what is told of it
 abbrev pub WidthsAreAnswered : Type 0
-WidthsAreAnswered = OfRuns (λ words old new s. (m : FileMap) (c : Width) (d : Domain Word) (p : Problem Word) (report : WidthReport)
-    → old.held ≡ Some m → IsWidth words c → GoesOn m c.domain c.problem c.implicates d p → IsReport usual c.bound (ground_of d p) (initial_of d p) report
+WidthsAreAnswered = OfRuns (λ words old new s. (m : FileMap) (c : Asked) (d : Domain Word) (p : Problem Word) (report : WidthReport)
+    → old.held ≡ Some m → IsCall verbs.Width words c → GoesOn m c.domain c.problem c.implicates d p → IsReport usual c.bound (ground_of d p) (initial_of d p) report
     → EndsWith (tells_width (ground_of d p) c.bound report) old new s)
 
 -- each of these targets has its row, in order: clauses that cover it, as many as its width, and their tags
@@ -38,7 +39,7 @@ pub data AreRight (g : Ground) (i : Initial) : List Lit → List WidthRow → Ty
   more : (target : Lit) (targets : List Lit) (row : WidthRow) (rows : List WidthRow) → row.target ≡ target → IsRightRow g i target row → AreRight g i targets rows → AreRight g i (target ∷ targets) (row ∷ rows)
 
 -- the two files have trees with which `width` goes on, and these are their targets
-pub record IsTargeted (m : FileMap) (c : Width) : Type 0 where
+pub record IsTargeted (m : FileMap) (c : Asked) : Type 0 where
   pub domain_tree : Domain Word
   pub problem_tree : Problem Word
   pub goes_on : GoesOn m c.domain c.problem c.implicates domain_tree problem_tree
@@ -46,15 +47,15 @@ pub record IsTargeted (m : FileMap) (c : Width) : Type 0 where
   pub are_targets : AreTargets (ground_of domain_tree problem_tree) targets
 
 -- their ground problem
-abbrev pub ground_in : {m : FileMap} {c : Width} → IsTargeted m c → Ground
+abbrev pub ground_in : {m : FileMap} {c : Asked} → IsTargeted m c → Ground
 ground_in x = ground_of x.domain_tree x.problem_tree
 
 -- and its initial formula
-abbrev pub initial_in : {m : FileMap} {c : Width} → IsTargeted m c → Initial
+abbrev pub initial_in : {m : FileMap} {c : Asked} → IsTargeted m c → Initial
 initial_in x = initial_of x.domain_tree x.problem_tree
 
 -- rows of the targets were told, each of as many clauses as the width of its target, and the greatest of them as the width of the problem; none is above the bound; nothing was put
-pub record IsWidthTold (m : FileMap) (c : Width) (old new : Outside) : Type 0 where
+pub record IsWidthTold (m : FileMap) (c : Asked) (old new : Outside) : Type 0 where
   pub of_targets : IsTargeted m c
   pub rows : List WidthRow
   pub right : AreRight (ground_in of_targets) (initial_in of_targets) of_targets.targets rows
@@ -64,7 +65,7 @@ pub record IsWidthTold (m : FileMap) (c : Width) (old new : Outside) : Type 0 wh
   pub put : new.held ≡ old.held
 
 -- a target was told whose width is above the bound; each target before it has a width within the bound; nothing was put
-pub record IsTooWide (m : FileMap) (c : Width) (old new : Outside) : Type 0 where
+pub record IsTooWide (m : FileMap) (c : Asked) (old new : Outside) : Type 0 where
   pub of_targets : IsTargeted m c
   pub earlier : List Lit
   pub target : Lit
@@ -78,10 +79,10 @@ pub record IsTooWide (m : FileMap) (c : Width) (old new : Outside) : Type 0 wher
   pub put : new.held ≡ old.held
 
 -- what a run of `width` says of its files, where the shelf tells what it holds
-pub record WidthIsTrue (m : FileMap) (c : Width) (old new : Outside) (s : Status) : Type 0 where
+pub record WidthIsTrue (m : FileMap) (c : Asked) (old new : Outside) (s : Status) : Type 0 where
   pub done : s ≡ status.Done → IsWidthTold m c old new
   pub negative : s ≡ status.Negative → IsTooWide m c old new
 
 -- so it is of each run
 abbrev pub WidthsAreTrue : Type 0
-WidthsAreTrue = OfRuns (λ words old new s. (m : FileMap) (c : Width) → old.held ≡ Some m → IsWidth words c → WidthIsTrue m c old new s)
+WidthsAreTrue = OfRuns (λ words old new s. (m : FileMap) (c : Asked) → old.held ≡ Some m → IsCall verbs.Width words c → WidthIsTrue m c old new s)

@@ -10,7 +10,7 @@ use Rattle.kp_base.specs.declared.ground.Initial.{Initial}
 use Rattle.kp_base.specs.declared.ground.TagRow.{TagRow}
 use Rattle.kp_base.specs.declared.ground.TagTable.{TagTable}
 use Rattle.kp_base.specs.Lit.{has}
-use Rattle.kp_base.specs.Planning.{State, Facts, holds, next, applicable, state_after, succeeds, is_model, IsTable, IsOfItsAtoms, IsClauseFor, Meets, lits_of, IsTarget, IsCovered, IsComplete, Known, closure_of, start, may_act, after_act}
+use Rattle.kp_base.specs.Planning.{State, Valuation, holds, next, applicable, state_after, succeeds, is_model, IsTable, IsOfItsAtoms, IsClauseFor, Meets, lits_of, IsTarget, IsCovered, IsComplete, Known, closure_of, start, may_act, after_act}
 use Rattle.kp_base.proofs.Lists.{member_at, member_map, all_member, all_from}
 use Rattle.kp_base.proofs.Places.{element}
 use Rattle.kp_law_tagged_machine.proofs.Monotone.{facts_more_all}
@@ -35,7 +35,7 @@ Knows_all_after g table before k = (t : ℕ) (l : Lit) → facts_run g (start ta
 
 -- with one more action
 after_one_more : (g : Ground) (table : TagTable) (before : List ℕ) (n : ℕ) (k : Known) → Knows_all_after g table before k → Knows_all_after g table (before ++ n ∷ []) (known_after g table k n)
-after_one_more g table before n k knows t l h = by (slice_get g.actions n) (subst (λ (f : Facts). f l ≡ true) (facts_run_push g (start table t) before n) h)
+after_one_more g table before n k knows t l h = by (slice_get g.actions n) (subst (λ (f : Valuation). f l ≡ true) (facts_run_push g (start table t) before n) h)
   where
     by : (o : Option Action) → facts_next o (facts_run g (start table t) before) l ≡ true → after_act o (after_merges table.merges k) t l ≡ true
     by None e = after_merges_more table.merges k t l (knows t l e)

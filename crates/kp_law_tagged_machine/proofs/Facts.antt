@@ -4,28 +4,28 @@ use Rattle.std.proofs.lemmas.Bool.{false≢true}
 use Rattle.kp_base.specs.declared.lit.Lit.{Lit}
 use Rattle.kp_base.specs.declared.ground.Action.{Action}
 use Rattle.kp_base.specs.declared.ground.Ground.{Ground}
-use Rattle.kp_base.specs.Planning.{negated, State, Facts, holds, fires, after, next, state_after, facts_after, IsRelevant}
+use Rattle.kp_base.specs.Planning.{negated, State, Valuation, holds, fires, after, next, state_after, facts_after, IsRelevant}
 use Rattle.kp_base.proofs.Lists.{member_at}
 use Rattle.kp_law_tagged_machine.proofs.Exact.{persists_exact as persists_where_none_fires_against}
 use Rattle.kp_law_tagged_machine.proofs.Monotone.{Within as IsWithinFor, facts_more}
 use Rattle.kp_law_tagged_machine.proofs.Relevance.{relevant_links}
 
 -- the facts after an action, if there is such an action
-abbrev pub facts_next : Option Action → Facts → Facts
+abbrev pub facts_next : Option Action → Valuation → Valuation
 facts_next None k = k
 facts_next (Some a) k = facts_after a k
 
 -- the facts after the actions
-abbrev pub facts_run : Ground → Facts → List ℕ → Facts
+abbrev pub facts_run : Ground → Valuation → List ℕ → Valuation
 facts_run g k [] = k
 facts_run g k (n ∷ ns) = facts_run g (facts_next (slice_get g.actions n) k) ns
 
-pub facts_run_push : (g : Ground) (k : Facts) (ns : List ℕ) (n : ℕ) → facts_run g k (ns ++ n ∷ []) ≡ facts_next (slice_get g.actions n) (facts_run g k ns)
+pub facts_run_push : (g : Ground) (k : Valuation) (ns : List ℕ) (n : ℕ) → facts_run g k (ns ++ n ∷ []) ≡ facts_next (slice_get g.actions n) (facts_run g k ns)
 facts_run_push g k [] n = refl
 facts_run_push g k (x ∷ ns) n = facts_run_push g (facts_next (slice_get g.actions x) k) ns n
 
 -- what is relevant to a literal before the actions decides it afterwards
-pub facts_run_more : (g : Ground) (ns : List ℕ) (k j : Facts) (m : Lit) → IsWithinFor (IsRelevant g.actions) k j m → facts_run g k ns m ≡ true → facts_run g j ns m ≡ true
+pub facts_run_more : (g : Ground) (ns : List ℕ) (k j : Valuation) (m : Lit) → IsWithinFor (IsRelevant g.actions) k j m → facts_run g k ns m ≡ true → facts_run g j ns m ≡ true
 facts_run_more g [] k j m within h = within m (IsRelevant.itself m) h
 facts_run_more g (n ∷ ns) k j m within h =
     facts_run_more g ns (facts_next (slice_get g.actions n) k) (facts_next (slice_get g.actions n) j) m (λ l r e. one (slice_get g.actions n) refl l r e) h

@@ -4,13 +4,13 @@ use Rattle.std.specs.List.{list_any}
 use Rattle.kp_base.specs.declared.lit.Lit.{Lit}
 use Rattle.kp_base.specs.declared.ground.Effect.{Effect}
 use Rattle.kp_base.specs.Lit.{negated, same_lit}
-use Rattle.kp_base.specs.Steps.{Facts, fires}
+use Rattle.kp_base.specs.Steps.{Valuation, fires}
 use Rattle.kp_base.specs.Machine.{persists}
 use Rattle.kp_base.proofs.Lists.{all-not}
 use Rattle.kp_base.proofs.Lits.{same_lit-negated}
 use Rattle.kp_law_tagged_machine.specs.Laws.{is_cancelled, OperatorsAreExact}
 
-persists_uncancelled : (es : List Effect) (k : Facts) (l : Lit) → not (is_cancelled es k l) ≡ persists es k l
+persists_uncancelled : (es : List Effect) (k : Valuation) (l : Lit) → not (is_cancelled es k l) ≡ persists es k l
 persists_uncancelled [] k l = refl
 persists_uncancelled (e ∷ es) k l =
     rw (same_lit-negated e.result l, all-not (λ c. k (negated c)) (λ c. not (k (negated c))) e.cond (λ c. refl), ← persists_uncancelled es k l)

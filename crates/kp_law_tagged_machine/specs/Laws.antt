@@ -7,7 +7,7 @@ use Rattle.kp_base.specs.declared.ground.Action.{Action}
 use Rattle.kp_base.specs.declared.ground.Ground.{Ground}
 use Rattle.kp_base.specs.declared.ground.Initial.{Initial}
 use Rattle.kp_base.specs.declared.ground.TagTable.{TagTable}
-use Rattle.kp_base.specs.Planning.{negated, same_lit, State, Facts, fires, is_model, runs, state_after, IsGroundPlan, IsClosure, IsTable, AreValid, NeverClashes, Pairs, HasNoClash, IsInductive, AreExclusive, IsClashFree, MachineStep, facts_after, accepts, stripped, one_tag_table}
+use Rattle.kp_base.specs.Planning.{negated, same_lit, State, Valuation, fires, is_model, runs, state_after, IsGroundPlan, IsClosure, IsTable, AreValid, NeverClashes, Pairs, HasNoClash, IsInductive, AreExclusive, IsClashFree, MachineStep, facts_after, accepts, stripped, one_tag_table}
 
 -- ---- soundness
 
@@ -36,16 +36,16 @@ ClashFreeNeverClashes = (g : Ground) (i : Initial) → IsClashFree g i → Never
 -- ---- operators
 
 -- some cancellation fires: it makes this literal no fact, and the negation of none of its conditions is one
-abbrev pub is_cancelled : List Effect → Facts → Facts
+abbrev pub is_cancelled : List Effect → Valuation → Valuation
 is_cancelled es k l = list_any (λ e. same_lit (negated e.result) l && list_all (λ c. not (k (negated c))) e.cond) es
 
 -- the facts after the supports and cancellations of an action's effects: what is cancelled goes, and then what is supported comes
-abbrev pub facts_after_operator : Action → Facts → Facts
+abbrev pub facts_after_operator : Action → Valuation → Valuation
 facts_after_operator a k l = fires a.effects k l || (k l && not (is_cancelled a.effects k l))
 
 -- supports and cancellations do what the machine does
 abbrev pub OperatorsAreExact : Type 0
-OperatorsAreExact = (a : Action) (k : Facts) (l : Lit) → facts_after_operator a k l ≡ facts_after a k l
+OperatorsAreExact = (a : Action) (k : Valuation) (l : Lit) → facts_after_operator a k l ≡ facts_after a k l
 
 -- ---- one tag
 

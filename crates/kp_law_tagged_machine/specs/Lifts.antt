@@ -49,7 +49,7 @@ lift_of g table ns = lift_from g table (start table) ns
 abbrev pub is_ready : Ground → TagTable → List ℕ → ℕ → Bool
 is_ready g table ns k = list_all (known_lifted g table (take k ns) 0) (asked g (slice_get ns k))
 
--- at this step, or at the goal, this is the least literal that isn't known, and it is so at no step before
+-- step k, or the goal, is the first that isn't ready, and l is the least literal asked there that isn't known
 pub record UnliftedAt (g : Ground) (table : TagTable) (ns : List ℕ) (k : ℕ) (l : Lit) : Type 0 where
   pub in_range : k ≤ length ns
   pub before : (j : ℕ) → j < k → is_ready g table ns j ≡ true

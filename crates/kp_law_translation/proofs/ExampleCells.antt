@@ -3,7 +3,7 @@ use Rattle.std.proofs.Common.{◌<◌, length, arith, ◌≡◌, zero, suc, true
 use Rattle.std.proofs.Math.Bool.{and-false}
 use Rattle.std.proofs.lemmas.Bool.{false≢true}
 use Rattle.kp_base.specs.declared.lit.Lit.{Lit}
-use Rattle.kp_base.specs.Planning.{positive, negative, same_lit, Facts, MachineStep, Known, start, facts_after, after_act, accepts_from, one_tag_table, IsTable, AreValid, NeverClashes}
+use Rattle.kp_base.specs.Planning.{positive, negative, same_lit, Valuation, MachineStep, Known, start, facts_after, after_act, accepts_from, one_tag_table, IsTable, AreValid, NeverClashes}
 use Rattle.kp_lex.specs.Bytes.{class_of}
 use Rattle.kp_lex.specs.Scanning.{cut_from}
 use Rattle.kp_tree_grammar.specs.Symbols.{symbol_of}
@@ -69,7 +69,7 @@ plain = refl
 
 -- ---- without tags nothing is ever known of a cell, so no list is accepted
 
-still_unknown : (k : Facts) → ((l : Lit) → k l ≡ false) → (l : Lit) → facts_after machine.cells_left k l ≡ false
+still_unknown : (k : Valuation) → ((l : Lit) → k l ≡ false) → (l : Lit) → facts_after machine.cells_left k l ≡ false
 still_unknown k h l = rw (h (positive 2), h (positive 1), h l, and-false (same_lit (positive 1) l), and-false (same_lit (negative 2) l), and-false (same_lit (positive 0) l), and-false (same_lit (negative 1) l)) refl
 
 pub unmet : (ms : List MachineStep) (k : Known) → ((l : Lit) → k 0 l ≡ false) → accepts_from machine.cells_ground (one_tag_table []) k ms ≡ true → ⊥

@@ -4,7 +4,7 @@ use Rattle.std.proofs.lemmas.Bool.{and_parts, ltb-true}
 use Rattle.std.proofs.lemmas.Option.{IfSome_then}
 use Rattle.std.specs.List.{list_all}
 use Rattle.kp_base.specs.declared.lit.Lit.{Lit}
-use Rattle.kp_base.specs.Planning.{Member, code_of, IsAscending, are_below, Facts, IsLeastMissing, Known}
+use Rattle.kp_base.specs.Planning.{Member, code_of, IsAscending, are_below, Valuation, IsLeastMissing, Known}
 use Rattle.kp_base.proofs.Ascending.{tail_ascends}
 use Rattle.kp_base.proofs.Least.{least_later}
 use Rattle.kp_base.proofs.Lists.{all_alike, all_member}
@@ -19,7 +19,7 @@ above x (y ∷ ls) up m (inl e) = subst (λ z. code_of x < code_of z) e up.0
 above x (y ∷ ls) up m (inr there) = let a = above y ls up.1 m there in let b = up.0 in omega arith
 
 -- the first literal that is no fact is the least
-pub least_found : (k : Facts) (d : Lit) (ls : List Lit) (i : ℕ) → IsAscending ls → i < length ls → list_all k (take i ls) ≡ true → k (get_or ls i d) ≡ false → IsLeastMissing k ls (get_or ls i d)
+pub least_found : (k : Valuation) (d : Lit) (ls : List Lit) (i : ℕ) → IsAscending ls → i < length ls → list_all k (take i ls) ≡ true → k (get_or ls i d) ≡ false → IsLeastMissing k ls (get_or ls i d)
 least_found k d [] i up lt before off = absurd (omega (arith, lt))
 least_found k d (x ∷ ls) zero up lt before off = record { among = inl refl; missing = off; least = least }
   where

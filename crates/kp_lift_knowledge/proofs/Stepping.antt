@@ -5,14 +5,14 @@ use Rattle.std.specs.List.{list_all}
 use Rattle.kp_base.specs.declared.lit.Lit.{Lit}
 use Rattle.kp_base.specs.declared.ground.Action.{Action}
 use Rattle.kp_base.specs.declared.ground.Effect.{Effect}
-use Rattle.kp_base.specs.Planning.{Member, same_lit, negated, are_below, effect_below, action_below, Facts, fires, Known, persists, facts_after}
+use Rattle.kp_base.specs.Planning.{Member, same_lit, negated, are_below, effect_below, action_below, Valuation, fires, Known, persists, facts_after}
 use Rattle.kp_base.proofs.Lists.{any_alike, all_alike, all_member}
 use Rattle.kp_lift_knowledge.specs.Known.{Table, known, IsLike, Says}
 use Rattle.kp_lift_knowledge.specs.Tabled.{Turns, touches, IsAtRest}
 
 -- ---- what no effect touches
 
-untouched_stays : (es : List Effect) (k : Facts) (l : Lit) → touches es l ≡ false → (fires es k l ≡ false) × (persists es k l ≡ true)
+untouched_stays : (es : List Effect) (k : Valuation) (l : Lit) → touches es l ≡ false → (fires es k l ≡ false) × (persists es k l ≡ true)
 untouched_stays [] k l h = (refl, refl)
 untouched_stays (e ∷ es) k l h =
     let parts = or_parts (nat_eq e.result.atom.0 l.atom.0) (touches es l) h in
@@ -24,19 +24,19 @@ untouched_stays (e ∷ es) k l h =
 -- ---- facts that agree on the literals of the atoms
 
 -- two tests on literals agree on those of the first n atoms
-abbrev pub Agree : ℕ → Facts → Facts → Type 0
+abbrev pub Agree : ℕ → Valuation → Valuation → Type 0
 Agree n k m = (l : Lit) → l.atom.0 < n → k l ≡ m l
 
 pub below_at : (n : ℕ) (ls : List Lit) → are_below n ls ≡ true → (l : Lit) → Member ls l → l.atom.0 < n
 below_at n ls h l m = ltb-true l.atom.0 n (all_member (λ x. nat_lt x.atom.0 n) ls l m h)
 
-fires_alike : (n : ℕ) (k m : Facts) → Agree n k m → (es : List Effect) → list_all (effect_below n) es ≡ true → (l : Lit) → fires es k l ≡ fires es m l
+fires_alike : (n : ℕ) (k m : Valuation) → Agree n k m → (es : List Effect) → list_all (effect_below n) es ≡ true → (l : Lit) → fires es k l ≡ fires es m l
 fires_alike n k m same es h l =
     any_alike _ _ es (λ e in_es.
     let below = and_parts _ (are_below n e.cond) (all_member (effect_below n) es e in_es h) in
     ap (λ b. same_lit e.result l && b) (all_alike k m e.cond (λ c in_cond. same c (below_at n e.cond below.1 c in_cond))))
 
-persists_alike : (n : ℕ) (k m : Facts) → Agree n k m → (es : List Effect) → list_all (effect_below n) es ≡ true → (l : Lit) → persists es k l ≡ persists es m l
+persists_alike : (n : ℕ) (k m : Valuation) → Agree n k m → (es : List Effect) → list_all (effect_below n) es ≡ true → (l : Lit) → persists es k l ≡ persists es m l
 persists_alike n k m same es h l =
     all_alike _ _ es (λ e in_es.
     let below = and_parts _ (are_below n e.cond) (all_member (effect_below n) es e in_es h) in

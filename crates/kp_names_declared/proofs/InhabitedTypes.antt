@@ -8,7 +8,7 @@ use Rattle.kp_tree_grammar.specs.Trees.{Typed, Domain, Problem}
 use Rattle.kp_base.specs.Lists.{Member}
 use Rattle.kp_base.proofs.Lists.{member_flat_map, same-refl}
 use Rattle.kp_names_semantics.specs.Names.{Name, same, is_among}
-use Rattle.kp_names_semantics.specs.Types.{object, names, or_object, types_of, object_lines, IsBelow, itself, root, parent, over}
+use Rattle.kp_names_semantics.specs.Types.{object, names, or_object, types_of, object_lines, IsBelow, itself, root, parent, onward}
 use Rattle.kp_names_semantics.proofs.Public.{member_is_among}
 use Rattle.kp_names_declared.specs.Steps.{with_name, under, with_line_over, lines_over, IsClosing, HoldTypes}
 use Rattle.kp_names_declared.proofs.Gathering.{among_all}
@@ -89,4 +89,4 @@ closed_above d p ns c = record { own = own; above = above }
       | inl e ↦ there u e
       | inr r ↦ c.front l.word.text u (ap (λ z. is_among z l.word.text) (take_all (length ns) ns (omega arith)) ∙ h) (lines_there [] d.kinds l u m r)
     ]
-    above t u (over f g) h = above _ u g (above t _ f h)
+    above t u (onward f g) h = above _ u g (above t _ f h)

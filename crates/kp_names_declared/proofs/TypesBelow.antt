@@ -10,7 +10,7 @@ use Rattle.kp_tree_grammar.specs.Trees.{Typed}
 use Rattle.kp_base.specs.Lists.{Member}
 use Rattle.kp_base.proofs.Lists.{same_member, any_member, any_from, any_map, bool_same, same-true, member_at}
 use Rattle.kp_names_semantics.specs.Names.{Name, same, is_among, distinct}
-use Rattle.kp_names_semantics.specs.Types.{object, names, or_object, types_of, IsBelow, itself, root, parent, over, is_below}
+use Rattle.kp_names_semantics.specs.Types.{object, names, or_object, types_of, IsBelow, itself, root, parent, onward, is_below}
 use Rattle.kp_names_semantics.proofs.Public.{member_is_among, type_test_is_exact}
 use Rattle.kp_names_declared.specs.Steps.{with_name, any_among, has_type, under, lines_under, IsClosing, AreBelow}
 use Rattle.kp_names_declared.proofs.Gathering.{gathers, among_gathered}
@@ -123,7 +123,7 @@ closed_below kinds tops ns c = record { each = λ k. bool_same (reaches ns k) (l
         let t = any_member (is_below kinds k) tops h in
         let l = put_by k x kinds u in
         let up : IsBelow kinds x k = subst (λ z. IsBelow kinds z k) l.3 (parent l.0 k l.1 (written l.0.kinds k l.2)) in
-        any_from (is_below kinds x) tops t.0 t.1 ((type_test_is_exact kinds x t.0).1 (over up ((type_test_is_exact kinds k t.0).0 t.2)))
+        any_from (is_below kinds x) tops t.0 t.1 ((type_test_is_exact kinds x t.0).1 (onward up ((type_test_is_exact kinds k t.0).0 t.2)))
 
     sound : (x : Name) → is_among ns x ≡ true → list_any (is_below kinds x) tops ≡ true
     sound = c.sound below at_top under_it
@@ -133,7 +133,7 @@ closed_below kinds tops ns c = record { each = λ k. bool_same (reaches ns k) (l
       | inl e ↦ sound k e
       | inr e ↦
           let t = any_member (is_below kinds object) tops (sound object e) in
-          any_from (is_below kinds k) tops t.0 t.1 ((type_test_is_exact kinds k t.0).1 (over root ((type_test_is_exact kinds object t.0).0 t.2)))
+          any_from (is_below kinds k) tops t.0 t.1 ((type_test_is_exact kinds k t.0).1 (onward root ((type_test_is_exact kinds object t.0).0 t.2)))
     ]
 
     reached : (k u : Name) → IsBelow kinds k u → reaches ns u ≡ true → reaches ns k ≡ true
@@ -149,7 +149,7 @@ closed_below kinds tops ns c = record { each = λ k. bool_same (reaches ns k) (l
         by_kinds (w ∷ ws) is n e =
             or_left (is_among ns l.word.text) (is_among ns object)
             (c.front p l.word.text (ap (λ z. is_among z p) (take_all (length ns) ns (omega arith)) ∙ e) (puts_it kinds l p m (subst (λ z. Member (names z) p) (sym is) n)))
-    reached k u (over a b) h = reached k _ a (reached _ u b h)
+    reached k u (onward a b) h = reached k _ a (reached _ u b h)
 
     back : (k : Name) → list_any (is_below kinds k) tops ≡ true → reaches ns k ≡ true
     back k h =

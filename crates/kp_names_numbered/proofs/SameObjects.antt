@@ -10,7 +10,7 @@ use Rattle.kp_tree_grammar.specs.Trees.{Typed, Domain, Problem}
 use Rattle.kp_base.specs.Lists.{Member}
 use Rattle.kp_base.proofs.Lists.{bool_same, any_member, any_from, same_member, same-true, member_flat_map}
 use Rattle.kp_names_semantics.specs.Names.{Name, same, is_among}
-use Rattle.kp_names_semantics.specs.Types.{object, names, or_object, types_of, IsBelow, itself, root, parent, over, is_below, object_lines, is_of_type}
+use Rattle.kp_names_semantics.specs.Types.{object, names, or_object, types_of, IsBelow, itself, root, parent, onward, is_below, object_lines, is_of_type}
 use Rattle.kp_names_semantics.proofs.Public.{type_test_is_exact, member_is_among}
 use Rattle.kp_names_declared.specs.Steps.{with_name, own_types, lines_under, under}
 use Rattle.kp_names_declared.proofs.Public.{among_all, gathered_member, member_gathered, put_by, puts_it}
@@ -40,10 +40,10 @@ module _ (d : Domain Word) (p : Problem Word) (t : Name) (other : t ≡ object �
   below_either : (a u : Name) → IsBelow d.kinds a u → (u ≡ t) ⊎ IsBelowOne u → (a ≡ t) ⊎ IsBelowOne a
   below_either a u itself h = h
   below_either a u root (inl e) = absurd (other (sym e))
-  below_either a u root (inr b) = inr (b.0, b.1, over root b.2)
+  below_either a u root (inr b) = inr (b.0, b.1, onward root b.2)
   below_either a u (parent x q m k) (inl e) = inr (x.word.text, puts_it d.kinds x t m (written x.kinds t other (subst (Member (types_of x)) e k)), itself)
-  below_either a u (parent x q m k) (inr b) = inr (b.0, b.1, over (parent x q m k) b.2)
-  below_either a v (over {u = u} f g) h = below_either a u f (below_either u v g h)
+  below_either a u (parent x q m k) (inr b) = inr (b.0, b.1, onward (parent x q m k) b.2)
+  below_either a v (onward {u = u} f g) h = below_either a u f (below_either u v g h)
 
   -- one of those under it is below it
   under_it : (c : Name) → is_among (under (lines_under d.kinds) t) c ≡ true → IsBelow d.kinds c t
@@ -79,7 +79,7 @@ module _ (d : Domain Word) (p : Problem Word) (t : Name) (other : t ≡ object �
           let x = any_member (is_it c.0) (object_lines d p) c.2 in
           let parts = and_parts (same x.0.word.text o) (list_any (λ k. is_below d.kinds k c.0) (types_of x.0)) x.2 in
           let k = any_member (λ k. is_below d.kinds k c.0) (types_of x.0) parts.1 in
-          it_is t x.0 k.0 x.1 parts.0 k.1 (over ((type_test_is_exact d.kinds k.0 c.0).0 k.2) (under_it c.0 (member_is_among (under (lines_under d.kinds) t) c.0 c.1)))
+          it_is t x.0 k.0 x.1 parts.0 k.1 (onward ((type_test_is_exact d.kinds k.0 c.0).0 k.2) (under_it c.0 (member_is_among (under (lines_under d.kinds) t) c.0 c.1)))
 
 -- ---- those that are gathered
 

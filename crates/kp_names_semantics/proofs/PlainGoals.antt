@@ -5,14 +5,14 @@ use Rattle.std.proofs.lemmas.Bool.{and_parts, and_from}
 use Rattle.kp_tree_grammar.specs.declared.symbol.Symbol.{Symbol}
 use Rattle.kp_tree_grammar.specs.declared.symbol.Symbol.TheVariants as symbols
 use Rattle.kp_tree_grammar.specs.declared.tree.Word.{Word}
-use Rattle.kp_tree_grammar.specs.Language.{Cond, conds_of, Given, goal_of, Problem, Tok, is_head, is_goal, is_of_domain, is_init, Sort, s_none, s_cond, s_pair, s_seen, s_given, Seen, El, Maker, apply, m_holds, Form, n_goal, none, nothing, ◌▹◌, ◌▸◌, many, run, make, choose, loose, bracket, within, not_goal, fact_body, goal_lit_case, goal_case, rule, has_stood, once, given_case, ReadBy, r_token, r_none, r_both, r_after, r_end, r_more, r_last, r_next, r_absent, r_present, r_make, r_choice, r_loose, r_bracket, r_within}
+use Rattle.kp_tree_grammar.specs.Language.{Cond, conds_of, Given, goal_of, Problem, Tok, is_head, is_goal, is_of_domain, is_init, Sort, s_none, s_cond, s_pair, s_seen, s_given, Seen, El, Maker, apply, m_holds, Form, n_goal, none, refuse, ◌▹◌, ◌▸◌, many, run, make, choose, loose, bracket, within, not_goal, fact_body, goal_lit_case, goal_case, rule, has_stood, once, given_case, ReadBy, r_token, r_none, r_both, r_after, r_end, r_more, r_last, r_next, r_absent, r_present, r_make, r_choice, r_loose, r_bracket, r_within}
 use Rattle.kp_tree_grammar.specs.Grammar as grammar
 use Rattle.kp_names_semantics.specs.NumberLaws.{is_plain_goal, are_plain_goals, GoalsArePlain}
 
 -- each value that the form reads passes the test, if goals within it are plain
 data Gives : (b : Bool) (c : Sort) → Form b c → (El Word c → Bool) → Type 0 where
   g_none : {c : Sort} {m : Maker s_none c} {p : El Word c → Bool} → p (apply Word m tt) ≡ true → Gives _ _ (none m) p
-  g_nothing : {b : Bool} {c : Sort} {t : Symbol → Bool} {p : El Word c → Bool} → Gives b c (nothing t) p
+  g_nothing : {b : Bool} {c : Sort} {t : Symbol → Bool} {p : El Word c → Bool} → Gives b c (refuse t) p
   g_second : {b d : Bool} {a c : Sort} {X : Form b a} {Y : Form d c} (p : El Word c → Bool) → Gives _ _ Y p → Gives _ _ (X ▹ Y) (λ z. p z.1)
   g_after : {b : Bool} {a : Sort} {t : Symbol → Bool} {X : Form b a} {p : El Word a → Bool} → Gives _ _ X p → Gives _ _ (t ▸ X) p
   g_many : {a : Sort} {t : Symbol → Bool} {X : Form true a} (p : El Word a → Bool) → Gives _ _ X p → Gives _ _ (many t X) (list_all p)
@@ -35,7 +35,7 @@ plain_all (x ∷ xs) h =
 lit_gives : (b : Bool) (s : Symbol) → Gives true s_cond (goal_lit_case b s) is_plain_goal
 lit_gives b s = pick (is_head s)
   where
-    pick : (t : Bool) → Gives true s_cond (if t then make (m_holds b) fact_body else nothing not_goal) is_plain_goal
+    pick : (t : Bool) → Gives true s_cond (if t then make (m_holds b) fact_body else refuse not_goal) is_plain_goal
     pick true = g_made (λ x. refl)
     pick false = g_nothing
 

@@ -6,7 +6,7 @@ use Rattle.kp_tree_grammar.specs.declared.tree.Word.{Word}
 use Rattle.kp_tree_grammar.specs.Trees.{Typed}
 use Rattle.kp_base.specs.Lists.{Member}
 use Rattle.kp_names_semantics.specs.Names.{Name, same}
-use Rattle.kp_names_semantics.specs.Types.{object, types_of, IsBelow, itself, root, parent, over, leads, below_within, IsTypeTestExact}
+use Rattle.kp_names_semantics.specs.Types.{object, types_of, IsBelow, itself, root, parent, onward, leads, below_within, IsTypeTestExact}
 use Rattle.kp_names_semantics.proofs.Lists.{any_member, any_from, any_weaker, same-true, same-refl}
 
 -- ---- the relation as a chain of lines
@@ -36,7 +36,7 @@ chain : (kinds : List (Typed Word)) (t u : Name) → IsBelow kinds t u → Chain
 chain kinds t u itself = here
 chain kinds t u root = top
 chain kinds t u (parent x p m parent') = line x p m parent' (own x) here
-chain kinds t v (over {u = u} a b) = joined kinds (chain kinds t u a) (chain kinds u v b)
+chain kinds t v (onward {u = u} a b) = joined kinds (chain kinds t u a) (chain kinds u v b)
 
 -- ---- a test that holds
 
@@ -49,7 +49,7 @@ at_once kinds t u h = elim (or_cases (same t u) (same u object) h) [
 by_line : (kinds : List (Typed Word)) (x : Typed Word) (p t : Name) → Member kinds x → Member (types_of x) p → leads x t ≡ true → IsBelow kinds t p
 by_line kinds x p t m parent' l = elim (or_cases (same x.word.text t) (same x.word.text object) l) [
   | inl h ↦ subst (λ z. IsBelow kinds z p) (same-true x.word.text t h) (parent x p m parent')
-  | inr h ↦ over root (subst (λ z. IsBelow kinds z p) (same-true x.word.text object h) (parent x p m parent'))
+  | inr h ↦ onward root (subst (λ z. IsBelow kinds z p) (same-true x.word.text object h) (parent x p m parent'))
 ]
 
 goes_on : ℕ → List (Typed Word) → Name → Name → Typed Word → Bool
@@ -65,7 +65,7 @@ sound (suc n) kinds t u h =
           let r = any_member (goes_on n kinds t u) kinds e in
           let parts = and_parts (leads r.0 t) (list_any (λ p. below_within n kinds p u) (types_of r.0)) r.2 in
           let q = any_member (λ p. below_within n kinds p u) (types_of r.0) parts.1 in
-          over (by_line kinds r.0 q.0 t r.1 q.1 parts.0) (sound n kinds q.0 u q.2)
+          onward (by_line kinds r.0 q.0 t r.1 q.1 parts.0) (sound n kinds q.0 u q.2)
     ]
 
 -- ---- a line is needed once

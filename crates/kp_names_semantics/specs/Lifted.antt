@@ -1,4 +1,4 @@
--- States, steps, initial states and plans of a problem by number.
+-- Literals, bindings and items of a problem by number; and, for laws alone, its steps, initial states and plans.
 use Rattle.std.specs.Prelude.{◌≡◌, ◌==◌, ℕ, Bool, true, false, not, ◌&&◌, ◌||◌, List, [], ◌∷◌, ◌++◌, Option, Some, None, map, slice_get, slice_index}
 use Rattle.std.specs.Bool.{beq}
 use Rattle.std.specs.List.{list_any, list_all, flat_map}
@@ -41,11 +41,39 @@ same_literal l m = beq l.positive m.positive && (l.pred == m.pred && same l.obje
 abbrev pub names_literal : List GroundLit → GroundLit → Bool
 names_literal ls l = list_any (same_literal l) ls
 
--- ---- holding
-
 -- the atom is in the state, or, of a negation, it isn't
 abbrev pub literal_holds : State → GroundLit → Bool
 literal_holds s l = signed l.positive (s l.pred l.objects)
+
+-- ---- bindings and instances
+
+-- the lists with an object in the range of each variable, the first variable slowest
+abbrev pub bindings : List Range → List Binding
+bindings rs = choices (map (λ r. r.objects) rs)
+
+-- a step by number: a schema and the objects for its parameters
+pub record Instance : Type 0 where
+  pub schema : ℕ
+  pub objects : List ℕ
+
+-- ---- items
+
+-- the literals that stand in an item
+abbrev pub item_literals : Item → List GroundLit
+item_literals (Item.One l) = l ∷ []
+item_literals (Item.OneOf ls) = ls
+item_literals (Item.AnyOf ls) = ls
+item_literals (Item.Unknown l) = l ∷ []
+
+-- the literal is of this atom
+abbrev pub is_of : ℕ → List ℕ → GroundLit → Bool
+is_of q os l = l.pred == q && same l.objects os
+
+-- some item names the atom
+abbrev pub is_named : Lifted → ℕ → List ℕ → Bool
+is_named l q os = list_any (λ i. list_any (is_of q os) (item_literals i)) l.init
+
+-- ---- for laws alone: what steps, initial states and plans by number are
 
 -- whether a condition holds in a state under a binding: all parts, an atom, or both sides one object
 abbrev mutual
@@ -57,12 +85,6 @@ abbrev mutual
   pub all_hold : State → Binding → Conds → Bool
   all_hold s b Conds.no_cond = true
   all_hold s b (Conds.more_conds c cs) = holds s b c && all_hold s b cs
-
--- ---- effects
-
--- the lists with an object in the range of each variable, the first variable slowest
-abbrev pub bindings : List Range → List Binding
-bindings rs = choices (map (λ r. r.objects) rs)
 
 -- the literals that an effect names in a state: those of all its parts, of what stands under a condition that holds, of the body for each list of objects; inner variables are numbered after the outer ones
 abbrev mutual
@@ -79,13 +101,6 @@ abbrev mutual
 -- the deleted atoms go, and then the added ones come; one that is both is there at the end
 abbrev pub after : List GroundLit → State → State
 after fired s q os = names_literal fired (ground true q os) || (s q os && not (names_literal fired (ground false q os)))
-
--- ---- steps
-
--- a step by number: a schema and the objects for its parameters
-pub record Instance : Type 0 where
-  pub schema : ℕ
-  pub objects : List ℕ
 
 -- the schema of a step
 abbrev pub schema_of : Lifted → Instance → Option Schema
@@ -123,8 +138,6 @@ abbrev pub succeeds : Lifted → List Instance → State → Bool
 succeeds l [] s = list_all (literal_holds s) l.goal
 succeeds l (i ∷ is) s = applicable l i s && succeeds l is (next l i s)
 
--- ---- initial states
-
 -- exactly one of the different literals holds: one does, and each that does is that one
 abbrev pub one_holds : State → List GroundLit → Bool
 one_holds s ls = list_any (λ l. literal_holds s l && list_all (λ m. not (literal_holds s m) || same_literal l m) ls) ls
@@ -136,27 +149,10 @@ item_holds s (Item.OneOf ls) = one_holds s ls
 item_holds s (Item.AnyOf ls) = list_any (literal_holds s) ls
 item_holds s (Item.Unknown l) = true
 
--- the literals that stand in an item
-abbrev pub item_literals : Item → List GroundLit
-item_literals (Item.One l) = l ∷ []
-item_literals (Item.OneOf ls) = ls
-item_literals (Item.AnyOf ls) = ls
-item_literals (Item.Unknown l) = l ∷ []
-
--- the literal is of this atom
-abbrev pub is_of : ℕ → List ℕ → GroundLit → Bool
-is_of q os l = l.pred == q && same l.objects os
-
--- some item names the atom
-abbrev pub is_named : Lifted → ℕ → List ℕ → Bool
-is_named l q os = list_any (λ i. list_any (is_of q os) (item_literals i)) l.init
-
 -- all that `:init` states is true, and nothing holds that it doesn't mention
 pub record IsInitial (l : Lifted) (s : State) : Type 0 where
   pub items : list_all (item_holds s) l.init ≡ true
   pub absent : (q : ℕ) (os : List ℕ) → is_named l q os ≡ false → s q os ≡ false
-
--- ---- plans
 
 -- each step is an instance, and whichever state is initial, the steps succeed from it
 pub record IsPlan (l : Lifted) (is : List Instance) : Type 0 where

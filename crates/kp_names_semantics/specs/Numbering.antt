@@ -1,4 +1,4 @@
--- The problem by number of two trees, and names put back.
+-- The problem by number of two trees; and, for laws alone, names put back.
 use Rattle.std.specs.Prelude.{◌≡◌, ◌<◌, nat_lt, ℕ, zero, suc, Bool, true, if◌then◌else◌, List, [], ◌∷◌, ◌++◌, map, length}
 use Rattle.std.specs.List.{flat_map, list_all}
 use Rattle.kp_tree_grammar.specs.declared.tree.Word.{Word}
@@ -146,7 +146,7 @@ numbered_problem d p = record {
   goal = numbered_goal d p p.goal;
 }
 
--- ---- names put back
+-- ---- names put back; for laws alone
 
 -- objects
 abbrev pub named_objects : Domain Word → Problem Word → List ℕ → List Name

@@ -1,4 +1,4 @@
--- What a plan of the written files comes to in the given ones.
+-- What a plan of the written files comes to in the given ones. The actions of the written files are called operators: there is one for each action of the given files, and one for each merge.
 use Rattle.std.specs.Prelude.{◌≡◌, ℕ, Bool, false, ◌&&◌, not, ◌==◌, nat_eq, nat_le, List, [], ◌∷◌, ◌++◌, if◌then◌else◌, Option, Some, None, option_map, option_and_then, unwrap_or, codes, drop, length}
 use Rattle.std.specs.List.{list_all, starts_with}
 use Rattle.kp_tree_grammar.specs.declared.tree.Word.{Word}

@@ -38,7 +38,7 @@ pub data IsBelow (kinds : List (Typed Word)) : Name → Name → Type 0 where
   itself : {t : Name} → IsBelow kinds t t
   root : {t : Name} → IsBelow kinds t object
   parent : (x : Typed Word) (p : Name) → Member kinds x → Member (types_of x) p → IsBelow kinds x.word.text p
-  over : {t u v : Name} → IsBelow kinds t u → IsBelow kinds u v → IsBelow kinds t v
+  onward : {t u v : Name} → IsBelow kinds t u → IsBelow kinds u v → IsBelow kinds t v
 
 -- from a type one goes on by its own line of `:types`, or by a line of `object`, since every type is below that
 abbrev pub leads : Typed Word → Name → Bool

@@ -23,7 +23,7 @@ use Rattle.kp_tree_cursor.specs.Lexemes.{from, lexed, byte_at}
 use Rattle.kp_tree_cursor.proofs.Public.{lexed_as_seen}
 use Rattle.kp_plans.specs.declared.step.PlanStep.{PlanStep}
 use Rattle.kp_plans.specs.Grammar.{plan}
-use Rattle.kp_plans.specs.PlanFiles.{step_of, IsPlanOf, RefusesPlan, bad_token, stops, AnswersPlan, PlansReadOnce, PlansRefuseOnce, PlansNeverBoth, PlansAlwaysOne}
+use Rattle.kp_plans.specs.PlanFiles.{step_of, IsPlanFile, RefusesPlan, bad_token, stops, AnswersPlan, PlansReadOnce, PlansRefuseOnce, PlansNeverBoth, PlansAlwaysOne}
 use Rattle.kp_plans.specs.Steps.{Ascends, ArePlanOf, AnswersTokens, AnswersCut, IsTold}
 use Rattle.kp_plans.proofs.StepsRead.{weaker}
 
@@ -63,7 +63,7 @@ refused text ts (halts.Unsupported i) e cut h told = absurd h
 
 -- ---- laws
 
-same_tree : (text : List ℕ) (steps others : List PlanStep) (h : IsPlanOf text steps) (k : IsPlanOf text others) → h.tree ≡ k.tree
+same_tree : (text : List ℕ) (steps others : List PlanStep) (h : IsPlanFile text steps) (k : IsPlanFile text others) → h.tree ≡ k.tree
 same_tree text steps others h k =
     let same : k.reads.tokens ≡ h.reads.tokens = one_cutting _ _ k.reads.cut h.reads.cut in
     whole_reads_once _ _ plan (all_seen_in text h.reads.tokens) h.tree k.tree h.reads.reads (subst (λ (ts : List Token). ReadsWhole plan (all_seen_in text ts) k.tree) same k.reads.reads)
@@ -85,7 +85,7 @@ never_two text steps r h (stops ts at k p) =
     whole_never_both _ _ plan (all_seen_in text ts) h.tree at (subst (λ (us : List Token). ReadsWhole plan (all_seen_in text us) h.tree) (one_cutting _ _ h.reads.cut k) h.reads.reads) p
 
 abbrev HasAnswer : List ℕ → Type 0
-HasAnswer text = ((steps : List PlanStep) × IsPlanOf text steps) ⊎ ((r : Refused) × RefusesPlan text r)
+HasAnswer text = ((steps : List PlanStep) × IsPlanFile text steps) ⊎ ((r : Refused) × RefusesPlan text r)
 
 by_tokens : (text : List ℕ) (ts : List Token) → Cut 0 text ts → ((x : List (Word × List Word)) × ReadsWhole plan (all_seen_in text ts) x) ⊎ ((at : At Word) × StopsWhole plan (all_seen_in text ts) at) → HasAnswer text
 by_tokens text ts cut (inl h) = inl (map (step_of text) h.0, record { tree = h.0; are = refl; reads = record { tokens = ts; cut = cut; reads = h.1 } })

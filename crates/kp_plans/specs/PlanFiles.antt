@@ -26,7 +26,7 @@ abbrev pub step_of : List ℕ → Word × List Word → PlanStep
 step_of text x = record { name = step_name x; place = place_of parts.Plan text x.0.byte }
 
 -- the text is cut and reads as a plan, and these are its steps
-pub record IsPlanOf (text : List ℕ) (steps : List PlanStep) : Type 0 where
+pub record IsPlanFile (text : List ℕ) (steps : List PlanStep) : Type 0 where
   pub tree : List (Word × List Word)
   pub are : map (step_of text) tree ≡ steps
   pub reads : ReadsAs plan text tree
@@ -38,7 +38,7 @@ pub data RefusesPlan (text : List ℕ) : Refused → Type 0 where
 
 -- of a text: its steps, or its refusal; want of memory is free
 abbrev pub AnswersPlan : List ℕ → Result (List PlanStep) Stop → Type 0
-AnswersPlan text (Ok steps) = IsPlanOf text steps
+AnswersPlan text (Ok steps) = IsPlanFile text steps
 AnswersPlan text (Err causes.Memory) = Unit {0}
 AnswersPlan text (Err (causes.Refused r)) = RefusesPlan text r
 
@@ -46,7 +46,7 @@ AnswersPlan text (Err (causes.Refused r)) = RefusesPlan text r
 
 -- a text has one list of steps at most
 abbrev pub PlansReadOnce : Type 0
-PlansReadOnce = (text : List ℕ) (steps others : List PlanStep) → IsPlanOf text steps → IsPlanOf text others → steps ≡ others
+PlansReadOnce = (text : List ℕ) (steps others : List PlanStep) → IsPlanFile text steps → IsPlanFile text others → steps ≡ others
 
 -- a text has one refusal at most
 abbrev pub PlansRefuseOnce : Type 0
@@ -54,8 +54,8 @@ PlansRefuseOnce = (text : List ℕ) (r s : Refused) → RefusesPlan text r → R
 
 -- a text that has steps has no refusal
 abbrev pub PlansNeverBoth : Type 0
-PlansNeverBoth = (text : List ℕ) (steps : List PlanStep) (r : Refused) → IsPlanOf text steps → RefusesPlan text r → ⊥
+PlansNeverBoth = (text : List ℕ) (steps : List PlanStep) (r : Refused) → IsPlanFile text steps → RefusesPlan text r → ⊥
 
 -- a text has steps or a refusal
 abbrev pub PlansAlwaysOne : Type 0
-PlansAlwaysOne = (text : List ℕ) → ((steps : List PlanStep) × IsPlanOf text steps) ⊎ ((r : Refused) × RefusesPlan text r)
+PlansAlwaysOne = (text : List ℕ) → ((steps : List PlanStep) × IsPlanFile text steps) ⊎ ((r : Refused) × RefusesPlan text r)

@@ -6,7 +6,7 @@ use Rattle.kp_names_semantics.specs.GroundNames.{IsGroundName}
 use Rattle.kp_law_texts.specs.Pieces.{Piece, Put, ◌⨾◌, each, line_feed, spelling}
 use Rattle.kp_plans_spelling.specs.Spelling.{name_put}
 use Rattle.kp_plans.specs.declared.step.PlanStep.{PlanStep}
-use Rattle.kp_plans.specs.PlanFiles.{step_names, IsPlanOf}
+use Rattle.kp_plans.specs.PlanFiles.{step_names, IsPlanFile}
 
 -- (HEAD OBJECT OBJECT) on a line of its own
 abbrev pub step_line : GroundName → Put
@@ -24,7 +24,7 @@ plan_text steps = spelling (plan_pieces steps)
 pub record IsTextOf (text : List ℕ) (named : List GroundName) : Type 0 where
   pub steps : List PlanStep
   pub have : step_names steps ≡ named
-  pub plan : IsPlanOf text steps
+  pub plan : IsPlanFile text steps
 
 -- ---- a law
 

@@ -10,11 +10,21 @@ use Rattle.kp_check.specs.declared.answer.Judged.{Judged}
 use Rattle.kp_check.specs.declared.answer.Judged.TheVariants.{Yes, No}
 use Rattle.kp_run_outcome.specs.declared.outcome.Outcome.{Outcome}
 use Rattle.kp_run_outcome.specs.Ends.{IsAnswer}
-use Rattle.kp_words.specs.Names.{Source, of_mode, Translate, Bench}
+use Rattle.kp_words.specs.declared.verb.Verb.{Verb}
+use Rattle.kp_words.specs.declared.verb.Verb.TheVariants as verbs
+use Rattle.kp_words.specs.Asked.{Source, of_mode, Asked, source_of}
 use Rattle.kp_run_prepare.specs.Prepared.{by_texts, by_trees, Comes, early, later}
 use Rattle.kp_run_inputs.specs.SourceTables.{ComesByTable, no_table, with_table}
 use Rattle.kp_run_inputs.specs.Actions.{ComesByPlan, no_actions, with_actions}
-use Rattle.kp_run.specs.Outcomes.{TranslatesGround, over, done, TranslatesTrees, MergesTrees, StripsText, too_long, no_plan, no_strip, strips, tells, ChecksTrees, LiftsActions, lifts, fails, LiftsPlan, no_task, with_task, LiftsTrees, SolvesTrees, ClassicalTrees, tells_width, WidthGround, no_report, with_report, WidthTrees, translated, merged, stripped, checked, lifted, solved, solved_classical, width_measured, benched, usage, of_command}
+use Rattle.kp_run.specs.Translate.{TranslatesGround, over, done, TranslatesTrees}
+use Rattle.kp_run.specs.Solve.{SolvesTrees}
+use Rattle.kp_run.specs.Classical.{ClassicalTrees}
+use Rattle.kp_run.specs.Strip.{StripsText, too_long, no_plan, no_strip, strips}
+use Rattle.kp_run.specs.Lift.{LiftsActions, lifts, fails, LiftsPlan, no_task, with_task, LiftsTrees}
+use Rattle.kp_run.specs.Check.{tells, ChecksTrees}
+use Rattle.kp_run.specs.Width.{tells_width, WidthGround, no_report, with_report, WidthTrees}
+use Rattle.kp_run.specs.Merges.{MergesTrees}
+use Rattle.kp_run.specs.Outcomes.{ComesBy, usage, of_command}
 use Rattle.kp_width.specs.declared.report.WidthReport.{WidthReport}
 use Rattle.kp_width.specs.declared.report.WidthReport.TheVariants.{Within, Over}
 use Rattle.kp_search.specs.declared.found.Found.{Found}
@@ -41,7 +51,7 @@ plan_answer : (g : Ground) (text : List ℕ) (P : List ℕ → Outcome → Type 
 plan_answer g text P o answers (no_actions named r a e) = known o _ e tt
 plan_answer g text P o answers (with_actions ss ns has h) = answers ns h
 
-ground_answer : (c : Translate) (g : Ground) (i : Initial) (table : TagTable) (o : Outcome) → TranslatesGround c g i table o → IsAnswer o.status
+ground_answer : (c : Asked) (g : Ground) (i : Initial) (table : TagTable) (o : Outcome) → TranslatesGround c g i table o → IsAnswer o.status
 ground_answer c g i table o (over r a e) = known o _ e tt
 ground_answer c g i table o (done ls a are e) = known o _ e tt
 
@@ -90,26 +100,29 @@ comes_classical_answer x y P o answers (at_once (no_texts r a e)) = known o _ e 
 comes_classical_answer x y P o answers (at_once (no_trees d p r h a e)) = known o _ e tt
 comes_classical_answer x y P o answers (goes_on d p h a on) = answers d p on
 
-summary_answer : (c : Bench) (g : Ground) (i : Initial) (table : TagTable) (o : Outcome) (found : Found) → TellsBench c g i table found o → IsAnswer o.status
+summary_answer : (c : Asked) (g : Ground) (i : Initial) (table : TagTable) (o : Outcome) (found : Found) → TellsBench c g i table found o → IsAnswer o.status
 summary_answer c g i table o (Plan ops n) t = known o _ t.told tt
 summary_answer c g i table o NoPlan t = told_answer None g i table o NoPlan t
 summary_answer c g i table o (Spent n) t = told_answer None g i table o (Spent n) t
 
-benched_answer : (c : Bench) (g : Ground) (i : Initial) (table : TagTable) (o : Outcome) → BenchesGround c g i table o → IsAnswer o.status
+benched_answer : (c : Asked) (g : Ground) (i : Initial) (table : TagTable) (o : Outcome) → BenchesGround c g i table o → IsAnswer o.status
 benched_answer c g i table o (too_heavy r a e) = known o _ e tt
 benched_answer c g i table o (by_found found a finds t) = summary_answer c g i table o found t
 
-bench_answer : (c : Bench) (o : Outcome) → Benches c o → IsAnswer o.status
+bench_answer : (c : Asked) (o : Outcome) → Benches c o → IsAnswer o.status
 bench_answer c o a = comes_answer usual_implicates (texts_of c).domain (texts_of c).problem (BenchesTrees c) o (λ d p. table_answer (ground_of d p) (initial_of d p) (of_mode c.mode) [] _ o (λ table. benched_answer c (ground_of d p) (initial_of d p) table o)) a
 
 pub outcomes_are_answers : OutcomesAreAnswers
 outcomes_are_answers words held _ (usage a) = tt
-outcomes_are_answers words held o (of_command _ _ _ is at (translated c x y merges _ a)) = comes_answer c.implicates x y (TranslatesTrees c merges) o (λ d p. table_answer (ground_of d p) (initial_of d p) c.source merges _ o (λ table. ground_answer c (ground_of d p) (initial_of d p) table o)) a
-outcomes_are_answers words held o (of_command _ _ _ is at (merged c x y _ a)) = comes_answer c.implicates x y (MergesTrees c.mode) o (λ d p. table_answer (ground_of d p) (initial_of d p) (of_mode c.mode) [] _ o (λ table e. known o _ e tt)) a
-outcomes_are_answers words held o (of_command _ _ _ is at (stripped c x _ a)) = strip_answer x o a
-outcomes_are_answers words held o (of_command _ _ _ is at (checked c x y plan _ a)) = comes_answer c.implicates x y (ChecksTrees plan) o (λ d p. plan_answer (ground_of d p) plan _ o (λ ns j. judged_answer (ground_of d p) ns o j.judged j.told)) a
-outcomes_are_answers words held o (of_command _ _ _ is at (lifted c x y merges plan _ a)) = comes_answer c.implicates x y (LiftsTrees c merges plan) o (λ d p. table_answer (ground_of d p) (initial_of d p) c.source merges _ o (λ table. lift_answer (ground_of d p) plan table o)) a
-outcomes_are_answers words held o (of_command _ _ _ is at (solved c x y merges _ a)) = comes_answer c.implicates x y (SolvesTrees c merges) o (λ d p. table_answer (ground_of d p) (initial_of d p) c.source merges _ o (λ table. solved_answer c.classical c.budget (ground_of d p) (initial_of d p) table o)) a
-outcomes_are_answers words held o (of_command _ _ _ is at (solved_classical c x y _ a)) = comes_classical_answer x y (ClassicalTrees c) o (λ d p s. classical_answer (ground_of d p) o s.found s.tells) a
-outcomes_are_answers words held o (of_command _ _ _ is at (benched c _ a)) = bench_answer c o a
-outcomes_are_answers words held o (of_command _ _ _ is at (width_measured c x y _ a)) = comes_answer c.implicates x y (WidthTrees c) o (λ d p. width_answer c.bound (ground_of d p) (initial_of d p) o) a
+outcomes_are_answers words held o (of_command c t _ is at comes) = by c.verb comes
+  where
+    by : (v : Verb) → ComesBy v c t o → IsAnswer o.status
+    by verbs.Translate a = comes_answer c.implicates t.domain t.problem (TranslatesTrees c t.merges) o (λ d p. table_answer (ground_of d p) (initial_of d p) (source_of c) t.merges _ o (λ table. ground_answer c (ground_of d p) (initial_of d p) table o)) a
+    by verbs.Solve a = comes_answer c.implicates t.domain t.problem (SolvesTrees c t.merges) o (λ d p. table_answer (ground_of d p) (initial_of d p) (source_of c) t.merges _ o (λ table. solved_answer c.classical c.budget (ground_of d p) (initial_of d p) table o)) a
+    by verbs.Classical a = comes_classical_answer t.domain t.problem (ClassicalTrees c) o (λ d p s. classical_answer (ground_of d p) o s.found s.tells) a
+    by verbs.Strip a = strip_answer t.written o a
+    by verbs.Lift a = comes_answer c.implicates t.domain t.problem (LiftsTrees c t.merges t.plan) o (λ d p. table_answer (ground_of d p) (initial_of d p) (source_of c) t.merges _ o (λ table. lift_answer (ground_of d p) t.plan table o)) a
+    by verbs.Check a = comes_answer c.implicates t.domain t.problem (ChecksTrees t.plan) o (λ d p. plan_answer (ground_of d p) t.plan _ o (λ ns j. judged_answer (ground_of d p) ns o j.judged j.told)) a
+    by verbs.Width a = comes_answer c.implicates t.domain t.problem (WidthTrees c) o (λ d p. width_answer c.bound (ground_of d p) (initial_of d p) o) a
+    by verbs.Merges a = comes_answer c.implicates t.domain t.problem (MergesTrees c.mode) o (λ d p. table_answer (ground_of d p) (initial_of d p) (of_mode c.mode) [] _ o (λ table e. known o _ e tt)) a
+    by verbs.Bench a = bench_answer c o a

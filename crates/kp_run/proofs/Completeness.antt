@@ -10,7 +10,6 @@ use Rattle.kp_base.specs.declared.ground.TagTable.{TagTable}
 use Rattle.kp_base.specs.Implicates.{IsOfItsAtoms}
 use Rattle.kp_base.specs.Covering.{IsComplete, AreUncovered}
 use Rattle.kp_base.proofs.Cases.{some_alike}
-use Rattle.kp_base.proofs.Parts.{last_once}
 use Rattle.kp_law_tagged_machine.specs.Lifts.{lift_of, UnliftedAt}
 use Rattle.kp_law_tagged_machine.proofs.Public.{lifted_lists_strip, failing_lists_dont_lift}
 use Rattle.kp_tree_grammar.specs.declared.tree.Word.{Word}
@@ -34,9 +33,10 @@ use Rattle.kp_run_outcome.specs.declared.status.Status.{Status}
 use Rattle.kp_run_outcome.specs.declared.status.Status.TheVariants as status
 use Rattle.kp_run_outcome.specs.Ends.{Outside, with_files, CarriesOut, whole, put_failed, put_no_memory, print_failed, print_no_memory}
 use Rattle.kp_run_outcome.specs.Printing.{prints}
-use Rattle.kp_words.specs.Names.{Source, Translate, Lift}
-use Rattle.kp_words.specs.declared.lent.CommandRef.TheVariants as commands
-use Rattle.kp_words.specs.Command.{IsLift, file_of, if_named, inputs_of}
+use Rattle.kp_words.specs.Asked.{Source, Asked, source_of}
+use Rattle.kp_words.specs.declared.verb.Verb.TheVariants as verbs
+use Rattle.kp_words.specs.Command.{IsCall, file_of, if_named}
+use Rattle.kp_words.proofs.Public.{translate_outputs_differ}
 use Rattle.kp_run_messages.specs.Coverage.{coverage_text}
 use Rattle.kp_run_prepare.specs.Prepared.{usual}
 use Rattle.kp_run_prepare.proofs.Public.{usual_ground_is_of_its_atoms, goes_on_with_these, prepared_under_a_greater_limit, problem_of_trees}
@@ -44,7 +44,8 @@ use Rattle.kp_run_inputs.specs.SourceTables.{HasTable, by_mode, by_file, no_tabl
 use Rattle.kp_run_inputs.specs.Actions.{HasActions, no_actions, with_actions}
 use Rattle.kp_run_inputs.proofs.Public.{sources_have_one_table, plans_have_one_list, named_is_found_at}
 use Rattle.kp_ktask.proofs.Public.{task_refused_or_within}
-use Rattle.kp_run.specs.Outcomes.{LiftsActions, lifts, fails, LiftsPlan, no_task, with_task, LiftsTrees, LiftsTexts, IsDue}
+use Rattle.kp_run.specs.Lift.{LiftsActions, lifts, fails, LiftsPlan, no_task, with_task, LiftsTrees, LiftsTexts}
+use Rattle.kp_run.specs.Outcomes.{IsDue}
 use Rattle.kp_run.specs.Ends.{Ends, came, read_failed, no_memory}
 use Rattle.kp_run.specs.Completeness as complete
 use Rattle.kp_run.specs.Completeness.{PrintsComplete, RanComplete, AreSameSource, one_mode, one_text, IsOfTheSame, HoldsPlan, LosesNoPlan, StaysSolvable}
@@ -56,7 +57,7 @@ use Rattle.kp_run.proofs.Soundness.{IsDone, AreBoth, both_held, all_done, is_tab
 -- ---- the translation
 
 -- what a translation that ran and ended with Done came to
-record DidTranslate (t : Translate) (before after : FileMap) (text : List ℕ) : Type 0 where
+record DidTranslate (t : Asked) (before after : FileMap) (text : List ℕ) : Type 0 where
   outcome : Outcome
   apart : (t.domain_out ≡ t.problem_out) → ⊥
   both : AreBoth before t outcome
@@ -68,13 +69,13 @@ after_front : (front xs ys : List ℕ) → front ++ xs ≡ front ++ ys → xs �
 after_front [] xs ys e = e
 after_front (z ∷ front) xs ys e = let rest : front ++ xs ≡ front ++ ys = cc in after_front front xs ys rest
 
-did_translate : (words : List (Vec ℕ Global)) (t : Translate) (before after : FileMap) (r : RanComplete Ends words t before after) → DidTranslate t before after r.text
+did_translate : (words : List (Vec ℕ Global)) (t : Asked) (before after : FileMap) (r : RanComplete Ends words t before after) → DidTranslate t before after r.text
 did_translate words t before after r = by r.ended
   where
     of_due : (o : Outcome) → IsDue words (Some before) o → o.status ≡ status.Done → Some after ≡ with_files (Some before) o.puts → r.text ≡ o.text → DidTranslate t before after r.text
     of_due o due done puts told = record {
       outcome = o;
-      apart = r.is_translate.says.are_so.outputs_differ;
+      apart = translate_outputs_differ _ t r.is_translate.is_command.are_words r.is_translate.of_verb;
       both = both_held words before t o r.is_translate due;
       done = done;
       puts = puts;
@@ -107,7 +108,7 @@ source_now before now _ _ (one_text name other same) = ap (λ z. z ∷ []) same
 
 -- ---- its plans
 
-module _ (t : Translate) (before after : FileMap) (text : List ℕ) (x : DidTranslate t before after text) (told_complete : PrintsComplete text) where
+module _ (t : Asked) (before after : FileMap) (text : List ℕ) (x : DidTranslate t before after text) (told_complete : PrintsComplete text) where
   abbrev y : IsDone t x.both.domain x.both.problem x.both.merges x.outcome
   y = all_done before after t x.outcome x.apart x.both x.done x.puts
 
@@ -161,7 +162,7 @@ module _ (t : Translate) (before after : FileMap) (text : List ℕ) (x : DidTran
 
   -- ---- the lift
 
-  module _ (c : Lift) (now : FileMap) (same : IsOfTheSame t before c now) (plan : List Step) (holds : HoldsPlan now c plan) where
+  module _ (c : Asked) (now : FileMap) (same : IsOfTheSame t before c now) (plan : List Step) (holds : HoldsPlan now c plan) where
     -- what the lift's names hold
     domain_now : get now c.domain ≡ Some x.both.domain
     domain_now = sym same.domain ∙ x.both.domain_held
@@ -169,8 +170,8 @@ module _ (t : Translate) (before after : FileMap) (text : List ℕ) (x : DidTran
     problem_now : get now c.problem ≡ Some x.both.problem
     problem_now = sym same.problem ∙ x.both.problem_held
 
-    merges_now : map (get now) (if_named (file_of c.source)) ≡ map Some x.both.merges
-    merges_now = sym (source_now before now t.source c.source same.source) ∙ (let h = x.both.all_held in cc)
+    merges_now : map (get now) (if_named (file_of (source_of c))) ≡ map Some x.both.merges
+    merges_now = sym (source_now before now (source_of t) (source_of c) same.source) ∙ x.both.merges_held
 
     same_domain : holds.domain ≡ x.both.domain
     same_domain = same_Some holds.domain x.both.domain (sym holds.domain_held ∙ domain_now)
@@ -200,25 +201,15 @@ module _ (t : Translate) (before after : FileMap) (text : List ℕ) (x : DidTran
     of_plan o (with_task fits (no_actions named r why e)) = absurd ((plans_have_one_list g holds.text).either holds.steps lift.numbers named r actions why)
     of_plan o (with_task fits (with_actions ss ns k h)) = of_lift ns o ((plans_have_one_list g holds.text).actions ss holds.steps ns lift.numbers k actions) h
 
-    abbrev has_table : HasTable g i c.source x.both.merges y.table
-    has_table = one_source g i before now t.source c.source x.both.merges y.table same.source y.has_table
+    abbrev has_table : HasTable g i (source_of c) x.both.merges y.table
+    has_table = one_source g i before now (source_of t) (source_of c) x.both.merges y.table same.source y.has_table
 
     of_trees : (o : Outcome) → LiftsTrees c x.both.merges holds.text d p o → o ≡ prints_it
-    of_trees o (no_table names r why e) = absurd ((sources_have_one_table g i c.source x.both.merges).either y.table names r has_table why)
-    of_trees o (with_table v k h) = of_plan o (subst (λ z. LiftsPlan g holds.text z o) ((sources_have_one_table g i c.source x.both.merges).tables v y.table k has_table) h)
+    of_trees o (no_table names r why e) = absurd ((sources_have_one_table g i (source_of c) x.both.merges).either y.table names r has_table why)
+    of_trees o (with_table v k h) = of_plan o (subst (λ z. LiftsPlan g holds.text z o) ((sources_have_one_table g i (source_of c) x.both.merges).tables v y.table k has_table) h)
 
     of_texts : (o : Outcome) → LiftsTexts c x.both.domain x.both.problem x.both.merges holds.text o → o ≡ prints_it
     of_texts o h = of_trees o (goes_on_with_these c.implicates x.both.domain x.both.problem (LiftsTrees c x.both.merges holds.text) d p o y.trees (prepared_under_a_greater_limit t.implicates c.implicates d p same.implicates y.prepared) h)
-
-    -- the contents of the lift's names
-    all_now : map (get now) (inputs_of (commands.Lift c)) ≡ map Some (x.both.domain ∷ x.both.problem ∷ (x.both.merges ++ holds.text ∷ []))
-    all_now = cc (domain_now, problem_now, behind (if_named (file_of c.source)) x.both.merges merges_now)
-      where
-        behind : (names texts : List (List ℕ)) → map (get now) names ≡ map Some texts → map (get now) (names ++ c.plan ∷ []) ≡ map Some (texts ++ holds.text ∷ [])
-        behind [] [] e = ap (λ z. z ∷ []) holds.plan_held
-        behind [] (u ∷ us) e = absurd cc
-        behind (n ∷ ns) [] e = absurd cc
-        behind (n ∷ ns) (u ∷ us) e = let here : get now n ≡ Some u = cc in let rest : map (get now) ns ≡ map Some us = cc in cc (here, behind ns us rest)
 
     lifted_to : (old new : Outside) (s : Status) → s ≡ status.Done → new.told ≡ with_bytes old.told (plan_text lift.steps) → complete.IsLiftedTo t after plan old new s
     lifted_to old new s is told = record {
@@ -229,19 +220,21 @@ module _ (t : Translate) (before after : FileMap) (text : List ℕ) (x : DidTran
       told_reads = steps_read g y.table (tables_can_be_written x.both.domain x.both.problem has y.table table_is) (lift_of g y.table lift.numbers) lift.steps lift.accepted.steps_are;
     }
 
-    of_due : (words : List (Vec ℕ Global)) (o : Outcome) → IsLift words c → IsDue words (Some now) o → o ≡ prints_it
+    of_due : (words : List (Vec ℕ Global)) (o : Outcome) → IsCall verbs.Lift words c → IsDue words (Some now) o → o ≡ prints_it
     of_due words o is due =
-        let it = due_makes words (Some now) (commands.Lift c) o is due in
-        let made = it.makes in
-        let there : it.texts ≡ x.both.domain ∷ x.both.problem ∷ (x.both.merges ++ holds.text ∷ []) = some_alike it.texts (x.both.domain ∷ x.both.problem ∷ (x.both.merges ++ holds.text ∷ [])) (sym it.are_held ∙ all_now) in
-        let at : made.0 ∷ made.1 ∷ (made.2 ++ made.3 ∷ []) ≡ x.both.domain ∷ x.both.problem ∷ (x.both.merges ++ holds.text ∷ []) = sym made.4 ∙ there in
-        let first : made.0 ≡ x.both.domain = cc in
-        let second : made.1 ≡ x.both.problem = cc in
-        let rest : made.2 ++ made.3 ∷ [] ≡ x.both.merges ++ holds.text ∷ [] = cc in
-        let lasts = last_once made.2 x.both.merges made.3 holds.text rest in
-        of_texts o (subst (λ z. LiftsTexts c x.both.domain x.both.problem x.both.merges z o) lasts.1 (subst (λ z. LiftsTexts c x.both.domain x.both.problem z made.3 o) lasts.0 (subst (λ z. LiftsTexts c x.both.domain z made.2 made.3 o) second (subst (λ z. LiftsTexts c z made.1 made.2 made.3 o) first made.5))))
+        let it = due_makes words (Some now) verbs.Lift c o is due in
+        let its = it.contents in
+        let first_held : get now c.domain ≡ Some its.domain = it.are.domain in
+        let second_held : get now c.problem ≡ Some its.problem = it.are.problem in
+        let others_held : map (get now) (if_named (file_of (source_of c))) ≡ map Some its.merges = it.are.merges in
+        let plan_is_held : get now c.plan ≡ Some its.plan = it.are.plan in
+        let first = same_Some its.domain x.both.domain (sym first_held ∙ domain_now) in
+        let second = same_Some its.problem x.both.problem (sym second_held ∙ problem_now) in
+        let others = some_alike its.merges x.both.merges (sym others_held ∙ merges_now) in
+        let last = same_Some its.plan holds.text (sym plan_is_held ∙ holds.plan_held) in
+        of_texts o (subst (λ z. LiftsTexts c x.both.domain x.both.problem x.both.merges z o) last (subst (λ z. LiftsTexts c x.both.domain x.both.problem z its.plan o) others (subst (λ z. LiftsTexts c x.both.domain z its.merges its.plan o) second (subst (λ z. LiftsTexts c z its.problem its.merges its.plan o) first it.makes))))
 
-    ends_lifted : (words : List (Vec ℕ Global)) (old new : Outside) (s : Status) → Ends words old new s → IsLift words c → old.held ≡ Some now → complete.EndsLifted t after plan old new s
+    ends_lifted : (words : List (Vec ℕ Global)) (old new : Outside) (s : Status) → Ends words old new s → IsCall verbs.Lift words c → old.held ≡ Some now → complete.EndsLifted t after plan old new s
     ends_lifted words old new s (came o due carried) is held = by carried
       where
         it : o ≡ prints_it
@@ -256,7 +249,7 @@ module _ (t : Translate) (before after : FileMap) (text : List ℕ) (x : DidTran
     ends_lifted words old new s (read_failed (e, so, a) is_fault b h j) is held = inr (inr (inl is_fault))
     ends_lifted words old new s (no_memory e a b) is held = inr (inl e)
 
-pub loses_none : (words : List (Vec ℕ Global)) (old new : Outside) (s : Status) → Ends words old new s → (c : Lift) → IsLift words c → LosesNoPlan Ends c old new s
+pub loses_none : (words : List (Vec ℕ Global)) (old new : Outside) (s : Status) → Ends words old new s → (c : Asked) → IsCall verbs.Lift words c → LosesNoPlan Ends c old new s
 loses_none words old new s ends c is t_words t before after now plan r held same holds =
     ends_lifted t before after r.text (did_translate t_words t before after r) r.complete c now same plan holds words old new s ends is held
 

@@ -1,5 +1,5 @@
 -- Words and what is held, with the one outcome that is due: a translation, the usage, and none where a file isn't held.
-use Rattle.std.proofs.Common.{◌++◌, [], ◌≡◌, ◌≢◌, ◌<◌, ◌≤◌, ◌^◌, ℕ, zero, suc, true, false, not, List, ◌∷◌, length, take, nat_eq, Some, None, Vec, codes, inl, inr, refl, sym, ap, subst, ◌∙◌, arith}
+use Rattle.std.proofs.Common.{[], ◌≡◌, ◌≢◌, ◌<◌, ◌≤◌, ◌^◌, ℕ, zero, suc, true, false, not, List, ◌∷◌, length, take, nat_eq, Some, None, Vec, codes, inl, inr, refl, sym, ap, subst, ◌∙◌, arith}
 use Rattle.std.specs.FinMap.{empty, get, insert, get-empty}
 use Rattle.std.specs.Fmt.{digits}
 use Rattle.std.specs.List.{list_all}
@@ -44,16 +44,19 @@ use Rattle.kp_law_translation.proofs.Public.{initial_states_are_models}
 use Rattle.kp_outside.specs.Outside.{FileMap}
 use Rattle.kp_run_outcome.specs.declared.outcome.Outcome.{Outcome}
 use Rattle.kp_run_outcome.specs.declared.status.Status.TheVariants as status
-use Rattle.kp_run_outcome.specs.Ends.{Outside, AreHeld, whole}
+use Rattle.kp_run_outcome.specs.Ends.{Outside, whole}
 use Rattle.kp_words_options.specs.Words.{nothing, a_word, apart as apart_words, word as said_word, option as said_option}
-use Rattle.kp_words.specs.Names.{of_mode, Translate, Bench}
-use Rattle.kp_words.specs.declared.lent.CommandRef.TheVariants as commands
-use Rattle.kp_words.specs.Command.{IsTranslate, file_of, if_named}
-use Rattle.kp_words.proofs.Public.{no_words_are_no_command, words_are_one_command}
+use Rattle.kp_words.specs.Asked.{Asked, source_of}
+use Rattle.kp_words.specs.declared.verb.Verb.TheVariants as verbs
+use Rattle.kp_words.specs.Command.{IsCall, file_of}
+use Rattle.kp_words.proofs.Public.{no_words_are_no_command, example_two_apart}
+use Rattle.kp_words.specs.Owned.{bare}
+use Rattle.kp_run.proofs.Comes.{due_by, due_makes}
 use Rattle.kp_run_prepare.specs.Texts.{HaveTrees}
 use Rattle.kp_run_prepare.specs.Prepared.{usual, IsStarted, later}
 use Rattle.kp_run_inputs.specs.SourceTables.{by_mode, with_table}
-use Rattle.kp_run.specs.Outcomes.{shows_usage, translates, done, TranslatesTexts, translated, IsDue, usage, of_command}
+use Rattle.kp_run.specs.Translate.{translates, done, TranslatesTexts}
+use Rattle.kp_run.specs.Outcomes.{shows_usage, IsDue, usage}
 use Rattle.kp_run.specs.Ends.{Ends, came}
 use Rattle.kp_run.specs.Soundness.{IsSound}
 use Rattle.kp_run.proofs.Counted.{empty_tags_fit}
@@ -74,25 +77,33 @@ translate d p od op = word (codes "translate") (omega arith) ∷ d ∷ p ∷ od 
 abbrev pub words : List (Vec ℕ Global)
 words = translate (word (codes "d") (omega arith)) (word (codes "p") (omega arith)) (word (codes "od") (omega arith)) (word (codes "op") (omega arith))
 
-abbrev pub command : Translate
-command = record { domain = codes "d"; problem = codes "p"; domain_out = codes "od"; problem_out = codes "op"; source = of_mode modes.K0; implicates = 20000 }
+abbrev pub command : Asked
+command = record (bare verbs.Translate) { domain = codes "d"; problem = codes "p"; domain_out = codes "od"; problem_out = codes "op"; mode = modes.K0; implicates = 20000 }
 
 -- two names that are seen to differ
 apart : (x y : List ℕ) → same x y ≡ false → x ≢ y
 apart x y h e = false≢true (sym h ∙ (sym (ap (same x) e) ∙ same-refl x))
 
-is_command : IsTranslate words command
+is_command : IsCall verbs.Translate words command
 unfolding encode
 is_command = record {
-  rest = codes "d" ∷ codes "p" ∷ codes "od" ∷ codes "op" ∷ codes "--mode" ∷ codes "k0" ∷ [];
-  utf8 = ((codes "translate", (refl, refl)), ((codes "d", (refl, refl)), ((codes "p", (refl, refl)), ((codes "od", (refl, refl)), ((codes "op", (refl, refl)), ((codes "--mode", (refl, refl)), ((codes "k0", (refl, refl)), tt)))))));
-  words_are = refl;
-  says = record {
-    places = codes "d" ∷ codes "p" ∷ codes "od" ∷ codes "op" ∷ [];
-    values = Some (codes "k0") ∷ None ∷ None ∷ [];
-    line = record { said = said_word (codes "d") ∷ said_word (codes "p") ∷ said_word (codes "od") ∷ said_word (codes "op") ∷ said_option (codes "mode") (codes "k0") ∷ []; says = a_word _ _ _ refl (a_word _ _ _ refl (a_word _ _ _ refl (a_word _ _ _ refl (apart_words (codes "mode") (codes "k0") _ _ refl refl (nothing))))); places_are = refl; known = refl; once = refl; values_are = refl };
-    are_so = record { mode = Some (codes "k0"); merges = None; implicates = None; places_are = refl; values_are = refl; outputs_differ = apart (codes "od") (codes "op") refl; source = (refl, refl); limit = refl };
+  is_command = record {
+    utf8 = ((codes "translate", (refl, refl)), ((codes "d", (refl, refl)), ((codes "p", (refl, refl)), ((codes "od", (refl, refl)), ((codes "op", (refl, refl)), ((codes "--mode", (refl, refl)), ((codes "k0", (refl, refl)), tt)))))));
+    are_words = record {
+      rest = codes "d" ∷ codes "p" ∷ codes "od" ∷ codes "op" ∷ codes "--mode" ∷ codes "k0" ∷ [];
+      are = refl;
+      behind = record {
+        places = codes "d" ∷ codes "p" ∷ codes "od" ∷ codes "op" ∷ [];
+        values = Some (codes "k0") ∷ None ∷ None ∷ [];
+        line = record { said = said_word (codes "d") ∷ said_word (codes "p") ∷ said_word (codes "od") ∷ said_word (codes "op") ∷ said_option (codes "mode") (codes "k0") ∷ []; says = a_word _ _ _ refl (a_word _ _ _ refl (a_word _ _ _ refl (a_word _ _ _ refl (apart_words (codes "mode") (codes "k0") _ _ refl refl (nothing))))); places_are = refl; known = refl; once = refl; values_are = refl };
+        are_of = record {
+          as_many = refl;
+          are_asked = record { domain = refl; problem = refl; plan = refl; written = refl; domain_out = refl; problem_out = refl; outputs_differ = example_two_apart (codes "od") (codes "op") refl; family = refl; size = refl; mode = refl; merges = refl; one_source = tt; implicates = refl; budget = refl; bound = refl; classical = refl };
+        };
+      };
+    };
   };
+  of_verb = refl;
 }
 
 -- with a limit of one prime implicate
@@ -101,21 +112,29 @@ with_limit =
     word (codes "translate") (omega arith) ∷ word (codes "d") (omega arith) ∷ word (codes "p") (omega arith) ∷ word (codes "od") (omega arith) ∷ word (codes "op") (omega arith)
     ∷ word (codes "--mode") (omega arith) ∷ word (codes "k0") (omega arith) ∷ word (codes "--implicates") (omega arith) ∷ word (codes "1") (omega arith) ∷ []
 
-abbrev pub limited : Translate
-limited = record { domain = codes "d"; problem = codes "p"; domain_out = codes "od"; problem_out = codes "op"; source = of_mode modes.K0; implicates = 1 }
+abbrev pub limited : Asked
+limited = record (bare verbs.Translate) { domain = codes "d"; problem = codes "p"; domain_out = codes "od"; problem_out = codes "op"; mode = modes.K0; implicates = 1 }
 
-pub is_limited : IsTranslate with_limit limited
+pub is_limited : IsCall verbs.Translate with_limit limited
 unfolding encode digits
 is_limited = record {
-  rest = codes "d" ∷ codes "p" ∷ codes "od" ∷ codes "op" ∷ codes "--mode" ∷ codes "k0" ∷ codes "--implicates" ∷ codes "1" ∷ [];
-  utf8 = ((codes "translate", (refl, refl)), ((codes "d", (refl, refl)), ((codes "p", (refl, refl)), ((codes "od", (refl, refl)), ((codes "op", (refl, refl)), ((codes "--mode", (refl, refl)), ((codes "k0", (refl, refl)), ((codes "--implicates", (refl, refl)), ((codes "1", (refl, refl)), tt)))))))));
-  words_are = refl;
-  says = record {
-    places = codes "d" ∷ codes "p" ∷ codes "od" ∷ codes "op" ∷ [];
-    values = Some (codes "k0") ∷ None ∷ Some (codes "1") ∷ [];
-    line = record { said = said_word (codes "d") ∷ said_word (codes "p") ∷ said_word (codes "od") ∷ said_word (codes "op") ∷ said_option (codes "mode") (codes "k0") ∷ said_option (codes "implicates") (codes "1") ∷ []; says = a_word _ _ _ refl (a_word _ _ _ refl (a_word _ _ _ refl (a_word _ _ _ refl (apart_words (codes "mode") (codes "k0") _ _ refl refl (apart_words (codes "implicates") (codes "1") _ _ refl refl (nothing)))))); places_are = refl; known = refl; once = refl; values_are = refl };
-    are_so = record { mode = Some (codes "k0"); merges = None; implicates = Some (codes "1"); places_are = refl; values_are = refl; outputs_differ = apart (codes "od") (codes "op") refl; source = (refl, refl); limit = (record { at_least = omega arith; at_most = omega arith }, refl) };
+  is_command = record {
+    utf8 = ((codes "translate", (refl, refl)), ((codes "d", (refl, refl)), ((codes "p", (refl, refl)), ((codes "od", (refl, refl)), ((codes "op", (refl, refl)), ((codes "--mode", (refl, refl)), ((codes "k0", (refl, refl)), ((codes "--implicates", (refl, refl)), ((codes "1", (refl, refl)), tt)))))))));
+    are_words = record {
+      rest = codes "d" ∷ codes "p" ∷ codes "od" ∷ codes "op" ∷ codes "--mode" ∷ codes "k0" ∷ codes "--implicates" ∷ codes "1" ∷ [];
+      are = refl;
+      behind = record {
+        places = codes "d" ∷ codes "p" ∷ codes "od" ∷ codes "op" ∷ [];
+        values = Some (codes "k0") ∷ None ∷ Some (codes "1") ∷ [];
+        line = record { said = said_word (codes "d") ∷ said_word (codes "p") ∷ said_word (codes "od") ∷ said_word (codes "op") ∷ said_option (codes "mode") (codes "k0") ∷ said_option (codes "implicates") (codes "1") ∷ []; says = a_word _ _ _ refl (a_word _ _ _ refl (a_word _ _ _ refl (a_word _ _ _ refl (apart_words (codes "mode") (codes "k0") _ _ refl refl (apart_words (codes "implicates") (codes "1") _ _ refl refl (nothing)))))); places_are = refl; known = refl; once = refl; values_are = refl };
+        are_of = record {
+          as_many = refl;
+          are_asked = record { domain = refl; problem = refl; plan = refl; written = refl; domain_out = refl; problem_out = refl; outputs_differ = example_two_apart (codes "od") (codes "op") refl; family = refl; size = refl; mode = refl; merges = refl; one_source = tt; implicates = (record { at_least = omega arith; at_most = omega arith }, refl); budget = refl; bound = refl; classical = refl };
+        };
+      };
+    };
   };
+  of_verb = refl;
 }
 
 -- ---- what is held
@@ -131,8 +150,10 @@ problem_held : (domain problem : List ℕ) → get (holding domain problem) (cod
 problem_held domain problem = at_last (insert empty (codes "d") domain) (codes "p") problem
 
 -- what the two texts are translated to is due
-pub due_with : (ws : List (Vec ℕ Global)) (c : Translate) → IsTranslate ws c → c.domain ≡ codes "d" → c.problem ≡ codes "p" → file_of c.source ≡ None → (domain problem : List ℕ) (o : Outcome) → TranslatesTexts c domain problem [] o → IsDue ws (Some (holding domain problem)) o
-due_with ws c is first second alone domain problem o h = of_command (commands.Translate c) (domain ∷ problem ∷ []) o is (rw (first, second, alone, domain_held domain problem, problem_held domain problem) refl) (translated c domain problem [] o h)
+pub due_with : (ws : List (Vec ℕ Global)) (c : Asked) → IsCall verbs.Translate ws c → c.domain ≡ codes "d" → c.problem ≡ codes "p" → file_of (source_of c) ≡ None → (domain problem : List ℕ) (o : Outcome) → TranslatesTexts c domain problem [] o → IsDue ws (Some (holding domain problem)) o
+due_with ws c is first second alone domain problem o h =
+    due_by verbs.Translate c (record { domain = domain; problem = problem; merges = []; plan = []; written = [] }) o is
+    (record { domain = ap (get (holding domain problem)) first ∙ domain_held domain problem; problem = ap (get (holding domain problem)) second ∙ problem_held domain problem; merges = rw alone refl; plan = refl; written = refl }) h
 
 pub on_files : (domain problem : List ℕ) (o : Outcome) → TranslatesTexts command domain problem [] o → IsDue words (Some (holding domain problem)) o
 on_files = due_with words command is_command refl refl refl
@@ -267,21 +288,11 @@ usage_is_due = usage no_words_are_no_command
 abbrev no_files : FileMap
 no_files = empty
 
-not_held : (name : List ℕ) (names texts : List (List ℕ)) → AreHeld (Some no_files) (name ∷ names) texts → ⊥
-not_held name names [] h = absurd cc
-not_held name names (t ∷ ts) h = absurd (let e = get-empty {X = List ℕ} (slice_cmp nat_cmp) name in let f : get no_files name ≡ Some t = cc in cc (e, f))
-
-other_verb : (c : Translate) (d : Bench) → commands.Translate c ≡ commands.Bench d → ⊥
-other_verb c d same = absurd cc
+not_held : (name content : List ℕ) → get no_files name ≡ Some content → ⊥
+not_held name content held = absurd (let e = get-empty {X = List ℕ} (slice_cmp nat_cmp) name in cc (e, held))
 
 nothing_is_due : (o : Outcome) → IsDue words (Some no_files) o → ⊥
-nothing_is_due _ (usage never) = never (commands.Translate command) is_command
-nothing_is_due o (of_command (commands.Strip c) texts _ h held comes) = not_held c.plan [] texts held
-nothing_is_due o (of_command (commands.Check c) texts _ h held comes) = not_held c.domain (c.problem ∷ c.plan ∷ []) texts held
-nothing_is_due o (of_command (commands.Lift c) texts _ h held comes) = not_held c.domain (c.problem ∷ (if_named (file_of c.source) ++ c.plan ∷ [])) texts held
-nothing_is_due o (of_command (commands.Merges c) texts _ h held comes) = not_held c.domain (c.problem ∷ []) texts held
-nothing_is_due o (of_command (commands.Solve c) texts _ h held comes) = not_held c.domain (c.problem ∷ if_named (file_of c.source)) texts held
-nothing_is_due o (of_command (commands.Classical c) texts _ h held comes) = not_held c.domain (c.problem ∷ []) texts held
-nothing_is_due o (of_command (commands.Width c) texts _ h held comes) = not_held c.domain (c.problem ∷ []) texts held
-nothing_is_due o (of_command (commands.Bench c) texts _ h at comes) = other_verb command c (words_are_one_command words (commands.Translate command) (commands.Bench c) is_command h)
-nothing_is_due o (of_command (commands.Translate c) texts _ h held comes) = not_held c.domain (c.problem ∷ if_named (file_of c.source)) texts held
+nothing_is_due o due =
+    let it = due_makes words (Some no_files) verbs.Translate command o is_command due in
+    let held : get no_files command.domain ≡ Some it.contents.domain = it.are.domain in
+    not_held command.domain it.contents.domain held

@@ -13,7 +13,7 @@ pub mod Soundness
 pub mod CompleteText
 pub mod Completeness
 pub mod Ending
-pub mod Files
+pub mod Parts
 pub mod ClashFree
 pub mod ExampleOutcomes
 pub mod ExampleRefusals

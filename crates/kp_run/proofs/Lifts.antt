@@ -16,7 +16,7 @@ use Rattle.kp_law_ktask.specs.Task.{task_of}
 use Rattle.kp_ktask.specs.Translated.{FitsLimits, RefusesTask}
 use Rattle.kp_run_messages.specs.Refusals.{nothing}
 use Rattle.kp_run_outcome.specs.declared.outcome.Outcome.{Outcome}
-use Rattle.kp_words.specs.Names.{Source}
+use Rattle.kp_words.specs.Asked.{Source}
 use Rattle.kp_run_prepare.specs.Refusing.{refuses}
 use Rattle.kp_run_prepare.specs.Prepared.{usual}
 use Rattle.kp_run_inputs.specs.Actions.{ComesByPlan}
@@ -28,7 +28,8 @@ use Rattle.kp_lift.specs.Lifting.{IsTableOn, AnswersLifting}
 use Rattle.kp_lift.proofs.Public.{lifted_operators_are_steps}
 use Rattle.kp_run_messages.specs.Lifting.{unlifted_text}
 use Rattle.kp_run_outcome.specs.Printing.{denies}
-use Rattle.kp_run.specs.Outcomes.{LiftsActions, lifts, fails, LiftsPlan, no_task, with_task, failing_step}
+use Rattle.kp_run.specs.Lift.{LiftsActions, lifts, fails, LiftsPlan, no_task, with_task}
+use Rattle.kp_run.specs.Check.{failing_step}
 use Rattle.kp_run.specs.CommandParts.{PrintsOperators}
 
 -- ---- with a table

@@ -14,9 +14,7 @@ pub use Rattle.kp_run.proofs.Answered.{outcomes_are_answers}
 -- ---- A ground problem within the limits has a task with the empty tag alone that is within the limits, too.
 pub use Rattle.kp_run.proofs.Counted.{empty_tags_fit}
 -- ---- What it is that a command comes to.
-pub use Rattle.kp_run.proofs.Comes.{makes_of, due_makes}
--- what the contents of the input files are, and what a command makes of them
-pub use Rattle.kp_run.proofs.Comes.{MakesOf}
+pub use Rattle.kp_run.proofs.Comes.{due_by, due_makes}
 -- ---- The last printed line is `complete` just where no target is uncovered.
 pub use Rattle.kp_run.proofs.CompleteText.{none_uncovered as complete_text_leaves_none, complete_told as complete_is_told}
 -- ---- Where a translation told `complete`, each plan of its files is the strip of a plan of what it put.

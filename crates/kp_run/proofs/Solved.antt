@@ -37,16 +37,17 @@ use Rattle.kp_run_outcome.specs.declared.status.Status.{Status}
 use Rattle.kp_run_outcome.specs.declared.status.Status.TheVariants as status
 use Rattle.kp_run_outcome.specs.Ends.{Outside, AreHeld, IsAnswer, with_files}
 use Rattle.kp_run_outcome.specs.Printing.{denies}
-use Rattle.kp_words.specs.Names.{Solve}
-use Rattle.kp_words.specs.declared.lent.CommandRef.TheVariants as commands
-use Rattle.kp_words.specs.Command.{IsSolve, file_of, if_named, inputs_of}
+use Rattle.kp_words.specs.Asked.{Asked, source_of}
+use Rattle.kp_words.specs.declared.verb.Verb.TheVariants as verbs
+use Rattle.kp_words.specs.Command.{IsCall, file_of, if_named}
 use Rattle.kp_run_prepare.specs.Texts.{HaveTrees}
 use Rattle.kp_run_prepare.specs.Prepared.{IsPrepared, by_texts, by_trees, early, later}
 use Rattle.kp_run_inputs.specs.SourceTables.{HasTable, no_table, with_table}
 use Rattle.kp_run_inputs.proofs.Public.{table_of_source_is_for_trees}
 use Rattle.kp_run_solve.specs.Solving.{Finds, solves, spends, TellsSolved, SolvesGround, over, searched}
 use Rattle.kp_run_solve.proofs.Public.{ends_are_true, no_plan_is_accepted}
-use Rattle.kp_run.specs.Outcomes.{SolvesTexts, IsDue}
+use Rattle.kp_run.specs.Solve.{SolvesTexts}
+use Rattle.kp_run.specs.Outcomes.{IsDue}
 use Rattle.kp_run.specs.Completeness.{PrintsComplete}
 use Rattle.kp_run.specs.Ends.{Ends}
 use Rattle.kp_run_prepare.proofs.Public.{problem_of_trees, usual_ground_is_of_its_atoms}
@@ -83,15 +84,15 @@ complete_text g i table (l ∷ ls) proper are = ((λ printed. absurd (not_so pri
 -- ---- what such a run came to
 
 -- what it was about, and what its search found
-record HasSearched (m : FileMap) (c : Solve) (o : Outcome) : Type 0 where
+record HasSearched (m : FileMap) (c : Asked) (o : Outcome) : Type 0 where
   posed : IsPosed m c
   found : Found
   finds : Finds (its_task posed.about) c.budget found
   tells : TellsSolved c.classical (its_ground posed.about) (its_formula posed.about) posed.about.table found o
 
-module _ (m : FileMap) (c : Solve) (domain problem : List ℕ) (merges : List (List ℕ)) (domain_held : get m c.domain ≡ Some domain) (problem_held : get m c.problem ≡ Some problem)
-    (held : AreHeld (Some m) (if_named (file_of c.source)) merges) (o : Outcome) (answers : IsNoRefusal o) where
-  of_ground : (d : Domain Word) (p : Problem Word) (table : TagTable) → HaveTrees domain problem d p → IsPrepared c.implicates d p → HasTable (ground_of d p) (initial_of d p) c.source merges table → SolvesGround c.classical c.budget (ground_of d p) (initial_of d p) table o → HasSearched m c o
+module _ (m : FileMap) (c : Asked) (domain problem : List ℕ) (merges : List (List ℕ)) (domain_held : get m c.domain ≡ Some domain) (problem_held : get m c.problem ≡ Some problem)
+    (held : AreHeld (Some m) (if_named (file_of (source_of c))) merges) (o : Outcome) (answers : IsNoRefusal o) where
+  of_ground : (d : Domain Word) (p : Problem Word) (table : TagTable) → HaveTrees domain problem d p → IsPrepared c.implicates d p → HasTable (ground_of d p) (initial_of d p) (source_of c) merges table → SolvesGround c.classical c.budget (ground_of d p) (initial_of d p) table o → HasSearched m c o
   of_ground d p table trees ready has (over r why is) = absurd (not_refused o nothing r is answers)
   of_ground d p table trees ready has (searched found fits finds tells) = record {
     posed = record {
@@ -110,12 +111,10 @@ module _ (m : FileMap) (c : Solve) (domain problem : List ℕ) (merges : List (L
   of_texts (later d p trees ready (no_table names r why is)) = absurd (not_refused o names r is answers)
   of_texts (later d p trees ready (with_table table has goes)) = of_ground d p table trees ready has goes
 
-has_searched : (words : List (Vec ℕ Global)) (m : FileMap) (c : Solve) (o : Outcome) → IsSolve words c → IsDue words (Some m) o → IsNoRefusal o → HasSearched m c o
+has_searched : (words : List (Vec ℕ Global)) (m : FileMap) (c : Asked) (o : Outcome) → IsCall verbs.Solve words c → IsDue words (Some m) o → IsNoRefusal o → HasSearched m c o
 has_searched words m c o is due answers =
-    let it = due_makes words (Some m) (commands.Solve c) o is due in
-    let made = it.makes in
-    let there : AreHeld (Some m) (inputs_of (commands.Solve c)) (made.0 ∷ made.1 ∷ made.2) = subst (AreHeld (Some m) (inputs_of (commands.Solve c))) made.3 it.are_held in
-    of_texts m c made.0 made.1 made.2 (cc there) (cc there) (cc there) o answers made.4
+    let it = due_makes words (Some m) verbs.Solve c o is due in
+    of_texts m c it.contents.domain it.contents.problem it.contents.merges it.are.domain it.are.problem it.are.merges o answers it.makes
 
 -- ---- what its answer says
 
@@ -124,7 +123,7 @@ named_put : (held : Option FileMap) (name : Option (List ℕ)) (written plan : L
 named_put held None written plan = refl
 named_put held (Some name) written plan = refl
 
-module _ (m : FileMap) (c : Solve) (o : Outcome) (x : HasSearched m c o) (old new : Outside) (s : Status) (a : IsCarriedOut o old new s) where
+module _ (m : FileMap) (c : Asked) (o : Outcome) (x : HasSearched m c o) (old new : Outside) (s : Status) (a : IsCarriedOut o old new s) where
   abbrev d : Domain Word
   d = x.posed.about.domain_tree
 
@@ -147,7 +146,7 @@ module _ (m : FileMap) (c : Solve) (o : Outcome) (x : HasSearched m c o) (old ne
   g = x.posed.given
 
   for : IsTableFor d p table
-  for = table_of_source_is_for_trees d p c.source x.posed.has_task.merges table g.prepared.started.small x.posed.has_task.fits x.posed.has_task.has_table
+  for = table_of_source_is_for_trees d p (source_of c) x.posed.has_task.merges table g.prepared.started.small x.posed.has_task.fits x.posed.has_task.has_table
 
   writable : IsWritableTask ground table
   writable = tables_can_be_written g.domain g.problem (problem_of_trees g.domain g.problem d p g.trees) table for
@@ -210,12 +209,12 @@ module _ (m : FileMap) (c : Solve) (o : Outcome) (x : HasSearched m c o) (old ne
 -- ---- what it says of a run
 
 -- it came to an answer that is no refusal
-of_answer : (words : List (Vec ℕ Global)) (old new : Outside) (s : Status) → Ends words old new s → (m : FileMap) (c : Solve) → old.held ≡ Some m → IsSolve words c → IsAnswer s → ((r : Refused) → s ≡ status.Refused r → ⊥) → (o : Outcome) × HasSearched m c o × IsCarriedOut o old new s
+of_answer : (words : List (Vec ℕ Global)) (old new : Outside) (s : Status) → Ends words old new s → (m : FileMap) (c : Asked) → old.held ≡ Some m → IsCall verbs.Solve words c → IsAnswer s → ((r : Refused) → s ≡ status.Refused r → ⊥) → (o : Outcome) × HasSearched m c o × IsCarriedOut o old new s
 of_answer words old new s ends m c held is answer other =
     let w = did words old new s ends m held answer in
     (w.outcome, has_searched words m c w.outcome is w.due (λ r e. other r (w.carried_out.status_is ∙ e)), w.carried_out)
 
-pub solve_true : (words : List (Vec ℕ Global)) (old new : Outside) (s : Status) → Ends words old new s → (m : FileMap) (c : Solve) → old.held ≡ Some m → IsSolve words c → SolveIsTrue m c old new s
+pub solve_true : (words : List (Vec ℕ Global)) (old new : Outside) (s : Status) → Ends words old new s → (m : FileMap) (c : Asked) → old.held ≡ Some m → IsCall verbs.Solve words c → SolveIsTrue m c old new s
 solve_true words old new s ends m c held is = record {
   done = λ done. let x = of_answer words old new s ends m c held is (subst IsAnswer (sym done) tt) (λ r e. absurd (let f = sym done ∙ e in cc)) in is_solved m c x.0 x.1 old new s x.2 done;
   negative = λ negative. let x = of_answer words old new s ends m c held is (subst IsAnswer (sym negative) tt) (λ r e. absurd (let f = sym negative ∙ e in cc)) in has_none m c x.0 x.1 old new s x.2 negative;

@@ -1,5 +1,5 @@
 -- What an answer to `classical` says of its files.
-use Rattle.std.proofs.Common.{◌≡◌, ℕ, List, [], ◌∷◌, Some, None, Vec, sym, ◌∙◌, subst}
+use Rattle.std.proofs.Common.{◌≡◌, ℕ, List, Some, None, Vec, sym, ◌∙◌, subst}
 use Rattle.std.specs.FinMap.{get}
 use Rattle.std.specs.declared.alloc.Global.{Global}
 use Rattle.std.proofs.lemmas.Bool.{false≢true}
@@ -15,18 +15,19 @@ use Rattle.kp_outside.specs.Outside.{FileMap}
 use Rattle.kp_run_outcome.specs.declared.outcome.Outcome.{Outcome}
 use Rattle.kp_run_outcome.specs.declared.status.Status.{Status}
 use Rattle.kp_run_outcome.specs.declared.status.Status.TheVariants as status
-use Rattle.kp_run_outcome.specs.Ends.{Outside, AreHeld, IsAnswer}
+use Rattle.kp_run_outcome.specs.Ends.{Outside, IsAnswer}
 use Rattle.kp_run_outcome.specs.Printing.{denies}
-use Rattle.kp_words.specs.Names.{Classical}
-use Rattle.kp_words.specs.declared.lent.CommandRef.TheVariants as commands
-use Rattle.kp_words.specs.Command.{IsClassical, inputs_of}
+use Rattle.kp_words.specs.Asked.{Asked}
+use Rattle.kp_words.specs.declared.verb.Verb.TheVariants as verbs
+use Rattle.kp_words.specs.Command.{IsCall}
 use Rattle.kp_run_classical.specs.Classical.{by_texts, by_trees, early, later, task_of}
 use Rattle.kp_run_classical.proofs.Public.{classical_successes_are_plans, classical_plans_are_successes}
 use Rattle.kp_run_messages.specs.Refusals.{nothing}
 use Rattle.kp_run_messages.specs.Searches.{no_plan_line}
 use Rattle.kp_run_solve.specs.Solving.{Finds, solves, spends, TellsClassical}
 use Rattle.kp_run_solve.proofs.Public.{ends_are_true}
-use Rattle.kp_run.specs.Outcomes.{ClassicalTexts, IsDue}
+use Rattle.kp_run.specs.Classical.{ClassicalTexts}
+use Rattle.kp_run.specs.Outcomes.{IsDue}
 use Rattle.kp_run.specs.Ends.{Ends}
 use Rattle.kp_run_prepare.proofs.Public.{problem_of_trees}
 use Rattle.kp_run.specs.Solved.{IsHeldClassical, IsPosedClassical, IsSolvedClassical, HasNoClassicalPlan, IsSpentClassical, ClassicalIsTrue}
@@ -38,13 +39,13 @@ use Rattle.kp_run.proofs.Whole.{IsCarriedOut, did, IsNoRefusal, not_refused}
 -- ---- what such a run came to
 
 -- what it was about, and what its search found
-record HasSearched (m : FileMap) (c : Classical) (o : Outcome) : Type 0 where
+record HasSearched (m : FileMap) (c : Asked) (o : Outcome) : Type 0 where
   posed : IsPosedClassical m c
   found : Found
   finds : Finds (task_of posed.domain_tree posed.problem_tree) c.budget found
   tells : TellsClassical (ground_of posed.domain_tree posed.problem_tree) found o
 
-of_texts : (m : FileMap) (c : Classical) (domain problem : List ℕ) → get m c.domain ≡ Some domain → get m c.problem ≡ Some problem → (o : Outcome) → IsNoRefusal o → ClassicalTexts c domain problem o → HasSearched m c o
+of_texts : (m : FileMap) (c : Asked) (domain problem : List ℕ) → get m c.domain ≡ Some domain → get m c.problem ≡ Some problem → (o : Outcome) → IsNoRefusal o → ClassicalTexts c domain problem o → HasSearched m c o
 of_texts m c domain problem domain_held problem_held o answers (early (by_texts r why is)) = absurd (not_refused o nothing r is answers)
 of_texts m c domain problem domain_held problem_held o answers (early (by_trees d p r trees why is)) = absurd (not_refused o nothing r is answers)
 of_texts m c domain problem domain_held problem_held o answers (later d p trees classical goes) = record {
@@ -58,16 +59,14 @@ of_texts m c domain problem domain_held problem_held o answers (later d p trees 
   tells = goes.tells;
 }
 
-has_searched : (words : List (Vec ℕ Global)) (m : FileMap) (c : Classical) (o : Outcome) → IsClassical words c → IsDue words (Some m) o → IsNoRefusal o → HasSearched m c o
+has_searched : (words : List (Vec ℕ Global)) (m : FileMap) (c : Asked) (o : Outcome) → IsCall verbs.Classical words c → IsDue words (Some m) o → IsNoRefusal o → HasSearched m c o
 has_searched words m c o is due answers =
-    let it = due_makes words (Some m) (commands.Classical c) o is due in
-    let made = it.makes in
-    let there : AreHeld (Some m) (inputs_of (commands.Classical c)) (made.0 ∷ made.1 ∷ []) = subst (AreHeld (Some m) (inputs_of (commands.Classical c))) made.2 it.are_held in
-    of_texts m c made.0 made.1 (cc there) (cc there) o answers made.3
+    let it = due_makes words (Some m) verbs.Classical c o is due in
+    of_texts m c it.contents.domain it.contents.problem it.are.domain it.are.problem o answers it.makes
 
 -- ---- what its answer says
 
-module _ (m : FileMap) (c : Classical) (o : Outcome) (x : HasSearched m c o) (old new : Outside) (s : Status) (a : IsCarriedOut o old new s) where
+module _ (m : FileMap) (c : Asked) (o : Outcome) (x : HasSearched m c o) (old new : Outside) (s : Status) (a : IsCarriedOut o old new s) where
   abbrev d : Domain Word
   d = x.posed.domain_tree
 
@@ -123,12 +122,12 @@ module _ (m : FileMap) (c : Classical) (o : Outcome) (x : HasSearched m c o) (ol
 -- ---- what it says of a run
 
 -- it came to an answer that is no refusal
-of_answer : (words : List (Vec ℕ Global)) (old new : Outside) (s : Status) → Ends words old new s → (m : FileMap) (c : Classical) → old.held ≡ Some m → IsClassical words c → IsAnswer s → ((r : Refused) → s ≡ status.Refused r → ⊥) → (o : Outcome) × HasSearched m c o × IsCarriedOut o old new s
+of_answer : (words : List (Vec ℕ Global)) (old new : Outside) (s : Status) → Ends words old new s → (m : FileMap) (c : Asked) → old.held ≡ Some m → IsCall verbs.Classical words c → IsAnswer s → ((r : Refused) → s ≡ status.Refused r → ⊥) → (o : Outcome) × HasSearched m c o × IsCarriedOut o old new s
 of_answer words old new s ends m c held is answer other =
     let w = did words old new s ends m held answer in
     (w.outcome, has_searched words m c w.outcome is w.due (λ r e. other r (w.carried_out.status_is ∙ e)), w.carried_out)
 
-pub classical_true : (words : List (Vec ℕ Global)) (old new : Outside) (s : Status) → Ends words old new s → (m : FileMap) (c : Classical) → old.held ≡ Some m → IsClassical words c → ClassicalIsTrue m c old new s
+pub classical_true : (words : List (Vec ℕ Global)) (old new : Outside) (s : Status) → Ends words old new s → (m : FileMap) (c : Asked) → old.held ≡ Some m → IsCall verbs.Classical words c → ClassicalIsTrue m c old new s
 classical_true words old new s ends m c held is = record {
   done = λ done. let x = of_answer words old new s ends m c held is (subst IsAnswer (sym done) tt) (λ r e. absurd (let f = sym done ∙ e in cc)) in is_solved m c x.0 x.1 old new s x.2 done;
   negative = λ negative. let x = of_answer words old new s ends m c held is (subst IsAnswer (sym negative) tt) (λ r e. absurd (let f = sym negative ∙ e in cc)) in has_none m c x.0 x.1 old new s x.2 negative;

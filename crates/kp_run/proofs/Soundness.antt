@@ -1,5 +1,5 @@
 -- What a run that ended with Done put is sound.
-use Rattle.std.proofs.Common.{◌≡◌, ◌≢◌, ℕ, cond, List, ◌∷◌, Some, Vec, sym, ap, subst, ◌∙◌}
+use Rattle.std.proofs.Common.{◌≡◌, ◌≢◌, ℕ, cond, List, Some, Vec, sym, ap, subst, ◌∙◌}
 use Rattle.std.proofs.lemmas.Bool.{false_from_ne_true}
 use Rattle.std.proofs.lemmas.Map.Text.{is_eq-slice_cmp}
 use Rattle.std.specs.Cmp.Lexicographic.{nat_list_cmp_total}
@@ -28,17 +28,19 @@ use Rattle.kp_run_prepare.specs.Refusing.{refuses}
 use Rattle.kp_run_prepare.specs.Prepared.{usual, IsPrepared, by_texts, by_trees, early, later}
 use Rattle.kp_run_prepare.proofs.Public.{problem_of_trees}
 use Rattle.kp_base.specs.declared.refused.Refused.{Refused}
-use Rattle.kp_run_messages.specs.Refusals.{Named, nothing}
+use Rattle.kp_run_messages.specs.Refusals.{Nameable, nothing}
 use Rattle.kp_run_outcome.specs.declared.outcome.Outcome.{Outcome}
 use Rattle.kp_run_outcome.specs.declared.status.Status.{Status}
 use Rattle.kp_run_outcome.specs.declared.status.Status.TheVariants as status
 use Rattle.kp_run_outcome.specs.Ends.{Outside, AreHeld, with_files, whole, put_failed, put_no_memory, print_failed, print_no_memory}
-use Rattle.kp_words.specs.Names.{Translate}
-use Rattle.kp_words.specs.declared.lent.CommandRef.TheVariants as commands
-use Rattle.kp_words.specs.Command.{IsTranslate, inputs_of}
+use Rattle.kp_words.specs.Asked.{Asked, source_of}
+use Rattle.kp_words.specs.declared.verb.Verb.TheVariants as verbs
+use Rattle.kp_words.specs.Command.{IsCall, file_of, if_named}
+use Rattle.kp_words.proofs.Public.{translate_outputs_differ}
 use Rattle.kp_run_inputs.specs.SourceTables.{HasTable, no_table, with_table}
 use Rattle.kp_run_inputs.proofs.Public.{table_of_source_is_for_trees}
-use Rattle.kp_run.specs.Outcomes.{translates, TranslatesGround, over as when_over, done as when_done, TranslatesTrees, TranslatesTexts, IsDue}
+use Rattle.kp_run.specs.Translate.{translates, TranslatesGround, over as when_over, done as when_done, TranslatesTrees, TranslatesTexts}
+use Rattle.kp_run.specs.Outcomes.{IsDue}
 use Rattle.kp_run.specs.Ends.{Ends, came, read_failed, no_memory}
 use Rattle.kp_run.specs.Soundness.{IsSound}
 use Rattle.kp_run.proofs.Comes.{due_makes}
@@ -58,40 +60,40 @@ under_another m name other content apart =
 -- ---- the result
 
 -- what a ground problem is translated to, if that is Done
-pub record IsGroundDone (c : Translate) (g : Ground) (i : Initial) (table : TagTable) (o : Outcome) : Type 0 where
+pub record IsGroundDone (c : Asked) (g : Ground) (i : Initial) (table : TagTable) (o : Outcome) : Type 0 where
   pub uncovered : List Lit
   pub fits : FitsLimits (task_of g table) usual
   pub are_uncovered : AreUncovered g i table uncovered
   pub outcome : o ≡ translates c g table uncovered
 
 -- what Done says of two texts: they are translated with a table for their trees
-pub record IsDone (c : Translate) (domain problem : List ℕ) (merges : List (List ℕ)) (o : Outcome) : Type 0 where
+pub record IsDone (c : Asked) (domain problem : List ℕ) (merges : List (List ℕ)) (o : Outcome) : Type 0 where
   pub first : Domain Word
   pub second : Problem Word
   pub trees : HaveTrees domain problem first second
   pub prepared : IsPrepared c.implicates first second
   pub table : TagTable
-  pub has_table : HasTable (ground_of first second) (initial_of first second) c.source merges table
+  pub has_table : HasTable (ground_of first second) (initial_of first second) (source_of c) merges table
   pub ground : IsGroundDone c (ground_of first second) (initial_of first second) table o
 
-refusal_not_done : (o : Outcome) (n : Named) (r : Refused) → o ≡ refuses n r → o.status ≡ status.Done → ⊥
+refusal_not_done : (o : Outcome) (n : Nameable) (r : Refused) → o ≡ refuses n r → o.status ≡ status.Done → ⊥
 refusal_not_done o n r is e = absurd (let f : status.Refused r ≡ status.Done = sym (ap (λ (z : Outcome). z.status) is) ∙ e in cc)
 
-ground_done : (c : Translate) (g : Ground) (i : Initial) (table : TagTable) (o : Outcome) → TranslatesGround c g i table o → o.status ≡ status.Done → IsGroundDone c g i table o
+ground_done : (c : Asked) (g : Ground) (i : Initial) (table : TagTable) (o : Outcome) → TranslatesGround c g i table o → o.status ≡ status.Done → IsGroundDone c g i table o
 ground_done c g i table o (when_over r t is) e = absurd (refusal_not_done o nothing r is e)
 ground_done c g i table o (when_done ls f are is) e = record { uncovered = ls; fits = f; are_uncovered = are; outcome = is }
 
 -- what two trees are translated to, if that is Done
-record IsTranslated (c : Translate) (merges : List (List ℕ)) (d : Domain Word) (p : Problem Word) (o : Outcome) : Type 0 where
+record IsTranslated (c : Asked) (merges : List (List ℕ)) (d : Domain Word) (p : Problem Word) (o : Outcome) : Type 0 where
   table : TagTable
-  has_table : HasTable (ground_of d p) (initial_of d p) c.source merges table
+  has_table : HasTable (ground_of d p) (initial_of d p) (source_of c) merges table
   ground : IsGroundDone c (ground_of d p) (initial_of d p) table o
 
-trees_done : (c : Translate) (merges : List (List ℕ)) (d : Domain Word) (p : Problem Word) (o : Outcome) → TranslatesTrees c merges d p o → o.status ≡ status.Done → IsTranslated c merges d p o
+trees_done : (c : Asked) (merges : List (List ℕ)) (d : Domain Word) (p : Problem Word) (o : Outcome) → TranslatesTrees c merges d p o → o.status ≡ status.Done → IsTranslated c merges d p o
 trees_done c merges d p o (no_table names r why is) e = absurd (refusal_not_done o names r is e)
 trees_done c merges d p o (with_table table has h) e = record { table = table; has_table = has; ground = ground_done c (ground_of d p) (initial_of d p) table o h e }
 
-pub is_done : (c : Translate) (x y : List ℕ) (merges : List (List ℕ)) (o : Outcome) → TranslatesTexts c x y merges o → o.status ≡ status.Done → IsDone c x y merges o
+pub is_done : (c : Asked) (x y : List ℕ) (merges : List (List ℕ)) (o : Outcome) → TranslatesTexts c x y merges o → o.status ≡ status.Done → IsDone c x y merges o
 is_done c x y merges o (early (by_texts r a is)) e = absurd (refusal_not_done o nothing r is e)
 is_done c x y merges o (early (by_trees d p names r h a is)) e = absurd (refusal_not_done o names r is e)
 is_done c x y merges o (later d p h ready goes) e =
@@ -99,23 +101,21 @@ is_done c x y merges o (later d p h ready goes) e =
     record { first = d; second = p; trees = h; prepared = ready; table = t.table; has_table = t.has_table; ground = t.ground }
 
 -- both texts are held
-pub record AreBoth (m : FileMap) (c : Translate) (o : Outcome) : Type 0 where
+pub record AreBoth (m : FileMap) (c : Asked) (o : Outcome) : Type 0 where
   pub domain : List ℕ
   pub problem : List ℕ
   pub merges : List (List ℕ)
   pub domain_held : get m c.domain ≡ Some domain
   pub problem_held : get m c.problem ≡ Some problem
-  pub all_held : AreHeld (Some m) (inputs_of (commands.Translate c)) (domain ∷ problem ∷ merges)
+  pub merges_held : AreHeld (Some m) (if_named (file_of (source_of c))) merges
   pub texts : TranslatesTexts c domain problem merges o
 
-pub both_held : (words : List (Vec ℕ Global)) (m : FileMap) (c : Translate) (o : Outcome) → IsTranslate words c → IsDue words (Some m) o → AreBoth m c o
+pub both_held : (words : List (Vec ℕ Global)) (m : FileMap) (c : Asked) (o : Outcome) → IsCall verbs.Translate words c → IsDue words (Some m) o → AreBoth m c o
 both_held words m c o is due =
-    let it = due_makes words (Some m) (commands.Translate c) o is due in
-    let made = it.makes in
-    let there : AreHeld (Some m) (inputs_of (commands.Translate c)) (made.0 ∷ made.1 ∷ made.2) = subst (AreHeld (Some m) (inputs_of (commands.Translate c))) made.3 it.are_held in
-    record { domain = made.0; problem = made.1; merges = made.2; domain_held = cc there; problem_held = cc there; all_held = there; texts = made.4 }
+    let it = due_makes words (Some m) verbs.Translate c o is due in
+    record { domain = it.contents.domain; problem = it.contents.problem; merges = it.contents.merges; domain_held = it.are.domain; problem_held = it.are.problem; merges_held = it.are.merges; texts = it.makes }
 
-module _ (before after : FileMap) (c : Translate) (o : Outcome) (apart : c.domain_out ≢ c.problem_out) (both : AreBoth before c o) (done : o.status ≡ status.Done) (puts : Some after ≡ with_files (Some before) o.puts) where
+module _ (before after : FileMap) (c : Asked) (o : Outcome) (apart : c.domain_out ≢ c.problem_out) (both : AreBoth before c o) (done : o.status ≡ status.Done) (puts : Some after ≡ with_files (Some before) o.puts) where
   pub all_done : IsDone c both.domain both.problem both.merges o
   all_done = is_done c both.domain both.problem both.merges o both.texts done
 
@@ -129,7 +129,7 @@ module _ (before after : FileMap) (c : Translate) (o : Outcome) (apart : c.domai
   written = translation_of d p all_done.table
 
   pub is_table : IsTableFor d p all_done.table
-  is_table = table_of_source_is_for_trees d p c.source both.merges all_done.table all_done.prepared.started.small all_done.ground.fits all_done.has_table
+  is_table = table_of_source_is_for_trees d p (source_of c) both.merges all_done.table all_done.prepared.started.small all_done.ground.fits all_done.has_table
 
   has : HasProblem both.domain both.problem
   has = problem_of_trees both.domain both.problem d p all_done.trees
@@ -155,7 +155,7 @@ module _ (before after : FileMap) (c : Translate) (o : Outcome) (apart : c.domai
     has_problem = has;
     initial_state = all_done.prepared.started.initial;
     no_clash = all_done.prepared.clash_free;
-    merges = record { merges = both.merges; merges_held = (let h = both.all_held in cc); table = all_done.table; has_table = all_done.has_table; valid = is_table.valid };
+    merges = record { merges = both.merges; merges_held = both.merges_held; table = all_done.table; has_table = all_done.has_table; valid = is_table.valid };
     domain_put = first_put;
     problem_put = second_put;
     plans = translations_are_sound both.domain both.problem has all_done.table is_table (no_clash_under_exclusive_pairs (ground_of d p) (initial_of d p) all_done.prepared.clash_free);
@@ -163,10 +163,10 @@ module _ (before after : FileMap) (c : Translate) (o : Outcome) (apart : c.domai
 
 -- ---- a run that ended with Done
 
-sound_due : (words : List (Vec ℕ Global)) (before after : FileMap) (c : Translate) (o : Outcome) → IsTranslate words c → IsDue words (Some before) o → o.status ≡ status.Done → Some after ≡ with_files (Some before) o.puts → IsSound before after c
-sound_due words before after c o is due done puts = sound_outcome before after c o is.says.are_so.outputs_differ (both_held words before c o is due) done puts
+sound_due : (words : List (Vec ℕ Global)) (before after : FileMap) (c : Asked) (o : Outcome) → IsCall verbs.Translate words c → IsDue words (Some before) o → o.status ≡ status.Done → Some after ≡ with_files (Some before) o.puts → IsSound before after c
+sound_due words before after c o is due done puts = sound_outcome before after c o (translate_outputs_differ _ c is.is_command.are_words is.of_verb) (both_held words before c o is due) done puts
 
-pub sound_end : (words : List (Vec ℕ Global)) (old new : Outside) (s : Status) → Ends words old new s → (before after : FileMap) (c : Translate) → old.held ≡ Some before → new.held ≡ Some after → IsTranslate words c → s ≡ status.Done → IsSound before after c
+pub sound_end : (words : List (Vec ℕ Global)) (old new : Outside) (s : Status) → Ends words old new s → (before after : FileMap) (c : Asked) → old.held ≡ Some before → new.held ≡ Some after → IsCall verbs.Translate words c → s ≡ status.Done → IsSound before after c
 sound_end words old new s (came o due (whole same none held told)) before after c first last is done =
     sound_due words before after c o is (subst (λ m. IsDue words m o) first due) (sym same ∙ done) (sym last ∙ (held ∙ ap (λ m. with_files m o.puts) first))
 sound_end words old new s (came o due (put_failed f e a b g h i)) before after c first last is done = absurd cc

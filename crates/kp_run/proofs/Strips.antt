@@ -11,15 +11,15 @@ use Rattle.kp_run_outcome.specs.declared.outcome.Outcome.{Outcome}
 use Rattle.kp_run_outcome.specs.Printing.{prints}
 use Rattle.kp_base.specs.Files.{most_bytes}
 use Rattle.kp_plans.specs.declared.step.PlanStep.{PlanStep}
-use Rattle.kp_plans.specs.PlanFiles.{step_names, IsPlanOf, RefusesPlan}
+use Rattle.kp_plans.specs.PlanFiles.{step_names, IsPlanFile, RefusesPlan}
 use Rattle.kp_plans.specs.Printed.{plan_text}
 use Rattle.kp_plans.specs.Stripping.{AnswersStrip}
 use Rattle.kp_run_messages.specs.Refusals.{nothing}
 use Rattle.kp_run_prepare.specs.Refusing.{refuses}
-use Rattle.kp_run.specs.Outcomes.{StripsText, too_long, no_plan, no_strip, strips}
+use Rattle.kp_run.specs.Strip.{StripsText, too_long, no_plan, no_strip, strips}
 
 -- a step is refused
-pub refused_step : (text : List ℕ) (steps : List PlanStep) (r : Refused) (result : Result Outcome Memory) → length text ≤ most_bytes → IsPlanOf text steps → AnswersStrip steps (Err (stops.Refused r)) → IfOk result (λ o. o ≡ refuses nothing r) → IfOk result (StripsText text)
+pub refused_step : (text : List ℕ) (steps : List PlanStep) (r : Refused) (result : Result Outcome Memory) → length text ≤ most_bytes → IsPlanFile text steps → AnswersStrip steps (Err (stops.Refused r)) → IfOk result (λ o. o ≡ refuses nothing r) → IfOk result (StripsText text)
 refused_step text steps r (Ok o) short plan first is = no_strip steps first.0 short plan first.1.0 (is ∙ ap (refuses nothing) first.1.1)
 refused_step text steps r (Err m) short plan first is = tt
 
@@ -34,5 +34,5 @@ refused_length text (Ok o) long is = too_long long is
 refused_length text (Err m) long is = tt
 
 -- what the steps come to is printed
-pub printed_steps : (text : List ℕ) (steps : List PlanStep) (actions : List GroundName) (o : Outcome) → length text ≤ most_bytes → IsPlanOf text steps → strip (step_names steps) ≡ Some actions → o ≡ prints (plan_text actions) → StripsText text o
+pub printed_steps : (text : List ℕ) (steps : List PlanStep) (actions : List GroundName) (o : Outcome) → length text ≤ most_bytes → IsPlanFile text steps → strip (step_names steps) ≡ Some actions → o ≡ prints (plan_text actions) → StripsText text o
 printed_steps text steps actions o short plan is printed = strips steps actions short plan is printed

@@ -2,7 +2,7 @@
 use Rattle.std.proofs.Common.{◌≡◌, ℕ, List, Some, Vec, ap, subst}
 use Rattle.std.specs.declared.alloc.Global.{Global}
 use Rattle.kp_base.specs.declared.refused.Refused.{Refused}
-use Rattle.kp_run_messages.specs.Refusals.{Named}
+use Rattle.kp_run_messages.specs.Refusals.{Nameable}
 use Rattle.kp_outside.specs.Outside.{FileMap, with_bytes}
 use Rattle.kp_run_outcome.specs.declared.outcome.Outcome.{Outcome}
 use Rattle.kp_run_outcome.specs.declared.status.Status.{Status}
@@ -39,5 +39,5 @@ did words old new s (no_memory is a b) m first answer = absurd (subst IsAnswer i
 abbrev pub IsNoRefusal : Outcome → Type 0
 IsNoRefusal o = (r : Refused) → o.status ≡ status.Refused r → ⊥
 
-pub not_refused : (o : Outcome) (names : Named) (r : Refused) → o ≡ refuses names r → IsNoRefusal o → ⊥
+pub not_refused : (o : Outcome) (names : Nameable) (r : Refused) → o ≡ refuses names r → IsNoRefusal o → ⊥
 not_refused o names r is answers = answers r (ap (λ (z : Outcome). z.status) is)

@@ -15,7 +15,7 @@ use Rattle.kp_run_prepare.specs.declared.prepared.Early.TheVariants as halts
 use Rattle.kp_run_prepare.specs.Refusing.{named_in, EndsBy}
 use Rattle.kp_run_prepare.specs.Prepared.{usual}
 use Rattle.kp_run_inputs.specs.Ending.{Settles}
-use Rattle.kp_run.specs.Outcomes.{tells_width, WidthGround, no_report, with_report}
+use Rattle.kp_run.specs.Width.{tells_width, WidthGround, no_report, with_report}
 
 module _ (bound : ℕ) (g : Ground) (i j : Initial) (same : HaveSameModels i j) where
   -- there is a report

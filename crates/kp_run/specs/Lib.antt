@@ -1,3 +1,12 @@
+pub mod Contents
+pub mod Translate
+pub mod Solve
+pub mod Classical
+pub mod Strip
+pub mod Check
+pub mod Lift
+pub mod Width
+pub mod Merges
 pub mod Outcomes
 pub mod Ends
 pub mod Soundness
@@ -5,5 +14,4 @@ pub mod Completeness
 pub mod Solved
 pub mod Clauses
 pub mod CommandParts
-pub mod Sized
 pub mod Laws

@@ -24,7 +24,7 @@ use Rattle.kp_outside.specs.Outside.{FileMap, with_file, with_bytes}
 use Rattle.kp_run_outcome.specs.declared.status.Status.{Status}
 use Rattle.kp_run_outcome.specs.declared.status.Status.TheVariants as status
 use Rattle.kp_run_outcome.specs.Ends.{Outside, AreHeld}
-use Rattle.kp_words.specs.Names.{Source, Solve, Classical}
+use Rattle.kp_words.specs.Asked.{Source, Asked, source_of}
 use Rattle.kp_words.specs.Command.{file_of, if_named}
 use Rattle.kp_run_prepare.specs.Texts.{HaveTrees}
 use Rattle.kp_run_prepare.specs.Prepared.{usual, IsPrepared}
@@ -85,13 +85,13 @@ abbrev pub IsWrittenPlan : Posed → List Step → Type 0
 IsWrittenPlan x steps = IsPlan (domain_of (its_task x)) (problem_of (its_task x)) steps
 
 -- what a call to solve is about: the two files that are held, and their trees, with which it goes on; and the table that its source has for them
-pub record IsPosed (m : FileMap) (c : Solve) : Type 0 where
+pub record IsPosed (m : FileMap) (c : Asked) : Type 0 where
   pub about : Posed
   pub given : GoesOn m c.domain c.problem c.implicates about.domain_tree about.problem_tree
-  pub has_task : HasTask m c.source about.domain_tree about.problem_tree about.table
+  pub has_task : HasTask m (source_of c) about.domain_tree about.problem_tree about.table
 
 -- The lines of a plan of the two given files were told; it is the strip of a plan of the two files that `translate` writes for them, whose lines were put under the name, if one was given. Both texts read as these plans, and nothing else was told or put.
-pub record IsSolved (m : FileMap) (c : Solve) (old new : Outside) : Type 0 where
+pub record IsSolved (m : FileMap) (c : Asked) (old new : Outside) : Type 0 where
   pub posed : IsPosed m c
   pub plan : List Step
   pub written : List Step
@@ -104,7 +104,7 @@ pub record IsSolved (m : FileMap) (c : Solve) (old new : Outside) : Type 0 where
   pub put_reads : IsTextOf (plan_text written) written
 
 -- The two files that `translate` writes have no plan. This was told, with `complete` as the last line exactly where the table is complete; and then the two given files have no plan either. Nothing was put.
-pub record HasNoPlan (m : FileMap) (c : Solve) (old new : Outside) : Type 0 where
+pub record HasNoPlan (m : FileMap) (c : Asked) (old new : Outside) : Type 0 where
   pub posed : IsPosed m c
   pub uncovered : List Lit
   pub are_uncovered : AreUncovered (its_ground posed.about) (its_formula posed.about) posed.about.table uncovered
@@ -115,7 +115,7 @@ pub record HasNoPlan (m : FileMap) (c : Solve) (old new : Outside) : Type 0 wher
   pub put : new.held ≡ old.held
 
 -- The search of the task of the two files that `translate` writes expanded as many states as the budget says; so many different states that don't meet the goal can be reached there, and one more such. The budget was told, and nothing was put.
-pub record IsSpent (m : FileMap) (c : Solve) (old new : Outside) : Type 0 where
+pub record IsSpent (m : FileMap) (c : Asked) (old new : Outside) : Type 0 where
   pub posed : IsPosed m c
   pub ended : Finds (its_task posed.about) c.budget (Spent c.budget)
   pub more : HasMoreStates (its_task posed.about) c.budget
@@ -123,7 +123,7 @@ pub record IsSpent (m : FileMap) (c : Solve) (old new : Outside) : Type 0 where
   pub put : new.held ≡ old.held
 
 -- what an answer says: a plan with Done, that there is none with Negative, and more states than the budget says with Spent
-pub record SolveIsTrue (m : FileMap) (c : Solve) (old new : Outside) (s : Status) : Type 0 where
+pub record SolveIsTrue (m : FileMap) (c : Asked) (old new : Outside) (s : Status) : Type 0 where
   pub done : s ≡ status.Done → IsSolved m c old new
   pub negative : s ≡ status.Negative → HasNoPlan m c old new
   pub spent : s ≡ status.Spent → IsSpent m c old new
@@ -140,13 +140,13 @@ pub record IsHeldClassical (m : FileMap) (domain_name problem_name : List ℕ) (
   pub classical : IsClassicalProblem d p
 
 -- what a call to `classical` is about: the two files that are held, and their trees
-pub record IsPosedClassical (m : FileMap) (c : Classical) : Type 0 where
+pub record IsPosedClassical (m : FileMap) (c : Asked) : Type 0 where
   pub domain_tree : Domain Word
   pub problem_tree : Problem Word
   pub given : IsHeldClassical m c.domain c.problem domain_tree problem_tree
 
 -- the lines of a plan of the two files were told, which read as this plan, and nothing else was told or put
-pub record IsSolvedClassical (m : FileMap) (c : Classical) (old new : Outside) : Type 0 where
+pub record IsSolvedClassical (m : FileMap) (c : Asked) (old new : Outside) : Type 0 where
   pub posed : IsPosedClassical m c
   pub plan : List Step
   pub is_plan : IsPlan posed.given.domain posed.given.problem plan
@@ -155,14 +155,14 @@ pub record IsSolvedClassical (m : FileMap) (c : Classical) (old new : Outside) :
   pub put : new.held ≡ old.held
 
 -- the two files have no plan; this was told, and nothing was put
-pub record HasNoClassicalPlan (m : FileMap) (c : Classical) (old new : Outside) : Type 0 where
+pub record HasNoClassicalPlan (m : FileMap) (c : Asked) (old new : Outside) : Type 0 where
   pub posed : IsPosedClassical m c
   pub none : (steps : List Step) → IsPlan posed.given.domain posed.given.problem steps → ⊥
   pub told : Tells old new no_plan_line
   pub put : new.held ≡ old.held
 
 -- The search of their task expanded as many states as the budget says; so many different states that don't meet the goal can be reached there, and one more such. The budget was told, and nothing was put.
-pub record IsSpentClassical (m : FileMap) (c : Classical) (old new : Outside) : Type 0 where
+pub record IsSpentClassical (m : FileMap) (c : Asked) (old new : Outside) : Type 0 where
   pub posed : IsPosedClassical m c
   pub ended : Finds (classical_task posed.domain_tree posed.problem_tree) c.budget (Spent c.budget)
   pub more : HasMoreStates (classical_task posed.domain_tree posed.problem_tree) c.budget
@@ -170,7 +170,7 @@ pub record IsSpentClassical (m : FileMap) (c : Classical) (old new : Outside) : 
   pub put : new.held ≡ old.held
 
 -- what an answer says, likewise
-pub record ClassicalIsTrue (m : FileMap) (c : Classical) (old new : Outside) (s : Status) : Type 0 where
+pub record ClassicalIsTrue (m : FileMap) (c : Asked) (old new : Outside) (s : Status) : Type 0 where
   pub done : s ≡ status.Done → IsSolvedClassical m c old new
   pub negative : s ≡ status.Negative → HasNoClassicalPlan m c old new
   pub spent : s ≡ status.Spent → IsSpentClassical m c old new

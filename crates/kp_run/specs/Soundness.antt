@@ -12,7 +12,7 @@ use Rattle.kp_law_translation.specs.OfTrees.{ground_of, initial_of}
 use Rattle.kp_outside.specs.Outside.{FileMap}
 use Rattle.kp_run_outcome.specs.Ends.{AreHeld}
 use Rattle.kp_run_inputs.specs.SourceTables.{HasTable}
-use Rattle.kp_words.specs.Names.{Source, Translate}
+use Rattle.kp_words.specs.Asked.{Source, Asked, source_of}
 use Rattle.kp_words.specs.Command.{file_of, if_named}
 
 -- a source has a table for two trees, on the text of its file of merges if it names one; and each merge of the table is valid
@@ -24,7 +24,7 @@ pub record HasValidMerges (before : FileMap) (source : Source) (d : Domain Word)
   pub valid : AreValid (initial_of d p) table
 
 -- Before the command the two input names hold a domain and a problem with at least one initial state, in which no action clashes, and every merge of the source is valid. After it the two output names hold files of which each plan strips to a plan of the input files.
-pub record IsSound (before after : FileMap) (c : Translate) : Type 0 where
+pub record IsSound (before after : FileMap) (c : Asked) : Type 0 where
   pub domain : List ℕ
   pub problem : List ℕ
   pub domain_out : List ℕ
@@ -34,7 +34,7 @@ pub record IsSound (before after : FileMap) (c : Translate) : Type 0 where
   pub has_problem : HasProblem domain problem
   pub initial_state : HasInitialState has_problem.problem
   pub no_clash : IsClashFree (ground_of has_problem.domain has_problem.problem) (initial_of has_problem.domain has_problem.problem)
-  pub merges : HasValidMerges before c.source has_problem.domain has_problem.problem
+  pub merges : HasValidMerges before (source_of c) has_problem.domain has_problem.problem
   pub domain_put : get after c.domain_out ≡ Some domain_out
   pub problem_put : get after c.problem_out ≡ Some problem_out
   pub plans : PlansStrip domain_out problem_out domain problem

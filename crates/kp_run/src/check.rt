@@ -1,16 +1,21 @@
-ghost use Rattle.std.specs.Prelude.{◌≡◌, ◌<◌, Some, List, ℕ, true, nat_lt, codes, IfOk, length};
+ghost use Rattle.std.specs.Prelude.{◌≡◌, ◌<◌, Some, List, ℕ, true, nat_lt, codes, IfOk, length, Option as Maybe};
 ghost use Rattle.std.specs.List.{list_all};
 ghost use Rattle.kp_base.specs.declared.ground.Initial.{Initial as Formula};
 ghost use Rattle.kp_base.specs.Entailed.{HaveSameModels};
 ghost use Rattle.kp_base.specs.Files.{most_bytes};
-ghost use Rattle.kp_outside.specs.Outside.{IsFront, IsWithin};
+ghost use Rattle.kp_outside.specs.Outside.{IsFront, IsWithin, FileMap};
 ghost use Rattle.kp_primes.specs.Held.{formula};
 ghost use Rattle.kp_run_prepare.specs.Prepared.{IsUsable};
 ghost use Rattle.kp_run_inputs.specs.Actions.{ComesByPlan};
 ghost use Rattle.kp_run_messages.specs.Counterexamples.{counterexample_text};
 ghost use Rattle.kp_run_outcome.specs.Printing.{prints, denies};
-ghost use Rattle.kp_run.specs.Outcomes.{tells, TellsJudged, ChecksTexts};
+ghost use Rattle.kp_run.specs.Check.{tells, TellsJudged};
+ghost use Rattle.kp_run.specs.CommandParts.{AreInputs, IsReadOf};
+ghost use Rattle.kp_run.specs.Contents.{Contents, AreContents};
+ghost use Rattle.kp_run.specs.Outcomes.{ComesBy};
+ghost use Rattle.kp_words.specs.declared.verb.Verb.TheVariants as verbs;
 
+use crate::inputs::Inputs;
 use crate::outcomes::{failing, print_text};
 use kp_base::{AtomId, Ground, Lit, Memory, Row};
 use kp_check::{Judged, check};
@@ -19,7 +24,7 @@ use kp_run_inputs::{actions_of, settle};
 use kp_run_messages::counterexample;
 use kp_run_outcome::{Outcome, Status};
 use kp_run_prepare::{Prepared, prepare};
-use kp_words::Check;
+use kp_words::Asked;
 use std::alloc::Global;
 
 // `yes` is printed.
@@ -84,20 +89,21 @@ fn check_plan(alloc: Global, prepared: &Prepared, plan: Got) -> Result<Outcome, 
     }
 }
 
-/// What a check comes to on the contents of its three files, at most 16,777,216 bytes of each of which were read.
-pub fn check_texts(
-    alloc: Global,
-    command: &Check<'_>,
-    domain: Got,
-    problem: Got,
-    plan: Got,
-) -> Result<Outcome, Memory>
-    requires domain { IsWithin most_bytes domain }
-    requires problem { IsWithin most_bytes problem }
-    requires plan { IsWithin most_bytes plan }
-    ensures { (d p t : List ℕ) → IsFront (Some d) most_bytes domain → IsFront (Some p) most_bytes problem → IsFront (Some t) most_bytes plan → IfOk result (ChecksTexts command.now d p t) }
+/// What a check comes to on what was read of its files.
+pub fn check_on(alloc: Global, asked: &Asked<'_>, inputs: Inputs) -> Result<Outcome, Memory>
+    requires { (held : Maybe FileMap) × IsReadOf held verbs.Check asked.now inputs }
+    ensures { (held : Maybe FileMap) (t : Contents) → AreContents held verbs.Check asked.now t → AreInputs t inputs → IfOk result (ComesBy verbs.Check asked.now t) }
 {
-    match prepare(alloc, command.implicates, domain, problem) {
+    let Inputs {
+        domain,
+        problem,
+        merges,
+        plan,
+        written,
+    } = inputs;
+    drop(merges);
+    drop(written);
+    match prepare(alloc, asked.implicates, domain, problem) {
         Ok(prepared) => check_plan(alloc, &prepared, plan),
         Err(early) => settle(early),
     }

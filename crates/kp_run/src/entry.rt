@@ -1,267 +1,107 @@
-ghost use Rattle.std.specs.Prelude.{◌≡◌, ℕ, List, [], ◌∷◌, ◌++◌, Option, IfOk};
+ghost use Rattle.std.specs.Prelude.{◌≡◌, ℕ, List, map, Option, IfOk, Vec as Vector};
+ghost use Rattle.std.specs.declared.alloc.Global.{Global as Alloc};
 ghost use Rattle.kp_outside.specs.Outside.{FileMap};
-ghost use Rattle.kp_run_outcome.specs.declared.status.Status.TheVariants as status;
-ghost use Rattle.kp_run_outcome.specs.Ends.{over, AreHeld, AreFronts, AreRead, GetFails, OnlyReads};
-ghost use Rattle.kp_words.specs.declared.lent.CommandRef.TheVariants as commands;
-ghost use Rattle.kp_words.specs.Names.{of_mode, of_file, source_view};
-ghost use Rattle.kp_words.specs.Command.{file_of, if_named, inputs_of};
+ghost use Rattle.kp_run_outcome.specs.Ends.{over, GetFails, OnlyReads};
+ghost use Rattle.kp_words.specs.declared.verb.Verb.TheVariants as verbs;
+ghost use Rattle.kp_words_options.specs.Texts.{texts as texts_of};
+ghost use Rattle.kp_words.specs.Command.{AreUtf8, inputs_of};
 ghost use Rattle.kp_words.specs.Options.{IsOfRange};
-ghost use Rattle.kp_words.specs.Owned.{command_view};
-ghost use Rattle.kp_run.specs.Outcomes.{ComesTo, IsDue};
-ghost use Rattle.kp_run.specs.Sized.{IsSized};
+ghost use Rattle.kp_run_bench.specs.Bench.{Benches};
+ghost use Rattle.kp_run.specs.Contents.{Contents, AreContents};
+ghost use Rattle.kp_run.specs.CommandParts.{AreInputs, IsReadOf};
+ghost use Rattle.kp_run.specs.Outcomes.{ComesBy, ComesTo, IsDue};
 ghost use Rattle.kp_run.specs.Ends.{Ends, InputFails};
 ghost use Rattle.kp_run.specs.Clauses.{IsSoundRun, IsCompleteRun, IsSolveRun, IsClassicalRun};
 
-use crate::check::check_texts;
-use crate::classical::classical_texts;
-use crate::lift::lift_texts;
-use crate::merges::merges_of_texts;
+use crate::check::check_on;
+use crate::classical::classical_on;
+use crate::inputs::Inputs;
+use crate::lift::lift_on;
+use crate::merges::merges_on;
 use crate::outcomes::usage_outcome;
-use crate::solve::solve_texts;
-use crate::sourced::{four_of, one_of, taken_apart, three_of, two_of};
-use crate::strip::strip_text;
-use crate::translate::translate_texts;
-use crate::width::width_of_texts;
-use kp_base::{Memory, Mode, Row};
-use kp_outside::{Got, OutsideStop, Shelf, Sink};
+use crate::solve::solve_on;
+use crate::strip::strip_on;
+use crate::translate::translate_on;
+use crate::width::width_on;
+use kp_base::Memory;
+use kp_outside::{OutsideStop, Shelf, Sink};
 use kp_run_bench::bench;
-use kp_run_inputs::Origin;
 use kp_run_outcome::{Outcome, Status, carry_out, read_inputs, stopped};
-use kp_words::{
-    Bench, Check, Classical, Command, CommandRef, Lift, Merges, Solve, SourceRef, Strip, Translate,
-    Width, WordStop, command,
-};
+use kp_words::{Asked, Verb, WordStop, as_texts, asked_by};
 use std::alloc::Global;
 
-// Reads a domain and a problem.
-fn read_two<S: Shelf>(
-    alloc: Global,
-    domain: &[u8],
-    problem: &[u8],
-    shelf: &mut S,
-) -> Result<Row<Got>, OutsideStop>
-    ensures read { IfOk result (AreRead (S.contents shelf.old) (domain.now ∷ problem.now ∷ [])) }
-    ensures only { OnlyReads S.Shelf shelf.old shelf.new (GetFails (domain.now ∷ problem.now ∷ [])) result }
-{
-    read_inputs(alloc, &[domain, problem], shelf)
-}
-
-// Reads a domain, a problem and the file of merges, if there is one.
-fn read_sourced<S: Shelf>(
-    alloc: Global,
-    domain: &[u8],
-    problem: &[u8],
-    source: SourceRef<'_>,
-    shelf: &mut S,
-) -> Result<Row<Got>, OutsideStop>
-    ensures read { IfOk result (AreRead (S.contents shelf.old) (domain.now ∷ problem.now ∷ if_named (file_of (source_view source.entry)))) }
-    ensures only { OnlyReads S.Shelf shelf.old shelf.new (GetFails (domain.now ∷ problem.now ∷ if_named (file_of (source_view source.entry)))) result }
-{
-    match source {
-        SourceRef::File(merges) => read_inputs(alloc, &[domain, problem, merges], shelf),
-        SourceRef::Mode(_) => read_two(alloc, domain, problem, shelf),
-    }
-}
-
-// Reads the three or four files that a lift names.
-fn read_lift<S: Shelf>(
-    alloc: Global,
-    named: &Lift<'_>,
-    shelf: &mut S,
-) -> Result<Row<Got>, OutsideStop>
-    ensures read { IfOk result (AreRead (S.contents shelf.old) (named.now.domain ∷ named.now.problem ∷ (if_named (file_of named.now.source) ++ named.now.plan ∷ []))) }
-    ensures only { OnlyReads S.Shelf shelf.old shelf.new (GetFails (named.now.domain ∷ named.now.problem ∷ (if_named (file_of named.now.source) ++ named.now.plan ∷ []))) result }
-{
-    let (domain, problem, plan) = (named.domain, named.problem, named.plan);
-    match named.source {
-        SourceRef::File(merges) => read_inputs(alloc, &[domain, problem, merges, plan], shelf),
-        SourceRef::Mode(_) => read_inputs(alloc, &[domain, problem, plan], shelf),
-    }
-}
-
 // Reads the files that a command names, in order.
-fn read<S: Shelf>(
-    alloc: Global,
-    command: &CommandRef<'_>,
-    shelf: &mut S,
-) -> Result<Row<Got>, OutsideStop>
-    ensures read { IfOk result (AreRead (S.contents shelf.old) (inputs_of command.now)) }
-    ensures only { OnlyReads S.Shelf shelf.old shelf.new (GetFails (inputs_of command.now)) result }
+fn read<S: Shelf>(alloc: Global, asked: &Asked<'_>, shelf: &mut S) -> Result<Inputs, OutsideStop>
+    ensures read { IfOk result (IsReadOf (S.contents shelf.old) asked.now.verb asked.now) }
+    ensures only { OnlyReads S.Shelf shelf.old shelf.new (GetFails (inputs_of asked.now)) result }
 {
-    match command {
-        CommandRef::Translate(named) => {
-            read_sourced(alloc, named.domain, named.problem, named.source, shelf)
-        }
-        CommandRef::Merges(named) => read_two(alloc, named.domain, named.problem, shelf),
-        CommandRef::Strip(named) => read_inputs(alloc, &[named.plan], shelf),
-        CommandRef::Check(named) => {
-            read_inputs(alloc, &[named.domain, named.problem, named.plan], shelf)
-        }
-        CommandRef::Lift(named) => read_lift(alloc, named, shelf),
-        CommandRef::Solve(named) => {
-            read_sourced(alloc, named.domain, named.problem, named.source, shelf)
-        }
-        CommandRef::Classical(named) => read_two(alloc, named.domain, named.problem, shelf),
-        CommandRef::Width(named) => read_two(alloc, named.domain, named.problem, shelf),
-        CommandRef::Bench(_) => read_inputs(alloc, &[], shelf),
+    let names = asked.inputs(alloc)?;
+    let gots = read_inputs(alloc, names.as_slice(), shelf);
+    drop(names);
+    match gots {
+        Ok(gots) => Ok(Inputs::of(alloc, asked, gots)),
+        Err(stop) => Err(stop),
     }
-}
-
-// What a translation comes to on what was read of its files.
-fn translate_gots(alloc: Global, named: &Translate<'_>, gots: Row<Got>) -> Result<Outcome, Memory>
-    requires { (held : Option FileMap) × AreRead held (named.now.domain ∷ named.now.problem ∷ if_named (file_of named.now.source)) gots }
-    ensures { (texts : List (List ℕ)) → AreFronts texts gots → IfOk result (ComesTo (commands.Translate named.now) texts) }
-{
-    let given = taken_apart(named.source, gots);
-    translate_texts(alloc, named, given.domain, given.problem, given.origin)
-}
-
-// What a lift in a mode comes to on what was read of its three files.
-fn lift_mode_gots(
-    alloc: Global,
-    named: &Lift<'_>,
-    mode: Mode,
-    gots: Row<Got>,
-) -> Result<Outcome, Memory>
-    requires mode { named.now.source ≡ of_mode mode }
-    requires read { (held : Option FileMap) × AreRead held (named.now.domain ∷ named.now.problem ∷ named.now.plan ∷ []) gots }
-    ensures { (texts : List (List ℕ)) → AreFronts texts gots → IfOk result (ComesTo (commands.Lift named.now) texts) }
-{
-    let (domain, problem, plan) = three_of(gots);
-    lift_texts(alloc, named, domain, problem, Origin::Mode(mode), plan)
-}
-
-// What a lift with merges comes to on what was read of its four files.
-fn lift_merged_gots(alloc: Global, named: &Lift<'_>, gots: Row<Got>) -> Result<Outcome, Memory>
-    requires file { (name : List ℕ) × (named.now.source ≡ of_file name) }
-    requires read { (held : Option FileMap) × (merges : List ℕ) × AreRead held (named.now.domain ∷ named.now.problem ∷ merges ∷ named.now.plan ∷ []) gots }
-    ensures { (texts : List (List ℕ)) → AreFronts texts gots → IfOk result (ComesTo (commands.Lift named.now) texts) }
-{
-    let (domain, problem, merges, plan) = four_of(gots);
-    lift_texts(alloc, named, domain, problem, Origin::Merges(merges), plan)
-}
-
-// What a lift comes to on what was read of its files.
-fn lift_gots(alloc: Global, named: &Lift<'_>, gots: Row<Got>) -> Result<Outcome, Memory>
-    requires { (held : Option FileMap) × AreRead held (named.now.domain ∷ named.now.problem ∷ (if_named (file_of named.now.source) ++ named.now.plan ∷ [])) gots }
-    ensures { (texts : List (List ℕ)) → AreFronts texts gots → IfOk result (ComesTo (commands.Lift named.now) texts) }
-{
-    match named.source {
-        SourceRef::File(_) => lift_merged_gots(alloc, named, gots),
-        SourceRef::Mode(mode) => lift_mode_gots(alloc, named, mode, gots),
-    }
-}
-
-// What a call for merges comes to on what was read of its two files.
-fn merges_gots(alloc: Global, named: &Merges<'_>, gots: Row<Got>) -> Result<Outcome, Memory>
-    requires { (held : Option FileMap) × AreRead held (named.now.domain ∷ named.now.problem ∷ []) gots }
-    ensures { (texts : List (List ℕ)) → AreFronts texts gots → IfOk result (ComesTo (commands.Merges named.now) texts) }
-{
-    let (domain, problem) = two_of(gots);
-    merges_of_texts(alloc, named, domain, problem)
-}
-
-// What a strip comes to on what was read of its file.
-fn strip_gots(alloc: Global, named: &Strip<'_>, gots: Row<Got>) -> Result<Outcome, Memory>
-    requires { (held : Option FileMap) × AreRead held (named.now.plan ∷ []) gots }
-    ensures { (texts : List (List ℕ)) → AreFronts texts gots → IfOk result (ComesTo (commands.Strip named.now) texts) }
-{
-    let _ = named;
-    strip_text(alloc, one_of(gots))
-}
-
-// What a check comes to on what was read of its three files.
-fn check_gots(alloc: Global, named: &Check<'_>, gots: Row<Got>) -> Result<Outcome, Memory>
-    requires { (held : Option FileMap) × AreRead held (named.now.domain ∷ named.now.problem ∷ named.now.plan ∷ []) gots }
-    ensures { (texts : List (List ℕ)) → AreFronts texts gots → IfOk result (ComesTo (commands.Check named.now) texts) }
-{
-    let (domain, problem, plan) = three_of(gots);
-    check_texts(alloc, named, domain, problem, plan)
-}
-
-// What a call to solve comes to on what was read of its files.
-fn solve_gots(alloc: Global, named: &Solve<'_>, gots: Row<Got>) -> Result<Outcome, Memory>
-    requires { (held : Option FileMap) × AreRead held (named.now.domain ∷ named.now.problem ∷ if_named (file_of named.now.source)) gots }
-    ensures { (texts : List (List ℕ)) → AreFronts texts gots → IfOk result (ComesTo (commands.Solve named.now) texts) }
-{
-    let given = taken_apart(named.source, gots);
-    solve_texts(alloc, named, given.domain, given.problem, given.origin)
-}
-
-// What a call to solve two classical files comes to on what was read of them.
-fn classical_gots(alloc: Global, named: &Classical<'_>, gots: Row<Got>) -> Result<Outcome, Memory>
-    requires { (held : Option FileMap) × AreRead held (named.now.domain ∷ named.now.problem ∷ []) gots }
-    ensures { (texts : List (List ℕ)) → AreFronts texts gots → IfOk result (ComesTo (commands.Classical named.now) texts) }
-{
-    let (domain, problem) = two_of(gots);
-    classical_texts(alloc, named, domain, problem)
-}
-
-// What a call for the width comes to on what was read of its two files.
-fn width_gots(alloc: Global, named: &Width<'_>, gots: Row<Got>) -> Result<Outcome, Memory>
-    requires { (held : Option FileMap) × AreRead held (named.now.domain ∷ named.now.problem ∷ []) gots }
-    ensures { (texts : List (List ℕ)) → AreFronts texts gots → IfOk result (ComesTo (commands.Width named.now) texts) }
-{
-    let (domain, problem) = two_of(gots);
-    width_of_texts(alloc, named, domain, problem)
 }
 
 // What a run on a generated problem comes to, for which no file is read.
-fn bench_gots(alloc: Global, asked: &Bench, gots: Row<Got>) -> Result<Outcome, Memory>
-    requires size { IsOfRange 2 100 asked.now.n }
-    requires read { (held : Option FileMap) × AreRead held [] gots }
-    ensures { (texts : List (List ℕ)) → AreFronts texts gots → IfOk result (ComesTo (commands.Bench asked.now) texts) }
+fn bench_on(alloc: Global, asked: &Asked<'_>, inputs: Inputs) -> Result<Outcome, Memory>
+    requires { IsOfRange 2 100 asked.now.size }
+    ensures { IfOk result (Benches asked.now) }
 {
-    drop(gots);
+    drop(inputs);
     bench(alloc, asked)
 }
 
-// What a command comes to on what was read of its input files.
-fn outcome_of(alloc: Global, command: &CommandRef<'_>, gots: Row<Got>) -> Result<Outcome, Memory>
-    requires size { IsSized command.now }
-    requires read { (held : Option FileMap) × AreRead held (inputs_of command.now) gots }
-    ensures { (texts : List (List ℕ)) → AreFronts texts gots → IfOk result (ComesTo command.now texts) }
+// What a command of this verb comes to on what was read of its input files.
+fn outcome_by(
+    alloc: Global,
+    verb: Verb,
+    asked: &Asked<'_>,
+    inputs: Inputs,
+) -> Result<Outcome, Memory>
+    requires size { verb ≡ verbs.Bench → IsOfRange 2 100 asked.now.size }
+    requires read { (held : Option FileMap) × IsReadOf held verb asked.now inputs }
+    ensures { (held : Option FileMap) (t : Contents) → AreContents held verb asked.now t → AreInputs t inputs → IfOk result (ComesBy verb asked.now t) }
 {
-    match command {
-        CommandRef::Translate(named) => translate_gots(alloc, named, gots),
-        CommandRef::Merges(named) => merges_gots(alloc, named, gots),
-        CommandRef::Strip(named) => strip_gots(alloc, named, gots),
-        CommandRef::Check(named) => check_gots(alloc, named, gots),
-        CommandRef::Lift(named) => lift_gots(alloc, named, gots),
-        CommandRef::Solve(named) => solve_gots(alloc, named, gots),
-        CommandRef::Classical(named) => classical_gots(alloc, named, gots),
-        CommandRef::Width(named) => width_gots(alloc, named, gots),
-        CommandRef::Bench(asked) => bench_gots(alloc, asked, gots),
+    match verb {
+        Verb::Translate => translate_on(alloc, asked, inputs),
+        Verb::Solve => solve_on(alloc, asked, inputs),
+        Verb::Classical => classical_on(alloc, asked, inputs),
+        Verb::Strip => strip_on(alloc, asked, inputs),
+        Verb::Lift => lift_on(alloc, asked, inputs),
+        Verb::Check => check_on(alloc, asked, inputs),
+        Verb::Width => width_on(alloc, asked, inputs),
+        Verb::Merges => merges_on(alloc, asked, inputs),
+        Verb::Bench => bench_on(alloc, asked, inputs),
     }
 }
 
 // What a command comes to. At `Err` a read failed, or memory ran out.
 fn come_to<S: Shelf>(
     alloc: Global,
-    command: &CommandRef<'_>,
+    asked: &Asked<'_>,
     shelf: &mut S,
 ) -> Result<Outcome, OutsideStop>
-    requires { IsSized command.now }
-    ensures comes_to { IfOk result (λ o. (texts : List (List ℕ)) × AreHeld (S.contents shelf.old) (inputs_of command.now) texts × ComesTo command.now texts o) }
-    ensures only { OnlyReads S.Shelf shelf.old shelf.new (GetFails (inputs_of command.now)) result }
+    requires { asked.now.verb ≡ verbs.Bench → IsOfRange 2 100 asked.now.size }
+    ensures comes_to { IfOk result (λ o. (t : Contents) × AreContents (S.contents shelf.old) asked.now.verb asked.now t × ComesTo asked.now t o) }
+    ensures only { OnlyReads S.Shelf shelf.old shelf.new (GetFails (inputs_of asked.now)) result }
 {
-    let gots = read(alloc, command, shelf)?;
-    Ok(outcome_of(alloc, command, gots)?)
+    let inputs = read(alloc, asked, shelf)?;
+    let outcome = outcome_by(alloc, asked.verb, asked, inputs)?;
+    Ok(outcome)
 }
 
-// What a command that owns its names comes to. At `Err` a read failed, or memory ran out.
-fn come_to_owned<S: Shelf>(
-    alloc: Global,
-    command: Command,
-    shelf: &mut S,
-) -> Result<Outcome, OutsideStop>
-    requires { IsSized (command_view command) }
-    ensures comes_to { IfOk result (λ o. (texts : List (List ℕ)) × AreHeld (S.contents shelf.old) (inputs_of (command_view command)) texts × ComesTo (command_view command) texts o) }
-    ensures only { OnlyReads S.Shelf shelf.old shelf.new (GetFails (inputs_of (command_view command))) result }
+// The outcome that is due of texts. At `Err` a read failed, or memory ran out.
+fn due_of<S: Shelf>(alloc: Global, texts: &[&str], shelf: &mut S) -> Result<Outcome, OutsideStop>
+    ensures due { (words : List (Vector ℕ Alloc)) → map (λ w. w.items) words ≡ texts_of texts.now → AreUtf8 (map (λ w. w.items) words) → IfOk result (IsDue words (S.contents shelf.old)) }
+    ensures only { (words : List (Vector ℕ Alloc)) → map (λ w. w.items) words ≡ texts_of texts.now → AreUtf8 (map (λ w. w.items) words) → OnlyReads S.Shelf shelf.old shelf.new (InputFails words) result }
 {
-    let outcome = come_to(alloc, &command.lend(), shelf);
-    drop(command);
-    outcome
+    match asked_by(alloc, texts) {
+        Ok(asked) => come_to(alloc, &asked, shelf),
+        Err(WordStop::Usage) => Ok(usage_outcome(alloc)?),
+        Err(WordStop::Memory) => Err(OutsideStop::Memory),
+    }
 }
 
 // The outcome that is due. At `Err` a read failed, or memory ran out.
@@ -269,10 +109,13 @@ fn due<S: Shelf>(alloc: Global, words: &[Vec<u8>], shelf: &mut S) -> Result<Outc
     ensures due { IfOk result (IsDue words.now (S.contents shelf.old)) }
     ensures only { OnlyReads S.Shelf shelf.old shelf.new (InputFails words.now) result }
 {
-    match command(alloc, words) {
-        Ok(command) => come_to_owned(alloc, command, shelf),
-        Err(WordStop::Usage) => Ok(usage_outcome(alloc)?),
-        Err(WordStop::Memory) => Err(OutsideStop::Memory),
+    match as_texts(alloc, words)? {
+        Some(texts) => {
+            let outcome = due_of(alloc, texts.as_slice(), shelf);
+            drop(texts);
+            outcome
+        }
+        None => Ok(usage_outcome(alloc)?),
     }
 }
 

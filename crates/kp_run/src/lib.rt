@@ -5,12 +5,12 @@
 mod check;
 mod classical;
 mod entry;
+mod inputs;
 mod law;
 mod lift;
 mod merges;
 mod outcomes;
 mod solve;
-mod sourced;
 mod strip;
 mod translate;
 mod width;

@@ -1,10 +1,10 @@
-ghost use Rattle.std.specs.Prelude.{◌≡◌, ◌<◌, Some, List, ℕ, true, nat_lt, IfOk, length};
+ghost use Rattle.std.specs.Prelude.{◌≡◌, ◌<◌, Some, List, ℕ, true, nat_lt, IfOk, length, Option as Maybe};
 ghost use Rattle.std.specs.List.{list_all};
 ghost use Rattle.kp_base.specs.declared.ground.Initial.{Initial as Formula};
 ghost use Rattle.kp_base.specs.Entailed.{HaveSameModels};
-ghost use Rattle.kp_outside.specs.Outside.{IsFront, IsWithin};
+ghost use Rattle.kp_outside.specs.Outside.{IsFront, IsWithin, FileMap};
 ghost use Rattle.kp_primes.specs.Held.{formula};
-ghost use Rattle.kp_words.specs.Names.{Source};
+ghost use Rattle.kp_words.specs.Asked.{Source};
 ghost use Rattle.kp_run_prepare.specs.Prepared.{IsUsable};
 ghost use Rattle.kp_run_inputs.specs.SourceTables.{IsOrigin, IsShort, ComesByTable};
 ghost use Rattle.kp_run_inputs.specs.Actions.{ComesByPlan};
@@ -14,9 +14,13 @@ ghost use Rattle.kp_base.specs.Files.{most_bytes};
 ghost use Rattle.kp_lift.specs.Lifting.{IsTableOn};
 ghost use Rattle.kp_run_messages.specs.Lifting.{unlifted_text};
 ghost use Rattle.kp_run_outcome.specs.Printing.{denies};
-ghost use Rattle.kp_run.specs.Outcomes.{LiftsActions, LiftsPlan, LiftsTexts};
-ghost use Rattle.kp_run.specs.CommandParts.{PrintsOperators};
+ghost use Rattle.kp_run.specs.Lift.{LiftsActions, LiftsPlan};
+ghost use Rattle.kp_run.specs.CommandParts.{PrintsOperators, AreInputs, IsReadOf};
+ghost use Rattle.kp_run.specs.Contents.{Contents, AreContents};
+ghost use Rattle.kp_run.specs.Outcomes.{ComesBy};
+ghost use Rattle.kp_words.specs.declared.verb.Verb.TheVariants as verbs;
 
+use crate::inputs::{Inputs, origin_of};
 use crate::outcomes::{failing, print_text};
 use kp_base::{Ground, Limits, Lit, Memory, Row, Stop, TagTable};
 use kp_classic::Task;
@@ -28,7 +32,7 @@ use kp_run_inputs::{Origin, actions_of, settle, table_alone};
 use kp_run_messages::unlifted;
 use kp_run_outcome::{Outcome, Status};
 use kp_run_prepare::{Prepared, prepare, refuse};
-use kp_words::Lift;
+use kp_words::Asked;
 use std::alloc::Global;
 
 // It is told at which step a literal isn't known in its turn, or at the goal.
@@ -147,23 +151,21 @@ fn lift_by(alloc: Global, prepared: &Prepared, origin: Origin, plan: Got) -> Res
     }
 }
 
-/// What a lift comes to on the contents of its files, at most 16,777,216 bytes of each of which were read.
-pub fn lift_texts(
-    alloc: Global,
-    command: &Lift<'_>,
-    domain: Got,
-    problem: Got,
-    origin: Origin,
-    plan: Got,
-) -> Result<Outcome, Memory>
-    requires domain { IsWithin most_bytes domain }
-    requires problem { IsWithin most_bytes problem }
-    requires plan { IsWithin most_bytes plan }
-    requires short { IsShort origin }
-    requires origin { (source : Source) × (merges : List (List ℕ)) × IsOrigin source merges origin }
-    ensures { (d p : List ℕ) (merges : List (List ℕ)) (t : List ℕ) → IsFront (Some d) most_bytes domain → IsFront (Some p) most_bytes problem → IsOrigin command.now.source merges origin → IsFront (Some t) most_bytes plan → IfOk result (LiftsTexts command.now d p merges t) }
+/// What a lift comes to on what was read of its files.
+pub fn lift_on(alloc: Global, asked: &Asked<'_>, inputs: Inputs) -> Result<Outcome, Memory>
+    requires { (held : Maybe FileMap) × IsReadOf held verbs.Lift asked.now inputs }
+    ensures { (held : Maybe FileMap) (t : Contents) → AreContents held verbs.Lift asked.now t → AreInputs t inputs → IfOk result (ComesBy verbs.Lift asked.now t) }
 {
-    match prepare(alloc, command.implicates, domain, problem) {
+    let Inputs {
+        domain,
+        problem,
+        merges,
+        plan,
+        written,
+    } = inputs;
+    drop(written);
+    let origin = origin_of(asked, merges);
+    match prepare(alloc, asked.implicates, domain, problem) {
         Ok(prepared) => lift_by(alloc, &prepared, origin, plan),
         Err(early) => settle(early),
     }

@@ -1,22 +1,25 @@
-ghost use Rattle.std.specs.Prelude.{[], Some, List, ℕ, IfOk};
+ghost use Rattle.std.specs.Prelude.{[], IfOk, Option as Maybe};
 ghost use Rattle.kp_base.specs.declared.ground.Initial.{Initial as Formula};
 ghost use Rattle.kp_base.specs.Entailed.{HaveSameModels};
-ghost use Rattle.kp_base.specs.Files.{most_bytes};
-ghost use Rattle.kp_outside.specs.Outside.{IsFront, IsWithin};
+ghost use Rattle.kp_outside.specs.Outside.{FileMap};
 ghost use Rattle.kp_primes.specs.Held.{formula};
-ghost use Rattle.kp_words.specs.Names.{of_mode};
+ghost use Rattle.kp_words.specs.Asked.{of_mode};
 ghost use Rattle.kp_run_prepare.specs.Prepared.{IsUsable};
 ghost use Rattle.kp_run_inputs.specs.SourceTables.{ComesByTable};
-ghost use Rattle.kp_run.specs.Outcomes.{MergesGround, MergesTexts};
+ghost use Rattle.kp_run.specs.Merges.{MergesGround};
+ghost use Rattle.kp_run.specs.CommandParts.{AreInputs, IsReadOf};
+ghost use Rattle.kp_run.specs.Contents.{Contents, AreContents};
+ghost use Rattle.kp_run.specs.Outcomes.{ComesBy};
+ghost use Rattle.kp_words.specs.declared.verb.Verb.TheVariants as verbs;
 
+use crate::inputs::Inputs;
 use crate::outcomes::print_text;
 use kp_base::{Ground, Memory, Mode, TagTable};
-use kp_outside::Got;
 use kp_run_inputs::{Origin, settle, table_alone};
 use kp_run_outcome::Outcome;
 use kp_run_prepare::{Prepared, prepare};
 use kp_tags_files::merges_text;
-use kp_words::Merges;
+use kp_words::Asked;
 use std::alloc::Global;
 
 // The merges of a table are printed.
@@ -37,20 +40,23 @@ fn list_in(alloc: Global, prepared: &Prepared, mode: Mode) -> Result<Outcome, Me
     }
 }
 
-/// What a call for merges comes to on the contents of its two files, at most 16,777,216 bytes of each of which were
-/// read.
-pub fn merges_of_texts(
-    alloc: Global,
-    command: &Merges<'_>,
-    domain: Got,
-    problem: Got,
-) -> Result<Outcome, Memory>
-    requires domain { IsWithin most_bytes domain }
-    requires problem { IsWithin most_bytes problem }
-    ensures { (d p : List ℕ) → IsFront (Some d) most_bytes domain → IsFront (Some p) most_bytes problem → IfOk result (MergesTexts command.now d p) }
+/// What a call for merges comes to on what was read of its files.
+pub fn merges_on(alloc: Global, asked: &Asked<'_>, inputs: Inputs) -> Result<Outcome, Memory>
+    requires { (held : Maybe FileMap) × IsReadOf held verbs.Merges asked.now inputs }
+    ensures { (held : Maybe FileMap) (t : Contents) → AreContents held verbs.Merges asked.now t → AreInputs t inputs → IfOk result (ComesBy verbs.Merges asked.now t) }
 {
-    match prepare(alloc, command.implicates, domain, problem) {
-        Ok(prepared) => list_in(alloc, &prepared, command.mode),
+    let Inputs {
+        domain,
+        problem,
+        merges,
+        plan,
+        written,
+    } = inputs;
+    drop(merges);
+    drop(plan);
+    drop(written);
+    match prepare(alloc, asked.implicates, domain, problem) {
+        Ok(prepared) => list_in(alloc, &prepared, asked.mode),
         Err(early) => settle(early),
     }
 }

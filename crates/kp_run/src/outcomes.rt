@@ -1,14 +1,16 @@
 ghost use Rattle.std.specs.Prelude.{◌≡◌, ◌∷◌, [], IfOk, OnOk, ◌++◌};
 ghost use Rattle.kp_run_messages.specs.Coverage.{coverage_text};
 ghost use Rattle.kp_ktask_texts.specs.Translations.{translation_with};
-ghost use Rattle.kp_run.specs.Outcomes.{shows_usage, translates, failing_step};
+ghost use Rattle.kp_run.specs.Translate.{translates};
+ghost use Rattle.kp_run.specs.Check.{failing_step};
+ghost use Rattle.kp_run.specs.Outcomes.{shows_usage};
 ghost use Rattle.kp_run_outcome.specs.Printing.{prints};
 
 use kp_base::{Ground, Lit, Memory, Row, TagTable, Text};
 use kp_ktask_texts::Translation;
-use kp_run_messages::{put_coverage, usage};
+use kp_run_messages::put_coverage;
 use kp_run_outcome::{FilePut, Outcome, Status};
-use kp_words::Translate;
+use kp_words::{Asked, usage};
 use std::alloc::Global;
 
 // The counts, and behind them whether the table is complete.
@@ -69,7 +71,7 @@ fn add_put(
 // Both files are put.
 fn put_both(
     alloc: Global,
-    command: &Translate<'_>,
+    command: &Asked<'_>,
     domain: Row<u8>,
     problem: Row<u8>,
 ) -> Result<Row<FilePut>, Memory>
@@ -84,7 +86,7 @@ fn put_both(
 /// The two files of a translation are put, the counts are printed, and whether the table is complete.
 pub fn translates(
     alloc: Global,
-    command: &Translate<'_>,
+    command: &Asked<'_>,
     ground: &Ground,
     table: &TagTable,
     translation: Translation,

@@ -1,20 +1,26 @@
-ghost use Rattle.std.specs.Prelude.{◌≤◌, Some, List, ℕ, IfOk, length};
+ghost use Rattle.std.specs.Prelude.{◌≤◌, Some, List, ℕ, IfOk, length, Option as Maybe};
 ghost use Rattle.kp_base.specs.Files.{most_bytes};
-ghost use Rattle.kp_outside.specs.Outside.{IsFront, IsWithin};
-ghost use Rattle.kp_plans.specs.PlanFiles.{IsPlanOf};
-ghost use Rattle.kp_run.specs.Outcomes.{StripsText};
+ghost use Rattle.kp_outside.specs.Outside.{IsFront, IsWithin, FileMap};
+ghost use Rattle.kp_plans.specs.PlanFiles.{IsPlanFile};
+ghost use Rattle.kp_run.specs.Strip.{StripsText};
+ghost use Rattle.kp_run.specs.CommandParts.{AreInputs, IsReadOf};
+ghost use Rattle.kp_run.specs.Contents.{Contents, AreContents};
+ghost use Rattle.kp_run.specs.Outcomes.{ComesBy};
+ghost use Rattle.kp_words.specs.declared.verb.Verb.TheVariants as verbs;
 
+use crate::inputs::Inputs;
 use crate::outcomes::print_text;
 use kp_base::{Memory, Part, Refused, Row, Stop};
 use kp_outside::Got;
 use kp_plans::{PlanStep, plan_text, read_plan, strip};
 use kp_run_outcome::Outcome;
 use kp_run_prepare::refuse;
+use kp_words::Asked;
 use std::alloc::Global;
 
 // What the steps of a plan file come to.
 fn strip_steps(alloc: Global, steps: &Row<PlanStep>) -> Result<Outcome, Memory>
-    ensures { (text : List ℕ) → length text ≤ most_bytes → IsPlanOf text steps.now → IfOk result (StripsText text) }
+    ensures { (text : List ℕ) → length text ≤ most_bytes → IsPlanFile text steps.now → IfOk result (StripsText text) }
 {
     match strip(alloc, steps) {
         Ok(actions) => Ok(print_text(alloc, plan_text(alloc, &actions)?)),
@@ -23,8 +29,8 @@ fn strip_steps(alloc: Global, steps: &Row<PlanStep>) -> Result<Outcome, Memory>
     }
 }
 
-/// What a plan file comes to, at most 16,777,216 bytes of which were read.
-pub fn strip_text(alloc: Global, got: Got) -> Result<Outcome, Memory>
+// What a plan file comes to, at most 16,777,216 bytes of which were read.
+fn strip_text(alloc: Global, got: Got) -> Result<Outcome, Memory>
     requires { IsWithin most_bytes got }
     ensures { (text : List ℕ) → IsFront (Some text) most_bytes got → IfOk result (StripsText text) }
 {
@@ -36,4 +42,24 @@ pub fn strip_text(alloc: Global, got: Got) -> Result<Outcome, Memory>
         Err(Stop::Refused(refused)) => refuse(alloc, refused),
         Err(Stop::Memory) => Err(Memory),
     }
+}
+
+/// What a strip comes to on what was read of its files.
+pub fn strip_on(alloc: Global, asked: &Asked<'_>, inputs: Inputs) -> Result<Outcome, Memory>
+    requires { (held : Maybe FileMap) × IsReadOf held verbs.Strip asked.now inputs }
+    ensures { (held : Maybe FileMap) (t : Contents) → AreContents held verbs.Strip asked.now t → AreInputs t inputs → IfOk result (ComesBy verbs.Strip asked.now t) }
+{
+    let Inputs {
+        domain,
+        problem,
+        merges,
+        plan,
+        written,
+    } = inputs;
+    drop(domain);
+    drop(problem);
+    drop(merges);
+    drop(plan);
+    let _ = asked;
+    strip_text(alloc, written)
 }

@@ -1,33 +1,35 @@
-ghost use Rattle.std.specs.Prelude.{◌≡◌, Some, List, ℕ, IfOk};
+ghost use Rattle.std.specs.Prelude.{◌≡◌, List, ℕ, IfOk, Option as Maybe};
 ghost use Rattle.kp_base.specs.declared.ground.Initial.{Initial as Formula};
 ghost use Rattle.kp_base.specs.Entailed.{IsTable, HaveSameModels};
-ghost use Rattle.kp_base.specs.Files.{most_bytes};
-ghost use Rattle.kp_outside.specs.Outside.{IsFront, IsWithin};
+ghost use Rattle.kp_outside.specs.Outside.{FileMap};
 ghost use Rattle.kp_primes.specs.Held.{formula};
 ghost use Rattle.kp_relevance.specs.Relevant.{ArePairsOf};
 ghost use Rattle.kp_ktask_texts.specs.Translations.{translation_with};
-ghost use Rattle.kp_words.specs.Names.{Source};
+ghost use Rattle.kp_words.specs.Asked.{Source};
 ghost use Rattle.kp_run_prepare.specs.Prepared.{IsUsable};
 ghost use Rattle.kp_run_inputs.specs.SourceTables.{IsOrigin, IsShort, ComesByTable};
-ghost use Rattle.kp_run.specs.Outcomes.{TranslatesGround, TranslatesTexts};
-ghost use Rattle.kp_run.specs.CommandParts.{IsPut};
+ghost use Rattle.kp_run.specs.Translate.{TranslatesGround};
+ghost use Rattle.kp_run.specs.CommandParts.{IsPut, AreInputs, IsReadOf};
+ghost use Rattle.kp_run.specs.Contents.{Contents, AreContents};
+ghost use Rattle.kp_run.specs.Outcomes.{ComesBy};
+ghost use Rattle.kp_words.specs.declared.verb.Verb.TheVariants as verbs;
 
+use crate::inputs::{Inputs, origin_of};
 use crate::outcomes::translates;
 use kp_base::{Limits, Memory, Stop, TagTable};
 use kp_cover::coverage;
 use kp_ktask_texts::{Translation, translation_with};
-use kp_outside::Got;
 use kp_relevance::Relevance;
 use kp_run_inputs::{Origin, settle, table_of};
 use kp_run_outcome::Outcome;
 use kp_run_prepare::{Prepared, prepare, refuse};
-use kp_words::Translate;
+use kp_words::Asked;
 use std::alloc::Global;
 
 // What a ground problem without a clash comes to with a table whose task is within the limits.
 fn with_texts(
     alloc: Global,
-    command: &Translate<'_>,
+    command: &Asked<'_>,
     prepared: &Prepared,
     relevance: &Relevance,
     table: &TagTable,
@@ -53,7 +55,7 @@ fn with_texts(
 // What a ground problem without a clash comes to with a table of tags and merges.
 fn with_table(
     alloc: Global,
-    command: &Translate<'_>,
+    command: &Asked<'_>,
     prepared: &Prepared,
     relevance: &Relevance,
     table: &TagTable,
@@ -73,7 +75,7 @@ fn with_table(
 // The same with the table of a mode or of a file of merges.
 fn with_origin(
     alloc: Global,
-    command: &Translate<'_>,
+    command: &Asked<'_>,
     prepared: &Prepared,
     origin: Origin,
 ) -> Result<Outcome, Memory>
@@ -89,22 +91,23 @@ fn with_origin(
     }
 }
 
-/// What a translation comes to on the contents of its files, at most 16,777,216 bytes of each of which were read.
-pub fn translate_texts(
-    alloc: Global,
-    command: &Translate<'_>,
-    domain: Got,
-    problem: Got,
-    origin: Origin,
-) -> Result<Outcome, Memory>
-    requires domain { IsWithin most_bytes domain }
-    requires problem { IsWithin most_bytes problem }
-    requires short { IsShort origin }
-    requires origin { (source : Source) × (merges : List (List ℕ)) × IsOrigin source merges origin }
-    ensures { (d p : List ℕ) (merges : List (List ℕ)) → IsFront (Some d) most_bytes domain → IsFront (Some p) most_bytes problem → IsOrigin command.now.source merges origin → IfOk result (TranslatesTexts command.now d p merges) }
+/// What a translation comes to on what was read of its files.
+pub fn translate_on(alloc: Global, asked: &Asked<'_>, inputs: Inputs) -> Result<Outcome, Memory>
+    requires { (held : Maybe FileMap) × IsReadOf held verbs.Translate asked.now inputs }
+    ensures { (held : Maybe FileMap) (t : Contents) → AreContents held verbs.Translate asked.now t → AreInputs t inputs → IfOk result (ComesBy verbs.Translate asked.now t) }
 {
-    match prepare(alloc, command.implicates, domain, problem) {
-        Ok(prepared) => with_origin(alloc, command, &prepared, origin),
+    let Inputs {
+        domain,
+        problem,
+        merges,
+        plan,
+        written,
+    } = inputs;
+    drop(plan);
+    drop(written);
+    let origin = origin_of(asked, merges);
+    match prepare(alloc, asked.implicates, domain, problem) {
+        Ok(prepared) => with_origin(alloc, asked, &prepared, origin),
         Err(early) => settle(early),
     }
 }

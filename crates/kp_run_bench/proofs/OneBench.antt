@@ -25,7 +25,7 @@ use Rattle.kp_law_translation.proofs.Public.{initial_states_are_models}
 use Rattle.kp_run_messages.specs.Refusals.{nothing}
 use Rattle.kp_run_messages.specs.Searches.{no_plan_text}
 use Rattle.kp_run_outcome.specs.declared.outcome.Outcome.{Outcome}
-use Rattle.kp_words.specs.Names.{of_mode, Bench}
+use Rattle.kp_words.specs.Asked.{of_mode, Asked}
 use Rattle.kp_run_prepare.specs.Refusing.{refuses}
 use Rattle.kp_run_prepare.specs.Prepared.{usual, IsPrepared, Comes, early, later}
 use Rattle.kp_run_prepare.proofs.Public.{comes_to_one_outcome}
@@ -59,23 +59,23 @@ among g (MachineStep.act n ∷ ms) e =
 among g (MachineStep.merge m ∷ ms) e = rw (le-ltb (length g.actions + m) (length g.actions) (omega arith)) (among g ms e)
 
 -- so the actions that were told of a plan are those among its operators
-pub actions_of : (c : Bench) (g : Ground) (i : Initial) (table : TagTable) (ops : List ℕ) (n : ℕ) (o : Outcome) → HasModel i → (a : SumsUp c g i table ops n o) → stripped a.machine ≡ acts_among (length g.actions) ops
+pub actions_of : (c : Asked) (g : Ground) (i : Initial) (table : TagTable) (ops : List ℕ) (n : ℕ) (o : Outcome) → HasModel i → (a : SumsUp c g i table ops n o) → stripped a.machine ≡ acts_among (length g.actions) ops
 actions_of c g i table ops n o some a = among g a.machine (are_actions g some.state (stripped a.machine) (a.works some.state some.model)) ∙ ap (acts_among (length g.actions)) a.numbers
 
 -- and there is one list of them
-same_actions : (c : Bench) (g : Ground) (i : Initial) (table : TagTable) (ops : List ℕ) (n : ℕ) (o u : Outcome) → HasModel i → (a : SumsUp c g i table ops n o) (b : SumsUp c g i table ops n u) → stripped a.machine ≡ stripped b.machine
+same_actions : (c : Asked) (g : Ground) (i : Initial) (table : TagTable) (ops : List ℕ) (n : ℕ) (o u : Outcome) → HasModel i → (a : SumsUp c g i table ops n o) (b : SumsUp c g i table ops n u) → stripped a.machine ≡ stripped b.machine
 same_actions c g i table ops n o u some a b = actions_of c g i table ops n o some a ∙ sym (actions_of c g i table ops n u some b)
 
 -- ---- outcomes
 
-told_once : (c : Bench) (g : Ground) (i : Initial) (table : TagTable) → HasModel i → (found : Found) (o u : Outcome) → TellsBench c g i table found o → TellsBench c g i table found u → o ≡ u
+told_once : (c : Asked) (g : Ground) (i : Initial) (table : TagTable) → HasModel i → (found : Found) (o u : Outcome) → TellsBench c g i table found o → TellsBench c g i table found u → o ≡ u
 told_once c g i table some (Plan ops n) o u a b =
     a.told ∙ (ap (λ (ls : List Lit). prints (summary_text c g table ls (length (stripped a.machine)) n)) (uncovered_once g i table a.uncovered b.uncovered a.are_uncovered b.are_uncovered)
     ∙ (ap (λ (ns : List ℕ). prints (summary_text c g table b.uncovered (length ns) n)) (same_actions c g i table ops n o u some a b) ∙ sym b.told))
 told_once c g i table some NoPlan o u a b = a.2 ∙ (ap (λ ls. denies (no_plan_text ls)) (uncovered_once g i table a.0 b.0 a.1 b.1) ∙ sym b.2)
 told_once c g i table some (Spent n) o u a b = a ∙ sym b
 
-ground_once : (c : Bench) (g : Ground) (i : Initial) → HasModel i → (table : TagTable) (o u : Outcome) → BenchesGround c g i table o → BenchesGround c g i table u → o ≡ u
+ground_once : (c : Asked) (g : Ground) (i : Initial) → HasModel i → (table : TagTable) (o u : Outcome) → BenchesGround c g i table o → BenchesGround c g i table u → o ≡ u
 ground_once c g i some table o u (over r a e) (over s b f) = e ∙ (ap (refuses nothing) (task_refused_once (task_of g table) usual r s a b) ∙ sym f)
 ground_once c g i some table o u (over r a e) (searched found b finds tells) = absurd (task_refused_or_within (task_of g table) usual r a b)
 ground_once c g i some table o u (searched found a finds tells) (over s b f) = absurd (task_refused_or_within (task_of g table) usual s b a)
@@ -83,16 +83,16 @@ ground_once c g i some table o u (searched x a finds tells) (searched y b finds'
     told_once c g i table some y o u (subst (λ z. TellsBench c g i table z o) (has_one_end_by_added (task_of g table) c.budget x y finds finds') tells) tells'
 
 -- two trees in which no name is at fault
-abbrev Fine : Bench → Domain Word → Problem Word → Outcome → Type 0
+abbrev Fine : Asked → Domain Word → Problem Word → Outcome → Type 0
 Fine c d p o = HasNoFault d p × BenchesTrees c d p o
 
-trees_once : (c : Bench) (d : Domain Word) (p : Problem Word) (o u : Outcome) → IsPrepared usual_implicates d p → Fine c d p o → Fine c d p u → o ≡ u
+trees_once : (c : Asked) (d : Domain Word) (p : Problem Word) (o u : Outcome) → IsPrepared usual_implicates d p → Fine c d p o → Fine c d p u → o ≡ u
 trees_once c d p o u ready a b =
     let some : HasModel (initial_of d p) = (initial_states_are_models d p a.0).0 ready.started.initial in
     by_table_one_outcome (ground_of d p) (initial_of d p) (of_mode c.mode) [] (BenchesGround c (ground_of d p) (initial_of d p)) (ground_once c (ground_of d p) (initial_of d p) some) o u a.1 b.1
 
 -- the trees of two texts are such ones
-fine : (c : Bench) (x y : List ℕ) (o : Outcome) → Comes usual_implicates x y (BenchesTrees c) o → Comes usual_implicates x y (Fine c) o
+fine : (c : Asked) (x y : List ℕ) (o : Outcome) → Comes usual_implicates x y (BenchesTrees c) o → Comes usual_implicates x y (Fine c) o
 fine c x y o (early a) = early a
 fine c x y o (later d p trees ready goes) = later d p trees ready (trees.no_fault, goes)
 

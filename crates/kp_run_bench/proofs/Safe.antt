@@ -9,7 +9,7 @@ use Rattle.kp_law_ktask.specs.Task.{task_of}
 use Rattle.kp_ktask.specs.Translated.{FitsLimits}
 use Rattle.kp_law_translation.specs.OfTrees.{ground_of, initial_of}
 use Rattle.kp_law_translation.proofs.Public.{tables_can_be_written}
-use Rattle.kp_words.specs.Names.{of_mode}
+use Rattle.kp_words.specs.Asked.{of_mode}
 use Rattle.kp_run_prepare.specs.declared.prepared.Prepared.{Prepared as Made}
 use Rattle.kp_run_prepare.specs.Prepared.{usual}
 use Rattle.kp_run_prepare.proofs.Public.{problem_of_trees}

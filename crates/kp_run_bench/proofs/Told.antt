@@ -16,7 +16,7 @@ use Rattle.kp_ktask.specs.Translated.{FitsLimits, RefusesTask}
 use Rattle.kp_run_messages.specs.Refusals.{nothing}
 use Rattle.kp_run_outcome.specs.declared.outcome.Outcome.{Outcome}
 use Rattle.kp_run_outcome.specs.Printing.{prints}
-use Rattle.kp_words.specs.Names.{Bench}
+use Rattle.kp_words.specs.Asked.{Asked}
 use Rattle.kp_run_prepare.specs.Refusing.{refuses}
 use Rattle.kp_run_prepare.specs.Prepared.{usual}
 use Rattle.kp_run_solve.specs.Operators.{step_of, acts_among}
@@ -26,29 +26,29 @@ use Rattle.kp_run_bench.specs.Summary.{summary_text}
 use Rattle.kp_run_bench.specs.Bench.{SumsUp, TellsBench, BenchesGround, over, searched}
 
 -- a task is refused
-pub task_refused : (c : Bench) (g : Ground) (i : Initial) (table : TagTable) (x : Refused) (r : Result Outcome Memory) → RefusesTask (task_of g table) usual x → IfOk r (λ o. o ≡ refuses nothing x) → IfOk r (BenchesGround c g i table)
+pub task_refused : (c : Asked) (g : Ground) (i : Initial) (table : TagTable) (x : Refused) (r : Result Outcome Memory) → RefusesTask (task_of g table) usual x → IfOk r (λ o. o ≡ refuses nothing x) → IfOk r (BenchesGround c g i table)
 task_refused c g i table x (Ok o) too is = over x too is
 task_refused c g i table x (Err m) too is = tt
 
 -- it is within the limits, and is searched
-pub task_searched : (c : Bench) (g : Ground) (i : Initial) (table : TagTable) (r : Result Outcome Memory) → FitsLimits (task_of g table) usual
+pub task_searched : (c : Asked) (g : Ground) (i : Initial) (table : TagTable) (r : Result Outcome Memory) → FitsLimits (task_of g table) usual
     → IfOk r (λ o. (found : Found) × Finds (task_of g table) c.budget found × TellsBench c g i table found o) → IfOk r (BenchesGround c g i table)
 task_searched c g i table (Ok o) fits h = searched h.0 fits h.1 h.2
 task_searched c g i table (Err m) fits h = tt
 
 -- what is found is told
-pub found_told : (c : Bench) (g : Ground) (i : Initial) (table : TagTable) (task : Task) (budget : ℕ) (found : Found) (r : Result Outcome Memory) → Finds task budget found → IfOk r (TellsBench c g i table found)
+pub found_told : (c : Asked) (g : Ground) (i : Initial) (table : TagTable) (task : Task) (budget : ℕ) (found : Found) (r : Result Outcome Memory) → Finds task budget found → IfOk r (TellsBench c g i table found)
     → IfOk r (λ o. (found : Found) × Finds task budget found × TellsBench c g i table found o)
 found_told c g i table task budget found (Ok o) finds told = (found, finds, told)
 found_told c g i table task budget found (Err m) finds told = tt
 
 -- a summary is printed
-pub summary_printed : (c : Bench) (g : Ground) (i : Initial) (table : TagTable) (ls : List Lit) (steps expanded : ℕ) (o : Outcome) → AreUncovered g i table ls → o ≡ prints (summary_text c g table ls steps expanded)
+pub summary_printed : (c : Asked) (g : Ground) (i : Initial) (table : TagTable) (ls : List Lit) (steps expanded : ℕ) (o : Outcome) → AreUncovered g i table ls → o ≡ prints (summary_text c g table ls steps expanded)
     → (uncovered : List Lit) × AreUncovered g i table uncovered × (o ≡ prints (summary_text c g table uncovered steps expanded))
 summary_printed c g i table ls steps expanded o are is = (ls, are, is)
 
 -- it is that of a plan, of which these are the actions
-pub plan_told : (c : Bench) (g : Ground) (i : Initial) (table : TagTable) (ops numbers : List ℕ) (expanded : ℕ) (r : Result Outcome Memory) → numbers ≡ acts_among (length g.actions) ops → IsGroundPlan g i numbers
+pub plan_told : (c : Asked) (g : Ground) (i : Initial) (table : TagTable) (ops numbers : List ℕ) (expanded : ℕ) (r : Result Outcome Memory) → numbers ≡ acts_among (length g.actions) ops → IsGroundPlan g i numbers
     → IfOk r (λ o. (uncovered : List Lit) × AreUncovered g i table uncovered × (o ≡ prints (summary_text c g table uncovered (length numbers) expanded))) → IfOk r (SumsUp c g i table ops expanded)
 plan_told c g i table ops numbers expanded (Ok o) are works h =
     let same : numbers ≡ stripped (map (step_of g) ops) = are ∙ sym (actions_among_steps g ops) in

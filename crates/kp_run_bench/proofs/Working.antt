@@ -16,7 +16,7 @@ use Rattle.kp_lift.specs.Lifting.{IsThere}
 use Rattle.kp_law_tagged_machine.proofs.Public.{accepted_lists_are_plans}
 use Rattle.kp_primes_first_model.specs.Ordered.{state_of_atoms}
 use Rattle.kp_check.specs.declared.answer.Judged.TheVariants.{No}
-use Rattle.kp_check.specs.Judging.{fails, AnswersJudged}
+use Rattle.kp_check.specs.Judging.{fails, IsVerdict}
 use Rattle.kp_write.specs.Operators.{Op}
 use Rattle.kp_law_ktask.specs.ByName.{op_of, merge_op, op_at}
 use Rattle.kp_law_ktask.specs.Task.{task_of}
@@ -73,7 +73,7 @@ pub work : (g : Ground) (i : Initial) (table : TagTable) (ops : List ℕ) → Is
 work g i table ops safe plan = subst (IsGroundPlan g i) (actions_among_steps g ops) (accepted_lists_are_plans g i table safe.right safe.valid safe.never_clashes (map (step_of g) ops) (accepted g table safe.writable ops plan))
 
 -- and no check finds a state from which they fail
-pub pass : (n : ℕ) (g : Ground) (i : Initial) (ns : List ℕ) (ps : List AtomId) (k : ℕ) (l : Lit) → IsGroundPlan g i ns → AnswersJudged n g i ns (No ps k l) → ⊥
+pub pass : (n : ℕ) (g : Ground) (i : Initial) (ns : List ℕ) (ps : List AtomId) (k : ℕ) (l : Lit) → IsGroundPlan g i ns → IsVerdict n g i ns (No ps k l) → ⊥
 pass n g i ns ps k l works judged =
     let found = and_parts (is_model i (state_of_atoms ps)) (fails g ns (state_of_atoms ps)) judged.0.0.passed in
     false≢true (subst (λ b. not b ≡ true) (works (state_of_atoms ps) found.0) found.1)

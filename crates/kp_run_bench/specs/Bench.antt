@@ -24,7 +24,7 @@ use Rattle.kp_run_outcome.specs.declared.outcome.Outcome.{Outcome}
 use Rattle.kp_run_outcome.specs.Printing.{prints}
 use Rattle.kp_words.specs.declared.source.Family.{Family}
 use Rattle.kp_words.specs.declared.source.Family.TheVariants as families
-use Rattle.kp_words.specs.Names.{of_mode, Bench}
+use Rattle.kp_words.specs.Asked.{of_mode, Asked}
 use Rattle.kp_run_prepare.specs.Refusing.{refuses}
 use Rattle.kp_run_prepare.specs.Prepared.{usual, Comes}
 use Rattle.kp_run_inputs.specs.SourceTables.{ComesByTable}
@@ -39,8 +39,8 @@ family_texts families.Line n = line_texts n
 family_texts families.Bombs n = bombs_texts n
 
 -- those that a run is about
-abbrev pub texts_of : Bench → Texts
-texts_of c = family_texts c.family c.n
+abbrev pub texts_of : Asked → Texts
+texts_of c = family_texts c.family c.size
 
 -- how many prime implicates a prefix of the initial clauses may have
 abbrev pub usual_implicates : ℕ
@@ -49,7 +49,7 @@ usual_implicates = 20000
 -- ---- what is told
 
 -- Of a plan that was found in the task of a ground problem and a table, given by the numbers of its operators: without its merges its actions work from each model, and the summary is printed, with the number of these actions.
-pub record SumsUp (c : Bench) (g : Ground) (i : Initial) (table : TagTable) (ops : List ℕ) (expanded : ℕ) (o : Outcome) : Type 0 where
+pub record SumsUp (c : Asked) (g : Ground) (i : Initial) (table : TagTable) (ops : List ℕ) (expanded : ℕ) (o : Outcome) : Type 0 where
   pub machine : List MachineStep
   pub numbers : map (op_number g) machine ≡ ops
   pub works : IsGroundPlan g i (stripped machine)
@@ -58,7 +58,7 @@ pub record SumsUp (c : Bench) (g : Ground) (i : Initial) (table : TagTable) (ops
   pub told : o ≡ prints (summary_text c g table uncovered (length (stripped machine)) expanded)
 
 -- what is told of what is found: the summary of a plan; that there is none, and whether the table is complete; or that the budget is spent
-abbrev pub TellsBench : Bench → Ground → Initial → TagTable → Found → Outcome → Type 0
+abbrev pub TellsBench : Asked → Ground → Initial → TagTable → Found → Outcome → Type 0
 TellsBench c g i table (Plan ops n) o = SumsUp c g i table ops n o
 TellsBench c g i table NoPlan o = TellsSolved None g i table NoPlan o
 TellsBench c g i table (Spent n) o = TellsSolved None g i table (Spent n) o
@@ -66,14 +66,14 @@ TellsBench c g i table (Spent n) o = TellsSolved None g i table (Spent n) o
 -- ---- the run
 
 -- a ground problem with a table comes to this: the refusal of its task; or what is told of what the search finds
-pub data BenchesGround (c : Bench) (g : Ground) (i : Initial) (table : TagTable) (o : Outcome) : Type 0 where
+pub data BenchesGround (c : Asked) (g : Ground) (i : Initial) (table : TagTable) (o : Outcome) : Type 0 where
   over : (r : Refused) → RefusesTask (task_of g table) usual r → o ≡ refuses nothing r → BenchesGround c g i table o
   searched : (found : Found) → FitsLimits (task_of g table) usual → Finds (task_of g table) c.budget found → TellsBench c g i table found o → BenchesGround c g i table o
 
 -- two trees do, with the table of the run's mode
-abbrev pub BenchesTrees : Bench → Domain Word → Problem Word → Outcome → Type 0
+abbrev pub BenchesTrees : Asked → Domain Word → Problem Word → Outcome → Type 0
 BenchesTrees c d p o = ComesByTable (ground_of d p) (initial_of d p) (of_mode c.mode) [] (BenchesGround c (ground_of d p) (initial_of d p)) o
 
 -- and the two texts of the run's family and size
-abbrev pub Benches : Bench → Outcome → Type 0
+abbrev pub Benches : Asked → Outcome → Type 0
 Benches c o = Comes usual_implicates (texts_of c).domain (texts_of c).problem (BenchesTrees c) o

@@ -11,7 +11,7 @@ use Rattle.kp_classic.specs.Fits.{are_below}
 use Rattle.kp_classic.specs.Steps.{start, succeeds}
 use Rattle.kp_law_ktask.specs.Writable.{IsWritableTask}
 use Rattle.kp_law_translation.specs.OfTrees.{ground_of, initial_of}
-use Rattle.kp_words.specs.Names.{of_mode}
+use Rattle.kp_words.specs.Asked.{of_mode}
 use Rattle.kp_run_prepare.specs.declared.prepared.Prepared.{Prepared as Made}
 use Rattle.kp_run_prepare.specs.Prepared.{IsPreparedOf}
 use Rattle.kp_run_inputs.specs.SourceTables.{HasTable}

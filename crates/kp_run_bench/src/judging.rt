@@ -2,7 +2,7 @@
 ghost use Rattle.std.specs.Prelude.{◌≡◌, ◌<◌, ◌++◌, ◌∷◌, [], true, length, nat_lt, IfOk, OnOk};
 ghost use Rattle.std.specs.List.{list_all};
 ghost use Rattle.kp_primes.specs.Held.{formula};
-ghost use Rattle.kp_check.specs.Judging.{AnswersJudged};
+ghost use Rattle.kp_check.specs.Judging.{IsVerdict};
 ghost use Rattle.kp_run_prepare.specs.Prepared.{IsUsable};
 ghost use Rattle.kp_run_solve.specs.Operators.{acts_among};
 
@@ -36,7 +36,7 @@ pub fn actions_among(alloc: Global, ground: &Ground, operators: &[u32]) -> Resul
 pub fn judge(alloc: Global, prepared: &Prepared, numbers: &Row<u32>) -> Result<Judged, Memory>
     requires usable { IsUsable prepared.now }
     requires inside { list_all (λ m. nat_lt m (length prepared.now.ground.actions)) numbers.now ≡ true }
-    ensures { IfOk result (AnswersJudged prepared.now.primes.atoms prepared.now.ground (formula prepared.now.primes) numbers.now) }
+    ensures { IfOk result (IsVerdict prepared.now.primes.atoms prepared.now.ground (formula prepared.now.primes) numbers.now) }
 {
     if numbers.len() >= 2_147_483_648 {
         return Err(Memory);

@@ -6,7 +6,7 @@ ghost use Rattle.kp_relevance.specs.Relevant.{ArePairsOf};
 ghost use Rattle.kp_search.specs.declared.found.Found.{Found};
 ghost use Rattle.kp_law_ktask.specs.Task.{task_of};
 ghost use Rattle.kp_ktask.specs.Translated.{FitsLimits};
-ghost use Rattle.kp_words.specs.Names.{of_mode};
+ghost use Rattle.kp_words.specs.Asked.{of_mode};
 ghost use Rattle.kp_words.specs.Options.{IsOfRange};
 ghost use Rattle.kp_run_prepare.specs.Prepared.{usual, Comes, IsPreparedOf, IsUsable};
 ghost use Rattle.kp_run_inputs.specs.SourceTables.{ComesByTable};
@@ -24,13 +24,13 @@ use kp_run_inputs::{Origin, settle, table_of};
 use kp_run_outcome::Outcome;
 use kp_run_prepare::{Prepared, prepare, refuse};
 use kp_run_solve::find;
-use kp_words::Bench as Words;
+use kp_words::Asked;
 use std::alloc::Global;
 
 // What a run comes to on the task of a table, which is within the limits.
 fn bench_task(
     alloc: Global,
-    command: &Words,
+    command: &Asked<'_>,
     prepared: &Prepared,
     relevance: &Relevance,
     table: &TagTable,
@@ -50,7 +50,7 @@ fn bench_task(
 // What a run comes to with the table of its mode.
 fn bench_table(
     alloc: Global,
-    command: &Words,
+    command: &Asked<'_>,
     prepared: &Prepared,
     relevance: &Relevance,
     table: &TagTable,
@@ -68,7 +68,7 @@ fn bench_table(
 }
 
 // What a run comes to on a ground problem without a clash.
-fn bench_ground(alloc: Global, command: &Words, prepared: &Prepared) -> Result<Outcome, Memory>
+fn bench_ground(alloc: Global, command: &Asked<'_>, prepared: &Prepared) -> Result<Outcome, Memory>
     requires usable { IsUsable prepared.now }
     requires given { (d : List ℕ) × (p : List ℕ) × IsPreparedOf usual_implicates d p prepared.now }
     ensures { (i : Formula) → HaveSameModels (formula prepared.now.primes) i → IfOk result (ComesByTable prepared.now.ground i (of_mode command.now.mode) [] (BenchesGround command.now prepared.now.ground i)) }
@@ -81,7 +81,7 @@ fn bench_ground(alloc: Global, command: &Words, prepared: &Prepared) -> Result<O
 }
 
 // What a run comes to on two texts.
-fn bench_texts(alloc: Global, command: &Words, texts: Texts) -> Result<Outcome, Memory>
+fn bench_texts(alloc: Global, command: &Asked<'_>, texts: Texts) -> Result<Outcome, Memory>
     ensures { IfOk result (Comes usual_implicates texts.domain texts.problem (BenchesTrees command.now)) }
 {
     match prepare(alloc, 20_000, front(texts.domain), front(texts.problem)) {
@@ -91,10 +91,10 @@ fn bench_texts(alloc: Global, command: &Words, texts: Texts) -> Result<Outcome, 
 }
 
 /// What a run on a generated problem of a size from 2 to 100 comes to.
-pub fn bench(alloc: Global, command: &Words) -> Result<Outcome, Memory>
-    requires { IsOfRange 2 100 command.now.n }
+pub fn bench(alloc: Global, command: &Asked<'_>) -> Result<Outcome, Memory>
+    requires { IsOfRange 2 100 command.now.size }
     ensures { IfOk result (Benches command.now) }
 {
-    let texts = texts_of(alloc, command.family, command.n)?;
+    let texts = texts_of(alloc, command.family, command.size)?;
     bench_texts(alloc, command, texts)
 }

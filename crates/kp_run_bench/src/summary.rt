@@ -8,7 +8,7 @@ ghost use Rattle.kp_run_bench.specs.Summary.{word_line, summary_text};
 use kp_base::{Ground, Lit, Memory, Row, TagTable};
 use kp_plans_spelling::{put, put_count};
 use kp_run_messages::put_coverage;
-use kp_words::{Bench, Family};
+use kp_words::{Asked, Family};
 use std::alloc::Global;
 
 // A family as it is called.
@@ -51,7 +51,7 @@ fn put_plan(out: &mut Vec<u8>, steps: usize, expanded: u32) -> Result<(), Memory
 /// of a plan with so many steps that passed its check, so many states having been expanded.
 pub fn summary(
     alloc: Global,
-    command: &Bench,
+    command: &Asked<'_>,
     ground: &Ground,
     table: &TagTable,
     counts: &[u8],
@@ -64,7 +64,7 @@ pub fn summary(
 {
     let _ = table;
     let mut out = Vec::new(alloc);
-    put_problem(&mut out, command.family, command.n)?;
+    put_problem(&mut out, command.family, command.size)?;
     put(&mut out, counts)?;
     put_coverage(&mut out, ground.atoms.slice(), uncovered)?;
     put_plan(&mut out, steps, expanded)?;

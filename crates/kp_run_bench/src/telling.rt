@@ -26,7 +26,7 @@ use kp_run_outcome::{Outcome, Status};
 use kp_run_prepare::Prepared;
 use kp_run_solve::tell_solved;
 use kp_search::Found;
-use kp_words::Bench;
+use kp_words::Asked;
 use std::alloc::Global;
 
 // The counts of a translation that is within the limits.
@@ -55,7 +55,7 @@ fn print_summary(alloc: Global, text: Row<u8>) -> Outcome
 // A plan of so many steps passed its check, and the summary is printed.
 fn sum_up(
     alloc: Global,
-    command: &Bench,
+    command: &Asked<'_>,
     prepared: &Prepared,
     relevance: &Relevance,
     table: &TagTable,
@@ -86,7 +86,7 @@ fn sum_up(
 // A plan is told: its actions are checked, and the summary is printed. They work, since its operators succeed.
 fn tell_plan(
     alloc: Global,
-    command: &Bench,
+    command: &Asked<'_>,
     prepared: &Prepared,
     relevance: &Relevance,
     table: &TagTable,
@@ -118,7 +118,7 @@ fn tell_plan(
 /// What is told of what the search of the task of a table finds, which is within the limits.
 pub fn tell_found(
     alloc: Global,
-    command: &Bench,
+    command: &Asked<'_>,
     prepared: &Prepared,
     relevance: &Relevance,
     table: &TagTable,

@@ -6,9 +6,9 @@ use Rattle.kp_base.specs.declared.ground.TagTable.{TagTable}
 use Rattle.kp_base.specs.declared.refused.Refused.{Refused}
 use Rattle.kp_plans.specs.declared.step.PlanStep.{PlanStep}
 use Rattle.kp_law_decidable.specs.Laws.{AreProper}
-use Rattle.kp_run_messages.specs.Refusals.{Named}
+use Rattle.kp_run_messages.specs.Refusals.{Nameable}
 use Rattle.kp_run_outcome.specs.declared.outcome.Outcome.{Outcome}
-use Rattle.kp_words.specs.Names.{Source}
+use Rattle.kp_words.specs.Asked.{Source}
 use Rattle.kp_words.specs.Command.{file_of, if_named}
 use Rattle.kp_run_prepare.specs.Refusing.{refuses}
 use Rattle.kp_run_inputs.specs.SourceTables.{HasTable, ComesByTable, no_table, with_table}
@@ -18,7 +18,7 @@ use Rattle.kp_run_inputs.proofs.SomeTable.{some_table}
 use Rattle.kp_run_inputs.proofs.OnePlan.{one_plan, some_plan}
 
 -- one refusal is one outcome
-refused_alike : (a b : Named) (r s : Refused) (o u : Outcome) → (a ≡ b) × (r ≡ s) → o ≡ refuses a r → u ≡ refuses b s → o ≡ u
+refused_alike : (a b : Nameable) (r s : Refused) (o u : Outcome) → (a ≡ b) × (r ≡ s) → o ≡ refuses a r → u ≡ refuses b s → o ≡ u
 refused_alike a b r s o u same e f = e ∙ (ap₂ refuses same.0 same.1 ∙ sym f)
 
 -- ---- with a table

@@ -14,11 +14,11 @@ use Rattle.kp_base.specs.Entailed.{HaveSameModels}
 use Rattle.kp_tags_files.specs.declared.merge.FileMerge.{FileMerge}
 use Rattle.kp_tags_files.specs.MergesFiles.{IsMergesOf, AnswersMergesFile}
 use Rattle.kp_plans.specs.declared.step.PlanStep.{PlanStep}
-use Rattle.kp_plans.specs.PlanFiles.{step_names, IsPlanOf, AnswersPlan}
+use Rattle.kp_plans.specs.PlanFiles.{step_names, IsPlanFile, AnswersPlan}
 use Rattle.kp_plans.specs.Found.{action_names, action_of, AnswersSteps as AnswersFound}
-use Rattle.kp_run_messages.specs.Refusals.{Named, nothing}
+use Rattle.kp_run_messages.specs.Refusals.{Nameable, nothing}
 use Rattle.kp_base.specs.Files.{most_bytes}
-use Rattle.kp_words.specs.Names.{Source, of_mode, of_file}
+use Rattle.kp_words.specs.Asked.{Source, of_mode, of_file}
 use Rattle.kp_run_prepare.specs.declared.prepared.Early.{Early}
 use Rattle.kp_run_prepare.specs.declared.prepared.Early.TheVariants as halts
 use Rattle.kp_run_prepare.specs.Refusing.{named_in, EndsBy}
@@ -38,7 +38,7 @@ use Rattle.kp_run_inputs.proofs.FileMerges.{number_below}
 -- ---- tables
 
 -- a refusal ends a command
-pub ends_at_table : (g : Ground) (i : Initial) (source : Source) (merges : List (List ℕ)) (names : Named) (r : Refused) → RefusesSource g i source merges names r → (e : Early) → EndsBy names (causes.Refused r) e → AnswersTable g i source merges (Err e)
+pub ends_at_table : (g : Ground) (i : Initial) (source : Source) (merges : List (List ℕ)) (names : Nameable) (r : Refused) → RefusesSource g i source merges names r → (e : Early) → EndsBy names (causes.Refused r) e → AnswersTable g i source merges (Err e)
 ends_at_table g i source merges names r why (halts.With o) ends = record { names = names; refused = r; refuses_source = why; outcome = ends }
 ends_at_table g i source merges names r why halts.Memory ends = tt
 
@@ -76,7 +76,7 @@ of_merges g atoms i name text ms (Err halts.Memory) many short read h = tt
 -- ---- actions
 
 -- a refusal ends a command
-pub ends_at_plan : (g : Ground) (text : List ℕ) (named : Named) (r : Refused) → RefusesActions g text named r → (e : Early) → EndsBy named (causes.Refused r) e → AnswersActions g text (Err e)
+pub ends_at_plan : (g : Ground) (text : List ℕ) (named : Nameable) (r : Refused) → RefusesActions g text named r → (e : Early) → EndsBy named (causes.Refused r) e → AnswersActions g text (Err e)
 ends_at_plan g text named r why (halts.With o) ends = record { named = named; refused = r; refuses_actions = why; outcome = ends }
 ends_at_plan g text named r why halts.Memory ends = tt
 
@@ -93,7 +93,7 @@ ends_at_step g steps (refusals.StepUnknown number) first halts.Memory ends = tt
 ends_at_step g steps _ first e ends = absurd first
 
 -- steps that were read name actions, or are refused
-pub of_steps : (g : Ground) (text : List ℕ) (steps : List PlanStep) (result : Result (List ℕ) Early) → length text ≤ most_bytes → IsPlanOf text steps → AnswersSteps g steps result → AnswersActions g text result
+pub of_steps : (g : Ground) (text : List ℕ) (steps : List PlanStep) (result : Result (List ℕ) Early) → length text ≤ most_bytes → IsPlanFile text steps → AnswersSteps g steps result → AnswersActions g text result
 of_steps g text steps (Ok ns) short read known = (steps, record { short = short; reads = read; known = known })
 of_steps g text steps (Err (halts.With o)) short read h = record { named = named_with g (step_names steps); refused = refusals.StepUnknown h.0; refuses_actions = unknown_step steps h.0 short read h.1; outcome = h.2 }
 of_steps g text steps (Err halts.Memory) short read h = tt

@@ -20,7 +20,7 @@ use Rattle.kp_tags_files.specs.Numbers.{IsLit, IsTag, IsMerge}
 use Rattle.kp_tags_files.specs.MergesFiles.{IsMergesOf}
 use Rattle.kp_plans.specs.declared.step.PlanStep.{PlanStep}
 use Rattle.kp_plans.specs.Names.{number_of}
-use Rattle.kp_plans.specs.PlanFiles.{step_of, IsPlanOf}
+use Rattle.kp_plans.specs.PlanFiles.{step_of, IsPlanFile}
 use Rattle.kp_tags.specs.MergeTables.{has_tags_of_atoms}
 use Rattle.kp_write.specs.Grounds.{IsOfAtom}
 
@@ -37,7 +37,7 @@ parts_in_text p X text xs h =
     let parts = parts_few (all_seen_in text h.tokens) [] xs h.reads in
     omega (arith, tokens, seen, parts)
 
-pub few_steps : (text : List ℕ) (steps : List PlanStep) → IsPlanOf text steps → length steps ≤ length text
+pub few_steps : (text : List ℕ) (steps : List PlanStep) → IsPlanFile text steps → length steps ≤ length text
 few_steps text steps h =
     let same = ap length (sym h.are) ∙ length-map h.tree (step_of text) in
     let few = parts_in_text _ _ text h.tree h.reads in

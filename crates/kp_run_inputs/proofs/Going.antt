@@ -7,7 +7,7 @@ use Rattle.kp_base.specs.declared.ground.TagTable.{TagTable}
 use Rattle.kp_tree_grammar.specs.declared.tree.Word.{Word}
 use Rattle.kp_tree_grammar.specs.Trees.{Domain, Problem}
 use Rattle.kp_run_outcome.specs.declared.outcome.Outcome.{Outcome}
-use Rattle.kp_words.specs.Names.{Source}
+use Rattle.kp_words.specs.Asked.{Source}
 use Rattle.kp_run_prepare.specs.declared.prepared.Prepared.{Prepared as Made}
 use Rattle.kp_run_prepare.specs.declared.prepared.Early.{Early}
 use Rattle.kp_run_prepare.specs.declared.prepared.Early.TheVariants as halts

@@ -13,8 +13,8 @@ use Rattle.kp_tags.specs.Answers.{Accepts, RefusesTable}
 use Rattle.kp_tags.specs.Made.{IsMade, RefusesMade}
 use Rattle.kp_tags.proofs.Public.{made_table_once}
 use Rattle.kp_law_decidable.proofs.Public.{table_refusal_once, table_or_refused, accepted_table_is_one}
-use Rattle.kp_run_messages.specs.Refusals.{Named}
-use Rattle.kp_words.specs.Names.{Source}
+use Rattle.kp_run_messages.specs.Refusals.{Nameable}
+use Rattle.kp_words.specs.Asked.{Source}
 use Rattle.kp_run_prepare.specs.Prepared.{usual}
 use Rattle.kp_run_inputs.specs.SourceTables.{HasTable, by_mode, by_file, RefusesSource, of_its_mode, long_file, no_merges, bad_merges}
 use Rattle.kp_run_inputs.specs.Laws.{SourcesHaveOneTable}
@@ -50,7 +50,7 @@ module _ (g : Ground) (i : Initial) where
   tables_one _ _ t v (by_mode mode _ a) (by_mode _ _ b) = one_made g i mode t v a b
   tables_one _ _ t v (by_file name text ms _ short read a) (by_file _ _ ns _ also_short also a') = same_table g i text ms ns t v read also a a'
 
-  refusals_one : (source : Source) (merges : List (List ℕ)) (a b : Named) (r s : Refused) → RefusesSource g i source merges a r → RefusesSource g i source merges b s → (a ≡ b) × (r ≡ s)
+  refusals_one : (source : Source) (merges : List (List ℕ)) (a b : Nameable) (r s : Refused) → RefusesSource g i source merges a r → RefusesSource g i source merges b s → (a ≡ b) × (r ≡ s)
   refusals_one _ _ _ _ r s (of_its_mode mode _ h) (of_its_mode _ _ k) = (refl, one_refusal g i mode r s h k)
   refusals_one _ _ _ _ _ _ (long_file name text h) (long_file _ _ k) = (refl, refl)
   refusals_one _ _ _ _ _ s (long_file name text h) (no_merges _ _ _ k e) = absurd (omega (arith, h, k))
@@ -62,7 +62,7 @@ module _ (g : Ground) (i : Initial) where
   refusals_one _ _ _ _ r s (bad_merges name text ms _ h e x) (no_merges _ _ _ k f) = absurd (merges_never_both g.atoms text ms s e f)
   refusals_one _ _ _ _ r s (bad_merges name text ms _ h e x) (bad_merges _ _ ns _ k f y) = (refl, same_refusal g i text ms ns r s e f x y)
 
-  never_both : (source : Source) (merges : List (List ℕ)) (t : TagTable) (a : Named) (r : Refused) → HasTable g i source merges t → RefusesSource g i source merges a r → ⊥
+  never_both : (source : Source) (merges : List (List ℕ)) (t : TagTable) (a : Nameable) (r : Refused) → HasTable g i source merges t → RefusesSource g i source merges a r → ⊥
   never_both _ _ t _ r (by_mode mode _ h) (of_its_mode _ _ k) = refused_or_made g i mode r t k h
   never_both _ _ t _ _ (by_file name text ms _ h e x) (long_file _ _ k) = omega (arith, h, k)
   never_both _ _ t _ r (by_file name text ms _ h e x) (no_merges _ _ _ k f) = merges_never_both g.atoms text ms r e f

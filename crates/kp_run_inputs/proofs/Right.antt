@@ -6,7 +6,7 @@ use Rattle.kp_base.specs.declared.ground.TagTable.{TagTable}
 use Rattle.kp_base.specs.declared.limits.Mode.{Mode}
 use Rattle.kp_tags.specs.Made.{IsMade}
 use Rattle.kp_tags.proofs.Public.{made_tables_are_right, made_tables_are_complete, accepted_tables_are_right}
-use Rattle.kp_words.specs.Names.{Source, of_mode}
+use Rattle.kp_words.specs.Asked.{Source, of_mode}
 use Rattle.kp_run_prepare.specs.Prepared.{usual}
 use Rattle.kp_run_inputs.specs.SourceTables.{HasTable, by_mode, by_file}
 use Rattle.kp_run_inputs.specs.Laws.{TablesAreRight, SomeTablesAreComplete}

@@ -11,9 +11,9 @@ use Rattle.kp_base.specs.declared.refused.Refused.TheVariants as refusals
 use Rattle.kp_tags_files.proofs.Public.{merges_always_one}
 use Rattle.kp_law_decidable.specs.Laws.{AreProper}
 use Rattle.kp_law_decidable.proofs.Public.{tables_decided, made_decided}
-use Rattle.kp_run_messages.specs.Refusals.{Named, nothing}
+use Rattle.kp_run_messages.specs.Refusals.{Nameable, nothing}
 use Rattle.kp_base.specs.Files.{most_bytes}
-use Rattle.kp_words.specs.Names.{Source, of_mode, of_file}
+use Rattle.kp_words.specs.Asked.{Source, of_mode, of_file}
 use Rattle.kp_run_prepare.specs.Refusing.{named_in}
 use Rattle.kp_run_prepare.specs.Prepared.{usual}
 use Rattle.kp_run_inputs.specs.SourceTables.{HasTable, by_mode, by_file, RefusesSource, of_its_mode, long_file, no_merges, bad_merges}
@@ -22,7 +22,7 @@ use Rattle.kp_run_inputs.proofs.FileMerges.{tags_of_atoms}
 
 module _ (g : Ground) (i : Initial) (proper : AreProper g i) where
   abbrev Decided : Source → List (List ℕ) → Type 0
-  Decided source merges = ((t : TagTable) × HasTable g i source merges t) ⊎ ((a : Named) × (r : Refused) × RefusesSource g i source merges a r)
+  Decided source merges = ((t : TagTable) × HasTable g i source merges t) ⊎ ((a : Nameable) × (r : Refused) × RefusesSource g i source merges a r)
 
   of_text : (name text : List ℕ) → Decided (of_file name) (text ∷ [])
   of_text name text = elim (cases_lt most_bytes (length text)) [

@@ -28,7 +28,7 @@ use Rattle.kp_law_translation.specs.OfTrees.{ground_of, initial_of}
 use Rattle.kp_law_translation.specs.Tables.{IsTableFor}
 use Rattle.kp_run_prepare.specs.Prepared.{usual, IsSmall}
 use Rattle.kp_run_prepare.proofs.Public.{usual_ground_is_of_its_atoms}
-use Rattle.kp_words.specs.Names.{Source}
+use Rattle.kp_words.specs.Asked.{Source}
 use Rattle.kp_run_inputs.specs.SourceTables.{HasTable, by_mode, by_file}
 use Rattle.kp_run_inputs.proofs.FileMerges.{targets_of_atoms}
 use Rattle.kp_run_inputs.proofs.Right.{tables_right}

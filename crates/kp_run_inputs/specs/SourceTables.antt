@@ -15,8 +15,8 @@ use Rattle.kp_outside.specs.declared.outside.Got.{Got}
 use Rattle.kp_outside.specs.Outside.{IsFront, IsWithin}
 use Rattle.kp_run_outcome.specs.declared.outcome.Outcome.{Outcome}
 use Rattle.kp_base.specs.Files.{most_bytes}
-use Rattle.kp_run_messages.specs.Refusals.{Named, nothing}
-use Rattle.kp_words.specs.Names.{Source, of_mode, of_file}
+use Rattle.kp_run_messages.specs.Refusals.{Nameable, nothing}
+use Rattle.kp_words.specs.Asked.{Source, of_mode, of_file}
 use Rattle.kp_run_prepare.specs.declared.prepared.Early.{Early}
 use Rattle.kp_run_prepare.specs.declared.prepared.Early.TheVariants as halts
 use Rattle.kp_run_prepare.specs.Refusing.{refuses, named_in}
@@ -32,7 +32,7 @@ pub data HasTable (g : Ground) (i : Initial) : Source → List (List ℕ) → Ta
   by_file : (name text : List ℕ) (ms : List FileMerge) (table : TagTable) → length text ≤ most_bytes → IsMergesOf g.atoms text ms → Accepts (length g.atoms) i ms usual.tags table → HasTable g i (of_file name) (text ∷ []) table
 
 -- it has none, and this is refused, with what the refusal may name: the first of these that holds
-pub data RefusesSource (g : Ground) (i : Initial) : Source → List (List ℕ) → Named → Refused → Type 0 where
+pub data RefusesSource (g : Ground) (i : Initial) : Source → List (List ℕ) → Nameable → Refused → Type 0 where
   of_its_mode : (mode : Mode) (r : Refused) → RefusesMade mode usual g i r → RefusesSource g i (of_mode mode) [] (named_in g) r
   long_file : (name text : List ℕ) → most_bytes < length text → RefusesSource g i (of_file name) (text ∷ []) nothing (refusals.TooLong parts.Merges)
   no_merges : (name text : List ℕ) (r : Refused) → length text ≤ most_bytes → RefusesMerges g.atoms text r → RefusesSource g i (of_file name) (text ∷ []) nothing r
@@ -42,7 +42,7 @@ pub data RefusesSource (g : Ground) (i : Initial) : Source → List (List ℕ) �
 
 -- a command that goes on so with a table comes to this: a refusal, or it goes on
 pub data ComesByTable (g : Ground) (i : Initial) (source : Source) (merges : List (List ℕ)) (goes_on : TagTable → Outcome → Type 0) (o : Outcome) : Type 0 where
-  no_table : (names : Named) (r : Refused) → RefusesSource g i source merges names r → o ≡ refuses names r → ComesByTable g i source merges goes_on o
+  no_table : (names : Nameable) (r : Refused) → RefusesSource g i source merges names r → o ≡ refuses names r → ComesByTable g i source merges goes_on o
   with_table : (table : TagTable) → HasTable g i source merges table → goes_on table o → ComesByTable g i source merges goes_on o
 
 -- ---- the calls
@@ -59,7 +59,7 @@ IsShort (origins.Merges got) = IsWithin most_bytes got
 
 -- a command ends since there is no table
 pub record EndsAtTable (g : Ground) (i : Initial) (source : Source) (merges : List (List ℕ)) (o : Outcome) : Type 0 where
-  pub names : Named
+  pub names : Nameable
   pub refused : Refused
   pub refuses_source : RefusesSource g i source merges names refused
   pub outcome : o ≡ refuses names refused

@@ -11,7 +11,7 @@ ghost use Rattle.kp_run_inputs.specs.Actions.{named_with, AnswersActions, Answer
 use kp_base::{Ground, GroundName, Memory, Part, Refused, Row, Stop};
 use kp_outside::Got;
 use kp_plans::{PlanStep, find_steps, read_plan};
-use kp_run_messages::Named;
+use kp_run_messages::Nameable;
 use kp_run_prepare::{Early, ended_by, refuse_with};
 use std::alloc::Global;
 
@@ -33,7 +33,7 @@ fn end_at_step(alloc: Global, ground: &Ground, steps: Row<PlanStep>, refused: Re
     let Ok(names) = names_of(alloc, steps) else {
         return Early::Memory;
     };
-    let named = Named {
+    let named = Nameable {
         atoms: ground.atoms.slice(),
         actions: ground.actions.slice(),
         steps: names.slice(),

@@ -7,7 +7,7 @@ ghost use Rattle.kp_outside.specs.Outside.{IsFront, IsWithin};
 ghost use Rattle.kp_primes.specs.Held.{formula};
 ghost use Rattle.kp_relevance.specs.Relevant.{ArePairsOf};
 ghost use Rattle.kp_tags.specs.MergeTables.{has_tags_of_atoms};
-ghost use Rattle.kp_words.specs.Names.{Source, of_mode, of_file};
+ghost use Rattle.kp_words.specs.Asked.{Source, of_mode, of_file};
 ghost use Rattle.kp_run_prepare.specs.Prepared.{IsUsable};
 ghost use Rattle.kp_run_inputs.specs.SourceTables.{IsOrigin, IsShort, AnswersTable, AnswersMerges};
 

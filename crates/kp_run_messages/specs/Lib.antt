@@ -1,7 +1,6 @@
 pub mod Refusals
 pub mod Counterexamples
 pub mod Lifting
-pub mod Usage
 pub mod Coverage
 pub mod Searches
 pub mod Widths

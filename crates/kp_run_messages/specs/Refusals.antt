@@ -14,13 +14,13 @@ use Rattle.kp_base.specs.declared.refused.Refused.TheVariants as refusals
 use Rattle.kp_plans_spelling.specs.Spelling.{name_text, atom_text, atoms_text, literal_text, literals_text, number_line}
 
 -- what a refusal may name by number: the atoms and the actions of a ground problem, and the steps of a plan
-pub record Named : Type 0 where
+pub record Nameable : Type 0 where
   pub atoms : List GroundName
   pub actions : List Action
   pub steps : List GroundName
 
 -- nothing can be named yet
-abbrev pub nothing : Named
+abbrev pub nothing : Nameable
 nothing = record { atoms = []; actions = []; steps = [] }
 
 -- ---- lines
@@ -102,7 +102,7 @@ title_of (refusals.SetsOver target size) = codes "refused 21 SetsOver\n"
 title_of (refusals.NotClassical place) = codes "refused 22 NotClassical\n"
 
 -- the lines of what a refusal carries
-abbrev pub lines_of : Named → Refused → List ℕ
+abbrev pub lines_of : Nameable → Refused → List ℕ
 lines_of n (refusals.TooLong part) = file_line part
 lines_of n (refusals.BadToken place) = place_line place
 lines_of n (refusals.Syntax place) = place_line place
@@ -129,5 +129,5 @@ lines_of n (refusals.SetsOver target size) = target_line n.atoms target ++ numbe
 lines_of n (refusals.NotClassical place) = place_line place
 
 -- a refusal
-abbrev pub refusal_text : Named → Refused → List ℕ
+abbrev pub refusal_text : Nameable → Refused → List ℕ
 refusal_text n r = title_of r ++ lines_of n r

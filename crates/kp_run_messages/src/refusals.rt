@@ -11,7 +11,7 @@ use std::marker::Model;
 
 /// What a refusal may name by number.
 #[derive(Drop)]
-pub struct Named<'a> {
+pub struct Nameable<'a> {
     /// The atoms of the ground problem.
     pub atoms: &'a [GroundName],
     /// Its actions.
@@ -20,20 +20,20 @@ pub struct Named<'a> {
     pub steps: &'a [GroundName],
 }
 
-impl<'a> Model for Named<'a> {
-    ghost use Rattle.kp_run_messages.specs.Refusals.{Named as Names};
+impl<'a> Model for Nameable<'a> {
+    ghost use Rattle.kp_run_messages.specs.Refusals.{Nameable as Names};
 
     ghost Value = { Names };
 
     ghost view = { λ n. record { atoms = n.atoms.now; actions = n.actions.now; steps = n.steps.now } };
 }
 
-impl<'a> Named<'a> {
+impl<'a> Nameable<'a> {
     /// Nothing can be named yet.
-    pub fn nothing() -> Named<'a>
+    pub fn nothing() -> Nameable<'a>
         ensures { result ≡ nothing }
     {
-        Named {
+        Nameable {
             atoms: &[],
             actions: &[],
             steps: &[],
@@ -95,7 +95,7 @@ fn put_sets(out: &mut Vec<u8>, atoms: &[GroundName], target: Lit, size: u32) -> 
 }
 
 // Adds the lines of what a refusal carries.
-fn put_lines(out: &mut Vec<u8>, named: &Named<'_>, refused: &Refused) -> Result<(), Memory>
+fn put_lines(out: &mut Vec<u8>, named: &Nameable<'_>, refused: &Refused) -> Result<(), Memory>
     ensures { OnOk result (out.new.items ≡ out.old.items ++ lines_of named.now refused.now) }
 {
     match refused {
@@ -129,7 +129,7 @@ fn put_lines(out: &mut Vec<u8>, named: &Named<'_>, refused: &Refused) -> Result<
 }
 
 /// The lines of a refusal.
-pub fn refusal(alloc: Global, named: &Named<'_>, refused: &Refused) -> Result<Row<u8>, Memory>
+pub fn refusal(alloc: Global, named: &Nameable<'_>, refused: &Refused) -> Result<Row<u8>, Memory>
     ensures { IfOk result (λ text. text ≡ refusal_text named.now refused.now) }
 {
     let mut out = Vec::new(alloc);

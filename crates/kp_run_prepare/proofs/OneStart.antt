@@ -17,7 +17,7 @@ use Rattle.kp_names_semantics.specs.Numbering.{numbered_problem}
 use Rattle.kp_ground_instances.specs.Counts.{IsWithinLimits, RefusesCounts, bindings_over, actions_over, effects_over}
 use Rattle.kp_ground.specs.Grounded.{IsGrounded, RefusesGround, counts_over, atoms_over}
 use Rattle.kp_law_translation.specs.OfTrees.{ground_of, initial_of}
-use Rattle.kp_run_messages.specs.Refusals.{Named, nothing}
+use Rattle.kp_run_messages.specs.Refusals.{Nameable, nothing}
 use Rattle.kp_run_outcome.specs.declared.outcome.Outcome.{Outcome}
 use Rattle.kp_run_prepare.specs.Texts.{HaveTrees}
 use Rattle.kp_run_prepare.specs.Refusing.{refuses, named_in}
@@ -69,10 +69,10 @@ least_or_never i limit k a n = not_more_and_at_most (prefix_of i k) limit a.more
 -- ---- two trees
 
 module _ (limit : ℕ) (d : Domain Word) (p : Problem Word) where
-  abbrev Same : Named → Named → Refused → Refused → Type 0
+  abbrev Same : Nameable → Nameable → Refused → Refused → Type 0
   Same n m r s = refuses n r ≡ refuses m s
 
-  trees_once : (n m : Named) (r s : Refused) → RefusesTrees limit d p n r → RefusesTrees limit d p m s → Same n m r s
+  trees_once : (n m : Nameable) (r s : Refused) → RefusesTrees limit d p n r → RefusesTrees limit d p m s → Same n m r s
   trees_once _ _ _ _ (too_large r h) (too_large s k) = ap (refuses nothing) (ground_once (numbered_problem d p) usual r s h k)
   trees_once _ _ _ _ (too_large r h) (implicates_over n w b) = absurd (ground_or_within (numbered_problem d p) usual r _ h w)
   trees_once _ _ _ _ (too_large r h) (no_initial_state w b e) = absurd (ground_or_within (numbered_problem d p) usual r _ h w)
@@ -90,7 +90,7 @@ module _ (limit : ℕ) (d : Domain Word) (p : Problem Word) where
   trees_once _ _ _ _ (clash c a h) (no_initial_state w b e) = absurd (e a.initial)
   trees_once _ _ _ _ (clash c a h) (clash e b k) = ap (λ x. refuses (named_in (ground_of d p)) (refusals.Clash x)) (first_clash_once h.pairs (ground_of d p) c e h.first (first_clash_under_any_exclusive (ground_of d p) (initial_of d p) c e h k))
 
-  trees_or_prepared : (n : Named) (r : Refused) → RefusesTrees limit d p n r → IsPrepared limit d p → ⊥
+  trees_or_prepared : (n : Nameable) (r : Refused) → RefusesTrees limit d p n r → IsPrepared limit d p → ⊥
   trees_or_prepared _ _ (too_large r h) k = ground_or_within (numbered_problem d p) usual r _ h k.started.small
   trees_or_prepared _ _ (implicates_over n w a) k = least_or_never (initial_of d p) limit n a k.started.counted
   trees_or_prepared _ _ (no_initial_state w a i) k = i k.started.initial

@@ -13,7 +13,7 @@ use Rattle.kp_names_semantics.specs.Numbering.{numbered_problem}
 use Rattle.kp_ground.specs.Grounded.{IsGrounded, RefusesGround}
 use Rattle.kp_primes.specs.Answers.{HoldsPrimes}
 use Rattle.kp_law_translation.specs.OfTrees.{ground_of, initial_of}
-use Rattle.kp_run_messages.specs.Refusals.{Named, nothing}
+use Rattle.kp_run_messages.specs.Refusals.{Nameable, nothing}
 use Rattle.kp_run_outcome.specs.declared.outcome.Outcome.{Outcome}
 use Rattle.kp_run_prepare.specs.declared.prepared.Prepared.{Prepared as Made}
 use Rattle.kp_run_prepare.specs.declared.prepared.Early.{Early}
@@ -43,7 +43,7 @@ pub record IsPrepared (limit : ℕ) (d : Domain Word) (p : Problem Word) : Type 
   pub clash_free : IsClashFree (ground_of d p) (initial_of d p)
 
 -- two trees in which no name is at fault are refused, with what the refusal may name: the first of these that holds
-pub data RefusesTrees (limit : ℕ) (d : Domain Word) (p : Problem Word) : Named → Refused → Type 0 where
+pub data RefusesTrees (limit : ℕ) (d : Domain Word) (p : Problem Word) : Nameable → Refused → Type 0 where
   too_large : (r : Refused) → RefusesGround (numbered_problem d p) usual r → RefusesTrees limit d p nothing r
   implicates_over : (k : ℕ) → IsSmall d p → IsLeastOver (initial_of d p) limit k → RefusesTrees limit d p nothing (refusals.ImplicatesOver k)
   no_initial_state : IsSmall d p → IsNeverOver (initial_of d p) limit → (HasInitialState p → ⊥) → RefusesTrees limit d p nothing refusals.NoInitialState
@@ -54,7 +54,7 @@ pub data RefusesTrees (limit : ℕ) (d : Domain Word) (p : Problem Word) : Named
 -- a command ends early, with the refusal of a text, of a name, or of what the trees are
 pub data EndsEarly (limit : ℕ) (domain problem : List ℕ) (o : Outcome) : Type 0 where
   by_texts : (r : Refused) → RefusesTexts domain problem r → o ≡ refuses nothing r → EndsEarly limit domain problem o
-  by_trees : (d : Domain Word) (p : Problem Word) (names : Named) (r : Refused) → HaveTrees domain problem d p → RefusesTrees limit d p names r → o ≡ refuses names r → EndsEarly limit domain problem o
+  by_trees : (d : Domain Word) (p : Problem Word) (names : Nameable) (r : Refused) → HaveTrees domain problem d p → RefusesTrees limit d p names r → o ≡ refuses names r → EndsEarly limit domain problem o
 
 -- a command comes to this on two texts: it ends early; or it goes on with their trees, and comes to what `goes_on` says of them
 pub data Comes (limit : ℕ) (domain problem : List ℕ) (goes_on : Domain Word → Problem Word → Outcome → Type 0) (o : Outcome) : Type 0 where

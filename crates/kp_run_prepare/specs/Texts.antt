@@ -10,7 +10,7 @@ use Rattle.kp_tree.specs.Files.{HasTree, Refuses}
 use Rattle.kp_names_numbered.specs.declared.lifted.Lifted.{Lifted}
 use Rattle.kp_names.specs.Resolved.{RefusesNames, IsResolved}
 
--- the files have these trees, in which no name is at fault
+-- the files have these trees, in which no name is at fault: they have a problem (`HasProblem`), and are within the limits of length and of open brackets
 pub record HaveTrees (domain problem : List ℕ) (d : Domain Word) (p : Problem Word) : Type 0 where
   pub domain_reads : HasTree grammar.domain domain d
   pub problem_reads : HasTree grammar.problem problem p

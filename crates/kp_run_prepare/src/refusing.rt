@@ -4,12 +4,12 @@ ghost use Rattle.kp_run_prepare.specs.Refusing.{refuses, named_in, EndsBy};
 
 use crate::prepared::Early;
 use kp_base::{Ground, Memory, Refused, Row, Stop};
-use kp_run_messages::{Named, refusal};
+use kp_run_messages::{Nameable, refusal};
 use kp_run_outcome::{Outcome, Status};
 use std::alloc::Global;
 
 /// A refusal is printed, with what it may name.
-pub fn refuse_with(alloc: Global, named: &Named<'_>, refused: Refused) -> Result<Outcome, Memory>
+pub fn refuse_with(alloc: Global, named: &Nameable<'_>, refused: Refused) -> Result<Outcome, Memory>
     ensures { IfOk result (λ o. o ≡ refuses named.now refused) }
 {
     let text = refusal(alloc, named, &refused)?;
@@ -24,14 +24,14 @@ pub fn refuse_with(alloc: Global, named: &Named<'_>, refused: Refused) -> Result
 pub fn refuse(alloc: Global, refused: Refused) -> Result<Outcome, Memory>
     ensures { IfOk result (λ o. o ≡ refuses nothing refused) }
 {
-    refuse_with(alloc, &Named::nothing(), refused)
+    refuse_with(alloc, &Nameable::nothing(), refused)
 }
 
 /// A refusal is printed that may name the atoms and actions of a ground problem.
 pub fn refuse_in(alloc: Global, ground: &Ground, refused: Refused) -> Result<Outcome, Memory>
     ensures { IfOk result (λ o. o ≡ refuses (named_in ground.now) refused) }
 {
-    let named = Named {
+    let named = Nameable {
         atoms: ground.atoms.slice(),
         actions: ground.actions.slice(),
         steps: &[],

@@ -5,8 +5,7 @@ use Rattle.kp_classic.specs.States.{has}
 use Rattle.kp_guide.proofs.Public.{added_is_right}
 use Rattle.kp_search.specs.declared.found.Found.{Found}
 use Rattle.kp_search.specs.declared.found.Found.TheVariants.{Plan, NoPlan, Spent}
-use Rattle.kp_search.specs.Ends.{Tells}
-use Rattle.kp_search.specs.Laws.{by_added}
+use Rattle.kp_search.specs.Ends.{Tells, by_added}
 use Rattle.kp_search.proofs.Public.{ends_tell}
 use Rattle.kp_run_solve.specs.Laws.{EndsAreTrue}
 use Rattle.kp_run_solve.specs.Operators.{IsInside}

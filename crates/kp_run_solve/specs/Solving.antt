@@ -11,8 +11,7 @@ use Rattle.kp_names_semantics.specs.Steps.{Step}
 use Rattle.kp_classic.specs.declared.task.Task.{Task}
 use Rattle.kp_search.specs.declared.found.Found.{Found}
 use Rattle.kp_search.specs.declared.found.Found.TheVariants.{Plan, NoPlan, Spent}
-use Rattle.kp_search.specs.Ends.{HasEnd}
-use Rattle.kp_search.specs.Laws.{by_added}
+use Rattle.kp_search.specs.Ends.{HasEnd, by_added}
 use Rattle.kp_plans.specs.Printed.{plan_text}
 use Rattle.kp_law_ktask.specs.Task.{task_of}
 use Rattle.kp_base.specs.ActionNames.{action_name}

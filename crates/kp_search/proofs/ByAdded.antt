@@ -4,7 +4,8 @@ use Rattle.kp_classic.specs.Fits.{IsFit}
 use Rattle.kp_classic.specs.States.{has}
 use Rattle.kp_guide.proofs.Public.{added_exists, added_is_one}
 use Rattle.kp_search.specs.Estimates.{HasEstimates, HasOneEstimate}
-use Rattle.kp_search.specs.Laws.{by_added, HasOneEndByAdded, HasSomeEndByAdded}
+use Rattle.kp_search.specs.Ends.{by_added}
+use Rattle.kp_search.specs.Laws.{HasOneEndByAdded, HasSomeEndByAdded}
 use Rattle.kp_search.proofs.OneEnd.{same_end}
 use Rattle.kp_search.proofs.SomeEnd.{some_end}
 

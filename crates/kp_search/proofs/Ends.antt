@@ -6,7 +6,7 @@ use Rattle.kp_base.specs.Lists.{Member}
 use Rattle.kp_base.proofs.Lists.{number_at}
 use Rattle.kp_classic.specs.declared.task.Task.{Task}
 use Rattle.kp_classic.specs.Fits.{are_below, IsFit}
-use Rattle.kp_classic.specs.Runs.{outcome}
+use Rattle.kp_classic.specs.Runs.{state_at_end}
 use Rattle.kp_classic.specs.States.{FactSet, has}
 use Rattle.kp_classic.specs.Steps.{start, succeeds}
 use Rattle.kp_search.specs.declared.found.Found.{Found}
@@ -42,7 +42,7 @@ module _ (t : Task) (may : FactSet → Option ℕ → Type 0) (budget : ℕ) (c 
   expanded_of x m = let r = number_at states x m in (r.0, state_at r.0 x r.1)
 
   reached_of : (k : ℕ) (x : FactSet) → Expanded c k x → IsReached t x
-  reached_of k x (m, d, a, b, e) = record { ops = d.ops; leads = subst (λ y. outcome t d.ops ≡ Some y) e (s.reached m d b).leads }
+  reached_of k x (m, d, a, b, e) = record { ops = d.ops; leads = subst (λ y. state_at_end t d.ops ≡ Some y) e (s.reached m d b).leads }
 
   was_taken : (k : ℕ) (x : FactSet) → Expanded c k x → WasTaken c x
   was_taken k x (m, d, a, b, e) = record { number = m; entry = d; taken = s.expanded k m a; there = b; same = e }

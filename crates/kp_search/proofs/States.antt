@@ -5,7 +5,7 @@ use Rattle.std.proofs.lemmas.Option.{slice_get_within}
 use Rattle.kp_classic.specs.declared.task.Task.{Task}
 use Rattle.kp_classic.specs.declared.task.Op.{Op}
 use Rattle.kp_classic.specs.Fits.{are_below, IsFit}
-use Rattle.kp_classic.specs.Runs.{outcome}
+use Rattle.kp_classic.specs.Runs.{state_at_end}
 use Rattle.kp_classic.specs.States.{FactSet, has, fact_set_of}
 use Rattle.kp_classic.specs.Steps.{Holding, meets, applicable, next, start, runs, holding_after, succeeds}
 use Rattle.kp_classic.proofs.Public.{facts_of_agreeing_tests, AgreeOnFacts, agree_those, applicable_alike, next_alike, succeeds_alike, success_is_a_run, meets_alike}
@@ -52,7 +52,7 @@ record Outcome (t : Task) (ks : List ℕ) (s : FactSet) : Type 0 where
   state : s ≡ fact_set_of (length t.facts) (holding_after t (start t) ks)
   agree : AgreeOnFacts (length t.facts) (has s.hold) (holding_after t (start t) ks)
 
-outcome_is : (t : Task) (ks : List ℕ) (s : FactSet) → outcome t ks ≡ Some s → Outcome t ks s
+outcome_is : (t : Task) (ks : List ℕ) (s : FactSet) → state_at_end t ks ≡ Some s → Outcome t ks s
 outcome_is t ks s e = go (runs t (start t) ks) refl e
   where
     end : FactSet
@@ -64,7 +64,7 @@ outcome_is t ks s e = go (runs t (start t) ks) refl e
         record { runs_on = is; state = same; agree = subst (λ (x : FactSet). AgreeOnFacts (length t.facts) (has x.hold) (holding_after t (start t) ks)) (sym same) (agree_those (length t.facts) (holding_after t (start t) ks)) }
     go false is h = cc
 
-is_outcome : (t : Task) (ks : List ℕ) (s : FactSet) → runs t (start t) ks ≡ true → s ≡ fact_set_of (length t.facts) (holding_after t (start t) ks) → outcome t ks ≡ Some s
+is_outcome : (t : Task) (ks : List ℕ) (s : FactSet) → runs t (start t) ks ≡ true → s ≡ fact_set_of (length t.facts) (holding_after t (start t) ks) → state_at_end t ks ≡ Some s
 is_outcome t ks s r e = rw r (ap Some (sym e))
 
 pub led_first : (t : Task) → IsLed t [] (first t)

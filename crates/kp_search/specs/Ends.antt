@@ -3,9 +3,10 @@ use Rattle.std.specs.Prelude.{◌≡◌, ℕ, true, false, List, Option, Some, l
 use Rattle.kp_base.specs.Lists.{Member}
 use Rattle.kp_classic.specs.declared.task.Task.{Task}
 use Rattle.kp_classic.specs.Fits.{are_below}
-use Rattle.kp_classic.specs.Runs.{outcome}
-use Rattle.kp_classic.specs.States.{FactSet}
+use Rattle.kp_classic.specs.Runs.{state_at_end}
+use Rattle.kp_classic.specs.States.{FactSet, has}
 use Rattle.kp_classic.specs.Steps.{start, succeeds}
+use Rattle.kp_guide.specs.Added.{IsAdded}
 use Rattle.kp_search.specs.declared.found.Found.{Found}
 use Rattle.kp_search.specs.declared.found.Found.TheVariants.{Plan, NoPlan, Spent}
 use Rattle.kp_search.specs.Trace.{is_goal, EndsWithPlan, EndsSpent, EndsWithoutPlan}
@@ -16,12 +17,16 @@ HasEnd t may budget (Plan ops n) = EndsWithPlan t may budget ops n
 HasEnd t may budget NoPlan = EndsWithoutPlan t may budget
 HasEnd t may budget (Spent n) = EndsSpent t may budget n
 
+-- a state is estimated by `added`
+abbrev pub by_added : Task → FactSet → Option ℕ → Type 0
+by_added t s = IsAdded t (has s.hold)
+
 -- ---- what it says
 
 -- some operators lead from the start to the state
 pub record IsReached (t : Task) (s : FactSet) : Type 0 where
   pub ops : List ℕ
-  pub leads : outcome t ops ≡ Some s
+  pub leads : state_at_end t ops ≡ Some s
 
 -- so many different states can be reached that don't meet the goal, and one more such
 pub record HasMoreStates (t : Task) (budget : ℕ) : Type 0 where

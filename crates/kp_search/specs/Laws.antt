@@ -2,10 +2,9 @@
 use Rattle.std.specs.Prelude.{◌≡◌, ℕ, Option}
 use Rattle.kp_classic.specs.declared.task.Task.{Task}
 use Rattle.kp_classic.specs.Fits.{IsFit}
-use Rattle.kp_classic.specs.States.{FactSet, has}
-use Rattle.kp_guide.specs.Added.{IsAdded}
+use Rattle.kp_classic.specs.States.{FactSet}
 use Rattle.kp_search.specs.declared.found.Found.{Found}
-use Rattle.kp_search.specs.Ends.{HasEnd}
+use Rattle.kp_search.specs.Ends.{HasEnd, by_added}
 
 -- a state may be estimated at nothing but this
 abbrev pub gives : (FactSet → Option ℕ) → FactSet → Option ℕ → Type 0
@@ -20,10 +19,6 @@ abbrev pub HasSomeEnd : Type 0
 HasSomeEnd = (t : Task) (h : FactSet → Option ℕ) (budget : ℕ) → (f : Found) × HasEnd t (gives h) budget f
 
 -- ---- the same of the estimate `added`
-
--- a state is estimated by `added`
-abbrev pub by_added : Task → FactSet → Option ℕ → Type 0
-by_added t s = IsAdded t (has s.hold)
 
 abbrev pub HasOneEndByAdded : Type 0
 HasOneEndByAdded = (t : Task) (budget : ℕ) (a b : Found) → HasEnd t (by_added t) budget a → HasEnd t (by_added t) budget b → a ≡ b

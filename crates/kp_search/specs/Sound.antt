@@ -2,7 +2,7 @@
 use Rattle.std.specs.Prelude.{◌≡◌, ◌<◌, ◌≤◌, ◌⊎◌, ℕ, true, false, List, Option, Some, None, length, slice_get}
 use Rattle.kp_classic.specs.declared.task.Task.{Task}
 use Rattle.kp_classic.specs.Fits.{are_below}
-use Rattle.kp_classic.specs.Runs.{outcome}
+use Rattle.kp_classic.specs.Runs.{state_at_end}
 use Rattle.kp_classic.specs.States.{FactSet}
 use Rattle.kp_search.specs.Trace.{Entry, Course, first, can, step, is_goal, is_taken}
 
@@ -16,7 +16,7 @@ Expanded c k s = (m : ℕ) × (d : Entry) × (slice_get c.expanded k ≡ Some m)
 
 -- operators of the task lead to the state
 pub record IsLed (t : Task) (ops : List ℕ) (s : FactSet) : Type 0 where
-  pub leads : outcome t ops ≡ Some s
+  pub leads : state_at_end t ops ≡ Some s
   pub of_task : are_below (length t.ops) ops ≡ true
 
 module _ (t : Task) (may : FactSet → Option ℕ → Type 0) where

@@ -56,7 +56,7 @@ pub record AreAllAcceptable (i : Initial) (ms : List FileMerge) : Type 0 where
   pub each : (m : FileMerge) → Member ms m → AreAcceptable i m.tags
 
 -- the first merge at fault is refused so
-pub record RefusesFirst (atoms : ℕ) (i : Initial) (ms : List FileMerge) (r : Refused) : Type 0 where
+pub record RefusesFirstMerge (atoms : ℕ) (i : Initial) (ms : List FileMerge) (r : Refused) : Type 0 where
   pub number : ℕ
   pub merge : FileMerge
   pub merge_at : slice_get ms number ≡ Some merge
@@ -66,7 +66,7 @@ pub record RefusesFirst (atoms : ℕ) (i : Initial) (ms : List FileMerge) (r : R
 -- whether a merge is at fault
 abbrev pub AnswersMerges : ℕ → Initial → List FileMerge → Result Unit Stop → Type 0
 AnswersMerges atoms i ms (Ok done) = AreAllAcceptable i ms
-AnswersMerges atoms i ms (Err (stops.Refused r)) = RefusesFirst atoms i ms r
+AnswersMerges atoms i ms (Err (stops.Refused r)) = RefusesFirstMerge atoms i ms r
 AnswersMerges atoms i ms (Err stops.Memory) = Unit {0}
 
 -- ---- the table
@@ -79,7 +79,7 @@ pub record Accepts (atoms : ℕ) (i : Initial) (ms : List FileMerge) (limit : �
 
 -- why there is no table: a merge is at fault; or none is, and there are too many tags
 pub data RefusesTable (atoms : ℕ) (i : Initial) (ms : List FileMerge) (limit : ℕ) : Refused → Type 0 where
-  at_fault : (r : Refused) → RefusesFirst atoms i ms r → RefusesTable atoms i ms limit r
+  at_fault : (r : Refused) → RefusesFirstMerge atoms i ms r → RefusesTable atoms i ms limit r
   tags_over : AreAllAcceptable i ms → limit < length (used_tags ms) → RefusesTable atoms i ms limit refusals.TagsOver
 
 -- what is answered

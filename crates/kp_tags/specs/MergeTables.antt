@@ -1,4 +1,4 @@
--- The table of the merges of a file.
+-- The table of some merges, whether a mode made them or a file has them.
 use Rattle.std.specs.Prelude.{◌≡◌, ℕ, Bool, List, [], ◌∷◌, map}
 use Rattle.std.specs.List.{list_all, flat_map, position_or_len}
 use Rattle.kp_base.specs.declared.lit.Lit.{Lit}

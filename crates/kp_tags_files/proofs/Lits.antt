@@ -4,7 +4,7 @@ use Rattle.kp_base.specs.declared.lit.Lit.{Lit as Literal}
 use Rattle.kp_tree_grammar.specs.declared.tree.Word.{Word}
 use Rattle.kp_tree_grammar.specs.declared.symbol.Symbol.{Symbol}
 use Rattle.kp_tree_grammar.specs.declared.symbol.Symbol.TheVariants as symbols
-use Rattle.kp_tree_grammar.specs.Language.{Atom, Lit, Tok, first_is, is_left, is_right, is_head, is_name, is_not, not_lit, s_lit, s_term, El, m_lit, m_name, Form, hits, token, ◌▸◌, many, make, choose, nothing, fact, fact_body, lit, lit_case, At, stop, stop_by, Reads, Stops, r_token, r_both, r_after, r_end, r_more, r_make, r_choice, r_bracket, s_token, s_nothing, s_first, s_second, s_here, s_later, s_make, s_none_there, s_choice, s_unopened, s_inside, s_unclosed}
+use Rattle.kp_tree_grammar.specs.Language.{Atom, Lit, Tok, first_is, is_left, is_right, is_head, is_name, is_not, not_lit, s_lit, s_term, El, m_lit, m_name, Form, hits, token, ◌▸◌, many, make, choose, refuse, fact, fact_body, lit, lit_case, At, stop, stop_by, Reads, Stops, r_token, r_both, r_after, r_end, r_more, r_make, r_choice, r_bracket, s_token, s_nothing, s_first, s_second, s_here, s_later, s_make, s_none_there, s_choice, s_unopened, s_inside, s_unclosed}
 use Rattle.kp_tree_grammar.proofs.Public.{a_form_reads_once, a_form_stops_once, form_never_both, form_reads_or_stops}
 use Rattle.kp_tree_cursor.specs.declared.cursor.Class.TheVariants as classes
 use Rattle.kp_tree_cursor.proofs.Public.{class_is_no_bracket}
@@ -65,15 +65,15 @@ module _ {number : Numbers} {d : ℕ} where
 
 case_of_head : (s : Symbol) → is_head s ≡ true → lit_case s ≡ make (m_lit true) fact_body
 case_of_head symbols.Not e = absurd cc
-case_of_head s e = ap (λ (v : Bool). cond v (make (m_lit true) fact_body) (nothing not_lit)) e
+case_of_head s e = ap (λ (v : Bool). cond v (make (m_lit true) fact_body) (refuse not_lit)) e
 
 case_of_not : (s : Symbol) → is_not s ≡ true → lit_case s ≡ is_not ▸ make (m_lit false) fact
 case_of_not symbols.Not e = refl
 case_of_not _ e = absurd cc
 
-case_of_other : (s : Symbol) → is_head s ≡ false → is_not s ≡ false → lit_case s ≡ nothing not_lit
+case_of_other : (s : Symbol) → is_head s ≡ false → is_not s ≡ false → lit_case s ≡ refuse not_lit
 case_of_other symbols.Not e f = absurd cc
-case_of_other s e f = ap (λ (v : Bool). cond v (make (m_lit true) fact_body) (nothing not_lit)) e
+case_of_other s e f = ap (λ (v : Bool). cond v (make (m_lit true) fact_body) (refuse not_lit)) e
 
 hit_of_not : (s : Symbol) → is_not s ≡ true → hits is_not s ≡ true
 hit_of_not symbols.Not e = refl
@@ -84,10 +84,10 @@ pub data Splits : List (Tok Word) → Lit Word → List (Tok Word) → Type 0 wh
   plain : {ts rest : List (Tok Word)} {a : Atom Word} → Reads fact ts a rest → Splits ts (record { positive = true; atom = a }) rest
   negated : {t n u : Tok Word} {ts rest : List (Tok Word)} {a : Atom Word} → is_left t.symbol ≡ true → is_not n.symbol ≡ true → Reads fact ts a (u ∷ rest) → is_right u.symbol ≡ true → Splits (t ∷ n ∷ ts) (record { positive = false; atom = a }) rest
 
-no_case : {ts rest : List (Tok Word)} {l : Lit Word} → Reads (nothing {b = true} {c = s_lit} not_lit) ts l rest → ⊥
-no_case {ts} {rest} {l} h = form_never_both _ _ (nothing {b = true} {c = s_lit} not_lit) ts rest l (stop_by not_lit ts) h s_nothing
+no_case : {ts rest : List (Tok Word)} {l : Lit Word} → Reads (refuse {b = true} {c = s_lit} not_lit) ts l rest → ⊥
+no_case {ts} {rest} {l} h = form_never_both _ _ (refuse {b = true} {c = s_lit} not_lit) ts rest l (stop_by not_lit ts) h s_nothing
 
-by_head : (v : Bool) {t n u : Tok Word} {ts rest : List (Tok Word)} {l : Lit Word} → is_left t.symbol ≡ true → Reads (cond v (make (m_lit true) fact_body) (nothing not_lit)) (n ∷ ts) l (u ∷ rest) → is_right u.symbol ≡ true → Splits (t ∷ n ∷ ts) l rest
+by_head : (v : Bool) {t n u : Tok Word} {ts rest : List (Tok Word)} {l : Lit Word} → is_left t.symbol ≡ true → Reads (cond v (make (m_lit true) fact_body) (refuse not_lit)) (n ∷ ts) l (u ∷ rest) → is_right u.symbol ≡ true → Splits (t ∷ n ∷ ts) l rest
 by_head true left (r_make h) right = plain (r_bracket left h right)
 by_head false left h right = absurd (no_case h)
 

@@ -33,7 +33,7 @@ opened ts = count_by (λ t. is_left t.symbol) ts
 abbrev pub closed : List (Tok Word) → ℕ
 closed ts = count_by (λ t. is_right t.symbol) ts
 
--- within a bracket that is still open, an atom stands here among all tokens
+-- an atom stands here among all tokens, within a bracket that is still open (so a merge, which begins as an atom does, is none)
 pub record AtomStands (all here : List (Tok Word)) (a : Atom Word) : Type 0 where
   pub before : List (Tok Word)
   pub split : all ≡ before ++ here

@@ -1,10 +1,10 @@
 use kp_base::{Lit, LitSet, Row};
 
-/// A merge as a file has it: the tags themselves in place of their numbers.
+/// A merge with its tags themselves in place of their numbers: one of a file, or of a mode.
 #[derive(Drop)]
 pub struct FileMerge {
     /// The literal that is merged.
     pub target: Lit,
-    /// The tags, in the order of the file.
+    /// The tags, in order.
     pub tags: Row<LitSet>,
 }

@@ -5,7 +5,7 @@ use Rattle.kp_base.specs.declared.lit.Lit.{Lit}
 use Rattle.kp_base.specs.declared.ground.Initial.{Initial}
 use Rattle.kp_base.specs.declared.refused.Stop.{Stop}
 use Rattle.kp_base.specs.declared.refused.Stop.TheVariants as stops
-use Rattle.kp_base.specs.Covering.{IsCov, AllMeet}
+use Rattle.kp_base.specs.Covering.{AreTagsOfClauses, AllMeet}
 use Rattle.kp_tags_files.specs.declared.merge.FileMerge.{FileMerge}
 use Rattle.kp_tags_modes.specs.declared.way.Way.{Way}
 use Rattle.kp_tags_modes.specs.Modes.{merge_of, ArePassed, IsLeastCover, AreOneForEach, AreOtherwise, AreMergesBy}
@@ -33,7 +33,7 @@ refuses_as target some more few many old new (Err stops.Memory) f g a = a
 
 -- ---- one for each clause
 
-one-more : (i : Initial) (cs : List (List Lit)) (c : List Lit) (lists : List (List (List Lit))) (tags : List (List Lit)) → AreOneForEach i cs lists → IsCov i (c ∷ []) tags → AreOneForEach i (cs ++ c ∷ []) (lists ++ tags ∷ [])
+one-more : (i : Initial) (cs : List (List Lit)) (c : List Lit) (lists : List (List (List Lit))) (tags : List (List Lit)) → AreOneForEach i cs lists → AreTagsOfClauses i (c ∷ []) tags → AreOneForEach i (cs ++ c ∷ []) (lists ++ tags ∷ [])
 one-more i _ c _ tags AreOneForEach.done is = AreOneForEach.more c [] tags [] is AreOneForEach.done
 one-more i _ c _ tags (AreOneForEach.more d ds first rest one others) is = AreOneForEach.more d (ds ++ c ∷ []) first (rest ++ tags ∷ []) one (one-more i ds c rest tags others is)
 
@@ -48,7 +48,7 @@ next_each i target cs more one c old now new next alone a b = go b.lists b.right
     go : (lists : List (List (List Lit))) → IsOver i one lists → new ≡ now ++ map (merge_of target) lists → Adds target (AreOneForEach i more) old new
     go _ (IsOver.one tags is) added = record {
       lists = a.lists ++ tags ∷ [];
-      right = subst (λ (ds : List (List Lit)). AreOneForEach i ds (a.lists ++ tags ∷ [])) (sym next) (one-more i cs c a.lists tags a.right (subst (λ (ds : List (List Lit)). IsCov i ds tags) alone is));
+      right = subst (λ (ds : List (List Lit)). AreOneForEach i ds (a.lists ++ tags ∷ [])) (sym next) (one-more i cs c a.lists tags a.right (subst (λ (ds : List (List Lit)). AreTagsOfClauses i ds tags) alone is));
       added = added ∙ (ap (λ z. z ++ map (merge_of target) (tags ∷ [])) a.added ∙ two-parts target old a.lists (tags ∷ []));
     }
 

@@ -5,11 +5,11 @@ use Rattle.kp_base.specs.declared.ground.Ground.{Ground}
 use Rattle.kp_base.specs.declared.ground.Initial.{Initial}
 use Rattle.kp_base.specs.declared.ground.Action.{Action}
 use Rattle.kp_base.specs.declared.refused.Refused.{Refused}
-use Rattle.kp_base.specs.Planning.{IsConsistent, HaveSameModels, IsImplicate, IsCandidate, AreClausesFor, IsCov, AllMeet}
+use Rattle.kp_base.specs.Planning.{IsConsistent, HaveSameModels, IsImplicate, IsCandidate, AreClausesFor, AreTagsOfClauses, AllMeet}
 use Rattle.kp_tags_files.specs.declared.merge.FileMerge.{FileMerge}
 use Rattle.kp_tags_modes.specs.declared.way.Way.{Way}
 use Rattle.kp_tags_modes.specs.Modes.{IsCovering, IsFirstCovering, IsPassed, ArePassed, IsLeastCover, IsRefusedAt, AreOneForEach, AreOtherwise, AreMergesBy, AreMergesFor, AreMergesInTurn, AreMergesOf}
-use Rattle.kp_tags_modes.specs.Answers.{IsTargetRefused, RefusesFirst, RefusesMode}
+use Rattle.kp_tags_modes.specs.Answers.{IsTargetRefused, RefusesFirstTarget, RefusesMode}
 
 pub back : (i j : Initial) → HaveSameModels i j → HaveSameModels j i
 back i j same s = sym (same s)
@@ -39,7 +39,7 @@ clauses i j same acts n t cs are = record {
 }
 
 module _ (i j : Initial) (same : HaveSameModels i j) where
-  cov : (cs tags : List (List Lit)) → IsCov i cs tags → IsCov j cs tags
+  cov : (cs tags : List (List Lit)) → AreTagsOfClauses i cs tags → AreTagsOfClauses j cs tags
   cov cs tags h = record { test = h.test; tells = λ t. (λ e. consistent i j same t ((h.tells t).0 e), λ c. (h.tells t).1 (consistent j i (back i j same) t c)); are = h.are }
 
   meet : (tags cs : List (List Lit)) → AllMeet i tags cs → AllMeet j tags cs
@@ -96,9 +96,9 @@ module _ (i j : Initial) (same : HaveSameModels i j) where
         refused = refused h.clauses size h.refused;
       }
 
-      pub first_refused_by : (ts : List Lit) (r : Refused) → RefusesFirst way limit g i ts r → RefusesFirst way limit g j ts r
-      first_refused_by _ _ (RefusesFirst.here t ts size h) = RefusesFirst.here t ts size (target_refused t size h)
-      first_refused_by _ r (RefusesFirst.later t ts lists _ here rest) = RefusesFirst.later t ts lists r (merges_for t lists here) (first_refused_by ts r rest)
+      pub first_refused_by : (ts : List Lit) (r : Refused) → RefusesFirstTarget way limit g i ts r → RefusesFirstTarget way limit g j ts r
+      first_refused_by _ _ (RefusesFirstTarget.here t ts size h) = RefusesFirstTarget.here t ts size (target_refused t size h)
+      first_refused_by _ r (RefusesFirstTarget.later t ts lists _ here rest) = RefusesFirstTarget.later t ts lists r (merges_for t lists here) (first_refused_by ts r rest)
 
 pub merges_by : (limit : ℕ) (g : Ground) (i j : Initial) → HaveSameModels i j → (w : Option Way) (ms : List FileMerge) → AreMergesOf limit g i w ms → AreMergesOf limit g j w ms
 merges_by limit g i j same _ _ AreMergesOf.none = AreMergesOf.none

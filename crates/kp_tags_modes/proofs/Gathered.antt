@@ -3,7 +3,7 @@ use Rattle.std.proofs.Common.{◌≡◌, ◌⊎◌, ℕ, true, List, [], ◌∷�
 use Rattle.std.proofs.lemmas.Bool.{or_cases, or_left, or_right}
 use Rattle.kp_base.specs.declared.lit.Lit.{Lit}
 use Rattle.kp_base.specs.declared.ground.Initial.{Initial}
-use Rattle.kp_base.specs.Planning.{Member, positive, same_lit, IsAscending, with_lit, either_value, IsCov}
+use Rattle.kp_base.specs.Planning.{Member, positive, same_lit, IsAscending, with_lit, either_value, AreTagsOfClauses}
 use Rattle.kp_base.specs.Lit.{has}
 use Rattle.kp_base.proofs.Lists.{map_map, member_map, map_member}
 use Rattle.kp_base.proofs.Lits.{same_lit-true, same_lit-refl, has-member, member-has}
@@ -124,5 +124,5 @@ pub are_assignments : (i : Initial) (cs either : List (List Lit)) → either ≡
 are_assignments i cs either e _ (IsOver.one tags is) = AreOtherwise.by_models tags (record {
   atoms = numbers cs;
   are_atoms = atoms_are cs;
-  are = subst (λ (z : List (List Lit)). IsCov i z tags) (e ∙ sym (map_map (λ (l : Lit). l.atom.0) either_value (λ l. either_value l.atom.0) (atoms_in cs) (λ l. refl))) is;
+  are = subst (λ (z : List (List Lit)). AreTagsOfClauses i z tags) (e ∙ sym (map_map (λ (l : Lit). l.atom.0) either_value (λ l. either_value l.atom.0) (atoms_in cs) (λ l. refl))) is;
 })

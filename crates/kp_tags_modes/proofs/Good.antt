@@ -5,7 +5,7 @@ use Rattle.std.specs.List.{list_any, list_all}
 use Rattle.kp_base.specs.declared.lit.Lit.{Lit}
 use Rattle.kp_base.specs.declared.ground.Ground.{Ground}
 use Rattle.kp_base.specs.declared.ground.Initial.{Initial}
-use Rattle.kp_base.specs.Planning.{Member, choices, set_of, same_set, State, holds, is_model, IsConsistent, are_below, effect_below, action_below, IsOfItsAtoms, either_value, IsRelevant, AreClausesFor, IsCov, IsTarget}
+use Rattle.kp_base.specs.Planning.{Member, choices, set_of, same_set, State, holds, is_model, IsConsistent, are_below, effect_below, action_below, IsOfItsAtoms, either_value, IsRelevant, AreClausesFor, AreTagsOfClauses, IsTarget}
 use Rattle.kp_base.proofs.Lists.{all_member, all_from, append_member, map_member, flat_member, filter_member}
 use Rattle.kp_base.proofs.Once.{all_each_once}
 use Rattle.kp_base.proofs.Sets.{all-set_of}
@@ -39,7 +39,7 @@ choice_below n (c ∷ cs) h ls m =
     subst (λ (z : List Lit). are_below n z ≡ true) r.2
     (and_from (nat_lt q.0.atom.0 n) (are_below n r.0) (all_member (λ (l : Lit). nat_lt l.atom.0 n) c q.0 q.1 (h c (inl refl))) (choice_below n cs (λ d k. h d (inr k)) r.0 r.1))
 
-cov_good : (n : ℕ) (i : Initial) (cs tags : List (List Lit)) → AreFine n i cs → IsCov i cs tags → IsGood n i tags
+cov_good : (n : ℕ) (i : Initial) (cs tags : List (List Lit)) → AreFine n i cs → AreTagsOfClauses i cs tags → IsGood n i tags
 cov_good n i cs tags fine is = record {
   consistent = tags_of_clauses_are_consistent i cs tags is;
   valid = tags_of_clauses_are_valid i cs tags is fine.hold;

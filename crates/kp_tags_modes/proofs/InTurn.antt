@@ -19,7 +19,7 @@ use Rattle.kp_cover.specs.Targets.{AreTargets}
 use Rattle.kp_tags_files.specs.declared.merge.FileMerge.{FileMerge}
 use Rattle.kp_tags_modes.specs.declared.way.Way.{Way}
 use Rattle.kp_tags_modes.specs.Modes.{way_of, merge_of, AreMergesFor, AreMergesInTurn, AreMergesOf}
-use Rattle.kp_tags_modes.specs.Answers.{RefusesFirst, RefusesMode, AnswersMode}
+use Rattle.kp_tags_modes.specs.Answers.{RefusesFirstTarget, RefusesMode, AnswersMode}
 use Rattle.kp_tags_modes.proofs.Behind.{next_is}
 use Rattle.kp_cover.proofs.Public.{target_is_below}
 use Rattle.kp_tags_modes.specs.Added.{Adds, AddsOrRefuses, AreByRelevance, IsRefusedByRelevance}
@@ -58,9 +58,9 @@ module _ (way : Way) (limit : ℕ) (g : Ground) (i : Initial) where
       subst (AreMergesInTurn way limit g i (u ∷ ts ++ t ∷ [])) (sym (append_assoc (map (merge_of u) first) ms (map (merge_of t) lists)))
       (AreMergesInTurn.more u (ts ++ t ∷ []) first (ms ++ map (merge_of t) lists) here (one-more ts ms t lists others h))
 
-  behind : (ts : List Lit) (ms : List FileMerge) (rest : List Lit) (r : Refused) → AreMergesInTurn way limit g i ts ms → RefusesFirst way limit g i rest r → RefusesFirst way limit g i (ts ++ rest) r
+  behind : (ts : List Lit) (ms : List FileMerge) (rest : List Lit) (r : Refused) → AreMergesInTurn way limit g i ts ms → RefusesFirstTarget way limit g i rest r → RefusesFirstTarget way limit g i (ts ++ rest) r
   behind _ _ rest r AreMergesInTurn.done h = h
-  behind _ _ rest r (AreMergesInTurn.more u ts first ms here others) h = RefusesFirst.later u (ts ++ rest) first r here (behind ts ms rest r others h)
+  behind _ _ rest r (AreMergesInTurn.more u ts first ms here others) h = RefusesFirstTarget.later u (ts ++ rest) first r here (behind ts ms rest r others h)
 
 module _ (way : Way) (limit : ℕ) (g : Ground) (pairs : List (Lit × Lit)) (h : Held) (of_ground : ArePairsOf g pairs) (atoms : length g.atoms ≡ h.atoms) where
   clauses-are : (t : Lit) (cs : List (List Lit)) → AnswersClausesFor pairs h t cs → AreClausesFor g.actions (length g.atoms) (formula h) t cs
@@ -77,11 +77,11 @@ module _ (way : Way) (limit : ℕ) (g : Ground) (pairs : List (Lit × Lit)) (h :
 
   -- a target is refused, behind those before it
   pub refused_turn : (ts : List Lit) (k : ℕ) (t : Lit) (ms : List FileMerge) (r : Refused) → k < length ts → t ≡ get_or ts k t → AreMergesInTurn way limit g (formula h) (take k ts) ms
-      → ((size : ℕ) × (r ≡ refusals.SetsOver t size) × IsRefusedByRelevance way limit pairs h t size) → RefusesFirst way limit g (formula h) ts r
+      → ((size : ℕ) × (r ≡ refusals.SetsOver t size) × IsRefusedByRelevance way limit pairs h t size) → RefusesFirstTarget way limit g (formula h) ts r
   refused_turn ts k t ms r lt is before q =
-      subst (λ (us : List Lit). RefusesFirst way limit g (formula h) us r) (sym (split_at ts k t lt is))
+      subst (λ (us : List Lit). RefusesFirstTarget way limit g (formula h) us r) (sym (split_at ts k t lt is))
       (behind way limit g (formula h) (take k ts) ms (t ∷ drop (k + 1) ts) r before
-      (subst (RefusesFirst way limit g (formula h) (t ∷ drop (k + 1) ts)) (sym q.1) (RefusesFirst.here t (drop (k + 1) ts) q.0 (record {
+      (subst (RefusesFirstTarget way limit g (formula h) (t ∷ drop (k + 1) ts)) (sym q.1) (RefusesFirstTarget.here t (drop (k + 1) ts) q.0 (record {
         clauses = q.2.clauses;
         are_clauses = clauses-are t q.2.clauses q.2.are_clauses;
         uncovered = q.2.refused.uncovered;

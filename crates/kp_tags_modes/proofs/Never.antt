@@ -6,13 +6,13 @@ use Rattle.kp_base.specs.declared.ground.Ground.{Ground}
 use Rattle.kp_base.specs.declared.ground.Initial.{Initial}
 use Rattle.kp_base.specs.declared.refused.Refused.{Refused}
 use Rattle.kp_tags_modes.specs.declared.way.Way.{Way}
-use Rattle.kp_tags_modes.specs.Answers.{RefusesFirst, RefusesMode}
+use Rattle.kp_tags_modes.specs.Answers.{RefusesFirstTarget, RefusesMode}
 use Rattle.kp_tags_modes.specs.Laws.{SomeModesAreNeverRefused}
 
 module _ (limit : ℕ) (g : Ground) (i : Initial) where
-  no-target : (way : Way) → way.skips ≡ true → (ts : List Lit) (r : Refused) → RefusesFirst way limit g i ts r → ⊥
-  no-target way skips _ _ (RefusesFirst.here t ts size h) = false≢true (sym h.refused.stops ∙ skips)
-  no-target way skips _ r (RefusesFirst.later t ts lists _ here rest) = no-target way skips ts r rest
+  no-target : (way : Way) → way.skips ≡ true → (ts : List Lit) (r : Refused) → RefusesFirstTarget way limit g i ts r → ⊥
+  no-target way skips _ _ (RefusesFirstTarget.here t ts size h) = false≢true (sym h.refused.stops ∙ skips)
+  no-target way skips _ r (RefusesFirstTarget.later t ts lists _ here rest) = no-target way skips ts r rest
 
   none : (w : Option Way) (way : Way) → w ≡ Some way → way.skips ≡ true → (r : Refused) → RefusesMode limit g i w r → ⊥
   none _ way e skips r (RefusesMode.of_targets v ts _ are first) = no-target v (subst (λ (u : Way). u.skips ≡ true) (sym (same e)) skips) ts r first

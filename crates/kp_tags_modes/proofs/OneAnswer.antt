@@ -6,7 +6,7 @@ use Rattle.kp_base.specs.declared.ground.Ground.{Ground}
 use Rattle.kp_base.specs.declared.ground.Initial.{Initial}
 use Rattle.kp_base.specs.declared.refused.Refused.{Refused}
 use Rattle.kp_base.specs.declared.refused.Refused.TheVariants as refusals
-use Rattle.kp_base.specs.Planning.{Member, positive, either_value, IsCov, AllMeet}
+use Rattle.kp_base.specs.Planning.{Member, positive, either_value, AreTagsOfClauses, AllMeet}
 use Rattle.kp_base.proofs.Lists.{member_map, map_member, member_contains, contains_member}
 use Rattle.kp_base.proofs.Ascending.{same_members}
 use Rattle.kp_cover_subsets.specs.Subsets.{subsets, choose}
@@ -17,7 +17,7 @@ use Rattle.kp_tags_files.specs.declared.merge.FileMerge.{FileMerge}
 use Rattle.kp_tags_modes.specs.declared.way.Way.{Way}
 use Rattle.kp_tags_modes.specs.Assignments.{AreAtomsOf}
 use Rattle.kp_tags_modes.specs.Modes.{IsCovering, IsFirstCovering, IsPassed, ArePassed, IsLeastCover, IsRefusedAt, AreOneForEach, AreOtherwise, AreMergesBy, AreMergesFor, merge_of, AreMergesInTurn, AreMergesOf}
-use Rattle.kp_tags_modes.specs.Answers.{IsTargetRefused, RefusesFirst, RefusesMode}
+use Rattle.kp_tags_modes.specs.Answers.{IsTargetRefused, RefusesFirstTarget, RefusesMode}
 use Rattle.kp_tags_modes.specs.Laws.{ModesHaveOneAnswer}
 use Rattle.kp_tags_modes.proofs.ByModels.{back, merges_by, refused_by}
 
@@ -33,7 +33,7 @@ which (suc a) (suc b) = elim (which a b) [
 
 -- ---- one list of tags
 
-one_tags : (i : Initial) (cs a b : List (List Lit)) → IsCov i cs a → IsCov i cs b → a ≡ b
+one_tags : (i : Initial) (cs a b : List (List Lit)) → AreTagsOfClauses i cs a → AreTagsOfClauses i cs b → a ≡ b
 one_tags i cs a b = cov_once i i cs a b (λ s. refl)
 
 as_numbers : (ps : List ℕ) → map (λ (l : Lit). l.atom.0) (map positive ps) ≡ ps
@@ -55,7 +55,7 @@ one_each i _ _ _ (AreOneForEach.more c cs a x p others) (AreOneForEach.more _ _ 
 one_otherwise : (i : Initial) (cs : List (List Lit)) (b : Bool) (x y : List (List (List Lit))) → AreOtherwise i cs b x → AreOtherwise i cs b y → x ≡ y
 one_otherwise i cs _ _ _ (AreOtherwise.for_each x p) (AreOtherwise.for_each y q) = one_each i cs x y p q
 one_otherwise i cs _ _ _ (AreOtherwise.by_models a p) (AreOtherwise.by_models b q) =
-    ap (λ (t : List (List Lit)). t ∷ []) (one_tags i (map either_value p.atoms) a b p.are (subst (λ (ps : List ℕ). IsCov i (map either_value ps) b) (one_atoms cs q.atoms p.atoms q.are_atoms p.are_atoms) q.are))
+    ap (λ (t : List (List Lit)). t ∷ []) (one_tags i (map either_value p.atoms) a b p.are (subst (λ (ps : List ℕ). AreTagsOfClauses i (map either_value ps) b) (one_atoms cs q.atoms p.atoms q.are_atoms p.are_atoms) q.are))
 
 -- ---- one search
 
@@ -117,7 +117,7 @@ module _ (i : Initial) (cs : List (List Lit)) where
     one_by _ _ (AreMergesBy.empty_tag p) (AreMergesBy.otherwise y miss none h) = absurd (miss p)
     one_by _ _ (AreMergesBy.least_cover set tags miss l is) (AreMergesBy.empty_tag q) = absurd (miss q)
     one_by _ _ (AreMergesBy.least_cover set tags miss l is) (AreMergesBy.least_cover other more miss-2 m also) =
-        ap (λ (t : List (List Lit)). t ∷ []) (one_tags i set tags more is (subst (λ (s : List (List Lit)). IsCov i s more) (one_least other set m l) also))
+        ap (λ (t : List (List Lit)). t ∷ []) (one_tags i set tags more is (subst (λ (s : List (List Lit)). AreTagsOfClauses i s more) (one_least other set m l) also))
     one_by _ _ (AreMergesBy.least_cover set tags miss l is) (AreMergesBy.otherwise y miss-2 none h) = absurd (not_none set l none)
     one_by _ _ (AreMergesBy.otherwise x miss none h) (AreMergesBy.empty_tag q) = absurd (miss q)
     one_by _ _ (AreMergesBy.otherwise x miss none h) (AreMergesBy.least_cover set tags miss-2 l is) = absurd (not_none set l none)
@@ -150,16 +150,16 @@ module _ (way : Way) (limit : ℕ) (g : Ground) (i : Initial) where
   one_turns _ _ _ AreMergesInTurn.done AreMergesInTurn.done = refl
   one_turns _ _ _ (AreMergesInTurn.more t ts x ms p others) (AreMergesInTurn.more _ _ y ns q rest) = ap₂ (λ (l : List (List (List Lit))) (r : List FileMerge). map (merge_of t) l ++ r) (one_for t x y p q) (one_turns ts ms ns others rest)
 
-  one_fault : (ts : List Lit) (r s : Refused) → RefusesFirst way limit g i ts r → RefusesFirst way limit g i ts s → r ≡ s
-  one_fault _ _ _ (RefusesFirst.here t ts a p) (RefusesFirst.here _ _ b q) = ap (refusals.SetsOver t) (one_refused t a b p q)
-  one_fault _ _ s (RefusesFirst.here t ts a p) (RefusesFirst.later _ _ y _ q more) = absurd (not_refused t y a q p)
-  one_fault _ r _ (RefusesFirst.later t ts x _ p others) (RefusesFirst.here _ _ b q) = absurd (not_refused t x b p q)
-  one_fault _ r s (RefusesFirst.later t ts x _ p others) (RefusesFirst.later _ _ y _ q more) = one_fault ts r s others more
+  one_fault : (ts : List Lit) (r s : Refused) → RefusesFirstTarget way limit g i ts r → RefusesFirstTarget way limit g i ts s → r ≡ s
+  one_fault _ _ _ (RefusesFirstTarget.here t ts a p) (RefusesFirstTarget.here _ _ b q) = ap (refusals.SetsOver t) (one_refused t a b p q)
+  one_fault _ _ s (RefusesFirstTarget.here t ts a p) (RefusesFirstTarget.later _ _ y _ q more) = absurd (not_refused t y a q p)
+  one_fault _ r _ (RefusesFirstTarget.later t ts x _ p others) (RefusesFirstTarget.here _ _ b q) = absurd (not_refused t x b p q)
+  one_fault _ r s (RefusesFirstTarget.later t ts x _ p others) (RefusesFirstTarget.later _ _ y _ q more) = one_fault ts r s others more
 
-  no_fault : (ts : List Lit) (ms : List FileMerge) (r : Refused) → AreMergesInTurn way limit g i ts ms → RefusesFirst way limit g i ts r → ⊥
+  no_fault : (ts : List Lit) (ms : List FileMerge) (r : Refused) → AreMergesInTurn way limit g i ts ms → RefusesFirstTarget way limit g i ts r → ⊥
   no_fault _ _ r AreMergesInTurn.done h = elim h [ ]
-  no_fault _ _ _ (AreMergesInTurn.more t ts x ms p others) (RefusesFirst.here _ _ b q) = not_refused t x b p q
-  no_fault _ _ r (AreMergesInTurn.more t ts x ms p others) (RefusesFirst.later _ _ y _ q more) = no_fault ts ms r others more
+  no_fault _ _ _ (AreMergesInTurn.more t ts x ms p others) (RefusesFirstTarget.here _ _ b q) = not_refused t x b p q
+  no_fault _ _ r (AreMergesInTurn.more t ts x ms p others) (RefusesFirstTarget.later _ _ y _ q more) = no_fault ts ms r others more
 
 -- ---- the whole
 
@@ -174,11 +174,11 @@ module _ (limit : ℕ) (g : Ground) (i : Initial) where
   one_merges _ _ _ (AreMergesOf.of_targets way ts ms a p) (AreMergesOf.of_targets _ us ns b q) = one_turns way limit g i ts ms ns p (subst (λ (vs : List Lit). AreMergesInTurn way limit g i vs ns) (one_targets g us ts b a) q)
 
   one_refusal : (w : Option Way) (r s : Refused) → RefusesMode limit g i w r → RefusesMode limit g i w s → r ≡ s
-  one_refusal _ _ _ (RefusesMode.of_targets way ts r a p) (RefusesMode.of_targets _ us s b q) = one_fault way limit g i ts r s p (subst (λ (vs : List Lit). RefusesFirst way limit g i vs s) (one_targets g us ts b a) q)
+  one_refusal _ _ _ (RefusesMode.of_targets way ts r a p) (RefusesMode.of_targets _ us s b q) = one_fault way limit g i ts r s p (subst (λ (vs : List Lit). RefusesFirstTarget way limit g i vs s) (one_targets g us ts b a) q)
 
   never_both : (w : Option Way) (ms : List FileMerge) (r : Refused) → AreMergesOf limit g i w ms → RefusesMode limit g i w r → ⊥
   never_both _ _ r AreMergesOf.none q = elim q [ ]
-  never_both _ _ _ (AreMergesOf.of_targets way ts ms a p) (RefusesMode.of_targets _ us r b q) = no_fault way limit g i ts ms r p (subst (λ (vs : List Lit). RefusesFirst way limit g i vs r) (one_targets g us ts b a) q)
+  never_both _ _ _ (AreMergesOf.of_targets way ts ms a p) (RefusesMode.of_targets _ us r b q) = no_fault way limit g i ts ms r p (subst (λ (vs : List Lit). RefusesFirstTarget way limit g i vs r) (one_targets g us ts b a) q)
 
 pub one_answer : ModesHaveOneAnswer
 one_answer mode limit g i j same = record {

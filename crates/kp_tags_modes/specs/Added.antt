@@ -8,7 +8,7 @@ use Rattle.kp_base.specs.declared.refused.Stop.TheVariants as stops
 use Rattle.kp_base.specs.declared.refused.Refused.TheVariants as refusals
 use Rattle.kp_base.specs.Lit.{positive}
 use Rattle.kp_base.specs.LitSet.{with_lit}
-use Rattle.kp_base.specs.Covering.{IsCov, AllMeet}
+use Rattle.kp_base.specs.Covering.{AreTagsOfClauses, AllMeet}
 use Rattle.kp_primes.specs.Held.{Held, formula}
 use Rattle.kp_relevance.specs.Relevant.{ArePairsOf}
 use Rattle.kp_relevance.specs.Candidates.{AnswersClausesFor}
@@ -30,7 +30,7 @@ AddsOrRefuses target are refused old new (Err stops.Memory) = Unit {0}
 
 -- one merge over the clauses
 pub data IsOver (i : Initial) (clauses : List (List Lit)) : List (List (List Lit)) → Type 0 where
-  one : (tags : List (List Lit)) → IsCov i clauses tags → IsOver i clauses (tags ∷ [])
+  one : (tags : List (List Lit)) → AreTagsOfClauses i clauses tags → IsOver i clauses (tags ∷ [])
 
 -- the empty tag doesn't cover, and the size is refused
 pub record IsRefusedBy (way : Way) (limit : ℕ) (i : Initial) (cs : List (List Lit)) (size : ℕ) : Type 0 where

@@ -23,13 +23,13 @@ pub record IsTargetRefused (way : Way) (limit : ℕ) (g : Ground) (i : Initial) 
   pub refused : IsRefusedAt way limit i clauses size
 
 -- the first refused target of these, and the size
-pub data RefusesFirst (way : Way) (limit : ℕ) (g : Ground) (i : Initial) : List Lit → Refused → Type 0 where
-  here : (target : Lit) (targets : List Lit) (size : ℕ) → IsTargetRefused way limit g i target size → RefusesFirst way limit g i (target ∷ targets) (refusals.SetsOver target size)
-  later : (target : Lit) (targets : List Lit) (merges : List (List (List Lit))) (r : Refused) → AreMergesFor way limit g i target merges → RefusesFirst way limit g i targets r → RefusesFirst way limit g i (target ∷ targets) r
+pub data RefusesFirstTarget (way : Way) (limit : ℕ) (g : Ground) (i : Initial) : List Lit → Refused → Type 0 where
+  here : (target : Lit) (targets : List Lit) (size : ℕ) → IsTargetRefused way limit g i target size → RefusesFirstTarget way limit g i (target ∷ targets) (refusals.SetsOver target size)
+  later : (target : Lit) (targets : List Lit) (merges : List (List (List Lit))) (r : Refused) → AreMergesFor way limit g i target merges → RefusesFirstTarget way limit g i targets r → RefusesFirstTarget way limit g i (target ∷ targets) r
 
 -- what a mode is refused for; `K0` never is
 pub data RefusesMode (limit : ℕ) (g : Ground) (i : Initial) : Option Way → Refused → Type 0 where
-  of_targets : (way : Way) (targets : List Lit) (r : Refused) → AreTargets g targets → RefusesFirst way limit g i targets r → RefusesMode limit g i (Some way) r
+  of_targets : (way : Way) (targets : List Lit) (r : Refused) → AreTargets g targets → RefusesFirstTarget way limit g i targets r → RefusesMode limit g i (Some way) r
 
 -- what is answered
 abbrev pub AnswersMode : Mode → ℕ → Ground → Initial → Result (List FileMerge) Stop → Type 0

@@ -1,6 +1,6 @@
 -- Tags that say of each atom of some clauses whether it is true.
 use Rattle.std.specs.Prelude.{◌≡◌, ◌↔◌, ℕ, List, map}
-use Rattle.kp_base.specs.Planning.{IsAscending, positive, Member, IsCov, either_value}
+use Rattle.kp_base.specs.Planning.{IsAscending, positive, Member, AreTagsOfClauses, either_value}
 use Rattle.kp_base.specs.declared.lit.Lit.{Lit}
 use Rattle.kp_base.specs.declared.ground.Initial.{Initial}
 
@@ -21,4 +21,4 @@ pub record AreAtomsOf (cs : List (List Lit)) (ps : List ℕ) : Type 0 where
 pub record AreAssignments (i : Initial) (cs tags : List (List Lit)) : Type 0 where
   pub atoms : List ℕ
   pub are_atoms : AreAtomsOf cs atoms
-  pub are : IsCov i (map either_value atoms) tags
+  pub are : AreTagsOfClauses i (map either_value atoms) tags

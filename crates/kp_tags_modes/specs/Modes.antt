@@ -1,4 +1,4 @@
--- The merges of a mode. A target that the empty tag doesn't cover has the tags of the first of the least sets of its relevant clauses that cover it. (Palacios and Geffner, JAIR 35, 2009.)
+-- The merges of a mode. A target that the empty tag doesn't cover has the tags of the first of the least sets of its relevant clauses that cover it; where none does, a merge for each clause, or one of all assignments. (Palacios and Geffner, JAIR 35, 2009.)
 use Rattle.std.specs.Prelude.{◌≡◌, ◌≤◌, ◌<◌, ◌+◌, ◌++◌, ℕ, Bool, true, false, List, [], ◌∷◌, Option, Some, None, length, map}
 use Rattle.kp_base.specs.declared.lit.Lit.{Lit}
 use Rattle.kp_base.specs.declared.ground.Ground.{Ground}
@@ -6,7 +6,7 @@ use Rattle.kp_base.specs.declared.ground.Initial.{Initial}
 use Rattle.kp_base.specs.declared.limits.Mode.{Mode}
 use Rattle.kp_base.specs.declared.limits.Mode.TheVariants.{K0, K1, K2, K3, Models, Auto}
 use Rattle.kp_base.specs.Lists.{Member}
-use Rattle.kp_base.specs.Covering.{IsCov, AllMeet}
+use Rattle.kp_base.specs.Covering.{AreTagsOfClauses, AllMeet}
 use Rattle.kp_base.specs.Relevance.{AreClausesFor}
 use Rattle.kp_cover_subsets.specs.Subsets.{subsets, choose}
 use Rattle.kp_cover.specs.Covering.{IsCover}
@@ -70,7 +70,7 @@ pub record IsRefusedAt (way : Way) (limit : ℕ) (i : Initial) (cs : List (List 
 -- one for each clause, in order
 pub data AreOneForEach (i : Initial) : List (List Lit) → List (List (List Lit)) → Type 0 where
   done : AreOneForEach i [] []
-  more : (c : List Lit) (cs tags : List (List Lit)) (merges : List (List (List Lit))) → IsCov i (c ∷ []) tags → AreOneForEach i cs merges → AreOneForEach i (c ∷ cs) (tags ∷ merges)
+  more : (c : List Lit) (cs tags : List (List Lit)) (merges : List (List (List Lit))) → AreTagsOfClauses i (c ∷ []) tags → AreOneForEach i cs merges → AreOneForEach i (c ∷ cs) (tags ∷ merges)
 
 -- where no set covers: one for each clause, or one of all assignments
 pub data AreOtherwise (i : Initial) (cs : List (List Lit)) : Bool → List (List (List Lit)) → Type 0 where
@@ -80,7 +80,7 @@ pub data AreOtherwise (i : Initial) (cs : List (List Lit)) : Bool → List (List
 -- by the clauses that are relevant to the target: none where the empty tag covers; else one over the least cover, or where there is no cover, as above
 pub data AreMergesBy (way : Way) (limit : ℕ) (i : Initial) (cs : List (List Lit)) : List (List (List Lit)) → Type 0 where
   empty_tag : AllMeet i ([] ∷ []) cs → AreMergesBy way limit i cs []
-  least_cover : (set tags : List (List Lit)) → (AllMeet i ([] ∷ []) cs → ⊥) → IsLeastCover way limit i cs set → IsCov i set tags → AreMergesBy way limit i cs (tags ∷ [])
+  least_cover : (set tags : List (List Lit)) → (AllMeet i ([] ∷ []) cs → ⊥) → IsLeastCover way limit i cs set → AreTagsOfClauses i set tags → AreMergesBy way limit i cs (tags ∷ [])
   otherwise : (merges : List (List (List Lit))) → (AllMeet i ([] ∷ []) cs → ⊥) → ArePassed way limit i cs (way.greatest + 1) → AreOtherwise i cs way.by_models merges → AreMergesBy way limit i cs merges
 
 -- the merges of a target

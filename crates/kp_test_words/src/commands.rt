@@ -1,30 +1,43 @@
 //! Words that are a command.
 
 use crate::words::{is, is_file, is_k0, is_k1, told};
-use kp_words::{Bench, Command, CommandRef, Family, SourceRef, Translate};
+use kp_base::Text;
+use kp_words::{Command, Family, Source};
 use std::alloc::Global;
 
-// Whether a translation is of these files.
-fn has_files(named: &Translate<'_>) -> bool {
-    is(named.domain, "D")
-        && is(named.problem, "P")
-        && is(named.domain_out, "OD")
-        && is(named.problem_out, "OP")
+// Whether two files are those of a translation.
+fn are_given(domain: &Text, problem: &Text) -> bool {
+    is(domain, "D") && is(problem, "P")
+}
+
+// Whether two files are those that it writes.
+fn are_written(domain: &Text, problem: &Text) -> bool {
+    is(domain, "OD") && is(problem, "OP")
 }
 
 // Whether merges come from the first mode.
-fn is_first(source: SourceRef<'_>) -> bool {
+fn is_first(source: &Source) -> bool {
     match source {
-        SourceRef::Mode(mode) => is_k0(mode),
-        SourceRef::File(_) => false,
+        Source::Mode(mode) => is_k0(*mode),
+        Source::File(_) => false,
     }
 }
 
 // Whether it is the translation in the first mode, with this limit.
-fn is_translation(command: &Command, implicates: u32) -> bool {
-    match command.lend() {
-        CommandRef::Translate(named) => {
-            has_files(&named) && is_first(named.source) && named.implicates == implicates
+fn is_translation(command: &Command, wanted: u32) -> bool {
+    match command {
+        Command::Translate {
+            domain,
+            problem,
+            to_domain,
+            to_problem,
+            source,
+            implicates,
+        } => {
+            are_given(domain, problem)
+                && are_written(to_domain, to_problem)
+                && is_first(source)
+                && *implicates == wanted
         }
         _ => false,
     }
@@ -85,8 +98,8 @@ fn translations(rt: HostRuntime) {
 
 // Whether it is a lift with this file of merges.
 fn is_lift(command: &Command, merges: &str) -> bool {
-    match command.lend() {
-        CommandRef::Lift(named) => is_file(named.source, merges) && is(named.plan, "L"),
+    match command {
+        Command::Lift { plan, source, .. } => is_file(source, merges) && is(plan, "L"),
         _ => false,
     }
 }
@@ -101,7 +114,7 @@ fn lifts(alloc: Global, all: &[&str], merges: &str) -> bool {
 }
 
 // Whether a name is given, and is this one.
-fn is_given(name: Option<&[u8]>, wanted: &str) -> bool {
+fn is_given(name: &Option<Text>, wanted: &str) -> bool {
     match name {
         Some(name) => is(name, wanted),
         None => false,
@@ -109,11 +122,13 @@ fn is_given(name: Option<&[u8]>, wanted: &str) -> bool {
 }
 
 // Whether it is a call to solve, with this budget and this file for the classical plan.
-fn is_solve(command: &Command, budget: u32, classical: &str) -> bool {
-    match command.lend() {
-        CommandRef::Solve(named) => {
-            is_given(named.classical, classical) && named.budget == budget
-        }
+fn is_solve(command: &Command, wanted: u32, name: &str) -> bool {
+    match command {
+        Command::Solve {
+            budget,
+            classical,
+            ..
+        } => is_given(classical, name) && *budget == wanted,
         _ => false,
     }
 }
@@ -143,9 +158,13 @@ fn values(rt: HostRuntime) {
 }
 
 // Whether it is a call for the width, with this bound.
-fn is_width(command: &Command, bound: u32) -> bool {
-    match command.lend() {
-        CommandRef::Width(named) => named.bound == bound && named.implicates == 20_000,
+fn is_width(command: &Command, wanted: u32) -> bool {
+    match command {
+        Command::Width {
+            bound,
+            implicates,
+            ..
+        } => *bound == wanted && *implicates == 20_000,
         _ => false,
     }
 }
@@ -159,17 +178,15 @@ fn asks_width(alloc: Global, all: &[&str], bound: u32) -> bool {
     is
 }
 
-// Whether a run is on bombs of this size, with nothing else said.
-fn is_of_bombs(asked: &Bench, n: u32) -> bool {
-    matches!(asked.family, Family::Bombs)
-        && asked.n == n
-        && is_k1(asked.mode)
-        && asked.budget == 10_000
-}
-
-fn is_bench(command: &Command, n: u32) -> bool {
-    match command.lend() {
-        CommandRef::Bench(asked) => is_of_bombs(&asked, n),
+// Whether it is a run on bombs of this size, with nothing else said.
+fn is_bench(command: &Command, size: u32) -> bool {
+    match command {
+        Command::Bench {
+            family,
+            n,
+            mode,
+            budget,
+        } => { matches!(family, Family::Bombs) && *n == size && is_k1(*mode) && *budget == 10_000 }
         _ => false,
     }
 }
@@ -193,11 +210,11 @@ fn numbers(rt: HostRuntime) {
 
 // Whether it is one of the commands without a test of their own here.
 fn is_without(command: &Command) -> bool {
-    match command.lend() {
-        CommandRef::Strip(named) => is(named.plan, "T"),
-        CommandRef::Check(named) => is(named.plan, "L"),
-        CommandRef::Classical(named) => named.budget == 10_000,
-        CommandRef::Merges(named) => is_k1(named.mode),
+    match command {
+        Command::Strip { plan } => is(plan, "T"),
+        Command::Check { plan, .. } => is(plan, "L"),
+        Command::Classical { budget, .. } => *budget == 10_000,
+        Command::Merges { mode, .. } => is_k1(*mode),
         _ => false,
     }
 }

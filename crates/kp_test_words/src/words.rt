@@ -1,7 +1,7 @@
 //! What the tests make and ask.
 
-use kp_base::Mode;
-use kp_words::{Command, SourceRef, WordStop, command};
+use kp_base::{Mode, Text};
+use kp_words::{Command, Source, WordStop, command};
 use std::alloc::{AllocError, Global};
 
 // The words, as the program gets them.
@@ -33,8 +33,8 @@ pub fn is_usage(alloc: Global, all: &[&str]) -> bool {
 }
 
 // Whether a name is this one.
-pub fn is(name: &[u8], wanted: &str) -> bool {
-    name == wanted.as_bytes()
+pub fn is(name: &Text, wanted: &str) -> bool {
+    name.slice() == wanted.as_bytes()
 }
 
 // Whether it is the first mode.
@@ -54,9 +54,9 @@ pub fn is_k1(mode: Mode) -> bool {
 }
 
 // Whether merges come from this file.
-pub fn is_file(source: SourceRef<'_>, wanted: &str) -> bool {
+pub fn is_file(source: &Source, wanted: &str) -> bool {
     match source {
-        SourceRef::File(name) => is(name, wanted),
-        SourceRef::Mode(_) => false,
+        Source::File(name) => is(name, wanted),
+        Source::Mode(_) => false,
     }
 }

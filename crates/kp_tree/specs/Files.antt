@@ -37,7 +37,7 @@ refusal_at part text at = refusal_for at.reason (place_of part text (byte_at tex
 
 -- ---- files
 
--- the file has this tree: it isn't too long, it is cut, and its tokens are the form
+-- the file has this tree (`ReadsAs`), and is within the limits: it isn't too long, it is cut, and its tokens are the form, with no bracket a level too deep
 pub record HasTree {b : Bool} {c : Sort} (X : Form b c) (text : List ℕ) (x : El Word c) : Type 0 where
   pub short : length text ≤ most_bytes
   pub tokens : List Token

@@ -9,7 +9,7 @@ use Rattle.kp_tree_grammar.specs.Trees.{Typed, Atom, Cond, conds_of, Eff, effs_o
 use Rattle.kp_tree_grammar.specs.Unsupported.{not_part, not_cond, not_goal, not_effect, not_lit, not_item}
 use Rattle.kp_tree_grammar.specs.Symbols.{Tok, is_head, is_name, is_variable, is_term, is_of_domain, is_init, is_goal, is_domain, is_problem}
 use Rattle.kp_tree_grammar.specs.Sorts.{Sort, s_atom, Seen, El, Maker, apply, with_kinds, m_holds, m_makes, m_lit, m_fact}
-use Rattle.kp_tree_grammar.specs.Forms.{Form, Named, n_cond, n_goal, n_eff, n_item, make, nothing}
+use Rattle.kp_tree_grammar.specs.Forms.{Form, Named, n_cond, n_goal, n_eff, n_item, make, refuse}
 use Rattle.kp_tree_grammar.specs.Grammar.{word, kind_case, kind, typed, term_maker, term, atom_body, fact_body, test_case, cond_case, goal_lit_case, goal_case, eff_case, lit_case, lit, item_case, rule, pred, parts_end_case, schema, words_of_requirements, section_case, title, domain, once, has_stood, given_case, problem}
 use Rattle.kp_tree_grammar.specs.Words.{IsName, IsHead, HasNamedTypes, IsNamed, IsNamedTerm, IsNamedAtom, IsNamedCond, AreNamedConds, IsNamedEff, AreNamedEffs, IsNamedLit, IsNamedItem, AreNamedItems, IsNamedPred, IsNamedSchema, IsNamedDomain, IsNamedProblem, DomainsAreNamed, ProblemsAreNamed}
 use Rattle.kp_tree_grammar.proofs.SectionWalk.{OfSection, of_sections, OfGiven, of_givens}
@@ -88,7 +88,7 @@ fact_bodies : Gives _ _ fact_body IsNamedAtom
 fact_bodies = g_make (g_both heads (g_many {P = IsNamedTerm} (g_token named))) (λ x h. record { head = h.0; terms = h.1 })
 
 -- an atom where a head stands, and nothing else
-where_head : {b : Bool} {c : Sort} (m : Maker s_atom c) (X : Form b s_atom) (q : Symbol → Bool) (P : El Word c → Type 0) → Gives _ _ X IsNamedAtom → ((a : Atom Word) → IsNamedAtom a → P (apply Word m a)) → (s : Symbol) → Gives _ _ (if is_head s then make m X else nothing q) P
+where_head : {b : Bool} {c : Sort} (m : Maker s_atom c) (X : Form b s_atom) (q : Symbol → Bool) (P : El Word c → Type 0) → Gives _ _ X IsNamedAtom → ((a : Atom Word) → IsNamedAtom a → P (apply Word m a)) → (s : Symbol) → Gives _ _ (if is_head s then make m X else refuse q) P
 where_head m X q P f g s = either (is_head s) (g_make f g) g_nothing
 
 -- ---- the rules

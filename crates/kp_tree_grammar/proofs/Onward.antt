@@ -2,7 +2,7 @@
 use Rattle.std.proofs.Common.{◌≡◌, ℕ, zero, suc, ◌≤◌, ◌<◌, inl, inr, Bool, true, false, cond as if_then, List, [], ◌∷◌, ◌++◌, length, length-append, Some, Ok, Err, refl, sym, ap, subst, ◌∙◌, arith}
 use Rattle.kp_tree_grammar.specs.declared.symbol.Symbol.{Symbol}
 use Rattle.kp_tree_grammar.specs.Sorts.{s_seen, Seen, Sort, s_none, s_word, s_pair, s_list, El, Maker, apply}
-use Rattle.kp_tree_grammar.specs.Forms.{hits, Form, token, none, nothing, ◌▹◌, ◌▸◌, many, run, maybe, make, choose, loose, bracket, within}
+use Rattle.kp_tree_grammar.specs.Forms.{hits, Form, token, none, refuse, ◌▹◌, ◌▸◌, many, run, maybe, make, choose, loose, bracket, within}
 use Rattle.kp_tree_grammar.specs.Grammar.{rule}
 use Rattle.kp_tree_grammar.specs.Reading.{At, stop, stop_by, Reads, Stops}
 use Rattle.kp_tree_grammar.specs.Symbols.{Tok, is_left, is_right, first_is}
@@ -168,7 +168,7 @@ module _ {W : Type 0} where
       go_on : ((b : Bool) (c : Sort) (X : Form b c) (ts : List (Tok W)) → GoesOn (level d b c X ts) (level d b c X (ts ++ more))) → (b : Bool) (c : Sort) (X : Form b c) (ts : List (Tok W)) → GoesOn (go (level d) b c X ts) (go (level d) b c X (ts ++ more))
       go_on K _ _ (token p m) ts = token_on p m ts
       go_on K _ _ (none m) ts = λ _. refl
-      go_on K _ _ (nothing q) ts = nothing_on q ts
+      go_on K _ _ (refuse q) ts = nothing_on q ts
       go_on K _ _ (X ▹ Y) ts =
           then_on (go (level d) _ _ X ts) (go (level d) _ _ X (ts ++ more)) (λ x us. go (level d) _ _ Y us >>= λ y. Ok ((x, y.0), y.1)) (go_on K _ _ X ts)
           (λ x us e. made_within (go (level d) _ _ Y us) (λ y. (x, y)) us (left_within d _ _ Y us))

@@ -3,7 +3,7 @@ use Rattle.std.proofs.Common.{◌≡◌, ℕ, zero, suc, ◌≤◌, ◌<◌, Boo
 use Rattle.kp_tree_grammar.specs.declared.symbol.Symbol.{Symbol}
 use Rattle.kp_tree_grammar.specs.declared.symbol.Symbol.TheVariants as symbols
 use Rattle.kp_tree_grammar.specs.Sorts.{s_seen, Seen, Sort, s_none, s_word, s_pair, s_list, El, Maker, apply}
-use Rattle.kp_tree_grammar.specs.Forms.{is_no_bracket, hits, Named, Form, token, none, nothing, ◌▹◌, ◌▸◌, many, run, maybe, make, choose, loose, bracket, within}
+use Rattle.kp_tree_grammar.specs.Forms.{is_no_bracket, hits, Named, Form, token, none, refuse, ◌▹◌, ◌▸◌, many, run, maybe, make, choose, loose, bracket, within}
 use Rattle.kp_tree_grammar.specs.Grammar.{rule}
 use Rattle.kp_tree_grammar.specs.Reading.{Syntax, At, stop, ReadBy, r_token, r_none, r_both, r_after, r_end, r_more, r_last, r_next, r_absent, r_present, r_make, r_choice, r_loose, r_bracket, r_within, StopBy, s_token, s_nothing, s_first, s_second, s_before, s_after, s_here, s_later, s_lacks, s_at, s_next, s_present, s_make, s_none_there, s_choice, s_loose, s_unopened, s_inside, s_unclosed, s_within}
 use Rattle.kp_tree_grammar.specs.Symbols.{Tok, is_left, is_right, first_is}
@@ -206,7 +206,7 @@ module _ {W : Type 0} (d : ℕ) where
       → (b : Bool) (c : Sort) (X : Form b c) (ts : List (Tok W)) → Tells d b c X ts (go k b c X ts)
   go_tells k K _ _ (token p m) ts = token_tells p m ts
   go_tells k K _ _ (none m) ts = (r_none, refl)
-  go_tells k K _ _ (nothing q) ts = inl (s_nothing, (d, refl))
+  go_tells k K _ _ (refuse q) ts = inl (s_nothing, (d, refl))
   go_tells k K _ _ (X ▹ Y) ts = both_first X Y ts (go k _ _ Y) (go k _ _ X ts) (go_tells k K _ _ Y) (go_tells k K _ _ X ts)
   go_tells k K _ _ (p ▸ X) ts = after_tells p X (go k _ _ X) (go_tells k K _ _ X) ts
   go_tells k K _ _ (many p X) ts = some_tells p X (go k _ _ X) (go_tells k K _ _ X) (length ts) ts (omega arith)

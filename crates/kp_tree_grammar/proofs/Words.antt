@@ -14,7 +14,7 @@ use Rattle.kp_tree_grammar.specs.declared.symbol.Symbol.{Symbol}
 use Rattle.kp_tree_grammar.specs.declared.tree.Word.{Word}
 use Rattle.kp_tree_grammar.specs.Symbols.{Tok, symbol_of, all_seen_in, is_head, is_name}
 use Rattle.kp_tree_grammar.specs.Sorts.{Sort, s_none, s_word, s_pair, s_seen, Seen, El, Maker, apply}
-use Rattle.kp_tree_grammar.specs.Forms.{is_no_bracket, Named, n_cond, n_goal, n_eff, n_item, Form, token, none, nothing, ◌▹◌, ◌▸◌, many, run, maybe, make, choose, loose, bracket, within}
+use Rattle.kp_tree_grammar.specs.Forms.{is_no_bracket, Named, n_cond, n_goal, n_eff, n_item, Form, token, none, refuse, ◌▹◌, ◌▸◌, many, run, maybe, make, choose, loose, bracket, within}
 use Rattle.kp_tree_grammar.specs.Grammar.{rule}
 use Rattle.kp_tree_grammar.specs.Reading.{ReadBy, r_token, r_none, r_both, r_after, r_end, r_more, r_last, r_next, r_absent, r_present, r_make, r_choice, r_loose, r_bracket, r_within}
 use Rattle.kp_tree_grammar.proofs.KindTests.{keyword_fails}
@@ -75,7 +75,7 @@ OfRule n_item i = IsNamedItem i
 pub data Gives : (b : Bool) (c : Sort) → Form b c → (El Word c → Type 0) → Type 1 where
   g_token : {c : Sort} {p : Symbol → Bool} {m : Symbol → Maker s_word c} {P : El Word c → Type 0} → ((t : Tok Word) → IsSeen t → p t.symbol ≡ true → P (apply Word (m t.symbol) t.word)) → Gives _ _ (token p m) P
   g_none : {c : Sort} {m : Maker s_none c} {P : El Word c → Type 0} → P (apply Word m tt) → Gives _ _ (none m) P
-  g_nothing : {b : Bool} {c : Sort} {q : Symbol → Bool} {P : El Word c → Type 0} → Gives _ _ (nothing {b = b} {c = c} q) P
+  g_nothing : {b : Bool} {c : Sort} {q : Symbol → Bool} {P : El Word c → Type 0} → Gives _ _ (refuse {b = b} {c = c} q) P
   g_both : {b d : Bool} {a c : Sort} {X : Form b a} {Y : Form d c} {P : El Word a → Type 0} {Q : El Word c → Type 0} → Gives _ _ X P → Gives _ _ Y Q → Gives _ _ (X ▹ Y) (λ x. P x.0 × Q x.1)
   g_after : {b : Bool} {a : Sort} {p : Symbol → Bool} {X : Form b a} {P : El Word a → Type 0} → Gives _ _ X P → Gives _ _ (p ▸ X) P
   g_many : {a : Sort} {p : Symbol → Bool} {X : Form true a} {P : El Word a → Type 0} → Gives _ _ X P → Gives _ _ (many p X) (AllByRecursion P)

@@ -41,7 +41,7 @@ infixr 6 ◌▸◌
 pub data Form : Bool → Sort → Type 0 where
   token : {c : Sort} → (Symbol → Bool) → (Symbol → Maker s_word c) → Form true c
   none : {c : Sort} → Maker s_none c → Form false c
-  nothing : {b : Bool} {c : Sort} → (Symbol → Bool) → Form b c
+  refuse : {b : Bool} {c : Sort} → (Symbol → Bool) → Form b c
   ◌▹◌ : {b d : Bool} {a c : Sort} → Form b a → Form d c → Form b (s_pair a c)
   ◌▸◌ : {b : Bool} {a : Sort} → (Symbol → Bool) → Form b a → Form true a
   many : {a : Sort} → (Symbol → Bool) → Form true a → Form false (s_list a)

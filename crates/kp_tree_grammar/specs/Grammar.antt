@@ -6,7 +6,7 @@ use Rattle.kp_tree_grammar.specs.declared.symbol.Symbol.TheVariants as symbols
 use Rattle.kp_tree_grammar.specs.Symbols.{no_symbol, is_left, is_dash, is_equal, is_variable, is_and, is_or, is_not, is_when, is_forall, is_one_of, is_unknown, is_define, is_domain, is_problem, is_either, is_requirements, is_types, is_constants, is_predicates, is_action, is_parameters, is_precondition, is_effect, is_of_domain, is_objects, is_init, is_goal, is_head, is_name, is_term, is_keyword}
 use Rattle.kp_tree_grammar.specs.Unsupported.{not_section, not_given, not_part, not_cond, not_goal, not_effect, not_item, not_lit}
 use Rattle.kp_tree_grammar.specs.Sorts.{Sort, s_none, s_word, s_pair, s_list, s_typed, s_term, s_atom, s_cond, s_eff, s_lit, s_item, s_pred, s_schema, s_section, s_domain, s_seen, Seen, s_given, s_problem, Maker, m_word, m_drop, m_name, m_variable, m_atom, m_untyped, m_kind, m_kinds, m_typed, m_joined, m_all, m_true, m_holds, m_same, m_both, m_idle, m_when, m_each, m_makes, m_lit, m_items, m_fact, m_one_of, m_any_of, m_unknown, m_pred, m_no_params, m_schema, m_requires, m_types, m_constants, m_predicates, m_action, m_domain, m_of_domain, m_needs, m_objects, m_init, m_goal, m_saw, m_problem}
-use Rattle.kp_tree_grammar.specs.Forms.{Named, n_cond, n_goal, n_eff, n_item, Form, token, none, nothing, ◌▹◌, ◌▸◌, many, run, maybe, make, choose, loose, bracket, within}
+use Rattle.kp_tree_grammar.specs.Forms.{Named, n_cond, n_goal, n_eff, n_item, Form, token, none, refuse, ◌▹◌, ◌▸◌, many, run, maybe, make, choose, loose, bracket, within}
 
 -- ---- words
 
@@ -73,7 +73,7 @@ equality = is_equal ▸ (term ▹ term)
 -- a test between its brackets, or the same under a negation
 abbrev pub test_case : Bool → Symbol → Form true s_cond
 test_case b symbols.Equal = make (m_same b) equality
-test_case b s = if is_head s then make (m_holds b) atom_body else nothing not_cond
+test_case b s = if is_head s then make (m_holds b) atom_body else refuse not_cond
 
 -- a condition between its brackets, by the token there
 abbrev pub cond_case : Symbol → Form false s_cond
@@ -90,7 +90,7 @@ cond = within n_cond
 
 -- a fact of a goal between its brackets, or the same under a negation
 abbrev pub goal_lit_case : Bool → Symbol → Form true s_cond
-goal_lit_case b s = if is_head s then make (m_holds b) fact_body else nothing not_goal
+goal_lit_case b s = if is_head s then make (m_holds b) fact_body else refuse not_goal
 
 -- a goal between its brackets, by the token there
 abbrev pub goal_case : Symbol → Form false s_cond
@@ -112,7 +112,7 @@ eff_case symbols.And = loose (is_and ▸ make m_both (many is_left (within n_eff
 eff_case symbols.When = loose (is_when ▸ make m_when (cond ▹ within n_eff))
 eff_case symbols.Forall = loose (is_forall ▸ make m_each (bracket (typed is_variable) ▹ within n_eff))
 eff_case symbols.Not = loose (is_not ▸ make (m_makes false) atom)
-eff_case s = loose (if is_head s then make (m_makes true) atom_body else nothing not_effect)
+eff_case s = loose (if is_head s then make (m_makes true) atom_body else refuse not_effect)
 
 -- an effect
 abbrev pub eff : Form true s_eff
@@ -123,7 +123,7 @@ eff = within n_eff
 -- a literal of `oneof` or `or`: fact, or ( not fact )
 abbrev pub lit_case : Symbol → Form true s_lit
 lit_case symbols.Not = is_not ▸ make (m_lit false) fact
-lit_case s = if is_head s then make (m_lit true) fact_body else nothing not_lit
+lit_case s = if is_head s then make (m_lit true) fact_body else refuse not_lit
 
 -- such a literal in its brackets
 abbrev pub lit : Form true s_lit
@@ -136,7 +136,7 @@ item_case symbols.Not = loose (is_not ▸ make (m_fact false) fact)
 item_case symbols.OneOf = loose (make m_one_of (word is_one_of ▹ many is_left lit))
 item_case symbols.Or = loose (make m_any_of (word is_or ▹ many is_left lit))
 item_case symbols.Unknown = loose (make m_unknown (word is_unknown ▹ fact))
-item_case s = loose (if is_head s then make (m_fact true) fact_body else nothing not_item)
+item_case s = loose (if is_head s then make (m_fact true) fact_body else refuse not_item)
 
 -- an item of `:init`
 abbrev pub item : Form true s_item
@@ -157,7 +157,7 @@ pred = bracket (make m_pred (word is_head ▹ typed is_variable))
 
 -- behind the parts of an action nothing stands
 abbrev pub parts_end_case : Symbol → Form false s_none
-parts_end_case s = if not_part s then nothing not_part else none m_drop
+parts_end_case s = if not_part s then refuse not_part else none m_drop
 
 -- Name [:parameters ( typed variables )] [:precondition cond] [:effect eff]
 abbrev pub schema : Form true s_schema
@@ -180,7 +180,7 @@ section_case symbols.Types = is_types ▸ make m_types (typed is_name)
 section_case symbols.Constants = is_constants ▸ make m_constants (typed is_name)
 section_case symbols.Predicates = is_predicates ▸ make m_predicates (many is_left pred)
 section_case symbols.Action = is_action ▸ make m_action schema
-section_case _ = nothing not_section
+section_case _ = refuse not_section
 
 -- a section of a domain
 abbrev pub section : Form true s_section
@@ -198,7 +198,7 @@ domain = bracket (is_define ▸ make m_domain (title is_domain ▹ many is_left 
 
 -- a section that may stand once, if it has not stood
 abbrev pub once : {c : Sort} → Bool → Form true c → Form true c
-once true X = nothing no_symbol
+once true X = refuse no_symbol
 once false X = X
 
 -- the section with this keyword has stood
@@ -212,7 +212,7 @@ given_case seen symbols.Requirements = is_requirements ▸ make (m_saw seen) (ma
 given_case seen symbols.Objects = is_objects ▸ make (m_saw seen) (make m_objects (typed is_name))
 given_case seen symbols.Init = once (has_stood is_init seen) (is_init ▸ make (m_saw (symbols.Init ∷ seen)) (make m_init (many is_left item)))
 given_case seen symbols.Goal = once (has_stood is_goal seen) (is_goal ▸ make (m_saw (symbols.Goal ∷ seen)) (make m_goal goal))
-given_case seen _ = nothing not_given
+given_case seen _ = refuse not_given
 
 -- a section of a problem
 abbrev pub given : Seen → Form true (s_pair s_seen s_given)

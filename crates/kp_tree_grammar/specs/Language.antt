@@ -5,7 +5,7 @@ pub use Rattle.kp_tree_grammar.specs.Symbols.{Tok, all_seen_in, first_is, is_das
 unfoldable pub use Rattle.kp_tree_grammar.specs.Symbols.{symbol_of}
 pub use Rattle.kp_tree_grammar.specs.Unsupported.{not_cond, not_effect, not_goal, not_item, not_lit}
 pub use Rattle.kp_tree_grammar.specs.Sorts.{El, Maker, Seen, Sort, apply, m_action, m_all, m_any_of, m_atom, m_both, m_constants, m_domain, m_drop, m_each, m_fact, m_goal, m_holds, m_idle, m_init, m_items, m_joined, m_kind, m_kinds, m_lit, m_makes, m_name, m_needs, m_no_params, m_objects, m_of_domain, m_one_of, m_pred, m_predicates, m_problem, m_requires, m_same, m_saw, m_schema, m_true, m_typed, m_types, m_unknown, m_untyped, m_variable, m_when, m_word, s_atom, s_cond, s_domain, s_eff, s_given, s_item, s_list, s_lit, s_none, s_pair, s_pred, s_problem, s_schema, s_section, s_seen, s_term, s_typed, s_word, with_kinds}
-pub use Rattle.kp_tree_grammar.specs.Forms.{Form, Named, bracket, choose, hits, loose, make, many, maybe, n_cond, n_eff, n_goal, n_item, none, nothing, run, token, within, ◌▸◌, ◌▹◌}
+pub use Rattle.kp_tree_grammar.specs.Forms.{Form, Named, bracket, choose, hits, loose, make, many, maybe, n_cond, n_eff, n_goal, n_item, none, refuse, run, token, within, ◌▸◌, ◌▹◌}
 pub use Rattle.kp_tree_grammar.specs.Grammar.{atom_body, cond, cond_case, domain, eff, eff_case, equality, fact, fact_body, given, given_case, goal, goal_case, goal_lit_case, has_stood, item, item_case, kind, kind_case, lit, lit_case, once, parts_end_case, pred, problem, rule, schema, section, section_case, skip, some, term, term_maker, test_case, title, typed, word, words_of_requirements}
 pub use Rattle.kp_tree_grammar.specs.Reading.{At, ReadBy, Reads, ReadsWhole, Reason, StopBy, Stops, StopsWhole, Syntax, Unsupported, after_form, r_absent, r_after, r_both, r_bracket, r_choice, r_end, r_last, r_loose, r_make, r_more, r_next, r_none, r_present, r_token, r_within, reason_of, s_after, s_at, s_before, s_choice, s_first, s_here, s_inside, s_lacks, s_later, s_loose, s_make, s_next, s_none_there, s_nothing, s_present, s_second, s_token, s_unclosed, s_unopened, s_within, stop, stop_by, within_form}
 pub use Rattle.kp_tree_grammar.specs.Texts.{ReadsAs}

@@ -4,7 +4,7 @@ use Rattle.std.specs.Prelude.{ℕ, zero, suc, List, [], ◌∷◌, length, Bool,
 use Rattle.kp_tree_grammar.specs.declared.symbol.Symbol.{Symbol}
 use Rattle.kp_tree_grammar.specs.Symbols.{Tok, is_left, is_right, first_is}
 use Rattle.kp_tree_grammar.specs.Sorts.{Sort, s_word, Seen, El, Maker, apply}
-use Rattle.kp_tree_grammar.specs.Forms.{hits, Form, token, none, nothing, ◌▹◌, ◌▸◌, many, run, maybe, make, choose, loose, bracket, within}
+use Rattle.kp_tree_grammar.specs.Forms.{hits, Form, token, none, refuse, ◌▹◌, ◌▸◌, many, run, maybe, make, choose, loose, bracket, within}
 use Rattle.kp_tree_grammar.specs.Grammar.{rule}
 use Rattle.kp_tree_grammar.specs.Reading.{At, stop, stop_by}
 
@@ -53,7 +53,7 @@ module _ {W : Type 0} where
   abbrev pub go : ((b : Bool) (c : Sort) → Form b c → List (Tok W) → Outcome W (El W c)) → (b : Bool) (c : Sort) → Form b c → List (Tok W) → Outcome W (El W c)
   go k _ _ (token p m) = token_at p m
   go k _ _ (none m) = λ ts. Ok (apply W m tt, ts)
-  go k _ _ (nothing q) = λ ts. Err (stop_by q ts)
+  go k _ _ (refuse q) = λ ts. Err (stop_by q ts)
   go k _ _ (X ▹ Y) = λ ts. go k _ _ X ts >>= λ x. go k _ _ Y x.1 >>= λ y. Ok ((x.0, y.0), y.1)
   go k _ _ (p ▸ X) = after_at p (go k _ _ X)
   go k _ _ (many p X) = λ ts. some_at p (go k _ _ X) (length ts) ts

@@ -3,7 +3,7 @@ use Rattle.std.specs.Prelude.{◌≡◌, List, [], ◌∷◌, Bool, true, false}
 use Rattle.kp_tree_grammar.specs.declared.symbol.Symbol.{Symbol}
 use Rattle.kp_tree_grammar.specs.Symbols.{Tok, first_is, is_left, is_right}
 use Rattle.kp_tree_grammar.specs.Sorts.{Sort, s_none, s_word, s_pair, s_seen, Seen, El, Maker, apply}
-use Rattle.kp_tree_grammar.specs.Forms.{hits, Named, Form, token, none, nothing, ◌▹◌, ◌▸◌, many, run, maybe, make, choose, loose, bracket, within}
+use Rattle.kp_tree_grammar.specs.Forms.{hits, Named, Form, token, none, refuse, ◌▹◌, ◌▸◌, many, run, maybe, make, choose, loose, bracket, within}
 use Rattle.kp_tree_grammar.specs.Grammar.{rule}
 
 -- why a form stops: it is none of the language, or it is known and not supported
@@ -71,7 +71,7 @@ pub data StopBy {W : Type 0} : (b : Bool) (c : Sort) → Form b c → List (Tok 
   -- a token that must pass stops where none does; so at the end of the file
   s_token : {c : Sort} {p : Symbol → Bool} {m : Symbol → Maker s_word c} {ts : List (Tok W)} → first_is (hits p) ts ≡ false → StopBy _ _ (token p m) ts (stop ts)
   -- it stops at once
-  s_nothing : {b : Bool} {c : Sort} {q : Symbol → Bool} {ts : List (Tok W)} → StopBy _ _ (nothing {b = b} {c = c} q) ts (stop_by q ts)
+  s_nothing : {b : Bool} {c : Sort} {q : Symbol → Bool} {ts : List (Tok W)} → StopBy _ _ (refuse {b = b} {c = c} q) ts (stop_by q ts)
   -- the first of two forms stops
   s_first : {b d : Bool} {a c : Sort} {X : Form b a} {Y : Form d c} {ts : List (Tok W)} {at : At W} → StopBy _ _ X ts at → StopBy _ _ (X ▹ Y) ts at
   -- the first reads, and the second stops in what is left

@@ -69,7 +69,7 @@ pub record Schema (W : Type 0) : Type 0 where
   pub pre : Cond W
   pub effect : Eff W
 
--- a domain
+-- a domain; its kinds are the lines of `:types`
 pub record Domain (W : Type 0) : Type 0 where
   pub kinds : List (Typed W)
   pub constants : List (Typed W)

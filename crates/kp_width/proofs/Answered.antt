@@ -7,7 +7,7 @@ use Rattle.kp_base.specs.declared.ground.Initial.{Initial}
 use Rattle.kp_base.specs.declared.refused.Refused.{Refused}
 use Rattle.kp_base.specs.declared.refused.Refused.TheVariants as refusals
 use Rattle.kp_base.specs.Lists.{Member}
-use Rattle.kp_base.specs.Covering.{IsCov, AllMeet}
+use Rattle.kp_base.specs.Covering.{AreTagsOfClauses, AllMeet}
 use Rattle.kp_base.specs.Relevance.{AreClausesFor}
 use Rattle.kp_cover_subsets.specs.Subsets.{subsets, choose}
 use Rattle.kp_cover.specs.Covering.{IsCover}
@@ -15,7 +15,7 @@ use Rattle.kp_cover.proofs.Public.{cov_once}
 use Rattle.kp_width.specs.declared.report.WidthRow.{WidthRow}
 use Rattle.kp_width.specs.declared.report.WidthReport.{WidthReport}
 use Rattle.kp_width.specs.declared.report.WidthReport.TheVariants as reports
-use Rattle.kp_width.specs.Rows.{NoneCovers, IsFirstCover, ArePassed, IsLeastCover, HasTooManySets, IsRowOf, IsOver, IsRefusedAt, AreRows, IsReached, used_tags}
+use Rattle.kp_width.specs.Rows.{NoneCovers, IsFirstCover, AreSizesPassed, HasLeastCover, HasTooManySets, IsRowOf, IsOver, IsOverfullAt, AreRows, IsTargetReached, row_tags}
 use Rattle.kp_width.specs.Answers.{IsReport, RefusesWidth}
 use Rattle.kp_width.specs.Laws.{KnownProblemsAreAnswered}
 use Rattle.kp_width.proofs.Places.{subset_length}
@@ -23,7 +23,7 @@ use Rattle.kp_width.proofs.Right.{it_is_there}
 
 -- ---- one search
 
-module _ (i : Initial) (cs : List (List Lit)) (tags : (ds : List (List Lit)) → (ts : List (List Lit)) × IsCov i ds ts) (meeting : (ts ds : List (List Lit)) → AllMeet i ts ds ⊎ (AllMeet i ts ds → ⊥)) where
+module _ (i : Initial) (cs : List (List Lit)) (tags : (ds : List (List Lit)) → (ts : List (List Lit)) × AreTagsOfClauses i ds ts) (meeting : (ts ds : List (List Lit)) → AllMeet i ts ds ⊎ (AllMeet i ts ds → ⊥)) where
   -- the first of some sets that covers, or none does
   abbrev pub FirstOrNone : List (List (List Lit)) → Type 0
   FirstOrNone sets = ((set : List (List Lit)) × (ts : List (List Lit)) × IsFirstCover i cs sets set ts) ⊎ NoneCovers i cs sets
@@ -56,8 +56,8 @@ module _ (i : Initial) (cs : List (List Lit)) (tags : (ds : List (List Lit)) →
 
   -- how a search among the sizes below a number ends
   data Ends (limit bound k : ℕ) : Type 0 where
-    passed : ArePassed limit i cs k → Ends limit bound k
-    found : (set ts : List (List Lit)) → IsLeastCover limit bound i cs set ts → Ends limit bound k
+    passed : AreSizesPassed limit i cs k → Ends limit bound k
+    found : (set ts : List (List Lit)) → HasLeastCover limit bound i cs set ts → Ends limit bound k
     refused : (size : ℕ) → HasTooManySets limit bound i cs size → Ends limit bound k
 
   sizes : (limit bound k : ℕ) → k ≤ bound + 1 → Ends limit bound k
@@ -65,7 +65,7 @@ module _ (i : Initial) (cs : List (List Lit)) (tags : (ds : List (List Lit)) →
   sizes limit bound (suc k) le = go (sizes limit bound k (omega (arith, le)))
     where
       -- one size more is passed
-      onward : choose (length cs) k ≤ limit → NoneCovers i cs (subsets k cs) → ArePassed limit i cs k → ArePassed limit i cs (suc k)
+      onward : choose (length cs) k ≤ limit → NoneCovers i cs (subsets k cs) → AreSizesPassed limit i cs k → AreSizesPassed limit i cs (suc k)
       onward few lack before = record {
         few = λ v below. elim (cases_lt v k) [
           | inl lt ↦ before.few v lt
@@ -77,14 +77,14 @@ module _ (i : Initial) (cs : List (List Lit)) (tags : (ds : List (List Lit)) →
         ];
       }
 
-      by : FirstOrNone (subsets k cs) → choose (length cs) k ≤ limit → ArePassed limit i cs k → Ends limit bound (suc k)
+      by : FirstOrNone (subsets k cs) → choose (length cs) k ≤ limit → AreSizesPassed limit i cs k → Ends limit bound (suc k)
       by (inl (set, ts, f)) few before =
           let long : k ≡ length set = sym (subset_length k cs set (it_is_there i cs (subsets k cs) set ts f)) in
           Ends.found set ts (record {
             in_bound = omega (arith, le, long);
             few = subst (λ (m : ℕ). choose (length cs) m ≤ limit) long few;
             first = subst (λ (m : ℕ). IsFirstCover i cs (subsets m cs) set ts) long f;
-            passed = subst (ArePassed limit i cs) long before;
+            passed = subst (AreSizesPassed limit i cs) long before;
           })
       by (inr lack) few before = Ends.passed (onward few lack before)
 
@@ -98,11 +98,11 @@ module _ (i : Initial) (cs : List (List Lit)) (tags : (ds : List (List Lit)) →
 
 -- ---- targets
 
-module _ (limit bound : ℕ) (g : Ground) (i : Initial) (tags : (ds : List (List Lit)) → (ts : List (List Lit)) × IsCov i ds ts) (meeting : (ts ds : List (List Lit)) → AllMeet i ts ds ⊎ (AllMeet i ts ds → ⊥)) where
+module _ (limit bound : ℕ) (g : Ground) (i : Initial) (tags : (ds : List (List Lit)) → (ts : List (List Lit)) × AreTagsOfClauses i ds ts) (meeting : (ts ds : List (List Lit)) → AllMeet i ts ds ⊎ (AllMeet i ts ds → ⊥)) where
   data OnTarget (t : Lit) : Type 0 where
     covered : (row : WidthRow) → IsRowOf limit bound g i t row → OnTarget t
     over : IsOver limit bound g i t → OnTarget t
-    refused : (size : ℕ) → IsRefusedAt limit bound g i t size → OnTarget t
+    refused : (size : ℕ) → IsOverfullAt limit bound g i t size → OnTarget t
 
   on_target : (t : Lit) (cs : List (List Lit)) → AreClausesFor g.actions (length g.atoms) i t cs → OnTarget t
   on_target t cs are = by (sizes i cs tags meeting limit bound (bound + 1) (omega arith))
@@ -114,15 +114,15 @@ module _ (limit bound : ℕ) (g : Ground) (i : Initial) (tags : (ds : List (List
 
   data InTurn (ts : List Lit) : Type 0 where
     all : (rows : List WidthRow) → AreRows limit bound g i ts rows → InTurn ts
-    over : (t : Lit) → IsReached limit bound g i ts t → IsOver limit bound g i t → InTurn ts
-    refused : (t : Lit) (size : ℕ) → IsReached limit bound g i ts t → IsRefusedAt limit bound g i t size → InTurn ts
+    over : (t : Lit) → IsTargetReached limit bound g i ts t → IsOver limit bound g i t → InTurn ts
+    refused : (t : Lit) (size : ℕ) → IsTargetReached limit bound g i ts t → IsOverfullAt limit bound g i t size → InTurn ts
 
   -- the first target is reached at once
-  at_once : (t : Lit) (ts : List Lit) → IsReached limit bound g i (t ∷ ts) t
+  at_once : (t : Lit) (ts : List Lit) → IsTargetReached limit bound g i (t ∷ ts) t
   at_once t ts = record { earlier = []; later = ts; among = refl; rows = []; are_rows = AreRows.done }
 
   -- and one behind it, where it has a row
-  behind : (t u : Lit) (ts : List Lit) (row : WidthRow) → IsRowOf limit bound g i t row → IsReached limit bound g i ts u → IsReached limit bound g i (t ∷ ts) u
+  behind : (t u : Lit) (ts : List Lit) (row : WidthRow) → IsRowOf limit bound g i t row → IsTargetReached limit bound g i ts u → IsTargetReached limit bound g i (t ∷ ts) u
   behind t u ts row here r = record { earlier = t ∷ r.earlier; later = r.later; among = ap (λ z. t ∷ z) r.among; rows = row ∷ r.rows; are_rows = AreRows.more t r.earlier row r.rows here r.are_rows }
 
   in_turn : (ts : List Lit) → ((t : Lit) → Member ts t → (cs : List (List Lit)) × AreClausesFor g.actions (length g.atoms) i t cs) → InTurn ts
@@ -142,7 +142,7 @@ answered limits bound g i k = by (in_turn limits.sets bound g i k.tags k.meeting
     by : InTurn limits.sets bound g i k.tags k.meeting k.targets → ((report : WidthReport) × IsReport limits bound g i report) ⊎ ((r : Refused) × RefusesWidth limits bound g i r)
     by (InTurn.over t r o) = inl (reports.Over t, IsReport.over k.targets t k.are_targets r o)
     by (InTurn.refused t size r o) = inr (refusals.SetsOver t size, RefusesWidth.sets_over k.targets t size k.are_targets r o)
-    by (InTurn.all rows h) = elim (cases_lt limits.tags (length (used_tags rows))) [
+    by (InTurn.all rows h) = elim (cases_lt limits.tags (length (row_tags rows))) [
       | inl many ↦ inr (refusals.TagsOver, RefusesWidth.tags_over k.targets rows k.are_targets h many)
       | inr few ↦ inl (reports.Within rows, IsReport.within k.targets rows k.are_targets h few)
     ]

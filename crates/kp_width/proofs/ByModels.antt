@@ -6,12 +6,12 @@ use Rattle.kp_base.specs.declared.ground.Initial.{Initial}
 use Rattle.kp_base.specs.declared.ground.Action.{Action}
 use Rattle.kp_base.specs.declared.limits.Limits.{Limits}
 use Rattle.kp_base.specs.declared.refused.Refused.{Refused}
-use Rattle.kp_base.specs.Planning.{IsConsistent, HaveSameModels, IsImplicate, IsCandidate, AreClausesFor, IsCov}
+use Rattle.kp_base.specs.Planning.{IsConsistent, HaveSameModels, IsImplicate, IsCandidate, AreClausesFor, AreTagsOfClauses}
 use Rattle.kp_cover_subsets.specs.Subsets.{subsets}
 use Rattle.kp_cover.specs.Covering.{IsCover}
 use Rattle.kp_width.specs.declared.report.WidthRow.{WidthRow}
 use Rattle.kp_width.specs.declared.report.WidthReport.{WidthReport}
-use Rattle.kp_width.specs.Rows.{NoneCovers, IsFirstCover, ArePassed, IsRowOf, IsOver, IsRefusedAt, AreRows, IsReached}
+use Rattle.kp_width.specs.Rows.{NoneCovers, IsFirstCover, AreSizesPassed, IsRowOf, IsOver, IsOverfullAt, AreRows, IsTargetReached}
 use Rattle.kp_width.specs.Answers.{IsReport, RefusesWidth}
 
 pub back : (i j : Initial) → HaveSameModels i j → HaveSameModels j i
@@ -45,7 +45,7 @@ clauses i j same acts n t cs are = record {
 
 -- ---- covers
 
-cov : (i j : Initial) → HaveSameModels i j → (cs tags : List (List Lit)) → IsCov i cs tags → IsCov j cs tags
+cov : (i j : Initial) → HaveSameModels i j → (cs tags : List (List Lit)) → AreTagsOfClauses i cs tags → AreTagsOfClauses j cs tags
 cov i j same cs tags h = record { test = h.test; tells = λ t. (λ e. consistent i j same t ((h.tells t).0 e), λ c. (h.tells t).1 (consistent j i (back i j same) t c)); are = h.are }
 
 cover : (i j : Initial) → HaveSameModels i j → (cs set tags : List (List Lit)) → IsCover i cs set tags → IsCover j cs set tags
@@ -57,7 +57,7 @@ cover i j same cs set tags h = record {
 none : (i j : Initial) → HaveSameModels i j → (cs : List (List Lit)) (sets : List (List (List Lit))) → NoneCovers i cs sets → NoneCovers j cs sets
 none i j same cs sets h set tags m c = h set tags m (cover j i (back i j same) cs set tags c)
 
-passed : (i j : Initial) → HaveSameModels i j → (limit : ℕ) (cs : List (List Lit)) (size : ℕ) → ArePassed limit i cs size → ArePassed limit j cs size
+passed : (i j : Initial) → HaveSameModels i j → (limit : ℕ) (cs : List (List Lit)) (size : ℕ) → AreSizesPassed limit i cs size → AreSizesPassed limit j cs size
 passed i j same limit cs size h = record { few = h.few; none_covers = λ v below. none i j same cs (subsets v cs) (h.none_covers v below) }
 
 first : (i j : Initial) → HaveSameModels i j → (cs : List (List Lit)) (sets : List (List (List Lit))) (set tags : List (List Lit)) → IsFirstCover i cs sets set tags → IsFirstCover j cs sets set tags
@@ -84,7 +84,7 @@ module _ (i j : Initial) (same : HaveSameModels i j) (g : Ground) (bound : ℕ) 
       no_cover = passed i j same limit h.relevant (bound + 1) h.no_cover;
     }
 
-    refused_by : (t : Lit) (size : ℕ) → IsRefusedAt limit bound g i t size → IsRefusedAt limit bound g j t size
+    refused_by : (t : Lit) (size : ℕ) → IsOverfullAt limit bound g i t size → IsOverfullAt limit bound g j t size
     refused_by t size h = record {
       relevant = h.relevant;
       are_relevant = clauses i j same g.actions (length g.atoms) t h.relevant h.are_relevant;
@@ -95,7 +95,7 @@ module _ (i j : Initial) (same : HaveSameModels i j) (g : Ground) (bound : ℕ) 
     rows_by _ _ AreRows.done = AreRows.done
     rows_by _ _ (AreRows.more t ts row rows here others) = AreRows.more t ts row rows (row_by t row here) (rows_by ts rows others)
 
-    reached_by : (ts : List Lit) (t : Lit) → IsReached limit bound g i ts t → IsReached limit bound g j ts t
+    reached_by : (ts : List Lit) (t : Lit) → IsTargetReached limit bound g i ts t → IsTargetReached limit bound g j ts t
     reached_by ts t h = record { earlier = h.earlier; later = h.later; among = h.among; rows = h.rows; are_rows = rows_by h.earlier h.rows h.are_rows }
 
   pub report_by : (limits : Limits) (r : WidthReport) → IsReport limits bound g i r → IsReport limits bound g j r

@@ -4,7 +4,7 @@ use Rattle.kp_base.specs.declared.lit.Lit.{Lit}
 use Rattle.kp_base.specs.declared.ground.Ground.{Ground}
 use Rattle.kp_base.specs.declared.ground.Initial.{Initial}
 use Rattle.kp_width.specs.declared.report.WidthRow.{WidthRow}
-use Rattle.kp_width.specs.Rows.{IsRowOf, AreRows, IsReached}
+use Rattle.kp_width.specs.Rows.{IsRowOf, AreRows, IsTargetReached}
 
 next_is : (ts : List Lit) (k : ℕ) (t : Lit) → k < length ts → t ≡ get_or ts k t → take (k + 1) ts ≡ take k ts ++ t ∷ []
 next_is [] k t lt is = absurd (omega (arith, lt))
@@ -33,5 +33,5 @@ module _ (limit bound : ℕ) (g : Ground) (i : Initial) where
       (subst (AreRows limit bound g i (take k ts ++ t ∷ [])) (sym added) (one_more (take k ts) rows t row before h))
 
   -- a target without a row is reached
-  pub reached : (ts : List Lit) (k : ℕ) (t : Lit) (rows : List WidthRow) → k < length ts → t ≡ get_or ts k t → AreRows limit bound g i (take k ts) rows → IsReached limit bound g i ts t
+  pub reached : (ts : List Lit) (k : ℕ) (t : Lit) (rows : List WidthRow) → k < length ts → t ≡ get_or ts k t → AreRows limit bound g i (take k ts) rows → IsTargetReached limit bound g i ts t
   reached ts k t rows lt is before = record { earlier = take k ts; later = drop (k + 1) ts; among = split_at ts k t lt is; rows = rows; are_rows = before }

@@ -5,7 +5,7 @@ use Rattle.kp_base.specs.declared.lit.Lit.{Lit}
 use Rattle.kp_base.specs.declared.ground.Ground.{Ground}
 use Rattle.kp_base.specs.declared.ground.Initial.{Initial}
 use Rattle.kp_base.specs.Lists.{Member}
-use Rattle.kp_base.specs.Covering.{IsCov, AllMeet}
+use Rattle.kp_base.specs.Covering.{AreTagsOfClauses, AllMeet}
 use Rattle.kp_base.specs.Relevance.{AreClausesFor}
 use Rattle.kp_base.proofs.Least.{IsLeastSo, least_number}
 use Rattle.kp_cover_subsets.specs.Subsets.{subsets}
@@ -18,7 +18,7 @@ use Rattle.kp_width.proofs.Places.{subset_length, of_some}
 use Rattle.kp_width.proofs.Right.{it_is_there, there, covers_them, covers_target, more_than}
 use Rattle.kp_width.proofs.Answered.{first_cover}
 
-module _ (g : Ground) (i : Initial) (tags : (ds : List (List Lit)) → (ts : List (List Lit)) × IsCov i ds ts) (meeting : (ts ds : List (List Lit)) → AllMeet i ts ds ⊎ (AllMeet i ts ds → ⊥)) (target : Lit) (cs : List (List Lit)) (are : AreClausesFor g.actions (length g.atoms) i target cs) where
+module _ (g : Ground) (i : Initial) (tags : (ds : List (List Lit)) → (ts : List (List Lit)) × AreTagsOfClauses i ds ts) (meeting : (ts ds : List (List Lit)) → AllMeet i ts ds ⊎ (AllMeet i ts ds → ⊥)) (target : Lit) (cs : List (List Lit)) (are : AreClausesFor g.actions (length g.atoms) i target cs) where
   -- some set of so many of the relevant clauses has tags that meet them all
   record HasCover (size : ℕ) : Type 0 where
     set : List (List Lit)

@@ -6,7 +6,7 @@ use Rattle.kp_base.specs.declared.lit.Lit.{Lit}
 use Rattle.kp_base.specs.declared.ground.Initial.{Initial}
 use Rattle.kp_cover_subsets.specs.Subsets.{subsets, choose}
 use Rattle.kp_cover.specs.Covering.{IsCover}
-use Rattle.kp_width.specs.Rows.{NoneCovers, IsFirstCover, ArePassed, IsLeastCover, HasNoCover, HasTooManySets}
+use Rattle.kp_width.specs.Rows.{NoneCovers, IsFirstCover, AreSizesPassed, HasLeastCover, HasNoCover, HasTooManySets}
 use Rattle.kp_width.proofs.Right.{it_is_there}
 
 module _ (i : Initial) (cs : List (List Lit)) where
@@ -23,14 +23,14 @@ module _ (i : Initial) (cs : List (List Lit)) where
 
   module _ (limit bound : ℕ) where
     -- the size of a least set isn't passed
-    found : (set tags : List (List Lit)) (size : ℕ) → IsLeastCover limit bound i cs set tags → length set < size → ArePassed limit i cs size → ⊥
+    found : (set tags : List (List Lit)) (size : ℕ) → HasLeastCover limit bound i cs set tags → length set < size → AreSizesPassed limit i cs size → ⊥
     found set tags size l lt h = h.none_covers (length set) lt set tags (it_is_there i cs (subsets (length set) cs) set tags l.first) l.first.covers
 
     -- nor is one that is refused
-    refused : (a size : ℕ) → HasTooManySets limit bound i cs a → a < size → ArePassed limit i cs size → ⊥
+    refused : (a size : ℕ) → HasTooManySets limit bound i cs a → a < size → AreSizesPassed limit i cs size → ⊥
     refused a size r lt h = absurd (omega (arith, r.many, h.few a lt))
 
-    pub one_set : (a b s t : List (List Lit)) → IsLeastCover limit bound i cs a s → IsLeastCover limit bound i cs b t → a ≡ b
+    pub one_set : (a b s t : List (List Lit)) → HasLeastCover limit bound i cs a s → HasLeastCover limit bound i cs b t → a ≡ b
     one_set a b s t l m = elim (cases_lt (length a) (length b)) [
       | inl lt ↦ absurd (found a s (length b) l lt m.passed)
       | inr le ↦ elim (eq-or-lt_of_le le) [
@@ -45,7 +45,7 @@ module _ (i : Initial) (cs : List (List Lit)) where
       | inr le ↦ elim (eq-or-lt_of_le le) [ inl e ↦ sym e | inr gt ↦ absurd (refused b a m gt l.passed) ]
     ]
 
-    pub not_many : (set tags : List (List Lit)) (size : ℕ) → IsLeastCover limit bound i cs set tags → HasTooManySets limit bound i cs size → ⊥
+    pub not_many : (set tags : List (List Lit)) (size : ℕ) → HasLeastCover limit bound i cs set tags → HasTooManySets limit bound i cs size → ⊥
     not_many set tags size l m = elim (cases_lt (length set) size) [
       | inl lt ↦ found set tags size l lt m.passed
       | inr le ↦ elim (eq-or-lt_of_le le) [
@@ -54,7 +54,7 @@ module _ (i : Initial) (cs : List (List Lit)) where
       ]
     ]
 
-    pub not_none : (set tags : List (List Lit)) → IsLeastCover limit bound i cs set tags → HasNoCover limit bound i cs → ⊥
+    pub not_none : (set tags : List (List Lit)) → HasLeastCover limit bound i cs set tags → HasNoCover limit bound i cs → ⊥
     not_none set tags l none = found set tags (bound + 1) l (omega (arith, l.in_bound)) none
 
     pub never_refused : (size : ℕ) → HasNoCover limit bound i cs → HasTooManySets limit bound i cs size → ⊥

@@ -6,14 +6,14 @@ use Rattle.std.specs.List.{range_with_len}
 use Rattle.kp_base.specs.declared.lit.Lit.{Lit}
 use Rattle.kp_base.specs.declared.ground.Initial.{Initial}
 use Rattle.kp_base.specs.Lists.{Member}
-use Rattle.kp_base.specs.Covering.{IsCov, AllMeet}
+use Rattle.kp_base.specs.Covering.{AreTagsOfClauses, AllMeet}
 use Rattle.kp_base.proofs.Lists.{map_member}
 use Rattle.kp_cover_subsets.specs.Subsets.{subsets, place_sets, first_that, choose}
 use Rattle.kp_cover_subsets.specs.Sizes as sizes
 use Rattle.kp_cover_subsets.proofs.Public.{subsets_are, first_none, first_some}
 use Rattle.kp_cover.specs.Covering.{pick, IsCover, TellsCovers}
 use Rattle.kp_cover.proofs.Public.{cov_once}
-use Rattle.kp_width.specs.Rows.{NoneCovers, IsFirstCover, ArePassed, IsLeastCover, HasTooManySets}
+use Rattle.kp_width.specs.Rows.{NoneCovers, IsFirstCover, AreSizesPassed, HasLeastCover, HasTooManySets}
 use Rattle.kp_width.proofs.Places.{sets_at}
 
 -- the list is split at the first element that passes
@@ -41,12 +41,12 @@ module _ (i : Initial) (cs : List (List Lit)) (p : List ℕ → Bool) (tells : T
   none_covers size h = subst (NoneCovers i cs) (sym (sets_at cs size)) (none_at (place_sets (length cs) size) (first_none p (place_sets (length cs) size) h))
 
   -- the tags of places that pass cover
-  tags_cover : (places : List ℕ) (tags : List (List Lit)) → p places ≡ true → IsCov i (pick cs places) tags → IsCover i cs (pick cs places) tags
+  tags_cover : (places : List ℕ) (tags : List (List Lit)) → p places ≡ true → AreTagsOfClauses i (pick cs places) tags → IsCover i cs (pick cs places) tags
   tags_cover places tags passes are =
       let found = (tells places).0 passes in
       record { are = are; cover = subst (λ (ts : List (List Lit)). AllMeet i ts cs) (cov_once i i (pick cs places) found.0 tags (λ s. refl) found.1.are are) found.1.cover }
 
-  first_covers : (size : ℕ) (places : List ℕ) (tags : List (List Lit)) → first_that p (place_sets (length cs) size) ≡ Some places → IsCov i (pick cs places) tags → IsFirstCover i cs (subsets size cs) (pick cs places) tags
+  first_covers : (size : ℕ) (places : List ℕ) (tags : List (List Lit)) → first_that p (place_sets (length cs) size) ≡ Some places → AreTagsOfClauses i (pick cs places) tags → IsFirstCover i cs (subsets size cs) (pick cs places) tags
   first_covers size places tags h are =
       let s = split p (place_sets (length cs) size) places h in
       record {
@@ -58,7 +58,7 @@ module _ (i : Initial) (cs : List (List Lit)) (p : List ℕ → Bool) (tells : T
       }
 
   module _ (limit : ℕ) where
-    pub are_passed : (size : ℕ) → sizes.ArePassed p (length cs) limit false 0 size → ArePassed limit i cs size
+    pub are_passed : (size : ℕ) → sizes.ArePassed p (length cs) limit false 0 size → AreSizesPassed limit i cs size
     are_passed size h = record {
       few = λ v below. elim (h v (omega arith) below) [ inl q ↦ q.0 | inr q ↦ absurd (false≢true q.1) ];
       none_covers = λ v below. elim (h v (omega arith) below) [ inl q ↦ none_covers v q.1 | inr q ↦ absurd (false≢true q.1) ];
@@ -67,7 +67,7 @@ module _ (i : Initial) (cs : List (List Lit)) (p : List ℕ → Bool) (tells : T
     pub too_many : (bound size : ℕ) → sizes.HasTooMany p (length cs) limit false 0 bound size → HasTooManySets limit bound i cs size
     too_many bound size h = record { in_bound = h.in_range.1; many = h.many; passed = are_passed size h.before }
 
-    pub least_is : (bound size : ℕ) (places : List ℕ) (tags : List (List Lit)) → sizes.IsLeast p (length cs) limit false 0 bound size places → IsCov i (pick cs places) tags → IsLeastCover limit bound i cs (pick cs places) tags
+    pub least_is : (bound size : ℕ) (places : List ℕ) (tags : List (List Lit)) → sizes.IsLeast p (length cs) limit false 0 bound size places → AreTagsOfClauses i (pick cs places) tags → HasLeastCover limit bound i cs (pick cs places) tags
     least_is bound size places tags l are =
         let member = (first_some p (place_sets (length cs) size) places l.first_one).0 in
         let sub = ((subsets_are size (range_with_len 0 (length cs))).exact places).0 member in
@@ -76,5 +76,5 @@ module _ (i : Initial) (cs : List (List Lit)) (p : List ℕ → Bool) (tells : T
           in_bound = omega (arith, long, l.in_range.1);
           few = subst (λ (m : ℕ). choose (length cs) m ≤ limit) long l.few;
           first = subst (λ (m : ℕ). IsFirstCover i cs (subsets m cs) (pick cs places) tags) long (first_covers size places tags l.first_one are);
-          passed = subst (ArePassed limit i cs) long (are_passed size l.least);
+          passed = subst (AreSizesPassed limit i cs) long (are_passed size l.least);
         }

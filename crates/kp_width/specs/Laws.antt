@@ -5,7 +5,7 @@ use Rattle.kp_base.specs.declared.ground.Ground.{Ground}
 use Rattle.kp_base.specs.declared.ground.Initial.{Initial}
 use Rattle.kp_base.specs.declared.limits.Limits.{Limits}
 use Rattle.kp_base.specs.declared.refused.Refused.{Refused}
-use Rattle.kp_base.specs.Planning.{Member, HaveSameModels, IsCov, AllMeet, IsTarget, AreClausesFor}
+use Rattle.kp_base.specs.Planning.{Member, HaveSameModels, AreTagsOfClauses, AllMeet, IsTarget, AreClausesFor}
 use Rattle.kp_cover.specs.Targets.{AreTargets}
 use Rattle.kp_width.specs.declared.report.WidthRow.{WidthRow}
 use Rattle.kp_width.specs.declared.report.WidthReport.{WidthReport}
@@ -40,7 +40,7 @@ pub record IsKnown (g : Ground) (i : Initial) : Type 0 where
   pub targets : List Lit
   pub are_targets : AreTargets g targets
   pub clauses : (target : Lit) → Member targets target → (cs : List (List Lit)) × AreClausesFor g.actions (length g.atoms) i target cs
-  pub tags : (cs : List (List Lit)) → (ts : List (List Lit)) × IsCov i cs ts
+  pub tags : (cs : List (List Lit)) → (ts : List (List Lit)) × AreTagsOfClauses i cs ts
   pub meeting : (ts cs : List (List Lit)) → AllMeet i ts cs ⊎ (AllMeet i ts cs → ⊥)
 
 -- the target has a width, and it is at most the number of the clauses that are relevant to it

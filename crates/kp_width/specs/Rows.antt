@@ -26,26 +26,26 @@ pub record IsFirstCover (i : Initial) (cs : List (List Lit)) (sets : List (List 
   pub none_earlier : NoneCovers i cs earlier
 
 -- the sizes below this one are passed: of each there are no more sets of clauses than the limit, and none of them covers
-pub record ArePassed (limit : ℕ) (i : Initial) (cs : List (List Lit)) (size : ℕ) : Type 0 where
+pub record AreSizesPassed (limit : ℕ) (i : Initial) (cs : List (List Lit)) (size : ℕ) : Type 0 where
   pub few : (v : ℕ) → v < size → choose (length cs) v ≤ limit
   pub none_covers : (v : ℕ) → v < size → NoneCovers i cs (subsets v cs)
 
 -- the set is the first of the least sets that cover, of a size up to the bound, and these are its tags
-pub record IsLeastCover (limit bound : ℕ) (i : Initial) (cs set tags : List (List Lit)) : Type 0 where
+pub record HasLeastCover (limit bound : ℕ) (i : Initial) (cs set tags : List (List Lit)) : Type 0 where
   pub in_bound : length set ≤ bound
   pub few : choose (length cs) (length set) ≤ limit
   pub first : IsFirstCover i cs (subsets (length set) cs) set tags
-  pub passed : ArePassed limit i cs (length set)
+  pub passed : AreSizesPassed limit i cs (length set)
 
 -- of each size up to the bound there are no more sets than the limit, and none of them covers
 abbrev pub HasNoCover : ℕ → ℕ → Initial → List (List Lit) → Type 0
-HasNoCover limit bound i cs = ArePassed limit i cs (bound + 1)
+HasNoCover limit bound i cs = AreSizesPassed limit i cs (bound + 1)
 
 -- no smaller set covers, and of this size there are more sets than the limit
 pub record HasTooManySets (limit bound : ℕ) (i : Initial) (cs : List (List Lit)) (size : ℕ) : Type 0 where
   pub in_bound : size ≤ bound
   pub many : limit < choose (length cs) size
-  pub passed : ArePassed limit i cs size
+  pub passed : AreSizesPassed limit i cs size
 
 -- ---- targets
 
@@ -54,7 +54,7 @@ pub record IsRowOf (limit bound : ℕ) (g : Ground) (i : Initial) (target : Lit)
   pub same_target : row.target ≡ target
   pub relevant : List (List Lit)
   pub are_relevant : AreClausesFor g.actions (length g.atoms) i target relevant
-  pub least_cover : IsLeastCover limit bound i relevant row.clauses row.tags
+  pub least_cover : HasLeastCover limit bound i relevant row.clauses row.tags
 
 -- the target has no cover of a size up to the bound, and of none of these sizes are there more sets than the limit
 pub record IsOver (limit bound : ℕ) (g : Ground) (i : Initial) (target : Lit) : Type 0 where
@@ -63,7 +63,7 @@ pub record IsOver (limit bound : ℕ) (g : Ground) (i : Initial) (target : Lit) 
   pub no_cover : HasNoCover limit bound i relevant
 
 -- the target is refused at the size
-pub record IsRefusedAt (limit bound : ℕ) (g : Ground) (i : Initial) (target : Lit) (size : ℕ) : Type 0 where
+pub record IsOverfullAt (limit bound : ℕ) (g : Ground) (i : Initial) (target : Lit) (size : ℕ) : Type 0 where
   pub relevant : List (List Lit)
   pub are_relevant : AreClausesFor g.actions (length g.atoms) i target relevant
   pub too_many : HasTooManySets limit bound i relevant size
@@ -74,7 +74,7 @@ pub data AreRows (limit bound : ℕ) (g : Ground) (i : Initial) : List Lit → L
   more : (target : Lit) (targets : List Lit) (row : WidthRow) (rows : List WidthRow) → IsRowOf limit bound g i target row → AreRows limit bound g i targets rows → AreRows limit bound g i (target ∷ targets) (row ∷ rows)
 
 -- the target is one of these, and each before it has a row
-pub record IsReached (limit bound : ℕ) (g : Ground) (i : Initial) (targets : List Lit) (target : Lit) : Type 0 where
+pub record IsTargetReached (limit bound : ℕ) (g : Ground) (i : Initial) (targets : List Lit) (target : Lit) : Type 0 where
   pub earlier : List Lit
   pub later : List Lit
   pub among : targets ≡ earlier ++ target ∷ later
@@ -84,8 +84,8 @@ pub record IsReached (limit bound : ℕ) (g : Ground) (i : Initial) (targets : L
 -- ---- all rows
 
 -- the different tags of the rows, and the empty one
-abbrev pub used_tags : List WidthRow → List (List Lit)
-used_tags rows = each_once same_set ([] ∷ flat_map (λ row. row.tags) rows)
+abbrev pub row_tags : List WidthRow → List (List Lit)
+row_tags rows = each_once same_set ([] ∷ flat_map (λ row. row.tags) rows)
 
 -- the greatest number of clauses of a row, and 0 where there is none
 abbrev pub greatest_width : List WidthRow → ℕ

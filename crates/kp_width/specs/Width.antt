@@ -3,7 +3,7 @@ use Rattle.std.specs.Prelude.{◌≡◌, ◌≤◌, ◌⊎◌, ℕ, List, length
 use Rattle.kp_base.specs.declared.lit.Lit.{Lit}
 use Rattle.kp_base.specs.declared.ground.Ground.{Ground}
 use Rattle.kp_base.specs.declared.ground.Initial.{Initial}
-use Rattle.kp_base.specs.Covering.{IsCov, Covers, IsTarget}
+use Rattle.kp_base.specs.Covering.{AreTagsOfClauses, Covers, IsTarget}
 use Rattle.kp_base.specs.Relevance.{AreClausesFor}
 use Rattle.kp_cover_subsets.specs.Laws.{IsSublist}
 
@@ -12,7 +12,7 @@ pub record CoversTarget (g : Ground) (i : Initial) (target : Lit) (clauses tags 
   pub relevant : List (List Lit)
   pub are_relevant : AreClausesFor g.actions (length g.atoms) i target relevant
   pub some : IsSublist clauses relevant
-  pub its_tags : IsCov i clauses tags
+  pub its_tags : AreTagsOfClauses i clauses tags
   pub cover : Covers g i tags target
 
 -- some set of so many clauses covers the target, and no smaller one does

@@ -4,7 +4,7 @@ ghost use Rattle.kp_base.specs.Implicates.{IsOfItsAtoms, are_below};
 ghost use Rattle.kp_primes.specs.Held.{formula};
 ghost use Rattle.kp_relevance.specs.Relevant.{ArePairsOf};
 ghost use Rattle.kp_width.specs.Found.{AddsTarget, AnswersTargets, AnswersTags};
-ghost use Rattle.kp_width.specs.Rows.{used_tags};
+ghost use Rattle.kp_width.specs.Rows.{row_tags};
 ghost use Rattle.kp_width.specs.declared.report.WidthReport.TheVariants as reports;
 ghost use Rattle.kp_width.specs.Answers.{AnswersWidth};
 
@@ -65,7 +65,7 @@ fn rows_of(
 
 // Whether the rows have no more different tags, with the empty one, than the limit.
 fn has_few_tags(alloc: Global, rows: &[WidthRow], limit: u32) -> Result<bool, Memory>
-    ensures { IfOk result (λ b. IsTrue b ↔ length (used_tags rows.now) ≤ limit) }
+    ensures { IfOk result (λ b. IsTrue b ↔ length (row_tags rows.now) ≤ limit) }
 {
     Ok(count_tags(alloc, rows)? <= limit as usize)
 }

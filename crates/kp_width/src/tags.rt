@@ -1,7 +1,7 @@
 //! How many different tags rows have.
 ghost use Rattle.std.specs.Prelude.{◌≡◌, [], ◌∷◌, fold, length, IfOk, OnOk};
 ghost use Rattle.kp_cover.specs.Grown.{added};
-ghost use Rattle.kp_width.specs.Rows.{used_tags};
+ghost use Rattle.kp_width.specs.Rows.{row_tags};
 
 use crate::report::WidthRow;
 use kp_base::{LitSet, Memory};
@@ -32,7 +32,7 @@ fn with_empty(alloc: Global) -> Result<Tags, Memory>
 
 // The empty tag and those of rows.
 fn of_rows(alloc: Global, rows: &[WidthRow]) -> Result<Tags, Memory>
-    ensures { IfOk result (λ tags. tags ≡ used_tags rows.now) }
+    ensures { IfOk result (λ tags. tags ≡ row_tags rows.now) }
 {
     let mut tags = with_empty(alloc)?;
     for row in rows {
@@ -43,7 +43,7 @@ fn of_rows(alloc: Global, rows: &[WidthRow]) -> Result<Tags, Memory>
 
 /// How many different tags the rows have, with the empty one.
 pub fn count_tags(alloc: Global, rows: &[WidthRow]) -> Result<usize, Memory>
-    ensures { IfOk result (λ n. n ≡ length (used_tags rows.now)) }
+    ensures { IfOk result (λ n. n ≡ length (row_tags rows.now)) }
 {
     let tags = of_rows(alloc, rows)?;
     Ok(tags.len())

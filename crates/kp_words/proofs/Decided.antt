@@ -1,25 +1,27 @@
 -- Words are a command, or none.
-use Rattle.std.proofs.Common.{◌≡◌, ◌≢◌, ◌∙◌, inl, inr, refl, ap, subst, ℕ, true, List, [], ◌∷◌, Option, Some, None, MatchOption, map, codes}
-use Rattle.std.specs.List.{list_all}
+use Rattle.std.proofs.Common.{◌≡◌, ◌≢◌, ◌∙◌, ◌⊎◌, ◌<◌, ◌≤◌, inl, inr, refl, sym, subst, ap, ℕ, List, [], ◌∷◌, Option, Some, None, MatchOption, map, length, nat_eq, codes, arith}
 use Rattle.std.specs.Str.{is_utf8, IsUtf8}
+use Rattle.std.proofs.lemmas.Bool.{cases_lt}
 use Rattle.std.proofs.lemmas.Str.{IsUtf8-from_is_utf8, is_utf8-from_IsUtf8}
-use Rattle.kp_words_options.specs.Words.{Said, is_option_name, positionals, value_of}
+use Rattle.kp_words_options.specs.Words.{positionals, value_of}
 use Rattle.kp_words_options.proofs.Public.{line_decided}
-use Rattle.kp_words.specs.Command.{AreUtf8}
-use Rattle.kp_words.specs.Laws.{WordsAreDecided}
-use Rattle.kp_words.specs.Verbs.{verb_named, verb_word, verb_in, options_of, ReadAs, read_as, AreOf, SaysOf, IsRead}
+use Rattle.kp_words.specs.declared.source.Family.{Family}
 use Rattle.kp_words.specs.declared.verb.Verb.{Verb}
-use Rattle.kp_words.specs.declared.verb.Verb.TheVariants as verbs
-use Rattle.kp_words.specs.declared.lent.CommandRef.{CommandRef}
-use Rattle.kp_words.proofs.Calls.{not_so}
-use Rattle.kp_words.proofs.Decisions.{Decided, both, by_test}
-use Rattle.kp_words.proofs.EachDecided.{translate_places, merges_places, strip_places, check_places, lift_places, solve_places, classical_places, width_places, bench_places}
-use Rattle.kp_words.proofs.Verbs.{command_of, is_command, is_read, none_of, one_verb, verb_named_is}
+use Rattle.kp_base.specs.declared.limits.Mode.{Mode}
+use Rattle.kp_words.specs.Asked.{Asked}
+use Rattle.kp_words.specs.Forms.{form, verb_named}
+use Rattle.kp_words.specs.Options.{SaysFamily, SaysSize, SaysMode, SaysLimit, SaysBudget, SaysBound, AreApart, AreNotBoth}
+use Rattle.kp_words.specs.Command.{said, place_in, value_in, AreAsked, AreOf, Behind, AreUtf8, AreWords}
+use Rattle.kp_words.specs.Laws.{WordsAreDecided}
+use Rattle.kp_words.proofs.Calls.{of_line}
+use Rattle.kp_words.proofs.Decisions.{Decided, both, by_test, like, mode_decided, not_both_decided, limit_decided, budget_decided, bound_decided, family_decided, size_decided, apart_decided}
+use Rattle.kp_words.proofs.Fitting.{are_names}
+use Rattle.kp_words.proofs.Verbs.{verb_word, behind_it, verb_named_is}
 
 abbrev Texts : Type 0
 Texts = List (List ℕ)
 
--- a word is that of some verb
+-- a word is that of some command
 verb_decided : (word : List ℕ) → Decided ((v : Verb) × (word ≡ verb_word v))
 verb_decided word = by (verb_named word) (verb_named_is word)
   where
@@ -27,73 +29,100 @@ verb_decided word = by (verb_named word) (verb_named_is word)
     by (Some v) is = inl (v, is)
     by None none = inr (λ h. none h.0 h.1)
 
--- each option of a verb has a name
-are_names : (v : Verb) → list_all is_option_name (options_of v) ≡ true
-are_names verbs.Translate = refl
-are_names verbs.Merges = refl
-are_names verbs.Strip = refl
-are_names verbs.Check = refl
-are_names verbs.Lift = refl
-are_names verbs.Solve = refl
-are_names verbs.Classical = refl
-are_names verbs.Width = refl
-are_names verbs.Bench = refl
+-- ---- what is said under names asks for something, or for nothing
 
--- positional words, and the values that are said for the options of a verb, are those of some command of it
-are_decided : (v : Verb) (said : List Said) (places : Texts) → Decided ((d : ReadAs v) × AreOf v places (map (λ name. value_of name said) (options_of v)) d)
-are_decided verbs.Translate said places = translate_places (value_of (codes "mode") said) (value_of (codes "merges") said) (value_of (codes "implicates") said) places
-are_decided verbs.Merges said places = merges_places (value_of (codes "mode") said) (value_of (codes "implicates") said) places
-are_decided verbs.Strip said places = strip_places places
-are_decided verbs.Check said places = check_places (value_of (codes "implicates") said) places
-are_decided verbs.Lift said places = lift_places (value_of (codes "mode") said) (value_of (codes "merges") said) (value_of (codes "implicates") said) places
-are_decided verbs.Solve said places = solve_places (value_of (codes "mode") said) (value_of (codes "merges") said) (value_of (codes "implicates") said) (value_of (codes "budget") said) (value_of (codes "classical") said) places
-are_decided verbs.Classical said places = classical_places (value_of (codes "budget") said) places
-are_decided verbs.Width said places = width_places (value_of (codes "bound") said) (value_of (codes "implicates") said) places
-are_decided verbs.Bench said places = bench_places (value_of (codes "mode") said) (value_of (codes "budget") said) places
+module _ (place value : List ℕ → Option (List ℕ)) where
+  abbrev Outputs : Type 0
+  Outputs = AreApart (place (codes "OD")) (place (codes "OP"))
 
-decided_of : (v : Verb) (words : Texts) → Decided ((d : ReadAs v) × SaysOf v words d)
-decided_of v words = elim (line_decided words (options_of v) (are_names v)) [
-  | inl l ↦ elim (are_decided v l.0 (positionals l.0)) [
-    | inl h ↦ inl (h.0, record { places = positionals l.0; values = map (λ name. value_of name l.0) (options_of v); line = l.1; are_so = h.1 })
-    | inr none ↦ inr (λ h. not_so words (options_of v) (positionals l.0) (map (λ name. value_of name l.0) (options_of v)) (λ places values. AreOf v places values h.0) l.1 (λ so. none (h.0, so)) h.1)
-  ]
-  | inr none ↦ inr (λ h. none h.1.places h.1.values h.1.line)
+  abbrev Generated : Type 0
+  Generated = ((f : Family) × SaysFamily (place (codes "FAMILY")) f) × ((n : ℕ) × SaysSize (place (codes "N")) n)
+
+  abbrev Tags : Type 0
+  Tags = (((m : Mode) × SaysMode (value (codes "mode")) m) × AreNotBoth (value (codes "mode")) (value (codes "merges"))) × ((n : ℕ) × SaysLimit (value (codes "implicates")) n)
+
+  abbrev Bounds : Type 0
+  Bounds = ((n : ℕ) × SaysBudget (value (codes "budget")) n) × ((n : ℕ) × SaysBound (value (codes "bound")) n)
+
+  parts_decided : Decided ((Outputs × Generated) × (Tags × Bounds))
+  parts_decided =
+      both (Outputs × Generated) (Tags × Bounds)
+      (both Outputs Generated (apart_decided (place (codes "OD")) (place (codes "OP"))) (both _ _ (family_decided (place (codes "FAMILY"))) (size_decided (place (codes "N")))))
+      (both Tags Bounds (both _ _ (both _ _ (mode_decided (value (codes "mode"))) (not_both_decided (value (codes "mode")) (value (codes "merges")))) (limit_decided (value (codes "implicates")))) (both _ _ (budget_decided (value (codes "budget"))) (bound_decided (value (codes "bound")))))
+
+  asked_of : (v : Verb) → (Outputs × Generated) × (Tags × Bounds) → (c : Asked) × (c.verb ≡ v) × AreAsked place value c
+  asked_of v ((apart, (family, size)), (((mode, alone), limit), (budget, bound))) = (
+    record {
+      verb = v;
+      domain = said (place (codes "D"));
+      problem = said (place (codes "P"));
+      plan = said (place (codes "PLAN"));
+      written = said (place (codes "T"));
+      domain_out = said (place (codes "OD"));
+      problem_out = said (place (codes "OP"));
+      mode = mode.0;
+      merges = value (codes "merges");
+      implicates = limit.0;
+      budget = budget.0;
+      bound = bound.0;
+      classical = value (codes "classical");
+      family = family.0;
+      size = size.0;
+    },
+    refl,
+    record { domain = refl; problem = refl; plan = refl; written = refl; domain_out = refl; problem_out = refl; outputs_differ = apart; family = family.1; size = size.1; mode = mode.1; merges = refl; one_source = alone; implicates = limit.1; budget = budget.1; bound = bound.1; classical = refl },
+  )
+
+  back : (c : Asked) → AreAsked place value c → (Outputs × Generated) × (Tags × Bounds)
+  back c a = ((a.outputs_differ, ((c.family, a.family), (c.size, a.size))), ((((c.mode, a.mode), a.one_source), (c.implicates, a.implicates)), ((c.budget, a.budget), (c.bound, a.bound))))
+
+  pub asked_decided : (v : Verb) → Decided ((c : Asked) × (c.verb ≡ v) × AreAsked place value c)
+  asked_decided v = like _ _ (asked_of v) (λ h. back h.0 h.2) parts_decided
+
+-- ---- words behind that of a command
+
+same_count : (n m : ℕ) → Decided (n ≡ m)
+same_count n m = elim (cases_lt n m) [
+  | inl less ↦ inr (λ e. absurd (omega (arith, less, e)))
+  | inr le ↦ elim (cases_lt m n) [ inl more ↦ inr (λ e. absurd (omega (arith, more, e))) | inr ge ↦ inl (omega (arith, le, ge)) ]
 ]
 
-read_of : (v : Verb) (d : ReadAs v) (words rest : Texts) → words ≡ verb_word v ∷ rest → SaysOf v rest d → IsRead words (command_of v d)
-read_of verbs.Translate d words rest e says = record { rest = rest; words_are = e; says = says }
-read_of verbs.Merges d words rest e says = record { rest = rest; words_are = e; says = says }
-read_of verbs.Strip d words rest e says = record { rest = rest; words_are = e; says = says }
-read_of verbs.Check d words rest e says = record { rest = rest; words_are = e; says = says }
-read_of verbs.Lift d words rest e says = record { rest = rest; words_are = e; says = says }
-read_of verbs.Solve d words rest e says = record { rest = rest; words_are = e; says = says }
-read_of verbs.Classical d words rest e says = record { rest = rest; words_are = e; says = says }
-read_of verbs.Width d words rest e says = record { rest = rest; words_are = e; says = says }
-read_of verbs.Bench d words rest e says = record { rest = rest; words_are = e; says = says }
+are_decided : (v : Verb) (places : Texts) (values : List (Option (List ℕ))) → Decided ((c : Asked) × (c.verb ≡ v) × AreOf v places values c)
+are_decided v places values = elim (same_count (length places) (length (form v).places)) [
+  | inl same ↦ like _ _ (λ h. (h.0, h.1, record { as_many = same; are_asked = h.2 })) (λ h. (h.0, h.1, h.2.are_asked)) (asked_decided (place_in v places) (value_in v values) v)
+  | inr other ↦ inr (λ h. other h.2.as_many)
+]
+
+behind_decided : (v : Verb) (words : Texts) → Decided ((c : Asked) × (c.verb ≡ v) × Behind v words c)
+behind_decided v words = elim (line_decided words (form v).options (are_names v)) [
+  | inl l ↦ elim (are_decided v (positionals l.0) (map (λ name. value_of name l.0) (form v).options)) [
+    | inl h ↦ inl (h.0, h.1, record { places = positionals l.0; values = map (λ name. value_of name l.0) (form v).options; line = l.1; are_of = h.2 })
+    | inr none ↦ inr (λ h. none (h.0, h.1, of_line v words (positionals l.0) (map (λ name. value_of name l.0) (form v).options) h.0 l.1 h.2))
+  ]
+  | inr none ↦ inr (λ h. none h.2.places h.2.values h.2.line)
+]
+
+-- ---- all words
 
 utf8_decided : (words : Texts) → Decided (AreUtf8 words)
 utf8_decided [] = inl tt
 utf8_decided (word ∷ words) = both (IsUtf8 word) (AreUtf8 words) (by_test (IsUtf8 word) (is_utf8 word) (IsUtf8-from_is_utf8 word) (is_utf8-from_IsUtf8 word)) (utf8_decided words)
 
--- words are read as some command, or as none
-read_decided : (words : Texts) → Decided ((c : CommandRef) × IsRead words c)
-read_decided [] = inr (λ h. let e = h.1.words_are in absurd cc)
-read_decided (word ∷ words) = elim (verb_decided word) [
-  | inl v ↦ elim (decided_of v.0 words) [
-    | inl d ↦ inl (command_of v.0 d.0, read_of v.0 d.0 (word ∷ words) words (ap (λ w. w ∷ words) v.1) d.1)
-    | inr none ↦ inr (λ h. let e = h.1.words_are in
-        let rest : h.1.rest ≡ words = cc in
-        let same : verb_word (verb_in h.0) ≡ word = cc in
-        none_of v.0 words (λ d says. none (d, says)) h.0 (one_verb (verb_in h.0) v.0 (same ∙ v.1)) (subst (λ ws. SaysOf (verb_in h.0) ws (read_as h.0)) rest h.1.says))
-  ]
-  | inr none ↦ inr (λ h. let e = h.1.words_are in none (verb_in h.0, let same : word ≡ verb_word (verb_in h.0) = cc in same))
+words_are : (v : Verb) (word : List ℕ) (rest : Texts) (c : Asked) → word ≡ verb_word v → c.verb ≡ v → Behind v rest c → AreWords (word ∷ rest) c
+words_are v word rest c e same behind = record { rest = rest; are = ap (λ w. w ∷ rest) (e ∙ ap verb_word (sym same)); behind = subst (λ x. Behind x rest c) (sym same) behind }
+
+read_decided : (words : Texts) → Decided ((c : Asked) × AreWords words c)
+read_decided [] = inr (λ h. let e = h.1.are in absurd cc)
+read_decided (word ∷ rest) = elim (verb_decided word) [
+  | inl v ↦ like _ _ (λ h. (h.0, words_are v.0 word rest h.0 v.1 h.1 h.2)) (λ h. let b = behind_it v.0 rest (word ∷ rest) h.0 (ap (λ w. w ∷ rest) v.1) h.1 in (h.0, b.0, b.1)) (behind_decided v.0 rest)
+  | inr none ↦ inr (λ h. let e = h.1.are in none (h.0.verb, let same : word ≡ verb_word h.0.verb = cc in same))
 ]
 
 pub words_decided : WordsAreDecided
 words_decided words = elim (utf8_decided (map (λ w. w.items) words)) [
   | inl utf8 ↦ elim (read_decided (map (λ w. w.items) words)) [
-    | inl h ↦ inl (h.0, is_command words h.0 utf8 h.1)
-    | inr none ↦ inr (λ c is. none (c, (is_read words c is).1))
+    | inl h ↦ inl (h.0, record { utf8 = utf8; are_words = h.1 })
+    | inr none ↦ inr (λ c is. none (c, is.are_words))
   ]
-  | inr none ↦ inr (λ c is. none (is_read words c is).0)
+  | inr none ↦ inr (λ c is. none is.utf8)
 ]

@@ -1,13 +1,12 @@
 -- What a word is and what the value of an option says is decided by tests.
-use Rattle.std.proofs.Common.{◌≡◌, ◌≢◌, ◌⊎◌, ◌<◌, ◌≤◌, inl, inr, refl, sym, subst, ◌∙◌, ℕ, zero, suc, Bool, true, List, [], ◌∷◌, length, Option, Some, None, codes, decimal, bytes_eq, arith}
+use Rattle.std.proofs.Common.{◌≡◌, ◌≢◌, ◌⊎◌, ◌<◌, ◌≤◌, inl, inr, refl, sym, ap, subst, ◌∙◌, ℕ, zero, suc, Bool, true, List, Option, Some, None, codes, decimal, bytes_eq, arith}
 use Rattle.std.proofs.lemmas.Bool.{cases_lt, cases_Bool, false≢true}
 use Rattle.std.proofs.lemmas.Slice.Eq.{bytes_eq-Decides}
 use Rattle.kp_base.specs.declared.limits.Mode.{Mode}
 use Rattle.kp_base.specs.declared.limits.Mode.TheVariants as modes
 use Rattle.kp_words.specs.declared.source.Family.{Family}
 use Rattle.kp_words.specs.declared.source.Family.TheVariants as families
-use Rattle.kp_words.specs.Names.{Source, of_mode, of_file}
-use Rattle.kp_words.specs.Options.{IsOfRange, SaysNumber, SaysLimit, SaysBudget, SaysBound, SaysMode, SaysSource, mode_word, family_word}
+use Rattle.kp_words.specs.Options.{IsOfRange, SaysNumber, SaysLimit, SaysBudget, SaysBound, SaysMode, SaysFamily, SaysSize, AreApart, AreNotBoth, mode_word, family_word}
 
 -- ---- what is decided
 
@@ -64,7 +63,7 @@ in_range least most n = by (cases_lt n least) (cases_lt most n)
     by (inr low) (inr high) = inl (record { at_least = low; at_most = high })
 
 -- a word says a number of the range
-pub within_decided : (least most : ℕ) (word : List ℕ) → Decided ((n : ℕ) × (IsOfRange least most n × (word ≡ decimal n)))
+within_decided : (least most : ℕ) (word : List ℕ) → Decided ((n : ℕ) × (IsOfRange least most n × (word ≡ decimal n)))
 within_decided least most word = elim (some_below (λ n. IsOfRange least most n × (word ≡ decimal n)) (λ n. both (IsOfRange least most n) (word ≡ decimal n) (in_range least most n) (same_word word (decimal n))) (suc most)) [
   | inl h ↦ inl (h.0, h.2)
   | inr none ↦ inr (λ h. let high = h.1.0.at_most in none (h.0, omega (arith, high), h.1))
@@ -83,8 +82,8 @@ budget_decided = number_decided 1 1000000 10000
 pub bound_decided : (value : Option (List ℕ)) → Decided ((n : ℕ) × SaysBound value n)
 bound_decided = number_decided 0 8 3
 
-pub size_decided : (word : List ℕ) → Decided ((n : ℕ) × (IsOfRange 2 100 n × (word ≡ decimal n)))
-size_decided = within_decided 2 100
+pub size_decided : (word : Option (List ℕ)) → Decided ((n : ℕ) × SaysSize word n)
+size_decided = number_decided 2 100 0
 
 -- ---- modes, sources and families
 
@@ -122,25 +121,8 @@ pub mode_decided : (value : Option (List ℕ)) → Decided ((m : Mode) × SaysMo
 mode_decided None = inl (modes.K1, refl)
 mode_decided (Some word) = word_of_mode word
 
--- a mode and a file of merges aren't said together
-pub one_source_alone : (word name : List ℕ) (s : Source) → SaysSource (Some word) (Some name) s → ⊥
-one_source_alone word name (of_mode m) h = let e = h.0 in absurd cc
-one_source_alone word name (of_file other) h = let e = h.0 in absurd cc
-
-pub source_decided : (mode merges : Option (List ℕ)) → Decided ((s : Source) × SaysSource mode merges s)
-source_decided mode None = elim (mode_decided mode) [
-  | inl h ↦ inl (of_mode h.0, (refl, h.1))
-  | inr none ↦ inr (λ h. by none h.0 h.1)
-]
-  where
-    by : (((m : Mode) × SaysMode mode m) → ⊥) → (s : Source) → SaysSource mode None s → ⊥
-    by none (of_mode m) h = none (m, h.1)
-    by none (of_file name) h = let e = h.1 in absurd cc
-source_decided None (Some name) = inl (of_file name, (refl, refl))
-source_decided (Some word) (Some name) = inr (λ h. one_source_alone word name h.0 h.1)
-
-pub family_decided : (word : List ℕ) → Decided ((f : Family) × (word ≡ family_word f))
-family_decided word = elim (same_word word (codes "line")) [
+word_of_family : (word : List ℕ) → Decided ((f : Family) × (word ≡ family_word f))
+word_of_family word = elim (same_word word (codes "line")) [
   | inl e ↦ inl (families.Line, e)
   | inr a ↦ elim (same_word word (codes "bombs")) [
     | inl e ↦ inl (families.Bombs, e)
@@ -152,30 +134,20 @@ family_decided word = elim (same_word word (codes "line")) [
     none a b families.Line e = a e
     none a b families.Bombs e = b e
 
--- ---- how many positional words there are
+pub family_decided : (word : Option (List ℕ)) → Decided ((f : Family) × SaysFamily word f)
+family_decided None = inl (families.Line, refl)
+family_decided (Some word) = word_of_family word
 
-pub one_or_not : (ws : List (List ℕ)) → ((a : List ℕ) × (ws ≡ a ∷ [])) ⊎ (length ws ≢ 1)
-one_or_not [] = inr (λ e. absurd (omega (arith, e)))
-one_or_not (a ∷ []) = inl (a, refl)
-one_or_not (a ∷ b ∷ ws) = inr (λ e. absurd (omega (arith, e)))
+-- ---- names
 
-pub two_or_not : (ws : List (List ℕ)) → ((a b : List ℕ) × (ws ≡ a ∷ b ∷ [])) ⊎ (length ws ≢ 2)
-two_or_not [] = inr (λ e. absurd (omega (arith, e)))
-two_or_not (a ∷ []) = inr (λ e. absurd (omega (arith, e)))
-two_or_not (a ∷ b ∷ []) = inl (a, b, refl)
-two_or_not (a ∷ b ∷ c ∷ ws) = inr (λ e. absurd (omega (arith, e)))
+-- two words, where there are both, differ
+pub apart_decided : (a b : Option (List ℕ)) → Decided (AreApart a b)
+apart_decided None b = inl tt
+apart_decided (Some x) None = inl tt
+apart_decided (Some x) (Some y) = elim (same_word x y) [ inl same ↦ inr (λ h. h same) | inr differ ↦ inl differ ]
 
-pub three_or_not : (ws : List (List ℕ)) → ((a b c : List ℕ) × (ws ≡ a ∷ b ∷ c ∷ [])) ⊎ (length ws ≢ 3)
-three_or_not [] = inr (λ e. absurd (omega (arith, e)))
-three_or_not (a ∷ []) = inr (λ e. absurd (omega (arith, e)))
-three_or_not (a ∷ b ∷ []) = inr (λ e. absurd (omega (arith, e)))
-three_or_not (a ∷ b ∷ c ∷ []) = inl (a, b, c, refl)
-three_or_not (a ∷ b ∷ c ∷ d ∷ ws) = inr (λ e. absurd (omega (arith, e)))
-
-pub four_or_not : (ws : List (List ℕ)) → ((a b c d : List ℕ) × (ws ≡ a ∷ b ∷ c ∷ d ∷ [])) ⊎ (length ws ≢ 4)
-four_or_not [] = inr (λ e. absurd (omega (arith, e)))
-four_or_not (a ∷ []) = inr (λ e. absurd (omega (arith, e)))
-four_or_not (a ∷ b ∷ []) = inr (λ e. absurd (omega (arith, e)))
-four_or_not (a ∷ b ∷ c ∷ []) = inr (λ e. absurd (omega (arith, e)))
-four_or_not (a ∷ b ∷ c ∷ d ∷ []) = inl (a, b, c, d, refl)
-four_or_not (a ∷ b ∷ c ∷ d ∷ f ∷ ws) = inr (λ e. absurd (omega (arith, e)))
+-- two words aren't both there
+pub not_both_decided : (a b : Option (List ℕ)) → Decided (AreNotBoth a b)
+not_both_decided None b = inl tt
+not_both_decided (Some x) None = inl tt
+not_both_decided (Some x) (Some y) = inr (λ h. h)

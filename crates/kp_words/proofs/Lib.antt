@@ -2,14 +2,15 @@ pub mod Public
 pub mod Words
 pub mod Numbers
 pub mod Named
+pub mod Lookups
+pub mod Kept
+pub mod Inputs
 pub mod Fitting
 pub mod Calls
 pub mod Verbs
 pub mod SaidOnce
-pub mod OneEach
 pub mod OneCommand
 pub mod Decisions
-pub mod EachDecided
 pub mod Decided
 pub mod Examples
 pub mod Refusals

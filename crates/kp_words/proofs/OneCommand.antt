@@ -1,42 +1,44 @@
 -- Words are one command at most.
-use Rattle.std.proofs.Common.{◌≡◌, ◌∙◌, List, ◌∷◌, ℕ, Option, ap, sym, subst}
-use Rattle.kp_words.specs.Laws.{WordsAreOneCommand}
-use Rattle.kp_words.specs.Verbs.{verb_word, verb_in, options_of, ReadAs, read_as, AreOf, SaysOf}
+use Rattle.std.proofs.Common.{◌≡◌, ◌∙◌, ◌<◌, ◌^◌, List, ◌∷◌, ℕ, Option, Some, None, decimal, sym, subst, arith}
+use Rattle.kp_words.specs.declared.source.Family.{Family}
 use Rattle.kp_words.specs.declared.verb.Verb.{Verb}
-use Rattle.kp_words.specs.declared.verb.Verb.TheVariants as verbs
-use Rattle.kp_words.proofs.Calls.{same_line}
-use Rattle.kp_words.proofs.OneEach.{one_translate, one_merges, one_strip, one_check, one_lift, one_solve, one_classical, one_width, one_bench}
-use Rattle.kp_words.proofs.Verbs.{command_of, is_read, one_verb, same_command}
+use Rattle.kp_words.specs.Asked.{Asked}
+use Rattle.kp_words.specs.Options.{SaysFamily}
+use Rattle.kp_words.specs.Command.{AreAsked, Behind}
+use Rattle.kp_words.specs.Laws.{WordsAreOneCommand}
+use Rattle.kp_words.proofs.Calls.{of_line}
+use Rattle.kp_words.proofs.SaidOnce.{one_number, one_mode, one_family}
+use Rattle.kp_words.proofs.Kept.{making}
+use Rattle.kp_words.proofs.Verbs.{behind_it}
 
--- positional words and values are those of one command of a verb at most
-one_are : (v : Verb) (places : List (List ℕ)) (values : List (Option (List ℕ))) (c d : ReadAs v) → AreOf v places values c → AreOf v places values d → c ≡ d
-one_are verbs.Translate places values c d a b = one_translate places values c d a b
-one_are verbs.Merges places values c d a b = one_merges places values c d a b
-one_are verbs.Strip places values c d a b = one_strip places values c d a b
-one_are verbs.Check places values c d a b = one_check places values c d a b
-one_are verbs.Lift places values c d a b = one_lift places values c d a b
-one_are verbs.Solve places values c d a b = one_solve places values c d a b
-one_are verbs.Classical places values c d a b = one_classical places values c d a b
-one_are verbs.Width places values c d a b = one_width places values c d a b
-one_are verbs.Bench places values c d a b = one_bench places values c d a b
+one_said_family : (word : Option (List ℕ)) (f g : Family) → SaysFamily word f → SaysFamily word g → f ≡ g
+one_said_family None f g a b = a ∙ sym b
+one_said_family (Some word) f g a b = one_family f g (sym a ∙ b)
 
--- words behind a verb say one thing at most
-one_of : (v : Verb) (words : List (List ℕ)) (c d : ReadAs v) → SaysOf v words c → SaysOf v words d → c ≡ d
-one_of v words c d a b =
-    one_are v a.places a.values c d a.are_so (same_line words (options_of v) (λ places values. AreOf v places values c) (λ places values. AreOf v places values d) a b)
-
--- also where two verbs are shown to be equal
-one_at : (v w : Verb) (words : List (List ℕ)) (c : ReadAs v) (d : ReadAs w) → v ≡ w → SaysOf v words c → SaysOf w words d → command_of v c ≡ command_of w d
-one_at v w words c d e a b =
-    subst (λ x. (f : ReadAs x) → SaysOf x words f → command_of v c ≡ command_of x f) e (λ f s. ap (command_of v) (one_of v words c f a s)) d b
+-- what is said of one command asks for one thing at most
+one_asked : (place value : List ℕ → Option (List ℕ)) (c d : Asked) → c.verb ≡ d.verb → AreAsked place value c → AreAsked place value d → c ≡ d
+unfolding making
+one_asked place value c d verb a b =
+    let e0 : c.domain ≡ d.domain = a.domain ∙ sym b.domain in
+    let e1 : c.problem ≡ d.problem = a.problem ∙ sym b.problem in
+    let e2 : c.plan ≡ d.plan = a.plan ∙ sym b.plan in
+    let e3 : c.written ≡ d.written = a.written ∙ sym b.written in
+    let e4 : c.domain_out ≡ d.domain_out = a.domain_out ∙ sym b.domain_out in
+    let e5 : c.problem_out ≡ d.problem_out = a.problem_out ∙ sym b.problem_out in
+    let e6 : c.mode ≡ d.mode = one_mode _ c.mode d.mode a.mode b.mode in
+    let e13 : c.merges ≡ d.merges = a.merges ∙ sym b.merges in
+    let e7 : c.implicates ≡ d.implicates = one_number 1 100000 20000 c.implicates d.implicates _ (omega arith) a.implicates b.implicates in
+    let e8 : c.budget ≡ d.budget = one_number 1 1000000 10000 c.budget d.budget _ (omega arith) a.budget b.budget in
+    let e9 : c.bound ≡ d.bound = one_number 0 8 3 c.bound d.bound _ (omega arith) a.bound b.bound in
+    let e10 : c.classical ≡ d.classical = a.classical ∙ sym b.classical in
+    let e11 : c.family ≡ d.family = one_said_family _ c.family d.family a.family b.family in
+    let e12 : c.size ≡ d.size = one_number 2 100 0 c.size d.size _ (omega arith) a.size b.size in
+    let same : making c.verb c.domain c.problem c.plan c.written c.domain_out c.problem_out c.mode c.merges c.implicates c.budget c.bound c.classical c.family c.size
+    ≡ making d.verb d.domain d.problem d.plan d.written d.domain_out d.problem_out d.mode d.merges d.implicates d.budget d.bound d.classical d.family d.size = cc in
+    same
 
 pub one_command : WordsAreOneCommand
 one_command words c d is so =
-    let first = (is_read words c is).1 in
-    let second = (is_read words d so).1 in
-    let e : verb_word (verb_in c) ∷ first.rest ≡ verb_word (verb_in d) ∷ second.rest = sym first.words_are ∙ second.words_are in
-    let verb : verb_word (verb_in c) ≡ verb_word (verb_in d) = cc in
-    let rest : first.rest ≡ second.rest = cc in
-    sym (same_command c)
-    ∙ (one_at (verb_in c) (verb_in d) second.rest (read_as c) (read_as d) (one_verb (verb_in c) (verb_in d) verb) (subst (λ ws. SaysOf (verb_in c) ws (read_as c)) rest first.says) second.says
-    ∙ same_command d)
+    let are = is.are_words in
+    let also = behind_it c.verb are.rest _ d are.are so.are_words in
+    one_asked _ _ c d (sym also.0) are.behind.are_of.are_asked (of_line c.verb are.rest are.behind.places are.behind.values d are.behind.line also.1).are_asked

@@ -1,13 +1,13 @@
 -- Words that are no command.
-use Rattle.std.proofs.Common.{◌≡◌, ◌≢◌, ◌∙◌, ◌<◌, ◌≤◌, ◌^◌, ℕ, zero, suc, List, [], ◌∷◌, Some, codes, decimal, refl, sym, subst, arith}
+use Rattle.std.proofs.Common.{◌≡◌, ◌≢◌, ◌∙◌, ◌<◌, ◌≤◌, ◌^◌, ℕ, zero, suc, List, [], ◌∷◌, Some, map, codes, decimal, refl, sym, ap, subst, arith}
 use Rattle.std.specs.Fmt.{digits}
 use Rattle.std.proofs.lemmas.Fmt.{decimal_injective}
 use Rattle.kp_words_options.specs.Words.{word as said_word, option as said_option}
 use Rattle.kp_words_options.proofs.Public.{line_has_what_is_said, option_said_twice_is_no_line, words_that_say_nothing_are_no_line}
 use Rattle.kp_words.specs.declared.verb.Verb.TheVariants as verbs
-use Rattle.kp_words.specs.Options.{SaysSource, SaysBound, SaysBudget}
+use Rattle.kp_words.specs.Forms.{form, value_at}
+use Rattle.kp_words.specs.Options.{SaysBound, SaysBudget, SaysSize, AreApart, AreNotBoth}
 use Rattle.kp_words.specs.Command.{IsNoCommand}
-use Rattle.kp_words.proofs.Decisions.{one_source_alone}
 use Rattle.kp_words.proofs.Verbs.{no_command}
 use Rattle.kp_words.proofs.Examples.{word}
 
@@ -73,20 +73,14 @@ over_is = refl
 zero_in_front : IsNoCommand (word (codes "width") (omega arith) ∷ word (codes "d") (omega arith) ∷ word (codes "p") (omega arith) ∷ word (codes "--bound") (omega arith) ∷ word (codes "03") (omega arith) ∷ [])
 zero_in_front = no_command verbs.Width _ (codes "d" ∷ codes "p" ∷ codes "--bound" ∷ codes "03" ∷ []) refl (λ d says.
     let line = line_has_what_is_said (codes "d" ∷ codes "p" ∷ codes "--bound" ∷ codes "03" ∷ []) (codes "bound" ∷ codes "implicates" ∷ []) says.places says.values (said_word (codes "d") ∷ said_word (codes "p") ∷ said_option (codes "bound") (codes "03") ∷ []) refl says.line in
-    let places = line.0 ∙ says.are_so.places_are in
-    let values = line.1 ∙ says.are_so.values_are in
-    let bound : says.are_so.bound ≡ Some (codes "03") = cc in
-    let said = subst (λ v. SaysBound v d.bound) bound says.are_so.says_bound in
+    let said = subst (λ vs. SaysBound (value_at (form verbs.Width).options vs (codes "bound")) d.bound) (sym line.1) says.are_of.are_asked.bound in
     one_digit d.bound said.0.at_most said.1)
 
 -- a budget of 0
 budget_of_none : IsNoCommand (word (codes "solve") (omega arith) ∷ word (codes "d") (omega arith) ∷ word (codes "p") (omega arith) ∷ word (codes "--budget") (omega arith) ∷ word (codes "0") (omega arith) ∷ [])
 budget_of_none = no_command verbs.Solve _ (codes "d" ∷ codes "p" ∷ codes "--budget" ∷ codes "0" ∷ []) refl (λ d says.
     let line = line_has_what_is_said (codes "d" ∷ codes "p" ∷ codes "--budget" ∷ codes "0" ∷ []) (codes "mode" ∷ codes "merges" ∷ codes "implicates" ∷ codes "budget" ∷ codes "classical" ∷ []) says.places says.values (said_word (codes "d") ∷ said_word (codes "p") ∷ said_option (codes "budget") (codes "0") ∷ []) refl says.line in
-    let places = line.0 ∙ says.are_so.places_are in
-    let values = line.1 ∙ says.are_so.values_are in
-    let budget : says.are_so.budget ≡ Some (codes "0") = cc in
-    let said = subst (λ v. SaysBudget v d.budget) budget says.are_so.says_budget in
+    let said = subst (λ vs. SaysBudget (value_at (form verbs.Solve).options vs (codes "budget")) d.budget) (sym line.1) says.are_of.are_asked.budget in
     let low = said.0.at_least in
     let high = said.0.at_most in
     let same = says_other 0 d.budget (codes "0") (omega arith) (omega (arith, high)) zero_is said.1 in
@@ -96,28 +90,20 @@ budget_of_none = no_command verbs.Solve _ (codes "d" ∷ codes "p" ∷ codes "--
 too_large : IsNoCommand (word (codes "bench") (omega arith) ∷ word (codes "line") (omega arith) ∷ word (codes "101") (omega arith) ∷ [])
 too_large = no_command verbs.Bench _ (codes "line" ∷ codes "101" ∷ []) refl (λ d says.
     let line = line_has_what_is_said (codes "line" ∷ codes "101" ∷ []) (codes "mode" ∷ codes "budget" ∷ []) says.places says.values (said_word (codes "line") ∷ said_word (codes "101") ∷ []) refl says.line in
-    let places = line.0 ∙ says.are_so.places_are in
-    let values = line.1 ∙ says.are_so.values_are in
-    let size : codes "101" ≡ decimal d.n = cc in
-    let high = says.are_so.size.at_most in
-    let same = says_other 101 d.n (codes "101") (omega arith) (omega (arith, high)) over_is size in
+    let said = subst (λ ps. SaysSize (value_at (form verbs.Bench).places (map Some ps) (codes "N")) d.size) (sym line.0) says.are_of.are_asked.size in
+    let high = said.0.at_most in
+    let same = says_other 101 d.size (codes "101") (omega arith) (omega (arith, high)) over_is said.1 in
     absurd (omega (arith, high, same)))
 
 -- a mode and a file of merges
 mode_and_merges : IsNoCommand (word (codes "lift") (omega arith) ∷ word (codes "d") (omega arith) ∷ word (codes "p") (omega arith) ∷ word (codes "t") (omega arith) ∷ word (codes "--mode") (omega arith) ∷ word (codes "k1") (omega arith) ∷ word (codes "--merges") (omega arith) ∷ word (codes "m") (omega arith) ∷ [])
 mode_and_merges = no_command verbs.Lift _ (codes "d" ∷ codes "p" ∷ codes "t" ∷ codes "--mode" ∷ codes "k1" ∷ codes "--merges" ∷ codes "m" ∷ []) refl (λ d says.
     let line = line_has_what_is_said (codes "d" ∷ codes "p" ∷ codes "t" ∷ codes "--mode" ∷ codes "k1" ∷ codes "--merges" ∷ codes "m" ∷ []) (codes "mode" ∷ codes "merges" ∷ codes "implicates" ∷ []) says.places says.values (said_word (codes "d") ∷ said_word (codes "p") ∷ said_word (codes "t") ∷ said_option (codes "mode") (codes "k1") ∷ said_option (codes "merges") (codes "m") ∷ []) refl says.line in
-    let places = line.0 ∙ says.are_so.places_are in
-    let values = line.1 ∙ says.are_so.values_are in
-    let mode : says.are_so.mode ≡ Some (codes "k1") = cc in
-    let merges : says.are_so.merges ≡ Some (codes "m") = cc in
-    one_source_alone (codes "k1") (codes "m") d.source
-    (subst (λ v. SaysSource v (Some (codes "m")) d.source) mode (subst (λ v. SaysSource says.are_so.mode v d.source) merges says.are_so.source)))
+    subst (λ vs. AreNotBoth (value_at (form verbs.Lift).options vs (codes "mode")) (value_at (form verbs.Lift).options vs (codes "merges"))) (sym line.1) says.are_of.are_asked.one_source)
 
 -- equal names of the written files
 equal_outputs : IsNoCommand (word (codes "translate") (omega arith) ∷ word (codes "d") (omega arith) ∷ word (codes "p") (omega arith) ∷ word (codes "o") (omega arith) ∷ word (codes "o") (omega arith) ∷ [])
 equal_outputs = no_command verbs.Translate _ (codes "d" ∷ codes "p" ∷ codes "o" ∷ codes "o" ∷ []) refl (λ d says.
     let line = line_has_what_is_said (codes "d" ∷ codes "p" ∷ codes "o" ∷ codes "o" ∷ []) (codes "mode" ∷ codes "merges" ∷ codes "implicates" ∷ []) says.places says.values (said_word (codes "d") ∷ said_word (codes "p") ∷ said_word (codes "o") ∷ said_word (codes "o") ∷ []) refl says.line in
-    let places = line.0 ∙ says.are_so.places_are in
-    let values = line.1 ∙ says.are_so.values_are in
-    says.are_so.outputs_differ (let same : d.domain_out ≡ d.problem_out = cc in same))
+    subst (λ ps. AreApart (value_at (form verbs.Translate).places (map Some ps) (codes "OD")) (value_at (form verbs.Translate).places (map Some ps) (codes "OP"))) (sym line.0)
+    says.are_of.are_asked.outputs_differ refl)

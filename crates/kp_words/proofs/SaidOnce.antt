@@ -5,8 +5,7 @@ use Rattle.kp_base.specs.declared.limits.Mode.{Mode}
 use Rattle.kp_base.specs.declared.limits.Mode.TheVariants as modes
 use Rattle.kp_words.specs.declared.source.Family.{Family}
 use Rattle.kp_words.specs.declared.source.Family.TheVariants as families
-use Rattle.kp_words.specs.Names.{Source, of_mode, of_file}
-use Rattle.kp_words.specs.Options.{IsOfRange, SaysNumber, SaysMode, SaysSource, mode_word, family_word}
+use Rattle.kp_words.specs.Options.{IsOfRange, SaysNumber, SaysMode, mode_word, family_word}
 
 -- numbers of a range that have the same decimal are equal
 pub one_within : (least most n m : ℕ) (word : List ℕ) → most < 2 ^ 32 → IsOfRange least most n → word ≡ decimal n → IsOfRange least most m → word ≡ decimal m → n ≡ m
@@ -40,12 +39,6 @@ mode_again modes.Auto = refl
 pub one_mode : (value : Option (List ℕ)) (m k : Mode) → SaysMode value m → SaysMode value k → m ≡ k
 one_mode None m k a b = a ∙ sym b
 one_mode (Some word) m k a b = let same : Some m ≡ Some k = sym (mode_again m) ∙ (ap found_mode (sym a ∙ b) ∙ mode_again k) in cc
-
-pub one_source : (mode merges : Option (List ℕ)) (s t : Source) → SaysSource mode merges s → SaysSource mode merges t → s ≡ t
-one_source mode merges (of_mode m) (of_mode k) a b = ap of_mode (one_mode mode m k a.1 b.1)
-one_source mode merges (of_mode m) (of_file g) a b = let e = a.0 in let f = b.1 in absurd (cc (e, f))
-one_source mode merges (of_file f) (of_mode k) a b = let e = a.1 in let g = b.0 in absurd (cc (e, g))
-one_source mode merges (of_file f) (of_file g) a b = let e = a.1 in let h = b.1 in ap of_file (let same : f ≡ g = cc (e, h) in same)
 
 -- the family of a word
 abbrev found_family : List ℕ → Option Family

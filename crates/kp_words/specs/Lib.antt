@@ -1,6 +1,7 @@
-pub mod Names
+pub mod Asked
+pub mod Forms
+pub mod Usage
 pub mod Options
 pub mod Command
 pub mod Owned
-pub mod Verbs
 pub mod Laws

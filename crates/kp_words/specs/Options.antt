@@ -1,10 +1,9 @@
 -- What the values of options say.
-use Rattle.std.specs.Prelude.{◌≡◌, ◌≤◌, List, ℕ, Option, Some, None, codes, decimal}
+use Rattle.std.specs.Prelude.{◌≡◌, ◌≢◌, ◌≤◌, List, ℕ, Option, Some, None, codes, decimal}
 use Rattle.kp_base.specs.declared.limits.Mode.{Mode}
 use Rattle.kp_base.specs.declared.limits.Mode.TheVariants as modes
 use Rattle.kp_words.specs.declared.source.Family.{Family}
 use Rattle.kp_words.specs.declared.source.Family.TheVariants as families
-use Rattle.kp_words.specs.Names.{Source, of_mode, of_file}
 
 -- a number of a range
 pub record IsOfRange (least most n : ℕ) : Type 0 where
@@ -42,12 +41,28 @@ abbrev pub SaysMode : Option (List ℕ) → Mode → Type 0
 SaysMode None mode = mode ≡ modes.K1
 SaysMode (Some word) mode = word ≡ mode_word mode
 
--- two options say where tags and merges come from: from a mode, where no file of merges is named; or from the named file of merges, where no mode is said
-abbrev pub SaysSource : Option (List ℕ) → Option (List ℕ) → Source → Type 0
-SaysSource mode merges (of_mode m) = (merges ≡ None) × SaysMode mode m
-SaysSource mode merges (of_file name) = (mode ≡ None) × (merges ≡ Some name)
-
 -- the word of each family
 abbrev pub family_word : Family → List ℕ
 family_word families.Line = codes "line"
 family_word families.Bombs = codes "bombs"
+
+-- a word says a family; where there is none, it is `line`
+abbrev pub SaysFamily : Option (List ℕ) → Family → Type 0
+SaysFamily None family = family ≡ families.Line
+SaysFamily (Some word) family = word ≡ family_word family
+
+-- a word says the size of a generated problem: from 2 to 100; where there is none, it is 0
+abbrev pub SaysSize : Option (List ℕ) → ℕ → Type 0
+SaysSize = SaysNumber 2 100 0
+
+-- two words aren't both there
+abbrev pub AreNotBoth : Option (List ℕ) → Option (List ℕ) → Type 0
+AreNotBoth None b = Unit {0}
+AreNotBoth (Some one) None = Unit {0}
+AreNotBoth (Some one) (Some other) = ⊥
+
+-- two words, where there are both, differ
+abbrev pub AreApart : Option (List ℕ) → Option (List ℕ) → Type 0
+AreApart None b = Unit {0}
+AreApart (Some one) None = Unit {0}
+AreApart (Some one) (Some other) = one ≢ other

@@ -1,20 +1,20 @@
 ghost use Rattle.std.specs.Prelude.{◌≡◌, Err, IfOk, IfErr, MatchOption, map};
 ghost use Rattle.kp_words_options.specs.Texts.{texts};
 ghost use Rattle.kp_words_options.specs.declared.stop.WordStop.TheVariants.{Usage};
-ghost use Rattle.kp_words.specs.Command.{AreUtf8, IsCommand, IsNoCommand};
+ghost use Rattle.kp_words.specs.Asked.{Asked as Names};
+ghost use Rattle.kp_words.specs.Command.{AreUtf8, AreWords, IsCommand, IsNoCommand};
 ghost use Rattle.kp_words.specs.Owned.{command_view};
-ghost use Rattle.kp_words.specs.Verbs.{IsRead, IsNotRead};
 
+use crate::asked::Asked;
 use crate::commands::Command;
-use crate::lent::CommandRef;
 use crate::verb::verb_of;
 use kp_base::Memory;
 use kp_words_options::WordStop;
 use std::alloc::Global;
 use std::str;
 
-// The words as texts, where each is UTF-8.
-fn as_texts<'a>(alloc: Global, words: &'a [Vec<u8>]) -> Result<Option<Vec<&'a str>>, Memory>
+/// The words as texts, where each is UTF-8.
+pub fn as_texts<'a>(alloc: Global, words: &'a [Vec<u8>]) -> Result<Option<Vec<&'a str>>, Memory>
     ensures { IfOk result (λ r. MatchOption r (AreUtf8 (map (λ w. w.items) words.entry.now) → ⊥)
         (λ ts. (texts ts.items ≡ map (λ w. w.items) words.entry.now) × AreUtf8 (map (λ w. w.items) words.entry.now))) }
 {
@@ -28,10 +28,10 @@ fn as_texts<'a>(alloc: Global, words: &'a [Vec<u8>]) -> Result<Option<Vec<&'a st
     Ok(Some(found))
 }
 
-// The command that texts are.
-fn read<'a>(alloc: Global, words: &'a [&'a str]) -> Result<CommandRef<'a>, WordStop>
-    ensures ok { IfOk result (λ c. IsRead (texts words.entry.now) c) }
-    ensures err { IfErr result (λ e. e ≡ Usage → IsNotRead (texts words.entry.now)) }
+/// What texts ask for.
+pub fn asked_by<'a>(alloc: Global, words: &'a [&'a str]) -> Result<Asked<'a>, WordStop>
+    ensures ok { IfOk result (λ c. AreWords (texts words.entry.now) c) }
+    ensures err { IfErr result (λ e. e ≡ Usage → (c : Names) → AreWords (texts words.entry.now) c → ⊥) }
 {
     let Some((word, rest)) = words.split_first() else {
         return Err(WordStop::Usage);
@@ -39,7 +39,7 @@ fn read<'a>(alloc: Global, words: &'a [&'a str]) -> Result<CommandRef<'a>, WordS
     let Some(verb) = verb_of(*word) else {
         return Err(WordStop::Usage);
     };
-    CommandRef::from_rest(alloc, verb, rest)
+    Asked::from_rest(alloc, verb, rest)
 }
 
 /// The command that words are.
@@ -50,6 +50,6 @@ pub fn command(alloc: Global, words: &[Vec<u8>]) -> Result<Command, WordStop>
     let Some(found) = as_texts(alloc, words)? else {
         return Err(WordStop::Usage);
     };
-    let command = read(alloc, found.as_slice())?;
-    Ok(command.to_owned(alloc)?)
+    let asked = asked_by(alloc, found.as_slice())?;
+    Ok(asked.to_owned(alloc)?)
 }

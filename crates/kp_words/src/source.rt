@@ -1,11 +1,9 @@
-ghost use Rattle.std.specs.Prelude.{◌≡◌, ◌≢◌, option_map, MatchOption, IfOk};
+ghost use Rattle.std.specs.Prelude.{◌≡◌, ◌≢◌, option_map, MatchOption};
 ghost use Rattle.kp_base.specs.declared.limits.Mode.{Mode as Modes};
-ghost use Rattle.kp_words.specs.Names.{Source as Origin, source_of, source_view};
-ghost use Rattle.kp_words.specs.Options.{mode_word, family_word, SaysMode, SaysSource};
+ghost use Rattle.kp_words.specs.Options.{mode_word, family_word, SaysMode, SaysFamily};
 ghost use Rattle.kp_words.specs.declared.source.Family.{Family as Families};
 
-use kp_base::{Memory, Mode, Text};
-use std::alloc::Global;
+use kp_base::{Mode, Text};
 
 /// Where the tags and merges of a translation come from.
 #[derive(Drop)]
@@ -34,30 +32,6 @@ pub enum Family {
     Bombs,
 }
 
-impl<'a> SourceRef<'a> {
-    /// The source, with a name of its own.
-    pub(crate) fn to_owned(self, alloc: Global) -> Result<Source, Memory>
-        ensures { IfOk result (λ s. source_of s ≡ source_view self.entry) }
-    {
-        match self {
-            SourceRef::Mode(mode) => Ok(Source::Mode(mode)),
-            SourceRef::File(name) => Ok(Source::File(Text::from_slice(alloc, name)?)),
-        }
-    }
-}
-
-impl Source {
-    /// The source, with its name lent.
-    pub fn lend(&self) -> SourceRef<'_>
-        ensures { source_view result ≡ source_of self.now }
-    {
-        match self {
-            Source::Mode(mode) => SourceRef::Mode(*mode),
-            Source::File(name) => SourceRef::File(name.slice()),
-        }
-    }
-}
-
 // The mode of this word.
 fn mode_of(word: &str) -> Option<Mode>
     ensures { MatchOption result ((m : Modes) → word.now ≢ mode_word m) (λ m. word.now ≡ mode_word m) }
@@ -84,7 +58,7 @@ fn mode_of(word: &str) -> Option<Mode>
 }
 
 /// The mode that the value of an option says.
-pub fn said_mode(value: Option<&str>) -> Option<Mode>
+pub(crate) fn said_mode(value: Option<&str>) -> Option<Mode>
     ensures { MatchOption result ((m : Modes) → SaysMode (option_map (λ s. s.now) value.entry) m → ⊥) (λ m. SaysMode (option_map (λ s. s.now) value.entry) m) }
 {
     match value {
@@ -93,23 +67,8 @@ pub fn said_mode(value: Option<&str>) -> Option<Mode>
     }
 }
 
-/// Where the values of two options say that tags and merges come from.
-pub fn said_source<'a>(mode: Option<&'a str>, merges: Option<&'a str>) -> Option<SourceRef<'a>>
-    ensures { MatchOption result ((s : Origin) → SaysSource (option_map (λ w. w.now) mode.entry) (option_map (λ w. w.now) merges.entry) s → ⊥) (λ s. SaysSource (option_map (λ w. w.now) mode.entry) (option_map (λ w. w.now) merges.entry) (source_view s)) }
-{
-    match merges {
-        Some(name) => {
-            if mode.is_some() {
-                return None;
-            }
-            Some(SourceRef::File(name.as_bytes()))
-        }
-        None => Some(SourceRef::Mode(said_mode(mode)?)),
-    }
-}
-
-/// The family of this word.
-pub fn family_of(word: &str) -> Option<Family>
+// The family of this word.
+fn family_of(word: &str) -> Option<Family>
     ensures { MatchOption result ((f : Families) → word.now ≢ family_word f) (λ f. word.now ≡ family_word f) }
 {
     if word == "line" {
@@ -119,4 +78,14 @@ pub fn family_of(word: &str) -> Option<Family>
         return Some(Family::Bombs);
     }
     None
+}
+
+/// The family that a word says.
+pub(crate) fn said_family(word: Option<&str>) -> Option<Family>
+    ensures { MatchOption result ((f : Families) → SaysFamily (option_map (λ s. s.now) word.entry) f → ⊥) (λ f. SaysFamily (option_map (λ s. s.now) word.entry) f) }
+{
+    match word {
+        Some(word) => family_of(word),
+        None => Some(Family::Line),
+    }
 }

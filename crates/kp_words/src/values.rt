@@ -1,17 +1,40 @@
-ghost use Rattle.std.specs.Prelude.{◌≡◌, ◌≢◌, ◌<◌, ◌^◌, ◌↔◌, ℕ, decimal, option_map, IsTrue, MatchOption};
-ghost use Rattle.kp_words.specs.Options.{IsOfRange, SaysNumber, SaysLimit, SaysBudget, SaysBound};
+ghost use Rattle.std.specs.Prelude.{◌≡◌, ◌≢◌, ◌<◌, ◌^◌, ◌↔◌, ℕ, Some, decimal, option_map, IsTrue, MatchOption};
+ghost use Rattle.kp_words.specs.Options.{IsOfRange, SaysNumber, SaysLimit, SaysBudget, SaysBound, SaysSize, AreApart, AreNotBoth};
 
 use itoa::Buffer;
 
-/// Whether two words differ.
-pub fn are_apart(left: &str, right: &str) -> bool
-    ensures { IsTrue result ↔ (left.now ≢ right.now) }
+// Whether a word differs from another, if there is one.
+fn is_other(word: &str, other: Option<&str>) -> bool
+    ensures { IsTrue result ↔ AreApart (Some word.now) (option_map (λ w. w.now) other.entry) }
 {
-    left != right
+    match other {
+        Some(other) => word != other,
+        None => true,
+    }
+}
+
+/// Whether two words, where there are both, differ.
+pub(crate) fn are_apart(left: Option<&str>, right: Option<&str>) -> bool
+    ensures { IsTrue result ↔ AreApart (option_map (λ w. w.now) left.entry) (option_map (λ w. w.now) right.entry) }
+{
+    match left {
+        Some(left) => is_other(left, right),
+        None => true,
+    }
+}
+
+/// Whether two words aren't both there.
+pub(crate) fn are_not_both(left: Option<&str>, right: Option<&str>) -> bool
+    ensures { IsTrue result ↔ AreNotBoth (option_map (λ w. w.now) left.entry) (option_map (λ w. w.now) right.entry) }
+{
+    match left {
+        Some(_) => right.is_none(),
+        None => true,
+    }
 }
 
 /// The bytes of a word, if there is one.
-pub fn bytes_of(word: Option<&str>) -> Option<&[u8]>
+pub(crate) fn bytes_of(word: Option<&str>) -> Option<&[u8]>
     ensures { option_map (λ w. w.now) result ≡ option_map (λ w. w.now) word.entry }
 {
     match word {
@@ -49,8 +72,8 @@ fn is_within(least: u32, most: u32, number: u32) -> bool
     least <= number && number <= most
 }
 
-/// The number of this range that a word says.
-pub fn number_within(word: &str, least: u32, most: u32) -> Option<u32>
+// The number of this range that a word says.
+fn number_within(word: &str, least: u32, most: u32) -> Option<u32>
     ensures { MatchOption result ((n : ℕ) → IsOfRange least most n → word.now ≢ decimal n) (λ n. IsOfRange least most n × (word.now ≡ decimal n)) }
 {
     let number = number_of(word)?;
@@ -71,22 +94,29 @@ fn said_number(value: Option<&str>, least: u32, most: u32, usual: u32) -> Option
 }
 
 /// The limit of prime implicates that the value of an option says.
-pub fn said_limit(value: Option<&str>) -> Option<u32>
+pub(crate) fn said_limit(value: Option<&str>) -> Option<u32>
     ensures { MatchOption result ((n : ℕ) → SaysLimit (option_map (λ s. s.now) value.entry) n → ⊥) (λ n. SaysLimit (option_map (λ s. s.now) value.entry) n) }
 {
     said_number(value, 1, 100_000, 20_000)
 }
 
 /// The budget of a search that the value of an option says.
-pub fn said_budget(value: Option<&str>) -> Option<u32>
+pub(crate) fn said_budget(value: Option<&str>) -> Option<u32>
     ensures { MatchOption result ((n : ℕ) → SaysBudget (option_map (λ s. s.now) value.entry) n → ⊥) (λ n. SaysBudget (option_map (λ s. s.now) value.entry) n) }
 {
     said_number(value, 1, 1_000_000, 10_000)
 }
 
 /// The greatest size of a set of clauses that the value of an option says.
-pub fn said_bound(value: Option<&str>) -> Option<u32>
+pub(crate) fn said_bound(value: Option<&str>) -> Option<u32>
     ensures { MatchOption result ((n : ℕ) → SaysBound (option_map (λ s. s.now) value.entry) n → ⊥) (λ n. SaysBound (option_map (λ s. s.now) value.entry) n) }
 {
     said_number(value, 0, 8, 3)
+}
+
+/// The size of a generated problem that a word says.
+pub(crate) fn said_size(word: Option<&str>) -> Option<u32>
+    ensures { MatchOption result ((n : ℕ) → SaysSize (option_map (λ s. s.now) word.entry) n → ⊥) (λ n. SaysSize (option_map (λ s. s.now) word.entry) n) }
+{
+    said_number(word, 2, 100, 0)
 }

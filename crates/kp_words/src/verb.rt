@@ -1,110 +1,145 @@
 ghost use Rattle.std.specs.Prelude.{◌≡◌, ℕ, List, Option as Maybe, length, bytes_eq, IfOk, IfErr};
-ghost use Rattle.kp_words_options.specs.Words.{Line};
+ghost use Rattle.kp_words_options.specs.Words.{Line, has_text};
 ghost use Rattle.kp_words_options.specs.Texts.{texts, places_of, values_of};
 ghost use Rattle.kp_words_options.specs.declared.stop.WordStop.TheVariants.{Usage};
-ghost use Rattle.kp_words.specs.Verbs.{verb_word, verb_named, places_named, options_of};
+ghost use Rattle.kp_words.specs.Forms.{form, verb_named};
 
-use kp_words_options::{Given, WordStop, line_of};
+use kp_words_options::{Given, WordStop, is_among, line_of};
 use std::alloc::Global;
 
-/// The first word of a command.
+/// A command.
 #[derive(Clone, Copy)]
-pub(crate) enum Verb {
+pub enum Verb {
+    /// Writes the classical problem of a conformant one.
     Translate,
-    Merges,
-    Strip,
-    Check,
-    Lift,
+    /// Prints a plan of a conformant problem.
     Solve,
+    /// Prints a plan of a classical problem.
     Classical,
+    /// Prints what a plan of the written files comes to in the given ones.
+    Strip,
+    /// Prints a plan of the written files that comes to a given plan, or where none can.
+    Lift,
+    /// Prints whether a plan works from every initial state, or the first from which it fails.
+    Check,
+    /// Prints the width of a conformant problem.
     Width,
+    /// Prints the merges of a conformant problem.
+    Merges,
+    /// Prints a summary of what is found on a generated problem.
     Bench,
 }
 
 const VERBS: [Verb; 9] = [
     Verb::Translate,
-    Verb::Merges,
-    Verb::Strip,
-    Verb::Check,
-    Verb::Lift,
     Verb::Solve,
     Verb::Classical,
+    Verb::Strip,
+    Verb::Lift,
+    Verb::Check,
     Verb::Width,
+    Verb::Merges,
     Verb::Bench,
 ];
 
+/// The word of a command, the names of its positional words, and its options, both in order.
+#[derive(Clone, Copy)]
+pub(crate) struct Form<'a> {
+    pub(crate) word: &'a str,
+    pub(crate) places: &'a [&'a str],
+    pub(crate) options: &'a [&'a str],
+}
+
 impl Verb {
-    // Its word.
-    fn word<'a>(self) -> &'a str
-        ensures { result.now ≡ verb_word self }
+    /// Its words.
+    pub(crate) fn form<'a>(self) -> Form<'a>
+        ensures word { result.word.now ≡ (form self).word }
+        ensures places { texts result.places.now ≡ (form self).places }
+        ensures options { texts result.options.now ≡ (form self).options }
     {
         match self {
-            Verb::Translate => "translate",
-            Verb::Merges => "merges",
-            Verb::Strip => "strip",
-            Verb::Check => "check",
-            Verb::Lift => "lift",
-            Verb::Solve => "solve",
-            Verb::Classical => "classical",
-            Verb::Width => "width",
-            Verb::Bench => "bench",
+            Verb::Translate => Form {
+                word: "translate",
+                places: &["D", "P", "OD", "OP"],
+                options: &["mode", "merges", "implicates"],
+            },
+            Verb::Solve => Form {
+                word: "solve",
+                places: &["D", "P"],
+                options: &["mode", "merges", "implicates", "budget", "classical"],
+            },
+            Verb::Classical => Form {
+                word: "classical",
+                places: &["D", "P"],
+                options: &["budget"],
+            },
+            Verb::Strip => Form {
+                word: "strip",
+                places: &["T"],
+                options: &[],
+            },
+            Verb::Lift => Form {
+                word: "lift",
+                places: &["D", "P", "PLAN"],
+                options: &["mode", "merges", "implicates"],
+            },
+            Verb::Check => Form {
+                word: "check",
+                places: &["D", "P", "PLAN"],
+                options: &["implicates"],
+            },
+            Verb::Width => Form {
+                word: "width",
+                places: &["D", "P"],
+                options: &["bound", "implicates"],
+            },
+            Verb::Merges => Form {
+                word: "merges",
+                places: &["D", "P"],
+                options: &["mode", "implicates"],
+            },
+            Verb::Bench => Form {
+                word: "bench",
+                places: &["FAMILY", "N"],
+                options: &["mode", "budget"],
+            },
         }
+    }
+
+    /// Whether it has a positional word of this name.
+    pub fn has_place(self, name: &str) -> bool
+        ensures { result ≡ has_text (form self).places name.now }
+    {
+        is_among(self.form().places, name)
+    }
+
+    /// Whether it has an option of this name.
+    pub fn has_option(self, name: &str) -> bool
+        ensures { result ≡ has_text (form self).options name.now }
+    {
+        is_among(self.form().options, name)
     }
 
     // Whether it has this word.
     fn is_named(self, word: &str) -> bool
-        ensures { result ≡ bytes_eq word.now (verb_word self) }
+        ensures { result ≡ bytes_eq word.now (form self).word }
     {
-        word == self.word()
-    }
-
-    // The names of the positional words behind it.
-    fn places<'a>(self) -> &'a [&'a str]
-        ensures { texts result.now ≡ places_named self }
-    {
-        match self {
-            Verb::Translate => &["D", "P", "OD", "OP"],
-            Verb::Merges => &["D", "P"],
-            Verb::Strip => &["T"],
-            Verb::Check => &["D", "P", "PLAN"],
-            Verb::Lift => &["D", "P", "PLAN"],
-            Verb::Solve => &["D", "P"],
-            Verb::Classical => &["D", "P"],
-            Verb::Width => &["D", "P"],
-            Verb::Bench => &["FAMILY", "N"],
-        }
-    }
-
-    // Its options.
-    fn options<'a>(self) -> &'a [&'a str]
-        ensures { texts result.now ≡ options_of self }
-    {
-        match self {
-            Verb::Translate => &["mode", "merges", "implicates"],
-            Verb::Merges => &["mode", "implicates"],
-            Verb::Strip => &[],
-            Verb::Check => &["implicates"],
-            Verb::Lift => &["mode", "merges", "implicates"],
-            Verb::Solve => &["mode", "merges", "implicates", "budget", "classical"],
-            Verb::Classical => &["budget"],
-            Verb::Width => &["bound", "implicates"],
-            Verb::Bench => &["mode", "budget"],
-        }
+        word == self.form().word
     }
 
     /// What the words behind it say.
     #[tactic(auto, using(crate::proofs::Fitting::fits))]
     pub(crate) fn line<'a>(self, alloc: Global, words: &'a [&'a str]) -> Result<Given<'a>, WordStop>
-        ensures ok { IfOk result (λ g. Line (texts words.entry.now) (places_of g) (options_of self) (values_of g)) }
-        ensures places { IfOk result (λ g. length g.places.items ≡ length (places_named self)) }
-        ensures values { IfOk result (λ g. length g.values.items ≡ length (options_of self)) }
-        ensures err { IfErr result (λ e. e ≡ Usage → (places : List (List ℕ)) (values : List (Maybe (List ℕ))) → length places ≡ length (places_named self) → Line (texts words.entry.now) places (options_of self) values → ⊥) }
+        ensures ok { IfOk result (λ g. Line (texts words.entry.now) (places_of g) (form self).options (values_of g)) }
+        ensures places { IfOk result (λ g. length g.places.items ≡ length (form self).places) }
+        ensures err { IfErr result (λ e. e ≡ Usage → (places : List (List ℕ)) (values : List (Maybe (List ℕ))) → length places ≡ length (form self).places → Line (texts words.entry.now) places (form self).options values → ⊥) }
     {
-        line_of(alloc, self.word(), self.places(), self.options(), words)
+        let form = self.form();
+        line_of(alloc, form.word, form.places, form.options, words)
     }
 }
 
-/// The verb of this word.
+/// The command of this word.
 pub(crate) fn verb_of(word: &str) -> Option<Verb>
     ensures { result ≡ verb_named word.now }
 {

@@ -1,5 +1,5 @@
 -- What `line_of` ensures, from what its calls ensure.
-use Rattle.std.proofs.Common.{◌≡◌, ◌≢◌, ◌∙◌, ℕ, true, false, List, [], ◌∷◌, Option, Some, None, refl, ap, sym, subst, map, length, is_some, true≢false, Result, Ok, Err, IfOk, IfErr, IsErrAnd, arith}
+use Rattle.std.proofs.Common.{◌≡◌, ◌≢◌, ◌∙◌, ℕ, true, List, [], ◌∷◌, Option, Some, None, refl, ap, sym, map, length, is_some, arith}
 use Rattle.std.proofs.lemmas.Grind.{common_steps}
 use Rattle.std.specs.Borrow.{Bor}
 use Rattle.std.specs.List.{list_all}
@@ -12,8 +12,6 @@ use Rattle.kp_words_options.specs.Words.{Said, Line, positionals}
 use Rattle.kp_words_options.specs.Texts.{texts}
 use Rattle.kp_words_options.specs.Scan.{at_first, scan}
 use Rattle.kp_words_options.specs.Clap.{Fits, Gives, Suits, app_of_form}
-use Rattle.kp_words_options.specs.declared.stop.WordStop.{WordStop}
-use Rattle.kp_words_options.specs.declared.stop.WordStop.TheVariants.{Usage, Memory}
 use Rattle.kp_words_options.proofs.Found.{is_taken}
 use Rattle.kp_words_options.proofs.Giving.{gives, places_given, scan_of, suits_of}
 
@@ -41,18 +39,18 @@ module _ (name : List ℕ) (ids options words : Refs) (fits : Fits name (texts i
   pub other_count : (n : ℕ) → scan (texts options) at_first (texts words) ≡ Some n → n ≢ length (texts ids) → (said : List Said) → Suits (texts ids) (texts options) (texts words) said → ⊥
   other_count n e differs said suits = differs (let f = sym e ∙ scan_of name (texts ids) (texts options) (texts words) fits said suits in cc)
 
-  -- `clap` refuses nothing that suits
-  pub refused : (stop : WordStop) → (takes (app_of_form name (texts ids) (texts options)) (texts words) ≡ true → stop ≡ Memory) → stop ≡ Usage
-      → (said : List Said) → Suits (texts ids) (texts options) (texts words) said → ⊥
-  refused stop passes is said suits =
-      let memory = passes (is_taken name (texts ids) (texts options) (texts words) said fits suits) in
-      absurd (let f : Usage ≡ Memory = sym is ∙ memory in cc)
+  -- `clap` takes as many positional words as there are places
+  pub taken : (n : ℕ) → scan (texts options) at_first (texts words) ≡ Some n → n ≡ length (texts ids) → takes (app_of_form name (texts ids) (texts options)) (texts words) ≡ true
+  taken n e count =
+      let suits = suits_of name (texts ids) (texts options) (texts words) fits n e count in
+      is_taken name (texts ids) (texts options) (texts words) suits.0 fits suits.1
 
   module _ (f : Found) (rows : rows_of f ≡ matches_of (app_of_form name (texts ids) (texts options)) (texts words)) where
     -- and finds each place
-    pub none_missing : list_all (λ id. is_some (first_value f id.now)) ids ≡ false → (said : List Said) → Suits (texts ids) (texts options) (texts words) said → ⊥
-    none_missing e said suits =
-        absurd (true≢false (sym (all_some (first_value f) ids (positionals said) (places_given name (texts ids) (texts options) (texts words) fits f rows said suits)) ∙ e))
+    pub none_missing : (n : ℕ) → scan (texts options) at_first (texts words) ≡ Some n → n ≡ length (texts ids) → list_all (λ id. is_some (first_value f id.now)) ids ≡ true
+    none_missing n e count =
+        let suits = suits_of name (texts ids) (texts options) (texts words) fits n e count in
+        all_some (first_value f) ids (positionals suits.0) (places_given name (texts ids) (texts options) (texts words) fits f rows suits.0 suits.1)
 
     -- what is found is what is said
     pub line : (n : ℕ) → scan (texts options) at_first (texts words) ≡ Some n → n ≡ length (texts ids) → (places : Refs) (values : List (Option (List ℕ)))
@@ -85,11 +83,3 @@ line_given ids options words places values g =
 pub suits_line : (ids options words places : List (List ℕ)) (values : List (Option (List ℕ))) (line : Line words places options values) → length places ≡ length ids
     → Suits ids options words line.said
 suits_line ids options words places values line count = record { says = line.says; count = ap length line.places_are ∙ count; known = line.known; once = line.once }
-
-pub err_up : {T : Type 0} (r : Result T WordStop) (e : WordStop) (P : WordStop → Type 0) → IsErrAnd r (λ y. y ≡ e) → P e → IfErr r P
-err_up (Ok x) e P is h = tt
-err_up (Err y) e P is h = subst P (sym is) h
-
-pub ok_both : {T E : Type 0} (r : Result T E) (P Q R : T → Type 0) → ((x : T) → P x → Q x → R x) → IfOk r P → IfOk r Q → IfOk r R
-ok_both (Ok x) P Q R f p q = f x p q
-ok_both (Err y) P Q R f p q = tt

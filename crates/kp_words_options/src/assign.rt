@@ -6,7 +6,7 @@ ghost use Rattle.clap.specs.declared.error.kind.ErrorKind.TheVariants.{OutOfMemo
 ghost use Rattle.kp_words_options.specs.Words.{Line};
 ghost use Rattle.kp_words_options.specs.Texts.{texts, places_of as given_places, values_of as given_values};
 ghost use Rattle.kp_words_options.specs.Clap.{Fits, app_of_form, app_with, option_rule, with_options, with_places};
-ghost use Rattle.kp_words_options.specs.declared.stop.WordStop.TheVariants.{Usage, Memory as OutOfMemory};
+ghost use Rattle.kp_words_options.specs.declared.stop.WordStop.TheVariants.{Usage};
 
 use crate::given::Given;
 use crate::scan::count_places;
@@ -87,45 +87,45 @@ fn is_memory(error: &Error) -> bool
     error.kind() == ErrorKind::OutOfMemory
 }
 
-// What `clap` finds in the words.
+// What `clap` finds in words that it takes, so that it may only want memory.
 fn parsed<'a>(
     alloc: Global,
     name: &'a str,
     ids: &[&'a str],
     options: &[&'a str],
     words: &'a [&'a str],
-) -> Result<ArgMatches<'a>, WordStop>
-    ensures ok { IfOk result (λ m. is_simple (app_of_form name.entry.now (texts ids.now) (texts options.now)) ≡ true
+) -> Result<ArgMatches<'a>, Memory>
+    requires { takes (app_of_form name.now (texts ids.now) (texts options.now)) (texts words.now) ≡ true }
+    ensures { IfOk result (λ m. is_simple (app_of_form name.entry.now (texts ids.now) (texts options.now)) ≡ true
         → rows_of (found_of m) ≡ matches_of (app_of_form name.entry.now (texts ids.now) (texts options.now)) (texts words.entry.now)) }
-    ensures err { IfErr result (λ e. takes (app_of_form name.entry.now (texts ids.now) (texts options.now)) (texts words.entry.now) ≡ true → e ≡ OutOfMemory) }
 {
     let command = made(alloc, name, ids, options)?;
     match command.try_get_matches_from(words) {
         Ok(matches) => Ok(matches),
         Err(error) => {
             if is_memory(&error) {
-                Err(WordStop::Memory)
+                Err(Memory)
             } else {
-                Err(WordStop::Usage)
+                unreachable!()
             }
         }
     }
 }
 
-// The values of the positional arguments.
+// The values of positional arguments, each of which has one.
 fn places_of<'a>(
     alloc: Global,
     matches: &ArgMatches<'a>,
     ids: &[&str],
-) -> Result<Vec<&'a str>, WordStop>
-    ensures ok { IfOk result (λ ps. map (λ p. Some p.now) ps.items ≡ map (λ id. first_value (found_of matches.now) id.now) ids.now) }
-    ensures err { IfErr result (λ e. e ≡ Usage → list_all (λ id. is_some (first_value (found_of matches.now) id.now)) ids.now ≡ false) }
+) -> Result<Vec<&'a str>, Memory>
+    requires { list_all (λ id. is_some (first_value (found_of matches.now) id.now)) ids.now ≡ true }
+    ensures { IfOk result (λ ps. map (λ p. Some p.now) ps.items ≡ map (λ id. first_value (found_of matches.now) id.now) ids.now) }
 {
     let mut places = Vec::new(alloc);
     for id in ids {
         match matches.get_str(*id) {
             Some(word) => places.push(word)?,
-            None => return Err(WordStop::Usage),
+            None => unreachable!(),
         }
     }
     Ok(places)
@@ -152,10 +152,10 @@ fn given_by<'a>(
     matches: &ArgMatches<'a>,
     ids: &[&str],
     options: &[&str],
-) -> Result<Given<'a>, WordStop>
+) -> Result<Given<'a>, Memory>
+    requires { list_all (λ id. is_some (first_value (found_of matches.now) id.now)) ids.now ≡ true }
     ensures places { IfOk result (λ g. map (λ p. Some p.now) g.places.items ≡ map (λ id. first_value (found_of matches.now) id.now) ids.now) }
     ensures values { IfOk result (λ g. map (option_map (λ s. s.now)) g.values.items ≡ map (λ name. first_value (found_of matches.now) name.now) options.now) }
-    ensures err { IfErr result (λ e. e ≡ Usage → list_all (λ id. is_some (first_value (found_of matches.now) id.now)) ids.now ≡ false) }
 {
     let places = places_of(alloc, matches, ids)?;
     let values = values_of(alloc, matches, options)?;
@@ -183,5 +183,6 @@ pub fn line_of<'a>(
         return Err(WordStop::Usage);
     }
     let matches = parsed(alloc, name, ids, options, words)?;
-    given_by(alloc, &matches, ids, options)
+    let given = given_by(alloc, &matches, ids, options)?;
+    Ok(given)
 }

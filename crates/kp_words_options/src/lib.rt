@@ -9,4 +9,5 @@ mod stop;
 
 pub use assign::line_of;
 pub use given::Given;
+pub use scan::is_among;
 pub use stop::WordStop;

@@ -4,7 +4,7 @@ use Rattle.std.specs.List.{AllByRecursion, flat_map}
 use Rattle.kp_lex.specs.declared.token.TokenKind.TheVariants as kinds
 use Rattle.kp_tree_grammar.specs.declared.symbol.Symbol.{Symbol}
 use Rattle.kp_tree_grammar.specs.declared.symbol.Symbol.TheVariants as symbols
-use Rattle.kp_tree_grammar.specs.Language.{Cond, Eff, Item, Schema, Domain, Problem, Section, section_types, section_constants, section_predicates, section_schemas, Given, conds_of, Tok, first_is, is_left, is_head, is_name, is_precondition, not_cond, not_goal, not_effect, not_item, Sort, El, apply, m_true, m_holds, m_makes, m_fact, m_domain, hits, Form, nothing, many, make, maybe, ◌▸◌, atom_body, fact_body, test_case, cond_case, cond, goal_case, goal as goal_form, eff_case, eff, item_case, item, pred, section, domain, problem, Reads, ReadsWhole, r_token, r_none, r_both, r_after, r_end, r_more, r_last, r_next, r_absent, r_present, r_make, r_choice, r_loose, r_bracket, r_within, IsHead}
+use Rattle.kp_tree_grammar.specs.Language.{Cond, Eff, Item, Schema, Domain, Problem, Section, section_types, section_constants, section_predicates, section_schemas, Given, conds_of, Tok, first_is, is_left, is_head, is_name, is_precondition, not_cond, not_goal, not_effect, not_item, Sort, El, apply, m_true, m_holds, m_makes, m_fact, m_domain, hits, Form, refuse, many, make, maybe, ◌▸◌, atom_body, fact_body, test_case, cond_case, cond, goal_case, goal as goal_form, eff_case, eff, item_case, item, pred, section, domain, problem, Reads, ReadsWhole, r_token, r_none, r_both, r_after, r_end, r_more, r_last, r_next, r_absent, r_present, r_make, r_choice, r_loose, r_bracket, r_within, IsHead}
 use Rattle.kp_tree_grammar.specs.Symbols.{symbol_of}
 use Rattle.kp_tree_grammar.proofs.Public.{name_passes}
 use Rattle.kp_law_texts.specs.Pieces.{Piece, right, Put, each, line_feed, name, spaced}
@@ -35,7 +35,7 @@ ground_reads n rest h = r_make (r_both (r_token (head_hits (symbol_of kinds.Name
 
 pick_test : (b : Bool) (s : Symbol) {ts rest : List (Tok (List ℕ))} {x : Cond (List ℕ)} → is_head s ≡ true → Reads (make (m_holds b) atom_body) ts x rest → Reads (test_case b s) ts x rest
 pick_test b symbols.Equal e r = absurd cc
-pick_test b s e r = picked (is_head s) (make (m_holds b) atom_body) (nothing not_cond) e r
+pick_test b s e r = picked (is_head s) (make (m_holds b) atom_body) (refuse not_cond) e r
 
 pick_cond : (s : Symbol) {ts rest : List (Tok (List ℕ))} {x : Cond (List ℕ)} → is_head s ≡ true → Reads (make (m_holds true) atom_body) ts x rest → Reads (cond_case s) ts x rest
 pick_cond symbols.Right e r = absurd cc
@@ -73,7 +73,7 @@ pick_eff symbols.And e r = absurd cc
 pick_eff symbols.When e r = absurd cc
 pick_eff symbols.Forall e r = absurd cc
 pick_eff symbols.Not e r = absurd cc
-pick_eff s e r = r_loose (picked (is_head s) (make (m_makes true) atom_body) (nothing not_effect) e r)
+pick_eff s e r = r_loose (picked (is_head s) (make (m_makes true) atom_body) (refuse not_effect) e r)
 
 result_reads : (b : Bool) (n : List ℕ) → IsHead n → PiecesGive eff (signed_case b n) (Eff.makes b (atom_of n))
 unfolding symbol_of
@@ -162,7 +162,7 @@ pick_item symbols.Not e r = absurd cc
 pick_item symbols.OneOf e r = absurd cc
 pick_item symbols.Or e r = absurd cc
 pick_item symbols.Unknown e r = absurd cc
-pick_item s e r = r_loose (picked (is_head s) (make (m_fact true) fact_body) (nothing not_item) e r)
+pick_item s e r = r_loose (picked (is_head s) (make (m_fact true) fact_body) (refuse not_item) e r)
 
 item_reads : (n : List ℕ) → IsHead n → PiecesGive item (fact_line n) (item_of n)
 item_reads n h rest = r_within $ r_bracket refl (r_choice (pick_item (symbol_of kinds.Name n) h.head (r_make (ground_reads n (line_feed rest) h)))) refl
@@ -171,7 +171,7 @@ pick_goal : (s : Symbol) {ts rest : List (Tok (List ℕ))} {x : Cond (List ℕ)}
 pick_goal symbols.Right e r = absurd cc
 pick_goal symbols.And e r = absurd cc
 pick_goal symbols.Not e r = absurd cc
-pick_goal s e r = r_loose (picked (is_head s) (make (m_holds true) fact_body) (nothing not_goal) e r)
+pick_goal s e r = r_loose (picked (is_head s) (make (m_holds true) fact_body) (refuse not_goal) e r)
 
 goal_fact_reads : (n : List ℕ) → IsHead n → PiecesGive goal_form (fact_line n) (fact_holds n)
 goal_fact_reads n h rest = r_within $ r_bracket refl (r_choice (pick_goal (symbol_of kinds.Name n) h.head (r_make (ground_reads n (line_feed rest) h)))) refl

@@ -2,7 +2,7 @@ use Rattle.std.proofs.Common.{subst}
 use Rattle.kp_primes.specs.Held.{formula}
 use Rattle.kp_run_inputs.specs.Actions.{AnswersActions}
 use Rattle.kp_run_inputs.proofs.Public.{plan_goes, plan_ends}
-use Rattle.kp_run.specs.Outcomes.{TellsJudged}
+use Rattle.kp_run.specs.Check.{TellsJudged}
 use Rattle.kp_run.proofs.Checks.{judged_alike}
 use Rattle.kp_run.proofs.check.check_plan.Goals as goal
 

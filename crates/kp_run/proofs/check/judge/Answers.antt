@@ -1,6 +1,6 @@
 use Rattle.std.proofs.Common.{◌≡◌, subst, IfOk}
 use Rattle.kp_primes.specs.Held.{formula}
-use Rattle.kp_run.specs.Outcomes.{tells}
+use Rattle.kp_run.specs.Check.{tells}
 use Rattle.kp_run.proofs.Checks.{told_judged}
 use Rattle.kp_run.proofs.check.judge.Goals as goal
 

@@ -2,7 +2,7 @@ use Rattle.std.proofs.Common.{◌≡◌, ◌∙◌, ap, subst, IfOk}
 use Rattle.kp_lift.specs.Lifting.{AnswersLifting}
 use Rattle.kp_run_messages.specs.Lifting.{unlifted_text}
 use Rattle.kp_run_outcome.specs.Printing.{denies}
-use Rattle.kp_run.specs.Outcomes.{failing_step}
+use Rattle.kp_run.specs.Check.{failing_step}
 use Rattle.kp_run.specs.CommandParts.{PrintsOperators}
 use Rattle.kp_run.proofs.Lifts.{lifted_printed, unlifted_told}
 use Rattle.kp_run.proofs.lift.lift_actions.Goals as goal

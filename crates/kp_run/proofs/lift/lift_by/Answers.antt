@@ -2,7 +2,7 @@ use Rattle.std.proofs.Common.{refl, subst}
 use Rattle.kp_primes.specs.Held.{formula}
 use Rattle.kp_run_inputs.specs.SourceTables.{AnswersTable}
 use Rattle.kp_run_inputs.proofs.Public.{table_goes, table_ends}
-use Rattle.kp_run.specs.Outcomes.{LiftsPlan}
+use Rattle.kp_run.specs.Lift.{LiftsPlan}
 use Rattle.kp_run.proofs.Lifts.{table_on}
 use Rattle.kp_run.proofs.lift.lift_by.Goals as goal
 

@@ -1,7 +1,7 @@
 use Rattle.std.proofs.Common.{subst}
 use Rattle.kp_run_inputs.specs.Actions.{AnswersActions}
 use Rattle.kp_run_inputs.proofs.Public.{plan_goes, plan_ends}
-use Rattle.kp_run.specs.Outcomes.{LiftsActions}
+use Rattle.kp_run.specs.Lift.{LiftsActions}
 use Rattle.kp_run.proofs.lift.lift_plan.Goals as goal
 
 -- the plan names actions

@@ -1,8 +1,8 @@
 use Rattle.std.proofs.Common.{[], subst}
-use Rattle.kp_words.specs.Names.{of_mode}
+use Rattle.kp_words.specs.Asked.{of_mode}
 use Rattle.kp_run_inputs.specs.SourceTables.{AnswersTable, from_mode}
 use Rattle.kp_run_inputs.proofs.Public.{table_goes, table_ends}
-use Rattle.kp_run.specs.Outcomes.{MergesGround}
+use Rattle.kp_run.specs.Merges.{MergesGround}
 use Rattle.kp_run.proofs.merges.list_in.Goals as goal
 
 -- there is a table

@@ -2,7 +2,7 @@ use Rattle.std.proofs.Common.{refl, subst, IfOk}
 use Rattle.kp_primes.specs.Held.{formula}
 use Rattle.kp_run_inputs.specs.SourceTables.{AnswersTable}
 use Rattle.kp_run_inputs.proofs.Public.{tables_are_right, table_goes, table_ends}
-use Rattle.kp_words.specs.Names.{Solve}
+use Rattle.kp_words.specs.Asked.{Asked}
 use Rattle.kp_run_solve.specs.Solving.{SolvesGround}
 use Rattle.kp_run_solve.proofs.Public.{ground_is_solved_by_models}
 use Rattle.kp_run.proofs.solve.solve_by.Goals as goal
@@ -20,7 +20,7 @@ returns-in-Ok c source merges i origin same =
     let g = c.args.prepared.now.ground in
     table_goes g i source merges (SolvesGround c.args.command.now.classical c.args.command.now.budget g i) c.in-Ok.table c.solve_table.result
     (subst (AnswersTable g i source merges) c.in-Ok.is (c.table_of.ensures source merges i origin same))
-    (ground_is_solved_by_models c.args.command.now.classical c.args.command.now.budget g (formula c.args.prepared.now.primes) i c.in-Ok.table c.solve_table.result same (subst (λ (k : Solve). IfOk c.solve_table.result (SolvesGround k.classical k.budget g (formula c.args.prepared.now.primes) c.in-Ok.table)) c.command.view_is c.solve_table.ensures))
+    (ground_is_solved_by_models c.args.command.now.classical c.args.command.now.budget g (formula c.args.prepared.now.primes) i c.in-Ok.table c.solve_table.result same (subst (λ (k : Asked). IfOk c.solve_table.result (SolvesGround k.classical k.budget g (formula c.args.prepared.now.primes) c.in-Ok.table)) c.command.view_is c.solve_table.ensures))
 
 -- there is none
 pub returns : goal.returns

@@ -2,7 +2,7 @@ use Rattle.std.proofs.Common.{refl, subst}
 use Rattle.kp_primes.specs.Held.{formula}
 use Rattle.kp_run_inputs.specs.SourceTables.{AnswersTable}
 use Rattle.kp_run_inputs.proofs.Public.{tables_are_right, table_goes, table_ends}
-use Rattle.kp_run.specs.Outcomes.{TranslatesGround}
+use Rattle.kp_run.specs.Translate.{TranslatesGround}
 use Rattle.kp_run.proofs.Translations.{grounds_by}
 use Rattle.kp_run.proofs.translate.with_origin.Goals as goal
 

@@ -1,6 +1,6 @@
 use Rattle.std.proofs.Common.{[], subst, IfOk}
 use Rattle.kp_law_translation.specs.OfTrees.{initial_of}
-use Rattle.kp_words.specs.Names.{of_mode}
+use Rattle.kp_words.specs.Asked.{of_mode}
 use Rattle.kp_run_prepare.specs.Prepared.{AnswersPrepared}
 use Rattle.kp_run_inputs.specs.SourceTables.{ComesByTable}
 use Rattle.kp_run_inputs.proofs.Public.{prepared_goes_on, prepared_ends}

@@ -4,7 +4,7 @@ use Rattle.kp_base.specs.declared.lit.Lit.{Lit}
 use Rattle.kp_base.specs.Covering.{AreUncovered}
 use Rattle.kp_base.specs.Steps.{IsGroundPlan}
 use Rattle.kp_primes.specs.Held.{formula}
-use Rattle.kp_check.specs.Judging.{AnswersJudged}
+use Rattle.kp_check.specs.Judging.{IsVerdict}
 use Rattle.kp_run_solve.specs.Operators.{acts_among}
 use Rattle.kp_run_bench.specs.Summary.{summary_text}
 use Rattle.kp_run_outcome.specs.Printing.{prints}
@@ -27,7 +27,7 @@ returns c =
     let t = c.args.command.now in
     let ns = c.in_ok-numbers.numbers in
     plan_told t g i c.args.table.now c.args.operators.now ns c.args.expanded c.sum_up.result (c.in_ok-numbers.ensures ∙ ap (acts_among (length g.actions)) c.slice.ensures)
-    (subst (AnswersJudged x.primes.atoms g i ns) c.in-Yes.is c.in_ok-judge.ensures)
+    (subst (IsVerdict x.primes.atoms g i ns) c.in-Yes.is c.in_ok-judge.ensures)
     (subst (λ n. IfOk c.sum_up.result (λ o. (uncovered : List Lit) × AreUncovered g i c.args.table.now uncovered × (o ≡ prints (summary_text t g c.args.table.now uncovered n c.args.expanded)))) c.len.ensures c.sum_up.ensures)
 
 -- it can't say no
@@ -38,4 +38,4 @@ unreachable-requires c =
     let i = formula x.primes in
     let ns = c.in_ok-numbers.numbers in
     let works = subst (IsGroundPlan g i) (sym (c.in_ok-numbers.ensures ∙ ap (acts_among (length g.actions)) c.slice.ensures)) (work g i c.args.table.now c.args.operators.now c.requires.safe c.requires.plan) in
-    pass x.primes.atoms g i ns _ _ _ works (subst (AnswersJudged x.primes.atoms g i ns) c.in-No.is c.in_ok-judge.ensures)
+    pass x.primes.atoms g i ns _ _ _ works (subst (IsVerdict x.primes.atoms g i ns) c.in-No.is c.in_ok-judge.ensures)

@@ -2,7 +2,7 @@ use Rattle.std.proofs.Common.{◌∙◌, ℕ, List, length, Err, refl, ap, subst
 use Rattle.kp_base.specs.declared.refused.Part.TheVariants as parts
 use Rattle.kp_base.specs.declared.refused.Refused.TheVariants as refusals
 use Rattle.kp_base.specs.Files.{most_bytes}
-use Rattle.kp_plans.specs.PlanFiles.{IsPlanOf, AnswersPlan}
+use Rattle.kp_plans.specs.PlanFiles.{IsPlanFile, AnswersPlan}
 use Rattle.kp_run_messages.specs.Refusals.{nothing}
 use Rattle.kp_run_prepare.proofs.Public.{whole_content_is_read}
 use Rattle.kp_run_inputs.specs.Actions.{long_plan}
@@ -27,7 +27,7 @@ pub returns-in-Ok-clause-answers : goal.returns-in-Ok-clause-answers
 returns-in-Ok-clause-answers c text front =
     let its = c.slice.ensures ∙ whole_content_is_read most_bytes text c.args.plan.bytes c.args.plan.more front.0 front.1 c.if-plan.false in
     of_steps c.args.ground.now text c.in-Ok.steps c.numbers_of.result (short_length most_bytes text c.args.plan.more refl front.1 c.if-plan.false)
-    (subst (λ (bytes : List ℕ). IsPlanOf bytes c.in-Ok.steps) its c.in-Ok.ensures) c.numbers_of.ensures.answers
+    (subst (λ (bytes : List ℕ). IsPlanFile bytes c.in-Ok.steps) its c.in-Ok.ensures) c.numbers_of.ensures.answers
 
 -- it is none
 pub returns-clause-answers : goal.returns-clause-answers

@@ -2,7 +2,7 @@ use Rattle.std.proofs.Common.{[], Ok, Err, subst}
 use Rattle.kp_base.specs.declared.limits.Limits.{Limits}
 use Rattle.kp_primes.specs.Held.{formula}
 use Rattle.kp_tags.specs.Made.{IsMade, AnswersMade}
-use Rattle.kp_words.specs.Names.{of_mode}
+use Rattle.kp_words.specs.Asked.{of_mode}
 use Rattle.kp_run_inputs.specs.SourceTables.{by_mode}
 use Rattle.kp_run_inputs.proofs.Ended.{answer_by, no_mode_table}
 use Rattle.kp_run_inputs.proofs.tables.table_in.Goals as goal

@@ -8,7 +8,7 @@ use Rattle.kp_tags_files.specs.MergesFiles.{IsMergesOf, AnswersMergesFile}
 use Rattle.kp_tags.specs.MergeTables.{has_tags_of_atoms}
 use Rattle.kp_run_messages.specs.Refusals.{nothing}
 use Rattle.kp_run_prepare.proofs.Public.{whole_content_is_read}
-use Rattle.kp_words.specs.Names.{of_file}
+use Rattle.kp_words.specs.Asked.{of_file}
 use Rattle.kp_run_inputs.specs.SourceTables.{long_file}
 use Rattle.kp_run_inputs.proofs.FileMerges.{tags_of_atoms}
 use Rattle.kp_run_inputs.proofs.Lengths.{over_length, short_length}
