@@ -131,6 +131,14 @@ pub fn refuses(
     Ok(is_so? && is_bare)
 }
 
+/// Whether words with a byte that no character has are answered with the usage.
+pub fn is_usage_of_bytes(alloc: Global) -> Result<bool, Memory> {
+    let mut words = words_of(alloc, ["strip"].as_slice(), &[])?;
+    words.push(b"t\xff".as_slice().to_vec(alloc)?)?;
+    let mut shelf = MemoryShelf::new(alloc)?;
+    runs_so(alloc, &words, &mut shelf, 2, USAGE)
+}
+
 /// Whether stripping this plan file ends with this number and prints this text.
 pub fn strips_so(alloc: Global, plan: &str, number: u8, printed: &str) -> Result<bool, Memory> {
     let mut words = Vec::new(alloc);

@@ -1,4 +1,4 @@
-use crate::running::{is_so, strips_so};
+use crate::running::{is_so, is_usage_of_bytes, strips_so};
 
 // Plans of the written files, with what they come to.
 #[test]
@@ -43,4 +43,10 @@ fn other_plans_are_refused(rt: HostRuntime) {
     for (plan, printed) in cases {
         assert!(rt; is_so(strips_so(alloc, plan, 3, printed)));
     }
+}
+
+// Words that are no text.
+#[test]
+fn bytes_that_are_no_text(rt: HostRuntime) {
+    assert!(rt; is_so(is_usage_of_bytes(rt.alloc())));
 }

@@ -1,6 +1,9 @@
 //! Words that are no command.
 
-use crate::words::is_usage;
+use crate::words::{are_usage, is_usage};
+use kp_words::WordStop;
+use std::alloc::{AllocError, Global};
+use std::test::Fail;
 
 #[test]
 fn shapes(rt: HostRuntime) {
@@ -55,4 +58,24 @@ fn values(rt: HostRuntime) {
     for all in table.iter() {
         assert!(rt; is_usage(alloc, *all));
     }
+}
+
+// A byte that no character has, alone and within a word, as a name and as the command.
+#[test]
+fn bytes_that_are_no_text(rt: HostRuntime) {
+    let alloc = rt.alloc();
+    assert!(rt; are_usage(alloc, [b"strip".as_slice(), b"t\xff".as_slice()].as_slice()));
+    assert!(rt; are_usage(alloc, [b"strip".as_slice(), b"\xff".as_slice()].as_slice()));
+    assert!(rt; are_usage(alloc, [b"strip\xff".as_slice(), b"t".as_slice()].as_slice()));
+}
+
+fn says(alloc: Global, stop: WordStop, message: &str) -> Result<bool, AllocError> {
+    Ok(format!(in alloc; "{stop}")?.as_str() == message)
+}
+
+#[test]
+fn messages(rt: HostRuntime) -> Result<(), Fail> {
+    assert!(rt; says(rt.alloc(), WordStop::Usage, "usage")?);
+    assert!(rt; says(rt.alloc(), WordStop::Memory, "out of memory")?);
+    Ok(())
 }

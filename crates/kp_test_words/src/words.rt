@@ -19,6 +19,15 @@ pub fn told(alloc: Global, all: &[&str]) -> Result<Command, WordStop> {
     command(alloc, words.as_slice())
 }
 
+// The command that words are which are told by their bytes.
+fn told_of_bytes(alloc: Global, all: &[&[u8]]) -> Result<Command, WordStop> {
+    let mut words = Vec::new(alloc);
+    for word in all {
+        words.push(word.to_vec(alloc)?)?;
+    }
+    command(alloc, words.as_slice())
+}
+
 // Whether no command was told, for the words' sake.
 fn is_refused(found: &Result<Command, WordStop>) -> bool {
     matches!(found, Err(WordStop::Usage))
@@ -27,6 +36,14 @@ fn is_refused(found: &Result<Command, WordStop>) -> bool {
 // Whether words are no command.
 pub fn is_usage(alloc: Global, all: &[&str]) -> bool {
     let found = told(alloc, all);
+    let is = is_refused(&found);
+    drop(found);
+    is
+}
+
+// Whether words that are told by their bytes are no command.
+pub fn are_usage(alloc: Global, all: &[&[u8]]) -> bool {
+    let found = told_of_bytes(alloc, all);
     let is = is_refused(&found);
     drop(found);
     is
