@@ -130,7 +130,7 @@ ascending_atoms_same (x ∷ xs) (y ∷ ys) s t h =
 
 -- ---- numbers
 
-next_place : (n : ℕ) → 1 + n ≡ suc n
+pub next_place : (n : ℕ) → 1 + n ≡ suc n
 next_place n = omega arith
 
 pub atom_at_its_number : (atoms : List Atom) (a : Atom) → Member atoms a → slice_get atoms (number_of atoms a) ≡ Some a

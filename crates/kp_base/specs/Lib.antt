@@ -6,12 +6,15 @@ pub mod Counted
 pub mod Covering
 pub mod Entailed
 pub mod Exclusive
+pub mod Facts
 pub mod Files
 pub mod Implicates
+pub mod Linked
 pub mod Lists
 pub mod Lit
 pub mod LitSet
 pub mod Machine
+pub mod Matters
 pub mod Relevance
 pub mod Search
 pub mod Steps

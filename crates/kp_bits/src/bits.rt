@@ -37,6 +37,13 @@ impl Bits {
         Ok(Bits { count: n, words })
     }
 
+    /// How many bits the row has.
+    pub fn len(&self) -> u32
+        ensures { result ≡ length self.now }
+    {
+        self.count
+    }
+
     /// Sets a bit.
     pub fn set(&mut self, i: u32)
         requires { i < length self.old }

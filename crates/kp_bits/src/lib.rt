@@ -2,7 +2,9 @@
 #![tactic(auto)]
 
 mod bits;
+mod ranked;
 mod words;
 
 pub use bits::Bits;
+pub use ranked::Ranked;
 pub use words::{are_apart, has_bit, only_here, with_bit};

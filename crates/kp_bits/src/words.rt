@@ -1,7 +1,7 @@
 //! Words of 64 bits, bit by bit.
-ghost use Rattle.std.specs.Prelude.{◌≡◌, ◌≢◌, ◌<◌, ◌↔◌, ℕ, IsTrue, length, slice_index_or};
+ghost use Rattle.std.specs.Prelude.{◌≡◌, ◌≢◌, ◌<◌, ◌≤◌, ◌%◌, ◌^◌, ◌↔◌, ℕ, IsTrue, length, slice_index_or};
 ghost use Rattle.std.specs.Int.{bit_at};
-ghost use Rattle.std.specs.Int.RustNames.{bit_and, bit_or};
+ghost use Rattle.std.specs.Int.RustNames.{bit_and, bit_or, count_ones};
 
 /// The word with this bit set.
 pub fn with_bit(word: u64, k: u32) -> u64
@@ -26,6 +26,14 @@ pub fn has_bit(word: u64, k: u32) -> bool
     ensures { IsTrue result ↔ (bit_at word k ≡ 1) }
 {
     word & (1 << k) != 0
+}
+
+/// How many of the word's first k bits are set.
+pub(crate) fn ones_below(word: u64, k: u32) -> u32
+    requires { k < 64 }
+    ensures { result ≡ count_ones (word % 2 ^ k) }
+{
+    (word & ((1 << k) - 1)).count_ones()
 }
 
 /// The word at a place; past the end one with no bit set.
