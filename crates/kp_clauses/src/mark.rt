@@ -29,6 +29,17 @@ pub(crate) fn mark(c: &LitSet) -> u64
     word
 }
 
+/// The mark of a clause without a literal.
+pub(crate) fn mark_but(c: &LitSet, lit: Lit) -> u64 {
+    let mut word = 0;
+    for l in c.slice() {
+        if *l != lit {
+            word = marked(word, *l);
+        }
+    }
+    word
+}
+
 /// Whether a clause with the first mark may be within one with the second.
 pub(crate) fn marks_within(word: u64, other: u64) -> bool
     ensures { result ≡ nat_eq (bit_or word other) other }

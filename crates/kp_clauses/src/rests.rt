@@ -64,11 +64,19 @@ fn put_rest(
     Ok(())
 }
 
-// Whether the first of two marks has at most two bits that the other hasn't, and the other tells something.
-fn is_near(word: u64, other: u64) -> bool {
-    let bits = word & !other;
+/// The marks of a clause, and of it without a literal.
+#[derive(Clone, Copy)]
+pub(crate) struct Marks {
+    pub(crate) all: u64,
+    pub(crate) others: u64,
+}
+
+// Whether a clause with this mark may share a literal other than the one that was left out, since without that its rest
+// is all of it and tells nothing, and has at most two bits that the whole mark lacks, where that tells something.
+fn is_near(word: u64, marks: Marks) -> bool {
+    let bits = word & !marks.all;
     let fewer = bits & bits.wrapping_sub(1);
-    other != u64::MAX && fewer & fewer.wrapping_sub(1) == 0
+    word & marks.others != 0 && marks.all != u64::MAX && fewer & fewer.wrapping_sub(1) == 0
 }
 
 // The same with the clause of a spot, if that is near.
@@ -77,14 +85,14 @@ fn put_rest_at(
     rests: &mut Sieve,
     clauses: &[LitSet],
     spot: &Spot,
-    word: u64,
+    marks: Marks,
     e: &LitSet,
     lit: Lit,
 ) -> Result<(), Memory>
     requires { AreRests clauses.now e.now lit rests.old }
     ensures { OnOk result (AreRests clauses.now e.now lit rests.new) }
 {
-    if is_near(spot.mark, word) {
+    if is_near(spot.mark, marks) {
         if let Some(d) = clauses.get(spot.place) {
             put_rest(alloc, rests, clauses, d, e, lit)?;
         }
@@ -98,7 +106,7 @@ fn put_rests_at(
     rests: &mut Sieve,
     clauses: &[LitSet],
     spots: &[Spot],
-    word: u64,
+    marks: Marks,
     e: &LitSet,
     lit: Lit,
 ) -> Result<(), Memory>
@@ -106,7 +114,7 @@ fn put_rests_at(
     ensures { OnOk result (AreRests clauses.now e.now lit rests.new) }
 {
     for s in spots {
-        put_rest_at(alloc, rests, clauses, s, word, e, lit)?;
+        put_rest_at(alloc, rests, clauses, s, marks, e, lit)?;
     }
     Ok(())
 }
@@ -117,7 +125,7 @@ pub(crate) fn put_rests(
     rests: &mut Sieve,
     clauses: &[LitSet],
     lists: &[Row<Spot>],
-    word: u64,
+    marks: Marks,
     e: &LitSet,
     lit: Lit,
 ) -> Result<(), Memory>
@@ -125,7 +133,7 @@ pub(crate) fn put_rests(
     ensures { OnOk result (AreRests clauses.now e.now lit rests.new) }
 {
     for spots in lists {
-        put_rests_at(alloc, rests, clauses, spots.slice(), word, e, lit)?;
+        put_rests_at(alloc, rests, clauses, spots.slice(), marks, e, lit)?;
     }
     Ok(())
 }

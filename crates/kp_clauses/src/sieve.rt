@@ -9,8 +9,8 @@ ghost use Rattle.kp_clauses.specs.Rests.{AreRests};
 
 use crate::clause::{common, subsumes};
 use crate::lists::{list, make_lists};
-use crate::mark::{mark, marks_within};
-use crate::rests::put_rests;
+use crate::mark::{mark, mark_but, marks_within};
+use crate::rests::{Marks, put_rests};
 use kp_base::{Lit, LitSet, Memory, Row};
 use std::alloc::Global;
 use std::marker::Model;
@@ -110,16 +110,12 @@ impl Sieve {
         ensures { IfOk result (AreRests self.now e.now lit) }
     {
         let clauses = self.clauses.slice();
+        let marks = Marks {
+            all: mark(e),
+            others: mark_but(e, lit),
+        };
         let mut rests = Sieve::new(self.alloc);
-        put_rests(
-            self.alloc,
-            &mut rests,
-            clauses,
-            &self.lists,
-            mark(e),
-            e,
-            lit,
-        )?;
+        put_rests(self.alloc, &mut rests, clauses, &self.lists, marks, e, lit)?;
         Ok(rests)
     }
 
@@ -260,10 +256,13 @@ fn shorter(lists: &[Row<Spot>], best: usize, key: usize) -> usize
     best
 }
 
-// The shortest of a clause's lists.
-fn choose(lists: &[Row<Spot>], c: &LitSet) -> usize
+// The shortest of a clause's lists; while there are few clauses, the one that is looked at for each.
+fn choose(lists: &[Row<Spot>], c: &LitSet, few: bool) -> usize
     ensures { Member (keys c.now) result }
 {
+    if few {
+        return 0;
+    }
     let lits = c.slice();
     let mut best = 0;
     for l in lits {
@@ -300,7 +299,7 @@ fn note_clause(
         place: clauses.len(),
     };
     put_mark(marks, spot.place, spot.mark)?;
-    let key = choose(lists, c);
+    let key = choose(lists, c, spot.place < 16);
     note(alloc, lists, key, spot)?;
     Ok(())
 }

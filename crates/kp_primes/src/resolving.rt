@@ -142,9 +142,10 @@ fn meet_at(
     Ok(())
 }
 
-// Whether it is worth while to look at all prime implicates once before so many of them are resolved with a clause.
-fn are_many(at: &[usize], primes: &Store) -> bool {
-    at.len() > 8 && at.len() > primes.clauses().len() / 256
+// Whether it is worth while to look at all prime implicates once before so many of them are resolved with a clause. What
+// is short shares little with any of them, and then rests tell nothing.
+fn are_many(e: &LitSet, at: &[usize], primes: &Store) -> bool {
+    e.slice().len() > 4 && at.len() > 8 && at.len() > primes.clauses().len() / 256
 }
 
 // What prime implicates have beside a new clause without the literal; nothing where few are resolved with it.
@@ -158,7 +159,7 @@ fn rests_at(
 ) -> Result<Sieve, Memory>
     ensures { IfOk result (AreRests primes.now e.now lit) }
 {
-    if are_many(at, primes) {
+    if are_many(e, at, primes) {
         return primes.rests(e, lit);
     }
     Ok(Sieve::new(alloc))
