@@ -21,7 +21,8 @@ use Rattle.kp_ground_semantics.proofs.Public.{kept_instance, instance_action, ac
 use Rattle.kp_names_numbered.specs.declared.lifted.Schema as owned
 use Rattle.kp_names.specs.View.{schema_view}
 use Rattle.kp_ground_instances.specs.declared.kept.Kept.{Kept}
-use Rattle.kp_ground_instances.specs.Counts.{kept_view, IsWithinLimits, StopsAtCounts}
+use Rattle.kp_ground_instances.specs.Counts.{kept_view}
+use Rattle.kp_ground_joins.specs.Limits.{IsWithinLimits, StopsAtCounts}
 use Rattle.kp_ground.specs.Grounded.{RefusesGround, AnswersGround}
 use Rattle.kp_ground.specs.Passes.{has_schema, name_with, action_with, action_at, IsKnown, AnswersAtoms}
 

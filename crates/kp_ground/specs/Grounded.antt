@@ -8,7 +8,7 @@ use Rattle.kp_base.specs.declared.refused.Stop.{Stop}
 use Rattle.kp_base.specs.declared.refused.Stop.TheVariants as stops
 use Rattle.kp_names_semantics.specs.Numbered.{Lifted}
 use Rattle.kp_ground_semantics.specs.Ground.{ground_atoms, ground_of}
-use Rattle.kp_ground_instances.specs.Counts.{IsWithinLimits, RefusesCounts}
+use Rattle.kp_ground_joins.specs.Limits.{IsWithinLimits, RefusesCounts}
 
 -- the problem is refused: at its bindings, kept instances or weight, or else where it has more ground atoms than the limit
 pub data RefusesGround (l : Lifted) (limits : Limits) : Refused → Type 0 where

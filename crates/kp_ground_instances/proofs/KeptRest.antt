@@ -31,11 +31,11 @@ rest_next l n a k os at =
 -- ---- gathering
 
 -- with those that are left come all
-pub still_all : (old more new rest all : List Instance) → new ≡ old ++ more → old ++ (more ++ rest) ≡ all → new ++ rest ≡ all
+pub still_all : {X : Type 0} (old more new rest all : List X) → new ≡ old ++ more → old ++ (more ++ rest) ≡ all → new ++ rest ≡ all
 still_all old more new rest all is h = ap (λ l. l ++ rest) is ∙ (append_assoc old more rest ∙ h)
 
 -- there are too many with those that come next, and so with all
-pub too_many : (most : ℕ) (old more rest first all : List Instance) → most < length old + length more → old ++ (more ++ rest) ≡ first ++ all → most < length first + length all
+pub too_many : {X : Type 0} (most : ℕ) (old more rest first all : List X) → most < length old + length more → old ++ (more ++ rest) ≡ first ++ all → most < length first + length all
 too_many most old more rest first all h is =
     let e = ap length is in
     let f = length-append old (more ++ rest) in

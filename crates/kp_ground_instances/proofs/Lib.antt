@@ -6,4 +6,3 @@ pub mod Views
 pub mod Tables
 pub mod Weights
 pub mod KeptRest
-pub mod ExampleLimits

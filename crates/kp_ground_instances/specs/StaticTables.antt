@@ -3,7 +3,6 @@ use Rattle.std.specs.Prelude.{◌≡◌, ◌+◌, ◌<◌, ◌≤◌, ◌==◌, 
 use Rattle.std.specs.List.{list_any}
 use Rattle.kp_names_semantics.specs.Names.{same}
 use Rattle.kp_names_semantics.specs.Numbered.{Lifted}
-use Rattle.kp_names_semantics.specs.Lifted.{Instance}
 use Rattle.kp_ground_semantics.specs.Static.{is_static, initially}
 use Rattle.kp_ground_semantics.specs.Ground.{kept_instances}
 use Rattle.kp_ground_semantics.specs.Weights.{total_weight}
@@ -43,8 +42,8 @@ pub record AreTablesOf (l : Lifted) (preds : List ℕ) (atoms : List (ℕ × Lis
 
 -- ---- kept instances
 
--- some instances have come, unless that makes more than so many
-abbrev pub Gathers : ℕ → List Instance → List Instance → List Instance → Bool → Type 0
+-- some more have come, unless that makes more than so many
+abbrev pub Gathers : {X : Type 0} → ℕ → List X → List X → List X → Bool → Type 0
 Gathers most old more new true = (new ≡ old ++ more) × (length new ≤ most)
 Gathers most old more new false = most < length old + length more
 

@@ -1,23 +1,23 @@
-ghost use Rattle.std.specs.Prelude.{◌≡◌, ◌<◌, ◌≤◌, ◌+◌, ◌*◌, ◌∷◌, [], true, map, length, IfOk, IfErr, OnOk, MatchOption};
+ghost use Rattle.std.specs.Prelude.{◌≡◌, ◌<◌, ◌≤◌, ◌+◌, ◌*◌, ◌∷◌, [], true, map, length, IfOk, MatchOption};
 ghost use Rattle.kp_base.specs.Lists.{only_if};
 ghost use Rattle.kp_names.specs.View.{cond_view, schema_view, lifted_view};
 ghost use Rattle.kp_ground_semantics.specs.Static.{settled};
 ghost use Rattle.kp_ground_semantics.specs.Ground.{instance, kept_bindings, kept_instances};
 ghost use Rattle.kp_ground_semantics.specs.Weights.{weight};
-ghost use Rattle.kp_ground_instances.specs.Counts.{kept_view, capped, IsWithinLimits, StopsAtCounts};
+ghost use Rattle.kp_ground_instances.specs.Counts.{kept_view, capped};
 ghost use Rattle.kp_ground_instances.specs.StaticTables.{Gathers, IsKeeping};
 
 use crate::bindings::{binding_total, fill_binding};
-use crate::counting::{problem_bindings, schema_weight};
+use crate::counting::schema_weight;
 use crate::kept::Kept;
 use crate::settling::settled_in;
 use crate::statics::Statics;
-use kp_base::{Limits, Memory, Refused, Row, Stop};
+use kp_base::{Memory, Row};
 use kp_names::Schema;
 use std::alloc::Global;
 
-// The instance of a schema with these objects.
-fn instance(alloc: Global, number: u32, objects: &[u32]) -> Result<Kept, Memory>
+/// The instance of a schema with these objects.
+pub fn instance(alloc: Global, number: u32, objects: &[u32]) -> Result<Kept, Memory>
     ensures { IfOk result (λ one. kept_view one ≡ instance number objects.now) }
 {
     Ok(Kept {
@@ -100,15 +100,21 @@ fn keep_schema(
     Ok(true)
 }
 
-// All kept instances, and their weight.
+/// Kept instances, by schema and then by objects, and their weight.
 #[derive(Drop)]
-struct Keeping {
-    kept: Row<Kept>,
-    weight: u128,
+pub struct Keeping {
+    /// The instances.
+    pub kept: Row<Kept>,
+    /// What they weigh together.
+    pub weight: u128,
 }
 
-// None where there are too many.
-fn keep_schemas(alloc: Global, statics: &Statics, most: usize) -> Result<Option<Keeping>, Memory>
+/// All kept instances, found among all lists of objects. None where there are more than so many.
+pub fn keep_schemas(
+    alloc: Global,
+    statics: &Statics,
+    most: usize,
+) -> Result<Option<Keeping>, Memory>
     ensures { IfOk result (λ all. MatchOption all (most < length (kept_instances (lifted_view statics.now))) (λ k. IsKeeping (lifted_view statics.now) most k)) }
 {
     let mut kept = Row::new(alloc);
@@ -121,23 +127,4 @@ fn keep_schemas(alloc: Global, statics: &Statics, most: usize) -> Result<Option<
         number = number.checked_add(1).ok_or(Memory)?;
     }
     Ok(Some(Keeping { kept, weight }))
-}
-
-/// The kept instances, by schema and then by objects. Refused where there are more bindings, instances or
-/// weight of these than the limits say.
-pub fn kept_instances(alloc: Global, statics: &Statics, limits: &Limits) -> Result<Row<Kept>, Stop>
-    ensures kept { IfOk result (λ row. map kept_view row ≡ kept_instances (lifted_view statics.now)) }
-    ensures within { OnOk result (IsWithinLimits (lifted_view statics.now) limits.now) }
-    ensures refused { IfErr result (StopsAtCounts (lifted_view statics.now) limits.now) }
-{
-    if problem_bindings(statics.lifted()) > u128::from(limits.bindings) {
-        return Err(Stop::Refused(Refused::BindingsOver));
-    }
-    let Some(all) = keep_schemas(alloc, statics, limits.actions as usize)? else {
-        return Err(Stop::Refused(Refused::ActionsOver));
-    };
-    if all.weight > u128::from(limits.weight) {
-        return Err(Stop::Refused(Refused::EffectsOver));
-    }
-    Ok(all.kept)
 }

@@ -10,3 +10,4 @@ pub mod Plans
 pub mod Names
 pub mod ExampleMoves
 pub mod ExampleGrounds
+pub mod ExamplePartials

@@ -1,7 +1,8 @@
 use crate::limits::{Limit, limit_in};
 use crate::reading::numbers;
 use kp_base::{Limits, Memory, Row, Stop, Text};
-use kp_ground_instances::{Statics, all_bindings, kept_instances};
+use kp_ground_instances::{Statics, all_bindings};
+use kp_ground_joins::kept_instances;
 use kp_names::{Cond, Eff, Lifted, Schema};
 use kp_names_semantics::Range;
 use std::alloc::Global;

@@ -11,6 +11,8 @@ mod idle;
 #[cfg(test)]
 mod initials;
 #[cfg(test)]
+mod joins;
+#[cfg(test)]
 mod keeping;
 #[cfg(test)]
 mod limits;

@@ -52,15 +52,16 @@ fn is_refused_for(answer: &Result<Ground, Stop>, limit: Limit) -> bool {
     matches!(answer, Err(Stop::Refused(found)) if limit_in(found) == Some(limit))
 }
 
-// Whether this limit is told.
-fn tells(alloc: Global, lifted: &Lifted, limits: &Limits, limit: Limit) -> bool {
+/// Whether this limit is told.
+pub fn tells(alloc: Global, lifted: &Lifted, limits: &Limits, limit: Limit) -> bool {
     let answer = ground(alloc, lifted, limits);
     let is_told = is_refused_for(&answer, limit);
     drop(answer);
     is_told
 }
 
-fn limits_of(bindings: u64, actions: u32, weight: u64) -> Limits {
+/// The usual limits with these.
+pub fn limits_of(bindings: u64, actions: u32, weight: u64) -> Limits {
     Limits {
         bindings,
         actions,

@@ -3,7 +3,7 @@ use Rattle.std.proofs.Common.{ℕ, arith}
 use Rattle.kp_base.specs.declared.limits.Limits.{Limits}
 use Rattle.kp_base.specs.declared.refused.Refused.TheVariants as refusals
 use Rattle.kp_names_semantics.proofs.Public.{moves_by_number}
-use Rattle.kp_ground_instances.specs.Counts.{IsWithinLimits, RefusesCounts, bindings_over, actions_over, effects_over}
+use Rattle.kp_ground_joins.specs.Limits.{IsWithinLimits, RefusesCounts, bindings_over, actions_over, effects_over}
 
 abbrev limits : ℕ → ℕ → ℕ → Limits
 limits bindings actions weight = record { bindings = bindings; atoms = 2; actions = actions; weight = weight; tags = 1; sets = 1; facts = 1; task_weight = 1 }

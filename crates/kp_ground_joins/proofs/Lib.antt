@@ -1,0 +1,4 @@
+pub mod Public
+pub mod Joined
+pub mod Levels
+pub mod ExampleLimits
